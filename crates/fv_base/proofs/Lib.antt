@@ -1,0 +1,3 @@
+pub mod GuidLemmas
+pub mod Pieces
+pub mod Runs

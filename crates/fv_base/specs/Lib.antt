@@ -1,0 +1,13 @@
+pub mod Alignment
+pub mod Checks
+pub mod Faults
+pub mod Flash
+pub mod Guids
+pub mod Input
+pub mod Kept
+pub mod Limits
+pub mod Port
+pub mod Sinks
+pub mod Sums
+pub mod Value
+pub mod Written

@@ -1,0 +1,51 @@
+//! The alignment that a file asks for.
+
+ghost use Rattle.std.specs.Prelude.{◌≡◌, ◌^◌};
+ghost use Rattle.fv_base.specs.Alignment.{alignment_of, IsAlignment};
+
+use std::marker::Model;
+
+/// The alignment of a file's data, counted from the first byte of its volume. Contracts see the
+/// exponent of the power of two. (PI specification, volume 3, section 3.2.3.1,
+/// `FFS_ATTRIB_DATA_ALIGNMENT`.)
+#[derive(Clone, Copy, Debug, PartialEq, Eq)]
+pub struct Align {
+    exponent: u32,
+}
+
+impl Model for Align {
+    ghost use Rattle.std.specs.Prelude.{ℕ, ◌≤◌};
+
+    ghost Value = { ℕ };
+
+    ghost view = { λ a. a.exponent };
+
+    ghost inverse = { λ n. record { exponent = n } };
+
+    ghost invariant = { λ a. a.exponent ≤ 24 };
+}
+
+/// The exponents of the sixteen alignments, the first table and then the second.
+const EXPONENTS: [u32; 16] = [0, 4, 7, 9, 10, 12, 15, 16, 17, 18, 19, 20, 21, 22, 23, 24];
+
+impl Align {
+    /// The alignment that a file's attribute bits name: bits 08, 10 and 20 are the code, and bit
+    /// 02 picks the second table.
+    pub fn from_attributes(attributes: u8) -> Align
+        ensures { 2 ^ result ≡ alignment_of attributes }
+    {
+        let code = attributes / 8 % 8;
+        let second = attributes / 2 % 2;
+        Align {
+            exponent: EXPONENTS[usize::from(code + 8 * second)],
+        }
+    }
+
+    /// The alignment in bytes, a power of two of at most 2 ^ 24.
+    pub fn bytes(self) -> u64
+        ensures value { result ≡ 2 ^ self }
+        ensures power { IsAlignment result }
+    {
+        1 << self.exponent
+    }
+}

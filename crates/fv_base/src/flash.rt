@@ -1,0 +1,36 @@
+//! What a volume says of the flash memory that it lies in.
+
+ghost use Rattle.std.specs.Prelude.{◌≡◌, ◌⊎◌};
+ghost use Rattle.fv_base.specs.Flash.{erased_byte};
+
+/// What an erased byte holds: ones or zeros. (PI specification, volume 3, section 3.2.1.1,
+/// `EFI_FVB2_ERASE_POLARITY`.)
+#[derive(Clone, Copy, Debug, PartialEq, Eq)]
+pub enum Polarity {
+    /// An erased byte is FF.
+    Ones,
+    /// An erased byte is 00.
+    Zeros,
+}
+
+impl Polarity {
+    /// The value of an erased byte: FF or 00.
+    pub fn erased(self) -> u8
+        ensures value { result ≡ erased_byte self }
+        ensures either { (result ≡ 0) ⊎ (result ≡ 255) }
+    {
+        match self {
+            Polarity::Ones => 0xff,
+            Polarity::Zeros => 0,
+        }
+    }
+}
+
+/// The two file systems that are read. (PI specification, volume 3, section 3.2.2.)
+#[derive(Clone, Copy, Debug, PartialEq, Eq)]
+pub enum FileSystem {
+    /// Files below 16 MiB, `8c8ce578-8a3d-4f1c-9935-896185c32dd3`.
+    Ffs2,
+    /// Files of any size, `5473c07a-3dcb-4dca-bd6f-1e9689e7349a`.
+    Ffs3,
+}

@@ -1,0 +1,56 @@
+//! Globally unique identifiers.
+
+ghost use Rattle.std.specs.Prelude.{◌≡◌, Some};
+ghost use Rattle.fv_base.specs.Guids.{bytes_of, guid_text, guid_read};
+
+use uuid::Uuid;
+
+/// A GUID: sixteen bytes as they stand in a volume. (PI specification, volume 1; UEFI
+/// specification, appendix A.)
+#[derive(Clone, Copy, Debug, PartialEq, Eq, PartialOrd, Ord)]
+pub struct Guid {
+    bytes: [u8; 16],
+}
+
+impl Guid {
+    /// The GUID of sixteen bytes as they stand in a volume.
+    pub const fn from_bytes(bytes: [u8; 16]) -> Guid
+        ensures { bytes_of result ≡ bytes }
+    {
+        Guid { bytes }
+    }
+
+    /// The sixteen bytes as they stand in a volume.
+    pub const fn to_bytes(self) -> [u8; 16]
+        ensures { result ≡ bytes_of self }
+    {
+        self.bytes
+    }
+
+    /// The GUID that a text names, in any of the four forms that `uuid` reads, or None where it
+    /// reads none.
+    pub fn parse(text: &str) -> Option<Guid>
+        ensures { result ≡ guid_read text.now }
+    {
+        match Uuid::parse_str(text) {
+            Ok(uuid) => Some(Guid::from_bytes(uuid.to_bytes_le())),
+            Err(_) => None,
+        }
+    }
+
+    /// The text of 36 characters, 8-4-4-4-12 lower-case digits: the three numbers most significant
+    /// digit first, then the last eight bytes in order.
+    pub fn text(self) -> [u8; 36]
+        ensures text { result ≡ guid_text (bytes_of self) }
+
+        // The text names this GUID.
+        ensures read { guid_read result ≡ Some self }
+    {
+        let mut buffer = Uuid::encode_buffer();
+        let uuid = Uuid::from_bytes_le(self.bytes);
+        let written = uuid.hyphenated().encode_lower(&mut buffer);
+        let mut text = [0u8; 36];
+        text.copy_from_slice(written.as_bytes());
+        text
+    }
+}

@@ -1,0 +1,23 @@
+//! What every crate here speaks of: GUIDs, sums, alignments, faults, limits, ports and sinks.
+#![tactic(auto)]
+
+pub mod align;
+pub mod byte_list;
+pub mod fault;
+pub mod flash;
+pub mod guid;
+pub mod input;
+pub mod limits;
+pub mod port;
+pub mod sink;
+pub mod sums;
+
+pub use align::Align;
+pub use byte_list::ByteList;
+pub use fault::{Fault, FaultKind, Place};
+pub use flash::{FileSystem, Polarity};
+pub use guid::Guid;
+pub use input::read_input;
+pub use port::Port;
+pub use sink::{ListSink, Sink, WriteSink, fill};
+pub use sums::{sum8, sum16};

@@ -1,0 +1,195 @@
+//! What takes bytes, one after another: one walk serves every kind of sink.
+
+ghost use Rattle.std.specs.Prelude.{◌≡◌, ℕ, ◌⊎◌, ◌<◌, ◌≤◌, ◌^◌, List, [], length, take, drop, replicate, true, false, IfOk, IfErr, OnOk};
+ghost use Rattle.std.specs.Io.KnownBytes.{Appends};
+ghost use Rattle.fv_base.specs.Faults.{outer_fault, want_of_memory};
+ghost use Rattle.fv_base.specs.Port.{inner_of, has_erred};
+ghost use Rattle.fv_base.specs.Sinks.{WalkLaws};
+ghost use Rattle.fv_base.specs.Written.{Written, SeenTakes, seen_by};
+ghost use Rattle.fv_base.specs.Kept.{KeptTakes, kept_by, kept_in, is_on};
+
+use crate::byte_list::ByteList;
+use crate::fault::{Fault, FaultKind};
+use crate::port::Port;
+use std::alloc::{AllocError, Global};
+use std::io::Write;
+
+/// What takes bytes, one after another. A sink that can stop remembers that it has, and takes no
+/// more from then on.
+pub trait Sink {
+    /// A sink that is the first is the second behind the bytes.
+    ghost takes: { Self → List ℕ → Self → Type 0 };
+
+    /// No bytes change nothing, and bytes may come in parts.
+    ghost laws: { WalkLaws takes };
+
+    /// Takes the bytes.
+    fn put(&mut self, bytes: &[u8])
+        ensures { takes self.old bytes.now self.new };
+}
+
+/// The bytes from a place on.
+fn behind(bytes: &[u8], at: usize) -> &[u8]
+    requires { at ≤ length bytes.now }
+    ensures { result.now ≡ drop at bytes.now }
+{
+    &bytes[at..]
+}
+
+/// Writes a front of the bytes, all of them unless the port errs.
+fn write_front<W: Write>(port: &mut Port<W>, bytes: &[u8]) -> usize
+    ensures bound { result ≤ length bytes.now }
+    ensures front { Appends (W.contents (inner_of port.old)) (W.contents (inner_of port.new)) (take result bytes.now) }
+    ensures erred { result < length bytes.now → has_erred port.new ≡ true }
+{
+    let mut at = 0;
+    while at < bytes.len() {
+        match port.write(behind(bytes, at)) {
+            Ok(0) | Err(_) => return at,
+            Ok(count) => at += count,
+        }
+    }
+    at
+}
+
+/// A lent port that is written to, until a write fails.
+#[derive(Drop)]
+pub struct WriteSink<'a, W: Write> {
+    /// The port.
+    pub port: &'a mut Port<W>,
+    /// Whether no write has failed.
+    pub on: bool,
+    /// How many bytes were written, modulo 2 ^ 64.
+    pub count: u64,
+}
+
+impl<'a, W: Write> Sink for WriteSink<'a, W> {
+    ghost takes = { SeenTakes (λ s. record { contents = W.contents (inner_of s.port.now); erred = has_erred s.port.now; count = s.count }) (λ s. s.on) (λ s. s.port.ghost_name) };
+
+    ghost laws = { seen_by (λ s. record { contents = W.contents (inner_of s.port.now); erred = has_erred s.port.now; count = s.count }) (λ s. s.on) (λ s. s.port.ghost_name) };
+
+    fn put(&mut self, bytes: &[u8]) {
+        if self.on {
+            let count = write_front(self.port, bytes);
+            self.count = self.count.wrapping_add(count as u64);
+            self.on = count == bytes.len();
+        }
+    }
+}
+
+impl<'a, W: Write> WriteSink<'a, W> {
+    /// Done where no write has failed, else WriteFault at the bytes written.
+    pub fn outcome(&self) -> Result<(), Fault>
+        ensures ok { OnOk result (self.now.on ≡ true) }
+        ensures err { IfErr result (λ f. (self.now.on ≡ false) × (f ≡ outer_fault FaultKind.WriteFault self.now.count) × (self.now.count < 2 ^ 64)) }
+    {
+        if self.on {
+            Ok(())
+        } else {
+            Err(Fault::outer(FaultKind::WriteFault, self.count))
+        }
+    }
+}
+
+/// Bytes that are kept in memory, until a growth is refused.
+#[derive(Drop)]
+pub struct ListSink {
+    bytes: Vec<u8>,
+    on: bool,
+}
+
+impl ListSink {
+    /// A sink with room for so many bytes.
+    pub fn with_room(alloc: Global, total: usize) -> Result<ListSink, AllocError>
+        ensures { IfOk result (λ s. (kept_in s ≡ []) × (is_on s ≡ true)) }
+    {
+        Ok(ListSink {
+            bytes: Vec::with_capacity(alloc, total)?,
+            on: true,
+        })
+    }
+
+    /// The bytes that it took, or OutOfMemory where a growth was refused.
+    pub fn finish(self) -> Result<ByteList, Fault>
+        ensures ok { IfOk result (λ bytes. (is_on self ≡ true) × (bytes ≡ kept_in self)) }
+        ensures err { IfErr result (λ f. f ≡ want_of_memory) }
+    {
+        let ListSink { bytes, on } = self;
+        if on {
+            Ok(ByteList::from_vec(bytes))
+        } else {
+            Err(Fault::outer(FaultKind::OutOfMemory, 0))
+        }
+    }
+}
+
+impl Sink for ListSink {
+    ghost takes = { KeptTakes (λ s. s.bytes.items) (λ s. s.on) };
+
+    ghost laws = { kept_by (λ s. s.bytes.items) (λ s. s.on) };
+
+    fn put(&mut self, bytes: &[u8]) {
+        if self.on {
+            self.on = self.bytes.extend_from_slice(bytes).is_ok();
+        }
+    }
+}
+
+static ZEROS: [u8; 65536] = [0; 65536];
+
+static ONES: [u8; 65536] = [0xff; 65536];
+
+/// Zero bytes, some of them.
+fn zeros() -> &'static [u8]
+    ensures some { 0 < length result.now }
+    ensures same { result.now ≡ replicate (length result.now) 0 }
+{
+    &ZEROS
+}
+
+/// Bytes FF, some of them.
+fn ones() -> &'static [u8]
+    ensures some { 0 < length result.now }
+    ensures same { result.now ≡ replicate (length result.now) 255 }
+{
+    &ONES
+}
+
+/// A run of the byte, of some length.
+fn run_of(byte: u8) -> &'static [u8]
+    requires { (byte ≡ 0) ⊎ (byte ≡ 255) }
+    ensures some { 0 < length result.now }
+    ensures same { result.now ≡ replicate (length result.now) byte }
+{
+    if byte == 0 { zeros() } else { ones() }
+}
+
+/// The first `count` bytes of the chunk.
+fn cut(chunk: &[u8], count: u64) -> &[u8]
+    requires { count ≤ length chunk.now }
+    ensures { result.now ≡ take count chunk.now }
+{
+    &chunk[..count as usize]
+}
+
+/// Puts so many bytes, a chunk at a time.
+fn fill_by<S: Sink>(out: &mut S, chunk: &[u8], byte: u8, count: u64)
+    requires some { 0 < length chunk.now }
+    requires same { chunk.now ≡ replicate (length chunk.now) byte }
+    ensures { S.takes out.old (replicate count byte) out.new }
+{
+    let mut left = count;
+    while left > chunk.len() as u64 {
+        out.put(chunk);
+        left -= chunk.len() as u64;
+    }
+    out.put(cut(chunk, left));
+}
+
+/// Puts `count` times the byte, which is 00 or FF.
+pub fn fill<S: Sink>(out: &mut S, byte: u8, count: u64)
+    requires { (byte ≡ 0) ⊎ (byte ≡ 255) }
+    ensures { S.takes out.old (replicate count byte) out.new }
+{
+    fill_by(out, run_of(byte), byte, count);
+}
