@@ -1,13 +1,16 @@
 pub mod Alignment
 pub mod Checks
+pub mod Erased
 pub mod Faults
 pub mod Flash
 pub mod Guids
 pub mod Input
 pub mod Kept
+pub mod KeptLaws
 pub mod Limits
 pub mod Port
 pub mod Sinks
 pub mod Sums
 pub mod Value
 pub mod Written
+pub mod WrittenLaws

@@ -1,6 +1,6 @@
 //! Faults: what was refused, and where.
 
-ghost use Rattle.std.specs.Prelude.{◌≡◌};
+ghost use Rattle.std.specs.Prelude.{◌≡◌, true, false, OnOk, IfErr};
 ghost use Rattle.fv_base.specs.Faults.{number_of, outer_fault, want_of_memory};
 
 use std::alloc::{AllocError, AllocFailed};
@@ -153,6 +153,18 @@ impl Fault {
             kind,
             place: Place { offset, depth: 0 },
         }
+    }
+}
+
+/// Done where the check holds, else the fault of this kind at this offset, at the outermost level.
+pub fn check(holds: bool, kind: FaultKind, offset: u64) -> Result<(), Fault>
+    ensures ok { OnOk result (holds ≡ true) }
+    ensures err { IfErr result (λ f. (holds ≡ false) × (f ≡ outer_fault kind offset)) }
+{
+    if holds {
+        Ok(())
+    } else {
+        Err(Fault::outer(kind, offset))
     }
 }
 

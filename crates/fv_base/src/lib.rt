@@ -3,7 +3,9 @@
 
 pub mod align;
 pub mod byte_list;
+pub mod erased;
 pub mod fault;
+pub mod field;
 pub mod flash;
 pub mod guid;
 pub mod input;
@@ -11,10 +13,13 @@ pub mod limits;
 pub mod port;
 pub mod sink;
 pub mod sums;
+#[cfg(test)]
+mod tests;
 
 pub use align::Align;
 pub use byte_list::ByteList;
-pub use fault::{Fault, FaultKind, Place};
+pub use erased::all_are;
+pub use fault::{Fault, FaultKind, Place, check};
 pub use flash::{FileSystem, Polarity};
 pub use guid::Guid;
 pub use input::read_input;

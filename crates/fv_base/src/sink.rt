@@ -1,12 +1,14 @@
 //! What takes bytes, one after another: one walk serves every kind of sink.
 
-ghost use Rattle.std.specs.Prelude.{◌≡◌, ℕ, ◌⊎◌, ◌<◌, ◌≤◌, ◌^◌, List, [], length, take, drop, replicate, true, false, IfOk, IfErr, OnOk};
+ghost use Rattle.std.specs.Prelude.{◌≡◌, ℕ, ◌⊎◌, ◌<◌, ◌≤◌, ◌^◌, List, [], length, take, drop, replicate, true, false, IfOk, IfErr, OnErr};
 ghost use Rattle.std.specs.Io.KnownBytes.{Appends};
 ghost use Rattle.fv_base.specs.Faults.{outer_fault, want_of_memory};
 ghost use Rattle.fv_base.specs.Port.{inner_of, has_erred};
 ghost use Rattle.fv_base.specs.Sinks.{WalkLaws};
-ghost use Rattle.fv_base.specs.Written.{Written, SeenTakes, seen_by};
-ghost use Rattle.fv_base.specs.Kept.{KeptTakes, kept_by, kept_in, is_on};
+ghost use Rattle.fv_base.specs.Kept.{KeptTakes, kept_in, is_on};
+ghost use Rattle.fv_base.specs.KeptLaws.{kept_by};
+ghost use Rattle.fv_base.specs.Written.{SeenTakes};
+ghost use Rattle.fv_base.specs.WrittenLaws.{seen_by};
 
 use crate::byte_list::ByteList;
 use crate::fault::{Fault, FaultKind};
@@ -78,16 +80,12 @@ impl<'a, W: Write> Sink for WriteSink<'a, W> {
 }
 
 impl<'a, W: Write> WriteSink<'a, W> {
-    /// Done where no write has failed, else WriteFault at the bytes written.
-    pub fn outcome(&self) -> Result<(), Fault>
-        ensures ok { OnOk result (self.now.on ≡ true) }
-        ensures err { IfErr result (λ f. (self.now.on ≡ false) × (f ≡ outer_fault FaultKind.WriteFault self.now.count) × (self.now.count < 2 ^ 64)) }
+    /// The fault of a write that failed: WriteFault at the bytes written.
+    pub fn fault(&self) -> Fault
+        ensures fault { result ≡ outer_fault FaultKind.WriteFault self.now.count }
+        ensures small { self.now.count < 2 ^ 64 }
     {
-        if self.on {
-            Ok(())
-        } else {
-            Err(Fault::outer(FaultKind::WriteFault, self.count))
-        }
+        Fault::outer(FaultKind::WriteFault, self.count)
     }
 }
 
@@ -113,6 +111,7 @@ impl ListSink {
     pub fn finish(self) -> Result<ByteList, Fault>
         ensures ok { IfOk result (λ bytes. (is_on self ≡ true) × (bytes ≡ kept_in self)) }
         ensures err { IfErr result (λ f. f ≡ want_of_memory) }
+        ensures refused { OnErr result (is_on self ≡ false) }
     {
         let ListSink { bytes, on } = self;
         if on {

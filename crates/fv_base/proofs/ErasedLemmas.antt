@@ -1,0 +1,112 @@
+-- Bytes that are all one byte.
+use Rattle.std.proofs.Common.{◌≡◌, ℕ, zero, suc, ◌+◌, ◌%◌, ◌<◌, List, [], ◌∷◌, ◌++◌, length, take, drop, get_or, bit_or, refl, sym, ap, ◌∙◌, subst, arith}
+use Rattle.std.proofs.lemmas.List.{take-append-drop}
+use Rattle.std.specs.Prelude.{◌↔◌}
+use Rattle.std.specs.Int.RustNames.{bit_xor}
+use Rattle.std.proofs.lemmas.Nat.{le_or_l, le_or_r}
+use Rattle.std.proofs.lemmas.Nat.Bits.{same_from_bits, bit_at_xor, bit_at-zero, bit_at-lt}
+use Rattle.std.specs.Int.{bit_at}
+use Rattle.std.specs.Prelude.{Bool, true, false, ◌==◌, replicate}
+use Rattle.std.specs.List.{list_all}
+use Rattle.std.proofs.lemmas.Bool.{eqb-true, eq-eqb}
+use Rattle.fv_base.specs.Erased.{AllAre, all_are}
+use Rattle.fv_base.proofs.CheckLemmas.{and_split, and_join}
+
+pub all_append : (e : ℕ) (x y : List ℕ) → AllAre e x → AllAre e y → AllAre e (x ++ y)
+all_append e [] y h k = k
+all_append e (a ∷ x) y h k = (h.0, all_append e x y h.1 k)
+
+pub all_front : (e : ℕ) (x y : List ℕ) → AllAre e (x ++ y) → AllAre e x
+all_front e [] y h = tt
+all_front e (a ∷ x) y h = (h.0, all_front e x y h.1)
+
+pub all_behind : (e : ℕ) (x y : List ℕ) → AllAre e (x ++ y) → AllAre e y
+all_behind e [] y h = h
+all_behind e (a ∷ x) y h = all_behind e x y h.1
+
+pub one_more : (e : ℕ) (x : List ℕ) (i : ℕ) → i < length x → AllAre e (take i x) → get_or x i 0 ≡ e → AllAre e (take (suc i) x)
+one_more e [] i l h k = absurd (omega arith)
+one_more e (a ∷ x) zero l h k = (k, tt)
+one_more e (a ∷ x) (suc i) l h k = (h.0, one_more e x i (omega arith) h.1 k)
+
+pub one_less : (e : ℕ) (x : List ℕ) (i : ℕ) → i < length x → AllAre e (take (suc i) x) → AllAre e (take i x) × (get_or x i 0 ≡ e)
+one_less e [] i l h = absurd (omega arith)
+one_less e (a ∷ x) zero l h = (tt, h.0)
+one_less e (a ∷ x) (suc i) l h = let r = one_less e x i (omega arith) h.1 in ((h.0, r.0), r.1)
+
+pub or_none : (a b : ℕ) → bit_or a b ≡ 0 → (a ≡ 0) × (b ≡ 0)
+or_none a b h = (omega (arith, le_or_l a b, h), omega (arith, le_or_r a b, h))
+
+pub xor_none : (a b : ℕ) → bit_xor a b ≡ 0 → a ≡ b
+xor_none a b h = same_from_bits a b (λ i. same_bit (bit_at a i) (bit_at b i) (bit_at-lt a i) (bit_at-lt b i) (sym (bit_at_xor a b i) ∙ ap (λ n. bit_at n i) h ∙ bit_at-zero i))
+  where
+    same_bit : (x y : ℕ) → x < 2 → y < 2 → (x + y) % 2 ≡ 0 → x ≡ y
+    same_bit x y l m e = omega arith
+
+pub xor_same : (a : ℕ) → bit_xor a a ≡ 0
+xor_same a = same_from_bits (bit_xor a a) 0 (λ i. bit_at_xor a a i ∙ twice (bit_at a i) ∙ sym (bit_at-zero i))
+  where
+    twice : (x : ℕ) → (x + x) % 2 ≡ 0
+    twice x = omega arith
+
+-- a byte is looked at: nothing differed before and now
+pub looked_at : (e seen : ℕ) (x : List ℕ) (i : ℕ) → i < length x → ((seen ≡ 0) ↔ AllAre e (take i x)) → ((bit_or seen (bit_xor (get_or x i 0) e) ≡ 0) ↔ AllAre e (take (i + 1) x))
+looked_at e seen x i l h = (to, from)
+  where
+    next : suc i ≡ i + 1
+    next = omega arith
+
+    to : bit_or seen (bit_xor (get_or x i 0) e) ≡ 0 → AllAre e (take (i + 1) x)
+    to z = let p = or_none seen (bit_xor (get_or x i 0) e) z in subst (λ k. AllAre e (take k x)) next (one_more e x i l (h.0 p.0) (xor_none (get_or x i 0) e p.1))
+
+    from : AllAre e (take (i + 1) x) → bit_or seen (bit_xor (get_or x i 0) e) ≡ 0
+    from all = let p = one_less e x i l (subst (λ k. AllAre e (take k x)) (sym next) all) in rw (h.1 p.0, p.1, xor_same e) refl
+
+-- the test and the fact
+pub all_are-true : (byte : ℕ) (xs : List ℕ) → all_are byte xs ≡ true → AllAre byte xs
+unfolding all_are
+all_are-true byte [] h = tt
+all_are-true byte (x ∷ xs) h =
+    let both = and_split (x == byte) (list_all (λ y. y == byte) xs) h in
+    (eqb-true x byte both.0, all_are-true byte xs both.1)
+
+pub all-all_are : (byte : ℕ) (xs : List ℕ) → AllAre byte xs → all_are byte xs ≡ true
+unfolding all_are
+all-all_are byte [] h = refl
+all-all_are byte (x ∷ xs) h = and_join (x == byte) (list_all (λ y. y == byte) xs) (eq-eqb x byte h.0) (all-all_are byte xs h.1)
+
+-- a test that says the same
+pub same_test : (t : Bool) (byte : ℕ) (xs : List ℕ) → ((t ≡ true) ↔ AllAre byte xs) → t ≡ all_are byte xs
+same_test t byte xs says = go t (all_are byte xs) refl says where
+  go : (p q : Bool) → all_are byte xs ≡ q → ((p ≡ true) ↔ AllAre byte xs) → p ≡ q
+  go true true is says = refl
+  go true false is says = sym (all-all_are byte xs (says.0 refl)) ∙ is
+  go false true is says = says.1 (all_are-true byte xs is)
+  go false false is says = refl
+
+-- bytes that are all one byte are so many of it
+pub all-replicate : (byte : ℕ) (xs : List ℕ) → AllAre byte xs → xs ≡ replicate (length xs) byte
+all-replicate byte [] h = refl
+all-replicate byte (x ∷ xs) h = rw (← h.0) (ap (λ (ys : List ℕ). x ∷ ys) (rw h.0 (all-replicate byte xs h.1)))
+
+pub all-of_replicate : (byte n : ℕ) → AllAre byte (replicate n byte)
+all-of_replicate byte zero = tt
+all-of_replicate byte (suc n) = (refl, all-of_replicate byte n)
+
+-- a piece and what is behind it
+pub all_pieces : (byte : ℕ) (whole piece behind rest : List ℕ) → rest ≡ piece ++ behind → (AllAre byte rest ↔ AllAre byte whole) → AllAre byte piece → (AllAre byte behind ↔ AllAre byte whole)
+all_pieces byte whole piece behind rest is says held = (
+  λ all. says.0 (subst (AllAre byte) (sym is) (all_append byte piece behind held all)),
+  λ all. all_behind byte piece behind (subst (AllAre byte) is (says.1 all)),
+)
+
+-- a piece that differs
+pub piece_differs : (byte : ℕ) (whole piece behind rest : List ℕ) (t : Bool) → rest ≡ piece ++ behind → (AllAre byte rest ↔ AllAre byte whole) → ((t ≡ true) ↔ AllAre byte piece) → t ≡ false
+    → ((false ≡ true) ↔ AllAre byte whole)
+piece_differs byte whole piece behind rest t is says test off = (
+  λ never. cc,
+  λ all. let on : t ≡ true = test.1 (all_front byte piece behind (subst (AllAre byte) is (says.1 all))) in cc,
+)
+
+pub split_is : (n : ℕ) (rest piece behind : List ℕ) → piece ≡ take n rest → behind ≡ drop n rest → rest ≡ piece ++ behind
+split_is n rest piece behind front back = sym (rw (front, back) (take-append-drop n rest))

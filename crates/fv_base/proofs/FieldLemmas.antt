@@ -1,0 +1,96 @@
+-- Fields of bytes, and the numbers that they spell.
+use Rattle.std.proofs.Common.{◌≡◌, ◌≤◌, ◌<◌, ◌+◌, ◌-◌, ◌*◌, ◌/◌, ◌%◌, ℕ, zero, suc, List, [], ◌∷◌, ◌++◌, length, take, drop, refl, sym, ap, ◌∙◌, subst, arith, length-drop}
+use Rattle.std.specs.Prelude.{slice_index}
+use Rattle.std.proofs.Math.Seq.{drop-append-add}
+use Rattle.std.proofs.lemmas.List.{drop-take, length-take-le, take-append-le, drop-append-le}
+use Rattle.fv_base.specs.Value.{IsBytes, le, le_bytes, field}
+
+pub take-take_le : (n m : ℕ) (xs : List ℕ) → n ≤ m → take n (take m xs) ≡ take n xs
+take-take_le zero m xs h = refl
+take-take_le (suc n) zero xs h = absurd (omega arith)
+take-take_le (suc n) (suc m) [] h = refl
+take-take_le (suc n) (suc m) (x ∷ xs) h = ap (λ (ys : List ℕ). x ∷ ys) (take-take_le n m xs (omega arith))
+
+-- a field that ends within the first m bytes
+pub field-take : (i n m : ℕ) (b : List ℕ) → i + n ≤ m → field i n (take m b) ≡ field i n b
+field-take i n m b h =
+    let split : m ≡ i + (m - i) = omega arith in
+    let cut : drop i (take m b) ≡ take (m - i) (drop i b) = subst (λ (k : ℕ). drop i (take k b) ≡ take (m - i) (drop i b)) (sym split) (drop-take i (m - i) b) in
+    ap (take n) cut ∙ take-take_le n (m - i) (drop i b) (omega arith)
+
+-- the bytes behind the first are bytes
+pub bytes_behind : (b : ℕ) (bs : List ℕ) → IsBytes (b ∷ bs) → IsBytes bs
+bytes_behind b bs h = λ i. h (suc i)
+
+-- bytes are those of the number that they spell
+pub le_bytes-le : (bs : List ℕ) → IsBytes bs → le_bytes (length bs) (le bs) ≡ bs
+le_bytes-le [] h = refl
+le_bytes-le (b ∷ bs) h =
+    let small : b < 256 = h 0 in
+    rw (low b (le bs) small, high b (le bs) small) (ap (λ (ys : List ℕ). b ∷ ys) (le_bytes-le bs (bytes_behind b bs h)))
+  where
+    low : (b n : ℕ) → b < 256 → (b + 256 * n) % 256 ≡ b
+    low b n small = omega arith
+
+    high : (b n : ℕ) → b < 256 → (b + 256 * n) / 256 ≡ n
+    high b n small = omega arith
+
+pub length-le_bytes : (k n : ℕ) → length (le_bytes k n) ≡ k
+length-le_bytes zero n = refl
+length-le_bytes (suc k) n = ap suc (length-le_bytes k (n / 256))
+
+-- no byte stands behind the end
+none_at : (i : ℕ) → slice_index [] i < 256
+none_at i = omega arith
+
+-- the first n bytes are bytes, and so are those behind them
+pub bytes_take : (n : ℕ) (b : List ℕ) → IsBytes b → IsBytes (take n b)
+bytes_take zero b h i = none_at i
+bytes_take (suc n) [] h i = none_at i
+bytes_take (suc n) (x ∷ xs) h zero = h zero
+bytes_take (suc n) (x ∷ xs) h (suc i) = bytes_take n xs (bytes_behind x xs h) i
+
+pub bytes_drop : (n : ℕ) (b : List ℕ) → IsBytes b → IsBytes (drop n b)
+bytes_drop zero b h = h
+bytes_drop (suc n) [] h = h
+bytes_drop (suc n) (x ∷ xs) h = bytes_drop n xs (bytes_behind x xs h)
+
+-- a field of bytes is that of the number that it spells
+pub field_is : (at n : ℕ) (b : List ℕ) → IsBytes b → at + n ≤ length b → le_bytes n (le (field at n b)) ≡ field at n b
+field_is at n b h within =
+    let long : length (field at n b) ≡ n = length-take-le n (drop at b) (simp length-drop (omega arith)) in
+    subst (λ (k : ℕ). le_bytes k (le (field at n b)) ≡ field at n b) long (le_bytes-le (field at n b) (bytes_take n (drop at b) (bytes_drop at b h)))
+
+-- a byte before bytes
+bytes_cons : (x : ℕ) (b : List ℕ) → x < 256 → IsBytes b → IsBytes (x ∷ b)
+bytes_cons x b h k zero = h
+bytes_cons x b h k (suc i) = k i
+
+-- bytes behind bytes are bytes
+pub bytes_append : (a b : List ℕ) → IsBytes a → IsBytes b → IsBytes (a ++ b)
+bytes_append [] b h k = k
+bytes_append (x ∷ a) b h k = bytes_cons x (a ++ b) (h 0) (bytes_append a b (bytes_behind x a h) k)
+
+low_byte : (n : ℕ) → n % 256 < 256
+low_byte n = omega arith
+
+pub bytes_le_bytes : (k n : ℕ) → IsBytes (le_bytes k n)
+bytes_le_bytes zero n = none_at
+bytes_le_bytes (suc k) n = bytes_cons (n % 256) (le_bytes k (n / 256)) (low_byte n) (bytes_le_bytes k (n / 256))
+
+-- a number of two bytes
+pub le-le_bytes_2 : (n : ℕ) → n < 65536 → le (le_bytes 2 n) ≡ n
+le-le_bytes_2 n small = two n small where
+  two : (n : ℕ) → n < 65536 → n % 256 + 256 * (n / 256 % 256 + 256 * 0) ≡ n
+  two n small = omega arith
+
+-- a field within the first part of a join
+pub field-append_front : (i n : ℕ) (p q : List ℕ) → i + n ≤ length p → field i n (p ++ q) ≡ field i n p
+field-append_front i n p q within =
+    ap (take n) (drop-append-le i p q (omega arith)) ∙ take-append-le n (drop i p) q (simp length-drop (omega arith))
+
+-- a place behind the first part of a join
+pub drop-append_behind : (i : ℕ) (p q : List ℕ) → length p ≤ i → drop i (p ++ q) ≡ drop (i - length p) q
+drop-append_behind i p q past = ap (λ (k : ℕ). drop k (p ++ q)) (split i (length p) past) ∙ drop-append-add p q (i - length p) where
+  split : (i n : ℕ) → n ≤ i → i ≡ n + (i - n)
+  split i n h = omega arith

@@ -1,0 +1,15 @@
+-- Sums of words.
+use Rattle.std.proofs.Common.{◌≡◌, ◌+◌, ◌%◌, ℕ, List, [], ◌∷◌, ◌++◌, length, refl, ap, ◌∙◌, arith}
+use Rattle.std.specs.Prelude.{sum}
+use Rattle.std.proofs.lemmas.List.Sums.{sum_by-append}
+use Rattle.fv_base.specs.Sums.{words_of}
+use Rattle.fv_base.specs.Value.{le}
+
+-- words of bytes of even length, and then of more
+pub words_of-append : (a b : List ℕ) → length a % 2 ≡ 0 → words_of (a ++ b) ≡ words_of a ++ words_of b
+words_of-append [] b even = refl
+words_of-append (x ∷ []) b even = absurd (omega arith)
+words_of-append (x ∷ y ∷ a) b even = ap (λ (ws : List ℕ). le (x ∷ y ∷ []) ∷ ws) (words_of-append a b (omega arith))
+
+pub sum-words_of-append : (a b : List ℕ) → length a % 2 ≡ 0 → sum (words_of (a ++ b)) ≡ sum (words_of a) + sum (words_of b)
+sum-words_of-append a b even = ap sum (words_of-append a b even) ∙ sum_by-append (λ (x : ℕ). x) (words_of a) (words_of b)

@@ -1,0 +1,11 @@
+use Rattle.std.proofs.Common.{length}
+use Rattle.std.specs.Prelude.{◌↔◌}
+use Rattle.fv_base.specs.Erased.{AllAre}
+use Rattle.fv_base.proofs.erased.all_are.Given as goal
+
+-- what is left answers for all
+abbrev pub invariant-loop-rest : goal.invariant-loop-rest
+invariant-loop-rest l = AllAre l.fn.byte l.rest ↔ AllAre l.fn.byte l.fn.bytes
+
+abbrev pub decreases-loop-rest : goal.decreases-loop-rest
+decreases-loop-rest l = length l.rest

@@ -1,0 +1,34 @@
+//! Bytes that are all the same, as erased ones are.
+
+ghost use Rattle.std.specs.Prelude.{◌≡◌, ◌↔◌, IsTrue};
+ghost use Rattle.fv_base.specs.Erased.{AllAre, all_are};
+
+/// How many bytes are looked at before it is asked whether to go on.
+const PIECE: usize = 4096;
+
+// Whether every byte is this one. Looks at all of them.
+fn is_even(piece: &[u8], byte: u8) -> bool
+    ensures { IsTrue result ↔ AllAre byte piece.now }
+{
+    let mut seen = 0u8;
+    for other in piece {
+        seen |= *other ^ byte;
+    }
+    seen == 0
+}
+
+/// Whether every one of the bytes is this one.
+pub fn all_are(bytes: &[u8], byte: u8) -> bool
+    ensures test { result ≡ all_are byte bytes.now }
+    ensures all { IsTrue result ↔ AllAre byte bytes.now }
+{
+    let mut rest = bytes;
+    while rest.len() >= PIECE {
+        let (piece, behind) = rest.split_at(PIECE);
+        if !is_even(piece, byte) {
+            return false;
+        }
+        rest = behind;
+    }
+    is_even(rest, byte)
+}

@@ -1,0 +1,28 @@
+use Rattle.std.proofs.Common.{inr}
+use Rattle.std.proofs.lemmas.Result.{err_from_is_err_and}
+use Rattle.fv_canon.proofs.InputLaws.{volume_kind, volume_refused, end_refused, end_found}
+use Rattle.fv_canon.proofs.run.whole_volume.Goals as goal
+
+pub returns-in_err-view-clause-refused : goal.returns-in_err-view-clause-refused
+returns-in_err-view-clause-refused c =
+    let p = err_from_is_err_and c.from_residual.result c.from_residual.ensures.1 in
+    rw (p.1, p.2) (volume_refused c.args.input.now _ (λ n m within d. (c.in_err-view.ensures.only n m within d).1) c.in_err-view.ensures.first)
+
+pub returns-in_err-view-clause-kind : goal.returns-in_err-view-clause-kind
+returns-in_err-view-clause-kind c =
+    let p = err_from_is_err_and c.from_residual.result c.from_residual.ensures.1 in
+    rw (p.1, p.2) (volume_kind c.args.input.now _ c.in_err-view.ensures.first)
+
+pub returns-in_err-check-clause-refused : goal.returns-in_err-check-clause-refused
+returns-in_err-check-clause-refused c =
+    let p = err_from_is_err_and c.from_residual-in_err-check.result c.from_residual-in_err-check.ensures.1 in
+    rw (p.1, p.2) (inr (end_refused c.args.input.now _ c.in_ok-view.view c.in_ok-view.length c.in_ok-view.ensures.found c.in_ok-view.ensures.length.1
+    c.in_err-check.ensures.err.0 c.in_err-check.ensures.err.1 (λ n m within d. (c.in_ok-view.ensures.only n m within d).0)))
+
+pub returns-in_err-check-clause-kind : goal.returns-in_err-check-clause-kind
+returns-in_err-check-clause-kind c =
+    let p = err_from_is_err_and c.from_residual-in_err-check.result c.from_residual-in_err-check.ensures.1 in
+    rw (p.1, p.2, c.in_err-check.ensures.err.1) (λ e. cc, λ e. cc)
+
+pub returns-clause-found : goal.returns-clause-found
+returns-clause-found c = end_found c.args.input.now c.in_ok-view.view c.in_ok-view.length c.in_ok-view.ensures.found c.in_ok-check.ensures.ok

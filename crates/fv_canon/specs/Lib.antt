@@ -1,0 +1,4 @@
+pub mod Image
+pub mod InputChecks
+pub mod Layouts
+pub mod Runs

@@ -1,0 +1,36 @@
+-- What a run reads and writes, and what stops it.
+use Rattle.std.specs.Prelude.{ℕ, ◌≡◌, ◌<◌, List, length, take, Option, ◌⊎◌}
+use Rattle.std.specs.Io.KnownBytes.{Appends, Keeps}
+use Rattle.fv_base.specs.Faults.{want_of_memory}
+use Rattle.fv_base.specs.Input.{ReadsWhole, ReadStops}
+use Rattle.fv_base.specs.declared.fault.Fault.{Fault}
+use Rattle.fv_base.specs.declared.fault.FaultKind.TheVariants as kinds
+use Rattle.fv_canon.specs.Image.{NormalisesTo}
+use Rattle.fv_canon.specs.InputChecks.{Refuses}
+
+-- a writer stopped, and holds the first bytes of the output, as many as the fault's offset says
+pub record WriteStops (held holds : Option (List ℕ)) (output : List ℕ) (fault : Fault) : Type 0 where
+  pub kind : fault.kind ≡ kinds.WriteFault
+  pub depth : fault.place.depth ≡ 0
+  pub before_end : fault.place.offset < length output
+  pub wrote : Appends held holds (take fault.place.offset output)
+
+-- the image of the input was written
+abbrev pub InputWrites : List ℕ → Option (List ℕ) → Option (List ℕ) → Type 0
+InputWrites input held holds = (image : List ℕ) × NormalisesTo input image × Appends held holds image
+
+-- nothing was written, for want of memory or since the input is refused; or the writer stopped
+abbrev pub InputStops : List ℕ → Option (List ℕ) → Option (List ℕ) → Fault → Type 0
+InputStops input held holds fault =
+    (Keeps held holds × ((fault ≡ want_of_memory) ⊎ Refuses input fault))
+    ⊎ ((image : List ℕ) × NormalisesTo input image × WriteStops held holds image fault)
+
+-- a run read an input to its end, and wrote its image
+abbrev pub RunWrites : Option (List ℕ) → Option (List ℕ) → Option (List ℕ) → Option (List ℕ) → Type 0
+RunWrites unread left held holds = (input : List ℕ) × ReadsWhole unread left input × InputWrites input held holds
+
+-- a run stopped while it read, and nothing was written; or behind an input that it had read to its end
+abbrev pub RunStops : Option (List ℕ) → Option (List ℕ) → Option (List ℕ) → Option (List ℕ) → Fault → Type 0
+RunStops unread left held holds fault =
+    (Keeps held holds × ReadStops unread left fault)
+    ⊎ ((input : List ℕ) × ReadsWhole unread left input × InputStops input held holds fault)

@@ -1,0 +1,82 @@
+//! The canonical image of a volume.
+
+ghost use Rattle.std.specs.Prelude.{◌≡◌, ℕ, List, IfOk, IfErr, OnOk, OnErr, true};
+ghost use Rattle.std.specs.Io.KnownBytes.{Appends};
+ghost use Rattle.fv_base.specs.Faults.{want_of_memory};
+ghost use Rattle.fv_base.specs.Port.{inner_of, has_erred};
+ghost use Rattle.fv_canon.specs.Image.{IsImage, image_of};
+ghost use Rattle.fv_canon.specs.Layouts.{IsLayout};
+ghost use Rattle.fv_canon.specs.Runs.{WriteStops};
+ghost use Rattle.fv_tree.specs.Meaning.{Meaning, Denotes, IsMeaning};
+
+use crate::place::layout;
+use crate::starts::Layout;
+use fv_base::{ByteList, Fault, ListSink, Port, Sink, WriteSink, fill};
+use fv_head::put_head;
+use fv_tree::VolumeView;
+use std::alloc::Global;
+use std::io::Write;
+
+// Puts the image: the head, and then erased bytes to the end.
+fn put_image<S: Sink>(out: &mut S, view: &VolumeView<'_>, _layout: &Layout)
+    ensures bytes { S.takes out.old (image_of view.now) out.new }
+    ensures meaning { IsMeaning view.now }
+{
+    let head = view.head();
+    put_head(out, head);
+    let rest = head.length() - u64::from(head.header_len());
+    fill(out, head.attributes().polarity().erased(), rest);
+}
+
+/// Writes the canonical image of the view to a port, in one walk that takes no memory. The
+/// layout has to be that of the view.
+///
+/// # Errors
+///
+/// WriteFault at the bytes written in this call, where a write fails or takes no byte: exactly
+/// these bytes of the image were written then.
+pub fn write_canonical<W: Write>(
+    view: &VolumeView<'_>,
+    layout: &Layout,
+    writer: &mut Port<W>,
+) -> Result<(), Fault>
+    requires { IsLayout view.now layout.now }
+
+    // The image was written.
+    ensures ok { OnOk result ((image : List ℕ) × IsImage view.now image × Appends (W.contents (inner_of writer.old)) (W.contents (inner_of writer.new)) image) }
+
+    // A front of it was, as long as the fault's offset says.
+    ensures err { IfErr result (λ f. (image : List ℕ) × IsImage view.now image × WriteStops (W.contents (inner_of writer.old)) (W.contents (inner_of writer.new)) image f) }
+
+    // The writer's fault comes only where the port has erred.
+    ensures erred { OnErr result (has_erred writer.new ≡ true) }
+{
+    let mut out = WriteSink {
+        port: writer,
+        on: true,
+        count: 0,
+    };
+    put_image(&mut out, view, layout);
+    if out.on { Ok(()) } else { Err(out.fault()) }
+}
+
+/// The canonical image of the view. The whole length is reserved first.
+///
+/// # Errors
+///
+/// OutOfMemory.
+pub fn canonical(alloc: Global, view: &VolumeView<'_>) -> Result<ByteList, Fault>
+    // It is the image of the meaning, and nothing else is.
+    ensures image { IfOk result (λ bytes. IsImage view.now bytes) }
+    ensures only { (other : List ℕ) → IsImage view.now other → IfOk result (λ bytes. bytes ≡ other) }
+
+    // It is a volume of the meaning, and the image of no other meaning that some bytes have.
+    ensures denotes { IfOk result (λ bytes. Denotes bytes view.now) }
+    ensures meaning { IfOk result (λ bytes. (m : Meaning) → IsMeaning m → IsImage m bytes → m ≡ view.now) }
+    ensures err { IfErr result (λ f. f ≡ want_of_memory) }
+{
+    let places = layout(alloc, view)?;
+    let mut out = ListSink::with_room(alloc, view.head().length() as usize)?;
+    put_image(&mut out, view, &places);
+    out.finish()
+}

@@ -1,0 +1,4 @@
+pub mod BlockLemmas
+pub mod FrontLemmas
+pub mod SpellLemmas
+pub mod SpelledLemmas

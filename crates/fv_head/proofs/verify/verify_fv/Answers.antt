@@ -1,0 +1,12 @@
+use Rattle.std.proofs.Common.{rules, ◌∙◌}
+use Rattle.fv_head.proofs.FrontLemmas.{ok_found, front_only, err_first}
+use Rattle.fv_head.proofs.verify.verify_fv.Goals as goal
+
+pub returns-clause-found : goal.returns-clause-found
+returns-clause-found c = ok_found c.args.bytes.now c.verdict.result (search rules) c.verdict.ensures
+
+pub returns-clause-only : goal.returns-clause-only
+returns-clause-only c = λ h e front. c.verdict.ensures ∙ front_only c.args.bytes.now h e front
+
+pub returns-clause-first : goal.returns-clause-first
+returns-clause-first c = err_first c.args.bytes.now c.verdict.result c.verdict.ensures

@@ -1,0 +1,9 @@
+-- The attribute bits of a volume (PI specification, volume 3, section 3.2.1.1, EFI_FVB_ATTRIBUTES_2).
+use Rattle.std.specs.Prelude.{ℕ, ◌==◌, if◌then◌else◌}
+use Rattle.std.specs.Int.RustNames.{bit_and}
+use Rattle.fv_base.specs.declared.flash.Polarity.{Polarity}
+use Rattle.fv_base.specs.declared.flash.Polarity.TheVariants.{Ones, Zeros}
+
+-- what an erased byte holds, by bit 0x800
+abbrev pub polarity_of : ℕ → Polarity
+polarity_of bits = if bit_and bits 2048 == 2048 then Ones else Zeros

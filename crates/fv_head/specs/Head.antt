@@ -1,0 +1,99 @@
+-- The header that a volume begins with (PI specification, volume 3, section 3.2.1.1, EFI_FIRMWARE_VOLUME_HEADER).
+use Rattle.std.specs.Prelude.{◌≡◌, ◌≢◌, ◌≤◌, ◌+◌, ◌*◌, ◌%◌, ℕ, List, [], ◌∷◌, ◌++◌, length, take, drop, slice_index, Option, None, Some}
+use Rattle.std.specs.List.{AllByRecursion}
+use Rattle.fv_base.specs.Limits.{volume_limit}
+use Rattle.fv_base.specs.Sums.{sum16_of}
+use Rattle.fv_base.specs.Value.{IsBytes, field, le_at}
+use Rattle.fv_base.specs.declared.flash.FileSystem.{FileSystem}
+use Rattle.fv_base.specs.declared.flash.FileSystem.TheVariants.{Ffs2, Ffs3}
+use Rattle.fv_base.specs.declared.guid.Guid.{Guid}
+use Rattle.fv_head.specs.declared.extent.Extent.{Extent}
+use Rattle.fv_head.specs.Attributes.{polarity_of}
+use Rattle.fv_head.specs.Pairs.{pairs_of, bytes_in}
+
+-- the signature `_FVH`
+abbrev pub signature_bytes : List ℕ
+signature_bytes = 0x5f ∷ 0x46 ∷ 0x56 ∷ 0x48 ∷ []
+
+-- the GUID of a file system, as it stands in a volume (section 3.2.2)
+abbrev pub system_guid : FileSystem → List ℕ
+system_guid Ffs2 = 0x78 ∷ 0xe5 ∷ 0x8c ∷ 0x8c ∷ 0x3d ∷ 0x8a ∷ 0x1c ∷ 0x4f ∷ 0x99 ∷ 0x35 ∷ 0x89 ∷ 0x61 ∷ 0x85 ∷ 0xc3 ∷ 0x2d ∷ 0xd3 ∷ []
+system_guid Ffs3 = 0x7a ∷ 0xc0 ∷ 0x73 ∷ 0x54 ∷ 0xcb ∷ 0x3d ∷ 0xca ∷ 0x4d ∷ 0xbd ∷ 0x6f ∷ 0x1e ∷ 0x96 ∷ 0x89 ∷ 0xe7 ∷ 0x34 ∷ 0x9a ∷ []
+
+-- what an extended header says of its volume: its name, its entries (a type and a payload each), and the bytes behind them
+pub record Extension : Type 0 where
+  pub name : Guid
+  pub entries : List (ℕ × List ℕ)
+  pub tail : List ℕ
+
+-- what a header says of its volume
+pub record HeadFields : Type 0 where
+  pub zero_vector : List ℕ
+  pub file_system : FileSystem
+  pub length : ℕ
+  pub attributes : ℕ
+  pub reserved : ℕ
+  pub blocks : List (ℕ × ℕ)
+  pub ext : Option Extension
+
+-- the bytes are a header with these fields; its checksum and its ExtHeaderOffset may be any that fit
+pub record IsHead (h : HeadFields) (b : List ℕ) : Type 0 where
+  pub bytes : IsBytes b
+  pub zero_vector : field 0 16 b ≡ h.zero_vector
+  pub file_system : field 16 16 b ≡ system_guid h.file_system
+  pub volume_length : le_at 32 8 b ≡ h.length
+  pub signature : field 40 4 b ≡ signature_bytes
+  pub attributes : le_at 44 4 b ≡ h.attributes
+  pub header_length : le_at 48 2 b ≡ length b
+  pub reserved : slice_index b 54 ≡ h.reserved
+  pub revision : slice_index b 55 ≡ 2
+  pub block_map : pairs_of (drop 56 b) ≡ h.blocks ++ ((0, 0) ∷ [])
+  pub no_pair_of_zeros : AllByRecursion (λ p. p ≢ (0, 0)) h.blocks
+  pub sum : sum16_of b ≡ 0
+  pub multiple : length b % 8 ≡ 0
+  pub least : 64 ≤ length b
+  pub most : length b ≤ 2112
+  pub makes_up : bytes_in h.blocks ≡ h.length
+  pub volume_multiple : h.length % 8 ≡ 0
+  pub volume_least : length b ≤ h.length
+  pub volume_most : h.length ≤ volume_limit
+
+-- the length of a header with these fields
+abbrev pub header_len_of : HeadFields → ℕ
+header_len_of h = 56 + 8 * (length h.blocks + 1)
+
+-- how far a volume with this header reaches, and what its header says of the rest
+abbrev pub extent_of : HeadFields → Extent
+extent_of h = record {
+  length = h.length;
+  header_len = header_len_of h;
+  first = header_len_of h;
+  file_system = h.file_system;
+  polarity = polarity_of h.attributes;
+}
+
+-- the bytes begin with a volume of this header and this extent; volumes with an extended header are not among them yet
+pub record Front (h : HeadFields) (e : Extent) (b : List ℕ) : Type 0 where
+  pub head : IsHead h (take e.header_len b)
+  pub long_enough : e.header_len ≤ length b
+  pub whole : e.length ≤ length b
+  pub no_extension : le_at 52 2 b ≡ 0
+  pub ext : h.ext ≡ None
+  pub length_is : e.length ≡ h.length
+  pub first : e.first ≡ e.header_len
+  pub file_system : e.file_system ≡ h.file_system
+  pub polarity : e.polarity ≡ polarity_of h.attributes
+
+-- the fields are those of some header, as those of each head that was read
+abbrev pub IsReadHead : HeadFields → Type 0
+IsReadHead h = (b : List ℕ) × IsHead h b
+
+-- the ExtHeaderOffset of a canonical head: behind the header of a pad file that stands behind the head, or 0
+abbrev pub canonical_offset : HeadFields → Option Extension → ℕ
+canonical_offset h None = 0
+canonical_offset h (Some x) = header_len_of h + 24
+
+-- the bytes are the head of the canonical image
+pub record IsCanonicalHead (h : HeadFields) (b : List ℕ) : Type 0 where
+  pub head : IsHead h b
+  pub offset : le_at 52 2 b ≡ canonical_offset h h.ext

@@ -1,0 +1,98 @@
+-- The checks of a volume's header, in their order.
+use Rattle.std.specs.Prelude.{ℕ, ◌-◌, ◌%◌, ◌==◌, nat_le, Bool, ◌&&◌, not, is_some, if◌then◌else◌, List, [], ◌∷◌, length, take, slice_index, Option, None, Some, Result, Ok, Err}
+use Rattle.std.specs.Str.{bytes_eq}
+use Rattle.std.specs.List.{list_all}
+use Rattle.fv_base.specs.Checks.{Check, check, first_fault}
+use Rattle.fv_base.specs.Faults.{outer_fault}
+use Rattle.fv_base.specs.Limits.{volume_limit}
+use Rattle.fv_base.specs.Sums.{sum16_of}
+use Rattle.fv_base.specs.Value.{field, le_at}
+use Rattle.fv_base.specs.declared.fault.Fault.{Fault}
+use Rattle.fv_base.specs.declared.fault.FaultKind.TheVariants as kinds
+use Rattle.fv_base.specs.declared.flash.FileSystem.{FileSystem}
+use Rattle.fv_base.specs.declared.flash.FileSystem.TheVariants.{Ffs2, Ffs3}
+use Rattle.fv_head.specs.declared.extent.Extent.{Extent}
+use Rattle.fv_head.specs.Attributes.{polarity_of}
+use Rattle.fv_head.specs.Head.{signature_bytes, system_guid}
+use Rattle.fv_head.specs.Pairs.{pairs_of, bytes_in}
+
+abbrev pub has_signature : List ℕ → Bool
+has_signature b = bytes_eq (field 40 4 b) signature_bytes
+
+-- the file system whose GUID stands at 16
+abbrev pub file_system_at : List ℕ → Option FileSystem
+file_system_at b =
+    if bytes_eq (field 16 16 b) (system_guid Ffs2) then Some Ffs2
+    else (if bytes_eq (field 16 16 b) (system_guid Ffs3) then Some Ffs3 else None)
+
+-- HeaderLength and FvLength, as they stand in the header
+abbrev pub header_len_at : List ℕ → ℕ
+header_len_at b = le_at 48 2 b
+
+abbrev pub volume_len_at : List ℕ → ℕ
+volume_len_at b = le_at 32 8 b
+
+abbrev pub is_header_len : ℕ → Bool
+is_header_len n = (n % 8 == 0) && nat_le 64 n && nat_le n 2112
+
+-- the first n bytes sum to 0
+abbrev pub has_sum : ℕ → List ℕ → Bool
+has_sum n b = sum16_of (take n b) == 0
+
+abbrev pub is_zero_pair : ℕ × ℕ → Bool
+is_zero_pair p = (p.0 == 0) && (p.1 == 0)
+
+-- none of the blocks is a pair of zeros, and they make up so many bytes
+abbrev pub makes_up : List (ℕ × ℕ) → ℕ → Bool
+makes_up blocks total = list_all (λ p. not (is_zero_pair p)) blocks && (bytes_in blocks == total)
+
+-- the block map's pairs but the last
+abbrev pub blocks_at : ℕ → List ℕ → List (ℕ × ℕ)
+blocks_at n b = pairs_of (field 56 (n - 64) b)
+
+-- the first pair of zeros stands at the header's end, and the blocks make up the volume
+abbrev pub has_block_map : ℕ → List ℕ → Bool
+has_block_map n b =
+    makes_up (blocks_at n b) (volume_len_at b) && is_zero_pair (le_at (n - 8) 4 b, le_at (n - 4) 4 b)
+
+abbrev pub is_volume_len : ℕ → ℕ → Bool
+is_volume_len n len = (len % 8 == 0) && nat_le n len && nat_le len volume_limit
+
+-- the checks of a header, in their order
+abbrev pub head_checks : List ℕ → List Check
+head_checks b =
+    check (nat_le 56 (length b)) kinds.Truncated (length b)
+    ∷ check (has_signature b) kinds.Signature 40
+    ∷ check (is_some (file_system_at b)) kinds.FileSystem 16
+    ∷ check (slice_index b 55 == 2) kinds.Revision 55
+    ∷ check (is_header_len (header_len_at b)) kinds.HeaderLength 48
+    ∷ check (nat_le (header_len_at b) (length b)) kinds.Truncated (length b)
+    ∷ check (has_sum (header_len_at b) b) kinds.HeaderSum 0
+    ∷ check (has_block_map (header_len_at b) b) kinds.BlockMap 56
+    ∷ check (is_volume_len (header_len_at b) (volume_len_at b)) kinds.Length 32
+    ∷ check (nat_le (volume_len_at b) (length b)) kinds.Truncated (length b)
+    ∷ check (le_at 52 2 b == 0) kinds.ExtHeader 52
+    ∷ []
+
+-- the extent that a header of the file system says
+abbrev pub extent_at : FileSystem → List ℕ → Extent
+extent_at fs b = record {
+  length = volume_len_at b;
+  header_len = header_len_at b;
+  first = header_len_at b;
+  file_system = fs;
+  polarity = polarity_of (le_at 44 4 b);
+}
+
+-- the extent where the file system is known, else a fault
+abbrev pub extent_or : Option FileSystem → Fault → List ℕ → Result Extent Fault
+extent_or None f b = Err f
+extent_or (Some fs) f b = Ok (extent_at fs b)
+
+-- the first fault, or the extent
+abbrev pub verdict_by : Option Fault → List ℕ → Result Extent Fault
+verdict_by (Some f) b = Err f
+verdict_by None b = extent_or (file_system_at b) (outer_fault kinds.FileSystem 16) b
+
+abbrev pub verdict_of : List ℕ → Result Extent Fault
+verdict_of b = verdict_by (first_fault (head_checks b)) b

@@ -1,0 +1,14 @@
+-- What a header that is kept shows.
+use Rattle.fv_head.specs.declared.head.VolumeHead.TheInside.{Inside}
+use Rattle.fv_head.specs.Head.{HeadFields}
+
+abbrev pub fields_held : Inside → HeadFields
+fields_held a = record {
+  zero_vector = a.zero_vector;
+  file_system = a.file_system;
+  length = a.length;
+  attributes = a.attributes.0;
+  reserved = a.reserved;
+  blocks = a.blocks;
+  ext = a.ext;
+}

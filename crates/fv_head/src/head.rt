@@ -1,0 +1,168 @@
+//! The header of a volume, as it is kept.
+
+ghost use Rattle.std.specs.Prelude.{◌≡◌, ◌⊎◌, ◌%◌, ◌≤◌, length, IfOk, IfErr, option_copied};
+ghost use Rattle.fv_base.specs.Checks.{IsFirstFault};
+ghost use Rattle.fv_base.specs.Faults.{want_of_memory};
+ghost use Rattle.fv_head.specs.Head.{HeadFields, Front, IsReadHead, header_len_of};
+ghost use Rattle.fv_head.specs.HeadChecks.{head_checks};
+ghost use Rattle.fv_head.specs.Pairs.{pairs_of};
+ghost use Rattle.fv_head.specs.declared.extent.Extent.{Extent};
+
+use crate::attributes::FvAttributes;
+use crate::block_map::BlockMap;
+use crate::ext::ExtHeader;
+use crate::extent::Extent;
+use crate::fields::{u32_at, u64_at};
+use crate::verify::verify_fv;
+use bitflags::Flags;
+use fv_base::field::field;
+use fv_base::{Fault, FileSystem};
+use std::alloc::Global;
+use std::marker::Model;
+
+/// A volume's header, made by reading alone. Contracts see its fields, and know that they are
+/// those of a header. (PI specification, volume 3, section 3.2.1.1.)
+#[derive(Drop)]
+pub struct VolumeHead {
+    zero_vector: [u8; 16],
+    file_system: FileSystem,
+    length: u64,
+    attributes: FvAttributes,
+    reserved: u8,
+    blocks: BlockMap,
+    ext: Option<ExtHeader>,
+}
+
+impl Model for VolumeHead {
+    ghost use Rattle.fv_head.specs.Head.{HeadFields, IsReadHead};
+
+    ghost Value = { HeadFields };
+
+    ghost use Rattle.fv_head.specs.View.{fields_held};
+
+    ghost view = { fields_held };
+
+    ghost invariant = { λ a. IsReadHead (fields_held a) };
+}
+
+impl VolumeHead {
+    /// The 16 bytes at the volume's start, as they were found.
+    pub fn zero_vector(&self) -> &[u8; 16]
+        ensures { result.now ≡ self.now.zero_vector }
+    {
+        &self.zero_vector
+    }
+
+    /// The file system.
+    pub fn file_system(&self) -> FileSystem
+        ensures { result ≡ self.now.file_system }
+    {
+        self.file_system
+    }
+
+    /// The bytes of the volume, FvLength.
+    pub fn length(&self) -> u64
+        ensures { result ≡ self.now.length }
+    {
+        self.length
+    }
+
+    /// The attribute bits.
+    pub fn attributes(&self) -> FvAttributes
+        ensures { result.0 ≡ self.now.attributes }
+    {
+        self.attributes
+    }
+
+    /// The reserved byte, as it was found.
+    pub fn reserved(&self) -> u8
+        ensures { result ≡ self.now.reserved }
+    {
+        self.reserved
+    }
+
+    /// The block map.
+    pub fn blocks(&self) -> &BlockMap
+        ensures { result.now ≡ self.now.blocks }
+    {
+        &self.blocks
+    }
+
+    /// The bytes of the header, HeaderLength.
+    pub fn header_len(&self) -> u16
+        ensures length { result ≡ header_len_of self.now }
+        ensures most { header_len_of self.now ≤ 2112 }
+
+        // The fields are those of a header.
+        ensures read { IsReadHead self.now }
+    {
+        8 * (self.blocks.as_slice().len() as u16 + 1) + 56
+    }
+
+    /// The extended header, if there is one.
+    pub fn ext(&self) -> Option<&ExtHeader>
+        ensures { option_copied result ≡ self.now.ext }
+    {
+        self.ext.as_ref()
+    }
+}
+
+// The blocks that bytes spell.
+fn blocks_of(alloc: Global, bytes: &[u8]) -> Result<BlockMap, Fault>
+    requires { length bytes.now % 8 ≡ 0 }
+    ensures ok { IfOk result (λ m. m ≡ pairs_of bytes.now) }
+    ensures err { IfErr result (λ f. f ≡ want_of_memory) }
+{
+    let mut blocks = Vec::new(alloc);
+    let mut rest = bytes;
+    while rest.len() >= 8 {
+        let count = u32_at(rest, 0);
+        let size = u32_at(rest, 4);
+        blocks.push((count, size))?;
+        let (_, behind) = rest.split_at(8);
+        rest = behind;
+    }
+    Ok(BlockMap::from_vec(blocks))
+}
+
+// The fields of the header that the bytes begin with.
+fn head_of(alloc: Global, bytes: &[u8], extent: &Extent) -> Result<VolumeHead, Fault>
+    requires front { (h : HeadFields) × Front h extent.now bytes.now }
+    ensures ok { IfOk result (λ h. Front h extent.now bytes.now) }
+    ensures err { IfErr result (λ f. f ≡ want_of_memory) }
+{
+    let header_len = extent.header_len as usize;
+    let blocks = blocks_of(alloc, field(bytes, 56, header_len - 64))?;
+    let mut zero_vector = [0u8; 16];
+    zero_vector.copy_from_slice(field(bytes, 0, 16));
+    Ok(VolumeHead {
+        zero_vector,
+        file_system: extent.file_system,
+        length: u64_at(bytes, 32),
+        attributes: FvAttributes::from_bits_retain(u32_at(bytes, 44)),
+        reserved: bytes[54],
+        blocks,
+        ext: None,
+    })
+}
+
+/// The header of the volume that the bytes begin with, and its extent. (PI specification, volume
+/// 3, section 3.2.1.1.)
+///
+/// # Errors
+///
+/// The first fault of the header, as `verify_fv`; OutOfMemory.
+pub fn read_head(alloc: Global, bytes: &[u8]) -> Result<(VolumeHead, Extent), Fault>
+    // The bytes begin with this volume.
+    ensures found { IfOk result (λ r. Front r.0 r.1 bytes.now) }
+
+    // Every volume that they begin with is answered, unless memory runs out.
+    ensures only { (h : HeadFields) (e : Extent) → Front h e bytes.now → (result ≡ Ok (h, e)) ⊎ (result ≡ Err want_of_memory) }
+
+    // A refusal names the first check that does not hold.
+    ensures first { IfErr result (λ f. (f ≡ want_of_memory) ⊎ IsFirstFault (head_checks bytes.now) f) }
+{
+    let extent = verify_fv(bytes)?;
+    let head = head_of(alloc, bytes, &extent)?;
+    Ok((head, extent))
+}

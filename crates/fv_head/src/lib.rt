@@ -1,0 +1,21 @@
+//! The header that a firmware volume begins with: checked, read and written.
+#![tactic(auto)]
+
+pub mod attributes;
+pub mod block_map;
+pub mod ext;
+pub mod extent;
+mod fields;
+pub mod head;
+pub mod spell;
+#[cfg(test)]
+mod tests;
+pub mod verify;
+
+pub use attributes::FvAttributes;
+pub use block_map::BlockMap;
+pub use ext::{ExtEntry, ExtHeader};
+pub use extent::Extent;
+pub use head::{VolumeHead, read_head};
+pub use spell::{head_bytes, put_head};
+pub use verify::verify_fv;

@@ -1,0 +1,184 @@
+//! Whether bytes begin with a volume, and which.
+
+ghost use Rattle.std.specs.Prelude.{◌≡◌, ◌==◌, ◌%◌, ◌≤◌, length, IfOk, IfErr};
+ghost use Rattle.fv_base.specs.Checks.{IsFirstFault};
+ghost use Rattle.fv_base.specs.Sums.{sum16_of};
+ghost use Rattle.fv_head.specs.Head.{HeadFields, Front, system_guid};
+ghost use Rattle.fv_head.specs.HeadChecks.{has_signature, file_system_at, is_header_len, is_zero_pair, makes_up, has_block_map, is_volume_len, extent_at, verdict_of, head_checks};
+ghost use Rattle.fv_head.specs.Pairs.{pairs_of};
+ghost use Rattle.fv_head.specs.declared.extent.Extent.{Extent};
+
+use crate::attributes::FvAttributes;
+use crate::extent::Extent;
+use crate::fields::{u16_at, u32_at, u64_at};
+use bitflags::Flags;
+use fv_base::field::field;
+use fv_base::limits::VOLUME_LIMIT;
+use fv_base::{Fault, FaultKind, FileSystem, check, sum16};
+
+/// The signature `_FVH`.
+pub(crate) const SIGNATURE: [u8; 4] = [0x5f, 0x46, 0x56, 0x48];
+
+/// The revision of the header.
+pub(crate) const REVISION: u8 = 2;
+
+const FFS2: [u8; 16] = [
+    0x78, 0xe5, 0x8c, 0x8c, 0x3d, 0x8a, 0x1c, 0x4f, 0x99, 0x35, 0x89, 0x61, 0x85, 0xc3, 0x2d, 0xd3,
+];
+
+const FFS3: [u8; 16] = [
+    0x7a, 0xc0, 0x73, 0x54, 0xcb, 0x3d, 0xca, 0x4d, 0xbd, 0x6f, 0x1e, 0x96, 0x89, 0xe7, 0x34, 0x9a,
+];
+
+/// The GUID of a file system, as it stands in a volume.
+pub(crate) fn system_guid(file_system: FileSystem) -> &'static [u8; 16]
+    ensures { result.now ≡ system_guid file_system }
+{
+    match file_system {
+        FileSystem::Ffs2 => &FFS2,
+        FileSystem::Ffs3 => &FFS3,
+    }
+}
+
+fn has_signature(bytes: &[u8]) -> bool
+    requires { 56 ≤ length bytes.now }
+    ensures { result ≡ has_signature bytes.now }
+{
+    bytes[40..44] == SIGNATURE[..]
+}
+
+fn file_system_at(bytes: &[u8]) -> Option<FileSystem>
+    requires { 56 ≤ length bytes.now }
+    ensures { result ≡ file_system_at bytes.now }
+{
+    if bytes[16..32] == FFS2[..] {
+        Some(FileSystem::Ffs2)
+    } else if bytes[16..32] == FFS3[..] {
+        Some(FileSystem::Ffs3)
+    } else {
+        None
+    }
+}
+
+fn is_header_len(len: usize) -> bool
+    ensures { result ≡ is_header_len len }
+{
+    len % 8 == 0 && 64 <= len && len <= 2112
+}
+
+fn is_volume_len(header_len: usize, len: u64) -> bool
+    ensures { result ≡ is_volume_len header_len len }
+{
+    len % 8 == 0 && header_len as u64 <= len && len <= VOLUME_LIMIT
+}
+
+fn has_sum(bytes: &[u8]) -> bool
+    requires { length bytes.now % 2 ≡ 0 }
+    ensures { result ≡ (sum16_of bytes.now == 0) }
+{
+    sum16(bytes) == 0
+}
+
+fn is_zero_pair(count: u32, size: u32) -> bool
+    ensures { result ≡ is_zero_pair (count, size) }
+{
+    count == 0 && size == 0
+}
+
+// Whether blocks, of which none is a pair of zeros, make up so many bytes. What is left of the
+// bytes is counted down, so that no sum can wrap.
+fn makes_up(blocks: &[u8], total: u64) -> bool
+    requires { length blocks.now % 8 ≡ 0 }
+    ensures { result ≡ makes_up (pairs_of blocks.now) total }
+{
+    let mut rest = blocks;
+    let mut left = total;
+    while rest.len() >= 8 {
+        let count = u32_at(rest, 0);
+        let size = u32_at(rest, 4);
+        if is_zero_pair(count, size) {
+            return false;
+        }
+        let bytes = u64::from(count) * u64::from(size);
+        if left < bytes {
+            return false;
+        }
+        left -= bytes;
+        let (_, behind) = rest.split_at(8);
+        rest = behind;
+    }
+    left == 0
+}
+
+fn has_block_map(bytes: &[u8], header_len: usize) -> bool
+    requires least { 64 ≤ header_len }
+    requires multiple { header_len % 8 ≡ 0 }
+    requires within { header_len ≤ length bytes.now }
+    ensures { result ≡ has_block_map header_len bytes.now }
+{
+    makes_up(field(bytes, 56, header_len - 64), u64_at(bytes, 32))
+        && u32_at(bytes, header_len - 8) == 0
+        && u32_at(bytes, header_len - 4) == 0
+}
+
+// What the header says, which has no fault.
+fn extent_at(bytes: &[u8], file_system: FileSystem) -> Extent
+    requires { 56 ≤ length bytes.now }
+    ensures { result ≡ extent_at file_system bytes.now }
+{
+    let header_len = u64::from(u16_at(bytes, 48));
+    let attributes = u32_at(bytes, 44);
+    Extent {
+        length: u64_at(bytes, 32),
+        header_len,
+        first: header_len,
+        file_system,
+        polarity: FvAttributes::from_bits_retain(attributes).polarity(),
+    }
+}
+
+// The extent, or the first fault.
+fn verdict(bytes: &[u8]) -> Result<Extent, Fault>
+    ensures { result ≡ verdict_of bytes.now }
+{
+    let end = bytes.len() as u64;
+    check(bytes.len() >= 56, FaultKind::Truncated, end)?;
+    check(has_signature(bytes), FaultKind::Signature, 40)?;
+    let Some(file_system) = file_system_at(bytes) else {
+        return Err(Fault::outer(FaultKind::FileSystem, 16));
+    };
+    check(bytes[55] == REVISION, FaultKind::Revision, 55)?;
+    let header_len = usize::from(u16_at(bytes, 48));
+    check(is_header_len(header_len), FaultKind::HeaderLength, 48)?;
+    check(header_len <= bytes.len(), FaultKind::Truncated, end)?;
+    check(has_sum(&bytes[..header_len]), FaultKind::HeaderSum, 0)?;
+    check(has_block_map(bytes, header_len), FaultKind::BlockMap, 56)?;
+    let length = u64_at(bytes, 32);
+    check(is_volume_len(header_len, length), FaultKind::Length, 32)?;
+    check(length <= end, FaultKind::Truncated, end)?;
+    let ext_offset = u16_at(bytes, 52);
+    check(ext_offset == 0, FaultKind::ExtHeader, 52)?;
+    Ok(extent_at(bytes, file_system))
+}
+
+/// The extent of the volume that the bytes begin with. Takes no memory. (PI specification, volume
+/// 3, section 3.2.1.1.)
+///
+/// # Errors
+///
+/// The first fault of the header, in this order: Truncated where 56 bytes are not there,
+/// Signature, FileSystem, Revision, HeaderLength, Truncated where HeaderLength bytes are not
+/// there, HeaderSum, BlockMap, Length, Truncated where FvLength bytes are not there, ExtHeader
+/// where ExtHeaderOffset is not 0.
+pub fn verify_fv(bytes: &[u8]) -> Result<Extent, Fault>
+    // The bytes begin with a volume of this extent.
+    ensures found { IfOk result (λ e. (h : HeadFields) × Front h e bytes.now) }
+
+    // Every volume that they begin with is answered.
+    ensures only { (h : HeadFields) (e : Extent) → Front h e bytes.now → result ≡ Ok e }
+
+    // A refusal names the first check that does not hold.
+    ensures first { IfErr result (IsFirstFault (head_checks bytes.now)) }
+{
+    verdict(bytes)
+}

@@ -1,0 +1,98 @@
+//! Reads firmware volumes and writes their canonical images.
+#![tactic(auto)]
+
+mod commands;
+mod hex_lines;
+mod hex_text;
+#[cfg(test)]
+mod tests;
+mod words;
+
+ghost use Rattle.std.specs.Prelude.{◌≡◌, ◌⊎◌};
+
+use commands::{Status, refuse, run_plan, say};
+use fv_base::{Fault, FaultKind, Port};
+use std::alloc::{AllocError, Global};
+use std::io::{BufWriter, Write};
+use std::process::ExitCode;
+use std::rt::{Env, Files};
+use std::{env, fs, io};
+use words::{Command, Plan, WordFault, parse_words};
+
+/// The words that the program was started with.
+fn arguments<R: Env + AllocGlobal>(rt: &R) -> Result<Vec<String>, WordFault> {
+    let Ok(given) = env::args(rt) else {
+        return Err(WordFault::Words);
+    };
+    let mut words = Vec::new(rt.alloc());
+    for word in given {
+        words.push(word).map_err(AllocError::from)?;
+    }
+    Ok(words)
+}
+
+/// Runs a plan over its file, or over standard input.
+fn run_over_input<R: Files + Input + AllocGlobal, W: Write>(
+    rt: &R,
+    plan: &Plan,
+    writer: &mut Port<W>,
+) -> Status {
+    let alloc = rt.alloc();
+    let mut nothing = Port::new(&b""[..]);
+    match &plan.command {
+        Command::Normalise { file: None } => {
+            let mut reader = Port::new(rt.reader());
+            run_plan(alloc, plan, &mut reader, &mut nothing, writer)
+        }
+        Command::Normalise { file: Some(path) } => match fs::open(rt, path.as_str()) {
+            Ok(file) => {
+                let mut reader = Port::new(file);
+                run_plan(alloc, plan, &mut reader, &mut nothing, writer)
+            }
+            Err(_) => refuse(writer, Fault::outer(FaultKind::ReadFault, 0)),
+        },
+    }
+}
+
+/// Reads the words, and does what they ask for.
+fn run_words<R: Env + Files + Input + AllocGlobal, W: Write>(
+    rt: &R,
+    writer: &mut Port<W>,
+) -> Status {
+    let plan = match arguments(rt) {
+        Ok(words) => parse_words(rt.alloc(), &words),
+        Err(fault) => Err(fault),
+    };
+    match plan {
+        Ok(plan) => run_over_input(rt, &plan, writer),
+        Err(WordFault::Words) => say(writer, "wrong words\n", Status::WrongWords),
+        Err(WordFault::OutOfMemory) => refuse(writer, Fault::outer(FaultKind::OutOfMemory, 0)),
+    }
+}
+
+/// Writes what is still buffered, unless a write has failed, and answers how the run ended. What
+/// could not be written is let go.
+fn close<W: Write + Drop>(writer: Port<BufWriter<W>>, status: Status) -> Status
+    ensures { (result ≡ status) ⊎ (result ≡ Status.Refused) }
+{
+    let is_done = !writer.erred();
+    let mut buffered = writer.into_inner();
+    let is_flushed = is_done && buffered.flush().is_ok();
+    let _rest = buffered.into_parts();
+    if is_flushed { status } else { Status::Refused }
+}
+
+fn main(rt: HostRuntime) -> ExitCode {
+    let status = match BufWriter::new(rt.alloc(), io::writer(&rt)) {
+        Ok(buffered) => {
+            let mut writer = Port::new(buffered);
+            let status = run_words(&rt, &mut writer);
+            close(writer, status)
+        }
+        Err(_) => {
+            let mut writer = Port::new(io::writer(&rt));
+            refuse(&mut writer, Fault::outer(FaultKind::OutOfMemory, 0))
+        }
+    };
+    ExitCode::from(status.code())
+}

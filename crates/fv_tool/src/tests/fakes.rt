@@ -1,0 +1,122 @@
+//! Readers and writers of the tests.
+
+use std::alloc::Global;
+use std::io;
+use std::io::{ErrorKind, Read, Write};
+
+/// Gives bytes, so many at most a call, and fails after so many in all.
+#[derive(Drop)]
+pub struct FakeReader<'a> {
+    rest: &'a [u8],
+    step: usize,
+    /// How many bytes are given before a call fails.
+    until_failure: usize,
+    /// Whether every second call is interrupted.
+    is_interrupted: bool,
+    is_second: bool,
+}
+
+impl<'a> FakeReader<'a> {
+    /// A reader of all of the bytes.
+    pub fn new(bytes: &'a [u8], step: usize, is_interrupted: bool) -> FakeReader<'a> {
+        FakeReader {
+            rest: bytes,
+            step,
+            until_failure: usize::MAX,
+            is_interrupted,
+            is_second: false,
+        }
+    }
+
+    /// A reader that fails in the stead of giving the byte at `count`, or of its end.
+    pub fn failing(bytes: &'a [u8], step: usize, count: usize) -> FakeReader<'a> {
+        FakeReader {
+            rest: bytes,
+            step,
+            until_failure: count,
+            is_interrupted: false,
+            is_second: false,
+        }
+    }
+}
+
+impl<'a> Read for FakeReader<'a> {
+    fn read(&mut self, buf: &mut [u8]) -> io::Result<usize> {
+        self.is_second = !self.is_second;
+        if self.is_interrupted && self.is_second {
+            return Err(io::Error::from(ErrorKind::Interrupted));
+        }
+        if self.until_failure == 0 {
+            return Err(io::Error::from(ErrorKind::BrokenPipe));
+        }
+        let most = buf.len().min(self.step).min(self.until_failure);
+        let count = self.rest.len().min(most);
+        let (given, rest) = self.rest.split_at(count);
+        buf[..count].copy_from_slice(given);
+        self.rest = rest;
+        self.until_failure -= count;
+        Ok(count)
+    }
+}
+
+/// Gives bytes without end, of no kind in particular.
+#[derive(Drop)]
+pub struct EndlessReader;
+
+impl Read for EndlessReader {
+    fn read(&mut self, buf: &mut [u8]) -> io::Result<usize> {
+        Ok(buf.len())
+    }
+}
+
+/// Takes so many bytes, and then fails.
+#[derive(Drop)]
+pub struct FakeWriter {
+    /// What it took.
+    pub taken: Vec<u8>,
+    /// How many calls came after the first that failed.
+    pub late_calls: u32,
+    step: usize,
+    room: usize,
+    /// Whether a call without room is an error, or takes no byte.
+    is_broken: bool,
+    has_failed: bool,
+}
+
+impl FakeWriter {
+    /// A writer with room for so many bytes.
+    pub fn new(alloc: Global, step: usize, room: usize, is_broken: bool) -> FakeWriter {
+        FakeWriter {
+            taken: Vec::new(alloc),
+            late_calls: 0,
+            step,
+            room,
+            is_broken,
+            has_failed: false,
+        }
+    }
+}
+
+impl Write for FakeWriter {
+    fn write(&mut self, buf: &[u8]) -> io::Result<usize> {
+        if self.has_failed {
+            self.late_calls = self.late_calls.saturating_add(1);
+            return Err(io::Error::from(ErrorKind::BrokenPipe));
+        }
+        let count = buf.len().min(self.step).min(self.room);
+        self.has_failed = count == 0;
+        if count == 0 && self.is_broken {
+            return Err(io::Error::from(ErrorKind::BrokenPipe));
+        }
+        self.taken.extend_from_slice(&buf[..count])?;
+        self.room -= count;
+        Ok(count)
+    }
+
+    fn flush(&mut self) -> io::Result<()> {
+        if self.has_failed {
+            self.late_calls = self.late_calls.saturating_add(1);
+        }
+        Ok(())
+    }
+}
