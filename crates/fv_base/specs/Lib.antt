@@ -8,6 +8,7 @@ pub mod Input
 pub mod Kept
 pub mod KeptLaws
 pub mod Limits
+pub mod Output
 pub mod Port
 pub mod Sinks
 pub mod Sums

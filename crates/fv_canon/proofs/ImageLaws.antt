@@ -10,7 +10,7 @@ use Rattle.fv_head.specs.Attributes.{polarity_of}
 use Rattle.fv_head.specs.Head.{HeadFields, IsReadHead, IsCanonicalHead, Front, extent_of, header_len_of}
 use Rattle.fv_head.specs.Spelled.{canonical_head}
 use Rattle.fv_head.proofs.FrontLemmas.{front_lies, one_front}
-use Rattle.fv_head.proofs.SpelledLemmas.{header_len_is, canonical_is, canonical_only, canonical_front, length-canonical}
+use Rattle.fv_head.proofs.SpelledLemmas.{header_len_is, canonical_is, canonical_only, canonical_bare, length-canonical}
 use Rattle.fv_tree.specs.Meaning.{Meaning, Denotes, IsMeaning}
 use Rattle.fv_canon.specs.Image.{IsImage, image_of, erased_of, NormalisesTo}
 
@@ -28,7 +28,7 @@ denoted_meant b m d =
     let own : header_len_of m.head ≡ e.header_len = header_len_is m.head (take e.header_len b) d.front.head ∙ length-take-le e.header_len b d.front.long_enough in
     record {
       read = (take e.header_len b, d.front.head);
-      bare = d.front.ext;
+      bare = d.bare;
       within = omega (arith, own, lies.within, d.front.length_is);
       limit = omega (arith, lies.limit, d.front.length_is);
     }
@@ -60,26 +60,27 @@ image_only m b image =
     sym (take-append-drop n b) ∙ ap (λ (xs : List ℕ). xs ++ drop n b) first ∙ ap (λ (xs : List ℕ). canonical_head m.head ++ xs) second
 
 -- an image begins with the head of its meaning
-image_front : (m : Meaning) (b : List ℕ) → Meant m → IsImage m b → Front m.head (extent_of m.head) b
+image_front : (m : Meaning) (b : List ℕ) → Meant m → IsImage m b → Front m.head (extent_of m.head (header_len_of m.head)) b
 image_front m b k image =
     let n : ℕ = header_len_of m.head in
     let whole : b ≡ canonical_head m.head ++ drop n b = sym (take-append-drop n b) ∙ ap (λ (xs : List ℕ). xs ++ drop n b) (canonical_only m.head (take n b) image.head) in
     let long : m.head.length ≤ length (canonical_head m.head ++ drop n b) = omega (arith, ap length whole, image.length_is) in
-    subst (Front m.head (extent_of m.head)) (sym whole) (canonical_front m.head (drop n b) k.read k.bare long)
+    subst (Front m.head (extent_of m.head n)) (sym whole) (canonical_bare m.head (drop n b) k.read k.bare k.within long)
 
 -- an image is a volume of its meaning
 pub image_denotes : (m : Meaning) (b : List ℕ) → Meant m → IsImage m b → Denotes b m
 image_denotes m b k image = record {
-  extent = extent_of m.head;
+  extent = extent_of m.head (header_len_of m.head);
   front = image_front m b k image;
   whole = image.length_is;
+  bare = k.bare;
   body = image.rest;
 }
 
 -- an image of two meanings is of one
 pub one_meaning : (m k : Meaning) (b : List ℕ) → Meant m → Meant k → IsImage m b → IsImage k b → k ≡ m
 one_meaning m k b first second of_m of_k =
-    let heads = one_front b k.head m.head (extent_of k.head) (extent_of m.head) (image_front k b second of_k) (image_front m b first of_m) in
+    let heads = one_front b k.head m.head (extent_of k.head (header_len_of k.head)) (extent_of m.head (header_len_of m.head)) (image_front k b second of_k) (image_front m b first of_m) in
     ap (λ (h : HeadFields). let made : Meaning = record { head = h } in made) heads.0
 
 -- the image of a volume is its own image

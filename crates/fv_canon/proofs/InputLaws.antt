@@ -30,7 +30,7 @@ kind_from P cs f all (before, c, after, is, held, fails, fault) =
 volume_kinds : (P : FaultKind → Type 0) (b : List ℕ) → P kinds.Truncated → P kinds.Signature → P kinds.FileSystem → P kinds.Revision → P kinds.HeaderLength → P kinds.HeaderSum
     → P kinds.BlockMap → P kinds.Length → P kinds.ExtHeader → P kinds.FileState → AllByRecursion (λ c. P c.kind) (volume_checks b)
 volume_kinds P b truncated signature system revision header_length sum map length_ok ext state =
-    (truncated, (signature, (system, (revision, (header_length, (truncated, (sum, (map, (length_ok, (truncated, (ext, (state, tt))))))))))))
+    (truncated, (signature, (system, (revision, (header_length, (truncated, (sum, (map, (length_ok, (truncated, (ext, (ext, (state, tt)))))))))))))
 
 -- a kind that is none of a run's own
 abbrev pub IsOfInput : FaultKind → Type 0

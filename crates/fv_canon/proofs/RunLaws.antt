@@ -9,7 +9,8 @@ use Rattle.fv_base.specs.declared.fault.Fault.{Fault}
 use Rattle.fv_base.specs.declared.fault.FaultKind.TheVariants as kinds
 use Rattle.fv_tree.specs.Meaning.{Meaning, Denotes}
 use Rattle.fv_canon.specs.Image.{IsImage}
-use Rattle.fv_canon.specs.Runs.{WriteStops, InputWrites, InputStops}
+use Rattle.fv_base.specs.Output.{WriteStops}
+use Rattle.fv_canon.specs.Runs.{InputWrites, InputStops}
 
 -- the image of the meaning was written
 pub input_writes : (input : List ℕ) (m : Meaning) (held holds : Option (List ℕ)) (r : Result (Unit {0}) Fault) → Denotes input m

@@ -1,19 +1,12 @@
 -- What a run reads and writes, and what stops it.
-use Rattle.std.specs.Prelude.{ℕ, ◌≡◌, ◌<◌, List, length, take, Option, ◌⊎◌}
+use Rattle.std.specs.Prelude.{ℕ, ◌≡◌, List, Option, ◌⊎◌}
 use Rattle.std.specs.Io.KnownBytes.{Appends, Keeps}
 use Rattle.fv_base.specs.Faults.{want_of_memory}
 use Rattle.fv_base.specs.Input.{ReadsWhole, ReadStops}
+use Rattle.fv_base.specs.Output.{WriteStops}
 use Rattle.fv_base.specs.declared.fault.Fault.{Fault}
-use Rattle.fv_base.specs.declared.fault.FaultKind.TheVariants as kinds
 use Rattle.fv_canon.specs.Image.{NormalisesTo}
 use Rattle.fv_canon.specs.InputChecks.{Refuses}
-
--- a writer stopped, and holds the first bytes of the output, as many as the fault's offset says
-pub record WriteStops (held holds : Option (List ℕ)) (output : List ℕ) (fault : Fault) : Type 0 where
-  pub kind : fault.kind ≡ kinds.WriteFault
-  pub depth : fault.place.depth ≡ 0
-  pub before_end : fault.place.offset < length output
-  pub wrote : Appends held holds (take fault.place.offset output)
 
 -- the image of the input was written
 abbrev pub InputWrites : List ℕ → Option (List ℕ) → Option (List ℕ) → Type 0

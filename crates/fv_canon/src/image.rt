@@ -6,7 +6,7 @@ ghost use Rattle.fv_base.specs.Faults.{want_of_memory};
 ghost use Rattle.fv_base.specs.Port.{inner_of, has_erred};
 ghost use Rattle.fv_canon.specs.Image.{IsImage, image_of};
 ghost use Rattle.fv_canon.specs.Layouts.{IsLayout};
-ghost use Rattle.fv_canon.specs.Runs.{WriteStops};
+ghost use Rattle.fv_base.specs.Output.{WriteStops};
 ghost use Rattle.fv_tree.specs.Meaning.{Meaning, Denotes, IsMeaning};
 
 use crate::place::layout;

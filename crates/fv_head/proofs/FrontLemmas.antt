@@ -1,6 +1,6 @@
 -- The checks of a header and its fields say the same.
 use Rattle.std.proofs.Common.{◌≡◌, ◌≢◌, ◌≤◌, ℕ, ◌+◌, ◌-◌, ◌%◌, List, [], ◌∷◌, ◌++◌, length, take, drop, refl, sym, ap, ◌∙◌, subst, arith, Bool, true, false, length-take, length-drop, drop-drop}
-use Rattle.std.specs.Prelude.{not, is_some, Option, None, Some, Result, Ok, Err, slice_index, if◌then◌else◌, IfOk, IfErr}
+use Rattle.std.specs.Prelude.{◌==◌, not, is_some, Option, None, Some, Result, Ok, Err, slice_index, if◌then◌else◌, IfOk, IfErr}
 use Rattle.std.specs.List.{AllByRecursion, list_all}
 use Rattle.std.proofs.lemmas.List.{drop-take, length-take-le, get_or-take}
 use Rattle.std.proofs.lemmas.Bool.{leb-true, le-leb, eqb-true, eq-eqb}
@@ -10,7 +10,7 @@ use Rattle.std.specs.Str.{bytes_eq}
 use Rattle.fv_base.specs.Checks.{AllHold, first_fault, IsFirstFault}
 use Rattle.fv_base.specs.Faults.{outer_fault}
 use Rattle.fv_base.specs.Limits.{volume_limit}
-use Rattle.fv_base.specs.Value.{IsBytes, le, field, le_at}
+use Rattle.fv_base.specs.Value.{IsBytes, le, field, le_at, up_to_8}
 use Rattle.fv_base.specs.declared.fault.Fault.{Fault}
 use Rattle.fv_base.specs.declared.fault.FaultKind.TheVariants as kinds
 use Rattle.fv_base.specs.declared.flash.FileSystem.{FileSystem}
@@ -19,22 +19,24 @@ use Rattle.fv_base.specs.declared.flash.Polarity.{Polarity}
 use Rattle.fv_base.proofs.CheckLemmas.{and_split, and_join, all_hold, none_faulty, first_is}
 use Rattle.fv_base.proofs.FieldLemmas.{take-take_le, field-take, bytes_take}
 use Rattle.fv_head.specs.Attributes.{polarity_of}
-use Rattle.fv_head.specs.Head.{Extension, HeadFields, IsHead, Front, system_guid}
-use Rattle.fv_head.specs.HeadChecks.{head_checks, verdict_of, verdict_by, extent_or, extent_at, is_zero_pair, blocks_at, makes_up, file_system_at, header_len_at, volume_len_at}
+use Rattle.fv_head.specs.Ext.{Extension}
+use Rattle.fv_head.specs.Head.{HasExt, HeadFields, IsHead, Front, system_guid}
+use Rattle.fv_head.specs.HeadChecks.{head_checks, verdict_of, verdict_by, extent_or, extent_at, is_zero_pair, blocks_at, makes_up, file_system_at, header_len_at, volume_len_at, ext_offset_at, ext_size_at, has_ext}
 use Rattle.fv_head.specs.Pairs.{pairs_of}
 use Rattle.fv_head.specs.declared.extent.Extent.{Extent}
 use Rattle.fv_head.proofs.BlockLemmas.{pairs_of-step}
+use Rattle.fv_head.proofs.ExtLemmas.{placed, one_has_ext, some_has_ext, has_ext_holds, has_ext_first, ext_same}
 
 -- the fields that the header of a volume of the file system says
-abbrev pub fields_of : FileSystem → List ℕ → HeadFields
-fields_of fs b = record {
+abbrev pub fields_of : FileSystem → Option Extension → List ℕ → HeadFields
+fields_of fs x b = record {
   zero_vector = field 0 16 b;
   file_system = fs;
   length = volume_len_at b;
   attributes = le_at 44 4 b;
   reserved = slice_index b 54;
   blocks = blocks_at (header_len_at b) b;
-  ext = None;
+  ext = x;
 }
 
 pub verdict_ok : (f : Option Fault) (b : List ℕ) (e : Extent) → verdict_by f b ≡ Ok e
@@ -129,7 +131,7 @@ all_not_zero (p ∷ ps) h = rw (zero_pair_not p h.0) (all_not_zero ps h.1)
 -- ---- the whole header
 
 front_of : (b : List ℕ) (fs : FileSystem) → IsBytes b → file_system_at b ≡ Some fs → field 16 16 b ≡ system_guid fs → AllHold (head_checks b)
-    → Front (fields_of fs b) (extent_at fs b) b
+    → (x : Option Extension) × Front (fields_of fs x b) (extent_at fs b) b
 front_of b fs small is guid all =
     let n : ℕ = header_len_at b in
     let kind = and_split _ _ all.1.1.1.1.0 in
@@ -143,7 +145,9 @@ front_of b fs small is guid all =
     let vol = and_split _ _ all.1.1.1.1.1.1.1.1.0 in
     let vol_low = and_split _ _ vol.0 in
     let len : length (take n b) ≡ n = length-take-le n b within in
-    let h : HeadFields = fields_of fs b in
+    let whole : volume_len_at b ≤ length b = leb-true _ _ all.1.1.1.1.1.1.1.1.1.0 in
+    let ext = some_has_ext (extent_at fs b) b whole all.1.1.1.1.1.1.1.1.1.1.0 refl in
+    let h : HeadFields = fields_of fs ext.0 b in
     let head : IsHead h (take n b) = record {
       bytes = bytes_take n b small;
       zero_vector = field-take 0 16 n b (omega arith);
@@ -165,17 +169,16 @@ front_of b fs small is guid all =
       volume_least = rw len (leb-true _ _ vol_low.1);
       volume_most = leb-true _ _ vol.1;
     } in
-    record {
+    let front : Front h (extent_at fs b) b = record {
       head = head;
       long_enough = within;
-      whole = leb-true _ _ all.1.1.1.1.1.1.1.1.1.0;
-      no_extension = eqb-true _ _ all.1.1.1.1.1.1.1.1.1.1.0;
-      ext = refl;
+      whole = whole;
+      ext = ext.1;
       length_is = refl;
-      first = refl;
       file_system = refl;
       polarity = refl;
-    }
+    } in
+    (ext.0, front)
 
 -- the GUID of the file system that is found
 guid_found : (b : List ℕ) (fs : FileSystem) → file_system_at b ≡ Some fs → field 16 16 b ≡ system_guid fs
@@ -194,11 +197,11 @@ guid_finds b Ffs3 is =
     rw (two, (bytes_eq-Decides (field 16 16 b) (system_guid Ffs3)).1 is) refl
 
 -- bytes without a fault begin with a volume
-pub front_found : (b : List ℕ) (e : Extent) → IsBytes b → verdict_of b ≡ Ok e → Front (fields_of e.file_system b) e b
+pub front_found : (b : List ℕ) (e : Extent) → IsBytes b → verdict_of b ≡ Ok e → (x : Option Extension) × Front (fields_of e.file_system x b) e b
 front_found b e small h =
     let v = verdict_ok (first_fault (head_checks b)) b e h in
     let x = extent_ok (file_system_at b) _ b e v.1 in
-    subst (λ (e : Extent). Front (fields_of e.file_system b) e b) x.2 (front_of b x.0 small x.1 (guid_found b x.0 x.1) (all_hold (head_checks b) v.0))
+    subst (λ (e : Extent). (y : Option Extension) × Front (fields_of e.file_system y b) e b) x.2 (front_of b x.0 small x.1 (guid_found b x.0 x.1) (all_hold (head_checks b) v.0))
 
 -- an extent by its fields
 extent_is : (l n f : ℕ) (fs : FileSystem) (p : Polarity) (e : Extent) → l ≡ e.length → n ≡ e.header_len → f ≡ e.first → fs ≡ e.file_system → p ≡ e.polarity
@@ -243,7 +246,7 @@ front_exact b h e same least f =
                       (
                         le-leb _ _ whole,
                         (
-                          eq-eqb _ _ f.no_extension,
+                          ap (λ (k : ℕ). has_ext m k b) (sym f.length_is) ∙ has_ext_holds h.ext e b f.ext,
                           tt,
                         ),
                       ),
@@ -257,7 +260,8 @@ front_exact b h e same least f =
       ),
     ) in
     let made : extent_at h.file_system b ≡ e =
-    extent_is _ _ _ _ _ e (vol ∙ sym f.length_is) same (same ∙ sym f.first) (sym f.file_system) (ap polarity_of bits ∙ sym f.polarity) in
+    extent_is _ _ _ _ _ e (vol ∙ sym f.length_is) same
+    (ap (λ (k : ℕ). if ext_offset_at b == 0 then k else up_to_8 (ext_offset_at b + ext_size_at b)) same ∙ has_ext_first h.ext e b least f.ext) (sym f.file_system) (ap polarity_of bits ∙ sym f.polarity) in
     rw (none_faulty (head_checks b) all, system) (ap Ok made)
 
 -- bytes that begin with a volume have no fault
@@ -277,7 +281,7 @@ fields_are : (z : List ℕ) (fs : FileSystem) (l a r : ℕ) (bs : List (ℕ × �
 fields_are z fs l a r bs x h p q s t u v w = rw (← p, ← q, ← s, ← t, ← u, ← v, ← w) refl
 
 -- a volume's header has no other fields
-pub front_fields : (b : List ℕ) (h : HeadFields) (e : Extent) → Front h e b → h ≡ fields_of e.file_system b
+pub front_fields : (b : List ℕ) (h : HeadFields) (e : Extent) → Front h e b → h ≡ fields_of e.file_system h.ext b
 front_fields b h e f =
     let head = f.head in
     let m : ℕ = e.header_len in
@@ -293,7 +297,7 @@ front_fields b h e f =
     (sym head.attributes ∙ ap le (field-take 44 4 m b (omega arith)))
     (sym head.reserved ∙ get_or-take m b 54 0 (omega arith))
     (sym pairs.0 ∙ ap (λ (n : ℕ). blocks_at n b) (sym same))
-    f.ext
+    refl
 
 pub fault_first : (b : List ℕ) (f : Fault) → verdict_of b ≡ Err f → IsFirstFault (head_checks b) f
 fault_first b f h = go (first_fault (head_checks b)) refl h where
@@ -307,7 +311,7 @@ fault_first b f h = go (first_fault (head_checks b)) refl h where
 -- ---- an answer
 
 pub ok_found : (b : List ℕ) (r : Result Extent Fault) → IsBytes b → r ≡ verdict_of b → IfOk r (λ e. (h : HeadFields) × Front h e b)
-ok_found b (Ok e) small is = (fields_of e.file_system b, front_found b e small (sym is))
+ok_found b (Ok e) small is = let found = front_found b e small (sym is) in (fields_of e.file_system found.0 b, found.1)
 ok_found b (Err f) small is = tt
 
 pub err_first : (b : List ℕ) (r : Result Extent Fault) → r ≡ verdict_of b → IfErr r (IsFirstFault (head_checks b))
@@ -332,22 +336,27 @@ front_within b h e f =
       within = f.long_enough;
     }
 
--- what is kept of a header are its fields
-pub kept_fields : (b : List ℕ) (e : Extent) (z : List ℕ) (l a r : ℕ) (bs : List (ℕ × ℕ)) → (h : HeadFields) × Front h e b → z ≡ field 0 16 b → l ≡ volume_len_at b
-    → a ≡ le_at 44 4 b → r ≡ slice_index b 54 → bs ≡ pairs_of (field 56 (e.header_len - 64) b)
-    → (let made : HeadFields = record { zero_vector = z; file_system = e.file_system; length = l; attributes = a; reserved = r; blocks = bs; ext = None } in Front made e b)
-kept_fields b e z l a r bs found p q s t u =
-    let at = (front_within b found.0 e found.1).at in
-    let made : HeadFields = record { zero_vector = z; file_system = e.file_system; length = l; attributes = a; reserved = r; blocks = bs; ext = None } in
-    let same : fields_of e.file_system b ≡ made = fields_are _ _ _ _ _ _ _ (fields_of e.file_system b) (sym p) refl (sym q) (sym s) (sym t) (ap (λ (n : ℕ). blocks_at n b) (sym at) ∙ sym u) refl in
-    subst (λ (h : HeadFields). Front h e b) (front_fields b found.0 e found.1 ∙ same) found.1
+-- what is kept of a header, with the extended header that stands there, are its fields
+pub kept_fields : (b : List ℕ) (e : Extent) (z : List ℕ) (l a r : ℕ) (bs : List (ℕ × ℕ)) (x : Option Extension) → (h : HeadFields) × Front h e b → z ≡ field 0 16 b
+    → l ≡ volume_len_at b → a ≡ le_at 44 4 b → r ≡ slice_index b 54 → bs ≡ pairs_of (field 56 (e.header_len - 64) b) → HasExt x e b
+    → (let made : HeadFields = record { zero_vector = z; file_system = e.file_system; length = l; attributes = a; reserved = r; blocks = bs; ext = x } in Front made e b)
+kept_fields b e z l a r bs x found p q s t u ext =
+    let front = found.1 in
+    let within = front_within b found.0 e front in
+    let made : HeadFields = record { zero_vector = z; file_system = e.file_system; length = l; attributes = a; reserved = r; blocks = bs; ext = x } in
+    let exts : found.0.ext ≡ x = one_has_ext found.0.ext x e b within.least front.ext ext in
+    let same : fields_of e.file_system found.0.ext b ≡ made =
+    fields_are _ _ _ _ _ _ _ (fields_of e.file_system found.0.ext b) (sym p) refl (sym q) (sym s) (sym t) (ap (λ (n : ℕ). blocks_at n b) (sym within.at) ∙ sym u) exts in
+    subst (λ (h : HeadFields). Front h e b) (front_fields b found.0 e front ∙ same) front
 
 -- bytes begin with one volume at most
 pub one_front : (b : List ℕ) (h k : HeadFields) (e x : Extent) → Front h e b → Front k x b → (h ≡ k) × (e ≡ x)
 one_front b h k e x front other =
     let both : (let A : Type 0 = Result Extent Fault in ◌≡◌ {A = A} (Ok e) (Ok x)) = sym (front_only b h e front) ∙ front_only b k x other in
     let extents : e ≡ x = cc in
-    (front_fields b h e front ∙ ap (λ (y : Extent). fields_of y.file_system b) extents ∙ sym (front_fields b k x other), extents)
+    let here : Front k e b = subst (λ (y : Extent). Front k y b) (sym extents) other in
+    let exts : h.ext ≡ k.ext = one_has_ext h.ext k.ext e b (front_within b h e front).least front.ext here.ext in
+    (front_fields b h e front ∙ ap (λ (y : Option Extension). fields_of e.file_system y b) exts ∙ sym (front_fields b k e here), extents)
 
 -- ---- laws for the crates above
 
@@ -385,16 +394,34 @@ front_same b c h e f long same =
     let lies = front_lies b h e f in
     let first : take e.header_len c ≡ take e.header_len b =
     sym (take-take_le e.header_len e.length c lies.within) ∙ ap (take e.header_len) same ∙ take-take_le e.header_len e.length b lies.within in
-    let offset : field 52 2 c ≡ field 52 2 b =
-    sym (field-take 52 2 e.length c (omega (arith, lies.least, lies.within))) ∙ ap (field 52 2) same ∙ field-take 52 2 e.length b (omega (arith, lies.least, lies.within)) in
     record {
       head = subst (IsHead h) (sym first) f.head;
       long_enough = omega (arith, lies.within, long);
       whole = long;
-      no_extension = ap le offset ∙ f.no_extension;
-      ext = f.ext;
+      ext = ext_same h.ext e b c lies.least lies.within f.ext long same;
       length_is = f.length_is;
-      first = f.first;
       file_system = f.file_system;
       polarity = f.polarity;
     }
+
+-- ---- whether there is an extended header
+
+none_offset : (x : Option Extension) (e : Extent) (b : List ℕ) → HasExt x e b → x ≡ None → (ext_offset_at b ≡ 0) × (e.first ≡ e.header_len)
+none_offset None e b has is = has
+none_offset (Some x) e b has is = cc
+
+offset_none : (x : Option Extension) (e : Extent) (b : List ℕ) → 64 ≤ e.header_len → HasExt x e b → ext_offset_at b ≡ 0 → x ≡ None
+offset_none None e b least has zero = refl
+offset_none (Some x) e b least has zero = absurd (omega (arith, least, zero, (placed x e b has).behind_header))
+
+-- ExtHeaderOffset is 0 where there is none
+pub bare_offset : (b : List ℕ) (h : HeadFields) (e : Extent) → Front h e b → h.ext ≡ None → (ext_offset_at b == 0) ≡ true
+bare_offset b h e front bare = eq-eqb _ _ (none_offset h.ext e b front.ext bare).0
+
+-- and there is none where it is 0
+pub offset_bare : (b : List ℕ) (h : HeadFields) (e : Extent) → Front h e b → (ext_offset_at b == 0) ≡ true → h.ext ≡ None
+offset_bare b h e front zero = offset_none h.ext e b (front_within b h e front).least front.ext (eqb-true _ _ zero)
+
+-- without one, the first file stands behind the header
+pub bare_first : (b : List ℕ) (h : HeadFields) (e : Extent) → Front h e b → h.ext ≡ None → e.first ≡ e.header_len
+bare_first b h e front bare = (none_offset h.ext e b front.ext bare).1

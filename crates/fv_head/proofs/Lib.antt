@@ -1,4 +1,6 @@
 pub mod BlockLemmas
+pub mod ExtLemmas
+pub mod ExtSpelled
 pub mod FrontLemmas
 pub mod SpellLemmas
 pub mod SpelledLemmas

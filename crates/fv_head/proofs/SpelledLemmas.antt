@@ -4,14 +4,17 @@ use Rattle.std.specs.Prelude.{slice_index, sum, Option, None, Some}
 use Rattle.std.proofs.Math.Seq.{take-add}
 use Rattle.std.proofs.lemmas.List.{take-append-drop, take_at, drop_at, drop_more, get_or-drop, length-take-le}
 use Rattle.fv_base.specs.Sums.{words_of, sum16_of}
-use Rattle.fv_base.specs.Value.{IsBytes, le, le_bytes, field, le_at}
+use Rattle.fv_base.specs.Value.{IsBytes, le, le_bytes, field, le_at, up_to_8}
 use Rattle.fv_base.proofs.FieldLemmas.{bytes_take, bytes_drop, bytes_append, bytes_le_bytes, le_bytes-le, field_is, field-append_front, drop-append_behind, le-le_bytes_2, length-le_bytes, field-take}
 use Rattle.std.proofs.lemmas.List.Sums.{sum_by-cons}
 use Rattle.fv_base.proofs.SumLemmas.{sum-words_of-append}
-use Rattle.fv_head.specs.Head.{Extension, HeadFields, IsHead, IsReadHead, Front, IsCanonicalHead, canonical_offset, extent_of, header_len_of, signature_bytes, system_guid}
+use Rattle.fv_head.specs.Ext.{Extension}
+use Rattle.fv_head.specs.Head.{HasExt, HeadFields, IsHead, IsReadHead, Front, IsCanonicalHead, canonical_offset, extent_of, header_len_of, signature_bytes, system_guid}
 use Rattle.fv_head.specs.Pairs.{pairs_of, pairs_bytes}
+use Rattle.fv_head.specs.SpelledExt.{ext_spelled, IfRead, canonical_end, canonical_first, CanonicalRest}
 use Rattle.fv_head.specs.Spelled.{spelled, checksum_of, canonical_head}
 use Rattle.fv_head.specs.WordSums.{worth}
+use Rattle.fv_head.proofs.ExtSpelled.{ext_again}
 
 -- ---- pairs
 
@@ -310,9 +313,24 @@ canonical_only h b canonical =
 pub length-canonical : (h : HeadFields) → IsReadHead h → length (canonical_head h) ≡ header_len_of h
 length-canonical h read = sym (header_len_is h (canonical_head h) (canonical_is h read).head)
 
--- and read again it gives its fields
-pub canonical_front : (h : HeadFields) (rest : List ℕ) → IsReadHead h → h.ext ≡ None → h.length ≤ length (canonical_head h ++ rest) → Front h (extent_of h) (canonical_head h ++ rest)
-canonical_front h rest read bare long =
+-- where the extended header stands, behind the canonical head
+canonical_ext : (h : HeadFields) (rest : List ℕ) (x : Option Extension) → IsReadHead h → h.ext ≡ x → IfRead x → CanonicalRest x rest → canonical_end h x ≤ h.length
+    → le_at 52 2 (canonical_head h ++ rest) ≡ canonical_offset h x → HasExt x (extent_of h (canonical_first h x)) (canonical_head h ++ rest)
+canonical_ext h rest None read is known there fits offset = (offset, refl)
+canonical_ext h rest (Some x) read is known (pad, used, behind, text, long) fits offset =
+    let b : List ℕ = canonical_head h in
+    let own : length b ≡ header_len_of h = length-canonical h read in
+    let part : List ℕ = ext_spelled x used in
+    let again = ext_again x used known in
+    let before : length (b ++ pad) ≡ header_len_of h + 24 = omega (arith, length-append b pad, own, long) in
+    let joined : b ++ rest ≡ (b ++ pad) ++ (part ++ behind) = ap (λ (xs : List ℕ). b ++ xs) text ∙ sym (append_assoc b pad (part ++ behind)) in
+    let sum : length (b ++ pad) + length part ≡ canonical_end h (Some x) = omega (arith, before, again.1) in
+    (b ++ pad, part, behind, joined, before ∙ sym offset, omega (arith, before), omega (arith, sum, fits), again.0, ap up_to_8 (sym sum))
+
+-- read again, with its extended header in a pad file behind it, it gives its fields
+pub canonical_front : (h : HeadFields) (rest : List ℕ) → IsReadHead h → IfRead h.ext → CanonicalRest h.ext rest → canonical_end h h.ext ≤ h.length → h.length ≤ length (canonical_head h ++ rest)
+    → Front h (extent_of h (canonical_first h h.ext)) (canonical_head h ++ rest)
+canonical_front h rest read known there fits long =
     let b : List ℕ = canonical_head h in
     let canonical = canonical_is h read in
     let own : length b ≡ header_len_of h = length-canonical h read in
@@ -322,13 +340,19 @@ canonical_front h rest read bare long =
       head = subst (IsHead h) (sym head) canonical.head;
       long_enough = omega (arith, own, length-append b rest);
       whole = long;
-      no_extension = offset ∙ canonical.offset ∙ ap (canonical_offset h) bare;
-      ext = bare;
+      ext = canonical_ext h rest h.ext read refl known there fits (offset ∙ canonical.offset);
       length_is = refl;
-      first = refl;
       file_system = refl;
       polarity = refl;
     }
+
+-- without an extended header, it gives its fields with any bytes behind it
+pub canonical_bare : (h : HeadFields) (rest : List ℕ) → IsReadHead h → h.ext ≡ None → header_len_of h ≤ h.length → h.length ≤ length (canonical_head h ++ rest)
+    → Front h (extent_of h (header_len_of h)) (canonical_head h ++ rest)
+canonical_bare h rest read bare fits long =
+    subst (λ (x : Option Extension). Front h (extent_of h (canonical_first h x)) (canonical_head h ++ rest)) bare
+    (canonical_front h rest read (subst IfRead (sym bare) tt) (subst (λ (x : Option Extension). CanonicalRest x rest) (sym bare) tt)
+    (subst (λ (x : Option Extension). canonical_end h x ≤ h.length) (sym bare) fits) long)
 
 -- ---- sums of words in parts
 

@@ -3,12 +3,12 @@ use Rattle.std.specs.Prelude.{◌≡◌, ◌≢◌, ◌≤◌, ◌+◌, ◌*◌,
 use Rattle.std.specs.List.{AllByRecursion}
 use Rattle.fv_base.specs.Limits.{volume_limit}
 use Rattle.fv_base.specs.Sums.{sum16_of}
-use Rattle.fv_base.specs.Value.{IsBytes, field, le_at}
+use Rattle.fv_base.specs.Value.{IsBytes, field, le_at, up_to_8}
 use Rattle.fv_base.specs.declared.flash.FileSystem.{FileSystem}
 use Rattle.fv_base.specs.declared.flash.FileSystem.TheVariants.{Ffs2, Ffs3}
-use Rattle.fv_base.specs.declared.guid.Guid.{Guid}
 use Rattle.fv_head.specs.declared.extent.Extent.{Extent}
 use Rattle.fv_head.specs.Attributes.{polarity_of}
+use Rattle.fv_head.specs.Ext.{Extension, IsExt}
 use Rattle.fv_head.specs.Pairs.{pairs_of, bytes_in}
 
 -- the signature `_FVH`
@@ -19,12 +19,6 @@ signature_bytes = 0x5f ∷ 0x46 ∷ 0x56 ∷ 0x48 ∷ []
 abbrev pub system_guid : FileSystem → List ℕ
 system_guid Ffs2 = 0x78 ∷ 0xe5 ∷ 0x8c ∷ 0x8c ∷ 0x3d ∷ 0x8a ∷ 0x1c ∷ 0x4f ∷ 0x99 ∷ 0x35 ∷ 0x89 ∷ 0x61 ∷ 0x85 ∷ 0xc3 ∷ 0x2d ∷ 0xd3 ∷ []
 system_guid Ffs3 = 0x7a ∷ 0xc0 ∷ 0x73 ∷ 0x54 ∷ 0xcb ∷ 0x3d ∷ 0xca ∷ 0x4d ∷ 0xbd ∷ 0x6f ∷ 0x1e ∷ 0x96 ∷ 0x89 ∷ 0xe7 ∷ 0x34 ∷ 0x9a ∷ []
-
--- what an extended header says of its volume: its name, its entries (a type and a payload each), and the bytes behind them
-pub record Extension : Type 0 where
-  pub name : Guid
-  pub entries : List (ℕ × List ℕ)
-  pub tail : List ℕ
 
 -- what a header says of its volume
 pub record HeadFields : Type 0 where
@@ -62,25 +56,21 @@ pub record IsHead (h : HeadFields) (b : List ℕ) : Type 0 where
 abbrev pub header_len_of : HeadFields → ℕ
 header_len_of h = 56 + 8 * (length h.blocks + 1)
 
--- how far a volume with this header reaches, and what its header says of the rest
-abbrev pub extent_of : HeadFields → Extent
-extent_of h = record {
-  length = h.length;
-  header_len = header_len_of h;
-  first = header_len_of h;
-  file_system = h.file_system;
-  polarity = polarity_of h.attributes;
-}
+-- where the extended header stands, and with it the first file: the part of the bytes at ExtHeaderOffset says what x says, lies
+-- behind the header and within the volume, and the first file stands at the next multiple of 8; or there is none
+abbrev pub HasExt : Option Extension → Extent → List ℕ → Type 0
+HasExt None e b = (le_at 52 2 b ≡ 0) × (e.first ≡ e.header_len)
+HasExt (Some x) e b =
+    (before : List ℕ) × (part : List ℕ) × (behind : List ℕ) × (b ≡ before ++ (part ++ behind)) × (length before ≡ le_at 52 2 b)
+    × (e.header_len ≤ length before) × (length before + length part ≤ e.length) × IsExt x part × (e.first ≡ up_to_8 (length before + length part))
 
--- the bytes begin with a volume of this header and this extent; volumes with an extended header are not among them yet
+-- the bytes begin with a volume of this header and this extent
 pub record Front (h : HeadFields) (e : Extent) (b : List ℕ) : Type 0 where
   pub head : IsHead h (take e.header_len b)
   pub long_enough : e.header_len ≤ length b
   pub whole : e.length ≤ length b
-  pub no_extension : le_at 52 2 b ≡ 0
-  pub ext : h.ext ≡ None
+  pub ext : HasExt h.ext e b
   pub length_is : e.length ≡ h.length
-  pub first : e.first ≡ e.header_len
   pub file_system : e.file_system ≡ h.file_system
   pub polarity : e.polarity ≡ polarity_of h.attributes
 
@@ -97,3 +87,13 @@ canonical_offset h (Some x) = header_len_of h + 24
 pub record IsCanonicalHead (h : HeadFields) (b : List ℕ) : Type 0 where
   pub head : IsHead h b
   pub offset : le_at 52 2 b ≡ canonical_offset h h.ext
+
+-- how far a volume of this head reaches, whose extended header stands at its canonical place
+abbrev pub extent_of : HeadFields → ℕ → Extent
+extent_of h first = record {
+  length = h.length;
+  header_len = header_len_of h;
+  first = first;
+  file_system = h.file_system;
+  polarity = polarity_of h.attributes;
+}

@@ -1,12 +1,12 @@
 -- The checks of a volume's header, in their order.
-use Rattle.std.specs.Prelude.{ℕ, ◌-◌, ◌%◌, ◌==◌, nat_le, Bool, ◌&&◌, not, is_some, if◌then◌else◌, List, [], ◌∷◌, length, take, slice_index, Option, None, Some, Result, Ok, Err}
+use Rattle.std.specs.Prelude.{ℕ, ◌+◌, ◌||◌, ◌-◌, ◌%◌, ◌==◌, nat_le, Bool, ◌&&◌, not, is_some, if◌then◌else◌, List, [], ◌∷◌, length, take, slice_index, Option, None, Some, Result, Ok, Err}
 use Rattle.std.specs.Str.{bytes_eq}
 use Rattle.std.specs.List.{list_all}
 use Rattle.fv_base.specs.Checks.{Check, check, first_fault}
 use Rattle.fv_base.specs.Faults.{outer_fault}
 use Rattle.fv_base.specs.Limits.{volume_limit}
 use Rattle.fv_base.specs.Sums.{sum16_of}
-use Rattle.fv_base.specs.Value.{field, le_at}
+use Rattle.fv_base.specs.Value.{field, le_at, up_to_8}
 use Rattle.fv_base.specs.declared.fault.Fault.{Fault}
 use Rattle.fv_base.specs.declared.fault.FaultKind.TheVariants as kinds
 use Rattle.fv_base.specs.declared.flash.FileSystem.{FileSystem}
@@ -58,6 +58,24 @@ has_block_map n b =
 abbrev pub is_volume_len : ℕ → ℕ → Bool
 is_volume_len n len = (len % 8 == 0) && nat_le n len && nat_le len volume_limit
 
+-- ExtHeaderOffset and ExtHeaderSize, as they stand in the header
+abbrev pub ext_offset_at : List ℕ → ℕ
+ext_offset_at b = le_at 52 2 b
+
+abbrev pub ext_size_at : List ℕ → ℕ
+ext_size_at b = le_at (ext_offset_at b + 16) 4 b
+
+-- an extended header lies behind the header and within the volume, or there is none
+abbrev pub has_ext : ℕ → ℕ → List ℕ → Bool
+has_ext n len b =
+    (ext_offset_at b == 0)
+    || (nat_le n (ext_offset_at b) && nat_le (ext_offset_at b + 20) len && nat_le 20 (ext_size_at b) && nat_le (ext_size_at b) 65535
+    && nat_le (ext_offset_at b + ext_size_at b) len)
+
+-- where the first file may stand
+abbrev pub first_at : List ℕ → ℕ
+first_at b = if ext_offset_at b == 0 then header_len_at b else up_to_8 (ext_offset_at b + ext_size_at b)
+
 -- the checks of a header, in their order
 abbrev pub head_checks : List ℕ → List Check
 head_checks b =
@@ -71,7 +89,7 @@ head_checks b =
     ∷ check (has_block_map (header_len_at b) b) kinds.BlockMap 56
     ∷ check (is_volume_len (header_len_at b) (volume_len_at b)) kinds.Length 32
     ∷ check (nat_le (volume_len_at b) (length b)) kinds.Truncated (length b)
-    ∷ check (le_at 52 2 b == 0) kinds.ExtHeader 52
+    ∷ check (has_ext (header_len_at b) (volume_len_at b) b) kinds.ExtHeader 52
     ∷ []
 
 -- the extent that a header of the file system says
@@ -79,7 +97,7 @@ abbrev pub extent_at : FileSystem → List ℕ → Extent
 extent_at fs b = record {
   length = volume_len_at b;
   header_len = header_len_at b;
-  first = header_len_at b;
+  first = first_at b;
   file_system = fs;
   polarity = polarity_of (le_at 44 4 b);
 }

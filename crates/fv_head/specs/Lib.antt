@@ -1,8 +1,10 @@
 pub mod Attributes
+pub mod Ext
 pub mod Head
 pub mod HeadChecks
 pub mod Pairs
 pub mod Spelled
+pub mod SpelledExt
 pub mod View
 pub mod WordLaws
 pub mod WordSums

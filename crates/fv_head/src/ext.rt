@@ -1,9 +1,18 @@
 //! The extended header of a volume, as it is kept.
 
-ghost use Rattle.std.specs.Prelude.{◌≡◌, List, ℕ};
+ghost use Rattle.std.specs.Prelude.{◌≡◌, ◌+◌, ◌≤◌, ℕ, List, drop, length, IfOk, IfErr, IfSome, IfNone};
+ghost use Rattle.fv_base.specs.Faults.{want_of_memory};
+ghost use Rattle.fv_base.specs.Value.{le_at};
+ghost use Rattle.fv_head.specs.Ext.{BeginNone, Entries, IsExt, IsReadExt, held, is_used_size};
 
-use fv_base::{ByteList, Guid};
+use crate::fields::u16_at;
+use fv_base::field::field;
+use fv_base::{ByteList, Fault, Guid};
+use std::alloc::Global;
 use std::marker::Model;
+
+/// The type of an entry that holds the used size.
+const USED_SIZE: u16 = 3;
 
 /// An entry of an extended header. Contracts see its type and its payload. (PI specification,
 /// volume 3, section 3.2.1.2, `EFI_FIRMWARE_VOLUME_EXT_ENTRY`.)
@@ -27,7 +36,8 @@ impl ExtEntry {
         self.kind
     }
 
-    /// The bytes behind the entry's header.
+    /// The bytes behind the entry's header. The value of a used size, which is an entry of type 3
+    /// with 4 bytes, is no part of the meaning: it is four zero bytes here.
     pub fn payload(&self) -> &[u8]
         ensures { result.now ≡ self.now.1 }
     {
@@ -35,8 +45,9 @@ impl ExtEntry {
     }
 }
 
-/// The extended header of a volume, made by reading alone. (PI specification, volume 3, section
-/// 3.2.1.2, `EFI_FIRMWARE_VOLUME_EXT_HEADER`.) No volume that has one is read yet.
+/// The extended header of a volume, made by reading alone. Contracts see what it says, and know
+/// that some bytes say it. (PI specification, volume 3, section 3.2.1.2,
+/// `EFI_FIRMWARE_VOLUME_EXT_HEADER`.)
 #[derive(Drop)]
 pub struct ExtHeader {
     name: Guid,
@@ -45,17 +56,22 @@ pub struct ExtHeader {
 }
 
 impl Model for ExtHeader {
-    ghost use Rattle.fv_head.specs.Head.{Extension};
+    ghost use Rattle.fv_head.specs.Ext.{Extension, IsReadExt};
 
     ghost Value = { Extension };
 
     ghost view = { λ x. record { name = x.name; entries = x.entries.items; tail = x.tail } };
+
+    ghost invariant = { λ x. IsReadExt (record { name = x.name; entries = x.entries.items; tail = x.tail }) };
 }
 
 impl ExtHeader {
     /// The name of the volume.
     pub fn name(&self) -> Guid
-        ensures { result ≡ self.now.name }
+        ensures name { result ≡ self.now.name }
+
+        // Some bytes are an extended header that says this.
+        ensures read { IsReadExt self.now }
     {
         self.name
     }
@@ -67,10 +83,82 @@ impl ExtHeader {
         self.entries.as_slice()
     }
 
-    /// The bytes behind the entries.
+    /// The bytes behind the entries, which begin no entry.
     pub fn tail(&self) -> &[u8]
         ensures { result.now ≡ self.now.tail }
     {
         self.tail.as_slice()
     }
+}
+
+// The size of the entry that the bytes begin with, if they begin one.
+fn entry_len(bytes: &[u8]) -> Option<usize>
+    ensures some { IfSome result (λ n. (n ≡ le_at 0 2 bytes.now) × (4 ≤ n) × (n ≤ length bytes.now)) }
+    ensures none { IfNone result (BeginNone bytes.now) }
+{
+    if bytes.len() < 4 {
+        return None;
+    }
+    let size = usize::from(u16_at(bytes, 0));
+    if size < 4 || bytes.len() < size {
+        return None;
+    }
+    Some(size)
+}
+
+// Whether an entry holds the used size.
+pub(crate) fn is_used_size(kind: u16, payload: &[u8]) -> bool
+    ensures { result ≡ is_used_size kind payload.now }
+{
+    kind == USED_SIZE && payload.len() == 4
+}
+
+// The entry of these bytes, whose first two are its size.
+fn entry_of(alloc: Global, entry: &[u8]) -> Result<ExtEntry, Fault>
+    requires { 4 ≤ length entry.now }
+    ensures ok { IfOk result (λ e. (e.0 ≡ le_at 2 2 entry.now) × (e.1 ≡ held (le_at 2 2 entry.now) (drop 4 entry.now))) }
+    ensures err { IfErr result (λ f. f ≡ want_of_memory) }
+{
+    let kind = u16_at(entry, 2);
+    let mut payload = entry[4..].to_vec(alloc)?;
+    if is_used_size(kind, &payload) {
+        payload.as_mut_slice().copy_from_slice(&[0; 4]);
+    }
+    Ok(ExtEntry {
+        kind,
+        payload: ByteList::from_vec(payload),
+    })
+}
+
+// The entries that the bytes begin with, and the tail behind them.
+fn entries_of(alloc: Global, bytes: &[u8]) -> Result<(Vec<ExtEntry>, ByteList), Fault>
+    ensures ok { IfOk result (λ r. Entries r.0.items r.1 bytes.now) }
+    ensures err { IfErr result (λ f. f ≡ want_of_memory) }
+{
+    let mut entries = Vec::new(alloc);
+    let mut rest = bytes;
+    while let Some(len) = entry_len(rest) {
+        let (entry, behind) = rest.split_at(len);
+        entries.push(entry_of(alloc, entry)?)?;
+        rest = behind;
+    }
+    Ok((entries, ByteList::from_vec(rest.to_vec(alloc)?)))
+}
+
+// The extended header that the bytes are.
+pub(crate) fn ext_of(alloc: Global, bytes: &[u8]) -> Result<ExtHeader, Fault>
+    requires least { 20 ≤ length bytes.now }
+    requires most { length bytes.now ≤ 65535 }
+    requires size { le_at 16 4 bytes.now ≡ length bytes.now }
+    ensures ok { IfOk result (λ x. IsExt x bytes.now) }
+    ensures err { IfErr result (λ f. f ≡ want_of_memory) }
+{
+    let mut name = [0u8; 16];
+    name.copy_from_slice(field(bytes, 0, 16));
+    let (entries, tail) = entries_of(alloc, &bytes[20..])?;
+    Ok(ExtHeader {
+        name: Guid::from_bytes(name),
+        entries,
+        tail,
+    })
 }

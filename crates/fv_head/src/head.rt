@@ -3,16 +3,16 @@
 ghost use Rattle.std.specs.Prelude.{◌≡◌, ◌⊎◌, ◌%◌, ◌≤◌, length, IfOk, IfErr, option_copied};
 ghost use Rattle.fv_base.specs.Checks.{IsFirstFault};
 ghost use Rattle.fv_base.specs.Faults.{want_of_memory};
-ghost use Rattle.fv_head.specs.Head.{HeadFields, Front, IsReadHead, header_len_of};
+ghost use Rattle.fv_head.specs.Head.{HasExt, HeadFields, Front, IsReadHead, header_len_of};
 ghost use Rattle.fv_head.specs.HeadChecks.{head_checks};
 ghost use Rattle.fv_head.specs.Pairs.{pairs_of};
 ghost use Rattle.fv_head.specs.declared.extent.Extent.{Extent};
 
 use crate::attributes::FvAttributes;
 use crate::block_map::BlockMap;
-use crate::ext::ExtHeader;
+use crate::ext::{ExtHeader, ext_of};
 use crate::extent::Extent;
-use crate::fields::{u32_at, u64_at};
+use crate::fields::{u16_at, u32_at, u64_at};
 use crate::verify::verify_fv;
 use bitflags::Flags;
 use fv_base::field::field;
@@ -125,6 +125,20 @@ fn blocks_of(alloc: Global, bytes: &[u8]) -> Result<BlockMap, Fault>
     Ok(BlockMap::from_vec(blocks))
 }
 
+// The extended header of the volume that the bytes begin with, if there is one.
+fn ext_at(alloc: Global, bytes: &[u8], extent: &Extent) -> Result<Option<ExtHeader>, Fault>
+    requires front { (h : HeadFields) × Front h extent.now bytes.now }
+    ensures ok { IfOk result (λ x. HasExt x extent.now bytes.now) }
+    ensures err { IfErr result (λ f. f ≡ want_of_memory) }
+{
+    let offset = usize::from(u16_at(bytes, 52));
+    if offset == 0 {
+        return Ok(None);
+    }
+    let size = u32_at(bytes, offset + 16) as usize;
+    Ok(Some(ext_of(alloc, field(bytes, offset, size))?))
+}
+
 // The fields of the header that the bytes begin with.
 fn head_of(alloc: Global, bytes: &[u8], extent: &Extent) -> Result<VolumeHead, Fault>
     requires front { (h : HeadFields) × Front h extent.now bytes.now }
@@ -142,7 +156,7 @@ fn head_of(alloc: Global, bytes: &[u8], extent: &Extent) -> Result<VolumeHead, F
         attributes: FvAttributes::from_bits_retain(u32_at(bytes, 44)),
         reserved: bytes[54],
         blocks,
-        ext: None,
+        ext: ext_at(alloc, bytes, extent)?,
     })
 }
 

@@ -8,9 +8,11 @@ pub mod extent;
 mod fields;
 pub mod head;
 pub mod spell;
+pub mod spell_ext;
 #[cfg(test)]
 mod tests;
 pub mod verify;
+pub mod write;
 
 pub use attributes::FvAttributes;
 pub use block_map::BlockMap;
@@ -18,4 +20,6 @@ pub use ext::{ExtEntry, ExtHeader};
 pub use extent::Extent;
 pub use head::{VolumeHead, read_head};
 pub use spell::{head_bytes, put_head};
+pub use spell_ext::{ext_bytes, put_ext};
 pub use verify::verify_fv;
+pub use write::{write_ext, write_head};

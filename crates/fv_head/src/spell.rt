@@ -5,6 +5,7 @@ ghost use Rattle.fv_base.specs.Faults.{want_of_memory};
 ghost use Rattle.fv_base.specs.Value.{le_bytes};
 ghost use Rattle.fv_head.specs.Head.{IsCanonicalHead, IsReadHead, Front, canonical_offset, extent_of};
 ghost use Rattle.fv_head.specs.Pairs.{pairs_bytes};
+ghost use Rattle.fv_head.specs.SpelledExt.{CanonicalRest, IfRead, canonical_end, canonical_first};
 ghost use Rattle.fv_head.specs.Spelled.{spelled, canonical_head, checksum_of};
 ghost use Rattle.fv_head.specs.WordLaws.{adds_by};
 ghost use Rattle.fv_head.specs.WordSums.{AddsWords, worth};
@@ -45,7 +46,7 @@ impl Sink for WordSink {
 }
 
 // Puts a number of 2 bytes.
-fn put_u16<S: Sink>(out: &mut S, number: u16)
+pub(crate) fn put_u16<S: Sink>(out: &mut S, number: u16)
     ensures { S.takes out.old (le_bytes 2 number) out.new }
 {
     let mut bytes = [0; 2];
@@ -54,7 +55,7 @@ fn put_u16<S: Sink>(out: &mut S, number: u16)
 }
 
 // Puts a number of 4 bytes.
-fn put_u32<S: Sink>(out: &mut S, number: u32)
+pub(crate) fn put_u32<S: Sink>(out: &mut S, number: u32)
     ensures { S.takes out.old (le_bytes 4 number) out.new }
 {
     let mut bytes = [0; 4];
@@ -83,11 +84,15 @@ fn put_pairs<S: Sink>(out: &mut S, pairs: &[(u32, u32)])
 
 // Where the canonical head says that the extended header stands, or 0 without one.
 fn canonical_offset(head: &VolumeHead) -> u16
-    ensures { result ≡ canonical_offset head.now head.now.ext }
+    ensures offset { result ≡ canonical_offset head.now head.now.ext }
+    ensures read { IfRead head.now.ext }
 {
     match head.ext() {
         None => 0,
-        Some(_) => head.header_len() + 24,
+        Some(ext) => {
+            let _name = ext.name();
+            head.header_len() + 24
+        }
     }
 }
 
@@ -95,6 +100,7 @@ fn canonical_offset(head: &VolumeHead) -> u16
 fn put_spelled<S: Sink>(out: &mut S, head: &VolumeHead, checksum: u16)
     ensures bytes { S.takes out.old (spelled head.now checksum (canonical_offset head.now head.now.ext)) out.new }
     ensures read { IsReadHead head.now }
+    ensures ext { IfRead head.now.ext }
 {
     out.put(head.zero_vector());
     out.put(system_guid(head.file_system()));
@@ -133,7 +139,9 @@ fn checksum_of(head: &VolumeHead) -> u16
 /// HeaderLength + 24 where there is an extended header, and the right sum. (PI specification,
 /// volume 3, section 3.2.1.1.)
 pub fn put_head<S: Sink>(out: &mut S, head: &VolumeHead)
-    ensures { S.takes out.old (canonical_head head.now) out.new }
+    ensures bytes { S.takes out.old (canonical_head head.now) out.new }
+    ensures read { IsReadHead head.now }
+    ensures ext { IfRead head.now.ext }
 {
     put_spelled(out, head, checksum_of(head));
 }
@@ -148,9 +156,9 @@ pub fn head_bytes(alloc: Global, head: &VolumeHead) -> Result<ByteList, Fault>
     ensures head { IfOk result (λ bytes. IsCanonicalHead head.now bytes) }
     ensures only { (other : List ℕ) → IsCanonicalHead head.now other → IfOk result (λ bytes. bytes ≡ other) }
 
-    // Read again, with the rest of a volume behind them, they give the head back.
-    ensures again { IfOk result (λ bytes. (rest : List ℕ) → head.now.ext ≡ None → head.now.length ≤ length (bytes ++ rest) →
-        Front head.now (extent_of head.now) (bytes ++ rest)) }
+    // Read again, with its extended header in a pad file behind it and the rest of a volume, it gives the head back.
+    ensures again { IfOk result (λ bytes. (rest : List ℕ) → CanonicalRest head.now.ext rest → canonical_end head.now head.now.ext ≤ head.now.length
+        → head.now.length ≤ length (bytes ++ rest) → Front head.now (extent_of head.now (canonical_first head.now head.now.ext)) (bytes ++ rest)) }
     ensures err { IfErr result (λ f. f ≡ want_of_memory) }
 {
     let mut out = ListSink::with_room(alloc, usize::from(head.header_len()))?;

@@ -1,5 +1,8 @@
 //! What no contract says: volumes from outside, and the fault of each change of one.
 
+mod block_maps;
+mod extended;
+
 use crate::{Extent, head_bytes, put_head, read_head, verify_fv};
 use bitflags::Flags;
 use fv_base::{Fault, FaultKind, FileSystem, ListSink, Polarity};

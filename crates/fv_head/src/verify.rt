@@ -1,10 +1,11 @@
 //! Whether bytes begin with a volume, and which.
 
-ghost use Rattle.std.specs.Prelude.{◌≡◌, ◌==◌, ◌%◌, ◌≤◌, length, IfOk, IfErr};
+ghost use Rattle.std.specs.Prelude.{◌≡◌, ◌⊎◌, ◌+◌, ◌==◌, ◌%◌, ◌≤◌, length, IfOk, IfErr};
 ghost use Rattle.fv_base.specs.Checks.{IsFirstFault};
 ghost use Rattle.fv_base.specs.Sums.{sum16_of};
+ghost use Rattle.fv_base.specs.Value.{le_at};
 ghost use Rattle.fv_head.specs.Head.{HeadFields, Front, system_guid};
-ghost use Rattle.fv_head.specs.HeadChecks.{has_signature, file_system_at, is_header_len, is_zero_pair, makes_up, has_block_map, is_volume_len, extent_at, verdict_of, head_checks};
+ghost use Rattle.fv_head.specs.HeadChecks.{has_signature, file_system_at, is_header_len, is_zero_pair, makes_up, has_block_map, is_volume_len, has_ext, first_at, extent_at, verdict_of, head_checks};
 ghost use Rattle.fv_head.specs.Pairs.{pairs_of};
 ghost use Rattle.fv_head.specs.declared.extent.Extent.{Extent};
 
@@ -12,7 +13,7 @@ use crate::attributes::FvAttributes;
 use crate::extent::Extent;
 use crate::fields::{u16_at, u32_at, u64_at};
 use bitflags::Flags;
-use fv_base::field::field;
+use fv_base::field::{field, up_to_8};
 use fv_base::limits::VOLUME_LIMIT;
 use fv_base::{Fault, FaultKind, FileSystem, check, sum16};
 
@@ -121,19 +122,50 @@ fn has_block_map(bytes: &[u8], header_len: usize) -> bool
         && u32_at(bytes, header_len - 4) == 0
 }
 
+// Whether an extended header lies behind the header and within the volume, or there is none.
+fn has_ext(bytes: &[u8], header_len: usize, volume_len: u64) -> bool
+    requires least { 56 ≤ length bytes.now }
+    requires within { volume_len ≤ length bytes.now }
+    ensures { result ≡ has_ext header_len volume_len bytes.now }
+{
+    let offset = u16_at(bytes, 52);
+    if offset == 0 {
+        return true;
+    }
+    let start = usize::from(offset);
+    if start < header_len || start as u64 + 20 > volume_len {
+        return false;
+    }
+    let size = u32_at(bytes, start + 16);
+    20 <= size && size <= 65535 && start as u64 + u64::from(size) <= volume_len
+}
+
+// Where the first file may stand.
+fn first_at(bytes: &[u8]) -> u64
+    requires least { 56 ≤ length bytes.now }
+    requires ext { (le_at 52 2 bytes.now ≡ 0) ⊎ (le_at 52 2 bytes.now + 20 ≤ length bytes.now) }
+    ensures { result ≡ first_at bytes.now }
+{
+    let offset = u16_at(bytes, 52);
+    if offset == 0 {
+        return u64::from(u16_at(bytes, 48));
+    }
+    let size = u32_at(bytes, usize::from(offset) + 16);
+    up_to_8(u64::from(offset) + u64::from(size))
+}
+
 // What the header says, which has no fault.
 fn extent_at(bytes: &[u8], file_system: FileSystem) -> Extent
-    requires { 56 ≤ length bytes.now }
+    requires least { 56 ≤ length bytes.now }
+    requires ext { (le_at 52 2 bytes.now ≡ 0) ⊎ (le_at 52 2 bytes.now + 20 ≤ length bytes.now) }
     ensures { result ≡ extent_at file_system bytes.now }
 {
-    let header_len = u64::from(u16_at(bytes, 48));
-    let attributes = u32_at(bytes, 44);
     Extent {
         length: u64_at(bytes, 32),
-        header_len,
-        first: header_len,
+        header_len: u64::from(u16_at(bytes, 48)),
+        first: first_at(bytes),
         file_system,
-        polarity: FvAttributes::from_bits_retain(attributes).polarity(),
+        polarity: FvAttributes::from_bits_retain(u32_at(bytes, 44)).polarity(),
     }
 }
 
@@ -156,8 +188,7 @@ fn verdict(bytes: &[u8]) -> Result<Extent, Fault>
     let length = u64_at(bytes, 32);
     check(is_volume_len(header_len, length), FaultKind::Length, 32)?;
     check(length <= end, FaultKind::Truncated, end)?;
-    let ext_offset = u16_at(bytes, 52);
-    check(ext_offset == 0, FaultKind::ExtHeader, 52)?;
+    check(has_ext(bytes, header_len, length), FaultKind::ExtHeader, 52)?;
     Ok(extent_at(bytes, file_system))
 }
 
@@ -168,8 +199,7 @@ fn verdict(bytes: &[u8]) -> Result<Extent, Fault>
 ///
 /// The first fault of the header, in this order: Truncated where 56 bytes are not there,
 /// Signature, FileSystem, Revision, HeaderLength, Truncated where HeaderLength bytes are not
-/// there, HeaderSum, BlockMap, Length, Truncated where FvLength bytes are not there, ExtHeader
-/// where ExtHeaderOffset is not 0.
+/// there, HeaderSum, BlockMap, Length, Truncated where FvLength bytes are not there, ExtHeader.
 pub fn verify_fv(bytes: &[u8]) -> Result<Extent, Fault>
     // The bytes begin with a volume of this extent.
     ensures found { IfOk result (λ e. (h : HeadFields) × Front h e bytes.now) }

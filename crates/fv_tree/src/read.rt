@@ -16,8 +16,9 @@ use std::alloc::Global;
 ///
 /// # Errors
 ///
-/// The first fault: those of the header, as `verify_fv`; then, until files are read, FileState at
-/// HeaderLength + 23 where a byte behind the header is not erased. OutOfMemory.
+/// The first fault: those of the header, as `verify_fv`; then, until files are read, ExtHeader at
+/// 52 where there is an extended header, and FileState at HeaderLength + 23 where a byte behind the
+/// header is not erased. OutOfMemory.
 pub fn read_volume(alloc: Global, bytes: &[u8]) -> Result<(VolumeView<'_>, u64), Fault>
     // These bytes are a volume of this meaning.
     ensures found { IfOk result (λ r. Denotes (take r.1 bytes.now) r.0) }
@@ -31,6 +32,7 @@ pub fn read_volume(alloc: Global, bytes: &[u8]) -> Result<(VolumeView<'_>, u64),
     ensures first { IfErr result (λ f. (f ≡ want_of_memory) ⊎ IsFirstFault (volume_checks bytes.now) f) }
 {
     let (head, extent) = read_head(alloc, bytes)?;
+    check(head.ext().is_none(), FaultKind::ExtHeader, 52)?;
     let body = &bytes[extent.header_len as usize..extent.length as usize];
     let erased = all_are(body, extent.polarity.erased());
     check(erased, FaultKind::FileState, extent.header_len + 23)?;

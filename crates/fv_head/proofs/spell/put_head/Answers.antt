@@ -4,8 +4,8 @@ use Rattle.fv_head.specs.Spelled.{spelled, canonical_head}
 use Rattle.fv_head.proofs.SpellLemmas.{renamed}
 use Rattle.fv_head.proofs.spell.put_head.Goals as goal
 
-pub returns : goal.returns
+pub returns-clause-bytes : goal.returns-clause-bytes
 unfolding canonical_head
-returns g c =
+returns-clause-bytes g c =
     renamed g.S.Sink.takes _ _ _ _ c.put_spelled.ensures.bytes
     (ap (λ (n : ℕ). spelled c.args.head.now n (canonical_offset c.args.head.now c.args.head.now.ext)) c.checksum_of.ensures)

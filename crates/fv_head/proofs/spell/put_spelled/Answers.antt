@@ -17,7 +17,7 @@ returns-clause-bytes g c =
     (renamed g.S.Sink.takes _ _ _ _ c.put_u32.ensures (ap (le_bytes 4) (c.bits.ensures tt ∙ c.attributes.ensures)))
     (renamed g.S.Sink.takes _ _ _ _ c.put_u16.ensures (ap (le_bytes 2) c.header_len.ensures.length))
     c.put_u16-2.ensures
-    (renamed g.S.Sink.takes _ _ _ _ c.put_u16-3.ensures (ap (le_bytes 2) c.canonical_offset.ensures))
+    (renamed g.S.Sink.takes _ _ _ _ c.put_u16-3.ensures (ap (le_bytes 2) c.canonical_offset.ensures.offset))
     (renamed g.S.Sink.takes _ _ _ _ c.put-4.ensures (ap (λ (x : ℕ). x ∷ 2 ∷ []) c.reserved.ensures))
     (renamed g.S.Sink.takes _ _ _ _ c.put_pairs.ensures (ap pairs_bytes (c.as_slice.ensures ∙ c.blocks-2.ensures)))
     c.put_u64-2.ensures

@@ -1,0 +1,377 @@
+-- Extended headers, and the entries in them.
+use Rattle.std.proofs.Common.{◌≡◌, ◌≤◌, ◌<◌, ℕ, zero, suc, ◌+◌, ◌-◌, List, [], ◌∷◌, ◌++◌, length, take, drop, refl, sym, ap, ◌∙◌, subst, arith, inl, inr, Bool, true, false, length-append, length-drop, append_assoc, append-nil, drop-drop}
+use Rattle.std.specs.Prelude.{◌==◌, ◌&&◌, ◌||◌, nat_le, nat_lt, if◌then◌else◌, Option, Some, None}
+use Rattle.std.proofs.lemmas.List.{drop-take, take_at, drop_at, take-append-drop, length-take-le, take_all}
+use Rattle.std.proofs.lemmas.Bool.{leb-true, le-leb, eqb-true}
+use Rattle.std.proofs.lemmas.Bool.Decides.{nat_tests}
+use Rattle.fv_base.specs.Guids.{bytes_of}
+use Rattle.fv_base.specs.Value.{le, field, le_at, up_to_8}
+use Rattle.fv_base.specs.declared.guid.Guid.{Guid}
+use Rattle.fv_base.proofs.CheckLemmas.{and_split, and_join}
+use Rattle.fv_base.proofs.FieldLemmas.{field-append_front, field-take}
+use Rattle.fv_head.specs.Ext.{Extension, held, BeginNone, Entries, IsExt}
+use Rattle.fv_head.specs.Head.{HasExt}
+use Rattle.fv_head.specs.HeadChecks.{ext_offset_at, ext_size_at, has_ext}
+use Rattle.fv_head.specs.declared.extent.Extent.{Extent}
+
+-- ---- entries
+
+-- the size, the type and the payload of the entry that bytes begin with, by positions
+pub record Begins (b head payload rest : List ℕ) : Type 0 where
+  pub size : le_at 0 2 b ≡ 4 + length payload
+  pub kind : le_at 2 2 b ≡ le_at 2 2 head
+  pub long : length b ≡ 4 + length payload + length rest
+  pub payload_is : payload ≡ field 4 (le_at 0 2 b - 4) b
+  pub rest_is : rest ≡ drop (le_at 0 2 b) b
+
+pub begins : (b head payload rest : List ℕ) → b ≡ head ++ (payload ++ rest) → length head ≡ 4 → le_at 0 2 head ≡ 4 + length payload → Begins b head payload rest
+begins b head payload rest text four size =
+    let long : length b ≡ 4 + length payload + length rest = omega (arith, ap length text, length-append head (payload ++ rest), length-append payload rest, four) in
+    let at : le_at 0 2 b ≡ le_at 0 2 head = ap (le_at 0 2) text ∙ ap le (field-append_front 0 2 head (payload ++ rest) (omega (arith, four))) in
+    let behind : drop 4 b ≡ payload ++ rest = ap (drop 4) text ∙ drop_at head (payload ++ rest) 4 four in
+    let same : le_at 0 2 b ≡ 4 + length payload = at ∙ size in
+    record {
+      size = same;
+      kind = ap (le_at 2 2) text ∙ ap le (field-append_front 2 2 head (payload ++ rest) (omega (arith, four)));
+      long = long;
+      payload_is = sym (ap (take (le_at 0 2 b - 4)) behind ∙ take_at payload rest (le_at 0 2 b - 4) (omega (arith, same)));
+      rest_is = sym (ap (λ (n : ℕ). drop n b) (same ∙ turned (length payload)) ∙ sym (drop-drop (length payload) 4 b) ∙ ap (drop (length payload)) behind ∙ drop_at payload rest (length payload) refl);
+    }
+  where
+    turned : (n : ℕ) → 4 + n ≡ 4 + n
+    turned n = refl
+
+-- bytes that begin an entry do not begin none
+no_entry : (b head payload rest : List ℕ) → Begins b head payload rest → BeginNone b → ⊥
+no_entry b head payload rest is (inl short) = absurd (omega (arith, short, is.long))
+no_entry b head payload rest is (inr (inl low)) = absurd (omega (arith, low, is.size))
+no_entry b head payload rest is (inr (inr high)) = absurd (omega (arith, high, is.size, is.long))
+
+pair_is : (e f : ℕ × List ℕ) → e.0 ≡ f.0 → e.1 ≡ f.1 → e ≡ f
+pair_is e f p q = ap (λ (n : ℕ). (n, e.1)) p ∙ ap (λ (xs : List ℕ). (f.0, xs)) q
+
+-- bytes are the entries and the tail of one list at most
+pub one_entries : (es fs : List (ℕ × List ℕ)) (tail other b : List ℕ) → Entries es tail b → Entries fs other b → (es ≡ fs) × (tail ≡ other)
+one_entries [] [] tail other b first second = (refl, sym first.0 ∙ second.0)
+one_entries [] (f ∷ fs) tail other b first (head, payload, rest, text, four, size, kind, kept, more) =
+    absurd (no_entry b head payload rest (begins b head payload rest text four size) first.1)
+one_entries (e ∷ es) [] tail other b (head, payload, rest, text, four, size, kind, kept, more) second =
+    absurd (no_entry b head payload rest (begins b head payload rest text four size) second.1)
+one_entries (e ∷ es) (f ∷ fs) tail other b (head, payload, rest, text, four, size, kind, kept, more) (head', payload', rest', text', four', size', kind', kept', more') =
+    let first = begins b head payload rest text four size in
+    let second = begins b head' payload' rest' text' four' size' in
+    let payloads : payload ≡ payload' = first.payload_is ∙ sym second.payload_is in
+    let rests : rest ≡ rest' = first.rest_is ∙ sym second.rest_is in
+    let kinds : e.0 ≡ f.0 = sym kind ∙ sym first.kind ∙ second.kind ∙ kind' in
+    let kepts : e.1 ≡ f.1 = kept ∙ ap (λ (n : ℕ). held n payload) kinds ∙ ap (held f.0) payloads ∙ sym kept' in
+    let others = one_entries es fs tail other rest' (subst (Entries es tail) rests more) more' in
+    (ap (λ (x : ℕ × List ℕ). x ∷ es) (pair_is e f kinds kepts) ∙ ap (λ (xs : List (ℕ × List ℕ)). f ∷ xs) others.0, others.1)
+
+-- one entry more, in front
+pub entry_before : (b : List ℕ) (n : ℕ) (e : ℕ × List ℕ) (es : List (ℕ × List ℕ)) (tail : List ℕ) → n ≡ le_at 0 2 b → 4 ≤ n → n ≤ length b
+    → e.0 ≡ le_at 2 2 b → e.1 ≡ held e.0 (field 4 (n - 4) b) → Entries es tail (drop n b) → Entries (e ∷ es) tail b
+entry_before b n e es tail size least within kind kept more =
+    let head : List ℕ = take 4 b in
+    let payload : List ℕ = field 4 (n - 4) b in
+    let four : length head ≡ 4 = length-take-le 4 b (omega (arith, least, within)) in
+    let long : length payload ≡ n - 4 = length-take-le (n - 4) (drop 4 b) (omega (arith, length-drop 4 b, within)) in
+    let rest_is : drop (n - 4) (drop 4 b) ≡ drop n b = drop-drop (n - 4) 4 b ∙ ap (λ (k : ℕ). drop k b) (whole n least) in
+    let text : b ≡ head ++ (payload ++ drop n b) =
+    sym (take-append-drop 4 b) ∙ ap (λ (xs : List ℕ). head ++ xs) (sym (take-append-drop (n - 4) (drop 4 b)) ∙ ap (λ (xs : List ℕ). payload ++ xs) rest_is) in (
+      head,
+      payload,
+      drop n b,
+      text,
+      four,
+      ap le (field-take 0 2 4 b (omega arith)) ∙ sym size ∙ front n (length payload) least long,
+      ap le (field-take 2 2 4 b (omega arith)) ∙ sym kind,
+      kept,
+      more,
+    )
+  where
+    whole : (n : ℕ) → 4 ≤ n → 4 + (n - 4) ≡ n
+    whole n least = omega arith
+
+    front : (n k : ℕ) → 4 ≤ n → k ≡ n - 4 → n ≡ 4 + k
+    front n k least is = omega arith
+
+-- whether bytes begin an entry
+data Starts (b : List ℕ) : Type 0 where
+  none : BeginNone b → Starts b
+  one : 4 ≤ length b → 4 ≤ le_at 0 2 b → le_at 0 2 b ≤ length b → Starts b
+
+starts : (b : List ℕ) → Starts b
+starts b = go (nat_lt (length b) 4) (nat_lt (le_at 0 2 b) 4) (nat_lt (length b) (le_at 0 2 b)) refl refl refl where
+  go : (p q r : Bool) → nat_lt (length b) 4 ≡ p → nat_lt (le_at 0 2 b) 4 ≡ q → nat_lt (length b) (le_at 0 2 b) ≡ r → Starts b
+  go true q r first second third = none (inl (grind (arith, nat_tests)))
+  go false true r first second third = none (inr (inl (grind (arith, nat_tests))))
+  go false false true first second third = none (inr (inr (grind (arith, nat_tests))))
+  go false false false first second third = one (grind (arith, nat_tests)) (grind (arith, nat_tests)) (grind (arith, nat_tests))
+
+-- all bytes are some entries and a tail
+abbrev pub Split : List ℕ → Type 0
+Split b = (es : List (ℕ × List ℕ)) × (tail : List ℕ) × Entries es tail b
+
+entry_and : (b : List ℕ) → 4 ≤ length b → 4 ≤ le_at 0 2 b → le_at 0 2 b ≤ length b → Split (drop (le_at 0 2 b) b) → Split b
+entry_and b long least within (es, tail, more) =
+    let n : ℕ = le_at 0 2 b in
+    let e : ℕ × List ℕ = (le_at 2 2 b, held (le_at 2 2 b) (field 4 (n - 4) b)) in
+    (e ∷ es, tail, entry_before b n e es tail refl least within refl refl more)
+
+pub some_entries : (n : ℕ) (b : List ℕ) → length b ≤ n → Split b
+some_entries zero b short = ([], b, (refl, inl (omega (arith, short))))
+some_entries (suc n) b short =
+    pick (starts b) (λ long least within. some_entries n (drop (le_at 0 2 b) b) (omega (arith, length-drop (le_at 0 2 b) b, short, least, within)))
+  where
+    pick : Starts b → (4 ≤ length b → 4 ≤ le_at 0 2 b → le_at 0 2 b ≤ length b → Split (drop (le_at 0 2 b) b)) → Split b
+    pick (none is) more = ([], b, (refl, is))
+    pick (one long least within) more = entry_and b long least within (more long least within)
+
+-- ---- the extended header
+
+guid_is : (g h : Guid) → bytes_of g ≡ bytes_of h → g ≡ h
+guid_is g h same = ap (λ (bs : List ℕ). let made : Guid = record { bytes = bs } in made) same
+
+extension_is : (x y : Extension) → x.name ≡ y.name → x.entries ≡ y.entries → x.tail ≡ y.tail → x ≡ y
+extension_is x y p q r =
+    ap (λ (g : Guid). let made : Extension = record { name = g; entries = x.entries; tail = x.tail } in made) p
+    ∙ ap (λ (es : List (ℕ × List ℕ)). let made : Extension = record { name = y.name; entries = es; tail = x.tail } in made) q
+    ∙ ap (λ (bs : List ℕ). let made : Extension = record { name = y.name; entries = y.entries; tail = bs } in made) r
+
+-- what stands behind the name and the size
+rest_of : (x : Extension) (b : List ℕ) (is : IsExt x b) → (bytes_of x.name ≡ take 16 b) × (is.rest ≡ drop 20 b)
+rest_of x b is =
+    let name : List ℕ = bytes_of x.name in
+    let first : take 16 b ≡ name = ap (take 16) is.text ∙ take_at name (is.head ++ is.rest) 16 is.name_length in
+    let second : drop 16 b ≡ is.head ++ is.rest = ap (drop 16) is.text ∙ drop_at name (is.head ++ is.rest) 16 is.name_length in
+    let third : drop 20 b ≡ is.rest = sym (drop-drop 4 16 b) ∙ ap (drop 4) second ∙ drop_at is.head is.rest 4 is.head_length in
+    (sym first, sym third)
+
+-- bytes are one extended header at most
+pub one_ext : (x y : Extension) (b : List ℕ) → IsExt x b → IsExt y b → x ≡ y
+one_ext x y b is other =
+    let first = rest_of x b is in
+    let second = rest_of y b other in
+    let names : x.name ≡ y.name = guid_is x.name y.name (first.0 ∙ sym second.0) in
+    let entries = one_entries x.entries y.entries x.tail y.tail (drop 20 b) (subst (Entries x.entries x.tail) first.1 is.entries) (subst (Entries y.entries y.tail) second.1 other.entries) in
+    extension_is x y names entries.0 entries.1
+
+-- a name, a size and what stands behind them
+pub ext_of : (b : List ℕ) (g : Guid) (es : List (ℕ × List ℕ)) (tail : List ℕ) → 20 ≤ length b → length b ≤ 65535 → le_at 16 4 b ≡ length b → bytes_of g ≡ take 16 b
+    → Entries es tail (drop 20 b) → IsExt (record { name = g; entries = es; tail = tail }) b
+ext_of b g es tail least most size name entries = record {
+  head = field 16 4 b;
+  rest = drop 20 b;
+  text = sym (take-append-drop 16 b) ∙ ap (λ (xs : List ℕ). xs ++ drop 16 b) (sym name)
+      ∙ ap (λ (xs : List ℕ). bytes_of g ++ xs) (sym (take-append-drop 4 (drop 16 b)) ∙ ap (λ (xs : List ℕ). field 16 4 b ++ xs) (drop-drop 4 16 b));
+  name_length = ap length name ∙ length-take-le 16 b (omega (arith, least));
+  head_length = length-take-le 4 (drop 16 b) (omega (arith, length-drop 16 b, least));
+  size = size;
+  most = most;
+  entries = entries;
+}
+
+-- bytes of a right size are some extended header
+pub some_ext : (b : List ℕ) → 20 ≤ length b → length b ≤ 65535 → le_at 16 4 b ≡ length b → (x : Extension) × IsExt x b
+some_ext b least most size =
+    let g : Guid = record { bytes = take 16 b } in
+    let found = some_entries (length (drop 20 b)) (drop 20 b) (omega arith) in
+    (_, ext_of b g found.0 found.1 least most size refl found.2)
+
+-- ---- where it stands
+
+-- an extended header by its place
+pub record Placed (x : Extension) (e : Extent) (b part : List ℕ) : Type 0 where
+  pub least : 20 ≤ length part
+  pub most : length part ≤ 65535
+  pub size : ext_size_at b ≡ length part
+  pub part_is : part ≡ field (ext_offset_at b) (length part) b
+  pub behind_header : e.header_len ≤ ext_offset_at b
+  pub within : ext_offset_at b + length part ≤ e.length
+  pub first : e.first ≡ up_to_8 (ext_offset_at b + length part)
+  pub is_ext : IsExt x part
+
+pub placed : (x : Extension) (e : Extent) (b : List ℕ) → (h : HasExt (Some x) e b) → Placed x e b h.1
+placed x e b (before, part, behind, text, at, low, high, is, first) =
+    let least : 20 ≤ length part = omega (arith, ap length is.text, length-append (bytes_of x.name) (is.head ++ is.rest), length-append is.head is.rest, is.name_length, is.head_length) in
+    let moved : drop (length before) b ≡ part ++ behind = ap (drop (length before)) text ∙ drop_at before (part ++ behind) (length before) refl in
+    let head : field 16 4 part ≡ is.head =
+    ap (take 4) (ap (drop 16) is.text ∙ drop_at (bytes_of x.name) (is.head ++ is.rest) 16 is.name_length) ∙ take_at is.head is.rest 4 is.head_length in
+    let size : ext_size_at b ≡ length part =
+    ap (λ (n : ℕ). le_at (n + 16) 4 b) (sym at) ∙ ap le (ap (take 4) (sym (drop-drop 16 (length before) b) ∙ ap (drop 16) moved) ∙ field-append_front 16 4 part behind (omega (arith, least)) ∙ head) ∙ is.size in
+    record {
+      least = least;
+      most = is.most;
+      size = size;
+      part_is = sym (ap (λ (n : ℕ). field n (length part) b) (sym at) ∙ ap (take (length part)) moved ∙ take_at part behind (length part) refl);
+      behind_header = omega (arith, at, low);
+      within = omega (arith, at, high);
+      first = first ∙ ap (λ (n : ℕ). up_to_8 (n + length part)) at;
+      is_ext = is;
+    }
+
+-- a place has one extended header at most
+pub one_has_ext : (x y : Option Extension) (e : Extent) (b : List ℕ) → 64 ≤ e.header_len → HasExt x e b → HasExt y e b → x ≡ y
+one_has_ext None None e b least first second = refl
+one_has_ext None (Some y) e b least first second = absurd (omega (arith, least, first.0, (placed y e b second).behind_header))
+one_has_ext (Some x) None e b least first second = absurd (omega (arith, least, second.0, (placed x e b first).behind_header))
+one_has_ext (Some x) (Some y) e b least first second =
+    let p = placed x e b first in
+    let q = placed y e b second in
+    let same : first.1 ≡ second.1 = p.part_is ∙ ap (λ (n : ℕ). field (ext_offset_at b) n b) (sym p.size ∙ q.size) ∙ sym q.part_is in
+    ap (λ (z : Extension). let A : Type 0 = Option Extension in let made : A = Some z in made) (one_ext x y second.1 (subst (IsExt x) same p.is_ext) q.is_ext)
+
+-- an extended header at its place
+pub make_has_ext : (x : Extension) (e : Extent) (b : List ℕ) (n : ℕ) → e.length ≤ length b → e.header_len ≤ ext_offset_at b → ext_offset_at b + n ≤ e.length
+    → e.first ≡ up_to_8 (ext_offset_at b + n) → IsExt x (field (ext_offset_at b) n b) → HasExt (Some x) e b
+make_has_ext x e b n whole low high first is =
+    let o : ℕ = ext_offset_at b in
+    let before : length (take o b) ≡ o = length-take-le o b (omega (arith, whole, high)) in
+    let long : length (field o n b) ≡ n = length-take-le n (drop o b) (omega (arith, length-drop o b, whole, high)) in
+    let text : b ≡ take o b ++ (field o n b ++ drop n (drop o b)) =
+    sym (take-append-drop o b) ∙ ap (λ (xs : List ℕ). take o b ++ xs) (sym (take-append-drop n (drop o b))) in (
+      take o b,
+      field o n b,
+      drop n (drop o b),
+      text,
+      before,
+      omega (arith, before, low),
+      omega (arith, before, long, high),
+      is,
+      first ∙ sym (ap (λ (k : ℕ). up_to_8 (k + length (field o n b))) before ∙ ap (λ (k : ℕ). up_to_8 (o + k)) long),
+    )
+
+-- the check of an extended header
+tests_of : (o n s len : ℕ) → (nat_le n o && nat_le (o + 20) len && nat_le 20 s && nat_le s 65535 && nat_le (o + s) len) ≡ true
+    → (n ≤ o) × ((o + 20 ≤ len) × ((20 ≤ s) × ((s ≤ 65535) × (o + s ≤ len))))
+tests_of o n s len h =
+    let one = and_split _ _ h in
+    let two = and_split _ _ one.0 in
+    let three = and_split _ _ two.0 in
+    let four = and_split _ _ three.0 in
+    (leb-true _ _ four.0, (leb-true _ _ four.1, (leb-true _ _ three.1, (leb-true _ _ two.1, leb-true _ _ one.1))))
+
+tests_hold : (o n s len : ℕ) → n ≤ o → o + 20 ≤ len → 20 ≤ s → s ≤ 65535 → o + s ≤ len → (nat_le n o && nat_le (o + 20) len && nat_le 20 s && nat_le s 65535 && nat_le (o + s) len) ≡ true
+tests_hold o n s len a b c d e =
+    and_join _ _ (and_join _ _ (and_join _ _ (and_join _ _ (le-leb _ _ a) (le-leb _ _ b)) (le-leb _ _ c)) (le-leb _ _ d)) (le-leb _ _ e)
+
+-- where the check holds, an extended header stands there, or there is none
+pub some_has_ext : (e : Extent) (b : List ℕ) → e.length ≤ length b → has_ext e.header_len e.length b ≡ true
+    → e.first ≡ (if ext_offset_at b == 0 then e.header_len else up_to_8 (ext_offset_at b + ext_size_at b)) → (x : Option Extension) × HasExt x e b
+some_has_ext e b whole holds first = go (ext_offset_at b == 0) refl holds first where
+  go : (t : Bool) → (ext_offset_at b == 0) ≡ t
+      → (t || (nat_le e.header_len (ext_offset_at b) && nat_le (ext_offset_at b + 20) e.length && nat_le 20 (ext_size_at b) && nat_le (ext_size_at b) 65535
+      && nat_le (ext_offset_at b + ext_size_at b) e.length)) ≡ true
+      → e.first ≡ (if t then e.header_len else up_to_8 (ext_offset_at b + ext_size_at b)) → (x : Option Extension) × HasExt x e b
+  go true is holds first = (None, (eqb-true _ _ is, first))
+  go false is holds first =
+      let o : ℕ = ext_offset_at b in
+      let n : ℕ = ext_size_at b in
+      let t = tests_of o e.header_len n e.length holds in
+      let part : List ℕ = field o n b in
+      let long : length part ≡ n = length-take-le n (drop o b) (omega (arith, length-drop o b, whole, t.1.1.1.1)) in
+      let size : le_at 16 4 part ≡ length part = inner o n b t.1.1.0 ∙ sym long in
+      let x = some_ext part (omega (arith, long, t.1.1.0)) (omega (arith, long, t.1.1.1.0)) size in
+      (Some x.0, make_has_ext x.0 e b n whole t.0 t.1.1.1.1 first x.1)
+    where
+      inner : (o n : ℕ) (b : List ℕ) → 20 ≤ n → le_at 16 4 (field o n b) ≡ le_at (o + 16) 4 b
+      inner o n b least = ap le (field-take 16 4 n (drop o b) (omega (arith, least)) ∙ ap (take 4) (drop-drop 16 o b))
+
+-- and where one stands, or none does, the check holds
+pub has_ext_holds : (x : Option Extension) (e : Extent) (b : List ℕ) → HasExt x e b → has_ext e.header_len e.length b ≡ true
+has_ext_holds None e b h = rw h.0 refl
+has_ext_holds (Some x) e b h =
+    let p = placed x e b h in
+    or_right (ext_offset_at b == 0) _ (rw p.size (tests_hold (ext_offset_at b) e.header_len (length h.1) e.length p.behind_header (omega (arith, p.least, p.within)) p.least p.most p.within))
+  where
+    or_right : (s t : Bool) → t ≡ true → (s || t) ≡ true
+    or_right true t is = refl
+    or_right false t is = is
+
+-- the first file stands where the header says
+pub has_ext_first : (x : Option Extension) (e : Extent) (b : List ℕ) → 64 ≤ e.header_len → HasExt x e b
+    → (if ext_offset_at b == 0 then e.header_len else up_to_8 (ext_offset_at b + ext_size_at b)) ≡ e.first
+has_ext_first None e b least h = rw h.0 (sym h.1)
+has_ext_first (Some x) e b least h =
+    let p = placed x e b h in
+    rw (not_zero (ext_offset_at b) (omega (arith, least, p.behind_header)), p.size) (sym p.first)
+  where
+    not_zero : (o : ℕ) → 0 < o → (o == 0) ≡ false
+    not_zero o some = grind (arith, nat_tests)
+
+-- it is a matter of the volume's own bytes
+pub ext_same : (x : Option Extension) (e : Extent) (b c : List ℕ) → 64 ≤ e.header_len → e.header_len ≤ e.length → HasExt x e b → e.length ≤ length c → take e.length c ≡ take e.length b
+    → HasExt x e c
+ext_same x e b c least within h long same = go x h where
+  offset : ext_offset_at c ≡ ext_offset_at b
+  offset = ap le (sym (field-take 52 2 e.length c (omega (arith, least, within))) ∙ ap (field 52 2) same ∙ field-take 52 2 e.length b (omega (arith, least, within)))
+
+  go : (x : Option Extension) → HasExt x e b → HasExt x e c
+  go None h = (offset ∙ h.0, h.1)
+  go (Some x) h =
+      let p = placed x e b h in
+      let n : ℕ = length h.1 in
+      let o : ℕ = ext_offset_at b in
+      let part : field (ext_offset_at c) n c ≡ h.1 =
+      ap (λ (k : ℕ). field k n c) offset ∙ sym (field-take o n e.length c p.within) ∙ ap (field o n) same ∙ field-take o n e.length b p.within ∙ sym p.part_is in
+      make_has_ext x e c n long (omega (arith, offset, p.behind_header)) (omega (arith, offset, p.within)) (p.first ∙ ap (λ (k : ℕ). up_to_8 (k + n)) (sym offset))
+      (subst (IsExt x) (sym part) p.is_ext)
+
+-- ---- reading
+
+-- one entry more is read
+pub more_entries : (items new : List (ℕ × List ℕ)) (e : ℕ × List ℕ) (bytes rest behind entry : List ℕ) (n : ℕ) → new ≡ items ++ (e ∷ []) → behind ≡ drop n rest → entry ≡ take n rest
+    → n ≡ le_at 0 2 rest → 4 ≤ n → n ≤ length rest → e.0 ≡ le_at 2 2 entry → e.1 ≡ held (le_at 2 2 entry) (drop 4 entry)
+    → ((es : List (ℕ × List ℕ)) (tail : List ℕ) → Entries es tail rest → Entries (items ++ es) tail bytes)
+    → (es : List (ℕ × List ℕ)) (tail : List ℕ) → Entries es tail behind → Entries (new ++ es) tail bytes
+more_entries items new e bytes rest behind entry n pushed back front size least within kind kept sofar es tail more =
+    let kind_is : e.0 ≡ le_at 2 2 rest = kind ∙ ap (le_at 2 2) front ∙ ap le (field-take 2 2 n rest (omega (arith, least))) in
+    let payload : drop 4 entry ≡ field 4 (n - 4) rest = ap (drop 4) front ∙ ap (λ (k : ℕ). drop 4 (take k rest)) (split n least) ∙ drop-take 4 (n - 4) rest in
+    let kept_is : e.1 ≡ held e.0 (field 4 (n - 4) rest) = kept ∙ ap (λ (k : ℕ). held k (drop 4 entry)) (sym kind) ∙ ap (held e.0) payload in
+    let one = entry_before rest n e es tail size least within kind_is kept_is (subst (Entries es tail) back more) in
+    let joined : items ++ (e ∷ es) ≡ new ++ es = sym (append_assoc items (e ∷ []) es) ∙ ap (λ (xs : List (ℕ × List ℕ)). xs ++ es) (sym pushed) in
+    subst (λ (xs : List (ℕ × List ℕ)). Entries xs tail bytes) joined (sofar (e ∷ es) tail one)
+  where
+    split : (n : ℕ) → 4 ≤ n → n ≡ 4 + (n - 4)
+    split n least = omega arith
+
+-- what is left begins no entry
+pub end_entries : (items : List (ℕ × List ℕ)) (bytes rest tail : List ℕ) → ((es : List (ℕ × List ℕ)) (end : List ℕ) → Entries es end rest → Entries (items ++ es) end bytes)
+    → BeginNone rest → tail ≡ rest → Entries items tail bytes
+end_entries items bytes rest tail sofar ended same =
+    subst (λ (xs : List (ℕ × List ℕ)). Entries xs tail bytes) (append-nil items) (sofar [] tail (sym same, ended))
+
+-- what is read behind the name and the size
+pub ext_from : (b : List ℕ) (g : Guid) (es : List (ℕ × List ℕ)) (tail : List ℕ) → 20 ≤ length b → length b ≤ 65535 → le_at 16 4 b ≡ length b → bytes_of g ≡ take 16 b
+    → Entries es tail (take (length b - 20) (drop 20 b)) → IsExt (record { name = g; entries = es; tail = tail }) b
+ext_from b g es tail least most size name entries =
+    ext_of b g es tail least most size name (subst (Entries es tail) (take_all (length b - 20) (drop 20 b) (omega (arith, length-drop 20 b))) entries)
+
+-- what a header with an ExtHeaderOffset has
+pub record Stands (e : Extent) (b : List ℕ) : Type 0 where
+  pub least : 20 ≤ ext_size_at b
+  pub most : ext_size_at b ≤ 65535
+  pub behind_header : e.header_len ≤ ext_offset_at b
+  pub within : ext_offset_at b + ext_size_at b ≤ e.length
+  pub size : le_at 16 4 (field (ext_offset_at b) (ext_size_at b) b) ≡ ext_size_at b
+  pub first : e.first ≡ up_to_8 (ext_offset_at b + ext_size_at b)
+
+pub stands : (x : Option Extension) (e : Extent) (b : List ℕ) → HasExt x e b → (ext_offset_at b ≡ 0 → ⊥) → Stands e b
+stands None e b h some = absurd (some h.0)
+stands (Some x) e b h some =
+    let p = placed x e b h in
+    let inner : le_at 16 4 (field (ext_offset_at b) (ext_size_at b) b) ≡ ext_size_at b =
+    ap le (field-take 16 4 (ext_size_at b) (drop (ext_offset_at b) b) (omega (arith, p.least, p.size)) ∙ ap (take 4) (drop-drop 16 (ext_offset_at b) b)) in
+    record {
+      least = omega (arith, p.least, p.size);
+      most = omega (arith, p.most, p.size);
+      behind_header = p.behind_header;
+      within = omega (arith, p.within, p.size);
+      size = inner;
+      first = p.first ∙ ap (λ (n : ℕ). up_to_8 (ext_offset_at b + n)) (sym p.size);
+    }
+
+-- an extended header that is read there
+pub read_there : (x : Extension) (e : Extent) (b part : List ℕ) → Stands e b → e.length ≤ length b → part ≡ field (ext_offset_at b) (ext_size_at b) b → IsExt x part → HasExt (Some x) e b
+read_there x e b part s whole is read =
+    make_has_ext x e b (ext_size_at b) whole s.behind_header s.within s.first (subst (IsExt x) is read)

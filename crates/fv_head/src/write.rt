@@ -1,0 +1,55 @@
+//! Headers, written to a port.
+
+ghost use Rattle.std.specs.Prelude.{◌≡◌, ℕ, List, IfErr, OnErr, OnOk, true};
+ghost use Rattle.std.specs.Io.KnownBytes.{Appends};
+ghost use Rattle.fv_base.specs.Output.{WriteStops};
+ghost use Rattle.fv_base.specs.Port.{inner_of, has_erred};
+ghost use Rattle.fv_head.specs.Head.{IsCanonicalHead};
+ghost use Rattle.fv_head.specs.SpelledExt.{ext_spelled};
+
+use crate::ext::ExtHeader;
+use crate::head::VolumeHead;
+use crate::spell::put_head;
+use crate::spell_ext::put_ext;
+use fv_base::{Fault, Port, WriteSink};
+use std::io::Write;
+
+/// Writes the head of the canonical image, as `head_bytes` gives it. Takes no memory.
+///
+/// # Errors
+///
+/// WriteFault at the bytes written in this call, where a write fails or takes no byte: exactly
+/// these bytes of the head were written then.
+pub fn write_head<W: Write>(head: &VolumeHead, writer: &mut Port<W>) -> Result<(), Fault>
+    ensures ok { OnOk result ((bytes : List ℕ) × IsCanonicalHead head.now bytes × Appends (W.contents (inner_of writer.old)) (W.contents (inner_of writer.new)) bytes) }
+    ensures err { IfErr result (λ f. (bytes : List ℕ) × IsCanonicalHead head.now bytes × WriteStops (W.contents (inner_of writer.old)) (W.contents (inner_of writer.new)) bytes f) }
+    ensures erred { OnErr result (has_erred writer.new ≡ true) }
+{
+    let mut out = WriteSink {
+        port: writer,
+        on: true,
+        count: 0,
+    };
+    put_head(&mut out, head);
+    if out.on { Ok(()) } else { Err(out.fault()) }
+}
+
+/// Writes an extended header with each used size as it is handed, as `ext_bytes` gives it. Takes
+/// no memory.
+///
+/// # Errors
+///
+/// WriteFault, as `write_head`.
+pub fn write_ext<W: Write>(ext: &ExtHeader, used: u32, writer: &mut Port<W>) -> Result<(), Fault>
+    ensures ok { OnOk result (Appends (W.contents (inner_of writer.old)) (W.contents (inner_of writer.new)) (ext_spelled ext.now used)) }
+    ensures err { IfErr result (WriteStops (W.contents (inner_of writer.old)) (W.contents (inner_of writer.new)) (ext_spelled ext.now used)) }
+    ensures erred { OnErr result (has_erred writer.new ≡ true) }
+{
+    let mut out = WriteSink {
+        port: writer,
+        on: true,
+        count: 0,
+    };
+    put_ext(&mut out, ext, used);
+    if out.on { Ok(()) } else { Err(out.fault()) }
+}
