@@ -1,7 +1,7 @@
 -- Checks in their order.
-use Rattle.std.proofs.Common.{◌≡◌, List, [], ◌∷◌, ◌++◌, refl, ap, ◌∙◌, append_assoc, Bool, true, false}
-use Rattle.std.specs.Prelude.{◌&&◌, None, Some, if◌then◌else◌}
-use Rattle.fv_base.specs.Checks.{Check, first_fault, AllHold, IsFirstFault}
+use Rattle.std.proofs.Common.{◌≡◌, List, [], ◌∷◌, ◌++◌, refl, ap, ◌∙◌, append_assoc, subst, Bool, true, false}
+use Rattle.std.specs.Prelude.{◌&&◌, Option, None, Some, Result, Ok, Err, if◌then◌else◌}
+use Rattle.fv_base.specs.Checks.{Check, first_fault, verdict_by, AllHold, IsFirstFault}
 use Rattle.fv_base.specs.Faults.{outer_fault}
 use Rattle.fv_base.specs.declared.fault.Fault.{Fault}
 
@@ -46,3 +46,31 @@ first_behind [] ds f all first = first
 first_behind (c ∷ cs) ds f all first =
     let r = first_behind cs ds f all.1 first in
     (c ∷ r.0, r.1, r.2, ap (λ (es : List Check). c ∷ es) r.3, (all.0, r.4), r.5, r.6)
+
+-- a check in a table all of whose checks hold
+holds_at : (before : List Check) (c : Check) (after : List Check) → AllHold (before ++ c ∷ after) → c.holds ≡ true
+holds_at [] c after h = h.0
+holds_at (d ∷ ds) c after h = holds_at ds c after h.1
+
+-- where there is no first fault, none is it
+pub not_first : (cs : List Check) (f : Fault) → IsFirstFault cs f → first_fault cs ≡ None → ⊥
+not_first cs f split none =
+    let all = subst (λ (l : List Check). AllHold l) split.3 (all_hold cs none) in
+    never (split.1).holds (holds_at split.0 split.1 split.2 all) split.5
+  where
+    never : (b : Bool) → b ≡ true → b ≡ false → ⊥
+    never b t n = cc
+
+-- ---- a fault, or else the value
+
+pub verdict_ok : {A : Type 0} → (o : Option Fault) (a b : A) → verdict_by o a ≡ Ok b → (o ≡ None) × (a ≡ b)
+verdict_ok None a b e = (refl, cc)
+verdict_ok (Some f) a b e = cc
+
+pub verdict_err : {A : Type 0} → (o : Option Fault) (a : A) (f : Fault) → verdict_by o a ≡ Err f → o ≡ Some f
+verdict_err None a f e = cc
+verdict_err (Some g) a f e = cc
+
+pub verdict_none : {A : Type 0} → (o : Option Fault) (a : A) → o ≡ None → verdict_by o a ≡ Ok a
+verdict_none None a e = refl
+verdict_none (Some f) a e = cc

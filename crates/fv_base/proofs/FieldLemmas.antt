@@ -1,6 +1,7 @@
 -- Fields of bytes, and the numbers that they spell.
-use Rattle.std.proofs.Common.{◌≡◌, ◌≤◌, ◌<◌, ◌+◌, ◌-◌, ◌*◌, ◌/◌, ◌%◌, ℕ, zero, suc, List, [], ◌∷◌, ◌++◌, length, take, drop, refl, sym, ap, ◌∙◌, subst, arith, length-drop}
+use Rattle.std.proofs.Common.{◌≡◌, ◌≤◌, ◌<◌, ◌+◌, ◌-◌, ◌*◌, ◌/◌, ◌%◌, ◌^◌, ℕ, zero, suc, List, [], ◌∷◌, ◌++◌, length, take, drop, refl, sym, ap, ◌∙◌, subst, arith, length-drop}
 use Rattle.std.specs.Prelude.{slice_index}
+use Rattle.std.proofs.Math.Nat.{pow-suc}
 use Rattle.std.proofs.Math.Seq.{drop-append-add}
 use Rattle.std.proofs.lemmas.List.{drop-take, length-take-le, take-append-le, drop-append-le}
 use Rattle.fv_base.specs.Value.{IsBytes, le, le_bytes, field}
@@ -78,11 +79,19 @@ pub bytes_le_bytes : (k n : ℕ) → IsBytes (le_bytes k n)
 bytes_le_bytes zero n = none_at
 bytes_le_bytes (suc k) n = bytes_cons (n % 256) (le_bytes k (n / 256)) (low_byte n) (bytes_le_bytes k (n / 256))
 
--- a number of two bytes
-pub le-le_bytes_2 : (n : ℕ) → n < 65536 → le (le_bytes 2 n) ≡ n
-le-le_bytes_2 n small = two n small where
-  two : (n : ℕ) → n < 65536 → n % 256 + 256 * (n / 256 % 256 + 256 * 0) ≡ n
-  two n small = omega arith
+-- a number that so many bytes have room for is spelled by them
+pub le-le_bytes : (k n : ℕ) → n < 256 ^ k → le (le_bytes k n) ≡ n
+le-le_bytes zero n small = nothing n small where
+  nothing : (n : ℕ) → n < 1 → 0 ≡ n
+  nothing n small = omega arith
+le-le_bytes (suc k) n small =
+    ap (λ (m : ℕ). n % 256 + 256 * m) (le-le_bytes k (n / 256) (higher (256 ^ k) (256 ^ suc k) n (pow-suc 256 k) small)) ∙ whole n
+  where
+    higher : (p q n : ℕ) → q ≡ p * 256 → n < q → n / 256 < p
+    higher p q n is small = omega arith
+
+    whole : (n : ℕ) → n % 256 + 256 * (n / 256) ≡ n
+    whole n = omega arith
 
 -- a field within the first part of a join
 pub field-append_front : (i n : ℕ) (p q : List ℕ) → i + n ≤ length p → field i n (p ++ q) ≡ field i n p

@@ -6,3 +6,4 @@ pub mod KeptLemmas
 pub mod Pieces
 pub mod Runs
 pub mod SumLemmas
+pub mod TestLemmas

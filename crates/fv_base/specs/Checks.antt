@@ -1,5 +1,5 @@
 -- Checks in their order, and the first that does not hold.
-use Rattle.std.specs.Prelude.{ℕ, Bool, true, false, if◌then◌else◌, List, [], ◌∷◌, ◌++◌, ◌≡◌, Option, None, Some}
+use Rattle.std.specs.Prelude.{ℕ, Bool, true, false, if◌then◌else◌, List, [], ◌∷◌, ◌++◌, ◌≡◌, Option, None, Some, Result, Ok, Err}
 use Rattle.std.specs.List.{AllByRecursion}
 use Rattle.fv_base.specs.Faults.{outer_fault}
 use Rattle.fv_base.specs.declared.fault.Fault.{Fault}
@@ -18,6 +18,11 @@ check holds kind offset = record { holds = holds; kind = kind; offset = offset }
 abbrev pub first_fault : List Check → Option Fault
 first_fault [] = None
 first_fault (c ∷ cs) = if c.holds then first_fault cs else Some (outer_fault c.kind c.offset)
+
+-- a fault, or else the value
+abbrev pub verdict_by : {A : Type 0} → Option Fault → A → Result A Fault
+verdict_by None a = Ok a
+verdict_by (Some f) a = Err f
 
 -- every check holds
 abbrev pub AllHold : List Check → Type 0

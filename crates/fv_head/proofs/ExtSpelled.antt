@@ -5,7 +5,7 @@ use Rattle.std.proofs.lemmas.List.{drop_at, drop_more, drop_all}
 use Rattle.std.proofs.lemmas.Bool.{eqb-true}
 use Rattle.fv_base.specs.Guids.{bytes_of}
 use Rattle.fv_base.specs.Value.{IsBytes, le, le_bytes, field, le_at}
-use Rattle.fv_base.proofs.FieldLemmas.{bytes_drop, le-le_bytes_2}
+use Rattle.fv_base.proofs.FieldLemmas.{bytes_drop, le-le_bytes}
 use Rattle.fv_head.specs.Ext.{Extension, held, no_size, is_used_size, BeginNone, Entries, IsExt, IsReadExt}
 use Rattle.fv_head.specs.SpelledExt.{payload_with, entry_bytes, entries_bytes, entries_len, ext_len, ext_spelled}
 use Rattle.fv_head.proofs.ExtLemmas.{begins}
@@ -90,8 +90,8 @@ entries_again (e ∷ es) tail b used small most (head, payload, rest, text, four
       behind,
       joined,
       refl,
-      le-le_bytes_2 n size_small ∙ ap (λ (k : ℕ). 4 + k) (sym long),
-      le-le_bytes_2 e.0 kind_small,
+      le-le_bytes 2 n size_small ∙ ap (λ (k : ℕ). 4 + k) (sym long),
+      le-le_bytes 2 e.0 kind_small,
       held-payload_with used e payload kept,
       others,
     )

@@ -5,7 +5,7 @@ use Rattle.std.proofs.Math.Seq.{take-add}
 use Rattle.std.proofs.lemmas.List.{take-append-drop, take_at, drop_at, drop_more, get_or-drop, length-take-le}
 use Rattle.fv_base.specs.Sums.{words_of, sum16_of}
 use Rattle.fv_base.specs.Value.{IsBytes, le, le_bytes, field, le_at, up_to_8}
-use Rattle.fv_base.proofs.FieldLemmas.{bytes_take, bytes_drop, bytes_append, bytes_le_bytes, le_bytes-le, field_is, field-append_front, drop-append_behind, le-le_bytes_2, length-le_bytes, field-take}
+use Rattle.fv_base.proofs.FieldLemmas.{bytes_take, bytes_drop, bytes_append, bytes_le_bytes, le_bytes-le, field_is, field-append_front, drop-append_behind, le-le_bytes, length-le_bytes, field-take}
 use Rattle.std.proofs.lemmas.List.Sums.{sum_by-cons}
 use Rattle.fv_base.proofs.SumLemmas.{sum-words_of-append}
 use Rattle.fv_head.specs.Ext.{Extension}
@@ -180,7 +180,7 @@ patched_offset b checksum offset small long =
     let first : drop 52 (take 50 b ++ (le_bytes 2 checksum ++ rest)) ≡ drop 2 (le_bytes 2 checksum ++ rest) =
     drop-append_behind 52 (take 50 b) (le_bytes 2 checksum ++ rest) (omega (arith, fifty)) ∙ ap (λ (n : ℕ). drop (52 - n) (le_bytes 2 checksum ++ rest)) fifty in
     let second : drop 2 (le_bytes 2 checksum ++ rest) ≡ rest = drop_at (le_bytes 2 checksum) rest 2 refl in
-    ap (λ (xs : List ℕ). le (take 2 xs)) (first ∙ second) ∙ ap le (take_at (le_bytes 2 offset) (drop 54 b) 2 refl) ∙ le-le_bytes_2 offset small
+    ap (λ (xs : List ℕ). le (take 2 xs)) (first ∙ second) ∙ ap le (take_at (le_bytes 2 offset) (drop 54 b) 2 refl) ∙ le-le_bytes 2 offset small
 
 length-patched : (b : List ℕ) (checksum offset : ℕ) → 54 ≤ length b → length (patched b checksum offset) ≡ length b
 unfolding patched
@@ -239,7 +239,7 @@ sum_patched b checksum offset small long =
     let none = sum-words_of-append (take 50 b) (le_bytes 2 0 ++ rest) (omega (arith, fifty)) in
     let word = sum_by-cons (λ (x : ℕ). x) (le (le_bytes 2 checksum)) (words_of rest) in
     let zero_word = sum_by-cons (λ (x : ℕ). x) (le (le_bytes 2 0)) (words_of rest) in
-    let value = le-le_bytes_2 checksum small in
+    let value = le-le_bytes 2 checksum small in
     go (sum (words_of (take 50 b))) (sum (words_of rest)) (le (le_bytes 2 checksum)) checksum _ _ _ _ this none word zero_word value
   where
     go : (p r w c t n x y : ℕ) → t ≡ p + x → n ≡ p + y → x ≡ w + r → y ≡ 0 + r → w ≡ c → t ≡ n + c

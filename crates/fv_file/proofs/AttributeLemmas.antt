@@ -1,0 +1,36 @@
+-- Single bits of a file's attributes.
+use Rattle.std.proofs.Common.{◌≡◌, ◌<◌, ℕ, zero, suc, ◌+◌, ◌*◌, ◌/◌, ◌%◌, bit_and, bit_or, refl, ap, ◌∙◌, arith, true, false}
+use Rattle.std.specs.Prelude.{◌==◌}
+use Rattle.std.specs.Int.{bit_at}
+use Rattle.std.proofs.lemmas.Bool.Decides.{nat_tests}
+use Rattle.std.proofs.lemmas.Nat.{and_mask, or_disjoint}
+use Rattle.std.proofs.lemmas.Nat.Bits.{and_pow, bit_at-lt}
+use Rattle.fv_file.specs.Attributes.{is_large}
+
+-- a mask of one bit tells that bit
+pub bit_2 : (a : ℕ) → (bit_and a 4 == 4) ≡ (a / 4 % 2 == 1)
+bit_2 a = ap (λ n. n == 4) (and_pow a 2) ∙ go (bit_at a 2) (bit_at-lt a 2) where
+  go : (b : ℕ) → b < 2 → (b * 4 == 4) ≡ (b == 1)
+  go zero l = refl
+  go (suc zero) l = refl
+  go (suc (suc b)) l = absurd (omega arith)
+
+pub bit_6 : (a : ℕ) → (bit_and a 64 == 64) ≡ (a / 64 % 2 == 1)
+bit_6 a = ap (λ n. n == 64) (and_pow a 6) ∙ go (bit_at a 6) (bit_at-lt a 6) where
+  go : (b : ℕ) → b < 2 → (b * 64 == 64) ≡ (b == 1)
+  go zero l = refl
+  go (suc zero) l = refl
+  go (suc (suc b)) l = absurd (omega arith)
+
+-- without the large bit a number is even
+small_even : (n : ℕ) → is_large n ≡ false → n % 2 ≡ 0
+small_even n small = grind (arith, nat_tests)
+
+-- setting the large bit adds 1
+pub large_set : (a b : ℕ) → is_large a ≡ false → b ≡ bit_or a 1 → b ≡ a + 1
+large_set a b small set = set ∙ or_disjoint a 1 (and_mask a 1 ∙ small_even a small)
+
+pub set_large : (n : ℕ) → is_large n ≡ false → is_large (n + 1) ≡ true
+set_large n small = odd n (small_even n small) where
+  odd : (n : ℕ) → n % 2 ≡ 0 → is_large (n + 1) ≡ true
+  odd n even = grind (arith, nat_tests)

@@ -1,0 +1,9 @@
+pub mod AttributeLemmas
+pub mod BodyLemmas
+pub mod CellLemmas
+pub mod ErasedEnds
+pub mod FileLemmas
+pub mod StateLemmas
+pub mod TilingLemmas
+pub mod VerifyLemmas
+pub mod WrittenLemmas

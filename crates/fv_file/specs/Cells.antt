@@ -1,0 +1,87 @@
+-- The cells of a volume's body (PI specification, volume 3, sections 3.2.2 and 3.2.3).
+use Rattle.std.specs.Prelude.{◌≡◌, ℕ, ◌+◌, ◌%◌, ◌<◌, ◌≤◌, ◌⊎◌, Bool, true, false, List, [], ◌∷◌, ◌++◌, length, slice_index}
+use Rattle.fv_base.specs.Erased.{AllAre}
+use Rattle.fv_base.specs.Flash.{erased_byte}
+use Rattle.fv_base.specs.Value.{up_to_8}
+use Rattle.fv_base.specs.declared.flash.FileSystem.{FileSystem}
+use Rattle.fv_base.specs.declared.flash.Polarity.{Polarity}
+use Rattle.fv_file.specs.Attributes.{is_large}
+use Rattle.fv_file.specs.Files.{header_len_of, pad_kind, IsFile, IsSound}
+use Rattle.fv_file.specs.States.{StateOf, is_alive}
+use Rattle.fv_file.specs.declared.head.FileHead.{FileHead}
+use Rattle.fv_file.specs.declared.state.FileState.TheVariants as states
+
+-- a cell: where it begins, in bytes from the volume's start, and a file's or pad's header and data, or how many bytes it has
+pub data CellForm : Type 0 where
+  Valid : ℕ → FileHead → List ℕ → CellForm
+  Pad : ℕ → FileHead → List ℕ → CellForm
+  Dead : ℕ → ℕ → CellForm
+  Stub : ℕ → ℕ → CellForm
+  Free : ℕ → ℕ → CellForm
+
+-- where a cell begins
+abbrev pub offset_of : CellForm → ℕ
+offset_of (Valid at head payload) = at
+offset_of (Pad at head payload) = at
+offset_of (Dead at len) = at
+offset_of (Stub at len) = at
+offset_of (Free at len) = at
+
+-- how many bytes a cell has, filler counted
+abbrev pub span : CellForm → ℕ
+span (Valid at head payload) = up_to_8 head.size
+span (Pad at head payload) = up_to_8 head.size
+span (Dead at len) = len
+span (Stub at len) = len
+span (Free at len) = len
+
+abbrev pub is_free : CellForm → Bool
+is_free (Free at len) = true
+is_free _ = false
+
+-- a file, and then any bytes to the next multiple of 8
+pub record IsFilled (system : FileSystem) (polarity : Polarity) (head : FileHead) (payload b : List ℕ) : Type 0 where
+  pub file : List ℕ
+  pub filler : List ℕ
+  pub text : b ≡ file ++ filler
+  pub is_file : IsFile system polarity head payload file
+  pub short : length filler < 8
+  pub multiple : length b % 8 ≡ 0
+
+-- the bytes are this cell: a file that stands, a pad, a file that is not there any more or not yet, a header that was never
+-- finished, or erased bytes
+abbrev pub IsCell : FileSystem → Polarity → CellForm → List ℕ → Type 0
+IsCell system polarity (Valid at head payload) b =
+    IsFilled system polarity head payload b × (is_alive head.state ≡ true) × IsSound head payload
+IsCell system polarity (Pad at head payload) b =
+    IsFilled system polarity head payload b × (is_alive head.state ≡ true) × (head.kind ≡ pad_kind)
+IsCell system polarity (Dead at len) b =
+    (head : FileHead) × (payload : List ℕ) × IsFilled system polarity head payload b
+    × ((head.state ≡ states.HeaderValid) ⊎ (head.state ≡ states.Deleted)) × (len ≡ length b)
+IsCell system polarity (Stub at len) b =
+    (StateOf (slice_index b 23) polarity states.Construction ⊎ StateOf (slice_index b 23) polarity states.HeaderInvalid)
+    × (length b ≡ header_len_of (is_large (slice_index b 19))) × (len ≡ length b)
+IsCell system polarity (Free at len) b = (0 < len) × AllAre (erased_byte polarity) b × (len ≡ length b)
+
+-- the bytes are these cells, joined, the first of them at the place `at`; a free one stands last only
+abbrev pub Tiles : FileSystem → Polarity → ℕ → List CellForm → List ℕ → Type 0
+Tiles system polarity at [] b = b ≡ []
+Tiles system polarity at (c ∷ cs) b =
+    (x : List ℕ) × (rest : List ℕ) × (b ≡ x ++ rest) × IsCell system polarity c x × (offset_of c ≡ at)
+    × (is_free c ≡ true → cs ≡ []) × Tiles system polarity (at + length x) cs rest
+
+-- none of the cells is free
+abbrev pub NoneFree : List CellForm → Type 0
+NoneFree [] = Unit {0}
+NoneFree (c ∷ cs) = (is_free c ≡ false) × NoneFree cs
+
+-- a file's header and data make up its size
+abbrev pub IsMadeUp : CellForm → Type 0
+IsMadeUp (Valid at head payload) = head.header_len + length payload ≡ head.size
+IsMadeUp (Pad at head payload) = head.header_len + length payload ≡ head.size
+IsMadeUp _ = Unit {0}
+
+-- each cell ends within so many bytes from the volume's start
+abbrev pub AllWithin : ℕ → List CellForm → Type 0
+AllWithin end [] = Unit {0}
+AllWithin end (c ∷ cs) = (offset_of c + span c ≤ end) × IsMadeUp c × AllWithin end cs

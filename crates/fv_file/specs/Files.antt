@@ -1,0 +1,77 @@
+-- Files and their headers (PI specification, volume 3, section 3.2.3.1, EFI_FFS_FILE_HEADER and EFI_FFS_FILE_HEADER2).
+use Rattle.std.specs.Prelude.{◌≡◌, ◌≢◌, ℕ, ◌+◌, ◌%◌, ◌==◌, ◌⊎◌, Bool, true, false, if◌then◌else◌, List, ◌++◌, length, take, drop, slice_index, sum}
+use Rattle.fv_base.specs.Value.{le_at, field}
+use Rattle.fv_base.specs.declared.flash.FileSystem.{FileSystem}
+use Rattle.fv_base.specs.declared.flash.FileSystem.TheVariants.{Ffs3}
+use Rattle.fv_base.specs.declared.flash.Polarity.{Polarity}
+use Rattle.fv_file.specs.Attributes.{attribute_bits, is_large, is_fixed, is_summed}
+use Rattle.fv_file.specs.States.{StateOf, is_alive}
+use Rattle.fv_file.specs.declared.head.FileHead.{FileHead}
+use Rattle.fv_file.specs.declared.state.FileState.{FileState}
+
+-- the type of a pad file (section 3.2.3.1, EFI_FV_FILETYPE_FFS_PAD)
+abbrev pub pad_kind : ℕ
+pad_kind = 0xf0
+
+-- the bytes of a short and of a large header
+abbrev pub header_len_of : Bool → ℕ
+header_len_of false = 24
+header_len_of true = 32
+
+-- where a short and a large header say the size
+abbrev pub size_in : Bool → List ℕ → ℕ
+size_in false b = le_at 20 3 b
+size_in true b = le_at 24 8 b
+
+-- the fields of the header that begins b, by their places
+abbrev pub head_in : FileState → List ℕ → FileHead
+head_in state b = record {
+  name = record { bytes = take 16 b };
+  header_sum = slice_index b 16;
+  file_sum = slice_index b 17;
+  kind = slice_index b 18;
+  attributes = record { 0 = slice_index b 19 };
+  size = size_in (is_large (slice_index b 19)) b;
+  header_len = header_len_of (is_large (slice_index b 19));
+  state = state;
+}
+
+-- the sum of a header, with the file sum at 17 and State at 23 taken as zero
+abbrev pub header_sum_of : List ℕ → ℕ
+header_sum_of h = (sum (take 17 h) + sum (field 18 5 h) + sum (drop 24 h)) % 256
+
+-- with the checksum attribute, data and file sum sum to zero; else the file sum is AA
+abbrev pub file_sum_right : ℕ → ℕ → List ℕ → Bool
+file_sum_right attributes file_sum payload =
+    if is_summed attributes then (sum payload + file_sum) % 256 == 0 else file_sum == 0xaa
+
+-- the bytes h are the header of these fields; a large one stands in FFS3 alone, and its Size is zero
+pub record IsHeader (system : FileSystem) (polarity : Polarity) (head : FileHead) (h : List ℕ) : Type 0 where
+  pub whole : length h ≡ header_len_of (is_large (slice_index h 19))
+  pub fields : head ≡ head_in head.state h
+  pub state : StateOf (slice_index h 23) polarity head.state
+  pub large : is_large (slice_index h 19) ≡ true → (system ≡ Ffs3) × (le_at 20 3 h ≡ 0)
+  pub sum : header_sum_of h ≡ 0
+
+-- the bytes are a header and its data
+pub record IsFile (system : FileSystem) (polarity : Polarity) (head : FileHead) (payload b : List ℕ) : Type 0 where
+  pub header : List ℕ
+  pub text : b ≡ header ++ payload
+  pub is_header : IsHeader system polarity head header
+  pub size : head.size ≡ length b
+
+-- no pad, not fixed, and the file sum is right
+pub record IsSound (head : FileHead) (payload : List ℕ) : Type 0 where
+  pub kind : head.kind ≢ pad_kind
+  pub moves : is_fixed (attribute_bits head.attributes) ≡ false
+  pub file_sum : file_sum_right (attribute_bits head.attributes) head.file_sum payload ≡ true
+
+-- the bytes begin with a file that stands, or with a pad
+pub record BeginsFile (system : FileSystem) (polarity : Polarity) (head : FileHead) (b : List ℕ) : Type 0 where
+  pub file : List ℕ
+  pub payload : List ℕ
+  pub behind : List ℕ
+  pub text : b ≡ file ++ behind
+  pub is_file : IsFile system polarity head payload file
+  pub alive : is_alive head.state ≡ true
+  pub content : (head.kind ≡ pad_kind) ⊎ IsSound head payload

@@ -1,0 +1,9 @@
+pub mod Attributes
+pub mod Cells
+pub mod FileChecks
+pub mod Files
+pub mod Reading
+pub mod Seen
+pub mod Spelled
+pub mod States
+pub mod Written

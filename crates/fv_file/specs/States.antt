@@ -1,0 +1,45 @@
+-- The state that a file's State byte shows (PI specification, volume 3, section 3.2.3.1, EFI_FFS_FILE_STATE).
+use Rattle.std.specs.Prelude.{◌≡◌, ℕ, ◌-◌, ◌≤◌, ◌<◌, Bool, true, false, ◌==◌, nat_lt, if◌then◌else◌, Option, Some, None}
+use Rattle.fv_base.specs.declared.flash.Polarity.{Polarity}
+use Rattle.fv_base.specs.declared.flash.Polarity.TheVariants.{Ones, Zeros}
+use Rattle.fv_file.specs.declared.state.FileState.{FileState}
+use Rattle.fv_file.specs.declared.state.FileState.TheVariants as states
+
+-- the bits of a State byte: those that were written since the byte was erased
+abbrev pub bits_of : Polarity → ℕ → ℕ
+bits_of Ones byte = 255 - byte
+bits_of Zeros byte = byte
+
+-- the highest bit of n that is set is the state's
+abbrev pub IsHighest : FileState → ℕ → Type 0
+IsHighest states.Free n = n ≡ 0
+IsHighest states.Construction n = n ≡ 0x01
+IsHighest states.HeaderValid n = (0x02 ≤ n) × (n < 0x04)
+IsHighest states.DataValid n = (0x04 ≤ n) × (n < 0x08)
+IsHighest states.Marked n = (0x08 ≤ n) × (n < 0x10)
+IsHighest states.Deleted n = (0x10 ≤ n) × (n < 0x20)
+IsHighest states.HeaderInvalid n = (0x20 ≤ n) × (n < 0x40)
+
+-- the byte shows the state
+abbrev pub StateOf : ℕ → Polarity → FileState → Type 0
+StateOf byte polarity state = IsHighest state (bits_of polarity byte)
+
+-- the state of the highest bit that is set, if there is one of it
+abbrev pub state_in : ℕ → Option FileState
+state_in n =
+    if n == 0 then Some states.Free
+    else (if nat_lt n 0x02 then Some states.Construction
+    else (if nat_lt n 0x04 then Some states.HeaderValid
+    else (if nat_lt n 0x08 then Some states.DataValid
+    else (if nat_lt n 0x10 then Some states.Marked
+    else (if nat_lt n 0x20 then Some states.Deleted
+    else (if nat_lt n 0x40 then Some states.HeaderInvalid else None))))))
+
+unfoldable pub state_of : Polarity → ℕ → Option FileState
+state_of polarity byte = state_in (bits_of polarity byte)
+
+-- the state of a file that stands: its data are valid, marked for update or not
+abbrev pub is_alive : FileState → Bool
+is_alive states.DataValid = true
+is_alive states.Marked = true
+is_alive _ = false

@@ -1,0 +1,67 @@
+//! The attribute bits of a file.
+
+ghost use Rattle.std.specs.Prelude.{⊤, ◌≡◌, [], ◌∷◌, codes};
+ghost use Rattle.fv_file.specs.Attributes.{is_large, is_fixed, is_summed};
+
+use bitflags::{Flag, Flags, bitflag_items};
+
+/// A file's attribute bits, all eight of them as they were found. (PI specification, volume 3,
+/// section 3.2.3.1, `FFS_ATTRIB_LARGE_FILE` and the others.)
+#[derive(Clone, Copy, PartialEq, Eq, Debug)]
+pub struct FileAttributes(u8);
+
+bitflag_items! {
+    impl FileAttributes: u8 {
+        const LARGE_FILE = 0x01;
+        const DATA_ALIGNMENT_2 = 0x02;
+        const FIXED = 0x04;
+        const DATA_ALIGNMENT = 0x38;
+        const CHECKSUM = 0x40;
+    }
+}
+
+impl Flags for FileAttributes {
+    type Bits = u8;
+
+    ghost exact = { ⊤ };
+
+    ghost table = { (codes "LARGE_FILE", 1) ∷ (codes "DATA_ALIGNMENT_2", 2) ∷ (codes "FIXED", 4) ∷ (codes "DATA_ALIGNMENT", 56)
+        ∷ (codes "CHECKSUM", 64) ∷ [] };
+
+    ghost set_of = { λ a. a.0 };
+
+    fn flags<'a>() -> &'a [Flag<FileAttributes>] {
+        FileAttributes::FLAGS
+    }
+
+    fn bits(&self) -> u8 {
+        self.0
+    }
+
+    fn from_bits_retain(bits: u8) -> FileAttributes {
+        FileAttributes(bits)
+    }
+}
+
+impl FileAttributes {
+    /// Whether the header has 32 bytes, by bit 01.
+    pub fn is_large(self) -> bool
+        ensures { result ≡ is_large self.0 }
+    {
+        self.contains(FileAttributes::LARGE_FILE)
+    }
+
+    /// Whether the file may not be moved, by bit 04.
+    pub fn is_fixed(self) -> bool
+        ensures { result ≡ is_fixed self.0 }
+    {
+        self.contains(FileAttributes::FIXED)
+    }
+
+    /// Whether the file sum is over the data, by bit 40.
+    pub fn is_summed(self) -> bool
+        ensures { result ≡ is_summed self.0 }
+    {
+        self.contains(FileAttributes::CHECKSUM)
+    }
+}

@@ -1,0 +1,213 @@
+//! The header of a file.
+
+ghost use Rattle.std.specs.Prelude.{◌≡◌, ◌==◌, ◌+◌, ◌≤◌, ◌<◌, ◌^◌, length, take, IfOk, IfErr};
+ghost use Rattle.fv_base.specs.Checks.{first_fault, verdict_by};
+ghost use Rattle.fv_base.specs.Value.{le_at};
+ghost use Rattle.fv_file.specs.Attributes.{attribute_bits};
+ghost use Rattle.fv_file.specs.FileChecks.{attributes_at, header_len_at, size_at, may_be_large, has_header_sum, has_size, is_passed, has_file_sum, file_checks};
+ghost use Rattle.fv_file.specs.Files.{head_in, header_sum_of, file_sum_right};
+ghost use Rattle.fv_file.specs.Reading.{file_verdict};
+ghost use Rattle.fv_file.specs.States.{is_alive};
+
+use crate::attributes::FileAttributes;
+use crate::state::FileState;
+use bitflags::Flags;
+use byteorder::{ByteOrder, LittleEndian};
+use fv_base::field::field;
+use fv_base::{Fault, FaultKind, FileSystem, Guid, check, sum8};
+
+/// The type of a pad file.
+pub(crate) const PAD: u8 = 0xf0;
+
+/// The file sum of a file whose data are not summed.
+pub(crate) const NO_SUM: u8 = 0xaa;
+
+/// The header of a file, as it was found. (PI specification, volume 3, section 3.2.3.1,
+/// `EFI_FFS_FILE_HEADER` and `EFI_FFS_FILE_HEADER2`.)
+#[derive(Clone, Copy, Debug, PartialEq, Eq)]
+pub struct FileHead {
+    /// The name.
+    pub name: Guid,
+    /// The type, F0 for a pad.
+    pub kind: u8,
+    /// The attribute bits.
+    pub attributes: FileAttributes,
+    /// The bytes of the file, its header counted.
+    pub size: u64,
+    /// The bytes of the header, 24 or 32.
+    pub header_len: u64,
+    /// What makes the header's bytes sum to zero.
+    pub header_sum: u8,
+    /// What makes the data sum to zero, or AA.
+    pub file_sum: u8,
+    /// How far the file has come.
+    pub state: FileState,
+}
+
+/// The attribute bits in the header that the bytes begin with.
+fn attributes_of(rest: &[u8]) -> FileAttributes
+    requires least { 24 ≤ length rest.now }
+    ensures { attribute_bits result ≡ attributes_at rest.now }
+{
+    FileAttributes::from_bits_retain(rest[19])
+}
+
+/// How many bytes the header has that the bytes begin with.
+pub(crate) fn header_len(rest: &[u8]) -> usize
+    requires least { 24 ≤ length rest.now }
+    ensures { result ≡ header_len_at rest.now }
+{
+    if attributes_of(rest).is_large() {
+        32
+    } else {
+        24
+    }
+}
+
+fn short_size(rest: &[u8]) -> u64
+    requires least { 24 ≤ length rest.now }
+    ensures { result ≡ le_at 20 3 rest.now }
+{
+    u64::from(LittleEndian::read_u24(field(rest, 20, 3)))
+}
+
+fn large_size(rest: &[u8]) -> u64
+    requires least { 32 ≤ length rest.now }
+    ensures { result ≡ le_at 24 8 rest.now }
+{
+    LittleEndian::read_u64(field(rest, 24, 8))
+}
+
+fn size_of(rest: &[u8]) -> u64
+    requires least { 24 ≤ length rest.now }
+    requires header { header_len_at rest.now ≤ length rest.now }
+    ensures { result ≡ size_at rest.now }
+{
+    if attributes_of(rest).is_large() {
+        large_size(rest)
+    } else {
+        short_size(rest)
+    }
+}
+
+// The sum of a header, with the file sum and State taken as zero.
+fn header_sum(header: &[u8]) -> u8
+    requires { 24 ≤ length header.now }
+    ensures { result ≡ header_sum_of header.now }
+{
+    sum8(&header[..17])
+        .wrapping_add(sum8(field(header, 18, 5)))
+        .wrapping_add(sum8(&header[24..]))
+}
+
+fn may_be_large(rest: &[u8], system: FileSystem) -> bool
+    requires least { 24 ≤ length rest.now }
+    ensures { result ≡ may_be_large system rest.now }
+{
+    !attributes_of(rest).is_large() || system == FileSystem::Ffs3
+}
+
+fn has_header_sum(rest: &[u8]) -> bool
+    requires least { 24 ≤ length rest.now }
+    requires header { header_len_at rest.now ≤ length rest.now }
+    ensures { result ≡ has_header_sum rest.now }
+{
+    header_sum(&rest[..header_len(rest)]) == 0
+}
+
+fn has_size(rest: &[u8]) -> bool
+    requires least { 24 ≤ length rest.now }
+    requires header { header_len_at rest.now ≤ length rest.now }
+    ensures { result ≡ has_size rest.now }
+{
+    let size = size_of(rest);
+    header_len(rest) as u64 <= size
+        && size <= rest.len() as u64
+        && (!attributes_of(rest).is_large() || short_size(rest) == 0)
+}
+
+// Whether a file's data are not looked at, as those of a pad.
+fn is_passed(rest: &[u8], alive: bool) -> bool
+    requires least { 24 ≤ length rest.now }
+    ensures { result ≡ is_passed alive rest.now }
+{
+    !alive || rest[18] == PAD
+}
+
+fn file_sum_right(attributes: FileAttributes, file_sum: u8, payload: &[u8]) -> bool
+    ensures { result ≡ file_sum_right (attribute_bits attributes) file_sum payload.now }
+{
+    if attributes.is_summed() {
+        sum8(payload).wrapping_add(file_sum) == 0
+    } else {
+        file_sum == NO_SUM
+    }
+}
+
+fn has_file_sum(rest: &[u8]) -> bool
+    requires least { 24 ≤ length rest.now }
+    requires header { header_len_at rest.now ≤ size_at rest.now }
+    requires within { size_at rest.now ≤ length rest.now }
+    ensures { result ≡ has_file_sum rest.now }
+{
+    let payload = &rest[header_len(rest)..size_of(rest) as usize];
+    file_sum_right(attributes_of(rest), rest[17], payload)
+}
+
+// The fields of the header that the bytes begin with.
+fn head_in(rest: &[u8], state: FileState) -> FileHead
+    requires least { 24 ≤ length rest.now }
+    requires header { header_len_at rest.now ≤ length rest.now }
+    ensures { result ≡ head_in state rest.now }
+{
+    let mut name = [0u8; 16];
+    name.copy_from_slice(&rest[..16]);
+    FileHead {
+        name: Guid::from_bytes(name),
+        kind: rest[18],
+        attributes: attributes_of(rest),
+        size: size_of(rest),
+        header_len: header_len(rest) as u64,
+        header_sum: rest[16],
+        file_sum: rest[17],
+        state,
+    }
+}
+
+// The header of a file at `at`, or the first fault of its checks.
+fn checked(rest: &[u8], at: u64, system: FileSystem, state: FileState) -> Result<FileHead, Fault>
+    requires least { 24 ≤ length rest.now }
+    requires place { at < 2 ^ 63 }
+    ensures is { result ≡ verdict_by (first_fault (file_checks system (is_alive state) at rest.now)) (head_in state rest.now) }
+    ensures size { IfOk result (λ h. (h.header_len ≡ header_len_at rest.now) × (h.size ≡ size_at rest.now)) }
+    ensures within { IfOk result (λ h. (h.header_len ≤ h.size) × (h.size ≤ length rest.now)) }
+    ensures bound { IfErr result (λ f. f.place.offset ≤ at + length rest.now) }
+{
+    check(may_be_large(rest, system), FaultKind::LargeFile, at + 19)?;
+    check(header_len(rest) <= rest.len(), FaultKind::FileSize, at + 20)?;
+    check(has_header_sum(rest), FaultKind::FileHeaderSum, at)?;
+    check(has_size(rest), FaultKind::FileSize, at + 20)?;
+    if !is_passed(rest, state.is_alive()) {
+        check(!attributes_of(rest).is_fixed(), FaultKind::Fixed, at + 19)?;
+        check(has_file_sum(rest), FaultKind::FileSum, at + 17)?;
+    }
+    Ok(head_in(rest, state))
+}
+
+/// The header of a file at `at`, in bytes from where offsets are counted, or the first fault of
+/// its checks.
+pub(crate) fn file_at(
+    rest: &[u8],
+    at: u64,
+    system: FileSystem,
+    state: FileState,
+) -> Result<FileHead, Fault>
+    requires least { 24 ≤ length rest.now }
+    requires place { at < 2 ^ 63 }
+    ensures is { result ≡ file_verdict system state at rest.now }
+    ensures size { IfOk result (λ h. (h.header_len ≡ header_len_at rest.now) × (h.size ≡ size_at rest.now)) }
+    ensures within { IfOk result (λ h. (h.header_len ≤ h.size) × (h.size ≤ length rest.now)) }
+    ensures bound { IfErr result (λ f. f.place.offset ≤ at + length rest.now) }
+{
+    checked(rest, at, system, state)
+}

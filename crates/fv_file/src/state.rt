@@ -1,0 +1,75 @@
+//! The state of a file.
+
+ghost use Rattle.std.specs.Prelude.{◌≡◌, Some, IfSome};
+ghost use Rattle.fv_file.specs.States.{StateOf, bits_of, state_in, state_of, is_alive};
+ghost use Rattle.fv_file.specs.declared.state.FileState.{FileState};
+
+use fv_base::Polarity;
+
+/// How far the writing or the removal of a file has come. (PI specification, volume 3, section
+/// 3.2.3.1, `EFI_FFS_FILE_STATE`.)
+#[derive(Clone, Copy, Debug, PartialEq, Eq)]
+pub enum FileState {
+    /// Nothing was written.
+    Free,
+    /// A header is being written, by bit 01.
+    Construction,
+    /// The header is whole, by bit 02; the data are not.
+    HeaderValid,
+    /// The file is whole, by bit 04.
+    DataValid,
+    /// The file is whole and is to be replaced, by bit 08.
+    Marked,
+    /// The file was deleted, by bit 10.
+    Deleted,
+    /// The header was never finished, by bit 20.
+    HeaderInvalid,
+}
+
+impl FileState {
+    /// Whether the file stands: its data are valid, marked for update or not.
+    pub fn is_alive(self) -> bool
+        ensures { result ≡ is_alive self }
+    {
+        matches!(self, FileState::DataValid | FileState::Marked)
+    }
+}
+
+// The bits of a State byte that were written since it was erased.
+fn bits_of(byte: u8, polarity: Polarity) -> u8
+    ensures { result ≡ bits_of polarity byte }
+{
+    match polarity {
+        Polarity::Ones => !byte,
+        Polarity::Zeros => byte,
+    }
+}
+
+// The state of the highest bit.
+fn state_in(bits: u8) -> Option<FileState>
+    ensures { result ≡ state_in bits }
+{
+    match bits {
+        0x00 => Some(FileState::Free),
+        0x01 => Some(FileState::Construction),
+        0x02..=0x03 => Some(FileState::HeaderValid),
+        0x04..=0x07 => Some(FileState::DataValid),
+        0x08..=0x0f => Some(FileState::Marked),
+        0x10..=0x1f => Some(FileState::Deleted),
+        0x20..=0x3f => Some(FileState::HeaderInvalid),
+        _ => None,
+    }
+}
+
+/// The state that a State byte shows: that of the highest bit which was written, or None where bit
+/// 40 or 80 was. Takes no memory. (PI specification, volume 3, section 3.2.3.1.)
+pub fn file_state(byte: u8, polarity: Polarity) -> Option<FileState>
+    // The byte shows this state.
+    ensures found { IfSome result (StateOf byte polarity) }
+
+    // It shows no other, and where it shows one it is answered.
+    ensures only { (state : FileState) → StateOf byte polarity state → result ≡ Some state }
+    ensures is { result ≡ state_of polarity byte }
+{
+    state_in(bits_of(byte, polarity))
+}

@@ -1,0 +1,167 @@
+//! The body of a volume, cut into cells.
+
+ghost use Rattle.std.specs.Prelude.{◌≡◌, ◌≢◌, ◌+◌, ◌<◌, ◌≤◌, ◌%◌, ◌^◌, List, length, drop, Ok, Err, IfOk, IfErr};
+ghost use Rattle.fv_base.specs.Faults.{outer_fault, want_of_memory};
+ghost use Rattle.fv_base.specs.Flash.{erased_byte};
+ghost use Rattle.fv_file.specs.Cells.{CellForm, AllWithin, Tiles, span};
+ghost use Rattle.fv_file.specs.FileChecks.{IsFirst, run_of};
+ghost use Rattle.fv_file.specs.Reading.{cell_verdict};
+ghost use Rattle.fv_file.specs.Seen.{form_of};
+
+use crate::cell::Cell;
+use crate::clean::{clean_from, run_of};
+use crate::head::{PAD, file_at, header_len};
+use crate::list::Cells;
+use crate::state::{FileState, file_state};
+use fv_base::field::up_to_8;
+use fv_base::{Fault, FaultKind, FileSystem, Polarity, check};
+use std::alloc::Global;
+
+// The fault of bytes that are no cell and not all erased.
+fn stray(rest: &[u8], at: u64, polarity: Polarity) -> Fault
+    requires { at + length rest.now < 2 ^ 63 }
+    ensures is { result ≡ outer_fault FaultKind.FreeSpace (at + run_of (erased_byte polarity) rest.now) }
+    ensures bound { result.place.offset ≤ at + length rest.now }
+{
+    Fault::outer(
+        FaultKind::FreeSpace,
+        at + run_of(rest, polarity.erased()) as u64,
+    )
+}
+
+// The cell at `at`, which is not a free one, or the first fault there.
+fn cell_at<'a>(
+    rest: &'a [u8],
+    at: u64,
+    system: FileSystem,
+    polarity: Polarity,
+) -> Result<Cell<'a>, Fault>
+    requires place { at + length rest.now < 2 ^ 63 }
+    ensures found { IfOk result (λ c. cell_verdict system polarity at rest.now ≡ Ok (form_of c)) }
+    ensures refused { IfErr result (λ f. cell_verdict system polarity at rest.now ≡ Err f) }
+    ensures bound { IfErr result (λ f. f.place.offset ≤ at + length rest.now) }
+{
+    if rest.len() < 24 {
+        return Err(stray(rest, at, polarity));
+    }
+    let Some(state) = file_state(rest[23], polarity) else {
+        return Err(Fault::outer(FaultKind::FileState, at + 23));
+    };
+    match state {
+        FileState::Free => Err(stray(rest, at, polarity)),
+        FileState::Construction | FileState::HeaderInvalid => {
+            let len = header_len(rest);
+            check(len <= rest.len(), FaultKind::FileSize, at + 20)?;
+            Ok(Cell::Stub {
+                offset: at,
+                len: len as u64,
+            })
+        }
+        FileState::HeaderValid | FileState::Deleted => {
+            let head = file_at(rest, at, system, state)?;
+            Ok(Cell::Dead {
+                offset: at,
+                len: up_to_8(head.size),
+            })
+        }
+        FileState::DataValid | FileState::Marked => {
+            let head = file_at(rest, at, system, state)?;
+            let payload = &rest[head.header_len as usize..head.size as usize];
+            if head.kind == PAD {
+                Ok(Cell::Pad {
+                    offset: at,
+                    head,
+                    payload,
+                })
+            } else {
+                Ok(Cell::Valid {
+                    offset: at,
+                    head,
+                    payload,
+                })
+            }
+        }
+    }
+}
+
+// How many bytes a cell has, filler counted.
+fn span_of(cell: &Cell) -> u64
+    requires { span (form_of cell.now) < 2 ^ 64 }
+    ensures { result ≡ span (form_of cell.now) }
+{
+    match cell {
+        Cell::Valid { head, .. } | Cell::Pad { head, .. } => up_to_8(head.size),
+        Cell::Dead { len, .. } | Cell::Stub { len, .. } | Cell::Free { len, .. } => *len,
+    }
+}
+
+// The cells of a body that begins at `first` of its volume.
+fn cells_in(
+    alloc: Global,
+    body: &[u8],
+    first: u64,
+    system: FileSystem,
+    polarity: Polarity,
+) -> Result<Cells<'_>, Fault>
+    requires multiple { length body.now % 8 ≡ 0 }
+    requires place { first + length body.now < 2 ^ 63 }
+    ensures found { IfOk result (λ cs. Tiles system polarity first cs body.now) }
+    ensures first { IfErr result (λ f. f ≢ want_of_memory → IsFirst system polarity first body.now f) }
+    ensures bound { IfErr result (λ f. f.place.offset ≤ first + length body.now) }
+{
+    let clean = clean_from(body, polarity.erased());
+    let mut list = Vec::new(alloc);
+    let mut at = 0;
+    while at < clean {
+        let cell = cell_at(&body[at..], first + at as u64, system, polarity)?;
+        let len = span_of(&cell);
+        list.push(cell)?;
+        at += len as usize;
+    }
+    if at < body.len() {
+        list.push(Cell::Free {
+            offset: first + at as u64,
+            len: (body.len() - at) as u64,
+        })?;
+    }
+    Ok(Cells::from_vec(list))
+}
+
+/// The one tiling by cells of a volume's body, which begins at `first`, in bytes from the volume's
+/// start. A file's payload is the volume's bytes behind its header. (PI specification, volume 3,
+/// sections 3.2.2 and 3.2.3.)
+///
+/// # Errors
+///
+/// The fault of the first cell that has one; of a cell FreeSpace, FileState, then of a stub
+/// FileSize, of all others LargeFile, FileSize where a large header is cut, FileHeaderSum,
+/// FileSize, and of a file that stands and is no pad Fixed, FileSum. OutOfMemory.
+pub fn cells(
+    alloc: Global,
+    volume: &[u8],
+    first: u64,
+    system: FileSystem,
+    polarity: Polarity,
+) -> Result<Cells<'_>, Fault>
+    requires multiple { length volume.now % 8 ≡ 0 }
+    requires first_multiple { first % 8 ≡ 0 }
+    requires within { first ≤ length volume.now }
+
+    // These cells tile the body.
+    ensures found { IfOk result (λ cs. Tiles system polarity first cs (drop first volume.now)) }
+
+    // No others do.
+    ensures only { IfOk result (λ cs. (ds : List CellForm) → Tiles system polarity first ds (drop first volume.now) → ds ≡ cs) }
+
+    // Where it refuses, want of memory aside, none do.
+    ensures none { IfErr result (λ f. f ≢ want_of_memory → (ds : List CellForm) → Tiles system polarity first ds (drop first volume.now) → ⊥) }
+
+    // A refusal, want of memory aside, names the first check that does not hold at the first place where no cell stands.
+    ensures first { IfErr result (λ f. f ≢ want_of_memory → IsFirst system polarity first (drop first volume.now) f) }
+
+    // Cells and faults lie within the volume.
+    ensures lies { IfOk result (AllWithin (length volume.now)) }
+    ensures bound { IfErr result (λ f. f.place.offset ≤ length volume.now) }
+{
+    cells_in(alloc, &volume[first as usize..], first, system, polarity)
+}

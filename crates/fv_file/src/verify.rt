@@ -1,0 +1,50 @@
+//! Whether bytes begin with a file.
+
+ghost use Rattle.std.specs.Prelude.{◌≡◌, Ok, IfOk, IfErr};
+ghost use Rattle.fv_base.specs.Checks.{IsFirstFault};
+ghost use Rattle.fv_file.specs.FileChecks.{verify_checks};
+ghost use Rattle.fv_file.specs.Files.{BeginsFile};
+ghost use Rattle.fv_file.specs.Reading.{verify_verdict};
+ghost use Rattle.fv_file.specs.declared.head.FileHead.{FileHead};
+
+use crate::head::{FileHead, file_at};
+use crate::state::{FileState, file_state};
+use fv_base::{Fault, FaultKind, FileSystem, Polarity, check};
+
+// The header, or the first fault.
+fn verdict(bytes: &[u8], system: FileSystem, polarity: Polarity) -> Result<FileHead, Fault>
+    ensures { result ≡ verify_verdict system polarity bytes.now }
+{
+    check(bytes.len() >= 24, FaultKind::FileSize, 20)?;
+    match file_state(bytes[23], polarity) {
+        Some(state @ (FileState::DataValid | FileState::Marked)) => file_at(
+            bytes, 0, system, state,
+        ),
+        _ => Err(Fault::outer(FaultKind::FileState, 23)),
+    }
+}
+
+/// The header of the file that the bytes begin with: one that stands, or a pad. What stands behind
+/// the file is not looked at. Takes no memory. (PI specification, volume 3, section 3.2.3.1.)
+///
+/// # Errors
+///
+/// The first fault, in this order: FileSize where 24 bytes are not there, FileState (bit 40 or 80,
+/// or a file that does not stand), LargeFile, FileSize where a large header is cut, FileHeaderSum,
+/// FileSize, and where it is no pad Fixed, FileSum.
+pub fn verify_ffs_file(
+    bytes: &[u8],
+    system: FileSystem,
+    polarity: Polarity,
+) -> Result<FileHead, Fault>
+    // The bytes begin with a file of this header.
+    ensures found { IfOk result (λ head. BeginsFile system polarity head bytes.now) }
+
+    // Every file that they begin with is answered.
+    ensures only { (head : FileHead) → BeginsFile system polarity head bytes.now → result ≡ Ok head }
+
+    // A refusal names the first check that does not hold.
+    ensures first { IfErr result (IsFirstFault (verify_checks system polarity bytes.now)) }
+{
+    verdict(bytes, system, polarity)
+}
