@@ -1,0 +1,4 @@
+pub mod OpLemmas
+pub mod PathLemmas
+pub mod ReadLemmas
+pub mod TruthLemmas

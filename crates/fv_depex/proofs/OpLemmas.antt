@@ -1,0 +1,183 @@
+-- An op stands where its checks hold.
+use Rattle.std.proofs.Common.{◌≡◌, ◌≤◌, ℕ, zero, suc, List, [], ◌∷◌, ◌++◌, length, drop, refl, sym, ap, ◌∙◌, subst, arith, Bool, true, false, length-append, length-drop}
+use Rattle.std.specs.Prelude.{◌||◌, ◌&&◌, not, nat_le, slice_index, None, Some, if◌then◌else◌}
+use Rattle.std.specs.List.{AllByRecursion}
+use Rattle.std.proofs.lemmas.Bool.{leb-true, le-leb}
+use Rattle.std.proofs.lemmas.List.{take-append-drop, length-take-le}
+use Rattle.fv_base.specs.Guids.{bytes_of}
+use Rattle.fv_base.specs.Value.{field}
+use Rattle.fv_base.specs.declared.guid.Guid.{Guid}
+use Rattle.fv_depex.specs.Checks.{OpCheck, Fits, IsFirstKind, OpStands, first_kind, has_operand, holds_values, in_place, knows, op_checks}
+use Rattle.fv_depex.specs.Expressions.{carries, code_of, op_by, op_in, operand_len, operand_of, IsSized}
+use Rattle.fv_depex.specs.declared.fault.DepexFaultKind.{DepexFaultKind}
+use Rattle.fv_depex.specs.declared.op.Op.{Op}
+use Rattle.fv_depex.specs.declared.op.Op.TheVariants as ops
+use Rattle.fv_depex.specs.declared.op.Phase.{Phase}
+use Rattle.fv_depex.specs.declared.op.Phase.TheVariants.{Pei, Dxe}
+use Rattle.fv_depex.specs.declared.stage.Stage.{Stage}
+
+-- ---- checks in their order
+
+pub all_held : (cs : List OpCheck) → first_kind cs ≡ None → AllByRecursion (λ c. c.holds ≡ true) cs
+all_held [] none = tt
+all_held (c ∷ cs) none = go c.holds refl (all_held cs) none where
+  go : (h : Bool) → c.holds ≡ h → (first_kind cs ≡ None → AllByRecursion (λ d. d.holds ≡ true) cs) → (if h then first_kind cs else Some c.kind) ≡ None → AllByRecursion (λ d. d.holds ≡ true) (c ∷ cs)
+  go true is rest n = (is, rest n)
+  go false is rest n = cc
+
+pub first_is : (cs : List OpCheck) (k : DepexFaultKind) → first_kind cs ≡ Some k → IsFirstKind cs k
+first_is [] k h = cc
+first_is (c ∷ cs) k h = go c.holds refl (first_is cs k) h where
+  go : (t : Bool) → c.holds ≡ t → (first_kind cs ≡ Some k → IsFirstKind cs k) → (if t then first_kind cs else Some c.kind) ≡ Some k → IsFirstKind (c ∷ cs) k
+  go true is rest e = let r = rest e in (c ∷ r.0, r.1, r.2, ap (λ (ds : List OpCheck). c ∷ ds) r.3, (is, r.4), r.5, r.6)
+  go false is rest e = ([], c, cs, refl, tt, is, cc)
+
+holds_at : (before : List OpCheck) (c : OpCheck) (after : List OpCheck) → AllByRecursion (λ d. d.holds ≡ true) (before ++ c ∷ after) → c.holds ≡ true
+holds_at [] c after h = h.0
+holds_at (d ∷ ds) c after h = holds_at ds c after h.1
+
+pub none_first : (cs : List OpCheck) (k : DepexFaultKind) → AllByRecursion (λ d. d.holds ≡ true) cs → IsFirstKind cs k → ⊥
+none_first cs k all split =
+    never (split.1).holds (holds_at split.0 split.1 split.2 (subst (λ (l : List OpCheck). AllByRecursion (λ d. d.holds ≡ true) l) split.3 all)) split.5
+  where
+    never : (b : Bool) → b ≡ true → b ≡ false → ⊥
+    never b t n = cc
+
+-- ---- an op by its code
+
+-- a code that some phase has is that of its op, and the op carries the GUID where the code does
+pub record IsOpOf (code : ℕ) (g : Guid) (o : Op) : Type 0 where
+  pub code_is : code_of o ≡ code
+  pub operand_is : operand_of o ≡ (if carries code then bytes_of g else [])
+
+below_10 : (P : ℕ → Type 0) → P 0 → P 1 → P 2 → P 3 → P 4 → P 5 → P 6 → P 7 → P 8 → P 9 → (n : ℕ) → n ≤ 9 → P n
+below_10 P a b c d e f g h i j zero l = a
+below_10 P a b c d e f g h i j (suc zero) l = b
+below_10 P a b c d e f g h i j (suc (suc zero)) l = c
+below_10 P a b c d e f g h i j (suc (suc (suc zero))) l = d
+below_10 P a b c d e f g h i j (suc (suc (suc (suc zero)))) l = e
+below_10 P a b c d e f g h i j (suc (suc (suc (suc (suc zero))))) l = f
+below_10 P a b c d e f g h i j (suc (suc (suc (suc (suc (suc zero)))))) l = g
+below_10 P a b c d e f g h i j (suc (suc (suc (suc (suc (suc (suc zero))))))) l = h
+below_10 P a b c d e f g h i j (suc (suc (suc (suc (suc (suc (suc (suc zero)))))))) l = i
+below_10 P a b c d e f g h i j (suc (suc (suc (suc (suc (suc (suc (suc (suc zero))))))))) l = j
+below_10 P a b c d e f g h i j (suc (suc (suc (suc (suc (suc (suc (suc (suc (suc n)))))))))) l = absurd (omega (arith, l))
+
+pub op_of_code : (g : Guid) (code : ℕ) → code ≤ 9 → IsOpOf code g (op_by code g)
+op_of_code g =
+    below_10 (λ n. IsOpOf n g (op_by n g)) (record { code_is = refl; operand_is = refl }) (record { code_is = refl; operand_is = refl })
+    (record { code_is = refl; operand_is = refl }) (record { code_is = refl; operand_is = refl }) (record { code_is = refl; operand_is = refl })
+    (record { code_is = refl; operand_is = refl }) (record { code_is = refl; operand_is = refl }) (record { code_is = refl; operand_is = refl })
+    (record { code_is = refl; operand_is = refl }) (record { code_is = refl; operand_is = refl })
+
+-- an op is that of its code and its GUID
+op_back : (o : Op) → op_by (code_of o) (record { bytes = operand_of o }) ≡ o
+op_back (ops.Before g) = refl
+op_back (ops.After g) = refl
+op_back (ops.Push g) = refl
+op_back ops.And = refl
+op_back ops.Or = refl
+op_back ops.Not = refl
+op_back ops.True = refl
+op_back ops.False = refl
+op_back ops.End = refl
+op_back ops.Sor = refl
+
+known_least : (phase : Phase) (code : ℕ) → knows phase code ≡ true → code ≤ 9
+known_least Pei code h = omega (arith, leb-true code 8 (second (nat_le 2 code) (nat_le code 8) h)) where
+  second : (a b : Bool) → (a && b) ≡ true → b ≡ true
+  second true b h = h
+  second false b h = cc
+known_least Dxe code h = leb-true code 9 h
+
+-- ---- the op at the front
+
+cons_of : (r : List ℕ) → 1 ≤ length r → r ≡ slice_index r 0 ∷ drop 1 r
+cons_of [] l = absurd (omega (arith, l))
+cons_of (x ∷ r) l = refl
+
+-- where the checks hold, the op stands there
+pub op_stands : (phase : Phase) (stage : Stage) (r : List ℕ) → first_kind (op_checks phase stage r) ≡ None → OpStands phase stage (op_in r) r
+op_stands phase stage r none =
+    let all = all_held (op_checks phase stage r) none in
+    let code : ℕ = slice_index r 0 in
+    let g : Guid = record { bytes = field 1 16 r } in
+    let is = op_of_code g code (known_least phase code all.1.0) in
+    let some : 1 ≤ length r = leb-true _ _ all.0 in
+    go (carries code) refl is some all.1.0 all.1.1.0 all.1.1.1.0 all.1.1.1.1.0
+  where
+    whole : not true || nat_le 17 (length r) ≡ true → 17 ≤ length r
+    whole h = leb-true 17 (length r) h
+
+    go : (c : Bool) → carries (slice_index r 0) ≡ c → IsOpOf (slice_index r 0) (record { bytes = field 1 16 r }) (op_in r) → 1 ≤ length r → knows phase (slice_index r 0) ≡ true
+        → in_place stage (slice_index r 0) ≡ true → has_operand r ≡ true → holds_values stage (slice_index r 0) ≡ true → OpStands phase stage (op_in r) r
+    go true c is some known place room values =
+        let long : 17 ≤ length r = whole (sym (ap (λ (t : Bool). not t || nat_le 17 (length r)) c) ∙ room) in
+        let operand : operand_of (op_in r) ≡ field 1 16 r = is.operand_is ∙ ap (λ (t : Bool). if t then field 1 16 r else []) c in
+        let n : length (field 1 16 r) ≡ 16 = length-take-le 16 (drop 1 r) (omega (arith, length-drop 1 r, long)) in
+        record {
+          fits = record {
+            known = ap (knows phase) is.code_is ∙ known;
+            placed = ap (in_place stage) is.code_is ∙ place;
+            valued = ap (holds_values stage) is.code_is ∙ values;
+            sized = ap length operand ∙ n ∙ sym (ap operand_len (ap carries is.code_is ∙ c));
+          };
+          behind = drop 16 (drop 1 r);
+          joined = cons_of r some ∙ ap (λ (l : List ℕ). slice_index r 0 ∷ l) (sym (take-append-drop 16 (drop 1 r)))
+              ∙ ap (λ (k : ℕ). k ∷ (field 1 16 r ++ drop 16 (drop 1 r))) (sym is.code_is) ∙ ap (λ (l : List ℕ). code_of (op_in r) ∷ (l ++ drop 16 (drop 1 r))) (sym operand);
+        }
+    go false c is some known place room values =
+        let operand : operand_of (op_in r) ≡ [] = is.operand_is ∙ ap (λ (t : Bool). if t then field 1 16 r else []) c in
+        record {
+          fits = record {
+            known = ap (knows phase) is.code_is ∙ known;
+            placed = ap (in_place stage) is.code_is ∙ place;
+            valued = ap (holds_values stage) is.code_is ∙ values;
+            sized = ap length operand ∙ sym (ap operand_len (ap carries is.code_is ∙ c));
+          };
+          behind = drop 1 r;
+          joined = cons_of r some ∙ ap (λ (k : ℕ). k ∷ drop 1 r) (sym is.code_is) ∙ ap (λ (l : List ℕ). code_of (op_in r) ∷ (l ++ drop 1 r)) (sym operand);
+        }
+
+-- where an op stands the checks hold
+pub checks_hold : (phase : Phase) (stage : Stage) (o : Op) (x : List ℕ) → Fits phase stage o → AllByRecursion (λ c. c.holds ≡ true) (op_checks phase stage (code_of o ∷ (operand_of o ++ x)))
+checks_hold phase stage o x fits =
+    (le-leb 1 (suc (length (operand_of o ++ x))) (omega arith), (fits.known, (fits.placed, (room (carries (code_of o)) refl, (fits.valued, tt)))))
+  where
+    room : (c : Bool) → carries (code_of o) ≡ c → has_operand (code_of o ∷ (operand_of o ++ x)) ≡ true
+    room true c =
+        ap (λ (t : Bool). not t || nat_le 17 (suc (length (operand_of o ++ x)))) c
+        ∙ le-leb 17 (suc (length (operand_of o ++ x))) (omega (arith, length-append (operand_of o) x, fits.sized ∙ ap operand_len c))
+    room false c = ap (λ (t : Bool). not t || nat_le 17 (suc (length (operand_of o ++ x)))) c
+
+same_cut : (a b x y : List ℕ) → length a ≡ length b → a ++ x ≡ b ++ y → (a ≡ b) × (x ≡ y)
+same_cut [] [] x y l e = (refl, e)
+same_cut [] (c ∷ b) x y l e = absurd (omega (arith, l))
+same_cut (c ∷ a) [] x y l e = absurd (omega (arith, l))
+same_cut (c ∷ a) (d ∷ b) x y l e =
+    let t : a ++ x ≡ b ++ y = cc in
+    let r = same_cut a b x y (omega (arith, l)) t in
+    let p : a ≡ b = r.0 in
+    let h : c ≡ d = cc in
+    (cc, r.1)
+
+-- bytes begin with one op at most
+pub same_op : (o p : Op) (x y : List ℕ) → IsSized o → IsSized p → code_of o ∷ (operand_of o ++ x) ≡ code_of p ∷ (operand_of p ++ y) → (o ≡ p) × (x ≡ y)
+same_op o p x y so sp e =
+    let code : code_of o ≡ code_of p = ap (λ (l : List ℕ). slice_index l 0) e in
+    let len : length (operand_of o) ≡ length (operand_of p) = so ∙ ap (λ (k : ℕ). operand_len (carries k)) code ∙ sym sp in
+    let parts = same_cut (operand_of o) (operand_of p) x y len (ap (drop 1) e) in
+    (sym (op_back o) ∙ ap (λ (k : ℕ). op_by k (record { bytes = operand_of o })) code ∙ ap (λ (l : List ℕ). op_by (code_of p) (record { bytes = l })) parts.0 ∙ op_back p, parts.1)
+
+-- the code of END is END's
+pub end_code : (o : Op) → code_of o ≡ 8 → o ≡ ops.End
+end_code (ops.Before g) e = absurd (omega (arith, e))
+end_code (ops.After g) e = absurd (omega (arith, e))
+end_code (ops.Push g) e = absurd (omega (arith, e))
+end_code ops.And e = absurd (omega (arith, e))
+end_code ops.Or e = absurd (omega (arith, e))
+end_code ops.Not e = absurd (omega (arith, e))
+end_code ops.True e = absurd (omega (arith, e))
+end_code ops.False e = absurd (omega (arith, e))
+end_code ops.End e = refl
+end_code ops.Sor e = absurd (omega (arith, e))

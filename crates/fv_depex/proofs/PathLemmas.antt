@@ -1,0 +1,375 @@
+-- Ops that may stand one after another are those of whole expressions.
+use Rattle.std.proofs.Common.{◌≡◌, ◌≢◌, ◌≤◌, ◌<◌, ℕ, ◌+◌, ◌-◌, List, [], ◌∷◌, ◌++◌, length, drop, inl, inr, refl, sym, ap, ◌∙◌, subst, arith, Bool, true, false, length-append, append_assoc, append-nil}
+use Rattle.std.specs.Prelude.{◌⊎◌, ◌&&◌, nat_le, slice_index}
+use Rattle.std.specs.List.{AllByRecursion}
+use Rattle.std.proofs.lemmas.Bool.{leb-true, le-leb, eqb-true}
+use Rattle.fv_base.specs.declared.guid.Guid.{Guid}
+use Rattle.fv_depex.specs.Checks.{Fits, Path, has_values, knows, stage_after, values_after}
+use Rattle.fv_depex.specs.Expressions.{Expression, always, never, installed, negated, both, either, IsTree, IsOrder, Spells, code_of, operand_of, ops_bytes, postfix, IsSized}
+use Rattle.fv_depex.specs.declared.op.Op.{Op}
+use Rattle.fv_depex.specs.declared.op.Op.TheVariants as ops
+use Rattle.fv_depex.specs.declared.op.Phase.{Phase}
+use Rattle.fv_depex.specs.declared.op.Phase.TheVariants.{Pei, Dxe}
+use Rattle.fv_depex.specs.declared.stage.Stage.{Stage}
+use Rattle.fv_depex.specs.declared.stage.Stage.TheVariants as stages
+use Rattle.fv_depex.proofs.OpLemmas.{same_op, end_code}
+
+-- ---- paths, joined
+
+pub path_join : (phase : Phase) (s m f : Stage) (xs ys : List Op) → Path phase s xs m → Path phase m ys f → Path phase s (xs ++ ys) f
+path_join phase s m f [] ys p q = subst (λ (k : Stage). Path phase k ys f) (sym p) q
+path_join phase s m f (x ∷ xs) ys p q = (p.0, p.1, path_join phase (stage_after s x) m f xs ys p.2 q)
+
+pub path_more : (phase : Phase) (s f : Stage) (xs : List Op) (o : Op) → Path phase s xs f → Fits phase f o → o ≢ ops.End → Path phase s (xs ++ o ∷ []) (stage_after f o)
+path_more phase s f xs o p fits ne = path_join phase s f (stage_after f o) xs (o ∷ []) p (fits, ne, refl)
+
+pub all_join : (xs ys : List Op) → AllByRecursion IsSized xs → AllByRecursion IsSized ys → AllByRecursion IsSized (xs ++ ys)
+all_join [] ys a b = b
+all_join (x ∷ xs) ys a b = (a.0, all_join xs ys a.1 b)
+
+all_front : (xs ys : List Op) → AllByRecursion IsSized (xs ++ ys) → AllByRecursion IsSized xs
+all_front [] ys a = tt
+all_front (x ∷ xs) ys a = (a.0, all_front xs ys a.1)
+
+all_behind : (xs ys : List Op) → AllByRecursion IsSized (xs ++ ys) → AllByRecursion IsSized ys
+all_behind [] ys a = a
+all_behind (x ∷ xs) ys a = all_behind xs ys a.1
+
+pub path_sized : (phase : Phase) (s f : Stage) (xs : List Op) → Path phase s xs f → AllByRecursion IsSized xs
+path_sized phase s f [] p = tt
+path_sized phase s f (x ∷ xs) p = ((p.0).sized, path_sized phase (stage_after s x) f xs p.2)
+
+pub bytes_join : (xs ys : List Op) → ops_bytes (xs ++ ys) ≡ ops_bytes xs ++ ops_bytes ys
+bytes_join [] ys = refl
+bytes_join (x ∷ xs) ys =
+    ap (λ (l : List ℕ). code_of x ∷ l) (ap (λ (l : List ℕ). operand_of x ++ l) (bytes_join xs ys) ∙ sym (append_assoc (operand_of x) (ops_bytes xs) (ops_bytes ys)))
+
+-- ---- a path leads to trees
+
+-- the ops of trees, one behind another
+abbrev pub trees_ops : List Expression → List Op
+trees_ops [] = []
+trees_ops (t ∷ ts) = postfix t ++ trees_ops ts
+
+trees_join : (ts us : List Expression) → trees_ops (ts ++ us) ≡ trees_ops ts ++ trees_ops us
+trees_join [] us = refl
+trees_join (t ∷ ts) us = ap (λ (l : List Op). postfix t ++ l) (trees_join ts us) ∙ sym (append_assoc (postfix t) (trees_ops ts) (trees_ops us))
+
+-- SOR or nothing
+abbrev pub IsSor : Phase → List Op → Type 0
+IsSor phase sor = (sor ≡ []) ⊎ ((sor ≡ ops.Sor ∷ []) × (phase ≡ Dxe))
+
+-- what was read leaves this stage
+abbrev pub Leaves : Phase → Stage → List Op → Type 0
+Leaves phase stages.Start os = os ≡ []
+Leaves phase stages.Ordered os = (phase ≡ Dxe) × (g : Guid) × ((os ≡ ops.Before g ∷ []) ⊎ (os ≡ ops.After g ∷ []))
+Leaves phase (stages.Values n) os = (sor : List Op) × (ts : List Expression) × (os ≡ sor ++ trees_ops ts) × (length ts ≡ n) × IsSor phase sor
+
+-- one more tree on the stack, in place of the last ones
+more_trees : (phase : Phase) (os sor : List Op) (us vs : List Expression) (t : Expression) (o : Op) (n : ℕ) → os ≡ sor ++ trees_ops (us ++ vs) → IsSor phase sor
+    → trees_ops vs ++ (o ∷ []) ≡ postfix t → length us + 1 ≡ n → Leaves phase (stages.Values n) (os ++ o ∷ [])
+more_trees phase os sor us vs t o n e s last len =
+    let behind : trees_ops (us ++ vs) ++ (o ∷ []) ≡ trees_ops (us ++ (t ∷ [])) =
+    ap (λ (l : List Op). l ++ (o ∷ [])) (trees_join us vs) ∙ append_assoc (trees_ops us) (trees_ops vs) (o ∷ [])
+    ∙ ap (λ (l : List Op). trees_ops us ++ l) (last ∙ sym (append-nil (postfix t))) ∙ sym (trees_join us (t ∷ [])) in (
+      sor,
+      us ++ (t ∷ []),
+      ap (λ (l : List Op). l ++ (o ∷ [])) e ∙ append_assoc sor (trees_ops (us ++ vs)) (o ∷ []) ∙ ap (λ (l : List Op). sor ++ l) behind,
+      length-append us (t ∷ []) ∙ len,
+      s,
+    )
+
+last_one : (ts : List Expression) → 1 ≤ length ts → (us : List Expression) × (t : Expression) × (ts ≡ us ++ (t ∷ []))
+last_one [] l = absurd (omega (arith, l))
+last_one (t ∷ []) l = ([], t, refl)
+last_one (t ∷ u ∷ ts) l = let r = last_one (u ∷ ts) (omega arith) in (t ∷ r.0, r.1, ap (λ (k : List Expression). t ∷ k) r.2)
+
+last_two : (ts : List Expression) → 2 ≤ length ts → (us : List Expression) × (t : Expression) × (u : Expression) × (ts ≡ us ++ (t ∷ u ∷ []))
+last_two [] l = absurd (omega (arith, l))
+last_two (t ∷ []) l = absurd (omega (arith, l))
+last_two (t ∷ u ∷ []) l = ([], t, u, refl)
+last_two (t ∷ u ∷ v ∷ ts) l = let r = last_two (u ∷ v ∷ ts) (omega arith) in (t ∷ r.0, r.1, r.2, ap (λ (k : List Expression). t ∷ k) r.3)
+
+-- an op on values
+values_more : (phase : Phase) (n : ℕ) (os : List Op) (o : Op) → Leaves phase (stages.Values n) os → 2 ≤ code_of o → code_of o < 8 → has_values n (code_of o) ≡ true
+    → Leaves phase (stages.Values (values_after n o)) (os ++ o ∷ [])
+values_more phase n os (ops.Before g) h low high v = absurd (omega (arith, low))
+values_more phase n os (ops.After g) h low high v = absurd (omega (arith, low))
+values_more phase n os (ops.Push g) (sor, ts, e, len, s) low high v =
+    more_trees phase os sor ts [] (installed g) (ops.Push g) (n + 1) (e ∙ ap (λ (l : List Expression). sor ++ trees_ops l) (sym (append-nil ts))) s refl (ap (λ (k : ℕ). k + 1) len)
+values_more phase n os ops.True (sor, ts, e, len, s) low high v =
+    more_trees phase os sor ts [] always ops.True (n + 1) (e ∙ ap (λ (l : List Expression). sor ++ trees_ops l) (sym (append-nil ts))) s refl (ap (λ (k : ℕ). k + 1) len)
+values_more phase n os ops.False (sor, ts, e, len, s) low high v =
+    more_trees phase os sor ts [] never ops.False (n + 1) (e ∙ ap (λ (l : List Expression). sor ++ trees_ops l) (sym (append-nil ts))) s refl (ap (λ (k : ℕ). k + 1) len)
+values_more phase n os ops.Not (sor, ts, e, len, s) low high v =
+    let r = last_one ts (omega (arith, len, leb-true 1 n v)) in
+    more_trees phase os sor r.0 (r.1 ∷ []) (negated r.1) ops.Not n (e ∙ ap (λ (l : List Expression). sor ++ trees_ops l) r.2) s
+    (ap (λ (l : List Op). l ++ (ops.Not ∷ [])) (append-nil (postfix r.1))) (omega (arith, len, ap length r.2, length-append r.0 (r.1 ∷ [])))
+values_more phase n os ops.And (sor, ts, e, len, s) low high v =
+    let r = last_two ts (omega (arith, len, leb-true 2 n v)) in
+    more_trees phase os sor r.0 (r.1 ∷ r.2 ∷ []) (both r.1 r.2) ops.And (n - 1) (e ∙ ap (λ (l : List Expression). sor ++ trees_ops l) r.3) s
+    (two r.1 r.2 ops.And) (omega (arith, len, leb-true 2 n v, ap length r.3, length-append r.0 (r.1 ∷ r.2 ∷ [])))
+  where
+    two : (t u : Expression) (o : Op) → (postfix t ++ (postfix u ++ [])) ++ (o ∷ []) ≡ postfix t ++ (postfix u ++ (o ∷ []))
+    two t u o = append_assoc (postfix t) (postfix u ++ []) (o ∷ []) ∙ ap (λ (l : List Op). postfix t ++ (l ++ (o ∷ []))) (append-nil (postfix u))
+values_more phase n os ops.Or (sor, ts, e, len, s) low high v =
+    let r = last_two ts (omega (arith, len, leb-true 2 n v)) in
+    more_trees phase os sor r.0 (r.1 ∷ r.2 ∷ []) (either r.1 r.2) ops.Or (n - 1) (e ∙ ap (λ (l : List Expression). sor ++ trees_ops l) r.3) s
+    (two r.1 r.2 ops.Or) (omega (arith, len, leb-true 2 n v, ap length r.3, length-append r.0 (r.1 ∷ r.2 ∷ [])))
+  where
+    two : (t u : Expression) (o : Op) → (postfix t ++ (postfix u ++ [])) ++ (o ∷ []) ≡ postfix t ++ (postfix u ++ (o ∷ []))
+    two t u o = append_assoc (postfix t) (postfix u ++ []) (o ∷ []) ∙ ap (λ (l : List Op). postfix t ++ (l ++ (o ∷ []))) (append-nil (postfix u))
+values_more phase n os ops.End h low high v = absurd (omega (arith, high))
+values_more phase n os ops.Sor h low high v = absurd (omega (arith, high))
+
+begun : (phase : Phase) (os : List Op) → os ≡ [] → Leaves phase (stages.Values 0) os
+begun phase os e = ([], [], e, refl, inl refl)
+
+-- PEI has no BEFORE, AFTER and SOR
+no_pei : (phase : Phase) (o : Op) (stage : Stage) → Fits phase stage o → ((code_of o ≡ 0) ⊎ (code_of o ≡ 1)) ⊎ (code_of o ≡ 9) → phase ≡ Dxe
+no_pei Dxe o stage fits h = refl
+no_pei Pei o stage fits h = absurd (go (code_of o) fits.known h)
+  where
+    go : (c : ℕ) → (nat_le 2 c && nat_le c 8) ≡ true → ((c ≡ 0) ⊎ (c ≡ 1)) ⊎ (c ≡ 9) → ⊥
+    go c k (inl (inl e)) = let t : (nat_le 2 0 && nat_le 0 8) ≡ true = subst (λ (n : ℕ). (nat_le 2 n && nat_le n 8) ≡ true) e k in cc
+    go c k (inl (inr e)) = let t : (nat_le 2 1 && nat_le 1 8) ≡ true = subst (λ (n : ℕ). (nat_le 2 n && nat_le n 8) ≡ true) e k in cc
+    go c k (inr e) = let t : (nat_le 2 9 && nat_le 9 8) ≡ true = subst (λ (n : ℕ). (nat_le 2 n && nat_le n 8) ≡ true) e k in cc
+
+both_true : (a b : Bool) → (a && b) ≡ true → (a ≡ true) × (b ≡ true)
+both_true true b h = (refl, h)
+both_true false b h = cc
+
+value_code : (o : Op) → 2 ≤ code_of o → code_of o ≤ 8 → o ≢ ops.End → code_of o < 8
+value_code o low high ne = go (code_of o) refl where
+  go : (c : ℕ) → code_of o ≡ c → code_of o < 8
+  go c e = less (code_of o) high (λ e. ne (end_code o e)) where
+    less : (n : ℕ) → n ≤ 8 → (n ≡ 8 → ⊥) → n < 8
+    less n l k = grind (arith, l, k)
+
+-- the values of an op that has some
+after_values : (n : ℕ) (o : Op) → 2 ≤ code_of o → stage_after (stages.Values n) o ≡ stages.Values (values_after n o)
+after_values n (ops.Before g) l = absurd (omega (arith, l))
+after_values n (ops.After g) l = absurd (omega (arith, l))
+after_values n (ops.Push g) l = refl
+after_values n ops.And l = refl
+after_values n ops.Or l = refl
+after_values n ops.Not l = refl
+after_values n ops.True l = refl
+after_values n ops.False l = refl
+after_values n ops.End l = refl
+after_values n ops.Sor l = refl
+
+placed_values : (phase : Phase) (n : ℕ) (os : List Op) (o : Op) → Leaves phase (stages.Values n) os → Fits phase (stages.Values n) o → o ≢ ops.End
+    → Leaves phase (stage_after (stages.Values n) o) (os ++ o ∷ [])
+placed_values phase n os o h fits ne =
+    let range = both_true (nat_le 2 (code_of o)) (nat_le (code_of o) 8) fits.placed in
+    let low : 2 ≤ code_of o = leb-true 2 (code_of o) range.0 in
+    let high : code_of o ≤ 8 = leb-true (code_of o) 8 range.1 in
+    subst (λ (k : Stage). Leaves phase k (os ++ o ∷ [])) (sym (after_values n o low)) (values_more phase n os o h low (value_code o low high ne) fits.valued)
+
+start_value : (phase : Phase) (os : List Op) (o : Op) → Leaves phase stages.Start os → Fits phase stages.Start o → 2 ≤ code_of o → code_of o < 8 → Leaves phase (stages.Values (values_after 0 o)) (os ++ o ∷ [])
+start_value phase os o h fits low high = values_more phase 0 os o (begun phase os h) low high fits.valued
+
+-- one more op
+pub leaves_more : (phase : Phase) (stage : Stage) (os : List Op) (o : Op) → Leaves phase stage os → Fits phase stage o → o ≢ ops.End → Leaves phase (stage_after stage o) (os ++ o ∷ [])
+leaves_more phase stages.Start os (ops.Before g) h fits ne = (no_pei phase (ops.Before g) stages.Start fits (inl (inl refl)), g, inl (ap (λ (l : List Op). l ++ (ops.Before g ∷ [])) h))
+leaves_more phase stages.Start os (ops.After g) h fits ne = (no_pei phase (ops.After g) stages.Start fits (inl (inr refl)), g, inr (ap (λ (l : List Op). l ++ (ops.After g ∷ [])) h))
+leaves_more phase stages.Start os ops.Sor h fits ne = (ops.Sor ∷ [], [], ap (λ (l : List Op). l ++ (ops.Sor ∷ [])) h, refl, inr (refl, no_pei phase ops.Sor stages.Start fits (inr refl)))
+leaves_more phase stages.Start os ops.End h fits ne = absurd (ne refl)
+leaves_more phase stages.Start os (ops.Push g) h fits ne = start_value phase os (ops.Push g) h fits (omega arith) (omega arith)
+leaves_more phase stages.Start os ops.And h fits ne = start_value phase os ops.And h fits (omega arith) (omega arith)
+leaves_more phase stages.Start os ops.Or h fits ne = start_value phase os ops.Or h fits (omega arith) (omega arith)
+leaves_more phase stages.Start os ops.Not h fits ne = start_value phase os ops.Not h fits (omega arith) (omega arith)
+leaves_more phase stages.Start os ops.True h fits ne = start_value phase os ops.True h fits (omega arith) (omega arith)
+leaves_more phase stages.Start os ops.False h fits ne = start_value phase os ops.False h fits (omega arith) (omega arith)
+leaves_more phase stages.Ordered os o h fits ne = absurd (ne (end_code o (eqb-true (code_of o) 8 fits.placed)))
+leaves_more phase (stages.Values n) os o h fits ne = placed_values phase n os o h fits ne
+
+-- with END they are whole
+pub leaves_whole : (phase : Phase) (stage : Stage) (os : List Op) → Leaves phase stage os → Fits phase stage ops.End → ((t : Expression) × IsTree phase (os ++ ops.End ∷ []) t) ⊎ IsOrder phase (os ++ ops.End ∷ [])
+leaves_whole phase stages.Start os h fits = let no_values : false ≡ true = fits.valued in cc
+leaves_whole phase stages.Ordered os (dxe, g, which) fits = inr (record { guid = g; joined = joined which; dxe = dxe }) where
+  joined : (os ≡ ops.Before g ∷ []) ⊎ (os ≡ ops.After g ∷ []) → (os ++ ops.End ∷ [] ≡ ops.Before g ∷ ops.End ∷ []) ⊎ (os ++ ops.End ∷ [] ≡ ops.After g ∷ ops.End ∷ [])
+  joined (inl e) = inl (ap (λ (l : List Op). l ++ (ops.End ∷ [])) e)
+  joined (inr e) = inr (ap (λ (l : List Op). l ++ (ops.End ∷ [])) e)
+leaves_whole phase (stages.Values n) os (sor, ts, e, len, s) fits = one ts e (len ∙ eqb-true n 1 fits.valued) where
+  one : (us : List Expression) → os ≡ sor ++ trees_ops us → length us ≡ 1 → ((t : Expression) × IsTree phase (os ++ ops.End ∷ []) t) ⊎ IsOrder phase (os ++ ops.End ∷ [])
+  one [] e l = absurd (omega (arith, l))
+  one (t ∷ []) e l =
+      inl (
+        t,
+        record {
+          sor = sor;
+          joined = ap (λ (k : List Op). k ++ (ops.End ∷ [])) (e ∙ ap (λ (k : List Op). sor ++ k) (append-nil (postfix t))) ∙ append_assoc sor (postfix t) (ops.End ∷ []);
+          sor_is = s;
+        },
+      )
+  one (t ∷ u ∷ us) e l = absurd (omega (arith, l))
+
+-- ---- trees lead to a path
+
+knows_value : (phase : Phase) (code : ℕ) → 2 ≤ code → code ≤ 8 → knows phase code ≡ true
+knows_value Pei code low high = rw (le-leb 2 code low, le-leb code 8 high) refl
+knows_value Dxe code low high = le-leb code 9 (omega (arith, high))
+
+fits_value : (phase : Phase) (n : ℕ) (o : Op) → 2 ≤ code_of o → code_of o ≤ 8 → has_values n (code_of o) ≡ true → IsSized o → Fits phase (stages.Values n) o
+fits_value phase n o low high values sized = record {
+  known = knows_value phase (code_of o) low high;
+  placed = rw (le-leb 2 (code_of o) low, le-leb (code_of o) 8 high) refl;
+  valued = values;
+  sized = sized;
+}
+
+two_paths : (phase : Phase) (n : ℕ) (t u : Expression) (o : Op) → Path phase (stages.Values n) (postfix t) (stages.Values (n + 1)) → Path phase (stages.Values (n + 1)) (postfix u) (stages.Values (n + 1 + 1))
+    → Fits phase (stages.Values (n + 1 + 1)) o → o ≢ ops.End → stage_after (stages.Values (n + 1 + 1)) o ≡ stages.Values (n + 1) → Path phase (stages.Values n) (postfix t ++ (postfix u ++ (o ∷ []))) (stages.Values (n + 1))
+two_paths phase n t u o p q fits ne after =
+    path_join phase (stages.Values n) (stages.Values (n + 1)) (stages.Values (n + 1)) (postfix t) (postfix u ++ (o ∷ [])) p
+    (path_join phase (stages.Values (n + 1)) (stages.Values (n + 1 + 1)) (stages.Values (n + 1)) (postfix u) (o ∷ []) q (fits, ne, after))
+
+pub tree_path : (phase : Phase) (n : ℕ) (t : Expression) → AllByRecursion IsSized (postfix t) → Path phase (stages.Values n) (postfix t) (stages.Values (n + 1))
+tree_path phase n always sized = (fits_value phase n ops.True (omega arith) (omega arith) refl refl, λ e. cc, refl)
+tree_path phase n never sized = (fits_value phase n ops.False (omega arith) (omega arith) refl refl, λ e. cc, refl)
+tree_path phase n (installed g) sized = (fits_value phase n (ops.Push g) (omega arith) (omega arith) refl sized.0, λ e. cc, refl)
+tree_path phase n (negated t) sized =
+    path_join phase (stages.Values n) (stages.Values (n + 1)) (stages.Values (n + 1)) (postfix t) (ops.Not ∷ []) (tree_path phase n t (all_front (postfix t) (ops.Not ∷ []) sized))
+    (fits_value phase (n + 1) ops.Not (omega arith) (omega arith) (le-leb 1 (n + 1) (omega arith)) refl, λ e. cc, refl)
+tree_path phase n (both t u) sized =
+    two_paths phase n t u ops.And (tree_path phase n t (all_front (postfix t) (postfix u ++ ops.And ∷ []) sized))
+    (tree_path phase (n + 1) u (all_front (postfix u) (ops.And ∷ []) (all_behind (postfix t) (postfix u ++ ops.And ∷ []) sized)))
+    (fits_value phase (n + 1 + 1) ops.And (omega arith) (omega arith) (le-leb 2 (n + 1 + 1) (omega arith)) refl) (λ e. cc) (ap (λ (k : ℕ). stages.Values k) (one_less n))
+  where
+    one_less : (n : ℕ) → n + 1 + 1 - 1 ≡ n + 1
+    one_less n = omega arith
+tree_path phase n (either t u) sized =
+    two_paths phase n t u ops.Or (tree_path phase n t (all_front (postfix t) (postfix u ++ ops.Or ∷ []) sized))
+    (tree_path phase (n + 1) u (all_front (postfix u) (ops.Or ∷ []) (all_behind (postfix t) (postfix u ++ ops.Or ∷ []) sized)))
+    (fits_value phase (n + 1 + 1) ops.Or (omega arith) (omega arith) (le-leb 2 (n + 1 + 1) (omega arith)) refl) (λ e. cc) (ap (λ (k : ℕ). stages.Values k) (one_less n))
+  where
+    one_less : (n : ℕ) → n + 1 + 1 - 1 ≡ n + 1
+    one_less n = omega arith
+
+-- the ops from the start on
+from_start : (phase : Phase) (f : Stage) (o : Op) (os : List Op) → Path phase (stages.Values 0) (o ∷ os) f → Path phase stages.Start (o ∷ os) f
+from_start phase f o os p =
+    let range = both_true (nat_le 2 (code_of o)) (nat_le (code_of o) 8) (p.0).placed in
+    let same = same_after o (leb-true 2 (code_of o) range.0) in
+    (record { known = (p.0).known; placed = refl; valued = (p.0).valued; sized = (p.0).sized }, p.1, subst (λ (k : Stage). Path phase k os f) same p.2)
+  where
+    same_after : (o : Op) → 2 ≤ code_of o → stage_after (stages.Values 0) o ≡ stage_after stages.Start o
+    same_after (ops.Before g) l = absurd (omega (arith, l))
+    same_after (ops.After g) l = absurd (omega (arith, l))
+    same_after (ops.Push g) l = refl
+    same_after ops.And l = refl
+    same_after ops.Or l = refl
+    same_after ops.Not l = refl
+    same_after ops.True l = refl
+    same_after ops.False l = refl
+    same_after ops.End l = refl
+    same_after ops.Sor l = refl
+
+some_ops : (t : Expression) → 1 ≤ length (postfix t)
+some_ops always = omega arith
+some_ops never = omega arith
+some_ops (installed g) = omega arith
+some_ops (negated t) = omega (arith, length-append (postfix t) (ops.Not ∷ []))
+some_ops (both t u) = omega (arith, length-append (postfix t) (postfix u ++ ops.And ∷ []), some_ops t)
+some_ops (either t u) = omega (arith, length-append (postfix t) (postfix u ++ ops.Or ∷ []), some_ops t)
+
+start_path : (phase : Phase) (f : Stage) (os : List Op) → 1 ≤ length os → Path phase (stages.Values 0) os f → Path phase stages.Start os f
+start_path phase f [] l p = absurd (omega (arith, l))
+start_path phase f (o ∷ os) l p = from_start phase f o os p
+
+-- the ops of a whole expression: a path, and END
+pub record IsEnded (phase : Phase) (all : List Op) : Type 0 where
+  pub front : List Op
+  pub stage : Stage
+  pub joined : all ≡ front ++ (ops.End ∷ [])
+  pub path : Path phase stages.Start front stage
+  pub ended : Fits phase stage ops.End
+
+tree_ended : (phase : Phase) (all sor : List Op) (t : Expression) → all ≡ sor ++ (postfix t ++ (ops.End ∷ [])) → IsSor phase sor → AllByRecursion IsSized all → IsEnded phase all
+tree_ended phase all sor t e (inl none) sized =
+    let whole : all ≡ postfix t ++ (ops.End ∷ []) = e ∙ ap (λ (l : List Op). l ++ (postfix t ++ (ops.End ∷ []))) none in
+    let parts = all_front (postfix t) (ops.End ∷ []) (subst (λ (l : List Op). AllByRecursion IsSized l) whole sized) in
+    record {
+      front = postfix t;
+      stage = stages.Values (0 + 1);
+      joined = whole;
+      path = start_path phase (stages.Values (0 + 1)) (postfix t) (some_ops t) (tree_path phase 0 t parts);
+      ended = fits_value phase (0 + 1) ops.End (omega arith) (omega arith) refl refl;
+    }
+tree_ended phase all sor t e (inr (is, dxe)) sized =
+    let whole : all ≡ ops.Sor ∷ (postfix t ++ (ops.End ∷ [])) = e ∙ ap (λ (l : List Op). l ++ (postfix t ++ (ops.End ∷ []))) is in
+    let parts = all_front (postfix t) (ops.End ∷ []) (subst (λ (l : List Op). AllByRecursion IsSized l) whole sized).1 in
+    record {
+      front = ops.Sor ∷ postfix t;
+      stage = stages.Values (0 + 1);
+      joined = whole;
+      path = (record { known = subst (λ (p : Phase). knows p 9 ≡ true) (sym dxe) refl; placed = refl; valued = refl; sized = refl }, λ e. cc, tree_path phase 0 t parts);
+      ended = fits_value phase (0 + 1) ops.End (omega arith) (omega arith) refl refl;
+    }
+
+order_ended : (phase : Phase) (all : List Op) (o : Op) → all ≡ o ∷ ops.End ∷ [] → phase ≡ Dxe → (code_of o ≡ 0) ⊎ (code_of o ≡ 1) → AllByRecursion IsSized all → stage_after stages.Start o ≡ stages.Ordered → o ≢ ops.End → has_values 0 (code_of o) ≡ true → IsEnded phase all
+order_ended phase all o e dxe code sized after ne values = record {
+  front = o ∷ [];
+  stage = stages.Ordered;
+  joined = e;
+  path = (record { known = subst (λ (p : Phase). knows p (code_of o) ≡ true) (sym dxe) (known code); placed = refl; valued = values; sized = (subst (λ (l : List Op). AllByRecursion IsSized l) e sized).0 }, ne, after);
+  ended = record { known = subst (λ (p : Phase). knows p 8 ≡ true) (sym dxe) refl; placed = refl; valued = refl; sized = refl };
+} where
+  known : (code_of o ≡ 0) ⊎ (code_of o ≡ 1) → nat_le (code_of o) 9 ≡ true
+  known (inl e) = rw e refl
+  known (inr e) = rw e refl
+
+pub whole_ended : (phase : Phase) (all : List Op) (rest b : List ℕ) → Spells phase all rest b → IsEnded phase all
+whole_ended phase all rest b spells = go spells.whole where
+  go : ((t : Expression) × IsTree phase all t) ⊎ IsOrder phase all → IsEnded phase all
+  go (inl (t, is)) = tree_ended phase all is.sor t is.joined is.sor_is spells.sized
+  go (inr is) = order is.guid is.dxe is.joined
+    where
+      order : (g : Guid) → phase ≡ Dxe → (all ≡ ops.Before g ∷ ops.End ∷ []) ⊎ (all ≡ ops.After g ∷ ops.End ∷ []) → IsEnded phase all
+      order g dxe (inl e) = order_ended phase all (ops.Before g) e dxe (inl refl) spells.sized refl (λ x. cc) refl
+      order g dxe (inr e) = order_ended phase all (ops.After g) e dxe (inr refl) spells.sized refl (λ x. cc) refl
+
+-- ---- bytes have one path at most
+
+-- the rest of a path, behind the first ops
+pub record GoesOn (phase : Phase) (os xs : List Op) (f g : Stage) (r y : List ℕ) : Type 0 where
+  pub more : List Op
+  pub ops_are : xs ≡ os ++ more
+  pub bytes_are : r ≡ ops_bytes more ++ (8 ∷ y)
+  pub path : Path phase f more g
+
+pub same_front : (phase : Phase) (s f g : Stage) (os xs : List Op) (r y : List ℕ) → Path phase s os f → Path phase s xs g → ops_bytes os ++ r ≡ ops_bytes xs ++ (8 ∷ y) → GoesOn phase os xs f g r y
+same_front phase s f g [] xs r y p q e = record { more = xs; ops_are = refl; bytes_are = e; path = subst (λ (k : Stage). Path phase k xs g) p q }
+same_front phase s f g (o ∷ os) [] r y p q e = absurd (p.1 (end_code o (ap (λ (l : List ℕ). slice_index l 0) e)))
+same_front phase s f g (o ∷ os) (x ∷ xs) r y p q e =
+    let left : code_of o ∷ (operand_of o ++ (ops_bytes os ++ r)) ≡ code_of x ∷ (operand_of x ++ (ops_bytes xs ++ (8 ∷ y))) =
+    ap (λ (l : List ℕ). code_of o ∷ l) (sym (append_assoc (operand_of o) (ops_bytes os) r)) ∙ e ∙ ap (λ (l : List ℕ). code_of x ∷ l) (append_assoc (operand_of x) (ops_bytes xs) (8 ∷ y)) in
+    let same = same_op o x (ops_bytes os ++ r) (ops_bytes xs ++ (8 ∷ y)) (p.0).sized (q.0).sized left in
+    let q' : Path phase (stage_after s o) xs g = subst (λ (k : Op). Path phase (stage_after s k) xs g) (sym same.0) q.2 in
+    let k = same_front phase (stage_after s o) f g os xs r y p.2 q' same.1 in
+    record { more = k.more; ops_are = ap (λ (l : List Op). l ++ xs) (ap (λ (z : Op). z ∷ []) (sym same.0)) ∙ ap (λ (l : List Op). o ∷ l) k.ops_are; bytes_are = k.bytes_are; path = k.path }
+
+pub ended_bytes : (front : List Op) (rest : List ℕ) → ops_bytes (front ++ (ops.End ∷ [])) ++ rest ≡ ops_bytes front ++ (8 ∷ rest)
+ended_bytes front rest = ap (λ (l : List ℕ). l ++ rest) (bytes_join front (ops.End ∷ [])) ∙ append_assoc (ops_bytes front) (8 ∷ []) rest
+
+-- bytes are spelled in one way at most
+pub one_spelling : (phase : Phase) (xs ys : List Op) (r s b : List ℕ) → Spells phase xs r b → Spells phase ys s b → (ys ≡ xs) × (s ≡ r)
+one_spelling phase xs ys r s b p q =
+    let x = whole_ended phase xs r b p in
+    let y = whole_ended phase ys s b q in
+    let left : b ≡ ops_bytes x.front ++ (8 ∷ r) = p.joined ∙ ap (λ (l : List Op). ops_bytes l ++ r) x.joined ∙ ended_bytes x.front r in
+    let right : b ≡ ops_bytes y.front ++ (8 ∷ s) = q.joined ∙ ap (λ (l : List Op). ops_bytes l ++ s) y.joined ∙ ended_bytes y.front s in
+    let k = same_front phase stages.Start x.stage y.stage x.front y.front (8 ∷ r) s x.path y.path (sym left ∙ right) in
+    let n = none_more phase x.stage y.stage k.more r s k.path k.bytes_are in
+    let fronts : y.front ≡ x.front = k.ops_are ∙ ap (λ (l : List Op). x.front ++ l) n.0 ∙ append-nil x.front in
+    (y.joined ∙ ap (λ (l : List Op). l ++ (ops.End ∷ [])) fronts ∙ sym x.joined, n.1)
+  where
+    none_more : (phase : Phase) (f g : Stage) (more : List Op) (r s : List ℕ) → Path phase f more g → 8 ∷ r ≡ ops_bytes more ++ (8 ∷ s) → (more ≡ []) × (s ≡ r)
+    none_more phase f g [] r s p e = (refl, sym (ap (drop 1) e))
+    none_more phase f g (o ∷ os) r s p e = absurd (p.1 (end_code o (sym (ap (λ (l : List ℕ). slice_index l 0) e))))
+
+-- what spells some bytes spells these
+pub spelled_again : (phase : Phase) (all : List Op) (rest b c : List ℕ) → Spells phase all rest b → c ≡ ops_bytes all ++ rest → Spells phase all rest c
+spelled_again phase all rest b c spells e = record { joined = e; whole = spells.whole; sized = spells.sized }

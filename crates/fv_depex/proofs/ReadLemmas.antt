@@ -1,0 +1,118 @@
+-- What the loop over the ops keeps, and what its ends say.
+use Rattle.std.proofs.Common.{◌≡◌, ◌≢◌, ◌≤◌, ℕ, suc, ◌+◌, ◌-◌, List, [], ◌∷◌, ◌++◌, length, take, drop, refl, sym, ap, ◌∙◌, subst, arith, length-append, length-drop, append_assoc, append-nil}
+use Rattle.std.specs.Prelude.{◌⊎◌}
+use Rattle.std.specs.List.{AllByRecursion}
+use Rattle.std.proofs.lemmas.List.{take-append-drop, take_at, take_rest, length-take-le}
+use Rattle.std.proofs.Math.Seq.{take-add}
+use Rattle.fv_depex.specs.Checks.{Fits, IsFirst, IsFirstKind, OpStands, Path, op_checks, stage_after, values_of}
+use Rattle.fv_depex.specs.Expressions.{Expression, IsTree, IsOrder, IsSized, Spells, carries, code_of, operand_len, operand_of, ops_bytes}
+use Rattle.fv_depex.specs.declared.fault.DepexFault.{DepexFault}
+use Rattle.fv_depex.specs.declared.fault.DepexFaultKind.{DepexFaultKind}
+use Rattle.fv_depex.specs.declared.op.Op.{Op}
+use Rattle.fv_depex.specs.declared.op.Op.TheVariants as ops
+use Rattle.fv_depex.specs.declared.op.Phase.{Phase}
+use Rattle.fv_depex.specs.declared.stage.Stage.{Stage}
+use Rattle.fv_depex.specs.declared.stage.Stage.TheVariants as stages
+use Rattle.fv_depex.proofs.OpLemmas.{checks_hold, none_first, end_code}
+use Rattle.fv_depex.proofs.PathLemmas.{Leaves, all_join, bytes_join, ended_bytes, leaves_more, leaves_whole, path_more, path_sized, same_front, whole_ended}
+
+-- the ops that were read make up the bytes up to a place
+pub record Kept (phase : Phase) (b : List ℕ) (items : List Op) (at : ℕ) (stage : Stage) : Type 0 where
+  pub path : Path phase stages.Start items stage
+  pub leaves : Leaves phase stage items
+  pub bytes : take at b ≡ ops_bytes items
+  pub inside : at ≤ length b
+  pub few : values_of stage ≤ at
+
+pub kept_none : (phase : Phase) (b : List ℕ) (items : List Op) → items ≡ [] → Kept phase b items 0 stages.Start
+kept_none phase b items e = subst (λ (l : List Op). Kept phase b l 0 stages.Start) (sym e) (record { path = refl; leaves = refl; bytes = refl; inside = omega arith; few = omega arith })
+
+few_more : (stage : Stage) (o : Op) → values_of (stage_after stage o) ≤ values_of stage + 1
+few_more stage (ops.Before g) = omega arith
+few_more stage (ops.After g) = omega arith
+few_more stage (ops.Push g) = omega arith
+few_more stage ops.And = omega arith
+few_more stage ops.Or = omega arith
+few_more stage ops.Not = omega arith
+few_more stage ops.True = omega arith
+few_more stage ops.False = omega arith
+few_more stage ops.End = omega arith
+few_more stage ops.Sor = omega arith
+
+-- the bytes of one more op
+pub record OneMore (b : List ℕ) (items : List Op) (o : Op) (at n : ℕ) : Type 0 where
+  pub bytes : take (at + n) b ≡ ops_bytes (items ++ o ∷ [])
+  pub inside : at + n ≤ length b
+
+pub one_more : (phase : Phase) (b : List ℕ) (items : List Op) (o : Op) (at n : ℕ) (stage : Stage) → Kept phase b items at stage → OpStands phase stage o (drop at b)
+    → n ≡ 1 + operand_len (carries (code_of o)) → OneMore b items o at n
+one_more phase b items o at n stage k stands len =
+    let size : n ≡ length (code_of o ∷ operand_of o) = len ∙ ap (λ (m : ℕ). 1 + m) (sym (stands.fits).sized) ∙ next (length (operand_of o)) in
+    let whole : drop at b ≡ (code_of o ∷ operand_of o) ++ stands.behind = stands.joined in
+    let part : take n (drop at b) ≡ code_of o ∷ operand_of o = ap (take n) whole ∙ take_at (code_of o ∷ operand_of o) stands.behind n (sym size) in
+    let long : length (drop at b) ≡ n + length stands.behind = ap length whole ∙ length-append (code_of o ∷ operand_of o) stands.behind ∙ ap (λ (m : ℕ). m + length stands.behind) (sym size) in
+    record {
+      bytes = take-add at n b ∙ ap (λ (l : List ℕ). l ++ take n (drop at b)) k.bytes ∙ ap (λ (l : List ℕ). ops_bytes items ++ l) (part ∙ ap (λ (l : List ℕ). code_of o ∷ l) (sym (append-nil (operand_of o)))) ∙ sym (bytes_join items (o ∷ []));
+      inside = omega (arith, long, length-drop at b, k.inside);
+    }
+  where
+    next : (m : ℕ) → 1 + m ≡ suc m
+    next m = omega arith
+
+pub kept : (phase : Phase) (b : List ℕ) (items new : List Op) (o : Op) (at n : ℕ) (stage after : Stage) → Kept phase b items at stage → OpStands phase stage o (take (length b - at) (drop at b))
+    → n ≡ 1 + operand_len (carries (code_of o)) → code_of o ≢ 8 → new ≡ items ++ o ∷ [] → after ≡ stage_after stage o → Kept phase b new (at + n) after
+kept phase b items new o at n stage after k stands' len ne new_is after_is =
+    let stands : OpStands phase stage o (drop at b) = subst (λ (l : List ℕ). OpStands phase stage o l) (take_rest b at) stands' in
+    let more = one_more phase b items o at n stage k stands len in
+    let other : o ≢ ops.End = λ e. ne (ap code_of e) in
+    subst (λ (l : List Op). Kept phase b l (at + n) after) (sym new_is) (subst (λ (s : Stage). Kept phase b (items ++ o ∷ []) (at + n) s) (sym after_is) (record {
+      path = path_more phase stages.Start stage items o k.path stands.fits other;
+      leaves = leaves_more phase stage items o k.leaves stands.fits other;
+      bytes = more.bytes;
+      inside = more.inside;
+      few = omega (arith, few_more stage o, k.few, len);
+    }))
+
+pub ended : (phase : Phase) (b : List ℕ) (items new : List Op) (o : Op) (at n : ℕ) (stage : Stage) → Kept phase b items at stage → OpStands phase stage o (take (length b - at) (drop at b))
+    → n ≡ 1 + operand_len (carries (code_of o)) → code_of o ≡ 8 → new ≡ items ++ o ∷ [] → (at + n ≤ length b) × Spells phase new (drop (at + n) b) b
+ended phase b items new o at n stage k stands' len is new_is =
+    let stands : OpStands phase stage o (drop at b) = subst (λ (l : List ℕ). OpStands phase stage o l) (take_rest b at) stands' in
+    let more = one_more phase b items o at n stage k stands len in
+    let end : o ≡ ops.End = end_code o is in
+    let fits : Fits phase stage ops.End = subst (λ (p : Op). Fits phase stage p) end stands.fits in
+    let last : new ≡ items ++ ops.End ∷ [] = new_is ∙ ap (λ (p : Op). items ++ p ∷ []) end in (
+      more.inside,
+      record {
+        joined = sym (take-append-drop (at + n) b) ∙ ap (λ (l : List ℕ). l ++ drop (at + n) b) (more.bytes ∙ ap ops_bytes (sym new_is));
+        whole = subst (λ (l : List Op). ((t : Expression) × IsTree phase l t) ⊎ IsOrder phase l) (sym last) (leaves_whole phase stage items k.leaves fits);
+        sized = subst (λ (l : List Op). AllByRecursion IsSized l) (sym last) (all_join items (ops.End ∷ []) (path_sized phase stages.Start stage items k.path) (refl, tt));
+      },
+    )
+
+pub first_here : (phase : Phase) (b : List ℕ) (items : List Op) (at : ℕ) (stage : Stage) (kind : DepexFaultKind) (offset : ℕ) → Kept phase b items at stage
+    → IsFirstKind (op_checks phase stage (take (length b - at) (drop at b))) kind → offset ≡ at → IsFirst phase b (record { kind = kind; offset = offset })
+first_here phase b items at stage kind offset k first place = record {
+  before = items;
+  stage = stage;
+  r = drop at b;
+  joined = sym (take-append-drop at b) ∙ ap (λ (l : List ℕ). l ++ drop at b) k.bytes;
+  read = k.path;
+  place = place ∙ sym (length-take-le at b k.inside) ∙ ap length k.bytes;
+  kind_is = subst (λ (l : List ℕ). IsFirstKind (op_checks phase stage l) kind) (take_rest b at) first;
+}
+
+-- where there is a first fault the bytes are spelled by none
+pub none_after : (phase : Phase) (b : List ℕ) (f : DepexFault) (xs : List Op) (s : List ℕ) → IsFirst phase b f → Spells phase xs s b → ⊥
+none_after phase b f xs s here spells =
+    let x = whole_ended phase xs s b spells in
+    let right : b ≡ ops_bytes x.front ++ (8 ∷ s) = spells.joined ∙ ap (λ (l : List Op). ops_bytes l ++ s) x.joined ∙ ended_bytes x.front s in
+    let k = same_front phase stages.Start here.stage x.stage here.before x.front here.r s here.read x.path (sym here.joined ∙ right) in
+    go x.stage k.more k.path k.bytes_are x.ended
+  where
+    refuse : (o : Op) (y : List ℕ) → Fits phase here.stage o → here.r ≡ code_of o ∷ (operand_of o ++ y) → ⊥
+    refuse o y fits e =
+        none_first (op_checks phase here.stage (code_of o ∷ (operand_of o ++ y))) f.kind (checks_hold phase here.stage o y fits) (subst (λ (l : List ℕ). IsFirstKind (op_checks phase here.stage l) f.kind) e here.kind_is)
+
+    go : (g : Stage) (more : List Op) → Path phase here.stage more g → here.r ≡ ops_bytes more ++ (8 ∷ s) → Fits phase g ops.End → ⊥
+    go g [] p e fits = refuse ops.End s (subst (λ (t : Stage). Fits phase t ops.End) (sym p) fits) e
+    go g (o ∷ os) p e fits = refuse o (ops_bytes os ++ (8 ∷ s)) p.0 (e ∙ ap (λ (l : List ℕ). code_of o ∷ l) (append_assoc (operand_of o) (ops_bytes os) (8 ∷ s)))

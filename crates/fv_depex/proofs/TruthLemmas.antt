@@ -1,0 +1,94 @@
+-- Ops leave the truth of their tree.
+use Rattle.std.proofs.Common.{◌≡◌, ◌≤◌, ◌+◌, ℕ, length, drop, List, [], ◌∷◌, ◌++◌, inl, inr, refl, sym, ap, ◌∙◌, Bool, append_assoc}
+use Rattle.std.specs.Prelude.{◌⊎◌, Option, None, Some, Result, Ok, Err, IfOk}
+use Rattle.std.proofs.lemmas.List.{drop_all}
+use Rattle.fv_base.specs.declared.guid.Guid.{Guid}
+use Rattle.fv_depex.specs.Evaluation.{and_then, run, step, top}
+use Rattle.fv_depex.specs.Expressions.{Expression, always, never, installed, negated, both, either, IsTree, IsOrder, postfix, truth}
+use Rattle.fv_depex.specs.declared.fault.DepexFault.{DepexFault}
+use Rattle.fv_depex.specs.declared.op.Op.{Op}
+use Rattle.fv_depex.specs.declared.op.Op.TheVariants as ops
+use Rattle.fv_depex.specs.declared.op.Phase.{Phase}
+use Rattle.fv_depex.specs.declared.op.Phase.TheVariants.{Dxe}
+
+-- the ops of a tree leave its truth on top
+run_tree : (set : List Guid) (t : Expression) (s : List Bool) (os : List Op) → run set (postfix t ++ os) s ≡ run set os (truth set t ∷ s)
+run_tree set always s os = refl
+run_tree set never s os = refl
+run_tree set (installed g) s os = refl
+run_tree set (negated t) s os =
+    ap (λ (l : List Op). run set l s) (append_assoc (postfix t) (ops.Not ∷ []) os) ∙ run_tree set t s (ops.Not ∷ os)
+run_tree set (both t u) s os =
+    ap (λ (l : List Op). run set l s) (append_assoc (postfix t) (postfix u ++ (ops.And ∷ [])) os ∙ ap (λ (l : List Op). postfix t ++ l) (append_assoc (postfix u) (ops.And ∷ []) os))
+    ∙ run_tree set t s (postfix u ++ (ops.And ∷ os)) ∙ run_tree set u (truth set t ∷ s) (ops.And ∷ os)
+run_tree set (either t u) s os =
+    ap (λ (l : List Op). run set l s) (append_assoc (postfix t) (postfix u ++ (ops.Or ∷ [])) os ∙ ap (λ (l : List Op). postfix t ++ l) (append_assoc (postfix u) (ops.Or ∷ []) os))
+    ∙ run_tree set t s (postfix u ++ (ops.Or ∷ os)) ∙ run_tree set u (truth set t ∷ s) (ops.Or ∷ os)
+
+pub truth_of_tree : (set : List Guid) (phase : Phase) (all : List Op) (t : Expression) → IsTree phase all t → run set all [] ≡ Some (truth set t)
+truth_of_tree set phase all t is = ap (λ (l : List Op). run set l []) is.joined ∙ go is.sor is.sor_is where
+  go : (sor : List Op) → (sor ≡ []) ⊎ ((sor ≡ ops.Sor ∷ []) × (phase ≡ Dxe)) → run set (sor ++ (postfix t ++ (ops.End ∷ []))) [] ≡ Some (truth set t)
+  go sor (inl e) = ap (λ (l : List Op). run set (l ++ (postfix t ++ (ops.End ∷ []))) []) e ∙ run_tree set t [] (ops.End ∷ [])
+  go sor (inr e) = ap (λ (l : List Op). run set (l ++ (postfix t ++ (ops.End ∷ []))) []) e.0 ∙ run_tree set t [] (ops.End ∷ [])
+
+pub none_of_order : (set : List Guid) (phase : Phase) (all : List Op) → IsOrder phase all → run set all [] ≡ None
+none_of_order set phase all is = go is.joined where
+  go : (all ≡ ops.Before is.guid ∷ ops.End ∷ []) ⊎ (all ≡ ops.After is.guid ∷ ops.End ∷ []) → run set all [] ≡ None
+  go (inl e) = ap (λ (l : List Op). run set l []) e
+  go (inr e) = ap (λ (l : List Op). run set l []) e
+
+-- ---- the loop over the ops
+
+pub run_step : (set : List Guid) (all : List Op) (s t : List Bool) (o : Op) (i : ℕ) → drop i all ≡ o ∷ drop (i + 1) all → step set s o ≡ Some t
+    → run set all [] ≡ run set (drop i all) s → run set all [] ≡ run set (drop (i + 1) all) t
+run_step set all s t o i next done before =
+    before ∙ ap (λ (l : List Op). run set l s) next ∙ ap (λ (k : Option (List Bool)). and_then k (run set (drop (i + 1) all))) done
+
+pub run_end : (set : List Guid) (all : List Op) (s : List Bool) (i : ℕ) → length all ≤ i → run set all [] ≡ run set (drop i all) s → run set all [] ≡ top s
+run_end set all s i past before = before ∙ ap (λ (l : List Op). run set l s) (drop_all i all past)
+
+pub value_truth : (set : List Guid) (phase : Phase) (all : List Op) (r : Result (Option Bool) DepexFault) → IfOk r (λ v. v ≡ run set all [])
+    → IfOk r (λ v. (t : Expression) → IsTree phase all t → v ≡ Some (truth set t))
+value_truth set phase all (Ok v) is = λ t tree. is ∙ truth_of_tree set phase all t tree
+value_truth set phase all (Err f) is = tt
+
+pub value_order : (set : List Guid) (phase : Phase) (all : List Op) (r : Result (Option Bool) DepexFault) → IfOk r (λ v. v ≡ run set all []) → IfOk r (λ v. IsOrder phase all → v ≡ None)
+value_order set phase all (Ok v) is = λ order. is ∙ none_of_order set phase all order
+value_order set phase all (Err f) is = tt
+
+-- ---- one tree
+
+-- the trees that ops build, the last first
+abbrev build : List Expression → List Op → List Expression
+build ts [] = ts
+build ts (ops.Push g ∷ os) = build (installed g ∷ ts) os
+build ts (ops.True ∷ os) = build (always ∷ ts) os
+build ts (ops.False ∷ os) = build (never ∷ ts) os
+build (t ∷ ts) (ops.Not ∷ os) = build (negated t ∷ ts) os
+build (u ∷ t ∷ ts) (ops.And ∷ os) = build (both t u ∷ ts) os
+build (u ∷ t ∷ ts) (ops.Or ∷ os) = build (either t u ∷ ts) os
+build ts (o ∷ os) = build ts os
+
+build_tree : (t : Expression) (ts : List Expression) (os : List Op) → build ts (postfix t ++ os) ≡ build (t ∷ ts) os
+build_tree always ts os = refl
+build_tree never ts os = refl
+build_tree (installed g) ts os = refl
+build_tree (negated t) ts os = ap (build ts) (append_assoc (postfix t) (ops.Not ∷ []) os) ∙ build_tree t ts (ops.Not ∷ os)
+build_tree (both t u) ts os =
+    ap (build ts) (append_assoc (postfix t) (postfix u ++ (ops.And ∷ [])) os ∙ ap (λ (l : List Op). postfix t ++ l) (append_assoc (postfix u) (ops.And ∷ []) os))
+    ∙ build_tree t ts (postfix u ++ (ops.And ∷ os)) ∙ build_tree u (t ∷ ts) (ops.And ∷ os)
+build_tree (either t u) ts os =
+    ap (build ts) (append_assoc (postfix t) (postfix u ++ (ops.Or ∷ [])) os ∙ ap (λ (l : List Op). postfix t ++ l) (append_assoc (postfix u) (ops.Or ∷ []) os))
+    ∙ build_tree t ts (postfix u ++ (ops.Or ∷ os)) ∙ build_tree u (t ∷ ts) (ops.Or ∷ os)
+
+built : (phase : Phase) (all : List Op) (t : Expression) → IsTree phase all t → build [] all ≡ t ∷ []
+built phase all t is = ap (build []) is.joined ∙ go is.sor is.sor_is where
+  go : (sor : List Op) → (sor ≡ []) ⊎ ((sor ≡ ops.Sor ∷ []) × (phase ≡ Dxe)) → build [] (sor ++ (postfix t ++ (ops.End ∷ []))) ≡ t ∷ []
+  go sor (inl e) = ap (λ (l : List Op). build [] (l ++ (postfix t ++ (ops.End ∷ [])))) e ∙ build_tree t [] (ops.End ∷ [])
+  go sor (inr e) = ap (λ (l : List Op). build [] (l ++ (postfix t ++ (ops.End ∷ [])))) e.0 ∙ build_tree t [] (ops.End ∷ [])
+
+-- ops are those of one tree at most
+pub one_tree : (phase : Phase) (all : List Op) (t u : Expression) → IsTree phase all t → IsTree phase all u → t ≡ u
+one_tree phase all t u p q = same t u (sym (built phase all t p) ∙ built phase all u q) where
+  same : (t u : Expression) → t ∷ [] ≡ u ∷ [] → t ≡ u
+  same t u e = cc

@@ -1,0 +1,24 @@
+use Rattle.std.proofs.Common.{◌≡◌, ◌∙◌, sym, subst, ◌++◌, ◌∷◌, [], arith, rules}
+use Rattle.std.proofs.lemmas.List.{take_rest}
+use Rattle.fv_depex.specs.Checks.{OpStands}
+use Rattle.fv_depex.proofs.ReadLemmas.{kept_none, kept, ended, one_more}
+use Rattle.fv_depex.proofs.read.read_ops.Goals as goal
+
+pub loop-op-init : goal.loop-op-init
+loop-op-init c = kept_none c.args.phase c.args.bytes.now c.new-ops.result.items c.new-ops.ensures.items
+
+pub loop-op-preserved : goal.loop-op-preserved
+loop-op-preserved c =
+    let items : c.push.new.self.items ≡ c.loop-op.ops.items ++ c.in-Ok.op ∷ [] = search rules in
+    kept c.args.phase c.args.bytes.now c.loop-op.ops.items c.push.new.self.items c.in-Ok.op c.loop-op.at c.op_len-at.result c.loop-op.stage c.stage_after-stage.result c.loop-op.invariant c.in-Ok.ensures.found c.op_len-at.ensures (λ e. c.if-code-eq-END.false (c.code.ensures ∙ e)) items c.stage_after-stage.ensures
+
+pub loop-op-smaller : goal.loop-op-smaller
+loop-op-smaller c =
+    let stands = subst (λ l. OpStands c.args.phase c.loop-op.stage c.in-Ok.op l) (take_rest c.args.bytes.now c.loop-op.at) c.in-Ok.ensures.found in
+    let more = one_more c.args.phase c.args.bytes.now c.loop-op.ops.items c.in-Ok.op c.loop-op.at c.op_len-at.result c.loop-op.stage c.loop-op.invariant stands c.op_len-at.ensures in
+    omega (arith, more.inside, c.op_len-at.ensures)
+
+pub returns-then-code-eq-END-clause-found : goal.returns-then-code-eq-END-clause-found
+returns-then-code-eq-END-clause-found c =
+    let items : c.push.new.self.items ≡ c.loop-op.ops.items ++ c.in-Ok.op ∷ [] = search rules in
+    ended c.args.phase c.args.bytes.now c.loop-op.ops.items c.push.new.self.items c.in-Ok.op c.loop-op.at c.op_len-at.result c.loop-op.stage c.loop-op.invariant c.in-Ok.ensures.found c.op_len-at.ensures (sym c.code.ensures ∙ c.if-code-eq-END.true) items

@@ -1,0 +1,126 @@
+-- The checks of an op in their order, and the first fault of an expression.
+use Rattle.std.specs.Prelude.{◌≡◌, ◌≢◌, ℕ, ◌+◌, ◌-◌, ◌==◌, nat_le, ◌&&◌, ◌||◌, not, Bool, true, false, if◌then◌else◌, Option, None, Some, List, [], ◌∷◌, ◌++◌, length, slice_index}
+use Rattle.std.specs.List.{AllByRecursion}
+use Rattle.fv_depex.specs.declared.fault.DepexFault.{DepexFault}
+use Rattle.fv_depex.specs.declared.fault.DepexFaultKind.{DepexFaultKind}
+use Rattle.fv_depex.specs.declared.fault.DepexFaultKind.TheVariants as kinds
+use Rattle.fv_depex.specs.declared.op.Op.{Op}
+use Rattle.fv_depex.specs.declared.op.Op.TheVariants as ops
+use Rattle.fv_depex.specs.declared.op.Phase.{Phase}
+use Rattle.fv_depex.specs.declared.op.Phase.TheVariants.{Pei, Dxe}
+use Rattle.fv_depex.specs.declared.stage.Stage.{Stage}
+use Rattle.fv_depex.specs.declared.stage.Stage.TheVariants as stages
+use Rattle.fv_depex.specs.Expressions.{carries, code_of, operand_of, ops_bytes, IsSized}
+
+-- a code that the phase has
+abbrev pub knows : Phase → ℕ → Bool
+knows Pei code = nat_le 2 code && nat_le code 8
+knows Dxe code = nat_le code 9
+
+-- BEFORE, AFTER and SOR stand first only, and behind BEFORE or AFTER stands END alone
+abbrev pub in_place : Stage → ℕ → Bool
+in_place stages.Start code = true
+in_place stages.Ordered code = code == 8
+in_place (stages.Values n) code = nat_le 2 code && nat_le code 8
+
+-- the values that the stack holds are those that the code takes: AND and OR two, NOT one, and END the only one; behind BEFORE or
+-- AFTER the stack is empty, and END takes none
+abbrev pub has_values : ℕ → ℕ → Bool
+has_values n code =
+    if (code == 3) || (code == 4) then nat_le 2 n
+    else (if code == 5 then nat_le 1 n
+    else (if code == 8 then n == 1 else true))
+
+abbrev pub holds_values : Stage → ℕ → Bool
+holds_values stages.Start code = has_values 0 code
+holds_values stages.Ordered code = (code == 8) || has_values 0 code
+holds_values (stages.Values n) code = has_values n code
+
+abbrev pub has_operand : List ℕ → Bool
+has_operand r = not (carries (slice_index r 0)) || nat_le 17 (length r)
+
+-- a check: whether it holds, and the kind of fault where it does not
+pub record OpCheck : Type 0 where
+  pub holds : Bool
+  pub kind : DepexFaultKind
+
+abbrev pub check : Bool → DepexFaultKind → OpCheck
+check holds kind = record { holds = holds; kind = kind }
+
+-- the kind of the first check that does not hold
+abbrev pub first_kind : List OpCheck → Option DepexFaultKind
+first_kind [] = None
+first_kind (c ∷ cs) = if c.holds then first_kind cs else Some c.kind
+
+-- of the op that begins r
+abbrev pub op_checks : Phase → Stage → List ℕ → List OpCheck
+op_checks phase stage r =
+    check (nat_le 1 (length r)) kinds.NoEnd
+    ∷ check (knows phase (slice_index r 0)) kinds.Opcode
+    ∷ check (in_place stage (slice_index r 0)) kinds.Position
+    ∷ check (has_operand r) kinds.Short
+    ∷ check (holds_values stage (slice_index r 0)) kinds.Stack
+    ∷ []
+
+-- what was read before: nothing, BEFORE or AFTER, or ops that leave so many values
+abbrev pub values_after : ℕ → Op → ℕ
+values_after n (ops.Push g) = n + 1
+values_after n ops.True = n + 1
+values_after n ops.False = n + 1
+values_after n ops.And = n - 1
+values_after n ops.Or = n - 1
+values_after n _ = n
+
+abbrev pub values_of : Stage → ℕ
+values_of (stages.Values n) = n
+values_of _ = 0
+
+abbrev pub stage_after : Stage → Op → Stage
+stage_after stage (ops.Before g) = stages.Ordered
+stage_after stage (ops.After g) = stages.Ordered
+stage_after stage o = stages.Values (values_after (values_of stage) o)
+
+-- an op that may stand there
+pub record Fits (phase : Phase) (stage : Stage) (o : Op) : Type 0 where
+  pub known : knows phase (code_of o) ≡ true
+  pub placed : in_place stage (code_of o) ≡ true
+  pub valued : holds_values stage (code_of o) ≡ true
+  pub sized : IsSized o
+
+-- r begins with an op that may stand there
+pub record OpStands (phase : Phase) (stage : Stage) (o : Op) (r : List ℕ) : Type 0 where
+  pub fits : Fits phase stage o
+  pub behind : List ℕ
+  pub joined : r ≡ code_of o ∷ (operand_of o ++ behind)
+
+-- ops that may stand one after another, none of them END, and the stage that they lead to
+abbrev pub Path : Phase → Stage → List Op → Stage → Type 0
+Path phase stage [] final = stage ≡ final
+Path phase stage (o ∷ os) final = Fits phase stage o × (o ≢ ops.End) × Path phase (stage_after stage o) os final
+
+-- the kind is that of a check which does not hold, and all checks before it hold
+abbrev pub IsFirstKind : List OpCheck → DepexFaultKind → Type 0
+IsFirstKind cs kind =
+    (before : List OpCheck) × (c : OpCheck) × (after : List OpCheck) × (cs ≡ before ++ (c ∷ after))
+    × AllByRecursion (λ d. d.holds ≡ true) before × (c.holds ≡ false) × (kind ≡ c.kind)
+
+-- some ops that may stand there are read up to the fault's offset, and there it is that of the first check that does not hold
+pub record IsFirst (phase : Phase) (b : List ℕ) (fault : DepexFault) : Type 0 where
+  pub before : List Op
+  pub stage : Stage
+  pub r : List ℕ
+  pub joined : b ≡ ops_bytes before ++ r
+  pub read : Path phase stages.Start before stage
+  pub place : fault.offset ≡ length (ops_bytes before)
+  pub kind_is : IsFirstKind (op_checks phase stage r) fault.kind
+
+abbrev pub want_of_memory : DepexFault
+want_of_memory = record { kind = kinds.OutOfMemory; offset = 0 }
+
+abbrev pub number_of : DepexFaultKind → ℕ
+number_of kinds.Short = 1
+number_of kinds.Opcode = 2
+number_of kinds.Stack = 3
+number_of kinds.NoEnd = 4
+number_of kinds.Position = 5
+number_of kinds.OutOfMemory = 6

@@ -1,0 +1,33 @@
+-- What ops do to a stack of truth values, its top first.
+use Rattle.std.specs.Prelude.{◌&&◌, ◌||◌, not, Bool, true, false, Option, None, Some, List, [], ◌∷◌}
+use Rattle.fv_base.specs.declared.guid.Guid.{Guid}
+use Rattle.fv_depex.specs.declared.op.Op.{Op}
+use Rattle.fv_depex.specs.declared.op.Op.TheVariants as ops
+use Rattle.fv_depex.specs.Expressions.{is_among}
+
+-- the stack behind one op, if it has what the op takes; BEFORE and AFTER have no truth
+abbrev pub step : List Guid → List Bool → Op → Option (List Bool)
+step set s (ops.Before g) = None
+step set s (ops.After g) = None
+step set s (ops.Push g) = Some (is_among g set ∷ s)
+step set s ops.True = Some (true ∷ s)
+step set s ops.False = Some (false ∷ s)
+step set (v ∷ s) ops.Not = Some (not v ∷ s)
+step set (v ∷ u ∷ s) ops.And = Some ((u && v) ∷ s)
+step set (v ∷ u ∷ s) ops.Or = Some ((u || v) ∷ s)
+step set s ops.End = Some s
+step set s ops.Sor = Some s
+step set s _ = None
+
+abbrev pub top : List Bool → Option Bool
+top [] = None
+top (v ∷ s) = Some v
+
+abbrev pub and_then : Option (List Bool) → (List Bool → Option Bool) → Option Bool
+and_then None f = None
+and_then (Some s) f = f s
+
+-- the value on top behind all ops
+abbrev pub run : List Guid → List Op → List Bool → Option Bool
+run set [] s = top s
+run set (o ∷ os) s = and_then (step set s o) (run set os)

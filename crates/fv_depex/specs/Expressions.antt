@@ -1,0 +1,114 @@
+-- Dependency expressions (PI specification, volume 1, section 3.4, and volume 2, section 10.7).
+use Rattle.std.specs.Prelude.{◌≡◌, ℕ, ◌⊎◌, ◌==◌, ◌&&◌, ◌||◌, not, nat_le, if◌then◌else◌, Bool, true, false, List, [], ◌∷◌, ◌++◌, length, slice_index}
+use Rattle.std.specs.List.{AllByRecursion, list_any}
+use Rattle.std.specs.Str.{bytes_eq}
+use Rattle.fv_base.specs.Guids.{bytes_of}
+use Rattle.fv_base.specs.Value.{field}
+use Rattle.fv_base.specs.declared.guid.Guid.{Guid}
+use Rattle.fv_depex.specs.declared.op.Op.{Op}
+use Rattle.fv_depex.specs.declared.op.Op.TheVariants as ops
+use Rattle.fv_depex.specs.declared.op.Phase.{Phase}
+use Rattle.fv_depex.specs.declared.op.Phase.TheVariants.{Dxe}
+
+-- an expression is a tree: true, false, that a GUID is installed, not t, t and u, t or u
+pub data Expression : Type 0 where
+  always : Expression
+  never : Expression
+  installed : Guid → Expression
+  negated : Expression → Expression
+  both : Expression → Expression → Expression
+  either : Expression → Expression → Expression
+
+-- the ops of a tree, operands first
+abbrev pub postfix : Expression → List Op
+postfix always = ops.True ∷ []
+postfix never = ops.False ∷ []
+postfix (installed g) = ops.Push g ∷ []
+postfix (negated t) = postfix t ++ (ops.Not ∷ [])
+postfix (both t u) = postfix t ++ (postfix u ++ (ops.And ∷ []))
+postfix (either t u) = postfix t ++ (postfix u ++ (ops.Or ∷ []))
+
+-- the ops are those of a tree and END, before them perhaps SOR, which PEI has not
+pub record IsTree (phase : Phase) (all : List Op) (t : Expression) : Type 0 where
+  pub sor : List Op
+  pub joined : all ≡ sor ++ (postfix t ++ (ops.End ∷ []))
+  pub sor_is : (sor ≡ []) ⊎ ((sor ≡ ops.Sor ∷ []) × (phase ≡ Dxe))
+
+-- the ops are BEFORE or AFTER with a GUID, and END; PEI has neither
+pub record IsOrder (phase : Phase) (all : List Op) : Type 0 where
+  pub guid : Guid
+  pub joined : (all ≡ ops.Before guid ∷ ops.End ∷ []) ⊎ (all ≡ ops.After guid ∷ ops.End ∷ [])
+  pub dxe : phase ≡ Dxe
+
+-- the code of an op
+abbrev pub code_of : Op → ℕ
+code_of (ops.Before g) = 0x00
+code_of (ops.After g) = 0x01
+code_of (ops.Push g) = 0x02
+code_of ops.And = 0x03
+code_of ops.Or = 0x04
+code_of ops.Not = 0x05
+code_of ops.True = 0x06
+code_of ops.False = 0x07
+code_of ops.End = 0x08
+code_of ops.Sor = 0x09
+
+-- the GUID that an op carries, by its bytes
+abbrev pub operand_of : Op → List ℕ
+operand_of (ops.Before g) = bytes_of g
+operand_of (ops.After g) = bytes_of g
+operand_of (ops.Push g) = bytes_of g
+operand_of _ = []
+
+-- the bytes of ops: of each its code, and its GUID if it carries one
+abbrev pub ops_bytes : List Op → List ℕ
+ops_bytes [] = []
+ops_bytes (o ∷ os) = code_of o ∷ (operand_of o ++ ops_bytes os)
+
+-- the op of a code, with a GUID if it carries one
+abbrev pub op_by : ℕ → Guid → Op
+op_by code g =
+    if code == 0x00 then ops.Before g
+    else (if code == 0x01 then ops.After g
+    else (if code == 0x02 then ops.Push g
+    else (if code == 0x03 then ops.And
+    else (if code == 0x04 then ops.Or
+    else (if code == 0x05 then ops.Not
+    else (if code == 0x06 then ops.True
+    else (if code == 0x07 then ops.False
+    else (if code == 0x08 then ops.End else ops.Sor))))))))
+
+-- the op that begins r
+abbrev pub op_in : List ℕ → Op
+op_in r = op_by (slice_index r 0) (record { bytes = field 1 16 r })
+
+-- a code that carries a GUID
+abbrev pub carries : ℕ → Bool
+carries code = nat_le code 2
+
+-- a GUID has 16 bytes
+abbrev pub operand_len : Bool → ℕ
+operand_len true = 16
+operand_len false = 0
+
+abbrev pub IsSized : Op → Type 0
+IsSized o = length (operand_of o) ≡ operand_len (carries (code_of o))
+
+-- b is the ops and then the rest, and the ops are a whole expression of the phase
+pub record Spells (phase : Phase) (all : List Op) (rest b : List ℕ) : Type 0 where
+  pub joined : b ≡ ops_bytes all ++ rest
+  pub whole : ((t : Expression) × IsTree phase all t) ⊎ IsOrder phase all
+  pub sized : AllByRecursion IsSized all
+
+-- whether a GUID is among those that are installed
+abbrev pub is_among : Guid → List Guid → Bool
+is_among g set = list_any (λ h. bytes_eq (bytes_of h) (bytes_of g)) set
+
+-- the truth of a tree, where these GUIDs are installed
+abbrev pub truth : List Guid → Expression → Bool
+truth set always = true
+truth set never = false
+truth set (installed g) = is_among g set
+truth set (negated t) = not (truth set t)
+truth set (both t u) = truth set t && truth set u
+truth set (either t u) = truth set t || truth set u

@@ -1,0 +1,61 @@
+//! A dependency expression.
+
+ghost use Rattle.std.specs.Prelude.{◌≡◌};
+ghost use Rattle.fv_depex.specs.Expressions.{Spells};
+ghost use Rattle.fv_depex.specs.View.{IsReadDepex};
+
+use crate::op::{Op, Phase};
+use fv_base::ByteList;
+use std::marker::Model;
+
+/// A dependency expression, made by reading alone: its ops, the last of which is END, and the
+/// bytes behind it. (PI specification, volume 1, section 3.4, and volume 2, section 10.7.)
+#[derive(Drop)]
+pub struct Depex {
+    phase: Phase,
+    ops: Vec<Op>,
+    rest: ByteList,
+}
+
+impl Model for Depex {
+    ghost use Rattle.fv_depex.specs.View.{DepexForm, IsReadDepex};
+
+    ghost Value = { DepexForm };
+
+    ghost view = { λ d. record { phase = d.phase; ops = d.ops.items; rest = d.rest } };
+
+    ghost invariant = { λ d. IsReadDepex (record { phase = d.phase; ops = d.ops.items; rest = d.rest }) };
+}
+
+impl Depex {
+    /// The expression of these ops and this rest.
+    pub(crate) fn from_parts(phase: Phase, ops: Vec<Op>, rest: ByteList) -> Depex
+        requires { IsReadDepex (record { phase = phase; ops = ops.items; rest = rest }) }
+        ensures { result ≡ record { phase = phase; ops = ops.items; rest = rest } }
+    {
+        Depex { phase, ops, rest }
+    }
+
+    /// The phase that it was read for.
+    pub fn phase(&self) -> Phase
+        ensures phase { result ≡ self.now.phase }
+        ensures read { IsReadDepex self.now }
+    {
+        self.phase
+    }
+
+    /// The ops in their order.
+    pub fn ops(&self) -> &[Op]
+        ensures ops { result.now ≡ self.now.ops }
+        ensures read { IsReadDepex self.now }
+    {
+        self.ops.as_slice()
+    }
+
+    /// The bytes behind END.
+    pub fn rest(&self) -> &[u8]
+        ensures { result.now ≡ self.now.rest }
+    {
+        self.rest.as_slice()
+    }
+}

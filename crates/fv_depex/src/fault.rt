@@ -1,0 +1,87 @@
+//! Why an expression was refused.
+
+ghost use Rattle.std.specs.Prelude.{◌≡◌};
+ghost use Rattle.fv_depex.specs.Checks.{number_of, want_of_memory};
+
+use std::alloc::{AllocError, AllocFailed};
+use thiserror::Error;
+
+/// Why an expression was refused.
+#[derive(Clone, Copy, Debug, PartialEq, Eq, Error)]
+pub enum DepexFaultKind {
+    /// An op's GUID is cut.
+    #[error("the GUID of an op is cut")]
+    Short,
+    /// A code that the phase has not.
+    #[error("the code of an op is not known")]
+    Opcode,
+    /// The stack holds too few values, or at END not exactly one.
+    #[error("the stack does not hold what an op takes")]
+    Stack,
+    /// The bytes end before END.
+    #[error("the expression has no end")]
+    NoEnd,
+    /// BEFORE, AFTER or SOR not first, or an op but END behind BEFORE or AFTER.
+    #[error("an op stands where it may not")]
+    Position,
+    /// A growth was refused. At 0.
+    #[error("out of memory")]
+    OutOfMemory,
+}
+
+impl DepexFaultKind {
+    /// The number by which the kind is known, 1 to 6.
+    pub fn number(self) -> u8
+        ensures { result ≡ number_of self }
+    {
+        match self {
+            DepexFaultKind::Short => 1,
+            DepexFaultKind::Opcode => 2,
+            DepexFaultKind::Stack => 3,
+            DepexFaultKind::NoEnd => 4,
+            DepexFaultKind::Position => 5,
+            DepexFaultKind::OutOfMemory => 6,
+        }
+    }
+}
+
+/// What was refused, and where.
+#[derive(Clone, Copy, Debug, PartialEq, Eq, Error)]
+#[error("{kind} (depex fault {}) at offset {offset}", .kind.number())]
+pub struct DepexFault {
+    /// Why.
+    pub kind: DepexFaultKind,
+    /// The op's offset in bytes.
+    pub offset: u64,
+}
+
+impl DepexFault {
+    /// The number by which the fault's kind is known.
+    pub fn number(self) -> u8
+        ensures { result ≡ number_of self.kind }
+    {
+        self.kind.number()
+    }
+}
+
+impl From<AllocError> for DepexFault {
+    ghost from_gives = { λ _ f. f ≡ want_of_memory };
+
+    fn from(_error: AllocError) -> DepexFault {
+        DepexFault {
+            kind: DepexFaultKind::OutOfMemory,
+            offset: 0,
+        }
+    }
+}
+
+impl<T: Drop> From<AllocFailed<T>> for DepexFault {
+    ghost from_gives = { λ _ f. f ≡ want_of_memory };
+
+    fn from(_error: AllocFailed<T>) -> DepexFault {
+        DepexFault {
+            kind: DepexFaultKind::OutOfMemory,
+            offset: 0,
+        }
+    }
+}

@@ -1,0 +1,195 @@
+//! Expressions, read.
+
+ghost use Rattle.std.specs.Prelude.{◌≡◌, ◌≢◌, ◌≤◌, ◌+◌, ℕ, List, length, drop, true, None, Some, OnOk, IfOk, IfErr};
+ghost use Rattle.fv_base.specs.Guids.{bytes_of};
+ghost use Rattle.fv_base.specs.Value.{field};
+ghost use Rattle.fv_depex.specs.Checks.{IsFirst, IsFirstKind, OpStands, first_kind, knows, in_place, has_values, holds_values, has_operand, op_checks, want_of_memory};
+ghost use Rattle.fv_depex.specs.Expressions.{Spells, carries, code_of, op_in, operand_len};
+ghost use Rattle.fv_depex.specs.declared.op.Op.{Op};
+
+use crate::depex::Depex;
+use crate::fault::{DepexFault, DepexFaultKind};
+use crate::op::{Op, Phase};
+use crate::stage::{Stage, stage_after};
+use fv_base::field::field;
+use fv_base::{ByteList, Guid};
+use std::alloc::Global;
+
+/// The code of END.
+const END: u8 = 0x08;
+
+fn knows(phase: Phase, code: u8) -> bool
+    ensures { result ≡ knows phase code }
+{
+    match phase {
+        Phase::Pei => 0x02 <= code && code <= 0x08,
+        Phase::Dxe => code <= 0x09,
+    }
+}
+
+fn in_place(stage: Stage, code: u8) -> bool
+    ensures { result ≡ in_place stage code }
+{
+    match stage {
+        Stage::Start => true,
+        Stage::Ordered => code == 0x08,
+        Stage::Values(_) => 0x02 <= code && code <= 0x08,
+    }
+}
+
+fn has_values(count: u64, code: u8) -> bool
+    ensures { result ≡ has_values count code }
+{
+    if code == 0x03 || code == 0x04 {
+        2 <= count
+    } else if code == 0x05 {
+        1 <= count
+    } else if code == 0x08 {
+        count == 1
+    } else {
+        true
+    }
+}
+
+fn holds_values(stage: Stage, code: u8) -> bool
+    ensures { result ≡ holds_values stage code }
+{
+    match stage {
+        Stage::Start => has_values(0, code),
+        Stage::Ordered => code == END || has_values(0, code),
+        Stage::Values(count) => has_values(count, code),
+    }
+}
+
+fn carries(code: u8) -> bool
+    ensures { result ≡ carries code }
+{
+    code <= 0x02
+}
+
+fn has_operand(rest: &[u8]) -> bool
+    requires { 1 ≤ length rest.now }
+    ensures { result ≡ has_operand rest.now }
+{
+    !carries(rest[0]) || rest.len() >= 17
+}
+
+// Done, or the kind of the first check that does not hold.
+fn check_op(rest: &[u8], phase: Phase, stage: Stage) -> Result<(), DepexFaultKind>
+    ensures ok { OnOk result (first_kind (op_checks phase stage rest.now) ≡ None) }
+    ensures err { IfErr result (λ kind. first_kind (op_checks phase stage rest.now) ≡ Some kind) }
+{
+    if rest.is_empty() {
+        return Err(DepexFaultKind::NoEnd);
+    }
+    let code = rest[0];
+    if !knows(phase, code) {
+        return Err(DepexFaultKind::Opcode);
+    }
+    if !in_place(stage, code) {
+        return Err(DepexFaultKind::Position);
+    }
+    if !has_operand(rest) {
+        return Err(DepexFaultKind::Short);
+    }
+    if !holds_values(stage, code) {
+        return Err(DepexFaultKind::Stack);
+    }
+    Ok(())
+}
+
+// The GUID behind a code.
+fn operand_in(rest: &[u8]) -> Guid
+    requires { 17 ≤ length rest.now }
+    ensures { bytes_of result ≡ field 1 16 rest.now }
+{
+    let mut bytes = [0u8; 16];
+    bytes.copy_from_slice(field(rest, 1, 16));
+    Guid::from_bytes(bytes)
+}
+
+// The op at the front.
+fn op_in(rest: &[u8]) -> Op
+    requires some { 1 ≤ length rest.now }
+    requires operand { has_operand rest.now ≡ true }
+    ensures { result ≡ op_in rest.now }
+{
+    match rest[0] {
+        0x00 => Op::Before(operand_in(rest)),
+        0x01 => Op::After(operand_in(rest)),
+        0x02 => Op::Push(operand_in(rest)),
+        0x03 => Op::And,
+        0x04 => Op::Or,
+        0x05 => Op::Not,
+        0x06 => Op::True,
+        0x07 => Op::False,
+        0x08 => Op::End,
+        _ => Op::Sor,
+    }
+}
+
+// How many bytes an op has.
+fn op_len(op: &Op) -> usize
+    ensures { result ≡ 1 + operand_len (carries (code_of op.now)) }
+{
+    if carries(op.code()) { 17 } else { 1 }
+}
+
+// The op at the front, or the kind of the first fault there.
+fn next_op(rest: &[u8], phase: Phase, stage: Stage) -> Result<Op, DepexFaultKind>
+    ensures found { IfOk result (λ o. OpStands phase stage o rest.now) }
+    ensures first { IfErr result (IsFirstKind (op_checks phase stage rest.now)) }
+{
+    check_op(rest, phase, stage)?;
+    Ok(op_in(rest))
+}
+
+// The ops up to END, and how many bytes they have.
+fn read_ops(alloc: Global, bytes: &[u8], phase: Phase) -> Result<(Vec<Op>, usize), DepexFault>
+    ensures found { IfOk result (λ p. (p.1 ≤ length bytes.now) × Spells phase p.0.items (drop p.1 bytes.now) bytes.now) }
+    ensures first { IfErr result (λ f. f ≢ want_of_memory → IsFirst phase bytes.now f) }
+{
+    let mut ops = Vec::new(alloc);
+    let mut at = 0;
+    let mut stage = Stage::Start;
+    loop {
+        let op = match next_op(&bytes[at..], phase, stage) {
+            Ok(op) => op,
+            Err(kind) => {
+                let offset = at as u64;
+                return Err(DepexFault { kind, offset });
+            }
+        };
+        at += op_len(&op);
+        ops.push(op)?;
+        if op.code() == END {
+            return Ok((ops, at));
+        }
+        stage = stage_after(stage, &op);
+    }
+}
+
+/// The expression of a dependency section's body, and the bytes behind its END. (PI specification,
+/// volume 1, section 3.4, and volume 2, section 10.7.)
+///
+/// # Errors
+///
+/// At the first op that has a fault, in this order: NoEnd where no bytes are left, Opcode,
+/// Position, Short, Stack. OutOfMemory at 0.
+pub fn read_depex(alloc: Global, bytes: &[u8], phase: Phase) -> Result<Depex, DepexFault>
+    // The bytes are spelled by these ops and this rest.
+    ensures found { IfOk result (λ d. (d.phase ≡ phase) × Spells phase d.ops d.rest bytes.now) }
+
+    // They are spelled by no others.
+    ensures only { IfOk result (λ d. (ops : List Op) (rest : List ℕ) → Spells phase ops rest bytes.now → (ops ≡ d.ops) × (rest ≡ d.rest)) }
+
+    // Where it refuses, want of memory aside, they are spelled by none.
+    ensures none { IfErr result (λ f. f ≢ want_of_memory → (ops : List Op) (rest : List ℕ) → Spells phase ops rest bytes.now → ⊥) }
+
+    // A refusal, want of memory aside, names the first check that does not hold, at the first op that has one.
+    ensures first { IfErr result (λ f. f ≢ want_of_memory → IsFirst phase bytes.now f) }
+{
+    let (ops, at) = read_ops(alloc, bytes, phase)?;
+    let rest = Vec::from_slice(alloc, &bytes[at..])?;
+    Ok(Depex::from_parts(phase, ops, ByteList::from_vec(rest)))
+}

@@ -1,0 +1,106 @@
+//! Expressions, evaluated.
+
+ghost use Rattle.std.specs.Prelude.{◌≡◌, Bool, true, false, if◌then◌else◌, None, Some, [], ◌∷◌, ◌<◌, length, reverse, IfSome, IfNone, IfOk, IfErr};
+ghost use Rattle.fv_depex.specs.Checks.{want_of_memory};
+ghost use Rattle.fv_depex.specs.Evaluation.{step, run, top};
+ghost use Rattle.fv_depex.specs.Expressions.{Expression, IsTree, IsOrder, is_among, truth};
+
+use crate::depex::Depex;
+use crate::fault::DepexFault;
+use crate::op::Op;
+use fv_base::Guid;
+use std::alloc::{AllocError, Global};
+
+// Whether a GUID is among those that are installed.
+fn is_among(guid: &Guid, installed: &[Guid]) -> bool
+    ensures { result ≡ is_among guid.now installed.now }
+{
+    installed.iter().any(|other| other == guid)
+}
+
+// The two values on top of a stack, the lower one first.
+fn pop_two(stack: &mut Vec<bool>) -> Option<(bool, bool)>
+    ensures found { IfSome result (λ p. reverse stack.old.items ≡ p.1 ∷ p.0 ∷ reverse stack.new.items) }
+    ensures none { IfNone result (length stack.old.items < 2) }
+{
+    let second = stack.pop()?;
+    let first = stack.pop()?;
+    Some((first, second))
+}
+
+// The value on top of a stack, if there is one.
+fn top(stack: &mut Vec<bool>) -> Option<bool>
+    ensures { result ≡ top (reverse stack.old.items) }
+{
+    stack.pop()
+}
+
+// One op on the stack, and whether the stack had what it takes.
+fn step(stack: &mut Vec<bool>, op: &Op, installed: &[Guid]) -> Result<bool, AllocError>
+    ensures { IfOk result (λ done. step installed.now (reverse stack.old.items) op.now ≡ (if done then Some (reverse stack.new.items) else None)) }
+{
+    match op {
+        Op::Before(_) | Op::After(_) => return Ok(false),
+        Op::Push(guid) => stack.push(is_among(guid, installed))?,
+        Op::True => stack.push(true)?,
+        Op::False => stack.push(false)?,
+        Op::Not => {
+            let Some(value) = stack.pop() else {
+                return Ok(false);
+            };
+            stack.push(!value)?;
+        }
+        Op::And => {
+            let Some((first, second)) = pop_two(stack) else {
+                return Ok(false);
+            };
+            stack.push(first && second)?;
+        }
+        Op::Or => {
+            let Some((first, second)) = pop_two(stack) else {
+                return Ok(false);
+            };
+            stack.push(first || second)?;
+        }
+        Op::End | Op::Sor => {}
+    }
+    Ok(true)
+}
+
+// The value that ops leave on top, if they have one.
+fn run(alloc: Global, ops: &[Op], installed: &[Guid]) -> Result<Option<bool>, DepexFault>
+    ensures value { IfOk result (λ v. v ≡ run installed.now ops.now []) }
+    ensures err { IfErr result (λ f. f ≡ want_of_memory) }
+{
+    let mut stack = Vec::new(alloc);
+    for op in ops {
+        if !step(&mut stack, op, installed)? {
+            return Ok(None);
+        }
+    }
+    Ok(top(&mut stack))
+}
+
+/// The truth of an expression where these GUIDs are installed, or None for BEFORE and AFTER, which
+/// have none. Each PUSH looks through the installed GUIDs, so it costs the ops times their number.
+///
+/// # Errors
+///
+/// OutOfMemory.
+pub fn evaluate(
+    alloc: Global,
+    depex: &Depex,
+    installed: &[Guid],
+) -> Result<Option<bool>, DepexFault>
+    // It is the truth of the tree whose ops these are.
+    ensures truth { IfOk result (λ v. (t : Expression) → IsTree depex.now.phase depex.now.ops t → v ≡ Some (truth installed.now t)) }
+
+    // BEFORE and AFTER have none.
+    ensures order { IfOk result (λ v. IsOrder depex.now.phase depex.now.ops → v ≡ None) }
+
+    // They are the ops of one tree at most.
+    ensures tree { (t u : Expression) → IsTree depex.now.phase depex.now.ops t → IsTree depex.now.phase depex.now.ops u → t ≡ u }
+    ensures err { IfErr result (λ f. f ≡ want_of_memory) }
+{
+    run(alloc, depex.ops(), installed)
+}

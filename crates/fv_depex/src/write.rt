@@ -1,0 +1,51 @@
+//! Expressions, written.
+
+ghost use Rattle.std.specs.Prelude.{◌≡◌, ◌∷◌, ◌++◌, OnOk, IfOk, IfErr};
+ghost use Rattle.fv_depex.specs.Checks.{want_of_memory};
+ghost use Rattle.fv_depex.specs.Expressions.{Spells, code_of, operand_of, ops_bytes};
+
+use crate::depex::Depex;
+use crate::fault::DepexFault;
+use crate::op::Op;
+use fv_base::ByteList;
+use std::alloc::{AllocError, Global};
+
+// The bytes with those of an op behind them.
+fn push_op(bytes: &mut Vec<u8>, op: &Op) -> Result<(), AllocError>
+    ensures { OnOk result (bytes.new.items ≡ bytes.old.items ++ (code_of op.now ∷ operand_of op.now)) }
+{
+    bytes.push(op.code())?;
+    if let Op::Before(guid) | Op::After(guid) | Op::Push(guid) = op {
+        bytes.extend_from_slice(&guid.to_bytes())?;
+    }
+    Ok(())
+}
+
+// The bytes of ops.
+fn ops_bytes(alloc: Global, ops: &[Op]) -> Result<Vec<u8>, AllocError>
+    ensures { IfOk result (λ v. v.items ≡ ops_bytes ops.now) }
+{
+    let mut bytes = Vec::new(alloc);
+    for op in ops {
+        push_op(&mut bytes, op)?;
+    }
+    Ok(bytes)
+}
+
+/// The bytes of an expression: those of its ops, and the rest behind END.
+///
+/// # Errors
+///
+/// OutOfMemory.
+pub fn depex_bytes(alloc: Global, depex: &Depex) -> Result<ByteList, DepexFault>
+    // They are spelled by the expression.
+    ensures spells { IfOk result (λ b. Spells depex.now.phase depex.now.ops depex.now.rest b) }
+
+    // They are these bytes.
+    ensures bytes { IfOk result (λ b. b ≡ ops_bytes depex.now.ops ++ depex.now.rest) }
+    ensures err { IfErr result (λ f. f ≡ want_of_memory) }
+{
+    let mut bytes = ops_bytes(alloc, depex.ops())?;
+    bytes.extend_from_slice(depex.rest())?;
+    Ok(ByteList::from_vec(bytes))
+}

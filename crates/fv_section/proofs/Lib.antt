@@ -1,0 +1,5 @@
+pub mod FrameLemmas
+pub mod SplitLemmas
+pub mod StreamLemmas
+pub mod TextLemmas
+pub mod WrittenLemmas

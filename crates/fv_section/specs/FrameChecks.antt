@@ -1,0 +1,55 @@
+-- The checks of a section header in their order, and the first fault of a stream.
+use Rattle.std.specs.Prelude.{◌≡◌, ℕ, ◌-◌, ◌%◌, ◌<◌, ◌==◌, nat_le, ◌&&◌, Bool, true, false, Result, List, [], ◌∷◌, length, take, drop, slice_index}
+use Rattle.fv_base.specs.Checks.{Check, check, first_fault, verdict_by, IsFirstFault}
+use Rattle.fv_base.specs.Value.{le_at}
+use Rattle.fv_base.specs.declared.fault.Fault.{Fault}
+use Rattle.fv_base.specs.declared.fault.FaultKind.TheVariants as kinds
+use Rattle.fv_section.specs.Frames.{FrameForm, head_len, Splits}
+
+-- what the header that begins r says: its form, its bytes, and those of the section
+abbrev pub is_extended : List ℕ → Bool
+is_extended r = le_at 0 3 r == 0xffffff
+
+abbrev pub head_len_at : List ℕ → ℕ
+head_len_at r = head_len (is_extended r)
+
+abbrev pub size_in : Bool → List ℕ → ℕ
+size_in false r = le_at 0 3 r
+size_in true r = le_at 4 4 r
+
+abbrev pub size_at : List ℕ → ℕ
+size_at r = size_in (is_extended r) r
+
+-- the header is whole, and the size is neither below it nor past the end
+abbrev pub has_size : List ℕ → Bool
+has_size r = nat_le (head_len_at r) (length r) && (nat_le (head_len_at r) (size_at r) && nat_le (size_at r) (length r))
+
+-- of a section at the place `at`, from where on the bytes are r
+abbrev pub frame_checks : ℕ → List ℕ → List Check
+frame_checks at r =
+    check (nat_le 4 (length r)) kinds.SectionTail at
+    ∷ check (has_size r) kinds.SectionSize at
+    ∷ []
+
+-- the frame at the place `at`, from where on the bytes are r
+abbrev pub frame_in : ℕ → List ℕ → FrameForm
+frame_in at r = record {
+  offset = at;
+  kind = slice_index r 3;
+  extended = is_extended r;
+  body = take (size_at r - head_len_at r) (drop (head_len_at r) r);
+}
+
+abbrev pub frame_verdict : ℕ → List ℕ → Result FrameForm Fault
+frame_verdict at r = verdict_by (first_fault (frame_checks at r)) (frame_in at r)
+
+-- frames and fillers join up to a place within the stream, a multiple of 4; there the fault is that of the first check that does
+-- not hold
+pub record IsFirst (b : List ℕ) (fault : Fault) : Type 0 where
+  pub frames : List FrameForm
+  pub tail : ℕ
+  pub at : ℕ
+  pub split : Splits frames tail (take at b)
+  pub multiple : at % 4 ≡ 0
+  pub inside : at < length b
+  pub fault_is : IsFirstFault (frame_checks at (drop at b)) fault

@@ -1,0 +1,66 @@
+-- Streams of sections (PI specification, volume 3, section 3.2.4, EFI_COMMON_SECTION_HEADER and EFI_COMMON_SECTION_HEADER2).
+use Rattle.std.specs.Prelude.{◌≡◌, ◌≢◌, ℕ, ◌+◌, ◌*◌, ◌/◌, ◌<◌, ◌≤◌, Bool, true, false, List, [], ◌∷◌, ◌++◌, length, drop, slice_index}
+use Rattle.fv_base.specs.Value.{le_at}
+
+-- a frame: a section as it lies in its stream, by where its header begins, its type, its form, and its body
+pub record FrameForm : Type 0 where
+  pub offset : ℕ
+  pub kind : ℕ
+  pub extended : Bool
+  pub body : List ℕ
+
+-- the bytes of a header, short and extended
+abbrev pub head_len : Bool → ℕ
+head_len false = 4
+head_len true = 8
+
+-- how many bytes a frame has
+abbrev pub size : FrameForm → ℕ
+size f = head_len f.extended + length f.body
+
+-- a short header says the size in its Size, which is then not FFFFFF; an extended one says it behind, and its Size is FFFFFF
+abbrev pub SaysSize : Bool → ℕ → List ℕ → Type 0
+SaysSize false n h = (le_at 0 3 h ≡ n) × (n ≢ 0xffffff)
+SaysSize true n h = (le_at 0 3 h ≡ 0xffffff) × (le_at 4 4 h ≡ n)
+
+-- the bytes h are the header of a section of this form and type, whose body has n bytes; the size counts the header
+pub record IsHeader (extended : Bool) (kind n : ℕ) (h : List ℕ) : Type 0 where
+  pub whole : length h ≡ head_len extended
+  pub kind_is : slice_index h 3 ≡ kind
+  pub says : SaysSize extended (head_len extended + n) h
+
+-- b is the frame's header and body, and then rest
+pub record Begins (f : FrameForm) (b rest : List ℕ) : Type 0 where
+  pub head : List ℕ
+  pub is_header : IsHeader f.extended f.kind (length f.body) head
+  pub text : b ≡ head ++ (f.body ++ rest)
+
+-- the least multiple of 4 that is at least n
+abbrev pub up_to_4 : ℕ → ℕ
+up_to_4 n = (n + 3) / 4 * 4
+
+-- from the place `at` of the stream on, b is these frames, joined, with filler of any value from each to the next multiple of 4, and
+-- `tail` bytes behind the last, at most to the next multiple of 4
+abbrev pub From : ℕ → List FrameForm → ℕ → List ℕ → Type 0
+From at [] tail b = (b ≡ []) × (tail ≡ 0)
+From at (f ∷ []) tail b =
+    (rest : List ℕ) × Begins f b rest × (f.offset ≡ at) × (length rest ≡ tail) × (at + size f + tail ≤ up_to_4 (at + size f))
+From at (f ∷ g ∷ fs) tail b =
+    (filler : List ℕ) × (rest : List ℕ) × Begins f b (filler ++ rest) × (f.offset ≡ at)
+    × (at + size f + length filler ≡ up_to_4 (at + size f)) × From (up_to_4 (at + size f)) (g ∷ fs) tail rest
+
+-- b is a stream of these frames, with `tail` bytes behind the last one
+abbrev pub Splits : List FrameForm → ℕ → List ℕ → Type 0
+Splits fs tail b = From 0 fs tail b
+
+-- this frame's header stands at the place `at` of b
+pub record StandsAt (f : FrameForm) (at : ℕ) (b : List ℕ) : Type 0 where
+  pub offset : f.offset ≡ at
+  pub inside : at < length b
+  pub behind : List ℕ
+  pub begins : Begins f (drop at b) behind
+
+-- each frame ends within so many bytes from the stream's start
+abbrev pub AllWithin : ℕ → List FrameForm → Type 0
+AllWithin end [] = Unit {0}
+AllWithin end (f ∷ fs) = (f.offset + size f ≤ end) × AllWithin end fs

@@ -1,0 +1,5 @@
+pub mod FrameChecks
+pub mod Frames
+pub mod Seen
+pub mod Texts
+pub mod Written

@@ -1,0 +1,35 @@
+-- What some leaf sections hold (PI specification, volume 3, sections 3.2.5.15, 3.2.5.14 and 3.2.5.6).
+use Rattle.std.specs.Prelude.{◌≡◌, ◌≢◌, ℕ, ◌-◌, ◌%◌, ◌==◌, nat_le, ◌&&◌, not, Bool, List, [], ◌∷◌, ◌++◌, length, take, drop}
+use Rattle.std.specs.List.{AllByRecursion, list_all}
+use Rattle.fv_base.specs.Guids.{bytes_of}
+use Rattle.fv_base.specs.Sums.{words_of}
+use Rattle.fv_base.specs.Value.{le}
+use Rattle.fv_base.specs.declared.guid.Guid.{Guid}
+
+-- b is the 16-bit units of a text, none of them zero, and then a zero unit
+pub record IsText (b text : List ℕ) : Type 0 where
+  pub joined : b ≡ text ++ (0 ∷ 0 ∷ [])
+  pub whole_units : length text % 2 ≡ 0
+  pub none_zero : AllByRecursion (λ unit. unit ≢ 0) (words_of text)
+
+-- b is a number of two bytes and then a text with its zero unit
+pub record IsVersion (b : List ℕ) (build : ℕ) (text : List ℕ) : Type 0 where
+  pub number : List ℕ
+  pub units : List ℕ
+  pub joined : b ≡ number ++ units
+  pub two : length number ≡ 2
+  pub spells : le number ≡ build
+  pub is_text : IsText units text
+
+-- b is a GUID and then other bytes
+abbrev pub IsFreeform : List ℕ → Guid → List ℕ → Type 0
+IsFreeform b guid rest = b ≡ bytes_of guid ++ rest
+
+-- the tests for a text
+abbrev pub none_zero : List ℕ → Bool
+none_zero units = list_all (λ unit. not (unit == 0)) units
+
+abbrev pub is_text : List ℕ → Bool
+is_text b =
+    nat_le 2 (length b)
+    && (length b % 2 == 0) && (le (drop (length b - 2) b) == 0) && none_zero (words_of (take (length b - 2) b))

@@ -1,0 +1,128 @@
+//! A section as it lies in its stream.
+
+ghost use Rattle.std.specs.Prelude.{◌≡◌, ◌==◌, ◌<◌, ◌≤◌, length, drop, Ok, Err, IfOk, IfErr, IfSome, IfNone};
+ghost use Rattle.fv_base.specs.Checks.{IsFirstFault};
+ghost use Rattle.fv_base.specs.Value.{le_at};
+ghost use Rattle.fv_section.specs.FrameChecks.{is_extended, head_len_at, size_at, has_size, frame_in, frame_checks, frame_verdict};
+ghost use Rattle.fv_section.specs.Frames.{FrameForm, StandsAt};
+ghost use Rattle.fv_section.specs.Seen.{form_of};
+
+use byteorder::{ByteOrder, LittleEndian};
+use fv_base::field::field;
+use fv_base::{Fault, FaultKind, check};
+
+/// The Size of an extended header, whose size stands behind its first 4 bytes.
+const EXTENDED: u32 = 0xff_ffff;
+
+/// A section as it lies in its stream. (PI specification, volume 3, section 3.2.4,
+/// `EFI_COMMON_SECTION_HEADER` and `EFI_COMMON_SECTION_HEADER2`.)
+#[derive(Clone, Copy)]
+pub struct Frame<'a> {
+    /// Where its header begins, in bytes from the stream's start.
+    pub offset: u64,
+    /// Its type.
+    pub kind: u8,
+    /// Whether its header has 8 bytes, and not 4.
+    pub extended: bool,
+    /// Its bytes behind the header.
+    pub body: &'a [u8],
+}
+
+fn short_size(rest: &[u8]) -> u32
+    requires least { 4 ≤ length rest.now }
+    ensures { result ≡ le_at 0 3 rest.now }
+{
+    LittleEndian::read_u24(field(rest, 0, 3))
+}
+
+fn is_extended(rest: &[u8]) -> bool
+    requires least { 4 ≤ length rest.now }
+    ensures { result ≡ is_extended rest.now }
+{
+    short_size(rest) == EXTENDED
+}
+
+fn head_len(rest: &[u8]) -> usize
+    requires least { 4 ≤ length rest.now }
+    ensures { result ≡ head_len_at rest.now }
+{
+    if is_extended(rest) { 8 } else { 4 }
+}
+
+fn size_of(rest: &[u8]) -> usize
+    requires least { 4 ≤ length rest.now }
+    requires header { head_len_at rest.now ≤ length rest.now }
+    ensures { result ≡ size_at rest.now }
+{
+    if is_extended(rest) {
+        LittleEndian::read_u32(field(rest, 4, 4)) as usize
+    } else {
+        short_size(rest) as usize
+    }
+}
+
+fn has_size(rest: &[u8]) -> bool
+    requires least { 4 ≤ length rest.now }
+    ensures { result ≡ has_size rest.now }
+{
+    let header = head_len(rest);
+    header <= rest.len() && header <= size_of(rest) && size_of(rest) <= rest.len()
+}
+
+// The frame at the front.
+fn frame_in(rest: &[u8], at: u64) -> Frame<'_>
+    requires least { 4 ≤ length rest.now }
+    requires header { head_len_at rest.now ≤ size_at rest.now }
+    requires within { size_at rest.now ≤ length rest.now }
+    ensures { form_of result ≡ frame_in at rest.now }
+{
+    Frame {
+        offset: at,
+        kind: rest[3],
+        extended: is_extended(rest),
+        body: &rest[head_len(rest)..size_of(rest)],
+    }
+}
+
+// The frame at the front, or the first fault.
+fn front(rest: &[u8], at: u64) -> Result<Frame<'_>, Fault>
+    ensures found { IfOk result (λ f. frame_verdict at rest.now ≡ Ok (form_of f)) }
+    ensures refused { IfErr result (λ e. frame_verdict at rest.now ≡ Err e) }
+    ensures place { IfErr result (λ e. e.place.offset ≡ at) }
+{
+    check(rest.len() >= 4, FaultKind::SectionTail, at)?;
+    check(has_size(rest), FaultKind::SectionSize, at)?;
+    Ok(frame_in(rest, at))
+}
+
+/// The frame whose header stands at the place `at` of the stream, in bytes, or None where that is
+/// the stream's end or past it. Frames stand at multiples of 4. Takes no memory. (PI
+/// specification, volume 3, section 3.2.4.)
+///
+/// # Errors
+///
+/// SectionTail at `at` where 1 to 3 bytes are left; SectionSize at `at` where the size is below
+/// the header or past the end, or an extended header is cut.
+pub fn next_frame(stream: &[u8], at: u64) -> Result<Option<Frame<'_>>, Fault>
+    // This frame stands there.
+    ensures found { IfOk result (λ o. IfSome o (λ f. StandsAt (form_of f) at stream.now)) }
+
+    // No other does.
+    ensures only { IfOk result (λ o. IfSome o (λ f. (g : FrameForm) → StandsAt g at stream.now → g ≡ form_of f)) }
+
+    // There is none at the end and past it.
+    ensures past { IfOk result (λ o. IfNone o (length stream.now ≤ at)) }
+
+    // Where it refuses, none stands there.
+    ensures none { IfErr result (λ _. (g : FrameForm) → StandsAt g at stream.now → ⊥) }
+
+    // A refusal names the first check that does not hold.
+    ensures first { IfErr result (IsFirstFault (frame_checks at (drop at stream.now))) }
+    ensures place { IfErr result (λ e. (e.place.offset ≡ at) × (at < length stream.now)) }
+{
+    if at >= stream.len() as u64 {
+        return Ok(None);
+    }
+    let frame = front(&stream[at as usize..], at)?;
+    Ok(Some(frame))
+}

@@ -1,0 +1,5 @@
+//! What no contract says: streams, texts and headers whose bytes are known from outside.
+
+mod streams;
+mod texts;
+mod written;

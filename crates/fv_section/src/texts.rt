@@ -1,0 +1,78 @@
+//! What some leaf sections hold.
+
+ghost use Rattle.std.specs.Prelude.{◌≡◌, ℕ, List, length, IfSome, IfNone};
+ghost use Rattle.fv_base.specs.Guids.{bytes_of};
+ghost use Rattle.fv_base.specs.Sums.{words_of};
+ghost use Rattle.fv_section.specs.Texts.{IsText, IsVersion, IsFreeform, none_zero, is_text};
+
+use byteorder::{ByteOrder, LittleEndian};
+use fv_base::Guid;
+
+// Whether no 16-bit unit is zero.
+fn none_zero(units: &[u8]) -> bool
+    ensures { result ≡ none_zero (words_of units.now) }
+{
+    let mut rest = units;
+    while rest.len() >= 2 {
+        if LittleEndian::read_u16(rest) == 0 {
+            return false;
+        }
+        rest = &rest[2..];
+    }
+    true
+}
+
+// Whether the bytes are 16-bit units of which the last, and no other, is zero.
+fn is_text(bytes: &[u8]) -> bool
+    ensures { result ≡ is_text bytes.now }
+{
+    let len = bytes.len();
+    len >= 2
+        && len % 2 == 0
+        && LittleEndian::read_u16(&bytes[len - 2..]) == 0
+        && none_zero(&bytes[..len - 2])
+}
+
+/// The text of a user interface section's body: its 16-bit units before the zero unit that ends
+/// it, in bytes. None where the body has an odd number of bytes, or its last unit is not the only
+/// one that is zero. Takes no memory. (PI specification, volume 3, section 3.2.5.15.)
+pub fn ui_text(body: &[u8]) -> Option<&[u8]>
+    ensures found { IfSome result (λ text. IsText body.now text.now) }
+    ensures none { IfNone result ((text : List ℕ) → IsText body.now text → ⊥) }
+{
+    if is_text(body) {
+        Some(&body[..body.len() - 2])
+    } else {
+        None
+    }
+}
+
+/// The build number and the text of a version section's body. None where the body is no number of
+/// 2 bytes and a text with its zero unit. Takes no memory. (PI specification, volume 3, section
+/// 3.2.5.14.)
+pub fn version(body: &[u8]) -> Option<(u16, &[u8])>
+    ensures found { IfSome result (λ v. IsVersion body.now v.0 v.1.now) }
+    ensures none { IfNone result ((build : ℕ) (text : List ℕ) → IsVersion body.now build text → ⊥) }
+{
+    if body.len() < 2 {
+        return None;
+    }
+    let (number, units) = body.split_at(2);
+    let text = ui_text(units)?;
+    Some((LittleEndian::read_u16(number), text))
+}
+
+/// The GUID and the bytes behind it of a freeform subtype section's body. None where the body has
+/// fewer than 16 bytes. Takes no memory. (PI specification, volume 3, section 3.2.5.6.)
+pub fn freeform(body: &[u8]) -> Option<(Guid, &[u8])>
+    ensures found { IfSome result (λ v. IsFreeform body.now v.0 v.1.now) }
+    ensures none { IfNone result ((guid : Guid) (rest : List ℕ) → length (bytes_of guid) ≡ 16 → IsFreeform body.now guid rest → ⊥) }
+{
+    if body.len() < 16 {
+        return None;
+    }
+    let (name, rest) = body.split_at(16);
+    let mut bytes = [0u8; 16];
+    bytes.copy_from_slice(name);
+    Some((Guid::from_bytes(bytes), rest))
+}
