@@ -1,9 +1,7 @@
 -- Checks in their order.
 use Rattle.std.proofs.Common.{◌≡◌, List, [], ◌∷◌, ◌++◌, refl, ap, ◌∙◌, append_assoc, subst, Bool, true, false}
-use Rattle.std.specs.Prelude.{◌&&◌, Option, None, Some, Result, Ok, Err, if◌then◌else◌}
+use Rattle.std.specs.Prelude.{◌&&◌, Option, None, Some, Ok, Err, if◌then◌else◌}
 use Rattle.fv_base.specs.Checks.{Check, first_fault, verdict_by, AllHold, IsFirstFault}
-use Rattle.fv_base.specs.Faults.{outer_fault}
-use Rattle.fv_base.specs.declared.fault.Fault.{Fault}
 
 pub and_split : (a b : Bool) → (a && b) ≡ true → (a ≡ true) × (b ≡ true)
 and_split true b h = (refl, h)
@@ -14,48 +12,48 @@ and_join true b h k = k
 and_join false b h k = cc
 
 -- every check holds where there is no first fault
-pub all_hold : (cs : List Check) → first_fault cs ≡ None → AllHold cs
+pub all_hold : {F : Type 0} → (cs : List (Check F)) → first_fault cs ≡ None → AllHold cs
 all_hold [] none = tt
 all_hold (c ∷ cs) none = go c.holds refl (all_hold cs) none where
-  go : (h : Bool) → c.holds ≡ h → (first_fault cs ≡ None → AllHold cs) → (if h then first_fault cs else Some (outer_fault c.kind c.offset)) ≡ None → AllHold (c ∷ cs)
+  go : (h : Bool) → c.holds ≡ h → (first_fault cs ≡ None → AllHold cs) → (if h then first_fault cs else Some c.fault) ≡ None → AllHold (c ∷ cs)
   go true is rest n = (is, rest n)
   go false is rest n = cc
 
 -- there is no first fault where every check holds
-pub none_faulty : (cs : List Check) → AllHold cs → first_fault cs ≡ None
+pub none_faulty : {F : Type 0} → (cs : List (Check F)) → AllHold cs → first_fault cs ≡ None
 none_faulty [] all = refl
 none_faulty (c ∷ cs) all = rw all.0 (none_faulty cs all.1)
 
 -- the first fault is that of the first check which does not hold
-pub first_is : (cs : List Check) (f : Fault) → first_fault cs ≡ Some f → IsFirstFault cs f
+pub first_is : {F : Type 0} → (cs : List (Check F)) (f : F) → first_fault cs ≡ Some f → IsFirstFault cs f
 first_is [] f h = cc
-first_is (c ∷ cs) f h = go c.holds refl (first_is cs f) h where
+first_is {F} (c ∷ cs) f h = go c.holds refl (first_is cs f) h where
   go : (t : Bool) → c.holds ≡ t → (first_fault cs ≡ Some f → IsFirstFault cs f)
-      → (if t then first_fault cs else Some (outer_fault c.kind c.offset)) ≡ Some f → IsFirstFault (c ∷ cs) f
-  go true is rest k = let r = rest k in (c ∷ r.0, r.1, r.2, ap (λ (ds : List Check). c ∷ ds) r.3, (is, r.4), r.5, r.6)
+      → (if t then first_fault cs else Some c.fault) ≡ Some f → IsFirstFault (c ∷ cs) f
+  go true is rest k = let r = rest k in (c ∷ r.0, r.1, r.2, ap (λ (ds : List (Check F)). c ∷ ds) r.3, (is, r.4), r.5, r.6)
   go false is rest k = ([], c, cs, refl, tt, is, cc)
 
 -- the first fault among the first checks is that among all
-pub first_before : (cs ds : List Check) (f : Fault) → IsFirstFault cs f → IsFirstFault (cs ++ ds) f
-first_before cs ds f (before, c, after, is, held, fails, fault) =
-    (before, c, after ++ ds, ap (λ (es : List Check). es ++ ds) is ∙ append_assoc before (c ∷ after) ds, held, fails, fault)
+pub first_before : {F : Type 0} → (cs ds : List (Check F)) (f : F) → IsFirstFault cs f → IsFirstFault (cs ++ ds) f
+first_before {F} cs ds f (before, c, after, is, held, fails, fault) =
+    (before, c, after ++ ds, ap (λ (es : List (Check F)). es ++ ds) is ∙ append_assoc before (c ∷ after) ds, held, fails, fault)
 
 -- where the first checks hold, the first fault is that among the rest
-pub first_behind : (cs ds : List Check) (f : Fault) → AllHold cs → IsFirstFault ds f → IsFirstFault (cs ++ ds) f
+pub first_behind : {F : Type 0} → (cs ds : List (Check F)) (f : F) → AllHold cs → IsFirstFault ds f → IsFirstFault (cs ++ ds) f
 first_behind [] ds f all first = first
-first_behind (c ∷ cs) ds f all first =
+first_behind {F} (c ∷ cs) ds f all first =
     let r = first_behind cs ds f all.1 first in
-    (c ∷ r.0, r.1, r.2, ap (λ (es : List Check). c ∷ es) r.3, (all.0, r.4), r.5, r.6)
+    (c ∷ r.0, r.1, r.2, ap (λ (es : List (Check F)). c ∷ es) r.3, (all.0, r.4), r.5, r.6)
 
 -- a check in a table all of whose checks hold
-holds_at : (before : List Check) (c : Check) (after : List Check) → AllHold (before ++ c ∷ after) → c.holds ≡ true
+holds_at : {F : Type 0} → (before : List (Check F)) (c : Check F) (after : List (Check F)) → AllHold (before ++ c ∷ after) → c.holds ≡ true
 holds_at [] c after h = h.0
 holds_at (d ∷ ds) c after h = holds_at ds c after h.1
 
 -- where there is no first fault, none is it
-pub not_first : (cs : List Check) (f : Fault) → IsFirstFault cs f → first_fault cs ≡ None → ⊥
-not_first cs f split none =
-    let all = subst (λ (l : List Check). AllHold l) split.3 (all_hold cs none) in
+pub not_first : {F : Type 0} → (cs : List (Check F)) (f : F) → IsFirstFault cs f → first_fault cs ≡ None → ⊥
+not_first {F} cs f split none =
+    let all = subst (λ (l : List (Check F)). AllHold l) split.3 (all_hold cs none) in
     never (split.1).holds (holds_at split.0 split.1 split.2 all) split.5
   where
     never : (b : Bool) → b ≡ true → b ≡ false → ⊥
@@ -63,14 +61,14 @@ not_first cs f split none =
 
 -- ---- a fault, or else the value
 
-pub verdict_ok : {A : Type 0} → (o : Option Fault) (a b : A) → verdict_by o a ≡ Ok b → (o ≡ None) × (a ≡ b)
+pub verdict_ok : {A F : Type 0} → (o : Option F) (a b : A) → verdict_by o a ≡ Ok b → (o ≡ None) × (a ≡ b)
 verdict_ok None a b e = (refl, cc)
 verdict_ok (Some f) a b e = cc
 
-pub verdict_err : {A : Type 0} → (o : Option Fault) (a : A) (f : Fault) → verdict_by o a ≡ Err f → o ≡ Some f
+pub verdict_err : {A F : Type 0} → (o : Option F) (a : A) (f : F) → verdict_by o a ≡ Err f → o ≡ Some f
 verdict_err None a f e = cc
 verdict_err (Some g) a f e = cc
 
-pub verdict_none : {A : Type 0} → (o : Option Fault) (a : A) → o ≡ None → verdict_by o a ≡ Ok a
+pub verdict_none : {A F : Type 0} → (o : Option F) (a : A) → o ≡ None → verdict_by o a ≡ Ok a
 verdict_none None a e = refl
 verdict_none (Some f) a e = cc

@@ -103,3 +103,30 @@ pub drop-append_behind : (i : ℕ) (p q : List ℕ) → length p ≤ i → drop 
 drop-append_behind i p q past = ap (λ (k : ℕ). drop k (p ++ q)) (split i (length p) past) ∙ drop-append-add p q (i - length p) where
   split : (i n : ℕ) → n ≤ i → i ≡ n + (i - n)
   split i n h = omega arith
+
+-- equal lists, cut at equal lengths
+pub same_cut : (a b x y : List ℕ) → length a ≡ length b → a ++ x ≡ b ++ y → (a ≡ b) × (x ≡ y)
+same_cut [] [] x y l e = (refl, e)
+same_cut [] (c ∷ b) x y l e = absurd (omega arith)
+same_cut (c ∷ a) [] x y l e = absurd (omega arith)
+same_cut (c ∷ a) (d ∷ b) x y l e =
+    let t : a ++ x ≡ b ++ y = cc in
+    let r = same_cut a b x y (omega arith) t in
+    let p : a ≡ b = r.0 in
+    let q : x ≡ y = r.1 in
+    let h : c ≡ d = cc in
+    (cc, q)
+
+-- two bytes spell a number below 65536
+pub two_bytes : (at : ℕ) (b : List ℕ) → IsBytes b → le (field at 2 b) < 65536
+two_bytes at b small = below (field at 2 b) (drop at b) refl (bytes_drop at b small) where
+  low : (x y : ℕ) → x < 256 → y < 256 → x + 256 * (y + 256 * 0) < 65536
+  low x y h k = omega arith
+
+  one : (x : ℕ) → x < 256 → x + 256 * 0 < 65536
+  one x h = omega arith
+
+  below : (f xs : List ℕ) → f ≡ take 2 xs → IsBytes xs → le f < 65536
+  below f [] is small = rw is (omega arith)
+  below f (x ∷ []) is small = rw is (one x (small 0))
+  below f (x ∷ y ∷ xs) is small = rw is (low x y (small 0) (small 1))

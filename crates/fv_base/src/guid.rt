@@ -1,8 +1,10 @@
 //! Globally unique identifiers.
 
-ghost use Rattle.std.specs.Prelude.{◌≡◌, Some};
+ghost use Rattle.std.specs.Prelude.{◌≡◌, ◌+◌, ◌≤◌, Some, length};
 ghost use Rattle.fv_base.specs.Guids.{bytes_of, guid_text, guid_read};
+ghost use Rattle.fv_base.specs.Value.{field};
 
+use crate::field::field;
 use uuid::Uuid;
 
 /// A GUID: sixteen bytes as they stand in a volume. (PI specification, volume 1; UEFI
@@ -53,4 +55,14 @@ impl Guid {
         text.copy_from_slice(written.as_bytes());
         text
     }
+}
+
+/// The GUID that stands at an offset of some bytes.
+pub fn guid_at(bytes: &[u8], at: usize) -> Guid
+    requires { at + 16 ≤ length bytes.now }
+    ensures { bytes_of result ≡ field at 16 bytes.now }
+{
+    let mut name = [0u8; 16];
+    name.copy_from_slice(field(bytes, at, 16));
+    Guid::from_bytes(name)
 }

@@ -21,7 +21,7 @@ pub use byte_list::ByteList;
 pub use erased::all_are;
 pub use fault::{Fault, FaultKind, Place, check};
 pub use flash::{FileSystem, Polarity};
-pub use guid::Guid;
+pub use guid::{Guid, guid_at};
 pub use input::read_input;
 pub use port::Port;
 pub use sink::{ListSink, Sink, WriteSink, fill};

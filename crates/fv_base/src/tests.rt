@@ -3,7 +3,7 @@
 
 use crate::{
     Align, ByteList, Fault, FaultKind, Guid, ListSink, Place, Polarity, Port, Sink, WriteSink,
-    fill, read_input, sum8, sum16,
+    fill, guid_at, read_input, sum8, sum16,
 };
 use std::io;
 use std::io::{Read, Write};
@@ -72,6 +72,19 @@ fn guids_have_their_texts(rt: HostRuntime) -> Result<(), Fail> {
         assert_eq!(rt; Guid::parse(text), None, "{text}");
     }
     Ok(())
+}
+
+#[test]
+fn a_guid_stands_at_its_offset(rt: HostRuntime) {
+    let bytes: [u8; 21] = [
+        0xe0, 0xe1, 0xe2, 0x10, 0x21, 0x32, 0x43, 0x54, 0x65, 0x76, 0x87, 0x98, 0xa9, 0xba, 0xcb,
+        0xdc, 0xed, 0xfe, 0x0f, 0xe3, 0xe4,
+    ];
+    let want: [u8; 16] = [
+        0x10, 0x21, 0x32, 0x43, 0x54, 0x65, 0x76, 0x87, 0x98, 0xa9, 0xba, 0xcb, 0xdc, 0xed, 0xfe,
+        0x0f,
+    ];
+    assert_eq!(rt; guid_at(&bytes, 3).to_bytes(), want);
 }
 
 #[test]

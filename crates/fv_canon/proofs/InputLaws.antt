@@ -18,17 +18,17 @@ use Rattle.fv_tree.proofs.ReadLemmas.{volume_holds}
 use Rattle.fv_canon.specs.InputChecks.{end_checks, Refuses}
 
 -- what is true of the kind of every check is true of that of the first fault
-kind_from : (P : FaultKind → Type 0) (cs : List Check) (f : Fault) → AllByRecursion (λ c. P c.kind) cs → IsFirstFault cs f → P f.kind
+kind_from : (P : FaultKind → Type 0) (cs : List (Check Fault)) (f : Fault) → AllByRecursion (λ c. P c.fault.kind) cs → IsFirstFault cs f → P f.kind
 kind_from P cs f all (before, c, after, is, held, fails, fault) =
-    subst (λ (g : Fault). P g.kind) (sym fault) (at P before c after (subst (AllByRecursion (λ d. P d.kind)) is all))
+    subst (λ (g : Fault). P g.kind) (sym fault) (at P before c after (subst (AllByRecursion (λ d. P d.fault.kind)) is all))
   where
-    at : (P : FaultKind → Type 0) (before : List Check) (c : Check) (after : List Check) → AllByRecursion (λ d. P d.kind) (before ++ (c ∷ after)) → P c.kind
+    at : (P : FaultKind → Type 0) (before : List (Check Fault)) (c : Check Fault) (after : List (Check Fault)) → AllByRecursion (λ d. P d.fault.kind) (before ++ (c ∷ after)) → P c.fault.kind
     at P [] c after all = all.0
     at P (b ∷ before) c after all = at P before c after all.1
 
 -- the kinds of the checks of a volume
 volume_kinds : (P : FaultKind → Type 0) (b : List ℕ) → P kinds.Truncated → P kinds.Signature → P kinds.FileSystem → P kinds.Revision → P kinds.HeaderLength → P kinds.HeaderSum
-    → P kinds.BlockMap → P kinds.Length → P kinds.ExtHeader → P kinds.FileState → AllByRecursion (λ c. P c.kind) (volume_checks b)
+    → P kinds.BlockMap → P kinds.Length → P kinds.ExtHeader → P kinds.FileState → AllByRecursion (λ c. P c.fault.kind) (volume_checks b)
 volume_kinds P b truncated signature system revision header_length sum map length_ok ext state =
     (truncated, (signature, (system, (revision, (header_length, (truncated, (sum, (map, (length_ok, (truncated, (ext, (ext, (state, tt)))))))))))))
 

@@ -8,11 +8,11 @@ use Rattle.fv_tree.specs.Meaning.{Meaning, Denotes}
 use Rattle.fv_tree.specs.VolumeChecks.{volume_checks}
 
 -- no byte stands behind the volume
-abbrev pub end_checks : List ℕ → List Check
+abbrev pub end_checks : List ℕ → List (Check Fault)
 end_checks b = check (length b == volume_len_at b) kinds.Length (volume_len_at b) ∷ []
 
 -- those of the volume, and then that of the bytes behind it
-abbrev pub input_checks : List ℕ → List Check
+abbrev pub input_checks : List ℕ → List (Check Fault)
 input_checks b = volume_checks b ++ end_checks b
 
 -- an input is refused: it is no volume, and the fault is that of the first check which does not hold

@@ -1,47 +1,21 @@
 -- An op stands where its checks hold.
-use Rattle.std.proofs.Common.{◌≡◌, ◌≤◌, ℕ, zero, suc, List, [], ◌∷◌, ◌++◌, length, drop, refl, sym, ap, ◌∙◌, subst, arith, Bool, true, false, length-append, length-drop}
-use Rattle.std.specs.Prelude.{◌||◌, ◌&&◌, not, nat_le, slice_index, None, Some, if◌then◌else◌}
-use Rattle.std.specs.List.{AllByRecursion}
+use Rattle.std.proofs.Common.{◌≡◌, ◌≤◌, ℕ, zero, suc, List, [], ◌∷◌, ◌++◌, length, drop, refl, sym, ap, ◌∙◌, arith, Bool, true, false, length-append, length-drop}
+use Rattle.std.specs.Prelude.{◌||◌, not, nat_le, slice_index, None, if◌then◌else◌}
 use Rattle.std.proofs.lemmas.Bool.{leb-true, le-leb}
 use Rattle.std.proofs.lemmas.List.{take-append-drop, length-take-le}
+use Rattle.fv_base.specs.Checks.{AllHold, first_fault}
 use Rattle.fv_base.specs.Guids.{bytes_of}
 use Rattle.fv_base.specs.Value.{field}
 use Rattle.fv_base.specs.declared.guid.Guid.{Guid}
-use Rattle.fv_depex.specs.Checks.{OpCheck, Fits, IsFirstKind, OpStands, first_kind, has_operand, holds_values, in_place, knows, op_checks}
+use Rattle.fv_base.proofs.CheckLemmas.{all_hold, and_split}
+use Rattle.fv_base.proofs.FieldLemmas.{same_cut}
+use Rattle.fv_depex.specs.Checks.{Fits, OpStands, has_operand, holds_values, in_place, knows, op_checks}
 use Rattle.fv_depex.specs.Expressions.{carries, code_of, op_by, op_in, operand_len, operand_of, IsSized}
-use Rattle.fv_depex.specs.declared.fault.DepexFaultKind.{DepexFaultKind}
 use Rattle.fv_depex.specs.declared.op.Op.{Op}
 use Rattle.fv_depex.specs.declared.op.Op.TheVariants as ops
 use Rattle.fv_depex.specs.declared.op.Phase.{Phase}
 use Rattle.fv_depex.specs.declared.op.Phase.TheVariants.{Pei, Dxe}
 use Rattle.fv_depex.specs.declared.stage.Stage.{Stage}
-
--- ---- checks in their order
-
-pub all_held : (cs : List OpCheck) → first_kind cs ≡ None → AllByRecursion (λ c. c.holds ≡ true) cs
-all_held [] none = tt
-all_held (c ∷ cs) none = go c.holds refl (all_held cs) none where
-  go : (h : Bool) → c.holds ≡ h → (first_kind cs ≡ None → AllByRecursion (λ d. d.holds ≡ true) cs) → (if h then first_kind cs else Some c.kind) ≡ None → AllByRecursion (λ d. d.holds ≡ true) (c ∷ cs)
-  go true is rest n = (is, rest n)
-  go false is rest n = cc
-
-pub first_is : (cs : List OpCheck) (k : DepexFaultKind) → first_kind cs ≡ Some k → IsFirstKind cs k
-first_is [] k h = cc
-first_is (c ∷ cs) k h = go c.holds refl (first_is cs k) h where
-  go : (t : Bool) → c.holds ≡ t → (first_kind cs ≡ Some k → IsFirstKind cs k) → (if t then first_kind cs else Some c.kind) ≡ Some k → IsFirstKind (c ∷ cs) k
-  go true is rest e = let r = rest e in (c ∷ r.0, r.1, r.2, ap (λ (ds : List OpCheck). c ∷ ds) r.3, (is, r.4), r.5, r.6)
-  go false is rest e = ([], c, cs, refl, tt, is, cc)
-
-holds_at : (before : List OpCheck) (c : OpCheck) (after : List OpCheck) → AllByRecursion (λ d. d.holds ≡ true) (before ++ c ∷ after) → c.holds ≡ true
-holds_at [] c after h = h.0
-holds_at (d ∷ ds) c after h = holds_at ds c after h.1
-
-pub none_first : (cs : List OpCheck) (k : DepexFaultKind) → AllByRecursion (λ d. d.holds ≡ true) cs → IsFirstKind cs k → ⊥
-none_first cs k all split =
-    never (split.1).holds (holds_at split.0 split.1 split.2 (subst (λ (l : List OpCheck). AllByRecursion (λ d. d.holds ≡ true) l) split.3 all)) split.5
-  where
-    never : (b : Bool) → b ≡ true → b ≡ false → ⊥
-    never b t n = cc
 
 -- ---- an op by its code
 
@@ -84,10 +58,7 @@ op_back ops.End = refl
 op_back ops.Sor = refl
 
 known_least : (phase : Phase) (code : ℕ) → knows phase code ≡ true → code ≤ 9
-known_least Pei code h = omega (arith, leb-true code 8 (second (nat_le 2 code) (nat_le code 8) h)) where
-  second : (a b : Bool) → (a && b) ≡ true → b ≡ true
-  second true b h = h
-  second false b h = cc
+known_least Pei code h = omega (arith, leb-true code 8 (and_split (nat_le 2 code) (nat_le code 8) h).1)
 known_least Dxe code h = leb-true code 9 h
 
 -- ---- the op at the front
@@ -97,9 +68,9 @@ cons_of [] l = absurd (omega (arith, l))
 cons_of (x ∷ r) l = refl
 
 -- where the checks hold, the op stands there
-pub op_stands : (phase : Phase) (stage : Stage) (r : List ℕ) → first_kind (op_checks phase stage r) ≡ None → OpStands phase stage (op_in r) r
+pub op_stands : (phase : Phase) (stage : Stage) (r : List ℕ) → first_fault (op_checks phase stage r) ≡ None → OpStands phase stage (op_in r) r
 op_stands phase stage r none =
-    let all = all_held (op_checks phase stage r) none in
+    let all = all_hold (op_checks phase stage r) none in
     let code : ℕ = slice_index r 0 in
     let g : Guid = record { bytes = field 1 16 r } in
     let is = op_of_code g code (known_least phase code all.1.0) in
@@ -140,7 +111,7 @@ op_stands phase stage r none =
         }
 
 -- where an op stands the checks hold
-pub checks_hold : (phase : Phase) (stage : Stage) (o : Op) (x : List ℕ) → Fits phase stage o → AllByRecursion (λ c. c.holds ≡ true) (op_checks phase stage (code_of o ∷ (operand_of o ++ x)))
+pub checks_hold : (phase : Phase) (stage : Stage) (o : Op) (x : List ℕ) → Fits phase stage o → AllHold (op_checks phase stage (code_of o ∷ (operand_of o ++ x)))
 checks_hold phase stage o x fits =
     (le-leb 1 (suc (length (operand_of o ++ x))) (omega arith), (fits.known, (fits.placed, (room (carries (code_of o)) refl, (fits.valued, tt)))))
   where
@@ -149,17 +120,6 @@ checks_hold phase stage o x fits =
         ap (λ (t : Bool). not t || nat_le 17 (suc (length (operand_of o ++ x)))) c
         ∙ le-leb 17 (suc (length (operand_of o ++ x))) (omega (arith, length-append (operand_of o) x, fits.sized ∙ ap operand_len c))
     room false c = ap (λ (t : Bool). not t || nat_le 17 (suc (length (operand_of o ++ x)))) c
-
-same_cut : (a b x y : List ℕ) → length a ≡ length b → a ++ x ≡ b ++ y → (a ≡ b) × (x ≡ y)
-same_cut [] [] x y l e = (refl, e)
-same_cut [] (c ∷ b) x y l e = absurd (omega (arith, l))
-same_cut (c ∷ a) [] x y l e = absurd (omega (arith, l))
-same_cut (c ∷ a) (d ∷ b) x y l e =
-    let t : a ++ x ≡ b ++ y = cc in
-    let r = same_cut a b x y (omega (arith, l)) t in
-    let p : a ≡ b = r.0 in
-    let h : c ≡ d = cc in
-    (cc, r.1)
 
 -- bytes begin with one op at most
 pub same_op : (o p : Op) (x y : List ℕ) → IsSized o → IsSized p → code_of o ∷ (operand_of o ++ x) ≡ code_of p ∷ (operand_of p ++ y) → (o ≡ p) × (x ≡ y)

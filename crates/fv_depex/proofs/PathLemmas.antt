@@ -1,9 +1,10 @@
 -- Ops that may stand one after another are those of whole expressions.
-use Rattle.std.proofs.Common.{◌≡◌, ◌≢◌, ◌≤◌, ◌<◌, ℕ, ◌+◌, ◌-◌, List, [], ◌∷◌, ◌++◌, length, drop, inl, inr, refl, sym, ap, ◌∙◌, subst, arith, Bool, true, false, length-append, append_assoc, append-nil}
+use Rattle.std.proofs.Common.{◌≡◌, ◌≢◌, ◌≤◌, ◌<◌, ℕ, ◌+◌, ◌-◌, List, [], ◌∷◌, ◌++◌, length, drop, inl, inr, refl, sym, ap, ◌∙◌, subst, arith, true, false, length-append, append_assoc, append-nil}
 use Rattle.std.specs.Prelude.{◌⊎◌, ◌&&◌, nat_le, slice_index}
 use Rattle.std.specs.List.{AllByRecursion}
 use Rattle.std.proofs.lemmas.Bool.{leb-true, le-leb, eqb-true}
 use Rattle.fv_base.specs.declared.guid.Guid.{Guid}
+use Rattle.fv_base.proofs.CheckLemmas.{and_split}
 use Rattle.fv_depex.specs.Checks.{Fits, Path, has_values, knows, stage_after, values_after}
 use Rattle.fv_depex.specs.Expressions.{Expression, always, never, installed, negated, both, either, IsTree, IsOrder, Spells, code_of, operand_of, ops_bytes, postfix, IsSized}
 use Rattle.fv_depex.specs.declared.op.Op.{Op}
@@ -135,10 +136,6 @@ no_pei Pei o stage fits h = absurd (go (code_of o) fits.known h)
     go c k (inl (inr e)) = let t : (nat_le 2 1 && nat_le 1 8) ≡ true = subst (λ (n : ℕ). (nat_le 2 n && nat_le n 8) ≡ true) e k in cc
     go c k (inr e) = let t : (nat_le 2 9 && nat_le 9 8) ≡ true = subst (λ (n : ℕ). (nat_le 2 n && nat_le n 8) ≡ true) e k in cc
 
-both_true : (a b : Bool) → (a && b) ≡ true → (a ≡ true) × (b ≡ true)
-both_true true b h = (refl, h)
-both_true false b h = cc
-
 value_code : (o : Op) → 2 ≤ code_of o → code_of o ≤ 8 → o ≢ ops.End → code_of o < 8
 value_code o low high ne = go (code_of o) refl where
   go : (c : ℕ) → code_of o ≡ c → code_of o < 8
@@ -162,7 +159,7 @@ after_values n ops.Sor l = refl
 placed_values : (phase : Phase) (n : ℕ) (os : List Op) (o : Op) → Leaves phase (stages.Values n) os → Fits phase (stages.Values n) o → o ≢ ops.End
     → Leaves phase (stage_after (stages.Values n) o) (os ++ o ∷ [])
 placed_values phase n os o h fits ne =
-    let range = both_true (nat_le 2 (code_of o)) (nat_le (code_of o) 8) fits.placed in
+    let range = and_split (nat_le 2 (code_of o)) (nat_le (code_of o) 8) fits.placed in
     let low : 2 ≤ code_of o = leb-true 2 (code_of o) range.0 in
     let high : code_of o ≤ 8 = leb-true (code_of o) 8 range.1 in
     subst (λ (k : Stage). Leaves phase k (os ++ o ∷ [])) (sym (after_values n o low)) (values_more phase n os o h low (value_code o low high ne) fits.valued)
@@ -251,7 +248,7 @@ tree_path phase n (either t u) sized =
 -- the ops from the start on
 from_start : (phase : Phase) (f : Stage) (o : Op) (os : List Op) → Path phase (stages.Values 0) (o ∷ os) f → Path phase stages.Start (o ∷ os) f
 from_start phase f o os p =
-    let range = both_true (nat_le 2 (code_of o)) (nat_le (code_of o) 8) (p.0).placed in
+    let range = and_split (nat_le 2 (code_of o)) (nat_le (code_of o) 8) (p.0).placed in
     let same = same_after o (leb-true 2 (code_of o) range.0) in
     (record { known = (p.0).known; placed = refl; valued = (p.0).valued; sized = (p.0).sized }, p.1, subst (λ (k : Stage). Path phase k os f) same p.2)
   where

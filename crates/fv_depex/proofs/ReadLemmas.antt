@@ -4,7 +4,9 @@ use Rattle.std.specs.Prelude.{◌⊎◌}
 use Rattle.std.specs.List.{AllByRecursion}
 use Rattle.std.proofs.lemmas.List.{take-append-drop, take_at, take_rest, length-take-le}
 use Rattle.std.proofs.Math.Seq.{take-add}
-use Rattle.fv_depex.specs.Checks.{Fits, IsFirst, IsFirstKind, OpStands, Path, op_checks, stage_after, values_of}
+use Rattle.fv_base.specs.Checks.{IsFirstFault}
+use Rattle.fv_base.proofs.CheckLemmas.{none_faulty, not_first}
+use Rattle.fv_depex.specs.Checks.{Fits, IsFirst, OpStands, Path, op_checks, stage_after, values_of}
 use Rattle.fv_depex.specs.Expressions.{Expression, IsTree, IsOrder, IsSized, Spells, carries, code_of, operand_len, operand_of, ops_bytes}
 use Rattle.fv_depex.specs.declared.fault.DepexFault.{DepexFault}
 use Rattle.fv_depex.specs.declared.fault.DepexFaultKind.{DepexFaultKind}
@@ -13,7 +15,7 @@ use Rattle.fv_depex.specs.declared.op.Op.TheVariants as ops
 use Rattle.fv_depex.specs.declared.op.Phase.{Phase}
 use Rattle.fv_depex.specs.declared.stage.Stage.{Stage}
 use Rattle.fv_depex.specs.declared.stage.Stage.TheVariants as stages
-use Rattle.fv_depex.proofs.OpLemmas.{checks_hold, none_first, end_code}
+use Rattle.fv_depex.proofs.OpLemmas.{checks_hold, end_code}
 use Rattle.fv_depex.proofs.PathLemmas.{Leaves, all_join, bytes_join, ended_bytes, leaves_more, leaves_whole, path_more, path_sized, same_front, whole_ended}
 
 -- the ops that were read make up the bytes up to a place
@@ -90,7 +92,7 @@ ended phase b items new o at n stage k stands' len is new_is =
     )
 
 pub first_here : (phase : Phase) (b : List ℕ) (items : List Op) (at : ℕ) (stage : Stage) (kind : DepexFaultKind) (offset : ℕ) → Kept phase b items at stage
-    → IsFirstKind (op_checks phase stage (take (length b - at) (drop at b))) kind → offset ≡ at → IsFirst phase b (record { kind = kind; offset = offset })
+    → IsFirstFault (op_checks phase stage (take (length b - at) (drop at b))) kind → offset ≡ at → IsFirst phase b (record { kind = kind; offset = offset })
 first_here phase b items at stage kind offset k first place = record {
   before = items;
   stage = stage;
@@ -98,7 +100,7 @@ first_here phase b items at stage kind offset k first place = record {
   joined = sym (take-append-drop at b) ∙ ap (λ (l : List ℕ). l ++ drop at b) k.bytes;
   read = k.path;
   place = place ∙ sym (length-take-le at b k.inside) ∙ ap length k.bytes;
-  kind_is = subst (λ (l : List ℕ). IsFirstKind (op_checks phase stage l) kind) (take_rest b at) first;
+  kind_is = subst (λ (l : List ℕ). IsFirstFault (op_checks phase stage l) kind) (take_rest b at) first;
 }
 
 -- where there is a first fault the bytes are spelled by none
@@ -111,7 +113,8 @@ none_after phase b f xs s here spells =
   where
     refuse : (o : Op) (y : List ℕ) → Fits phase here.stage o → here.r ≡ code_of o ∷ (operand_of o ++ y) → ⊥
     refuse o y fits e =
-        none_first (op_checks phase here.stage (code_of o ∷ (operand_of o ++ y))) f.kind (checks_hold phase here.stage o y fits) (subst (λ (l : List ℕ). IsFirstKind (op_checks phase here.stage l) f.kind) e here.kind_is)
+        let cs = op_checks phase here.stage (code_of o ∷ (operand_of o ++ y)) in
+        not_first cs f.kind (subst (λ (l : List ℕ). IsFirstFault (op_checks phase here.stage l) f.kind) e here.kind_is) (none_faulty cs (checks_hold phase here.stage o y fits))
 
     go : (g : Stage) (more : List Op) → Path phase here.stage more g → here.r ≡ ops_bytes more ++ (8 ∷ s) → Fits phase g ops.End → ⊥
     go g [] p e fits = refuse ops.End s (subst (λ (t : Stage). Fits phase t ops.End) (sym p) fits) e

@@ -1,6 +1,6 @@
 -- The checks of an op in their order, and the first fault of an expression.
-use Rattle.std.specs.Prelude.{◌≡◌, ◌≢◌, ℕ, ◌+◌, ◌-◌, ◌==◌, nat_le, ◌&&◌, ◌||◌, not, Bool, true, false, if◌then◌else◌, Option, None, Some, List, [], ◌∷◌, ◌++◌, length, slice_index}
-use Rattle.std.specs.List.{AllByRecursion}
+use Rattle.std.specs.Prelude.{◌≡◌, ◌≢◌, ℕ, ◌+◌, ◌-◌, ◌==◌, nat_le, ◌&&◌, ◌||◌, not, Bool, true, if◌then◌else◌, List, [], ◌∷◌, ◌++◌, length, slice_index}
+use Rattle.fv_base.specs.Checks.{Check, IsFirstFault}
 use Rattle.fv_depex.specs.declared.fault.DepexFault.{DepexFault}
 use Rattle.fv_depex.specs.declared.fault.DepexFaultKind.{DepexFaultKind}
 use Rattle.fv_depex.specs.declared.fault.DepexFaultKind.TheVariants as kinds
@@ -39,27 +39,18 @@ holds_values (stages.Values n) code = has_values n code
 abbrev pub has_operand : List ℕ → Bool
 has_operand r = not (carries (slice_index r 0)) || nat_le 17 (length r)
 
--- a check: whether it holds, and the kind of fault where it does not
-pub record OpCheck : Type 0 where
-  pub holds : Bool
-  pub kind : DepexFaultKind
-
-abbrev pub check : Bool → DepexFaultKind → OpCheck
-check holds kind = record { holds = holds; kind = kind }
-
--- the kind of the first check that does not hold
-abbrev pub first_kind : List OpCheck → Option DepexFaultKind
-first_kind [] = None
-first_kind (c ∷ cs) = if c.holds then first_kind cs else Some c.kind
+-- a check of an op, by the kind of its fault
+abbrev pub op_check : Bool → DepexFaultKind → Check DepexFaultKind
+op_check holds kind = record { holds = holds; fault = kind }
 
 -- of the op that begins r
-abbrev pub op_checks : Phase → Stage → List ℕ → List OpCheck
+abbrev pub op_checks : Phase → Stage → List ℕ → List (Check DepexFaultKind)
 op_checks phase stage r =
-    check (nat_le 1 (length r)) kinds.NoEnd
-    ∷ check (knows phase (slice_index r 0)) kinds.Opcode
-    ∷ check (in_place stage (slice_index r 0)) kinds.Position
-    ∷ check (has_operand r) kinds.Short
-    ∷ check (holds_values stage (slice_index r 0)) kinds.Stack
+    op_check (nat_le 1 (length r)) kinds.NoEnd
+    ∷ op_check (knows phase (slice_index r 0)) kinds.Opcode
+    ∷ op_check (in_place stage (slice_index r 0)) kinds.Position
+    ∷ op_check (has_operand r) kinds.Short
+    ∷ op_check (holds_values stage (slice_index r 0)) kinds.Stack
     ∷ []
 
 -- what was read before: nothing, BEFORE or AFTER, or ops that leave so many values
@@ -98,12 +89,6 @@ abbrev pub Path : Phase → Stage → List Op → Stage → Type 0
 Path phase stage [] final = stage ≡ final
 Path phase stage (o ∷ os) final = Fits phase stage o × (o ≢ ops.End) × Path phase (stage_after stage o) os final
 
--- the kind is that of a check which does not hold, and all checks before it hold
-abbrev pub IsFirstKind : List OpCheck → DepexFaultKind → Type 0
-IsFirstKind cs kind =
-    (before : List OpCheck) × (c : OpCheck) × (after : List OpCheck) × (cs ≡ before ++ (c ∷ after))
-    × AllByRecursion (λ d. d.holds ≡ true) before × (c.holds ≡ false) × (kind ≡ c.kind)
-
 -- some ops that may stand there are read up to the fault's offset, and there it is that of the first check that does not hold
 pub record IsFirst (phase : Phase) (b : List ℕ) (fault : DepexFault) : Type 0 where
   pub before : List Op
@@ -112,7 +97,7 @@ pub record IsFirst (phase : Phase) (b : List ℕ) (fault : DepexFault) : Type 0 
   pub joined : b ≡ ops_bytes before ++ r
   pub read : Path phase stages.Start before stage
   pub place : fault.offset ≡ length (ops_bytes before)
-  pub kind_is : IsFirstKind (op_checks phase stage r) fault.kind
+  pub kind_is : IsFirstFault (op_checks phase stage r) fault.kind
 
 abbrev pub want_of_memory : DepexFault
 want_of_memory = record { kind = kinds.OutOfMemory; offset = 0 }

@@ -1,9 +1,8 @@
 //! Expressions, read.
 
 ghost use Rattle.std.specs.Prelude.{◌≡◌, ◌≢◌, ◌≤◌, ◌+◌, ℕ, List, length, drop, true, None, Some, OnOk, IfOk, IfErr};
-ghost use Rattle.fv_base.specs.Guids.{bytes_of};
-ghost use Rattle.fv_base.specs.Value.{field};
-ghost use Rattle.fv_depex.specs.Checks.{IsFirst, IsFirstKind, OpStands, first_kind, knows, in_place, has_values, holds_values, has_operand, op_checks, want_of_memory};
+ghost use Rattle.fv_base.specs.Checks.{IsFirstFault, first_fault};
+ghost use Rattle.fv_depex.specs.Checks.{IsFirst, OpStands, knows, in_place, has_values, holds_values, has_operand, op_checks, want_of_memory};
 ghost use Rattle.fv_depex.specs.Expressions.{Spells, carries, code_of, op_in, operand_len};
 ghost use Rattle.fv_depex.specs.declared.op.Op.{Op};
 
@@ -11,8 +10,7 @@ use crate::depex::Depex;
 use crate::fault::{DepexFault, DepexFaultKind};
 use crate::op::{Op, Phase};
 use crate::stage::{Stage, stage_after};
-use fv_base::field::field;
-use fv_base::{ByteList, Guid};
+use fv_base::{ByteList, guid_at};
 use std::alloc::Global;
 
 /// The code of END.
@@ -76,8 +74,8 @@ fn has_operand(rest: &[u8]) -> bool
 
 // Done, or the kind of the first check that does not hold.
 fn check_op(rest: &[u8], phase: Phase, stage: Stage) -> Result<(), DepexFaultKind>
-    ensures ok { OnOk result (first_kind (op_checks phase stage rest.now) ≡ None) }
-    ensures err { IfErr result (λ kind. first_kind (op_checks phase stage rest.now) ≡ Some kind) }
+    ensures ok { OnOk result (first_fault (op_checks phase stage rest.now) ≡ None) }
+    ensures err { IfErr result (λ kind. first_fault (op_checks phase stage rest.now) ≡ Some kind) }
 {
     if rest.is_empty() {
         return Err(DepexFaultKind::NoEnd);
@@ -98,16 +96,6 @@ fn check_op(rest: &[u8], phase: Phase, stage: Stage) -> Result<(), DepexFaultKin
     Ok(())
 }
 
-// The GUID behind a code.
-fn operand_in(rest: &[u8]) -> Guid
-    requires { 17 ≤ length rest.now }
-    ensures { bytes_of result ≡ field 1 16 rest.now }
-{
-    let mut bytes = [0u8; 16];
-    bytes.copy_from_slice(field(rest, 1, 16));
-    Guid::from_bytes(bytes)
-}
-
 // The op at the front.
 fn op_in(rest: &[u8]) -> Op
     requires some { 1 ≤ length rest.now }
@@ -115,9 +103,9 @@ fn op_in(rest: &[u8]) -> Op
     ensures { result ≡ op_in rest.now }
 {
     match rest[0] {
-        0x00 => Op::Before(operand_in(rest)),
-        0x01 => Op::After(operand_in(rest)),
-        0x02 => Op::Push(operand_in(rest)),
+        0x00 => Op::Before(guid_at(rest, 1)),
+        0x01 => Op::After(guid_at(rest, 1)),
+        0x02 => Op::Push(guid_at(rest, 1)),
         0x03 => Op::And,
         0x04 => Op::Or,
         0x05 => Op::Not,
@@ -138,7 +126,7 @@ fn op_len(op: &Op) -> usize
 // The op at the front, or the kind of the first fault there.
 fn next_op(rest: &[u8], phase: Phase, stage: Stage) -> Result<Op, DepexFaultKind>
     ensures found { IfOk result (λ o. OpStands phase stage o rest.now) }
-    ensures first { IfErr result (IsFirstKind (op_checks phase stage rest.now)) }
+    ensures first { IfErr result (IsFirstFault (op_checks phase stage rest.now)) }
 {
     check_op(rest, phase, stage)?;
     Ok(op_in(rest))

@@ -2,20 +2,8 @@
 use Rattle.std.proofs.Common.{◌≡◌, ◌<◌, ℕ, ◌+◌, List, [], ◌∷◌, ◌++◌, length, refl, sym, ap, ◌∙◌, subst, arith, Bool, true, false, length-append, append_assoc, append-nil}
 use Rattle.fv_base.specs.declared.flash.Polarity.{Polarity}
 use Rattle.fv_base.specs.declared.flash.FileSystem.{FileSystem}
+use Rattle.fv_base.proofs.FieldLemmas.{same_cut}
 use Rattle.fv_file.specs.Cells.{CellForm, offset_of, is_free, IsCell, Tiles, NoneFree}
-
--- equal lists, cut at equal lengths
-pub same_cut : (a b x y : List ℕ) → length a ≡ length b → a ++ x ≡ b ++ y → (a ≡ b) × (x ≡ y)
-same_cut [] [] x y l e = (refl, e)
-same_cut [] (c ∷ b) x y l e = absurd (omega arith)
-same_cut (c ∷ a) [] x y l e = absurd (omega arith)
-same_cut (c ∷ a) (d ∷ b) x y l e =
-    let t : a ++ x ≡ b ++ y = cc in
-    let r = same_cut a b x y (omega arith) t in
-    let p : a ≡ b = r.0 in
-    let q : x ≡ y = r.1 in
-    let h : c ≡ d = cc in
-    (cc, q)
 
 -- at one place stands one cell, a free one only where it is all the rest
 abbrev pub OneCell : FileSystem → Polarity → Type 0

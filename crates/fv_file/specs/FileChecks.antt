@@ -57,7 +57,7 @@ abbrev pub has_file_sum : List ℕ → Bool
 has_file_sum r = file_sum_right (attributes_at r) (slice_index r 17) (payload_at r)
 
 -- of a file at p that stands or does not, from where on the bytes are r
-abbrev pub file_checks : FileSystem → Bool → ℕ → List ℕ → List Check
+abbrev pub file_checks : FileSystem → Bool → ℕ → List ℕ → List (Check Fault)
 file_checks system alive p r =
     check (may_be_large system r) kinds.LargeFile (p + 19)
     ∷ check (nat_le (header_len_at r) (length r)) kinds.FileSize (p + 20)
@@ -68,11 +68,11 @@ file_checks system alive p r =
     ∷ []
 
 -- of a header that was never finished
-abbrev pub stub_checks : ℕ → List ℕ → List Check
+abbrev pub stub_checks : ℕ → List ℕ → List (Check Fault)
 stub_checks p r = check (nat_le (header_len_at r) (length r)) kinds.FileSize (p + 20) ∷ []
 
 -- of a cell by its state; one that is free has failed before
-abbrev pub state_checks : Option FileState → FileSystem → ℕ → List ℕ → List Check
+abbrev pub state_checks : Option FileState → FileSystem → ℕ → List ℕ → List (Check Fault)
 state_checks None system p r = check false kinds.FileState (p + 23) ∷ []
 state_checks (Some states.Free) system p r = []
 state_checks (Some states.Construction) system p r = stub_checks p r
@@ -80,7 +80,7 @@ state_checks (Some states.HeaderInvalid) system p r = stub_checks p r
 state_checks (Some state) system p r = file_checks system (is_alive state) p r
 
 -- of a cell at p, from where on the bytes are r, not all of them erased
-abbrev pub cell_checks : FileSystem → Polarity → ℕ → List ℕ → List Check
+abbrev pub cell_checks : FileSystem → Polarity → ℕ → List ℕ → List (Check Fault)
 cell_checks system polarity p r =
     check (nat_le 24 (length r) && not (bits_of polarity (slice_index r 23) == 0)) kinds.FreeSpace (p + run_of (erased_byte polarity) r)
     ∷ state_checks (state_of polarity (slice_index r 23)) system p r
@@ -91,7 +91,7 @@ stands None = false
 stands (Some state) = is_alive state
 
 -- of bytes that are to begin with a file that stands, or with a pad
-abbrev pub verify_checks : FileSystem → Polarity → List ℕ → List Check
+abbrev pub verify_checks : FileSystem → Polarity → List ℕ → List (Check Fault)
 verify_checks system polarity b =
     check (nat_le 24 (length b)) kinds.FileSize 20
     ∷ check (stands (state_of polarity (slice_index b 23))) kinds.FileState 23

@@ -14,7 +14,7 @@ use crate::state::FileState;
 use bitflags::Flags;
 use byteorder::{ByteOrder, LittleEndian};
 use fv_base::field::field;
-use fv_base::{Fault, FaultKind, FileSystem, Guid, check, sum8};
+use fv_base::{Fault, FaultKind, FileSystem, Guid, check, guid_at, sum8};
 
 /// The type of a pad file.
 pub(crate) const PAD: u8 = 0xf0;
@@ -160,10 +160,8 @@ fn head_in(rest: &[u8], state: FileState) -> FileHead
     requires header { header_len_at rest.now ≤ length rest.now }
     ensures { result ≡ head_in state rest.now }
 {
-    let mut name = [0u8; 16];
-    name.copy_from_slice(&rest[..16]);
     FileHead {
-        name: Guid::from_bytes(name),
+        name: guid_at(rest, 0),
         kind: rest[18],
         attributes: attributes_of(rest),
         size: size_of(rest),

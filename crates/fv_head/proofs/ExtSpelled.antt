@@ -1,11 +1,11 @@
 -- An extended header is spelled as it is read.
-use Rattle.std.proofs.Common.{◌≡◌, ◌≤◌, ◌<◌, ℕ, ◌+◌, ◌*◌, ◌/◌, ◌%◌, List, [], ◌∷◌, ◌++◌, length, take, drop, refl, sym, ap, ◌∙◌, subst, arith, Bool, true, false, get_or, length-append, append_assoc, append-nil}
+use Rattle.std.proofs.Common.{◌≡◌, ◌≤◌, ◌<◌, ℕ, ◌+◌, ◌*◌, ◌/◌, ◌%◌, List, [], ◌∷◌, ◌++◌, length, drop, refl, sym, ap, ◌∙◌, subst, arith, Bool, true, false, get_or, length-append, append_assoc, append-nil}
 use Rattle.std.specs.Prelude.{◌==◌, ◌&&◌, if◌then◌else◌}
 use Rattle.std.proofs.lemmas.List.{drop_at, drop_more, drop_all}
 use Rattle.std.proofs.lemmas.Bool.{eqb-true}
 use Rattle.fv_base.specs.Guids.{bytes_of}
-use Rattle.fv_base.specs.Value.{IsBytes, le, le_bytes, field, le_at}
-use Rattle.fv_base.proofs.FieldLemmas.{bytes_drop, le-le_bytes}
+use Rattle.fv_base.specs.Value.{IsBytes, le, le_bytes, le_at}
+use Rattle.fv_base.proofs.FieldLemmas.{bytes_drop, le-le_bytes, two_bytes}
 use Rattle.fv_head.specs.Ext.{Extension, held, no_size, is_used_size, BeginNone, Entries, IsExt, IsReadExt}
 use Rattle.fv_head.specs.SpelledExt.{payload_with, entry_bytes, entries_bytes, entries_len, ext_len, ext_spelled}
 use Rattle.fv_head.proofs.ExtLemmas.{begins}
@@ -15,20 +15,6 @@ four_bytes : (n : ℕ) → n < 65536 → le (le_bytes 4 n) ≡ n
 four_bytes n small = four n small where
   four : (n : ℕ) → n < 65536 → n % 256 + 256 * (n / 256 % 256 + 256 * (n / 256 / 256 % 256 + 256 * (n / 256 / 256 / 256 % 256 + 256 * 0))) ≡ n
   four n small = omega arith
-
--- two bytes spell a number below 65536
-two_bytes : (at : ℕ) (b : List ℕ) → IsBytes b → le_at at 2 b < 65536
-two_bytes at b small = below (field at 2 b) (drop at b) refl (bytes_drop at b small) where
-  low : (x y : ℕ) → x < 256 → y < 256 → x + 256 * (y + 256 * 0) < 65536
-  low x y h k = omega arith
-
-  one : (x : ℕ) → x < 256 → x + 256 * 0 < 65536
-  one x h = omega arith
-
-  below : (f xs : List ℕ) → f ≡ take 2 xs → IsBytes xs → le f < 65536
-  below f [] is small = rw is (omega arith)
-  below f (x ∷ []) is small = rw is (one x (small 0))
-  below f (x ∷ y ∷ xs) is small = rw is (low x y (small 0) (small 1))
 
 -- what is kept of a payload has its length
 length-held : (kind : ℕ) (payload : List ℕ) → length (held kind payload) ≡ length payload

@@ -5,7 +5,7 @@ use Rattle.std.proofs.Math.Seq.{take-add}
 use Rattle.std.proofs.lemmas.List.{take-append-drop, take_at, drop_at, drop_more, get_or-drop, length-take-le}
 use Rattle.fv_base.specs.Sums.{words_of, sum16_of}
 use Rattle.fv_base.specs.Value.{IsBytes, le, le_bytes, field, le_at, up_to_8}
-use Rattle.fv_base.proofs.FieldLemmas.{bytes_take, bytes_drop, bytes_append, bytes_le_bytes, le_bytes-le, field_is, field-append_front, drop-append_behind, le-le_bytes, length-le_bytes, field-take}
+use Rattle.fv_base.proofs.FieldLemmas.{bytes_take, bytes_drop, bytes_append, bytes_le_bytes, le_bytes-le, field_is, field-append_front, drop-append_behind, le-le_bytes, length-le_bytes, field-take, two_bytes}
 use Rattle.std.proofs.lemmas.List.Sums.{sum_by-cons}
 use Rattle.fv_base.proofs.SumLemmas.{sum-words_of-append}
 use Rattle.fv_head.specs.Ext.{Extension}
@@ -254,17 +254,6 @@ checksum_only total checksum small none = omega arith
 checksum_small : (total : ℕ) → (65536 - total) % 65536 < 65536
 checksum_small total = omega arith
 
-two_bytes_small : (b : List ℕ) → IsBytes b → 54 ≤ length b → le_at 50 2 b < 65536
-two_bytes_small b small long = rw (two (drop 50 b) (omega (arith, length-drop 50 b, long))) (below (slice_index (drop 50 b) 0) (slice_index (drop 50 b) 1) (bytes_drop 50 b small 0) (bytes_drop 50 b small 1))
-  where
-    two : (xs : List ℕ) → 2 ≤ length xs → le (take 2 xs) ≡ slice_index xs 0 + 256 * (slice_index xs 1 + 256 * 0)
-    two [] h = absurd (omega arith)
-    two (x ∷ []) h = absurd (omega arith)
-    two (x ∷ y ∷ xs) h = refl
-
-    below : (x y : ℕ) → x < 256 → y < 256 → x + 256 * (y + 256 * 0) < 65536
-    below x y h k = omega arith
-
 -- ---- the canonical head
 
 canonical_offset_small : (h : HeadFields) (b : List ℕ) (x : Option Extension) → IsHead h b → canonical_offset h x < 65536
@@ -298,7 +287,7 @@ canonical_only h b canonical =
     let long : 54 ≤ length b = omega (arith, head.least) in
     let checksum : ℕ = le_at 50 2 b in
     let offset : ℕ = le_at 52 2 b in
-    let small : checksum < 65536 = two_bytes_small b head.bytes long in
+    let small : checksum < 65536 = two_bytes 50 b head.bytes in
     let total : ℕ = sum (words_of (patched b 0 offset)) in
     let whole : patched b checksum offset ≡ b = unpatched h b head in
     let sums : sum (words_of b) ≡ total + checksum = ap (λ (xs : List ℕ). sum (words_of xs)) (sym whole) ∙ sum_patched b checksum offset small long in

@@ -77,7 +77,7 @@ abbrev pub first_at : List ℕ → ℕ
 first_at b = if ext_offset_at b == 0 then header_len_at b else up_to_8 (ext_offset_at b + ext_size_at b)
 
 -- the checks of a header, in their order
-abbrev pub head_checks : List ℕ → List Check
+abbrev pub head_checks : List ℕ → List (Check Fault)
 head_checks b =
     check (nat_le 56 (length b)) kinds.Truncated (length b)
     ∷ check (has_signature b) kinds.Signature 40

@@ -6,8 +6,7 @@ ghost use Rattle.fv_base.specs.Value.{le_at};
 ghost use Rattle.fv_head.specs.Ext.{BeginNone, Entries, IsExt, IsReadExt, held, is_used_size};
 
 use crate::fields::u16_at;
-use fv_base::field::field;
-use fv_base::{ByteList, Fault, Guid};
+use fv_base::{ByteList, Fault, Guid, guid_at};
 use std::alloc::Global;
 use std::marker::Model;
 
@@ -153,11 +152,9 @@ pub(crate) fn ext_of(alloc: Global, bytes: &[u8]) -> Result<ExtHeader, Fault>
     ensures ok { IfOk result (λ x. IsExt x bytes.now) }
     ensures err { IfErr result (λ f. f ≡ want_of_memory) }
 {
-    let mut name = [0u8; 16];
-    name.copy_from_slice(field(bytes, 0, 16));
     let (entries, tail) = entries_of(alloc, &bytes[20..])?;
     Ok(ExtHeader {
-        name: Guid::from_bytes(name),
+        name: guid_at(bytes, 0),
         entries,
         tail,
     })

@@ -1,20 +1,8 @@
 -- Bytes are a stream in one way at most, and one more frame behind a stream makes a stream.
 use Rattle.std.proofs.Common.{◌≡◌, ℕ, ◌+◌, ◌<◌, ◌≤◌, List, [], ◌∷◌, ◌++◌, length, refl, sym, ap, ◌∙◌, subst, arith, length-append, append_assoc}
+use Rattle.fv_base.proofs.FieldLemmas.{same_cut}
 use Rattle.fv_section.specs.Frames.{FrameForm, Begins, From, size, up_to_4}
 use Rattle.fv_section.proofs.FrameLemmas.{length_begun, size_least, one_frame, begins_more}
-
--- equal lists, cut at equal lengths
-pub same_cut : (a b x y : List ℕ) → length a ≡ length b → a ++ x ≡ b ++ y → (a ≡ b) × (x ≡ y)
-same_cut [] [] x y l e = (refl, e)
-same_cut [] (c ∷ b) x y l e = absurd (omega arith)
-same_cut (c ∷ a) [] x y l e = absurd (omega arith)
-same_cut (c ∷ a) (d ∷ b) x y l e =
-    let t : a ++ x ≡ b ++ y = cc in
-    let r = same_cut a b x y (omega arith) t in
-    let p : a ≡ b = r.0 in
-    let q : x ≡ y = r.1 in
-    let h : c ≡ d = cc in
-    (cc, q)
 
 -- a stream with a frame has bytes
 pub from_least : (at : ℕ) (f : FrameForm) (fs : List FrameForm) (t : ℕ) (b : List ℕ) → From at (f ∷ fs) t b → 4 ≤ length b

@@ -25,7 +25,7 @@ abbrev pub has_size : List ℕ → Bool
 has_size r = nat_le (head_len_at r) (length r) && (nat_le (head_len_at r) (size_at r) && nat_le (size_at r) (length r))
 
 -- of a section at the place `at`, from where on the bytes are r
-abbrev pub frame_checks : ℕ → List ℕ → List Check
+abbrev pub frame_checks : ℕ → List ℕ → List (Check Fault)
 frame_checks at r =
     check (nat_le 4 (length r)) kinds.SectionTail at
     ∷ check (has_size r) kinds.SectionSize at

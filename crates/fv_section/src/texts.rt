@@ -6,7 +6,7 @@ ghost use Rattle.fv_base.specs.Sums.{words_of};
 ghost use Rattle.fv_section.specs.Texts.{IsText, IsVersion, IsFreeform, none_zero, is_text};
 
 use byteorder::{ByteOrder, LittleEndian};
-use fv_base::Guid;
+use fv_base::{Guid, guid_at};
 
 // Whether no 16-bit unit is zero.
 fn none_zero(units: &[u8]) -> bool
@@ -71,8 +71,5 @@ pub fn freeform(body: &[u8]) -> Option<(Guid, &[u8])>
     if body.len() < 16 {
         return None;
     }
-    let (name, rest) = body.split_at(16);
-    let mut bytes = [0u8; 16];
-    bytes.copy_from_slice(name);
-    Some((Guid::from_bytes(bytes), rest))
+    Some((guid_at(body, 0), &body[16..]))
 }

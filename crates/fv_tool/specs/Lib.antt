@@ -1,3 +1,4 @@
+pub mod Standings
 pub mod Statuses
 pub mod Text
 pub mod Words

@@ -1,8 +1,25 @@
--- What a line of no words asks for.
-use Rattle.std.specs.Prelude.{true, None}
+-- What a line of words asks for.
+use Rattle.std.specs.Prelude.{◌≡◌, ⊤, true, false, None}
+use Rattle.fv_tool.specs.declared.words.Command.{Command}
 use Rattle.fv_tool.specs.declared.words.Plan.{Plan}
-use Rattle.fv_tool.specs.declared.words.Command.TheVariants.{Normalise}
+use Rattle.fv_tool.specs.declared.words.Command.TheVariants.{Normalise, Hobs}
 
--- hexadecimal text from standard input is normalised
+-- of no words: hexadecimal text from standard input is normalised
 abbrev pub plan_without_words : Plan
 plan_without_words = record { hex = true; command = Normalise None }
+
+-- to normalise an input of bytes
+abbrev pub IsNormalise : Command → Type 0
+IsNormalise (Normalise file) = ⊤
+IsNormalise _ = ⊥
+
+abbrev pub NormalisesBytes : Plan → Type 0
+NormalisesBytes p = (p.hex ≡ false) × IsNormalise p.command
+
+-- to list the blocks of an input of bytes
+abbrev pub IsHobs : Command → Type 0
+IsHobs (Hobs file image) = ⊤
+IsHobs _ = ⊥
+
+abbrev pub ListsBytes : Plan → Type 0
+ListsBytes p = (p.hex ≡ false) × IsHobs p.command

@@ -4,6 +4,8 @@
 mod commands;
 mod hex_lines;
 mod hex_text;
+mod hobs;
+mod source;
 #[cfg(test)]
 mod tests;
 mod words;
@@ -12,12 +14,13 @@ ghost use Rattle.std.specs.Prelude.{◌≡◌, ◌⊎◌};
 
 use commands::{Status, refuse, run_plan, say};
 use fv_base::{Fault, FaultKind, Port};
+use source::{Source, open};
 use std::alloc::{AllocError, Global};
 use std::io::{BufWriter, Write};
 use std::process::ExitCode;
 use std::rt::{Env, Files};
-use std::{env, fs, io};
-use words::{Command, Plan, WordFault, parse_words};
+use std::{env, io};
+use words::{Plan, WordFault, parse_words};
 
 /// The words that the program was started with.
 fn arguments<R: Env + AllocGlobal>(rt: &R) -> Result<Vec<String>, WordFault> {
@@ -31,27 +34,27 @@ fn arguments<R: Env + AllocGlobal>(rt: &R) -> Result<Vec<String>, WordFault> {
     Ok(words)
 }
 
-/// Runs a plan over its file, or over standard input.
-fn run_over_input<R: Files + Input + AllocGlobal, W: Write>(
+/// Runs a plan over its files, or over standard input.
+fn run_over_inputs<R: Files + Input + AllocGlobal, W: Write>(
     rt: &R,
     plan: &Plan,
     writer: &mut Port<W>,
 ) -> Status {
-    let alloc = rt.alloc();
-    let mut nothing = Port::new(&b""[..]);
-    match &plan.command {
-        Command::Normalise { file: None } => {
-            let mut reader = Port::new(rt.reader());
-            run_plan(alloc, plan, &mut reader, &mut nothing, writer)
-        }
-        Command::Normalise { file: Some(path) } => match fs::open(rt, path.as_str()) {
-            Ok(file) => {
-                let mut reader = Port::new(file);
-                run_plan(alloc, plan, &mut reader, &mut nothing, writer)
-            }
-            Err(_) => refuse(writer, Fault::outer(FaultKind::ReadFault, 0)),
-        },
-    }
+    let first = match plan.first() {
+        Some(path) => open(rt, path.as_str()),
+        None => Source::Standard(rt.reader()),
+    };
+    let second = match plan.second() {
+        Some(path) => open(rt, path.as_str()),
+        None => Source::Nothing,
+    };
+    run_plan(
+        rt.alloc(),
+        plan,
+        &mut Port::new(first),
+        &mut Port::new(second),
+        writer,
+    )
 }
 
 /// Reads the words, and does what they ask for.
@@ -64,7 +67,7 @@ fn run_words<R: Env + Files + Input + AllocGlobal, W: Write>(
         Err(fault) => Err(fault),
     };
     match plan {
-        Ok(plan) => run_over_input(rt, &plan, writer),
+        Ok(plan) => run_over_inputs(rt, &plan, writer),
         Err(WordFault::Words) => say(writer, "wrong words\n", Status::WrongWords),
         Err(WordFault::OutOfMemory) => refuse(writer, Fault::outer(FaultKind::OutOfMemory, 0)),
     }

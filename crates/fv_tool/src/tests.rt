@@ -3,6 +3,7 @@
 mod answers;
 mod cut_short;
 mod fakes;
+mod hobs;
 mod vectors;
 
 use crate::close;
@@ -152,6 +153,12 @@ fn reads_words(rt: HostRuntime) -> Result<(), Fail> {
     let hex_file = "Plan { hex: true, command: Normalise { file: Some(\"a.txt\") } }";
     let input = "Plan { hex: false, command: Normalise { file: None } }";
     let file = "Plan { hex: false, command: Normalise { file: Some(\"a.fv\") } }";
+    let list_input = "Plan { hex: false, command: Hobs { file: None, image: None } }";
+    let list_hex_file = "Plan { hex: true, command: Hobs { file: Some(\"a.hob\"), image: None } }";
+    let list_and_image =
+        "Plan { hex: false, command: Hobs { file: Some(\"a.hob\"), image: Some(ImageFile { path: \"a.fv\", base: 16711680 }) } }";
+    let list_and_top =
+        "Plan { hex: false, command: Hobs { file: None, image: Some(ImageFile { path: \"a.fv\", base: 18446744073709551615 }) } }";
     let cases = [
         (&[][..], hex_input),
         (&["fv"][..], hex_input),
@@ -160,7 +167,47 @@ fn reads_words(rt: HostRuntime) -> Result<(), Fail> {
         (&["fv", "normalise", "a.fv"][..], file),
         (&["fv", "normalise", "--hex", "a.txt"][..], hex_file),
         (&["fv", "normalise", "a.txt", "--hex"][..], hex_file),
+        (&["fv", "hobs"][..], list_input),
+        (&["fv", "hobs", "a.hob", "--hex"][..], list_hex_file),
+        (
+            &[
+                "fv", "hobs", "--image", "a.fv", "--base", "16711680", "a.hob",
+            ][..],
+            list_and_image,
+        ),
+        (
+            &[
+                "fv",
+                "hobs",
+                "--base",
+                "18446744073709551615",
+                "--image=a.fv",
+            ][..],
+            list_and_top,
+        ),
+        (&["fv", "hobs", "--image", "a.fv"][..], "Words"),
+        (&["fv", "hobs", "--base", "1"][..], "Words"),
+        (&["fv", "hobs", "--base", "1", "a.hob"][..], "Words"),
+        (&["fv", "hobs", "--image", "a.fv", "--base"][..], "Words"),
+        (
+            &["fv", "hobs", "--image", "a.fv", "--base", "x"][..],
+            "Words",
+        ),
+        (&["fv", "hobs", "--image", "a.fv", "--base=-1"][..], "Words"),
+        (
+            &[
+                "fv",
+                "hobs",
+                "--image",
+                "a.fv",
+                "--base",
+                "18446744073709551616",
+            ][..],
+            "Words",
+        ),
+        (&["fv", "hobs", "a.hob", "b.hob"][..], "Words"),
         (&["fv", "normalise", "a.fv", "b.fv"][..], "Words"),
+        (&["fv", "normalise", "--base", "1"][..], "Words"),
         (&["fv", "normalise", "--flag"][..], "Words"),
         (&["fv", "normalise", "--help"][..], "Words"),
         (&["fv", "--hex"][..], "Words"),

@@ -128,7 +128,7 @@ head_unread b f n m within d only =
       go (inr same) = cc
 
 -- checks that hold, and more that hold
-hold_append : (cs ds : List Check) → AllHold cs → AllHold ds → AllHold (cs ++ ds)
+hold_append : (cs ds : List (Check Fault)) → AllHold cs → AllHold ds → AllHold (cs ++ ds)
 hold_append [] ds first rest = rest
 hold_append (c ∷ cs) ds first rest = (first.0, hold_append cs ds first.1 rest)
 

@@ -2,7 +2,7 @@
 
 use super::values::VALUES;
 use super::{A, B, Parts, joined, long};
-use crate::{DepexFault, Phase, depex_bytes, read_depex};
+use crate::{DepexFault, Op, Phase, depex_bytes, read_depex};
 use fv_base::ByteList;
 use std::alloc::Global;
 use std::test::Fail;
@@ -36,6 +36,27 @@ fn expressions_are_written_as_they_were(rt: HostRuntime) -> Result<(), Fail> {
         let written = again(rt.alloc(), &bytes, phase)?;
         assert_eq!(rt; written.as_slice(), bytes.as_slice());
     }
+    Ok(())
+}
+
+#[test]
+fn a_guid_keeps_the_order_of_its_bytes(rt: HostRuntime) -> Result<(), Fail> {
+    let body: [u8; 18] = [
+        0x02, 0x1f, 0x2e, 0x3d, 0x4c, 0x5b, 0x6a, 0x79, 0x88, 0x97, 0xa6, 0xb5, 0xc4, 0xd3, 0xe2,
+        0xf1, 0x00, 0x08,
+    ];
+    let want: [u8; 16] = [
+        0x1f, 0x2e, 0x3d, 0x4c, 0x5b, 0x6a, 0x79, 0x88, 0x97, 0xa6, 0xb5, 0xc4, 0xd3, 0xe2, 0xf1,
+        0x00,
+    ];
+    let depex = read_depex(rt.alloc(), &body, Phase::Pei)?;
+    let pushed = match depex.ops().first() {
+        Some(Op::Push(guid)) => Some(guid.to_bytes()),
+        _ => None,
+    };
+    assert_eq!(rt; pushed, Some(want));
+    let written = depex_bytes(rt.alloc(), &depex)?;
+    assert_eq!(rt; written.as_slice(), body.as_slice());
     Ok(())
 }
 

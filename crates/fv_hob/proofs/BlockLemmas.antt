@@ -1,0 +1,84 @@
+-- A block stands where its checks hold, and its length decides it.
+use Rattle.std.proofs.Common.{◌≡◌, ◌≤◌, ◌<◌, ℕ, ◌+◌, List, ◌++◌, length, take, drop, refl, sym, ap, ◌∙◌, subst, arith, Bool, true, false, length-append}
+use Rattle.std.specs.Prelude.{◌==◌, ◌%◌, ◌||◌, not, nat_le, None}
+use Rattle.std.proofs.lemmas.Bool.{eqb-true, eq-eqb, leb-true, le-leb}
+use Rattle.std.proofs.lemmas.List.{take-append-drop, length-take-le}
+use Rattle.fv_base.specs.Checks.{AllHold, first_fault}
+use Rattle.fv_base.specs.Value.{IsBytes, le, le_at}
+use Rattle.fv_base.proofs.CheckLemmas.{and_split, and_join, all_hold}
+use Rattle.fv_base.proofs.FieldLemmas.{bytes_take, field-append_front, field-take, same_cut, two_bytes}
+use Rattle.fv_hob.specs.Checks.{BlockStands, hob_checks, is_hob_len}
+use Rattle.fv_hob.specs.Hobs.{HobForm, IsHob, code_of, has_shape, hob_in, len_of}
+use Rattle.fv_hob.proofs.RowLemmas.{code_by, len_by}
+
+pub code_is : (h : HobForm) (b : List ℕ) → IsHob h b → code_of h.kind ≡ le_at 0 2 b
+code_is h b is = ap (λ (g : HobForm). code_of g.kind) is.said ∙ code_by b (le_at 0 2 b)
+
+pub len_is : (h : HobForm) (b : List ℕ) → IsHob h b → len_of h.kind ≡ length b
+len_is h b is = ap (λ (g : HobForm). len_of g.kind) is.said ∙ len_by b (is.block).least (le_at 0 2 b) (is.block).shaped
+
+pub len_small : (h : HobForm) (b : List ℕ) → IsHob h b → len_of h.kind < 65536
+len_small h b is = subst (λ (n : ℕ). n < 65536) ((is.block).sized ∙ sym (len_is h b is)) (two_bytes 2 b (is.block).bytes)
+
+-- ---- from the checks to the block
+
+holds_first : (first : Bool) (t : Bool) → (not first || t) ≡ true → first ≡ true → t ≡ true
+holds_first true t h e = h
+holds_first false t h e = cc
+
+pub stands : (first : Bool) (r : List ℕ) → IsBytes r → first_fault (hob_checks first r) ≡ None → BlockStands first (take (le_at 2 2 r) r) r
+stands first r bytes none =
+    let all = all_hold (hob_checks first r) none in
+    let n : ℕ = le_at 2 2 r in
+    let c : List ℕ = take n r in
+    let len = and_split _ _ all.1.1.0 in
+    let least : 8 ≤ n = leb-true 8 n len.0 in
+    let long : length c ≡ n = length-take-le n r (leb-true n (length r) all.1.1.1.0) in
+    let code : le_at 0 2 c ≡ le_at 0 2 r = ap le (field-take 0 2 n r (omega (arith, least))) in
+    record {
+      behind = drop n r;
+      joined = sym (take-append-drop n r);
+      block = record {
+        bytes = bytes_take n r bytes;
+        sized = ap le (field-take 2 2 n r (omega (arith, least))) ∙ sym long;
+        whole = ap (λ (m : ℕ). m % 8) long ∙ eqb-true (n % 8) 0 len.1;
+        least = subst (λ (m : ℕ). 8 ≤ m) (sym long) least;
+        shaped = ap (λ (m : ℕ). has_shape (le_at 0 2 c) m) long ∙ ap (λ (m : ℕ). has_shape m n) code ∙ all.1.1.1.1.1.0;
+      };
+      begins = λ e. code ∙ eqb-true (le_at 0 2 r) 0x0001 (holds_first first (le_at 0 2 r == 0x0001) all.1.1.1.1.0 e);
+    }
+
+-- ---- from the block to the checks
+
+join_first : (first : Bool) (t : Bool) → (first ≡ true → t ≡ true) → (not first || t) ≡ true
+join_first true t h = h refl
+join_first false t h = refl
+
+pub checks_hold : (first : Bool) (h : HobForm) (c x : List ℕ) → IsHob h c → (first ≡ true → code_of h.kind ≡ 0x0001) → AllHold (hob_checks first (c ++ x))
+checks_hold first h c x is begins =
+    let r : List ℕ = c ++ x in
+    let block = is.block in
+    let least : 8 ≤ length c = block.least in
+    let code : le_at 0 2 r ≡ le_at 0 2 c = ap le (field-append_front 0 2 c x (omega (arith, least))) in
+    let len : le_at 2 2 r ≡ length c = ap le (field-append_front 2 2 c x (omega (arith, least))) ∙ block.sized in
+    let long : length r ≡ length c + length x = length-append c x in
+    let sized : is_hob_len (length c) ≡ true = and_join _ _ (le-leb 8 (length c) least) (eq-eqb (length c % 8) 0 block.whole) in
+    let whole : nat_le (le_at 2 2 r) (length r) ≡ true = le-leb (le_at 2 2 r) (length r) (omega (arith, long, len)) in
+    let begun : (not first || (le_at 0 2 r == 0x0001)) ≡ true =
+    join_first first (le_at 0 2 r == 0x0001) (λ e. eq-eqb (le_at 0 2 r) 0x0001 (code ∙ sym (code_is h c is) ∙ begins e)) in
+    let shaped : has_shape (le_at 0 2 r) (le_at 2 2 r) ≡ true = ap (λ (m : ℕ). has_shape m (le_at 2 2 r)) code ∙ ap (λ (m : ℕ). has_shape (le_at 0 2 c) m) len ∙ block.shaped in
+    (le-leb 1 (length r) (omega (arith, long, least)), (le-leb 8 (length r) (omega (arith, long, least)), (ap is_hob_len len ∙ sized, (whole, (begun, (shaped, tt))))))
+
+-- ---- one block
+
+pub record SameBlock (c d x y : List ℕ) (h g : HobForm) : Type 0 where
+  pub bytes_are : c ≡ d
+  pub behind_is : x ≡ y
+  pub block_is : h ≡ g
+
+pub one_block : (h g : HobForm) (c d x y : List ℕ) → IsHob h c → IsHob g d → c ++ x ≡ d ++ y → SameBlock c d x y h g
+one_block h g c d x y is js e =
+    let len : length c ≡ length d = sym (is.block).sized ∙ sym (ap le (field-append_front 2 2 c x (omega (arith, (is.block).least)))) ∙ ap (le_at 2 2) e
+    ∙ ap le (field-append_front 2 2 d y (omega (arith, (js.block).least))) ∙ (js.block).sized in
+    let parts = same_cut c d x y len e in
+    record { bytes_are = parts.0; behind_is = parts.1; block_is = is.said ∙ ap hob_in parts.0 ∙ sym js.said }

@@ -1,0 +1,6 @@
+pub mod BlockLemmas
+pub mod ListLemmas
+pub mod ReadLemmas
+pub mod RowLemmas
+pub mod SpelledLemmas
+pub mod WriteLemmas

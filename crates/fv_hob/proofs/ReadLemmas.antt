@@ -1,0 +1,107 @@
+-- What the loop over the blocks keeps, and what its ends say.
+use Rattle.std.proofs.Common.{◌≡◌, ◌≤◌, ℕ, ◌+◌, ◌-◌, List, [], ◌∷◌, ◌++◌, length, take, drop, refl, sym, ap, ◌∙◌, subst, arith, true, length-append, length-drop, append_assoc}
+use Rattle.std.specs.Prelude.{◌==◌}
+use Rattle.std.specs.List.{AllByRecursion}
+use Rattle.std.proofs.lemmas.Bool.{eqb-true}
+use Rattle.std.proofs.lemmas.List.{take-append-drop, take_at, take_rest, length-take-le}
+use Rattle.std.proofs.Math.Seq.{take-add}
+use Rattle.fv_base.specs.Checks.{IsFirstFault}
+use Rattle.fv_base.proofs.CheckLemmas.{none_faulty, not_first}
+use Rattle.fv_hob.specs.Checks.{BlockStands, IsFirst, hob_checks}
+use Rattle.fv_hob.specs.Hobs.{HobForm, IsHob, code_of}
+use Rattle.fv_hob.specs.Lists.{Begins, IsEnd, IsHobList, IsNoEnd, Joins}
+use Rattle.fv_hob.specs.declared.fault.HobFault.{HobFault}
+use Rattle.fv_hob.specs.declared.fault.HobFaultKind.{HobFaultKind}
+use Rattle.fv_hob.proofs.BlockLemmas.{checks_hold, code_is}
+use Rattle.fv_hob.proofs.ListLemmas.{joins_more, others_more, same_front}
+
+-- the blocks that were read make up the bytes up to a place
+pub record Kept (b : List ℕ) (items : List HobForm) (at : ℕ) : Type 0 where
+  pub joined : Joins items (take at b)
+  pub begins : Begins items
+  pub others : AllByRecursion IsNoEnd items
+  pub inside : at ≤ length b
+
+pub kept_none : (b : List ℕ) (items : List HobForm) → items ≡ [] → Kept b items 0
+kept_none b items e = subst (λ (l : List HobForm). Kept b l 0) (sym e) (record { joined = refl; begins = tt; others = tt; inside = omega arith })
+
+begins_more : (items : List HobForm) (h : HobForm) → Begins items → ((length items == 0) ≡ true → code_of h.kind ≡ 0x0001) → Begins (items ++ h ∷ [])
+begins_more [] h begins first = first refl
+begins_more (g ∷ gs) h begins first = begins
+
+-- one more block
+pub record OneMore (b : List ℕ) (items : List HobForm) (h : HobForm) (at n : ℕ) : Type 0 where
+  pub joined : Joins (items ++ h ∷ []) (take (at + n) b)
+  pub begins : Begins (items ++ h ∷ [])
+  pub inside : at + n ≤ length b
+  pub some : 8 ≤ n
+
+pub one_more : (b : List ℕ) (items : List HobForm) (h : HobForm) (c : List ℕ) (at : ℕ) → Kept b items at → BlockStands (length items == 0) c (take (length b - at) (drop at b)) → IsHob h c
+    → OneMore b items h at (length c)
+one_more b items h c at k stands is =
+    let whole : drop at b ≡ c ++ stands.behind = sym (take_rest b at) ∙ stands.joined in
+    let part : take (length c) (drop at b) ≡ c = ap (take (length c)) whole ∙ take_at c stands.behind (length c) refl in
+    let long : length (drop at b) ≡ length c + length stands.behind = ap length whole ∙ length-append c stands.behind in
+    record {
+      joined = subst (λ (l : List ℕ). Joins (items ++ h ∷ []) l) (sym (take-add at (length c) b ∙ ap (λ (l : List ℕ). take at b ++ l) part)) (joins_more items h (take at b) c k.joined is);
+      begins = begins_more items h k.begins (λ first. code_is h c is ∙ stands.begins first);
+      inside = omega (arith, long, length-drop at b, k.inside);
+      some = (stands.block).least;
+    }
+
+pub kept : (b : List ℕ) (items new : List HobForm) (h : HobForm) (c : List ℕ) (at : ℕ) → Kept b items at → BlockStands (length items == 0) c (take (length b - at) (drop at b)) → IsHob h c
+    → IsNoEnd h → new ≡ items ++ h ∷ [] → Kept b new (at + length c)
+kept b items new h c at k stands is other new_is =
+    let more = one_more b items h c at k stands is in
+    subst (λ (l : List HobForm). Kept b l (at + length c)) (sym new_is) (record { joined = more.joined; begins = more.begins; others = others_more items h k.others other; inside = more.inside })
+
+pub ended : (b : List ℕ) (items new : List HobForm) (h : HobForm) (c : List ℕ) (at : ℕ) → Kept b items at → BlockStands (length items == 0) c (take (length b - at) (drop at b)) → IsHob h c
+    → IsEnd h → new ≡ items ++ h ∷ [] → (at + length c ≤ length b) × IsHobList new (take (at + length c) b)
+ended b items new h c at k stands is end new_is =
+    let more = one_more b items h c at k stands is in (
+      more.inside,
+      subst (λ (l : List HobForm). IsHobList l (take (at + length c) b)) (sym new_is) (record {
+        front = items;
+        last = h;
+        ends = refl;
+        joined = more.joined;
+        begins = more.begins;
+        others = k.others;
+        last_is = end;
+      }),
+    )
+
+pub first_here : (b : List ℕ) (items : List HobForm) (at : ℕ) (kind : HobFaultKind) (offset : ℕ) → Kept b items at
+    → IsFirstFault (hob_checks (length items == 0) (take (length b - at) (drop at b))) kind → offset ≡ at → IsFirst b (record { kind = kind; offset = offset })
+first_here b items at kind offset k first place = record {
+  before = items;
+  c = take at b;
+  r = drop at b;
+  joined = sym (take-append-drop at b);
+  read = k.joined;
+  begins = k.begins;
+  others = k.others;
+  place = place ∙ sym (length-take-le at b k.inside);
+  kind_is = subst (λ (l : List ℕ). IsFirstFault (hob_checks (length items == 0) l) kind) (take_rest b at) first;
+}
+
+-- where there is a first fault the bytes begin with no list
+pub none_after : (b : List ℕ) (f : HobFault) (all : List HobForm) (d y : List ℕ) → IsFirst b f → IsHobList all d → b ≡ d ++ y → ⊥
+none_after b f all d y here is whole =
+    let s = same_front here.before is.front is.last here.c d here.r y here.read here.others (subst (λ (l : List HobForm). Joins l d) is.ends is.joined) is.last_is (sym here.joined ∙ whole) in
+    go s.more s.e s.joined s.bytes_are (is.ends ∙ ap (λ (l : List HobForm). l ++ (is.last ∷ [])) s.front_is)
+  where
+    -- the block that stands at the fault
+    head : (before more : List HobForm) (last h : HobForm) (behind : List HobForm) → more ++ last ∷ [] ≡ h ∷ behind → all ≡ (before ++ more) ++ last ∷ [] → (length before == 0) ≡ true → code_of h.kind ≡ 0x0001
+    head [] more last h behind e same first = subst Begins (same ∙ e) is.begins
+    head (g ∷ gs) more last h behind e same first = absurd (omega (arith, eqb-true (length (g ∷ gs)) 0 first))
+
+    refuse : (h : HobForm) (c x : List ℕ) → IsHob h c → here.r ≡ c ++ x → ((length here.before == 0) ≡ true → code_of h.kind ≡ 0x0001) → ⊥
+    refuse h c x js e first =
+        not_first (hob_checks (length here.before == 0) (c ++ x)) f.kind (subst (λ (l : List ℕ). IsFirstFault (hob_checks (length here.before == 0) l) f.kind) e here.kind_is)
+        (none_faulty (hob_checks (length here.before == 0) (c ++ x)) (checks_hold (length here.before == 0) h c x js first))
+
+    go : (more : List HobForm) (e : List ℕ) → Joins (more ++ is.last ∷ []) e → here.r ≡ e ++ y → all ≡ (here.before ++ more) ++ is.last ∷ [] → ⊥
+    go [] e (c, rest, e_is, js, more') r_is same = refuse is.last c (rest ++ y) js (r_is ∙ ap (λ (l : List ℕ). l ++ y) e_is ∙ append_assoc c rest y) (head here.before [] is.last is.last [] refl same)
+    go (h ∷ hs) e (c, rest, e_is, js, more') r_is same =
+        refuse h c (rest ++ y) js (r_is ∙ ap (λ (l : List ℕ). l ++ y) e_is ∙ append_assoc c rest y) (head here.before (h ∷ hs) is.last h (hs ++ is.last ∷ []) refl same)

@@ -1,0 +1,58 @@
+-- The checks of a block in their order, and the first fault of a list.
+use Rattle.std.specs.Prelude.{◌≡◌, ℕ, ◌%◌, ◌==◌, nat_le, ◌&&◌, ◌||◌, not, Bool, true, List, [], ◌∷◌, ◌++◌, length}
+use Rattle.std.specs.List.{AllByRecursion}
+use Rattle.fv_base.specs.Checks.{Check, IsFirstFault}
+use Rattle.fv_base.specs.Value.{le_at}
+use Rattle.fv_hob.specs.Hobs.{HobForm, IsBlock, has_shape}
+use Rattle.fv_hob.specs.Lists.{Begins, IsNoEnd, Joins}
+use Rattle.fv_hob.specs.declared.fault.HobFault.{HobFault}
+use Rattle.fv_hob.specs.declared.fault.HobFaultKind.{HobFaultKind}
+use Rattle.fv_hob.specs.declared.fault.HobFaultKind.TheVariants as kinds
+
+-- a length that counts the header, and is a multiple of 8
+abbrev pub is_hob_len : ℕ → Bool
+is_hob_len n = nat_le 8 n && (n % 8 == 0)
+
+abbrev pub hob_check : Bool → HobFaultKind → Check HobFaultKind
+hob_check holds kind = record { holds = holds; fault = kind }
+
+-- of the block that begins r, the first of the list or a later one
+abbrev pub hob_checks : Bool → List ℕ → List (Check HobFaultKind)
+hob_checks first r =
+    hob_check (nat_le 1 (length r)) kinds.NoEnd
+    ∷ hob_check (nat_le 8 (length r)) kinds.Short
+    ∷ hob_check (is_hob_len (le_at 2 2 r)) kinds.Length
+    ∷ hob_check (nat_le (le_at 2 2 r) (length r)) kinds.Short
+    ∷ hob_check (not first || (le_at 0 2 r == 0x0001)) kinds.First
+    ∷ hob_check (has_shape (le_at 0 2 r) (le_at 2 2 r)) kinds.Shape
+    ∷ []
+
+-- r begins with the block c, which may stand there
+pub record BlockStands (first : Bool) (c r : List ℕ) : Type 0 where
+  pub behind : List ℕ
+  pub joined : r ≡ c ++ behind
+  pub block : IsBlock c
+  pub begins : first ≡ true → le_at 0 2 c ≡ 0x0001
+
+-- some blocks, none of them an end, are read up to the fault's offset, and there it is that of the first check that does not hold
+pub record IsFirst (b : List ℕ) (fault : HobFault) : Type 0 where
+  pub before : List HobForm
+  pub c : List ℕ
+  pub r : List ℕ
+  pub joined : b ≡ c ++ r
+  pub read : Joins before c
+  pub begins : Begins before
+  pub others : AllByRecursion IsNoEnd before
+  pub place : fault.offset ≡ length c
+  pub kind_is : IsFirstFault (hob_checks (length before == 0) r) fault.kind
+
+abbrev pub want_of_memory : HobFault
+want_of_memory = record { kind = kinds.OutOfMemory; offset = 0 }
+
+abbrev pub number_of : HobFaultKind → ℕ
+number_of kinds.Short = 1
+number_of kinds.Length = 2
+number_of kinds.First = 3
+number_of kinds.Shape = 4
+number_of kinds.NoEnd = 5
+number_of kinds.OutOfMemory = 6

@@ -1,0 +1,128 @@
+-- Hand-off blocks (PI specification, volume 3, section 5).
+use Rattle.std.specs.Prelude.{◌≡◌, ◌≤◌, ℕ, ◌+◌, ◌-◌, ◌%◌, ◌==◌, nat_le, if◌then◌else◌, Bool, true, List, length, drop, slice_index}
+use Rattle.fv_base.specs.Value.{IsBytes, field, le_at}
+use Rattle.fv_base.specs.declared.guid.Guid.{Guid}
+use Rattle.fv_hob.specs.declared.hob.Handoff.{Handoff}
+use Rattle.fv_hob.specs.declared.hob.MemoryAllocation.{MemoryAllocation}
+use Rattle.fv_hob.specs.declared.hob.Resource.{Resource}
+use Rattle.fv_hob.specs.declared.hob.HobKind.{HobKind}
+use Rattle.fv_hob.specs.declared.hob.HobKind.TheVariants as kinds
+
+-- a block: its reserved word, and what its row says of the rest
+pub record HobForm : Type 0 where
+  pub reserved : ℕ
+  pub kind : HobKind
+
+-- the type of a block
+abbrev pub code_of : HobKind → ℕ
+code_of (kinds.Handoff said) = 0x0001
+code_of (kinds.MemoryAllocation said) = 0x0002
+code_of (kinds.Resource said) = 0x0003
+code_of (kinds.GuidExtension name payload) = 0x0004
+code_of (kinds.FirmwareVolume base len) = 0x0005
+code_of (kinds.Cpu memory io reserved) = 0x0006
+code_of kinds.MemoryPool = 0x0007
+code_of (kinds.FirmwareVolume2 base len volume file) = 0x0009
+code_of (kinds.Capsule base len) = 0x000b
+code_of (kinds.Unused len) = 0xfffe
+code_of kinds.End = 0xffff
+code_of (kinds.Other code payload) = code
+
+-- how many bytes a block has, its header of 8 among them
+abbrev pub len_of : HobKind → ℕ
+len_of (kinds.Handoff said) = 56
+len_of (kinds.MemoryAllocation said) = 48 + length said.rest
+len_of (kinds.Resource said) = 48
+len_of (kinds.GuidExtension name payload) = 24 + length payload
+len_of (kinds.FirmwareVolume base len) = 24
+len_of (kinds.Cpu memory io reserved) = 16
+len_of kinds.MemoryPool = 8
+len_of (kinds.FirmwareVolume2 base len volume file) = 56
+len_of (kinds.Capsule base len) = 24
+len_of (kinds.Unused len) = 8 + len
+len_of kinds.End = 8
+len_of (kinds.Other code payload) = 8 + length payload
+
+-- the lengths that a block of a type may have
+abbrev pub has_shape : ℕ → ℕ → Bool
+has_shape code n =
+    if code == 0x0001 then n == 56
+    else (if code == 0x0002 then nat_le 48 n
+    else (if code == 0x0003 then n == 48
+    else (if code == 0x0004 then nat_le 24 n
+    else (if code == 0x0005 then n == 24
+    else (if code == 0x0006 then n == 16
+    else (if code == 0x0007 then n == 8
+    else (if code == 0x0009 then n == 56
+    else (if code == 0x000b then n == 24
+    else (if code == 0xffff then n == 8 else true)))))))))
+
+-- the GUID that stands at a place
+abbrev pub guid_in : ℕ → List ℕ → Guid
+guid_in at b = record { bytes = field at 16 b }
+
+-- the fields of a block at their offsets, of these types and of all
+abbrev pub handoff_in : List ℕ → Handoff
+handoff_in b = record {
+  version = le_at 8 4 b;
+  boot_mode = le_at 12 4 b;
+  memory_top = le_at 16 8 b;
+  memory_bottom = le_at 24 8 b;
+  free_memory_top = le_at 32 8 b;
+  free_memory_bottom = le_at 40 8 b;
+  end_of_list = le_at 48 8 b;
+}
+
+abbrev pub allocation_in : List ℕ → MemoryAllocation
+allocation_in b = record {
+  name = guid_in 8 b;
+  base = le_at 24 8 b;
+  length = le_at 32 8 b;
+  memory_type = le_at 40 4 b;
+  reserved = field 44 4 b;
+  rest = drop 48 b;
+}
+
+abbrev pub resource_in : List ℕ → Resource
+resource_in b = record {
+  owner = guid_in 8 b;
+  resource_type = le_at 24 4 b;
+  attribute = le_at 28 4 b;
+  start = le_at 32 8 b;
+  length = le_at 40 8 b;
+}
+
+abbrev pub kind_by : ℕ → List ℕ → HobKind
+kind_by code b =
+    if code == 0x0001 then kinds.Handoff (handoff_in b)
+    else (if code == 0x0002 then kinds.MemoryAllocation (allocation_in b)
+    else (if code == 0x0003 then kinds.Resource (resource_in b)
+    else (if code == 0x0004 then kinds.GuidExtension (guid_in 8 b) (drop 24 b)
+    else (if code == 0x0005 then kinds.FirmwareVolume (le_at 8 8 b) (le_at 16 8 b)
+    else (if code == 0x0006 then kinds.Cpu (slice_index b 8) (slice_index b 9) (field 10 6 b)
+    else (if code == 0x0007 then kinds.MemoryPool
+    else (if code == 0x0009 then kinds.FirmwareVolume2 (le_at 8 8 b) (le_at 16 8 b) (guid_in 24 b) (guid_in 40 b)
+    else (if code == 0x000b then kinds.Capsule (le_at 8 8 b) (le_at 16 8 b)
+    else (if code == 0xfffe then kinds.Unused (length b - 8)
+    else (if code == 0xffff then kinds.End else kinds.Other code (drop 8 b)))))))))))
+
+-- the type stands at 0, the length at 2, the reserved word at 4
+abbrev pub hob_in : List ℕ → HobForm
+hob_in b = record { reserved = le_at 4 4 b; kind = kind_by (le_at 0 2 b) b }
+
+-- b is one block: its length is a multiple of 8, at least 8, and one that its type may have
+pub record IsBlock (b : List ℕ) : Type 0 where
+  pub bytes : IsBytes b
+  pub sized : le_at 2 2 b ≡ length b
+  pub whole : length b % 8 ≡ 0
+  pub least : 8 ≤ length b
+  pub shaped : has_shape (le_at 0 2 b) (length b) ≡ true
+
+-- b is this block
+pub record IsHob (h : HobForm) (b : List ℕ) : Type 0 where
+  pub block : IsBlock b
+  pub said : h ≡ hob_in b
+
+-- some bytes are this block
+abbrev pub IsReadHob : HobForm → Type 0
+IsReadHob h = (b : List ℕ) × IsHob h b

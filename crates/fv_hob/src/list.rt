@@ -1,0 +1,46 @@
+//! A hand-off block list.
+
+ghost use Rattle.std.specs.Prelude.{◌≡◌};
+ghost use Rattle.fv_hob.specs.Lists.{IsReadList};
+
+use crate::hob::Hob;
+use std::marker::Model;
+
+/// A hand-off block list, made by reading alone: a hand-off information table first, and the one
+/// end block last. Contracts see the list of its blocks.
+#[derive(Drop)]
+pub struct HobList {
+    list: Vec<Hob>,
+}
+
+impl Model for HobList {
+    ghost use Rattle.std.specs.Prelude.{List};
+    ghost use Rattle.fv_hob.specs.Hobs.{HobForm};
+    ghost use Rattle.fv_hob.specs.Lists.{IsReadList};
+
+    ghost Value = { List HobForm };
+
+    ghost view = { λ l. l.list.items };
+
+    ghost invariant = { λ l. IsReadList l.list.items };
+}
+
+impl HobList {
+    /// The list of these blocks.
+    pub(crate) fn from_vec(list: Vec<Hob>) -> HobList
+        requires { IsReadList list.items }
+        ensures { result ≡ list.items }
+    {
+        HobList { list }
+    }
+
+    /// The blocks in their order, the end block last.
+    pub fn as_slice(&self) -> &[Hob]
+        ensures blocks { result.now ≡ self.now }
+
+        // Some bytes are this list.
+        ensures read { IsReadList self.now }
+    {
+        self.list.as_slice()
+    }
+}

@@ -1,0 +1,114 @@
+//! Hand-off lists, read.
+
+ghost use Rattle.std.specs.Prelude.{◌≡◌, ◌≢◌, ◌≤◌, ℕ, List, length, take, None, Some, IfOk, IfErr, OnOk};
+ghost use Rattle.fv_base.specs.Checks.{first_fault, IsFirstFault};
+ghost use Rattle.fv_hob.specs.Checks.{BlockStands, IsFirst, hob_checks, is_hob_len, want_of_memory};
+ghost use Rattle.fv_base.specs.Value.{le_at};
+ghost use Rattle.fv_hob.specs.Hobs.{HobForm};
+ghost use Rattle.fv_hob.specs.Lists.{IsHobList};
+
+use crate::fault::{HobFault, HobFaultKind};
+use crate::fields::u16_at;
+use crate::hob::Hob;
+use crate::list::HobList;
+use crate::row::{has_shape, hob_in};
+use std::alloc::Global;
+
+/// The type of the hand-off information table.
+const HANDOFF: u16 = 0x0001;
+
+/// The type of the end block.
+const END: u16 = 0xffff;
+
+fn is_hob_len(len: usize) -> bool
+    ensures { result ≡ is_hob_len len }
+{
+    len >= 8 && len % 8 == 0
+}
+
+// The length of the block at the front, or the kind of the first check that does not hold.
+fn check_block(rest: &[u8], first: bool) -> Result<usize, HobFaultKind>
+    ensures ok { IfOk result (λ len. (first_fault (hob_checks first rest.now) ≡ None) × (len ≡ le_at 2 2 rest.now)) }
+    ensures err { IfErr result (λ kind. first_fault (hob_checks first rest.now) ≡ Some kind) }
+{
+    if rest.is_empty() {
+        return Err(HobFaultKind::NoEnd);
+    }
+    if rest.len() < 8 {
+        return Err(HobFaultKind::Short);
+    }
+    let code = u16_at(rest, 0);
+    let len = usize::from(u16_at(rest, 2));
+    if !is_hob_len(len) {
+        return Err(HobFaultKind::Length);
+    }
+    if len > rest.len() {
+        return Err(HobFaultKind::Short);
+    }
+    if first && code != HANDOFF {
+        return Err(HobFaultKind::First);
+    }
+    if !has_shape(code, len) {
+        return Err(HobFaultKind::Shape);
+    }
+    Ok(len)
+}
+
+// The block at the front, or the kind of the first fault there.
+fn next_block(rest: &[u8], first: bool) -> Result<&[u8], HobFaultKind>
+    ensures found { IfOk result (λ block. BlockStands first block.now rest.now) }
+    ensures first { IfErr result (λ kind. IsFirstFault (hob_checks first rest.now) kind) }
+{
+    let len = check_block(rest, first)?;
+    Ok(&rest[..len])
+}
+
+// The blocks up to the end block, and how many bytes they have.
+fn read_blocks(alloc: Global, bytes: &[u8]) -> Result<(Vec<Hob>, usize), HobFault>
+    ensures found { IfOk result (λ p. (p.1 ≤ length bytes.now) × IsHobList p.0.items (take p.1 bytes.now)) }
+    ensures first { IfErr result (λ f. f ≢ want_of_memory → IsFirst bytes.now f) }
+{
+    let mut hobs = Vec::new(alloc);
+    let mut at = 0;
+    loop {
+        let block = match next_block(&bytes[at..], hobs.is_empty()) {
+            Ok(block) => block,
+            Err(kind) => {
+                let offset = at as u64;
+                return Err(HobFault { kind, offset });
+            }
+        };
+        let hob = hob_in(alloc, block)?;
+        at += block.len();
+        let ends = hob.code() == END;
+        hobs.push(hob)?;
+        if ends {
+            return Ok((hobs, at));
+        }
+    }
+}
+
+/// The hand-off block list that begins the bytes, and how many bytes it has. (PI specification,
+/// volume 3, section 5.)
+///
+/// # Errors
+///
+/// At the first block that has a fault, in this order: NoEnd where no bytes are left, Short where
+/// fewer than 8 are, Length, Short where fewer than the block's length are, First, Shape.
+/// OutOfMemory at 0.
+pub fn read_hobs(alloc: Global, bytes: &[u8]) -> Result<(HobList, u64), HobFault>
+    // The bytes begin with this list, and it has so many.
+    ensures found { IfOk result (λ p. (p.1 ≤ length bytes.now) × IsHobList p.0 (take p.1 bytes.now)) }
+
+    // They begin with no other list.
+    ensures only { IfOk result (λ p. (all : List HobForm) (n : ℕ) → n ≤ length bytes.now → IsHobList all (take n bytes.now) → (all ≡ p.0) × (n ≡ p.1)) }
+
+    // Where it refuses, want of memory aside, they begin with none.
+    ensures none { IfErr result (λ f. f ≢ want_of_memory → (all : List HobForm) (n : ℕ) → IsHobList all (take n bytes.now) → ⊥) }
+
+    // A refusal, want of memory aside, names the first check that does not hold, at the first block that has one.
+    ensures first { IfErr result (λ f. f ≢ want_of_memory → IsFirst bytes.now f) }
+{
+    let (hobs, at) = read_blocks(alloc, bytes)?;
+    Ok((HobList::from_vec(hobs), at as u64))
+}

@@ -1,0 +1,79 @@
+//! The volumes that a hand-off list names.
+
+ghost use Rattle.std.specs.Prelude.{◌≡◌, IfOk, IfErr};
+ghost use Rattle.fv_hob.specs.Checks.{want_of_memory};
+ghost use Rattle.fv_hob.specs.Lists.{span_of, spans_of};
+
+use crate::fault::HobFault;
+use crate::hob::{Hob, HobKind};
+use crate::list::HobList;
+use std::alloc::Global;
+use std::marker::Model;
+
+/// Where a volume lies.
+#[derive(Clone, Copy, Debug, PartialEq, Eq)]
+pub struct Span {
+    /// Its address.
+    pub base: u64,
+    /// Its length in bytes.
+    pub length: u64,
+}
+
+/// Where volumes lie. Contracts see the list of their spans.
+#[derive(Drop)]
+pub struct Spans {
+    list: Vec<Span>,
+}
+
+impl Model for Spans {
+    ghost use Rattle.std.specs.Prelude.{List};
+    ghost use Rattle.fv_hob.specs.declared.span.Span.{Span};
+
+    ghost Value = { List Span };
+
+    ghost view = { λ s. s.list.items };
+}
+
+impl Spans {
+    /// The spans in their order.
+    pub fn as_slice(&self) -> &[Span]
+        ensures { result.now ≡ self.now }
+    {
+        self.list.as_slice()
+    }
+}
+
+impl Hob {
+    /// Where the volume lies that the block names, or None where it names none.
+    pub fn span(&self) -> Option<Span>
+        ensures { result ≡ span_of self.now.kind }
+    {
+        match self.kind() {
+            HobKind::FirmwareVolume { base, length }
+            | HobKind::FirmwareVolume2 { base, length, .. } => Some(Span {
+                base: *base,
+                length: *length,
+            }),
+            _ => None,
+        }
+    }
+}
+
+/// Where the volumes of the FV and FV2 blocks lie, in the order of the blocks. (PI specification,
+/// volume 3, section 5.7.)
+///
+/// # Errors
+///
+/// OutOfMemory.
+pub fn volume_hobs(alloc: Global, hobs: &HobList) -> Result<Spans, HobFault>
+    ensures spans { IfOk result (λ s. s ≡ spans_of hobs.now) }
+    ensures err { IfErr result (λ f. f ≡ want_of_memory) }
+{
+    let mut list = Vec::new(alloc);
+    for hob in hobs.as_slice() {
+        if let Some(span) = hob.span() {
+            list.push(span)?;
+        }
+    }
+    Ok(Spans { list })
+}

@@ -1,0 +1,82 @@
+//! Lists that are refused.
+
+use super::{END, HANDOFF, LIST, Parts, TYPES, changed, joined};
+use crate::{HobFault, HobFaultKind, read_hobs};
+use std::test::Fail;
+
+/// The parts, a place, the bytes that stand there instead, and then the fault.
+const FAULTS: [(Parts, usize, &[u8], HobFaultKind, u64); 19] = [
+    // No bytes, fewer than 8, and none behind a block.
+    (&[], 0, &[], HobFaultKind::NoEnd, 0),
+    (
+        &[&[0x01, 0x00, 0x38, 0x00, 0x00, 0x00, 0x00]],
+        0,
+        &[],
+        HobFaultKind::Short,
+        0,
+    ),
+    (&[&HANDOFF], 0, &[], HobFaultKind::NoEnd, 56),
+    // Fewer bytes than 8 of a later block, an end block among them.
+    (&[&HANDOFF, &[0xff; 7]], 0, &[], HobFaultKind::Short, 56),
+    (
+        &[&HANDOFF, &[0xff, 0xff, 0x08, 0x00, 0x00, 0x00, 0x00]],
+        0,
+        &[],
+        HobFaultKind::Short,
+        56,
+    ),
+    // Another block first.
+    (&[&END], 0, &[], HobFaultKind::First, 0),
+    (&[&END, &HANDOFF, &END], 0, &[], HobFaultKind::First, 0),
+    (LIST, 0, &[0x02], HobFaultKind::First, 0),
+    (LIST, 0, &[0x01, 0x01], HobFaultKind::First, 0),
+    (LIST, 0, &[0xfe, 0xff], HobFaultKind::First, 0),
+    // A table of 64 bytes, and a length of 12.
+    (&[&HANDOFF, &[0; 8]], 2, &[0x40], HobFaultKind::Shape, 0),
+    (LIST, 58, &[0x0c], HobFaultKind::Length, 56),
+    // The last block of a list goes past its end, or is none.
+    (LIST, 154, &[0x10], HobFaultKind::Short, 152),
+    (LIST, 152, &[0xfe], HobFaultKind::NoEnd, 160),
+    (TYPES, 440, &[0x07, 0x00], HobFaultKind::NoEnd, 448),
+    // Two checks of one block: its length and its type, its end and its type, its end and its
+    // length for its type, and its type and its length for that.
+    (LIST, 0, &[0x09, 0x00, 0x0c], HobFaultKind::Length, 0),
+    (LIST, 0, &[0x09, 0x00, 0xa8], HobFaultKind::Short, 0),
+    (LIST, 2, &[0xa8], HobFaultKind::Short, 0),
+    (LIST, 0, &[0x09, 0x00, 0x30], HobFaultKind::First, 0),
+];
+
+#[test]
+fn faults_have_their_places(rt: HostRuntime) -> Result<(), Fail> {
+    for (parts, at, part, kind, offset) in FAULTS {
+        let bytes = changed(joined(rt.alloc(), parts)?, at, part);
+        let fault = Some(HobFault { kind, offset });
+        let answer = read_hobs(rt.alloc(), &bytes);
+        assert_eq!(rt; answer.err(), fault, "{bytes:?}");
+    }
+    Ok(())
+}
+
+// A block is cut, or the end block is missing.
+#[test]
+fn no_front_of_a_list_is_read(rt: HostRuntime) -> Result<(), Fail> {
+    let bytes = joined(rt.alloc(), LIST)?;
+    for length in 0..160usize {
+        let mut last = 0;
+        for at in [0, 56, 112, 120, 152] {
+            if at <= length {
+                last = at;
+            }
+        }
+        let kind = if last == length {
+            HobFaultKind::NoEnd
+        } else {
+            HobFaultKind::Short
+        };
+        let offset = last as u64;
+        let front = bytes.get(..length).ok_or("too short")?;
+        let answer = read_hobs(rt.alloc(), front);
+        assert_eq!(rt; answer.err(), Some(HobFault { kind, offset }), "{length}");
+    }
+    Ok(())
+}

@@ -1,0 +1,188 @@
+//! Hand-off lists, written.
+
+ghost use Rattle.std.specs.Prelude.{◌≡◌, ℕ, List, [], ◌∷◌, ◌++◌, replicate, OnOk, IfOk, IfErr};
+ghost use Rattle.std.specs.List.{AllByRecursion, concat};
+ghost use Rattle.fv_base.specs.Guids.{bytes_of};
+ghost use Rattle.fv_base.specs.Value.{le_bytes};
+ghost use Rattle.fv_hob.specs.Checks.{want_of_memory};
+ghost use Rattle.fv_hob.specs.declared.hob.HobKind.TheVariants as kinds;
+ghost use Rattle.fv_hob.specs.Lists.{IsHobList, IsUsed};
+ghost use Rattle.fv_hob.specs.Spelled.{body_of, hob_spelled, list_spelled};
+
+use crate::fault::HobFault;
+use crate::hob::{Handoff, Hob, HobKind, MemoryAllocation, Resource};
+use crate::list::HobList;
+use byteorder::{ByteOrder, LittleEndian};
+use fv_base::{ByteList, Guid};
+use std::alloc::{AllocError, Global};
+use std::iter::repeat_n;
+
+// The bytes with those of a number behind them.
+fn push_u16(bytes: &mut Vec<u8>, number: u16) -> Result<(), AllocError>
+    ensures { OnOk result (bytes.new.items ≡ bytes.old.items ++ le_bytes 2 number) }
+{
+    let mut spelled = [0u8; 2];
+    LittleEndian::write_u16(&mut spelled, number);
+    bytes.extend_from_slice(&spelled)
+}
+
+fn push_u32(bytes: &mut Vec<u8>, number: u32) -> Result<(), AllocError>
+    ensures { OnOk result (bytes.new.items ≡ bytes.old.items ++ le_bytes 4 number) }
+{
+    let mut spelled = [0u8; 4];
+    LittleEndian::write_u32(&mut spelled, number);
+    bytes.extend_from_slice(&spelled)
+}
+
+fn push_u64(bytes: &mut Vec<u8>, number: u64) -> Result<(), AllocError>
+    ensures { OnOk result (bytes.new.items ≡ bytes.old.items ++ le_bytes 8 number) }
+{
+    let mut spelled = [0u8; 8];
+    LittleEndian::write_u64(&mut spelled, number);
+    bytes.extend_from_slice(&spelled)
+}
+
+fn push_bytes(bytes: &mut Vec<u8>, more: &[u8]) -> Result<(), AllocError>
+    ensures { OnOk result (bytes.new.items ≡ bytes.old.items ++ more.now) }
+{
+    bytes.extend_from_slice(more)
+}
+
+fn push_guid(bytes: &mut Vec<u8>, guid: &Guid) -> Result<(), AllocError>
+    ensures { OnOk result (bytes.new.items ≡ bytes.old.items ++ bytes_of guid.now) }
+{
+    push_bytes(bytes, &guid.to_bytes())
+}
+
+// The bytes with so many zeros behind them.
+fn push_zeros(bytes: &mut Vec<u8>, count: u16) -> Result<(), AllocError>
+    ensures { OnOk result (bytes.new.items ≡ bytes.old.items ++ replicate count 0) }
+{
+    bytes.extend(repeat_n(0, usize::from(count)))
+}
+
+fn push_handoff(bytes: &mut Vec<u8>, said: &Handoff) -> Result<(), AllocError>
+    ensures { OnOk result (bytes.new.items ≡ bytes.old.items ++ concat (body_of (kinds.Handoff said.now))) }
+{
+    push_u32(bytes, said.version)?;
+    push_u32(bytes, said.boot_mode)?;
+    push_u64(bytes, said.memory_top)?;
+    push_u64(bytes, said.memory_bottom)?;
+    push_u64(bytes, said.free_memory_top)?;
+    push_u64(bytes, said.free_memory_bottom)?;
+    push_u64(bytes, said.end_of_list)
+}
+
+fn push_allocation(bytes: &mut Vec<u8>, said: &MemoryAllocation) -> Result<(), AllocError>
+    ensures { OnOk result (bytes.new.items ≡ bytes.old.items ++ concat (body_of (kinds.MemoryAllocation said.now))) }
+{
+    push_guid(bytes, &said.name)?;
+    push_u64(bytes, said.base)?;
+    push_u64(bytes, said.length)?;
+    push_u32(bytes, said.memory_type)?;
+    push_bytes(bytes, &said.reserved)?;
+    push_bytes(bytes, said.rest.as_slice())
+}
+
+fn push_resource(bytes: &mut Vec<u8>, said: &Resource) -> Result<(), AllocError>
+    ensures { OnOk result (bytes.new.items ≡ bytes.old.items ++ concat (body_of (kinds.Resource said.now))) }
+{
+    push_guid(bytes, &said.owner)?;
+    push_u32(bytes, said.resource_type)?;
+    push_u32(bytes, said.attribute)?;
+    push_u64(bytes, said.start)?;
+    push_u64(bytes, said.length)
+}
+
+fn push_span(bytes: &mut Vec<u8>, base: u64, length: u64) -> Result<(), AllocError>
+    ensures { OnOk result (bytes.new.items ≡ bytes.old.items ++ concat (body_of (kinds.FirmwareVolume base length))) }
+{
+    push_u64(bytes, base)?;
+    push_u64(bytes, length)
+}
+
+fn push_names(bytes: &mut Vec<u8>, volume: &Guid, file: &Guid) -> Result<(), AllocError>
+    ensures { OnOk result (bytes.new.items ≡ bytes.old.items ++ concat (bytes_of volume.now ∷ bytes_of file.now ∷ [])) }
+{
+    push_guid(bytes, volume)?;
+    push_guid(bytes, file)
+}
+
+// The bytes with a block's body behind them.
+fn push_body(bytes: &mut Vec<u8>, kind: &HobKind) -> Result<(), AllocError>
+    ensures { OnOk result (bytes.new.items ≡ bytes.old.items ++ concat (body_of kind.now)) }
+{
+    match kind {
+        HobKind::Handoff(said) => push_handoff(bytes, said),
+        HobKind::MemoryAllocation(said) => push_allocation(bytes, said),
+        HobKind::Resource(said) => push_resource(bytes, said),
+        HobKind::GuidExtension { name, payload } => {
+            push_guid(bytes, name)?;
+            push_bytes(bytes, payload.as_slice())
+        }
+        HobKind::FirmwareVolume { base, length } => push_span(bytes, *base, *length),
+        HobKind::Cpu {
+            memory_bits,
+            io_bits,
+            reserved,
+        } => {
+            push_bytes(bytes, &[*memory_bits, *io_bits])?;
+            push_bytes(bytes, reserved)
+        }
+        HobKind::FirmwareVolume2 {
+            base,
+            length,
+            volume_name,
+            file_name,
+        } => {
+            push_span(bytes, *base, *length)?;
+            push_names(bytes, volume_name, file_name)
+        }
+        HobKind::Capsule { base, length } => push_span(bytes, *base, *length),
+        HobKind::Unused { body_len } => push_zeros(bytes, *body_len),
+        HobKind::MemoryPool | HobKind::End => Ok(()),
+        HobKind::Other { payload, .. } => push_bytes(bytes, payload.as_slice()),
+    }
+}
+
+// The bytes with those of a block behind them.
+fn push_hob(bytes: &mut Vec<u8>, hob: &Hob) -> Result<(), AllocError>
+    ensures { OnOk result (bytes.new.items ≡ bytes.old.items ++ hob_spelled hob.now) }
+{
+    push_u16(bytes, hob.code())?;
+    push_u16(bytes, hob.length())?;
+    push_u32(bytes, hob.reserved())?;
+    push_body(bytes, hob.kind())
+}
+
+// The bytes of blocks, one behind the other.
+fn list_spelled(alloc: Global, hobs: &[Hob]) -> Result<Vec<u8>, AllocError>
+    ensures { IfOk result (λ v. v.items ≡ list_spelled hobs.now) }
+{
+    let mut bytes = Vec::new(alloc);
+    for hob in hobs {
+        push_hob(&mut bytes, hob)?;
+    }
+    Ok(bytes)
+}
+
+/// The bytes of a list, those of unused blocks zero behind their headers. (PI specification,
+/// volume 3, section 5.)
+///
+/// # Errors
+///
+/// OutOfMemory.
+pub fn hob_bytes(alloc: Global, hobs: &HobList) -> Result<ByteList, HobFault>
+    // They are the list.
+    ensures list { IfOk result (λ b. IsHobList hobs.now b) }
+
+    // Where no block is unused, they are those that it was read from.
+    ensures kept { IfOk result (λ b. (c : List ℕ) → IsHobList hobs.now c → AllByRecursion IsUsed hobs.now → b ≡ c) }
+
+    // They are these bytes.
+    ensures bytes { IfOk result (λ b. b ≡ list_spelled hobs.now) }
+    ensures err { IfErr result (λ f. f ≡ want_of_memory) }
+{
+    let bytes = list_spelled(alloc, hobs.as_slice())?;
+    Ok(ByteList::from_vec(bytes))
+}

@@ -1,0 +1,2 @@
+pub mod StandingLemmas
+pub mod WriteLemmas
