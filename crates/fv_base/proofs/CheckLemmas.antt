@@ -1,6 +1,7 @@
 -- Checks in their order.
-use Rattle.std.proofs.Common.{◌≡◌, List, [], ◌∷◌, ◌++◌, refl, ap, ◌∙◌, append_assoc, subst, Bool, true, false}
-use Rattle.std.specs.Prelude.{◌&&◌, Option, None, Some, Ok, Err, if◌then◌else◌}
+use Rattle.std.proofs.Common.{◌≡◌, List, [], ◌∷◌, ◌++◌, refl, ap, ◌∙◌, append_assoc, subst, sym, Bool, true, false}
+use Rattle.std.specs.Prelude.{◌&&◌, Option, None, Some, Result, Ok, Err, IfErr, if◌then◌else◌}
+use Rattle.std.specs.List.{AllByRecursion}
 use Rattle.fv_base.specs.Checks.{Check, first_fault, verdict_by, AllHold, IsFirstFault}
 
 pub and_split : (a b : Bool) → (a && b) ≡ true → (a ≡ true) × (b ≡ true)
@@ -45,16 +46,39 @@ first_behind {F} (c ∷ cs) ds f all first =
     let r = first_behind cs ds f all.1 first in
     (c ∷ r.0, r.1, r.2, ap (λ (es : List (Check F)). c ∷ es) r.3, (all.0, r.4), r.5, r.6)
 
--- a check in a table all of whose checks hold
-holds_at : {F : Type 0} → (before : List (Check F)) (c : Check F) (after : List (Check F)) → AllHold (before ++ c ∷ after) → c.holds ≡ true
-holds_at [] c after h = h.0
-holds_at (d ∷ ds) c after h = holds_at ds c after h.1
+-- the first fault of joined tables: that of the first, where it has one, and else that of the second
+pub first_front : {F : Type 0} → (cs ds : List (Check F)) (f : F) → first_fault cs ≡ Some f → first_fault (cs ++ ds) ≡ Some f
+first_front [] ds f is = cc
+first_front {F} (c ∷ cs) ds f is = go c.holds (first_front cs ds f) is where
+  go : (t : Bool) → (first_fault cs ≡ Some f → first_fault (cs ++ ds) ≡ Some f) → (if t then first_fault cs else Some c.fault) ≡ Some f
+      → (if t then first_fault (cs ++ ds) else Some c.fault) ≡ Some f
+  go true rest k = rest k
+  go false rest k = k
+
+pub first_whole : {F : Type 0} → (cs ds : List (Check F)) → first_fault cs ≡ None → first_fault (cs ++ ds) ≡ first_fault ds
+first_whole [] ds is = refl
+first_whole {F} (c ∷ cs) ds is = go c.holds (first_whole cs ds) is where
+  go : (t : Bool) → (first_fault cs ≡ None → first_fault (cs ++ ds) ≡ first_fault ds) → (if t then first_fault cs else Some c.fault) ≡ None
+      → (if t then first_fault (cs ++ ds) else Some c.fault) ≡ first_fault ds
+  go true rest k = rest k
+  go false rest k = cc
+
+-- what holds of all checks of a table holds of each
+in_table : {F : Type 0} → (P : Check F → Type 0) (before : List (Check F)) (c : Check F) (after : List (Check F)) → AllByRecursion P (before ++ c ∷ after) → P c
+in_table P [] c after h = h.0
+in_table P (d ∷ ds) c after h = in_table P ds c after h.1
+
+-- what is true of the faults of all checks is true of the first fault
+pub first_among : {F : Type 0} → (P : F → Type 0) (cs : List (Check F)) (f : F) → AllByRecursion (λ c. P c.fault) cs → IsFirstFault cs f → P f
+first_among {F} P cs f all (before, c, after, is, held, fails, fault) =
+    let Q : Check F → Type 0 = λ d. P d.fault in
+    subst P (sym fault) (in_table Q before c after (subst (λ (l : List (Check F)). AllByRecursion Q l) is all))
 
 -- where there is no first fault, none is it
 pub not_first : {F : Type 0} → (cs : List (Check F)) (f : F) → IsFirstFault cs f → first_fault cs ≡ None → ⊥
 not_first {F} cs f split none =
     let all = subst (λ (l : List (Check F)). AllHold l) split.3 (all_hold cs none) in
-    never (split.1).holds (holds_at split.0 split.1 split.2 all) split.5
+    never (split.1).holds (in_table (λ (c : Check F). c.holds ≡ true) split.0 split.1 split.2 all) split.5
   where
     never : (b : Bool) → b ≡ true → b ≡ false → ⊥
     never b t n = cc
@@ -72,3 +96,9 @@ verdict_err (Some g) a f e = cc
 pub verdict_none : {A F : Type 0} → (o : Option F) (a : A) → o ≡ None → verdict_by o a ≡ Ok a
 verdict_none None a e = refl
 verdict_none (Some f) a e = cc
+
+-- ---- a refusal, whatever it is
+
+pub whatever : {A F : Type 0} → (r : Result A F) (want : F) (P : Type 0) → P → IfErr r (λ f. f ≡ want → P)
+whatever (Ok a) want P p = tt
+whatever (Err f) want P p = λ e. p

@@ -41,7 +41,7 @@ length-le_bytes zero n = refl
 length-le_bytes (suc k) n = ap suc (length-le_bytes k (n / 256))
 
 -- no byte stands behind the end
-none_at : (i : ℕ) → slice_index [] i < 256
+pub none_at : (i : ℕ) → slice_index [] i < 256
 none_at i = omega arith
 
 -- the first n bytes are bytes, and so are those behind them
@@ -63,7 +63,7 @@ field_is at n b h within =
     subst (λ (k : ℕ). le_bytes k (le (field at n b)) ≡ field at n b) long (le_bytes-le (field at n b) (bytes_take n (drop at b) (bytes_drop at b h)))
 
 -- a byte before bytes
-bytes_cons : (x : ℕ) (b : List ℕ) → x < 256 → IsBytes b → IsBytes (x ∷ b)
+pub bytes_cons : (x : ℕ) (b : List ℕ) → x < 256 → IsBytes b → IsBytes (x ∷ b)
 bytes_cons x b h k zero = h
 bytes_cons x b h k (suc i) = k i
 

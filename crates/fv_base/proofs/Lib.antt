@@ -3,6 +3,9 @@ pub mod ErasedLemmas
 pub mod FieldLemmas
 pub mod GuidLemmas
 pub mod KeptLemmas
+pub mod Laws
+pub mod ListLaws
+pub mod NumberLaws
 pub mod Pieces
 pub mod Runs
 pub mod SumLemmas

@@ -9,6 +9,7 @@ use Rattle.fv_base.specs.declared.fault.Fault.{Fault}
 use Rattle.fv_base.specs.declared.fault.FaultKind.TheVariants as kinds
 use Rattle.fv_base.specs.Faults.{outer_fault}
 use Rattle.fv_base.specs.Input.{ReadStops}
+use Rattle.fv_base.specs.Limits.{volume_limit}
 
 -- a list from a place to its end
 rest_of : (m : ℕ) (xs : List ℕ) → take (length xs - m) (drop m xs) ≡ drop m xs
@@ -27,8 +28,8 @@ pub stops_by_error : (old new : Option (List ℕ)) (bytes : List ℕ) (n : ℕ) 
 stops_by_error old new bytes n f gave count is = subst (ReadStops old new) (sym is) (record { depth = refl; cause = (bytes, gave, sym count) })
 
 -- the reader gave more than a run takes
-pub stops_by_length : (old new : Option (List ℕ)) (bytes : List ℕ) (f : Fault) → Consumes old new bytes → 268435456 < length bytes
-    → f ≡ outer_fault kinds.Length 268435456 → ReadStops old new f
+pub stops_by_length : (old new : Option (List ℕ)) (bytes : List ℕ) (f : Fault) → Consumes old new bytes → volume_limit < length bytes
+    → f ≡ outer_fault kinds.Length volume_limit → ReadStops old new f
 stops_by_length old new bytes f gave more is = subst (ReadStops old new) (sym is) (record { depth = refl; cause = (refl, (bytes, gave, more)) })
 
 -- a flag is not both up and down

@@ -1,23 +1,12 @@
--- GUIDs, their parts and their texts (UEFI specification, appendix A).
+-- GUIDs and their texts (UEFI specification, appendix A).
 use Rattle.std.specs.Prelude.{ℕ, ◌+◌, ◌-◌, ◌/◌, ◌%◌, nat_lt, List, [], ◌∷◌, ◌++◌, map, slice_index, Option, option_map, if◌then◌else◌}
 use Rattle.uuid.specs.Parts.{swap_fields}
 use Rattle.uuid.specs.Text.{parsed}
-use Rattle.fv_base.specs.Value.{field, le_at}
 use Rattle.fv_base.specs.declared.guid.Guid.{Guid}
 
 -- the sixteen bytes of a GUID
 abbrev pub bytes_of : Guid → List ℕ
 bytes_of g = g.bytes
-
--- the four parts of a GUID: numbers of 4, 2 and 2 bytes, and eight bytes
-pub record Parts : Type 0 where
-  pub first : ℕ
-  pub second : ℕ
-  pub third : ℕ
-  pub last : List ℕ
-
-abbrev pub parts_of : List ℕ → Parts
-parts_of b = record { first = le_at 0 4 b; second = le_at 4 2 b; third = le_at 6 2 b; last = field 8 8 b }
 
 -- a lower-case hexadecimal digit: 48 is the code of 0, and 97 that of a
 abbrev pub digit : ℕ → ℕ

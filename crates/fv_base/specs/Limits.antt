@@ -1,7 +1,23 @@
--- The limits of what is read.
+-- The limits of what is read. The code has constants of its own (src/limits.rt): a contract that cites one of these numbers is
+-- proved only while the two agree.
 use Rattle.std.specs.Prelude.{ℕ}
-use Rattle.fv_base.specs.declared.limits.TheConstants.{VOLUME_LIMIT}
 
 -- the most bytes that a volume has, and that a run takes as binary input
 abbrev pub volume_limit : ℕ
-volume_limit = VOLUME_LIMIT
+volume_limit = 268435456
+
+-- the most bytes of a volume header: 56, and 8 for each of 256 block entries and for the pair of zeros behind them
+abbrev pub header_limit : ℕ
+header_limit = 2112
+
+-- the most bytes of an extended header
+abbrev pub ext_limit : ℕ
+ext_limit = 65535
+
+-- the most bytes of a file's data: those of a volume less the 32 of a large header
+abbrev pub data_limit : ℕ
+data_limit = 268435424
+
+-- the most bytes that one read asks for
+abbrev pub read_limit : ℕ
+read_limit = 65536

@@ -1,8 +1,9 @@
 //! An input, read to its end.
 
-ghost use Rattle.std.specs.Prelude.{◌≡◌, ◌<◌, length, true, false, IfOk, IfErr, vec_len};
+ghost use Rattle.std.specs.Prelude.{◌≡◌, ◌<◌, ◌≤◌, length, true, false, IfOk, IfErr, vec_len};
 ghost use Rattle.fv_base.specs.Port.{inner_of, has_erred};
 ghost use Rattle.fv_base.specs.Input.{ReadsWhole, ReadStops, Turned};
+ghost use Rattle.fv_base.specs.Limits.{read_limit};
 
 use crate::fault::{Fault, FaultKind};
 use crate::limits::{READ_LIMIT, READ_TURNS, VOLUME_LIMIT};
@@ -29,13 +30,14 @@ enum Turn {
     Failed,
 }
 
-/// One read, whose bytes go behind those that are there.
+/// One read, whose bytes go behind those that are there. It asks for no more than the limit.
 fn read_more<R: Read>(
     reader: &mut Port<R>,
     chunk: &mut [u8],
     bytes: &mut Vec<u8>,
 ) -> Result<Turn, AllocError>
-    requires { 0 < length chunk.old }
+    requires some { 0 < length chunk.old }
+    requires small { length chunk.old ≤ read_limit }
     ensures turn { IfOk result (λ turn. Turned turn (R.remaining (inner_of reader.old)) (R.remaining (inner_of reader.new))
         bytes.old.items bytes.new.items (has_erred reader.new)) }
     ensures stays { has_erred reader.new ≡ false → has_erred reader.old ≡ false }

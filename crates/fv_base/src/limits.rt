@@ -1,16 +1,27 @@
-//! The limits of what is read, each of them once.
+//! The limits of what is read, each of them once in code. The definitions have their own numbers (`specs/Limits.antt`),
+//! and each contract that a limit decides ties the two: a limit is changed in both, or nothing is proved.
 
 /// The most bytes that a volume has, and that a run takes as binary input.
 pub const VOLUME_LIMIT: u64 = 268_435_456;
 
-/// The most bytes that a run takes as hexadecimal text.
-pub const TEXT_LIMIT: u64 = 1_073_741_824;
+/// The most bytes of a volume header: 56, and 8 for each of 256 block entries and for the pair of zeros behind them.
+pub const HEADER_LIMIT: usize = 2112;
+
+/// The most bytes of an extended header.
+pub const EXT_LIMIT: u32 = 65_535;
+
+/// The most bytes of a file's data: those of a volume less a large header.
+pub const DATA_LIMIT: u64 = VOLUME_LIMIT - 32;
+
+/// The most bytes that a run takes as hexadecimal text: two digits and as much white space for each byte of a volume.
+pub const TEXT_LIMIT: u64 = 4 * VOLUME_LIMIT;
 
 /// The most bytes that one read asks for.
 pub const READ_LIMIT: usize = 65_536;
 
-/// The most calls of `read` for one binary input.
-pub const READ_TURNS: u32 = 268_435_458;
+/// The most calls of `read` for one binary input. A reader that gives a byte a call needs `VOLUME_LIMIT + 1` of them: the last
+/// meets the end, or gives the byte that is too many. One more is to spare, so the calls run out only where one was interrupted.
+pub const READ_TURNS: u32 = VOLUME_LIMIT as u32 + 2;
 
-/// The most calls of `read` for one input of hexadecimal text.
-pub const TEXT_TURNS: u32 = 1_073_741_826;
+/// The most calls of `read` for one input of hexadecimal text, for the same reason.
+pub const TEXT_TURNS: u32 = TEXT_LIMIT as u32 + 2;

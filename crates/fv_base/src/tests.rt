@@ -1,65 +1,80 @@
 //! What no contract says: the values of the specifications, the printed texts, and readers and
 //! writers that fail in mid-stream.
 
-use crate::{
-    Align, ByteList, Fault, FaultKind, Guid, ListSink, Place, Polarity, Port, Sink, WriteSink,
-    fill, guid_at, read_input, sum8, sum16,
-};
-use std::io;
-use std::io::{Read, Write};
+mod inputs;
+mod ports;
+mod sinks;
+
+use crate::{Align, Fault, FaultKind, Guid, Place, guid_at, sum8, sum16};
 use std::test::Fail;
 
-// The names of the two file systems and of the volume top file.
+// The names of the two file systems and of the volume top file: their bytes and their text.
+const NAMES: [([u8; 16], &str); 3] = [
+    (
+        [
+            0x78, 0xe5, 0x8c, 0x8c, 0x3d, 0x8a, 0x1c, 0x4f, 0x99, 0x35, 0x89, 0x61, 0x85, 0xc3,
+            0x2d, 0xd3,
+        ],
+        "8c8ce578-8a3d-4f1c-9935-896185c32dd3",
+    ),
+    (
+        [
+            0x7a, 0xc0, 0x73, 0x54, 0xcb, 0x3d, 0xca, 0x4d, 0xbd, 0x6f, 0x1e, 0x96, 0x89, 0xe7,
+            0x34, 0x9a,
+        ],
+        "5473c07a-3dcb-4dca-bd6f-1e9689e7349a",
+    ),
+    (
+        [
+            0x2e, 0x06, 0xa0, 0x1b, 0x79, 0xc7, 0x82, 0x45, 0x85, 0x66, 0x33, 0x6a, 0xe8, 0xf7,
+            0x8f, 0x09,
+        ],
+        "1ba0062e-c779-4582-8566-336ae8f78f09",
+    ),
+];
+
 #[test]
-fn guids_have_their_texts(rt: HostRuntime) -> Result<(), Fail> {
-    let cases: [([u8; 16], [&str; 4]); 3] = [
-        (
-            [
-                0x78, 0xe5, 0x8c, 0x8c, 0x3d, 0x8a, 0x1c, 0x4f, 0x99, 0x35, 0x89, 0x61, 0x85, 0xc3,
-                0x2d, 0xd3,
-            ],
-            [
-                "8c8ce578-8a3d-4f1c-9935-896185c32dd3",
-                "8c8ce5788a3d4f1c9935896185c32dd3",
-                "{8c8ce578-8a3d-4f1c-9935-896185c32dd3}",
-                "urn:uuid:8c8ce578-8a3d-4f1c-9935-896185c32dd3",
-            ],
-        ),
-        (
-            [
-                0x7a, 0xc0, 0x73, 0x54, 0xcb, 0x3d, 0xca, 0x4d, 0xbd, 0x6f, 0x1e, 0x96, 0x89, 0xe7,
-                0x34, 0x9a,
-            ],
-            [
-                "5473c07a-3dcb-4dca-bd6f-1e9689e7349a",
-                "5473c07a3dcb4dcabd6f1e9689e7349a",
-                "{5473c07a-3dcb-4dca-bd6f-1e9689e7349a}",
-                "urn:uuid:5473c07a-3dcb-4dca-bd6f-1e9689e7349a",
-            ],
-        ),
-        (
-            [
-                0x2e, 0x06, 0xa0, 0x1b, 0x79, 0xc7, 0x82, 0x45, 0x85, 0x66, 0x33, 0x6a, 0xe8, 0xf7,
-                0x8f, 0x09,
-            ],
-            [
-                "1ba0062e-c779-4582-8566-336ae8f78f09",
-                "1ba0062ec77945828566336ae8f78f09",
-                "{1ba0062e-c779-4582-8566-336ae8f78f09}",
-                "urn:uuid:1ba0062e-c779-4582-8566-336ae8f78f09",
-            ],
-        ),
-    ];
-    for (bytes, forms) in cases {
+fn guids_have_their_texts(rt: HostRuntime) {
+    for (bytes, text) in NAMES {
         let guid = Guid::from_bytes(bytes);
         assert_eq!(rt; guid.to_bytes(), bytes);
-        assert_eq!(rt; guid.text().as_slice(), forms[0].as_bytes());
-        for form in forms {
-            assert_eq!(rt; Guid::parse(form), Some(guid), "{form}");
-            let upper = form.to_ascii_uppercase(rt.alloc())?;
-            if !form.starts_with("urn") {
-                assert_eq!(rt; Guid::parse(upper.as_str()), Some(guid), "{upper}");
-            }
+        assert_eq!(rt; guid.text().as_slice(), text.as_bytes());
+        assert_eq!(rt; Guid::parse(text), Some(guid), "{text}");
+    }
+}
+
+// The other forms of the same names, and texts that are none.
+#[test]
+fn texts_are_read(rt: HostRuntime) {
+    let forms: [[&str; 6]; 3] = [
+        [
+            "8c8ce5788a3d4f1c9935896185c32dd3",
+            "{8c8ce578-8a3d-4f1c-9935-896185c32dd3}",
+            "urn:uuid:8c8ce578-8a3d-4f1c-9935-896185c32dd3",
+            "8C8CE578-8A3D-4F1C-9935-896185C32DD3",
+            "8C8CE5788A3D4F1C9935896185C32DD3",
+            "{8C8CE578-8A3D-4F1C-9935-896185C32DD3}",
+        ],
+        [
+            "5473c07a3dcb4dcabd6f1e9689e7349a",
+            "{5473c07a-3dcb-4dca-bd6f-1e9689e7349a}",
+            "urn:uuid:5473c07a-3dcb-4dca-bd6f-1e9689e7349a",
+            "5473C07A-3DCB-4DCA-BD6F-1E9689E7349A",
+            "5473C07A3DCB4DCABD6F1E9689E7349A",
+            "{5473C07A-3DCB-4DCA-BD6F-1E9689E7349A}",
+        ],
+        [
+            "1ba0062ec77945828566336ae8f78f09",
+            "{1ba0062e-c779-4582-8566-336ae8f78f09}",
+            "urn:uuid:1ba0062e-c779-4582-8566-336ae8f78f09",
+            "1BA0062E-C779-4582-8566-336AE8F78F09",
+            "1BA0062EC77945828566336AE8F78F09",
+            "{1BA0062E-C779-4582-8566-336AE8F78F09}",
+        ],
+    ];
+    for (texts, (bytes, _)) in forms.iter().zip(NAMES.iter()) {
+        for text in texts {
+            assert_eq!(rt; Guid::parse(text), Some(Guid::from_bytes(*bytes)), "{text}");
         }
     }
     for text in [
@@ -71,7 +86,6 @@ fn guids_have_their_texts(rt: HostRuntime) -> Result<(), Fail> {
     ] {
         assert_eq!(rt; Guid::parse(text), None, "{text}");
     }
-    Ok(())
 }
 
 #[test]
@@ -131,7 +145,7 @@ fn alignments(rt: HostRuntime) {
 }
 
 #[test]
-fn faults_have_numbers_and_texts(rt: HostRuntime) -> Result<(), Fail> {
+fn faults_have_numbers(rt: HostRuntime) {
     let kinds = [
         FaultKind::Truncated,
         FaultKind::Signature,
@@ -160,224 +174,32 @@ fn faults_have_numbers_and_texts(rt: HostRuntime) -> Result<(), Fail> {
         FaultKind::ReadFault,
         FaultKind::WriteFault,
     ];
-    let mut number = 0u8;
-    for kind in kinds {
-        number = number.wrapping_add(1);
+    for (kind, number) in kinds.iter().zip(1u8..=26) {
         assert_eq!(rt; kind.number(), number, "{kind}");
     }
-    assert_eq!(rt; number, 26);
-    let fault = Fault {
+}
+
+#[test]
+fn faults_have_texts(rt: HostRuntime) -> Result<(), Fail> {
+    let inner = Fault {
         kind: FaultKind::FreeSpace,
         place: Place {
             offset: 4096,
             depth: 2,
         },
     };
-    let text = format!(in rt.alloc(); "{fault}")?;
-    assert_eq!(rt;
-        text.as_str(),
-        "a byte of the free space is not erased (fault 16) at offset 4096, depth 2"
-    );
-    let text = format!(in rt.alloc(); "{}", Fault::outer(FaultKind::Signature, 40))?;
-    assert_eq!(rt;
-        text.as_str(),
-        "the signature is not _FVH (fault 2) at offset 40, depth 0"
-    );
-    Ok(())
-}
-
-/// Gives one byte a call, answers `Interrupted` at each third call, and fails behind `good` bytes.
-#[derive(Drop)]
-struct Trickle<'a> {
-    bytes: &'a [u8],
-    calls: u8,
-    good: usize,
-}
-
-impl<'a> Read for Trickle<'a> {
-    fn read(&mut self, buf: &mut [u8]) -> io::Result<usize> {
-        self.calls = self.calls % 3 + 1;
-        if self.calls == 3 {
-            return Err(io::Error::from(io::ErrorKind::Interrupted));
-        }
-        if self.good == 0 {
-            return Err(io::Error::from(io::ErrorKind::WouldBlock));
-        }
-        self.good -= 1;
-        let one = buf.len().min(1);
-        self.bytes.read(&mut buf[..one])
-    }
-}
-
-/// Takes at most `step` bytes a call and `room` in all, and then none: it fails, or answers 0.
-#[derive(Drop)]
-struct Narrow {
-    taken: Vec<u8>,
-    step: usize,
-    room: usize,
-    fails: bool,
-}
-
-impl Write for Narrow {
-    fn write(&mut self, buf: &[u8]) -> io::Result<usize> {
-        if self.room == 0 && self.fails {
-            return Err(io::Error::from(io::ErrorKind::WouldBlock));
-        }
-        let count = buf.len().min(self.step).min(self.room);
-        self.taken.extend_from_slice(&buf[..count])?;
-        self.room -= count;
-        Ok(count)
-    }
-
-    fn flush(&mut self) -> io::Result<()> {
-        Ok(())
-    }
-}
-
-#[test]
-fn ports_remember_an_error(rt: HostRuntime) -> Result<(), Fail> {
-    let mut buf = [0u8; 4];
-    let mut reader = Port::new([1u8, 2, 3].as_slice());
-    assert_eq!(rt; reader.read(&mut buf)?, 3);
-    assert_eq!(rt; buf, [1, 2, 3, 0]);
-    assert_eq!(rt; reader.read(&mut buf)?, 0);
-    assert!(rt; !reader.erred());
-    let mut reader = Port::new(Trickle {
-        bytes: &[5, 6, 7],
-        calls: 0,
-        good: 3,
-    });
-    assert_eq!(rt; reader.read(&mut buf)?, 1);
-    assert_eq!(rt; reader.read(&mut buf)?, 1);
-    assert!(rt; !reader.erred());
-    assert!(rt; reader.read(&mut buf).is_err());
-    assert!(rt; reader.erred());
-    assert_eq!(rt; reader.read(&mut buf)?, 1);
-    assert_eq!(rt; buf, [7, 2, 3, 0]);
-    assert!(rt; reader.erred());
-    assert_eq!(rt; reader.into_inner().good, 0);
-
-    let mut writer = Port::new(Vec::new(rt.alloc()));
-    assert_eq!(rt; writer.write(&[7, 8])?, 2);
-    assert_eq!(rt; writer.write(&[])?, 0);
-    assert!(rt; !writer.erred());
-    assert_eq!(rt; writer.into_inner().as_slice(), [7u8, 8].as_slice());
-    for fails in [false, true] {
-        let mut writer = Port::new(Narrow {
-            taken: Vec::new(rt.alloc()),
-            step: 2,
-            room: 3,
-            fails,
-        });
-        assert_eq!(rt; writer.write(&[1, 2, 3, 4])?, 2);
-        assert_eq!(rt; writer.write(&[3, 4])?, 1);
-        assert!(rt; !writer.erred());
-        assert_eq!(rt; writer.write(&[4]).is_err(), fails);
-        assert!(rt; writer.erred());
-        assert_eq!(rt;
-            writer.into_inner().taken.as_slice(),
-            [1u8, 2, 3].as_slice()
-        );
-    }
-    Ok(())
-}
-
-#[test]
-fn inputs_are_read_to_their_end(rt: HostRuntime) -> Result<(), Fail> {
-    let bytes: Vec<u8> = (0..200_000u32)
-        .map(|i| (i % 251) as u8)
-        .collect(rt.alloc())?;
-    for length in [0, 1, 1000, 65_536, 200_000] {
-        let part = &bytes[..bytes.len().min(length)];
-        let mut reader = Port::new(part);
-        let got = read_input(rt.alloc(), &mut reader)?;
-        assert_eq!(rt; got.as_slice(), part, "{length}");
-        assert!(rt; !reader.erred());
-    }
-    let part = &bytes[..bytes.len().min(1000)];
-    // One byte more than there are: the end is read too.
-    let mut reader = Port::new(Trickle {
-        bytes: part,
-        calls: 0,
-        good: 1001,
-    });
-    let got = read_input(rt.alloc(), &mut reader)?;
-    assert_eq!(rt; got.as_slice(), part);
-    assert!(rt; reader.erred());
-    for good in [0, 1, 2, 7, 1000] {
-        let mut reader = Port::new(Trickle {
-            bytes: part,
-            calls: 0,
-            good,
-        });
-        let fault = Fault::outer(FaultKind::ReadFault, good as u64);
-        assert_eq!(rt; read_input(rt.alloc(), &mut reader).err(), Some(fault));
-        assert!(rt; reader.erred());
-    }
-    Ok(())
-}
-
-#[test]
-fn sinks_take_fills(rt: HostRuntime) -> Result<(), Fail> {
-    for (polarity, byte) in [(Polarity::Ones, 0xff), (Polarity::Zeros, 0)] {
-        assert_eq!(rt; polarity.erased(), byte);
-        for count in [0usize, 1, 65_536, 200_000] {
-            let mut want = vec![in rt.alloc(); byte; count]?;
-            want.extend_from_slice(&[1, 2])?;
-
-            let mut list = ListSink::with_room(rt.alloc(), count)?;
-            fill(&mut list, polarity.erased(), count as u64);
-            list.put(&[1, 2]);
-            let kept = list.finish()?;
-            assert_eq!(rt; kept.as_slice(), want.as_slice(), "{count}");
-            assert_eq!(rt; kept.into_vec().as_slice(), want.as_slice(), "{count}");
-
-            let mut port = Port::new(Vec::new(rt.alloc()));
-            let mut sink = WriteSink {
-                port: &mut port,
-                on: true,
-                count: 0,
-            };
-            fill(&mut sink, polarity.erased(), count as u64);
-            sink.put(&[1, 2]);
-            assert!(rt; sink.on);
-            assert_eq!(rt; sink.count, want.len() as u64);
-            assert_eq!(rt; port.into_inner().as_slice(), want.as_slice(), "{count}");
-        }
-    }
-    let list = ByteList::from_vec([1u8, 2].to_vec(rt.alloc())?);
-    assert_eq!(rt; list.as_slice(), [1u8, 2].as_slice());
-    Ok(())
-}
-
-#[test]
-fn sinks_stop_where_a_write_fails(rt: HostRuntime) -> Result<(), Fail> {
-    for fails in [false, true] {
-        for room in [0usize, 1, 65_536, 100_000] {
-            let mut port = Port::new(Narrow {
-                taken: Vec::new(rt.alloc()),
-                step: 1000,
-                room,
-                fails,
-            });
-            let mut sink = WriteSink {
-                port: &mut port,
-                on: true,
-                count: 0,
-            };
-            fill(&mut sink, 0xff, 200_000);
-            let fault = Fault::outer(FaultKind::WriteFault, room as u64);
-            assert_eq!(rt; sink.fault(), fault);
-            sink.put(&[1, 2]);
-            assert_eq!(rt; sink.fault(), fault);
-            assert!(rt; port.erred());
-            let want = vec![in rt.alloc(); 0xffu8; room]?;
-            assert_eq!(rt;
-                port.into_inner().taken.as_slice(),
-                want.as_slice(),
-                "{room}"
-            );
-        }
+    for (fault, want) in [
+        (
+            inner,
+            "a byte of the free space is not erased (fault 16) at offset 4096, depth 2",
+        ),
+        (
+            Fault::outer(FaultKind::Signature, 40),
+            "the signature is not _FVH (fault 2) at offset 40, depth 0",
+        ),
+    ] {
+        let text = format!(in rt.alloc(); "{fault}")?;
+        assert_eq!(rt; text.as_str(), want);
     }
     Ok(())
 }

@@ -14,7 +14,7 @@ use Rattle.fv_base.proofs.CheckLemmas.{first_before, first_behind}
 use Rattle.fv_head.specs.HeadChecks.{volume_len_at}
 use Rattle.fv_tree.specs.Meaning.{Meaning, Denotes}
 use Rattle.fv_tree.specs.VolumeChecks.{volume_checks}
-use Rattle.fv_tree.proofs.ReadLemmas.{volume_holds}
+use Rattle.fv_tree.proofs.Laws.{volume_holds}
 use Rattle.fv_canon.specs.InputChecks.{end_checks, Refuses}
 
 -- what is true of the kind of every check is true of that of the first fault

@@ -1,3 +1,4 @@
 pub mod ImageLaws
 pub mod InputLaws
+pub mod Laws
 pub mod RunLaws

@@ -1,5 +1,5 @@
 -- The laws of runs.
-use Rattle.std.proofs.Common.{◌≡◌, ◌≢◌, ◌∙◌, ℕ, List, sym, inl, inr}
+use Rattle.std.proofs.Common.{◌≡◌, ◌≢◌, ◌∙◌, ◌⊎◌, ℕ, List, sym, inl, inr}
 use Rattle.std.specs.Prelude.{Option, Result, Ok, Err, IfErr, OnErr, OnOk}
 use Rattle.std.specs.Io.KnownBytes.{Appends}
 use Rattle.std.proofs.KnownBytes.{Keeps-refl}
@@ -10,6 +10,7 @@ use Rattle.fv_base.specs.declared.fault.FaultKind.TheVariants as kinds
 use Rattle.fv_tree.specs.Meaning.{Meaning, Denotes}
 use Rattle.fv_canon.specs.Image.{IsImage}
 use Rattle.fv_base.specs.Output.{WriteStops}
+use Rattle.fv_canon.specs.InputChecks.{Refuses}
 use Rattle.fv_canon.specs.Runs.{InputWrites, InputStops}
 
 -- the image of the meaning was written
@@ -25,6 +26,10 @@ writer_stops input m held holds r d stops = IfErr-weaker r _ (InputStops input h
 -- nothing was written, for want of memory
 pub memory_stops : (input : List ℕ) (held : Option (List ℕ)) (f : Fault) → f ≡ want_of_memory → InputStops input held held f
 memory_stops input held f want = inl (Keeps-refl held, inl want)
+
+-- nothing was written, since the input is refused or for want of memory
+pub refused_stops : (input : List ℕ) (held : Option (List ℕ)) (f : Fault) → (f ≡ want_of_memory) ⊎ Refuses input f → InputStops input held held f
+refused_stops input held f why = inl (Keeps-refl held, why)
 
 -- the writer's fault is not the reader's
 pub write_not_read : (m : Meaning) (held holds : Option (List ℕ)) (r : Result (Unit {0}) Fault)

@@ -3,6 +3,8 @@
 ghost use Rattle.std.specs.Prelude.{◌≡◌, ◌≢◌, ◌⊎◌, IfOk, IfErr, OnOk, true, false};
 ghost use Rattle.fv_base.specs.Faults.{want_of_memory};
 ghost use Rattle.fv_base.specs.Port.{inner_of, has_erred};
+ghost use Rattle.fv_head.specs.Head.{HeadFields, Front};
+ghost use Rattle.fv_head.specs.declared.extent.Extent.{Extent};
 ghost use Rattle.fv_canon.specs.Image.{NormalisesTo};
 ghost use Rattle.fv_canon.specs.InputChecks.{Refuses};
 ghost use Rattle.fv_canon.specs.Runs.{InputWrites, InputStops, RunWrites, RunStops};
@@ -19,6 +21,7 @@ use std::io::{Read, Write};
 fn whole_volume(alloc: Global, input: &[u8]) -> Result<VolumeView<'_>, Fault>
     ensures found { IfOk result (λ view. Denotes input.now view) }
     ensures refused { IfErr result (λ f. (f ≡ want_of_memory) ⊎ Refuses input.now f) }
+    ensures memory { IfErr result (λ f. f ≡ want_of_memory → (h : HeadFields) × (e : Extent) × Front h e input.now) }
     ensures kind { IfErr result (λ f. (f.kind ≢ FaultKind.ReadFault) × (f.kind ≢ FaultKind.WriteFault)) }
 {
     let (view, length) = read_volume(alloc, input)?;
@@ -38,6 +41,9 @@ pub fn normalise(alloc: Global, input: &[u8]) -> Result<ByteList, Fault>
     // The image is a volume of the same meaning, and its own image.
     ensures again { IfOk result (λ bytes. NormalisesTo bytes bytes) }
     ensures err { IfErr result (λ f. (f ≡ want_of_memory) ⊎ Refuses input.now f) }
+
+    // Memory is wanted only where the input begins with the header of a volume.
+    ensures memory { IfErr result (λ f. f ≡ want_of_memory → (h : HeadFields) × (e : Extent) × Front h e input.now) }
 {
     let view = whole_volume(alloc, input)?;
     canonical(alloc, &view)

@@ -1,3 +1,4 @@
+pub mod Laws
 pub mod OpLemmas
 pub mod PathLemmas
 pub mod ReadLemmas

@@ -45,6 +45,11 @@ bytes_join [] ys = refl
 bytes_join (x ∷ xs) ys =
     ap (λ (l : List ℕ). code_of x ∷ l) (ap (λ (l : List ℕ). operand_of x ++ l) (bytes_join xs ys) ∙ sym (append_assoc (operand_of x) (ops_bytes xs) (ops_bytes ys)))
 
+-- an op has a byte at least
+pub ops_fit : (os : List Op) → length os ≤ length (ops_bytes os)
+ops_fit [] = omega arith
+ops_fit (o ∷ os) = omega (arith, ops_fit os, length-append (operand_of o) (ops_bytes os))
+
 -- ---- a path leads to trees
 
 -- the ops of trees, one behind another

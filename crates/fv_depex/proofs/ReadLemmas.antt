@@ -5,11 +5,12 @@ use Rattle.std.specs.List.{AllByRecursion}
 use Rattle.std.proofs.lemmas.List.{take-append-drop, take_at, take_rest, length-take-le}
 use Rattle.std.proofs.Math.Seq.{take-add}
 use Rattle.fv_base.specs.Checks.{IsFirstFault}
-use Rattle.fv_base.proofs.CheckLemmas.{none_faulty, not_first}
-use Rattle.fv_depex.specs.Checks.{Fits, IsFirst, OpStands, Path, op_checks, stage_after, values_of}
+use Rattle.fv_base.proofs.CheckLemmas.{none_faulty, not_first, first_among}
+use Rattle.fv_depex.specs.Checks.{FirstStands, Fits, IsFirst, OpStands, Path, op_checks, stage_after, values_of}
 use Rattle.fv_depex.specs.Expressions.{Expression, IsTree, IsOrder, IsSized, Spells, carries, code_of, operand_len, operand_of, ops_bytes}
 use Rattle.fv_depex.specs.declared.fault.DepexFault.{DepexFault}
 use Rattle.fv_depex.specs.declared.fault.DepexFaultKind.{DepexFaultKind}
+use Rattle.fv_depex.specs.declared.fault.DepexFaultKind.TheVariants as kinds
 use Rattle.fv_depex.specs.declared.op.Op.{Op}
 use Rattle.fv_depex.specs.declared.op.Op.TheVariants as ops
 use Rattle.fv_depex.specs.declared.op.Phase.{Phase}
@@ -102,6 +103,36 @@ first_here phase b items at stage kind offset k first place = record {
   place = place ∙ sym (length-take-le at b k.inside) ∙ ap length k.bytes;
   kind_is = subst (λ (l : List ℕ). IsFirstFault (op_checks phase stage l) kind) (take_rest b at) first;
 }
+
+-- where an op was read, or is there to be read, one stands first
+pub stands_first : (phase : Phase) (b : List ℕ) (items : List Op) (o : Op) (at : ℕ) (stage : Stage) → Kept phase b items at stage → OpStands phase stage o (take (length b - at) (drop at b)) → FirstStands phase b
+stands_first phase b [] o at stage k stands = (o, subst (λ (s : Stage). OpStands phase s o b) (sym k.path) (subst (λ (l : List ℕ). OpStands phase stage o l) (take_rest b at ∙ whole k.bytes) stands)) where
+  whole : take at b ≡ [] → drop at b ≡ b
+  whole e = ap (λ (l : List ℕ). l ++ drop at b) (sym e) ∙ take-append-drop at b
+stands_first phase b (p ∷ ps) o at stage k stands = (
+  p,
+  record {
+    fits = (k.path).0;
+    behind = ops_bytes ps ++ drop at b;
+    joined = sym (take-append-drop at b) ∙ ap (λ (l : List ℕ). l ++ drop at b) k.bytes ∙ ap (λ (l : List ℕ). code_of p ∷ l) (append_assoc (operand_of p) (ops_bytes ps) (drop at b));
+  },
+)
+
+pub spells_first : (phase : Phase) (b : List ℕ) (xs : List Op) (s : List ℕ) → Spells phase xs s b → FirstStands phase b
+spells_first phase b xs s spells =
+    let x = whole_ended phase xs s b spells in
+    go x.stage x.front x.path x.ended (spells.joined ∙ ap (λ (l : List Op). ops_bytes l ++ s) x.joined ∙ ended_bytes x.front s)
+  where
+    go : (f : Stage) (front : List Op) → Path phase stages.Start front f → Fits phase f ops.End → b ≡ ops_bytes front ++ (8 ∷ s) → FirstStands phase b
+    go f [] p fits e = (ops.End, record { fits = subst (λ (t : Stage). Fits phase t ops.End) (sym p) fits; behind = s; joined = e })
+    go f (o ∷ os) p fits e = (o, record { fits = p.0; behind = ops_bytes os ++ (8 ∷ s); joined = e ∙ ap (λ (l : List ℕ). code_of o ∷ l) (append_assoc (operand_of o) (ops_bytes os) (8 ∷ s)) })
+
+-- the fault of a check is no want of memory
+pub no_want : (phase : Phase) (stage : Stage) (r : List ℕ) (kind : DepexFaultKind) → IsFirstFault (op_checks phase stage r) kind → kind ≢ kinds.OutOfMemory
+no_want phase stage r kind first =
+    let P : DepexFaultKind → Type 0 = λ k. k ≢ kinds.OutOfMemory in
+    let all : AllByRecursion (λ c. P c.fault) (op_checks phase stage r) = ((λ t. cc), ((λ t. cc), ((λ t. cc), ((λ t. cc), ((λ t. cc), tt))))) in
+    first_among P (op_checks phase stage r) kind all first
 
 -- where there is a first fault the bytes are spelled by none
 pub none_after : (phase : Phase) (b : List ℕ) (f : DepexFault) (xs : List Op) (s : List ℕ) → IsFirst phase b f → Spells phase xs s b → ⊥

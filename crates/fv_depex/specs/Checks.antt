@@ -84,6 +84,10 @@ pub record OpStands (phase : Phase) (stage : Stage) (o : Op) (r : List ℕ) : Ty
   pub behind : List ℕ
   pub joined : r ≡ code_of o ∷ (operand_of o ++ behind)
 
+-- b begins with an op that may stand first
+abbrev pub FirstStands : Phase → List ℕ → Type 0
+FirstStands phase b = (o : Op) × OpStands phase stages.Start o b
+
 -- ops that may stand one after another, none of them END, and the stage that they lead to
 abbrev pub Path : Phase → Stage → List Op → Stage → Type 0
 Path phase stage [] final = stage ≡ final

@@ -2,7 +2,7 @@
 
 ghost use Rattle.std.specs.Prelude.{◌≡◌, ◌≢◌, ◌≤◌, ◌+◌, ℕ, List, length, drop, true, None, Some, OnOk, IfOk, IfErr};
 ghost use Rattle.fv_base.specs.Checks.{IsFirstFault, first_fault};
-ghost use Rattle.fv_depex.specs.Checks.{IsFirst, OpStands, knows, in_place, has_values, holds_values, has_operand, op_checks, want_of_memory};
+ghost use Rattle.fv_depex.specs.Checks.{FirstStands, IsFirst, OpStands, knows, in_place, has_values, holds_values, has_operand, op_checks, want_of_memory};
 ghost use Rattle.fv_depex.specs.Expressions.{Spells, carries, code_of, op_in, operand_len};
 ghost use Rattle.fv_depex.specs.declared.op.Op.{Op};
 
@@ -11,7 +11,7 @@ use crate::fault::{DepexFault, DepexFaultKind};
 use crate::op::{Op, Phase};
 use crate::stage::{Stage, stage_after};
 use fv_base::{ByteList, guid_at};
-use std::alloc::Global;
+use std::alloc::{AllocError, Global};
 
 /// The code of END.
 const END: u8 = 0x08;
@@ -136,6 +136,7 @@ fn next_op(rest: &[u8], phase: Phase, stage: Stage) -> Result<Op, DepexFaultKind
 fn read_ops(alloc: Global, bytes: &[u8], phase: Phase) -> Result<(Vec<Op>, usize), DepexFault>
     ensures found { IfOk result (λ p. (p.1 ≤ length bytes.now) × Spells phase p.0.items (drop p.1 bytes.now) bytes.now) }
     ensures first { IfErr result (λ f. f ≢ want_of_memory → IsFirst phase bytes.now f) }
+    ensures memory { IfErr result (λ f. f ≡ want_of_memory → FirstStands phase bytes.now) }
 {
     let mut ops = Vec::new(alloc);
     let mut at = 0;
@@ -157,6 +158,15 @@ fn read_ops(alloc: Global, bytes: &[u8], phase: Phase) -> Result<(Vec<Op>, usize
     }
 }
 
+// The bytes from a place on.
+fn bytes_from(alloc: Global, bytes: &[u8], at: usize) -> Result<ByteList, AllocError>
+    requires { at ≤ length bytes.now }
+    ensures { IfOk result (λ list. list ≡ drop at bytes.now) }
+{
+    let rest = Vec::from_slice(alloc, &bytes[at..])?;
+    Ok(ByteList::from_vec(rest))
+}
+
 /// The expression of a dependency section's body, and the bytes behind its END. (PI specification,
 /// volume 1, section 3.4, and volume 2, section 10.7.)
 ///
@@ -176,8 +186,11 @@ pub fn read_depex(alloc: Global, bytes: &[u8], phase: Phase) -> Result<Depex, De
 
     // A refusal, want of memory aside, names the first check that does not hold, at the first op that has one.
     ensures first { IfErr result (λ f. f ≢ want_of_memory → IsFirst phase bytes.now f) }
+
+    // Memory is wanting only where the bytes begin with an op that may stand first.
+    ensures memory { IfErr result (λ f. f ≡ want_of_memory → FirstStands phase bytes.now) }
 {
     let (ops, at) = read_ops(alloc, bytes, phase)?;
-    let rest = Vec::from_slice(alloc, &bytes[at..])?;
-    Ok(Depex::from_parts(phase, ops, ByteList::from_vec(rest)))
+    let rest = bytes_from(alloc, bytes, at)?;
+    Ok(Depex::from_parts(phase, ops, rest))
 }

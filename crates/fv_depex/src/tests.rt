@@ -5,7 +5,7 @@ mod read;
 mod values;
 mod written;
 
-use crate::{DepexFault, DepexFaultKind, Op};
+use crate::{DepexFault, DepexFaultKind, Op, Phase, read_depex};
 use fv_base::Guid;
 use std::alloc::Global;
 use std::test::Fail;
@@ -15,6 +15,11 @@ const A: [u8; 16] = [0x0a; 16];
 
 /// The bytes of another.
 const B: [u8; 16] = [0x0b; 16];
+
+/// The bytes of one that are not the same backwards.
+const ORDER: [u8; 16] = [
+    0x1f, 0x2e, 0x3d, 0x4c, 0x5b, 0x6a, 0x79, 0x88, 0x97, 0xa6, 0xb5, 0xc4, 0xd3, 0xe2, 0xf1, 0x00,
+];
 
 /// A body, in parts.
 type Parts = &'static [&'static [u8]];
@@ -37,6 +42,14 @@ fn long(alloc: Global, last: u8) -> Result<Vec<u8>, DepexFault> {
     }
     bytes.extend_from_slice(&[last, 0x08])?;
     Ok(bytes)
+}
+
+/// The fault of an expression, if it is refused.
+fn fault_of(alloc: Global, bytes: &[u8], phase: Phase) -> Option<DepexFault> {
+    match read_depex(alloc, bytes, phase) {
+        Ok(_depex) => None,
+        Err(fault) => Some(fault),
+    }
 }
 
 #[test]
@@ -62,23 +75,27 @@ fn ops_have_their_codes(rt: HostRuntime) {
     assert_eq!(rt; code, 10);
 }
 
+/// The kinds of faults, and their numbers.
+const KINDS: &[(DepexFaultKind, u8)] = &[
+    (DepexFaultKind::Short, 1),
+    (DepexFaultKind::Opcode, 2),
+    (DepexFaultKind::Stack, 3),
+    (DepexFaultKind::NoEnd, 4),
+    (DepexFaultKind::Position, 5),
+    (DepexFaultKind::OutOfMemory, 6),
+];
+
 #[test]
-fn faults_have_numbers_and_texts(rt: HostRuntime) -> Result<(), Fail> {
-    let kinds = [
-        DepexFaultKind::Short,
-        DepexFaultKind::Opcode,
-        DepexFaultKind::Stack,
-        DepexFaultKind::NoEnd,
-        DepexFaultKind::Position,
-        DepexFaultKind::OutOfMemory,
-    ];
-    let mut number = 0u8;
-    for kind in kinds {
-        number = number.wrapping_add(1);
-        assert_eq!(rt; kind.number(), number, "{kind}");
-        assert_eq!(rt; DepexFault { kind, offset: 7 }.number(), number, "{kind}");
+fn faults_have_numbers(rt: HostRuntime) {
+    for (kind, number) in KINDS {
+        let kind = *kind;
+        assert_eq!(rt; kind.number(), *number);
+        assert_eq!(rt; DepexFault { kind, offset: 7 }.number(), *number);
     }
-    assert_eq!(rt; number, 6);
+}
+
+#[test]
+fn faults_have_texts(rt: HostRuntime) -> Result<(), Fail> {
     let fault = DepexFault {
         kind: DepexFaultKind::Stack,
         offset: 2,

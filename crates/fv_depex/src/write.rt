@@ -32,6 +32,15 @@ fn ops_bytes(alloc: Global, ops: &[Op]) -> Result<Vec<u8>, AllocError>
     Ok(bytes)
 }
 
+// The bytes of ops, and others behind them.
+fn spelled(alloc: Global, ops: &[Op], rest: &[u8]) -> Result<Vec<u8>, AllocError>
+    ensures { IfOk result (λ v. v.items ≡ ops_bytes ops.now ++ rest.now) }
+{
+    let mut bytes = ops_bytes(alloc, ops)?;
+    bytes.extend_from_slice(rest)?;
+    Ok(bytes)
+}
+
 /// The bytes of an expression: those of its ops, and the rest behind END.
 ///
 /// # Errors
@@ -45,7 +54,6 @@ pub fn depex_bytes(alloc: Global, depex: &Depex) -> Result<ByteList, DepexFault>
     ensures bytes { IfOk result (λ b. b ≡ ops_bytes depex.now.ops ++ depex.now.rest) }
     ensures err { IfErr result (λ f. f ≡ want_of_memory) }
 {
-    let mut bytes = ops_bytes(alloc, depex.ops())?;
-    bytes.extend_from_slice(depex.rest())?;
+    let bytes = spelled(alloc, depex.ops(), depex.rest())?;
     Ok(ByteList::from_vec(bytes))
 }

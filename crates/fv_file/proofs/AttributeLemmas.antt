@@ -23,7 +23,7 @@ bit_6 a = ap (λ n. n == 64) (and_pow a 6) ∙ go (bit_at a 6) (bit_at-lt a 6) w
   go (suc (suc b)) l = absurd (omega arith)
 
 -- without the large bit a number is even
-small_even : (n : ℕ) → is_large n ≡ false → n % 2 ≡ 0
+pub small_even : (n : ℕ) → is_large n ≡ false → n % 2 ≡ 0
 small_even n small = grind (arith, nat_tests)
 
 -- setting the large bit adds 1

@@ -1,9 +1,14 @@
+pub mod AttributeLaws
 pub mod AttributeLemmas
 pub mod BodyLemmas
 pub mod CellLemmas
 pub mod ErasedEnds
+pub mod FileLaws
 pub mod FileLemmas
+pub mod HeaderLaws
+pub mod Laws
 pub mod StateLemmas
+pub mod TilingLaws
 pub mod TilingLemmas
 pub mod VerifyLemmas
 pub mod WrittenLemmas

@@ -8,6 +8,7 @@ use Rattle.std.proofs.lemmas.List.Sums.{sum_by-append}
 use Rattle.std.proofs.lemmas.Bool.Decides.{nat_tests}
 use Rattle.std.proofs.lemmas.Nat.{shr-shr}
 use Rattle.fv_base.specs.Guids.{bytes_of}
+use Rattle.fv_base.specs.Limits.{data_limit}
 use Rattle.fv_base.specs.Value.{IsBytes, le, le_bytes, field, le_at}
 use Rattle.fv_base.specs.declared.flash.FileSystem.{FileSystem}
 use Rattle.fv_base.specs.declared.flash.FileSystem.TheVariants.{Ffs3}
@@ -117,7 +118,7 @@ complement_right n = omega arith
 complement_only : (n a : ℕ) → a < 256 → (n + a) % 256 ≡ 0 → a ≡ complement n
 complement_only n a small right = omega arith
 
-complement_small : (n : ℕ) → complement n < 256
+pub complement_small : (n : ℕ) → complement n < 256
 complement_small n = omega arith
 
 -- ---- a header, read
@@ -251,13 +252,14 @@ head_of_pad polarity head h written alive pad short = λ system at payload fille
 
 -- ---- files and pads
 
-with_large_is : (large : Bool) (attributes : ℕ) → is_large attributes ≡ false → is_large (with_large large attributes) ≡ large
+-- the bits with which a header is written say its form
+pub with_large_is : (large : Bool) (attributes : ℕ) → is_large attributes ≡ false → is_large (with_large large attributes) ≡ large
 with_large_is true attributes short = set_large attributes short
 with_large_is false attributes short = short
 
-size_small : (data_len : ℕ) → data_len ≤ 268435424 → header_len_of (needs_large data_len) + data_len < size_limit (needs_large data_len)
+size_small : (data_len : ℕ) → data_len ≤ data_limit → header_len_of (needs_large data_len) + data_len < size_limit (needs_large data_len)
 size_small data_len most = by_form (needs_large data_len) data_len refl most where
-  by_form : (large : Bool) (n : ℕ) → needs_large n ≡ large → n ≤ 268435424 → header_len_of large + n < size_limit large
+  by_form : (large : Bool) (n : ℕ) → needs_large n ≡ large → n ≤ data_limit → header_len_of large + n < size_limit large
   by_form true n is most = omega arith
   by_form false n is most = grind (arith, nat_tests)
 
@@ -271,7 +273,7 @@ file_head_is polarity name kind attributes data_len file_sum head short is =
     ∙ ap (λ (l : Bool). header_bytes file_sum (bytes_of name) kind bits (header_len_of large + data_len) l (state_byte polarity)) (with_large_is large (attribute_bits attributes) short)
 
 pub file_written : (polarity : Polarity) (name : Guid) (kind : ℕ) (attributes : FileAttributes) (data_len file_sum : ℕ) (b : List ℕ) → length (bytes_of name) ≡ 16
-    → is_large (attribute_bits attributes) ≡ false → data_len ≤ 268435424 → IsBytes b → b ≡ file_head_of name kind attributes data_len file_sum polarity
+    → is_large (attribute_bits attributes) ≡ false → data_len ≤ data_limit → IsBytes b → b ≡ file_head_of name kind attributes data_len file_sum polarity
     → IsWritten polarity (file_fields name kind attributes data_len file_sum (slice_index b 16)) b
 file_written polarity name kind attributes data_len file_sum b long short most bytes is =
     let large : Bool = needs_large data_len in

@@ -1,5 +1,5 @@
 -- The attribute bits of a file (PI specification, volume 3, section 3.2.3.1, FFS_ATTRIB_LARGE_FILE and the others).
-use Rattle.std.specs.Prelude.{ℕ, ◌/◌, ◌%◌, ◌==◌, Bool}
+use Rattle.std.specs.Prelude.{ℕ, ◌*◌, ◌/◌, ◌%◌, ◌==◌, Bool}
 use Rattle.fv_file.specs.declared.attributes.FileAttributes.{FileAttributes}
 
 -- the attribute bits as a number
@@ -17,3 +17,7 @@ is_fixed attributes = attributes / 4 % 2 == 1
 -- bit 40: the file sum is over the data
 abbrev pub is_summed : ℕ → Bool
 is_summed attributes = attributes / 64 % 2 == 1
+
+-- the bits with 01 clear: it goes with the form of the header, and not with the file
+abbrev pub without_large : ℕ → ℕ
+without_large attributes = attributes / 2 * 2

@@ -1,7 +1,7 @@
 //! The attribute bits of a file.
 
 ghost use Rattle.std.specs.Prelude.{⊤, ◌≡◌, [], ◌∷◌, codes};
-ghost use Rattle.fv_file.specs.Attributes.{is_large, is_fixed, is_summed};
+ghost use Rattle.fv_file.specs.Attributes.{is_large, is_fixed, is_summed, without_large};
 
 use bitflags::{Flag, Flags, bitflag_items};
 
@@ -63,5 +63,13 @@ impl FileAttributes {
         ensures { result ≡ is_summed self.0 }
     {
         self.contains(FileAttributes::CHECKSUM)
+    }
+
+    /// The bits without 01, which goes with the form of the header: what `file_head_bytes` takes
+    /// of a file that was read.
+    pub fn without_large(self) -> FileAttributes
+        ensures { result.0 ≡ without_large self.0 }
+    {
+        self.difference(FileAttributes::LARGE_FILE)
     }
 }

@@ -2,6 +2,7 @@
 
 ghost use Rattle.std.specs.Prelude.{◌≡◌, ℕ, List, ◌≢◌, ◌<◌, ◌≤◌, false, length, slice_index};
 ghost use Rattle.fv_base.specs.Guids.{bytes_of};
+ghost use Rattle.fv_base.specs.Limits.{data_limit};
 ghost use Rattle.fv_base.specs.Value.{IsBytes};
 ghost use Rattle.fv_file.specs.Attributes.{attribute_bits, is_large, is_fixed};
 ghost use Rattle.fv_file.specs.Files.{pad_kind};
@@ -131,7 +132,7 @@ fn file_fields(
     file_sum: u8,
 ) -> FileHead
     requires short { is_large (attribute_bits attributes) ≡ false }
-    requires most { data_len ≤ 268435424 }
+    requires most { data_len ≤ data_limit }
     ensures { result ≡ file_fields name kind attributes data_len file_sum 0 }
 {
     let large = 24 + data_len > SHORT_LIMIT;
@@ -166,8 +167,8 @@ fn pad_fields(size: u64) -> FileHead
 
 /// The header of a file whose data are valid, in the short form where header and data are at most
 /// FFFFFF bytes, else in the large form. `attributes` has neither bit 01, which is set with the
-/// large form, nor bit 04; `kind` is no pad's; `data_len` is the bytes of the data. Takes no
-/// memory. (PI specification, volume 3, section 3.2.3.1.)
+/// large form, nor bit 04; `kind` is no pad's; `data_len` is the bytes of the data, at most
+/// `fv_base::limits::DATA_LIMIT`. Takes no memory. (PI specification, volume 3, section 3.2.3.1.)
 pub fn file_head_bytes(
     name: Guid,
     kind: u8,
@@ -179,7 +180,7 @@ pub fn file_head_bytes(
     requires kind { kind ≢ pad_kind }
     requires short { is_large (attribute_bits attributes) ≡ false }
     requires moves { is_fixed (attribute_bits attributes) ≡ false }
-    requires most { data_len ≤ 268435424 }
+    requires most { data_len ≤ data_limit }
 
     // It is read again as the fields that were handed in.
     ensures read { IsWritten polarity (file_fields name kind attributes data_len file_sum (slice_index result 16)) result }

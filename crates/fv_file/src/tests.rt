@@ -27,7 +27,7 @@ const C: [u8; 16] = [0x0c; 16];
 const P: [u8; 16] = [0xff; 16];
 
 /// What a cell is.
-#[derive(Clone, Copy, Debug, PartialEq, Eq)]
+#[derive(Clone, Copy, PartialEq, Eq)]
 enum Sort {
     Valid,
     Marked,
@@ -47,6 +47,15 @@ type Body = (
     usize,
     &'static [&'static [u8]],
     &'static [Form<'static>],
+);
+
+/// What is wrong, how many bytes the volume has, what the body begins with, and the fault.
+type Refusal = (
+    &'static str,
+    usize,
+    &'static [&'static [u8]],
+    FaultKind,
+    u64,
 );
 
 /// What a cell shows.
@@ -80,19 +89,23 @@ fn seen<'a>(cell: &Cell<'a>) -> Form<'a> {
     }
 }
 
-/// A volume of this length. Its body begins at 72 with the parts, joined, and the rest is erased.
-fn volume(
-    alloc: Global,
-    parts: &[&[u8]],
-    length: usize,
-    polarity: Polarity,
-) -> Result<Vec<u8>, Fault> {
-    let mut bytes = vec![in alloc; 0u8; 72]?;
+/// The most bytes of a volume that is laid in an array.
+const ROOM: usize = 12_448;
+
+/// Puts the parts, joined, from 72 on into a volume, and erased bytes behind them.
+fn lay(volume: &mut [u8], parts: &[&[u8]], polarity: Polarity) {
+    let mut at = 72;
     for part in parts {
-        bytes.extend_from_slice(part)?;
+        for byte in *part {
+            if at < volume.len() {
+                volume[at] = *byte;
+                at += 1;
+            }
+        }
     }
-    bytes.resize(length, polarity.erased())?;
-    Ok(bytes)
+    for place in at..volume.len() {
+        volume[place] = polarity.erased();
+    }
 }
 
 /// The cells of a volume whose body begins at 72.
@@ -109,7 +122,7 @@ fn cut(
 }
 
 /// Whether these are the cells of a volume whose body begins at 72, or why it has none.
-fn is_cut(
+fn has_cells(
     alloc: Global,
     bytes: &[u8],
     system: FileSystem,
@@ -117,9 +130,70 @@ fn is_cut(
     forms: &[Form],
 ) -> Result<bool, Fault> {
     let found = cut(alloc, bytes, system, polarity)?;
-    let mut is_same = found.as_slice().len() == forms.len();
-    for (cell, form) in found.as_slice().iter().zip(forms) {
-        is_same = is_same && seen(cell) == *form;
+    let list = found.as_slice();
+    if list.len() != forms.len() {
+        return Ok(false);
     }
-    Ok(is_same)
+    for index in 0..forms.len() {
+        if seen(&list[index]) != forms[index] {
+            return Ok(false);
+        }
+    }
+    Ok(true)
+}
+
+/// Whether a body has its cells, or why it has none.
+fn is_cut(
+    alloc: Global,
+    body: &Body,
+    system: FileSystem,
+    polarity: Polarity,
+) -> Result<bool, Fault> {
+    let (_, length, parts, forms) = *body;
+    let mut bytes = [0u8; ROOM];
+    let volume = &mut bytes[..length.min(ROOM)];
+    lay(volume, parts, polarity);
+    has_cells(alloc, volume, system, polarity, forms)
+}
+
+/// The first of some bodies that has not its cells in both file systems.
+fn not_cut(alloc: Global, bodies: &[Body], polarity: Polarity) -> Option<&'static str> {
+    for body in bodies {
+        if is_cut(alloc, body, FileSystem::Ffs2, polarity) != Ok(true)
+            || is_cut(alloc, body, FileSystem::Ffs3, polarity) != Ok(true)
+        {
+            return Some(body.0);
+        }
+    }
+    None
+}
+
+/// The fault of a volume whose body begins at 72 with the parts, if it has one.
+fn fault_of(
+    alloc: Global,
+    parts: &[&[u8]],
+    length: usize,
+    system: FileSystem,
+    polarity: Polarity,
+) -> Option<Fault> {
+    let mut bytes = [0u8; ROOM];
+    let volume = &mut bytes[..length.min(ROOM)];
+    lay(volume, parts, polarity);
+    cut(alloc, volume, system, polarity).err()
+}
+
+/// The first of some bodies that is not refused with its fault.
+fn not_refused(
+    alloc: Global,
+    refusals: &[Refusal],
+    system: FileSystem,
+    polarity: Polarity,
+) -> Option<&'static str> {
+    for (name, length, parts, kind, offset) in refusals {
+        let fault = fault_of(alloc, parts, *length, system, polarity);
+        if fault != Some(Fault::outer(*kind, *offset)) {
+            return Some(*name);
+        }
+    }
+    None
 }

@@ -108,6 +108,7 @@ fn cells_in(
     ensures found { IfOk result (λ cs. Tiles system polarity first cs body.now) }
     ensures first { IfErr result (λ f. f ≢ want_of_memory → IsFirst system polarity first body.now f) }
     ensures bound { IfErr result (λ f. f.place.offset ≤ first + length body.now) }
+    ensures some { IfErr result (λ _. 0 < length body.now) }
 {
     let clean = clean_from(body, polarity.erased());
     let mut list = Vec::new(alloc);
@@ -162,6 +163,9 @@ pub fn cells(
     // Cells and faults lie within the volume.
     ensures lies { IfOk result (AllWithin (length volume.now)) }
     ensures bound { IfErr result (λ f. f.place.offset ≤ length volume.now) }
+
+    // A body of no bytes is not refused, not even for want of memory.
+    ensures some { IfErr result (λ _. first < length volume.now) }
 {
     cells_in(alloc, &volume[first as usize..], first, system, polarity)
 }

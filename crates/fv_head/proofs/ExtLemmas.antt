@@ -5,6 +5,7 @@ use Rattle.std.proofs.lemmas.List.{drop-take, take_at, drop_at, take-append-drop
 use Rattle.std.proofs.lemmas.Bool.{leb-true, le-leb, eqb-true}
 use Rattle.std.proofs.lemmas.Bool.Decides.{nat_tests}
 use Rattle.fv_base.specs.Guids.{bytes_of}
+use Rattle.fv_base.specs.Limits.{ext_limit}
 use Rattle.fv_base.specs.Value.{le, field, le_at, up_to_8}
 use Rattle.fv_base.specs.declared.guid.Guid.{Guid}
 use Rattle.fv_base.proofs.CheckLemmas.{and_split, and_join}
@@ -157,7 +158,7 @@ one_ext x y b is other =
     extension_is x y names entries.0 entries.1
 
 -- a name, a size and what stands behind them
-pub ext_of : (b : List ℕ) (g : Guid) (es : List (ℕ × List ℕ)) (tail : List ℕ) → 20 ≤ length b → length b ≤ 65535 → le_at 16 4 b ≡ length b → bytes_of g ≡ take 16 b
+pub ext_of : (b : List ℕ) (g : Guid) (es : List (ℕ × List ℕ)) (tail : List ℕ) → 20 ≤ length b → length b ≤ ext_limit → le_at 16 4 b ≡ length b → bytes_of g ≡ take 16 b
     → Entries es tail (drop 20 b) → IsExt (record { name = g; entries = es; tail = tail }) b
 ext_of b g es tail least most size name entries = record {
   head = field 16 4 b;
@@ -172,7 +173,7 @@ ext_of b g es tail least most size name entries = record {
 }
 
 -- bytes of a right size are some extended header
-pub some_ext : (b : List ℕ) → 20 ≤ length b → length b ≤ 65535 → le_at 16 4 b ≡ length b → (x : Extension) × IsExt x b
+pub some_ext : (b : List ℕ) → 20 ≤ length b → length b ≤ ext_limit → le_at 16 4 b ≡ length b → (x : Extension) × IsExt x b
 some_ext b least most size =
     let g : Guid = record { bytes = take 16 b } in
     let found = some_entries (length (drop 20 b)) (drop 20 b) (omega arith) in
@@ -183,7 +184,7 @@ some_ext b least most size =
 -- an extended header by its place
 pub record Placed (x : Extension) (e : Extent) (b part : List ℕ) : Type 0 where
   pub least : 20 ≤ length part
-  pub most : length part ≤ 65535
+  pub most : length part ≤ ext_limit
   pub size : ext_size_at b ≡ length part
   pub part_is : part ≡ field (ext_offset_at b) (length part) b
   pub behind_header : e.header_len ≤ ext_offset_at b
@@ -242,8 +243,8 @@ make_has_ext x e b n whole low high first is =
     )
 
 -- the check of an extended header
-tests_of : (o n s len : ℕ) → (nat_le n o && nat_le (o + 20) len && nat_le 20 s && nat_le s 65535 && nat_le (o + s) len) ≡ true
-    → (n ≤ o) × ((o + 20 ≤ len) × ((20 ≤ s) × ((s ≤ 65535) × (o + s ≤ len))))
+tests_of : (o n s len : ℕ) → (nat_le n o && nat_le (o + 20) len && nat_le 20 s && nat_le s ext_limit && nat_le (o + s) len) ≡ true
+    → (n ≤ o) × ((o + 20 ≤ len) × ((20 ≤ s) × ((s ≤ ext_limit) × (o + s ≤ len))))
 tests_of o n s len h =
     let one = and_split _ _ h in
     let two = and_split _ _ one.0 in
@@ -251,7 +252,7 @@ tests_of o n s len h =
     let four = and_split _ _ three.0 in
     (leb-true _ _ four.0, (leb-true _ _ four.1, (leb-true _ _ three.1, (leb-true _ _ two.1, leb-true _ _ one.1))))
 
-tests_hold : (o n s len : ℕ) → n ≤ o → o + 20 ≤ len → 20 ≤ s → s ≤ 65535 → o + s ≤ len → (nat_le n o && nat_le (o + 20) len && nat_le 20 s && nat_le s 65535 && nat_le (o + s) len) ≡ true
+tests_hold : (o n s len : ℕ) → n ≤ o → o + 20 ≤ len → 20 ≤ s → s ≤ ext_limit → o + s ≤ len → (nat_le n o && nat_le (o + 20) len && nat_le 20 s && nat_le s ext_limit && nat_le (o + s) len) ≡ true
 tests_hold o n s len a b c d e =
     and_join _ _ (and_join _ _ (and_join _ _ (and_join _ _ (le-leb _ _ a) (le-leb _ _ b)) (le-leb _ _ c)) (le-leb _ _ d)) (le-leb _ _ e)
 
@@ -260,7 +261,7 @@ pub some_has_ext : (e : Extent) (b : List ℕ) → e.length ≤ length b → has
     → e.first ≡ (if ext_offset_at b == 0 then e.header_len else up_to_8 (ext_offset_at b + ext_size_at b)) → (x : Option Extension) × HasExt x e b
 some_has_ext e b whole holds first = go (ext_offset_at b == 0) refl holds first where
   go : (t : Bool) → (ext_offset_at b == 0) ≡ t
-      → (t || (nat_le e.header_len (ext_offset_at b) && nat_le (ext_offset_at b + 20) e.length && nat_le 20 (ext_size_at b) && nat_le (ext_size_at b) 65535
+      → (t || (nat_le e.header_len (ext_offset_at b) && nat_le (ext_offset_at b + 20) e.length && nat_le 20 (ext_size_at b) && nat_le (ext_size_at b) ext_limit
       && nat_le (ext_offset_at b + ext_size_at b) e.length)) ≡ true
       → e.first ≡ (if t then e.header_len else up_to_8 (ext_offset_at b + ext_size_at b)) → (x : Option Extension) × HasExt x e b
   go true is holds first = (None, (eqb-true _ _ is, first))
@@ -342,7 +343,7 @@ end_entries items bytes rest tail sofar ended same =
     subst (λ (xs : List (ℕ × List ℕ)). Entries xs tail bytes) (append-nil items) (sofar [] tail (sym same, ended))
 
 -- what is read behind the name and the size
-pub ext_from : (b : List ℕ) (g : Guid) (es : List (ℕ × List ℕ)) (tail : List ℕ) → 20 ≤ length b → length b ≤ 65535 → le_at 16 4 b ≡ length b → bytes_of g ≡ take 16 b
+pub ext_from : (b : List ℕ) (g : Guid) (es : List (ℕ × List ℕ)) (tail : List ℕ) → 20 ≤ length b → length b ≤ ext_limit → le_at 16 4 b ≡ length b → bytes_of g ≡ take 16 b
     → Entries es tail (take (length b - 20) (drop 20 b)) → IsExt (record { name = g; entries = es; tail = tail }) b
 ext_from b g es tail least most size name entries =
     ext_of b g es tail least most size name (subst (Entries es tail) (take_all (length b - 20) (drop 20 b) (omega (arith, length-drop 20 b))) entries)
@@ -350,7 +351,7 @@ ext_from b g es tail least most size name entries =
 -- what a header with an ExtHeaderOffset has
 pub record Stands (e : Extent) (b : List ℕ) : Type 0 where
   pub least : 20 ≤ ext_size_at b
-  pub most : ext_size_at b ≤ 65535
+  pub most : ext_size_at b ≤ ext_limit
   pub behind_header : e.header_len ≤ ext_offset_at b
   pub within : ext_offset_at b + ext_size_at b ≤ e.length
   pub size : le_at 16 4 (field (ext_offset_at b) (ext_size_at b) b) ≡ ext_size_at b

@@ -4,6 +4,7 @@ use Rattle.std.specs.Prelude.{◌==◌, ◌&&◌, if◌then◌else◌}
 use Rattle.std.proofs.lemmas.List.{drop_at, drop_more, drop_all}
 use Rattle.std.proofs.lemmas.Bool.{eqb-true}
 use Rattle.fv_base.specs.Guids.{bytes_of}
+use Rattle.fv_base.specs.Limits.{ext_limit}
 use Rattle.fv_base.specs.Value.{IsBytes, le, le_bytes, le_at}
 use Rattle.fv_base.proofs.FieldLemmas.{bytes_drop, le-le_bytes, two_bytes}
 use Rattle.fv_head.specs.Ext.{Extension, held, no_size, is_used_size, BeginNone, Entries, IsExt, IsReadExt}
@@ -55,7 +56,7 @@ held-payload_with used e payload kept = go (e.0 == 3) (length e.1 == 4) (length 
   go false q r one two kept = refl
 
 -- the entries as they are spelled are these entries
-pub entries_again : (es : List (ℕ × List ℕ)) (tail b : List ℕ) (used : ℕ) → IsBytes b → length b ≤ 65535 → Entries es tail b → Entries es tail (entries_bytes used es ++ tail)
+pub entries_again : (es : List (ℕ × List ℕ)) (tail b : List ℕ) (used : ℕ) → IsBytes b → length b ≤ ext_limit → Entries es tail b → Entries es tail (entries_bytes used es ++ tail)
 entries_again [] tail b used small most h = (refl, subst BeginNone h.0 h.1)
 entries_again (e ∷ es) tail b used small most (head, payload, rest, text, four, size, kind, kept, more) =
     let is = begins b head payload rest text four size in
@@ -153,8 +154,8 @@ entries_step used front es i e within item is =
 pub entries_end : (used : ℕ) (front : List ℕ) (es : List (ℕ × List ℕ)) (i : ℕ) → length es ≤ i → front ++ entries_bytes used (drop i es) ≡ entries_bytes used es → front ≡ entries_bytes used es
 entries_end used front es i past is = sym (append-nil front) ∙ ap (λ (fs : List (ℕ × List ℕ)). front ++ entries_bytes used fs) (sym (drop_all i es past)) ∙ is
 
--- an extended header has 65,535 bytes at most
-pub ext_len_most : (x : Extension) → IsReadExt x → ext_len x ≤ 65535
+-- the most bytes of an extended header
+pub ext_len_most : (x : Extension) → IsReadExt x → ext_len x ≤ ext_limit
 ext_len_most x (b, small, is) =
     let parts : length b ≡ 20 + length is.rest =
     omega (arith, ap length is.text, length-append (bytes_of x.name) (is.head ++ is.rest), length-append is.head is.rest, is.name_length, is.head_length) in

@@ -1,22 +1,22 @@
 -- The checks of a header and its fields say the same.
 use Rattle.std.proofs.Common.{◌≡◌, ◌≢◌, ◌≤◌, ℕ, ◌+◌, ◌-◌, ◌%◌, List, [], ◌∷◌, ◌++◌, length, take, drop, refl, sym, ap, ◌∙◌, subst, arith, Bool, true, false, length-take, length-drop, drop-drop}
-use Rattle.std.specs.Prelude.{◌==◌, not, is_some, Option, None, Some, Result, Ok, Err, slice_index, if◌then◌else◌, IfOk, IfErr}
+use Rattle.std.specs.Prelude.{◌==◌, nat_le, not, is_some, Option, None, Some, Result, Ok, Err, slice_index, if◌then◌else◌, IfOk, IfErr}
 use Rattle.std.specs.List.{AllByRecursion, list_all}
 use Rattle.std.proofs.lemmas.List.{drop-take, length-take-le, get_or-take}
 use Rattle.std.proofs.lemmas.Bool.{leb-true, le-leb, eqb-true, eq-eqb}
 use Rattle.std.proofs.lemmas.Slice.Eq.{bytes_eq-Decides}
 use Rattle.std.proofs.Math.Seq.{take-add}
 use Rattle.std.specs.Str.{bytes_eq}
-use Rattle.fv_base.specs.Checks.{AllHold, first_fault, IsFirstFault}
-use Rattle.fv_base.specs.Faults.{outer_fault}
-use Rattle.fv_base.specs.Limits.{volume_limit}
+use Rattle.fv_base.specs.Checks.{AllHold, Check, check, first_fault, IsFirstFault}
+use Rattle.fv_base.specs.Faults.{outer_fault, want_of_memory}
+use Rattle.fv_base.specs.Limits.{volume_limit, header_limit}
 use Rattle.fv_base.specs.Value.{IsBytes, le, field, le_at, up_to_8}
 use Rattle.fv_base.specs.declared.fault.Fault.{Fault}
 use Rattle.fv_base.specs.declared.fault.FaultKind.TheVariants as kinds
 use Rattle.fv_base.specs.declared.flash.FileSystem.{FileSystem}
 use Rattle.fv_base.specs.declared.flash.FileSystem.TheVariants.{Ffs2, Ffs3}
 use Rattle.fv_base.specs.declared.flash.Polarity.{Polarity}
-use Rattle.fv_base.proofs.CheckLemmas.{and_split, and_join, all_hold, none_faulty, first_is}
+use Rattle.fv_base.proofs.CheckLemmas.{and_split, and_join, all_hold, none_faulty, first_is, first_among}
 use Rattle.fv_base.proofs.FieldLemmas.{take-take_le, field-take, bytes_take}
 use Rattle.fv_head.specs.Attributes.{polarity_of}
 use Rattle.fv_head.specs.Ext.{Extension}
@@ -48,6 +48,15 @@ pub extent_ok : (o : Option FileSystem) (f : Fault) (b : List ℕ) (e : Extent) 
     → (fs : FileSystem) × (o ≡ Some fs) × (extent_at fs b ≡ e)
 extent_ok None f b e h = cc
 extent_ok (Some fs) f b e h = (fs, refl, cc)
+
+-- the verdict by its first fault and its file system
+pub verdict_err : (o : Option Fault) (b : List ℕ) (f : Fault) → o ≡ Some f → verdict_by o b ≡ Err f
+verdict_err None b f is = cc
+verdict_err (Some g) b f is = cc
+
+pub verdict_extent : (b : List ℕ) (fs : FileSystem) → first_fault (head_checks b) ≡ None → file_system_at b ≡ Some fs → verdict_of b ≡ Ok (extent_at fs b)
+verdict_extent b fs none system =
+    ap (λ (o : Option Fault). verdict_by o b) none ∙ ap (λ (o : Option FileSystem). extent_or o (outer_fault kinds.FileSystem 16) b) system
 
 -- ---- the block map
 
@@ -138,7 +147,7 @@ front_of b fs small is guid all =
     let kind_low = and_split _ _ kind.0 in
     let multiple : n % 8 ≡ 0 = eqb-true _ _ kind_low.0 in
     let least : 64 ≤ n = leb-true _ _ kind_low.1 in
-    let most : n ≤ 2112 = leb-true _ _ kind.1 in
+    let most : n ≤ header_limit = leb-true _ _ kind.1 in
     let within : n ≤ length b = leb-true _ _ all.1.1.1.1.1.0 in
     let map = and_split _ _ all.1.1.1.1.1.1.1.0 in
     let made = and_split _ _ map.0 in
@@ -218,7 +227,7 @@ front_exact b h e same least f =
     let vol : volume_len_at b ≡ h.length = ap le (sym (field-take 32 8 m b (omega arith))) ∙ head.volume_length in
     let bits : le_at 44 4 b ≡ h.attributes = ap le (sym (field-take 44 4 m b (omega arith))) ∙ head.attributes in
     let multiple : m % 8 ≡ 0 = rw len at head.multiple in
-    let most : m ≤ 2112 = rw len at head.most in
+    let most : m ≤ header_limit = rw len at head.most in
     let pairs = last-injective _ _ _ _ (sym (block_map_is m b least multiple f.long_enough) ∙ head.block_map) in
     let vol_least : m ≤ h.length = rw len at head.volume_least in
     let whole : h.length ≤ length b = rw (← f.length_is) f.whole in
@@ -308,6 +317,30 @@ fault_first b f h = go (first_fault (head_checks b)) refl h where
     found (Some fs) some k = cc
     found None some k = cc
 
+-- ---- the faults of a header
+
+-- a fault of a header stands within the bytes or at their end
+pub fault_within : (b : List ℕ) (f : Fault) → IsFirstFault (head_checks b) f → f.place.offset ≤ length b
+fault_within b f ([], c, after, is, held, fails, fault) =
+    let first : c ≡ check (nat_le 56 (length b)) kinds.Truncated (length b) = cc in
+    let at : f.place.offset ≡ length b = ap (λ (g : Fault). g.place.offset) fault ∙ ap (λ (d : Check Fault). d.fault.place.offset) first in
+    omega (arith, at)
+fault_within b f (d ∷ ds, c, after, is, held, fails, fault) =
+    let first : d ≡ check (nat_le 56 (length b)) kinds.Truncated (length b) = cc in
+    let long : 56 ≤ length b = leb-true _ _ (ap (λ (g : Check Fault). g.holds) (sym first) ∙ held.0) in
+    let P : Fault → Type 0 = λ g. g.place.offset ≤ length b in
+    let all : AllByRecursion (λ g. P g.fault) (head_checks b) =
+    (omega arith, (omega arith, (omega arith, (omega arith, (omega arith, (omega arith, (omega arith, (omega arith, (omega arith, (omega arith, (omega arith, tt))))))))))) in
+    first_among P (head_checks b) f all (d ∷ ds, c, after, is, held, fails, fault)
+
+-- and is no want of memory
+pub fault_known : (b : List ℕ) (f : Fault) → IsFirstFault (head_checks b) f → f ≢ want_of_memory
+fault_known b f first = λ want.
+    let P : Fault → Type 0 = λ g. g.kind ≢ kinds.OutOfMemory in
+    let all : AllByRecursion (λ g. P g.fault) (head_checks b) =
+    (λ e. cc, (λ e. cc, (λ e. cc, (λ e. cc, (λ e. cc, (λ e. cc, (λ e. cc, (λ e. cc, (λ e. cc, (λ e. cc, (λ e. cc, tt))))))))))) in
+    first_among P (head_checks b) f all first (ap (λ (g : Fault). g.kind) want)
+
 -- ---- an answer
 
 pub ok_found : (b : List ℕ) (r : Result Extent Fault) → IsBytes b → r ≡ verdict_of b → IfOk r (λ e. (h : HeadFields) × Front h e b)
@@ -317,6 +350,10 @@ ok_found b (Err f) small is = tt
 pub err_first : (b : List ℕ) (r : Result Extent Fault) → r ≡ verdict_of b → IfErr r (IsFirstFault (head_checks b))
 err_first b (Ok e) is = tt
 err_first b (Err f) is = fault_first b f (sym is)
+
+pub err_within : (b : List ℕ) (r : Result Extent Fault) → r ≡ verdict_of b → IfErr r (λ f. f.place.offset ≤ length b)
+err_within b (Ok e) is = tt
+err_within b (Err f) is = fault_within b f (fault_first b f (sym is))
 
 -- where the header of a volume lies
 pub record Within (b : List ℕ) (e : Extent) : Type 0 where
@@ -374,7 +411,7 @@ front_extent b h e front =
 -- the header lies in the volume, and the volume is within the limit
 pub record Lies (e : Extent) : Type 0 where
   pub least : 64 ≤ e.header_len
-  pub most : e.header_len ≤ 2112
+  pub most : e.header_len ≤ header_limit
   pub within : e.header_len ≤ e.length
   pub limit : e.length ≤ volume_limit
 
@@ -387,6 +424,16 @@ front_lies b h e f =
       within = rw (f.length_is, ← len) f.head.volume_least;
       limit = rw f.length_is f.head.volume_most;
     }
+
+-- the first file may stand at a multiple of 8 in the volume, whose length is a multiple of 8
+pub first_lies : (b : List ℕ) (h : HeadFields) (e : Extent) → Front h e b → (e.first % 8 ≡ 0) × (e.first ≤ e.length) × (e.length % 8 ≡ 0)
+first_lies b h e f =
+    by h.ext f.ext (front_within b h e f).multiple (front_lies b h e f).within (ap (λ (n : ℕ). n % 8) f.length_is ∙ f.head.volume_multiple)
+  where
+    by : (x : Option Extension) → HasExt x e b → e.header_len % 8 ≡ 0 → e.header_len ≤ e.length → e.length % 8 ≡ 0
+        → (e.first % 8 ≡ 0) × (e.first ≤ e.length) × (e.length % 8 ≡ 0)
+    by None (offset, is) multiple within whole = (omega (arith, is, multiple), omega (arith, is, within), whole)
+    by (Some x) (before, part, behind, text, at, low, high, ext, is) multiple within whole = (omega (arith, is), omega (arith, is, high, whole), whole)
 
 -- a volume is a matter of its own bytes
 pub front_same : (b c : List ℕ) (h : HeadFields) (e : Extent) → Front h e b → e.length ≤ length c → take e.length c ≡ take e.length b → Front h e c

@@ -4,6 +4,7 @@ use Rattle.std.specs.Prelude.{slice_index, sum, Option, None, Some}
 use Rattle.std.proofs.Math.Seq.{take-add}
 use Rattle.std.proofs.lemmas.List.{take-append-drop, take_at, drop_at, drop_more, get_or-drop, length-take-le}
 use Rattle.fv_base.specs.Sums.{words_of, sum16_of}
+use Rattle.fv_base.specs.Limits.{ext_limit, header_limit}
 use Rattle.fv_base.specs.Value.{IsBytes, le, le_bytes, field, le_at, up_to_8}
 use Rattle.fv_base.proofs.FieldLemmas.{bytes_take, bytes_drop, bytes_append, bytes_le_bytes, le_bytes-le, field_is, field-append_front, drop-append_behind, le-le_bytes, length-le_bytes, field-take, two_bytes}
 use Rattle.std.proofs.lemmas.List.Sums.{sum_by-cons}
@@ -14,7 +15,7 @@ use Rattle.fv_head.specs.Pairs.{pairs_of, pairs_bytes}
 use Rattle.fv_head.specs.SpelledExt.{ext_spelled, IfRead, canonical_end, canonical_first, CanonicalRest}
 use Rattle.fv_head.specs.Spelled.{spelled, checksum_of, canonical_head}
 use Rattle.fv_head.specs.WordSums.{worth}
-use Rattle.fv_head.proofs.ExtSpelled.{ext_again}
+use Rattle.fv_head.proofs.ExtSpelled.{ext_again, ext_len_most}
 
 -- ---- pairs
 
@@ -359,9 +360,19 @@ spelled_even h checksum offset (b, head) =
     let same : length (spelled h checksum offset) ≡ length b = ap length (sym (patched_is h b checksum offset head)) ∙ length-patched b checksum offset (omega (arith, head.least)) in
     omega (arith, same, head.multiple)
 
--- a header has 2112 bytes at most
-pub header_len_most : (h : HeadFields) → IsReadHead h → header_len_of h ≤ 2112
+-- the most bytes of a header
+pub header_len_most : (h : HeadFields) → IsReadHead h → header_len_of h ≤ header_limit
 header_len_most h (b, head) = omega (arith, header_len_is h b head, head.most)
+
+-- where the first file of the canonical image may stand, at most
+pub canonical_first_most : (h : HeadFields) (x : Option Extension) → IsReadHead h → IfRead x → canonical_first h x ≤ up_to_8 (header_limit + 24 + ext_limit)
+canonical_first_most h None read known = omega (arith, header_len_most h read)
+canonical_first_most h (Some x) read known = omega (arith, header_len_most h read, ext_len_most x known)
+
+-- and at a multiple of 8
+pub canonical_first_multiple : (h : HeadFields) (x : Option Extension) → canonical_first h x % 8 ≡ 0
+canonical_first_multiple h None = omega arith
+canonical_first_multiple h (Some x) = omega arith
 
 -- the checksum that a sum of words comes to
 pub checksum_from : (h : HeadFields) (offset total : ℕ) → IsReadHead h → total < 65536 → total % 65536 ≡ (0 + worth false (spelled h 0 offset)) % 65536

@@ -1,6 +1,7 @@
 -- The extended header of a volume (PI specification, volume 3, section 3.2.1.2, EFI_FIRMWARE_VOLUME_EXT_HEADER).
 use Rattle.std.specs.Prelude.{◌≡◌, ◌≤◌, ◌<◌, ◌+◌, ◌==◌, ◌&&◌, ◌⊎◌, ℕ, Bool, if◌then◌else◌, List, [], ◌∷◌, ◌++◌, length}
 use Rattle.fv_base.specs.Guids.{bytes_of}
+use Rattle.fv_base.specs.Limits.{ext_limit}
 use Rattle.fv_base.specs.Value.{IsBytes, le, le_at}
 use Rattle.fv_base.specs.declared.guid.Guid.{Guid}
 
@@ -41,7 +42,7 @@ pub record IsExt (x : Extension) (b : List ℕ) : Type 0 where
   pub name_length : length (bytes_of x.name) ≡ 16
   pub head_length : length head ≡ 4
   pub size : le head ≡ length b
-  pub most : length b ≤ 65535
+  pub most : length b ≤ ext_limit
   pub entries : Entries x.entries x.tail rest
 
 -- some bytes are an extended header that says this

@@ -1,7 +1,7 @@
 -- The header that a volume begins with (PI specification, volume 3, section 3.2.1.1, EFI_FIRMWARE_VOLUME_HEADER).
 use Rattle.std.specs.Prelude.{◌≡◌, ◌≢◌, ◌≤◌, ◌+◌, ◌*◌, ◌%◌, ℕ, List, [], ◌∷◌, ◌++◌, length, take, drop, slice_index, Option, None, Some}
 use Rattle.std.specs.List.{AllByRecursion}
-use Rattle.fv_base.specs.Limits.{volume_limit}
+use Rattle.fv_base.specs.Limits.{volume_limit, header_limit}
 use Rattle.fv_base.specs.Sums.{sum16_of}
 use Rattle.fv_base.specs.Value.{IsBytes, field, le_at, up_to_8}
 use Rattle.fv_base.specs.declared.flash.FileSystem.{FileSystem}
@@ -46,7 +46,7 @@ pub record IsHead (h : HeadFields) (b : List ℕ) : Type 0 where
   pub sum : sum16_of b ≡ 0
   pub multiple : length b % 8 ≡ 0
   pub least : 64 ≤ length b
-  pub most : length b ≤ 2112
+  pub most : length b ≤ header_limit
   pub makes_up : bytes_in h.blocks ≡ h.length
   pub volume_multiple : h.length % 8 ≡ 0
   pub volume_least : length b ≤ h.length

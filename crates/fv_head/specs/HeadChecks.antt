@@ -1,10 +1,10 @@
 -- The checks of a volume's header, in their order.
-use Rattle.std.specs.Prelude.{ℕ, ◌+◌, ◌||◌, ◌-◌, ◌%◌, ◌==◌, nat_le, Bool, ◌&&◌, not, is_some, if◌then◌else◌, List, [], ◌∷◌, length, take, slice_index, Option, None, Some, Result, Ok, Err}
+use Rattle.std.specs.Prelude.{ℕ, ◌+◌, ◌||◌, ◌-◌, ◌%◌, ◌==◌, nat_le, Bool, ◌&&◌, not, is_some, if◌then◌else◌, List, [], ◌∷◌, ◌++◌, length, take, slice_index, Option, None, Some, Result, Ok, Err}
 use Rattle.std.specs.Str.{bytes_eq}
 use Rattle.std.specs.List.{list_all}
 use Rattle.fv_base.specs.Checks.{Check, check, first_fault}
 use Rattle.fv_base.specs.Faults.{outer_fault}
-use Rattle.fv_base.specs.Limits.{volume_limit}
+use Rattle.fv_base.specs.Limits.{volume_limit, header_limit, ext_limit}
 use Rattle.fv_base.specs.Sums.{sum16_of}
 use Rattle.fv_base.specs.Value.{field, le_at, up_to_8}
 use Rattle.fv_base.specs.declared.fault.Fault.{Fault}
@@ -33,7 +33,7 @@ abbrev pub volume_len_at : List ℕ → ℕ
 volume_len_at b = le_at 32 8 b
 
 abbrev pub is_header_len : ℕ → Bool
-is_header_len n = (n % 8 == 0) && nat_le 64 n && nat_le n 2112
+is_header_len n = (n % 8 == 0) && nat_le 64 n && nat_le n header_limit
 
 -- the first n bytes sum to 0
 abbrev pub has_sum : ℕ → List ℕ → Bool
@@ -41,6 +41,10 @@ has_sum n b = sum16_of (take n b) == 0
 
 abbrev pub is_zero_pair : ℕ × ℕ → Bool
 is_zero_pair p = (p.0 == 0) && (p.1 == 0)
+
+-- the bytes say that they are one volume and no more: by the signature, the file system and FvLength alone
+abbrev pub is_one_volume : List ℕ → Bool
+is_one_volume b = nat_le 56 (length b) && has_signature b && is_some (file_system_at b) && (volume_len_at b == length b)
 
 -- none of the blocks is a pair of zeros, and they make up so many bytes
 abbrev pub makes_up : List (ℕ × ℕ) → ℕ → Bool
@@ -69,28 +73,37 @@ ext_size_at b = le_at (ext_offset_at b + 16) 4 b
 abbrev pub has_ext : ℕ → ℕ → List ℕ → Bool
 has_ext n len b =
     (ext_offset_at b == 0)
-    || (nat_le n (ext_offset_at b) && nat_le (ext_offset_at b + 20) len && nat_le 20 (ext_size_at b) && nat_le (ext_size_at b) 65535
+    || (nat_le n (ext_offset_at b) && nat_le (ext_offset_at b + 20) len && nat_le 20 (ext_size_at b) && nat_le (ext_size_at b) ext_limit
     && nat_le (ext_offset_at b + ext_size_at b) len)
 
 -- where the first file may stand
 abbrev pub first_at : List ℕ → ℕ
 first_at b = if ext_offset_at b == 0 then header_len_at b else up_to_8 (ext_offset_at b + ext_size_at b)
 
--- the checks of a header, in their order
-abbrev pub head_checks : List ℕ → List (Check Fault)
-head_checks b =
+-- the checks of a header's first 56 bytes, in their order
+abbrev pub front_checks : List ℕ → List (Check Fault)
+front_checks b =
     check (nat_le 56 (length b)) kinds.Truncated (length b)
     ∷ check (has_signature b) kinds.Signature 40
     ∷ check (is_some (file_system_at b)) kinds.FileSystem 16
     ∷ check (slice_index b 55 == 2) kinds.Revision 55
     ∷ check (is_header_len (header_len_at b)) kinds.HeaderLength 48
-    ∷ check (nat_le (header_len_at b) (length b)) kinds.Truncated (length b)
+    ∷ []
+
+-- and those of the whole header, of FvLength and of the extended header
+abbrev pub whole_checks : List ℕ → List (Check Fault)
+whole_checks b =
+    check (nat_le (header_len_at b) (length b)) kinds.Truncated (length b)
     ∷ check (has_sum (header_len_at b) b) kinds.HeaderSum 0
     ∷ check (has_block_map (header_len_at b) b) kinds.BlockMap 56
     ∷ check (is_volume_len (header_len_at b) (volume_len_at b)) kinds.Length 32
     ∷ check (nat_le (volume_len_at b) (length b)) kinds.Truncated (length b)
     ∷ check (has_ext (header_len_at b) (volume_len_at b) b) kinds.ExtHeader 52
     ∷ []
+
+-- the checks of a header, in their order
+abbrev pub head_checks : List ℕ → List (Check Fault)
+head_checks b = front_checks b ++ whole_checks b
 
 -- the extent that a header of the file system says
 abbrev pub extent_at : FileSystem → List ℕ → Extent

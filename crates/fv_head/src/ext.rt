@@ -2,6 +2,7 @@
 
 ghost use Rattle.std.specs.Prelude.{◌≡◌, ◌+◌, ◌≤◌, ℕ, List, drop, length, IfOk, IfErr, IfSome, IfNone};
 ghost use Rattle.fv_base.specs.Faults.{want_of_memory};
+ghost use Rattle.fv_base.specs.Limits.{ext_limit};
 ghost use Rattle.fv_base.specs.Value.{le_at};
 ghost use Rattle.fv_head.specs.Ext.{BeginNone, Entries, IsExt, IsReadExt, held, is_used_size};
 
@@ -147,7 +148,7 @@ fn entries_of(alloc: Global, bytes: &[u8]) -> Result<(Vec<ExtEntry>, ByteList), 
 // The extended header that the bytes are.
 pub(crate) fn ext_of(alloc: Global, bytes: &[u8]) -> Result<ExtHeader, Fault>
     requires least { 20 ≤ length bytes.now }
-    requires most { length bytes.now ≤ 65535 }
+    requires most { length bytes.now ≤ ext_limit }
     requires size { le_at 16 4 bytes.now ≡ length bytes.now }
     ensures ok { IfOk result (λ x. IsExt x bytes.now) }
     ensures err { IfErr result (λ f. f ≡ want_of_memory) }

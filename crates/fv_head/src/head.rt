@@ -3,6 +3,7 @@
 ghost use Rattle.std.specs.Prelude.{◌≡◌, ◌⊎◌, ◌%◌, ◌≤◌, length, IfOk, IfErr, option_copied};
 ghost use Rattle.fv_base.specs.Checks.{IsFirstFault};
 ghost use Rattle.fv_base.specs.Faults.{want_of_memory};
+ghost use Rattle.fv_base.specs.Limits.{header_limit};
 ghost use Rattle.fv_head.specs.Head.{HasExt, HeadFields, Front, IsReadHead, header_len_of};
 ghost use Rattle.fv_head.specs.HeadChecks.{head_checks};
 ghost use Rattle.fv_head.specs.Pairs.{pairs_of};
@@ -91,7 +92,7 @@ impl VolumeHead {
     /// The bytes of the header, HeaderLength.
     pub fn header_len(&self) -> u16
         ensures length { result ≡ header_len_of self.now }
-        ensures most { header_len_of self.now ≤ 2112 }
+        ensures most { header_len_of self.now ≤ header_limit }
 
         // The fields are those of a header.
         ensures read { IsReadHead self.now }
@@ -165,7 +166,8 @@ fn head_of(alloc: Global, bytes: &[u8], extent: &Extent) -> Result<VolumeHead, F
 ///
 /// # Errors
 ///
-/// The first fault of the header, as `verify_fv`; OutOfMemory.
+/// The first fault of the header, as `verify_fv`; OutOfMemory (at 0), and that only where the bytes
+/// begin with a volume.
 pub fn read_head(alloc: Global, bytes: &[u8]) -> Result<(VolumeHead, Extent), Fault>
     // The bytes begin with this volume.
     ensures found { IfOk result (λ r. Front r.0 r.1 bytes.now) }
@@ -175,6 +177,12 @@ pub fn read_head(alloc: Global, bytes: &[u8]) -> Result<(VolumeHead, Extent), Fa
 
     // A refusal names the first check that does not hold.
     ensures first { IfErr result (λ f. (f ≡ want_of_memory) ⊎ IsFirstFault (head_checks bytes.now) f) }
+
+    // Memory is wanted only where they begin with a volume.
+    ensures memory { IfErr result (λ f. f ≡ want_of_memory → (h : HeadFields) × (e : Extent) × Front h e bytes.now) }
+
+    // A refusal stands within the bytes or at their end.
+    ensures bound { IfErr result (λ f. f.place.offset ≤ length bytes.now) }
 {
     let extent = verify_fv(bytes)?;
     let head = head_of(alloc, bytes, &extent)?;

@@ -1,8 +1,9 @@
 //! A header, spelled as the canonical image has it.
 
-ghost use Rattle.std.specs.Prelude.{◌≡◌, ◌-◌, ◌%◌, ◌≤◌, ◌<◌, ◌++◌, List, [], ◌∷◌, ℕ, length, IfOk, IfErr};
+ghost use Rattle.std.specs.Prelude.{◌≡◌, ◌+◌, ◌-◌, ◌%◌, ◌≤◌, ◌<◌, ◌++◌, List, [], ◌∷◌, ℕ, length, IfOk, IfErr};
 ghost use Rattle.fv_base.specs.Faults.{want_of_memory};
-ghost use Rattle.fv_base.specs.Value.{le_bytes};
+ghost use Rattle.fv_base.specs.Limits.{header_limit, ext_limit};
+ghost use Rattle.fv_base.specs.Value.{le_bytes, up_to_8};
 ghost use Rattle.fv_head.specs.Head.{IsCanonicalHead, IsReadHead, Front, canonical_offset, extent_of};
 ghost use Rattle.fv_head.specs.Pairs.{pairs_bytes};
 ghost use Rattle.fv_head.specs.SpelledExt.{CanonicalRest, IfRead, canonical_end, canonical_first};
@@ -11,9 +12,11 @@ ghost use Rattle.fv_head.specs.WordLaws.{adds_by};
 ghost use Rattle.fv_head.specs.WordSums.{AddsWords, worth};
 
 use crate::head::VolumeHead;
+use crate::spell_ext::len_of_ext;
 use crate::verify::{REVISION, SIGNATURE, system_guid};
 use bitflags::Flags;
 use byteorder::{ByteOrder, LittleEndian};
+use fv_base::field::up_to_8;
 use fv_base::{ByteList, Fault, ListSink, Sink};
 use std::alloc::Global;
 
@@ -93,6 +96,21 @@ fn canonical_offset(head: &VolumeHead) -> u16
             let _name = ext.name();
             head.header_len() + 24
         }
+    }
+}
+
+/// Where the first file of the canonical image may stand, in bytes from the volume's start: behind
+/// the header; with an extended header at the next multiple of 8 behind the pad file (24 bytes, and
+/// the extended header) that stands behind the header. Takes no memory. (PI specification, volume
+/// 3, sections 3.2.1.1 and 3.2.1.2.)
+pub fn first_edge(head: &VolumeHead) -> u64
+    ensures edge { result ≡ canonical_first head.now head.now.ext }
+    ensures most { result ≤ up_to_8 (header_limit + 24 + ext_limit) }
+{
+    let header_len = u64::from(head.header_len());
+    match head.ext() {
+        None => header_len,
+        Some(ext) => up_to_8(header_len + 24 + u64::from(len_of_ext(ext))),
     }
 }
 

@@ -2,6 +2,7 @@
 
 ghost use Rattle.std.specs.Prelude.{◌≡◌, ◌+◌, ◌<◌, ◌≤◌, ℕ, List, length, IfOk, IfErr};
 ghost use Rattle.fv_base.specs.Faults.{want_of_memory};
+ghost use Rattle.fv_base.specs.Limits.{ext_limit};
 ghost use Rattle.fv_head.specs.Ext.{IsExt, IsReadExt};
 ghost use Rattle.fv_head.specs.SpelledExt.{payload_with, entry_bytes, entries_bytes, entries_len, ext_len, ext_spelled};
 
@@ -12,7 +13,7 @@ use std::alloc::Global;
 
 // How many bytes the entries have.
 fn len_of_entries(entries: &[ExtEntry]) -> u32
-    requires { entries_len entries.now ≤ 65535 }
+    requires { entries_len entries.now ≤ ext_limit }
     ensures { result ≡ entries_len entries.now }
 {
     let mut len = 0;
@@ -22,10 +23,11 @@ fn len_of_entries(entries: &[ExtEntry]) -> u32
     len
 }
 
-// How many bytes an extended header has, ExtHeaderSize.
-fn len_of_ext(ext: &ExtHeader) -> u32
+/// How many bytes an extended header has, ExtHeaderSize: 20, the bytes of its entries and those of
+/// its tail. Takes no memory. (PI specification, volume 3, section 3.2.1.2.)
+pub fn len_of_ext(ext: &ExtHeader) -> u32
     ensures len { result ≡ ext_len ext.now }
-    ensures most { ext_len ext.now ≤ 65535 }
+    ensures most { ext_len ext.now ≤ ext_limit }
     ensures read { IsReadExt ext.now }
 {
     let _name = ext.name();
@@ -46,7 +48,7 @@ fn put_payload<S: Sink>(out: &mut S, entry: &ExtEntry, used: u32)
 
 // Puts an entry, with the used size as it is handed.
 fn put_entry<S: Sink>(out: &mut S, entry: &ExtEntry, used: u32)
-    requires { 4 + length entry.now.1 ≤ 65535 }
+    requires { 4 + length entry.now.1 ≤ ext_limit }
     ensures { S.takes out.old (entry_bytes used entry.now) out.new }
 {
     put_u16(out, 4 + entry.payload().len() as u16);
@@ -56,7 +58,7 @@ fn put_entry<S: Sink>(out: &mut S, entry: &ExtEntry, used: u32)
 
 // Puts entries, one behind the other.
 fn put_entries<S: Sink>(out: &mut S, entries: &[ExtEntry], used: u32)
-    requires { entries_len entries.now ≤ 65535 }
+    requires { entries_len entries.now ≤ ext_limit }
     ensures { S.takes out.old (entries_bytes used entries.now) out.new }
 {
     for entry in entries {
@@ -69,7 +71,7 @@ fn put_entries<S: Sink>(out: &mut S, entries: &[ExtEntry], used: u32)
 pub fn put_ext<S: Sink>(out: &mut S, ext: &ExtHeader, used: u32)
     ensures bytes { S.takes out.old (ext_spelled ext.now used) out.new }
     ensures len { length (ext_spelled ext.now used) ≡ ext_len ext.now }
-    ensures most { ext_len ext.now ≤ 65535 }
+    ensures most { ext_len ext.now ≤ ext_limit }
 {
     let len = len_of_ext(ext);
     out.put(&ext.name().to_bytes());

@@ -3,9 +3,12 @@
 mod block_maps;
 mod extended;
 
-use crate::{Extent, head_bytes, put_head, read_head, verify_fv};
+use crate::{
+    Extent, VolumeHead, first_edge, head_bytes, is_one_volume, put_head, read_head, verify_fv,
+};
 use bitflags::Flags;
-use fv_base::{Fault, FaultKind, FileSystem, ListSink, Polarity};
+use fv_base::{ByteList, Fault, FaultKind, FileSystem, ListSink, Polarity};
+use std::alloc::Global;
 use std::test::Fail;
 
 /// A volume without files: a header of 72 bytes, with one block of 128, and erased bytes.
@@ -20,15 +23,19 @@ const EMPTY: [u8; 128] = [
     0xff, 0xff, 0xff, 0xff, 0xff, 0xff, 0xff, 0xff, 0xff, 0xff, 0xff, 0xff, 0xff, 0xff, 0xff, 0xff,
 ];
 
-/// The empty volume with other bytes at these places.
-fn changed(changes: &'static [(usize, &'static [u8])]) -> [u8; 128] {
-    let mut bytes = EMPTY;
-    for (at, part) in changes {
-        for (old, new) in bytes.iter_mut().skip(*at).zip(*part) {
-            *old = *new;
-        }
+/// Puts other bytes at a place, as far as there is room.
+fn put_at(bytes: &mut [u8], at: usize, part: &[u8]) {
+    let room = bytes.len().saturating_sub(at);
+    for i in 0..part.len().min(room) {
+        bytes[at + i] = part[i];
     }
-    bytes
+}
+
+/// Puts other bytes at these places.
+fn change(bytes: &mut [u8], changes: &[(usize, &[u8])]) {
+    for (at, part) in changes {
+        put_at(bytes, *at, part);
+    }
 }
 
 /// What changes, and then the file system, the attributes and the polarity.
@@ -113,10 +120,21 @@ const FAULTS: [(usize, &[(usize, &[u8])], FaultKind, u64); 13] = [
     ),
 ];
 
+/// Whether a head has the fields of the empty volume, and these.
+fn shows(head: &VolumeHead, file_system: FileSystem, attributes: u32, polarity: Polarity) -> bool {
+    let is_named = *head.zero_vector() == [0u8; 16] && head.file_system() == file_system;
+    let bits = head.attributes();
+    let has_bits = bits.bits() == attributes && bits.polarity() == polarity;
+    let is_long = head.length() == 128 && head.header_len() == 72;
+    let has_blocks = head.blocks().as_slice() == [(1u32, 128u32)].as_slice();
+    is_named && has_bits && is_long && has_blocks && head.reserved() == 0 && head.ext().is_none()
+}
+
 #[test]
 fn heads_are_read(rt: HostRuntime) -> Result<(), Fail> {
     for (changes, file_system, attributes, polarity) in HEADS {
-        let bytes = changed(changes);
+        let mut bytes = EMPTY;
+        change(&mut bytes, changes);
         let extent = Extent {
             length: 128,
             header_len: 72,
@@ -127,42 +145,74 @@ fn heads_are_read(rt: HostRuntime) -> Result<(), Fail> {
         assert_eq!(rt; verify_fv(&bytes)?, extent);
         let (head, found) = read_head(rt.alloc(), &bytes)?;
         assert_eq!(rt; found, extent);
-        assert_eq!(rt; *head.zero_vector(), [0u8; 16]);
-        assert_eq!(rt; head.file_system(), file_system);
-        assert_eq!(rt; head.length(), 128);
-        assert_eq!(rt; head.attributes().bits(), attributes);
-        assert_eq!(rt; head.attributes().polarity(), polarity);
-        assert_eq!(rt; head.reserved(), 0);
-        assert_eq!(rt; head.blocks().as_slice(), [(1u32, 128u32)].as_slice());
-        assert_eq!(rt; head.header_len(), 72);
-        assert!(rt; head.ext().is_none());
+        assert!(rt;
+            shows(&head, file_system, attributes, polarity),
+            "{attributes:#x}"
+        );
+        assert_eq!(rt; first_edge(&head), 72);
+    }
+    Ok(())
+}
+
+/// The head of the canonical image of the volume that the bytes begin with.
+fn canonical(alloc: Global, bytes: &[u8]) -> Result<ByteList, Fault> {
+    let (head, _) = read_head(alloc, bytes)?;
+    head_bytes(alloc, &head)
+}
+
+/// The same, put into a sink.
+fn canonical_put(alloc: Global, bytes: &[u8]) -> Result<ByteList, Fault> {
+    let (head, _) = read_head(alloc, bytes)?;
+    let mut out = ListSink::with_room(alloc, 72)?;
+    put_head(&mut out, &head);
+    out.finish()
+}
+
+#[test]
+fn heads_are_spelled(rt: HostRuntime) -> Result<(), Fail> {
+    for (changes, _, _, _) in HEADS {
+        let mut bytes = EMPTY;
+        change(&mut bytes, changes);
+        let spelled = canonical(rt.alloc(), &bytes)?;
+        assert_eq!(rt; Some(spelled.as_slice()), bytes.get(..72));
     }
     Ok(())
 }
 
 #[test]
-fn heads_are_written(rt: HostRuntime) -> Result<(), Fail> {
+fn heads_are_put(rt: HostRuntime) -> Result<(), Fail> {
     for (changes, _, _, _) in HEADS {
-        let bytes = changed(changes);
-        let front = bytes.get(..72);
-        let (head, _) = read_head(rt.alloc(), &bytes)?;
-        let written = head_bytes(rt.alloc(), &head)?;
-        assert_eq!(rt; Some(written.as_slice()), front);
-        let mut out = ListSink::with_room(rt.alloc(), 72)?;
-        put_head(&mut out, &head);
-        let kept = out.finish()?;
-        assert_eq!(rt; Some(kept.as_slice()), front);
+        let mut bytes = EMPTY;
+        change(&mut bytes, changes);
+        let put = canonical_put(rt.alloc(), &bytes)?;
+        assert_eq!(rt; Some(put.as_slice()), bytes.get(..72));
     }
     Ok(())
+}
+
+/// The fault with which a head is not read.
+fn fault_of(alloc: Global, bytes: &[u8]) -> Option<Fault> {
+    match read_head(alloc, bytes) {
+        Ok((_head, _)) => None,
+        Err(fault) => Some(fault),
+    }
 }
 
 #[test]
 fn faults_have_their_places(rt: HostRuntime) {
     for (length, changes, kind, offset) in FAULTS {
-        let bytes = changed(changes);
+        let mut bytes = EMPTY;
+        change(&mut bytes, changes);
         let part = &bytes[..length.min(128)];
         let fault = Some(Fault::outer(kind, offset));
         assert_eq!(rt; verify_fv(part).err(), fault, "{kind}");
-        assert_eq!(rt; read_head(rt.alloc(), part).err(), fault, "{kind}");
+        assert_eq!(rt; fault_of(rt.alloc(), part), fault, "{kind}");
+    }
+}
+
+#[test]
+fn one_volume_is_told(rt: HostRuntime) {
+    for (length, is_one) in [(128, true), (127, false), (56, false), (55, false)] {
+        assert_eq!(rt; is_one_volume(&EMPTY[..length]), is_one, "{length}");
     }
 }

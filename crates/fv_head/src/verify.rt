@@ -1,11 +1,11 @@
 //! Whether bytes begin with a volume, and which.
 
-ghost use Rattle.std.specs.Prelude.{◌≡◌, ◌⊎◌, ◌+◌, ◌==◌, ◌%◌, ◌≤◌, length, IfOk, IfErr};
-ghost use Rattle.fv_base.specs.Checks.{IsFirstFault};
+ghost use Rattle.std.specs.Prelude.{◌≡◌, ◌⊎◌, ◌+◌, ◌==◌, ◌%◌, ◌≤◌, length, IfOk, IfErr, OnOk, None, Some, true};
+ghost use Rattle.fv_base.specs.Checks.{IsFirstFault, first_fault};
 ghost use Rattle.fv_base.specs.Sums.{sum16_of};
 ghost use Rattle.fv_base.specs.Value.{le_at};
 ghost use Rattle.fv_head.specs.Head.{HeadFields, Front, system_guid};
-ghost use Rattle.fv_head.specs.HeadChecks.{has_signature, file_system_at, is_header_len, is_zero_pair, makes_up, has_block_map, is_volume_len, has_ext, first_at, extent_at, verdict_of, head_checks};
+ghost use Rattle.fv_head.specs.HeadChecks.{has_signature, file_system_at, is_one_volume, header_len_at, is_header_len, is_zero_pair, makes_up, has_block_map, is_volume_len, has_ext, first_at, extent_at, verdict_of, front_checks, whole_checks, head_checks};
 ghost use Rattle.fv_head.specs.Pairs.{pairs_of};
 ghost use Rattle.fv_head.specs.declared.extent.Extent.{Extent};
 
@@ -14,7 +14,7 @@ use crate::extent::Extent;
 use crate::fields::{u16_at, u32_at, u64_at};
 use bitflags::Flags;
 use fv_base::field::{field, up_to_8};
-use fv_base::limits::VOLUME_LIMIT;
+use fv_base::limits::{EXT_LIMIT, HEADER_LIMIT, VOLUME_LIMIT};
 use fv_base::{Fault, FaultKind, FileSystem, check, sum16};
 
 /// The signature `_FVH`.
@@ -61,10 +61,22 @@ fn file_system_at(bytes: &[u8]) -> Option<FileSystem>
     }
 }
 
+/// Whether the bytes say that they are one volume and no more: 56 bytes at least, with the signature
+/// `_FVH` at 40 and the GUID of a file system at 16, and an FvLength that is their number. No other
+/// check of the header is made. Takes no memory. (PI specification, volume 3, section 3.2.1.1.)
+pub fn is_one_volume(bytes: &[u8]) -> bool
+    ensures { result ≡ is_one_volume bytes.now }
+{
+    bytes.len() >= 56
+        && has_signature(bytes)
+        && file_system_at(bytes).is_some()
+        && u64_at(bytes, 32) == bytes.len() as u64
+}
+
 fn is_header_len(len: usize) -> bool
     ensures { result ≡ is_header_len len }
 {
-    len % 8 == 0 && 64 <= len && len <= 2112
+    len % 8 == 0 && 64 <= len && len <= HEADER_LIMIT
 }
 
 fn is_volume_len(header_len: usize, len: u64) -> bool
@@ -137,7 +149,7 @@ fn has_ext(bytes: &[u8], header_len: usize, volume_len: u64) -> bool
         return false;
     }
     let size = u32_at(bytes, start + 16);
-    20 <= size && size <= 65535 && start as u64 + u64::from(size) <= volume_len
+    20 <= size && size <= EXT_LIMIT && start as u64 + u64::from(size) <= volume_len
 }
 
 // Where the first file may stand.
@@ -169,12 +181,14 @@ fn extent_at(bytes: &[u8], file_system: FileSystem) -> Extent
     }
 }
 
-// The extent, or the first fault.
-fn verdict(bytes: &[u8]) -> Result<Extent, Fault>
-    ensures { result ≡ verdict_of bytes.now }
+// The file system, or the first fault of the header's first 56 bytes.
+fn front_verdict(bytes: &[u8]) -> Result<FileSystem, Fault>
+    ensures ok { IfOk result (λ s. (first_fault (front_checks bytes.now) ≡ None) × (file_system_at bytes.now ≡ Some s)) }
+    ensures long { OnOk result (56 ≤ length bytes.now) }
+    ensures header_len { OnOk result (is_header_len (header_len_at bytes.now) ≡ true) }
+    ensures err { IfErr result (λ f. first_fault (front_checks bytes.now) ≡ Some f) }
 {
-    let end = bytes.len() as u64;
-    check(bytes.len() >= 56, FaultKind::Truncated, end)?;
+    check(bytes.len() >= 56, FaultKind::Truncated, bytes.len() as u64)?;
     check(has_signature(bytes), FaultKind::Signature, 40)?;
     let Some(file_system) = file_system_at(bytes) else {
         return Err(Fault::outer(FaultKind::FileSystem, 16));
@@ -182,13 +196,34 @@ fn verdict(bytes: &[u8]) -> Result<Extent, Fault>
     check(bytes[55] == REVISION, FaultKind::Revision, 55)?;
     let header_len = usize::from(u16_at(bytes, 48));
     check(is_header_len(header_len), FaultKind::HeaderLength, 48)?;
+    Ok(file_system)
+}
+
+// Nothing, or the first fault of the whole header, of FvLength or of the extended header.
+fn whole_verdict(bytes: &[u8]) -> Result<(), Fault>
+    requires long { 56 ≤ length bytes.now }
+    requires header_len { is_header_len (header_len_at bytes.now) ≡ true }
+    ensures ok { OnOk result (first_fault (whole_checks bytes.now) ≡ None) }
+    ensures ext { OnOk result ((le_at 52 2 bytes.now ≡ 0) ⊎ (le_at 52 2 bytes.now + 20 ≤ length bytes.now)) }
+    ensures err { IfErr result (λ f. first_fault (whole_checks bytes.now) ≡ Some f) }
+{
+    let end = bytes.len() as u64;
+    let header_len = usize::from(u16_at(bytes, 48));
     check(header_len <= bytes.len(), FaultKind::Truncated, end)?;
     check(has_sum(&bytes[..header_len]), FaultKind::HeaderSum, 0)?;
     check(has_block_map(bytes, header_len), FaultKind::BlockMap, 56)?;
     let length = u64_at(bytes, 32);
     check(is_volume_len(header_len, length), FaultKind::Length, 32)?;
     check(length <= end, FaultKind::Truncated, end)?;
-    check(has_ext(bytes, header_len, length), FaultKind::ExtHeader, 52)?;
+    check(has_ext(bytes, header_len, length), FaultKind::ExtHeader, 52)
+}
+
+// The extent, or the first fault.
+fn verdict(bytes: &[u8]) -> Result<Extent, Fault>
+    ensures { result ≡ verdict_of bytes.now }
+{
+    let file_system = front_verdict(bytes)?;
+    whole_verdict(bytes)?;
     Ok(extent_at(bytes, file_system))
 }
 
@@ -209,6 +244,9 @@ pub fn verify_fv(bytes: &[u8]) -> Result<Extent, Fault>
 
     // A refusal names the first check that does not hold.
     ensures first { IfErr result (IsFirstFault (head_checks bytes.now)) }
+
+    // A refusal stands within the bytes or at their end.
+    ensures bound { IfErr result (λ f. f.place.offset ≤ length bytes.now) }
 {
     verdict(bytes)
 }

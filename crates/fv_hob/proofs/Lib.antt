@@ -1,4 +1,5 @@
 pub mod BlockLemmas
+pub mod Laws
 pub mod ListLemmas
 pub mod ReadLemmas
 pub mod RowLemmas

@@ -1,5 +1,5 @@
 -- Bytes begin with one list at most.
-use Rattle.std.proofs.Common.{◌≡◌, ℕ, List, [], ◌∷◌, ◌++◌, refl, sym, ap, ◌∙◌, subst, append_assoc, append-nil}
+use Rattle.std.proofs.Common.{◌≡◌, ◌≤◌, ℕ, ◌*◌, List, [], ◌∷◌, ◌++◌, length, refl, sym, ap, ◌∙◌, subst, arith, length-append, append_assoc, append-nil}
 use Rattle.std.specs.List.{AllByRecursion}
 use Rattle.fv_hob.specs.Hobs.{HobForm, IsHob, code_of}
 use Rattle.fv_hob.specs.Lists.{IsEnd, IsHobList, IsNoEnd, Joins}
@@ -13,6 +13,11 @@ pub joins_more : (hs : List HobForm) (h : HobForm) (c d : List ℕ) → Joins hs
 joins_more [] h c d e is = (d, [], ap (λ (l : List ℕ). l ++ d) e ∙ sym (append-nil d), is, refl)
 joins_more (g ∷ gs) h c d (c', rest, e, is, more) js =
     (c', rest ++ d, ap (λ (l : List ℕ). l ++ d) e ∙ append_assoc c' rest d, is, joins_more gs h rest d more js)
+
+-- blocks have 8 bytes at least
+pub blocks_fit : (hs : List HobForm) (b : List ℕ) → Joins hs b → 8 * length hs ≤ length b
+blocks_fit [] b join = omega arith
+blocks_fit (h ∷ hs) b (c, rest, e, is, more) = omega (arith, blocks_fit hs rest more, (is.block).least, ap length e, length-append c rest)
 
 pub others_more : (hs : List HobForm) (h : HobForm) → AllByRecursion IsNoEnd hs → IsNoEnd h → AllByRecursion IsNoEnd (hs ++ h ∷ [])
 others_more [] h all other = (other, tt)

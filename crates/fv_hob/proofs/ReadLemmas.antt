@@ -1,17 +1,18 @@
 -- What the loop over the blocks keeps, and what its ends say.
 use Rattle.std.proofs.Common.{◌≡◌, ◌≤◌, ℕ, ◌+◌, ◌-◌, List, [], ◌∷◌, ◌++◌, length, take, drop, refl, sym, ap, ◌∙◌, subst, arith, true, length-append, length-drop, append_assoc}
-use Rattle.std.specs.Prelude.{◌==◌}
+use Rattle.std.specs.Prelude.{◌==◌, ◌≢◌, Bool}
 use Rattle.std.specs.List.{AllByRecursion}
 use Rattle.std.proofs.lemmas.Bool.{eqb-true}
 use Rattle.std.proofs.lemmas.List.{take-append-drop, take_at, take_rest, length-take-le}
 use Rattle.std.proofs.Math.Seq.{take-add}
 use Rattle.fv_base.specs.Checks.{IsFirstFault}
-use Rattle.fv_base.proofs.CheckLemmas.{none_faulty, not_first}
-use Rattle.fv_hob.specs.Checks.{BlockStands, IsFirst, hob_checks}
+use Rattle.fv_base.proofs.CheckLemmas.{none_faulty, not_first, first_among}
+use Rattle.fv_hob.specs.Checks.{BlockStands, IsFirst, TableStands, hob_checks}
 use Rattle.fv_hob.specs.Hobs.{HobForm, IsHob, code_of}
 use Rattle.fv_hob.specs.Lists.{Begins, IsEnd, IsHobList, IsNoEnd, Joins}
 use Rattle.fv_hob.specs.declared.fault.HobFault.{HobFault}
 use Rattle.fv_hob.specs.declared.fault.HobFaultKind.{HobFaultKind}
+use Rattle.fv_hob.specs.declared.fault.HobFaultKind.TheVariants as kinds
 use Rattle.fv_hob.proofs.BlockLemmas.{checks_hold, code_is}
 use Rattle.fv_hob.proofs.ListLemmas.{joins_more, others_more, same_front}
 
@@ -84,6 +85,30 @@ first_here b items at kind offset k first place = record {
   place = place ∙ sym (length-take-le at b k.inside);
   kind_is = subst (λ (l : List ℕ). IsFirstFault (hob_checks (length items == 0) l) kind) (take_rest b at) first;
 }
+
+-- where a block was read, or is there to be read, the bytes begin with a table
+pub table_stands : (b : List ℕ) (items : List HobForm) (c : List ℕ) (at : ℕ) → Kept b items at → BlockStands (length items == 0) c (take (length b - at) (drop at b)) → TableStands b
+table_stands b [] c at k stands = (c, subst (λ (l : List ℕ). BlockStands true c l) (take_rest b at ∙ whole k.joined) stands) where
+  whole : take at b ≡ [] → drop at b ≡ b
+  whole e = ap (λ (l : List ℕ). l ++ drop at b) (sym e) ∙ take-append-drop at b
+table_stands b (h ∷ hs) c at k stands = go k.joined k.begins where
+  go : Joins (h ∷ hs) (take at b) → code_of h.kind ≡ 0x0001 → TableStands b
+  go (d, rest, e, is, more) begins = (
+    d,
+    record {
+      behind = rest ++ drop at b;
+      joined = sym (take-append-drop at b) ∙ ap (λ (l : List ℕ). l ++ drop at b) e ∙ append_assoc d rest (drop at b);
+      block = is.block;
+      begins = λ t. sym (code_is h d is) ∙ begins;
+    },
+  )
+
+-- the fault of a check is no want of memory
+pub no_want : (begins : Bool) (r : List ℕ) (kind : HobFaultKind) → IsFirstFault (hob_checks begins r) kind → kind ≢ kinds.OutOfMemory
+no_want begins r kind first =
+    let P : HobFaultKind → Type 0 = λ k. k ≢ kinds.OutOfMemory in
+    let all : AllByRecursion (λ c. P c.fault) (hob_checks begins r) = ((λ t. cc), ((λ t. cc), ((λ t. cc), ((λ t. cc), ((λ t. cc), ((λ t. cc), tt)))))) in
+    first_among P (hob_checks begins r) kind all first
 
 -- where there is a first fault the bytes begin with no list
 pub none_after : (b : List ℕ) (f : HobFault) (all : List HobForm) (d y : List ℕ) → IsFirst b f → IsHobList all d → b ≡ d ++ y → ⊥

@@ -1,5 +1,5 @@
 -- A block that was read is written as a block that says the same.
-use Rattle.std.proofs.Common.{◌≡◌, ◌≤◌, ℕ, zero, suc, ◌-◌, List, [], ◌∷◌, ◌++◌, length, take, drop, refl, sym, ap, ◌∙◌, subst, arith, Bool, true, false, length-append, append-nil, append_assoc}
+use Rattle.std.proofs.Common.{◌≡◌, ◌≤◌, ℕ, zero, suc, ◌+◌, ◌-◌, List, [], ◌∷◌, ◌++◌, length, take, drop, refl, sym, ap, ◌∙◌, subst, arith, Bool, true, false, length-append, append-nil, append_assoc}
 use Rattle.std.specs.Prelude.{◌==◌, ◌%◌, replicate}
 use Rattle.std.specs.List.{AllByRecursion, concat}
 use Rattle.std.proofs.lemmas.Bool.{eqb-true}
@@ -84,14 +84,32 @@ written_again h b is = go (le_at 0 2 b == 0xfffe) refl where
   go true e = subst (λ (l : List ℕ). IsHob h l) (sym (header h b (concat (body_of h.kind)) is ∙ ap (λ (l : List ℕ). take 8 b ++ l) (zeros e))) (zeroed h b is e)
   go false e = subst (λ (l : List ℕ). IsHob h l) (sym (kept_by h b is e)) is
 
+-- a block that is used is written as it was read
+pub block_kept : (h : HobForm) (b : List ℕ) → IsHob h b → IsUsed h → hob_spelled h ≡ b
+block_kept h b is used = kept_by h b is (not_equal (le_at 0 2 b) 0xfffe (λ f. used (code_is h b is ∙ f)))
+
+-- a block is written in as many bytes as it has
+pub spelled_len : (h : HobForm) (b : List ℕ) → IsHob h b → length (hob_spelled h) ≡ len_of h.kind
+spelled_len h b is = sym (len_is h (hob_spelled h) (written_again h b is))
+
 -- blocks that are used are written as they were read
 joins_kept : (hs : List HobForm) (b : List ℕ) → Joins hs b → AllByRecursion IsUsed hs → list_spelled hs ≡ b
 joins_kept [] b join used = sym join
 joins_kept (h ∷ hs) b (c, rest, e, is, more) used =
-    ap (λ (l : List ℕ). l ++ list_spelled hs) (kept_by h c is (not_equal (le_at 0 2 c) 0xfffe (λ f. used.0 (code_is h c is ∙ f)))) ∙ ap (λ (l : List ℕ). c ++ l) (joins_kept hs rest more used.1) ∙ sym e
+    ap (λ (l : List ℕ). l ++ list_spelled hs) (block_kept h c is used.0) ∙ ap (λ (l : List ℕ). c ++ l) (joins_kept hs rest more used.1) ∙ sym e
 
 pub list_kept : (all : List HobForm) (c : List ℕ) → IsHobList all c → AllByRecursion IsUsed all → list_spelled all ≡ c
 list_kept all c is used = joins_kept all c is.joined used
+
+-- and all in as many as they were read from
+joins_len : (hs : List HobForm) (b : List ℕ) → Joins hs b → length (list_spelled hs) ≡ length b
+joins_len [] b join = ap length (sym join)
+joins_len (h ∷ hs) b (c, rest, e, is, more) =
+    length-append (hob_spelled h) (list_spelled hs) ∙ ap (λ (n : ℕ). n + length (list_spelled hs)) (spelled_len h c is ∙ len_is h c is)
+    ∙ ap (λ (n : ℕ). length c + n) (joins_len hs rest more) ∙ sym (ap length e ∙ length-append c rest)
+
+pub list_len : (all : List HobForm) (b : List ℕ) → IsHobList all b → length (list_spelled all) ≡ length b
+list_len all b is = joins_len all b is.joined
 
 joins_again : (hs : List HobForm) (b : List ℕ) → Joins hs b → Joins hs (list_spelled hs)
 joins_again [] b join = refl

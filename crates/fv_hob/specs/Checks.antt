@@ -34,6 +34,10 @@ pub record BlockStands (first : Bool) (c r : List ℕ) : Type 0 where
   pub block : IsBlock c
   pub begins : first ≡ true → le_at 0 2 c ≡ 0x0001
 
+-- r begins with a hand-off information table (PHIT)
+abbrev pub TableStands : List ℕ → Type 0
+TableStands r = (c : List ℕ) × BlockStands true c r
+
 -- some blocks, none of them an end, are read up to the fault's offset, and there it is that of the first check that does not hold
 pub record IsFirst (b : List ℕ) (fault : HobFault) : Type 0 where
   pub before : List HobForm

@@ -2,7 +2,7 @@
 
 ghost use Rattle.std.specs.Prelude.{◌≡◌, ◌≢◌, ◌≤◌, ℕ, List, length, take, None, Some, IfOk, IfErr, OnOk};
 ghost use Rattle.fv_base.specs.Checks.{first_fault, IsFirstFault};
-ghost use Rattle.fv_hob.specs.Checks.{BlockStands, IsFirst, hob_checks, is_hob_len, want_of_memory};
+ghost use Rattle.fv_hob.specs.Checks.{BlockStands, IsFirst, TableStands, hob_checks, is_hob_len, want_of_memory};
 ghost use Rattle.fv_base.specs.Value.{le_at};
 ghost use Rattle.fv_hob.specs.Hobs.{HobForm};
 ghost use Rattle.fv_hob.specs.Lists.{IsHobList};
@@ -67,6 +67,7 @@ fn next_block(rest: &[u8], first: bool) -> Result<&[u8], HobFaultKind>
 fn read_blocks(alloc: Global, bytes: &[u8]) -> Result<(Vec<Hob>, usize), HobFault>
     ensures found { IfOk result (λ p. (p.1 ≤ length bytes.now) × IsHobList p.0.items (take p.1 bytes.now)) }
     ensures first { IfErr result (λ f. f ≢ want_of_memory → IsFirst bytes.now f) }
+    ensures memory { IfErr result (λ f. f ≡ want_of_memory → TableStands bytes.now) }
 {
     let mut hobs = Vec::new(alloc);
     let mut at = 0;
@@ -108,6 +109,9 @@ pub fn read_hobs(alloc: Global, bytes: &[u8]) -> Result<(HobList, u64), HobFault
 
     // A refusal, want of memory aside, names the first check that does not hold, at the first block that has one.
     ensures first { IfErr result (λ f. f ≢ want_of_memory → IsFirst bytes.now f) }
+
+    // Memory is wanting only where the bytes begin with a hand-off information table.
+    ensures memory { IfErr result (λ f. f ≡ want_of_memory → TableStands bytes.now) }
 {
     let (hobs, at) = read_blocks(alloc, bytes)?;
     Ok((HobList::from_vec(hobs), at as u64))

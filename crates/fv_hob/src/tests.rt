@@ -6,8 +6,8 @@ mod lengths;
 mod read;
 mod written;
 
-use crate::{HobFault, HobFaultKind};
-use std::alloc::Global;
+use crate::{HobFault, HobFaultKind, hob_bytes, read_hobs};
+use std::alloc::{AllocError, Global};
 use std::test::Fail;
 
 /// Blocks, or parts of them.
@@ -42,6 +42,9 @@ const LIST: Parts = &[
     &[0x01, 0x02, 0x03, 0x04, 0x05, 0x06, 0x07, 0x08],
     &END,
 ];
+
+/// The shortest list, of 64 bytes.
+const SHORTEST: Parts = &[&HANDOFF, &END];
 
 /// The bytes of a GUID.
 const A: [u8; 16] = [
@@ -122,52 +125,83 @@ const BEHIND: Parts = &[
     &[0xaa, 0xbb, 0xcc],
 ];
 
-/// The parts, joined.
-fn joined(alloc: Global, parts: &[&[u8]]) -> Result<Vec<u8>, HobFault> {
-    let mut bytes = Vec::new(alloc);
+/// Puts parts behind the bytes.
+fn push_parts(bytes: &mut Vec<u8>, parts: &[&[u8]]) -> Result<(), AllocError> {
     for part in parts {
         bytes.extend_from_slice(part)?;
     }
-    Ok(bytes)
+    Ok(())
 }
 
-/// The bytes, with others from a place on.
-fn changed(bytes: Vec<u8>, at: usize, part: &[u8]) -> Vec<u8> {
-    let mut bytes = bytes;
-    for (old, new) in bytes.iter_mut().skip(at).zip(part) {
-        *old = *new;
-    }
-    bytes
-}
-
-/// A block of this type with zeros behind its header, whose length field is as given.
-fn block(alloc: Global, code: u16, length: u16) -> Result<Vec<u8>, HobFault> {
+/// The parts, and more behind them, joined.
+fn joined(alloc: Global, parts: &[&[u8]], more: &[&[u8]]) -> Result<Vec<u8>, HobFault> {
     let mut bytes = Vec::new(alloc);
-    bytes.extend_from_slice(&code.to_le_bytes())?;
-    bytes.extend_from_slice(&length.to_le_bytes())?;
-    bytes.resize(usize::from(length.max(8)), 0)?;
+    push_parts(&mut bytes, parts)?;
+    push_parts(&mut bytes, more)?;
     Ok(bytes)
+}
+
+/// Puts a part over the bytes that stand from a place on.
+fn put(bytes: &mut [u8], at: usize, part: &[u8]) {
+    let mut place = at;
+    for byte in part {
+        if place < bytes.len() {
+            bytes[place] = *byte;
+            place += 1;
+        }
+    }
+}
+
+/// The type and the length field of a block.
+fn header(code: u16, length: u16) -> [u8; 4] {
+    let [code_low, code_high] = code.to_le_bytes();
+    let [length_low, length_high] = length.to_le_bytes();
+    [code_low, code_high, length_low, length_high]
+}
+
+/// The fault of the list that begins the bytes, if it is refused.
+fn fault_of(alloc: Global, bytes: &[u8]) -> Option<HobFault> {
+    match read_hobs(alloc, bytes) {
+        Ok((_list, _)) => None,
+        Err(fault) => Some(fault),
+    }
+}
+
+/// How many blocks the list has that begins the bytes, and how many bytes.
+fn counts(alloc: Global, bytes: &[u8]) -> Result<(usize, u64), HobFault> {
+    let (list, length) = read_hobs(alloc, bytes)?;
+    Ok((list.as_slice().len(), length))
+}
+
+/// Whether the list that begins the bytes is written as these.
+fn is_written_as(alloc: Global, bytes: &[u8], expected: &[u8]) -> Result<bool, HobFault> {
+    let (list, _) = read_hobs(alloc, bytes)?;
+    let written = hob_bytes(alloc, &list)?;
+    Ok(written.as_slice() == expected)
+}
+
+/// The kinds of faults, and their numbers.
+const KINDS: &[(HobFaultKind, u8)] = &[
+    (HobFaultKind::Short, 1),
+    (HobFaultKind::Length, 2),
+    (HobFaultKind::First, 3),
+    (HobFaultKind::Shape, 4),
+    (HobFaultKind::NoEnd, 5),
+    (HobFaultKind::OutOfMemory, 6),
+];
+
+#[test]
+fn faults_have_numbers(rt: HostRuntime) {
+    for (kind, number) in KINDS {
+        let kind = *kind;
+        assert_eq!(rt; kind.number(), *number);
+        assert_eq!(rt; HobFault { kind, offset: 0 }.number(), *number);
+        assert_eq!(rt; HobFault { kind, offset: 56 }.number(), *number);
+    }
 }
 
 #[test]
-fn faults_have_numbers_and_texts(rt: HostRuntime) -> Result<(), Fail> {
-    let kinds = [
-        HobFaultKind::Short,
-        HobFaultKind::Length,
-        HobFaultKind::First,
-        HobFaultKind::Shape,
-        HobFaultKind::NoEnd,
-        HobFaultKind::OutOfMemory,
-    ];
-    let mut number = 0u8;
-    for kind in kinds {
-        number = number.wrapping_add(1);
-        assert_eq!(rt; kind.number(), number, "{kind}");
-        for offset in [0, 56] {
-            assert_eq!(rt; HobFault { kind, offset }.number(), number, "{kind}");
-        }
-    }
-    assert_eq!(rt; number, 6);
+fn faults_have_texts(rt: HostRuntime) -> Result<(), Fail> {
     let fault = HobFault {
         kind: HobFaultKind::Shape,
         offset: 56,

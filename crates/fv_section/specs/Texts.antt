@@ -1,4 +1,4 @@
--- What some leaf sections hold (PI specification, volume 3, sections 3.2.5.15, 3.2.5.14 and 3.2.5.6).
+-- What some leaf sections hold (PI specification, volume 3, sections 3.2.5.14, 3.2.5.15 and 3.2.5.6).
 use Rattle.std.specs.Prelude.{◌≡◌, ◌≢◌, ℕ, ◌-◌, ◌%◌, ◌==◌, nat_le, ◌&&◌, not, Bool, List, [], ◌∷◌, ◌++◌, length, take, drop}
 use Rattle.std.specs.List.{AllByRecursion, list_all}
 use Rattle.fv_base.specs.Guids.{bytes_of}
@@ -21,9 +21,10 @@ pub record IsVersion (b : List ℕ) (build : ℕ) (text : List ℕ) : Type 0 whe
   pub spells : le number ≡ build
   pub is_text : IsText units text
 
--- b is a GUID and then other bytes
-abbrev pub IsFreeform : List ℕ → Guid → List ℕ → Type 0
-IsFreeform b guid rest = b ≡ bytes_of guid ++ rest
+-- b is a GUID of 16 bytes and then other bytes
+pub record IsFreeform (b : List ℕ) (guid : Guid) (rest : List ℕ) : Type 0 where
+  pub joined : b ≡ bytes_of guid ++ rest
+  pub whole : length (bytes_of guid) ≡ 16
 
 -- the tests for a text
 abbrev pub none_zero : List ℕ → Bool

@@ -1,6 +1,6 @@
 //! A stream, split into its frames.
 
-ghost use Rattle.std.specs.Prelude.{◌≡◌, ◌≢◌, ◌+◌, ◌-◌, ◌≤◌, min, ℕ, List, length, IfOk, IfErr};
+ghost use Rattle.std.specs.Prelude.{◌≡◌, ◌≢◌, ◌+◌, ◌-◌, ◌<◌, ◌≤◌, min, ℕ, List, length, IfOk, IfErr};
 ghost use Rattle.fv_base.specs.Faults.{want_of_memory};
 ghost use Rattle.fv_section.specs.FrameChecks.{IsFirst};
 ghost use Rattle.fv_section.specs.Frames.{FrameForm, AllWithin, Splits, size, up_to_4};
@@ -36,6 +36,7 @@ fn frames_in(alloc: Global, stream: &[u8]) -> Result<Frames<'_>, Fault>
     ensures found { IfOk result (λ s. Splits s.0 s.1 stream.now) }
     ensures first { IfErr result (λ f. f ≢ want_of_memory → IsFirst stream.now f) }
     ensures bound { IfErr result (λ f. f.place.offset ≤ length stream.now) }
+    ensures some { IfErr result (λ _. 0 < length stream.now) }
 {
     let mut list = Vec::new(alloc);
     let mut tail = 0;
@@ -72,6 +73,9 @@ pub fn frames(alloc: Global, stream: &[u8]) -> Result<Frames<'_>, Fault>
     // Frames and faults lie within the stream.
     ensures lies { IfOk result (λ s. AllWithin (length stream.now) s.0) }
     ensures bound { IfErr result (λ f. f.place.offset ≤ length stream.now) }
+
+    // A stream of no bytes is not refused, not even for want of memory.
+    ensures some { IfErr result (λ _. 0 < length stream.now) }
 {
     frames_in(alloc, stream)
 }

@@ -1,7 +1,6 @@
 //! What some leaf sections hold.
 
-ghost use Rattle.std.specs.Prelude.{◌≡◌, ℕ, List, length, IfSome, IfNone};
-ghost use Rattle.fv_base.specs.Guids.{bytes_of};
+ghost use Rattle.std.specs.Prelude.{◌≡◌, ℕ, List, IfSome, IfNone};
 ghost use Rattle.fv_base.specs.Sums.{words_of};
 ghost use Rattle.fv_section.specs.Texts.{IsText, IsVersion, IsFreeform, none_zero, is_text};
 
@@ -35,7 +34,7 @@ fn is_text(bytes: &[u8]) -> bool
 
 /// The text of a user interface section's body: its 16-bit units before the zero unit that ends
 /// it, in bytes. None where the body has an odd number of bytes, or its last unit is not the only
-/// one that is zero. Takes no memory. (PI specification, volume 3, section 3.2.5.15.)
+/// one that is zero. Takes no memory. (PI specification, volume 3, section 3.2.5.14.)
 pub fn ui_text(body: &[u8]) -> Option<&[u8]>
     ensures found { IfSome result (λ text. IsText body.now text.now) }
     ensures none { IfNone result ((text : List ℕ) → IsText body.now text → ⊥) }
@@ -49,7 +48,7 @@ pub fn ui_text(body: &[u8]) -> Option<&[u8]>
 
 /// The build number and the text of a version section's body. None where the body is no number of
 /// 2 bytes and a text with its zero unit. Takes no memory. (PI specification, volume 3, section
-/// 3.2.5.14.)
+/// 3.2.5.15.)
 pub fn version(body: &[u8]) -> Option<(u16, &[u8])>
     ensures found { IfSome result (λ v. IsVersion body.now v.0 v.1.now) }
     ensures none { IfNone result ((build : ℕ) (text : List ℕ) → IsVersion body.now build text → ⊥) }
@@ -66,7 +65,7 @@ pub fn version(body: &[u8]) -> Option<(u16, &[u8])>
 /// fewer than 16 bytes. Takes no memory. (PI specification, volume 3, section 3.2.5.6.)
 pub fn freeform(body: &[u8]) -> Option<(Guid, &[u8])>
     ensures found { IfSome result (λ v. IsFreeform body.now v.0 v.1.now) }
-    ensures none { IfNone result ((guid : Guid) (rest : List ℕ) → length (bytes_of guid) ≡ 16 → IsFreeform body.now guid rest → ⊥) }
+    ensures none { IfNone result ((guid : Guid) (rest : List ℕ) → IsFreeform body.now guid rest → ⊥) }
 {
     if body.len() < 16 {
         return None;

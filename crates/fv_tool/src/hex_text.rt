@@ -1,6 +1,7 @@
 //! Hexadecimal text as an input: the digits of either case, with white space between them.
 
 ghost use Rattle.std.specs.Prelude.{◌<◌, ◌≤◌, IfOk, IfErr, vec_len};
+ghost use Rattle.fv_base.specs.Limits.{volume_limit};
 ghost use Rattle.fv_tool.specs.Text.{IsTextFault};
 
 use fv_base::limits::{READ_LIMIT, TEXT_LIMIT, TEXT_TURNS, VOLUME_LIMIT};
@@ -23,7 +24,7 @@ struct Decoder {
     /// Whether there were more bytes than a volume has.
     is_long: bool,
     ghost room: { waiting < 64 },
-    ghost kept: { vec_len bytes ≤ 268435456 },
+    ghost kept: { vec_len bytes ≤ volume_limit },
 }
 
 impl Decoder {
@@ -80,7 +81,7 @@ impl Decoder {
 
     /// The bytes of the whole text.
     fn finish(mut self) -> Result<Vec<u8>, Fault>
-        ensures small { IfOk result (λ v. vec_len v ≤ VOLUME_LIMIT) }
+        ensures small { IfOk result (λ v. vec_len v ≤ volume_limit) }
         ensures err { IfErr result IsTextFault }
     {
         let count = self.waiting;
@@ -111,7 +112,7 @@ impl Decoder {
 /// Length at the limit of a volume, where the text or what it decodes to is too long; ReadFault
 /// at 0, where the text is no even number of digits; OutOfMemory.
 pub fn read_hex<R: Read>(alloc: Global, reader: &mut Port<R>) -> Result<Vec<u8>, Fault>
-    ensures small { IfOk result (λ v. vec_len v ≤ VOLUME_LIMIT) }
+    ensures small { IfOk result (λ v. vec_len v ≤ volume_limit) }
     ensures err { IfErr result IsTextFault }
 {
     let mut chunk = vec![in alloc; 0u8; READ_LIMIT]?;

@@ -5,6 +5,7 @@ mod commands;
 mod hex_lines;
 mod hex_text;
 mod hobs;
+mod options;
 mod source;
 #[cfg(test)]
 mod tests;
@@ -15,7 +16,6 @@ ghost use Rattle.std.specs.Prelude.{◌≡◌, ◌⊎◌};
 use commands::{Status, refuse, run_plan, say};
 use fv_base::{Fault, FaultKind, Port};
 use source::{Source, open};
-use std::alloc::{AllocError, Global};
 use std::io::{BufWriter, Write};
 use std::process::ExitCode;
 use std::rt::{Env, Files};
@@ -24,12 +24,11 @@ use words::{Plan, WordFault, parse_words};
 
 /// The words that the program was started with.
 fn arguments<R: Env + AllocGlobal>(rt: &R) -> Result<Vec<String>, WordFault> {
-    let Ok(given) = env::args(rt) else {
-        return Err(WordFault::Words);
-    };
     let mut words = Vec::new(rt.alloc());
-    for word in given {
-        words.push(word).map_err(AllocError::from)?;
+    for word in env::args(rt)? {
+        if words.push(word).is_err() {
+            return Err(WordFault::OutOfMemory);
+        }
     }
     Ok(words)
 }

@@ -4,84 +4,91 @@ mod answers;
 mod cut_short;
 mod fakes;
 mod hobs;
+mod limits;
+mod runs;
 mod vectors;
+mod words;
 
 use crate::close;
-use crate::commands::{Status, run_plan, say};
+use crate::commands::{Status, say};
 use crate::hex_lines::HexLines;
 use crate::hex_text::read_hex;
-use crate::words::{Command, Plan, parse_words};
 use fakes::{EndlessReader, FakeReader, FakeWriter};
 use fv_base::limits::VOLUME_LIMIT;
 use fv_base::{Fault, FaultKind, Port};
-use std::alloc::{AllocError, Global};
-use std::io::{BufWriter, Write};
+use runs::{ends_as, normalise_plan, stops_at_each_byte};
+use std::alloc::Global;
+use std::io::{BufWriter, Read, Write};
 use std::test::Fail;
 
 const STEPS: [usize; 3] = [1, 3, 65_536];
 
-fn text_read(
-    alloc: Global,
-    text: &[u8],
-    step: usize,
-    is_interrupted: bool,
-) -> Result<Vec<u8>, Fault> {
-    let reader = FakeReader::new(text, step, is_interrupted);
-    read_hex(alloc, &mut Port::new(reader))
-}
-
-#[test]
-fn reads_text(rt: HostRuntime) -> Result<(), Fail> {
-    let cases = [
-        (&b""[..], &b""[..]),
-        (&b" \t\r\n"[..], &b""[..]),
-        (&b"00"[..], &b"\x00"[..]),
-        (
-            &b"0123456789abcdef"[..],
-            &b"\x01\x23\x45\x67\x89\xab\xcd\xef"[..],
-        ),
-        (&b"ABCDEFabCDef"[..], &b"\xab\xcd\xef\xab\xcd\xef"[..]),
-        (&b"\n0\n1\t2 \r\n3"[..], &b"\x01\x23"[..]),
-    ];
-    for (text, bytes) in cases {
-        for step in STEPS {
-            for is_interrupted in [false, true] {
-                let read = text_read(rt.alloc(), text, step, is_interrupted)?;
-                assert_eq!(rt; read.as_slice(), bytes, "{step} {is_interrupted} {text:?}");
+/// Whether the text is read as the bytes, whatever its reader gives at once.
+fn is_read_as(alloc: Global, text: &[u8], bytes: &[u8]) -> bool {
+    for step in STEPS {
+        for is_interrupted in [false, true] {
+            let reader = FakeReader::new(text, step, is_interrupted);
+            match read_hex(alloc, &mut Port::new(reader)) {
+                Ok(read) if read.as_slice() == bytes => {}
+                _ => return false,
             }
         }
     }
-    Ok(())
+    true
+}
+
+#[test]
+fn reads_text(rt: HostRuntime) {
+    let cases: [(&[u8], &[u8]); 6] = [
+        (b"", b""),
+        (b" \t\r\n", b""),
+        (b"00", b"\x00"),
+        (b"0123456789abcdef", b"\x01\x23\x45\x67\x89\xab\xcd\xef"),
+        (b"ABCDEFabCDef", b"\xab\xcd\xef\xab\xcd\xef"),
+        (b"\n0\n1\t2 \r\n3", b"\x01\x23"),
+    ];
+    for (text, bytes) in cases {
+        assert!(rt; is_read_as(rt.alloc(), text, bytes), "{text:?}");
+    }
 }
 
 #[test]
 fn reads_the_text_of_a_volume(rt: HostRuntime) -> Result<(), Fail> {
     for step in STEPS {
-        let read = text_read(rt.alloc(), vectors::EMPTY, step, true)?;
-        assert_eq!(rt; read.len(), 128);
-        assert_eq!(rt; read.get(40..44), Some(b"_FVH".as_slice()));
+        let reader = FakeReader::new(vectors::EMPTY, step, true);
+        let read = read_hex(rt.alloc(), &mut Port::new(reader))?;
+        assert!(rt; read.len() == 128);
+        assert!(rt; read.get(40..44) == Some(b"_FVH".as_slice()));
     }
     Ok(())
 }
 
+/// Whether the reading of text stops with the fault.
+fn stops_with<R: Read + Drop>(alloc: Global, reader: R, fault: Fault) -> bool {
+    match read_hex(alloc, &mut Port::new(reader)) {
+        Ok(_) => false,
+        Err(other) => other == fault,
+    }
+}
+
 #[test]
 fn refuses_text(rt: HostRuntime) {
-    let wrong = Some(Fault::outer(FaultKind::ReadFault, 0));
-    let texts = [
-        &b"0"[..],
-        &b"000"[..],
-        &b"00 f"[..],
-        &b"0g"[..],
-        &b"g0"[..],
-        &b"00\x0b00"[..],
-        &b"0x00"[..],
-        &b"00\x00"[..],
-        &b"\x80\xff"[..],
+    let wrong = Fault::outer(FaultKind::ReadFault, 0);
+    let texts: [&[u8]; 9] = [
+        b"0",
+        b"000",
+        b"00 f",
+        b"0g",
+        b"g0",
+        b"00\x0b00",
+        b"0x00",
+        b"00\x00",
+        b"\x80\xff",
     ];
     for text in texts {
         for step in STEPS {
-            let fault = text_read(rt.alloc(), text, step, false).err();
-            assert_eq!(rt; fault, wrong, "{text:?}");
+            let reader = FakeReader::new(text, step, false);
+            assert!(rt; stops_with(rt.alloc(), reader, wrong), "{text:?}");
         }
     }
 }
@@ -91,9 +98,8 @@ fn text_stops_where_the_reader_does(rt: HostRuntime) {
     for count in 0..=vectors::EMPTY.len() {
         for step in STEPS {
             let reader = FakeReader::failing(vectors::EMPTY, step, count);
-            let fault = read_hex(rt.alloc(), &mut Port::new(reader)).err();
-            let wanted = Some(Fault::outer(FaultKind::ReadFault, count as u64));
-            assert_eq!(rt; fault, wanted);
+            let fault = Fault::outer(FaultKind::ReadFault, count as u64);
+            assert!(rt; stops_with(rt.alloc(), reader, fault), "{count}");
         }
     }
 }
@@ -101,194 +107,97 @@ fn text_stops_where_the_reader_does(rt: HostRuntime) {
 // Text that is wrong too.
 #[test]
 fn text_without_end_is_too_long(rt: HostRuntime) {
-    let fault = read_hex(rt.alloc(), &mut Port::new(EndlessReader)).err();
-    assert_eq!(rt; fault, Some(Fault::outer(FaultKind::Length, VOLUME_LIMIT)));
+    let fault = Fault::outer(FaultKind::Length, VOLUME_LIMIT);
+    assert!(rt; stops_with(rt.alloc(), EndlessReader, fault));
+}
+
+const FULL: &[u8] = b"ABCDEFGHIJKLMNOPQRSTUVWXYZabcdef";
+
+const FULL_LINE: &[u8] = b"4142434445464748494a4b4c4d4e4f505152535455565758595a616263646566\n";
+
+const THREE_LINES_AND_2_BYTES: &[u8] = b"\
+4142434445464748494a4b4c4d4e4f505152535455565758595a616263646566\n\
+4142434445464748494a4b4c4d4e4f505152535455565758595a616263646566\n\
+4142434445464748494a4b4c4d4e4f505152535455565758595a616263646566\n\
+0abc\n\
+";
+
+/// Writes copies of a line's bytes, and the last bytes.
+fn write_copies(port: &mut Port<FakeWriter>, copies: u32, last: &[u8]) -> Result<(), Fail> {
+    let mut lines = HexLines::new(port);
+    for _copy in 0..copies {
+        lines.write_all(FULL)?;
+    }
+    lines.write_all(last)?;
+    lines.finish()?;
+    Ok(())
 }
 
 #[test]
 fn writes_lines(rt: HostRuntime) -> Result<(), Fail> {
-    let full = b"ABCDEFGHIJKLMNOPQRSTUVWXYZabcdef";
-    let full_line = "4142434445464748494a4b4c4d4e4f505152535455565758595a616263646566\n";
-    for (copies, last) in [
-        (0, &b""[..]),
-        (0, &b"\xff"[..]),
-        (1, &b""[..]),
-        (3, &b"\x0a\xbc"[..]),
-    ] {
+    let cases: [(u32, &[u8], &[u8]); 4] = [
+        (0, b"", b""),
+        (0, b"\xff", b"ff\n"),
+        (1, b"", FULL_LINE),
+        (3, b"\x0a\xbc", THREE_LINES_AND_2_BYTES),
+    ];
+    for (copies, last, wanted) in cases {
         for step in STEPS {
             let mut port = Port::new(FakeWriter::new(rt.alloc(), step, 1000, true));
-            let mut lines = HexLines::new(&mut port);
-            let mut wanted = String::new(rt.alloc());
-            for _copy in 0..copies {
-                lines.write_all(full)?;
-                wanted.push_str(full_line)?;
-            }
-            lines.write_all(last)?;
-            lines.finish()?;
-            if !last.is_empty() {
-                wanted.push_str(hex::encode(rt.alloc(), last)?.as_str())?;
-                wanted.push_str("\n")?;
-            }
-            let writer = port.into_inner();
-            assert_eq!(rt; writer.taken.as_slice(), wanted.as_bytes());
+            write_copies(&mut port, copies, last)?;
+            assert!(rt; port.into_inner().took(wanted), "{copies} {last:?}");
         }
     }
     Ok(())
 }
 
-fn plan_shown(alloc: Global, given: &[&str]) -> Result<String, AllocError> {
-    let mut words = Vec::new(alloc);
-    for word in given {
-        words.push(String::from_str(alloc, word)?)?;
-    }
-    match parse_words(alloc, &words) {
-        Ok(plan) => format!(in alloc; "{plan:?}"),
-        Err(fault) => format!(in alloc; "{fault:?}"),
-    }
-}
-
 #[test]
-fn reads_words(rt: HostRuntime) -> Result<(), Fail> {
-    let hex_input = "Plan { hex: true, command: Normalise { file: None } }";
-    let hex_file = "Plan { hex: true, command: Normalise { file: Some(\"a.txt\") } }";
-    let input = "Plan { hex: false, command: Normalise { file: None } }";
-    let file = "Plan { hex: false, command: Normalise { file: Some(\"a.fv\") } }";
-    let list_input = "Plan { hex: false, command: Hobs { file: None, image: None } }";
-    let list_hex_file = "Plan { hex: true, command: Hobs { file: Some(\"a.hob\"), image: None } }";
-    let list_and_image =
-        "Plan { hex: false, command: Hobs { file: Some(\"a.hob\"), image: Some(ImageFile { path: \"a.fv\", base: 16711680 }) } }";
-    let list_and_top =
-        "Plan { hex: false, command: Hobs { file: None, image: Some(ImageFile { path: \"a.fv\", base: 18446744073709551615 }) } }";
-    let cases = [
-        (&[][..], hex_input),
-        (&["fv"][..], hex_input),
-        (&["fv", "normalise"][..], input),
-        (&["fv", "normalise", "--hex"][..], hex_input),
-        (&["fv", "normalise", "a.fv"][..], file),
-        (&["fv", "normalise", "--hex", "a.txt"][..], hex_file),
-        (&["fv", "normalise", "a.txt", "--hex"][..], hex_file),
-        (&["fv", "hobs"][..], list_input),
-        (&["fv", "hobs", "a.hob", "--hex"][..], list_hex_file),
-        (
-            &[
-                "fv", "hobs", "--image", "a.fv", "--base", "16711680", "a.hob",
-            ][..],
-            list_and_image,
-        ),
-        (
-            &[
-                "fv",
-                "hobs",
-                "--base",
-                "18446744073709551615",
-                "--image=a.fv",
-            ][..],
-            list_and_top,
-        ),
-        (&["fv", "hobs", "--image", "a.fv"][..], "Words"),
-        (&["fv", "hobs", "--base", "1"][..], "Words"),
-        (&["fv", "hobs", "--base", "1", "a.hob"][..], "Words"),
-        (&["fv", "hobs", "--image", "a.fv", "--base"][..], "Words"),
-        (
-            &["fv", "hobs", "--image", "a.fv", "--base", "x"][..],
-            "Words",
-        ),
-        (&["fv", "hobs", "--image", "a.fv", "--base=-1"][..], "Words"),
-        (
-            &[
-                "fv",
-                "hobs",
-                "--image",
-                "a.fv",
-                "--base",
-                "18446744073709551616",
-            ][..],
-            "Words",
-        ),
-        (&["fv", "hobs", "a.hob", "b.hob"][..], "Words"),
-        (&["fv", "normalise", "a.fv", "b.fv"][..], "Words"),
-        (&["fv", "normalise", "--base", "1"][..], "Words"),
-        (&["fv", "normalise", "--flag"][..], "Words"),
-        (&["fv", "normalise", "--help"][..], "Words"),
-        (&["fv", "--hex"][..], "Words"),
-        (&["fv", "list"][..], "Words"),
-        (&["fv", "help"][..], "Words"),
-        (&["fv", "--help"][..], "Words"),
-        (&["fv", "--version"][..], "Words"),
-        (&["fv", ""][..], "Words"),
-    ];
-    for (words, wanted) in cases {
-        let shown = plan_shown(rt.alloc(), words)?;
-        assert_eq!(rt; shown.as_str(), wanted, "{words:?}");
-    }
-    Ok(())
-}
-
-fn plan_of(hex: bool) -> Plan {
-    Plan {
-        hex,
-        command: Command::Normalise { file: None },
-    }
-}
-
-#[test]
-fn writes_the_image_or_the_fault(rt: HostRuntime) -> Result<(), Fail> {
-    let cases = [
+fn writes_the_image_or_the_fault(rt: HostRuntime) {
+    let cases: [(bool, &[u8], &[u8], Status); 5] = [
         (true, vectors::EMPTY, vectors::EMPTY, Status::Done),
-        (true, &b""[..], &b"fault 1 at 0\n"[..], Status::Refused),
-        (true, &b"00 FF"[..], &b"fault 1 at 2\n"[..], Status::Refused),
-        (true, &b"0g"[..], &b"fault 25 at 0\n"[..], Status::Refused),
-        (false, &b"00"[..], &b"fault 1 at 2\n"[..], Status::Refused),
+        (true, b"", b"fault 1 at 0\n", Status::Refused),
+        (true, b"00 FF", b"fault 1 at 2\n", Status::Refused),
+        (true, b"0g", b"fault 25 at 0\n", Status::Refused),
+        (false, b"00", b"fault 1 at 2\n", Status::Refused),
     ];
     for (hex, input, wanted, status) in cases {
-        let mut first = Port::new(input);
-        let mut second = Port::new(&b""[..]);
-        let mut writer = Port::new(Vec::<u8>::new(rt.alloc()));
-        let ended = run_plan(
-            rt.alloc(),
-            &plan_of(hex),
-            &mut first,
-            &mut second,
-            &mut writer,
+        let plan = normalise_plan(hex);
+        assert!(rt;
+            ends_as(rt.alloc(), &plan, (input, b""), status, wanted),
+            "{input:?}"
         );
-        assert_eq!(rt; ended, status, "{input:?}");
-        let written = writer.into_inner();
-        assert_eq!(rt; written.as_slice(), wanted, "{input:?}");
     }
-    Ok(())
 }
 
 #[test]
-fn a_failed_write_is_the_last(rt: HostRuntime) -> Result<(), Fail> {
-    let refusal = &b"fault 25 at 0\n"[..];
-    for (input, output) in [(vectors::EMPTY, vectors::EMPTY), (&b"0g"[..], refusal)] {
-        for room in 0..output.len() {
-            for (step, is_broken) in [(7, false), (7, true), (1000, true)] {
-                let mut first = Port::new(input);
-                let mut second = Port::new(&b""[..]);
-                let mut writer = Port::new(FakeWriter::new(rt.alloc(), step, room, is_broken));
-                let plan = plan_of(true);
-                let status = run_plan(rt.alloc(), &plan, &mut first, &mut second, &mut writer);
-                assert_eq!(rt; status, Status::Refused);
-                let writer = writer.into_inner();
-                assert_eq!(rt; writer.late_calls, 0);
-                assert_eq!(rt; Some(writer.taken.as_slice()), output.get(..room));
-            }
-        }
+fn a_failed_write_is_the_last(rt: HostRuntime) {
+    let plan = normalise_plan(true);
+    let cases: [(&[u8], &[u8]); 2] = [
+        (vectors::EMPTY, vectors::EMPTY),
+        (b"0g", b"fault 25 at 0\n"),
+    ];
+    for (input, output) in cases {
+        assert!(rt; stops_at_each_byte(rt.alloc(), &plan, (input, b""), output));
     }
-    Ok(())
+}
+
+/// How a run ends that says that its words are wrong.
+fn closed_after(alloc: Global, inner: &mut FakeWriter) -> Result<Status, Fail> {
+    let mut writer = Port::new(BufWriter::new(alloc, inner)?);
+    let status = say(&mut writer, "wrong words\n", Status::WrongWords);
+    Ok(close(writer, status))
 }
 
 #[test]
 fn closes_once(rt: HostRuntime) -> Result<(), Fail> {
-    for (room, wanted) in [(12, Status::WrongWords), (11, Status::Refused)] {
+    let cases: [(usize, &[u8], Status); 2] = [
+        (12, b"wrong words\n", Status::WrongWords),
+        (11, b"wrong words", Status::Refused),
+    ];
+    for (room, wanted, ended) in cases {
         let mut inner = FakeWriter::new(rt.alloc(), 5, room, true);
-        let mut writer = Port::new(BufWriter::new(rt.alloc(), &mut inner)?);
-        let status = say(&mut writer, "wrong words\n", Status::WrongWords);
-        let status = close(writer, status);
-        assert_eq!(rt; status, wanted);
-        assert_eq!(rt; inner.late_calls, 0);
-        assert_eq!(rt; Some(inner.taken.as_slice()), b"wrong words\n".get(..room));
+        assert!(rt; closed_after(rt.alloc(), &mut inner)? == ended);
+        assert!(rt; inner.took(wanted), "{room}");
     }
     Ok(())
 }

@@ -3,9 +3,10 @@
 ghost use Rattle.std.specs.Prelude.{◌≡◌, ◌≤◌, length, Ok};
 ghost use Rattle.fv_tool.specs.Words.{plan_without_words};
 
-use clap::error::ErrorKind;
-use clap::{Arg, ArgAction, ArgMatches, value_parser};
+use crate::options::parse_given;
 use std::alloc::{AllocError, Global};
+use std::io;
+use std::io::ErrorKind;
 
 /// What a line of words asks for.
 #[derive(Debug, Drop)]
@@ -78,65 +79,13 @@ impl From<AllocError> for WordFault {
     }
 }
 
-impl From<clap::Error> for WordFault {
-    fn from(error: clap::Error) -> WordFault {
+impl From<io::Error> for WordFault {
+    fn from(error: io::Error) -> WordFault {
         if error.kind() == ErrorKind::OutOfMemory {
             WordFault::OutOfMemory
         } else {
             WordFault::Words
         }
-    }
-}
-
-/// The flag that inputs and image are text.
-fn hex_flag<'a>(alloc: Global) -> Arg<'a> {
-    Arg::new(alloc, "hex")
-        .long("hex")
-        .action(ArgAction::SetTrue)
-}
-
-/// The words of `normalise`.
-fn normalise_words<'a>(alloc: Global) -> Result<clap::Command<'a>, AllocError> {
-    clap::Command::new(alloc, "normalise")
-        .arg(hex_flag(alloc))?
-        .arg(Arg::new(alloc, "file"))
-}
-
-/// The words of `hobs`.
-fn hobs_words<'a>(alloc: Global) -> Result<clap::Command<'a>, AllocError> {
-    let image = Arg::new(alloc, "image").long("image").requires_arg("base")?;
-    let base = Arg::new(alloc, "base")
-        .long("base")
-        .value_parser(value_parser!(u64))
-        .requires_arg("image")?;
-    clap::Command::new(alloc, "hobs")
-        .arg(hex_flag(alloc))?
-        .arg(image)?
-        .arg(base)?
-        .arg(Arg::new(alloc, "file"))
-}
-
-/// The word of an argument, if it was given.
-fn file_of(
-    alloc: Global,
-    matches: &ArgMatches<'_>,
-    name: &str,
-) -> Result<Option<String>, AllocError> {
-    match matches.get_str(name) {
-        Some(path) => Ok(Some(String::from_str(alloc, path)?)),
-        None => Ok(None),
-    }
-}
-
-/// The image that was named.
-fn image_of(alloc: Global, matches: &ArgMatches<'_>) -> Result<Option<ImageFile>, WordFault> {
-    match (matches.get_str("image"), matches.get_one::<u64>("base")) {
-        (None, None) => Ok(None),
-        (Some(path), Some(base)) => Ok(Some(ImageFile {
-            path: String::from_str(alloc, path)?,
-            base,
-        })),
-        _ => Err(WordFault::Words),
     }
 }
 
@@ -151,26 +100,5 @@ pub fn parse_words(alloc: Global, words: &[String]) -> Result<Plan, WordFault>
             command: Command::Normalise { file: None },
         });
     }
-    let command = clap::Command::new(alloc, "fvtool")
-        .subcommand(normalise_words(alloc)?)?
-        .subcommand(hobs_words(alloc)?)?;
-    let matches = command.try_get_matches_from(words)?;
-    if let Some(inner) = matches.subcommand_matches("normalise") {
-        return Ok(Plan {
-            hex: inner.get_flag("hex"),
-            command: Command::Normalise {
-                file: file_of(alloc, inner, "file")?,
-            },
-        });
-    }
-    if let Some(inner) = matches.subcommand_matches("hobs") {
-        return Ok(Plan {
-            hex: inner.get_flag("hex"),
-            command: Command::Hobs {
-                file: file_of(alloc, inner, "file")?,
-                image: image_of(alloc, inner)?,
-            },
-        });
-    }
-    Err(WordFault::Words)
+    parse_given(alloc, words)
 }

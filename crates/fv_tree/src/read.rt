@@ -3,6 +3,8 @@
 ghost use Rattle.std.specs.Prelude.{◌≡◌, ◌⊎◌, ◌≤◌, ℕ, length, take, IfOk, IfErr};
 ghost use Rattle.fv_base.specs.Checks.{IsFirstFault};
 ghost use Rattle.fv_base.specs.Faults.{want_of_memory};
+ghost use Rattle.fv_head.specs.Head.{HeadFields, Front};
+ghost use Rattle.fv_head.specs.declared.extent.Extent.{Extent};
 ghost use Rattle.fv_tree.specs.Meaning.{Meaning, Denotes};
 ghost use Rattle.fv_tree.specs.VolumeChecks.{volume_checks};
 
@@ -30,6 +32,9 @@ pub fn read_volume(alloc: Global, bytes: &[u8]) -> Result<(VolumeView<'_>, u64),
 
     // A refusal names the first check that does not hold.
     ensures first { IfErr result (λ f. (f ≡ want_of_memory) ⊎ IsFirstFault (volume_checks bytes.now) f) }
+
+    // Memory is wanted only where they begin with the header of a volume.
+    ensures memory { IfErr result (λ f. f ≡ want_of_memory → (h : HeadFields) × (e : Extent) × Front h e bytes.now) }
 {
     let (head, extent) = read_head(alloc, bytes)?;
     check(head.ext().is_none(), FaultKind::ExtHeader, 52)?;

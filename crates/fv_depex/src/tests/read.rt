@@ -1,8 +1,8 @@
 //! Expressions that are read, and those that are refused.
 
-use super::{A, B, Parts, joined, long};
+use super::{A, B, ORDER, Parts, fault_of, joined, long};
 use crate::{DepexFault, DepexFaultKind, Op, Phase, read_depex};
-use fv_base::Guid;
+use std::alloc::Global;
 use std::test::Fail;
 
 /// PUSH A, NOT and END: true where A is not installed.
@@ -12,7 +12,7 @@ const NOT_A: [u8; 19] = [
 ];
 
 /// The phase, the body, and then the fault.
-const FAULTS: [(Phase, Parts, DepexFaultKind, u64); 24] = [
+const FAULTS: &[(Phase, Parts, DepexFaultKind, u64)] = &[
     // No bytes, or none behind an op.
     (Phase::Dxe, &[], DepexFaultKind::NoEnd, 0),
     (Phase::Dxe, &[&[0x06]], DepexFaultKind::NoEnd, 1),
@@ -85,103 +85,188 @@ const FAULTS: [(Phase, Parts, DepexFaultKind, u64); 24] = [
     (Phase::Dxe, &[&[0x06, 0x06, 0x08]], DepexFaultKind::Stack, 2),
 ];
 
+/// An op: its code, and the bytes of its GUID if it carries one.
+type Shown = (u8, &'static [u8]);
+
+/// The phase, the body, its ops, and the bytes behind END.
+const READ: &[(Phase, Parts, &[Shown], &[u8])] = &[
+    (
+        Phase::Dxe,
+        &[&NOT_A],
+        &[(0x02, &A), (0x05, &[]), (0x08, &[])],
+        &[],
+    ),
+    (
+        Phase::Pei,
+        &[&NOT_A],
+        &[(0x02, &A), (0x05, &[]), (0x08, &[])],
+        &[],
+    ),
+    (
+        Phase::Dxe,
+        &[&[0x06, 0x08, 0xff, 0xff]],
+        &[(0x06, &[]), (0x08, &[])],
+        &[0xff, 0xff],
+    ),
+    // SOR first, and a second expression behind END.
+    (
+        Phase::Dxe,
+        &[&[0x09, 0x07, 0x08, 0x06, 0x08]],
+        &[(0x09, &[]), (0x07, &[]), (0x08, &[])],
+        &[0x06, 0x08],
+    ),
+    (
+        Phase::Dxe,
+        &[&[0x00], &A, &[0x08]],
+        &[(0x00, &A), (0x08, &[])],
+        &[],
+    ),
+    (
+        Phase::Dxe,
+        &[&[0x01], &B, &[0x08, 0x00]],
+        &[(0x01, &B), (0x08, &[])],
+        &[0x00],
+    ),
+    (
+        Phase::Dxe,
+        &[&[0x02], &A, &[0x02], &B, &[0x03, 0x08]],
+        &[(0x02, &A), (0x02, &B), (0x03, &[]), (0x08, &[])],
+        &[],
+    ),
+    (
+        Phase::Pei,
+        &[&[0x02], &B, &[0x02], &A, &[0x04, 0x08]],
+        &[(0x02, &B), (0x02, &A), (0x04, &[]), (0x08, &[])],
+        &[],
+    ),
+    // A GUID keeps the order of its bytes.
+    (
+        Phase::Pei,
+        &[&[0x02], &ORDER, &[0x08]],
+        &[(0x02, &ORDER), (0x08, &[])],
+        &[],
+    ),
+];
+
+/// Whether an op carries the GUID of these bytes, or none where there are no bytes.
+fn has_operand(op: &Op, operand: &[u8]) -> bool {
+    match op {
+        Op::Before(guid) | Op::After(guid) | Op::Push(guid) => {
+            let bytes = guid.to_bytes();
+            bytes.as_slice() == operand
+        }
+        _ => operand.is_empty(),
+    }
+}
+
+/// How many ops from the first on are these, one behind the other.
+fn shown(found: &[Op], ops: &[Shown]) -> usize {
+    let mut at = 0;
+    for op in found {
+        if at < ops.len() && ops[at].0 == op.code() && has_operand(op, ops[at].1) {
+            at += 1;
+        }
+    }
+    at
+}
+
+/// How many of the ops a body is read as, if it has so many, and whether this is its rest.
+fn read_as(
+    alloc: Global,
+    parts: Parts,
+    phase: Phase,
+    ops: &[Shown],
+    rest: &[u8],
+) -> Result<(usize, bool), DepexFault> {
+    let bytes = joined(alloc, parts)?;
+    let depex = read_depex(alloc, bytes.as_slice(), phase)?;
+    let whole = depex.phase() == phase && depex.ops().len() == ops.len() && depex.rest() == rest;
+    Ok((shown(depex.ops(), ops), whole))
+}
+
 #[test]
 fn expressions_are_read(rt: HostRuntime) -> Result<(), Fail> {
-    let a = Guid::from_bytes(A);
-    let b = Guid::from_bytes(B);
-    // The phase, the body, its ops, and the bytes behind END.
-    let cases: [(Phase, Parts, &[Op], &[u8]); 8] = [
-        (Phase::Dxe, &[&NOT_A], &[Op::Push(a), Op::Not, Op::End], &[]),
-        (Phase::Pei, &[&NOT_A], &[Op::Push(a), Op::Not, Op::End], &[]),
-        (
-            Phase::Dxe,
-            &[&[0x06, 0x08, 0xff, 0xff]],
-            &[Op::True, Op::End],
-            &[0xff, 0xff],
-        ),
-        // SOR first, and a second expression behind END.
-        (
-            Phase::Dxe,
-            &[&[0x09, 0x07, 0x08, 0x06, 0x08]],
-            &[Op::Sor, Op::False, Op::End],
-            &[0x06, 0x08],
-        ),
-        (
-            Phase::Dxe,
-            &[&[0x00], &A, &[0x08]],
-            &[Op::Before(a), Op::End],
-            &[],
-        ),
-        (
-            Phase::Dxe,
-            &[&[0x01], &B, &[0x08, 0x00]],
-            &[Op::After(b), Op::End],
-            &[0x00],
-        ),
-        (
-            Phase::Dxe,
-            &[&[0x02], &A, &[0x02], &B, &[0x03, 0x08]],
-            &[Op::Push(a), Op::Push(b), Op::And, Op::End],
-            &[],
-        ),
-        (
-            Phase::Pei,
-            &[&[0x02], &B, &[0x02], &A, &[0x04, 0x08]],
-            &[Op::Push(b), Op::Push(a), Op::Or, Op::End],
-            &[],
-        ),
-    ];
-    for (phase, parts, ops, rest) in cases {
-        let bytes = joined(rt.alloc(), parts)?;
-        let depex = read_depex(rt.alloc(), &bytes, phase)?;
-        assert_eq!(rt; depex.phase(), phase, "{bytes:?}");
-        assert_eq!(rt; depex.ops(), ops, "{bytes:?}");
-        assert_eq!(rt; depex.rest(), rest, "{bytes:?}");
+    for (phase, parts, ops, rest) in READ {
+        let found = read_as(rt.alloc(), parts, *phase, ops, rest)?;
+        assert_eq!(rt; found, (ops.len(), true), "{parts:?}");
     }
     Ok(())
+}
+
+/// How many ops an expression has, and how many bytes behind END.
+fn counts(alloc: Global, bytes: &[u8], phase: Phase) -> Result<(usize, usize), DepexFault> {
+    let depex = read_depex(alloc, bytes, phase)?;
+    Ok((depex.ops().len(), depex.rest().len()))
 }
 
 #[test]
 fn a_long_expression_is_read(rt: HostRuntime) -> Result<(), Fail> {
     let bytes = long(rt.alloc(), 0x05)?;
-    let depex = read_depex(rt.alloc(), &bytes, Phase::Pei)?;
-    assert_eq!(rt; depex.ops().len(), 2003);
-    assert!(rt; depex.rest().is_empty());
-    // A value more than END takes.
+    assert_eq!(rt;
+        counts(rt.alloc(), bytes.as_slice(), Phase::Pei)?,
+        (2003, 0)
+    );
+    Ok(())
+}
+
+// A value more than END takes.
+#[test]
+fn a_long_expression_is_refused(rt: HostRuntime) -> Result<(), Fail> {
     let bytes = long(rt.alloc(), 0x07)?;
     let fault = DepexFault {
         kind: DepexFaultKind::Stack,
         offset: 2002,
     };
-    let answer = read_depex(rt.alloc(), &bytes, Phase::Pei);
-    assert_eq!(rt; answer.err(), Some(fault));
+    assert_eq!(rt;
+        fault_of(rt.alloc(), bytes.as_slice(), Phase::Pei),
+        Some(fault)
+    );
     Ok(())
+}
+
+/// The fault of a body, if it is refused.
+fn fault_in(alloc: Global, parts: Parts, phase: Phase) -> Result<Option<DepexFault>, DepexFault> {
+    let bytes = joined(alloc, parts)?;
+    Ok(fault_of(alloc, bytes.as_slice(), phase))
 }
 
 #[test]
 fn faults_have_their_places(rt: HostRuntime) -> Result<(), Fail> {
     for (phase, parts, kind, offset) in FAULTS {
-        let bytes = joined(rt.alloc(), parts)?;
-        let fault = Some(DepexFault { kind, offset });
-        let answer = read_depex(rt.alloc(), &bytes, phase);
-        assert_eq!(rt; answer.err(), fault, "{bytes:?}");
+        let fault = DepexFault {
+            kind: *kind,
+            offset: *offset,
+        };
+        assert_eq!(rt;
+            fault_in(rt.alloc(), parts, *phase)?,
+            Some(fault),
+            "{parts:?}"
+        );
     }
     Ok(())
 }
 
-// The GUID is cut, or END is missing.
+/// The fault of so many bytes of NOT_A, fewer than it has: the GUID is cut, or END is missing.
+fn fault_of_front(length: usize) -> DepexFault {
+    if length == 0 || length >= 17 {
+        DepexFault {
+            kind: DepexFaultKind::NoEnd,
+            offset: length as u64,
+        }
+    } else {
+        DepexFault {
+            kind: DepexFaultKind::Short,
+            offset: 0,
+        }
+    }
+}
+
 #[test]
 fn no_front_of_an_expression_is_read(rt: HostRuntime) {
-    for length in 0..19usize {
-        let (kind, offset) = match length {
-            0 => (DepexFaultKind::NoEnd, 0),
-            1..=16 => (DepexFaultKind::Short, 0),
-            _ => (DepexFaultKind::NoEnd, length as u64),
-        };
-        let fault = Some(DepexFault { kind, offset });
-        for phase in [Phase::Pei, Phase::Dxe] {
-            let answer = read_depex(rt.alloc(), &NOT_A[..length.min(19)], phase);
-            assert_eq!(rt; answer.err(), fault, "{length}");
-        }
+    for length in 0..NOT_A.len() {
+        let fault = Some(fault_of_front(length));
+        let front = &NOT_A[..length];
+        assert_eq!(rt; fault_of(rt.alloc(), front, Phase::Pei), fault, "{length}");
+        assert_eq!(rt; fault_of(rt.alloc(), front, Phase::Dxe), fault, "{length}");
     }
 }

@@ -7,7 +7,7 @@ use std::alloc::Global;
 use std::test::Fail;
 
 /// The body, and its value where nothing is installed, A alone, B alone, and both.
-pub(super) const VALUES: [(Parts, [bool; 4]); 12] = [
+pub(super) const VALUES: &[(Parts, [bool; 4])] = &[
     // Constants, with SOR and with bytes behind END.
     (&[&[0x06, 0x08]], [true; 4]),
     (&[&[0x07, 0x08]], [false; 4]),
@@ -54,7 +54,7 @@ pub(super) const VALUES: [(Parts, [bool; 4]); 12] = [
     ),
 ];
 
-/// The value of a body for the phase, where these GUIDs are installed.
+/// The value of an expression of the phase, where these GUIDs are installed.
 fn value(
     alloc: Global,
     bytes: &[u8],
@@ -65,45 +65,48 @@ fn value(
     evaluate(alloc, &depex, installed)
 }
 
-#[test]
-fn expressions_have_values(rt: HostRuntime) -> Result<(), Fail> {
+/// The values of a body where nothing is installed, A alone, B alone, and both.
+fn values(alloc: Global, parts: &[&[u8]], phase: Phase) -> Result<[Option<bool>; 4], DepexFault> {
     let a = Guid::from_bytes(A);
     let b = Guid::from_bytes(B);
-    for (parts, values) in VALUES {
-        let bytes = joined(rt.alloc(), parts)?;
-        let [none, first, second, both] = values;
-        let cases: [(&[Guid], bool); 4] = [
-            (&[], none),
-            (&[a], first),
-            (&[b], second),
-            (&[b, a], both),
-        ];
-        for (installed, expected) in cases {
-            let found = value(rt.alloc(), &bytes, Phase::Dxe, installed)?;
-            assert_eq!(rt; found, Some(expected), "{bytes:?} {installed:?}");
-        }
+    let bytes = joined(alloc, parts)?;
+    let none = value(alloc, bytes.as_slice(), phase, &[])?;
+    let first = value(alloc, bytes.as_slice(), phase, &[a])?;
+    let second = value(alloc, bytes.as_slice(), phase, &[b])?;
+    let both = value(alloc, bytes.as_slice(), phase, &[b, a])?;
+    Ok([none, first, second, both])
+}
+
+#[test]
+fn expressions_have_values(rt: HostRuntime) -> Result<(), Fail> {
+    for (parts, expected) in VALUES {
+        let [none, first, second, both] = *expected;
+        let found = values(rt.alloc(), parts, Phase::Dxe)?;
+        assert_eq!(rt;
+            found,
+            [Some(none), Some(first), Some(second), Some(both)],
+            "{parts:?}"
+        );
     }
     Ok(())
 }
 
+// PUSH A, NOT and END.
 #[test]
 fn the_phase_does_not_change_a_value(rt: HostRuntime) -> Result<(), Fail> {
-    let a = Guid::from_bytes(A);
-    let bytes = joined(rt.alloc(), &[&[0x02], &A, &[0x05, 0x08]])?;
+    let expected = [Some(true), Some(false), Some(true), Some(false)];
     for phase in [Phase::Pei, Phase::Dxe] {
-        assert_eq!(rt; value(rt.alloc(), &bytes, phase, &[])?, Some(true));
-        assert_eq!(rt; value(rt.alloc(), &bytes, phase, &[a])?, Some(false));
+        let found = values(rt.alloc(), &[&[0x02], &A, &[0x05, 0x08]], phase)?;
+        assert_eq!(rt; found, expected, "{phase:?}");
     }
     Ok(())
 }
 
 #[test]
 fn before_and_after_have_no_value(rt: HostRuntime) -> Result<(), Fail> {
-    let a = Guid::from_bytes(A);
     for code in [0x00, 0x01] {
-        let bytes = joined(rt.alloc(), &[&[code], &A, &[0x08]])?;
-        assert_eq!(rt; value(rt.alloc(), &bytes, Phase::Dxe, &[])?, None);
-        assert_eq!(rt; value(rt.alloc(), &bytes, Phase::Dxe, &[a])?, None);
+        let found = values(rt.alloc(), &[&[code], &A, &[0x08]], Phase::Dxe)?;
+        assert_eq!(rt; found, [None; 4], "{code}");
     }
     Ok(())
 }
@@ -112,7 +115,10 @@ fn before_and_after_have_no_value(rt: HostRuntime) -> Result<(), Fail> {
 fn a_long_expression_has_a_value(rt: HostRuntime) -> Result<(), Fail> {
     let bytes = long(rt.alloc(), 0x05)?;
     for phase in [Phase::Pei, Phase::Dxe] {
-        assert_eq!(rt; value(rt.alloc(), &bytes, phase, &[])?, Some(false));
+        assert_eq!(rt;
+            value(rt.alloc(), bytes.as_slice(), phase, &[])?,
+            Some(false)
+        );
     }
     Ok(())
 }

@@ -4,93 +4,85 @@ use super::{A, P};
 use crate::{FileAttributes, FileHead, FileState, verify_ffs_file};
 use bitflags::Flags;
 use fv_base::{Fault, FaultKind, FileSystem, Guid, Polarity};
-use std::alloc::Global;
-use std::test::Fail;
 
-/// The parts, joined.
-fn joined(alloc: Global, parts: &[&[u8]]) -> Result<Vec<u8>, Fault> {
-    let mut bytes = Vec::new(alloc);
-    for part in parts {
-        bytes.extend_from_slice(part)?;
-    }
-    Ok(bytes)
+/// A name, so many other bytes behind it, at most 40, and erased ones.
+fn named(name: [u8; 16], rest: &[u8]) -> [u8; 56] {
+    let mut bytes = [0xff; 56];
+    let count = rest.len().min(40);
+    bytes[16..16 + count].copy_from_slice(&rest[..count]);
+    bytes[..16].copy_from_slice(&name);
+    bytes
 }
 
-/// What the bytes hold, they themselves, and the name, the type, the attribute bits, the size, the
-/// bytes of the header, the header sum, the file sum and the state.
-const FILES: [(
-    &str,
-    &[&[u8]],
-    ([u8; 16], u8, u8, u64, u64, u8, u8, FileState),
-); 7] = [
+/// What a header says: the name, the type, the attribute bits, the size, the bytes of the header,
+/// the header sum, the file sum and the state.
+type Fields = ([u8; 16], u8, u8, u64, u64, u8, u8, FileState);
+
+/// What the bytes hold, what stands behind the name in them, and what the header says.
+const FILES: [(&str, &[u8], Fields); 7] = [
     (
         "a file without data",
-        &[&A, &[0x47, 0xaa, 0x01, 0x00, 0x18, 0x00, 0x00, 0xf8]],
+        &[0x47, 0xaa, 0x01, 0x00, 0x18, 0x00, 0x00, 0xf8],
         (A, 0x01, 0, 24, 24, 0x47, 0xaa, FileState::DataValid),
     ),
     (
         "a marked file without data",
-        &[&A, &[0x47, 0xaa, 0x01, 0x00, 0x18, 0x00, 0x00, 0xf0]],
+        &[0x47, 0xaa, 0x01, 0x00, 0x18, 0x00, 0x00, 0xf0],
         (A, 0x01, 0, 24, 24, 0x47, 0xaa, FileState::Marked),
     ),
     (
         "a file with its sum, and no filler",
-        &[
-            &A,
-            &[0x03, 0xf6, 0x01, 0x40, 0x1c, 0x00, 0x00, 0xf8],
-            &[1, 2, 3, 4],
-        ],
+        &[0x03, 0xf6, 0x01, 0x40, 0x1c, 0x00, 0x00, 0xf8, 1, 2, 3, 4],
         (A, 0x01, 0x40, 28, 24, 0x03, 0xf6, FileState::DataValid),
     ),
     (
         "a byte of data, and other bytes behind the file",
         &[
-            &A,
-            &[0x46, 0xaa, 0x01, 0x00, 0x19, 0x00, 0x00, 0xf8],
-            &[0x5a, 1, 2, 3, 4, 5, 6, 7, 8, 9],
+            0x46, 0xaa, 0x01, 0x00, 0x19, 0x00, 0x00, 0xf8, 0x5a, 1, 2, 3, 4, 5, 6, 7, 8, 9,
         ],
         (A, 0x01, 0, 25, 24, 0x46, 0xaa, FileState::DataValid),
     ),
     (
         "a pad",
-        &[&P, &[0x08, 0xaa, 0xf0, 0x00, 0x18, 0x00, 0x00, 0xf8]],
+        &[0x08, 0xaa, 0xf0, 0x00, 0x18, 0x00, 0x00, 0xf8],
         (P, 0xf0, 0, 24, 24, 0x08, 0xaa, FileState::DataValid),
     ),
     (
         "a pad that may not be moved, and a wrong file sum",
-        &[&P, &[0x04, 0x55, 0xf0, 0x04, 0x18, 0x00, 0x00, 0xf8]],
+        &[0x04, 0x55, 0xf0, 0x04, 0x18, 0x00, 0x00, 0xf8],
         (P, 0xf0, 0x04, 24, 24, 0x04, 0x55, FileState::DataValid),
     ),
     (
         "a large file",
         &[
-            &A,
-            &[0x3e, 0xaa, 0x01, 0x01, 0x00, 0x00, 0x00, 0xf8],
-            &[32, 0, 0, 0, 0, 0, 0, 0],
+            0x3e, 0xaa, 0x01, 0x01, 0x00, 0x00, 0x00, 0xf8, 32, 0, 0, 0, 0, 0, 0, 0,
         ],
         (A, 0x01, 0x01, 32, 32, 0x3e, 0xaa, FileState::DataValid),
     ),
 ];
 
+/// Whether a file with this header begins the name and the bytes behind it.
+fn begins(rest: &[u8], fields: Fields) -> bool {
+    let (name, kind, attributes, size, header_len, header_sum, file_sum, state) = fields;
+    let head = FileHead {
+        name: Guid::from_bytes(name),
+        kind,
+        attributes: FileAttributes::from_bits_retain(attributes),
+        size,
+        header_len,
+        header_sum,
+        file_sum,
+        state,
+    };
+    let bytes = &named(name, rest)[..16 + rest.len().min(40)];
+    verify_ffs_file(bytes, FileSystem::Ffs3, Polarity::Ones) == Ok(head)
+}
+
 #[test]
-fn files_begin_bytes(rt: HostRuntime) -> Result<(), Fail> {
-    for (text, parts, fields) in FILES {
-        let (name, kind, attributes, size, header_len, header_sum, file_sum, state) = fields;
-        let head = FileHead {
-            name: Guid::from_bytes(name),
-            kind,
-            attributes: FileAttributes::from_bits_retain(attributes),
-            size,
-            header_len,
-            header_sum,
-            file_sum,
-            state,
-        };
-        let bytes = joined(rt.alloc(), parts)?;
-        let found = verify_ffs_file(&bytes, FileSystem::Ffs3, Polarity::Ones);
-        assert_eq!(rt; found, Ok(head), "{text}");
+fn files_begin_bytes(rt: HostRuntime) {
+    for (text, rest, fields) in FILES {
+        assert!(rt; begins(rest, fields), "{text}");
     }
-    Ok(())
 }
 
 /// What stands behind the name in a header, and the fault in FFS2 where 32 erased bytes follow.
@@ -166,61 +158,52 @@ const HEADERS: [(&[u8], FaultKind, u64); 13] = [
 ];
 
 #[test]
-fn other_headers_begin_no_file(rt: HostRuntime) -> Result<(), Fail> {
+fn other_headers_begin_no_file(rt: HostRuntime) {
     for (header, kind, offset) in HEADERS {
-        let mut bytes = joined(rt.alloc(), &[&A, header])?;
-        bytes.resize(56, 0xff)?;
-        let found = verify_ffs_file(&bytes, FileSystem::Ffs2, Polarity::Ones);
-        let fault = Some(Fault::outer(kind, offset));
-        assert_eq!(rt; found.err(), fault, "{header:?}");
+        let found = verify_ffs_file(&named(A, header), FileSystem::Ffs2, Polarity::Ones);
+        assert!(rt; found == Err(Fault::outer(kind, offset)), "{header:?}");
     }
-    Ok(())
 }
 
-// A file of 28 bytes, and a large one of 32, of which some are missing.
+/// What stands behind the name of a file of 28 bytes, and of a large one of 32.
+const WHOLE: [&[u8]; 2] = [
+    &[0x03, 0xf6, 0x01, 0x40, 0x1c, 0x00, 0x00, 0xf8, 1, 2, 3, 4],
+    &[
+        0x3e, 0xaa, 0x01, 0x01, 0x00, 0x00, 0x00, 0xf8, 32, 0, 0, 0, 0, 0, 0, 0,
+    ],
+];
+
+// Some bytes of a file are missing.
 #[test]
-fn cut_files_are_refused(rt: HostRuntime) -> Result<(), Fail> {
-    let parts: [[&[u8]; 3]; 2] = [
-        [
-            &A,
-            &[0x03, 0xf6, 0x01, 0x40, 0x1c, 0x00, 0x00, 0xf8],
-            &[1, 2, 3, 4],
-        ],
-        [
-            &A,
-            &[0x3e, 0xaa, 0x01, 0x01, 0x00, 0x00, 0x00, 0xf8],
-            &[32, 0, 0, 0, 0, 0, 0, 0],
-        ],
-    ];
-    for part in parts {
-        let bytes = joined(rt.alloc(), &part)?;
-        for count in 0..bytes.len() {
-            let front = &bytes[..count.min(bytes.len())];
-            let found = verify_ffs_file(front, FileSystem::Ffs3, Polarity::Ones);
-            let fault = Some(Fault::outer(FaultKind::FileSize, 20));
-            assert_eq!(rt; found.err(), fault, "{count}");
+fn cut_files_are_refused(rt: HostRuntime) {
+    let fault = Fault::outer(FaultKind::FileSize, 20);
+    for rest in WHOLE {
+        let bytes = named(A, rest);
+        for count in 0..16 + rest.len().min(40) {
+            let found = verify_ffs_file(&bytes[..count], FileSystem::Ffs3, Polarity::Ones);
+            assert!(rt; found == Err(fault), "{count}");
         }
     }
-    Ok(())
+}
+
+/// Whether the bytes of a file with this State byte begin with one, or what is wrong with them.
+fn verdict(state: u8, polarity: Polarity) -> Option<Fault> {
+    let rest = [0x47, 0xaa, 0x01, 0x00, 0x18, 0x00, 0x00, state];
+    verify_ffs_file(&named(A, &rest)[..24], FileSystem::Ffs2, polarity).err()
 }
 
 #[test]
-fn polarity_turns_the_state(rt: HostRuntime) -> Result<(), Fail> {
-    for (state, polarity, is_file) in [
-        (0xf8u8, Polarity::Ones, true),
-        (0xf8, Polarity::Zeros, false),
-        (0x07, Polarity::Ones, false),
-        (0x07, Polarity::Zeros, true),
-        (0x0f, Polarity::Zeros, true),
-        (0x17, Polarity::Zeros, false),
-        (0x00, Polarity::Zeros, false),
+fn polarity_turns_the_state(rt: HostRuntime) {
+    let fault = Some(Fault::outer(FaultKind::FileState, 23));
+    for (state, polarity, expected) in [
+        (0xf8u8, Polarity::Ones, None),
+        (0xf8, Polarity::Zeros, fault),
+        (0x07, Polarity::Ones, fault),
+        (0x07, Polarity::Zeros, None),
+        (0x0f, Polarity::Zeros, None),
+        (0x17, Polarity::Zeros, fault),
+        (0x00, Polarity::Zeros, fault),
     ] {
-        let header = [0x47, 0xaa, 0x01, 0x00, 0x18, 0x00, 0x00, state];
-        let bytes = joined(rt.alloc(), &[&A, &header])?;
-        let found = verify_ffs_file(&bytes, FileSystem::Ffs2, polarity);
-        let fault = Some(Fault::outer(FaultKind::FileState, 23));
-        let expected = if is_file { None } else { fault };
-        assert_eq!(rt; found.err(), expected, "{state}");
+        assert!(rt; verdict(state, polarity) == expected, "{state}");
     }
-    Ok(())
 }

@@ -1,14 +1,15 @@
 //! Files whose header has 32 bytes.
 
 use super::Sort::{Dead, Free, Pad, Valid};
-use super::{A, Form, P, cut, is_cut, volume};
+use super::{A, Body, P, Refusal, fault_of, has_cells, is_cut, lay, not_refused};
 use fv_base::{Fault, FaultKind, FileSystem, Polarity};
-use std::test::Fail;
+use std::alloc::Global;
 
-/// What the body of a volume of 128 bytes holds, what it begins with, and its cells.
-const ACCEPTED: [(&str, &[&[u8]], &[Form]); 6] = [
+/// Bodies that are cut in FFS3 alone.
+static ACCEPTED: [Body; 6] = [
     (
         "a file without data",
+        128,
         &[
             &A,
             &[0x3e, 0xaa, 0x01, 0x01, 0x00, 0x00, 0x00, 0xf8],
@@ -18,6 +19,7 @@ const ACCEPTED: [(&str, &[&[u8]], &[Form]); 6] = [
     ),
     (
         "3 bytes of data",
+        128,
         &[
             &A,
             &[0x3b, 0xaa, 0x01, 0x01, 0x00, 0x00, 0x00, 0xf8],
@@ -28,6 +30,7 @@ const ACCEPTED: [(&str, &[&[u8]], &[Form]); 6] = [
     ),
     (
         "3 bytes of data, and their sum",
+        128,
         &[
             &A,
             &[0xfb, 0xfa, 0x01, 0x41, 0x00, 0x00, 0x00, 0xf8],
@@ -38,6 +41,7 @@ const ACCEPTED: [(&str, &[&[u8]], &[Form]); 6] = [
     ),
     (
         "a deleted file",
+        128,
         &[
             &A,
             &[0x3d, 0xaa, 0x01, 0x01, 0x00, 0x00, 0x00, 0xe8],
@@ -47,6 +51,7 @@ const ACCEPTED: [(&str, &[&[u8]], &[Form]); 6] = [
     ),
     (
         "a pad",
+        128,
         &[
             &P,
             &[0xff, 0xaa, 0xf0, 0x01, 0x00, 0x00, 0x00, 0xf8],
@@ -56,6 +61,7 @@ const ACCEPTED: [(&str, &[&[u8]], &[Form]); 6] = [
     ),
     (
         "a file to the end",
+        128,
         &[
             &A,
             &[0x26, 0xaa, 0x01, 0x01, 0x00, 0x00, 0x00, 0xf8],
@@ -66,8 +72,8 @@ const ACCEPTED: [(&str, &[&[u8]], &[Form]); 6] = [
     ),
 ];
 
-/// What is wrong, how many bytes the volume has, what its body begins with, and the fault.
-const REFUSED: [(&str, usize, &[&[u8]], FaultKind, u64); 9] = [
+/// Bodies that are refused in FFS3.
+static REFUSED: [Refusal; 9] = [
     (
         "the Size of a short header too",
         128,
@@ -175,45 +181,37 @@ const REFUSED: [(&str, usize, &[&[u8]], FaultKind, u64); 9] = [
 ];
 
 #[test]
-fn large_files_are_cut(rt: HostRuntime) -> Result<(), Fail> {
-    for (name, parts, forms) in ACCEPTED {
-        let bytes = volume(rt.alloc(), parts, 128, Polarity::Ones)?;
-        assert_eq!(rt;
-            is_cut(rt.alloc(), &bytes, FileSystem::Ffs3, Polarity::Ones, forms),
-            Ok(true),
-            "{name}"
-        );
-        let found = cut(rt.alloc(), &bytes, FileSystem::Ffs2, Polarity::Ones);
-        let fault = Some(Fault::outer(FaultKind::LargeFile, 91));
-        assert_eq!(rt; found.err(), fault, "{name}");
+fn large_files_are_cut(rt: HostRuntime) {
+    let fault = Some(Fault::outer(FaultKind::LargeFile, 91));
+    for body in &ACCEPTED {
+        let (name, length, parts, _) = *body;
+        let is_same = is_cut(rt.alloc(), body, FileSystem::Ffs3, Polarity::Ones);
+        let refusal = fault_of(rt.alloc(), parts, length, FileSystem::Ffs2, Polarity::Ones);
+        assert!(rt; is_same == Ok(true) && refusal == fault, "{name}");
     }
-    Ok(())
 }
 
 #[test]
-fn large_files_are_refused(rt: HostRuntime) -> Result<(), Fail> {
-    for (name, length, parts, kind, offset) in REFUSED {
-        let bytes = volume(rt.alloc(), parts, length, Polarity::Ones)?;
-        let found = cut(rt.alloc(), &bytes, FileSystem::Ffs3, Polarity::Ones);
-        let fault = Some(Fault::outer(kind, offset));
-        assert_eq!(rt; found.err(), fault, "{name}");
-    }
-    Ok(())
+fn large_files_are_refused(rt: HostRuntime) {
+    let first = not_refused(rt.alloc(), &REFUSED, FileSystem::Ffs3, Polarity::Ones);
+    assert_eq!(rt; first, None);
 }
 
-// 16 MiB and 8 bytes, which no short header can say.
-#[test]
-fn a_file_may_have_more_than_16_mib(rt: HostRuntime) -> Result<(), Fail> {
+/// Whether a file of 16 MiB and 8 bytes has its cell, or why it has none.
+fn is_long_cut(alloc: Global) -> Result<bool, Fault> {
     let parts: [&[u8]; 3] = [
         &A,
         &[0x55, 0xaa, 0x01, 0x01, 0x00, 0x00, 0x00, 0xf8],
         &[0x08, 0, 0, 1, 0, 0, 0, 0],
     ];
-    let bytes = volume(rt.alloc(), &parts, 0x100_0050, Polarity::Ones)?;
+    let mut bytes = vec![in alloc; 0u8; 0x100_0050]?;
+    lay(&mut bytes, &parts, Polarity::Ones);
     let forms = [(Valid, 72, 0x100_0008, 0x01, &bytes[bytes.len().min(104)..])];
-    assert_eq!(rt;
-        is_cut(rt.alloc(), &bytes, FileSystem::Ffs3, Polarity::Ones, &forms),
-        Ok(true)
-    );
-    Ok(())
+    has_cells(alloc, &bytes, FileSystem::Ffs3, Polarity::Ones, &forms)
+}
+
+// No short header can say so many bytes.
+#[test]
+fn a_file_may_have_more_than_16_mib(rt: HostRuntime) {
+    assert_eq!(rt; is_long_cut(rt.alloc()), Ok(true));
 }

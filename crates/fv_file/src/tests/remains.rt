@@ -1,11 +1,10 @@
 //! Bodies with files that do not stand or are marked, and with headers that were never finished.
 
 use super::Sort::{Dead, Free, Marked, Stub, Valid};
-use super::{A, B, Body, C, P, is_cut, volume};
-use fv_base::{FileSystem, Polarity};
-use std::test::Fail;
+use super::{A, B, Body, C, P, not_cut};
+use fv_base::Polarity;
 
-const STATES: [Body; 7] = [
+static STATES: [Body; 7] = [
     (
         "a deleted file, a marked one and two that are valid",
         256,
@@ -89,7 +88,7 @@ const STATES: [Body; 7] = [
 ];
 
 /// Where an erased byte is 00.
-const ZEROS: [Body; 2] = [
+static ZEROS: [Body; 2] = [
     (
         "a marked file and a deleted one",
         128,
@@ -119,21 +118,9 @@ const ZEROS: [Body; 2] = [
 ];
 
 #[test]
-fn remains_are_cut(rt: HostRuntime) -> Result<(), Fail> {
-    for (bodies, polarity) in [
-        (STATES.as_slice(), Polarity::Ones),
-        (ZEROS.as_slice(), Polarity::Zeros),
-    ] {
-        for (name, length, parts, forms) in bodies {
-            let bytes = volume(rt.alloc(), parts, *length, polarity)?;
-            for system in [FileSystem::Ffs2, FileSystem::Ffs3] {
-                assert_eq!(rt;
-                    is_cut(rt.alloc(), &bytes, system, polarity, forms),
-                    Ok(true),
-                    "{name}"
-                );
-            }
-        }
-    }
-    Ok(())
+fn remains_are_cut(rt: HostRuntime) {
+    let states = not_cut(rt.alloc(), &STATES, Polarity::Ones);
+    let zeros = not_cut(rt.alloc(), &ZEROS, Polarity::Zeros);
+    assert_eq!(rt; states, None);
+    assert_eq!(rt; zeros, None);
 }

@@ -16,19 +16,24 @@ const STATES: [(u8, Option<FileState>); 8] = [
     (0x40, None),
 ];
 
+/// The state of the highest bit of a number of written bits.
+fn highest(written: u8) -> Option<FileState> {
+    let mut state = None;
+    for (from, some) in STATES {
+        if from <= written {
+            state = some;
+        }
+    }
+    state
+}
+
 #[test]
 fn the_highest_written_bit_is_the_state(rt: HostRuntime) {
     for written in 0..=255u8 {
-        let mut state = None;
-        for (from, some) in STATES {
-            if from <= written {
-                state = some;
-            }
-        }
-        assert_eq!(rt; file_state(written, Polarity::Zeros), state, "{written}");
-        assert_eq!(rt;
-            file_state(0xff - written, Polarity::Ones),
-            state,
+        let state = highest(written);
+        let is_same = file_state(written, Polarity::Zeros) == state;
+        assert!(rt;
+            is_same && file_state(0xff - written, Polarity::Ones) == state,
             "{written}"
         );
     }
@@ -52,7 +57,7 @@ fn states_have_their_bytes(rt: HostRuntime) {
         (0x07, Polarity::Zeros, Some(FileState::DataValid)),
         (0xf8, Polarity::Zeros, None),
     ] {
-        assert_eq!(rt; file_state(byte, polarity), state, "{byte}");
+        assert!(rt; file_state(byte, polarity) == state, "{byte}");
     }
 }
 
@@ -67,28 +72,37 @@ fn files_stand_in_two_states(rt: HostRuntime) {
         (FileState::Deleted, false),
         (FileState::HeaderInvalid, false),
     ] {
-        assert_eq!(rt; state.is_alive(), is_alive, "{state:?}");
+        assert!(rt; state.is_alive() == is_alive, "{state:?}");
     }
+}
+
+/// Whether the bits are read so, with and without bit 01.
+fn is_read(bits: u8, is_large: bool, is_fixed: bool, is_summed: bool, without: u8) -> bool {
+    let attributes = FileAttributes::from_bits_retain(bits);
+    attributes.bits() == bits
+        && attributes.is_large() == is_large
+        && attributes.is_fixed() == is_fixed
+        && attributes.is_summed() == is_summed
+        && attributes.without_large().bits() == without
 }
 
 #[test]
 fn attributes_have_their_bits(rt: HostRuntime) {
-    for (bits, is_large, is_fixed, is_summed) in [
-        (0x00, false, false, false),
-        (0x01, true, false, false),
-        (0x04, false, true, false),
-        (0x40, false, false, true),
-        (0x45, true, true, true),
-        (0xba, false, false, false),
-        (0xbb, true, false, false),
-        (0xbe, false, true, false),
-        (0xfa, false, false, true),
-        (0xff, true, true, true),
+    for (bits, is_large, is_fixed, is_summed, without) in [
+        (0x00, false, false, false, 0x00),
+        (0x01, true, false, false, 0x00),
+        (0x04, false, true, false, 0x04),
+        (0x40, false, false, true, 0x40),
+        (0x45, true, true, true, 0x44),
+        (0xba, false, false, false, 0xba),
+        (0xbb, true, false, false, 0xba),
+        (0xbe, false, true, false, 0xbe),
+        (0xfa, false, false, true, 0xfa),
+        (0xff, true, true, true, 0xfe),
     ] {
-        let attributes = FileAttributes::from_bits_retain(bits);
-        assert_eq!(rt; attributes.bits(), bits);
-        assert_eq!(rt; attributes.is_large(), is_large, "{bits}");
-        assert_eq!(rt; attributes.is_fixed(), is_fixed, "{bits}");
-        assert_eq!(rt; attributes.is_summed(), is_summed, "{bits}");
+        assert!(rt;
+            is_read(bits, is_large, is_fixed, is_summed, without),
+            "{bits}"
+        );
     }
 }

@@ -3,8 +3,8 @@
 use super::{A, P};
 use crate::{FileAttributes, HeadBytes, file_head_bytes, pad_head_bytes, verify_ffs_file};
 use bitflags::Flags;
+use fv_base::limits::DATA_LIMIT;
 use fv_base::{FileSystem, Guid, Polarity};
-use std::test::Fail;
 
 /// The header of a file of this type, these attribute bits, data and file sum, if there is one.
 fn file(
@@ -15,7 +15,7 @@ fn file(
     polarity: Polarity,
 ) -> Option<HeadBytes> {
     let attributes = FileAttributes::from_bits_retain(attributes);
-    if kind == 0xf0 || attributes.is_large() || attributes.is_fixed() || data_len > 268_435_424 {
+    if kind == 0xf0 || attributes.is_large() || attributes.is_fixed() || data_len > DATA_LIMIT {
         return None;
     }
     let name = Guid::from_bytes(A);
@@ -32,12 +32,33 @@ fn pad(size: u64, polarity: Polarity) -> Option<HeadBytes> {
 
 /// Whether the bytes are these parts, joined.
 fn is_joined(bytes: &[u8], name: [u8; 16], fields: &[u8]) -> bool {
-    bytes.get(..16) == Some(name.as_slice()) && bytes.get(16..) == Some(fields)
+    bytes.len() >= 16 && &bytes[..16] == name.as_slice() && &bytes[16..] == fields
+}
+
+/// Whether a file without data, or a pad, of these fields is read from its header.
+fn is_read(
+    bytes: &[u8],
+    name: [u8; 16],
+    kind: u8,
+    attributes: u8,
+    file_sum: u8,
+    polarity: Polarity,
+) -> bool {
+    let Ok(found) = verify_ffs_file(bytes, FileSystem::Ffs2, polarity) else {
+        return false;
+    };
+    found.name == Guid::from_bytes(name)
+        && found.kind == kind
+        && found.attributes.bits() == attributes
+        && found.size == 24
+        && found.file_sum == file_sum
 }
 
 /// The type, the attribute bits, the bytes of the data, the file sum, the polarity, and what stands
 /// behind the name.
-const FILES: [(u8, u8, u64, u8, Polarity, &[u8]); 10] = [
+type File = (u8, u8, u64, u8, Polarity, &'static [u8]);
+
+const FILES: [File; 10] = [
     (
         0x01,
         0,
@@ -131,22 +152,22 @@ const FILES: [(u8, u8, u64, u8, Polarity, &[u8]); 10] = [
     ),
 ];
 
+/// Whether the header of a file of these fields is written so, and, without data, read again.
+fn is_file(case: &File) -> bool {
+    let (kind, attributes, data_len, file_sum, polarity, fields) = *case;
+    let Some(head) = file(kind, attributes, data_len, file_sum, polarity) else {
+        return false;
+    };
+    let bytes = head.as_slice();
+    is_joined(bytes, A, fields)
+        && (data_len != 0 || is_read(bytes, A, kind, attributes, file_sum, polarity))
+}
+
 #[test]
-fn file_headers_are_written(rt: HostRuntime) -> Result<(), Fail> {
-    for (kind, attributes, data_len, file_sum, polarity, fields) in FILES {
-        let head = file(kind, attributes, data_len, file_sum, polarity).ok_or("no header")?;
-        assert!(rt; is_joined(head.as_slice(), A, fields), "{data_len}");
-        // Without data it is a file.
-        if data_len == 0 {
-            let found = verify_ffs_file(head.as_slice(), FileSystem::Ffs2, polarity)?;
-            assert_eq!(rt; found.name, Guid::from_bytes(A));
-            assert_eq!(rt; found.kind, kind);
-            assert_eq!(rt; found.attributes.bits(), attributes);
-            assert_eq!(rt; found.size, 24);
-            assert_eq!(rt; found.file_sum, file_sum);
-        }
+fn file_headers_are_written(rt: HostRuntime) {
+    for case in FILES {
+        assert!(rt; is_file(&case), "{}", case.2);
     }
-    Ok(())
 }
 
 /// The size, the polarity, and what stands behind the name.
@@ -178,16 +199,18 @@ const PADS: [(u64, Polarity, [u8; 8]); 5] = [
     ),
 ];
 
+/// Whether the header of a pad of this size is written so, and, without data, read again.
+fn is_pad(size: u64, polarity: Polarity, fields: &[u8]) -> bool {
+    let Some(head) = pad(size, polarity) else {
+        return false;
+    };
+    let bytes = head.as_slice();
+    is_joined(bytes, P, fields) && (size != 24 || is_read(bytes, P, 0xf0, 0, 0xaa, polarity))
+}
+
 #[test]
-fn pad_headers_are_written(rt: HostRuntime) -> Result<(), Fail> {
+fn pad_headers_are_written(rt: HostRuntime) {
     for (size, polarity, fields) in PADS {
-        let head = pad(size, polarity).ok_or("no header")?;
-        assert!(rt; is_joined(head.as_slice(), P, &fields), "{size}");
-        if size == 24 {
-            let found = verify_ffs_file(head.as_slice(), FileSystem::Ffs2, polarity)?;
-            assert_eq!(rt; found.kind, 0xf0);
-            assert_eq!(rt; found.size, 24);
-        }
+        assert!(rt; is_pad(size, polarity, &fields), "{size}");
     }
-    Ok(())
 }

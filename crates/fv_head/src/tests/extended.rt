@@ -1,7 +1,9 @@
 //! Volumes with an extended header: from outside, and changed.
 
+use super::{canonical, change, fault_of};
 use crate::{
-    Extent, VolumeHead, ext_bytes, head_bytes, read_head, verify_fv, write_ext, write_head,
+    Extent, VolumeHead, ext_bytes, first_edge, len_of_ext, read_head, verify_fv, write_ext,
+    write_head,
 };
 use fv_base::{ByteList, Fault, FaultKind, FileSystem, Polarity, Port};
 use std::alloc::Global;
@@ -42,8 +44,14 @@ const IMAGE: [u8; 192] = [
     0xff, 0xff, 0xff, 0xff, 0xff, 0xff, 0xff, 0xff, 0xff, 0xff, 0xff, 0xff, 0xff, 0xff, 0xff, 0xff,
 ];
 
-/// The same in a pad file, with a used size of 0, and zeros up to the first file.
-const IN_PAD: &[(usize, &[u8])] = &[(120, &[0x00; 8])];
+/// The bare volume becomes the canonical image.
+const AS_IMAGE: &[(usize, &[u8])] = &[(0, &IMAGE)];
+
+/// The same with a used size of 0, and zeros up to the first file.
+const IN_PAD: &[(usize, &[u8])] = &[(0, &IMAGE), (120, &[0x00; 8])];
+
+/// The bare volume as it is.
+const NONE: &[(usize, &[u8])] = &[];
 
 /// The bare one with no entry, but with a tail of 5 bytes.
 const TAIL_ONLY: &[(usize, &[u8])] = &[
@@ -71,182 +79,194 @@ const AT_77: &[(usize, &[u8])] = &[
     (93, &[0x14, 0x00, 0x00, 0x00]),
 ];
 
-/// The header of a volume of 131,072 bytes.
+/// The bare volume becomes the header of one of 131,072 bytes.
 const LARGE: &[(usize, &[u8])] = &[
+    (0, &BARE),
     (32, &[0x00, 0x00, 0x02]),
     (50, &[0x82, 0xf6]),
     (60, &[0x00, 0x00, 0x02]),
 ];
 
-/// A volume with other bytes at these places.
-fn changed(bytes: [u8; 192], changes: &'static [(usize, &'static [u8])]) -> [u8; 192] {
-    let mut bytes = bytes;
-    for (at, part) in changes {
-        for (old, new) in bytes.iter_mut().skip(*at).zip(*part) {
-            *old = *new;
-        }
-    }
-    bytes
-}
-
-/// The first bytes of a volume.
-fn front_of(bytes: &[u8; 192], length: usize) -> &[u8] {
-    &bytes[..length.min(192)]
-}
+/// What changes of a volume.
+type Changes = &'static [(usize, &'static [u8])];
 
 /// The kind and the payload of each entry.
 type Entries = &'static [(u16, &'static [u8])];
+
+/// What changes of the bare volume; and then how many bytes are the volume, where its first file may
+/// stand, and the entries and the tail of its extended header.
+const READ: [(Changes, usize, u64, Entries, &[u8]); 12] = [
+    (&[], 192, 104, &[(3, &[0; 4])], &[]),
+    (IN_PAD, 192, 128, &[(3, &[0; 4])], &[]),
+    (AS_IMAGE, 192, 128, &[(3, &[0; 4])], &[]),
+    (TAIL_ONLY, 192, 104, &[], &TAIL),
+    // No room is left for the pad file of a canonical image, but the head is accepted.
+    (WITHOUT_ROOM, 104, 96, &[], &[]),
+    // The bytes between the header and an extended header that is not aligned are not read.
+    (AT_77, 192, 104, &[], &[]),
+    // A size of 3, and one that goes one byte past the header.
+    (&[(92, &[0x03])], 192, 104, &[], &[3, 0, 3, 0, 0, 0, 0, 0]),
+    (&[(92, &[0x09])], 192, 104, &[], &[9, 0, 3, 0, 0, 0, 0, 0]),
+    // An entry without a payload, and a tail of 4 bytes.
+    (&[(92, &[0x04])], 192, 104, &[(3, &[])], &[0, 0, 0, 0]),
+    // A type 3 entry with 5 bytes, and with 4, and a type 2 entry with 4.
+    (
+        &[(88, &[0x1d]), (92, &[0x09]), (96, &[1, 2, 3, 4, 5])],
+        192,
+        104,
+        &[(3, &[1, 2, 3, 4, 5])],
+        &[],
+    ),
+    (&[(96, &[1, 2, 3, 4])], 192, 104, &[(3, &[0, 0, 0, 0])], &[]),
+    (
+        &[(88, &[0x1f]), (94, &[0x02]), (96, &[1, 2, 3, 4, 5, 6, 7])],
+        192,
+        104,
+        &[(2, &[1, 2, 3, 4])],
+        &[5, 6, 7],
+    ),
+];
+
+/// What changes of the bare volume, where its extended header does not lie in it.
+const REFUSED: [Changes; 5] = [
+    // 16 bytes are left, and 20 of which the size is too large.
+    &[(50, &[0x9e, 0xf4, 0xb0])],
+    &[(50, &[0xa2, 0xf4, 0xac])],
+    // A size of 19, of one byte too many, and of 2 ^ 32 - 1.
+    &[(88, &[0x13])],
+    &[(88, &[0x79])],
+    &[(88, &[0xff; 4])],
+];
+
+/// What changes of the bare volume, how many bytes its extended header has, and where the first
+/// file of its canonical image may stand: behind 72 + 24 bytes and these.
+const EDGES: [(Changes, u32, u64); 4] = [
+    (&[(88, &[0x14])], 20, 120),
+    (&[(88, &[0x18])], 24, 120),
+    (TAIL_ONLY, 25, 128),
+    (&[], 28, 128),
+];
 
 /// Whether a head has an extended header that says this.
 fn says(head: &VolumeHead, entries: &[(u16, &[u8])], tail: &[u8]) -> bool {
     let Some(ext) = head.ext() else {
         return false;
     };
-    let mut is_same = ext.entries().len() == entries.len();
-    for (found, (kind, payload)) in ext.entries().iter().zip(entries) {
-        is_same = is_same && found.kind() == *kind && found.payload() == *payload;
+    let found = ext.entries();
+    let mut is_same = found.len() == entries.len();
+    for i in 0..found.len().min(entries.len()) {
+        let (kind, payload) = entries[i];
+        is_same = is_same && found[i].kind() == kind && found[i].payload() == payload;
     }
-    is_same && ext.name().to_bytes() == NAME && ext.tail() == tail
+    ext.tail() == tail && is_same && ext.name().to_bytes() == NAME
 }
 
-/// The bytes of the extended header of a head, with this used size; none without one.
-fn spelled(alloc: Global, head: &VolumeHead, used: u32) -> Result<ByteList, Fault> {
+/// The bytes of the extended header of the volume that the bytes begin with, with this used size;
+/// none without one.
+fn canonical_ext(alloc: Global, bytes: &[u8], used: u32) -> Result<ByteList, Fault> {
+    let (head, _) = read_head(alloc, bytes)?;
     match head.ext() {
         Some(ext) => ext_bytes(alloc, ext, used),
         None => Ok(ByteList::from_vec(Vec::new(alloc))),
     }
 }
 
+/// The bytes of the extended header, 0 without one, and where the first file of the canonical image
+/// may stand.
+fn room_of(alloc: Global, bytes: &[u8]) -> Result<(u32, u64), Fault> {
+    let (head, _) = read_head(alloc, bytes)?;
+    match head.ext() {
+        Some(ext) => Ok((len_of_ext(ext), first_edge(&head))),
+        None => Ok((0, first_edge(&head))),
+    }
+}
+
 #[test]
 fn extended_headers_are_read(rt: HostRuntime) -> Result<(), Fail> {
-    let cases: [([u8; 192], u64, Entries, &[u8]); 4] = [
-        (BARE, 104, &[(3, &[0; 4])], &[]),
-        (changed(IMAGE, IN_PAD), 128, &[(3, &[0; 4])], &[]),
-        (IMAGE, 128, &[(3, &[0; 4])], &[]),
-        (changed(BARE, TAIL_ONLY), 104, &[], &TAIL),
-    ];
-    for (bytes, first, entries, tail) in cases {
+    for (changes, length, first, entries, tail) in READ {
+        let mut bytes = BARE;
+        change(&mut bytes, changes);
+        let bytes = &bytes[..length.min(bytes.len())];
         let extent = Extent {
-            length: 192,
+            length: length as u64,
             header_len: 72,
             first,
             file_system: FileSystem::Ffs2,
             polarity: Polarity::Ones,
         };
-        assert_eq!(rt; verify_fv(&bytes)?, extent);
-        let (head, found) = read_head(rt.alloc(), &bytes)?;
+        assert_eq!(rt; verify_fv(bytes)?, extent);
+        let (head, found) = read_head(rt.alloc(), bytes)?;
         assert_eq!(rt; found, extent);
-        assert!(rt; says(&head, entries, tail), "{first}");
+        assert!(rt; says(&head, entries, tail), "{entries:?} {tail:?}");
     }
-    Ok(())
-}
-
-// No room is left for the pad file of a canonical image, but the head is accepted.
-#[test]
-fn an_extended_header_may_fill_its_volume(rt: HostRuntime) -> Result<(), Fail> {
-    let bytes = changed(BARE, WITHOUT_ROOM);
-    let (head, extent) = read_head(rt.alloc(), front_of(&bytes, 104))?;
-    assert_eq!(rt; extent.first, 96);
-    assert_eq!(rt; extent.length, 104);
-    assert!(rt; says(&head, &[], &[]));
-    Ok(())
-}
-
-#[test]
-fn entries_and_tails_are_told_apart(rt: HostRuntime) -> Result<(), Fail> {
-    let cases: [(&'static [(usize, &'static [u8])], Entries, &[u8]); 6] = [
-        // A size of 3, and one that goes one byte past the header.
-        (&[(92, &[0x03])], &[], &[3, 0, 3, 0, 0, 0, 0, 0]),
-        (&[(92, &[0x09])], &[], &[9, 0, 3, 0, 0, 0, 0, 0]),
-        // An entry without a payload, and a tail of 4 bytes.
-        (&[(92, &[0x04])], &[(3, &[])], &[0, 0, 0, 0]),
-        // A type 3 entry with 5 bytes, and with 4, and a type 2 entry with 4.
-        (
-            &[(88, &[0x1d]), (92, &[0x09]), (96, &[1, 2, 3, 4, 5])],
-            &[(3, &[1, 2, 3, 4, 5])],
-            &[],
-        ),
-        (&[(96, &[1, 2, 3, 4])], &[(3, &[0, 0, 0, 0])], &[]),
-        (
-            &[(88, &[0x1f]), (94, &[0x02]), (96, &[1, 2, 3, 4, 5, 6, 7])],
-            &[(2, &[1, 2, 3, 4])],
-            &[5, 6, 7],
-        ),
-    ];
-    for (changes, entries, tail) in cases {
-        let bytes = changed(BARE, changes);
-        let (head, _) = read_head(rt.alloc(), &bytes)?;
-        assert!(rt; says(&head, entries, tail));
-    }
-    Ok(())
-}
-
-// The bytes between the header and an extended header that is not aligned are not read.
-#[test]
-fn an_extended_header_may_stand_anywhere(rt: HostRuntime) -> Result<(), Fail> {
-    let bytes = changed(BARE, AT_77);
-    let (head, extent) = read_head(rt.alloc(), &bytes)?;
-    assert_eq!(rt; extent.first, 104);
-    assert!(rt; says(&head, &[], &[]));
     Ok(())
 }
 
 #[test]
 fn extended_headers_are_refused(rt: HostRuntime) {
-    let cases: [&'static [(usize, &'static [u8])]; 5] = [
-        // 16 bytes are left, and 20 of which the size is too large.
-        &[(50, &[0x9e, 0xf4, 0xb0])],
-        &[(50, &[0xa2, 0xf4, 0xac])],
-        // A size of 19, of one byte too many, and of 2 ^ 32 - 1.
-        &[(88, &[0x13])],
-        &[(88, &[0x79])],
-        &[(88, &[0xff; 4])],
-    ];
-    for changes in cases {
-        let bytes = changed(BARE, changes);
+    for changes in REFUSED {
+        let mut bytes = BARE;
+        change(&mut bytes, changes);
         let fault = Some(Fault::outer(FaultKind::ExtHeader, 52));
         assert_eq!(rt; verify_fv(&bytes).err(), fault);
-        assert_eq!(rt; read_head(rt.alloc(), &bytes).err(), fault);
+        assert_eq!(rt; fault_of(rt.alloc(), &bytes), fault);
     }
 }
 
-/// A volume of 131,072 bytes, whose extended header has the size that stands in 4 bytes.
-fn large(alloc: Global, size: [u8; 4]) -> Result<Vec<u8>, Fault> {
-    let mut bytes = changed(BARE, LARGE).to_vec(alloc)?;
-    bytes.resize(0x2_0000, 0)?;
-    for (old, new) in bytes.iter_mut().skip(88).zip(&size) {
-        *old = *new;
+#[test]
+fn extended_headers_have_their_room(rt: HostRuntime) -> Result<(), Fail> {
+    for (changes, length, edge) in EDGES {
+        let mut bytes = BARE;
+        change(&mut bytes, changes);
+        assert_eq!(rt; room_of(rt.alloc(), &bytes)?, (length, edge));
     }
-    Ok(bytes)
+    Ok(())
 }
 
 #[test]
 fn an_extended_header_has_65535_bytes_at_most(rt: HostRuntime) -> Result<(), Fail> {
-    let most = large(rt.alloc(), [0xff, 0xff, 0x00, 0x00])?;
-    assert_eq!(rt; verify_fv(&most)?.first, 65608);
-    let (head, _) = read_head(rt.alloc(), &most)?;
-    assert_eq!(rt; spelled(rt.alloc(), &head, 0)?.as_slice(), &most[72..65607]);
-    let more = large(rt.alloc(), [0x00, 0x00, 0x01, 0x00])?;
+    let mut bytes = [0; 0x2_0000];
+    change(&mut bytes, LARGE);
+    change(&mut bytes, &[(88, &[0x00, 0x00, 0x01, 0x00])]);
     let fault = Some(Fault::outer(FaultKind::ExtHeader, 52));
-    assert_eq!(rt; verify_fv(&more).err(), fault);
+    assert_eq!(rt; verify_fv(&bytes).err(), fault);
+    change(&mut bytes, &[(88, &[0xff, 0xff, 0x00, 0x00])]);
+    assert_eq!(rt; verify_fv(&bytes)?.first, 65608);
+    let part = canonical_ext(rt.alloc(), &bytes, 0)?;
+    assert_eq!(rt; Some(part.as_slice()), bytes.get(72..65607));
+    Ok(())
+}
+
+#[test]
+fn heads_with_extended_headers_are_spelled(rt: HostRuntime) -> Result<(), Fail> {
+    for changes in [NONE, IN_PAD, AS_IMAGE, TAIL_ONLY] {
+        let mut bytes = BARE;
+        change(&mut bytes, changes);
+        let head = canonical(rt.alloc(), &bytes)?;
+        assert_eq!(rt; Some(head.as_slice()), IMAGE.get(..72));
+    }
     Ok(())
 }
 
 #[test]
 fn extended_headers_are_spelled(rt: HostRuntime) -> Result<(), Fail> {
-    for bytes in [BARE, changed(IMAGE, IN_PAD), IMAGE] {
-        let (head, _) = read_head(rt.alloc(), &bytes)?;
-        assert_eq!(rt; head_bytes(rt.alloc(), &head)?.as_slice(), &IMAGE[..72]);
-        assert_eq!(rt;
-            spelled(rt.alloc(), &head, 152)?.as_slice(),
-            &IMAGE[96..124]
-        );
-        assert_eq!(rt; spelled(rt.alloc(), &head, 0)?.as_slice(), &BARE[72..100]);
+    for changes in [NONE, IN_PAD, AS_IMAGE] {
+        let mut bytes = BARE;
+        change(&mut bytes, changes);
+        for (used, expected) in [(152, IMAGE.get(96..124)), (0, BARE.get(72..100))] {
+            let part = canonical_ext(rt.alloc(), &bytes, used)?;
+            assert_eq!(rt; Some(part.as_slice()), expected);
+        }
     }
-    let bytes = changed(BARE, TAIL_ONLY);
-    let (head, _) = read_head(rt.alloc(), &bytes)?;
-    assert_eq!(rt; head_bytes(rt.alloc(), &head)?.as_slice(), &IMAGE[..72]);
-    assert_eq!(rt; spelled(rt.alloc(), &head, 152)?.as_slice(), &bytes[72..97]);
+    Ok(())
+}
+
+#[test]
+fn an_extended_header_without_entries_is_spelled(rt: HostRuntime) -> Result<(), Fail> {
+    let mut bytes = BARE;
+    change(&mut bytes, TAIL_ONLY);
+    let part = canonical_ext(rt.alloc(), &bytes, 152)?;
+    assert_eq!(rt; Some(part.as_slice()), bytes.get(72..97));
     Ok(())
 }
 

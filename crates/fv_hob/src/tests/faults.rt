@@ -1,11 +1,12 @@
 //! Lists that are refused.
 
-use super::{END, HANDOFF, LIST, Parts, TYPES, changed, joined};
-use crate::{HobFault, HobFaultKind, read_hobs};
+use super::{END, HANDOFF, LIST, Parts, TYPES, fault_of, joined, put};
+use crate::{HobFault, HobFaultKind};
+use std::alloc::Global;
 use std::test::Fail;
 
 /// The parts, a place, the bytes that stand there instead, and then the fault.
-const FAULTS: [(Parts, usize, &[u8], HobFaultKind, u64); 19] = [
+const FAULTS: &[(Parts, usize, &[u8], HobFaultKind, u64)] = &[
     // No bytes, fewer than 8, and none behind a block.
     (&[], 0, &[], HobFaultKind::NoEnd, 0),
     (
@@ -49,34 +50,51 @@ const FAULTS: [(Parts, usize, &[u8], HobFaultKind, u64); 19] = [
 #[test]
 fn faults_have_their_places(rt: HostRuntime) -> Result<(), Fail> {
     for (parts, at, part, kind, offset) in FAULTS {
-        let bytes = changed(joined(rt.alloc(), parts)?, at, part);
-        let fault = Some(HobFault { kind, offset });
-        let answer = read_hobs(rt.alloc(), &bytes);
-        assert_eq!(rt; answer.err(), fault, "{bytes:?}");
+        let mut bytes = joined(rt.alloc(), parts, &[])?;
+        put(bytes.as_mut_slice(), *at, part);
+        let fault = HobFault {
+            kind: *kind,
+            offset: *offset,
+        };
+        assert_eq!(rt;
+            fault_of(rt.alloc(), bytes.as_slice()),
+            Some(fault),
+            "{bytes:?}"
+        );
     }
     Ok(())
 }
 
-// A block is cut, or the end block is missing.
+/// The fault of so many bytes of the list, fewer than it has: a block is cut, or the end block is
+/// missing.
+fn fault_of_front(length: usize) -> HobFault {
+    let mut last = 0;
+    for at in [0, 56, 112, 120, 152] {
+        if at <= length {
+            last = at;
+        }
+    }
+    let kind = if last == length {
+        HobFaultKind::NoEnd
+    } else {
+        HobFaultKind::Short
+    };
+    let offset = last as u64;
+    HobFault { kind, offset }
+}
+
+/// The fault that so many bytes of the list have, if they are refused.
+fn fault_of_first(alloc: Global, length: usize) -> Result<Option<HobFault>, HobFault> {
+    let bytes = joined(alloc, LIST, &[])?;
+    let list = bytes.as_slice();
+    Ok(fault_of(alloc, &list[..length.min(list.len())]))
+}
+
 #[test]
 fn no_front_of_a_list_is_read(rt: HostRuntime) -> Result<(), Fail> {
-    let bytes = joined(rt.alloc(), LIST)?;
     for length in 0..160usize {
-        let mut last = 0;
-        for at in [0, 56, 112, 120, 152] {
-            if at <= length {
-                last = at;
-            }
-        }
-        let kind = if last == length {
-            HobFaultKind::NoEnd
-        } else {
-            HobFaultKind::Short
-        };
-        let offset = last as u64;
-        let front = bytes.get(..length).ok_or("too short")?;
-        let answer = read_hobs(rt.alloc(), front);
-        assert_eq!(rt; answer.err(), Some(HobFault { kind, offset }), "{length}");
+        let fault = Some(fault_of_front(length));
+        assert_eq!(rt; fault_of_first(rt.alloc(), length)?, fault, "{length}");
     }
     Ok(())
 }

@@ -1,12 +1,12 @@
 //! The lengths that the blocks of each type may have.
 
-use super::{END, HANDOFF, block};
-use crate::{HobFault, HobFaultKind, hob_bytes, read_hobs};
-use std::alloc::Global;
+use super::{END, HANDOFF, fault_of, header, is_written_as, put};
+use crate::{HobFault, HobFaultKind, read_hobs};
+use std::alloc::{AllocError, Global};
 use std::test::Fail;
 
 /// A type, lengths that its blocks may have, and others that they may not.
-const LENGTHS: [(u16, &[u16], &[u16]); 16] = [
+const LENGTHS: &[(u16, &[u16], &[u16])] = &[
     (0x0001, &[56], &[8, 48, 64]),
     (0x0002, &[48, 56, 0xfff8], &[8, 40]),
     (0x0003, &[48], &[40, 56]),
@@ -27,53 +27,90 @@ const LENGTHS: [(u16, &[u16], &[u16]); 16] = [
     (0xfffd, &[8, 48], &[]),
 ];
 
-/// A list whose second block has this type, and this in its length field.
-fn list_with(alloc: Global, code: u16, length: u16) -> Result<Vec<u8>, HobFault> {
-    let mut bytes = HANDOFF.to_vec(alloc)?;
-    bytes.extend_from_slice(&block(alloc, code, length)?)?;
-    bytes.extend_from_slice(&END)?;
+/// A block of this type, of zeros behind its header, with this in its length field.
+fn block(alloc: Global, code: u16, length: u16) -> Result<Vec<u8>, AllocError> {
+    let mut bytes = vec![in alloc; 0; usize::from(length.max(8))]?;
+    put(bytes.as_mut_slice(), 0, &header(code, length));
     Ok(bytes)
+}
+
+/// A list whose second block is such a one.
+fn list_with(alloc: Global, code: u16, length: u16) -> Result<Vec<u8>, AllocError> {
+    let end = 56 + usize::from(length.max(8));
+    let mut bytes = vec![in alloc; 0; end + 8]?;
+    put(bytes.as_mut_slice(), 0, &HANDOFF);
+    put(bytes.as_mut_slice(), 56, &header(code, length));
+    put(bytes.as_mut_slice(), end, &END);
+    Ok(bytes)
+}
+
+/// The type and the length of a list's second block, and how many bytes the list has.
+fn second_in(alloc: Global, bytes: &[u8]) -> Result<Option<(u16, u16, u64)>, HobFault> {
+    let (list, found) = read_hobs(alloc, bytes)?;
+    match list.as_slice() {
+        [_, hob, ..] => Ok(Some((hob.code(), hob.length(), found))),
+        _ => Ok(None),
+    }
+}
+
+/// The fault of such a list, if it is refused.
+fn fault_in_list(alloc: Global, code: u16, length: u16) -> Result<Option<HobFault>, AllocError> {
+    let bytes = list_with(alloc, code, length)?;
+    Ok(fault_of(alloc, bytes.as_slice()))
+}
+
+/// The fault of such a block alone, if it is refused.
+fn fault_alone(alloc: Global, code: u16, length: u16) -> Result<Option<HobFault>, AllocError> {
+    let bytes = block(alloc, code, length)?;
+    Ok(fault_of(alloc, bytes.as_slice()))
 }
 
 #[test]
 fn each_type_has_its_lengths(rt: HostRuntime) -> Result<(), Fail> {
-    for (code, right, wrong) in LENGTHS {
-        for length in right {
-            let bytes = list_with(rt.alloc(), code, *length)?;
-            let (list, found) = read_hobs(rt.alloc(), &bytes)?;
-            assert_eq!(rt; found, 64u64.wrapping_add(u64::from(*length)), "{code}");
-            let hob = list.as_slice().get(1).ok_or("no block")?;
-            assert_eq!(rt; (hob.code(), hob.length()), (code, *length));
-            let written = hob_bytes(rt.alloc(), &list)?;
-            assert_eq!(rt; written.as_slice(), bytes.as_slice(), "{code}");
-        }
-        for length in wrong {
-            let bytes = list_with(rt.alloc(), code, *length)?;
-            let fault = HobFault {
-                kind: HobFaultKind::Shape,
-                offset: 56,
-            };
-            let answer = read_hobs(rt.alloc(), &bytes);
-            assert_eq!(rt; answer.err(), Some(fault), "{code} {length}");
+    for (code, right, _) in LENGTHS {
+        for length in *right {
+            let bytes = list_with(rt.alloc(), *code, *length)?;
+            let list = bytes.as_slice();
+            let found = 64u64.wrapping_add(u64::from(*length));
+            assert_eq!(rt; second_in(rt.alloc(), list)?, Some((*code, *length, found)));
+            assert!(rt; is_written_as(rt.alloc(), list, list)?, "{code} {length}");
         }
     }
     Ok(())
 }
 
 #[test]
+fn each_type_has_no_others(rt: HostRuntime) -> Result<(), Fail> {
+    let kind = HobFaultKind::Shape;
+    let fault = Some(HobFault { kind, offset: 56 });
+    for (code, _, wrong) in LENGTHS {
+        for length in *wrong {
+            assert_eq!(rt;
+                fault_in_list(rt.alloc(), *code, *length)?,
+                fault,
+                "{code} {length}"
+            );
+        }
+    }
+    Ok(())
+}
+
+/// Whether a length is refused, in a later block and in the first one.
+fn is_refused(alloc: Global, code: u16, length: u16) -> Result<bool, AllocError> {
+    let kind = HobFaultKind::Length;
+    let later = fault_in_list(alloc, code, length)?;
+    let front = fault_alone(alloc, code, length)?;
+    Ok(later == Some(HobFault { kind, offset: 56 }) && front == Some(HobFault { kind, offset: 0 }))
+}
+
+/// Lengths that no block may have, whatever its type.
+const NO_LENGTHS: &[u16] = &[0, 1, 4, 7, 9, 12, 20, 57, 60, 0xffff];
+
+#[test]
 fn lengths_are_multiples_of_8(rt: HostRuntime) -> Result<(), Fail> {
-    for length in [0, 1, 4, 7, 9, 12, 20, 57, 60, 0xffff] {
+    for length in NO_LENGTHS {
         for code in [0x0001, 0x0005, 0x000c, 0xfffe, 0xffff] {
-            let kind = HobFaultKind::Length;
-            let bytes = list_with(rt.alloc(), code, length)?;
-            let fault = HobFault { kind, offset: 56 };
-            let answer = read_hobs(rt.alloc(), &bytes);
-            assert_eq!(rt; answer.err(), Some(fault), "{code} {length}");
-            // Nor is one taken at the front, whatever its type.
-            let bytes = block(rt.alloc(), code, length)?;
-            let fault = HobFault { kind, offset: 0 };
-            let answer = read_hobs(rt.alloc(), &bytes);
-            assert_eq!(rt; answer.err(), Some(fault), "{code} {length}");
+            assert!(rt; is_refused(rt.alloc(), code, *length)?, "{code} {length}");
         }
     }
     Ok(())

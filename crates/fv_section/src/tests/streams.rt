@@ -1,12 +1,11 @@
 //! Streams with their frames, and the fault of each that is no stream.
 
-use crate::{Frame, Frames, frames, next_frame};
+use crate::{Frame, frames, next_frame};
 use fv_base::{Fault, FaultKind};
 use std::alloc::Global;
-use std::test::Fail;
 
 /// Where a frame begins, its type, whether its header is extended, and its body.
-type Seen = (u64, u8, bool, &'static [u8]);
+type Seen<'a> = (u64, u8, bool, &'a [u8]);
 
 /// Two sections with filler of any value between them, and 3 bytes behind the last.
 const PAIR: [u8; 17] = [
@@ -21,7 +20,10 @@ const PAIR_WITH_ZEROS: [u8; 17] = [
 ];
 
 /// Their frames.
-const PAIR_FRAMES: [Seen; 2] = [(0, 0x19, false, &[0x5a]), (8, 0x19, false, &[0x01, 0x02])];
+const PAIR_FRAMES: [Seen<'static>; 2] = [
+    (0, 0x19, false, &[0x5a]),
+    (8, 0x19, false, &[0x01, 0x02]),
+];
 
 /// How many bytes of the two sections are a stream, of how many of their frames, and its tail.
 const FRONTS: [(usize, usize, u8); 8] = [
@@ -50,7 +52,7 @@ const CUT: [(usize, FaultKind, u64); 10] = [
 ];
 
 /// A stream, its frames, and its tail.
-const STREAMS: [(&[u8], &[Seen], u8); 6] = [
+const STREAMS: [(&[u8], &[Seen<'static>], u8); 6] = [
     // An extended header and no body.
     (
         &[0xff, 0xff, 0xff, 0x19, 0x08, 0x00, 0x00, 0x00],
@@ -146,79 +148,113 @@ const FAULTS: [(&[u8], FaultKind, u64); 14] = [
     ),
 ];
 
+/// A stream, a place of it, and the frame that stands there, if it has one.
+const PLACES: [(&[u8], u64, Option<Seen<'static>>); 7] = [
+    (&PAIR, 0, Some((0, 0x19, false, &[0x5a]))),
+    (&PAIR, 8, Some((8, 0x19, false, &[0x01, 0x02]))),
+    (
+        &[0x04, 0x00, 0x00, 0x19, 0x00, 0x00],
+        0,
+        Some((0, 0x19, false, &[])),
+    ),
+    // The end, and places past it.
+    (&[0x04, 0x00, 0x00, 0x19, 0x00, 0x00], 6, None),
+    (&[0x04, 0x00, 0x00, 0x19, 0x00, 0x00], 8, None),
+    (&[0x04, 0x00, 0x00, 0x19, 0x00, 0x00], u64::MAX, None),
+    (&[], 0, None),
+];
+
 /// Whether a frame is the one that is seen.
 fn is_frame(frame: &Frame, seen: &Seen) -> bool {
     let (offset, kind, extended, body) = *seen;
     frame.offset == offset && frame.kind == kind && frame.extended == extended && frame.body == body
 }
 
-/// Whether the frames and the tail are those that are seen.
-fn is_split(found: &Frames, seen: &[Seen], tail: u8) -> bool {
-    let mut is_same = found.as_slice().len() == seen.len() && found.tail() == tail;
-    for (frame, one) in found.as_slice().iter().zip(seen) {
-        is_same = is_same && is_frame(frame, one);
+/// Whether a stream is split into the frames that are seen and this tail.
+fn is_split(alloc: Global, stream: &[u8], seen: &[Seen], tail: u8) -> Result<bool, Fault> {
+    let found = frames(alloc, stream)?;
+    let list = found.as_slice();
+    if list.len() != seen.len() || found.tail() != tail {
+        return Ok(false);
     }
-    is_same
+    for index in 0..seen.len() {
+        if !is_frame(&list[index], &seen[index]) {
+            return Ok(false);
+        }
+    }
+    Ok(true)
+}
+
+/// Whether a stream is refused with this fault.
+fn is_refused(alloc: Global, stream: &[u8], fault: Fault) -> bool {
+    frames(alloc, stream).err() == Some(fault)
 }
 
 #[test]
-fn streams_are_split(rt: HostRuntime) -> Result<(), Fail> {
+fn streams_are_split(rt: HostRuntime) {
     for (stream, seen, tail) in STREAMS {
-        let found = frames(rt.alloc(), stream)?;
-        assert!(rt; is_split(&found, seen, tail), "{stream:?}");
+        let is_same = is_split(rt.alloc(), stream, seen, tail);
+        assert!(rt; is_same == Ok(true), "{stream:?}");
     }
-    Ok(())
 }
 
 #[test]
-fn fronts_of_a_stream_are_split(rt: HostRuntime) -> Result<(), Fail> {
+fn fronts_of_a_stream_are_split(rt: HostRuntime) {
     for stream in [PAIR, PAIR_WITH_ZEROS] {
         for (len, count, tail) in FRONTS {
-            let found = frames(rt.alloc(), &stream[..len.min(17)])?;
             let seen = &PAIR_FRAMES[..count.min(2)];
-            assert!(rt; is_split(&found, seen, tail), "{len}");
-        }
-        for (len, kind, offset) in CUT {
-            let fault = Some(Fault::outer(kind, offset));
-            let answer = frames(rt.alloc(), &stream[..len.min(17)]);
-            assert_eq!(rt; answer.err(), fault, "{len}");
+            let is_same = is_split(rt.alloc(), &stream[..len.min(17)], seen, tail);
+            assert!(rt; is_same == Ok(true), "{len}");
         }
     }
-    Ok(())
+}
+
+#[test]
+fn cut_streams_are_refused(rt: HostRuntime) {
+    for stream in [PAIR, PAIR_WITH_ZEROS] {
+        for (len, kind, offset) in CUT {
+            let fault = Fault::outer(kind, offset);
+            assert!(rt;
+                is_refused(rt.alloc(), &stream[..len.min(17)], fault),
+                "{len}"
+            );
+        }
+    }
 }
 
 #[test]
 fn faults_have_their_places(rt: HostRuntime) {
     for (stream, kind, offset) in FAULTS {
-        let fault = Some(Fault::outer(kind, offset));
-        assert_eq!(rt; frames(rt.alloc(), stream).err(), fault, "{stream:?}");
-        assert_eq!(rt; next_frame(stream, offset).err(), fault, "{stream:?}");
+        let fault = Fault::outer(kind, offset);
+        let is_same = is_refused(rt.alloc(), stream, fault);
+        assert!(rt;
+            is_same && next_frame(stream, offset).err() == Some(fault),
+            "{stream:?}"
+        );
+    }
+}
+
+/// Whether this frame, or none, stands at a place of the stream.
+fn is_next(stream: &[u8], at: u64, seen: &Option<Seen>) -> bool {
+    match (next_frame(stream, at), seen) {
+        (Ok(Some(frame)), Some(one)) => is_frame(&frame, one),
+        (Ok(None), None) => true,
+        _ => false,
     }
 }
 
 #[test]
-fn the_next_frame_stands_at_its_place(rt: HostRuntime) -> Result<(), Fail> {
-    for seen in PAIR_FRAMES {
-        let (offset, _, _, _) = seen;
-        let found = next_frame(&PAIR, offset)?.ok_or("none")?;
-        assert!(rt; is_frame(&found, &seen), "{offset}");
+fn the_next_frame_stands_at_its_place(rt: HostRuntime) {
+    for (stream, at, seen) in PLACES {
+        assert!(rt; is_next(stream, at, &seen), "{stream:?} {at}");
     }
-    let stream = [0x04, 0x00, 0x00, 0x19, 0x00, 0x00];
-    let found = next_frame(&stream, 0)?.ok_or("none")?;
-    assert!(rt; is_frame(&found, &(0, 0x19, false, &[])));
-    let fault = Fault::outer(FaultKind::SectionTail, 4);
-    assert_eq!(rt; next_frame(&stream, 4).err(), Some(fault));
-    for at in [6, 8, u64::MAX] {
-        assert!(rt; next_frame(&stream, at)?.is_none(), "{at}");
-    }
-    assert!(rt; next_frame(&[], 0)?.is_none());
-    Ok(())
 }
 
 /// A section of 8 to 5 bytes, with filler up to 8, that holds its index.
 fn section(index: u16) -> [u8; 8] {
-    let [low, high] = index.to_le_bytes();
     let size = 8 - (index % 4) as u8;
+    let low = (index % 256) as u8;
+    let high = (index / 256) as u8;
     [size, 0x00, 0x00, 0x19, low, high, 0xee, 0xee]
 }
 
@@ -231,17 +267,30 @@ fn long_stream(alloc: Global) -> Result<Vec<u8>, Fault> {
     Ok(bytes)
 }
 
-#[test]
-fn a_long_stream_is_split(rt: HostRuntime) -> Result<(), Fail> {
-    let stream = long_stream(rt.alloc())?;
-    let found = frames(rt.alloc(), &stream)?;
-    assert_eq!(rt; found.as_slice().len(), 1000);
-    assert_eq!(rt; found.tail(), 3);
-    for (index, frame) in (0..1000u16).zip(found.as_slice()) {
-        let bytes = section(index);
-        assert_eq!(rt; frame.offset, u64::from(index) * 8);
-        assert_eq!(rt; (frame.kind, frame.extended), (0x19, false));
-        assert_eq!(rt; Some(frame.body), bytes.get(4..usize::from(bytes[0])));
+/// Whether a frame is the section of this index, as it lies in the stream.
+fn is_section(frame: &Frame, index: u16) -> bool {
+    let bytes = section(index);
+    let size = usize::from(bytes[0].min(8));
+    size >= 4 && is_frame(frame, &(u64::from(index) * 8, 0x19, false, &bytes[4..size]))
+}
+
+/// Whether the long stream is split into its 1000 sections, with 3 bytes behind the last.
+fn is_long_split(alloc: Global) -> Result<bool, Fault> {
+    let stream = long_stream(alloc)?;
+    let found = frames(alloc, &stream)?;
+    let list = found.as_slice();
+    if list.len() != 1000 || found.tail() != 3 {
+        return Ok(false);
     }
-    Ok(())
+    for index in 0..1000 {
+        if !is_section(&list[usize::from(index)], index) {
+            return Ok(false);
+        }
+    }
+    Ok(true)
+}
+
+#[test]
+fn a_long_stream_is_split(rt: HostRuntime) {
+    assert_eq!(rt; is_long_split(rt.alloc()), Ok(true));
 }

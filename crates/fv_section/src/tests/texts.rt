@@ -1,7 +1,6 @@
 //! What leaf sections hold, and bodies that hold none of it.
 
 use crate::{freeform, ui_text, version};
-use fv_base::Guid;
 
 /// The body of a user interface section, and its text.
 const TEXTS: [(&[u8], Option<&[u8]>); 11] = [
@@ -45,15 +44,33 @@ const VERSIONS: [(&[u8], Option<(u16, &[u8])>); 8] = [
     (&[0x01, 0x00, 0x00, 0x00, 0x31, 0x00, 0x00, 0x00], None),
 ];
 
-/// A GUID and a byte behind it.
-const WITH_A_BYTE: [u8; 17] = [
-    0x0a, 0x0a, 0x0a, 0x0a, 0x0a, 0x0a, 0x0a, 0x0a, 0x0a, 0x0a, 0x0a, 0x0a, 0x0a, 0x0a, 0x0a, 0x0a,
-    0x01,
-];
-
-/// A GUID of which each byte is another.
-const ALONE: [u8; 16] = [
-    0x10, 0x11, 0x12, 0x13, 0x14, 0x15, 0x16, 0x17, 0x18, 0x19, 0x1a, 0x1b, 0x1c, 0x1d, 0x1e, 0x1f,
+/// The body of a freeform section, and its GUID's bytes and those behind them.
+const FREEFORMS: [(&[u8], Option<(&[u8], &[u8])>); 5] = [
+    (
+        &[
+            0x0a, 0x0a, 0x0a, 0x0a, 0x0a, 0x0a, 0x0a, 0x0a, 0x0a, 0x0a, 0x0a, 0x0a, 0x0a, 0x0a,
+            0x0a, 0x0a, 0x01,
+        ],
+        Some((&[0x0a; 16], &[0x01])),
+    ),
+    (&[0x0a; 16], Some((&[0x0a; 16], &[]))),
+    // A byte is missing, and nothing.
+    (&[0x0a; 15], None),
+    (&[], None),
+    // Each byte is another.
+    (
+        &[
+            0x10, 0x11, 0x12, 0x13, 0x14, 0x15, 0x16, 0x17, 0x18, 0x19, 0x1a, 0x1b, 0x1c, 0x1d,
+            0x1e, 0x1f,
+        ],
+        Some((
+            &[
+                0x10, 0x11, 0x12, 0x13, 0x14, 0x15, 0x16, 0x17, 0x18, 0x19, 0x1a, 0x1b, 0x1c, 0x1d,
+                0x1e, 0x1f,
+            ],
+            &[],
+        )),
+    ),
 ];
 
 #[test]
@@ -70,14 +87,21 @@ fn versions_are_seen(rt: HostRuntime) {
     }
 }
 
+/// Whether the body has these parts, or none.
+fn is_freeform(body: &[u8], parts: Option<(&[u8], &[u8])>) -> bool {
+    match (freeform(body), parts) {
+        (Some((guid, rest)), Some((name, bytes))) => {
+            let own = guid.to_bytes();
+            own.as_slice() == name && rest == bytes
+        }
+        (None, None) => true,
+        _ => false,
+    }
+}
+
 #[test]
 fn freeform_bodies_are_seen(rt: HostRuntime) {
-    let guid = Guid::from_bytes([0x0a; 16]);
-    let byte: &[u8] = &[0x01];
-    let nothing: &[u8] = &[];
-    assert_eq!(rt; freeform(&WITH_A_BYTE), Some((guid, byte)));
-    assert_eq!(rt; freeform(&WITH_A_BYTE[..16]), Some((guid, nothing)));
-    assert_eq!(rt; freeform(&WITH_A_BYTE[..15]), None);
-    assert_eq!(rt; freeform(&[]), None);
-    assert_eq!(rt; freeform(&ALONE), Some((Guid::from_bytes(ALONE), nothing)));
+    for (body, parts) in FREEFORMS {
+        assert!(rt; is_freeform(body, parts), "{body:?}");
+    }
 }

@@ -13,11 +13,17 @@ fn empty_volume(alloc: Global) -> Result<Vec<u8>, Fault> {
     read_hex(alloc, &mut Port::new(vectors::EMPTY))
 }
 
-/// What a run answers, and what it wrote.
-fn outcome_of<R: Read + Drop>(alloc: Global, reader: R) -> (Result<(), Fault>, Vec<u8>) {
+/// Whether a run answers so, and writes the bytes.
+fn answers<R: Read + Drop>(
+    alloc: Global,
+    reader: R,
+    outcome: Result<(), Fault>,
+    wanted: &[u8],
+) -> bool {
+    let mut reader = Port::new(reader);
     let mut writer = Port::new(Vec::<u8>::new(alloc));
-    let outcome = run_normalise(alloc, &mut Port::new(reader), &mut writer);
-    (outcome, writer.into_inner())
+    let answered = run_normalise(alloc, &mut reader, &mut writer);
+    answered == outcome && writer.into_inner().as_slice() == wanted
 }
 
 #[test]
@@ -25,9 +31,7 @@ fn reads_in_small_pieces(rt: HostRuntime) -> Result<(), Fail> {
     let volume = empty_volume(rt.alloc())?;
     for (step, is_interrupted) in [(1, false), (1, true), (50, true), (4096, true)] {
         let reader = FakeReader::new(&volume, step, is_interrupted);
-        let (outcome, written) = outcome_of(rt.alloc(), reader);
-        assert_eq!(rt; outcome, Ok(()));
-        assert_eq!(rt; written.as_slice(), volume.as_slice());
+        assert!(rt; answers(rt.alloc(), reader, Ok(()), &volume), "{step}");
     }
     Ok(())
 }
@@ -38,13 +42,20 @@ fn nothing_is_written_of_a_broken_input(rt: HostRuntime) -> Result<(), Fail> {
     for count in 0..=volume.len() {
         for step in [1, 4096] {
             let reader = FakeReader::failing(&volume, step, count);
-            let (outcome, written) = outcome_of(rt.alloc(), reader);
             let fault = Fault::outer(FaultKind::ReadFault, count as u64);
-            assert_eq!(rt; outcome, Err(fault));
-            assert!(rt; written.is_empty(), "at {count}");
+            assert!(rt; answers(rt.alloc(), reader, Err(fault), b""), "{count}");
         }
     }
     Ok(())
+}
+
+/// Whether a run fails where its writer does, and writes these bytes.
+fn stops_at(alloc: Global, volume: &[u8], writer: FakeWriter, wanted: &[u8]) -> bool {
+    let fault = Fault::outer(FaultKind::WriteFault, wanted.len() as u64);
+    let mut reader = Port::new(volume);
+    let mut writer = Port::new(writer);
+    let answered = run_normalise(alloc, &mut reader, &mut writer);
+    answered == Err(fault) && writer.into_inner().took(wanted)
 }
 
 #[test]
@@ -52,14 +63,11 @@ fn writes_until_the_writer_stops(rt: HostRuntime) -> Result<(), Fail> {
     let volume = empty_volume(rt.alloc())?;
     for room in 0..volume.len() {
         for (step, is_broken) in [(1, true), (1, false), (4096, true), (4096, false)] {
-            let mut reader = Port::new(volume.as_slice());
-            let mut writer = Port::new(FakeWriter::new(rt.alloc(), step, room, is_broken));
-            let outcome = run_normalise(rt.alloc(), &mut reader, &mut writer);
-            let fault = Fault::outer(FaultKind::WriteFault, room as u64);
-            assert_eq!(rt; outcome, Err(fault));
-            let writer = writer.into_inner();
-            assert_eq!(rt; Some(writer.taken.as_slice()), volume.get(..room));
-            assert_eq!(rt; writer.late_calls, 0);
+            let writer = FakeWriter::new(rt.alloc(), step, room, is_broken);
+            assert!(rt;
+                stops_at(rt.alloc(), &volume, writer, &volume[..room]),
+                "{room}"
+            );
         }
     }
     Ok(())
@@ -67,8 +75,6 @@ fn writes_until_the_writer_stops(rt: HostRuntime) -> Result<(), Fail> {
 
 #[test]
 fn an_input_without_end_is_too_long(rt: HostRuntime) {
-    let (outcome, written) = outcome_of(rt.alloc(), EndlessReader);
     let fault = Fault::outer(FaultKind::Length, 268_435_456);
-    assert_eq!(rt; outcome, Err(fault));
-    assert!(rt; written.is_empty());
+    assert!(rt; answers(rt.alloc(), EndlessReader, Err(fault), b""));
 }

@@ -69,13 +69,48 @@ impl Read for EndlessReader {
     }
 }
 
+/// Gives spaces without end.
+#[derive(Drop)]
+pub struct SpaceReader {
+    /// How often it was asked.
+    pub calls: u64,
+    /// The most bytes that it was asked for.
+    pub most: usize,
+}
+
+impl Read for SpaceReader {
+    fn read(&mut self, buf: &mut [u8]) -> io::Result<usize> {
+        self.calls = self.calls.saturating_add(1);
+        self.most = self.most.max(buf.len());
+        buf.fill(b' ');
+        Ok(buf.len())
+    }
+}
+
+/// Gives two digits, and is interrupted from then on.
+#[derive(Drop)]
+pub struct InterruptedReader {
+    /// How often it was asked.
+    pub calls: u64,
+}
+
+impl Read for InterruptedReader {
+    fn read(&mut self, buf: &mut [u8]) -> io::Result<usize> {
+        self.calls = self.calls.saturating_add(1);
+        if self.calls > 1 || buf.len() < 2 {
+            return Err(io::Error::from(ErrorKind::Interrupted));
+        }
+        buf[..2].copy_from_slice(b"00");
+        Ok(2)
+    }
+}
+
 /// Takes so many bytes, and then fails.
 #[derive(Drop)]
 pub struct FakeWriter {
-    /// What it took.
-    pub taken: Vec<u8>,
-    /// How many calls came after the first that failed.
-    pub late_calls: u32,
+    taken: Vec<u8>,
+    /// Whether a call came after the first that failed.
+    is_late: bool,
     step: usize,
     room: usize,
     /// Whether a call without room is an error, or takes no byte.
@@ -88,19 +123,24 @@ impl FakeWriter {
     pub fn new(alloc: Global, step: usize, room: usize, is_broken: bool) -> FakeWriter {
         FakeWriter {
             taken: Vec::new(alloc),
-            late_calls: 0,
+            is_late: false,
             step,
             room,
             is_broken,
             has_failed: false,
         }
     }
+
+    /// Whether it took just these bytes, and no call came after the first that failed.
+    pub fn took(&self, bytes: &[u8]) -> bool {
+        !self.is_late && self.taken.as_slice() == bytes
+    }
 }
 
 impl Write for FakeWriter {
     fn write(&mut self, buf: &[u8]) -> io::Result<usize> {
         if self.has_failed {
-            self.late_calls = self.late_calls.saturating_add(1);
+            self.is_late = true;
             return Err(io::Error::from(ErrorKind::BrokenPipe));
         }
         let count = buf.len().min(self.step).min(self.room);
@@ -114,9 +154,7 @@ impl Write for FakeWriter {
     }
 
     fn flush(&mut self) -> io::Result<()> {
-        if self.has_failed {
-            self.late_calls = self.late_calls.saturating_add(1);
-        }
+        self.is_late = self.is_late || self.has_failed;
         Ok(())
     }
 }

@@ -1,6 +1,7 @@
 //! Hand-off lists, and the images that their volumes are looked for in.
 
-use super::fakes::{FakeReader, FakeWriter};
+use super::fakes::FakeReader;
+use super::runs::{ends_as, stops_at_each_byte};
 use super::vectors;
 use crate::commands::{Status, run_plan};
 use crate::hex_text::read_hex;
@@ -9,7 +10,6 @@ use crate::words::{Command, ImageFile, Plan};
 use fv_base::Port;
 use fv_hob::Span;
 use std::alloc::Global;
-use std::io::Read;
 use std::test::Fail;
 
 /// The hand-off information table of the lists.
@@ -25,71 +25,109 @@ ffffffffffffffffffffffffffffffffffffffffffffffffffffffffffffffff\n\
 ffffffffffffffffffffffffffffffffffffffffffffffffffffffffffffffff\n\
 ";
 
-fn plan_of(alloc: Global, hex: bool, base: Option<u64>) -> Plan {
-    let image = base.map(|base| ImageFile {
-        path: String::new(alloc),
-        base,
-    });
+/// What is written of the list, without an image.
+const LISTED: &[u8] = b"\
+hob 0001 length 56\n\
+hob 0009 length 56\n\
+hob fffe length 8\n\
+hob 0004 length 32\n\
+hob ffff length 8\n\
+consumed 160\n\
+";
+
+/// With an image that has its volume.
+const LISTED_VOLUME: &[u8] = b"\
+hob 0001 length 56\n\
+hob 0009 length 56 volume\n\
+hob fffe length 8\n\
+hob 0004 length 32\n\
+hob ffff length 8\n\
+consumed 160\n\
+";
+
+/// With an image that its volume does not lie in.
+const LISTED_OUTSIDE: &[u8] = b"\
+hob 0001 length 56\n\
+hob 0009 length 56 outside\n\
+hob fffe length 8\n\
+hob 0004 length 32\n\
+hob ffff length 8\n\
+consumed 160\n\
+";
+
+/// With an image that has something else in its place.
+const LISTED_ABSENT: &[u8] = b"\
+hob 0001 length 56\n\
+hob 0009 length 56 absent\n\
+hob fffe length 8\n\
+hob 0004 length 32\n\
+hob ffff length 8\n\
+consumed 160\n\
+";
+
+/// To list the blocks of standard input.
+fn list_plan(hex: bool) -> Plan {
     Plan {
         hex,
-        command: Command::Hobs { file: None, image },
+        command: Command::Hobs {
+            file: None,
+            image: None,
+        },
     }
 }
 
-/// How a run ends, and what it writes.
-fn run<First: Read + Drop, Second: Read + Drop>(
-    alloc: Global,
-    plan: &Plan,
-    list: First,
-    image: Second,
-) -> (Status, Vec<u8>) {
-    let mut writer = Port::new(Vec::<u8>::new(alloc));
-    let status = run_plan(
-        alloc,
-        plan,
-        &mut Port::new(list),
-        &mut Port::new(image),
-        &mut writer,
-    );
-    (status, writer.into_inner())
+/// To look for their volumes too, in an image whose first byte has the address.
+fn image_plan(alloc: Global, hex: bool, base: u64) -> Plan {
+    let path = String::new(alloc);
+    Plan {
+        hex,
+        command: Command::Hobs {
+            file: None,
+            image: Some(ImageFile { path, base }),
+        },
+    }
 }
 
 #[test]
-fn lists_the_blocks(rt: HostRuntime) -> Result<(), Fail> {
-    let cases = [
-        (None, &b""[..], ""),
-        (Some(16_711_680), vectors::EMPTY, " volume"),
-        (Some(16_711_681), vectors::EMPTY, " outside"),
-        (Some(16_711_679), vectors::EMPTY, " outside"),
-        (Some(16_711_680), ERASED, " absent"),
-        (Some(16_711_680), &b""[..], " outside"),
+fn lists_the_blocks(rt: HostRuntime) {
+    let list = vectors::HAND_OFF_LIST;
+    assert!(rt;
+        ends_as(
+            rt.alloc(),
+            &list_plan(true),
+            (list, b""),
+            Status::Done,
+            LISTED
+        )
+    );
+    let cases: [(u64, &[u8], &[u8]); 5] = [
+        (16_711_680, vectors::EMPTY, LISTED_VOLUME),
+        (16_711_681, vectors::EMPTY, LISTED_OUTSIDE),
+        (16_711_679, vectors::EMPTY, LISTED_OUTSIDE),
+        (16_711_680, ERASED, LISTED_ABSENT),
+        (16_711_680, b"", LISTED_OUTSIDE),
     ];
-    for (base, image, word) in cases {
-        let plan = plan_of(rt.alloc(), true, base);
-        let (status, written) = run(rt.alloc(), &plan, vectors::HAND_OFF_LIST, image);
-        let wanted = format!(in rt.alloc();
-            "hob 0001 length 56\nhob 0009 length 56{word}\nhob fffe length 8\nhob 0004 length 32\nhob ffff length 8\nconsumed 160\n"
-        )?;
-        assert_eq!(rt; written.as_slice(), wanted.as_bytes());
-        assert_eq!(rt; status, Status::Done);
+    for (base, image, wanted) in cases {
+        let plan = image_plan(rt.alloc(), true, base);
+        assert!(rt;
+            ends_as(rt.alloc(), &plan, (list, image), Status::Done, wanted),
+            "{base}"
+        );
     }
-    Ok(())
 }
 
 #[test]
 fn a_span_does_not_wrap(rt: HostRuntime) {
+    let list = vectors::HAND_OFF_SPAN_WRAPS;
+    let image = vectors::EMPTY;
     let wanted =
         b"hob 0001 length 56\nhob 0005 length 24 outside\nhob ffff length 8\nconsumed 88\n";
     for base in [0, 8, 16_711_680, u64::MAX - 127, u64::MAX] {
-        let plan = plan_of(rt.alloc(), true, Some(base));
-        let (status, written) = run(
-            rt.alloc(),
-            &plan,
-            vectors::HAND_OFF_SPAN_WRAPS,
-            vectors::EMPTY,
+        let plan = image_plan(rt.alloc(), true, base);
+        assert!(rt;
+            ends_as(rt.alloc(), &plan, (list, image), Status::Done, wanted),
+            "{base}"
         );
-        assert_eq!(rt; written.as_slice(), wanted.as_slice(), "{base}");
-        assert_eq!(rt; status, Status::Done);
     }
 }
 
@@ -97,19 +135,15 @@ fn a_span_does_not_wrap(rt: HostRuntime) {
 fn inputs_may_be_bytes(rt: HostRuntime) -> Result<(), Fail> {
     let list = read_hex(rt.alloc(), &mut Port::new(vectors::HAND_OFF_LIST))?;
     let image = read_hex(rt.alloc(), &mut Port::new(vectors::EMPTY))?;
-    let plan = plan_of(rt.alloc(), false, Some(16_711_680));
-    let (status, written) = run(rt.alloc(), &plan, list.as_slice(), image.as_slice());
-    let wanted =
-        b"hob 0001 length 56\nhob 0009 length 56 volume\nhob fffe length 8\nhob 0004 length 32\nhob ffff length 8\nconsumed 160\n";
-    assert_eq!(rt; written.as_slice(), wanted.as_slice());
-    assert_eq!(rt; status, Status::Done);
+    let plan = image_plan(rt.alloc(), false, 16_711_680);
+    let inputs = (list.as_slice(), image.as_slice());
+    assert!(rt; ends_as(rt.alloc(), &plan, inputs, Status::Done, LISTED_VOLUME));
     Ok(())
 }
 
 #[test]
 fn a_volume_fills_its_span(rt: HostRuntime) -> Result<(), Fail> {
-    let mut image = read_hex(rt.alloc(), &mut Port::new(vectors::EMPTY))?;
-    image.extend_from_slice(&[0xff; 8])?;
+    let image = read_hex(rt.alloc(), &mut Port::new(vectors::EMPTY_AND_8_BYTES))?;
     let top = u64::MAX - 135;
     let cases = [
         (0, 0, 128, Standing::Volume),
@@ -137,70 +171,63 @@ fn a_volume_fills_its_span(rt: HostRuntime) -> Result<(), Fail> {
             length,
         };
         let standing = standing_of(&image, base, span);
-        assert_eq!(rt; standing, wanted, "{base} {start} {length}");
+        assert!(rt; standing == wanted, "{base} {start} {length}");
     }
     Ok(())
 }
 
 #[test]
 fn refuses_lists(rt: HostRuntime) {
-    let cases = [
-        (&b""[..], "hob fault 5 at 0\n"),
-        (&b"01003800000000"[..], "hob fault 1 at 0\n"),
-        (HANDOFF, "hob fault 5 at 56\n"),
-        (&b"ffff080000000000"[..], "hob fault 3 at 0\n"),
-        (&b"0"[..], "fault 25 at 0\n"),
-        (&b"zz"[..], "fault 25 at 0\n"),
+    let cases: [(&[u8], &[u8]); 6] = [
+        (b"", b"hob fault 5 at 0\n"),
+        (b"01003800000000", b"hob fault 1 at 0\n"),
+        (HANDOFF, b"hob fault 5 at 56\n"),
+        (b"ffff080000000000", b"hob fault 3 at 0\n"),
+        (b"0", b"fault 25 at 0\n"),
+        (b"zz", b"fault 25 at 0\n"),
     ];
+    let list_alone = list_plan(true);
+    let with_image = image_plan(rt.alloc(), true, 0);
     for (list, wanted) in cases {
-        for base in [None, Some(0)] {
-            let plan = plan_of(rt.alloc(), true, base);
-            let (status, written) = run(rt.alloc(), &plan, list, vectors::EMPTY);
-            assert_eq!(rt; written.as_slice(), wanted.as_bytes());
-            assert_eq!(rt; status, Status::Refused);
-        }
+        let inputs = (list, vectors::EMPTY);
+        assert!(rt;
+            ends_as(rt.alloc(), &list_alone, inputs, Status::Refused, wanted),
+            "{list:?}"
+        );
+        assert!(rt;
+            ends_as(rt.alloc(), &with_image, inputs, Status::Refused, wanted),
+            "{list:?}"
+        );
     }
+}
+
+/// Whether a run is refused and writes the line, where its readers fail behind so many bytes.
+fn is_refused_with(alloc: Global, list_count: usize, image_count: usize, line: &[u8]) -> bool {
+    let plan = image_plan(alloc, false, 0);
+    let mut list = Port::new(FakeReader::failing(b"abcdefgh", 3, list_count));
+    let mut image = Port::new(FakeReader::failing(b"abcdefgh", 3, image_count));
+    let mut writer = Port::new(Vec::<u8>::new(alloc));
+    let status = run_plan(alloc, &plan, &mut list, &mut image, &mut writer);
+    status == Status::Refused && writer.into_inner().as_slice() == line
 }
 
 // The list is read first, then the image, and then the blocks are.
 #[test]
 fn the_first_refusal_is_told(rt: HostRuntime) {
-    let plan = plan_of(rt.alloc(), false, Some(0));
-    let broken_list = FakeReader::failing(b"abcdefgh", 3, 5);
-    let broken_image = FakeReader::failing(b"abcdefgh", 3, 2);
-    let (status, written) = run(rt.alloc(), &plan, broken_list, broken_image);
-    assert_eq!(rt; written.as_slice(), b"fault 25 at 5\n".as_slice());
-    assert_eq!(rt; status, Status::Refused);
-
-    let broken_image = FakeReader::failing(b"abcdefgh", 3, 2);
-    let (status, written) = run(rt.alloc(), &plan, &b"abcdefgh"[..], broken_image);
-    assert_eq!(rt; written.as_slice(), b"fault 25 at 2\n".as_slice());
-    assert_eq!(rt; status, Status::Refused);
-
-    let (status, written) = run(rt.alloc(), &plan, &b"abcdefgh"[..], &b"abcdefgh"[..]);
-    assert_eq!(rt; written.as_slice(), b"hob fault 2 at 0\n".as_slice());
-    assert_eq!(rt; status, Status::Refused);
+    let cases: [(usize, usize, &[u8]); 3] = [
+        (5, 2, b"fault 25 at 5\n"),
+        (usize::MAX, 2, b"fault 25 at 2\n"),
+        (usize::MAX, usize::MAX, b"hob fault 2 at 0\n"),
+    ];
+    for (list_count, image_count, wanted) in cases {
+        let is_so = is_refused_with(rt.alloc(), list_count, image_count, wanted);
+        assert!(rt; is_so, "{list_count} {image_count}");
+    }
 }
 
 #[test]
 fn a_line_that_fails_is_the_last(rt: HostRuntime) {
-    let output =
-        b"hob 0001 length 56\nhob 0009 length 56 volume\nhob fffe length 8\nhob 0004 length 32\nhob ffff length 8\nconsumed 160\n";
-    let plan = plan_of(rt.alloc(), true, Some(16_711_680));
-    for room in 0..output.len() {
-        for (step, is_broken) in [(7, false), (7, true), (1000, true)] {
-            let mut writer = Port::new(FakeWriter::new(rt.alloc(), step, room, is_broken));
-            let status = run_plan(
-                rt.alloc(),
-                &plan,
-                &mut Port::new(vectors::HAND_OFF_LIST),
-                &mut Port::new(vectors::EMPTY),
-                &mut writer,
-            );
-            assert_eq!(rt; status, Status::Refused);
-            let writer = writer.into_inner();
-            assert_eq!(rt; writer.late_calls, 0);
-            assert_eq!(rt; Some(writer.taken.as_slice()), output.get(..room));
-        }
-    }
+    let plan = image_plan(rt.alloc(), true, 16_711_680);
+    let inputs = (vectors::HAND_OFF_LIST, vectors::EMPTY);
+    assert!(rt; stops_at_each_byte(rt.alloc(), &plan, inputs, LISTED_VOLUME));
 }

@@ -7,6 +7,31 @@ pub const EMPTY: &[u8] = b"\
 ffffffffffffffffffffffffffffffffffffffffffffffffffffffffffffffff\n\
 ";
 
+/// Behind the volume there are 8 bytes.
+pub const EMPTY_AND_8_BYTES: &[u8] = b"\
+0000000000000000000000000000000078e58c8c3d8a1c4f9935896185c32dd3\n\
+80000000000000005f465648fffe04004800cef5000000020100000080000000\n\
+0000000000000000ffffffffffffffffffffffffffffffffffffffffffffffff\n\
+ffffffffffffffffffffffffffffffffffffffffffffffffffffffffffffffff\n\
+ffffffffffffffff\n\
+";
+
+/// By its attributes an erased byte is 00, and its bytes are.
+pub const EMPTY_OF_ZEROS: &[u8] = b"\
+0000000000000000000000000000000078e58c8c3d8a1c4f9935896185c32dd3\n\
+80000000000000005f465648fff604004800cefd000000020100000080000000\n\
+0000000000000000000000000000000000000000000000000000000000000000\n\
+0000000000000000000000000000000000000000000000000000000000000000\n\
+";
+
+/// By its attributes an erased byte is 00, and its bytes are not.
+pub const EMPTY_OF_ZEROS_BUT_FULL: &[u8] = b"\
+0000000000000000000000000000000078e58c8c3d8a1c4f9935896185c32dd3\n\
+80000000000000005f465648fff604004800cefd000000020100000080000000\n\
+0000000000000000ffffffffffffffffffffffffffffffffffffffffffffffff\n\
+ffffffffffffffffffffffffffffffffffffffffffffffffffffffffffffffff\n\
+";
+
 pub const HEAD_SUM_OFF_BY_ONE: &[u8] = b"\
 0000000000000000000000000000000078e58c8c3d8a1c4f9935896185c32dd3\n\
 80000000000000005f465648fffe04004800cff5000000020100000080000000\n\

@@ -1,5 +1,6 @@
 use Rattle.std.proofs.Common.{inr}
 use Rattle.std.proofs.lemmas.Result.{err_from_is_err_and}
+use Rattle.fv_tree.proofs.Laws.{front_of_prefix}
 use Rattle.fv_canon.proofs.InputLaws.{volume_kind, volume_refused, end_refused, end_found}
 use Rattle.fv_canon.proofs.run.whole_volume.Goals as goal
 
@@ -23,6 +24,18 @@ pub returns-in_err-check-clause-kind : goal.returns-in_err-check-clause-kind
 returns-in_err-check-clause-kind c =
     let p = err_from_is_err_and c.from_residual-in_err-check.result c.from_residual-in_err-check.ensures.1 in
     rw (p.1, p.2, c.in_err-check.ensures.err.1) (λ e. cc, λ e. cc)
+
+pub returns-in_err-view-clause-memory : goal.returns-in_err-view-clause-memory
+returns-in_err-view-clause-memory c =
+    let p = err_from_is_err_and c.from_residual.result c.from_residual.ensures.1 in
+    rw (p.1, p.2) c.in_err-view.ensures.memory
+
+pub returns-in_err-check-clause-memory : goal.returns-in_err-check-clause-memory
+returns-in_err-check-clause-memory c =
+    let p = err_from_is_err_and c.from_residual-in_err-check.result c.from_residual-in_err-check.ensures.1 in
+    let d = c.in_ok-view.ensures.found in
+    let front = front_of_prefix c.args.input.now c.in_ok-view.length c.in_ok-view.view c.in_ok-view.ensures.length.1 d in
+    rw (p.1, p.2) (λ want. (c.in_ok-view.view.head, d.extent, front.0))
 
 pub returns-clause-found : goal.returns-clause-found
 returns-clause-found c = end_found c.args.input.now c.in_ok-view.view c.in_ok-view.length c.in_ok-view.ensures.found c.in_ok-check.ensures.ok

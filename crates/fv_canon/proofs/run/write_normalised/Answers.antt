@@ -3,8 +3,13 @@ use Rattle.std.proofs.lemmas.Result.{err_from_is_err_and}
 use Rattle.fv_base.specs.Port.{has_erred}
 use Rattle.fv_base.specs.declared.fault.Fault.{Fault}
 use Rattle.fv_base.specs.declared.fault.FaultKind.TheVariants as kinds
-use Rattle.fv_canon.proofs.RunLaws.{input_writes, writer_stops, memory_stops, write_not_read, of_some_kind}
+use Rattle.fv_canon.proofs.RunLaws.{input_writes, writer_stops, memory_stops, refused_stops, write_not_read, of_some_kind}
 use Rattle.fv_canon.proofs.run.write_normalised.Goals as goal
+
+pub returns-in_err-view-clause-err : goal.returns-in_err-view-clause-err
+returns-in_err-view-clause-err g c =
+    let p = err_from_is_err_and c.from_residual.result c.from_residual.ensures.1 in
+    rw (p.1, p.2) (refused_stops c.args.input.now _ _ c.in_err-view.ensures.refused)
 
 pub returns-in_err-places-clause-err : goal.returns-in_err-places-clause-err
 returns-in_err-places-clause-err g c =

@@ -1,14 +1,15 @@
-use Rattle.std.proofs.Common.{refl, sym, subst, ◌∙◌}
-use Rattle.std.proofs.lemmas.List.{take_rest}
+use Rattle.std.proofs.Common.{refl, sym, subst, drop}
 use Rattle.std.proofs.lemmas.Result.{err_from_is_err_and}
+use Rattle.fv_base.proofs.CheckLemmas.{whatever}
+use Rattle.fv_depex.specs.Checks.{FirstStands, want_of_memory}
 use Rattle.fv_depex.specs.Expressions.{Spells}
 use Rattle.fv_depex.proofs.PathLemmas.{one_spelling}
-use Rattle.fv_depex.proofs.ReadLemmas.{none_after}
+use Rattle.fv_depex.proofs.ReadLemmas.{none_after, spells_first}
 use Rattle.fv_depex.proofs.read.read_depex.Goals as goal
 
 pub returns-clause-found : goal.returns-clause-found
 returns-clause-found c =
-    rw c.from_parts.ensures (refl, subst (λ l. Spells c.args.phase c.in_ok-ops.ops.items l c.args.bytes.now) (sym (c.from_vec.ensures ∙ c.in_ok-rest.ensures.items ∙ take_rest c.args.bytes.now c.in_ok-ops.at)) c.in_ok-ops.ensures.found.1)
+    rw c.from_parts.ensures (refl, subst (λ l. Spells c.args.phase c.in_ok-ops.ops.items l c.args.bytes.now) (sym c.in_ok-rest.ensures) c.in_ok-ops.ensures.found.1)
 
 pub returns-clause-only : goal.returns-clause-only
 returns-clause-only c = λ ops rest spells.
@@ -18,3 +19,7 @@ pub returns-in_err-ops-clause-none : goal.returns-in_err-ops-clause-none
 returns-in_err-ops-clause-none c =
     let p = err_from_is_err_and c.from_residual.result c.from_residual.ensures.1 in
     rw (p.1, p.2) (λ memory ops rest spells. none_after c.args.phase c.args.bytes.now _ ops rest (c.in_err-ops.ensures.first memory) spells)
+
+pub returns-in_err-rest-clause-memory : goal.returns-in_err-rest-clause-memory
+returns-in_err-rest-clause-memory c =
+    whatever c.from_residual-in_err-rest.result want_of_memory (FirstStands c.args.phase c.args.bytes.now) (spells_first c.args.phase c.args.bytes.now c.in_ok-ops.ops.items (drop c.in_ok-ops.at c.args.bytes.now) c.in_ok-ops.ensures.found.1)

@@ -1,7 +1,9 @@
-use Rattle.std.proofs.Common.{◌≡◌, ◌∙◌, sym, subst, ◌++◌, ◌∷◌, [], arith, rules}
+use Rattle.std.proofs.Common.{◌≡◌, ◌∙◌, sym, subst, ap, ◌++◌, ◌∷◌, [], ◌-◌, length, drop, take, arith, rules}
 use Rattle.std.proofs.lemmas.List.{take_rest}
-use Rattle.fv_depex.specs.Checks.{OpStands}
-use Rattle.fv_depex.proofs.ReadLemmas.{kept_none, kept, ended, one_more}
+use Rattle.fv_base.proofs.CheckLemmas.{whatever}
+use Rattle.fv_depex.specs.Checks.{FirstStands, OpStands, want_of_memory}
+use Rattle.fv_depex.specs.declared.fault.DepexFault.{DepexFault}
+use Rattle.fv_depex.proofs.ReadLemmas.{kept_none, kept, ended, no_want, one_more, stands_first}
 use Rattle.fv_depex.proofs.read.read_ops.Goals as goal
 
 pub loop-op-init : goal.loop-op-init
@@ -22,3 +24,11 @@ pub returns-then-code-eq-END-clause-found : goal.returns-then-code-eq-END-clause
 returns-then-code-eq-END-clause-found c =
     let items : c.push.new.self.items ≡ c.loop-op.ops.items ++ c.in-Ok.op ∷ [] = search rules in
     ended c.args.phase c.args.bytes.now c.loop-op.ops.items c.push.new.self.items c.in-Ok.op c.loop-op.at c.op_len-at.result c.loop-op.stage c.loop-op.invariant c.in-Ok.ensures.found c.op_len-at.ensures (sym c.code.ensures ∙ c.if-code-eq-END.true) items
+
+pub returns-in-Err-clause-memory : goal.returns-in-Err-clause-memory
+returns-in-Err-clause-memory c = λ e.
+    absurd (no_want c.args.phase c.loop-op.stage (take (length c.args.bytes.now - c.loop-op.at) (drop c.loop-op.at c.args.bytes.now)) c.in-Err.kind c.in-Err.ensures.first (ap (λ (f : DepexFault). f.kind) e))
+
+pub returns-in_err-push-clause-memory : goal.returns-in_err-push-clause-memory
+returns-in_err-push-clause-memory c =
+    whatever c.from_residual.result want_of_memory (FirstStands c.args.phase c.args.bytes.now) (stands_first c.args.phase c.args.bytes.now c.loop-op.ops.items c.in-Ok.op c.loop-op.at c.loop-op.stage c.loop-op.invariant c.in-Ok.ensures.found)

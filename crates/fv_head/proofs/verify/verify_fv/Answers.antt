@@ -1,5 +1,5 @@
 use Rattle.std.proofs.Common.{rules, ◌∙◌}
-use Rattle.fv_head.proofs.FrontLemmas.{ok_found, front_only, err_first}
+use Rattle.fv_head.proofs.FrontLemmas.{ok_found, front_only, err_first, err_within}
 use Rattle.fv_head.proofs.verify.verify_fv.Goals as goal
 
 pub returns-clause-found : goal.returns-clause-found
@@ -10,3 +10,6 @@ returns-clause-only c = λ h e front. c.verdict.ensures ∙ front_only c.args.by
 
 pub returns-clause-first : goal.returns-clause-first
 returns-clause-first c = err_first c.args.bytes.now c.verdict.result c.verdict.ensures
+
+pub returns-clause-bound : goal.returns-clause-bound
+returns-clause-bound c = err_within c.args.bytes.now c.verdict.result c.verdict.ensures

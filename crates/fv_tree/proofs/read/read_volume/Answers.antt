@@ -53,3 +53,18 @@ pub returns-in_err-check-clause-first : goal.returns-in_err-check-clause-first
 returns-in_err-check-clause-first c =
     let p = err_from_is_err_and c.from_residual-in_err-check.result c.from_residual-in_err-check.ensures.1 in
     rw (p.1, p.2) (inr (ext_first c.args.bytes.now c.in_ok-head.head c.in_ok-head.extent _ c.in_ok-head.ensures.found (some_is c.ext.result c.in_ok-head.head.ext c.is_none.result c.is_none.ensures c.ext.ensures c.in_err-check.ensures.err.0) c.in_err-check.ensures.err.1))
+
+pub returns-in_err-head-clause-memory : goal.returns-in_err-head-clause-memory
+returns-in_err-head-clause-memory c =
+    let p = err_from_is_err_and c.from_residual.result c.from_residual.ensures.1 in
+    rw (p.1, p.2) c.in_err-head.ensures.memory
+
+pub returns-in_err-check-clause-memory : goal.returns-in_err-check-clause-memory
+returns-in_err-check-clause-memory c =
+    let p = err_from_is_err_and c.from_residual-in_err-check.result c.from_residual-in_err-check.ensures.1 in
+    rw (p.1, p.2) (λ want. (c.in_ok-head.head, c.in_ok-head.extent, c.in_ok-head.ensures.found))
+
+pub returns-in_err-check-2-clause-memory : goal.returns-in_err-check-2-clause-memory
+returns-in_err-check-2-clause-memory c =
+    let p = err_from_is_err_and c.from_residual-in_err-check-2.result c.from_residual-in_err-check-2.ensures.1 in
+    rw (p.1, p.2) (λ want. (c.in_ok-head.head, c.in_ok-head.extent, c.in_ok-head.ensures.found))

@@ -1,4 +1,5 @@
 use Rattle.std.proofs.Common.{arith, ap, length, ◌≤◌, subst}
+use Rattle.fv_base.specs.Limits.{header_limit}
 use Rattle.fv_head.specs.Head.{HeadFields, header_len_of}
 use Rattle.fv_head.specs.View.{fields_held}
 use Rattle.fv_head.proofs.SpelledLemmas.{header_len_most}
@@ -35,4 +36,4 @@ returns-clause-length c =
     omega (arith, same, held)
 
 pub returns-clause-most : goal.returns-clause-most
-returns-clause-most c = subst (λ (h : HeadFields). header_len_of h ≤ 2112) c.self.view_is (header_len_most (fields_held c.self.inside) c.self.invariant)
+returns-clause-most c = subst (λ (h : HeadFields). header_len_of h ≤ header_limit) c.self.view_is (header_len_most (fields_held c.self.inside) c.self.invariant)

@@ -1,0 +1,89 @@
+//! What sinks keep and write, and where they stop.
+
+use super::ports::Narrow;
+use crate::{ByteList, Fault, FaultKind, ListSink, Polarity, Port, Sink, WriteSink, fill};
+use std::alloc::Global;
+use std::test::Fail;
+
+/// How long the fills are.
+const COUNTS: [usize; 4] = [0, 1, 65_536, 200_000];
+
+/// So many bytes, and 1 and 2 behind them.
+fn filled(alloc: Global, byte: u8, count: usize) -> Result<Vec<u8>, Fail> {
+    let mut bytes = vec![in alloc; byte; count]?;
+    bytes.extend_from_slice(&[1, 2])?;
+    Ok(bytes)
+}
+
+#[test]
+fn lists_keep_fills(rt: HostRuntime) -> Result<(), Fail> {
+    for polarity in [Polarity::Ones, Polarity::Zeros] {
+        for count in COUNTS {
+            let mut list = ListSink::with_room(rt.alloc(), count)?;
+            fill(&mut list, polarity.erased(), count as u64);
+            list.put(&[1, 2]);
+            let kept = list.finish()?.into_vec();
+            let want = filled(rt.alloc(), polarity.erased(), count)?;
+            assert_eq!(rt; kept.as_slice(), want.as_slice(), "{count}");
+        }
+    }
+    Ok(())
+}
+
+#[test]
+fn ports_are_written_fills(rt: HostRuntime) -> Result<(), Fail> {
+    for byte in [0xff, 0] {
+        for count in COUNTS {
+            let mut port = Port::new(Vec::new(rt.alloc()));
+            let mut sink = WriteSink {
+                port: &mut port,
+                on: true,
+                count: 0,
+            };
+            fill(&mut sink, byte, count as u64);
+            sink.put(&[1, 2]);
+            assert!(rt; sink.on);
+            assert_eq!(rt; sink.count, count as u64 + 2);
+            let want = filled(rt.alloc(), byte, count)?;
+            assert_eq!(rt; port.into_inner().as_slice(), want.as_slice(), "{count}");
+        }
+    }
+    Ok(())
+}
+
+#[test]
+fn erased_bytes_have_their_values(rt: HostRuntime) -> Result<(), Fail> {
+    assert_eq!(rt; Polarity::Ones.erased(), 0xff);
+    assert_eq!(rt; Polarity::Zeros.erased(), 0);
+    let list = ByteList::from_vec([1u8, 2].to_vec(rt.alloc())?);
+    assert_eq!(rt; list.as_slice(), [1u8, 2].as_slice());
+    Ok(())
+}
+
+#[test]
+fn sinks_stop_where_a_write_fails(rt: HostRuntime) {
+    for fails in [false, true] {
+        for room in [0usize, 1, 65_536, 100_000] {
+            let mut port = Port::new(Narrow {
+                taken: Vec::new(rt.alloc()),
+                step: 1000,
+                room,
+                fails,
+            });
+            let mut sink = WriteSink {
+                port: &mut port,
+                on: true,
+                count: 0,
+            };
+            fill(&mut sink, 0xff, 200_000);
+            let fault = Fault::outer(FaultKind::WriteFault, room as u64);
+            assert_eq!(rt; sink.fault(), fault);
+            sink.put(&[1, 2]);
+            assert_eq!(rt; sink.fault(), fault);
+            assert!(rt; port.erred());
+            let taken = port.into_inner().taken;
+            assert_eq!(rt; taken.len(), room);
+            assert!(rt; taken.as_slice().iter().all(|byte| *byte == 0xff), "{room}");
+        }
+    }
+}

@@ -1,0 +1,80 @@
+-- The attribute bits of a file with and without bit 01, which goes with the form of its header.
+use Rattle.std.proofs.Common.{◌≡◌, ◌<◌, ◌+◌, ◌*◌, ◌/◌, ◌%◌, ℕ, Bool, true, false, refl, ap, arith}
+use Rattle.std.specs.Prelude.{◌==◌, slice_index}
+use Rattle.std.proofs.lemmas.Bool.{eqb-true, ne_eqb}
+use Rattle.fv_base.specs.Alignment.{alignments, alignment_of}
+use Rattle.fv_file.specs.Attributes.{is_large, is_fixed, is_summed, without_large}
+use Rattle.fv_file.specs.Written.{with_large}
+use Rattle.fv_file.proofs.AttributeLemmas.{small_even}
+
+-- ---- with bit 01 as the form wants it
+
+pub fixed_with : (l : Bool) (a : ℕ) → is_large a ≡ false → is_fixed (with_large l a) ≡ is_fixed a
+fixed_with false a h = refl
+fixed_with true a h = ap (λ n. n % 2 == 1) (same a (small_even a h)) where
+  same : (a : ℕ) → a % 2 ≡ 0 → (a + 1) / 4 ≡ a / 4
+  same a e = omega arith
+
+pub summed_with : (l : Bool) (a : ℕ) → is_large a ≡ false → is_summed (with_large l a) ≡ is_summed a
+summed_with false a h = refl
+summed_with true a h = ap (λ n. n % 2 == 1) (same a (small_even a h)) where
+  same : (a : ℕ) → a % 2 ≡ 0 → (a + 1) / 64 ≡ a / 64
+  same a e = omega arith
+
+pub alignment_with : (l : Bool) (a : ℕ) → is_large a ≡ false → alignment_of (with_large l a) ≡ alignment_of a
+alignment_with false a h = refl
+alignment_with true a h = ap (slice_index alignments) (same a (small_even a h)) where
+  same : (a : ℕ) → a % 2 ≡ 0 → (a + 1) / 8 % 8 + 8 * ((a + 1) / 2 % 2) ≡ a / 8 % 8 + 8 * (a / 2 % 2)
+  same a e = omega arith
+
+-- a byte stays one
+pub with_large_small : (l : Bool) (a : ℕ) → is_large a ≡ false → a < 256 → with_large l a < 256
+with_large_small true a h l = let e = small_even a h in omega (arith, e)
+with_large_small false a h l = l
+
+-- ---- without bit 01
+
+pub short_without : (a : ℕ) → is_large (without_large a) ≡ false
+short_without a = ne_eqb (a / 2 * 2 % 2) 1 (λ e. odd a e) where
+  odd : (a : ℕ) → a / 2 * 2 % 2 ≡ 1 → ⊥
+  odd a e = omega arith
+
+pub fixed_without : (a : ℕ) → is_fixed (without_large a) ≡ is_fixed a
+fixed_without a = ap (λ n. n % 2 == 1) (same a) where
+  same : (a : ℕ) → a / 2 * 2 / 4 ≡ a / 4
+  same a = omega arith
+
+pub summed_without : (a : ℕ) → is_summed (without_large a) ≡ is_summed a
+summed_without a = ap (λ n. n % 2 == 1) (same a) where
+  same : (a : ℕ) → a / 2 * 2 / 64 ≡ a / 64
+  same a = omega arith
+
+pub alignment_without : (a : ℕ) → alignment_of (without_large a) ≡ alignment_of a
+alignment_without a = ap (slice_index alignments) (same a) where
+  same : (a : ℕ) → a / 2 * 2 / 8 % 8 + 8 * (a / 2 * 2 / 2 % 2) ≡ a / 8 % 8 + 8 * (a / 2 % 2)
+  same a = omega arith
+
+pub without_small : (a : ℕ) → a < 256 → without_large a < 256
+without_small a l = omega arith
+
+-- bits without bit 01 are left as they are
+pub without_short : (a : ℕ) → is_large a ≡ false → without_large a ≡ a
+without_short a h = same a (small_even a h) where
+  same : (a : ℕ) → a % 2 ≡ 0 → a / 2 * 2 ≡ a
+  same a e = omega arith
+
+-- one undoes the other
+pub with_without : (a : ℕ) → with_large (is_large a) (without_large a) ≡ a
+with_without a = by_form (is_large a) refl where
+  odd : (a : ℕ) → a % 2 ≡ 1 → a / 2 * 2 + 1 ≡ a
+  odd a e = omega arith
+
+  by_form : (l : Bool) → is_large a ≡ l → with_large l (without_large a) ≡ a
+  by_form true e = odd a (eqb-true (a % 2) 1 e)
+  by_form false e = without_short a e
+
+pub without_with : (l : Bool) (a : ℕ) → is_large a ≡ false → without_large (with_large l a) ≡ a
+without_with false a h = without_short a h
+without_with true a h = same a (small_even a h) where
+  same : (a : ℕ) → a % 2 ≡ 0 → (a + 1) / 2 * 2 ≡ a
+  same a e = omega arith

@@ -1,0 +1,105 @@
+//! The commands and their options, as they are given to the reader of command lines.
+
+use crate::words::{Command, ImageFile, Plan, WordFault};
+use clap::error::ErrorKind;
+use clap::{Arg, ArgAction, ArgMatches, value_parser};
+use std::alloc::{AllocError, Global};
+
+impl From<clap::Error> for WordFault {
+    fn from(error: clap::Error) -> WordFault {
+        if error.kind() == ErrorKind::OutOfMemory {
+            WordFault::OutOfMemory
+        } else {
+            WordFault::Words
+        }
+    }
+}
+
+/// The flag that inputs and image are text.
+fn hex_flag<'a>(alloc: Global) -> Arg<'a> {
+    Arg::new(alloc, "hex")
+        .long("hex")
+        .action(ArgAction::SetTrue)
+}
+
+/// The address of an image's first byte.
+fn base_option<'a>(alloc: Global) -> Arg<'a> {
+    Arg::new(alloc, "base")
+        .long("base")
+        .value_parser(value_parser!(u64))
+}
+
+/// The words of `normalise`.
+fn normalise_words<'a>(alloc: Global) -> Result<clap::Command<'a>, AllocError> {
+    clap::Command::new(alloc, "normalise")
+        .arg(hex_flag(alloc))?
+        .arg(Arg::new(alloc, "file"))
+}
+
+/// The words of `hobs`. That an image and a base come together is looked at behind the reading.
+fn hobs_words<'a>(alloc: Global) -> Result<clap::Command<'a>, AllocError> {
+    clap::Command::new(alloc, "hobs")
+        .arg(hex_flag(alloc))?
+        .arg(Arg::new(alloc, "image").long("image"))?
+        .arg(base_option(alloc))?
+        .arg(Arg::new(alloc, "file"))
+}
+
+/// The words of all commands.
+fn command_words<'a>(alloc: Global) -> Result<clap::Command<'a>, AllocError> {
+    clap::Command::new(alloc, "fvtool")
+        .subcommand(normalise_words(alloc)?)?
+        .subcommand(hobs_words(alloc)?)
+}
+
+/// The word of an argument, if it was given.
+fn file_of(
+    alloc: Global,
+    matches: &ArgMatches<'_>,
+    name: &str,
+) -> Result<Option<String>, AllocError> {
+    match matches.get_str(name) {
+        Some(path) => Ok(Some(String::from_str(alloc, path)?)),
+        None => Ok(None),
+    }
+}
+
+/// The image that was named, with its base: one without the other is wrong.
+fn image_of(alloc: Global, matches: &ArgMatches<'_>) -> Result<Option<ImageFile>, WordFault> {
+    match (matches.get_str("image"), matches.get_one::<u64>("base")) {
+        (None, None) => Ok(None),
+        (Some(path), Some(base)) => Ok(Some(ImageFile {
+            path: String::from_str(alloc, path)?,
+            base,
+        })),
+        _ => Err(WordFault::Words),
+    }
+}
+
+/// The command that was named, and its words.
+fn command_of(alloc: Global, matches: &ArgMatches<'_>) -> Result<Plan, WordFault> {
+    if let Some(inner) = matches.subcommand_matches("normalise") {
+        return Ok(Plan {
+            hex: inner.get_flag("hex"),
+            command: Command::Normalise {
+                file: file_of(alloc, inner, "file")?,
+            },
+        });
+    }
+    if let Some(inner) = matches.subcommand_matches("hobs") {
+        return Ok(Plan {
+            hex: inner.get_flag("hex"),
+            command: Command::Hobs {
+                file: file_of(alloc, inner, "file")?,
+                image: image_of(alloc, inner)?,
+            },
+        });
+    }
+    Err(WordFault::Words)
+}
+
+/// Reads words, of which the first is the program's name and the next the command's.
+pub fn parse_given(alloc: Global, words: &[String]) -> Result<Plan, WordFault> {
+    let matches = command_words(alloc)?.try_get_matches_from(words)?;
+    command_of(alloc, &matches)
+}
