@@ -80,6 +80,13 @@ impl From<AllocError> for WordFault {
 }
 
 impl From<io::Error> for WordFault {
+    ghost use Rattle.std.specs.IoError.{error_kind};
+    ghost use Rattle.std.specs.Prelude.{◌≡◌, ◌≢◌};
+    ghost use Rattle.std.specs.declared.io.ErrorKind.TheVariants as error_kinds;
+    ghost use Rattle.fv_tool.specs.declared.words.WordFault.TheVariants.{Words, OutOfMemory};
+
+    ghost from_gives = { λ e f. (error_kind e ≡ error_kinds.OutOfMemory → f ≡ OutOfMemory) × (error_kind e ≢ error_kinds.OutOfMemory → f ≡ Words) };
+
     fn from(error: io::Error) -> WordFault {
         if error.kind() == ErrorKind::OutOfMemory {
             WordFault::OutOfMemory
