@@ -1,5 +1,6 @@
-//! The limits of what is read, each of them once in code. The definitions have their own numbers (`specs/Limits.antt`),
-//! and each contract that a limit decides ties the two: a limit is changed in both, or nothing is proved.
+//! The limits of what is read, each of them once in code. For those of volumes, headers and reads the definitions have their own
+//! numbers (`specs/Limits.antt`), and contracts tie the two: such a limit is changed in both, or nothing is proved. The limits of
+//! hexadecimal text and of calls of `read` have no definition: tests show them.
 
 /// The most bytes that a volume has, and that a run takes as binary input.
 pub const VOLUME_LIMIT: u64 = 268_435_456;
@@ -9,9 +10,6 @@ pub const HEADER_LIMIT: usize = 2112;
 
 /// The most bytes of an extended header.
 pub const EXT_LIMIT: u32 = 65_535;
-
-/// The most bytes of a file's data: those of a volume less a large header.
-pub const DATA_LIMIT: u64 = VOLUME_LIMIT - 32;
 
 /// The most bytes that a run takes as hexadecimal text: two digits and as much white space for each byte of a volume.
 pub const TEXT_LIMIT: u64 = 4 * VOLUME_LIMIT;

@@ -1,85 +1,167 @@
 -- The laws of inputs that are refused.
-use Rattle.std.proofs.Common.{◌≡◌, ◌≢◌, ◌≤◌, ℕ, List, [], ◌∷◌, ◌++◌, length, take, refl, sym, ap, ◌∙◌, subst, arith, inl, inr, ◌⊎◌, true, false}
-use Rattle.std.specs.Prelude.{◌==◌}
-use Rattle.std.specs.List.{AllByRecursion}
+use Rattle.std.proofs.Common.{◌≡◌, ◌≢◌, ◌≤◌, ◌<◌, ℕ, List, length, take, refl, sym, ap, ◌∙◌, subst, arith, inl, inr, ◌⊎◌, true, false}
+use Rattle.std.specs.Prelude.{◌==◌, Bool}
 use Rattle.std.proofs.lemmas.List.{take_all}
 use Rattle.std.proofs.lemmas.Bool.{eqb-true, eq-eqb}
-use Rattle.std.proofs.lemmas.Bool.Decides.{nat_tests}
-use Rattle.fv_base.specs.Checks.{Check, IsFirstFault}
 use Rattle.fv_base.specs.Faults.{outer_fault, want_of_memory}
 use Rattle.fv_base.specs.declared.fault.Fault.{Fault}
 use Rattle.fv_base.specs.declared.fault.FaultKind.{FaultKind}
 use Rattle.fv_base.specs.declared.fault.FaultKind.TheVariants as kinds
-use Rattle.fv_base.proofs.CheckLemmas.{first_before, first_behind}
-use Rattle.fv_head.specs.HeadChecks.{volume_len_at}
-use Rattle.fv_tree.specs.Meaning.{Meaning, Denotes}
-use Rattle.fv_tree.specs.VolumeChecks.{volume_checks}
-use Rattle.fv_tree.proofs.Laws.{volume_holds}
-use Rattle.fv_canon.specs.InputChecks.{end_checks, Refuses}
+use Rattle.fv_tree.specs.Denotes.{Accepted, Denotes, depth_limit}
+use Rattle.fv_tree.specs.FaultStands.{FaultStands}
+use Rattle.fv_tree.specs.FirstFault.{IsFirstOfVolume}
+use Rattle.fv_tree.specs.Meaning.{Meaning, length_of}
+use Rattle.fv_tree.proofs.Laws.{stands_other}
+use Rattle.fv_canon.specs.Image.{NormalisesTo}
+use Rattle.fv_canon.specs.Layouts.{Fits, Unfit}
+use Rattle.fv_canon.specs.Refusals.{NotRead, Refuses}
 
--- what is true of the kind of every check is true of that of the first fault
-kind_from : (P : FaultKind → Type 0) (cs : List (Check Fault)) (f : Fault) → AllByRecursion (λ c. P c.fault.kind) cs → IsFirstFault cs f → P f.kind
-kind_from P cs f all (before, c, after, is, held, fails, fault) =
-    subst (λ (g : Fault). P g.kind) (sym fault) (at P before c after (subst (AllByRecursion (λ d. P d.fault.kind)) is all))
+-- ---- want of memory, or not
+
+kind_known : (k : FaultKind) → (k ≡ kinds.OutOfMemory) ⊎ (k ≢ kinds.OutOfMemory)
+kind_known kinds.Truncated = inr (λ e. cc)
+kind_known kinds.Signature = inr (λ e. cc)
+kind_known kinds.FileSystem = inr (λ e. cc)
+kind_known kinds.Revision = inr (λ e. cc)
+kind_known kinds.HeaderLength = inr (λ e. cc)
+kind_known kinds.HeaderSum = inr (λ e. cc)
+kind_known kinds.BlockMap = inr (λ e. cc)
+kind_known kinds.Length = inr (λ e. cc)
+kind_known kinds.ExtHeader = inr (λ e. cc)
+kind_known kinds.FileState = inr (λ e. cc)
+kind_known kinds.FileHeaderSum = inr (λ e. cc)
+kind_known kinds.FileSize = inr (λ e. cc)
+kind_known kinds.LargeFile = inr (λ e. cc)
+kind_known kinds.FileSum = inr (λ e. cc)
+kind_known kinds.Fixed = inr (λ e. cc)
+kind_known kinds.FreeSpace = inr (λ e. cc)
+kind_known kinds.DuplicateName = inr (λ e. cc)
+kind_known kinds.TopFile = inr (λ e. cc)
+kind_known kinds.SectionSize = inr (λ e. cc)
+kind_known kinds.SectionTail = inr (λ e. cc)
+kind_known kinds.Depth = inr (λ e. cc)
+kind_known kinds.NoRoom = inr (λ e. cc)
+kind_known kinds.TopAlignment = inr (λ e. cc)
+kind_known kinds.OutOfMemory = inl refl
+kind_known kinds.ReadFault = inr (λ e. cc)
+kind_known kinds.WriteFault = inr (λ e. cc)
+
+number_known : (n : ℕ) → (n ≡ 0) ⊎ (n ≢ 0)
+number_known n = go (n == 0) refl where
+  go : (t : Bool) → (n == 0) ≡ t → (n ≡ 0) ⊎ (n ≢ 0)
+  go true is = inl (eqb-true n 0 is)
+  go false is = inr (λ same. let bad : true ≡ false = sym (eq-eqb n 0 same) ∙ is in cc)
+
+pub want_known : (f : Fault) → (f ≡ want_of_memory) ⊎ (f ≢ want_of_memory)
+want_known f = by_kind (kind_known f.kind) where
+  made : (k : FaultKind) (o d : ℕ) → Fault
+  made k o d = record { kind = k; place = record { offset = o; depth = d } }
+
+  by_depth : f.kind ≡ kinds.OutOfMemory → f.place.offset ≡ 0 → (f.place.depth ≡ 0) ⊎ (f.place.depth ≢ 0)
+      → (f ≡ want_of_memory) ⊎ (f ≢ want_of_memory)
+  by_depth kind offset (inl depth) =
+      inl (ap (λ (k : FaultKind). made k f.place.offset f.place.depth) kind
+      ∙ ap (λ (o : ℕ). made kinds.OutOfMemory o f.place.depth) offset ∙ ap (made kinds.OutOfMemory 0) depth)
+  by_depth kind offset (inr off) = inr (λ same. off (ap (λ (g : Fault). g.place.depth) same))
+
+  by_offset : f.kind ≡ kinds.OutOfMemory → (f.place.offset ≡ 0) ⊎ (f.place.offset ≢ 0) → (f ≡ want_of_memory) ⊎ (f ≢ want_of_memory)
+  by_offset kind (inl offset) = by_depth kind offset (number_known f.place.depth)
+  by_offset kind (inr off) = inr (λ same. off (ap (λ (g : Fault). g.place.offset) same))
+
+  by_kind : (f.kind ≡ kinds.OutOfMemory) ⊎ (f.kind ≢ kinds.OutOfMemory) → (f ≡ want_of_memory) ⊎ (f ≢ want_of_memory)
+  by_kind (inl kind) = by_offset kind (number_known f.place.offset)
+  by_kind (inr off) = inr (λ same. off (ap (λ (g : Fault). g.kind) same))
+
+-- ---- an input and the volume that it begins with
+
+-- an input that is a volume begins with it
+pub input_prefix : (b : List ℕ) (m : Meaning) → Denotes depth_limit b m → Denotes depth_limit (take (length b) b) m
+input_prefix b m d = subst (λ (xs : List ℕ). Denotes depth_limit xs m) (sym (take_all (length b) b (omega arith))) d
+
+-- an input that begins with no volume is none
+pub volume_refused : (b : List ℕ) (f : Fault)
+    → (f ≢ want_of_memory → (n : ℕ) (m : Meaning) → n ≤ length b → Denotes depth_limit (take n b) m → ⊥)
+    → (f ≢ want_of_memory → IsFirstOfVolume b f) → (f ≡ want_of_memory) ⊎ NotRead b f
+volume_refused b f none first = go (want_known f) where
+  go : (f ≡ want_of_memory) ⊎ (f ≢ want_of_memory) → (f ≡ want_of_memory) ⊎ NotRead b f
+  go (inl want) = inl want
+  go (inr other) =
+      inr (record {
+        none = λ m d. none other (length b) m (omega arith) (input_prefix b m d.1);
+        first = inl (first other);
+      })
+
+-- one that goes on behind its volume is none
+pub end_refused : (b : List ℕ) (f : Fault) (v : Meaning) (n : ℕ) → Accepted (take n b) v → (n ≡ length_of v) × (n ≤ length b)
+    → (n == length b) ≡ false → f ≡ outer_fault kinds.Length n
+    → ((k : ℕ) (m : Meaning) → k ≤ length b → Denotes depth_limit (take k b) m → (m ≡ v) × (k ≡ n)) → NotRead b f
+end_refused b f v n accepted (own, within) differs is only =
+    record {
+      none = λ m d. other (sym (only (length b) m (omega arith) (input_prefix b m d.1)).1);
+      first = inr (v, at, subst (λ (k : ℕ). k < length b) own less, is ∙ ap (outer_fault kinds.Length) own);
+    }
   where
-    at : (P : FaultKind → Type 0) (before : List (Check Fault)) (c : Check Fault) (after : List (Check Fault)) → AllByRecursion (λ d. P d.fault.kind) (before ++ (c ∷ after)) → P c.fault.kind
-    at P [] c after all = all.0
-    at P (b ∷ before) c after all = at P before c after all.1
+    other : n ≢ length b
+    other same = let bad : true ≡ false = sym (eq-eqb n (length b) same) ∙ differs in cc
 
--- the kinds of the checks of a volume
-volume_kinds : (P : FaultKind → Type 0) (b : List ℕ) → P kinds.Truncated → P kinds.Signature → P kinds.FileSystem → P kinds.Revision → P kinds.HeaderLength → P kinds.HeaderSum
-    → P kinds.BlockMap → P kinds.Length → P kinds.ExtHeader → P kinds.FileState → AllByRecursion (λ c. P c.fault.kind) (volume_checks b)
-volume_kinds P b truncated signature system revision header_length sum map length_ok ext state =
-    (truncated, (signature, (system, (revision, (header_length, (truncated, (sum, (map, (length_ok, (truncated, (ext, (ext, (state, tt)))))))))))))
+    below : (k l : ℕ) → k ≤ l → k ≢ l → k < l
+    below k l low ne = omega (arith, low, ne)
+
+    less : n < length b
+    less = below n (length b) within other
+
+    at : Accepted (take (length_of v) b) v
+    at = subst (λ (k : ℕ). Accepted (take k b) v) own accepted
+
+-- one that ends with its volume is it
+pub end_found : (b : List ℕ) (v : Meaning) (n : ℕ) → Accepted (take n b) v → (n == length b) ≡ true → Accepted b v
+end_found b v n d same = subst (λ (xs : List ℕ). Accepted xs v) (take_all n b (omega (arith, eqb-true n (length b) same))) d
+
+-- and no other volume
+pub end_only : (b : List ℕ) (v : Meaning) (n : ℕ)
+    → ((k : ℕ) (m : Meaning) → k ≤ length b → Denotes depth_limit (take k b) m → (m ≡ v) × (k ≡ n)) → (m : Meaning) → Accepted b m → m ≡ v
+end_only b v n only m d = (only (length b) m (omega arith) (input_prefix b m d.1)).0
+
+-- ---- a volume that fits
+
+-- an input that has an image is refused for want of memory alone
+pub not_read_never : (b image : List ℕ) (f : Fault) → (f ≡ want_of_memory) ⊎ NotRead b f → NormalisesTo b image → f ≡ want_of_memory
+not_read_never b image f (inl want) to = want
+not_read_never b image f (inr bad) (m, d, is) = absurd (bad.none m d)
+
+-- and the volume that it is fits
+pub image_fits : (b image : List ℕ) (v : Meaning) → ((m : Meaning) → Accepted b m → m ≡ v) → NormalisesTo b image → Fits v
+image_fits b image v only (m, d, is) = subst Fits (only m d) is.fits
+
+-- what does not fit is refused
+pub not_placed : (b : List ℕ) (v : Meaning) (f : Fault) → Accepted b v → (f ≡ want_of_memory) ⊎ Unfit v 0 f
+    → (f ≡ want_of_memory) ⊎ Refuses b f
+not_placed b v f d (inl want) = inl want
+not_placed b v f d (inr unfit) = inr (inr (v, d, unfit))
+
+pub not_read : (b : List ℕ) (f : Fault) → (f ≡ want_of_memory) ⊎ NotRead b f → (f ≡ want_of_memory) ⊎ Refuses b f
+not_read b f (inl want) = inl want
+not_read b f (inr bad) = inr (inl bad)
+
+-- ---- the kinds of faults
 
 -- a kind that is none of a run's own
 abbrev pub IsOfInput : FaultKind → Type 0
 IsOfInput kind = (kind ≢ kinds.ReadFault) × (kind ≢ kinds.WriteFault)
 
--- the faults of a volume are none of a run
-pub volume_kind : (b : List ℕ) (f : Fault) → (f ≡ want_of_memory) ⊎ IsFirstFault (volume_checks b) f → IsOfInput f.kind
-volume_kind b f (inl want) = subst (λ (g : Fault). IsOfInput g.kind) (sym want) (λ e. cc, λ e. cc)
-volume_kind b f (inr first) =
-    kind_from IsOfInput (volume_checks b) f (volume_kinds IsOfInput b (λ e. cc, λ e. cc) (λ e. cc, λ e. cc) (λ e. cc, λ e. cc) (λ e. cc, λ e. cc) (λ e. cc, λ e. cc)
-    (λ e. cc, λ e. cc) (λ e. cc, λ e. cc) (λ e. cc, λ e. cc) (λ e. cc, λ e. cc) (λ e. cc, λ e. cc)) first
+-- the fault of a layout is none of a run
+pub unfit_kind : (v : Meaning) (f : Fault) → (f ≡ want_of_memory) ⊎ Unfit v 0 f → IsOfInput f.kind
+unfit_kind v f (inl want) = subst (λ (g : Fault). IsOfInput g.kind) (sym want) (λ e. cc, λ e. cc)
+unfit_kind v f (inr (none, is)) = subst (λ (g : Fault). IsOfInput g.kind) (sym is) (λ e. cc, λ e. cc)
 
--- and no want of memory
-volume_found : (b : List ℕ) (f : Fault) → IsFirstFault (volume_checks b) f → f.kind ≢ kinds.OutOfMemory
-volume_found b f first =
-    let P : FaultKind → Type 0 = λ kind. kind ≢ kinds.OutOfMemory in
-    kind_from P (volume_checks b) f (volume_kinds P b (λ e. cc) (λ e. cc) (λ e. cc) (λ e. cc) (λ e. cc) (λ e. cc) (λ e. cc) (λ e. cc) (λ e. cc) (λ e. cc)) first
+-- nor is one that is of an input wherever it is no want of memory
+pub input_kind : (f : Fault) → (f ≢ want_of_memory → IsOfInput f.kind) → IsOfInput f.kind
+input_kind f known = go (want_known f) where
+  go : (f ≡ want_of_memory) ⊎ (f ≢ want_of_memory) → IsOfInput f.kind
+  go (inl want) = subst (λ (g : Fault). IsOfInput g.kind) (sym want) (λ e. cc, λ e. cc)
+  go (inr other) = known other
 
--- an input that is a volume begins with it
-pub input_prefix : (b : List ℕ) (m : Meaning) → Denotes b m → Denotes (take (length b) b) m
-input_prefix b m d = subst (λ (xs : List ℕ). Denotes xs m) (sym (take_all (length b) b (omega arith))) d
-
--- an input that begins with no volume is refused
-pub volume_refused : (b : List ℕ) (f : Fault) → ((n : ℕ) (m : Meaning) → n ≤ length b → Denotes (take n b) m → f ≡ want_of_memory)
-    → (f ≡ want_of_memory) ⊎ IsFirstFault (volume_checks b) f → (f ≡ want_of_memory) ⊎ Refuses b f
-volume_refused b f only (inl want) = inl want
-volume_refused b f only (inr first) =
-    inr (record {
-      none = λ m d. volume_found b f first (ap (λ (g : Fault). g.kind) (only (length b) m (omega arith) (input_prefix b m d)));
-      first = first_before (volume_checks b) (end_checks b) f first;
-    })
-
--- one that goes on behind its volume is refused
-pub end_refused : (b : List ℕ) (f : Fault) (v : Meaning) (n : ℕ) → Denotes (take n b) v → n ≤ length b → (n == length b) ≡ false → f ≡ outer_fault kinds.Length n
-    → ((k : ℕ) (m : Meaning) → k ≤ length b → Denotes (take k b) m → (v ≡ m) × (n ≡ k)) → Refuses b f
-end_refused b f v n d within differs is only =
-    let holds = volume_holds b n v within d in
-    let behind : (length b == volume_len_at b) ≡ false = ap (λ (k : ℕ). length b == k) holds.1 ∙ turned (length b) n differs in
-    record {
-      none = λ m e. never n (length b) differs (only (length b) m (omega arith) (input_prefix b m e)).1;
-      first = first_behind (volume_checks b) (end_checks b) f holds.0 ([], _, [], refl, tt, behind, is ∙ ap (λ (k : ℕ). outer_fault kinds.Length k) (sym holds.1));
-    }
-  where
-    never : (n k : ℕ) → (n == k) ≡ false → n ≡ k → ⊥
-    never n k differs same = let equal : (n == k) ≡ true = eq-eqb n k same in (let bad : false ≡ true = sym differs ∙ equal in cc)
-
-    turned : (k n : ℕ) → (n == k) ≡ false → (k == n) ≡ false
-    turned k n differs = grind (arith, nat_tests)
-
--- one that ends with its volume is it
-pub end_found : (b : List ℕ) (v : Meaning) (n : ℕ) → Denotes (take n b) v → (n == length b) ≡ true → Denotes b v
-end_found b v n d same = subst (λ (xs : List ℕ). Denotes xs v) (take_all n b (omega (arith, eqb-true n (length b) same))) d
+-- so the kind of a fault whose condition stands is none of a run
+pub stood_kind : (b : List ℕ) (f : Fault) → (f ≢ want_of_memory → FaultStands b f) → IsOfInput f.kind
+stood_kind b f stands =
+    input_kind f (λ other. (stands_other b f kinds.ReadFault refl (stands other), stands_other b f kinds.WriteFault refl (stands other)))

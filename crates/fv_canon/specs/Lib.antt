@@ -1,4 +1,4 @@
 pub mod Image
-pub mod InputChecks
 pub mod Layouts
+pub mod Refusals
 pub mod Runs

@@ -6,7 +6,7 @@ use Rattle.fv_base.specs.Input.{ReadsWhole, ReadStops}
 use Rattle.fv_base.specs.Output.{WriteStops}
 use Rattle.fv_base.specs.declared.fault.Fault.{Fault}
 use Rattle.fv_canon.specs.Image.{NormalisesTo}
-use Rattle.fv_canon.specs.InputChecks.{Refuses}
+use Rattle.fv_canon.specs.Refusals.{Refuses}
 
 -- the image of the input was written
 abbrev pub InputWrites : List ℕ → Option (List ℕ) → Option (List ℕ) → Type 0

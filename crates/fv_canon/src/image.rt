@@ -1,13 +1,14 @@
 //! The canonical image of a volume.
 
-ghost use Rattle.std.specs.Prelude.{◌≡◌, ℕ, List, IfOk, IfErr, OnOk, OnErr, true};
+ghost use Rattle.std.specs.Prelude.{◌≡◌, ◌⊎◌, ℕ, List, IfOk, IfErr, OnOk, OnErr, true};
 ghost use Rattle.std.specs.Io.KnownBytes.{Appends};
 ghost use Rattle.fv_base.specs.Faults.{want_of_memory};
 ghost use Rattle.fv_base.specs.Port.{inner_of, has_erred};
 ghost use Rattle.fv_canon.specs.Image.{IsImage, image_of};
-ghost use Rattle.fv_canon.specs.Layouts.{IsLayout};
+ghost use Rattle.fv_canon.specs.Layouts.{Fits, IsLayout, Unfit};
 ghost use Rattle.fv_base.specs.Output.{WriteStops};
-ghost use Rattle.fv_tree.specs.Meaning.{Meaning, Denotes, IsMeaning};
+ghost use Rattle.fv_tree.specs.Denotes.{Accepted, IsMeaning};
+ghost use Rattle.fv_tree.specs.Meaning.{Meaning};
 
 use crate::place::layout;
 use crate::starts::Layout;
@@ -19,6 +20,7 @@ use std::io::Write;
 
 // Puts the image: the head, and then erased bytes to the end.
 fn put_image<S: Sink>(out: &mut S, view: &VolumeView<'_>, _layout: &Layout)
+    requires { IsLayout view.now _layout.now }
     ensures bytes { S.takes out.old (image_of view.now) out.new }
     ensures meaning { IsMeaning view.now }
 {
@@ -43,10 +45,12 @@ pub fn write_canonical<W: Write>(
     requires { IsLayout view.now layout.now }
 
     // The image was written.
-    ensures ok { OnOk result ((image : List ℕ) × IsImage view.now image × Appends (W.contents (inner_of writer.old)) (W.contents (inner_of writer.new)) image) }
+    ensures ok { OnOk result ((image : List ℕ) × IsImage view.now image
+        × Appends (W.contents (inner_of writer.old)) (W.contents (inner_of writer.new)) image) }
 
     // A front of it was, as long as the fault's offset says.
-    ensures err { IfErr result (λ f. (image : List ℕ) × IsImage view.now image × WriteStops (W.contents (inner_of writer.old)) (W.contents (inner_of writer.new)) image f) }
+    ensures err { IfErr result (λ f. (image : List ℕ) × IsImage view.now image
+        × WriteStops (W.contents (inner_of writer.old)) (W.contents (inner_of writer.new)) image f) }
 
     // The writer's fault comes only where the port has erred.
     ensures erred { OnErr result (has_erred writer.new ≡ true) }
@@ -64,16 +68,19 @@ pub fn write_canonical<W: Write>(
 ///
 /// # Errors
 ///
-/// OutOfMemory.
+/// Those of `layout`. OutOfMemory.
 pub fn canonical(alloc: Global, view: &VolumeView<'_>) -> Result<ByteList, Fault>
     // It is the image of the meaning, and nothing else is.
     ensures image { IfOk result (λ bytes. IsImage view.now bytes) }
     ensures only { (other : List ℕ) → IsImage view.now other → IfOk result (λ bytes. bytes ≡ other) }
 
     // It is a volume of the meaning, and the image of no other meaning that some bytes have.
-    ensures denotes { IfOk result (λ bytes. Denotes bytes view.now) }
+    ensures denotes { IfOk result (λ bytes. Accepted bytes view.now) }
     ensures meaning { IfOk result (λ bytes. (m : Meaning) → IsMeaning m → IsImage m bytes → m ≡ view.now) }
-    ensures err { IfErr result (λ f. f ≡ want_of_memory) }
+
+    // A refusal, want of memory aside, is that of a volume that does not fit.
+    ensures err { IfErr result (λ f. (f ≡ want_of_memory) ⊎ Unfit view.now 0 f) }
+    ensures fits { Fits view.now → IfErr result (λ f. f ≡ want_of_memory) }
 {
     let places = layout(alloc, view)?;
     let mut out = ListSink::with_room(alloc, view.head().length() as usize)?;

@@ -1,14 +1,15 @@
 //! From bytes to the canonical image of the volume that they are.
 
-ghost use Rattle.std.specs.Prelude.{◌≡◌, ◌≢◌, ◌⊎◌, IfOk, IfErr, OnOk, true, false};
+ghost use Rattle.std.specs.Prelude.{◌≡◌, ◌≢◌, ◌⊎◌, ℕ, List, length, IfOk, IfErr, OnOk, true, false};
 ghost use Rattle.fv_base.specs.Faults.{want_of_memory};
 ghost use Rattle.fv_base.specs.Port.{inner_of, has_erred};
 ghost use Rattle.fv_head.specs.Head.{HeadFields, Front};
 ghost use Rattle.fv_head.specs.declared.extent.Extent.{Extent};
 ghost use Rattle.fv_canon.specs.Image.{NormalisesTo};
-ghost use Rattle.fv_canon.specs.InputChecks.{Refuses};
+ghost use Rattle.fv_canon.specs.Refusals.{NotRead, Refuses};
 ghost use Rattle.fv_canon.specs.Runs.{InputWrites, InputStops, RunWrites, RunStops};
-ghost use Rattle.fv_tree.specs.Meaning.{Denotes};
+ghost use Rattle.fv_tree.specs.Denotes.{Accepted};
+ghost use Rattle.fv_tree.specs.Meaning.{Meaning};
 
 use crate::image::{canonical, write_canonical};
 use crate::place::layout;
@@ -19,8 +20,9 @@ use std::io::{Read, Write};
 
 // The volume that the whole input is.
 fn whole_volume(alloc: Global, input: &[u8]) -> Result<VolumeView<'_>, Fault>
-    ensures found { IfOk result (λ view. Denotes input.now view) }
-    ensures refused { IfErr result (λ f. (f ≡ want_of_memory) ⊎ Refuses input.now f) }
+    ensures found { IfOk result (λ view. Accepted input.now view) }
+    ensures only { IfOk result (λ view. (m : Meaning) → Accepted input.now m → m ≡ view) }
+    ensures refused { IfErr result (λ f. (f ≡ want_of_memory) ⊎ NotRead input.now f) }
     ensures memory { IfErr result (λ f. f ≡ want_of_memory → (h : HeadFields) × (e : Extent) × Front h e input.now) }
     ensures kind { IfErr result (λ f. (f.kind ≢ FaultKind.ReadFault) × (f.kind ≢ FaultKind.WriteFault)) }
 {
@@ -34,13 +36,17 @@ fn whole_volume(alloc: Global, input: &[u8]) -> Result<VolumeView<'_>, Fault>
 /// # Errors
 ///
 /// The first fault: those of `read_volume`; then Length at FvLength where bytes stand behind the
-/// volume. OutOfMemory.
+/// volume; then those of `layout`. OutOfMemory.
 pub fn normalise(alloc: Global, input: &[u8]) -> Result<ByteList, Fault>
     ensures ok { IfOk result (λ bytes. NormalisesTo input.now bytes) }
 
     // The image is a volume of the same meaning, and its own image.
     ensures again { IfOk result (λ bytes. NormalisesTo bytes bytes) }
+    ensures length { IfOk result (λ bytes. length bytes ≡ length input.now) }
     ensures err { IfErr result (λ f. (f ≡ want_of_memory) ⊎ Refuses input.now f) }
+
+    // A volume that has an image is refused only for want of memory.
+    ensures fits { (image : List ℕ) → NormalisesTo input.now image → IfErr result (λ f. f ≡ want_of_memory) }
 
     // Memory is wanted only where the input begins with the header of a volume.
     ensures memory { IfErr result (λ f. f ≡ want_of_memory → (h : HeadFields) × (e : Extent) × Front h e input.now) }
@@ -50,7 +56,7 @@ pub fn normalise(alloc: Global, input: &[u8]) -> Result<ByteList, Fault>
 }
 
 /// Writes the canonical image of the volume that the input is. Nothing is written before the
-/// whole input is accepted, and no image is held.
+/// whole input is accepted and laid out, and no image is held.
 ///
 /// # Errors
 ///

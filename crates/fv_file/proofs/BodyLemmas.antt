@@ -1,9 +1,9 @@
 -- A body is tiled in one way, or there is a first place where no cell stands.
-use Rattle.std.proofs.Common.{◌≡◌, ◌≤◌, ◌<◌, ℕ, ◌+◌, ◌-◌, ◌%◌, List, [], ◌∷◌, ◌++◌, length, take, drop, map, sym, ap, ◌∙◌, subst, arith, length-drop, length-append}
-use Rattle.std.specs.Prelude.{slice_index, Ok, Err}
-use Rattle.std.proofs.lemmas.List.{take-append-drop, length-take-le, map_push, take_all, take_rest, get_or-drop}
+use Rattle.std.proofs.Common.{◌≡◌, ◌≤◌, ◌<◌, ℕ, ◌+◌, ◌-◌, ◌%◌, List, [], ◌∷◌, ◌++◌, length, take, drop, map, sym, ap, ◌∙◌, subst, arith, true, false, length-drop, length-append}
+use Rattle.std.specs.Prelude.{Ok, Err}
+use Rattle.std.proofs.lemmas.List.{take-append-drop, length-take-le, map_push, take_all, take_rest}
 use Rattle.std.proofs.Math.Seq.{take-add}
-use Rattle.fv_base.specs.Erased.{AllAre}
+use Rattle.fv_base.specs.Erased.{AllAre, all_are}
 use Rattle.fv_base.specs.Flash.{erased_byte}
 use Rattle.fv_base.specs.declared.fault.Fault.{Fault}
 use Rattle.fv_base.specs.declared.flash.FileSystem.{FileSystem}
@@ -14,7 +14,8 @@ use Rattle.fv_file.specs.Reading.{cell_verdict}
 use Rattle.fv_file.specs.Seen.{form_of}
 use Rattle.fv_file.specs.declared.cell.Cell.{Cell}
 use Rattle.fv_file.proofs.CellLemmas.{Stands, verdict_stands, verdict_first, cell_span, made_up, one_cell, not_empty, no_cell}
-use Rattle.fv_file.proofs.ErasedEnds.{all_at}
+use Rattle.fv_base.proofs.Laws.{all_are-true}
+use Rattle.fv_file.proofs.ErasedLemmas.{not_erased, some_left}
 use Rattle.fv_file.proofs.TilingLemmas.{no_rest, one_tiling, cut, one_more, none_more}
 
 -- ---- the loop
@@ -69,25 +70,29 @@ free_kept s p first body items new cell at before some clean is n =
     let list : map form_of new ≡ map form_of items ++ Free (first + at) (length body - at) ∷ [] = ap (λ x. map form_of x) n ∙ map_push form_of items cell ∙ ap (λ c. map form_of items ++ c ∷ []) is in
     subst (λ cs. Tiles s p first cs body) (sym list) (subst (λ b. Tiles s p first (map form_of items ++ Free (first + at) (length body - at) ∷ []) b) (take-append-drop at body) more)
 
--- not all is erased before the last byte that is not
-still_used : (e : ℕ) (body : List ℕ) (at clean : ℕ) → at < clean → clean ≤ length body → (0 < clean → slice_index body (clean - 1) ≡ e → ⊥) → AllAre e (drop at body) → ⊥
-still_used e body at clean l b differs all =
-    let n : at + (clean - 1 - at) ≡ clean - 1 = omega (arith, l) in
-    differs (omega (arith, l)) (ap (λ k. slice_index body k) (sym n) ∙ sym (get_or-drop at body (clean - 1 - at) 0) ∙ all_at e (drop at body) (clean - 1 - at) all (omega (arith, l, b, length-drop at body)))
+-- what the test at a place says of all that is left
+pub rest_free : (e : ℕ) (body : List ℕ) (at : ℕ) → all_are e (take (length body - at) (drop at body)) ≡ true → AllAre e (drop at body)
+rest_free e body at is = all_are-true e (drop at body) (subst (λ r. all_are e r ≡ true) (take_rest body at) is)
+
+pub rest_used : (e : ℕ) (body : List ℕ) (at : ℕ) → all_are e (take (length body - at) (drop at body)) ≡ false
+    → (at < length body) × (AllAre e (drop at body) → ⊥)
+rest_used e body at is =
+    let used : all_are e (drop at body) ≡ false = subst (λ r. all_are e r ≡ false) (take_rest body at) is in
+    (omega (arith, some_left e (drop at body) used, length-drop at body), not_erased e (drop at body) used)
 
 -- the place at which the loop stops
-pub first_here : (s : FileSystem) (p : Polarity) (first : ℕ) (body : List ℕ) (items : List Cell) (at clean : ℕ) (f : Fault) → Kept s p first body items at → at < clean
-    → clean ≤ length body → (0 < clean → slice_index body (clean - 1) ≡ erased_byte p → ⊥) → cell_verdict s p (first + at) (take (length body - at) (drop at body)) ≡ Err f
-    → IsFirst s p first body f
-first_here s p first body items at clean f k l b differs is =
+pub first_here : (s : FileSystem) (p : Polarity) (first : ℕ) (body : List ℕ) (items : List Cell) (at : ℕ) (f : Fault) → Kept s p first body items at
+    → (at < length body) × (AllAre (erased_byte p) (drop at body) → ⊥)
+    → cell_verdict s p (first + at) (take (length body - at) (drop at body)) ≡ Err f → IsFirst s p first body f
+first_here s p first body items at f k used is =
     let same : take (length body - at) (drop at body) ≡ drop at body = take_rest body at in
     record {
       cells = map form_of items;
       at = at;
       tiled = k.tiled;
       none_free = k.none_free;
-      inside = omega (arith, l, b);
-      not_erased = still_used (erased_byte p) body at clean l b differs;
+      inside = used.0;
+      not_erased = used.1;
       fault_is = verdict_first s p (first + at) (drop at body) f (subst (λ r. cell_verdict s p (first + at) r ≡ Err f) same is);
     }
 

@@ -25,7 +25,7 @@ use Rattle.fv_file.specs.States.{StateOf, bits_of, state_of, is_alive}
 use Rattle.fv_file.specs.declared.head.FileHead.{FileHead}
 use Rattle.fv_file.specs.declared.state.FileState.{FileState}
 use Rattle.fv_file.specs.declared.state.FileState.TheVariants as states
-use Rattle.fv_file.proofs.ErasedEnds.{all_at}
+use Rattle.fv_file.proofs.ErasedLemmas.{all_at}
 use Rattle.fv_file.proofs.FileLemmas.{header_least, FileAt, file_ok, file_err, file_holds, file_reads}
 use Rattle.fv_file.proofs.StateLemmas.{state_read, state_shown}
 use Rattle.fv_base.proofs.TestLemmas.{if_true, if_false, not_less, not_at_most, not_equal}

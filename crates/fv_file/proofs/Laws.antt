@@ -4,8 +4,9 @@
 
 -- a body is tiled in one way; where there is a first fault there is no tiling; each cell lies within the volume
 pub use Rattle.fv_file.proofs.BodyLemmas.{only_one, none_after, all_within}
--- at one place stands one cell; it has bytes, as many as its span says; a file's header and data make up its size
-pub use Rattle.fv_file.proofs.CellLemmas.{one_cell, not_empty, cell_span, made_up}
+-- at one place stands one cell, and none where a check of a cell fails; it has bytes, as many as its span says; a file's header and
+-- data make up its size
+pub use Rattle.fv_file.proofs.CellLemmas.{one_cell, no_cell, not_empty, cell_span, made_up}
 -- one tiling at most; cells that are not free begin every tiling that goes on; one more cell behind cells that are not free
 pub use Rattle.fv_file.proofs.TilingLemmas.{OneCell, NotEmpty, one_tiling, cut, one_more, none_more}
 -- tilings are joined; there are no more cells than bytes

@@ -2,7 +2,7 @@ pub mod AttributeLaws
 pub mod AttributeLemmas
 pub mod BodyLemmas
 pub mod CellLemmas
-pub mod ErasedEnds
+pub mod ErasedLemmas
 pub mod FileLaws
 pub mod FileLemmas
 pub mod HeaderLaws

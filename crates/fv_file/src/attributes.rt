@@ -1,7 +1,7 @@
 //! The attribute bits of a file.
 
 ghost use Rattle.std.specs.Prelude.{⊤, ◌≡◌, [], ◌∷◌, codes};
-ghost use Rattle.fv_file.specs.Attributes.{is_large, is_fixed, is_summed, without_large};
+ghost use Rattle.fv_file.specs.Attributes.{attribute_bits, is_large, is_fixed, is_summed, without_large};
 
 use bitflags::{Flag, Flags, bitflag_items};
 
@@ -44,6 +44,13 @@ impl Flags for FileAttributes {
 }
 
 impl FileAttributes {
+    /// The attribute bits as the byte of a header.
+    pub fn byte(self) -> u8
+        ensures { result ≡ attribute_bits self }
+    {
+        self.bits()
+    }
+
     /// Whether the header has 32 bytes, by bit 01.
     pub fn is_large(self) -> bool
         ensures { result ≡ is_large self.0 }

@@ -3,9 +3,9 @@
 
 pub mod attributes;
 pub mod cell;
-mod clean;
 pub mod head;
 mod list;
+mod run;
 pub mod spell;
 pub mod state;
 #[cfg(test)]

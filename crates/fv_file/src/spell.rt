@@ -168,7 +168,8 @@ fn pad_fields(size: u64) -> FileHead
 /// The header of a file whose data are valid, in the short form where header and data are at most
 /// FFFFFF bytes, else in the large form. `attributes` has neither bit 01, which is set with the
 /// large form, nor bit 04; `kind` is no pad's; `data_len` is the bytes of the data, at most
-/// `fv_base::limits::DATA_LIMIT`. Takes no memory. (PI specification, volume 3, section 3.2.3.1.)
+/// 268,435,424: a volume's less a large header. Takes no memory. (PI specification, volume 3,
+/// section 3.2.3.1.)
 pub fn file_head_bytes(
     name: Guid,
     kind: u8,

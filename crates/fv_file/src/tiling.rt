@@ -1,6 +1,7 @@
 //! The body of a volume, cut into cells.
 
 ghost use Rattle.std.specs.Prelude.{◌≡◌, ◌≢◌, ◌+◌, ◌<◌, ◌≤◌, ◌%◌, ◌^◌, List, length, drop, Ok, Err, IfOk, IfErr};
+ghost use Rattle.fv_base.specs.Erased.{all_are};
 ghost use Rattle.fv_base.specs.Faults.{outer_fault, want_of_memory};
 ghost use Rattle.fv_base.specs.Flash.{erased_byte};
 ghost use Rattle.fv_file.specs.Cells.{CellForm, AllWithin, Tiles, span};
@@ -9,13 +10,23 @@ ghost use Rattle.fv_file.specs.Reading.{cell_verdict};
 ghost use Rattle.fv_file.specs.Seen.{form_of};
 
 use crate::cell::Cell;
-use crate::clean::{clean_from, run_of};
 use crate::head::{PAD, file_at, header_len};
 use crate::list::Cells;
+use crate::run::run_of;
 use crate::state::{FileState, file_state};
 use fv_base::field::up_to_8;
-use fv_base::{Fault, FaultKind, FileSystem, Polarity, check};
+use fv_base::{Fault, FaultKind, FileSystem, Polarity, all_are, check};
 use std::alloc::Global;
+
+// Whether a free cell stands here: all that is left is erased. All of it is looked at only where
+// fewer than 24 bytes are left or the State byte is erased. If it is not free there, cell_at
+// refuses it, so that a body is looked through once at most.
+fn is_free(rest: &[u8], polarity: Polarity) -> bool
+    ensures { result ≡ all_are (erased_byte polarity) rest.now }
+{
+    let erased = polarity.erased();
+    (rest.len() < 24 || rest[23] == erased) && all_are(rest, erased)
+}
 
 // The fault of bytes that are no cell and not all erased.
 fn stray(rest: &[u8], at: u64, polarity: Polarity) -> Fault
@@ -110,10 +121,9 @@ fn cells_in(
     ensures bound { IfErr result (λ f. f.place.offset ≤ first + length body.now) }
     ensures some { IfErr result (λ _. 0 < length body.now) }
 {
-    let clean = clean_from(body, polarity.erased());
     let mut list = Vec::new(alloc);
     let mut at = 0;
-    while at < clean {
+    while !is_free(&body[at..], polarity) {
         let cell = cell_at(&body[at..], first + at as u64, system, polarity)?;
         let len = span_of(&cell);
         list.push(cell)?;

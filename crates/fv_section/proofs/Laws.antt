@@ -6,6 +6,8 @@
 pub use Rattle.fv_section.proofs.FrameLemmas.{size_least, length_begun, one_frame, begins_more}
 -- of a frame in bytes, body and rest are bytes, and the body fits the form of its header
 pub use Rattle.fv_section.proofs.StreamLaws.{begun_bytes, form_fits, fits_form, fits}
+-- where a frame's check fails no frame stands
+pub use Rattle.fv_section.proofs.FrameLemmas.{none_stands}
 -- a body is the part behind the header
 pub use Rattle.fv_section.proofs.PlaceLaws.{begun_body, body_behind}
 -- a header that is written is that of its form, type and size
@@ -14,8 +16,8 @@ pub use Rattle.fv_section.proofs.WrittenLemmas.{head_is}
 
 -- a stream is split in one way; frames up to a multiple of 4 begin every split; one more frame behind such frames
 pub use Rattle.fv_section.proofs.StreamLemmas.{from_least, one_split, cut, one_more}
--- where no frame stands there is no split; each frame ends within the stream; one more frame of a loop, and where it ends
-pub use Rattle.fv_section.proofs.SplitLemmas.{none_after, whole_within, stands_within, step, grows, first_here, whole_of}
+-- a stream begins with its first frame; where no frame stands there is no split; each frame ends within the stream; one more frame of a loop, and where it ends
+pub use Rattle.fv_section.proofs.SplitLemmas.{begins_of, none_after, whole_within, stands_within, step, grows, first_here, whole_of}
 -- how long a stream is; its tail has at most 3 bytes
 pub use Rattle.fv_section.proofs.StreamLaws.{end_of, split_length, tail_small}
 -- the frames of a stream stand in it, and their bodies are parts of it

@@ -70,7 +70,7 @@ whole_of b fs t at split past = subst (λ l. Splits fs t l) (take_all at b past)
 
 -- ---- all splits
 
-begins_of : (at : ℕ) (f : FrameForm) (fs : List FrameForm) (t : ℕ) (b : List ℕ) → From at (f ∷ fs) t b → (f.offset ≡ at) × (rest : List ℕ) × Begins f b rest
+pub begins_of : (at : ℕ) (f : FrameForm) (fs : List FrameForm) (t : ℕ) (b : List ℕ) → From at (f ∷ fs) t b → (f.offset ≡ at) × (rest : List ℕ) × Begins f b rest
 begins_of at f [] t b (rest, begun, o, l, fit) = (o, rest, begun)
 begins_of at f (g ∷ fs) t b (filler, rest, begun, o, fill, more) = (o, filler ++ rest, begun)
 

@@ -1,12 +1,25 @@
 -- The laws of this crate that the crates above may cite. Each is passed on from its home; what is not here is an inner lemma.
 
--- the first bytes are a volume of their header's meaning, where the body is erased; so some bytes are one
-pub use Rattle.fv_tree.proofs.ReadLemmas.{denoted, meant}
--- a volume that the bytes begin with has its header there, and its body is erased
-pub use Rattle.fv_tree.proofs.ReadLemmas.{body_of, front_of_prefix, prefix_body}
--- bytes begin with one volume at most, and with none that has an extended header or a body that is not erased
-pub use Rattle.fv_tree.proofs.ReadLemmas.{no_other, not_bare, not_meant}
--- the checks of a volume hold, and its length is what its header says
-pub use Rattle.fv_tree.proofs.ReadLemmas.{volume_holds}
--- the first fault: that of the header, of an extended header, or of a body that is not erased
-pub use Rattle.fv_tree.proofs.ReadLemmas.{head_first, ext_first, body_first}
+-- ---- a meaning
+
+-- files and sections as lists, there and back
+pub use Rattle.fv_tree.proofs.VolumeLaws.{files_list_back, files_back}
+pub use Rattle.fv_tree.proofs.SectionLaws.{list_back, sections_back}
+-- a stream, a section, a body and a content have as many bytes as those that they were read from
+pub use Rattle.fv_tree.proofs.Lengths.{AsLong, stream_long, section_long, body_long, content_long}
+-- a volume has fewer files than bytes
+pub use Rattle.fv_tree.proofs.Counts.{few_files, few_of}
+-- ---- a volume
+
+-- a volume that bytes begin with has its front there, and the files of any front that they begin with
+pub use Rattle.fv_tree.proofs.VolumeLaws.{front_of, has_files}
+-- alive files have different names
+pub use Rattle.fv_tree.proofs.TopLaws.{names_differ}
+-- ---- a fault
+
+-- bytes have one first fault at most, and none where they begin with a volume; its condition stands
+pub use Rattle.fv_tree.proofs.FirstLaws.{first_once}
+pub use Rattle.fv_tree.proofs.RefuseLaws.{first_refuses}
+pub use Rattle.fv_tree.proofs.FaultLaws.{first_stands, fault_stands}
+-- the kinds of the faults of reading
+pub use Rattle.fv_tree.proofs.KindLaws.{OfReading, stands_kind, is_reading, stands_reading, stands_other}

@@ -1,2 +1,13 @@
 pub mod Meaning
-pub mod VolumeChecks
+pub mod Files
+pub mod Denotes
+pub mod FirstFault
+pub mod FaultStands
+pub mod Codes
+pub mod Sizes
+pub mod Views
+pub mod Falls
+pub mod Names
+pub mod Seen
+pub mod Body
+pub mod Shapes

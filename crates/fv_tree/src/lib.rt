@@ -1,8 +1,14 @@
 //! What a firmware volume means, read as a view of its bytes.
 #![tactic(auto)]
 
+mod alive;
+pub mod lookup;
+mod numbers;
 pub mod read;
+#[cfg(test)]
+mod tests;
 pub mod view;
 
+pub use lookup::file_by_name;
 pub use read::read_volume;
-pub use view::VolumeView;
+pub use view::{Body, Content, FileView, SectionView, VolumeView};

@@ -1,45 +1,391 @@
 //! Reading a volume.
 
-ghost use Rattle.std.specs.Prelude.{◌≡◌, ◌⊎◌, ◌≤◌, ℕ, length, take, IfOk, IfErr};
-ghost use Rattle.fv_base.specs.Checks.{IsFirstFault};
-ghost use Rattle.fv_base.specs.Faults.{want_of_memory};
+ghost use Rattle.std.specs.Prelude.{◌≡◌, ◌≢◌, ◌≤◌, ◌<◌, ◌+◌, ◌%◌, ◌^◌, ℕ, List, length, take, map, IfOk, IfErr};
+ghost use Rattle.fv_base.specs.Faults.{outer_fault, want_of_memory};
+ghost use Rattle.fv_base.specs.Limits.{volume_limit};
+ghost use Rattle.fv_base.specs.declared.fault.Fault.{Fault};
 ghost use Rattle.fv_head.specs.Head.{HeadFields, Front};
 ghost use Rattle.fv_head.specs.declared.extent.Extent.{Extent};
-ghost use Rattle.fv_tree.specs.Meaning.{Meaning, Denotes};
-ghost use Rattle.fv_tree.specs.VolumeChecks.{volume_checks};
+ghost use Rattle.fv_section.specs.Frames.{FrameForm, head_len, size};
+ghost use Rattle.fv_section.specs.Seen as framed;
+ghost use Rattle.fv_tree.specs.Meaning.{Meaning, FileMeaning, SectionMeaning, length_of};
+ghost use Rattle.fv_tree.specs.Files.{FileForm};
+ghost use Rattle.fv_tree.specs.Denotes.{Pairs, IsFile, IsSection, Stream, Denotes, Accepted, depth_limit, holds_sections, IsStoredFile};
+ghost use Rattle.fv_tree.specs.Denotes.{IsStoredFrame};
+ghost use Rattle.fv_tree.specs.FirstFault.{moved, FirstInStream, FirstInVolume, SectionFirst, BodyFirst, FirstOf, FileFirst};
+ghost use Rattle.fv_tree.specs.FirstFault.{IsFirstOfVolume, body_place, data_place};
+ghost use Rattle.fv_tree.specs.FaultStands.{FaultStands};
+ghost use Rattle.fv_tree.specs.Body.{HasFiles, StandIn, StandFirst, AllStored, Reads};
+ghost use Rattle.fv_tree.specs.Names.{HasNumbers, IsIndex, names_in};
+ghost use Rattle.fv_tree.specs.Views.{content_view};
+ghost use Rattle.fv_tree.specs.Seen.{form_of};
+ghost use Rattle.fv_tree.specs.Shapes.{shape_of};
 
-use crate::view::VolumeView;
-use fv_base::{Fault, FaultKind, all_are, check};
-use fv_head::read_head;
+use crate::alive::{Standing, alive_files, files_of};
+use crate::numbers::Numbers;
+use crate::view::{Body, Content, FileView, SectionView, VolumeView};
+use fv_base::{Fault, FaultKind, Place};
+use fv_file::cells;
+use fv_head::{Extent, is_one_volume, read_head};
+use fv_section::{Frame, frames};
 use std::alloc::Global;
+
+/// The type of a section that groups others.
+const GROUP: u8 = 0x03;
+
+/// The type of a section that may hold a volume.
+const VOLUME: u8 = 0x17;
+
+// A fault of bytes that begin at this place.
+fn within(fault: Fault, place: Place) -> Fault
+    requires { place.offset + fault.place.offset < 2 ^ 64 }
+    ensures moved { result ≢ want_of_memory → (fault ≢ want_of_memory) × (result ≡ moved place.offset place.depth fault) }
+    ensures kind { result.kind ≡ fault.kind }
+{
+    if matches!(fault.kind, FaultKind::OutOfMemory) {
+        return Fault::outer(FaultKind::OutOfMemory, 0);
+    }
+    Fault {
+        kind: fault.kind,
+        place: Place {
+            offset: place.offset + fault.place.offset,
+            depth: place.depth,
+        },
+    }
+}
+
+// The types of files that hold sections.
+fn holds_sections(kind: u8) -> bool
+    ensures { result ≡ holds_sections kind }
+{
+    kind == 0x02 || (0x04 <= kind && kind <= 0x0f)
+}
+
+// How many bytes the header of a section has.
+fn head_of(extended: bool) -> u64
+    ensures { result ≡ head_len extended }
+{
+    if extended { 8 } else { 4 }
+}
+
+// How the body of a section is read.
+enum Shape {
+    Leaf,
+    Group,
+    Volume,
+}
+
+fn shape_of(frame: &Frame) -> Shape
+    ensures { result ≡ shape_of (framed.form_of frame.now) }
+{
+    if frame.kind == GROUP {
+        return Shape::Group;
+    }
+    if frame.kind == VOLUME && is_one_volume(frame.body) {
+        return Shape::Volume;
+    }
+    Shape::Leaf
+}
+
+// Where the body of a frame begins in what was handed in, and how many levels may nest in it; none may where no level is left.
+fn deeper(frame: &Frame, place: Place, left: u8) -> Result<(Place, u8), Fault>
+    requires place { place.offset + frame.now.offset + size (framed.form_of frame.now) < 2 ^ 63 }
+    requires depth { place.depth + left ≤ depth_limit }
+    ensures ok { IfOk result (λ r. (left ≡ r.1 + 1) × (r.0.offset ≡ place.offset + body_place (framed.form_of frame.now))
+        × (r.0.depth ≡ place.depth + 1)) }
+    ensures err { IfErr result (λ f. (left ≡ 0) × (f ≡ moved place.offset place.depth (outer_fault FaultKind.Depth frame.now.offset))) }
+{
+    if left == 0 {
+        return Err(Fault {
+            kind: FaultKind::Depth,
+            place: Place {
+                offset: place.offset + frame.offset,
+                depth: place.depth,
+            },
+        });
+    }
+    let inside = Place {
+        offset: place.offset + frame.offset + head_of(frame.extended),
+        depth: place.depth + 1,
+    };
+    Ok((inside, left - 1))
+}
+
+// The files of a volume of this extent, as they lie in it, and their numbers.
+fn files_in_body<'a>(
+    alloc: Global,
+    volume: &'a [u8],
+    extent: Extent,
+    place: Place,
+) -> Result<(Vec<Standing<'a>>, Numbers), Fault>
+    requires place { place.offset + length volume.now < 2 ^ 63 }
+    requires small { length volume.now ≤ volume_limit }
+    requires multiple { length volume.now % 8 ≡ 0 }
+    requires first_multiple { extent.first % 8 ≡ 0 }
+    requires first_within { extent.first ≤ length volume.now }
+    requires length_is { extent.length ≡ length volume.now }
+    ensures found { IfOk result (λ r. StandIn extent volume.now (map form_of r.0.items)) }
+    ensures only { IfOk result (λ r. (gs : List FileForm) → StandIn extent volume.now gs → gs ≡ map form_of r.0.items) }
+    ensures stored { IfOk result (λ r. AllStored place.offset (map form_of r.0.items)) }
+    ensures numbers { IfOk result (λ r. IsIndex (names_in (map form_of r.0.items)) r.1.sorted.items) }
+    ensures none { IfErr result (λ f. f ≢ want_of_memory → (gs : List FileForm) → StandIn extent volume.now gs → ⊥) }
+    ensures first { IfErr result (λ e. e ≢ want_of_memory → StandFirst extent e volume.now place.offset place.depth) }
+{
+    let list = match cells(
+        alloc,
+        volume,
+        extent.first,
+        extent.file_system,
+        extent.polarity,
+    ) {
+        Ok(list) => list,
+        Err(fault) => return Err(within(fault, place)),
+    };
+    let files = files_of(alloc, list.as_slice())?;
+    drop(list);
+    match alive_files(alloc, files, extent.length) {
+        Ok(read) => Ok(read),
+        Err(fault) => Err(within(fault, place)),
+    }
+}
+
+// One section.
+#[cycle(read)]
+fn read_section<'a>(
+    alloc: Global,
+    frame: &Frame<'a>,
+    place: Place,
+    left: u8,
+) -> Result<SectionView<'a>, Fault>
+    requires place { place.offset + frame.now.offset + size (framed.form_of frame.now) < 2 ^ 63 }
+    requires depth { place.depth + left ≤ depth_limit }
+    requires stored { IsStoredFrame (framed.form_of frame.now) }
+    ensures found { IfOk result (λ s. IsSection left (framed.form_of frame.now) s) }
+    ensures only { IfOk result (λ s. (t : SectionMeaning) → IsSection left (framed.form_of frame.now) t → t ≡ s) }
+    ensures none { IfErr result (λ f. f ≢ want_of_memory → (t : SectionMeaning) → IsSection left (framed.form_of frame.now) t → ⊥) }
+    ensures first { IfErr result (λ f. f ≢ want_of_memory → SectionFirst left f (framed.form_of frame.now) place.offset place.depth) }
+{
+    let len = frame.body.len() as u32;
+    let body = match shape_of(frame) {
+        Shape::Leaf => Body::Leaf(frame.body),
+        Shape::Group => {
+            let (inside, below) = deeper(frame, place, left)?;
+            let (sections, tail) = read_stream(alloc, frame.body, inside, below)?;
+            return Ok(SectionView::new(
+                frame.kind,
+                frame.extended,
+                Body::Group { sections, tail },
+                len,
+            ));
+        }
+        Shape::Volume => {
+            let (inside, below) = deeper(frame, place, left)?;
+            let (volume, _) = read_at(alloc, frame.body, inside, below)?;
+            let nested = Box::new(alloc, volume)?;
+            return Ok(SectionView::new(frame.kind, frame.extended, Body::Nested(nested), len));
+        }
+    };
+    Ok(SectionView::new(frame.kind, frame.extended, body, len))
+}
+
+// The sections of a stream, and how many bytes follow the last.
+#[cycle(read)]
+fn read_stream<'a>(
+    alloc: Global,
+    bytes: &'a [u8],
+    place: Place,
+    left: u8,
+) -> Result<(Vec<SectionView<'a>>, u8), Fault>
+    requires place { place.offset + length bytes.now < 2 ^ 63 }
+    requires depth { place.depth + left ≤ depth_limit }
+    requires small { length bytes.now ≤ volume_limit }
+    ensures found { IfOk result (λ s. Stream left s.0.items s.1 bytes.now) }
+    ensures only { IfOk result (λ s. (ss : List SectionMeaning) (tail : ℕ) → Stream left ss tail bytes.now → (ss ≡ s.0.items)
+        × (tail ≡ s.1)) }
+    ensures none { IfErr result (λ f. f ≢ want_of_memory → (ss : List SectionMeaning) (tail : ℕ) → Stream left ss tail bytes.now → ⊥) }
+    ensures first { IfErr result (λ f. f ≢ want_of_memory → FirstInStream left f bytes.now place.offset place.depth) }
+{
+    let split = match frames(alloc, bytes) {
+        Ok(split) => split,
+        Err(fault) => return Err(within(fault, place)),
+    };
+    let mut sections = Vec::with_capacity(alloc, split.as_slice().len())?;
+    for frame in split.as_slice() {
+        let section = read_section(alloc, frame, place, left)?;
+        sections.push(section)?;
+    }
+    Ok((sections, split.tail()))
+}
+
+// The content of a file.
+#[cycle(read)]
+fn read_content<'a>(
+    alloc: Global,
+    file: &Standing<'a>,
+    place: Place,
+    left: u8,
+) -> Result<Content<'a>, Fault>
+    requires place { place.offset + data_place (form_of file.now) + length file.now.payload.now < 2 ^ 63 }
+    requires depth { place.depth + left ≤ depth_limit }
+    requires small { length file.now.payload.now ≤ volume_limit }
+    ensures found { IfOk result (λ c. Reads left (form_of file.now) (content_view c)) }
+    ensures none { IfErr result (λ f. f ≢ want_of_memory → (m : FileMeaning) → IsFile (Stream left) (form_of file.now) m → ⊥) }
+    ensures first { IfErr result (λ f. f ≢ want_of_memory → FileFirst (FirstInStream left) f (form_of file.now) place.offset place.depth) }
+{
+    if !holds_sections(file.head.kind) {
+        return Ok(Content::Plain(file.payload));
+    }
+    let inside = Place {
+        offset: place.offset + file.offset + file.head.header_len,
+        depth: place.depth,
+    };
+    let (sections, tail) = read_stream(alloc, file.payload, inside, left)?;
+    Ok(Content::Stream { sections, tail })
+}
+
+// One file.
+#[cycle(read)]
+fn read_file<'a>(
+    alloc: Global,
+    file: &Standing<'a>,
+    place: Place,
+    left: u8,
+) -> Result<FileView<'a>, Fault>
+    requires place { place.offset + data_place (form_of file.now) + length file.now.payload.now < 2 ^ 63 }
+    requires depth { place.depth + left ≤ depth_limit }
+    requires stored { IsStoredFile (form_of file.now) }
+    requires small { length file.now.payload.now ≤ volume_limit }
+    ensures found { IfOk result (λ m. IsFile (Stream left) (form_of file.now) m) }
+    ensures only { IfOk result (λ m. (t : FileMeaning) → IsFile (Stream left) (form_of file.now) t → t ≡ m) }
+    ensures none { IfErr result (λ f. f ≢ want_of_memory → (t : FileMeaning) → IsFile (Stream left) (form_of file.now) t → ⊥) }
+    ensures first { IfErr result (λ f. f ≢ want_of_memory → FileFirst (FirstInStream left) f (form_of file.now) place.offset place.depth) }
+{
+    let content = read_content(alloc, file, place, left)?;
+    let attributes = file.head.attributes.without_large();
+    Ok(FileView::new(
+        file.head.name,
+        file.head.kind,
+        attributes,
+        content,
+        file.payload.len() as u32,
+    ))
+}
+
+// The files, in their order.
+#[cycle(read)]
+fn read_files<'a>(
+    alloc: Global,
+    files: &[Standing<'a>],
+    place: Place,
+    left: u8,
+) -> Result<Vec<FileView<'a>>, Fault>
+    requires depth { place.depth + left ≤ depth_limit }
+    requires stored { AllStored place.offset (map form_of files.now) }
+    ensures found { IfOk result (λ ms. Pairs (IsFile (Stream left)) (map form_of files.now) ms.items) }
+    ensures only { IfOk result (λ ms. (ts : List FileMeaning) → Pairs (IsFile (Stream left)) (map form_of files.now) ts → ts ≡ ms.items) }
+    ensures none { IfErr result (λ f. f ≢ want_of_memory → (ts : List FileMeaning)
+        → Pairs (IsFile (Stream left)) (map form_of files.now) ts → ⊥) }
+    ensures first { IfErr result (λ e. e ≢ want_of_memory → FirstOf (IsFile (Stream left)) (λ f. FileFirst
+        (FirstInStream left) e f place.offset place.depth) (map form_of files.now)) }
+{
+    let mut views = Vec::with_capacity(alloc, files.len())?;
+    for file in files {
+        let view = read_file(alloc, file, place, left)?;
+        views.push(view)?;
+    }
+    Ok(views)
+}
+
+// The files of a volume of this extent, and their numbers.
+#[cycle(read)]
+fn read_body<'a>(
+    alloc: Global,
+    volume: &'a [u8],
+    extent: Extent,
+    place: Place,
+    left: u8,
+) -> Result<(Vec<FileView<'a>>, Numbers), Fault>
+    requires place { place.offset + length volume.now < 2 ^ 63 }
+    requires depth { place.depth + left ≤ depth_limit }
+    requires small { length volume.now ≤ volume_limit }
+    requires multiple { length volume.now % 8 ≡ 0 }
+    requires first_multiple { extent.first % 8 ≡ 0 }
+    requires first_within { extent.first ≤ length volume.now }
+    requires length_is { extent.length ≡ length volume.now }
+    ensures found { IfOk result (λ r. HasFiles (Stream left) extent volume.now r.0.items) }
+    ensures only { IfOk result (λ r. (ts : List FileMeaning) → HasFiles (Stream left) extent volume.now ts → ts ≡ r.0.items) }
+    ensures numbers { IfOk result (λ r. HasNumbers r.1 r.0.items) }
+    ensures none { IfErr result (λ f. f ≢ want_of_memory → (ts : List FileMeaning) → HasFiles (Stream left) extent volume.now ts → ⊥) }
+    ensures first { IfErr result (λ e. e ≢ want_of_memory → BodyFirst (Stream left)
+        (FirstInStream left) extent e volume.now place.offset place.depth) }
+{
+    let (files, numbers) = files_in_body(alloc, volume, extent, place)?;
+    let views = read_files(alloc, files.as_slice(), place, left)?;
+    Ok((views, numbers))
+}
+
+// The volume that the bytes begin with, and how many bytes it has.
+#[cycle(read)]
+fn read_at<'a>(
+    alloc: Global,
+    bytes: &'a [u8],
+    place: Place,
+    left: u8,
+) -> Result<(VolumeView<'a>, u64), Fault>
+    requires place { place.offset + length bytes.now < 2 ^ 63 }
+    requires depth { place.depth + left ≤ depth_limit }
+    ensures found { IfOk result (λ r. Denotes left (take r.1 bytes.now) r.0) }
+    ensures length { IfOk result (λ r. (r.1 ≡ length_of r.0) × (r.1 ≤ length bytes.now)) }
+    ensures only { IfOk result (λ r. (n : ℕ) (m : Meaning) → n ≤ length bytes.now → Denotes left (take n bytes.now) m → (m ≡ r.0)
+        × (n ≡ r.1)) }
+    ensures none { IfErr result (λ f. f ≢ want_of_memory → (n : ℕ) (m : Meaning) → n ≤ length bytes.now
+        → Denotes left (take n bytes.now) m → ⊥) }
+    ensures first { IfErr result (λ f. f ≢ want_of_memory → FirstInVolume left f bytes.now place.offset place.depth) }
+    ensures memory { IfErr result (λ f. f ≡ want_of_memory → (h : HeadFields) × (e : Extent) × Front h e bytes.now) }
+{
+    let (head, extent) = match read_head(alloc, bytes) {
+        Ok(read) => read,
+        Err(fault) => return Err(within(fault, place)),
+    };
+    let volume = &bytes[..extent.length as usize];
+    let (files, numbers) = read_body(alloc, volume, extent, place, left)?;
+    Ok((VolumeView::new(head, files, numbers), extent.length))
+}
 
 /// The meaning of the volume that the bytes begin with, as a view of them, and the bytes that it
 /// takes, FvLength. Bytes behind it are not read. (PI specification, volume 3, section 3.2.)
 ///
 /// # Errors
 ///
-/// The first fault: those of the header, as `verify_fv`; then, until files are read, ExtHeader at
-/// 52 where there is an extended header, and FileState at HeaderLength + 23 where a byte behind the
-/// header is not erased. OutOfMemory.
+/// The first fault: those of the header, as `verify_fv`; of the body, as `cells`; DuplicateName at
+/// the later of two files of one name and state; TopFile at a volume top file that is not at the
+/// end; and then, file by file, those of the sections, as `frames`, Depth at a group or an opened
+/// volume that lies too deep, and those of what it holds. OutOfMemory.
 pub fn read_volume(alloc: Global, bytes: &[u8]) -> Result<(VolumeView<'_>, u64), Fault>
     // These bytes are a volume of this meaning.
-    ensures found { IfOk result (λ r. Denotes (take r.1 bytes.now) r.0) }
-    ensures length { IfOk result (λ r. (r.1 ≡ r.0.head.length) × (r.1 ≤ length bytes.now)) }
+    ensures found { IfOk result (λ r. Accepted (take r.1 bytes.now) r.0) }
+    ensures length { IfOk result (λ r. (r.1 ≡ length_of r.0) × (r.1 ≤ length bytes.now)) }
 
-    // Every volume that the bytes begin with is answered, unless memory runs out.
-    ensures only { (n : ℕ) (m : Meaning) → n ≤ length bytes.now → Denotes (take n bytes.now) m →
-        IfOk result (λ r. (r.0 ≡ m) × (r.1 ≡ n)) × IfErr result (λ f. f ≡ want_of_memory) }
+    // The bytes begin with no other volume.
+    ensures only { IfOk result (λ r. (n : ℕ) (m : Meaning) → n ≤ length bytes.now → Denotes depth_limit (take n bytes.now) m
+        → (m ≡ r.0) × (n ≡ r.1)) }
 
-    // A refusal names the first check that does not hold.
-    ensures first { IfErr result (λ f. (f ≡ want_of_memory) ⊎ IsFirstFault (volume_checks bytes.now) f) }
+    // Where it refuses, want of memory aside, they begin with none.
+    ensures none { IfErr result (λ f. f ≢ want_of_memory → (n : ℕ) (m : Meaning) → n ≤ length bytes.now
+        → Denotes depth_limit (take n bytes.now) m → ⊥) }
+
+    // A refusal, want of memory aside, is the first fault, and there is no other first fault; its
+    // condition stands in the bytes at its place.
+    ensures first { IfErr result (λ f. f ≢ want_of_memory → IsFirstOfVolume bytes.now f) }
+    ensures one { (f : Fault) → IsFirstOfVolume bytes.now f → IfOk result (λ r. ⊥) × IfErr result (λ g. g ≢ want_of_memory → g ≡ f) }
+    ensures stands { IfErr result (λ f. f ≢ want_of_memory → FaultStands bytes.now f) }
 
     // Memory is wanted only where they begin with the header of a volume.
     ensures memory { IfErr result (λ f. f ≡ want_of_memory → (h : HeadFields) × (e : Extent) × Front h e bytes.now) }
 {
-    let (head, extent) = read_head(alloc, bytes)?;
-    check(head.ext().is_none(), FaultKind::ExtHeader, 52)?;
-    let body = &bytes[extent.header_len as usize..extent.length as usize];
-    let erased = all_are(body, extent.polarity.erased());
-    check(erased, FaultKind::FileState, extent.header_len + 23)?;
-    Ok((VolumeView::new(head, body), extent.length))
+    let place = Place {
+        offset: 0,
+        depth: 0,
+    };
+    read_at(alloc, bytes, place, 8)
 }

@@ -1,45 +1,351 @@
 //! A volume, as a view of the bytes that it was read from.
 
-ghost use Rattle.std.specs.Prelude.{◌≡◌};
-ghost use Rattle.fv_tree.specs.Meaning.{Meaning, IsMeaning};
+ghost use Rattle.std.specs.Prelude.{◌≡◌, length, option_map, option_copied, slice_get};
+ghost use Rattle.fv_file.specs.Attributes.{attribute_bits};
+ghost use Rattle.fv_tree.specs.Denotes.{IsMeaning, IsReadFile, IsReadSection};
+ghost use Rattle.fv_tree.specs.Meaning.{head_of, files_of};
+ghost use Rattle.fv_tree.specs.Meaning.{name_of, file_kind_of, attributes_of, content_of, plain_of, data_len_of};
+ghost use Rattle.fv_tree.specs.Meaning.{section_kind_of, is_extended, body_of, leaf_of, body_len};
+ghost use Rattle.fv_tree.specs.Names.{HasNumbers, number_from};
+ghost use Rattle.fv_tree.specs.Views.{body_view, content_view};
 
+use crate::numbers::Numbers;
+use fv_base::Guid;
+use fv_file::FileAttributes;
 use fv_head::VolumeHead;
 use std::marker::Model;
 
-/// What a volume means, made by reading alone. Contracts see its meaning, and know that some
-/// bytes are a volume of it. No file is read yet.
+/// What a volume means, made by reading alone: its header, which is owned, and its files, whose
+/// bytes are slices of what was read. Contracts see its meaning, and know that some bytes are a
+/// volume of it. (PI specification, volume 3, section 3.2.)
+#[cycle(tree)]
 #[derive(Drop)]
 pub struct VolumeView<'a> {
     head: VolumeHead,
-    body: &'a [u8],
+    files: Vec<FileView<'a>>,
+    numbers: Numbers,
+}
+
+/// What a file of a volume means, made by reading alone: its name, its type, its attributes and
+/// its content. (PI specification, volume 3, section 3.2.3.)
+#[cycle(tree)]
+#[derive(Drop)]
+pub struct FileView<'a> {
+    content: Content<'a>,
+    name: Guid,
+    data_len: u32,
+    file_type: u8,
+    attributes: FileAttributes,
+}
+
+/// What the data of a file are, by the file's type. (PI specification, volume 3, section 3.2.3.)
+#[cycle(tree)]
+#[derive(Drop)]
+pub enum Content<'a> {
+    /// Bytes of no further meaning.
+    Plain(&'a [u8]),
+    /// Sections.
+    Stream {
+        /// The sections in their order.
+        sections: Vec<SectionView<'a>>,
+        /// How many bytes follow the last section, 0 to 3.
+        tail: u8,
+    },
+}
+
+/// What a section means, made by reading alone: its type, the form of its header, and its body.
+/// (PI specification, volume 3, section 3.2.4.)
+#[cycle(tree)]
+#[derive(Drop)]
+pub struct SectionView<'a> {
+    body: Body<'a>,
+    len: u32,
+    kind: u8,
+    extended: bool,
+}
+
+/// What a section holds. (PI specification, volume 3, section 3.2.5.)
+#[cycle(tree)]
+#[derive(Drop)]
+pub enum Body<'a> {
+    /// Bytes of no further meaning.
+    Leaf(&'a [u8]),
+    /// Sections.
+    Group {
+        /// The sections in their order.
+        sections: Vec<SectionView<'a>>,
+        /// How many bytes follow the last section, 0 to 3.
+        tail: u8,
+    },
+    /// A volume. It stands behind a pointer, so that a section without one is small.
+    Nested(Box<VolumeView<'a>>),
 }
 
 impl<'a> Model for VolumeView<'a> {
-    ghost use Rattle.fv_tree.specs.Meaning.{Meaning, IsMeaning};
+    ghost use Rattle.fv_tree.specs.Codes.{volume_code};
+    ghost use Rattle.fv_tree.specs.Meaning.{Meaning, Volume, files_from};
+    ghost use Rattle.fv_tree.specs.Sizes.{volume_size};
 
     ghost Value = { Meaning };
 
-    ghost view = { λ v. record { head = v.head } };
+    ghost coded = { volume_code };
 
-    ghost invariant = { λ v. IsMeaning (record { head = v.head }) };
+    ghost view = { λ v. Volume v.head (files_from v.files.items) };
+
+    ghost use Rattle.fv_tree.specs.Denotes.{IsMeaning};
+    ghost use Rattle.fv_tree.specs.Names.{HasNumbers};
+
+    ghost invariant = { λ v. IsMeaning (Volume v.head (files_from v.files.items)) × HasNumbers v.numbers v.files.items };
+
+    ghost size = { volume_size };
+
+    ghost use Rattle.std.proofs.Common.{arith};
+    ghost use Rattle.fv_tree.specs.Views.{files_fall};
+
+    ghost size_decreases = { λ v h. Prim.omega (arith, files_fall v.files.items) };
+}
+
+impl<'a> Model for FileView<'a> {
+    ghost use Rattle.std.specs.Prelude.{◌≡◌};
+    ghost use Rattle.fv_tree.specs.Codes.{file_code};
+    ghost use Rattle.fv_tree.specs.Meaning.{FileMeaning, File, content_len};
+    ghost use Rattle.fv_tree.specs.Sizes.{file_size};
+
+    ghost Value = { FileMeaning };
+
+    ghost coded = { file_code };
+
+    ghost use Rattle.fv_tree.specs.Views.{content_view};
+
+    ghost view = { λ f. File f.name f.file_type f.attributes.0 (content_view f.content) };
+
+    ghost use Rattle.fv_tree.specs.Denotes.{IsReadFile};
+
+    ghost invariant = { λ f. IsReadFile (File f.name f.file_type f.attributes.0 (content_view f.content))
+        × (f.data_len ≡ content_len (content_view f.content)) };
+
+    ghost size = { file_size };
+
+    ghost use Rattle.std.proofs.Common.{arith};
+    ghost use Rattle.fv_tree.specs.Falls.{content_falls};
+
+    ghost size_decreases = { λ f h. Prim.omega (arith, content_falls f.content) };
+}
+
+impl<'a> Model for SectionView<'a> {
+    ghost use Rattle.std.specs.Prelude.{◌≡◌};
+    ghost use Rattle.fv_tree.specs.Codes.{section_code};
+    ghost use Rattle.fv_tree.specs.Meaning.{SectionMeaning, Section, body_len};
+    ghost use Rattle.fv_tree.specs.Sizes.{section_size};
+
+    ghost Value = { SectionMeaning };
+
+    ghost coded = { section_code };
+
+    ghost use Rattle.fv_tree.specs.Views.{body_view};
+
+    ghost view = { λ s. Section s.kind s.extended (body_view s.body) };
+
+    ghost use Rattle.fv_tree.specs.Denotes.{IsReadSection};
+
+    ghost invariant = { λ s. IsReadSection (Section s.kind s.extended (body_view s.body)) × (s.len ≡ body_len (body_view s.body)) };
+
+    ghost size = { section_size };
+
+    ghost use Rattle.std.proofs.Common.{arith};
+    ghost use Rattle.fv_tree.specs.Falls.{body_falls};
+
+    ghost size_decreases = { λ s h. Prim.omega (arith, body_falls s.body) };
 }
 
 impl<'a> VolumeView<'a> {
-    // The view of a volume of this head, with the bytes behind it.
-    pub(crate) fn new(head: VolumeHead, body: &'a [u8]) -> VolumeView<'a>
-        requires { IsMeaning (record { head = head }) }
-        ensures { result.head ≡ head }
+    ghost use Rattle.fv_tree.specs.Meaning.{Volume, files_from};
+
+    // The view of a volume of this head and these files, with the number of the first of each name.
+    pub(crate) fn new(
+        head: VolumeHead,
+        files: Vec<FileView<'a>>,
+        numbers: Numbers,
+    ) -> VolumeView<'a>
+        requires meaning { IsMeaning (Volume head (files_from files.items)) }
+        requires numbers { HasNumbers numbers files.items }
+        ensures { result ≡ Volume head (files_from files.entry.items) }
     {
-        VolumeView { head, body }
+        VolumeView {
+            head,
+            files,
+            numbers,
+        }
     }
 
-    /// The header.
+    /// The header, with its extended header, if there is one. (PI specification, volume 3, section
+    /// 3.2.1.)
     pub fn head(&self) -> &VolumeHead
-        ensures head { result.now ≡ self.now.head }
+        ensures head { result.now ≡ head_of self.now }
 
         // Some bytes are a volume of this meaning.
         ensures meaning { IsMeaning self.now }
     {
         &self.head
+    }
+
+    /// How many files it has.
+    pub fn file_count(&self) -> u32
+        ensures { result ≡ length (files_of self.now) }
+    {
+        self.files.len() as u32
+    }
+
+    /// The file of this number, counted from 0 in the order in which they lie, or None past the
+    /// last.
+    pub fn file(&self, number: u32) -> Option<&FileView<'a>>
+        ensures { option_copied result ≡ slice_get (files_of self.now) number }
+    {
+        let at = number as usize;
+        if at < self.files.len() {
+            Some(&self.files[at])
+        } else {
+            None
+        }
+    }
+
+    // The number of the first file of this name.
+    pub(crate) fn number_of(&self, name: &Guid) -> Option<u32>
+        ensures { result ≡ number_from 0 name.now (files_of self.now) }
+    {
+        self.numbers.get(name)
+    }
+}
+
+impl<'a> FileView<'a> {
+    ghost use Rattle.fv_tree.specs.Meaning.{File, content_len};
+
+    // The view of a file, whose data have so many bytes.
+    pub(crate) fn new(
+        name: Guid,
+        kind: u8,
+        attributes: FileAttributes,
+        content: Content<'a>,
+        len: u32,
+    ) -> FileView<'a>
+        requires read { IsReadFile (File name kind attributes.0 (content_view content)) }
+        requires len { len ≡ content_len (content_view content) }
+        ensures { result ≡ File name kind attributes.0 (content_view content.entry) }
+    {
+        FileView {
+            name,
+            file_type: kind,
+            attributes,
+            content,
+            data_len: len,
+        }
+    }
+
+    /// The name.
+    pub fn name(&self) -> Guid
+        ensures name { result ≡ name_of self.now }
+
+        // Some bytes are a file of this meaning.
+        ensures read { IsReadFile self.now }
+    {
+        self.name
+    }
+
+    /// The type (PI specification, volume 3, section 3.2.3, EFI_FV_FILETYPE).
+    pub fn kind(&self) -> u8
+        ensures { result ≡ file_kind_of self.now }
+    {
+        self.file_type
+    }
+
+    /// The attribute bits without 01, which goes with the form of the header. (PI specification,
+    /// volume 3, section 3.2.3.1.)
+    pub fn attributes(&self) -> FileAttributes
+        ensures { attribute_bits result ≡ attributes_of self.now }
+    {
+        self.attributes
+    }
+
+    /// What its data are.
+    pub fn content(&self) -> &Content<'a>
+        ensures { content_view result.now ≡ content_of self.now }
+    {
+        &self.content
+    }
+
+    /// Its data where they are no sections: a slice of what was read, which outlives the view.
+    pub fn plain(&self) -> Option<&'a [u8]>
+        ensures { option_map (λ b. b.now) result ≡ plain_of (content_of self.now) }
+    {
+        match &self.content {
+            Content::Plain(bytes) => Some(*bytes),
+            _ => None,
+        }
+    }
+
+    /// How many bytes its data have.
+    pub fn data_len(&self) -> u64
+        ensures { result ≡ data_len_of self.now }
+    {
+        u64::from(self.data_len)
+    }
+}
+
+impl<'a> SectionView<'a> {
+    ghost use Rattle.fv_tree.specs.Meaning.{Section, body_len};
+
+    // The view of a section, whose body has so many bytes.
+    pub(crate) fn new(kind: u8, extended: bool, body: Body<'a>, len: u32) -> SectionView<'a>
+        requires read { IsReadSection (Section kind extended (body_view body)) }
+        requires len { len ≡ body_len (body_view body) }
+        ensures { result ≡ Section kind extended (body_view body.entry) }
+    {
+        SectionView {
+            kind,
+            extended,
+            body,
+            len,
+        }
+    }
+
+    /// The type (PI specification, volume 3, section 3.2.4, EFI_SECTION_TYPE).
+    pub fn kind(&self) -> u8
+        ensures kind { result ≡ section_kind_of self.now }
+
+        // Some bytes are a section of this meaning.
+        ensures read { IsReadSection self.now }
+    {
+        self.kind
+    }
+
+    /// Whether its header is extended: 8 bytes, and not 4.
+    pub fn extended(&self) -> bool
+        ensures { result ≡ is_extended self.now }
+    {
+        self.extended
+    }
+
+    /// What it holds.
+    pub fn body(&self) -> &Body<'a>
+        ensures { body_view result.now ≡ body_of self.now }
+    {
+        &self.body
+    }
+
+    /// The bytes of a leaf: a slice of what was read, which outlives the view.
+    pub fn leaf(&self) -> Option<&'a [u8]>
+        ensures { option_map (λ b. b.now) result ≡ leaf_of (body_of self.now) }
+    {
+        match &self.body {
+            Body::Leaf(bytes) => Some(*bytes),
+            _ => None,
+        }
+    }
+
+    /// How many bytes its body has.
+    pub fn body_len(&self) -> u64
+        ensures { result ≡ body_len (body_of self.now) }
+    {
+        u64::from(self.len)
     }
 }

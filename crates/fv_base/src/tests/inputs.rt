@@ -55,26 +55,34 @@ fn inputs_are_read_to_their_end(rt: HostRuntime) -> Result<(), Fail> {
 }
 
 /// Bytes that all differ from their neighbours.
-const PART: [u8; 9] = [3, 1, 4, 1, 5, 9, 2, 6, 5];
+fn part() -> [u8; 1000] {
+    let mut bytes = [0; 1000];
+    for i in 0..1000usize {
+        bytes[i] = (i % 251) as u8;
+    }
+    bytes
+}
 
 // One byte more is good than there are: the end is read too.
 #[test]
 fn an_interrupted_input_is_read_on(rt: HostRuntime) {
+    let bytes = part();
     let mut reader = Port::new(Trickle {
-        bytes: &PART,
+        bytes: &bytes,
         calls: 0,
-        good: 10,
+        good: 1001,
     });
     let got = read_input(rt.alloc(), &mut reader).ok();
-    assert!(rt; got.is_some_and(|got| got.as_slice() == PART.as_slice()));
+    assert!(rt; got.is_some_and(|got| got.as_slice() == bytes.as_slice()));
     assert!(rt; reader.erred());
 }
 
 #[test]
 fn a_reader_that_fails_is_told(rt: HostRuntime) {
-    for good in [0usize, 1, 2, 7, 9] {
+    let bytes = part();
+    for good in [0usize, 1, 2, 7, 1000] {
         let mut reader = Port::new(Trickle {
-            bytes: &PART,
+            bytes: &bytes,
             calls: 0,
             good,
         });

@@ -3,7 +3,6 @@
 use super::{A, P};
 use crate::{FileAttributes, HeadBytes, file_head_bytes, pad_head_bytes, verify_ffs_file};
 use bitflags::Flags;
-use fv_base::limits::DATA_LIMIT;
 use fv_base::{FileSystem, Guid, Polarity};
 
 /// The header of a file of this type, these attribute bits, data and file sum, if there is one.
@@ -15,7 +14,7 @@ fn file(
     polarity: Polarity,
 ) -> Option<HeadBytes> {
     let attributes = FileAttributes::from_bits_retain(attributes);
-    if kind == 0xf0 || attributes.is_large() || attributes.is_fixed() || data_len > DATA_LIMIT {
+    if kind == 0xf0 || attributes.is_large() || attributes.is_fixed() || data_len > 268_435_424 {
         return None;
     }
     let name = Guid::from_bytes(A);

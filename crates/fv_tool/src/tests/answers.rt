@@ -73,7 +73,7 @@ fn is_at(fault: Option<Fault>, number: u8, offset: u64) -> bool {
 
 #[test]
 fn refuses_volumes(rt: HostRuntime) -> Result<(), Fail> {
-    let cases: [(&[u8], u8, u64, &[u8]); 13] = [
+    let cases: [(&[u8], u8, u64, &[u8]); 18] = [
         (vectors::HEAD_SIGNATURE, 2, 40, b"fault 2 at 40\n"),
         (vectors::HEAD_FILE_SYSTEM, 3, 16, b"fault 3 at 16\n"),
         (vectors::HEAD_REVISION, 4, 55, b"fault 4 at 55\n"),
@@ -91,7 +91,12 @@ fn refuses_volumes(rt: HostRuntime) -> Result<(), Fail> {
         (vectors::HEAD_LENGTH_OVER_16M, 1, 72, b"fault 1 at 72\n"),
         (vectors::ONE_BYTE_BEHIND, 8, 128, b"fault 8 at 128\n"),
         (vectors::HEAD_EXT_OFFSET, 9, 52, b"fault 9 at 52\n"),
-        (vectors::STRAY_LAST_BYTE, 10, 95, b"fault 10 at 95\n"),
+        (vectors::STRAY_LAST_BYTE, 16, 127, b"fault 16 at 127\n"),
+        (vectors::FILE_HEADER_SUM, 11, 72, b"fault 11 at 72\n"),
+        (vectors::SAME_NAME_TWICE, 17, 96, b"fault 17 at 96\n"),
+        (vectors::FILE_AND_BYTE_BEHIND, 8, 128, b"fault 8 at 128\n"),
+        (vectors::FILE_WITHOUT_DATA, 22, 0, b"fault 22 at 0\n"),
+        (vectors::EXT_HEADER, 22, 0, b"fault 22 at 0\n"),
     ];
     let plan = normalise_plan(true);
     for (text, number, offset, line) in cases {
@@ -113,6 +118,25 @@ fn erased_bytes_are_those_of_the_attributes(rt: HostRuntime) -> Result<(), Fail>
     let other = volume_of(rt.alloc(), vectors::EMPTY_OF_ZEROS_BUT_FULL)?;
     let fault = Fault::outer(FaultKind::FileState, 95);
     assert!(rt; fault_of(rt.alloc(), &other) == Some(fault));
+    Ok(())
+}
+
+#[test]
+fn pads_and_deleted_files_are_left_out(rt: HostRuntime) -> Result<(), Fail> {
+    let cases: [&[u8]; 3] = [
+        vectors::TWO_PADS,
+        vectors::PAD_WITH_DATA,
+        vectors::DELETED_FILE,
+    ];
+    let plan = normalise_plan(true);
+    let empty = volume_of(rt.alloc(), vectors::EMPTY)?;
+    for text in cases {
+        let volume = volume_of(rt.alloc(), text)?;
+        let image = fv_canon::normalise(rt.alloc(), &volume)?;
+        assert!(rt; image.as_slice() == empty.as_slice(), "{text:?}");
+        let is_told = ends_as(rt.alloc(), &plan, (text, b""), Status::Done, vectors::EMPTY);
+        assert!(rt; is_told, "{text:?}");
+    }
     Ok(())
 }
 

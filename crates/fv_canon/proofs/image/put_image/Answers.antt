@@ -16,6 +16,7 @@ overflow_sub-rest g c =
 pub returns-clause-bytes : goal.returns-clause-bytes
 returns-clause-bytes g c =
     subst (λ (bytes : List ℕ). g.S.Sink.takes c.args.out.now bytes c.fill.new.out)
-    (image_parts c.args.view.now c.head-head.result.now c.length.result c.from.result c.erased.result c.head-head.ensures.head c.length.ensures
-    (c.from.ensures ∙ c.header_len.ensures.length) (c.erased.ensures.value ∙ ap erased_byte (c.polarity.ensures ∙ ap polarity_of c.attributes.ensures)))
+    (image_parts c.args.view.now c.head-head.result.now c.length.result c.from.result c.erased.result
+    c.head-head.ensures.head c.length.ensures (c.from.ensures ∙ c.header_len.ensures.length)
+    (c.erased.ensures.value ∙ ap erased_byte (c.polarity.ensures ∙ ap polarity_of c.attributes.ensures)))
     (g.S.Sink.laws.joined _ _ _ _ _ c.put_head.ensures.bytes c.fill.ensures)

@@ -13,12 +13,18 @@ returns-then-out-clause-ok g c =
     let m = c.args.view.now in
     let k = meant m c.put_image.ensures.meaning in
     let whole = image_of m in
-    let s : Written = record { contents = g.W.Write.contents (inner_of c.args.writer.now); erred = has_erred c.args.writer.now; count = 0 } in
-    let t : Written = record { contents = g.W.Write.contents (inner_of c.put_image.new.out.port.now); erred = has_erred c.put_image.new.out.port.now; count = c.put_image.new.out.count } in
+    let s : Written =
+    record { contents = g.W.Write.contents (inner_of c.args.writer.now); erred = has_erred c.args.writer.now; count = 0 } in
+    let t : Written =
+    record {
+      contents = g.W.Write.contents (inner_of c.put_image.new.out.port.now);
+      erred = has_erred c.put_image.new.out.port.now;
+      count = c.put_image.new.out.count;
+    } in
     let wrote : Writes s whole t = rw c.if-out.true at c.put_image.ensures.bytes.1 in
     let appended : Appends s.contents t.contents whole = wrote.0 in (
       whole,
-      image_is m k,
+      image_is m k c.requires.0,
       search rules,
     )
 
@@ -27,15 +33,22 @@ returns-else-out-clause-err g c =
     let m = c.args.view.now in
     let k = meant m c.put_image.ensures.meaning in
     let whole = image_of m in
-    let s : Written = record { contents = g.W.Write.contents (inner_of c.args.writer.now); erred = has_erred c.args.writer.now; count = 0 } in
-    let t : Written = record { contents = g.W.Write.contents (inner_of c.put_image.new.out.port.now); erred = has_erred c.put_image.new.out.port.now; count = c.put_image.new.out.count } in
+    let s : Written =
+    record { contents = g.W.Write.contents (inner_of c.args.writer.now); erred = has_erred c.args.writer.now; count = 0 } in
+    let t : Written =
+    record {
+      contents = g.W.Write.contents (inner_of c.put_image.new.out.port.now);
+      erred = has_erred c.put_image.new.out.port.now;
+      count = c.put_image.new.out.count;
+    } in
     let short : length whole < 2 ^ 62 = omega (arith, length-image m k, k.limit) in
     let cut : WritesFront s whole t = rw c.if-out.false at c.put_image.ensures.bytes.1 in
     let at = front_is s t whole refl c.fault.ensures.small short cut in
     let offset : c.fault.result.place.offset ≡ c.put_image.new.out.count = ap (λ (f : Fault). f.place.offset) c.fault.ensures.fault in
-    let wrote : Appends s.contents t.contents (take c.fault.result.place.offset whole) = subst (λ (n : ℕ). Appends s.contents t.contents (take n whole)) (sym offset) at.1 in (
+    let wrote : Appends s.contents t.contents (take c.fault.result.place.offset whole) =
+    subst (λ (n : ℕ). Appends s.contents t.contents (take n whole)) (sym offset) at.1 in (
       whole,
-      image_is m k,
+      image_is m k c.requires.0,
       record {
         kind = ap (λ (f : Fault). f.kind) c.fault.ensures.fault;
         depth = ap (λ (f : Fault). f.place.depth) c.fault.ensures.fault;

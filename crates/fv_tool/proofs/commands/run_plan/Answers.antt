@@ -22,3 +22,11 @@ returns-in-Ok-outcome-clause-listed g c = λ n r.
       | in-Hobs w ↦
           rw w.first-is (subst (λ l. OnOk l (ReadsHobs (g.First.Read.remaining (inner_of c.args.first.now)) (g.First.Read.remaining (inner_of w.list_hobs-outcome.new.first)))) (sym w.outcome-is ∙ c.in-Ok-outcome.is) (w.list_hobs-outcome.ensures n.0))
     ]
+
+pub returns-in-Ok-outcome-clause-done : goal.returns-in-Ok-outcome-clause-done
+returns-in-Ok-outcome-clause-done g c = λ n r.
+    elim c.match-plan.branch [
+      | in-Normalise+in-Ok w ↦ rw (w.first-is, w.writer-is) (w.in-Ok.ensures.ok n.0)
+      | in-Normalise+in-Err w ↦ let same = sym w.outcome-is ∙ c.in-Ok-outcome.is in cc
+      | in-Hobs w ↦ absurd (subst IsNormalise w.in-Hobs.is n.1)
+    ]

@@ -1,0 +1,29 @@
+-- Why an input is refused.
+use Rattle.std.specs.Prelude.{◌≡◌, ◌⊎◌, ◌<◌, ℕ, List, length, take}
+use Rattle.fv_base.specs.Faults.{outer_fault}
+use Rattle.fv_base.specs.declared.fault.Fault.{Fault}
+use Rattle.fv_base.specs.declared.fault.FaultKind.TheVariants as kinds
+use Rattle.fv_tree.specs.Denotes.{Accepted}
+use Rattle.fv_tree.specs.FirstFault.{IsFirstOfVolume}
+use Rattle.fv_tree.specs.Meaning.{Meaning, length_of}
+use Rattle.fv_canon.specs.Layouts.{Unfit}
+
+-- the first fault of a whole input: that of the volume which it is to begin with, or Length at that volume's end where more bytes stand
+-- behind it
+abbrev pub IsFirstOfInput : List ℕ → Fault → Type 0
+IsFirstOfInput input f =
+    IsFirstOfVolume input f
+    ⊎ ((m : Meaning) × Accepted (take (length_of m) input) m × (length_of m < length input) × (f ≡ outer_fault kinds.Length (length_of m)))
+
+-- an input is no volume, and this is its first fault
+pub record NotRead (input : List ℕ) (f : Fault) : Type 0 where
+  pub none : (m : Meaning) → Accepted input m → ⊥
+  pub first : IsFirstOfInput input f
+
+-- an input is a volume that does not fit, and this is the fault of its layout
+abbrev pub NotPlaced : List ℕ → Fault → Type 0
+NotPlaced input f = (m : Meaning) × Accepted input m × Unfit m 0 f
+
+-- the input is refused: it is no volume, or it does not fit
+abbrev pub Refuses : List ℕ → Fault → Type 0
+Refuses input f = NotRead input f ⊎ NotPlaced input f

@@ -1,0 +1,136 @@
+-- The files of a volume are those of its cells.
+use Rattle.std.proofs.Common.{◌≡◌, ◌≤◌, ◌<◌, ℕ, ◌+◌, ◌^◌, List, [], ◌∷◌, ◌++◌, length, drop, Bool, true, false, refl, sym, ap}
+use Rattle.std.proofs.Common.{◌∙◌, subst, arith, inl, inr, length-append}
+use Rattle.std.specs.Prelude.{not}
+use Rattle.std.specs.List.{AllByRecursion, filter, list_any}
+use Rattle.fv_base.specs.Limits.{volume_limit}
+use Rattle.fv_base.specs.Value.{IsBytes}
+use Rattle.fv_base.specs.declared.fault.Fault.{Fault}
+use Rattle.fv_base.specs.declared.flash.FileSystem.{FileSystem}
+use Rattle.fv_base.specs.declared.flash.Polarity.{Polarity}
+use Rattle.fv_base.proofs.Laws.{bytes_front, bytes_back, bytes_drop}
+use Rattle.std.proofs.lemmas.List.{length-drop}
+use Rattle.fv_file.specs.Cells.{CellForm, Valid, Pad, Dead, Stub, Free, Tiles, AllWithin, IsCell, IsMadeUp, offset_of, span}
+use Rattle.fv_file.proofs.Laws.{cell_span}
+use Rattle.fv_head.specs.declared.extent.Extent.{Extent}
+use Rattle.fv_tree.specs.Body.{HasFiles, AreAlive, StandIn, StandFirst, AliveFirst, IsReadyFile, AllStored}
+use Rattle.fv_tree.specs.Denotes.{Streams, Pairs, IsFile}
+use Rattle.fv_tree.specs.Files.{FileForm, NoTwins, files_in, alive_in, TopAtEnd, Alive, replaces}
+use Rattle.fv_tree.specs.FirstFault.{moved, Faulty, FileFirst, BodyFirst, FirstOf}
+use Rattle.fv_tree.specs.Meaning.{FileMeaning}
+use Rattle.fv_tree.proofs.AliveLaws.{alive_none}
+
+-- ---- the files as they lie in a volume
+
+-- the files of some cells are those of a volume of them
+pub alive_of : (length : ℕ) (cs : List CellForm) (standing files : List FileForm) → standing ≡ files_in cs → AreAlive length standing files
+    → Alive length cs files
+alive_of length cs standing files is h = record {
+  no_twins = subst NoTwins is h.no_twins;
+  files_are = h.files_are ∙ ap alive_in is;
+  top = h.top;
+}
+
+module _ (e : Extent) (volume : List ℕ) (cs : List CellForm) where
+  -- the only cells
+  abbrev pub OnlyCells : Type 0
+  OnlyCells = (ds : List CellForm) → Tiles e.file_system e.polarity e.first ds (drop e.first volume) → ds ≡ cs
+
+  -- their files are the only ones
+  pub stand_only : OnlyCells → (fs : List FileForm) → Alive e.length cs fs → (gs : List FileForm) → StandIn e volume gs → gs ≡ fs
+  stand_only only fs alive gs h =
+      h.alive.files_are ∙ ap (λ (ds : List CellForm). alive_in (files_in ds)) (only h.cells h.tiles) ∙ sym alive.files_are
+
+  -- where these have a fault, there are none
+  pub stand_none : OnlyCells → (f : Fault) → AliveFirst e.length (files_in cs) f → (gs : List FileForm) → StandIn e volume gs → ⊥
+  stand_none only f first gs h =
+      alive_none e.length cs f gs first (subst (λ (ds : List CellForm). Alive e.length ds gs) (only h.cells h.tiles) h.alive)
+
+-- ---- what the files mean
+
+module _ (S : Streams) (e : Extent) (volume : List ℕ) where
+  pub body_found : (fs : List FileForm) (ms : List FileMeaning) → StandIn e volume fs → Pairs (IsFile S) fs ms → HasFiles S e volume ms
+  body_found fs ms stand pairs = record {
+    cells = stand.cells;
+    tiles = stand.tiles;
+    files = fs;
+    alive = stand.alive;
+    meanings = pairs;
+  }
+
+  standing : (ms : List FileMeaning) → (h : HasFiles S e volume ms) → StandIn e volume h.files
+  standing ms h = record { cells = h.cells; tiles = h.tiles; alive = h.alive }
+
+  pub body_only : (fs : List FileForm) → ((gs : List FileForm) → StandIn e volume gs → gs ≡ fs) → (ms : List FileMeaning)
+      → ((ts : List FileMeaning) → Pairs (IsFile S) fs ts → ts ≡ ms) → (ts : List FileMeaning) → HasFiles S e volume ts → ts ≡ ms
+  body_only fs only ms one ts h = one ts (subst (λ (gs : List FileForm). Pairs (IsFile S) gs ts) (only h.files (standing ts h)) h.meanings)
+
+  pub body_none : (fs : List FileForm) → ((gs : List FileForm) → StandIn e volume gs → gs ≡ fs)
+      → ((ts : List FileMeaning) → Pairs (IsFile S) fs ts → ⊥) → (ts : List FileMeaning) → HasFiles S e volume ts → ⊥
+  body_none fs only none ts h = none ts (subst (λ (gs : List FileForm). Pairs (IsFile S) gs ts) (only h.files (standing ts h)) h.meanings)
+
+  pub files_none : ((gs : List FileForm) → StandIn e volume gs → ⊥) → (ts : List FileMeaning) → HasFiles S e volume ts → ⊥
+  files_none none ts h = none h.files (standing ts h)
+
+module _ (S : Streams) (I : Faulty) (e : Extent) (volume : List ℕ) (base depth : ℕ) where
+  pub stand_first : (g : Fault) → StandFirst e g volume base depth → BodyFirst S I e g volume base depth
+  stand_first g (inl first) = inl first
+  stand_first g (inr (cs, tiles, f, inl (x, twin, same), is)) = inr (cs, tiles, inl (x, twin, is ∙ ap (moved base depth) same))
+  stand_first g (inr (cs, tiles, f, inr (none, (x, top, same)), is)) =
+      inr (cs, tiles, inr (none, inl (x, top, is ∙ ap (moved base depth) same)))
+
+  pub files_first : (fs : List FileForm) (g : Fault) → StandIn e volume fs → FirstOf (IsFile S) (λ f. FileFirst I g f base depth) fs
+      → BodyFirst S I e g volume base depth
+  files_first fs g stand first =
+      let alive = stand.alive in
+      let P : List FileForm → Type 0 = λ l. FirstOf (IsFile S) (λ f. FileFirst I g f base depth) l in
+      let top = subst (TopAtEnd e.length) alive.files_are alive.top in
+      inr (stand.cells, stand.tiles, inr (alive.no_twins, inr (top, subst P alive.files_are first)))
+
+-- ---- every file stands in some bytes
+
+stored_here : (s : FileSystem) (p : Polarity) (c : CellForm) (x : List ℕ) (base end : ℕ) (cs : List CellForm) → IsBytes x
+    → length x ≤ volume_limit → base + end < 2 ^ 63 → IsCell s p c x
+    → offset_of c + span c ≤ end → IsMadeUp c → AllStored base (files_in cs) → AllStored base (files_in (c ∷ cs))
+stored_here s p (Valid at head payload) x base end cs small short fits is lies made rest = (
+  (
+    (s, p, x, small, short, is),
+    omega
+        (arith, fits, lies, made),
+    omega (arith, short, made, cell_span s p (Valid at head payload) x is),
+  ),
+  rest,
+)
+stored_here s p (Pad at head payload) x base end cs small short fits is lies made rest = rest
+stored_here s p (Dead at len) x base end cs small short fits is lies made rest = rest
+stored_here s p (Stub at len) x base end cs small short fits is lies made rest = rest
+stored_here s p (Free at len) x base end cs small short fits is lies made rest = rest
+
+pub stored_in : (s : FileSystem) (p : Polarity) (at base end : ℕ) (cs : List CellForm) (b : List ℕ) → IsBytes b
+    → length b ≤ volume_limit → base + end < 2 ^ 63 → Tiles s p at cs b → AllWithin end cs
+    → AllStored base (files_in cs)
+stored_in s p at base end [] b small short fits tiles within = tt
+stored_in s p at base end (c ∷ cs) b small short fits (x, rest, text, is, o, free, more) (lies, made, others) =
+    let long : length b ≡ length x + length rest = ap length text ∙ length-append x rest in
+    let parts : IsBytes (x ++ rest) = subst IsBytes text small in
+    stored_here s p c x base end cs (bytes_front x rest parts) (omega (arith, long, short)) fits is lies made
+    (stored_in s p (at + length x) base end cs rest (bytes_back x rest parts) (omega (arith, long, short)) fits more others)
+
+pub all_filter : (test : FileForm → Bool) (P : FileForm → Type 0) (fs : List FileForm) → AllByRecursion P fs
+    → AllByRecursion P (filter test fs)
+all_filter test P [] h = tt
+all_filter test P (f ∷ fs) h = go (test f) refl (all_filter test P fs h.1) where
+  go : (t : Bool) → test f ≡ t → AllByRecursion P (filter test fs) → AllByRecursion P (filter test (f ∷ fs))
+  go true e rest = rw e (h.0, rest)
+  go false e rest = rw e rest
+
+pub files_stored : (e : Extent) (volume : List ℕ) (base : ℕ) (cs : List CellForm) (fs : List FileForm) → IsBytes volume
+    → length volume ≤ volume_limit → base + length volume < 2 ^ 63
+    → Tiles e.file_system e.polarity e.first cs (drop e.first volume) → AllWithin (length volume) cs → Alive e.length cs fs
+    → AllStored base fs
+files_stored e volume base cs fs small short fits tiles within alive =
+    let short' : length (drop e.first volume) ≤ volume_limit = omega (arith, length-drop e.first volume, short) in
+    let all = stored_in e.file_system e.polarity e.first base (length volume) cs (drop e.first volume)
+    (bytes_drop e.first volume small) short' fits tiles within in
+    subst (AllStored base) (sym alive.files_are) (all_filter (λ f. not (list_any (replaces f) (files_in cs))) (IsReadyFile base)
+    (files_in cs) all)

@@ -1,0 +1,51 @@
+-- A volume has fewer files than bytes.
+use Rattle.std.proofs.Common.{◌≡◌, ◌≤◌, ◌<◌, ℕ, ◌^◌, List, [], ◌∷◌, length, drop, Bool, true, false, refl, ap}
+use Rattle.std.proofs.Common.{arith}
+use Rattle.std.specs.Prelude.{not, cond}
+use Rattle.std.specs.List.{filter, list_any}
+use Rattle.std.proofs.lemmas.List.{length-drop}
+use Rattle.fv_file.specs.Cells.{CellForm, Valid, Pad, Dead, Stub, Free}
+use Rattle.fv_file.proofs.Laws.{cells_few}
+use Rattle.fv_head.proofs.Laws.{front_lies}
+use Rattle.fv_tree.specs.Denotes.{Pairs, Stream, Denotes, IsFile, IsMeaning}
+use Rattle.fv_tree.specs.Files.{FileForm, files_in, replaces}
+use Rattle.fv_tree.specs.Meaning.{Meaning, files_of, head_of}
+
+pub files_few : (cs : List CellForm) → length (files_in cs) ≤ length cs
+files_few [] = omega arith
+files_few (Valid at head payload ∷ cs) = omega (arith, files_few cs)
+files_few (Pad at head payload ∷ cs) = omega (arith, files_few cs)
+files_few (Dead at len ∷ cs) = omega (arith, files_few cs)
+files_few (Stub at len ∷ cs) = omega (arith, files_few cs)
+files_few (Free at len ∷ cs) = omega (arith, files_few cs)
+
+pub filter_few : (test : FileForm → Bool) (fs : List FileForm) → length (filter test fs) ≤ length fs
+filter_few test [] = omega arith
+filter_few test (f ∷ fs) = go (test f) (filter_few test fs) where
+  go : (t : Bool) → length (filter test fs) ≤ length fs → length (cond t (f ∷ filter test fs) (filter test fs)) ≤ length (f ∷ fs)
+  go true h = omega (arith, h)
+  go false h = omega (arith, h)
+
+pairs_length : {A B : Type 0} (R : A → B → Type 0) (xs : List A) (ys : List B) → Pairs R xs ys → length ys ≡ length xs
+pairs_length R [] [] p = refl
+pairs_length R [] (y ∷ ys) p = absurd p
+pairs_length R (x ∷ xs) [] p = absurd p
+pairs_length R (x ∷ xs) (y ∷ ys) p = omega (arith, pairs_length R xs ys p.1)
+
+pub few_files : (n : ℕ) (b : List ℕ) (m : Meaning) → Denotes n b m → length (files_of m) ≤ length b
+few_files n b m d =
+    let cells = cells_few d.extent.file_system d.extent.polarity d.extent.first d.cells (drop d.extent.first b) d.tiles in
+    let all = filter_few (λ f. not (list_any (replaces f) (files_in d.cells))) (files_in d.cells) in
+    omega (
+      arith,
+      cells,
+      length-drop d.extent.first b,
+      files_few d.cells,
+      all,
+      ap length d.alive.files_are,
+      pairs_length (IsFile
+          (Stream n)) d.files (files_of m) d.meanings,
+    )
+
+pub few_of : (m : Meaning) → IsMeaning m → length (files_of m) < 2 ^ 32
+few_of m (n, low, b, small, d) = omega (arith, few_files n b m d, d.whole, (front_lies b (head_of m) d.extent d.front).limit)

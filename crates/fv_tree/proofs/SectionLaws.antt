@@ -1,0 +1,260 @@
+-- A section is read by its shape.
+use Rattle.std.proofs.Common.{◌≡◌, ℕ, zero, suc, ◌+◌, ◌≤◌, List, [], ◌∷◌, length, take, Bool, true, false, refl, sym, ap, ◌∙◌, subst, inl}
+use Rattle.std.proofs.Common.{inr, arith}
+use Rattle.std.specs.Prelude.{◌≢◌, ◌==◌, ◌&&◌, ◌⊎◌, nat_le, is_some, Some, None, if◌then◌else◌}
+use Rattle.std.specs.Str.{bytes_eq}
+use Rattle.std.proofs.lemmas.Bool.{eqb-true, leb-true, leb-false}
+use Rattle.std.proofs.lemmas.Bool.Decides.{Decides-eqb}
+use Rattle.std.proofs.lemmas.List.{take_all}
+use Rattle.std.proofs.lemmas.Slice.Eq.{bytes_eq-Decides}
+use Rattle.fv_base.proofs.Laws.{and_split, and_join}
+use Rattle.fv_base.specs.Faults.{outer_fault}
+use Rattle.fv_base.specs.Value.{field}
+use Rattle.fv_base.specs.declared.fault.Fault.{Fault}
+use Rattle.fv_base.specs.declared.fault.FaultKind.TheVariants as kinds
+use Rattle.fv_base.specs.declared.flash.FileSystem.{FileSystem}
+use Rattle.fv_base.specs.declared.flash.FileSystem.TheVariants.{Ffs2, Ffs3}
+use Rattle.fv_head.specs.Head.{system_guid}
+use Rattle.fv_head.specs.HeadChecks.{is_one_volume, file_system_at}
+use Rattle.fv_section.specs.Frames.{FrameForm}
+use Rattle.fv_tree.specs.Denotes.{group_kind, volume_kind, Opens, Streams, Volumes, IsSection, SectionOver, Stream, Denotes}
+use Rattle.fv_tree.specs.FirstFault.{moved, body_place, SectionFirst, FirstInStream, FirstInVolume}
+use Rattle.fv_tree.specs.Meaning.{Meaning, SectionMeaning, Section, SectionMeanings, NoSections, MoreSections, Leaf, Group}
+use Rattle.fv_tree.specs.Meaning.{Nested, sections_list, sections_from}
+use Rattle.fv_tree.specs.Shapes.{shape_of}
+use Rattle.fv_tree.specs.declared.read.Shape.TheVariants as shapes
+
+-- a list, there and back
+pub list_back : (ss : List SectionMeaning) → sections_list (sections_from ss) ≡ ss
+list_back [] = refl
+list_back (s ∷ ss) = ap (λ l. s ∷ l) (list_back ss)
+
+pub sections_back : (ss : SectionMeanings) → sections_from (sections_list ss) ≡ ss
+sections_back NoSections = refl
+sections_back (MoreSections s ss) = ap (λ l. MoreSections s l) (sections_back ss)
+
+-- ---- the tests
+
+system_is : (b : List ℕ) (t u : Bool) → bytes_eq (field 16 16 b) (system_guid Ffs2) ≡ t → bytes_eq (field 16 16 b) (system_guid Ffs3) ≡ u
+    → is_some (if t then Some Ffs2 else (if u then Some Ffs3 else None)) ≡ true → (system : FileSystem)
+    × (field 16 16 b ≡ system_guid system)
+system_is b true u two three h = (Ffs2, (bytes_eq-Decides _ _).0 two)
+system_is b false true two three h = (Ffs3, (bytes_eq-Decides _ _).0 three)
+system_is b false false two three h = cc
+
+system_some : (b : List ℕ) (system : FileSystem) → field 16 16 b ≡ system_guid system → is_some (file_system_at b) ≡ true
+system_some b Ffs2 is = rw ((bytes_eq-Decides (field 16 16 b) (system_guid Ffs2)).1 is) refl
+system_some b Ffs3 is = go (bytes_eq (field 16 16 b) (system_guid Ffs2)) (bytes_eq (field 16 16 b) (system_guid Ffs3))
+    ((bytes_eq-Decides (field 16 16 b) (system_guid Ffs3)).1 is)
+  where
+    go : (t u : Bool) → u ≡ true → is_some (if t then Some Ffs2 else (if u then Some Ffs3 else None)) ≡ true
+    go true u h = refl
+    go false true h = refl
+    go false false h = cc
+
+pub opens_found : (b : List ℕ) → is_one_volume b ≡ true → Opens b
+opens_found b h =
+    let p = and_split _ _ h in
+    let q = and_split _ _ p.0 in
+    let r = and_split _ _ q.0 in
+    record {
+      least = leb-true _ _ r.0;
+      signature = (bytes_eq-Decides _ _).0 r.1;
+      file_system = system_is b (bytes_eq (field 16 16 b) (system_guid Ffs2)) (bytes_eq (field 16 16 b) (system_guid Ffs3)) refl refl q.1;
+      whole = eqb-true _ _ p.1;
+    }
+
+pub opens_holds : (b : List ℕ) → Opens b → is_one_volume b ≡ true
+opens_holds b o =
+    and_join _ _ (and_join _ _ (and_join _ _ (at_most 56 (length b) o.least) ((bytes_eq-Decides _ _).1 o.signature))
+    (system_some b o.file_system.0 o.file_system.1))
+    ((Decides-eqb _ _).1 o.whole)
+  where
+    at_most : (n m : ℕ) → n ≤ m → nat_le n m ≡ true
+    at_most n m h = go (nat_le n m) refl where
+      go : (t : Bool) → nat_le n m ≡ t → t ≡ true
+      go true e = refl
+      go false e = absurd (omega (arith, h, leb-false n m e))
+
+-- ---- the shapes
+
+pub record IsLeaf (f : FrameForm) : Type 0 where
+  pub no_group : f.kind ≢ group_kind
+  pub not_opened : f.kind ≡ volume_kind → Opens f.body → ⊥
+
+pub record IsOpened (f : FrameForm) : Type 0 where
+  pub kind : f.kind ≡ volume_kind
+  pub opens : Opens f.body
+
+by_tests : (f : FrameForm) (s t : Bool) → (f.kind == group_kind) ≡ s → ((f.kind == volume_kind) && is_one_volume f.body) ≡ t
+    → (shape_of f ≡ shapes.Leaf → IsLeaf f) × (shape_of f ≡ shapes.Group → f.kind ≡ group_kind) × (shape_of f ≡ shapes.Volume → IsOpened f)
+by_tests f true t p q = (
+  λ h. let x : shapes.Group ≡ shapes.Leaf = rw p at h in cc,
+  λ h.
+      (Decides-eqb _ _).0 p,
+  λ h. let x : shapes.Group ≡ shapes.Volume = rw p at h in cc,
+)
+by_tests f false true p q = (
+  λ h. let x : shapes.Volume ≡ shapes.Leaf = rw (p, q) at h in cc,
+  λ h. let x : shapes.Volume ≡ shapes.Group = rw (p, q) at h in cc,
+  λ h. let both = and_split _ _ q in record { kind = (Decides-eqb _ _).0 both.0; opens = opens_found f.body both.1 },
+)
+by_tests f false false p q = (
+  λ h. record {
+    no_group = λ e. let t : false ≡ true = sym p ∙ (Decides-eqb _ _).1 e in cc;
+    not_opened = λ e o. let t : false ≡ true = sym q ∙ and_join _ _ ((Decides-eqb _ _).1 e) (opens_holds f.body o) in cc;
+  },
+  λ h. let x : shapes.Leaf ≡ shapes.Group = rw (p, q) at h in cc,
+  λ h. let x : shapes.Leaf ≡ shapes.Volume = rw (p, q) at h in cc,
+)
+
+pub leaf_shape : (f : FrameForm) → shape_of f ≡ shapes.Leaf → IsLeaf f
+leaf_shape f h = (by_tests f (f.kind == group_kind) ((f.kind == volume_kind) && is_one_volume f.body) refl refl).0 h
+
+pub group_shape : (f : FrameForm) → shape_of f ≡ shapes.Group → f.kind ≡ group_kind
+group_shape f h = (by_tests f (f.kind == group_kind) ((f.kind == volume_kind) && is_one_volume f.body) refl refl).1 h
+
+pub volume_shape : (f : FrameForm) → shape_of f ≡ shapes.Volume → IsOpened f
+volume_shape f h = (by_tests f (f.kind == group_kind) ((f.kind == volume_kind) && is_one_volume f.body) refl refl).2 h
+
+group_is_no_volume : (f : FrameForm) → f.kind ≡ group_kind → f.kind ≡ volume_kind → ⊥
+group_is_no_volume f a b = omega (arith, a, b)
+
+-- ---- a leaf, whatever lies inside
+
+leaf_over : (S : Streams) (V : Volumes) (f : FrameForm) → IsLeaf f → SectionOver S V f (Section f.kind f.extended (Leaf f.body))
+leaf_over S V f l = (refl, refl, (l.no_group, l.not_opened, refl))
+
+leaf_only_over : (S : Streams) (V : Volumes) (f : FrameForm) → IsLeaf f → (s : SectionMeaning) → SectionOver S V f s
+    → s ≡ Section f.kind f.extended (Leaf f.body)
+leaf_only_over S V f l (Section k e (Leaf b)) (p, q, (_, _, r)) = cc
+leaf_only_over S V f l (Section k e (Group ss t)) (p, q, (g, r)) = absurd (l.no_group g)
+leaf_only_over S V f l (Section k e (Nested v)) (p, q, (k', o, r)) = absurd (l.not_opened k' o)
+
+pub leaf_is : (n : ℕ) (f : FrameForm) → IsLeaf f → IsSection n f (Section f.kind f.extended (Leaf f.body))
+leaf_is zero f l = leaf_over (λ _ _ _. ⊥) (λ _ _. ⊥) f l
+leaf_is (suc n) f l = leaf_over (Stream n) (Denotes n) f l
+
+pub leaf_only : (n : ℕ) (f : FrameForm) → IsLeaf f → (s : SectionMeaning) → IsSection n f s → s ≡ Section f.kind f.extended (Leaf f.body)
+leaf_only zero f l s h = leaf_only_over (λ _ _ _. ⊥) (λ _ _. ⊥) f l s h
+leaf_only (suc n) f l s h = leaf_only_over (Stream n) (Denotes n) f l s h
+
+-- ---- a group
+
+pub group_is : (k : ℕ) (f : FrameForm) (ss : List SectionMeaning) (t : ℕ) → f.kind ≡ group_kind → Stream k ss t f.body
+    → IsSection (suc k) f (Section f.kind f.extended (Group (sections_from ss) t))
+group_is k f ss t g h = let P : List SectionMeaning → Type 0 = λ l. Stream k l t f.body in (refl, refl, (g, subst P (sym (list_back ss)) h))
+
+pub group_only : (k : ℕ) (f : FrameForm) (ss : List SectionMeaning) (t : ℕ) → f.kind ≡ group_kind
+    → ((us : List SectionMeaning) (u : ℕ) → Stream k us u f.body → (us ≡ ss) × (u ≡ t))
+    → (s : SectionMeaning) → IsSection (suc k) f s → s ≡ Section f.kind f.extended (Group (sections_from ss) t)
+group_only k f ss t g one (Section x e (Leaf b)) (p, q, (off, _, r)) = absurd (off g)
+group_only k f ss t g one (Section x e (Group us u)) (p, q, (g', r)) =
+    let same = one (sections_list us) u r in
+    let list : us ≡ sections_from ss = sym (sections_back us) ∙ ap sections_from same.0 in
+    let tail : u ≡ t = same.1 in
+    cc
+group_only k f ss t g one (Section x e (Nested v)) (p, q, (k', o, r)) = absurd (group_is_no_volume f g k')
+
+pub group_none : (k : ℕ) (f : FrameForm) → f.kind ≡ group_kind → ((us : List SectionMeaning) (u : ℕ) → Stream k us u f.body → ⊥)
+    → (s : SectionMeaning) → IsSection (suc k) f s → ⊥
+group_none k f g none (Section x e (Leaf b)) (p, q, (off, _, r)) = off g
+group_none k f g none (Section x e (Group us u)) (p, q, (g', r)) = none (sections_list us) u r
+group_none k f g none (Section x e (Nested v)) (p, q, (k', o, r)) = group_is_no_volume f g k'
+
+-- ---- an opened volume
+
+whole_take : (b : List ℕ) → take (length b) b ≡ b
+whole_take b = take_all (length b) b (omega arith)
+
+pub nested_is : (k : ℕ) (f : FrameForm) (v : Meaning) → IsOpened f → Denotes k f.body v
+    → IsSection (suc k) f (Section f.kind f.extended (Nested v))
+nested_is k f v o d = (refl, refl, (o.kind, o.opens, d))
+
+pub nested_only : (k : ℕ) (f : FrameForm) (v : Meaning) (r : ℕ) → IsOpened f → ((n : ℕ) (m : Meaning) → n ≤ length f.body
+    → Denotes k (take n f.body) m → (m ≡ v) × (n ≡ r))
+    → (s : SectionMeaning) → IsSection (suc k) f s → s ≡ Section f.kind f.extended (Nested v)
+nested_only k f v r o one (Section x e (Leaf b)) (p, q, (off, not, h)) = absurd (not o.kind o.opens)
+nested_only k f v r o one (Section x e (Group us u)) (p, q, (g, h)) = absurd (group_is_no_volume f g o.kind)
+nested_only k f v r o one (Section x e (Nested w)) (p, q, (k', o', d)) =
+    let P : List ℕ → Type 0 = λ b. Denotes k b w in
+    let same : w ≡ v = (one (length f.body) w (omega arith) (subst P (sym (whole_take f.body)) d)).0 in
+    cc
+
+pub nested_none : (k : ℕ) (f : FrameForm) → IsOpened f → ((n : ℕ) (m : Meaning) → n ≤ length f.body → Denotes k (take n f.body) m
+    → ⊥) → (s : SectionMeaning) → IsSection (suc k) f s → ⊥
+nested_none k f o none (Section x e (Leaf b)) (p, q, (off, not, h)) = not o.kind o.opens
+nested_none k f o none (Section x e (Group us u)) (p, q, (g, h)) = group_is_no_volume f g o.kind
+nested_none k f o none (Section x e (Nested w)) (p, q, (k', o', d)) =
+    let P : List ℕ → Type 0 = λ b. Denotes k b w in
+    none (length f.body) w (omega arith) (subst P (sym (whole_take f.body)) d)
+
+-- ---- no level is left
+
+pub too_deep : (f : FrameForm) → (f.kind ≡ group_kind) ⊎ IsOpened f → (s : SectionMeaning) → IsSection zero f s → ⊥
+too_deep f (inl g) (Section x e (Leaf b)) (p, q, (off, _, r)) = off g
+too_deep f (inl g) (Section x e (Group us u)) (p, q, (g', r)) = r
+too_deep f (inl g) (Section x e (Nested v)) (p, q, (k', o, r)) = r
+too_deep f (inr o) (Section x e (Leaf b)) (p, q, (off, not, h)) = not o.kind o.opens
+too_deep f (inr o) (Section x e (Group us u)) (p, q, (g', r)) = r
+too_deep f (inr o) (Section x e (Nested v)) (p, q, (k', o', r)) = r
+
+pub deep_first : (f : FrameForm) (e : Fault) (base depth : ℕ) → (f.kind ≡ group_kind) ⊎ IsOpened f
+    → e ≡ moved base depth (outer_fault kinds.Depth f.offset) → SectionFirst zero e f base depth
+deep_first f e base depth (inl g) is = (inl g, is)
+deep_first f e base depth (inr o) is = (inr (o.kind, o.opens), is)
+
+-- ---- by how many levels are left
+
+pub suc_is : (n k : ℕ) → n ≡ k + 1 → suc k ≡ n
+suc_is n k e = omega (arith, e)
+
+pub group_found : (n k : ℕ) (f : FrameForm) (ss : List SectionMeaning) (t : ℕ) → n ≡ k + 1 → f.kind ≡ group_kind
+    → Stream k ss t f.body → IsSection n f (Section f.kind f.extended (Group (sections_from ss) t))
+group_found n k f ss t e g h = subst (λ m. IsSection m f (Section f.kind f.extended (Group (sections_from ss) t))) (suc_is n k e)
+    (group_is k f ss t g h)
+
+pub group_one : (n k : ℕ) (f : FrameForm) (ss : List SectionMeaning) (t : ℕ) → n ≡ k + 1 → f.kind ≡ group_kind
+    → ((us : List SectionMeaning) (u : ℕ) → Stream k us u f.body → (us ≡ ss) × (u ≡ t))
+    → (s : SectionMeaning) → IsSection n f s → s ≡ Section f.kind f.extended (Group (sections_from ss) t)
+group_one n k f ss t e g one s h = group_only k f ss t g one s (subst (λ m. IsSection m f s) (sym (suc_is n k e)) h)
+
+pub group_bad : (n k : ℕ) (f : FrameForm) → n ≡ k + 1 → f.kind ≡ group_kind → ((us : List SectionMeaning) (u : ℕ)
+    → Stream k us u f.body → ⊥) → (s : SectionMeaning) → IsSection n f s → ⊥
+group_bad n k f e g none s h = group_none k f g none s (subst (λ m. IsSection m f s) (sym (suc_is n k e)) h)
+
+pub group_first : (n k : ℕ) (f : FrameForm) (x : Fault) (base depth b d : ℕ) → n ≡ k + 1 → f.kind ≡ group_kind
+    → b ≡ base + body_place f → d ≡ depth + 1 → FirstInStream k x f.body b d → SectionFirst n x f base depth
+group_first n k f x base depth b d e g p q h =
+    let here : FirstInStream k x f.body (base + body_place f) (depth + 1) = subst (λ i. FirstInStream k x f.body
+    (base + body_place f) i) q (subst (λ i. FirstInStream k x f.body i d) p h) in
+    let inside : SectionFirst (suc k) x f base depth = inl (g, here) in
+    subst (λ m. SectionFirst m x f base depth) (suc_is n k e) inside
+
+pub nested_found : (n k : ℕ) (f : FrameForm) (v : Meaning) → n ≡ k + 1 → IsOpened f → Denotes k f.body v
+    → IsSection n f (Section f.kind f.extended (Nested v))
+nested_found n k f v e o d = subst (λ m. IsSection m f (Section f.kind f.extended (Nested v))) (suc_is n k e) (nested_is k f v o d)
+
+pub nested_one : (n k : ℕ) (f : FrameForm) (v : Meaning) (r : ℕ) → n ≡ k + 1 → IsOpened f → ((j : ℕ) (m : Meaning)
+    → j ≤ length f.body → Denotes k (take j f.body) m → (m ≡ v) × (j ≡ r))
+    → (s : SectionMeaning) → IsSection n f s → s ≡ Section f.kind f.extended (Nested v)
+nested_one n k f v r e o one s h = nested_only k f v r o one s (subst (λ m. IsSection m f s) (sym (suc_is n k e)) h)
+
+pub nested_bad : (n k : ℕ) (f : FrameForm) → n ≡ k + 1 → IsOpened f → ((j : ℕ) (m : Meaning) → j ≤ length f.body
+    → Denotes k (take j f.body) m → ⊥) → (s : SectionMeaning) → IsSection n f s → ⊥
+nested_bad n k f e o none s h = nested_none k f o none s (subst (λ m. IsSection m f s) (sym (suc_is n k e)) h)
+
+pub nested_first : (n k : ℕ) (f : FrameForm) (x : Fault) (base depth b d : ℕ) → n ≡ k + 1 → IsOpened f → b ≡ base + body_place f
+    → d ≡ depth + 1 → FirstInVolume k x f.body b d → SectionFirst n x f base depth
+nested_first n k f x base depth b d e o p q h =
+    let here : FirstInVolume k x f.body (base + body_place f) (depth + 1) = subst (λ i. FirstInVolume k x f.body
+    (base + body_place f) i) q (subst (λ i. FirstInVolume k x f.body i d) p h) in
+    let inside : SectionFirst (suc k) x f base depth = inr (o.kind, o.opens, here) in
+    subst (λ m. SectionFirst m x f base depth) (suc_is n k e) inside
+
+pub deep_bad : (n : ℕ) (f : FrameForm) → n ≡ 0 → (f.kind ≡ group_kind) ⊎ IsOpened f → (s : SectionMeaning) → IsSection n f s → ⊥
+deep_bad n f e w s h = too_deep f w s (subst (λ m. IsSection m f s) e h)
+
+pub deep_fault : (n : ℕ) (f : FrameForm) (x : Fault) (base depth : ℕ) → n ≡ 0 → (f.kind ≡ group_kind) ⊎ IsOpened f
+    → x ≡ moved base depth (outer_fault kinds.Depth f.offset) → SectionFirst n x f base depth
+deep_fault n f x base depth e w is = subst (λ m. SectionFirst m x f base depth) (sym e) (deep_first f x base depth w is)

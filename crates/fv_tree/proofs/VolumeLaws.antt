@@ -1,0 +1,129 @@
+-- A volume that bytes begin with is its header and its files.
+use Rattle.std.proofs.Common.{◌≡◌, ◌≤◌, ◌⊎◌, ℕ, List, [], ◌∷◌, length, take, refl, sym, ap, ◌∙◌, subst}
+use Rattle.std.proofs.Common.{arith, inl, inr}
+use Rattle.std.specs.Prelude.{◌≢◌, Result, Ok, Err}
+use Rattle.std.specs.List.{AllByRecursion}
+use Rattle.std.proofs.lemmas.List.{length-take-le, take_all}
+use Rattle.fv_base.specs.Checks.{IsFirstFault}
+use Rattle.fv_base.specs.Faults.{want_of_memory}
+use Rattle.fv_base.specs.declared.fault.Fault.{Fault}
+use Rattle.fv_base.specs.declared.fault.FaultKind.TheVariants as kinds
+use Rattle.fv_base.proofs.Laws.{first_among, take-take_le}
+use Rattle.fv_head.specs.Head.{HeadFields, Front}
+use Rattle.fv_head.specs.HeadChecks.{head_checks, volume_len_at}
+use Rattle.fv_head.specs.declared.extent.Extent.{Extent}
+use Rattle.fv_head.proofs.Laws.{one_front, front_extent, front_same}
+use Rattle.fv_tree.specs.Body.{HasFiles}
+use Rattle.fv_tree.specs.Denotes.{Stream, Denotes, Opens}
+use Rattle.fv_tree.specs.FirstFault.{moved, BodyFirst, FirstInStream, FirstInVolume}
+use Rattle.fv_tree.specs.Meaning.{Meaning, Volume, FileMeaning, FileMeanings, NoFiles, MoreFiles, files_list, files_from, head_of, files_of}
+
+-- a list, there and back
+pub files_list_back : (fs : List FileMeaning) → files_list (files_from fs) ≡ fs
+files_list_back [] = refl
+files_list_back (f ∷ fs) = ap (λ l. f ∷ l) (files_list_back fs)
+
+pub files_back : (fs : FileMeanings) → files_from (files_list fs) ≡ fs
+files_back NoFiles = refl
+files_back (MoreFiles f fs) = ap (λ l. MoreFiles f l) (files_back fs)
+
+-- ---- a header and files make a volume
+
+pub made : (n : ℕ) (b : List ℕ) (h : HeadFields) (e : Extent) (ms : List FileMeaning) → Front h e b
+    → HasFiles (Stream n) e (take e.length b) ms
+    → Denotes n (take e.length b) (Volume h (files_from ms))
+made n b h e ms front has =
+    let long : length (take e.length b) ≡ e.length = length-take-le e.length b front.whole in
+    let P : List FileMeaning → Type 0 = λ l. HasFiles (Stream n) e (take e.length b) l in
+    let all : HasFiles (Stream n) e (take e.length b) (files_list (files_from ms)) = subst P (sym (files_list_back ms)) has in
+    record {
+      extent = e;
+      front = front_same b (take e.length b) h e front (omega (arith, long)) (take-take_le e.length e.length b (omega arith));
+      whole = long;
+      cells = all.cells;
+      tiles = all.tiles;
+      files = all.files;
+      alive = all.alive;
+      meanings = all.meanings;
+    }
+
+-- ---- a volume has a header and files
+
+pub front_of : (n k : ℕ) (b : List ℕ) (m : Meaning) → k ≤ length b → (d : Denotes n (take k b) m) → Front (head_of m) d.extent b
+    × (d.extent.length ≡ k)
+front_of n k b m within d =
+    let same : k ≡ d.extent.length = sym (length-take-le k b within) ∙ d.whole in (
+      front_same (take k b) b (head_of m) d.extent d.front (omega (arith, same, within)) (ap (λ (j : ℕ). take j b) (sym same)
+          ∙ sym (ap (λ (j : ℕ). take j (take k b)) (sym same) ∙ take-take_le k k b (omega arith))),
+      sym same,
+    )
+
+has_of : (n k : ℕ) (b : List ℕ) (m : Meaning) → (d : Denotes n (take k b) m) → HasFiles (Stream n) d.extent (take k b) (files_of m)
+has_of n k b (Volume h fs) d = record { cells = d.cells; tiles = d.tiles; files = d.files; alive = d.alive; meanings = d.meanings }
+
+-- the volume's files, by a header that the bytes begin with
+pub has_files : (n k : ℕ) (b : List ℕ) (m : Meaning) (h : HeadFields) (e : Extent) → Front h e b → k ≤ length b → Denotes n (take k b) m
+    → (head_of m ≡ h) × (k ≡ e.length) × HasFiles (Stream n) e (take e.length b) (files_of m)
+has_files n k b m h e front within d =
+    let other = front_of n k b m within d in
+    let same = one_front b (head_of m) h d.extent e other.0 front in
+    let len : k ≡ e.length = sym other.1 ∙ ap (λ (x : Extent). x.length) same.1 in
+    let P : Extent → Type 0 = λ x. HasFiles (Stream n) x (take k b) (files_of m) in
+    let Q : ℕ → Type 0 = λ j. HasFiles (Stream n) e (take j b) (files_of m) in
+    (same.0, len, subst Q len (subst P same.1 (has_of n k b m d)))
+
+volume_is : (m : Meaning) (h : HeadFields) (ms : List FileMeaning) → head_of m ≡ h → files_of m ≡ ms → m ≡ Volume h (files_from ms)
+volume_is (Volume k fs) h ms p q = let r : fs ≡ files_from ms = sym (files_back fs) ∙ ap files_from q in cc
+
+pub no_other : (n : ℕ) (b : List ℕ) (h : HeadFields) (e : Extent) (ms : List FileMeaning) → Front h e b → ((ts : List FileMeaning)
+    → HasFiles (Stream n) e (take e.length b) ts → ts ≡ ms)
+    → (k : ℕ) (m : Meaning) → k ≤ length b → Denotes n (take k b) m → (m ≡ Volume h (files_from ms)) × (k ≡ e.length)
+no_other n b h e ms front one k m within d =
+    let x = has_files n k b m h e front within d in
+    (volume_is m h ms x.0 (one (files_of m) x.2), x.1)
+
+pub no_files : (n : ℕ) (b : List ℕ) (h : HeadFields) (e : Extent) → Front h e b → ((ts : List FileMeaning)
+    → HasFiles (Stream n) e (take e.length b) ts → ⊥)
+    → (k : ℕ) (m : Meaning) → k ≤ length b → Denotes n (take k b) m → ⊥
+no_files n b h e front none k m within d = none (files_of m) (has_files n k b m h e front within d).2
+
+-- a header that is refused begins no volume
+pub head_unread : (n : ℕ) (b : List ℕ) (f : Fault) → ((h : HeadFields) (e : Extent) → Front h e b
+    → (let A : Type 0 = Result (HeadFields × Extent) Fault in (◌≡◌ {A = A} (Err f) (Ok (h, e)))
+    ⊎ (◌≡◌ {A = A} (Err f) (Err want_of_memory))))
+    → f ≢ want_of_memory → (k : ℕ) (m : Meaning) → k ≤ length b → Denotes n (take k b) m → ⊥
+head_unread n b f only ne k m within d = go (only (head_of m) d.extent (front_of n k b m within d).0) where
+  go : (let A : Type 0 = Result (HeadFields × Extent) Fault in (◌≡◌ {A = A} (Err f) (Ok (head_of m, d.extent)))
+      ⊎ (◌≡◌ {A = A} (Err f) (Err want_of_memory))) → ⊥
+  go (inl never) = let x : ⊥ = cc in x
+  go (inr same) = ne cc
+
+-- ---- faults of the header
+
+-- the kind of such a fault is no want of memory
+pub head_known : (b : List ℕ) (f : Fault) → IsFirstFault (head_checks b) f → f.kind ≢ kinds.OutOfMemory
+head_known b f first =
+    let P : Fault → Type 0 = λ g. g.kind ≢ kinds.OutOfMemory in
+    let all : AllByRecursion (λ c. P c.fault) (head_checks b) =
+    (λ e. cc, (λ e. cc, (λ e. cc, (λ e. cc, (λ e. cc, (λ e. cc, (λ e. cc, (λ e. cc, (λ e. cc, (λ e. cc, (λ e. cc, tt))))))))))) in
+    first_among P (head_checks b) f all first
+
+pub head_first : (n : ℕ) (b : List ℕ) (f g : Fault) (base depth : ℕ) → (f ≡ want_of_memory) ⊎ IsFirstFault (head_checks b) f
+    → f ≢ want_of_memory → g ≡ moved base depth f → FirstInVolume n g b base depth
+head_first n b f g base depth (inl want) ne is = absurd (ne want)
+head_first n b f g base depth (inr first) ne is = inl (f, first, is)
+
+pub body_first : (n : ℕ) (b : List ℕ) (h : HeadFields) (e : Extent) (f : Fault) (base depth : ℕ) → Front h e b
+    → BodyFirst (Stream n) (FirstInStream n) e f (take e.length b) base depth → FirstInVolume n f b base depth
+body_first n b h e f base depth front first = inr (h, e, front, first)
+
+-- ---- an opened body is one volume
+
+pub opened_whole : (n r : ℕ) (b : List ℕ) (m : Meaning) → Opens b → r ≤ length b → Denotes n (take r b) m → Denotes n b m
+opened_whole n r b m o within d =
+    let f = front_of n r b m within d in
+    let says = front_extent b (head_of m) d.extent f.0 in
+    let len : volume_len_at b ≡ d.extent.length = ap (λ (x : Extent). x.length) says.1 in
+    let same : r ≡ length b = sym f.1 ∙ sym len ∙ o.whole in
+    let P : List ℕ → Type 0 = λ c. Denotes n c m in
+    subst P (take_all r b (omega (arith, same))) d

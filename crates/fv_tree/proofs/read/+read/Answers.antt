@@ -1,0 +1,525 @@
+use Rattle.std.proofs.Common.{◌≡◌, ◌<◌, ◌≤◌, ℕ, List, length, map, [], ◌∷◌, ◌++◌, take, sym, ap, ◌∙◌, subst, arith, rules, inl, inr, refl}
+use Rattle.std.proofs.Common.{true, false}
+use Rattle.std.specs.Prelude.{◌⊎◌}
+use Rattle.fv_base.specs.Faults.{want_of_memory}
+use Rattle.std.proofs.lemmas.Result.{err_from_is_err_and}
+use Rattle.fv_base.specs.Checks.{IsFirstFault}
+use Rattle.fv_base.specs.declared.fault.Fault.{Fault}
+use Rattle.fv_base.proofs.Laws.{at_index, bytes_take}
+use Rattle.fv_base.specs.Value.{IsBytes}
+use Rattle.fv_file.specs.declared.state.FileState.TheVariants as states
+use Rattle.fv_head.specs.Head.{HeadFields, Front}
+use Rattle.fv_head.specs.HeadChecks.{head_checks}
+use Rattle.fv_head.specs.declared.extent.Extent.{Extent}
+use Rattle.fv_section.specs.Frames.{FrameForm, Splits}
+use Rattle.fv_section.specs.Seen as framed
+use Rattle.fv_section.specs.declared.frame.Frame.{Frame}
+use Rattle.fv_tree.specs.Body.{IsReadyFile, AllStored}
+use Rattle.fv_tree.specs.Denotes.{Pairs, IsFile, IsSection, Stream, Denotes, holds_sections}
+use Rattle.fv_tree.specs.Files.{FileForm}
+use Rattle.fv_tree.specs.FirstFault.{FileFirst, FirstInStream, SectionFirst, FirstOf}
+use Rattle.fv_tree.specs.Meaning.{Meaning, FileMeaning, Section, Group, Nested, sections_from}
+use Rattle.fv_tree.specs.Seen.{form_of}
+use Rattle.fv_tree.specs.Views.{content_view}
+use Rattle.fv_tree.specs.declared.alive.Standing.{Standing}
+use Rattle.fv_tree.proofs.BodyLaws.{body_found, body_only, body_none, files_none, stand_first, files_first}
+use Rattle.fv_tree.proofs.FileLaws.{stream_reads, file_found, file_one, stream_bad}
+use Rattle.fv_tree.proofs.Lengths.{body_long, content_long}
+use Rattle.fv_tree.proofs.Lists.{pairs_empty, in_items, item_is, kept_pairs, kept_only, unread, first_refused, all_items}
+use Rattle.fv_tree.proofs.SectionLaws.{leaf_shape, group_shape, volume_shape, leaf_is, leaf_only, group_found, group_one, group_bad}
+use Rattle.fv_tree.proofs.SectionLaws.{group_first, nested_found, nested_one, nested_bad, nested_first, deep_bad, deep_fault}
+use Rattle.fv_tree.proofs.StreamLaws.{IsReady, frame_ready, refused_first, stream_only, stream_none}
+use Rattle.fv_tree.proofs.VolumeLaws.{made, no_other, no_files, head_unread, head_known, head_first, body_first}
+use Rattle.fv_tree.proofs.VolumeLaws.{opened_whole}
+use Rattle.fv_tree.proofs.IndexLaws.{read_names}
+use Rattle.fv_tree.specs.Names.{IsIndex}
+use Rattle.fv_base.specs.declared.guid.Guid.{Guid}
+use Rattle.fv_tree.proofs.read.+read.Goals as goal
+
+-- what the loops read past the end
+abbrev no_frame : Frame
+no_frame = record { offset = 0; kind = 0; extended = false; body = record { ref_ptr = (0, 0); now = [] } }
+
+abbrev no_file : Standing
+no_file = record {
+  offset = 0;
+  head = record {
+    name = record { bytes = [] };
+    kind = 0;
+    attributes = record { 0 = 0 };
+    size = 0;
+    header_len = 0;
+    header_sum = 0;
+    file_sum = 0;
+    state = states.Free;
+  };
+  payload = record { ref_ptr = (0, 0); now = [] };
+}
+
+-- ---- files
+
+pub read_files-loop-file-init : goal.read_files-loop-file-init
+read_files-loop-file-init t c = record {
+  pairs = rw c.in_ok-views.ensures.items tt;
+  one = λ ms h. pairs_empty (IsFile (Stream c.args.left)) ms h ∙ sym c.in_ok-views.ensures.items;
+}
+
+pub read_files-read_file-requires : goal.read_files-read_file-requires
+read_files-read_file-requires t c =
+    let i : ℕ = c.loop-file.file-index in
+    let lt : i < length c.args.files.now = c.loop-file-test.true in
+    let lt' = in_items (IsFile (Stream c.args.left)) form_of c.args.files.now i no_file (map form_of c.args.files.now) refl lt in
+    let item = item_is (IsFile (Stream c.args.left)) form_of c.args.files.now i no_file (map form_of c.args.files.now) refl lt in
+    let all = subst (IsReadyFile c.args.place.offset) item (at_index (IsReadyFile c.args.place.offset) (map form_of c.args.files.now) i
+    (form_of no_file) c.requires.stored lt') in
+    (omega arith, (all.1, (c.requires.depth, (all.0, all.2))))
+
+pub read_files-returns-in_err-view-clause-none : goal.read_files-returns-in_err-view-clause-none
+read_files-returns-in_err-view-clause-none t c =
+    let p = err_from_is_err_and c.from_residual-in_err-view.result c.from_residual-in_err-view.ensures.1 in
+    rw (p.1, p.2) (λ ne ts h. unread (IsFile (Stream c.args.left)) form_of c.args.files.now c.loop-file.file-index no_file
+    (map form_of c.args.files.now) refl c.loop-file-test.true
+    (c.in_err-view.ensures.none ne) ts h)
+
+pub read_files-returns-in_err-view-clause-first : goal.read_files-returns-in_err-view-clause-first
+read_files-returns-in_err-view-clause-first t c =
+    let p = err_from_is_err_and c.from_residual-in_err-view.result c.from_residual-in_err-view.ensures.1 in
+    rw (p.1, p.2) (λ ne. first_refused (IsFile (Stream c.args.left)) form_of c.args.files.now c.loop-file.file-index no_file
+    (λ f. FileFirst (FirstInStream c.args.left) c.in_err-view.field-0.0 f c.args.place.offset c.args.place.depth)
+    (map form_of c.args.files.now) c.loop-file.views.items refl c.loop-file-test.true
+    c.loop-file.invariant.pairs (c.in_err-view.ensures.first ne))
+
+pub read_files-returns-in_err-push-clause-none : goal.read_files-returns-in_err-push-clause-none
+read_files-returns-in_err-push-clause-none t c =
+    let p = err_from_is_err_and c.from_residual-in_err-push.result c.from_residual-in_err-push.ensures.1 in
+    rw p.1 (λ ne ts h. absurd (ne p.2))
+
+pub read_files-loop-file-preserved : goal.read_files-loop-file-preserved
+read_files-loop-file-preserved t c =
+    let items : c.push.new.self.items ≡ c.loop-file.views.items ++ c.in_ok-view.view ∷ [] = search rules in
+    record {
+      pairs = kept_pairs (IsFile (Stream c.args.left)) form_of c.args.files.now c.loop-file.file-index no_file c.loop-file.views.items
+          c.push.new.self.items c.in_ok-view.view c.loop-file-test.true c.loop-file.invariant.pairs c.in_ok-view.ensures.found items;
+      one = kept_only (IsFile (Stream c.args.left)) form_of c.args.files.now c.loop-file.file-index no_file c.loop-file.views.items
+          c.push.new.self.items c.in_ok-view.view c.loop-file-test.true c.loop-file.invariant.one c.in_ok-view.ensures.only items;
+    }
+
+pub read_files-returns-clause-found : goal.read_files-returns-clause-found
+read_files-returns-clause-found t c =
+    let past : length c.args.files.now ≤ c.loop-file.file-index = omega arith in
+    let all = all_items (IsFile (Stream c.args.left)) form_of c.args.files.now c.loop-file.file-index no_file
+    (map form_of c.args.files.now) refl past in
+    subst (λ fs. Pairs (IsFile (Stream c.args.left)) fs c.loop-file.views.items) all c.loop-file.invariant.pairs
+
+pub read_files-returns-clause-only : goal.read_files-returns-clause-only
+read_files-returns-clause-only t c =
+    let past : length c.args.files.now ≤ c.loop-file.file-index = omega arith in
+    let all = all_items (IsFile (Stream c.args.left)) form_of c.args.files.now c.loop-file.file-index no_file
+    (map form_of c.args.files.now) refl past in
+    λ ts h. c.loop-file.invariant.one ts (subst (λ fs. Pairs (IsFile (Stream c.args.left)) fs ts) (sym all) h)
+
+-- ---- one file
+
+pub read_content-returns-in_err-sections-clause-none : goal.read_content-returns-in_err-sections-clause-none
+read_content-returns-in_err-sections-clause-none t c =
+    let p = err_from_is_err_and c.from_residual.result c.from_residual.ensures.1 in
+    let holds : holds_sections c.args.file.now.head.kind ≡ true = sym c.holds_sections.ensures ∙ c.if-not-holds_sections.false in
+    rw (p.1, p.2) (λ ne m h. stream_bad c.args.left (form_of c.args.file.now) holds (c.in_err-sections.ensures.none ne) m h)
+
+pub read_content-returns-in_err-sections-clause-first : goal.read_content-returns-in_err-sections-clause-first
+read_content-returns-in_err-sections-clause-first t c =
+    let p = err_from_is_err_and c.from_residual.result c.from_residual.ensures.1 in
+    let holds : holds_sections c.args.file.now.head.kind ≡ true = sym c.holds_sections.ensures ∙ c.if-not-holds_sections.false in
+    let P : ℕ → Type 0 = λ b. FirstInStream c.args.left c.in_err-sections.field-0.0 c.args.file.now.payload.now b c.args.place.depth in
+    rw (p.1, p.2) (λ ne. (holds, subst P (omega arith) (c.in_err-sections.ensures.first ne)))
+
+pub read_content-returns-clause-found : goal.read_content-returns-clause-found
+read_content-returns-clause-found t c =
+    let holds : holds_sections c.args.file.now.head.kind ≡ true = sym c.holds_sections.ensures ∙ c.if-not-holds_sections.false in
+    stream_reads c.args.left (form_of c.args.file.now) c.in_ok-sections.sections.items c.in_ok-sections.tail holds
+    c.in_ok-sections.ensures.found c.in_ok-sections.ensures.only
+
+pub read_file-returns-in_err-content-clause-none : goal.read_file-returns-in_err-content-clause-none
+read_file-returns-in_err-content-clause-none t c =
+    let p = err_from_is_err_and c.from_residual.result c.from_residual.ensures.1 in
+    rw (p.1, p.2) c.in_err-content.ensures.none
+
+pub read_file-returns-in_err-content-clause-first : goal.read_file-returns-in_err-content-clause-first
+read_file-returns-in_err-content-clause-first t c =
+    let p = err_from_is_err_and c.from_residual.result c.from_residual.ensures.1 in
+    rw (p.1, p.2) c.in_err-content.ensures.first
+
+pub read_file-new-requires-clause-read : goal.read_file-new-requires-clause-read
+read_file-new-requires-clause-read t c = (
+  c.args.left,
+  omega arith,
+  form_of c.args.file.now,
+  c.requires.stored,
+  file_found c.args.left (form_of c.args.file.now) c.without_large-attributes.result.0
+      (content_view c.in_ok-content.content) c.without_large-attributes.ensures c.in_ok-content.ensures.found,
+)
+
+pub read_file-new-requires-clause-len : goal.read_file-new-requires-clause-len
+read_file-new-requires-clause-len t c =
+    let f : FileForm = form_of c.args.file.now in
+    content_long c.args.left f f.head.name f.head.kind c.without_large-attributes.result.0 (content_view c.in_ok-content.content)
+    (file_found c.args.left f c.without_large-attributes.result.0
+    (content_view c.in_ok-content.content) c.without_large-attributes.ensures c.in_ok-content.ensures.found)
+
+pub read_file-returns-clause-found : goal.read_file-returns-clause-found
+read_file-returns-clause-found t c =
+    rw c.new.ensures (file_found c.args.left (form_of c.args.file.now) c.without_large-attributes.result.0
+    (content_view c.in_ok-content.content) c.without_large-attributes.ensures c.in_ok-content.ensures.found)
+
+pub read_file-returns-clause-only : goal.read_file-returns-clause-only
+read_file-returns-clause-only t c = λ m h.
+    file_one c.args.left (form_of c.args.file.now) c.without_large-attributes.result.0
+    (content_view c.in_ok-content.content) c.without_large-attributes.ensures c.in_ok-content.ensures.found m h ∙ sym c.new.ensures
+
+-- ---- the body of a volume
+
+pub read_body-returns-in_err-files-clause-none : goal.read_body-returns-in_err-files-clause-none
+read_body-returns-in_err-files-clause-none t c =
+    let p = err_from_is_err_and c.from_residual.result c.from_residual.ensures.1 in
+    rw (p.1, p.2) (λ ne ts h. files_none (Stream c.args.left) c.args.extent c.args.volume.now (c.in_err-files.ensures.none ne) ts h)
+
+pub read_body-returns-in_err-files-clause-first : goal.read_body-returns-in_err-files-clause-first
+read_body-returns-in_err-files-clause-first t c =
+    let p = err_from_is_err_and c.from_residual.result c.from_residual.ensures.1 in
+    rw (p.1, p.2) (λ ne. stand_first (Stream c.args.left) (FirstInStream c.args.left) c.args.extent c.args.volume.now c.args.place.offset
+    c.args.place.depth c.in_err-files.field-0.0 (c.in_err-files.ensures.first ne))
+
+pub read_body-read_files-requires : goal.read_body-read_files-requires
+read_body-read_files-requires t c =
+    let same : map form_of c.as_slice.result.now ≡ map form_of c.in_ok-files.files.items = ap (map form_of) c.as_slice.ensures.value in
+    (omega arith, (c.requires.depth, subst (AllStored c.args.place.offset) (sym same) c.in_ok-files.ensures.stored))
+
+pub read_body-returns-in_err-views-clause-none : goal.read_body-returns-in_err-views-clause-none
+read_body-returns-in_err-views-clause-none t c =
+    let p = err_from_is_err_and c.from_residual-in_err-views.result c.from_residual-in_err-views.ensures.1 in
+    let same : map form_of c.as_slice.result.now ≡ map form_of c.in_ok-files.files.items = ap (map form_of) c.as_slice.ensures.value in
+    let S = Stream c.args.left in
+    rw (p.1, p.2) (λ ne. body_none S c.args.extent c.args.volume.now (map form_of c.in_ok-files.files.items) c.in_ok-files.ensures.only
+    (subst (λ (fs : List FileForm). (ts : List FileMeaning) → Pairs (IsFile S) fs ts → ⊥) same (c.in_err-views.ensures.none ne)))
+
+pub read_body-returns-in_err-views-clause-first : goal.read_body-returns-in_err-views-clause-first
+read_body-returns-in_err-views-clause-first t c =
+    let p = err_from_is_err_and c.from_residual-in_err-views.result c.from_residual-in_err-views.ensures.1 in
+    let same : map form_of c.as_slice.result.now ≡ map form_of c.in_ok-files.files.items = ap (map form_of) c.as_slice.ensures.value in
+    let S = Stream c.args.left in
+    let I = FirstInStream c.args.left in
+    let place = c.args.place in
+    let e = c.in_err-views.field-0.0 in
+    rw (p.1, p.2) (λ ne. files_first S I c.args.extent c.args.volume.now place.offset place.depth (map form_of c.in_ok-files.files.items) e
+    c.in_ok-files.ensures.found
+    (subst (λ (fs : List FileForm). FirstOf (IsFile S) (λ f. FileFirst I e f place.offset place.depth) fs) same
+    (c.in_err-views.ensures.first ne)))
+
+pub read_body-returns-clause-found : goal.read_body-returns-clause-found
+read_body-returns-clause-found t c =
+    let same : map form_of c.as_slice.result.now ≡ map form_of c.in_ok-files.files.items = ap (map form_of) c.as_slice.ensures.value in
+    let S = Stream c.args.left in
+    body_found S c.args.extent c.args.volume.now (map form_of c.in_ok-files.files.items) c.in_ok-views.views.items
+    c.in_ok-files.ensures.found
+    (subst (λ (fs : List FileForm). Pairs (IsFile S) fs c.in_ok-views.views.items) same c.in_ok-views.ensures.found)
+
+pub read_body-returns-clause-only : goal.read_body-returns-clause-only
+read_body-returns-clause-only t c =
+    let same : map form_of c.as_slice.result.now ≡ map form_of c.in_ok-files.files.items = ap (map form_of) c.as_slice.ensures.value in
+    let S = Stream c.args.left in
+    body_only S c.args.extent c.args.volume.now (map form_of c.in_ok-files.files.items) c.in_ok-files.ensures.only c.in_ok-views.views.items
+    (subst (λ (fs : List FileForm). (ts : List FileMeaning) → Pairs (IsFile S) fs ts → ts ≡ c.in_ok-views.views.items) same
+    c.in_ok-views.ensures.only)
+
+pub read_body-returns-clause-numbers : goal.read_body-returns-clause-numbers
+read_body-returns-clause-numbers t c =
+    let same : map form_of c.as_slice.result.now ≡ map form_of c.in_ok-files.files.items = ap (map form_of) c.as_slice.ensures.value in
+    let S = Stream c.args.left in
+    let pairs = subst (λ (fs : List FileForm). Pairs (IsFile S) fs c.in_ok-views.views.items) same c.in_ok-views.ensures.found in
+    subst (λ (ns : List Guid). IsIndex ns c.in_ok-files.numbers.sorted.items)
+    (sym (read_names S (map form_of c.in_ok-files.files.items) c.in_ok-views.views.items pairs)) c.in_ok-files.ensures.numbers
+
+-- ---- a volume
+
+pub read_at-within-requires : goal.read_at-within-requires
+read_at-within-requires t c = omega (arith, c.in-Err.ensures.bound, c.requires.place)
+
+pub read_at-returns-in-Err-clause-none : goal.read_at-returns-in-Err-clause-none
+read_at-returns-in-Err-clause-none t c = λ ne n m within d.
+    head_unread c.args.left c.args.bytes.now c.in-Err.fault c.in-Err.ensures.only (c.within.ensures.moved ne).0 n m within d
+
+pub read_at-returns-in_err-files-clause-none : goal.read_at-returns-in_err-files-clause-none
+read_at-returns-in_err-files-clause-none t c =
+    let p = err_from_is_err_and c.from_residual.result c.from_residual.ensures.1 in
+    rw (p.1, p.2) (λ ne n m within d. no_files c.args.left c.args.bytes.now c.in-Ok.read.0 c.in-Ok.read.1 c.in-Ok.ensures.found
+    (c.in_err-files.ensures.none ne) n m within d)
+
+pub read_at-returns-in_err-files-clause-first : goal.read_at-returns-in_err-files-clause-first
+read_at-returns-in_err-files-clause-first t c =
+    let p = err_from_is_err_and c.from_residual.result c.from_residual.ensures.1 in
+    rw (p.1, p.2) (λ ne. body_first c.args.left c.args.bytes.now c.in-Ok.read.0 c.in-Ok.read.1 c.in_err-files.field-0.0
+    c.args.place.offset c.args.place.depth c.in-Ok.ensures.found (c.in_err-files.ensures.first ne))
+
+pub read_at-new-requires-clause-meaning : goal.read_at-new-requires-clause-meaning
+read_at-new-requires-clause-meaning t c =
+    let small : IsBytes c.args.bytes.now = search rules in (
+      c.args.left,
+      omega arith,
+      take c.in-Ok.read.1.length c.args.bytes.now,
+      bytes_take c.in-Ok.read.1.length c.args.bytes.now small,
+      made c.args.left c.args.bytes.now c.in-Ok.read.0 c.in-Ok.read.1 c.in_ok-files.files.items c.in-Ok.ensures.found
+          c.in_ok-files.ensures.found,
+    )
+
+pub read_at-returns-clause-found : goal.read_at-returns-clause-found
+read_at-returns-clause-found t c =
+    rw c.new.ensures (made c.args.left c.args.bytes.now c.in-Ok.read.0 c.in-Ok.read.1 c.in_ok-files.files.items c.in-Ok.ensures.found
+    c.in_ok-files.ensures.found)
+
+pub read_at-returns-clause-only : goal.read_at-returns-clause-only
+read_at-returns-clause-only t c = λ n m within d.
+    let x = no_other c.args.left c.args.bytes.now c.in-Ok.read.0 c.in-Ok.read.1 c.in_ok-files.files.items c.in-Ok.ensures.found
+    c.in_ok-files.ensures.only n m within d in
+    (x.0 ∙ sym c.new.ensures, x.1)
+
+-- ---- a stream
+
+pub read_stream-loop-frame-init : goal.read_stream-loop-frame-init
+read_stream-loop-frame-init t c = record {
+  pairs = rw c.in_ok-sections.ensures.items tt;
+  one = λ ss h. pairs_empty (IsSection c.args.left) ss h ∙ sym c.in_ok-sections.ensures.items;
+}
+
+pub read_stream-read_section-requires : goal.read_stream-read_section-requires
+read_stream-read_section-requires t c =
+    let i : ℕ = c.loop-frame.frame-index in
+    let items : List Frame = c.as_slice-frame-items.result.now in
+    let lt : i < length items = c.loop-frame-test.true in
+    let small : IsBytes c.args.bytes.now = search rules in
+    let lt' = in_items (IsSection c.args.left) framed.form_of items i no_frame c.in-Ok.split.0 c.as_slice-frame-items.ensures lt in
+    let item = item_is (IsSection c.args.left) framed.form_of items i no_frame c.in-Ok.split.0 c.as_slice-frame-items.ensures lt in
+    let ready = subst (IsReady c.args.bytes.now) item (frame_ready c.args.bytes.now c.in-Ok.split.0 c.in-Ok.split.1 i
+    (framed.form_of no_frame) small c.requires.small c.in-Ok.ensures.found c.in-Ok.ensures.lies lt') in
+    (omega arith, (omega (arith, ready.0, c.requires.place), (c.requires.depth, ready.1)))
+
+pub read_stream-returns-in_err-section-clause-none : goal.read_stream-returns-in_err-section-clause-none
+read_stream-returns-in_err-section-clause-none t c =
+    let p = err_from_is_err_and c.from_residual-in_err-section.result c.from_residual-in_err-section.ensures.1 in
+    rw (p.1, p.2) (λ ne ss tail h. stream_none c.args.left c.args.bytes.now c.in-Ok.split.0 c.in-Ok.split.1 c.in-Ok.ensures.only
+    (unread (IsSection c.args.left) framed.form_of c.as_slice-frame-items.result.now c.loop-frame.frame-index no_frame c.in-Ok.split.0
+    c.as_slice-frame-items.ensures c.loop-frame-test.true (c.in_err-section.ensures.none ne)) ss tail h)
+
+pub read_stream-returns-in_err-section-clause-first : goal.read_stream-returns-in_err-section-clause-first
+read_stream-returns-in_err-section-clause-first t c =
+    let p = err_from_is_err_and c.from_residual-in_err-section.result c.from_residual-in_err-section.ensures.1 in
+    rw (p.1, p.2) (λ ne. refused_first c.args.left c.args.bytes.now c.in_err-section.field-0.0 c.args.place.offset c.args.place.depth
+    c.in-Ok.split.0 c.in-Ok.split.1 c.in-Ok.ensures.found
+    (first_refused (IsSection c.args.left) framed.form_of c.as_slice-frame-items.result.now c.loop-frame.frame-index no_frame
+    (λ f. SectionFirst c.args.left c.in_err-section.field-0.0 f c.args.place.offset c.args.place.depth) c.in-Ok.split.0
+    c.loop-frame.sections.items c.as_slice-frame-items.ensures c.loop-frame-test.true
+    c.loop-frame.invariant.pairs (c.in_err-section.ensures.first ne)))
+
+pub read_stream-loop-frame-preserved : goal.read_stream-loop-frame-preserved
+read_stream-loop-frame-preserved t c =
+    let items : c.push.new.self.items ≡ c.loop-frame.sections.items ++ c.in_ok-section.section ∷ [] = search rules in
+    record {
+      pairs = kept_pairs (IsSection c.args.left) framed.form_of c.as_slice-frame-items.result.now c.loop-frame.frame-index no_frame
+          c.loop-frame.sections.items c.push.new.self.items c.in_ok-section.section c.loop-frame-test.true c.loop-frame.invariant.pairs
+          c.in_ok-section.ensures.found items;
+      one = kept_only (IsSection c.args.left) framed.form_of c.as_slice-frame-items.result.now c.loop-frame.frame-index no_frame
+          c.loop-frame.sections.items c.push.new.self.items c.in_ok-section.section c.loop-frame-test.true c.loop-frame.invariant.one
+          c.in_ok-section.ensures.only items;
+    }
+
+pub read_stream-returns-clause-found : goal.read_stream-returns-clause-found
+read_stream-returns-clause-found t c =
+    let past : length c.as_slice-frame-items.result.now ≤ c.loop-frame.frame-index = omega arith in
+    let all = all_items (IsSection c.args.left) framed.form_of c.as_slice-frame-items.result.now c.loop-frame.frame-index no_frame
+    c.in-Ok.split.0 c.as_slice-frame-items.ensures past in (
+      c.in-Ok.split.0,
+      subst (λ u. Splits c.in-Ok.split.0 u c.args.bytes.now) (sym c.tail.ensures) c.in-Ok.ensures.found,
+      subst (λ fs. Pairs (IsSection c.args.left) fs c.loop-frame.sections.items) all c.loop-frame.invariant.pairs,
+    )
+
+pub read_stream-returns-clause-only : goal.read_stream-returns-clause-only
+read_stream-returns-clause-only t c =
+    let past : length c.as_slice-frame-items.result.now ≤ c.loop-frame.frame-index = omega arith in
+    let all = all_items (IsSection c.args.left) framed.form_of c.as_slice-frame-items.result.now c.loop-frame.frame-index no_frame
+    c.in-Ok.split.0 c.as_slice-frame-items.ensures past in
+    λ ss tail h.
+    let r = stream_only c.args.left c.args.bytes.now c.in-Ok.split.0 c.in-Ok.split.1 c.loop-frame.sections.items c.in-Ok.ensures.only
+    (λ ws q. c.loop-frame.invariant.one ws (subst (λ fs. Pairs (IsSection c.args.left) fs ws) (sym all) q)) ss tail h in
+    (r.0, r.1 ∙ sym c.tail.ensures)
+
+-- ---- a section that is a group
+
+pub read_section-returns-in_err-sections-in-Group-clause-none : goal.read_section-returns-in_err-sections-in-Group-clause-none
+read_section-returns-in_err-sections-in-Group-clause-none t c =
+    let f : FrameForm = framed.form_of c.args.frame.now in
+    let p = err_from_is_err_and c.from_residual-in_err-sections-in-Group.result c.from_residual-in_err-sections-in-Group.ensures.1 in
+    let group = group_shape f (sym c.shape_of.ensures ∙ c.in-Group.is) in
+    rw (p.1, p.2) (λ ne s h. group_bad c.args.left c.in_ok-inside-in-Group.below f c.in_ok-inside-in-Group.ensures.ok.0 group
+    (c.in_err-sections-in-Group.ensures.none ne) s h)
+
+pub read_section-returns-in_err-sections-in-Group-clause-first : goal.read_section-returns-in_err-sections-in-Group-clause-first
+read_section-returns-in_err-sections-in-Group-clause-first t c =
+    let f : FrameForm = framed.form_of c.args.frame.now in
+    let p = err_from_is_err_and c.from_residual-in_err-sections-in-Group.result c.from_residual-in_err-sections-in-Group.ensures.1 in
+    let group = group_shape f (sym c.shape_of.ensures ∙ c.in-Group.is) in
+    let ok = c.in_ok-inside-in-Group.ensures.ok in
+    rw (p.1, p.2) (λ ne. group_first c.args.left c.in_ok-inside-in-Group.below f c.in_err-sections-in-Group.field-0.0 c.args.place.offset
+    c.args.place.depth c.in_ok-inside-in-Group.inside.offset c.in_ok-inside-in-Group.inside.depth
+    ok.0 group ok.1 ok.2 (c.in_err-sections-in-Group.ensures.first ne))
+
+pub read_section-new-requires-clause-read : goal.read_section-new-requires-clause-read
+read_section-new-requires-clause-read t c =
+    let f : FrameForm = framed.form_of c.args.frame.now in
+    let group = group_shape f (sym c.shape_of.ensures ∙ c.in-Group.is) in (
+      c.args.left,
+      omega arith,
+      f,
+      c.requires.stored,
+      group_found c.args.left c.in_ok-inside-in-Group.below f c.in_ok-sections-in-Group.sections.items c.in_ok-sections-in-Group.tail
+          c.in_ok-inside-in-Group.ensures.ok.0 group c.in_ok-sections-in-Group.ensures.found,
+    )
+
+pub read_section-new-requires-clause-len : goal.read_section-new-requires-clause-len
+read_section-new-requires-clause-len t c =
+    let f : FrameForm = framed.form_of c.args.frame.now in
+    let group = group_shape f (sym c.shape_of.ensures ∙ c.in-Group.is) in
+    body_long c.args.left f f.kind (Group (sections_from c.in_ok-sections-in-Group.sections.items) c.in_ok-sections-in-Group.tail)
+    (group_found c.args.left c.in_ok-inside-in-Group.below f c.in_ok-sections-in-Group.sections.items c.in_ok-sections-in-Group.tail
+    c.in_ok-inside-in-Group.ensures.ok.0 group c.in_ok-sections-in-Group.ensures.found)
+
+pub read_section-returns-in-Group-clause-found : goal.read_section-returns-in-Group-clause-found
+read_section-returns-in-Group-clause-found t c =
+    let f : FrameForm = framed.form_of c.args.frame.now in
+    let group = group_shape f (sym c.shape_of.ensures ∙ c.in-Group.is) in
+    rw c.new.ensures (group_found c.args.left c.in_ok-inside-in-Group.below f c.in_ok-sections-in-Group.sections.items
+    c.in_ok-sections-in-Group.tail c.in_ok-inside-in-Group.ensures.ok.0 group c.in_ok-sections-in-Group.ensures.found)
+
+pub read_section-returns-in-Group-clause-only : goal.read_section-returns-in-Group-clause-only
+read_section-returns-in-Group-clause-only t c =
+    let f : FrameForm = framed.form_of c.args.frame.now in
+    let group = group_shape f (sym c.shape_of.ensures ∙ c.in-Group.is) in
+    λ s h. group_one c.args.left c.in_ok-inside-in-Group.below f c.in_ok-sections-in-Group.sections.items c.in_ok-sections-in-Group.tail
+    c.in_ok-inside-in-Group.ensures.ok.0 group c.in_ok-sections-in-Group.ensures.only s h ∙ sym c.new.ensures
+
+-- ---- a section that is opened as a volume
+
+pub read_section-returns-in_err-inside-in-Volume-clause-none : goal.read_section-returns-in_err-inside-in-Volume-clause-none
+read_section-returns-in_err-inside-in-Volume-clause-none t c =
+    let f : FrameForm = framed.form_of c.args.frame.now in
+    let p = err_from_is_err_and c.from_residual-in_err-inside-in-Volume.result c.from_residual-in_err-inside-in-Volume.ensures.1 in
+    let opened = volume_shape f (sym c.shape_of.ensures ∙ c.in-Volume.is) in
+    rw (p.1, p.2) (λ ne s h. deep_bad c.args.left f c.in_err-inside-in-Volume.ensures.err.0 (inr opened) s h)
+
+pub read_section-returns-in_err-inside-in-Volume-clause-first : goal.read_section-returns-in_err-inside-in-Volume-clause-first
+read_section-returns-in_err-inside-in-Volume-clause-first t c =
+    let f : FrameForm = framed.form_of c.args.frame.now in
+    let p = err_from_is_err_and c.from_residual-in_err-inside-in-Volume.result c.from_residual-in_err-inside-in-Volume.ensures.1 in
+    let opened = volume_shape f (sym c.shape_of.ensures ∙ c.in-Volume.is) in
+    rw (p.1, p.2) (λ ne. deep_fault c.args.left f c.in_err-inside-in-Volume.field-0.0 c.args.place.offset c.args.place.depth
+    c.in_err-inside-in-Volume.ensures.err.0 (inr opened) c.in_err-inside-in-Volume.ensures.err.1)
+
+pub read_section-returns-in_err-volume-in-Volume-clause-none : goal.read_section-returns-in_err-volume-in-Volume-clause-none
+read_section-returns-in_err-volume-in-Volume-clause-none t c =
+    let f : FrameForm = framed.form_of c.args.frame.now in
+    let p = err_from_is_err_and c.from_residual-in_err-volume-in-Volume.result c.from_residual-in_err-volume-in-Volume.ensures.1 in
+    let opened = volume_shape f (sym c.shape_of.ensures ∙ c.in-Volume.is) in
+    rw (p.1, p.2) (λ ne s h. nested_bad c.args.left c.in_ok-inside-in-Volume.below f c.in_ok-inside-in-Volume.ensures.ok.0 opened
+    (c.in_err-volume-in-Volume.ensures.none ne) s h)
+
+pub read_section-returns-in_err-volume-in-Volume-clause-first : goal.read_section-returns-in_err-volume-in-Volume-clause-first
+read_section-returns-in_err-volume-in-Volume-clause-first t c =
+    let f : FrameForm = framed.form_of c.args.frame.now in
+    let p = err_from_is_err_and c.from_residual-in_err-volume-in-Volume.result c.from_residual-in_err-volume-in-Volume.ensures.1 in
+    let opened = volume_shape f (sym c.shape_of.ensures ∙ c.in-Volume.is) in
+    let ok = c.in_ok-inside-in-Volume.ensures.ok in
+    rw (p.1, p.2) (λ ne. nested_first c.args.left c.in_ok-inside-in-Volume.below f c.in_err-volume-in-Volume.field-0.0
+    c.args.place.offset c.args.place.depth c.in_ok-inside-in-Volume.inside.offset c.in_ok-inside-in-Volume.inside.depth
+    ok.0 opened ok.1 ok.2 (c.in_err-volume-in-Volume.ensures.first ne))
+
+pub read_section-new-requires-in-Volume-2-clause-read : goal.read_section-new-requires-in-Volume-2-clause-read
+read_section-new-requires-in-Volume-2-clause-read t c =
+    let f : FrameForm = framed.form_of c.args.frame.now in
+    let opened = volume_shape f (sym c.shape_of.ensures ∙ c.in-Volume.is) in
+    let same : c.in_ok-nested-in-Volume.nested.value ≡ c.in_ok-volume-in-Volume.volume = c.in_ok-nested-in-Volume.ensures.ok in
+    let v : Meaning = c.in_ok-nested-in-Volume.nested.value in
+    let whole =
+    subst (Denotes c.in_ok-inside-in-Volume.below f.body) (sym same)
+    (opened_whole c.in_ok-inside-in-Volume.below c.in_ok-volume-in-Volume.field-0-1 f.body c.in_ok-volume-in-Volume.volume opened.opens
+    c.in_ok-volume-in-Volume.ensures.length.1 c.in_ok-volume-in-Volume.ensures.found) in (
+      c.args.left,
+      omega arith,
+      f,
+      c.requires.stored,
+      nested_found c.args.left c.in_ok-inside-in-Volume.below f v
+          c.in_ok-inside-in-Volume.ensures.ok.0 opened whole,
+    )
+
+pub read_section-new-requires-in-Volume-2-clause-len : goal.read_section-new-requires-in-Volume-2-clause-len
+read_section-new-requires-in-Volume-2-clause-len t c =
+    let f : FrameForm = framed.form_of c.args.frame.now in
+    let opened = volume_shape f (sym c.shape_of.ensures ∙ c.in-Volume.is) in
+    let same : c.in_ok-nested-in-Volume.nested.value ≡ c.in_ok-volume-in-Volume.volume = c.in_ok-nested-in-Volume.ensures.ok in
+    let v : Meaning = c.in_ok-nested-in-Volume.nested.value in
+    let whole =
+    subst (Denotes c.in_ok-inside-in-Volume.below f.body) (sym same)
+    (opened_whole c.in_ok-inside-in-Volume.below c.in_ok-volume-in-Volume.field-0-1 f.body c.in_ok-volume-in-Volume.volume opened.opens
+    c.in_ok-volume-in-Volume.ensures.length.1 c.in_ok-volume-in-Volume.ensures.found) in
+    body_long c.args.left f f.kind (Nested v)
+    (nested_found c.args.left c.in_ok-inside-in-Volume.below f v c.in_ok-inside-in-Volume.ensures.ok.0 opened whole)
+
+pub read_section-returns-in-Volume-clause-found : goal.read_section-returns-in-Volume-clause-found
+read_section-returns-in-Volume-clause-found t c =
+    let f : FrameForm = framed.form_of c.args.frame.now in
+    let opened = volume_shape f (sym c.shape_of.ensures ∙ c.in-Volume.is) in
+    let same : c.in_ok-nested-in-Volume.nested.value ≡ c.in_ok-volume-in-Volume.volume = c.in_ok-nested-in-Volume.ensures.ok in
+    let v : Meaning = c.in_ok-nested-in-Volume.nested.value in
+    let whole =
+    subst (Denotes c.in_ok-inside-in-Volume.below f.body) (sym same)
+    (opened_whole c.in_ok-inside-in-Volume.below c.in_ok-volume-in-Volume.field-0-1 f.body c.in_ok-volume-in-Volume.volume opened.opens
+    c.in_ok-volume-in-Volume.ensures.length.1 c.in_ok-volume-in-Volume.ensures.found) in
+    rw c.new-in-Volume-2.ensures (nested_found c.args.left c.in_ok-inside-in-Volume.below f v c.in_ok-inside-in-Volume.ensures.ok.0
+    opened whole)
+
+pub read_section-returns-in-Volume-clause-only : goal.read_section-returns-in-Volume-clause-only
+read_section-returns-in-Volume-clause-only t c =
+    let f : FrameForm = framed.form_of c.args.frame.now in
+    let opened = volume_shape f (sym c.shape_of.ensures ∙ c.in-Volume.is) in
+    let same : c.in_ok-nested-in-Volume.nested.value ≡ c.in_ok-volume-in-Volume.volume = c.in_ok-nested-in-Volume.ensures.ok in
+    λ s h.
+    nested_one c.args.left c.in_ok-inside-in-Volume.below f c.in_ok-volume-in-Volume.volume c.in_ok-volume-in-Volume.field-0-1
+    c.in_ok-inside-in-Volume.ensures.ok.0 opened c.in_ok-volume-in-Volume.ensures.only s h
+    ∙ ap (λ (m : Meaning). Section f.kind f.extended (Nested m)) (sym same) ∙ sym c.new-in-Volume-2.ensures
+
+-- ---- a leaf
+
+pub read_section-new-requires-2-clause-read : goal.read_section-new-requires-2-clause-read
+read_section-new-requires-2-clause-read t c =
+    let f : FrameForm = framed.form_of c.args.frame.now in
+    (c.args.left, omega arith, f, c.requires.stored, leaf_is c.args.left f (leaf_shape f (sym c.shape_of.ensures ∙ c.in-Leaf.is)))
+
+pub read_section-returns-clause-found : goal.read_section-returns-clause-found
+read_section-returns-clause-found t c =
+    let f : FrameForm = framed.form_of c.args.frame.now in
+    rw c.new-2.ensures (leaf_is c.args.left f (leaf_shape f (sym c.shape_of.ensures ∙ c.in-Leaf.is)))
+
+pub read_section-returns-clause-only : goal.read_section-returns-clause-only
+read_section-returns-clause-only t c =
+    let f : FrameForm = framed.form_of c.args.frame.now in
+    λ s h. leaf_only c.args.left f (leaf_shape f (sym c.shape_of.ensures ∙ c.in-Leaf.is)) s h ∙ sym c.new-2.ensures
+
+pub read_at-returns-in-Err-clause-first : goal.read_at-returns-in-Err-clause-first
+read_at-returns-in-Err-clause-first t c = λ ne.
+    head_first c.args.left c.args.bytes.now c.in-Err.fault c.within.result c.args.place.offset c.args.place.depth c.in-Err.ensures.first
+    (c.within.ensures.moved ne).0 (c.within.ensures.moved ne).1
+
+pub read_at-returns-in-Err-clause-memory : goal.read_at-returns-in-Err-clause-memory
+read_at-returns-in-Err-clause-memory t c = λ want. go c.in-Err.ensures.first want where
+  go : (c.in-Err.fault ≡ want_of_memory) ⊎ IsFirstFault (head_checks c.args.bytes.now) c.in-Err.fault
+      → c.within.result ≡ want_of_memory → (h : HeadFields) × (e : Extent) × Front h e c.args.bytes.now
+  go (inl same) want = c.in-Err.ensures.memory same
+  go (inr first) want = absurd (head_known c.args.bytes.now c.in-Err.fault first (sym c.within.ensures.kind
+      ∙ ap (λ (f : Fault). f.kind) want))

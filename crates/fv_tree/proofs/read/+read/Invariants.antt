@@ -1,0 +1,40 @@
+use Rattle.std.proofs.Common.{◌≡◌, ◌+◌, ◌*◌, List, take, map}
+use Rattle.fv_section.specs.Seen as frame
+use Rattle.fv_tree.specs.Denotes.{Pairs, IsFile, IsSection, Stream}
+use Rattle.fv_tree.specs.Meaning.{FileMeaning, SectionMeaning}
+use Rattle.fv_tree.specs.Seen.{form_of}
+use Rattle.fv_tree.proofs.read.+read.Given as goal
+
+abbrev pub invariant-read_stream-loop-frame : goal.invariant-read_stream-loop-frame
+invariant-read_stream-loop-frame l = record {
+  pairs : Pairs (IsSection l.left) (take l.frame-index (map frame.form_of l.frame-items)) l.sections.items;
+  one : (ss : List SectionMeaning) → Pairs (IsSection l.left) (take l.frame-index (map frame.form_of l.frame-items)) ss
+      → ss ≡ l.sections.items;
+}
+
+abbrev pub invariant-read_files-loop-file : goal.invariant-read_files-loop-file
+invariant-read_files-loop-file l = record {
+  pairs : Pairs (IsFile (Stream l.left)) (take l.file-index (map form_of l.files)) l.views.items;
+  one : (ms : List FileMeaning) → Pairs (IsFile (Stream l.left)) (take l.file-index (map form_of l.files)) ms → ms ≡ l.views.items;
+}
+
+abbrev pub decreases-read_section : goal.decreases-read_section
+decreases-read_section l = 7 * l.left
+
+abbrev pub decreases-read_stream : goal.decreases-read_stream
+decreases-read_stream l = 7 * l.left + 1
+
+abbrev pub decreases-read_content : goal.decreases-read_content
+decreases-read_content l = 7 * l.left + 2
+
+abbrev pub decreases-read_files : goal.decreases-read_files
+decreases-read_files l = 7 * l.left + 4
+
+abbrev pub decreases-read_body : goal.decreases-read_body
+decreases-read_body l = 7 * l.left + 5
+
+abbrev pub decreases-read_at : goal.decreases-read_at
+decreases-read_at l = 7 * l.left + 6
+
+abbrev pub decreases-read_file : goal.decreases-read_file
+decreases-read_file l = 7 * l.left + 3

@@ -1,0 +1,22 @@
+use Rattle.std.proofs.Common.{length, ap, arith}
+use Rattle.fv_tree.specs.Meaning.{Volume, files_from}
+use Rattle.fv_tree.proofs.Counts.{few_of}
+use Rattle.fv_tree.proofs.VolumeLaws.{files_list_back}
+use Rattle.fv_tree.proofs.view.VolumeView.file_count.Goals as goal
+
+pub overflow_cast-result : goal.overflow_cast-result
+overflow_cast-result c =
+    let files = c.self.inside.files in
+    omega (
+      arith,
+      few_of (Volume c.self.inside.head (files_from files.items)) c.self.invariant.0,
+      ap length
+          (files_list_back files.items),
+      c.len.ensures,
+      files.ok.0,
+    )
+
+pub returns : goal.returns
+returns c =
+    let files = c.self.inside.files in
+    rw (← c.self.view_is, files_list_back files.items) (omega (arith, c.len.ensures, files.ok.0))

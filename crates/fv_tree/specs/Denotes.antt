@@ -1,0 +1,137 @@
+-- Which bytes are a volume of a meaning: one recursion on how deep groups and opened volumes nest.
+use Rattle.std.specs.Prelude.{◌≡◌, ◌≢◌, ℕ, zero, suc, ◌≤◌, ◌==◌, ◌&&◌, ◌||◌, Bool, true, false, nat_le, List, [], ◌∷◌, length}
+use Rattle.std.specs.Prelude.{drop}
+use Rattle.fv_base.specs.Limits.{volume_limit}
+use Rattle.fv_base.specs.Value.{IsBytes, field, le_at}
+use Rattle.fv_base.specs.declared.flash.FileSystem.{FileSystem}
+use Rattle.fv_base.specs.declared.flash.Polarity.{Polarity}
+use Rattle.fv_file.specs.Attributes.{attribute_bits, without_large}
+use Rattle.fv_file.specs.Cells.{CellForm, Valid, IsCell, Tiles}
+use Rattle.fv_head.specs.Head.{Front, signature_bytes, system_guid}
+use Rattle.fv_head.specs.declared.extent.Extent.{Extent}
+use Rattle.fv_section.specs.Frames.{FrameForm, Splits, StandsAt}
+use Rattle.fv_tree.specs.Files.{FileForm, Alive}
+use Rattle.fv_tree.specs.Meaning.{Meaning, FileMeaning, File, ContentMeaning, Plain, Sectioned, SectionMeaning, Section, BodyMeaning, Leaf}
+use Rattle.fv_tree.specs.Meaning.{Group, Nested, sections_list, head_of, files_of}
+
+-- the type of a section that groups others, and that of one which may hold a volume (section 3.2.5, EFI_SECTION_DISPOSABLE and
+-- EFI_SECTION_FIRMWARE_VOLUME_IMAGE)
+abbrev pub group_kind : ℕ
+group_kind = 0x03
+
+abbrev pub volume_kind : ℕ
+volume_kind = 0x17
+
+-- a body is opened as a volume: it has the signature, a file system, and a volume's length that is its own
+pub record Opens (b : List ℕ) : Type 0 where
+  pub least : 56 ≤ length b
+  pub signature : field 40 4 b ≡ signature_bytes
+  pub file_system : (system : FileSystem) × (field 16 16 b ≡ system_guid system)
+  pub whole : le_at 32 8 b ≡ length b
+
+-- the types of files that hold sections (section 3.2.3, EFI_FV_FILETYPE_FREEFORM and those from EFI_FV_FILETYPE_PEI_CORE on)
+abbrev pub holds_sections : ℕ → Bool
+holds_sections kind = (kind == 0x02) || (nat_le 0x04 kind && nat_le kind 0x0f)
+
+-- the two lists agree, item by item
+abbrev pub Pairs : {A B : Type 0} → (A → B → Type 0) → List A → List B → Type 0
+Pairs R [] [] = Unit {0}
+Pairs R [] (y ∷ ys) = ⊥
+Pairs R (x ∷ xs) [] = ⊥
+Pairs R (x ∷ xs) (y ∷ ys) = R x y × Pairs R xs ys
+
+-- ---- what is said of what lies inside
+
+-- of a frame and a section, of the bytes of a stream, and of those of a volume
+abbrev pub Sections : Type 1
+Sections = FrameForm → SectionMeaning → Type 0
+
+abbrev pub Streams : Type 1
+Streams = List SectionMeaning → ℕ → List ℕ → Type 0
+
+abbrev pub Volumes : Type 1
+Volumes = List ℕ → Meaning → Type 0
+
+-- the bytes are a stream of these sections, with so many bytes behind the last
+abbrev pub StreamOver : Sections → Streams
+StreamOver is_section sections tail b = (frames : List FrameForm) × Splits frames tail b × Pairs is_section frames sections
+
+-- the data of a file of this type are this content
+abbrev pub IsContent : Streams → ℕ → List ℕ → ContentMeaning → Type 0
+IsContent is_stream kind payload (Plain b) = (holds_sections kind ≡ false) × (b ≡ payload)
+IsContent is_stream kind payload (Sectioned sections tail) = (holds_sections kind ≡ true) × is_stream (sections_list sections) tail payload
+
+-- what lies in the volume is this file
+abbrev pub IsFile : Streams → FileForm → FileMeaning → Type 0
+IsFile is_stream f (File name kind attributes content) =
+    (name ≡ f.head.name) × (kind ≡ f.head.kind) × (attributes ≡ without_large (attribute_bits f.head.attributes))
+    × IsContent is_stream kind f.payload content
+
+-- the bytes are a volume of this meaning: they begin with its header, cells tile the rest from the first file's place on, and the
+-- files of these cells are its files
+pub record VolumeOver (is_stream : Streams) (b : List ℕ) (m : Meaning) : Type 0 where
+  pub extent : Extent
+  pub front : Front (head_of m) extent b
+  pub whole : length b ≡ extent.length
+  pub cells : List CellForm
+  pub tiles : Tiles extent.file_system extent.polarity extent.first cells (drop extent.first b)
+  pub files : List FileForm
+  pub alive : Alive extent.length cells files
+  pub meanings : Pairs (IsFile is_stream) files (files_of m)
+
+-- the frame's bytes are this body: those of a group are a stream, those that are opened a volume, and all others are a leaf
+abbrev pub IsBody : Streams → Volumes → FrameForm → BodyMeaning → Type 0
+IsBody is_stream is_volume f (Leaf b) = (f.kind ≢ group_kind) × (f.kind ≡ volume_kind → Opens f.body → ⊥) × (b ≡ f.body)
+IsBody is_stream is_volume f (Group sections tail) = (f.kind ≡ group_kind) × is_stream (sections_list sections) tail f.body
+IsBody is_stream is_volume f (Nested volume) = (f.kind ≡ volume_kind) × Opens f.body × is_volume f.body volume
+
+abbrev pub SectionOver : Streams → Volumes → Sections
+SectionOver is_stream is_volume f (Section kind extended body) =
+    (kind ≡ f.kind) × (extended ≡ f.extended) × IsBody is_stream is_volume f body
+
+-- ---- the recursion
+
+-- the frame is this section, which is a leaf where n is 0; groups and opened volumes nest at most n deep
+abbrev pub IsSection : ℕ → Sections
+IsSection zero = SectionOver (λ _ _ _. ⊥) (λ _ _. ⊥)
+IsSection (suc n) = SectionOver (StreamOver (IsSection n)) (VolumeOver (StreamOver (IsSection n)))
+
+-- the bytes are a stream of these sections, with so many bytes behind the last, in which groups and volumes nest at most n deep
+abbrev pub Stream : ℕ → Streams
+Stream n = StreamOver (IsSection n)
+
+-- the bytes are a volume of this meaning, in which groups and volumes nest at most n deep
+abbrev pub Denotes : ℕ → Volumes
+Denotes n = VolumeOver (Stream n)
+
+-- how deep groups and opened volumes nest at most
+abbrev pub depth_limit : ℕ
+depth_limit = 8
+
+-- the bytes are accepted as a volume of this meaning
+abbrev pub Accepted : Volumes
+Accepted b m = IsBytes b × Denotes depth_limit b m
+
+-- ---- what is known of all that was read
+
+-- some bytes are a volume of this meaning
+abbrev pub IsMeaning : Meaning → Type 0
+IsMeaning m = (n : ℕ) × (n ≤ depth_limit) × (b : List ℕ) × IsBytes b × Denotes n b m
+
+-- some bytes are a file that stands so, and then filler
+abbrev pub IsStoredFile : FileForm → Type 0
+IsStoredFile f =
+    (system : FileSystem) × (polarity : Polarity) × (b : List ℕ) × IsBytes b × (length b ≤ volume_limit)
+    × IsCell system polarity (Valid f.offset f.head f.payload) b
+
+-- a file that stands in some bytes is this one
+abbrev pub IsReadFile : FileMeaning → Type 0
+IsReadFile m = (n : ℕ) × (n ≤ depth_limit) × (f : FileForm) × IsStoredFile f × IsFile (Stream n) f m
+
+-- in some bytes this frame stands
+abbrev pub IsStoredFrame : FrameForm → Type 0
+IsStoredFrame f = (b : List ℕ) × IsBytes b × (length b ≤ volume_limit) × StandsAt f f.offset b
+
+-- a frame that stands in some bytes is this section
+abbrev pub IsReadSection : SectionMeaning → Type 0
+IsReadSection m = (n : ℕ) × (n ≤ depth_limit) × (f : FrameForm) × IsStoredFrame f × IsSection n f m

@@ -1,0 +1,78 @@
+//! Volumes with many files.
+
+use super::{ROOM, spell};
+use crate::{VolumeView, file_by_name, read_volume};
+use fv_base::Guid;
+use std::alloc::Global;
+
+/// The header of a volume, and how many files follow it.
+const HEADS: [(&str, u32); 2] = [
+    (
+        "00*16 78e58c8c3d8a1c4f9935896185c32dd3 085e 00*6 5f465648 fffe0400 4800be3a 00000002 01000000 085e0000 00*8",
+        1000,
+    ),
+    (
+        "00*16 78e58c8c3d8a1c4f9935896185c32dd3 483e49 00*5 5f465648 fffe0400 4800ac79 00000002 01000000 483e4900 00*8",
+        200_000,
+    ),
+];
+
+/// The name of the file of this number: the number, and 12 zeros.
+fn name_of(number: u32) -> [u8; 16] {
+    let [a, b, c, d] = number.to_le_bytes();
+    [a, b, c, d, 0, 0, 0, 0, 0, 0, 0, 0, 0, 0, 0, 0]
+}
+
+/// The header of a file of this name, which has no data: the other bytes sum to 0x19 and those of the name.
+fn file_of(name: [u8; 16]) -> [u8; 24] {
+    let mut sum = 0x19u8;
+    for byte in name {
+        sum = sum.wrapping_add(byte);
+    }
+    let mut bytes = [0; 24];
+    bytes[..16].copy_from_slice(&name);
+    bytes[16..].copy_from_slice(&[
+        0u8.wrapping_sub(sum),
+        0xaa,
+        0x01,
+        0x00,
+        0x18,
+        0x00,
+        0x00,
+        0xf8,
+    ]);
+    bytes
+}
+
+/// A volume of so many files, with this header.
+fn volume_of(alloc: Global, head: &str, count: u32) -> Option<Vec<u8>> {
+    let mut bytes = [0; ROOM];
+    let len = spell(head, &mut bytes)?;
+    let mut volume = bytes.get(..len)?.to_vec(alloc).ok()?;
+    for number in 0..count {
+        volume.extend_from_slice(&file_of(name_of(number))).ok()?;
+    }
+    Some(volume)
+}
+
+/// Whether a volume has a file of the name of this number.
+fn has_file(view: &VolumeView, number: u32) -> bool {
+    file_by_name(view, &Guid::from_bytes(name_of(number))).is_some()
+}
+
+/// Whether a volume of so many files is read with all of them, and no other.
+fn is_many(alloc: Global, head: &str, count: u32) -> Option<bool> {
+    let volume = volume_of(alloc, head, count)?;
+    let (view, length) = read_volume(alloc, &volume).ok()?;
+    let last = count.checked_sub(1)?;
+    let is_last = view.file(last)?.name().to_bytes() == name_of(last);
+    let is_whole = length == 72 + 24 * u64::from(count) && view.file_count() == count;
+    Some(is_whole && is_last && has_file(&view, last / 2) && !has_file(&view, count))
+}
+
+#[test]
+fn many_files_are_read(rt: HostRuntime) {
+    for (head, count) in HEADS {
+        assert_eq!(rt; is_many(rt.alloc(), head, count), Some(true), "{count}");
+    }
+}
