@@ -12,9 +12,11 @@ use Rattle.fv_tree.specs.FaultStands.{FaultStands}
 use Rattle.fv_tree.specs.FirstFault.{IsFirstOfVolume}
 use Rattle.fv_tree.specs.Meaning.{Meaning, length_of}
 use Rattle.fv_tree.proofs.Laws.{stands_other}
-use Rattle.fv_canon.specs.Image.{NormalisesTo}
+use Rattle.fv_canon.specs.Normal.{NormalisesTo}
 use Rattle.fv_canon.specs.Layouts.{Fits, Unfit}
 use Rattle.fv_canon.specs.Refusals.{NotRead, Refuses}
+use Rattle.fv_canon.proofs.ImageFits.{image_fits as has_image_fits}
+use Rattle.fv_canon.proofs.UnfitKinds.{IsOfLayout, unfit_is}
 
 -- ---- want of memory, or not
 
@@ -131,7 +133,7 @@ not_read_never b image f (inr bad) (m, d, is) = absurd (bad.none m d)
 
 -- and the volume that it is fits
 pub image_fits : (b image : List ℕ) (v : Meaning) → ((m : Meaning) → Accepted b m → m ≡ v) → NormalisesTo b image → Fits v
-image_fits b image v only (m, d, is) = subst Fits (only m d) is.fits
+image_fits b image v only (m, d, is) = subst Fits (only m d) (has_image_fits m image is)
 
 -- what does not fit is refused
 pub not_placed : (b : List ℕ) (v : Meaning) (f : Fault) → Accepted b v → (f ≡ want_of_memory) ⊎ Unfit v 0 f
@@ -152,7 +154,10 @@ IsOfInput kind = (kind ≢ kinds.ReadFault) × (kind ≢ kinds.WriteFault)
 -- the fault of a layout is none of a run
 pub unfit_kind : (v : Meaning) (f : Fault) → (f ≡ want_of_memory) ⊎ Unfit v 0 f → IsOfInput f.kind
 unfit_kind v f (inl want) = subst (λ (g : Fault). IsOfInput g.kind) (sym want) (λ e. cc, λ e. cc)
-unfit_kind v f (inr (none, is)) = subst (λ (g : Fault). IsOfInput g.kind) (sym is) (λ e. cc, λ e. cc)
+unfit_kind v f (inr unfit) = go (unfit_is v 0 f unfit) where
+  go : IsOfLayout f.kind → IsOfInput f.kind
+  go (inl is) = subst IsOfInput (sym is) (λ e. cc, λ e. cc)
+  go (inr is) = subst IsOfInput (sym is) (λ e. cc, λ e. cc)
 
 -- nor is one that is of an input wherever it is no want of memory
 pub input_kind : (f : Fault) → (f ≢ want_of_memory → IsOfInput f.kind) → IsOfInput f.kind

@@ -5,7 +5,7 @@ use Rattle.fv_base.specs.Faults.{want_of_memory}
 use Rattle.fv_base.specs.Input.{ReadsWhole, ReadStops}
 use Rattle.fv_base.specs.Output.{WriteStops}
 use Rattle.fv_base.specs.declared.fault.Fault.{Fault}
-use Rattle.fv_canon.specs.Image.{NormalisesTo}
+use Rattle.fv_canon.specs.Normal.{NormalisesTo}
 use Rattle.fv_canon.specs.Refusals.{Refuses}
 
 -- the image of the input was written

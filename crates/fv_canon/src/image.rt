@@ -4,31 +4,20 @@ ghost use Rattle.std.specs.Prelude.{◌≡◌, ◌⊎◌, ℕ, List, IfOk, IfErr
 ghost use Rattle.std.specs.Io.KnownBytes.{Appends};
 ghost use Rattle.fv_base.specs.Faults.{want_of_memory};
 ghost use Rattle.fv_base.specs.Port.{inner_of, has_erred};
-ghost use Rattle.fv_canon.specs.Image.{IsImage, image_of};
-ghost use Rattle.fv_canon.specs.Layouts.{Fits, IsLayout, Unfit};
+ghost use Rattle.fv_canon.specs.Image.{IsImage};
+ghost use Rattle.fv_canon.specs.Layouts.{Fits, Unfit};
+ghost use Rattle.fv_canon.specs.Places.{IsLayout};
 ghost use Rattle.fv_base.specs.Output.{WriteStops};
 ghost use Rattle.fv_tree.specs.Denotes.{Accepted, IsMeaning};
 ghost use Rattle.fv_tree.specs.Meaning.{Meaning};
 
-use crate::place::layout;
+use crate::lay::layout;
+use crate::put::put_volume;
 use crate::starts::Layout;
-use fv_base::{ByteList, Fault, ListSink, Port, Sink, WriteSink, fill};
-use fv_head::put_head;
+use fv_base::{ByteList, Fault, ListSink, Port, WriteSink};
 use fv_tree::VolumeView;
 use std::alloc::Global;
 use std::io::Write;
-
-// Puts the image: the head, and then erased bytes to the end.
-fn put_image<S: Sink>(out: &mut S, view: &VolumeView<'_>, _layout: &Layout)
-    requires { IsLayout view.now _layout.now }
-    ensures bytes { S.takes out.old (image_of view.now) out.new }
-    ensures meaning { IsMeaning view.now }
-{
-    let head = view.head();
-    put_head(out, head);
-    let rest = head.length() - u64::from(head.header_len());
-    fill(out, head.attributes().polarity().erased(), rest);
-}
 
 /// Writes the canonical image of the view to a port, in one walk that takes no memory. The
 /// layout has to be that of the view.
@@ -60,7 +49,8 @@ pub fn write_canonical<W: Write>(
         on: true,
         count: 0,
     };
-    put_image(&mut out, view, layout);
+    let _head = view.head();
+    put_volume(&mut out, view, layout.all());
     if out.on { Ok(()) } else { Err(out.fault()) }
 }
 
@@ -84,6 +74,6 @@ pub fn canonical(alloc: Global, view: &VolumeView<'_>) -> Result<ByteList, Fault
 {
     let places = layout(alloc, view)?;
     let mut out = ListSink::with_room(alloc, view.head().length() as usize)?;
-    put_image(&mut out, view, &places);
+    put_volume(&mut out, view, places.all());
     out.finish()
 }

@@ -5,21 +5,21 @@ ghost use Rattle.fv_base.specs.Faults.{want_of_memory};
 ghost use Rattle.fv_base.specs.Port.{inner_of, has_erred};
 ghost use Rattle.fv_head.specs.Head.{HeadFields, Front};
 ghost use Rattle.fv_head.specs.declared.extent.Extent.{Extent};
-ghost use Rattle.fv_canon.specs.Image.{NormalisesTo};
+ghost use Rattle.fv_canon.specs.Normal.{NormalisesTo};
 ghost use Rattle.fv_canon.specs.Refusals.{NotRead, Refuses};
 ghost use Rattle.fv_canon.specs.Runs.{InputWrites, InputStops, RunWrites, RunStops};
 ghost use Rattle.fv_tree.specs.Denotes.{Accepted};
 ghost use Rattle.fv_tree.specs.Meaning.{Meaning};
 
 use crate::image::{canonical, write_canonical};
-use crate::place::layout;
+use crate::lay::layout;
 use fv_base::{ByteList, Fault, FaultKind, Port, check, read_input};
 use fv_tree::{VolumeView, read_volume};
 use std::alloc::Global;
 use std::io::{Read, Write};
 
 // The volume that the whole input is.
-fn whole_volume(alloc: Global, input: &[u8]) -> Result<VolumeView<'_>, Fault>
+pub(crate) fn whole_volume(alloc: Global, input: &[u8]) -> Result<VolumeView<'_>, Fault>
     ensures found { IfOk result (λ view. Accepted input.now view) }
     ensures only { IfOk result (λ view. (m : Meaning) → Accepted input.now m → m ≡ view) }
     ensures refused { IfErr result (λ f. (f ≡ want_of_memory) ⊎ NotRead input.now f) }

@@ -1,37 +1,56 @@
-//! The starts of files, as they are kept.
+//! Where the files of a canonical image stand, once that is known.
 
-ghost use Rattle.std.specs.Prelude.{◌≡◌, slice_get};
+ghost use Rattle.std.specs.Prelude.{◌≡◌, ◌++◌, slice_get, take, drop};
 
 use std::marker::Model;
 
-/// Where the files of a canonical image stand: for each file its start, in bytes from the
-/// volume's start. Contracts see the list of the starts.
+/// Where the files of a canonical image stand: the starts of the volume's own files in their order,
+/// and behind them those of the files of the volumes inside it, each volume's own before those of
+/// the volumes inside that one, in the order in which the volumes lie. A start counts bytes from the
+/// start of the file's own volume. Contracts see the two parts.
 #[derive(Drop)]
 pub struct Layout {
+    // All starts.
     starts: Vec<u64>,
+    // How many of them are those of the volume's own files.
+    own: usize,
 }
 
 impl Model for Layout {
-    ghost use Rattle.std.specs.Prelude.{List, ℕ};
+    ghost use Rattle.std.specs.Prelude.{take, drop};
+    ghost use Rattle.fv_canon.specs.Places.{Places};
 
-    ghost Value = { List ℕ };
+    ghost Value = { Places };
 
-    ghost view = { λ l. l.starts.items };
+    ghost view = { λ l. record { own = take l.own l.starts.items; inner = drop l.own l.starts.items } };
 }
 
 impl Layout {
-    // The layout of these starts.
-    pub(crate) fn new(starts: Vec<u64>) -> Layout
-        ensures { result ≡ starts.items }
+    // The layout of a volume with so many files of its own.
+    pub(crate) fn new(starts: Vec<u64>, own: usize) -> Layout
+        ensures own { result.own ≡ take own starts.items }
+        ensures inner { result.inner ≡ drop own starts.items }
     {
-        Layout { starts }
+        Layout { starts, own }
     }
 
-    /// Where file `index` stands, counted from 0, in bytes from the volume's start; None past the
-    /// last file.
+    /// Where the file of this number stands, counted from 0 in the order in which they lie, in bytes
+    /// from the volume's start; None past the last file.
     pub fn start(&self, index: u32) -> Option<u64>
-        ensures { result ≡ slice_get self.now index }
+        ensures { result ≡ slice_get self.now.own index }
     {
-        self.starts.get(index as usize).copied()
+        let at = index as usize;
+        if at < self.own {
+            self.starts.get(at).copied()
+        } else {
+            None
+        }
+    }
+
+    // All starts: those of the volume's own files, and then those of the volumes inside it.
+    pub(crate) fn all(&self) -> &[u64]
+        ensures { result.now ≡ self.now.own ++ self.now.inner }
+    {
+        self.starts.as_slice()
     }
 }

@@ -1,11 +1,11 @@
 //! The header of a file.
 
-ghost use Rattle.std.specs.Prelude.{◌≡◌, ◌==◌, ◌+◌, ◌≤◌, ◌<◌, ◌^◌, length, take, IfOk, IfErr};
+ghost use Rattle.std.specs.Prelude.{◌≡◌, ◌==◌, ◌+◌, ◌%◌, ◌≤◌, ◌<◌, ◌^◌, length, slice_index, sum, take, IfOk, IfErr};
 ghost use Rattle.fv_base.specs.Checks.{first_fault, verdict_by};
 ghost use Rattle.fv_base.specs.Value.{le_at};
 ghost use Rattle.fv_file.specs.Attributes.{attribute_bits};
-ghost use Rattle.fv_file.specs.FileChecks.{attributes_at, header_len_at, size_at, may_be_large, has_header_sum, has_size, is_passed, has_file_sum, file_checks};
-ghost use Rattle.fv_file.specs.Files.{head_in, header_sum_of, file_sum_right};
+ghost use Rattle.fv_file.specs.FileChecks.{attributes_at, header_len_at, payload_at, size_at, may_be_large, has_header_sum, has_size, is_passed, has_file_sum, file_checks};
+ghost use Rattle.fv_file.specs.Files.{head_in, header_sum_of};
 ghost use Rattle.fv_file.specs.Reading.{file_verdict};
 ghost use Rattle.fv_file.specs.States.{is_alive};
 
@@ -134,14 +134,15 @@ fn is_passed(rest: &[u8], alive: bool) -> bool
     !alive || rest[18] == PAD
 }
 
-fn file_sum_right(attributes: FileAttributes, file_sum: u8, payload: &[u8]) -> bool
-    ensures { result ≡ file_sum_right (attribute_bits attributes) file_sum payload.now }
+// Whether the data sum to zero with the file sum.
+fn is_sum_zero(rest: &[u8]) -> bool
+    requires least { 24 ≤ length rest.now }
+    requires header { header_len_at rest.now ≤ size_at rest.now }
+    requires within { size_at rest.now ≤ length rest.now }
+    ensures { result ≡ ((sum (payload_at rest.now) + slice_index rest.now 17) % 256 == 0) }
 {
-    if attributes.is_summed() {
-        sum8(payload).wrapping_add(file_sum) == 0
-    } else {
-        file_sum == NO_SUM
-    }
+    let payload = &rest[header_len(rest)..size_of(rest) as usize];
+    sum8(payload).wrapping_add(rest[17]) == 0
 }
 
 fn has_file_sum(rest: &[u8]) -> bool
@@ -150,8 +151,11 @@ fn has_file_sum(rest: &[u8]) -> bool
     requires within { size_at rest.now ≤ length rest.now }
     ensures { result ≡ has_file_sum rest.now }
 {
-    let payload = &rest[header_len(rest)..size_of(rest) as usize];
-    file_sum_right(attributes_of(rest), rest[17], payload)
+    if attributes_of(rest).is_summed() {
+        is_sum_zero(rest)
+    } else {
+        rest[17] == NO_SUM
+    }
 }
 
 // The fields of the header that the bytes begin with.

@@ -4,9 +4,11 @@ mod answers;
 mod cut_short;
 mod fakes;
 mod hobs;
+mod images;
 mod limits;
 mod runs;
 mod vectors;
+mod volumes;
 mod words;
 
 use crate::close;

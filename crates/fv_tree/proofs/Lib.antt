@@ -10,6 +10,7 @@ pub mod NameLaws
 pub mod Counts
 pub mod NumberLaws
 pub mod IndexLaws
+pub mod KeyLaws
 pub mod FaultLaws
 pub mod Orders
 pub mod RefuseLaws

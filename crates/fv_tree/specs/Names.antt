@@ -1,14 +1,16 @@
 -- The names of files.
-use Rattle.std.specs.Prelude.{◌≡◌, ℕ, ◌+◌, ◌&&◌, Bool, if◌then◌else◌, List, [], ◌∷◌, map, Option, Some, None}
+use Rattle.std.specs.Prelude.{◌≡◌, ℕ, ◌+◌, ◌&&◌, Bool, if◌then◌else◌, List, [], ◌∷◌, length, map, Option, Some, None}
 use Rattle.std.specs.Bool.{beq}
+use Rattle.std.specs.Int.{from_le_bytes, w64}
 use Rattle.std.specs.BTreeSet.{BTreeSet, contains}
-use Rattle.std.specs.List.{find, list_any}
+use Rattle.std.specs.List.{AllByRecursion, find, list_any}
 use Rattle.std.specs.List.Sorted.{IsPermutation, IsSorted}
 use Rattle.std.specs.Ordering.{nat_cmp, bool_cmp, ordering_then}
 use Rattle.std.specs.declared.cmp.Ordering.{Ordering}
 use Rattle.std.specs.Cmp.Lexicographic.{slice_cmp}
 use Rattle.std.specs.Str.{bytes_eq}
 use Rattle.fv_base.specs.Guids.{bytes_of}
+use Rattle.fv_base.specs.Value.{IsBytes, field}
 use Rattle.fv_base.specs.declared.guid.Guid.{Guid}
 use Rattle.fv_tree.specs.Files.{FileForm, is_marked}
 use Rattle.fv_tree.specs.Meaning.{FileMeaning, name_of}
@@ -41,19 +43,44 @@ abbrev pub number_from : ℕ → Guid → List FileMeaning → Option ℕ
 number_from k name [] = None
 number_from k name (f ∷ fs) = if is_named name f then Some k else number_from (k + 1) name fs
 
--- some names, each with its number, where the first has this one
-abbrev pub numbered : ℕ → List Guid → List (Guid × ℕ)
-numbered k [] = []
-numbered k (name ∷ names) = (name, k) ∷ numbered (k + 1) names
+-- sixteen bytes, and a name that has them
+abbrev pub IsWhole : List ℕ → Type 0
+IsWhole bytes = (length bytes ≡ 16) × IsBytes bytes
 
--- the order of names, and then of numbers
-abbrev pub entry_cmp : Guid × ℕ → Guid × ℕ → Ordering
-entry_cmp a b = ordering_then (name_cmp a.0 b.0) (nat_cmp a.1 b.1)
+abbrev pub IsName : Guid → Type 0
+IsName name = IsWhole (bytes_of name)
+
+-- two numbers, and such a pair with the number of a file
+abbrev pub Halves : Type 0
+Halves = ℕ × ℕ
+
+abbrev pub Entry : Type 0
+Entry = Halves × ℕ
+
+-- what the first eight of sixteen bytes spell, and what the last eight do; and those of a name
+abbrev pub halves_in : List ℕ → Halves
+halves_in bytes = (from_le_bytes w64 (field 0 8 bytes), from_le_bytes w64 (field 8 8 bytes))
+
+abbrev pub halves_of : Guid → Halves
+halves_of name = halves_in (bytes_of name)
+
+-- some names, each with its number, where the first has this one
+abbrev pub numbered : ℕ → List Guid → List Entry
+numbered k [] = []
+numbered k (name ∷ names) = (halves_of name, k) ∷ numbered (k + 1) names
+
+-- the order of pairs, and then of numbers
+abbrev pub halves_cmp : Halves → Halves → Ordering
+halves_cmp a b = ordering_then (nat_cmp a.0 b.0) (nat_cmp a.1 b.1)
+
+abbrev pub entry_cmp : Entry → Entry → Ordering
+entry_cmp a b = ordering_then (halves_cmp a.0 b.0) (nat_cmp a.1 b.1)
 
 -- the entries are these names, each with its number, in this order
-pub record IsIndex (names : List Guid) (entries : List (Guid × ℕ)) : Type 0 where
+pub record IsIndex (names : List Guid) (entries : List Entry) : Type 0 where
   pub ordered : IsSorted entry_cmp entries
   pub all : IsPermutation (numbered 0 names) entries
+  pub whole : AllByRecursion IsName names
 
 -- the numbers are those of these files
 abbrev pub HasNumbers : Numbers → List FileMeaning → Type 0

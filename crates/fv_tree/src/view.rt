@@ -209,6 +209,13 @@ impl<'a> VolumeView<'a> {
         }
     }
 
+    /// The files in the order in which they lie.
+    pub fn files(&self) -> &[FileView<'a>]
+        ensures { self.now ≡ Volume (head_of self.now) (files_from result.now) }
+    {
+        self.files.as_slice()
+    }
+
     // The number of the first file of this name.
     pub(crate) fn number_of(&self, name: &Guid) -> Option<u32>
         ensures { result ≡ number_from 0 name.now (files_of self.now) }

@@ -73,7 +73,7 @@ fn is_at(fault: Option<Fault>, number: u8, offset: u64) -> bool {
 
 #[test]
 fn refuses_volumes(rt: HostRuntime) -> Result<(), Fail> {
-    let cases: [(&[u8], u8, u64, &[u8]); 18] = [
+    let cases: [(&[u8], u8, u64, &[u8]); 16] = [
         (vectors::HEAD_SIGNATURE, 2, 40, b"fault 2 at 40\n"),
         (vectors::HEAD_FILE_SYSTEM, 3, 16, b"fault 3 at 16\n"),
         (vectors::HEAD_REVISION, 4, 55, b"fault 4 at 55\n"),
@@ -95,8 +95,6 @@ fn refuses_volumes(rt: HostRuntime) -> Result<(), Fail> {
         (vectors::FILE_HEADER_SUM, 11, 72, b"fault 11 at 72\n"),
         (vectors::SAME_NAME_TWICE, 17, 96, b"fault 17 at 96\n"),
         (vectors::FILE_AND_BYTE_BEHIND, 8, 128, b"fault 8 at 128\n"),
-        (vectors::FILE_WITHOUT_DATA, 22, 0, b"fault 22 at 0\n"),
-        (vectors::EXT_HEADER, 22, 0, b"fault 22 at 0\n"),
     ];
     let plan = normalise_plan(true);
     for (text, number, offset, line) in cases {

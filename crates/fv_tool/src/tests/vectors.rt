@@ -122,13 +122,6 @@ pub const STRAY_LAST_BYTE: &[u8] = b"\
 ffffffffffffffffffffffffffffffffffffffffffffffffffffffffffffff00\n\
 ";
 
-pub const FILE_WITHOUT_DATA: &[u8] = b"\
-0000000000000000000000000000000078e58c8c3d8a1c4f9935896185c32dd3\n\
-80000000000000005f465648fffe04004800cef5000000020100000080000000\n\
-00000000000000000a0a0a0a0a0a0a0a0a0a0a0a0a0a0a0a47aa0100180000f8\n\
-ffffffffffffffffffffffffffffffffffffffffffffffffffffffffffffffff\n\
-";
-
 pub const FILE_AND_BYTE_BEHIND: &[u8] = b"\
 0000000000000000000000000000000078e58c8c3d8a1c4f9935896185c32dd3\n\
 80000000000000005f465648fffe04004800cef5000000020100000080000000\n\
@@ -149,16 +142,6 @@ pub const SAME_NAME_TWICE: &[u8] = b"\
 80000000000000005f465648fffe04004800cef5000000020100000080000000\n\
 00000000000000000a0a0a0a0a0a0a0a0a0a0a0a0a0a0a0a47aa0100180000f8\n\
 0a0a0a0a0a0a0a0a0a0a0a0a0a0a0a0a47aa0100180000f8ffffffffffffffff\n\
-";
-
-/// It has an extended header and no file.
-pub const EXT_HEADER: &[u8] = b"\
-0000000000000000000000000000000078e58c8c3d8a1c4f9935896185c32dd3\n\
-c0000000000000005f465648fffe0400480006f54800000201000000c0000000\n\
-00000000000000000e0e0e0e0e0e0e0e0e0e0e0e0e0e0e0e1900000003000100\n\
-aaffffffffffffffffffffffffffffffffffffffffffffffffffffffffffffff\n\
-ffffffffffffffffffffffffffffffffffffffffffffffffffffffffffffffff\n\
-ffffffffffffffffffffffffffffffffffffffffffffffffffffffffffffffff\n\
 ";
 
 /// Two pads, at 72 and 96.

@@ -5,8 +5,8 @@ use Rattle.fv_base.specs.declared.fault.Fault.{Fault}
 use Rattle.fv_head.specs.Head.{HeadFields, Front}
 use Rattle.fv_head.specs.declared.extent.Extent.{Extent}
 use Rattle.fv_tree.specs.Meaning.{head_of}
-use Rattle.fv_canon.specs.Image.{NormalisesTo}
-use Rattle.fv_canon.proofs.ImageLaws.{image_again, image_long}
+use Rattle.fv_canon.specs.Normal.{NormalisesTo}
+use Rattle.fv_canon.proofs.ImageLaws.{image_again, image_stays_long}
 use Rattle.fv_canon.proofs.InputLaws.{image_fits, not_placed, not_read, not_read_never}
 use Rattle.fv_canon.proofs.run.normalise.Goals as goal
 
@@ -33,7 +33,7 @@ returns-clause-again c =
 pub returns-clause-length : goal.returns-clause-length
 returns-clause-length c =
     IfOk-weaker c.canonical.result _ (λ (bytes : List ℕ). length bytes ≡ length c.args.input.now)
-    (λ bytes image. image_long c.args.input.now bytes (c.in_ok-view.view, c.in_ok-view.ensures.found, image)) c.canonical.ensures.image
+    (λ bytes image. image_stays_long c.args.input.now bytes (c.in_ok-view.view, c.in_ok-view.ensures.found, image)) c.canonical.ensures.image
 
 pub returns-clause-err : goal.returns-clause-err
 returns-clause-err c =

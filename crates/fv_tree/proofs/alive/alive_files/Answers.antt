@@ -1,12 +1,11 @@
-use Rattle.std.proofs.Common.{◌≡◌, ◌≤◌, ◌∙◌, ℕ, List, IsTrue, refl, sym, ap, subst, map, inr}
+use Rattle.std.proofs.Common.{◌≡◌, ◌≤◌, ◌∙◌, List, IsTrue, refl, sym, ap, subst, map, inr}
 use Rattle.std.specs.List.{AllByRecursion}
 use Rattle.std.proofs.lemmas.Result.{err_from_is_err_and}
 use Rattle.fv_base.specs.Faults.{outer_fault}
 use Rattle.fv_base.specs.declared.fault.FaultKind.TheVariants as kinds
-use Rattle.fv_base.specs.declared.guid.Guid.{Guid}
 use Rattle.fv_tree.specs.Files.{FileForm, TopAtEnd}
 use Rattle.fv_tree.specs.FirstFault.{TopElsewhere}
-use Rattle.fv_tree.specs.Names.{IsIndex, names_in}
+use Rattle.fv_tree.specs.Names.{Entry, IsIndex, names_in}
 use Rattle.fv_tree.specs.Seen.{form_of}
 use Rattle.fv_tree.specs.declared.alive.Standing.{Standing}
 use Rattle.fv_tree.proofs.IndexLaws.{alone_alive, alone_twins}
@@ -17,7 +16,7 @@ pub returns-in_err-check_top-clause-first : goal.returns-in_err-check_top-clause
 returns-in_err-check_top-clause-first c =
     let p = err_from_is_err_and c.from_residual-in_err-check_top.result c.from_residual-in_err-check_top.ensures.1 in
     let fs : List FileForm = map form_of c.args.files.items in
-    let es : List (Guid × ℕ) = c.in_ok-numbers.numbers.sorted.items in
+    let es : List Entry = c.in_ok-numbers.numbers.sorted.items in
     let index : IsIndex (names_in fs) es =
     subst (λ (l : List Standing). IsIndex (names_in (map form_of l)) es) c.as_slice.ensures.value c.in_ok-numbers.ensures.found in
     let distinct = c.are_distinct.ensures (subst IsTrue (sym c.if-not-are_distinct.false) refl) in
@@ -39,7 +38,7 @@ returns-in_err-check_top-clause-bound c =
 pub returns-clause-found : goal.returns-clause-found
 returns-clause-found c =
     let fs : List FileForm = map form_of c.args.files.items in
-    let es : List (Guid × ℕ) = c.in_ok-numbers.numbers.sorted.items in
+    let es : List Entry = c.in_ok-numbers.numbers.sorted.items in
     let index : IsIndex (names_in fs) es =
     subst (λ (l : List Standing). IsIndex (names_in (map form_of l)) es) c.as_slice.ensures.value c.in_ok-numbers.ensures.found in
     let distinct = c.are_distinct.ensures (subst IsTrue (sym c.if-not-are_distinct.false) refl) in

@@ -1,0 +1,101 @@
+-- What is written for a volume is bytes.
+use Rattle.std.proofs.Common.{◌≡◌, ◌-◌, ◌+◌, ℕ, zero, suc, Bool, true, false, List, [], ◌∷◌, ◌++◌, length, replicate, sym, subst}
+use Rattle.std.specs.Prelude.{if◌then◌else◌, ◌==◌, Option, None, Some}
+use Rattle.std.specs.List.{AllByRecursion}
+use Rattle.fv_base.specs.Flash.{erased_byte}
+use Rattle.fv_base.specs.Guids.{bytes_of}
+use Rattle.fv_base.specs.Value.{IsBytes, le_bytes, up_to_8}
+use Rattle.fv_base.specs.declared.flash.FileSystem.{FileSystem}
+use Rattle.fv_base.specs.declared.flash.Polarity.{Polarity}
+use Rattle.fv_base.proofs.FieldLemmas.{none_at, bytes_append, bytes_le_bytes}
+use Rattle.fv_base.proofs.NumberLaws.{bytes_front, bytes_back}
+use Rattle.fv_file.specs.Written.{pad_head_of}
+use Rattle.fv_head.specs.Attributes.{polarity_of}
+use Rattle.fv_head.specs.Ext.{Extension, Entries, IsReadExt, held, is_used_size, no_size}
+use Rattle.fv_head.specs.Head.{HeadFields}
+use Rattle.fv_head.specs.Spelled.{canonical_head}
+use Rattle.fv_head.specs.SpelledExt.{IfRead, canonical_end, canonical_first, payload_with, entry_bytes, entries_bytes}
+use Rattle.fv_head.specs.SpelledExt.{ext_len, ext_spelled}
+use Rattle.fv_head.proofs.SpelledLemmas.{canonical_is}
+use Rattle.fv_canon.specs.Stored.{StoredFile, size_of, stored_bytes, pad_bytes, pads, long_pad, long_pads, gap_bytes}
+use Rattle.fv_canon.specs.Stored.{files_bytes, ext_pad, used_size, volume_bytes}
+use Rattle.fv_canon.proofs.CellLaws.{Storable, bytes_stored, bytes_pad_head, bytes_erased, bytes_pad}
+use Rattle.fv_canon.proofs.SpanLaws.{Writable}
+
+bytes_either : (q : Bool) (a b : List ℕ) → IsBytes a → IsBytes b → IsBytes (if q then a else b)
+bytes_either true a b h k = h
+bytes_either false a b h k = k
+
+-- ---- gaps and files
+
+bytes_pads : (p : Polarity) (n gap : ℕ) → IsBytes (pads p n gap)
+bytes_pads p zero gap = bytes_pad p gap
+bytes_pads p (suc n) gap =
+    bytes_append (pad_bytes p long_pad) (pads p n (gap - long_pad)) (bytes_pad p long_pad) (bytes_pads p n (gap - long_pad))
+
+bytes_gap : (p : Polarity) (gap : ℕ) → IsBytes (gap_bytes p gap)
+unfolding gap_bytes
+bytes_gap p gap = bytes_either (gap == 0) [] (pads p (long_pads gap) gap) none_at (bytes_pads p (long_pads gap) gap)
+
+bytes_files : (system : FileSystem) (p : Polarity) (total e : ℕ) (fs : List StoredFile) (ss : List ℕ) → AllByRecursion (Storable system) fs
+    → IsBytes (files_bytes p total e fs ss)
+bytes_files system p total e [] ss all = bytes_erased p (total - e)
+bytes_files system p total e (f ∷ fs) [] all = bytes_erased p (total - e)
+bytes_files system p total e (f ∷ fs) (s ∷ ss) all =
+    let x : ℕ = s + size_of f in
+    let filler : List ℕ = replicate (up_to_8 x - x) (erased_byte p) in
+    let rest : List ℕ = files_bytes p total (up_to_8 x) fs ss in
+    bytes_append (gap_bytes p (s - e)) (stored_bytes p f ++ (filler ++ rest)) (bytes_gap p (s - e))
+    (bytes_append (stored_bytes p f) (filler ++ rest) (bytes_stored system p f all.0)
+    (bytes_append filler rest (bytes_erased p (up_to_8 x - x)) (bytes_files system p total (up_to_8 x) fs ss all.1)))
+
+-- ---- the extended header
+
+-- an entry that was read is bytes again, with any used size
+bytes_entry : (used : ℕ) (e : ℕ × List ℕ) (payload : List ℕ) → IsBytes payload → e.1 ≡ held e.0 payload → IsBytes (entry_bytes used e)
+bytes_entry used e payload small kept =
+    let own : IsBytes e.1 =
+    subst IsBytes (sym kept) (bytes_either (is_used_size e.0 payload) no_size payload (bytes_le_bytes 4 0) small) in
+    bytes_append (le_bytes 2 (4 + length e.1) ++ le_bytes 2 e.0) (payload_with used e)
+    (bytes_append (le_bytes 2 (4 + length e.1)) (le_bytes 2 e.0) (bytes_le_bytes 2 (4 + length e.1)) (bytes_le_bytes 2 e.0))
+    (bytes_either (is_used_size e.0 e.1) (le_bytes 4 used) e.1 (bytes_le_bytes 4 used) own)
+
+bytes_entries : (used : ℕ) (es : List (ℕ × List ℕ)) (tail b : List ℕ) → IsBytes b → Entries es tail b
+    → IsBytes (entries_bytes used es) × IsBytes tail
+bytes_entries used [] tail b small is = (none_at, subst IsBytes is.0 small)
+bytes_entries used (e ∷ es) tail b small (head, payload, rest, text, four, size, kind, kept, more) =
+    let behind : IsBytes (payload ++ rest) = bytes_back head (payload ++ rest) (subst IsBytes text small) in
+    let later = bytes_entries used es tail rest (bytes_back payload rest behind) more in
+    let here = bytes_entry used e payload (bytes_front payload rest behind) kept in
+    (bytes_append (entry_bytes used e) (entries_bytes used es) here later.0, later.1)
+
+bytes_ext : (x : Extension) (used : ℕ) → IsReadExt x → IsBytes (ext_spelled x used)
+unfolding ext_spelled
+bytes_ext x used (b, small, is) =
+    let name : List ℕ = bytes_of x.name in
+    let parts : IsBytes (name ++ (is.head ++ is.rest)) = subst IsBytes is.text small in
+    let rest : IsBytes is.rest = bytes_back is.head is.rest (bytes_back name (is.head ++ is.rest) parts) in
+    let entries = bytes_entries used x.entries x.tail is.rest rest is.entries in
+    bytes_append (name ++ le_bytes 4 (ext_len x) ++ entries_bytes used x.entries) x.tail
+    (bytes_append (name ++ le_bytes 4 (ext_len x)) (entries_bytes used x.entries)
+    (bytes_append name (le_bytes 4 (ext_len x)) (bytes_front name (is.head ++ is.rest) parts) (bytes_le_bytes 4 (ext_len x)))
+    entries.0) entries.1
+
+bytes_ext_pad : (p : Polarity) (x : Option Extension) (used : ℕ) → IfRead x → IsBytes (ext_pad p x used)
+unfolding ext_pad
+bytes_ext_pad p None used read = none_at
+bytes_ext_pad p (Some x) used read =
+    bytes_append (pad_head_of (24 + ext_len x) p) (ext_spelled x used) (bytes_pad_head (24 + ext_len x) p) (bytes_ext x used read)
+
+-- ---- the volume
+
+pub bytes_volume : (h : HeadFields) (fs : List StoredFile) (ss : List ℕ) → Writable h fs ss → IsBytes (volume_bytes h fs ss)
+bytes_volume h fs ss k =
+    let p : Polarity = polarity_of h.attributes in
+    let first : ℕ = canonical_first h h.ext in
+    let pad : List ℕ = ext_pad p h.ext (used_size first fs ss) in
+    let fill : List ℕ = replicate (first - canonical_end h h.ext) (erased_byte p) in
+    let files : List ℕ = files_bytes p h.length first fs ss in
+    bytes_append (canonical_head h) (pad ++ (fill ++ files)) (canonical_is h k.read).head.bytes
+    (bytes_append pad (fill ++ files) (bytes_ext_pad p h.ext (used_size first fs ss) k.ext)
+    (bytes_append fill files (bytes_erased p (first - canonical_end h h.ext)) (bytes_files h.file_system p h.length first fs ss k.files)))

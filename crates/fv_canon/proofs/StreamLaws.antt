@@ -1,0 +1,294 @@
+-- A stream that is written as the canonical image has it is read again as the same sections.
+use Rattle.std.proofs.Common.{◌≡◌, ◌≢◌, ◌≤◌, ◌<◌, ◌+◌, ◌-◌, ◌%◌, ℕ, Bool, true, false, List, [], ◌∷◌, ◌++◌, length, drop, replicate, refl, sym, ap, ◌∙◌, subst, arith, length-append}
+use Rattle.std.proofs.lemmas.List.{take_at, drop_at, length-take-le, length-replicate}
+use Rattle.fv_base.specs.Value.{IsBytes, le, le_at, le_bytes, field}
+use Rattle.fv_base.proofs.FieldLemmas.{none_at, bytes_cons, bytes_take, bytes_drop, bytes_append, bytes_le_bytes}
+use Rattle.fv_base.proofs.NumberLaws.{bytes_replicate}
+use Rattle.fv_section.specs.Frames.{FrameForm, head_len, size, IsHeader, Begins, From, Splits, up_to_4}
+use Rattle.fv_section.specs.Written.{FitsForm, section_head_of, stream_of, InPlace}
+use Rattle.fv_section.proofs.FrameLemmas.{length_begun}
+use Rattle.fv_section.proofs.WrittenLemmas.{streams_are_read}
+use Rattle.fv_tree.specs.Meaning.{Meaning, SectionMeanings, NoSections, MoreSections, SectionMeaning, Section, Leaf, Group, Nested, sections_list, sections_end, section_len, length_of}
+use Rattle.fv_tree.specs.Denotes.{Sections, Streams, Volumes, Pairs, StreamOver, SectionOver, Opens}
+use Rattle.fv_canon.specs.Image.{IsImage, AreFrames, IsFrame}
+
+-- ---- bytes in parts
+pub bytes_front : (a b : List ℕ) → IsBytes (a ++ b) → IsBytes a
+bytes_front a b h = subst IsBytes (take_at a b (length a) refl) (bytes_take (length a) (a ++ b) h)
+
+pub bytes_back : (a b : List ℕ) → IsBytes (a ++ b) → IsBytes b
+bytes_back a b h = subst IsBytes (drop_at a b (length a) refl) (bytes_drop (length a) (a ++ b) h)
+
+pub le_below_3 : (b : List ℕ) → IsBytes b → length b ≡ 3 → le b < 16777216
+le_below_3 [] h e = absurd (omega arith)
+le_below_3 (x ∷ []) h e = absurd (omega arith)
+le_below_3 (x ∷ y ∷ []) h e = absurd (omega arith)
+le_below_3 (x ∷ y ∷ z ∷ []) h e = let a : x < 256 = h 0 in let b : y < 256 = h 1 in let c : z < 256 = h 2 in omega arith
+le_below_3 (x ∷ y ∷ z ∷ w ∷ r) h e = absurd (omega arith)
+
+le_below_4 : (b : List ℕ) → IsBytes b → length b ≡ 4 → le b < 4294967296
+le_below_4 [] h e = absurd (omega arith)
+le_below_4 (x ∷ []) h e = absurd (omega arith)
+le_below_4 (x ∷ y ∷ []) h e = absurd (omega arith)
+le_below_4 (x ∷ y ∷ z ∷ []) h e = absurd (omega arith)
+le_below_4 (x ∷ y ∷ z ∷ w ∷ []) h e = let a : x < 256 = h 0 in let b : y < 256 = h 1 in let c : z < 256 = h 2 in let d : w < 256 = h 3 in omega arith
+le_below_4 (x ∷ y ∷ z ∷ w ∷ v ∷ r) h e = absurd (omega arith)
+
+-- ---- a body that was read fits the form of its header
+fits_form : (extended : Bool) (kind n : ℕ) (h : List ℕ) → IsBytes h → IsHeader extended kind n h → FitsForm extended n
+fits_form false kind n h small is =
+    let long : length (field 0 3 h) ≡ 3 = length-take-le 3 h (omega (arith, is.whole)) in
+    let most : le_at 0 3 h < 16777216 = le_below_3 (field 0 3 h) (bytes_take 3 h small) long in
+    below (le_at 0 3 h) n is.says.0 is.says.1 most
+  where
+    below : (v n : ℕ) → v ≡ 4 + n → 4 + n ≢ 0xffffff → v < 16777216 → 4 + n ≤ 0xfffffe
+    below v n e d l = omega (arith, e, d, l)
+fits_form true kind n h small is =
+    let long : length (field 4 4 h) ≡ 4 = length-take-le 4 (drop 4 h) (room (length (drop 4 h)) (long_drop h is.whole)) in
+    let most : le_at 4 4 h < 4294967296 = le_below_4 (field 4 4 h) (bytes_take 4 (drop 4 h) (bytes_drop 4 h small)) long in
+    below (le_at 4 4 h) n is.says.1 most
+  where
+    below : (v n : ℕ) → v ≡ 8 + n → v < 4294967296 → 8 + n ≤ 0xffffffff
+    below v n e l = omega (arith, e, l)
+
+    room : (k : ℕ) → k ≡ 4 → 4 ≤ k
+    room k e = omega arith
+
+    long_drop : (h : List ℕ) → length h ≡ 8 → length (drop 4 h) ≡ 4
+    long_drop (a ∷ b ∷ c ∷ d ∷ r) e = omega arith
+    long_drop [] e = absurd (omega arith)
+    long_drop (a ∷ []) e = absurd (omega arith)
+    long_drop (a ∷ b ∷ []) e = absurd (omega arith)
+    long_drop (a ∷ b ∷ c ∷ []) e = absurd (omega arith)
+
+pub begun_fits : (f : FrameForm) (b rest : List ℕ) → IsBytes b → Begins f b rest → FitsForm f.extended (length f.body)
+begun_fits f b rest small is = fits_form f.extended f.kind (length f.body) is.head (bytes_front is.head (f.body ++ rest) (subst IsBytes is.text small)) is.is_header
+
+pub begun_body : (f : FrameForm) (b rest : List ℕ) → IsBytes b → Begins f b rest → IsBytes f.body × IsBytes rest
+begun_body f b rest small is =
+    let back = bytes_back is.head (f.body ++ rest) (subst IsBytes is.text small) in
+    (bytes_front f.body rest back, bytes_back f.body rest back)
+
+-- the type of a section that was read is a byte, and then a header of this type is bytes
+begun_kind : (f : FrameForm) (b rest : List ℕ) → IsBytes b → Begins f b rest → f.kind < 256
+begun_kind f b rest small is =
+    subst (λ (n : ℕ). n < 256) is.is_header.kind_is (bytes_front is.head (f.body ++ rest) (subst IsBytes is.text small) 3)
+
+bytes_section_head : (kind : ℕ) (extended : Bool) (n : ℕ) → kind < 256 → IsBytes (section_head_of kind extended n)
+bytes_section_head kind false n l = bytes_append (le_bytes 3 (4 + n)) (kind ∷ []) (bytes_le_bytes 3 (4 + n)) (bytes_cons kind [] l none_at)
+bytes_section_head kind true n l =
+    bytes_append (le_bytes 3 0xffffff) (kind ∷ le_bytes 4 (8 + n)) (bytes_le_bytes 3 0xffffff)
+    (bytes_cons kind (le_bytes 4 (8 + n)) l (bytes_le_bytes 4 (8 + n)))
+
+-- a header, a body and what stands behind them
+bytes_begun : (g : FrameForm) (kind : ℕ) (rest : List ℕ) → g.kind ≡ kind → kind < 256 → IsBytes g.body → IsBytes rest
+    → IsBytes (section_head_of g.kind g.extended (length g.body) ++ (g.body ++ rest))
+bytes_begun g kind rest same l body behind =
+    bytes_append (section_head_of g.kind g.extended (length g.body)) (g.body ++ rest)
+    (bytes_section_head g.kind g.extended (length g.body) (subst (λ (n : ℕ). n < 256) (sym same) l)) (bytes_append g.body rest body behind)
+
+-- ---- what is to be shown of what lies inside
+
+-- a frame that was read as a section, and the frame that is written for it
+pub record FrameAgain (is_section : Sections) (s : SectionMeaning) (f g : FrameForm) : Type 0 where
+  pub is : is_section g s
+  pub bytes : IsBytes g.body
+  pub kind : g.kind ≡ f.kind
+  pub extended : g.extended ≡ f.extended
+  pub long : length g.body ≡ length f.body
+  pub len : size f ≡ section_len s
+
+abbrev pub SectionsAgain : Sections → Type 0
+SectionsAgain is_section = (s : SectionMeaning) (f g : FrameForm) → IsBytes f.body → is_section f s → IsFrame s g → FrameAgain is_section s f g
+
+pub record StreamAgain (is_stream : Streams) (ss : SectionMeanings) (tail : ℕ) (b o : List ℕ) : Type 0 where
+  pub is : is_stream (sections_list ss) tail o
+  pub bytes : IsBytes o
+  pub long : length o ≡ length b
+  pub len : length b ≡ sections_end 0 ss + tail
+
+abbrev pub StreamsAgain : Streams → Type 0
+StreamsAgain is_stream = (ss : SectionMeanings) (tail : ℕ) (b o : List ℕ) → IsBytes b → is_stream (sections_list ss) tail b
+    → ((frames : List FrameForm) × AreFrames 0 ss frames × (o ≡ stream_of frames tail)) → StreamAgain is_stream ss tail b o
+
+pub record VolumeAgain (is_volume : Volumes) (m : Meaning) (b o : List ℕ) : Type 0 where
+  pub is : is_volume o m
+  pub bytes : IsBytes o
+  pub long : length o ≡ length b
+  pub len : length b ≡ length_of m
+  pub opens : Opens o
+
+abbrev pub VolumesAgain : Volumes → Type 0
+VolumesAgain is_volume = (m : Meaning) (b o : List ℕ) → IsBytes b → is_volume b m → IsImage m o → VolumeAgain is_volume m b o
+
+-- ---- frame by frame
+
+record FramesAgain (is_section : Sections) (at end : ℕ) (ss : SectionMeanings) (gs : List FrameForm) (tail : ℕ) (b : List ℕ) : Type 0 where
+  pub placed : InPlace at gs tail
+  pub pairs : Pairs is_section gs (sections_list ss)
+  pub bytes : IsBytes (stream_of gs tail)
+  pub long : length (stream_of gs tail) ≡ length b
+  pub len : at + length b ≡ sections_end end ss + tail
+
+head_long : (kind : ℕ) (extended : Bool) (n : ℕ) → length (section_head_of kind extended n) ≡ head_len extended
+head_long kind false n = refl
+head_long kind true n = refl
+
+none_again : (is_section : Sections) (at end tail : ℕ) (b : List ℕ) → at % 4 ≡ 0 → up_to_4 end ≡ at → at ≡ end → b ≡ [] → tail ≡ 0 → FramesAgain is_section at end NoSections [] tail b
+none_again is_section at end tail b m e z none count = record {
+  placed = count;
+  pairs = tt;
+  bytes = none_at;
+  long = sym (ap length none);
+  len = joined at end (length b) tail z (ap length none) count;
+}
+  where
+    joined : (a e n t : ℕ) → a ≡ e → n ≡ 0 → t ≡ 0 → a + n ≡ e + t
+    joined a e n t p q r = omega arith
+
+last_again : (is_section : Sections) → SectionsAgain is_section → (at end : ℕ) (s : SectionMeaning) (f g : FrameForm) (tail : ℕ) (b : List ℕ) → IsBytes b → up_to_4 end ≡ at
+    → From at (f ∷ []) tail b → is_section f s → (g.offset ≡ at) → IsFrame s g → FramesAgain is_section at end (MoreSections s NoSections) (g ∷ []) tail b
+last_again is_section again at end s f g tail b small e (rest, begun, offset, count, most) p there q =
+    let a = again s f g (begun_body f b rest small begun).0 p q in
+    let fits = begun_fits f b rest small begun in
+    let sizes : size g ≡ size f = same_size f.extended g.extended (length f.body) (length g.body) a.extended a.long in
+    record {
+      placed = (there, subst (λ (x : Bool). FitsForm x (length g.body)) (sym a.extended) (subst (FitsForm f.extended) (sym a.long) fits), subst (λ (n : ℕ). at + n + tail ≤ up_to_4 (at + n)) (sym sizes) most);
+      pairs = (a.is, tt);
+      bytes =
+          bytes_begun g f.kind (replicate tail 0) a.kind (begun_kind f b rest small begun) a.bytes (bytes_replicate tail 0 (omega arith));
+      long = whole (length (section_head_of g.kind g.extended (length g.body))) (length g.body) (length (replicate tail 0)) tail (length (g.body ++ replicate tail 0)) (length (stream_of (g ∷ []) tail)) (length b) (length rest) (head_len g.extended) (size f)
+          (head_long g.kind g.extended (length g.body)) (length-replicate tail 0) (length-append g.body (replicate tail 0)) (length-append (section_head_of g.kind g.extended (length g.body)) (g.body ++ replicate tail 0)) sizes (length_begun f b rest begun) count;
+      len = ended at end (up_to_4 end) (length b) (size f) (section_len s) (length rest) tail (length_begun f b rest begun) count e a.len;
+    }
+  where
+    same_size : (x y : Bool) (n k : ℕ) → y ≡ x → k ≡ n → head_len y + k ≡ head_len x + n
+    same_size x y n k p q = rw (p, q)
+
+    whole : (h k r t kr all b rest hl sf : ℕ) → h ≡ hl → r ≡ t → kr ≡ k + r → all ≡ h + kr → hl + k ≡ sf → b ≡ sf + rest → rest ≡ t → all ≡ b
+    whole h k r t kr all b rest hl sf p1 p2 p3 p4 p5 p6 p7 = omega arith
+
+    ended : (at end up n sf sl rest tail : ℕ) → n ≡ sf + rest → rest ≡ tail → up ≡ at → sf ≡ sl → at + n ≡ (up + sl) + tail
+    ended at end up n sf sl rest tail p q r l = omega arith
+
+more_again : (is_section : Sections) → SectionsAgain is_section → (at end : ℕ) (s t : SectionMeaning) (ss : SectionMeanings) (f h : FrameForm) (fs : List FrameForm) (g k : FrameForm) (gs : List FrameForm) (tail : ℕ) (b filler rest : List ℕ)
+    → IsBytes b → at % 4 ≡ 0 → up_to_4 end ≡ at → Begins f b (filler ++ rest) → f.offset ≡ at → at + size f + length filler ≡ up_to_4 (at + size f)
+    → is_section f s → g.offset ≡ at → IsFrame s g
+    → (size g ≡ size f → FramesAgain is_section (up_to_4 (at + size g)) (up_to_4 end + section_len s) (MoreSections t ss) (k ∷ gs) tail rest)
+    → FramesAgain is_section at end (MoreSections s (MoreSections t ss)) (g ∷ k ∷ gs) tail b
+more_again is_section again at end s t ss f h fs g k gs tail b filler rest small m e begun offset count p there q behind =
+    let a = again s f g (begun_body f b (filler ++ rest) small begun).0 p q in
+    let fits = begun_fits f b (filler ++ rest) small begun in
+    let sizes : size g ≡ size f = same_size f.extended g.extended (length f.body) (length g.body) a.extended a.long in
+    let r = behind sizes in
+    let head : List ℕ = section_head_of g.kind g.extended (length g.body) in
+    let fill : List ℕ = replicate (up_to_4 (size g) - size g) 0 in
+    let others : List ℕ = stream_of (k ∷ gs) tail in
+    record {
+      placed = (there, subst (λ (x : Bool). FitsForm x (length g.body)) (sym a.extended) (subst (FitsForm f.extended) (sym a.long) fits), r.placed);
+      pairs = (a.is, r.pairs);
+      bytes = bytes_begun g f.kind (fill ++ others) a.kind (begun_kind f b (filler ++ rest) small begun) a.bytes
+          (bytes_append fill others (bytes_replicate (up_to_4 (size g) - size g) 0 (omega arith)) r.bytes);
+      long = whole at (length head) (length g.body) (length fill) (length others) (length (fill ++ others)) (length (g.body ++ (fill ++ others))) (length (head ++ (g.body ++ (fill ++ others)))) (length b) (length (filler ++ rest)) (length filler) (length rest) (head_len g.extended) (size f) (size g)
+          m (head_long g.kind g.extended (length g.body)) (length-replicate (up_to_4 (size g) - size g) 0) (length-append fill others) (length-append g.body (fill ++ others)) (length-append head (g.body ++ (fill ++ others))) refl sizes
+          (length_begun f b (filler ++ rest) begun) (length-append filler rest) count r.long;
+      len = ended at end (up_to_4 (at + size g)) (length b) (length (filler ++ rest)) (length filler) (length rest) (size f) (size g) (sections_end (up_to_4 end + section_len s) (MoreSections t ss) + tail)
+          sizes refl (length_begun f b (filler ++ rest) begun) (length-append filler rest) count r.len;
+    }
+  where
+    same_size : (x y : Bool) (n k : ℕ) → y ≡ x → k ≡ n → head_len y + k ≡ head_len x + n
+    same_size x y n k p q = rw (p, q)
+
+    whole : (at h k z o zo kzo all b fr fi rest hl sf sg : ℕ) → at % 4 ≡ 0 → h ≡ hl → z ≡ up_to_4 sg - sg → zo ≡ z + o → kzo ≡ k + zo → all ≡ h + kzo → sg ≡ hl + k → sg ≡ sf → b ≡ sf + fr → fr ≡ fi + rest
+        → at + sf + fi ≡ up_to_4 (at + sf) → o ≡ rest → all ≡ b
+    whole at h k z o zo kzo all b fr fi rest hl sf sg p0 p1 p2 p3 p4 p5 p6 p7 p8 p9 p10 p11 = omega arith
+
+    ended : (at end next b fr fi rest sf sg e : ℕ) → sg ≡ sf → next ≡ up_to_4 (at + sg) → b ≡ sf + fr → fr ≡ fi + rest → at + sf + fi ≡ up_to_4 (at + sf) → next + rest ≡ e → at + b ≡ e
+    ended at end next b fr fi rest sf sg e p0 p1 p2 p3 p4 p5 = omega arith
+
+up_is : (n : ℕ) → up_to_4 n % 4 ≡ 0
+up_is n = omega arith
+
+next_end : (at end sf : ℕ) (s : SectionMeaning) (sg : ℕ) → up_to_4 end ≡ at → sf ≡ section_len s → sg ≡ sf → up_to_4 (up_to_4 end + section_len s) ≡ up_to_4 (at + sg)
+next_end at end sf s sg e l k = rw (e, k, l)
+
+no_cons : {A : Type 0} (x : A) (xs : List A) → x ∷ xs ≡ [] → ⊥
+no_cons x xs e = cc
+
+frames_again : (is_section : Sections) → SectionsAgain is_section → (at end : ℕ) (ss : SectionMeanings) (fs gs : List FrameForm) (tail : ℕ) (b : List ℕ) → IsBytes b → at % 4 ≡ 0 → up_to_4 end ≡ at
+    → (fs ≡ [] → at ≡ end) → From at fs tail b → Pairs is_section fs (sections_list ss) → AreFrames at ss gs → FramesAgain is_section at end ss gs tail b
+frames_again is_section again at end NoSections [] [] tail b small m e z is p q = none_again is_section at end tail b m e (z refl) is.0 is.1
+frames_again is_section again at end NoSections [] (g ∷ gs) tail b small m e z is p q = absurd (no_cons g gs q)
+frames_again is_section again at end NoSections (f ∷ fs) gs tail b small m e z is p q = absurd p
+frames_again is_section again at end (MoreSections s ss) [] gs tail b small m e z is p q = absurd p
+frames_again is_section again at end (MoreSections s ss) (f ∷ fs) [] tail b small m e z is p q = absurd q
+frames_again is_section again at end (MoreSections s NoSections) (f ∷ []) (g ∷ []) tail b small m e z is p q = last_again is_section again at end s f g tail b small e is p.0 q.0 q.1
+frames_again is_section again at end (MoreSections s NoSections) (f ∷ []) (g ∷ k ∷ gs) tail b small m e z is p q = absurd (no_cons k gs q.2)
+frames_again is_section again at end (MoreSections s NoSections) (f ∷ h ∷ fs) (g ∷ gs) tail b small m e z is p q = absurd p.1
+frames_again is_section again at end (MoreSections s (MoreSections t ss)) (f ∷ []) (g ∷ gs) tail b small m e z is p q = absurd p.1
+frames_again is_section again at end (MoreSections s (MoreSections t ss)) (f ∷ h ∷ fs) (g ∷ []) tail b small m e z is p q = absurd q.2
+frames_again is_section again at end (MoreSections s (MoreSections t ss)) (f ∷ h ∷ fs) (g ∷ k ∷ gs) tail b small m e z (filler, rest, begun, offset, count, more) p q =
+    let parts = begun_body f b (filler ++ rest) small begun in
+    let a = again s f g parts.0 p.0 q.1 in
+    more_again is_section again at end s t ss f h fs g k gs tail b filler rest small m e begun offset count p.0 q.0 q.1
+    (λ same. frames_again is_section again (up_to_4 (at + size g)) (up_to_4 end + section_len s) (MoreSections t ss) (h ∷ fs) (k ∷ gs) tail rest (bytes_back filler rest parts.1) (up_is (at + size g))
+    (next_end at end (size f) s (size g) e a.len same) (λ none. absurd (no_cons h fs none)) (subst (λ (n : ℕ). From (up_to_4 (at + n)) (h ∷ fs) tail rest) (sym same) more) p.1 q.2)
+
+-- a stream is read again
+pub stream_again : (is_section : Sections) → SectionsAgain is_section → StreamsAgain (StreamOver is_section)
+stream_again is_section again ss tail b o small (fs, split, pairs) (gs, frames, text) =
+    let r = frames_again is_section again 0 0 ss fs gs tail b small refl refl (λ none. refl) split pairs frames in
+    record {
+      is = (gs, subst (Splits gs tail) (sym text) (streams_are_read 0 gs tail refl r.placed), r.pairs);
+      bytes = subst IsBytes (sym text) r.bytes;
+      long = ap length text ∙ r.long;
+      len = zero_off (length b) (sections_end 0 ss + tail) r.len;
+    }
+  where
+    zero_off : (n k : ℕ) → 0 + n ≡ k → n ≡ k
+    zero_off n k e = omega arith
+
+-- a section is read again
+pub section_again : (is_stream : Streams) (is_volume : Volumes) → StreamsAgain is_stream → VolumesAgain is_volume → SectionsAgain (SectionOver is_stream is_volume)
+section_again is_stream is_volume streams volumes (Section kind extended (Leaf body)) f g small (k, e, (not_group, not_volume, same)) (gk, ge, image) =
+    let bodies : g.body ≡ f.body = image ∙ same in
+    let kinds : g.kind ≡ f.kind = gk ∙ k in
+    record {
+      is = (sym gk, sym ge, (λ z. not_group (sym kinds ∙ z), λ z opens. not_volume (sym kinds ∙ z) (subst Opens bodies opens), sym image));
+      bytes = subst IsBytes (sym bodies) small;
+      kind = kinds;
+      extended = ge ∙ e;
+      long = ap length bodies;
+      len = sized f extended (length body) e (ap length (sym same));
+    }
+  where
+    sized : (f : FrameForm) (x : Bool) (n : ℕ) → x ≡ f.extended → length f.body ≡ n → size f ≡ head_len x + n
+    sized f x n p q = rw (p, q)
+section_again is_stream is_volume streams volumes (Section kind extended (Group sections tail)) f g small (k, e, (is_group, is)) (gk, ge, image) =
+    let a = streams sections tail f.body g.body small is image in
+    let kinds : g.kind ≡ f.kind = gk ∙ k in
+    record {
+      is = (sym gk, sym ge, (kinds ∙ is_group, a.is));
+      bytes = a.bytes;
+      kind = kinds;
+      extended = ge ∙ e;
+      long = a.long;
+      len = sized f extended (sections_end 0 sections + tail) e a.len;
+    }
+  where
+    sized : (f : FrameForm) (x : Bool) (n : ℕ) → x ≡ f.extended → length f.body ≡ n → size f ≡ head_len x + n
+    sized f x n p q = rw (p, q)
+section_again is_stream is_volume streams volumes (Section kind extended (Nested volume)) f g small (k, e, (is_there, opens, is)) (gk, ge, image) =
+    let a = volumes volume f.body g.body small is image in
+    let kinds : g.kind ≡ f.kind = gk ∙ k in
+    record {
+      is = (sym gk, sym ge, (kinds ∙ is_there, a.opens, a.is));
+      bytes = a.bytes;
+      kind = kinds;
+      extended = ge ∙ e;
+      long = a.long;
+      len = sized f extended (length_of volume) e a.len;
+    }
+  where
+    sized : (f : FrameForm) (x : Bool) (n : ℕ) → x ≡ f.extended → length f.body ≡ n → size f ≡ head_len x + n
+    sized f x n p q = rw (p, q)

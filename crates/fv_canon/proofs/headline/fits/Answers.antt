@@ -1,0 +1,11 @@
+use Rattle.fv_canon.proofs.FitLaws.{laid_fits, fits_laid, unfit_none}
+use Rattle.fv_canon.proofs.headline.fits.Goals as goal
+
+pub returns-clause-laid : goal.returns-clause-laid
+returns-clause-laid c = laid_fits
+
+pub returns-clause-lays : goal.returns-clause-lays
+returns-clause-lays c = fits_laid
+
+pub returns-clause-unfit : goal.returns-clause-unfit
+returns-clause-unfit c = unfit_none

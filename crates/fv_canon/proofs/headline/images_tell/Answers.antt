@@ -1,0 +1,5 @@
+use Rattle.fv_canon.proofs.NormalLaws.{images_tell}
+use Rattle.fv_canon.proofs.headline.images_tell.Goals as goal
+
+pub returns : goal.returns
+returns c = images_tell

@@ -1,0 +1,9 @@
+use Rattle.fv_canon.proofs.NormalLaws.{one_meaning_of}
+use Rattle.fv_canon.proofs.OneLaws.{image_one}
+use Rattle.fv_canon.proofs.headline.one_image.Goals as goal
+
+pub returns-clause-image : goal.returns-clause-image
+returns-clause-image c = image_one
+
+pub returns-clause-meaning : goal.returns-clause-meaning
+returns-clause-meaning c = one_meaning_of

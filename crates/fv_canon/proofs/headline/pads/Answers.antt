@@ -1,0 +1,5 @@
+use Rattle.fv_canon.proofs.TileLaws.{pads_rule}
+use Rattle.fv_canon.proofs.headline.pads.Goals as goal
+
+pub returns : goal.returns
+returns c = pads_rule

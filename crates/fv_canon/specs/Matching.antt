@@ -1,0 +1,17 @@
+-- Bytes that are compared with others, which come one part after another.
+use Rattle.std.specs.Prelude.{◌≡◌, ℕ, List, ◌++◌, Bool, true, false}
+
+-- no front of the first are these bytes
+abbrev pub Differs : List ℕ → List ℕ → Type 0
+Differs s bytes = (more : List ℕ) → s ≡ bytes ++ more → ⊥
+
+-- from bytes that were the same so far, the bytes that come are taken off the front; or no front is they, and then nothing more is
+-- compared
+abbrev pub MatchLatched : List ℕ → Bool → List ℕ → List ℕ → Bool → Type 0
+MatchLatched s true bytes t true = s ≡ bytes ++ t
+MatchLatched s true bytes t false = Differs s bytes
+MatchLatched s false bytes t true = ⊥
+MatchLatched s false bytes t false = Unit {0}
+
+abbrev pub MatchTakes : {S : Type 0} (rest : S → List ℕ) (same : S → Bool) → S → List ℕ → S → Type 0
+MatchTakes rest same s bytes t = MatchLatched (rest s) (same s) bytes (rest t) (same t)

@@ -1,0 +1,131 @@
+-- A volume whose files' data are known, as the canonical image has it (PI specification, volume 3, sections 3.2.1 to 3.2.3).
+use Rattle.std.specs.Prelude.{◌≡◌, ◌≤◌, ◌<◌, ◌%◌, ℕ, ◌+◌, ◌-◌, ◌/◌, ◌==◌, zero, suc, if◌then◌else◌, List, [], ◌∷◌, ◌++◌, length, replicate, sum, Option, None, Some}
+use Rattle.std.specs.Str.{bytes_eq}
+use Rattle.fv_base.specs.Alignment.{alignment_of}
+use Rattle.fv_base.specs.Flash.{erased_byte}
+use Rattle.fv_base.specs.Guids.{bytes_of}
+use Rattle.fv_base.specs.Value.{up_to_8}
+use Rattle.fv_base.specs.declared.flash.Polarity.{Polarity}
+use Rattle.fv_base.specs.declared.guid.Guid.{Guid}
+use Rattle.fv_file.specs.Attributes.{is_summed}
+use Rattle.fv_file.specs.Files.{header_len_of}
+use Rattle.fv_file.specs.Written.{needs_large, complement, no_sum, state_byte, file_head_of, pad_head_of}
+use Rattle.fv_head.specs.Attributes.{polarity_of}
+use Rattle.fv_head.specs.Ext.{Extension}
+use Rattle.fv_head.specs.Head.{HeadFields, header_len_of as head_len_of}
+use Rattle.fv_head.specs.Spelled.{canonical_head}
+use Rattle.fv_head.specs.SpelledExt.{canonical_end, canonical_first, ext_len, ext_spelled}
+use Rattle.fv_tree.specs.Files.{top_name}
+use Rattle.fv_canon.specs.declared.place.Part.{Part}
+use Rattle.fv_canon.specs.Spans.{Span}
+
+-- a file, with its data as they are written
+pub record StoredFile : Type 0 where
+  pub name : Guid
+  pub kind : ℕ
+  pub attributes : ℕ
+  pub payload : List ℕ
+
+-- the bytes of the header, which is large where with a short one the size would pass FFFFFF, and those of the whole file
+abbrev pub head_len_for : ℕ → ℕ
+head_len_for data_len = header_len_of (needs_large data_len)
+
+abbrev pub size_for : ℕ → ℕ
+size_for data_len = head_len_for data_len + data_len
+
+abbrev pub size_of : StoredFile → ℕ
+size_of f = size_for (length f.payload)
+
+-- with the checksum attribute what makes the data's sum a multiple of 256, else AA
+abbrev pub file_sum_for : ℕ → List ℕ → ℕ
+file_sum_for attributes payload = if is_summed attributes then complement (sum payload) else no_sum
+
+-- header and data
+unfoldable pub stored_bytes : Polarity → StoredFile → List ℕ
+stored_bytes polarity f =
+    file_head_of f.name f.kind (record { 0 = f.attributes }) (length f.payload) (file_sum_for f.attributes f.payload) polarity ++ f.payload
+
+-- a file with the checksum attribute adds its State alone, whatever its data are; another adds AA, State and its data
+abbrev pub file_adds : Polarity → StoredFile → ℕ
+file_adds p f = if is_summed f.attributes then state_byte p else (no_sum + state_byte p + sum f.payload)
+
+-- a pad: its header, and erased bytes
+unfoldable pub pad_bytes : Polarity → ℕ → List ℕ
+pad_bytes polarity size = pad_head_of size polarity ++ replicate (size - 24) (erased_byte polarity)
+
+-- the greatest pad of a gap that more pads follow
+abbrev pub long_pad : ℕ
+long_pad = 0xffff00
+
+-- so many of the greatest pads, and one pad of the rest
+abbrev pub pads : Polarity → ℕ → ℕ → List ℕ
+pads polarity zero gap = pad_bytes polarity gap
+pads polarity (suc n) gap = pad_bytes polarity long_pad ++ pads polarity n (gap - long_pad)
+
+-- how many of them a gap begins with: the least number that leaves at most FFFFF8 bytes
+abbrev pub long_pads : ℕ → ℕ
+long_pads gap = (gap - 249) / long_pad
+
+-- a gap between an edge and the file behind it: nothing where it is empty, else pads
+unfoldable pub gap_bytes : Polarity → ℕ → List ℕ
+gap_bytes polarity gap = if gap == 0 then [] else pads polarity (long_pads gap) gap
+
+-- the pad behind the head that holds the extended header, if there is one, with this used size
+unfoldable pub ext_pad : Polarity → Option Extension → ℕ → List ℕ
+ext_pad polarity None used = []
+ext_pad polarity (Some x) used = pad_head_of (24 + ext_len x) polarity ++ ext_spelled x used
+
+-- the offset after the last file's last byte, or the first edge where there is no file
+abbrev pub used_size : ℕ → List StoredFile → List ℕ → ℕ
+used_size end [] starts = end
+used_size end (f ∷ fs) [] = end
+used_size end (f ∷ fs) (s ∷ ss) = used_size (s + size_of f) fs ss
+
+-- where the files stand, from the edge e on: the pads of each gap, and each file
+abbrev pub file_spans : Polarity → ℕ → List StoredFile → List ℕ → List Span
+file_spans polarity e [] starts = []
+file_spans polarity e (f ∷ fs) [] = []
+file_spans polarity e (f ∷ fs) (s ∷ ss) =
+    record { at = e; bytes = gap_bytes polarity (s - e) } ∷ record { at = s; bytes = stored_bytes polarity f }
+    ∷ file_spans polarity (up_to_8 (s + size_of f)) fs ss
+
+-- where everything stands: the head, the extended header's pad, the files
+abbrev pub volume_spans : HeadFields → List StoredFile → List ℕ → List Span
+volume_spans h files starts =
+    record { at = 0; bytes = canonical_head h }
+    ∷ record { at = head_len_of h; bytes = ext_pad (polarity_of h.attributes) h.ext (used_size (canonical_first h h.ext) files starts) }
+    ∷ file_spans (polarity_of h.attributes) (canonical_first h h.ext) files starts
+
+-- what the layout is told of a file
+abbrev pub stored_part : StoredFile → Part
+stored_part f = record {
+  header = head_len_for (length f.payload);
+  size = size_of f;
+  alignment = alignment_of f.attributes;
+  top = bytes_eq (bytes_of f.name) top_name;
+}
+
+-- ---- the same, part by part, as a walk writes it
+
+-- from the edge e on: the pads of a gap, a file, erased bytes to the next edge, and so on to the end
+abbrev pub files_bytes : Polarity → ℕ → ℕ → List StoredFile → List ℕ → List ℕ
+files_bytes polarity total e [] starts = replicate (total - e) (erased_byte polarity)
+files_bytes polarity total e (f ∷ fs) [] = replicate (total - e) (erased_byte polarity)
+files_bytes polarity total e (f ∷ fs) (s ∷ ss) =
+    gap_bytes polarity (s - e)
+    ++ (stored_bytes polarity f
+    ++ (replicate (up_to_8 (s + size_of f) - (s + size_of f)) (erased_byte polarity) ++ files_bytes polarity total (up_to_8 (s + size_of f)) fs ss))
+
+-- the head, the extended header's pad, erased bytes to the first edge, and the files
+abbrev pub volume_bytes : HeadFields → List StoredFile → List ℕ → List ℕ
+volume_bytes h files starts =
+    canonical_head h
+    ++ (ext_pad (polarity_of h.attributes) h.ext (used_size (canonical_first h h.ext) files starts)
+    ++ (replicate (canonical_first h h.ext - canonical_end h h.ext) (erased_byte (polarity_of h.attributes))
+    ++ files_bytes (polarity_of h.attributes) h.length (canonical_first h h.ext) files starts))
+
+-- the rule of the pads of a gap: one pad where it fits, else the greatest pad first, and so on, the last of at least 256 bytes
+abbrev pub PadsRule : Type 0
+PadsRule =
+    (gap : ℕ) → 24 ≤ gap → gap % 8 ≡ 0
+    → (gap ≤ 0xfffff8 → long_pads gap ≡ 0) × (0xfffff8 < gap → (long_pads gap ≡ suc (long_pads (gap - long_pad))) × (256 ≤ gap - long_pad))

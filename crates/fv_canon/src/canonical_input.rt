@@ -1,0 +1,39 @@
+//! Whether an input is the canonical image of the volume that it is.
+
+ghost use Rattle.std.specs.Prelude.{◌≡◌, ◌↔◌, ◌⊎◌, IfOk, IfErr, true};
+ghost use Rattle.fv_base.specs.Faults.{want_of_memory};
+ghost use Rattle.fv_canon.specs.Image.{IsImage};
+ghost use Rattle.fv_canon.specs.Refusals.{NotRead};
+ghost use Rattle.fv_tree.specs.Denotes.{Accepted};
+ghost use Rattle.fv_tree.specs.Meaning.{Meaning};
+
+use crate::lay::layout;
+use crate::matching::is_image;
+use crate::run::whole_volume;
+use fv_base::{Fault, FaultKind};
+use std::alloc::Global;
+
+/// Whether the input is the canonical image of the volume that it is. No image is made.
+///
+/// # Errors
+///
+/// The first fault: those of `read_volume`; then Length at FvLength where bytes stand behind the
+/// volume. OutOfMemory.
+pub fn is_canonical(alloc: Global, input: &[u8]) -> Result<bool, Fault>
+    // Whether the bytes are the image of the meaning that they have.
+    ensures ok { IfOk result (λ t. (m : Meaning) × Accepted input.now m × ((t ≡ true) ↔ IsImage m input.now)) }
+
+    // Refused, want of memory aside, is only what is no volume.
+    ensures err { IfErr result (λ f. (f ≡ want_of_memory) ⊎ NotRead input.now f) }
+{
+    let view = whole_volume(alloc, input)?;
+    match layout(alloc, &view) {
+        Ok(places) => Ok(is_image(&view, places.all(), input)),
+        Err(fault) => {
+            if fault.kind == FaultKind::OutOfMemory {
+                return Err(fault);
+            }
+            Ok(false)
+        }
+    }
+}

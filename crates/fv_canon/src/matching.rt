@@ -1,0 +1,50 @@
+//! Bytes that are compared with what a walk writes.
+
+ghost use Rattle.std.specs.Prelude.{◌≡◌, ◌↔◌, IsTrue};
+ghost use Rattle.fv_canon.specs.Image.{image_of};
+ghost use Rattle.fv_canon.specs.Layouts.{LaysVolume};
+ghost use Rattle.fv_canon.specs.Matching.{MatchTakes};
+ghost use Rattle.fv_canon.specs.MatchingLaws.{matches_by};
+
+use crate::put::put_volume;
+use fv_base::Sink;
+use fv_tree::VolumeView;
+
+/// Bytes that are compared with those that are put. What was put is taken off their front, until
+/// their front is another.
+#[derive(Drop)]
+pub(crate) struct MatchSink<'a> {
+    /// The bytes behind all that were put.
+    pub(crate) rest: &'a [u8],
+    /// Whether all that were put were a front of the bytes.
+    pub(crate) same: bool,
+}
+
+impl<'a> Sink for MatchSink<'a> {
+    ghost takes = { MatchTakes (λ s. s.rest.now) (λ s. s.same) };
+
+    ghost laws = { matches_by (λ s. s.rest.now) (λ s. s.same) };
+
+    fn put(&mut self, bytes: &[u8]) {
+        if self.same {
+            match self.rest.strip_prefix(bytes) {
+                Some(rest) => self.rest = rest,
+                None => self.same = false,
+            }
+        }
+    }
+}
+
+// Whether the bytes are the canonical image of the view, where its files stand at these starts.
+// No image is made.
+pub(crate) fn is_image(view: &VolumeView<'_>, starts: &[u64], bytes: &[u8]) -> bool
+    requires { LaysVolume view.now starts.now }
+    ensures { IsTrue result ↔ (bytes.now ≡ image_of view.now starts.now) }
+{
+    let mut out = MatchSink {
+        rest: bytes,
+        same: true,
+    };
+    put_volume(&mut out, view, starts);
+    out.same && out.rest.is_empty()
+}

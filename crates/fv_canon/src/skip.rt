@@ -1,0 +1,69 @@
+//! The starts of a layout behind those of some part of a volume.
+
+ghost use Rattle.std.specs.Prelude.{◌≡◌, drop};
+ghost use Rattle.fv_tree.specs.Meaning.{files_from, sections_from};
+ghost use Rattle.fv_tree.specs.Views.{body_view, content_view};
+ghost use Rattle.fv_canon.specs.Image.{starts_in, starts_in_files, starts_in_content, starts_in_sections, starts_in_body};
+ghost use Rattle.fv_canon.specs.Layouts.{LaysVolume, LaysFiles, LaysContent, LaysSections, LaysBody};
+ghost use Rattle.fv_canon.specs.Walks.{Begins};
+
+use fv_tree::{Body, Content, FileView, SectionView, VolumeView};
+
+// The starts behind those of the sections.
+#[cycle(skip)]
+fn skip_sections<'s>(sections: &[SectionView<'_>], starts: &'s [u64]) -> &'s [u64]
+    requires laid { Begins LaysSections (sections_from sections.now) starts.now }
+    ensures { result.now ≡ drop (starts_in_sections (sections_from sections.now)) starts.now }
+{
+    let mut rest = starts;
+    for section in sections {
+        rest = skip_body(section.body(), rest);
+    }
+    rest
+}
+
+#[cycle(skip)]
+fn skip_body<'s>(body: &Body<'_>, starts: &'s [u64]) -> &'s [u64]
+    requires laid { Begins LaysBody (body_view body.now) starts.now }
+    ensures { result.now ≡ drop (starts_in_body (body_view body.now)) starts.now }
+{
+    match body {
+        Body::Leaf(_) => starts,
+        Body::Group { sections, .. } => skip_sections(sections.as_slice(), starts),
+        Body::Nested(volume) => skip_volume(volume, starts),
+    }
+}
+
+#[cycle(skip)]
+pub(crate) fn skip_content<'s>(content: &Content<'_>, starts: &'s [u64]) -> &'s [u64]
+    requires laid { Begins LaysContent (content_view content.now) starts.now }
+    ensures { result.now ≡ drop (starts_in_content (content_view content.now)) starts.now }
+{
+    match content {
+        Content::Plain(_) => starts,
+        Content::Stream { sections, .. } => skip_sections(sections.as_slice(), starts),
+    }
+}
+
+#[cycle(skip)]
+fn skip_files<'s>(files: &[FileView<'_>], starts: &'s [u64]) -> &'s [u64]
+    requires laid { Begins LaysFiles (files_from files.now) starts.now }
+    ensures { result.now ≡ drop (starts_in_files (files_from files.now)) starts.now }
+{
+    let mut rest = starts;
+    for file in files {
+        rest = skip_content(file.content(), rest);
+    }
+    rest
+}
+
+#[cycle(skip)]
+fn skip_volume<'s>(volume: &VolumeView<'_>, starts: &'s [u64]) -> &'s [u64]
+    requires laid { Begins LaysVolume volume.now starts.now }
+    ensures { result.now ≡ drop (starts_in volume.now) starts.now }
+{
+    let _head = volume.head();
+    let files = volume.files();
+    let (_own, inner) = starts.split_at(files.len());
+    skip_files(files, inner)
+}

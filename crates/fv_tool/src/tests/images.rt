@@ -1,0 +1,174 @@
+//! The images of volumes that others made.
+
+use super::fakes::FakeWriter;
+use super::volumes::{LONG, PLACED, Row, UNPLACED, UNPLACED_INSIDE};
+use crate::hex_text::read_hex;
+use fv_base::{Fault, FaultKind, Place, Port};
+use fv_canon::{is_canonical, layout, normalise, write_canonical};
+use fv_tree::read_volume;
+use std::alloc::Global;
+
+/// The bytes that a text spells: words of digits, of which one with a star and a number is repeated.
+fn spell(alloc: Global, text: &str) -> Option<Vec<u8>> {
+    let mut bytes = Vec::new(alloc);
+    for word in text.split_whitespace() {
+        let (digits, count) = word.split_once('*').unwrap_or((word, "1"));
+        let part = read_hex(alloc, &mut Port::new(digits.as_bytes())).ok()?;
+        for _ in 0..count.parse::<usize>().ok()? {
+            bytes.extend_from_slice(&part).ok()?;
+        }
+    }
+    Some(bytes)
+}
+
+/// Whether a volume has its image, and is told from it.
+fn has_image(alloc: Global, row: &Row) -> Option<bool> {
+    let (_, text, other) = *row;
+    let volume = spell(alloc, text)?;
+    let image = spell(alloc, other.unwrap_or(text))?;
+    let answer = normalise(alloc, &volume).ok()?;
+    let is_told = is_canonical(alloc, &volume) == Ok(other.is_none());
+    let is_own = is_canonical(alloc, &image) == Ok(true);
+    Some(answer.as_slice() == image.as_slice() && is_told && is_own)
+}
+
+/// The first row whose volume has not its image.
+fn without_image(alloc: Global, rows: &[Row]) -> Option<&'static str> {
+    for row in rows {
+        if has_image(alloc, row) != Some(true) {
+            return Some(row.0);
+        }
+    }
+    None
+}
+
+#[test]
+fn volumes_have_their_images(rt: HostRuntime) {
+    assert_eq!(rt; without_image(rt.alloc(), &PLACED), None);
+    assert_eq!(rt; without_image(rt.alloc(), &LONG), None);
+}
+
+/// Whether a volume is refused with this fault, and is not canonical.
+fn is_unplaced(alloc: Global, text: &str, kind: FaultKind) -> Option<bool> {
+    let volume = spell(alloc, text)?;
+    let is_refused = normalise(alloc, &volume).err() == Some(Fault::outer(kind, 0));
+    Some(is_refused && is_canonical(alloc, &volume) == Ok(false))
+}
+
+#[test]
+fn what_does_not_fit_has_none(rt: HostRuntime) {
+    for (name, text, kind) in UNPLACED {
+        assert!(rt; is_unplaced(rt.alloc(), text, kind) == Some(true), "{name}");
+    }
+}
+
+/// The fault with which a volume is refused that is read.
+fn fault_of(alloc: Global, text: &str) -> Option<Fault> {
+    let volume = spell(alloc, text)?;
+    normalise(alloc, &volume).err()
+}
+
+#[test]
+fn what_does_not_fit_inside_is_told_with_its_depth(rt: HostRuntime) {
+    for (name, text, kind, depth) in UNPLACED_INSIDE {
+        let place = Place { offset: 0, depth };
+        let fault = Fault { kind, place };
+        assert!(rt; fault_of(rt.alloc(), text) == Some(fault), "{name}");
+    }
+}
+
+/// Where the files of a volume stand in its image.
+fn has_starts(alloc: Global, text: &str, starts: &[u64]) -> Option<bool> {
+    let volume = spell(alloc, text)?;
+    let (view, _) = read_volume(alloc, &volume).ok()?;
+    let places = layout(alloc, &view).ok()?;
+    for (index, start) in (0u32..).zip(starts) {
+        if places.start(index) != Some(*start) {
+            return Some(false);
+        }
+    }
+    let past = u32::try_from(starts.len()).ok()?;
+    Some(places.start(past).is_none())
+}
+
+#[test]
+fn files_have_their_starts(rt: HostRuntime) {
+    let cases: [(&str, &[u64]); 5] = [
+        ("two sections", &[72]),
+        ("three aligned 272", &[72, 152, 232]),
+        ("three aligned 392", &[72, 136, 360]),
+        ("top gap 0", &[72, 120, 144]),
+        ("top gap 16", &[72, 136, 160]),
+    ];
+    for (wanted, starts) in cases {
+        let row = PLACED.iter().find(|row| row.0 == wanted);
+        let is_there = row.and_then(|row| has_starts(rt.alloc(), row.1, starts));
+        assert!(rt; is_there == Some(true), "{wanted}");
+    }
+}
+
+/// Whether the answers on some bytes are one: true where they are their own image, false where they have another or do not fit,
+/// and refused alike elsewhere.
+fn is_one_answer(alloc: Global, bytes: &[u8]) -> bool {
+    match (normalise(alloc, bytes), is_canonical(alloc, bytes)) {
+        (Ok(image), Ok(answer)) => answer == (image.as_slice() == bytes),
+        (Err(fault), Ok(answer)) => !answer
+            && matches!(fault.kind, FaultKind::NoRoom | FaultKind::TopAlignment),
+        (Err(fault), Err(other)) => fault == other,
+        (Ok(_), Err(_)) => false,
+    }
+}
+
+/// The first place of a volume at which another byte gets two answers.
+fn two_answers(alloc: Global, text: &str) -> Option<usize> {
+    let mut bytes = spell(alloc, text)?;
+    for at in 0..bytes.len() {
+        let byte = bytes[at];
+        for step in 1..=255u8 {
+            bytes[at] = byte.wrapping_add(step);
+            if !is_one_answer(alloc, &bytes) {
+                return Some(at);
+            }
+        }
+        bytes[at] = byte;
+    }
+    None
+}
+
+#[test]
+fn each_byte_of_an_image_is_looked_at(rt: HostRuntime) {
+    for wanted in ["ext header image", "misaligned file image", "nested image"] {
+        let row = PLACED.iter().find(|row| row.0 == wanted);
+        assert!(rt; row.is_some(), "{wanted}");
+        let place = row.and_then(|row| two_answers(rt.alloc(), row.1));
+        assert_eq!(rt; place, None, "{wanted}");
+    }
+}
+
+/// Whether the image is written as it is, and just a front of it where the writer stops.
+fn stops_in_time(alloc: Global, text: &str) -> Option<bool> {
+    let image = spell(alloc, text)?;
+    let (view, _) = read_volume(alloc, &image).ok()?;
+    let places = layout(alloc, &view).ok()?;
+    for room in 0..=image.len() {
+        let mut writer = Port::new(FakeWriter::new(alloc, 7, room, true));
+        let ended = write_canonical(&view, &places, &mut writer);
+        let is_told = match ended {
+            Ok(()) => room == image.len(),
+            Err(fault) => fault == Fault::outer(FaultKind::WriteFault, room as u64),
+        };
+        if !is_told || !writer.into_inner().took(image.get(..room)?) {
+            return Some(false);
+        }
+    }
+    Some(true)
+}
+
+#[test]
+fn an_image_is_written_until_the_writer_stops(rt: HostRuntime) {
+    for wanted in ["ext header image", "misaligned file image", "nested image"] {
+        let row = PLACED.iter().find(|row| row.0 == wanted);
+        let is_written = row.and_then(|row| stops_in_time(rt.alloc(), row.1));
+        assert!(rt; is_written == Some(true), "{wanted}");
+    }
+}
