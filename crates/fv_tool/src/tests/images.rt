@@ -4,8 +4,8 @@ use super::fakes::FakeWriter;
 use super::volumes::{LONG, PLACED, Row, UNPLACED, UNPLACED_INSIDE};
 use crate::hex_text::read_hex;
 use fv_base::{Fault, FaultKind, Place, Port};
-use fv_canon::{is_canonical, layout, normalise, write_canonical};
-use fv_tree::read_volume;
+use fv_canon::{body_bytes, file_bytes, is_canonical, layout, normalise, write_canonical};
+use fv_tree::{Content, FileView, read_volume};
 use std::alloc::Global;
 
 /// The bytes that a text spells: words of digits, of which one with a star and a number is repeated.
@@ -105,6 +105,33 @@ fn files_have_their_starts(rt: HostRuntime) {
         let is_there = row.and_then(|row| has_starts(rt.alloc(), row.1, starts));
         assert!(rt; is_there == Some(true), "{wanted}");
     }
+}
+
+/// Whether the data of a file are these bytes, and the body of its first section is these behind the section's header.
+fn has_data(alloc: Global, file: &FileView, wanted: &[u8]) -> Option<bool> {
+    let Content::Stream { sections, .. } = file.content() else {
+        return None;
+    };
+    let data = file_bytes(alloc, file).ok()?;
+    let body = body_bytes(alloc, sections.first()?).ok()?;
+    Some(data.as_slice() == wanted && body.as_slice() == wanted.get(4..)?)
+}
+
+/// Whether the data of the first file are those that stand in the image behind the file's header.
+fn has_parts(alloc: Global, row: &Row) -> Option<bool> {
+    let volume = spell(alloc, row.1)?;
+    let image = spell(alloc, row.2?)?;
+    let (view, _) = read_volume(alloc, &volume).ok()?;
+    has_data(alloc, view.file(0)?, image.get(96..228)?)
+}
+
+#[test]
+fn the_parts_of_a_volume_are_those_of_its_image(rt: HostRuntime) {
+    let row = PLACED
+        .iter()
+        .find(|row| row.0 == "nested with deleted file");
+    let is_there = row.and_then(|row| has_parts(rt.alloc(), row));
+    assert!(rt; is_there == Some(true));
 }
 
 /// Whether the answers on some bytes are one: true where they are their own image, false where they have another or do not fit,
