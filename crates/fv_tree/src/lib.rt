@@ -5,6 +5,7 @@ mod alive;
 pub mod lookup;
 mod numbers;
 pub mod read;
+mod stream;
 #[cfg(test)]
 mod tests;
 pub mod view;

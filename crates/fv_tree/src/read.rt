@@ -23,11 +23,12 @@ ghost use Rattle.fv_tree.specs.Shapes.{shape_of};
 
 use crate::alive::{Standing, alive_files, files_of};
 use crate::numbers::Numbers;
+use crate::stream::{behind, stream_size};
 use crate::view::{Body, Content, FileView, SectionView, VolumeView};
 use fv_base::{Fault, FaultKind, Place};
 use fv_file::cells;
 use fv_head::{Extent, is_one_volume, read_head};
-use fv_section::{Frame, frames};
+use fv_section::{Frame, next_frame};
 use std::alloc::Global;
 
 /// The type of a section that groups others.
@@ -205,16 +206,18 @@ fn read_stream<'a>(
     ensures none { IfErr result (λ f. f ≢ want_of_memory → (ss : List SectionMeaning) (tail : ℕ) → Stream left ss tail bytes.now → ⊥) }
     ensures first { IfErr result (λ f. f ≢ want_of_memory → FirstInStream left f bytes.now place.offset place.depth) }
 {
-    let split = match frames(alloc, bytes) {
-        Ok(split) => split,
+    let (count, tail) = match stream_size(bytes) {
+        Ok(size) => size,
         Err(fault) => return Err(within(fault, place)),
     };
-    let mut sections = Vec::with_capacity(alloc, split.as_slice().len())?;
-    for frame in split.as_slice() {
-        let section = read_section(alloc, frame, place, left)?;
+    let mut sections = Vec::with_capacity(alloc, count)?;
+    let mut at = 0;
+    while let Some(frame) = next_frame(bytes, at)? {
+        let section = read_section(alloc, &frame, place, left)?;
         sections.push(section)?;
+        at = behind(bytes, &frame);
     }
-    Ok((sections, split.tail()))
+    Ok((sections, tail))
 }
 
 // The content of a file.

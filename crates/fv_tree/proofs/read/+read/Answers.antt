@@ -1,5 +1,5 @@
 use Rattle.std.proofs.Common.{◌≡◌, ◌<◌, ◌≤◌, ℕ, List, length, map, [], ◌∷◌, ◌++◌, take, sym, ap, ◌∙◌, subst, arith, rules, inl, inr, refl}
-use Rattle.std.proofs.Common.{true, false}
+use Rattle.std.proofs.Common.{true}
 use Rattle.std.specs.Prelude.{◌⊎◌}
 use Rattle.fv_base.specs.Faults.{want_of_memory}
 use Rattle.std.proofs.lemmas.Result.{err_from_is_err_and}
@@ -11,13 +11,13 @@ use Rattle.fv_file.specs.declared.state.FileState.TheVariants as states
 use Rattle.fv_head.specs.Head.{HeadFields, Front}
 use Rattle.fv_head.specs.HeadChecks.{head_checks}
 use Rattle.fv_head.specs.declared.extent.Extent.{Extent}
-use Rattle.fv_section.specs.Frames.{FrameForm, Splits}
+use Rattle.fv_section.specs.Frames.{FrameForm}
 use Rattle.fv_section.specs.Seen as framed
-use Rattle.fv_section.specs.declared.frame.Frame.{Frame}
+use Rattle.fv_section.proofs.Laws.{grows, stands_within, none_after}
 use Rattle.fv_tree.specs.Body.{IsReadyFile, AllStored}
-use Rattle.fv_tree.specs.Denotes.{Pairs, IsFile, IsSection, Stream, Denotes, holds_sections}
+use Rattle.fv_tree.specs.Denotes.{Pairs, IsFile, Stream, Denotes, holds_sections}
 use Rattle.fv_tree.specs.Files.{FileForm}
-use Rattle.fv_tree.specs.FirstFault.{FileFirst, FirstInStream, SectionFirst, FirstOf}
+use Rattle.fv_tree.specs.FirstFault.{FileFirst, FirstInStream, FirstOf}
 use Rattle.fv_tree.specs.Meaning.{Meaning, FileMeaning, Section, Group, Nested, sections_from}
 use Rattle.fv_tree.specs.Seen.{form_of}
 use Rattle.fv_tree.specs.Views.{content_view}
@@ -28,7 +28,8 @@ use Rattle.fv_tree.proofs.Lengths.{body_long, content_long}
 use Rattle.fv_tree.proofs.Lists.{pairs_empty, in_items, item_is, kept_pairs, kept_only, unread, first_refused, all_items}
 use Rattle.fv_tree.proofs.SectionLaws.{leaf_shape, group_shape, volume_shape, leaf_is, leaf_only, group_found, group_one, group_bad}
 use Rattle.fv_tree.proofs.SectionLaws.{group_first, nested_found, nested_one, nested_bad, nested_first, deep_bad, deep_fault}
-use Rattle.fv_tree.proofs.StreamLaws.{IsReady, frame_ready, refused_first, stream_only, stream_none}
+use Rattle.fv_tree.proofs.StreamLaws.{stands_ready, uncut_first, walk_begun, walk_more, walk_none, walk_first, walk_goes_on}
+use Rattle.fv_tree.proofs.StreamLaws.{walk_found, walk_only}
 use Rattle.fv_tree.proofs.VolumeLaws.{made, no_other, no_files, head_unread, head_known, head_first, body_first}
 use Rattle.fv_tree.proofs.VolumeLaws.{opened_whole}
 use Rattle.fv_tree.proofs.IndexLaws.{read_names}
@@ -36,10 +37,7 @@ use Rattle.fv_tree.specs.Names.{IsIndex}
 use Rattle.fv_base.specs.declared.guid.Guid.{Guid}
 use Rattle.fv_tree.proofs.read.+read.Goals as goal
 
--- what the loops read past the end
-abbrev no_frame : Frame
-no_frame = record { offset = 0; kind = 0; extended = false; body = record { ref_ptr = (0, 0); now = [] } }
-
+-- what the loop over files reads past the end
 abbrev no_file : Standing
 no_file = record {
   offset = 0;
@@ -284,72 +282,89 @@ read_at-returns-clause-only t c = λ n m within d.
 
 -- ---- a stream
 
-pub read_stream-loop-frame-init : goal.read_stream-loop-frame-init
-read_stream-loop-frame-init t c = record {
-  pairs = rw c.in_ok-sections.ensures.items tt;
-  one = λ ss h. pairs_empty (IsSection c.args.left) ss h ∙ sym c.in_ok-sections.ensures.items;
-}
+pub read_stream-loop-sections-init : goal.read_stream-loop-sections-init
+read_stream-loop-sections-init t c =
+    record { even = refl; walked = walk_begun c.args.left c.args.bytes.now _ c.in_ok-sections.ensures.items }
+
+pub read_stream-loop-sections-smaller : goal.read_stream-loop-sections-smaller
+read_stream-loop-sections-smaller t c =
+    grows c.args.bytes.now c.in-Some.frame c.loop-sections.at _ (rw c.in-Some.is at c.in_ok-frame.ensures.found) c.behind-at.ensures
+
+pub read_stream-loop-sections-preserved : goal.read_stream-loop-sections-preserved
+read_stream-loop-sections-preserved t c =
+    let stands = rw c.in-Some.is at c.in_ok-frame.ensures.found in
+    let items : c.push.new.self.items ≡ c.loop-sections.sections.items ++ c.in_ok-section.section ∷ [] = search rules in
+    record {
+      even = omega (arith, c.behind-at.ensures);
+      walked = walk_more c.args.left c.args.bytes.now c.loop-sections.at c.behind-at.result c.loop-sections.sections.items
+          c.push.new.self.items (framed.form_of c.in-Some.frame) c.in_ok-section.section c.loop-sections.invariant.walked
+          c.loop-sections.invariant.even stands c.behind-at.ensures c.in_ok-section.ensures.found c.in_ok-section.ensures.only items;
+    }
 
 pub read_stream-read_section-requires : goal.read_stream-read_section-requires
 read_stream-read_section-requires t c =
-    let i : ℕ = c.loop-frame.frame-index in
-    let items : List Frame = c.as_slice-frame-items.result.now in
-    let lt : i < length items = c.loop-frame-test.true in
+    let stands = rw c.in-Some.is at c.in_ok-frame.ensures.found in
     let small : IsBytes c.args.bytes.now = search rules in
-    let lt' = in_items (IsSection c.args.left) framed.form_of items i no_frame c.in-Ok.split.0 c.as_slice-frame-items.ensures lt in
-    let item = item_is (IsSection c.args.left) framed.form_of items i no_frame c.in-Ok.split.0 c.as_slice-frame-items.ensures lt in
-    let ready = subst (IsReady c.args.bytes.now) item (frame_ready c.args.bytes.now c.in-Ok.split.0 c.in-Ok.split.1 i
-    (framed.form_of no_frame) small c.requires.small c.in-Ok.ensures.found c.in-Ok.ensures.lies lt') in
+    let ready = stands_ready c.args.bytes.now c.loop-sections.at (framed.form_of c.in-Some.frame) small c.requires.small stands in
     (omega arith, (omega (arith, ready.0, c.requires.place), (c.requires.depth, ready.1)))
+
+pub read_stream-behind-at-requires : goal.read_stream-behind-at-requires
+read_stream-behind-at-requires t c = stands_within _ _ _ (rw c.in-Some.is at c.in_ok-frame.ensures.found)
+
+pub read_stream-returns-in-Err-clause-none : goal.read_stream-returns-in-Err-clause-none
+read_stream-returns-in-Err-clause-none t c = λ ne ss tail h.
+    none_after c.args.bytes.now c.in-Err.fault h.0 tail c.in-Err.ensures.first h.1
+
+pub read_stream-returns-in-Err-clause-first : goal.read_stream-returns-in-Err-clause-first
+read_stream-returns-in-Err-clause-first t c = λ ne.
+    uncut_first c.args.left c.args.bytes.now c.in-Err.fault c.within.result c.args.place.offset c.args.place.depth c.in-Err.ensures.first
+    (c.within.ensures.moved ne).1
+
+pub read_stream-returns-in_err-frame-clause-none : goal.read_stream-returns-in_err-frame-clause-none
+read_stream-returns-in_err-frame-clause-none t c =
+    let p = err_from_is_err_and c.from_residual-in_err-frame.result c.from_residual-in_err-frame.ensures.1 in
+    rw (p.1, p.2) (λ ne ss tail h. walk_goes_on c.args.left c.args.bytes.now c.loop-sections.at c.loop-sections.sections.items
+    c.in_err-frame.field-0.0 h.0 tail c.loop-sections.invariant.walked c.loop-sections.invariant.even h.1
+    c.in_err-frame.ensures.place.1 c.in_err-frame.ensures.first)
+
+pub read_stream-returns-in_err-frame-clause-first : goal.read_stream-returns-in_err-frame-clause-first
+read_stream-returns-in_err-frame-clause-first t c =
+    let p = err_from_is_err_and c.from_residual-in_err-frame.result c.from_residual-in_err-frame.ensures.1 in
+    let s = c.in-Ok.ensures.found in
+    rw (p.1, p.2) (λ ne. absurd (walk_goes_on c.args.left c.args.bytes.now c.loop-sections.at c.loop-sections.sections.items
+    c.in_err-frame.field-0.0 s.0 _ c.loop-sections.invariant.walked c.loop-sections.invariant.even s.1
+    c.in_err-frame.ensures.place.1 c.in_err-frame.ensures.first))
 
 pub read_stream-returns-in_err-section-clause-none : goal.read_stream-returns-in_err-section-clause-none
 read_stream-returns-in_err-section-clause-none t c =
     let p = err_from_is_err_and c.from_residual-in_err-section.result c.from_residual-in_err-section.ensures.1 in
-    rw (p.1, p.2) (λ ne ss tail h. stream_none c.args.left c.args.bytes.now c.in-Ok.split.0 c.in-Ok.split.1 c.in-Ok.ensures.only
-    (unread (IsSection c.args.left) framed.form_of c.as_slice-frame-items.result.now c.loop-frame.frame-index no_frame c.in-Ok.split.0
-    c.as_slice-frame-items.ensures c.loop-frame-test.true (c.in_err-section.ensures.none ne)) ss tail h)
+    let stands = rw c.in-Some.is at c.in_ok-frame.ensures.found in
+    rw (p.1, p.2) (λ ne ss tail h. walk_none c.args.left c.args.bytes.now c.loop-sections.at c.loop-sections.sections.items
+    (framed.form_of c.in-Some.frame) c.loop-sections.invariant.walked c.loop-sections.invariant.even stands
+    (c.in_err-section.ensures.none ne) ss tail h)
 
 pub read_stream-returns-in_err-section-clause-first : goal.read_stream-returns-in_err-section-clause-first
 read_stream-returns-in_err-section-clause-first t c =
     let p = err_from_is_err_and c.from_residual-in_err-section.result c.from_residual-in_err-section.ensures.1 in
-    rw (p.1, p.2) (λ ne. refused_first c.args.left c.args.bytes.now c.in_err-section.field-0.0 c.args.place.offset c.args.place.depth
-    c.in-Ok.split.0 c.in-Ok.split.1 c.in-Ok.ensures.found
-    (first_refused (IsSection c.args.left) framed.form_of c.as_slice-frame-items.result.now c.loop-frame.frame-index no_frame
-    (λ f. SectionFirst c.args.left c.in_err-section.field-0.0 f c.args.place.offset c.args.place.depth) c.in-Ok.split.0
-    c.loop-frame.sections.items c.as_slice-frame-items.ensures c.loop-frame-test.true
-    c.loop-frame.invariant.pairs (c.in_err-section.ensures.first ne)))
-
-pub read_stream-loop-frame-preserved : goal.read_stream-loop-frame-preserved
-read_stream-loop-frame-preserved t c =
-    let items : c.push.new.self.items ≡ c.loop-frame.sections.items ++ c.in_ok-section.section ∷ [] = search rules in
-    record {
-      pairs = kept_pairs (IsSection c.args.left) framed.form_of c.as_slice-frame-items.result.now c.loop-frame.frame-index no_frame
-          c.loop-frame.sections.items c.push.new.self.items c.in_ok-section.section c.loop-frame-test.true c.loop-frame.invariant.pairs
-          c.in_ok-section.ensures.found items;
-      one = kept_only (IsSection c.args.left) framed.form_of c.as_slice-frame-items.result.now c.loop-frame.frame-index no_frame
-          c.loop-frame.sections.items c.push.new.self.items c.in_ok-section.section c.loop-frame-test.true c.loop-frame.invariant.one
-          c.in_ok-section.ensures.only items;
-    }
+    let stands = rw c.in-Some.is at c.in_ok-frame.ensures.found in
+    let s = c.in-Ok.ensures.found in
+    rw (p.1, p.2) (λ ne. walk_first c.args.left c.args.bytes.now c.loop-sections.at c.loop-sections.sections.items
+    (framed.form_of c.in-Some.frame) c.in_err-section.field-0.0 c.args.place.offset c.args.place.depth s.0 _
+    c.loop-sections.invariant.walked c.loop-sections.invariant.even stands s.1 (c.in_err-section.ensures.first ne))
 
 pub read_stream-returns-clause-found : goal.read_stream-returns-clause-found
 read_stream-returns-clause-found t c =
-    let past : length c.as_slice-frame-items.result.now ≤ c.loop-frame.frame-index = omega arith in
-    let all = all_items (IsSection c.args.left) framed.form_of c.as_slice-frame-items.result.now c.loop-frame.frame-index no_frame
-    c.in-Ok.split.0 c.as_slice-frame-items.ensures past in (
-      c.in-Ok.split.0,
-      subst (λ u. Splits c.in-Ok.split.0 u c.args.bytes.now) (sym c.tail.ensures) c.in-Ok.ensures.found,
-      subst (λ fs. Pairs (IsSection c.args.left) fs c.loop-frame.sections.items) all c.loop-frame.invariant.pairs,
-    )
+    let past = rw c.in_default.is at c.in_ok-frame.ensures.past in
+    let s = c.in-Ok.ensures.found in
+    walk_found c.args.left c.args.bytes.now c.loop-sections.at c.loop-sections.sections.items s.0 _ c.loop-sections.invariant.walked
+    past s.1
 
 pub read_stream-returns-clause-only : goal.read_stream-returns-clause-only
 read_stream-returns-clause-only t c =
-    let past : length c.as_slice-frame-items.result.now ≤ c.loop-frame.frame-index = omega arith in
-    let all = all_items (IsSection c.args.left) framed.form_of c.as_slice-frame-items.result.now c.loop-frame.frame-index no_frame
-    c.in-Ok.split.0 c.as_slice-frame-items.ensures past in
-    λ ss tail h.
-    let r = stream_only c.args.left c.args.bytes.now c.in-Ok.split.0 c.in-Ok.split.1 c.loop-frame.sections.items c.in-Ok.ensures.only
-    (λ ws q. c.loop-frame.invariant.one ws (subst (λ fs. Pairs (IsSection c.args.left) fs ws) (sym all) q)) ss tail h in
-    (r.0, r.1 ∙ sym c.tail.ensures)
+    let past = rw c.in_default.is at c.in_ok-frame.ensures.past in
+    let s = c.in-Ok.ensures.found in
+    λ ss tail h. walk_only c.args.left c.args.bytes.now c.loop-sections.at c.loop-sections.sections.items s.0 _
+    c.loop-sections.invariant.walked past s.1 ss tail h
 
 -- ---- a section that is a group
 

@@ -1,16 +1,19 @@
-use Rattle.std.proofs.Common.{◌≡◌, ◌+◌, ◌*◌, List, take, map}
-use Rattle.fv_section.specs.Seen as frame
-use Rattle.fv_tree.specs.Denotes.{Pairs, IsFile, IsSection, Stream}
-use Rattle.fv_tree.specs.Meaning.{FileMeaning, SectionMeaning}
+use Rattle.std.proofs.Common.{◌≡◌, ◌+◌, ◌-◌, ◌*◌, List, length, take, map}
+use Rattle.fv_section.specs.Frames.{up_to_4}
+use Rattle.fv_tree.specs.Denotes.{Pairs, IsFile, Stream}
+use Rattle.fv_tree.specs.Meaning.{FileMeaning}
 use Rattle.fv_tree.specs.Seen.{form_of}
+use Rattle.fv_tree.proofs.StreamLaws.{Walked}
 use Rattle.fv_tree.proofs.read.+read.Given as goal
 
-abbrev pub invariant-read_stream-loop-frame : goal.invariant-read_stream-loop-frame
-invariant-read_stream-loop-frame l = record {
-  pairs : Pairs (IsSection l.left) (take l.frame-index (map frame.form_of l.frame-items)) l.sections.items;
-  one : (ss : List SectionMeaning) → Pairs (IsSection l.left) (take l.frame-index (map frame.form_of l.frame-items)) ss
-      → ss ≡ l.sections.items;
+abbrev pub invariant-read_stream-loop-sections : goal.invariant-read_stream-loop-sections
+invariant-read_stream-loop-sections l = record {
+  even : l.at ≡ up_to_4 l.at;
+  walked : Walked l.left l.bytes l.at l.sections.items;
 }
+
+abbrev pub decreases-read_stream-loop-sections : goal.decreases-read_stream-loop-sections
+decreases-read_stream-loop-sections l = length l.bytes - l.at
 
 abbrev pub invariant-read_files-loop-file : goal.invariant-read_files-loop-file
 invariant-read_files-loop-file l = record {

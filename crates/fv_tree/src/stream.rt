@@ -1,0 +1,44 @@
+//! Walking a stream of sections, from frame to frame.
+
+ghost use Rattle.std.specs.Prelude.{◌≡◌, ◌+◌, ◌≤◌, List, length, IfOk, IfErr};
+ghost use Rattle.fv_section.specs.FrameChecks.{IsFirst};
+ghost use Rattle.fv_section.specs.Frames.{FrameForm, Splits, size, up_to_4};
+ghost use Rattle.fv_section.specs.Seen.{form_of};
+
+use fv_base::Fault;
+use fv_section::{Frame, next_frame};
+
+// Where a frame of the stream ends.
+fn end_of(stream: &[u8], frame: &Frame) -> u64
+    requires { frame.now.offset + size (form_of frame.now) ≤ length stream.now }
+    ensures { result ≡ frame.now.offset + size (form_of frame.now) }
+{
+    let header = if frame.extended { 8 } else { 4 };
+    frame.offset + header + frame.body.len() as u64
+}
+
+// Where the frame behind this one would stand.
+pub(crate) fn behind(stream: &[u8], frame: &Frame) -> u64
+    requires { frame.now.offset + size (form_of frame.now) ≤ length stream.now }
+    ensures { result ≡ up_to_4 (frame.now.offset + size (form_of frame.now)) }
+{
+    (end_of(stream, frame) + 3) / 4 * 4
+}
+
+// How many frames a stream has, and how many bytes follow the last; or its first fault. Takes no memory.
+pub(crate) fn stream_size(stream: &[u8]) -> Result<(usize, u8), Fault>
+    ensures found { IfOk result (λ r. (fs : List FrameForm) × Splits fs r.1 stream.now × (length fs ≡ r.0)) }
+    ensures first { IfErr result (λ f. IsFirst stream.now f) }
+    ensures bound { IfErr result (λ f. f.place.offset ≤ length stream.now) }
+{
+    let mut count = 0;
+    let mut end = 0;
+    let mut at = 0;
+    while let Some(frame) = next_frame(stream, at)? {
+        end = end_of(stream, &frame);
+        at = behind(stream, &frame);
+        count += 1;
+    }
+    let tail = stream.len() as u64 - end;
+    Ok((count, tail as u8))
+}
