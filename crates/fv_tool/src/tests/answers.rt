@@ -71,42 +71,30 @@ fn is_at(fault: Option<Fault>, number: u8, offset: u64) -> bool {
     }
 }
 
-#[test]
-fn refuses_volumes(rt: HostRuntime) -> Result<(), Fail> {
-    let cases: [(&[u8], u8, u64, &[u8]); 16] = [
-        (vectors::HEAD_SIGNATURE, 2, 40, b"fault 2 at 40\n"),
-        (vectors::HEAD_FILE_SYSTEM, 3, 16, b"fault 3 at 16\n"),
-        (vectors::HEAD_REVISION, 4, 55, b"fault 4 at 55\n"),
-        (vectors::HEAD_HEADER_LENGTH, 5, 48, b"fault 5 at 48\n"),
-        (vectors::HEAD_SUM_OFF_BY_ONE, 6, 0, b"fault 6 at 0\n"),
-        (vectors::HEAD_BLOCK_MAP, 7, 56, b"fault 7 at 56\n"),
-        (
-            vectors::BLOCK_MAP_SUM_PAST_64_BITS,
-            7,
-            56,
-            b"fault 7 at 56\n",
-        ),
-        (vectors::LENGTH_PAST_64_BITS, 7, 56, b"fault 7 at 56\n"),
-        (vectors::HEAD_LENGTH_OVER_256M, 8, 32, b"fault 8 at 32\n"),
-        (vectors::HEAD_LENGTH_OVER_16M, 1, 72, b"fault 1 at 72\n"),
-        (vectors::ONE_BYTE_BEHIND, 8, 128, b"fault 8 at 128\n"),
-        (vectors::HEAD_EXT_OFFSET, 9, 52, b"fault 9 at 52\n"),
-        (vectors::STRAY_LAST_BYTE, 16, 127, b"fault 16 at 127\n"),
-        (vectors::FILE_HEADER_SUM, 11, 72, b"fault 11 at 72\n"),
-        (vectors::SAME_NAME_TWICE, 17, 96, b"fault 17 at 96\n"),
-        (vectors::FILE_AND_BYTE_BEHIND, 8, 128, b"fault 8 at 128\n"),
-    ];
+/// The number and the offset that the line of a fault tells.
+fn told_by(line: &str) -> Option<(u8, u64)> {
+    let (number, offset) = line.strip_prefix("fault ")?.split_once(" at ")?;
+    Some((number.parse().ok()?, offset.parse().ok()?))
+}
+
+/// Whether the volume of a case is refused as the line above its text tells, and a run writes that line.
+fn is_refused(alloc: Global, case: &str) -> Option<bool> {
+    let (head, text) = case.split_once('\n')?;
+    let (_, line) = head.split_once(": ")?;
+    let (number, offset) = told_by(line)?;
+    let volume = volume_of(alloc, text.as_bytes()).ok()?;
+    let written = format!(in alloc; "{line}\n").ok()?;
+    let inputs: (&[u8], &[u8]) = (text.as_bytes(), b"");
     let plan = normalise_plan(true);
-    for (text, number, offset, line) in cases {
-        let volume = volume_of(rt.alloc(), text)?;
-        assert!(rt;
-            is_at(fault_of(rt.alloc(), &volume), number, offset),
-            "{line:?}"
-        );
-        let is_told = ends_as(rt.alloc(), &plan, (text, b""), Status::Refused, line);
-        assert!(rt; is_told, "{line:?}");
+    let is_told = ends_as(alloc, &plan, inputs, Status::Refused, written.as_bytes());
+    Some(is_told && is_at(fault_of(alloc, &volume), number, offset))
+}
+
+#[test]
+fn refuses_volumes(rt: HostRuntime) {
+    for case in vectors::refused().split("--\n") {
+        assert!(rt; is_refused(rt.alloc(), case) == Some(true), "{case}");
     }
-    Ok(())
 }
 
 #[test]
@@ -119,23 +107,23 @@ fn erased_bytes_are_those_of_the_attributes(rt: HostRuntime) -> Result<(), Fail>
     Ok(())
 }
 
-#[test]
-fn pads_and_deleted_files_are_left_out(rt: HostRuntime) -> Result<(), Fail> {
-    let cases: [&[u8]; 3] = [
-        vectors::TWO_PADS,
-        vectors::PAD_WITH_DATA,
-        vectors::DELETED_FILE,
-    ];
+/// Whether the image of a case is the empty volume, and a run writes that.
+fn is_emptied(alloc: Global, case: &str) -> Option<bool> {
+    let (_, text) = case.split_once('\n')?;
+    let volume = volume_of(alloc, text.as_bytes()).ok()?;
+    let empty = volume_of(alloc, vectors::EMPTY).ok()?;
+    let image = fv_canon::normalise(alloc, &volume).ok()?;
+    let inputs: (&[u8], &[u8]) = (text.as_bytes(), b"");
     let plan = normalise_plan(true);
-    let empty = volume_of(rt.alloc(), vectors::EMPTY)?;
-    for text in cases {
-        let volume = volume_of(rt.alloc(), text)?;
-        let image = fv_canon::normalise(rt.alloc(), &volume)?;
-        assert!(rt; image.as_slice() == empty.as_slice(), "{text:?}");
-        let is_told = ends_as(rt.alloc(), &plan, (text, b""), Status::Done, vectors::EMPTY);
-        assert!(rt; is_told, "{text:?}");
+    let is_told = ends_as(alloc, &plan, inputs, Status::Done, vectors::EMPTY);
+    Some(is_told && image.as_slice() == empty.as_slice())
+}
+
+#[test]
+fn pads_and_deleted_files_are_left_out(rt: HostRuntime) {
+    for case in vectors::emptied().split("--\n") {
+        assert!(rt; is_emptied(rt.alloc(), case) == Some(true), "{case}");
     }
-    Ok(())
 }
 
 /// Whether the image of the view is these bytes.

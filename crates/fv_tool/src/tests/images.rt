@@ -1,7 +1,7 @@
 //! The images of volumes that others made.
 
 use super::fakes::FakeWriter;
-use super::volumes::{LONG, PLACED, Row, UNPLACED, UNPLACED_INSIDE};
+use super::volumes::{long, placed, row_named, row_of, unplaced};
 use crate::hex_text::read_hex;
 use fv_base::{Fault, FaultKind, Place, Port};
 use fv_canon::{body_bytes, file_bytes, is_canonical, layout, normalise, write_canonical};
@@ -21,9 +21,15 @@ fn spell(alloc: Global, text: &str) -> Option<Vec<u8>> {
     Some(bytes)
 }
 
-/// Whether a volume has its image, and is told from it.
-fn has_image(alloc: Global, row: &Row) -> Option<bool> {
-    let (_, text, other) = *row;
+/// The bytes of the volume of the table that has the name.
+fn volume_named(alloc: Global, table: &str, name: &str) -> Option<Vec<u8>> {
+    let (_, text, _) = row_named(table, name)?;
+    spell(alloc, text)
+}
+
+/// Whether the volume of a line has its image, and is told from it.
+fn has_image(alloc: Global, line: &str) -> Option<bool> {
+    let (_, text, other) = row_of(line)?;
     let volume = spell(alloc, text)?;
     let image = spell(alloc, other.unwrap_or(text))?;
     let answer = normalise(alloc, &volume).ok()?;
@@ -32,63 +38,77 @@ fn has_image(alloc: Global, row: &Row) -> Option<bool> {
     Some(answer.as_slice() == image.as_slice() && is_told && is_own)
 }
 
-/// The first row whose volume has not its image.
-fn without_image(alloc: Global, rows: &[Row]) -> Option<&'static str> {
-    for row in rows {
-        if has_image(alloc, row) != Some(true) {
-            return Some(row.0);
-        }
-    }
-    None
-}
-
 #[test]
 fn volumes_have_their_images(rt: HostRuntime) {
-    assert_eq!(rt; without_image(rt.alloc(), &PLACED), None);
-    assert_eq!(rt; without_image(rt.alloc(), &LONG), None);
+    for table in [placed(), long()] {
+        for line in table.lines() {
+            assert!(rt; has_image(rt.alloc(), line) == Some(true), "{line}");
+        }
+    }
 }
 
 /// Whether a volume is refused with this fault, and is not canonical.
-fn is_unplaced(alloc: Global, text: &str, kind: FaultKind) -> Option<bool> {
-    let volume = spell(alloc, text)?;
+fn is_unplaced(alloc: Global, name: &str, kind: FaultKind) -> Option<bool> {
+    let volume = volume_named(alloc, unplaced(), name)?;
     let is_refused = normalise(alloc, &volume).err() == Some(Fault::outer(kind, 0));
     Some(is_refused && is_canonical(alloc, &volume) == Ok(false))
 }
 
 #[test]
 fn what_does_not_fit_has_none(rt: HostRuntime) {
-    for (name, text, kind) in UNPLACED {
-        assert!(rt; is_unplaced(rt.alloc(), text, kind) == Some(true), "{name}");
+    let cases = [
+        ("ext header without room", FaultKind::NoRoom),
+        ("top misaligned", FaultKind::TopAlignment),
+    ];
+    for (name, kind) in cases {
+        assert!(rt; is_unplaced(rt.alloc(), name, kind) == Some(true), "{name}");
     }
 }
 
 /// The fault with which a volume is refused that is read.
-fn fault_of(alloc: Global, text: &str) -> Option<Fault> {
-    let volume = spell(alloc, text)?;
+fn fault_of(alloc: Global, name: &str) -> Option<Fault> {
+    let volume = volume_named(alloc, unplaced(), name)?;
     normalise(alloc, &volume).err()
 }
 
 #[test]
 fn what_does_not_fit_inside_is_told_with_its_depth(rt: HostRuntime) {
-    for (name, text, kind, depth) in UNPLACED_INSIDE {
+    let cases = [
+        ("one without room", FaultKind::NoRoom, 1),
+        (
+            "one in a group whose top file is off",
+            FaultKind::TopAlignment,
+            2,
+        ),
+    ];
+    for (name, kind, depth) in cases {
         let place = Place { offset: 0, depth };
         let fault = Fault { kind, place };
-        assert!(rt; fault_of(rt.alloc(), text) == Some(fault), "{name}");
+        assert!(rt; fault_of(rt.alloc(), name) == Some(fault), "{name}");
     }
 }
 
-/// Where the files of a volume stand in its image.
-fn has_starts(alloc: Global, text: &str, starts: &[u64]) -> Option<bool> {
-    let volume = spell(alloc, text)?;
+/// Where the files of a volume stand in its image, of which it has fewer than 100.
+fn starts_of(alloc: Global, name: &str) -> Option<Vec<u64>> {
+    let volume = volume_named(alloc, placed(), name)?;
     let (view, _) = read_volume(alloc, &volume).ok()?;
     let places = layout(alloc, &view).ok()?;
-    for (index, start) in (0u32..).zip(starts) {
-        if places.start(index) != Some(*start) {
-            return Some(false);
+    let mut starts = Vec::new(alloc);
+    for index in 0..100u32 {
+        match places.start(index) {
+            Some(start) => starts.push(start).ok()?,
+            None => return Some(starts),
         }
     }
-    let past = u32::try_from(starts.len()).ok()?;
-    Some(places.start(past).is_none())
+    None
+}
+
+/// Whether the files of a volume stand just there in its image.
+fn has_starts(alloc: Global, name: &str, wanted: &[u64]) -> bool {
+    match starts_of(alloc, name) {
+        Some(starts) => starts.as_slice() == wanted,
+        None => false,
+    }
 }
 
 #[test]
@@ -100,10 +120,8 @@ fn files_have_their_starts(rt: HostRuntime) {
         ("top gap 0", &[72, 120, 144]),
         ("top gap 16", &[72, 136, 160]),
     ];
-    for (wanted, starts) in cases {
-        let row = PLACED.iter().find(|row| row.0 == wanted);
-        let is_there = row.and_then(|row| has_starts(rt.alloc(), row.1, starts));
-        assert!(rt; is_there == Some(true), "{wanted}");
+    for (name, wanted) in cases {
+        assert!(rt; has_starts(rt.alloc(), name, wanted), "{name}");
     }
 }
 
@@ -118,24 +136,22 @@ fn has_data(alloc: Global, file: &FileView, wanted: &[u8]) -> Option<bool> {
 }
 
 /// Whether the data of the first file are those that stand in the image behind the file's header.
-fn has_parts(alloc: Global, row: &Row) -> Option<bool> {
-    let volume = spell(alloc, row.1)?;
-    let image = spell(alloc, row.2?)?;
+fn has_parts(alloc: Global, name: &str) -> Option<bool> {
+    let (_, text, other) = row_named(placed(), name)?;
+    let volume = spell(alloc, text)?;
+    let image = spell(alloc, other?)?;
     let (view, _) = read_volume(alloc, &volume).ok()?;
     has_data(alloc, view.file(0)?, image.get(96..228)?)
 }
 
 #[test]
 fn the_parts_of_a_volume_are_those_of_its_image(rt: HostRuntime) {
-    let row = PLACED
-        .iter()
-        .find(|row| row.0 == "nested with deleted file");
-    let is_there = row.and_then(|row| has_parts(rt.alloc(), row));
-    assert!(rt; is_there == Some(true));
+    let name = "nested with deleted file";
+    assert!(rt; has_parts(rt.alloc(), name) == Some(true));
 }
 
-/// Whether the answers on some bytes are one: true where they are their own image, false where they have another or do not fit,
-/// and refused alike elsewhere.
+/// Whether the answers on some bytes are one: true where they are their own image, false where they have another or do
+/// not fit, and refused alike elsewhere.
 fn is_one_answer(alloc: Global, bytes: &[u8]) -> bool {
     match (normalise(alloc, bytes), is_canonical(alloc, bytes)) {
         (Ok(image), Ok(answer)) => answer == (image.as_slice() == bytes),
@@ -146,9 +162,11 @@ fn is_one_answer(alloc: Global, bytes: &[u8]) -> bool {
     }
 }
 
-/// The first place of a volume at which another byte gets two answers.
-fn two_answers(alloc: Global, text: &str) -> Option<usize> {
-    let mut bytes = spell(alloc, text)?;
+/// The first place of a volume at which another byte gets two answers, or 0 where there is no such volume.
+fn two_answers(alloc: Global, name: &str) -> Option<usize> {
+    let Some(mut bytes) = volume_named(alloc, placed(), name) else {
+        return Some(0);
+    };
     for at in 0..bytes.len() {
         let byte = bytes[at];
         for step in 1..=255u8 {
@@ -162,19 +180,19 @@ fn two_answers(alloc: Global, text: &str) -> Option<usize> {
     None
 }
 
+/// Images with an extended header, a pad before an aligned file, and a volume inside.
+const IMAGES: [&str; 3] = ["ext header image", "misaligned file image", "nested image"];
+
 #[test]
 fn each_byte_of_an_image_is_looked_at(rt: HostRuntime) {
-    for wanted in ["ext header image", "misaligned file image", "nested image"] {
-        let row = PLACED.iter().find(|row| row.0 == wanted);
-        assert!(rt; row.is_some(), "{wanted}");
-        let place = row.and_then(|row| two_answers(rt.alloc(), row.1));
-        assert_eq!(rt; place, None, "{wanted}");
+    for name in IMAGES {
+        assert_eq!(rt; two_answers(rt.alloc(), name), None, "{name}");
     }
 }
 
 /// Whether the image is written as it is, and just a front of it where the writer stops.
-fn stops_in_time(alloc: Global, text: &str) -> Option<bool> {
-    let image = spell(alloc, text)?;
+fn stops_in_time(alloc: Global, name: &str) -> Option<bool> {
+    let image = volume_named(alloc, placed(), name)?;
     let (view, _) = read_volume(alloc, &image).ok()?;
     let places = layout(alloc, &view).ok()?;
     for room in 0..=image.len() {
@@ -193,9 +211,7 @@ fn stops_in_time(alloc: Global, text: &str) -> Option<bool> {
 
 #[test]
 fn an_image_is_written_until_the_writer_stops(rt: HostRuntime) {
-    for wanted in ["ext header image", "misaligned file image", "nested image"] {
-        let row = PLACED.iter().find(|row| row.0 == wanted);
-        let is_written = row.and_then(|row| stops_in_time(rt.alloc(), row.1));
-        assert!(rt; is_written == Some(true), "{wanted}");
+    for name in IMAGES {
+        assert!(rt; stops_in_time(rt.alloc(), name) == Some(true), "{name}");
     }
 }
