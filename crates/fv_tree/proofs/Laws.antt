@@ -23,3 +23,7 @@ pub use Rattle.fv_tree.proofs.RefuseLaws.{first_refuses}
 pub use Rattle.fv_tree.proofs.FaultLaws.{first_stands, fault_stands}
 -- the kinds of the faults of reading
 pub use Rattle.fv_tree.proofs.KindLaws.{OfReading, stands_kind, is_reading, stands_reading, stands_other}
+-- ---- two meanings
+
+-- they differ nowhere exactly where they are one
+pub use Rattle.fv_tree.proofs.DifferLaws.{one_volume, no_difference}

@@ -18,4 +18,6 @@ pub mod TopLaws
 pub mod OnceLaws
 pub mod FirstLaws
 pub mod KindLaws
+pub mod DifferLaws
+pub mod DifferWalks
 pub mod Laws

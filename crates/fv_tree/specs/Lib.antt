@@ -11,3 +11,4 @@ pub mod Names
 pub mod Seen
 pub mod Body
 pub mod Shapes
+pub mod Difference

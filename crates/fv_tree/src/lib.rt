@@ -2,6 +2,7 @@
 #![tactic(auto)]
 
 mod alive;
+pub mod difference;
 pub mod lookup;
 mod numbers;
 pub mod read;
@@ -10,6 +11,7 @@ mod stream;
 mod tests;
 pub mod view;
 
+pub use difference::{Difference, Step, Word, first_difference};
 pub use lookup::file_by_name;
 pub use read::read_volume;
 pub use view::{Body, Content, FileView, SectionView, VolumeView};

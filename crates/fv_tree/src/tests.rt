@@ -2,6 +2,7 @@
 
 mod content;
 mod deep;
+mod differences;
 mod large;
 mod many;
 mod memory;
