@@ -2,9 +2,11 @@ pub mod AlignedLaws
 pub mod AliveLaws
 pub mod BytesLaws
 pub mod CellLaws
+pub mod CompareLaws
 pub mod DataLaws
 pub mod DepthLaws
 pub mod Examples
+pub mod FewSteps
 pub mod FileLaws
 pub mod FirstPlaces
 pub mod FitLaws
@@ -14,6 +16,7 @@ pub mod ImageLaws
 pub mod InputLaws
 pub mod Laws
 pub mod LayoutLaws
+pub mod LineLaws
 pub mod MadeLaws
 pub mod MatchLemmas
 pub mod MeaningLaws

@@ -1,8 +1,10 @@
 pub mod Aligned
+pub mod Comparisons
 pub mod Depths
 pub mod Grown
 pub mod Image
 pub mod Layouts
+pub mod Lines
 pub mod Matching
 pub mod MatchingLaws
 pub mod Normal

@@ -18,8 +18,13 @@ use fv_tree::{VolumeView, read_volume};
 use std::alloc::Global;
 use std::io::{Read, Write};
 
-// The volume that the whole input is.
-pub(crate) fn whole_volume(alloc: Global, input: &[u8]) -> Result<VolumeView<'_>, Fault>
+/// The volume that the whole input is. (PI specification, volume 3, section 3.2.)
+///
+/// # Errors
+///
+/// Those of `read_volume`; then Length at FvLength where bytes stand behind the volume.
+/// OutOfMemory.
+pub fn whole_volume(alloc: Global, input: &[u8]) -> Result<VolumeView<'_>, Fault>
     ensures found { IfOk result (λ view. Accepted input.now view) }
     ensures only { IfOk result (λ view. (m : Meaning) → Accepted input.now m → m ≡ view) }
     ensures refused { IfErr result (λ f. (f ≡ want_of_memory) ⊎ NotRead input.now f) }

@@ -1,0 +1,14 @@
+use Rattle.std.proofs.Common.{◌≤◌, ◌∙◌, length, subst, sym}
+use Rattle.std.specs.Prelude.{IfSome}
+use Rattle.std.proofs.KnownBytes.{Keeps-refl}
+use Rattle.fv_tree.specs.Difference.{Differs}
+use Rattle.fv_canon.proofs.FewSteps.{few_steps}
+use Rattle.fv_canon.proofs.compare.write_comparison.Goals as goal
+
+pub write_line-requires : goal.write_line-requires
+write_line-requires g c =
+    let few = few_steps c.args.first.now c.args.second.now c.head-head.ensures.meaning in
+    record { few = subst (λ (o : Differs). IfSome o (λ d. length d.0 ≤ 18)) (sym (c.as_ref.ensures.value ∙ c.in-Ok.ensures.first)) few }
+
+pub returns-in-Err-clause-err : goal.returns-in-Err-clause-err
+returns-in-Err-clause-err g c = (Keeps-refl _, c.in-Err.ensures.err, c.in-Err.ensures.memory)

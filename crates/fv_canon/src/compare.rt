@@ -1,0 +1,142 @@
+//! From two inputs to the line that says where their volumes first differ.
+
+ghost use Rattle.std.specs.Prelude.{◌≡◌, ◌≢◌, ◌≤◌, length, option_copied, true, false};
+ghost use Rattle.std.specs.Prelude.{IfOk, IfErr, IfSome, OnOk, OnErr};
+ghost use Rattle.std.specs.Io.KnownBytes.{Appends};
+ghost use Rattle.fv_base.specs.Input.{ReadsWhole, ReadStops};
+ghost use Rattle.fv_base.specs.Output.{WriteStops};
+ghost use Rattle.fv_base.specs.Port.{inner_of, has_erred};
+ghost use Rattle.fv_canon.specs.Comparisons.{Compares, ComparisonStops, RunCompares, SideStopsRun, VolumeStops};
+ghost use Rattle.fv_canon.specs.Lines.{compare_line};
+ghost use Rattle.fv_tree.specs.Denotes.{Accepted};
+
+use crate::lines::put_comparison;
+use crate::run::whole_volume;
+use crate::side::Side;
+use fv_base::{Fault, FaultKind, Port, WriteSink, read_input};
+use fv_tree::{Difference, VolumeView, first_difference};
+use std::alloc::Global;
+use std::io::{Read, Write};
+
+// Writes the line of where two volumes first differ, or of two that mean the same.
+fn write_line<W: Write>(writer: &mut Port<W>, found: Option<&Difference>) -> Result<(), Fault>
+    requires few { IfSome (option_copied found) (λ d. length d.0 ≤ 18) }
+    ensures ok { OnOk result (Appends (W.contents (inner_of writer.old)) (W.contents (inner_of writer.new))
+        (compare_line (option_copied found.entry))) }
+    ensures err { IfErr result (WriteStops (W.contents (inner_of writer.old)) (W.contents (inner_of writer.new))
+        (compare_line (option_copied found.entry))) }
+    ensures erred { OnErr result (has_erred writer.new ≡ true) }
+{
+    let mut out = WriteSink {
+        port: writer,
+        on: true,
+        count: 0,
+    };
+    put_comparison(&mut out, found);
+    if out.on { Ok(()) } else { Err(out.fault()) }
+}
+
+/// Writes whether two volumes mean the same and, where they do not, where they first differ: a
+/// line `same`, or `different at` with the steps down to there, each `file` or `section` with its
+/// number, and the word of what differs. The answer is true where they mean the same. (PI
+/// specification, volume 3, section 3.2.)
+///
+/// # Errors
+///
+/// OutOfMemory, of the first side, and then nothing was written. WriteFault at the bytes written,
+/// of the output: exactly these bytes of the line were written.
+pub fn write_comparison<W: Write>(
+    alloc: Global,
+    first: &VolumeView<'_>,
+    second: &VolumeView<'_>,
+    writer: &mut Port<W>,
+) -> Result<bool, (Side, Fault)>
+    ensures ok { IfOk result (Compares first.now second.now
+        (W.contents (inner_of writer.old)) (W.contents (inner_of writer.new))) }
+    ensures err { IfErr result (λ e. ComparisonStops e.0 first.now second.now
+        (W.contents (inner_of writer.old)) (W.contents (inner_of writer.new)) e.1) }
+
+    // The writer's fault is of the output, and comes only where the port has erred.
+    ensures writer_erred { IfErr result (λ e. e.1.kind ≡ FaultKind.WriteFault
+        → (e.0 ≡ Side.Output) × (has_erred writer.new ≡ true)) }
+{
+    let _head = first.head();
+    let found = match first_difference(alloc, first, second) {
+        Ok(found) => found,
+        Err(fault) => return Err((Side::First, fault)),
+    };
+    match write_line(writer, found.as_ref()) {
+        Ok(()) => Ok(found.is_none()),
+        Err(fault) => Err((Side::Output, fault)),
+    }
+}
+
+// Reads the input of a side to its end.
+fn read_side<R: Read>(
+    alloc: Global,
+    side: Side,
+    reader: &mut Port<R>,
+) -> Result<Vec<u8>, (Side, Fault)>
+    ensures ok { IfOk result (λ v. ReadsWhole
+        (R.remaining (inner_of reader.old)) (R.remaining (inner_of reader.new)) v.items) }
+    ensures err { IfErr result (λ e. (e.0 ≡ side)
+        × ReadStops (R.remaining (inner_of reader.old)) (R.remaining (inner_of reader.new)) e.1) }
+    ensures erred { has_erred reader.old ≡ false
+        → IfErr result (λ e. e.1.kind ≡ FaultKind.ReadFault → has_erred reader.new ≡ true) }
+{
+    match read_input(alloc, reader) {
+        Ok(input) => Ok(input),
+        Err(fault) => Err((side, fault)),
+    }
+}
+
+// The volume that the whole input of a side is.
+fn accept_side(alloc: Global, side: Side, input: &[u8]) -> Result<VolumeView<'_>, (Side, Fault)>
+    ensures ok { IfOk result (λ view. Accepted input.now view) }
+    ensures err { IfErr result (λ e. (e.0 ≡ side) × VolumeStops input.now e.1) }
+    ensures kind { IfErr result (λ e. (e.1.kind ≢ FaultKind.ReadFault) × (e.1.kind ≢ FaultKind.WriteFault)) }
+{
+    match whole_volume(alloc, input) {
+        Ok(view) => Ok(view),
+        Err(fault) => Err((side, fault)),
+    }
+}
+
+/// Reads two inputs to their ends, the second only behind a first that is a volume, and writes
+/// the line of `write_comparison`. The answer is true where they mean the same. The inputs and
+/// their views are held. (PI specification, volume 3, section 3.2.)
+///
+/// # Errors
+///
+/// The side that stopped the run, with the fault. Of an input: ReadFault at the bytes read so
+/// far, Length at the limit where more bytes come, and those of `whole_volume`. OutOfMemory while
+/// the two are compared is of the first. In all these cases nothing was written. Those of
+/// `write_comparison`.
+pub fn run_compare<R: Read, Q: Read, W: Write>(
+    alloc: Global,
+    first: &mut Port<R>,
+    second: &mut Port<Q>,
+    writer: &mut Port<W>,
+) -> Result<bool, (Side, Fault)>
+    ensures ok { IfOk result (RunCompares (R.remaining (inner_of first.old)) (R.remaining (inner_of first.new))
+        (Q.remaining (inner_of second.old)) (Q.remaining (inner_of second.new))
+        (W.contents (inner_of writer.old)) (W.contents (inner_of writer.new))) }
+    ensures err { IfErr result (λ e. SideStopsRun e.0
+        (R.remaining (inner_of first.old)) (R.remaining (inner_of first.new))
+        (Q.remaining (inner_of second.old)) (Q.remaining (inner_of second.new))
+        (W.contents (inner_of writer.old)) (W.contents (inner_of writer.new)) e.1) }
+
+    // A fault of a reader or of the writer is of its own side, and comes only where its port has erred.
+    ensures first_erred { has_erred first.old ≡ false
+        → IfErr result (λ e. e.0 ≡ Side.First → e.1.kind ≡ FaultKind.ReadFault → has_erred first.new ≡ true) }
+    ensures second_erred { has_erred second.old ≡ false
+        → IfErr result (λ e. e.0 ≡ Side.Second → e.1.kind ≡ FaultKind.ReadFault → has_erred second.new ≡ true) }
+    ensures writer_erred { IfErr result (λ e. e.1.kind ≡ FaultKind.WriteFault
+        → (e.0 ≡ Side.Output) × (has_erred writer.new ≡ true)) }
+{
+    let input = read_side(alloc, Side::First, first)?;
+    let view = accept_side(alloc, Side::First, &input)?;
+    let other_input = read_side(alloc, Side::Second, second)?;
+    let other = accept_side(alloc, Side::Second, &other_input)?;
+    write_comparison(alloc, &view, &other, writer)
+}
