@@ -119,11 +119,11 @@ rises es name ordered = searchable_from_sorted entry_total (λ (e : Entry). e) e
 abbrev same_pair : Entry → Entry → Type 0
 same_pair a b = a ≡ b
 
-in_front : {X : Type 0} (x : X) (xs : List X) (y : X) → Contains (x ∷ xs) y → (x ≡ y) ⊎ Contains xs y
+pub in_front : {X : Type 0} (x : X) (xs : List X) (y : X) → Contains (x ∷ xs) y → (x ≡ y) ⊎ Contains xs y
 in_front x xs y (zero, l, e) = inl e
 in_front x xs y (suc k, l, e) = inr (k, omega (arith, l), e)
 
-behind : {X : Type 0} (x : X) (xs : List X) (y : X) → Contains xs y → Contains (x ∷ xs) y
+pub behind : {X : Type 0} (x : X) (xs : List X) (y : X) → Contains xs y → Contains (x ∷ xs) y
 behind x xs y (k, l, e) = (suc k, omega (arith, l), e)
 
 numbers_above : (k : ℕ) (names : List Guid) (name : Halves) (j : ℕ) → Contains (numbered k names) (name, j) → k ≤ j

@@ -27,3 +27,10 @@ pub use Rattle.fv_tree.proofs.KindLaws.{OfReading, stands_kind, is_reading, stan
 
 -- they differ nowhere exactly where they are one
 pub use Rattle.fv_tree.proofs.DifferLaws.{one_volume, no_difference}
+
+-- ---- the volumes in some bytes
+
+-- they begin at one list of places, and each of them lies within the bytes
+pub use Rattle.fv_tree.proofs.ScanLaws.{one_found, found_within}
+-- a volume at a place has one length, 64 at least and a multiple of 8, and lies within the bytes
+pub use Rattle.fv_tree.proofs.ScanLaws.{one_length, at_least, at_multiple, at_within}

@@ -20,4 +20,7 @@ pub mod FirstLaws
 pub mod KindLaws
 pub mod DifferLaws
 pub mod DifferWalks
+pub mod LookLaws
+pub mod FrameLaws
+pub mod ScanLaws
 pub mod Laws

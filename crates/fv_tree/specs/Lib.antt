@@ -12,3 +12,6 @@ pub mod Seen
 pub mod Body
 pub mod Shapes
 pub mod Difference
+pub mod Instances
+pub mod Answers
+pub mod Found

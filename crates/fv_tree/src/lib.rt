@@ -6,12 +6,14 @@ pub mod difference;
 pub mod lookup;
 mod numbers;
 pub mod read;
+pub mod scanner;
 mod stream;
 #[cfg(test)]
 mod tests;
 pub mod view;
 
 pub use difference::{Difference, Step, Word, first_difference};
-pub use lookup::file_by_name;
+pub use lookup::{Item, Lookup, file_by_name, file_by_type, next_file, section_by_type};
 pub use read::read_volume;
+pub use scanner::{Offsets, scan};
 pub use view::{Body, Content, FileView, SectionView, VolumeView};

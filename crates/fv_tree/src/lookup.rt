@@ -1,17 +1,235 @@
-//! Looking for files of a volume.
+//! Looking for files and sections.
 
-ghost use Rattle.std.specs.Prelude.{◌≡◌, option_copied};
-ghost use Rattle.fv_tree.specs.Meaning.{files_of};
+ghost use Rattle.std.specs.Prelude.{◌≡◌, ◌∷◌, ℕ, Ok, Err, IfOk, IfErr, List, option_map};
+ghost use Rattle.std.specs.Prelude.{option_copied};
+ghost use Rattle.fv_section.specs.FrameChecks.{IsFirst};
+ghost use Rattle.fv_section.specs.Frames.{FrameForm, Splits};
+ghost use Rattle.fv_section.specs.Seen as framed;
+ghost use Rattle.fv_tree.specs.Answers.{SeesSection, SeesFrame, IsNotSectioned};
+ghost use Rattle.fv_tree.specs.Instances.{file_after, file_of_type, section_of_type, frame_of_type, of_type};
+ghost use Rattle.fv_tree.specs.Instances.{preorder, inside_section, inside_body, sought, security_core};
+ghost use Rattle.fv_tree.specs.Meaning.{files_of, file_kind_of, content_of, Plain, Sectioned};
+ghost use Rattle.fv_tree.specs.Meaning.{SectionMeanings, sections_from};
 ghost use Rattle.fv_tree.specs.Names.{file_named};
+ghost use Rattle.fv_tree.specs.Views.{body_view};
 
-use crate::view::{FileView, VolumeView};
-use fv_base::Guid;
+use crate::stream::behind;
+use crate::view::{Body, Content, FileView, SectionView, VolumeView};
+use fv_base::{Fault, Guid};
+use fv_section::{Frame, next_frame};
+
+/// The type of a security core, whose data are sections that stay bytes. (PI specification, volume
+/// 3, section 3.2.3, EFI_FV_FILETYPE_SECURITY_CORE.)
+const SECURITY_CORE: u8 = 0x03;
+
+/// What a look-up of a section found.
+#[derive(Clone, Copy)]
+pub enum Item<'v, 'a> {
+    /// A section of the tree.
+    Section(&'v SectionView<'a>),
+    /// A frame of the data of a security core, with its place in them.
+    Frame(Frame<'a>),
+}
+
+/// The answer of a look-up of a section.
+#[derive(Clone, Copy)]
+pub enum Lookup<'v, 'a> {
+    /// This is it.
+    Found(Item<'v, 'a>),
+    /// The file holds sections, and none of this type and instance.
+    Absent,
+    /// The file holds no sections.
+    NotSectioned,
+}
 
 /// The first file of this name, or None. It is looked up in the view's map of names, and takes no
-/// memory.
+/// memory. (PI specification, volume 3, section 3.2.3.)
 pub fn file_by_name<'v, 'a>(volume: &'v VolumeView<'a>, name: &Guid) -> Option<&'v FileView<'a>>
     ensures { option_copied result ≡ file_named name.now (files_of volume.now) }
 {
     let number = volume.number_of(name)?;
     volume.file(number)
+}
+
+/// The file behind the one of this number, with its own number; the first for None. It is None
+/// behind the last. Files are numbered from 0 in the order in which they lie. Takes no memory.
+/// (PI specification, volume 3, section 3.2.3.)
+pub fn next_file<'v, 'a>(
+    volume: &'v VolumeView<'a>,
+    after: Option<u32>,
+) -> Option<(u32, &'v FileView<'a>)>
+    ensures { option_map (λ r. (r.0, r.1.now)) result ≡ file_after after (files_of volume.now) }
+{
+    let number = match after {
+        None => 0,
+        Some(last) => {
+            if last >= volume.file_count() {
+                return None;
+            }
+            last + 1
+        }
+    };
+    let file = volume.file(number)?;
+    Some((number, file))
+}
+
+/// The file that is number `instance` of those of this type, counted from 1, or None; instance 0 is
+/// None. Takes no memory. (PI specification, volume 3, section 3.2.3, EFI_FV_FILETYPE.)
+pub fn file_by_type<'v, 'a>(
+    volume: &'v VolumeView<'a>,
+    kind: u8,
+    instance: u32,
+) -> Option<&'v FileView<'a>>
+    ensures { option_copied result ≡ file_of_type kind instance (files_of volume.now) }
+{
+    if instance == 0 {
+        return None;
+    }
+    let mut left = instance - 1;
+    for file in volume.files() {
+        if file.kind() != kind {
+            continue;
+        }
+        if left == 0 {
+            return Some(file);
+        }
+        left -= 1;
+    }
+    None
+}
+
+// Among a section and those in it, the one of this type that has `left` others of it before it; or
+// how many of those are left, behind them all.
+#[cycle(seek)]
+fn seek_section<'v, 'a>(
+    section: &'v SectionView<'a>,
+    kind: u8,
+    left: u32,
+) -> Result<&'v SectionView<'a>, u32>
+    ensures ok { IfOk result (λ s. sought left (of_type kind (section.now ∷ inside_section section.now)) ≡ Ok s.now) }
+    ensures err { IfErr result (λ n. sought left (of_type kind (section.now ∷ inside_section section.now)) ≡ Err n) }
+{
+    if section.kind() != kind {
+        return seek_body(section.body(), kind, left);
+    }
+    if left == 0 {
+        return Ok(section);
+    }
+    seek_body(section.body(), kind, left - 1)
+}
+
+// The same among the sections in a body.
+#[cycle(seek)]
+fn seek_body<'v, 'a>(body: &'v Body<'a>, kind: u8, left: u32) -> Result<&'v SectionView<'a>, u32>
+    ensures ok { IfOk result (λ s. sought left (of_type kind (inside_body (body_view body.now))) ≡ Ok s.now) }
+    ensures err { IfErr result (λ n. sought left (of_type kind (inside_body (body_view body.now))) ≡ Err n) }
+{
+    match body {
+        Body::Group { sections, .. } => seek_sections(sections.as_slice(), kind, left),
+        _ => Err(left),
+    }
+}
+
+// The same among some sections and those in them.
+#[cycle(seek)]
+fn seek_sections<'v, 'a>(
+    sections: &'v [SectionView<'a>],
+    kind: u8,
+    number: u32,
+) -> Result<&'v SectionView<'a>, u32>
+    ensures ok { IfOk result (λ s. sought number (of_type kind (preorder (sections_from sections.now))) ≡ Ok s.now) }
+    ensures err { IfErr result (λ n. sought number (of_type kind (preorder (sections_from sections.now))) ≡ Err n) }
+{
+    let mut left = number;
+    for section in sections {
+        match seek_section(section, kind, left) {
+            Ok(found) => return Ok(found),
+            Err(more) => left = more,
+        }
+    }
+    Err(left)
+}
+
+// The answer of a look-up among some sections.
+fn section_lookup<'v, 'a>(
+    sections: &'v [SectionView<'a>],
+    kind: u8,
+    instance: u32,
+) -> Lookup<'v, 'a>
+    ensures { SeesSection result (section_of_type kind instance (sections_from sections.now)) }
+{
+    if instance == 0 {
+        return Lookup::Absent;
+    }
+    match seek_sections(sections, kind, instance - 1) {
+        Ok(section) => Lookup::Found(Item::Section(section)),
+        Err(_) => Lookup::Absent,
+    }
+}
+
+// The frame of this type and instance. The stream is walked to its end, for only then it is known
+// that the bytes are one.
+fn frame_by_type(bytes: &[u8], kind: u8, instance: u32) -> Result<Option<Frame<'_>>, Fault>
+    ensures ok { IfOk result (λ o. (fs : List FrameForm) (t : ℕ) → Splits fs t bytes.now
+        → option_map framed.form_of o ≡ frame_of_type kind instance fs) }
+    ensures split { IfOk result (λ _. (fs : List FrameForm) × (t : ℕ) × Splits fs t bytes.now) }
+    ensures err { IfErr result (λ _. (fs : List FrameForm) (t : ℕ) → Splits fs t bytes.now → ⊥) }
+    ensures first { IfErr result (IsFirst bytes.now) }
+{
+    let mut found = None;
+    let mut left = instance;
+    let mut at = 0;
+    while let Some(frame) = next_frame(bytes, at)? {
+        at = behind(bytes, &frame);
+        if frame.kind != kind || left == 0 {
+            continue;
+        }
+        left -= 1;
+        if left == 0 {
+            found = Some(frame);
+        }
+    }
+    Ok(found)
+}
+
+// The answer of a look-up among the frames of bytes that may be a stream.
+fn frame_lookup<'v, 'a>(bytes: &'a [u8], kind: u8, instance: u32) -> Lookup<'v, 'a>
+    ensures core { (fs : List FrameForm) (t : ℕ) → Splits fs t bytes.now
+        → SeesFrame result (frame_of_type kind instance fs) }
+    ensures none { ((fs : List FrameForm) (t : ℕ) → Splits fs t bytes.now → ⊥) → IsNotSectioned result }
+{
+    match frame_by_type(bytes, kind, instance) {
+        Ok(Some(frame)) => Lookup::Found(Item::Frame(frame)),
+        Ok(None) => Lookup::Absent,
+        Err(_) => Lookup::NotSectioned,
+    }
+}
+
+/// The section that is number `instance` of those of this type, counted from 1 in preorder: a group
+/// is followed by the sections in it, and those of a nested volume are passed by. Instance 0 is
+/// Absent. Of a security core, the frame so counted among those that its data are; where they are
+/// no stream, as of any other file whose data stay bytes, the answer is NotSectioned. Takes no
+/// memory. (PI specification, volume 3, section 3.2.4, EFI_SECTION_TYPE.)
+pub fn section_by_type<'v, 'a>(file: &'v FileView<'a>, kind: u8, instance: u32) -> Lookup<'v, 'a>
+    ensures sections { (ss : SectionMeanings) (t : ℕ) → content_of file.now ≡ Sectioned ss t
+        → SeesSection result (section_of_type kind instance ss) }
+
+    // The frames of a security core.
+    ensures core { (b : List ℕ) (fs : List FrameForm) (t : ℕ) → content_of file.now ≡ Plain b
+        → file_kind_of file.now ≡ security_core → Splits fs t b → SeesFrame result (frame_of_type kind instance fs) }
+
+    // Other files, and security cores whose data are no stream.
+    ensures plain { (b : List ℕ) → content_of file.now ≡ Plain b
+        → (file_kind_of file.now ≡ security_core → (fs : List FrameForm) (t : ℕ) → Splits fs t b → ⊥)
+        → IsNotSectioned result }
+{
+    match file.content() {
+        Content::Plain(bytes) => {
+            if file.kind() != SECURITY_CORE {
+                return Lookup::NotSectioned;
+            }
+            frame_lookup(bytes, kind, instance)
+        }
+        Content::Stream { sections, .. } => section_lookup(sections.as_slice(), kind, instance),
+    }
 }

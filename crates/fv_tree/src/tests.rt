@@ -4,6 +4,7 @@ mod content;
 mod deep;
 mod differences;
 mod large;
+mod lookups;
 mod many;
 mod memory;
 mod vectors;

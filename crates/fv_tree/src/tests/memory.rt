@@ -2,7 +2,7 @@
 
 use super::vectors::{ACCEPTED, REFUSED};
 use super::{ROOM, Refused, fault_at, spell};
-use crate::read_volume;
+use crate::{read_volume, scan};
 use fv_base::{Fault, FaultKind};
 use std::alloc::Global;
 
@@ -14,10 +14,21 @@ fn is_answered(alloc: Global, text: &str, wanted: Option<Fault>) -> Option<bool>
     Some(fault == wanted || fault == Some(Fault::outer(FaultKind::OutOfMemory, 0)))
 }
 
+/// Whether the first volume in what a text spells is found at 0, or memory was refused.
+fn is_scanned(alloc: Global, text: &str) -> Option<bool> {
+    let mut bytes = [0; ROOM];
+    let count = spell(text, &mut bytes)?;
+    match scan(alloc, bytes.get(..count)?) {
+        Ok(offsets) => Some(offsets.as_slice().first() == Some(&0)),
+        Err(fault) => Some(fault == Fault::outer(FaultKind::OutOfMemory, 0)),
+    }
+}
+
 #[test]
 fn refused_memory_is_told(rt: HostRuntime) {
     for (name, text, _, _) in ACCEPTED {
         assert_eq!(rt; is_answered(rt.alloc(), text, None), Some(true), "{name}");
+        assert_eq!(rt; is_scanned(rt.alloc(), text), Some(true), "{name}");
     }
     for row in &REFUSED {
         let fault = Some(fault_at(row));

@@ -7,7 +7,7 @@ use std::alloc::Global;
 use std::mem::size_of;
 
 /// A deleted file of name C, a marked one of name A, one of name B, and the one that replaces the marked one.
-const STATES: &str =
+pub(super) const STATES: &str =
     "00*16 78e58c8c3d8a1c4f9935896185c32dd3 0001 00*6 5f465648 fffe0400 4800cef4 00000002 01000000 00010000 00*8 0c*16 \
      1faa0100200000e8 00*8 0a*16 3faa0100200000f0 01*8 0b*16 37aa0100180000f8 0a*16 3faa0100200000f8 02*8 ff*64";
 

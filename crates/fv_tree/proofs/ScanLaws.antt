@@ -1,0 +1,212 @@
+-- Which volumes begin in some bytes.
+use Rattle.std.proofs.Common.{◌≡◌, ℕ, zero, suc, ◌+◌, ◌%◌, ◌-◌, ◌<◌, ◌≤◌, List, [], ◌∷◌, length, drop, take, refl, sym, ap, ◌∙◌}
+use Rattle.std.proofs.Common.{subst, drop-drop, arith, true, false, inl, inr}
+use Rattle.std.specs.Prelude.{◌⊎◌}
+use Rattle.std.specs.List.{AllByRecursion, Contains}
+use Rattle.std.specs.Str.{bytes_eq}
+use Rattle.std.proofs.lemmas.List.{take_all, length-drop}
+use Rattle.fv_base.specs.Checks.{first_fault}
+use Rattle.fv_base.proofs.CheckLemmas.{all_hold}
+use Rattle.fv_head.specs.Head.{HeadFields, Front, signature_bytes}
+use Rattle.fv_head.specs.HeadChecks.{head_checks, has_signature}
+use Rattle.fv_head.specs.declared.extent.Extent.{Extent}
+use Rattle.fv_head.proofs.FrontLemmas.{front_only, one_front, verdict_ok}
+use Rattle.fv_tree.specs.Found.{VolumeAt, IsPlace, LiesBehind, Apart, IsCovered, Found, NoneBetween, NoneFrom, FoundFrom}
+use Rattle.fv_tree.proofs.IndexLaws.{in_front, behind}
+
+order : (a k : ℕ) → (a ≤ k) ⊎ (k < a)
+order zero k = inl (omega arith)
+order (suc a) zero = inr (omega arith)
+order (suc a) (suc k) = up (order a k) where
+  up : (a ≤ k) ⊎ (k < a) → (suc a ≤ suc k) ⊎ (suc k < suc a)
+  up (inl l) = inl (omega (arith, l))
+  up (inr l) = inr (omega (arith, l))
+
+-- ---- a volume
+
+some_length : (b : List ℕ) (h : HeadFields) (e : Extent) → Front h e b → (64 ≤ e.length) × (e.length % 8 ≡ 0)
+some_length b h e f =
+    (omega (arith, f.head.least, f.head.volume_least, f.length_is), omega (arith, f.head.volume_multiple, f.length_is))
+
+-- it has 64 bytes at least, a multiple of 8, and lies within the bytes
+pub at_least : (b : List ℕ) (k n : ℕ) → VolumeAt b k n → 64 ≤ n
+at_least b k n v = omega (arith, v.3, (some_length (drop k b) v.0 v.1 v.2).0)
+
+pub at_multiple : (b : List ℕ) (k n : ℕ) → VolumeAt b k n → n % 8 ≡ 0
+at_multiple b k n v = omega (arith, v.3, (some_length (drop k b) v.0 v.1 v.2).1)
+
+pub at_within : (b : List ℕ) (k n : ℕ) → VolumeAt b k n → k + n ≤ length b
+at_within b k n v = omega (arith, v.3, v.2.whole, length-drop k b, at_least b k n v)
+
+-- one length at a place
+pub one_length : (b : List ℕ) (k n m : ℕ) → VolumeAt b k n → VolumeAt b k m → n ≡ m
+one_length b k n m v w = v.3 ∙ ap (λ (e : Extent). e.length) (one_front (drop k b) v.0 w.0 v.1 w.1 v.2 w.2).1 ∙ sym w.3
+
+-- ---- the walk
+
+pub between_nothing : (b : List ℕ) (k : ℕ) → NoneBetween b k k
+between_nothing b k = λ j n l u m v. absurd (omega (arith, l, u))
+
+-- none up to a place, and none from there on, or up to another
+pub between_joined : (b : List ℕ) (from at to : ℕ) → NoneBetween b from at → NoneBetween b at to → NoneBetween b from to
+between_joined b from at to f g = λ k n l u m v. go k n l u m v (order at k) where
+  go : (k n : ℕ) → from ≤ k → k < to → k % 8 ≡ 0 → VolumeAt b k n → (at ≤ k) ⊎ (k < at) → ⊥
+  go k n l u m v (inl p) = g k n p u m v
+  go k n l u m v (inr p) = f k n l p m v
+
+pub from_joined : (b : List ℕ) (from at : ℕ) → NoneBetween b from at → NoneFrom b at → NoneFrom b from
+from_joined b from at f g = λ k n l m v. go k n l m v (order at k) where
+  go : (k n : ℕ) → from ≤ k → k % 8 ≡ 0 → VolumeAt b k n → (at ≤ k) ⊎ (k < at) → ⊥
+  go k n l m v (inl p) = g k n p m v
+  go k n l m v (inr p) = f k n l p m v
+
+-- none at a place, and so none up to the next
+pub between_one : (b : List ℕ) (at : ℕ) → at % 8 ≡ 0 → ((n : ℕ) → VolumeAt b at n → ⊥) → NoneBetween b at (at + 8)
+between_one b at e none = λ k n l u m v. none n (subst (λ j. VolumeAt b j n) (omega (arith, e, l, u, m)) v)
+
+-- too few bytes for a header
+pub none_past : (b : List ℕ) (at : ℕ) → length b < at + 56 → NoneFrom b at
+none_past b at short = λ k n l m v. omega (arith, short, l, at_within b k n v, at_least b k n v)
+
+signed : (b : List ℕ) (h : HeadFields) (e : Extent) → Front h e b → has_signature b ≡ true
+signed b h e f = (all_hold (head_checks b) (verdict_ok (first_fault (head_checks b)) b e (front_only b h e f)).0).1.0
+
+-- no signature
+pub none_unsigned : (b : List ℕ) (at : ℕ) → has_signature (drop at b) ≡ false → (n : ℕ) → VolumeAt b at n → ⊥
+none_unsigned b at unsigned n v = let p : true ≡ false = sym (signed (drop at b) v.0 v.1 v.2) ∙ unsigned in cc
+
+-- the four bytes at 40 of those from a place on
+pub signature_at : (b : List ℕ) (at n : ℕ) → n ≡ 4 → bytes_eq (take n (drop (at + 40) b)) signature_bytes ≡ has_signature (drop at b)
+signature_at b at n e =
+    ap (λ k. bytes_eq (take k (drop (at + 40) b)) signature_bytes) e
+    ∙ ap (λ l. bytes_eq (take 4 l) signature_bytes) (sym (drop-drop 40 at b))
+
+-- the rest of the bytes, as a slice
+rest_is : (at : ℕ) (b : List ℕ) → take (length b - at) (drop at b) ≡ drop at b
+rest_is at b = take_all (length b - at) (drop at b) (omega (arith, length-drop at b))
+
+pub none_rest : (b : List ℕ) (at : ℕ) → ((h : HeadFields) (e : Extent) → Front h e (take (length b - at) (drop at b)) → ⊥)
+    → (n : ℕ) → VolumeAt b at n → ⊥
+none_rest b at f n v = f v.0 v.1 (subst (λ l. Front v.0 v.1 l) (sym (rest_is at b)) v.2)
+
+pub front_rest : (b : List ℕ) (at : ℕ) (h : HeadFields) (e : Extent) → Front h e (take (length b - at) (drop at b)) → VolumeAt b at e.length
+front_rest b at h e f = (h, e, subst (λ l. Front h e l) (rest_is at b) f, refl)
+
+-- one list of places at most
+pub one_walk : (from : ℕ) (b xs ys : List ℕ) → FoundFrom from b xs → FoundFrom from b ys → xs ≡ ys
+one_walk from b [] [] f g = refl
+one_walk from b [] (p ∷ ps) f (m, (l, e, none, v), rest) = absurd (f p m l e v)
+one_walk from b (o ∷ os) [] (n, (l, e, none, v), rest) g = absurd (g o n l e v)
+one_walk from b (o ∷ os) (p ∷ ps) (n, (l, e, none, v), rest) (m, (k, d, free, w), more) =
+    go (order o p) (order p o) (λ h. one_walk (o + n) b os ps rest h)
+  where
+    go : (o ≤ p) ⊎ (p < o) → (p ≤ o) ⊎ (o < p) → (FoundFrom (o + n) b ps → os ≡ ps) → o ∷ os ≡ p ∷ ps
+    go (inr u) _ tail = absurd (none p m k u d w)
+    go (inl _) (inr u) tail = absurd (free o n l u e v)
+    go (inl s) (inl t) tail =
+        let same : o ≡ p = omega (arith, s, t) in
+        let len : n ≡ m = one_length b o n m v (subst (λ j. VolumeAt b j m) (sym same) w) in
+        let next : p + m ≡ o + n = omega (arith, same, len) in
+        ap (λ j. j ∷ os) same ∙ ap (λ r. p ∷ r) (tail (subst (λ j. FoundFrom j b ps) next more))
+
+-- ---- what the walk finds
+
+weaker : (P Q : ℕ → Type 0) → ((k : ℕ) → P k → Q k) → (xs : List ℕ) → AllByRecursion P xs → AllByRecursion Q xs
+weaker P Q f [] h = tt
+weaker P Q f (x ∷ xs) (p, h) = (f x p, weaker P Q f xs h)
+
+one_of : (P : ℕ → Type 0) (xs : List ℕ) (x : ℕ) → AllByRecursion P xs → Contains xs x → P x
+one_of P [] x h (k, l, e) = absurd (omega (arith, l))
+one_of P (y ∷ xs) x (p, h) (zero, l, e) = subst P e p
+one_of P (y ∷ xs) x (p, h) (suc k, l, e) = one_of P xs x h (k, omega (arith, l), e)
+
+from_least : (from : ℕ) (b os : List ℕ) → FoundFrom from b os → AllByRecursion (λ p. from ≤ p) os
+from_least from b [] f = tt
+from_least from b (o ∷ os) (n, (l, e, none, v), rest) =
+    (l, weaker (λ p. o + n ≤ p) (λ p. from ≤ p) (λ p u. omega (arith, l, u)) os (from_least (o + n) b os rest))
+
+walk_places : (from : ℕ) (b os : List ℕ) → FoundFrom from b os → AllByRecursion (IsPlace b) os
+walk_places from b [] f = tt
+walk_places from b (o ∷ os) (n, (l, e, none, v), rest) = ((e, (n, v)), walk_places (o + n) b os rest)
+
+walk_apart : (from : ℕ) (b os : List ℕ) → FoundFrom from b os → Apart b os
+walk_apart from b [] f = tt
+walk_apart from b (o ∷ os) (n, (l, e, none, v), rest) =
+    (weaker (λ p. o + n ≤ p) (LiesBehind b o) lies os (from_least (o + n) b os rest), walk_apart (o + n) b os rest)
+  where
+    lies : (p : ℕ) → o + n ≤ p → LiesBehind b o p
+    lies p u = (omega (arith, u, at_least b o n v), λ m w. omega (arith, u, one_length b o n m v w))
+
+walk_all : (from : ℕ) (b os : List ℕ) → FoundFrom from b os → (k n : ℕ) → from ≤ k → k % 8 ≡ 0 → VolumeAt b k n → IsCovered b os k
+walk_all from b [] f k n l m v = absurd (f k n l m v)
+walk_all from b (o ∷ os) (len, (low, e, none, w), rest) k n l m v =
+    go (order o k) (order (o + len) k) (λ u. walk_all (o + len) b os rest k n u m v)
+  where
+    go : (o ≤ k) ⊎ (k < o) → (o + len ≤ k) ⊎ (k < o + len) → (o + len ≤ k → IsCovered b os k) → IsCovered b (o ∷ os) k
+    go (inr u) _ more = absurd (none k n l u m v)
+    go (inl t) (inr u) more = (o, len, (0, omega arith, refl), w, t, u)
+    go (inl t) (inl u) more = let c = more u in (c.0, c.1, behind o os c.0 c.2, c.3, c.4, c.5)
+
+pub walk_found : (b os : List ℕ) → FoundFrom 0 b os → Found b os
+walk_found b os f = record {
+  places = walk_places 0 b os f;
+  apart = walk_apart 0 b os f;
+  all = λ k n m v. walk_all 0 b os f k n (omega arith) m v;
+}
+
+-- ---- what is found is walked
+
+abbrev AllFrom : ℕ → List ℕ → List ℕ → Type 0
+AllFrom from b os = (k n : ℕ) → from ≤ k → k % 8 ≡ 0 → VolumeAt b k n → IsCovered b os k
+
+covered_none : (b : List ℕ) (k : ℕ) → IsCovered b [] k → ⊥
+covered_none b k (o, n, (j, l, e), w, s, u) = omega (arith, l)
+
+-- none between where all that there are lie behind
+covered_between : (from : ℕ) (b : List ℕ) (o : ℕ) (os : List ℕ) → AllByRecursion (LiesBehind b o) os → AllFrom from b (o ∷ os)
+    → NoneBetween b from o
+covered_between from b o os clear all = λ k n l u m v. go k u (all k n l m v) where
+  go : (k : ℕ) → k < o → IsCovered b (o ∷ os) k → ⊥
+  go k u (p, j, h, w, s, t) = at (in_front o os p h) where
+    at : (o ≡ p) ⊎ Contains os p → ⊥
+    at (inl e) = omega (arith, e, u, s)
+    at (inr h) = omega (arith, (one_of (LiesBehind b o) os p clear h).0, u, s)
+
+-- behind the first volume those behind it cover the rest
+covered_rest : (from : ℕ) (b : List ℕ) (o n : ℕ) (os : List ℕ) → from ≤ o → VolumeAt b o n → AllFrom from b (o ∷ os) → AllFrom (o + n) b os
+covered_rest from b o n os low v all = λ k m l e w. go k l (all k m (omega (arith, low, l)) e w) where
+  go : (k : ℕ) → o + n ≤ k → IsCovered b (o ∷ os) k → IsCovered b os k
+  go k l (p, j, h, w, s, t) = at (in_front o os p h) where
+    at : (o ≡ p) ⊎ Contains os p → IsCovered b os k
+    at (inl e) = absurd (omega (arith, e, l, t, one_length b o n j v (subst (λ i. VolumeAt b i j) (sym e) w)))
+    at (inr h) = (p, j, h, w, s, t)
+
+walk_back : (from : ℕ) (b os : List ℕ) → AllByRecursion (λ p. from ≤ p) os → AllByRecursion (IsPlace b) os → Apart b os → AllFrom from b os
+    → FoundFrom from b os
+walk_back from b [] low places apart all = λ k n l m v. covered_none b k (all k n l m v)
+walk_back from b (o ∷ os) (low, lows) ((e, (n, v)), places) (clear, apart) all = (
+  n,
+  (low, e, covered_between from b o os clear all, v),
+  walk_back (o + n) b os (weaker (LiesBehind b o) (λ p. o + n ≤ p) (λ p c. c.1 n v) os clear) places apart
+      (covered_rest from b o n os low v all),
+)
+
+from_nothing : (os : List ℕ) → AllByRecursion (λ p. 0 ≤ p) os
+from_nothing [] = tt
+from_nothing (o ∷ os) = (omega arith, from_nothing os)
+
+pub found_walk : (b os : List ℕ) → Found b os → FoundFrom 0 b os
+found_walk b os f = walk_back 0 b os (from_nothing os) f.places f.apart (λ k n l m v. f.all k n m v)
+
+-- ---- for callers
+
+-- the volumes of some bytes begin at one list of places
+pub one_found : (b xs ys : List ℕ) → Found b xs → Found b ys → xs ≡ ys
+one_found b xs ys f g = one_walk 0 b xs ys (found_walk b xs f) (found_walk b ys g)
+
+-- each of them lies within the bytes
+pub found_within : (b os : List ℕ) → Found b os → AllByRecursion (λ o. (n : ℕ) × VolumeAt b o n × (o + n ≤ length b)) os
+found_within b os f = within os f.places where
+  within : (ps : List ℕ) → AllByRecursion (IsPlace b) ps → AllByRecursion (λ o. (n : ℕ) × VolumeAt b o n × (o + n ≤ length b)) ps
+  within [] h = tt
+  within (p ∷ ps) ((e, (n, v)), h) = ((n, v, at_within b p n v), within ps h)

@@ -1,0 +1,60 @@
+-- Looking for files and sections: the next one, and the one of a type that is so many of its type.
+use Rattle.std.specs.Prelude.{ℕ, ◌+◌, ◌==◌, ◌++◌, zero, suc, List, [], ◌∷◌, Option, Some, None, Result, Ok, Err, option_map, slice_get}
+use Rattle.std.specs.List.{filter}
+use Rattle.fv_section.specs.Frames.{FrameForm}
+use Rattle.fv_tree.specs.Meaning.{FileMeaning, file_kind_of, SectionMeaning, Section, SectionMeanings, NoSections, MoreSections}
+use Rattle.fv_tree.specs.Meaning.{BodyMeaning, Leaf, Group, Nested, section_kind_of}
+
+-- the number of the file after the one of this number, or of the first
+abbrev pub number_after : Option ℕ → ℕ
+number_after None = 0
+number_after (Some last) = last + 1
+
+-- that file, with its number
+abbrev pub file_after : Option ℕ → List FileMeaning → Option (ℕ × FileMeaning)
+file_after after fs = option_map (λ f. (number_after after, f)) (slice_get fs (number_after after))
+
+-- item k of a list, counted from 1; there is no item 0
+abbrev pub instance_of : {A : Type 0} → ℕ → List A → Option A
+instance_of zero xs = None
+instance_of (suc k) xs = slice_get xs k
+
+-- the file of this type and instance (section 3.2.3, EFI_FV_FILETYPE)
+abbrev pub file_of_type : ℕ → ℕ → List FileMeaning → Option FileMeaning
+file_of_type kind instance fs = instance_of instance (filter (λ f. file_kind_of f == kind) fs)
+
+-- sections in preorder: each followed, where it is a group, by those in it; those of a nested volume are not among them
+abbrev mutual
+  pub preorder : SectionMeanings → List SectionMeaning
+  preorder NoSections = []
+  preorder (MoreSections s ss) = s ∷ (inside_section s ++ preorder ss)
+
+  pub inside_section : SectionMeaning → List SectionMeaning
+  inside_section (Section _ _ body) = inside_body body
+
+  pub inside_body : BodyMeaning → List SectionMeaning
+  inside_body (Leaf _) = []
+  inside_body (Group ss _) = preorder ss
+  inside_body (Nested _) = []
+
+-- the sections of this type (section 3.2.4, EFI_SECTION_TYPE)
+abbrev pub of_type : ℕ → List SectionMeaning → List SectionMeaning
+of_type kind ss = filter (λ s. section_kind_of s == kind) ss
+
+-- the section of this type and instance, in preorder
+abbrev pub section_of_type : ℕ → ℕ → SectionMeanings → Option SectionMeaning
+section_of_type kind instance ss = instance_of instance (of_type kind (preorder ss))
+
+-- item n of a list, counted from 0; or by how many it lies behind the last
+abbrev pub sought : {A : Type 0} → ℕ → List A → Result A ℕ
+sought n [] = Err n
+sought zero (x ∷ xs) = Ok x
+sought (suc n) (x ∷ xs) = sought n xs
+
+-- the type of a file whose data are sections that stay bytes (section 3.2.3, EFI_FV_FILETYPE_SECURITY_CORE)
+abbrev pub security_core : ℕ
+security_core = 0x03
+
+-- the frame of this type and instance
+abbrev pub frame_of_type : ℕ → ℕ → List FrameForm → Option FrameForm
+frame_of_type kind instance fs = instance_of instance (filter (λ f. f.kind == kind) fs)

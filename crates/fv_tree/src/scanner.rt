@@ -1,0 +1,106 @@
+//! Finding volumes.
+
+ghost use Rattle.std.specs.Prelude.{◌≡◌, ◌%◌, ◌≤◌, ◌+◌, ℕ, List, length, drop, IfOk, IfErr, IfSome, IfNone};
+ghost use Rattle.fv_base.specs.Faults.{want_of_memory};
+ghost use Rattle.fv_head.specs.HeadChecks.{has_signature};
+ghost use Rattle.fv_tree.specs.Found.{Found, IsNext, NoneBetween, NoneFrom};
+
+use fv_base::Fault;
+use fv_head::verify_fv;
+use std::alloc::Global;
+use std::marker::Model;
+
+/// The signature of a volume, `_FVH`.
+const SIGNATURE: [u8; 4] = [0x5f, 0x46, 0x56, 0x48];
+
+/// Where the volumes in some bytes begin, in rising order, in bytes from the first. Contracts see
+/// the list.
+#[derive(Drop)]
+pub struct Offsets {
+    list: Vec<u64>,
+}
+
+impl Model for Offsets {
+    ghost use Rattle.std.specs.Prelude.{ℕ, List};
+
+    ghost Value = { List ℕ };
+
+    ghost view = { λ o. o.list.items };
+}
+
+impl Offsets {
+    /// The places in their order.
+    pub fn as_slice(&self) -> &[u64]
+        ensures { result.now ≡ self.now }
+    {
+        self.list.as_slice()
+    }
+}
+
+// Whether the bytes from this place on have the signature where a header does.
+fn is_signed(bytes: &[u8], at: usize) -> bool
+    requires { at + 56 ≤ length bytes.now }
+    ensures { result ≡ has_signature (drop at bytes.now) }
+{
+    bytes[at + 40..at + 44] == SIGNATURE[..]
+}
+
+// The first place from this one on, in steps of 8, at which there are 56 bytes with the signature.
+fn next_signature(bytes: &[u8], from: usize) -> Option<usize>
+    requires multiple { from % 8 ≡ 0 }
+    requires within { from ≤ length bytes.now }
+    ensures some { IfSome result (λ at. (from ≤ at) × (at % 8 ≡ 0) × (at + 56 ≤ length bytes.now)
+        × NoneBetween bytes.now from at) }
+    ensures none { IfNone result (NoneFrom bytes.now from) }
+{
+    let mut at = from;
+    while at + 56 <= bytes.len() {
+        if is_signed(bytes, at) {
+            return Some(at);
+        }
+        at += 8;
+    }
+    None
+}
+
+// The first volume from this place on, in steps of 8: where it begins, and how many bytes it has.
+fn next_volume(bytes: &[u8], from: usize) -> Option<(usize, usize)>
+    requires multiple { from % 8 ≡ 0 }
+    requires within { from ≤ length bytes.now }
+    ensures some { IfSome result (λ r. IsNext bytes.now from r.0 r.1) }
+    ensures none { IfNone result (NoneFrom bytes.now from) }
+{
+    let mut place = from;
+    while let Some(at) = next_signature(bytes, place) {
+        if let Ok(extent) = verify_fv(&bytes[at..]) {
+            return Some((at, extent.length as usize));
+        }
+        place = at + 8;
+    }
+    None
+}
+
+/// Where the volumes in the bytes begin: from the first byte on in steps of 8, and behind each
+/// volume that is found. A volume begins where `verify_fv` of the rest answers. It is called only
+/// where the signature stands 40 bytes on, and sums no more than 2112 bytes there, so the time grows
+/// with the length, whatever the bytes are. (PI specification, volume 3, section 3.2.1.1.)
+///
+/// # Errors
+///
+/// OutOfMemory.
+pub fn scan(alloc: Global, bytes: &[u8]) -> Result<Offsets, Fault>
+    // The volumes begin at these places.
+    ensures found { IfOk result (λ o. Found bytes.now o) }
+
+    // No other places are these.
+    ensures only { IfOk result (λ o. (p : List ℕ) → Found bytes.now p → p ≡ o) }
+    ensures err { IfErr result (λ f. f ≡ want_of_memory) }
+{
+    let mut list = Vec::new(alloc);
+    let mut from = 0;
+    while let Some((at, len)) = next_volume(bytes, from) {
+        list.push(at as u64)?;
+        from = at + len;
+    }
+    Ok(Offsets { list })
+}
