@@ -1,2 +1,3 @@
+pub mod ScanLemmas
 pub mod StandingLemmas
 pub mod WriteLemmas

@@ -1,3 +1,6 @@
+pub mod Lines
+pub mod Puts
+pub mod Runs
 pub mod Standings
 pub mod Statuses
 pub mod Text

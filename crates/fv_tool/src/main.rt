@@ -2,10 +2,14 @@
 #![tactic(auto)]
 
 mod commands;
+mod comparing;
 mod hex_lines;
 mod hex_text;
 mod hobs;
+mod lines;
+mod listing;
 mod options;
+mod scanning;
 mod source;
 #[cfg(test)]
 mod tests;

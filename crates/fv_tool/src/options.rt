@@ -29,9 +29,9 @@ fn base_option<'a>(alloc: Global) -> Arg<'a> {
         .value_parser(value_parser!(u64))
 }
 
-/// The words of `normalise`.
-fn normalise_words<'a>(alloc: Global) -> Result<clap::Command<'a>, AllocError> {
-    clap::Command::new(alloc, "normalise")
+/// The words of a command with one input.
+fn one_input_words<'a>(alloc: Global, name: &'static str) -> Result<clap::Command<'a>, AllocError> {
+    clap::Command::new(alloc, name)
         .arg(hex_flag(alloc))?
         .arg(Arg::new(alloc, "file"))
 }
@@ -45,11 +45,23 @@ fn hobs_words<'a>(alloc: Global) -> Result<clap::Command<'a>, AllocError> {
         .arg(Arg::new(alloc, "file"))
 }
 
+/// The words of `compare`, which has two inputs. That both are named is looked at behind the
+/// reading.
+fn compare_words<'a>(alloc: Global) -> Result<clap::Command<'a>, AllocError> {
+    clap::Command::new(alloc, "compare")
+        .arg(hex_flag(alloc))?
+        .arg(Arg::new(alloc, "first"))?
+        .arg(Arg::new(alloc, "second"))
+}
+
 /// The words of all commands.
 fn command_words<'a>(alloc: Global) -> Result<clap::Command<'a>, AllocError> {
     clap::Command::new(alloc, "fvtool")
-        .subcommand(normalise_words(alloc)?)?
-        .subcommand(hobs_words(alloc)?)
+        .subcommand(one_input_words(alloc, "normalise")?)?
+        .subcommand(hobs_words(alloc)?)?
+        .subcommand(one_input_words(alloc, "list")?)?
+        .subcommand(one_input_words(alloc, "scan")?)?
+        .subcommand(compare_words(alloc)?)
 }
 
 /// The word of an argument, if it was given.
@@ -76,30 +88,46 @@ fn image_of(alloc: Global, matches: &ArgMatches<'_>) -> Result<Option<ImageFile>
     }
 }
 
-/// The command that was named, and its words.
-fn command_of(alloc: Global, matches: &ArgMatches<'_>) -> Result<Plan, WordFault> {
-    if let Some(inner) = matches.subcommand_matches("normalise") {
-        return Ok(Plan {
-            hex: inner.get_flag("hex"),
-            command: Command::Normalise {
-                file: file_of(alloc, inner, "file")?,
-            },
-        });
+/// The two files to be compared: both have to be named.
+fn compared_files(alloc: Global, matches: &ArgMatches<'_>) -> Result<Command, WordFault> {
+    match (matches.get_str("first"), matches.get_str("second")) {
+        (Some(first), Some(second)) => Ok(Command::Compare {
+            first: String::from_str(alloc, first)?,
+            second: String::from_str(alloc, second)?,
+        }),
+        _ => Err(WordFault::Words),
     }
-    if let Some(inner) = matches.subcommand_matches("hobs") {
-        return Ok(Plan {
-            hex: inner.get_flag("hex"),
-            command: Command::Hobs {
-                file: file_of(alloc, inner, "file")?,
-                image: image_of(alloc, inner)?,
-            },
-        });
+}
+
+/// The command of this name, with its words.
+fn command_of(alloc: Global, name: &str, matches: &ArgMatches<'_>) -> Result<Command, WordFault> {
+    match name {
+        "normalise" => Ok(Command::Normalise {
+            file: file_of(alloc, matches, "file")?,
+        }),
+        "hobs" => Ok(Command::Hobs {
+            file: file_of(alloc, matches, "file")?,
+            image: image_of(alloc, matches)?,
+        }),
+        "list" => Ok(Command::List {
+            file: file_of(alloc, matches, "file")?,
+        }),
+        "scan" => Ok(Command::Scan {
+            file: file_of(alloc, matches, "file")?,
+        }),
+        "compare" => compared_files(alloc, matches),
+        _ => Err(WordFault::Words),
     }
-    Err(WordFault::Words)
 }
 
 /// Reads words, of which the first is the program's name and the next the command's.
 pub fn parse_given(alloc: Global, words: &[String]) -> Result<Plan, WordFault> {
     let matches = command_words(alloc)?.try_get_matches_from(words)?;
-    command_of(alloc, &matches)
+    match matches.subcommand() {
+        Some((name, inner)) => Ok(Plan {
+            hex: inner.get_flag("hex"),
+            command: command_of(alloc, name, inner)?,
+        }),
+        None => Err(WordFault::Words),
+    }
 }

@@ -1,12 +1,15 @@
 //! Text, words and what a run writes.
 
 mod answers;
+mod comparing;
 mod cut_short;
 mod fakes;
 mod hobs;
 mod images;
 mod limits;
+mod listing;
 mod runs;
+mod scanning;
 mod vectors;
 mod volumes;
 mod words;

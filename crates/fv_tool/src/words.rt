@@ -32,6 +32,23 @@ pub enum Command {
         /// The image in which its volumes are looked for.
         image: Option<ImageFile>,
     },
+    /// List the files and the sections of a volume.
+    List {
+        /// The file of the volume, or standard input.
+        file: Option<String>,
+    },
+    /// Find the volumes in some bytes.
+    Scan {
+        /// The file of the bytes, or standard input.
+        file: Option<String>,
+    },
+    /// Tell whether two volumes mean the same.
+    Compare {
+        /// The file of the first volume.
+        first: String,
+        /// The file of the second volume.
+        second: String,
+    },
 }
 
 /// An image in a file.
@@ -47,15 +64,20 @@ impl Plan {
     /// The file of the first input, or None for standard input.
     pub fn first(&self) -> Option<&String> {
         match &self.command {
-            Command::Normalise { file } | Command::Hobs { file, .. } => file.as_ref(),
+            Command::Normalise { file }
+            | Command::Hobs { file, .. }
+            | Command::List { file }
+            | Command::Scan { file } => file.as_ref(),
+            Command::Compare { first, .. } => Some(first),
         }
     }
 
     /// The file of the second input, where there is one.
     pub fn second(&self) -> Option<&String> {
         match &self.command {
-            Command::Normalise { .. } => None,
+            Command::Normalise { .. } | Command::List { .. } | Command::Scan { .. } => None,
             Command::Hobs { image, .. } => image.as_ref().map(|image| &image.path),
+            Command::Compare { second, .. } => Some(second),
         }
     }
 }

@@ -37,6 +37,12 @@ fn reads_words(rt: HostRuntime) -> Result<(), Fail> {
         "Plan { hex: false, command: Hobs { file: Some(\"a.hob\"), image: Some(ImageFile { path: \"a.fv\", base: 16711680 }) } }";
     let list_and_top =
         "Plan { hex: false, command: Hobs { file: None, image: Some(ImageFile { path: \"a.fv\", base: 18446744073709551615 }) } }";
+    let volume = "Plan { hex: false, command: List { file: None } }";
+    let volume_text = "Plan { hex: true, command: List { file: Some(\"a.txt\") } }";
+    let bytes = "Plan { hex: false, command: Scan { file: Some(\"a.bin\") } }";
+    let bytes_text = "Plan { hex: true, command: Scan { file: None } }";
+    let two = "Plan { hex: false, command: Compare { first: \"a.fv\", second: \"b.fv\" } }";
+    let two_texts = "Plan { hex: true, command: Compare { first: \"a.txt\", second: \"b.txt\" } }";
     let cases = [
         ("", hex_input),
         ("fv", hex_input),
@@ -52,6 +58,12 @@ fn reads_words(rt: HostRuntime) -> Result<(), Fail> {
             "fv hobs --base 18446744073709551615 --image=a.fv",
             list_and_top,
         ),
+        ("fv list", volume),
+        ("fv list a.txt --hex", volume_text),
+        ("fv scan a.bin", bytes),
+        ("fv scan --hex", bytes_text),
+        ("fv compare a.fv b.fv", two),
+        ("fv compare a.txt --hex b.txt", two_texts),
     ];
     for (line, wanted) in cases {
         assert!(rt; is_shown_as(rt.alloc(), line, wanted)?, "{line}");
@@ -75,7 +87,16 @@ fn refuses_words(rt: HostRuntime) -> Result<(), Fail> {
         "fv normalise --flag",
         "fv normalise --help",
         "fv --hex",
-        "fv list",
+        "fv list a.fv b.fv",
+        "fv list --base 1",
+        "fv scan a.bin b.bin",
+        "fv scan --help",
+        "fv compare",
+        "fv compare a.fv",
+        "fv compare --hex a.txt",
+        "fv compare a.fv b.fv c.fv",
+        "fv extract",
+        "fv check",
         "fv help",
         "fv --help",
         "fv --version",

@@ -1,5 +1,5 @@
 use Rattle.fv_base.specs.Port.{inner_of}
-use Rattle.fv_tool.proofs.WriteLemmas.{Written}
+use Rattle.fv_tool.specs.Puts.{Written}
 use Rattle.fv_tool.proofs.hobs.write_hobs.Given as goal
 
 abbrev pub invariant-loop-hob : goal.invariant-loop-hob
