@@ -7,6 +7,7 @@ mod fakes;
 mod hobs;
 mod images;
 mod limits;
+mod listed;
 mod listing;
 mod runs;
 mod scanning;

@@ -22,7 +22,7 @@ fn spell(alloc: Global, text: &str) -> Option<Vec<u8>> {
 }
 
 /// The bytes of the volume of the table that has the name.
-fn volume_named(alloc: Global, table: &str, name: &str) -> Option<Vec<u8>> {
+pub fn volume_named(alloc: Global, table: &str, name: &str) -> Option<Vec<u8>> {
     let (_, text, _) = row_named(table, name)?;
     spell(alloc, text)
 }
