@@ -27,7 +27,6 @@ pub use Rattle.fv_tree.proofs.KindLaws.{OfReading, stands_kind, is_reading, stan
 
 -- they differ nowhere exactly where they are one
 pub use Rattle.fv_tree.proofs.DifferLaws.{one_volume, no_difference}
-
 -- ---- the volumes in some bytes
 
 -- they begin at one list of places, and each of them lies within the bytes
