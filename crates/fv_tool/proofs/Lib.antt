@@ -1,3 +1,4 @@
+pub mod PartLemmas
 pub mod ScanLemmas
 pub mod StandingLemmas
 pub mod WriteLemmas

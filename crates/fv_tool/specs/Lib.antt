@@ -1,4 +1,5 @@
 pub mod Lines
+pub mod Parts
 pub mod Puts
 pub mod Runs
 pub mod Standings

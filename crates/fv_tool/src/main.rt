@@ -3,6 +3,7 @@
 
 mod commands;
 mod comparing;
+mod extracting;
 mod hex_lines;
 mod hex_text;
 mod hobs;

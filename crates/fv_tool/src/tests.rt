@@ -3,6 +3,7 @@
 mod answers;
 mod comparing;
 mod cut_short;
+mod extracting;
 mod fakes;
 mod hobs;
 mod images;
