@@ -1,3 +1,5 @@
+pub mod HexDigitLemmas
+pub mod HexInLemmas
 pub mod PartLemmas
 pub mod ScanLemmas
 pub mod StandingLemmas

@@ -1,3 +1,5 @@
+pub mod HexIn
+pub mod HexPairs
 pub mod Lines
 pub mod Parts
 pub mod Puts

@@ -4,6 +4,7 @@
 mod commands;
 mod comparing;
 mod extracting;
+mod hex_digits;
 mod hex_lines;
 mod hex_text;
 mod hobs;

@@ -10,6 +10,7 @@ mod images;
 mod limits;
 mod listed;
 mod listing;
+mod pieces;
 mod runs;
 mod scanning;
 mod vectors;
