@@ -1,12 +1,12 @@
 -- Frames that are walked and counted.
-use Rattle.std.proofs.Common.{◌≡◌, ℕ, zero, suc, ◌+◌, ◌-◌, ◌<◌, ◌≤◌, List, [], ◌∷◌, ◌++◌, length, take, subst, inl, inr, refl, sym, ap, ◌∙◌}
+use Rattle.std.proofs.Common.{◌≡◌, ℕ, zero, suc, ◌+◌, ◌-◌, ◌<◌, ◌≤◌, List, [], ◌∷◌, ◌++◌, length, take, inl, inr, refl, sym, ap, ◌∙◌}
 use Rattle.std.proofs.Common.{arith, Bool, true, false, Option, Some, None}
 use Rattle.std.specs.Prelude.{slice_get, ◌==◌, ◌⊎◌, min}
 use Rattle.std.specs.List.{filter}
 use Rattle.fv_section.specs.Frames.{FrameForm, Splits, StandsAt, size, up_to_4}
-use Rattle.fv_section.proofs.SplitLemmas.{step}
 use Rattle.fv_tree.specs.Instances.{instance_of, frame_of_type}
 use Rattle.fv_tree.proofs.LookLaws.{no_type, one_type}
+use Rattle.fv_tree.proofs.StreamLaws.{split_more as walk_more}
 
 module _ {A : Type 0} (test : A → Bool) where
   pub filter_less : (xs : List A) (x : A) → test x ≡ false → filter test (xs ++ x ∷ []) ≡ filter test xs
@@ -67,11 +67,7 @@ pub split_more : (b : List ℕ) (fs : List FrameForm) (t at : ℕ) (f : FrameFor
     → StandsAt f at b → next ≡ up_to_4 (f.offset + size f)
     → (u : ℕ) × Splits (fs ++ f ∷ []) u (take next b)
 split_more b fs t at f next split even s n =
-    let n' : up_to_4 (at + size f) ≡ next = sym (n ∙ ap (λ k. up_to_4 (k + size f)) s.offset) in (
-      min (up_to_4 (at + size f)) (length b) - (at + size f),
-      subst (λ k. Splits (fs ++ f ∷ []) (min (up_to_4 (at + size f)) (length b) - (at + size f)) (take k b)) n'
-          (step b fs f t at s.behind split even s.inside s.offset s.begins),
-    )
+    (min next (length b) - (f.offset + size f), walk_more b fs t at f (f.offset + size f) next split even s refl n)
 
 abbrev is_of : ℕ → FrameForm → Bool
 is_of kind f = f.kind == kind
