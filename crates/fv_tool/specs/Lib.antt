@@ -1,10 +1,1 @@
-pub mod HexIn
-pub mod HexPairs
-pub mod Lines
-pub mod Parts
-pub mod Puts
-pub mod Runs
-pub mod Standings
-pub mod Statuses
-pub mod Text
 pub mod Words

@@ -1,32 +1,18 @@
 //! Reads firmware volumes and writes their canonical images.
 #![tactic(auto)]
 
-mod commands;
-mod comparing;
-mod extracting;
-mod hex_digits;
-mod hex_lines;
-mod hex_text;
-mod hobs;
-mod lines;
-mod listing;
 mod options;
-mod scanning;
-mod source;
 #[cfg(test)]
 mod tests;
 mod words;
 
-ghost use Rattle.std.specs.Prelude.{◌≡◌, ◌⊎◌};
-
-use commands::{Status, refuse, run_plan, say};
 use fv_base::{Fault, FaultKind, Port};
-use source::{Source, open};
+use fv_command::{Plan, Source, Status, close, open, refuse, run_plan, say};
 use std::io::{BufWriter, Write};
 use std::process::ExitCode;
 use std::rt::{Env, Files};
 use std::{env, io};
-use words::{Plan, WordFault, parse_words};
+use words::{WordFault, parse_words};
 
 /// The words that the program was started with.
 fn arguments<R: Env + AllocGlobal>(rt: &R) -> Result<Vec<String>, WordFault> {
@@ -76,18 +62,6 @@ fn run_words<R: Env + Files + Input + AllocGlobal, W: Write>(
         Err(WordFault::Words) => say(writer, "wrong words\n", Status::WrongWords),
         Err(WordFault::OutOfMemory) => refuse(writer, Fault::outer(FaultKind::OutOfMemory, 0)),
     }
-}
-
-/// Writes what is still buffered, unless a write has failed, and answers how the run ended. What
-/// could not be written is let go.
-fn close<W: Write + Drop>(writer: Port<BufWriter<W>>, status: Status) -> Status
-    ensures { (result ≡ status) ⊎ (result ≡ Status.Refused) }
-{
-    let is_done = !writer.erred();
-    let mut buffered = writer.into_inner();
-    let is_flushed = is_done && buffered.flush().is_ok();
-    let _rest = buffered.into_parts();
-    if is_flushed { status } else { Status::Refused }
 }
 
 fn main(rt: HostRuntime) -> ExitCode {

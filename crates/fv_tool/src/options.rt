@@ -1,8 +1,9 @@
 //! The commands and their options, as they are given to the reader of command lines.
 
-use crate::words::{Command, ImageFile, Plan, WordFault};
+use crate::words::WordFault;
 use clap::error::ErrorKind;
 use clap::{Arg, ArgAction, ArgMatches, value_parser};
+use fv_command::{Command, ImageFile, Plan};
 use std::alloc::{AllocError, Global};
 
 impl From<clap::Error> for WordFault {

@@ -1,211 +1,111 @@
-//! Text, words and what a run writes.
+//! Lines of words.
 
-mod answers;
-mod comparing;
-mod cut_short;
-mod extracting;
-mod fakes;
-mod hobs;
-mod images;
-mod limits;
-mod listed;
-mod listing;
-mod pieces;
-mod runs;
-mod scanning;
-mod vectors;
-mod volumes;
-mod words;
-
-use crate::close;
-use crate::commands::{Status, say};
-use crate::hex_lines::HexLines;
-use crate::hex_text::read_hex;
-use fakes::{EndlessReader, FakeReader, FakeWriter};
-use fv_base::limits::VOLUME_LIMIT;
-use fv_base::{Fault, FaultKind, Port};
-use runs::{ends_as, normalise_plan, stops_at_each_byte};
-use std::alloc::Global;
-use std::io::{BufWriter, Read, Write};
+use crate::words::{WordFault, parse_words};
+use std::alloc::{AllocError, Global};
 use std::test::Fail;
 
-const STEPS: [usize; 3] = [1, 3, 65_536];
-
-/// Whether the text is read as the bytes, whatever its reader gives at once.
-fn is_read_as(alloc: Global, text: &[u8], bytes: &[u8]) -> bool {
-    for step in STEPS {
-        for is_interrupted in [false, true] {
-            let reader = FakeReader::new(text, step, is_interrupted);
-            match read_hex(alloc, &mut Port::new(reader)) {
-                Ok(read) if read.as_slice() == bytes => {}
-                _ => return false,
-            }
-        }
+/// The words of a line, which a space parts. An empty line has none.
+fn words_of(alloc: Global, line: &str) -> Result<Vec<String>, AllocError> {
+    let mut words = Vec::new(alloc);
+    if line.is_empty() {
+        return Ok(words);
     }
-    true
+    for word in line.split(' ') {
+        let word = String::from_str(alloc, word)?;
+        words.push(word)?;
+    }
+    Ok(words)
+}
+
+/// Whether the words of the line are a plan that is shown so.
+fn is_shown_as(alloc: Global, line: &str, wanted: &str) -> Result<bool, Fail> {
+    let words = words_of(alloc, line)?;
+    let plan = parse_words(alloc, &words)?;
+    let shown = format!(in alloc; "{plan:?}")?;
+    Ok(shown.as_str() == wanted)
 }
 
 #[test]
-fn reads_text(rt: HostRuntime) {
-    let cases: [(&[u8], &[u8]); 6] = [
-        (b"", b""),
-        (b" \t\r\n", b""),
-        (b"00", b"\x00"),
-        (b"0123456789abcdef", b"\x01\x23\x45\x67\x89\xab\xcd\xef"),
-        (b"ABCDEFabCDef", b"\xab\xcd\xef\xab\xcd\xef"),
-        (b"\n0\n1\t2 \r\n3", b"\x01\x23"),
+fn reads_words(rt: HostRuntime) -> Result<(), Fail> {
+    let hex_input = "Plan { hex: true, command: Normalise { file: None } }";
+    let hex_file = "Plan { hex: true, command: Normalise { file: Some(\"a.txt\") } }";
+    let input = "Plan { hex: false, command: Normalise { file: None } }";
+    let file = "Plan { hex: false, command: Normalise { file: Some(\"a.fv\") } }";
+    let list_input = "Plan { hex: false, command: Hobs { file: None, image: None } }";
+    let list_hex_file = "Plan { hex: true, command: Hobs { file: Some(\"a.hob\"), image: None } }";
+    let list_and_image =
+        "Plan { hex: false, command: Hobs { file: Some(\"a.hob\"), image: Some(ImageFile { path: \"a.fv\", base: 16711680 }) } }";
+    let list_and_top =
+        "Plan { hex: false, command: Hobs { file: None, image: Some(ImageFile { path: \"a.fv\", base: 18446744073709551615 }) } }";
+    let volume = "Plan { hex: false, command: List { file: None } }";
+    let volume_text = "Plan { hex: true, command: List { file: Some(\"a.txt\") } }";
+    let bytes = "Plan { hex: false, command: Scan { file: Some(\"a.bin\") } }";
+    let bytes_text = "Plan { hex: true, command: Scan { file: None } }";
+    let two = "Plan { hex: false, command: Compare { first: \"a.fv\", second: \"b.fv\" } }";
+    let two_texts = "Plan { hex: true, command: Compare { first: \"a.txt\", second: \"b.txt\" } }";
+    let cases = [
+        ("", hex_input),
+        ("fv", hex_input),
+        ("fv normalise", input),
+        ("fv normalise --hex", hex_input),
+        ("fv normalise a.fv", file),
+        ("fv normalise --hex a.txt", hex_file),
+        ("fv normalise a.txt --hex", hex_file),
+        ("fv hobs", list_input),
+        ("fv hobs a.hob --hex", list_hex_file),
+        ("fv hobs --image a.fv --base 16711680 a.hob", list_and_image),
+        (
+            "fv hobs --base 18446744073709551615 --image=a.fv",
+            list_and_top,
+        ),
+        ("fv list", volume),
+        ("fv list a.txt --hex", volume_text),
+        ("fv scan a.bin", bytes),
+        ("fv scan --hex", bytes_text),
+        ("fv compare a.fv b.fv", two),
+        ("fv compare a.txt --hex b.txt", two_texts),
     ];
-    for (text, bytes) in cases {
-        assert!(rt; is_read_as(rt.alloc(), text, bytes), "{text:?}");
-    }
-}
-
-#[test]
-fn reads_the_text_of_a_volume(rt: HostRuntime) -> Result<(), Fail> {
-    for step in STEPS {
-        let reader = FakeReader::new(vectors::EMPTY, step, true);
-        let read = read_hex(rt.alloc(), &mut Port::new(reader))?;
-        assert!(rt; read.len() == 128);
-        assert!(rt; read.get(40..44) == Some(b"_FVH".as_slice()));
-    }
-    Ok(())
-}
-
-/// Whether the reading of text stops with the fault.
-fn stops_with<R: Read + Drop>(alloc: Global, reader: R, fault: Fault) -> bool {
-    match read_hex(alloc, &mut Port::new(reader)) {
-        Ok(_) => false,
-        Err(other) => other == fault,
-    }
-}
-
-#[test]
-fn refuses_text(rt: HostRuntime) {
-    let wrong = Fault::outer(FaultKind::ReadFault, 0);
-    let texts: [&[u8]; 9] = [
-        b"0",
-        b"000",
-        b"00 f",
-        b"0g",
-        b"g0",
-        b"00\x0b00",
-        b"0x00",
-        b"00\x00",
-        b"\x80\xff",
-    ];
-    for text in texts {
-        for step in STEPS {
-            let reader = FakeReader::new(text, step, false);
-            assert!(rt; stops_with(rt.alloc(), reader, wrong), "{text:?}");
-        }
-    }
-}
-
-#[test]
-fn text_stops_where_the_reader_does(rt: HostRuntime) {
-    for count in 0..=vectors::EMPTY.len() {
-        for step in STEPS {
-            let reader = FakeReader::failing(vectors::EMPTY, step, count);
-            let fault = Fault::outer(FaultKind::ReadFault, count as u64);
-            assert!(rt; stops_with(rt.alloc(), reader, fault), "{count}");
-        }
-    }
-}
-
-// Text that is wrong too.
-#[test]
-fn text_without_end_is_too_long(rt: HostRuntime) {
-    let fault = Fault::outer(FaultKind::Length, VOLUME_LIMIT);
-    assert!(rt; stops_with(rt.alloc(), EndlessReader, fault));
-}
-
-const FULL: &[u8] = b"ABCDEFGHIJKLMNOPQRSTUVWXYZabcdef";
-
-const FULL_LINE: &[u8] = b"4142434445464748494a4b4c4d4e4f505152535455565758595a616263646566\n";
-
-const THREE_LINES_AND_2_BYTES: &[u8] = b"\
-4142434445464748494a4b4c4d4e4f505152535455565758595a616263646566\n\
-4142434445464748494a4b4c4d4e4f505152535455565758595a616263646566\n\
-4142434445464748494a4b4c4d4e4f505152535455565758595a616263646566\n\
-0abc\n\
-";
-
-/// Writes copies of a line's bytes, and the last bytes.
-fn write_copies(port: &mut Port<FakeWriter>, copies: u32, last: &[u8]) -> Result<(), Fail> {
-    let mut lines = HexLines::new(port);
-    for _copy in 0..copies {
-        lines.write_all(FULL)?;
-    }
-    lines.write_all(last)?;
-    lines.finish()?;
-    Ok(())
-}
-
-#[test]
-fn writes_lines(rt: HostRuntime) -> Result<(), Fail> {
-    let cases: [(u32, &[u8], &[u8]); 4] = [
-        (0, b"", b""),
-        (0, b"\xff", b"ff\n"),
-        (1, b"", FULL_LINE),
-        (3, b"\x0a\xbc", THREE_LINES_AND_2_BYTES),
-    ];
-    for (copies, last, wanted) in cases {
-        for step in STEPS {
-            let mut port = Port::new(FakeWriter::new(rt.alloc(), step, 1000, true));
-            write_copies(&mut port, copies, last)?;
-            assert!(rt; port.into_inner().took(wanted), "{copies} {last:?}");
-        }
+    for (line, wanted) in cases {
+        assert!(rt; is_shown_as(rt.alloc(), line, wanted)?, "{line}");
     }
     Ok(())
 }
 
 #[test]
-fn writes_the_image_or_the_fault(rt: HostRuntime) {
-    let cases: [(bool, &[u8], &[u8], Status); 5] = [
-        (true, vectors::EMPTY, vectors::EMPTY, Status::Done),
-        (true, b"", b"fault 1 at 0\n", Status::Refused),
-        (true, b"00 FF", b"fault 1 at 2\n", Status::Refused),
-        (true, b"0g", b"fault 25 at 0\n", Status::Refused),
-        (false, b"00", b"fault 1 at 2\n", Status::Refused),
+fn refuses_words(rt: HostRuntime) -> Result<(), Fail> {
+    let lines = [
+        "fv hobs --image a.fv",
+        "fv hobs --base 1",
+        "fv hobs --base 1 a.hob",
+        "fv hobs --image a.fv --base",
+        "fv hobs --image a.fv --base x",
+        "fv hobs --image a.fv --base=-1",
+        "fv hobs --image a.fv --base 18446744073709551616",
+        "fv hobs a.hob b.hob",
+        "fv normalise a.fv b.fv",
+        "fv normalise --base 1",
+        "fv normalise --flag",
+        "fv normalise --help",
+        "fv --hex",
+        "fv list a.fv b.fv",
+        "fv list --base 1",
+        "fv scan a.bin b.bin",
+        "fv scan --help",
+        "fv compare",
+        "fv compare a.fv",
+        "fv compare --hex a.txt",
+        "fv compare a.fv b.fv c.fv",
+        "fv extract",
+        "fv check",
+        "fv help",
+        "fv --help",
+        "fv --version",
+        "fv ",
     ];
-    for (hex, input, wanted, status) in cases {
-        let plan = normalise_plan(hex);
-        assert!(rt;
-            ends_as(rt.alloc(), &plan, (input, b""), status, wanted),
-            "{input:?}"
-        );
-    }
-}
-
-#[test]
-fn a_failed_write_is_the_last(rt: HostRuntime) {
-    let plan = normalise_plan(true);
-    let cases: [(&[u8], &[u8]); 2] = [
-        (vectors::EMPTY, vectors::EMPTY),
-        (b"0g", b"fault 25 at 0\n"),
-    ];
-    for (input, output) in cases {
-        assert!(rt; stops_at_each_byte(rt.alloc(), &plan, (input, b""), output));
-    }
-}
-
-/// How a run ends that says that its words are wrong.
-fn closed_after(alloc: Global, inner: &mut FakeWriter) -> Result<Status, Fail> {
-    let mut writer = Port::new(BufWriter::new(alloc, inner)?);
-    let status = say(&mut writer, "wrong words\n", Status::WrongWords);
-    Ok(close(writer, status))
-}
-
-#[test]
-fn closes_once(rt: HostRuntime) -> Result<(), Fail> {
-    let cases: [(usize, &[u8], Status); 2] = [
-        (12, b"wrong words\n", Status::WrongWords),
-        (11, b"wrong words", Status::Refused),
-    ];
-    for (room, wanted, ended) in cases {
-        let mut inner = FakeWriter::new(rt.alloc(), 5, room, true);
-        assert!(rt; closed_after(rt.alloc(), &mut inner)? == ended);
-        assert!(rt; inner.took(wanted), "{room}");
+    for line in lines {
+        let words = words_of(rt.alloc(), line)?;
+        let read = parse_words(rt.alloc(), &words);
+        assert!(rt; matches!(read, Err(WordFault::Words)), "{line}");
     }
     Ok(())
 }

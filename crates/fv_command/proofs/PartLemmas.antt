@@ -1,0 +1,20 @@
+-- What stops the extraction of a section.
+use Rattle.std.proofs.Common.{◌≡◌, ℕ, List, Some, refl, inl, inr}
+use Rattle.std.specs.Prelude.{◌⊎◌}
+use Rattle.fv_base.specs.Faults.{want_of_memory}
+use Rattle.fv_base.specs.declared.fault.Fault.{Fault}
+use Rattle.fv_canon.specs.Places.{UnfitAlone}
+use Rattle.fv_tree.specs.Instances.{section_of_type}
+use Rattle.fv_tree.specs.Meaning.{FileMeaning, ContentMeaning, SectionMeaning, SectionMeanings, Plain, Sectioned, content_of, body_of}
+use Rattle.fv_command.specs.Parts.{StopsFilePart}
+
+-- a file in which a section was found holds sections, and the section is among them
+pub stops_section : (f : FileMeaning) (kind instance : ℕ) (s : SectionMeaning) (e : Fault)
+    → ((ss : SectionMeanings) (t : ℕ) → content_of f ≡ Sectioned ss t → section_of_type kind instance ss ≡ Some s)
+    → ((b : List ℕ) → content_of f ≡ Plain b → ⊥) → (e ≡ want_of_memory) ⊎ UnfitAlone (body_of s) e
+    → (e ≡ want_of_memory) ⊎ StopsFilePart f (Some kind) instance e
+stops_section f kind instance s e found none (inl w) = inl w
+stops_section f kind instance s e found none (inr u) = inr (go (content_of f) refl) where
+  go : (x : ContentMeaning) → content_of f ≡ x → StopsFilePart f (Some kind) instance e
+  go (Plain b) p = absurd (none b p)
+  go (Sectioned ss t) p = (ss, t, s, p, found ss t p, u)

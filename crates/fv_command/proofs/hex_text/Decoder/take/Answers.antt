@@ -1,0 +1,32 @@
+use Rattle.std.proofs.Common.{arith, ap, ◌∙◌, ◌++◌, ◌∷◌, [], List, ℕ, length, length-append}
+use Rattle.fv_command.specs.HexPairs.{squeezed}
+use Rattle.fv_command.proofs.HexDigitLemmas.{squeezed_short}
+use Rattle.fv_command.proofs.HexInLemmas.{taken}
+use Rattle.fv_command.proofs.hex_text.Decoder.take.Goals as goal
+
+pub decode-requires-clause-few : goal.decode-requires-clause-few
+decode-requires-clause-few c =
+    let long = ap length c.in_ok-squeeze.ensures ∙ length-append c.args.self.now.digits.items (squeezed c.args.text.now) in
+    omega (
+      arith,
+      c.take_odd-last.ensures.room,
+      c.squeeze.new.digits.ok.0,
+      c.args.self.now.digits.ok.0,
+      long,
+      squeezed_short c.args.text.now,
+      c.requires.waiting,
+      c.requires.short,
+    )
+
+pub returns-in_ok-push-clause-read : goal.returns-in_ok-push-clause-read
+returns-in_ok-push-clause-read c = λ before so_far wrong long.
+    let (was_wrong, was_long, (more, reads, is)) = c.in_ok-decode.ensures.read wrong long in
+    let left = c.in_ok-push.ensures.items ∙ ap (λ (l : List ℕ). l ++ c.in-Some.digit ∷ []) c.in_ok-decode.ensures.empty in
+    taken before c.args.text.now _ _ _ _ _ _ more _ (so_far was_wrong was_long)
+    c.in_ok-squeeze.ensures c.in-Some.ensures.items left reads is
+
+pub returns-in_default-clause-read : goal.returns-in_default-clause-read
+returns-in_default-clause-read c = λ before so_far wrong long.
+    let (was_wrong, was_long, (more, reads, is)) = c.in_ok-decode.ensures.read wrong long in
+    taken before c.args.text.now _ _ _ _ _ _ more _ (so_far was_wrong was_long)
+    c.in_ok-squeeze.ensures c.in_default.ensures.items c.in_ok-decode.ensures.empty reads is

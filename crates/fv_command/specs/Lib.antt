@@ -1,0 +1,10 @@
+pub mod HexIn
+pub mod HexPairs
+pub mod Lines
+pub mod Parts
+pub mod Plans
+pub mod Puts
+pub mod Runs
+pub mod Standings
+pub mod Statuses
+pub mod Text

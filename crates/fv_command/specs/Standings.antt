@@ -1,0 +1,31 @@
+-- What is read of a hand-off list, and what an image holds where a volume should lie.
+use Rattle.std.specs.Prelude.{◌≡◌, ◌≤◌, ℕ, ◌+◌, ◌-◌, List, Option, length, take, drop}
+use Rattle.fv_base.specs.Input.{ReadsWhole}
+use Rattle.fv_head.specs.Head.{HeadFields, Front}
+use Rattle.fv_head.specs.declared.extent.Extent.{Extent}
+use Rattle.fv_hob.specs.Hobs.{HobForm}
+use Rattle.fv_hob.specs.Lists.{IsHobList}
+use Rattle.fv_hob.specs.declared.span.Span.{Span}
+use Rattle.fv_command.specs.declared.hobs.Standing.{Standing}
+use Rattle.fv_command.specs.declared.hobs.Standing.TheVariants.{Outside, Volume, Absent}
+
+-- an input was read to its end, and it begins with a hand-off list
+abbrev pub ReadsHobs : Option (List ℕ) → Option (List ℕ) → Type 0
+ReadsHobs unread left = (input : List ℕ) × ReadsWhole unread left input × (all : List HobForm) × (n : ℕ) × (n ≤ length input) × IsHobList all (take n input)
+
+-- the span lies within so many bytes, the first of which has the address base
+abbrev pub IsWithin : ℕ → ℕ → Span → Type 0
+IsWithin base n s = (base ≤ s.base) × (s.base + s.length ≤ base + n)
+
+-- the bytes of an image in a span
+abbrev pub part : List ℕ → ℕ → Span → List ℕ
+part image base s = take s.length (drop (s.base - base) image)
+
+-- bytes that a volume begins, and fills
+abbrev pub IsVolume : List ℕ → Type 0
+IsVolume b = (h : HeadFields) × (e : Extent) × Front h e b × (e.length ≡ length b)
+
+abbrev pub Stands : List ℕ → ℕ → Span → Standing → Type 0
+Stands image base s Outside = IsWithin base (length image) s → ⊥
+Stands image base s Volume = IsWithin base (length image) s × IsVolume (part image base s)
+Stands image base s Absent = IsWithin base (length image) s × (IsVolume (part image base s) → ⊥)

@@ -1,0 +1,77 @@
+//! The data of a file of a volume, or the body of one of its sections.
+
+ghost use Rattle.std.specs.Prelude.{◌≡◌, ◌⊎◌, Some, IfOk, IfErr};
+ghost use Rattle.fv_base.specs.Faults.{want_of_memory};
+ghost use Rattle.fv_command.specs.Parts.{IsPart, IsSectionOf, StopsFilePart, StopsPart};
+ghost use Rattle.fv_tree.specs.Meaning.{files_of};
+ghost use Rattle.fv_tree.specs.Names.{file_named};
+
+use fv_base::{ByteList, Fault, Guid};
+use fv_canon::{body_bytes, file_bytes};
+use fv_tree::{FileView, Item, Lookup, VolumeView, file_by_name, section_by_type};
+use std::alloc::Global;
+
+/// What is to be extracted of a volume.
+#[derive(Clone, Copy, Debug, PartialEq, Eq)]
+pub struct Part {
+    /// The name of the file.
+    pub name: Guid,
+    /// The type of the section, or None for the data of the file.
+    pub section: Option<u8>,
+    /// Which of the sections of this type, counted from 1.
+    pub instance: u32,
+}
+
+/// What an extraction comes to.
+#[derive(Drop)]
+pub enum Extraction<'a> {
+    /// These bytes, as the canonical image of the volume has them.
+    Made(ByteList),
+    /// The body of a frame of a security core, as it stands.
+    Stored(&'a [u8]),
+    /// The volume has no file of the name, or the file no section of the type and instance.
+    NotFound,
+    /// The file holds no sections.
+    NotSectioned,
+}
+
+/// The body of the section of this type and instance.
+fn section_part<'a>(
+    alloc: Global,
+    file: &FileView<'a>,
+    kind: u8,
+    instance: u32,
+) -> Result<Extraction<'a>, Fault>
+    ensures ok { IfOk result (IsSectionOf file.now kind instance) }
+    ensures err { IfErr result (λ f. (f ≡ want_of_memory) ⊎ StopsFilePart file.now (Some kind) instance f) }
+{
+    match section_by_type(file, kind, instance) {
+        Lookup::Found(Item::Section(section)) => Ok(Extraction::Made(body_bytes(alloc, section)?)),
+        Lookup::Found(Item::Frame(frame)) => Ok(Extraction::Stored(frame.body)),
+        Lookup::Absent => Ok(Extraction::NotFound),
+        Lookup::NotSectioned => Ok(Extraction::NotSectioned),
+    }
+}
+
+/// The part of the volume.
+///
+/// # Errors
+///
+/// The fault of the first volume inside the part that does not fit. OutOfMemory.
+pub fn extract<'a>(
+    alloc: Global,
+    volume: &VolumeView<'a>,
+    part: &Part,
+) -> Result<Extraction<'a>, Fault>
+    ensures ok { IfOk result (IsPart (file_named part.now.name (files_of volume.now)) part.now) }
+    ensures err { IfErr result (λ f. (f ≡ want_of_memory)
+        ⊎ StopsPart (file_named part.now.name (files_of volume.now)) part.now f) }
+{
+    let Some(file) = file_by_name(volume, &part.name) else {
+        return Ok(Extraction::NotFound);
+    };
+    match part.section {
+        None => Ok(Extraction::Made(file_bytes(alloc, file)?)),
+        Some(kind) => section_part(alloc, file, kind, part.instance),
+    }
+}

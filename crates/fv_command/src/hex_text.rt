@@ -1,0 +1,172 @@
+//! Hexadecimal text as an input: the digits of either case, with white space between them.
+
+ghost use Rattle.std.specs.Prelude.{◌≡◌, ◌<◌, ◌≤◌, ◌++◌, ◌%◌, [], ℕ, List, length, IfOk, IfErr, OnOk, vec_len};
+ghost use Rattle.fv_base.specs.Limits.{read_limit, volume_limit};
+ghost use Rattle.fv_base.specs.Port.{inner_of};
+ghost use Rattle.fv_command.specs.HexIn.{Decodes, DecodesPairs, GivesText, ReadsPiece};
+ghost use Rattle.fv_command.specs.HexPairs.{Reads, squeezed};
+ghost use Rattle.fv_command.specs.Text.{IsTextFault};
+
+use crate::hex_digits::{push_pairs, squeeze, take_odd};
+use fv_base::limits::{READ_LIMIT, TEXT_LIMIT, TEXT_TURNS, VOLUME_LIMIT};
+use fv_base::{Fault, FaultKind, Port};
+use std::alloc::{AllocError, Global};
+use std::io::{ErrorKind, Read};
+
+/// What the text comes to so far. Neither the text is kept, nor more bytes than a volume has.
+#[derive(Drop)]
+struct Decoder {
+    /// The digit that waits for the other of its pair, and behind it those of the piece that is taken.
+    digits: Vec<u8>,
+    bytes: Vec<u8>,
+    /// Whether something stood there that is no digit.
+    is_wrong: bool,
+    /// Whether there were more bytes than a volume has. Those are let go, since the text will be refused.
+    is_long: bool,
+}
+
+impl Decoder {
+    fn new(alloc: Global) -> Decoder
+        ensures empty { Decodes result [] }
+        ensures small { vec_len result.bytes ≤ volume_limit }
+        ensures waiting { vec_len result.digits ≤ 1 }
+    {
+        Decoder {
+            digits: Vec::new(alloc),
+            bytes: Vec::new(alloc),
+            is_wrong: false,
+            is_long: false,
+        }
+    }
+
+    /// Decodes the digits, which are pairs, and lets them go.
+    fn decode(&mut self) -> Result<(), AllocError>
+        requires even { vec_len self.old.digits % 2 ≡ 0 }
+        requires few { vec_len self.old.digits ≤ volume_limit }
+        requires small { vec_len self.old.bytes ≤ volume_limit }
+        ensures read { OnOk result (DecodesPairs self.old self.new) }
+        ensures small { OnOk result (vec_len self.new.bytes ≤ volume_limit) }
+        ensures empty { OnOk result (self.new.digits.items ≡ []) }
+    {
+        if self.bytes.len() + self.digits.len() / 2 > VOLUME_LIMIT as usize {
+            self.is_long = true;
+            self.bytes.clear();
+        }
+        if !push_pairs(&self.digits, &mut self.bytes)? {
+            self.is_wrong = true;
+        }
+        self.digits.clear();
+        Ok(())
+    }
+
+    /// Takes a piece of text. Once the text is wrong, it stays so.
+    fn take(&mut self, text: &[u8]) -> Result<(), AllocError>
+        requires short { length text.now ≤ read_limit }
+        requires small { vec_len self.old.bytes ≤ volume_limit }
+        requires waiting { vec_len self.old.digits ≤ 1 }
+        ensures read { OnOk result ((before : List ℕ) → Decodes self.old before
+            → Decodes self.new (before ++ text.now)) }
+        ensures small { OnOk result (vec_len self.new.bytes ≤ volume_limit) }
+        ensures waiting { OnOk result (vec_len self.new.digits ≤ 1) }
+    {
+        if self.is_wrong {
+            return Ok(());
+        }
+        squeeze(text, &mut self.digits)?;
+        let last = take_odd(&mut self.digits);
+        self.decode()?;
+        if let Some(digit) = last {
+            self.digits.push(digit)?;
+        }
+        Ok(())
+    }
+
+    /// The bytes of the whole text.
+    fn finish(self) -> Result<Vec<u8>, Fault>
+        requires small { vec_len self.bytes ≤ volume_limit }
+        ensures read { (text : List ℕ) → Decodes self text → IfOk result (λ v. Reads (squeezed text) v.items) }
+        ensures small { IfOk result (λ v. vec_len v ≤ volume_limit) }
+        ensures err { IfErr result IsTextFault }
+    {
+        let Decoder {
+            digits,
+            bytes,
+            is_wrong,
+            is_long,
+        } = self;
+        if is_wrong || !digits.is_empty() {
+            Err(Fault::outer(FaultKind::ReadFault, 0))
+        } else if is_long {
+            Err(Fault::outer(FaultKind::Length, VOLUME_LIMIT))
+        } else {
+            Ok(bytes)
+        }
+    }
+}
+
+/// So many zero bytes.
+fn zeros(alloc: Global, count: usize) -> Result<Vec<u8>, AllocError>
+    ensures { IfOk result (λ v. vec_len v ≡ count) }
+{
+    vec![in alloc; 0u8; count]
+}
+
+/// What one read gave.
+enum Piece {
+    /// So many bytes of text.
+    Text(usize),
+    /// Nothing: it was interrupted, and is to be tried again.
+    Interrupted,
+    /// Nothing, since nothing is left.
+    End,
+    /// Nothing: the reader failed.
+    Failed,
+}
+
+/// One read, into the front of the chunk.
+fn read_piece<R: Read>(reader: &mut Port<R>, chunk: &mut [u8]) -> Piece
+    requires { 0 < length chunk.old }
+    ensures { ReadsPiece result (R.remaining (inner_of reader.old)) (R.remaining (inner_of reader.new)) chunk.new }
+{
+    match reader.read(chunk) {
+        Ok(0) => Piece::End,
+        Ok(count) => Piece::Text(count),
+        Err(error) if error.kind() == ErrorKind::Interrupted => Piece::Interrupted,
+        Err(_) => Piece::Failed,
+    }
+}
+
+/// Reads hexadecimal text to its end, and decodes it. `Interrupted` is asked again, and counts as
+/// a turn.
+///
+/// # Errors
+///
+/// ReadFault at the bytes of text read so far, where the reader fails or the turns run out;
+/// Length at the limit of a volume, where the text or what it decodes to is too long; ReadFault
+/// at 0, where the text is no even number of digits; OutOfMemory.
+pub fn read_hex<R: Read>(alloc: Global, reader: &mut Port<R>) -> Result<Vec<u8>, Fault>
+    ensures read { IfOk result (λ v. (text : List ℕ)
+        × GivesText (R.remaining (inner_of reader.old)) (R.remaining (inner_of reader.new)) text
+        × Reads (squeezed text) v.items) }
+    ensures small { IfOk result (λ v. vec_len v ≤ volume_limit) }
+    ensures err { IfErr result IsTextFault }
+{
+    let mut chunk = zeros(alloc, READ_LIMIT)?;
+    let mut decoder = Decoder::new(alloc);
+    let mut text_len = 0u64;
+    for _turn in 0..TEXT_TURNS {
+        match read_piece(reader, &mut chunk) {
+            Piece::Text(count) => {
+                text_len = text_len.saturating_add(count as u64);
+                if text_len > TEXT_LIMIT {
+                    return Err(Fault::outer(FaultKind::Length, VOLUME_LIMIT));
+                }
+                decoder.take(&chunk[..count])?;
+            }
+            Piece::Interrupted => {}
+            Piece::End => return decoder.finish(),
+            Piece::Failed => break,
+        }
+    }
+    Err(Fault::outer(FaultKind::ReadFault, text_len))
+}

@@ -1,0 +1,57 @@
+//! Lines of text, put into a sink.
+
+ghost use Rattle.std.specs.Prelude.{◌≡◌, ◌++◌, OnOk, OnErr, true};
+ghost use Rattle.std.specs.Io.KnownBytes.{Appends};
+ghost use Rattle.fv_base.specs.Port.{inner_of, has_erred};
+ghost use Rattle.fv_command.specs.Lines.{fault_line, volume_line};
+
+use fv_base::{Fault, Port, Sink, WriteSink};
+use fv_canon::put_decimal;
+use std::io::Write;
+
+/// Puts the line of a fault.
+fn put_fault<S: Sink>(out: &mut S, number: u8, offset: u64)
+    ensures { S.takes out.old (fault_line number offset) out.new }
+{
+    out.put(b"fault ");
+    put_decimal(out, u64::from(number));
+    out.put(b" at ");
+    put_decimal(out, offset);
+    out.put(b"\n");
+}
+
+/// Puts the line of a volume that a scan found.
+pub fn put_found<S: Sink>(out: &mut S, offset: u64, length: u64)
+    ensures { S.takes out.old (volume_line offset length) out.new }
+{
+    out.put(b"volume at ");
+    put_decimal(out, offset);
+    out.put(b" length ");
+    put_decimal(out, length);
+    out.put(b"\n");
+}
+
+/// Writes the line of a fault, which begins with some words.
+///
+/// # Errors
+///
+/// WriteFault, where a write fails or takes no byte.
+pub fn write_fault<W: Write>(
+    writer: &mut Port<W>,
+    words: &[u8],
+    number: u8,
+    offset: u64,
+) -> Result<(), Fault>
+    ensures ok { OnOk result (Appends (W.contents (inner_of writer.old)) (W.contents (inner_of writer.new))
+        (words.now ++ fault_line number offset)) }
+    ensures erred { OnErr result (has_erred writer.new ≡ true) }
+{
+    let mut out = WriteSink {
+        port: writer,
+        on: true,
+        count: 0,
+    };
+    out.put(words);
+    put_fault(&mut out, number, offset);
+    if out.on { Ok(()) } else { Err(out.fault()) }
+}

@@ -1,0 +1,59 @@
+//! The volumes that a scan found.
+
+ghost use Rattle.std.specs.Prelude.{◌≡◌, ◌≤◌, ℕ, List, length, drop, true, OnOk, IfErr, OnErr};
+ghost use Rattle.std.specs.Io.KnownBytes.{Appends};
+ghost use Rattle.fv_base.specs.Port.{inner_of, has_erred};
+ghost use Rattle.fv_tree.specs.Found.{Found};
+ghost use Rattle.fv_command.specs.Lines.{ScanText};
+
+use crate::lines::put_found;
+use fv_base::{Fault, FaultKind, Port, Sink, WriteSink};
+use fv_head::verify_fv;
+use std::io::Write;
+
+/// The bytes from a place on.
+fn behind(bytes: &[u8], at: usize) -> &[u8]
+    requires { at ≤ length bytes.now }
+    ensures { result.now ≡ drop at bytes.now }
+{
+    &bytes[at..]
+}
+
+/// Puts a line for each volume.
+fn put_volumes<S: Sink>(out: &mut S, input: &[u8], offsets: &[u64])
+    requires { Found input.now offsets.now }
+    ensures { (text : List ℕ) × ScanText input.now offsets.now text × S.takes out.old text out.new }
+{
+    for offset in offsets {
+        let Ok(extent) = verify_fv(behind(input, *offset as usize)) else {
+            unreachable!()
+        };
+        put_found(out, *offset, extent.length);
+    }
+}
+
+/// Writes a line for each volume that begins in the input at one of the offsets, which are those
+/// of a scan.
+///
+/// # Errors
+///
+/// WriteFault, where a write fails or takes no byte.
+pub fn write_volumes<W: Write>(
+    writer: &mut Port<W>,
+    input: &[u8],
+    offsets: &[u64],
+) -> Result<(), Fault>
+    requires { Found input.now offsets.now }
+    ensures ok { OnOk result ((text : List ℕ) × ScanText input.now offsets.now text
+        × Appends (W.contents (inner_of writer.old)) (W.contents (inner_of writer.new)) text) }
+    ensures err { IfErr result (λ f. f.kind ≡ FaultKind.WriteFault) }
+    ensures erred { OnErr result (has_erred writer.new ≡ true) }
+{
+    let mut out = WriteSink {
+        port: writer,
+        on: true,
+        count: 0,
+    };
+    put_volumes(&mut out, input, offsets);
+    if out.on { Ok(()) } else { Err(out.fault()) }
+}

@@ -1,5 +1,0 @@
-use Rattle.fv_tool.specs.Puts.{Puts}
-use Rattle.fv_tool.proofs.listing.put_indent.Given as goal
-
-abbrev pub invariant-loop-level : goal.invariant-loop-level
-invariant-loop-level g l = Puts g.S.Sink.takes l.initial.out l.out
