@@ -14,10 +14,20 @@ ghost use Rattle.fv_tree.specs.Meaning.{Meaning};
 use crate::lay::layout;
 use crate::put::put_volume;
 use crate::starts::Layout;
-use fv_base::{ByteList, Fault, ListSink, Port, WriteSink};
+use fv_base::{ByteList, Fault, ListSink, Port, Sink, WriteSink};
 use fv_tree::VolumeView;
 use std::alloc::Global;
 use std::io::Write;
+
+/// Puts the canonical image of the view into a sink, in one walk that takes no memory. The layout
+/// has to be that of the view.
+pub fn put_canonical<S: Sink>(view: &VolumeView<'_>, layout: &Layout, out: &mut S)
+    requires { IsLayout view.now layout.now }
+    ensures { (image : List ℕ) × IsImage view.now image × S.takes out.old image out.new }
+{
+    let _head = view.head();
+    put_volume(out, view, layout.all());
+}
 
 /// Writes the canonical image of the view to a port, in one walk that takes no memory. The
 /// layout has to be that of the view.
@@ -50,7 +60,7 @@ pub fn write_canonical<W: Write>(
         count: 0,
     };
     let _head = view.head();
-    put_volume(&mut out, view, layout.all());
+    put_canonical(view, layout, &mut out);
     if out.on { Ok(()) } else { Err(out.fault()) }
 }
 
@@ -74,6 +84,6 @@ pub fn canonical(alloc: Global, view: &VolumeView<'_>) -> Result<ByteList, Fault
 {
     let places = layout(alloc, view)?;
     let mut out = ListSink::with_room(alloc, view.head().length() as usize)?;
-    put_volume(&mut out, view, places.all());
+    put_canonical(view, &places, &mut out);
     out.finish()
 }

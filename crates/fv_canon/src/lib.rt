@@ -23,7 +23,7 @@ pub use compare::{run_compare, write_comparison};
 pub use headline::{
     fits, images_align, images_stay, images_tell, least_starts, one_image, one_list_shows, pads,
 };
-pub use image::{canonical, write_canonical};
+pub use image::{canonical, put_canonical, write_canonical};
 pub use lay::layout;
 pub use lines::put_decimal;
 pub use parts::{body_bytes, file_bytes};

@@ -1,10 +1,11 @@
 -- Hexadecimal text, taken in parts.
 use Rattle.std.proofs.Common.{◌≡◌, ◌<◌, ◌≤◌, ℕ, ◌+◌, ◌-◌, ◌*◌, List, [], ◌∷◌, ◌++◌, length, take, drop, Bool, true, false}
-use Rattle.std.proofs.Common.{refl, sym, ap, ◌∙◌, subst, append_assoc, append-nil, arith, length-drop}
+use Rattle.std.proofs.Common.{refl, sym, ap, ◌∙◌, subst, append_assoc, append-nil, arith, length-append, length-drop, add-one}
 use Rattle.std.specs.Prelude.{if◌then◌else◌}
 use Rattle.std.proofs.Math.ListN.{get_or}
-use Rattle.std.proofs.lemmas.List.{take_more, get_or-drop}
-use Rattle.fv_command.specs.HexPairs.{IsPair, Reads, is_space, squeezed}
+use Rattle.std.proofs.Math.Seq.{drop-cons}
+use Rattle.std.proofs.lemmas.List.{take_more, get_or-drop, take-append-drop}
+use Rattle.fv_command.specs.HexPairs.{IsNoPair, IsPair, IsSpoilt, Reads, is_space, squeezed}
 
 pub squeezed_more : (a b : List ℕ) → squeezed (a ++ b) ≡ squeezed a ++ squeezed b
 squeezed_more [] b = refl
@@ -85,3 +86,58 @@ squeezed_short (c ∷ text) = go (is_space c) (squeezed_short text) where
   go : (s : Bool) → length (squeezed text) ≤ length text → length (if s then squeezed text else (c ∷ squeezed text)) ≤ length (c ∷ text)
   go true le = omega (arith, le)
   go false le = omega (arith, le)
+
+-- two digits for each byte
+pub reads_count : (digits bytes : List ℕ) → Reads digits bytes → length digits ≡ 2 * length bytes
+reads_count [] bytes p = let none = ap length p in omega (arith, none)
+reads_count (h ∷ []) bytes p = absurd p
+reads_count (h ∷ l ∷ digits) bytes (byte, rest, pair, is, more) =
+    let count = reads_count digits rest more in
+    let long = ap length is in
+    omega (arith, count, long)
+
+-- behind pairs of digits the rest of what is read is read
+pub reads_rest : (a b x y : List ℕ) → Reads a x → Reads (a ++ b) y → (z : List ℕ) × Reads b z
+reads_rest [] b x y p q = (y, q)
+reads_rest (h ∷ []) b x y p q = absurd p
+reads_rest (h ∷ l ∷ a) b x y (byte, rest, pair, is, more) (other, behind, twin, same, all) = reads_rest a b rest behind more all
+
+-- two characters that are no byte spoil all behind them
+pub spoilt_pair : (h l : ℕ) (digits : List ℕ) → IsNoPair h l → IsSpoilt (h ∷ l ∷ digits)
+spoilt_pair h l digits none = λ behind bytes all. none all.0 all.2
+
+-- what is spoilt stays so, whatever follows
+pub spoilt_more : (a b : List ℕ) → IsSpoilt a → IsSpoilt (a ++ b)
+spoilt_more a b spoilt = λ behind bytes all.
+    spoilt (b ++ behind) bytes (subst (λ (l : List ℕ). Reads l bytes) (append_assoc a b behind) all)
+
+-- and whatever stands before it that is read
+pub spoilt_behind : (a b x : List ℕ) → Reads a x → IsSpoilt b → IsSpoilt (a ++ b)
+spoilt_behind a b x reads spoilt = λ behind bytes all.
+    let joined = subst (λ (l : List ℕ). Reads l bytes) (append_assoc a b behind) all in
+    let (rest, rest_reads) = reads_rest a (b ++ behind) x bytes reads joined in
+    spoilt behind rest rest_reads
+
+-- pairs of digits up to one that is no byte
+pub spoilt_at : (digits more : List ℕ) (i d e : ℕ) → 2 * i + 1 < length digits → Reads (take (2 * i) digits) more
+    → IsNoPair (get_or digits (2 * i) d) (get_or digits (2 * i + 1) e) → IsSpoilt digits
+spoilt_at digits more i d e lt reads none =
+    let h = get_or digits (2 * i) d in
+    let l = get_or digits (2 * i + 1) e in
+    let rest = drop (2 * i + 1 + 1) digits in
+    let second : drop (2 * i + 1) digits ≡ l ∷ rest =
+    drop-cons digits (2 * i + 1) e lt ∙ ap (λ (n : ℕ). l ∷ drop n digits) (sym (add-one (2 * i + 1))) in
+    let first : drop (2 * i) digits ≡ h ∷ l ∷ rest =
+    drop-cons digits (2 * i) d (omega (arith, lt)) ∙ ap (λ (n : ℕ). h ∷ drop n digits) (sym (add-one (2 * i)))
+    ∙ ap (λ (k : List ℕ). h ∷ k) second in
+    let split : take (2 * i) digits ++ (h ∷ l ∷ rest) ≡ digits =
+    ap (λ (k : List ℕ). take (2 * i) digits ++ k) (sym first) ∙ take-append-drop (2 * i) digits in
+    subst IsSpoilt split (spoilt_behind (take (2 * i) digits) (h ∷ l ∷ rest) more reads (spoilt_pair h l rest none))
+
+-- a digit behind pairs spells nothing
+pub odd_reads_nothing : (front waiting x y : List ℕ) → length waiting ≡ 1 → Reads front x → Reads (front ++ waiting) y → ⊥
+odd_reads_nothing front waiting x y one reads all =
+    let even = reads_count front x reads in
+    let whole = reads_count (front ++ waiting) y all in
+    let long : length (front ++ waiting) ≡ length front + length waiting = length-append front waiting in
+    omega (arith, one, even, whole, long)

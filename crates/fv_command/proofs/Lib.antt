@@ -1,6 +1,11 @@
+pub mod CheckLemmas
 pub mod HexDigitLemmas
 pub mod HexInLemmas
+pub mod HexTextLemmas
+pub mod HobLemmas
+pub mod ImageTextLemmas
 pub mod PartLemmas
+pub mod RunLemmas
 pub mod ScanLemmas
 pub mod StandingLemmas
 pub mod WriteLemmas

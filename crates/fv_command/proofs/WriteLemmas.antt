@@ -1,18 +1,18 @@
 -- Texts that are put or written one behind the other.
-use Rattle.std.proofs.Common.{ℕ, List, [], ◌++◌, Option, None, Some, sym, ap, ◌∙◌, append-nil, append_assoc}
+use Rattle.std.proofs.Common.{◌≡◌, ℕ, ◌+◌, ◌%◌, ◌<◌, ◌≤◌, ◌^◌, Bool, true, false, List, [], ◌∷◌, ◌++◌, length, take, drop, get_or}
+use Rattle.std.proofs.Common.{codes, decimal, sym, ap, subst, arith, append_assoc, append-nil, length-append}
 use Rattle.std.specs.Io.KnownBytes.{Appends}
+use Rattle.std.proofs.lemmas.Fmt.{length-decimal-le}
+use Rattle.std.proofs.lemmas.List.{drop_more, drop_all, length-take-le}
+use Rattle.fv_base.specs.Faults.{outer_fault}
+use Rattle.fv_base.specs.Output.{WriteStops}
 use Rattle.fv_base.specs.Sinks.{WalkLaws}
-use Rattle.fv_command.specs.Puts.{Puts, Written}
-
-pub written_none : (a : Option (List ℕ)) → Written a a
-written_none None = ([], tt)
-written_none (Some xs) = ([], sym (append-nil xs))
-
-pub written_more : (a b c : Option (List ℕ)) (y : List ℕ) → Written a b → Appends b c y → Written a c
-written_more None b c y w more = ([], tt)
-written_more (Some xs) None c y w more = absurd w.1
-written_more (Some xs) (Some ys) None y w more = absurd more
-written_more (Some xs) (Some ys) (Some zs) y w more = (w.0 ++ y, more ∙ ap (λ (l : List ℕ). l ++ y) w.1 ∙ append_assoc xs w.0 y)
+use Rattle.fv_base.specs.Written.{Written, WritesFront, LatchedWrites}
+use Rattle.fv_base.specs.declared.fault.Fault.{Fault}
+use Rattle.fv_base.specs.declared.fault.FaultKind.TheVariants as kinds
+use Rattle.fv_canon.specs.Lines.{line_feed}
+use Rattle.fv_command.specs.Lines.{fault_line}
+use Rattle.fv_command.specs.Puts.{Puts}
 
 -- a sink took nothing; it took this; it took more behind
 pub put_none : {S : Type 0} {takes : S → List ℕ → S → Type 0} → WalkLaws takes → (s : S) → Puts takes s s
@@ -25,3 +25,100 @@ put_one laws bytes h = record { text = bytes; taken = h }
 pub put_then : {S : Type 0} {takes : S → List ℕ → S → Type 0} {s t u : S} → WalkLaws takes → Puts takes s t → Puts takes t u
     → Puts takes s u
 put_then laws p q = record { text = p.text ++ q.text; taken = laws.joined _ _ _ _ _ p.taken q.taken }
+
+-- ---- texts of some things, in order
+
+-- a sink took the texts of the first i of some things, so that those of the others complete the text of all
+pub record Tells {S X : Type 0} (takes : S → List ℕ → S → Type 0) (Text : List X → List ℕ → Type 0) (xs : List X) (i : ℕ)
+    (s t : S) : Type 0 where
+  pub text : List ℕ
+  pub taken : takes s text t
+  pub on : (rest : List ℕ) → Text (drop i xs) rest → Text xs (text ++ rest)
+
+pub tells_none : {S X : Type 0} {takes : S → List ℕ → S → Type 0} → WalkLaws takes → (Text : List X → List ℕ → Type 0) (xs : List X) (s : S)
+    → Tells takes Text xs 0 s s
+tells_none laws Text xs s = record { text = []; taken = laws.none s; on = λ rest h. h }
+
+-- the text of one more
+pub tells_more : {S X : Type 0} {takes : S → List ℕ → S → Type 0} {Text : List X → List ℕ → Type 0} {xs : List X} {i : ℕ} {s t u : S}
+    → WalkLaws takes → (d : X) (line : List ℕ) → i < length xs
+    → ((rest : List ℕ) → Text (drop (i + 1) xs) rest → Text (get_or xs i d ∷ drop (i + 1) xs) (line ++ rest))
+    → Tells takes Text xs i s t → takes t line u → Tells takes Text xs (i + 1) s u
+tells_more {X = X} {Text = Text} {xs = xs} {i = i} laws d line l first w more =
+    let here : (rest : List ℕ) → Text (drop (i + 1) xs) rest → Text (drop i xs) (line ++ rest) =
+    λ rest h. subst (λ (ys : List X). Text ys (line ++ rest)) (sym (drop_more xs i d l)) (first rest h) in
+    record {
+      text = w.text ++ line;
+      taken = laws.joined _ _ _ _ _ w.taken more;
+      on = λ rest h. subst (λ (x : List ℕ). Text xs x) (sym (append_assoc w.text line rest)) (w.on (line ++ rest) (here rest h));
+    }
+
+pub tells_all : {S X : Type 0} {takes : S → List ℕ → S → Type 0} {Text : List X → List ℕ → Type 0} {xs : List X} {i : ℕ} {s t : S}
+    → Text [] [] → length xs ≤ i → Tells takes Text xs i s t → (text : List ℕ) × Text xs text × takes s text t
+tells_all {X = X} {Text = Text} {xs = xs} {i = i} none l w =
+    let end : Text (drop i xs) [] = subst (λ (ys : List X). Text ys []) (sym (drop_all i xs l)) none in
+    (w.text, subst (λ (x : List ℕ). Text xs x) (append-nil w.text) (w.on [] end), w.taken)
+
+-- ---- a text that is written
+
+-- where a port stopped, the count is how much of the text it holds
+front_is : (s t : Written) (text : List ℕ) → s.count ≡ 0 → t.count < 2 ^ 64 → length text < 2 ^ 64 → WritesFront s text t
+    → (t.count < length text) × Appends s.contents t.contents (take t.count text)
+front_is s t text start small short (n, cut, (front, count), erred) =
+    let part : length (take n text) ≡ n = length-take-le n text (omega (arith, cut)) in
+    let is : t.count ≡ n = same_count s.count t.count n (length text) (length (take n text)) start small short cut part count in
+    (omega (arith, is, cut), subst (λ (k : ℕ). Appends s.contents t.contents (take k text)) (sym is) front)
+  where
+    same_count : (a b n long part : ℕ) → a ≡ 0 → b < 2 ^ 64 → long < 2 ^ 64 → n < long → part ≡ n
+        → b % 2 ^ 64 ≡ (a + part) % 2 ^ 64 → b ≡ n
+    same_count a b n long part start small short cut is count = omega (arith, start, small, short, cut, is, count)
+
+-- all of it, where the sink goes on
+pub all_written : (s t : Written) (text : List ℕ) (on : Bool) → LatchedWrites s true text t on → on ≡ true
+    → Appends s.contents t.contents text
+all_written s t text true wrote is = wrote.0
+all_written s t text false wrote is = let bad : false ≡ true = is in cc
+
+-- or a front of it
+pub front_written : (s t : Written) (text : List ℕ) (on : Bool) → LatchedWrites s true text t on → on ≡ false
+    → (n : ℕ) × (n < length text) × Appends s.contents t.contents (take n text)
+front_written s t text true wrote is = let bad : true ≡ false = is in cc
+front_written s t text false wrote is = (wrote.0, wrote.1, wrote.2.0)
+
+-- of which the fault says how long it is, if that can be counted
+pub some_written : (s t : Written) (text : List ℕ) (on : Bool) (f : Fault) → LatchedWrites s true text t on → on ≡ false → s.count ≡ 0
+    → t.count < 2 ^ 64 → length text < 2 ^ 64 → f ≡ outer_fault kinds.WriteFault t.count → WriteStops s.contents t.contents text f
+some_written s t text true f wrote is start small short fault = let bad : true ≡ false = is in cc
+some_written s t text false f wrote is start small short fault =
+    let at = front_is s t text start small short wrote in
+    let offset : f.place.offset ≡ t.count = ap (λ (g : Fault). g.place.offset) fault in
+    record {
+      kind = ap (λ (g : Fault). g.kind) fault;
+      depth = ap (λ (g : Fault). g.place.depth) fault;
+      before_end = subst (λ (n : ℕ). n < length text) (sym offset) at.0;
+      wrote = subst (λ (n : ℕ). Appends s.contents t.contents (take n text)) (sym offset) at.1;
+    }
+
+-- ---- how long the line of a fault is
+
+-- words and the line of a fault behind them
+pub fault_short : (words : List ℕ) (number at : ℕ) → length words < 2 ^ 63 → number < 2 ^ 64 → at < 2 ^ 64
+    → length (words ++ fault_line number at) < 2 ^ 64
+fault_short words number at p q r =
+    joined (decimal number) (decimal at) (length-decimal-le 20 number (omega arith) (omega (arith, q)) q)
+    (length-decimal-le 20 at (omega arith) (omega (arith, r)) r)
+  where
+    joined : (digits place : List ℕ) → length digits ≤ 20 → length place ≤ 20
+        → length (words ++ (codes "fault " ++ (digits ++ (codes " at " ++ (place ++ line_feed))))) < 2 ^ 64
+    joined digits place d e =
+        omega (
+          arith,
+          length-append words (codes "fault " ++ (digits ++ (codes " at " ++ (place ++ line_feed)))),
+          length-append (codes "fault ") (digits ++ (codes " at " ++ (place ++ line_feed))),
+          length-append digits (codes " at " ++ (place ++ line_feed)),
+          length-append (codes " at ") (place ++ line_feed),
+          length-append place line_feed,
+          p,
+          d,
+          e,
+        )

@@ -1,5 +1,5 @@
 -- Texts that are put or written one behind the other, and of which no more is said.
-use Rattle.std.specs.Prelude.{ℕ, List, Option}
+use Rattle.std.specs.Prelude.{ℕ, ◌<◌, List, Option, length, take}
 use Rattle.std.specs.Io.KnownBytes.{Appends}
 
 -- a sink took some text
@@ -10,3 +10,7 @@ pub record Puts {S : Type 0} (takes : S → List ℕ → S → Type 0) (s t : S)
 -- some text was written, and all of it
 abbrev pub Written : Option (List ℕ) → Option (List ℕ) → Type 0
 Written a b = (text : List ℕ) × Appends a b text
+
+-- a front of some text was written, and not all of it
+abbrev pub WrittenFront : Option (List ℕ) → Option (List ℕ) → Type 0
+WrittenFront a b = (text : List ℕ) × (n : ℕ) × (n < length text) × Appends a b (take n text)

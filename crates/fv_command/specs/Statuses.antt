@@ -1,7 +1,7 @@
 -- The exit statuses.
 use Rattle.std.specs.Prelude.{ℕ}
-use Rattle.fv_command.specs.declared.commands.Status.{Status}
-use Rattle.fv_command.specs.declared.commands.Status.TheVariants as statuses
+use Rattle.fv_command.specs.declared.status.Status.{Status}
+use Rattle.fv_command.specs.declared.status.Status.TheVariants as statuses
 
 abbrev pub code_of : Status → ℕ
 code_of statuses.Done = 0

@@ -2,7 +2,7 @@
 
 ghost use Rattle.std.specs.Prelude.{◌≡◌, ◌⊎◌};
 
-use crate::commands::Status;
+use crate::status::Status;
 use fv_base::Port;
 use std::io::{BufWriter, Write};
 

@@ -1,77 +1,106 @@
 //! Two volumes, compared.
 
-ghost use Rattle.std.specs.Prelude.{◌≡◌, false, IfOk, IfErr};
-ghost use Rattle.fv_base.specs.Port.{inner_of};
-ghost use Rattle.fv_canon.specs.Comparisons.{RunCompares, SideStopsRun};
+ghost use Rattle.std.specs.Prelude.{◌≡◌, ◌⊎◌, IfOk, IfErr};
+ghost use Rattle.fv_base.specs.Port.{inner_of, has_erred};
+ghost use Rattle.fv_canon.specs.Comparisons.{VolumeStops};
+ghost use Rattle.fv_tree.specs.Denotes.{Accepted};
+ghost use Rattle.fv_command.specs.Inputs.{Gives, GivingStops, seen};
+ghost use Rattle.fv_command.specs.SideRuns.{ComparesRead, RunsComparison, SideStops};
 
-use crate::hex_text::read_hex;
+use crate::inputs::read_bytes;
+use crate::saying::refuse_side;
+use crate::status::Status;
 use fv_base::{Fault, Port};
-use fv_canon::{Side, run_compare, whole_volume, write_comparison};
+use fv_canon::{Side, whole_volume, write_comparison};
 use fv_tree::VolumeView;
 use std::alloc::Global;
 use std::io::{Read, Write};
 
-/// The bytes of a side whose input is text.
+/// The bytes of the input of a side.
 fn read_side<R: Read>(
     alloc: Global,
+    hex: bool,
     side: Side,
     reader: &mut Port<R>,
-) -> Result<Vec<u8>, (Side, Fault)> {
-    match read_hex(alloc, reader) {
+) -> Result<Vec<u8>, (Side, Fault)>
+    ensures ok { IfOk result (λ v. Gives hex (seen (R.remaining (inner_of reader.old)) (has_erred reader.old))
+        (seen (R.remaining (inner_of reader.new)) (has_erred reader.new)) v.items) }
+    ensures err { IfErr result (λ e. (e.0 ≡ side) × GivingStops hex
+        (seen (R.remaining (inner_of reader.old)) (has_erred reader.old))
+        (seen (R.remaining (inner_of reader.new)) (has_erred reader.new)) e.1) }
+{
+    match read_bytes(alloc, hex, reader) {
         Ok(bytes) => Ok(bytes),
         Err(fault) => Err((side, fault)),
     }
 }
 
 /// The volume that the bytes of a side are.
-fn accept_side(alloc: Global, side: Side, bytes: &[u8]) -> Result<VolumeView<'_>, (Side, Fault)> {
+fn accept_side(alloc: Global, side: Side, bytes: &[u8]) -> Result<VolumeView<'_>, (Side, Fault)>
+    ensures ok { IfOk result (λ view. Accepted bytes.now view) }
+    ensures err { IfErr result (λ e. (e.0 ≡ side) × VolumeStops bytes.now e.1) }
+{
     match whole_volume(alloc, bytes) {
         Ok(volume) => Ok(volume),
         Err(fault) => Err((side, fault)),
     }
 }
 
-/// Compares two volumes that are given as text. The second is read only behind a first that is
-/// one.
-fn compare_texts<First: Read, Second: Read, W: Write>(
-    alloc: Global,
-    first: &mut Port<First>,
-    second: &mut Port<Second>,
-    writer: &mut Port<W>,
-) -> Result<bool, (Side, Fault)> {
-    let first_bytes = read_side(alloc, Side::First, first)?;
-    let first_volume = accept_side(alloc, Side::First, &first_bytes)?;
-    let second_bytes = read_side(alloc, Side::Second, second)?;
-    let second_volume = accept_side(alloc, Side::Second, &second_bytes)?;
-    write_comparison(alloc, &first_volume, &second_volume, writer)
-}
-
 /// Writes whether the two volumes that the readers give mean the same and, where they do not,
-/// where they first differ. Answers whether they do.
+/// where they first differ. Answers whether they do. The second is read only behind a first that
+/// is a volume.
 ///
 /// # Errors
 ///
 /// The side that stopped the run, with the fault, as of `run_compare`.
-pub fn compare<First: Read, Second: Read, W: Write>(
+fn compare<First: Read, Second: Read, W: Write>(
     alloc: Global,
     hex: bool,
     first: &mut Port<First>,
     second: &mut Port<Second>,
     writer: &mut Port<W>,
 ) -> Result<bool, (Side, Fault)>
-    ensures ok { hex ≡ false
-        → IfOk result (RunCompares (First.remaining (inner_of first.old)) (First.remaining (inner_of first.new))
-        (Second.remaining (inner_of second.old)) (Second.remaining (inner_of second.new))
-        (W.contents (inner_of writer.old)) (W.contents (inner_of writer.new))) }
-    ensures err { hex ≡ false
-        → IfErr result (λ e. SideStopsRun e.0
-        (First.remaining (inner_of first.old)) (First.remaining (inner_of first.new))
-        (Second.remaining (inner_of second.old)) (Second.remaining (inner_of second.new))
-        (W.contents (inner_of writer.old)) (W.contents (inner_of writer.new)) e.1) }
+    ensures ok { IfOk result (ComparesRead hex
+        (seen (First.remaining (inner_of first.old)) (has_erred first.old))
+        (seen (First.remaining (inner_of first.new)) (has_erred first.new))
+        (seen (Second.remaining (inner_of second.old)) (has_erred second.old))
+        (seen (Second.remaining (inner_of second.new)) (has_erred second.new))
+        (seen (W.contents (inner_of writer.old)) (has_erred writer.old))
+        (seen (W.contents (inner_of writer.new)) (has_erred writer.new))) }
+    ensures err { IfErr result (λ e. SideStops e.0 hex
+        (seen (First.remaining (inner_of first.old)) (has_erred first.old))
+        (seen (First.remaining (inner_of first.new)) (has_erred first.new))
+        (seen (Second.remaining (inner_of second.old)) (has_erred second.old))
+        (seen (Second.remaining (inner_of second.new)) (has_erred second.new))
+        (seen (W.contents (inner_of writer.old)) (has_erred writer.old))
+        (seen (W.contents (inner_of writer.new)) (has_erred writer.new)) e.1) }
 {
-    if hex {
-        compare_texts(alloc, first, second, writer)
-    } else {
-        run_compare(alloc, first, second, writer)
+    let first_bytes = read_side(alloc, hex, Side::First, first)?;
+    let first_volume = accept_side(alloc, Side::First, &first_bytes)?;
+    let second_bytes = read_side(alloc, hex, Side::Second, second)?;
+    let second_volume = accept_side(alloc, Side::Second, &second_bytes)?;
+    write_comparison(alloc, &first_volume, &second_volume, writer)
+}
+
+/// Writes whether two volumes mean the same, or the line of what refuses one of them.
+pub fn run_comparison<First: Read, Second: Read, W: Write>(
+    alloc: Global,
+    hex: bool,
+    first: &mut Port<First>,
+    second: &mut Port<Second>,
+    writer: &mut Port<W>,
+) -> Status
+    ensures { RunsComparison hex result
+        (seen (First.remaining (inner_of first.old)) (has_erred first.old))
+        (seen (First.remaining (inner_of first.new)) (has_erred first.new))
+        (seen (Second.remaining (inner_of second.old)) (has_erred second.old))
+        (seen (Second.remaining (inner_of second.new)) (has_erred second.new))
+        (seen (W.contents (inner_of writer.old)) (has_erred writer.old))
+        (seen (W.contents (inner_of writer.new)) (has_erred writer.new)) }
+{
+    match compare(alloc, hex, first, second, writer) {
+        Ok(true) => Status::Done,
+        Ok(false) => Status::Different,
+        Err((side, fault)) => refuse_side(writer, side, fault),
     }
 }

@@ -2,8 +2,9 @@
 
 ghost use Rattle.hex.specs.Hex.{hex_digit_value};
 ghost use Rattle.std.specs.Option.{option_to_list, unwrap_or};
-ghost use Rattle.std.specs.Prelude.{◌≡◌, ◌≤◌, ◌+◌, ◌/◌, ◌%◌, ◌++◌, ℕ, List, true, length, vec_len, IfOk, OnOk, IfSome};
-ghost use Rattle.fv_command.specs.HexPairs.{IsPair, Reads, is_space, squeezed};
+ghost use Rattle.std.specs.Prelude.{◌≡◌, ◌≤◌, ◌+◌, ◌/◌, ◌%◌, ◌++◌, ℕ, List, true, false, length, vec_len};
+ghost use Rattle.std.specs.Prelude.{IfOk, OnOk, MatchOption};
+ghost use Rattle.fv_command.specs.HexPairs.{IsNoPair, IsPair, IsSpoilt, Reads, is_space, squeezed};
 
 use std::alloc::AllocError;
 
@@ -63,9 +64,9 @@ fn digit_value(byte: u8) -> u8
     value
 }
 
-/// The byte of two digits, the high one first.
+/// The byte of two digits, the high one first, or nothing where one of them is no digit.
 fn pair_value(high_digit: u8, low_digit: u8) -> Option<u8>
-    ensures { IfSome result (IsPair high_digit low_digit) }
+    ensures { MatchOption result (IsNoPair high_digit low_digit) (IsPair high_digit low_digit) }
 {
     let high = digit_value(high_digit);
     let low = digit_value(low_digit);
@@ -85,6 +86,7 @@ pub fn push_pairs(digits: &[u8], bytes: &mut Vec<u8>) -> Result<bool, AllocError
     requires even { length digits.now % 2 ≡ 0 }
     ensures read { IfOk result (λ all. all ≡ true → (more : List ℕ) × Reads digits.now more
         × (bytes.new.items ≡ bytes.old.items ++ more)) }
+    ensures wrong { IfOk result (λ all. all ≡ false → IsSpoilt digits.now) }
     ensures room { OnOk result (vec_len bytes.new ≤ vec_len bytes.old + length digits.now / 2) }
 {
     for i in 0..digits.len() / 2 {

@@ -1,122 +1,177 @@
-//! Bytes, written as lines of hexadecimal digits.
+//! Bytes, put and written as lines of hexadecimal digits.
 
-ghost use Rattle.std.specs.Prelude.{◌≡◌, ◌+◌, ◌%◌, ◌<◌, ◌≤◌, length, Ok, None, IfOk, IfErr, OnOk, OnErr, true};
-ghost use Rattle.std.specs.Io.{WritesAtMost};
-ghost use Rattle.std.specs.Io.KnownBytes.{WriteAppends, Appends};
+ghost use Rattle.std.specs.Prelude.{◌≡◌, ◌≤◌, ◌<◌, ◌+◌, ◌++◌, ℕ, List, length, take, drop, true};
+ghost use Rattle.std.specs.Prelude.{IfErr, OnOk, OnErr};
+ghost use Rattle.std.specs.Io.KnownBytes.{Appends};
 ghost use Rattle.fv_base.specs.Port.{inner_of, has_erred};
+ghost use Rattle.fv_command.specs.HexLaws.{hex_by};
+ghost use Rattle.fv_command.specs.HexText.{HexTakes, IsHexText, Shows, last_text, line_text};
 
 use fv_base::{Fault, FaultKind, Port, Sink, WriteSink};
-use std::io;
-use std::io::{ErrorKind, Write};
+use std::io::Write;
 
 /// How many bytes a line has.
 const LINE: usize = 32;
 
-/// Writes all of the bytes.
-///
-/// # Errors
-///
-/// WriteFault, where a write fails or takes no byte.
-pub fn write_bytes<W: Write>(writer: &mut Port<W>, bytes: &[u8]) -> Result<(), Fault>
-    ensures ok { OnOk result (Appends (W.contents (inner_of writer.old)) (W.contents (inner_of writer.new)) bytes.now) }
-    ensures err { IfErr result (λ f. f.kind ≡ FaultKind.WriteFault) }
-    ensures erred { OnErr result (has_erred writer.new ≡ true) }
-{
-    let mut sink = WriteSink {
-        port: writer,
-        on: true,
-        count: 0,
-    };
-    sink.put(bytes);
-    if sink.on { Ok(()) } else { Err(sink.fault()) }
-}
-
-/// Writes one line: the digits of the bytes and a line feed.
-fn write_line<W: Write>(writer: &mut Port<W>, bytes: &[u8]) -> Result<(), Fault>
+/// Puts one line: the digits of the bytes and a line feed.
+fn put_line<S: Sink>(out: &mut S, bytes: &[u8])
     requires { length bytes.now ≤ 32 }
-    ensures { IfErr result (λ f. f.kind ≡ FaultKind.WriteFault) }
+    ensures { S.takes out.old (line_text bytes.now) out.new }
 {
-    let mut line = [b'\n'; 2 * LINE + 1];
+    let mut line = [0u8; 2 * LINE];
     let end = 2 * bytes.len();
     let Ok(()) = hex::encode_to_slice(bytes, &mut line[..end]) else {
         unreachable!()
     };
-    write_bytes(writer, &line[..end + 1])
+    out.put(&line[..end]);
+    out.put(b"\n");
 }
 
-/// Writes the last line, unless it is empty.
-fn write_last<W: Write>(writer: &mut Port<W>, bytes: &[u8]) -> Result<(), Fault>
+/// Puts the last line, unless it is empty.
+fn put_last<S: Sink>(out: &mut S, bytes: &[u8])
     requires { length bytes.now ≤ 32 }
-    ensures whole { length bytes.now ≡ 0 → result ≡ Ok tt }
-    ensures err { IfErr result (λ f. f.kind ≡ FaultKind.WriteFault) }
+    ensures { S.takes out.old (last_text bytes.now) out.new }
 {
-    if bytes.is_empty() {
-        return Ok(());
+    if !bytes.is_empty() {
+        put_line(out, bytes);
     }
-    write_line(writer, bytes)
 }
 
-/// A writer that turns bytes into lines of 64 lower-case digits. A last short line is written by
-/// `finish`.
+/// Puts bytes at a place of a line.
+fn place(line: &mut [u8; LINE], at: usize, bytes: &[u8])
+    requires { at + length bytes.now ≤ 32 }
+    ensures placed { take (at + length bytes.now) line.new ≡ take at line.old ++ bytes.now }
+    ensures len { length line.new ≡ 32 }
+{
+    line[at..at + bytes.len()].copy_from_slice(bytes);
+}
+
+/// The bytes from a place on.
+fn behind(bytes: &[u8], at: usize) -> &[u8]
+    requires { at ≤ length bytes.now }
+    ensures { result.now ≡ drop at bytes.now }
+{
+    &bytes[at..]
+}
+
+/// A sink that turns bytes into lines of 64 lower-case digits, and puts them into a sink below. A
+/// last short line is put by `finish`.
 #[derive(Drop)]
-pub struct HexLines<'a, W: Write> {
-    port: &'a mut Port<W>,
-    /// The bytes of the line that is not yet written.
+pub struct HexSink<S: Sink> {
+    /// Where the lines go.
+    below: S,
+    /// The bytes of the line that is not yet put.
     line: [u8; LINE],
+    /// How many bytes these are.
     filled: usize,
     ghost room: { filled < 32 },
 }
 
-impl<'a, W: Write> HexLines<'a, W> {
-    /// Lines that go to the port.
-    pub fn new(port: &'a mut Port<W>) -> HexLines<'a, W>
-        ensures { result.filled ≡ 0 }
+impl<S: Sink> HexSink<S> {
+    /// Lines that go into the sink.
+    pub fn new(below: S) -> HexSink<S>
+        ensures below { result.below ≡ below }
+        ensures filled { result.filled ≡ 0 }
     {
-        HexLines {
-            port,
+        HexSink {
+            below,
             line: [0; LINE],
             filled: 0,
         }
     }
 
-    /// Writes the last line, where it is a short one.
-    ///
-    /// # Errors
-    ///
-    /// WriteFault, where a write fails or takes no byte.
-    pub fn finish(self) -> Result<(), Fault>
-        ensures whole { self.entry.filled ≡ 0 → result ≡ Ok tt }
-        ensures err { IfErr result (λ f. f.kind ≡ FaultKind.WriteFault) }
+    /// Takes a front of the bytes, at most up to the end of the line.
+    fn take_some(&mut self, bytes: &[u8]) -> usize
+        requires { 0 < length bytes.now }
+        ensures some { 0 < result }
+        ensures bound { result ≤ length bytes.now }
+        ensures takes { HexTakes S.takes (λ s. s.below) (λ s. take s.filled s.line)
+            self.old (take result bytes.now) self.new }
     {
-        let HexLines { port, line, filled } = self;
-        write_last(port, &line[..filled])
+        let count = bytes.len().min(LINE - self.filled);
+        let end = self.filled + count;
+        place(&mut self.line, self.filled, &bytes[..count]);
+        if end < LINE {
+            self.filled = end;
+            return count;
+        }
+        self.filled = 0;
+        put_line(&mut self.below, &self.line);
+        count
+    }
+
+    /// Puts the last line, where it is a short one, and answers the sink below.
+    pub fn finish(self) -> S
+        ensures { S.takes self.below (last_text (take self.filled self.line)) result }
+    {
+        let HexSink {
+            below,
+            line,
+            filled,
+        } = self;
+        let mut out = below;
+        put_last(&mut out, &line[..filled]);
+        out
     }
 }
 
-impl<'a, W: Write> Write for HexLines<'a, W> {
-    /// Takes what fits in the line, and writes it once it is whole.
-    fn write(&mut self, buf: &[u8]) -> io::Result<usize>
-        ensures bound { WritesAtMost result buf.now }
-        ensures bytes { WriteAppends None None result buf.now }
-        ensures line { IfOk result (λ n. self.new.filled ≡ (self.old.filled + n) % 32) }
-        ensures progress { IfOk result (λ n. n ≡ 0 → length buf.now ≡ 0) }
-    {
-        let count = buf.len().min(LINE - self.filled);
-        let end = self.filled + count;
-        self.line[self.filled..end].copy_from_slice(&buf[..count]);
-        if end < LINE {
-            self.filled = end;
-            return Ok(count);
-        }
-        self.filled = 0;
-        match write_line(self.port, &self.line) {
-            Ok(()) => Ok(count),
-            Err(_) => Err(io::Error::from(ErrorKind::WriteZero)),
-        }
-    }
+impl<S: Sink> Sink for HexSink<S> {
+    ghost takes = { HexTakes S.takes (λ s. s.below) (λ s. take s.filled s.line) };
 
-    /// Does nothing: a line is written as soon as it is whole.
-    fn flush(&mut self) -> io::Result<()> {
-        Ok(())
+    ghost laws = { hex_by S.takes (λ s. s.below) (λ s. take s.filled s.line) S.laws };
+
+    fn put(&mut self, bytes: &[u8]) {
+        let mut at = 0;
+        while at < bytes.len() {
+            at += self.take_some(behind(bytes, at));
+        }
     }
+}
+
+/// Puts the bytes as lines of digits, and answers the sink.
+pub fn put_hex<S: Sink>(below: S, bytes: &[u8]) -> S
+    ensures { (text : List ℕ) × IsHexText bytes.now text × S.takes below text result }
+{
+    let mut lines = HexSink::new(below);
+    lines.put(bytes);
+    lines.finish()
+}
+
+/// Puts the bytes as they are or as lines of digits, and answers the sink.
+fn put_shown<S: Sink>(below: S, hex: bool, bytes: &[u8]) -> S
+    ensures { (text : List ℕ) × Shows hex bytes.now text × S.takes below text result }
+{
+    if hex {
+        put_hex(below, bytes)
+    } else {
+        let mut out = below;
+        out.put(bytes);
+        out
+    }
+}
+
+/// Writes the bytes as they are, or as lines of digits.
+///
+/// # Errors
+///
+/// WriteFault at the bytes of text written in this call, where a write fails or takes no byte:
+/// exactly these bytes of the text were written then.
+pub fn write_shown<W: Write>(writer: &mut Port<W>, hex: bool, bytes: &[u8]) -> Result<(), Fault>
+    // The text was written.
+    ensures ok { OnOk result ((text : List ℕ) × Shows hex bytes.now text
+        × Appends (W.contents (inner_of writer.old)) (W.contents (inner_of writer.new)) text) }
+
+    // A front of it was, and not all of it.
+    ensures err { IfErr result (λ f. (text : List ℕ) × Shows hex bytes.now text × (n : ℕ) × (n < length text)
+        × Appends (W.contents (inner_of writer.old)) (W.contents (inner_of writer.new)) (take n text)) }
+    ensures kind { IfErr result (λ f. f.kind ≡ FaultKind.WriteFault) }
+    ensures erred { OnErr result (has_erred writer.new ≡ true) }
+{
+    let sink = WriteSink {
+        port: writer,
+        on: true,
+        count: 0,
+    };
+    let out = put_shown(sink, hex, bytes);
+    if out.on { Ok(()) } else { Err(out.fault()) }
 }

@@ -1,11 +1,10 @@
 //! Hexadecimal text as an input: the digits of either case, with white space between them.
 
-ghost use Rattle.std.specs.Prelude.{◌≡◌, ◌<◌, ◌≤◌, ◌++◌, ◌%◌, [], ℕ, List, length, IfOk, IfErr, OnOk, vec_len};
+ghost use Rattle.std.specs.Prelude.{◌≡◌, ◌<◌, ◌≤◌, ◌++◌, ◌%◌, [], ℕ, List, false, length, IfOk, IfErr, OnOk, vec_len};
 ghost use Rattle.fv_base.specs.Limits.{read_limit, volume_limit};
-ghost use Rattle.fv_base.specs.Port.{inner_of};
-ghost use Rattle.fv_command.specs.HexIn.{Decodes, DecodesPairs, GivesText, ReadsPiece};
+ghost use Rattle.fv_base.specs.Port.{inner_of, has_erred};
+ghost use Rattle.fv_command.specs.HexIn.{Decodes, DecodesPairs, ReadsPiece, RefusesText, SpellsWhole, TextStops};
 ghost use Rattle.fv_command.specs.HexPairs.{Reads, squeezed};
-ghost use Rattle.fv_command.specs.Text.{IsTextFault};
 
 use crate::hex_digits::{push_pairs, squeeze, take_odd};
 use fv_base::limits::{READ_LIMIT, TEXT_LIMIT, TEXT_TURNS, VOLUME_LIMIT};
@@ -18,6 +17,7 @@ use std::io::{ErrorKind, Read};
 struct Decoder {
     /// The digit that waits for the other of its pair, and behind it those of the piece that is taken.
     digits: Vec<u8>,
+    /// What the digits before those spell, unless it was let go.
     bytes: Vec<u8>,
     /// Whether something stood there that is no digit.
     is_wrong: bool,
@@ -39,8 +39,13 @@ impl Decoder {
         }
     }
 
-    /// Decodes the digits, which are pairs, and lets them go.
+    /// Decodes the digits, which are pairs, and lets them go. The text is wrong where one of the pairs is no byte.
+    ///
+    /// # Errors
+    ///
+    /// AllocError, where no memory is found.
     fn decode(&mut self) -> Result<(), AllocError>
+        requires right { self.old.is_wrong ≡ false }
         requires even { vec_len self.old.digits % 2 ≡ 0 }
         requires few { vec_len self.old.digits ≤ volume_limit }
         requires small { vec_len self.old.bytes ≤ volume_limit }
@@ -52,14 +57,16 @@ impl Decoder {
             self.is_long = true;
             self.bytes.clear();
         }
-        if !push_pairs(&self.digits, &mut self.bytes)? {
-            self.is_wrong = true;
-        }
+        self.is_wrong = !push_pairs(&self.digits, &mut self.bytes)?;
         self.digits.clear();
         Ok(())
     }
 
     /// Takes a piece of text. Once the text is wrong, it stays so.
+    ///
+    /// # Errors
+    ///
+    /// AllocError, where no memory is found.
     fn take(&mut self, text: &[u8]) -> Result<(), AllocError>
         requires short { length text.now ≤ read_limit }
         requires small { vec_len self.old.bytes ≤ volume_limit }
@@ -82,11 +89,17 @@ impl Decoder {
     }
 
     /// The bytes of the whole text.
+    ///
+    /// # Errors
+    ///
+    /// ReadFault at 0, where the text is no even number of digits; else Length at the limit of a
+    /// volume, where it spells more bytes.
     fn finish(self) -> Result<Vec<u8>, Fault>
         requires small { vec_len self.bytes ≤ volume_limit }
+        requires waiting { vec_len self.digits ≤ 1 }
         ensures read { (text : List ℕ) → Decodes self text → IfOk result (λ v. Reads (squeezed text) v.items) }
         ensures small { IfOk result (λ v. vec_len v ≤ volume_limit) }
-        ensures err { IfErr result IsTextFault }
+        ensures err { (text : List ℕ) → Decodes self text → IfErr result (RefusesText text) }
     {
         let Decoder {
             digits,
@@ -126,7 +139,9 @@ enum Piece {
 /// One read, into the front of the chunk.
 fn read_piece<R: Read>(reader: &mut Port<R>, chunk: &mut [u8]) -> Piece
     requires { 0 < length chunk.old }
-    ensures { ReadsPiece result (R.remaining (inner_of reader.old)) (R.remaining (inner_of reader.new)) chunk.new }
+    ensures piece { ReadsPiece result (R.remaining (inner_of reader.old)) (R.remaining (inner_of reader.new)) chunk.new
+        (has_erred reader.new) }
+    ensures stays { has_erred reader.new ≡ false → has_erred reader.old ≡ false }
 {
     match reader.read(chunk) {
         Ok(0) => Piece::End,
@@ -141,15 +156,15 @@ fn read_piece<R: Read>(reader: &mut Port<R>, chunk: &mut [u8]) -> Piece
 ///
 /// # Errors
 ///
-/// ReadFault at the bytes of text read so far, where the reader fails or the turns run out;
-/// Length at the limit of a volume, where the text or what it decodes to is too long; ReadFault
-/// at 0, where the text is no even number of digits; OutOfMemory.
+/// ReadFault at the bytes of text read so far, where the reader fails or the turns run out.
+/// Length at the limit of a volume, where the text is too long; else ReadFault at 0, where it is
+/// no even number of digits; else Length at the limit of a volume, where it spells more bytes.
+/// OutOfMemory.
 pub fn read_hex<R: Read>(alloc: Global, reader: &mut Port<R>) -> Result<Vec<u8>, Fault>
-    ensures read { IfOk result (λ v. (text : List ℕ)
-        × GivesText (R.remaining (inner_of reader.old)) (R.remaining (inner_of reader.new)) text
-        × Reads (squeezed text) v.items) }
-    ensures small { IfOk result (λ v. vec_len v ≤ volume_limit) }
-    ensures err { IfErr result IsTextFault }
+    ensures read { IfOk result (λ v. SpellsWhole (R.remaining (inner_of reader.old)) (R.remaining (inner_of reader.new))
+        v.items) }
+    ensures err { IfErr result (TextStops (R.remaining (inner_of reader.old)) (R.remaining (inner_of reader.new))
+        (has_erred reader.new)) }
 {
     let mut chunk = zeros(alloc, READ_LIMIT)?;
     let mut decoder = Decoder::new(alloc);
@@ -157,7 +172,7 @@ pub fn read_hex<R: Read>(alloc: Global, reader: &mut Port<R>) -> Result<Vec<u8>,
     for _turn in 0..TEXT_TURNS {
         match read_piece(reader, &mut chunk) {
             Piece::Text(count) => {
-                text_len = text_len.saturating_add(count as u64);
+                text_len += count as u64;
                 if text_len > TEXT_LIMIT {
                     return Err(Fault::outer(FaultKind::Length, VOLUME_LIMIT));
                 }

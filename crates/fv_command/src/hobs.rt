@@ -1,16 +1,17 @@
 //! The blocks of a hand-off list, and what an image holds where their volumes should lie.
 
-ghost use Rattle.std.specs.Prelude.{◌≡◌, ℕ, List, true, IfErr, OnErr, OnOk};
+ghost use Rattle.std.specs.Prelude.{◌≡◌, ◌≤◌, ℕ, List, length, true, IfErr, OnErr, OnOk};
 ghost use Rattle.std.specs.Io.KnownBytes.{Appends};
+ghost use Rattle.fv_base.specs.Output.{WriteStops};
 ghost use Rattle.fv_base.specs.Port.{inner_of, has_erred};
+ghost use Rattle.fv_command.specs.HobLines.{HobsText, IsWord, consumed_line, form_of, four_digits, hob_line, word_text};
 ghost use Rattle.fv_command.specs.Standings.{Stands};
 
-use crate::hex_lines::write_bytes;
 use fv_base::field::field;
-use fv_base::{Fault, FaultKind, Port};
+use fv_base::{Fault, Port, Sink, WriteSink};
+use fv_canon::put_decimal;
 use fv_head::verify_fv;
 use fv_hob::{Hob, HobList, Span};
-use std::fmt::InlineText;
 use std::io::Write;
 
 /// What an image holds where a volume should lie.
@@ -26,7 +27,9 @@ pub enum Standing {
 
 impl Standing {
     /// The word of it, behind a space.
-    pub fn word(self) -> &'static str {
+    pub fn word(self) -> &'static str
+        ensures { result.now ≡ word_text self }
+    {
         match self {
             Standing::Outside => " outside",
             Standing::Volume => " volume",
@@ -61,11 +64,56 @@ pub fn standing_of(image: &[u8], base: u64, span: Span) -> Standing
 }
 
 /// What is said of the volume that a block names, if it names one and there is an image.
-fn word_of(hob: &Hob, image: Option<Image<'_>>) -> &'static str {
+fn word_of(hob: &Hob, image: Option<Image<'_>>) -> &'static str
+    ensures { IsWord (form_of image.entry) hob.now result.now }
+{
     match (hob.span(), image) {
         (Some(span), Some(image)) => standing_of(image.bytes, image.base, span).word(),
         _ => "",
     }
+}
+
+/// Puts a number by four lower-case hexadecimal digits.
+fn put_four_digits<S: Sink>(out: &mut S, number: u16)
+    ensures { S.takes out.old (four_digits number) out.new }
+{
+    let mut text = [0u8; 4];
+    let bytes = [(number / 256) as u8, (number % 256) as u8];
+    let Ok(()) = hex::encode_to_slice(&bytes[..], &mut text) else {
+        unreachable!()
+    };
+    out.put(&text);
+}
+
+/// Puts the line of a block, with a word behind it.
+fn put_hob<S: Sink>(out: &mut S, code: u16, length: u16, word: &str)
+    ensures { S.takes out.old (hob_line code length word.now) out.new }
+{
+    out.put(b"hob ");
+    put_four_digits(out, code);
+    out.put(b" length ");
+    put_decimal(out, u64::from(length));
+    out.put(word.as_bytes());
+    out.put(b"\n");
+}
+
+/// Puts the line of how many bytes a list has.
+fn put_consumed<S: Sink>(out: &mut S, consumed: u64)
+    ensures { S.takes out.old (consumed_line consumed) out.new }
+{
+    out.put(b"consumed ");
+    put_decimal(out, consumed);
+    out.put(b"\n");
+}
+
+/// Puts a line for each block, and how many bytes the list has.
+fn put_hobs<S: Sink>(out: &mut S, hobs: &[Hob], consumed: u64, image: Option<Image<'_>>)
+    ensures { (text : List ℕ) × HobsText (form_of image.entry) hobs.now consumed text × S.takes out.old text out.new }
+{
+    for hob in hobs {
+        put_hob(out, hob.code(), hob.length(), word_of(hob, image));
+    }
+    put_consumed(out, consumed);
 }
 
 /// Writes a line for each block, and how many bytes the list has.
@@ -79,18 +127,20 @@ pub fn write_hobs<W: Write>(
     consumed: u64,
     image: Option<Image<'_>>,
 ) -> Result<(), Fault>
-    // No write failed: some text was written, and all of it.
-    ensures ok { OnOk result ((text : List ℕ) × Appends (W.contents (inner_of writer.old)) (W.contents (inner_of writer.new)) text) }
-    ensures err { IfErr result (λ f. f.kind ≡ FaultKind.WriteFault) }
+    // No write failed: the text of the list was written, and all of it.
+    ensures ok { OnOk result ((text : List ℕ) × HobsText (form_of image.entry) hobs.now consumed text
+        × Appends (W.contents (inner_of writer.old)) (W.contents (inner_of writer.new)) text) }
+
+    // One failed: the first bytes of the text were written, as many as the fault says, and not all of them.
+    ensures err { IfErr result (λ f. (text : List ℕ) × HobsText (form_of image.entry) hobs.now consumed text
+        × WriteStops (W.contents (inner_of writer.old)) (W.contents (inner_of writer.new)) text f) }
     ensures erred { OnErr result (has_erred writer.new ≡ true) }
 {
-    for hob in hobs.as_slice() {
-        let code = hob.code();
-        let length = hob.length();
-        let word = word_of(hob, image);
-        let line = InlineText::<48>::of(format_args!("hob {code:04x} length {length}{word}\n"));
-        write_bytes(writer, line.as_str().as_bytes())?;
-    }
-    let line = InlineText::<48>::of(format_args!("consumed {consumed}\n"));
-    write_bytes(writer, line.as_str().as_bytes())
+    let mut out = WriteSink {
+        port: writer,
+        on: true,
+        count: 0,
+    };
+    put_hobs(&mut out, hobs.as_slice(), consumed, image);
+    if out.on { Ok(()) } else { Err(out.fault()) }
 }

@@ -1,6 +1,7 @@
 //! The commands of the program, over readers and a writer.
 #![tactic(auto)]
 
+mod checking;
 mod closing;
 mod commands;
 mod comparing;
@@ -8,17 +9,25 @@ mod extracting;
 mod hex_digits;
 mod hex_lines;
 mod hex_text;
+mod hob_runs;
 mod hobs;
+mod imaging;
+mod inputs;
 mod lines;
 mod listing;
 mod plan;
+mod saying;
 mod scanning;
 mod source;
+mod status;
+mod tasks;
 #[cfg(test)]
 mod tests;
 
 pub use closing::close;
-pub use commands::{Status, refuse, run_plan, say};
+pub use commands::run_plan;
 pub use extracting::Part;
-pub use plan::{Command, ImageFile, Plan};
+pub use plan::{Command, ImageFile, Plan, Task};
+pub use saying::{refuse, say};
 pub use source::{Source, open};
+pub use status::Status;

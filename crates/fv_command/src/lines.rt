@@ -1,18 +1,39 @@
 //! Lines of text, put into a sink.
 
-ghost use Rattle.std.specs.Prelude.{◌≡◌, ◌++◌, OnOk, OnErr, true};
+ghost use Rattle.std.specs.Prelude.{◌≡◌, ◌++◌, IfErr, OnOk, OnErr, true};
 ghost use Rattle.std.specs.Io.KnownBytes.{Appends};
+ghost use Rattle.fv_base.specs.Output.{WriteStops};
 ghost use Rattle.fv_base.specs.Port.{inner_of, has_erred};
 ghost use Rattle.fv_command.specs.Lines.{fault_line, volume_line};
 
-use fv_base::{Fault, Port, Sink, WriteSink};
+use fv_base::{Fault, FaultKind, Port, Sink, WriteSink};
 use fv_canon::put_decimal;
 use std::io::Write;
 
-/// Puts the line of a fault.
-fn put_fault<S: Sink>(out: &mut S, number: u8, offset: u64)
-    ensures { S.takes out.old (fault_line number offset) out.new }
+/// Writes all of the bytes.
+///
+/// # Errors
+///
+/// WriteFault, where a write fails or takes no byte.
+pub fn write_bytes<W: Write>(writer: &mut Port<W>, bytes: &[u8]) -> Result<(), Fault>
+    ensures ok { OnOk result (Appends (W.contents (inner_of writer.old)) (W.contents (inner_of writer.new)) bytes.now) }
+    ensures err { IfErr result (WriteStops (W.contents (inner_of writer.old)) (W.contents (inner_of writer.new)) bytes.now) }
+    ensures erred { OnErr result (has_erred writer.new ≡ true) }
 {
+    let mut sink = WriteSink {
+        port: writer,
+        on: true,
+        count: 0,
+    };
+    sink.put(bytes);
+    if sink.on { Ok(()) } else { Err(sink.fault()) }
+}
+
+/// Puts the line of a fault, which begins with some words.
+fn put_fault<S: Sink>(out: &mut S, words: &[u8], number: u8, offset: u64)
+    ensures { S.takes out.old (words.now ++ fault_line number offset) out.new }
+{
+    out.put(words);
     out.put(b"fault ");
     put_decimal(out, u64::from(number));
     out.put(b" at ");
@@ -44,6 +65,10 @@ pub fn write_fault<W: Write>(
 ) -> Result<(), Fault>
     ensures ok { OnOk result (Appends (W.contents (inner_of writer.old)) (W.contents (inner_of writer.new))
         (words.now ++ fault_line number offset)) }
+
+    // A write failed: the first bytes of the line were written, as many as the fault says, and not all of them.
+    ensures err { IfErr result (λ f. WriteStops (W.contents (inner_of writer.old)) (W.contents (inner_of writer.new))
+        (words.now ++ fault_line number offset) f) }
     ensures erred { OnErr result (has_erred writer.new ≡ true) }
 {
     let mut out = WriteSink {
@@ -51,7 +76,6 @@ pub fn write_fault<W: Write>(
         on: true,
         count: 0,
     };
-    out.put(words);
-    put_fault(&mut out, number, offset);
+    put_fault(&mut out, words, number, offset);
     if out.on { Ok(()) } else { Err(out.fault()) }
 }

@@ -3,7 +3,7 @@
 ghost use Rattle.std.specs.Prelude.{◌≡◌, ℕ, List, true, OnOk, IfErr, OnErr};
 ghost use Rattle.std.specs.Io.KnownBytes.{Appends};
 ghost use Rattle.fv_base.specs.Port.{inner_of, has_erred};
-ghost use Rattle.fv_command.specs.Puts.{Puts};
+ghost use Rattle.fv_command.specs.Puts.{Puts, WrittenFront};
 
 use fv_base::{Fault, FaultKind, FileSystem, Guid, Port, Sink, WriteSink};
 use fv_canon::put_decimal;
@@ -254,7 +254,10 @@ pub fn write_list<W: Write>(writer: &mut Port<W>, volume: &VolumeView<'_>) -> Re
     // No write failed: some text was written, and all of it.
     ensures ok { OnOk result ((text : List ℕ) × Appends (W.contents (inner_of writer.old)) (W.contents
         (inner_of writer.new)) text) }
-    ensures err { IfErr result (λ f. f.kind ≡ FaultKind.WriteFault) }
+
+    // One failed: a front of some text was written, and not all of it.
+    ensures err { IfErr result (λ f. (f.kind ≡ FaultKind.WriteFault)
+        × WrittenFront (W.contents (inner_of writer.old)) (W.contents (inner_of writer.new))) }
     ensures erred { OnErr result (has_erred writer.new ≡ true) }
 {
     let mut out = WriteSink {

@@ -1,9 +1,11 @@
 //! What a run is to do.
 
+use crate::extracting::Part;
+
 /// What a line of words asks for.
 #[derive(Debug, Drop)]
 pub struct Plan {
-    /// Whether inputs and image are hexadecimal text.
+    /// Whether inputs, images and parts are hexadecimal text.
     pub hex: bool,
     /// What is to be done.
     pub command: Command,
@@ -12,9 +14,11 @@ pub struct Plan {
 /// What is to be done, and to which files.
 #[derive(Debug, Drop)]
 pub enum Command {
-    /// Write the canonical image of a volume.
-    Normalise {
-        /// The file of the volume, or standard input.
+    /// A task over one input.
+    Single {
+        /// What is done with the input.
+        task: Task,
+        /// The file of the input, or standard input.
         file: Option<String>,
     },
     /// List the blocks of a hand-off list.
@@ -24,16 +28,6 @@ pub enum Command {
         /// The image in which its volumes are looked for.
         image: Option<ImageFile>,
     },
-    /// List the files and the sections of a volume.
-    List {
-        /// The file of the volume, or standard input.
-        file: Option<String>,
-    },
-    /// Find the volumes in some bytes.
-    Scan {
-        /// The file of the bytes, or standard input.
-        file: Option<String>,
-    },
     /// Tell whether two volumes mean the same.
     Compare {
         /// The file of the first volume.
@@ -41,6 +35,21 @@ pub enum Command {
         /// The file of the second volume.
         second: String,
     },
+}
+
+/// What is done with one input.
+#[derive(Clone, Copy, Debug, PartialEq, Eq)]
+pub enum Task {
+    /// Write the canonical image of a volume.
+    Normalise,
+    /// List the files and the sections of a volume.
+    List,
+    /// Write the data of a file of a volume, or the body of one of its sections.
+    Extract(Part),
+    /// Tell whether a volume is its own canonical image, and what in it deserves a note.
+    Check,
+    /// Find the volumes in some bytes.
+    Scan,
 }
 
 /// An image in a file.
@@ -56,10 +65,7 @@ impl Plan {
     /// The file of the first input, or None for standard input.
     pub fn first(&self) -> Option<&String> {
         match &self.command {
-            Command::Normalise { file }
-            | Command::Hobs { file, .. }
-            | Command::List { file }
-            | Command::Scan { file } => file.as_ref(),
+            Command::Single { file, .. } | Command::Hobs { file, .. } => file.as_ref(),
             Command::Compare { first, .. } => Some(first),
         }
     }
@@ -67,7 +73,7 @@ impl Plan {
     /// The file of the second input, where there is one.
     pub fn second(&self) -> Option<&String> {
         match &self.command {
-            Command::Normalise { .. } | Command::List { .. } | Command::Scan { .. } => None,
+            Command::Single { .. } => None,
             Command::Hobs { image, .. } => image.as_ref().map(|image| &image.path),
             Command::Compare { second, .. } => Some(second),
         }

@@ -2,12 +2,13 @@
 
 ghost use Rattle.std.specs.Prelude.{◌≡◌, ◌≤◌, ℕ, List, length, drop, true, OnOk, IfErr, OnErr};
 ghost use Rattle.std.specs.Io.KnownBytes.{Appends};
+ghost use Rattle.fv_base.specs.Output.{WriteStops};
 ghost use Rattle.fv_base.specs.Port.{inner_of, has_erred};
 ghost use Rattle.fv_tree.specs.Found.{Found};
 ghost use Rattle.fv_command.specs.Lines.{ScanText};
 
 use crate::lines::put_found;
-use fv_base::{Fault, FaultKind, Port, Sink, WriteSink};
+use fv_base::{Fault, Port, Sink, WriteSink};
 use fv_head::verify_fv;
 use std::io::Write;
 
@@ -46,7 +47,10 @@ pub fn write_volumes<W: Write>(
     requires { Found input.now offsets.now }
     ensures ok { OnOk result ((text : List ℕ) × ScanText input.now offsets.now text
         × Appends (W.contents (inner_of writer.old)) (W.contents (inner_of writer.new)) text) }
-    ensures err { IfErr result (λ f. f.kind ≡ FaultKind.WriteFault) }
+
+    // A write failed: the first bytes of the text were written, as many as the fault says, and not all of them.
+    ensures err { IfErr result (λ f. (text : List ℕ) × ScanText input.now offsets.now text
+        × WriteStops (W.contents (inner_of writer.old)) (W.contents (inner_of writer.new)) text f) }
     ensures erred { OnErr result (has_erred writer.new ≡ true) }
 {
     let mut out = WriteSink {

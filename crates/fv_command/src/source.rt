@@ -1,5 +1,11 @@
 //! Where the bytes of an input come from.
 
+ghost use Rattle.std.specs.Io.{ReadsAtMost};
+ghost use Rattle.std.specs.Io.KnownBytes.{ReadConsumes};
+ghost use Rattle.std.specs.IoError.{error_kind};
+ghost use Rattle.std.specs.Prelude.{◌≡◌, IsErrAnd, Ok};
+ghost use Rattle.fv_command.specs.Sources.{IsFileOrMissing, unread};
+
 use std::io::{ErrorKind, Read};
 use std::rt::Files;
 use std::{fs, io};
@@ -18,7 +24,20 @@ pub enum Source<S: Read, F: Read> {
 }
 
 impl<S: Read, F: Read> Read for Source<S, F> {
-    fn read(&mut self, buf: &mut [u8]) -> io::Result<usize> {
+    ghost remaining = { unread S.remaining F.remaining };
+
+    fn read(&mut self, buf: &mut [u8]) -> io::Result<usize>
+        ensures bound { ReadsAtMost result buf.new }
+        ensures bytes { ReadConsumes (unread S.remaining F.remaining self.old) (unread S.remaining F.remaining self.new)
+            result buf.new }
+
+        // Each read of a file that could not be opened fails, and is not asked for again.
+        ensures missing { self.old ≡ Source.Missing → (self.new ≡ Source.Missing)
+            × IsErrAnd result (λ e. error_kind e ≡ ErrorKind.NotFound) }
+
+        // An input that there is not is at its end.
+        ensures nothing { self.old ≡ Source.Nothing → (self.new ≡ Source.Nothing) × (result ≡ Ok 0) }
+    {
         match self {
             Source::Standard(reader) => reader.read(buf),
             Source::File(file) => file.read(buf),
@@ -28,8 +47,10 @@ impl<S: Read, F: Read> Read for Source<S, F> {
     }
 }
 
-/// The file of a path.
-pub fn open<R: Files + Input>(rt: &R, path: &str) -> Source<R::Reader, R::File> {
+/// The file of a path, which is missing where it can not be opened.
+pub fn open<R: Files + Input>(rt: &R, path: &str) -> Source<R::Reader, R::File>
+    ensures { IsFileOrMissing result }
+{
     match fs::open(rt, path) {
         Ok(file) => Source::File(file),
         Err(_) => Source::Missing,

@@ -1,6 +1,7 @@
 //! Text, words and what a run writes.
 
 mod answers;
+mod checking;
 mod comparing;
 mod cut_short;
 mod extracting;
@@ -13,16 +14,18 @@ mod listing;
 mod pieces;
 mod runs;
 mod scanning;
+mod tasks;
 mod vectors;
 mod volumes;
 
 use crate::closing::close;
-use crate::commands::{Status, say};
-use crate::hex_lines::HexLines;
+use crate::hex_lines::{HexSink, write_shown};
 use crate::hex_text::read_hex;
+use crate::saying::say;
+use crate::status::Status;
 use fakes::{EndlessReader, FakeReader, FakeWriter};
 use fv_base::limits::VOLUME_LIMIT;
-use fv_base::{Fault, FaultKind, Port};
+use fv_base::{Fault, FaultKind, Port, Sink, WriteSink};
 use runs::{ends_as, normalise_plan, stops_at_each_byte};
 use std::alloc::Global;
 use std::io::{BufWriter, Read, Write};
@@ -122,6 +125,12 @@ const FULL: &[u8] = b"ABCDEFGHIJKLMNOPQRSTUVWXYZabcdef";
 
 const FULL_LINE: &[u8] = b"4142434445464748494a4b4c4d4e4f505152535455565758595a616263646566\n";
 
+const THREE_COPIES_AND_2_BYTES: &[u8] = b"\
+ABCDEFGHIJKLMNOPQRSTUVWXYZabcdef\
+ABCDEFGHIJKLMNOPQRSTUVWXYZabcdef\
+ABCDEFGHIJKLMNOPQRSTUVWXYZabcdef\
+\x0a\xbc";
+
 const THREE_LINES_AND_2_BYTES: &[u8] = b"\
 4142434445464748494a4b4c4d4e4f505152535455565758595a616263646566\n\
 4142434445464748494a4b4c4d4e4f505152535455565758595a616263646566\n\
@@ -129,33 +138,63 @@ const THREE_LINES_AND_2_BYTES: &[u8] = b"\
 0abc\n\
 ";
 
-/// Writes copies of a line's bytes, and the last bytes.
-fn write_copies(port: &mut Port<FakeWriter>, copies: u32, last: &[u8]) -> Result<(), Fail> {
-    let mut lines = HexLines::new(port);
-    for _copy in 0..copies {
-        lines.write_all(FULL)?;
-    }
-    lines.write_all(last)?;
-    lines.finish()?;
-    Ok(())
+/// Whether two pieces of bytes are written as lines of digits.
+fn writes_pieces(port: &mut Port<FakeWriter>, pieces: (&[u8], &[u8])) -> bool {
+    let sink = WriteSink {
+        port,
+        on: true,
+        count: 0,
+    };
+    let mut lines = HexSink::new(sink);
+    lines.put(pieces.0);
+    lines.put(pieces.1);
+    lines.finish().on
 }
 
 #[test]
-fn writes_lines(rt: HostRuntime) -> Result<(), Fail> {
-    let cases: [(u32, &[u8], &[u8]); 4] = [
-        (0, b"", b""),
-        (0, b"\xff", b"ff\n"),
-        (1, b"", FULL_LINE),
-        (3, b"\x0a\xbc", THREE_LINES_AND_2_BYTES),
+fn writes_lines(rt: HostRuntime) {
+    let cases: [(&[u8], &[u8]); 4] = [
+        (b"", b""),
+        (b"\xff", b"ff\n"),
+        (FULL, FULL_LINE),
+        (THREE_COPIES_AND_2_BYTES, THREE_LINES_AND_2_BYTES),
     ];
-    for (copies, last, wanted) in cases {
+    for (bytes, wanted) in cases {
         for step in STEPS {
-            let mut port = Port::new(FakeWriter::new(rt.alloc(), step, 1000, true));
-            write_copies(&mut port, copies, last)?;
-            assert!(rt; port.into_inner().took(wanted), "{copies} {last:?}");
+            for at in 0..=bytes.len() {
+                let mut port = Port::new(FakeWriter::new(rt.alloc(), step, 1000, true));
+                assert!(rt; writes_pieces(&mut port, bytes.split_at(at)));
+                assert!(rt; port.into_inner().took(wanted), "{bytes:?} {at}");
+            }
         }
     }
-    Ok(())
+}
+
+/// What is written of bytes that are shown, and the answer.
+fn shown(alloc: Global, hex: bool, bytes: &[u8], room: usize) -> (FakeWriter, Result<(), Fault>) {
+    let mut port = Port::new(FakeWriter::new(alloc, 7, room, true));
+    let answer = write_shown(&mut port, hex, bytes);
+    (port.into_inner(), answer)
+}
+
+#[test]
+fn shows_bytes(rt: HostRuntime) {
+    let cases: [(bool, &[u8], &[u8]); 4] = [
+        (false, b"", b""),
+        (false, FULL, FULL),
+        (true, b"", b""),
+        (true, THREE_COPIES_AND_2_BYTES, THREE_LINES_AND_2_BYTES),
+    ];
+    for (hex, bytes, wanted) in cases {
+        let (written, answer) = shown(rt.alloc(), hex, bytes, wanted.len());
+        assert!(rt; answer == Ok(()));
+        assert!(rt; written.took(wanted), "{hex} {bytes:?}");
+        for room in 0..wanted.len() {
+            let (front, stopped) = shown(rt.alloc(), hex, bytes, room);
+            assert!(rt; stopped == Err(Fault::outer(FaultKind::WriteFault, room as u64)));
+            assert!(rt; front.took(&wanted[..room]), "{hex} {bytes:?} {room}");
+        }
+    }
 }
 
 #[test]

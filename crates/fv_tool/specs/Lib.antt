@@ -1,1 +1,4 @@
+pub mod Does
+pub mod Options
+pub mod Refusals
 pub mod Words

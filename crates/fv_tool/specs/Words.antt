@@ -1,8 +1,115 @@
 -- What a line of words asks for.
-use Rattle.std.specs.Prelude.{true, None}
-use Rattle.fv_command.specs.declared.plan.Command.TheVariants.{Normalise}
+use Rattle.std.specs.Prelude.{◌≡◌, ◌⊎◌, ◌<◌, ◌≤◌, ◌^◌, ◌||◌, ℕ, Bool, true, false, List, [], ◌∷◌, length}
+use Rattle.std.specs.Prelude.{Option, Some, None, String, codes, if◌then◌else◌, option_and_then, option_map}
+use Rattle.std.specs.Str.{bytes_eq}
+use Rattle.std.specs.Str.Parse.{IsNumeral, digits_value, without_leading_plus}
+use Rattle.std.specs.Global.{Global}
+use Rattle.std.specs.String.{string_bytes}
+use Rattle.clap.specs.Takes.{takes}
+use Rattle.fv_base.specs.Guids.{guid_read}
+use Rattle.fv_command.specs.declared.extracting.Part.{Part}
+use Rattle.fv_tool.specs.Options.{compare_app, extract_app, hobs_app, number_in, one_input_app, text_in}
+use Rattle.fv_command.specs.declared.plan.Command.{Command}
+use Rattle.fv_command.specs.declared.plan.Command.TheVariants.{Single, Hobs, Compare}
+use Rattle.fv_command.specs.declared.plan.ImageFile.{ImageFile}
 use Rattle.fv_command.specs.declared.plan.Plan.{Plan}
+use Rattle.fv_command.specs.declared.plan.Task.{Task}
+use Rattle.fv_command.specs.declared.plan.Task.TheVariants.{Normalise, List as Listing, Extract, Check, Scan}
 
 -- of no words: hexadecimal text from standard input is normalised
 abbrev pub plan_without_words : Plan
-plan_without_words = record { hex = true; command = Normalise None }
+plan_without_words = record { hex = true; command = Single Normalise None }
+
+-- the word that names a task, and that which names a command
+abbrev pub name_of_task : Task → List ℕ
+name_of_task Normalise = codes "normalise"
+name_of_task Listing = codes "list"
+name_of_task (Extract part) = codes "extract"
+name_of_task Check = codes "check"
+name_of_task Scan = codes "scan"
+
+abbrev pub name_of : Command → List ℕ
+name_of (Single task file) = name_of_task task
+name_of (Hobs file image) = codes "hobs"
+name_of (Compare first second) = codes "compare"
+
+-- the commands with one input and no option but the flag
+abbrev pub HasOneInput : List ℕ → Type 0
+HasOneInput name = (name ≡ codes "normalise") ⊎ (name ≡ codes "list") ⊎ (name ≡ codes "check") ⊎ (name ≡ codes "scan")
+
+-- the words are of such a command, and its reader takes them
+abbrev pub AreTaken : List (List ℕ) → Type 0
+AreTaken [] = ⊥
+AreTaken (program ∷ []) = ⊥
+AreTaken (program ∷ name ∷ rest) = HasOneInput name × (takes one_input_app (name ∷ rest) ≡ true)
+
+-- the word stands among the words, before any `--`
+abbrev pub has_flag : List ℕ → List (List ℕ) → Bool
+has_flag flag [] = false
+has_flag flag (w ∷ ws) = if bytes_eq w (codes "--") then false else (bytes_eq w flag || has_flag flag ws)
+
+-- the type of a section is that of one or two hexadecimal digits, where they are given
+abbrev pub IsSectionType : Option (List ℕ) → Option ℕ → Type 0
+IsSectionType None kind = kind ≡ None
+IsSectionType (Some text) kind = IsNumeral 16 text × (length text ≤ 2) × (kind ≡ Some (digits_value 16 text))
+
+-- a number of so many bits, in decimal digits that a plus may stand before
+abbrev pub IsNumber : ℕ → List ℕ → ℕ → Type 0
+IsNumber bits text n = IsNumeral 10 (without_leading_plus text) → digits_value 10 (without_leading_plus text) < 2 ^ bits
+    → n ≡ digits_value 10 (without_leading_plus text)
+
+-- which section it is, and the first where nothing is given
+abbrev pub IsInstance : Option (List ℕ) → ℕ → Type 0
+IsInstance None n = n ≡ 1
+IsInstance (Some text) n = IsNumber 32 text n
+
+-- the part of a volume: the file of a name that is read as a GUID, the type of a section and which of them it is
+pub record IsPartBy (name section which : Option (List ℕ)) (part : Part) : Type 0 where
+  pub name_is : option_and_then guid_read name ≡ Some part.name
+  pub section_is : IsSectionType section part.section
+  pub instance_is : IsInstance which part.instance
+
+-- the address of an image's first byte
+abbrev pub IsBase : Option (List ℕ) → ℕ → Type 0
+IsBase None n = ⊥
+IsBase (Some text) n = IsNumber 64 text n
+
+-- an image that is named, with its base
+abbrev pub IsImage : (path base : Option (List ℕ)) → Option ImageFile → Type 0
+IsImage path base None = path ≡ None
+IsImage path base (Some image) = (path ≡ Some (string_bytes image.path)) × IsBase base image.base
+
+abbrev pub IsFile : Option (List ℕ) → Option (String Global) → Type 0
+IsFile text file = option_map string_bytes file ≡ text
+
+-- the texts of a task, and those of a command, are those that the reader finds
+abbrev pub HasTaskTexts : List (List ℕ) → Task → Option (String Global) → Type 0
+HasTaskTexts rest Normalise file = IsFile (text_in one_input_app (codes "file") rest) file
+HasTaskTexts rest Listing file = IsFile (text_in one_input_app (codes "file") rest) file
+HasTaskTexts rest (Extract part) file =
+    IsFile (text_in extract_app (codes "file") rest) file
+    × IsPartBy (text_in extract_app (codes "name") rest) (text_in extract_app (codes "section") rest)
+    (number_in extract_app (codes "instance") rest) part
+HasTaskTexts rest Check file = IsFile (text_in one_input_app (codes "file") rest) file
+HasTaskTexts rest Scan file = IsFile (text_in one_input_app (codes "file") rest) file
+
+abbrev pub HasTexts : List (List ℕ) → Command → Type 0
+HasTexts rest (Single task file) = HasTaskTexts rest task file
+HasTexts rest (Hobs file image) =
+    IsFile (text_in hobs_app (codes "file") rest) file
+    × IsImage (text_in hobs_app (codes "image") rest) (number_in hobs_app (codes "base") rest) image
+HasTexts rest (Compare first second) =
+    (Some (string_bytes first) ≡ text_in compare_app (codes "first") rest)
+    × (Some (string_bytes second) ≡ text_in compare_app (codes "second") rest)
+
+-- the plan is that of the command that the first word names, with text where the words behind it have the flag
+pub record AsksBy (name : List ℕ) (rest : List (List ℕ)) (plan : Plan) : Type 0 where
+  pub command : name ≡ name_of plan.command
+  pub hex : plan.hex ≡ has_flag (codes "--hex") rest
+  pub texts : HasTexts rest plan.command
+
+-- the same of a line of words, of which the first is the program's name
+abbrev pub Asks : List (List ℕ) → Plan → Type 0
+Asks [] plan = plan ≡ plan_without_words
+Asks (program ∷ []) plan = plan ≡ plan_without_words
+Asks (program ∷ name ∷ rest) plan = AsksBy name rest plan

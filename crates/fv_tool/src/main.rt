@@ -1,6 +1,14 @@
 //! Reads firmware volumes and writes their canonical images.
 #![tactic(auto)]
 
+ghost use Rattle.fv_base.specs.Port.{inner_of, has_erred};
+ghost use Rattle.fv_command.specs.Inputs.{seen};
+ghost use Rattle.fv_tool.specs.Does.{DoesAsked, RunsOver};
+ghost use Rattle.fv_tool.specs.Refusals.{line_of, status_of};
+ghost use Rattle.std.specs.Io.KnownBytes.{Appends};
+ghost use Rattle.std.specs.Prelude.{◌≡◌, ◌⊎◌, false, map, Err, IfOk};
+ghost use Rattle.std.specs.String.{string_bytes};
+
 mod options;
 #[cfg(test)]
 mod tests;
@@ -30,7 +38,11 @@ fn run_over_inputs<R: Files + Input + AllocGlobal, W: Write>(
     rt: &R,
     plan: &Plan,
     writer: &mut Port<W>,
-) -> Status {
+) -> Status
+    // What is written, and the status, are those of a run of this plan over some inputs.
+    ensures { RunsOver plan.now result (seen (W.contents (inner_of writer.old)) (has_erred writer.old))
+        (seen (W.contents (inner_of writer.new)) (has_erred writer.new)) }
+{
     let first = match plan.first() {
         Some(path) => open(rt, path.as_str()),
         None => Source::Standard(rt.reader()),
@@ -48,19 +60,47 @@ fn run_over_inputs<R: Files + Input + AllocGlobal, W: Write>(
     )
 }
 
-/// Reads the words, and does what they ask for.
-fn run_words<R: Env + Files + Input + AllocGlobal, W: Write>(
+/// Tells that words are wrong, or that no memory was found for them.
+fn refuse_words<W: Write>(writer: &mut Port<W>, fault: WordFault) -> Status
+    ensures status { (result ≡ status_of fault) ⊎ (result ≡ Status.Refused) }
+
+    // Unless the port has erred, the line was written and the status is that of the fault.
+    ensures said { has_erred writer.new ≡ false → (result ≡ status_of fault)
+        × Appends (W.contents (inner_of writer.old)) (W.contents (inner_of writer.new)) (line_of fault) }
+{
+    match fault {
+        WordFault::Words => say(writer, "wrong words\n", Status::WrongWords),
+        WordFault::OutOfMemory => refuse(writer, Fault::outer(FaultKind::OutOfMemory, 0)),
+    }
+}
+
+/// Does what the words ask for, or tells why they are refused.
+fn run_given<R: Files + Input + AllocGlobal, W: Write>(
     rt: &R,
+    words: Result<Vec<String>, WordFault>,
     writer: &mut Port<W>,
-) -> Status {
-    let plan = match arguments(rt) {
+) -> Status
+    // Words that were not found are told.
+    ensures none { (fault : WordFault) → words ≡ Err fault → has_erred writer.new ≡ false
+        → (result ≡ status_of fault)
+        × Appends (W.contents (inner_of writer.old)) (W.contents (inner_of writer.new)) (line_of fault) }
+
+    // What words ask for is run; words that ask for nothing are told, and so is want of memory.
+    ensures given { IfOk words (λ ws. DoesAsked (map string_bytes ws.items) result
+        (seen (W.contents (inner_of writer.old)) (has_erred writer.old))
+        (seen (W.contents (inner_of writer.new)) (has_erred writer.new))) }
+
+    // Wrong words are told, and only they.
+    ensures wrong { result ≡ Status.WrongWords → has_erred writer.new ≡ false
+        → Appends (W.contents (inner_of writer.old)) (W.contents (inner_of writer.new)) (line_of WordFault.Words) }
+{
+    let plan = match words {
         Ok(words) => parse_words(rt.alloc(), &words),
         Err(fault) => Err(fault),
     };
     match plan {
         Ok(plan) => run_over_inputs(rt, &plan, writer),
-        Err(WordFault::Words) => say(writer, "wrong words\n", Status::WrongWords),
-        Err(WordFault::OutOfMemory) => refuse(writer, Fault::outer(FaultKind::OutOfMemory, 0)),
+        Err(fault) => refuse_words(writer, fault),
     }
 }
 
@@ -68,7 +108,7 @@ fn main(rt: HostRuntime) -> ExitCode {
     let status = match BufWriter::new(rt.alloc(), io::writer(&rt)) {
         Ok(buffered) => {
             let mut writer = Port::new(buffered);
-            let status = run_words(&rt, &mut writer);
+            let status = run_given(&rt, arguments(&rt), &mut writer);
             close(writer, status)
         }
         Err(_) => {

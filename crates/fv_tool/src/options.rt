@@ -1,12 +1,29 @@
 //! The commands and their options, as they are given to the reader of command lines.
 
+ghost use Rattle.clap.specs.Words.{app_of, first_value, found_of, one_text, rule_of, takes};
+ghost use Rattle.fv_tool.specs.Options.{compare_app, extract_app, flag_app, hobs_app, one_input_app, text_in};
+ghost use Rattle.fv_tool.specs.Options.{base_rule, hex_rule, instance_rule, option_rule};
+ghost use Rattle.fv_tool.specs.Words.{AsksBy, HasOneInput, IsFile, has_flag};
+ghost use Rattle.fv_tool.specs.Words.{IsImage, IsInstance, IsPartBy, IsSectionType};
+ghost use Rattle.std.specs.String.{string_bytes};
+ghost use Rattle.std.specs.Prelude.{◌≡◌, ◌≤◌, false, codes, drop, length, map, option_map, true, IfErr, IfOk, SomeIff};
+ghost use Rattle.std.specs.Str.Parse.{IsNumeral, digits_value};
+
 use crate::words::WordFault;
 use clap::error::ErrorKind;
 use clap::{Arg, ArgAction, ArgMatches, value_parser};
-use fv_command::{Command, ImageFile, Plan};
+use fv_base::Guid;
+use fv_command::{Command, ImageFile, Part, Plan, Task};
 use std::alloc::{AllocError, Global};
 
 impl From<clap::Error> for WordFault {
+    ghost use Rattle.clap.specs.Words.{kind_of};
+    ghost use Rattle.clap.specs.declared.error.kind.ErrorKind.TheVariants as error_kinds;
+    ghost use Rattle.fv_tool.specs.declared.words.WordFault.TheVariants.{Words, OutOfMemory};
+    ghost use Rattle.std.specs.Prelude.{◌≡◌, ◌≢◌};
+
+    ghost from_gives = { λ e f. (kind_of e ≡ error_kinds.OutOfMemory → f ≡ OutOfMemory) × (kind_of e ≢ error_kinds.OutOfMemory → f ≡ Words) };
+
     fn from(error: clap::Error) -> WordFault {
         if error.kind() == ErrorKind::OutOfMemory {
             WordFault::OutOfMemory
@@ -16,53 +33,83 @@ impl From<clap::Error> for WordFault {
     }
 }
 
-/// The flag that inputs and image are text.
-fn hex_flag<'a>(alloc: Global) -> Arg<'a> {
+/// The flag that inputs and outputs are text.
+fn hex_flag<'a>(alloc: Global) -> Arg<'a>
+    ensures rule { rule_of result ≡ hex_rule }
+    ensures local { result.global ≡ false }
+{
     Arg::new(alloc, "hex")
         .long("hex")
         .action(ArgAction::SetTrue)
 }
 
+/// An option of this name, with one value.
+fn text_option<'a>(alloc: Global, name: &'static str) -> Arg<'a>
+    ensures rule { rule_of result ≡ option_rule name.now }
+    ensures local { result.global ≡ false }
+{
+    Arg::new(alloc, name).long(name)
+}
+
 /// The address of an image's first byte.
-fn base_option<'a>(alloc: Global) -> Arg<'a> {
-    Arg::new(alloc, "base")
-        .long("base")
-        .value_parser(value_parser!(u64))
+fn base_option<'a>(alloc: Global) -> Arg<'a>
+    ensures rule { rule_of result ≡ base_rule }
+    ensures local { result.global ≡ false }
+{
+    text_option(alloc, "base").value_parser(value_parser!(u64))
+}
+
+/// Which of the sections of a type is written.
+fn instance_option<'a>(alloc: Global) -> Arg<'a>
+    ensures rule { rule_of result ≡ instance_rule }
+    ensures local { result.global ≡ false }
+{
+    text_option(alloc, "instance").value_parser(value_parser!(u32))
+}
+
+/// The words of a command with the flag.
+fn flag_words<'a>(alloc: Global) -> Result<clap::Command<'a>, AllocError>
+    ensures { IfOk result (λ c. app_of c ≡ flag_app) }
+{
+    clap::Command::new(alloc, "fvtool").arg(hex_flag(alloc))
 }
 
 /// The words of a command with one input.
-fn one_input_words<'a>(alloc: Global, name: &'static str) -> Result<clap::Command<'a>, AllocError> {
-    clap::Command::new(alloc, name)
-        .arg(hex_flag(alloc))?
-        .arg(Arg::new(alloc, "file"))
+fn one_input_words<'a>(alloc: Global) -> Result<clap::Command<'a>, AllocError>
+    ensures { IfOk result (λ c. app_of c ≡ one_input_app) }
+{
+    flag_words(alloc)?.arg(Arg::new(alloc, "file"))
 }
 
 /// The words of `hobs`. That an image and a base come together is looked at behind the reading.
-fn hobs_words<'a>(alloc: Global) -> Result<clap::Command<'a>, AllocError> {
-    clap::Command::new(alloc, "hobs")
-        .arg(hex_flag(alloc))?
-        .arg(Arg::new(alloc, "image").long("image"))?
+fn hobs_words<'a>(alloc: Global) -> Result<clap::Command<'a>, AllocError>
+    ensures { IfOk result (λ c. app_of c ≡ hobs_app) }
+{
+    flag_words(alloc)?
+        .arg(text_option(alloc, "image"))?
         .arg(base_option(alloc))?
+        .arg(Arg::new(alloc, "file"))
+}
+
+/// The words of `extract`. That a file is named is looked at behind the reading.
+fn extract_words<'a>(alloc: Global) -> Result<clap::Command<'a>, AllocError>
+    ensures { IfOk result (λ c. app_of c ≡ extract_app) }
+{
+    flag_words(alloc)?
+        .arg(text_option(alloc, "name"))?
+        .arg(text_option(alloc, "section"))?
+        .arg(instance_option(alloc))?
         .arg(Arg::new(alloc, "file"))
 }
 
 /// The words of `compare`, which has two inputs. That both are named is looked at behind the
 /// reading.
-fn compare_words<'a>(alloc: Global) -> Result<clap::Command<'a>, AllocError> {
-    clap::Command::new(alloc, "compare")
-        .arg(hex_flag(alloc))?
+fn compare_words<'a>(alloc: Global) -> Result<clap::Command<'a>, AllocError>
+    ensures { IfOk result (λ c. app_of c ≡ compare_app) }
+{
+    flag_words(alloc)?
         .arg(Arg::new(alloc, "first"))?
         .arg(Arg::new(alloc, "second"))
-}
-
-/// The words of all commands.
-fn command_words<'a>(alloc: Global) -> Result<clap::Command<'a>, AllocError> {
-    clap::Command::new(alloc, "fvtool")
-        .subcommand(one_input_words(alloc, "normalise")?)?
-        .subcommand(hobs_words(alloc)?)?
-        .subcommand(one_input_words(alloc, "list")?)?
-        .subcommand(one_input_words(alloc, "scan")?)?
-        .subcommand(compare_words(alloc)?)
 }
 
 /// The word of an argument, if it was given.
@@ -70,15 +117,34 @@ fn file_of(
     alloc: Global,
     matches: &ArgMatches<'_>,
     name: &str,
-) -> Result<Option<String>, AllocError> {
+) -> Result<Option<String>, AllocError>
+    ensures { IfOk result (λ f. option_map string_bytes f ≡ first_value (found_of matches.now) name.now) }
+{
     match matches.get_str(name) {
         Some(path) => Ok(Some(String::from_str(alloc, path)?)),
         None => Ok(None),
     }
 }
 
+/// The flag and the file of a command with one input.
+fn one_input(alloc: Global, words: &[String]) -> Result<(bool, Option<String>), WordFault>
+    ensures hex { IfOk result (λ r. r.0 ≡ has_flag (codes "--hex") (drop 1 (map string_bytes words.now))) }
+    ensures file { IfOk result (λ r. IsFile (text_in one_input_app (codes "file")
+        (drop 1 (map string_bytes words.now))) r.1) }
+
+    // Words that the reader takes are refused for want of memory alone.
+    ensures taken { IfErr result (λ f. takes one_input_app (map string_bytes words.now) ≡ true
+        → f ≡ WordFault.OutOfMemory) }
+{
+    let matches = one_input_words(alloc)?.try_get_matches_from(words)?;
+    Ok((matches.get_flag("hex"), file_of(alloc, &matches, "file")?))
+}
+
 /// The image that was named, with its base: one without the other is wrong.
-fn image_of(alloc: Global, matches: &ArgMatches<'_>) -> Result<Option<ImageFile>, WordFault> {
+fn image_of(alloc: Global, matches: &ArgMatches<'_>) -> Result<Option<ImageFile>, WordFault>
+    ensures { IfOk result (IsImage (first_value (found_of matches.now) (codes "image"))
+        (one_text (found_of matches.now) (codes "base"))) }
+{
     match (matches.get_str("image"), matches.get_one::<u64>("base")) {
         (None, None) => Ok(None),
         (Some(path), Some(base)) => Ok(Some(ImageFile {
@@ -89,46 +155,135 @@ fn image_of(alloc: Global, matches: &ArgMatches<'_>) -> Result<Option<ImageFile>
     }
 }
 
-/// The two files to be compared: both have to be named.
-fn compared_files(alloc: Global, matches: &ArgMatches<'_>) -> Result<Command, WordFault> {
-    match (matches.get_str("first"), matches.get_str("second")) {
-        (Some(first), Some(second)) => Ok(Command::Compare {
-            first: String::from_str(alloc, first)?,
-            second: String::from_str(alloc, second)?,
-        }),
-        _ => Err(WordFault::Words),
+/// A list, and the image that its volumes are looked for in.
+fn hobs(alloc: Global, words: &[String]) -> Result<Plan, WordFault>
+    ensures { IfOk result (AsksBy (codes "hobs") (drop 1 (map string_bytes words.now))) }
+{
+    let matches = hobs_words(alloc)?.try_get_matches_from(words)?;
+    Ok(Plan {
+        hex: matches.get_flag("hex"),
+        command: Command::Hobs {
+            file: file_of(alloc, &matches, "file")?,
+            image: image_of(alloc, &matches)?,
+        },
+    })
+}
+
+/// The type of a section that a text names: one or two hexadecimal digits, of either case.
+fn section_type(text: &str) -> Option<u8>
+    ensures { SomeIff result (IsNumeral 16 text.now × (length text.now ≤ 2)) (digits_value 16 text.now) }
+{
+    if text.len() > 2 || text.starts_with('+') {
+        return None;
+    }
+    match u8::from_str_radix(text, 16) {
+        Ok(kind) => Some(kind),
+        Err(_) => None,
     }
 }
 
-/// The command of this name, with its words.
-fn command_of(alloc: Global, name: &str, matches: &ArgMatches<'_>) -> Result<Command, WordFault> {
-    match name {
-        "normalise" => Ok(Command::Normalise {
-            file: file_of(alloc, matches, "file")?,
-        }),
-        "hobs" => Ok(Command::Hobs {
-            file: file_of(alloc, matches, "file")?,
-            image: image_of(alloc, matches)?,
-        }),
-        "list" => Ok(Command::List {
-            file: file_of(alloc, matches, "file")?,
-        }),
-        "scan" => Ok(Command::Scan {
-            file: file_of(alloc, matches, "file")?,
-        }),
-        "compare" => compared_files(alloc, matches),
-        _ => Err(WordFault::Words),
-    }
-}
-
-/// Reads words, of which the first is the program's name and the next the command's.
-pub fn parse_given(alloc: Global, words: &[String]) -> Result<Plan, WordFault> {
-    let matches = command_words(alloc)?.try_get_matches_from(words)?;
-    match matches.subcommand() {
-        Some((name, inner)) => Ok(Plan {
-            hex: inner.get_flag("hex"),
-            command: command_of(alloc, name, inner)?,
-        }),
+/// The type of the section that was named, if one was.
+fn section_of(matches: &ArgMatches<'_>) -> Result<Option<u8>, WordFault>
+    ensures { IfOk result (IsSectionType (first_value (found_of matches.now) (codes "section"))) }
+{
+    let Some(text) = matches.get_str("section") else {
+        return Ok(None);
+    };
+    match section_type(text) {
+        Some(kind) => Ok(Some(kind)),
         None => Err(WordFault::Words),
+    }
+}
+
+/// Which of the sections of a type was asked for: the first where none was.
+fn instance_of(matches: &ArgMatches<'_>) -> u32
+    ensures { IsInstance (one_text (found_of matches.now) (codes "instance")) result }
+{
+    matches.get_one::<u32>("instance").unwrap_or(1)
+}
+
+/// The part of a volume that was named: the file by its GUID, and the first section of a type where
+/// no other was asked for.
+fn part_of(matches: &ArgMatches<'_>) -> Result<Part, WordFault>
+    ensures { IfOk result (IsPartBy (first_value (found_of matches.now) (codes "name"))
+        (first_value (found_of matches.now) (codes "section")) (one_text (found_of matches.now) (codes "instance"))) }
+{
+    let Some(text) = matches.get_str("name") else {
+        return Err(WordFault::Words);
+    };
+    let Some(name) = Guid::parse(text) else {
+        return Err(WordFault::Words);
+    };
+    Ok(Part {
+        name,
+        section: section_of(matches)?,
+        instance: instance_of(matches),
+    })
+}
+
+/// A volume, and the part of it that is written.
+fn extract(alloc: Global, words: &[String]) -> Result<Plan, WordFault>
+    ensures { IfOk result (AsksBy (codes "extract") (drop 1 (map string_bytes words.now))) }
+{
+    let matches = extract_words(alloc)?.try_get_matches_from(words)?;
+    Ok(Plan {
+        hex: matches.get_flag("hex"),
+        command: Command::Single {
+            task: Task::Extract(part_of(&matches)?),
+            file: file_of(alloc, &matches, "file")?,
+        },
+    })
+}
+
+/// The two files that are compared: both have to be named.
+fn compare(alloc: Global, words: &[String]) -> Result<Plan, WordFault>
+    ensures { IfOk result (AsksBy (codes "compare") (drop 1 (map string_bytes words.now))) }
+{
+    let matches = compare_words(alloc)?.try_get_matches_from(words)?;
+    match (matches.get_str("first"), matches.get_str("second")) {
+        (Some(first), Some(second)) => Ok(Plan {
+            hex: matches.get_flag("hex"),
+            command: Command::Compare {
+                first: String::from_str(alloc, first)?,
+                second: String::from_str(alloc, second)?,
+            },
+        }),
+        _ => Err(WordFault::Words),
+    }
+}
+
+/// The plan of a task over one input.
+fn single(task: Task, given: (bool, Option<String>)) -> Plan
+    ensures hex { result.hex ≡ given.0 }
+    ensures command { result.command ≡ Command.Single task given.1 }
+{
+    let (hex, file) = given;
+    Plan {
+        hex,
+        command: Command::Single { task, file },
+    }
+}
+
+/// Reads the words of the command of this name, of which the first is the name itself.
+///
+/// # Errors
+///
+/// Words, where there is no such command or its words are wrong. OutOfMemory.
+pub fn parse_command(alloc: Global, name: &str, words: &[String]) -> Result<Plan, WordFault>
+    ensures asked { IfOk result (AsksBy name.now (drop 1 (map string_bytes words.now))) }
+
+    // Of a command with one input, words that the reader takes are refused for want of memory alone.
+    ensures taken { IfErr result (λ f. HasOneInput name.now → takes one_input_app (map string_bytes words.now) ≡ true
+        → f ≡ WordFault.OutOfMemory) }
+{
+    match name {
+        "normalise" => Ok(single(Task::Normalise, one_input(alloc, words)?)),
+        "hobs" => hobs(alloc, words),
+        "list" => Ok(single(Task::List, one_input(alloc, words)?)),
+        "extract" => extract(alloc, words),
+        "check" => Ok(single(Task::Check, one_input(alloc, words)?)),
+        "scan" => Ok(single(Task::Scan, one_input(alloc, words)?)),
+        "compare" => compare(alloc, words),
+        _ => Err(WordFault::Words),
     }
 }

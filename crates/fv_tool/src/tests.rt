@@ -1,7 +1,11 @@
 //! Lines of words.
 
+use crate::run_given;
 use crate::words::{WordFault, parse_words};
+use fv_base::{Guid, Port};
+use fv_command::Status;
 use std::alloc::{AllocError, Global};
+use std::rt::Files;
 use std::test::Fail;
 
 /// The words of a line, which a space parts. An empty line has none.
@@ -27,20 +31,24 @@ fn is_shown_as(alloc: Global, line: &str, wanted: &str) -> Result<bool, Fail> {
 
 #[test]
 fn reads_words(rt: HostRuntime) -> Result<(), Fail> {
-    let hex_input = "Plan { hex: true, command: Normalise { file: None } }";
-    let hex_file = "Plan { hex: true, command: Normalise { file: Some(\"a.txt\") } }";
-    let input = "Plan { hex: false, command: Normalise { file: None } }";
-    let file = "Plan { hex: false, command: Normalise { file: Some(\"a.fv\") } }";
+    let hex_input = "Plan { hex: true, command: Single { task: Normalise, file: None } }";
+    let hex_file = "Plan { hex: true, command: Single { task: Normalise, file: Some(\"a.txt\") } }";
+    let input = "Plan { hex: false, command: Single { task: Normalise, file: None } }";
+    let file = "Plan { hex: false, command: Single { task: Normalise, file: Some(\"a.fv\") } }";
     let list_input = "Plan { hex: false, command: Hobs { file: None, image: None } }";
     let list_hex_file = "Plan { hex: true, command: Hobs { file: Some(\"a.hob\"), image: None } }";
     let list_and_image =
         "Plan { hex: false, command: Hobs { file: Some(\"a.hob\"), image: Some(ImageFile { path: \"a.fv\", base: 16711680 }) } }";
     let list_and_top =
         "Plan { hex: false, command: Hobs { file: None, image: Some(ImageFile { path: \"a.fv\", base: 18446744073709551615 }) } }";
-    let volume = "Plan { hex: false, command: List { file: None } }";
-    let volume_text = "Plan { hex: true, command: List { file: Some(\"a.txt\") } }";
-    let bytes = "Plan { hex: false, command: Scan { file: Some(\"a.bin\") } }";
-    let bytes_text = "Plan { hex: true, command: Scan { file: None } }";
+    let volume = "Plan { hex: false, command: Single { task: List, file: None } }";
+    let volume_text = "Plan { hex: true, command: Single { task: List, file: Some(\"a.txt\") } }";
+    let bytes = "Plan { hex: false, command: Single { task: Scan, file: Some(\"a.bin\") } }";
+    let bytes_text = "Plan { hex: true, command: Single { task: Scan, file: None } }";
+    let check = "Plan { hex: false, command: Single { task: Check, file: None } }";
+    let check_text = "Plan { hex: true, command: Single { task: Check, file: Some(\"a.txt\") } }";
+    let behind = "Plan { hex: false, command: Single { task: List, file: Some(\"--hex\") } }";
+    let hyphen = "Plan { hex: false, command: Single { task: List, file: Some(\"-\") } }";
     let two = "Plan { hex: false, command: Compare { first: \"a.fv\", second: \"b.fv\" } }";
     let two_texts = "Plan { hex: true, command: Compare { first: \"a.txt\", second: \"b.txt\" } }";
     let cases = [
@@ -64,11 +72,120 @@ fn reads_words(rt: HostRuntime) -> Result<(), Fail> {
         ("fv scan --hex", bytes_text),
         ("fv compare a.fv b.fv", two),
         ("fv compare a.txt --hex b.txt", two_texts),
+        ("fv check", check),
+        ("fv check --hex a.txt", check_text),
+        ("fv list -- --hex", behind),
+        ("fv list -", hyphen),
     ];
     for (line, wanted) in cases {
         assert!(rt; is_shown_as(rt.alloc(), line, wanted)?, "{line}");
     }
     Ok(())
+}
+
+/// A GUID as `--name` takes it.
+const NAME: &str = "0a0a0a0a-0a0a-0a0a-0a0a-0a0a0a0a0a0a";
+
+/// How a plan is shown that extracts from the file of that name.
+fn extraction(
+    alloc: Global,
+    hex: bool,
+    section: &str,
+    instance: u32,
+    file: &str,
+) -> Result<String, AllocError> {
+    let name = Guid::from_bytes([0x0a; 16]);
+    let part = format!(in alloc;
+        "Part {{ name: {name:?}, section: {section}, instance: {instance} }}"
+    )?;
+    format!(in alloc;
+        "Plan {{ hex: {hex}, command: Single {{ task: Extract({part}), file: {file} }} }}"
+    )
+}
+
+#[test]
+fn reads_parts(rt: HostRuntime) -> Result<(), Fail> {
+    let cases = [
+        ("", false, "None", 1, "None"),
+        ("--hex a.txt", true, "None", 1, "Some(\"a.txt\")"),
+        (
+            "--section 19 --instance 2 --hex",
+            true,
+            "Some(25)",
+            2,
+            "None",
+        ),
+        ("--section 1 a.fv", false, "Some(1)", 1, "Some(\"a.fv\")"),
+        ("--section=1B", false, "Some(27)", 1, "None"),
+        ("--section 1b", false, "Some(27)", 1, "None"),
+        ("--section ff", false, "Some(255)", 1, "None"),
+        ("--section 00", false, "Some(0)", 1, "None"),
+        ("--instance 0", false, "None", 0, "None"),
+        ("--instance +3", false, "None", 3, "None"),
+        ("--instance 4294967295", false, "None", 4294967295, "None"),
+    ];
+    for (words, hex, section, instance, file) in cases {
+        let line = if words.is_empty() {
+            format!(in rt.alloc(); "fv extract --name {NAME}")?
+        } else {
+            format!(in rt.alloc(); "fv extract --name {NAME} {words}")?
+        };
+        let wanted = extraction(rt.alloc(), hex, section, instance, file)?;
+        assert!(rt;
+            is_shown_as(rt.alloc(), line.as_str(), wanted.as_str())?,
+            "{line}"
+        );
+    }
+    Ok(())
+}
+
+#[test]
+fn refuses_parts(rt: HostRuntime) -> Result<(), Fail> {
+    let lines = [
+        "fv extract",
+        "fv extract a.fv",
+        "fv extract --section 19",
+        "fv extract --name",
+        "fv extract --name ",
+        "fv extract --name 0a0a",
+        "fv extract --name 0a0a0a0a-0a0a-0a0a-0a0a-0a0a0a0a0a0g",
+        "fv extract --name 0a0a0a0a-0a0a-0a0a-0a0a-0a0a0a0a0a0a0",
+    ];
+    for line in lines {
+        assert!(rt; are_wrong(rt.alloc(), line)?, "{line}");
+    }
+    let rests = [
+        "--section +1",
+        "--section ",
+        "--section=",
+        "--section 100",
+        "--section 1g",
+        "--section 0x1",
+        "--section -1",
+        "--section=-1",
+        "--section",
+        "--instance -1",
+        "--instance=-1",
+        "--instance 4294967296",
+        "--instance x",
+        "--instance ",
+        "--instance",
+        "--name 0a0a0a0a-0a0a-0a0a-0a0a-0a0a0a0a0a0a",
+        "--image a.fv",
+        "a.fv b.fv",
+    ];
+    for rest in rests {
+        let line = format!(in rt.alloc(); "fv extract --name {NAME} {rest}")?;
+        assert!(rt; are_wrong(rt.alloc(), line.as_str())?, "{line}");
+    }
+    Ok(())
+}
+
+/// Whether the words of the line are refused, and not for want of memory.
+fn are_wrong(alloc: Global, line: &str) -> Result<bool, AllocError> {
+    let words = words_of(alloc, line)?;
+    let read = parse_words(alloc, &words);
+    Ok(matches!(read, Err(WordFault::Words)))
 }
 
 #[test]
@@ -95,17 +212,64 @@ fn refuses_words(rt: HostRuntime) -> Result<(), Fail> {
         "fv compare a.fv",
         "fv compare --hex a.txt",
         "fv compare a.fv b.fv c.fv",
-        "fv extract",
-        "fv check",
+        "fv list --hex --hex",
+        "fv list --hex=true",
+        "fv list --he",
+        "fv list -h",
+        "fv list -- a.fv b.fv",
+        "fv list --version",
+        "fv check a.fv b.fv",
+        "fv check --name 0a0a0a0a-0a0a-0a0a-0a0a-0a0a0a0a0a0a",
         "fv help",
+        "fv help list",
         "fv --help",
         "fv --version",
+        "fv --",
+        "fv -- list",
+        "fv -",
+        "fv lis",
+        "fv lists",
+        "fv List",
+        "fv normalize",
         "fv ",
+        "fv  list",
     ];
     for line in lines {
-        let words = words_of(rt.alloc(), line)?;
-        let read = parse_words(rt.alloc(), &words);
-        assert!(rt; matches!(read, Err(WordFault::Words)), "{line}");
+        assert!(rt; are_wrong(rt.alloc(), line)?, "{line}");
     }
+    Ok(())
+}
+
+/// Whether what refuses the words is told by this line and this status.
+fn is_told<R: Files + Input + AllocGlobal>(
+    rt: &R,
+    words: Result<Vec<String>, WordFault>,
+    line: &str,
+    wanted: Status,
+) -> bool {
+    let mut writer = Port::new(Vec::new(rt.alloc()));
+    let status = run_given(rt, words, &mut writer);
+    let erred = writer.erred();
+    let written = writer.into_inner();
+    status == wanted && !erred && written.as_slice() == line.as_bytes()
+}
+
+#[test]
+fn tells_refusals(rt: HostRuntime) -> Result<(), Fail> {
+    let words = words_of(rt.alloc(), "fv lists")?;
+    assert!(rt; is_told(&rt, Ok(words), "wrong words\n", Status::WrongWords));
+    let fault = Err(WordFault::Words);
+    assert!(rt; is_told(&rt, fault, "wrong words\n", Status::WrongWords));
+    let fault = Err(WordFault::OutOfMemory);
+    assert!(rt; is_told(&rt, fault, "fault 24 at 0\n", Status::Refused));
+    Ok(())
+}
+
+#[test]
+fn a_missing_file_can_not_be_read(rt: HostRuntime) -> Result<(), Fail> {
+    let words = words_of(rt.alloc(), "fv normalise no-such-file")?;
+    assert!(rt; is_told(&rt, Ok(words), "fault 25 at 0\n", Status::Refused));
+    let words = words_of(rt.alloc(), "fv compare no-such-file nor-this")?;
+    assert!(rt; is_told(&rt, Ok(words), "first fault 25 at 0\n", Status::Refused));
     Ok(())
 }

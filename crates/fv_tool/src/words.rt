@@ -1,10 +1,11 @@
 //! The words of a command line.
 
-ghost use Rattle.std.specs.Prelude.{◌≡◌, ◌≤◌, length, Ok};
-ghost use Rattle.fv_tool.specs.Words.{plan_without_words};
+ghost use Rattle.std.specs.String.{string_bytes};
+ghost use Rattle.std.specs.Prelude.{◌≡◌, ◌≤◌, length, map, IfErr, IfOk, Ok};
+ghost use Rattle.fv_tool.specs.Words.{AreTaken, Asks, plan_without_words};
 
-use crate::options::parse_given;
-use fv_command::{Command, Plan};
+use crate::options::parse_command;
+use fv_command::{Command, Plan, Task};
 use std::alloc::{AllocError, Global};
 use std::io;
 use std::io::ErrorKind;
@@ -47,14 +48,27 @@ impl From<io::Error> for WordFault {
 
 /// Reads a line of words, of which the first is the program's name. With no word behind it the
 /// plan is to normalise hexadecimal text from standard input.
+///
+/// # Errors
+///
+/// Words, where they name no command that there is, or are wrong for the command. OutOfMemory.
 pub fn parse_words(alloc: Global, words: &[String]) -> Result<Plan, WordFault>
-    ensures { length words.now ≤ 1 → result ≡ Ok plan_without_words }
+    ensures none { length words.now ≤ 1 → result ≡ Ok plan_without_words }
+
+    // The plan is of the command that is named, and its inputs are text where the flag says so.
+    ensures asked { IfOk result (Asks (map string_bytes words.now)) }
+
+    // Of a command with one input, words that the reader takes are refused for want of memory alone.
+    ensures taken { IfErr result (λ f. AreTaken (map string_bytes words.now) → f ≡ WordFault.OutOfMemory) }
 {
     if words.len() <= 1 {
         return Ok(Plan {
             hex: true,
-            command: Command::Normalise { file: None },
+            command: Command::Single {
+                task: Task::Normalise,
+                file: None,
+            },
         });
     }
-    parse_given(alloc, words)
+    parse_command(alloc, words[1].as_str(), &words[1..])
 }

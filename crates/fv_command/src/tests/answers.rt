@@ -2,8 +2,8 @@
 
 use super::runs::{ends_as, normalise_plan};
 use super::vectors;
-use crate::commands::Status;
 use crate::hex_text::read_hex;
+use crate::status::Status;
 use fv_base::{Fault, FaultKind, Port};
 use fv_tree::VolumeView;
 use std::alloc::Global;

@@ -3,10 +3,11 @@
 use super::fakes::FakeReader;
 use super::runs::{ends_as, stops_at_each_byte};
 use super::vectors;
-use crate::commands::{Status, run_plan};
+use crate::commands::run_plan;
 use crate::hex_text::read_hex;
 use crate::plan::{Command, Plan};
 use crate::source::Source;
+use crate::status::Status;
 use fv_base::Port;
 use std::alloc::Global;
 use std::test::Fail;

@@ -1,9 +1,10 @@
 //! What is listed of volumes.
 
-use super::runs::{ends_as, stops_at_each_byte};
+use super::runs::{ends_as, stops_at_each_byte, task_plan};
 use super::vectors;
-use crate::commands::{Status, run_plan};
-use crate::plan::{Command, Plan};
+use crate::commands::run_plan;
+use crate::plan::Task;
+use crate::status::Status;
 use fv_base::Port;
 use std::alloc::Global;
 
@@ -64,7 +65,7 @@ volume ffs2 length 600 files 3 name 0e0e0e0e-0e0e-0e0e-0e0e-0e0e0e0e0e0e\n\
 ";
 
 /// A volume of a file with two sections.
-const TWO_SECTIONS: &[u8] = b"\
+pub const TWO_SECTIONS: &[u8] = b"\
 0000000000000000000000000000000078e58c8c3d8a1c4f9935896185c32dd3\n\
 80000000000000005f465648fffe04004800cef5000000020100000080000000\n\
 00000000000000000a0a0a0a0a0a0a0a0a0a0a0a0a0a0a0af89c0240260000f8\n\
@@ -79,21 +80,13 @@ volume ffs2 length 128 files 1\n\
 \x20   section 1 type 19 short body 2\n\
 ";
 
-/// To list what a volume holds.
-fn list_plan(hex: bool) -> Plan {
-    Plan {
-        hex,
-        command: Command::List { file: None },
-    }
-}
-
 /// What is written where the volume is listed that the input begins with, or None where it is
 /// refused.
 pub fn lists(alloc: Global, hex: bool, input: &[u8]) -> Option<Vec<u8>> {
     let mut first = Port::new(input);
     let mut second = Port::new(b"".as_slice());
     let mut writer = Port::new(Vec::<u8>::new(alloc));
-    let plan = list_plan(hex);
+    let plan = task_plan(hex, Task::List);
     let ended = run_plan(alloc, &plan, &mut first, &mut second, &mut writer);
     if ended == Status::Done {
         Some(writer.into_inner())
@@ -114,7 +107,7 @@ fn lists_files_and_sections(rt: HostRuntime) {
         (EVERY_KIND, EVERY_LINE),
     ];
     for (volume, lines) in cases {
-        let plan = list_plan(true);
+        let plan = task_plan(true, Task::List);
         let is_so = ends_as(rt.alloc(), &plan, (volume, b""), Status::Done, lines);
         assert!(rt; is_so, "{volume:?}");
     }
@@ -128,7 +121,7 @@ fn a_refused_volume_is_not_listed(rt: HostRuntime) {
         (b"0", b"fault 25 at 0\n"),
     ];
     for (volume, line) in cases {
-        let plan = list_plan(true);
+        let plan = task_plan(true, Task::List);
         let is_so = ends_as(rt.alloc(), &plan, (volume, b""), Status::Refused, line);
         assert!(rt; is_so, "{line:?}");
         assert!(rt; lists(rt.alloc(), true, volume).is_none());
@@ -138,5 +131,12 @@ fn a_refused_volume_is_not_listed(rt: HostRuntime) {
 #[test]
 fn a_list_that_fails_is_cut(rt: HostRuntime) {
     let inputs = (TWO_SECTIONS, b"".as_slice());
-    assert!(rt; stops_at_each_byte(rt.alloc(), &list_plan(true), inputs, TWO_SECTIONS_LINES));
+    assert!(rt;
+        stops_at_each_byte(
+            rt.alloc(),
+            &task_plan(true, Task::List),
+            inputs,
+            TWO_SECTIONS_LINES
+        )
+    );
 }

@@ -1,17 +1,23 @@
 //! Runs of a plan over readers and a writer.
 
 use super::fakes::FakeWriter;
-use crate::commands::{Status, run_plan};
-use crate::plan::{Command, Plan};
+use crate::commands::run_plan;
+use crate::plan::{Command, Plan, Task};
+use crate::status::Status;
 use fv_base::Port;
 use std::alloc::Global;
 
-/// To normalise standard input.
-pub fn normalise_plan(hex: bool) -> Plan {
+/// To do a task with standard input.
+pub fn task_plan(hex: bool, task: Task) -> Plan {
     Plan {
         hex,
-        command: Command::Normalise { file: None },
+        command: Command::Single { task, file: None },
     }
+}
+
+/// To normalise standard input.
+pub fn normalise_plan(hex: bool) -> Plan {
+    task_plan(hex, Task::Normalise)
 }
 
 /// Whether a run over two inputs ends so, and writes the bytes.

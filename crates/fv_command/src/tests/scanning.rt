@@ -1,10 +1,11 @@
 //! The volumes that are found in some bytes.
 
 use super::fakes::FakeReader;
-use super::runs::{ends_as, stops_at_each_byte};
+use super::runs::{ends_as, stops_at_each_byte, task_plan};
 use super::vectors;
-use crate::commands::{Status, run_plan};
-use crate::plan::{Command, Plan};
+use crate::commands::run_plan;
+use crate::plan::Task;
+use crate::status::Status;
 use fv_base::Port;
 
 /// An empty volume behind 64 bytes.
@@ -29,14 +30,6 @@ ffffffffffffffff222222222222222222222222222222220000000000000000\n\
 3333333333333333\n\
 ";
 
-/// To find the volumes.
-fn scan_plan(hex: bool) -> Plan {
-    Plan {
-        hex,
-        command: Command::Scan { file: None },
-    }
-}
-
 #[test]
 fn finds_volumes(rt: HostRuntime) {
     let cases: [(&[u8], &[u8]); 5] = [
@@ -50,11 +43,11 @@ fn finds_volumes(rt: HostRuntime) {
         ),
     ];
     for (bytes, lines) in cases {
-        let plan = scan_plan(true);
+        let plan = task_plan(true, Task::Scan);
         let is_so = ends_as(rt.alloc(), &plan, (bytes, b""), Status::Done, lines);
         assert!(rt; is_so, "{lines:?}");
     }
-    let plan = scan_plan(false);
+    let plan = task_plan(false, Task::Scan);
     let is_so = ends_as(rt.alloc(), &plan, (vectors::EMPTY, b""), Status::Done, b"");
     assert!(rt; is_so);
 }
@@ -64,7 +57,7 @@ fn what_can_not_be_read_is_not_scanned(rt: HostRuntime) {
     let mut first = Port::new(FakeReader::failing(b"abcdefgh", 3, 5));
     let mut second = Port::new(b"".as_slice());
     let mut writer = Port::new(Vec::<u8>::new(rt.alloc()));
-    let plan = scan_plan(false);
+    let plan = task_plan(false, Task::Scan);
     let ended = run_plan(rt.alloc(), &plan, &mut first, &mut second, &mut writer);
     assert!(rt; ended == Status::Refused);
     assert!(rt; writer.into_inner().as_slice() == b"fault 25 at 5\n".as_slice());
@@ -74,5 +67,5 @@ fn what_can_not_be_read_is_not_scanned(rt: HostRuntime) {
 fn a_line_of_a_scan_that_fails_is_the_last(rt: HostRuntime) {
     let inputs = (TWO_VOLUMES, b"".as_slice());
     let lines = b"volume at 8 length 128\nvolume at 152 length 72\n";
-    assert!(rt; stops_at_each_byte(rt.alloc(), &scan_plan(true), inputs, lines));
+    assert!(rt; stops_at_each_byte(rt.alloc(), &task_plan(true, Task::Scan), inputs, lines));
 }

@@ -1,6 +1,7 @@
 use Rattle.std.proofs.Common.{ℕ, List, get_or, refl, sym, subst}
 use Rattle.fv_head.specs.Head.{Front}
-use Rattle.fv_command.proofs.ScanLemmas.{found_at, place_within, tells_more, tells_all}
+use Rattle.fv_command.proofs.ScanLemmas.{found_at, place_within, scan_more}
+use Rattle.fv_command.proofs.WriteLemmas.{tells_all}
 use Rattle.fv_command.proofs.scanning.put_volumes.Goals as goal
 
 pub behind-requires : goal.behind-requires
@@ -20,7 +21,7 @@ loop-offset-preserved g c =
     let h = c.in-Ok.ensures.found.0 in
     let e = c.in-Ok.extent in
     let front = subst (λ (x : List ℕ). Front h e x) c.behind.ensures c.in-Ok.ensures.found.1 in
-    tells_more g.S.Sink.laws 0 e.length c.loop-offset-test.true c.loop-offset.invariant (h, e, front, refl) c.put_found.ensures
+    scan_more g.S.Sink.laws 0 e.length c.loop-offset-test.true c.loop-offset.invariant (h, e, front, refl) c.put_found.ensures
 
 pub returns : goal.returns
-returns g c = tells_all c.loop-offset-test.false c.loop-offset.invariant
+returns g c = tells_all refl c.loop-offset-test.false c.loop-offset.invariant

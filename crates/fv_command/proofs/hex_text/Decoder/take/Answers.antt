@@ -1,8 +1,11 @@
 use Rattle.std.proofs.Common.{arith, ap, ◌∙◌, ◌++◌, ◌∷◌, [], List, ℕ, length, length-append}
 use Rattle.fv_command.specs.HexPairs.{squeezed}
 use Rattle.fv_command.proofs.HexDigitLemmas.{squeezed_short}
-use Rattle.fv_command.proofs.HexInLemmas.{taken}
+use Rattle.fv_command.proofs.HexInLemmas.{stays_wrong, taken, taken_wrong}
 use Rattle.fv_command.proofs.hex_text.Decoder.take.Goals as goal
+
+pub returns-then-self-clause-read : goal.returns-then-self-clause-read
+returns-then-self-clause-read c = λ before so_far. stays_wrong c.args.self.now before c.args.text.now c.if-self.true so_far
 
 pub decode-requires-clause-few : goal.decode-requires-clause-few
 decode-requires-clause-few c =
@@ -19,14 +22,24 @@ decode-requires-clause-few c =
     )
 
 pub returns-in_ok-push-clause-read : goal.returns-in_ok-push-clause-read
-returns-in_ok-push-clause-read c = λ before so_far wrong long.
-    let (was_wrong, was_long, (more, reads, is)) = c.in_ok-decode.ensures.read wrong long in
+returns-in_ok-push-clause-read c = λ before so_far.
+    let was = so_far.right c.if-self.false in
+    let decoded = c.in_ok-decode.ensures.read in
     let left = c.in_ok-push.ensures.items ∙ ap (λ (l : List ℕ). l ++ c.in-Some.digit ∷ []) c.in_ok-decode.ensures.empty in
-    taken before c.args.text.now _ _ _ _ _ _ more _ (so_far was_wrong was_long)
-    c.in_ok-squeeze.ensures c.in-Some.ensures.items left reads is
+    record {
+      wrong = λ up. taken_wrong before c.args.text.now _ _ _ _ _ _ was (decoded.wrong up)
+          c.in_ok-squeeze.ensures c.in-Some.ensures.items;
+      right = λ down. taken before c.args.text.now _ _ _ _ _ _ _ _ _ was (decoded.right down)
+          c.in_ok-squeeze.ensures c.in-Some.ensures.items left;
+    }
 
 pub returns-in_default-clause-read : goal.returns-in_default-clause-read
-returns-in_default-clause-read c = λ before so_far wrong long.
-    let (was_wrong, was_long, (more, reads, is)) = c.in_ok-decode.ensures.read wrong long in
-    taken before c.args.text.now _ _ _ _ _ _ more _ (so_far was_wrong was_long)
-    c.in_ok-squeeze.ensures c.in_default.ensures.items c.in_ok-decode.ensures.empty reads is
+returns-in_default-clause-read c = λ before so_far.
+    let was = so_far.right c.if-self.false in
+    let decoded = c.in_ok-decode.ensures.read in
+    record {
+      wrong = λ up. taken_wrong before c.args.text.now _ _ _ _ _ _ was (decoded.wrong up)
+          c.in_ok-squeeze.ensures c.in_default.ensures.items;
+      right = λ down. taken before c.args.text.now _ _ _ _ _ _ _ _ _ was (decoded.right down)
+          c.in_ok-squeeze.ensures c.in_default.ensures.items c.in_ok-decode.ensures.empty;
+    }

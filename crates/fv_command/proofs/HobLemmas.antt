@@ -1,0 +1,124 @@
+-- The text of a hand-off list: a block has one word, its line is short, and the lines are put in order.
+use Rattle.std.proofs.Common.{◌≡◌, ℕ, suc, ◌+◌, ◌*◌, ◌/◌, ◌%◌, ◌^◌, ◌<◌, ◌≤◌, List, [], ◌∷◌, ◌++◌, length, get_or, drop, codes, decimal}
+use Rattle.std.proofs.Common.{refl, sym, ◌∙◌, ap, subst, arith, length-append}
+use Rattle.std.specs.Prelude.{Option, None, Some}
+use Rattle.std.proofs.lemmas.Fmt.{length-decimal-le}
+use Rattle.hex.specs.Hex.{lower_digits}
+use Rattle.hex.proofs.HexLemmas.{length-encode_with}
+use Rattle.fv_base.specs.Sinks.{WalkLaws}
+use Rattle.fv_canon.specs.Lines.{line_feed}
+use Rattle.fv_hob.specs.Hobs.{HobForm, code_of, len_of}
+use Rattle.fv_hob.specs.Lists.{Joins, span_of}
+use Rattle.fv_hob.specs.declared.span.Span.{Span}
+use Rattle.fv_hob.proofs.Laws.{len_small}
+use Rattle.fv_command.specs.HobLines.{ImageForm, HobLines, HobsText, IsSpanWord, IsWord, consumed_line, four_digits, hob_line, word_text}
+use Rattle.fv_command.specs.declared.hobs.Standing.{Standing}
+use Rattle.fv_command.specs.declared.hobs.Standing.TheVariants.{Outside, Volume, Absent}
+use Rattle.fv_command.proofs.WriteLemmas.{Tells, tells_more, tells_all}
+use Rattle.fv_command.proofs.StandingLemmas.{one_standing}
+
+-- ---- the word of a block
+
+-- there is one
+pub one_word : (image : Option ImageForm) (h : HobForm) (v w : List ℕ) → IsWord image h v → IsWord image h w → v ≡ w
+one_word image h v w p q = by_span image (span_of h.kind) v w p q where
+  by_span : (image : Option ImageForm) (span : Option Span) (v w : List ℕ) → IsSpanWord image span v → IsSpanWord image span w → v ≡ w
+  by_span None span v w p q = p ∙ sym q
+  by_span (Some i) None v w p q = p ∙ sym q
+  by_span (Some i) (Some s) v w p q = p.2 ∙ ap word_text (one_standing i.bytes i.base s p.0 q.0 p.1 q.1) ∙ sym q.2
+
+-- and a list has one text
+pub one_text : (image : Option ImageForm) (hs : List HobForm) (n : ℕ) (x y : List ℕ) → HobsText image hs n x → HobsText image hs n y
+    → x ≡ y
+one_text image hs n x y (a, p, is) (b, q, same) = is ∙ ap (λ (l : List ℕ). l ++ consumed_line n) (by_block hs a b p q) ∙ sym same where
+  by_block : (hs : List HobForm) (x y : List ℕ) → HobLines image hs x → HobLines image hs y → x ≡ y
+  by_block [] x y p q = p ∙ sym q
+  by_block (h ∷ hs) x y (v, more, p, is, m) (w, rest, q, same, l) =
+      let line : List ℕ → List ℕ = λ word. hob_line (code_of h.kind) (len_of h.kind) word in
+      let first : line v ++ more ≡ line w ++ more = ap (λ (word : List ℕ). line word ++ more) (one_word image h v w p q) in
+      is ∙ first ∙ ap (λ (t : List ℕ). line w ++ t) (by_block hs more rest m l) ∙ sym same
+
+standing_short : (s : Standing) → length (word_text s) ≤ 8
+standing_short Outside = omega arith
+standing_short Volume = omega arith
+standing_short Absent = omega arith
+
+word_short : (image : Option ImageForm) (span : Option Span) (word : List ℕ) → IsSpanWord image span word → length word ≤ 8
+word_short None span word is = subst (λ (w : List ℕ). length w ≤ 8) (sym is) (omega arith)
+word_short (Some i) None word is = subst (λ (w : List ℕ). length w ≤ 8) (sym is) (omega arith)
+word_short (Some i) (Some s) word is = subst (λ (w : List ℕ). length w ≤ 8) (sym is.2) (standing_short is.0)
+
+-- ---- how long the text is
+
+line_short : (code n : ℕ) (word : List ℕ) → n < 65536 → length word ≤ 8 → length (hob_line code n word) ≤ 30
+line_short code n word small short =
+    let number = length-decimal-le 5 n (omega arith) (omega (arith, small)) (omega (arith, small)) in
+    joined (four_digits code) (decimal n) word (length-encode_with lower_digits (code / 256 ∷ code % 256 ∷ [])) number short
+  where
+    joined : (digits number word : List ℕ) → length digits ≡ 4 → length number ≤ 5 → length word ≤ 8
+        → length (codes "hob " ++ (digits ++ (codes " length " ++ (number ++ (word ++ line_feed))))) ≤ 30
+    joined digits number word p q r =
+        omega (
+          arith,
+          length-append (codes "hob ") (digits ++ (codes " length " ++ (number ++ (word ++ line_feed)))),
+          length-append digits (codes " length " ++ (number ++ (word ++ line_feed))),
+          length-append (codes " length ") (number ++ (word ++ line_feed)),
+          length-append number (word ++ line_feed),
+          length-append word line_feed,
+          p,
+          q,
+          r,
+        )
+
+lines_short : (image : Option ImageForm) (hs : List HobForm) (b text : List ℕ) → Joins hs b → HobLines image hs text
+    → length text ≤ 30 * length hs
+lines_short image [] b text joins lines = subst (λ (t : List ℕ). length t ≤ 0) (sym lines) (omega arith)
+lines_short image (h ∷ hs) b text joins (word, rest, is, whole, more) =
+    let line : List ℕ = hob_line (code_of h.kind) (len_of h.kind) word in
+    let short = line_short (code_of h.kind) (len_of h.kind) word (len_small h joins.0 joins.3)
+    (word_short image (span_of h.kind) word is) in
+    let rest_short = lines_short image hs joins.1 rest joins.4 more in
+    let parts = ap (λ (t : List ℕ). length t) whole ∙ length-append line rest in
+    sum (length text) (length line) (length rest) (length hs) parts short rest_short
+  where
+    sum : (all line rest n : ℕ) → all ≡ line + rest → line ≤ 30 → rest ≤ 30 * n → all ≤ 30 * suc n
+    sum all line rest n p q r = omega (arith, p, q, r)
+
+pub text_short : (image : Option ImageForm) (hs : List HobForm) (n : ℕ) (b text : List ℕ) → n < 2 ^ 64 → Joins hs b
+    → HobsText image hs n text → length text ≤ 30 * length hs + 30
+text_short image hs n b text small joins (lines, are, whole) =
+    omega (
+      arith,
+      ap (λ (t : List ℕ). length t) whole,
+      length-append lines (consumed_line n),
+      length-append (codes "consumed ") (decimal n ++ line_feed),
+      length-append (decimal n) line_feed,
+      length-decimal-le 20 n (omega arith) (omega (arith, small)) small,
+      lines_short image hs b lines joins are,
+    )
+
+-- ---- the lines, put one behind the other
+
+-- the line of one block more
+pub hobs_more : {S : Type 0} {takes : S → List ℕ → S → Type 0} {hs : List HobForm} {i : ℕ} {s t u : S} → WalkLaws takes
+    → (image : Option ImageForm) (h : HobForm) (code n : ℕ) (word : List ℕ) → i < length hs → h ≡ get_or hs i h
+    → code ≡ code_of h.kind → n ≡ len_of h.kind → IsWord image h word → Tells takes (HobLines image) hs i s t
+    → takes t (hob_line code n word) u → Tells takes (HobLines image) hs (i + 1) s u
+hobs_more {hs = hs} {i = i} laws image h code n word l here p q is w line =
+    let same : hob_line code n word ≡ hob_line (code_of h.kind) (len_of h.kind) word =
+    ap (λ (k : ℕ). hob_line k n word) p ∙ ap (λ (k : ℕ). hob_line (code_of h.kind) k word) q in
+    let own : (rest : List ℕ) → HobLines image (drop (i + 1) hs) rest
+    → HobLines image (h ∷ drop (i + 1) hs) (hob_line code n word ++ rest) =
+    λ rest more. (word, rest, is, ap (λ (m : List ℕ). m ++ rest) same, more) in
+    let first : (rest : List ℕ) → HobLines image (drop (i + 1) hs) rest
+    → HobLines image (get_or hs i h ∷ drop (i + 1) hs) (hob_line code n word ++ rest) =
+    λ rest more. subst (λ (g : HobForm). HobLines image (g ∷ drop (i + 1) hs) (hob_line code n word ++ rest)) here (own rest more) in
+    tells_more laws h (hob_line code n word) l first w line
+
+-- those of all, and the last line
+pub hobs_all : {S : Type 0} {takes : S → List ℕ → S → Type 0} {hs : List HobForm} {i : ℕ} {s t u : S} → WalkLaws takes
+    → (image : Option ImageForm) (n : ℕ) → length hs ≤ i → Tells takes (HobLines image) hs i s t → takes t (consumed_line n) u
+    → (text : List ℕ) × HobsText image hs n text × takes s text u
+hobs_all laws image n l w line =
+    let all = tells_all refl l w in
+    (all.0 ++ consumed_line n, (all.0, all.1, refl), laws.joined _ _ _ _ _ all.2 line)

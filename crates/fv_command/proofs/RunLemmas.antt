@@ -1,0 +1,152 @@
+-- What the runs come to: from what the calls promise to the words of a run.
+use Rattle.std.proofs.Common.{◌≡◌, ◌≢◌, ◌<◌, ◌≤◌, ◌⊎◌, ℕ, Bool, true, false, List, Option, length, take, sym, subst, inl, inr}
+use Rattle.std.specs.Prelude.{Result, Ok, Err, IfErr, IfOk}
+use Rattle.std.specs.Io.KnownBytes.{Appends, Keeps}
+use Rattle.std.proofs.KnownBytes.{Keeps-refl}
+use Rattle.fv_base.specs.Faults.{want_of_memory}
+use Rattle.fv_base.specs.Output.{WriteStops}
+use Rattle.fv_base.specs.declared.fault.Fault.{Fault}
+use Rattle.fv_base.specs.declared.fault.FaultKind.TheVariants as kinds
+use Rattle.fv_canon.proofs.InputLaws.{want_known}
+use Rattle.fv_canon.specs.Comparisons.{ComparisonStops, VolumeStops}
+use Rattle.fv_canon.specs.declared.side.Side.{Side}
+use Rattle.fv_canon.specs.declared.side.Side.TheVariants as sides
+use Rattle.fv_tree.specs.Denotes.{Accepted, Denotes, depth_limit}
+use Rattle.fv_tree.specs.FirstFault.{IsFirstOfVolume}
+use Rattle.fv_tree.specs.Meaning.{Meaning, files_of}
+use Rattle.fv_tree.specs.Names.{file_named}
+use Rattle.fv_command.specs.Checks.{CheckStops}
+use Rattle.fv_command.specs.Images.{StopsImage}
+use Rattle.fv_command.specs.Inputs.{Shown, Gives, BeginsNone, BeginsWith, WritingStops}
+use Rattle.fv_command.specs.Parts.{IsPart, StopsPart}
+use Rattle.fv_command.specs.SideRuns.{GivesVolume, SideStops, VolumeInputStops}
+use Rattle.fv_command.specs.TaskRuns.{RunsTask, SaysRead, StopsInput}
+use Rattle.fv_command.specs.Tasks.{PartText, Says}
+use Rattle.fv_command.specs.declared.extracting.Extraction.{Extraction}
+use Rattle.fv_command.specs.declared.extracting.Extraction.TheVariants.{Made, Stored, NotFound, NotSectioned}
+use Rattle.fv_command.specs.declared.extracting.Part.{Part}
+use Rattle.fv_command.specs.declared.plan.Task.{Task}
+use Rattle.fv_command.specs.declared.plan.Task.TheVariants.{Normalise, List as Listing, Extract, Check, Scan}
+use Rattle.fv_command.specs.declared.status.Status.{Status}
+use Rattle.fv_command.specs.declared.status.Status.TheVariants.{Done, Different, Refused, WrongWords}
+
+-- ---- a writer that stops
+
+pub stopped : (w v : Shown) (text : List ℕ) (f : Fault) → WriteStops w.bytes v.bytes text f → v.erred ≡ true → WritingStops w v text f
+stopped w v text f s erred = record {
+  kind = s.kind;
+  count = f.place.offset;
+  before_end = s.before_end;
+  wrote = s.wrote;
+  failed = erred;
+}
+
+pub fronted : (w v : Shown) (text : List ℕ) (f : Fault) → f.kind ≡ kinds.WriteFault
+    → (n : ℕ) × (n < length text) × Appends w.bytes v.bytes (take n text) → v.erred ≡ true → WritingStops w v text f
+fronted w v text f kind front erred =
+    record { kind = kind; count = front.0; before_end = front.1; wrote = front.2; failed = erred }
+
+-- ---- an input that begins with no volume
+
+pub not_begun : (input : List ℕ) (f : Fault)
+    → (f ≢ want_of_memory → (n : ℕ) (m : Meaning) → n ≤ length input → Denotes depth_limit (take n input) m → ⊥)
+    → (f ≢ want_of_memory → IsFirstOfVolume input f) → (f ≡ want_of_memory) ⊎ BeginsNone input f
+not_begun input f none first = go (want_known f) where
+  go : (f ≡ want_of_memory) ⊎ (f ≢ want_of_memory) → (f ≡ want_of_memory) ⊎ BeginsNone input f
+  go (inl is) = inl is
+  go (inr other) = inr (record { none = λ m b. none other b.0 m b.1 b.2.1; first = first other })
+
+-- ---- the tasks
+
+pub image_stopped : (hex : Bool) (input : List ℕ) (w v : Shown) (f : Fault) → StopsImage hex input w.bytes v.bytes f
+    → (f.kind ≡ kinds.WriteFault → v.erred ≡ true) → StopsInput Normalise hex input w v f
+image_stopped hex input w v f (inl why) erred = inl why
+image_stopped hex input w v f (inr (image, text, is, shows, stops)) erred =
+    inr (Done, text, (image, is, shows), stopped w v text f stops (erred stops.kind))
+
+pub check_stopped : (hex : Bool) (input : List ℕ) (w v : Shown) (f : Fault) → CheckStops input w.bytes v.bytes f
+    → (f.kind ≡ kinds.WriteFault → v.erred ≡ true) → StopsInput Check hex input w v f
+check_stopped hex input w v f (inl why) erred = inl why
+check_stopped hex input w v f (inr (true, text, is, stops)) erred = inr (Done, text, is, stopped w v text f stops (erred stops.kind))
+check_stopped hex input w v f (inr (false, text, is, stops)) erred = inr (Different, text, is, stopped w v text f stops (erred stops.kind))
+
+-- why a part is not extracted: there is no volume; or there is
+pub part_denied : (hex : Bool) (input : List ℕ) (part : Part) (w : Shown) (f : Fault) → (f ≡ want_of_memory) ⊎ BeginsNone input f
+    → StopsInput (Extract part) hex input w w f
+part_denied hex input part w f (inl is) = inl (Keeps-refl w.bytes, inl is)
+part_denied hex input part w f (inr none) = inl (Keeps-refl w.bytes, inr (inl none))
+
+pub part_stopped : (hex : Bool) (input : List ℕ) (m : Meaning) (part : Part) (w : Shown) (f : Fault) → BeginsWith input m
+    → (f ≡ want_of_memory) ⊎ StopsPart (file_named part.name (files_of m)) part f → StopsInput (Extract part) hex input w w f
+part_stopped hex input m part w f b (inl is) = inl (Keeps-refl w.bytes, inl is)
+part_stopped hex input m part w f b (inr stops) = inl (Keeps-refl w.bytes, inr (inr (m, b, stops)))
+
+-- a task says nothing with another status
+part_refused : (hex : Bool) (x : Extraction) (text : List ℕ) → PartText hex x Refused text → ⊥
+part_refused hex (Made bytes) text p = p
+part_refused hex (Stored bytes) text p = p
+part_refused hex NotFound text p = p
+part_refused hex NotSectioned text p = p
+
+part_wrong : (hex : Bool) (x : Extraction) (text : List ℕ) → PartText hex x WrongWords text → ⊥
+part_wrong hex (Made bytes) text p = p
+part_wrong hex (Stored bytes) text p = p
+part_wrong hex NotFound text p = p
+part_wrong hex NotSectioned text p = p
+
+said_refused : (task : Task) (hex : Bool) (input text : List ℕ) → Says task hex input Refused text → ⊥
+said_refused Normalise hex input text p = p
+said_refused Listing hex input text p = p
+said_refused (Extract part) hex input text (m, x, b, is, p) = part_refused hex x text p
+said_refused Check hex input text p = p
+said_refused Scan hex input text p = p
+
+said_wrong : (task : Task) (hex : Bool) (input text : List ℕ) → Says task hex input WrongWords text → ⊥
+said_wrong Normalise hex input text p = p
+said_wrong Listing hex input text p = p
+said_wrong (Extract part) hex input text (m, x, b, is, p) = part_wrong hex x text p
+said_wrong Check hex input text p = p
+said_wrong Scan hex input text p = p
+
+pub task_ran : (task : Task) (hex : Bool) (status : Status) (r s w v : Shown) → SaysRead task hex r s w v status
+    → RunsTask task hex status r s w v
+task_ran task hex Done r s w v p = p
+task_ran task hex Different r s w v p = p
+task_ran task hex Refused r s w v (input, gives, (text, says, wrote)) = absurd (said_refused task hex input text says)
+task_ran task hex WrongWords r s w v (input, gives, (text, says, wrote)) = absurd (said_wrong task hex input text says)
+
+-- ---- a comparison
+
+pub given : (hex : Bool) (r s : Shown) (items bytes : List ℕ) (m : Meaning) → bytes ≡ items → Gives hex r s items → Accepted bytes m
+    → GivesVolume hex r s m
+given hex r s items bytes m is gives accepted = (items, gives, subst (λ (b : List ℕ). Accepted b m) is accepted)
+
+pub not_given : (hex : Bool) (r s : Shown) (items bytes : List ℕ) (f : Fault) → bytes ≡ items → Gives hex r s items → VolumeStops bytes f
+    → VolumeInputStops hex r s f
+not_given hex r s items bytes f is gives stops = inr (items, gives, subst (λ (b : List ℕ). VolumeStops b f) is stops)
+
+pub second_stopped : (side : Side) (hex : Bool) (r s r' s' w : Shown) (m : Meaning) (f : Fault) → side ≡ sides.Second
+    → GivesVolume hex r s m → VolumeInputStops hex r' s' f → SideStops side hex r s r' s' w w f
+second_stopped side hex r s r' s' w m f is first stops =
+    subst (λ (x : Side). SideStops x hex r s r' s' w w f) (sym is) (Keeps-refl w.bytes, (m, first), stops)
+
+pub comparison_stopped : (side : Side) (hex : Bool) (r s r' s' w v : Shown) (m k : Meaning) (f : Fault) → GivesVolume hex r s m
+    → GivesVolume hex r' s' k → ComparisonStops side m k w.bytes v.bytes f
+    → (f.kind ≡ kinds.WriteFault → (side ≡ sides.Output) × (v.erred ≡ true)) → SideStops side hex r s r' s' w v f
+comparison_stopped sides.First hex r s r' s' w v m k f a b (keeps, want, other) erred = (keeps, inr (m, k, a, b, want, other))
+comparison_stopped sides.Second hex r s r' s' w v m k f a b stops erred = absurd stops
+comparison_stopped sides.Output hex r s r' s' w v m k f a b stops erred =
+    (m, k, a, b, stopped w v _ f stops (erred stops.kind).1)
+
+-- two facts of one error
+pub both : {A E : Type 0} {P Q R : E → Type 0} (r : Result A E) → ((e : E) → P e → Q e → R e) → IfErr r P → IfErr r Q → IfErr r R
+both (Ok a) f p q = tt
+both (Err e) f p q = f e p q
+
+pub failing : {A E : Type 0} {P Q : E → Type 0} (r : Result A E) → ((e : E) → P e → Q e) → IfErr r P → IfErr r Q
+failing (Ok a) f p = tt
+failing (Err e) f p = f e p
+
+pub okay : {A E : Type 0} {P Q : A → Type 0} (r : Result A E) → ((a : A) → P a → Q a) → IfOk r P → IfOk r Q
+okay (Ok a) f p = f a p
+okay (Err e) f p = tt

@@ -1,0 +1,40 @@
+use Rattle.std.proofs.Common.{◌≡◌, ◌∙◌, List, sym, ap, subst}
+use Rattle.std.specs.Prelude.{OnOk}
+use Rattle.std.proofs.lemmas.Result.{on_ok_weaker}
+use Rattle.fv_tree.specs.Instances.{preorder}
+use Rattle.fv_tree.specs.Meaning.{FileMeaning, Plain, Sectioned, SectionMeaning, content_of, sections_from}
+use Rattle.fv_tree.specs.Views.{content_view}
+use Rattle.fv_command.specs.Checks.{HeldDepex, Noted, file_depexes, sections_depexes}
+use Rattle.fv_command.proofs.CheckLemmas.{noted_few, noted_none, plain_depexes, read_few, stream_depexes}
+use Rattle.fv_command.proofs.checking.note_file.Goals as goal
+
+pub returns-in-Plain-clause-ok : goal.returns-in-Plain-clause-ok
+returns-in-Plain-clause-ok c =
+    let is : content_of c.args.file.now ≡ Plain c.in-Plain.field-0.now = sym c.content.ensures ∙ ap content_view c.in-Plain.is in
+    subst (λ (xs : List HeldDepex). Noted xs c.args.notes.now.items c.args.notes.now.items)
+    (plain_depexes c.args.file.now c.in-Plain.field-0.now is) (noted_none c.args.notes.now.items)
+
+pub returns-in-Stream-clause-ok : goal.returns-in-Stream-clause-ok
+returns-in-Stream-clause-ok c =
+    let f : FileMeaning = c.args.file.now in
+    let is : content_of f ≡ Sectioned (sections_from c.in-Stream.sections.items) c.in-Stream.tail =
+    sym c.content.ensures ∙ ap content_view c.in-Stream.is in
+    let e =
+    ap (λ (l : List SectionMeaning). sections_depexes c.name.result (preorder (sections_from l))) c.as_slice.ensures.value
+    ∙ stream_depexes f c.name.result (sections_from c.in-Stream.sections.items) c.in-Stream.tail c.name.ensures.name is in
+    subst (λ (xs : List HeldDepex). OnOk c.note_sections.result (Noted xs c.args.notes.now.items c.note_sections.new.notes.items)) e
+    c.note_sections.ensures.ok
+
+pub returns-in-Stream-clause-few : goal.returns-in-Stream-clause-few
+returns-in-Stream-clause-few c =
+    let f : FileMeaning = c.args.file.now in
+    let is : content_of f ≡ Sectioned (sections_from c.in-Stream.sections.items) c.in-Stream.tail =
+    sym c.content.ensures ∙ ap content_view c.in-Stream.is in
+    let e =
+    ap (λ (l : List SectionMeaning). sections_depexes c.name.result (preorder (sections_from l))) c.as_slice.ensures.value
+    ∙ stream_depexes f c.name.result (sections_from c.in-Stream.sections.items) c.in-Stream.tail c.name.ensures.name is in
+    on_ok_weaker c.note_sections.result
+    (λ noted. noted_few (file_depexes f) c.args.notes.now.items c.note_sections.new.notes.items _
+    (subst (λ (xs : List HeldDepex). Noted xs c.args.notes.now.items c.note_sections.new.notes.items) e noted)
+    (read_few f c.name.ensures.read))
+    c.note_sections.ensures.ok

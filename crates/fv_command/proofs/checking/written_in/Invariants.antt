@@ -1,0 +1,6 @@
+use Rattle.std.proofs.Common.{◌≡◌, take}
+use Rattle.fv_command.specs.Checks.{written_in}
+use Rattle.fv_command.proofs.checking.written_in.Given as goal
+
+abbrev pub invariant-loop-byte : goal.invariant-loop-byte
+invariant-loop-byte l = l.count ≡ written_in l.fn.polarity (take l.byte-index l.bytes)

@@ -1,0 +1,45 @@
+-- The text by which some bytes go out: as they are, or as lines of hexadecimal digits.
+use Rattle.std.specs.Prelude.{◌≡◌, ◌<◌, ℕ, List, [], ◌∷◌, ◌++◌, Bool, true, false, length}
+use Rattle.std.specs.List.{AllByRecursion, concat, flat_map}
+use Rattle.hex.specs.Hex.{encode_lower}
+use Rattle.fv_canon.specs.Lines.{line_feed}
+
+-- the lower-case digits of some bytes, and a line feed
+abbrev pub line_text : List ℕ → List ℕ
+line_text b = encode_lower b ++ line_feed
+
+abbrev pub lines_text : List (List ℕ) → List ℕ
+lines_text lines = flat_map line_text lines
+
+-- a last line, unless it is empty
+abbrev pub last_text : List ℕ → List ℕ
+last_text [] = []
+last_text (x ∷ b) = line_text (x ∷ b)
+
+-- a whole line has 32 bytes
+abbrev pub IsWhole : List ℕ → Type 0
+IsWhole b = length b ≡ 32
+
+-- the text has a line for each 32 of the bytes, and one for what is left
+pub record IsHexText (bytes text : List ℕ) : Type 0 where
+  pub lines : List (List ℕ)
+  pub last : List ℕ
+  pub joined : bytes ≡ concat lines ++ last
+  pub whole : AllByRecursion IsWhole lines
+  pub short : length last < 32
+  pub text_is : text ≡ lines_text lines ++ last_text last
+
+-- the text by which the bytes go out: themselves, or as lines of digits
+abbrev pub Shows : Bool → List ℕ → List ℕ → Type 0
+Shows false bytes text = text ≡ bytes
+Shows true bytes text = IsHexText bytes text
+
+-- a sink below that is s, with the bytes p waiting, took the bytes and is t, with the bytes q waiting
+pub record Lined {S : Type 0} (takes : S → List ℕ → S → Type 0) (s : S) (p bytes : List ℕ) (t : S) (q : List ℕ) : Type 0 where
+  pub lines : List (List ℕ)
+  pub joined : p ++ bytes ≡ concat lines ++ q
+  pub whole : AllByRecursion IsWhole lines
+  pub taken : takes s (lines_text lines) t
+
+abbrev pub HexTakes : {S H : Type 0} (takes : S → List ℕ → S → Type 0) (below : H → S) (waiting : H → List ℕ) → H → List ℕ → H → Type 0
+HexTakes takes below waiting s bytes t = Lined takes (below s) (waiting s) bytes (below t) (waiting t)

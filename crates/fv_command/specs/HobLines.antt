@@ -1,0 +1,64 @@
+-- The text of a hand-off list.
+use Rattle.std.specs.Prelude.{◌≡◌, ℕ, ◌/◌, ◌%◌, List, [], ◌∷◌, ◌++◌, Option, None, Some, codes, decimal}
+use Rattle.hex.specs.Hex.{encode_lower}
+use Rattle.fv_canon.specs.Lines.{line_feed}
+use Rattle.fv_hob.specs.Hobs.{HobForm, code_of, len_of}
+use Rattle.fv_hob.specs.Lists.{span_of}
+use Rattle.fv_hob.specs.declared.span.Span.{Span}
+use Rattle.fv_command.specs.Standings.{Stands}
+use Rattle.fv_command.specs.declared.hobs.Image.{Image}
+use Rattle.fv_command.specs.declared.hobs.Standing.{Standing}
+use Rattle.fv_command.specs.declared.hobs.Standing.TheVariants.{Outside, Volume, Absent}
+
+-- the bytes of an image, and the address of the first
+pub record ImageForm : Type 0 where
+  pub bytes : List ℕ
+  pub base : ℕ
+
+-- those of an image in memory
+abbrev pub form_of : Option Image → Option ImageForm
+form_of None = None
+form_of (Some i) = Some (record { bytes = i.bytes.now; base = i.base })
+
+-- the image of these bytes, where there is a base
+abbrev pub image_form : Option ℕ → List ℕ → Option ImageForm
+image_form None bytes = None
+image_form (Some base) bytes = Some (record { bytes = bytes; base = base })
+
+-- a number below 65536 by four lower-case hexadecimal digits
+abbrev pub four_digits : ℕ → List ℕ
+four_digits n = encode_lower (n / 256 ∷ n % 256 ∷ [])
+
+-- the line of a block of this type and length, with a word behind it
+abbrev pub hob_line : ℕ → ℕ → List ℕ → List ℕ
+hob_line code n word = codes "hob " ++ (four_digits code ++ (codes " length " ++ (decimal n ++ (word ++ line_feed))))
+
+-- the line of how many bytes a list has
+abbrev pub consumed_line : ℕ → List ℕ
+consumed_line n = codes "consumed " ++ (decimal n ++ line_feed)
+
+-- what is said of a volume, behind a space
+abbrev pub word_text : Standing → List ℕ
+word_text Outside = codes " outside"
+word_text Volume = codes " volume"
+word_text Absent = codes " absent"
+
+-- the word of the volume that should lie in a span; none, where there is no image or no span
+abbrev pub IsSpanWord : Option ImageForm → Option Span → List ℕ → Type 0
+IsSpanWord None span word = word ≡ []
+IsSpanWord (Some image) None word = word ≡ []
+IsSpanWord (Some image) (Some span) word = (s : Standing) × Stands image.bytes image.base span s × (word ≡ word_text s)
+
+-- the word of the volume that a block names
+abbrev pub IsWord : Option ImageForm → HobForm → List ℕ → Type 0
+IsWord image h word = IsSpanWord image (span_of h.kind) word
+
+-- a line for each block, in order
+abbrev pub HobLines : Option ImageForm → List HobForm → List ℕ → Type 0
+HobLines image [] text = text ≡ []
+HobLines image (h ∷ hs) text = (word : List ℕ) × (rest : List ℕ) × IsWord image h word
+    × (text ≡ hob_line (code_of h.kind) (len_of h.kind) word ++ rest) × HobLines image hs rest
+
+-- those, and how many bytes the list has
+abbrev pub HobsText : Option ImageForm → List HobForm → ℕ → List ℕ → Type 0
+HobsText image hobs consumed text = (lines : List ℕ) × HobLines image hobs lines × (text ≡ lines ++ consumed_line consumed)

@@ -1,0 +1,54 @@
+-- What a run reads and writes, seen from outside.
+use Rattle.std.specs.Prelude.{◌≡◌, ◌<◌, ◌≤◌, ℕ, Bool, true, false, List, Option, length, take}
+use Rattle.std.specs.Io.KnownBytes.{Appends}
+use Rattle.fv_base.specs.Faults.{number_of}
+use Rattle.fv_base.specs.Input.{ReadsWhole, ReadStops}
+use Rattle.fv_base.specs.declared.fault.Fault.{Fault}
+use Rattle.fv_base.specs.declared.fault.FaultKind.TheVariants as kinds
+use Rattle.fv_tree.specs.Denotes.{Accepted}
+use Rattle.fv_tree.specs.FirstFault.{IsFirstOfVolume}
+use Rattle.fv_tree.specs.Meaning.{Meaning}
+use Rattle.fv_command.specs.HexIn.{SpellsWhole, TextStops}
+use Rattle.fv_command.specs.Lines.{Tells, fault_line}
+
+-- what a port shows: what its reader has left, or its writer holds, where that is known, and whether one of its calls has failed
+pub record Shown : Type 0 where
+  pub bytes : Option (List ℕ)
+  pub erred : Bool
+
+abbrev pub seen : Option (List ℕ) → Bool → Shown
+seen bytes erred = record { bytes = bytes; erred = erred }
+
+-- an input was read to its end: as bytes, or as hexadecimal text that spells them
+abbrev pub Gives : Bool → Shown → Shown → List ℕ → Type 0
+Gives false old new input = ReadsWhole old.bytes new.bytes input
+Gives true old new input = SpellsWhole old.bytes new.bytes input
+
+-- the reading of an input stopped; where the reader is to blame, one of its calls has failed
+abbrev pub GivingStops : Bool → Shown → Shown → Fault → Type 0
+GivingStops false old new fault =
+    ReadStops old.bytes new.bytes fault × (old.erred ≡ false → fault.kind ≡ kinds.ReadFault → new.erred ≡ true)
+GivingStops true old new fault = old.erred ≡ false → TextStops old.bytes new.bytes new.erred fault
+
+-- an input begins with a volume of this meaning
+abbrev pub BeginsWith : List ℕ → Meaning → Type 0
+BeginsWith input m = (n : ℕ) × (n ≤ length input) × Accepted (take n input) m
+
+-- an input begins with no volume, and this is the first fault
+pub record BeginsNone (input : List ℕ) (fault : Fault) : Type 0 where
+  pub none : (m : Meaning) → BeginsWith input m → ⊥
+  pub first : IsFirstOfVolume input fault
+
+-- the writer stopped in a text: it holds a front of it, not all, and one of its calls has failed
+pub record WritingStops (old new : Shown) (text : List ℕ) (fault : Fault) : Type 0 where
+  pub kind : fault.kind ≡ kinds.WriteFault
+  pub count : ℕ
+  pub before_end : count < length text
+  pub wrote : Appends old.bytes new.bytes (take count text)
+  pub failed : new.erred ≡ true
+
+-- a run stopped for some fault, and then the line of this fault was written, unless the port has erred
+abbrev pub TellsStop : (Shown → Fault → Type 0) → Shown → Type 0
+TellsStop stops v =
+    (fault : Fault) × (between : Shown) × stops between fault
+    × Tells fault (fault_line (number_of fault.kind) fault.place.offset) between.bytes v.bytes v.erred

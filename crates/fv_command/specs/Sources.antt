@@ -1,0 +1,18 @@
+-- Where the bytes of an input come from.
+use Rattle.std.specs.Prelude.{ℕ, ⊤, List, [], Option, Some}
+use Rattle.fv_command.specs.declared.source.Source.{Source}
+use Rattle.fv_command.specs.declared.source.Source.TheVariants.{Standard, File, Missing, Nothing}
+
+-- the bytes that are unread, by what is so of standard input and of a file; there are none of a file that could not be
+-- opened, and of no input
+abbrev pub unread : {S F : Type 0} → (S → Option (List ℕ)) → (F → Option (List ℕ)) → Source S F → Option (List ℕ)
+unread of_input of_file (Standard reader) = of_input reader
+unread of_input of_file (File file) = of_file file
+unread of_input of_file Missing = Some []
+unread of_input of_file Nothing = Some []
+
+-- a path is that of a file, or of none that can be opened
+abbrev pub IsFileOrMissing : {S F : Type 0} → Source S F → Type 0
+IsFileOrMissing (File file) = ⊤
+IsFileOrMissing Missing = ⊤
+IsFileOrMissing _ = ⊥

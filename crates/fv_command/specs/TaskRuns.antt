@@ -1,0 +1,36 @@
+-- A run of a task over one input.
+use Rattle.std.specs.Prelude.{◌⊎◌, ℕ, Bool, List}
+use Rattle.std.specs.Io.KnownBytes.{Appends, Keeps}
+use Rattle.fv_base.specs.declared.fault.Fault.{Fault}
+use Rattle.fv_command.specs.Inputs.{Shown, Gives, GivingStops, TellsStop, WritingStops}
+use Rattle.fv_command.specs.Tasks.{Says, Denies}
+use Rattle.fv_command.specs.declared.plan.Task.{Task}
+use Rattle.fv_command.specs.declared.status.Status.{Status}
+use Rattle.fv_command.specs.declared.status.Status.TheVariants.{Done, Different, Refused, WrongWords}
+
+-- what the task says of the input was written
+abbrev pub SaysInput : Task → Bool → List ℕ → Shown → Shown → Status → Type 0
+SaysInput task hex input w v status = (text : List ℕ) × Says task hex input status text × Appends w.bytes v.bytes text
+
+-- nothing was written, since the task says nothing of the input; or the writer stopped in what it says
+abbrev pub StopsInput : Task → Bool → List ℕ → Shown → Shown → Fault → Type 0
+StopsInput task hex input w v fault =
+    (Keeps w.bytes v.bytes × Denies task input fault)
+    ⊎ ((status : Status) × (text : List ℕ) × Says task hex input status text × WritingStops w v text fault)
+
+-- an input was read to its end, and what the task says of it was written
+abbrev pub SaysRead : Task → Bool → Shown → Shown → Shown → Shown → Status → Type 0
+SaysRead task hex r s w v status = (input : List ℕ) × Gives hex r s input × SaysInput task hex input w v status
+
+-- the run stopped while it read, and nothing was written; or behind an input that it had read to its end
+abbrev pub StopsRead : Task → Bool → Shown → Shown → Shown → Shown → Fault → Type 0
+StopsRead task hex r s w v fault =
+    (Keeps w.bytes v.bytes × GivingStops hex r s fault)
+    ⊎ ((input : List ℕ) × Gives hex r s input × StopsInput task hex input w v fault)
+
+-- a run of a task, by its status
+abbrev pub RunsTask : Task → Bool → Status → Shown → Shown → Shown → Shown → Type 0
+RunsTask task hex Done r s w v = SaysRead task hex r s w v Done
+RunsTask task hex Different r s w v = SaysRead task hex r s w v Different
+RunsTask task hex Refused r s w v = TellsStop (StopsRead task hex r s w) v
+RunsTask task hex WrongWords r s w v = ⊥

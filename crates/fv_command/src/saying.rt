@@ -1,0 +1,85 @@
+//! The line that a run ends with: of its words, or of the fault that stopped it.
+
+ghost use Rattle.std.specs.Prelude.{◌≡◌, ◌≢◌, ◌⊎◌, ◌++◌, true, false};
+ghost use Rattle.std.specs.Io.KnownBytes.{Appends};
+ghost use Rattle.fv_base.specs.Faults.{number_of};
+ghost use Rattle.fv_base.specs.Port.{inner_of, has_erred};
+ghost use Rattle.fv_hob.specs.Checks.{number_of as hob_number_of};
+ghost use Rattle.fv_command.specs.Lines.{fault_line, hob_fault_line, SideTells};
+
+use crate::lines::{write_bytes, write_fault};
+use crate::status::Status;
+use fv_base::{Fault, FaultKind, Port};
+use fv_canon::Side;
+use fv_hob::HobFault;
+use std::io::Write;
+
+/// Writes a line and answers the status, or Refused where the line can not be written.
+pub fn say<W: Write>(writer: &mut Port<W>, line: &str, status: Status) -> Status
+    // The line was written and the status is answered; or the port has erred.
+    ensures { ((result ≡ status) × Appends (W.contents (inner_of writer.old)) (W.contents (inner_of writer.new)) line.now)
+        ⊎ ((result ≡ Status.Refused) × (has_erred writer.new ≡ true)) }
+{
+    match write_bytes(writer, line.as_bytes()) {
+        Ok(()) => status,
+        Err(_) => Status::Refused,
+    }
+}
+
+/// Writes the line of a fault, which begins with some words, and answers Refused.
+fn say_fault<W: Write>(writer: &mut Port<W>, words: &[u8], number: u8, offset: u64) -> Status
+    ensures status { result ≡ Status.Refused }
+
+    // Unless the port has erred, the line was written.
+    ensures said { has_erred writer.new ≡ false
+        → Appends (W.contents (inner_of writer.old)) (W.contents (inner_of writer.new))
+        (words.now ++ fault_line number offset) }
+{
+    match write_fault(writer, words, number, offset) {
+        Ok(()) | Err(_) => Status::Refused,
+    }
+}
+
+/// Writes the line of a fault. After a failed write nothing more is written.
+pub fn refuse<W: Write>(writer: &mut Port<W>, fault: Fault) -> Status
+    ensures status { result ≡ Status.Refused }
+    ensures silent { fault.kind ≡ FaultKind.WriteFault → writer.new ≡ writer.old }
+
+    // Unless the port has erred, the line of this fault was written.
+    ensures said { fault.kind ≢ FaultKind.WriteFault → has_erred writer.new ≡ false
+        → Appends (W.contents (inner_of writer.old)) (W.contents (inner_of writer.new))
+        (fault_line (number_of fault.kind) fault.place.offset) }
+{
+    if fault.kind == FaultKind::WriteFault {
+        return Status::Refused;
+    }
+    say_fault(writer, b"", fault.kind.number(), fault.place.offset)
+}
+
+/// Writes the line of a refused hand-off list.
+pub fn refuse_hobs<W: Write>(writer: &mut Port<W>, fault: HobFault) -> Status
+    ensures status { result ≡ Status.Refused }
+
+    // Unless the port has erred, the line of this fault was written.
+    ensures said { has_erred writer.new ≡ false
+        → Appends (W.contents (inner_of writer.old)) (W.contents (inner_of writer.new))
+        (hob_fault_line (hob_number_of fault.kind) fault.offset) }
+{
+    say_fault(writer, b"hob ", fault.number(), fault.offset)
+}
+
+/// Writes the line of what refuses one of two inputs. Where the output stopped, nothing more is
+/// written.
+pub fn refuse_side<W: Write>(writer: &mut Port<W>, side: Side, fault: Fault) -> Status
+    ensures status { result ≡ Status.Refused }
+    ensures told { SideTells side fault (W.contents (inner_of writer.old)) (W.contents (inner_of writer.new))
+        (has_erred writer.new) }
+{
+    let number = fault.kind.number();
+    let offset = fault.place.offset;
+    match side {
+        Side::First => say_fault(writer, b"first ", number, offset),
+        Side::Second => say_fault(writer, b"second ", number, offset),
+        Side::Output => Status::Refused,
+    }
+}

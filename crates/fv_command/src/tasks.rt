@@ -1,0 +1,206 @@
+//! The tasks over one input.
+
+ghost use Rattle.std.specs.Prelude.{ℕ, Bool, List, IfOk, IfErr};
+ghost use Rattle.std.specs.Io.KnownBytes.{Appends};
+ghost use Rattle.fv_base.specs.Port.{inner_of, has_erred};
+ghost use Rattle.fv_command.specs.Inputs.{WritingStops, seen};
+ghost use Rattle.fv_command.specs.TaskRuns.{RunsTask, SaysInput, SaysRead, StopsInput, StopsRead};
+ghost use Rattle.fv_command.specs.Tasks.{PartText};
+
+use crate::checking::write_check;
+use crate::extracting::{Extraction, Part, extract};
+use crate::hex_lines::write_shown;
+use crate::imaging::write_image;
+use crate::inputs::read_bytes;
+use crate::lines::write_bytes;
+use crate::listing::write_list;
+use crate::plan::Task;
+use crate::saying::refuse;
+use crate::scanning::write_volumes;
+use crate::status::Status;
+use fv_base::{Fault, Port};
+use fv_tree::read_volume;
+use std::alloc::Global;
+use std::io::{Read, Write};
+
+/// Writes the canonical image of the volume that the input is.
+fn normalise<W: Write>(
+    alloc: Global,
+    hex: bool,
+    input: &[u8],
+    writer: &mut Port<W>,
+) -> Result<Status, Fault>
+    ensures ok { IfOk result (SaysInput Task.Normalise hex input.now
+        (seen (W.contents (inner_of writer.old)) (has_erred writer.old))
+        (seen (W.contents (inner_of writer.new)) (has_erred writer.new))) }
+    ensures err { IfErr result (StopsInput Task.Normalise hex input.now
+        (seen (W.contents (inner_of writer.old)) (has_erred writer.old))
+        (seen (W.contents (inner_of writer.new)) (has_erred writer.new))) }
+{
+    write_image(alloc, hex, input, writer)?;
+    Ok(Status::Done)
+}
+
+/// Writes what the volume holds that the input begins with.
+fn list<W: Write>(alloc: Global, input: &[u8], writer: &mut Port<W>) -> Result<Status, Fault>
+    ensures ok { (hex : Bool) → IfOk result (SaysInput Task.List hex input.now
+        (seen (W.contents (inner_of writer.old)) (has_erred writer.old))
+        (seen (W.contents (inner_of writer.new)) (has_erred writer.new))) }
+    ensures err { (hex : Bool) → IfErr result (StopsInput Task.List hex input.now
+        (seen (W.contents (inner_of writer.old)) (has_erred writer.old))
+        (seen (W.contents (inner_of writer.new)) (has_erred writer.new))) }
+{
+    let (volume, _length) = read_volume(alloc, input)?;
+    write_list(writer, &volume)?;
+    Ok(Status::Done)
+}
+
+/// Writes what an extraction came to: bytes, or that there are none.
+fn write_part<W: Write>(
+    writer: &mut Port<W>,
+    hex: bool,
+    extraction: &Extraction<'_>,
+) -> Result<Status, Fault>
+    ensures ok { IfOk result (λ status. (text : List ℕ) × PartText hex extraction.now status text
+        × Appends (W.contents (inner_of writer.old)) (W.contents (inner_of writer.new)) text) }
+    ensures err { IfErr result (λ f. (status : Status) × (text : List ℕ) × PartText hex extraction.now status text
+        × WritingStops (seen (W.contents (inner_of writer.old)) (has_erred writer.old))
+        (seen (W.contents (inner_of writer.new)) (has_erred writer.new)) text f) }
+{
+    match extraction {
+        Extraction::Made(bytes) => {
+            write_shown(writer, hex, bytes.as_slice())?;
+            Ok(Status::Done)
+        }
+        Extraction::Stored(bytes) => {
+            write_shown(writer, hex, bytes)?;
+            Ok(Status::Done)
+        }
+        Extraction::NotFound => {
+            write_bytes(writer, b"not found\n")?;
+            Ok(Status::Different)
+        }
+        Extraction::NotSectioned => {
+            write_bytes(writer, b"not sectioned\n")?;
+            Ok(Status::Different)
+        }
+    }
+}
+
+/// Writes a part of the volume that the input begins with.
+fn extract_part<W: Write>(
+    alloc: Global,
+    hex: bool,
+    input: &[u8],
+    part: &Part,
+    writer: &mut Port<W>,
+) -> Result<Status, Fault>
+    ensures ok { IfOk result (SaysInput (Task.Extract part.now) hex input.now
+        (seen (W.contents (inner_of writer.old)) (has_erred writer.old))
+        (seen (W.contents (inner_of writer.new)) (has_erred writer.new))) }
+    ensures err { IfErr result (StopsInput (Task.Extract part.now) hex input.now
+        (seen (W.contents (inner_of writer.old)) (has_erred writer.old))
+        (seen (W.contents (inner_of writer.new)) (has_erred writer.new))) }
+{
+    let (volume, _length) = read_volume(alloc, input)?;
+    let extraction = extract(alloc, &volume, part)?;
+    write_part(writer, hex, &extraction)
+}
+
+/// Writes whether the input is a canonical image, and the notes of it.
+fn check<W: Write>(alloc: Global, input: &[u8], writer: &mut Port<W>) -> Result<Status, Fault>
+    ensures ok { (hex : Bool) → IfOk result (SaysInput Task.Check hex input.now
+        (seen (W.contents (inner_of writer.old)) (has_erred writer.old))
+        (seen (W.contents (inner_of writer.new)) (has_erred writer.new))) }
+    ensures err { (hex : Bool) → IfErr result (StopsInput Task.Check hex input.now
+        (seen (W.contents (inner_of writer.old)) (has_erred writer.old))
+        (seen (W.contents (inner_of writer.new)) (has_erred writer.new))) }
+{
+    if write_check(alloc, input, writer)? {
+        Ok(Status::Done)
+    } else {
+        Ok(Status::Different)
+    }
+}
+
+/// Writes where volumes stand in the input.
+fn scan<W: Write>(alloc: Global, input: &[u8], writer: &mut Port<W>) -> Result<Status, Fault>
+    ensures ok { (hex : Bool) → IfOk result (SaysInput Task.Scan hex input.now
+        (seen (W.contents (inner_of writer.old)) (has_erred writer.old))
+        (seen (W.contents (inner_of writer.new)) (has_erred writer.new))) }
+    ensures err { (hex : Bool) → IfErr result (StopsInput Task.Scan hex input.now
+        (seen (W.contents (inner_of writer.old)) (has_erred writer.old))
+        (seen (W.contents (inner_of writer.new)) (has_erred writer.new))) }
+{
+    let offsets = fv_tree::scan(alloc, input)?;
+    write_volumes(writer, input, offsets.as_slice())?;
+    Ok(Status::Done)
+}
+
+/// Writes what the task says of the input.
+fn perform<W: Write>(
+    alloc: Global,
+    task: &Task,
+    hex: bool,
+    input: &[u8],
+    writer: &mut Port<W>,
+) -> Result<Status, Fault>
+    ensures ok { IfOk result (SaysInput task.now hex input.now
+        (seen (W.contents (inner_of writer.old)) (has_erred writer.old))
+        (seen (W.contents (inner_of writer.new)) (has_erred writer.new))) }
+    ensures err { IfErr result (StopsInput task.now hex input.now
+        (seen (W.contents (inner_of writer.old)) (has_erred writer.old))
+        (seen (W.contents (inner_of writer.new)) (has_erred writer.new))) }
+{
+    match task {
+        Task::Normalise => normalise(alloc, hex, input, writer),
+        Task::List => list(alloc, input, writer),
+        Task::Extract(part) => extract_part(alloc, hex, input, part, writer),
+        Task::Check => check(alloc, input, writer),
+        Task::Scan => scan(alloc, input, writer),
+    }
+}
+
+/// Reads an input to its end, and writes what the task says of it.
+fn read_and_perform<R: Read, W: Write>(
+    alloc: Global,
+    task: &Task,
+    hex: bool,
+    reader: &mut Port<R>,
+    writer: &mut Port<W>,
+) -> Result<Status, Fault>
+    ensures ok { IfOk result (SaysRead task.now hex
+        (seen (R.remaining (inner_of reader.old)) (has_erred reader.old))
+        (seen (R.remaining (inner_of reader.new)) (has_erred reader.new))
+        (seen (W.contents (inner_of writer.old)) (has_erred writer.old))
+        (seen (W.contents (inner_of writer.new)) (has_erred writer.new))) }
+    ensures err { IfErr result (StopsRead task.now hex
+        (seen (R.remaining (inner_of reader.old)) (has_erred reader.old))
+        (seen (R.remaining (inner_of reader.new)) (has_erred reader.new))
+        (seen (W.contents (inner_of writer.old)) (has_erred writer.old))
+        (seen (W.contents (inner_of writer.new)) (has_erred writer.new))) }
+{
+    let input = read_bytes(alloc, hex, reader)?;
+    perform(alloc, task, hex, &input, writer)
+}
+
+/// Reads an input to its end, and writes what the task says of it, or the line of the fault that
+/// stops the run.
+pub fn run_task<R: Read, W: Write>(
+    alloc: Global,
+    task: &Task,
+    hex: bool,
+    reader: &mut Port<R>,
+    writer: &mut Port<W>,
+) -> Status
+    ensures { RunsTask task.now hex result
+        (seen (R.remaining (inner_of reader.old)) (has_erred reader.old))
+        (seen (R.remaining (inner_of reader.new)) (has_erred reader.new))
+        (seen (W.contents (inner_of writer.old)) (has_erred writer.old))
+        (seen (W.contents (inner_of writer.new)) (has_erred writer.new)) }
+{
+    match read_and_perform(alloc, task, hex, reader, writer) {
+        Ok(status) => status,
+        Err(fault) => refuse(writer, fault),
+    }
+}

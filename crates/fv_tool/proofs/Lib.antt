@@ -1,0 +1,6 @@
+pub mod FlagLemmas
+pub mod NumberLemmas
+pub mod PartLemmas
+pub mod RefusalLemmas
+pub mod StatusLemmas
+pub mod TypeLemmas

@@ -1,0 +1,22 @@
+-- Texts of one or two hexadecimal digits.
+use Rattle.std.proofs.Common.{◌≡◌, ◌==◌, ◌^◌, ◌<◌, ◌≤◌, ℕ, Bool, cond, true, false, refl, subst, arith, eqb-true, List, [], ◌∷◌, drop, length}
+use Rattle.std.specs.Char.{digit_value}
+use Rattle.std.specs.Str.Parse.{IsNumeral, digits_value, without_leading_plus}
+
+-- such a text has no sign
+pub no_plus : (text : List ℕ) → IsNumeral 16 text → without_leading_plus text ≡ text
+no_plus [] h = refl
+no_plus (d ∷ ds) h = go (d == 43) refl
+  where
+    go : (b : Bool) → (d == 43) ≡ b → drop (cond b 1 0) (d ∷ ds) ≡ d ∷ ds
+    go false e = refl
+    go true e =
+        let plus : digit_value 43 < 16 = subst (λ (x : ℕ). digit_value x < 16) (eqb-true d 43 e) h.1.0 in
+        absurd (omega arith)
+
+-- and is a byte
+pub small : (text : List ℕ) → IsNumeral 16 text → length text ≤ 2 → digits_value 16 text < 2 ^ 8
+small [] h short = absurd (omega (arith, h.0))
+small (a ∷ []) h short = omega (arith, h.1.0)
+small (a ∷ b ∷ []) h short = omega (arith, h.1.0, h.1.1.0)
+small (a ∷ b ∷ d ∷ ds) h short = absurd (omega arith)

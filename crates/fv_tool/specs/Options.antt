@@ -1,0 +1,51 @@
+-- The options of the commands, as the reader of command lines has them.
+use Rattle.std.specs.Prelude.{ℕ, List, Option, Some, pos, codes}
+use Rattle.clap.specs.Simple.{names_of}
+use Rattle.clap.specs.Walk.{rows_after}
+use Rattle.clap.specs.Words.{App, Row, Rule, built, first_of, new_app, new_rule, one_of, with_rule}
+use Rattle.clap.specs.declared.builder.action.ArgAction.TheVariants.{SetTrue}
+use Rattle.clap.specs.declared.builder.value_parser.ValueParser.TheVariants as parsers
+
+-- the flag that inputs and outputs are text
+abbrev pub hex_rule : Rule
+hex_rule = record (new_rule (codes "hex")) { long = Some (codes "hex"); action = Some SetTrue }
+
+-- an option of this name, with one value
+abbrev pub option_rule : List ℕ → Rule
+option_rule name = record (new_rule name) { long = Some name }
+
+abbrev pub base_rule : Rule
+base_rule = record (option_rule (codes "base")) { parser = Some (parsers.Unsigned 0 18446744073709551615) }
+
+abbrev pub instance_rule : Rule
+instance_rule = record (option_rule (codes "instance")) { parser = Some (parsers.Signed (pos 0) (pos 4294967295)) }
+
+-- a command with the flag
+abbrev pub flag_app : App
+flag_app = with_rule (new_app (codes "fvtool")) hex_rule
+
+-- a command with one input, and the others
+abbrev pub one_input_app : App
+one_input_app = with_rule flag_app (new_rule (codes "file"))
+
+abbrev pub hobs_app : App
+hobs_app = with_rule (with_rule (with_rule flag_app (option_rule (codes "image"))) base_rule) (new_rule (codes "file"))
+
+abbrev pub extract_app : App
+extract_app =
+    with_rule (with_rule (with_rule (with_rule flag_app (option_rule (codes "name"))) (option_rule (codes "section"))) instance_rule)
+    (new_rule (codes "file"))
+
+abbrev pub compare_app : App
+compare_app = with_rule (with_rule flag_app (new_rule (codes "first"))) (new_rule (codes "second"))
+
+-- what the reader finds in the words behind the command's name
+abbrev pub rows_in : App → List (List ℕ) → List Row
+rows_in app rest = rows_after (built app).top.rules (names_of (built app)) rest
+
+-- the text of an argument, and the text of one that is a number
+abbrev pub text_in : App → List ℕ → List (List ℕ) → Option (List ℕ)
+text_in app id rest = first_of id (rows_in app rest)
+
+abbrev pub number_in : App → List ℕ → List (List ℕ) → Option (List ℕ)
+number_in app id rest = one_of id (rows_in app rest)

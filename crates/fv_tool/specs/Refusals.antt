@@ -1,0 +1,16 @@
+-- What refuses a line of words, as the program tells it.
+use Rattle.std.specs.Prelude.{ℕ, List, [], ◌∷◌, ◌++◌, codes}
+use Rattle.fv_command.specs.Lines.{fault_line}
+use Rattle.fv_command.specs.declared.status.Status.{Status}
+use Rattle.fv_command.specs.declared.status.Status.TheVariants as statuses
+use Rattle.fv_tool.specs.declared.words.WordFault.{WordFault}
+use Rattle.fv_tool.specs.declared.words.WordFault.TheVariants.{Words, OutOfMemory}
+
+abbrev pub status_of : WordFault → Status
+status_of Words = statuses.WrongWords
+status_of OutOfMemory = statuses.Refused
+
+-- want of memory is told as the fault of that number
+abbrev pub line_of : WordFault → List ℕ
+line_of Words = codes "wrong words" ++ 10 ∷ []
+line_of OutOfMemory = fault_line 24 0
