@@ -1,4 +1,7 @@
 //! What no contract says: volumes from outside, and the fault of each that is none.
+//!
+//! A table is one text, which one function names. A line is the name of a case, what is wanted of it, and how its bytes are
+//! spelled, with a colon between.
 
 mod content;
 mod deep;
@@ -11,121 +14,88 @@ mod vectors;
 mod views;
 
 use crate::{Content, FileView, VolumeView, read_volume};
-use fv_base::{Fault, FaultKind, Place};
 use std::alloc::Global;
+use std::str::from_utf8;
 
-/// A file: the first byte of its name, its type, its attribute bits, how many bytes its data have, and how many sections, if
-/// they are sections.
-type Listed = (u8, u8, u8, u64, Option<usize>);
-
-/// What the bytes hold, how they are spelled, how many of them are the volume, and its files.
-type Accepted = (&'static str, &'static str, u64, &'static [Listed]);
-
-/// What is wrong, how the bytes are spelled, and the kind, offset and depth of the first fault.
-type Refused = (&'static str, &'static str, FaultKind, u64, u8);
-
-/// The most bytes that a text spells.
-const ROOM: usize = 1024;
-
-/// The value of a hexadecimal digit.
-fn digit(symbol: u8) -> Option<u8> {
-    match symbol {
-        b'0'..=b'9' => Some(symbol - b'0'),
-        b'a'..=b'f' => Some(symbol - b'a' + 10),
-        _ => None,
-    }
+/// The byte that two hexadecimal digits are.
+fn byte_of(digits: &[u8]) -> Option<u8> {
+    u8::from_str_radix(from_utf8(digits).ok()?, 16).ok()
 }
 
-/// The value of two of them.
-fn pair(symbols: &[u8]) -> Option<u8> {
-    let high = digit(*symbols.first()?)?;
-    let low = digit(*symbols.get(1)?)?;
-    Some(high.wrapping_mul(16) | low)
-}
-
-/// Puts the bytes that a text spells, and answers how many they are. Two digits are a byte, a star and a number behind a word
-/// repeat it, and spaces part words.
-fn spell(text: &str, bytes: &mut [u8; ROOM]) -> Option<usize> {
-    let mut at = 0;
+/// The bytes that a text spells. Two digits are a byte, a star and a number behind a word repeat it, and spaces part words.
+fn spell(alloc: Global, text: &str) -> Option<Vec<u8>> {
+    let mut bytes = Vec::new(alloc);
     for word in text.split_whitespace() {
         let (digits, count) = word.split_once('*').unwrap_or((word, "1"));
         for _ in 0..count.parse::<usize>().ok()? {
-            for symbols in digits.as_bytes().chunks(2) {
-                *bytes.get_mut(at)? = pair(symbols)?;
-                at += 1;
+            for pair in digits.as_bytes().chunks(2) {
+                bytes.push(byte_of(pair)?).ok()?;
             }
         }
     }
-    Some(at)
+    Some(bytes)
 }
 
-/// What a file shows.
-fn listed(file: &FileView) -> Listed {
+/// What is wanted of the case of a line, and how its bytes are spelled.
+fn row_of(line: &str) -> Option<(&str, &str)> {
+    let (_, parts) = line.split_once(": ")?;
+    parts.split_once(": ")
+}
+
+/// What a file shows: the first byte of its name, its type, its attribute bits, how many bytes its data have, and how many
+/// sections, if they are sections.
+fn listed(alloc: Global, file: &FileView) -> Option<String> {
     let sections = match file.content() {
         Content::Plain(_) => None,
         Content::Stream { sections, .. } => Some(sections.len()),
     };
-    let name = file.name().to_bytes();
-    (
-        name[0],
-        file.kind(),
-        file.attributes().byte(),
-        file.data_len(),
-        sections,
-    )
+    let first = file.name().to_bytes()[0];
+    let (kind, bits, len) = (file.kind(), file.attributes().byte(), file.data_len());
+    format!(in alloc; "{first:02x} {kind:02x} {bits:02x} {len} {sections:?}").ok()
 }
 
-/// Whether a volume has these files.
-fn has_files(view: &VolumeView, files: &[Listed]) -> bool {
-    for (number, wanted) in (0..view.file_count()).zip(files) {
-        if view.file(number).map(|file| listed(file)) != Some(*wanted) {
-            return false;
+/// How many bytes a volume has, and its files.
+fn list_of(alloc: Global, view: &VolumeView, length: u64) -> Option<String> {
+    let mut list = format!(in alloc; "{length}").ok()?;
+    for number in 0..view.file_count() {
+        let file = listed(alloc, view.file(number)?)?;
+        list.push_str(", ").ok()?;
+        list.push_str(&file).ok()?;
+    }
+    Some(list)
+}
+
+/// The volume that is read of some bytes, or the kind, offset and depth of the fault that refuses them.
+fn told(alloc: Global, bytes: &[u8]) -> Option<String> {
+    match read_volume(alloc, bytes) {
+        Ok((view, length)) => list_of(alloc, &view, length),
+        Err(fault) => {
+            let (kind, offset, depth) = (fault.kind, fault.place.offset, fault.place.depth);
+            format!(in alloc; "{kind:?} {offset} {depth}").ok()
         }
     }
-    view.file_count() as usize == files.len()
 }
 
-/// Whether a text spells a volume with its files.
-fn is_read(alloc: Global, row: &Accepted) -> Option<bool> {
-    let (_, text, length, files) = *row;
-    let mut bytes = [0; ROOM];
-    let count = spell(text, &mut bytes)?;
-    let (view, found) = read_volume(alloc, bytes.get(..count)?).ok()?;
-    Some(found == length && has_files(&view, files))
+/// Whether what is told of the bytes of a line is what it wants.
+fn is_told(alloc: Global, line: &str) -> Option<bool> {
+    let (wanted, text) = row_of(line)?;
+    let bytes = spell(alloc, text)?;
+    Some(told(alloc, &bytes)?.as_str() == wanted)
 }
 
-/// The first row that is not read with its files.
-fn not_read(alloc: Global, rows: &[Accepted]) -> Option<&'static str> {
-    for row in rows {
-        if is_read(alloc, row) != Some(true) {
-            return Some(row.0);
+#[test]
+fn volumes_are_read_or_refused(rt: HostRuntime) {
+    let tables = [
+        vectors::accepted(),
+        vectors::refused(),
+        deep::accepted(),
+        deep::refused(),
+        large::accepted(),
+        large::refused(),
+    ];
+    for table in tables {
+        for line in table.lines() {
+            assert!(rt; is_told(rt.alloc(), line) == Some(true), "{line}");
         }
     }
-    None
-}
-
-/// The fault with which the bytes that a text spells are refused.
-fn fault_of(alloc: Global, text: &str) -> Option<Fault> {
-    let mut bytes = [0; ROOM];
-    let count = spell(text, &mut bytes)?;
-    read_volume(alloc, bytes.get(..count)?).err()
-}
-
-/// The fault of a row.
-fn fault_at(row: &Refused) -> Fault {
-    let (_, _, kind, offset, depth) = *row;
-    Fault {
-        kind,
-        place: Place { offset, depth },
-    }
-}
-
-/// The first row that is not refused with its fault.
-fn not_refused(alloc: Global, rows: &[Refused]) -> Option<&'static str> {
-    for row in rows {
-        if fault_of(alloc, row.1) != Some(fault_at(row)) {
-            return Some(row.0);
-        }
-    }
-    None
 }

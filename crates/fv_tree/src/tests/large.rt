@@ -1,98 +1,49 @@
 //! Volumes with files whose header has 32 bytes.
 
-use super::{Accepted, ROOM, Refused, listed, not_read, not_refused, spell};
+use super::{listed, spell};
 use crate::read_volume;
-use fv_base::FaultKind;
 use std::alloc::Global;
 
 /// Volumes with files whose header has 32 bytes.
-static ACCEPTED: [Accepted; 4] = [
-    (
-        "a large header",
-        "00*16 7ac07354cb3dca4dbd6f1e9689e7349a 80 00*7 5f465648 fffe0400 4800e546 00000002 01000000 80000000 00*8 0a*16 \
-         3eaa0101000000f8 20 00*7 ff*24",
-        128,
-        &[(0x0a, 0x01, 0x00, 0, None)],
-    ),
-    (
-        "a large header of a stream",
-        "00*16 7ac07354cb3dca4dbd6f1e9689e7349a 80 00*7 5f465648 fffe0400 4800e546 00000002 01000000 80000000 00*8 0a*16 \
-         38aa0201000000f8 25 00*7 050000195a ff*19",
-        128,
-        &[(0x0a, 0x02, 0x00, 5, Some(1))],
-    ),
-    (
-        "a large header and a short one",
-        "00*16 7ac07354cb3dca4dbd6f1e9689e7349a 88 00*7 5f465648 fffe0400 4800d546 00000002 01000000 88000000 00*8 0a*16 \
-         3baa0101000000f8 23 00*7 010203 ff*5 0b*16 37aa0100180000f8",
-        136,
-        &[(0x0a, 0x01, 0x00, 3, None), (0x0b, 0x01, 0x00, 0, None)],
-    ),
-    (
-        "the sum of the data of a large file",
-        "00*16 7ac07354cb3dca4dbd6f1e9689e7349a 70 00*7 5f465648 fffe0400 48000547 00000002 01000000 70000000 00*8 0a*16 \
-         fbfa0141000000f8 23 00*7 010203 ff*5",
-        112,
-        &[(0x0a, 0x01, 0x40, 3, None)],
-    ),
-];
+pub(super) fn accepted() -> &'static str {
+    "\
+    a large header: 128, 0a 01 00 0 None: \
+        00*16 7ac07354cb3dca4dbd6f1e9689e7349a 80 00*7 5f465648 fffe0400 4800e546 00000002 01000000 80000000 00*8 \
+        0a*16 3eaa0101000000f8 20 00*7 ff*24\n\
+    a large header of a stream: 128, 0a 02 00 5 Some(1): \
+        00*16 7ac07354cb3dca4dbd6f1e9689e7349a 80 00*7 5f465648 fffe0400 4800e546 00000002 01000000 80000000 00*8 \
+        0a*16 38aa0201000000f8 25 00*7 050000195a ff*19\n\
+    a large header and a short one: 136, 0a 01 00 3 None, 0b 01 00 0 None: \
+        00*16 7ac07354cb3dca4dbd6f1e9689e7349a 88 00*7 5f465648 fffe0400 4800d546 00000002 01000000 88000000 00*8 \
+        0a*16 3baa0101000000f8 23 00*7 010203 ff*5 0b*16 37aa0100180000f8\n\
+    the sum of the data of a large file: 112, 0a 01 40 3 None: \
+        00*16 7ac07354cb3dca4dbd6f1e9689e7349a 70 00*7 5f465648 fffe0400 48000547 00000002 01000000 70000000 00*8 \
+        0a*16 fbfa0141000000f8 23 00*7 010203 ff*5\n\
+    "
+}
 
 /// Such volumes that are refused.
-static REFUSED: [Refused; 6] = [
-    (
-        "a large header in the second file system",
-        "00*16 78e58c8c3d8a1c4f9935896185c32dd3 80 00*7 5f465648 fffe0400 4800cef5 00000002 01000000 80000000 00*8 0a*16 \
-         3eaa0101000000f8 20 00*7 ff*24",
-        FaultKind::LargeFile,
-        91,
-        0,
-    ),
-    (
-        "a size in both places",
-        "00*16 7ac07354cb3dca4dbd6f1e9689e7349a 80 00*7 5f465648 fffe0400 4800e546 00000002 01000000 80000000 00*8 0a*16 \
-         26aa0101180000f8 20 00*7 ff*24",
-        FaultKind::FileSize,
-        92,
-        0,
-    ),
-    (
-        "a large header and a size of 31",
-        "00*16 7ac07354cb3dca4dbd6f1e9689e7349a 80 00*7 5f465648 fffe0400 4800e546 00000002 01000000 80000000 00*8 0a*16 \
-         3faa0101000000f8 1f 00*7 ff*24",
-        FaultKind::FileSize,
-        92,
-        0,
-    ),
-    (
-        "the greatest size",
-        "00*16 7ac07354cb3dca4dbd6f1e9689e7349a 80 00*7 5f465648 fffe0400 4800e546 00000002 01000000 80000000 00*8 0a*16 \
-         66aa0101000000f8 ff*32",
-        FaultKind::FileSize,
-        92,
-        0,
-    ),
-    (
-        "24 bytes are left of a large header",
-        "00*16 7ac07354cb3dca4dbd6f1e9689e7349a 80 00*7 5f465648 fffe0400 4800e546 00000002 01000000 80000000 00*8 0a*16 \
-         3faa0100200000f8 00*8 0b*16 00aa0101000000f8",
-        FaultKind::FileSize,
-        124,
-        0,
-    ),
-    (
-        "a section in a large file",
-        "00*16 7ac07354cb3dca4dbd6f1e9689e7349a 80 00*7 5f465648 fffe0400 4800e546 00000002 01000000 80000000 00*8 0a*16 \
-         39aa0201000000f8 24 00*7 03000019 ff*20",
-        FaultKind::SectionSize,
-        104,
-        0,
-    ),
-];
-
-#[test]
-fn large_files_are_read(rt: HostRuntime) {
-    assert_eq!(rt; not_read(rt.alloc(), &ACCEPTED), None);
-    assert_eq!(rt; not_refused(rt.alloc(), &REFUSED), None);
+pub(super) fn refused() -> &'static str {
+    "\
+    a large header in the second file system: LargeFile 91 0: \
+        00*16 78e58c8c3d8a1c4f9935896185c32dd3 80 00*7 5f465648 fffe0400 4800cef5 00000002 01000000 80000000 00*8 \
+        0a*16 3eaa0101000000f8 20 00*7 ff*24\n\
+    a size in both places: FileSize 92 0: \
+        00*16 7ac07354cb3dca4dbd6f1e9689e7349a 80 00*7 5f465648 fffe0400 4800e546 00000002 01000000 80000000 00*8 \
+        0a*16 26aa0101180000f8 20 00*7 ff*24\n\
+    a large header and a size of 31: FileSize 92 0: \
+        00*16 7ac07354cb3dca4dbd6f1e9689e7349a 80 00*7 5f465648 fffe0400 4800e546 00000002 01000000 80000000 00*8 \
+        0a*16 3faa0101000000f8 1f 00*7 ff*24\n\
+    the greatest size: FileSize 92 0: \
+        00*16 7ac07354cb3dca4dbd6f1e9689e7349a 80 00*7 5f465648 fffe0400 4800e546 00000002 01000000 80000000 00*8 \
+        0a*16 66aa0101000000f8 ff*32\n\
+    24 bytes are left of a large header: FileSize 124 0: \
+        00*16 7ac07354cb3dca4dbd6f1e9689e7349a 80 00*7 5f465648 fffe0400 4800e546 00000002 01000000 80000000 00*8 \
+        0a*16 3faa0100200000f8 00*8 0b*16 00aa0101000000f8\n\
+    a section in a large file: SectionSize 104 0: \
+        00*16 7ac07354cb3dca4dbd6f1e9689e7349a 80 00*7 5f465648 fffe0400 4800e546 00000002 01000000 80000000 00*8 \
+        0a*16 39aa0201000000f8 24 00*7 03000019 ff*20\n\
+    "
 }
 
 /// What a volume of 16 MiB and 80 bytes begins with: a header, and that of a file with so many bytes that no short one can say
@@ -103,19 +54,18 @@ const LONG: &str =
 
 /// Whether the long volume is read with its file, whose data are all behind the headers.
 fn is_long_read(alloc: Global) -> Option<bool> {
-    let mut front = [0; ROOM];
-    let count = spell(LONG, &mut front)?;
+    let front = spell(alloc, LONG)?;
     let mut bytes = vec![in alloc; 0u8; 0x100_0050].ok()?;
-    for (byte, head) in bytes.iter_mut().zip(front.get(..count)?) {
+    for (byte, head) in bytes.iter_mut().zip(&front) {
         *byte = *head;
     }
     let (view, length) = read_volume(alloc, &bytes).ok()?;
     let file = view.file(0)?;
-    let is_same = listed(file) == (0x0a, 0x01, 0x00, 0xff_ffe8, None);
+    let is_same = listed(alloc, file)?.as_str() == "0a 01 00 16777192 None";
     Some(is_same && length == 0x100_0050 && file.plain() == bytes.get(104..))
 }
 
 #[test]
 fn a_file_may_have_more_than_16_mib(rt: HostRuntime) {
-    assert_eq!(rt; is_long_read(rt.alloc()), Some(true));
+    assert!(rt; is_long_read(rt.alloc()) == Some(true));
 }

@@ -1,6 +1,6 @@
 //! Volumes with many files.
 
-use super::{ROOM, spell};
+use super::spell;
 use crate::{VolumeView, file_by_name, read_volume};
 use fv_base::Guid;
 use std::alloc::Global;
@@ -46,9 +46,7 @@ fn file_of(name: [u8; 16]) -> [u8; 24] {
 
 /// A volume of so many files, with this header.
 fn volume_of(alloc: Global, head: &str, count: u32) -> Option<Vec<u8>> {
-    let mut bytes = [0; ROOM];
-    let len = spell(head, &mut bytes)?;
-    let mut volume = bytes.get(..len)?.to_vec(alloc).ok()?;
+    let mut volume = spell(alloc, head)?;
     for number in 0..count {
         volume.extend_from_slice(&file_of(name_of(number))).ok()?;
     }
@@ -60,14 +58,19 @@ fn has_file(view: &VolumeView, number: u32) -> bool {
     file_by_name(view, &Guid::from_bytes(name_of(number))).is_some()
 }
 
-/// Whether a volume of so many files is read with all of them, and no other.
+/// Whether a view has so many files, and no other.
+fn has_all(view: &VolumeView, count: u32) -> Option<bool> {
+    let last = count.checked_sub(1)?;
+    let is_last = view.file(last)?.name().to_bytes() == name_of(last);
+    let is_whole = view.file_count() == count && is_last;
+    Some(is_whole && has_file(view, last / 2) && !has_file(view, count))
+}
+
+/// Whether a volume of so many files is read with all of them.
 fn is_many(alloc: Global, head: &str, count: u32) -> Option<bool> {
     let volume = volume_of(alloc, head, count)?;
     let (view, length) = read_volume(alloc, &volume).ok()?;
-    let last = count.checked_sub(1)?;
-    let is_last = view.file(last)?.name().to_bytes() == name_of(last);
-    let is_whole = length == 72 + 24 * u64::from(count) && view.file_count() == count;
-    Some(is_whole && is_last && has_file(&view, last / 2) && !has_file(&view, count))
+    Some(length == 72 + 24 * u64::from(count) && has_all(&view, count)?)
 }
 
 #[test]

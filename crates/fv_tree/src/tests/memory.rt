@@ -1,24 +1,31 @@
 //! Refused memory, under `rt try --test --fail-alloc`: no other answer stands in its place.
 
-use super::vectors::{ACCEPTED, REFUSED};
-use super::{ROOM, Refused, fault_at, spell};
-use crate::{read_volume, scan};
+use super::vectors::{accepted, refused};
+use super::{row_of, spell, told};
+use crate::scan;
 use fv_base::{Fault, FaultKind};
 use std::alloc::Global;
 
-/// Whether what a text spells is read, or refused with this fault, or memory was refused.
-fn is_answered(alloc: Global, text: &str, wanted: Option<Fault>) -> Option<bool> {
-    let mut bytes = [0; ROOM];
-    let count = spell(text, &mut bytes)?;
-    let fault = read_volume(alloc, bytes.get(..count)?).err();
-    Some(fault == wanted || fault == Some(Fault::outer(FaultKind::OutOfMemory, 0)))
+/// Whether what is told of the bytes of a line is what it wants, or that memory was refused. Where it is refused to the text,
+/// nothing is told.
+fn is_answered(alloc: Global, line: &str) -> Option<bool> {
+    let (wanted, text) = row_of(line)?;
+    let Some(bytes) = spell(alloc, text) else {
+        return Some(true);
+    };
+    let Some(found) = told(alloc, &bytes) else {
+        return Some(true);
+    };
+    Some(found.as_str() == wanted || found.as_str() == "OutOfMemory 0 0")
 }
 
-/// Whether the first volume in what a text spells is found at 0, or memory was refused.
-fn is_scanned(alloc: Global, text: &str) -> Option<bool> {
-    let mut bytes = [0; ROOM];
-    let count = spell(text, &mut bytes)?;
-    match scan(alloc, bytes.get(..count)?) {
+/// Whether the first volume in the bytes of a line is found at 0, or memory was refused.
+fn is_scanned(alloc: Global, line: &str) -> Option<bool> {
+    let (_, text) = row_of(line)?;
+    let Some(bytes) = spell(alloc, text) else {
+        return Some(true);
+    };
+    match scan(alloc, &bytes) {
         Ok(offsets) => Some(offsets.as_slice().first() == Some(&0)),
         Err(fault) => Some(fault == Fault::outer(FaultKind::OutOfMemory, 0)),
     }
@@ -26,17 +33,11 @@ fn is_scanned(alloc: Global, text: &str) -> Option<bool> {
 
 #[test]
 fn refused_memory_is_told(rt: HostRuntime) {
-    for (name, text, _, _) in ACCEPTED {
-        assert_eq!(rt; is_answered(rt.alloc(), text, None), Some(true), "{name}");
-        assert_eq!(rt; is_scanned(rt.alloc(), text), Some(true), "{name}");
+    for line in accepted().lines() {
+        assert!(rt; is_answered(rt.alloc(), line) == Some(true), "{line}");
+        assert!(rt; is_scanned(rt.alloc(), line) == Some(true), "{line}");
     }
-    for row in &REFUSED {
-        let fault = Some(fault_at(row));
-        assert_eq!(rt;
-            is_answered(rt.alloc(), row.1, fault),
-            Some(true),
-            "{}",
-            row.0
-        );
+    for line in refused().lines() {
+        assert!(rt; is_answered(rt.alloc(), line) == Some(true), "{line}");
     }
 }
