@@ -6,6 +6,7 @@ pub mod CompareLaws
 pub mod DataLaws
 pub mod DepthLaws
 pub mod Examples
+pub mod FaultPlaces
 pub mod FewSteps
 pub mod FileLaws
 pub mod FirstPlaces
@@ -40,3 +41,4 @@ pub mod Tries
 pub mod UnfitKinds
 pub mod VolumeLaws
 pub mod VolumeWalks
+pub mod WholeLaws

@@ -18,3 +18,4 @@ pub mod Starts
 pub mod Stored
 pub mod SumSinks
 pub mod Walks
+pub mod Whole

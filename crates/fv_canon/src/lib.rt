@@ -17,6 +17,7 @@ pub mod side;
 mod skip;
 pub mod starts;
 mod sum;
+pub mod whole;
 
 pub use canonical_input::is_canonical;
 pub use compare::{run_compare, write_comparison};
@@ -30,3 +31,4 @@ pub use parts::{body_bytes, file_bytes};
 pub use run::{normalise, run_normalise, whole_volume, write_normalised};
 pub use side::Side;
 pub use starts::Layout;
+pub use whole::normalise_image;
