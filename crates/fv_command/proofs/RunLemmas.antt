@@ -26,7 +26,7 @@ use Rattle.fv_command.specs.declared.extracting.Extraction.{Extraction}
 use Rattle.fv_command.specs.declared.extracting.Extraction.TheVariants.{Made, Stored, NotFound, NotSectioned}
 use Rattle.fv_command.specs.declared.extracting.Part.{Part}
 use Rattle.fv_command.specs.declared.plan.Task.{Task}
-use Rattle.fv_command.specs.declared.plan.Task.TheVariants.{Normalise, List as Listing, Extract, Check, Scan}
+use Rattle.fv_command.specs.declared.plan.Task.TheVariants.{Normalise, NormaliseAll, List as Listing, Extract, Check, Scan}
 use Rattle.fv_command.specs.declared.status.Status.{Status}
 use Rattle.fv_command.specs.declared.status.Status.TheVariants.{Done, Different, Refused, WrongWords}
 
@@ -96,6 +96,7 @@ part_wrong hex NotSectioned text p = p
 
 said_refused : (task : Task) (hex : Bool) (input text : List ℕ) → Says task hex input Refused text → ⊥
 said_refused Normalise hex input text p = p
+said_refused NormaliseAll hex input text p = p
 said_refused Listing hex input text p = p
 said_refused (Extract part) hex input text (m, x, b, is, p) = part_refused hex x text p
 said_refused Check hex input text p = p
@@ -103,6 +104,7 @@ said_refused Scan hex input text p = p
 
 said_wrong : (task : Task) (hex : Bool) (input text : List ℕ) → Says task hex input WrongWords text → ⊥
 said_wrong Normalise hex input text p = p
+said_wrong NormaliseAll hex input text p = p
 said_wrong Listing hex input text p = p
 said_wrong (Extract part) hex input text (m, x, b, is, p) = part_wrong hex x text p
 said_wrong Check hex input text p = p

@@ -4,6 +4,7 @@ use Rattle.fv_base.specs.Faults.{want_of_memory}
 use Rattle.fv_base.specs.declared.fault.Fault.{Fault}
 use Rattle.fv_canon.specs.Normal.{NormalisesTo}
 use Rattle.fv_canon.specs.Refusals.{NotRead, Refuses}
+use Rattle.fv_canon.specs.Whole.{NormalisesAll, RefusesAll}
 use Rattle.fv_tree.specs.Found.{Found}
 use Rattle.fv_tree.specs.Meaning.{Meaning, files_of}
 use Rattle.fv_tree.specs.Names.{file_named}
@@ -17,7 +18,7 @@ use Rattle.fv_command.specs.declared.status.Status.TheVariants.{Done, Different}
 use Rattle.fv_command.specs.declared.extracting.Extraction.{Extraction}
 use Rattle.fv_command.specs.declared.extracting.Extraction.TheVariants.{Made, Stored, NotFound, NotSectioned}
 use Rattle.fv_command.specs.declared.plan.Task.{Task}
-use Rattle.fv_command.specs.declared.plan.Task.TheVariants.{Normalise, List as Listing, Extract, Check, Scan}
+use Rattle.fv_command.specs.declared.plan.Task.TheVariants.{Normalise, NormaliseAll, List as Listing, Extract, Check, Scan}
 
 -- what is said of a part, and with which status: its bytes, or that there is none
 abbrev pub PartText : Bool → Extraction → Status → List ℕ → Type 0
@@ -30,6 +31,7 @@ PartText hex x status text = ⊥
 -- what a task says of its input, and with which status. Of the text of a list no more is said than that there is one
 abbrev pub Says : Task → Bool → List ℕ → Status → List ℕ → Type 0
 Says Normalise hex input Done text = (image : List ℕ) × NormalisesTo input image × Shows hex image text
+Says NormaliseAll hex input Done text = (image : List ℕ) × NormalisesAll input image × Shows hex image text
 Says Listing hex input Done text = (m : Meaning) × BeginsWith input m
 Says (Extract part) hex input status text =
     (m : Meaning) × (x : Extraction) × BeginsWith input m × IsPart (file_named part.name (files_of m)) part x × PartText hex x status text
@@ -41,6 +43,7 @@ Says task hex input status text = ⊥
 -- why it says nothing of its input
 abbrev pub Denies : Task → List ℕ → Fault → Type 0
 Denies Normalise input fault = (fault ≡ want_of_memory) ⊎ Refuses input fault
+Denies NormaliseAll input fault = (fault ≡ want_of_memory) ⊎ RefusesAll input fault
 Denies Listing input fault = (fault ≡ want_of_memory) ⊎ BeginsNone input fault
 Denies (Extract part) input fault =
     (fault ≡ want_of_memory) ⊎ (BeginsNone input fault

@@ -42,6 +42,8 @@ pub enum Command {
 pub enum Task {
     /// Write the canonical image of a volume.
     Normalise,
+    /// Write an image with each volume in it replaced by its canonical image.
+    NormaliseAll,
     /// List the files and the sections of a volume.
     List,
     /// Write the data of a file of a volume, or the body of one of its sections.

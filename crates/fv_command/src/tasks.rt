@@ -19,6 +19,7 @@ use crate::saying::refuse;
 use crate::scanning::write_volumes;
 use crate::status::Status;
 use fv_base::{Fault, Port};
+use fv_canon::normalise_image;
 use fv_tree::read_volume;
 use std::alloc::Global;
 use std::io::{Read, Write};
@@ -38,6 +39,26 @@ fn normalise<W: Write>(
         (seen (W.contents (inner_of writer.new)) (has_erred writer.new))) }
 {
     write_image(alloc, hex, input, writer)?;
+    Ok(Status::Done)
+}
+
+/// Writes the input with each volume in it replaced by its canonical image. Nothing is written
+/// before the whole result is made.
+fn normalise_all<W: Write>(
+    alloc: Global,
+    hex: bool,
+    input: &[u8],
+    writer: &mut Port<W>,
+) -> Result<Status, Fault>
+    ensures ok { IfOk result (SaysInput Task.NormaliseAll hex input.now
+        (seen (W.contents (inner_of writer.old)) (has_erred writer.old))
+        (seen (W.contents (inner_of writer.new)) (has_erred writer.new))) }
+    ensures err { IfErr result (StopsInput Task.NormaliseAll hex input.now
+        (seen (W.contents (inner_of writer.old)) (has_erred writer.old))
+        (seen (W.contents (inner_of writer.new)) (has_erred writer.new))) }
+{
+    let image = normalise_image(alloc, input)?;
+    write_shown(writer, hex, image.as_slice())?;
     Ok(Status::Done)
 }
 
@@ -154,6 +175,7 @@ fn perform<W: Write>(
 {
     match task {
         Task::Normalise => normalise(alloc, hex, input, writer),
+        Task::NormaliseAll => normalise_all(alloc, hex, input, writer),
         Task::List => list(alloc, input, writer),
         Task::Extract(part) => extract_part(alloc, hex, input, part, writer),
         Task::Check => check(alloc, input, writer),

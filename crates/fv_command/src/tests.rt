@@ -1,32 +1,28 @@
 //! Text, words and what a run writes.
 
 mod answers;
-mod checking;
-mod comparing;
+mod checked;
+mod compared;
 mod cut_short;
-mod extracting;
 mod fakes;
-mod hobs;
 mod images;
 mod limits;
 mod listed;
-mod listing;
 mod pieces;
+mod replaced;
 mod runs;
-mod scanning;
-mod tasks;
-mod vectors;
+mod spans;
+mod spelling;
 mod volumes;
+mod whole;
 
 use crate::closing::close;
-use crate::hex_lines::{HexSink, write_shown};
+use crate::hex_lines::HexSink;
 use crate::hex_text::read_hex;
 use crate::saying::say;
 use crate::status::Status;
-use fakes::{EndlessReader, FakeReader, FakeWriter};
-use fv_base::limits::VOLUME_LIMIT;
+use fakes::{FakeReader, FakeWriter};
 use fv_base::{Fault, FaultKind, Port, Sink, WriteSink};
-use runs::{ends_as, normalise_plan, stops_at_each_byte};
 use std::alloc::Global;
 use std::io::{BufWriter, Read, Write};
 use std::test::Fail;
@@ -47,32 +43,6 @@ fn is_read_as(alloc: Global, text: &[u8], bytes: &[u8]) -> bool {
     true
 }
 
-#[test]
-fn reads_text(rt: HostRuntime) {
-    let cases: [(&[u8], &[u8]); 6] = [
-        (b"", b""),
-        (b" \t\r\n", b""),
-        (b"00", b"\x00"),
-        (b"0123456789abcdef", b"\x01\x23\x45\x67\x89\xab\xcd\xef"),
-        (b"ABCDEFabCDef", b"\xab\xcd\xef\xab\xcd\xef"),
-        (b"\n0\n1\t2 \r\n3", b"\x01\x23"),
-    ];
-    for (text, bytes) in cases {
-        assert!(rt; is_read_as(rt.alloc(), text, bytes), "{text:?}");
-    }
-}
-
-#[test]
-fn reads_the_text_of_a_volume(rt: HostRuntime) -> Result<(), Fail> {
-    for step in STEPS {
-        let reader = FakeReader::new(vectors::EMPTY, step, true);
-        let read = read_hex(rt.alloc(), &mut Port::new(reader))?;
-        assert!(rt; read.len() == 128);
-        assert!(rt; read.get(40..44) == Some(b"_FVH".as_slice()));
-    }
-    Ok(())
-}
-
 /// Whether the reading of text stops with the fault.
 fn stops_with<R: Read + Drop>(alloc: Global, reader: R, fault: Fault) -> bool {
     match read_hex(alloc, &mut Port::new(reader)) {
@@ -82,43 +52,45 @@ fn stops_with<R: Read + Drop>(alloc: Global, reader: R, fault: Fault) -> bool {
 }
 
 #[test]
-fn refuses_text(rt: HostRuntime) {
-    let wrong = Fault::outer(FaultKind::ReadFault, 0);
-    let texts: [&[u8]; 9] = [
-        b"0",
-        b"000",
-        b"00 f",
-        b"0g",
-        b"g0",
-        b"00\x0b00",
-        b"0x00",
-        b"00\x00",
-        b"\x80\xff",
+fn reads_text(rt: HostRuntime) {
+    let cases: [(&[u8], Option<&[u8]>); 15] = [
+        (b"", Some(b"")),
+        (b" \t\r\n", Some(b"")),
+        (b"00", Some(b"\x00")),
+        (
+            b"0123456789abcdef",
+            Some(b"\x01\x23\x45\x67\x89\xab\xcd\xef"),
+        ),
+        (b"ABCDEFabCDef", Some(b"\xab\xcd\xef\xab\xcd\xef")),
+        (b"\n0\n1\t2 \r\n3", Some(b"\x01\x23")),
+        (b"0", None),
+        (b"000", None),
+        (b"00 f", None),
+        (b"0g", None),
+        (b"g0", None),
+        (b"00\x0b00", None),
+        (b"0x00", None),
+        (b"00\x00", None),
+        (b"\x80\xff", None),
     ];
-    for text in texts {
-        for step in STEPS {
-            let reader = FakeReader::new(text, step, false);
-            assert!(rt; stops_with(rt.alloc(), reader, wrong), "{text:?}");
-        }
+    for (text, bytes) in cases {
+        let is_so = match bytes {
+            Some(bytes) => is_read_as(rt.alloc(), text, bytes),
+            None => is_wrong(rt.alloc(), text),
+        };
+        assert!(rt; is_so, "{text:?}");
     }
 }
 
-#[test]
-fn text_stops_where_the_reader_does(rt: HostRuntime) {
-    for count in 0..=vectors::EMPTY.len() {
-        for step in STEPS {
-            let reader = FakeReader::failing(vectors::EMPTY, step, count);
-            let fault = Fault::outer(FaultKind::ReadFault, count as u64);
-            assert!(rt; stops_with(rt.alloc(), reader, fault), "{count}");
+/// Whether the text is refused, whatever its reader gives at once.
+fn is_wrong(alloc: Global, text: &[u8]) -> bool {
+    let fault = Fault::outer(FaultKind::ReadFault, 0);
+    for step in STEPS {
+        if !stops_with(alloc, FakeReader::new(text, step, false), fault) {
+            return false;
         }
     }
-}
-
-// Text that is wrong too.
-#[test]
-fn text_without_end_is_too_long(rt: HostRuntime) {
-    let fault = Fault::outer(FaultKind::Length, VOLUME_LIMIT);
-    assert!(rt; stops_with(rt.alloc(), EndlessReader, fault));
+    true
 }
 
 const FULL: &[u8] = b"ABCDEFGHIJKLMNOPQRSTUVWXYZabcdef";
@@ -167,63 +139,6 @@ fn writes_lines(rt: HostRuntime) {
                 assert!(rt; port.into_inner().took(wanted), "{bytes:?} {at}");
             }
         }
-    }
-}
-
-/// What is written of bytes that are shown, and the answer.
-fn shown(alloc: Global, hex: bool, bytes: &[u8], room: usize) -> (FakeWriter, Result<(), Fault>) {
-    let mut port = Port::new(FakeWriter::new(alloc, 7, room, true));
-    let answer = write_shown(&mut port, hex, bytes);
-    (port.into_inner(), answer)
-}
-
-#[test]
-fn shows_bytes(rt: HostRuntime) {
-    let cases: [(bool, &[u8], &[u8]); 4] = [
-        (false, b"", b""),
-        (false, FULL, FULL),
-        (true, b"", b""),
-        (true, THREE_COPIES_AND_2_BYTES, THREE_LINES_AND_2_BYTES),
-    ];
-    for (hex, bytes, wanted) in cases {
-        let (written, answer) = shown(rt.alloc(), hex, bytes, wanted.len());
-        assert!(rt; answer == Ok(()));
-        assert!(rt; written.took(wanted), "{hex} {bytes:?}");
-        for room in 0..wanted.len() {
-            let (front, stopped) = shown(rt.alloc(), hex, bytes, room);
-            assert!(rt; stopped == Err(Fault::outer(FaultKind::WriteFault, room as u64)));
-            assert!(rt; front.took(&wanted[..room]), "{hex} {bytes:?} {room}");
-        }
-    }
-}
-
-#[test]
-fn writes_the_image_or_the_fault(rt: HostRuntime) {
-    let cases: [(bool, &[u8], &[u8], Status); 5] = [
-        (true, vectors::EMPTY, vectors::EMPTY, Status::Done),
-        (true, b"", b"fault 1 at 0\n", Status::Refused),
-        (true, b"00 FF", b"fault 1 at 2\n", Status::Refused),
-        (true, b"0g", b"fault 25 at 0\n", Status::Refused),
-        (false, b"00", b"fault 1 at 2\n", Status::Refused),
-    ];
-    for (hex, input, wanted, status) in cases {
-        let plan = normalise_plan(hex);
-        assert!(rt;
-            ends_as(rt.alloc(), &plan, (input, b""), status, wanted),
-            "{input:?}"
-        );
-    }
-}
-
-#[test]
-fn a_failed_write_is_the_last(rt: HostRuntime) {
-    let plan = normalise_plan(true);
-    let cases: [(&[u8], &[u8]); 2] = [
-        (vectors::EMPTY, vectors::EMPTY),
-        (b"0g", b"fault 25 at 0\n"),
-    ];
-    for (input, output) in cases {
-        assert!(rt; stops_at_each_byte(rt.alloc(), &plan, (input, b""), output));
     }
 }
 

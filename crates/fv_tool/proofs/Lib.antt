@@ -1,3 +1,4 @@
+pub mod AllLemmas
 pub mod FlagLemmas
 pub mod NumberLemmas
 pub mod PartLemmas

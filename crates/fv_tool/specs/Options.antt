@@ -6,9 +6,16 @@ use Rattle.clap.specs.Words.{App, Row, Rule, built, first_of, new_app, new_rule,
 use Rattle.clap.specs.declared.builder.action.ArgAction.TheVariants.{SetTrue}
 use Rattle.clap.specs.declared.builder.value_parser.ValueParser.TheVariants as parsers
 
--- the flag that inputs and outputs are text
+-- a flag of this name
+abbrev pub flag_rule : List ℕ → Rule
+flag_rule name = record (new_rule name) { long = Some name; action = Some SetTrue }
+
+-- the flag that inputs and outputs are text, and the one that all volumes of an image are meant
 abbrev pub hex_rule : Rule
-hex_rule = record (new_rule (codes "hex")) { long = Some (codes "hex"); action = Some SetTrue }
+hex_rule = flag_rule (codes "hex")
+
+abbrev pub all_rule : Rule
+all_rule = flag_rule (codes "all")
 
 -- an option of this name, with one value
 abbrev pub option_rule : List ℕ → Rule
@@ -27,6 +34,9 @@ flag_app = with_rule (new_app (codes "fvtool")) hex_rule
 -- a command with one input, and the others
 abbrev pub one_input_app : App
 one_input_app = with_rule flag_app (new_rule (codes "file"))
+
+abbrev pub normalise_app : App
+normalise_app = with_rule (with_rule flag_app all_rule) (new_rule (codes "file"))
 
 abbrev pub hobs_app : App
 hobs_app = with_rule (with_rule (with_rule flag_app (option_rule (codes "image"))) base_rule) (new_rule (codes "file"))

@@ -8,13 +8,13 @@ use Rattle.std.specs.String.{string_bytes}
 use Rattle.clap.specs.Takes.{takes}
 use Rattle.fv_base.specs.Guids.{guid_read}
 use Rattle.fv_command.specs.declared.extracting.Part.{Part}
-use Rattle.fv_tool.specs.Options.{compare_app, extract_app, hobs_app, number_in, one_input_app, text_in}
+use Rattle.fv_tool.specs.Options.{compare_app, extract_app, hobs_app, normalise_app, number_in, one_input_app, text_in}
 use Rattle.fv_command.specs.declared.plan.Command.{Command}
 use Rattle.fv_command.specs.declared.plan.Command.TheVariants.{Single, Hobs, Compare}
 use Rattle.fv_command.specs.declared.plan.ImageFile.{ImageFile}
 use Rattle.fv_command.specs.declared.plan.Plan.{Plan}
 use Rattle.fv_command.specs.declared.plan.Task.{Task}
-use Rattle.fv_command.specs.declared.plan.Task.TheVariants.{Normalise, List as Listing, Extract, Check, Scan}
+use Rattle.fv_command.specs.declared.plan.Task.TheVariants.{Normalise, NormaliseAll, List as Listing, Extract, Check, Scan}
 
 -- of no words: hexadecimal text from standard input is normalised
 abbrev pub plan_without_words : Plan
@@ -23,6 +23,7 @@ plan_without_words = record { hex = true; command = Single Normalise None }
 -- the word that names a task, and that which names a command
 abbrev pub name_of_task : Task → List ℕ
 name_of_task Normalise = codes "normalise"
+name_of_task NormaliseAll = codes "normalise"
 name_of_task Listing = codes "list"
 name_of_task (Extract part) = codes "extract"
 name_of_task Check = codes "check"
@@ -33,15 +34,20 @@ name_of (Single task file) = name_of_task task
 name_of (Hobs file image) = codes "hobs"
 name_of (Compare first second) = codes "compare"
 
--- the commands with one input and no option but the flag
+-- the commands with one input and no option but `--hex`
 abbrev pub HasOneInput : List ℕ → Type 0
-HasOneInput name = (name ≡ codes "normalise") ⊎ (name ≡ codes "list") ⊎ (name ≡ codes "check") ⊎ (name ≡ codes "scan")
+HasOneInput name = (name ≡ codes "list") ⊎ (name ≡ codes "check") ⊎ (name ≡ codes "scan")
 
--- the words are of such a command, and its reader takes them
+-- the name is that of such a command, or of the one that has `--all` besides, and its reader takes the words
+abbrev pub IsTaken : List ℕ → List (List ℕ) → Type 0
+IsTaken name words =
+    ((name ≡ codes "normalise") × (takes normalise_app words ≡ true)) ⊎ (HasOneInput name × (takes one_input_app words ≡ true))
+
+-- the same of a line of words, of which the first is the program's name
 abbrev pub AreTaken : List (List ℕ) → Type 0
 AreTaken [] = ⊥
 AreTaken (program ∷ []) = ⊥
-AreTaken (program ∷ name ∷ rest) = HasOneInput name × (takes one_input_app (name ∷ rest) ≡ true)
+AreTaken (program ∷ name ∷ rest) = IsTaken name (name ∷ rest)
 
 -- the word stands among the words, before any `--`
 abbrev pub has_flag : List ℕ → List (List ℕ) → Bool
@@ -82,9 +88,10 @@ IsImage path base (Some image) = (path ≡ Some (string_bytes image.path)) × Is
 abbrev pub IsFile : Option (List ℕ) → Option (String Global) → Type 0
 IsFile text file = option_map string_bytes file ≡ text
 
--- the texts of a task, and those of a command, are those that the reader finds
+-- the texts of a task, and those of a command, are those that the reader finds; of the two tasks of one name the flag `--all` tells which
 abbrev pub HasTaskTexts : List (List ℕ) → Task → Option (String Global) → Type 0
-HasTaskTexts rest Normalise file = IsFile (text_in one_input_app (codes "file") rest) file
+HasTaskTexts rest Normalise file = (has_flag (codes "--all") rest ≡ false) × IsFile (text_in normalise_app (codes "file") rest) file
+HasTaskTexts rest NormaliseAll file = (has_flag (codes "--all") rest ≡ true) × IsFile (text_in normalise_app (codes "file") rest) file
 HasTaskTexts rest Listing file = IsFile (text_in one_input_app (codes "file") rest) file
 HasTaskTexts rest (Extract part) file =
     IsFile (text_in extract_app (codes "file") rest) file

@@ -1,9 +1,9 @@
 //! The commands and their options, as they are given to the reader of command lines.
 
 ghost use Rattle.clap.specs.Words.{app_of, first_value, found_of, one_text, rule_of, takes};
-ghost use Rattle.fv_tool.specs.Options.{compare_app, extract_app, flag_app, hobs_app, one_input_app, text_in};
-ghost use Rattle.fv_tool.specs.Options.{base_rule, hex_rule, instance_rule, option_rule};
-ghost use Rattle.fv_tool.specs.Words.{AsksBy, HasOneInput, IsFile, has_flag};
+ghost use Rattle.fv_tool.specs.Options.{compare_app, extract_app, flag_app, hobs_app, normalise_app, one_input_app, text_in};
+ghost use Rattle.fv_tool.specs.Options.{base_rule, flag_rule, instance_rule, option_rule};
+ghost use Rattle.fv_tool.specs.Words.{AsksBy, IsFile, IsTaken, has_flag};
 ghost use Rattle.fv_tool.specs.Words.{IsImage, IsInstance, IsPartBy, IsSectionType};
 ghost use Rattle.std.specs.String.{string_bytes};
 ghost use Rattle.std.specs.Prelude.{◌≡◌, ◌≤◌, false, codes, drop, length, map, option_map, true, IfErr, IfOk, SomeIff};
@@ -33,14 +33,12 @@ impl From<clap::Error> for WordFault {
     }
 }
 
-/// The flag that inputs and outputs are text.
-fn hex_flag<'a>(alloc: Global) -> Arg<'a>
-    ensures rule { rule_of result ≡ hex_rule }
+/// A flag of this name.
+fn flag<'a>(alloc: Global, name: &'static str) -> Arg<'a>
+    ensures rule { rule_of result ≡ flag_rule name.now }
     ensures local { result.global ≡ false }
 {
-    Arg::new(alloc, "hex")
-        .long("hex")
-        .action(ArgAction::SetTrue)
+    Arg::new(alloc, name).long(name).action(ArgAction::SetTrue)
 }
 
 /// An option of this name, with one value.
@@ -67,11 +65,11 @@ fn instance_option<'a>(alloc: Global) -> Arg<'a>
     text_option(alloc, "instance").value_parser(value_parser!(u32))
 }
 
-/// The words of a command with the flag.
+/// The words of a command with the flag that inputs and outputs are text.
 fn flag_words<'a>(alloc: Global) -> Result<clap::Command<'a>, AllocError>
     ensures { IfOk result (λ c. app_of c ≡ flag_app) }
 {
-    clap::Command::new(alloc, "fvtool").arg(hex_flag(alloc))
+    clap::Command::new(alloc, "fvtool").arg(flag(alloc, "hex"))
 }
 
 /// The words of a command with one input.
@@ -79,6 +77,15 @@ fn one_input_words<'a>(alloc: Global) -> Result<clap::Command<'a>, AllocError>
     ensures { IfOk result (λ c. app_of c ≡ one_input_app) }
 {
     flag_words(alloc)?.arg(Arg::new(alloc, "file"))
+}
+
+/// The words of `normalise`, with the flag that all volumes of an image are meant.
+fn normalise_words<'a>(alloc: Global) -> Result<clap::Command<'a>, AllocError>
+    ensures { IfOk result (λ c. app_of c ≡ normalise_app) }
+{
+    flag_words(alloc)?
+        .arg(flag(alloc, "all"))?
+        .arg(Arg::new(alloc, "file"))
 }
 
 /// The words of `hobs`. That an image and a base come together is looked at behind the reading.
@@ -138,6 +145,32 @@ fn one_input(alloc: Global, words: &[String]) -> Result<(bool, Option<String>), 
 {
     let matches = one_input_words(alloc)?.try_get_matches_from(words)?;
     Ok((matches.get_flag("hex"), file_of(alloc, &matches, "file")?))
+}
+
+/// The task of `normalise`: with the flag all volumes of an image are meant.
+fn normalise_task(all: bool) -> Task
+    ensures all { all ≡ true → result ≡ Task.NormaliseAll }
+    ensures one { all ≡ false → result ≡ Task.Normalise }
+{
+    if all {
+        Task::NormaliseAll
+    } else {
+        Task::Normalise
+    }
+}
+
+/// A volume, or an image with all its volumes.
+fn normalise(alloc: Global, words: &[String]) -> Result<Plan, WordFault>
+    ensures asked { IfOk result (AsksBy (codes "normalise") (drop 1 (map string_bytes words.now))) }
+
+    // Words that the reader takes are refused for want of memory alone.
+    ensures taken { IfErr result (λ f. takes normalise_app (map string_bytes words.now) ≡ true
+        → f ≡ WordFault.OutOfMemory) }
+{
+    let matches = normalise_words(alloc)?.try_get_matches_from(words)?;
+    let task = normalise_task(matches.get_flag("all"));
+    let file = file_of(alloc, &matches, "file")?;
+    Ok(single(task, (matches.get_flag("hex"), file)))
 }
 
 /// The image that was named, with its base: one without the other is wrong.
@@ -272,12 +305,11 @@ fn single(task: Task, given: (bool, Option<String>)) -> Plan
 pub fn parse_command(alloc: Global, name: &str, words: &[String]) -> Result<Plan, WordFault>
     ensures asked { IfOk result (AsksBy name.now (drop 1 (map string_bytes words.now))) }
 
-    // Of a command with one input, words that the reader takes are refused for want of memory alone.
-    ensures taken { IfErr result (λ f. HasOneInput name.now → takes one_input_app (map string_bytes words.now) ≡ true
-        → f ≡ WordFault.OutOfMemory) }
+    // Of a command with one input and no option but flags, words that the reader takes are refused for want of memory alone.
+    ensures taken { IfErr result (λ f. IsTaken name.now (map string_bytes words.now) → f ≡ WordFault.OutOfMemory) }
 {
     match name {
-        "normalise" => Ok(single(Task::Normalise, one_input(alloc, words)?)),
+        "normalise" => normalise(alloc, words),
         "hobs" => hobs(alloc, words),
         "list" => Ok(single(Task::List, one_input(alloc, words)?)),
         "extract" => extract(alloc, words),

@@ -35,6 +35,9 @@ fn reads_words(rt: HostRuntime) -> Result<(), Fail> {
     let hex_file = "Plan { hex: true, command: Single { task: Normalise, file: Some(\"a.txt\") } }";
     let input = "Plan { hex: false, command: Single { task: Normalise, file: None } }";
     let file = "Plan { hex: false, command: Single { task: Normalise, file: Some(\"a.fv\") } }";
+    let image =
+        "Plan { hex: false, command: Single { task: NormaliseAll, file: Some(\"a.bin\") } }";
+    let image_text = "Plan { hex: true, command: Single { task: NormaliseAll, file: None } }";
     let list_input = "Plan { hex: false, command: Hobs { file: None, image: None } }";
     let list_hex_file = "Plan { hex: true, command: Hobs { file: Some(\"a.hob\"), image: None } }";
     let list_and_image =
@@ -58,6 +61,8 @@ fn reads_words(rt: HostRuntime) -> Result<(), Fail> {
         ("fv normalise --hex", hex_input),
         ("fv normalise a.fv", file),
         ("fv normalise --hex a.txt", hex_file),
+        ("fv normalise --all a.bin", image),
+        ("fv normalise --hex --all", image_text),
         ("fv normalise a.txt --hex", hex_file),
         ("fv hobs", list_input),
         ("fv hobs a.hob --hex", list_hex_file),
@@ -191,6 +196,8 @@ fn are_wrong(alloc: Global, line: &str) -> Result<bool, AllocError> {
 #[test]
 fn refuses_words(rt: HostRuntime) -> Result<(), Fail> {
     let lines = [
+        "fv list --all",
+        "fv normalise --all --all",
         "fv hobs --image a.fv",
         "fv hobs --base 1",
         "fv hobs --base 1 a.hob",

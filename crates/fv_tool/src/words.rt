@@ -58,7 +58,7 @@ pub fn parse_words(alloc: Global, words: &[String]) -> Result<Plan, WordFault>
     // The plan is of the command that is named, and its inputs are text where the flag says so.
     ensures asked { IfOk result (Asks (map string_bytes words.now)) }
 
-    // Of a command with one input, words that the reader takes are refused for want of memory alone.
+    // Of a command with one input and no option but flags, words that the reader takes are refused for want of memory alone.
     ensures taken { IfErr result (λ f. AreTaken (map string_bytes words.now) → f ≡ WordFault.OutOfMemory) }
 {
     if words.len() <= 1 {

@@ -1,154 +1,137 @@
-//! What is answered about volumes that others made.
+//! What runs of the other commands write.
 
-use super::runs::{ends_as, normalise_plan};
-use super::vectors;
-use crate::hex_text::read_hex;
-use crate::status::Status;
-use fv_base::{Fault, FaultKind, Port};
-use fv_tree::VolumeView;
-use std::alloc::Global;
-use std::test::Fail;
-
-fn volume_of(alloc: Global, text: &[u8]) -> Result<Vec<u8>, Fault> {
-    read_hex(alloc, &mut Port::new(text))
+/// Runs that normalise, extract, scan, and list the blocks of a hand-off list.
+pub fn answers() -> &'static str {
+    "\
+    normalise: 00ff -> 2 fault 1 at 2|\n\
+    normalise: '0g -> 2 fault 25 at 0|\n\
+    normalise: empty ff -> 2 fault 8 at 128|\n\
+    normalise: file-without-data ff -> 2 fault 8 at 128|\n\
+    normalise: ext-header-without-room -> 2 fault 22 at 0|\n\
+    normalise: top-misaligned -> 2 fault 23 at 0|\n\
+    normalise: one-without-room -> 2 fault 22 at 0|\n\
+    normalise: one-in-a-group-whose-top-file-is-off -> 2 fault 23 at 0|\n\
+    normalise-all: 00*0 -> 0 =\n\
+    normalise-all: empty 00 -> 0 =empty 00\n\
+    normalise-all: ff*64 filler-zero 00*8 filler-zero -> 0 =ff*64 filler-erased 00*8 filler-erased\n\
+    normalise-all: ff*64 file-state-bit -> 2 fault 10 at 159|\n\
+    normalise-all: ff*64 nested-head-sum-off -> 2 fault 6 at 164|\n\
+    normalise-all: ff*64 ext-header-without-room file-state-bit -> 2 fault 22 at 64|\n\
+    normalise-all: '0g -> 2 fault 25 at 0|\n\
+    extract 0a - 1: two-sections -> 0 =050000195a000000060000190102\n\
+    extract 0a - 7: two-sections -> 0 =050000195a000000060000190102\n\
+    extract 0a 19 1: two-sections -> 0 =5a\n\
+    extract 0a 19 2: two-sections -> 0 =0102\n\
+    extract 0a 19 1: two-sections 00 -> 0 =5a\n\
+    extract 0a 19 3: two-sections -> 1 not found|\n\
+    extract 0a 19 0: two-sections -> 1 not found|\n\
+    extract 0a 14 1: two-sections -> 1 not found|\n\
+    extract 0b - 1: two-sections -> 1 not found|\n\
+    extract 0a - 7: filler-zero -> 0 =5a\n\
+    extract 0a 19 1: filler-zero -> 1 not sectioned|\n\
+    extract 0a - 1: security-core-frames -> 0 =040000190500001958\n\
+    extract 0a 19 2: security-core-frames -> 0 =58\n\
+    extract 0a 19 3: security-core-frames -> 1 not found|\n\
+    extract 0b - 1: states -> 0 =\n\
+    extract 0a - 1: states -> 0 =02*8\n\
+    extract 0a - 1: nested-with-deleted-file -> 0 =84000017 empty\n\
+    extract 0a 17 1: nested-with-deleted-file -> 0 =empty\n\
+    extract 0a - 1: one-without-room -> 2 fault 22 at 0|\n\
+    extract 0a 17 1: one-without-room -> 2 fault 22 at 0|\n\
+    extract 0b 17 1: one-in-a-group-whose-top-file-is-off -> 2 fault 23 at 0|\n\
+    extract 0b - 1: one-without-room -> 1 not found|\n\
+    extract 0a - 1: '0g -> 2 fault 25 at 0|\n\
+    scan: 00*0 -> 0 \n\
+    scan: empty -> 0 volume at 0 length 128|\n\
+    scan: head-sum-off-by-one -> 0 \n\
+    scan: ff*64 empty -> 0 volume at 64 length 128|\n\
+    scan: 30*256 -> 0 \n\
+    scan: 11*8 empty 22*16 H72 33*8 -> 0 volume at 8 length 128|volume at 152 length 72|\n\
+    scan: '0 -> 2 fault 25 at 0|\n\
+    hobs: hand-off-list & empty -> 0 hob 0001 length 56|hob 0009 length 56|hob fffe length 8|hob 0004 length 32|\
+        hob ffff length 8|consumed 160|\n\
+    hobs 16711680: hand-off-list & empty -> 0 hob 0001 length 56|hob 0009 length 56 volume|hob fffe length 8|hob \
+        0004 length 32|hob ffff length 8|consumed 160|\n\
+    hobs 16711681: hand-off-list & empty -> 0 hob 0001 length 56|hob 0009 length 56 outside|hob fffe length 8|hob \
+        0004 length 32|hob ffff length 8|consumed 160|\n\
+    hobs 16711679: hand-off-list & empty -> 0 hob 0001 length 56|hob 0009 length 56 outside|hob fffe length 8|hob \
+        0004 length 32|hob ffff length 8|consumed 160|\n\
+    hobs 16711680: hand-off-list & ff*128 -> 0 hob 0001 length 56|hob 0009 length 56 absent|hob fffe length 8|hob \
+        0004 length 32|hob ffff length 8|consumed 160|\n\
+    hobs 16711680: hand-off-list & 00*0 -> 0 hob 0001 length 56|hob 0009 length 56 outside|hob fffe length 8|hob \
+        0004 length 32|hob ffff length 8|consumed 160|\n\
+    hobs 16711680: hand-off-list & head-sum-off-by-one -> 0 hob 0001 length 56|hob 0009 length 56 absent|hob fffe \
+        length 8|hob 0004 length 32|hob ffff length 8|consumed 160|\n\
+    hobs 0: hand-off-span-wraps & empty -> 0 hob 0001 length 56|hob 0005 length 24 outside|hob ffff length 8|\
+        consumed 88|\n\
+    hobs 8: hand-off-span-wraps & empty -> 0 hob 0001 length 56|hob 0005 length 24 outside|hob ffff length 8|\
+        consumed 88|\n\
+    hobs 16711680: hand-off-span-wraps & empty -> 0 hob 0001 length 56|hob 0005 length 24 outside|hob ffff length \
+        8|consumed 88|\n\
+    hobs 18446744073709551488: hand-off-span-wraps & empty -> 0 hob 0001 length 56|hob 0005 length 24 outside|hob \
+        ffff length 8|consumed 88|\n\
+    hobs 18446744073709551615: hand-off-span-wraps & empty -> 0 hob 0001 length 56|hob 0005 length 24 outside|hob \
+        ffff length 8|consumed 88|\n\
+    hobs: 00*0 & empty -> 2 hob fault 5 at 0|\n\
+    hobs 0: 00*0 & empty -> 2 hob fault 5 at 0|\n\
+    hobs: 01003800000000 & empty -> 2 hob fault 1 at 0|\n\
+    hobs 0: 01003800000000 & empty -> 2 hob fault 1 at 0|\n\
+    hobs: PHIT & empty -> 2 hob fault 5 at 56|\n\
+    hobs 0: PHIT & empty -> 2 hob fault 5 at 56|\n\
+    hobs: ffff080000000000 & empty -> 2 hob fault 3 at 0|\n\
+    hobs 0: ffff080000000000 & empty -> 2 hob fault 3 at 0|\n\
+    hobs: '0 & empty -> 2 fault 25 at 0|\n\
+    hobs 0: '0 & empty -> 2 fault 25 at 0|\n\
+    hobs: 'zz & empty -> 2 fault 25 at 0|\n\
+    hobs 0: 'zz & empty -> 2 fault 25 at 0|\n\
+    hobs: 6162636465666768 & empty -> 2 hob fault 2 at 0|\n\
+    hobs 0: 6162636465666768 & empty -> 2 hob fault 2 at 0|\n\
+    hobs: 010040000000000009 00*10 10 00*7 08 00*7 0f 00*7 090000000098000008 00*12 & empty -> 2 hob fault 4 at 0|\n\
+    hobs 0: 010040000000000009 00*10 10 00*7 08 00*7 0f 00*7 090000000098000008 00*12 & empty -> 2 hob fault 4 at \
+        0|\n\
+    hobs: PHIT 09000c00 00*6 ff000000000080 00*7 0e*16 0a*16 feff0800000000000400200000000000 0c*16 \
+        0102030405060708ffff080000000000aabbcc & empty -> 2 hob fault 2 at 56|\n\
+    hobs 0: PHIT 09000c00 00*6 ff000000000080 00*7 0e*16 0a*16 feff0800000000000400200000000000 0c*16 \
+        0102030405060708ffff080000000000aabbcc & empty -> 2 hob fault 2 at 56|\n\
+    hobs 0: PHIT & '0 -> 2 fault 25 at 0|\n\
+    "
 }
 
-/// Whether the bytes are a volume that is its own image.
-fn is_own_image(alloc: Global, volume: &[u8]) -> bool {
-    match fv_canon::normalise(alloc, volume) {
-        Ok(image) => image.as_slice() == volume,
-        Err(_) => false,
-    }
-}
-
-/// The fault that refuses an input.
-fn fault_of(alloc: Global, input: &[u8]) -> Option<Fault> {
-    fv_canon::normalise(alloc, input).err()
-}
-
-/// How many bytes the volume has that the bytes begin with.
-fn length_of(alloc: Global, bytes: &[u8]) -> Result<u64, Fault> {
-    let (_view, length) = fv_tree::read_volume(alloc, bytes)?;
-    Ok(length)
-}
-
-#[test]
-fn an_empty_volume_is_its_own_image(rt: HostRuntime) -> Result<(), Fail> {
-    let volume = volume_of(rt.alloc(), vectors::EMPTY)?;
-    assert!(rt; volume.len() == 128);
-    assert!(rt; is_own_image(rt.alloc(), &volume));
-    Ok(())
-}
-
-#[test]
-fn each_front_of_a_volume_is_cut_short(rt: HostRuntime) -> Result<(), Fail> {
-    let volume = volume_of(rt.alloc(), vectors::EMPTY)?;
-    for count in 0..volume.len() {
-        let fault = Fault::outer(FaultKind::Truncated, count as u64);
-        let front = &volume[..count];
-        assert!(rt; length_of(rt.alloc(), front) == Err(fault), "{count}");
-        assert!(rt; fault_of(rt.alloc(), front) == Some(fault), "{count}");
-    }
-    Ok(())
-}
-
-#[test]
-fn a_volume_may_end_before_its_bytes(rt: HostRuntime) -> Result<(), Fail> {
-    let bytes = volume_of(rt.alloc(), vectors::ONE_BYTE_BEHIND)?;
-    assert!(rt; bytes.len() == 129);
-    assert!(rt; length_of(rt.alloc(), &bytes) == Ok(128));
-    Ok(())
-}
-
-/// Whether the fault has the number and stands there, outside of all sections.
-fn is_at(fault: Option<Fault>, number: u8, offset: u64) -> bool {
-    match fault {
-        Some(fault) => {
-            let place = fault.place;
-            fault.kind.number() == number && place.offset == offset && place.depth == 0
-        }
-        None => false,
-    }
-}
-
-/// The number and the offset that the line of a fault tells.
-fn told_by(line: &str) -> Option<(u8, u64)> {
-    let (number, offset) = line.strip_prefix("fault ")?.split_once(" at ")?;
-    Some((number.parse().ok()?, offset.parse().ok()?))
-}
-
-/// Whether the volume of a case is refused as the line above its text tells, and a run writes that line.
-fn is_refused(alloc: Global, case: &str) -> Option<bool> {
-    let (head, text) = case.split_once('\n')?;
-    let (_, line) = head.split_once(": ")?;
-    let (number, offset) = told_by(line)?;
-    let volume = volume_of(alloc, text.as_bytes()).ok()?;
-    let written = format!(in alloc; "{line}\n").ok()?;
-    let inputs: (&[u8], &[u8]) = (text.as_bytes(), b"");
-    let plan = normalise_plan(true);
-    let is_told = ends_as(alloc, &plan, inputs, Status::Refused, written.as_bytes());
-    Some(is_told && is_at(fault_of(alloc, &volume), number, offset))
-}
-
-#[test]
-fn refuses_volumes(rt: HostRuntime) {
-    for case in vectors::refused().split("--\n") {
-        assert!(rt; is_refused(rt.alloc(), case) == Some(true), "{case}");
-    }
-}
-
-#[test]
-fn erased_bytes_are_those_of_the_attributes(rt: HostRuntime) -> Result<(), Fail> {
-    let volume = volume_of(rt.alloc(), vectors::EMPTY_OF_ZEROS)?;
-    assert!(rt; is_own_image(rt.alloc(), &volume));
-    let other = volume_of(rt.alloc(), vectors::EMPTY_OF_ZEROS_BUT_FULL)?;
-    let fault = Fault::outer(FaultKind::FileState, 95);
-    assert!(rt; fault_of(rt.alloc(), &other) == Some(fault));
-    Ok(())
-}
-
-/// Whether the image of a case is the empty volume, and a run writes that.
-fn is_emptied(alloc: Global, case: &str) -> Option<bool> {
-    let (_, text) = case.split_once('\n')?;
-    let volume = volume_of(alloc, text.as_bytes()).ok()?;
-    let empty = volume_of(alloc, vectors::EMPTY).ok()?;
-    let image = fv_canon::normalise(alloc, &volume).ok()?;
-    let inputs: (&[u8], &[u8]) = (text.as_bytes(), b"");
-    let plan = normalise_plan(true);
-    let is_told = ends_as(alloc, &plan, inputs, Status::Done, vectors::EMPTY);
-    Some(is_told && image.as_slice() == empty.as_slice())
-}
-
-#[test]
-fn pads_and_deleted_files_are_left_out(rt: HostRuntime) {
-    for case in vectors::emptied().split("--\n") {
-        assert!(rt; is_emptied(rt.alloc(), case) == Some(true), "{case}");
-    }
-}
-
-/// Whether the image of the view is these bytes.
-fn has_image(alloc: Global, view: &VolumeView<'_>, image: &[u8]) -> bool {
-    match fv_canon::canonical(alloc, view) {
-        Ok(bytes) => bytes.as_slice() == image,
-        Err(_) => false,
-    }
-}
-
-/// Whether the image of the view is written as these bytes.
-fn writes_image(alloc: Global, view: &VolumeView<'_>, image: &[u8]) -> Result<bool, Fault> {
-    let layout = fv_canon::layout(alloc, view)?;
-    let mut writer = Port::new(Vec::<u8>::new(alloc));
-    fv_canon::write_canonical(view, &layout, &mut writer)?;
-    Ok(layout.start(0).is_none() && writer.into_inner().as_slice() == image)
-}
-
-#[test]
-fn a_view_has_its_image(rt: HostRuntime) -> Result<(), Fail> {
-    let volume = volume_of(rt.alloc(), vectors::EMPTY)?;
-    let (view, length) = fv_tree::read_volume(rt.alloc(), &volume)?;
-    assert!(rt; length == 128);
-    assert!(rt; view.head().length() == 128);
-    assert!(rt; has_image(rt.alloc(), &view, &volume));
-    assert!(rt; writes_image(rt.alloc(), &view, &volume)?);
-    Ok(())
+/// Runs of each command whose readers and writers are to fail after each byte.
+pub fn small() -> &'static str {
+    "\
+    normalise: two-sections -> 0 =two-sections-image\n\
+    normalise: empty -> 0 =empty\n\
+    normalise: ext-header-image -> 0 =ext-header-image\n\
+    normalise: misaligned-file-image -> 0 =misaligned-file-image\n\
+    normalise: nested-image -> 0 =nested-image\n\
+    normalise-all: ff*8 two-sections 00 -> 0 =ff*8 two-sections-image 00\n\
+    normalise: '0g -> 2 fault 25 at 0|\n\
+    list: two-sections -> 0 volume ffs2 length 128 files 1|  file 0 0a0a0a0a-0a0a-0a0a-0a0a-0a0a0a0a0a0a type 02 \
+        attributes 40 data 14|    section 0 type 19 short body 1|    section 1 type 19 short body 2|\n\
+    extract 0a - 1: two-sections -> 0 =050000195a000000060000190102\n\
+    extract 0a 19 3: two-sections -> 1 not found|\n\
+    extract 0a 19 1: filler-zero -> 1 not sectioned|\n\
+    extract 0a - 1: security-core-frames -> 0 =040000190500001958\n\
+    extract 0a - 1: H128 0a*16 27aa0100380000f8 4142434445464748494a4b4c4d4e4f505152535455565758595a616263646566 \
+        -> 0 =4142434445464748494a4b4c4d4e4f505152535455565758595a616263646566\n\
+    extract 0a - 1: H200 0a*16 e5aa01007a0000f8 4142434445464748494a4b4c4d4e4f505152535455565758595a616263646566 \
+        4142434445464748494a4b4c4d4e4f505152535455565758595a616263646566 \
+        4142434445464748494a4b4c4d4e4f505152535455565758595a616263646566 0abc ff*6 -> 0 \
+        =4142434445464748494a4b4c4d4e4f505152535455565758595a616263646566 \
+        4142434445464748494a4b4c4d4e4f505152535455565758595a616263646566 \
+        4142434445464748494a4b4c4d4e4f505152535455565758595a616263646566 0abc\n\
+    scan: 11*8 empty 22*16 H72 33*8 -> 0 volume at 8 length 128|volume at 152 length 72|\n\
+    check: H160 0a*16 3baa07001e0000f8060000130308 ff*18 00aaf000200000f801 ff*31 -> 1 note pad at 104 holds 1 \
+        bytes|note depex in 0a0a0a0a-0a0a-0a0a-0a0a-0a0a0a0a0a0a fault 3 at 0|not canonical|\n\
+    compare: file-sum-zero-data & file-sum-zero-data -> 0 same|\n\
+    compare: file-sum-zero-data & file-without-data -> 1 different at file 0 attributes|\n\
+    compare: '0 & 00*0 -> 2 first fault 25 at 0|\n\
+    compare: empty & head-sum-off-by-one -> 2 second fault 6 at 0|\n\
+    hobs: hand-off-list & 00*0 -> 0 hob 0001 length 56|hob 0009 length 56|hob fffe length 8|hob 0004 length 32|hob \
+        ffff length 8|consumed 160|\n\
+    hobs 16711680: hand-off-list & empty -> 0 hob 0001 length 56|hob 0009 length 56 volume|hob fffe length 8|hob \
+        0004 length 32|hob ffff length 8|consumed 160|\n\
+    hobs: PHIT & 00*0 -> 2 hob fault 5 at 56|\n\
+    "
 }

@@ -1,80 +1,73 @@
 //! Binary runs over readers and writers that stop early.
 
-use super::fakes::{EndlessReader, FakeReader, FakeWriter};
-use super::vectors;
-use crate::hex_text::read_hex;
+use super::fakes::{FakeReader, FakeWriter};
+use super::images::IMAGES;
+use super::spelling::bytes_of;
 use fv_base::{Fault, FaultKind, Port};
 use fv_canon::run_normalise;
 use std::alloc::Global;
-use std::io::Read;
-use std::test::Fail;
 
-fn empty_volume(alloc: Global) -> Result<Vec<u8>, Fault> {
-    read_hex(alloc, &mut Port::new(vectors::EMPTY))
-}
-
-/// Whether a run answers so, and writes the bytes.
-fn answers<R: Read + Drop>(
+/// Whether a run answers so, and writes the bytes and then no more.
+fn answers(
     alloc: Global,
-    reader: R,
+    reader: FakeReader<'_>,
+    writer: FakeWriter,
     outcome: Result<(), Fault>,
     wanted: &[u8],
 ) -> bool {
     let mut reader = Port::new(reader);
-    let mut writer = Port::new(Vec::<u8>::new(alloc));
-    let answered = run_normalise(alloc, &mut reader, &mut writer);
-    answered == outcome && writer.into_inner().as_slice() == wanted
-}
-
-#[test]
-fn reads_in_small_pieces(rt: HostRuntime) -> Result<(), Fail> {
-    let volume = empty_volume(rt.alloc())?;
-    for (step, is_interrupted) in [(1, false), (1, true), (50, true), (4096, true)] {
-        let reader = FakeReader::new(&volume, step, is_interrupted);
-        assert!(rt; answers(rt.alloc(), reader, Ok(()), &volume), "{step}");
-    }
-    Ok(())
-}
-
-#[test]
-fn nothing_is_written_of_a_broken_input(rt: HostRuntime) -> Result<(), Fail> {
-    let volume = empty_volume(rt.alloc())?;
-    for count in 0..=volume.len() {
-        for step in [1, 4096] {
-            let reader = FakeReader::failing(&volume, step, count);
-            let fault = Fault::outer(FaultKind::ReadFault, count as u64);
-            assert!(rt; answers(rt.alloc(), reader, Err(fault), b""), "{count}");
-        }
-    }
-    Ok(())
-}
-
-/// Whether a run fails where its writer does, and writes these bytes.
-fn stops_at(alloc: Global, volume: &[u8], writer: FakeWriter, wanted: &[u8]) -> bool {
-    let fault = Fault::outer(FaultKind::WriteFault, wanted.len() as u64);
-    let mut reader = Port::new(volume);
     let mut writer = Port::new(writer);
     let answered = run_normalise(alloc, &mut reader, &mut writer);
-    answered == Err(fault) && writer.into_inner().took(wanted)
+    answered == outcome && writer.into_inner().took(wanted)
+}
+
+/// Whether nothing is written where the reader fails behind so many bytes.
+fn stops_reading(alloc: Global, image: &[u8], step: usize, count: usize) -> bool {
+    let reader = FakeReader::failing(image, step, count);
+    let writer = FakeWriter::new(alloc, step, usize::MAX, true);
+    let fault = Fault::outer(FaultKind::ReadFault, count as u64);
+    answers(alloc, reader, writer, Err(fault), b"")
+}
+
+/// Whether as many bytes are written as the writer has room for, which fails then or takes no byte.
+fn stops_writing(alloc: Global, image: &[u8], step: usize, room: usize) -> bool {
+    let fault = Fault::outer(FaultKind::WriteFault, room as u64);
+    let wanted = &image[..room.min(image.len())];
+    [false, true].iter().all(|is_broken| {
+        let reader = FakeReader::new(image, step, false);
+        let writer = FakeWriter::new(alloc, step, room, *is_broken);
+        answers(alloc, reader, writer, Err(fault), wanted)
+    })
+}
+
+/// Whether the image is written, and just a front of it where the reader or the writer stops.
+fn stops_in_time(alloc: Global, name: &str, step: usize) -> Option<bool> {
+    let image = bytes_of(alloc, name)?;
+    for is_interrupted in [false, true] {
+        let reader = FakeReader::new(&image, step, is_interrupted);
+        let writer = FakeWriter::new(alloc, step, usize::MAX, true);
+        if !answers(alloc, reader, writer, Ok(()), &image) {
+            return Some(false);
+        }
+    }
+    for count in 0..image.len() {
+        if !stops_reading(alloc, &image, step, count)
+            || !stops_writing(alloc, &image, step, count)
+        {
+            return Some(false);
+        }
+    }
+    Some(stops_reading(alloc, &image, step, image.len()))
 }
 
 #[test]
-fn writes_until_the_writer_stops(rt: HostRuntime) -> Result<(), Fail> {
-    let volume = empty_volume(rt.alloc())?;
-    for room in 0..volume.len() {
-        for (step, is_broken) in [(1, true), (1, false), (4096, true), (4096, false)] {
-            let writer = FakeWriter::new(rt.alloc(), step, room, is_broken);
+fn a_run_stops_with_its_reader_or_writer(rt: HostRuntime) {
+    for name in IMAGES {
+        for step in [1, 50, 4096] {
             assert!(rt;
-                stops_at(rt.alloc(), &volume, writer, &volume[..room]),
-                "{room}"
+                stops_in_time(rt.alloc(), name, step) == Some(true),
+                "{name} {step}"
             );
         }
     }
-    Ok(())
-}
-
-#[test]
-fn an_input_without_end_is_too_long(rt: HostRuntime) {
-    let fault = Fault::outer(FaultKind::Length, 268_435_456);
-    assert!(rt; answers(rt.alloc(), EndlessReader, Err(fault), b""));
 }

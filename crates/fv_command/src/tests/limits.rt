@@ -1,8 +1,61 @@
-//! Text that does not end.
+//! Inputs that do not end.
 
-use super::fakes::{InterruptedReader, SpaceReader};
+use super::fakes::{EndlessReader, FakeReader, FakeWriter, InterruptedReader, SpaceReader};
+use super::runs::{ends_as, plan_of, shown};
+use super::volumes::row_of;
 use crate::hex_text::read_hex;
+use crate::source::Source;
 use fv_base::{Fault, FaultKind, Port};
+use std::alloc::Global;
+
+/// An input, or one that does not end.
+type Input<'a> = Source<FakeReader<'a>, EndlessReader>;
+
+/// Commands, which of their inputs does not end, and what is written.
+fn endless() -> &'static str {
+    "\
+    normalise: first -> fault 8 at 268435456\n\
+    list: first -> fault 8 at 268435456\n\
+    extract 0a - 1: first -> fault 8 at 268435456\n\
+    check: first -> fault 8 at 268435456\n\
+    scan: first -> fault 8 at 268435456\n\
+    compare: first -> first fault 8 at 268435456\n\
+    compare: second -> second fault 8 at 268435456\n\
+    hobs: first -> fault 8 at 268435456\n\
+    hobs 0: first -> fault 8 at 268435456\n\
+    hobs 0: second -> fault 8 at 268435456\n\
+    "
+}
+
+/// Whether a command is refused as its line tells. Where the second of its inputs does not end, the first is the empty
+/// volume.
+fn is_too_long(alloc: Global, hex: bool, line: &str) -> Option<bool> {
+    let (command, side, fault) = row_of(line)?;
+    let plan = plan_of(alloc, hex, command)?;
+    let volume = shown(alloc, hex, "empty")?;
+    let first = if side == "second" {
+        Input::Standard(FakeReader::new(&volume, 64, false))
+    } else {
+        Input::File(EndlessReader)
+    };
+    let told = format!(in alloc; "{}\n", fault?).ok()?;
+    let inputs = (first, Input::File(EndlessReader));
+    let writer = FakeWriter::new(alloc, 7, usize::MAX, true);
+    Some(ends_as(alloc, &plan, inputs, writer, (2, told.as_bytes())))
+}
+
+// Of hexadecimal text, text that is wrong too.
+#[test]
+fn inputs_without_end_are_too_long(rt: HostRuntime) {
+    for line in endless().lines() {
+        for hex in [false, true] {
+            assert!(rt;
+                is_too_long(rt.alloc(), hex, line) == Some(true),
+                "{line} {hex}"
+            );
+        }
+    }
+}
 
 // The limit is 1,073,741,824 bytes of text, and a read asks for 65,536.
 #[test]

@@ -1,69 +1,334 @@
-//! Runs of a plan over readers and a writer.
+//! Runs of a plan over readers and a writer, as lines of a table tell them.
+//!
+//! A line is a command, a colon, its inputs, with an ampersand before the second, and behind an arrow the status and
+//! what is written. An input is words that spell it, or text behind an apostrophe, which is read as hexadecimal text
+//! alone. What is written is lines that end with a bar, or, behind an equals sign, words that spell bytes. Behind
+//! `extract` stand the byte that the file's name is made of, the type of the section or a hyphen, and which one; behind
+//! `hobs` the address of an image, if there is one.
 
-use super::fakes::FakeWriter;
+use super::answers::{answers, small};
+use super::checked::checked;
+use super::compared::compared;
+use super::fakes::{FakeReader, FakeWriter};
+use super::listed::listed;
+use super::spelling::{bytes_of, lines_of};
+use super::volumes::{refused, row_of};
 use crate::commands::run_plan;
-use crate::plan::{Command, Plan, Task};
-use crate::status::Status;
-use fv_base::Port;
+use crate::extracting::Part;
+use crate::plan::{Command, ImageFile, Plan, Task};
+use crate::source::Source;
+use fv_base::{Guid, Port};
 use std::alloc::Global;
+use std::io::Read;
 
-/// To do a task with standard input.
-pub fn task_plan(hex: bool, task: Task) -> Plan {
-    Plan {
-        hex,
-        command: Command::Single { task, file: None },
+/// An input that can be read, or a file that is not there.
+type Input<'a> = Source<FakeReader<'a>, FakeReader<'a>>;
+
+/// A run, and how it ends.
+#[derive(Drop)]
+struct Run {
+    plan: Plan,
+    first: Vec<u8>,
+    second: Vec<u8>,
+    status: u8,
+    written: Vec<u8>,
+}
+
+/// The part that the words behind `extract` name.
+fn part_of(words: &str) -> Option<Part> {
+    let (name, rest) = words.split_once(' ')?;
+    let (section, instance) = rest.split_once(' ')?;
+    let name = Guid::from_bytes([u8::from_str_radix(name, 16).ok()?; 16]);
+    Some(Part {
+        name,
+        section: u8::from_str_radix(section, 16).ok(),
+        instance: instance.parse().ok()?,
+    })
+}
+
+/// The image at the address that stands behind `hobs`, if one does.
+fn image_of(alloc: Global, words: &str) -> Option<ImageFile> {
+    let base = words.parse().ok()?;
+    let path = String::new(alloc);
+    Some(ImageFile { path, base })
+}
+
+/// The task over one input.
+fn task_of(name: &str, words: &str) -> Option<Task> {
+    match name.as_bytes() {
+        b"normalise" => Some(Task::Normalise),
+        b"normalise-all" => Some(Task::NormaliseAll),
+        b"list" => Some(Task::List),
+        b"check" => Some(Task::Check),
+        b"scan" => Some(Task::Scan),
+        b"extract" => part_of(words).map(Task::Extract),
+        _ => None,
     }
 }
 
-/// To normalise standard input.
-pub fn normalise_plan(hex: bool) -> Plan {
-    task_plan(hex, Task::Normalise)
+/// The plan that a command is.
+pub fn plan_of(alloc: Global, hex: bool, line: &str) -> Option<Plan> {
+    let (name, words) = line.split_once(' ').unwrap_or((line, ""));
+    let command = match name.as_bytes() {
+        b"compare" => Command::Compare {
+            first: String::new(alloc),
+            second: String::new(alloc),
+        },
+        b"hobs" => Command::Hobs {
+            file: None,
+            image: image_of(alloc, words),
+        },
+        _ => Command::Single {
+            task: task_of(name, words)?,
+            file: None,
+        },
+    };
+    Some(Plan { hex, command })
 }
 
-/// Whether a run over two inputs ends so, and writes the bytes.
-pub fn ends_as(
-    alloc: Global,
-    plan: &Plan,
-    inputs: (&[u8], &[u8]),
-    status: Status,
-    wanted: &[u8],
-) -> bool {
-    let mut first = Port::new(inputs.0);
-    let mut second = Port::new(inputs.1);
-    let mut writer = Port::new(Vec::<u8>::new(alloc));
-    let ended = run_plan(alloc, plan, &mut first, &mut second, &mut writer);
-    ended == status && writer.into_inner().as_slice() == wanted
+/// The bytes that are read or written where the words spell some, or their digits.
+pub fn shown(alloc: Global, hex: bool, words: &str) -> Option<Vec<u8>> {
+    let bytes = bytes_of(alloc, words)?;
+    if hex {
+        lines_of(alloc, &bytes)
+    } else {
+        Some(bytes)
+    }
 }
 
-/// Whether a run is refused and writes just these bytes, where its writer has room for no more.
-fn stops_at(
+/// The bytes of an input.
+fn input_of(alloc: Global, hex: bool, text: &str) -> Option<Vec<u8>> {
+    match text.strip_prefix('\'') {
+        Some(text) => Vec::from_slice(alloc, text.as_bytes()).ok(),
+        None => shown(alloc, hex, text),
+    }
+}
+
+/// The bytes that are written.
+fn output_of(alloc: Global, hex: bool, text: &str) -> Option<Vec<u8>> {
+    if let Some(words) = text.strip_prefix('=') {
+        return shown(alloc, hex, words);
+    }
+    let mut bytes = Vec::from_slice(alloc, text.as_bytes()).ok()?;
+    for byte in bytes.as_mut_slice() {
+        if *byte == b'|' {
+            *byte = b'\n';
+        }
+    }
+    Some(bytes)
+}
+
+/// The run that a line tells, over bytes or hexadecimal text.
+fn run_of(alloc: Global, hex: bool, line: &str) -> Option<Run> {
+    let (command, rest) = line.split_once(": ")?;
+    let (inputs, told) = rest.split_once(" -> ")?;
+    let (first, second) = inputs.split_once(" & ").unwrap_or((inputs, ""));
+    let (status, text) = told.split_once(' ')?;
+    Some(Run {
+        plan: plan_of(alloc, hex, command)?,
+        first: input_of(alloc, hex, first)?,
+        second: input_of(alloc, hex, second)?,
+        status: status.parse().ok()?,
+        written: output_of(alloc, hex, text)?,
+    })
+}
+
+/// Whether a run of the plan ends with the status, and writes these bytes and then no more.
+pub fn ends_as<First: Read + Drop, Second: Read + Drop>(
     alloc: Global,
     plan: &Plan,
-    inputs: (&[u8], &[u8]),
+    inputs: (First, Second),
     writer: FakeWriter,
-    wanted: &[u8],
+    told: (u8, &[u8]),
 ) -> bool {
     let mut first = Port::new(inputs.0);
     let mut second = Port::new(inputs.1);
     let mut writer = Port::new(writer);
-    let ended = run_plan(alloc, plan, &mut first, &mut second, &mut writer);
-    ended == Status::Refused && writer.into_inner().took(wanted)
+    let status = run_plan(alloc, plan, &mut first, &mut second, &mut writer);
+    status.code() == told.0 && writer.into_inner().took(told.1)
 }
 
-/// Whether a run stops at each byte of its output, where its writer has room for no more.
-pub fn stops_at_each_byte(
-    alloc: Global,
-    plan: &Plan,
-    inputs: (&[u8], &[u8]),
-    output: &[u8],
-) -> bool {
-    for room in 0..output.len() {
-        for (step, is_broken) in [(7, false), (7, true), (1000, true)] {
-            let writer = FakeWriter::new(alloc, step, room, is_broken);
-            if !stops_at(alloc, plan, inputs, writer, &output[..room]) {
-                return false;
-            }
+/// Whether the run ends so, where its readers give so many bytes at once.
+fn ends_by_steps(alloc: Global, run: &Run, step: usize) -> bool {
+    let first = Input::File(FakeReader::new(&run.first, step, true));
+    let second = Input::Standard(FakeReader::new(&run.second, step, false));
+    let writer = FakeWriter::new(alloc, step, usize::MAX, true);
+    ends_as(
+        alloc,
+        &run.plan,
+        (first, second),
+        writer,
+        (run.status, &run.written),
+    )
+}
+
+/// Whether the run is refused where the writer has no room for more, and writes what there is room for.
+fn stops_its_output(alloc: Global, run: &Run, room: usize) -> bool {
+    for (step, is_broken) in [(7, false), (7, true), (1000, true)] {
+        let first = Input::Standard(FakeReader::new(&run.first, 4096, false));
+        let second = Input::File(FakeReader::new(&run.second, 4096, false));
+        let writer = FakeWriter::new(alloc, step, room, is_broken);
+        let told = (2, &run.written[..room.min(run.written.len())]);
+        if !ends_as(alloc, &run.plan, (first, second), writer, told) {
+            return false;
         }
     }
     true
+}
+
+/// The line of a reader that fails behind so many bytes.
+fn line_at(alloc: Global, run: &Run, side: &str, count: usize) -> Option<String> {
+    let side = match run.plan.command {
+        Command::Compare { .. } => side,
+        _ => "",
+    };
+    format!(in alloc; "{side}fault 25 at {count}\n").ok()
+}
+
+/// Whether the run is refused where the reader of its first input fails there. What stands behind is not read.
+fn stops_at_first(alloc: Global, run: &Run, step: usize, count: usize) -> Option<bool> {
+    let line = line_at(alloc, run, "first ", count)?;
+    let first = Input::File(FakeReader::failing(&run.first, step, count));
+    let writer = FakeWriter::new(alloc, 7, usize::MAX, true);
+    let inputs = (first, Input::Missing);
+    Some(ends_as(alloc, &run.plan, inputs, writer, (2, line.as_bytes())))
+}
+
+/// Whether the run is refused where the reader of its second input fails there.
+fn stops_at_second(alloc: Global, run: &Run, step: usize, count: usize) -> Option<bool> {
+    let line = line_at(alloc, run, "second ", count)?;
+    let first = Input::Standard(FakeReader::new(&run.first, 4096, false));
+    let second = Input::File(FakeReader::failing(&run.second, step, count));
+    let writer = FakeWriter::new(alloc, 7, usize::MAX, true);
+    Some(ends_as(
+        alloc,
+        &run.plan,
+        (first, second),
+        writer,
+        (2, line.as_bytes()),
+    ))
+}
+
+/// Whether a line tells how its run ends, over bytes and over hexadecimal text.
+pub fn is_told(alloc: Global, line: &str) -> Option<bool> {
+    for hex in [false, true] {
+        if hex || line.split_once('\'').is_none() {
+            let run = run_of(alloc, hex, line)?;
+            if !ends_by_steps(alloc, &run, 50) {
+                return Some(false);
+            }
+        }
+    }
+    Some(true)
+}
+
+/// Whether the run stops at each byte of its inputs and of its output, where a reader or the writer does.
+fn stops(alloc: Global, run: &Run) -> Option<bool> {
+    for room in 0..run.written.len() {
+        if !stops_its_output(alloc, run, room) {
+            return Some(false);
+        }
+    }
+    for step in [1, 3, 65_536] {
+        for count in 0..=run.first.len() {
+            if !stops_at_first(alloc, run, step, count)? {
+                return Some(false);
+            }
+        }
+        for count in 0..=run.second.len() {
+            if !run.second.is_empty() && !stops_at_second(alloc, run, step, count)? {
+                return Some(false);
+            }
+        }
+    }
+    Some(true)
+}
+
+/// Whether the run of a line ends as it tells, however few bytes are read and written at once, and stops at each byte.
+fn stops_in_time(alloc: Global, line: &str) -> Option<bool> {
+    for hex in [false, true] {
+        if hex || line.split_once('\'').is_none() {
+            let run = run_of(alloc, hex, line)?;
+            for step in [1, 3, 65_536] {
+                if !ends_by_steps(alloc, &run, step) {
+                    return Some(false);
+                }
+            }
+            if !stops(alloc, &run)? {
+                return Some(false);
+            }
+        }
+    }
+    Some(true)
+}
+
+#[test]
+fn runs_end_as_they_should(rt: HostRuntime) {
+    for table in [answers(), listed(), checked(), compared()] {
+        for line in table.lines() {
+            assert!(rt; is_told(rt.alloc(), line) == Some(true), "{line}");
+        }
+    }
+}
+
+#[test]
+fn runs_stop_with_their_readers_and_writers(rt: HostRuntime) {
+    for line in small().lines() {
+        assert!(rt; stops_in_time(rt.alloc(), line) == Some(true), "{line}");
+    }
+}
+
+/// Runs of the commands that read a volume, over one that is refused.
+fn refusing() -> &'static str {
+    "\
+    normalise: VOLUME -> 2 FAULT|\n\
+    list: VOLUME -> 2 FAULT|\n\
+    extract 0a - 1: VOLUME -> 2 FAULT|\n\
+    extract 0a 19 1: VOLUME -> 2 FAULT|\n\
+    check: VOLUME -> 2 FAULT|\n\
+    compare: VOLUME -> 2 first FAULT|\n\
+    compare: empty & VOLUME -> 2 second FAULT|\n\
+    "
+}
+
+/// The line with the volume and the fault put in.
+fn filled(alloc: Global, line: &str, words: &str, fault: &str) -> Option<String> {
+    let (front, rest) = line.split_once("VOLUME")?;
+    let (middle, _) = rest.split_once("FAULT")?;
+    format!(in alloc; "{front}{words}{middle}{fault}|").ok()
+}
+
+/// Whether each command that reads a volume refuses the one that the words spell, and tells the fault.
+fn is_refused(alloc: Global, words: &str, fault: &str) -> Option<bool> {
+    for line in refusing().lines() {
+        let line = filled(alloc, line, words, fault)?;
+        if !is_told(alloc, line.as_str())? {
+            return Some(false);
+        }
+    }
+    Some(true)
+}
+
+/// Whether the volume of a line is refused as it tells.
+fn is_row_refused(alloc: Global, line: &str) -> Option<bool> {
+    let (name, _, fault) = row_of(line)?;
+    is_refused(alloc, name, fault?)
+}
+
+/// Whether the first bytes of a volume, so many, are refused at their end.
+fn is_cut_short(alloc: Global, count: usize) -> Option<bool> {
+    let volume = bytes_of(alloc, "empty")?;
+    let words = hex::encode(alloc, volume.get(..count)?).ok()?;
+    let fault = format!(in alloc; "fault 1 at {count}").ok()?;
+    is_refused(alloc, words.as_str(), fault.as_str())
+}
+
+#[test]
+fn volumes_are_refused_by_each_command(rt: HostRuntime) {
+    for line in refused().lines() {
+        assert!(rt; is_row_refused(rt.alloc(), line) == Some(true), "{line}");
+    }
+    for count in 0..128 {
+        assert!(rt; is_cut_short(rt.alloc(), count) == Some(true), "{count}");
+    }
 }

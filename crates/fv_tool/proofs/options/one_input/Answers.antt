@@ -1,4 +1,4 @@
-use Rattle.std.proofs.Common.{◌≡◌, ◌∙◌, ap, codes, map, refl, true}
+use Rattle.std.proofs.Common.{[], ◌≡◌, ◌∙◌, ap, codes, map, refl, true}
 use Rattle.clap.specs.Words.{App, takes}
 use Rattle.fv_tool.proofs.RefusalLemmas.{handed_on}
 use Rattle.std.specs.String.{string_bytes}
@@ -13,7 +13,7 @@ returns-clause-hex c =
     let found = c.in_ok-matches.ensures.matches in
     let app = c.in_ok-one_input_words.ensures in
     let flag = c.get_flag.ensures in
-    flag_answer one_input_app refl refl refl refl refl _ app words m found c.get_flag.result flag.value flag.other
+    flag_answer (codes "hex") refl refl refl one_input_app [] _ refl refl refl refl refl refl _ app words m found c.get_flag.result flag.value flag.other
 
 pub returns-clause-file : goal.returns-clause-file
 returns-clause-file c =

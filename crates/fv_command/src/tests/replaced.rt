@@ -1,0 +1,117 @@
+//! Volumes with one byte replaced, and volumes of few and of many files.
+
+use super::spelling::bytes_of;
+use fv_base::{Port, sum16};
+use fv_canon::{is_canonical, normalise, run_normalise};
+use fv_tree::{first_difference, read_volume};
+use std::alloc::Global;
+
+/// Whether the image of some bytes is its own image, and a volume of their meaning.
+fn is_kept(alloc: Global, bytes: &[u8], image: &[u8]) -> Option<bool> {
+    let again = normalise(alloc, image).ok()?;
+    let (volume, _) = read_volume(alloc, bytes).ok()?;
+    let (other, _) = read_volume(alloc, image).ok()?;
+    let difference = first_difference(alloc, &volume, &other).ok()?;
+    Some(again.as_slice() == image && difference.is_none())
+}
+
+/// Whether some bytes have no image, or one that is kept.
+fn is_sound(alloc: Global, bytes: &[u8]) -> bool {
+    match normalise(alloc, bytes) {
+        Ok(image) => is_kept(alloc, bytes, image.as_slice()) == Some(true),
+        Err(_) => true,
+    }
+}
+
+/// The offset of the first byte of a volume that can be replaced so that its image is not kept.
+fn first_unsound(alloc: Global, name: &str) -> Option<usize> {
+    let volume = bytes_of(alloc, name)?;
+    for at in 0..volume.len() {
+        for change in 1..=255u8 {
+            let mut bytes = Vec::new(alloc);
+            bytes.extend_from_slice(&volume).ok()?;
+            bytes[at] ^= change;
+            if !is_sound(alloc, &bytes) {
+                return Some(at);
+            }
+        }
+    }
+    None
+}
+
+#[test]
+fn whatever_has_an_image_keeps_it(rt: HostRuntime) {
+    let names = [
+        "empty",
+        "file-sum-zero-data",
+        "ext-header-bare",
+        "misaligned-file",
+        "two-sections",
+        "nested-with-deleted-file",
+        "security-core-frames",
+    ];
+    for name in names {
+        let alloc = rt.alloc();
+        assert!(rt; bytes_of(alloc, name).is_some(), "{name}");
+        assert!(rt; first_unsound(alloc, name).is_none(), "{name}");
+    }
+}
+
+/// The head of a volume of this length, with this checksum.
+fn head_of(alloc: Global, length: u32, sum: u16) -> Option<Vec<u8>> {
+    let mut bytes = bytes_of(alloc, "00*16 78e58c8c3d8a1c4f9935896185c32dd3")?;
+    bytes
+        .extend_from_slice(&u64::from(length).to_le_bytes())
+        .ok()?;
+    bytes
+        .extend_from_slice(b"_FVH\xff\xfe\x04\x00\x48\x00")
+        .ok()?;
+    bytes.extend_from_slice(&sum.to_le_bytes()).ok()?;
+    bytes
+        .extend_from_slice(b"\x00\x00\x00\x02\x01\x00\x00\x00")
+        .ok()?;
+    bytes.extend_from_slice(&length.to_le_bytes()).ok()?;
+    bytes.extend_from_slice(&[0; 8]).ok()?;
+    Some(bytes)
+}
+
+/// A raw file without data, named by its number.
+fn file_of(number: u16) -> [u8; 24] {
+    let [low, high] = number.to_le_bytes();
+    let sum = 0xe7u8.wrapping_sub(low).wrapping_sub(high);
+    [
+        low, high, 0, 0, 0, 0, 0, 0, 0, 0, 0, 0, 0, 0, 0, 0, sum, 0xaa, 0x01, 0, 0x18, 0, 0, 0xf8,
+    ]
+}
+
+/// A volume of so many such files, and of nothing else.
+fn volume_of(alloc: Global, count: u16) -> Option<Vec<u8>> {
+    let length = 72 + 24 * u32::from(count);
+    let head = head_of(alloc, length, 0)?;
+    if head.len() % 2 != 0 {
+        return None;
+    }
+    let mut bytes = head_of(alloc, length, 0u16.wrapping_sub(sum16(&head)))?;
+    for number in 0..count {
+        bytes.extend_from_slice(&file_of(number)).ok()?;
+    }
+    Some(bytes)
+}
+
+/// Whether such a volume is its own image.
+fn is_own_image(alloc: Global, count: u16) -> Option<bool> {
+    let volume = volume_of(alloc, count)?;
+    let image = normalise(alloc, &volume).ok()?;
+    let mut writer = Port::new(Vec::<u8>::new(alloc));
+    run_normalise(alloc, &mut Port::new(volume.as_slice()), &mut writer).ok()?;
+    let is_written = writer.into_inner().as_slice() == volume.as_slice();
+    let is_told = is_canonical(alloc, &volume) == Ok(true);
+    Some(image.as_slice() == volume.as_slice() && is_written && is_told)
+}
+
+#[test]
+fn full_volumes_are_their_own_images(rt: HostRuntime) {
+    for count in 0..=300 {
+        assert!(rt; is_own_image(rt.alloc(), count) == Some(true), "{count}");
+    }
+}

@@ -1,0 +1,49 @@
+//! Images in which volumes stand among other bytes.
+
+use super::spelling::bytes_of;
+use fv_canon::normalise_image;
+use std::alloc::Global;
+
+/// Images, each with what it becomes.
+fn renewed() -> &'static str {
+    "\
+    00*0 -> 00*0\n\
+    empty 00 -> empty 00\n\
+    ff*64 filler-zero 00*8 filler-zero -> ff*64 filler-erased 00*8 filler-erased\n\
+    "
+}
+
+/// Images with the number, the offset and the depth of the fault that refuses them.
+fn refused() -> &'static str {
+    "\
+    ff*64 file-state-bit -> 10 159 0\n\
+    ff*64 nested-head-sum-off -> 6 164 1\n\
+    ff*64 ext-header-without-room file-state-bit -> 22 64 0\n\
+    "
+}
+
+/// Whether the image of a line becomes that behind its arrow.
+fn becomes(alloc: Global, line: &str) -> Option<bool> {
+    let (image, wanted) = line.split_once(" -> ")?;
+    let answer = normalise_image(alloc, &bytes_of(alloc, image)?).ok()?;
+    Some(answer.as_slice() == bytes_of(alloc, wanted)?.as_slice())
+}
+
+/// Whether the image of a line is refused by the fault behind its arrow.
+fn is_refused(alloc: Global, line: &str) -> Option<bool> {
+    let (image, wanted) = line.split_once(" -> ")?;
+    let fault = normalise_image(alloc, &bytes_of(alloc, image)?).err()?;
+    let (number, place) = (fault.kind.number(), fault.place);
+    let told = format!(in alloc; "{} {} {}", number, place.offset, place.depth).ok()?;
+    Some(told.as_str() == wanted)
+}
+
+#[test]
+fn each_volume_of_an_image_is_renewed(rt: HostRuntime) {
+    for line in renewed().lines() {
+        assert!(rt; becomes(rt.alloc(), line) == Some(true), "{line}");
+    }
+    for line in refused().lines() {
+        assert!(rt; is_refused(rt.alloc(), line) == Some(true), "{line}");
+    }
+}
