@@ -1,0 +1,1046 @@
+#!/usr/bin/env python3
+"""Writes firmware volumes, flash images and hand-off lists, valid, nearly valid and broken, runs the built program over
+them, and looks from outside whether it keeps what docs/PROGRAM.md promises. README.md in this folder says more."""
+
+import argparse
+import collections
+import concurrent.futures
+import itertools
+import os
+import random
+import re
+import struct
+import subprocess
+import sys
+import tempfile
+import threading
+import time
+import uuid
+from pathlib import Path
+
+ROOT = Path(__file__).resolve().parent.parent
+FFS2 = uuid.UUID("8c8ce578-8a3d-4f1c-9935-896185c32dd3").bytes_le
+FFS3 = uuid.UUID("5473c07a-3dcb-4dca-bd6f-1e9689e7349a").bytes_le
+TOP_FILE = uuid.UUID("1ba0062e-c779-4582-8566-336ae8f78f09").bytes_le
+DEEPEST = 8  # groups and nested volumes
+GROUP, VOLUME = 0x03, 0x17  # types of sections that hold others
+DXE_DEPEX, VERSION, TEXT, SUBTYPE, PEI_DEPEX, MM_DEPEX = 0x13, 0x14, 0x15, 0x18, 0x1B, 0x1C
+LEAVES = (0x01, 0x02, 0x10, DXE_DEPEX, VERSION, TEXT, VOLUME, SUBTYPE, 0x19, 0x19, PEI_DEPEX, MM_DEPEX, 0x00, 0xFF)
+STREAMS = (0x02, *range(0x04, 0x10))  # types of files that hold sections
+PLAIN = (0x01, 0x01, 0x03, 0x00, 0x10, 0xC0, 0xF1, 0xFF)
+PAD = 0xF0
+LARGE, SECOND_TABLE, FIXED, SUMMED = 0x01, 0x02, 0x04, 0x40  # attributes of files
+CONSTRUCTION, HEADER_VALID, DATA_VALID, MARKED, DELETED, HEADER_INVALID = 0x01, 0x02, 0x04, 0x08, 0x10, 0x20
+ALIGNMENTS = [1 << bits for bits in (0, 4, 7, 9, 10, 12, 15, 16, 17, 18, 19, 20, 21, 22, 23, 24)]
+
+Form = collections.namedtuple("Form", "is_ffs3 erased")
+Span = collections.namedtuple("Span", "start header end")
+
+
+def guid_text(guid):
+    return str(uuid.UUID(bytes_le=guid))
+
+
+def sum8(data):
+    """What makes the sum of the bytes zero."""
+    return -sum(data) & 0xFF
+
+
+def sum16(data):
+    """What makes the sum of the 16-bit words zero."""
+    return -(sum(data[::2]) + (sum(data[1::2]) << 8)) & 0xFFFF
+
+
+def bytes_of(source, count):
+    return source.getrandbits(8 * count).to_bytes(count, "little") if count else b""
+
+
+def indented(lines):
+    return ["  " + line for line in lines]
+
+
+def is_text(body):
+    units = [int.from_bytes(body[at : at + 2], "little") for at in range(0, len(body), 2)]
+    return len(body) % 2 == 0 and units[-1:] == [0] and 0 not in units[:-1]
+
+
+def leaf_note(kind, body):
+    """What `list` writes behind the line of a leaf."""
+    if kind == VERSION and is_text(body[2:]):
+        return f" version {int.from_bytes(body[:2], 'little')}"
+    if kind == TEXT and is_text(body):
+        units = struct.unpack(f"<{len(body) // 2}H", body)[:-1]
+        shown = (chr(it) if 0x20 <= it <= 0x7E and it not in b'"\\' else f"\\u{it:04x}" for it in units)
+        return f' ui "{"".join(shown)}"'
+    if kind == SUBTYPE and len(body) >= 16:
+        return f" subtype {guid_text(body[:16])}"
+    return ""
+
+
+def file_line(number, name, kind, attributes, data):
+    """What `list` writes of a file."""
+    return f"file {number} {guid_text(name)} type {kind:02x} attributes {attributes & ~LARGE:02x} data {len(data)}"
+
+
+class Maker:
+    """Writes inputs by docs/FORMAT.md. `pick` chooses what they mean and where it stands, `dust` the bytes that are no
+    part of a meaning: two makers of one seed and of different dust write two volumes of one meaning. `slips` is at how
+    many places at most the format is left, and `made` at how many it was."""
+
+    def __init__(self, seed, dust=0, slips=0):
+        self.pick = random.Random(seed)
+        self.dust = random.Random(f"{seed} {dust}")
+        self.slips = slips
+        self.made = 0
+        self.parts = self.pick.choice((4, 12, 30))  # how many cells and sections are still made
+        # How deep the first parts nest.
+        self.chain = self.pick.choice((0, 0, 0, 0, 0, 0, 2, 4, DEEPEST, DEEPEST + (slips > 0)))
+        self.spans = []  # the files of the volume that was written last
+
+    def slips_here(self, odds=12):
+        if self.made < self.slips and self.pick.randrange(odds) == 0:
+            self.made += 1
+            return True
+        return False
+
+    def happens(self, share):
+        return self.pick.random() < share
+
+    def few(self, most):
+        """A small number, and none where enough parts were made."""
+        count = min(self.pick.randrange(most + 1), self.parts)
+        self.parts -= count
+        return count
+
+    def name(self):
+        return bytes_of(self.pick, 16)
+
+    def payload(self):
+        """Bytes of a file or a leaf."""
+        return bytes_of(self.pick, self.pick.choice((0, 1, 4, 8, 8, 24, self.pick.randrange(100), 256)))
+
+    def filler(self, count, usual):
+        """Bytes that are no part of a meaning, as the canonical image has them or not."""
+        return bytes([usual]) * count if self.dust.random() < 0.5 else bytes_of(self.dust, count)
+
+    def kept_whole(self, make):
+        """What `make` writes, all its bytes part of the meaning."""
+        dust, self.dust = self.dust, random.Random(self.pick.getrandbits(64))
+        data = make(DEEPEST)[0]
+        self.dust = dust
+        return data
+
+    # Sections
+
+    def text(self):
+        ranges = [self.pick.choice(((0x20, 0x7F), (1, 1 << 16))) for _ in range(self.pick.randrange(7))]
+        units = [self.pick.randrange(*it) for it in ranges]
+        return struct.pack(f"<{len(units) + 1}H", *units, 0)
+
+    def value(self, height):
+        """Ops that leave one value on the stack."""
+        if height == 0:
+            return self.pick.choice((b"\x02" + self.name(), b"\x06", b"\x07"))
+        if self.happens(0.3):
+            return self.value(height - 1) + b"\x05"
+        return self.value(height - 1) + self.value(0) + self.pick.choice((b"\x03", b"\x04"))
+
+    def expression(self):
+        """A dependency expression, often a wrong one: no volume is refused for it."""
+        ops = self.value(self.pick.randrange(4))
+        if self.happens(0.2):
+            ops = b"\x09" + ops
+        elif self.happens(0.2):
+            ops = self.pick.choice((b"\x00", b"\x01")) + self.name()
+        ops += b"\x08" + bytes_of(self.pick, self.pick.choice((0, 0, 1, 3)))
+        if self.happens(0.4):
+            at = self.pick.randrange(len(ops))
+            ops = ops[:at] + bytes_of(self.pick, self.pick.randrange(2)) + ops[at + 1 :]
+        return ops
+
+    def leaf_body(self, kind):
+        if kind == TEXT:
+            body = self.text()
+        elif kind == VERSION:
+            body = bytes_of(self.pick, 2) + self.text()
+        elif kind in (DXE_DEPEX, PEI_DEPEX, MM_DEPEX):
+            body = self.expression()
+        elif kind == VOLUME and self.parts:
+            body = self.kept_whole(self.volume) + b"\0"  # one byte too long, so it is not opened
+        else:
+            body = self.payload()
+        return body[:-1] if body and kind != VOLUME and self.happens(0.1) else body
+
+    def section(self, number, depth):
+        """A section, and the lines that `list` writes of it."""
+        lines = []
+        must_nest = depth < self.chain
+        if must_nest and depth + 1 == self.chain:
+            self.chain = 0
+        if (must_nest or self.happens(0.15)) and (depth < DEEPEST or self.slips_here(1 + 9 * (not must_nest))):
+            kind = self.pick.choice((GROUP, VOLUME))
+            body, lines = self.stream(depth + 1) if kind == GROUP else self.volume(depth + 1)
+        else:
+            kind = self.pick.choice(LEAVES)
+            body = self.leaf_body(kind)
+        extended = self.happens(0.2) or len(body) > 0xFFFFFE - 4
+        size = len(body) + (8 if extended else 4)
+        note = leaf_note(kind, body)
+        about = f"section {number} type {kind:02x} {'extended' if extended else 'short'} body {len(body)}{note}"
+        if self.slips_here():
+            size = self.pick.choice((0, 3, 4, 7, size - 1, size + 1, size + 8, 0xFFFFFE))
+        if extended:
+            head = b"\xff\xff\xff" + bytes([kind]) + struct.pack("<I", size)
+        else:
+            head = (size & 0xFFFFFF).to_bytes(3, "little") + bytes([kind])
+        return head + body, [about, *indented(lines)]
+
+    def stream(self, depth):
+        """The sections of a file or a group, and their lines."""
+        data, lines = b"", []
+        for number in range(max(self.few(4), depth < self.chain)):
+            data += self.filler(-len(data) % 4, 0)
+            part, about = self.section(number, depth)
+            data += part
+            lines += about
+        if data:
+            data += self.filler(self.pick.randrange(-len(data) % 4 + 1), 0)
+        if self.slips_here():
+            data += self.filler(self.pick.randrange(1, 4), 0)
+        return data, lines
+
+    # Files and the other cells of a body
+
+    def state(self, bit):
+        """A state byte, not inverted: the state's bit, and any of the bits below it."""
+        byte = bit | self.dust.getrandbits(8) & (bit - 1)
+        return self.pick.choice((0, byte | 0x40, byte | 0x80)) if self.slips_here(40) else byte
+
+    def file(self, form, name, kind, attributes, data, bit):
+        """A file with right sums, its header large where attribute 01 stands."""
+        size = len(data) + (32 if attributes & LARGE else 24)
+        file_sum = sum8(data) if attributes & SUMMED else 0xAA
+        short_size = 0 if attributes & LARGE else size
+        if self.slips_here(40):
+            size = short_size = self.pick.choice((0, 23, 24, 31, size - 1, size + 1, size + 8, 0xFFFFFF))
+        head = name + bytes([0, 0, kind, attributes]) + short_size.to_bytes(3, "little") + b"\0"
+        head += struct.pack("<Q", size) if attributes & LARGE else b""
+        head_sum = sum8(head)
+        if self.slips_here(40):
+            head_sum ^= 1 << self.pick.randrange(8)
+        if self.slips_here(40):
+            file_sum ^= 1 << self.pick.randrange(8)
+        state = self.state(bit) ^ form.erased
+        return head[:16] + bytes([head_sum, file_sum]) + head[18:23] + bytes([state]) + head[24:] + data
+
+    def passed_over(self, form, size, kind, bit):
+        """A cell of which the header sum and the size alone are looked at."""
+        large = LARGE if form.is_ffs3 and size >= 32 and self.happens(0.2) else 0
+        name = self.dust.choice((b"\xff" * 16, bytes_of(self.dust, 16)))
+        attributes = self.dust.choice((0, 0, FIXED, SUMMED | 0x38)) | large
+        cell = self.file(form, name, kind, attributes, self.filler(size - (32 if large else 24), form.erased), bit)
+        return cell[:17] + self.filler(1, 0xAA) + cell[18:]
+
+    def pad(self, form, size):
+        return self.passed_over(form, size, PAD, self.dust.choice((DATA_VALID, MARKED)))
+
+    def dead(self, form):
+        """A deleted file, or one whose data are not valid."""
+        bit = self.pick.choice((HEADER_VALID, DELETED))
+        return self.passed_over(form, 24 + self.pick.randrange(60), self.dust.choice((0x01, 0x02, PAD)), bit)
+
+    def stub(self, form):
+        """A header under construction, or an invalid one."""
+        large = self.pick.randrange(2)
+        stub = bytearray(bytes_of(self.dust, 32 if large else 24))
+        stub[19] = stub[19] & 0xFE | large
+        stub[23] = self.state(self.pick.choice((CONSTRUCTION, HEADER_INVALID))) ^ form.erased
+        return bytes(stub)
+
+    def attributes(self, form):
+        """Attributes of a valid file."""
+        attributes = SUMMED * self.happens(0.5) | 0x80 * self.happens(0.1) | SECOND_TABLE * self.happens(0.01)
+        attributes |= self.pick.choice((1, 1, 1, 2, 2, 3, 3, 4, 4, 5, 6, 7)) * 8 * self.happens(0.35)
+        attributes |= LARGE if (form.is_ffs3 and self.happens(0.2)) or self.slips_here(30) else 0
+        return attributes | FIXED * self.slips_here(30)
+
+    def content(self, kind, depth):
+        """The data of a file of this type, and the lines of its sections."""
+        if kind in STREAMS:
+            return self.stream(depth)
+        if kind == 0x03 and self.happens(0.5):
+            return self.kept_whole(self.stream), []  # a security core may hold sections, which are not looked at
+        return self.payload(), []
+
+    def gap_before(self, place, attributes):
+        """How many bytes bring the data of a file with these attributes to their alignment."""
+        alignment = ALIGNMENTS[(attributes >> 3 & 7) + (8 if attributes & SECOND_TABLE else 0)]
+        if alignment > 4096 and self.happens(0.9) or self.happens(0.2):
+            return 0
+        gap = -(place + (32 if attributes & LARGE else 24)) % alignment
+        while 0 < gap < 24:
+            gap += alignment
+        return gap if gap < 300000 else 0
+
+    def valid_file(self, form, first, body, name, files, depth, bit=DATA_VALID):
+        """Adds a file that is part of the volume, with a pad before it where that aligns it, and its lines."""
+        must_nest = depth < self.chain
+        kind = self.pick.choice(STREAMS if must_nest or self.happens(0.6) else PLAIN)
+        attributes = self.attributes(form)
+        data, lines = self.content(kind, depth)
+        if name == TOP_FILE and (kind in STREAMS or len(data) % 8):
+            kind, data, lines = 0x01, bytes_of(self.pick, self.pick.choice((0, 8, 40))), []
+        gap = self.gap_before(first + len(body), attributes)
+        if gap:
+            body += self.pad(form, gap)
+        self.spans.append(Span(first + len(body), 32 if attributes & LARGE else 24, 0))
+        body += self.file(form, name, kind, attributes, data, bit)
+        self.spans[-1] = self.spans[-1]._replace(end=first + len(body))
+        files.append([file_line(len(files), name, kind, attributes, data), *indented(lines)])
+
+    def superseded(self, form, name):
+        """A file marked for update, whose name another has; of its data the sum alone is looked at."""
+        kind = self.pick.choice(STREAMS + PLAIN)
+        attributes = self.attributes(form)
+        return self.file(form, name, kind, attributes, bytes_of(self.dust, self.pick.randrange(40)), MARKED)
+
+    def replaced_file(self, form, first, body, name, files, depth):
+        """A superseded file before or behind the one that replaces it."""
+        is_before = self.happens(0.5) or name == TOP_FILE
+        old = self.superseded(form, name)
+        body += old if is_before else b""
+        body += self.filler(-len(body) % 8, form.erased)
+        start = len(body)
+        data = self.payload()
+        body += self.file(form, name, 0x01, SUMMED, data, DATA_VALID)
+        self.spans.append(Span(first + start, 24, first + len(body)))
+        body += self.filler(-len(body) % 8, form.erased) + (b"" if is_before else old)
+        files.append([file_line(len(files), name, 0x01, SUMMED, data)])
+
+    def cell(self, form, first, body, files, depth):
+        """Adds a cell to a body, or a few."""
+        if depth < self.chain or self.happens(0.6):
+            bit = MARKED if self.happens(0.1) else DATA_VALID
+            self.valid_file(form, first, body, self.name(), files, depth, bit)
+        elif self.happens(0.3):
+            body += self.pad(form, 24 + self.pick.choice((0, 1, 8, self.pick.randrange(80))))
+        elif self.happens(0.3):
+            self.replaced_file(form, first, body, self.name(), files, depth)
+        elif self.happens(0.6):
+            body += self.dead(form)
+        else:
+            body += self.stub(form)
+        if files and self.slips_here(30):
+            body += self.filler(-len(body) % 8, form.erased)
+            name = uuid.UUID(files[-1][0].split()[2]).bytes_le
+            self.valid_file(form, first, body, name, files, depth)
+
+    def body(self, form, first, depth):
+        """The cells of a volume that begin at this place, and the lines of its files."""
+        body, files, self.spans = bytearray(), [], []
+        spans = self.spans
+        for _ in range(max(self.few(6), depth < self.chain)):
+            self.cell(form, first, body, files, depth)
+            self.spans = spans  # volumes inside have their own
+            body += self.filler(-len(body) % 8, form.erased)
+        if self.happens(0.15):
+            if self.happens(0.2):
+                body += self.superseded(form, TOP_FILE)
+                body += self.filler(-len(body) % 8, form.erased)
+            self.valid_file(form, first, body, TOP_FILE, files, DEEPEST)
+            self.spans = spans
+            room = 8 * self.slips_here(4)
+        else:
+            room = self.pick.choice((0, 8, 16, 24, 32, 64, 160, 8 * self.pick.randrange(40)))
+        free = bytearray([form.erased]) * room
+        if free and self.slips_here(15):
+            free[self.pick.randrange(room)] ^= 1 + self.pick.randrange(255)
+        return bytes(body + free), files
+
+    # Volumes
+
+    def block_pair(self, product):
+        """A number of blocks and a length, not both zero, of this product."""
+        if product == 0:
+            return self.pick.choice(((0, self.pick.randrange(1, 1 << 32)), (self.pick.randrange(1, 1 << 32), 0)))
+        number = self.pick.choice([it for it in (1, 2, 8, 64, product) if product % it == 0])
+        return number, product // number
+
+    def block_map(self, entries, length):
+        """Pairs whose products sum to the length, and the pair of zeros."""
+        pairs, left = [], length
+        for _ in range(entries - 1):
+            pairs.append(self.block_pair(self.pick.choice((0, min(8, left), self.pick.randrange(left + 1)))))
+            left -= pairs[-1][0] * pairs[-1][1]
+        pairs.append(self.block_pair(left))
+        if entries >= 3 and self.slips_here(30):  # a sum of 2 ^ 64 and the length
+            pairs[:3] = (0xFFFFFFFF, 0xFFFFFFFF), (2, 0xFFFFFFFF), (1, length + 1)
+        return b"".join(struct.pack("<II", *pair) for pair in [*pairs, (0, 0)])
+
+    def ext_entry(self):
+        kind = self.pick.choice((1, 2, 3, 3, self.pick.getrandbits(16)))
+        if kind == 3 and self.happens(0.7):
+            payload = self.filler(4, 0)  # the value of a used size
+        else:
+            payload = bytes_of(self.pick, self.pick.choice((0, 3, 5, 16, self.pick.randrange(40))))
+        return struct.pack("<HH", 4 + len(payload), kind) + payload
+
+    def ext_header(self):
+        """An extended header: its name, its entries, and a tail, which may begin further entries."""
+        rest = b"".join(self.ext_entry() for _ in range(self.pick.randrange(4)))
+        rest += bytes_of(self.pick, self.pick.choice((0, 0, 1, 3, 5, self.pick.randrange(30))))
+        if self.happens(0.005):
+            rest += bytes_of(self.pick, 65535 - 20 - len(rest))
+        size = 20 + len(rest)
+        if self.slips_here():
+            size = self.pick.choice((0, 19, 65535, 65536, size + 4096, (1 << 32) - 1))
+        return self.name() + struct.pack("<I", size) + rest
+
+    def front(self, header_length):
+        """What stands between the volume header and the first cell: the bytes, the place of the extended header, or 0,
+        and its name."""
+        if self.happens(0.6):
+            return b"", 0, None
+        ext = self.ext_header()
+        before = self.filler(self.pick.choice((0, 24, 24, self.pick.randrange(50))), 0xFF)
+        place = header_length + len(before)
+        return before + ext + self.filler(-(place + len(ext)) % 8, 0xFF), place, guid_text(ext[:16])
+
+    def slip_of_header(self, fields):
+        """Leaves the format in one field of the volume header."""
+        length, header_length = fields["length"], fields["header_length"]
+        values = {
+            "system": (FFS2[::-1], bytes(16), FFS2[:15] + FFS3[15:]),
+            "length": (0, 8, length - 8, length + 8, length - 1, (1 << 28) + 8, (1 << 64) - 8),
+            "signature": (b"_FVI", b"_HVF", bytes(4)),
+            "header_length": (0, 56, 60, 2120, header_length - 8, header_length + 8, 0xFFF8),
+            "place": (1, 56, header_length - 1, length & 0xFFFF, 0xFFFF),
+            "revision": (0, 1, 3, 0xFF),
+        }
+        field = self.pick.choice(list(values))
+        fields[field] = self.pick.choice(values[field])
+
+    def volume(self, depth):
+        """A volume round which there are `depth` groups and volumes, and the lines that `list` writes of it."""
+        pick = self.pick
+        form = Form(self.happens(0.5), 0xFF if self.happens(0.7) else 0)
+        entries = pick.randrange(1, 257) if self.happens(0.02) else pick.choice((1, 1, 1, 2, 3, 5))
+        header_length = 64 + 8 * entries
+        front, place, name = self.front(header_length)
+        first = header_length + len(front)
+        body, files = self.body(form, first, depth)
+        attributes = pick.getrandbits(32) & ~0x800 | (0x800 if form.erased else 0)
+        fields = {
+            "zero": pick.choice((bytes(16), self.name())), "system": FFS3 if form.is_ffs3 else FFS2,
+            "length": first + len(body), "signature": b"_FVH", "attributes": attributes, "header_length": header_length,
+            "sum": 0, "place": place, "reserved": pick.choice((0, pick.getrandbits(8))), "revision": 2,
+        }  # fmt: skip
+        lines = [f"volume ffs{3 if form.is_ffs3 else 2} length {fields['length']} files {len(files)}"]
+        lines[0] += f" name {name}" if name else ""
+        block_map = self.block_map(entries, fields["length"])
+        if self.slips_here():
+            self.slip_of_header(fields)
+        head = struct.pack("<16s16sQ4sIHHHBB", *fields.values()) + block_map
+        head = head[:50] + struct.pack("<H", sum16(head) ^ self.slips_here(40)) + head[52:]
+        return head + front + body, lines + indented(itertools.chain.from_iterable(files))
+
+    # Large ones
+
+    def wide_volume(self):
+        """A volume of more than 16 MiB: a large file, or a gap that takes more than one pad."""
+        form = Form(True, 0xFF)
+        size = self.pick.choice((0xFFFFFF, 0x1000000, 0xFFFFE8 + 24, 0xFFFFF8, 0x1000010)) + 8 * self.pick.randrange(3)
+        data = bytes([self.pick.getrandbits(8)]) * size
+        body = self.file(form, self.name(), 0x01, SUMMED, bytes(self.pick.randrange(20)), DATA_VALID)
+        body += self.filler(-len(body) % 8, 0xFF)
+        if self.happens(0.5):
+            body += self.file(form, self.name(), 0x01, LARGE | SUMMED, data, DATA_VALID)
+            body += self.filler(-len(body) % 8, 0xFF)
+        else:
+            data = data[: len(data) & ~7]
+            body += self.file(form, self.name(), PAD, LARGE, data, DATA_VALID)
+            body += self.file(form, TOP_FILE, 0x01, 0, bytes(8), DATA_VALID)
+        length = 72 + len(body)
+        head = struct.pack("<16s16sQ4sIHHHBB", bytes(16), FFS3, length, b"_FVH", 0x800, 72, 0, 0, 0, 2)
+        head += struct.pack("<IIQ", 1, length, 0)
+        return head[:50] + struct.pack("<H", sum16(head)) + head[52:] + body, None
+
+    # Flash images and hand-off lists
+
+    def image(self):
+        """Volumes with erased bytes between them, and where they are: offsets and lengths."""
+        image, places = b"", []
+        for _ in range(self.pick.randrange(4)):
+            image += bytes([self.pick.choice((0, 0xFF))]) * (8 * self.pick.randrange(12))
+            self.parts = 4
+            volume = self.volume(0)[0]
+            places.append((len(image), len(volume)))
+            image += volume
+        return image + b"\xff" * self.pick.randrange(60), places
+
+    def span(self, base, image, places):
+        """Where a block says that a volume is: at one, beside one, or anywhere."""
+        pick = self.pick
+        offset, length = pick.choice(places) if places else (0, len(image))
+        way = pick.randrange(6)
+        if way == 1:
+            offset += pick.choice((-8, 8, 1))
+        elif way == 2:
+            length += pick.choice((-8, 8, -length))
+        elif way == 3:
+            offset, length = pick.randrange(len(image) + 1), pick.randrange(len(image) + 1)
+        elif way == 4:
+            return pick.getrandbits(64), pick.getrandbits(64)
+        elif way == 5:
+            offset, length = len(image) - length, pick.choice((length, length + 1))
+        return (base + offset) & (1 << 64) - 1, length & (1 << 64) - 1
+
+    def block(self, kind, payload):
+        length = 8 + len(payload)
+        if self.slips_here(15):
+            length = self.pick.choice((0, 4, 7, 8, 12, length + 8, length + 4, length - 8, 0xFFF8, 0xFFFF)) & 0xFFFF
+        return struct.pack("<HHI", kind, length, self.pick.choice((0, self.pick.getrandbits(32)))) + payload
+
+    def other_block(self):
+        """A block that names no volume: its type and what stands behind its header."""
+        pick = self.pick
+        more = 8 * pick.choice((0, 1, 2, pick.randrange(40), 8190 if self.happens(0.01) else 3))
+        lengths = {0x1: 48, 0x2: 40 + more % 4096, 0x3: 40, 0x4: 16 + more % 4096, 0x6: 8, 0x7: 0, 0xB: 16}
+        lengths |= {0xC: more, 0xFFFE: more}
+        kind = pick.choice((*lengths, pick.choice((0, 8, 10, pick.randrange(13, 0xFFFE)))))
+        return kind, bytes_of(pick, lengths.get(kind, more))
+
+    def hand_off(self):
+        """A hand-off list, an image with the address of its first byte, or none, and the lines of `hobs`."""
+        pick = self.pick
+        image, places = self.image() if self.happens(0.5) else (None, [])
+        size = len(image or b"")
+        base = pick.choice((0, 0xFF0000, (1 << 64) - 1, (1 << 64) - size & (1 << 64) - 1, pick.getrandbits(64)))
+        blocks = [(0x1, bytes_of(pick, 48), "")]
+        for _ in range(pick.randrange(8)):
+            if self.happens(0.4):
+                start, length = self.span(base, image or b"", places)
+                kind = pick.choice((0x5, 0x9))
+                is_inside = base <= start and start + length <= base + size
+                found = "volume" if (start - base, length) in places else "absent"
+                word = "" if image is None else f" {found}" if is_inside else " outside"
+                blocks.append((kind, struct.pack("<QQ", start, length) + bytes_of(pick, 32 * (kind == 0x9)), word))
+            else:
+                blocks.append((*self.other_block(), ""))
+        if self.slips_here():
+            del blocks[0]
+        blocks.append((0xFFFF, b"", ""))
+        listed = b"".join(self.block(kind, payload) for kind, payload, _ in blocks)
+        lines = [f"hob {kind:04x} length {8 + len(payload)}{word}" for kind, payload, word in blocks]
+        lines.append(f"consumed {len(listed)}")
+        if self.slips_here(4):
+            listed = listed[: -8 * pick.choice((1, 2))]
+        elif self.happens(0.3):
+            listed += bytes_of(pick, pick.randrange(20))
+        return listed, image, base, lines
+
+
+# Breaking
+
+
+def changed(pick, data):
+    """The bytes with one thing done to them."""
+    at = pick.randrange(len(data) + 1)
+    at = pick.choice((at, min(at, 120)))
+    way = pick.randrange(8)
+    if way < 3:
+        return data[:at] + bytes([pick.choice((0, 0xFF, pick.getrandbits(8)))]) + data[at + 1 :]
+    if way < 5 and at < len(data):
+        return data[:at] + bytes([data[at] ^ 1 << pick.randrange(8)]) + data[at + 1 :]
+    if way == 5:
+        size = pick.choice((2, 3, 4, 8))
+        most = (1 << 8 * size) - 1
+        number = pick.choice((0, 1, most, most // 2 + 1, len(data) & 0xFFFF, len(data) - at & 0xFFFF))
+        return data[:at] + number.to_bytes(size, "little") + data[at + size :]
+    count = pick.choice((1, 4, 8, 24, pick.randrange(100)))
+    if way == 6:
+        return pick.choice((data[:at], data[:at] + data[at + count :], data + bytes_of(pick, count)))
+    return data[:at] + data[at : at + count] + data[at + pick.choice((0, count)) :]
+
+
+def mended(data, spans):
+    """The bytes with right sums in the volume header and in the files that stood at these places."""
+    data = bytearray(data)
+    for start, header, end in spans:
+        if end <= len(data):
+            data[start + 16 : start + 18] = bytes(2)
+            state, data[start + 23] = data[start + 23], 0
+            data[start + 16] = sum8(data[start : start + header])
+            data[start + 17] = sum8(data[start + header : end]) if data[start + 19] & SUMMED else 0xAA
+            data[start + 23] = state
+    if len(data) >= 64:
+        data[50:52] = bytes(2)
+        length = int.from_bytes(data[48:50], "little")
+        data[50:52] = struct.pack("<H", sum16(data[: min(length, len(data)) & ~1]))
+    return bytes(data)
+
+
+def broken(pick, data, spans=()):
+    for _ in range(pick.choice((1, 1, 1, 2, 5))):
+        data = changed(pick, data)
+    return mended(data, spans) if spans and pick.random() < 0.6 else data
+
+
+# Inputs by their numbers
+
+Case = collections.namedtuple("Case", "kind data lines twin image base")
+
+
+def volume_case(name, pick):
+    grade = pick.random()
+    if grade < 0.0004:
+        return Case("volume", *Maker(name).wide_volume(), Maker(name, 1).wide_volume()[0], None, 0)
+    if grade < 0.45:
+        return Case("volume", *Maker(name).volume(0), Maker(name, 1).volume(0)[0], None, 0)
+    if grade < 0.75:
+        maker = Maker(name, slips=pick.choice((1, 1, 2, 6)))
+        data, lines = maker.volume(0)
+        return Case("volume", data, None if maker.made else lines, None, None, 0)
+    if grade < 0.97:
+        maker = Maker(name)
+        data = maker.volume(0)[0]
+        return Case("volume", broken(pick, data, maker.spans), None, None, None, 0)
+    return Case("volume", bytes_of(pick, pick.randrange(300)), None, None, None, 0)
+
+
+def make_case(seed, index):
+    """The input of this number: what it is, its bytes, the lines that are to be written of it where it is valid, a
+    volume of the same meaning, and the image of a hand-off list with the address of its first byte."""
+    name = f"{seed}/{index}"
+    pick = random.Random(f"{name} case")
+    kind = pick.random()
+    if kind < 0.78:
+        return volume_case(name, pick)
+    if kind < 0.86:
+        data, places = Maker(name).image()
+        if pick.random() < 0.3:
+            return Case("image", broken(pick, data), None, None, None, 0)
+        return Case("image", data, [f"volume at {offset} length {length}" for offset, length in places], None, None, 0)
+    if kind < 0.97:
+        maker = Maker(name, slips=pick.choice((0, 0, 1, 2)))
+        data, image, base, lines = maker.hand_off()
+        if pick.random() < 0.2:
+            return Case("list", broken(pick, data), None, None, image, base)
+        return Case("list", data, None if maker.made else lines, None, image, base)
+    return Case("words", b"", None, None, None, 0)
+
+
+# Running
+
+
+class Wrong(Exception):
+    """A promise that was not kept."""
+
+
+def require(holds, *what):
+    if not holds:
+        raise Wrong("; ".join(str(it)[:2000] for it in what))
+
+
+REFUSALS = {"compare": rb"(?:first|second) fault (\d+) at (\d+)\n", "hobs": rb"hob fault (\d+) at (\d+)\n"}
+DIGITS = re.compile(rb"(?:[0-9a-f]{64}\n)*(?:(?:[0-9a-f]{2}){1,32}\n)?")
+
+
+def spelled(pick, data):
+    """Hexadecimal text of the bytes."""
+    text = data.hex()
+    text = text.upper() if pick.randrange(3) == 0 else text
+    step = pick.choice((1 << 30, 64, 7)) if len(text) < 100000 else 64
+    return pick.choice("\n \t\r").join(text[at : at + step] for at in range(0, len(text), step)).encode()
+
+
+class Tool:
+    """The program, run with files in a folder of its own."""
+
+    def __init__(self, program, seconds, folder, pick):
+        self.program = program
+        self.seconds = seconds
+        self.folder = folder
+        self.pick = pick
+        self.calls = 0
+
+    def put(self, name, data):
+        path = os.path.join(self.folder, name)
+        with open(path, "wb") as file:
+            file.write(data)
+        return path
+
+    def start(self, words, given=os.devnull):
+        """Runs the program: its status, and what it wrote to standard output and standard error."""
+        self.calls += 1
+        with open(given, "rb") as stdin:
+            how = {"stdin": stdin, "stdout": subprocess.PIPE, "stderr": subprocess.STDOUT}
+            try:
+                done = subprocess.run([self.program, *words], timeout=self.seconds, close_fds=False, env={}, **how)
+            except subprocess.TimeoutExpired:
+                raise Wrong(f"{words}: no end within {self.seconds} seconds") from None
+        require(0 <= done.returncode <= 3, f"{words}: status {done.returncode}", done.stdout)
+        return done.returncode, done.stdout
+
+    def once(self, command, inputs, options, image, base, is_text):
+        shape = (lambda data: spelled(self.pick, data)) if is_text else bytes
+        words = [command, *options, *["--hex"] * is_text]
+        files = [self.put(f"input{number}", shape(data)) for number, data in enumerate(inputs)]
+        if image is not None:
+            words += ["--image", self.put("image", shape(image)), "--base", str(base)]
+        if len(files) == 1 and self.pick.randrange(2):
+            status, out = self.start(words, files[0])
+        else:
+            status, out = self.start(words + files)
+        if is_text and status == 0 and command in ("normalise", "extract"):
+            require(DIGITS.fullmatch(out), f"{words}: not lines of digits", out)
+            out = bytes.fromhex(out.decode())
+        return status, out
+
+    def ask(self, command, *inputs, options=(), image=None, base=0):
+        """The status and the output of a command over these inputs, which are its to read."""
+        status, out = self.once(command, inputs, options, image, base, False)
+        require(status < 3, f"{command} {options}: status 3", out)
+        require(status != 1 or command in ("compare", "check", "extract"), f"{command}: status 1", out)
+        if status == 2:
+            found = re.fullmatch(REFUSALS.get(command, rb"fault (\d+) at (\d+)\n"), out)
+            require(found, f"{command}: a refusal with other text", out)
+            number, offset = map(int, found.groups())
+            require(1 <= number <= (5 if command == "hobs" else 23), f"{command}: a fault out of place", out)
+            require(offset <= max(map(len, inputs)), f"{command}: a fault behind the input", out)
+        if self.pick.randrange(10) == 0:
+            again = self.once(command, inputs, options, image, base, True)
+            require(again == (status, out), f"{command}: with --hex another answer", again, (status, out))
+        return status, out
+
+
+# What is looked at
+
+
+def line(text):
+    return text.encode() + b"\n"
+
+
+def joined(lines):
+    return b"".join(map(line, lines))
+
+
+def depex_notes(text):
+    return [it for it in text.splitlines() if it.startswith(b"note depex ")]
+
+
+GUID = rb"[0-9a-f]{8}(?:-[0-9a-f]{4}){3}-[0-9a-f]{12}"
+PAD_NOTE = rb"note pad at \d+ holds [1-9]\d* bytes\n"
+DEPEX_NOTE = rb"note depex in " + GUID + rb" fault [1-5] at \d+\n"
+NOTES = re.compile(rb"(?:" + PAD_NOTE + rb")*(?:" + DEPEX_NOTE + rb")*(?:not )?canonical\n")
+
+
+def check_own(tool, case, image):
+    """`check` tells whether the volume is its image, and of the expressions what it tells of the image's."""
+    status, text = tool.ask("check", case.data)
+    is_own = case.data == image
+    require((status == 0) == is_own, f"check: status {status}, and the volume is its image: {is_own}")
+    require(NOTES.fullmatch(text) and text.endswith(b"not canonical\n") != is_own, "check: other text", text)
+    of_image = tool.ask("check", image)[1]
+    require(depex_notes(text) == depex_notes(of_image), "check: other notes of the image", text, of_image)
+
+
+def check_listed(tool, case, image):
+    """`list` writes the same of the volume and of its image."""
+    status, text = tool.ask("list", case.data)
+    require(status == 0 and (status, text) == tool.ask("list", image), "list: another text of the image", text)
+    head = re.match(rb"volume ffs[23] length (\d+) files (\d+)(?: name " + GUID + rb")?\n", text)
+    require(head and int(head[1]) == len(case.data), "list: another first line", text)
+    require(len(re.findall(rb"(?m)^  file ", text)) == int(head[2]), "list: another count of files", text)
+
+
+def check_scanned(tool, case, _image):
+    require(tool.ask("scan", case.data) == (0, line(f"volume at 0 length {len(case.data)}")), "scan: another place")
+
+
+def check_behind(tool, case, image):
+    """Bytes behind the volume are passed over, or refused."""
+    more = case.data + bytes_of(tool.pick, 1 + tool.pick.randrange(40))
+    require(tool.ask("list", more) == tool.ask("list", case.data), "list: another text with bytes behind")
+    refusal = f"fault 8 at {len(case.data)}"
+    require(tool.ask("normalise", more) == (2, line(refusal)), f"normalise: not {refusal}")
+    require(tool.ask("check", more) == (2, line(refusal)), f"check: not {refusal}")
+    require(tool.ask("compare", image, more) == (2, line("second " + refusal)), f"compare: not second {refusal}")
+
+
+def check_prefix(tool, case, _image):
+    """No proper prefix of a volume is one."""
+    count = tool.pick.randrange(len(case.data))
+    command = tool.pick.choice(("normalise", "list", "check"))
+    require(tool.ask(command, case.data[:count]) == (2, line(f"fault 1 at {count}")), f"{command}: a prefix of {count}")
+
+
+def sections_below(lines):
+    """Type and length of each section in the lines of a file, through groups and not into volumes."""
+    hidden = None
+    for it in lines:
+        indent = len(it) - len(it.lstrip())
+        if hidden is not None and indent >= hidden:
+            continue
+        words = it.split()
+        hidden = indent if words[0] == "volume" else None
+        if hidden is None:
+            yield words[3], int(words[6])
+
+
+def check_section(tool, image, name, kind, sections):
+    """`extract` writes a section of a file, or tells that there is none."""
+    wanted = tool.pick.choice([found for found, _ in sections] + ["19"])
+    instance = tool.pick.randrange(4)
+    lengths = [length for found, length in sections if found == wanted]
+    options = ["--name", name, "--section", wanted, "--instance", str(instance)]
+    status, out = tool.ask("extract", image, options=options)
+    if kind == "03":
+        require(status == 0 and out in image or out in (b"not found\n", b"not sectioned\n"), f"extract {options}", out)
+    elif int(kind, 16) not in STREAMS:
+        require((status, out) == (1, b"not sectioned\n"), f"extract {options}", out)
+    elif 1 <= instance <= len(lengths):
+        require(status == 0 and len(out) == lengths[instance - 1] and out in image, f"extract {options}", out)
+    else:
+        require((status, out) == (1, b"not found\n"), f"extract {options}", out)
+
+
+def check_parts(tool, case, image):
+    """`extract` writes the parts that `list` tells of, as the image has them."""
+    lines = tool.ask("list", image)[1].decode().splitlines()
+    starts = [at for at, it in enumerate(lines) if it.startswith("  file ")]
+    strange = str(uuid.UUID(bytes=bytes_of(tool.pick, 16)))
+    require(tool.ask("extract", image, options=["--name", strange]) == (1, b"not found\n"), "extract: a strange name")
+    if starts:
+        number = tool.pick.randrange(len(starts))
+        below = lines[starts[number] : [*starts, len(lines)][number + 1]]
+        _, _, name, _, kind, _, _, _, length = below[0].split()
+        status, out = tool.ask("extract", tool.pick.choice((case.data, image)), options=["--name", name.upper()])
+        require(status == 0 and len(out) == int(length) and out in image, f"extract {name}", out)
+        check_section(tool, image, name, kind, list(sections_below(below[1:])))
+
+
+def check_accepted(tool, case, image):
+    require(len(image) == len(case.data), f"normalise: {len(image)} bytes of {len(case.data)}")
+    status, text = tool.ask("check", image)
+    require(status == 0 and NOTES.fullmatch(text) and b"note pad" not in text, "check of the image", text)
+    require(tool.ask("normalise", image) == (0, image), "normalise of the image is another")
+    require(tool.ask("compare", case.data, image) == (0, b"same\n"), "compare with the image")
+    if case.lines and tool.pick.randrange(2):
+        require(tool.ask("list", case.data) == (0, joined(case.lines)), "list: other lines", *case.lines)
+    if case.twin and tool.pick.randrange(4) == 0:
+        require(tool.ask("normalise", case.twin) == (0, image), "normalise: another image of the same meaning")
+    ways = (check_own, check_listed, check_scanned, check_behind, check_prefix, check_parts)
+    if tool.pick.randrange(2):
+        tool.pick.choice(ways)(tool, case, image)
+
+
+def check_refused(tool, case, refusal):
+    """Other commands answer the same refusal; what has no layout has a meaning all the same."""
+    number, offset = map(int, re.findall(rb"\d+", refusal))
+    require(case.lines is None or number in (22, 23), "a volume of the format is refused", refusal)
+    command = tool.pick.choice(("check", "list", "compare", "scan"))
+    status, text = tool.ask(command, *[case.data] * (2 if command == "compare" else 1))
+    if command == "scan":
+        check_places(tool, case, text)
+    elif number in (22, 23):
+        wanted = {"check": 1, "list": 0, "compare": 0}[command]
+        is_told = {"check": text.endswith(b"not canonical\n"), "compare": text == b"same\n"}.get(command, True)
+        require(status == wanted and is_told, f"{command}: what has no layout", text)
+        require(command != "list" or not case.lines or text == joined(case.lines), "list: other lines", text)
+    elif command == "list" and number == 8 and offset != 32:
+        require(status == 0, "list: bytes behind the volume", text)
+    else:
+        prefix = b"first " if command == "compare" else b""
+        require((status, text) == (2, prefix + refusal), f"{command}: another refusal", text, refusal)
+
+
+def check_volume(tool, case):
+    status, out = tool.ask("normalise", case.data)
+    if status == 2:
+        check_refused(tool, case, out)
+        return f"refused {int(re.search(rb'[0-9]+', out)[0])}"
+    check_accepted(tool, case, out)
+    return "accepted"
+
+
+def check_places(tool, case, text):
+    """What `scan` writes: volumes at multiples of 8, one behind the other, each found alone too."""
+    require(re.fullmatch(rb"(?:volume at \d+ length \d+\n)*", text), "scan: other text", text)
+    places = [tuple(map(int, it)) for it in re.findall(rb"at (\d+) length (\d+)", text)]
+    end = 0
+    for offset, length in places:
+        require(offset >= end and offset % 8 == 0, "scan: a place", text)
+        end = offset + length
+    require(end <= len(case.data), "scan: a volume past the end", text)
+    if places:
+        offset, length = tool.pick.choice(places)
+        alone = tool.ask("scan", case.data[offset : offset + length])
+        require(alone == (0, line(f"volume at 0 length {length}")), f"scan: not alone what is at {offset}", alone)
+
+
+def check_image(tool, case):
+    status, text = tool.ask("scan", case.data)
+    require(status == 0, "scan: refused", text)
+    require(case.lines is None or text == joined(case.lines), "scan: other volumes", text, case.lines)
+    check_places(tool, case, text)
+    return "scanned"
+
+
+def check_list(tool, case):
+    status, text = tool.ask("hobs", case.data, image=case.image, base=case.base)
+    is_kept = case.lines is None or (status, text) == (0, joined(case.lines))
+    require(is_kept, "hobs: other blocks", text, case.lines)
+    if status == 2:
+        return "list refused"
+    lengths = [int(it) for it in re.findall(rb"(?m)^hob [0-9a-f]{4} length (\d+)(?: outside| volume| absent)?$", text)]
+    require(text.startswith(b"hob 0001 length 56\n"), "hobs: another first block", text)
+    require(text.endswith(b"hob ffff length 8\nconsumed %d\n" % sum(lengths)), "hobs: another end", text)
+    require(text.count(b"\n") == len(lengths) + 1 and sum(lengths) <= len(case.data), "hobs: other lines", text)
+    plain = re.sub(rb" (?:outside|volume|absent)", b"", text)
+    require(tool.ask("hobs", case.data[: sum(lengths)]) == (0, plain), "hobs: another text without an image")
+    count = tool.pick.randrange(sum(lengths))
+    start = max(it for it in itertools.accumulate(lengths, initial=0) if it <= count)
+    refusal = f"hob fault {5 if start == count else 1} at {start}"
+    require(tool.ask("hobs", case.data[:count]) == (2, line(refusal)), f"hobs: a prefix of {count} is not {refusal}")
+    return "list accepted"
+
+
+NAME = "0a0a0a0a-0a0a-0a0a-0a0a-0a0a0a0a0a0a"
+WRONG_WORDS = """help|--help|-h|--version|-V|Normalise|normalise --help|list --bogus|list a b|compare|compare a|
+compare a b c|check --hex=1|scan a b|extract|extract a|extract --name|extract --name zz a|extract --name 0a0a a|
+extract --name NAME --section 100 a|extract --name NAME --section 0x1 a|extract --name NAME --section +1 a|
+extract --name NAME --section g a|extract --name NAME --instance -1 a|extract --name NAME --instance 4294967296 a|
+extract --name NAME --instance x a|hobs --image a b|hobs --base 1 b|hobs --image a --base -1 b|list -x|hobs a b|
+hobs --image a --base 0x10 b|hobs --image a --base 18446744073709551616 b|list --name NAME a"""
+
+
+def check_words(tool, _case):
+    """Words that name no command, a file that is not there, and text that spells no bytes."""
+    command = tool.pick.choice(("normalise", "list", "check", "scan", "hobs", "extract"))
+    way = tool.pick.randrange(3)
+    if way == 0:
+        words = tool.pick.choice(WRONG_WORDS.split("|")).replace("NAME", NAME).split()
+        wanted = 3, b"wrong words\n"
+    else:
+        words = [command, *["--name", NAME] * (command == "extract")]
+        wanted = 2, b"fault 25 at 0\n"
+    if way == 1:
+        words += ["--", "--hex"] if tool.pick.randrange(2) else [tool.pick.choice(("-", "no file", tool.folder))]
+    elif way == 2:
+        text = tool.pick.choice((b"0", b"0g", b"00 1", b"0x00", b"\xff\xff", b"00\x0b00", b"00" * 100 + b"\n0"))
+        words += ["--hex", tool.put("text", text)]
+    answer = tool.start(words)
+    require(answer == wanted, f"{words}: {answer}, not {wanted}")
+    return "words"
+
+
+CHECKS = {"volume": check_volume, "image": check_image, "list": check_list, "words": check_words}
+
+
+# The whole run
+
+
+def write_case(options, index, case):
+    """Writes an input, its twin and its image to the folder for findings: the names that they begin with."""
+    os.makedirs(options.keep, exist_ok=True)
+    stem = os.path.join(options.keep, f"{options.seed}-{index}")
+    for end, data in (("input", case.data), ("twin", case.twin), ("image", case.image)):
+        if data is not None:
+            Path(f"{stem}.{end}").write_bytes(data)
+    return stem
+
+
+class Run:
+    """The inputs of one call of this script, tried with files in the folder `room`."""
+
+    def __init__(self, options, room):
+        self.options = options
+        self.room = room
+        self.outcomes = collections.Counter()
+        self.calls = 0
+        self.lock = threading.Lock()
+
+    def try_one(self, index):
+        """Makes one input and looks at what the program does with it."""
+        options = self.options
+        case = make_case(options.seed, index)
+        folder = os.path.join(self.room, str(threading.get_ident()))
+        os.makedirs(folder, exist_ok=True)
+        tool = Tool(options.program, options.seconds, folder, random.Random(f"{options.seed}/{index} checks"))
+        try:
+            outcome = CHECKS[case.kind](tool, case)
+        except Wrong as wrong:
+            outcome = "finding"
+            self.keep(index, case, str(wrong))
+        with self.lock:
+            self.outcomes[outcome] += 1
+            self.calls += tool.calls
+
+    def keep(self, index, case, what):
+        """Keeps an input of which a promise is not kept."""
+        stem = write_case(self.options, index, case)
+        again = f"fuzz.py --seed {self.options.seed} --first {index} --count 1"
+        Path(f"{stem}.txt").write_text(f"{case.kind}: {what}\nbase {case.base}\nagain: {again}\n")
+        print(f"FINDING {index} ({case.kind}): {what}\n  kept as {stem}.*; again: {again}", flush=True)
+
+    def summary(self, took):
+        faults = sorted((int(it.split()[1]), count) for it, count in self.outcomes.items() if it.startswith("refused"))
+        refused = sum(count for _, count in faults)
+        by_number = ", ".join(f"{number}: {count}" for number, count in faults)
+        others = ", ".join(f"{it} {self.outcomes[it]}" for it in ("scanned", "list accepted", "list refused", "words"))
+        return (
+            f"count {sum(self.outcomes.values())} seed {self.options.seed} first {self.options.first}: "
+            f"volumes accepted {self.outcomes['accepted']}, refused {refused} ({by_number}); {others}; "
+            f"runs {self.calls}, seconds {took:.0f}, findings {self.outcomes['finding']}"
+        )
+
+    def go(self):
+        start = time.monotonic()
+        last = self.options.first + self.options.count if self.options.count else None
+        numbers = itertools.count(self.options.first) if last is None else iter(range(self.options.first, last))
+        with concurrent.futures.ThreadPoolExecutor(self.options.jobs) as pool:
+            try:
+                while chunk := list(itertools.islice(numbers, 500)):
+                    collections.deque(pool.map(self.try_one, chunk), 0)
+                    if self.options.progress:
+                        print(self.summary(time.monotonic() - start), file=sys.stderr, flush=True)
+            except KeyboardInterrupt:
+                pool.shutdown(cancel_futures=True)
+        print(self.summary(time.monotonic() - start))
+        return 1 if self.outcomes["finding"] else 0
+
+
+def show(options):
+    """Writes inputs as files, and runs nothing."""
+    for index in range(options.first, options.first + options.count):
+        case = make_case(options.seed, index)
+        stem = write_case(options, index, case)
+        print(f"{stem}.*: {case.kind}, {len(case.data)} bytes", f"base {case.base}" if case.image is not None else "")
+    return 0
+
+
+def main():
+    reader = argparse.ArgumentParser(description=__doc__)
+    reader.add_argument("--count", type=int, default=1000, help="how many inputs; 0: until it is interrupted")
+    reader.add_argument("--seed", type=int, default=int(time.time()), help="a number; by default the time")
+    reader.add_argument("--first", type=int, default=0, help="the number of the first input")
+    reader.add_argument("--program", default=str(ROOT / "crates/fv_tool/out/fv_tool"), help="the built program")
+    reader.add_argument("--jobs", type=int, default=os.cpu_count(), help="how many inputs at a time")
+    reader.add_argument("--seconds", type=float, default=10, help="how long one run of the program may take")
+    reader.add_argument("--keep", default=str(ROOT / "fuzz/out"), help="the folder for inputs with a finding")
+    reader.add_argument("--show", action="store_true", help="write the inputs to that folder, and run nothing")
+    reader.add_argument("--progress", action="store_true", help="print the figures so far to standard error")
+    options = reader.parse_args()
+    if options.show:
+        return show(options)
+    if not os.access(options.program, os.X_OK):
+        reader.error(f"{options.program} is not there: ./fvtool < crates/fv_tool/stdin builds it")
+    options.program = os.path.abspath(options.program)
+    in_memory = "/dev/shm" if os.access("/dev/shm", os.W_OK) else None
+    with tempfile.TemporaryDirectory(prefix="fuzz-", dir=in_memory) as room:
+        return Run(options, room).go()
+
+
+if __name__ == "__main__":
+    sys.exit(main())
