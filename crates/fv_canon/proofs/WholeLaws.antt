@@ -2,6 +2,7 @@
 use Rattle.std.proofs.Common.{◌≡◌, ◌≢◌, ◌⊎◌, ◌≤◌, ◌<◌, ◌+◌, ◌-◌, ◌^◌, ℕ, zero, suc, List, [], ◌∷◌, ◌++◌, length, take, drop, get_or, refl, sym, ap}
 use Rattle.std.proofs.Common.{◌∙◌, subst, arith, inl, inr, append_assoc, length-append}
 use Rattle.std.specs.List.{AllByRecursion, Contains}
+use Rattle.std.proofs.lemmas.Bool.{cases_lt}
 use Rattle.std.proofs.lemmas.List.{drop_more, ext_get_or, get_or-drop, get_or-take, length-drop, length-take-le, take_more, take-append-drop}
 use Rattle.std.proofs.Math.ListN.{drop_of_length-le}
 use Rattle.std.proofs.Math.Seq.{drop-append_seam, take-append_seam}
@@ -28,14 +29,6 @@ use Rattle.fv_canon.proofs.InputLaws.{image_fits, want_known}
 use Rattle.fv_canon.proofs.ImageLaws.{image_stays_long}
 use Rattle.fv_canon.proofs.MeaningLaws.{one_meaning}
 use Rattle.fv_canon.proofs.OneLaws.{image_one}
-
-order : (a k : ℕ) → (a ≤ k) ⊎ (k < a)
-order zero k = inl (omega arith)
-order (suc a) zero = inr (omega arith)
-order (suc a) (suc k) = up (order a k) where
-  up : (a ≤ k) ⊎ (k < a) → (suc a ≤ suc k) ⊎ (suc k < suc a)
-  up (inl l) = inl (omega (arith, l))
-  up (inr l) = inr (omega (arith, l))
 
 -- ---- bytes
 
@@ -92,16 +85,16 @@ renewed_others : (from : ℕ) (b ps o : List ℕ) → RenewsFrom from b ps o →
 renewed_others from b [] o same k low none =
     sym (rest_at o from k low) ∙ (ap (λ (l : List ℕ). get_or l (k - from) 0) same ∙ rest_at b from k low)
 renewed_others from b (p ∷ ps) o (n, least, v, same, to, more) k low none =
-    go (order p k) (order (p + n) k)
+    go (cases_lt k p) (cases_lt k (p + n))
     (λ past. renewed_others (p + n) b ps o more k past (λ c. none (c.0, c.1, behind p ps c.0 c.2, c.3, c.4, c.5)))
   where
-    go : (p ≤ k) ⊎ (k < p) → (p + n ≤ k) ⊎ (k < p + n) → (p + n ≤ k → get_or o k 0 ≡ get_or b k 0) → get_or o k 0 ≡ get_or b k 0
-    go (inr before) _ _ =
+    go : (k < p) ⊎ (p ≤ k) → (k < p + n) ⊎ (p + n ≤ k) → (p + n ≤ k → get_or o k 0 ≡ get_or b k 0) → get_or o k 0 ≡ get_or b k 0
+    go (inl before) _ _ =
         let inside : k < from + (p - from) = omega (arith, before, least) in
         sym (field_at o from (p - from) k low inside)
         ∙ (ap (λ (l : List ℕ). get_or l (k - from) 0) same ∙ field_at b from (p - from) k low inside)
-    go (inl at) (inr inside) _ = absurd (none (p, n, (0, omega arith, refl), v, at, inside))
-    go (inl at) (inl past) later = later past
+    go (inr at) (inl inside) _ = absurd (none (p, n, (0, omega arith, refl), v, at, inside))
+    go (inr at) (inr past) later = later past
 
 renewed_is : (b places o : List ℕ) → RenewsFrom 0 b places o → length o ≡ length b → Renewed b places o
 renewed_is b places o walk long = record {
@@ -286,7 +279,7 @@ covered_known : (b o ps : List ℕ) (k : ℕ) → AllByRecursion (IsRenewed b o)
 covered_known b o [] k all = inr none where
   none : IsCovered b [] k → ⊥
   none (p, m, (j, l, e), w, low, high) = omega (arith, l)
-covered_known b o (p ∷ ps) k ((n, v, to), all) = go (order p k) (order (p + n) k) (covered_known b o ps k all) where
+covered_known b o (p ∷ ps) k ((n, v, to), all) = go (cases_lt k p) (cases_lt k (p + n)) (covered_known b o ps k all) where
   before : k < p → (IsCovered b ps k → ⊥) → IsCovered b (p ∷ ps) k → ⊥
   before less none (q, m, has, w, low, high) = at (in_front p ps q has) where
     at : (p ≡ q) ⊎ Contains ps q → ⊥
@@ -299,13 +292,13 @@ covered_known b o (p ∷ ps) k ((n, v, to), all) = go (order p k) (order (p + n)
     at (inl e) = omega (arith, e, most, high, one_length b p n m v (subst (λ (i : ℕ). VolumeAt b i m) (sym e) w))
     at (inr h) = none (q, m, h, w, low, high)
 
-  go : (p ≤ k) ⊎ (k < p) → (p + n ≤ k) ⊎ (k < p + n) → IsCovered b ps k ⊎ (IsCovered b ps k → ⊥)
+  go : (k < p) ⊎ (p ≤ k) → (k < p + n) ⊎ (p + n ≤ k) → IsCovered b ps k ⊎ (IsCovered b ps k → ⊥)
       → IsCovered b (p ∷ ps) k ⊎ (IsCovered b (p ∷ ps) k → ⊥)
-  go (inl at) (inr inside) _ = inl (p, n, (0, omega arith, refl), v, at, inside)
-  go (inl at) (inl most) (inl c) = inl (c.0, c.1, behind p ps c.0 c.2, c.3, c.4, c.5)
-  go (inl at) (inl most) (inr none) = inr (past most none)
-  go (inr less) _ (inl c) = inl (c.0, c.1, behind p ps c.0 c.2, c.3, c.4, c.5)
-  go (inr less) _ (inr none) = inr (before less none)
+  go (inr at) (inl inside) _ = inl (p, n, (0, omega arith, refl), v, at, inside)
+  go (inr at) (inr most) (inl c) = inl (c.0, c.1, behind p ps c.0 c.2, c.3, c.4, c.5)
+  go (inr at) (inr most) (inr none) = inr (past most none)
+  go (inl less) _ (inl c) = inl (c.0, c.1, behind p ps c.0 c.2, c.3, c.4, c.5)
+  go (inl less) _ (inr none) = inr (before less none)
 
 one_of : (P : ℕ → Type 0) (xs : List ℕ) (x : ℕ) → AllByRecursion P xs → Contains xs x → P x
 one_of P [] x h (k, l, e) = absurd (omega (arith, l))
