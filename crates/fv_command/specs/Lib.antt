@@ -1,4 +1,5 @@
 pub mod Checks
+pub mod Files
 pub mod HexIn
 pub mod HexLaws
 pub mod HexPairs

@@ -1,5 +1,8 @@
 //! What a run is to do.
 
+ghost use Rattle.std.specs.Prelude.{◌≡◌, option_copied};
+ghost use Rattle.fv_command.specs.Files.{first_file, second_file};
+
 use crate::extracting::Part;
 
 /// What a line of words asks for.
@@ -65,7 +68,9 @@ pub struct ImageFile {
 
 impl Plan {
     /// The file of the first input, or None for standard input.
-    pub fn first(&self) -> Option<&String> {
+    pub fn first(&self) -> Option<&String>
+        ensures { option_copied result ≡ first_file self.now.command }
+    {
         match &self.command {
             Command::Single { file, .. } | Command::Hobs { file, .. } => file.as_ref(),
             Command::Compare { first, .. } => Some(first),
@@ -73,7 +78,9 @@ impl Plan {
     }
 
     /// The file of the second input, where there is one.
-    pub fn second(&self) -> Option<&String> {
+    pub fn second(&self) -> Option<&String>
+        ensures { option_copied result ≡ second_file self.now.command }
+    {
         match &self.command {
             Command::Single { .. } => None,
             Command::Hobs { image, .. } => image.as_ref().map(|image| &image.path),
