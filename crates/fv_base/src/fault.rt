@@ -35,7 +35,8 @@ pub enum FaultKind {
     /// (at `FvLength`); or an input is longer than the limit (at the limit).
     #[error("the length is out of range")]
     Length,
-    /// The extended header, at `ExtHeaderOffset`, does not lie in the volume, or `ExtHeaderSize` is out of range. At 52.
+    /// The extended header, at `ExtHeaderOffset`, does not lie in the volume, or `ExtHeaderSize` is out of range. At
+    /// 52.
     #[error("the extended header is out of range")]
     ExtHeader,
     /// `State` has bit 40 or 80. At the file + 23.
