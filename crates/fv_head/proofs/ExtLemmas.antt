@@ -250,7 +250,8 @@ record Tests (o n s len : ℕ) : Type 0 where
   pub most : s ≤ ext_limit
   pub within : o + s ≤ len
 
-tests_of : (o n s len : ℕ) → (nat_le n o && nat_le (o + 20) len && nat_le 20 s && nat_le s ext_limit && nat_le (o + s) len) ≡ true → Tests o n s len
+tests_of : (o n s len : ℕ)
+    → (nat_le n o && nat_le (o + 20) len && nat_le 20 s && nat_le s ext_limit && nat_le (o + s) len) ≡ true → Tests o n s len
 tests_of o n s len h =
     let one = and_split _ _ h in
     let two = and_split _ _ one.0 in

@@ -425,7 +425,8 @@ pub record ExtThere (e : Extent) (b : List ℕ) : Type 0 where
   pub size : le_at 16 4 (field (ext_offset_at b) (ext_size_at b) b) ≡ ext_size_at b
   pub read : (x : Extension) → IsExt x (field (ext_offset_at b) (ext_size_at b) b) → HasExt (Some x) e b
 
-pub ext_there : {b : List ℕ} {e : Extent} {offset : ℕ} → ((h : HeadFields) × Front h e b) → offset ≡ ext_offset_at b → (offset ≡ 0 → ⊥) → ExtThere e b
+pub ext_there : {b : List ℕ} {e : Extent} {offset : ℕ} → ((h : HeadFields) × Front h e b) → offset ≡ ext_offset_at b → (offset ≡ 0 → ⊥)
+    → ExtThere e b
 ext_there {b} {e} {offset} found at some =
     let front = found.1 in
     let s = stands found.0.ext e b front.ext (λ none. some (at ∙ none)) in

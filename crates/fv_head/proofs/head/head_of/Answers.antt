@@ -17,12 +17,14 @@ u32_at-requires c =
 pub invariant_of-result : goal.invariant_of-result
 invariant_of-result c =
     let front = kept_fields c.args.bytes.now c.args.extent.now _ _ _ _ _ _ c.requires.front
-    (c.copy_from_slice.ensures.after ∙ c.field-2.ensures.bytes) c.volume_len_at.ensures (c.from_bits_retain.ensures tt ∙ c.u32_at.ensures) refl
+    (c.copy_from_slice.ensures.after ∙ c.field-2.ensures.bytes) c.volume_len_at.ensures
+    (c.from_bits_retain.ensures tt ∙ c.u32_at.ensures) refl
     (c.in_ok-blocks.ensures.ok ∙ ap pairs_of c.field.ensures.bytes) c.in_ok-ext_at.ensures.ok in
     (_, front.head)
 
 pub returns-clause-ok : goal.returns-clause-ok
 returns-clause-ok c =
     kept_fields c.args.bytes.now c.args.extent.now _ _ _ _ _ _ c.requires.front
-    (c.copy_from_slice.ensures.after ∙ c.field-2.ensures.bytes) c.volume_len_at.ensures (c.from_bits_retain.ensures tt ∙ c.u32_at.ensures) refl
+    (c.copy_from_slice.ensures.after ∙ c.field-2.ensures.bytes) c.volume_len_at.ensures
+    (c.from_bits_retain.ensures tt ∙ c.u32_at.ensures) refl
     (c.in_ok-blocks.ensures.ok ∙ ap pairs_of c.field.ensures.bytes) c.in_ok-ext_at.ensures.ok
