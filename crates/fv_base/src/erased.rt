@@ -17,7 +17,7 @@ fn is_even(piece: &[u8], byte: u8) -> bool
     seen == 0
 }
 
-/// Whether every one of the bytes is this one.
+/// Whether every one of the bytes is this one. It is so of no bytes. Takes no memory.
 pub fn all_are(bytes: &[u8], byte: u8) -> bool
     ensures test { result ≡ all_are byte bytes.now }
     ensures all { IsTrue result ↔ AllAre byte bytes.now }

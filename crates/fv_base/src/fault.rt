@@ -9,49 +9,52 @@ use thiserror::Error;
 /// Why an input was refused, or a run stopped. Each variant says at which offset it stands.
 #[derive(Clone, Copy, Debug, PartialEq, Eq, Error)]
 pub enum FaultKind {
-    /// Fewer than 56 bytes, than HeaderLength or than FvLength. At the end of the bytes.
+    /// Fewer than 56 bytes, than `HeaderLength` or than `FvLength`. At the end of the bytes.
     #[error("the bytes end before the volume does")]
     Truncated,
-    /// The four bytes at 40 are not `_FVH`. At 40.
+    /// `Signature`, the four bytes at 40, is not `_FVH`, `EFI_FVH_SIGNATURE`. At 40.
     #[error("the signature is not _FVH")]
     Signature,
-    /// The GUID at 16 is neither that of FFS2 nor that of FFS3. At 16.
+    /// `FileSystemGuid`, at 16, is neither that of FFS2 nor that of FFS3. At 16.
     #[error("the file system is neither FFS2 nor FFS3")]
     FileSystem,
-    /// The byte at 55 is not 2. At 55.
+    /// `Revision`, the byte at 55, is not 2, `EFI_FVH_REVISION`. At 55.
     #[error("the header is not of revision 2")]
     Revision,
-    /// HeaderLength is no multiple of 8 from 64 to 2112. At 48.
+    /// `HeaderLength` is no multiple of 8 from 64 to 2112. At 48.
     #[error("the header length is out of range")]
     HeaderLength,
-    /// The words of the header do not sum to 0. At 0.
+    /// The words of the header do not sum to 0 with its `Checksum`. At 0.
     #[error("the volume header has a wrong sum")]
     HeaderSum,
-    /// The first pair of zeros does not stand at HeaderLength - 8, or the blocks do not sum to FvLength. At 56.
+    /// Of `BlockMap` the first pair of zeros does not stand at `HeaderLength` - 8, or the blocks do not sum to
+    /// `FvLength`. At 56.
     #[error("the block map does not make up the volume")]
     BlockMap,
-    /// FvLength is no multiple of 8, below HeaderLength or above the limit (at 32); bytes stand behind the volume (at FvLength); or an input is longer than the limit (at the limit).
+    /// `FvLength` is no multiple of 8, below `HeaderLength` or above the limit (at 32); bytes stand behind the volume
+    /// (at `FvLength`); or an input is longer than the limit (at the limit).
     #[error("the length is out of range")]
     Length,
-    /// The extended header does not lie in the volume, or its size is out of range. At 52.
+    /// The extended header, at `ExtHeaderOffset`, does not lie in the volume, or `ExtHeaderSize` is out of range. At
+    /// 52.
     #[error("the extended header is out of range")]
     ExtHeader,
-    /// State bits 40 or 80. At the file + 23.
+    /// `State` has bit 40 or 80. At the file + 23.
     #[error("the state of a file is not known")]
     FileState,
-    /// The bytes of a file header do not sum to 0. At the file.
+    /// The bytes of a file header do not sum to 0 with `IntegrityCheck.Checksum.Header`. At the file.
     #[error("a file header has a wrong sum")]
     FileHeaderSum,
-    /// A size below the header or past the end. At the file + 20.
+    /// `Size` or `ExtendedSize` is below the header or past the end. At the file + 20.
     #[error("the size of a file is out of range")]
     FileSize,
-    /// Attribute 01 in FFS2. At the file + 19.
+    /// `FFS_ATTRIB_LARGE_FILE`, attribute 01, in FFS2. At the file + 19.
     #[error("a large file in FFS2")]
     LargeFile,
-    /// The file sum is wrong. At the file + 17.
+    /// The file sum, `IntegrityCheck.Checksum.File`, is wrong. At the file + 17.
     #[error("a file has a wrong sum")]
     FileSum,
-    /// Attribute 04. At the file + 19.
+    /// `FFS_ATTRIB_FIXED`, attribute 04. At the file + 19.
     #[error("a file is marked fixed")]
     Fixed,
     /// At the first such byte.
@@ -60,10 +63,10 @@ pub enum FaultKind {
     /// At the later file.
     #[error("two files of one state have one name")]
     DuplicateName,
-    /// At the file.
+    /// The file named `EFI_FFS_VOLUME_TOP_FILE_GUID` is not the last, or does not end with the volume. At the file.
     #[error("the volume top file is not at the end")]
     TopFile,
-    /// At the section header.
+    /// `Size` or `ExtendedSize` is below the header or past the end. At the section header.
     #[error("the size of a section is out of range")]
     SectionSize,
     /// One to three bytes where a section would begin. At the first of them.

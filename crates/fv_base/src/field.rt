@@ -1,9 +1,9 @@
-//! Places in bytes: a field at an offset, and the next multiple of 8.
+//! Places in bytes: a field at an offset, the number that it spells, and the next multiple of 8.
 
 ghost use Rattle.std.specs.Prelude.{◌≡◌, ◌+◌, ◌<◌, ◌≤◌, ◌^◌, length};
-ghost use Rattle.fv_base.specs.Value.{field, up_to_8};
+ghost use Rattle.fv_base.specs.Value.{field, le_at, up_to_8};
 
-/// The bytes of a field: `size` bytes from the offset `at` on.
+/// The bytes of a field: `size` bytes from the offset `at` on, which lie within `bytes`.
 pub fn field(bytes: &[u8], at: usize, size: usize) -> &[u8]
     requires { at + size ≤ length bytes.now }
     ensures bytes { result.now ≡ field at size bytes.now }
@@ -12,7 +12,36 @@ pub fn field(bytes: &[u8], at: usize, size: usize) -> &[u8]
     &bytes[at..at + size]
 }
 
-/// The least multiple of 8 that is at least `offset`.
+/// The number of 2 bytes at the offset `at`, the least significant byte first. They lie within `bytes`.
+pub fn u16_at(bytes: &[u8], at: usize) -> u16
+    requires { at + 2 ≤ length bytes.now }
+    ensures { result ≡ le_at at 2 bytes.now }
+{
+    let part = field(bytes, at, 2);
+    u16::from_le_bytes([part[0], part[1]])
+}
+
+/// The number of 4 bytes at the offset `at`, the least significant byte first. They lie within `bytes`.
+pub fn u32_at(bytes: &[u8], at: usize) -> u32
+    requires { at + 4 ≤ length bytes.now }
+    ensures { result ≡ le_at at 4 bytes.now }
+{
+    let part = field(bytes, at, 4);
+    u32::from_le_bytes([part[0], part[1], part[2], part[3]])
+}
+
+/// The number of 8 bytes at the offset `at`, the least significant byte first. They lie within `bytes`.
+pub fn u64_at(bytes: &[u8], at: usize) -> u64
+    requires { at + 8 ≤ length bytes.now }
+    ensures { result ≡ le_at at 8 bytes.now }
+{
+    let part = field(bytes, at, 8);
+    u64::from_le_bytes([
+        part[0], part[1], part[2], part[3], part[4], part[5], part[6], part[7],
+    ])
+}
+
+/// The least multiple of 8 that is at least `offset`, which is below 2 ^ 64 - 7.
 pub fn up_to_8(offset: u64) -> u64
     requires { offset + 7 < 2 ^ 64 }
     ensures { result ≡ up_to_8 offset }

@@ -7,7 +7,7 @@ ghost use Rattle.fv_base.specs.Value.{field};
 use crate::field::field;
 use uuid::Uuid;
 
-/// A GUID: sixteen bytes as they stand in a volume. (PI specification, volume 1; UEFI
+/// A GUID, `EFI_GUID`: sixteen bytes as they stand in a volume. (PI specification, volume 1; UEFI
 /// specification, appendix A.)
 #[derive(Clone, Copy, Debug, PartialEq, Eq, PartialOrd, Ord)]
 pub struct Guid {
@@ -57,7 +57,7 @@ impl Guid {
     }
 }
 
-/// The GUID that stands at an offset of some bytes.
+/// The GUID that stands at the offset `at` of some bytes, of which 16 are there.
 pub fn guid_at(bytes: &[u8], at: usize) -> Guid
     requires { at + 16 ≤ length bytes.now }
     ensures { bytes_of result ≡ field at 16 bytes.now }

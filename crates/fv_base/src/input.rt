@@ -11,7 +11,7 @@ use crate::port::Port;
 use std::alloc::{AllocError, Global};
 use std::io::{ErrorKind, Read};
 
-/// So many zero bytes.
+// So many zero bytes.
 fn zeros(alloc: Global, count: usize) -> Result<Vec<u8>, AllocError>
     ensures { IfOk result (λ v. vec_len v ≡ count) }
 {
@@ -30,7 +30,7 @@ enum Turn {
     Failed,
 }
 
-/// One read, whose bytes go behind those that are there. It asks for no more than the limit.
+// One read, whose bytes go behind those that are there. It asks for no more than the limit.
 fn read_more<R: Read>(
     reader: &mut Port<R>,
     chunk: &mut [u8],
@@ -53,12 +53,13 @@ fn read_more<R: Read>(
     }
 }
 
-/// Reads an input to its end. `Interrupted` is asked again, and counts as a turn.
+/// The bytes of an input, read to its end: at most as many as a volume has. `Interrupted` is asked again, and counts
+/// as a turn.
 ///
 /// # Errors
 ///
-/// ReadFault at the bytes read so far, where the reader fails or the turns run out; Length at
-/// the limit, where more bytes come; OutOfMemory.
+/// ReadFault at the bytes read so far, where the reader fails or the turns run out; Length at the limit, where
+/// more bytes come; OutOfMemory at 0. The first that comes is answered.
 pub fn read_input<R: Read>(alloc: Global, reader: &mut Port<R>) -> Result<Vec<u8>, Fault>
     ensures ok { IfOk result (λ v. ReadsWhole (R.remaining (inner_of reader.old)) (R.remaining (inner_of reader.new)) v.items) }
     ensures err { IfErr result (ReadStops (R.remaining (inner_of reader.old)) (R.remaining (inner_of reader.new))) }

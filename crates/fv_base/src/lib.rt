@@ -1,18 +1,18 @@
 //! What every crate here speaks of: GUIDs, sums, alignments, faults, limits, ports and sinks.
 #![tactic(auto)]
 
-pub mod align;
-pub mod byte_list;
-pub mod erased;
-pub mod fault;
+mod align;
+mod byte_list;
+mod erased;
+mod fault;
 pub mod field;
-pub mod flash;
-pub mod guid;
-pub mod input;
+mod flash;
+mod guid;
+mod input;
 pub mod limits;
-pub mod port;
-pub mod sink;
-pub mod sums;
+mod port;
+mod sink;
+mod sums;
 #[cfg(test)]
 mod tests;
 

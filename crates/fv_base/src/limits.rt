@@ -1,6 +1,6 @@
-//! The limits of what is read, each of them once in code. For those of volumes, headers and reads the definitions have their own
-//! numbers (`specs/Limits.antt`), and contracts tie the two: such a limit is changed in both, or nothing is proved. The limits of
-//! hexadecimal text and of calls of `read` have no definition: tests show them.
+//! The limits of what is read, each of them once in code. For those of volumes, headers and reads the definitions
+//! have their own numbers (`specs/Limits.antt`), and contracts tie the two: such a limit is changed in both, or
+//! nothing is proved. The limits of hexadecimal text and of calls of `read` have no definition: tests show them.
 
 /// The most bytes that a volume has, and that a run takes as binary input.
 pub const VOLUME_LIMIT: u64 = 268_435_456;
@@ -17,8 +17,9 @@ pub const TEXT_LIMIT: u64 = 4 * VOLUME_LIMIT;
 /// The most bytes that one read asks for.
 pub const READ_LIMIT: usize = 65_536;
 
-/// The most calls of `read` for one binary input. A reader that gives a byte a call needs `VOLUME_LIMIT + 1` of them: the last
-/// meets the end, or gives the byte that is too many. One more is to spare, so the calls run out only where one was interrupted.
+/// The most calls of `read` for one binary input. A reader that gives a byte a call needs `VOLUME_LIMIT + 1` of them:
+/// the last meets the end, or gives the byte that is too many. One more is to spare, so the calls run out only where
+/// one was interrupted.
 pub const READ_TURNS: u32 = VOLUME_LIMIT as u32 + 2;
 
 /// The most calls of `read` for one input of hexadecimal text, for the same reason.

@@ -30,7 +30,7 @@ pub trait Sink {
         ensures { takes self.old bytes.now self.new };
 }
 
-/// The bytes from a place on.
+// The bytes from a place on.
 fn behind(bytes: &[u8], at: usize) -> &[u8]
     requires { at ≤ length bytes.now }
     ensures { result.now ≡ drop at bytes.now }
@@ -38,7 +38,7 @@ fn behind(bytes: &[u8], at: usize) -> &[u8]
     &bytes[at..]
 }
 
-/// Writes a front of the bytes, all of them unless the port errs.
+// Writes a front of the bytes, all of them unless the port errs.
 fn write_front<W: Write>(port: &mut Port<W>, bytes: &[u8]) -> usize
     ensures bound { result ≤ length bytes.now }
     ensures front { Appends (W.contents (inner_of port.old)) (W.contents (inner_of port.new)) (take result bytes.now) }
@@ -98,6 +98,10 @@ pub struct ListSink {
 
 impl ListSink {
     /// A sink with room for so many bytes.
+    ///
+    /// # Errors
+    ///
+    /// `AllocError` where the memory is not there.
     pub fn with_room(alloc: Global, total: usize) -> Result<ListSink, AllocError>
         ensures { IfOk result (λ s. (kept_in s ≡ []) × (is_on s ≡ true)) }
     {
@@ -107,7 +111,11 @@ impl ListSink {
         })
     }
 
-    /// The bytes that it took, or OutOfMemory where a growth was refused.
+    /// The bytes that it took.
+    ///
+    /// # Errors
+    ///
+    /// OutOfMemory where a growth was refused.
     pub fn finish(self) -> Result<ByteList, Fault>
         ensures ok { IfOk result (λ bytes. (is_on self ≡ true) × (bytes ≡ kept_in self)) }
         ensures err { IfErr result (λ f. f ≡ want_of_memory) }
@@ -138,7 +146,7 @@ static ZEROS: [u8; 65536] = [0; 65536];
 
 static ONES: [u8; 65536] = [0xff; 65536];
 
-/// Zero bytes, some of them.
+// Zero bytes, some of them.
 fn zeros() -> &'static [u8]
     ensures some { 0 < length result.now }
     ensures same { result.now ≡ replicate (length result.now) 0 }
@@ -146,7 +154,7 @@ fn zeros() -> &'static [u8]
     &ZEROS
 }
 
-/// Bytes FF, some of them.
+// Bytes FF, some of them.
 fn ones() -> &'static [u8]
     ensures some { 0 < length result.now }
     ensures same { result.now ≡ replicate (length result.now) 255 }
@@ -154,7 +162,7 @@ fn ones() -> &'static [u8]
     &ONES
 }
 
-/// A run of the byte, of some length.
+// A run of the byte, of some length.
 fn run_of(byte: u8) -> &'static [u8]
     requires { (byte ≡ 0) ⊎ (byte ≡ 255) }
     ensures some { 0 < length result.now }
@@ -163,7 +171,7 @@ fn run_of(byte: u8) -> &'static [u8]
     if byte == 0 { zeros() } else { ones() }
 }
 
-/// The first `count` bytes of the chunk.
+// The first `count` bytes of the chunk.
 fn cut(chunk: &[u8], count: u64) -> &[u8]
     requires { count ≤ length chunk.now }
     ensures { result.now ≡ take count chunk.now }
@@ -171,7 +179,7 @@ fn cut(chunk: &[u8], count: u64) -> &[u8]
     &chunk[..count as usize]
 }
 
-/// Puts so many bytes, a chunk at a time.
+// Puts so many bytes, a chunk at a time.
 fn fill_by<S: Sink>(out: &mut S, chunk: &[u8], byte: u8, count: u64)
     requires some { 0 < length chunk.now }
     requires same { chunk.now ≡ replicate (length chunk.now) byte }

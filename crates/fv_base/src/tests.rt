@@ -58,7 +58,7 @@ const FORMS: &str = "\
     1BA0062E-C779-4582-8566-336AE8F78F09 1BA0062EC77945828566336AE8F78F09 \
     {1BA0062E-C779-4582-8566-336AE8F78F09}";
 
-/// Whether all forms of a line are read as the first is.
+// Whether all forms of a line are read as the first is.
 fn is_one_name(line: &str) -> Option<bool> {
     let mut forms = line.split_whitespace();
     let guid = Guid::parse(forms.next()?)?;
@@ -126,7 +126,7 @@ const ALIGNMENTS: &str = "\
     48 32768 8388608
     56 65536 16777216";
 
-/// Whether the alignments of a line are those of its bits, whatever the other bits are.
+// Whether the alignments of a line are those of its bits, whatever the other bits are.
 fn has_alignments(line: &str) -> Option<bool> {
     let mut words = line.split_whitespace();
     let bits: u8 = words.next()?.parse().ok()?;

@@ -1,6 +1,6 @@
 -- A file's checks hold exactly where its bytes are a file.
 use Rattle.std.proofs.Common.{◌≡◌, ◌≤◌, ◌<◌, ℕ, ◌+◌, ◌-◌, List, ◌++◌, length, take, drop, inl, inr, refl, sym, ap, ◌∙◌, subst, arith, Bool, true, false, length-append, append_assoc}
-use Rattle.std.specs.Prelude.{◌==◌, ◌⊎◌, ◌||◌, not, slice_index, Some, Ok, Err}
+use Rattle.std.specs.Prelude.{nat_le, ◌==◌, ◌⊎◌, ◌||◌, not, slice_index, Some, Ok, Err}
 use Rattle.std.proofs.lemmas.Bool.{leb-true, le-leb, eqb-true, eqb-false, eq-eqb}
 use Rattle.std.proofs.lemmas.List.{take-append-drop, take_at, drop_at, take-append-le, length-take-le, get_or-take}
 use Rattle.std.proofs.Math.ListN.{get_or-append}
@@ -14,7 +14,7 @@ use Rattle.fv_base.specs.declared.flash.Polarity.{Polarity}
 use Rattle.fv_base.proofs.CheckLemmas.{and_split, and_join, all_hold, none_faulty, verdict_ok, verdict_err, verdict_none}
 use Rattle.fv_base.proofs.FieldLemmas.{field-take, field-append_front}
 use Rattle.fv_file.specs.Attributes.{attribute_bits, is_large, is_fixed}
-use Rattle.fv_file.specs.FileChecks.{allows_large, attributes_at, header_len_at, size_at, payload_at, has_size, has_file_sum, file_checks}
+use Rattle.fv_file.specs.FileChecks.{may_be_large, has_header_sum, is_passed, allows_large, attributes_at, header_len_at, size_at, payload_at, has_size, has_file_sum, file_checks}
 use Rattle.fv_file.specs.Files.{pad_kind, header_len_of, size_in, head_in, header_sum_of, file_sum_right, IsFile, IsSound}
 use Rattle.fv_file.specs.Reading.{file_verdict}
 use Rattle.fv_file.specs.States.{StateOf, is_alive}
@@ -53,6 +53,25 @@ pub record FileAt (system : FileSystem) (polarity : Polarity) (state : FileState
   pub is_file : IsFile system polarity (head_in state r) (payload_at r) (take (size_at r) r)
   pub sound : is_alive state ≡ true → (slice_index r 18 == pad_kind) ≡ false → IsSound (head_in state r) (payload_at r)
 
+-- the checks of a file, each by the name of what it is of
+record Checked (system : FileSystem) (alive : Bool) (r : List ℕ) : Type 0 where
+  pub large : may_be_large system r ≡ true
+  pub header_within : nat_le (header_len_at r) (length r) ≡ true
+  pub header_sum : has_header_sum r ≡ true
+  pub size : has_size r ≡ true
+  pub fixed : (is_passed alive r || not (is_fixed (attributes_at r))) ≡ true
+  pub file_sum : (is_passed alive r || has_file_sum r) ≡ true
+
+checked : (system : FileSystem) (alive : Bool) (at : ℕ) (r : List ℕ) → AllHold (file_checks system alive at r) → Checked system alive r
+checked system alive at r (large, (header, (header_sum, (size, (fixed, (file_sum, none)))))) = record {
+  large = large;
+  header_within = header;
+  header_sum = header_sum;
+  size = size;
+  fixed = fixed;
+  file_sum = file_sum;
+}
+
 large_is : (system : FileSystem) (large : Bool) → (not large || allows_large system) ≡ true → large ≡ true → system ≡ Ffs3
 large_is Ffs2 true h k = cc
 large_is Ffs2 false h k = cc
@@ -76,9 +95,10 @@ pub file_at : (s : FileSystem) (p : Polarity) (st : FileState) (at : ℕ) (r : L
 file_at s p st at r long state all =
     let n : ℕ = header_len_at r in
     let h : List ℕ = take n r in
+    let holds = checked s (is_alive st) at r all in
     let low : 24 ≤ n = header_least (is_large (attributes_at r)) in
-    let whole : n ≤ length r = leb-true _ _ all.1.0 in
-    let sizes = and_split _ _ all.1.1.1.0 in
+    let whole : n ≤ length r = leb-true _ _ holds.header_within in
+    let sizes = and_split _ _ holds.size in
     let sizes' = and_split _ _ sizes.1 in
     let least : n ≤ size_at r = leb-true _ _ sizes.0 in
     let within : size_at r ≤ length r = leb-true _ _ sizes'.0 in
@@ -102,15 +122,15 @@ file_at s p st at r long state all =
           state = subst (λ (k : ℕ). StateOf k p st) (sym e23) state;
           large = λ is.
               let l : is_large (attributes_at r) ≡ true = ap is_large (sym e19) ∙ is in
-              (large_is s (is_large (attributes_at r)) all.0 l, size_field ∙ zero_size (is_large (attributes_at r)) (le_at 20 3 r) sizes'.1 l);
-          sum = eqb-true _ _ all.1.1.0;
+              (large_is s (is_large (attributes_at r)) holds.large l, size_field ∙ zero_size (is_large (attributes_at r)) (le_at 20 3 r) sizes'.1 l);
+          sum = eqb-true _ _ holds.header_sum;
         };
         size = sym (length-take-le (size_at r) r within);
       };
       sound = λ alive pad. record {
         kind = eqb-false (slice_index r 18) pad_kind pad;
-        moves = not_true _ (looked_at (is_alive st) (slice_index r 18 == pad_kind) (not (is_fixed (attributes_at r))) all.1.1.1.1.0 alive pad);
-        file_sum = looked_at (is_alive st) (slice_index r 18 == pad_kind) (has_file_sum r) all.1.1.1.1.1.0 alive pad;
+        moves = not_true _ (looked_at (is_alive st) (slice_index r 18 == pad_kind) (not (is_fixed (attributes_at r))) holds.fixed alive pad);
+        file_sum = looked_at (is_alive st) (slice_index r 18 == pad_kind) (has_file_sum r) holds.file_sum alive pad;
       };
     }
   where

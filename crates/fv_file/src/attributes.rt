@@ -12,10 +12,15 @@ pub struct FileAttributes(u8);
 
 bitflag_items! {
     impl FileAttributes: u8 {
+        /// `FFS_ATTRIB_LARGE_FILE`: the header is `EFI_FFS_FILE_HEADER2`.
         const LARGE_FILE = 0x01;
+        /// `FFS_ATTRIB_DATA_ALIGNMENT_2`: the alignment is one of the second table.
         const DATA_ALIGNMENT_2 = 0x02;
+        /// `FFS_ATTRIB_FIXED`: the file may not be moved.
         const FIXED = 0x04;
+        /// `FFS_ATTRIB_DATA_ALIGNMENT`: the alignment's place in its table.
         const DATA_ALIGNMENT = 0x38;
+        /// `FFS_ATTRIB_CHECKSUM`: the file sum is over the data.
         const CHECKSUM = 0x40;
     }
 }
@@ -51,29 +56,29 @@ impl FileAttributes {
         self.bits()
     }
 
-    /// Whether the header has 32 bytes, by bit 01.
+    /// Whether the header has 32 bytes, by bit 01, `FFS_ATTRIB_LARGE_FILE`.
     pub fn is_large(self) -> bool
         ensures { result ≡ is_large self.0 }
     {
         self.contains(FileAttributes::LARGE_FILE)
     }
 
-    /// Whether the file may not be moved, by bit 04.
+    /// Whether the file may not be moved, by bit 04, `FFS_ATTRIB_FIXED`.
     pub fn is_fixed(self) -> bool
         ensures { result ≡ is_fixed self.0 }
     {
         self.contains(FileAttributes::FIXED)
     }
 
-    /// Whether the file sum is over the data, by bit 40.
+    /// Whether the file sum is over the data, by bit 40, `FFS_ATTRIB_CHECKSUM`.
     pub fn is_summed(self) -> bool
         ensures { result ≡ is_summed self.0 }
     {
         self.contains(FileAttributes::CHECKSUM)
     }
 
-    /// The bits without 01, which goes with the form of the header: what `file_head_bytes` takes
-    /// of a file that was read.
+    /// The bits without 01, `FFS_ATTRIB_LARGE_FILE`, which goes with the form of the header: what `file_head_bytes`
+    /// takes of a file that was read.
     pub fn without_large(self) -> FileAttributes
         ensures { result.0 ≡ without_large self.0 }
     {

@@ -6,7 +6,7 @@ use crate::head::FileHead;
 /// volume 3, sections 3.2.2 and 3.2.3.)
 #[derive(Clone, Copy)]
 pub enum Cell<'a> {
-    /// A file that stands, marked for update or not.
+    /// A file that stands, marked for update (`EFI_FILE_MARKED_FOR_UPDATE`) or not.
     Valid {
         /// Where its header begins.
         offset: u64,
@@ -15,7 +15,7 @@ pub enum Cell<'a> {
         /// Its data, which stand behind the header.
         payload: &'a [u8],
     },
-    /// A pad file.
+    /// A pad file, `EFI_FV_FILETYPE_FFS_PAD`.
     Pad {
         /// Where its header begins.
         offset: u64,
@@ -24,14 +24,14 @@ pub enum Cell<'a> {
         /// Its data, which stand behind the header.
         payload: &'a [u8],
     },
-    /// A file that was deleted, or whose data were never written.
+    /// A file that was deleted (`EFI_FILE_DELETED`), or whose data were never written (`EFI_FILE_HEADER_VALID`).
     Dead {
         /// Where its header begins.
         offset: u64,
         /// Its bytes, filler counted.
         len: u64,
     },
-    /// A header that was never finished.
+    /// A header that was never finished: `EFI_FILE_HEADER_CONSTRUCTION` or `EFI_FILE_HEADER_INVALID`.
     Stub {
         /// Where it begins.
         offset: u64,

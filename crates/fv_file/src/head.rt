@@ -10,57 +10,61 @@ ghost use Rattle.fv_file.specs.Reading.{file_verdict};
 ghost use Rattle.fv_file.specs.States.{is_alive};
 
 use crate::attributes::FileAttributes;
+use crate::layout::{
+    ATTRIBUTES_OFFSET, EXTENDED_SIZE_OFFSET, FILE_SUM_OFFSET, HEADER_LEN, HEADER_SUM_OFFSET,
+    LARGE_HEADER_LEN, NAME_OFFSET, SIZE_OFFSET, STATE_OFFSET, TYPE_OFFSET,
+};
 use crate::state::FileState;
 use bitflags::Flags;
 use byteorder::{ByteOrder, LittleEndian};
-use fv_base::field::field;
+use fv_base::field::{field, u64_at};
 use fv_base::{Fault, FaultKind, FileSystem, Guid, check, guid_at, sum8};
 
-/// The type of a pad file.
+/// `Type` of a pad file: `EFI_FV_FILETYPE_FFS_PAD`.
 pub(crate) const PAD: u8 = 0xf0;
 
-/// The file sum of a file whose data are not summed.
+/// `IntegrityCheck.Checksum.File` of a file whose data are not summed: `FFS_FIXED_CHECKSUM`.
 pub(crate) const NO_SUM: u8 = 0xaa;
 
 /// The header of a file, as it was found. (PI specification, volume 3, section 3.2.3.1,
 /// `EFI_FFS_FILE_HEADER` and `EFI_FFS_FILE_HEADER2`.)
 #[derive(Clone, Copy, Debug, PartialEq, Eq)]
 pub struct FileHead {
-    /// The name.
+    /// The name, `Name`.
     pub name: Guid,
-    /// The type, F0 for a pad.
+    /// The type, `Type`: F0, `EFI_FV_FILETYPE_FFS_PAD`, for a pad.
     pub kind: u8,
-    /// The attribute bits.
+    /// The attribute bits, `Attributes`.
     pub attributes: FileAttributes,
-    /// The bytes of the file, its header counted.
+    /// The bytes of the file, its header counted: `Size`, or `ExtendedSize` of a large header.
     pub size: u64,
     /// The bytes of the header, 24 or 32.
     pub header_len: u64,
-    /// What makes the header's bytes sum to zero.
+    /// What makes the header's bytes sum to zero, `IntegrityCheck.Checksum.Header`.
     pub header_sum: u8,
-    /// What makes the data sum to zero, or AA.
+    /// What makes the data sum to zero, or AA: `IntegrityCheck.Checksum.File`.
     pub file_sum: u8,
-    /// How far the file has come.
+    /// How far the file has come, by `State`.
     pub state: FileState,
 }
 
-/// The attribute bits in the header that the bytes begin with.
-fn attributes_of(rest: &[u8]) -> FileAttributes
+// The attribute bits in the header that the bytes begin with.
+fn attributes_at(rest: &[u8]) -> FileAttributes
     requires least { 24 ≤ length rest.now }
     ensures { attribute_bits result ≡ attributes_at rest.now }
 {
-    FileAttributes::from_bits_retain(rest[19])
+    FileAttributes::from_bits_retain(rest[ATTRIBUTES_OFFSET])
 }
 
-/// How many bytes the header has that the bytes begin with.
-pub(crate) fn header_len(rest: &[u8]) -> usize
+// How many bytes the header has that the bytes begin with.
+pub(crate) fn header_len_at(rest: &[u8]) -> usize
     requires least { 24 ≤ length rest.now }
     ensures { result ≡ header_len_at rest.now }
 {
-    if attributes_of(rest).is_large() {
-        32
+    if attributes_at(rest).is_large() {
+        LARGE_HEADER_LEN
     } else {
-        24
+        HEADER_LEN
     }
 }
 
@@ -68,22 +72,22 @@ fn short_size(rest: &[u8]) -> u64
     requires least { 24 ≤ length rest.now }
     ensures { result ≡ le_at 20 3 rest.now }
 {
-    u64::from(LittleEndian::read_u24(field(rest, 20, 3)))
+    u64::from(LittleEndian::read_u24(field(rest, SIZE_OFFSET, 3)))
 }
 
 fn large_size(rest: &[u8]) -> u64
     requires least { 32 ≤ length rest.now }
     ensures { result ≡ le_at 24 8 rest.now }
 {
-    LittleEndian::read_u64(field(rest, 24, 8))
+    u64_at(rest, EXTENDED_SIZE_OFFSET)
 }
 
-fn size_of(rest: &[u8]) -> u64
+fn size_at(rest: &[u8]) -> u64
     requires least { 24 ≤ length rest.now }
     requires header { header_len_at rest.now ≤ length rest.now }
     ensures { result ≡ size_at rest.now }
 {
-    if attributes_of(rest).is_large() {
+    if attributes_at(rest).is_large() {
         large_size(rest)
     } else {
         short_size(rest)
@@ -95,16 +99,17 @@ fn header_sum(header: &[u8]) -> u8
     requires { 24 ≤ length header.now }
     ensures { result ≡ header_sum_of header.now }
 {
-    sum8(&header[..17])
-        .wrapping_add(sum8(field(header, 18, 5)))
-        .wrapping_add(sum8(&header[24..]))
+    let between = field(header, TYPE_OFFSET, STATE_OFFSET - TYPE_OFFSET);
+    sum8(&header[..FILE_SUM_OFFSET])
+        .wrapping_add(sum8(between))
+        .wrapping_add(sum8(&header[HEADER_LEN..]))
 }
 
 fn may_be_large(rest: &[u8], system: FileSystem) -> bool
     requires least { 24 ≤ length rest.now }
     ensures { result ≡ may_be_large system rest.now }
 {
-    !attributes_of(rest).is_large() || system == FileSystem::Ffs3
+    !attributes_at(rest).is_large() || system == FileSystem::Ffs3
 }
 
 fn has_header_sum(rest: &[u8]) -> bool
@@ -112,7 +117,7 @@ fn has_header_sum(rest: &[u8]) -> bool
     requires header { header_len_at rest.now ≤ length rest.now }
     ensures { result ≡ has_header_sum rest.now }
 {
-    header_sum(&rest[..header_len(rest)]) == 0
+    header_sum(&rest[..header_len_at(rest)]) == 0
 }
 
 fn has_size(rest: &[u8]) -> bool
@@ -120,10 +125,10 @@ fn has_size(rest: &[u8]) -> bool
     requires header { header_len_at rest.now ≤ length rest.now }
     ensures { result ≡ has_size rest.now }
 {
-    let size = size_of(rest);
-    header_len(rest) as u64 <= size
+    let size = size_at(rest);
+    header_len_at(rest) as u64 <= size
         && size <= rest.len() as u64
-        && (!attributes_of(rest).is_large() || short_size(rest) == 0)
+        && (!attributes_at(rest).is_large() || short_size(rest) == 0)
 }
 
 // Whether a file's data are not looked at, as those of a pad.
@@ -131,7 +136,7 @@ fn is_passed(rest: &[u8], alive: bool) -> bool
     requires least { 24 ≤ length rest.now }
     ensures { result ≡ is_passed alive rest.now }
 {
-    !alive || rest[18] == PAD
+    !alive || rest[TYPE_OFFSET] == PAD
 }
 
 // Whether the data sum to zero with the file sum.
@@ -141,8 +146,8 @@ fn is_sum_zero(rest: &[u8]) -> bool
     requires within { size_at rest.now ≤ length rest.now }
     ensures { result ≡ ((sum (payload_at rest.now) + slice_index rest.now 17) % 256 == 0) }
 {
-    let payload = &rest[header_len(rest)..size_of(rest) as usize];
-    sum8(payload).wrapping_add(rest[17]) == 0
+    let payload = &rest[header_len_at(rest)..size_at(rest) as usize];
+    sum8(payload).wrapping_add(rest[FILE_SUM_OFFSET]) == 0
 }
 
 fn has_file_sum(rest: &[u8]) -> bool
@@ -151,10 +156,10 @@ fn has_file_sum(rest: &[u8]) -> bool
     requires within { size_at rest.now ≤ length rest.now }
     ensures { result ≡ has_file_sum rest.now }
 {
-    if attributes_of(rest).is_summed() {
+    if attributes_at(rest).is_summed() {
         is_sum_zero(rest)
     } else {
-        rest[17] == NO_SUM
+        rest[FILE_SUM_OFFSET] == NO_SUM
     }
 }
 
@@ -165,13 +170,13 @@ fn head_in(rest: &[u8], state: FileState) -> FileHead
     ensures { result ≡ head_in state rest.now }
 {
     FileHead {
-        name: guid_at(rest, 0),
-        kind: rest[18],
-        attributes: attributes_of(rest),
-        size: size_of(rest),
-        header_len: header_len(rest) as u64,
-        header_sum: rest[16],
-        file_sum: rest[17],
+        name: guid_at(rest, NAME_OFFSET),
+        kind: rest[TYPE_OFFSET],
+        attributes: attributes_at(rest),
+        size: size_at(rest),
+        header_len: header_len_at(rest) as u64,
+        header_sum: rest[HEADER_SUM_OFFSET],
+        file_sum: rest[FILE_SUM_OFFSET],
         state,
     }
 }
@@ -185,19 +190,26 @@ fn checked(rest: &[u8], at: u64, system: FileSystem, state: FileState) -> Result
     ensures within { IfOk result (λ h. (h.header_len ≤ h.size) × (h.size ≤ length rest.now)) }
     ensures bound { IfErr result (λ f. f.place.offset ≤ at + length rest.now) }
 {
-    check(may_be_large(rest, system), FaultKind::LargeFile, at + 19)?;
-    check(header_len(rest) <= rest.len(), FaultKind::FileSize, at + 20)?;
+    let attributes = at + ATTRIBUTES_OFFSET as u64;
+    let size = at + SIZE_OFFSET as u64;
+    let file_sum = at + FILE_SUM_OFFSET as u64;
+    check(may_be_large(rest, system), FaultKind::LargeFile, attributes)?;
+    check(header_len_at(rest) <= rest.len(), FaultKind::FileSize, size)?;
     check(has_header_sum(rest), FaultKind::FileHeaderSum, at)?;
-    check(has_size(rest), FaultKind::FileSize, at + 20)?;
+    check(has_size(rest), FaultKind::FileSize, size)?;
     if !is_passed(rest, state.is_alive()) {
-        check(!attributes_of(rest).is_fixed(), FaultKind::Fixed, at + 19)?;
-        check(has_file_sum(rest), FaultKind::FileSum, at + 17)?;
+        check(
+            !attributes_at(rest).is_fixed(),
+            FaultKind::Fixed,
+            attributes,
+        )?;
+        check(has_file_sum(rest), FaultKind::FileSum, file_sum)?;
     }
     Ok(head_in(rest, state))
 }
 
-/// The header of a file at `at`, in bytes from where offsets are counted, or the first fault of
-/// its checks.
+// The header of a file at `at`, in bytes from where offsets are counted, or the first fault of
+// its checks.
 pub(crate) fn file_at(
     rest: &[u8],
     at: u64,

@@ -1,17 +1,18 @@
 //! The files of a firmware volume: states, headers, and the cells that tile a volume's body.
 #![tactic(auto)]
 
-pub mod attributes;
-pub mod cell;
-pub mod head;
+mod attributes;
+mod cell;
+mod head;
+mod layout;
 mod list;
 mod run;
-pub mod spell;
-pub mod state;
+mod spell;
+mod state;
 #[cfg(test)]
 mod tests;
-pub mod tiling;
-pub mod verify;
+mod tiling;
+mod verify;
 
 pub use attributes::FileAttributes;
 pub use cell::Cell;

@@ -23,7 +23,7 @@ impl<'a> Model for Cells<'a> {
 }
 
 impl<'a> Cells<'a> {
-    /// The cells of a vector. Takes no memory.
+    // The cells of a vector. Takes no memory.
     pub(crate) fn from_vec(list: Vec<Cell<'a>>) -> Cells<'a>
         ensures { result ≡ map form_of list.entry.items }
     {

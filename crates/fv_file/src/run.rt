@@ -3,7 +3,7 @@
 ghost use Rattle.std.specs.Prelude.{◌≡◌, ◌≤◌, length};
 ghost use Rattle.fv_file.specs.FileChecks.{run_of};
 
-/// How many bytes at the front are this one.
+// How many bytes at the front are this one.
 pub(crate) fn run_of(bytes: &[u8], byte: u8) -> usize
     ensures run { result ≡ run_of byte bytes.now }
     ensures bound { result ≤ length bytes.now }

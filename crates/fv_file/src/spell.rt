@@ -11,16 +11,21 @@ ghost use Rattle.fv_file.specs.Written.{IsWritten, IsHeadOfFile, IsHeadOfPad, fi
 
 use crate::attributes::FileAttributes;
 use crate::head::{FileHead, NO_SUM, PAD};
+use crate::layout::{
+    ATTRIBUTES_OFFSET, FILE_SUM_OFFSET, HEADER_LEN, HEADER_SUM_OFFSET, LARGE_HEADER_LEN,
+    SIZE_OFFSET, TYPE_OFFSET,
+};
 use crate::state::FileState;
 use bitflags::Flags;
 use byteorder::{ByteOrder, LittleEndian};
 use fv_base::{Guid, Polarity, sum8};
 use std::marker::Model;
 
-/// The most bytes that a file with a short header has.
+/// The most bytes that a file with a short header has: `Size` has 3 bytes.
 const SHORT_LIMIT: u64 = 0xff_ffff;
 
-/// The bytes of a header: 24, or 32 of a large one. Contracts see them as a list.
+/// The bytes of a header, `EFI_FFS_FILE_HEADER` or `EFI_FFS_FILE_HEADER2`: 24, or 32 of a large one. Contracts see
+/// them as a list.
 #[derive(Drop)]
 pub struct HeadBytes {
     bytes: [u8; 32],
@@ -46,7 +51,8 @@ impl HeadBytes {
     }
 }
 
-// The State byte of a file that stands.
+// `State` of a file whose data are valid: the bits `EFI_FILE_HEADER_CONSTRUCTION`, `EFI_FILE_HEADER_VALID` and
+// `EFI_FILE_DATA_VALID`.
 fn state_byte(polarity: Polarity) -> u8
     ensures { result ≡ state_byte polarity }
 {
@@ -56,7 +62,7 @@ fn state_byte(polarity: Polarity) -> u8
     }
 }
 
-// The two fields for a size, of which the one that is not used is zero, and State between them.
+// `Size`, `State` and `ExtendedSize`, in their order. The size that the form does not use is zero.
 fn size_fields(size: u64, large: bool, state: u8) -> [u8; 12]
     requires { large ≡ false → size < 0x1000000 }
     ensures { result ≡ size_fields size large state }
@@ -77,12 +83,16 @@ fn whole_bytes(head: &FileHead, header_sum: u8, file_sum: u8, state: u8) -> [u8;
     ensures { result ≡ whole_bytes head.now header_sum file_sum state }
 {
     let mut bytes = [0u8; 32];
-    bytes[16] = header_sum;
-    bytes[17] = file_sum;
-    bytes[18] = head.kind;
-    bytes[19] = head.attributes.bits();
-    bytes[20..].copy_from_slice(&size_fields(head.size, head.attributes.is_large(), state));
-    bytes[..16].copy_from_slice(&head.name.to_bytes());
+    bytes[HEADER_SUM_OFFSET] = header_sum;
+    bytes[FILE_SUM_OFFSET] = file_sum;
+    bytes[TYPE_OFFSET] = head.kind;
+    bytes[ATTRIBUTES_OFFSET] = head.attributes.bits();
+    bytes[SIZE_OFFSET..].copy_from_slice(&size_fields(
+        head.size,
+        head.attributes.is_large(),
+        state,
+    ));
+    bytes[..HEADER_SUM_OFFSET].copy_from_slice(&head.name.to_bytes());
     bytes
 }
 
@@ -95,7 +105,11 @@ fn header_with(head: &FileHead, header_sum: u8, file_sum: u8, state: u8) -> Head
 {
     HeadBytes {
         bytes: whole_bytes(head, header_sum, file_sum, state),
-        count: if head.attributes.is_large() { 32 } else { 24 },
+        count: if head.attributes.is_large() {
+            LARGE_HEADER_LEN
+        } else {
+            HEADER_LEN
+        },
     }
 }
 

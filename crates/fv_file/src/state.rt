@@ -10,19 +10,19 @@ use fv_base::Polarity;
 /// 3.2.3.1, `EFI_FFS_FILE_STATE`.)
 #[derive(Clone, Copy, Debug, PartialEq, Eq)]
 pub enum FileState {
-    /// Nothing was written.
+    /// Nothing was written: no bit.
     Free,
-    /// A header is being written, by bit 01.
+    /// A header is being written, by bit 01, `EFI_FILE_HEADER_CONSTRUCTION`.
     Construction,
-    /// The header is whole, by bit 02; the data are not.
+    /// The header is whole, by bit 02, `EFI_FILE_HEADER_VALID`; the data are not.
     HeaderValid,
-    /// The file is whole, by bit 04.
+    /// The file is whole, by bit 04, `EFI_FILE_DATA_VALID`.
     DataValid,
-    /// The file is whole and is to be replaced, by bit 08.
+    /// The file is whole and is to be replaced, by bit 08, `EFI_FILE_MARKED_FOR_UPDATE`.
     Marked,
-    /// The file was deleted, by bit 10.
+    /// The file was deleted, by bit 10, `EFI_FILE_DELETED`.
     Deleted,
-    /// The header was never finished, by bit 20.
+    /// The header was never finished, by bit 20, `EFI_FILE_HEADER_INVALID`.
     HeaderInvalid,
 }
 
@@ -61,8 +61,8 @@ fn state_in(bits: u8) -> Option<FileState>
     }
 }
 
-/// The state that a State byte shows: that of the highest bit which was written, or None where bit
-/// 40 or 80 was. Takes no memory. (PI specification, volume 3, section 3.2.3.1.)
+/// The state that `State`, the byte at 23 of a file's header, shows: that of the highest bit which was written, or
+/// None where bit 40 or 80 was. Takes no memory. (PI specification, volume 3, section 3.2.3.1.)
 pub fn file_state(byte: u8, polarity: Polarity) -> Option<FileState>
     // The byte shows this state.
     ensures found { IfSome result (StateOf byte polarity) }

@@ -58,7 +58,7 @@ type Refusal = (
     u64,
 );
 
-/// What a cell shows.
+// What a cell shows.
 fn seen<'a>(cell: &Cell<'a>) -> Form<'a> {
     match *cell {
         Cell::Valid {
@@ -92,7 +92,7 @@ fn seen<'a>(cell: &Cell<'a>) -> Form<'a> {
 /// The most bytes of a volume that is laid in an array.
 const ROOM: usize = 12_448;
 
-/// Puts the parts, joined, from 72 on into a volume, and erased bytes behind them.
+// Puts the parts, joined, from 72 on into a volume, and erased bytes behind them.
 fn lay(volume: &mut [u8], parts: &[&[u8]], polarity: Polarity) {
     let mut at = 72;
     for part in parts {
@@ -108,7 +108,7 @@ fn lay(volume: &mut [u8], parts: &[&[u8]], polarity: Polarity) {
     }
 }
 
-/// The cells of a volume whose body begins at 72.
+// The cells of a volume whose body begins at 72.
 fn cut(
     alloc: Global,
     bytes: &[u8],
@@ -121,7 +121,7 @@ fn cut(
     cells(alloc, bytes, 72, system, polarity)
 }
 
-/// Whether these are the cells of a volume whose body begins at 72, or why it has none.
+// Whether these are the cells of a volume whose body begins at 72, or why it has none.
 fn has_cells(
     alloc: Global,
     bytes: &[u8],
@@ -142,7 +142,7 @@ fn has_cells(
     Ok(true)
 }
 
-/// Whether a body has its cells, or why it has none.
+// Whether a body has its cells, or why it has none.
 fn is_cut(
     alloc: Global,
     body: &Body,
@@ -156,7 +156,7 @@ fn is_cut(
     has_cells(alloc, volume, system, polarity, forms)
 }
 
-/// The first of some bodies that has not its cells in both file systems.
+// The first of some bodies that has not its cells in both file systems.
 fn not_cut(alloc: Global, bodies: &[Body], polarity: Polarity) -> Option<&'static str> {
     for body in bodies {
         if is_cut(alloc, body, FileSystem::Ffs2, polarity) != Ok(true)
@@ -168,7 +168,7 @@ fn not_cut(alloc: Global, bodies: &[Body], polarity: Polarity) -> Option<&'stati
     None
 }
 
-/// The fault of a volume whose body begins at 72 with the parts, if it has one.
+// The fault of a volume whose body begins at 72 with the parts, if it has one.
 fn fault_of(
     alloc: Global,
     parts: &[&[u8]],
@@ -182,7 +182,7 @@ fn fault_of(
     cut(alloc, volume, system, polarity).err()
 }
 
-/// The first of some bodies that is not refused with its fault.
+// The first of some bodies that is not refused with its fault.
 fn not_refused(
     alloc: Global,
     refusals: &[Refusal],

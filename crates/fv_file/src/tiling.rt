@@ -10,7 +10,8 @@ ghost use Rattle.fv_file.specs.Reading.{cell_verdict};
 ghost use Rattle.fv_file.specs.Seen.{form_of};
 
 use crate::cell::Cell;
-use crate::head::{PAD, file_at, header_len};
+use crate::head::{PAD, file_at, header_len_at};
+use crate::layout::{HEADER_LEN, SIZE_OFFSET, STATE_OFFSET};
 use crate::list::Cells;
 use crate::run::run_of;
 use crate::state::{FileState, file_state};
@@ -19,13 +20,13 @@ use fv_base::{Fault, FaultKind, FileSystem, Polarity, all_are, check};
 use std::alloc::Global;
 
 // Whether a free cell stands here: all that is left is erased. All of it is looked at only where
-// fewer than 24 bytes are left or the State byte is erased. If it is not free there, cell_at
+// fewer than 24 bytes are left or `State` is erased. If it is not free there, cell_at
 // refuses it, so that a body is looked through once at most.
 fn is_free(rest: &[u8], polarity: Polarity) -> bool
     ensures { result ≡ all_are (erased_byte polarity) rest.now }
 {
     let erased = polarity.erased();
-    (rest.len() < 24 || rest[23] == erased) && all_are(rest, erased)
+    (rest.len() < HEADER_LEN || rest[STATE_OFFSET] == erased) && all_are(rest, erased)
 }
 
 // The fault of bytes that are no cell and not all erased.
@@ -52,17 +53,18 @@ fn cell_at<'a>(
     ensures refused { IfErr result (λ f. cell_verdict system polarity at rest.now ≡ Err f) }
     ensures bound { IfErr result (λ f. f.place.offset ≤ at + length rest.now) }
 {
-    if rest.len() < 24 {
+    if rest.len() < HEADER_LEN {
         return Err(stray(rest, at, polarity));
     }
-    let Some(state) = file_state(rest[23], polarity) else {
-        return Err(Fault::outer(FaultKind::FileState, at + 23));
+    let Some(state) = file_state(rest[STATE_OFFSET], polarity) else {
+        return Err(Fault::outer(FaultKind::FileState, at + STATE_OFFSET as u64));
     };
     match state {
         FileState::Free => Err(stray(rest, at, polarity)),
         FileState::Construction | FileState::HeaderInvalid => {
-            let len = header_len(rest);
-            check(len <= rest.len(), FaultKind::FileSize, at + 20)?;
+            let len = header_len_at(rest);
+            let size = at + SIZE_OFFSET as u64;
+            check(len <= rest.len(), FaultKind::FileSize, size)?;
             Ok(Cell::Stub {
                 offset: at,
                 len: len as u64,
@@ -138,15 +140,15 @@ fn cells_in(
     Ok(Cells::from_vec(list))
 }
 
-/// The one tiling by cells of a volume's body, which begins at `first`, in bytes from the volume's
-/// start. A file's payload is the volume's bytes behind its header. (PI specification, volume 3,
-/// sections 3.2.2 and 3.2.3.)
+/// The one tiling by cells of a volume's body, which begins at `first`, in bytes from the volume's start, as all
+/// offsets are. `first` lies in the volume, and it and the volume's bytes are multiples of 8. A file's payload is the
+/// volume's bytes behind its header. (PI specification, volume 3, sections 3.2.2 and 3.2.3.)
 ///
 /// # Errors
 ///
 /// The fault of the first cell that has one; of a cell FreeSpace, FileState, then of a stub
 /// FileSize, of all others LargeFile, FileSize where a large header is cut, FileHeaderSum,
-/// FileSize, and of a file that stands and is no pad Fixed, FileSum. OutOfMemory.
+/// FileSize, and of a file that stands and is no pad Fixed, FileSum. OutOfMemory at 0.
 pub fn cells(
     alloc: Global,
     volume: &[u8],
@@ -167,7 +169,8 @@ pub fn cells(
     // Where it refuses, want of memory aside, none do.
     ensures none { IfErr result (λ f. f ≢ want_of_memory → (ds : List CellForm) → Tiles system polarity first ds (drop first volume.now) → ⊥) }
 
-    // A refusal, want of memory aside, names the first check that does not hold at the first place where no cell stands.
+    // A refusal, want of memory aside, names the first check that does not hold at the first place where no cell
+    // stands.
     ensures first { IfErr result (λ f. f ≢ want_of_memory → IsFirst system polarity first (drop first volume.now) f) }
 
     // Cells and faults lie within the volume.

@@ -8,6 +8,7 @@ ghost use Rattle.fv_file.specs.Reading.{verify_verdict};
 ghost use Rattle.fv_file.specs.declared.head.FileHead.{FileHead};
 
 use crate::head::{FileHead, file_at};
+use crate::layout::{HEADER_LEN, SIZE_OFFSET, STATE_OFFSET};
 use crate::state::{FileState, file_state};
 use fv_base::{Fault, FaultKind, FileSystem, Polarity, check};
 
@@ -15,12 +16,16 @@ use fv_base::{Fault, FaultKind, FileSystem, Polarity, check};
 fn verdict(bytes: &[u8], system: FileSystem, polarity: Polarity) -> Result<FileHead, Fault>
     ensures { result ≡ verify_verdict system polarity bytes.now }
 {
-    check(bytes.len() >= 24, FaultKind::FileSize, 20)?;
-    match file_state(bytes[23], polarity) {
+    check(
+        bytes.len() >= HEADER_LEN,
+        FaultKind::FileSize,
+        SIZE_OFFSET as u64,
+    )?;
+    match file_state(bytes[STATE_OFFSET], polarity) {
         Some(state @ (FileState::DataValid | FileState::Marked)) => file_at(
             bytes, 0, system, state,
         ),
-        _ => Err(Fault::outer(FaultKind::FileState, 23)),
+        _ => Err(Fault::outer(FaultKind::FileState, STATE_OFFSET as u64)),
     }
 }
 
@@ -31,7 +36,7 @@ fn verdict(bytes: &[u8], system: FileSystem, polarity: Polarity) -> Result<FileH
 ///
 /// The first fault, in this order: FileSize where 24 bytes are not there, FileState (bit 40 or 80,
 /// or a file that does not stand), LargeFile, FileSize where a large header is cut, FileHeaderSum,
-/// FileSize, and where it is no pad Fixed, FileSum.
+/// FileSize, and where it is no pad Fixed, FileSum. Offsets are in bytes from the first.
 pub fn verify_ffs_file(
     bytes: &[u8],
     system: FileSystem,

@@ -242,15 +242,28 @@ make_has_ext x e b n whole low high first is =
       first ∙ sym (ap (λ (k : ℕ). up_to_8 (k + length (field o n b))) before ∙ ap (λ (k : ℕ). up_to_8 (o + k)) long),
     )
 
--- the check of an extended header
-tests_of : (o n s len : ℕ) → (nat_le n o && nat_le (o + 20) len && nat_le 20 s && nat_le s ext_limit && nat_le (o + s) len) ≡ true
-    → (n ≤ o) × ((o + 20 ≤ len) × ((20 ≤ s) × ((s ≤ ext_limit) × (o + s ≤ len))))
+-- the check of an extended header of s bytes at o, behind a header of n bytes, in a volume of len bytes
+record Tests (o n s len : ℕ) : Type 0 where
+  pub behind_header : n ≤ o
+  pub header_within : o + 20 ≤ len
+  pub least : 20 ≤ s
+  pub most : s ≤ ext_limit
+  pub within : o + s ≤ len
+
+tests_of : (o n s len : ℕ)
+    → (nat_le n o && nat_le (o + 20) len && nat_le 20 s && nat_le s ext_limit && nat_le (o + s) len) ≡ true → Tests o n s len
 tests_of o n s len h =
     let one = and_split _ _ h in
     let two = and_split _ _ one.0 in
     let three = and_split _ _ two.0 in
     let four = and_split _ _ three.0 in
-    (leb-true _ _ four.0, (leb-true _ _ four.1, (leb-true _ _ three.1, (leb-true _ _ two.1, leb-true _ _ one.1))))
+    record {
+      behind_header = leb-true _ _ four.0;
+      header_within = leb-true _ _ four.1;
+      least = leb-true _ _ three.1;
+      most = leb-true _ _ two.1;
+      within = leb-true _ _ one.1;
+    }
 
 tests_hold : (o n s len : ℕ) → n ≤ o → o + 20 ≤ len → 20 ≤ s → s ≤ ext_limit → o + s ≤ len → (nat_le n o && nat_le (o + 20) len && nat_le 20 s && nat_le s ext_limit && nat_le (o + s) len) ≡ true
 tests_hold o n s len a b c d e =
@@ -270,10 +283,10 @@ some_has_ext e b whole holds first = go (ext_offset_at b == 0) refl holds first 
       let n : ℕ = ext_size_at b in
       let t = tests_of o e.header_len n e.length holds in
       let part : List ℕ = field o n b in
-      let long : length part ≡ n = length-take-le n (drop o b) (omega (arith, length-drop o b, whole, t.1.1.1.1)) in
-      let size : le_at 16 4 part ≡ length part = inner o n b t.1.1.0 ∙ sym long in
-      let x = some_ext part (omega (arith, long, t.1.1.0)) (omega (arith, long, t.1.1.1.0)) size in
-      (Some x.0, make_has_ext x.0 e b n whole t.0 t.1.1.1.1 first x.1)
+      let long : length part ≡ n = length-take-le n (drop o b) (omega (arith, length-drop o b, whole, t.within)) in
+      let size : le_at 16 4 part ≡ length part = inner o n b t.least ∙ sym long in
+      let x = some_ext part (omega (arith, long, t.least)) (omega (arith, long, t.most)) size in
+      (Some x.0, make_has_ext x.0 e b n whole t.behind_header t.within first x.1)
     where
       inner : (o n : ℕ) (b : List ℕ) → 20 ≤ n → le_at 16 4 (field o n b) ≡ le_at (o + 16) 4 b
       inner o n b least = ap le (field-take 16 4 n (drop o b) (omega (arith, least)) ∙ ap (take 4) (drop-drop 16 o b))

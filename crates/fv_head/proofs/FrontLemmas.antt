@@ -9,7 +9,7 @@ use Rattle.std.proofs.Math.Seq.{take-add}
 use Rattle.std.specs.Str.{bytes_eq}
 use Rattle.fv_base.specs.Checks.{AllHold, Check, check, first_fault, IsFirstFault}
 use Rattle.fv_base.specs.Faults.{outer_fault, want_of_memory}
-use Rattle.fv_base.specs.Limits.{volume_limit, header_limit}
+use Rattle.fv_base.specs.Limits.{volume_limit, header_limit, ext_limit}
 use Rattle.fv_base.specs.Value.{IsBytes, le, field, le_at, up_to_8}
 use Rattle.fv_base.specs.declared.fault.Fault.{Fault}
 use Rattle.fv_base.specs.declared.fault.FaultKind.TheVariants as kinds
@@ -19,13 +19,13 @@ use Rattle.fv_base.specs.declared.flash.Polarity.{Polarity}
 use Rattle.fv_base.proofs.CheckLemmas.{and_split, and_join, all_hold, none_faulty, first_is, first_among}
 use Rattle.fv_base.proofs.FieldLemmas.{take-take_le, field-take, bytes_take}
 use Rattle.fv_head.specs.Attributes.{polarity_of}
-use Rattle.fv_head.specs.Ext.{Extension}
+use Rattle.fv_head.specs.Ext.{Extension, IsExt}
 use Rattle.fv_head.specs.Head.{HasExt, HeadFields, IsHead, Front, system_guid}
-use Rattle.fv_head.specs.HeadChecks.{head_checks, verdict_of, verdict_by, extent_or, extent_at, is_zero_pair, blocks_at, makes_up, file_system_at, header_len_at, volume_len_at, ext_offset_at, ext_size_at, has_ext}
+use Rattle.fv_head.specs.HeadChecks.{has_signature, is_header_len, has_sum, has_block_map, is_volume_len, head_checks, verdict_of, verdict_by, extent_or, extent_at, is_zero_pair, blocks_at, makes_up, file_system_at, header_len_at, volume_len_at, ext_offset_at, ext_size_at, has_ext}
 use Rattle.fv_head.specs.Pairs.{pairs_of}
 use Rattle.fv_head.specs.declared.extent.Extent.{Extent}
 use Rattle.fv_head.proofs.BlockLemmas.{pairs_of-step}
-use Rattle.fv_head.proofs.ExtLemmas.{placed, one_has_ext, some_has_ext, has_ext_holds, has_ext_first, ext_same}
+use Rattle.fv_head.proofs.ExtLemmas.{stands, read_there, placed, one_has_ext, some_has_ext, has_ext_holds, has_ext_first, ext_same}
 
 -- the fields that the header of a volume of the file system says
 abbrev pub fields_of : FileSystem → Option Extension → List ℕ → HeadFields
@@ -139,37 +139,67 @@ all_not_zero (p ∷ ps) h = rw (zero_pair_not p h.0) (all_not_zero ps h.1)
 
 -- ---- the whole header
 
+-- the checks of a header, each by the name of what it is of
+record Checked (b : List ℕ) : Type 0 where
+  pub front_within : nat_le 56 (length b) ≡ true
+  pub signature : has_signature b ≡ true
+  pub file_system : is_some (file_system_at b) ≡ true
+  pub revision : (slice_index b 55 == 2) ≡ true
+  pub header_len : is_header_len (header_len_at b) ≡ true
+  pub header_within : nat_le (header_len_at b) (length b) ≡ true
+  pub sum : has_sum (header_len_at b) b ≡ true
+  pub block_map : has_block_map (header_len_at b) b ≡ true
+  pub volume_len : is_volume_len (header_len_at b) (volume_len_at b) ≡ true
+  pub volume_within : nat_le (volume_len_at b) (length b) ≡ true
+  pub ext : has_ext (header_len_at b) (volume_len_at b) b ≡ true
+
+checked : (b : List ℕ) → AllHold (head_checks b) → Checked b
+checked b (front, (signature, (system, (revision, (header_len, (header, (sum, (map, (volume_len, (volume, (ext, none))))))))))) = record {
+  front_within = front;
+  signature = signature;
+  file_system = system;
+  revision = revision;
+  header_len = header_len;
+  header_within = header;
+  sum = sum;
+  block_map = map;
+  volume_len = volume_len;
+  volume_within = volume;
+  ext = ext;
+}
+
 front_of : (b : List ℕ) (fs : FileSystem) → IsBytes b → file_system_at b ≡ Some fs → field 16 16 b ≡ system_guid fs → AllHold (head_checks b)
     → (x : Option Extension) × Front (fields_of fs x b) (extent_at fs b) b
 front_of b fs small is guid all =
     let n : ℕ = header_len_at b in
-    let kind = and_split _ _ all.1.1.1.1.0 in
+    let holds = checked b all in
+    let kind = and_split _ _ holds.header_len in
     let kind_low = and_split _ _ kind.0 in
     let multiple : n % 8 ≡ 0 = eqb-true _ _ kind_low.0 in
     let least : 64 ≤ n = leb-true _ _ kind_low.1 in
     let most : n ≤ header_limit = leb-true _ _ kind.1 in
-    let within : n ≤ length b = leb-true _ _ all.1.1.1.1.1.0 in
-    let map = and_split _ _ all.1.1.1.1.1.1.1.0 in
+    let within : n ≤ length b = leb-true _ _ holds.header_within in
+    let map = and_split _ _ holds.block_map in
     let made = and_split _ _ map.0 in
-    let vol = and_split _ _ all.1.1.1.1.1.1.1.1.0 in
+    let vol = and_split _ _ holds.volume_len in
     let vol_low = and_split _ _ vol.0 in
     let len : length (take n b) ≡ n = length-take-le n b within in
-    let whole : volume_len_at b ≤ length b = leb-true _ _ all.1.1.1.1.1.1.1.1.1.0 in
-    let ext = some_has_ext (extent_at fs b) b whole all.1.1.1.1.1.1.1.1.1.1.0 refl in
+    let whole : volume_len_at b ≤ length b = leb-true _ _ holds.volume_within in
+    let ext = some_has_ext (extent_at fs b) b whole holds.ext refl in
     let h : HeadFields = fields_of fs ext.0 b in
     let head : IsHead h (take n b) = record {
       bytes = bytes_take n b small;
       zero_vector = field-take 0 16 n b (omega arith);
       file_system = field-take 16 16 n b (omega arith) ∙ guid;
       volume_length = ap le (field-take 32 8 n b (omega arith));
-      signature = field-take 40 4 n b (omega arith) ∙ (bytes_eq-Decides _ _).0 all.1.0;
+      signature = field-take 40 4 n b (omega arith) ∙ (bytes_eq-Decides _ _).0 holds.signature;
       attributes = ap le (field-take 44 4 n b (omega arith));
       header_length = ap le (field-take 48 2 n b (omega arith)) ∙ sym len;
       reserved = get_or-take n b 54 0 (omega arith);
-      revision = get_or-take n b 55 0 (omega arith) ∙ eqb-true _ _ all.1.1.1.0;
+      revision = get_or-take n b 55 0 (omega arith) ∙ eqb-true _ _ holds.revision;
       block_map = block_map_is n b least multiple within ∙ ap (λ (p : ℕ × ℕ). blocks_at n b ++ (p ∷ [])) (zero_pair_is _ map.1);
       no_pair_of_zeros = none_zero _ made.0;
-      sum = eqb-true _ _ all.1.1.1.1.1.1.0;
+      sum = eqb-true _ _ holds.sum;
       multiple = rw len multiple;
       least = rw len least;
       most = rw len most;
@@ -312,7 +342,7 @@ pub fault_first : (b : List ℕ) (f : Fault) → verdict_of b ≡ Err f → IsFi
 fault_first b f h = go (first_fault (head_checks b)) refl h where
   go : (o : Option Fault) → first_fault (head_checks b) ≡ o → verdict_by o b ≡ Err f → IsFirstFault (head_checks b) f
   go (Some g) is k = first_is (head_checks b) f (is ∙ cc)
-  go None is k = found (file_system_at b) (all_hold (head_checks b) is).1.1.0 k where
+  go None is k = found (file_system_at b) (checked b (all_hold (head_checks b) is)).file_system k where
     found : (o : Option FileSystem) → is_some o ≡ true → extent_or o (outer_fault kinds.FileSystem 16) b ≡ Err f → IsFirstFault (head_checks b) f
     found (Some fs) some k = cc
     found None some k = cc
@@ -385,6 +415,29 @@ kept_fields b e z l a r bs x found p q s t u ext =
     let same : fields_of e.file_system found.0.ext b ≡ made =
     fields_are _ _ _ _ _ _ _ (fields_of e.file_system found.0.ext b) (sym p) refl (sym q) (sym s) (sym t) (ap (λ (n : ℕ). blocks_at n b) (sym within.at) ∙ sym u) exts in
     subst (λ (h : HeadFields). Front h e b) (front_fields b found.0 e front ∙ same) front
+
+-- where a volume has an ExtHeaderOffset, the extended header that it names
+pub record ExtThere (e : Extent) (b : List ℕ) : Type 0 where
+  pub header : ext_offset_at b + 20 ≤ length b
+  pub within : ext_offset_at b + ext_size_at b ≤ length b
+  pub least : 20 ≤ ext_size_at b
+  pub most : ext_size_at b ≤ ext_limit
+  pub size : le_at 16 4 (field (ext_offset_at b) (ext_size_at b) b) ≡ ext_size_at b
+  pub read : (x : Extension) → IsExt x (field (ext_offset_at b) (ext_size_at b) b) → HasExt (Some x) e b
+
+pub ext_there : {b : List ℕ} {e : Extent} {offset : ℕ} → ((h : HeadFields) × Front h e b) → offset ≡ ext_offset_at b → (offset ≡ 0 → ⊥)
+    → ExtThere e b
+ext_there {b} {e} {offset} found at some =
+    let front = found.1 in
+    let s = stands found.0.ext e b front.ext (λ none. some (at ∙ none)) in
+    record {
+      header = omega (arith, s.least, s.within, front.whole);
+      within = omega (arith, s.within, front.whole);
+      least = s.least;
+      most = s.most;
+      size = s.size;
+      read = λ x is. read_there x e b _ s front.whole refl is;
+    }
 
 -- bytes begin with one volume at most
 pub one_front : (b : List ℕ) (h k : HeadFields) (e x : Extent) → Front h e b → Front k x b → (h ≡ k) × (e ≡ x)

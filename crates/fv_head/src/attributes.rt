@@ -13,22 +13,39 @@ pub struct FvAttributes(u32);
 
 bitflag_items! {
     impl FvAttributes: u32 {
+        /// `EFI_FVB2_READ_DISABLED_CAP`.
         const READ_DISABLED_CAP = 0x1;
+        /// `EFI_FVB2_READ_ENABLED_CAP`.
         const READ_ENABLED_CAP = 0x2;
+        /// `EFI_FVB2_READ_STATUS`.
         const READ_STATUS = 0x4;
+        /// `EFI_FVB2_WRITE_DISABLED_CAP`.
         const WRITE_DISABLED_CAP = 0x8;
+        /// `EFI_FVB2_WRITE_ENABLED_CAP`.
         const WRITE_ENABLED_CAP = 0x10;
+        /// `EFI_FVB2_WRITE_STATUS`.
         const WRITE_STATUS = 0x20;
+        /// `EFI_FVB2_LOCK_CAP`.
         const LOCK_CAP = 0x40;
+        /// `EFI_FVB2_LOCK_STATUS`.
         const LOCK_STATUS = 0x80;
+        /// `EFI_FVB2_STICKY_WRITE`.
         const STICKY_WRITE = 0x200;
+        /// `EFI_FVB2_MEMORY_MAPPED`.
         const MEMORY_MAPPED = 0x400;
+        /// `EFI_FVB2_ERASE_POLARITY`.
         const ERASE_POLARITY = 0x800;
+        /// `EFI_FVB2_READ_LOCK_CAP`.
         const READ_LOCK_CAP = 0x1000;
+        /// `EFI_FVB2_READ_LOCK_STATUS`.
         const READ_LOCK_STATUS = 0x2000;
+        /// `EFI_FVB2_WRITE_LOCK_CAP`.
         const WRITE_LOCK_CAP = 0x4000;
+        /// `EFI_FVB2_WRITE_LOCK_STATUS`.
         const WRITE_LOCK_STATUS = 0x8000;
+        /// `EFI_FVB2_ALIGNMENT`.
         const ALIGNMENT = 0x1f_0000;
+        /// `EFI_FVB2_WEAK_ALIGNMENT`.
         const WEAK_ALIGNMENT = 0x8000_0000;
     }
 }
@@ -61,7 +78,7 @@ impl Flags for FvAttributes {
 }
 
 impl FvAttributes {
-    /// What an erased byte holds, by bit 0x800.
+    /// What an erased byte holds, by bit 0x800, `EFI_FVB2_ERASE_POLARITY`.
     pub fn polarity(self) -> Polarity
         ensures { result ≡ polarity_of self.0 }
     {

@@ -4,9 +4,9 @@ ghost use Rattle.std.specs.Prelude.{◌≡◌, List, ℕ};
 
 use std::marker::Model;
 
-/// The blocks of a volume: of each entry, how many blocks and the bytes of each. Contracts see
-/// the list of the entries, without the pair of zeros that ends it. (PI specification, volume 3,
-/// section 3.2.1.1, `EFI_FV_BLOCK_MAP_ENTRY`.)
+/// The blocks of a volume: of each entry, how many blocks, `NumBlocks`, and the bytes of each, `Length`. Contracts
+/// see the list of the entries, without the pair of zeros that ends it. (PI specification, volume 3, section 3.2.1.1,
+/// `EFI_FV_BLOCK_MAP_ENTRY`.)
 #[derive(Drop)]
 pub struct BlockMap {
     blocks: Vec<(u32, u32)>,

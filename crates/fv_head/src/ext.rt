@@ -6,12 +6,16 @@ ghost use Rattle.fv_base.specs.Limits.{ext_limit};
 ghost use Rattle.fv_base.specs.Value.{le_at};
 ghost use Rattle.fv_head.specs.Ext.{BeginNone, Entries, IsExt, IsReadExt, held, is_used_size};
 
-use crate::fields::u16_at;
+use crate::layout::{
+    EXT_ENTRY_HEADER_LEN, EXT_ENTRY_SIZE_OFFSET, EXT_ENTRY_TYPE_OFFSET, EXT_HEADER_LEN,
+    FV_NAME_OFFSET,
+};
+use fv_base::field::u16_at;
 use fv_base::{ByteList, Fault, Guid, guid_at};
 use std::alloc::Global;
 use std::marker::Model;
 
-/// The type of an entry that holds the used size.
+/// The type of an entry that holds the used size: `EFI_FV_EXT_TYPE_USED_SIZE_TYPE`.
 const USED_SIZE: u16 = 3;
 
 /// An entry of an extended header. Contracts see its type and its payload. (PI specification,
@@ -29,7 +33,8 @@ impl Model for ExtEntry {
 }
 
 impl ExtEntry {
-    /// The type: 1 for OEM types, 2 for a GUID entry, 3 for the used size.
+    /// The type, `ExtEntryType`: 1 for OEM types (`EFI_FV_EXT_TYPE_OEM_TYPE`), 2 for a GUID entry
+    /// (`EFI_FV_EXT_TYPE_GUID_TYPE`), 3 for the used size (`EFI_FV_EXT_TYPE_USED_SIZE_TYPE`).
     pub fn kind(&self) -> u16
         ensures { result ≡ self.now.0 }
     {
@@ -66,7 +71,7 @@ impl Model for ExtHeader {
 }
 
 impl ExtHeader {
-    /// The name of the volume.
+    /// The name of the volume, `FvName`.
     pub fn name(&self) -> Guid
         ensures name { result ≡ self.now.name }
 
@@ -96,11 +101,11 @@ fn entry_len(bytes: &[u8]) -> Option<usize>
     ensures some { IfSome result (λ n. (n ≡ le_at 0 2 bytes.now) × (4 ≤ n) × (n ≤ length bytes.now)) }
     ensures none { IfNone result (BeginNone bytes.now) }
 {
-    if bytes.len() < 4 {
+    if bytes.len() < EXT_ENTRY_HEADER_LEN {
         return None;
     }
-    let size = usize::from(u16_at(bytes, 0));
-    if size < 4 || bytes.len() < size {
+    let size = usize::from(u16_at(bytes, EXT_ENTRY_SIZE_OFFSET));
+    if size < EXT_ENTRY_HEADER_LEN || bytes.len() < size {
         return None;
     }
     Some(size)
@@ -119,8 +124,8 @@ fn entry_of(alloc: Global, entry: &[u8]) -> Result<ExtEntry, Fault>
     ensures ok { IfOk result (λ e. (e.0 ≡ le_at 2 2 entry.now) × (e.1 ≡ held (le_at 2 2 entry.now) (drop 4 entry.now))) }
     ensures err { IfErr result (λ f. f ≡ want_of_memory) }
 {
-    let kind = u16_at(entry, 2);
-    let mut payload = entry[4..].to_vec(alloc)?;
+    let kind = u16_at(entry, EXT_ENTRY_TYPE_OFFSET);
+    let mut payload = entry[EXT_ENTRY_HEADER_LEN..].to_vec(alloc)?;
     if is_used_size(kind, &payload) {
         payload.as_mut_slice().copy_from_slice(&[0; 4]);
     }
@@ -153,9 +158,9 @@ pub(crate) fn ext_of(alloc: Global, bytes: &[u8]) -> Result<ExtHeader, Fault>
     ensures ok { IfOk result (λ x. IsExt x bytes.now) }
     ensures err { IfErr result (λ f. f ≡ want_of_memory) }
 {
-    let (entries, tail) = entries_of(alloc, &bytes[20..])?;
+    let (entries, tail) = entries_of(alloc, &bytes[EXT_HEADER_LEN..])?;
     Ok(ExtHeader {
-        name: guid_at(bytes, 0),
+        name: guid_at(bytes, FV_NAME_OFFSET),
         entries,
         tail,
     })

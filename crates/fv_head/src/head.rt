@@ -13,16 +13,20 @@ use crate::attributes::FvAttributes;
 use crate::block_map::BlockMap;
 use crate::ext::{ExtHeader, ext_of};
 use crate::extent::Extent;
-use crate::fields::{u16_at, u32_at, u64_at};
+use crate::layout::{
+    ATTRIBUTES_OFFSET, BLOCK_ENTRY_LEN, BLOCK_LENGTH_OFFSET, BLOCK_MAP_OFFSET, HEADER_LEAST,
+    NUM_BLOCKS_OFFSET, RESERVED_OFFSET, ZERO_VECTOR_OFFSET, ext_bytes_at, ext_offset_at,
+    volume_len_at,
+};
 use crate::verify::verify_fv;
 use bitflags::Flags;
-use fv_base::field::field;
+use fv_base::field::{field, u32_at};
 use fv_base::{Fault, FileSystem};
 use std::alloc::Global;
 use std::marker::Model;
 
 /// A volume's header, made by reading alone. Contracts see its fields, and know that they are
-/// those of a header. (PI specification, volume 3, section 3.2.1.1.)
+/// those of a header. (PI specification, volume 3, section 3.2.1.1, `EFI_FIRMWARE_VOLUME_HEADER`.)
 #[derive(Drop)]
 pub struct VolumeHead {
     zero_vector: [u8; 16],
@@ -47,49 +51,49 @@ impl Model for VolumeHead {
 }
 
 impl VolumeHead {
-    /// The 16 bytes at the volume's start, as they were found.
+    /// `ZeroVector`, the 16 bytes at the volume's start, as they were found.
     pub fn zero_vector(&self) -> &[u8; 16]
         ensures { result.now ≡ self.now.zero_vector }
     {
         &self.zero_vector
     }
 
-    /// The file system.
+    /// The file system, by `FileSystemGuid`.
     pub fn file_system(&self) -> FileSystem
         ensures { result ≡ self.now.file_system }
     {
         self.file_system
     }
 
-    /// The bytes of the volume, FvLength.
+    /// The bytes of the volume, `FvLength`.
     pub fn length(&self) -> u64
         ensures { result ≡ self.now.length }
     {
         self.length
     }
 
-    /// The attribute bits.
+    /// The attribute bits, `Attributes`.
     pub fn attributes(&self) -> FvAttributes
         ensures { result.0 ≡ self.now.attributes }
     {
         self.attributes
     }
 
-    /// The reserved byte, as it was found.
+    /// The reserved byte, `Reserved`, as it was found.
     pub fn reserved(&self) -> u8
         ensures { result ≡ self.now.reserved }
     {
         self.reserved
     }
 
-    /// The block map.
+    /// The block map, `BlockMap`.
     pub fn blocks(&self) -> &BlockMap
         ensures { result.now ≡ self.now.blocks }
     {
         &self.blocks
     }
 
-    /// The bytes of the header, HeaderLength.
+    /// The bytes of the header, `HeaderLength`.
     pub fn header_len(&self) -> u16
         ensures length { result ≡ header_len_of self.now }
         ensures most { header_len_of self.now ≤ header_limit }
@@ -100,7 +104,7 @@ impl VolumeHead {
         8 * (self.blocks.as_slice().len() as u16 + 1) + 56
     }
 
-    /// The extended header, if there is one.
+    /// The extended header, at `ExtHeaderOffset`, if there is one.
     pub fn ext(&self) -> Option<&ExtHeader>
         ensures { option_copied result ≡ self.now.ext }
     {
@@ -116,11 +120,11 @@ fn blocks_of(alloc: Global, bytes: &[u8]) -> Result<BlockMap, Fault>
 {
     let mut blocks = Vec::new(alloc);
     let mut rest = bytes;
-    while rest.len() >= 8 {
-        let count = u32_at(rest, 0);
-        let size = u32_at(rest, 4);
+    while rest.len() >= BLOCK_ENTRY_LEN {
+        let count = u32_at(rest, NUM_BLOCKS_OFFSET);
+        let size = u32_at(rest, BLOCK_LENGTH_OFFSET);
         blocks.push((count, size))?;
-        let (_, behind) = rest.split_at(8);
+        let (_, behind) = rest.split_at(BLOCK_ENTRY_LEN);
         rest = behind;
     }
     Ok(BlockMap::from_vec(blocks))
@@ -132,12 +136,10 @@ fn ext_at(alloc: Global, bytes: &[u8], extent: &Extent) -> Result<Option<ExtHead
     ensures ok { IfOk result (λ x. HasExt x extent.now bytes.now) }
     ensures err { IfErr result (λ f. f ≡ want_of_memory) }
 {
-    let offset = usize::from(u16_at(bytes, 52));
-    if offset == 0 {
+    if ext_offset_at(bytes) == 0 {
         return Ok(None);
     }
-    let size = u32_at(bytes, offset + 16) as usize;
-    Ok(Some(ext_of(alloc, field(bytes, offset, size))?))
+    Ok(Some(ext_of(alloc, ext_bytes_at(bytes))?))
 }
 
 // The fields of the header that the bytes begin with.
@@ -147,15 +149,18 @@ fn head_of(alloc: Global, bytes: &[u8], extent: &Extent) -> Result<VolumeHead, F
     ensures err { IfErr result (λ f. f ≡ want_of_memory) }
 {
     let header_len = extent.header_len as usize;
-    let blocks = blocks_of(alloc, field(bytes, 56, header_len - 64))?;
+    let blocks = blocks_of(
+        alloc,
+        field(bytes, BLOCK_MAP_OFFSET, header_len - HEADER_LEAST),
+    )?;
     let mut zero_vector = [0u8; 16];
-    zero_vector.copy_from_slice(field(bytes, 0, 16));
+    zero_vector.copy_from_slice(field(bytes, ZERO_VECTOR_OFFSET, 16));
     Ok(VolumeHead {
         zero_vector,
         file_system: extent.file_system,
-        length: u64_at(bytes, 32),
-        attributes: FvAttributes::from_bits_retain(u32_at(bytes, 44)),
-        reserved: bytes[54],
+        length: volume_len_at(bytes),
+        attributes: FvAttributes::from_bits_retain(u32_at(bytes, ATTRIBUTES_OFFSET)),
+        reserved: bytes[RESERVED_OFFSET],
         blocks,
         ext: ext_at(alloc, bytes, extent)?,
     })

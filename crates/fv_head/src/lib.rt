@@ -1,18 +1,18 @@
 //! The header that a firmware volume begins with: checked, read and written.
 #![tactic(auto)]
 
-pub mod attributes;
-pub mod block_map;
-pub mod ext;
-pub mod extent;
-mod fields;
-pub mod head;
-pub mod spell;
-pub mod spell_ext;
+mod attributes;
+mod block_map;
+mod ext;
+mod extent;
+mod head;
+mod layout;
+mod spell;
+mod spell_ext;
 #[cfg(test)]
 mod tests;
-pub mod verify;
-pub mod write;
+mod verify;
+mod write;
 
 pub use attributes::FvAttributes;
 pub use block_map::BlockMap;

@@ -85,7 +85,7 @@ fn put_pairs<S: Sink>(out: &mut S, pairs: &[(u32, u32)])
     }
 }
 
-// Where the canonical head says that the extended header stands, or 0 without one.
+// `ExtHeaderOffset` of the canonical head: where the extended header stands, or 0 without one.
 fn canonical_offset(head: &VolumeHead) -> u16
     ensures offset { result ≡ canonical_offset head.now head.now.ext }
     ensures read { IfRead head.now.ext }
@@ -121,7 +121,7 @@ fn put_spelled<S: Sink>(out: &mut S, head: &VolumeHead, checksum: u16)
     ensures ext { IfRead head.now.ext }
 {
     out.put(head.zero_vector());
-    out.put(system_guid(head.file_system()));
+    out.put(&system_guid(head.file_system()).to_bytes());
     put_u64(out, head.length());
     out.put(&SIGNATURE);
     put_u32(out, head.attributes().bits());
@@ -141,7 +141,7 @@ fn complement(sum: u16) -> u16
     0u16.wrapping_sub(sum)
 }
 
-// The checksum that makes the words of the header sum to 0.
+// `Checksum`, which makes the words of the header sum to 0.
 fn checksum_of(head: &VolumeHead) -> u16
     ensures { result ≡ checksum_of head.now (canonical_offset head.now head.now.ext) }
 {
@@ -155,7 +155,7 @@ fn checksum_of(head: &VolumeHead) -> u16
 
 /// Puts the head of the canonical image: the fields of the header, with ExtHeaderOffset 0, or
 /// HeaderLength + 24 where there is an extended header, and the right sum. (PI specification,
-/// volume 3, section 3.2.1.1.)
+/// volume 3, section 3.2.1.1, `EFI_FIRMWARE_VOLUME_HEADER`.)
 pub fn put_head<S: Sink>(out: &mut S, head: &VolumeHead)
     ensures bytes { S.takes out.old (canonical_head head.now) out.new }
     ensures read { IsReadHead head.now }
@@ -164,11 +164,12 @@ pub fn put_head<S: Sink>(out: &mut S, head: &VolumeHead)
     put_spelled(out, head, checksum_of(head));
 }
 
-/// The head of the canonical image.
+/// The head of the canonical image, as `put_head` puts it: HeaderLength bytes. (PI specification, volume 3, section
+/// 3.2.1.1.)
 ///
 /// # Errors
 ///
-/// OutOfMemory.
+/// OutOfMemory at 0.
 pub fn head_bytes(alloc: Global, head: &VolumeHead) -> Result<ByteList, Fault>
     // They are the head of the canonical image, and nothing else is.
     ensures head { IfOk result (λ bytes. IsCanonicalHead head.now bytes) }

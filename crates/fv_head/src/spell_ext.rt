@@ -23,8 +23,8 @@ fn len_of_entries(entries: &[ExtEntry]) -> u32
     len
 }
 
-/// How many bytes an extended header has, ExtHeaderSize: 20, the bytes of its entries and those of
-/// its tail. Takes no memory. (PI specification, volume 3, section 3.2.1.2.)
+/// How many bytes an extended header has, `ExtHeaderSize`: 20, the bytes of its entries and those of its tail. Takes
+/// no memory. (PI specification, volume 3, section 3.2.1.2.)
 pub fn len_of_ext(ext: &ExtHeader) -> u32
     ensures len { result ≡ ext_len ext.now }
     ensures most { ext_len ext.now ≤ ext_limit }
@@ -66,8 +66,8 @@ fn put_entries<S: Sink>(out: &mut S, entries: &[ExtEntry], used: u32)
     }
 }
 
-/// Puts an extended header: its name, its size, its entries with each used size as it is handed,
-/// and its tail. (PI specification, volume 3, section 3.2.1.2.)
+/// Puts an extended header: `FvName`, `ExtHeaderSize`, its entries with each used size as it is handed (that of an
+/// entry `EFI_FV_EXT_TYPE_USED_SIZE_TYPE`, in bytes), and its tail. (PI specification, volume 3, section 3.2.1.2.)
 pub fn put_ext<S: Sink>(out: &mut S, ext: &ExtHeader, used: u32)
     ensures bytes { S.takes out.old (ext_spelled ext.now used) out.new }
     ensures len { length (ext_spelled ext.now used) ≡ ext_len ext.now }
@@ -80,11 +80,12 @@ pub fn put_ext<S: Sink>(out: &mut S, ext: &ExtHeader, used: u32)
     out.put(ext.tail());
 }
 
-/// The bytes of an extended header, with each used size as it is handed.
+/// The bytes of an extended header, with each used size as it is handed, as `put_ext` puts them. (PI specification,
+/// volume 3, section 3.2.1.2.)
 ///
 /// # Errors
 ///
-/// OutOfMemory.
+/// OutOfMemory at 0.
 pub fn ext_bytes(alloc: Global, ext: &ExtHeader, used: u32) -> Result<ByteList, Fault>
     ensures bytes { IfOk result (λ bytes. bytes ≡ ext_spelled ext.now used) }
 

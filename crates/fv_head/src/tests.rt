@@ -23,7 +23,7 @@ const EMPTY: [u8; 128] = [
     0xff, 0xff, 0xff, 0xff, 0xff, 0xff, 0xff, 0xff, 0xff, 0xff, 0xff, 0xff, 0xff, 0xff, 0xff, 0xff,
 ];
 
-/// Puts other bytes at a place, as far as there is room.
+// Puts other bytes at a place, as far as there is room.
 fn put_at(bytes: &mut [u8], at: usize, part: &[u8]) {
     let room = bytes.len().saturating_sub(at);
     for i in 0..part.len().min(room) {
@@ -31,7 +31,7 @@ fn put_at(bytes: &mut [u8], at: usize, part: &[u8]) {
     }
 }
 
-/// Puts other bytes at these places.
+// Puts other bytes at these places.
 fn change(bytes: &mut [u8], changes: &[(usize, &[u8])]) {
     for (at, part) in changes {
         put_at(bytes, *at, part);
@@ -120,7 +120,7 @@ const FAULTS: [(usize, &[(usize, &[u8])], FaultKind, u64); 13] = [
     ),
 ];
 
-/// Whether a head has the fields of the empty volume, and these.
+// Whether a head has the fields of the empty volume, and these.
 fn shows(head: &VolumeHead, file_system: FileSystem, attributes: u32, polarity: Polarity) -> bool {
     let is_named = *head.zero_vector() == [0u8; 16] && head.file_system() == file_system;
     let bits = head.attributes();
@@ -154,13 +154,13 @@ fn heads_are_read(rt: HostRuntime) -> Result<(), Fail> {
     Ok(())
 }
 
-/// The head of the canonical image of the volume that the bytes begin with.
+// The head of the canonical image of the volume that the bytes begin with.
 fn canonical(alloc: Global, bytes: &[u8]) -> Result<ByteList, Fault> {
     let (head, _) = read_head(alloc, bytes)?;
     head_bytes(alloc, &head)
 }
 
-/// The same, put into a sink.
+// The same, put into a sink.
 fn canonical_put(alloc: Global, bytes: &[u8]) -> Result<ByteList, Fault> {
     let (head, _) = read_head(alloc, bytes)?;
     let mut out = ListSink::with_room(alloc, 72)?;
@@ -190,7 +190,7 @@ fn heads_are_put(rt: HostRuntime) -> Result<(), Fail> {
     Ok(())
 }
 
-/// The fault with which a head is not read.
+// The fault with which a head is not read.
 fn fault_of(alloc: Global, bytes: &[u8]) -> Option<Fault> {
     match read_head(alloc, bytes) {
         Ok((_head, _)) => None,

@@ -2,6 +2,7 @@
 
 ghost use Rattle.std.specs.Prelude.{◌≡◌, ◌⊎◌, ◌+◌, ◌==◌, ◌%◌, ◌≤◌, length, IfOk, IfErr, OnOk, None, Some, true};
 ghost use Rattle.fv_base.specs.Checks.{IsFirstFault, first_fault};
+ghost use Rattle.fv_base.specs.Guids.{bytes_of};
 ghost use Rattle.fv_base.specs.Sums.{sum16_of};
 ghost use Rattle.fv_base.specs.Value.{le_at};
 ghost use Rattle.fv_head.specs.Head.{HeadFields, Front, system_guid};
@@ -11,33 +12,40 @@ ghost use Rattle.fv_head.specs.declared.extent.Extent.{Extent};
 
 use crate::attributes::FvAttributes;
 use crate::extent::Extent;
-use crate::fields::{u16_at, u32_at, u64_at};
+use crate::layout::{
+    ATTRIBUTES_OFFSET, BLOCK_ENTRY_LEN, BLOCK_LENGTH_OFFSET, BLOCK_MAP_OFFSET, EXT_HEADER_LEN,
+    EXT_HEADER_OFFSET_OFFSET, FILE_SYSTEM_GUID_OFFSET, FV_LENGTH_OFFSET, HEADER_LEAST,
+    HEADER_LENGTH_OFFSET, NUM_BLOCKS_OFFSET, REVISION_OFFSET, SIGNATURE_OFFSET, ext_offset_at,
+    ext_size_at, header_len_at, volume_len_at,
+};
 use bitflags::Flags;
-use fv_base::field::{field, up_to_8};
+use fv_base::field::{field, u32_at, up_to_8};
 use fv_base::limits::{EXT_LIMIT, HEADER_LIMIT, VOLUME_LIMIT};
-use fv_base::{Fault, FaultKind, FileSystem, check, sum16};
+use fv_base::{Fault, FaultKind, FileSystem, Guid, check, guid_at, sum16};
 
-/// The signature `_FVH`.
+/// `Signature`, `_FVH`: `EFI_FVH_SIGNATURE`.
 pub(crate) const SIGNATURE: [u8; 4] = [0x5f, 0x46, 0x56, 0x48];
 
-/// The revision of the header.
+/// `Revision`: `EFI_FVH_REVISION`.
 pub(crate) const REVISION: u8 = 2;
 
+/// `EFI_FIRMWARE_FILE_SYSTEM2_GUID`, 8c8ce578-8a3d-4f1c-9935-896185c32dd3.
 const FFS2: [u8; 16] = [
     0x78, 0xe5, 0x8c, 0x8c, 0x3d, 0x8a, 0x1c, 0x4f, 0x99, 0x35, 0x89, 0x61, 0x85, 0xc3, 0x2d, 0xd3,
 ];
 
+/// `EFI_FIRMWARE_FILE_SYSTEM3_GUID`, 5473c07a-3dcb-4dca-bd6f-1e9689e7349a.
 const FFS3: [u8; 16] = [
     0x7a, 0xc0, 0x73, 0x54, 0xcb, 0x3d, 0xca, 0x4d, 0xbd, 0x6f, 0x1e, 0x96, 0x89, 0xe7, 0x34, 0x9a,
 ];
 
-/// The GUID of a file system, as it stands in a volume.
-pub(crate) fn system_guid(file_system: FileSystem) -> &'static [u8; 16]
-    ensures { result.now ≡ system_guid file_system }
+// The GUID of a file system, which stands in `FileSystemGuid`.
+pub(crate) fn system_guid(file_system: FileSystem) -> Guid
+    ensures { bytes_of result ≡ system_guid file_system }
 {
     match file_system {
-        FileSystem::Ffs2 => &FFS2,
-        FileSystem::Ffs3 => &FFS3,
+        FileSystem::Ffs2 => Guid::from_bytes(FFS2),
+        FileSystem::Ffs3 => Guid::from_bytes(FFS3),
     }
 }
 
@@ -45,38 +53,39 @@ fn has_signature(bytes: &[u8]) -> bool
     requires { 56 ≤ length bytes.now }
     ensures { result ≡ has_signature bytes.now }
 {
-    bytes[40..44] == SIGNATURE[..]
+    bytes[SIGNATURE_OFFSET..SIGNATURE_OFFSET + 4] == SIGNATURE[..]
 }
 
 fn file_system_at(bytes: &[u8]) -> Option<FileSystem>
     requires { 56 ≤ length bytes.now }
     ensures { result ≡ file_system_at bytes.now }
 {
-    if bytes[16..32] == FFS2[..] {
+    let guid = guid_at(bytes, FILE_SYSTEM_GUID_OFFSET);
+    if guid == system_guid(FileSystem::Ffs2) {
         Some(FileSystem::Ffs2)
-    } else if bytes[16..32] == FFS3[..] {
+    } else if guid == system_guid(FileSystem::Ffs3) {
         Some(FileSystem::Ffs3)
     } else {
         None
     }
 }
 
-/// Whether the bytes say that they are one volume and no more: 56 bytes at least, with the signature
-/// `_FVH` at 40 and the GUID of a file system at 16, and an FvLength that is their number. No other
-/// check of the header is made. Takes no memory. (PI specification, volume 3, section 3.2.1.1.)
+/// Whether the bytes say that they are one volume and no more: 56 bytes at least, with the `Signature` `_FVH` at 40
+/// and the GUID of a file system, `FileSystemGuid`, at 16, and an `FvLength` that is their number. No other check of
+/// the header is made. Takes no memory. (PI specification, volume 3, section 3.2.1.1.)
 pub fn is_one_volume(bytes: &[u8]) -> bool
     ensures { result ≡ is_one_volume bytes.now }
 {
-    bytes.len() >= 56
+    bytes.len() >= BLOCK_MAP_OFFSET
         && has_signature(bytes)
         && file_system_at(bytes).is_some()
-        && u64_at(bytes, 32) == bytes.len() as u64
+        && volume_len_at(bytes) == bytes.len() as u64
 }
 
 fn is_header_len(len: usize) -> bool
     ensures { result ≡ is_header_len len }
 {
-    len % 8 == 0 && 64 <= len && len <= HEADER_LIMIT
+    len % 8 == 0 && HEADER_LEAST <= len && len <= HEADER_LIMIT
 }
 
 fn is_volume_len(header_len: usize, len: u64) -> bool
@@ -106,9 +115,9 @@ fn makes_up(blocks: &[u8], total: u64) -> bool
 {
     let mut rest = blocks;
     let mut left = total;
-    while rest.len() >= 8 {
-        let count = u32_at(rest, 0);
-        let size = u32_at(rest, 4);
+    while rest.len() >= BLOCK_ENTRY_LEN {
+        let count = u32_at(rest, NUM_BLOCKS_OFFSET);
+        let size = u32_at(rest, BLOCK_LENGTH_OFFSET);
         if is_zero_pair(count, size) {
             return false;
         }
@@ -117,7 +126,7 @@ fn makes_up(blocks: &[u8], total: u64) -> bool
             return false;
         }
         left -= bytes;
-        let (_, behind) = rest.split_at(8);
+        let (_, behind) = rest.split_at(BLOCK_ENTRY_LEN);
         rest = behind;
     }
     left == 0
@@ -129,9 +138,11 @@ fn has_block_map(bytes: &[u8], header_len: usize) -> bool
     requires within { header_len ≤ length bytes.now }
     ensures { result ≡ has_block_map header_len bytes.now }
 {
-    makes_up(field(bytes, 56, header_len - 64), u64_at(bytes, 32))
-        && u32_at(bytes, header_len - 8) == 0
-        && u32_at(bytes, header_len - 4) == 0
+    let blocks = field(bytes, BLOCK_MAP_OFFSET, header_len - HEADER_LEAST);
+    let last = header_len - BLOCK_ENTRY_LEN;
+    makes_up(blocks, volume_len_at(bytes))
+        && u32_at(bytes, last + NUM_BLOCKS_OFFSET) == 0
+        && u32_at(bytes, last + BLOCK_LENGTH_OFFSET) == 0
 }
 
 // Whether an extended header lies behind the header and within the volume, or there is none.
@@ -140,16 +151,18 @@ fn has_ext(bytes: &[u8], header_len: usize, volume_len: u64) -> bool
     requires within { volume_len ≤ length bytes.now }
     ensures { result ≡ has_ext header_len volume_len bytes.now }
 {
-    let offset = u16_at(bytes, 52);
+    let offset = ext_offset_at(bytes);
     if offset == 0 {
         return true;
     }
     let start = usize::from(offset);
-    if start < header_len || start as u64 + 20 > volume_len {
+    if start < header_len || (start + EXT_HEADER_LEN) as u64 > volume_len {
         return false;
     }
-    let size = u32_at(bytes, start + 16);
-    20 <= size && size <= EXT_LIMIT && start as u64 + u64::from(size) <= volume_len
+    let size = ext_size_at(bytes);
+    EXT_HEADER_LEN as u32 <= size
+        && size <= EXT_LIMIT
+        && start as u64 + u64::from(size) <= volume_len
 }
 
 // Where the first file may stand.
@@ -158,11 +171,11 @@ fn first_at(bytes: &[u8]) -> u64
     requires ext { (le_at 52 2 bytes.now ≡ 0) ⊎ (le_at 52 2 bytes.now + 20 ≤ length bytes.now) }
     ensures { result ≡ first_at bytes.now }
 {
-    let offset = u16_at(bytes, 52);
+    let offset = ext_offset_at(bytes);
     if offset == 0 {
-        return u64::from(u16_at(bytes, 48));
+        return header_len_at(bytes) as u64;
     }
-    let size = u32_at(bytes, usize::from(offset) + 16);
+    let size = ext_size_at(bytes);
     up_to_8(u64::from(offset) + u64::from(size))
 }
 
@@ -173,11 +186,11 @@ fn extent_at(bytes: &[u8], file_system: FileSystem) -> Extent
     ensures { result ≡ extent_at file_system bytes.now }
 {
     Extent {
-        length: u64_at(bytes, 32),
-        header_len: u64::from(u16_at(bytes, 48)),
+        length: volume_len_at(bytes),
+        header_len: header_len_at(bytes) as u64,
         first: first_at(bytes),
         file_system,
-        polarity: FvAttributes::from_bits_retain(u32_at(bytes, 44)).polarity(),
+        polarity: FvAttributes::from_bits_retain(u32_at(bytes, ATTRIBUTES_OFFSET)).polarity(),
     }
 }
 
@@ -188,14 +201,28 @@ fn front_verdict(bytes: &[u8]) -> Result<FileSystem, Fault>
     ensures header_len { OnOk result (is_header_len (header_len_at bytes.now) ≡ true) }
     ensures err { IfErr result (λ f. first_fault (front_checks bytes.now) ≡ Some f) }
 {
-    check(bytes.len() >= 56, FaultKind::Truncated, bytes.len() as u64)?;
-    check(has_signature(bytes), FaultKind::Signature, 40)?;
+    let end = bytes.len() as u64;
+    check(bytes.len() >= BLOCK_MAP_OFFSET, FaultKind::Truncated, end)?;
+    check(
+        has_signature(bytes),
+        FaultKind::Signature,
+        SIGNATURE_OFFSET as u64,
+    )?;
     let Some(file_system) = file_system_at(bytes) else {
-        return Err(Fault::outer(FaultKind::FileSystem, 16));
+        return Err(Fault::outer(FaultKind::FileSystem, FILE_SYSTEM_GUID_OFFSET as u64));
     };
-    check(bytes[55] == REVISION, FaultKind::Revision, 55)?;
-    let header_len = usize::from(u16_at(bytes, 48));
-    check(is_header_len(header_len), FaultKind::HeaderLength, 48)?;
+    let revision = bytes[REVISION_OFFSET];
+    check(
+        revision == REVISION,
+        FaultKind::Revision,
+        REVISION_OFFSET as u64,
+    )?;
+    let header_len = header_len_at(bytes);
+    check(
+        is_header_len(header_len),
+        FaultKind::HeaderLength,
+        HEADER_LENGTH_OFFSET as u64,
+    )?;
     Ok(file_system)
 }
 
@@ -208,14 +235,26 @@ fn whole_verdict(bytes: &[u8]) -> Result<(), Fault>
     ensures err { IfErr result (λ f. first_fault (whole_checks bytes.now) ≡ Some f) }
 {
     let end = bytes.len() as u64;
-    let header_len = usize::from(u16_at(bytes, 48));
+    let header_len = header_len_at(bytes);
     check(header_len <= bytes.len(), FaultKind::Truncated, end)?;
     check(has_sum(&bytes[..header_len]), FaultKind::HeaderSum, 0)?;
-    check(has_block_map(bytes, header_len), FaultKind::BlockMap, 56)?;
-    let length = u64_at(bytes, 32);
-    check(is_volume_len(header_len, length), FaultKind::Length, 32)?;
+    check(
+        has_block_map(bytes, header_len),
+        FaultKind::BlockMap,
+        BLOCK_MAP_OFFSET as u64,
+    )?;
+    let length = volume_len_at(bytes);
+    check(
+        is_volume_len(header_len, length),
+        FaultKind::Length,
+        FV_LENGTH_OFFSET as u64,
+    )?;
     check(length <= end, FaultKind::Truncated, end)?;
-    check(has_ext(bytes, header_len, length), FaultKind::ExtHeader, 52)
+    check(
+        has_ext(bytes, header_len, length),
+        FaultKind::ExtHeader,
+        EXT_HEADER_OFFSET_OFFSET as u64,
+    )
 }
 
 // The extent, or the first fault.
@@ -227,14 +266,14 @@ fn verdict(bytes: &[u8]) -> Result<Extent, Fault>
     Ok(extent_at(bytes, file_system))
 }
 
-/// The extent of the volume that the bytes begin with. Takes no memory. (PI specification, volume
-/// 3, section 3.2.1.1.)
+/// The extent of the volume that the bytes begin with: `FvLength`, `HeaderLength`, where the first file may stand,
+/// the file system and the polarity. Takes no memory. (PI specification, volume 3, section 3.2.1.1.)
 ///
 /// # Errors
 ///
-/// The first fault of the header, in this order: Truncated where 56 bytes are not there,
-/// Signature, FileSystem, Revision, HeaderLength, Truncated where HeaderLength bytes are not
-/// there, HeaderSum, BlockMap, Length, Truncated where FvLength bytes are not there, ExtHeader.
+/// The first fault of the header, in this order: Truncated where 56 bytes are not there, Signature, FileSystem,
+/// Revision, HeaderLength, Truncated where HeaderLength bytes are not there, HeaderSum, BlockMap, Length, Truncated
+/// where FvLength bytes are not there, ExtHeader. Offsets are in bytes from the first.
 pub fn verify_fv(bytes: &[u8]) -> Result<Extent, Fault>
     // The bytes begin with a volume of this extent.
     ensures found { IfOk result (λ e. (h : HeadFields) × Front h e bytes.now) }

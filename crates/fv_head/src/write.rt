@@ -14,7 +14,8 @@ use crate::spell_ext::put_ext;
 use fv_base::{Fault, Port, WriteSink};
 use std::io::Write;
 
-/// Writes the head of the canonical image, as `head_bytes` gives it. Takes no memory.
+/// Writes the head of the canonical image, as `head_bytes` gives it. Takes no memory. (PI specification, volume 3,
+/// section 3.2.1.1.)
 ///
 /// # Errors
 ///
@@ -34,8 +35,8 @@ pub fn write_head<W: Write>(head: &VolumeHead, writer: &mut Port<W>) -> Result<(
     if out.on { Ok(()) } else { Err(out.fault()) }
 }
 
-/// Writes an extended header with each used size as it is handed, as `ext_bytes` gives it. Takes
-/// no memory.
+/// Writes an extended header with each used size as it is handed, as `ext_bytes` gives it. Takes no memory. (PI
+/// specification, volume 3, section 3.2.1.2.)
 ///
 /// # Errors
 ///

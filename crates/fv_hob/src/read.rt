@@ -8,10 +8,10 @@ ghost use Rattle.fv_hob.specs.Hobs.{HobForm};
 ghost use Rattle.fv_hob.specs.Lists.{IsHobList};
 
 use crate::fault::{HobFault, HobFaultKind};
-use crate::fields::u16_at;
 use crate::hob::Hob;
 use crate::list::HobList;
 use crate::row::{has_shape, hob_in};
+use fv_base::field::u16_at;
 use std::alloc::Global;
 
 /// The type of the hand-off information table.

@@ -4,9 +4,9 @@ ghost use Rattle.std.specs.Prelude.{◌≡◌, ◌≤◌, length, IfOk};
 ghost use Rattle.fv_base.specs.Value.{le_at};
 ghost use Rattle.fv_hob.specs.Hobs.{IsBlock, IsHob, allocation_in, handoff_in, has_shape, kind_by, resource_in};
 
-use crate::fields::{bytes_from, u16_at, u32_at, u64_at};
+use crate::fields::bytes_from;
 use crate::hob::{Handoff, Hob, HobKind, MemoryAllocation, Resource};
-use fv_base::field::field;
+use fv_base::field::{field, u16_at, u32_at, u64_at};
 use fv_base::guid_at;
 use std::alloc::{AllocError, Global};
 

@@ -2,7 +2,7 @@
 use Rattle.std.proofs.Common.{◌≡◌, ◌≤◌, ◌<◌, ℕ, ◌+◌, ◌-◌, List, ◌++◌, length, take, drop, refl, sym, ap, ◌∙◌, subst, arith, Bool, true, false, length-append, length-drop, append_assoc, drop-drop}
 use Rattle.std.specs.Prelude.{◌==◌, slice_index, Result, Ok, Err}
 use Rattle.std.proofs.lemmas.Bool.{leb-true, le-leb, eqb-true, eqb-false, eq-eqb}
-use Rattle.std.proofs.lemmas.List.{take-append-drop, take_at, drop_at, length-take-le, get_or-take}
+use Rattle.std.proofs.lemmas.List.{take-append-drop, take_at, take_rest, drop_at, length-take-le, get_or-take}
 use Rattle.std.proofs.Math.ListN.{get_or-append}
 use Rattle.fv_base.specs.Checks.{AllHold, first_fault, IsFirstFault}
 use Rattle.fv_base.specs.Value.{le, le_at}
@@ -149,6 +149,10 @@ stands_verdict at b g stands =
 
 pub verdict_first : (at : ℕ) (r : List ℕ) (e : Fault) → frame_verdict at r ≡ Err e → IsFirstFault (frame_checks at r) e
 verdict_first at r e is = first_is (frame_checks at r) e (verdict_err (first_fault (frame_checks at r)) (frame_in at r) e is)
+
+-- the verdict on all that is left of a stream is that on what stands from the place on
+pub verdict_rest : (at : ℕ) (b : List ℕ) → frame_verdict at (take (length b - at) (drop at b)) ≡ frame_verdict at (drop at b)
+verdict_rest at b = ap (frame_verdict at) (take_rest b at)
 
 -- where a check does not hold no frame stands
 pub none_stands : (at : ℕ) (b : List ℕ) (e : Fault) (g : FrameForm) → IsFirstFault (frame_checks at (drop at b)) e → StandsAt g at b → ⊥

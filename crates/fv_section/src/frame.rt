@@ -7,11 +7,14 @@ ghost use Rattle.fv_section.specs.FrameChecks.{is_extended, head_len_at, size_at
 ghost use Rattle.fv_section.specs.Frames.{FrameForm, StandsAt};
 ghost use Rattle.fv_section.specs.Seen.{form_of};
 
+use crate::layout::{
+    EXTENDED_HEADER_LEN, EXTENDED_SIZE_OFFSET, HEADER_LEN, SIZE_OFFSET, TYPE_OFFSET,
+};
 use byteorder::{ByteOrder, LittleEndian};
-use fv_base::field::field;
+use fv_base::field::{field, u32_at};
 use fv_base::{Fault, FaultKind, check};
 
-/// The Size of an extended header, whose size stands behind its first 4 bytes.
+/// `Size` of an extended header, whose size is its `ExtendedSize`.
 const EXTENDED: u32 = 0xff_ffff;
 
 /// A section as it lies in its stream. (PI specification, volume 3, section 3.2.4,
@@ -20,9 +23,9 @@ const EXTENDED: u32 = 0xff_ffff;
 pub struct Frame<'a> {
     /// Where its header begins, in bytes from the stream's start.
     pub offset: u64,
-    /// Its type.
+    /// Its `Type`, as 15 for `EFI_SECTION_USER_INTERFACE`.
     pub kind: u8,
-    /// Whether its header has 8 bytes, and not 4.
+    /// Whether its header is `EFI_COMMON_SECTION_HEADER2`, of 8 bytes, and not one of 4.
     pub extended: bool,
     /// Its bytes behind the header.
     pub body: &'a [u8],
@@ -32,7 +35,7 @@ fn short_size(rest: &[u8]) -> u32
     requires least { 4 ≤ length rest.now }
     ensures { result ≡ le_at 0 3 rest.now }
 {
-    LittleEndian::read_u24(field(rest, 0, 3))
+    LittleEndian::read_u24(field(rest, SIZE_OFFSET, 3))
 }
 
 fn is_extended(rest: &[u8]) -> bool
@@ -46,7 +49,11 @@ fn head_len(rest: &[u8]) -> usize
     requires least { 4 ≤ length rest.now }
     ensures { result ≡ head_len_at rest.now }
 {
-    if is_extended(rest) { 8 } else { 4 }
+    if is_extended(rest) {
+        EXTENDED_HEADER_LEN
+    } else {
+        HEADER_LEN
+    }
 }
 
 fn size_of(rest: &[u8]) -> usize
@@ -55,7 +62,7 @@ fn size_of(rest: &[u8]) -> usize
     ensures { result ≡ size_at rest.now }
 {
     if is_extended(rest) {
-        LittleEndian::read_u32(field(rest, 4, 4)) as usize
+        u32_at(rest, EXTENDED_SIZE_OFFSET) as usize
     } else {
         short_size(rest) as usize
     }
@@ -78,7 +85,7 @@ fn frame_in(rest: &[u8], at: u64) -> Frame<'_>
 {
     Frame {
         offset: at,
-        kind: rest[3],
+        kind: rest[TYPE_OFFSET],
         extended: is_extended(rest),
         body: &rest[head_len(rest)..size_of(rest)],
     }
@@ -90,14 +97,13 @@ fn front(rest: &[u8], at: u64) -> Result<Frame<'_>, Fault>
     ensures refused { IfErr result (λ e. frame_verdict at rest.now ≡ Err e) }
     ensures place { IfErr result (λ e. e.place.offset ≡ at) }
 {
-    check(rest.len() >= 4, FaultKind::SectionTail, at)?;
+    check(rest.len() >= HEADER_LEN, FaultKind::SectionTail, at)?;
     check(has_size(rest), FaultKind::SectionSize, at)?;
     Ok(frame_in(rest, at))
 }
 
-/// The frame whose header stands at the place `at` of the stream, in bytes, or None where that is
-/// the stream's end or past it. Frames stand at multiples of 4. Takes no memory. (PI
-/// specification, volume 3, section 3.2.4.)
+/// The frame whose header stands at `at`, in bytes from the stream's start, or None where that is the stream's end or
+/// past it. Frames stand at multiples of 4. Takes no memory. (PI specification, volume 3, section 3.2.4.)
 ///
 /// # Errors
 ///

@@ -1,13 +1,14 @@
 //! The sections of a file: their frames in a stream, their headers, and what some leaves hold.
 #![tactic(auto)]
 
-pub mod frame;
+mod frame;
+mod layout;
 mod list;
-pub mod spell;
-pub mod split;
+mod spell;
+mod split;
 #[cfg(test)]
 mod tests;
-pub mod texts;
+mod texts;
 
 pub use frame::{Frame, next_frame};
 pub use list::Frames;

@@ -25,7 +25,7 @@ impl<'a> Model for Frames<'a> {
 }
 
 impl<'a> Frames<'a> {
-    /// The frames of a vector and the bytes behind the last. Takes no memory.
+    // The frames of a vector and the bytes behind the last. Takes no memory.
     pub(crate) fn from_parts(list: Vec<Frame<'a>>, tail: u8) -> Frames<'a>
         ensures { result ≡ (map form_of list.entry.items, tail) }
     {

@@ -5,13 +5,14 @@ ghost use Rattle.fv_base.specs.Value.{le_bytes};
 ghost use Rattle.fv_section.specs.Frames.{IsHeader};
 ghost use Rattle.fv_section.specs.Written.{FitsForm, IsHeadOfFrame, StreamsAreRead, section_head_of};
 
+use crate::layout::{EXTENDED_HEADER_LEN, EXTENDED_SIZE_OFFSET, HEADER_LEN, TYPE_OFFSET};
 use byteorder::{ByteOrder, LittleEndian};
 use std::marker::Model;
 
 /// The bytes of a section header: 4, or 8 of an extended one. Contracts see them as a list.
 #[derive(Drop)]
 pub struct SectionHead {
-    bytes: [u8; 8],
+    bytes: [u8; EXTENDED_HEADER_LEN],
     count: usize,
 }
 
@@ -34,30 +35,36 @@ impl SectionHead {
     }
 }
 
+// `EFI_COMMON_SECTION_HEADER`.
 fn short_head(kind: u8, size: u32) -> SectionHead
     requires { size ≤ 0xffffff }
     ensures { result ≡ le_bytes 3 size ++ (kind ∷ []) }
 {
-    let low = size.to_le_bytes();
+    let mut bytes = [0; EXTENDED_HEADER_LEN];
+    LittleEndian::write_u24(&mut bytes, size);
+    bytes[TYPE_OFFSET] = kind;
     SectionHead {
-        bytes: [low[0], low[1], low[2], kind, 0, 0, 0, 0],
-        count: 4,
+        bytes,
+        count: HEADER_LEN,
     }
 }
 
+// `EFI_COMMON_SECTION_HEADER2`.
 fn extended_head(kind: u8, size: u32) -> SectionHead
     ensures { result ≡ le_bytes 3 0xffffff ++ (kind ∷ le_bytes 4 size) }
 {
-    let low = size.to_le_bytes();
+    let mut bytes = [0xff; EXTENDED_HEADER_LEN];
+    bytes[TYPE_OFFSET] = kind;
+    LittleEndian::write_u32(&mut bytes[EXTENDED_SIZE_OFFSET..], size);
     SectionHead {
-        bytes: [0xff, 0xff, 0xff, kind, low[0], low[1], low[2], low[3]],
-        count: 8,
+        bytes,
+        count: EXTENDED_HEADER_LEN,
     }
 }
 
-/// The header of a section of this type and form whose body has so many bytes. The size, which
-/// counts the header, fits the form: at most FFFFFE in a short header, FFFFFFFF in an extended one.
-/// Takes no memory. (PI specification, volume 3, section 3.2.4.)
+/// The header of a section of this `Type` and form whose body has so many bytes: `Size`, or FFFFFF and
+/// `ExtendedSize`. The size, which counts the header, fits the form: at most FFFFFE in a short header, FFFFFFFF in an
+/// extended one. Takes no memory. (PI specification, volume 3, section 3.2.4.)
 pub fn section_head_bytes(kind: u8, extended: bool, body_len: u64) -> SectionHead
     requires fits { FitsForm extended body_len }
 
@@ -74,8 +81,8 @@ pub fn section_head_bytes(kind: u8, extended: bool, body_len: u64) -> SectionHea
     ensures streams { StreamsAreRead }
 {
     if extended {
-        extended_head(kind, (body_len + 8) as u32)
+        extended_head(kind, (body_len + EXTENDED_HEADER_LEN as u64) as u32)
     } else {
-        short_head(kind, (body_len + 4) as u32)
+        short_head(kind, (body_len + HEADER_LEN as u64) as u32)
     }
 }

@@ -7,6 +7,7 @@ ghost use Rattle.fv_section.specs.Frames.{FrameForm, AllWithin, Splits, size, up
 ghost use Rattle.fv_section.specs.Seen.{form_of};
 
 use crate::frame::{Frame, next_frame};
+use crate::layout::{EXTENDED_HEADER_LEN, HEADER_LEN};
 use crate::list::Frames;
 use fv_base::Fault;
 use std::alloc::Global;
@@ -15,8 +16,12 @@ use std::alloc::Global;
 fn size_of(frame: &Frame) -> u64
     ensures { result ≡ size (form_of frame.now) }
 {
-    let header = if frame.extended { 8 } else { 4 };
-    header + frame.body.len() as u64
+    let header = if frame.extended {
+        EXTENDED_HEADER_LEN
+    } else {
+        HEADER_LEN
+    };
+    header as u64 + frame.body.len() as u64
 }
 
 // Where the frame behind this one would stand, and how many bytes lie before it.
@@ -50,13 +55,13 @@ fn frames_in(alloc: Global, stream: &[u8]) -> Result<Frames<'_>, Fault>
     Ok(Frames::from_parts(list, tail))
 }
 
-/// The one split of a stream into frames. A stream of no bytes has none. (PI specification, volume
-/// 3, section 3.2.4.)
+/// The one split of a stream into frames, whose offsets count from the stream's start. A stream of no bytes has none.
+/// (PI specification, volume 3, section 3.2.4.)
 ///
 /// # Errors
 ///
-/// SectionTail or SectionSize at the first place where a section would begin and none does.
-/// OutOfMemory.
+/// SectionTail or SectionSize, as `next_frame`, at the first place where a section would begin and none does.
+/// OutOfMemory at 0.
 pub fn frames(alloc: Global, stream: &[u8]) -> Result<Frames<'_>, Fault>
     // The stream is these frames and this tail.
     ensures found { IfOk result (λ s. Splits s.0 s.1 stream.now) }

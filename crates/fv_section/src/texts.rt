@@ -4,6 +4,7 @@ ghost use Rattle.std.specs.Prelude.{◌≡◌, ℕ, List, IfSome, IfNone};
 ghost use Rattle.fv_base.specs.Sums.{words_of};
 ghost use Rattle.fv_section.specs.Texts.{IsText, IsVersion, IsFreeform, none_zero, is_text};
 
+use crate::layout::{SUBTYPE_DATA_OFFSET, VERSION_STRING_OFFSET};
 use byteorder::{ByteOrder, LittleEndian};
 use fv_base::{Guid, guid_at};
 
@@ -32,9 +33,9 @@ fn is_text(bytes: &[u8]) -> bool
         && none_zero(&bytes[..len - 2])
 }
 
-/// The text of a user interface section's body: its 16-bit units before the zero unit that ends
-/// it, in bytes. None where the body has an odd number of bytes, or its last unit is not the only
-/// one that is zero. Takes no memory. (PI specification, volume 3, section 3.2.5.14.)
+/// The text, `FileNameString`, of a user interface section's body (`EFI_SECTION_USER_INTERFACE`, type 15): its 16-bit
+/// units before the zero unit that ends it, in bytes. None where the body has an odd number of bytes, or its last
+/// unit is not the only one that is zero. Takes no memory. (PI specification, volume 3, section 3.2.5.14.)
 pub fn ui_text(body: &[u8]) -> Option<&[u8]>
     ensures found { IfSome result (λ text. IsText body.now text.now) }
     ensures none { IfNone result ((text : List ℕ) → IsText body.now text → ⊥) }
@@ -46,29 +47,30 @@ pub fn ui_text(body: &[u8]) -> Option<&[u8]>
     }
 }
 
-/// The build number and the text of a version section's body. None where the body is no number of
-/// 2 bytes and a text with its zero unit. Takes no memory. (PI specification, volume 3, section
-/// 3.2.5.15.)
+/// `BuildNumber` and the text, `VersionString`, of a version section's body (`EFI_SECTION_VERSION`, type 14). None
+/// where the body is no number of 2 bytes and a text with its zero unit. Takes no memory. (PI specification, volume
+/// 3, section 3.2.5.15.)
 pub fn version(body: &[u8]) -> Option<(u16, &[u8])>
     ensures found { IfSome result (λ v. IsVersion body.now v.0 v.1.now) }
     ensures none { IfNone result ((build : ℕ) (text : List ℕ) → IsVersion body.now build text → ⊥) }
 {
-    if body.len() < 2 {
+    if body.len() < VERSION_STRING_OFFSET {
         return None;
     }
-    let (number, units) = body.split_at(2);
+    let (number, units) = body.split_at(VERSION_STRING_OFFSET);
     let text = ui_text(units)?;
     Some((LittleEndian::read_u16(number), text))
 }
 
-/// The GUID and the bytes behind it of a freeform subtype section's body. None where the body has
-/// fewer than 16 bytes. Takes no memory. (PI specification, volume 3, section 3.2.5.6.)
+/// The GUID, `SubTypeGuid`, and the bytes behind it of a freeform subtype section's body
+/// (`EFI_SECTION_FREEFORM_SUBTYPE_GUID`, type 18). None where the body has fewer than 16 bytes. Takes no memory. (PI
+/// specification, volume 3, section 3.2.5.6.)
 pub fn freeform(body: &[u8]) -> Option<(Guid, &[u8])>
     ensures found { IfSome result (λ v. IsFreeform body.now v.0 v.1.now) }
     ensures none { IfNone result ((guid : Guid) (rest : List ℕ) → IsFreeform body.now guid rest → ⊥) }
 {
-    if body.len() < 16 {
+    if body.len() < SUBTYPE_DATA_OFFSET {
         return None;
     }
-    Some((guid_at(body, 0), &body[16..]))
+    Some((guid_at(body, 0), &body[SUBTYPE_DATA_OFFSET..]))
 }

@@ -29,7 +29,7 @@ impl Read for Counted {
     }
 }
 
-/// A reader of so many bytes, which counts.
+// A reader of so many bytes, which counts.
 fn reader_of(left: usize, ends: bool) -> Port<Counted> {
     Port::new(Counted {
         left,
@@ -54,7 +54,7 @@ fn inputs_are_read_to_their_end(rt: HostRuntime) -> Result<(), Fail> {
     Ok(())
 }
 
-/// Bytes that all differ from their neighbours.
+// Bytes that all differ from their neighbours.
 fn part() -> [u8; 1000] {
     let mut bytes = [0; 1000];
     for i in 0..1000usize {

@@ -52,7 +52,7 @@ impl Write for Narrow {
     }
 }
 
-/// What a call answered: a count, or the kind of its error.
+// What a call answered: a count, or the kind of its error.
 fn kind_of(outcome: io::Result<usize>) -> Result<usize, ErrorKind> {
     match outcome {
         Ok(count) => Ok(count),

@@ -8,7 +8,7 @@ use std::test::Fail;
 /// How long the fills are.
 const COUNTS: [usize; 4] = [0, 1, 65_536, 200_000];
 
-/// So many bytes, and 1 and 2 behind them.
+// So many bytes, and 1 and 2 behind them.
 fn filled(alloc: Global, byte: u8, count: usize) -> Result<Vec<u8>, Fail> {
     let mut bytes = vec![in alloc; byte; count]?;
     bytes.extend_from_slice(&[1, 2])?;

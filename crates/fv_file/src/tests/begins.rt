@@ -5,7 +5,7 @@ use crate::{FileAttributes, FileHead, FileState, verify_ffs_file};
 use bitflags::Flags;
 use fv_base::{Fault, FaultKind, FileSystem, Guid, Polarity};
 
-/// A name, so many other bytes behind it, at most 40, and erased ones.
+// A name, so many other bytes behind it, at most 40, and erased ones.
 fn named(name: [u8; 16], rest: &[u8]) -> [u8; 56] {
     let mut bytes = [0xff; 56];
     let count = rest.len().min(40);
@@ -61,7 +61,7 @@ const FILES: [(&str, &[u8], Fields); 7] = [
     ),
 ];
 
-/// Whether a file with this header begins the name and the bytes behind it.
+// Whether a file with this header begins the name and the bytes behind it.
 fn begins(rest: &[u8], fields: Fields) -> bool {
     let (name, kind, attributes, size, header_len, header_sum, file_sum, state) = fields;
     let head = FileHead {
@@ -186,7 +186,7 @@ fn cut_files_are_refused(rt: HostRuntime) {
     }
 }
 
-/// Whether the bytes of a file with this State byte begin with one, or what is wrong with them.
+// Whether the bytes of a file with this State byte begin with one, or what is wrong with them.
 fn verdict(state: u8, polarity: Polarity) -> Option<Fault> {
     let rest = [0x47, 0xaa, 0x01, 0x00, 0x18, 0x00, 0x00, state];
     verify_ffs_file(&named(A, &rest)[..24], FileSystem::Ffs2, polarity).err()

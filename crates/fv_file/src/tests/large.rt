@@ -197,7 +197,7 @@ fn large_files_are_refused(rt: HostRuntime) {
     assert_eq!(rt; first, None);
 }
 
-/// Whether a file of 16 MiB and 8 bytes has its cell, or why it has none.
+// Whether a file of 16 MiB and 8 bytes has its cell, or why it has none.
 fn is_long_cut(alloc: Global) -> Result<bool, Fault> {
     let parts: [&[u8]; 3] = [
         &A,

@@ -16,7 +16,7 @@ const STATES: [(u8, Option<FileState>); 8] = [
     (0x40, None),
 ];
 
-/// The state of the highest bit of a number of written bits.
+// The state of the highest bit of a number of written bits.
 fn highest(written: u8) -> Option<FileState> {
     let mut state = None;
     for (from, some) in STATES {
@@ -76,7 +76,7 @@ fn files_stand_in_two_states(rt: HostRuntime) {
     }
 }
 
-/// Whether the bits are read so, with and without bit 01.
+// Whether the bits are read so, with and without bit 01.
 fn is_read(bits: u8, is_large: bool, is_fixed: bool, is_summed: bool, without: u8) -> bool {
     let attributes = FileAttributes::from_bits_retain(bits);
     attributes.bits() == bits

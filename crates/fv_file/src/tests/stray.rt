@@ -136,7 +136,7 @@ fn long_stretches_are_free(rt: HostRuntime) {
     assert_eq!(rt; first, None);
 }
 
-/// The fault of a volume of 12,448 bytes, a file and erased bytes, in which one byte is 7F.
+// The fault of a volume of 12,448 bytes, a file and erased bytes, in which one byte is 7F.
 fn fault_with(alloc: Global, at: usize) -> Option<Fault> {
     let mut bytes = [0u8; ROOM];
     lay(&mut bytes, &FILE, Polarity::Ones);

@@ -5,7 +5,7 @@ use crate::{FileAttributes, HeadBytes, file_head_bytes, pad_head_bytes, verify_f
 use bitflags::Flags;
 use fv_base::{FileSystem, Guid, Polarity};
 
-/// The header of a file of this type, these attribute bits, data and file sum, if there is one.
+// The header of a file of this type, these attribute bits, data and file sum, if there is one.
 fn file(
     kind: u8,
     attributes: u8,
@@ -21,7 +21,7 @@ fn file(
     Some(file_head_bytes(name, kind, attributes, data_len, file_sum, polarity))
 }
 
-/// The header of a pad of this size, if there is one.
+// The header of a pad of this size, if there is one.
 fn pad(size: u64, polarity: Polarity) -> Option<HeadBytes> {
     if size < 24 || size > 0xff_ffff {
         return None;
@@ -29,12 +29,12 @@ fn pad(size: u64, polarity: Polarity) -> Option<HeadBytes> {
     Some(pad_head_bytes(size, polarity))
 }
 
-/// Whether the bytes are these parts, joined.
+// Whether the bytes are these parts, joined.
 fn is_joined(bytes: &[u8], name: [u8; 16], fields: &[u8]) -> bool {
     bytes.len() >= 16 && &bytes[..16] == name.as_slice() && &bytes[16..] == fields
 }
 
-/// Whether a file without data, or a pad, of these fields is read from its header.
+// Whether a file without data, or a pad, of these fields is read from its header.
 fn is_read(
     bytes: &[u8],
     name: [u8; 16],
@@ -151,7 +151,7 @@ const FILES: [File; 10] = [
     ),
 ];
 
-/// Whether the header of a file of these fields is written so, and, without data, read again.
+// Whether the header of a file of these fields is written so, and, without data, read again.
 fn is_file(case: &File) -> bool {
     let (kind, attributes, data_len, file_sum, polarity, fields) = *case;
     let Some(head) = file(kind, attributes, data_len, file_sum, polarity) else {
@@ -198,7 +198,7 @@ const PADS: [(u64, Polarity, [u8; 8]); 5] = [
     ),
 ];
 
-/// Whether the header of a pad of this size is written so, and, without data, read again.
+// Whether the header of a pad of this size is written so, and, without data, read again.
 fn is_pad(size: u64, polarity: Polarity, fields: &[u8]) -> bool {
     let Some(head) = pad(size, polarity) else {
         return false;

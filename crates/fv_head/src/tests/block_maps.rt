@@ -14,8 +14,8 @@ const START: [u8; 32] = [
 /// The signature and the attributes.
 const MIDDLE: [u8; 8] = [0x5f, 0x46, 0x56, 0x48, 0xff, 0xfe, 0x04, 0x00];
 
-/// Puts a volume of this length in place of zeros: HeaderLength and Checksum stand in 4 bytes, and
-/// behind its header all is erased.
+// Puts a volume of this length in place of zeros: HeaderLength and Checksum stand in 4 bytes, and
+// behind its header all is erased.
 fn put_volume(bytes: &mut [u8], length: u16, words: [u8; 4], blocks: &[(u8, u8)]) {
     change(
         bytes,
@@ -67,7 +67,7 @@ const REFUSED: [(u16, [u8; 4], &[(u8, u8)], FaultKind, u64); 4] = [
     ),
 ];
 
-/// Whether a head has these blocks.
+// Whether a head has these blocks.
 fn has_blocks(head: &VolumeHead, blocks: &[(u8, u8)]) -> bool {
     let found = head.blocks().as_slice();
     let mut is_same = found.len() == blocks.len();

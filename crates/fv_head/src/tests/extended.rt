@@ -147,7 +147,7 @@ const EDGES: [(Changes, u32, u64); 4] = [
     (&[], 28, 128),
 ];
 
-/// Whether a head has an extended header that says this.
+// Whether a head has an extended header that says this.
 fn says(head: &VolumeHead, entries: &[(u16, &[u8])], tail: &[u8]) -> bool {
     let Some(ext) = head.ext() else {
         return false;
@@ -161,8 +161,8 @@ fn says(head: &VolumeHead, entries: &[(u16, &[u8])], tail: &[u8]) -> bool {
     ext.tail() == tail && is_same && ext.name().to_bytes() == NAME
 }
 
-/// The bytes of the extended header of the volume that the bytes begin with, with this used size;
-/// none without one.
+// The bytes of the extended header of the volume that the bytes begin with, with this used size;
+// none without one.
 fn canonical_ext(alloc: Global, bytes: &[u8], used: u32) -> Result<ByteList, Fault> {
     let (head, _) = read_head(alloc, bytes)?;
     match head.ext() {
@@ -171,8 +171,8 @@ fn canonical_ext(alloc: Global, bytes: &[u8], used: u32) -> Result<ByteList, Fau
     }
 }
 
-/// The bytes of the extended header, 0 without one, and where the first file of the canonical image
-/// may stand.
+// The bytes of the extended header, 0 without one, and where the first file of the canonical image
+// may stand.
 fn room_of(alloc: Global, bytes: &[u8]) -> Result<(u32, u64), Fault> {
     let (head, _) = read_head(alloc, bytes)?;
     match head.ext() {
@@ -270,7 +270,7 @@ fn an_extended_header_without_entries_is_spelled(rt: HostRuntime) -> Result<(), 
     Ok(())
 }
 
-/// Writes the head, or the extended header with a used size of 152, where it is full.
+// Writes the head, or the extended header with a used size of 152, where it is full.
 fn write_to(head: &VolumeHead, is_ext: bool, full: &mut [u8]) -> Result<(), Fault> {
     let mut port = Port::new(full);
     match head.ext() {

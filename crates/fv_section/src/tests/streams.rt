@@ -164,13 +164,13 @@ const PLACES: [(&[u8], u64, Option<Seen<'static>>); 7] = [
     (&[], 0, None),
 ];
 
-/// Whether a frame is the one that is seen.
+// Whether a frame is the one that is seen.
 fn is_frame(frame: &Frame, seen: &Seen) -> bool {
     let (offset, kind, extended, body) = *seen;
     frame.offset == offset && frame.kind == kind && frame.extended == extended && frame.body == body
 }
 
-/// Whether a stream is split into the frames that are seen and this tail.
+// Whether a stream is split into the frames that are seen and this tail.
 fn is_split(alloc: Global, stream: &[u8], seen: &[Seen], tail: u8) -> Result<bool, Fault> {
     let found = frames(alloc, stream)?;
     let list = found.as_slice();
@@ -185,7 +185,7 @@ fn is_split(alloc: Global, stream: &[u8], seen: &[Seen], tail: u8) -> Result<boo
     Ok(true)
 }
 
-/// Whether a stream is refused with this fault.
+// Whether a stream is refused with this fault.
 fn is_refused(alloc: Global, stream: &[u8], fault: Fault) -> bool {
     frames(alloc, stream).err() == Some(fault)
 }
@@ -234,7 +234,7 @@ fn faults_have_their_places(rt: HostRuntime) {
     }
 }
 
-/// Whether this frame, or none, stands at a place of the stream.
+// Whether this frame, or none, stands at a place of the stream.
 fn is_next(stream: &[u8], at: u64, seen: &Option<Seen>) -> bool {
     match (next_frame(stream, at), seen) {
         (Ok(Some(frame)), Some(one)) => is_frame(&frame, one),
@@ -250,7 +250,7 @@ fn the_next_frame_stands_at_its_place(rt: HostRuntime) {
     }
 }
 
-/// A section of 8 to 5 bytes, with filler up to 8, that holds its index.
+// A section of 8 to 5 bytes, with filler up to 8, that holds its index.
 fn section(index: u16) -> [u8; 8] {
     let size = 8 - (index % 4) as u8;
     let low = (index % 256) as u8;
@@ -258,7 +258,7 @@ fn section(index: u16) -> [u8; 8] {
     [size, 0x00, 0x00, 0x19, low, high, 0xee, 0xee]
 }
 
-/// A stream of 1000 sections.
+// A stream of 1000 sections.
 fn long_stream(alloc: Global) -> Result<Vec<u8>, Fault> {
     let mut bytes = Vec::new(alloc);
     for index in 0..1000 {
@@ -267,14 +267,14 @@ fn long_stream(alloc: Global) -> Result<Vec<u8>, Fault> {
     Ok(bytes)
 }
 
-/// Whether a frame is the section of this index, as it lies in the stream.
+// Whether a frame is the section of this index, as it lies in the stream.
 fn is_section(frame: &Frame, index: u16) -> bool {
     let bytes = section(index);
     let size = usize::from(bytes[0].min(8));
     size >= 4 && is_frame(frame, &(u64::from(index) * 8, 0x19, false, &bytes[4..size]))
 }
 
-/// Whether the long stream is split into its 1000 sections, with 3 bytes behind the last.
+// Whether the long stream is split into its 1000 sections, with 3 bytes behind the last.
 fn is_long_split(alloc: Global) -> Result<bool, Fault> {
     let stream = long_stream(alloc)?;
     let found = frames(alloc, &stream)?;

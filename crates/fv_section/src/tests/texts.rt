@@ -87,7 +87,7 @@ fn versions_are_seen(rt: HostRuntime) {
     }
 }
 
-/// Whether the body has these parts, or none.
+// Whether the body has these parts, or none.
 fn is_freeform(body: &[u8], parts: Option<(&[u8], &[u8])>) -> bool {
     match (freeform(body), parts) {
         (Some((guid, rest)), Some((name, bytes))) => {

@@ -37,7 +37,7 @@ const HEADS: [(u8, bool, u64, &[u8]); 8] = [
     ),
 ];
 
-/// The header of a section whose size fits the form; None where it does not.
+// The header of a section whose size fits the form; None where it does not.
 fn head_of(kind: u8, extended: bool, body_len: u64) -> Option<SectionHead> {
     if extended && body_len <= 0xffff_fff7 {
         Some(section_head_bytes(kind, true, body_len))
@@ -48,7 +48,7 @@ fn head_of(kind: u8, extended: bool, body_len: u64) -> Option<SectionHead> {
     }
 }
 
-/// Whether these bytes are the header that is written.
+// Whether these bytes are the header that is written.
 fn is_written(kind: u8, extended: bool, body_len: u64, bytes: &[u8]) -> bool {
     let Some(head) = head_of(kind, extended, body_len) else {
         return false;
@@ -138,8 +138,8 @@ const STREAMS: [(bool, u8, &[u8]); 12] = [
     ),
 ];
 
-/// Whether the header of a section of this form and length begins the stream, and the section is
-/// read from it again.
+// Whether the header of a section of this form and length begins the stream, and the section is
+// read from it again.
 fn is_read_again(extended: bool, len: u8, stream: &[u8]) -> bool {
     let header: usize = if extended { 8 } else { 4 };
     let end = header + usize::from(len);

@@ -8,16 +8,23 @@ use Rattle.fv_file.proofs.tiling.cells.Goals as goal
 
 pub returns-clause-only : goal.returns-clause-only
 returns-clause-only c =
-    let same = take_rest c.args.volume.now c.args.first in
-    IfOk-weaker c.cells_in.result _ _ (λ cs h ds g. only_one c.args.system c.args.polarity c.args.first (drop c.args.first c.args.volume.now) cs ds (subst (λ b. Tiles c.args.system c.args.polarity c.args.first cs b) same h) g) c.cells_in.ensures.found
+    IfOk-weaker c.cells_in.result _ _
+    (λ cs h ds g. only_one c.args.system c.args.polarity c.args.first (drop c.args.first c.args.volume.now) cs ds
+    (subst (λ b. Tiles c.args.system c.args.polarity c.args.first cs b) (take_rest c.args.volume.now c.args.first) h) g)
+    c.cells_in.ensures.found
 
 pub returns-clause-none : goal.returns-clause-none
 returns-clause-none c =
-    let same = take_rest c.args.volume.now c.args.first in
-    IfErr-weaker c.cells_in.result _ _ (λ f h ne ds g. none_after c.args.system c.args.polarity c.args.first (drop c.args.first c.args.volume.now) f ds (subst (λ b. IsFirst c.args.system c.args.polarity c.args.first b f) same (h ne)) g) c.cells_in.ensures.first
+    IfErr-weaker c.cells_in.result _ _
+    (λ f h ne ds g. none_after c.args.system c.args.polarity c.args.first (drop c.args.first c.args.volume.now) f ds
+    (subst (λ b. IsFirst c.args.system c.args.polarity c.args.first b f) (take_rest c.args.volume.now c.args.first) (h ne)) g)
+    c.cells_in.ensures.first
 
 pub returns-clause-lies : goal.returns-clause-lies
 returns-clause-lies c =
-    let same = take_rest c.args.volume.now c.args.first in
-    let end : c.args.first + length (drop c.args.first c.args.volume.now) ≡ length c.args.volume.now = omega (arith, length-drop c.args.first c.args.volume.now, c.requires.within) in
-    IfOk-weaker c.cells_in.result _ _ (λ cs h. subst (λ (n : ℕ). AllWithin n cs) end (all_within c.args.system c.args.polarity c.args.first cs (drop c.args.first c.args.volume.now) (subst (λ b. Tiles c.args.system c.args.polarity c.args.first cs b) same h))) c.cells_in.ensures.found
+    let end : c.args.first + length (drop c.args.first c.args.volume.now) ≡ length c.args.volume.now =
+    omega (arith, length-drop c.args.first c.args.volume.now, c.requires.within) in
+    IfOk-weaker c.cells_in.result _ _
+    (λ cs h. subst (λ (n : ℕ). AllWithin n cs) end (all_within c.args.system c.args.polarity c.args.first cs (drop c.args.first c.args.volume.now)
+    (subst (λ b. Tiles c.args.system c.args.polarity c.args.first cs b) (take_rest c.args.volume.now c.args.first) h)))
+    c.cells_in.ensures.found

@@ -23,31 +23,41 @@ returns-in_err-cell-clause-first c =
 
 pub returns-in_err-cell-clause-some : goal.returns-in_err-cell-clause-some
 returns-in_err-cell-clause-some c =
-    let p = err_from_is_err_and c.from_residual.result c.from_residual.ensures.1 in
-    let used = rest_used _ c.args.body.now c.loop-system.at (sym c.is_free.ensures ∙ c.loop-system-test.true) in
-    rw p.1 (omega (arith, used.0))
+    rw (err_from_is_err_and c.from_residual.result c.from_residual.ensures.1).1
+    (omega (arith, (rest_used _ c.args.body.now c.loop-system.at (sym c.is_free.ensures ∙ c.loop-system-test.true)).0))
 
 pub span_of-len-requires : goal.span_of-len-requires
 span_of-len-requires c =
-    let st = stands_in c.args.system c.args.polarity c.args.first c.args.body.now c.loop-system.list.items c.loop-system.at _ c.loop-system.invariant c.requires.multiple c.in_ok-cell.ensures.found in
-    omega (arith, st.within, length-drop c.loop-system.at c.args.body.now, c.requires.place)
+    omega (arith, (stands_in c.loop-system.invariant c.requires.multiple c.in_ok-cell.ensures.found).within, length-drop c.loop-system.at c.args.body.now, c.requires.place)
 
 pub overflow_add-at : goal.overflow_add-at
 overflow_add-at c =
-    let st = stands_in c.args.system c.args.polarity c.args.first c.args.body.now c.loop-system.list.items c.loop-system.at _ c.loop-system.invariant c.requires.multiple c.in_ok-cell.ensures.found in
-    omega (arith, st.within, length-drop c.loop-system.at c.args.body.now, c.requires.place, c.span_of-len.ensures, c.loop-system.invariant.inside)
+    omega (
+      arith,
+      (stands_in c.loop-system.invariant c.requires.multiple c.in_ok-cell.ensures.found).within,
+      length-drop c.loop-system.at c.args.body.now,
+      c.requires.place,
+      c.span_of-len.ensures,
+      c.loop-system.invariant.inside,
+    )
 
 pub loop-system-init : goal.loop-system-init
 loop-system-init c = rw c.new-list.ensures.items (record { tiled = refl; none_free = tt; multiple = refl; inside = omega arith })
 
 pub loop-system-smaller : goal.loop-system-smaller
 loop-system-smaller c =
-    let st = stands_in c.args.system c.args.polarity c.args.first c.args.body.now c.loop-system.list.items c.loop-system.at _ c.loop-system.invariant c.requires.multiple c.in_ok-cell.ensures.found in
-    let used = rest_used _ c.args.body.now c.loop-system.at (sym c.is_free.ensures ∙ c.loop-system-test.true) in
-    omega (arith, st.some, st.within, length-drop c.loop-system.at c.args.body.now, c.span_of-len.ensures, used.0)
+    let stands = stands_in c.loop-system.invariant c.requires.multiple c.in_ok-cell.ensures.found in
+    omega (
+      arith,
+      stands.some,
+      stands.within,
+      length-drop c.loop-system.at c.args.body.now,
+      c.span_of-len.ensures,
+      (rest_used _ c.args.body.now c.loop-system.at (sym c.is_free.ensures ∙ c.loop-system-test.true)).0,
+    )
 
 pub loop-system-preserved : goal.loop-system-preserved
 loop-system-preserved c =
-    let st = stands_in c.args.system c.args.polarity c.args.first c.args.body.now c.loop-system.list.items c.loop-system.at _ c.loop-system.invariant c.requires.multiple c.in_ok-cell.ensures.found in
     let items : c.push.new.self.items ≡ c.loop-system.list.items ++ c.in_ok-cell.cell ∷ [] = search rules in
-    kept c.args.system c.args.polarity c.args.first c.args.body.now c.loop-system.list.items c.push.new.self.items c.in_ok-cell.cell c.loop-system.at c.span_of-len.result c.loop-system.invariant st c.span_of-len.ensures items
+    kept c.args.system c.args.polarity c.args.first c.args.body.now c.loop-system.list.items c.push.new.self.items c.in_ok-cell.cell c.loop-system.at c.span_of-len.result c.loop-system.invariant
+    (stands_in c.loop-system.invariant c.requires.multiple c.in_ok-cell.ensures.found) c.span_of-len.ensures items

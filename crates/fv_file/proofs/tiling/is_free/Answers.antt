@@ -4,15 +4,15 @@ use Rattle.std.proofs.lemmas.Bool.{lt-ltb, eq-eqb}
 use Rattle.fv_base.specs.Flash.{erased_byte}
 use Rattle.fv_file.proofs.ErasedLemmas.{not_all}
 use Rattle.fv_file.proofs.tiling.is_free.Goals as goal
-use Rattle.fv_file.proofs.tiling.is_free.Goals.{then-rest-lt24, else-rest-lt24}
+use Rattle.fv_file.proofs.tiling.is_free.Goals.{then-rest-lt-HEADER_LEN, else-rest-lt-HEADER_LEN}
 
 pub returns-else-rest-erased : goal.returns-else-rest-erased
 returns-else-rest-erased c =
-    elim c.if-rest-lt24.branch [
-      | then-rest-lt24 w ↦ cc (w.value-is, c.if-rest-erased.false, lt-ltb (length c.args.rest.now) 24 w.if-rest-lt24.true)
-      | else-rest-lt24 w ↦
+    elim c.if-rest-lt-HEADER_LEN.branch [
+      | then-rest-lt-HEADER_LEN w ↦ cc (w.value-is, c.if-rest-erased.false, lt-ltb (length c.args.rest.now) 24 w.if-rest-lt-HEADER_LEN.true)
+      | else-rest-lt-HEADER_LEN w ↦
           c.if-rest-erased.false
-          ∙ not_all (erased_byte c.args.polarity) c.args.rest.now 23 w.if-rest-lt24.false
+          ∙ not_all (erased_byte c.args.polarity) c.args.rest.now 23 w.if-rest-lt-HEADER_LEN.false
           (λ same. cc (
             w.value-is,
             c.if-rest-erased.false,

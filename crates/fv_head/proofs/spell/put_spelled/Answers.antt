@@ -11,7 +11,7 @@ unfolding spelled
 returns-clause-bytes g c =
     eleven g.S.Sink.laws _ _ _ _ _ _ _ _ _ _ _ _ _ _ _ _ _ _ _ _ _ _ _
     (renamed g.S.Sink.takes _ _ _ _ c.put.ensures c.zero_vector.ensures)
-    (renamed g.S.Sink.takes _ _ _ _ c.put-2.ensures (c.system_guid.ensures ∙ ap system_guid c.file_system.ensures))
+    (renamed g.S.Sink.takes _ _ _ _ c.put-2.ensures (c.to_bytes.ensures ∙ c.system_guid.ensures ∙ ap system_guid c.file_system.ensures))
     (renamed g.S.Sink.takes _ _ _ _ c.put_u64.ensures (ap (le_bytes 8) c.length.ensures))
     c.put-3.ensures
     (renamed g.S.Sink.takes _ _ _ _ c.put_u32.ensures (ap (le_bytes 4) (c.bits.ensures tt ∙ c.attributes.ensures)))

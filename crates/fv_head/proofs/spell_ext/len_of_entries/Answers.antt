@@ -4,24 +4,40 @@ use Rattle.fv_head.proofs.spell_ext.len_of_entries.Goals as goal
 
 pub overflow_cast-len : goal.overflow_cast-len
 overflow_cast-len c =
-    let step = entries_len_step c.args.entries.now c.loop-entry.entry-index c.entry-item.result c.loop-entry-test.true c.entry-item.is in
-    let item = ap length c.payload.ensures in
-    omega (arith, step, item, c.loop-entry.invariant, c.requires)
+    omega (
+      arith,
+      entries_len_step c.args.entries.now _ c.entry-item.result c.loop-entry-test.true c.entry-item.is,
+      ap length c.payload.ensures,
+      c.loop-entry.invariant,
+      c.requires,
+    )
 
 pub overflow_add-len : goal.overflow_add-len
 overflow_add-len c =
-    let step = entries_len_step c.args.entries.now c.loop-entry.entry-index c.entry-item.result c.loop-entry-test.true c.entry-item.is in
-    let item = ap length c.payload.ensures in
-    omega (arith, step, item, c.loop-entry.invariant, c.requires)
+    omega (
+      arith,
+      entries_len_step c.args.entries.now _ c.entry-item.result c.loop-entry-test.true c.entry-item.is,
+      ap length c.payload.ensures,
+      c.loop-entry.invariant,
+      c.requires,
+    )
 
 pub overflow_add-len-in-loop-entry : goal.overflow_add-len-in-loop-entry
 overflow_add-len-in-loop-entry c =
-    let step = entries_len_step c.args.entries.now c.loop-entry.entry-index c.entry-item.result c.loop-entry-test.true c.entry-item.is in
-    let item = ap length c.payload.ensures in
-    omega (arith, step, item, c.loop-entry.invariant, c.requires)
+    omega (
+      arith,
+      entries_len_step c.args.entries.now _ c.entry-item.result c.loop-entry-test.true c.entry-item.is,
+      ap length c.payload.ensures,
+      c.loop-entry.invariant,
+      c.requires,
+    )
 
 pub loop-entry-preserved : goal.loop-entry-preserved
 loop-entry-preserved c =
-    let step = entries_len_step c.args.entries.now c.loop-entry.entry-index c.entry-item.result c.loop-entry-test.true c.entry-item.is in
-    let item = ap length c.payload.ensures in
-    omega (arith, step, item, c.loop-entry.invariant, c.requires)
+    omega (
+      arith,
+      entries_len_step c.args.entries.now _ c.entry-item.result c.loop-entry-test.true c.entry-item.is,
+      ap length c.payload.ensures,
+      c.loop-entry.invariant,
+      c.requires,
+    )

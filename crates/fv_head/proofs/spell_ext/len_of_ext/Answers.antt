@@ -4,30 +4,24 @@ use Rattle.fv_head.proofs.ExtSpelled.{ext_len_most}
 use Rattle.fv_head.proofs.spell_ext.len_of_ext.Goals as goal
 
 pub len_of_entries-requires : goal.len_of_entries-requires
-len_of_entries-requires c =
-    let most = ext_len_most c.args.ext.now c.name-name.ensures.read in
-    let entries = ap entries_len c.entries.ensures in
-    omega (arith, most, entries)
+len_of_entries-requires c = omega (arith, ext_len_most c.args.ext.now c.name-name.ensures.read, ap entries_len c.entries.ensures)
 
 pub overflow_add-result : goal.overflow_add-result
 overflow_add-result c =
-    let most = ext_len_most c.args.ext.now c.name-name.ensures.read in
-    let entries = ap entries_len c.entries.ensures in
-    omega (arith, most, entries, c.len_of_entries.ensures)
+    omega (arith, ext_len_most c.args.ext.now c.name-name.ensures.read, ap entries_len c.entries.ensures, c.len_of_entries.ensures)
 
 pub overflow_cast-result : goal.overflow_cast-result
-overflow_cast-result c =
-    let most = ext_len_most c.args.ext.now c.name-name.ensures.read in
-    let entries = ap entries_len c.entries.ensures in
-    let tail = ap length c.tail.ensures in
-    omega (arith, most, tail)
+overflow_cast-result c = omega (arith, ext_len_most c.args.ext.now c.name-name.ensures.read, ap length c.tail.ensures)
 
 pub overflow_add-result-2 : goal.overflow_add-result-2
 overflow_add-result-2 c =
-    let most = ext_len_most c.args.ext.now c.name-name.ensures.read in
-    let entries = ap entries_len c.entries.ensures in
-    let tail = ap length c.tail.ensures in
-    omega (arith, most, entries, tail, c.len_of_entries.ensures)
+    omega (
+      arith,
+      ext_len_most c.args.ext.now c.name-name.ensures.read,
+      ap entries_len c.entries.ensures,
+      ap length c.tail.ensures,
+      c.len_of_entries.ensures,
+    )
 
 pub returns-clause-most : goal.returns-clause-most
 returns-clause-most c =

@@ -1,0 +1,117 @@
+//! Where the fields of a volume's headers stand, in bytes from a header's first, and what stands in those that are
+//! read in several places. (PI specification, volume 3, section 3.2.1.1, `EFI_FIRMWARE_VOLUME_HEADER`, and section
+//! 3.2.1.2, `EFI_FIRMWARE_VOLUME_EXT_HEADER`.)
+
+ghost use Rattle.std.specs.Prelude.{◌≡◌, ◌+◌, ◌≤◌, length};
+ghost use Rattle.fv_base.specs.Value.{field};
+ghost use Rattle.fv_head.specs.HeadChecks.{header_len_at, volume_len_at, ext_offset_at, ext_size_at};
+
+use fv_base::field::{field, u16_at, u32_at, u64_at};
+
+/// `ZeroVector`, 16 bytes.
+pub(crate) const ZERO_VECTOR_OFFSET: usize = 0;
+
+/// `FileSystemGuid`, 16 bytes.
+pub(crate) const FILE_SYSTEM_GUID_OFFSET: usize = 16;
+
+/// `FvLength`, 8 bytes.
+pub(crate) const FV_LENGTH_OFFSET: usize = 32;
+
+/// `Signature`, 4 bytes.
+pub(crate) const SIGNATURE_OFFSET: usize = 40;
+
+/// `Attributes`, 4 bytes.
+pub(crate) const ATTRIBUTES_OFFSET: usize = 44;
+
+/// `HeaderLength`, 2 bytes; `Checksum`, 2 bytes, stands behind it.
+pub(crate) const HEADER_LENGTH_OFFSET: usize = 48;
+
+/// `ExtHeaderOffset`, 2 bytes.
+pub(crate) const EXT_HEADER_OFFSET_OFFSET: usize = 52;
+
+/// `Reserved`, 1 byte.
+pub(crate) const RESERVED_OFFSET: usize = 54;
+
+/// `Revision`, 1 byte.
+pub(crate) const REVISION_OFFSET: usize = 55;
+
+/// `BlockMap`, which ends the header.
+pub(crate) const BLOCK_MAP_OFFSET: usize = 56;
+
+/// The bytes of an entry of `BlockMap`, `EFI_FV_BLOCK_MAP_ENTRY`.
+pub(crate) const BLOCK_ENTRY_LEN: usize = 8;
+
+/// `NumBlocks` of an entry of `BlockMap`, 4 bytes.
+pub(crate) const NUM_BLOCKS_OFFSET: usize = 0;
+
+/// `Length` of an entry of `BlockMap`, 4 bytes.
+pub(crate) const BLOCK_LENGTH_OFFSET: usize = 4;
+
+/// The bytes of a header whose `BlockMap` is the pair of zeros alone.
+pub(crate) const HEADER_LEAST: usize = 64;
+
+/// `FvName` of an extended header, 16 bytes.
+pub(crate) const FV_NAME_OFFSET: usize = 0;
+
+/// `ExtHeaderSize` of an extended header, 4 bytes.
+pub(crate) const EXT_HEADER_SIZE_OFFSET: usize = 16;
+
+/// The bytes of an extended header without entries; its entries stand behind them.
+pub(crate) const EXT_HEADER_LEN: usize = 20;
+
+/// `ExtEntrySize` of an entry of an extended header, 2 bytes. (`EFI_FIRMWARE_VOLUME_EXT_ENTRY`.)
+pub(crate) const EXT_ENTRY_SIZE_OFFSET: usize = 0;
+
+/// `ExtEntryType` of an entry, 2 bytes.
+pub(crate) const EXT_ENTRY_TYPE_OFFSET: usize = 2;
+
+/// The bytes of an entry's header; its payload stands behind them.
+pub(crate) const EXT_ENTRY_HEADER_LEN: usize = 4;
+
+// `HeaderLength`.
+pub(crate) fn header_len_at(bytes: &[u8]) -> usize
+    requires { 56 ≤ length bytes.now }
+    ensures { result ≡ header_len_at bytes.now }
+{
+    usize::from(u16_at(bytes, HEADER_LENGTH_OFFSET))
+}
+
+// `FvLength`.
+pub(crate) fn volume_len_at(bytes: &[u8]) -> u64
+    requires { 56 ≤ length bytes.now }
+    ensures { result ≡ volume_len_at bytes.now }
+{
+    u64_at(bytes, FV_LENGTH_OFFSET)
+}
+
+// `ExtHeaderOffset`, which is 0 where there is no extended header.
+pub(crate) fn ext_offset_at(bytes: &[u8]) -> u16
+    requires { 56 ≤ length bytes.now }
+    ensures { result ≡ ext_offset_at bytes.now }
+{
+    u16_at(bytes, EXT_HEADER_OFFSET_OFFSET)
+}
+
+// `ExtHeaderSize` of the extended header at `ExtHeaderOffset`.
+pub(crate) fn ext_size_at(bytes: &[u8]) -> u32
+    requires least { 56 ≤ length bytes.now }
+    requires within { ext_offset_at bytes.now + 20 ≤ length bytes.now }
+    ensures { result ≡ ext_size_at bytes.now }
+{
+    u32_at(
+        bytes,
+        usize::from(ext_offset_at(bytes)) + EXT_HEADER_SIZE_OFFSET,
+    )
+}
+
+// The extended header at `ExtHeaderOffset`: `ExtHeaderSize` bytes.
+pub(crate) fn ext_bytes_at(bytes: &[u8]) -> &[u8]
+    requires least { 56 ≤ length bytes.now }
+    requires header { ext_offset_at bytes.now + 20 ≤ length bytes.now }
+    requires within { ext_offset_at bytes.now + ext_size_at bytes.now ≤ length bytes.now }
+    ensures bytes { result.now ≡ field (ext_offset_at bytes.now) (ext_size_at bytes.now) bytes.now }
+    ensures length { length result.now ≡ ext_size_at bytes.now }
+{
+    let offset = usize::from(ext_offset_at(bytes));
+    field(bytes, offset, ext_size_at(bytes) as usize)
+}
