@@ -8,11 +8,13 @@ mod fakes;
 mod images;
 mod limits;
 mod listed;
+mod memory;
 mod pieces;
 mod replaced;
 mod runs;
 mod spans;
 mod spelling;
+mod stopped;
 mod volumes;
 mod whole;
 

@@ -1,6 +1,7 @@
 //! What no contract says: expressions worked out by hand, the fault of each wrong one, and the
 //! printed texts.
 
+mod memory;
 mod read;
 mod values;
 mod written;

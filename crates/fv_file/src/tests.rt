@@ -3,6 +3,7 @@
 mod begins;
 mod bodies;
 mod large;
+mod memory;
 mod refusals;
 mod remains;
 mod states;

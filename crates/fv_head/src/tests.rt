@@ -2,6 +2,7 @@
 
 mod block_maps;
 mod extended;
+mod memory;
 
 use crate::{
     Extent, VolumeHead, first_edge, head_bytes, is_one_volume, put_head, read_head, verify_fv,

@@ -67,7 +67,7 @@ fn what_does_not_fit_has_none(rt: HostRuntime) {
 }
 
 /// Whether the files stand just there.
-fn has_starts(places: &Layout, starts: &str) -> Option<bool> {
+pub fn has_starts(places: &Layout, starts: &str) -> Option<bool> {
     let mut index = 0u32;
     for start in starts.split_whitespace() {
         if places.start(index) != Some(start.parse::<u64>().ok()?) {

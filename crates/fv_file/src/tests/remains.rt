@@ -4,7 +4,7 @@ use super::Sort::{Dead, Free, Marked, Stub, Valid};
 use super::{A, B, Body, C, P, not_cut};
 use fv_base::Polarity;
 
-static STATES: [Body; 7] = [
+pub(super) static STATES: [Body; 7] = [
     (
         "a deleted file, a marked one and two that are valid",
         256,

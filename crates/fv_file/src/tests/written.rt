@@ -55,9 +55,9 @@ fn is_read(
 
 /// The type, the attribute bits, the bytes of the data, the file sum, the polarity, and what stands
 /// behind the name.
-type File = (u8, u8, u64, u8, Polarity, &'static [u8]);
+pub(super) type File = (u8, u8, u64, u8, Polarity, &'static [u8]);
 
-const FILES: [File; 10] = [
+pub(super) const FILES: [File; 10] = [
     (
         0x01,
         0,
@@ -152,7 +152,7 @@ const FILES: [File; 10] = [
 ];
 
 // Whether the header of a file of these fields is written so, and, without data, read again.
-fn is_file(case: &File) -> bool {
+pub(super) fn is_file(case: &File) -> bool {
     let (kind, attributes, data_len, file_sum, polarity, fields) = *case;
     let Some(head) = file(kind, attributes, data_len, file_sum, polarity) else {
         return false;
@@ -170,7 +170,7 @@ fn file_headers_are_written(rt: HostRuntime) {
 }
 
 /// The size, the polarity, and what stands behind the name.
-const PADS: [(u64, Polarity, [u8; 8]); 5] = [
+pub(super) const PADS: [(u64, Polarity, [u8; 8]); 5] = [
     (
         24,
         Polarity::Ones,
@@ -199,7 +199,7 @@ const PADS: [(u64, Polarity, [u8; 8]); 5] = [
 ];
 
 // Whether the header of a pad of this size is written so, and, without data, read again.
-fn is_pad(size: u64, polarity: Polarity, fields: &[u8]) -> bool {
+pub(super) fn is_pad(size: u64, polarity: Polarity, fields: &[u8]) -> bool {
     let Some(head) = pad(size, polarity) else {
         return false;
     };

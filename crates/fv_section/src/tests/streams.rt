@@ -5,10 +5,10 @@ use fv_base::{Fault, FaultKind};
 use std::alloc::Global;
 
 /// Where a frame begins, its type, whether its header is extended, and its body.
-type Seen<'a> = (u64, u8, bool, &'a [u8]);
+pub(super) type Seen<'a> = (u64, u8, bool, &'a [u8]);
 
 /// Two sections with filler of any value between them, and 3 bytes behind the last.
-const PAIR: [u8; 17] = [
+pub(super) const PAIR: [u8; 17] = [
     0x05, 0x00, 0x00, 0x19, 0x5a, 0xee, 0xee, 0xee, 0x06, 0x00, 0x00, 0x19, 0x01, 0x02, 0xee, 0xee,
     0xee,
 ];
@@ -20,7 +20,7 @@ const PAIR_WITH_ZEROS: [u8; 17] = [
 ];
 
 /// Their frames.
-const PAIR_FRAMES: [Seen<'static>; 2] = [
+pub(super) const PAIR_FRAMES: [Seen<'static>; 2] = [
     (0, 0x19, false, &[0x5a]),
     (8, 0x19, false, &[0x01, 0x02]),
 ];
@@ -171,7 +171,12 @@ fn is_frame(frame: &Frame, seen: &Seen) -> bool {
 }
 
 // Whether a stream is split into the frames that are seen and this tail.
-fn is_split(alloc: Global, stream: &[u8], seen: &[Seen], tail: u8) -> Result<bool, Fault> {
+pub(super) fn is_split(
+    alloc: Global,
+    stream: &[u8],
+    seen: &[Seen],
+    tail: u8,
+) -> Result<bool, Fault> {
     let found = frames(alloc, stream)?;
     let list = found.as_slice();
     if list.len() != seen.len() || found.tail() != tail {
@@ -235,7 +240,7 @@ fn faults_have_their_places(rt: HostRuntime) {
 }
 
 // Whether this frame, or none, stands at a place of the stream.
-fn is_next(stream: &[u8], at: u64, seen: &Option<Seen>) -> bool {
+pub(super) fn is_next(stream: &[u8], at: u64, seen: &Option<Seen>) -> bool {
     match (next_frame(stream, at), seen) {
         (Ok(Some(frame)), Some(one)) => is_frame(&frame, one),
         (Ok(None), None) => true,

@@ -3,7 +3,7 @@
 use crate::{freeform, ui_text, version};
 
 /// The body of a user interface section, and its text.
-const TEXTS: [(&[u8], Option<&[u8]>); 11] = [
+pub(super) const TEXTS: [(&[u8], Option<&[u8]>); 11] = [
     (
         &[0x41, 0x00, 0x42, 0x00, 0x00, 0x00],
         Some(&[0x41, 0x00, 0x42, 0x00]),
@@ -28,7 +28,7 @@ const TEXTS: [(&[u8], Option<&[u8]>); 11] = [
 ];
 
 /// The body of a version section, and its build number and text.
-const VERSIONS: [(&[u8], Option<(u16, &[u8])>); 8] = [
+pub(super) const VERSIONS: [(&[u8], Option<(u16, &[u8])>); 8] = [
     (
         &[0x01, 0x00, 0x31, 0x00, 0x00, 0x00],
         Some((1, &[0x31, 0x00])),
@@ -45,7 +45,7 @@ const VERSIONS: [(&[u8], Option<(u16, &[u8])>); 8] = [
 ];
 
 /// The body of a freeform section, and its GUID's bytes and those behind them.
-const FREEFORMS: [(&[u8], Option<(&[u8], &[u8])>); 5] = [
+pub(super) const FREEFORMS: [(&[u8], Option<(&[u8], &[u8])>); 5] = [
     (
         &[
             0x0a, 0x0a, 0x0a, 0x0a, 0x0a, 0x0a, 0x0a, 0x0a, 0x0a, 0x0a, 0x0a, 0x0a, 0x0a, 0x0a,
@@ -88,7 +88,7 @@ fn versions_are_seen(rt: HostRuntime) {
 }
 
 // Whether the body has these parts, or none.
-fn is_freeform(body: &[u8], parts: Option<(&[u8], &[u8])>) -> bool {
+pub(super) fn is_freeform(body: &[u8], parts: Option<(&[u8], &[u8])>) -> bool {
     match (freeform(body), parts) {
         (Some((guid, rest)), Some((name, bytes))) => {
             let own = guid.to_bytes();

@@ -49,7 +49,7 @@ fn head_of(kind: u8, extended: bool, body_len: u64) -> Option<SectionHead> {
 }
 
 // Whether these bytes are the header that is written.
-fn is_written(kind: u8, extended: bool, body_len: u64, bytes: &[u8]) -> bool {
+pub(super) fn is_written(kind: u8, extended: bool, body_len: u64, bytes: &[u8]) -> bool {
     let Some(head) = head_of(kind, extended, body_len) else {
         return false;
     };

@@ -1,43 +1,116 @@
-//! Refused memory, under `rt try --test --fail-alloc`: no other answer stands in its place.
+//! Refused memory, where `.ci/memory` refuses each allocation of the test in turn: no other answer stands in its place.
 
 use super::vectors::{accepted, refused};
 use super::{row_of, spell, told};
-use crate::scan;
-use fv_base::{Fault, FaultKind};
+use crate::{
+    FileView, Item, Lookup, Step, VolumeView, Word, file_by_name, file_by_type, first_difference,
+    next_file, read_volume, scan, section_by_type,
+};
+use fv_base::{Fault, FaultKind, Guid};
 use std::alloc::Global;
 
-/// Whether what is told of the bytes of a line is what it wants, or that memory was refused. Where it is refused to the text,
-/// nothing is told.
+/// The bytes that a text spells. Where memory was refused to them, it is there the second time.
+fn spelled(alloc: Global, text: &str) -> Option<Vec<u8>> {
+    match spell(alloc, text) {
+        None => spell(alloc, text),
+        bytes => bytes,
+    }
+}
+
+/// Whether what is told of the bytes of a line is what it wants, or memory was refused. Where it is refused to the text of
+/// the answer, nothing is told.
 fn is_answered(alloc: Global, line: &str) -> Option<bool> {
     let (wanted, text) = row_of(line)?;
-    let Some(bytes) = spell(alloc, text) else {
-        return Some(true);
-    };
+    let bytes = spelled(alloc, text)?;
     let Some(found) = told(alloc, &bytes) else {
         return Some(true);
     };
     Some(found.as_str() == wanted || found.as_str() == "OutOfMemory 0 0")
 }
 
-/// Whether the first volume in the bytes of a line is found at 0, or memory was refused.
-fn is_scanned(alloc: Global, line: &str) -> Option<bool> {
-    let (_, text) = row_of(line)?;
-    let Some(bytes) = spell(alloc, text) else {
-        return Some(true);
-    };
-    match scan(alloc, &bytes) {
-        Ok(offsets) => Some(offsets.as_slice().first() == Some(&0)),
-        Err(fault) => Some(fault == Fault::outer(FaultKind::OutOfMemory, 0)),
+/// Two volumes, which differ in the last section of the second file: it stands in a group in a group.
+const PAIR: &str =
+    "00*16 78e58c8c3d8a1c4f9935896185c32dd3 a0 00*7 5f465648 fffe0400 4800 8ef5 00000002 01000000 a0000000 00*8 0a*16 \
+     47aa0100180000f8 0b*16 21aa02002d0000f8050000195a0000000d00000309000003050000195a ff*19 00*16 \
+     78e58c8c3d8a1c4f9935896185c32dd3 a0 00*7 5f465648 fffe0400 4800 8ef5 00000002 01000000 a0000000 00*8 0a*16 \
+     47aa0100180000f8 0b*16 21aa02002d0000f8050000195a0000000d00000309000003050000195b ff*19";
+
+/// What a call answers that was refused memory.
+fn want() -> Fault {
+    Fault::outer(FaultKind::OutOfMemory, 0)
+}
+
+/// Whether the last section of the second file holds this byte.
+fn holds(file: &FileView, byte: u8) -> bool {
+    match section_by_type(file, 0x19, 2) {
+        Lookup::Found(Item::Section(section)) => section.leaf() == Some([byte].as_slice()),
+        _ => false,
     }
+}
+
+/// Whether the look-ups, which take no memory, answer.
+fn is_looked_up(view: &VolumeView, byte: u8) -> bool {
+    let (Some((1, file)), Some(named), Some(first)) = (
+        next_file(view, Some(0)),
+        file_by_name(view, &Guid::from_bytes([0x0b; 16])),
+        file_by_type(view, 0x01, 1),
+    ) else {
+        return false;
+    };
+    named.kind() == 0x02 && first.name() == Guid::from_bytes([0x0a; 16]) && holds(file, byte)
+}
+
+/// Whether the two first differ in that section, or memory was refused.
+fn is_difference(alloc: Global, view: &VolumeView, other: &VolumeView) -> bool {
+    match first_difference(alloc, view, other) {
+        Ok(Some(found)) => {
+            let steps = [
+                Step::File(1),
+                Step::Section(1),
+                Step::Section(0),
+                Step::Section(0),
+            ];
+            found.steps() == steps.as_slice() && found.word() == Word::Body
+        }
+        Ok(None) => false,
+        Err(fault) => fault == want(),
+    }
+}
+
+/// Whether the two are read and compared, or memory was refused.
+fn is_compared(alloc: Global, bytes: &[u8], other: &[u8]) -> bool {
+    match (read_volume(alloc, bytes), read_volume(alloc, other)) {
+        (Ok((view, _)), Ok((other, _))) => {
+            is_difference(alloc, &view, &other)
+                && is_looked_up(&view, 0x5a)
+                && is_looked_up(&other, 0x5b)
+        }
+        (Err(fault), Ok(_)) | (Ok(_), Err(fault)) => fault == want(),
+        _ => false,
+    }
+}
+
+/// Whether both are found, or memory was refused.
+fn are_found(alloc: Global, bytes: &[u8]) -> bool {
+    match scan(alloc, bytes) {
+        Ok(offsets) => offsets.as_slice() == [0, 160].as_slice(),
+        Err(fault) => fault == want(),
+    }
+}
+
+/// Whether the two volumes are answered, or memory was refused.
+fn is_pair_answered(alloc: Global) -> Option<bool> {
+    let bytes = spelled(alloc, PAIR)?;
+    let (first, second) = bytes.as_slice().split_at_checked(160)?;
+    Some(is_compared(alloc, first, second) && are_found(alloc, &bytes))
 }
 
 #[test]
 fn refused_memory_is_told(rt: HostRuntime) {
-    for line in accepted().lines() {
-        assert!(rt; is_answered(rt.alloc(), line) == Some(true), "{line}");
-        assert!(rt; is_scanned(rt.alloc(), line) == Some(true), "{line}");
+    for table in [accepted(), refused()] {
+        for line in table.lines() {
+            assert!(rt; is_answered(rt.alloc(), line) == Some(true), "{line}");
+        }
     }
-    for line in refused().lines() {
-        assert!(rt; is_answered(rt.alloc(), line) == Some(true), "{line}");
-    }
+    assert!(rt; is_pair_answered(rt.alloc()) == Some(true));
 }

@@ -1,0 +1,103 @@
+//! Comparisons whose readers and writer stop early, or never.
+
+use super::fakes::{EndlessReader, FakeReader, FakeWriter, InterruptedReader};
+use super::spelling::bytes_of;
+use crate::source::Source;
+use fv_base::{Fault, FaultKind, Port};
+use fv_canon::{Side, run_compare};
+use std::alloc::Global;
+use std::io::Read;
+
+/// An input that does not end, one that does, or a file that is not there.
+type Input<'a> = Source<EndlessReader, FakeReader<'a>>;
+
+/// What is written of the two volumes.
+const LINE: &[u8; 31] = b"different at file 0 attributes\n";
+
+/// Whether a comparison answers so, and writes the bytes and then no more.
+fn answers<R: Read + Drop, Q: Read + Drop>(
+    alloc: Global,
+    first: &mut Port<R>,
+    second: &mut Port<Q>,
+    writer: FakeWriter,
+    told: (Result<bool, (Side, Fault)>, &[u8]),
+) -> bool {
+    let mut writer = Port::new(writer);
+    let answered = run_compare(alloc, first, second, &mut writer);
+    answered == told.0 && writer.into_inner().took(told.1)
+}
+
+/// Whether nothing is written where the reader of a side stops the run with this fault. What stands behind is not read.
+fn stops(alloc: Global, side: Side, volume: &[u8], stopping: Input<'_>, fault: Fault) -> bool {
+    let writer = FakeWriter::new(alloc, 7, usize::MAX, true);
+    let told = (Err((side, fault)), b"".as_slice());
+    let mut stopping = Port::new(stopping);
+    if side == Side::First {
+        let mut missing = Port::new(Input::Missing);
+        return answers(alloc, &mut stopping, &mut missing, writer, told);
+    }
+    let mut first = Port::new(FakeReader::new(volume, 4096, false));
+    answers(alloc, &mut first, &mut stopping, writer, told)
+}
+
+/// Whether the run stops where the reader of either side fails behind so many bytes.
+fn stops_reading(alloc: Global, first: &[u8], second: &[u8], step: usize, count: usize) -> bool {
+    let fault = Fault::outer(FaultKind::ReadFault, count as u64);
+    let failing = Input::File(FakeReader::failing(first, step, count));
+    let other = Input::File(FakeReader::failing(second, step, count));
+    stops(alloc, Side::First, first, failing, fault)
+        && stops(alloc, Side::Second, first, other, fault)
+}
+
+/// Whether the run ends so where the writer has room for so many bytes, and fails then or takes no byte.
+fn ends(alloc: Global, first: &[u8], second: &[u8], step: usize, room: usize) -> bool {
+    let fault = Fault::outer(FaultKind::WriteFault, room as u64);
+    let wanted = &LINE[..room.min(LINE.len())];
+    let answer = if room < LINE.len() {
+        Err((Side::Output, fault))
+    } else {
+        Ok(false)
+    };
+    [false, true].iter().all(|is_so| {
+        let mut reader = Port::new(FakeReader::new(first, step, *is_so));
+        let mut other = Port::new(FakeReader::new(second, step, *is_so));
+        let writer = FakeWriter::new(alloc, step, room, *is_so);
+        answers(alloc, &mut reader, &mut other, writer, (answer, wanted))
+    })
+}
+
+/// Whether a run is given up whose reader of a side is interrupted for ever, behind 2 bytes.
+fn is_given_up(alloc: Global, side: Side, volume: &[u8]) -> bool {
+    let fault = Fault::outer(FaultKind::ReadFault, 2);
+    let told = (Err((side, fault)), b"".as_slice());
+    let writer = FakeWriter::new(alloc, 7, usize::MAX, true);
+    let mut stalled = Port::new(InterruptedReader { calls: 0 });
+    let mut first = Port::new(volume);
+    let is_told = if side == Side::First {
+        answers(alloc, &mut stalled, &mut first, writer, told)
+    } else {
+        answers(alloc, &mut first, &mut stalled, writer, told)
+    };
+    is_told && stalled.into_inner().calls == 268_435_458
+}
+
+/// Whether the run of two volumes stops at each of their bytes, and of the line, where a reader or the writer does.
+fn stops_in_time(alloc: Global, first: &[u8], second: &[u8], step: usize) -> bool {
+    (0..=128).all(|count| stops_reading(alloc, first, second, step, count))
+        && (0..=LINE.len()).all(|room| ends(alloc, first, second, step, room))
+}
+
+#[test]
+fn a_comparison_stops_with_its_readers_or_writer(rt: HostRuntime) {
+    let first = bytes_of(rt.alloc(), "file-sum-zero-data").unwrap_or(Vec::new(rt.alloc()));
+    let second = bytes_of(rt.alloc(), "file-without-data").unwrap_or(Vec::new(rt.alloc()));
+    for step in [1, 50, 4096] {
+        assert!(rt; stops_in_time(rt.alloc(), &first, &second, step), "{step}");
+    }
+    let fault = Fault::outer(FaultKind::Length, 268_435_456);
+    for side in [Side::First, Side::Second] {
+        let endless = Input::Standard(EndlessReader);
+        assert!(rt; stops(rt.alloc(), side, &first, endless, fault), "{side:?}");
+        assert!(rt; is_given_up(rt.alloc(), side, &first), "{side:?}");
+    }
+}

@@ -1,0 +1,68 @@
+//! Refused memory, where `.ci/memory` refuses each allocation of the test in turn: no other answer stands in its place.
+
+use super::extended::{BARE, IMAGE, says, write_to};
+use crate::{
+    Extent, VolumeHead, ext_bytes, first_edge, head_bytes, is_one_volume, read_head, verify_fv,
+};
+use fv_base::{ByteList, Fault, FaultKind, FileSystem, Polarity};
+use std::alloc::Global;
+
+/// What the bare volume is.
+const EXTENT: Extent = Extent {
+    length: 192,
+    header_len: 72,
+    first: 104,
+    file_system: FileSystem::Ffs2,
+    polarity: Polarity::Ones,
+};
+
+/// Whether these bytes are made, or memory was refused.
+fn is_made(made: Result<ByteList, Fault>, wanted: &[u8]) -> bool {
+    match made {
+        Ok(bytes) => bytes.as_slice() == wanted,
+        Err(fault) => fault == Fault::outer(FaultKind::OutOfMemory, 0),
+    }
+}
+
+/// Whether the head and the extended header of the image are made, or memory was refused.
+fn is_spelled(alloc: Global, head: &VolumeHead) -> bool {
+    let Some(ext) = head.ext() else {
+        return false;
+    };
+    is_made(head_bytes(alloc, head), &IMAGE[..72])
+        && is_made(ext_bytes(alloc, ext, 152), &IMAGE[96..124])
+}
+
+/// Whether these bytes are written where there is just room for them.
+fn is_written(head: &VolumeHead, is_ext: bool, wanted: &[u8]) -> bool {
+    let mut taken = [0u8; 72];
+    let room = wanted.len().min(72);
+    write_to(head, is_ext, &mut taken[..room]) == Ok(()) && &taken[..room] == wanted
+}
+
+/// Whether the calls that take no memory answer.
+fn are_answered(head: &VolumeHead) -> bool {
+    verify_fv(&BARE) == Ok(EXTENT)
+        && is_one_volume(&BARE)
+        && first_edge(head) == 128
+        && is_written(head, false, &IMAGE[..72])
+        && is_written(head, true, &IMAGE[96..124])
+}
+
+/// Whether the bare volume is read and made again, or memory was refused.
+fn is_answered(alloc: Global) -> bool {
+    match read_head(alloc, &BARE) {
+        Ok((head, extent)) => {
+            extent == EXTENT
+                && says(&head, &[(3, &[0; 4])], &[])
+                && is_spelled(alloc, &head)
+                && are_answered(&head)
+        }
+        Err(fault) => fault == Fault::outer(FaultKind::OutOfMemory, 0),
+    }
+}
+
+#[test]
+fn refused_memory_is_told(rt: HostRuntime) {
+    assert!(rt; is_answered(rt.alloc()));
+}
