@@ -67,45 +67,54 @@ cons_of : (r : List ℕ) → 1 ≤ length r → r ≡ slice_index r 0 ∷ drop 1
 cons_of [] l = absurd (omega (arith, l))
 cons_of (x ∷ r) l = refl
 
+-- the checks of an op, by name
+record ChecksOfOp (phase : Phase) (stage : Stage) (r : List ℕ) : Type 0 where
+  some : nat_le 1 (length r) ≡ true
+  known : knows phase (slice_index r 0) ≡ true
+  placed : in_place stage (slice_index r 0) ≡ true
+  whole : has_operand r ≡ true
+  valued : holds_values stage (slice_index r 0) ≡ true
+
+checks_of_op : (phase : Phase) (stage : Stage) (r : List ℕ) → AllHold (op_checks phase stage r) → ChecksOfOp phase stage r
+checks_of_op phase stage r (some, (known, (placed, (whole, (valued, end))))) =
+    record { some = some; known = known; placed = placed; whole = whole; valued = valued }
+
 -- where the checks hold, the op stands there
 pub op_stands : (phase : Phase) (stage : Stage) (r : List ℕ) → first_fault (op_checks phase stage r) ≡ None → OpStands phase stage (op_in r) r
 op_stands phase stage r none =
-    let all = all_hold (op_checks phase stage r) none in
+    let checks = checks_of_op phase stage r (all_hold (op_checks phase stage r) none) in
     let code : ℕ = slice_index r 0 in
-    let g : Guid = record { bytes = field 1 16 r } in
-    let is = op_of_code g code (known_least phase code all.1.0) in
-    let some : 1 ≤ length r = leb-true _ _ all.0 in
-    go (carries code) refl is some all.1.0 all.1.1.0 all.1.1.1.0 all.1.1.1.1.0
+    let is = op_of_code (record { bytes = field 1 16 r }) code (known_least phase code checks.known) in
+    go (carries code) refl is (leb-true 1 (length r) checks.some) checks
   where
-    whole : not true || nat_le 17 (length r) ≡ true → 17 ≤ length r
-    whole h = leb-true 17 (length r) h
+    fits : IsOpOf (slice_index r 0) (record { bytes = field 1 16 r }) (op_in r) → ChecksOfOp phase stage r → IsSized (op_in r)
+        → Fits phase stage (op_in r)
+    fits is checks sized = record {
+      known = ap (knows phase) is.code_is ∙ checks.known;
+      placed = ap (in_place stage) is.code_is ∙ checks.placed;
+      valued = ap (holds_values stage) is.code_is ∙ checks.valued;
+      sized = sized;
+    }
 
-    go : (c : Bool) → carries (slice_index r 0) ≡ c → IsOpOf (slice_index r 0) (record { bytes = field 1 16 r }) (op_in r) → 1 ≤ length r → knows phase (slice_index r 0) ≡ true
-        → in_place stage (slice_index r 0) ≡ true → has_operand r ≡ true → holds_values stage (slice_index r 0) ≡ true → OpStands phase stage (op_in r) r
-    go true c is some known place room values =
-        let long : 17 ≤ length r = whole (sym (ap (λ (t : Bool). not t || nat_le 17 (length r)) c) ∙ room) in
+    room : not true || nat_le 17 (length r) ≡ true → 17 ≤ length r
+    room h = leb-true 17 (length r) h
+
+    go : (c : Bool) → carries (slice_index r 0) ≡ c → IsOpOf (slice_index r 0) (record { bytes = field 1 16 r }) (op_in r) → 1 ≤ length r
+        → ChecksOfOp phase stage r → OpStands phase stage (op_in r) r
+    go true c is some checks =
+        let long : 17 ≤ length r = room (sym (ap (λ (t : Bool). not t || nat_le 17 (length r)) c) ∙ checks.whole) in
         let operand : operand_of (op_in r) ≡ field 1 16 r = is.operand_is ∙ ap (λ (t : Bool). if t then field 1 16 r else []) c in
         let n : length (field 1 16 r) ≡ 16 = length-take-le 16 (drop 1 r) (omega (arith, length-drop 1 r, long)) in
         record {
-          fits = record {
-            known = ap (knows phase) is.code_is ∙ known;
-            placed = ap (in_place stage) is.code_is ∙ place;
-            valued = ap (holds_values stage) is.code_is ∙ values;
-            sized = ap length operand ∙ n ∙ sym (ap operand_len (ap carries is.code_is ∙ c));
-          };
+          fits = fits is checks (ap length operand ∙ n ∙ sym (ap operand_len (ap carries is.code_is ∙ c)));
           behind = drop 16 (drop 1 r);
           joined = cons_of r some ∙ ap (λ (l : List ℕ). slice_index r 0 ∷ l) (sym (take-append-drop 16 (drop 1 r)))
               ∙ ap (λ (k : ℕ). k ∷ (field 1 16 r ++ drop 16 (drop 1 r))) (sym is.code_is) ∙ ap (λ (l : List ℕ). code_of (op_in r) ∷ (l ++ drop 16 (drop 1 r))) (sym operand);
         }
-    go false c is some known place room values =
+    go false c is some checks =
         let operand : operand_of (op_in r) ≡ [] = is.operand_is ∙ ap (λ (t : Bool). if t then field 1 16 r else []) c in
         record {
-          fits = record {
-            known = ap (knows phase) is.code_is ∙ known;
-            placed = ap (in_place stage) is.code_is ∙ place;
-            valued = ap (holds_values stage) is.code_is ∙ values;
-            sized = ap length operand ∙ sym (ap operand_len (ap carries is.code_is ∙ c));
-          };
+          fits = fits is checks (ap length operand ∙ sym (ap operand_len (ap carries is.code_is ∙ c)));
           behind = drop 1 r;
           joined = cons_of r some ∙ ap (λ (k : ℕ). k ∷ drop 1 r) (sym is.code_is) ∙ ap (λ (l : List ℕ). code_of (op_in r) ∷ (l ++ drop 1 r)) (sym operand);
         }

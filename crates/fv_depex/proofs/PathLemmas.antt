@@ -5,7 +5,7 @@ use Rattle.std.specs.List.{AllByRecursion}
 use Rattle.std.proofs.lemmas.Bool.{leb-true, le-leb, eqb-true}
 use Rattle.fv_base.specs.declared.guid.Guid.{Guid}
 use Rattle.fv_base.proofs.CheckLemmas.{and_split}
-use Rattle.fv_depex.specs.Checks.{Fits, Path, has_values, knows, stage_after, values_after}
+use Rattle.fv_depex.specs.Checks.{Fits, Path, has_values, knows, stage_after, values_after, values_of}
 use Rattle.fv_depex.specs.Expressions.{Expression, always, never, installed, negated, both, either, IsTree, IsOrder, Spells, code_of, operand_of, ops_bytes, postfix, IsSized}
 use Rattle.fv_depex.specs.declared.op.Op.{Op}
 use Rattle.fv_depex.specs.declared.op.Op.TheVariants as ops
@@ -96,6 +96,18 @@ last_two (t ∷ []) l = absurd (omega (arith, l))
 last_two (t ∷ u ∷ []) l = ([], t, u, refl)
 last_two (t ∷ u ∷ v ∷ ts) l = let r = last_two (u ∷ v ∷ ts) (omega arith) in (t ∷ r.0, r.1, r.2, ap (λ (k : List Expression). t ∷ k) r.3)
 
+-- AND and OR make one tree of the last two
+two_more : (phase : Phase) (n : ℕ) (os : List Op) (make : Expression → Expression → Expression) (o : Op)
+    → ((t u : Expression) → postfix (make t u) ≡ postfix t ++ (postfix u ++ (o ∷ []))) → Leaves phase (stages.Values n) os → 2 ≤ n
+    → Leaves phase (stages.Values (n - 1)) (os ++ o ∷ [])
+two_more phase n os make o made (sor, ts, e, len, s) some =
+    let r = last_two ts (omega (arith, len, some)) in
+    let last : trees_ops (r.1 ∷ r.2 ∷ []) ++ (o ∷ []) ≡ postfix (make r.1 r.2) =
+    append_assoc (postfix r.1) (postfix r.2 ++ []) (o ∷ [])
+    ∙ ap (λ (l : List Op). postfix r.1 ++ (l ++ (o ∷ []))) (append-nil (postfix r.2)) ∙ sym (made r.1 r.2) in
+    more_trees phase os sor r.0 (r.1 ∷ r.2 ∷ []) (make r.1 r.2) o (n - 1) (e ∙ ap (λ (l : List Expression). sor ++ trees_ops l) r.3) s
+    last (omega (arith, len, some, ap length r.3, length-append r.0 (r.1 ∷ r.2 ∷ [])))
+
 -- an op on values
 values_more : (phase : Phase) (n : ℕ) (os : List Op) (o : Op) → Leaves phase (stages.Values n) os → 2 ≤ code_of o → code_of o < 8 → has_values n (code_of o) ≡ true
     → Leaves phase (stages.Values (values_after n o)) (os ++ o ∷ [])
@@ -111,20 +123,8 @@ values_more phase n os ops.Not (sor, ts, e, len, s) low high v =
     let r = last_one ts (omega (arith, len, leb-true 1 n v)) in
     more_trees phase os sor r.0 (r.1 ∷ []) (negated r.1) ops.Not n (e ∙ ap (λ (l : List Expression). sor ++ trees_ops l) r.2) s
     (ap (λ (l : List Op). l ++ (ops.Not ∷ [])) (append-nil (postfix r.1))) (omega (arith, len, ap length r.2, length-append r.0 (r.1 ∷ [])))
-values_more phase n os ops.And (sor, ts, e, len, s) low high v =
-    let r = last_two ts (omega (arith, len, leb-true 2 n v)) in
-    more_trees phase os sor r.0 (r.1 ∷ r.2 ∷ []) (both r.1 r.2) ops.And (n - 1) (e ∙ ap (λ (l : List Expression). sor ++ trees_ops l) r.3) s
-    (two r.1 r.2 ops.And) (omega (arith, len, leb-true 2 n v, ap length r.3, length-append r.0 (r.1 ∷ r.2 ∷ [])))
-  where
-    two : (t u : Expression) (o : Op) → (postfix t ++ (postfix u ++ [])) ++ (o ∷ []) ≡ postfix t ++ (postfix u ++ (o ∷ []))
-    two t u o = append_assoc (postfix t) (postfix u ++ []) (o ∷ []) ∙ ap (λ (l : List Op). postfix t ++ (l ++ (o ∷ []))) (append-nil (postfix u))
-values_more phase n os ops.Or (sor, ts, e, len, s) low high v =
-    let r = last_two ts (omega (arith, len, leb-true 2 n v)) in
-    more_trees phase os sor r.0 (r.1 ∷ r.2 ∷ []) (either r.1 r.2) ops.Or (n - 1) (e ∙ ap (λ (l : List Expression). sor ++ trees_ops l) r.3) s
-    (two r.1 r.2 ops.Or) (omega (arith, len, leb-true 2 n v, ap length r.3, length-append r.0 (r.1 ∷ r.2 ∷ [])))
-  where
-    two : (t u : Expression) (o : Op) → (postfix t ++ (postfix u ++ [])) ++ (o ∷ []) ≡ postfix t ++ (postfix u ++ (o ∷ []))
-    two t u o = append_assoc (postfix t) (postfix u ++ []) (o ∷ []) ∙ ap (λ (l : List Op). postfix t ++ (l ++ (o ∷ []))) (append-nil (postfix u))
+values_more phase n os ops.And h low high v = two_more phase n os both ops.And (λ t u. refl) h (leb-true 2 n v)
+values_more phase n os ops.Or h low high v = two_more phase n os either ops.Or (λ t u. refl) h (leb-true 2 n v)
 values_more phase n os ops.End h low high v = absurd (omega (arith, high))
 values_more phase n os ops.Sor h low high v = absurd (omega (arith, high))
 
@@ -149,17 +149,17 @@ value_code o low high ne = go (code_of o) refl where
     less n l k = grind (arith, l, k)
 
 -- the values of an op that has some
-after_values : (n : ℕ) (o : Op) → 2 ≤ code_of o → stage_after (stages.Values n) o ≡ stages.Values (values_after n o)
-after_values n (ops.Before g) l = absurd (omega (arith, l))
-after_values n (ops.After g) l = absurd (omega (arith, l))
-after_values n (ops.Push g) l = refl
-after_values n ops.And l = refl
-after_values n ops.Or l = refl
-after_values n ops.Not l = refl
-after_values n ops.True l = refl
-after_values n ops.False l = refl
-after_values n ops.End l = refl
-after_values n ops.Sor l = refl
+after_values : (stage : Stage) (o : Op) → 2 ≤ code_of o → stage_after stage o ≡ stages.Values (values_after (values_of stage) o)
+after_values stage (ops.Before g) l = absurd (omega (arith, l))
+after_values stage (ops.After g) l = absurd (omega (arith, l))
+after_values stage (ops.Push g) l = refl
+after_values stage ops.And l = refl
+after_values stage ops.Or l = refl
+after_values stage ops.Not l = refl
+after_values stage ops.True l = refl
+after_values stage ops.False l = refl
+after_values stage ops.End l = refl
+after_values stage ops.Sor l = refl
 
 placed_values : (phase : Phase) (n : ℕ) (os : List Op) (o : Op) → Leaves phase (stages.Values n) os → Fits phase (stages.Values n) o → o ≢ ops.End
     → Leaves phase (stage_after (stages.Values n) o) (os ++ o ∷ [])
@@ -167,7 +167,8 @@ placed_values phase n os o h fits ne =
     let range = and_split (nat_le 2 (code_of o)) (nat_le (code_of o) 8) fits.placed in
     let low : 2 ≤ code_of o = leb-true 2 (code_of o) range.0 in
     let high : code_of o ≤ 8 = leb-true (code_of o) 8 range.1 in
-    subst (λ (k : Stage). Leaves phase k (os ++ o ∷ [])) (sym (after_values n o low)) (values_more phase n os o h low (value_code o low high ne) fits.valued)
+    subst (λ (k : Stage). Leaves phase k (os ++ o ∷ [])) (sym (after_values (stages.Values n) o low))
+    (values_more phase n os o h low (value_code o low high ne) fits.valued)
 
 start_value : (phase : Phase) (os : List Op) (o : Op) → Leaves phase stages.Start os → Fits phase stages.Start o → 2 ≤ code_of o → code_of o < 8 → Leaves phase (stages.Values (values_after 0 o)) (os ++ o ∷ [])
 start_value phase os o h fits low high = values_more phase 0 os o (begun phase os h) low high fits.valued
@@ -228,6 +229,9 @@ two_paths phase n t u o p q fits ne after =
     path_join phase (stages.Values n) (stages.Values (n + 1)) (stages.Values (n + 1)) (postfix t) (postfix u ++ (o ∷ [])) p
     (path_join phase (stages.Values (n + 1)) (stages.Values (n + 1 + 1)) (stages.Values (n + 1)) (postfix u) (o ∷ []) q (fits, ne, after))
 
+one_less : (n : ℕ) → n + 1 + 1 - 1 ≡ n + 1
+one_less n = omega arith
+
 pub tree_path : (phase : Phase) (n : ℕ) (t : Expression) → AllByRecursion IsSized (postfix t) → Path phase (stages.Values n) (postfix t) (stages.Values (n + 1))
 tree_path phase n always sized = (fits_value phase n ops.True (omega arith) (omega arith) refl refl, λ e. cc, refl)
 tree_path phase n never sized = (fits_value phase n ops.False (omega arith) (omega arith) refl refl, λ e. cc, refl)
@@ -239,35 +243,18 @@ tree_path phase n (both t u) sized =
     two_paths phase n t u ops.And (tree_path phase n t (all_front (postfix t) (postfix u ++ ops.And ∷ []) sized))
     (tree_path phase (n + 1) u (all_front (postfix u) (ops.And ∷ []) (all_behind (postfix t) (postfix u ++ ops.And ∷ []) sized)))
     (fits_value phase (n + 1 + 1) ops.And (omega arith) (omega arith) (le-leb 2 (n + 1 + 1) (omega arith)) refl) (λ e. cc) (ap (λ (k : ℕ). stages.Values k) (one_less n))
-  where
-    one_less : (n : ℕ) → n + 1 + 1 - 1 ≡ n + 1
-    one_less n = omega arith
 tree_path phase n (either t u) sized =
     two_paths phase n t u ops.Or (tree_path phase n t (all_front (postfix t) (postfix u ++ ops.Or ∷ []) sized))
     (tree_path phase (n + 1) u (all_front (postfix u) (ops.Or ∷ []) (all_behind (postfix t) (postfix u ++ ops.Or ∷ []) sized)))
     (fits_value phase (n + 1 + 1) ops.Or (omega arith) (omega arith) (le-leb 2 (n + 1 + 1) (omega arith)) refl) (λ e. cc) (ap (λ (k : ℕ). stages.Values k) (one_less n))
-  where
-    one_less : (n : ℕ) → n + 1 + 1 - 1 ≡ n + 1
-    one_less n = omega arith
 
 -- the ops from the start on
 from_start : (phase : Phase) (f : Stage) (o : Op) (os : List Op) → Path phase (stages.Values 0) (o ∷ os) f → Path phase stages.Start (o ∷ os) f
 from_start phase f o os p =
     let range = and_split (nat_le 2 (code_of o)) (nat_le (code_of o) 8) (p.0).placed in
-    let same = same_after o (leb-true 2 (code_of o) range.0) in
+    let low : 2 ≤ code_of o = leb-true 2 (code_of o) range.0 in
+    let same = after_values (stages.Values 0) o low ∙ sym (after_values stages.Start o low) in
     (record { known = (p.0).known; placed = refl; valued = (p.0).valued; sized = (p.0).sized }, p.1, subst (λ (k : Stage). Path phase k os f) same p.2)
-  where
-    same_after : (o : Op) → 2 ≤ code_of o → stage_after (stages.Values 0) o ≡ stage_after stages.Start o
-    same_after (ops.Before g) l = absurd (omega (arith, l))
-    same_after (ops.After g) l = absurd (omega (arith, l))
-    same_after (ops.Push g) l = refl
-    same_after ops.And l = refl
-    same_after ops.Or l = refl
-    same_after ops.Not l = refl
-    same_after ops.True l = refl
-    same_after ops.False l = refl
-    same_after ops.End l = refl
-    same_after ops.Sor l = refl
 
 some_ops : (t : Expression) → 1 ≤ length (postfix t)
 some_ops always = omega arith

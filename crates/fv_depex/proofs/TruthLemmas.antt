@@ -11,6 +11,12 @@ use Rattle.fv_depex.specs.declared.op.Op.TheVariants as ops
 use Rattle.fv_depex.specs.declared.op.Phase.{Phase}
 use Rattle.fv_depex.specs.declared.op.Phase.TheVariants.{Dxe}
 
+-- the ops of two trees and an op, before others
+two_before : (t u : Expression) (o : Op) (os : List Op)
+    → (postfix t ++ (postfix u ++ (o ∷ []))) ++ os ≡ postfix t ++ (postfix u ++ (o ∷ os))
+two_before t u o os =
+    append_assoc (postfix t) (postfix u ++ (o ∷ [])) os ∙ ap (λ (l : List Op). postfix t ++ l) (append_assoc (postfix u) (o ∷ []) os)
+
 -- the ops of a tree leave its truth on top
 run_tree : (set : List Guid) (t : Expression) (s : List Bool) (os : List Op) → run set (postfix t ++ os) s ≡ run set os (truth set t ∷ s)
 run_tree set always s os = refl
@@ -19,11 +25,11 @@ run_tree set (installed g) s os = refl
 run_tree set (negated t) s os =
     ap (λ (l : List Op). run set l s) (append_assoc (postfix t) (ops.Not ∷ []) os) ∙ run_tree set t s (ops.Not ∷ os)
 run_tree set (both t u) s os =
-    ap (λ (l : List Op). run set l s) (append_assoc (postfix t) (postfix u ++ (ops.And ∷ [])) os ∙ ap (λ (l : List Op). postfix t ++ l) (append_assoc (postfix u) (ops.And ∷ []) os))
-    ∙ run_tree set t s (postfix u ++ (ops.And ∷ os)) ∙ run_tree set u (truth set t ∷ s) (ops.And ∷ os)
+    ap (λ (l : List Op). run set l s) (two_before t u ops.And os) ∙ run_tree set t s (postfix u ++ (ops.And ∷ os))
+    ∙ run_tree set u (truth set t ∷ s) (ops.And ∷ os)
 run_tree set (either t u) s os =
-    ap (λ (l : List Op). run set l s) (append_assoc (postfix t) (postfix u ++ (ops.Or ∷ [])) os ∙ ap (λ (l : List Op). postfix t ++ l) (append_assoc (postfix u) (ops.Or ∷ []) os))
-    ∙ run_tree set t s (postfix u ++ (ops.Or ∷ os)) ∙ run_tree set u (truth set t ∷ s) (ops.Or ∷ os)
+    ap (λ (l : List Op). run set l s) (two_before t u ops.Or os) ∙ run_tree set t s (postfix u ++ (ops.Or ∷ os))
+    ∙ run_tree set u (truth set t ∷ s) (ops.Or ∷ os)
 
 pub truth_of_tree : (set : List Guid) (phase : Phase) (all : List Op) (t : Expression) → IsTree phase all t → run set all [] ≡ Some (truth set t)
 truth_of_tree set phase all t is = ap (λ (l : List Op). run set l []) is.joined ∙ go is.sor is.sor_is where
@@ -81,11 +87,9 @@ build_tree never ts os = refl
 build_tree (installed g) ts os = refl
 build_tree (negated t) ts os = ap (build ts) (append_assoc (postfix t) (ops.Not ∷ []) os) ∙ build_tree t ts (ops.Not ∷ os)
 build_tree (both t u) ts os =
-    ap (build ts) (append_assoc (postfix t) (postfix u ++ (ops.And ∷ [])) os ∙ ap (λ (l : List Op). postfix t ++ l) (append_assoc (postfix u) (ops.And ∷ []) os))
-    ∙ build_tree t ts (postfix u ++ (ops.And ∷ os)) ∙ build_tree u (t ∷ ts) (ops.And ∷ os)
+    ap (build ts) (two_before t u ops.And os) ∙ build_tree t ts (postfix u ++ (ops.And ∷ os)) ∙ build_tree u (t ∷ ts) (ops.And ∷ os)
 build_tree (either t u) ts os =
-    ap (build ts) (append_assoc (postfix t) (postfix u ++ (ops.Or ∷ [])) os ∙ ap (λ (l : List Op). postfix t ++ l) (append_assoc (postfix u) (ops.Or ∷ []) os))
-    ∙ build_tree t ts (postfix u ++ (ops.Or ∷ os)) ∙ build_tree u (t ∷ ts) (ops.Or ∷ os)
+    ap (build ts) (two_before t u ops.Or os) ∙ build_tree t ts (postfix u ++ (ops.Or ∷ os)) ∙ build_tree u (t ∷ ts) (ops.Or ∷ os)
 
 built : (phase : Phase) (all : List Op) (t : Expression) → IsTree phase all t → build [] all ≡ t ∷ []
 built phase all t is = ap (build []) is.joined ∙ go is.sor is.sor_is where

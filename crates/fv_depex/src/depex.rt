@@ -8,7 +8,7 @@ use crate::op::{Op, Phase};
 use fv_base::ByteList;
 use std::marker::Model;
 
-/// A dependency expression, made by reading alone: its ops, the last of which is END, and the
+/// A dependency expression, made by `read_depex` alone: its ops, the last of which is END, and the
 /// bytes behind it. (PI specification, volume 1, section 3.4, and volume 2, section 10.7.)
 #[derive(Drop)]
 pub struct Depex {
@@ -44,7 +44,7 @@ impl Depex {
         self.phase
     }
 
-    /// The ops in their order.
+    /// The ops in the order of their bytes (postfix: operands first), END last.
     pub fn ops(&self) -> &[Op]
         ensures ops { result.now ≡ self.now.ops }
         ensures read { IsReadDepex self.now }
@@ -52,7 +52,7 @@ impl Depex {
         self.ops.as_slice()
     }
 
-    /// The bytes behind END.
+    /// The bytes behind END, kept as they stand.
     pub fn rest(&self) -> &[u8]
         ensures { result.now ≡ self.now.rest }
     {

@@ -6,16 +6,17 @@ ghost use Rattle.fv_depex.specs.Checks.{number_of, want_of_memory};
 use std::alloc::{AllocError, AllocFailed};
 use thiserror::Error;
 
-/// Why an expression was refused.
+/// Why an expression was refused. (PI specification, volume 1, section 3.4, and volume 2, section
+/// 10.7.)
 #[derive(Clone, Copy, Debug, PartialEq, Eq, Error)]
 pub enum DepexFaultKind {
-    /// An op's GUID is cut.
+    /// Fewer than 16 bytes are left for the GUID of BEFORE, AFTER or PUSH.
     #[error("the GUID of an op is cut")]
     Short,
-    /// A code that the phase has not.
+    /// An op code that the phase has not: PEI has 02 to 08, DXE 00 to 09.
     #[error("the code of an op is not known")]
     Opcode,
-    /// The stack holds too few values, or at END not exactly one.
+    /// The stack holds fewer than two values at AND or OR, none at NOT, or not exactly one at END.
     #[error("the stack does not hold what an op takes")]
     Stack,
     /// The bytes end before END.
@@ -24,13 +25,13 @@ pub enum DepexFaultKind {
     /// BEFORE, AFTER or SOR not first, or an op but END behind BEFORE or AFTER.
     #[error("an op stands where it may not")]
     Position,
-    /// A growth was refused. At 0.
+    /// The allocator refused. The offset is 0.
     #[error("out of memory")]
     OutOfMemory,
 }
 
 impl DepexFaultKind {
-    /// The number by which the kind is known, 1 to 6.
+    /// The number by which the kind is known: 1 to 6, in the order above.
     pub fn number(self) -> u8
         ensures { result ≡ number_of self }
     {
@@ -51,12 +52,12 @@ impl DepexFaultKind {
 pub struct DepexFault {
     /// Why.
     pub kind: DepexFaultKind,
-    /// The op's offset in bytes.
+    /// The offset of the op's code, in bytes from the first byte that was handed to the call.
     pub offset: u64,
 }
 
 impl DepexFault {
-    /// The number by which the fault's kind is known.
+    /// The number by which the fault's kind is known, 1 to 6.
     pub fn number(self) -> u8
         ensures { result ≡ number_of self.kind }
     {
@@ -64,14 +65,17 @@ impl DepexFault {
     }
 }
 
+/// The fault of every call whose memory was refused.
+const WANT_OF_MEMORY: DepexFault = DepexFault {
+    kind: DepexFaultKind::OutOfMemory,
+    offset: 0,
+};
+
 impl From<AllocError> for DepexFault {
     ghost from_gives = { λ _ f. f ≡ want_of_memory };
 
     fn from(_error: AllocError) -> DepexFault {
-        DepexFault {
-            kind: DepexFaultKind::OutOfMemory,
-            offset: 0,
-        }
+        WANT_OF_MEMORY
     }
 }
 
@@ -79,9 +83,6 @@ impl<T: Drop> From<AllocFailed<T>> for DepexFault {
     ghost from_gives = { λ _ f. f ≡ want_of_memory };
 
     fn from(_error: AllocFailed<T>) -> DepexFault {
-        DepexFault {
-            kind: DepexFaultKind::OutOfMemory,
-            offset: 0,
-        }
+        WANT_OF_MEMORY
     }
 }

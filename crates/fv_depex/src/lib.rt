@@ -1,15 +1,17 @@
-//! Dependency expressions: read, written and evaluated.
+//! Dependency expressions, the bodies of depex sections: read, written and evaluated. (PI
+//! specification, volume 1, section 3.4, and volume 2, section 10.7.)
 #![tactic(auto)]
 
-pub mod depex;
-pub mod fault;
-pub mod op;
-pub mod read;
+mod depex;
+mod fault;
+mod op;
+mod opcode;
+mod read;
 mod stage;
 #[cfg(test)]
 mod tests;
-pub mod truth;
-pub mod write;
+mod truth;
+mod write;
 
 pub use depex::Depex;
 pub use fault::{DepexFault, DepexFaultKind};

@@ -3,59 +3,64 @@
 ghost use Rattle.std.specs.Prelude.{◌≡◌};
 ghost use Rattle.fv_depex.specs.Expressions.{code_of};
 
+use crate::opcode;
 use fv_base::Guid;
 
-/// The phase that evaluates an expression. Those of the MM phase are read as DXE ones.
+/// The phase that evaluates an expression. Those of the MM phase are read as DXE ones. (PI
+/// specification, volume 1, section 3.4, and volume 2, section 10.7.)
 #[derive(Clone, Copy, Debug, PartialEq, Eq)]
 pub enum Phase {
-    /// PEI, which has no BEFORE, AFTER and SOR.
+    /// PEI (volume 1), which has no BEFORE, AFTER and SOR: op codes 02 to 08.
     Pei,
-    /// DXE.
+    /// DXE (volume 2): op codes 00 to 09.
     Dxe,
 }
 
-/// An op of a dependency expression. (PI specification, volume 1, section 3.4, and volume 2,
-/// section 10.7.)
+/// An op of a dependency expression, a step on a stack of truth values. (PI specification, volume
+/// 1, section 3.4, and volume 2, section 10.7.)
 #[derive(Clone, Copy, Debug, PartialEq, Eq)]
 pub enum Op {
-    /// Right before the driver of this name.
+    /// EFI_DEP_BEFORE, 00: right before the driver whose file has this name. It stands first, and
+    /// END follows it. DXE only.
     Before(Guid),
-    /// Right after the driver of this name.
+    /// EFI_DEP_AFTER, 01: right after the driver whose file has this name. It stands first, and
+    /// END follows it. DXE only.
     After(Guid),
-    /// Whether the protocol of this name is installed.
+    /// EFI_DEP_PUSH, 02: pushes whether the protocol of this name, in PEI the PPI, is installed.
     Push(Guid),
-    /// Two values to one.
+    /// EFI_DEP_AND, 03: pops two values, and pushes whether both are true.
     And,
-    /// Two values to one.
+    /// EFI_DEP_OR, 04: pops two values, and pushes whether either is true.
     Or,
-    /// One value to one.
+    /// EFI_DEP_NOT, 05: pops a value, and pushes its negation.
     Not,
-    /// True.
+    /// EFI_DEP_TRUE, 06: pushes true.
     True,
-    /// False.
+    /// EFI_DEP_FALSE, 07: pushes false.
     False,
-    /// The end.
+    /// EFI_DEP_END, 08: the end. The one value on the stack is the expression's.
     End,
-    /// Schedule on request; no effect on the value.
+    /// EFI_DEP_SOR, 09: schedule on request, which does not change the value. It stands first, and
+    /// an expression follows it. DXE only.
     Sor,
 }
 
 impl Op {
-    /// The code of the op, 00 to 09.
+    /// The op code, 00 (EFI_DEP_BEFORE) to 09 (EFI_DEP_SOR): the first byte of the op.
     pub fn code(&self) -> u8
         ensures { result ≡ code_of self.now }
     {
         match self {
-            Op::Before(_) => 0x00,
-            Op::After(_) => 0x01,
-            Op::Push(_) => 0x02,
-            Op::And => 0x03,
-            Op::Or => 0x04,
-            Op::Not => 0x05,
-            Op::True => 0x06,
-            Op::False => 0x07,
-            Op::End => 0x08,
-            Op::Sor => 0x09,
+            Op::Before(_) => opcode::BEFORE,
+            Op::After(_) => opcode::AFTER,
+            Op::Push(_) => opcode::PUSH,
+            Op::And => opcode::AND,
+            Op::Or => opcode::OR,
+            Op::Not => opcode::NOT,
+            Op::True => opcode::TRUE,
+            Op::False => opcode::FALSE,
+            Op::End => opcode::END,
+            Op::Sor => opcode::SOR,
         }
     }
 }

@@ -9,19 +9,20 @@ ghost use Rattle.fv_depex.specs.declared.op.Op.{Op};
 use crate::depex::Depex;
 use crate::fault::{DepexFault, DepexFaultKind};
 use crate::op::{Op, Phase};
+use crate::opcode;
 use crate::stage::{Stage, stage_after};
 use fv_base::{ByteList, guid_at};
 use std::alloc::{AllocError, Global};
 
-/// The code of END.
-const END: u8 = 0x08;
+/// Bytes of an op that carries a GUID: its code, and the GUID's 16.
+const WITH_GUID: usize = 17;
 
 fn knows(phase: Phase, code: u8) -> bool
     ensures { result ≡ knows phase code }
 {
     match phase {
-        Phase::Pei => 0x02 <= code && code <= 0x08,
-        Phase::Dxe => code <= 0x09,
+        Phase::Pei => opcode::PUSH <= code && code <= opcode::END,
+        Phase::Dxe => code <= opcode::SOR,
     }
 }
 
@@ -30,19 +31,19 @@ fn in_place(stage: Stage, code: u8) -> bool
 {
     match stage {
         Stage::Start => true,
-        Stage::Ordered => code == 0x08,
-        Stage::Values(_) => 0x02 <= code && code <= 0x08,
+        Stage::Ordered => code == opcode::END,
+        Stage::Values(_) => opcode::PUSH <= code && code <= opcode::END,
     }
 }
 
 fn has_values(count: u64, code: u8) -> bool
     ensures { result ≡ has_values count code }
 {
-    if code == 0x03 || code == 0x04 {
+    if code == opcode::AND || code == opcode::OR {
         2 <= count
-    } else if code == 0x05 {
+    } else if code == opcode::NOT {
         1 <= count
-    } else if code == 0x08 {
+    } else if code == opcode::END {
         count == 1
     } else {
         true
@@ -54,7 +55,7 @@ fn holds_values(stage: Stage, code: u8) -> bool
 {
     match stage {
         Stage::Start => has_values(0, code),
-        Stage::Ordered => code == END || has_values(0, code),
+        Stage::Ordered => code == opcode::END || has_values(0, code),
         Stage::Values(count) => has_values(count, code),
     }
 }
@@ -62,14 +63,14 @@ fn holds_values(stage: Stage, code: u8) -> bool
 fn carries(code: u8) -> bool
     ensures { result ≡ carries code }
 {
-    code <= 0x02
+    code <= opcode::PUSH
 }
 
 fn has_operand(rest: &[u8]) -> bool
     requires { 1 ≤ length rest.now }
     ensures { result ≡ has_operand rest.now }
 {
-    !carries(rest[0]) || rest.len() >= 17
+    !carries(rest[0]) || rest.len() >= WITH_GUID
 }
 
 // Done, or the kind of the first check that does not hold.
@@ -103,15 +104,15 @@ fn op_in(rest: &[u8]) -> Op
     ensures { result ≡ op_in rest.now }
 {
     match rest[0] {
-        0x00 => Op::Before(guid_at(rest, 1)),
-        0x01 => Op::After(guid_at(rest, 1)),
-        0x02 => Op::Push(guid_at(rest, 1)),
-        0x03 => Op::And,
-        0x04 => Op::Or,
-        0x05 => Op::Not,
-        0x06 => Op::True,
-        0x07 => Op::False,
-        0x08 => Op::End,
+        opcode::BEFORE => Op::Before(guid_at(rest, 1)),
+        opcode::AFTER => Op::After(guid_at(rest, 1)),
+        opcode::PUSH => Op::Push(guid_at(rest, 1)),
+        opcode::AND => Op::And,
+        opcode::OR => Op::Or,
+        opcode::NOT => Op::Not,
+        opcode::TRUE => Op::True,
+        opcode::FALSE => Op::False,
+        opcode::END => Op::End,
         _ => Op::Sor,
     }
 }
@@ -120,7 +121,7 @@ fn op_in(rest: &[u8]) -> Op
 fn op_len(op: &Op) -> usize
     ensures { result ≡ 1 + operand_len (carries (code_of op.now)) }
 {
-    if carries(op.code()) { 17 } else { 1 }
+    if carries(op.code()) { WITH_GUID } else { 1 }
 }
 
 // The op at the front, or the kind of the first fault there.
@@ -151,7 +152,7 @@ fn read_ops(alloc: Global, bytes: &[u8], phase: Phase) -> Result<(Vec<Op>, usize
         };
         at += op_len(&op);
         ops.push(op)?;
-        if op.code() == END {
+        if op.code() == opcode::END {
             return Ok((ops, at));
         }
         stage = stage_after(stage, &op);
@@ -167,13 +168,15 @@ fn bytes_from(alloc: Global, bytes: &[u8], at: usize) -> Result<ByteList, AllocE
     Ok(ByteList::from_vec(rest))
 }
 
-/// The expression of a dependency section's body, and the bytes behind its END. (PI specification,
-/// volume 1, section 3.4, and volume 2, section 10.7.)
+/// Reads the body of a dependency section (EFI_SECTION_PEI_DEPEX, EFI_SECTION_DXE_DEPEX or
+/// EFI_SECTION_MM_DEPEX) as the phase does: the ops up to END, which have to be a whole expression,
+/// and the bytes behind END. (PI specification, volume 1, section 3.4, and volume 2, section 10.7.)
 ///
 /// # Errors
 ///
 /// At the first op that has a fault, in this order: NoEnd where no bytes are left, Opcode,
-/// Position, Short, Stack. OutOfMemory at 0.
+/// Position, Short, Stack. The offset is that of the op's code, in bytes from the first of `bytes`.
+/// OutOfMemory at 0.
 pub fn read_depex(alloc: Global, bytes: &[u8], phase: Phase) -> Result<Depex, DepexFault>
     // The bytes are spelled by these ops and this rest.
     ensures found { IfOk result (λ d. (d.phase ≡ phase) × Spells phase d.ops d.rest bytes.now) }

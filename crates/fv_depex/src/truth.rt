@@ -81,8 +81,10 @@ fn run(alloc: Global, ops: &[Op], installed: &[Guid]) -> Result<Option<bool>, De
     Ok(top(&mut stack))
 }
 
-/// The truth of an expression where these GUIDs are installed, or None for BEFORE and AFTER, which
-/// have none. Each PUSH looks through the installed GUIDs, so it costs the ops times their number.
+/// The truth of an expression where the protocols (in PEI the PPIs) of these GUIDs are installed,
+/// or None for BEFORE and AFTER, which have none; SOR does not change it. Each PUSH looks through
+/// the installed GUIDs, so the time grows with the ops times their number. (PI specification,
+/// volume 1, section 3.4, and volume 2, section 10.7.)
 ///
 /// # Errors
 ///

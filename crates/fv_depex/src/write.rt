@@ -41,7 +41,9 @@ fn spelled(alloc: Global, ops: &[Op], rest: &[u8]) -> Result<Vec<u8>, AllocError
     Ok(bytes)
 }
 
-/// The bytes of an expression: those of its ops, and the rest behind END.
+/// The bytes of an expression: of each op its code, and its GUID where it carries one, and then the
+/// rest behind END. They are the bytes that it was read from. (PI specification, volume 1, section
+/// 3.4, and volume 2, section 10.7.)
 ///
 /// # Errors
 ///

@@ -26,14 +26,27 @@ holds_first : (first : Bool) (t : Bool) → (not first || t) ≡ true → first 
 holds_first true t h e = h
 holds_first false t h e = cc
 
+-- the checks of a block, by name
+record ChecksOfBlock (first : Bool) (r : List ℕ) : Type 0 where
+  some : nat_le 1 (length r) ≡ true
+  headed : nat_le 8 (length r) ≡ true
+  sized : is_hob_len (le_at 2 2 r) ≡ true
+  inside : nat_le (le_at 2 2 r) (length r) ≡ true
+  begins : (not first || (le_at 0 2 r == 0x0001)) ≡ true
+  shaped : has_shape (le_at 0 2 r) (le_at 2 2 r) ≡ true
+
+checks_of_block : (first : Bool) (r : List ℕ) → AllHold (hob_checks first r) → ChecksOfBlock first r
+checks_of_block first r (some, (headed, (sized, (inside, (begins, (shaped, end)))))) =
+    record { some = some; headed = headed; sized = sized; inside = inside; begins = begins; shaped = shaped }
+
 pub stands : (first : Bool) (r : List ℕ) → IsBytes r → first_fault (hob_checks first r) ≡ None → BlockStands first (take (le_at 2 2 r) r) r
 stands first r bytes none =
-    let all = all_hold (hob_checks first r) none in
+    let checks = checks_of_block first r (all_hold (hob_checks first r) none) in
     let n : ℕ = le_at 2 2 r in
     let c : List ℕ = take n r in
-    let len = and_split _ _ all.1.1.0 in
+    let len = and_split _ _ checks.sized in
     let least : 8 ≤ n = leb-true 8 n len.0 in
-    let long : length c ≡ n = length-take-le n r (leb-true n (length r) all.1.1.1.0) in
+    let long : length c ≡ n = length-take-le n r (leb-true n (length r) checks.inside) in
     let code : le_at 0 2 c ≡ le_at 0 2 r = ap le (field-take 0 2 n r (omega (arith, least))) in
     record {
       behind = drop n r;
@@ -43,9 +56,9 @@ stands first r bytes none =
         sized = ap le (field-take 2 2 n r (omega (arith, least))) ∙ sym long;
         whole = ap (λ (m : ℕ). m % 8) long ∙ eqb-true (n % 8) 0 len.1;
         least = subst (λ (m : ℕ). 8 ≤ m) (sym long) least;
-        shaped = ap (λ (m : ℕ). has_shape (le_at 0 2 c) m) long ∙ ap (λ (m : ℕ). has_shape m n) code ∙ all.1.1.1.1.1.0;
+        shaped = ap (λ (m : ℕ). has_shape (le_at 0 2 c) m) long ∙ ap (λ (m : ℕ). has_shape m n) code ∙ checks.shaped;
       };
-      begins = λ e. code ∙ eqb-true (le_at 0 2 r) 0x0001 (holds_first first (le_at 0 2 r == 0x0001) all.1.1.1.1.0 e);
+      begins = λ e. code ∙ eqb-true (le_at 0 2 r) 0x0001 (holds_first first (le_at 0 2 r == 0x0001) checks.begins e);
     }
 
 -- ---- from the block to the checks
@@ -66,8 +79,11 @@ checks_hold first h c x is begins =
     let whole : nat_le (le_at 2 2 r) (length r) ≡ true = le-leb (le_at 2 2 r) (length r) (omega (arith, long, len)) in
     let begun : (not first || (le_at 0 2 r == 0x0001)) ≡ true =
     join_first first (le_at 0 2 r == 0x0001) (λ e. eq-eqb (le_at 0 2 r) 0x0001 (code ∙ sym (code_is h c is) ∙ begins e)) in
-    let shaped : has_shape (le_at 0 2 r) (le_at 2 2 r) ≡ true = ap (λ (m : ℕ). has_shape m (le_at 2 2 r)) code ∙ ap (λ (m : ℕ). has_shape (le_at 0 2 c) m) len ∙ block.shaped in
-    (le-leb 1 (length r) (omega (arith, long, least)), (le-leb 8 (length r) (omega (arith, long, least)), (ap is_hob_len len ∙ sized, (whole, (begun, (shaped, tt))))))
+    let shaped : has_shape (le_at 0 2 r) (le_at 2 2 r) ≡ true = ap (λ (m : ℕ). has_shape m (le_at 2 2 r)) code
+    ∙ ap (λ (m : ℕ). has_shape (le_at 0 2 c) m) len ∙ block.shaped in
+    let some : nat_le 1 (length r) ≡ true = le-leb 1 (length r) (omega (arith, long, least)) in
+    let headed : nat_le 8 (length r) ≡ true = le-leb 8 (length r) (omega (arith, long, least)) in
+    (some, (headed, (ap is_hob_len len ∙ sized, (whole, (begun, (shaped, tt))))))
 
 -- ---- one block
 

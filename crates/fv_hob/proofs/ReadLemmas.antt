@@ -30,6 +30,12 @@ begins_more : (items : List HobForm) (h : HobForm) → Begins items → ((length
 begins_more [] h begins first = first refl
 begins_more (g ∷ gs) h begins first = begins
 
+-- the block at the front of the bytes behind a place
+stands_at : (b : List ℕ) (items : List HobForm) (c : List ℕ) (at : ℕ) (first : Bool) → first ≡ (length items == 0)
+    → BlockStands first c (take (length b - at) (drop at b)) → BlockStands (length items == 0) c (drop at b)
+stands_at b items c at first e stands =
+    subst (λ (t : Bool). BlockStands t c (drop at b)) e (subst (λ (l : List ℕ). BlockStands first c l) (take_rest b at) stands)
+
 -- one more block
 pub record OneMore (b : List ℕ) (items : List HobForm) (h : HobForm) (at n : ℕ) : Type 0 where
   pub joined : Joins (items ++ h ∷ []) (take (at + n) b)
@@ -37,10 +43,10 @@ pub record OneMore (b : List ℕ) (items : List HobForm) (h : HobForm) (at n : �
   pub inside : at + n ≤ length b
   pub some : 8 ≤ n
 
-pub one_more : (b : List ℕ) (items : List HobForm) (h : HobForm) (c : List ℕ) (at : ℕ) → Kept b items at → BlockStands (length items == 0) c (take (length b - at) (drop at b)) → IsHob h c
-    → OneMore b items h at (length c)
+pub one_more : (b : List ℕ) (items : List HobForm) (h : HobForm) (c : List ℕ) (at : ℕ) → Kept b items at
+    → BlockStands (length items == 0) c (drop at b) → IsHob h c → OneMore b items h at (length c)
 one_more b items h c at k stands is =
-    let whole : drop at b ≡ c ++ stands.behind = sym (take_rest b at) ∙ stands.joined in
+    let whole : drop at b ≡ c ++ stands.behind = stands.joined in
     let part : take (length c) (drop at b) ≡ c = ap (take (length c)) whole ∙ take_at c stands.behind (length c) refl in
     let long : length (drop at b) ≡ length c + length stands.behind = ap length whole ∙ length-append c stands.behind in
     record {
@@ -50,16 +56,23 @@ one_more b items h c at k stands is =
       some = (stands.block).least;
     }
 
-pub kept : (b : List ℕ) (items new : List HobForm) (h : HobForm) (c : List ℕ) (at : ℕ) → Kept b items at → BlockStands (length items == 0) c (take (length b - at) (drop at b)) → IsHob h c
-    → IsNoEnd h → new ≡ items ++ h ∷ [] → Kept b new (at + length c)
-kept b items new h c at k stands is other new_is =
-    let more = one_more b items h c at k stands is in
-    subst (λ (l : List HobForm). Kept b l (at + length c)) (sym new_is) (record { joined = more.joined; begins = more.begins; others = others_more items h k.others other; inside = more.inside })
+pub kept : (b : List ℕ) (items new : List HobForm) (h : HobForm) (c : List ℕ) (at : ℕ) (first : Bool) → first ≡ (length items == 0)
+    → Kept b items at → BlockStands first c (take (length b - at) (drop at b)) → IsHob h c → IsNoEnd h → new ≡ items ++ h ∷ []
+    → Kept b new (at + length c)
+kept b items new h c at first first_is k stands is other new_is =
+    let more = one_more b items h c at k (stands_at b items c at first first_is stands) is in
+    subst (λ (l : List HobForm). Kept b l (at + length c)) (sym new_is) (record {
+      joined = more.joined;
+      begins = more.begins;
+      others = others_more items h k.others other;
+      inside = more.inside;
+    })
 
-pub ended : (b : List ℕ) (items new : List HobForm) (h : HobForm) (c : List ℕ) (at : ℕ) → Kept b items at → BlockStands (length items == 0) c (take (length b - at) (drop at b)) → IsHob h c
-    → IsEnd h → new ≡ items ++ h ∷ [] → (at + length c ≤ length b) × IsHobList new (take (at + length c) b)
-ended b items new h c at k stands is end new_is =
-    let more = one_more b items h c at k stands is in (
+pub ended : (b : List ℕ) (items new : List HobForm) (h : HobForm) (c : List ℕ) (at : ℕ) (first : Bool) → first ≡ (length items == 0)
+    → Kept b items at → BlockStands first c (take (length b - at) (drop at b)) → IsHob h c → IsEnd h → new ≡ items ++ h ∷ []
+    → (at + length c ≤ length b) × IsHobList new (take (at + length c) b)
+ended b items new h c at first first_is k stands is end new_is =
+    let more = one_more b items h c at k (stands_at b items c at first first_is stands) is in (
       more.inside,
       subst (λ (l : List HobForm). IsHobList l (take (at + length c) b)) (sym new_is) (record {
         front = items;
@@ -87,11 +100,14 @@ first_here b items at kind offset k first place = record {
 }
 
 -- where a block was read, or is there to be read, the bytes begin with a table
-pub table_stands : (b : List ℕ) (items : List HobForm) (c : List ℕ) (at : ℕ) → Kept b items at → BlockStands (length items == 0) c (take (length b - at) (drop at b)) → TableStands b
-table_stands b [] c at k stands = (c, subst (λ (l : List ℕ). BlockStands true c l) (take_rest b at ∙ whole k.joined) stands) where
-  whole : take at b ≡ [] → drop at b ≡ b
-  whole e = ap (λ (l : List ℕ). l ++ drop at b) (sym e) ∙ take-append-drop at b
-table_stands b (h ∷ hs) c at k stands = go k.joined k.begins where
+pub table_stands : (b : List ℕ) (items : List HobForm) (c : List ℕ) (at : ℕ) (first : Bool) → first ≡ (length items == 0)
+    → Kept b items at → BlockStands first c (take (length b - at) (drop at b)) → TableStands b
+table_stands b [] c at first first_is k stands =
+    (c, subst (λ (l : List ℕ). BlockStands true c l) (whole k.joined) (stands_at b [] c at first first_is stands))
+  where
+    whole : take at b ≡ [] → drop at b ≡ b
+    whole e = ap (λ (l : List ℕ). l ++ drop at b) (sym e) ∙ take-append-drop at b
+table_stands b (h ∷ hs) c at first first_is k stands = go k.joined k.begins where
   go : Joins (h ∷ hs) (take at b) → code_of h.kind ≡ 0x0001 → TableStands b
   go (d, rest, e, is, more) begins = (
     d,

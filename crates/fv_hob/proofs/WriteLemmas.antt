@@ -8,12 +8,22 @@ use Rattle.fv_hob.specs.Lists.{behind, span_of, spans_of}
 use Rattle.fv_hob.specs.Spelled.{hob_spelled, list_spelled}
 use Rattle.fv_hob.specs.declared.span.Span.{Span}
 
--- a field before those that follow it
-pub field_more : (a b c x : List ℕ) (xs : List (List ℕ)) → b ≡ a ++ x → c ≡ b ++ concat xs → c ≡ a ++ concat (x ∷ xs)
-field_more a b c x xs p q = q ∙ ap (λ (l : List ℕ). l ++ concat xs) p ∙ append_assoc a x (concat xs)
+-- behind some bytes these fields were written
+pub record Grown (a : List ℕ) (xs : List (List ℕ)) (b : List ℕ) : Type 0 where
+  pub is : b ≡ a ++ concat xs
 
-pub field_last : (b c x : List ℕ) → c ≡ b ++ x → c ≡ b ++ concat (x ∷ [])
-field_last b c x q = q ∙ ap (λ (l : List ℕ). b ++ l) (sym (append-nil x))
+pub no_field : (a : List ℕ) → Grown a [] a
+no_field a = record { is = sym (append-nil a) }
+
+concat_more : (xs : List (List ℕ)) (x : List ℕ) → concat (xs ++ x ∷ []) ≡ concat xs ++ x
+concat_more [] x = append-nil x
+concat_more (y ∷ ys) x = ap (λ (l : List ℕ). y ++ l) (concat_more ys x) ∙ sym (append_assoc y (concat ys) x)
+
+-- and one more
+pub one_field : {a b c : List ℕ} {xs : List (List ℕ)} → (x : List ℕ) → Grown a xs b → c ≡ b ++ x → Grown a (xs ++ x ∷ []) c
+one_field {a} {b} {c} {xs} x old new = record {
+  is = new ∙ ap (λ (l : List ℕ). l ++ x) old.is ∙ append_assoc a (concat xs) x ∙ ap (λ (l : List ℕ). a ++ l) (sym (concat_more xs x));
+}
 
 spelled_join : (hs : List HobForm) (h : HobForm) → list_spelled (hs ++ h ∷ []) ≡ list_spelled hs ++ hob_spelled h
 spelled_join [] h = append-nil (hob_spelled h)

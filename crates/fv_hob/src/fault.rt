@@ -6,31 +6,31 @@ ghost use Rattle.fv_hob.specs.Checks.{number_of, want_of_memory};
 use std::alloc::{AllocError, AllocFailed};
 use thiserror::Error;
 
-/// Why a hand-off list was refused.
+/// Why a hand-off list was refused. (PI specification, volume 3, section 5.)
 #[derive(Clone, Copy, Debug, PartialEq, Eq, Error)]
 pub enum HobFaultKind {
-    /// Fewer than 8 bytes are left, or fewer than the block's length.
+    /// Fewer than the 8 bytes of a header are left, or fewer than HobLength says.
     #[error("a block is cut")]
     Short,
-    /// The block's length is no multiple of 8, or below 8.
+    /// HobLength is no multiple of 8, or below 8.
     #[error("the length of a block is no multiple of 8 from 8 on")]
     Length,
-    /// The first block is no hand-off information table.
+    /// The first block is no hand-off information table (PHIT).
     #[error("the first block is no hand-off information table")]
     First,
-    /// The block's length is none that its type may have.
+    /// HobLength is none that the block's HobType may have.
     #[error("the length of a block is not that of its type")]
     Shape,
-    /// The bytes end before an end block.
+    /// The bytes end before an end block (EFI_HOB_TYPE_END_OF_HOB_LIST).
     #[error("the list has no end block")]
     NoEnd,
-    /// A growth was refused. At 0.
+    /// The allocator refused. The offset is 0.
     #[error("out of memory")]
     OutOfMemory,
 }
 
 impl HobFaultKind {
-    /// The number by which the kind is known, 1 to 6.
+    /// The number by which the kind is known: 1 to 6, in the order above.
     pub fn number(self) -> u8
         ensures { result ≡ number_of self }
     {
@@ -51,12 +51,12 @@ impl HobFaultKind {
 pub struct HobFault {
     /// Why.
     pub kind: HobFaultKind,
-    /// The block's offset in bytes from the first byte of the list.
+    /// The offset of the block's header, in bytes from the first byte of the list.
     pub offset: u64,
 }
 
 impl HobFault {
-    /// The number by which the fault's kind is known.
+    /// The number by which the fault's kind is known, 1 to 6.
     pub fn number(self) -> u8
         ensures { result ≡ number_of self.kind }
     {
@@ -64,14 +64,17 @@ impl HobFault {
     }
 }
 
+/// The fault of every call whose memory was refused.
+const WANT_OF_MEMORY: HobFault = HobFault {
+    kind: HobFaultKind::OutOfMemory,
+    offset: 0,
+};
+
 impl From<AllocError> for HobFault {
     ghost from_gives = { λ _ f. f ≡ want_of_memory };
 
     fn from(_error: AllocError) -> HobFault {
-        HobFault {
-            kind: HobFaultKind::OutOfMemory,
-            offset: 0,
-        }
+        WANT_OF_MEMORY
     }
 }
 
@@ -79,9 +82,6 @@ impl<T: Drop> From<AllocFailed<T>> for HobFault {
     ghost from_gives = { λ _ f. f ≡ want_of_memory };
 
     fn from(_error: AllocFailed<T>) -> HobFault {
-        HobFault {
-            kind: HobFaultKind::OutOfMemory,
-            offset: 0,
-        }
+        WANT_OF_MEMORY
     }
 }

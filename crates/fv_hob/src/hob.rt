@@ -1,132 +1,137 @@
-//! Hand-off blocks.
+//! Hand-off blocks. Addresses and lengths are in bytes; numbers are little-endian in the bytes.
 
 ghost use Rattle.std.specs.Prelude.{◌≡◌};
 ghost use Rattle.fv_hob.specs.Hobs.{IsReadHob, code_of, len_of};
 
+use crate::hob_type;
+use crate::layout::{allocation, cpu, extension, handoff, header, resource, span, volume2};
 use fv_base::{ByteList, Guid};
 use std::marker::Model;
 
-/// What the hand-off information table (PHIT) says. (PI specification, volume 3, section 5.3.)
+/// What the hand-off information table (PHIT), EFI_HOB_HANDOFF_INFO_TABLE, says. (PI specification,
+/// volume 3, section 5.3.)
 #[derive(Clone, Copy, Debug, PartialEq, Eq)]
 pub struct Handoff {
-    /// Of the table.
+    /// Version: that of the table.
     pub version: u32,
-    /// The boot mode.
+    /// BootMode.
     pub boot_mode: u32,
-    /// The end of the memory that was found.
+    /// EfiMemoryTop: the end of the memory that was found.
     pub memory_top: u64,
-    /// Its beginning.
+    /// EfiMemoryBottom: its beginning.
     pub memory_bottom: u64,
-    /// The end of the free memory.
+    /// EfiFreeMemoryTop: the end of the free memory.
     pub free_memory_top: u64,
-    /// Its beginning.
+    /// EfiFreeMemoryBottom: its beginning.
     pub free_memory_bottom: u64,
-    /// The address of the end block.
+    /// EfiEndOfHobList: the address of the end block.
     pub end_of_list: u64,
 }
 
-/// What an allocation of memory says. (PI specification, volume 3, section 5.4.)
+/// What an allocation of memory, EFI_HOB_MEMORY_ALLOCATION, says. (PI specification, volume 3,
+/// section 5.4.)
 #[derive(Drop)]
 pub struct MemoryAllocation {
-    /// What it is for.
+    /// Name: what it is for.
     pub name: Guid,
-    /// Its address.
+    /// MemoryBaseAddress.
     pub base: u64,
-    /// Its length in bytes.
+    /// MemoryLength.
     pub length: u64,
-    /// Its type of memory.
+    /// MemoryType.
     pub memory_type: u32,
-    /// Kept as they stand.
+    /// Reserved, kept as they stand.
     pub reserved: [u8; 4],
-    /// The bytes behind, kept as they stand.
+    /// The bytes of the block from 48 on, kept as they stand.
     pub rest: ByteList,
 }
 
-/// What a resource says. (PI specification, volume 3, section 5.5.)
+/// What a resource, EFI_HOB_RESOURCE_DESCRIPTOR, says. (PI specification, volume 3, section 5.5.)
 #[derive(Clone, Copy, Debug, PartialEq, Eq)]
 pub struct Resource {
-    /// Whose it is.
+    /// Owner.
     pub owner: Guid,
-    /// Its type.
+    /// ResourceType.
     pub resource_type: u32,
-    /// Its attributes.
+    /// ResourceAttribute.
     pub attribute: u32,
-    /// Its address.
+    /// PhysicalStart.
     pub start: u64,
-    /// Its length in bytes.
+    /// ResourceLength.
     pub length: u64,
 }
 
-/// What a block says, by its type. Addresses and lengths are in bytes. (PI specification,
-/// volume 3, section 5.)
+/// What a block says, by its type: HobType, and the length in bytes that it has to have, its
+/// header of 8 among them. (PI specification, volume 3, section 5.)
 #[derive(Drop)]
 pub enum HobKind {
-    /// 0001: the hand-off information table (PHIT), 56 bytes.
+    /// EFI_HOB_TYPE_HANDOFF, 0001: the hand-off information table (PHIT), 56 bytes.
     Handoff(Handoff),
-    /// 0002: an allocation of memory, at least 48 bytes.
+    /// EFI_HOB_TYPE_MEMORY_ALLOCATION, 0002: an allocation of memory, at least 48 bytes.
     MemoryAllocation(MemoryAllocation),
-    /// 0003: a resource, 48 bytes.
+    /// EFI_HOB_TYPE_RESOURCE_DESCRIPTOR, 0003: a resource, 48 bytes.
     Resource(Resource),
-    /// 0004: data of a name, at least 24 bytes.
+    /// EFI_HOB_TYPE_GUID_EXTENSION, 0004: data of a name, at least 24 bytes.
     GuidExtension {
-        /// The name.
+        /// Name.
         name: Guid,
-        /// The data.
+        /// The data: the bytes of the block from 24 on, kept as they stand.
         payload: ByteList,
     },
-    /// 0005: a firmware volume, 24 bytes.
+    /// EFI_HOB_TYPE_FV, 0005: a firmware volume, 24 bytes.
     FirmwareVolume {
-        /// Its address.
+        /// BaseAddress.
         base: u64,
-        /// Its length.
+        /// Length.
         length: u64,
     },
-    /// 0006: the processor, 16 bytes.
+    /// EFI_HOB_TYPE_CPU, 0006: the processor, 16 bytes.
     Cpu {
-        /// Bits of a memory address.
+        /// SizeOfMemorySpace: the bits of a memory address.
         memory_bits: u8,
-        /// Bits of an I/O address.
+        /// SizeOfIoSpace: the bits of an I/O address.
         io_bits: u8,
-        /// Kept as they stand.
+        /// Reserved, kept as they stand.
         reserved: [u8; 6],
     },
-    /// 0007: a pool of memory, 8 bytes.
+    /// EFI_HOB_TYPE_MEMORY_POOL, 0007: a pool of memory, 8 bytes.
     MemoryPool,
-    /// 0009: a firmware volume that stood in a file of another, 56 bytes.
+    /// EFI_HOB_TYPE_FV2, 0009: a firmware volume that stood in a file of another, 56 bytes.
     FirmwareVolume2 {
-        /// Its address.
+        /// BaseAddress.
         base: u64,
-        /// Its length.
+        /// Length.
         length: u64,
-        /// The other volume.
+        /// FvName: the other volume.
         volume_name: Guid,
-        /// The file in it.
+        /// FileName: the file in it.
         file_name: Guid,
     },
-    /// 000B: a capsule, 24 bytes.
+    /// EFI_HOB_TYPE_UEFI_CAPSULE, 000B: a capsule, 24 bytes.
     Capsule {
-        /// Its address.
+        /// BaseAddress.
         base: u64,
-        /// Its length.
+        /// Length.
         length: u64,
     },
-    /// FFFE: a block that is not used; its body is not read, and is written as zeros.
+    /// EFI_HOB_TYPE_UNUSED, FFFE: a block that is not used, at least 8 bytes; its body is not read,
+    /// and is written as zeros.
     Unused {
         /// How many bytes follow its header.
         body_len: u16,
     },
-    /// FFFF: the end of the list, 8 bytes.
+    /// EFI_HOB_TYPE_END_OF_HOB_LIST, FFFF: the end of the list, 8 bytes.
     End,
-    /// Any other type.
+    /// Any other type, EFI_HOB_TYPE_FV3 (000C) among them, at least 8 bytes.
     Other {
-        /// The type.
+        /// HobType.
         code: u16,
-        /// The bytes behind the header, kept as they stand.
+        /// The bytes of the block from 8 on, kept as they stand.
         payload: ByteList,
     },
 }
 
-/// A hand-off block, made by reading alone.
+/// A hand-off block, made by `read_hobs` alone. (PI specification, volume 3, section 5.)
 #[derive(Drop)]
 pub struct Hob {
     reserved: u32,
@@ -148,15 +153,16 @@ fn len_of(kind: &HobKind) -> usize
     ensures { result ≡ len_of kind.now }
 {
     match kind {
-        HobKind::Handoff(_) | HobKind::FirmwareVolume2 { .. } => 56,
-        HobKind::MemoryAllocation(said) => 48 + said.rest.as_slice().len(),
-        HobKind::Resource(_) => 48,
-        HobKind::GuidExtension { payload, .. } => 24 + payload.as_slice().len(),
-        HobKind::FirmwareVolume { .. } | HobKind::Capsule { .. } => 24,
-        HobKind::Cpu { .. } => 16,
-        HobKind::MemoryPool | HobKind::End => 8,
-        HobKind::Unused { body_len } => 8 + usize::from(*body_len),
-        HobKind::Other { payload, .. } => 8 + payload.as_slice().len(),
+        HobKind::Handoff(_) => handoff::LEN,
+        HobKind::MemoryAllocation(said) => allocation::LEAST + said.rest.as_slice().len(),
+        HobKind::Resource(_) => resource::LEN,
+        HobKind::GuidExtension { payload, .. } => extension::LEAST + payload.as_slice().len(),
+        HobKind::FirmwareVolume { .. } | HobKind::Capsule { .. } => span::LEN,
+        HobKind::Cpu { .. } => cpu::LEN,
+        HobKind::FirmwareVolume2 { .. } => volume2::LEN,
+        HobKind::MemoryPool | HobKind::End => header::LEN,
+        HobKind::Unused { body_len } => header::LEN + usize::from(*body_len),
+        HobKind::Other { payload, .. } => header::LEN + payload.as_slice().len(),
     }
 }
 
@@ -169,14 +175,14 @@ impl Hob {
         Hob { reserved, kind }
     }
 
-    /// The reserved word of the header.
+    /// Reserved of the header (EFI_HOB_GENERIC_HEADER, section 5.2), kept as it stands.
     pub fn reserved(&self) -> u32
         ensures { result ≡ self.now.reserved }
     {
         self.reserved
     }
 
-    /// What the block says.
+    /// What the block says, by its type.
     pub fn kind(&self) -> &HobKind
         ensures kind { result.now ≡ self.now.kind }
 
@@ -186,27 +192,27 @@ impl Hob {
         &self.kind
     }
 
-    /// The type of the block.
+    /// HobType of the header, 0001 (EFI_HOB_TYPE_HANDOFF) to FFFF (EFI_HOB_TYPE_END_OF_HOB_LIST).
     pub fn code(&self) -> u16
         ensures { result ≡ code_of self.now.kind }
     {
         match &self.kind {
-            HobKind::Handoff(_) => 0x0001,
-            HobKind::MemoryAllocation(_) => 0x0002,
-            HobKind::Resource(_) => 0x0003,
-            HobKind::GuidExtension { .. } => 0x0004,
-            HobKind::FirmwareVolume { .. } => 0x0005,
-            HobKind::Cpu { .. } => 0x0006,
-            HobKind::MemoryPool => 0x0007,
-            HobKind::FirmwareVolume2 { .. } => 0x0009,
-            HobKind::Capsule { .. } => 0x000b,
-            HobKind::Unused { .. } => 0xfffe,
-            HobKind::End => 0xffff,
+            HobKind::Handoff(_) => hob_type::HANDOFF,
+            HobKind::MemoryAllocation(_) => hob_type::MEMORY_ALLOCATION,
+            HobKind::Resource(_) => hob_type::RESOURCE,
+            HobKind::GuidExtension { .. } => hob_type::GUID_EXTENSION,
+            HobKind::FirmwareVolume { .. } => hob_type::FIRMWARE_VOLUME,
+            HobKind::Cpu { .. } => hob_type::CPU,
+            HobKind::MemoryPool => hob_type::MEMORY_POOL,
+            HobKind::FirmwareVolume2 { .. } => hob_type::FIRMWARE_VOLUME2,
+            HobKind::Capsule { .. } => hob_type::CAPSULE,
+            HobKind::Unused { .. } => hob_type::UNUSED,
+            HobKind::End => hob_type::END,
             HobKind::Other { code, .. } => *code,
         }
     }
 
-    /// The length of the block in bytes, its header of 8 among them.
+    /// HobLength of the header: the length of the block in bytes, its header of 8 among them.
     pub fn length(&self) -> u16
         ensures { result ≡ len_of self.now.kind }
     {

@@ -1,16 +1,19 @@
-//! Hand-off block lists: read, written, and asked for the volumes that they name.
+//! Hand-off block (HOB) lists: read, written, and asked for the volumes that they name. (PI
+//! specification, volume 3, section 5.)
 #![tactic(auto)]
 
-pub mod fault;
+mod fault;
 mod fields;
-pub mod hob;
-pub mod list;
-pub mod read;
+mod hob;
+mod hob_type;
+mod layout;
+mod list;
+mod read;
 mod row;
-pub mod span;
+mod span;
 #[cfg(test)]
 mod tests;
-pub mod write;
+mod write;
 
 pub use fault::{HobFault, HobFaultKind};
 pub use hob::{Handoff, Hob, HobKind, MemoryAllocation, Resource};

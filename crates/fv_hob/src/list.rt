@@ -6,8 +6,9 @@ ghost use Rattle.fv_hob.specs.Lists.{IsReadList};
 use crate::hob::Hob;
 use std::marker::Model;
 
-/// A hand-off block list, made by reading alone: a hand-off information table first, and the one
-/// end block last. Contracts see the list of its blocks.
+/// A hand-off block list, made by `read_hobs` alone: a hand-off information table (PHIT) first, and
+/// the one end block last. Contracts see the list of its blocks. (PI specification, volume 3,
+/// section 5.)
 #[derive(Drop)]
 pub struct HobList {
     list: Vec<Hob>,
@@ -34,7 +35,7 @@ impl HobList {
         HobList { list }
     }
 
-    /// The blocks in their order, the end block last.
+    /// The blocks in the order of their bytes, the end block last.
     pub fn as_slice(&self) -> &[Hob]
         ensures blocks { result.now ≡ self.now }
 

@@ -9,21 +9,17 @@ ghost use Rattle.fv_hob.specs.Lists.{IsHobList};
 
 use crate::fault::{HobFault, HobFaultKind};
 use crate::hob::Hob;
+use crate::hob_type;
+use crate::layout::header;
 use crate::list::HobList;
 use crate::row::{has_shape, hob_in};
 use fv_base::field::u16_at;
 use std::alloc::Global;
 
-/// The type of the hand-off information table.
-const HANDOFF: u16 = 0x0001;
-
-/// The type of the end block.
-const END: u16 = 0xffff;
-
 fn is_hob_len(len: usize) -> bool
     ensures { result ≡ is_hob_len len }
 {
-    len >= 8 && len % 8 == 0
+    len >= header::LEN && len % 8 == 0
 }
 
 // The length of the block at the front, or the kind of the first check that does not hold.
@@ -34,18 +30,18 @@ fn check_block(rest: &[u8], first: bool) -> Result<usize, HobFaultKind>
     if rest.is_empty() {
         return Err(HobFaultKind::NoEnd);
     }
-    if rest.len() < 8 {
+    if rest.len() < header::LEN {
         return Err(HobFaultKind::Short);
     }
-    let code = u16_at(rest, 0);
-    let len = usize::from(u16_at(rest, 2));
+    let code = u16_at(rest, header::HOB_TYPE);
+    let len = usize::from(u16_at(rest, header::HOB_LENGTH));
     if !is_hob_len(len) {
         return Err(HobFaultKind::Length);
     }
     if len > rest.len() {
         return Err(HobFaultKind::Short);
     }
-    if first && code != HANDOFF {
+    if first && code != hob_type::HANDOFF {
         return Err(HobFaultKind::First);
     }
     if !has_shape(code, len) {
@@ -81,7 +77,7 @@ fn read_blocks(alloc: Global, bytes: &[u8]) -> Result<(Vec<Hob>, usize), HobFaul
         };
         let hob = hob_in(alloc, block)?;
         at += block.len();
-        let ends = hob.code() == END;
+        let ends = hob.code() == hob_type::END;
         hobs.push(hob)?;
         if ends {
             return Ok((hobs, at));
@@ -89,14 +85,16 @@ fn read_blocks(alloc: Global, bytes: &[u8]) -> Result<(Vec<Hob>, usize), HobFaul
     }
 }
 
-/// The hand-off block list that begins the bytes, and how many bytes it has. (PI specification,
-/// volume 3, section 5.)
+/// Reads the hand-off block list that begins the bytes, up to its first end block
+/// (EFI_HOB_TYPE_END_OF_HOB_LIST), and says how many bytes it has, the end block among them. Bytes
+/// behind it are not read. Any bytes may be handed in. (PI specification, volume 3, section 5.)
 ///
 /// # Errors
 ///
 /// At the first block that has a fault, in this order: NoEnd where no bytes are left, Short where
-/// fewer than 8 are, Length, Short where fewer than the block's length are, First, Shape.
-/// OutOfMemory at 0.
+/// fewer than 8 are, Length (HobLength), Short where fewer than HobLength are, First (HobType of
+/// the first block), Shape (HobLength by HobType). The offset is that of the block's header, in
+/// bytes from the first of `bytes`. OutOfMemory at 0.
 pub fn read_hobs(alloc: Global, bytes: &[u8]) -> Result<(HobList, u64), HobFault>
     // The bytes begin with this list, and it has so many.
     ensures found { IfOk result (λ p. (p.1 ≤ length bytes.now) × IsHobList p.0 (take p.1 bytes.now)) }

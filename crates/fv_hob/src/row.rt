@@ -1,4 +1,4 @@
-//! One block, read by the row of its type.
+//! One block, read by its type. (PI specification, volume 3, section 5.)
 
 ghost use Rattle.std.specs.Prelude.{◌≡◌, ◌≤◌, length, IfOk};
 ghost use Rattle.fv_base.specs.Value.{le_at};
@@ -6,22 +6,25 @@ ghost use Rattle.fv_hob.specs.Hobs.{IsBlock, IsHob, allocation_in, handoff_in, h
 
 use crate::fields::bytes_from;
 use crate::hob::{Handoff, Hob, HobKind, MemoryAllocation, Resource};
+use crate::hob_type;
+use crate::layout::{allocation, cpu, extension, handoff, header, resource, span, volume2};
 use fv_base::field::{field, u16_at, u32_at, u64_at};
 use fv_base::guid_at;
 use std::alloc::{AllocError, Global};
 
-/// Whether a block of this type may have this length.
+/// Whether a block of this HobType may have this HobLength.
 pub fn has_shape(code: u16, len: usize) -> bool
     ensures { result ≡ has_shape code len }
 {
     match code {
-        0x0001 | 0x0009 => len == 56,
-        0x0002 => len >= 48,
-        0x0003 => len == 48,
-        0x0004 => len >= 24,
-        0x0005 | 0x000b => len == 24,
-        0x0006 => len == 16,
-        0x0007 | 0xffff => len == 8,
+        hob_type::HANDOFF => len == handoff::LEN,
+        hob_type::MEMORY_ALLOCATION => len >= allocation::LEAST,
+        hob_type::RESOURCE => len == resource::LEN,
+        hob_type::GUID_EXTENSION => len >= extension::LEAST,
+        hob_type::FIRMWARE_VOLUME | hob_type::CAPSULE => len == span::LEN,
+        hob_type::CPU => len == cpu::LEN,
+        hob_type::FIRMWARE_VOLUME2 => len == volume2::LEN,
+        hob_type::MEMORY_POOL | hob_type::END => len == header::LEN,
         _ => true,
     }
 }
@@ -32,13 +35,13 @@ fn handoff_in(block: &[u8]) -> Handoff
     ensures { result ≡ handoff_in block.now }
 {
     Handoff {
-        version: u32_at(block, 8),
-        boot_mode: u32_at(block, 12),
-        memory_top: u64_at(block, 16),
-        memory_bottom: u64_at(block, 24),
-        free_memory_top: u64_at(block, 32),
-        free_memory_bottom: u64_at(block, 40),
-        end_of_list: u64_at(block, 48),
+        version: u32_at(block, handoff::VERSION),
+        boot_mode: u32_at(block, handoff::BOOT_MODE),
+        memory_top: u64_at(block, handoff::MEMORY_TOP),
+        memory_bottom: u64_at(block, handoff::MEMORY_BOTTOM),
+        free_memory_top: u64_at(block, handoff::FREE_MEMORY_TOP),
+        free_memory_bottom: u64_at(block, handoff::FREE_MEMORY_BOTTOM),
+        end_of_list: u64_at(block, handoff::END_OF_LIST),
     }
 }
 
@@ -48,14 +51,14 @@ fn allocation_in(alloc: Global, block: &[u8]) -> Result<MemoryAllocation, AllocE
     ensures { IfOk result (λ said. said ≡ allocation_in block.now) }
 {
     let mut reserved = [0u8; 4];
-    reserved.copy_from_slice(field(block, 44, 4));
+    reserved.copy_from_slice(field(block, allocation::RESERVED, 4));
     Ok(MemoryAllocation {
-        name: guid_at(block, 8),
-        base: u64_at(block, 24),
-        length: u64_at(block, 32),
-        memory_type: u32_at(block, 40),
+        name: guid_at(block, allocation::NAME),
+        base: u64_at(block, allocation::BASE),
+        length: u64_at(block, allocation::LENGTH),
+        memory_type: u32_at(block, allocation::MEMORY_TYPE),
         reserved,
-        rest: bytes_from(alloc, block, 48)?,
+        rest: bytes_from(alloc, block, allocation::LEAST)?,
     })
 }
 
@@ -65,11 +68,11 @@ fn resource_in(block: &[u8]) -> Resource
     ensures { result ≡ resource_in block.now }
 {
     Resource {
-        owner: guid_at(block, 8),
-        resource_type: u32_at(block, 24),
-        attribute: u32_at(block, 28),
-        start: u64_at(block, 32),
-        length: u64_at(block, 40),
+        owner: guid_at(block, resource::OWNER),
+        resource_type: u32_at(block, resource::RESOURCE_TYPE),
+        attribute: u32_at(block, resource::ATTRIBUTE),
+        start: u64_at(block, resource::START),
+        length: u64_at(block, resource::LENGTH),
     }
 }
 
@@ -79,10 +82,10 @@ fn cpu_in(block: &[u8]) -> HobKind
     ensures { result ≡ kind_by 0x0006 block.now }
 {
     let mut reserved = [0u8; 6];
-    reserved.copy_from_slice(field(block, 10, 6));
+    reserved.copy_from_slice(field(block, cpu::RESERVED, 6));
     HobKind::Cpu {
-        memory_bits: block[8],
-        io_bits: block[9],
+        memory_bits: block[cpu::MEMORY_BITS],
+        io_bits: block[cpu::IO_BITS],
         reserved,
     }
 }
@@ -93,10 +96,10 @@ fn volume2_in(block: &[u8]) -> HobKind
     ensures { result ≡ kind_by 0x0009 block.now }
 {
     HobKind::FirmwareVolume2 {
-        base: u64_at(block, 8),
-        length: u64_at(block, 16),
-        volume_name: guid_at(block, 24),
-        file_name: guid_at(block, 40),
+        base: u64_at(block, span::BASE),
+        length: u64_at(block, span::LENGTH),
+        volume_name: guid_at(block, volume2::VOLUME_NAME),
+        file_name: guid_at(block, volume2::FILE_NAME),
     }
 }
 
@@ -105,33 +108,33 @@ fn kind_in(alloc: Global, block: &[u8]) -> Result<HobKind, AllocError>
     requires { IsBlock block.now }
     ensures { IfOk result (λ kind. kind ≡ kind_by (le_at 0 2 block.now) block.now) }
 {
-    let code = u16_at(block, 0);
+    let code = u16_at(block, header::HOB_TYPE);
     Ok(match code {
-        0x0001 => HobKind::Handoff(handoff_in(block)),
-        0x0002 => HobKind::MemoryAllocation(allocation_in(alloc, block)?),
-        0x0003 => HobKind::Resource(resource_in(block)),
-        0x0004 => HobKind::GuidExtension {
-            name: guid_at(block, 8),
-            payload: bytes_from(alloc, block, 24)?,
+        hob_type::HANDOFF => HobKind::Handoff(handoff_in(block)),
+        hob_type::MEMORY_ALLOCATION => HobKind::MemoryAllocation(allocation_in(alloc, block)?),
+        hob_type::RESOURCE => HobKind::Resource(resource_in(block)),
+        hob_type::GUID_EXTENSION => HobKind::GuidExtension {
+            name: guid_at(block, extension::NAME),
+            payload: bytes_from(alloc, block, extension::LEAST)?,
         },
-        0x0005 => HobKind::FirmwareVolume {
-            base: u64_at(block, 8),
-            length: u64_at(block, 16),
+        hob_type::FIRMWARE_VOLUME => HobKind::FirmwareVolume {
+            base: u64_at(block, span::BASE),
+            length: u64_at(block, span::LENGTH),
         },
-        0x0006 => cpu_in(block),
-        0x0007 => HobKind::MemoryPool,
-        0x0009 => volume2_in(block),
-        0x000b => HobKind::Capsule {
-            base: u64_at(block, 8),
-            length: u64_at(block, 16),
+        hob_type::CPU => cpu_in(block),
+        hob_type::MEMORY_POOL => HobKind::MemoryPool,
+        hob_type::FIRMWARE_VOLUME2 => volume2_in(block),
+        hob_type::CAPSULE => HobKind::Capsule {
+            base: u64_at(block, span::BASE),
+            length: u64_at(block, span::LENGTH),
         },
-        0xfffe => HobKind::Unused {
-            body_len: u16_at(block, 2) - 8,
+        hob_type::UNUSED => HobKind::Unused {
+            body_len: u16_at(block, header::HOB_LENGTH) - header::LEN as u16,
         },
-        0xffff => HobKind::End,
+        hob_type::END => HobKind::End,
         _ => HobKind::Other {
             code,
-            payload: bytes_from(alloc, block, 8)?,
+            payload: bytes_from(alloc, block, header::LEN)?,
         },
     })
 }
@@ -142,5 +145,5 @@ pub fn hob_in(alloc: Global, block: &[u8]) -> Result<Hob, AllocError>
     ensures { IfOk result (λ h. IsHob h block.now) }
 {
     let kind = kind_in(alloc, block)?;
-    Ok(Hob::from_parts(u32_at(block, 4), kind))
+    Ok(Hob::from_parts(u32_at(block, header::RESERVED), kind))
 }

@@ -10,16 +10,16 @@ use crate::list::HobList;
 use std::alloc::Global;
 use std::marker::Model;
 
-/// Where a volume lies.
+/// Where a firmware volume lies. (PI specification, volume 3, section 5.7.)
 #[derive(Clone, Copy, Debug, PartialEq, Eq)]
 pub struct Span {
-    /// Its address.
+    /// BaseAddress: the address of its first byte.
     pub base: u64,
-    /// Its length in bytes.
+    /// Length, in bytes.
     pub length: u64,
 }
 
-/// Where volumes lie. Contracts see the list of their spans.
+/// Where firmware volumes lie, made by `volume_hobs` alone. Contracts see the list of their spans.
 #[derive(Drop)]
 pub struct Spans {
     list: Vec<Span>,
@@ -35,7 +35,7 @@ impl Model for Spans {
 }
 
 impl Spans {
-    /// The spans in their order.
+    /// The spans in the order of the blocks that name them.
     pub fn as_slice(&self) -> &[Span]
         ensures { result.now ≡ self.now }
     {
@@ -44,7 +44,9 @@ impl Spans {
 }
 
 impl Hob {
-    /// Where the volume lies that the block names, or None where it names none.
+    /// Where the volume lies that the block names: that of EFI_HOB_TYPE_FV (0005) and
+    /// EFI_HOB_TYPE_FV2 (0009), and None for every other type. (PI specification, volume 3, section
+    /// 5.7.)
     pub fn span(&self) -> Option<Span>
         ensures { result ≡ span_of self.now.kind }
     {
@@ -59,8 +61,8 @@ impl Hob {
     }
 }
 
-/// Where the volumes of the FV and FV2 blocks lie, in the order of the blocks. (PI specification,
-/// volume 3, section 5.7.)
+/// Where the volumes of the FV and FV2 blocks (EFI_HOB_TYPE_FV, EFI_HOB_TYPE_FV2) lie, in the order
+/// of the blocks, a volume that two blocks name twice. (PI specification, volume 3, section 5.7.)
 ///
 /// # Errors
 ///

@@ -166,8 +166,8 @@ fn list_spelled(alloc: Global, hobs: &[Hob]) -> Result<Vec<u8>, AllocError>
     Ok(bytes)
 }
 
-/// The bytes of a list, those of unused blocks zero behind their headers. (PI specification,
-/// volume 3, section 5.)
+/// The bytes of a list: those that it was read from, but for unused blocks (EFI_HOB_TYPE_UNUSED),
+/// which are zeros behind their headers. (PI specification, volume 3, section 5.)
 ///
 /// # Errors
 ///

@@ -1,4 +1,4 @@
-use Rattle.std.proofs.Common.{refl, sym, subst, drop}
+use Rattle.std.proofs.Common.{refl, sym, subst}
 use Rattle.std.proofs.lemmas.Result.{err_from_is_err_and}
 use Rattle.fv_base.proofs.CheckLemmas.{whatever}
 use Rattle.fv_depex.specs.Checks.{FirstStands, want_of_memory}
@@ -22,4 +22,5 @@ returns-in_err-ops-clause-none c =
 
 pub returns-in_err-rest-clause-memory : goal.returns-in_err-rest-clause-memory
 returns-in_err-rest-clause-memory c =
-    whatever c.from_residual-in_err-rest.result want_of_memory (FirstStands c.args.phase c.args.bytes.now) (spells_first c.args.phase c.args.bytes.now c.in_ok-ops.ops.items (drop c.in_ok-ops.at c.args.bytes.now) c.in_ok-ops.ensures.found.1)
+    whatever c.from_residual-in_err-rest.result want_of_memory (FirstStands c.args.phase c.args.bytes.now)
+    (spells_first c.args.phase c.args.bytes.now c.in_ok-ops.ops.items _ c.in_ok-ops.ensures.found.1)

@@ -1,4 +1,4 @@
-use Rattle.std.proofs.Common.{◌≡◌, ◌∙◌, sym, subst, ap, ◌++◌, ◌∷◌, [], ◌-◌, length, drop, take, arith, rules}
+use Rattle.std.proofs.Common.{◌∙◌, sym, subst, ap, arith, rules}
 use Rattle.std.proofs.lemmas.List.{take_rest}
 use Rattle.fv_base.proofs.CheckLemmas.{whatever}
 use Rattle.fv_depex.specs.Checks.{FirstStands, OpStands, want_of_memory}
@@ -11,24 +11,31 @@ loop-op-init c = kept_none c.args.phase c.args.bytes.now c.new-ops.result.items 
 
 pub loop-op-preserved : goal.loop-op-preserved
 loop-op-preserved c =
-    let items : c.push.new.self.items ≡ c.loop-op.ops.items ++ c.in-Ok.op ∷ [] = search rules in
-    kept c.args.phase c.args.bytes.now c.loop-op.ops.items c.push.new.self.items c.in-Ok.op c.loop-op.at c.op_len-at.result c.loop-op.stage c.stage_after-stage.result c.loop-op.invariant c.in-Ok.ensures.found c.op_len-at.ensures (λ e. c.if-code-eq-END.false (c.code.ensures ∙ e)) items c.stage_after-stage.ensures
+    kept c.args.phase c.args.bytes.now c.loop-op.ops.items c.push.new.self.items c.in-Ok.op c.loop-op.at c.op_len-at.result
+    c.loop-op.stage c.stage_after-stage.result c.loop-op.invariant c.in-Ok.ensures.found c.op_len-at.ensures
+    (λ e. c.if-code-eq-END.false (c.code.ensures ∙ e)) (search rules) c.stage_after-stage.ensures
 
 pub loop-op-smaller : goal.loop-op-smaller
 loop-op-smaller c =
-    let stands = subst (λ l. OpStands c.args.phase c.loop-op.stage c.in-Ok.op l) (take_rest c.args.bytes.now c.loop-op.at) c.in-Ok.ensures.found in
-    let more = one_more c.args.phase c.args.bytes.now c.loop-op.ops.items c.in-Ok.op c.loop-op.at c.op_len-at.result c.loop-op.stage c.loop-op.invariant stands c.op_len-at.ensures in
+    let b = c.args.bytes.now in
+    let at = c.loop-op.at in
+    let stands = subst (λ l. OpStands c.args.phase c.loop-op.stage c.in-Ok.op l) (take_rest b at) c.in-Ok.ensures.found in
+    let more = one_more c.args.phase b c.loop-op.ops.items c.in-Ok.op at c.op_len-at.result c.loop-op.stage
+    c.loop-op.invariant stands c.op_len-at.ensures in
     omega (arith, more.inside, c.op_len-at.ensures)
 
 pub returns-then-code-eq-END-clause-found : goal.returns-then-code-eq-END-clause-found
 returns-then-code-eq-END-clause-found c =
-    let items : c.push.new.self.items ≡ c.loop-op.ops.items ++ c.in-Ok.op ∷ [] = search rules in
-    ended c.args.phase c.args.bytes.now c.loop-op.ops.items c.push.new.self.items c.in-Ok.op c.loop-op.at c.op_len-at.result c.loop-op.stage c.loop-op.invariant c.in-Ok.ensures.found c.op_len-at.ensures (sym c.code.ensures ∙ c.if-code-eq-END.true) items
+    ended c.args.phase c.args.bytes.now c.loop-op.ops.items c.push.new.self.items c.in-Ok.op c.loop-op.at c.op_len-at.result
+    c.loop-op.stage c.loop-op.invariant c.in-Ok.ensures.found c.op_len-at.ensures (sym c.code.ensures ∙ c.if-code-eq-END.true)
+    (search rules)
 
 pub returns-in-Err-clause-memory : goal.returns-in-Err-clause-memory
 returns-in-Err-clause-memory c = λ e.
-    absurd (no_want c.args.phase c.loop-op.stage (take (length c.args.bytes.now - c.loop-op.at) (drop c.loop-op.at c.args.bytes.now)) c.in-Err.kind c.in-Err.ensures.first (ap (λ (f : DepexFault). f.kind) e))
+    absurd (no_want c.args.phase c.loop-op.stage _ c.in-Err.kind c.in-Err.ensures.first (ap (λ (f : DepexFault). f.kind) e))
 
 pub returns-in_err-push-clause-memory : goal.returns-in_err-push-clause-memory
 returns-in_err-push-clause-memory c =
-    whatever c.from_residual.result want_of_memory (FirstStands c.args.phase c.args.bytes.now) (stands_first c.args.phase c.args.bytes.now c.loop-op.ops.items c.in-Ok.op c.loop-op.at c.loop-op.stage c.loop-op.invariant c.in-Ok.ensures.found)
+    whatever c.from_residual.result want_of_memory (FirstStands c.args.phase c.args.bytes.now)
+    (stands_first c.args.phase c.args.bytes.now c.loop-op.ops.items c.in-Ok.op c.loop-op.at c.loop-op.stage
+    c.loop-op.invariant c.in-Ok.ensures.found)
