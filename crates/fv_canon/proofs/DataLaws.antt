@@ -11,7 +11,7 @@ use Rattle.fv_tree.specs.Meaning.{FileMeaning, File, SectionMeaning, Section, co
 use Rattle.fv_canon.specs.Image.{IsData, IsBodyImage, IsFrame, data_of, body_image, frame_of}
 use Rattle.fv_canon.specs.Layouts.{LaysContent, LaysBody}
 use Rattle.fv_canon.proofs.MadeLaws.{data_made, stream_made, sections_made}
-use Rattle.fv_canon.proofs.ReadLaws.{cell_read}
+use Rattle.fv_file.proofs.Laws.{cell_read}
 use Rattle.fv_canon.proofs.StreamLaws.{begun_body}
 
 -- the data of a file that was read and laid out

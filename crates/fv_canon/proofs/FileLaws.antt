@@ -16,7 +16,7 @@ use Rattle.fv_canon.specs.Layouts.{LaysFiles, LaysFile, LaysContent, part_of}
 use Rattle.fv_canon.specs.Stored.{size_of, size_for, head_len_for, file_sum_for, stored_bytes, gap_bytes, files_bytes}
 use Rattle.fv_canon.proofs.MadeLaws.{data_made, stream_made, sections_made, laid_file, moved, behind_is}
 use Rattle.fv_canon.proofs.OneLaws.{follow_length}
-use Rattle.fv_canon.proofs.ReadLaws.{cell_read}
+use Rattle.fv_file.proofs.Laws.{cell_read}
 use Rattle.fv_canon.proofs.StreamLaws.{stream_again}
 use Rattle.fv_canon.proofs.VolumeLaws.{data_again, sections_again}
 use Rattle.fv_canon.specs.Placed.{ArePlaced}

@@ -42,3 +42,4 @@ pub mod UnfitKinds
 pub mod VolumeLaws
 pub mod VolumeWalks
 pub mod WholeLaws
+pub mod WriteLaws

@@ -1,15 +1,8 @@
 -- The laws of lines.
 use Rattle.std.proofs.Common.{◌≡◌, ◌∙◌, ◌≤◌, ◌<◌, ◌+◌, ◌*◌, ◌^◌, ℕ, List, [], ◌∷◌, ◌++◌, length, take, get_or, ap, sym, subst, arith}
-use Rattle.std.proofs.Common.{length-append, append_assoc, append-nil, Bool, true, false}
+use Rattle.std.proofs.Common.{length-append, append_assoc, append-nil}
 use Rattle.std.specs.Prelude.{codes}
-use Rattle.std.specs.Io.KnownBytes.{Appends}
 use Rattle.std.proofs.lemmas.List.{take_more, take_all}
-use Rattle.fv_base.specs.Faults.{outer_fault}
-use Rattle.fv_base.specs.Output.{WriteStops}
-use Rattle.fv_base.specs.Written.{Written, LatchedWrites}
-use Rattle.fv_base.specs.declared.fault.Fault.{Fault}
-use Rattle.fv_base.specs.declared.fault.FaultKind.TheVariants as kinds
-use Rattle.fv_base.proofs.Runs.{front_is}
 use Rattle.fv_tree.specs.declared.difference.Step.{Step}
 use Rattle.fv_canon.specs.Lines.{line_feed, path_text, step_text}
 
@@ -59,25 +52,3 @@ short_line path word count p q =
       p,
       q,
     )
-
--- ---- a line that is written
-
--- all of it, where the sink goes on
-pub line_written : (s t : Written) (line : List ℕ) (on : Bool) → LatchedWrites s true line t on → on ≡ true
-    → Appends s.contents t.contents line
-line_written s t line true wrote is = wrote.0
-line_written s t line false wrote is = let bad : false ≡ true = is in cc
-
--- or a front of it
-pub line_stopped : (s t : Written) (line : List ℕ) (on : Bool) (f : Fault) → LatchedWrites s true line t on → on ≡ false → s.count ≡ 0
-    → t.count < 2 ^ 64 → length line ≤ 553 → f ≡ outer_fault kinds.WriteFault t.count → WriteStops s.contents t.contents line f
-line_stopped s t line true f wrote is zero small short fault = let bad : true ≡ false = is in cc
-line_stopped s t line false f wrote is zero small short fault =
-    let at = front_is s t line zero small (omega (arith, short)) wrote in
-    let offset : f.place.offset ≡ t.count = ap (λ (g : Fault). g.place.offset) fault in
-    record {
-      kind = ap (λ (g : Fault). g.kind) fault;
-      depth = ap (λ (g : Fault). g.place.depth) fault;
-      before_end = subst (λ (n : ℕ). n < length line) (sym offset) at.0;
-      wrote = subst (λ (n : ℕ). Appends s.contents t.contents (take n line)) (sym offset) at.1;
-    }

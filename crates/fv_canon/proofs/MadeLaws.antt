@@ -13,7 +13,8 @@ use Rattle.fv_canon.specs.Layouts.{LaysVolume, LaysFiles, LaysFile, LaysContent,
 use Rattle.fv_canon.specs.Stored.{volume_bytes}
 use Rattle.fv_canon.proofs.OneLaws.{follow_length}
 use Rattle.fv_canon.proofs.SpanLaws.{volume_written}
-use Rattle.fv_canon.proofs.StreamLaws.{StreamsAgain, begun_body, bytes_back, stream_again}
+use Rattle.fv_canon.proofs.StreamLaws.{StreamsAgain, begun_body, stream_again}
+use Rattle.fv_base.proofs.Laws.{bytes_back}
 use Rattle.fv_canon.proofs.VolumeLaws.{known, files_read, sections_again}
 use Rattle.fv_canon.proofs.ReadLaws.{FileRead}
 
@@ -64,7 +65,7 @@ VolumesMade is_volume = (m : Meaning) (b starts more : List ℕ) → IsBytes b �
 pub behind_is : (n : ℕ) (starts here behind more : List ℕ) → starts ≡ here ++ behind → length here ≡ n → drop n (starts ++ more) ≡ behind ++ more
 behind_is n starts here behind more e l = ap (λ (xs : List ℕ). drop n (xs ++ more)) e ∙ ap (drop n) (append_assoc here behind more) ∙ drop_at here (behind ++ more) n l
 
-front_is : (n : ℕ) (starts here behind more : List ℕ) → starts ≡ here ++ behind → length here ≡ n → take n (starts ++ more) ≡ here
+pub front_is : (n : ℕ) (starts here behind more : List ℕ) → starts ≡ here ++ behind → length here ≡ n → take n (starts ++ more) ≡ here
 front_is n starts here behind more e l = ap (λ (xs : List ℕ). take n (xs ++ more)) e ∙ ap (take n) (append_assoc here behind more) ∙ take_at here (behind ++ more) n l
 
 pub moved : (starts here behind more : List ℕ) → starts ≡ here ++ behind → starts ++ more ≡ here ++ (behind ++ more)

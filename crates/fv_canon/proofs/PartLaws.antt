@@ -15,7 +15,8 @@ use Rattle.fv_tree.specs.Denotes.{IsFile, IsMeaning, IsReadFile, Pairs, Stream}
 use Rattle.fv_tree.specs.Files.{FileForm}
 use Rattle.fv_tree.specs.Meaning.{Meaning, Volume, FileMeaning, File, attributes_of, data_len_of, files_list, files_of, head_of}
 use Rattle.fv_canon.specs.Layouts.{part_of}
-use Rattle.fv_canon.proofs.ReadLaws.{FileRead, cell_read}
+use Rattle.fv_file.proofs.Laws.{cell_read}
+use Rattle.fv_canon.proofs.ReadLaws.{FileRead}
 use Rattle.fv_canon.proofs.VolumeLaws.{files_read, first_behind}
 
 -- the data of a file that was read are shorter than a volume may be

@@ -3,7 +3,7 @@ use Rattle.std.proofs.Common.{◌≡◌, ◌≢◌, ◌≤◌, ◌<◌, ◌+◌,
 use Rattle.std.proofs.lemmas.List.{take_at, drop_at, length-take-le, length-replicate}
 use Rattle.fv_base.specs.Value.{IsBytes, le, le_at, le_bytes, field}
 use Rattle.fv_base.proofs.FieldLemmas.{none_at, bytes_cons, bytes_take, bytes_drop, bytes_append, bytes_le_bytes}
-use Rattle.fv_base.proofs.NumberLaws.{bytes_replicate}
+use Rattle.fv_base.proofs.NumberLaws.{bytes_front, bytes_back, bytes_replicate, le_below}
 use Rattle.fv_section.specs.Frames.{FrameForm, head_len, size, IsHeader, Begins, From, Splits, up_to_4}
 use Rattle.fv_section.specs.Written.{FitsForm, section_head_of, stream_of, InPlace}
 use Rattle.fv_section.proofs.FrameLemmas.{length_begun}
@@ -12,40 +12,18 @@ use Rattle.fv_tree.specs.Meaning.{Meaning, SectionMeanings, NoSections, MoreSect
 use Rattle.fv_tree.specs.Denotes.{Sections, Streams, Volumes, Pairs, StreamOver, SectionOver, Opens}
 use Rattle.fv_canon.specs.Image.{IsImage, AreFrames, IsFrame}
 
--- ---- bytes in parts
-pub bytes_front : (a b : List ℕ) → IsBytes (a ++ b) → IsBytes a
-bytes_front a b h = subst IsBytes (take_at a b (length a) refl) (bytes_take (length a) (a ++ b) h)
-
-pub bytes_back : (a b : List ℕ) → IsBytes (a ++ b) → IsBytes b
-bytes_back a b h = subst IsBytes (drop_at a b (length a) refl) (bytes_drop (length a) (a ++ b) h)
-
-pub le_below_3 : (b : List ℕ) → IsBytes b → length b ≡ 3 → le b < 16777216
-le_below_3 [] h e = absurd (omega arith)
-le_below_3 (x ∷ []) h e = absurd (omega arith)
-le_below_3 (x ∷ y ∷ []) h e = absurd (omega arith)
-le_below_3 (x ∷ y ∷ z ∷ []) h e = let a : x < 256 = h 0 in let b : y < 256 = h 1 in let c : z < 256 = h 2 in omega arith
-le_below_3 (x ∷ y ∷ z ∷ w ∷ r) h e = absurd (omega arith)
-
-le_below_4 : (b : List ℕ) → IsBytes b → length b ≡ 4 → le b < 4294967296
-le_below_4 [] h e = absurd (omega arith)
-le_below_4 (x ∷ []) h e = absurd (omega arith)
-le_below_4 (x ∷ y ∷ []) h e = absurd (omega arith)
-le_below_4 (x ∷ y ∷ z ∷ []) h e = absurd (omega arith)
-le_below_4 (x ∷ y ∷ z ∷ w ∷ []) h e = let a : x < 256 = h 0 in let b : y < 256 = h 1 in let c : z < 256 = h 2 in let d : w < 256 = h 3 in omega arith
-le_below_4 (x ∷ y ∷ z ∷ w ∷ v ∷ r) h e = absurd (omega arith)
-
 -- ---- a body that was read fits the form of its header
 fits_form : (extended : Bool) (kind n : ℕ) (h : List ℕ) → IsBytes h → IsHeader extended kind n h → FitsForm extended n
 fits_form false kind n h small is =
     let long : length (field 0 3 h) ≡ 3 = length-take-le 3 h (omega (arith, is.whole)) in
-    let most : le_at 0 3 h < 16777216 = le_below_3 (field 0 3 h) (bytes_take 3 h small) long in
+    let most : le_at 0 3 h < 16777216 = le_below 3 (field 0 3 h) (bytes_take 3 h small) long in
     below (le_at 0 3 h) n is.says.0 is.says.1 most
   where
     below : (v n : ℕ) → v ≡ 4 + n → 4 + n ≢ 0xffffff → v < 16777216 → 4 + n ≤ 0xfffffe
     below v n e d l = omega (arith, e, d, l)
 fits_form true kind n h small is =
     let long : length (field 4 4 h) ≡ 4 = length-take-le 4 (drop 4 h) (room (length (drop 4 h)) (long_drop h is.whole)) in
-    let most : le_at 4 4 h < 4294967296 = le_below_4 (field 4 4 h) (bytes_take 4 (drop 4 h) (bytes_drop 4 h small)) long in
+    let most : le_at 4 4 h < 4294967296 = le_below 4 (field 4 4 h) (bytes_take 4 (drop 4 h) (bytes_drop 4 h small)) long in
     below (le_at 4 4 h) n is.says.1 most
   where
     below : (v n : ℕ) → v ≡ 8 + n → v < 4294967296 → 8 + n ≤ 0xffffffff

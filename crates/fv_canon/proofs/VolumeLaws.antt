@@ -38,9 +38,10 @@ use Rattle.fv_canon.specs.Spans.{Shows}
 use Rattle.fv_canon.specs.Stored.{StoredFile, size_for, head_len_for, stored_part, files_bytes, ext_pad, volume_bytes, volume_spans, used_size}
 use Rattle.fv_canon.proofs.AliveLaws.{names_in, names_of, NamesApart, alive_apart, all_alive, forms_unmarked, no_twins, TopLast, top_last, forms_top, form_names}
 use Rattle.fv_canon.proofs.CellLaws.{Storable, stored_head, length-pad_head}
-use Rattle.fv_canon.proofs.ReadLaws.{FileRead, tiles_read, alive_read}
+use Rattle.fv_canon.proofs.ReadLaws.{FileRead, body_read, alive_read}
 use Rattle.fv_canon.proofs.SpanLaws.{Writable, first_is, volume_shows, length-ext_pad}
-use Rattle.fv_canon.proofs.StreamLaws.{SectionsAgain, section_again, stream_again, StreamsAgain, VolumesAgain, bytes_front, bytes_back}
+use Rattle.fv_canon.proofs.StreamLaws.{SectionsAgain, section_again, stream_again, StreamsAgain, VolumesAgain}
+use Rattle.fv_base.proofs.Laws.{bytes_front, bytes_back}
 use Rattle.fv_canon.proofs.BytesLaws.{bytes_volume}
 use Rattle.fv_canon.proofs.TileLaws.{forms_of, Tiled, body_tiles}
 
@@ -229,7 +230,7 @@ pub files_read : (is_stream : Streams) (h : HeadFields) (files : FileMeanings) (
 files_read is_stream h files b small d =
     let e : Extent = d.extent in
     let body : List ℕ = drop e.first b in
-    let reads = tiles_read e.file_system e.polarity (length body) e.first d.cells body (bytes_drop e.first b small) (omega arith) d.tiles in
+    let reads = body_read e.file_system e.polarity (length body) e.first d.cells body (bytes_drop e.first b small) (omega arith) d.tiles in
     subst (λ (s : FileSystem). AllByRecursion (FileRead s (length body)) d.files) d.front.file_system
     (subst (AllByRecursion (FileRead e.file_system (length body))) (sym d.alive.files_are) (alive_read e.file_system (length body) (files_in d.cells) reads))
 

@@ -17,7 +17,7 @@ use Rattle.fv_tree.specs.Denotes.{IsMeaning, IsSection, Stream}
 use Rattle.fv_canon.specs.Image.{image_of, stored_of, starts_in, starts_in_files, AreStored}
 use Rattle.fv_canon.specs.Layouts.{LaysVolume, LaysFiles, parts_of, part_of}
 use Rattle.fv_canon.specs.Stored.{StoredFile, stored_part, size_for, size_of, used_size, volume_bytes, files_bytes, ext_pad}
-use Rattle.fv_canon.proofs.MadeLaws.{files_made, stream_made, sections_made, behind_is}
+use Rattle.fv_canon.proofs.MadeLaws.{files_made, stream_made, sections_made, front_is, behind_is}
 use Rattle.fv_canon.proofs.OneLaws.{follow_length}
 use Rattle.fv_canon.proofs.SpanLaws.{first_is}
 use Rattle.fv_canon.proofs.StreamLaws.{stream_again}
@@ -28,9 +28,6 @@ use Rattle.fv_canon.specs.Walks.{Begins}
 pub list_from : (fs : List FileMeaning) → files_list (files_from fs) ≡ fs
 list_from [] = refl
 list_from (f ∷ fs) = ap (λ (xs : List FileMeaning). f ∷ xs) (list_from fs)
-
-front_is : (n : ℕ) (starts here behind more : List ℕ) → starts ≡ here ++ behind → length here ≡ n → take n (starts ++ more) ≡ here
-front_is n starts here behind more e l = ap (λ (xs : List ℕ). take n (xs ++ more)) e ∙ ap (take n) (append_assoc here behind more) ∙ take_at here (behind ++ more) n l
 
 -- ---- the used size
 abbrev used_parts : ℕ → List Part → List ℕ → ℕ

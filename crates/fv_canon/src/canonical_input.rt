@@ -13,7 +13,8 @@ use crate::run::whole_volume;
 use fv_base::{Fault, FaultKind};
 use std::alloc::Global;
 
-/// Whether the input is the canonical image of the volume that it is. No image is made.
+/// Whether the input is the canonical image of the volume that it is. No image is made. (PI
+/// specification, volume 3, section 3.2.)
 ///
 /// # Errors
 ///

@@ -20,7 +20,7 @@ use std::alloc::Global;
 use std::io::Write;
 
 /// Puts the canonical image of the view into a sink, in one walk that takes no memory. The layout
-/// has to be that of the view.
+/// has to be that of the view. (PI specification, volume 3, section 3.2.)
 pub fn put_canonical<S: Sink>(view: &VolumeView<'_>, layout: &Layout, out: &mut S)
     requires { IsLayout view.now layout.now }
     ensures { (image : List ℕ) × IsImage view.now image × S.takes out.old image out.new }
@@ -30,7 +30,7 @@ pub fn put_canonical<S: Sink>(view: &VolumeView<'_>, layout: &Layout, out: &mut 
 }
 
 /// Writes the canonical image of the view to a port, in one walk that takes no memory. The
-/// layout has to be that of the view.
+/// layout has to be that of the view. (PI specification, volume 3, section 3.2.)
 ///
 /// # Errors
 ///
@@ -64,7 +64,8 @@ pub fn write_canonical<W: Write>(
     if out.on { Ok(()) } else { Err(out.fault()) }
 }
 
-/// The canonical image of the view. The whole length is reserved first.
+/// The canonical image of the view. The whole length is reserved first. (PI specification, volume
+/// 3, section 3.2.)
 ///
 /// # Errors
 ///

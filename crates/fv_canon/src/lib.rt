@@ -1,23 +1,23 @@
 //! The canonical image of a firmware volume, runs that write it, and a run that compares two volumes.
 #![tactic(auto)]
 
-pub mod canonical_input;
-pub mod compare;
-pub mod headline;
-pub mod image;
-pub mod lay;
-pub mod lines;
+mod canonical_input;
+mod compare;
+mod headline;
+mod image;
+mod lay;
+mod lines;
 mod matching;
-pub mod parts;
+mod parts;
 mod pieces;
 mod place;
 mod put;
-pub mod run;
-pub mod side;
+mod run;
+mod side;
 mod skip;
-pub mod starts;
+mod starts;
 mod sum;
-pub mod whole;
+mod whole;
 
 pub use canonical_input::is_canonical;
 pub use compare::{run_compare, write_comparison};

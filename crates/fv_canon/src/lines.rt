@@ -7,7 +7,7 @@ use fv_base::Sink;
 use fv_tree::{Difference, Step, Word};
 use itoa::Buffer;
 
-/// Puts a number by its decimal digits.
+/// Puts a number by its decimal digits, of which it has at most 20. Takes no memory.
 pub fn put_decimal<S: Sink>(out: &mut S, number: u64)
     ensures text { S.takes out.old (decimal number) out.new }
     ensures short { length (decimal number) ≤ 20 }

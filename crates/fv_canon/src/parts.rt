@@ -14,7 +14,7 @@ use fv_tree::{FileView, SectionView};
 use std::alloc::Global;
 
 /// The data of a file as its volume's canonical image has them. The whole length is reserved
-/// first.
+/// first. (PI specification, volume 3, section 3.2.3.)
 ///
 /// # Errors
 ///
@@ -37,7 +37,7 @@ pub fn file_bytes(alloc: Global, file: &FileView<'_>) -> Result<ByteList, Fault>
 }
 
 /// The body of a section as its volume's canonical image has it. The whole length is reserved
-/// first.
+/// first. (PI specification, volume 3, section 3.2.4.)
 ///
 /// # Errors
 ///

@@ -23,7 +23,7 @@ pub(crate) struct Part {
     pub top: bool,
 }
 
-/// The least multiple of the alignment that is at least `x`.
+// The least multiple of the alignment that is at least `x`.
 pub(crate) fn round_up(x: u64, alignment: u64) -> u64
     requires alignment { IsAlignment alignment }
     requires small { x < 2 ^ 62 }
@@ -36,7 +36,7 @@ pub(crate) fn round_up(x: u64, alignment: u64) -> u64
     (x + mask) & !mask
 }
 
-/// The greatest multiple of the alignment that is at most `x`.
+// The greatest multiple of the alignment that is at most `x`.
 pub(crate) fn round_down(x: u64, alignment: u64) -> u64
     requires { IsAlignment alignment }
     ensures multiple { result % alignment ≡ 0 }
@@ -47,7 +47,7 @@ pub(crate) fn round_down(x: u64, alignment: u64) -> u64
     x & !(alignment - 1)
 }
 
-/// The alignment of a start: that of the data, and at least 8.
+// The alignment of a start: that of the data, and at least 8.
 fn widened(alignment: u64) -> u64
     requires { IsAlignment alignment }
     ensures { Widens result alignment }
@@ -64,7 +64,7 @@ pub(crate) struct Reach {
     pub far: bool,
 }
 
-/// Whether files with this reach can be placed after `edge`.
+// Whether files with this reach can be placed after `edge`.
 fn reaches(behind: Reach, edge: u64) -> bool
     requires { edge < 2 ^ 62 }
     ensures { IsTrue result ↔ Reaches behind edge }
@@ -75,7 +75,7 @@ fn reaches(behind: Reach, edge: u64) -> bool
         || (behind.far && edge + 16 == behind.greatest)
 }
 
-/// Whether the file may start there, files with this reach behind it.
+// Whether the file may start there, files with this reach behind it.
 fn serves(total: u64, part: &Part, behind: Reach, start: u64) -> bool
     requires total { total ≤ volume_limit }
     requires part { IsPart total part.now }
@@ -88,7 +88,7 @@ fn serves(total: u64, part: &Part, behind: Reach, start: u64) -> bool
         && reaches(behind, up_to_8(start + part.size))
 }
 
-/// The first start after `edge`, if there is one.
+// The first start after `edge`, if there is one.
 fn first_start(total: u64, edge: u64, part: &Part, behind: Reach) -> Option<u64>
     requires total { total ≤ volume_limit }
     requires edge { (edge % 8 ≡ 0) × (edge ≤ total) }
@@ -118,7 +118,7 @@ fn first_start(total: u64, edge: u64, part: &Part, behind: Reach) -> Option<u64>
     None
 }
 
-/// The greatest start that serves, if there is one.
+// The greatest start that serves, if there is one.
 fn greatest_start(total: u64, part: &Part, behind: Reach) -> Option<u64>
     requires total { (total ≤ volume_limit) × (total % 8 ≡ 0) }
     requires part { IsPart total part.now }
@@ -155,7 +155,7 @@ fn greatest_start(total: u64, part: &Part, behind: Reach) -> Option<u64>
     None
 }
 
-/// The reach of a file and those behind it.
+// The reach of a file and those behind it.
 fn reach_of(total: u64, part: &Part, behind: Reach) -> Option<Reach>
     requires total { (total ≤ volume_limit) × (total % 8 ≡ 0) }
     requires part { IsPart total part.now }
@@ -173,7 +173,7 @@ fn reach_of(total: u64, part: &Part, behind: Reach) -> Option<Reach>
     })
 }
 
-/// Whether the start that is `by` below `greatest` serves.
+// Whether the start that is `by` below `greatest` serves.
 fn serves_below(total: u64, part: &Part, behind: Reach, greatest: u64, by: u64) -> bool
     requires total { total ≤ volume_limit }
     requires part { IsPart total part.now }
@@ -183,8 +183,8 @@ fn serves_below(total: u64, part: &Part, behind: Reach, greatest: u64, by: u64) 
     by <= greatest && serves(total, part, behind, greatest - by)
 }
 
-/// The reaches of the files from each on, that of no files first and that of all of them last; None
-/// where they cannot be placed at all.
+// The reaches of the files from each on, that of no files first and that of all of them last; None
+// where they cannot be placed at all.
 fn reaches_from(alloc: Global, total: u64, parts: &[Part]) -> Result<Option<Vec<Reach>>, Fault>
     requires total { (total ≤ volume_limit) × (total % 8 ≡ 0) }
     requires parts { All (IsPart total) parts.now }
@@ -212,8 +212,8 @@ fn reaches_from(alloc: Global, total: u64, parts: &[Part]) -> Result<Option<Vec<
     Ok(Some(found))
 }
 
-/// The first placement of the files in a volume of `total` bytes with the first edge `first`; None
-/// where they cannot be placed in their order at all.
+// The first placement of the files in a volume of `total` bytes with the first edge `first`; None
+// where they cannot be placed in their order at all.
 pub(crate) fn first_starts(
     alloc: Global,
     total: u64,
@@ -250,7 +250,7 @@ pub(crate) fn first_starts(
     Ok(Some(starts))
 }
 
-/// Whether the one start of the volume top file is not aligned.
+// Whether the one start of the volume top file is not aligned.
 fn is_off(total: u64, part: &Part) -> bool
     requires total { total ≤ volume_limit }
     requires part { IsPart total part.now }
@@ -260,7 +260,7 @@ fn is_off(total: u64, part: &Part) -> bool
     (start + part.header) % part.alignment != 0 || start % 8 != 0
 }
 
-/// Whether there is a volume top file whose one start, at the volume's end, is not aligned.
+// Whether there is a volume top file whose one start, at the volume's end, is not aligned.
 pub(crate) fn is_top_off(total: u64, parts: &[Part]) -> bool
     requires total { total ≤ volume_limit }
     requires parts { All (IsPart total) parts.now }

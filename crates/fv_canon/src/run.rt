@@ -36,7 +36,7 @@ pub fn whole_volume(alloc: Global, input: &[u8]) -> Result<VolumeView<'_>, Fault
     Ok(view)
 }
 
-/// The canonical image of the volume that the input is.
+/// The canonical image of the volume that the input is. (PI specification, volume 3, section 3.2.)
 ///
 /// # Errors
 ///
@@ -61,11 +61,13 @@ pub fn normalise(alloc: Global, input: &[u8]) -> Result<ByteList, Fault>
 }
 
 /// Writes the canonical image of the volume that the input is. Nothing is written before the
-/// whole input is accepted and laid out, and no image is held.
+/// whole input is accepted and laid out, and no image is held. (PI specification, volume 3, section
+/// 3.2.)
 ///
 /// # Errors
 ///
-/// Those of `normalise`, and then nothing was written; WriteFault at the bytes written.
+/// Those of `normalise`, and then nothing was written. WriteFault at the bytes written: exactly
+/// these bytes of the image were.
 pub fn write_normalised<W: Write>(
     alloc: Global,
     input: &[u8],
@@ -82,7 +84,7 @@ pub fn write_normalised<W: Write>(
 }
 
 /// Reads an input to its end, and then writes the canonical image of the volume that it is. The
-/// input and its view are held, and no image.
+/// input and its view are held, and no image. (PI specification, volume 3, section 3.2.)
 ///
 /// # Errors
 ///

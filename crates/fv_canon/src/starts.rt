@@ -7,7 +7,8 @@ use std::marker::Model;
 /// Where the files of a canonical image stand: the starts of the volume's own files in their order,
 /// and behind them those of the files of the volumes inside it, each volume's own before those of
 /// the volumes inside that one, in the order in which the volumes lie. A start counts bytes from the
-/// start of the file's own volume. Contracts see the two parts.
+/// start of the file's own volume. Contracts see the two parts. (PI specification, volume 3, section
+/// 3.2.3.1.)
 #[derive(Drop)]
 pub struct Layout {
     // All starts.

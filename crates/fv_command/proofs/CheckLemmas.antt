@@ -2,23 +2,19 @@
 use Rattle.std.proofs.Common.{◌≡◌, ◌∙◌, ◌≤◌, ◌<◌, ◌+◌, ◌*◌, ◌^◌, inl, inr, ℕ, List, [], ◌∷◌, ◌++◌, length, take, get_or}
 use Rattle.std.proofs.Common.{refl, sym, ap, subst, arith, append-nil, append_assoc, length-append, Bool, true, false, Option, None, Some}
 use Rattle.std.specs.Prelude.{◌==◌, ◌≢◌, ◌↔◌, ◌⊎◌, not, codes, drop, map, Result, Ok}
-use Rattle.std.specs.Io.KnownBytes.{Appends}
 use Rattle.std.specs.List.{flat_map}
 use Rattle.std.proofs.lemmas.Bool.Decides.{Decides-eqb}
 use Rattle.std.proofs.lemmas.Grind.{flat_map-append}
 use Rattle.std.proofs.lemmas.List.{take_more, map_more}
 use Rattle.std.proofs.lemmas.List.Sums.{count_by_more_no, count_by_more_yes}
-use Rattle.fv_base.specs.Faults.{outer_fault, want_of_memory}
+use Rattle.fv_base.specs.Faults.{want_of_memory}
 use Rattle.fv_base.specs.Flash.{erased_byte}
 use Rattle.fv_base.specs.Guids.{guid_text}
 use Rattle.fv_base.specs.Limits.{volume_limit}
-use Rattle.fv_base.specs.Output.{WriteStops}
-use Rattle.fv_base.specs.Written.{Written, LatchedWrites}
 use Rattle.fv_base.specs.declared.fault.Fault.{Fault}
 use Rattle.fv_base.specs.declared.fault.FaultKind.TheVariants as kinds
 use Rattle.fv_base.specs.declared.flash.Polarity.{Polarity}
 use Rattle.fv_base.specs.declared.guid.Guid.{Guid}
-use Rattle.fv_base.proofs.Runs.{front_is}
 use Rattle.fv_canon.specs.Image.{IsImage}
 use Rattle.fv_canon.specs.Lines.{line_feed}
 use Rattle.fv_canon.specs.Refusals.{IsFirstOfInput, NotRead}
@@ -267,23 +263,8 @@ read_few f read = omega (arith, file_few f, data_short f read)
 
 -- so the lines are short
 pub lines_short : (text cells notes : ℕ) → text ≤ 66 * cells + (102 * notes + 14) → cells ≤ volume_limit
-    → 4 * notes ≤ volume_limit * volume_limit → text < 2 ^ 62
+    → 4 * notes ≤ volume_limit * volume_limit → text < 2 ^ 64
 lines_short text cells notes p q r = omega (arith, p, q, r)
-
--- ---- lines that are written in part
-
-pub lines_stopped : (s t : Written) (text : List ℕ) (on : Bool) (f : Fault) → LatchedWrites s true text t on → on ≡ false → s.count ≡ 0
-    → t.count < 2 ^ 64 → length text < 2 ^ 62 → f ≡ outer_fault kinds.WriteFault t.count → WriteStops s.contents t.contents text f
-lines_stopped s t text true f wrote is zero small short fault = let bad : true ≡ false = is in cc
-lines_stopped s t text false f wrote is zero small short fault =
-    let at = front_is s t text zero small short wrote in
-    let offset : f.place.offset ≡ t.count = ap (λ (g : Fault). g.place.offset) fault in
-    record {
-      kind = ap (λ (g : Fault). g.kind) fault;
-      depth = ap (λ (g : Fault). g.place.depth) fault;
-      before_end = subst (λ (n : ℕ). n < length text) (sym offset) at.0;
-      wrote = subst (λ (n : ℕ). Appends s.contents t.contents (take n text)) (sym offset) at.1;
-    }
 
 -- ---- the kind of a refusal
 

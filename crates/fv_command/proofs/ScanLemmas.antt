@@ -43,14 +43,15 @@ volumes_fit : (b os : List ℕ) (k : ℕ) → AllByRecursion (IsPlace b) os → 
     → k + 64 * length os ≤ length b
 volumes_fit b [] k places apart from l = omega (arith, l)
 volumes_fit b (o ∷ os) k places apart from l =
-    let n : ℕ = places.0.1.0 in
-    let within = volume_within b o n places.0.1.1 in
-    let next = volumes_fit b os (o + n) places.1 apart.1 (behind os apart.0) within.1 in
+    let found : (n : ℕ) × VolumeAt b o n = places.0.1 in
+    let n : ℕ = found.0 in
+    let within = volume_within b o n found.1 in
+    let next = volumes_fit b os (o + n) places.1 apart.1 (behind n found.1 os apart.0) within.1 in
     sum k o n (length os) (length b) from.0 within.0 next
   where
-    behind : (ps : List ℕ) → AllByRecursion (LiesBehind b o) ps → AllByRecursion (λ (p : ℕ). o + places.0.1.0 ≤ p) ps
-    behind [] all = tt
-    behind (p ∷ ps) all = (all.0.1 places.0.1.0 places.0.1.1, behind ps all.1)
+    behind : (n : ℕ) → VolumeAt b o n → (ps : List ℕ) → AllByRecursion (LiesBehind b o) ps → AllByRecursion (λ (p : ℕ). o + n ≤ p) ps
+    behind n at [] all = tt
+    behind n at (p ∷ ps) all = (all.0.1 n at, behind n at ps all.1)
 
     sum : (k o n m whole : ℕ) → k ≤ o → 64 ≤ n → (o + n) + 64 * m ≤ whole → k + 64 * suc m ≤ whole
     sum k o n m whole p q r = omega (arith, p, q, r)

@@ -1,15 +1,9 @@
--- Texts that are put or written one behind the other.
-use Rattle.std.proofs.Common.{◌≡◌, ℕ, ◌+◌, ◌%◌, ◌<◌, ◌≤◌, ◌^◌, Bool, true, false, List, [], ◌∷◌, ◌++◌, length, take, drop, get_or}
-use Rattle.std.proofs.Common.{codes, decimal, sym, ap, subst, arith, append_assoc, append-nil, length-append}
-use Rattle.std.specs.Io.KnownBytes.{Appends}
+-- Texts that are put one behind the other, and how long the line of a fault is.
+use Rattle.std.proofs.Common.{◌≡◌, ℕ, ◌+◌, ◌<◌, ◌≤◌, ◌^◌, List, [], ◌∷◌, ◌++◌, length, drop, get_or}
+use Rattle.std.proofs.Common.{codes, decimal, sym, subst, arith, append_assoc, append-nil, length-append}
 use Rattle.std.proofs.lemmas.Fmt.{length-decimal-le}
-use Rattle.std.proofs.lemmas.List.{drop_more, drop_all, length-take-le}
-use Rattle.fv_base.specs.Faults.{outer_fault}
-use Rattle.fv_base.specs.Output.{WriteStops}
+use Rattle.std.proofs.lemmas.List.{drop_more, drop_all}
 use Rattle.fv_base.specs.Sinks.{WalkLaws}
-use Rattle.fv_base.specs.Written.{Written, WritesFront, LatchedWrites}
-use Rattle.fv_base.specs.declared.fault.Fault.{Fault}
-use Rattle.fv_base.specs.declared.fault.FaultKind.TheVariants as kinds
 use Rattle.fv_canon.specs.Lines.{line_feed}
 use Rattle.fv_command.specs.Lines.{fault_line}
 use Rattle.fv_command.specs.Puts.{Puts}
@@ -58,46 +52,6 @@ pub tells_all : {S X : Type 0} {takes : S → List ℕ → S → Type 0} {Text :
 tells_all {X = X} {Text = Text} {xs = xs} {i = i} none l w =
     let end : Text (drop i xs) [] = subst (λ (ys : List X). Text ys []) (sym (drop_all i xs l)) none in
     (w.text, subst (λ (x : List ℕ). Text xs x) (append-nil w.text) (w.on [] end), w.taken)
-
--- ---- a text that is written
-
--- where a port stopped, the count is how much of the text it holds
-front_is : (s t : Written) (text : List ℕ) → s.count ≡ 0 → t.count < 2 ^ 64 → length text < 2 ^ 64 → WritesFront s text t
-    → (t.count < length text) × Appends s.contents t.contents (take t.count text)
-front_is s t text start small short (n, cut, (front, count), erred) =
-    let part : length (take n text) ≡ n = length-take-le n text (omega (arith, cut)) in
-    let is : t.count ≡ n = same_count s.count t.count n (length text) (length (take n text)) start small short cut part count in
-    (omega (arith, is, cut), subst (λ (k : ℕ). Appends s.contents t.contents (take k text)) (sym is) front)
-  where
-    same_count : (a b n long part : ℕ) → a ≡ 0 → b < 2 ^ 64 → long < 2 ^ 64 → n < long → part ≡ n
-        → b % 2 ^ 64 ≡ (a + part) % 2 ^ 64 → b ≡ n
-    same_count a b n long part start small short cut is count = omega (arith, start, small, short, cut, is, count)
-
--- all of it, where the sink goes on
-pub all_written : (s t : Written) (text : List ℕ) (on : Bool) → LatchedWrites s true text t on → on ≡ true
-    → Appends s.contents t.contents text
-all_written s t text true wrote is = wrote.0
-all_written s t text false wrote is = let bad : false ≡ true = is in cc
-
--- or a front of it
-pub front_written : (s t : Written) (text : List ℕ) (on : Bool) → LatchedWrites s true text t on → on ≡ false
-    → (n : ℕ) × (n < length text) × Appends s.contents t.contents (take n text)
-front_written s t text true wrote is = let bad : true ≡ false = is in cc
-front_written s t text false wrote is = (wrote.0, wrote.1, wrote.2.0)
-
--- of which the fault says how long it is, if that can be counted
-pub some_written : (s t : Written) (text : List ℕ) (on : Bool) (f : Fault) → LatchedWrites s true text t on → on ≡ false → s.count ≡ 0
-    → t.count < 2 ^ 64 → length text < 2 ^ 64 → f ≡ outer_fault kinds.WriteFault t.count → WriteStops s.contents t.contents text f
-some_written s t text true f wrote is start small short fault = let bad : true ≡ false = is in cc
-some_written s t text false f wrote is start small short fault =
-    let at = front_is s t text start small short wrote in
-    let offset : f.place.offset ≡ t.count = ap (λ (g : Fault). g.place.offset) fault in
-    record {
-      kind = ap (λ (g : Fault). g.kind) fault;
-      depth = ap (λ (g : Fault). g.place.depth) fault;
-      before_end = subst (λ (n : ℕ). n < length text) (sym offset) at.0;
-      wrote = subst (λ (n : ℕ). Appends s.contents t.contents (take n text)) (sym offset) at.1;
-    }
 
 -- ---- how long the line of a fault is
 

@@ -44,7 +44,7 @@ pub struct DepexNote {
     pub offset: u64,
 }
 
-/// How many of the bytes are not erased.
+// How many of the bytes are not erased.
 fn written_in(bytes: &[u8], polarity: Polarity) -> u64
     ensures { result ≡ written_in polarity bytes.now }
 {
@@ -59,7 +59,7 @@ fn written_in(bytes: &[u8], polarity: Polarity) -> u64
     count
 }
 
-/// Puts the line of a pad, unless all of its data bytes are erased.
+// Puts the line of a pad, unless all of its data bytes are erased.
 fn put_pad<S: Sink>(out: &mut S, offset: u64, count: u64)
     ensures text { S.takes out.old (pad_line offset count) out.new }
     ensures short { length (pad_line offset count) ≤ 66 }
@@ -74,7 +74,7 @@ fn put_pad<S: Sink>(out: &mut S, offset: u64, count: u64)
     out.put(b" bytes\n");
 }
 
-/// Puts what is noted of a cell.
+// Puts what is noted of a cell.
 fn put_cell<S: Sink>(out: &mut S, cell: &Cell<'_>, polarity: Polarity)
     ensures text { S.takes out.old (pad_note polarity (form_of cell.now)) out.new }
     ensures short { length (pad_note polarity (form_of cell.now)) ≤ 66 }
@@ -89,7 +89,7 @@ fn put_cell<S: Sink>(out: &mut S, cell: &Cell<'_>, polarity: Polarity)
     }
 }
 
-/// Puts what is noted of the cells, in their order.
+// Puts what is noted of the cells, in their order.
 fn put_cells<S: Sink>(out: &mut S, list: &[Cell<'_>], polarity: Polarity)
     ensures text { S.takes out.old (pad_notes polarity (map form_of list.now)) out.new }
     ensures short { length (pad_notes polarity (map form_of list.now)) ≤ 66 * length list.now }
@@ -99,7 +99,7 @@ fn put_cells<S: Sink>(out: &mut S, list: &[Cell<'_>], polarity: Polarity)
     }
 }
 
-/// The phase that reads a section of this type, if it is one of a dependency expression.
+// The phase that reads a section of this type, if it is one of a dependency expression.
 fn phase_of(kind: u8) -> Option<Phase>
     ensures { result ≡ phase_of kind }
 {
@@ -112,7 +112,7 @@ fn phase_of(kind: u8) -> Option<Phase>
     None
 }
 
-/// Notes the fault of an expression, unless it is want of memory.
+// Notes the fault of an expression, unless it is want of memory.
 fn note_fault(notes: &mut Vec<DepexNote>, name: Guid, fault: DepexFault) -> Result<(), Fault>
     ensures ok { OnOk result ((fault.kind ≢ DepexFaultKind.OutOfMemory)
         × (notes.new.items ≡ notes.old.items ++ note_of name fault ∷ [])) }
@@ -131,7 +131,7 @@ fn note_fault(notes: &mut Vec<DepexNote>, name: Guid, fault: DepexFault) -> Resu
     }
 }
 
-/// Reads an expression, and notes its first fault.
+// Reads an expression, and notes its first fault.
 fn note_depex(
     alloc: Global,
     notes: &mut Vec<DepexNote>,
@@ -149,7 +149,7 @@ fn note_depex(
     note_fault(notes, name, fault)
 }
 
-/// Reads the expression that a leaf of this type is, if it is one, and notes its first fault.
+// Reads the expression that a leaf of this type is, if it is one, and notes its first fault.
 fn note_leaf(
     alloc: Global,
     notes: &mut Vec<DepexNote>,
@@ -166,7 +166,7 @@ fn note_leaf(
     }
 }
 
-/// Notes the expressions of a section and of those in it.
+// Notes the expressions of a section and of those in it.
 #[cycle(notes)]
 fn note_section(
     alloc: Global,
@@ -185,7 +185,7 @@ fn note_section(
     }
 }
 
-/// Notes the expressions of some sections and of those in them.
+// Notes the expressions of some sections and of those in them.
 #[cycle(notes)]
 fn note_sections(
     alloc: Global,
@@ -203,7 +203,7 @@ fn note_sections(
     Ok(())
 }
 
-/// Notes the expressions of a file.
+// Notes the expressions of a file.
 fn note_file(alloc: Global, notes: &mut Vec<DepexNote>, file: &FileView<'_>) -> Result<(), Fault>
     ensures ok { OnOk result (Noted (file_depexes file.now) notes.old.items notes.new.items) }
     ensures few { OnOk result (4 * length notes.new.items ≤ 4 * length notes.old.items + volume_limit) }
@@ -217,7 +217,7 @@ fn note_file(alloc: Global, notes: &mut Vec<DepexNote>, file: &FileView<'_>) -> 
     }
 }
 
-/// What is noted of the dependency expressions of a volume's files, in preorder.
+// What is noted of the dependency expressions of a volume's files, in preorder.
 fn depex_notes(alloc: Global, volume: &VolumeView<'_>) -> Result<Vec<DepexNote>, Fault>
     ensures ok { IfOk result (λ notes. AreNotes (depexes_in (files_of volume.now)) notes.items) }
     ensures few { IfOk result (λ notes. 4 * length notes.items ≤ volume_limit * length (files_of volume.now)) }
@@ -231,7 +231,7 @@ fn depex_notes(alloc: Global, volume: &VolumeView<'_>) -> Result<Vec<DepexNote>,
     Ok(notes)
 }
 
-/// Puts the line of a dependency expression that is refused.
+// Puts the line of a dependency expression that is refused.
 fn put_note<S: Sink>(out: &mut S, note: &DepexNote)
     ensures text { S.takes out.old (depex_line note.now) out.new }
     ensures short { length (depex_line note.now) ≤ 102 }
@@ -245,7 +245,7 @@ fn put_note<S: Sink>(out: &mut S, note: &DepexNote)
     out.put(b"\n");
 }
 
-/// Puts the lines of the dependency expressions that are refused.
+// Puts the lines of the dependency expressions that are refused.
 fn put_notes<S: Sink>(out: &mut S, notes: &[DepexNote])
     ensures text { S.takes out.old (depex_lines notes.now) out.new }
     ensures short { length (depex_lines notes.now) ≤ 102 * length notes.now }
@@ -255,7 +255,7 @@ fn put_notes<S: Sink>(out: &mut S, notes: &[DepexNote])
     }
 }
 
-/// Puts whether a volume is its own canonical image.
+// Puts whether a volume is its own canonical image.
 fn put_verdict<S: Sink>(out: &mut S, is_same: bool)
     ensures text { S.takes out.old (verdict_line is_same) out.new }
     ensures short { length (verdict_line is_same) ≤ 14 }
@@ -267,7 +267,7 @@ fn put_verdict<S: Sink>(out: &mut S, is_same: bool)
     }
 }
 
-/// Puts the lines of a check.
+// Puts the lines of a check.
 fn put_check<S: Sink>(
     out: &mut S,
     list: &[Cell<'_>],
@@ -284,7 +284,7 @@ fn put_check<S: Sink>(
     put_verdict(out, is_same);
 }
 
-/// Writes the lines of a check.
+// Writes the lines of a check.
 fn write_lines<W: Write>(
     writer: &mut Port<W>,
     list: &[Cell<'_>],
@@ -309,7 +309,7 @@ fn write_lines<W: Write>(
     if out.on { Ok(()) } else { Err(out.fault()) }
 }
 
-/// The cells of the volume that the input is, and what an erased byte of it holds.
+// The cells of the volume that the input is, and what an erased byte of it holds.
 fn outer_cells(alloc: Global, input: &[u8]) -> Result<(Cells<'_>, Polarity), Fault>
     requires { (m : Meaning) × Accepted input.now m }
     ensures ok { IfOk result (λ r. (m : Meaning) → Accepted input.now m → AreCells m input.now r.1 r.0) }

@@ -18,7 +18,7 @@ use std::io::{Read, Write};
 ///
 /// Done and Different are answered where all of the answer was written: Different of a comparison
 /// of two volumes that differ, of a part that there is not, and of a volume that is not its own
-/// image. Else Refused: an input was refused, or a write failed.
+/// image. Else Refused: an input was refused, memory ran out, or a write failed.
 pub fn run_plan<First: Read, Second: Read, W: Write>(
     alloc: Global,
     plan: &Plan,

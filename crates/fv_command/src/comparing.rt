@@ -16,7 +16,7 @@ use fv_tree::VolumeView;
 use std::alloc::Global;
 use std::io::{Read, Write};
 
-/// The bytes of the input of a side.
+// The bytes of the input of a side.
 fn read_side<R: Read>(
     alloc: Global,
     hex: bool,
@@ -35,7 +35,7 @@ fn read_side<R: Read>(
     }
 }
 
-/// The volume that the bytes of a side are.
+// The volume that the bytes of a side are.
 fn accept_side(alloc: Global, side: Side, bytes: &[u8]) -> Result<VolumeView<'_>, (Side, Fault)>
     ensures ok { IfOk result (λ view. Accepted bytes.now view) }
     ensures err { IfErr result (λ e. (e.0 ≡ side) × VolumeStops bytes.now e.1) }
@@ -46,13 +46,9 @@ fn accept_side(alloc: Global, side: Side, bytes: &[u8]) -> Result<VolumeView<'_>
     }
 }
 
-/// Writes whether the two volumes that the readers give mean the same and, where they do not,
-/// where they first differ. Answers whether they do. The second is read only behind a first that
-/// is a volume.
-///
-/// # Errors
-///
-/// The side that stopped the run, with the fault, as of `run_compare`.
+// Writes whether the two volumes that the readers give mean the same and, where they do not,
+// where they first differ. Answers whether they do. The second is read only behind a first that
+// is a volume. A fault is told with the side that stopped the run, as by `run_compare`.
 fn compare<First: Read, Second: Read, W: Write>(
     alloc: Global,
     hex: bool,

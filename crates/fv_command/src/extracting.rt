@@ -35,7 +35,7 @@ pub enum Extraction<'a> {
     NotSectioned,
 }
 
-/// The body of the section of this type and instance.
+// The body of the section of this type and instance.
 fn section_part<'a>(
     alloc: Global,
     file: &FileView<'a>,

@@ -8,7 +8,7 @@ ghost use Rattle.fv_command.specs.HexPairs.{IsNoPair, IsPair, IsSpoilt, Reads, i
 
 use std::alloc::AllocError;
 
-/// Whether a byte is a tab, a line feed, a carriage return or a space.
+// Whether a byte is a tab, a line feed, a carriage return or a space.
 fn is_space(byte: u8) -> bool
     ensures { result ≡ is_space byte }
 {
@@ -46,8 +46,8 @@ pub fn take_odd(digits: &mut Vec<u8>) -> Option<u8>
     }
 }
 
-/// The value of a digit of either case, or 16 where the byte is none. It has no branch that random
-/// digits would mislead.
+// The value of a digit of either case, or 16 where the byte is none. It has no branch that random
+// digits would mislead.
 fn digit_value(byte: u8) -> u8
     ensures { result ≡ unwrap_or (hex_digit_value byte) 16 }
 {
@@ -64,7 +64,7 @@ fn digit_value(byte: u8) -> u8
     value
 }
 
-/// The byte of two digits, the high one first, or nothing where one of them is no digit.
+// The byte of two digits, the high one first, or nothing where one of them is no digit.
 fn pair_value(high_digit: u8, low_digit: u8) -> Option<u8>
     ensures { MatchOption result (IsNoPair high_digit low_digit) (IsPair high_digit low_digit) }
 {

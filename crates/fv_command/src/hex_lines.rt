@@ -13,7 +13,7 @@ use std::io::Write;
 /// How many bytes a line has.
 const LINE: usize = 32;
 
-/// Puts one line: the digits of the bytes and a line feed.
+// Puts one line: the digits of the bytes and a line feed.
 fn put_line<S: Sink>(out: &mut S, bytes: &[u8])
     requires { length bytes.now ≤ 32 }
     ensures { S.takes out.old (line_text bytes.now) out.new }
@@ -27,7 +27,7 @@ fn put_line<S: Sink>(out: &mut S, bytes: &[u8])
     out.put(b"\n");
 }
 
-/// Puts the last line, unless it is empty.
+// Puts the last line, unless it is empty.
 fn put_last<S: Sink>(out: &mut S, bytes: &[u8])
     requires { length bytes.now ≤ 32 }
     ensures { S.takes out.old (last_text bytes.now) out.new }
@@ -37,7 +37,7 @@ fn put_last<S: Sink>(out: &mut S, bytes: &[u8])
     }
 }
 
-/// Puts bytes at a place of a line.
+// Puts bytes at a place of a line.
 fn place(line: &mut [u8; LINE], at: usize, bytes: &[u8])
     requires { at + length bytes.now ≤ 32 }
     ensures placed { take (at + length bytes.now) line.new ≡ take at line.old ++ bytes.now }
@@ -46,7 +46,7 @@ fn place(line: &mut [u8; LINE], at: usize, bytes: &[u8])
     line[at..at + bytes.len()].copy_from_slice(bytes);
 }
 
-/// The bytes from a place on.
+// The bytes from a place on.
 fn behind(bytes: &[u8], at: usize) -> &[u8]
     requires { at ≤ length bytes.now }
     ensures { result.now ≡ drop at bytes.now }
@@ -80,7 +80,7 @@ impl<S: Sink> HexSink<S> {
         }
     }
 
-    /// Takes a front of the bytes, at most up to the end of the line.
+    // Takes a front of the bytes, at most up to the end of the line.
     fn take_some(&mut self, bytes: &[u8]) -> usize
         requires { 0 < length bytes.now }
         ensures some { 0 < result }
@@ -137,7 +137,7 @@ pub fn put_hex<S: Sink>(below: S, bytes: &[u8]) -> S
     lines.finish()
 }
 
-/// Puts the bytes as they are or as lines of digits, and answers the sink.
+// Puts the bytes as they are or as lines of digits, and answers the sink.
 fn put_shown<S: Sink>(below: S, hex: bool, bytes: &[u8]) -> S
     ensures { (text : List ℕ) × Shows hex bytes.now text × S.takes below text result }
 {

@@ -39,11 +39,7 @@ impl Decoder {
         }
     }
 
-    /// Decodes the digits, which are pairs, and lets them go. The text is wrong where one of the pairs is no byte.
-    ///
-    /// # Errors
-    ///
-    /// AllocError, where no memory is found.
+    // Decodes the digits, which are pairs, and lets them go. The text is wrong where one of the pairs is no byte.
     fn decode(&mut self) -> Result<(), AllocError>
         requires right { self.old.is_wrong ≡ false }
         requires even { vec_len self.old.digits % 2 ≡ 0 }
@@ -62,11 +58,7 @@ impl Decoder {
         Ok(())
     }
 
-    /// Takes a piece of text. Once the text is wrong, it stays so.
-    ///
-    /// # Errors
-    ///
-    /// AllocError, where no memory is found.
+    // Takes a piece of text. Once the text is wrong, it stays so.
     fn take(&mut self, text: &[u8]) -> Result<(), AllocError>
         requires short { length text.now ≤ read_limit }
         requires small { vec_len self.old.bytes ≤ volume_limit }
@@ -88,12 +80,8 @@ impl Decoder {
         Ok(())
     }
 
-    /// The bytes of the whole text.
-    ///
-    /// # Errors
-    ///
-    /// ReadFault at 0, where the text is no even number of digits; else Length at the limit of a
-    /// volume, where it spells more bytes.
+    // The bytes of the whole text. ReadFault at 0, where the text is no even number of digits; else Length at the
+    // limit of a volume, where it spells more bytes.
     fn finish(self) -> Result<Vec<u8>, Fault>
         requires small { vec_len self.bytes ≤ volume_limit }
         requires waiting { vec_len self.digits ≤ 1 }
@@ -117,7 +105,7 @@ impl Decoder {
     }
 }
 
-/// So many zero bytes.
+// So many zero bytes.
 fn zeros(alloc: Global, count: usize) -> Result<Vec<u8>, AllocError>
     ensures { IfOk result (λ v. vec_len v ≡ count) }
 {
@@ -136,7 +124,7 @@ enum Piece {
     Failed,
 }
 
-/// One read, into the front of the chunk.
+// One read, into the front of the chunk.
 fn read_piece<R: Read>(reader: &mut Port<R>, chunk: &mut [u8]) -> Piece
     requires { 0 < length chunk.old }
     ensures piece { ReadsPiece result (R.remaining (inner_of reader.old)) (R.remaining (inner_of reader.new)) chunk.new

@@ -44,8 +44,8 @@ impl From<HobFault> for Refusal {
     }
 }
 
-/// The bytes of the image that the reader gives, where there is a base; none where there is none,
-/// and then nothing is read.
+// The bytes of the image that the reader gives, where there is a base; none where there is none,
+// and then nothing is read.
 fn read_image<R: Read>(
     alloc: Global,
     hex: bool,
@@ -65,7 +65,7 @@ fn read_image<R: Read>(
     }
 }
 
-/// The bytes as an image, where there is a base.
+// The bytes as an image, where there is a base.
 fn image_of(bytes: &[u8], base: Option<u64>) -> Option<Image<'_>>
     ensures { form_of result ≡ image_form base bytes.now }
 {
@@ -75,8 +75,8 @@ fn image_of(bytes: &[u8], base: Option<u64>) -> Option<Image<'_>>
     }
 }
 
-/// Writes the blocks of the hand-off list that the first reader gives. With a base the second
-/// reader gives an image whose first byte has that address.
+// Writes the blocks of the hand-off list that the first reader gives. With a base the second
+// reader gives an image whose first byte has that address.
 fn list_hobs<First: Read, Second: Read, W: Write>(
     alloc: Global,
     hex: bool,

@@ -63,7 +63,7 @@ pub fn standing_of(image: &[u8], base: u64, span: Span) -> Standing
     }
 }
 
-/// What is said of the volume that a block names, if it names one and there is an image.
+// What is said of the volume that a block names, if it names one and there is an image.
 fn word_of(hob: &Hob, image: Option<Image<'_>>) -> &'static str
     ensures { IsWord (form_of image.entry) hob.now result.now }
 {
@@ -73,7 +73,7 @@ fn word_of(hob: &Hob, image: Option<Image<'_>>) -> &'static str
     }
 }
 
-/// Puts a number by four lower-case hexadecimal digits.
+// Puts a number by four lower-case hexadecimal digits.
 fn put_four_digits<S: Sink>(out: &mut S, number: u16)
     ensures { S.takes out.old (four_digits number) out.new }
 {
@@ -85,7 +85,7 @@ fn put_four_digits<S: Sink>(out: &mut S, number: u16)
     out.put(&text);
 }
 
-/// Puts the line of a block, with a word behind it.
+// Puts the line of a block, with a word behind it.
 fn put_hob<S: Sink>(out: &mut S, code: u16, length: u16, word: &str)
     ensures { S.takes out.old (hob_line code length word.now) out.new }
 {
@@ -97,7 +97,7 @@ fn put_hob<S: Sink>(out: &mut S, code: u16, length: u16, word: &str)
     out.put(b"\n");
 }
 
-/// Puts the line of how many bytes a list has.
+// Puts the line of how many bytes a list has.
 fn put_consumed<S: Sink>(out: &mut S, consumed: u64)
     ensures { S.takes out.old (consumed_line consumed) out.new }
 {
@@ -106,7 +106,7 @@ fn put_consumed<S: Sink>(out: &mut S, consumed: u64)
     out.put(b"\n");
 }
 
-/// Puts a line for each block, and how many bytes the list has.
+// Puts a line for each block, and how many bytes the list has.
 fn put_hobs<S: Sink>(out: &mut S, hobs: &[Hob], consumed: u64, image: Option<Image<'_>>)
     ensures { (text : List ℕ) × HobsText (form_of image.entry) hobs.now consumed text × S.takes out.old text out.new }
 {

@@ -16,7 +16,7 @@ use fv_tree::VolumeView;
 use std::alloc::Global;
 use std::io::Write;
 
-/// Puts the canonical image of the view as lines of digits, and answers the sink.
+// Puts the canonical image of the view as lines of digits, and answers the sink.
 fn put_digits<S: Sink>(below: S, view: &VolumeView<'_>, places: &Layout) -> S
     requires { IsLayout view.now places.now }
     ensures { (image : List ℕ) × (text : List ℕ) × IsImage view.now image × IsHexText image text
@@ -27,11 +27,8 @@ fn put_digits<S: Sink>(below: S, view: &VolumeView<'_>, places: &Layout) -> S
     lines.finish()
 }
 
-/// Writes the canonical image of the view as lines of digits.
-///
-/// # Errors
-///
-/// WriteFault at the bytes of text written in this call, where a write fails or takes no byte.
+// Writes the canonical image of the view as lines of digits. WriteFault at the bytes of text written in this call,
+// where a write fails or takes no byte.
 fn write_digits<W: Write>(
     view: &VolumeView<'_>,
     places: &Layout,

@@ -29,7 +29,7 @@ pub fn write_bytes<W: Write>(writer: &mut Port<W>, bytes: &[u8]) -> Result<(), F
     if sink.on { Ok(()) } else { Err(sink.fault()) }
 }
 
-/// Puts the line of a fault, which begins with some words.
+// Puts the line of a fault, which begins with some words.
 fn put_fault<S: Sink>(out: &mut S, words: &[u8], number: u8, offset: u64)
     ensures { S.takes out.old (words.now ++ fault_line number offset) out.new }
 {

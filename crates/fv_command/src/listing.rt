@@ -21,12 +21,12 @@ const FREEFORM_SUBTYPE: u8 = 0x18;
 
 static DIGITS: [u8; 16] = *b"0123456789abcdef";
 
-/// The lower-case digits of a byte.
+// The lower-case digits of a byte.
 fn digits_of(byte: u8) -> [u8; 2] {
     [DIGITS[(byte / 16) as usize], DIGITS[(byte % 16) as usize]]
 }
 
-/// Puts two spaces for each level.
+// Puts two spaces for each level.
 fn put_indent<S: Sink>(out: &mut S, indent: usize)
     ensures { Puts S.takes out.old out.new }
 {
@@ -35,7 +35,7 @@ fn put_indent<S: Sink>(out: &mut S, indent: usize)
     }
 }
 
-/// Puts a number behind a word.
+// Puts a number behind a word.
 fn put_number<S: Sink>(out: &mut S, word: &[u8], number: u64)
     ensures { Puts S.takes out.old out.new }
 {
@@ -43,7 +43,7 @@ fn put_number<S: Sink>(out: &mut S, word: &[u8], number: u64)
     put_decimal(out, number);
 }
 
-/// Puts a byte by its digits behind a word.
+// Puts a byte by its digits behind a word.
 fn put_byte<S: Sink>(out: &mut S, word: &[u8], byte: u8)
     ensures { Puts S.takes out.old out.new }
 {
@@ -51,7 +51,7 @@ fn put_byte<S: Sink>(out: &mut S, word: &[u8], byte: u8)
     out.put(&digits_of(byte));
 }
 
-/// Puts a GUID behind a word.
+// Puts a GUID behind a word.
 fn put_guid<S: Sink>(out: &mut S, word: &[u8], guid: Guid)
     ensures { Puts S.takes out.old out.new }
 {
@@ -59,13 +59,13 @@ fn put_guid<S: Sink>(out: &mut S, word: &[u8], guid: Guid)
     out.put(&guid.text());
 }
 
-/// Whether a 16-bit unit is shown as it is: a printable character of ASCII but the quote and the
-/// backslash.
+// Whether a 16-bit unit is shown as it is: a printable character of ASCII but the quote and the
+// backslash.
 fn is_plain(low: u8, high: u8) -> bool {
     high == 0 && matches!(low, b' '..=b'~') && low != b'"' && low != b'\\'
 }
 
-/// Puts a 16-bit unit of a text, as it is or by its number.
+// Puts a 16-bit unit of a text, as it is or by its number.
 fn put_unit<S: Sink>(out: &mut S, low: u8, high: u8)
     ensures { Puts S.takes out.old out.new }
 {
@@ -78,7 +78,7 @@ fn put_unit<S: Sink>(out: &mut S, low: u8, high: u8)
     out.put(&[b'\\', b'u', first, second, third, fourth]);
 }
 
-/// Puts the 16-bit units of a text.
+// Puts the 16-bit units of a text.
 fn put_units<S: Sink>(out: &mut S, units: &[u8])
     ensures { Puts S.takes out.old out.new }
 {
@@ -89,7 +89,7 @@ fn put_units<S: Sink>(out: &mut S, units: &[u8])
     }
 }
 
-/// Puts the build number of a version section, where the body has the shape of one.
+// Puts the build number of a version section, where the body has the shape of one.
 fn put_version<S: Sink>(out: &mut S, body: &[u8])
     ensures { Puts S.takes out.old out.new }
 {
@@ -99,7 +99,7 @@ fn put_version<S: Sink>(out: &mut S, body: &[u8])
     }
 }
 
-/// Puts the text of a user interface section, where the body has the shape of one.
+// Puts the text of a user interface section, where the body has the shape of one.
 fn put_text<S: Sink>(out: &mut S, body: &[u8])
     ensures { Puts S.takes out.old out.new }
 {
@@ -111,7 +111,7 @@ fn put_text<S: Sink>(out: &mut S, body: &[u8])
     out.put(b"\"");
 }
 
-/// Puts the GUID of a freeform subtype section, where the body has the shape of one.
+// Puts the GUID of a freeform subtype section, where the body has the shape of one.
 fn put_subtype<S: Sink>(out: &mut S, body: &[u8])
     ensures { Puts S.takes out.old out.new }
 {
@@ -121,7 +121,7 @@ fn put_subtype<S: Sink>(out: &mut S, body: &[u8])
     }
 }
 
-/// Puts what is shown of a leaf of this type.
+// Puts what is shown of a leaf of this type.
 fn put_leaf<S: Sink>(out: &mut S, kind: u8, body: &[u8])
     ensures { Puts S.takes out.old out.new }
 {
@@ -133,7 +133,7 @@ fn put_leaf<S: Sink>(out: &mut S, kind: u8, body: &[u8])
     }
 }
 
-/// Puts what is shown of the body of a section: nothing, where it is no leaf.
+// Puts what is shown of the body of a section: nothing, where it is no leaf.
 fn put_shown<S: Sink>(out: &mut S, section: &SectionView<'_>)
     ensures { Puts S.takes out.old out.new }
 {
@@ -143,7 +143,7 @@ fn put_shown<S: Sink>(out: &mut S, section: &SectionView<'_>)
     }
 }
 
-/// Puts the line of a section, which has this number in its stream.
+// Puts the line of a section, which has this number in its stream.
 fn put_section_line<S: Sink>(out: &mut S, section: &SectionView<'_>, number: u64, indent: usize)
     ensures { Puts S.takes out.old out.new }
 {
@@ -160,7 +160,7 @@ fn put_section_line<S: Sink>(out: &mut S, section: &SectionView<'_>, number: u64
     out.put(b"\n");
 }
 
-/// Puts the line of a file, which has this number in its volume.
+// Puts the line of a file, which has this number in its volume.
 fn put_file_line<S: Sink>(out: &mut S, file: &FileView<'_>, number: u64, indent: usize)
     ensures { Puts S.takes out.old out.new }
 {
@@ -173,7 +173,7 @@ fn put_file_line<S: Sink>(out: &mut S, file: &FileView<'_>, number: u64, indent:
     out.put(b"\n");
 }
 
-/// Puts the name of a volume, where its header has one.
+// Puts the name of a volume, where its header has one.
 fn put_name<S: Sink>(out: &mut S, head: &VolumeHead)
     ensures { Puts S.takes out.old out.new }
 {
@@ -183,7 +183,7 @@ fn put_name<S: Sink>(out: &mut S, head: &VolumeHead)
     }
 }
 
-/// Puts the line of a volume.
+// Puts the line of a volume.
 fn put_volume_line<S: Sink>(out: &mut S, volume: &VolumeView<'_>, indent: usize)
     ensures { Puts S.takes out.old out.new }
 {
@@ -230,7 +230,7 @@ fn put_content<S: Sink>(out: &mut S, content: &Content<'_>, indent: usize)
     }
 }
 
-/// Puts the lines of a volume, and of all that it holds.
+// Puts the lines of a volume, and of all that it holds.
 #[cycle(lines)]
 fn put_volume<S: Sink>(out: &mut S, volume: &VolumeView<'_>, indent: usize)
     ensures { Puts S.takes out.old out.new }

@@ -26,7 +26,7 @@ pub fn say<W: Write>(writer: &mut Port<W>, line: &str, status: Status) -> Status
     }
 }
 
-/// Writes the line of a fault, which begins with some words, and answers Refused.
+// Writes the line of a fault, which begins with some words, and answers Refused.
 fn say_fault<W: Write>(writer: &mut Port<W>, words: &[u8], number: u8, offset: u64) -> Status
     ensures status { result ≡ Status.Refused }
 
@@ -40,7 +40,8 @@ fn say_fault<W: Write>(writer: &mut Port<W>, words: &[u8], number: u8, offset: u
     }
 }
 
-/// Writes the line of a fault. After a failed write nothing more is written.
+/// Writes the line `fault N at M` of a fault, with its number and its offset in bytes, and answers
+/// Refused. After a failed write nothing more is written.
 pub fn refuse<W: Write>(writer: &mut Port<W>, fault: Fault) -> Status
     ensures status { result ≡ Status.Refused }
     ensures silent { fault.kind ≡ FaultKind.WriteFault → writer.new ≡ writer.old }
@@ -56,7 +57,7 @@ pub fn refuse<W: Write>(writer: &mut Port<W>, fault: Fault) -> Status
     say_fault(writer, b"", fault.kind.number(), fault.place.offset)
 }
 
-/// Writes the line of a refused hand-off list.
+/// Writes the line `hob fault N at M` of a refused hand-off list, and answers Refused.
 pub fn refuse_hobs<W: Write>(writer: &mut Port<W>, fault: HobFault) -> Status
     ensures status { result ≡ Status.Refused }
 
@@ -68,8 +69,8 @@ pub fn refuse_hobs<W: Write>(writer: &mut Port<W>, fault: HobFault) -> Status
     say_fault(writer, b"hob ", fault.number(), fault.offset)
 }
 
-/// Writes the line of what refuses one of two inputs. Where the output stopped, nothing more is
-/// written.
+/// Writes the line of what refuses one of two inputs, with the side before it, and answers Refused.
+/// Where the output stopped, nothing more is written.
 pub fn refuse_side<W: Write>(writer: &mut Port<W>, side: Side, fault: Fault) -> Status
     ensures status { result ≡ Status.Refused }
     ensures told { SideTells side fault (W.contents (inner_of writer.old)) (W.contents (inner_of writer.new))

@@ -12,7 +12,7 @@ use fv_base::{Fault, Port, Sink, WriteSink};
 use fv_head::verify_fv;
 use std::io::Write;
 
-/// The bytes from a place on.
+// The bytes from a place on.
 fn behind(bytes: &[u8], at: usize) -> &[u8]
     requires { at ≤ length bytes.now }
     ensures { result.now ≡ drop at bytes.now }
@@ -20,7 +20,7 @@ fn behind(bytes: &[u8], at: usize) -> &[u8]
     &bytes[at..]
 }
 
-/// Puts a line for each volume.
+// Puts a line for each volume.
 fn put_volumes<S: Sink>(out: &mut S, input: &[u8], offsets: &[u64])
     requires { Found input.now offsets.now }
     ensures { (text : List ℕ) × ScanText input.now offsets.now text × S.takes out.old text out.new }

@@ -17,7 +17,7 @@ pub enum Status {
 }
 
 impl Status {
-    /// The exit status of the process.
+    /// The exit status of the process: 0 of Done, 1 of Different, 2 of Refused, 3 of WrongWords.
     pub fn code(self) -> u8
         ensures { result ≡ code_of self }
     {

@@ -24,7 +24,7 @@ use fv_tree::read_volume;
 use std::alloc::Global;
 use std::io::{Read, Write};
 
-/// Writes the canonical image of the volume that the input is.
+// Writes the canonical image of the volume that the input is.
 fn normalise<W: Write>(
     alloc: Global,
     hex: bool,
@@ -42,8 +42,8 @@ fn normalise<W: Write>(
     Ok(Status::Done)
 }
 
-/// Writes the input with each volume in it replaced by its canonical image. Nothing is written
-/// before the whole result is made.
+// Writes the input with each volume in it replaced by its canonical image. Nothing is written
+// before the whole result is made.
 fn normalise_all<W: Write>(
     alloc: Global,
     hex: bool,
@@ -62,7 +62,7 @@ fn normalise_all<W: Write>(
     Ok(Status::Done)
 }
 
-/// Writes what the volume holds that the input begins with.
+// Writes what the volume holds that the input begins with.
 fn list<W: Write>(alloc: Global, input: &[u8], writer: &mut Port<W>) -> Result<Status, Fault>
     ensures ok { (hex : Bool) → IfOk result (SaysInput Task.List hex input.now
         (seen (W.contents (inner_of writer.old)) (has_erred writer.old))
@@ -76,7 +76,7 @@ fn list<W: Write>(alloc: Global, input: &[u8], writer: &mut Port<W>) -> Result<S
     Ok(Status::Done)
 }
 
-/// Writes what an extraction came to: bytes, or that there are none.
+// Writes what an extraction came to: bytes, or that there are none.
 fn write_part<W: Write>(
     writer: &mut Port<W>,
     hex: bool,
@@ -108,7 +108,7 @@ fn write_part<W: Write>(
     }
 }
 
-/// Writes a part of the volume that the input begins with.
+// Writes a part of the volume that the input begins with.
 fn extract_part<W: Write>(
     alloc: Global,
     hex: bool,
@@ -128,7 +128,7 @@ fn extract_part<W: Write>(
     write_part(writer, hex, &extraction)
 }
 
-/// Writes whether the input is a canonical image, and the notes of it.
+// Writes whether the input is a canonical image, and the notes of it.
 fn check<W: Write>(alloc: Global, input: &[u8], writer: &mut Port<W>) -> Result<Status, Fault>
     ensures ok { (hex : Bool) → IfOk result (SaysInput Task.Check hex input.now
         (seen (W.contents (inner_of writer.old)) (has_erred writer.old))
@@ -144,7 +144,7 @@ fn check<W: Write>(alloc: Global, input: &[u8], writer: &mut Port<W>) -> Result<
     }
 }
 
-/// Writes where volumes stand in the input.
+// Writes where volumes stand in the input.
 fn scan<W: Write>(alloc: Global, input: &[u8], writer: &mut Port<W>) -> Result<Status, Fault>
     ensures ok { (hex : Bool) → IfOk result (SaysInput Task.Scan hex input.now
         (seen (W.contents (inner_of writer.old)) (has_erred writer.old))
@@ -158,7 +158,7 @@ fn scan<W: Write>(alloc: Global, input: &[u8], writer: &mut Port<W>) -> Result<S
     Ok(Status::Done)
 }
 
-/// Writes what the task says of the input.
+// Writes what the task says of the input.
 fn perform<W: Write>(
     alloc: Global,
     task: &Task,
@@ -183,7 +183,7 @@ fn perform<W: Write>(
     }
 }
 
-/// Reads an input to its end, and writes what the task says of it.
+// Reads an input to its end, and writes what the task says of it.
 fn read_and_perform<R: Read, W: Write>(
     alloc: Global,
     task: &Task,

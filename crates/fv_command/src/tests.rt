@@ -31,7 +31,7 @@ use std::test::Fail;
 
 const STEPS: [usize; 3] = [1, 3, 65_536];
 
-/// Whether the text is read as the bytes, whatever its reader gives at once.
+// Whether the text is read as the bytes, whatever its reader gives at once.
 fn is_read_as(alloc: Global, text: &[u8], bytes: &[u8]) -> bool {
     for step in STEPS {
         for is_interrupted in [false, true] {
@@ -45,7 +45,7 @@ fn is_read_as(alloc: Global, text: &[u8], bytes: &[u8]) -> bool {
     true
 }
 
-/// Whether the reading of text stops with the fault.
+// Whether the reading of text stops with the fault.
 fn stops_with<R: Read + Drop>(alloc: Global, reader: R, fault: Fault) -> bool {
     match read_hex(alloc, &mut Port::new(reader)) {
         Ok(_) => false,
@@ -84,7 +84,7 @@ fn reads_text(rt: HostRuntime) {
     }
 }
 
-/// Whether the text is refused, whatever its reader gives at once.
+// Whether the text is refused, whatever its reader gives at once.
 fn is_wrong(alloc: Global, text: &[u8]) -> bool {
     let fault = Fault::outer(FaultKind::ReadFault, 0);
     for step in STEPS {
@@ -112,7 +112,7 @@ const THREE_LINES_AND_2_BYTES: &[u8] = b"\
 0abc\n\
 ";
 
-/// Whether two pieces of bytes are written as lines of digits.
+// Whether two pieces of bytes are written as lines of digits.
 fn writes_pieces(port: &mut Port<FakeWriter>, pieces: (&[u8], &[u8])) -> bool {
     let sink = WriteSink {
         port,
@@ -144,7 +144,7 @@ fn writes_lines(rt: HostRuntime) {
     }
 }
 
-/// How a run ends that says that its words are wrong.
+// How a run ends that says that its words are wrong.
 fn closed_after(alloc: Global, inner: &mut FakeWriter) -> Result<Status, Fail> {
     let mut writer = Port::new(BufWriter::new(alloc, inner)?);
     let status = say(&mut writer, "wrong words\n", Status::WrongWords);

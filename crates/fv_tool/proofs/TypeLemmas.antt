@@ -18,5 +18,5 @@ no_plus (d ∷ ds) h = go (d == 43) refl
 pub small : (text : List ℕ) → IsNumeral 16 text → length text ≤ 2 → digits_value 16 text < 2 ^ 8
 small [] h short = absurd (omega (arith, h.0))
 small (a ∷ []) h short = omega (arith, h.1.0)
-small (a ∷ b ∷ []) h short = omega (arith, h.1.0, h.1.1.0)
+small (a ∷ b ∷ []) h short = let digits = h.1 in omega (arith, digits.0, digits.1.0)
 small (a ∷ b ∷ d ∷ ds) h short = absurd (omega arith)

@@ -22,7 +22,7 @@ use std::rt::{Env, Files};
 use std::{env, io};
 use words::{WordFault, parse_words};
 
-/// The words that the program was started with.
+// The words that the program was started with.
 fn arguments<R: Env + AllocGlobal>(rt: &R) -> Result<Vec<String>, WordFault> {
     let mut words = Vec::new(rt.alloc());
     for word in env::args(rt)? {
@@ -33,7 +33,7 @@ fn arguments<R: Env + AllocGlobal>(rt: &R) -> Result<Vec<String>, WordFault> {
     Ok(words)
 }
 
-/// Runs a plan over its files, or over standard input.
+// Runs a plan over its files, or over standard input.
 fn run_over_inputs<R: Files + Input + AllocGlobal, W: Write>(
     rt: &R,
     plan: &Plan,
@@ -60,7 +60,7 @@ fn run_over_inputs<R: Files + Input + AllocGlobal, W: Write>(
     )
 }
 
-/// Tells that words are wrong, or that no memory was found for them.
+// Tells that words are wrong, or that no memory was found for them.
 fn refuse_words<W: Write>(writer: &mut Port<W>, fault: WordFault) -> Status
     ensures status { (result ≡ status_of fault) ⊎ (result ≡ Status.Refused) }
 
@@ -74,7 +74,7 @@ fn refuse_words<W: Write>(writer: &mut Port<W>, fault: WordFault) -> Status
     }
 }
 
-/// Does what the words ask for, or tells why they are refused.
+// Does what the words ask for, or tells why they are refused.
 fn run_given<R: Files + Input + AllocGlobal, W: Write>(
     rt: &R,
     words: Result<Vec<String>, WordFault>,

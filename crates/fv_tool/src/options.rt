@@ -33,7 +33,7 @@ impl From<clap::Error> for WordFault {
     }
 }
 
-/// A flag of this name.
+// A flag of this name.
 fn flag<'a>(alloc: Global, name: &'static str) -> Arg<'a>
     ensures rule { rule_of result ≡ flag_rule name.now }
     ensures local { result.global ≡ false }
@@ -41,7 +41,7 @@ fn flag<'a>(alloc: Global, name: &'static str) -> Arg<'a>
     Arg::new(alloc, name).long(name).action(ArgAction::SetTrue)
 }
 
-/// An option of this name, with one value.
+// An option of this name, with one value.
 fn text_option<'a>(alloc: Global, name: &'static str) -> Arg<'a>
     ensures rule { rule_of result ≡ option_rule name.now }
     ensures local { result.global ≡ false }
@@ -49,7 +49,7 @@ fn text_option<'a>(alloc: Global, name: &'static str) -> Arg<'a>
     Arg::new(alloc, name).long(name)
 }
 
-/// The address of an image's first byte.
+// The address of an image's first byte.
 fn base_option<'a>(alloc: Global) -> Arg<'a>
     ensures rule { rule_of result ≡ base_rule }
     ensures local { result.global ≡ false }
@@ -57,7 +57,7 @@ fn base_option<'a>(alloc: Global) -> Arg<'a>
     text_option(alloc, "base").value_parser(value_parser!(u64))
 }
 
-/// Which of the sections of a type is written.
+// Which of the sections of a type is written.
 fn instance_option<'a>(alloc: Global) -> Arg<'a>
     ensures rule { rule_of result ≡ instance_rule }
     ensures local { result.global ≡ false }
@@ -65,21 +65,21 @@ fn instance_option<'a>(alloc: Global) -> Arg<'a>
     text_option(alloc, "instance").value_parser(value_parser!(u32))
 }
 
-/// The words of a command with the flag that inputs and outputs are text.
+// The words of a command with the flag that inputs and outputs are text.
 fn flag_words<'a>(alloc: Global) -> Result<clap::Command<'a>, AllocError>
     ensures { IfOk result (λ c. app_of c ≡ flag_app) }
 {
     clap::Command::new(alloc, "fvtool").arg(flag(alloc, "hex"))
 }
 
-/// The words of a command with one input.
+// The words of a command with one input.
 fn one_input_words<'a>(alloc: Global) -> Result<clap::Command<'a>, AllocError>
     ensures { IfOk result (λ c. app_of c ≡ one_input_app) }
 {
     flag_words(alloc)?.arg(Arg::new(alloc, "file"))
 }
 
-/// The words of `normalise`, with the flag that all volumes of an image are meant.
+// The words of `normalise`, with the flag that all volumes of an image are meant.
 fn normalise_words<'a>(alloc: Global) -> Result<clap::Command<'a>, AllocError>
     ensures { IfOk result (λ c. app_of c ≡ normalise_app) }
 {
@@ -88,7 +88,7 @@ fn normalise_words<'a>(alloc: Global) -> Result<clap::Command<'a>, AllocError>
         .arg(Arg::new(alloc, "file"))
 }
 
-/// The words of `hobs`. That an image and a base come together is looked at behind the reading.
+// The words of `hobs`. That an image and a base come together is looked at behind the reading.
 fn hobs_words<'a>(alloc: Global) -> Result<clap::Command<'a>, AllocError>
     ensures { IfOk result (λ c. app_of c ≡ hobs_app) }
 {
@@ -98,7 +98,7 @@ fn hobs_words<'a>(alloc: Global) -> Result<clap::Command<'a>, AllocError>
         .arg(Arg::new(alloc, "file"))
 }
 
-/// The words of `extract`. That a file is named is looked at behind the reading.
+// The words of `extract`. That a file is named is looked at behind the reading.
 fn extract_words<'a>(alloc: Global) -> Result<clap::Command<'a>, AllocError>
     ensures { IfOk result (λ c. app_of c ≡ extract_app) }
 {
@@ -109,8 +109,8 @@ fn extract_words<'a>(alloc: Global) -> Result<clap::Command<'a>, AllocError>
         .arg(Arg::new(alloc, "file"))
 }
 
-/// The words of `compare`, which has two inputs. That both are named is looked at behind the
-/// reading.
+// The words of `compare`, which has two inputs. That both are named is looked at behind the
+// reading.
 fn compare_words<'a>(alloc: Global) -> Result<clap::Command<'a>, AllocError>
     ensures { IfOk result (λ c. app_of c ≡ compare_app) }
 {
@@ -119,7 +119,7 @@ fn compare_words<'a>(alloc: Global) -> Result<clap::Command<'a>, AllocError>
         .arg(Arg::new(alloc, "second"))
 }
 
-/// The word of an argument, if it was given.
+// The word of an argument, if it was given.
 fn file_of(
     alloc: Global,
     matches: &ArgMatches<'_>,
@@ -133,7 +133,7 @@ fn file_of(
     }
 }
 
-/// The flag and the file of a command with one input.
+// The flag and the file of a command with one input.
 fn one_input(alloc: Global, words: &[String]) -> Result<(bool, Option<String>), WordFault>
     ensures hex { IfOk result (λ r. r.0 ≡ has_flag (codes "--hex") (drop 1 (map string_bytes words.now))) }
     ensures file { IfOk result (λ r. IsFile (text_in one_input_app (codes "file")
@@ -147,7 +147,7 @@ fn one_input(alloc: Global, words: &[String]) -> Result<(bool, Option<String>), 
     Ok((matches.get_flag("hex"), file_of(alloc, &matches, "file")?))
 }
 
-/// The task of `normalise`: with the flag all volumes of an image are meant.
+// The task of `normalise`: with the flag all volumes of an image are meant.
 fn normalise_task(all: bool) -> Task
     ensures all { all ≡ true → result ≡ Task.NormaliseAll }
     ensures one { all ≡ false → result ≡ Task.Normalise }
@@ -159,7 +159,7 @@ fn normalise_task(all: bool) -> Task
     }
 }
 
-/// A volume, or an image with all its volumes.
+// A volume, or an image with all its volumes.
 fn normalise(alloc: Global, words: &[String]) -> Result<Plan, WordFault>
     ensures asked { IfOk result (AsksBy (codes "normalise") (drop 1 (map string_bytes words.now))) }
 
@@ -173,7 +173,7 @@ fn normalise(alloc: Global, words: &[String]) -> Result<Plan, WordFault>
     Ok(single(task, (matches.get_flag("hex"), file)))
 }
 
-/// The image that was named, with its base: one without the other is wrong.
+// The image that was named, with its base: one without the other is wrong.
 fn image_of(alloc: Global, matches: &ArgMatches<'_>) -> Result<Option<ImageFile>, WordFault>
     ensures { IfOk result (IsImage (first_value (found_of matches.now) (codes "image"))
         (one_text (found_of matches.now) (codes "base"))) }
@@ -188,7 +188,7 @@ fn image_of(alloc: Global, matches: &ArgMatches<'_>) -> Result<Option<ImageFile>
     }
 }
 
-/// A list, and the image that its volumes are looked for in.
+// A list, and the image that its volumes are looked for in.
 fn hobs(alloc: Global, words: &[String]) -> Result<Plan, WordFault>
     ensures { IfOk result (AsksBy (codes "hobs") (drop 1 (map string_bytes words.now))) }
 {
@@ -202,7 +202,7 @@ fn hobs(alloc: Global, words: &[String]) -> Result<Plan, WordFault>
     })
 }
 
-/// The type of a section that a text names: one or two hexadecimal digits, of either case.
+// The type of a section that a text names: one or two hexadecimal digits, of either case.
 fn section_type(text: &str) -> Option<u8>
     ensures { SomeIff result (IsNumeral 16 text.now × (length text.now ≤ 2)) (digits_value 16 text.now) }
 {
@@ -215,7 +215,7 @@ fn section_type(text: &str) -> Option<u8>
     }
 }
 
-/// The type of the section that was named, if one was.
+// The type of the section that was named, if one was.
 fn section_of(matches: &ArgMatches<'_>) -> Result<Option<u8>, WordFault>
     ensures { IfOk result (IsSectionType (first_value (found_of matches.now) (codes "section"))) }
 {
@@ -228,15 +228,15 @@ fn section_of(matches: &ArgMatches<'_>) -> Result<Option<u8>, WordFault>
     }
 }
 
-/// Which of the sections of a type was asked for: the first where none was.
+// Which of the sections of a type was asked for: the first where none was.
 fn instance_of(matches: &ArgMatches<'_>) -> u32
     ensures { IsInstance (one_text (found_of matches.now) (codes "instance")) result }
 {
     matches.get_one::<u32>("instance").unwrap_or(1)
 }
 
-/// The part of a volume that was named: the file by its GUID, and the first section of a type where
-/// no other was asked for.
+// The part of a volume that was named: the file by its GUID, and the first section of a type where
+// no other was asked for.
 fn part_of(matches: &ArgMatches<'_>) -> Result<Part, WordFault>
     ensures { IfOk result (IsPartBy (first_value (found_of matches.now) (codes "name"))
         (first_value (found_of matches.now) (codes "section")) (one_text (found_of matches.now) (codes "instance"))) }
@@ -254,7 +254,7 @@ fn part_of(matches: &ArgMatches<'_>) -> Result<Part, WordFault>
     })
 }
 
-/// A volume, and the part of it that is written.
+// A volume, and the part of it that is written.
 fn extract(alloc: Global, words: &[String]) -> Result<Plan, WordFault>
     ensures { IfOk result (AsksBy (codes "extract") (drop 1 (map string_bytes words.now))) }
 {
@@ -268,7 +268,7 @@ fn extract(alloc: Global, words: &[String]) -> Result<Plan, WordFault>
     })
 }
 
-/// The two files that are compared: both have to be named.
+// The two files that are compared: both have to be named.
 fn compare(alloc: Global, words: &[String]) -> Result<Plan, WordFault>
     ensures { IfOk result (AsksBy (codes "compare") (drop 1 (map string_bytes words.now))) }
 {
@@ -285,7 +285,7 @@ fn compare(alloc: Global, words: &[String]) -> Result<Plan, WordFault>
     }
 }
 
-/// The plan of a task over one input.
+// The plan of a task over one input.
 fn single(task: Task, given: (bool, Option<String>)) -> Plan
     ensures hex { result.hex ≡ given.0 }
     ensures command { result.command ≡ Command.Single task given.1 }

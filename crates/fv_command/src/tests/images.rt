@@ -1,30 +1,46 @@
 //! The images of volumes that others made.
 
 use super::runs::is_told;
-use super::spelling::bytes_of;
+use super::spelling::{bytes_of, number_of};
 use super::volumes::{long, row_of, volumes};
-use fv_base::{FaultKind, Port};
+use fv_base::{Fault, FaultKind, Port};
 use fv_canon::{Layout, canonical, is_canonical, layout, normalise, write_canonical};
 use fv_tree::{VolumeView, read_volume};
 use std::alloc::Global;
 
-/// Whether the volume of a line has its image, and is told from it.
+// Whether the bytes are the image of the volume, which is its own image or another.
+fn is_image_of(alloc: Global, volume: &[u8], image: &[u8], is_own: bool) -> bool {
+    match normalise(alloc, volume) {
+        Ok(answer) => {
+            answer.as_slice() == image
+                && is_canonical(alloc, volume) == Ok(is_own)
+                && is_canonical(alloc, image) == Ok(true)
+        }
+        Err(_) => false,
+    }
+}
+
+// Whether the volume of a line has its image, and is told from it.
 fn has_image(alloc: Global, line: &str) -> Option<bool> {
     let (_, text, other) = row_of(line)?;
     let volume = bytes_of(alloc, text)?;
     let image = bytes_of(alloc, other.unwrap_or(text))?;
-    let answer = normalise(alloc, &volume).ok()?;
-    let is_told = is_canonical(alloc, &volume) == Ok(other.is_none());
-    let is_own = is_canonical(alloc, &image) == Ok(true);
-    Some(answer.as_slice() == image.as_slice() && is_told && is_own)
+    Some(is_image_of(alloc, &volume, &image, other.is_none()))
 }
 
-/// Whether a run writes the image of the volume of a line.
-fn writes_image(alloc: Global, line: &str) -> Option<bool> {
+// The run that writes the image of the volume of a line.
+fn run_of(alloc: Global, line: &str) -> Option<String> {
     let (_, text, other) = row_of(line)?;
     let image = other.unwrap_or(text);
-    let run = format!(in alloc; "normalise: {text} -> 0 ={image}").ok()?;
-    is_told(alloc, run.as_str())
+    format!(in alloc; "normalise: {text} -> 0 ={image}").ok()
+}
+
+// Whether a run writes the image of the volume of a line.
+fn writes_image(alloc: Global, line: &str) -> bool {
+    match run_of(alloc, line) {
+        Some(run) => is_told(alloc, run.as_str()),
+        None => false,
+    }
 }
 
 #[test]
@@ -35,21 +51,33 @@ fn volumes_have_their_images(rt: HostRuntime) {
         }
     }
     for line in volumes().lines() {
-        assert!(rt; writes_image(rt.alloc(), line) == Some(true), "{line}");
+        assert!(rt; writes_image(rt.alloc(), line), "{line}");
     }
 }
 
-/// Whether the volume of a line has no image, by a fault of this number and depth, and is not canonical.
-fn is_unplaced(alloc: Global, line: &str) -> Option<bool> {
-    let (name, number, depth) = row_of(line)?;
-    let volume = bytes_of(alloc, name)?;
-    let fault = normalise(alloc, &volume).err()?;
-    let is_there = fault.place.offset == 0 && fault.place.depth == depth?.parse().ok()?;
-    let is_kind = fault.kind.number() == number.parse().ok()?;
-    Some(is_there && is_kind && is_canonical(alloc, &volume) == Ok(false))
+// Whether the volume has no image, by a fault of this number and depth, and is not canonical.
+fn does_not_fit(alloc: Global, volume: &[u8], number: u64, depth: u64) -> bool {
+    match normalise(alloc, volume) {
+        Ok(_) => false,
+        Err(fault) => {
+            fault.place.offset == 0
+                && u64::from(fault.place.depth) == depth
+                && u64::from(fault.kind.number()) == number
+                && is_canonical(alloc, volume) == Ok(false)
+        }
+    }
 }
 
-/// Volumes that have no image, with the number of the fault and the depth of the volume that does not fit.
+// Whether the volume of a line does not fit as it tells.
+fn is_unplaced(alloc: Global, line: &str) -> Option<bool> {
+    let (name, number, depth) = row_of(line)?;
+    let number = number_of(number)?;
+    let depth = number_of(depth?)?;
+    let volume = bytes_of(alloc, name)?;
+    Some(does_not_fit(alloc, &volume, number, depth))
+}
+
+// Volumes that have no image, with the number of the fault and the depth of the volume that does not fit.
 fn unfit() -> &'static str {
     "\
     ext-header-without-room: 22 -> 0\n\
@@ -66,28 +94,76 @@ fn what_does_not_fit_has_none(rt: HostRuntime) {
     }
 }
 
-/// Whether the files stand just there.
-pub fn has_starts(places: &Layout, starts: &str) -> Option<bool> {
-    let mut index = 0u32;
-    for start in starts.split_whitespace() {
-        if places.start(index) != Some(start.parse::<u64>().ok()?) {
-            return Some(false);
-        }
-        index = index.checked_add(1)?;
+// Whether the file of this number stands where the digits say.
+fn has_start(places: &Layout, index: u32, digits: &str) -> bool {
+    match number_of(digits) {
+        Some(start) => places.start(index) == Some(start),
+        None => false,
     }
-    Some(places.start(index).is_none())
 }
 
-/// Whether the view has this image, held in memory and written.
-fn is_image(alloc: Global, view: &VolumeView<'_>, image: &[u8]) -> Option<bool> {
-    let made = canonical(alloc, view).ok()?;
+// Whether the files stand just there.
+pub fn has_starts(places: &Layout, starts: &str) -> bool {
+    let mut index = 0u32;
+    for digits in starts.split_whitespace() {
+        if !has_start(places, index, digits) {
+            return false;
+        }
+        index = index.saturating_add(1);
+    }
+    places.start(index).is_none()
+}
+
+// Whether this image of the view is made in memory.
+fn is_made(alloc: Global, view: &VolumeView<'_>, image: &[u8]) -> bool {
+    match canonical(alloc, view) {
+        Ok(made) => made.as_slice() == image,
+        Err(_) => false,
+    }
+}
+
+// The image of the view, as it is written.
+fn written(alloc: Global, view: &VolumeView<'_>) -> Option<Vec<u8>> {
     let places = layout(alloc, view).ok()?;
     let mut writer = Port::new(Vec::<u8>::new(alloc));
-    write_canonical(view, &places, &mut writer).ok()?;
-    Some(made.as_slice() == image && writer.into_inner().as_slice() == image)
+    let outcome = write_canonical(view, &places, &mut writer);
+    let bytes = writer.into_inner();
+    if outcome == Ok(()) { Some(bytes) } else { None }
 }
 
-/// Volumes with their images, and where the files stand in those.
+// Whether this image of the view is written.
+fn is_written(alloc: Global, view: &VolumeView<'_>, image: &[u8]) -> bool {
+    match written(alloc, view) {
+        Some(bytes) => bytes.as_slice() == image,
+        None => false,
+    }
+}
+
+// Whether the view has this image, and its files stand there just so.
+fn is_placed(alloc: Global, view: &VolumeView<'_>, image: &[u8], starts: &str) -> bool {
+    match layout(alloc, view) {
+        Ok(places) => {
+            has_starts(&places, starts)
+                && is_made(alloc, view, image)
+                && is_written(alloc, view, image)
+        }
+        Err(_) => false,
+    }
+}
+
+// Whether the bytes are a volume with this image, whose files stand there just so.
+fn has_placed_image(alloc: Global, volume: &[u8], image: &[u8], starts: &str) -> bool {
+    match read_volume(alloc, volume) {
+        Ok((view, length)) => {
+            length == volume.len() as u64
+                && view.head().length() == length
+                && is_placed(alloc, &view, image, starts)
+        }
+        Err(_) => false,
+    }
+}
+
+// Volumes with their images, and where the files stand in those.
 fn laid_out() -> &'static str {
     "\
     empty: empty -> \n\
@@ -99,15 +175,13 @@ fn laid_out() -> &'static str {
     "
 }
 
-/// Whether the files of the volume stand in its image where a line tells.
+// Whether the files of the volume stand in its image where a line tells.
 fn is_laid_out(alloc: Global, line: &str) -> Option<bool> {
     let (name, other, starts) = row_of(line)?;
+    let starts = starts?;
     let volume = bytes_of(alloc, name)?;
     let image = bytes_of(alloc, other)?;
-    let (view, length) = read_volume(alloc, &volume).ok()?;
-    let places = layout(alloc, &view).ok()?;
-    let is_whole = length == volume.len() as u64 && view.head().length() == length;
-    Some(is_whole && has_starts(&places, starts?)? && is_image(alloc, &view, &image)?)
+    Some(has_placed_image(alloc, &volume, &image, starts))
 }
 
 #[test]
@@ -117,19 +191,27 @@ fn files_have_their_starts(rt: HostRuntime) {
     }
 }
 
-/// Whether the answers on some bytes are one: true where they are their own image, false where they have another or do
-/// not fit, and refused alike elsewhere.
-fn is_one_answer(alloc: Global, bytes: &[u8]) -> bool {
-    match (normalise(alloc, bytes), is_canonical(alloc, bytes)) {
-        (Ok(image), Ok(answer)) => answer == (image.as_slice() == bytes),
-        (Err(fault), Ok(answer)) => !answer
-            && matches!(fault.kind, FaultKind::NoRoom | FaultKind::TopAlignment),
-        (Err(fault), Err(other)) => fault == other,
-        (Ok(_), Err(_)) => false,
+// Whether what is told of bytes that have no image is that they do not fit, or the same fault.
+fn is_refused_alike(fault: Fault, told: Result<bool, Fault>) -> bool {
+    match told {
+        Ok(answer) => {
+            !answer && matches!(fault.kind, FaultKind::NoRoom | FaultKind::TopAlignment)
+        }
+        Err(other) => fault == other,
     }
 }
 
-/// The first place of a volume at which another byte gets two answers, or 0 where there is no such volume.
+// Whether the answers on some bytes are one: true where they are their own image, false where they have another or do
+// not fit, and refused alike elsewhere.
+fn is_one_answer(alloc: Global, bytes: &[u8]) -> bool {
+    let told = is_canonical(alloc, bytes);
+    match normalise(alloc, bytes) {
+        Ok(image) => told == Ok(image.as_slice() == bytes),
+        Err(fault) => is_refused_alike(fault, told),
+    }
+}
+
+// The first place of a volume at which another byte gets two answers, or 0 where there is no such volume.
 fn two_answers(alloc: Global, name: &str) -> Option<usize> {
     let Some(mut bytes) = bytes_of(alloc, name) else {
         return Some(0);

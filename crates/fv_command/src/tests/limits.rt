@@ -4,6 +4,7 @@ use super::fakes::{EndlessReader, FakeReader, FakeWriter, InterruptedReader, Spa
 use super::runs::{ends_as, plan_of, shown};
 use super::volumes::row_of;
 use crate::hex_text::read_hex;
+use crate::plan::Plan;
 use crate::source::Source;
 use fv_base::{Fault, FaultKind, Port};
 use std::alloc::Global;
@@ -11,7 +12,7 @@ use std::alloc::Global;
 /// An input, or one that does not end.
 type Input<'a> = Source<FakeReader<'a>, EndlessReader>;
 
-/// Commands, which of their inputs does not end, and what is written.
+// Commands, which of their inputs does not end, and what is written.
 fn endless() -> &'static str {
     "\
     normalise: first -> fault 8 at 268435456\n\
@@ -27,21 +28,31 @@ fn endless() -> &'static str {
     "
 }
 
-/// Whether a command is refused as its line tells. Where the second of its inputs does not end, the first is the empty
-/// volume.
-fn is_too_long(alloc: Global, hex: bool, line: &str) -> Option<bool> {
-    let (command, side, fault) = row_of(line)?;
-    let plan = plan_of(alloc, hex, command)?;
-    let volume = shown(alloc, hex, "empty")?;
-    let first = if side == "second" {
-        Input::Standard(FakeReader::new(&volume, 64, false))
-    } else {
-        Input::File(EndlessReader)
+// Whether the plan writes the line and ends as refused, where its first input, or its second behind this volume, does
+// not end.
+fn ends_too_long(alloc: Global, plan: &Plan, volume: Option<&[u8]>, line: &str) -> bool {
+    let first = match volume {
+        Some(bytes) => Input::Standard(FakeReader::new(bytes, 64, false)),
+        None => Input::File(EndlessReader),
     };
-    let told = format!(in alloc; "{}\n", fault?).ok()?;
     let inputs = (first, Input::File(EndlessReader));
     let writer = FakeWriter::new(alloc, 7, usize::MAX, true);
-    Some(ends_as(alloc, &plan, inputs, writer, (2, told.as_bytes())))
+    ends_as(alloc, plan, inputs, writer, (2, line.as_bytes()))
+}
+
+// Whether a command is refused as its line tells. Where the second of its inputs does not end, the first is the empty
+// volume.
+fn is_too_long(alloc: Global, hex: bool, line: &str) -> Option<bool> {
+    let (command, side, fault) = row_of(line)?;
+    let told = format!(in alloc; "{}\n", fault?).ok()?;
+    let volume = shown(alloc, hex, "empty")?;
+    let front = if side == "second" {
+        Some(volume.as_slice())
+    } else {
+        None
+    };
+    let plan = plan_of(alloc, hex, command)?;
+    Some(ends_too_long(alloc, &plan, front, told.as_str()))
 }
 
 // Of hexadecimal text, text that is wrong too.

@@ -49,7 +49,7 @@ fn is_laid_out(alloc: Global, view: &VolumeView, image: &[u8], starts: &str) -> 
     let room = image.len().min(392);
     let mut writer = Port::new(&mut taken[..room]);
     let is_done = write_canonical(view, &places, &mut writer) == Ok(());
-    is_done && &taken[..room] == image && has_starts(&places, starts) == Some(true)
+    is_done && &taken[..room] == image && has_starts(&places, starts)
 }
 
 /// Whether a run writes the image, or nothing where memory was refused.

@@ -5,7 +5,7 @@ use super::{is_read_as, stops_with};
 use fv_base::{Fault, FaultKind};
 use std::alloc::Global;
 
-/// 35,000 bytes.
+// 35,000 bytes.
 fn bytes(alloc: Global) -> Option<Vec<u8>> {
     let mut bytes = Vec::new(alloc);
     for i in 0..35_000u32 {
@@ -14,25 +14,42 @@ fn bytes(alloc: Global) -> Option<Vec<u8>> {
     Some(bytes)
 }
 
-/// The first 70,000 digits or so of the bytes, with another character at a place.
+// Puts the digits, with another character at a place.
+fn put_text(text: &mut Vec<u8>, digits: &[u8], place: usize, other: u8) -> Option<()> {
+    let (front, back) = digits.split_at_checked(place)?;
+    text.extend_from_slice(front).ok()?;
+    text.push(other).ok()?;
+    text.extend_from_slice(back).ok()
+}
+
+// The 70,000 digits of the bytes, with another character at a place.
 fn text(alloc: Global, bytes: &[u8], place: usize, other: u8) -> Option<Vec<u8>> {
     let digits = hex::encode(alloc, bytes).ok()?;
-    let (front, back) = digits.as_bytes().split_at_checked(place)?;
-    let mut text = Vec::from_slice(alloc, front).ok()?;
-    text.push(other).ok()?;
-    text.extend_from_slice(back).ok()?;
+    let mut text = Vec::new(alloc);
+    put_text(&mut text, digits.as_bytes(), place, other)?;
     Some(text)
 }
 
-/// Whether a space at a place is passed over, and another character in the stead of a digit refuses the text.
+// Whether a space at a place is passed over.
+fn is_passed(alloc: Global, bytes: &[u8], place: usize) -> bool {
+    match text(alloc, bytes, place, b' ') {
+        Some(spaced) => is_read_as(alloc, &spaced, bytes),
+        None => false,
+    }
+}
+
+// Whether another character at a place, in the stead of a digit, refuses the first 70,000 bytes of text.
+fn is_wrong_at(alloc: Global, bytes: &[u8], place: usize) -> Option<bool> {
+    let wrong = text(alloc, bytes, place, b'g')?;
+    let reader = FakeReader::new(wrong.get(..70_000)?, 65_536, false);
+    let fault = Fault::outer(FaultKind::ReadFault, 0);
+    Some(stops_with(alloc, reader, fault))
+}
+
+// Whether a space at a place is passed over, and another character refuses the text.
 fn is_split(alloc: Global, place: usize) -> Option<bool> {
     let bytes = bytes(alloc)?;
-    let spaced = text(alloc, &bytes, place, b' ')?;
-    let mut wrong = text(alloc, &bytes, place, b'g')?;
-    wrong.truncate(70_000);
-    let reader = FakeReader::new(&wrong, 65_536, false);
-    let fault = Fault::outer(FaultKind::ReadFault, 0);
-    Some(is_read_as(alloc, &spaced, &bytes) && stops_with(alloc, reader, fault))
+    Some(is_passed(alloc, &bytes, place) && is_wrong_at(alloc, &bytes, place) == Some(true))
 }
 
 // A read asks for 65,536 bytes. The character stands in the middle of the first pair, so that the edge of the first

@@ -11,7 +11,7 @@ use super::checked::checked;
 use super::compared::compared;
 use super::fakes::{FakeReader, FakeWriter};
 use super::listed::listed;
-use super::spelling::{bytes_of, lines_of};
+use super::spelling::{bytes_of, lines_of, number_of};
 use super::volumes::{refused, row_of};
 use crate::commands::run_plan;
 use crate::extracting::Part;
@@ -30,30 +30,34 @@ struct Run {
     plan: Plan,
     first: Vec<u8>,
     second: Vec<u8>,
-    status: u8,
+    status: u64,
     written: Vec<u8>,
 }
 
-/// The part that the words behind `extract` name.
+// The byte that hexadecimal digits spell.
+fn byte_of(digits: &str) -> Option<u8> {
+    u8::from_str_radix(digits, 16).ok()
+}
+
+// The part that the words behind `extract` name.
 fn part_of(words: &str) -> Option<Part> {
     let (name, rest) = words.split_once(' ')?;
     let (section, instance) = rest.split_once(' ')?;
-    let name = Guid::from_bytes([u8::from_str_radix(name, 16).ok()?; 16]);
     Some(Part {
-        name,
-        section: u8::from_str_radix(section, 16).ok(),
-        instance: instance.parse().ok()?,
+        name: Guid::from_bytes([byte_of(name)?; 16]),
+        section: byte_of(section),
+        instance: u32::try_from(number_of(instance)?).ok()?,
     })
 }
 
-/// The image at the address that stands behind `hobs`, if one does.
+// The image at the address that stands behind `hobs`, if one does.
 fn image_of(alloc: Global, words: &str) -> Option<ImageFile> {
-    let base = words.parse().ok()?;
+    let base = number_of(words)?;
     let path = String::new(alloc);
     Some(ImageFile { path, base })
 }
 
-/// The task over one input.
+// The task over one input.
 fn task_of(name: &str, words: &str) -> Option<Task> {
     match name.as_bytes() {
         b"normalise" => Some(Task::Normalise),
@@ -96,7 +100,7 @@ pub fn shown(alloc: Global, hex: bool, words: &str) -> Option<Vec<u8>> {
     }
 }
 
-/// The bytes of an input.
+// The bytes of an input.
 fn input_of(alloc: Global, hex: bool, text: &str) -> Option<Vec<u8>> {
     match text.strip_prefix('\'') {
         Some(text) => Vec::from_slice(alloc, text.as_bytes()).ok(),
@@ -104,7 +108,7 @@ fn input_of(alloc: Global, hex: bool, text: &str) -> Option<Vec<u8>> {
     }
 }
 
-/// The bytes that are written.
+// The bytes that are written.
 fn output_of(alloc: Global, hex: bool, text: &str) -> Option<Vec<u8>> {
     if let Some(words) = text.strip_prefix('=') {
         return shown(alloc, hex, words);
@@ -118,18 +122,23 @@ fn output_of(alloc: Global, hex: bool, text: &str) -> Option<Vec<u8>> {
     Some(bytes)
 }
 
-/// The run that a line tells, over bytes or hexadecimal text.
+// The run that a line tells, over bytes or hexadecimal text.
 fn run_of(alloc: Global, hex: bool, line: &str) -> Option<Run> {
     let (command, rest) = line.split_once(": ")?;
     let (inputs, told) = rest.split_once(" -> ")?;
     let (first, second) = inputs.split_once(" & ").unwrap_or((inputs, ""));
     let (status, text) = told.split_once(' ')?;
+    let status = number_of(status)?;
+    let first = input_of(alloc, hex, first)?;
+    let second = input_of(alloc, hex, second)?;
+    let written = output_of(alloc, hex, text)?;
+    let plan = plan_of(alloc, hex, command)?;
     Some(Run {
-        plan: plan_of(alloc, hex, command)?,
-        first: input_of(alloc, hex, first)?,
-        second: input_of(alloc, hex, second)?,
-        status: status.parse().ok()?,
-        written: output_of(alloc, hex, text)?,
+        plan,
+        first,
+        second,
+        status,
+        written,
     })
 }
 
@@ -139,16 +148,16 @@ pub fn ends_as<First: Read + Drop, Second: Read + Drop>(
     plan: &Plan,
     inputs: (First, Second),
     writer: FakeWriter,
-    told: (u8, &[u8]),
+    told: (u64, &[u8]),
 ) -> bool {
     let mut first = Port::new(inputs.0);
     let mut second = Port::new(inputs.1);
     let mut writer = Port::new(writer);
     let status = run_plan(alloc, plan, &mut first, &mut second, &mut writer);
-    status.code() == told.0 && writer.into_inner().took(told.1)
+    u64::from(status.code()) == told.0 && writer.into_inner().took(told.1)
 }
 
-/// Whether the run ends so, where its readers give so many bytes at once.
+// Whether the run ends so, where its readers give so many bytes at once.
 fn ends_by_steps(alloc: Global, run: &Run, step: usize) -> bool {
     let first = Input::File(FakeReader::new(&run.first, step, true));
     let second = Input::Standard(FakeReader::new(&run.second, step, false));
@@ -162,7 +171,7 @@ fn ends_by_steps(alloc: Global, run: &Run, step: usize) -> bool {
     )
 }
 
-/// Whether the run is refused where the writer has no room for more, and writes what there is room for.
+// Whether the run is refused where the writer has no room for more, and writes what there is room for.
 fn stops_its_output(alloc: Global, run: &Run, room: usize) -> bool {
     for (step, is_broken) in [(7, false), (7, true), (1000, true)] {
         let first = Input::Standard(FakeReader::new(&run.first, 4096, false));
@@ -176,7 +185,7 @@ fn stops_its_output(alloc: Global, run: &Run, room: usize) -> bool {
     true
 }
 
-/// The line of a reader that fails behind so many bytes.
+// The line of a reader that fails behind so many bytes.
 fn line_at(alloc: Global, run: &Run, side: &str, count: usize) -> Option<String> {
     let side = match run.plan.command {
         Command::Compare { .. } => side,
@@ -185,88 +194,131 @@ fn line_at(alloc: Global, run: &Run, side: &str, count: usize) -> Option<String>
     format!(in alloc; "{side}fault 25 at {count}\n").ok()
 }
 
-/// Whether the run is refused where the reader of its first input fails there. What stands behind is not read.
-fn stops_at_first(alloc: Global, run: &Run, step: usize, count: usize) -> Option<bool> {
-    let line = line_at(alloc, run, "first ", count)?;
-    let first = Input::File(FakeReader::failing(&run.first, step, count));
+// Whether the run ends with the line where its first reader is this one. What stands behind is not read.
+fn ends_at_first(alloc: Global, plan: &Plan, first: FakeReader<'_>, line: &str) -> bool {
     let writer = FakeWriter::new(alloc, 7, usize::MAX, true);
-    let inputs = (first, Input::Missing);
-    Some(ends_as(alloc, &run.plan, inputs, writer, (2, line.as_bytes())))
+    let inputs = (Input::File(first), Input::Missing);
+    ends_as(alloc, plan, inputs, writer, (2, line.as_bytes()))
 }
 
-/// Whether the run is refused where the reader of its second input fails there.
-fn stops_at_second(alloc: Global, run: &Run, step: usize, count: usize) -> Option<bool> {
-    let line = line_at(alloc, run, "second ", count)?;
+// Whether the run is refused where the reader of its first input fails there.
+fn stops_at_first(alloc: Global, run: &Run, step: usize, count: usize) -> bool {
+    let reader = FakeReader::failing(&run.first, step, count);
+    match line_at(alloc, run, "first ", count) {
+        Some(line) => ends_at_first(alloc, &run.plan, reader, line.as_str()),
+        None => false,
+    }
+}
+
+// Whether the run over the first input ends with the line where its second reader is this one.
+fn ends_at_second(alloc: Global, run: &Run, second: FakeReader<'_>, line: &str) -> bool {
     let first = Input::Standard(FakeReader::new(&run.first, 4096, false));
-    let second = Input::File(FakeReader::failing(&run.second, step, count));
     let writer = FakeWriter::new(alloc, 7, usize::MAX, true);
-    Some(ends_as(
-        alloc,
-        &run.plan,
-        (first, second),
-        writer,
-        (2, line.as_bytes()),
-    ))
+    let inputs = (first, Input::File(second));
+    ends_as(alloc, &run.plan, inputs, writer, (2, line.as_bytes()))
+}
+
+// Whether the run is refused where the reader of its second input fails there.
+fn stops_at_second(alloc: Global, run: &Run, step: usize, count: usize) -> bool {
+    let reader = FakeReader::failing(&run.second, step, count);
+    match line_at(alloc, run, "second ", count) {
+        Some(line) => ends_at_second(alloc, run, reader, line.as_str()),
+        None => false,
+    }
+}
+
+// Whether the line tells how its run over bytes, or over hexadecimal text, ends by steps of this size.
+fn is_told_by_steps(alloc: Global, hex: bool, line: &str, step: usize) -> bool {
+    match run_of(alloc, hex, line) {
+        Some(run) => ends_by_steps(alloc, &run, step),
+        None => false,
+    }
+}
+
+// Whether an input of a line is text, which is not read as bytes.
+fn has_text(line: &str) -> bool {
+    line.split_once('\'').is_some()
 }
 
 /// Whether a line tells how its run ends, over bytes and over hexadecimal text.
-pub fn is_told(alloc: Global, line: &str) -> Option<bool> {
-    for hex in [false, true] {
-        if hex || line.split_once('\'').is_none() {
-            let run = run_of(alloc, hex, line)?;
-            if !ends_by_steps(alloc, &run, 50) {
-                return Some(false);
-            }
-        }
+pub fn is_told(alloc: Global, line: &str) -> bool {
+    if !has_text(line) && !is_told_by_steps(alloc, false, line, 50) {
+        return false;
     }
-    Some(true)
+    is_told_by_steps(alloc, true, line, 50)
 }
 
-/// Whether the run stops at each byte of its inputs and of its output, where a reader or the writer does.
-fn stops(alloc: Global, run: &Run) -> Option<bool> {
+// Whether the run stops at each byte of its output, where the writer does.
+fn stops_in_output(alloc: Global, run: &Run) -> bool {
     for room in 0..run.written.len() {
         if !stops_its_output(alloc, run, room) {
-            return Some(false);
+            return false;
         }
     }
-    for step in [1, 3, 65_536] {
-        for count in 0..=run.first.len() {
-            if !stops_at_first(alloc, run, step, count)? {
-                return Some(false);
-            }
-        }
-        for count in 0..=run.second.len() {
-            if !run.second.is_empty() && !stops_at_second(alloc, run, step, count)? {
-                return Some(false);
-            }
-        }
-    }
-    Some(true)
+    true
 }
 
-/// Whether the run of a line ends as it tells, however few bytes are read and written at once, and stops at each byte.
-fn stops_in_time(alloc: Global, line: &str) -> Option<bool> {
-    for hex in [false, true] {
-        if hex || line.split_once('\'').is_none() {
-            let run = run_of(alloc, hex, line)?;
-            for step in [1, 3, 65_536] {
-                if !ends_by_steps(alloc, &run, step) {
-                    return Some(false);
-                }
-            }
-            if !stops(alloc, &run)? {
-                return Some(false);
-            }
+// Whether the run stops at each byte of its first input, where the reader does.
+fn stops_in_first(alloc: Global, run: &Run, step: usize) -> bool {
+    for count in 0..=run.first.len() {
+        if !stops_at_first(alloc, run, step, count) {
+            return false;
         }
     }
-    Some(true)
+    true
+}
+
+// Whether the run stops at each byte of its second input, if there is one, where the reader does.
+fn stops_in_second(alloc: Global, run: &Run, step: usize) -> bool {
+    if run.second.is_empty() {
+        return true;
+    }
+    for count in 0..=run.second.len() {
+        if !stops_at_second(alloc, run, step, count) {
+            return false;
+        }
+    }
+    true
+}
+
+// Whether the run ends as it should by steps of this size, and stops at each byte of its inputs where a reader does.
+fn stops_by_steps(alloc: Global, run: &Run, step: usize) -> bool {
+    ends_by_steps(alloc, run, step)
+        && stops_in_first(alloc, run, step)
+        && stops_in_second(alloc, run, step)
+}
+
+// Whether the run ends as it should, however few bytes are read and written at once, and stops at each byte.
+fn stops(alloc: Global, run: &Run) -> bool {
+    for step in [1, 3, 65_536] {
+        if !stops_by_steps(alloc, run, step) {
+            return false;
+        }
+    }
+    stops_in_output(alloc, run)
+}
+
+// Whether the run of a line over bytes, or over hexadecimal text, stops so.
+fn stops_over(alloc: Global, hex: bool, line: &str) -> bool {
+    match run_of(alloc, hex, line) {
+        Some(run) => stops(alloc, &run),
+        None => false,
+    }
+}
+
+// Whether the runs of a line over bytes and over hexadecimal text stop so.
+fn stops_in_time(alloc: Global, line: &str) -> bool {
+    if !has_text(line) && !stops_over(alloc, false, line) {
+        return false;
+    }
+    stops_over(alloc, true, line)
 }
 
 #[test]
 fn runs_end_as_they_should(rt: HostRuntime) {
     for table in [answers(), listed(), checked(), compared()] {
         for line in table.lines() {
-            assert!(rt; is_told(rt.alloc(), line) == Some(true), "{line}");
+            assert!(rt; is_told(rt.alloc(), line), "{line}");
         }
     }
 }
@@ -274,11 +326,11 @@ fn runs_end_as_they_should(rt: HostRuntime) {
 #[test]
 fn runs_stop_with_their_readers_and_writers(rt: HostRuntime) {
     for line in small().lines() {
-        assert!(rt; stops_in_time(rt.alloc(), line) == Some(true), "{line}");
+        assert!(rt; stops_in_time(rt.alloc(), line), "{line}");
     }
 }
 
-/// Runs of the commands that read a volume, over one that is refused.
+// Runs of the commands that read a volume, over one that is refused.
 fn refusing() -> &'static str {
     "\
     normalise: VOLUME -> 2 FAULT|\n\
@@ -291,42 +343,56 @@ fn refusing() -> &'static str {
     "
 }
 
-/// The line with the volume and the fault put in.
+// The line with the volume and the fault put in.
 fn filled(alloc: Global, line: &str, words: &str, fault: &str) -> Option<String> {
     let (front, rest) = line.split_once("VOLUME")?;
     let (middle, _) = rest.split_once("FAULT")?;
     format!(in alloc; "{front}{words}{middle}{fault}|").ok()
 }
 
-/// Whether each command that reads a volume refuses the one that the words spell, and tells the fault.
-fn is_refused(alloc: Global, words: &str, fault: &str) -> Option<bool> {
+// Whether the run of the line is told, with the volume and the fault put in.
+fn is_told_filled(alloc: Global, line: &str, words: &str, fault: &str) -> bool {
+    match filled(alloc, line, words, fault) {
+        Some(line) => is_told(alloc, line.as_str()),
+        None => false,
+    }
+}
+
+// Whether each command that reads a volume refuses the one that the words spell, and tells the fault.
+fn is_refused(alloc: Global, words: &str, fault: &str) -> bool {
     for line in refusing().lines() {
-        let line = filled(alloc, line, words, fault)?;
-        if !is_told(alloc, line.as_str())? {
-            return Some(false);
+        if !is_told_filled(alloc, line, words, fault) {
+            return false;
         }
     }
-    Some(true)
+    true
 }
 
-/// Whether the volume of a line is refused as it tells.
-fn is_row_refused(alloc: Global, line: &str) -> Option<bool> {
-    let (name, _, fault) = row_of(line)?;
-    is_refused(alloc, name, fault?)
+// Whether the volume of a line is refused as it tells.
+fn is_row_refused(alloc: Global, line: &str) -> bool {
+    match row_of(line) {
+        Some((name, _, Some(fault))) => is_refused(alloc, name, fault),
+        _ => false,
+    }
 }
 
-/// Whether the first bytes of a volume, so many, are refused at their end.
-fn is_cut_short(alloc: Global, count: usize) -> Option<bool> {
+// The first bytes of the empty volume, so many, as digits.
+fn digits_of_front(alloc: Global, count: usize) -> Option<String> {
     let volume = bytes_of(alloc, "empty")?;
-    let words = hex::encode(alloc, volume.get(..count)?).ok()?;
+    hex::encode(alloc, volume.get(..count)?).ok()
+}
+
+// Whether the first bytes of a volume, so many, are refused at their end.
+fn is_cut_short(alloc: Global, count: usize) -> Option<bool> {
+    let words = digits_of_front(alloc, count)?;
     let fault = format!(in alloc; "fault 1 at {count}").ok()?;
-    is_refused(alloc, words.as_str(), fault.as_str())
+    Some(is_refused(alloc, words.as_str(), fault.as_str()))
 }
 
 #[test]
 fn volumes_are_refused_by_each_command(rt: HostRuntime) {
     for line in refused().lines() {
-        assert!(rt; is_row_refused(rt.alloc(), line) == Some(true), "{line}");
+        assert!(rt; is_row_refused(rt.alloc(), line), "{line}");
     }
     for count in 0..128 {
         assert!(rt; is_cut_short(rt.alloc(), count) == Some(true), "{count}");

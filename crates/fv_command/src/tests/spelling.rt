@@ -3,9 +3,14 @@
 use super::volumes::{lists, parts, refused, text_named, unplaced, volumes};
 use crate::hex_text::read_hex;
 use fv_base::Port;
-use std::alloc::Global;
+use std::alloc::{AllocError, Global};
 
-/// The words, with those of a line of the table in the place of its name.
+/// The number that decimal digits spell.
+pub fn number_of(digits: &str) -> Option<u64> {
+    digits.parse().ok()
+}
+
+// The words, with those of a line of the table in the place of its name.
 fn expanded(alloc: Global, table: &str, text: &str) -> Option<String> {
     let mut words = String::new(alloc);
     for word in text.split_whitespace() {
@@ -17,15 +22,27 @@ fn expanded(alloc: Global, table: &str, text: &str) -> Option<String> {
     Some(words)
 }
 
-/// The bytes of words of digits, of which one with a star and a number is repeated.
+// Puts the part behind the bytes, so often.
+fn repeat(bytes: &mut Vec<u8>, part: &[u8], count: u64) -> Option<()> {
+    for _ in 0..count {
+        bytes.extend_from_slice(part).ok()?;
+    }
+    Some(())
+}
+
+// Puts what a word of digits spells behind the bytes, as often as the number behind its star says.
+fn spell(alloc: Global, bytes: &mut Vec<u8>, word: &str) -> Option<()> {
+    let (digits, number) = word.split_once('*').unwrap_or((word, "1"));
+    let count = number_of(number)?;
+    let part = read_hex(alloc, &mut Port::new(digits.as_bytes())).ok()?;
+    repeat(bytes, &part, count)
+}
+
+// The bytes of words of digits.
 fn spelled(alloc: Global, text: &str) -> Option<Vec<u8>> {
     let mut bytes = Vec::new(alloc);
     for word in text.split_whitespace() {
-        let (digits, count) = word.split_once('*').unwrap_or((word, "1"));
-        let part = read_hex(alloc, &mut Port::new(digits.as_bytes())).ok()?;
-        for _ in 0..count.parse::<usize>().ok()? {
-            bytes.extend_from_slice(&part).ok()?;
-        }
+        spell(alloc, &mut bytes, word)?;
     }
     Some(bytes)
 }
@@ -39,18 +56,19 @@ pub fn bytes_of(alloc: Global, text: &str) -> Option<Vec<u8>> {
     spelled(alloc, words.as_str())
 }
 
+// Puts the digits as lines of 64, each with a line feed.
+fn put_lines(lines: &mut Vec<u8>, digits: &[u8]) -> Result<(), AllocError> {
+    for line in digits.chunks(64) {
+        lines.extend_from_slice(line)?;
+        lines.push(b'\n')?;
+    }
+    Ok(())
+}
+
 /// The bytes as lines of digits, 32 bytes a line.
 pub fn lines_of(alloc: Global, bytes: &[u8]) -> Option<Vec<u8>> {
     let digits = hex::encode(alloc, bytes).ok()?;
     let mut lines = Vec::new(alloc);
-    for (place, digit) in digits.as_bytes().iter().enumerate() {
-        lines.push(*digit).ok()?;
-        if place % 64 == 63 {
-            lines.push(b'\n').ok()?;
-        }
-    }
-    if bytes.len() % 32 > 0 {
-        lines.push(b'\n').ok()?;
-    }
+    put_lines(&mut lines, digits.as_bytes()).ok()?;
     Some(lines)
 }

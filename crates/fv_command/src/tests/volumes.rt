@@ -6,13 +6,19 @@
 /// The name of a line, its words, and what stands behind the arrow.
 pub type Row<'a> = (&'a str, &'a str, Option<&'a str>);
 
+// The words of a text, and what stands behind its arrow.
+fn parted(text: &str) -> (&str, Option<&str>) {
+    match text.split_once(" -> ") {
+        Some((words, told)) => (words, Some(told)),
+        None => (text, None),
+    }
+}
+
 /// The row that a line spells.
 pub fn row_of(line: &str) -> Option<Row<'_>> {
-    let (name, texts) = line.split_once(": ")?;
-    match texts.split_once(" -> ") {
-        Some((text, told)) => Some((name, text, Some(told))),
-        None => Some((name, texts, None)),
-    }
+    let (name, rest) = line.split_once(": ")?;
+    let (text, told) = parted(rest);
+    Some((name, text, told))
 }
 
 /// The words of the line of that name.

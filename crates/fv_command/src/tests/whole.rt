@@ -1,10 +1,11 @@
 //! Images in which volumes stand among other bytes.
 
 use super::spelling::bytes_of;
+use fv_base::Fault;
 use fv_canon::normalise_image;
 use std::alloc::Global;
 
-/// Images, each with what it becomes.
+// Images, each with what it becomes.
 fn renewed() -> &'static str {
     "\
     00*0 -> 00*0\n\
@@ -13,7 +14,7 @@ fn renewed() -> &'static str {
     "
 }
 
-/// Images with the number, the offset and the depth of the fault that refuses them.
+// Images with the number, the offset and the depth of the fault that refuses them.
 fn refused() -> &'static str {
     "\
     ff*64 file-state-bit -> 10 159 0\n\
@@ -22,20 +23,30 @@ fn refused() -> &'static str {
     "
 }
 
-/// Whether the image of a line becomes that behind its arrow.
+// Whether the image of a line becomes that behind its arrow.
 fn becomes(alloc: Global, line: &str) -> Option<bool> {
     let (image, wanted) = line.split_once(" -> ")?;
     let answer = normalise_image(alloc, &bytes_of(alloc, image)?).ok()?;
     Some(answer.as_slice() == bytes_of(alloc, wanted)?.as_slice())
 }
 
-/// Whether the image of a line is refused by the fault behind its arrow.
+// The fault that refuses an image.
+fn fault_of(alloc: Global, image: &str) -> Option<Fault> {
+    let bytes = bytes_of(alloc, image)?;
+    normalise_image(alloc, &bytes).err()
+}
+
+// The number, the offset and the depth of a fault.
+fn numbers_of(alloc: Global, fault: Fault) -> Option<String> {
+    let (number, place) = (fault.kind.number(), fault.place);
+    format!(in alloc; "{} {} {}", number, place.offset, place.depth).ok()
+}
+
+// Whether the image of a line is refused by the fault behind its arrow.
 fn is_refused(alloc: Global, line: &str) -> Option<bool> {
     let (image, wanted) = line.split_once(" -> ")?;
-    let fault = normalise_image(alloc, &bytes_of(alloc, image)?).err()?;
-    let (number, place) = (fault.kind.number(), fault.place);
-    let told = format!(in alloc; "{} {} {}", number, place.offset, place.depth).ok()?;
-    Some(told.as_str() == wanted)
+    let fault = fault_of(alloc, image)?;
+    Some(numbers_of(alloc, fault)?.as_str() == wanted)
 }
 
 #[test]
