@@ -121,15 +121,18 @@ file_at s p st at r long state all =
           fields = fields;
           state = subst (λ (k : ℕ). StateOf k p st) (sym e23) state;
           large = λ is.
-              let l : is_large (attributes_at r) ≡ true = ap is_large (sym e19) ∙ is in
-              (large_is s (is_large (attributes_at r)) holds.large l, size_field ∙ zero_size (is_large (attributes_at r)) (le_at 20 3 r) sizes'.1 l);
+              let l : is_large (attributes_at r) ≡ true = ap is_large (sym e19) ∙ is in (
+                large_is s (is_large (attributes_at r)) holds.large l,
+                size_field ∙ zero_size (is_large (attributes_at r)) (le_at 20 3 r) sizes'.1 l,
+              );
           sum = eqb-true _ _ holds.header_sum;
         };
         size = sym (length-take-le (size_at r) r within);
       };
       sound = λ alive pad. record {
         kind = eqb-false (slice_index r 18) pad_kind pad;
-        moves = not_true _ (looked_at (is_alive st) (slice_index r 18 == pad_kind) (not (is_fixed (attributes_at r))) holds.fixed alive pad);
+        moves = not_true _
+            (looked_at (is_alive st) (slice_index r 18 == pad_kind) (not (is_fixed (attributes_at r))) holds.fixed alive pad);
         file_sum = looked_at (is_alive st) (slice_index r 18 == pad_kind) (has_file_sum r) holds.file_sum alive pad;
       };
     }

@@ -12,8 +12,8 @@ ghost use Rattle.fv_file.specs.Written.{IsWritten, IsHeadOfFile, IsHeadOfPad, fi
 use crate::attributes::FileAttributes;
 use crate::head::{FileHead, NO_SUM, PAD};
 use crate::layout::{
-    ATTRIBUTES_OFFSET, FILE_SUM_OFFSET, HEADER_LEN, HEADER_SUM_OFFSET, LARGE_HEADER_LEN,
-    SIZE_OFFSET, TYPE_OFFSET,
+    ATTRIBUTES_OFFSET, EXTENDED_SIZE_OFFSET, FILE_SUM_OFFSET, HEADER_LEN, HEADER_SUM_OFFSET,
+    LARGE_HEADER_LEN, SIZE_OFFSET, STATE_OFFSET, TYPE_OFFSET,
 };
 use crate::state::FileState;
 use bitflags::Flags;
@@ -68,9 +68,9 @@ fn size_fields(size: u64, large: bool, state: u8) -> [u8; 12]
     ensures { result ≡ size_fields size large state }
 {
     let mut bytes = [0u8; 12];
-    bytes[3] = state;
+    bytes[STATE_OFFSET - SIZE_OFFSET] = state;
     if large {
-        LittleEndian::write_u64(&mut bytes[4..], size);
+        LittleEndian::write_u64(&mut bytes[EXTENDED_SIZE_OFFSET - SIZE_OFFSET..], size);
     } else {
         LittleEndian::write_u24(&mut bytes, size as u32);
     }

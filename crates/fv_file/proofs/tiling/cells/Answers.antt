@@ -25,6 +25,7 @@ returns-clause-lies c =
     let end : c.args.first + length (drop c.args.first c.args.volume.now) ≡ length c.args.volume.now =
     omega (arith, length-drop c.args.first c.args.volume.now, c.requires.within) in
     IfOk-weaker c.cells_in.result _ _
-    (λ cs h. subst (λ (n : ℕ). AllWithin n cs) end (all_within c.args.system c.args.polarity c.args.first cs (drop c.args.first c.args.volume.now)
+    (λ cs h. subst (λ (n : ℕ). AllWithin n cs) end
+    (all_within c.args.system c.args.polarity c.args.first cs (drop c.args.first c.args.volume.now)
     (subst (λ b. Tiles c.args.system c.args.polarity c.args.first cs b) (take_rest c.args.volume.now c.args.first) h)))
     c.cells_in.ensures.found

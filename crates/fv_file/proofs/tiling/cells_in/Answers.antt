@@ -28,7 +28,12 @@ returns-in_err-cell-clause-some c =
 
 pub span_of-len-requires : goal.span_of-len-requires
 span_of-len-requires c =
-    omega (arith, (stands_in c.loop-system.invariant c.requires.multiple c.in_ok-cell.ensures.found).within, length-drop c.loop-system.at c.args.body.now, c.requires.place)
+    omega (
+      arith,
+      (stands_in c.loop-system.invariant c.requires.multiple c.in_ok-cell.ensures.found).within,
+      length-drop c.loop-system.at c.args.body.now,
+      c.requires.place,
+    )
 
 pub overflow_add-at : goal.overflow_add-at
 overflow_add-at c =
@@ -59,5 +64,6 @@ loop-system-smaller c =
 pub loop-system-preserved : goal.loop-system-preserved
 loop-system-preserved c =
     let items : c.push.new.self.items ≡ c.loop-system.list.items ++ c.in_ok-cell.cell ∷ [] = search rules in
-    kept c.args.system c.args.polarity c.args.first c.args.body.now c.loop-system.list.items c.push.new.self.items c.in_ok-cell.cell c.loop-system.at c.span_of-len.result c.loop-system.invariant
+    kept c.args.system c.args.polarity c.args.first c.args.body.now c.loop-system.list.items c.push.new.self.items c.in_ok-cell.cell
+    c.loop-system.at c.span_of-len.result c.loop-system.invariant
     (stands_in c.loop-system.invariant c.requires.multiple c.in_ok-cell.ensures.found) c.span_of-len.ensures items

@@ -6,11 +6,13 @@ use Rattle.fv_section.proofs.frame.next_frame.Goals as goal
 
 pub returns-clause-found : goal.returns-clause-found
 returns-clause-found c =
-    verdict_stands c.args.at c.args.stream.now (form_of c.in_ok-frame.frame) (omega arith) (sym (verdict_rest c.args.at c.args.stream.now) ∙ c.in_ok-frame.ensures.found)
+    verdict_stands c.args.at c.args.stream.now (form_of c.in_ok-frame.frame) (omega arith)
+    (sym (verdict_rest c.args.at c.args.stream.now) ∙ c.in_ok-frame.ensures.found)
 
 pub returns-clause-only : goal.returns-clause-only
 returns-clause-only c = λ g stands.
-    other_verdict _ (form_of c.in_ok-frame.frame) g c.in_ok-frame.ensures.found (verdict_rest c.args.at c.args.stream.now ∙ stands_verdict c.args.at c.args.stream.now g stands)
+    other_verdict _ (form_of c.in_ok-frame.frame) g c.in_ok-frame.ensures.found
+    (verdict_rest c.args.at c.args.stream.now ∙ stands_verdict c.args.at c.args.stream.now g stands)
 
 pub returns-in_err-frame-clause-first : goal.returns-in_err-frame-clause-first
 returns-in_err-frame-clause-first c =
@@ -19,4 +21,5 @@ returns-in_err-frame-clause-first c =
 
 pub returns-in_err-frame-clause-none : goal.returns-in_err-frame-clause-none
 returns-in_err-frame-clause-none c =
-    IfErr-weaker c.from_residual.result _ _ (λ e first g stands. none_stands c.args.at c.args.stream.now e g first stands) (returns-in_err-frame-clause-first c)
+    IfErr-weaker c.from_residual.result _ _
+    (λ e first g stands. none_stands c.args.at c.args.stream.now e g first stands) (returns-in_err-frame-clause-first c)
