@@ -54,8 +54,8 @@ const TYPES_SPANS: [Span; 2] = [
     },
 ];
 
-/// Whether the bytes are read as a list of these headers that names these volumes and is written as it was, or memory was
-/// refused.
+/// Whether the bytes are read as a list of these headers that names these volumes and is written as it was, or memory
+/// was refused.
 fn is_answered(alloc: Global, bytes: &[u8], headers: &[Header], spans: &[Span]) -> bool {
     match read_hobs(alloc, bytes) {
         Ok((list, length)) => {
