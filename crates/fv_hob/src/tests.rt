@@ -3,6 +3,7 @@
 
 mod faults;
 mod lengths;
+mod memory;
 mod read;
 mod written;
 

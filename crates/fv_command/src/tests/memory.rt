@@ -1,5 +1,5 @@
-//! Refused memory in the calls of fv_canon, where `.ci/memory` refuses each allocation of the test in turn: no other answer
-//! stands in its place.
+//! Refused memory in the calls of fv_canon, where `.ci/memory` refuses each allocation of the test in turn: no other
+//! answer stands in its place.
 
 use super::images::has_starts;
 use super::spelling::bytes_of;

@@ -58,12 +58,15 @@ fn ends(alloc: Global, first: &[u8], second: &[u8], step: usize, room: usize) ->
     } else {
         Ok(false)
     };
-    [false, true].iter().all(|is_so| {
-        let mut reader = Port::new(FakeReader::new(first, step, *is_so));
-        let mut other = Port::new(FakeReader::new(second, step, *is_so));
-        let writer = FakeWriter::new(alloc, step, room, *is_so);
-        answers(alloc, &mut reader, &mut other, writer, (answer, wanted))
-    })
+    for is_so in [false, true] {
+        let mut reader = Port::new(FakeReader::new(first, step, is_so));
+        let mut other = Port::new(FakeReader::new(second, step, is_so));
+        let writer = FakeWriter::new(alloc, step, room, is_so);
+        if !answers(alloc, &mut reader, &mut other, writer, (answer, wanted)) {
+            return false;
+        }
+    }
+    true
 }
 
 /// Whether a run is given up whose reader of a side is interrupted for ever, behind 2 bytes.
@@ -83,8 +86,17 @@ fn is_given_up(alloc: Global, side: Side, volume: &[u8]) -> bool {
 
 /// Whether the run of two volumes stops at each of their bytes, and of the line, where a reader or the writer does.
 fn stops_in_time(alloc: Global, first: &[u8], second: &[u8], step: usize) -> bool {
-    (0..=128).all(|count| stops_reading(alloc, first, second, step, count))
-        && (0..=LINE.len()).all(|room| ends(alloc, first, second, step, room))
+    for count in 0..=128 {
+        if !stops_reading(alloc, first, second, step, count) {
+            return false;
+        }
+    }
+    for room in 0..=LINE.len() {
+        if !ends(alloc, first, second, step, room) {
+            return false;
+        }
+    }
+    true
 }
 
 #[test]

@@ -196,10 +196,10 @@ fn stands_in_types(hob: &Hob, at: usize) -> bool {
 }
 
 /// The reserved word, the type and the length of a block.
-type Header = (u32, u16, u16);
+pub(super) type Header = (u32, u16, u16);
 
 /// Those of the blocks of the list.
-const LIST_HEADERS: &[Header] = &[
+pub(super) const LIST_HEADERS: &[Header] = &[
     (0, 0x0001, 56),
     (0, 0x0009, 56),
     (0, 0xfffe, 8),
@@ -208,7 +208,7 @@ const LIST_HEADERS: &[Header] = &[
 ];
 
 /// Those of the blocks of the list of all types.
-const TYPES_HEADERS: &[Header] = &[
+pub(super) const TYPES_HEADERS: &[Header] = &[
     (0, 0x0001, 56),
     (0x0102_0304, 0x0002, 56),
     (0, 0x0003, 48),
@@ -231,7 +231,7 @@ fn has_header(hob: &Hob, header: &Header) -> bool {
 }
 
 /// How many blocks from the first on have these headers, one behind the other.
-fn headed(hobs: &[Hob], headers: &[Header]) -> usize {
+pub(super) fn headed(hobs: &[Hob], headers: &[Header]) -> usize {
     let mut at = 0;
     for hob in hobs {
         if at < headers.len() && has_header(hob, &headers[at]) {

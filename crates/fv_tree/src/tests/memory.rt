@@ -17,8 +17,8 @@ fn spelled(alloc: Global, text: &str) -> Option<Vec<u8>> {
     }
 }
 
-/// Whether what is told of the bytes of a line is what it wants, or memory was refused. Where it is refused to the text of
-/// the answer, nothing is told.
+/// Whether what is told of the bytes of a line is what it wants, or memory was refused. Where it is refused to the text
+/// of the answer, nothing is told.
 fn is_answered(alloc: Global, line: &str) -> Option<bool> {
     let (wanted, text) = row_of(line)?;
     let bytes = spelled(alloc, text)?;
