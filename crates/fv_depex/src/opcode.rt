@@ -7,7 +7,7 @@ pub const BEFORE: u8 = 0x00;
 /// EFI_DEP_AFTER, and a GUID behind it.
 pub const AFTER: u8 = 0x01;
 
-/// EFI_DEP_PUSH, and a GUID behind it. PEI's only op code with a GUID, and its lowest.
+/// EFI_DEP_PUSH, and a GUID behind it: the highest that carries one, and PEI's lowest.
 pub const PUSH: u8 = 0x02;
 
 /// EFI_DEP_AND.

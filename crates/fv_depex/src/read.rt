@@ -14,6 +14,9 @@ use crate::stage::{Stage, stage_after};
 use fv_base::{ByteList, guid_at};
 use std::alloc::{AllocError, Global};
 
+/// Where the GUID of an op stands: right behind its code.
+const OPERAND: usize = 1;
+
 /// Bytes of an op that carries a GUID: its code, and the GUID's 16.
 const WITH_GUID: usize = 17;
 
@@ -104,9 +107,9 @@ fn op_in(rest: &[u8]) -> Op
     ensures { result ≡ op_in rest.now }
 {
     match rest[0] {
-        opcode::BEFORE => Op::Before(guid_at(rest, 1)),
-        opcode::AFTER => Op::After(guid_at(rest, 1)),
-        opcode::PUSH => Op::Push(guid_at(rest, 1)),
+        opcode::BEFORE => Op::Before(guid_at(rest, OPERAND)),
+        opcode::AFTER => Op::After(guid_at(rest, OPERAND)),
+        opcode::PUSH => Op::Push(guid_at(rest, OPERAND)),
         opcode::AND => Op::And,
         opcode::OR => Op::Or,
         opcode::NOT => Op::Not,
