@@ -1,7 +1,7 @@
 -- A stream that is written as the canonical image has it is read again as the same sections.
 use Rattle.std.proofs.Common.{◌≡◌, ◌≢◌, ◌≤◌, ◌<◌, ◌+◌, ◌-◌, ◌%◌, ℕ, Bool, true, false, List, [], ◌∷◌, ◌++◌, length, drop, replicate, refl, sym, ap, ◌∙◌, subst, arith, length-append}
-use Rattle.std.proofs.lemmas.List.{take_at, drop_at, length-take-le, length-replicate}
-use Rattle.fv_base.specs.Value.{IsBytes, le, le_at, le_bytes, field}
+use Rattle.std.proofs.lemmas.List.{length-take-le, length-replicate}
+use Rattle.fv_base.specs.Value.{IsBytes, le_at, le_bytes, field}
 use Rattle.fv_base.proofs.FieldLemmas.{none_at, bytes_cons, bytes_take, bytes_drop, bytes_append, bytes_le_bytes}
 use Rattle.fv_base.proofs.NumberLaws.{bytes_front, bytes_back, bytes_replicate, le_below}
 use Rattle.fv_section.specs.Frames.{FrameForm, head_len, size, IsHeader, Begins, From, Splits, up_to_4}

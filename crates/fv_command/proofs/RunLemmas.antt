@@ -1,7 +1,7 @@
 -- What the runs come to: from what the calls promise to the words of a run.
-use Rattle.std.proofs.Common.{◌≡◌, ◌≢◌, ◌<◌, ◌≤◌, ◌⊎◌, ℕ, Bool, true, false, List, Option, length, take, sym, subst, inl, inr}
+use Rattle.std.proofs.Common.{◌≡◌, ◌≢◌, ◌<◌, ◌≤◌, ◌⊎◌, ℕ, Bool, true, false, List, length, take, sym, subst, inl, inr}
 use Rattle.std.specs.Prelude.{Result, Ok, Err, IfErr, IfOk}
-use Rattle.std.specs.Io.KnownBytes.{Appends, Keeps}
+use Rattle.std.specs.Io.KnownBytes.{Appends}
 use Rattle.std.proofs.KnownBytes.{Keeps-refl}
 use Rattle.fv_base.specs.Faults.{want_of_memory}
 use Rattle.fv_base.specs.Output.{WriteStops}
@@ -18,7 +18,7 @@ use Rattle.fv_tree.specs.Names.{file_named}
 use Rattle.fv_command.specs.Checks.{CheckStops}
 use Rattle.fv_command.specs.Images.{StopsImage}
 use Rattle.fv_command.specs.Inputs.{Shown, Gives, BeginsNone, BeginsWith, WritingStops}
-use Rattle.fv_command.specs.Parts.{IsPart, StopsPart}
+use Rattle.fv_command.specs.Parts.{StopsPart}
 use Rattle.fv_command.specs.SideRuns.{GivesVolume, SideStops, VolumeInputStops}
 use Rattle.fv_command.specs.TaskRuns.{RunsTask, SaysRead, StopsInput}
 use Rattle.fv_command.specs.Tasks.{PartText, Says}

@@ -6,7 +6,7 @@ use Rattle.fv_hob.specs.Checks.{IsFirst, number_of, want_of_memory}
 use Rattle.fv_hob.specs.Hobs.{HobForm}
 use Rattle.fv_hob.specs.Lists.{IsHobList}
 use Rattle.fv_hob.specs.declared.fault.HobFault.{HobFault}
-use Rattle.fv_command.specs.HobLines.{HobsText, ImageForm, image_form}
+use Rattle.fv_command.specs.HobLines.{HobsText, image_form}
 use Rattle.fv_command.specs.Inputs.{Shown, Gives, GivingStops, TellsStop, WritingStops}
 use Rattle.fv_command.specs.Lines.{hob_fault_line}
 use Rattle.fv_command.specs.declared.hob_runs.Refusal.{Refusal}

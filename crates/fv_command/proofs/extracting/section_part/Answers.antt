@@ -2,7 +2,6 @@ use Rattle.std.proofs.Common.{◌≡◌, ℕ, List, Option, Some, refl, sym, sub
 use Rattle.std.proofs.lemmas.Result.{err_from_is_err_and}
 use Rattle.fv_section.specs.Frames.{FrameForm}
 use Rattle.fv_section.specs.Seen.{form_of}
-use Rattle.fv_tree.specs.Answers.{SeesSection, SeesFrame, IsNotSectioned}
 use Rattle.fv_tree.specs.Instances.{section_of_type, frame_of_type}
 use Rattle.fv_tree.specs.Meaning.{Plain, Sectioned, SectionMeaning, SectionMeanings, content_of}
 use Rattle.fv_command.specs.Parts.{IsSection, IsFrame}
