@@ -1,7 +1,7 @@
 -- What a list that takes bytes has in the end.
 use Rattle.std.proofs.Common.{◌≡◌, ℕ, List, [], ◌++◌, ◌∙◌, ap, Bool, true, false}
 use Rattle.std.specs.Prelude.{Result, Ok, Err, IfOk}
-use Rattle.fv_base.specs.Kept.{KeptLatched}
+use Rattle.fv_base.specs.ListSinks.{KeptLatched}
 use Rattle.fv_base.specs.declared.fault.Fault.{Fault}
 
 -- an empty list that took bytes, and went on, has these bytes

@@ -1,7 +1,7 @@
 -- Walks in several steps.
 use Rattle.std.proofs.Common.{◌≡◌, ℕ, ◌+◌, ◌<◌, ◌%◌, ◌^◌, List, take, drop, length, replicate, sym, ◌∙◌, ap, subst, arith}
 use Rattle.std.proofs.lemmas.List.{length-take-le}
-use Rattle.fv_base.specs.Written.{Written, WritesFront}
+use Rattle.fv_base.specs.WriteSinks.{PortShows, WritesFront}
 use Rattle.std.proofs.lemmas.List.{replicate-append-replicate}
 use Rattle.std.proofs.Math.Seq.{take-add}
 use Rattle.std.proofs.KnownBytes.{Appends-trans}
@@ -18,7 +18,7 @@ pub more_written : (a b c : Option (List ℕ)) (m n : ℕ) (bytes : List ℕ) �
 more_written a b c m n bytes first next = subst (Appends a c) (sym (take-add m n bytes)) (Appends-trans a b c _ _ first next)
 
 -- where a port stopped, the count is how much of the bytes it holds
-pub front_is : (s t : Written) (bytes : List ℕ) → s.count ≡ 0 → t.count < 2 ^ 64 → length bytes < 2 ^ 62 → WritesFront s bytes t → (t.count < length bytes) × Appends s.contents t.contents (take t.count bytes)
+pub front_is : (s t : PortShows) (bytes : List ℕ) → s.count ≡ 0 → t.count < 2 ^ 64 → length bytes < 2 ^ 62 → WritesFront s bytes t → (t.count < length bytes) × Appends s.contents t.contents (take t.count bytes)
 front_is s t bytes z small short h =
     let is : t.count ≡ h.0 = same_count s.count t.count h.0 (length bytes) (length (take h.0 bytes)) z small short h.1 (length-take-le h.0 bytes (omega (arith, h.1))) h.2.1 in
     (omega (arith, is, h.1), subst (λ n. Appends s.contents t.contents (take n bytes)) (sym is) h.2.0)

@@ -9,12 +9,12 @@ use Rattle.fv_base.specs.declared.input.Turn.TheVariants as turns
 use Rattle.fv_base.specs.Limits.{volume_limit}
 
 -- what one turn of reading did: to the reader, to the bytes so far, and whether the port has erred now
-abbrev pub Turned : Turn → Option (List ℕ) → Option (List ℕ) → List ℕ → List ℕ → Bool → Type 0
-Turned turns.More old new before after erred =
+abbrev pub ReadsTurn : Turn → Option (List ℕ) → Option (List ℕ) → List ℕ → List ℕ → Bool → Type 0
+ReadsTurn turns.More old new before after erred =
     (added : List ℕ) × (after ≡ before ++ added) × (0 < length added) × Consumes old new added
-Turned turns.Interrupted old new before after erred = (after ≡ before) × Keeps old new × (erred ≡ true)
-Turned turns.End old new before after erred = (after ≡ before) × Consumes old new [] × IsAtEnd new
-Turned turns.Failed old new before after erred = (after ≡ before) × Keeps old new × (erred ≡ true)
+ReadsTurn turns.Interrupted old new before after erred = (after ≡ before) × Keeps old new × (erred ≡ true)
+ReadsTurn turns.End old new before after erred = (after ≡ before) × Consumes old new [] × IsAtEnd new
+ReadsTurn turns.Failed old new before after erred = (after ≡ before) × Keeps old new × (erred ≡ true)
 
 -- a reader gave these bytes, which are all that it had, and no more than a run takes
 pub record ReadsWhole (old new : Option (List ℕ)) (input : List ℕ) : Type 0 where
@@ -31,13 +31,13 @@ abbrev pub GaveMore : Option (List ℕ) → Option (List ℕ) → ℕ → Type 0
 GaveMore old new n = (bytes : List ℕ) × Consumes old new bytes × (n < length bytes)
 
 -- why the reading stopped, by the kind of the fault, at an offset
-abbrev pub StopsFor : FaultKind → Option (List ℕ) → Option (List ℕ) → ℕ → Type 0
-StopsFor kinds.ReadFault old new n = GaveCount old new n
-StopsFor kinds.Length old new n = (n ≡ volume_limit) × GaveMore old new n
-StopsFor kinds.OutOfMemory old new n = n ≡ 0
-StopsFor _ old new n = ⊥
+abbrev pub ReadStopsFor : FaultKind → Option (List ℕ) → Option (List ℕ) → ℕ → Type 0
+ReadStopsFor kinds.ReadFault old new n = GaveCount old new n
+ReadStopsFor kinds.Length old new n = (n ≡ volume_limit) × GaveMore old new n
+ReadStopsFor kinds.OutOfMemory old new n = n ≡ 0
+ReadStopsFor _ old new n = ⊥
 
 -- the reading of an input stopped
 pub record ReadStops (old new : Option (List ℕ)) (fault : Fault) : Type 0 where
   pub depth : fault.place.depth ≡ 0
-  pub cause : StopsFor fault.kind old new fault.place.offset
+  pub cause : ReadStopsFor fault.kind old new fault.place.offset

@@ -5,13 +5,13 @@ pub mod Faults
 pub mod Flash
 pub mod Guids
 pub mod Input
-pub mod Kept
-pub mod KeptLaws
+pub mod ListSinks
+pub mod ListSinkLaws
 pub mod Limits
 pub mod Output
 pub mod Port
 pub mod Sinks
 pub mod Sums
 pub mod Value
-pub mod Written
-pub mod WrittenLaws
+pub mod WriteSinks
+pub mod WriteSinkLaws

@@ -7,7 +7,7 @@ ghost use Rattle.fv_base.specs.Erased.{AllAre, all_are};
 const PIECE: usize = 4096;
 
 // Whether every byte is this one. Looks at all of them.
-fn is_even(piece: &[u8], byte: u8) -> bool
+fn is_filled(piece: &[u8], byte: u8) -> bool
     ensures { IsTrue result ↔ AllAre byte piece.now }
 {
     let mut seen = 0u8;
@@ -25,10 +25,10 @@ pub fn all_are(bytes: &[u8], byte: u8) -> bool
     let mut rest = bytes;
     while rest.len() >= PIECE {
         let (piece, behind) = rest.split_at(PIECE);
-        if !is_even(piece, byte) {
+        if !is_filled(piece, byte) {
             return false;
         }
         rest = behind;
     }
-    is_even(rest, byte)
+    is_filled(rest, byte)
 }

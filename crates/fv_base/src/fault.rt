@@ -1,7 +1,7 @@
 //! Faults: what was refused, and where.
 
 ghost use Rattle.std.specs.Prelude.{◌≡◌, true, false, OnOk, IfErr};
-ghost use Rattle.fv_base.specs.Faults.{number_of, outer_fault, want_of_memory};
+ghost use Rattle.fv_base.specs.Faults.{fault_number, outer_fault, want_of_memory};
 
 use std::alloc::{AllocError, AllocFailed};
 use thiserror::Error;
@@ -95,7 +95,7 @@ pub enum FaultKind {
 impl FaultKind {
     /// The number by which the kind is known.
     pub fn number(self) -> u8
-        ensures { result ≡ number_of self }
+        ensures { result ≡ fault_number self }
     {
         match self {
             FaultKind::Truncated => 1,

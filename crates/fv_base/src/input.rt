@@ -2,7 +2,7 @@
 
 ghost use Rattle.std.specs.Prelude.{◌≡◌, ◌<◌, ◌≤◌, length, true, false, IfOk, IfErr, vec_len};
 ghost use Rattle.fv_base.specs.Port.{inner_of, has_erred};
-ghost use Rattle.fv_base.specs.Input.{ReadsWhole, ReadStops, Turned};
+ghost use Rattle.fv_base.specs.Input.{ReadsWhole, ReadStops, ReadsTurn};
 ghost use Rattle.fv_base.specs.Limits.{read_limit};
 
 use crate::fault::{Fault, FaultKind};
@@ -38,7 +38,7 @@ fn read_more<R: Read>(
 ) -> Result<Turn, AllocError>
     requires some { 0 < length chunk.old }
     requires small { length chunk.old ≤ read_limit }
-    ensures turn { IfOk result (λ turn. Turned turn (R.remaining (inner_of reader.old)) (R.remaining (inner_of reader.new))
+    ensures turn { IfOk result (λ turn. ReadsTurn turn (R.remaining (inner_of reader.old)) (R.remaining (inner_of reader.new))
         bytes.old.items bytes.new.items (has_erred reader.new)) }
     ensures stays { has_erred reader.new ≡ false → has_erred reader.old ≡ false }
 {

@@ -5,10 +5,10 @@ ghost use Rattle.std.specs.Io.KnownBytes.{Appends};
 ghost use Rattle.fv_base.specs.Faults.{outer_fault, want_of_memory};
 ghost use Rattle.fv_base.specs.Port.{inner_of, has_erred};
 ghost use Rattle.fv_base.specs.Sinks.{WalkLaws};
-ghost use Rattle.fv_base.specs.Kept.{KeptTakes, kept_in, is_on};
-ghost use Rattle.fv_base.specs.KeptLaws.{kept_by};
-ghost use Rattle.fv_base.specs.Written.{SeenTakes};
-ghost use Rattle.fv_base.specs.WrittenLaws.{seen_by};
+ghost use Rattle.fv_base.specs.ListSinks.{KeptTakes, kept_in, is_on};
+ghost use Rattle.fv_base.specs.ListSinkLaws.{kept_by};
+ghost use Rattle.fv_base.specs.WriteSinks.{SeenTakes};
+ghost use Rattle.fv_base.specs.WriteSinkLaws.{seen_by};
 
 use crate::byte_list::ByteList;
 use crate::fault::{Fault, FaultKind};
@@ -163,7 +163,7 @@ fn ones() -> &'static [u8]
 }
 
 // A run of the byte, of some length.
-fn run_of(byte: u8) -> &'static [u8]
+fn fill_block(byte: u8) -> &'static [u8]
     requires { (byte ≡ 0) ⊎ (byte ≡ 255) }
     ensures some { 0 < length result.now }
     ensures same { result.now ≡ replicate (length result.now) byte }
@@ -198,5 +198,5 @@ pub fn fill<S: Sink>(out: &mut S, byte: u8, count: u64)
     requires { (byte ≡ 0) ⊎ (byte ≡ 255) }
     ensures { S.takes out.old (replicate count byte) out.new }
 {
-    fill_by(out, run_of(byte), byte, count);
+    fill_by(out, fill_block(byte), byte, count);
 }

@@ -9,9 +9,9 @@ use Rattle.std.proofs.lemmas.Slice.Eq.{bytes_eq-Decides}
 use Rattle.fv_base.specs.Guids.{bytes_of}
 use Rattle.fv_base.specs.Value.{up_to_8}
 use Rattle.fv_base.specs.declared.flash.Polarity.{Polarity}
-use Rattle.fv_canon.specs.Starts.{Follow}
+use Rattle.fv_canon.specs.Starts.{StartsFollow}
 use Rattle.fv_tree.specs.Files.{FileForm, is_marked, same_name, is_twin, NoTwins, replaces, alive_in, top_name, TopAtEnd}
-use Rattle.fv_canon.specs.Stored.{StoredFile, size_of, stored_part}
+use Rattle.fv_canon.specs.Stored.{StoredFile, stored_len, stored_part}
 use Rattle.fv_canon.proofs.TileLaws.{forms_of}
 
 -- ---- tests over lists
@@ -167,15 +167,15 @@ top_last length [] h = tt
 top_last length (f ∷ []) h = tt
 top_last length (f ∷ g ∷ fs) h = (h.0, top_last length (g ∷ fs) h.1)
 
-pub forms_top : (p : Polarity) (total e : ℕ) (fs : List StoredFile) (ss : List ℕ) → TopLast (names_of fs) → Follow total e (map stored_part fs) ss → TopAtEnd total (forms_of p fs ss)
+pub forms_top : (p : Polarity) (total e : ℕ) (fs : List StoredFile) (ss : List ℕ) → TopLast (names_of fs) → StartsFollow total e (map stored_part fs) ss → TopAtEnd total (forms_of p fs ss)
 forms_top p total e [] ss h follow = tt
 forms_top p total e (f ∷ fs) [] h follow = tt
 forms_top p total e (f ∷ []) (s ∷ []) h follow = λ top. follow.0.at_end top
 forms_top p total e (f ∷ []) (s ∷ t ∷ ss) h follow = absurd follow.1
 forms_top p total e (f ∷ g ∷ fs) (s ∷ []) h follow = absurd follow.1
-forms_top p total e (f ∷ g ∷ fs) (s ∷ t ∷ ss) h follow = (h.0, forms_top p total (up_to_8 (s + size_of f)) (g ∷ fs) (t ∷ ss) h.1 follow.1)
+forms_top p total e (f ∷ g ∷ fs) (s ∷ t ∷ ss) h follow = (h.0, forms_top p total (up_to_8 (s + stored_len f)) (g ∷ fs) (t ∷ ss) h.1 follow.1)
 
-pub form_names : (p : Polarity) (total e : ℕ) (fs : List StoredFile) (ss : List ℕ) → Follow total e (map stored_part fs) ss → names_in (forms_of p fs ss) ≡ names_of fs
+pub form_names : (p : Polarity) (total e : ℕ) (fs : List StoredFile) (ss : List ℕ) → StartsFollow total e (map stored_part fs) ss → names_in (forms_of p fs ss) ≡ names_of fs
 form_names p total e [] ss follow = refl
 form_names p total e (f ∷ fs) [] follow = absurd follow
-form_names p total e (f ∷ fs) (s ∷ ss) follow = ap (λ (ns : List (List ℕ)). bytes_of f.name ∷ ns) (form_names p total (up_to_8 (s + size_of f)) fs ss follow.1)
+form_names p total e (f ∷ fs) (s ∷ ss) follow = ap (λ (ns : List (List ℕ)). bytes_of f.name ∷ ns) (form_names p total (up_to_8 (s + stored_len f)) fs ss follow.1)

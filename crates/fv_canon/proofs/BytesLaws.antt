@@ -9,15 +9,15 @@ use Rattle.fv_base.specs.declared.flash.FileSystem.{FileSystem}
 use Rattle.fv_base.specs.declared.flash.Polarity.{Polarity}
 use Rattle.fv_base.proofs.FieldLemmas.{none_at, bytes_append, bytes_le_bytes}
 use Rattle.fv_base.proofs.NumberLaws.{bytes_front, bytes_back}
-use Rattle.fv_file.specs.Written.{pad_head_of}
+use Rattle.fv_file.specs.NewHeaders.{pad_head_of}
 use Rattle.fv_head.specs.Attributes.{polarity_of}
-use Rattle.fv_head.specs.Ext.{Extension, Entries, IsReadExt, held, is_used_size, no_size}
+use Rattle.fv_head.specs.Ext.{Extension, SplitsEntries, IsReadExt, kept_payload, is_used_size, zero_used_size}
 use Rattle.fv_head.specs.Head.{HeadFields}
-use Rattle.fv_head.specs.Spelled.{canonical_head}
-use Rattle.fv_head.specs.SpelledExt.{IfRead, canonical_end, canonical_first, payload_with, entry_bytes, entries_bytes}
-use Rattle.fv_head.specs.SpelledExt.{ext_len, ext_spelled}
+use Rattle.fv_head.specs.HeadImage.{canonical_head}
+use Rattle.fv_head.specs.ExtImage.{IfRead, canonical_end, canonical_first, payload_with, entry_bytes, entries_bytes}
+use Rattle.fv_head.specs.ExtImage.{ext_len, ext_spelled}
 use Rattle.fv_head.proofs.SpelledLemmas.{canonical_is}
-use Rattle.fv_canon.specs.Stored.{StoredFile, size_of, stored_bytes, pad_bytes, pads, long_pad, long_pads, gap_bytes}
+use Rattle.fv_canon.specs.Stored.{StoredFile, stored_len, stored_bytes, pad_bytes, pads, long_pad, long_pads, gap_bytes}
 use Rattle.fv_canon.specs.Stored.{files_bytes, ext_pad, used_size, volume_bytes}
 use Rattle.fv_canon.proofs.CellLaws.{Storable, bytes_stored, bytes_pad_head, bytes_erased, bytes_pad}
 use Rattle.fv_canon.proofs.SpanLaws.{Writable}
@@ -42,7 +42,7 @@ bytes_files : (system : FileSystem) (p : Polarity) (total e : ℕ) (fs : List St
 bytes_files system p total e [] ss all = bytes_erased p (total - e)
 bytes_files system p total e (f ∷ fs) [] all = bytes_erased p (total - e)
 bytes_files system p total e (f ∷ fs) (s ∷ ss) all =
-    let x : ℕ = s + size_of f in
+    let x : ℕ = s + stored_len f in
     let filler : List ℕ = replicate (up_to_8 x - x) (erased_byte p) in
     let rest : List ℕ = files_bytes p total (up_to_8 x) fs ss in
     bytes_append (gap_bytes p (s - e)) (stored_bytes p f ++ (filler ++ rest)) (bytes_gap p (s - e))
@@ -52,15 +52,15 @@ bytes_files system p total e (f ∷ fs) (s ∷ ss) all =
 -- ---- the extended header
 
 -- an entry that was read is bytes again, with any used size
-bytes_entry : (used : ℕ) (e : ℕ × List ℕ) (payload : List ℕ) → IsBytes payload → e.1 ≡ held e.0 payload → IsBytes (entry_bytes used e)
+bytes_entry : (used : ℕ) (e : ℕ × List ℕ) (payload : List ℕ) → IsBytes payload → e.1 ≡ kept_payload e.0 payload → IsBytes (entry_bytes used e)
 bytes_entry used e payload small kept =
     let own : IsBytes e.1 =
-    subst IsBytes (sym kept) (bytes_either (is_used_size e.0 payload) no_size payload (bytes_le_bytes 4 0) small) in
+    subst IsBytes (sym kept) (bytes_either (is_used_size e.0 payload) zero_used_size payload (bytes_le_bytes 4 0) small) in
     bytes_append (le_bytes 2 (4 + length e.1) ++ le_bytes 2 e.0) (payload_with used e)
     (bytes_append (le_bytes 2 (4 + length e.1)) (le_bytes 2 e.0) (bytes_le_bytes 2 (4 + length e.1)) (bytes_le_bytes 2 e.0))
     (bytes_either (is_used_size e.0 e.1) (le_bytes 4 used) e.1 (bytes_le_bytes 4 used) own)
 
-bytes_entries : (used : ℕ) (es : List (ℕ × List ℕ)) (tail b : List ℕ) → IsBytes b → Entries es tail b
+bytes_entries : (used : ℕ) (es : List (ℕ × List ℕ)) (tail b : List ℕ) → IsBytes b → SplitsEntries es tail b
     → IsBytes (entries_bytes used es) × IsBytes tail
 bytes_entries used [] tail b small is = (none_at, subst IsBytes is.0 small)
 bytes_entries used (e ∷ es) tail b small (head, payload, rest, text, four, size, kind, kept, more) =

@@ -14,12 +14,12 @@ use Rattle.fv_base.specs.declared.flash.Polarity.TheVariants.{Ones, Zeros}
 use Rattle.fv_base.proofs.FieldLemmas.{bytes_append, bytes_le_bytes}
 use Rattle.fv_file.specs.Attributes.{is_large, is_fixed, is_summed}
 use Rattle.fv_file.specs.Cells.{Valid, Pad, IsCell}
-use Rattle.fv_file.specs.Files.{header_len_of, pad_kind, file_sum_right}
-use Rattle.fv_file.specs.Written.{needs_large, with_large, complement, no_sum, pad_name, state_byte, header_with, header_bytes, file_fields, pad_fields, file_head_of, pad_head_of}
+use Rattle.fv_file.specs.Files.{file_header_len, pad_kind, file_sum_right}
+use Rattle.fv_file.specs.NewHeaders.{needs_large, with_large, complement, fixed_checksum, pad_name, state_byte, header_with, header_bytes, file_fields, pad_fields, file_head_of, pad_head_of}
 use Rattle.fv_file.specs.declared.head.FileHead.{FileHead}
 use Rattle.fv_file.proofs.AttributeLemmas.{set_large}
 use Rattle.fv_file.proofs.WrittenLemmas.{file_written, pad_written, head_of_file, head_of_pad}
-use Rattle.fv_canon.specs.Stored.{StoredFile, size_of, head_len_for, file_sum_for, stored_bytes, pad_bytes}
+use Rattle.fv_canon.specs.Stored.{StoredFile, stored_len, head_len_for, file_sum_for, stored_bytes, pad_bytes}
 
 -- ---- headers are bytes, 24 or 32 of them
 bytes_cons : (x : ℕ) (xs : List ℕ) → x < 256 → IsBytes xs → IsBytes (x ∷ xs)
@@ -58,7 +58,7 @@ bytes_header file_sum name kind attributes size large state n f k a s = parts la
         (bytes_le_bytes 3 size)) (bytes_cons state [] s bytes_none)) bytes_none
 
 pub length-header : (file_sum : ℕ) (name : List ℕ) (kind attributes size : ℕ) (large : Bool) (state : ℕ) → length name ≡ 16
-    → length (header_bytes file_sum name kind attributes size large state) ≡ header_len_of large
+    → length (header_bytes file_sum name kind attributes size large state) ≡ file_header_len large
 unfolding header_bytes
 length-header file_sum name kind attributes size large state n = parts large (complement (sum (header_with 0 0 name kind attributes size large 0)))
   where
@@ -69,7 +69,7 @@ length-header file_sum name kind attributes size large state n = parts large (co
         joined : (a b d x n k : ℕ) → a ≡ b + 1 → b ≡ d + x → d ≡ n + 4 → n ≡ 16 → x ≡ k → a ≡ 21 + k
         joined a b d x n k p q r s t = omega arith
 
-    parts : (large : Bool) (c : ℕ) → length (header_with c file_sum name kind attributes size large state) ≡ header_len_of large
+    parts : (large : Bool) (c : ℕ) → length (header_with c file_sum name kind attributes size large state) ≡ file_header_len large
     parts true c = length-append (name ++ (c ∷ file_sum ∷ kind ∷ attributes ∷ []) ++ le_bytes 3 0 ++ (state ∷ [])) (le_bytes 8 size) ∙ ap (λ (n : ℕ). n + 8) (front c (le_bytes 3 0) 3 refl)
     parts false c = length-append (name ++ (c ∷ file_sum ∷ kind ∷ attributes ∷ []) ++ le_bytes 3 size ++ (state ∷ [])) [] ∙ ap (λ (n : ℕ). n + 0) (front c (le_bytes 3 size) 3 refl)
 
@@ -125,13 +125,13 @@ sums_up n = omega arith
 sum_is_right : (l : Bool) (a : ℕ) (payload : List ℕ) → is_large a ≡ false → file_sum_right (with_large l a) (file_sum_for a payload) payload ≡ true
 sum_is_right l a payload h = ap (λ (b : Bool). if b then (sum payload + file_sum_for a payload) % 256 == 0 else file_sum_for a payload == 0xaa) (still_summed l a h) ∙ go (is_summed a)
   where
-    go : (b : Bool) → (if b then (sum payload + (if b then complement (sum payload) else no_sum)) % 256 == 0 else (if b then complement (sum payload) else no_sum) == 0xaa) ≡ true
+    go : (b : Bool) → (if b then (sum payload + (if b then complement (sum payload) else fixed_checksum)) % 256 == 0 else (if b then complement (sum payload) else fixed_checksum) == 0xaa) ≡ true
     go true = eq-eqb ((sum payload + complement (sum payload)) % 256) 0 (sums_up (sum payload))
     go false = refl
 
 sum_small : (a : ℕ) (payload : List ℕ) → file_sum_for a payload < 256
 sum_small a payload = go (is_summed a) where
-  go : (b : Bool) → (if b then complement (sum payload) else no_sum) < 256
+  go : (b : Bool) → (if b then complement (sum payload) else fixed_checksum) < 256
   go true = complement_small (sum payload)
   go false = omega arith
 
@@ -151,7 +151,7 @@ pub bytes_stored : (system : FileSystem) (p : Polarity) (f : StoredFile) → Sto
 unfolding stored_bytes
 bytes_stored system p f k = bytes_append (stored_header p f) f.payload (bytes_stored_header system p f k) k.payload
 
-pub file_cell : (system : FileSystem) (p : Polarity) (f : StoredFile) → Storable system f → (at : ℕ) (filler : List ℕ) → length filler < 8 → (size_of f + length filler) % 8 ≡ 0
+pub file_cell : (system : FileSystem) (p : Polarity) (f : StoredFile) → Storable system f → (at : ℕ) (filler : List ℕ) → length filler < 8 → (stored_len f + length filler) % 8 ≡ 0
     → IsCell system p (Valid at (stored_head p f) f.payload) (stored_bytes p f ++ filler)
 unfolding stored_bytes
 file_cell system p f k at filler few multiple =
@@ -166,7 +166,7 @@ file_cell system p f k at filler few multiple =
     (cell system at f.payload filler (λ e. k.large (sym (large_back large f.attributes k.short) ∙ e)) (ap (λ (m : ℕ). m + n) (sym (length-stored_header system p f k)))
     (record { kind = k.kind; moves = still_moves large f.attributes k.short k.moves; file_sum = sum_is_right large f.attributes f.payload k.short }) few multiple)
 
-pub length-stored : (system : FileSystem) (p : Polarity) (f : StoredFile) → Storable system f → length (stored_bytes p f) ≡ size_of f
+pub length-stored : (system : FileSystem) (p : Polarity) (f : StoredFile) → Storable system f → length (stored_bytes p f) ≡ stored_len f
 unfolding stored_bytes
 length-stored system p f k = length-append (stored_header p f) f.payload ∙ ap (λ (m : ℕ). m + length f.payload) (length-stored_header system p f k)
 
@@ -181,7 +181,7 @@ bytes_name = bytes_replicate 16 255 (omega arith)
 
 pub bytes_pad_head : (size : ℕ) (p : Polarity) → IsBytes (pad_head_of size p)
 bytes_pad_head size p =
-    bytes_header no_sum pad_name pad_kind 0 size false (state_byte p) bytes_name (omega arith) (omega arith) (omega arith) (state_small p)
+    bytes_header fixed_checksum pad_name pad_kind 0 size false (state_byte p) bytes_name (omega arith) (omega arith) (omega arith) (state_small p)
 
 pub bytes_erased : (p : Polarity) (n : ℕ) → IsBytes (replicate n (erased_byte p))
 bytes_erased p n = bytes_replicate n (erased_byte p) (small p)
@@ -196,7 +196,7 @@ bytes_pad p size =
     bytes_append (pad_head_of size p) (replicate (size - 24) (erased_byte p)) (bytes_pad_head size p) (bytes_erased p (size - 24))
 
 pub length-pad_head : (size : ℕ) (p : Polarity) → length (pad_head_of size p) ≡ 24
-length-pad_head size p = length-header no_sum pad_name pad_kind 0 size false (state_byte p) refl
+length-pad_head size p = length-header fixed_checksum pad_name pad_kind 0 size false (state_byte p) refl
 
 pub length-pad : (p : Polarity) (size : ℕ) → 24 ≤ size → length (pad_bytes p size) ≡ size
 unfolding pad_bytes

@@ -3,7 +3,7 @@ use Rattle.std.proofs.Common.{◌≡◌, ◌≢◌, ◌∙◌, ℕ, List, sym, a
 use Rattle.std.specs.Prelude.{Option, Result, IfOk, IfErr}
 use Rattle.std.proofs.KnownBytes.{Keeps-refl}
 use Rattle.std.proofs.lemmas.Result.{IfOk-weaker, IfErr-weaker}
-use Rattle.fv_base.specs.Input.{ReadsWhole, ReadStops, StopsFor}
+use Rattle.fv_base.specs.Input.{ReadsWhole, ReadStops, ReadStopsFor}
 use Rattle.fv_base.specs.declared.fault.Fault.{Fault}
 use Rattle.fv_base.specs.declared.fault.FaultKind.{FaultKind}
 use Rattle.fv_base.specs.declared.fault.FaultKind.TheVariants as kinds
@@ -69,8 +69,8 @@ run_stops r m k unread left unread' left' held holds p q stops =
 -- the reader of an input makes no fault of a writer
 pub unread_kind : (unread left : Option (List ℕ)) (f : Fault) → ReadStops unread left f → f.kind ≢ kinds.WriteFault
 unread_kind unread left f stops is =
-    let cause : StopsFor kinds.WriteFault unread left f.place.offset =
-    subst (λ (kind : FaultKind). StopsFor kind unread left f.place.offset) is stops.cause in
+    let cause : ReadStopsFor kinds.WriteFault unread left f.place.offset =
+    subst (λ (kind : FaultKind). ReadStopsFor kind unread left f.place.offset) is stops.cause in
     absurd cause
 
 not_read : (side : Side) (f : Fault) (m k : Meaning) (held holds : Option (List ℕ)) → ComparisonStops side m k held holds f

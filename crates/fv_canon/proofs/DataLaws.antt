@@ -4,9 +4,9 @@ use Rattle.std.specs.Prelude.{Result, IfOk}
 use Rattle.std.proofs.lemmas.Result.{IfOk-weaker}
 use Rattle.fv_base.proofs.FieldLemmas.{bytes_drop}
 use Rattle.fv_base.proofs.KeptLemmas.{kept_whole}
-use Rattle.fv_base.specs.Kept.{KeptLatched}
+use Rattle.fv_base.specs.ListSinks.{KeptLatched}
 use Rattle.fv_base.specs.declared.fault.Fault.{Fault}
-use Rattle.fv_tree.specs.Denotes.{IsReadFile, IsReadSection, IsSection, Stream}
+use Rattle.fv_tree.specs.Denotes.{IsReadFile, IsReadSection, MeansSection, Stream}
 use Rattle.fv_tree.specs.Meaning.{FileMeaning, File, SectionMeaning, Section, content_of, body_of}
 use Rattle.fv_canon.specs.Image.{IsData, IsBodyImage, IsFrame, data_of, body_image, frame_of}
 use Rattle.fv_canon.specs.Layouts.{LaysContent, LaysBody}
@@ -20,7 +20,7 @@ pub data_is : (m : FileMeaning) (starts : List ℕ) → IsReadFile m → LaysCon
 data_is (File name kind attributes content) starts (n, l, f, (system, p, b, small, most, cell), (named, kinds, bits, is)) laid =
     let r = cell_read system p f.offset f.head f.payload b small cell in
     subst (λ (xs : List ℕ). IsData content (data_of content xs)) (append-nil starts)
-    (data_made (Stream n) (stream_made (IsSection n) (sections_made n)) kind content f.payload starts [] r.payload is laid)
+    (data_made (Stream n) (stream_made (MeansSection n) (sections_made n)) kind content f.payload starts [] r.payload is laid)
 
 -- the body of a section that was read and laid out
 pub body_is : (m : SectionMeaning) (starts : List ℕ) → IsReadSection m → LaysBody (body_of m) starts

@@ -12,8 +12,8 @@ use Rattle.fv_base.specs.declared.fault.Fault.{Fault}
 use Rattle.fv_base.specs.declared.fault.FaultKind.TheVariants as kinds
 use Rattle.fv_base.specs.declared.flash.FileSystem.{FileSystem}
 use Rattle.fv_base.specs.declared.flash.Polarity.{Polarity}
-use Rattle.fv_file.specs.Cells.{CellForm, Valid, Pad, Dead, Stub, Free, AllWithin}
-use Rattle.fv_file.specs.FileChecks.{run_of, state_checks, cell_checks}
+use Rattle.fv_file.specs.Cells.{CellForm, Valid, Pad, Dead, Stub, Free, CellsWithin}
+use Rattle.fv_file.specs.FileChecks.{leading_count, state_checks, cell_checks}
 use Rattle.fv_file.specs.FileChecks as file
 use Rattle.fv_file.specs.States.{bits_of, state_of}
 use Rattle.fv_file.specs.declared.state.FileState.{FileState}
@@ -22,12 +22,12 @@ use Rattle.fv_file.proofs.Laws.{all_within}
 use Rattle.fv_head.proofs.Laws.{fault_within, first_lies}
 use Rattle.fv_section.specs.FrameChecks.{frame_checks}
 use Rattle.fv_section.specs.FrameChecks as section
-use Rattle.fv_section.specs.Frames.{FrameForm, Splits, size}
+use Rattle.fv_section.specs.Frames.{FrameForm, Splits, frame_len}
 use Rattle.fv_section.specs.Frames as framed
 use Rattle.fv_section.proofs.Laws.{whole_within}
-use Rattle.fv_tree.specs.Denotes.{Sections, Streams, IsSection, Stream, depth_limit}
+use Rattle.fv_tree.specs.Denotes.{Sections, Streams, MeansSection, Stream, depth_limit}
 use Rattle.fv_tree.specs.Files.{FileForm, files_in, alive_in, replaces}
-use Rattle.fv_tree.specs.FirstFault.{moved, Faulty, FrameFaulty, StreamFirst, FilesFirst, BodyFirst, VolumeFirst}
+use Rattle.fv_tree.specs.FirstFault.{moved_fault, Faulty, FrameFaulty, StreamFirst, FilesFirst, BodyFirst, VolumeFirst}
 use Rattle.fv_tree.specs.FirstFault.{SectionFirst, FirstInStream, IsFirstOfVolume, data_place}
 use Rattle.fv_tree.proofs.BodyLaws.{all_filter}
 use Rattle.fv_tree.proofs.NameLaws.{files_within, twin_within, top_within}
@@ -38,20 +38,20 @@ use Rattle.fv_canon.proofs.UnfitKinds.{unfit_place}
 -- ---- the checks
 
 -- a fault that is moved stands so much further on
-moved_within : (e f : Fault) (base depth len : ℕ) → e ≡ moved base depth f → f.place.offset ≤ len → e.place.offset ≤ base + len
+moved_within : (e f : Fault) (base depth len : ℕ) → e ≡ moved_fault base depth f → f.place.offset ≤ len → e.place.offset ≤ base + len
 moved_within e f base depth len is low = subst (λ (g : Fault). g.place.offset ≤ base + len) (sym is) (omega (arith, low))
 
 -- of the checks of a section header
-frame_within : (b : List ℕ) (f : Fault) → section.IsFirst b f → f.place.offset ≤ length b
+frame_within : (b : List ℕ) (f : Fault) → section.IsFirstFrameFault b f → f.place.offset ≤ length b
 frame_within b f first =
     let low : first.at ≤ length b = omega (arith, first.inside) in
     first_among (λ (g : Fault). g.place.offset ≤ length b) (frame_checks first.at (drop first.at b)) f (low, (low, tt)) first.fault_is
 
 -- no run is longer than the bytes
-run_within : (e : ℕ) (r : List ℕ) → run_of e r ≤ length r
+run_within : (e : ℕ) (r : List ℕ) → leading_count e r ≤ length r
 run_within e [] = omega arith
 run_within e (x ∷ xs) = go (x == e) refl (run_within e xs) where
-  go : (t : Bool) → (x == e) ≡ t → run_of e xs ≤ length xs → run_of e (x ∷ xs) ≤ suc (length xs)
+  go : (t : Bool) → (x == e) ≡ t → leading_count e xs ≤ length xs → leading_count e (x ∷ xs) ≤ suc (length xs)
   go true is low = rw is (omega (arith, low))
   go false is low = rw is (omega arith)
 
@@ -80,22 +80,22 @@ module _ (at : ℕ) (r : List ℕ) where
   cell_within : (s : FileSystem) (p : Polarity) (f : Fault) → IsFirstFault (cell_checks s p at r) f → f.place.offset ≤ at + length r
   cell_within s p f ([], c, after, is, held, fails, fault) =
       let e : ℕ = erased_byte p in
-      let first : c ≡ check (nat_le 24 (length r) && not (bits_of p (slice_index r 23) == 0)) kinds.FreeSpace (at + run_of e r) = cc in
-      let place : f.place.offset ≡ at + run_of e r =
+      let first : c ≡ check (nat_le 24 (length r) && not (bits_of p (slice_index r 23) == 0)) kinds.FreeSpace (at + leading_count e r) = cc in
+      let place : f.place.offset ≡ at + leading_count e r =
       ap (λ (g : Fault). g.place.offset) fault ∙ ap (λ (d : Check Fault). d.fault.place.offset) first in
       omega (arith, place, run_within e r)
   cell_within s p f (d ∷ ds, c, after, is, held, fails, fault) =
       let e : ℕ = erased_byte p in
       let used : Bool = not (bits_of p (slice_index r 23) == 0) in
-      let first : d ≡ check (nat_le 24 (length r) && used) kinds.FreeSpace (at + run_of e r) = cc in
+      let first : d ≡ check (nat_le 24 (length r) && used) kinds.FreeSpace (at + leading_count e r) = cc in
       let holds : (nat_le 24 (length r) && used) ≡ true = ap (λ (g : Check Fault). g.holds) (sym first) ∙ held.0 in
       let long : 24 ≤ length r = leb-true _ _ (and_split (nat_le 24 (length r)) used holds).0 in
-      let low : at + run_of e r ≤ at + length r = omega (arith, run_within e r) in
+      let low : at + leading_count e r ≤ at + length r = omega (arith, run_within e r) in
       first_among (λ (g : Fault). g.place.offset ≤ at + length r) (cell_checks s p at r) f
       (low, state_within (state_of p (slice_index r 23)) s long) (d ∷ ds, c, after, is, held, fails, fault)
 
 -- of the cells of a body, which begins at a place
-body_within : (s : FileSystem) (p : Polarity) (from : ℕ) (body : List ℕ) (f : Fault) → file.IsFirst s p from body f
+body_within : (s : FileSystem) (p : Polarity) (from : ℕ) (body : List ℕ) (f : Fault) → file.IsFirstCellFault s p from body f
     → f.place.offset ≤ from + length body
 body_within s p from body f first =
     let low = cell_within (from + first.at) (drop first.at body) s p f first.fault_is in
@@ -105,7 +105,7 @@ body_within s p from body f first =
 
 -- a frame of a stream ends within it
 frame_ends : (end : ℕ) (before : List FrameForm) (f : FrameForm) (behind : List FrameForm)
-    → framed.AllWithin end (before ++ (f ∷ behind)) → f.offset + size f ≤ end
+    → framed.FramesWithin end (before ++ (f ∷ behind)) → f.offset + frame_len f ≤ end
 frame_ends end [] f behind all = all.0
 frame_ends end (g ∷ gs) f behind all = frame_ends end gs f behind all.1
 
@@ -113,7 +113,7 @@ frame_ends end (g ∷ gs) f behind all = frame_ends end gs f behind all.1
 abbrev EndsBy : ℕ → FileForm → Type 0
 EndsBy end f = data_place f + length f.payload ≤ end
 
-files_end : (end : ℕ) (cs : List CellForm) → AllWithin end cs → AllByRecursion (EndsBy end) (files_in cs)
+files_end : (end : ℕ) (cs : List CellForm) → CellsWithin end cs → AllByRecursion (EndsBy end) (files_in cs)
 files_end end [] h = tt
 files_end end (Valid at head payload ∷ cs) (lies, made, rest) = (omega (arith, lies, made), files_end end cs rest)
 files_end end (Pad at head payload ∷ cs) (lies, made, rest) = files_end end cs rest
@@ -129,13 +129,13 @@ Within I = (e : Fault) (b : List ℕ) (base depth : ℕ) → I e b base depth �
 
 -- and a frame of a stream that does
 abbrev FrameWithin : FrameFaulty → Type 0
-FrameWithin I = (e : Fault) (f : FrameForm) (base depth : ℕ) → I e f base depth → e.place.offset ≤ base + (f.offset + size f)
+FrameWithin I = (e : Fault) (f : FrameForm) (base depth : ℕ) → I e f base depth → e.place.offset ≤ base + (f.offset + frame_len f)
 
 -- of a stream
 stream_by : (R : Sections) (I : FrameFaulty) → FrameWithin I → Within (StreamFirst R I)
 stream_by R I low e b base depth (inl (f, first, is)) = moved_within e f base depth (length b) is (frame_within b f first)
 stream_by R I low e b base depth (inr (frames, tail, split, (before, f, behind, read, is, pairs, first))) =
-    let ends = frame_ends (length b) before f behind (subst (framed.AllWithin (length b)) is (whole_within frames tail b split)) in
+    let ends = frame_ends (length b) before f behind (subst (framed.FramesWithin (length b)) is (whole_within frames tail b split)) in
     omega (arith, low e f base depth first, ends)
 
 module _ (S : Streams) (I : Faulty) (low : Within I) where
@@ -168,7 +168,7 @@ module _ (S : Streams) (I : Faulty) (low : Within I) where
           let low = body_within x.file_system x.polarity x.first (drop x.first v) f bad in
           moved_within e f base depth (length b) is (omega (arith, low, end, short))
       go v end short (inr (cells, tiles, bad)) =
-          let within = subst (λ (n : ℕ). AllWithin n cells) end
+          let within = subst (λ (n : ℕ). CellsWithin n cells) end
           (all_within x.file_system x.polarity x.first cells (drop x.first v) tiles) in
           let low = files_by (length v) x.length e (files_in cells) base depth (files_within (length v) cells within)
           (files_end (length v) cells within) bad in
@@ -179,13 +179,13 @@ module _ (S : Streams) (I : Faulty) (low : Within I) where
 -- of a section
 section_within : (n : ℕ) → FrameWithin (SectionFirst n)
 section_within zero e f base depth (which, is) =
-    subst (λ (g : Fault). g.place.offset ≤ base + (f.offset + size f)) (sym is) (omega arith)
+    subst (λ (g : Fault). g.place.offset ≤ base + (f.offset + frame_len f)) (sym is) (omega arith)
 section_within (suc n) e f base depth (inl (group, first)) =
-    omega (arith, stream_by (IsSection n) (SectionFirst n) (section_within n) e f.body _ (depth + 1) first)
+    omega (arith, stream_by (MeansSection n) (SectionFirst n) (section_within n) e f.body _ (depth + 1) first)
 section_within (suc n) e f base depth (inr (kind, opens, first)) =
     omega (
       arith,
-      volume_by (Stream n) (FirstInStream n) (stream_by (IsSection n) (SectionFirst n) (section_within n))
+      volume_by (Stream n) (FirstInStream n) (stream_by (MeansSection n) (SectionFirst n) (section_within n))
           e f.body _ (depth + 1) first,
     )
 
@@ -193,7 +193,7 @@ section_within (suc n) e f base depth (inr (kind, opens, first)) =
 pub first_within : (b : List ℕ) (e : Fault) → IsFirstOfVolume b e → e.place.offset ≤ length b
 first_within b e first =
     let n : ℕ = depth_limit in
-    let low = volume_by (Stream n) (FirstInStream n) (stream_by (IsSection n) (SectionFirst n) (section_within n)) e b 0 0 first in
+    let low = volume_by (Stream n) (FirstInStream n) (stream_by (MeansSection n) (SectionFirst n) (section_within n)) e b 0 0 first in
     omega (arith, low)
 
 -- and so does that of an input which is refused

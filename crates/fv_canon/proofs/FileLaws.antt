@@ -5,44 +5,44 @@ use Rattle.std.proofs.lemmas.List.{drop_more, length-map}
 use Rattle.fv_base.specs.Flash.{erased_byte}
 use Rattle.fv_base.specs.Value.{up_to_8}
 use Rattle.fv_base.specs.declared.flash.Polarity.{Polarity}
-use Rattle.fv_file.specs.Written.{file_head_of, needs_large}
+use Rattle.fv_file.specs.NewHeaders.{file_head_of, needs_large}
 use Rattle.fv_file.proofs.FileLemmas.{header_least}
-use Rattle.fv_canon.specs.Starts.{Stands}
-use Rattle.fv_tree.specs.Meaning.{MoreFiles, FileMeaning, File, files_from, name_of, file_kind_of, attributes_of, content_of, data_len_of}
+use Rattle.fv_canon.specs.Starts.{StandsInVolume}
+use Rattle.fv_tree.specs.Meaning.{MoreFiles, FileMeaning, File, files_from, file_name_of, file_kind_of, attributes_of, content_of, data_len_of}
 use Rattle.fv_tree.specs.Sizes.{files_size, file_size}
-use Rattle.fv_tree.specs.Denotes.{IsReadFile, IsSection, Stream}
+use Rattle.fv_tree.specs.Denotes.{IsReadFile, MeansSection, Stream}
 use Rattle.fv_canon.specs.Image.{stored_of, stored_file, data_of, starts_in_file, starts_in_files, starts_in_content}
 use Rattle.fv_canon.specs.Layouts.{LaysFiles, LaysFile, LaysContent, part_of}
-use Rattle.fv_canon.specs.Stored.{size_of, size_for, head_len_for, file_sum_for, stored_bytes, gap_bytes, files_bytes}
+use Rattle.fv_canon.specs.Stored.{stored_len, size_for, head_len_for, file_sum_for, stored_bytes, gap_bytes, files_bytes}
 use Rattle.fv_canon.proofs.MadeLaws.{data_made, stream_made, sections_made, laid_file, moved, behind_is}
 use Rattle.fv_canon.proofs.OneLaws.{follow_length}
 use Rattle.fv_file.proofs.Laws.{cell_read}
 use Rattle.fv_canon.proofs.StreamLaws.{stream_again}
 use Rattle.fv_canon.proofs.VolumeLaws.{data_again, sections_again}
 use Rattle.fv_canon.specs.Placed.{ArePlaced}
-use Rattle.fv_canon.specs.Walks.{Begins}
+use Rattle.fv_canon.specs.ImageWalks.{BeginsWithStarts}
 
 -- ---- a file
-pub file_long : (m : FileMeaning) (starts : List ℕ) → IsReadFile m → Begins LaysFile m starts → length (data_of (content_of m) starts) ≡ data_len_of m
+pub file_long : (m : FileMeaning) (starts : List ℕ) → IsReadFile m → BeginsWithStarts LaysFile m starts → length (data_of (content_of m) starts) ≡ data_len_of m
 file_long (File name kind attributes content) starts (n, l, f, (system, p, b, small, most, cell), (named, kinds, bits, is)) (laid, more, text, lays) =
     let r = cell_read system p f.offset f.head f.payload b small cell in
-    let image = data_made (Stream n) (stream_made (IsSection n) (sections_made n)) kind content f.payload laid more r.payload is lays in
-    let again = data_again (Stream n) (stream_again (IsSection n) (sections_again n)) kind content f.payload (data_of content (laid ++ more)) r.payload is image in
+    let image = data_made (Stream n) (stream_made (MeansSection n) (sections_made n)) kind content f.payload laid more r.payload is lays in
+    let again = data_again (Stream n) (stream_again (MeansSection n) (sections_again n)) kind content f.payload (data_of content (laid ++ more)) r.payload is image in
     ap (λ (xs : List ℕ). length (data_of content xs)) text ∙ again.len
 
 pub stored_is : (p : Polarity) (m : FileMeaning) (starts : List ℕ) → length (data_of (content_of m) starts) ≡ data_len_of m
-    → stored_bytes p (stored_file m starts) ≡ file_head_of (name_of m) (file_kind_of m) (record { 0 = attributes_of m }) (data_len_of m) (file_sum_for (attributes_of m) (data_of (content_of m) starts)) p ++ data_of (content_of m) starts
+    → stored_bytes p (stored_file m starts) ≡ file_head_of (file_name_of m) (file_kind_of m) (record { 0 = attributes_of m }) (data_len_of m) (file_sum_for (attributes_of m) (data_of (content_of m) starts)) p ++ data_of (content_of m) starts
 unfolding stored_bytes
 stored_is p (File name kind attributes content) starts long =
     ap (λ (n : ℕ). file_head_of name kind (record { 0 = attributes }) n (file_sum_for attributes (data_of content starts)) p ++ data_of content starts) long
 
-pub size_is : (m : FileMeaning) (starts : List ℕ) → length (data_of (content_of m) starts) ≡ data_len_of m → size_of (stored_file m starts) ≡ size_for (data_len_of m)
+pub size_is : (m : FileMeaning) (starts : List ℕ) → length (data_of (content_of m) starts) ≡ data_len_of m → stored_len (stored_file m starts) ≡ size_for (data_len_of m)
 size_is (File name kind attributes content) starts long = ap size_for long
 
 pub in_content : (m : FileMeaning) → starts_in_file m ≡ starts_in_content (content_of m)
 in_content (File name kind attributes content) = refl
 
-pub content_laid : (m : FileMeaning) (starts : List ℕ) → Begins LaysFile m starts → Begins LaysContent (content_of m) starts
+pub content_laid : (m : FileMeaning) (starts : List ℕ) → BeginsWithStarts LaysFile m starts → BeginsWithStarts LaysContent (content_of m) starts
 content_laid (File name kind attributes content) starts laid = laid
 
 -- ---- the walk over the files
@@ -51,7 +51,7 @@ file_at fs i f l is = drop_more fs i f l ∙ ap (λ (x : FileMeaning). x ∷ dro
 
 -- what is known of the file at a place
 pub record Here (total e : ℕ) (f : FileMeaning) (s : ℕ) : Type 0 where
-  pub stands : Stands total e (part_of f) s
+  pub stands : StandsInVolume total e (part_of f) s
   pub low : e ≤ s
   pub apart : (s - e ≡ 0) ⊎ (24 ≤ s - e)
   pub multiple : (s - e) % 8 ≡ 0
@@ -98,7 +98,7 @@ placed_on total e f fs s ss placed =
     record { follow = placed.follow.1; eighth = omega arith; behind = omega (arith, placed.behind, h.low); within = h.next; multiple = placed.multiple; limit = placed.limit }
 
 -- the files from a place on are the one there, and then those behind it
-pub files_go : (p : Polarity) (total e : ℕ) (f : FileMeaning) (fs : List FileMeaning) (s : ℕ) (ss starts : List ℕ) → size_of (stored_file f starts) ≡ size_for (data_len_of f)
+pub files_go : (p : Polarity) (total e : ℕ) (f : FileMeaning) (fs : List FileMeaning) (s : ℕ) (ss starts : List ℕ) → stored_len (stored_file f starts) ≡ size_for (data_len_of f)
     → files_bytes p total e (stored_of (files_from (f ∷ fs)) starts) (s ∷ ss)
     ≡ (gap_bytes p (s - e) ++ (stored_bytes p (stored_file f starts) ++ replicate (up_to_8 (s + size_for (data_len_of f)) - (s + size_for (data_len_of f))) (erased_byte p)))
     ++ files_bytes p total (up_to_8 (s + size_for (data_len_of f))) (stored_of (files_from fs) (drop (starts_in_file f) starts)) ss
@@ -125,11 +125,11 @@ at_file total e fs own i f l is placed =
     let both = subst (λ (xs : List ℕ). ArePlaced total e (f ∷ drop (i + 1) fs) xs) starts (subst (λ (xs : List FileMeaning). ArePlaced total e xs (drop i own)) files placed) in
     record { files = files; starts = starts; placed = both; here = here_is total e f (drop (i + 1) fs) (get_or own i 0) (drop (i + 1) own) both }
 
-pub file_laid : (fs : List FileMeaning) (i : ℕ) (f : FileMeaning) (starts : List ℕ) → i < length fs → f ≡ get_or fs i f → Begins LaysFiles (files_from (drop i fs)) starts
-    → Begins LaysFile f starts × Begins LaysFiles (files_from (drop (i + 1) fs)) (drop (starts_in_file f) starts)
-file_laid fs i f starts l is laid = go (subst (λ (xs : List FileMeaning). Begins LaysFiles (files_from xs) starts) (file_at fs i f l is) laid)
+pub file_laid : (fs : List FileMeaning) (i : ℕ) (f : FileMeaning) (starts : List ℕ) → i < length fs → f ≡ get_or fs i f → BeginsWithStarts LaysFiles (files_from (drop i fs)) starts
+    → BeginsWithStarts LaysFile f starts × BeginsWithStarts LaysFiles (files_from (drop (i + 1) fs)) (drop (starts_in_file f) starts)
+file_laid fs i f starts l is laid = go (subst (λ (xs : List FileMeaning). BeginsWithStarts LaysFiles (files_from xs) starts) (file_at fs i f l is) laid)
   where
-    go : Begins LaysFiles (MoreFiles f (files_from (drop (i + 1) fs))) starts → Begins LaysFile f starts × Begins LaysFiles (files_from (drop (i + 1) fs)) (drop (starts_in_file f) starts)
+    go : BeginsWithStarts LaysFiles (MoreFiles f (files_from (drop (i + 1) fs))) starts → BeginsWithStarts LaysFile f starts × BeginsWithStarts LaysFiles (files_from (drop (i + 1) fs)) (drop (starts_in_file f) starts)
     go (whole, more, text, (here, behind, parts, p, q)) = (
       (here, behind ++ more, text ∙ moved whole here behind more parts, p),
       (behind, more, ap (drop (starts_in_file f)) text ∙ behind_is (starts_in_file f) whole here behind more parts (laid_file f here p), q),
@@ -142,7 +142,7 @@ files_left fs i f starts l is =
     ∙ sym (drop-drop (starts_in_files (files_from (drop (i + 1) fs))) (starts_in_file f) starts)
 
 -- the walk at a file: what is left is its gap, itself and its filler, and then the files behind it
-pub walk_goes : (p : Polarity) (total e : ℕ) (fs : List FileMeaning) (own : List ℕ) (i : ℕ) (f : FileMeaning) (starts : List ℕ) → AtFile total e fs own i f → size_of (stored_file f starts) ≡ size_for (data_len_of f)
+pub walk_goes : (p : Polarity) (total e : ℕ) (fs : List FileMeaning) (own : List ℕ) (i : ℕ) (f : FileMeaning) (starts : List ℕ) → AtFile total e fs own i f → stored_len (stored_file f starts) ≡ size_for (data_len_of f)
     → files_bytes p total e (stored_of (files_from (drop i fs)) starts) (drop i own)
     ≡ (gap_bytes p (get_or own i 0 - e) ++ (stored_bytes p (stored_file f starts)
     ++ replicate (up_to_8 (get_or own i 0 + size_for (data_len_of f)) - (get_or own i 0 + size_for (data_len_of f))) (erased_byte p)))

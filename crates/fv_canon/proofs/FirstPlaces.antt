@@ -6,8 +6,8 @@ use Rattle.std.proofs.lemmas.Bool.{cases_lt}
 use Rattle.std.proofs.lemmas.List.{drop_more, get_or_append_left, get_or_push, length_push}
 use Rattle.fv_canon.specs.declared.place.Part.{Part}
 use Rattle.fv_canon.specs.declared.place.Reach.{Reach}
-use Rattle.fv_canon.specs.Starts.{Lawful, Follow}
-use Rattle.fv_canon.specs.Reaches.{CanPlace, Reaches, IsReach, Serves, IsGreatest, Kept}
+use Rattle.fv_canon.specs.Starts.{Lawful, StartsFollow}
+use Rattle.fv_canon.specs.Reaches.{CanPlace, Reaches, IsReach, Serves, IsGreatest, AreReaches}
 use Rattle.fv_canon.proofs.Numbers.{edge_eighth, edge_within, edge_above}
 
 -- of two multiples of 8 the one is far below the other, or the other, or 8 or 16 below it
@@ -66,7 +66,7 @@ placed_by total e f fs r s h l v =
     before x p q = omega arith
 
 -- a placement begins with a start that serves
-pub begins : (total e : ℕ) (f : Part) (fs : List Part) (r : Reach) (s : ℕ) (ss : List ℕ) → total % 8 ≡ 0 → IsReach total fs r → Follow total e (f ∷ fs) (s ∷ ss) → Serves total f r s
+pub begins : (total e : ℕ) (f : Part) (fs : List Part) (r : Reach) (s : ℕ) (ss : List ℕ) → total % 8 ≡ 0 → IsReach total fs r → StartsFollow total e (f ∷ fs) (s ∷ ss) → Serves total f r s
 begins total e f fs r s ss h w p = record {
   eighth = p.0.lawful.eighth;
   aligned = p.0.lawful.aligned;
@@ -77,7 +77,7 @@ begins total e f fs r s ss h w p = record {
 pub begins_some : (total e : ℕ) (f : Part) (fs : List Part) (r : Reach) → total % 8 ≡ 0 → IsReach total fs r → CanPlace total e (f ∷ fs) → (s : ℕ) × Lawful e f s × Serves total f r s
 begins_some total e f fs r h w p = from p.starts p.follow
   where
-    from : (ss : List ℕ) → Follow total e (f ∷ fs) ss → (s : ℕ) × Lawful e f s × Serves total f r s
+    from : (ss : List ℕ) → StartsFollow total e (f ∷ fs) ss → (s : ℕ) × Lawful e f s × Serves total f r s
     from [] q = absurd q
     from (s ∷ ss) q = (s, q.0.lawful, begins total e f fs r s ss h w q)
 
@@ -116,10 +116,10 @@ reach_more total f fs behind r h w g = record {
         beyond : s ≤ r.greatest → e + 24 ≤ s → e + 24 ≤ r.greatest
         beyond p q = omega arith
 
-pub kept_none : (total : ℕ) (fs : List Part) → Kept total fs []
+pub kept_none : (total : ℕ) (fs : List Part) → AreReaches total fs []
 kept_none total fs = record { each = λ k d h. absurd (omega arith) }
 
-pub kept_more : (total : ℕ) (fs : List Part) (found : List Reach) (n : ℕ) (r : Reach) → Kept total fs found → length found + n ≡ length fs → IsReach total (drop n fs) r → Kept total fs (found ++ r ∷ [])
+pub kept_more : (total : ℕ) (fs : List Part) (found : List Reach) (n : ℕ) (r : Reach) → AreReaches total fs found → length found + n ≡ length fs → IsReach total (drop n fs) r → AreReaches total fs (found ++ r ∷ [])
 kept_more total fs found n r h e w = record {
   each = λ k d l. elim (cases_lt k (length found)) [
     | inl low ↦ subst (λ x. IsReach total (drop (length fs - k) fs) x) (sym (get_or_append_left found (r ∷ []) d k low)) (h.each k d low)
@@ -135,7 +135,7 @@ kept_more total fs found n r h e w = record {
     left : (k : ℕ) → k ≡ length found → n ≡ length fs - k
     left k p = omega arith
 
-head_edge : (total e : ℕ) (f : Part) (fs : List Part) → total % 8 ≡ 0 → (ss : List ℕ) → Follow total e (f ∷ fs) ss → (x : ℕ) × CanPlace total x fs
+head_edge : (total e : ℕ) (f : Part) (fs : List Part) → total % 8 ≡ 0 → (ss : List ℕ) → StartsFollow total e (f ∷ fs) ss → (x : ℕ) × CanPlace total x fs
 head_edge total e f fs h [] q = absurd q
 head_edge total e f fs h (s ∷ ss) q = (up_to_8 (s + f.size), record { room = edge_within (s + f.size) total h q.0.within; starts = ss; follow = q.1 })
 
@@ -165,7 +165,7 @@ reach_back total fs n d behind r p l h w g =
     subst (λ xs. IsReach total xs r) (sym (drop_step fs n d p l)) (reach_more total (get_or fs (n - 1) d) (drop n fs) behind r h w g)
 
 -- ---- the walk forward
-pub whole_can : (total first : ℕ) (fs : List Part) (found : List Reach) (r : Reach) → Kept total fs found → length found ≡ length fs + 1 → r ≡ get_or found (length fs) r → first % 8 ≡ 0 → Reaches r first → CanPlace total first fs
+pub whole_can : (total first : ℕ) (fs : List Part) (found : List Reach) (r : Reach) → AreReaches total fs found → length found ≡ length fs + 1 → r ≡ get_or found (length fs) r → first % 8 ≡ 0 → Reaches r first → CanPlace total first fs
 whole_can total first fs found r h l e p q =
     let w = h.each (length fs) r (omega arith) in
     let v = subst (λ m. IsReach total (drop m fs) (get_or found (length fs) r)) (none (length fs)) w in
@@ -175,7 +175,7 @@ whole_can total first fs found r h l e p q =
     none : (m : ℕ) → m - m ≡ 0
     none m = omega arith
 
-pub next_reach : (total : ℕ) (fs : List Part) (found : List Reach) (i : ℕ) (r : Reach) → Kept total fs found → length found ≡ length fs + 1 → i < length fs → r ≡ get_or found (length fs - 1 - i) r → IsReach total (drop (i + 1) fs) r
+pub next_reach : (total : ℕ) (fs : List Part) (found : List Reach) (i : ℕ) (r : Reach) → AreReaches total fs found → length found ≡ length fs + 1 → i < length fs → r ≡ get_or found (length fs - 1 - i) r → IsReach total (drop (i + 1) fs) r
 next_reach total fs found i r h l b e =
     let w = h.each (length fs - 1 - i) r (omega arith) in
     subst (λ x. IsReach total (drop (i + 1) fs) x) (sym e) (subst (λ m. IsReach total (drop m fs) (get_or found (length fs - 1 - i) r)) (turned (length fs) b) w)

@@ -2,7 +2,7 @@
 use Rattle.std.proofs.Common.{◌≡◌, inl, inr, ◌+◌, ◌-◌, ◌%◌, ℕ, List, [], ◌∷◌, ◌++◌, refl, ap, ◌∙◌, arith}
 use Rattle.fv_base.specs.Value.{up_to_8}
 use Rattle.fv_base.specs.declared.fault.Fault.{Fault}
-use Rattle.fv_canon.specs.Starts.{Follow, TopOff, IsOff}
+use Rattle.fv_canon.specs.Starts.{StartsFollow, TopOff, IsOff}
 use Rattle.fv_canon.specs.declared.place.Part.{Part}
 use Rattle.fv_canon.proofs.PlaceLaws.{agree}
 use Rattle.fv_tree.specs.Meaning.{Meaning, Volume, FileMeanings, NoFiles, MoreFiles, FileMeaning, File, ContentMeaning, Plain, Sectioned, SectionMeanings, NoSections, MoreSections, SectionMeaning, Section, BodyMeaning, Leaf, Group, Nested}
@@ -19,7 +19,7 @@ off_none total e f s at aligned eighth (inr b) = b (ap (λ (n : ℕ). n % 8) (st
     start : (total n : ℕ) → s + n ≡ total → total - n ≡ s
     start total n e = omega (arith, e)
 
-top_none : (total e : ℕ) (fs : List Part) (ss : List ℕ) → TopOff total fs → Follow total e fs ss → ⊥
+top_none : (total e : ℕ) (fs : List Part) (ss : List ℕ) → TopOff total fs → StartsFollow total e fs ss → ⊥
 top_none total e [] ss off follow = absurd off
 top_none total e (f ∷ fs) [] off follow = absurd follow
 top_none total e (f ∷ fs) (s ∷ ss) (inl (top, off)) follow = off_none total e f s (follow.0.at_end top) follow.0.lawful.aligned follow.0.lawful.eighth off

@@ -2,7 +2,7 @@
 use Rattle.std.proofs.Common.{◌≡◌, ◌≤◌, ◌<◌, inl, inr, ◌+◌, ℕ, zero, suc, List, [], ◌∷◌, ◌++◌, length}
 use Rattle.std.proofs.Common.{take, get_or, refl, sym, ap, ◌∙◌, subst, arith, append_assoc, append-nil}
 use Rattle.fv_base.specs.declared.fault.Fault.{Fault}
-use Rattle.fv_tree.specs.Denotes.{IsMeaning, IsReadFile, IsReadSection, IsSection, Stream}
+use Rattle.fv_tree.specs.Denotes.{IsMeaning, IsReadFile, IsReadSection, MeansSection, Stream}
 use Rattle.fv_tree.specs.Meaning.{Meaning, files_from, FileMeaning, File, content_of}
 use Rattle.fv_tree.specs.Meaning.{SectionMeanings, SectionMeaning, Section, sections_from, body_of, Group, Nested}
 use Rattle.fv_tree.specs.Sizes.{files_size, file_size, content_size, section_size, sections_size, body_size}
@@ -123,7 +123,7 @@ shallow_volume m (n, few, b, small, d) = (n, omega (arith, few), nests n b m d)
 
 pub shallow_content : (m : FileMeaning) → IsReadFile m → Shallow NestsContent (content_of m) 0
 shallow_content (File name kind attributes content) (n, few, f, stored, is) =
-    (n, omega (arith, few), file_in (Stream n) n (stream_in (IsSection n) n (sections_in n)) f (File name kind attributes content) is)
+    (n, omega (arith, few), file_in (Stream n) n (stream_in (MeansSection n) n (sections_in n)) f (File name kind attributes content) is)
 
 pub shallow_body : (s : SectionMeaning) → IsReadSection s → Shallow NestsBody (body_of s) 0
 shallow_body (Section kind extended body) (n, few, f, stored, is) = (n, omega (arith, few), sections_in n f (Section kind extended body) is)

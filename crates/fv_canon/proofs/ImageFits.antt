@@ -1,6 +1,6 @@
 -- What has an image fits.
 use Rattle.std.proofs.Common.{ℕ, ◌+◌, List, [], ◌∷◌}
-use Rattle.fv_section.specs.Frames.{FrameForm, size, up_to_4}
+use Rattle.fv_section.specs.Frames.{FrameForm, frame_len, up_to_4}
 use Rattle.fv_tree.specs.Meaning.{Meaning, Volume, FileMeanings, NoFiles, MoreFiles, FileMeaning, File, ContentMeaning, Plain, Sectioned}
 use Rattle.fv_tree.specs.Meaning.{SectionMeanings, NoSections, MoreSections, SectionMeaning, Section, BodyMeaning, Leaf, Group, Nested}
 use Rattle.fv_canon.specs.Image.{IsImage, AreStored, IsStored, IsData, AreFrames, IsFrame, IsBodyImage}
@@ -26,7 +26,7 @@ mutual
   frames_fit : (at : ℕ) (sections : SectionMeanings) (frames : List FrameForm) → AreFrames at sections frames → FitSections sections
   frames_fit at NoSections frames are = tt
   frames_fit at (MoreSections s ss) [] are = absurd are
-  frames_fit at (MoreSections s ss) (f ∷ fs) (place, is, behind) = (frame_fits s f is, frames_fit (up_to_4 (at + size f)) ss fs behind)
+  frames_fit at (MoreSections s ss) (f ∷ fs) (place, is, behind) = (frame_fits s f is, frames_fit (up_to_4 (at + frame_len f)) ss fs behind)
 
   frame_fits : (s : SectionMeaning) (f : FrameForm) → IsFrame s f → FitsSection s
   frame_fits (Section kind extended body) f (kinds, form, is) = body_fits body f.body is

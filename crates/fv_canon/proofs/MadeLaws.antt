@@ -4,10 +4,10 @@ use Rattle.std.specs.List.{AllByRecursion}
 use Rattle.std.proofs.lemmas.List.{take_at, drop_at, length-map}
 use Rattle.fv_base.specs.Value.{IsBytes}
 use Rattle.fv_base.specs.declared.flash.FileSystem.{FileSystem}
-use Rattle.fv_section.specs.Frames.{FrameForm, size, up_to_4, From}
+use Rattle.fv_section.specs.Frames.{FrameForm, frame_len, up_to_4, SplitsFrom}
 use Rattle.fv_tree.specs.Files.{FileForm}
 use Rattle.fv_tree.specs.Meaning.{Meaning, Volume, FileMeanings, NoFiles, MoreFiles, FileMeaning, File, ContentMeaning, Plain, Sectioned, SectionMeanings, NoSections, MoreSections, SectionMeaning, Section, BodyMeaning, Leaf, Group, Nested, files_list, sections_list}
-use Rattle.fv_tree.specs.Denotes.{Sections, Streams, Volumes, Pairs, StreamOver, SectionOver, VolumeOver, IsContent, IsFile, IsSection, Stream, Denotes}
+use Rattle.fv_tree.specs.Denotes.{Sections, Streams, Volumes, Pairs, StreamOver, SectionOver, VolumeOver, MeansContent, MeansFile, MeansSection, Stream, Denotes}
 use Rattle.fv_canon.specs.Image.{IsImage, AreStored, IsStored, IsData, AreFrames, IsFrame, starts_in, starts_in_files, starts_in_file, starts_in_content, starts_in_sections, starts_in_section, starts_in_body, image_of, stored_of, stored_file, data_of, frames_of, frame_of}
 use Rattle.fv_canon.specs.Layouts.{LaysVolume, LaysFiles, LaysFile, LaysContent, LaysSections, LaysSection, LaysBody, parts_of, part_of, first_edge}
 use Rattle.fv_canon.specs.Stored.{volume_bytes}
@@ -16,7 +16,7 @@ use Rattle.fv_canon.proofs.SpanLaws.{volume_written}
 use Rattle.fv_canon.proofs.StreamLaws.{StreamsAgain, begun_body, stream_again}
 use Rattle.fv_base.proofs.Laws.{bytes_back}
 use Rattle.fv_canon.proofs.VolumeLaws.{known, files_read, sections_again}
-use Rattle.fv_canon.proofs.ReadLaws.{FileRead}
+use Rattle.fv_canon.proofs.ReadLaws.{FileIsAccepted}
 
 -- ---- how many starts there are
 both : (a b n k : ℕ) (xs : List ℕ) (x y : List ℕ) → xs ≡ x ++ y → length x ≡ n → length y ≡ k → length xs ≡ n + k
@@ -75,7 +75,7 @@ offset_is : (at : ℕ) (s : SectionMeaning) (starts : List ℕ) → (frame_of at
 offset_is at (Section kind extended body) starts = refl
 
 -- ---- frame by frame
-frames_made : (is_section : Sections) → SectionsMade is_section → (at place : ℕ) (ss : SectionMeanings) (fs : List FrameForm) (tail : ℕ) (b starts more : List ℕ) → IsBytes b → From at fs tail b → Pairs is_section fs (sections_list ss)
+frames_made : (is_section : Sections) → SectionsMade is_section → (at place : ℕ) (ss : SectionMeanings) (fs : List FrameForm) (tail : ℕ) (b starts more : List ℕ) → IsBytes b → SplitsFrom at fs tail b → Pairs is_section fs (sections_list ss)
     → LaysSections ss starts → AreFrames place ss (frames_of place ss (starts ++ more))
 frames_made is_section made at place NoSections fs tail b starts more small is p laid = refl
 frames_made is_section made at place (MoreSections s ss) [] tail b starts more small is p laid = absurd p
@@ -84,11 +84,11 @@ frames_made is_section made at place (MoreSections s NoSections) (f ∷ []) tail
 frames_made is_section made at place (MoreSections s (MoreSections t ss)) (f ∷ []) tail b starts more small is p laid = absurd p.1
 frames_made is_section made at place (MoreSections s ss) (f ∷ g ∷ fs) tail b starts more small (filler, rest, begun, offset, count, later) p (here, behind, text, q, r) =
     let parts = begun_body f b (filler ++ rest) small begun in
-    let next : ℕ = up_to_4 (place + size (frame_of place s (starts ++ more))) in (
+    let next : ℕ = up_to_4 (place + frame_len (frame_of place s (starts ++ more))) in (
       offset_is place s (starts ++ more),
       subst (λ (xs : List ℕ). IsFrame s (frame_of place s xs)) (sym (moved starts here behind more text)) (made s f place here (behind ++ more) parts.0 p.0 q),
       subst (λ (xs : List ℕ). AreFrames next ss (frames_of next ss xs)) (sym (behind_is (starts_in_section s) starts here behind more text (laid_section s here q)))
-          (frames_made is_section made (up_to_4 (at + size f)) next ss (g ∷ fs) tail rest behind more (bytes_back filler rest parts.1) later p.1 r),
+          (frames_made is_section made (up_to_4 (at + frame_len f)) next ss (g ∷ fs) tail rest behind more (bytes_back filler rest parts.1) later p.1 r),
     )
 
 pub stream_made : (is_section : Sections) → SectionsMade is_section → StreamsMade (StreamOver is_section)
@@ -102,18 +102,18 @@ section_made is_stream is_volume streams volumes (Section kind extended (Nested 
     (refl, refl, volumes volume f.body starts more small is laid)
 
 -- ---- file by file
-pub data_made : (is_stream : Streams) → StreamsMade is_stream → (kind : ℕ) (content : ContentMeaning) (payload starts more : List ℕ) → IsBytes payload → IsContent is_stream kind payload content → LaysContent content starts
+pub data_made : (is_stream : Streams) → StreamsMade is_stream → (kind : ℕ) (content : ContentMeaning) (payload starts more : List ℕ) → IsBytes payload → MeansContent is_stream kind payload content → LaysContent content starts
     → IsData content (data_of content (starts ++ more))
 data_made is_stream streams kind (Plain b) payload starts more small is laid = refl
 data_made is_stream streams kind (Sectioned sections tail) payload starts more small (sectioned, is) laid =
     (frames_of 0 sections (starts ++ more), streams sections tail payload starts more small is laid, refl)
 
-file_made : (is_stream : Streams) → StreamsMade is_stream → (m : FileMeaning) (f : FileForm) (starts more : List ℕ) → IsBytes f.payload → IsFile is_stream f m → LaysFile m starts → IsStored m (stored_file m (starts ++ more))
+file_made : (is_stream : Streams) → StreamsMade is_stream → (m : FileMeaning) (f : FileForm) (starts more : List ℕ) → IsBytes f.payload → MeansFile is_stream f m → LaysFile m starts → IsStored m (stored_file m (starts ++ more))
 file_made is_stream streams (File name kind attributes content) f starts more small (named, kinds, bits, is) laid =
     (refl, refl, refl, data_made is_stream streams kind content f.payload starts more small is laid)
 
-pub files_made : (is_stream : Streams) → StreamsMade is_stream → (system : FileSystem) (limit : ℕ) (files : FileMeanings) (forms : List FileForm) (starts more : List ℕ) → AllByRecursion (FileRead system limit) forms
-    → Pairs (IsFile is_stream) forms (files_list files) → LaysFiles files starts → AreStored files (stored_of files (starts ++ more))
+pub files_made : (is_stream : Streams) → StreamsMade is_stream → (system : FileSystem) (limit : ℕ) (files : FileMeanings) (forms : List FileForm) (starts more : List ℕ) → AllByRecursion (FileIsAccepted system limit) forms
+    → Pairs (MeansFile is_stream) forms (files_list files) → LaysFiles files starts → AreStored files (stored_of files (starts ++ more))
 files_made is_stream streams system limit NoFiles forms starts more reads pairs laid = refl
 files_made is_stream streams system limit (MoreFiles m ms) [] starts more reads pairs laid = absurd pairs
 files_made is_stream streams system limit (MoreFiles m ms) (f ∷ fs) starts more reads pairs (here, behind, text, q, r) = (
@@ -144,15 +144,15 @@ none_made ss tail b starts more small none laid = absurd none
 none_volume : VolumesMade (λ _ _. ⊥)
 none_volume m b starts more small none laid = absurd none
 
-pub sections_made : (n : ℕ) → SectionsMade (IsSection n)
+pub sections_made : (n : ℕ) → SectionsMade (MeansSection n)
 sections_made zero = section_made (λ _ _ _. ⊥) (λ _ _. ⊥) none_made none_volume
 sections_made (suc n) =
-    let streams = stream_made (IsSection n) (sections_made n) in
-    section_made (StreamOver (IsSection n)) (VolumeOver (StreamOver (IsSection n))) streams
-    (volume_made (StreamOver (IsSection n)) (stream_again (IsSection n) (sections_again n)) streams)
+    let streams = stream_made (MeansSection n) (sections_made n) in
+    section_made (StreamOver (MeansSection n)) (VolumeOver (StreamOver (MeansSection n))) streams
+    (volume_made (StreamOver (MeansSection n)) (stream_again (MeansSection n) (sections_again n)) streams)
 
 -- what a walk writes is the image
 pub image_made : (n : ℕ) (m : Meaning) (b starts : List ℕ) → IsBytes b → Denotes n b m → LaysVolume m starts → IsImage m (image_of m starts)
 image_made n m b starts small d laid =
     subst (λ (xs : List ℕ). IsImage m (image_of m xs)) (append-nil starts)
-    (volume_made (Stream n) (stream_again (IsSection n) (sections_again n)) (stream_made (IsSection n) (sections_made n)) m b starts [] small d laid)
+    (volume_made (Stream n) (stream_again (MeansSection n) (sections_again n)) (stream_made (MeansSection n) (sections_made n)) m b starts [] small d laid)

@@ -3,7 +3,7 @@ use Rattle.std.proofs.Common.{◌≡◌, ℕ, List, [], ◌++◌, length, take, 
 use Rattle.std.proofs.Common.{Bool, true, false}
 use Rattle.std.specs.Prelude.{IsTrue}
 use Rattle.std.proofs.lemmas.List.{take_at}
-use Rattle.fv_canon.specs.Matching.{Differs, MatchLatched}
+use Rattle.fv_canon.specs.Matching.{IsNoFront, MatchLatched}
 
 -- ---- one step
 
@@ -13,14 +13,14 @@ front_off s bytes t front behind =
     sym (take-append-drop (length bytes) s) ∙ (ap (λ xs. xs ++ drop (length bytes) s) front ∙ ap (λ xs. bytes ++ xs) (sym behind))
 
 -- one that differs is none
-pub front_differs : (s bytes : List ℕ) → (take (length bytes) s ≡ bytes → ⊥) → Differs s bytes
+pub front_differs : (s bytes : List ℕ) → (take (length bytes) s ≡ bytes → ⊥) → IsNoFront s bytes
 front_differs s bytes other more e = other (ap (take (length bytes)) e ∙ take_at bytes more (length bytes) refl)
 
 pub match_taken : (s bytes t : List ℕ) (a : Bool) → a ≡ true → s ≡ bytes ++ t → MatchLatched s a bytes t a
 match_taken s bytes t true e taken = taken
 match_taken s bytes t false e taken = cc
 
-pub match_ended : (s bytes t : List ℕ) (a : Bool) → a ≡ true → Differs s bytes → MatchLatched s a bytes t false
+pub match_ended : (s bytes t : List ℕ) (a : Bool) → a ≡ true → IsNoFront s bytes → MatchLatched s a bytes t false
 match_ended s bytes t true e differs = differs
 match_ended s bytes t false e differs = cc
 

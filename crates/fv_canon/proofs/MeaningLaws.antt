@@ -9,7 +9,7 @@ use Rattle.fv_section.specs.Frames.{FrameForm}
 use Rattle.fv_section.proofs.StreamLemmas.{one_split}
 use Rattle.fv_tree.specs.Files.{FileForm, files_in, alive_in}
 use Rattle.fv_tree.specs.Meaning.{Meaning, Volume, FileMeanings, NoFiles, MoreFiles, FileMeaning, File, ContentMeaning, Plain, Sectioned, SectionMeanings, NoSections, MoreSections, SectionMeaning, Section, BodyMeaning, Leaf, Group, Nested, files_list, sections_list}
-use Rattle.fv_tree.specs.Denotes.{Sections, Streams, Volumes, Pairs, StreamOver, SectionOver, VolumeOver, IsContent, IsFile, IsSection, Stream, Denotes, holds_sections, group_kind, volume_kind}
+use Rattle.fv_tree.specs.Denotes.{Sections, Streams, Volumes, Pairs, StreamOver, SectionOver, VolumeOver, MeansContent, MeansFile, MeansSection, Stream, Denotes, holds_sections, group_kind, volume_kind}
 
 -- ---- lists and what they are made from
 files_back : (xs ys : FileMeanings) → files_list xs ≡ files_list ys → xs ≡ ys
@@ -85,7 +85,7 @@ section_one s s' v v' streams volumes f (Section k x b) (Section l y c) h g =
     same_section k l x y b c (h.0 ∙ sym g.0) (h.1 ∙ sym g.1) (body_one s s' v v' streams volumes k l x y b c f h g)
 
 -- ---- files
-content_one : (s s' : Streams) → StreamsOne s s' → (kind : ℕ) (payload : List ℕ) (c d : ContentMeaning) → IsContent s kind payload c → IsContent s' kind payload d → c ≡ d
+content_one : (s s' : Streams) → StreamsOne s s' → (kind : ℕ) (payload : List ℕ) (c d : ContentMeaning) → MeansContent s kind payload c → MeansContent s' kind payload d → c ≡ d
 content_one s s' streams kind payload (Plain b) (Plain c) h g = ap Plain (h.1 ∙ sym g.1)
 content_one s s' streams kind payload (Plain b) (Sectioned ss n) h g = absurd (clash (holds_sections kind) h.0 g.0)
   where
@@ -101,12 +101,12 @@ content_one s s' streams kind payload (Sectioned ss n) (Sectioned ts i) h g =
     let c : n ≡ i = same.1 in
     cc
 
-file_one : (s s' : Streams) → StreamsOne s s' → (f : FileForm) (m k : FileMeaning) → IsFile s f m → IsFile s' f k → m ≡ k
+file_one : (s s' : Streams) → StreamsOne s s' → (f : FileForm) (m k : FileMeaning) → MeansFile s f m → MeansFile s' f k → m ≡ k
 file_one s s' streams f (File n k a c) (File n' k' a' c') (p, q, r, t) (p', q', r', t') =
     let names : n ≡ n' = p ∙ sym p' in
     let kinds : k ≡ k' = q ∙ sym q' in
     let bits : a ≡ a' = r ∙ sym r' in
-    let contents : c ≡ c' = content_one s s' streams k f.payload c c' t (subst (λ (i : ℕ). IsContent s' i f.payload c') (sym kinds) t') in
+    let contents : c ≡ c' = content_one s s' streams k f.payload c c' t (subst (λ (i : ℕ). MeansContent s' i f.payload c') (sym kinds) t') in
     cc
 
 -- ---- volumes
@@ -120,8 +120,8 @@ volume_one s s' streams b (Volume h fs) (Volume k gs) d d' =
     let fronts = one_front b h k d.extent d'.extent d.front d'.front in
     let cells : d.cells ≡ d'.cells = same_tiling d.extent d'.extent b d.cells d'.cells fronts.1 d.tiles d'.tiles in
     let forms : d.files ≡ d'.files = d.alive.files_are ∙ ap (λ (cs : List CellForm). alive_in (files_in cs)) cells ∙ sym d'.alive.files_are in
-    let lists : files_list fs ≡ files_list gs = pairs_one (IsFile s) (IsFile s') (file_one s s' streams) d.files (files_list fs) (files_list gs) d.meanings
-    (subst (λ (xs : List FileForm). Pairs (IsFile s') xs (files_list gs)) (sym forms) d'.meanings) in
+    let lists : files_list fs ≡ files_list gs = pairs_one (MeansFile s) (MeansFile s') (file_one s s' streams) d.files (files_list fs) (files_list gs) d.meanings
+    (subst (λ (xs : List FileForm). Pairs (MeansFile s') xs (files_list gs)) (sym forms) d'.meanings) in
     let files : fs ≡ gs = files_back fs gs lists in
     let heads : h ≡ k = fronts.0 in
     cc
@@ -138,15 +138,15 @@ no_left v b m k h g = absurd h
 no_right : (v : Volumes) → VolumesOne v (λ _ _. ⊥)
 no_right v b m k h g = absurd g
 
-sections_one : (n k : ℕ) → SectionsOne (IsSection n) (IsSection k)
+sections_one : (n k : ℕ) → SectionsOne (MeansSection n) (MeansSection k)
 sections_one zero zero = section_one (λ _ _ _. ⊥) (λ _ _ _. ⊥) (λ _ _. ⊥) (λ _ _. ⊥) (none_left (λ _ _ _. ⊥)) (no_left (λ _ _. ⊥))
-sections_one zero (suc k) = section_one (λ _ _ _. ⊥) (StreamOver (IsSection k)) (λ _ _. ⊥) (VolumeOver (StreamOver (IsSection k))) (none_left (StreamOver (IsSection k))) (no_left (VolumeOver (StreamOver (IsSection k))))
-sections_one (suc n) zero = section_one (StreamOver (IsSection n)) (λ _ _ _. ⊥) (VolumeOver (StreamOver (IsSection n))) (λ _ _. ⊥) (none_right (StreamOver (IsSection n))) (no_right (VolumeOver (StreamOver (IsSection n))))
+sections_one zero (suc k) = section_one (λ _ _ _. ⊥) (StreamOver (MeansSection k)) (λ _ _. ⊥) (VolumeOver (StreamOver (MeansSection k))) (none_left (StreamOver (MeansSection k))) (no_left (VolumeOver (StreamOver (MeansSection k))))
+sections_one (suc n) zero = section_one (StreamOver (MeansSection n)) (λ _ _ _. ⊥) (VolumeOver (StreamOver (MeansSection n))) (λ _ _. ⊥) (none_right (StreamOver (MeansSection n))) (no_right (VolumeOver (StreamOver (MeansSection n))))
 sections_one (suc n) (suc k) =
-    let streams = stream_one (IsSection n) (IsSection k) (sections_one n k) in
-    section_one (StreamOver (IsSection n)) (StreamOver (IsSection k)) (VolumeOver (StreamOver (IsSection n))) (VolumeOver (StreamOver (IsSection k))) streams
-    (volume_one (StreamOver (IsSection n)) (StreamOver (IsSection k)) streams)
+    let streams = stream_one (MeansSection n) (MeansSection k) (sections_one n k) in
+    section_one (StreamOver (MeansSection n)) (StreamOver (MeansSection k)) (VolumeOver (StreamOver (MeansSection n))) (VolumeOver (StreamOver (MeansSection k))) streams
+    (volume_one (StreamOver (MeansSection n)) (StreamOver (MeansSection k)) streams)
 
 -- bytes are a volume of one meaning
 pub one_meaning : (n k : ℕ) (b : List ℕ) (m j : Meaning) → Denotes n b m → Denotes k b j → m ≡ j
-one_meaning n k b m j d d' = volume_one (Stream n) (Stream k) (stream_one (IsSection n) (IsSection k) (sections_one n k)) b m j d d'
+one_meaning n k b m j d d' = volume_one (Stream n) (Stream k) (stream_one (MeansSection n) (MeansSection k) (sections_one n k)) b m j d d'

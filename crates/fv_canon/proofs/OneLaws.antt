@@ -7,15 +7,15 @@ use Rattle.fv_base.specs.Value.{up_to_8}
 use Rattle.fv_base.specs.declared.guid.Guid.{Guid}
 use Rattle.fv_head.specs.Attributes.{polarity_of}
 use Rattle.fv_head.specs.Head.{HeadFields}
-use Rattle.fv_canon.specs.Starts.{Follow, IsFirstPlacement}
+use Rattle.fv_canon.specs.Starts.{StartsFollow, IsFirstPlacement}
 use Rattle.fv_canon.specs.declared.place.Part.{Part}
 use Rattle.fv_canon.proofs.PlaceLaws.{first_same}
-use Rattle.fv_section.specs.Frames.{FrameForm, size, up_to_4}
-use Rattle.fv_section.specs.Written.{stream_of}
+use Rattle.fv_section.specs.Frames.{FrameForm, frame_len, up_to_4}
+use Rattle.fv_section.specs.SectionImage.{stream_of}
 use Rattle.fv_tree.specs.Meaning.{Meaning, Volume, FileMeanings, NoFiles, MoreFiles, FileMeaning, File, ContentMeaning, Plain, Sectioned, SectionMeanings, NoSections, MoreSections, SectionMeaning, Section, BodyMeaning, Leaf, Group, Nested}
 use Rattle.fv_canon.specs.Image.{IsImage, AreStored, IsStored, IsData, AreFrames, IsFrame, IsBodyImage}
 use Rattle.fv_canon.specs.Layouts.{parts_of, first_edge}
-use Rattle.fv_canon.specs.Spans.{Span, StandsIn, IsInNone, AllStandIn, Shows}
+use Rattle.fv_canon.specs.Spans.{Span, StandsIn, IsInNone, AllStandIn, ShowsSpans}
 use Rattle.fv_canon.specs.Stored.{StoredFile, volume_spans}
 
 -- ---- bytes that show the same are the same
@@ -48,12 +48,12 @@ same_byte (p ∷ ps) b c k e sb sc rb rc = elim (cases_lt k p.at) [
     over : {k m : ℕ} → k < m → m ≤ k → ⊥
     over p q = omega arith
 
-pub shows_one : (total erased : ℕ) (ps : List Span) (b c : List ℕ) → Shows total erased ps b → Shows total erased ps c → b ≡ c
+pub shows_one : (total erased : ℕ) (ps : List Span) (b c : List ℕ) → ShowsSpans total erased ps b → ShowsSpans total erased ps c → b ≡ c
 shows_one total erased ps b c p q =
     ext_get_or 0 b c (p.length_is ∙ sym q.length_is) (λ k l. let within : k < total = subst (λ (n : ℕ). k < n) p.length_is l in same_byte ps b c k erased p.stand q.stand (p.rest k within) (q.rest k within))
 
 -- ---- there is one first placement at most
-pub follow_length : (total e : ℕ) (fs : List Part) (ss : List ℕ) → Follow total e fs ss → length ss ≡ length fs
+pub follow_length : (total e : ℕ) (fs : List Part) (ss : List ℕ) → StartsFollow total e fs ss → length ss ≡ length fs
 follow_length total e [] [] h = refl
 follow_length total e [] (s ∷ ss) h = absurd h
 follow_length total e (f ∷ fs) [] h = absurd h
@@ -73,11 +73,11 @@ starts_one total first fs ss ts p q =
     sym (take_all (length ss) ss (omega arith)) ∙ fronts_same total first fs ss ts p q (n ∙ sym k) (length ss) (omega arith) ∙ take_all (length ss) ts (omega (arith, n, k))
 
 -- ---- there is one image at most
-same_spans : (h : HeadFields) (b : List ℕ) (xs ys : List StoredFile) (ss ts : List ℕ) → xs ≡ ys → ss ≡ ts → Shows h.length (erased_byte (polarity_of h.attributes)) (volume_spans h xs ss) b
-    → Shows h.length (erased_byte (polarity_of h.attributes)) (volume_spans h ys ts) b
+same_spans : (h : HeadFields) (b : List ℕ) (xs ys : List StoredFile) (ss ts : List ℕ) → xs ≡ ys → ss ≡ ts → ShowsSpans h.length (erased_byte (polarity_of h.attributes)) (volume_spans h xs ss) b
+    → ShowsSpans h.length (erased_byte (polarity_of h.attributes)) (volume_spans h ys ts) b
 same_spans h b xs ys ss ts p q shows =
-    subst (λ (us : List ℕ). Shows h.length (erased_byte (polarity_of h.attributes)) (volume_spans h ys us) b) q
-    (subst (λ (zs : List StoredFile). Shows h.length (erased_byte (polarity_of h.attributes)) (volume_spans h zs ss) b) p shows)
+    subst (λ (us : List ℕ). ShowsSpans h.length (erased_byte (polarity_of h.attributes)) (volume_spans h ys us) b) q
+    (subst (λ (zs : List StoredFile). ShowsSpans h.length (erased_byte (polarity_of h.attributes)) (volume_spans h zs ss) b) p shows)
 
 same_file : (x y : StoredFile) → x.name ≡ y.name → x.kind ≡ y.kind → x.attributes ≡ y.attributes → x.payload ≡ y.payload → x ≡ y
 same_file x y p q r s = parts x.name y.name x.kind y.kind x.attributes y.attributes x.payload y.payload p q r s
@@ -121,7 +121,7 @@ mutual
   frames_one at (MoreSections s ss) (f ∷ fs) [] p q = absurd q
   frames_one at (MoreSections s ss) (f ∷ fs) (g ∷ gs) p q =
       let here : f ≡ g = frame_one s f g (p.0 ∙ sym q.0) p.1 q.1 in
-      let behind : fs ≡ gs = frames_one (up_to_4 (at + size g)) ss fs gs (subst (λ (h : FrameForm). AreFrames (up_to_4 (at + size h)) ss fs) here p.2) q.2 in
+      let behind : fs ≡ gs = frames_one (up_to_4 (at + frame_len g)) ss fs gs (subst (λ (h : FrameForm). AreFrames (up_to_4 (at + frame_len h)) ss fs) here p.2) q.2 in
       cc
 
   frame_one : (s : SectionMeaning) (f g : FrameForm) → f.offset ≡ g.offset → IsFrame s f → IsFrame s g → f ≡ g

@@ -2,7 +2,7 @@
 use Rattle.std.proofs.Common.{◌≡◌, ℕ, ◌+◌, ◌-◌, ◌<◌, ◌≤◌, inl, inr, List, [], ◌∷◌, ◌++◌, length, take, drop, get_or, replicate, refl, sym, ◌∙◌, ap, subst, arith, append_assoc, length-append, take-append-drop, zero-add}
 use Rattle.std.proofs.lemmas.Bool.{cases_lt}
 use Rattle.std.proofs.lemmas.List.{length-replicate, length-drop, drop-drop, take_at, drop_at, get_or_append_left, get_or-append_right, get_or-replicate, get_or-take, get_or-drop, ext_get_or, length-take-le}
-use Rattle.fv_canon.specs.Spans.{Span, IsInNone, AllStandIn, Shows, painted, InOrder}
+use Rattle.fv_canon.specs.Spans.{Span, IsInNone, AllStandIn, ShowsSpans, painted, InOrder}
 
 pub ends_in_time : (total e : ℕ) (ps : List Span) → InOrder total e ps → e ≤ total
 ends_in_time total e [] o = o
@@ -80,7 +80,7 @@ walk_length erased total e (p ∷ ps) o =
     joined : (g b gp all : ℕ) → g ≡ p.at - e → gp ≡ g + length p.bytes → all ≡ gp + b → (p.at + length p.bytes) + b ≡ total → e + all ≡ total
     joined g b gp all h i j k = omega (arith, o.0)
 
-pub shows_walk : (erased total : ℕ) (ps : List Span) → InOrder total 0 ps → Shows total erased ps (painted erased total 0 ps)
+pub shows_walk : (erased total : ℕ) (ps : List Span) → InOrder total 0 ps → ShowsSpans total erased ps (painted erased total 0 ps)
 shows_walk erased total ps o = record {
   length_is = sym (zero-add (length (painted erased total 0 ps))) ∙ walk_length erased total 0 ps o;
   stand = walk_stands erased total 0 ps [] refl o;
@@ -134,5 +134,5 @@ walk_from erased total e (p ∷ ps) b l o s r =
     past k h g = omega arith
 
 -- One list shows the spans, and it is what the walk writes.
-pub one_image : (erased total : ℕ) (ps : List Span) (b : List ℕ) → InOrder total 0 ps → Shows total erased ps b → b ≡ painted erased total 0 ps
+pub one_image : (erased total : ℕ) (ps : List Span) (b : List ℕ) → InOrder total 0 ps → ShowsSpans total erased ps b → b ≡ painted erased total 0 ps
 one_image erased total ps b o h = walk_from erased total 0 ps b h.length_is o h.stand (λ k a c n. h.rest k c n)

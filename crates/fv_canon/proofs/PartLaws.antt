@@ -6,17 +6,17 @@ use Rattle.std.specs.List.{AllByRecursion}
 use Rattle.fv_base.specs.Alignment.{alignments, alignment_of, IsAlignment}
 use Rattle.fv_base.specs.Limits.{volume_limit}
 use Rattle.fv_base.specs.declared.flash.FileSystem.{FileSystem}
-use Rattle.fv_file.specs.Files.{header_len_of}
-use Rattle.fv_file.specs.Written.{needs_large}
+use Rattle.fv_file.specs.Files.{file_header_len}
+use Rattle.fv_file.specs.NewHeaders.{needs_large}
 use Rattle.fv_head.proofs.FrontLemmas.{front_lies}
-use Rattle.fv_canon.specs.Starts.{IsPart}
+use Rattle.fv_canon.specs.Starts.{IsLawfulPart}
 use Rattle.fv_tree.proofs.Laws.{content_long}
-use Rattle.fv_tree.specs.Denotes.{IsFile, IsMeaning, IsReadFile, Pairs, Stream}
+use Rattle.fv_tree.specs.Denotes.{MeansFile, IsMeaning, IsReadFile, Pairs, Stream}
 use Rattle.fv_tree.specs.Files.{FileForm}
 use Rattle.fv_tree.specs.Meaning.{Meaning, Volume, FileMeaning, File, attributes_of, data_len_of, files_list, files_of, head_of}
 use Rattle.fv_canon.specs.Layouts.{part_of}
 use Rattle.fv_file.proofs.Laws.{cell_read}
-use Rattle.fv_canon.proofs.ReadLaws.{FileRead}
+use Rattle.fv_canon.proofs.ReadLaws.{FileIsAccepted}
 use Rattle.fv_canon.proofs.VolumeLaws.{files_read, first_behind}
 
 -- the data of a file that was read are shorter than a volume may be
@@ -89,19 +89,19 @@ alignment_power a = power_at alignments (a / 8 % 8 + 8 * (a / 2 % 2)) powers (om
 
 -- ---- the parts of a volume
 
-head_eighth : (large : Bool) → header_len_of large % 8 ≡ 0
+head_eighth : (large : Bool) → file_header_len large % 8 ≡ 0
 head_eighth true = refl
 head_eighth false = refl
 
-head_most : (large : Bool) → header_len_of large ≤ 32
+head_most : (large : Bool) → file_header_len large ≤ 32
 head_most true = omega arith
 head_most false = omega arith
 
-part_is : (total : ℕ) (m : FileMeaning) → 32 + data_len_of m ≤ total → IsPart total (part_of m)
+part_is : (total : ℕ) (m : FileMeaning) → 32 + data_len_of m ≤ total → IsLawfulPart total (part_of m)
 part_is total m l = record {
   header = head_eighth (needs_large (data_len_of m));
   holds = omega arith;
-  within = within (header_len_of (needs_large (data_len_of m))) (data_len_of m) (head_most (needs_large (data_len_of m))) l;
+  within = within (file_header_len (needs_large (data_len_of m))) (data_len_of m) (head_most (needs_large (data_len_of m))) l;
   alignment = alignment_power (attributes_of m);
 }
   where
@@ -110,8 +110,8 @@ part_is total m l = record {
 
 -- files that were read from so many bytes, in a volume that has at least 8 bytes more
 are_parts : (n : ℕ) (system : FileSystem) (limit total : ℕ) (fs : List FileForm) (ms : List FileMeaning)
-    → ((k : ℕ) → 24 + k ≤ limit → 32 + k ≤ total) → AllByRecursion (FileRead system limit) fs → Pairs (IsFile (Stream n)) fs ms
-    → All (IsPart total) (map part_of ms)
+    → ((k : ℕ) → 24 + k ≤ limit → 32 + k ≤ total) → AllByRecursion (FileIsAccepted system limit) fs → Pairs (MeansFile (Stream n)) fs ms
+    → All (IsLawfulPart total) (map part_of ms)
 are_parts n system limit total [] [] room reads pairs i d l = absurd (omega (arith, l))
 are_parts n system limit total [] (m ∷ ms) room reads pairs i d l = absurd pairs
 are_parts n system limit total (f ∷ fs) [] room reads pairs i d l = absurd pairs
@@ -123,7 +123,7 @@ are_parts n system limit total (f ∷ fs) (m ∷ ms) room reads pairs (suc i) d 
     are_parts n system limit total fs ms room reads.1 pairs.1 i d (omega (arith, l))
 
 -- the files of a volume that was read are no longer than it
-pub parts_fit : (m : Meaning) → IsMeaning m → All (IsPart (head_of m).length) (map part_of (files_of m))
+pub parts_fit : (m : Meaning) → IsMeaning m → All (IsLawfulPart (head_of m).length) (map part_of (files_of m))
 parts_fit (Volume h files) (n, few, b, small, d) =
     let body : ℕ = length (drop d.extent.first b) in
     let lies = front_lies b h d.extent d.front in

@@ -5,7 +5,7 @@ use Rattle.std.specs.Prelude.{IsTrue, MatchBool}
 use Rattle.std.proofs.lemmas.List.{drop_more, drop_all}
 use Rattle.fv_canon.specs.declared.place.Part.{Part}
 use Rattle.fv_canon.specs.declared.place.Reach.{Reach}
-use Rattle.fv_canon.specs.Starts.{Lawful, Follow, Placement, IsLeast, IsFirstPlacement}
+use Rattle.fv_canon.specs.Starts.{Lawful, StartsFollow, Placement, IsLeast, IsFirstPlacement}
 use Rattle.fv_canon.specs.Reaches.{CanPlace, IsReach, IsFirstStart}
 use Rattle.fv_canon.proofs.Numbers.{edge_eighth, edge_within, edge_above}
 use Rattle.fv_canon.proofs.FirstPlaces.{begins}
@@ -14,7 +14,7 @@ abbrev pub Firsts : ℕ → ℕ → List Part → List ℕ → Type 0
 Firsts total e [] [] = Unit {0}
 Firsts total e [] (s ∷ ss) = ⊥
 Firsts total e (f ∷ fs) [] = ⊥
-Firsts total e (f ∷ fs) (s ∷ ss) = ((t : ℕ) (ts : List ℕ) → Follow total e (f ∷ fs) (t ∷ ts) → s ≤ t) × Firsts total (up_to_8 (s + f.size)) fs ss
+Firsts total e (f ∷ fs) (s ∷ ss) = ((t : ℕ) (ts : List ℕ) → StartsFollow total e (f ∷ fs) (t ∷ ts) → s ≤ t) × Firsts total (up_to_8 (s + f.size)) fs ss
 
 same_head : (s t : ℕ) (ss ts : List ℕ) → t ∷ ts ≡ s ∷ ss → t ≡ s
 same_head s t ss ts e = cc
@@ -25,7 +25,7 @@ same_tail s t ss ts e = cc
 least_none : (i n : ℕ) → get_or [] i 0 ≤ n
 least_none i n = omega arith
 
-pub firsts_least : (total e : ℕ) (fs : List Part) (ss others : List ℕ) (i : ℕ) → Firsts total e fs ss → Follow total e fs others → take i others ≡ take i ss → get_or ss i 0 ≤ get_or others i 0
+pub firsts_least : (total e : ℕ) (fs : List Part) (ss others : List ℕ) (i : ℕ) → Firsts total e fs ss → StartsFollow total e fs others → take i others ≡ take i ss → get_or ss i 0 ≤ get_or others i 0
 firsts_least total e [] [] others i h p q = least_none i (get_or others i 0)
 firsts_least total e [] (s ∷ ss) others i h p q = absurd h
 firsts_least total e (f ∷ fs) [] others i h p q = absurd h
@@ -33,13 +33,13 @@ firsts_least total e (f ∷ fs) (s ∷ ss) [] i h p q = absurd p
 firsts_least total e (f ∷ fs) (s ∷ ss) (t ∷ ts) zero h p q = h.0 t ts p
 firsts_least total e (f ∷ fs) (s ∷ ss) (t ∷ ts) (suc i) h p q =
     let same = same_head s t (take i ss) (take i ts) q in
-    firsts_least total (up_to_8 (s + f.size)) fs ss ts i h.1 (subst (λ n. Follow total (up_to_8 (n + f.size)) fs ts) same p.1) (same_tail s t (take i ss) (take i ts) q)
+    firsts_least total (up_to_8 (s + f.size)) fs ss ts i h.1 (subst (λ n. StartsFollow total (up_to_8 (n + f.size)) fs ts) same p.1) (same_tail s t (take i ss) (take i ts) q)
 
 pub first_from : (total first : ℕ) (fs : List Part) (ss : List ℕ) → Placement total first fs ss → Firsts total first fs ss → IsFirstPlacement total first fs ss
 first_from total first fs ss p h = record { placement = p; least = λ others i q e. firsts_least total first fs ss others i h q.follow e }
 
 -- Where the least starts are a placement, each is the first.
-pub least_firsts : (total e : ℕ) (fs : List Part) (ss : List ℕ) → IsLeast total e fs ss → Follow total e fs ss → Firsts total e fs ss
+pub least_firsts : (total e : ℕ) (fs : List Part) (ss : List ℕ) → IsLeast total e fs ss → StartsFollow total e fs ss → Firsts total e fs ss
 least_firsts total e [] [] l p = tt
 least_firsts total e [] (s ∷ ss) l p = absurd l
 least_firsts total e (f ∷ fs) [] l p = absurd l
@@ -59,7 +59,7 @@ first_same total first fs ss ts p q i e = let a = p.least ts i q.placement (sym 
 
 -- ---- the walk forward
 pub record Chosen (total e : ℕ) (fs : List Part) (ss : List ℕ) : Type 0 where
-  pub follow : Follow total e fs ss
+  pub follow : StartsFollow total e fs ss
   pub firsts : Firsts total e fs ss
 
 pub chosen_more : (total e : ℕ) (f : Part) (fs : List Part) (r : Reach) (s : ℕ) (ss : List ℕ) → total % 8 ≡ 0 → IsReach total fs r → IsFirstStart total e f r s → Chosen total (up_to_8 (s + f.size)) fs ss → Chosen total e (f ∷ fs) (s ∷ ss)

@@ -11,12 +11,12 @@ use Rattle.fv_file.proofs.Laws.{FileRead as HeadRead}
 use Rattle.fv_tree.specs.Files.{FileForm, files_in, replaces, alive_in}
 use Rattle.fv_tree.proofs.BodyLaws.{all_filter}
 
-abbrev pub FileRead : FileSystem → ℕ → FileForm → Type 0
-FileRead system limit f = HeadRead system limit f.head f.payload
+abbrev pub FileIsAccepted : FileSystem → ℕ → FileForm → Type 0
+FileIsAccepted system limit f = HeadRead system limit f.head f.payload
 
 -- of each of the files among some cells, where it is known of the cells
 files_of_cells : (system : FileSystem) (limit : ℕ) (cells : List CellForm) → AllByRecursion (IsRead system limit) cells
-    → AllByRecursion (FileRead system limit) (files_in cells)
+    → AllByRecursion (FileIsAccepted system limit) (files_in cells)
 files_of_cells system limit [] reads = tt
 files_of_cells system limit (Valid at head payload ∷ cs) reads = (reads.0, files_of_cells system limit cs reads.1)
 files_of_cells system limit (Pad at head payload ∷ cs) reads = files_of_cells system limit cs reads.1
@@ -26,10 +26,10 @@ files_of_cells system limit (Free at len ∷ cs) reads = files_of_cells system l
 
 -- in a body that cells tile, each file was read
 pub body_read : (system : FileSystem) (p : Polarity) (limit at : ℕ) (cells : List CellForm) (b : List ℕ) → IsBytes b → length b ≤ limit
-    → Tiles system p at cells b → AllByRecursion (FileRead system limit) (files_in cells)
+    → Tiles system p at cells b → AllByRecursion (FileIsAccepted system limit) (files_in cells)
 body_read system p limit at cells b small most tiles =
     files_of_cells system limit cells (tiles_read system p limit at cells b small most tiles)
 
-pub alive_read : (system : FileSystem) (limit : ℕ) (fs : List FileForm) → AllByRecursion (FileRead system limit) fs
-    → AllByRecursion (FileRead system limit) (alive_in fs)
-alive_read system limit fs reads = all_filter (λ (f : FileForm). not (list_any (replaces f) fs)) (FileRead system limit) fs reads
+pub alive_read : (system : FileSystem) (limit : ℕ) (fs : List FileForm) → AllByRecursion (FileIsAccepted system limit) fs
+    → AllByRecursion (FileIsAccepted system limit) (alive_in fs)
+alive_read system limit fs reads = all_filter (λ (f : FileForm). not (list_any (replaces f) fs)) (FileIsAccepted system limit) fs reads

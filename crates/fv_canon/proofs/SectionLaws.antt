@@ -5,26 +5,26 @@ use Rattle.fv_base.specs.Value.{IsBytes}
 use Rattle.fv_base.specs.Limits.{volume_limit}
 use Rattle.fv_base.specs.Sinks.{WalkLaws}
 use Rattle.fv_base.proofs.FieldLemmas.{bytes_drop}
-use Rattle.fv_section.specs.Frames.{FrameForm, head_len, size, up_to_4}
-use Rattle.fv_section.specs.Written.{FitsForm, section_head_of, stream_of}
+use Rattle.fv_section.specs.Frames.{FrameForm, section_header_len, frame_len, up_to_4}
+use Rattle.fv_section.specs.SectionImage.{FitsForm, section_head_of, stream_of}
 use Rattle.fv_section.proofs.FrameLemmas.{length_begun}
-use Rattle.fv_tree.specs.Meaning.{SectionMeanings, NoSections, MoreSections, SectionMeaning, Section, sections_from, body_of, body_len, is_extended, section_kind_of, section_len}
+use Rattle.fv_tree.specs.Meaning.{SectionMeanings, NoSections, MoreSections, SectionMeaning, Section, sections_from, body_of, body_len, section_is_extended, section_kind_of, section_len}
 use Rattle.fv_tree.specs.Sizes.{section_size, sections_size, body_size}
-use Rattle.fv_tree.specs.Denotes.{IsSection, IsReadSection}
+use Rattle.fv_tree.specs.Denotes.{MeansSection, IsReadSection}
 use Rattle.fv_canon.specs.Image.{frames_of, frame_of, body_image, starts_in_section, starts_in_sections, starts_in_body}
 use Rattle.fv_canon.specs.Layouts.{LaysSections, LaysSection, LaysBody}
 use Rattle.fv_canon.proofs.MadeLaws.{sections_made, laid_section, moved, behind_is}
 use Rattle.fv_canon.proofs.StreamLaws.{begun_fits, begun_body}
 use Rattle.fv_canon.proofs.VolumeLaws.{sections_again}
-use Rattle.fv_canon.specs.Walks.{frame_bytes, sections_bytes, Begins, Front}
+use Rattle.fv_canon.specs.ImageWalks.{frame_bytes, sections_bytes, BeginsWithStarts, TakesFront}
 
 -- ---- a section
 pub record SectionKnown (m : SectionMeaning) (starts : List ℕ) : Type 0 where
-  pub fits : FitsForm (is_extended m) (body_len (body_of m))
+  pub fits : FitsForm (section_is_extended m) (body_len (body_of m))
   pub long : length (body_image (body_of m) starts) ≡ body_len (body_of m)
   pub small : section_len m < 2 ^ 32
 
-pub section_known : (m : SectionMeaning) (starts : List ℕ) → IsReadSection m → Begins LaysSection m starts → SectionKnown m starts
+pub section_known : (m : SectionMeaning) (starts : List ℕ) → IsReadSection m → BeginsWithStarts LaysSection m starts → SectionKnown m starts
 section_known (Section kind extended body) starts (n, l, f, (b, small, most, stands), is) (laid, more, text, lays) =
     let part : List ℕ = drop f.offset b in
     let bytes : IsBytes part = bytes_drop f.offset b small in
@@ -36,15 +36,15 @@ section_known (Section kind extended body) starts (n, l, f, (b, small, most, sta
     record {
       fits = subst (λ (x : Bool). FitsForm x (body_len body)) (sym form) (subst (FitsForm f.extended) (sym own) (begun_fits f part stands.behind bytes stands.begins));
       long = ap (λ (xs : List ℕ). length (body_image body xs)) text ∙ again.long ∙ sym own;
-      small = below (section_len (Section kind extended body)) (size f) (length part) (length b) (length stands.behind) f.offset again.len (length_begun f part stands.behind stands.begins) (length-drop f.offset b) most;
+      small = below (section_len (Section kind extended body)) (frame_len f) (length part) (length b) (length stands.behind) f.offset again.len (length_begun f part stands.behind stands.begins) (length-drop f.offset b) most;
     }
   where
-    form_of : (n : ℕ) (m : SectionMeaning) (f : FrameForm) → IsSection n f m → is_extended m ≡ f.extended
+    form_of : (n : ℕ) (m : SectionMeaning) (f : FrameForm) → MeansSection n f m → section_is_extended m ≡ f.extended
     form_of zero (Section k e b) f is = is.1
     form_of (suc n) (Section k e b) f is = is.1
 
-    cancel : (x y : Bool) (n k : ℕ) → x ≡ y → head_len y + n ≡ head_len x + k → k ≡ n
-    cancel x y n k e h = let same : head_len x ≡ head_len y = ap head_len e in omega (arith, h, same)
+    cancel : (x y : Bool) (n k : ℕ) → x ≡ y → section_header_len y + n ≡ section_header_len x + k → k ≡ n
+    cancel x y n k e h = let same : section_header_len x ≡ section_header_len y = ap section_header_len e in omega (arith, h, same)
 
     below : (s z p b r o : ℕ) → z ≡ s → p ≡ z + r → p ≡ b - o → b ≤ volume_limit → s < 2 ^ 32
     below s z p b r o e g h l = omega (arith, e, g, h, l)
@@ -52,16 +52,16 @@ section_known (Section kind extended body) starts (n, l, f, (b, small, most, sta
 -- ---- a stream goes on
 stream_goes : (at : ℕ) (s : SectionMeaning) (ss : SectionMeanings) (starts : List ℕ) (tail : ℕ)
     → stream_of (frames_of at (MoreSections s ss) starts) tail
-    ≡ frame_bytes (frame_of 0 s starts) ++ (sections_bytes (up_to_4 (size (frame_of 0 s starts)) - size (frame_of 0 s starts)) ss (drop (starts_in_section s) starts) ++ replicate tail 0)
+    ≡ frame_bytes (frame_of 0 s starts) ++ (sections_bytes (up_to_4 (frame_len (frame_of 0 s starts)) - frame_len (frame_of 0 s starts)) ss (drop (starts_in_section s) starts) ++ replicate tail 0)
 stream_goes at (Section k e b) NoSections starts tail = sym (append_assoc (section_head_of k e (length (body_image b starts))) (body_image b starts) (replicate tail 0))
 stream_goes at (Section k e b) (MoreSections t ss) starts tail =
     let f : FrameForm = frame_of 0 (Section k e b) starts in
     let head : List ℕ = section_head_of k e (length (body_image b starts)) in
-    let fill : List ℕ = replicate (up_to_4 (size f) - size f) 0 in
+    let fill : List ℕ = replicate (up_to_4 (frame_len f) - frame_len f) 0 in
     let later : List ℕ = drop (starts_in_section (Section k e b)) starts in
     let next : List ℕ = frame_bytes (frame_of 0 t later) in
-    let rest : List ℕ = sections_bytes (up_to_4 (size (frame_of 0 t later)) - size (frame_of 0 t later)) ss (drop (starts_in_section t) later) in
-    let goes = stream_goes (up_to_4 (at + size f)) t ss later tail in
+    let rest : List ℕ = sections_bytes (up_to_4 (frame_len (frame_of 0 t later)) - frame_len (frame_of 0 t later)) ss (drop (starts_in_section t) later) in
+    let goes = stream_goes (up_to_4 (at + frame_len f)) t ss later tail in
     ap (λ (xs : List ℕ). head ++ (f.body ++ (fill ++ xs))) goes
     ∙ sym (append_assoc head f.body (fill ++ (next ++ (rest ++ replicate tail 0))))
     ∙ ap (λ (xs : List ℕ). (head ++ f.body) ++ xs) (sym (append_assoc fill next (rest ++ replicate tail 0)) ∙ sym (append_assoc (fill ++ next) rest (replicate tail 0)))
@@ -70,7 +70,7 @@ stream_goes at (Section k e b) (MoreSections t ss) starts tail =
 pub stream_whole : (s : SectionMeaning) (ss : SectionMeanings) (starts : List ℕ) (tail : ℕ)
     → sections_bytes 0 (MoreSections s ss) starts ++ replicate tail 0 ≡ stream_of (frames_of 0 (MoreSections s ss) starts) tail
 stream_whole s ss starts tail =
-    append_assoc (frame_bytes (frame_of 0 s starts)) (sections_bytes (up_to_4 (size (frame_of 0 s starts)) - size (frame_of 0 s starts)) ss (drop (starts_in_section s) starts)) (replicate tail 0)
+    append_assoc (frame_bytes (frame_of 0 s starts)) (sections_bytes (up_to_4 (frame_len (frame_of 0 s starts)) - frame_len (frame_of 0 s starts)) ss (drop (starts_in_section s) starts)) (replicate tail 0)
     ∙ sym (stream_goes 0 s ss starts tail)
 
 -- ---- the walk over the sections of a stream
@@ -79,11 +79,11 @@ stream_whole s ss starts tail =
 at_is : (ss : List SectionMeaning) (i : ℕ) (s : SectionMeaning) → i < length ss → s ≡ get_or ss i s → drop i ss ≡ s ∷ drop (i + 1) ss
 at_is ss i s l is = drop_more ss i s l ∙ ap (λ (x : SectionMeaning). x ∷ drop (i + 1) ss) (sym is)
 
-pub item_laid : (ss : List SectionMeaning) (i : ℕ) (s : SectionMeaning) (starts : List ℕ) → i < length ss → s ≡ get_or ss i s → Begins LaysSections (sections_from (drop i ss)) starts
-    → Begins LaysSection s starts × Begins LaysSections (sections_from (drop (i + 1) ss)) (drop (starts_in_section s) starts)
-item_laid ss i s starts l is laid = go (subst (λ (xs : List SectionMeaning). Begins LaysSections (sections_from xs) starts) (at_is ss i s l is) laid)
+pub item_laid : (ss : List SectionMeaning) (i : ℕ) (s : SectionMeaning) (starts : List ℕ) → i < length ss → s ≡ get_or ss i s → BeginsWithStarts LaysSections (sections_from (drop i ss)) starts
+    → BeginsWithStarts LaysSection s starts × BeginsWithStarts LaysSections (sections_from (drop (i + 1) ss)) (drop (starts_in_section s) starts)
+item_laid ss i s starts l is laid = go (subst (λ (xs : List SectionMeaning). BeginsWithStarts LaysSections (sections_from xs) starts) (at_is ss i s l is) laid)
   where
-    go : Begins LaysSections (MoreSections s (sections_from (drop (i + 1) ss))) starts → Begins LaysSection s starts × Begins LaysSections (sections_from (drop (i + 1) ss)) (drop (starts_in_section s) starts)
+    go : BeginsWithStarts LaysSections (MoreSections s (sections_from (drop (i + 1) ss))) starts → BeginsWithStarts LaysSection s starts × BeginsWithStarts LaysSections (sections_from (drop (i + 1) ss)) (drop (starts_in_section s) starts)
     go (whole, more, text, (here, behind, parts, p, q)) = (
       (here, behind ++ more, text ∙ moved whole here behind more parts, p),
       (behind, more, ap (drop (starts_in_section s)) text ∙ behind_is (starts_in_section s) whole here behind more parts (laid_section s here p), q),
@@ -92,7 +92,7 @@ item_laid ss i s starts l is laid = go (subst (λ (xs : List SectionMeaning). Be
 pub in_body : (s : SectionMeaning) → starts_in_section s ≡ starts_in_body (body_of s)
 in_body (Section kind extended body) = refl
 
-pub body_laid : (s : SectionMeaning) (starts : List ℕ) → Begins LaysSection s starts → Begins LaysBody (body_of s) starts
+pub body_laid : (s : SectionMeaning) (starts : List ℕ) → BeginsWithStarts LaysSection s starts → BeginsWithStarts LaysBody (body_of s) starts
 body_laid (Section kind extended body) starts laid = laid
 
 -- sections from a place on are the one there, and then those behind it
@@ -106,24 +106,24 @@ left_is ss i s starts l is =
     turned : (a b : ℕ) → a + b ≡ a + b
     turned a b = refl
 
-framed : (s : SectionMeaning) (starts : List ℕ) → SectionKnown s starts → frame_bytes (frame_of 0 s starts) ≡ section_head_of (section_kind_of s) (is_extended s) (body_len (body_of s)) ++ body_image (body_of s) starts
+framed : (s : SectionMeaning) (starts : List ℕ) → SectionKnown s starts → frame_bytes (frame_of 0 s starts) ≡ section_head_of (section_kind_of s) (section_is_extended s) (body_len (body_of s)) ++ body_image (body_of s) starts
 framed (Section kind extended body) starts k = ap (λ (n : ℕ). section_head_of kind extended n ++ body_image body starts) k.long
 
-sized : (s : SectionMeaning) (starts : List ℕ) → SectionKnown s starts → size (frame_of 0 s starts) ≡ section_len s
-sized (Section kind extended body) starts k = ap (λ (n : ℕ). head_len extended + n) k.long
+sized : (s : SectionMeaning) (starts : List ℕ) → SectionKnown s starts → frame_len (frame_of 0 s starts) ≡ section_len s
+sized (Section kind extended body) starts k = ap (λ (n : ℕ). section_header_len extended + n) k.long
 
 pub goes_on : (ss : List SectionMeaning) (i : ℕ) (s : SectionMeaning) (starts : List ℕ) (gap : ℕ) → i < length ss → s ≡ get_or ss i s → SectionKnown s starts
     → sections_bytes gap (sections_from (drop i ss)) starts
-    ≡ (replicate gap 0 ++ (section_head_of (section_kind_of s) (is_extended s) (body_len (body_of s)) ++ body_image (body_of s) starts))
+    ≡ (replicate gap 0 ++ (section_head_of (section_kind_of s) (section_is_extended s) (body_len (body_of s)) ++ body_image (body_of s) starts))
     ++ sections_bytes (up_to_4 (section_len s) - section_len s) (sections_from (drop (i + 1) ss)) (drop (starts_in_section s) starts)
 goes_on ss i s starts gap l is k =
     ap (λ (xs : List SectionMeaning). sections_bytes gap (sections_from xs) starts) (at_is ss i s l is)
-    ∙ ap (λ (xs : List ℕ). (replicate gap 0 ++ xs) ++ sections_bytes (up_to_4 (size (frame_of 0 s starts)) - size (frame_of 0 s starts)) (sections_from (drop (i + 1) ss)) (drop (starts_in_section s) starts)) (framed s starts k)
-    ∙ ap (λ (n : ℕ). (replicate gap 0 ++ (section_head_of (section_kind_of s) (is_extended s) (body_len (body_of s)) ++ body_image (body_of s) starts)) ++ sections_bytes (up_to_4 n - n) (sections_from (drop (i + 1) ss)) (drop (starts_in_section s) starts)) (sized s starts k)
+    ∙ ap (λ (xs : List ℕ). (replicate gap 0 ++ xs) ++ sections_bytes (up_to_4 (frame_len (frame_of 0 s starts)) - frame_len (frame_of 0 s starts)) (sections_from (drop (i + 1) ss)) (drop (starts_in_section s) starts)) (framed s starts k)
+    ∙ ap (λ (n : ℕ). (replicate gap 0 ++ (section_head_of (section_kind_of s) (section_is_extended s) (body_len (body_of s)) ++ body_image (body_of s) starts)) ++ sections_bytes (up_to_4 n - n) (sections_from (drop (i + 1) ss)) (drop (starts_in_section s) starts)) (sized s starts k)
 
 -- a front grows by three pieces
-pub front_more : {S : Type 0} (takes : S → List ℕ → S → Type 0) → WalkLaws takes → (s t u v w : S) (whole rest a b c left : List ℕ) → Front takes s t whole rest → rest ≡ (a ++ (b ++ c)) ++ left → takes t a u → takes u b v → takes v c w
-    → Front takes s w whole left
+pub front_more : {S : Type 0} (takes : S → List ℕ → S → Type 0) → WalkLaws takes → (s t u v w : S) (whole rest a b c left : List ℕ) → TakesFront takes s t whole rest → rest ≡ (a ++ (b ++ c)) ++ left → takes t a u → takes u b v → takes v c w
+    → TakesFront takes s w whole left
 front_more takes laws s t u v w whole rest a b c left f e p q r = record {
   front = f.front ++ (a ++ (b ++ c));
   taken = laws.joined s t w f.front (a ++ (b ++ c)) f.taken (laws.joined t u w a (b ++ c) p (laws.joined u v w b c q r));
@@ -132,7 +132,7 @@ front_more takes laws s t u v w whole rest a b c left f e p q r = record {
 
 -- behind the last section come the tail's bytes
 pub front_end : {S : Type 0} (takes : S → List ℕ → S → Type 0) → WalkLaws takes → (ss : List SectionMeaning) (i : ℕ) (s t u : S) (gap : ℕ) (starts rest : List ℕ) (tail : ℕ) → length ss ≤ i → 0 < length ss
-    → Front takes s t (sections_bytes 0 (sections_from ss) starts) (sections_bytes gap (sections_from (drop i ss)) rest) → takes t (replicate tail 0) u → takes s (stream_of (frames_of 0 (sections_from ss) starts) tail) u
+    → TakesFront takes s t (sections_bytes 0 (sections_from ss) starts) (sections_bytes gap (sections_from (drop i ss)) rest) → takes t (replicate tail 0) u → takes s (stream_of (frames_of 0 (sections_from ss) starts) tail) u
 front_end takes laws [] i s t u gap starts rest tail l some f p = absurd (omega (arith, some))
 front_end takes laws (x ∷ xs) i s t u gap starts rest tail l some f p =
     let ended : sections_bytes gap (sections_from (drop i (x ∷ xs))) rest ≡ [] = ap (λ (ys : List SectionMeaning). sections_bytes gap (sections_from ys) rest) (drop_all i (x ∷ xs) l) in

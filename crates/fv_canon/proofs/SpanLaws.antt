@@ -7,17 +7,17 @@ use Rattle.fv_base.specs.Flash.{erased_byte}
 use Rattle.fv_base.specs.Value.{up_to_8}
 use Rattle.fv_base.specs.declared.flash.FileSystem.{FileSystem}
 use Rattle.fv_base.specs.declared.flash.Polarity.{Polarity}
-use Rattle.fv_file.specs.Written.{pad_head_of}
+use Rattle.fv_file.specs.NewHeaders.{pad_head_of}
 use Rattle.fv_head.specs.Attributes.{polarity_of}
 use Rattle.fv_head.specs.Ext.{Extension}
 use Rattle.fv_head.specs.Head.{HeadFields, IsReadHead, header_len_of}
-use Rattle.fv_head.specs.Spelled.{canonical_head}
-use Rattle.fv_head.specs.SpelledExt.{IfRead, canonical_end, canonical_first, ext_len, ext_spelled}
+use Rattle.fv_head.specs.HeadImage.{canonical_head}
+use Rattle.fv_head.specs.ExtImage.{IfRead, canonical_end, canonical_first, ext_len, ext_spelled}
 use Rattle.fv_head.proofs.SpelledLemmas.{length-canonical}
 use Rattle.fv_head.proofs.ExtSpelled.{ext_again}
-use Rattle.fv_canon.specs.Starts.{Follow}
-use Rattle.fv_canon.specs.Spans.{Span, Shows, painted, InOrder}
-use Rattle.fv_canon.specs.Stored.{StoredFile, size_of, stored_bytes, stored_part, gap_bytes, files_bytes, file_spans, ext_pad, volume_spans, volume_bytes, used_size}
+use Rattle.fv_canon.specs.Starts.{StartsFollow}
+use Rattle.fv_canon.specs.Spans.{Span, ShowsSpans, painted, InOrder}
+use Rattle.fv_canon.specs.Stored.{StoredFile, stored_len, stored_bytes, stored_part, gap_bytes, files_bytes, file_spans, ext_pad, volume_spans, volume_bytes, used_size}
 use Rattle.fv_canon.proofs.CellLaws.{Storable, length-stored, length-pad_head}
 use Rattle.fv_canon.proofs.Paint.{shows_walk, one_image}
 use Rattle.fv_canon.proofs.TileLaws.{apart, filler_is, length-gap}
@@ -32,19 +32,19 @@ lower total x y (q ∷ qs) l o = (omega (arith, l, o.0), o.1)
 
 -- ---- the files
 pub files_in_order : (system : FileSystem) (p : Polarity) (total e : ℕ) (fs : List StoredFile) (ss : List ℕ) → total % 8 ≡ 0 → e % 8 ≡ 0 → e ≤ total → AllByRecursion (Storable system) fs
-    → Follow total e (map stored_part fs) ss → InOrder total e (file_spans p e fs ss)
+    → StartsFollow total e (map stored_part fs) ss → InOrder total e (file_spans p e fs ss)
 files_in_order system p total e [] [] h m r all follow = r
 files_in_order system p total e [] (s ∷ ss) h m r all follow = absurd follow
 files_in_order system p total e (f ∷ fs) [] h m r all follow = absurd follow
 files_in_order system p total e (f ∷ fs) (s ∷ ss) h m r all follow =
     let a = apart e s m follow.0.lawful.eighth follow.0.lawful.apart in
-    let x : ℕ = s + size_of f in
+    let x : ℕ = s + stored_len f in
     let b = edges x total h follow.0.within in
     let later = files_in_order system p total (up_to_8 x) fs ss h (filler_is x).2 b.1 all.1 follow.1 in (
       omega arith,
       (
         before (length (gap_bytes p (s - e))) (length-gap p (s - e) a.0 a.1) a.2,
-        lower total (s + length (stored_bytes p f)) (up_to_8 x) (file_spans p (up_to_8 x) fs ss) (near (length (stored_bytes p f)) (size_of f) (up_to_8 x) (length-stored system p f all.0) b.0) later,
+        lower total (s + length (stored_bytes p f)) (up_to_8 x) (file_spans p (up_to_8 x) fs ss) (near (length (stored_bytes p f)) (stored_len f) (up_to_8 x) (length-stored system p f all.0) b.0) later,
       ),
     )
   where
@@ -77,13 +77,13 @@ painted_here erased total e at bytes ps same =
     zero_is a e s = omega arith
 
 pub files_painted : (system : FileSystem) (p : Polarity) (total e : ℕ) (fs : List StoredFile) (ss : List ℕ) → total % 8 ≡ 0 → e % 8 ≡ 0 → e ≤ total → AllByRecursion (Storable system) fs
-    → Follow total e (map stored_part fs) ss → painted (erased_byte p) total e (file_spans p e fs ss) ≡ files_bytes p total e fs ss
+    → StartsFollow total e (map stored_part fs) ss → painted (erased_byte p) total e (file_spans p e fs ss) ≡ files_bytes p total e fs ss
 files_painted system p total e [] [] h m r all follow = refl
 files_painted system p total e [] (s ∷ ss) h m r all follow = absurd follow
 files_painted system p total e (f ∷ fs) [] h m r all follow = absurd follow
 files_painted system p total e (f ∷ fs) (s ∷ ss) h m r all follow =
     let a = apart e s m follow.0.lawful.eighth follow.0.lawful.apart in
-    let x : ℕ = s + size_of f in
+    let x : ℕ = s + stored_len f in
     let b = edges x total h follow.0.within in
     let erased : ℕ = erased_byte p in
     let gap : List ℕ = gap_bytes p (s - e) in
@@ -107,7 +107,7 @@ pub record Writable (h : HeadFields) (fs : List StoredFile) (ss : List ℕ) : Ty
   pub multiple : h.length % 8 ≡ 0
   pub room : canonical_first h h.ext ≤ h.length
   pub files : AllByRecursion (Storable h.file_system) fs
-  pub follow : Follow h.length (canonical_first h h.ext) (map stored_part fs) ss
+  pub follow : StartsFollow h.length (canonical_first h h.ext) (map stored_part fs) ss
 
 pub length-ext_pad : (p : Polarity) (h : HeadFields) (x : Option Extension) (used : ℕ) → IfRead x → header_len_of h + length (ext_pad p x used) ≡ canonical_end h x
 unfolding ext_pad
@@ -166,9 +166,9 @@ volume_painted h fs ss k =
     own a b e = omega (arith, e)
 
 -- one list of bytes shows the volume, and it is what a walk writes
-pub volume_shows : (h : HeadFields) (fs : List StoredFile) (ss b : List ℕ) → Writable h fs ss → Shows h.length (erased_byte (polarity_of h.attributes)) (volume_spans h fs ss) b → b ≡ volume_bytes h fs ss
+pub volume_shows : (h : HeadFields) (fs : List StoredFile) (ss b : List ℕ) → Writable h fs ss → ShowsSpans h.length (erased_byte (polarity_of h.attributes)) (volume_spans h fs ss) b → b ≡ volume_bytes h fs ss
 volume_shows h fs ss b k shows = one_image (erased_byte (polarity_of h.attributes)) h.length (volume_spans h fs ss) b (volume_in_order h fs ss k) shows ∙ volume_painted h fs ss k
 
-pub volume_written : (h : HeadFields) (fs : List StoredFile) (ss : List ℕ) → Writable h fs ss → Shows h.length (erased_byte (polarity_of h.attributes)) (volume_spans h fs ss) (volume_bytes h fs ss)
+pub volume_written : (h : HeadFields) (fs : List StoredFile) (ss : List ℕ) → Writable h fs ss → ShowsSpans h.length (erased_byte (polarity_of h.attributes)) (volume_spans h fs ss) (volume_bytes h fs ss)
 volume_written h fs ss k =
-    subst (Shows h.length (erased_byte (polarity_of h.attributes)) (volume_spans h fs ss)) (volume_painted h fs ss k) (shows_walk (erased_byte (polarity_of h.attributes)) h.length (volume_spans h fs ss) (volume_in_order h fs ss k))
+    subst (ShowsSpans h.length (erased_byte (polarity_of h.attributes)) (volume_spans h fs ss)) (volume_painted h fs ss k) (shows_walk (erased_byte (polarity_of h.attributes)) h.length (volume_spans h fs ss) (volume_in_order h fs ss k))

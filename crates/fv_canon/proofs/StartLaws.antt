@@ -3,7 +3,7 @@ use Rattle.fv_base.specs.Value.{up_to_8}
 use Rattle.std.proofs.Common.{◌≡◌, ℕ, ◌+◌, ◌-◌, ◌%◌, ◌≤◌, inl, inr, refl, sym, ◌∙◌, ap, subst, arith, List, [], ◌∷◌, Bool, true, false}
 use Rattle.std.specs.Prelude.{MatchBool}
 use Rattle.fv_canon.specs.declared.place.Part.{Part}
-use Rattle.fv_canon.specs.Starts.{Lawful, Stands, Follow, IsLeast, IsLeastStart}
+use Rattle.fv_canon.specs.Starts.{Lawful, StandsInVolume, StartsFollow, IsLeast, IsLeastStart}
 use Rattle.fv_canon.specs.Reaches.{Widens}
 
 -- sums and differences of multiples of 8
@@ -40,16 +40,16 @@ least_start_one total e f s t = by_top f.top
 -- starts that are least and a placement, from an up_to_8 on
 pub record Greedy (total e : ℕ) (fs : List Part) (starts : List ℕ) : Type 0 where
   pub least : IsLeast total e fs starts
-  pub follow : Follow total e fs starts
+  pub follow : StartsFollow total e fs starts
 
 pub greedy_none : (total e : ℕ) → Greedy total e [] []
 greedy_none total e = record { least = tt; follow = tt }
 
-pub greedy_more : (total e : ℕ) (f : Part) (fs : List Part) (s : ℕ) (ss : List ℕ) → IsLeastStart total e f s → Stands total e f s → Greedy total (up_to_8 (s + f.size)) fs ss → Greedy total e (f ∷ fs) (s ∷ ss)
+pub greedy_more : (total e : ℕ) (f : Part) (fs : List Part) (s : ℕ) (ss : List ℕ) → IsLeastStart total e f s → StandsInVolume total e f s → Greedy total (up_to_8 (s + f.size)) fs ss → Greedy total e (f ∷ fs) (s ∷ ss)
 greedy_more total e f fs s ss l p g = record { least = (l, g.least); follow = (p, g.follow) }
 
 -- the first of such starts
-pub greedy_head : (total e : ℕ) (f : Part) (fs : List Part) (all : List ℕ) → Greedy total e (f ∷ fs) all → (s : ℕ) × (ss : List ℕ) × (all ≡ s ∷ ss) × IsLeastStart total e f s × Stands total e f s × Greedy total (up_to_8 (s + f.size)) fs ss
+pub greedy_head : (total e : ℕ) (f : Part) (fs : List Part) (all : List ℕ) → Greedy total e (f ∷ fs) all → (s : ℕ) × (ss : List ℕ) × (all ≡ s ∷ ss) × IsLeastStart total e f s × StandsInVolume total e f s × Greedy total (up_to_8 (s + f.size)) fs ss
 greedy_head total e f fs [] g = elim g.least [ ]
 greedy_head total e f fs (s ∷ ss) g = (s, ss, refl, g.least.0, g.follow.0, record { least = g.least.1; follow = g.follow.1 })
 

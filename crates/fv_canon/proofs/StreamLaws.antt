@@ -4,8 +4,8 @@ use Rattle.std.proofs.lemmas.List.{length-take-le, length-replicate}
 use Rattle.fv_base.specs.Value.{IsBytes, le_at, le_bytes, field}
 use Rattle.fv_base.proofs.FieldLemmas.{none_at, bytes_cons, bytes_take, bytes_drop, bytes_append, bytes_le_bytes}
 use Rattle.fv_base.proofs.NumberLaws.{bytes_front, bytes_back, bytes_replicate, le_below}
-use Rattle.fv_section.specs.Frames.{FrameForm, head_len, size, IsHeader, Begins, From, Splits, up_to_4}
-use Rattle.fv_section.specs.Written.{FitsForm, section_head_of, stream_of, InPlace}
+use Rattle.fv_section.specs.Frames.{FrameForm, section_header_len, frame_len, IsSectionHeader, BeginsFrame, SplitsFrom, Splits, up_to_4}
+use Rattle.fv_section.specs.SectionImage.{FitsForm, section_head_of, stream_of, InPlace}
 use Rattle.fv_section.proofs.FrameLemmas.{length_begun}
 use Rattle.fv_section.proofs.WrittenLemmas.{streams_are_read}
 use Rattle.fv_tree.specs.Meaning.{Meaning, SectionMeanings, NoSections, MoreSections, SectionMeaning, Section, Leaf, Group, Nested, sections_list, sections_end, section_len, length_of}
@@ -13,7 +13,7 @@ use Rattle.fv_tree.specs.Denotes.{Sections, Streams, Volumes, Pairs, StreamOver,
 use Rattle.fv_canon.specs.Image.{IsImage, AreFrames, IsFrame}
 
 -- ---- a body that was read fits the form of its header
-fits_form : (extended : Bool) (kind n : ℕ) (h : List ℕ) → IsBytes h → IsHeader extended kind n h → FitsForm extended n
+fits_form : (extended : Bool) (kind n : ℕ) (h : List ℕ) → IsBytes h → IsSectionHeader extended kind n h → FitsForm extended n
 fits_form false kind n h small is =
     let long : length (field 0 3 h) ≡ 3 = length-take-le 3 h (omega (arith, is.whole)) in
     let most : le_at 0 3 h < 16777216 = le_below 3 (field 0 3 h) (bytes_take 3 h small) long in
@@ -39,16 +39,16 @@ fits_form true kind n h small is =
     long_drop (a ∷ b ∷ []) e = absurd (omega arith)
     long_drop (a ∷ b ∷ c ∷ []) e = absurd (omega arith)
 
-pub begun_fits : (f : FrameForm) (b rest : List ℕ) → IsBytes b → Begins f b rest → FitsForm f.extended (length f.body)
+pub begun_fits : (f : FrameForm) (b rest : List ℕ) → IsBytes b → BeginsFrame f b rest → FitsForm f.extended (length f.body)
 begun_fits f b rest small is = fits_form f.extended f.kind (length f.body) is.head (bytes_front is.head (f.body ++ rest) (subst IsBytes is.text small)) is.is_header
 
-pub begun_body : (f : FrameForm) (b rest : List ℕ) → IsBytes b → Begins f b rest → IsBytes f.body × IsBytes rest
+pub begun_body : (f : FrameForm) (b rest : List ℕ) → IsBytes b → BeginsFrame f b rest → IsBytes f.body × IsBytes rest
 begun_body f b rest small is =
     let back = bytes_back is.head (f.body ++ rest) (subst IsBytes is.text small) in
     (bytes_front f.body rest back, bytes_back f.body rest back)
 
 -- the type of a section that was read is a byte, and then a header of this type is bytes
-begun_kind : (f : FrameForm) (b rest : List ℕ) → IsBytes b → Begins f b rest → f.kind < 256
+begun_kind : (f : FrameForm) (b rest : List ℕ) → IsBytes b → BeginsFrame f b rest → f.kind < 256
 begun_kind f b rest small is =
     subst (λ (n : ℕ). n < 256) is.is_header.kind_is (bytes_front is.head (f.body ++ rest) (subst IsBytes is.text small) 3)
 
@@ -74,7 +74,7 @@ pub record FrameAgain (is_section : Sections) (s : SectionMeaning) (f g : FrameF
   pub kind : g.kind ≡ f.kind
   pub extended : g.extended ≡ f.extended
   pub long : length g.body ≡ length f.body
-  pub len : size f ≡ section_len s
+  pub len : frame_len f ≡ section_len s
 
 abbrev pub SectionsAgain : Sections → Type 0
 SectionsAgain is_section = (s : SectionMeaning) (f g : FrameForm) → IsBytes f.body → is_section f s → IsFrame s g → FrameAgain is_section s f g
@@ -108,7 +108,7 @@ record FramesAgain (is_section : Sections) (at end : ℕ) (ss : SectionMeanings)
   pub long : length (stream_of gs tail) ≡ length b
   pub len : at + length b ≡ sections_end end ss + tail
 
-head_long : (kind : ℕ) (extended : Bool) (n : ℕ) → length (section_head_of kind extended n) ≡ head_len extended
+head_long : (kind : ℕ) (extended : Bool) (n : ℕ) → length (section_head_of kind extended n) ≡ section_header_len extended
 head_long kind false n = refl
 head_long kind true n = refl
 
@@ -125,22 +125,22 @@ none_again is_section at end tail b m e z none count = record {
     joined a e n t p q r = omega arith
 
 last_again : (is_section : Sections) → SectionsAgain is_section → (at end : ℕ) (s : SectionMeaning) (f g : FrameForm) (tail : ℕ) (b : List ℕ) → IsBytes b → up_to_4 end ≡ at
-    → From at (f ∷ []) tail b → is_section f s → (g.offset ≡ at) → IsFrame s g → FramesAgain is_section at end (MoreSections s NoSections) (g ∷ []) tail b
+    → SplitsFrom at (f ∷ []) tail b → is_section f s → (g.offset ≡ at) → IsFrame s g → FramesAgain is_section at end (MoreSections s NoSections) (g ∷ []) tail b
 last_again is_section again at end s f g tail b small e (rest, begun, offset, count, most) p there q =
     let a = again s f g (begun_body f b rest small begun).0 p q in
     let fits = begun_fits f b rest small begun in
-    let sizes : size g ≡ size f = same_size f.extended g.extended (length f.body) (length g.body) a.extended a.long in
+    let sizes : frame_len g ≡ frame_len f = same_size f.extended g.extended (length f.body) (length g.body) a.extended a.long in
     record {
       placed = (there, subst (λ (x : Bool). FitsForm x (length g.body)) (sym a.extended) (subst (FitsForm f.extended) (sym a.long) fits), subst (λ (n : ℕ). at + n + tail ≤ up_to_4 (at + n)) (sym sizes) most);
       pairs = (a.is, tt);
       bytes =
           bytes_begun g f.kind (replicate tail 0) a.kind (begun_kind f b rest small begun) a.bytes (bytes_replicate tail 0 (omega arith));
-      long = whole (length (section_head_of g.kind g.extended (length g.body))) (length g.body) (length (replicate tail 0)) tail (length (g.body ++ replicate tail 0)) (length (stream_of (g ∷ []) tail)) (length b) (length rest) (head_len g.extended) (size f)
+      long = whole (length (section_head_of g.kind g.extended (length g.body))) (length g.body) (length (replicate tail 0)) tail (length (g.body ++ replicate tail 0)) (length (stream_of (g ∷ []) tail)) (length b) (length rest) (section_header_len g.extended) (frame_len f)
           (head_long g.kind g.extended (length g.body)) (length-replicate tail 0) (length-append g.body (replicate tail 0)) (length-append (section_head_of g.kind g.extended (length g.body)) (g.body ++ replicate tail 0)) sizes (length_begun f b rest begun) count;
-      len = ended at end (up_to_4 end) (length b) (size f) (section_len s) (length rest) tail (length_begun f b rest begun) count e a.len;
+      len = ended at end (up_to_4 end) (length b) (frame_len f) (section_len s) (length rest) tail (length_begun f b rest begun) count e a.len;
     }
   where
-    same_size : (x y : Bool) (n k : ℕ) → y ≡ x → k ≡ n → head_len y + k ≡ head_len x + n
+    same_size : (x y : Bool) (n k : ℕ) → y ≡ x → k ≡ n → section_header_len y + k ≡ section_header_len x + n
     same_size x y n k p q = rw (p, q)
 
     whole : (h k r t kr all b rest hl sf : ℕ) → h ≡ hl → r ≡ t → kr ≡ k + r → all ≡ h + kr → hl + k ≡ sf → b ≡ sf + rest → rest ≡ t → all ≡ b
@@ -150,31 +150,31 @@ last_again is_section again at end s f g tail b small e (rest, begun, offset, co
     ended at end up n sf sl rest tail p q r l = omega arith
 
 more_again : (is_section : Sections) → SectionsAgain is_section → (at end : ℕ) (s t : SectionMeaning) (ss : SectionMeanings) (f h : FrameForm) (fs : List FrameForm) (g k : FrameForm) (gs : List FrameForm) (tail : ℕ) (b filler rest : List ℕ)
-    → IsBytes b → at % 4 ≡ 0 → up_to_4 end ≡ at → Begins f b (filler ++ rest) → f.offset ≡ at → at + size f + length filler ≡ up_to_4 (at + size f)
+    → IsBytes b → at % 4 ≡ 0 → up_to_4 end ≡ at → BeginsFrame f b (filler ++ rest) → f.offset ≡ at → at + frame_len f + length filler ≡ up_to_4 (at + frame_len f)
     → is_section f s → g.offset ≡ at → IsFrame s g
-    → (size g ≡ size f → FramesAgain is_section (up_to_4 (at + size g)) (up_to_4 end + section_len s) (MoreSections t ss) (k ∷ gs) tail rest)
+    → (frame_len g ≡ frame_len f → FramesAgain is_section (up_to_4 (at + frame_len g)) (up_to_4 end + section_len s) (MoreSections t ss) (k ∷ gs) tail rest)
     → FramesAgain is_section at end (MoreSections s (MoreSections t ss)) (g ∷ k ∷ gs) tail b
 more_again is_section again at end s t ss f h fs g k gs tail b filler rest small m e begun offset count p there q behind =
     let a = again s f g (begun_body f b (filler ++ rest) small begun).0 p q in
     let fits = begun_fits f b (filler ++ rest) small begun in
-    let sizes : size g ≡ size f = same_size f.extended g.extended (length f.body) (length g.body) a.extended a.long in
+    let sizes : frame_len g ≡ frame_len f = same_size f.extended g.extended (length f.body) (length g.body) a.extended a.long in
     let r = behind sizes in
     let head : List ℕ = section_head_of g.kind g.extended (length g.body) in
-    let fill : List ℕ = replicate (up_to_4 (size g) - size g) 0 in
+    let fill : List ℕ = replicate (up_to_4 (frame_len g) - frame_len g) 0 in
     let others : List ℕ = stream_of (k ∷ gs) tail in
     record {
       placed = (there, subst (λ (x : Bool). FitsForm x (length g.body)) (sym a.extended) (subst (FitsForm f.extended) (sym a.long) fits), r.placed);
       pairs = (a.is, r.pairs);
       bytes = bytes_begun g f.kind (fill ++ others) a.kind (begun_kind f b (filler ++ rest) small begun) a.bytes
-          (bytes_append fill others (bytes_replicate (up_to_4 (size g) - size g) 0 (omega arith)) r.bytes);
-      long = whole at (length head) (length g.body) (length fill) (length others) (length (fill ++ others)) (length (g.body ++ (fill ++ others))) (length (head ++ (g.body ++ (fill ++ others)))) (length b) (length (filler ++ rest)) (length filler) (length rest) (head_len g.extended) (size f) (size g)
-          m (head_long g.kind g.extended (length g.body)) (length-replicate (up_to_4 (size g) - size g) 0) (length-append fill others) (length-append g.body (fill ++ others)) (length-append head (g.body ++ (fill ++ others))) refl sizes
+          (bytes_append fill others (bytes_replicate (up_to_4 (frame_len g) - frame_len g) 0 (omega arith)) r.bytes);
+      long = whole at (length head) (length g.body) (length fill) (length others) (length (fill ++ others)) (length (g.body ++ (fill ++ others))) (length (head ++ (g.body ++ (fill ++ others)))) (length b) (length (filler ++ rest)) (length filler) (length rest) (section_header_len g.extended) (frame_len f) (frame_len g)
+          m (head_long g.kind g.extended (length g.body)) (length-replicate (up_to_4 (frame_len g) - frame_len g) 0) (length-append fill others) (length-append g.body (fill ++ others)) (length-append head (g.body ++ (fill ++ others))) refl sizes
           (length_begun f b (filler ++ rest) begun) (length-append filler rest) count r.long;
-      len = ended at end (up_to_4 (at + size g)) (length b) (length (filler ++ rest)) (length filler) (length rest) (size f) (size g) (sections_end (up_to_4 end + section_len s) (MoreSections t ss) + tail)
+      len = ended at end (up_to_4 (at + frame_len g)) (length b) (length (filler ++ rest)) (length filler) (length rest) (frame_len f) (frame_len g) (sections_end (up_to_4 end + section_len s) (MoreSections t ss) + tail)
           sizes refl (length_begun f b (filler ++ rest) begun) (length-append filler rest) count r.len;
     }
   where
-    same_size : (x y : Bool) (n k : ℕ) → y ≡ x → k ≡ n → head_len y + k ≡ head_len x + n
+    same_size : (x y : Bool) (n k : ℕ) → y ≡ x → k ≡ n → section_header_len y + k ≡ section_header_len x + n
     same_size x y n k p q = rw (p, q)
 
     whole : (at h k z o zo kzo all b fr fi rest hl sf sg : ℕ) → at % 4 ≡ 0 → h ≡ hl → z ≡ up_to_4 sg - sg → zo ≡ z + o → kzo ≡ k + zo → all ≡ h + kzo → sg ≡ hl + k → sg ≡ sf → b ≡ sf + fr → fr ≡ fi + rest
@@ -194,7 +194,7 @@ no_cons : {A : Type 0} (x : A) (xs : List A) → x ∷ xs ≡ [] → ⊥
 no_cons x xs e = cc
 
 frames_again : (is_section : Sections) → SectionsAgain is_section → (at end : ℕ) (ss : SectionMeanings) (fs gs : List FrameForm) (tail : ℕ) (b : List ℕ) → IsBytes b → at % 4 ≡ 0 → up_to_4 end ≡ at
-    → (fs ≡ [] → at ≡ end) → From at fs tail b → Pairs is_section fs (sections_list ss) → AreFrames at ss gs → FramesAgain is_section at end ss gs tail b
+    → (fs ≡ [] → at ≡ end) → SplitsFrom at fs tail b → Pairs is_section fs (sections_list ss) → AreFrames at ss gs → FramesAgain is_section at end ss gs tail b
 frames_again is_section again at end NoSections [] [] tail b small m e z is p q = none_again is_section at end tail b m e (z refl) is.0 is.1
 frames_again is_section again at end NoSections [] (g ∷ gs) tail b small m e z is p q = absurd (no_cons g gs q)
 frames_again is_section again at end NoSections (f ∷ fs) gs tail b small m e z is p q = absurd p
@@ -209,8 +209,8 @@ frames_again is_section again at end (MoreSections s (MoreSections t ss)) (f ∷
     let parts = begun_body f b (filler ++ rest) small begun in
     let a = again s f g parts.0 p.0 q.1 in
     more_again is_section again at end s t ss f h fs g k gs tail b filler rest small m e begun offset count p.0 q.0 q.1
-    (λ same. frames_again is_section again (up_to_4 (at + size g)) (up_to_4 end + section_len s) (MoreSections t ss) (h ∷ fs) (k ∷ gs) tail rest (bytes_back filler rest parts.1) (up_is (at + size g))
-    (next_end at end (size f) s (size g) e a.len same) (λ none. absurd (no_cons h fs none)) (subst (λ (n : ℕ). From (up_to_4 (at + n)) (h ∷ fs) tail rest) (sym same) more) p.1 q.2)
+    (λ same. frames_again is_section again (up_to_4 (at + frame_len g)) (up_to_4 end + section_len s) (MoreSections t ss) (h ∷ fs) (k ∷ gs) tail rest (bytes_back filler rest parts.1) (up_is (at + frame_len g))
+    (next_end at end (frame_len f) s (frame_len g) e a.len same) (λ none. absurd (no_cons h fs none)) (subst (λ (n : ℕ). SplitsFrom (up_to_4 (at + n)) (h ∷ fs) tail rest) (sym same) more) p.1 q.2)
 
 -- a stream is read again
 pub stream_again : (is_section : Sections) → SectionsAgain is_section → StreamsAgain (StreamOver is_section)
@@ -240,7 +240,7 @@ section_again is_stream is_volume streams volumes (Section kind extended (Leaf b
       len = sized f extended (length body) e (ap length (sym same));
     }
   where
-    sized : (f : FrameForm) (x : Bool) (n : ℕ) → x ≡ f.extended → length f.body ≡ n → size f ≡ head_len x + n
+    sized : (f : FrameForm) (x : Bool) (n : ℕ) → x ≡ f.extended → length f.body ≡ n → frame_len f ≡ section_header_len x + n
     sized f x n p q = rw (p, q)
 section_again is_stream is_volume streams volumes (Section kind extended (Group sections tail)) f g small (k, e, (is_group, is)) (gk, ge, image) =
     let a = streams sections tail f.body g.body small is image in
@@ -254,7 +254,7 @@ section_again is_stream is_volume streams volumes (Section kind extended (Group 
       len = sized f extended (sections_end 0 sections + tail) e a.len;
     }
   where
-    sized : (f : FrameForm) (x : Bool) (n : ℕ) → x ≡ f.extended → length f.body ≡ n → size f ≡ head_len x + n
+    sized : (f : FrameForm) (x : Bool) (n : ℕ) → x ≡ f.extended → length f.body ≡ n → frame_len f ≡ section_header_len x + n
     sized f x n p q = rw (p, q)
 section_again is_stream is_volume streams volumes (Section kind extended (Nested volume)) f g small (k, e, (is_there, opens, is)) (gk, ge, image) =
     let a = volumes volume f.body g.body small is image in
@@ -268,5 +268,5 @@ section_again is_stream is_volume streams volumes (Section kind extended (Nested
       len = sized f extended (length_of volume) e a.len;
     }
   where
-    sized : (f : FrameForm) (x : Bool) (n : ℕ) → x ≡ f.extended → length f.body ≡ n → size f ≡ head_len x + n
+    sized : (f : FrameForm) (x : Bool) (n : ℕ) → x ≡ f.extended → length f.body ≡ n → frame_len f ≡ section_header_len x + n
     sized f x n p q = rw (p, q)

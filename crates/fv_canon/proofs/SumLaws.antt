@@ -6,7 +6,7 @@ use Rattle.fv_base.specs.Guids.{bytes_of}
 use Rattle.fv_base.specs.Value.{le_bytes}
 use Rattle.fv_base.specs.declared.flash.Polarity.{Polarity}
 use Rattle.fv_file.specs.Attributes.{is_summed}
-use Rattle.fv_file.specs.Written.{complement, no_sum, header_with, header_bytes, needs_large, with_large, state_byte}
+use Rattle.fv_file.specs.NewHeaders.{complement, fixed_checksum, header_with, header_bytes, needs_large, with_large, state_byte}
 use Rattle.fv_canon.specs.Stored.{StoredFile, file_sum_for, file_adds, stored_bytes, head_len_for}
 
 -- the sum of a header is that of the same with its two sums and State taken as zero, and these
@@ -48,6 +48,6 @@ stored_adds p f =
     (sum f.payload) (state_byte p) (is_summed f.attributes)
     (header_adds (file_sum_for f.attributes f.payload) (bytes_of f.name) f.kind (with_large (needs_large (length f.payload)) f.attributes) (head_len_for (length f.payload) + length f.payload) (needs_large (length f.payload)) (state_byte p))
   where
-    joined : (h d s : ℕ) (b : Bool) → h % 256 ≡ ((if b then complement d else no_sum) + s) % 256 → (h + d) % 256 ≡ (if b then s else (no_sum + s + d)) % 256
+    joined : (h d s : ℕ) (b : Bool) → h % 256 ≡ ((if b then complement d else fixed_checksum) + s) % 256 → (h + d) % 256 ≡ (if b then s else (fixed_checksum + s + d)) % 256
     joined h d s true e = omega (arith, e)
     joined h d s false e = omega (arith, e)

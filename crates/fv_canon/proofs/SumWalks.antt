@@ -5,7 +5,7 @@ use Rattle.std.proofs.lemmas.List.{take_more}
 use Rattle.std.proofs.lemmas.List.Sums.{sum_by-append}
 use Rattle.fv_base.specs.declared.flash.Polarity.{Polarity}
 use Rattle.fv_file.specs.Attributes.{is_summed}
-use Rattle.fv_file.specs.Written.{complement, no_sum, state_byte}
+use Rattle.fv_file.specs.NewHeaders.{complement, fixed_checksum, state_byte}
 use Rattle.fv_tree.specs.Meaning.{FileMeaning, File, attributes_of}
 use Rattle.fv_canon.specs.Image.{stored_file, data_of}
 use Rattle.fv_canon.specs.Stored.{file_sum_for, stored_bytes}
@@ -20,19 +20,19 @@ byte_added xs i t0 t l e =
 
 -- the file sum of a file with the checksum attribute, and of another
 pub summed_text : (a : ℕ) (d : List ℕ) (total : ℕ) → is_summed a ≡ true → total < 256 → total % 256 ≡ (0 + sum d) % 256 → (256 - total) % 256 ≡ file_sum_for a d
-summed_text a d total is small e = back total (sum d) small e ∙ sym (ap (λ (b : Bool). if b then complement (sum d) else no_sum) is)
+summed_text a d total is small e = back total (sum d) small e ∙ sym (ap (λ (b : Bool). if b then complement (sum d) else fixed_checksum) is)
   where
     back : (t s : ℕ) → t < 256 → t % 256 ≡ (0 + s) % 256 → (256 - t) % 256 ≡ complement s
     back t s l e = omega (arith, l, e)
 
-pub unsummed_text : (a : ℕ) (d : List ℕ) → is_summed a ≡ false → no_sum ≡ file_sum_for a d
-unsummed_text a d is = sym (ap (λ (b : Bool). if b then complement (sum d) else no_sum) is)
+pub unsummed_text : (a : ℕ) (d : List ℕ) → is_summed a ≡ false → fixed_checksum ≡ file_sum_for a d
+unsummed_text a d is = sym (ap (λ (b : Bool). if b then complement (sum d) else fixed_checksum) is)
 
 -- a file with the checksum attribute adds its State alone
 pub summed_adds : (p : Polarity) (m : FileMeaning) (starts : List ℕ) (t u : ℕ) → is_summed (attributes_of m) ≡ true → u % 256 ≡ (t + sum (state_byte p ∷ [])) % 256 → u % 256 ≡ (t + sum (stored_bytes p (stored_file m starts))) % 256
 summed_adds p (File name kind attributes content) starts t u is e =
     join t u (sum (stored_bytes p (stored_file (File name kind attributes content) starts))) (state_byte p) e
-    (stored_adds p (stored_file (File name kind attributes content) starts) ∙ ap (λ (b : Bool). (if b then state_byte p else (no_sum + state_byte p + sum (data_of content starts))) % 256) is)
+    (stored_adds p (stored_file (File name kind attributes content) starts) ∙ ap (λ (b : Bool). (if b then state_byte p else (fixed_checksum + state_byte p + sum (data_of content starts))) % 256) is)
   where
     join : (t u x s : ℕ) → u % 256 ≡ (t + sum (s ∷ [])) % 256 → x % 256 ≡ s % 256 → u % 256 ≡ (t + x) % 256
     join t u x s p q = omega (arith, p, q)

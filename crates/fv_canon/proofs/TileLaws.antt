@@ -12,12 +12,12 @@ use Rattle.fv_base.specs.declared.flash.Polarity.{Polarity}
 use Rattle.fv_base.proofs.ErasedLemmas.{all-of_replicate}
 use Rattle.fv_file.specs.Attributes.{attribute_bits, is_large}
 use Rattle.fv_file.specs.Cells.{CellForm, Valid, Pad, Free, Tiles}
-use Rattle.fv_file.specs.Written.{needs_large, pad_fields, pad_head_of}
+use Rattle.fv_file.specs.NewHeaders.{needs_large, pad_fields, pad_head_of}
 use Rattle.fv_file.proofs.AttributeLaws.{alignment_with}
-use Rattle.fv_canon.specs.Starts.{Follow}
+use Rattle.fv_canon.specs.Starts.{StartsFollow}
 use Rattle.fv_tree.specs.Files.{FileForm, files_in}
 use Rattle.fv_canon.specs.Aligned.{DataAligned}
-use Rattle.fv_canon.specs.Stored.{StoredFile, head_len_for, size_of, stored_bytes, stored_part, pad_bytes, pads, long_pad, long_pads, PadsRule, gap_bytes, files_bytes}
+use Rattle.fv_canon.specs.Stored.{StoredFile, head_len_for, stored_len, stored_bytes, stored_part, pad_bytes, pads, long_pad, long_pads, PadsRule, gap_bytes, files_bytes}
 use Rattle.fv_canon.proofs.CellLaws.{Storable, stored_head, file_cell, length-stored, pad_cell, length-pad}
 
 -- the files as they lie in the image
@@ -154,14 +154,14 @@ data_aligned p f s short h =
     let n : ℕ = length f.payload in
     subst (λ (a : ℕ). (s + head_len_for n) % a ≡ 0) (sym (alignment_with (needs_large n) f.attributes short)) h
 
-pub body_tiles : (system : FileSystem) (p : Polarity) (total e : ℕ) (fs : List StoredFile) (ss : List ℕ) → total % 8 ≡ 0 → e % 8 ≡ 0 → AllByRecursion (Storable system) fs → Follow total e (map stored_part fs) ss
+pub body_tiles : (system : FileSystem) (p : Polarity) (total e : ℕ) (fs : List StoredFile) (ss : List ℕ) → total % 8 ≡ 0 → e % 8 ≡ 0 → AllByRecursion (Storable system) fs → StartsFollow total e (map stored_part fs) ss
     → Tiled system p e (files_bytes p total e fs ss) (forms_of p fs ss)
 body_tiles system p total e [] [] h m all follow = free_tiles system p e (total - e)
 body_tiles system p total e [] (s ∷ ss) h m all follow = absurd follow
 body_tiles system p total e (f ∷ fs) [] h m all follow = absurd follow
 body_tiles system p total e (f ∷ fs) (s ∷ ss) h m all follow =
     let a = apart e s m follow.0.lawful.eighth follow.0.lawful.apart in
-    let x : ℕ = s + size_of f in
+    let x : ℕ = s + stored_len f in
     let filler : List ℕ = replicate (up_to_8 x - x) (erased_byte p) in
     let fill = filler_is x in
     let short : length filler ≡ up_to_8 x - x = length-replicate (up_to_8 x - x) (erased_byte p) in
@@ -169,8 +169,8 @@ body_tiles system p total e (f ∷ fs) (s ∷ ss) h m all follow =
     let behind = body_tiles system p total (up_to_8 x) fs ss h fill.2 all.1 follow.1 in
     let rest : List ℕ = files_bytes p total (up_to_8 x) fs ss in
     let few : length filler < 8 = subst (λ (n : ℕ). n < 8) (sym short) fill.0 in
-    let cell = file_cell system p f all.0 s filler few (whole s (size_of f) (length filler) (up_to_8 x) follow.0.lawful.eighth fill.2 (ap (λ (n : ℕ). x + n) short ∙ fill.1)) in
-    let place : s + length (stored_bytes p f ++ filler) ≡ up_to_8 x = ended s (length (stored_bytes p f ++ filler)) (length (stored_bytes p f)) (size_of f) (length filler) (up_to_8 x) (length-append (stored_bytes p f) filler) long (ap (λ (n : ℕ). x + n) short ∙ fill.1) in
+    let cell = file_cell system p f all.0 s filler few (whole s (stored_len f) (length filler) (up_to_8 x) follow.0.lawful.eighth fill.2 (ap (λ (n : ℕ). x + n) short ∙ fill.1)) in
+    let place : s + length (stored_bytes p f ++ filler) ≡ up_to_8 x = ended s (length (stored_bytes p f ++ filler)) (length (stored_bytes p f)) (stored_len f) (length filler) (up_to_8 x) (length-append (stored_bytes p f) filler) long (ap (λ (n : ℕ). x + n) short ∙ fill.1) in
     gap_tiles system p (s - e) e (stored_bytes p f ++ (filler ++ rest)) (forms_of p (f ∷ fs) (s ∷ ss)) a.0 a.1
     (subst (λ (k : ℕ). Tiled system p k (stored_bytes p f ++ (filler ++ rest)) (forms_of p (f ∷ fs) (s ∷ ss))) (sym a.2) (record {
       cells = Valid s (stored_head p f) f.payload ∷ behind.cells;

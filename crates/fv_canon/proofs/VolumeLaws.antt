@@ -18,27 +18,27 @@ use Rattle.fv_base.specs.declared.guid.Guid.{Guid}
 use Rattle.fv_base.proofs.FieldLemmas.{field-take, bytes_drop}
 use Rattle.fv_file.specs.Attributes.{attribute_bits, is_large, is_fixed, without_large}
 use Rattle.fv_file.specs.Files.{pad_kind}
-use Rattle.fv_file.specs.Written.{needs_large, with_large, pad_head_of}
+use Rattle.fv_file.specs.NewHeaders.{needs_large, with_large, pad_head_of}
 use Rattle.fv_head.specs.Attributes.{polarity_of}
 use Rattle.fv_head.specs.Ext.{Extension}
-use Rattle.fv_head.specs.Head.{HeadFields, HasExt, Front, extent_of, IsReadHead, header_len_of}
-use Rattle.fv_head.specs.Spelled.{canonical_head}
-use Rattle.fv_head.specs.SpelledExt.{CanonicalRest, IfRead, canonical_end, canonical_first, ext_len, ext_spelled}
+use Rattle.fv_head.specs.Head.{HeadFields, HasExt, BeginsVolume, extent_of, IsReadHead, header_len_of}
+use Rattle.fv_head.specs.HeadImage.{canonical_head}
+use Rattle.fv_head.specs.ExtImage.{CanonicalRest, IfRead, canonical_end, canonical_first, ext_len, ext_spelled}
 use Rattle.fv_head.specs.declared.extent.Extent.{Extent}
 use Rattle.fv_head.proofs.FrontLemmas.{front_lies}
 use Rattle.fv_head.proofs.SpelledLemmas.{canonical_front, length-canonical}
-use Rattle.fv_canon.specs.Starts.{Follow, IsFirstPlacement}
+use Rattle.fv_canon.specs.Starts.{StartsFollow, IsFirstPlacement}
 use Rattle.fv_canon.specs.declared.place.Part.{Part}
 use Rattle.fv_tree.specs.Files.{FileForm, files_in, NoTwins, alive_in, top_name}
 use Rattle.fv_tree.specs.Meaning.{Meaning, Volume, FileMeanings, NoFiles, MoreFiles, FileMeaning, File, ContentMeaning, Plain, Sectioned, files_list, content_len}
-use Rattle.fv_tree.specs.Denotes.{Streams, Pairs, IsContent, IsFile, StreamOver, VolumeOver, Opens, IsSection, Stream, Denotes}
+use Rattle.fv_tree.specs.Denotes.{Streams, Pairs, MeansContent, MeansFile, StreamOver, VolumeOver, Opens, MeansSection, Stream, Denotes}
 use Rattle.fv_canon.specs.Image.{IsImage, AreStored, IsStored, IsData}
 use Rattle.fv_canon.specs.Layouts.{AreStarts, parts_of, part_of}
-use Rattle.fv_canon.specs.Spans.{Shows}
+use Rattle.fv_canon.specs.Spans.{ShowsSpans}
 use Rattle.fv_canon.specs.Stored.{StoredFile, size_for, head_len_for, stored_part, files_bytes, ext_pad, volume_bytes, volume_spans, used_size}
 use Rattle.fv_canon.proofs.AliveLaws.{names_in, names_of, NamesApart, alive_apart, all_alive, forms_unmarked, no_twins, TopLast, top_last, forms_top, form_names}
 use Rattle.fv_canon.proofs.CellLaws.{Storable, stored_head, length-pad_head}
-use Rattle.fv_canon.proofs.ReadLaws.{FileRead, body_read, alive_read}
+use Rattle.fv_canon.proofs.ReadLaws.{FileIsAccepted, body_read, alive_read}
 use Rattle.fv_canon.proofs.SpanLaws.{Writable, first_is, volume_shows, length-ext_pad}
 use Rattle.fv_canon.proofs.StreamLaws.{SectionsAgain, section_again, stream_again, StreamsAgain, VolumesAgain}
 use Rattle.fv_base.proofs.Laws.{bytes_front, bytes_back}
@@ -52,16 +52,16 @@ record FileAgain (is_stream : Streams) (system : FileSystem) (m : FileMeaning) (
   pub storable : Storable system x
   pub part : stored_part x ≡ part_of m
   pub name : bytes_of x.name ≡ bytes_of f.head.name
-  pub form : (p : Polarity) (at : ℕ) → IsFile is_stream (record { offset = at; head = stored_head p x; payload = x.payload }) m
+  pub form : (p : Polarity) (at : ℕ) → MeansFile is_stream (record { offset = at; head = stored_head p x; payload = x.payload }) m
 
 -- data that were read as this content, and those that are written for it
 pub record DataAgain (is_stream : Streams) (kind : ℕ) (content : ContentMeaning) (payload d : List ℕ) : Type 0 where
-  pub is : IsContent is_stream kind d content
+  pub is : MeansContent is_stream kind d content
   pub bytes : IsBytes d
   pub long : length d ≡ length payload
   pub len : length d ≡ content_len content
 
-pub data_again : (is_stream : Streams) → StreamsAgain is_stream → (kind : ℕ) (content : ContentMeaning) (payload d : List ℕ) → IsBytes payload → IsContent is_stream kind payload content → IsData content d
+pub data_again : (is_stream : Streams) → StreamsAgain is_stream → (kind : ℕ) (content : ContentMeaning) (payload d : List ℕ) → IsBytes payload → MeansContent is_stream kind payload content → IsData content d
     → DataAgain is_stream kind content payload d
 data_again is_stream streams kind (Plain b) payload d small (plain, same) image = record {
   is = (plain, sym image);
@@ -99,7 +99,7 @@ same_part : (n k a b : ℕ) (g h : Guid) → n ≡ k → a ≡ b → g ≡ h →
     made ≡ record { header = head_len_for k; size = size_for k; alignment = alignment_of b; top = bytes_eq (bytes_of h) top_name }
 same_part n k a b g h p q r = rw (p, q, r) refl
 
-file_again : (is_stream : Streams) → StreamsAgain is_stream → (system : FileSystem) (limit : ℕ) (m : FileMeaning) (f : FileForm) (x : StoredFile) → limit ≤ 268435448 → FileRead system limit f → IsFile is_stream f m → IsStored m x
+file_again : (is_stream : Streams) → StreamsAgain is_stream → (system : FileSystem) (limit : ℕ) (m : FileMeaning) (f : FileForm) (x : StoredFile) → limit ≤ 268435448 → FileIsAccepted system limit f → MeansFile is_stream f m → IsStored m x
     → FileAgain is_stream system m f x
 file_again is_stream streams system limit (File name kind attributes content) f x most r (named, kinds, bits, is) (xn, xk, xa, image) =
     let d = data_again is_stream streams kind content f.payload x.payload r.payload is image in
@@ -138,16 +138,16 @@ pub record FilesAgain (is_stream : Streams) (system : FileSystem) (files : FileM
   pub storable : AllByRecursion (Storable system) stored
   pub parts : map stored_part stored ≡ parts_of files
   pub names : names_of stored ≡ names_in forms
-  pub are : (p : Polarity) (total e : ℕ) (ss : List ℕ) → Follow total e (map stored_part stored) ss → Pairs (IsFile is_stream) (forms_of p stored ss) (files_list files)
+  pub are : (p : Polarity) (total e : ℕ) (ss : List ℕ) → StartsFollow total e (map stored_part stored) ss → Pairs (MeansFile is_stream) (forms_of p stored ss) (files_list files)
 
 no_file : {A : Type 0} (x : A) (xs : List A) → x ∷ xs ≡ [] → ⊥
 no_file x xs e = cc
 
-pairs_end : (is_stream : Streams) (p : Polarity) (total e : ℕ) (ss : List ℕ) → Follow total e [] ss → Pairs (IsFile is_stream) (forms_of p [] ss) []
+pairs_end : (is_stream : Streams) (p : Polarity) (total e : ℕ) (ss : List ℕ) → StartsFollow total e [] ss → Pairs (MeansFile is_stream) (forms_of p [] ss) []
 pairs_end is_stream p total e ss follow = tt
 
 files_again : (is_stream : Streams) → StreamsAgain is_stream → (system : FileSystem) (limit : ℕ) (files : FileMeanings) (forms : List FileForm) (stored : List StoredFile) → limit ≤ 268435448
-    → AllByRecursion (FileRead system limit) forms → Pairs (IsFile is_stream) forms (files_list files) → AreStored files stored → FilesAgain is_stream system files forms stored
+    → AllByRecursion (FileIsAccepted system limit) forms → Pairs (MeansFile is_stream) forms (files_list files) → AreStored files stored → FilesAgain is_stream system files forms stored
 files_again is_stream streams system limit NoFiles [] [] most reads pairs are = record { storable = tt; parts = refl; names = refl; are = λ p total e ss follow. tt }
 files_again is_stream streams system limit NoFiles [] (x ∷ xs) most reads pairs are = absurd (no_file x xs are)
 files_again is_stream streams system limit NoFiles (f ∷ fs) stored most reads pairs are = absurd pairs
@@ -163,8 +163,8 @@ files_again is_stream streams system limit (MoreFiles m ms) (f ∷ fs) (x ∷ xs
       are = λ p total e ss follow. step p total e ss follow here.form behind.are;
     }
   where
-    step : (p : Polarity) (total e : ℕ) (ss : List ℕ) → Follow total e (map stored_part (x ∷ xs)) ss → ((q : Polarity) (at : ℕ) → IsFile is_stream (record { offset = at; head = stored_head q x; payload = x.payload }) m)
-        → ((q : Polarity) (n k : ℕ) (ts : List ℕ) → Follow n k (map stored_part xs) ts → Pairs (IsFile is_stream) (forms_of q xs ts) (files_list ms)) → Pairs (IsFile is_stream) (forms_of p (x ∷ xs) ss) (files_list (MoreFiles m ms))
+    step : (p : Polarity) (total e : ℕ) (ss : List ℕ) → StartsFollow total e (map stored_part (x ∷ xs)) ss → ((q : Polarity) (at : ℕ) → MeansFile is_stream (record { offset = at; head = stored_head q x; payload = x.payload }) m)
+        → ((q : Polarity) (n k : ℕ) (ts : List ℕ) → StartsFollow n k (map stored_part xs) ts → Pairs (MeansFile is_stream) (forms_of q xs ts) (files_list ms)) → Pairs (MeansFile is_stream) (forms_of p (x ∷ xs) ss) (files_list (MoreFiles m ms))
     step p total e [] follow form behind = absurd follow
     step p total e (s ∷ ss) follow form behind = (form p s, behind p total _ ss follow.1)
 
@@ -208,7 +208,7 @@ body_is h fs ss read ext =
     sum_of a b c l e f ab abc p1 p2 p3 p4 p5 p6 = omega arith
 
 -- bytes that begin with the head of a volume of their own length are opened
-opened : (h : HeadFields) (e : Extent) (o : List ℕ) → Front h e o → length o ≡ h.length → Opens o
+opened : (h : HeadFields) (e : Extent) (o : List ℕ) → BeginsVolume h e o → length o ≡ h.length → Opens o
 opened h e o front whole =
     let n : ℕ = e.header_len in
     let lies = front_lies o h e front in
@@ -226,13 +226,13 @@ pub record Known (is_stream : Streams) (h : HeadFields) (files : FileMeanings) (
   pub again : FilesAgain is_stream h.file_system files forms stored
 
 -- each file was read
-pub files_read : (is_stream : Streams) (h : HeadFields) (files : FileMeanings) (b : List ℕ) → IsBytes b → (d : VolumeOver is_stream b (Volume h files)) → AllByRecursion (FileRead h.file_system (length (drop d.extent.first b))) d.files
+pub files_read : (is_stream : Streams) (h : HeadFields) (files : FileMeanings) (b : List ℕ) → IsBytes b → (d : VolumeOver is_stream b (Volume h files)) → AllByRecursion (FileIsAccepted h.file_system (length (drop d.extent.first b))) d.files
 files_read is_stream h files b small d =
     let e : Extent = d.extent in
     let body : List ℕ = drop e.first b in
     let reads = body_read e.file_system e.polarity (length body) e.first d.cells body (bytes_drop e.first b small) (omega arith) d.tiles in
-    subst (λ (s : FileSystem). AllByRecursion (FileRead s (length body)) d.files) d.front.file_system
-    (subst (AllByRecursion (FileRead e.file_system (length body))) (sym d.alive.files_are) (alive_read e.file_system (length body) (files_in d.cells) reads))
+    subst (λ (s : FileSystem). AllByRecursion (FileIsAccepted s (length body)) d.files) d.front.file_system
+    (subst (AllByRecursion (FileIsAccepted e.file_system (length body))) (sym d.alive.files_are) (alive_read e.file_system (length body) (files_in d.cells) reads))
 
 pub known : (is_stream : Streams) → StreamsAgain is_stream → (h : HeadFields) (files : FileMeanings) (b : List ℕ) → IsBytes b → (d : VolumeOver is_stream b (Volume h files)) (stored : List StoredFile) (starts : List ℕ)
     → AreStored files stored → AreStarts h files starts → Known is_stream h files d.files stored starts
@@ -262,7 +262,7 @@ known is_stream streams h files b small d stored starts are placed =
 
 -- an image begins with its head, and with the extended header in its pad behind it
 pub image_front : (h : HeadFields) (fs : List StoredFile) (ss o : List ℕ) → Writable h fs ss
-    → Shows h.length (erased_byte (polarity_of h.attributes)) (volume_spans h fs ss) o → Front h (extent_of h (canonical_first h h.ext)) o
+    → ShowsSpans h.length (erased_byte (polarity_of h.attributes)) (volume_spans h fs ss) o → BeginsVolume h (extent_of h (canonical_first h h.ext)) o
 image_front h fs ss o k shows =
     let p : Polarity = polarity_of h.attributes in
     let first : ℕ = canonical_first h h.ext in
@@ -271,7 +271,7 @@ image_front h fs ss o k shows =
     let rest : List ℕ = ext_pad p h.ext (used_size first fs ss) ++ fill in
     let all : List ℕ = canonical_head h ++ rest in
     let long : h.length ≤ length all = full (length o) (length all) (ap length text) shows.length_is in
-    subst (Front h (extent_of h first)) (sym text)
+    subst (BeginsVolume h (extent_of h first)) (sym text)
     (canonical_front h rest k.read k.ext (rest_is p h h.ext (used_size first fs ss) fill)
     (within (canonical_end h h.ext) first (first_is h h.ext).0 k.room) long)
   where
@@ -283,7 +283,7 @@ image_front h fs ss o k shows =
 
 -- and its files and pads tile the rest
 pub image_tiled : (h : HeadFields) (fs : List StoredFile) (ss o : List ℕ) → Writable h fs ss
-    → Shows h.length (erased_byte (polarity_of h.attributes)) (volume_spans h fs ss) o
+    → ShowsSpans h.length (erased_byte (polarity_of h.attributes)) (volume_spans h fs ss) o
     → Tiled h.file_system (polarity_of h.attributes) (canonical_first h h.ext) (drop (canonical_first h h.ext) o)
     (forms_of (polarity_of h.attributes) fs ss)
 image_tiled h fs ss o k shows =
@@ -337,20 +337,20 @@ no_stream ss tail b o small none image = absurd none
 no_volume : VolumesAgain (λ _ _. ⊥)
 no_volume m b o small none image = absurd none
 
-pub sections_again : (n : ℕ) → SectionsAgain (IsSection n)
+pub sections_again : (n : ℕ) → SectionsAgain (MeansSection n)
 sections_again zero = section_again (λ _ _ _. ⊥) (λ _ _. ⊥) no_stream no_volume
 sections_again (suc n) =
-    let streams = stream_again (IsSection n) (sections_again n) in
-    section_again (StreamOver (IsSection n)) (VolumeOver (StreamOver (IsSection n))) streams (volume_again (StreamOver (IsSection n)) streams)
+    let streams = stream_again (MeansSection n) (sections_again n) in
+    section_again (StreamOver (MeansSection n)) (VolumeOver (StreamOver (MeansSection n))) streams (volume_again (StreamOver (MeansSection n)) streams)
 
 -- an image of a meaning is a volume of this meaning
 pub image_denotes : (n : ℕ) (m : Meaning) (b o : List ℕ) → IsBytes b → Denotes n b m → IsImage m o → Denotes n o m
-image_denotes n m b o small d image = (volume_again (Stream n) (stream_again (IsSection n) (sections_again n)) m b o small d image).is
+image_denotes n m b o small d image = (volume_again (Stream n) (stream_again (MeansSection n) (sections_again n)) m b o small d image).is
 
 -- and as long as the volume that it was read from
 pub image_long : (n : ℕ) (m : Meaning) (b o : List ℕ) → IsBytes b → Denotes n b m → IsImage m o → length o ≡ length b
-image_long n m b o small d image = (volume_again (Stream n) (stream_again (IsSection n) (sections_again n)) m b o small d image).long
+image_long n m b o small d image = (volume_again (Stream n) (stream_again (MeansSection n) (sections_again n)) m b o small d image).long
 
 -- and an image is bytes
 pub image_bytes : (n : ℕ) (m : Meaning) (b o : List ℕ) → IsBytes b → Denotes n b m → IsImage m o → IsBytes o
-image_bytes n m b o small d image = (volume_again (Stream n) (stream_again (IsSection n) (sections_again n)) m b o small d image).bytes
+image_bytes n m b o small d image = (volume_again (Stream n) (stream_again (MeansSection n) (sections_again n)) m b o small d image).bytes

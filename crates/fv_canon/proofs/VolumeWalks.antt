@@ -7,23 +7,23 @@ use Rattle.fv_base.specs.declared.flash.Polarity.{Polarity}
 use Rattle.fv_head.specs.Attributes.{polarity_of}
 use Rattle.fv_head.specs.Ext.{Extension}
 use Rattle.fv_head.specs.Head.{HeadFields}
-use Rattle.fv_head.specs.Spelled.{canonical_head}
-use Rattle.fv_head.specs.SpelledExt.{canonical_end, canonical_first}
-use Rattle.fv_canon.specs.Starts.{Follow}
+use Rattle.fv_head.specs.HeadImage.{canonical_head}
+use Rattle.fv_head.specs.ExtImage.{canonical_end, canonical_first}
+use Rattle.fv_canon.specs.Starts.{StartsFollow}
 use Rattle.fv_canon.specs.declared.place.Part.{Part}
 use Rattle.fv_base.specs.Value.{up_to_8}
 use Rattle.fv_tree.specs.Meaning.{Meaning, Volume, FileMeanings, FileMeaning, files_from, files_list, head_of, data_len_of}
-use Rattle.fv_tree.specs.Denotes.{IsMeaning, IsSection, Stream}
+use Rattle.fv_tree.specs.Denotes.{IsMeaning, MeansSection, Stream}
 use Rattle.fv_canon.specs.Image.{image_of, stored_of, starts_in, starts_in_files, AreStored}
 use Rattle.fv_canon.specs.Layouts.{LaysVolume, LaysFiles, parts_of, part_of}
-use Rattle.fv_canon.specs.Stored.{StoredFile, stored_part, size_for, size_of, used_size, volume_bytes, files_bytes, ext_pad}
+use Rattle.fv_canon.specs.Stored.{StoredFile, stored_part, size_for, stored_len, used_size, volume_bytes, files_bytes, ext_pad}
 use Rattle.fv_canon.proofs.MadeLaws.{files_made, stream_made, sections_made, front_is, behind_is}
 use Rattle.fv_canon.proofs.OneLaws.{follow_length}
 use Rattle.fv_canon.proofs.SpanLaws.{first_is}
 use Rattle.fv_canon.proofs.StreamLaws.{stream_again}
 use Rattle.fv_canon.proofs.VolumeLaws.{known, files_read, sections_again}
 use Rattle.fv_canon.specs.Placed.{ArePlaced, used_by}
-use Rattle.fv_canon.specs.Walks.{Begins}
+use Rattle.fv_canon.specs.ImageWalks.{BeginsWithStarts}
 
 pub list_from : (fs : List FileMeaning) → files_list (files_from fs) ≡ fs
 list_from [] = refl
@@ -38,14 +38,14 @@ used_parts end (f ∷ fs) (s ∷ ss) = used_parts (s + f.size) fs ss
 used_stored : (end : ℕ) (fs : List StoredFile) (ss : List ℕ) → used_size end fs ss ≡ used_parts end (map stored_part fs) ss
 used_stored end [] ss = refl
 used_stored end (f ∷ fs) [] = refl
-used_stored end (f ∷ fs) (s ∷ ss) = used_stored (s + size_of f) fs ss
+used_stored end (f ∷ fs) (s ∷ ss) = used_stored (s + stored_len f) fs ss
 
 used_files : (end : ℕ) (fs : List FileMeaning) (ss : List ℕ) → used_by end fs ss ≡ used_parts end (map part_of fs) ss
 used_files end [] ss = refl
 used_files end (f ∷ fs) [] = refl
 used_files end (f ∷ fs) (s ∷ ss) = used_files (s + size_for (data_len_of f)) fs ss
 
-pub used_last : (total e end : ℕ) (fs : List FileMeaning) (ss : List ℕ) (n : ℕ) (d : FileMeaning) → length fs ≡ suc n → Follow total e (map part_of fs) ss
+pub used_last : (total e end : ℕ) (fs : List FileMeaning) (ss : List ℕ) (n : ℕ) (d : FileMeaning) → length fs ≡ suc n → StartsFollow total e (map part_of fs) ss
     → (used_by end fs ss ≡ get_or ss n 0 + size_for (data_len_of (get_or fs n d))) × (get_or ss n 0 + size_for (data_len_of (get_or fs n d)) ≤ total) × (n < length ss)
 used_last total e end [] ss n d l follow = absurd (omega (arith, l))
 used_last total e end (f ∷ fs) [] n d l follow = absurd follow
@@ -60,26 +60,26 @@ used_last total e end (f ∷ g ∷ fs) (s ∷ ss) (suc n) d l follow =
 pub record VolumeLaid (h : HeadFields) (fs : List FileMeaning) (starts : List ℕ) : Type 0 where
   pub enough : length fs ≤ length starts
   pub placed : ArePlaced h.length (canonical_first h h.ext) fs (take (length fs) starts)
-  pub inner : Begins LaysFiles (files_from fs) (drop (length fs) starts)
+  pub inner : BeginsWithStarts LaysFiles (files_from fs) (drop (length fs) starts)
   pub used : used_size (canonical_first h h.ext) (stored_of (files_from fs) (drop (length fs) starts)) (take (length fs) starts) ≡ used_by (canonical_first h h.ext) fs (take (length fs) starts)
 
 least_first : (h : HeadFields) (x : Option Extension) → 64 ≤ canonical_end h x
 least_first h None = omega arith
 least_first h (Some x) = omega arith
 
-pub volume_laid : (h : HeadFields) (fs : List FileMeaning) (starts : List ℕ) → IsMeaning (Volume h (files_from fs)) → Begins LaysVolume (Volume h (files_from fs)) starts → VolumeLaid h fs starts
+pub volume_laid : (h : HeadFields) (fs : List FileMeaning) (starts : List ℕ) → IsMeaning (Volume h (files_from fs)) → BeginsWithStarts LaysVolume (Volume h (files_from fs)) starts → VolumeLaid h fs starts
 volume_laid h fs starts (k, few, b, small, d) (laid, more, whole, (own, inner, text, placed, lays)) =
     let files : FileMeanings = files_from fs in
     let first : ℕ = canonical_first h h.ext in
     let n : ℕ = length fs in
     let parts : parts_of files ≡ map part_of fs = ap (λ (xs : List FileMeaning). map part_of xs) (list_from fs) in
-    let follow : Follow h.length first (map part_of fs) own = subst (λ (ps : List Part). Follow h.length first ps own) parts placed.placement.follow in
+    let follow : StartsFollow h.length first (map part_of fs) own = subst (λ (ps : List Part). StartsFollow h.length first ps own) parts placed.placement.follow in
     let count : length own ≡ n = follow_length h.length first (map part_of fs) own follow ∙ length-map fs part_of in
     let front : take n starts ≡ own = ap (take n) whole ∙ front_is n laid own inner more text count in
     let behind : drop n starts ≡ inner ++ more = ap (drop n) whole ∙ behind_is n laid own inner more text count in
     let reads = files_read (Stream k) h files b small d in
-    let again = stream_again (IsSection k) (sections_again k) in
-    let are : AreStored files (stored_of files (inner ++ more)) = files_made (Stream k) (stream_made (IsSection k) (sections_made k)) h.file_system (length (drop d.extent.first b)) files d.files inner more reads d.meanings lays in
+    let again = stream_again (MeansSection k) (sections_again k) in
+    let are : AreStored files (stored_of files (inner ++ more)) = files_made (Stream k) (stream_made (MeansSection k) (sections_made k)) h.file_system (length (drop d.extent.first b)) files d.files inner more reads d.meanings lays in
     let same = (known (Stream k) again h files b small d (stored_of files (inner ++ more)) own are placed).again.parts in
     let used : used_size first (stored_of files (inner ++ more)) own ≡ used_by first fs own =
     used_stored first (stored_of files (inner ++ more)) own ∙ ap (λ (ps : List Part). used_parts first ps own) (same ∙ parts) ∙ sym (used_files first fs own) in
@@ -123,10 +123,10 @@ volume_left h fs = ap (λ (k : ℕ). k + starts_in_files (files_from fs)) (ap le
 pub volume_is : (m : Meaning) (h : HeadFields) (fs : List FileMeaning) → m ≡ Volume (head_of m) (files_from fs) → h ≡ head_of m → m ≡ Volume h (files_from fs)
 volume_is m h fs e f = e ∙ ap (λ (x : HeadFields). Volume x (files_from fs)) (sym f)
 
-pub volume_seen : (m : Meaning) (h : HeadFields) (fs : List FileMeaning) (starts : List ℕ) → m ≡ Volume (head_of m) (files_from fs) → h ≡ head_of m → IsMeaning m → Begins LaysVolume m starts → VolumeLaid h fs starts
+pub volume_seen : (m : Meaning) (h : HeadFields) (fs : List FileMeaning) (starts : List ℕ) → m ≡ Volume (head_of m) (files_from fs) → h ≡ head_of m → IsMeaning m → BeginsWithStarts LaysVolume m starts → VolumeLaid h fs starts
 volume_seen m h fs starts e f read laid =
     let is = volume_is m h fs e f in
-    volume_laid h fs starts (subst IsMeaning is read) (subst (λ (x : Meaning). Begins LaysVolume x starts) is laid)
+    volume_laid h fs starts (subst IsMeaning is read) (subst (λ (x : Meaning). BeginsWithStarts LaysVolume x starts) is laid)
 
 pub files_same : (p q : Polarity) (n k e f : ℕ) (fs : FileMeanings) (xs ys ss ts : List ℕ) → p ≡ q → n ≡ k → e ≡ f → xs ≡ ys → ss ≡ ts → files_bytes p n e (stored_of fs xs) ss ≡ files_bytes q k f (stored_of fs ys) ts
 files_same p q n k e f fs xs ys ss ts a b c d g = rw (a, b, c, d, g) refl

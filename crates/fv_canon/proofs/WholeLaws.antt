@@ -12,7 +12,7 @@ use Rattle.fv_base.specs.Sinks.{WalkLaws}
 use Rattle.fv_base.specs.Value.{field}
 use Rattle.fv_base.specs.declared.fault.Fault.{Fault}
 use Rattle.fv_tree.specs.Denotes.{depth_limit}
-use Rattle.fv_tree.specs.FirstFault.{moved}
+use Rattle.fv_tree.specs.FirstFault.{moved_fault}
 use Rattle.fv_tree.specs.Found.{Found, FoundFrom, IsCovered, VolumeAt}
 use Rattle.fv_tree.specs.Meaning.{Meaning}
 use Rattle.fv_tree.proofs.IndexLaws.{in_front, behind}
@@ -228,7 +228,7 @@ module _ {S : Type 0} (takes : S → List ℕ → S → Type 0) (laws : WalkLaws
 
   -- the volume that begins at the next place is refused
   pub puts_stops : {t : S} (i from n : ℕ) (own f : Fault) → Puts takes s t b places i from → i < length places
-      → VolumeAt b (get_or places i 0) n → Refuses (field (get_or places i 0) n b) own → f ≡ moved (get_or places i 0) own.place.depth own
+      → VolumeAt b (get_or places i 0) n → Refuses (field (get_or places i 0) n b) own → f ≡ moved_fault (get_or places i 0) own.place.depth own
       → FirstRefused b places f
   puts_stops i from n own f puts less volume refused is = record {
     before = take i places;
@@ -247,7 +247,7 @@ module _ {S : Type 0} (takes : S → List ℕ → S → Type 0) (laws : WalkLaws
   pub puts_told : {t : S} (i from : ℕ) (x : List ℕ) (own f : Fault) → Puts takes s t b places i from → i < length places
       → VolumeAt b (get_or places i 0) (length x) → x ≡ field (get_or places i 0) (length x) b
       → (own ≡ want_of_memory) ⊎ Refuses x own
-      → (f ≢ want_of_memory → (own ≢ want_of_memory) × (f ≡ moved (get_or places i 0) own.place.depth own))
+      → (f ≢ want_of_memory → (own ≢ want_of_memory) × (f ≡ moved_fault (get_or places i 0) own.place.depth own))
       → (f ≡ want_of_memory) ⊎ FirstRefused b places f
   puts_told i from x own f puts less volume is why told = go (want_known f) why where
     go : (f ≡ want_of_memory) ⊎ (f ≢ want_of_memory) → (own ≡ want_of_memory) ⊎ Refuses x own

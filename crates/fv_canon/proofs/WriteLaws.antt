@@ -4,16 +4,16 @@ use Rattle.std.specs.Io.KnownBytes.{Appends}
 use Rattle.std.proofs.lemmas.List.{length-take-le}
 use Rattle.fv_base.specs.Faults.{outer_fault}
 use Rattle.fv_base.specs.Output.{WriteStops}
-use Rattle.fv_base.specs.Written.{Written, WritesFront, LatchedWrites}
+use Rattle.fv_base.specs.WriteSinks.{PortShows, WritesFront, LatchedWrites}
 use Rattle.fv_base.specs.declared.fault.Fault.{Fault}
 use Rattle.fv_base.specs.declared.fault.FaultKind.TheVariants as kinds
 
 -- what is seen of a port before a sink takes anything, but for whether it has erred, of which nothing is asked
-abbrev from : Option (List ℕ) → Written
+abbrev from : Option (List ℕ) → PortShows
 from held = record { contents = held; erred = false; count = 0 }
 
 -- where a port stopped, the count is how much of the text it holds
-front_is : (held : Option (List ℕ)) (t : Written) (text : List ℕ) → t.count < 2 ^ 64 → length text < 2 ^ 64
+front_is : (held : Option (List ℕ)) (t : PortShows) (text : List ℕ) → t.count < 2 ^ 64 → length text < 2 ^ 64
     → WritesFront (from held) text t → (t.count < length text) × Appends held t.contents (take t.count text)
 front_is held t text small short (n, cut, (front, count), erred) =
     let part : length (take n text) ≡ n = length-take-le n text (omega (arith, cut)) in
@@ -24,7 +24,7 @@ front_is held t text small short (n, cut, (front, count), erred) =
     same_count b n long part small short cut is count = omega (arith, small, short, cut, is, count)
 
 -- so the fault of a sink that stopped says how long the front is, if that can be counted
-pub some_written : (held : Option (List ℕ)) (t : Written) (text : List ℕ) (on : Bool) (f : Fault)
+pub some_written : (held : Option (List ℕ)) (t : PortShows) (text : List ℕ) (on : Bool) (f : Fault)
     → LatchedWrites (from held) true text t on → on ≡ false → t.count < 2 ^ 64 → length text < 2 ^ 64
     → f ≡ outer_fault kinds.WriteFault t.count → WriteStops held t.contents text f
 some_written held t text true f wrote is small short fault = let bad : true ≡ false = is in cc

@@ -3,7 +3,7 @@ use Rattle.std.specs.Prelude.{◌≡◌, ◌+◌, ◌%◌, ℕ, List, [], ◌∷
 use Rattle.fv_base.specs.Alignment.{alignment_of}
 use Rattle.fv_file.specs.Attributes.{attribute_bits}
 use Rattle.fv_file.specs.Cells.{CellForm, Valid, Pad, Dead, Stub, Free, Tiles}
-use Rattle.fv_head.specs.Head.{Front}
+use Rattle.fv_head.specs.Head.{BeginsVolume}
 use Rattle.fv_head.specs.declared.extent.Extent.{Extent}
 use Rattle.fv_tree.specs.Denotes.{IsMeaning}
 use Rattle.fv_tree.specs.Meaning.{Meaning, head_of}
@@ -22,5 +22,5 @@ DataAligned (Free at len ∷ cells) = DataAligned cells
 -- in the image of a volume, whichever cells are read behind its header, the data of each file stand on their alignment
 abbrev pub ImagesAlign : Type 0
 ImagesAlign =
-    (m : Meaning) (image : List ℕ) (e : Extent) (cells : List CellForm) → IsMeaning m → IsImage m image → Front (head_of m) e image
+    (m : Meaning) (image : List ℕ) (e : Extent) (cells : List CellForm) → IsMeaning m → IsImage m image → BeginsVolume (head_of m) e image
     → Tiles e.file_system e.polarity e.first cells (drop e.first image) → DataAligned cells

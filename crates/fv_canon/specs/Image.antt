@@ -2,11 +2,11 @@
 use Rattle.std.specs.Prelude.{◌≡◌, ℕ, ◌+◌, List, [], ◌∷◌, length, take, drop}
 use Rattle.fv_base.specs.Flash.{erased_byte}
 use Rattle.fv_head.specs.Attributes.{polarity_of}
-use Rattle.fv_section.specs.Frames.{FrameForm, size, up_to_4}
-use Rattle.fv_section.specs.Written.{stream_of}
+use Rattle.fv_section.specs.Frames.{FrameForm, frame_len, up_to_4}
+use Rattle.fv_section.specs.SectionImage.{stream_of}
 use Rattle.fv_tree.specs.Meaning.{Meaning, Volume, FileMeanings, NoFiles, MoreFiles, FileMeaning, File, ContentMeaning, Plain, Sectioned, SectionMeanings, NoSections, MoreSections, SectionMeaning, Section, BodyMeaning, Leaf, Group, Nested, files_list}
 use Rattle.fv_canon.specs.Layouts.{AreStarts}
-use Rattle.fv_canon.specs.Spans.{Shows}
+use Rattle.fv_canon.specs.Spans.{ShowsSpans}
 use Rattle.fv_canon.specs.Stored.{StoredFile, volume_spans, volume_bytes}
 
 -- the bytes are the canonical image of a volume of this meaning: with its files in their first placement, the head, the extended
@@ -17,7 +17,7 @@ abbrev mutual
   pub IsImage : Meaning → List ℕ → Type 0
   IsImage (Volume h files) b =
       (stored : List StoredFile) × (starts : List ℕ) × AreStored files stored × AreStarts h files starts
-      × Shows h.length (erased_byte (polarity_of h.attributes)) (volume_spans h stored starts) b
+      × ShowsSpans h.length (erased_byte (polarity_of h.attributes)) (volume_spans h stored starts) b
 
   pub AreStored : FileMeanings → List StoredFile → Type 0
   AreStored NoFiles stored = stored ≡ []
@@ -34,7 +34,7 @@ abbrev mutual
   pub AreFrames : ℕ → SectionMeanings → List FrameForm → Type 0
   AreFrames at NoSections frames = frames ≡ []
   AreFrames at (MoreSections s ss) [] = ⊥
-  AreFrames at (MoreSections s ss) (f ∷ fs) = (f.offset ≡ at) × IsFrame s f × AreFrames (up_to_4 (at + size f)) ss fs
+  AreFrames at (MoreSections s ss) (f ∷ fs) = (f.offset ≡ at) × IsFrame s f × AreFrames (up_to_4 (at + frame_len f)) ss fs
 
   pub IsFrame : SectionMeaning → FrameForm → Type 0
   IsFrame (Section kind extended body) f = (f.kind ≡ kind) × (f.extended ≡ extended) × IsBodyImage body f.body
@@ -92,7 +92,7 @@ abbrev mutual
   pub frames_of : ℕ → SectionMeanings → List ℕ → List FrameForm
   frames_of at NoSections starts = []
   frames_of at (MoreSections s ss) starts =
-      frame_of at s starts ∷ frames_of (up_to_4 (at + size (frame_of at s starts))) ss (drop (starts_in_section s) starts)
+      frame_of at s starts ∷ frames_of (up_to_4 (at + frame_len (frame_of at s starts))) ss (drop (starts_in_section s) starts)
 
   pub frame_of : ℕ → SectionMeaning → List ℕ → FrameForm
   frame_of at (Section kind extended body) starts = record { offset = at; kind = kind; extended = extended; body = body_image body starts }

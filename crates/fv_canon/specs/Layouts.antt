@@ -7,10 +7,10 @@ use Rattle.fv_base.specs.declared.fault.Fault.{Fault}
 use Rattle.fv_base.specs.declared.fault.FaultKind.{FaultKind}
 use Rattle.fv_base.specs.declared.fault.FaultKind.TheVariants as kinds
 use Rattle.fv_head.specs.Head.{HeadFields}
-use Rattle.fv_head.specs.SpelledExt.{canonical_first}
+use Rattle.fv_head.specs.ExtImage.{canonical_first}
 use Rattle.fv_tree.specs.Files.{top_name}
-use Rattle.fv_tree.specs.Meaning.{Meaning, Volume, FileMeanings, NoFiles, MoreFiles, FileMeaning, File, ContentMeaning, Plain, Sectioned, SectionMeanings, NoSections, MoreSections, SectionMeaning, Section, BodyMeaning, Leaf, Group, Nested, files_list, data_len_of, name_of, attributes_of}
-use Rattle.fv_canon.specs.Starts.{IsFirstPlacement, Placement, TopOff, Short, IsLeast}
+use Rattle.fv_tree.specs.Meaning.{Meaning, Volume, FileMeanings, NoFiles, MoreFiles, FileMeaning, File, ContentMeaning, Plain, Sectioned, SectionMeanings, NoSections, MoreSections, SectionMeaning, Section, BodyMeaning, Leaf, Group, Nested, files_list, data_len_of, file_name_of, attributes_of}
+use Rattle.fv_canon.specs.Starts.{IsFirstPlacement, Placement, TopOff, HasNoRoom, IsLeast}
 use Rattle.fv_canon.specs.declared.place.Part.{Part}
 use Rattle.fv_canon.specs.Stored.{head_len_for, size_for}
 
@@ -20,7 +20,7 @@ part_of f = record {
   header = head_len_for (data_len_of f);
   size = size_for (data_len_of f);
   alignment = alignment_of (attributes_of f);
-  top = bytes_eq (bytes_of (name_of f)) top_name;
+  top = bytes_eq (bytes_of (file_name_of f)) top_name;
 }
 
 abbrev pub parts_of : FileMeanings → List Part
@@ -100,7 +100,7 @@ abbrev mutual
   pub Unfit : Meaning → ℕ → Fault → Type 0
   Unfit (Volume h files) depth f =
       (TopOff h.length (parts_of files) × (f ≡ layout_fault kinds.TopAlignment depth))
-      ⊎ (Short h.length (first_edge h) (parts_of files) × (f ≡ layout_fault kinds.NoRoom depth))
+      ⊎ (HasNoRoom h.length (first_edge h) (parts_of files) × (f ≡ layout_fault kinds.NoRoom depth))
       ⊎ (((starts : List ℕ) × AreStarts h files starts) × UnfitFiles files depth f)
 
   pub UnfitFiles : FileMeanings → ℕ → Fault → Type 0

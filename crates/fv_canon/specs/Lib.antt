@@ -17,5 +17,5 @@ pub mod Spans
 pub mod Starts
 pub mod Stored
 pub mod SumSinks
-pub mod Walks
+pub mod ImageWalks
 pub mod Whole

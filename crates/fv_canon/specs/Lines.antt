@@ -21,26 +21,26 @@ path_text [] = []
 path_text (s ∷ ss) = step_text s ++ path_text ss
 
 -- in what two volumes differ
-abbrev pub word_text : Word → List ℕ
-word_text words.ZeroVector = codes "zero vector"
-word_text words.FileSystem = codes "file system"
-word_text words.Length = codes "length"
-word_text words.VolumeAttributes = codes "volume attributes"
-word_text words.Reserved = codes "reserved"
-word_text words.BlockMap = codes "block map"
-word_text words.ExtendedHeader = codes "extended header"
-word_text words.FileCount = codes "file count"
-word_text words.Name = codes "name"
-word_text words.Type = codes "type"
-word_text words.Attributes = codes "attributes"
-word_text words.Data = codes "data"
-word_text words.SectionCount = codes "section count"
-word_text words.Tail = codes "tail"
-word_text words.Form = codes "form"
-word_text words.Shape = codes "shape"
-word_text words.Body = codes "body"
+abbrev pub difference_word : Word → List ℕ
+difference_word words.ZeroVector = codes "zero vector"
+difference_word words.FileSystem = codes "file system"
+difference_word words.Length = codes "length"
+difference_word words.VolumeAttributes = codes "volume attributes"
+difference_word words.Reserved = codes "reserved"
+difference_word words.BlockMap = codes "block map"
+difference_word words.ExtendedHeader = codes "extended header"
+difference_word words.FileCount = codes "file count"
+difference_word words.Name = codes "name"
+difference_word words.Type = codes "type"
+difference_word words.Attributes = codes "attributes"
+difference_word words.Data = codes "data"
+difference_word words.SectionCount = codes "section count"
+difference_word words.Tail = codes "tail"
+difference_word words.Form = codes "form"
+difference_word words.Shape = codes "shape"
+difference_word words.Body = codes "body"
 
 -- the line of where two volumes first differ, or of two that are one
 abbrev pub compare_line : Differs → List ℕ
 compare_line None = codes "same" ++ line_feed
-compare_line (Some d) = codes "different at " ++ (path_text d.0 ++ (word_text d.1 ++ line_feed))
+compare_line (Some d) = codes "different at " ++ (path_text d.0 ++ (difference_word d.1 ++ line_feed))

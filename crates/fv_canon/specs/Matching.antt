@@ -2,14 +2,14 @@
 use Rattle.std.specs.Prelude.{◌≡◌, ℕ, List, ◌++◌, Bool, true, false}
 
 -- no front of the first are these bytes
-abbrev pub Differs : List ℕ → List ℕ → Type 0
-Differs s bytes = (more : List ℕ) → s ≡ bytes ++ more → ⊥
+abbrev pub IsNoFront : List ℕ → List ℕ → Type 0
+IsNoFront s bytes = (more : List ℕ) → s ≡ bytes ++ more → ⊥
 
 -- from bytes that were the same so far, the bytes that come are taken off the front; or no front is they, and then nothing more is
 -- compared
 abbrev pub MatchLatched : List ℕ → Bool → List ℕ → List ℕ → Bool → Type 0
 MatchLatched s true bytes t true = s ≡ bytes ++ t
-MatchLatched s true bytes t false = Differs s bytes
+MatchLatched s true bytes t false = IsNoFront s bytes
 MatchLatched s false bytes t true = ⊥
 MatchLatched s false bytes t false = Unit {0}
 

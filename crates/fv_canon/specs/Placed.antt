@@ -4,11 +4,11 @@ use Rattle.fv_base.specs.Limits.{volume_limit}
 use Rattle.fv_tree.specs.Meaning.{FileMeaning, data_len_of}
 use Rattle.fv_canon.specs.Layouts.{part_of}
 use Rattle.fv_canon.specs.Stored.{size_for}
-use Rattle.fv_canon.specs.Starts.{Follow}
+use Rattle.fv_canon.specs.Starts.{StartsFollow}
 
 -- the files can stand at these starts, from the edge e on, in a volume of `total` bytes
 pub record ArePlaced (total e : ℕ) (files : List FileMeaning) (starts : List ℕ) : Type 0 where
-  pub follow : Follow total e (map part_of files) starts
+  pub follow : StartsFollow total e (map part_of files) starts
   pub eighth : e % 8 ≡ 0
   pub behind : 64 ≤ e
   pub within : e ≤ total

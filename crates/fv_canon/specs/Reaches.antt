@@ -2,7 +2,7 @@
 use Rattle.std.specs.Prelude.{◌≡◌, ℕ, ◌+◌, ◌-◌, ◌%◌, ◌<◌, ◌≤◌, ◌⊎◌, List, length, drop, get_or, IsTrue}
 use Rattle.fv_base.specs.Alignment.{IsAlignment}
 use Rattle.fv_base.specs.Value.{up_to_8}
-use Rattle.fv_canon.specs.Starts.{Lawful, Follow}
+use Rattle.fv_canon.specs.Starts.{Lawful, StartsFollow}
 use Rattle.fv_canon.specs.declared.place.Part.{Part}
 use Rattle.fv_canon.specs.declared.place.Reach.{Reach}
 
@@ -16,7 +16,7 @@ pub record Widens (a b : ℕ) : Type 0 where
 pub record CanPlace (total e : ℕ) (fs : List Part) : Type 0 where
   pub room : e ≤ total
   pub starts : List ℕ
-  pub follow : Follow total e fs starts
+  pub follow : StartsFollow total e fs starts
 
 -- with the greatest start that serves, and whether the starts 8 and 16 below it serve: the files can be placed after e
 abbrev pub Reaches : Reach → ℕ → Type 0
@@ -50,5 +50,5 @@ pub record IsGreatest (total : ℕ) (f : Part) (behind : Reach) (r : Reach) : Ty
   pub far : (t : ℕ) → t + 16 ≡ r.greatest → (IsTrue r.far → Serves total f behind t) × (Serves total f behind t → IsTrue r.far)
 
 -- item k of the list is the reach of the last k files
-pub record Kept (total : ℕ) (fs : List Part) (found : List Reach) : Type 0 where
+pub record AreReaches (total : ℕ) (fs : List Part) (found : List Reach) : Type 0 where
   pub each : (k : ℕ) (d : Reach) → k < length found → IsReach total (drop (length fs - k) fs) (get_or found k d)

@@ -6,7 +6,7 @@ use Rattle.fv_base.specs.Value.{up_to_8}
 use Rattle.fv_canon.specs.declared.place.Part.{Part}
 
 -- what the layout of a volume of `total` bytes is told of a file
-pub record IsPart (total : ℕ) (f : Part) : Type 0 where
+pub record IsLawfulPart (total : ℕ) (f : Part) : Type 0 where
   pub header : f.header % 8 ≡ 0
   pub holds : f.header ≤ f.size
   pub within : f.size ≤ total
@@ -19,22 +19,22 @@ pub record Lawful (e : ℕ) (f : Part) (s : ℕ) : Type 0 where
   pub aligned : (s + f.header) % f.alignment ≡ 0
 
 -- a file's place: lawful, inside the volume, and at its end where the file is the volume top file
-pub record Stands (total e : ℕ) (f : Part) (s : ℕ) : Type 0 where
+pub record StandsInVolume (total e : ℕ) (f : Part) (s : ℕ) : Type 0 where
   pub lawful : Lawful e f s
   pub within : s + f.size ≤ total
   pub at_end : IsTrue f.top → s + f.size ≡ total
 
 -- one start for each file, each standing after the edge of the one before: its end, rounded up to 8
-abbrev pub Follow : ℕ → ℕ → List Part → List ℕ → Type 0
-Follow total e [] [] = Unit {0}
-Follow total e [] (s ∷ ss) = ⊥
-Follow total e (f ∷ fs) [] = ⊥
-Follow total e (f ∷ fs) (s ∷ ss) = Stands total e f s × Follow total (up_to_8 (s + f.size)) fs ss
+abbrev pub StartsFollow : ℕ → ℕ → List Part → List ℕ → Type 0
+StartsFollow total e [] [] = Unit {0}
+StartsFollow total e [] (s ∷ ss) = ⊥
+StartsFollow total e (f ∷ fs) [] = ⊥
+StartsFollow total e (f ∷ fs) (s ∷ ss) = StandsInVolume total e f s × StartsFollow total (up_to_8 (s + f.size)) fs ss
 
 -- the files can stand there, in a volume of `total` bytes with the first edge `first`
 pub record Placement (total first : ℕ) (fs : List Part) (starts : List ℕ) : Type 0 where
   pub room : first ≤ total
-  pub follow : Follow total first fs starts
+  pub follow : StartsFollow total first fs starts
 
 -- the first placement: each start is the least that any placement with the same starts before it has there
 pub record IsFirstPlacement (total first : ℕ) (fs : List Part) (starts : List ℕ) : Type 0 where
@@ -61,6 +61,6 @@ TopOff total [] = ⊥
 TopOff total (f ∷ fs) = (IsTrue f.top × IsOff total f) ⊎ TopOff total fs
 
 -- the volume top file could stand, and yet the files cannot be placed in their order at all
-pub record Short (total first : ℕ) (fs : List Part) : Type 0 where
+pub record HasNoRoom (total first : ℕ) (fs : List Part) : Type 0 where
   pub top_stands : TopOff total fs → ⊥
   pub none : (starts : List ℕ) → Placement total first fs starts → ⊥

@@ -8,13 +8,13 @@ use Rattle.fv_base.specs.Value.{up_to_8}
 use Rattle.fv_base.specs.declared.flash.Polarity.{Polarity}
 use Rattle.fv_base.specs.declared.guid.Guid.{Guid}
 use Rattle.fv_file.specs.Attributes.{is_summed}
-use Rattle.fv_file.specs.Files.{header_len_of}
-use Rattle.fv_file.specs.Written.{needs_large, complement, no_sum, state_byte, file_head_of, pad_head_of}
+use Rattle.fv_file.specs.Files.{file_header_len}
+use Rattle.fv_file.specs.NewHeaders.{needs_large, complement, fixed_checksum, state_byte, file_head_of, pad_head_of}
 use Rattle.fv_head.specs.Attributes.{polarity_of}
 use Rattle.fv_head.specs.Ext.{Extension}
 use Rattle.fv_head.specs.Head.{HeadFields, header_len_of as head_len_of}
-use Rattle.fv_head.specs.Spelled.{canonical_head}
-use Rattle.fv_head.specs.SpelledExt.{canonical_end, canonical_first, ext_len, ext_spelled}
+use Rattle.fv_head.specs.HeadImage.{canonical_head}
+use Rattle.fv_head.specs.ExtImage.{canonical_end, canonical_first, ext_len, ext_spelled}
 use Rattle.fv_tree.specs.Files.{top_name}
 use Rattle.fv_canon.specs.declared.place.Part.{Part}
 use Rattle.fv_canon.specs.Spans.{Span}
@@ -28,17 +28,17 @@ pub record StoredFile : Type 0 where
 
 -- the bytes of the header, which is large where with a short one the size would pass FFFFFF, and those of the whole file
 abbrev pub head_len_for : ℕ → ℕ
-head_len_for data_len = header_len_of (needs_large data_len)
+head_len_for data_len = file_header_len (needs_large data_len)
 
 abbrev pub size_for : ℕ → ℕ
 size_for data_len = head_len_for data_len + data_len
 
-abbrev pub size_of : StoredFile → ℕ
-size_of f = size_for (length f.payload)
+abbrev pub stored_len : StoredFile → ℕ
+stored_len f = size_for (length f.payload)
 
 -- with the checksum attribute what makes the data's sum a multiple of 256, else AA
 abbrev pub file_sum_for : ℕ → List ℕ → ℕ
-file_sum_for attributes payload = if is_summed attributes then complement (sum payload) else no_sum
+file_sum_for attributes payload = if is_summed attributes then complement (sum payload) else fixed_checksum
 
 -- header and data
 unfoldable pub stored_bytes : Polarity → StoredFile → List ℕ
@@ -47,7 +47,7 @@ stored_bytes polarity f =
 
 -- a file with the checksum attribute adds its State alone, whatever its data are; another adds AA, State and its data
 abbrev pub file_adds : Polarity → StoredFile → ℕ
-file_adds p f = if is_summed f.attributes then state_byte p else (no_sum + state_byte p + sum f.payload)
+file_adds p f = if is_summed f.attributes then state_byte p else (fixed_checksum + state_byte p + sum f.payload)
 
 -- a pad: its header, and erased bytes
 unfoldable pub pad_bytes : Polarity → ℕ → List ℕ
@@ -79,7 +79,7 @@ ext_pad polarity (Some x) used = pad_head_of (24 + ext_len x) polarity ++ ext_sp
 abbrev pub used_size : ℕ → List StoredFile → List ℕ → ℕ
 used_size end [] starts = end
 used_size end (f ∷ fs) [] = end
-used_size end (f ∷ fs) (s ∷ ss) = used_size (s + size_of f) fs ss
+used_size end (f ∷ fs) (s ∷ ss) = used_size (s + stored_len f) fs ss
 
 -- where the files stand, from the edge e on: the pads of each gap, and each file
 abbrev pub file_spans : Polarity → ℕ → List StoredFile → List ℕ → List Span
@@ -87,7 +87,7 @@ file_spans polarity e [] starts = []
 file_spans polarity e (f ∷ fs) [] = []
 file_spans polarity e (f ∷ fs) (s ∷ ss) =
     record { at = e; bytes = gap_bytes polarity (s - e) } ∷ record { at = s; bytes = stored_bytes polarity f }
-    ∷ file_spans polarity (up_to_8 (s + size_of f)) fs ss
+    ∷ file_spans polarity (up_to_8 (s + stored_len f)) fs ss
 
 -- where everything stands: the head, the extended header's pad, the files
 abbrev pub volume_spans : HeadFields → List StoredFile → List ℕ → List Span
@@ -100,7 +100,7 @@ volume_spans h files starts =
 abbrev pub stored_part : StoredFile → Part
 stored_part f = record {
   header = head_len_for (length f.payload);
-  size = size_of f;
+  size = stored_len f;
   alignment = alignment_of f.attributes;
   top = bytes_eq (bytes_of f.name) top_name;
 }
@@ -114,7 +114,7 @@ files_bytes polarity total e (f ∷ fs) [] = replicate (total - e) (erased_byte 
 files_bytes polarity total e (f ∷ fs) (s ∷ ss) =
     gap_bytes polarity (s - e)
     ++ (stored_bytes polarity f
-    ++ (replicate (up_to_8 (s + size_of f) - (s + size_of f)) (erased_byte polarity) ++ files_bytes polarity total (up_to_8 (s + size_of f)) fs ss))
+    ++ (replicate (up_to_8 (s + stored_len f) - (s + stored_len f)) (erased_byte polarity) ++ files_bytes polarity total (up_to_8 (s + stored_len f)) fs ss))
 
 -- the head, the extended header's pad, erased bytes to the first edge, and the files
 abbrev pub volume_bytes : HeadFields → List StoredFile → List ℕ → List ℕ

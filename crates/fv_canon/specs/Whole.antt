@@ -6,7 +6,7 @@ use Rattle.fv_base.specs.Limits.{volume_limit}
 use Rattle.fv_base.specs.Value.{field}
 use Rattle.fv_base.specs.declared.fault.Fault.{Fault}
 use Rattle.fv_base.specs.declared.fault.FaultKind.TheVariants as kinds
-use Rattle.fv_tree.specs.FirstFault.{moved}
+use Rattle.fv_tree.specs.FirstFault.{moved_fault}
 use Rattle.fv_tree.specs.Found.{Found, IsCovered, VolumeAt}
 use Rattle.fv_canon.specs.Normal.{NormalisesTo}
 use Rattle.fv_canon.specs.Refusals.{Refuses}
@@ -42,7 +42,7 @@ pub record FirstRefused (b places : List ℕ) (fault : Fault) : Type 0 where
   pub volume : VolumeAt b place size
   pub own : Fault
   pub refused : Refuses (field place size b) own
-  pub moved_is : fault ≡ moved place own.place.depth own
+  pub moved_is : fault ≡ moved_fault place own.place.depth own
 
 -- b is longer than the limit; or it is not, and the fault is that of the first volume found in it that is refused
 abbrev pub RefusesAll : List ℕ → Fault → Type 0

@@ -7,7 +7,7 @@ ghost use Rattle.fv_tree.specs.Meaning.{Meaning};
 ghost use Rattle.fv_canon.specs.Aligned.{ImagesAlign};
 ghost use Rattle.fv_canon.specs.Layouts.{Fits, LaysVolume, LeastVolume, Unfit};
 ghost use Rattle.fv_canon.specs.Normal.{ImagesTell, ImagesStay, OneImage, OneMeaning};
-ghost use Rattle.fv_canon.specs.Spans.{InOrder, Shows, Span, painted};
+ghost use Rattle.fv_canon.specs.Spans.{InOrder, ShowsSpans, Span, painted};
 ghost use Rattle.fv_canon.specs.Stored.{PadsRule};
 
 /// The headline: two volumes have the same meaning exactly if their canonical images are equal.
@@ -53,5 +53,5 @@ pub fn pads()
 /// One list of bytes shows what stands where, and it is the join of what stands there and of erased bytes.
 pub fn one_list_shows()
     ensures { (erased total : ℕ) (spans : List Span) (bytes : List ℕ) → InOrder total 0 spans
-        → Shows total erased spans bytes ↔ (bytes ≡ painted erased total 0 spans) }
+        → ShowsSpans total erased spans bytes ↔ (bytes ≡ painted erased total 0 spans) }
 {}

@@ -8,7 +8,7 @@ ghost use Rattle.fv_canon.specs.Layouts.{LaysVolume, LaysFiles, LaysContent, Lay
 ghost use Rattle.fv_canon.specs.Layouts.{Fits, FitsContent, FitsBody, Unfit, UnfitFiles, UnfitContent, UnfitSections, UnfitBody};
 ghost use Rattle.fv_canon.specs.Grown.{Grew, Shallow};
 ghost use Rattle.fv_canon.specs.Places.{IsLayout, UnfitAlone};
-ghost use Rattle.fv_canon.specs.Starts.{IsFirstPlacement, IsPart, Placement};
+ghost use Rattle.fv_canon.specs.Starts.{IsFirstPlacement, IsLawfulPart, Placement};
 ghost use Rattle.fv_tree.specs.Meaning.{head_of, files_of, content_of, body_of, sections_from, files_from};
 ghost use Rattle.fv_tree.specs.Views.{body_view, content_view};
 
@@ -193,7 +193,7 @@ fn own_starts(alloc: Global, view: &VolumeView<'_>, depth: u8) -> Result<Vec<u64
 // What the layout is told of a volume's files, in their order.
 fn parts_of(alloc: Global, view: &VolumeView<'_>) -> Result<Vec<Part>, Fault>
     ensures ok { IfOk result (λ parts. (parts.items ≡ map part_of (files_of view.now))
-        × All (IsPart (head_of view.now).length) parts.items) }
+        × All (IsLawfulPart (head_of view.now).length) parts.items) }
     ensures err { IfErr result (λ f. f ≡ want_of_memory) }
 {
     let _head = view.head();

@@ -1,7 +1,7 @@
 //! The line of a comparison, put into a sink.
 
 ghost use Rattle.std.specs.Prelude.{◌≤◌, ◌+◌, ◌*◌, ◌≡◌, decimal, length, option_copied, Some, IfSome};
-ghost use Rattle.fv_canon.specs.Lines.{compare_line, path_text, step_text, word_text};
+ghost use Rattle.fv_canon.specs.Lines.{compare_line, path_text, step_text, difference_word};
 
 use fv_base::Sink;
 use fv_tree::{Difference, Step, Word};
@@ -46,8 +46,8 @@ fn put_path<S: Sink>(out: &mut S, steps: &[Step])
 }
 
 // In what two volumes differ.
-fn word_text(word: Word) -> &'static str
-    ensures text { result.now ≡ word_text word }
+fn difference_word(word: Word) -> &'static str
+    ensures text { result.now ≡ difference_word word }
     ensures short { length result.now ≤ 17 }
 {
     match word {
@@ -78,7 +78,7 @@ fn put_difference<S: Sink>(out: &mut S, difference: &Difference)
 {
     out.put(b"different at ");
     put_path(out, difference.steps());
-    out.put(word_text(difference.word()).as_bytes());
+    out.put(difference_word(difference.word()).as_bytes());
     out.put(b"\n");
 }
 

@@ -2,16 +2,16 @@
 
 ghost use Rattle.std.specs.Prelude.{◌⊎◌, ◌≡◌, ◌≤◌, ◌<◌, ◌+◌, ◌-◌, ◌%◌, ◌*◌, ◌^◌, ℕ, [], ◌∷◌, ◌++◌, replicate};
 ghost use Rattle.fv_section.specs.Frames.{up_to_4};
-ghost use Rattle.fv_section.specs.Written.{FitsForm, section_head_of};
-ghost use Rattle.fv_tree.specs.Meaning.{name_of, file_kind_of, attributes_of, data_len_of};
-ghost use Rattle.fv_tree.specs.Meaning.{body_of, body_len, is_extended, section_kind_of, section_len};
-ghost use Rattle.fv_file.specs.Written.{file_head_of, state_byte};
+ghost use Rattle.fv_section.specs.SectionImage.{FitsForm, section_head_of};
+ghost use Rattle.fv_tree.specs.Meaning.{file_name_of, file_kind_of, attributes_of, data_len_of};
+ghost use Rattle.fv_tree.specs.Meaning.{body_of, body_len, section_is_extended, section_kind_of, section_len};
+ghost use Rattle.fv_file.specs.NewHeaders.{file_head_of, state_byte};
 ghost use Rattle.fv_canon.specs.Stored.{ext_pad, gap_bytes, pad_bytes, size_for};
 ghost use Rattle.fv_canon.specs.Placed.{ArePlaced, used_by};
 ghost use Rattle.fv_base.specs.Flash.{erased_byte};
 ghost use Rattle.fv_base.specs.Limits.{volume_limit};
 ghost use Rattle.fv_head.specs.Attributes.{polarity_of};
-ghost use Rattle.fv_head.specs.SpelledExt.{canonical_end, canonical_first};
+ghost use Rattle.fv_head.specs.ExtImage.{canonical_end, canonical_first};
 
 use fv_base::field::up_to_8;
 use fv_base::{Polarity, Sink, fill};
@@ -32,8 +32,8 @@ pub(crate) fn filler_of(section: &SectionView<'_>) -> u64
 
 // Puts the header of a section.
 pub(crate) fn put_section_head<S: Sink>(out: &mut S, section: &SectionView<'_>)
-    requires { FitsForm (is_extended section.now) (body_len (body_of section.now)) }
-    ensures { S.takes out.old (section_head_of (section_kind_of section.now) (is_extended section.now) (body_len (body_of section.now))) out.new }
+    requires { FitsForm (section_is_extended section.now) (body_len (body_of section.now)) }
+    ensures { S.takes out.old (section_head_of (section_kind_of section.now) (section_is_extended section.now) (body_len (body_of section.now))) out.new }
 {
     out.put(section_head_bytes(section.kind(), section.extended(), section.body_len()).as_slice());
 }
@@ -77,7 +77,7 @@ pub(crate) fn size_for(data_len: u64) -> u64
 // Puts the header of a file with this file sum.
 pub(crate) fn put_file_head<S: Sink>(out: &mut S, file: &FileView<'_>, sum: u8, polarity: Polarity)
     requires most { data_len_of file.now ≤ 268435424 }
-    ensures { S.takes out.old (file_head_of (name_of file.now) (file_kind_of file.now) (record { 0 = attributes_of file.now }) (data_len_of file.now) sum polarity) out.new }
+    ensures { S.takes out.old (file_head_of (file_name_of file.now) (file_kind_of file.now) (record { 0 = attributes_of file.now }) (data_len_of file.now) sum polarity) out.new }
 {
     let name = file.name();
     let head = file_head_bytes(

@@ -5,8 +5,8 @@ ghost use Rattle.fv_base.specs.Alignment.{IsAlignment};
 ghost use Rattle.fv_base.specs.Faults.{want_of_memory};
 ghost use Rattle.fv_base.specs.Limits.{volume_limit};
 ghost use Rattle.fv_base.specs.Value.{up_to_8};
-ghost use Rattle.fv_canon.specs.Reaches.{Widens, Reaches, Serves, IsFirstStart, IsGreatest, IsReach, CanPlace, Kept};
-ghost use Rattle.fv_canon.specs.Starts.{IsPart, Lawful, Stands, Placement, IsLeast, IsLeastStart, IsFirstPlacement, IsOff, TopOff};
+ghost use Rattle.fv_canon.specs.Reaches.{Widens, Reaches, Serves, IsFirstStart, IsGreatest, IsReach, CanPlace, AreReaches};
+ghost use Rattle.fv_canon.specs.Starts.{IsLawfulPart, Lawful, StandsInVolume, Placement, IsLeast, IsLeastStart, IsFirstPlacement, IsOff, TopOff};
 ghost use Rattle.fv_canon.specs.declared.place.Part.{Part};
 
 use fv_base::Fault;
@@ -78,7 +78,7 @@ fn reaches(behind: Reach, edge: u64) -> bool
 // Whether the file may start there, files with this reach behind it.
 fn serves(total: u64, part: &Part, behind: Reach, start: u64) -> bool
     requires total { total ≤ volume_limit }
-    requires part { IsPart total part.now }
+    requires part { IsLawfulPart total part.now }
     requires start { start < 2 ^ 61 }
     ensures { IsTrue result ↔ Serves total part.now behind start }
 {
@@ -92,7 +92,7 @@ fn serves(total: u64, part: &Part, behind: Reach, start: u64) -> bool
 fn first_start(total: u64, edge: u64, part: &Part, behind: Reach) -> Option<u64>
     requires total { total ≤ volume_limit }
     requires edge { (edge % 8 ≡ 0) × (edge ≤ total) }
-    requires part { IsPart total part.now }
+    requires part { IsLawfulPart total part.now }
     ensures found { IfSome result (λ s. IsFirstStart total edge part.now behind s) }
     ensures none { IfNone result ((s : ℕ) → Lawful edge part.now s → Serves total part.now behind s → ⊥) }
 {
@@ -121,7 +121,7 @@ fn first_start(total: u64, edge: u64, part: &Part, behind: Reach) -> Option<u64>
 // The greatest start that serves, if there is one.
 fn greatest_start(total: u64, part: &Part, behind: Reach) -> Option<u64>
     requires total { (total ≤ volume_limit) × (total % 8 ≡ 0) }
-    requires part { IsPart total part.now }
+    requires part { IsLawfulPart total part.now }
     requires behind { (behind.greatest ≤ total) × (behind.greatest % 8 ≡ 0) }
     ensures found { IfSome result (λ s. Serves total part.now behind s × ((t : ℕ) → Serves total part.now behind t → t ≤ s)) }
     ensures none { IfNone result ((s : ℕ) → Serves total part.now behind s → ⊥) }
@@ -158,7 +158,7 @@ fn greatest_start(total: u64, part: &Part, behind: Reach) -> Option<u64>
 // The reach of a file and those behind it.
 fn reach_of(total: u64, part: &Part, behind: Reach) -> Option<Reach>
     requires total { (total ≤ volume_limit) × (total % 8 ≡ 0) }
-    requires part { IsPart total part.now }
+    requires part { IsLawfulPart total part.now }
     requires behind { (behind.greatest ≤ total) × (behind.greatest % 8 ≡ 0) }
     ensures found { IfSome result (λ r. IsGreatest total part.now behind r) }
     ensures none { IfNone result ((s : ℕ) → Serves total part.now behind s → ⊥) }
@@ -176,7 +176,7 @@ fn reach_of(total: u64, part: &Part, behind: Reach) -> Option<Reach>
 // Whether the start that is `by` below `greatest` serves.
 fn serves_below(total: u64, part: &Part, behind: Reach, greatest: u64, by: u64) -> bool
     requires total { total ≤ volume_limit }
-    requires part { IsPart total part.now }
+    requires part { IsLawfulPart total part.now }
     requires greatest { greatest < 2 ^ 61 }
     ensures { (t : ℕ) → t + by ≡ greatest → (IsTrue result → Serves total part.now behind t) × (Serves total part.now behind t → IsTrue result) }
 {
@@ -187,9 +187,9 @@ fn serves_below(total: u64, part: &Part, behind: Reach, greatest: u64, by: u64) 
 // where they cannot be placed at all.
 fn reaches_from(alloc: Global, total: u64, parts: &[Part]) -> Result<Option<Vec<Reach>>, Fault>
     requires total { (total ≤ volume_limit) × (total % 8 ≡ 0) }
-    requires parts { All (IsPart total) parts.now }
+    requires parts { All (IsLawfulPart total) parts.now }
     ensures len { IfOk result (λ o. IfSome o (λ found. vec_len found ≡ length parts.now + 1)) }
-    ensures each { IfOk result (λ o. IfSome o (λ found. Kept total parts.now found.items)) }
+    ensures each { IfOk result (λ o. IfSome o (λ found. AreReaches total parts.now found.items)) }
     ensures none { IfOk result (λ o. IfNone o ((e : ℕ) → CanPlace total e parts.now → ⊥)) }
     ensures err { IfErr result (λ f. f ≡ want_of_memory) }
 {
@@ -222,7 +222,7 @@ pub(crate) fn first_starts(
 ) -> Result<Option<Vec<u64>>, Fault>
     requires total { (total ≤ volume_limit) × (total % 8 ≡ 0) }
     requires first { (first % 8 ≡ 0) × (first < 2 ^ 32) }
-    requires parts { All (IsPart total) parts.now }
+    requires parts { All (IsLawfulPart total) parts.now }
     ensures found { IfOk result (λ o. IfSome o (λ starts. IsFirstPlacement total first parts.now starts.items)) }
     ensures none { IfOk result (λ o. IfNone o ((starts : List ℕ) → Placement total first parts.now starts → ⊥)) }
     ensures err { IfErr result (λ f. f ≡ want_of_memory) }
@@ -253,7 +253,7 @@ pub(crate) fn first_starts(
 // Whether the one start of the volume top file is not aligned.
 fn is_off(total: u64, part: &Part) -> bool
     requires total { total ≤ volume_limit }
-    requires part { IsPart total part.now }
+    requires part { IsLawfulPart total part.now }
     ensures { IsTrue result ↔ IsOff total part.now }
 {
     let start = total - part.size;
@@ -263,7 +263,7 @@ fn is_off(total: u64, part: &Part) -> bool
 // Whether there is a volume top file whose one start, at the volume's end, is not aligned.
 pub(crate) fn is_top_off(total: u64, parts: &[Part]) -> bool
     requires total { total ≤ volume_limit }
-    requires parts { All (IsPart total) parts.now }
+    requires parts { All (IsLawfulPart total) parts.now }
     ensures { IsTrue result ↔ TopOff total parts.now }
 {
     for part in parts {

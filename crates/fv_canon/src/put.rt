@@ -1,7 +1,7 @@
 //! One walk over a volume, which puts its canonical image into any sink.
 
 ghost use Rattle.std.specs.Prelude.{◌≡◌, ◌≤◌, ◌+◌, ◌-◌, drop};
-ghost use Rattle.fv_section.specs.Written.{stream_of};
+ghost use Rattle.fv_section.specs.SectionImage.{stream_of};
 ghost use Rattle.fv_tree.specs.Meaning.{files_from, data_len_of, sections_from};
 ghost use Rattle.fv_tree.specs.Views.{body_view, content_view};
 ghost use Rattle.fv_canon.specs.Image.{image_of, stored_of, stored_file, data_of, frames_of, body_image};
@@ -9,7 +9,7 @@ ghost use Rattle.fv_canon.specs.Image.{starts_in, starts_in_files, starts_in_fil
 ghost use Rattle.fv_canon.specs.Layouts.{LaysVolume, LaysFiles, LaysFile, LaysContent, LaysSections, LaysBody};
 ghost use Rattle.fv_canon.specs.Stored.{stored_bytes, files_bytes, size_for};
 ghost use Rattle.fv_canon.specs.Placed.{ArePlaced};
-ghost use Rattle.fv_canon.specs.Walks.{Begins};
+ghost use Rattle.fv_canon.specs.ImageWalks.{BeginsWithStarts};
 
 use crate::pieces::{
     filler_of, put_ext_pad, put_file_head, put_gap, put_section_head, size_for, used_end,
@@ -27,7 +27,7 @@ fn put_sections<'s, S: Sink>(
     tail: u8,
     starts: &'s [u64],
 ) -> &'s [u64]
-    requires laid { Begins LaysSections (sections_from sections.now) starts.now }
+    requires laid { BeginsWithStarts LaysSections (sections_from sections.now) starts.now }
     ensures bytes { S.takes out.old (stream_of (frames_of 0 (sections_from sections.now) starts.now) tail) out.new }
     ensures rest { result.now ≡ drop (starts_in_sections (sections_from sections.now)) starts.now }
 {
@@ -48,7 +48,7 @@ fn put_sections<'s, S: Sink>(
 
 #[cycle(put)]
 pub(crate) fn put_body<'s, S: Sink>(out: &mut S, body: &Body<'_>, starts: &'s [u64]) -> &'s [u64]
-    requires laid { Begins LaysBody (body_view body.now) starts.now }
+    requires laid { BeginsWithStarts LaysBody (body_view body.now) starts.now }
     ensures bytes { S.takes out.old (body_image (body_view body.now) starts.now) out.new }
     ensures rest { result.now ≡ drop (starts_in_body (body_view body.now)) starts.now }
 {
@@ -68,7 +68,7 @@ pub(crate) fn put_content<'s, S: Sink>(
     content: &Content<'_>,
     starts: &'s [u64],
 ) -> &'s [u64]
-    requires laid { Begins LaysContent (content_view content.now) starts.now }
+    requires laid { BeginsWithStarts LaysContent (content_view content.now) starts.now }
     ensures bytes { S.takes out.old (data_of (content_view content.now) starts.now) out.new }
     ensures rest { result.now ≡ drop (starts_in_content (content_view content.now)) starts.now }
 {
@@ -88,7 +88,7 @@ fn put_file<'s, S: Sink>(
     polarity: Polarity,
     starts: &'s [u64],
 ) -> &'s [u64]
-    requires laid { Begins LaysFile file.now starts.now }
+    requires laid { BeginsWithStarts LaysFile file.now starts.now }
     requires most { data_len_of file.now ≤ 268435424 }
     ensures bytes { S.takes out.old (stored_bytes polarity (stored_file file.now starts.now)) out.new }
     ensures rest { result.now ≡ drop (starts_in_file file.now) starts.now }
@@ -110,7 +110,7 @@ fn put_files<'s, S: Sink>(
     starts: &'s [u64],
 ) -> &'s [u64]
     requires placed { ArePlaced total first files.now own.now }
-    requires laid { Begins LaysFiles (files_from files.now) starts.now }
+    requires laid { BeginsWithStarts LaysFiles (files_from files.now) starts.now }
     ensures bytes { S.takes out.old (files_bytes polarity total first (stored_of (files_from files.now) starts.now) own.now) out.new }
     ensures rest { result.now ≡ drop (starts_in_files (files_from files.now)) starts.now }
 {
@@ -136,7 +136,7 @@ pub(crate) fn put_volume<'s, S: Sink>(
     volume: &VolumeView<'_>,
     starts: &'s [u64],
 ) -> &'s [u64]
-    requires laid { Begins LaysVolume volume.now starts.now }
+    requires laid { BeginsWithStarts LaysVolume volume.now starts.now }
     ensures bytes { S.takes out.old (image_of volume.now starts.now) out.new }
     ensures rest { result.now ≡ drop (starts_in volume.now) starts.now }
 {

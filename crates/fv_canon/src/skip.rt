@@ -5,14 +5,14 @@ ghost use Rattle.fv_tree.specs.Meaning.{files_from, sections_from};
 ghost use Rattle.fv_tree.specs.Views.{body_view, content_view};
 ghost use Rattle.fv_canon.specs.Image.{starts_in, starts_in_files, starts_in_content, starts_in_sections, starts_in_body};
 ghost use Rattle.fv_canon.specs.Layouts.{LaysVolume, LaysFiles, LaysContent, LaysSections, LaysBody};
-ghost use Rattle.fv_canon.specs.Walks.{Begins};
+ghost use Rattle.fv_canon.specs.ImageWalks.{BeginsWithStarts};
 
 use fv_tree::{Body, Content, FileView, SectionView, VolumeView};
 
 // The starts behind those of the sections.
 #[cycle(skip)]
 fn skip_sections<'s>(sections: &[SectionView<'_>], starts: &'s [u64]) -> &'s [u64]
-    requires laid { Begins LaysSections (sections_from sections.now) starts.now }
+    requires laid { BeginsWithStarts LaysSections (sections_from sections.now) starts.now }
     ensures { result.now ≡ drop (starts_in_sections (sections_from sections.now)) starts.now }
 {
     let mut rest = starts;
@@ -24,7 +24,7 @@ fn skip_sections<'s>(sections: &[SectionView<'_>], starts: &'s [u64]) -> &'s [u6
 
 #[cycle(skip)]
 fn skip_body<'s>(body: &Body<'_>, starts: &'s [u64]) -> &'s [u64]
-    requires laid { Begins LaysBody (body_view body.now) starts.now }
+    requires laid { BeginsWithStarts LaysBody (body_view body.now) starts.now }
     ensures { result.now ≡ drop (starts_in_body (body_view body.now)) starts.now }
 {
     match body {
@@ -36,7 +36,7 @@ fn skip_body<'s>(body: &Body<'_>, starts: &'s [u64]) -> &'s [u64]
 
 #[cycle(skip)]
 pub(crate) fn skip_content<'s>(content: &Content<'_>, starts: &'s [u64]) -> &'s [u64]
-    requires laid { Begins LaysContent (content_view content.now) starts.now }
+    requires laid { BeginsWithStarts LaysContent (content_view content.now) starts.now }
     ensures { result.now ≡ drop (starts_in_content (content_view content.now)) starts.now }
 {
     match content {
@@ -47,7 +47,7 @@ pub(crate) fn skip_content<'s>(content: &Content<'_>, starts: &'s [u64]) -> &'s 
 
 #[cycle(skip)]
 fn skip_files<'s>(files: &[FileView<'_>], starts: &'s [u64]) -> &'s [u64]
-    requires laid { Begins LaysFiles (files_from files.now) starts.now }
+    requires laid { BeginsWithStarts LaysFiles (files_from files.now) starts.now }
     ensures { result.now ≡ drop (starts_in_files (files_from files.now)) starts.now }
 {
     let mut rest = starts;
@@ -59,7 +59,7 @@ fn skip_files<'s>(files: &[FileView<'_>], starts: &'s [u64]) -> &'s [u64]
 
 #[cycle(skip)]
 fn skip_volume<'s>(volume: &VolumeView<'_>, starts: &'s [u64]) -> &'s [u64]
-    requires laid { Begins LaysVolume volume.now starts.now }
+    requires laid { BeginsWithStarts LaysVolume volume.now starts.now }
     ensures { result.now ≡ drop (starts_in volume.now) starts.now }
 {
     let _head = volume.head();

@@ -1,7 +1,7 @@
 //! The file sum of a file, as its data lie in the canonical image.
 
 ghost use Rattle.std.specs.Prelude.{◌≡◌, ◌≤◌, ◌<◌, ◌+◌, ◌-◌, ◌%◌, drop};
-ghost use Rattle.fv_section.specs.Written.{stream_of};
+ghost use Rattle.fv_section.specs.SectionImage.{stream_of};
 ghost use Rattle.fv_tree.specs.Meaning.{files_from, attributes_of, content_of, data_len_of, sections_from};
 ghost use Rattle.fv_tree.specs.Views.{body_view, content_view};
 ghost use Rattle.fv_canon.specs.Image.{image_of, stored_of, stored_file, data_of, frames_of, body_image};
@@ -9,8 +9,8 @@ ghost use Rattle.fv_canon.specs.Image.{starts_in, starts_in_files, starts_in_fil
 ghost use Rattle.fv_canon.specs.Layouts.{LaysVolume, LaysFiles, LaysFile, LaysContent, LaysSections, LaysBody};
 ghost use Rattle.fv_canon.specs.Stored.{file_sum_for, stored_bytes, files_bytes, size_for};
 ghost use Rattle.fv_canon.specs.Placed.{ArePlaced};
-ghost use Rattle.fv_canon.specs.SumSinks.{AddsUp, adds_by};
-ghost use Rattle.fv_canon.specs.Walks.{Begins};
+ghost use Rattle.fv_canon.specs.SumSinks.{AddsUp, adds_up_by};
+ghost use Rattle.fv_canon.specs.ImageWalks.{BeginsWithStarts};
 
 use crate::pieces::{
     filler_of, put_ext_pad, put_file_head, put_gap, put_section_head, put_state, size_for, used_end,
@@ -30,7 +30,7 @@ struct SumSink {
 impl Sink for SumSink {
     ghost takes = { AddsUp (λ s. s.total) };
 
-    ghost laws = { adds_by (λ s. s.total) };
+    ghost laws = { adds_up_by (λ s. s.total) };
 
     fn put(&mut self, bytes: &[u8]) {
         for byte in bytes {
@@ -49,7 +49,7 @@ fn complement(sum: u8) -> u8
 
 // The file sum of a file.
 pub(crate) fn file_sum(file: &FileView<'_>, starts: &[u64]) -> u8
-    requires laid { Begins LaysFile file.now starts.now }
+    requires laid { BeginsWithStarts LaysFile file.now starts.now }
     ensures { result ≡ file_sum_for (attributes_of file.now) (data_of (content_of file.now) starts.now) }
 {
     if !file.attributes().is_summed() {
@@ -68,7 +68,7 @@ fn sum_sections<'s>(
     tail: u8,
     starts: &'s [u64],
 ) -> &'s [u64]
-    requires laid { Begins LaysSections (sections_from sections.now) starts.now }
+    requires laid { BeginsWithStarts LaysSections (sections_from sections.now) starts.now }
     ensures bytes { AddsUp (λ s. s.total) out.old (stream_of (frames_of 0 (sections_from sections.now) starts.now) tail) out.new }
     ensures rest { result.now ≡ drop (starts_in_sections (sections_from sections.now)) starts.now }
 {
@@ -89,7 +89,7 @@ fn sum_sections<'s>(
 
 #[cycle(sum)]
 fn sum_body<'s>(out: &mut SumSink, body: &Body<'_>, starts: &'s [u64]) -> &'s [u64]
-    requires laid { Begins LaysBody (body_view body.now) starts.now }
+    requires laid { BeginsWithStarts LaysBody (body_view body.now) starts.now }
     ensures bytes { AddsUp (λ s. s.total) out.old (body_image (body_view body.now) starts.now) out.new }
     ensures rest { result.now ≡ drop (starts_in_body (body_view body.now)) starts.now }
 {
@@ -105,7 +105,7 @@ fn sum_body<'s>(out: &mut SumSink, body: &Body<'_>, starts: &'s [u64]) -> &'s [u
 
 #[cycle(sum)]
 fn sum_content<'s>(out: &mut SumSink, content: &Content<'_>, starts: &'s [u64]) -> &'s [u64]
-    requires laid { Begins LaysContent (content_view content.now) starts.now }
+    requires laid { BeginsWithStarts LaysContent (content_view content.now) starts.now }
     ensures bytes { AddsUp (λ s. s.total) out.old (data_of (content_view content.now) starts.now) out.new }
     ensures rest { result.now ≡ drop (starts_in_content (content_view content.now)) starts.now }
 {
@@ -125,7 +125,7 @@ fn sum_file<'s>(
     polarity: Polarity,
     starts: &'s [u64],
 ) -> &'s [u64]
-    requires laid { Begins LaysFile file.now starts.now }
+    requires laid { BeginsWithStarts LaysFile file.now starts.now }
     requires most { data_len_of file.now ≤ 268435424 }
     ensures bytes { AddsUp (λ s. s.total) out.old (stored_bytes polarity (stored_file file.now starts.now)) out.new }
     ensures rest { result.now ≡ drop (starts_in_file file.now) starts.now }
@@ -150,7 +150,7 @@ fn sum_files<'s>(
     starts: &'s [u64],
 ) -> &'s [u64]
     requires placed { ArePlaced total first files.now own.now }
-    requires laid { Begins LaysFiles (files_from files.now) starts.now }
+    requires laid { BeginsWithStarts LaysFiles (files_from files.now) starts.now }
     ensures bytes { AddsUp (λ s. s.total) out.old (files_bytes polarity total first (stored_of (files_from files.now) starts.now) own.now) out.new }
     ensures rest { result.now ≡ drop (starts_in_files (files_from files.now)) starts.now }
 {
@@ -171,7 +171,7 @@ fn sum_files<'s>(
 
 #[cycle(sum)]
 fn sum_volume<'s>(out: &mut SumSink, volume: &VolumeView<'_>, starts: &'s [u64]) -> &'s [u64]
-    requires laid { Begins LaysVolume volume.now starts.now }
+    requires laid { BeginsWithStarts LaysVolume volume.now starts.now }
     ensures bytes { AddsUp (λ s. s.total) out.old (image_of volume.now starts.now) out.new }
     ensures rest { result.now ≡ drop (starts_in volume.now) starts.now }
 {

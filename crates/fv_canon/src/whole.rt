@@ -6,7 +6,7 @@ ghost use Rattle.fv_base.specs.Value.{field};
 ghost use Rattle.fv_canon.specs.Normal.{NormalisesTo};
 ghost use Rattle.fv_canon.specs.Refusals.{Refuses};
 ghost use Rattle.fv_canon.specs.Whole.{FirstRefused, NormalisesAll, RefusesAll, Renewed};
-ghost use Rattle.fv_tree.specs.FirstFault.{moved};
+ghost use Rattle.fv_tree.specs.FirstFault.{moved_fault};
 ghost use Rattle.fv_tree.specs.Found.{Found, VolumeAt};
 
 use crate::image::put_canonical;
@@ -49,7 +49,7 @@ fn volume_at(image: &[u8], start: usize) -> &[u8]
 // A fault of a volume that begins at this place of an image, as one of the image. Want of memory has no place.
 fn placed(fault: Fault, start: u64) -> Fault
     requires { start + fault.place.offset < 2 ^ 64 }
-    ensures { result ≢ want_of_memory → (fault ≢ want_of_memory) × (result ≡ moved start fault.place.depth fault) }
+    ensures { result ≢ want_of_memory → (fault ≢ want_of_memory) × (result ≡ moved_fault start fault.place.depth fault) }
 {
     if matches!(fault.kind, FaultKind::OutOfMemory) {
         return Fault::outer(FaultKind::OutOfMemory, 0);

@@ -22,14 +22,14 @@ use Rattle.fv_canon.proofs.InputLaws.{want_known}
 use Rattle.fv_canon.proofs.PartLaws.{data_short}
 use Rattle.fv_depex.specs.declared.op.Phase.{Phase}
 use Rattle.fv_file.specs.Cells.{CellForm, Tiles}
-use Rattle.fv_head.specs.Head.{HeadFields, Front}
+use Rattle.fv_head.specs.Head.{HeadFields, BeginsVolume}
 use Rattle.fv_head.specs.declared.extent.Extent.{Extent}
 use Rattle.fv_head.proofs.Laws.{front_lies}
 use Rattle.fv_section.specs.Frames.{up_to_4}
 use Rattle.fv_tree.specs.Denotes.{Accepted, IsReadFile, depth_limit}
 use Rattle.fv_tree.specs.Instances.{preorder, inside_section, inside_body}
 use Rattle.fv_tree.specs.Meaning.{Meaning, FileMeaning, File, Plain, Sectioned, SectionMeaning, Section, SectionMeanings}
-use Rattle.fv_tree.specs.Meaning.{NoSections, MoreSections, BodyMeaning, Leaf, Group, Nested, body_of, content_of, name_of}
+use Rattle.fv_tree.specs.Meaning.{NoSections, MoreSections, BodyMeaning, Leaf, Group, Nested, body_of, content_of, file_name_of}
 use Rattle.fv_tree.specs.Meaning.{section_kind_of, section_len, body_len, sections_end, data_len_of, files_of, head_of, sections_from}
 use Rattle.fv_tree.proofs.Laws.{fault_stands, few_files, stands_other}
 use Rattle.fv_command.specs.Checks.{written_in, pad_line, pad_text, phase_of, read_by, section_depex, sections_depexes, file_depexes}
@@ -206,7 +206,7 @@ pub plain_depexes : (f : FileMeaning) (b : List ℕ) → content_of f ≡ Plain 
 plain_depexes (File name k a (Plain c)) b is = refl
 plain_depexes (File name k a (Sectioned ss t)) b is = cc
 
-pub stream_depexes : (f : FileMeaning) (name : Guid) (ss : SectionMeanings) (t : ℕ) → name ≡ name_of f → content_of f ≡ Sectioned ss t
+pub stream_depexes : (f : FileMeaning) (name : Guid) (ss : SectionMeanings) (t : ℕ) → name ≡ file_name_of f → content_of f ≡ Sectioned ss t
     → sections_depexes name (preorder ss) ≡ file_depexes f
 stream_depexes (File own k a (Plain c)) name ss t e is = cc
 stream_depexes (File own k a (Sectioned us u)) name ss t e is =
@@ -291,14 +291,14 @@ want_only f none = go (want_known f) where
 
 -- a volume of this meaning, as its extent says it
 pub record Opened (m : Meaning) (b : List ℕ) (e : Extent) : Type 0 where
-  pub front : Front (head_of m) e b
+  pub front : BeginsVolume (head_of m) e b
   pub whole : length b ≡ e.length
   pub cells : List CellForm
   pub tiles : Tiles e.file_system e.polarity e.first cells (drop e.first b)
 
 -- the extent that is found is the one of the volume
 pub opened : (b : List ℕ) (m : Meaning) (e : Extent) (r : Result Extent Fault) → Accepted b m
-    → ((h : HeadFields) (x : Extent) → Front h x b → r ≡ Ok x) → r ≡ Ok e → Opened m b e
+    → ((h : HeadFields) (x : Extent) → BeginsVolume h x b → r ≡ Ok x) → r ≡ Ok e → Opened m b e
 opened b m e r (bytes, d) only is =
     subst (Opened m b) (one d.extent e (sym (only (head_of m) d.extent d.front) ∙ is))
     (record { front = d.front; whole = d.whole; cells = d.cells; tiles = d.tiles })

@@ -5,7 +5,7 @@ use Rattle.std.specs.Prelude.{if◌then◌else◌}
 use Rattle.std.proofs.Math.ListN.{get_or}
 use Rattle.std.proofs.Math.Seq.{drop-cons}
 use Rattle.std.proofs.lemmas.List.{take_more, get_or-drop, take-append-drop}
-use Rattle.fv_command.specs.HexPairs.{IsNoPair, IsPair, IsSpoilt, Reads, is_space, squeezed}
+use Rattle.fv_command.specs.HexPairs.{IsNoPair, IsPair, IsSpoilt, DigitsSpell, is_space, squeezed}
 
 pub squeezed_more : (a b : List ℕ) → squeezed (a ++ b) ≡ squeezed a ++ squeezed b
 squeezed_more [] b = refl
@@ -15,8 +15,8 @@ squeezed_more (c ∷ a) b = go (is_space c) (squeezed_more a b) where
   go true e = e
   go false e = ap (λ (l : List ℕ). c ∷ l) e
 
-pub reads_joined : (a b x y : List ℕ) → Reads a x → Reads b y → Reads (a ++ b) (x ++ y)
-reads_joined [] b x y p q = subst (λ (l : List ℕ). Reads b (l ++ y)) (sym p) q
+pub reads_joined : (a b x y : List ℕ) → DigitsSpell a x → DigitsSpell b y → DigitsSpell (a ++ b) (x ++ y)
+reads_joined [] b x y p q = subst (λ (l : List ℕ). DigitsSpell b (l ++ y)) (sym p) q
 reads_joined (h ∷ []) b x y p q = absurd p
 reads_joined (h ∷ l ∷ a) b x y (byte, rest, pair, is, more) q =
     (byte, rest ++ y, pair, ap (λ (k : List ℕ). k ++ y) is, reads_joined a b rest y more q)
@@ -65,8 +65,8 @@ run_goes text digits old start at d le lt digit so_far =
     ∙ ap (λ (l : List ℕ). old ++ l) (sym next)
 
 -- one pair more
-pub pair_more : (digits more : List ℕ) (i byte d e : ℕ) → 2 * i + 1 < length digits → Reads (take (2 * i) digits) more
-    → IsPair (get_or digits (2 * i) d) (get_or digits (2 * i + 1) e) byte → Reads (take (2 * (i + 1)) digits) (more ++ byte ∷ [])
+pub pair_more : (digits more : List ℕ) (i byte d e : ℕ) → 2 * i + 1 < length digits → DigitsSpell (take (2 * i) digits) more
+    → IsPair (get_or digits (2 * i) d) (get_or digits (2 * i + 1) e) byte → DigitsSpell (take (2 * (i + 1)) digits) (more ++ byte ∷ [])
 pair_more digits more i byte d e lt reads pair =
     let h = get_or digits (2 * i) d in
     let l = get_or digits (2 * i + 1) e in
@@ -76,7 +76,7 @@ pair_more digits more i byte d e lt reads pair =
     ap (λ (n : ℕ). take n digits) count ∙ take_more digits (2 * i + 1) e lt
     ∙ ap (λ (k : List ℕ). k ++ l ∷ []) (take_more digits (2 * i) d (omega (arith, lt)))
     ∙ append_assoc front (h ∷ []) (l ∷ []) in
-    subst (λ (k : List ℕ). Reads k (more ++ byte ∷ [])) (sym both)
+    subst (λ (k : List ℕ). DigitsSpell k (more ++ byte ∷ [])) (sym both)
     (reads_joined front (h ∷ l ∷ []) more (byte ∷ []) reads (byte, [], pair, refl, refl))
 
 -- no more stays than there was
@@ -88,7 +88,7 @@ squeezed_short (c ∷ text) = go (is_space c) (squeezed_short text) where
   go false le = omega (arith, le)
 
 -- two digits for each byte
-pub reads_count : (digits bytes : List ℕ) → Reads digits bytes → length digits ≡ 2 * length bytes
+pub reads_count : (digits bytes : List ℕ) → DigitsSpell digits bytes → length digits ≡ 2 * length bytes
 reads_count [] bytes p = let none = ap length p in omega (arith, none)
 reads_count (h ∷ []) bytes p = absurd p
 reads_count (h ∷ l ∷ digits) bytes (byte, rest, pair, is, more) =
@@ -97,7 +97,7 @@ reads_count (h ∷ l ∷ digits) bytes (byte, rest, pair, is, more) =
     omega (arith, count, long)
 
 -- behind pairs of digits the rest of what is read is read
-pub reads_rest : (a b x y : List ℕ) → Reads a x → Reads (a ++ b) y → (z : List ℕ) × Reads b z
+pub reads_rest : (a b x y : List ℕ) → DigitsSpell a x → DigitsSpell (a ++ b) y → (z : List ℕ) × DigitsSpell b z
 reads_rest [] b x y p q = (y, q)
 reads_rest (h ∷ []) b x y p q = absurd p
 reads_rest (h ∷ l ∷ a) b x y (byte, rest, pair, is, more) (other, behind, twin, same, all) = reads_rest a b rest behind more all
@@ -109,17 +109,17 @@ spoilt_pair h l digits none = λ behind bytes all. none all.0 all.2
 -- what is spoilt stays so, whatever follows
 pub spoilt_more : (a b : List ℕ) → IsSpoilt a → IsSpoilt (a ++ b)
 spoilt_more a b spoilt = λ behind bytes all.
-    spoilt (b ++ behind) bytes (subst (λ (l : List ℕ). Reads l bytes) (append_assoc a b behind) all)
+    spoilt (b ++ behind) bytes (subst (λ (l : List ℕ). DigitsSpell l bytes) (append_assoc a b behind) all)
 
 -- and whatever stands before it that is read
-pub spoilt_behind : (a b x : List ℕ) → Reads a x → IsSpoilt b → IsSpoilt (a ++ b)
+pub spoilt_behind : (a b x : List ℕ) → DigitsSpell a x → IsSpoilt b → IsSpoilt (a ++ b)
 spoilt_behind a b x reads spoilt = λ behind bytes all.
-    let joined = subst (λ (l : List ℕ). Reads l bytes) (append_assoc a b behind) all in
+    let joined = subst (λ (l : List ℕ). DigitsSpell l bytes) (append_assoc a b behind) all in
     let (rest, rest_reads) = reads_rest a (b ++ behind) x bytes reads joined in
     spoilt behind rest rest_reads
 
 -- pairs of digits up to one that is no byte
-pub spoilt_at : (digits more : List ℕ) (i d e : ℕ) → 2 * i + 1 < length digits → Reads (take (2 * i) digits) more
+pub spoilt_at : (digits more : List ℕ) (i d e : ℕ) → 2 * i + 1 < length digits → DigitsSpell (take (2 * i) digits) more
     → IsNoPair (get_or digits (2 * i) d) (get_or digits (2 * i + 1) e) → IsSpoilt digits
 spoilt_at digits more i d e lt reads none =
     let h = get_or digits (2 * i) d in
@@ -135,7 +135,7 @@ spoilt_at digits more i d e lt reads none =
     subst IsSpoilt split (spoilt_behind (take (2 * i) digits) (h ∷ l ∷ rest) more reads (spoilt_pair h l rest none))
 
 -- a digit behind pairs spells nothing
-pub odd_reads_nothing : (front waiting x y : List ℕ) → length waiting ≡ 1 → Reads front x → Reads (front ++ waiting) y → ⊥
+pub odd_reads_nothing : (front waiting x y : List ℕ) → length waiting ≡ 1 → DigitsSpell front x → DigitsSpell (front ++ waiting) y → ⊥
 odd_reads_nothing front waiting x y one reads all =
     let even = reads_count front x reads in
     let whole = reads_count (front ++ waiting) y all in

@@ -14,9 +14,9 @@ use Rattle.fv_base.specs.Faults.{outer_fault}
 use Rattle.fv_base.specs.Limits.{volume_limit}
 use Rattle.fv_base.proofs.Pieces.{up_is_not_down}
 use Rattle.fv_command.specs.declared.hex_text.Decoder.{Decoder}
-use Rattle.fv_command.specs.HexIn.{Adds, Decodes, DecodesPairs, Held}
+use Rattle.fv_command.specs.HexIn.{AddsDigits, Decodes, DecodesPairs, HoldsDigits}
 use Rattle.fv_command.specs.HexIn.{GivesText, IsLongText, IsNoText, RefusedFor, RefusesText, TextStops, TextStopsFor, text_limit}
-use Rattle.fv_command.specs.HexPairs.{IsSpoilt, Reads, squeezed}
+use Rattle.fv_command.specs.HexPairs.{IsSpoilt, DigitsSpell, squeezed}
 use Rattle.fv_command.proofs.HexDigitLemmas.{odd_reads_nothing, reads_count, reads_joined, spoilt_behind, spoilt_more, squeezed_more}
 
 -- the digits of a text and of the next piece: those that are read, those of the pairs now, and what waits
@@ -30,8 +30,8 @@ joins before text waiting all digits kept front was joined split =
 
 -- the digits that waited and those of the next piece are pairs, which are decoded, and what waits now
 pub taken : (before text waiting all digits kept left held holds : List ℕ) (was_long is_long : Bool)
-    → Held was_long held waiting (squeezed before) → Adds was_long is_long held holds digits → all ≡ waiting ++ squeezed text
-    → all ≡ digits ++ kept → left ≡ kept → Held is_long holds left (squeezed (before ++ text))
+    → HoldsDigits was_long held waiting (squeezed before) → AddsDigits was_long is_long held holds digits → all ≡ waiting ++ squeezed text
+    → all ≡ digits ++ kept → left ≡ kept → HoldsDigits is_long holds left (squeezed (before ++ text))
 taken before text waiting all digits kept left held holds was_long is_long h adds joined split left_is = record {
   front = h.front ++ digits;
   bytes = h.bytes ++ adds.more;
@@ -50,7 +50,7 @@ taken before text waiting all digits kept left held holds was_long is_long h add
   many_more false bytes more were are = are refl
 
 -- the pairs of the digits that waited and of the next piece are spoilt
-pub taken_wrong : (before text waiting all digits kept held : List ℕ) (was_long : Bool) → Held was_long held waiting (squeezed before)
+pub taken_wrong : (before text waiting all digits kept held : List ℕ) (was_long : Bool) → HoldsDigits was_long held waiting (squeezed before)
     → IsSpoilt digits → all ≡ waiting ++ squeezed text → all ≡ digits ++ kept → IsSpoilt (squeezed (before ++ text))
 taken_wrong before text waiting all digits kept held was_long h spoilt joined split =
     subst IsSpoilt (sym (joins before text waiting all digits kept h.front h.joined joined split))
@@ -64,8 +64,8 @@ MakesRoom old room =
     ⊎ ((room.is_long ≡ true) × (volume_limit < length old.bytes.items + length old.digits.items / 2)))
 
 -- the bytes of the pairs, put behind those that were kept
-adds_pairs : (old room : Decoder) (holds more : List ℕ) → MakesRoom old room → Reads old.digits.items more
-    → holds ≡ room.bytes.items ++ more → Adds old.is_long room.is_long old.bytes.items holds old.digits.items
+adds_pairs : (old room : Decoder) (holds more : List ℕ) → MakesRoom old room → DigitsSpell old.digits.items more
+    → holds ≡ room.bytes.items ++ more → AddsDigits old.is_long room.is_long old.bytes.items holds old.digits.items
 adds_pairs old room holds more (digits, inl (flag, same)) reads is = record {
   more = more;
   reads = reads;
@@ -89,7 +89,7 @@ turned flag false is = (λ up. refl, λ down. absurd (up_is_not_down flag is dow
 
 -- the pairs were all decoded, or one of them is no byte
 pub pairs_decoded : (old room new : Decoder) (seen : List ℕ) (all : Bool) → MakesRoom old room → seen ≡ room.digits.items
-    → (all ≡ true → (more : List ℕ) × Reads seen more × (new.bytes.items ≡ room.bytes.items ++ more))
+    → (all ≡ true → (more : List ℕ) × DigitsSpell seen more × (new.bytes.items ≡ room.bytes.items ++ more))
     → (all ≡ false → IsSpoilt seen) → new.is_wrong ≡ not all → new.is_long ≡ room.is_long → DecodesPairs old new
 pairs_decoded old room new seen all made seen_is read wrong flag long =
     let digits : seen ≡ old.digits.items = seen_is ∙ made.0 in
@@ -97,8 +97,8 @@ pairs_decoded old room new seen all made seen_is read wrong flag long =
       wrong = λ up. subst IsSpoilt digits (wrong ((turned new.is_wrong all flag).0 up));
       right = λ down.
           let (more, reads, is) = read ((turned new.is_wrong all flag).1 down) in
-          subst (λ (b : Bool). Adds old.is_long b old.bytes.items new.bytes.items old.digits.items) (sym long)
-          (adds_pairs old room new.bytes.items more made (subst (λ (l : List ℕ). Reads l more) digits reads) is);
+          subst (λ (b : Bool). AddsDigits old.is_long b old.bytes.items new.bytes.items old.digits.items) (sym long)
+          (adds_pairs old room new.bytes.items more made (subst (λ (l : List ℕ). DigitsSpell l more) digits reads) is);
     }
 
 -- not empty, and no more than one
@@ -124,19 +124,19 @@ stays_wrong d before text wrong so_far = record {
 -- no text is spelled where it is wrong
 pub spoilt_is_no_text : (text : List ℕ) → IsSpoilt (squeezed text) → IsNoText text
 spoilt_is_no_text text spoilt = λ bytes reads.
-    spoilt [] bytes (subst (λ (l : List ℕ). Reads l bytes) (sym (append-nil (squeezed text))) reads)
+    spoilt [] bytes (subst (λ (l : List ℕ). DigitsSpell l bytes) (sym (append-nil (squeezed text))) reads)
 
 -- nor where a digit waits
-pub odd_is_no_text : (text waiting held : List ℕ) (is_long : Bool) → length waiting ≡ 1 → Held is_long held waiting (squeezed text)
+pub odd_is_no_text : (text waiting held : List ℕ) (is_long : Bool) → length waiting ≡ 1 → HoldsDigits is_long held waiting (squeezed text)
     → IsNoText text
 odd_is_no_text text waiting held is_long one h = λ bytes reads.
-    odd_reads_nothing h.front waiting h.bytes bytes one h.reads (subst (λ (l : List ℕ). Reads l bytes) h.joined reads)
+    odd_reads_nothing h.front waiting h.bytes bytes one h.reads (subst (λ (l : List ℕ). DigitsSpell l bytes) h.joined reads)
 
 -- the bytes are those of the text where none waits
-pub whole_reads : (text waiting held : List ℕ) (is_long : Bool) → waiting ≡ [] → (h : Held is_long held waiting (squeezed text))
-    → Reads (squeezed text) h.bytes
+pub whole_reads : (text waiting held : List ℕ) (is_long : Bool) → waiting ≡ [] → (h : HoldsDigits is_long held waiting (squeezed text))
+    → DigitsSpell (squeezed text) h.bytes
 whole_reads text waiting held is_long none h =
-    subst (λ (l : List ℕ). Reads l h.bytes) (sym (h.joined ∙ ap (λ (l : List ℕ). h.front ++ l) none ∙ append-nil h.front)) h.reads
+    subst (λ (l : List ℕ). DigitsSpell l h.bytes) (sym (h.joined ∙ ap (λ (l : List ℕ). h.front ++ l) none ∙ append-nil h.front)) h.reads
 
 -- a fault of a whole text stops its reading
 pub refused_stops : (old new : Option (List ℕ)) (erred : Bool) (text : List ℕ) → GivesText old new text → length text ≤ text_limit

@@ -6,7 +6,7 @@ use Rattle.hex.specs.Hex.{encode_lower, lower_digits}
 use Rattle.hex.proofs.HexLemmas.{length-encode_with}
 use Rattle.fv_base.specs.Sinks.{WalkLaws}
 use Rattle.fv_canon.specs.Lines.{line_feed}
-use Rattle.fv_command.specs.HexText.{IsHexText, IsWhole, Lined, Shows, last_text, line_text, lines_text}
+use Rattle.fv_command.specs.HexText.{IsHexText, IsWholeLine, Lined, ShowsBytes, last_text, line_text, lines_text}
 
 -- a sink of lines with nothing waiting took the bytes, and then its last line was put
 pub text_put : {S : Type 0} {takes : S → List ℕ → S → Type 0} → WalkLaws takes → (s t u : S) (p bytes q : List ℕ) → p ≡ [] → length q < 32
@@ -29,7 +29,7 @@ text_put laws s t u p bytes q none short took last = (
 line_long : (b : List ℕ) → length (line_text b) ≡ 2 * length b + 1
 line_long b = length-append (encode_lower b) line_feed ∙ ap (λ (n : ℕ). n + 1) (length-encode_with lower_digits b)
 
-lines_long : (lines : List (List ℕ)) → AllByRecursion IsWhole lines → length (lines_text lines) ≤ 3 * length (concat lines)
+lines_long : (lines : List (List ℕ)) → AllByRecursion IsWholeLine lines → length (lines_text lines) ≤ 3 * length (concat lines)
 lines_long [] whole = omega arith
 lines_long (b ∷ bs) whole =
     omega (
@@ -56,6 +56,6 @@ hex_long bytes text is =
     ap (λ (l : List ℕ). length l) is.joined ∙ length-append (concat is.lines) is.last in
     omega (arith, lines, last, whole, parts)
 
-pub shown_long : (hex : Bool) (bytes text : List ℕ) → Shows hex bytes text → length text ≤ 3 * length bytes
+pub shown_long : (hex : Bool) (bytes text : List ℕ) → ShowsBytes hex bytes text → length text ≤ 3 * length bytes
 shown_long false bytes text is = let same = ap (λ (l : List ℕ). length l) is in omega (arith, same)
 shown_long true bytes text is = hex_long bytes text is

@@ -7,11 +7,11 @@ use Rattle.hex.specs.Hex.{lower_digits}
 use Rattle.hex.proofs.HexLemmas.{length-encode_with}
 use Rattle.fv_base.specs.Sinks.{WalkLaws}
 use Rattle.fv_canon.specs.Lines.{line_feed}
-use Rattle.fv_hob.specs.Hobs.{HobForm, code_of, len_of}
-use Rattle.fv_hob.specs.Lists.{Joins, span_of}
+use Rattle.fv_hob.specs.Hobs.{HobForm, hob_type, hob_len}
+use Rattle.fv_hob.specs.Lists.{JoinsHobs, span_of}
 use Rattle.fv_hob.specs.declared.span.Span.{Span}
 use Rattle.fv_hob.proofs.Laws.{len_small}
-use Rattle.fv_command.specs.HobLines.{ImageForm, HobLines, HobsText, IsSpanWord, IsWord, consumed_line, four_digits, hob_line, word_text}
+use Rattle.fv_command.specs.HobLines.{ImageForm, HobLines, HobsText, IsSpanWord, IsWord, consumed_line, four_digits, hob_line, standing_word}
 use Rattle.fv_command.specs.declared.hobs.Standing.{Standing}
 use Rattle.fv_command.specs.declared.hobs.Standing.TheVariants.{Outside, Volume, Absent}
 use Rattle.fv_command.proofs.WriteLemmas.{Tells, tells_more, tells_all}
@@ -25,7 +25,7 @@ one_word image h v w p q = by_span image (span_of h.kind) v w p q where
   by_span : (image : Option ImageForm) (span : Option Span) (v w : List ℕ) → IsSpanWord image span v → IsSpanWord image span w → v ≡ w
   by_span None span v w p q = p ∙ sym q
   by_span (Some i) None v w p q = p ∙ sym q
-  by_span (Some i) (Some s) v w p q = p.2 ∙ ap word_text (one_standing i.bytes i.base s p.0 q.0 p.1 q.1) ∙ sym q.2
+  by_span (Some i) (Some s) v w p q = p.2 ∙ ap standing_word (one_standing i.bytes i.base s p.0 q.0 p.1 q.1) ∙ sym q.2
 
 -- and a list has one text
 pub one_text : (image : Option ImageForm) (hs : List HobForm) (n : ℕ) (x y : List ℕ) → HobsText image hs n x → HobsText image hs n y
@@ -34,11 +34,11 @@ one_text image hs n x y (a, p, is) (b, q, same) = is ∙ ap (λ (l : List ℕ). 
   by_block : (hs : List HobForm) (x y : List ℕ) → HobLines image hs x → HobLines image hs y → x ≡ y
   by_block [] x y p q = p ∙ sym q
   by_block (h ∷ hs) x y (v, more, p, is, m) (w, rest, q, same, l) =
-      let line : List ℕ → List ℕ = λ word. hob_line (code_of h.kind) (len_of h.kind) word in
+      let line : List ℕ → List ℕ = λ word. hob_line (hob_type h.kind) (hob_len h.kind) word in
       let first : line v ++ more ≡ line w ++ more = ap (λ (word : List ℕ). line word ++ more) (one_word image h v w p q) in
       is ∙ first ∙ ap (λ (t : List ℕ). line w ++ t) (by_block hs more rest m l) ∙ sym same
 
-standing_short : (s : Standing) → length (word_text s) ≤ 8
+standing_short : (s : Standing) → length (standing_word s) ≤ 8
 standing_short Outside = omega arith
 standing_short Volume = omega arith
 standing_short Absent = omega arith
@@ -70,12 +70,12 @@ line_short code n word small short =
           r,
         )
 
-lines_short : (image : Option ImageForm) (hs : List HobForm) (b text : List ℕ) → Joins hs b → HobLines image hs text
+lines_short : (image : Option ImageForm) (hs : List HobForm) (b text : List ℕ) → JoinsHobs hs b → HobLines image hs text
     → length text ≤ 30 * length hs
 lines_short image [] b text joins lines = subst (λ (t : List ℕ). length t ≤ 0) (sym lines) (omega arith)
 lines_short image (h ∷ hs) b text joins (word, rest, is, whole, more) =
-    let line : List ℕ = hob_line (code_of h.kind) (len_of h.kind) word in
-    let short = line_short (code_of h.kind) (len_of h.kind) word (len_small h joins.0 joins.3)
+    let line : List ℕ = hob_line (hob_type h.kind) (hob_len h.kind) word in
+    let short = line_short (hob_type h.kind) (hob_len h.kind) word (len_small h joins.0 joins.3)
     (word_short image (span_of h.kind) word is) in
     let rest_short = lines_short image hs joins.1 rest joins.4 more in
     let parts = ap (λ (t : List ℕ). length t) whole ∙ length-append line rest in
@@ -84,7 +84,7 @@ lines_short image (h ∷ hs) b text joins (word, rest, is, whole, more) =
     sum : (all line rest n : ℕ) → all ≡ line + rest → line ≤ 30 → rest ≤ 30 * n → all ≤ 30 * suc n
     sum all line rest n p q r = omega (arith, p, q, r)
 
-pub text_short : (image : Option ImageForm) (hs : List HobForm) (n : ℕ) (b text : List ℕ) → n < 2 ^ 64 → Joins hs b
+pub text_short : (image : Option ImageForm) (hs : List HobForm) (n : ℕ) (b text : List ℕ) → n < 2 ^ 64 → JoinsHobs hs b
     → HobsText image hs n text → length text ≤ 30 * length hs + 30
 text_short image hs n b text small joins (lines, are, whole) =
     omega (
@@ -102,11 +102,11 @@ text_short image hs n b text small joins (lines, are, whole) =
 -- the line of one block more
 pub hobs_more : {S : Type 0} {takes : S → List ℕ → S → Type 0} {hs : List HobForm} {i : ℕ} {s t u : S} → WalkLaws takes
     → (image : Option ImageForm) (h : HobForm) (code n : ℕ) (word : List ℕ) → i < length hs → h ≡ get_or hs i h
-    → code ≡ code_of h.kind → n ≡ len_of h.kind → IsWord image h word → Tells takes (HobLines image) hs i s t
+    → code ≡ hob_type h.kind → n ≡ hob_len h.kind → IsWord image h word → Tells takes (HobLines image) hs i s t
     → takes t (hob_line code n word) u → Tells takes (HobLines image) hs (i + 1) s u
 hobs_more {hs = hs} {i = i} laws image h code n word l here p q is w line =
-    let same : hob_line code n word ≡ hob_line (code_of h.kind) (len_of h.kind) word =
-    ap (λ (k : ℕ). hob_line k n word) p ∙ ap (λ (k : ℕ). hob_line (code_of h.kind) k word) q in
+    let same : hob_line code n word ≡ hob_line (hob_type h.kind) (hob_len h.kind) word =
+    ap (λ (k : ℕ). hob_line k n word) p ∙ ap (λ (k : ℕ). hob_line (hob_type h.kind) k word) q in
     let own : (rest : List ℕ) → HobLines image (drop (i + 1) hs) rest
     → HobLines image (h ∷ drop (i + 1) hs) (hob_line code n word ++ rest) =
     λ rest more. (word, rest, is, ap (λ (m : List ℕ). m ++ rest) same, more) in

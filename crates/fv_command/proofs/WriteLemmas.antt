@@ -6,18 +6,18 @@ use Rattle.std.proofs.lemmas.List.{drop_more, drop_all}
 use Rattle.fv_base.specs.Sinks.{WalkLaws}
 use Rattle.fv_canon.specs.Lines.{line_feed}
 use Rattle.fv_command.specs.Lines.{fault_line}
-use Rattle.fv_command.specs.Puts.{Puts}
+use Rattle.fv_command.specs.Puts.{PutsSome}
 
 -- a sink took nothing; it took this; it took more behind
-pub put_none : {S : Type 0} {takes : S → List ℕ → S → Type 0} → WalkLaws takes → (s : S) → Puts takes s s
+pub put_none : {S : Type 0} {takes : S → List ℕ → S → Type 0} → WalkLaws takes → (s : S) → PutsSome takes s s
 put_none laws s = record { text = []; taken = laws.none s }
 
 pub put_one : {S : Type 0} {takes : S → List ℕ → S → Type 0} {s t : S} → WalkLaws takes → (bytes : List ℕ) → takes s bytes t
-    → Puts takes s t
+    → PutsSome takes s t
 put_one laws bytes h = record { text = bytes; taken = h }
 
-pub put_then : {S : Type 0} {takes : S → List ℕ → S → Type 0} {s t u : S} → WalkLaws takes → Puts takes s t → Puts takes t u
-    → Puts takes s u
+pub put_then : {S : Type 0} {takes : S → List ℕ → S → Type 0} {s t u : S} → WalkLaws takes → PutsSome takes s t → PutsSome takes t u
+    → PutsSome takes s u
 put_then laws p q = record { text = p.text ++ q.text; taken = laws.joined _ _ _ _ _ p.taken q.taken }
 
 -- ---- texts of some things, in order

@@ -13,14 +13,14 @@ use Rattle.fv_base.specs.declared.guid.Guid.{Guid}
 use Rattle.fv_canon.specs.Image.{IsImage}
 use Rattle.fv_canon.specs.Lines.{line_feed}
 use Rattle.fv_canon.specs.Refusals.{NotRead}
-use Rattle.fv_depex.specs.Checks.{IsFirst, number_of}
+use Rattle.fv_depex.specs.Checks.{IsFirstOpFault, depex_fault_number}
 use Rattle.fv_depex.specs.Expressions.{Spells}
 use Rattle.fv_depex.specs.declared.fault.DepexFault.{DepexFault}
 use Rattle.fv_depex.specs.declared.op.Op.{Op}
 use Rattle.fv_depex.specs.declared.op.Phase.{Phase}
 use Rattle.fv_depex.specs.declared.op.Phase.TheVariants.{Pei, Dxe}
 use Rattle.fv_file.specs.Cells.{CellForm, Pad, Tiles}
-use Rattle.fv_head.specs.Head.{Front}
+use Rattle.fv_head.specs.Head.{BeginsVolume}
 use Rattle.fv_head.specs.declared.extent.Extent.{Extent}
 use Rattle.fv_tree.specs.Denotes.{Accepted}
 use Rattle.fv_tree.specs.Instances.{preorder}
@@ -98,12 +98,12 @@ IsSpelled x = (ops : List Op) × (rest : List ℕ) × Spells x.phase ops rest x.
 
 -- what is noted of a fault of an expression that a file of this name holds
 abbrev pub note_of : Guid → DepexFault → DepexNote
-note_of name fault = record { name = name; number = number_of fault.kind; offset = fault.offset }
+note_of name fault = record { name = name; number = depex_fault_number fault.kind; offset = fault.offset }
 
 -- the bytes spell none, and this is noted of their first fault
 pub record IsNoted (x : HeldDepex) (note : DepexNote) : Type 0 where
   pub fault : DepexFault
-  pub first : IsFirst x.phase x.bytes fault
+  pub first : IsFirstOpFault x.phase x.bytes fault
   pub note_is : note ≡ note_of x.name fault
 
 -- these are the notes of some expressions, in their order: one of each that is not spelled
@@ -139,7 +139,7 @@ check_lines polarity cells notes same = pad_notes polarity cells ++ (depex_lines
 -- a volume of this meaning has these cells, which tile it from its first file's place on, and an erased byte of it is of this polarity
 pub record AreCells (m : Meaning) (b : List ℕ) (polarity : Polarity) (cells : List CellForm) : Type 0 where
   pub extent : Extent
-  pub front : Front (head_of m) extent b
+  pub front : BeginsVolume (head_of m) extent b
   pub polarity_is : polarity ≡ extent.polarity
   pub tiles : Tiles extent.file_system polarity extent.first cells (drop extent.first b)
 

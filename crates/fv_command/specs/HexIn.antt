@@ -9,7 +9,7 @@ use Rattle.fv_base.specs.Limits.{volume_limit}
 use Rattle.fv_command.specs.declared.hex_text.Decoder.{Decoder}
 use Rattle.fv_command.specs.declared.hex_text.Piece.{Piece}
 use Rattle.fv_command.specs.declared.hex_text.Piece.TheVariants as pieces
-use Rattle.fv_command.specs.HexPairs.{IsSpoilt, Reads, squeezed}
+use Rattle.fv_command.specs.HexPairs.{IsSpoilt, DigitsSpell, squeezed}
 
 -- the most bytes that a run takes as hexadecimal text: two digits and as much white space for each byte of a volume
 abbrev pub text_limit : ℕ
@@ -25,16 +25,16 @@ pub record SpellsWhole (old new : Option (List ℕ)) (input : List ℕ) : Type 0
   pub text : List ℕ
   pub gives : GivesText old new text
   pub short : length text ≤ text_limit
-  pub spells : Reads (squeezed text) input
+  pub spells : DigitsSpell (squeezed text) input
   pub small : length input ≤ volume_limit
 
 -- text that is no even number of digits, white space aside
 abbrev pub IsNoText : List ℕ → Type 0
-IsNoText text = (bytes : List ℕ) → Reads (squeezed text) bytes → ⊥
+IsNoText text = (bytes : List ℕ) → DigitsSpell (squeezed text) bytes → ⊥
 
 -- text that spells more bytes than a volume has
 abbrev pub IsLongText : List ℕ → Type 0
-IsLongText text = (bytes : List ℕ) × Reads (squeezed text) bytes × (volume_limit < length bytes)
+IsLongText text = (bytes : List ℕ) × DigitsSpell (squeezed text) bytes × (volume_limit < length bytes)
 
 -- why a whole text spells no input, by the kind of the fault, at an offset
 abbrev pub RefusedFor : FaultKind → List ℕ → ℕ → Type 0
@@ -71,27 +71,27 @@ ReadsPiece pieces.End old new chunk erred = Consumes old new [] × IsAtEnd new
 ReadsPiece pieces.Failed old new chunk erred = Keeps old new × (erred ≡ true)
 
 -- some digits spell bytes, but for those that wait; the bytes are held, or they are more than a volume has
-pub record Held (is_long : Bool) (held waiting digits : List ℕ) : Type 0 where
+pub record HoldsDigits (is_long : Bool) (held waiting digits : List ℕ) : Type 0 where
   pub front : List ℕ
   pub bytes : List ℕ
   pub joined : digits ≡ front ++ waiting
-  pub reads : Reads front bytes
+  pub reads : DigitsSpell front bytes
   pub kept : is_long ≡ false → held ≡ bytes
   pub many : is_long ≡ true → volume_limit < length bytes
 
 -- what the text so far comes to: it is wrong whatever follows, or its digits spell what is held
 pub record Decodes (d : Decoder) (text : List ℕ) : Type 0 where
   pub wrong : d.is_wrong ≡ true → IsSpoilt (squeezed text)
-  pub right : d.is_wrong ≡ false → Held d.is_long d.bytes.items d.digits.items (squeezed text)
+  pub right : d.is_wrong ≡ false → HoldsDigits d.is_long d.bytes.items d.digits.items (squeezed text)
 
 -- digits spell bytes, which are put behind those that were held, unless they are too many together
-pub record Adds (was_long is_long : Bool) (held holds digits : List ℕ) : Type 0 where
+pub record AddsDigits (was_long is_long : Bool) (held holds digits : List ℕ) : Type 0 where
   pub more : List ℕ
-  pub reads : Reads digits more
+  pub reads : DigitsSpell digits more
   pub kept : is_long ≡ false → (was_long ≡ false) × (holds ≡ held ++ more)
   pub many : is_long ≡ true → was_long ≡ false → volume_limit < length (held ++ more)
 
 -- the digits of a decoder are found wrong, or they are decoded
 pub record DecodesPairs (old new : Decoder) : Type 0 where
   pub wrong : new.is_wrong ≡ true → IsSpoilt old.digits.items
-  pub right : new.is_wrong ≡ false → Adds old.is_long new.is_long old.bytes.items new.bytes.items old.digits.items
+  pub right : new.is_wrong ≡ false → AddsDigits old.is_long new.is_long old.bytes.items new.bytes.items old.digits.items

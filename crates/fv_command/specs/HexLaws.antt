@@ -5,9 +5,9 @@ use Rattle.std.specs.List.{AllByRecursion, concat}
 use Rattle.std.proofs.lemmas.List.Concat.{flat_map-append}
 use Rattle.std.proofs.lemmas.List.Folds.{concat-append}
 use Rattle.fv_base.specs.Sinks.{WalkLaws}
-use Rattle.fv_command.specs.HexText.{HexTakes, IsWhole, Lined, line_text, lines_text}
+use Rattle.fv_command.specs.HexText.{HexTakes, IsWholeLine, Lined, line_text, lines_text}
 
-whole_more : (xs ys : List (List ℕ)) → AllByRecursion IsWhole xs → AllByRecursion IsWhole ys → AllByRecursion IsWhole (xs ++ ys)
+whole_more : (xs ys : List (List ℕ)) → AllByRecursion IsWholeLine xs → AllByRecursion IsWholeLine ys → AllByRecursion IsWholeLine (xs ++ ys)
 whole_more [] ys a b = b
 whole_more (x ∷ xs) ys a b = (a.0, whole_more xs ys a.1 b)
 

@@ -24,11 +24,11 @@ abbrev pub IsNoPair : ℕ → ℕ → Type 0
 IsNoPair h l = (byte : ℕ) → IsPair h l byte → ⊥
 
 -- two digits for each byte
-abbrev pub Reads : List ℕ → List ℕ → Type 0
-Reads [] bytes = bytes ≡ []
-Reads (h ∷ []) bytes = ⊥
-Reads (h ∷ l ∷ ds) bytes = (byte : ℕ) × (rest : List ℕ) × IsPair h l byte × (bytes ≡ byte ∷ rest) × Reads ds rest
+abbrev pub DigitsSpell : List ℕ → List ℕ → Type 0
+DigitsSpell [] bytes = bytes ≡ []
+DigitsSpell (h ∷ []) bytes = ⊥
+DigitsSpell (h ∷ l ∷ ds) bytes = (byte : ℕ) × (rest : List ℕ) × IsPair h l byte × (bytes ≡ byte ∷ rest) × DigitsSpell ds rest
 
 -- characters that spell no bytes, whatever stands behind them
 abbrev pub IsSpoilt : List ℕ → Type 0
-IsSpoilt digits = (behind bytes : List ℕ) → Reads (digits ++ behind) bytes → ⊥
+IsSpoilt digits = (behind bytes : List ℕ) → DigitsSpell (digits ++ behind) bytes → ⊥

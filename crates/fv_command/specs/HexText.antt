@@ -17,28 +17,28 @@ last_text [] = []
 last_text (x ∷ b) = line_text (x ∷ b)
 
 -- a whole line has 32 bytes
-abbrev pub IsWhole : List ℕ → Type 0
-IsWhole b = length b ≡ 32
+abbrev pub IsWholeLine : List ℕ → Type 0
+IsWholeLine b = length b ≡ 32
 
 -- the text has a line for each 32 of the bytes, and one for what is left
 pub record IsHexText (bytes text : List ℕ) : Type 0 where
   pub lines : List (List ℕ)
   pub last : List ℕ
   pub joined : bytes ≡ concat lines ++ last
-  pub whole : AllByRecursion IsWhole lines
+  pub whole : AllByRecursion IsWholeLine lines
   pub short : length last < 32
   pub text_is : text ≡ lines_text lines ++ last_text last
 
 -- the text by which the bytes go out: themselves, or as lines of digits
-abbrev pub Shows : Bool → List ℕ → List ℕ → Type 0
-Shows false bytes text = text ≡ bytes
-Shows true bytes text = IsHexText bytes text
+abbrev pub ShowsBytes : Bool → List ℕ → List ℕ → Type 0
+ShowsBytes false bytes text = text ≡ bytes
+ShowsBytes true bytes text = IsHexText bytes text
 
 -- a sink below that is s, with the bytes p waiting, took the bytes and is t, with the bytes q waiting
 pub record Lined {S : Type 0} (takes : S → List ℕ → S → Type 0) (s : S) (p bytes : List ℕ) (t : S) (q : List ℕ) : Type 0 where
   pub lines : List (List ℕ)
   pub joined : p ++ bytes ≡ concat lines ++ q
-  pub whole : AllByRecursion IsWhole lines
+  pub whole : AllByRecursion IsWholeLine lines
   pub taken : takes s (lines_text lines) t
 
 abbrev pub HexTakes : {S H : Type 0} (takes : S → List ℕ → S → Type 0) (below : H → S) (waiting : H → List ℕ) → H → List ℕ → H → Type 0

@@ -2,10 +2,10 @@
 use Rattle.std.specs.Prelude.{◌≡◌, ℕ, ◌/◌, ◌%◌, List, [], ◌∷◌, ◌++◌, Option, None, Some, codes, decimal}
 use Rattle.hex.specs.Hex.{encode_lower}
 use Rattle.fv_canon.specs.Lines.{line_feed}
-use Rattle.fv_hob.specs.Hobs.{HobForm, code_of, len_of}
+use Rattle.fv_hob.specs.Hobs.{HobForm, hob_type, hob_len}
 use Rattle.fv_hob.specs.Lists.{span_of}
 use Rattle.fv_hob.specs.declared.span.Span.{Span}
-use Rattle.fv_command.specs.Standings.{Stands}
+use Rattle.fv_command.specs.Standings.{IsStanding}
 use Rattle.fv_command.specs.declared.hobs.Image.{Image}
 use Rattle.fv_command.specs.declared.hobs.Standing.{Standing}
 use Rattle.fv_command.specs.declared.hobs.Standing.TheVariants.{Outside, Volume, Absent}
@@ -16,9 +16,9 @@ pub record ImageForm : Type 0 where
   pub base : ℕ
 
 -- those of an image in memory
-abbrev pub form_of : Option Image → Option ImageForm
-form_of None = None
-form_of (Some i) = Some (record { bytes = i.bytes.now; base = i.base })
+abbrev pub held_image : Option Image → Option ImageForm
+held_image None = None
+held_image (Some i) = Some (record { bytes = i.bytes.now; base = i.base })
 
 -- the image of these bytes, where there is a base
 abbrev pub image_form : Option ℕ → List ℕ → Option ImageForm
@@ -38,16 +38,16 @@ abbrev pub consumed_line : ℕ → List ℕ
 consumed_line n = codes "consumed " ++ (decimal n ++ line_feed)
 
 -- what is said of a volume, behind a space
-abbrev pub word_text : Standing → List ℕ
-word_text Outside = codes " outside"
-word_text Volume = codes " volume"
-word_text Absent = codes " absent"
+abbrev pub standing_word : Standing → List ℕ
+standing_word Outside = codes " outside"
+standing_word Volume = codes " volume"
+standing_word Absent = codes " absent"
 
 -- the word of the volume that should lie in a span; none, where there is no image or no span
 abbrev pub IsSpanWord : Option ImageForm → Option Span → List ℕ → Type 0
 IsSpanWord None span word = word ≡ []
 IsSpanWord (Some image) None word = word ≡ []
-IsSpanWord (Some image) (Some span) word = (s : Standing) × Stands image.bytes image.base span s × (word ≡ word_text s)
+IsSpanWord (Some image) (Some span) word = (s : Standing) × IsStanding image.bytes image.base span s × (word ≡ standing_word s)
 
 -- the word of the volume that a block names
 abbrev pub IsWord : Option ImageForm → HobForm → List ℕ → Type 0
@@ -57,7 +57,7 @@ IsWord image h word = IsSpanWord image (span_of h.kind) word
 abbrev pub HobLines : Option ImageForm → List HobForm → List ℕ → Type 0
 HobLines image [] text = text ≡ []
 HobLines image (h ∷ hs) text = (word : List ℕ) × (rest : List ℕ) × IsWord image h word
-    × (text ≡ hob_line (code_of h.kind) (len_of h.kind) word ++ rest) × HobLines image hs rest
+    × (text ≡ hob_line (hob_type h.kind) (hob_len h.kind) word ++ rest) × HobLines image hs rest
 
 -- those, and how many bytes the list has
 abbrev pub HobsText : Option ImageForm → List HobForm → ℕ → List ℕ → Type 0

@@ -2,7 +2,7 @@
 use Rattle.std.specs.Prelude.{◌≡◌, ◌≤◌, ◌⊎◌, ℕ, Bool, false, List, [], Option, Some, None, length, take}
 use Rattle.std.specs.Io.KnownBytes.{Appends, Keeps}
 use Rattle.fv_base.specs.declared.fault.Fault.{Fault}
-use Rattle.fv_hob.specs.Checks.{IsFirst, number_of, want_of_memory}
+use Rattle.fv_hob.specs.Checks.{IsFirstHobFault, hob_fault_number, hob_want_of_memory}
 use Rattle.fv_hob.specs.Hobs.{HobForm}
 use Rattle.fv_hob.specs.Lists.{IsHobList}
 use Rattle.fv_hob.specs.declared.fault.HobFault.{HobFault}
@@ -48,27 +48,27 @@ HobInputStops hex base r s r' s' fault =
 abbrev pub RefusesHobs : Bool → Option ℕ → Shown → Shown → Shown → Shown → HobFault → Type 0
 RefusesHobs hex base r s r' s' fault =
     (list : List ℕ) × (image : List ℕ) × Gives hex r s list × GivesImage hex base r' s' image
-    × ((fault ≡ want_of_memory) ⊎ IsFirst list fault)
+    × ((fault ≡ hob_want_of_memory) ⊎ IsFirstHobFault list fault)
 
 -- an input stopped the run, and nothing was written; or the writer did, in the lines
-abbrev pub HobsStop : Bool → Option ℕ → Shown → Shown → Shown → Shown → Shown → Shown → Fault → Type 0
-HobsStop hex base r s r' s' w v fault =
+abbrev pub FaultStopsHobs : Bool → Option ℕ → Shown → Shown → Shown → Shown → Shown → Shown → Fault → Type 0
+FaultStopsHobs hex base r s r' s' w v fault =
     (Keeps w.bytes v.bytes × HobInputStops hex base r s r' s' fault)
     ⊎ ListsHobs hex base r s r' s' (λ text. WritingStops w v text fault)
 
 -- why nothing, or not all, was written
-abbrev pub StopsHobs : Bool → Option ℕ → Shown → Shown → Shown → Shown → Shown → Shown → Refusal → Type 0
-StopsHobs hex base r s r' s' w v (refusals.Input fault) = HobsStop hex base r s r' s' w v fault
-StopsHobs hex base r s r' s' w v (refusals.Hobs fault) = (v ≡ w) × RefusesHobs hex base r s r' s' fault
+abbrev pub RefusalStopsHobs : Bool → Option ℕ → Shown → Shown → Shown → Shown → Shown → Shown → Refusal → Type 0
+RefusalStopsHobs hex base r s r' s' w v (refusals.Input fault) = FaultStopsHobs hex base r s r' s' w v fault
+RefusalStopsHobs hex base r s r' s' w v (refusals.Hobs fault) = (v ≡ w) × RefusesHobs hex base r s r' s' fault
 
 -- the list was refused, and then the line of this fault was written, unless the port has erred
 abbrev pub TellsHobs : Bool → Option ℕ → Shown → Shown → Shown → Shown → Shown → Shown → Type 0
 TellsHobs hex base r s r' s' w v =
     (fault : HobFault) × RefusesHobs hex base r s r' s' fault
-    × (v.erred ≡ false → Appends w.bytes v.bytes (hob_fault_line (number_of fault.kind) fault.offset))
+    × (v.erred ≡ false → Appends w.bytes v.bytes (hob_fault_line (hob_fault_number fault.kind) fault.offset))
 
 -- a run over a hand-off list, by its status
 abbrev pub RunsHobs : Option ℕ → Bool → Status → Shown → Shown → Shown → Shown → Shown → Shown → Type 0
 RunsHobs base hex Done r s r' s' w v = ListsHobs hex base r s r' s' (λ text. Appends w.bytes v.bytes text)
-RunsHobs base hex Refused r s r' s' w v = TellsStop (HobsStop hex base r s r' s' w) v ⊎ TellsHobs hex base r s r' s' w v
+RunsHobs base hex Refused r s r' s' w v = TellsStop (FaultStopsHobs hex base r s r' s' w) v ⊎ TellsHobs hex base r s r' s' w v
 RunsHobs base hex status r s r' s' w v = ⊥

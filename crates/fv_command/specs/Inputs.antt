@@ -1,7 +1,7 @@
 -- What a run reads and writes, seen from outside.
 use Rattle.std.specs.Prelude.{◌≡◌, ◌<◌, ◌≤◌, ℕ, Bool, true, false, List, Option, length, take}
 use Rattle.std.specs.Io.KnownBytes.{Appends}
-use Rattle.fv_base.specs.Faults.{number_of}
+use Rattle.fv_base.specs.Faults.{fault_number}
 use Rattle.fv_base.specs.Input.{ReadsWhole, ReadStops}
 use Rattle.fv_base.specs.declared.fault.Fault.{Fault}
 use Rattle.fv_base.specs.declared.fault.FaultKind.TheVariants as kinds
@@ -9,7 +9,7 @@ use Rattle.fv_tree.specs.Denotes.{Accepted}
 use Rattle.fv_tree.specs.FirstFault.{IsFirstOfVolume}
 use Rattle.fv_tree.specs.Meaning.{Meaning}
 use Rattle.fv_command.specs.HexIn.{SpellsWhole, TextStops}
-use Rattle.fv_command.specs.Lines.{Tells, fault_line}
+use Rattle.fv_command.specs.Lines.{TellsFault, fault_line}
 
 -- what a port shows: what its reader has left, or its writer holds, where that is known, and whether one of its calls has failed
 pub record Shown : Type 0 where
@@ -51,4 +51,4 @@ pub record WritingStops (old new : Shown) (text : List ℕ) (fault : Fault) : Ty
 abbrev pub TellsStop : (Shown → Fault → Type 0) → Shown → Type 0
 TellsStop stops v =
     (fault : Fault) × (between : Shown) × stops between fault
-    × Tells fault (fault_line (number_of fault.kind) fault.place.offset) between.bytes v.bytes v.erred
+    × TellsFault fault (fault_line (fault_number fault.kind) fault.place.offset) between.bytes v.bytes v.erred

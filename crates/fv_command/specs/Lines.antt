@@ -1,7 +1,7 @@
 -- The lines that the program writes.
 use Rattle.std.specs.Prelude.{◌≡◌, ◌≢◌, ℕ, List, [], ◌∷◌, ◌++◌, Bool, false, Option, codes, decimal}
 use Rattle.std.specs.Io.KnownBytes.{Appends}
-use Rattle.fv_base.specs.Faults.{number_of}
+use Rattle.fv_base.specs.Faults.{fault_number}
 use Rattle.fv_base.specs.declared.fault.Fault.{Fault}
 use Rattle.fv_base.specs.declared.fault.FaultKind.TheVariants as kinds
 use Rattle.fv_canon.specs.Lines.{line_feed}
@@ -22,15 +22,15 @@ side_fault_line sides.Second number at = codes "second " ++ fault_line number at
 side_fault_line sides.Output number at = []
 
 -- after a failed write nothing more is written; else, unless the port has erred, the line is
-pub record Tells (fault : Fault) (line : List ℕ) (held holds : Option (List ℕ)) (erred : Bool) : Type 0 where
+pub record TellsFault (fault : Fault) (line : List ℕ) (held holds : Option (List ℕ)) (erred : Bool) : Type 0 where
   pub silent : fault.kind ≡ kinds.WriteFault → holds ≡ held
   pub said : fault.kind ≢ kinds.WriteFault → erred ≡ false → Appends held holds line
 
 -- where the output stopped, nothing more is written; else, unless the port has erred, the line of the side is
-abbrev pub SideTells : Side → Fault → (held holds : Option (List ℕ)) → Bool → Type 0
-SideTells sides.Output fault held holds erred = holds ≡ held
-SideTells side fault held holds erred = erred ≡ false
-    → Appends held holds (side_fault_line side (number_of fault.kind) fault.place.offset)
+abbrev pub TellsSideFault : Side → Fault → (held holds : Option (List ℕ)) → Bool → Type 0
+TellsSideFault sides.Output fault held holds erred = holds ≡ held
+TellsSideFault side fault held holds erred = erred ≡ false
+    → Appends held holds (side_fault_line side (fault_number fault.kind) fault.place.offset)
 
 -- the line of a volume of n bytes that begins at an offset
 abbrev pub volume_line : ℕ → ℕ → List ℕ

@@ -12,23 +12,23 @@ use Rattle.fv_command.specs.declared.extracting.Extraction.TheVariants.{Made, St
 use Rattle.fv_command.specs.declared.extracting.Part.{Part}
 
 -- the body of this section, as the image has it; or there is none
-abbrev pub IsSection : Option SectionMeaning → Extraction → Type 0
-IsSection (Some s) (Made bytes) = IsBodyImage (body_of s) bytes
-IsSection None NotFound = ⊤
-IsSection _ _ = ⊥
+abbrev pub IsSectionPart : Option SectionMeaning → Extraction → Type 0
+IsSectionPart (Some s) (Made bytes) = IsBodyImage (body_of s) bytes
+IsSectionPart None NotFound = ⊤
+IsSectionPart _ _ = ⊥
 
 -- the body of this frame, as it stands; or there is none
-abbrev pub IsFrame : Option FrameForm → Extraction → Type 0
-IsFrame (Some f) (Stored bytes) = bytes.now ≡ f.body
-IsFrame None NotFound = ⊤
-IsFrame _ _ = ⊥
+abbrev pub IsFramePart : Option FrameForm → Extraction → Type 0
+IsFramePart (Some f) (Stored bytes) = bytes.now ≡ f.body
+IsFramePart None NotFound = ⊤
+IsFramePart _ _ = ⊥
 
 -- what there is of the section of this type and instance: in preorder through groups; of a security core among the frames of its
 -- data, where these are a stream (PI specification, volume 3, section 3.2.3)
 pub record IsSectionOf (f : FileMeaning) (kind instance : ℕ) (answer : Extraction) : Type 0 where
-  pub sections : (ss : SectionMeanings) (t : ℕ) → content_of f ≡ Sectioned ss t → IsSection (section_of_type kind instance ss) answer
+  pub sections : (ss : SectionMeanings) (t : ℕ) → content_of f ≡ Sectioned ss t → IsSectionPart (section_of_type kind instance ss) answer
   pub core : (b : List ℕ) (fs : List FrameForm) (t : ℕ) → content_of f ≡ Plain b → file_kind_of f ≡ security_core → Splits fs t b
-      → IsFrame (frame_of_type kind instance fs) answer
+      → IsFramePart (frame_of_type kind instance fs) answer
   pub plain : (b : List ℕ) → content_of f ≡ Plain b
       → (file_kind_of f ≡ security_core → (fs : List FrameForm) (t : ℕ) → Splits fs t b → ⊥) → answer ≡ NotSectioned
 

@@ -3,14 +3,14 @@ use Rattle.std.specs.Prelude.{ℕ, ◌<◌, List, Option, length, take}
 use Rattle.std.specs.Io.KnownBytes.{Appends}
 
 -- a sink took some text
-pub record Puts {S : Type 0} (takes : S → List ℕ → S → Type 0) (s t : S) : Type 0 where
+pub record PutsSome {S : Type 0} (takes : S → List ℕ → S → Type 0) (s t : S) : Type 0 where
   pub text : List ℕ
   pub taken : takes s text t
 
 -- some text was written, and all of it
-abbrev pub Written : Option (List ℕ) → Option (List ℕ) → Type 0
-Written a b = (text : List ℕ) × Appends a b text
+abbrev pub WritesSome : Option (List ℕ) → Option (List ℕ) → Type 0
+WritesSome a b = (text : List ℕ) × Appends a b text
 
 -- a front of some text was written, and not all of it
-abbrev pub WrittenFront : Option (List ℕ) → Option (List ℕ) → Type 0
-WrittenFront a b = (text : List ℕ) × (n : ℕ) × (n < length text) × Appends a b (take n text)
+abbrev pub WritesSomeFront : Option (List ℕ) → Option (List ℕ) → Type 0
+WritesSomeFront a b = (text : List ℕ) × (n : ℕ) × (n < length text) × Appends a b (take n text)

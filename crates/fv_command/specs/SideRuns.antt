@@ -11,7 +11,7 @@ use Rattle.fv_tree.specs.Denotes.{Accepted}
 use Rattle.fv_tree.specs.Difference.{difference}
 use Rattle.fv_tree.specs.Meaning.{Meaning}
 use Rattle.fv_command.specs.Inputs.{Shown, Gives, GivingStops, WritingStops}
-use Rattle.fv_command.specs.Lines.{SideTells}
+use Rattle.fv_command.specs.Lines.{TellsSideFault}
 use Rattle.fv_command.specs.declared.status.Status.{Status}
 use Rattle.fv_command.specs.declared.status.Status.TheVariants.{Done, Different, Refused, WrongWords}
 
@@ -47,5 +47,5 @@ RunsComparison hex Done r s r' s' w v = ComparesRead hex r s r' s' w v true
 RunsComparison hex Different r s r' s' w v = ComparesRead hex r s r' s' w v false
 RunsComparison hex Refused r s r' s' w v =
     (side : Side) × (fault : Fault) × (between : Shown) × SideStops side hex r s r' s' w between fault
-    × SideTells side fault between.bytes v.bytes v.erred
+    × TellsSideFault side fault between.bytes v.bytes v.erred
 RunsComparison hex WrongWords r s r' s' w v = ⊥

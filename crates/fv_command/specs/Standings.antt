@@ -1,7 +1,7 @@
 -- What is read of a hand-off list, and what an image holds where a volume should lie.
 use Rattle.std.specs.Prelude.{◌≡◌, ◌≤◌, ℕ, ◌+◌, ◌-◌, List, Option, length, take, drop}
 use Rattle.fv_base.specs.Input.{ReadsWhole}
-use Rattle.fv_head.specs.Head.{HeadFields, Front}
+use Rattle.fv_head.specs.Head.{HeadFields, BeginsVolume}
 use Rattle.fv_head.specs.declared.extent.Extent.{Extent}
 use Rattle.fv_hob.specs.Hobs.{HobForm}
 use Rattle.fv_hob.specs.Lists.{IsHobList}
@@ -18,14 +18,14 @@ abbrev pub IsWithin : ℕ → ℕ → Span → Type 0
 IsWithin base n s = (base ≤ s.base) × (s.base + s.length ≤ base + n)
 
 -- the bytes of an image in a span
-abbrev pub part : List ℕ → ℕ → Span → List ℕ
-part image base s = take s.length (drop (s.base - base) image)
+abbrev pub bytes_in_span : List ℕ → ℕ → Span → List ℕ
+bytes_in_span image base s = take s.length (drop (s.base - base) image)
 
 -- bytes that a volume begins, and fills
-abbrev pub IsVolume : List ℕ → Type 0
-IsVolume b = (h : HeadFields) × (e : Extent) × Front h e b × (e.length ≡ length b)
+abbrev pub IsWholeVolume : List ℕ → Type 0
+IsWholeVolume b = (h : HeadFields) × (e : Extent) × BeginsVolume h e b × (e.length ≡ length b)
 
-abbrev pub Stands : List ℕ → ℕ → Span → Standing → Type 0
-Stands image base s Outside = IsWithin base (length image) s → ⊥
-Stands image base s Volume = IsWithin base (length image) s × IsVolume (part image base s)
-Stands image base s Absent = IsWithin base (length image) s × (IsVolume (part image base s) → ⊥)
+abbrev pub IsStanding : List ℕ → ℕ → Span → Standing → Type 0
+IsStanding image base s Outside = IsWithin base (length image) s → ⊥
+IsStanding image base s Volume = IsWithin base (length image) s × IsWholeVolume (bytes_in_span image base s)
+IsStanding image base s Absent = IsWithin base (length image) s × (IsWholeVolume (bytes_in_span image base s) → ⊥)

@@ -9,7 +9,7 @@ use Rattle.fv_tree.specs.Found.{Found}
 use Rattle.fv_tree.specs.Meaning.{Meaning, files_of}
 use Rattle.fv_tree.specs.Names.{file_named}
 use Rattle.fv_command.specs.Checks.{CheckText}
-use Rattle.fv_command.specs.HexText.{Shows}
+use Rattle.fv_command.specs.HexText.{ShowsBytes}
 use Rattle.fv_command.specs.Inputs.{BeginsWith, BeginsNone}
 use Rattle.fv_command.specs.Lines.{ScanText}
 use Rattle.fv_command.specs.Parts.{IsPart, StopsPart}
@@ -22,16 +22,16 @@ use Rattle.fv_command.specs.declared.plan.Task.TheVariants.{Normalise, Normalise
 
 -- what is said of a part, and with which status: its bytes, or that there is none
 abbrev pub PartText : Bool → Extraction → Status → List ℕ → Type 0
-PartText hex (Made bytes) Done text = Shows hex bytes text
-PartText hex (Stored bytes) Done text = Shows hex bytes.now text
+PartText hex (Made bytes) Done text = ShowsBytes hex bytes text
+PartText hex (Stored bytes) Done text = ShowsBytes hex bytes.now text
 PartText hex NotFound Different text = text ≡ codes "not found\n"
 PartText hex NotSectioned Different text = text ≡ codes "not sectioned\n"
 PartText hex x status text = ⊥
 
 -- what a task says of its input, and with which status. Of the text of a list no more is said than that there is one
 abbrev pub Says : Task → Bool → List ℕ → Status → List ℕ → Type 0
-Says Normalise hex input Done text = (image : List ℕ) × NormalisesTo input image × Shows hex image text
-Says NormaliseAll hex input Done text = (image : List ℕ) × NormalisesAll input image × Shows hex image text
+Says Normalise hex input Done text = (image : List ℕ) × NormalisesTo input image × ShowsBytes hex image text
+Says NormaliseAll hex input Done text = (image : List ℕ) × NormalisesAll input image × ShowsBytes hex image text
 Says Listing hex input Done text = (m : Meaning) × BeginsWith input m
 Says (Extract part) hex input status text =
     (m : Meaning) × (x : Extraction) × BeginsWith input m × IsPart (file_named part.name (files_of m)) part x × PartText hex x status text

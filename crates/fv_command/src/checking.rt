@@ -7,7 +7,7 @@ ghost use Rattle.fv_base.specs.Faults.{want_of_memory};
 ghost use Rattle.fv_base.specs.Limits.{volume_limit};
 ghost use Rattle.fv_base.specs.Output.{WriteStops};
 ghost use Rattle.fv_base.specs.Port.{inner_of, has_erred};
-ghost use Rattle.fv_file.specs.Seen.{form_of};
+ghost use Rattle.fv_file.specs.CellForms.{cell_form};
 ghost use Rattle.fv_tree.specs.Denotes.{Accepted};
 ghost use Rattle.fv_tree.specs.Instances.{inside_section, preorder};
 ghost use Rattle.fv_tree.specs.Meaning.{Meaning, files_of, sections_from};
@@ -76,8 +76,8 @@ fn put_pad<S: Sink>(out: &mut S, offset: u64, count: u64)
 
 // Puts what is noted of a cell.
 fn put_cell<S: Sink>(out: &mut S, cell: &Cell<'_>, polarity: Polarity)
-    ensures text { S.takes out.old (pad_note polarity (form_of cell.now)) out.new }
-    ensures short { length (pad_note polarity (form_of cell.now)) ≤ 66 }
+    ensures text { S.takes out.old (pad_note polarity (cell_form cell.now)) out.new }
+    ensures short { length (pad_note polarity (cell_form cell.now)) ≤ 66 }
 {
     match *cell {
         Cell::Pad {
@@ -91,8 +91,8 @@ fn put_cell<S: Sink>(out: &mut S, cell: &Cell<'_>, polarity: Polarity)
 
 // Puts what is noted of the cells, in their order.
 fn put_cells<S: Sink>(out: &mut S, list: &[Cell<'_>], polarity: Polarity)
-    ensures text { S.takes out.old (pad_notes polarity (map form_of list.now)) out.new }
-    ensures short { length (pad_notes polarity (map form_of list.now)) ≤ 66 * length list.now }
+    ensures text { S.takes out.old (pad_notes polarity (map cell_form list.now)) out.new }
+    ensures short { length (pad_notes polarity (map cell_form list.now)) ≤ 66 * length list.now }
 {
     for cell in list {
         put_cell(out, cell, polarity);
@@ -275,8 +275,8 @@ fn put_check<S: Sink>(
     notes: &[DepexNote],
     is_same: bool,
 )
-    ensures text { S.takes out.old (check_lines polarity (map form_of list.now) notes.now is_same) out.new }
-    ensures short { length (check_lines polarity (map form_of list.now) notes.now is_same)
+    ensures text { S.takes out.old (check_lines polarity (map cell_form list.now) notes.now is_same) out.new }
+    ensures short { length (check_lines polarity (map cell_form list.now) notes.now is_same)
         ≤ 66 * length list.now + (102 * length notes.now + 14) }
 {
     put_cells(out, list, polarity);
@@ -295,9 +295,9 @@ fn write_lines<W: Write>(
     requires few_cells { length list.now ≤ volume_limit }
     requires few_notes { 4 * length notes.now ≤ volume_limit * volume_limit }
     ensures ok { OnOk result (Appends (W.contents (inner_of writer.old)) (W.contents (inner_of writer.new))
-        (check_lines polarity (map form_of list.now) notes.now is_same)) }
+        (check_lines polarity (map cell_form list.now) notes.now is_same)) }
     ensures err { IfErr result (WriteStops (W.contents (inner_of writer.old)) (W.contents (inner_of writer.new))
-        (check_lines polarity (map form_of list.now) notes.now is_same)) }
+        (check_lines polarity (map cell_form list.now) notes.now is_same)) }
     ensures erred { OnErr result (has_erred writer.new ≡ true) }
 {
     let mut out = WriteSink {

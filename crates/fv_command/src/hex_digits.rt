@@ -4,7 +4,7 @@ ghost use Rattle.hex.specs.Hex.{hex_digit_value};
 ghost use Rattle.std.specs.Option.{option_to_list, unwrap_or};
 ghost use Rattle.std.specs.Prelude.{◌≡◌, ◌≤◌, ◌+◌, ◌/◌, ◌%◌, ◌++◌, ℕ, List, true, false, length, vec_len};
 ghost use Rattle.std.specs.Prelude.{IfOk, OnOk, MatchOption};
-ghost use Rattle.fv_command.specs.HexPairs.{IsNoPair, IsPair, IsSpoilt, Reads, is_space, squeezed};
+ghost use Rattle.fv_command.specs.HexPairs.{IsNoPair, IsPair, IsSpoilt, DigitsSpell, is_space, squeezed};
 
 use std::alloc::AllocError;
 
@@ -84,7 +84,7 @@ fn pair_value(high_digit: u8, low_digit: u8) -> Option<u8>
 /// AllocError, where no memory is found.
 pub fn push_pairs(digits: &[u8], bytes: &mut Vec<u8>) -> Result<bool, AllocError>
     requires even { length digits.now % 2 ≡ 0 }
-    ensures read { IfOk result (λ all. all ≡ true → (more : List ℕ) × Reads digits.now more
+    ensures read { IfOk result (λ all. all ≡ true → (more : List ℕ) × DigitsSpell digits.now more
         × (bytes.new.items ≡ bytes.old.items ++ more)) }
     ensures wrong { IfOk result (λ all. all ≡ false → IsSpoilt digits.now) }
     ensures room { OnOk result (vec_len bytes.new ≤ vec_len bytes.old + length digits.now / 2) }

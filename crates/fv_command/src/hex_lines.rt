@@ -5,7 +5,7 @@ ghost use Rattle.std.specs.Prelude.{IfErr, OnOk, OnErr};
 ghost use Rattle.std.specs.Io.KnownBytes.{Appends};
 ghost use Rattle.fv_base.specs.Port.{inner_of, has_erred};
 ghost use Rattle.fv_command.specs.HexLaws.{hex_by};
-ghost use Rattle.fv_command.specs.HexText.{HexTakes, IsHexText, Shows, last_text, line_text};
+ghost use Rattle.fv_command.specs.HexText.{HexTakes, IsHexText, ShowsBytes, last_text, line_text};
 
 use fv_base::{Fault, FaultKind, Port, Sink, WriteSink};
 use std::io::Write;
@@ -139,7 +139,7 @@ pub fn put_hex<S: Sink>(below: S, bytes: &[u8]) -> S
 
 // Puts the bytes as they are or as lines of digits, and answers the sink.
 fn put_shown<S: Sink>(below: S, hex: bool, bytes: &[u8]) -> S
-    ensures { (text : List ℕ) × Shows hex bytes.now text × S.takes below text result }
+    ensures { (text : List ℕ) × ShowsBytes hex bytes.now text × S.takes below text result }
 {
     if hex {
         put_hex(below, bytes)
@@ -158,11 +158,11 @@ fn put_shown<S: Sink>(below: S, hex: bool, bytes: &[u8]) -> S
 /// exactly these bytes of the text were written then.
 pub fn write_shown<W: Write>(writer: &mut Port<W>, hex: bool, bytes: &[u8]) -> Result<(), Fault>
     // The text was written.
-    ensures ok { OnOk result ((text : List ℕ) × Shows hex bytes.now text
+    ensures ok { OnOk result ((text : List ℕ) × ShowsBytes hex bytes.now text
         × Appends (W.contents (inner_of writer.old)) (W.contents (inner_of writer.new)) text) }
 
     // A front of it was, and not all of it.
-    ensures err { IfErr result (λ f. (text : List ℕ) × Shows hex bytes.now text × (n : ℕ) × (n < length text)
+    ensures err { IfErr result (λ f. (text : List ℕ) × ShowsBytes hex bytes.now text × (n : ℕ) × (n < length text)
         × Appends (W.contents (inner_of writer.old)) (W.contents (inner_of writer.new)) (take n text)) }
     ensures kind { IfErr result (λ f. f.kind ≡ FaultKind.WriteFault) }
     ensures erred { OnErr result (has_erred writer.new ≡ true) }

@@ -4,7 +4,7 @@ ghost use Rattle.std.specs.Prelude.{◌≡◌, ◌<◌, ◌≤◌, ◌++◌, ◌
 ghost use Rattle.fv_base.specs.Limits.{read_limit, volume_limit};
 ghost use Rattle.fv_base.specs.Port.{inner_of, has_erred};
 ghost use Rattle.fv_command.specs.HexIn.{Decodes, DecodesPairs, ReadsPiece, RefusesText, SpellsWhole, TextStops};
-ghost use Rattle.fv_command.specs.HexPairs.{Reads, squeezed};
+ghost use Rattle.fv_command.specs.HexPairs.{DigitsSpell, squeezed};
 
 use crate::hex_digits::{push_pairs, squeeze, take_odd};
 use fv_base::limits::{READ_LIMIT, TEXT_LIMIT, TEXT_TURNS, VOLUME_LIMIT};
@@ -85,7 +85,7 @@ impl Decoder {
     fn finish(self) -> Result<Vec<u8>, Fault>
         requires small { vec_len self.bytes ≤ volume_limit }
         requires waiting { vec_len self.digits ≤ 1 }
-        ensures read { (text : List ℕ) → Decodes self text → IfOk result (λ v. Reads (squeezed text) v.items) }
+        ensures read { (text : List ℕ) → Decodes self text → IfOk result (λ v. DigitsSpell (squeezed text) v.items) }
         ensures small { IfOk result (λ v. vec_len v ≤ volume_limit) }
         ensures err { (text : List ℕ) → Decodes self text → IfErr result (RefusesText text) }
     {

@@ -3,8 +3,8 @@
 ghost use Rattle.std.specs.Prelude.{◌≡◌, ℕ, List, IfOk, IfErr, OnOk};
 ghost use Rattle.std.specs.Io.KnownBytes.{Appends};
 ghost use Rattle.fv_base.specs.Port.{inner_of, has_erred};
-ghost use Rattle.fv_command.specs.HobRuns.{GivesImage, HobImageStops, ListsHobs, RunsHobs, StopsHobs};
-ghost use Rattle.fv_command.specs.HobLines.{form_of, image_form};
+ghost use Rattle.fv_command.specs.HobRuns.{GivesImage, HobImageStops, ListsHobs, RunsHobs, RefusalStopsHobs};
+ghost use Rattle.fv_command.specs.HobLines.{held_image, image_form};
 ghost use Rattle.fv_command.specs.Inputs.{seen};
 
 use crate::hobs::{Image, write_hobs};
@@ -67,7 +67,7 @@ fn read_image<R: Read>(
 
 // The bytes as an image, where there is a base.
 fn image_of(bytes: &[u8], base: Option<u64>) -> Option<Image<'_>>
-    ensures { form_of result ≡ image_form base bytes.now }
+    ensures { held_image result ≡ image_form base bytes.now }
 {
     match base {
         Some(base) => Some(Image { bytes, base }),
@@ -91,7 +91,7 @@ fn list_hobs<First: Read, Second: Read, W: Write>(
         (seen (Second.remaining (inner_of second.old)) (has_erred second.old))
         (seen (Second.remaining (inner_of second.new)) (has_erred second.new))
         (λ text. Appends (W.contents (inner_of writer.old)) (W.contents (inner_of writer.new)) text)) }
-    ensures err { IfErr result (StopsHobs hex base
+    ensures err { IfErr result (RefusalStopsHobs hex base
         (seen (First.remaining (inner_of first.old)) (has_erred first.old))
         (seen (First.remaining (inner_of first.new)) (has_erred first.new))
         (seen (Second.remaining (inner_of second.old)) (has_erred second.old))

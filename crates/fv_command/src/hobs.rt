@@ -4,8 +4,8 @@ ghost use Rattle.std.specs.Prelude.{◌≡◌, ◌≤◌, ℕ, List, length, tru
 ghost use Rattle.std.specs.Io.KnownBytes.{Appends};
 ghost use Rattle.fv_base.specs.Output.{WriteStops};
 ghost use Rattle.fv_base.specs.Port.{inner_of, has_erred};
-ghost use Rattle.fv_command.specs.HobLines.{HobsText, IsWord, consumed_line, form_of, four_digits, hob_line, word_text};
-ghost use Rattle.fv_command.specs.Standings.{Stands};
+ghost use Rattle.fv_command.specs.HobLines.{HobsText, IsWord, consumed_line, held_image, four_digits, hob_line, standing_word};
+ghost use Rattle.fv_command.specs.Standings.{IsStanding};
 
 use fv_base::field::field;
 use fv_base::{Fault, Port, Sink, WriteSink};
@@ -28,7 +28,7 @@ pub enum Standing {
 impl Standing {
     /// The word of it, behind a space.
     pub fn word(self) -> &'static str
-        ensures { result.now ≡ word_text self }
+        ensures { result.now ≡ standing_word self }
     {
         match self {
             Standing::Outside => " outside",
@@ -49,7 +49,7 @@ pub struct Image<'a> {
 
 /// What an image holds where a volume should lie. Addresses are whole numbers: nothing wraps.
 pub fn standing_of(image: &[u8], base: u64, span: Span) -> Standing
-    ensures { Stands image.now base span result }
+    ensures { IsStanding image.now base span result }
 {
     let size = image.len() as u64;
     if span.base < base || span.length > size || span.base - base > size - span.length {
@@ -65,7 +65,7 @@ pub fn standing_of(image: &[u8], base: u64, span: Span) -> Standing
 
 // What is said of the volume that a block names, if it names one and there is an image.
 fn word_of(hob: &Hob, image: Option<Image<'_>>) -> &'static str
-    ensures { IsWord (form_of image.entry) hob.now result.now }
+    ensures { IsWord (held_image image.entry) hob.now result.now }
 {
     match (hob.span(), image) {
         (Some(span), Some(image)) => standing_of(image.bytes, image.base, span).word(),
@@ -108,7 +108,7 @@ fn put_consumed<S: Sink>(out: &mut S, consumed: u64)
 
 // Puts a line for each block, and how many bytes the list has.
 fn put_hobs<S: Sink>(out: &mut S, hobs: &[Hob], consumed: u64, image: Option<Image<'_>>)
-    ensures { (text : List ℕ) × HobsText (form_of image.entry) hobs.now consumed text × S.takes out.old text out.new }
+    ensures { (text : List ℕ) × HobsText (held_image image.entry) hobs.now consumed text × S.takes out.old text out.new }
 {
     for hob in hobs {
         put_hob(out, hob.code(), hob.length(), word_of(hob, image));
@@ -128,11 +128,11 @@ pub fn write_hobs<W: Write>(
     image: Option<Image<'_>>,
 ) -> Result<(), Fault>
     // No write failed: the text of the list was written, and all of it.
-    ensures ok { OnOk result ((text : List ℕ) × HobsText (form_of image.entry) hobs.now consumed text
+    ensures ok { OnOk result ((text : List ℕ) × HobsText (held_image image.entry) hobs.now consumed text
         × Appends (W.contents (inner_of writer.old)) (W.contents (inner_of writer.new)) text) }
 
     // One failed: the first bytes of the text were written, as many as the fault says, and not all of them.
-    ensures err { IfErr result (λ f. (text : List ℕ) × HobsText (form_of image.entry) hobs.now consumed text
+    ensures err { IfErr result (λ f. (text : List ℕ) × HobsText (held_image image.entry) hobs.now consumed text
         × WriteStops (W.contents (inner_of writer.old)) (W.contents (inner_of writer.new)) text f) }
     ensures erred { OnErr result (has_erred writer.new ≡ true) }
 {

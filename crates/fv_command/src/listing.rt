@@ -3,7 +3,7 @@
 ghost use Rattle.std.specs.Prelude.{◌≡◌, ℕ, List, true, OnOk, IfErr, OnErr};
 ghost use Rattle.std.specs.Io.KnownBytes.{Appends};
 ghost use Rattle.fv_base.specs.Port.{inner_of, has_erred};
-ghost use Rattle.fv_command.specs.Puts.{Puts, WrittenFront};
+ghost use Rattle.fv_command.specs.Puts.{PutsSome, WritesSomeFront};
 
 use fv_base::{Fault, FaultKind, FileSystem, Guid, Port, Sink, WriteSink};
 use fv_canon::put_decimal;
@@ -28,7 +28,7 @@ fn digits_of(byte: u8) -> [u8; 2] {
 
 // Puts two spaces for each level.
 fn put_indent<S: Sink>(out: &mut S, indent: usize)
-    ensures { Puts S.takes out.old out.new }
+    ensures { PutsSome S.takes out.old out.new }
 {
     for _level in 0..indent {
         out.put(b"  ");
@@ -37,7 +37,7 @@ fn put_indent<S: Sink>(out: &mut S, indent: usize)
 
 // Puts a number behind a word.
 fn put_number<S: Sink>(out: &mut S, word: &[u8], number: u64)
-    ensures { Puts S.takes out.old out.new }
+    ensures { PutsSome S.takes out.old out.new }
 {
     out.put(word);
     put_decimal(out, number);
@@ -45,7 +45,7 @@ fn put_number<S: Sink>(out: &mut S, word: &[u8], number: u64)
 
 // Puts a byte by its digits behind a word.
 fn put_byte<S: Sink>(out: &mut S, word: &[u8], byte: u8)
-    ensures { Puts S.takes out.old out.new }
+    ensures { PutsSome S.takes out.old out.new }
 {
     out.put(word);
     out.put(&digits_of(byte));
@@ -53,7 +53,7 @@ fn put_byte<S: Sink>(out: &mut S, word: &[u8], byte: u8)
 
 // Puts a GUID behind a word.
 fn put_guid<S: Sink>(out: &mut S, word: &[u8], guid: Guid)
-    ensures { Puts S.takes out.old out.new }
+    ensures { PutsSome S.takes out.old out.new }
 {
     out.put(word);
     out.put(&guid.text());
@@ -67,7 +67,7 @@ fn is_plain(low: u8, high: u8) -> bool {
 
 // Puts a 16-bit unit of a text, as it is or by its number.
 fn put_unit<S: Sink>(out: &mut S, low: u8, high: u8)
-    ensures { Puts S.takes out.old out.new }
+    ensures { PutsSome S.takes out.old out.new }
 {
     if is_plain(low, high) {
         out.put(&[low]);
@@ -80,7 +80,7 @@ fn put_unit<S: Sink>(out: &mut S, low: u8, high: u8)
 
 // Puts the 16-bit units of a text.
 fn put_units<S: Sink>(out: &mut S, units: &[u8])
-    ensures { Puts S.takes out.old out.new }
+    ensures { PutsSome S.takes out.old out.new }
 {
     let mut rest = units;
     while rest.len() >= 2 {
@@ -91,7 +91,7 @@ fn put_units<S: Sink>(out: &mut S, units: &[u8])
 
 // Puts the build number of a version section, where the body has the shape of one.
 fn put_version<S: Sink>(out: &mut S, body: &[u8])
-    ensures { Puts S.takes out.old out.new }
+    ensures { PutsSome S.takes out.old out.new }
 {
     match version(body) {
         Some((build, _)) => put_number(out, b" version ", u64::from(build)),
@@ -101,7 +101,7 @@ fn put_version<S: Sink>(out: &mut S, body: &[u8])
 
 // Puts the text of a user interface section, where the body has the shape of one.
 fn put_text<S: Sink>(out: &mut S, body: &[u8])
-    ensures { Puts S.takes out.old out.new }
+    ensures { PutsSome S.takes out.old out.new }
 {
     let Some(units) = ui_text(body) else {
         return;
@@ -113,7 +113,7 @@ fn put_text<S: Sink>(out: &mut S, body: &[u8])
 
 // Puts the GUID of a freeform subtype section, where the body has the shape of one.
 fn put_subtype<S: Sink>(out: &mut S, body: &[u8])
-    ensures { Puts S.takes out.old out.new }
+    ensures { PutsSome S.takes out.old out.new }
 {
     match freeform(body) {
         Some((guid, _)) => put_guid(out, b" subtype ", guid),
@@ -123,7 +123,7 @@ fn put_subtype<S: Sink>(out: &mut S, body: &[u8])
 
 // Puts what is shown of a leaf of this type.
 fn put_leaf<S: Sink>(out: &mut S, kind: u8, body: &[u8])
-    ensures { Puts S.takes out.old out.new }
+    ensures { PutsSome S.takes out.old out.new }
 {
     match kind {
         VERSION => put_version(out, body),
@@ -135,7 +135,7 @@ fn put_leaf<S: Sink>(out: &mut S, kind: u8, body: &[u8])
 
 // Puts what is shown of the body of a section: nothing, where it is no leaf.
 fn put_shown<S: Sink>(out: &mut S, section: &SectionView<'_>)
-    ensures { Puts S.takes out.old out.new }
+    ensures { PutsSome S.takes out.old out.new }
 {
     match section.leaf() {
         Some(body) => put_leaf(out, section.kind(), body),
@@ -145,7 +145,7 @@ fn put_shown<S: Sink>(out: &mut S, section: &SectionView<'_>)
 
 // Puts the line of a section, which has this number in its stream.
 fn put_section_line<S: Sink>(out: &mut S, section: &SectionView<'_>, number: u64, indent: usize)
-    ensures { Puts S.takes out.old out.new }
+    ensures { PutsSome S.takes out.old out.new }
 {
     let form: &[u8] = if section.extended() {
         b" extended body "
@@ -162,7 +162,7 @@ fn put_section_line<S: Sink>(out: &mut S, section: &SectionView<'_>, number: u64
 
 // Puts the line of a file, which has this number in its volume.
 fn put_file_line<S: Sink>(out: &mut S, file: &FileView<'_>, number: u64, indent: usize)
-    ensures { Puts S.takes out.old out.new }
+    ensures { PutsSome S.takes out.old out.new }
 {
     put_indent(out, indent);
     put_number(out, b"file ", number);
@@ -175,7 +175,7 @@ fn put_file_line<S: Sink>(out: &mut S, file: &FileView<'_>, number: u64, indent:
 
 // Puts the name of a volume, where its header has one.
 fn put_name<S: Sink>(out: &mut S, head: &VolumeHead)
-    ensures { Puts S.takes out.old out.new }
+    ensures { PutsSome S.takes out.old out.new }
 {
     match head.ext() {
         Some(ext) => put_guid(out, b" name ", ext.name()),
@@ -185,7 +185,7 @@ fn put_name<S: Sink>(out: &mut S, head: &VolumeHead)
 
 // Puts the line of a volume.
 fn put_volume_line<S: Sink>(out: &mut S, volume: &VolumeView<'_>, indent: usize)
-    ensures { Puts S.takes out.old out.new }
+    ensures { PutsSome S.takes out.old out.new }
 {
     let head = volume.head();
     let word: &[u8] = match head.file_system() {
@@ -201,7 +201,7 @@ fn put_volume_line<S: Sink>(out: &mut S, volume: &VolumeView<'_>, indent: usize)
 
 #[cycle(lines)]
 fn put_sections<S: Sink>(out: &mut S, sections: &[SectionView<'_>], indent: usize)
-    ensures { Puts S.takes out.old out.new }
+    ensures { PutsSome S.takes out.old out.new }
 {
     for (number, section) in sections.iter().enumerate() {
         put_section_line(out, section, number as u64, indent);
@@ -211,7 +211,7 @@ fn put_sections<S: Sink>(out: &mut S, sections: &[SectionView<'_>], indent: usiz
 
 #[cycle(lines)]
 fn put_body<S: Sink>(out: &mut S, body: &Body<'_>, indent: usize)
-    ensures { Puts S.takes out.old out.new }
+    ensures { PutsSome S.takes out.old out.new }
 {
     match body {
         Body::Leaf(_) => {}
@@ -222,7 +222,7 @@ fn put_body<S: Sink>(out: &mut S, body: &Body<'_>, indent: usize)
 
 #[cycle(lines)]
 fn put_content<S: Sink>(out: &mut S, content: &Content<'_>, indent: usize)
-    ensures { Puts S.takes out.old out.new }
+    ensures { PutsSome S.takes out.old out.new }
 {
     match content {
         Content::Plain(_) => {}
@@ -233,7 +233,7 @@ fn put_content<S: Sink>(out: &mut S, content: &Content<'_>, indent: usize)
 // Puts the lines of a volume, and of all that it holds.
 #[cycle(lines)]
 fn put_volume<S: Sink>(out: &mut S, volume: &VolumeView<'_>, indent: usize)
-    ensures { Puts S.takes out.old out.new }
+    ensures { PutsSome S.takes out.old out.new }
 {
     put_volume_line(out, volume, indent);
     let files = volume.files();
@@ -257,7 +257,7 @@ pub fn write_list<W: Write>(writer: &mut Port<W>, volume: &VolumeView<'_>) -> Re
 
     // One failed: a front of some text was written, and not all of it.
     ensures err { IfErr result (λ f. (f.kind ≡ FaultKind.WriteFault)
-        × WrittenFront (W.contents (inner_of writer.old)) (W.contents (inner_of writer.new))) }
+        × WritesSomeFront (W.contents (inner_of writer.old)) (W.contents (inner_of writer.new))) }
     ensures erred { OnErr result (has_erred writer.new ≡ true) }
 {
     let mut out = WriteSink {

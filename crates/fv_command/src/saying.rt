@@ -2,10 +2,10 @@
 
 ghost use Rattle.std.specs.Prelude.{◌≡◌, ◌≢◌, ◌⊎◌, ◌++◌, true, false};
 ghost use Rattle.std.specs.Io.KnownBytes.{Appends};
-ghost use Rattle.fv_base.specs.Faults.{number_of};
+ghost use Rattle.fv_base.specs.Faults.{fault_number};
 ghost use Rattle.fv_base.specs.Port.{inner_of, has_erred};
-ghost use Rattle.fv_hob.specs.Checks.{number_of as hob_number_of};
-ghost use Rattle.fv_command.specs.Lines.{fault_line, hob_fault_line, SideTells};
+ghost use Rattle.fv_hob.specs.Checks.{hob_fault_number as hob_number_of};
+ghost use Rattle.fv_command.specs.Lines.{fault_line, hob_fault_line, TellsSideFault};
 
 use crate::lines::{write_bytes, write_fault};
 use crate::status::Status;
@@ -49,7 +49,7 @@ pub fn refuse<W: Write>(writer: &mut Port<W>, fault: Fault) -> Status
     // Unless the port has erred, the line of this fault was written.
     ensures said { fault.kind ≢ FaultKind.WriteFault → has_erred writer.new ≡ false
         → Appends (W.contents (inner_of writer.old)) (W.contents (inner_of writer.new))
-        (fault_line (number_of fault.kind) fault.place.offset) }
+        (fault_line (fault_number fault.kind) fault.place.offset) }
 {
     if fault.kind == FaultKind::WriteFault {
         return Status::Refused;
@@ -73,7 +73,7 @@ pub fn refuse_hobs<W: Write>(writer: &mut Port<W>, fault: HobFault) -> Status
 /// Where the output stopped, nothing more is written.
 pub fn refuse_side<W: Write>(writer: &mut Port<W>, side: Side, fault: Fault) -> Status
     ensures status { result ≡ Status.Refused }
-    ensures told { SideTells side fault (W.contents (inner_of writer.old)) (W.contents (inner_of writer.new))
+    ensures told { TellsSideFault side fault (W.contents (inner_of writer.old)) (W.contents (inner_of writer.new))
         (has_erred writer.new) }
 {
     let number = fault.kind.number();

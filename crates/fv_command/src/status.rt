@@ -1,7 +1,7 @@
 //! How a run ended.
 
 ghost use Rattle.std.specs.Prelude.{◌≡◌};
-ghost use Rattle.fv_command.specs.Statuses.{code_of};
+ghost use Rattle.fv_command.specs.Statuses.{exit_code};
 
 /// How a run ended.
 #[derive(Clone, Copy, Debug, PartialEq, Eq)]
@@ -19,7 +19,7 @@ pub enum Status {
 impl Status {
     /// The exit status of the process: 0 of Done, 1 of Different, 2 of Refused, 3 of WrongWords.
     pub fn code(self) -> u8
-        ensures { result ≡ code_of self }
+        ensures { result ≡ exit_code self }
     {
         match self {
             Status::Done => 0,

@@ -9,8 +9,8 @@ use Rattle.fv_base.specs.Value.{field}
 use Rattle.fv_base.specs.declared.guid.Guid.{Guid}
 use Rattle.fv_base.proofs.CheckLemmas.{all_hold, and_split}
 use Rattle.fv_base.proofs.FieldLemmas.{same_cut}
-use Rattle.fv_depex.specs.Checks.{Fits, OpStands, has_operand, holds_values, in_place, knows, op_checks}
-use Rattle.fv_depex.specs.Expressions.{carries, code_of, op_by, op_in, operand_len, operand_of, IsSized}
+use Rattle.fv_depex.specs.Checks.{OpFits, BeginsOp, has_operand, holds_values, in_place, has_code, op_checks}
+use Rattle.fv_depex.specs.Expressions.{carries, op_code, op_by, op_in, operand_len, op_operand, IsSized}
 use Rattle.fv_depex.specs.declared.op.Op.{Op}
 use Rattle.fv_depex.specs.declared.op.Op.TheVariants as ops
 use Rattle.fv_depex.specs.declared.op.Phase.{Phase}
@@ -21,8 +21,8 @@ use Rattle.fv_depex.specs.declared.stage.Stage.{Stage}
 
 -- a code that some phase has is that of its op, and the op carries the GUID where the code does
 pub record IsOpOf (code : ℕ) (g : Guid) (o : Op) : Type 0 where
-  pub code_is : code_of o ≡ code
-  pub operand_is : operand_of o ≡ (if carries code then bytes_of g else [])
+  pub code_is : op_code o ≡ code
+  pub operand_is : op_operand o ≡ (if carries code then bytes_of g else [])
 
 below_10 : (P : ℕ → Type 0) → P 0 → P 1 → P 2 → P 3 → P 4 → P 5 → P 6 → P 7 → P 8 → P 9 → (n : ℕ) → n ≤ 9 → P n
 below_10 P a b c d e f g h i j zero l = a
@@ -45,7 +45,7 @@ op_of_code g =
     (record { code_is = refl; operand_is = refl }) (record { code_is = refl; operand_is = refl })
 
 -- an op is that of its code and its GUID
-op_back : (o : Op) → op_by (code_of o) (record { bytes = operand_of o }) ≡ o
+op_back : (o : Op) → op_by (op_code o) (record { bytes = op_operand o }) ≡ o
 op_back (ops.Before g) = refl
 op_back (ops.After g) = refl
 op_back (ops.Push g) = refl
@@ -57,7 +57,7 @@ op_back ops.False = refl
 op_back ops.End = refl
 op_back ops.Sor = refl
 
-known_least : (phase : Phase) (code : ℕ) → knows phase code ≡ true → code ≤ 9
+known_least : (phase : Phase) (code : ℕ) → has_code phase code ≡ true → code ≤ 9
 known_least Pei code h = omega (arith, leb-true code 8 (and_split (nat_le 2 code) (nat_le code 8) h).1)
 known_least Dxe code h = leb-true code 9 h
 
@@ -70,7 +70,7 @@ cons_of (x ∷ r) l = refl
 -- the checks of an op, by name
 record ChecksOfOp (phase : Phase) (stage : Stage) (r : List ℕ) : Type 0 where
   some : nat_le 1 (length r) ≡ true
-  known : knows phase (slice_index r 0) ≡ true
+  known : has_code phase (slice_index r 0) ≡ true
   placed : in_place stage (slice_index r 0) ≡ true
   whole : has_operand r ≡ true
   valued : holds_values stage (slice_index r 0) ≡ true
@@ -80,7 +80,7 @@ checks_of_op phase stage r (some, (known, (placed, (whole, (valued, end))))) =
     record { some = some; known = known; placed = placed; whole = whole; valued = valued }
 
 -- where the checks hold, the op stands there
-pub op_stands : (phase : Phase) (stage : Stage) (r : List ℕ) → first_fault (op_checks phase stage r) ≡ None → OpStands phase stage (op_in r) r
+pub op_stands : (phase : Phase) (stage : Stage) (r : List ℕ) → first_fault (op_checks phase stage r) ≡ None → BeginsOp phase stage (op_in r) r
 op_stands phase stage r none =
     let checks = checks_of_op phase stage r (all_hold (op_checks phase stage r) none) in
     let code : ℕ = slice_index r 0 in
@@ -88,9 +88,9 @@ op_stands phase stage r none =
     go (carries code) refl is (leb-true 1 (length r) checks.some) checks
   where
     fits : IsOpOf (slice_index r 0) (record { bytes = field 1 16 r }) (op_in r) → ChecksOfOp phase stage r → IsSized (op_in r)
-        → Fits phase stage (op_in r)
+        → OpFits phase stage (op_in r)
     fits is checks sized = record {
-      known = ap (knows phase) is.code_is ∙ checks.known;
+      known = ap (has_code phase) is.code_is ∙ checks.known;
       placed = ap (in_place stage) is.code_is ∙ checks.placed;
       valued = ap (holds_values stage) is.code_is ∙ checks.valued;
       sized = sized;
@@ -100,46 +100,46 @@ op_stands phase stage r none =
     room h = leb-true 17 (length r) h
 
     go : (c : Bool) → carries (slice_index r 0) ≡ c → IsOpOf (slice_index r 0) (record { bytes = field 1 16 r }) (op_in r) → 1 ≤ length r
-        → ChecksOfOp phase stage r → OpStands phase stage (op_in r) r
+        → ChecksOfOp phase stage r → BeginsOp phase stage (op_in r) r
     go true c is some checks =
         let long : 17 ≤ length r = room (sym (ap (λ (t : Bool). not t || nat_le 17 (length r)) c) ∙ checks.whole) in
-        let operand : operand_of (op_in r) ≡ field 1 16 r = is.operand_is ∙ ap (λ (t : Bool). if t then field 1 16 r else []) c in
+        let operand : op_operand (op_in r) ≡ field 1 16 r = is.operand_is ∙ ap (λ (t : Bool). if t then field 1 16 r else []) c in
         let n : length (field 1 16 r) ≡ 16 = length-take-le 16 (drop 1 r) (omega (arith, length-drop 1 r, long)) in
         record {
           fits = fits is checks (ap length operand ∙ n ∙ sym (ap operand_len (ap carries is.code_is ∙ c)));
           behind = drop 16 (drop 1 r);
           joined = cons_of r some ∙ ap (λ (l : List ℕ). slice_index r 0 ∷ l) (sym (take-append-drop 16 (drop 1 r)))
-              ∙ ap (λ (k : ℕ). k ∷ (field 1 16 r ++ drop 16 (drop 1 r))) (sym is.code_is) ∙ ap (λ (l : List ℕ). code_of (op_in r) ∷ (l ++ drop 16 (drop 1 r))) (sym operand);
+              ∙ ap (λ (k : ℕ). k ∷ (field 1 16 r ++ drop 16 (drop 1 r))) (sym is.code_is) ∙ ap (λ (l : List ℕ). op_code (op_in r) ∷ (l ++ drop 16 (drop 1 r))) (sym operand);
         }
     go false c is some checks =
-        let operand : operand_of (op_in r) ≡ [] = is.operand_is ∙ ap (λ (t : Bool). if t then field 1 16 r else []) c in
+        let operand : op_operand (op_in r) ≡ [] = is.operand_is ∙ ap (λ (t : Bool). if t then field 1 16 r else []) c in
         record {
           fits = fits is checks (ap length operand ∙ sym (ap operand_len (ap carries is.code_is ∙ c)));
           behind = drop 1 r;
-          joined = cons_of r some ∙ ap (λ (k : ℕ). k ∷ drop 1 r) (sym is.code_is) ∙ ap (λ (l : List ℕ). code_of (op_in r) ∷ (l ++ drop 1 r)) (sym operand);
+          joined = cons_of r some ∙ ap (λ (k : ℕ). k ∷ drop 1 r) (sym is.code_is) ∙ ap (λ (l : List ℕ). op_code (op_in r) ∷ (l ++ drop 1 r)) (sym operand);
         }
 
 -- where an op stands the checks hold
-pub checks_hold : (phase : Phase) (stage : Stage) (o : Op) (x : List ℕ) → Fits phase stage o → AllHold (op_checks phase stage (code_of o ∷ (operand_of o ++ x)))
+pub checks_hold : (phase : Phase) (stage : Stage) (o : Op) (x : List ℕ) → OpFits phase stage o → AllHold (op_checks phase stage (op_code o ∷ (op_operand o ++ x)))
 checks_hold phase stage o x fits =
-    (le-leb 1 (suc (length (operand_of o ++ x))) (omega arith), (fits.known, (fits.placed, (room (carries (code_of o)) refl, (fits.valued, tt)))))
+    (le-leb 1 (suc (length (op_operand o ++ x))) (omega arith), (fits.known, (fits.placed, (room (carries (op_code o)) refl, (fits.valued, tt)))))
   where
-    room : (c : Bool) → carries (code_of o) ≡ c → has_operand (code_of o ∷ (operand_of o ++ x)) ≡ true
+    room : (c : Bool) → carries (op_code o) ≡ c → has_operand (op_code o ∷ (op_operand o ++ x)) ≡ true
     room true c =
-        ap (λ (t : Bool). not t || nat_le 17 (suc (length (operand_of o ++ x)))) c
-        ∙ le-leb 17 (suc (length (operand_of o ++ x))) (omega (arith, length-append (operand_of o) x, fits.sized ∙ ap operand_len c))
-    room false c = ap (λ (t : Bool). not t || nat_le 17 (suc (length (operand_of o ++ x)))) c
+        ap (λ (t : Bool). not t || nat_le 17 (suc (length (op_operand o ++ x)))) c
+        ∙ le-leb 17 (suc (length (op_operand o ++ x))) (omega (arith, length-append (op_operand o) x, fits.sized ∙ ap operand_len c))
+    room false c = ap (λ (t : Bool). not t || nat_le 17 (suc (length (op_operand o ++ x)))) c
 
 -- bytes begin with one op at most
-pub same_op : (o p : Op) (x y : List ℕ) → IsSized o → IsSized p → code_of o ∷ (operand_of o ++ x) ≡ code_of p ∷ (operand_of p ++ y) → (o ≡ p) × (x ≡ y)
+pub same_op : (o p : Op) (x y : List ℕ) → IsSized o → IsSized p → op_code o ∷ (op_operand o ++ x) ≡ op_code p ∷ (op_operand p ++ y) → (o ≡ p) × (x ≡ y)
 same_op o p x y so sp e =
-    let code : code_of o ≡ code_of p = ap (λ (l : List ℕ). slice_index l 0) e in
-    let len : length (operand_of o) ≡ length (operand_of p) = so ∙ ap (λ (k : ℕ). operand_len (carries k)) code ∙ sym sp in
-    let parts = same_cut (operand_of o) (operand_of p) x y len (ap (drop 1) e) in
-    (sym (op_back o) ∙ ap (λ (k : ℕ). op_by k (record { bytes = operand_of o })) code ∙ ap (λ (l : List ℕ). op_by (code_of p) (record { bytes = l })) parts.0 ∙ op_back p, parts.1)
+    let code : op_code o ≡ op_code p = ap (λ (l : List ℕ). slice_index l 0) e in
+    let len : length (op_operand o) ≡ length (op_operand p) = so ∙ ap (λ (k : ℕ). operand_len (carries k)) code ∙ sym sp in
+    let parts = same_cut (op_operand o) (op_operand p) x y len (ap (drop 1) e) in
+    (sym (op_back o) ∙ ap (λ (k : ℕ). op_by k (record { bytes = op_operand o })) code ∙ ap (λ (l : List ℕ). op_by (op_code p) (record { bytes = l })) parts.0 ∙ op_back p, parts.1)
 
 -- the code of END is END's
-pub end_code : (o : Op) → code_of o ≡ 8 → o ≡ ops.End
+pub end_code : (o : Op) → op_code o ≡ 8 → o ≡ ops.End
 end_code (ops.Before g) e = absurd (omega (arith, e))
 end_code (ops.After g) e = absurd (omega (arith, e))
 end_code (ops.Push g) e = absurd (omega (arith, e))

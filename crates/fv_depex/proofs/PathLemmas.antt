@@ -5,8 +5,8 @@ use Rattle.std.specs.List.{AllByRecursion}
 use Rattle.std.proofs.lemmas.Bool.{leb-true, le-leb, eqb-true}
 use Rattle.fv_base.specs.declared.guid.Guid.{Guid}
 use Rattle.fv_base.proofs.CheckLemmas.{and_split}
-use Rattle.fv_depex.specs.Checks.{Fits, Path, has_values, knows, stage_after, values_after, values_of}
-use Rattle.fv_depex.specs.Expressions.{Expression, always, never, installed, negated, both, either, IsTree, IsOrder, Spells, code_of, operand_of, ops_bytes, postfix, IsSized}
+use Rattle.fv_depex.specs.Checks.{OpFits, OpPath, has_values, has_code, stage_after, values_after, values_of}
+use Rattle.fv_depex.specs.Expressions.{Expression, always, never, installed, negated, both, either, IsTree, IsOrder, Spells, op_code, op_operand, ops_bytes, postfix, IsSized}
 use Rattle.fv_depex.specs.declared.op.Op.{Op}
 use Rattle.fv_depex.specs.declared.op.Op.TheVariants as ops
 use Rattle.fv_depex.specs.declared.op.Phase.{Phase}
@@ -17,11 +17,11 @@ use Rattle.fv_depex.proofs.OpLemmas.{same_op, end_code}
 
 -- ---- paths, joined
 
-pub path_join : (phase : Phase) (s m f : Stage) (xs ys : List Op) → Path phase s xs m → Path phase m ys f → Path phase s (xs ++ ys) f
-path_join phase s m f [] ys p q = subst (λ (k : Stage). Path phase k ys f) (sym p) q
+pub path_join : (phase : Phase) (s m f : Stage) (xs ys : List Op) → OpPath phase s xs m → OpPath phase m ys f → OpPath phase s (xs ++ ys) f
+path_join phase s m f [] ys p q = subst (λ (k : Stage). OpPath phase k ys f) (sym p) q
 path_join phase s m f (x ∷ xs) ys p q = (p.0, p.1, path_join phase (stage_after s x) m f xs ys p.2 q)
 
-pub path_more : (phase : Phase) (s f : Stage) (xs : List Op) (o : Op) → Path phase s xs f → Fits phase f o → o ≢ ops.End → Path phase s (xs ++ o ∷ []) (stage_after f o)
+pub path_more : (phase : Phase) (s f : Stage) (xs : List Op) (o : Op) → OpPath phase s xs f → OpFits phase f o → o ≢ ops.End → OpPath phase s (xs ++ o ∷ []) (stage_after f o)
 path_more phase s f xs o p fits ne = path_join phase s f (stage_after f o) xs (o ∷ []) p (fits, ne, refl)
 
 pub all_join : (xs ys : List Op) → AllByRecursion IsSized xs → AllByRecursion IsSized ys → AllByRecursion IsSized (xs ++ ys)
@@ -36,19 +36,19 @@ all_behind : (xs ys : List Op) → AllByRecursion IsSized (xs ++ ys) → AllByRe
 all_behind [] ys a = a
 all_behind (x ∷ xs) ys a = all_behind xs ys a.1
 
-pub path_sized : (phase : Phase) (s f : Stage) (xs : List Op) → Path phase s xs f → AllByRecursion IsSized xs
+pub path_sized : (phase : Phase) (s f : Stage) (xs : List Op) → OpPath phase s xs f → AllByRecursion IsSized xs
 path_sized phase s f [] p = tt
 path_sized phase s f (x ∷ xs) p = ((p.0).sized, path_sized phase (stage_after s x) f xs p.2)
 
 pub bytes_join : (xs ys : List Op) → ops_bytes (xs ++ ys) ≡ ops_bytes xs ++ ops_bytes ys
 bytes_join [] ys = refl
 bytes_join (x ∷ xs) ys =
-    ap (λ (l : List ℕ). code_of x ∷ l) (ap (λ (l : List ℕ). operand_of x ++ l) (bytes_join xs ys) ∙ sym (append_assoc (operand_of x) (ops_bytes xs) (ops_bytes ys)))
+    ap (λ (l : List ℕ). op_code x ∷ l) (ap (λ (l : List ℕ). op_operand x ++ l) (bytes_join xs ys) ∙ sym (append_assoc (op_operand x) (ops_bytes xs) (ops_bytes ys)))
 
 -- an op has a byte at least
 pub ops_fit : (os : List Op) → length os ≤ length (ops_bytes os)
 ops_fit [] = omega arith
-ops_fit (o ∷ os) = omega (arith, ops_fit os, length-append (operand_of o) (ops_bytes os))
+ops_fit (o ∷ os) = omega (arith, ops_fit os, length-append (op_operand o) (ops_bytes os))
 
 -- ---- a path leads to trees
 
@@ -66,14 +66,14 @@ abbrev pub IsSor : Phase → List Op → Type 0
 IsSor phase sor = (sor ≡ []) ⊎ ((sor ≡ ops.Sor ∷ []) × (phase ≡ Dxe))
 
 -- what was read leaves this stage
-abbrev pub Leaves : Phase → Stage → List Op → Type 0
-Leaves phase stages.Start os = os ≡ []
-Leaves phase stages.Ordered os = (phase ≡ Dxe) × (g : Guid) × ((os ≡ ops.Before g ∷ []) ⊎ (os ≡ ops.After g ∷ []))
-Leaves phase (stages.Values n) os = (sor : List Op) × (ts : List Expression) × (os ≡ sor ++ trees_ops ts) × (length ts ≡ n) × IsSor phase sor
+abbrev pub LeavesStage : Phase → Stage → List Op → Type 0
+LeavesStage phase stages.Start os = os ≡ []
+LeavesStage phase stages.Ordered os = (phase ≡ Dxe) × (g : Guid) × ((os ≡ ops.Before g ∷ []) ⊎ (os ≡ ops.After g ∷ []))
+LeavesStage phase (stages.Values n) os = (sor : List Op) × (ts : List Expression) × (os ≡ sor ++ trees_ops ts) × (length ts ≡ n) × IsSor phase sor
 
 -- one more tree on the stack, in place of the last ones
 more_trees : (phase : Phase) (os sor : List Op) (us vs : List Expression) (t : Expression) (o : Op) (n : ℕ) → os ≡ sor ++ trees_ops (us ++ vs) → IsSor phase sor
-    → trees_ops vs ++ (o ∷ []) ≡ postfix t → length us + 1 ≡ n → Leaves phase (stages.Values n) (os ++ o ∷ [])
+    → trees_ops vs ++ (o ∷ []) ≡ postfix t → length us + 1 ≡ n → LeavesStage phase (stages.Values n) (os ++ o ∷ [])
 more_trees phase os sor us vs t o n e s last len =
     let behind : trees_ops (us ++ vs) ++ (o ∷ []) ≡ trees_ops (us ++ (t ∷ [])) =
     ap (λ (l : List Op). l ++ (o ∷ [])) (trees_join us vs) ∙ append_assoc (trees_ops us) (trees_ops vs) (o ∷ [])
@@ -98,8 +98,8 @@ last_two (t ∷ u ∷ v ∷ ts) l = let r = last_two (u ∷ v ∷ ts) (omega ari
 
 -- AND and OR make one tree of the last two
 two_more : (phase : Phase) (n : ℕ) (os : List Op) (make : Expression → Expression → Expression) (o : Op)
-    → ((t u : Expression) → postfix (make t u) ≡ postfix t ++ (postfix u ++ (o ∷ []))) → Leaves phase (stages.Values n) os → 2 ≤ n
-    → Leaves phase (stages.Values (n - 1)) (os ++ o ∷ [])
+    → ((t u : Expression) → postfix (make t u) ≡ postfix t ++ (postfix u ++ (o ∷ []))) → LeavesStage phase (stages.Values n) os → 2 ≤ n
+    → LeavesStage phase (stages.Values (n - 1)) (os ++ o ∷ [])
 two_more phase n os make o made (sor, ts, e, len, s) some =
     let r = last_two ts (omega (arith, len, some)) in
     let last : trees_ops (r.1 ∷ r.2 ∷ []) ++ (o ∷ []) ≡ postfix (make r.1 r.2) =
@@ -109,8 +109,8 @@ two_more phase n os make o made (sor, ts, e, len, s) some =
     last (omega (arith, len, some, ap length r.3, length-append r.0 (r.1 ∷ r.2 ∷ [])))
 
 -- an op on values
-values_more : (phase : Phase) (n : ℕ) (os : List Op) (o : Op) → Leaves phase (stages.Values n) os → 2 ≤ code_of o → code_of o < 8 → has_values n (code_of o) ≡ true
-    → Leaves phase (stages.Values (values_after n o)) (os ++ o ∷ [])
+values_more : (phase : Phase) (n : ℕ) (os : List Op) (o : Op) → LeavesStage phase (stages.Values n) os → 2 ≤ op_code o → op_code o < 8 → has_values n (op_code o) ≡ true
+    → LeavesStage phase (stages.Values (values_after n o)) (os ++ o ∷ [])
 values_more phase n os (ops.Before g) h low high v = absurd (omega (arith, low))
 values_more phase n os (ops.After g) h low high v = absurd (omega (arith, low))
 values_more phase n os (ops.Push g) (sor, ts, e, len, s) low high v =
@@ -128,28 +128,28 @@ values_more phase n os ops.Or h low high v = two_more phase n os either ops.Or (
 values_more phase n os ops.End h low high v = absurd (omega (arith, high))
 values_more phase n os ops.Sor h low high v = absurd (omega (arith, high))
 
-begun : (phase : Phase) (os : List Op) → os ≡ [] → Leaves phase (stages.Values 0) os
+begun : (phase : Phase) (os : List Op) → os ≡ [] → LeavesStage phase (stages.Values 0) os
 begun phase os e = ([], [], e, refl, inl refl)
 
 -- PEI has no BEFORE, AFTER and SOR
-no_pei : (phase : Phase) (o : Op) (stage : Stage) → Fits phase stage o → ((code_of o ≡ 0) ⊎ (code_of o ≡ 1)) ⊎ (code_of o ≡ 9) → phase ≡ Dxe
+no_pei : (phase : Phase) (o : Op) (stage : Stage) → OpFits phase stage o → ((op_code o ≡ 0) ⊎ (op_code o ≡ 1)) ⊎ (op_code o ≡ 9) → phase ≡ Dxe
 no_pei Dxe o stage fits h = refl
-no_pei Pei o stage fits h = absurd (go (code_of o) fits.known h)
+no_pei Pei o stage fits h = absurd (go (op_code o) fits.known h)
   where
     go : (c : ℕ) → (nat_le 2 c && nat_le c 8) ≡ true → ((c ≡ 0) ⊎ (c ≡ 1)) ⊎ (c ≡ 9) → ⊥
     go c k (inl (inl e)) = let t : (nat_le 2 0 && nat_le 0 8) ≡ true = subst (λ (n : ℕ). (nat_le 2 n && nat_le n 8) ≡ true) e k in cc
     go c k (inl (inr e)) = let t : (nat_le 2 1 && nat_le 1 8) ≡ true = subst (λ (n : ℕ). (nat_le 2 n && nat_le n 8) ≡ true) e k in cc
     go c k (inr e) = let t : (nat_le 2 9 && nat_le 9 8) ≡ true = subst (λ (n : ℕ). (nat_le 2 n && nat_le n 8) ≡ true) e k in cc
 
-value_code : (o : Op) → 2 ≤ code_of o → code_of o ≤ 8 → o ≢ ops.End → code_of o < 8
-value_code o low high ne = go (code_of o) refl where
-  go : (c : ℕ) → code_of o ≡ c → code_of o < 8
-  go c e = less (code_of o) high (λ e. ne (end_code o e)) where
+value_code : (o : Op) → 2 ≤ op_code o → op_code o ≤ 8 → o ≢ ops.End → op_code o < 8
+value_code o low high ne = go (op_code o) refl where
+  go : (c : ℕ) → op_code o ≡ c → op_code o < 8
+  go c e = less (op_code o) high (λ e. ne (end_code o e)) where
     less : (n : ℕ) → n ≤ 8 → (n ≡ 8 → ⊥) → n < 8
     less n l k = grind (arith, l, k)
 
 -- the values of an op that has some
-after_values : (stage : Stage) (o : Op) → 2 ≤ code_of o → stage_after stage o ≡ stages.Values (values_after (values_of stage) o)
+after_values : (stage : Stage) (o : Op) → 2 ≤ op_code o → stage_after stage o ≡ stages.Values (values_after (values_of stage) o)
 after_values stage (ops.Before g) l = absurd (omega (arith, l))
 after_values stage (ops.After g) l = absurd (omega (arith, l))
 after_values stage (ops.Push g) l = refl
@@ -161,20 +161,20 @@ after_values stage ops.False l = refl
 after_values stage ops.End l = refl
 after_values stage ops.Sor l = refl
 
-placed_values : (phase : Phase) (n : ℕ) (os : List Op) (o : Op) → Leaves phase (stages.Values n) os → Fits phase (stages.Values n) o → o ≢ ops.End
-    → Leaves phase (stage_after (stages.Values n) o) (os ++ o ∷ [])
+placed_values : (phase : Phase) (n : ℕ) (os : List Op) (o : Op) → LeavesStage phase (stages.Values n) os → OpFits phase (stages.Values n) o → o ≢ ops.End
+    → LeavesStage phase (stage_after (stages.Values n) o) (os ++ o ∷ [])
 placed_values phase n os o h fits ne =
-    let range = and_split (nat_le 2 (code_of o)) (nat_le (code_of o) 8) fits.placed in
-    let low : 2 ≤ code_of o = leb-true 2 (code_of o) range.0 in
-    let high : code_of o ≤ 8 = leb-true (code_of o) 8 range.1 in
-    subst (λ (k : Stage). Leaves phase k (os ++ o ∷ [])) (sym (after_values (stages.Values n) o low))
+    let range = and_split (nat_le 2 (op_code o)) (nat_le (op_code o) 8) fits.placed in
+    let low : 2 ≤ op_code o = leb-true 2 (op_code o) range.0 in
+    let high : op_code o ≤ 8 = leb-true (op_code o) 8 range.1 in
+    subst (λ (k : Stage). LeavesStage phase k (os ++ o ∷ [])) (sym (after_values (stages.Values n) o low))
     (values_more phase n os o h low (value_code o low high ne) fits.valued)
 
-start_value : (phase : Phase) (os : List Op) (o : Op) → Leaves phase stages.Start os → Fits phase stages.Start o → 2 ≤ code_of o → code_of o < 8 → Leaves phase (stages.Values (values_after 0 o)) (os ++ o ∷ [])
+start_value : (phase : Phase) (os : List Op) (o : Op) → LeavesStage phase stages.Start os → OpFits phase stages.Start o → 2 ≤ op_code o → op_code o < 8 → LeavesStage phase (stages.Values (values_after 0 o)) (os ++ o ∷ [])
 start_value phase os o h fits low high = values_more phase 0 os o (begun phase os h) low high fits.valued
 
 -- one more op
-pub leaves_more : (phase : Phase) (stage : Stage) (os : List Op) (o : Op) → Leaves phase stage os → Fits phase stage o → o ≢ ops.End → Leaves phase (stage_after stage o) (os ++ o ∷ [])
+pub leaves_more : (phase : Phase) (stage : Stage) (os : List Op) (o : Op) → LeavesStage phase stage os → OpFits phase stage o → o ≢ ops.End → LeavesStage phase (stage_after stage o) (os ++ o ∷ [])
 leaves_more phase stages.Start os (ops.Before g) h fits ne = (no_pei phase (ops.Before g) stages.Start fits (inl (inl refl)), g, inl (ap (λ (l : List Op). l ++ (ops.Before g ∷ [])) h))
 leaves_more phase stages.Start os (ops.After g) h fits ne = (no_pei phase (ops.After g) stages.Start fits (inl (inr refl)), g, inr (ap (λ (l : List Op). l ++ (ops.After g ∷ [])) h))
 leaves_more phase stages.Start os ops.Sor h fits ne = (ops.Sor ∷ [], [], ap (λ (l : List Op). l ++ (ops.Sor ∷ [])) h, refl, inr (refl, no_pei phase ops.Sor stages.Start fits (inr refl)))
@@ -185,11 +185,11 @@ leaves_more phase stages.Start os ops.Or h fits ne = start_value phase os ops.Or
 leaves_more phase stages.Start os ops.Not h fits ne = start_value phase os ops.Not h fits (omega arith) (omega arith)
 leaves_more phase stages.Start os ops.True h fits ne = start_value phase os ops.True h fits (omega arith) (omega arith)
 leaves_more phase stages.Start os ops.False h fits ne = start_value phase os ops.False h fits (omega arith) (omega arith)
-leaves_more phase stages.Ordered os o h fits ne = absurd (ne (end_code o (eqb-true (code_of o) 8 fits.placed)))
+leaves_more phase stages.Ordered os o h fits ne = absurd (ne (end_code o (eqb-true (op_code o) 8 fits.placed)))
 leaves_more phase (stages.Values n) os o h fits ne = placed_values phase n os o h fits ne
 
 -- with END they are whole
-pub leaves_whole : (phase : Phase) (stage : Stage) (os : List Op) → Leaves phase stage os → Fits phase stage ops.End → ((t : Expression) × IsTree phase (os ++ ops.End ∷ []) t) ⊎ IsOrder phase (os ++ ops.End ∷ [])
+pub leaves_whole : (phase : Phase) (stage : Stage) (os : List Op) → LeavesStage phase stage os → OpFits phase stage ops.End → ((t : Expression) × IsTree phase (os ++ ops.End ∷ []) t) ⊎ IsOrder phase (os ++ ops.End ∷ [])
 leaves_whole phase stages.Start os h fits = let no_values : false ≡ true = fits.valued in cc
 leaves_whole phase stages.Ordered os (dxe, g, which) fits = inr (record { guid = g; joined = joined which; dxe = dxe }) where
   joined : (os ≡ ops.Before g ∷ []) ⊎ (os ≡ ops.After g ∷ []) → (os ++ ops.End ∷ [] ≡ ops.Before g ∷ ops.End ∷ []) ⊎ (os ++ ops.End ∷ [] ≡ ops.After g ∷ ops.End ∷ [])
@@ -211,20 +211,20 @@ leaves_whole phase (stages.Values n) os (sor, ts, e, len, s) fits = one ts e (le
 
 -- ---- trees lead to a path
 
-knows_value : (phase : Phase) (code : ℕ) → 2 ≤ code → code ≤ 8 → knows phase code ≡ true
+knows_value : (phase : Phase) (code : ℕ) → 2 ≤ code → code ≤ 8 → has_code phase code ≡ true
 knows_value Pei code low high = rw (le-leb 2 code low, le-leb code 8 high) refl
 knows_value Dxe code low high = le-leb code 9 (omega (arith, high))
 
-fits_value : (phase : Phase) (n : ℕ) (o : Op) → 2 ≤ code_of o → code_of o ≤ 8 → has_values n (code_of o) ≡ true → IsSized o → Fits phase (stages.Values n) o
+fits_value : (phase : Phase) (n : ℕ) (o : Op) → 2 ≤ op_code o → op_code o ≤ 8 → has_values n (op_code o) ≡ true → IsSized o → OpFits phase (stages.Values n) o
 fits_value phase n o low high values sized = record {
-  known = knows_value phase (code_of o) low high;
-  placed = rw (le-leb 2 (code_of o) low, le-leb (code_of o) 8 high) refl;
+  known = knows_value phase (op_code o) low high;
+  placed = rw (le-leb 2 (op_code o) low, le-leb (op_code o) 8 high) refl;
   valued = values;
   sized = sized;
 }
 
-two_paths : (phase : Phase) (n : ℕ) (t u : Expression) (o : Op) → Path phase (stages.Values n) (postfix t) (stages.Values (n + 1)) → Path phase (stages.Values (n + 1)) (postfix u) (stages.Values (n + 1 + 1))
-    → Fits phase (stages.Values (n + 1 + 1)) o → o ≢ ops.End → stage_after (stages.Values (n + 1 + 1)) o ≡ stages.Values (n + 1) → Path phase (stages.Values n) (postfix t ++ (postfix u ++ (o ∷ []))) (stages.Values (n + 1))
+two_paths : (phase : Phase) (n : ℕ) (t u : Expression) (o : Op) → OpPath phase (stages.Values n) (postfix t) (stages.Values (n + 1)) → OpPath phase (stages.Values (n + 1)) (postfix u) (stages.Values (n + 1 + 1))
+    → OpFits phase (stages.Values (n + 1 + 1)) o → o ≢ ops.End → stage_after (stages.Values (n + 1 + 1)) o ≡ stages.Values (n + 1) → OpPath phase (stages.Values n) (postfix t ++ (postfix u ++ (o ∷ []))) (stages.Values (n + 1))
 two_paths phase n t u o p q fits ne after =
     path_join phase (stages.Values n) (stages.Values (n + 1)) (stages.Values (n + 1)) (postfix t) (postfix u ++ (o ∷ [])) p
     (path_join phase (stages.Values (n + 1)) (stages.Values (n + 1 + 1)) (stages.Values (n + 1)) (postfix u) (o ∷ []) q (fits, ne, after))
@@ -232,7 +232,7 @@ two_paths phase n t u o p q fits ne after =
 one_less : (n : ℕ) → n + 1 + 1 - 1 ≡ n + 1
 one_less n = omega arith
 
-pub tree_path : (phase : Phase) (n : ℕ) (t : Expression) → AllByRecursion IsSized (postfix t) → Path phase (stages.Values n) (postfix t) (stages.Values (n + 1))
+pub tree_path : (phase : Phase) (n : ℕ) (t : Expression) → AllByRecursion IsSized (postfix t) → OpPath phase (stages.Values n) (postfix t) (stages.Values (n + 1))
 tree_path phase n always sized = (fits_value phase n ops.True (omega arith) (omega arith) refl refl, λ e. cc, refl)
 tree_path phase n never sized = (fits_value phase n ops.False (omega arith) (omega arith) refl refl, λ e. cc, refl)
 tree_path phase n (installed g) sized = (fits_value phase n (ops.Push g) (omega arith) (omega arith) refl sized.0, λ e. cc, refl)
@@ -249,12 +249,12 @@ tree_path phase n (either t u) sized =
     (fits_value phase (n + 1 + 1) ops.Or (omega arith) (omega arith) (le-leb 2 (n + 1 + 1) (omega arith)) refl) (λ e. cc) (ap (λ (k : ℕ). stages.Values k) (one_less n))
 
 -- the ops from the start on
-from_start : (phase : Phase) (f : Stage) (o : Op) (os : List Op) → Path phase (stages.Values 0) (o ∷ os) f → Path phase stages.Start (o ∷ os) f
+from_start : (phase : Phase) (f : Stage) (o : Op) (os : List Op) → OpPath phase (stages.Values 0) (o ∷ os) f → OpPath phase stages.Start (o ∷ os) f
 from_start phase f o os p =
-    let range = and_split (nat_le 2 (code_of o)) (nat_le (code_of o) 8) (p.0).placed in
-    let low : 2 ≤ code_of o = leb-true 2 (code_of o) range.0 in
+    let range = and_split (nat_le 2 (op_code o)) (nat_le (op_code o) 8) (p.0).placed in
+    let low : 2 ≤ op_code o = leb-true 2 (op_code o) range.0 in
     let same = after_values (stages.Values 0) o low ∙ sym (after_values stages.Start o low) in
-    (record { known = (p.0).known; placed = refl; valued = (p.0).valued; sized = (p.0).sized }, p.1, subst (λ (k : Stage). Path phase k os f) same p.2)
+    (record { known = (p.0).known; placed = refl; valued = (p.0).valued; sized = (p.0).sized }, p.1, subst (λ (k : Stage). OpPath phase k os f) same p.2)
 
 some_ops : (t : Expression) → 1 ≤ length (postfix t)
 some_ops always = omega arith
@@ -264,7 +264,7 @@ some_ops (negated t) = omega (arith, length-append (postfix t) (ops.Not ∷ []))
 some_ops (both t u) = omega (arith, length-append (postfix t) (postfix u ++ ops.And ∷ []), some_ops t)
 some_ops (either t u) = omega (arith, length-append (postfix t) (postfix u ++ ops.Or ∷ []), some_ops t)
 
-start_path : (phase : Phase) (f : Stage) (os : List Op) → 1 ≤ length os → Path phase (stages.Values 0) os f → Path phase stages.Start os f
+start_path : (phase : Phase) (f : Stage) (os : List Op) → 1 ≤ length os → OpPath phase (stages.Values 0) os f → OpPath phase stages.Start os f
 start_path phase f [] l p = absurd (omega (arith, l))
 start_path phase f (o ∷ os) l p = from_start phase f o os p
 
@@ -273,8 +273,8 @@ pub record IsEnded (phase : Phase) (all : List Op) : Type 0 where
   pub front : List Op
   pub stage : Stage
   pub joined : all ≡ front ++ (ops.End ∷ [])
-  pub path : Path phase stages.Start front stage
-  pub ended : Fits phase stage ops.End
+  pub path : OpPath phase stages.Start front stage
+  pub ended : OpFits phase stage ops.End
 
 tree_ended : (phase : Phase) (all sor : List Op) (t : Expression) → all ≡ sor ++ (postfix t ++ (ops.End ∷ [])) → IsSor phase sor → AllByRecursion IsSized all → IsEnded phase all
 tree_ended phase all sor t e (inl none) sized =
@@ -294,19 +294,19 @@ tree_ended phase all sor t e (inr (is, dxe)) sized =
       front = ops.Sor ∷ postfix t;
       stage = stages.Values (0 + 1);
       joined = whole;
-      path = (record { known = subst (λ (p : Phase). knows p 9 ≡ true) (sym dxe) refl; placed = refl; valued = refl; sized = refl }, λ e. cc, tree_path phase 0 t parts);
+      path = (record { known = subst (λ (p : Phase). has_code p 9 ≡ true) (sym dxe) refl; placed = refl; valued = refl; sized = refl }, λ e. cc, tree_path phase 0 t parts);
       ended = fits_value phase (0 + 1) ops.End (omega arith) (omega arith) refl refl;
     }
 
-order_ended : (phase : Phase) (all : List Op) (o : Op) → all ≡ o ∷ ops.End ∷ [] → phase ≡ Dxe → (code_of o ≡ 0) ⊎ (code_of o ≡ 1) → AllByRecursion IsSized all → stage_after stages.Start o ≡ stages.Ordered → o ≢ ops.End → has_values 0 (code_of o) ≡ true → IsEnded phase all
+order_ended : (phase : Phase) (all : List Op) (o : Op) → all ≡ o ∷ ops.End ∷ [] → phase ≡ Dxe → (op_code o ≡ 0) ⊎ (op_code o ≡ 1) → AllByRecursion IsSized all → stage_after stages.Start o ≡ stages.Ordered → o ≢ ops.End → has_values 0 (op_code o) ≡ true → IsEnded phase all
 order_ended phase all o e dxe code sized after ne values = record {
   front = o ∷ [];
   stage = stages.Ordered;
   joined = e;
-  path = (record { known = subst (λ (p : Phase). knows p (code_of o) ≡ true) (sym dxe) (known code); placed = refl; valued = values; sized = (subst (λ (l : List Op). AllByRecursion IsSized l) e sized).0 }, ne, after);
-  ended = record { known = subst (λ (p : Phase). knows p 8 ≡ true) (sym dxe) refl; placed = refl; valued = refl; sized = refl };
+  path = (record { known = subst (λ (p : Phase). has_code p (op_code o) ≡ true) (sym dxe) (known code); placed = refl; valued = values; sized = (subst (λ (l : List Op). AllByRecursion IsSized l) e sized).0 }, ne, after);
+  ended = record { known = subst (λ (p : Phase). has_code p 8 ≡ true) (sym dxe) refl; placed = refl; valued = refl; sized = refl };
 } where
-  known : (code_of o ≡ 0) ⊎ (code_of o ≡ 1) → nat_le (code_of o) 9 ≡ true
+  known : (op_code o ≡ 0) ⊎ (op_code o ≡ 1) → nat_le (op_code o) 9 ≡ true
   known (inl e) = rw e refl
   known (inr e) = rw e refl
 
@@ -323,20 +323,20 @@ whole_ended phase all rest b spells = go spells.whole where
 -- ---- bytes have one path at most
 
 -- the rest of a path, behind the first ops
-pub record GoesOn (phase : Phase) (os xs : List Op) (f g : Stage) (r y : List ℕ) : Type 0 where
+pub record ContinuesPath (phase : Phase) (os xs : List Op) (f g : Stage) (r y : List ℕ) : Type 0 where
   pub more : List Op
   pub ops_are : xs ≡ os ++ more
   pub bytes_are : r ≡ ops_bytes more ++ (8 ∷ y)
-  pub path : Path phase f more g
+  pub path : OpPath phase f more g
 
-pub same_front : (phase : Phase) (s f g : Stage) (os xs : List Op) (r y : List ℕ) → Path phase s os f → Path phase s xs g → ops_bytes os ++ r ≡ ops_bytes xs ++ (8 ∷ y) → GoesOn phase os xs f g r y
-same_front phase s f g [] xs r y p q e = record { more = xs; ops_are = refl; bytes_are = e; path = subst (λ (k : Stage). Path phase k xs g) p q }
+pub same_front : (phase : Phase) (s f g : Stage) (os xs : List Op) (r y : List ℕ) → OpPath phase s os f → OpPath phase s xs g → ops_bytes os ++ r ≡ ops_bytes xs ++ (8 ∷ y) → ContinuesPath phase os xs f g r y
+same_front phase s f g [] xs r y p q e = record { more = xs; ops_are = refl; bytes_are = e; path = subst (λ (k : Stage). OpPath phase k xs g) p q }
 same_front phase s f g (o ∷ os) [] r y p q e = absurd (p.1 (end_code o (ap (λ (l : List ℕ). slice_index l 0) e)))
 same_front phase s f g (o ∷ os) (x ∷ xs) r y p q e =
-    let left : code_of o ∷ (operand_of o ++ (ops_bytes os ++ r)) ≡ code_of x ∷ (operand_of x ++ (ops_bytes xs ++ (8 ∷ y))) =
-    ap (λ (l : List ℕ). code_of o ∷ l) (sym (append_assoc (operand_of o) (ops_bytes os) r)) ∙ e ∙ ap (λ (l : List ℕ). code_of x ∷ l) (append_assoc (operand_of x) (ops_bytes xs) (8 ∷ y)) in
+    let left : op_code o ∷ (op_operand o ++ (ops_bytes os ++ r)) ≡ op_code x ∷ (op_operand x ++ (ops_bytes xs ++ (8 ∷ y))) =
+    ap (λ (l : List ℕ). op_code o ∷ l) (sym (append_assoc (op_operand o) (ops_bytes os) r)) ∙ e ∙ ap (λ (l : List ℕ). op_code x ∷ l) (append_assoc (op_operand x) (ops_bytes xs) (8 ∷ y)) in
     let same = same_op o x (ops_bytes os ++ r) (ops_bytes xs ++ (8 ∷ y)) (p.0).sized (q.0).sized left in
-    let q' : Path phase (stage_after s o) xs g = subst (λ (k : Op). Path phase (stage_after s k) xs g) (sym same.0) q.2 in
+    let q' : OpPath phase (stage_after s o) xs g = subst (λ (k : Op). OpPath phase (stage_after s k) xs g) (sym same.0) q.2 in
     let k = same_front phase (stage_after s o) f g os xs r y p.2 q' same.1 in
     record { more = k.more; ops_are = ap (λ (l : List Op). l ++ xs) (ap (λ (z : Op). z ∷ []) (sym same.0)) ∙ ap (λ (l : List Op). o ∷ l) k.ops_are; bytes_are = k.bytes_are; path = k.path }
 
@@ -355,7 +355,7 @@ one_spelling phase xs ys r s b p q =
     let fronts : y.front ≡ x.front = k.ops_are ∙ ap (λ (l : List Op). x.front ++ l) n.0 ∙ append-nil x.front in
     (y.joined ∙ ap (λ (l : List Op). l ++ (ops.End ∷ [])) fronts ∙ sym x.joined, n.1)
   where
-    none_more : (phase : Phase) (f g : Stage) (more : List Op) (r s : List ℕ) → Path phase f more g → 8 ∷ r ≡ ops_bytes more ++ (8 ∷ s) → (more ≡ []) × (s ≡ r)
+    none_more : (phase : Phase) (f g : Stage) (more : List Op) (r s : List ℕ) → OpPath phase f more g → 8 ∷ r ≡ ops_bytes more ++ (8 ∷ s) → (more ≡ []) × (s ≡ r)
     none_more phase f g [] r s p e = (refl, sym (ap (drop 1) e))
     none_more phase f g (o ∷ os) r s p e = absurd (p.1 (end_code o (sym (ap (λ (l : List ℕ). slice_index l 0) e))))
 

@@ -10,12 +10,12 @@ use Rattle.fv_depex.specs.declared.op.Phase.{Phase}
 use Rattle.fv_depex.specs.declared.op.Phase.TheVariants.{Pei, Dxe}
 use Rattle.fv_depex.specs.declared.stage.Stage.{Stage}
 use Rattle.fv_depex.specs.declared.stage.Stage.TheVariants as stages
-use Rattle.fv_depex.specs.Expressions.{carries, code_of, operand_of, ops_bytes, IsSized}
+use Rattle.fv_depex.specs.Expressions.{carries, op_code, op_operand, ops_bytes, IsSized}
 
 -- a code that the phase has
-abbrev pub knows : Phase → ℕ → Bool
-knows Pei code = nat_le 2 code && nat_le code 8
-knows Dxe code = nat_le code 9
+abbrev pub has_code : Phase → ℕ → Bool
+has_code Pei code = nat_le 2 code && nat_le code 8
+has_code Dxe code = nat_le code 9
 
 -- BEFORE, AFTER and SOR stand first only, and behind BEFORE or AFTER stands END alone
 abbrev pub in_place : Stage → ℕ → Bool
@@ -47,7 +47,7 @@ op_check holds kind = record { holds = holds; fault = kind }
 abbrev pub op_checks : Phase → Stage → List ℕ → List (Check DepexFaultKind)
 op_checks phase stage r =
     op_check (nat_le 1 (length r)) kinds.NoEnd
-    ∷ op_check (knows phase (slice_index r 0)) kinds.Opcode
+    ∷ op_check (has_code phase (slice_index r 0)) kinds.Opcode
     ∷ op_check (in_place stage (slice_index r 0)) kinds.Position
     ∷ op_check (has_operand r) kinds.Short
     ∷ op_check (holds_values stage (slice_index r 0)) kinds.Stack
@@ -72,44 +72,44 @@ stage_after stage (ops.After g) = stages.Ordered
 stage_after stage o = stages.Values (values_after (values_of stage) o)
 
 -- an op that may stand there
-pub record Fits (phase : Phase) (stage : Stage) (o : Op) : Type 0 where
-  pub known : knows phase (code_of o) ≡ true
-  pub placed : in_place stage (code_of o) ≡ true
-  pub valued : holds_values stage (code_of o) ≡ true
+pub record OpFits (phase : Phase) (stage : Stage) (o : Op) : Type 0 where
+  pub known : has_code phase (op_code o) ≡ true
+  pub placed : in_place stage (op_code o) ≡ true
+  pub valued : holds_values stage (op_code o) ≡ true
   pub sized : IsSized o
 
 -- r begins with an op that may stand there
-pub record OpStands (phase : Phase) (stage : Stage) (o : Op) (r : List ℕ) : Type 0 where
-  pub fits : Fits phase stage o
+pub record BeginsOp (phase : Phase) (stage : Stage) (o : Op) (r : List ℕ) : Type 0 where
+  pub fits : OpFits phase stage o
   pub behind : List ℕ
-  pub joined : r ≡ code_of o ∷ (operand_of o ++ behind)
+  pub joined : r ≡ op_code o ∷ (op_operand o ++ behind)
 
 -- b begins with an op that may stand first
-abbrev pub FirstStands : Phase → List ℕ → Type 0
-FirstStands phase b = (o : Op) × OpStands phase stages.Start o b
+abbrev pub BeginsFirstOp : Phase → List ℕ → Type 0
+BeginsFirstOp phase b = (o : Op) × BeginsOp phase stages.Start o b
 
 -- ops that may stand one after another, none of them END, and the stage that they lead to
-abbrev pub Path : Phase → Stage → List Op → Stage → Type 0
-Path phase stage [] final = stage ≡ final
-Path phase stage (o ∷ os) final = Fits phase stage o × (o ≢ ops.End) × Path phase (stage_after stage o) os final
+abbrev pub OpPath : Phase → Stage → List Op → Stage → Type 0
+OpPath phase stage [] final = stage ≡ final
+OpPath phase stage (o ∷ os) final = OpFits phase stage o × (o ≢ ops.End) × OpPath phase (stage_after stage o) os final
 
 -- some ops that may stand there are read up to the fault's offset, and there it is that of the first check that does not hold
-pub record IsFirst (phase : Phase) (b : List ℕ) (fault : DepexFault) : Type 0 where
+pub record IsFirstOpFault (phase : Phase) (b : List ℕ) (fault : DepexFault) : Type 0 where
   pub before : List Op
   pub stage : Stage
   pub r : List ℕ
   pub joined : b ≡ ops_bytes before ++ r
-  pub read : Path phase stages.Start before stage
+  pub read : OpPath phase stages.Start before stage
   pub place : fault.offset ≡ length (ops_bytes before)
   pub kind_is : IsFirstFault (op_checks phase stage r) fault.kind
 
-abbrev pub want_of_memory : DepexFault
-want_of_memory = record { kind = kinds.OutOfMemory; offset = 0 }
+abbrev pub depex_want_of_memory : DepexFault
+depex_want_of_memory = record { kind = kinds.OutOfMemory; offset = 0 }
 
-abbrev pub number_of : DepexFaultKind → ℕ
-number_of kinds.Short = 1
-number_of kinds.Opcode = 2
-number_of kinds.Stack = 3
-number_of kinds.NoEnd = 4
-number_of kinds.Position = 5
-number_of kinds.OutOfMemory = 6
+abbrev pub depex_fault_number : DepexFaultKind → ℕ
+depex_fault_number kinds.Short = 1
+depex_fault_number kinds.Opcode = 2
+depex_fault_number kinds.Stack = 3
+depex_fault_number kinds.NoEnd = 4
+depex_fault_number kinds.Position = 5
+depex_fault_number kinds.OutOfMemory = 6

@@ -6,18 +6,18 @@ use Rattle.fv_depex.specs.declared.op.Op.TheVariants as ops
 use Rattle.fv_depex.specs.Expressions.{is_among}
 
 -- the stack behind one op, if it has what the op takes; BEFORE and AFTER have no truth
-abbrev pub step : List Guid → List Bool → Op → Option (List Bool)
-step set s (ops.Before g) = None
-step set s (ops.After g) = None
-step set s (ops.Push g) = Some (is_among g set ∷ s)
-step set s ops.True = Some (true ∷ s)
-step set s ops.False = Some (false ∷ s)
-step set (v ∷ s) ops.Not = Some (not v ∷ s)
-step set (v ∷ u ∷ s) ops.And = Some ((u && v) ∷ s)
-step set (v ∷ u ∷ s) ops.Or = Some ((u || v) ∷ s)
-step set s ops.End = Some s
-step set s ops.Sor = Some s
-step set s _ = None
+abbrev pub evaluate_op : List Guid → List Bool → Op → Option (List Bool)
+evaluate_op set s (ops.Before g) = None
+evaluate_op set s (ops.After g) = None
+evaluate_op set s (ops.Push g) = Some (is_among g set ∷ s)
+evaluate_op set s ops.True = Some (true ∷ s)
+evaluate_op set s ops.False = Some (false ∷ s)
+evaluate_op set (v ∷ s) ops.Not = Some (not v ∷ s)
+evaluate_op set (v ∷ u ∷ s) ops.And = Some ((u && v) ∷ s)
+evaluate_op set (v ∷ u ∷ s) ops.Or = Some ((u || v) ∷ s)
+evaluate_op set s ops.End = Some s
+evaluate_op set s ops.Sor = Some s
+evaluate_op set s _ = None
 
 abbrev pub top : List Bool → Option Bool
 top [] = None
@@ -28,6 +28,6 @@ and_then None f = None
 and_then (Some s) f = f s
 
 -- the value on top behind all ops
-abbrev pub run : List Guid → List Op → List Bool → Option Bool
-run set [] s = top s
-run set (o ∷ os) s = and_then (step set s o) (run set os)
+abbrev pub evaluate_ops : List Guid → List Op → List Bool → Option Bool
+evaluate_ops set [] s = top s
+evaluate_ops set (o ∷ os) s = and_then (evaluate_op set s o) (evaluate_ops set os)

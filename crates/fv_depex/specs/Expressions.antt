@@ -41,29 +41,29 @@ pub record IsOrder (phase : Phase) (all : List Op) : Type 0 where
   pub dxe : phase ≡ Dxe
 
 -- the code of an op
-abbrev pub code_of : Op → ℕ
-code_of (ops.Before g) = 0x00
-code_of (ops.After g) = 0x01
-code_of (ops.Push g) = 0x02
-code_of ops.And = 0x03
-code_of ops.Or = 0x04
-code_of ops.Not = 0x05
-code_of ops.True = 0x06
-code_of ops.False = 0x07
-code_of ops.End = 0x08
-code_of ops.Sor = 0x09
+abbrev pub op_code : Op → ℕ
+op_code (ops.Before g) = 0x00
+op_code (ops.After g) = 0x01
+op_code (ops.Push g) = 0x02
+op_code ops.And = 0x03
+op_code ops.Or = 0x04
+op_code ops.Not = 0x05
+op_code ops.True = 0x06
+op_code ops.False = 0x07
+op_code ops.End = 0x08
+op_code ops.Sor = 0x09
 
 -- the GUID that an op carries, by its bytes
-abbrev pub operand_of : Op → List ℕ
-operand_of (ops.Before g) = bytes_of g
-operand_of (ops.After g) = bytes_of g
-operand_of (ops.Push g) = bytes_of g
-operand_of _ = []
+abbrev pub op_operand : Op → List ℕ
+op_operand (ops.Before g) = bytes_of g
+op_operand (ops.After g) = bytes_of g
+op_operand (ops.Push g) = bytes_of g
+op_operand _ = []
 
 -- the bytes of ops: of each its code, and its GUID if it carries one
 abbrev pub ops_bytes : List Op → List ℕ
 ops_bytes [] = []
-ops_bytes (o ∷ os) = code_of o ∷ (operand_of o ++ ops_bytes os)
+ops_bytes (o ∷ os) = op_code o ∷ (op_operand o ++ ops_bytes os)
 
 -- the op of a code, with a GUID if it carries one
 abbrev pub op_by : ℕ → Guid → Op
@@ -92,7 +92,7 @@ operand_len true = 16
 operand_len false = 0
 
 abbrev pub IsSized : Op → Type 0
-IsSized o = length (operand_of o) ≡ operand_len (carries (code_of o))
+IsSized o = length (op_operand o) ≡ operand_len (carries (op_code o))
 
 -- b is the ops and then the rest, and the ops are a whole expression of the phase
 pub record Spells (phase : Phase) (all : List Op) (rest b : List ℕ) : Type 0 where

@@ -1,4 +1,4 @@
 pub mod Checks
 pub mod Evaluation
 pub mod Expressions
-pub mod View
+pub mod DepexView

@@ -2,7 +2,7 @@
 
 ghost use Rattle.std.specs.Prelude.{◌≡◌};
 ghost use Rattle.fv_depex.specs.Expressions.{Spells};
-ghost use Rattle.fv_depex.specs.View.{IsReadDepex};
+ghost use Rattle.fv_depex.specs.DepexView.{IsReadDepex};
 
 use crate::op::{Op, Phase};
 use fv_base::ByteList;
@@ -18,7 +18,7 @@ pub struct Depex {
 }
 
 impl Model for Depex {
-    ghost use Rattle.fv_depex.specs.View.{DepexForm, IsReadDepex};
+    ghost use Rattle.fv_depex.specs.DepexView.{DepexForm, IsReadDepex};
 
     ghost Value = { DepexForm };
 

@@ -1,7 +1,7 @@
 //! Why an expression was refused.
 
 ghost use Rattle.std.specs.Prelude.{◌≡◌};
-ghost use Rattle.fv_depex.specs.Checks.{number_of, want_of_memory};
+ghost use Rattle.fv_depex.specs.Checks.{depex_fault_number, depex_want_of_memory};
 
 use std::alloc::{AllocError, AllocFailed};
 use thiserror::Error;
@@ -33,7 +33,7 @@ pub enum DepexFaultKind {
 impl DepexFaultKind {
     /// The number by which the kind is known: 1 to 6, in the order above.
     pub fn number(self) -> u8
-        ensures { result ≡ number_of self }
+        ensures { result ≡ depex_fault_number self }
     {
         match self {
             DepexFaultKind::Short => 1,
@@ -59,7 +59,7 @@ pub struct DepexFault {
 impl DepexFault {
     /// The number by which the fault's kind is known, 1 to 6.
     pub fn number(self) -> u8
-        ensures { result ≡ number_of self.kind }
+        ensures { result ≡ depex_fault_number self.kind }
     {
         self.kind.number()
     }
@@ -72,7 +72,7 @@ const WANT_OF_MEMORY: DepexFault = DepexFault {
 };
 
 impl From<AllocError> for DepexFault {
-    ghost from_gives = { λ _ f. f ≡ want_of_memory };
+    ghost from_gives = { λ _ f. f ≡ depex_want_of_memory };
 
     fn from(_error: AllocError) -> DepexFault {
         WANT_OF_MEMORY
@@ -80,7 +80,7 @@ impl From<AllocError> for DepexFault {
 }
 
 impl<T: Drop> From<AllocFailed<T>> for DepexFault {
-    ghost from_gives = { λ _ f. f ≡ want_of_memory };
+    ghost from_gives = { λ _ f. f ≡ depex_want_of_memory };
 
     fn from(_error: AllocFailed<T>) -> DepexFault {
         WANT_OF_MEMORY

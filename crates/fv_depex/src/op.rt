@@ -1,7 +1,7 @@
 //! The ops of dependency expressions.
 
 ghost use Rattle.std.specs.Prelude.{◌≡◌};
-ghost use Rattle.fv_depex.specs.Expressions.{code_of};
+ghost use Rattle.fv_depex.specs.Expressions.{op_code};
 
 use crate::opcode;
 use fv_base::Guid;
@@ -16,7 +16,7 @@ pub enum Phase {
     Dxe,
 }
 
-/// An op of a dependency expression, a step on a stack of truth values. (PI specification, volume
+/// An op of a dependency expression, a evaluate_op on a stack of truth values. (PI specification, volume
 /// 1, section 3.4, and volume 2, section 10.7.)
 #[derive(Clone, Copy, Debug, PartialEq, Eq)]
 pub enum Op {
@@ -48,7 +48,7 @@ pub enum Op {
 impl Op {
     /// The op code, 00 (EFI_DEP_BEFORE) to 09 (EFI_DEP_SOR): the first byte of the op.
     pub fn code(&self) -> u8
-        ensures { result ≡ code_of self.now }
+        ensures { result ≡ op_code self.now }
     {
         match self {
             Op::Before(_) => opcode::BEFORE,

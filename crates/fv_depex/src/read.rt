@@ -2,8 +2,8 @@
 
 ghost use Rattle.std.specs.Prelude.{◌≡◌, ◌≢◌, ◌≤◌, ◌+◌, ℕ, List, length, drop, true, None, Some, OnOk, IfOk, IfErr};
 ghost use Rattle.fv_base.specs.Checks.{IsFirstFault, first_fault};
-ghost use Rattle.fv_depex.specs.Checks.{FirstStands, IsFirst, OpStands, knows, in_place, has_values, holds_values, has_operand, op_checks, want_of_memory};
-ghost use Rattle.fv_depex.specs.Expressions.{Spells, carries, code_of, op_in, operand_len};
+ghost use Rattle.fv_depex.specs.Checks.{BeginsFirstOp, IsFirstOpFault, BeginsOp, has_code, in_place, has_values, holds_values, has_operand, op_checks, depex_want_of_memory};
+ghost use Rattle.fv_depex.specs.Expressions.{Spells, carries, op_code, op_in, operand_len};
 ghost use Rattle.fv_depex.specs.declared.op.Op.{Op};
 
 use crate::depex::Depex;
@@ -20,8 +20,8 @@ const OPERAND: usize = 1;
 /// Bytes of an op that carries a GUID: its code, and the GUID's 16.
 const WITH_GUID: usize = 17;
 
-fn knows(phase: Phase, code: u8) -> bool
-    ensures { result ≡ knows phase code }
+fn has_code(phase: Phase, code: u8) -> bool
+    ensures { result ≡ has_code phase code }
 {
     match phase {
         Phase::Pei => opcode::PUSH <= code && code <= opcode::END,
@@ -85,7 +85,7 @@ fn check_op(rest: &[u8], phase: Phase, stage: Stage) -> Result<(), DepexFaultKin
         return Err(DepexFaultKind::NoEnd);
     }
     let code = rest[0];
-    if !knows(phase, code) {
+    if !has_code(phase, code) {
         return Err(DepexFaultKind::Opcode);
     }
     if !in_place(stage, code) {
@@ -122,14 +122,14 @@ fn op_in(rest: &[u8]) -> Op
 
 // How many bytes an op has.
 fn op_len(op: &Op) -> usize
-    ensures { result ≡ 1 + operand_len (carries (code_of op.now)) }
+    ensures { result ≡ 1 + operand_len (carries (op_code op.now)) }
 {
     if carries(op.code()) { WITH_GUID } else { 1 }
 }
 
 // The op at the front, or the kind of the first fault there.
 fn next_op(rest: &[u8], phase: Phase, stage: Stage) -> Result<Op, DepexFaultKind>
-    ensures found { IfOk result (λ o. OpStands phase stage o rest.now) }
+    ensures found { IfOk result (λ o. BeginsOp phase stage o rest.now) }
     ensures first { IfErr result (IsFirstFault (op_checks phase stage rest.now)) }
 {
     check_op(rest, phase, stage)?;
@@ -139,8 +139,8 @@ fn next_op(rest: &[u8], phase: Phase, stage: Stage) -> Result<Op, DepexFaultKind
 // The ops up to END, and how many bytes they have.
 fn read_ops(alloc: Global, bytes: &[u8], phase: Phase) -> Result<(Vec<Op>, usize), DepexFault>
     ensures found { IfOk result (λ p. (p.1 ≤ length bytes.now) × Spells phase p.0.items (drop p.1 bytes.now) bytes.now) }
-    ensures first { IfErr result (λ f. f ≢ want_of_memory → IsFirst phase bytes.now f) }
-    ensures memory { IfErr result (λ f. f ≡ want_of_memory → FirstStands phase bytes.now) }
+    ensures first { IfErr result (λ f. f ≢ depex_want_of_memory → IsFirstOpFault phase bytes.now f) }
+    ensures memory { IfErr result (λ f. f ≡ depex_want_of_memory → BeginsFirstOp phase bytes.now) }
 {
     let mut ops = Vec::new(alloc);
     let mut at = 0;
@@ -188,13 +188,13 @@ pub fn read_depex(alloc: Global, bytes: &[u8], phase: Phase) -> Result<Depex, De
     ensures only { IfOk result (λ d. (ops : List Op) (rest : List ℕ) → Spells phase ops rest bytes.now → (ops ≡ d.ops) × (rest ≡ d.rest)) }
 
     // Where it refuses, want of memory aside, they are spelled by none.
-    ensures none { IfErr result (λ f. f ≢ want_of_memory → (ops : List Op) (rest : List ℕ) → Spells phase ops rest bytes.now → ⊥) }
+    ensures none { IfErr result (λ f. f ≢ depex_want_of_memory → (ops : List Op) (rest : List ℕ) → Spells phase ops rest bytes.now → ⊥) }
 
     // A refusal, want of memory aside, names the first check that does not hold, at the first op that has one.
-    ensures first { IfErr result (λ f. f ≢ want_of_memory → IsFirst phase bytes.now f) }
+    ensures first { IfErr result (λ f. f ≢ depex_want_of_memory → IsFirstOpFault phase bytes.now f) }
 
     // Memory is wanting only where the bytes begin with an op that may stand first.
-    ensures memory { IfErr result (λ f. f ≡ want_of_memory → FirstStands phase bytes.now) }
+    ensures memory { IfErr result (λ f. f ≡ depex_want_of_memory → BeginsFirstOp phase bytes.now) }
 {
     let (ops, at) = read_ops(alloc, bytes, phase)?;
     let rest = bytes_from(alloc, bytes, at)?;

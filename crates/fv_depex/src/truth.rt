@@ -1,8 +1,8 @@
 //! Expressions, evaluated.
 
 ghost use Rattle.std.specs.Prelude.{◌≡◌, Bool, true, false, if◌then◌else◌, None, Some, [], ◌∷◌, ◌<◌, length, reverse, IfSome, IfNone, IfOk, IfErr};
-ghost use Rattle.fv_depex.specs.Checks.{want_of_memory};
-ghost use Rattle.fv_depex.specs.Evaluation.{step, run, top};
+ghost use Rattle.fv_depex.specs.Checks.{depex_want_of_memory};
+ghost use Rattle.fv_depex.specs.Evaluation.{evaluate_op, evaluate_ops, top};
 ghost use Rattle.fv_depex.specs.Expressions.{Expression, IsTree, IsOrder, is_among, truth};
 
 use crate::depex::Depex;
@@ -36,8 +36,8 @@ fn top(stack: &mut Vec<bool>) -> Option<bool>
 }
 
 // One op on the stack, and whether the stack had what it takes.
-fn step(stack: &mut Vec<bool>, op: &Op, installed: &[Guid]) -> Result<bool, AllocError>
-    ensures { IfOk result (λ done. step installed.now (reverse stack.old.items) op.now ≡ (if done then Some (reverse stack.new.items) else None)) }
+fn evaluate_op(stack: &mut Vec<bool>, op: &Op, installed: &[Guid]) -> Result<bool, AllocError>
+    ensures { IfOk result (λ done. evaluate_op installed.now (reverse stack.old.items) op.now ≡ (if done then Some (reverse stack.new.items) else None)) }
 {
     match op {
         Op::Before(_) | Op::After(_) => return Ok(false),
@@ -68,13 +68,13 @@ fn step(stack: &mut Vec<bool>, op: &Op, installed: &[Guid]) -> Result<bool, Allo
 }
 
 // The value that ops leave on top, if they have one.
-fn run(alloc: Global, ops: &[Op], installed: &[Guid]) -> Result<Option<bool>, DepexFault>
-    ensures value { IfOk result (λ v. v ≡ run installed.now ops.now []) }
-    ensures err { IfErr result (λ f. f ≡ want_of_memory) }
+fn evaluate_ops(alloc: Global, ops: &[Op], installed: &[Guid]) -> Result<Option<bool>, DepexFault>
+    ensures value { IfOk result (λ v. v ≡ evaluate_ops installed.now ops.now []) }
+    ensures err { IfErr result (λ f. f ≡ depex_want_of_memory) }
 {
     let mut stack = Vec::new(alloc);
     for op in ops {
-        if !step(&mut stack, op, installed)? {
+        if !evaluate_op(&mut stack, op, installed)? {
             return Ok(None);
         }
     }
@@ -102,7 +102,7 @@ pub fn evaluate(
 
     // They are the ops of one tree at most.
     ensures tree { (t u : Expression) → IsTree depex.now.phase depex.now.ops t → IsTree depex.now.phase depex.now.ops u → t ≡ u }
-    ensures err { IfErr result (λ f. f ≡ want_of_memory) }
+    ensures err { IfErr result (λ f. f ≡ depex_want_of_memory) }
 {
-    run(alloc, depex.ops(), installed)
+    evaluate_ops(alloc, depex.ops(), installed)
 }

@@ -1,8 +1,8 @@
 //! Expressions, written.
 
 ghost use Rattle.std.specs.Prelude.{◌≡◌, ◌∷◌, ◌++◌, OnOk, IfOk, IfErr};
-ghost use Rattle.fv_depex.specs.Checks.{want_of_memory};
-ghost use Rattle.fv_depex.specs.Expressions.{Spells, code_of, operand_of, ops_bytes};
+ghost use Rattle.fv_depex.specs.Checks.{depex_want_of_memory};
+ghost use Rattle.fv_depex.specs.Expressions.{Spells, op_code, op_operand, ops_bytes};
 
 use crate::depex::Depex;
 use crate::fault::DepexFault;
@@ -12,7 +12,7 @@ use std::alloc::{AllocError, Global};
 
 // The bytes with those of an op behind them.
 fn push_op(bytes: &mut Vec<u8>, op: &Op) -> Result<(), AllocError>
-    ensures { OnOk result (bytes.new.items ≡ bytes.old.items ++ (code_of op.now ∷ operand_of op.now)) }
+    ensures { OnOk result (bytes.new.items ≡ bytes.old.items ++ (op_code op.now ∷ op_operand op.now)) }
 {
     bytes.push(op.code())?;
     if let Op::Before(guid) | Op::After(guid) | Op::Push(guid) = op {
@@ -54,7 +54,7 @@ pub fn depex_bytes(alloc: Global, depex: &Depex) -> Result<ByteList, DepexFault>
 
     // They are these bytes.
     ensures bytes { IfOk result (λ b. b ≡ ops_bytes depex.now.ops ++ depex.now.rest) }
-    ensures err { IfErr result (λ f. f ≡ want_of_memory) }
+    ensures err { IfErr result (λ f. f ≡ depex_want_of_memory) }
 {
     let bytes = spelled(alloc, depex.ops(), depex.rest())?;
     Ok(ByteList::from_vec(bytes))

@@ -4,7 +4,7 @@ use Rattle.std.specs.Prelude.{◌==◌, slice_index}
 use Rattle.std.proofs.lemmas.Bool.{eqb-true, ne_eqb}
 use Rattle.fv_base.specs.Alignment.{alignments, alignment_of}
 use Rattle.fv_file.specs.Attributes.{is_large, is_fixed, is_summed, without_large}
-use Rattle.fv_file.specs.Written.{with_large}
+use Rattle.fv_file.specs.NewHeaders.{with_large}
 use Rattle.fv_file.proofs.AttributeLemmas.{small_even}
 
 -- ---- with bit 01 as the form wants it

@@ -17,10 +17,10 @@ use Rattle.fv_base.specs.declared.flash.Polarity.{Polarity}
 use Rattle.fv_base.specs.declared.flash.Polarity.TheVariants.{Ones, Zeros}
 use Rattle.fv_base.proofs.CheckLemmas.{all_hold, first_is, not_first, verdict_ok, verdict_err, verdict_none}
 use Rattle.fv_file.specs.Attributes.{is_large}
-use Rattle.fv_file.specs.Cells.{CellForm, Valid, Pad, Dead, Stub, Free, offset_of, span, is_free, IsFilled, IsCell, IsMadeUp}
-use Rattle.fv_file.specs.FileChecks.{run_of, attributes_at, header_len_at, size_at, payload_at, file_checks, stub_checks, state_checks, cell_checks}
-use Rattle.fv_file.specs.Files.{pad_kind, header_len_of, head_in, IsSound}
-use Rattle.fv_file.specs.Reading.{file_verdict, cell_for, cell_with, stub_verdict, state_verdict, cell_verdict}
+use Rattle.fv_file.specs.Cells.{CellForm, Valid, Pad, Dead, Stub, Free, offset_of, cell_len, is_free, IsFilled, IsCell, IsMadeUp}
+use Rattle.fv_file.specs.FileChecks.{leading_count, attributes_at, file_header_len_at, file_size_at, payload_at, file_checks, stub_checks, state_checks, cell_checks}
+use Rattle.fv_file.specs.Files.{pad_kind, file_header_len, head_in, IsSound}
+use Rattle.fv_file.specs.CellVerdicts.{file_verdict, cell_for, cell_with, stub_verdict, state_verdict, cell_verdict}
 use Rattle.fv_file.specs.States.{StateOf, bits_of, state_of, is_alive}
 use Rattle.fv_file.specs.declared.head.FileHead.{FileHead}
 use Rattle.fv_file.specs.declared.state.FileState.{FileState}
@@ -42,24 +42,24 @@ not_both x f c e h = cc
 
 -- the fault of bytes that are no cell and not all erased
 abbrev stray : Polarity → ℕ → List ℕ → Fault
-stray p at r = outer_fault kinds.FreeSpace (at + run_of (erased_byte p) r)
+stray p at r = outer_fault kinds.FreeSpace (at + leading_count (erased_byte p) r)
 
 -- ---- from the verdict to the cell
 
 -- a cell that is not free stands at the front of the bytes
-pub record Stands (system : FileSystem) (polarity : Polarity) (at : ℕ) (c : CellForm) (r : List ℕ) : Type 0 where
+pub record CellStandsAt (system : FileSystem) (polarity : Polarity) (at : ℕ) (c : CellForm) (r : List ℕ) : Type 0 where
   pub not_free : is_free c ≡ false
   pub place : offset_of c ≡ at
-  pub within : span c ≤ length r
-  pub some : 0 < span c
-  pub multiple : span c % 8 ≡ 0
-  pub cell : IsCell system polarity c (take (span c) r)
+  pub within : cell_len c ≤ length r
+  pub some : 0 < cell_len c
+  pub multiple : cell_len c % 8 ≡ 0
+  pub cell : IsCell system polarity c (take (cell_len c) r)
 
 -- the file at the front of the bytes, with its filler
 filled_at : (s : FileSystem) (p : Polarity) (st : FileState) (r : List ℕ) → length r % 8 ≡ 0 → FileAt s p st r
-    → (up_to_8 (size_at r) ≤ length r) × (0 < up_to_8 (size_at r)) × (up_to_8 (size_at r) % 8 ≡ 0) × IsFilled s p (head_in st r) (payload_at r) (take (up_to_8 (size_at r)) r)
+    → (up_to_8 (file_size_at r) ≤ length r) × (0 < up_to_8 (file_size_at r)) × (up_to_8 (file_size_at r) % 8 ≡ 0) × IsFilled s p (head_in st r) (payload_at r) (take (up_to_8 (file_size_at r)) r)
 filled_at s p st r even f =
-    let n : ℕ = size_at r in
+    let n : ℕ = file_size_at r in
     let m : ℕ = up_to_8 n in
     let above : n ≤ m = omega arith in
     let near : m - n < 8 = omega arith in
@@ -92,7 +92,7 @@ filled_at s p st r even f =
     fits n m l e = omega arith
 
 dead_stands : (s : FileSystem) (p : Polarity) (st : FileState) (at : ℕ) (r : List ℕ) → length r % 8 ≡ 0 → (st ≡ states.HeaderValid) ⊎ (st ≡ states.Deleted)
-    → FileAt s p st r → Stands s p at (Dead at (up_to_8 (size_at r))) r
+    → FileAt s p st r → CellStandsAt s p at (Dead at (up_to_8 (file_size_at r))) r
 dead_stands s p st at r even dead f =
     let n = filled_at s p st r even f in
     record {
@@ -101,25 +101,25 @@ dead_stands s p st at r even dead f =
       within = n.0;
       some = n.1;
       multiple = n.2;
-      cell = (head_in st r, payload_at r, n.3, dead, sym (length-take-le (up_to_8 (size_at r)) r n.0));
+      cell = (head_in st r, payload_at r, n.3, dead, sym (length-take-le (up_to_8 (file_size_at r)) r n.0));
     }
 
 pad_stands : (s : FileSystem) (p : Polarity) (st : FileState) (at : ℕ) (r : List ℕ) → length r % 8 ≡ 0 → is_alive st ≡ true → slice_index r 18 ≡ pad_kind
-    → FileAt s p st r → Stands s p at (Pad at (head_in st r) (payload_at r)) r
+    → FileAt s p st r → CellStandsAt s p at (Pad at (head_in st r) (payload_at r)) r
 pad_stands s p st at r even alive kind f =
     let n = filled_at s p st r even f in
     record { not_free = refl; place = refl; within = n.0; some = n.1; multiple = n.2; cell = (n.3, alive, kind) }
 
 valid_stands : (s : FileSystem) (p : Polarity) (st : FileState) (at : ℕ) (r : List ℕ) → length r % 8 ≡ 0 → is_alive st ≡ true → (slice_index r 18 == pad_kind) ≡ false
-    → FileAt s p st r → Stands s p at (Valid at (head_in st r) (payload_at r)) r
+    → FileAt s p st r → CellStandsAt s p at (Valid at (head_in st r) (payload_at r)) r
 valid_stands s p st at r even alive kind f =
     let n = filled_at s p st r even f in
     record { not_free = refl; place = refl; within = n.0; some = n.1; multiple = n.2; cell = (n.3, alive, f.sound alive kind) }
 
-stub_stands : (s : FileSystem) (p : Polarity) (at : ℕ) (r : List ℕ) → header_len_at r ≤ length r
-    → (StateOf (slice_index r 23) p states.Construction ⊎ StateOf (slice_index r 23) p states.HeaderInvalid) → Stands s p at (Stub at (header_len_at r)) r
+stub_stands : (s : FileSystem) (p : Polarity) (at : ℕ) (r : List ℕ) → file_header_len_at r ≤ length r
+    → (StateOf (slice_index r 23) p states.Construction ⊎ StateOf (slice_index r 23) p states.HeaderInvalid) → CellStandsAt s p at (Stub at (file_header_len_at r)) r
 stub_stands s p at r within state =
-    let n : ℕ = header_len_at r in
+    let n : ℕ = file_header_len_at r in
     let low : 24 ≤ n = header_least (is_large (attributes_at r)) in
     let long : length (take n r) ≡ n = length-take-le n r within in
     let e19 : slice_index (take n r) 19 ≡ slice_index r 19 = get_or-take n r 19 0 (omega (arith, low)) in
@@ -132,10 +132,10 @@ stub_stands s p at r within state =
       within = within;
       some = omega (arith, low);
       multiple = eighth (is_large (attributes_at r));
-      cell = (shown, long ∙ ap (λ (k : ℕ). header_len_of (is_large k)) (sym e19), sym long);
+      cell = (shown, long ∙ ap (λ (k : ℕ). file_header_len (is_large k)) (sym e19), sym long);
     }
   where
-    eighth : (large : Bool) → header_len_of large % 8 ≡ 0
+    eighth : (large : Bool) → file_header_len large % 8 ≡ 0
     eighth false = refl
     eighth true = refl
 
@@ -143,30 +143,30 @@ with_ok : (st : FileState) (at : ℕ) (r : List ℕ) (x : Result FileHead Fault)
 with_ok st at r (Ok head) c e = (head, refl, cc)
 with_ok st at r (Err f) c e = cc
 
-pub verdict_stands : (s : FileSystem) (p : Polarity) (at : ℕ) (r : List ℕ) (c : CellForm) → length r % 8 ≡ 0 → cell_verdict s p at r ≡ Ok c → Stands s p at c r
+pub verdict_stands : (s : FileSystem) (p : Polarity) (at : ℕ) (r : List ℕ) (c : CellForm) → length r % 8 ≡ 0 → cell_verdict s p at r ≡ Ok c → CellStandsAt s p at c r
 verdict_stands s p at r c even is = go (nat_lt (length r) 24) refl (state_of p (slice_index r 23)) refl where
   stub : 24 ≤ length r → (st : FileState) → state_of p (slice_index r 23) ≡ Some st → (st ≡ states.Construction) ⊎ (st ≡ states.HeaderInvalid)
-      → stub_verdict at r ≡ Ok c → Stands s p at c r
+      → stub_verdict at r ≡ Ok c → CellStandsAt s p at c r
   stub long st e which v =
-      let k = verdict_ok (first_fault (stub_checks at r)) (Stub at (header_len_at r)) c v in
+      let k = verdict_ok (first_fault (stub_checks at r)) (Stub at (file_header_len_at r)) c v in
       let all = all_hold (stub_checks at r) k.0 in
-      subst (λ (d : CellForm). Stands s p at d r) k.1 (stub_stands s p at r (leb-true _ _ all.0) (state which))
+      subst (λ (d : CellForm). CellStandsAt s p at d r) k.1 (stub_stands s p at r (leb-true _ _ all.0) (state which))
     where
       state : (st ≡ states.Construction) ⊎ (st ≡ states.HeaderInvalid) → StateOf (slice_index r 23) p states.Construction ⊎ StateOf (slice_index r 23) p states.HeaderInvalid
       state (inl h) = inl (subst (λ (t : FileState). StateOf (slice_index r 23) p t) h (state_read p (slice_index r 23) st e))
       state (inr h) = inr (subst (λ (t : FileState). StateOf (slice_index r 23) p t) h (state_read p (slice_index r 23) st e))
 
   dead : 24 ≤ length r → (st : FileState) → state_of p (slice_index r 23) ≡ Some st → (st ≡ states.HeaderValid) ⊎ (st ≡ states.Deleted)
-      → ((head : FileHead) → cell_for st at head r ≡ Dead at (up_to_8 head.size)) → cell_with st at r (file_verdict s st at r) ≡ Ok c → Stands s p at c r
+      → ((head : FileHead) → cell_for st at head r ≡ Dead at (up_to_8 head.size)) → cell_with st at r (file_verdict s st at r) ≡ Ok c → CellStandsAt s p at c r
   dead long st e which form v =
       let k = with_ok st at r (file_verdict s st at r) c v in
       let f = file_ok s p st at r k.0 long (state_read p (slice_index r 23) st e) k.1 in
-      let same : Dead at (up_to_8 (size_at r)) ≡ c = ap (λ (h : FileHead). Dead at (up_to_8 h.size)) f.1 ∙ sym (form k.0) ∙ k.2 in
-      subst (λ (d : CellForm). Stands s p at d r) same (dead_stands s p st at r even which f.0)
+      let same : Dead at (up_to_8 (file_size_at r)) ≡ c = ap (λ (h : FileHead). Dead at (up_to_8 h.size)) f.1 ∙ sym (form k.0) ∙ k.2 in
+      subst (λ (d : CellForm). CellStandsAt s p at d r) same (dead_stands s p st at r even which f.0)
 
   alive : 24 ≤ length r → (st : FileState) → state_of p (slice_index r 23) ≡ Some st → is_alive st ≡ true
       → ((head : FileHead) → cell_for st at head r ≡ (if head.kind == pad_kind then Pad at head (payload_at r) else Valid at head (payload_at r)))
-      → cell_with st at r (file_verdict s st at r) ≡ Ok c → Stands s p at c r
+      → cell_with st at r (file_verdict s st at r) ≡ Ok c → CellStandsAt s p at c r
   alive long st e which form v =
       let k = with_ok st at r (file_verdict s st at r) c v in
       let f = file_ok s p st at r k.0 long (state_read p (slice_index r 23) st e) k.1 in
@@ -175,11 +175,11 @@ verdict_stands s p at r c even is = go (nat_lt (length r) 24) refl (state_of p (
       kind (slice_index r 18 == pad_kind) refl f.0 same
     where
       kind : (t : Bool) → (slice_index r 18 == pad_kind) ≡ t → FileAt s p st r
-          → (if slice_index r 18 == pad_kind then Pad at (head_in st r) (payload_at r) else Valid at (head_in st r) (payload_at r)) ≡ c → Stands s p at c r
-      kind true t f same = subst (λ (d : CellForm). Stands s p at d r) (sym (if_true _ _ _ t) ∙ same) (pad_stands s p st at r even which (eqb-true _ _ t) f)
-      kind false t f same = subst (λ (d : CellForm). Stands s p at d r) (sym (if_false _ _ _ t) ∙ same) (valid_stands s p st at r even which t f)
+          → (if slice_index r 18 == pad_kind then Pad at (head_in st r) (payload_at r) else Valid at (head_in st r) (payload_at r)) ≡ c → CellStandsAt s p at c r
+      kind true t f same = subst (λ (d : CellForm). CellStandsAt s p at d r) (sym (if_true _ _ _ t) ∙ same) (pad_stands s p st at r even which (eqb-true _ _ t) f)
+      kind false t f same = subst (λ (d : CellForm). CellStandsAt s p at d r) (sym (if_false _ _ _ t) ∙ same) (valid_stands s p st at r even which t f)
 
-  cell : (o : Option FileState) → 24 ≤ length r → state_of p (slice_index r 23) ≡ o → state_verdict o s p at r ≡ Ok c → Stands s p at c r
+  cell : (o : Option FileState) → 24 ≤ length r → state_of p (slice_index r 23) ≡ o → state_verdict o s p at r ≡ Ok c → CellStandsAt s p at c r
   cell None long e v = cc
   cell (Some states.Free) long e v = cc
   cell (Some states.Construction) long e v = stub long states.Construction e (inl refl) v
@@ -189,7 +189,7 @@ verdict_stands s p at r c even is = go (nat_lt (length r) 24) refl (state_of p (
   cell (Some states.DataValid) long e v = alive long states.DataValid e refl (λ head. refl) v
   cell (Some states.Marked) long e v = alive long states.Marked e refl (λ head. refl) v
 
-  go : (t : Bool) → nat_lt (length r) 24 ≡ t → (o : Option FileState) → state_of p (slice_index r 23) ≡ o → Stands s p at c r
+  go : (t : Bool) → nat_lt (length r) 24 ≡ t → (o : Option FileState) → state_of p (slice_index r 23) ≡ o → CellStandsAt s p at c r
   go true l o e =
       absurd (not_both (cell_verdict s p at r) (stray p at r) c (if_true _ (Err (stray p at r)) (state_verdict (state_of p (slice_index r 23)) s p at r) l) is)
   go false l o e =
@@ -262,7 +262,7 @@ dead_reads s p at head payload u w filled dead =
     never st (inr h) a = let t : is_alive states.Deleted ≡ true = subst (λ (u : FileState). is_alive u ≡ true) h a in absurd cc
 
 stub_reads : (s : FileSystem) (p : Polarity) (at : ℕ) (u w : List ℕ) → (StateOf (slice_index u 23) p states.Construction ⊎ StateOf (slice_index u 23) p states.HeaderInvalid)
-    → length u ≡ header_len_of (is_large (slice_index u 19)) → cell_verdict s p at (u ++ w) ≡ Ok (Stub at (length u))
+    → length u ≡ file_header_len (is_large (slice_index u 19)) → cell_verdict s p at (u ++ w) ≡ Ok (Stub at (length u))
 stub_reads s p at u w state len = go state where
   low : 24 ≤ length u
   low = omega (arith, len, header_least (is_large (slice_index u 19)))
@@ -273,13 +273,13 @@ stub_reads s p at u w state len = go state where
   e23 : slice_index (u ++ w) 23 ≡ slice_index u 23
   e23 = get_or-append u w 0 23 (omega (arith, low))
 
-  n : header_len_at (u ++ w) ≡ length u
-  n = ap (λ (k : ℕ). header_len_of (is_large k)) e19 ∙ sym len
+  n : file_header_len_at (u ++ w) ≡ length u
+  n = ap (λ (k : ℕ). file_header_len (is_large k)) e19 ∙ sym len
 
   verdict : stub_verdict at (u ++ w) ≡ Ok (Stub at (length u))
   verdict =
-      verdict_none (first_fault (stub_checks at (u ++ w))) (Stub at (header_len_at (u ++ w)))
-      (if_true _ _ _ (le-leb (header_len_at (u ++ w)) (length (u ++ w)) (omega (arith, n, length-append u w))))
+      verdict_none (first_fault (stub_checks at (u ++ w))) (Stub at (file_header_len_at (u ++ w)))
+      (if_true _ _ _ (le-leb (file_header_len_at (u ++ w)) (length (u ++ w)) (omega (arith, n, length-append u w))))
       ∙ ap (λ (k : ℕ). ok (Stub at k)) n
 
   go : StateOf (slice_index u 23) p states.Construction ⊎ StateOf (slice_index u 23) p states.HeaderInvalid → cell_verdict s p at (u ++ w) ≡ Ok (Stub at (length u))
@@ -309,7 +309,7 @@ cell_reads s p (Free at len) u w is f = cc
 
 -- ---- one cell at a place
 
-pub cell_span : (s : FileSystem) (p : Polarity) (c : CellForm) (u : List ℕ) → IsCell s p c u → span c ≡ length u
+pub cell_span : (s : FileSystem) (p : Polarity) (c : CellForm) (u : List ℕ) → IsCell s p c u → cell_len c ≡ length u
 cell_span s p (Valid at head payload) u is = filled_span s p head payload u is.0
 cell_span s p (Pad at head payload) u is = filled_span s p head payload u is.0
 cell_span s p (Dead at len) u is = is.4
@@ -358,7 +358,7 @@ one_cell s p c d u v w z is is' o last last' e = go (is_free c) refl (is_free d)
         let a = cell_reads s p c u w is f in
         let b : cell_verdict s p (offset_of c) (u ++ w) ≡ Ok d = subst (λ k. cell_verdict s p k (u ++ w) ≡ Ok d) (sym o) (subst (λ r. cell_verdict s p (offset_of d) r ≡ Ok d) (sym e) (cell_reads s p d v z is' g)) in
         let same : c ≡ d = same_ok _ _ _ a b in
-        (same, sym (cell_span s p c u is) ∙ ap span same ∙ cell_span s p d v is')
+        (same, sym (cell_span s p c u is) ∙ ap cell_len same ∙ cell_span s p d v is')
     go true f false g =
         let all = subst (λ r. AllAre (erased_byte p) r) (sym (append-nil u) ∙ ap (λ l. u ++ l) (sym (last f)) ∙ e) (free_all s p c u is f).1 in
         absurd (erased_refused s p (offset_of d) (v ++ z) d all (cell_reads s p d v z is' g))
@@ -391,8 +391,8 @@ state_err : (s : FileSystem) (p : Polarity) (o : Option FileState) (at : ℕ) (r
     → state_verdict o s p at r ≡ Err f → first_fault (state_checks o s at r) ≡ Some f
 state_err s p None at r f free e = cc
 state_err s p (Some states.Free) at r f free e = absurd (free refl)
-state_err s p (Some states.Construction) at r f free e = verdict_err (first_fault (stub_checks at r)) (Stub at (header_len_at r)) f e
-state_err s p (Some states.HeaderInvalid) at r f free e = verdict_err (first_fault (stub_checks at r)) (Stub at (header_len_at r)) f e
+state_err s p (Some states.Construction) at r f free e = verdict_err (first_fault (stub_checks at r)) (Stub at (file_header_len_at r)) f e
+state_err s p (Some states.HeaderInvalid) at r f free e = verdict_err (first_fault (stub_checks at r)) (Stub at (file_header_len_at r)) f e
 state_err s p (Some states.HeaderValid) at r f free e = file_err s states.HeaderValid at r f (with_err states.HeaderValid at r _ f e)
 state_err s p (Some states.DataValid) at r f free e = file_err s states.DataValid at r f (with_err states.DataValid at r _ f e)
 state_err s p (Some states.Marked) at r f free e = file_err s states.Marked at r f (with_err states.Marked at r _ f e)
@@ -452,8 +452,8 @@ file_none s st at r k = (verdict_ok (first_fault (file_checks s (is_alive st) at
 state_none : (s : FileSystem) (p : Polarity) (o : Option FileState) (at : ℕ) (r : List ℕ) (c : CellForm) → state_verdict o s p at r ≡ Ok c → first_fault (state_checks o s at r) ≡ None
 state_none s p None at r c e = cc
 state_none s p (Some states.Free) at r c e = refl
-state_none s p (Some states.Construction) at r c e = (verdict_ok (first_fault (stub_checks at r)) (Stub at (header_len_at r)) c e).0
-state_none s p (Some states.HeaderInvalid) at r c e = (verdict_ok (first_fault (stub_checks at r)) (Stub at (header_len_at r)) c e).0
+state_none s p (Some states.Construction) at r c e = (verdict_ok (first_fault (stub_checks at r)) (Stub at (file_header_len_at r)) c e).0
+state_none s p (Some states.HeaderInvalid) at r c e = (verdict_ok (first_fault (stub_checks at r)) (Stub at (file_header_len_at r)) c e).0
 state_none s p (Some states.HeaderValid) at r c e = file_none s states.HeaderValid at r (with_ok states.HeaderValid at r _ c e)
 state_none s p (Some states.DataValid) at r c e = file_none s states.DataValid at r (with_ok states.DataValid at r _ c e)
 state_none s p (Some states.Marked) at r c e = file_none s states.Marked at r (with_ok states.Marked at r _ c e)

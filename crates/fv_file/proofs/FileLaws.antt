@@ -12,7 +12,7 @@ use Rattle.fv_base.proofs.FieldLemmas.{bytes_take, bytes_drop}
 use Rattle.fv_base.proofs.NumberLaws.{le_below, bytes_front, bytes_back}
 use Rattle.fv_file.specs.Attributes.{attribute_bits, is_large, is_fixed}
 use Rattle.fv_file.specs.Cells.{IsCell, IsFilled, Valid}
-use Rattle.fv_file.specs.Files.{header_len_of, size_in, pad_kind}
+use Rattle.fv_file.specs.Files.{file_header_len, file_size_in, pad_kind}
 use Rattle.fv_file.specs.declared.head.FileHead.{FileHead}
 use Rattle.fv_file.proofs.FileLemmas.{header_least}
 
@@ -45,7 +45,7 @@ short_limit s p head payload b bytes h two =
       clash : Ffs2 ≡ Ffs3 → ⊥
       clash e = cc
 
-    by_form : (large : Bool) (n : ℕ) (h : List ℕ) → n ≡ size_in large h → length h ≡ header_len_of large → (large ≡ true → ⊥) → IsBytes h
+    by_form : (large : Bool) (n : ℕ) (h : List ℕ) → n ≡ file_size_in large h → length h ≡ file_header_len large → (large ≡ true → ⊥) → IsBytes h
         → n < 16777216
     by_form true n h e l none f = absurd (none refl)
     by_form false n h e l none f = subst (λ (k : ℕ). k < 16777216) (sym e) (short_size h l f) where
@@ -78,9 +78,9 @@ cell_read system p at head payload x small (filled, alive, sound) =
     let bits : attribute_bits head.attributes ≡ slice_index h 19 = ap (λ (g : FileHead). attribute_bits g.attributes) is.fields in
     let named : bytes_of head.name ≡ take 16 h = ap (λ (g : FileHead). bytes_of g.name) is.fields in
     let kinds : head.kind ≡ slice_index h 18 = ap (λ (g : FileHead). g.kind) is.fields in
-    let sizes : head.size ≡ size_in (is_large (slice_index h 19)) h = ap (λ (g : FileHead). g.size) is.fields in
-    let least : 24 ≤ header_len_of (is_large (slice_index h 19)) = header_least (is_large (slice_index h 19)) in
-    let long : length h ≡ header_len_of (is_large (slice_index h 19)) = is.whole in
+    let sizes : head.size ≡ file_size_in (is_large (slice_index h 19)) h = ap (λ (g : FileHead). g.size) is.fields in
+    let least : 24 ≤ file_header_len (is_large (slice_index h 19)) = header_least (is_large (slice_index h 19)) in
+    let long : length h ≡ file_header_len (is_large (slice_index h 19)) = is.whole in
     let whole : length filled.file ≡ length h + length payload = ap length filled.is_file.text ∙ length-append h payload in
     let all : length x ≡ length filled.file + length filled.filler = ap length filled.text ∙ length-append filled.file filled.filler in
     record {
@@ -93,7 +93,7 @@ cell_read system p at head payload x small (filled, alive, sound) =
       large = λ e. (is.large (ap is_large (sym bits) ∙ e)).0;
       short = λ e. small_file (length payload) h hb head.size (length filled.file) filled.is_file.size whole
           (is_large (slice_index h 19)) (ap is_large (sym bits) ∙ e) sizes long;
-      within = inside (length h) (header_len_of (is_large (slice_index h 19))) (length payload) (length filled.file)
+      within = inside (length h) (file_header_len (is_large (slice_index h 19))) (length payload) (length filled.file)
           (length filled.filler) (length x) least long whole all;
       payload = bytes_back h payload parts;
     }
@@ -102,7 +102,7 @@ cell_read system p at head payload x small (filled, alive, sound) =
     inside a l n f g x p q r s = omega arith
 
     small_file : (n : ℕ) (h : List ℕ) → IsBytes h → (size f : ℕ) → size ≡ f → f ≡ length h + n → (l : Bool) → l ≡ false
-        → size ≡ size_in l h → length h ≡ header_len_of l → 24 + n < 16777216
+        → size ≡ file_size_in l h → length h ≡ file_header_len l → 24 + n < 16777216
     small_file n h hb size f e g true short sizes long = cc
     small_file n h hb size f e g false short sizes long =
         let three : length (field 20 3 h) ≡ 3 = length-take-le 3 (drop 20 h) (omega (arith, length-drop 20 h, long)) in

@@ -14,26 +14,26 @@ use Rattle.fv_base.specs.declared.flash.Polarity.{Polarity}
 use Rattle.fv_base.proofs.CheckLemmas.{and_split, and_join, all_hold, none_faulty, verdict_ok, verdict_err, verdict_none}
 use Rattle.fv_base.proofs.FieldLemmas.{field-take, field-append_front}
 use Rattle.fv_file.specs.Attributes.{attribute_bits, is_large, is_fixed}
-use Rattle.fv_file.specs.FileChecks.{may_be_large, has_header_sum, is_passed, allows_large, attributes_at, header_len_at, size_at, payload_at, has_size, has_file_sum, file_checks}
-use Rattle.fv_file.specs.Files.{pad_kind, header_len_of, size_in, head_in, header_sum_of, file_sum_right, IsFile, IsSound}
-use Rattle.fv_file.specs.Reading.{file_verdict}
+use Rattle.fv_file.specs.FileChecks.{may_be_large, has_header_sum, skips_data, allows_large, attributes_at, file_header_len_at, file_size_at, payload_at, has_file_size, has_file_sum, file_checks}
+use Rattle.fv_file.specs.Files.{pad_kind, file_header_len, file_size_in, head_in, header_sum_of, file_sum_right, IsFile, IsSound}
+use Rattle.fv_file.specs.CellVerdicts.{file_verdict}
 use Rattle.fv_file.specs.States.{StateOf, is_alive}
 use Rattle.fv_file.specs.declared.head.FileHead.{FileHead}
 use Rattle.fv_file.specs.declared.state.FileState.{FileState}
 
-pub header_least : (large : Bool) → 24 ≤ header_len_of large
+pub header_least : (large : Bool) → 24 ≤ file_header_len large
 header_least false = omega arith
 header_least true = omega arith
 
 pub front_byte : (k : ℕ) (h y : List ℕ) → k < length h → slice_index (h ++ y) k ≡ slice_index h k
 front_byte k h y l = get_or-append h y 0 k l
 
-front_size : (large : Bool) (h y : List ℕ) → length h ≡ header_len_of large → size_in large (h ++ y) ≡ size_in large h
+front_size : (large : Bool) (h y : List ℕ) → length h ≡ file_header_len large → file_size_in large (h ++ y) ≡ file_size_in large h
 front_size false h y l = ap le (field-append_front 20 3 h y (omega arith))
 front_size true h y l = ap le (field-append_front 24 8 h y (omega arith))
 
 -- the header alone shows the fields
-pub front_head : (st : FileState) (h y : List ℕ) → length h ≡ header_len_at h → head_in st (h ++ y) ≡ head_in st h
+pub front_head : (st : FileState) (h y : List ℕ) → length h ≡ file_header_len_at h → head_in st (h ++ y) ≡ head_in st h
 front_head st h y l =
     let n = header_least (is_large (slice_index h 19)) in
     let e16 = front_byte 16 h y (omega (arith, n, l)) in
@@ -41,26 +41,26 @@ front_head st h y l =
     let e18 = front_byte 18 h y (omega (arith, n, l)) in
     let e19 = front_byte 19 h y (omega (arith, n, l)) in
     let name : take 16 (h ++ y) ≡ take 16 h = take-append-le 16 h y (omega (arith, n, l)) in
-    let size : size_in (is_large (slice_index h 19)) (h ++ y) ≡ size_in (is_large (slice_index h 19)) h = front_size (is_large (slice_index h 19)) h y l in
+    let size : file_size_in (is_large (slice_index h 19)) (h ++ y) ≡ file_size_in (is_large (slice_index h 19)) h = front_size (is_large (slice_index h 19)) h y l in
     rw (e19, e16, e17, e18, name, size) refl
 
 -- ---- from the checks to the file
 
 -- the file of the state that begins the bytes, which are checked
 pub record FileAt (system : FileSystem) (polarity : Polarity) (state : FileState) (r : List ℕ) : Type 0 where
-  pub least : header_len_at r ≤ size_at r
-  pub within : size_at r ≤ length r
-  pub is_file : IsFile system polarity (head_in state r) (payload_at r) (take (size_at r) r)
+  pub least : file_header_len_at r ≤ file_size_at r
+  pub within : file_size_at r ≤ length r
+  pub is_file : IsFile system polarity (head_in state r) (payload_at r) (take (file_size_at r) r)
   pub sound : is_alive state ≡ true → (slice_index r 18 == pad_kind) ≡ false → IsSound (head_in state r) (payload_at r)
 
 -- the checks of a file, each by the name of what it is of
 record Checked (system : FileSystem) (alive : Bool) (r : List ℕ) : Type 0 where
   pub large : may_be_large system r ≡ true
-  pub header_within : nat_le (header_len_at r) (length r) ≡ true
+  pub header_within : nat_le (file_header_len_at r) (length r) ≡ true
   pub header_sum : has_header_sum r ≡ true
-  pub size : has_size r ≡ true
-  pub fixed : (is_passed alive r || not (is_fixed (attributes_at r))) ≡ true
-  pub file_sum : (is_passed alive r || has_file_sum r) ≡ true
+  pub size : has_file_size r ≡ true
+  pub fixed : (skips_data alive r || not (is_fixed (attributes_at r))) ≡ true
+  pub file_sum : (skips_data alive r || has_file_sum r) ≡ true
 
 checked : (system : FileSystem) (alive : Bool) (at : ℕ) (r : List ℕ) → AllHold (file_checks system alive at r) → Checked system alive r
 checked system alive at r (large, (header, (header_sum, (size, (fixed, (file_sum, none)))))) = record {
@@ -93,23 +93,23 @@ not_true false h = refl
 pub file_at : (s : FileSystem) (p : Polarity) (st : FileState) (at : ℕ) (r : List ℕ) → 24 ≤ length r → StateOf (slice_index r 23) p st
     → AllHold (file_checks s (is_alive st) at r) → FileAt s p st r
 file_at s p st at r long state all =
-    let n : ℕ = header_len_at r in
+    let n : ℕ = file_header_len_at r in
     let h : List ℕ = take n r in
     let holds = checked s (is_alive st) at r all in
     let low : 24 ≤ n = header_least (is_large (attributes_at r)) in
     let whole : n ≤ length r = leb-true _ _ holds.header_within in
     let sizes = and_split _ _ holds.size in
     let sizes' = and_split _ _ sizes.1 in
-    let least : n ≤ size_at r = leb-true _ _ sizes.0 in
-    let within : size_at r ≤ length r = leb-true _ _ sizes'.0 in
+    let least : n ≤ file_size_at r = leb-true _ _ sizes.0 in
+    let within : file_size_at r ≤ length r = leb-true _ _ sizes'.0 in
     let len : length h ≡ n = length-take-le n r whole in
     let e19 : slice_index h 19 ≡ slice_index r 19 = get_or-take n r 19 0 (omega (arith, low)) in
     let e23 : slice_index h 23 ≡ slice_index r 23 = get_or-take n r 23 0 (omega (arith, low)) in
-    let header_len : length h ≡ header_len_at h = len ∙ ap (λ (k : ℕ). header_len_of (is_large k)) (sym e19) in
+    let header_len : length h ≡ file_header_len_at h = len ∙ ap (λ (k : ℕ). file_header_len (is_large k)) (sym e19) in
     let joined : h ++ drop n r ≡ r = take-append-drop n r in
     let fields : head_in st r ≡ head_in st h = ap (head_in st) (sym joined) ∙ front_head st h (drop n r) header_len in
     let size_field : le_at 20 3 h ≡ le_at 20 3 r = ap le (field-take 20 3 n r (omega (arith, low))) in
-    let split : take (size_at r) r ≡ h ++ payload_at r = ap (λ (k : ℕ). take k r) (parts (size_at r) n least) ∙ take-add n (size_at r - n) r in
+    let split : take (file_size_at r) r ≡ h ++ payload_at r = ap (λ (k : ℕ). take k r) (parts (file_size_at r) n least) ∙ take-add n (file_size_at r - n) r in
     record {
       least = least;
       within = within;
@@ -127,7 +127,7 @@ file_at s p st at r long state all =
               );
           sum = eqb-true _ _ holds.header_sum;
         };
-        size = sym (length-take-le (size_at r) r within);
+        size = sym (length-take-le (file_size_at r) r within);
       };
       sound = λ alive pad. record {
         kind = eqb-false (slice_index r 18) pad_kind pad;
@@ -147,9 +147,9 @@ pub record ReadsFile (system : FileSystem) (polarity : Polarity) (head : FileHea
   pub long : 24 ≤ length r
   pub state : StateOf (slice_index r 23) polarity head.state
   pub fields : head_in head.state r ≡ head
-  pub size : size_at r ≡ length file
+  pub size : file_size_at r ≡ length file
   pub payload_is : payload_at r ≡ payload
-  pub header_len : header_len_at r ≤ length r
+  pub header_len : file_header_len_at r ≤ length r
   pub checks : (at : ℕ) → (is_alive head.state ≡ true → (head.kind ≡ pad_kind) ⊎ IsSound head payload) → AllHold (file_checks system (is_alive head.state) at r)
 
 large_may : (s : FileSystem) (large : Bool) → (large ≡ true → s ≡ Ffs3) → (not large || allows_large s) ≡ true
@@ -185,19 +185,19 @@ file_reads s p head payload file w is =
     let fields : head_in head.state r ≡ head = ap (head_in head.state) e ∙ front_head head.state h y is.is_header.whole ∙ sym is.is_header.fields in
     let e19 : slice_index r 19 ≡ slice_index h 19 = ap (λ (x : List ℕ). slice_index x 19) e ∙ front_byte 19 h y (omega (arith, low)) in
     let e23 : slice_index r 23 ≡ slice_index h 23 = ap (λ (x : List ℕ). slice_index x 23) e ∙ front_byte 23 h y (omega (arith, low)) in
-    let len : header_len_at r ≡ length h = ap (λ (k : ℕ). header_len_of (is_large k)) e19 ∙ sym is.is_header.whole in
-    let size : size_at r ≡ length file = ap (λ (f : FileHead). f.size) fields ∙ is.size in
+    let len : file_header_len_at r ≡ length h = ap (λ (k : ℕ). file_header_len (is_large k)) e19 ∙ sym is.is_header.whole in
+    let size : file_size_at r ≡ length file = ap (λ (f : FileHead). f.size) fields ∙ is.size in
     let length_file : length file ≡ length h + length payload = ap length is.text ∙ length-append h payload in
     let length_r : length r ≡ length file + length w = length-append file w in
-    let front : take (header_len_at r) r ≡ h = ap (take (header_len_at r)) e ∙ take_at h y (header_len_at r) (sym len) in
-    let behind : drop (header_len_at r) r ≡ y = ap (drop (header_len_at r)) e ∙ drop_at h y (header_len_at r) (sym len) in
-    let payload_len : size_at r - header_len_at r ≡ length payload = omega (arith, size, len, length_file) in
-    let payload_is : payload_at r ≡ payload = ap (take (size_at r - header_len_at r)) behind ∙ take_at payload w (size_at r - header_len_at r) (sym payload_len) in
+    let front : take (file_header_len_at r) r ≡ h = ap (take (file_header_len_at r)) e ∙ take_at h y (file_header_len_at r) (sym len) in
+    let behind : drop (file_header_len_at r) r ≡ y = ap (drop (file_header_len_at r)) e ∙ drop_at h y (file_header_len_at r) (sym len) in
+    let payload_len : file_size_at r - file_header_len_at r ≡ length payload = omega (arith, size, len, length_file) in
+    let payload_is : payload_at r ≡ payload = ap (take (file_size_at r - file_header_len_at r)) behind ∙ take_at payload w (file_size_at r - file_header_len_at r) (sym payload_len) in
     let size_field : le_at 20 3 r ≡ le_at 20 3 h = ap (λ (x : List ℕ). le_at 20 3 x) e ∙ ap le (field-append_front 20 3 h y (omega (arith, low))) in
     let big : is_large (slice_index r 19) ≡ is_large (slice_index h 19) = ap is_large e19 in
-    let sizes : has_size r ≡ true =
-    and_join _ _ (le-leb (header_len_at r) (size_at r) (omega (arith, len, size, length_file)))
-    (and_join _ _ (le-leb (size_at r) (length r) (omega (arith, size, length_r))) (zero_if (is_large (slice_index r 19)) (le_at 20 3 r) (λ l. size_field ∙ (is.is_header.large (sym big ∙ l)).1))) in
+    let sizes : has_file_size r ≡ true =
+    and_join _ _ (le-leb (file_header_len_at r) (file_size_at r) (omega (arith, len, size, length_file)))
+    (and_join _ _ (le-leb (file_size_at r) (length r) (omega (arith, size, length_r))) (zero_if (is_large (slice_index r 19)) (le_at 20 3 r) (λ l. size_field ∙ (is.is_header.large (sym big ∙ l)).1))) in
     record {
       long = omega (arith, low, length_file, length_r);
       state = subst (λ (k : ℕ). StateOf k p head.state) (sym e23) is.is_header.state;
@@ -208,9 +208,9 @@ file_reads s p head payload file w is =
       checks = λ at content. (
         large_may s (is_large (slice_index r 19)) (λ l. (is.is_header.large (sym big ∙ l)).0),
         (
-          le-leb (header_len_at r) (length r) (omega (arith, len, length_file, length_r)),
+          le-leb (file_header_len_at r) (length r) (omega (arith, len, length_file, length_r)),
           (
-            eq-eqb (header_sum_of (take (header_len_at r) r)) 0 (ap header_sum_of front ∙ is.is_header.sum),
+            eq-eqb (header_sum_of (take (file_header_len_at r) r)) 0 (ap header_sum_of front ∙ is.is_header.sum),
             (
               sizes,
               (

@@ -5,8 +5,8 @@ use Rattle.fv_base.specs.Value.{IsBytes, le_bytes}
 use Rattle.fv_base.specs.declared.flash.Polarity.{Polarity}
 use Rattle.fv_base.specs.declared.flash.Polarity.TheVariants.{Ones, Zeros}
 use Rattle.fv_base.proofs.FieldLemmas.{bytes_append, bytes_cons, bytes_le_bytes, none_at}
-use Rattle.fv_file.specs.Files.{header_len_of}
-use Rattle.fv_file.specs.Written.{complement, header_with, header_bytes, state_byte}
+use Rattle.fv_file.specs.Files.{file_header_len}
+use Rattle.fv_file.specs.NewHeaders.{complement, header_with, header_bytes, state_byte}
 use Rattle.fv_file.proofs.WrittenLemmas.{complement_small}
 
 pub state_small : (p : Polarity) → state_byte p < 256
@@ -36,7 +36,7 @@ bytes_header file_sum name kind attributes size large state n f k a s =
         (front c (le_bytes 3 size) l (bytes_le_bytes 3 size)) none_at
 
 pub length-header : (file_sum : ℕ) (name : List ℕ) (kind attributes size : ℕ) (large : Bool) (state : ℕ) → length name ≡ 16
-    → length (header_bytes file_sum name kind attributes size large state) ≡ header_len_of large
+    → length (header_bytes file_sum name kind attributes size large state) ≡ file_header_len large
 unfolding header_bytes
 length-header file_sum name kind attributes size large state n =
     parts large (complement (sum (header_with 0 0 name kind attributes size large 0)))
@@ -51,7 +51,7 @@ length-header file_sum name kind attributes size large state n =
         joined (length (name ++ sums ++ x ++ (state ∷ []))) (length (name ++ sums ++ x)) (length (name ++ sums)) (length x) (length name) k
         (length-append (name ++ sums ++ x) (state ∷ [])) (length-append (name ++ sums) x) (length-append name sums) n e
 
-    parts : (large : Bool) (c : ℕ) → length (header_with c file_sum name kind attributes size large state) ≡ header_len_of large
+    parts : (large : Bool) (c : ℕ) → length (header_with c file_sum name kind attributes size large state) ≡ file_header_len large
     parts true c = length-append (name ++ (c ∷ file_sum ∷ kind ∷ attributes ∷ []) ++ le_bytes 3 0 ++ (state ∷ [])) (le_bytes 8 size)
         ∙ ap (λ (n : ℕ). n + 8) (front c (le_bytes 3 0) 3 refl)
     parts false c = length-append (name ++ (c ∷ file_sum ∷ kind ∷ attributes ∷ []) ++ le_bytes 3 size ++ (state ∷ [])) []

@@ -8,7 +8,7 @@ use Rattle.fv_base.specs.declared.flash.FileSystem.{FileSystem}
 use Rattle.fv_base.specs.declared.flash.Polarity.{Polarity}
 use Rattle.fv_base.proofs.FieldLemmas.{field-append_front}
 use Rattle.fv_base.proofs.NumberLaws.{bytes_front, bytes_back}
-use Rattle.fv_file.specs.Cells.{CellForm, Valid, Pad, Dead, Stub, Free, IsCell, IsFilled, Tiles, NoneFree, AllWithin, offset_of, span}
+use Rattle.fv_file.specs.Cells.{CellForm, Valid, Pad, Dead, Stub, Free, IsCell, IsFilled, Tiles, NoneFree, CellsWithin, offset_of, cell_len}
 use Rattle.fv_file.specs.declared.head.FileHead.{FileHead}
 use Rattle.fv_file.proofs.CellLemmas.{cell_span, made_up, not_empty}
 use Rattle.fv_file.proofs.FileLaws.{FileRead, cell_read, payload_behind}
@@ -51,9 +51,9 @@ filled_payload : (s : FileSystem) (p : Polarity) (head : FileHead) (payload x re
     → drop at volume ≡ x ++ rest → IsFilled s p head payload x → place ≡ at
     → up_to_8 head.size ≡ length x → head.header_len + length payload ≡ head.size
     → payload ≡ take (head.size - head.header_len) (drop (place + head.header_len) volume)
-filled_payload s p head payload x rest volume at place e filled o span made =
+filled_payload s p head payload x rest volume at place e filled o cell_len made =
     let n : ℕ = head.size - head.header_len in
-    let inside : head.header_len + n ≤ length x = within head.header_len (length payload) head.size (length x) made span in
+    let inside : head.header_len + n ≤ length x = within head.header_len (length payload) head.size (length x) made cell_len in
     payload_behind s p head payload x filled
     ∙ (sym (field-append_front head.header_len n x rest inside)
     ∙ ap (take n) (ap (drop head.header_len) (sym e)
@@ -134,8 +134,8 @@ tiles_read system p limit at (c ∷ cs) b small most (x, rest, text, is, o, free
 
 -- ---- by index
 
-pub within_index : (end : ℕ) (cs : List CellForm) (i : ℕ) (d : CellForm) → AllWithin end cs → i < length cs
-    → offset_of (get_or cs i d) + span (get_or cs i d) ≤ end
+pub within_index : (end : ℕ) (cs : List CellForm) (i : ℕ) (d : CellForm) → CellsWithin end cs → i < length cs
+    → offset_of (get_or cs i d) + cell_len (get_or cs i d) ≤ end
 within_index end [] i d all l = omega arith
 within_index end (c ∷ cs) zero d all l = all.0
 within_index end (c ∷ cs) (suc i) d all l = within_index end cs i d all.2 (omega arith)

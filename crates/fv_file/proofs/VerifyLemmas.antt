@@ -9,9 +9,9 @@ use Rattle.fv_base.specs.declared.fault.Fault.{Fault}
 use Rattle.fv_base.specs.declared.fault.FaultKind.TheVariants as kinds
 use Rattle.fv_base.specs.declared.flash.FileSystem.{FileSystem}
 use Rattle.fv_base.specs.declared.flash.Polarity.{Polarity}
-use Rattle.fv_file.specs.FileChecks.{size_at, payload_at, file_checks, stands, verify_checks}
+use Rattle.fv_file.specs.FileChecks.{file_size_at, payload_at, file_checks, is_standing, verify_checks}
 use Rattle.fv_file.specs.Files.{pad_kind, head_in, IsSound, BeginsFile}
-use Rattle.fv_file.specs.Reading.{file_verdict, standing_verdict, verify_verdict}
+use Rattle.fv_file.specs.CellVerdicts.{file_verdict, standing_verdict, verify_verdict}
 use Rattle.fv_file.specs.States.{state_of, is_alive}
 use Rattle.fv_file.specs.declared.head.FileHead.{FileHead}
 use Rattle.fv_file.specs.declared.state.FileState.{FileState}
@@ -33,10 +33,10 @@ begins_at : (s : FileSystem) (p : Polarity) (st : FileState) (b : List ℕ) (hea
 begins_at s p st b head long state alive is =
     let f = file_ok s p st 0 b head long (state_read p (slice_index b 23) st state) is in
     subst (λ (h : FileHead). BeginsFile s p h b) f.1 (record {
-      file = take (size_at b) b;
+      file = take (file_size_at b) b;
       payload = payload_at b;
-      behind = drop (size_at b) b;
-      text = sym (take-append-drop (size_at b) b);
+      behind = drop (file_size_at b) b;
+      text = sym (take-append-drop (file_size_at b) b);
       is_file = f.0.is_file;
       alive = alive;
       content = content (slice_index b 18 == pad_kind) refl f.0;
@@ -87,7 +87,7 @@ begins_only s p b head begins =
 pub begins_first : (s : FileSystem) (p : Polarity) (b : List ℕ) (f : Fault) → verify_verdict s p b ≡ Err f → first_fault (verify_checks s p b) ≡ Some f
 begins_first s p b f is = go (nat_lt (length b) 24) refl (state_of p (slice_index b 23)) refl where
   behind : (o : Option FileState) → state_of p (slice_index b 23) ≡ o → standing_verdict o s b ≡ Err f
-      → (if stands o then first_fault (file_checks s true 0 b) else Some (outer_fault kinds.FileState 23)) ≡ Some f
+      → (if is_standing o then first_fault (file_checks s true 0 b) else Some (outer_fault kinds.FileState 23)) ≡ Some f
   behind None e is = cc
   behind (Some states.Free) e is = cc
   behind (Some states.Construction) e is = cc
@@ -103,7 +103,7 @@ begins_first s p b f is = go (nat_lt (length b) 24) refl (state_of p (slice_inde
       if_false _ _ (Some (outer_fault kinds.FileSize 20)) (not_at_most 24 (length b) (ltb-true (length b) 24 l)) ∙ same_fault (outer_fault kinds.FileSize 20) f r
   go false l o e =
       if_true _ _ (Some (outer_fault kinds.FileSize 20)) (le-leb 24 (length b) (ltb-false (length b) 24 l))
-      ∙ ap (λ (q : Option FileState). if stands q then first_fault (file_checks s true 0 b) else Some (outer_fault kinds.FileState 23)) e
+      ∙ ap (λ (q : Option FileState). if is_standing q then first_fault (file_checks s true 0 b) else Some (outer_fault kinds.FileState 23)) e
       ∙ behind o e (ap (λ (q : Option FileState). standing_verdict q s b) (sym e) ∙ sym (if_false _ (Err (outer_fault kinds.FileSize 20)) (standing_verdict (state_of p (slice_index b 23)) s b) l) ∙ is)
 
 -- ---- what is answered

@@ -18,10 +18,10 @@ use Rattle.fv_base.specs.declared.guid.Guid.{Guid}
 use Rattle.fv_base.proofs.FieldLemmas.{field_is, le-le_bytes}
 use Rattle.fv_file.specs.Attributes.{attribute_bits, is_large}
 use Rattle.fv_file.specs.Cells.{IsFilled}
-use Rattle.fv_file.specs.Files.{header_len_of, head_in, header_sum_of, pad_kind, size_in, IsHeader}
+use Rattle.fv_file.specs.Files.{file_header_len, head_in, header_sum_of, pad_kind, file_size_in, IsFileHeader}
 use Rattle.fv_file.specs.States.{StateOf, is_alive}
-use Rattle.fv_file.specs.Spelled.{head_bytes}
-use Rattle.fv_file.specs.Written.{IsWritten, IsHeadOfFile, IsHeadOfPad, complement, fields_of, file_fields, file_head_of, header_bytes, header_with, needs_large, no_sum, pad_fields, pad_head_of, pad_name, state_byte, with_large}
+use Rattle.fv_file.specs.HeadParts.{head_bytes}
+use Rattle.fv_file.specs.NewHeaders.{IsNewHeader, IsHeadOfFile, IsHeadOfPad, complement, fields_of, file_fields, file_head_of, header_bytes, header_with, needs_large, fixed_checksum, pad_fields, pad_head_of, pad_name, state_byte, with_large}
 use Rattle.fv_file.specs.declared.attributes.FileAttributes.{FileAttributes}
 use Rattle.fv_file.specs.declared.head.FileHead.{FileHead}
 use Rattle.fv_file.specs.declared.state.FileState.TheVariants as states
@@ -125,7 +125,7 @@ complement_small n = omega arith
 
 -- the size
 size_is : (header_sum file_sum : ℕ) (name : List ℕ) (kind attributes size : ℕ) (large : Bool) (state : ℕ) → length name ≡ 16 → size < size_limit large
-    → size_in large (name ++ behind_name header_sum file_sum kind attributes (short_size large size) state (long_size large size)) ≡ size
+    → file_size_in large (name ++ behind_name header_sum file_sum kind attributes (short_size large size) state (long_size large size)) ≡ size
 size_is header_sum file_sum name kind attributes size true state long small =
     ap (λ (xs : List ℕ). le (take 8 xs)) (drop_behind 8 name (behind_name header_sum file_sum kind attributes 0 state (le_bytes 8 size)) long) ∙ le-le_bytes 8 size small
 size_is header_sum file_sum name kind attributes size false state long small =
@@ -157,16 +157,16 @@ fields_are header_sum file_sum name kind attributes size large state long is sma
     let rest : List ℕ = behind_name header_sum file_sum kind attributes (short_size large size) state (long_size large size) in
     let b : List ℕ = name ++ rest in
     let place : is_large (slice_index b 19) ≡ large = ap is_large (at_behind 3 name rest long) ∙ is in
-    let whole : size_in (is_large (slice_index b 19)) b ≡ size =
-    ap (λ (l : Bool). size_in l b) place ∙ size_is header_sum file_sum name kind attributes size large state long small in
-    sym (same_fields _ _ _ _ _ _ _ _ _ _ _ _ _ _ (take_at name rest 16 long) (at_behind 2 name rest long) (at_behind 3 name rest long) whole (ap header_len_of place)
+    let whole : file_size_in (is_large (slice_index b 19)) b ≡ size =
+    ap (λ (l : Bool). file_size_in l b) place ∙ size_is header_sum file_sum name kind attributes size large state long small in
+    sym (same_fields _ _ _ _ _ _ _ _ _ _ _ _ _ _ (take_at name rest 16 long) (at_behind 2 name rest long) (at_behind 3 name rest long) whole (ap file_header_len place)
     (at_behind 0 name rest long) (at_behind 1 name rest long))
   where
     same_fields : (a a' : List ℕ) (b b' c c' d d' e e' f f' g g' : ℕ) → a ≡ a' → b ≡ b' → c ≡ c' → d ≡ d' → e ≡ e' → f ≡ f' → g ≡ g' → fields a b c d e f g ≡ fields a' b' c' d' e' f' g'
     same_fields a a' b b' c c' d d' e e' f f' g g' p q r s t u v = rw (p, q, r, s, t, u, v)
 
 length_is : (header_sum file_sum : ℕ) (name : List ℕ) (kind attributes size : ℕ) (large : Bool) (state : ℕ) → length name ≡ 16
-    → length (name ++ behind_name header_sum file_sum kind attributes (short_size large size) state (long_size large size)) ≡ header_len_of large
+    → length (name ++ behind_name header_sum file_sum kind attributes (short_size large size) state (long_size large size)) ≡ file_header_len large
 length_is header_sum file_sum name kind attributes size true state long =
     length-append name (behind_name header_sum file_sum kind attributes 0 state (le_bytes 8 size)) ∙ ap (λ (n : ℕ). n + 16) long
 length_is header_sum file_sum name kind attributes size false state long =
@@ -181,7 +181,7 @@ state_is Zeros = (omega arith, omega arith)
 written_with : (polarity : Polarity) (header_sum file_sum : ℕ) (name : List ℕ) (kind attributes size : ℕ) (large : Bool) → length name ≡ 16
     → is_large attributes ≡ large → size < size_limit large → (bare_sum name kind attributes size large + header_sum) % 256 ≡ 0
     → IsBytes (header_with header_sum file_sum name kind attributes size large (state_byte polarity))
-    → IsWritten polarity (fields_of name kind attributes size large header_sum file_sum) (header_with header_sum file_sum name kind attributes size large (state_byte polarity))
+    → IsNewHeader polarity (fields_of name kind attributes size large header_sum file_sum) (header_with header_sum file_sum name kind attributes size large (state_byte polarity))
 written_with polarity header_sum file_sum name kind attributes size large long is small right bytes =
     let state : ℕ = state_byte polarity in
     let head : FileHead = fields_of name kind attributes size large header_sum file_sum in
@@ -191,9 +191,9 @@ written_with polarity header_sum file_sum name kind attributes size large long i
     let place : is_large (slice_index b 19) ≡ large = ap is_large (at_behind 3 name rest long) ∙ is in
     let byte : slice_index b 23 ≡ state = at_behind 7 name rest long in
     let sums : header_sum_of b ≡ 0 = ap header_sum_of (sym parts) ∙ header_sum_is header_sum file_sum name kind attributes size large state long ∙ right in
-    let written : IsWritten polarity head b = record {
+    let written : IsNewHeader polarity head b = record {
       header = λ system only. record {
-        whole = length_is header_sum file_sum name kind attributes size large state long ∙ ap header_len_of (sym place);
+        whole = length_is header_sum file_sum name kind attributes size large state long ∙ ap file_header_len (sym place);
         fields = fields_are header_sum file_sum name kind attributes size large state long is small;
         state = subst (λ (n : ℕ). StateOf n polarity states.DataValid) (sym byte) (state_is polarity);
         large = λ e. (only (is ∙ sym place ∙ e), zero_size header_sum file_sum name kind attributes size large state long (sym place ∙ e));
@@ -202,7 +202,7 @@ written_with polarity header_sum file_sum name kind attributes size large long i
       state = byte;
       bytes = subst IsBytes parts bytes;
     } in
-    subst (IsWritten polarity head) (sym parts) written
+    subst (IsNewHeader polarity head) (sym parts) written
 
 -- the header sum of a header with its right sum
 sum_at : (header_sum file_sum : ℕ) (name : List ℕ) (kind attributes size : ℕ) (large : Bool) (state : ℕ) → length name ≡ 16
@@ -214,18 +214,18 @@ sum_at header_sum file_sum name kind attributes size large state long =
 -- a header with its right sum is read again as its fields
 written_is : (polarity : Polarity) (file_sum : ℕ) (name : List ℕ) (kind attributes size : ℕ) (large : Bool) → length name ≡ 16
     → is_large attributes ≡ large → size < size_limit large → IsBytes (header_bytes file_sum name kind attributes size large (state_byte polarity))
-    → IsWritten polarity (fields_of name kind attributes size large (slice_index (header_bytes file_sum name kind attributes size large (state_byte polarity)) 16) file_sum)
+    → IsNewHeader polarity (fields_of name kind attributes size large (slice_index (header_bytes file_sum name kind attributes size large (state_byte polarity)) 16) file_sum)
     (header_bytes file_sum name kind attributes size large (state_byte polarity))
 unfolding header_bytes
 written_is polarity file_sum name kind attributes size large long is small bytes =
     let bare : ℕ = bare_sum name kind attributes size large in
-    subst (λ (n : ℕ). IsWritten polarity (fields_of name kind attributes size large n file_sum) (header_with (complement bare) file_sum name kind attributes size large (state_byte polarity)))
+    subst (λ (n : ℕ). IsNewHeader polarity (fields_of name kind attributes size large n file_sum) (header_with (complement bare) file_sum name kind attributes size large (state_byte polarity)))
     (sym (sum_at (complement bare) file_sum name kind attributes size large (state_byte polarity) long))
     (written_with polarity (complement bare) file_sum name kind attributes size large long is small (complement_right bare) bytes)
 
 -- ---- with data and filler, a header is that of a cell
 
-filled : (system : FileSystem) (polarity : Polarity) (head : FileHead) (h payload filler : List ℕ) → IsHeader system polarity head h → head.size ≡ length h + length payload
+filled : (system : FileSystem) (polarity : Polarity) (head : FileHead) (h payload filler : List ℕ) → IsFileHeader system polarity head h → head.size ≡ length h + length payload
     → length filler < 8 → (head.size + length filler) % 8 ≡ 0 → IsFilled system polarity head payload (h ++ (payload ++ filler))
 filled system polarity head h payload filler is size short multiple =
     let whole : head.size ≡ length (h ++ payload) = size ∙ sym (length-append h payload) in
@@ -241,11 +241,11 @@ filled system polarity head h payload filler is size short multiple =
       multiple = ap (λ (n : ℕ). n % 8) all ∙ multiple;
     }
 
-pub head_of_file : (polarity : Polarity) (head : FileHead) (h : List ℕ) → IsWritten polarity head h → is_alive head.state ≡ true → IsHeadOfFile polarity head h
+pub head_of_file : (polarity : Polarity) (head : FileHead) (h : List ℕ) → IsNewHeader polarity head h → is_alive head.state ≡ true → IsHeadOfFile polarity head h
 head_of_file polarity head h written alive = λ system at payload filler only size sound short multiple.
     (filled system polarity head h payload filler (written.header system only) size short multiple, alive, sound)
 
-pub head_of_pad : (polarity : Polarity) (head : FileHead) (h : List ℕ) → IsWritten polarity head h → is_alive head.state ≡ true → head.kind ≡ pad_kind
+pub head_of_pad : (polarity : Polarity) (head : FileHead) (h : List ℕ) → IsNewHeader polarity head h → is_alive head.state ≡ true → head.kind ≡ pad_kind
     → is_large (attribute_bits head.attributes) ≡ false → IsHeadOfPad polarity head h
 head_of_pad polarity head h written alive pad short = λ system at payload filler size little multiple.
     (filled system polarity head h payload filler (written.header system (λ large. cc)) size little multiple, alive, pad)
@@ -257,9 +257,9 @@ pub with_large_is : (large : Bool) (attributes : ℕ) → is_large attributes �
 with_large_is true attributes short = set_large attributes short
 with_large_is false attributes short = short
 
-size_small : (data_len : ℕ) → data_len ≤ data_limit → header_len_of (needs_large data_len) + data_len < size_limit (needs_large data_len)
+size_small : (data_len : ℕ) → data_len ≤ data_limit → file_header_len (needs_large data_len) + data_len < size_limit (needs_large data_len)
 size_small data_len most = by_form (needs_large data_len) data_len refl most where
-  by_form : (large : Bool) (n : ℕ) → needs_large n ≡ large → n ≤ data_limit → header_len_of large + n < size_limit large
+  by_form : (large : Bool) (n : ℕ) → needs_large n ≡ large → n ≤ data_limit → file_header_len large + n < size_limit large
   by_form true n is most = omega arith
   by_form false n is most = grind (arith, nat_tests)
 
@@ -270,22 +270,22 @@ file_head_is polarity name kind attributes data_len file_sum head short is =
     let large : Bool = needs_large data_len in
     let bits : ℕ = with_large large (attribute_bits attributes) in
     ap (λ (x : FileHead). head_bytes x polarity) is
-    ∙ ap (λ (l : Bool). header_bytes file_sum (bytes_of name) kind bits (header_len_of large + data_len) l (state_byte polarity)) (with_large_is large (attribute_bits attributes) short)
+    ∙ ap (λ (l : Bool). header_bytes file_sum (bytes_of name) kind bits (file_header_len large + data_len) l (state_byte polarity)) (with_large_is large (attribute_bits attributes) short)
 
 pub file_written : (polarity : Polarity) (name : Guid) (kind : ℕ) (attributes : FileAttributes) (data_len file_sum : ℕ) (b : List ℕ) → length (bytes_of name) ≡ 16
     → is_large (attribute_bits attributes) ≡ false → data_len ≤ data_limit → IsBytes b → b ≡ file_head_of name kind attributes data_len file_sum polarity
-    → IsWritten polarity (file_fields name kind attributes data_len file_sum (slice_index b 16)) b
+    → IsNewHeader polarity (file_fields name kind attributes data_len file_sum (slice_index b 16)) b
 file_written polarity name kind attributes data_len file_sum b long short most bytes is =
     let large : Bool = needs_large data_len in
-    subst (λ (x : List ℕ). IsWritten polarity (file_fields name kind attributes data_len file_sum (slice_index x 16)) x) (sym is)
-    (written_is polarity file_sum (bytes_of name) kind (with_large large (attribute_bits attributes)) (header_len_of large + data_len) large long
+    subst (λ (x : List ℕ). IsNewHeader polarity (file_fields name kind attributes data_len file_sum (slice_index x 16)) x) (sym is)
+    (written_is polarity file_sum (bytes_of name) kind (with_large large (attribute_bits attributes)) (file_header_len large + data_len) large long
     (with_large_is large (attribute_bits attributes) short) (size_small data_len most) (subst IsBytes is bytes))
 
 pub pad_written : (polarity : Polarity) (size : ℕ) (b : List ℕ) → size ≤ 0xffffff → IsBytes b → b ≡ pad_head_of size polarity
-    → IsWritten polarity (pad_fields size (slice_index b 16)) b
+    → IsNewHeader polarity (pad_fields size (slice_index b 16)) b
 pad_written polarity size b most bytes is =
-    subst (λ (x : List ℕ). IsWritten polarity (pad_fields size (slice_index x 16)) x) (sym is)
-    (written_is polarity no_sum pad_name pad_kind 0 size false (length-replicate {A = ℕ} 16 0xff) refl (below size most) (subst IsBytes is bytes))
+    subst (λ (x : List ℕ). IsNewHeader polarity (pad_fields size (slice_index x 16)) x) (sym is)
+    (written_is polarity fixed_checksum pad_name pad_kind 0 size false (length-replicate {A = ℕ} 16 0xff) refl (below size most) (subst IsBytes is bytes))
   where
     below : (n : ℕ) → n ≤ 0xffffff → n < 2 ^ 24
     below n most = omega arith
@@ -307,23 +307,23 @@ parts_of b small least =
     ∙ ap (λ (xs : List ℕ). slice_index b 18 ∷ xs) (drop_more b 19 0 (omega (arith, least))
     ∙ ap (λ (xs : List ℕ). slice_index b 19 ∷ xs) (size ∙ ap (λ (xs : List ℕ). le_bytes 3 (le_at 20 3 b) ++ xs) tail)))))
 
-short_is : (large : Bool) (b : List ℕ) (size : ℕ) → (large ≡ true → le_at 20 3 b ≡ 0) → size ≡ size_in large b → le_at 20 3 b ≡ short_size large size
+short_is : (large : Bool) (b : List ℕ) (size : ℕ) → (large ≡ true → le_at 20 3 b ≡ 0) → size ≡ file_size_in large b → le_at 20 3 b ≡ short_size large size
 short_is true b size none is = none refl
 short_is false b size none is = sym is
 
-long_is : (large : Bool) (b : List ℕ) (size : ℕ) → IsBytes b → length b ≡ header_len_of large → size ≡ size_in large b → drop 24 b ≡ long_size large size
+long_is : (large : Bool) (b : List ℕ) (size : ℕ) → IsBytes b → length b ≡ file_header_len large → size ≡ file_size_in large b → drop 24 b ≡ long_size large size
 long_is true b size small whole is =
     sym (take_all 8 (drop 24 b) (omega (arith, length-drop 24 b, whole))) ∙ sym (field_is 24 8 b small (omega (arith, whole))) ∙ ap (le_bytes 8) (sym is)
 long_is false b size small whole is = drop_all 24 b (omega (arith, whole))
 
 -- bytes that are the header of these fields have this form
-form_of : (polarity : Polarity) (head : FileHead) (b : List ℕ) → IsWritten polarity head b
+form_of : (polarity : Polarity) (head : FileHead) (b : List ℕ) → IsNewHeader polarity head b
     → b ≡ header_with head.header_sum head.file_sum (bytes_of head.name) head.kind (attribute_bits head.attributes) head.size (is_large (attribute_bits head.attributes)) (state_byte polarity)
 form_of polarity head b written =
     let is = written.header Ffs3 (λ large. refl) in
     let at : attribute_bits head.attributes ≡ slice_index b 19 = ap (λ (x : FileHead). attribute_bits x.attributes) is.fields in
     let large : Bool = is_large (slice_index b 19) in
-    let size : head.size ≡ size_in large b = ap (λ (x : FileHead). x.size) is.fields in
+    let size : head.size ≡ file_size_in large b = ap (λ (x : FileHead). x.size) is.fields in
     let least : 24 ≤ length b = subst (λ (n : ℕ). 24 ≤ n) (sym is.whole) (header_least large) in
     let short : le_at 20 3 b ≡ short_size large head.size = short_is large b head.size (λ e. (is.large e).1) size in
     let long : drop 24 b ≡ long_size large head.size = long_is large b head.size written.bytes is.whole size in
@@ -337,7 +337,7 @@ form_of polarity head b written =
         → n ++ behind_name a b c d e f l ≡ n' ++ behind_name a' b' c' d' e' f' l'
     same n n' a a' b b' c c' d d' e e' f f' l l' o p q r s t u v = rw (o, p, q, r, s, t, u, v)
 
-pub only_written : (polarity : Polarity) (head : FileHead) (b : List ℕ) → IsWritten polarity head b
+pub only_written : (polarity : Polarity) (head : FileHead) (b : List ℕ) → IsNewHeader polarity head b
     → b ≡ header_bytes head.file_sum (bytes_of head.name) head.kind (attribute_bits head.attributes) head.size (is_large (attribute_bits head.attributes)) (state_byte polarity)
 unfolding header_bytes
 only_written polarity head b written =
@@ -355,12 +355,12 @@ only_written polarity head b written =
 
 -- the header of a file of these fields, and that of a pad, is no other
 pub only_file : (polarity : Polarity) (name : Guid) (kind : ℕ) (attributes : FileAttributes) (data_len file_sum header_sum : ℕ) (h : List ℕ) → is_large (attribute_bits attributes) ≡ false
-    → IsWritten polarity (file_fields name kind attributes data_len file_sum header_sum) h → h ≡ file_head_of name kind attributes data_len file_sum polarity
+    → IsNewHeader polarity (file_fields name kind attributes data_len file_sum header_sum) h → h ≡ file_head_of name kind attributes data_len file_sum polarity
 only_file polarity name kind attributes data_len file_sum header_sum h short written =
     let large : Bool = needs_large data_len in
     let bits : ℕ = with_large large (attribute_bits attributes) in
     only_written polarity (file_fields name kind attributes data_len file_sum header_sum) h written
-    ∙ ap (λ (l : Bool). header_bytes file_sum (bytes_of name) kind bits (header_len_of large + data_len) l (state_byte polarity)) (with_large_is large (attribute_bits attributes) short)
+    ∙ ap (λ (l : Bool). header_bytes file_sum (bytes_of name) kind bits (file_header_len large + data_len) l (state_byte polarity)) (with_large_is large (attribute_bits attributes) short)
 
-pub only_pad : (polarity : Polarity) (size header_sum : ℕ) (h : List ℕ) → IsWritten polarity (pad_fields size header_sum) h → h ≡ pad_head_of size polarity
+pub only_pad : (polarity : Polarity) (size header_sum : ℕ) (h : List ℕ) → IsNewHeader polarity (pad_fields size header_sum) h → h ≡ pad_head_of size polarity
 only_pad polarity size header_sum h written = only_written polarity (pad_fields size header_sum) h written

@@ -6,7 +6,7 @@ use Rattle.fv_base.specs.Value.{up_to_8}
 use Rattle.fv_base.specs.declared.flash.FileSystem.{FileSystem}
 use Rattle.fv_base.specs.declared.flash.Polarity.{Polarity}
 use Rattle.fv_file.specs.Attributes.{is_large}
-use Rattle.fv_file.specs.Files.{header_len_of, pad_kind, IsFile, IsSound}
+use Rattle.fv_file.specs.Files.{file_header_len, pad_kind, IsFile, IsSound}
 use Rattle.fv_file.specs.States.{StateOf, is_alive}
 use Rattle.fv_file.specs.declared.head.FileHead.{FileHead}
 use Rattle.fv_file.specs.declared.state.FileState.TheVariants as states
@@ -28,12 +28,12 @@ offset_of (Stub at len) = at
 offset_of (Free at len) = at
 
 -- how many bytes a cell has, filler counted
-abbrev pub span : CellForm → ℕ
-span (Valid at head payload) = up_to_8 head.size
-span (Pad at head payload) = up_to_8 head.size
-span (Dead at len) = len
-span (Stub at len) = len
-span (Free at len) = len
+abbrev pub cell_len : CellForm → ℕ
+cell_len (Valid at head payload) = up_to_8 head.size
+cell_len (Pad at head payload) = up_to_8 head.size
+cell_len (Dead at len) = len
+cell_len (Stub at len) = len
+cell_len (Free at len) = len
 
 abbrev pub is_free : CellForm → Bool
 is_free (Free at len) = true
@@ -60,7 +60,7 @@ IsCell system polarity (Dead at len) b =
     × ((head.state ≡ states.HeaderValid) ⊎ (head.state ≡ states.Deleted)) × (len ≡ length b)
 IsCell system polarity (Stub at len) b =
     (StateOf (slice_index b 23) polarity states.Construction ⊎ StateOf (slice_index b 23) polarity states.HeaderInvalid)
-    × (length b ≡ header_len_of (is_large (slice_index b 19))) × (len ≡ length b)
+    × (length b ≡ file_header_len (is_large (slice_index b 19))) × (len ≡ length b)
 IsCell system polarity (Free at len) b = (0 < len) × AllAre (erased_byte polarity) b × (len ≡ length b)
 
 -- the bytes are these cells, joined, the first of them at the place `at`; a free one stands last only
@@ -82,6 +82,6 @@ IsMadeUp (Pad at head payload) = head.header_len + length payload ≡ head.size
 IsMadeUp _ = Unit {0}
 
 -- each cell ends within so many bytes from the volume's start
-abbrev pub AllWithin : ℕ → List CellForm → Type 0
-AllWithin end [] = Unit {0}
-AllWithin end (c ∷ cs) = (offset_of c + span c ≤ end) × IsMadeUp c × AllWithin end cs
+abbrev pub CellsWithin : ℕ → List CellForm → Type 0
+CellsWithin end [] = Unit {0}
+CellsWithin end (c ∷ cs) = (offset_of c + cell_len c ≤ end) × IsMadeUp c × CellsWithin end cs

@@ -11,15 +11,15 @@ use Rattle.fv_base.specs.declared.flash.FileSystem.TheVariants.{Ffs2, Ffs3}
 use Rattle.fv_base.specs.declared.flash.Polarity.{Polarity}
 use Rattle.fv_file.specs.Attributes.{is_large, is_fixed}
 use Rattle.fv_file.specs.Cells.{CellForm, Tiles, NoneFree}
-use Rattle.fv_file.specs.Files.{header_len_of, size_in, pad_kind, header_sum_of, file_sum_right}
+use Rattle.fv_file.specs.Files.{file_header_len, file_size_in, pad_kind, header_sum_of, file_sum_right}
 use Rattle.fv_file.specs.States.{bits_of, state_of, is_alive}
 use Rattle.fv_file.specs.declared.state.FileState.{FileState}
 use Rattle.fv_file.specs.declared.state.FileState.TheVariants as states
 
 -- how many bytes at the front are this one
-abbrev pub run_of : ℕ → List ℕ → ℕ
-run_of e [] = 0
-run_of e (x ∷ xs) = if x == e then 1 + run_of e xs else 0
+abbrev pub leading_count : ℕ → List ℕ → ℕ
+leading_count e [] = 0
+leading_count e (x ∷ xs) = if x == e then 1 + leading_count e xs else 0
 
 abbrev pub allows_large : FileSystem → Bool
 allows_large Ffs2 = false
@@ -29,29 +29,29 @@ allows_large Ffs3 = true
 abbrev pub attributes_at : List ℕ → ℕ
 attributes_at r = slice_index r 19
 
-abbrev pub header_len_at : List ℕ → ℕ
-header_len_at r = header_len_of (is_large (attributes_at r))
+abbrev pub file_header_len_at : List ℕ → ℕ
+file_header_len_at r = file_header_len (is_large (attributes_at r))
 
-abbrev pub size_at : List ℕ → ℕ
-size_at r = size_in (is_large (attributes_at r)) r
+abbrev pub file_size_at : List ℕ → ℕ
+file_size_at r = file_size_in (is_large (attributes_at r)) r
 
 abbrev pub payload_at : List ℕ → List ℕ
-payload_at r = take (size_at r - header_len_at r) (drop (header_len_at r) r)
+payload_at r = take (file_size_at r - file_header_len_at r) (drop (file_header_len_at r) r)
 
 abbrev pub may_be_large : FileSystem → List ℕ → Bool
 may_be_large system r = not (is_large (attributes_at r)) || allows_large system
 
 abbrev pub has_header_sum : List ℕ → Bool
-has_header_sum r = header_sum_of (take (header_len_at r) r) == 0
+has_header_sum r = header_sum_of (take (file_header_len_at r) r) == 0
 
-abbrev pub has_size : List ℕ → Bool
-has_size r =
-    nat_le (header_len_at r) (size_at r)
-    && (nat_le (size_at r) (length r) && (not (is_large (attributes_at r)) || (le_at 20 3 r == 0)))
+abbrev pub has_file_size : List ℕ → Bool
+has_file_size r =
+    nat_le (file_header_len_at r) (file_size_at r)
+    && (nat_le (file_size_at r) (length r) && (not (is_large (attributes_at r)) || (le_at 20 3 r == 0)))
 
 -- a file whose data are not looked at: a pad, or one that does not stand
-abbrev pub is_passed : Bool → List ℕ → Bool
-is_passed alive r = not alive || (slice_index r 18 == pad_kind)
+abbrev pub skips_data : Bool → List ℕ → Bool
+skips_data alive r = not alive || (slice_index r 18 == pad_kind)
 
 abbrev pub has_file_sum : List ℕ → Bool
 has_file_sum r = file_sum_right (attributes_at r) (slice_index r 17) (payload_at r)
@@ -60,16 +60,16 @@ has_file_sum r = file_sum_right (attributes_at r) (slice_index r 17) (payload_at
 abbrev pub file_checks : FileSystem → Bool → ℕ → List ℕ → List (Check Fault)
 file_checks system alive p r =
     check (may_be_large system r) kinds.LargeFile (p + 19)
-    ∷ check (nat_le (header_len_at r) (length r)) kinds.FileSize (p + 20)
+    ∷ check (nat_le (file_header_len_at r) (length r)) kinds.FileSize (p + 20)
     ∷ check (has_header_sum r) kinds.FileHeaderSum p
-    ∷ check (has_size r) kinds.FileSize (p + 20)
-    ∷ check (is_passed alive r || not (is_fixed (attributes_at r))) kinds.Fixed (p + 19)
-    ∷ check (is_passed alive r || has_file_sum r) kinds.FileSum (p + 17)
+    ∷ check (has_file_size r) kinds.FileSize (p + 20)
+    ∷ check (skips_data alive r || not (is_fixed (attributes_at r))) kinds.Fixed (p + 19)
+    ∷ check (skips_data alive r || has_file_sum r) kinds.FileSum (p + 17)
     ∷ []
 
 -- of a header that was never finished
 abbrev pub stub_checks : ℕ → List ℕ → List (Check Fault)
-stub_checks p r = check (nat_le (header_len_at r) (length r)) kinds.FileSize (p + 20) ∷ []
+stub_checks p r = check (nat_le (file_header_len_at r) (length r)) kinds.FileSize (p + 20) ∷ []
 
 -- of a cell by its state; one that is free has failed before
 abbrev pub state_checks : Option FileState → FileSystem → ℕ → List ℕ → List (Check Fault)
@@ -82,24 +82,24 @@ state_checks (Some state) system p r = file_checks system (is_alive state) p r
 -- of a cell at p, from where on the bytes are r, not all of them erased
 abbrev pub cell_checks : FileSystem → Polarity → ℕ → List ℕ → List (Check Fault)
 cell_checks system polarity p r =
-    check (nat_le 24 (length r) && not (bits_of polarity (slice_index r 23) == 0)) kinds.FreeSpace (p + run_of (erased_byte polarity) r)
+    check (nat_le 24 (length r) && not (bits_of polarity (slice_index r 23) == 0)) kinds.FreeSpace (p + leading_count (erased_byte polarity) r)
     ∷ state_checks (state_of polarity (slice_index r 23)) system p r
 
 -- a state, if there is one, of a file that stands
-abbrev pub stands : Option FileState → Bool
-stands None = false
-stands (Some state) = is_alive state
+abbrev pub is_standing : Option FileState → Bool
+is_standing None = false
+is_standing (Some state) = is_alive state
 
 -- of bytes that are to begin with a file that stands, or with a pad
 abbrev pub verify_checks : FileSystem → Polarity → List ℕ → List (Check Fault)
 verify_checks system polarity b =
     check (nat_le 24 (length b)) kinds.FileSize 20
-    ∷ check (stands (state_of polarity (slice_index b 23))) kinds.FileState 23
+    ∷ check (is_standing (state_of polarity (slice_index b 23))) kinds.FileState 23
     ∷ file_checks system true 0 b
 
 -- some cells, none of them free, tile the body up to a place from where on not all is erased; there the fault is that of the
 -- first check that does not hold. `first` is where the body begins in its volume
-pub record IsFirst (system : FileSystem) (polarity : Polarity) (first : ℕ) (body : List ℕ) (fault : Fault) : Type 0 where
+pub record IsFirstCellFault (system : FileSystem) (polarity : Polarity) (first : ℕ) (body : List ℕ) (fault : Fault) : Type 0 where
   pub cells : List CellForm
   pub at : ℕ
   pub tiled : Tiles system polarity first cells (take at body)

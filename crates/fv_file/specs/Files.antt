@@ -14,14 +14,14 @@ abbrev pub pad_kind : ℕ
 pad_kind = 0xf0
 
 -- the bytes of a short and of a large header
-abbrev pub header_len_of : Bool → ℕ
-header_len_of false = 24
-header_len_of true = 32
+abbrev pub file_header_len : Bool → ℕ
+file_header_len false = 24
+file_header_len true = 32
 
 -- where a short and a large header say the size
-abbrev pub size_in : Bool → List ℕ → ℕ
-size_in false b = le_at 20 3 b
-size_in true b = le_at 24 8 b
+abbrev pub file_size_in : Bool → List ℕ → ℕ
+file_size_in false b = le_at 20 3 b
+file_size_in true b = le_at 24 8 b
 
 -- the fields of the header that begins b, by their places
 abbrev pub head_in : FileState → List ℕ → FileHead
@@ -31,8 +31,8 @@ head_in state b = record {
   file_sum = slice_index b 17;
   kind = slice_index b 18;
   attributes = record { 0 = slice_index b 19 };
-  size = size_in (is_large (slice_index b 19)) b;
-  header_len = header_len_of (is_large (slice_index b 19));
+  size = file_size_in (is_large (slice_index b 19)) b;
+  header_len = file_header_len (is_large (slice_index b 19));
   state = state;
 }
 
@@ -46,8 +46,8 @@ file_sum_right attributes file_sum payload =
     if is_summed attributes then (sum payload + file_sum) % 256 == 0 else file_sum == 0xaa
 
 -- the bytes h are the header of these fields; a large one stands in FFS3 alone, and its Size is zero
-pub record IsHeader (system : FileSystem) (polarity : Polarity) (head : FileHead) (h : List ℕ) : Type 0 where
-  pub whole : length h ≡ header_len_of (is_large (slice_index h 19))
+pub record IsFileHeader (system : FileSystem) (polarity : Polarity) (head : FileHead) (h : List ℕ) : Type 0 where
+  pub whole : length h ≡ file_header_len (is_large (slice_index h 19))
   pub fields : head ≡ head_in head.state h
   pub state : StateOf (slice_index h 23) polarity head.state
   pub large : is_large (slice_index h 19) ≡ true → (system ≡ Ffs3) × (le_at 20 3 h ≡ 0)
@@ -57,7 +57,7 @@ pub record IsHeader (system : FileSystem) (polarity : Polarity) (head : FileHead
 pub record IsFile (system : FileSystem) (polarity : Polarity) (head : FileHead) (payload b : List ℕ) : Type 0 where
   pub header : List ℕ
   pub text : b ≡ header ++ payload
-  pub is_header : IsHeader system polarity head header
+  pub is_header : IsFileHeader system polarity head header
   pub size : head.size ≡ length b
 
 -- no pad, not fixed, and the file sum is right

@@ -2,8 +2,8 @@ pub mod Attributes
 pub mod Cells
 pub mod FileChecks
 pub mod Files
-pub mod Reading
-pub mod Seen
-pub mod Spelled
+pub mod CellVerdicts
+pub mod CellForms
+pub mod HeadParts
 pub mod States
-pub mod Written
+pub mod NewHeaders

@@ -4,9 +4,9 @@ ghost use Rattle.std.specs.Prelude.{◌≡◌, ◌==◌, ◌+◌, ◌%◌, ◌�
 ghost use Rattle.fv_base.specs.Checks.{first_fault, verdict_by};
 ghost use Rattle.fv_base.specs.Value.{le_at};
 ghost use Rattle.fv_file.specs.Attributes.{attribute_bits};
-ghost use Rattle.fv_file.specs.FileChecks.{attributes_at, header_len_at, payload_at, size_at, may_be_large, has_header_sum, has_size, is_passed, has_file_sum, file_checks};
+ghost use Rattle.fv_file.specs.FileChecks.{attributes_at, file_header_len_at, payload_at, file_size_at, may_be_large, has_header_sum, has_file_size, skips_data, has_file_sum, file_checks};
 ghost use Rattle.fv_file.specs.Files.{head_in, header_sum_of};
-ghost use Rattle.fv_file.specs.Reading.{file_verdict};
+ghost use Rattle.fv_file.specs.CellVerdicts.{file_verdict};
 ghost use Rattle.fv_file.specs.States.{is_alive};
 
 use crate::attributes::FileAttributes;
@@ -59,7 +59,7 @@ fn attributes_at(rest: &[u8]) -> FileAttributes
 // How many bytes the header has that the bytes begin with.
 pub(crate) fn header_len_at(rest: &[u8]) -> usize
     requires least { 24 ≤ length rest.now }
-    ensures { result ≡ header_len_at rest.now }
+    ensures { result ≡ file_header_len_at rest.now }
 {
     if attributes_at(rest).is_large() {
         LARGE_HEADER_LEN
@@ -84,8 +84,8 @@ fn large_size(rest: &[u8]) -> u64
 
 fn size_at(rest: &[u8]) -> u64
     requires least { 24 ≤ length rest.now }
-    requires header { header_len_at rest.now ≤ length rest.now }
-    ensures { result ≡ size_at rest.now }
+    requires header { file_header_len_at rest.now ≤ length rest.now }
+    ensures { result ≡ file_size_at rest.now }
 {
     if attributes_at(rest).is_large() {
         large_size(rest)
@@ -114,16 +114,16 @@ fn may_be_large(rest: &[u8], system: FileSystem) -> bool
 
 fn has_header_sum(rest: &[u8]) -> bool
     requires least { 24 ≤ length rest.now }
-    requires header { header_len_at rest.now ≤ length rest.now }
+    requires header { file_header_len_at rest.now ≤ length rest.now }
     ensures { result ≡ has_header_sum rest.now }
 {
     header_sum(&rest[..header_len_at(rest)]) == 0
 }
 
-fn has_size(rest: &[u8]) -> bool
+fn has_file_size(rest: &[u8]) -> bool
     requires least { 24 ≤ length rest.now }
-    requires header { header_len_at rest.now ≤ length rest.now }
-    ensures { result ≡ has_size rest.now }
+    requires header { file_header_len_at rest.now ≤ length rest.now }
+    ensures { result ≡ has_file_size rest.now }
 {
     let size = size_at(rest);
     header_len_at(rest) as u64 <= size
@@ -132,9 +132,9 @@ fn has_size(rest: &[u8]) -> bool
 }
 
 // Whether a file's data are not looked at, as those of a pad.
-fn is_passed(rest: &[u8], alive: bool) -> bool
+fn skips_data(rest: &[u8], alive: bool) -> bool
     requires least { 24 ≤ length rest.now }
-    ensures { result ≡ is_passed alive rest.now }
+    ensures { result ≡ skips_data alive rest.now }
 {
     !alive || rest[TYPE_OFFSET] == PAD
 }
@@ -142,8 +142,8 @@ fn is_passed(rest: &[u8], alive: bool) -> bool
 // Whether the data sum to zero with the file sum.
 fn is_sum_zero(rest: &[u8]) -> bool
     requires least { 24 ≤ length rest.now }
-    requires header { header_len_at rest.now ≤ size_at rest.now }
-    requires within { size_at rest.now ≤ length rest.now }
+    requires header { file_header_len_at rest.now ≤ file_size_at rest.now }
+    requires within { file_size_at rest.now ≤ length rest.now }
     ensures { result ≡ ((sum (payload_at rest.now) + slice_index rest.now 17) % 256 == 0) }
 {
     let payload = &rest[header_len_at(rest)..size_at(rest) as usize];
@@ -152,8 +152,8 @@ fn is_sum_zero(rest: &[u8]) -> bool
 
 fn has_file_sum(rest: &[u8]) -> bool
     requires least { 24 ≤ length rest.now }
-    requires header { header_len_at rest.now ≤ size_at rest.now }
-    requires within { size_at rest.now ≤ length rest.now }
+    requires header { file_header_len_at rest.now ≤ file_size_at rest.now }
+    requires within { file_size_at rest.now ≤ length rest.now }
     ensures { result ≡ has_file_sum rest.now }
 {
     if attributes_at(rest).is_summed() {
@@ -166,7 +166,7 @@ fn has_file_sum(rest: &[u8]) -> bool
 // The fields of the header that the bytes begin with.
 fn head_in(rest: &[u8], state: FileState) -> FileHead
     requires least { 24 ≤ length rest.now }
-    requires header { header_len_at rest.now ≤ length rest.now }
+    requires header { file_header_len_at rest.now ≤ length rest.now }
     ensures { result ≡ head_in state rest.now }
 {
     FileHead {
@@ -186,7 +186,7 @@ fn checked(rest: &[u8], at: u64, system: FileSystem, state: FileState) -> Result
     requires least { 24 ≤ length rest.now }
     requires place { at < 2 ^ 63 }
     ensures is { result ≡ verdict_by (first_fault (file_checks system (is_alive state) at rest.now)) (head_in state rest.now) }
-    ensures size { IfOk result (λ h. (h.header_len ≡ header_len_at rest.now) × (h.size ≡ size_at rest.now)) }
+    ensures size { IfOk result (λ h. (h.header_len ≡ file_header_len_at rest.now) × (h.size ≡ file_size_at rest.now)) }
     ensures within { IfOk result (λ h. (h.header_len ≤ h.size) × (h.size ≤ length rest.now)) }
     ensures bound { IfErr result (λ f. f.place.offset ≤ at + length rest.now) }
 {
@@ -196,8 +196,8 @@ fn checked(rest: &[u8], at: u64, system: FileSystem, state: FileState) -> Result
     check(may_be_large(rest, system), FaultKind::LargeFile, attributes)?;
     check(header_len_at(rest) <= rest.len(), FaultKind::FileSize, size)?;
     check(has_header_sum(rest), FaultKind::FileHeaderSum, at)?;
-    check(has_size(rest), FaultKind::FileSize, size)?;
-    if !is_passed(rest, state.is_alive()) {
+    check(has_file_size(rest), FaultKind::FileSize, size)?;
+    if !skips_data(rest, state.is_alive()) {
         check(
             !attributes_at(rest).is_fixed(),
             FaultKind::Fixed,
@@ -219,7 +219,7 @@ pub(crate) fn file_at(
     requires least { 24 ≤ length rest.now }
     requires place { at < 2 ^ 63 }
     ensures is { result ≡ file_verdict system state at rest.now }
-    ensures size { IfOk result (λ h. (h.header_len ≡ header_len_at rest.now) × (h.size ≡ size_at rest.now)) }
+    ensures size { IfOk result (λ h. (h.header_len ≡ file_header_len_at rest.now) × (h.size ≡ file_size_at rest.now)) }
     ensures within { IfOk result (λ h. (h.header_len ≤ h.size) × (h.size ≤ length rest.now)) }
     ensures bound { IfErr result (λ f. f.place.offset ≤ at + length rest.now) }
 {

@@ -3,22 +3,22 @@
 
 mod attributes;
 mod cell;
+mod cell_list;
+mod cell_walk;
 mod head;
 mod layout;
-mod list;
-mod run;
-mod spell;
+mod leading;
+mod new_header;
 mod state;
 #[cfg(test)]
 mod tests;
-mod tiling;
 mod verify;
 
 pub use attributes::FileAttributes;
 pub use cell::Cell;
+pub use cell_list::Cells;
+pub use cell_walk::cells;
 pub use head::FileHead;
-pub use list::Cells;
-pub use spell::{HeadBytes, file_head_bytes, pad_head_bytes};
+pub use new_header::{HeadBytes, file_head_bytes, pad_head_bytes};
 pub use state::{FileState, file_state};
-pub use tiling::cells;
 pub use verify::verify_ffs_file;

@@ -10,7 +10,7 @@ use Rattle.fv_base.specs.Value.{le, field, le_at, up_to_8}
 use Rattle.fv_base.specs.declared.guid.Guid.{Guid}
 use Rattle.fv_base.proofs.CheckLemmas.{and_split, and_join}
 use Rattle.fv_base.proofs.FieldLemmas.{field-append_front, field-take}
-use Rattle.fv_head.specs.Ext.{Extension, held, BeginNone, Entries, IsExt}
+use Rattle.fv_head.specs.Ext.{Extension, kept_payload, BeginNoEntry, SplitsEntries, IsExt}
 use Rattle.fv_head.specs.Head.{HasExt}
 use Rattle.fv_head.specs.HeadChecks.{ext_offset_at, ext_size_at, has_ext}
 use Rattle.fv_head.specs.declared.extent.Extent.{Extent}
@@ -43,7 +43,7 @@ begins b head payload rest text four size =
     turned n = refl
 
 -- bytes that begin an entry do not begin none
-no_entry : (b head payload rest : List ℕ) → Begins b head payload rest → BeginNone b → ⊥
+no_entry : (b head payload rest : List ℕ) → Begins b head payload rest → BeginNoEntry b → ⊥
 no_entry b head payload rest is (inl short) = absurd (omega (arith, short, is.long))
 no_entry b head payload rest is (inr (inl low)) = absurd (omega (arith, low, is.size))
 no_entry b head payload rest is (inr (inr high)) = absurd (omega (arith, high, is.size, is.long))
@@ -52,7 +52,7 @@ pair_is : (e f : ℕ × List ℕ) → e.0 ≡ f.0 → e.1 ≡ f.1 → e ≡ f
 pair_is e f p q = ap (λ (n : ℕ). (n, e.1)) p ∙ ap (λ (xs : List ℕ). (f.0, xs)) q
 
 -- bytes are the entries and the tail of one list at most
-pub one_entries : (es fs : List (ℕ × List ℕ)) (tail other b : List ℕ) → Entries es tail b → Entries fs other b → (es ≡ fs) × (tail ≡ other)
+pub one_entries : (es fs : List (ℕ × List ℕ)) (tail other b : List ℕ) → SplitsEntries es tail b → SplitsEntries fs other b → (es ≡ fs) × (tail ≡ other)
 one_entries [] [] tail other b first second = (refl, sym first.0 ∙ second.0)
 one_entries [] (f ∷ fs) tail other b first (head, payload, rest, text, four, size, kind, kept, more) =
     absurd (no_entry b head payload rest (begins b head payload rest text four size) first.1)
@@ -64,13 +64,13 @@ one_entries (e ∷ es) (f ∷ fs) tail other b (head, payload, rest, text, four,
     let payloads : payload ≡ payload' = first.payload_is ∙ sym second.payload_is in
     let rests : rest ≡ rest' = first.rest_is ∙ sym second.rest_is in
     let kinds : e.0 ≡ f.0 = sym kind ∙ sym first.kind ∙ second.kind ∙ kind' in
-    let kepts : e.1 ≡ f.1 = kept ∙ ap (λ (n : ℕ). held n payload) kinds ∙ ap (held f.0) payloads ∙ sym kept' in
-    let others = one_entries es fs tail other rest' (subst (Entries es tail) rests more) more' in
+    let kepts : e.1 ≡ f.1 = kept ∙ ap (λ (n : ℕ). kept_payload n payload) kinds ∙ ap (kept_payload f.0) payloads ∙ sym kept' in
+    let others = one_entries es fs tail other rest' (subst (SplitsEntries es tail) rests more) more' in
     (ap (λ (x : ℕ × List ℕ). x ∷ es) (pair_is e f kinds kepts) ∙ ap (λ (xs : List (ℕ × List ℕ)). f ∷ xs) others.0, others.1)
 
 -- one entry more, in front
 pub entry_before : (b : List ℕ) (n : ℕ) (e : ℕ × List ℕ) (es : List (ℕ × List ℕ)) (tail : List ℕ) → n ≡ le_at 0 2 b → 4 ≤ n → n ≤ length b
-    → e.0 ≡ le_at 2 2 b → e.1 ≡ held e.0 (field 4 (n - 4) b) → Entries es tail (drop n b) → Entries (e ∷ es) tail b
+    → e.0 ≡ le_at 2 2 b → e.1 ≡ kept_payload e.0 (field 4 (n - 4) b) → SplitsEntries es tail (drop n b) → SplitsEntries (e ∷ es) tail b
 entry_before b n e es tail size least within kind kept more =
     let head : List ℕ = take 4 b in
     let payload : List ℕ = field 4 (n - 4) b in
@@ -98,7 +98,7 @@ entry_before b n e es tail size least within kind kept more =
 
 -- whether bytes begin an entry
 data Starts (b : List ℕ) : Type 0 where
-  none : BeginNone b → Starts b
+  none : BeginNoEntry b → Starts b
   one : 4 ≤ length b → 4 ≤ le_at 0 2 b → le_at 0 2 b ≤ length b → Starts b
 
 starts : (b : List ℕ) → Starts b
@@ -111,12 +111,12 @@ starts b = go (nat_lt (length b) 4) (nat_lt (le_at 0 2 b) 4) (nat_lt (length b) 
 
 -- all bytes are some entries and a tail
 abbrev pub Split : List ℕ → Type 0
-Split b = (es : List (ℕ × List ℕ)) × (tail : List ℕ) × Entries es tail b
+Split b = (es : List (ℕ × List ℕ)) × (tail : List ℕ) × SplitsEntries es tail b
 
 entry_and : (b : List ℕ) → 4 ≤ length b → 4 ≤ le_at 0 2 b → le_at 0 2 b ≤ length b → Split (drop (le_at 0 2 b) b) → Split b
 entry_and b long least within (es, tail, more) =
     let n : ℕ = le_at 0 2 b in
-    let e : ℕ × List ℕ = (le_at 2 2 b, held (le_at 2 2 b) (field 4 (n - 4) b)) in
+    let e : ℕ × List ℕ = (le_at 2 2 b, kept_payload (le_at 2 2 b) (field 4 (n - 4) b)) in
     (e ∷ es, tail, entry_before b n e es tail refl least within refl refl more)
 
 pub some_entries : (n : ℕ) (b : List ℕ) → length b ≤ n → Split b
@@ -154,12 +154,12 @@ one_ext x y b is other =
     let first = rest_of x b is in
     let second = rest_of y b other in
     let names : x.name ≡ y.name = guid_is x.name y.name (first.0 ∙ sym second.0) in
-    let entries = one_entries x.entries y.entries x.tail y.tail (drop 20 b) (subst (Entries x.entries x.tail) first.1 is.entries) (subst (Entries y.entries y.tail) second.1 other.entries) in
+    let entries = one_entries x.entries y.entries x.tail y.tail (drop 20 b) (subst (SplitsEntries x.entries x.tail) first.1 is.entries) (subst (SplitsEntries y.entries y.tail) second.1 other.entries) in
     extension_is x y names entries.0 entries.1
 
 -- a name, a size and what stands behind them
 pub ext_of : (b : List ℕ) (g : Guid) (es : List (ℕ × List ℕ)) (tail : List ℕ) → 20 ≤ length b → length b ≤ ext_limit → le_at 16 4 b ≡ length b → bytes_of g ≡ take 16 b
-    → Entries es tail (drop 20 b) → IsExt (record { name = g; entries = es; tail = tail }) b
+    → SplitsEntries es tail (drop 20 b) → IsExt (record { name = g; entries = es; tail = tail }) b
 ext_of b g es tail least most size name entries = record {
   head = field 16 4 b;
   rest = drop 20 b;
@@ -335,34 +335,34 @@ ext_same x e b c least within h long same = go x h where
 
 -- one entry more is read
 pub more_entries : (items new : List (ℕ × List ℕ)) (e : ℕ × List ℕ) (bytes rest behind entry : List ℕ) (n : ℕ) → new ≡ items ++ (e ∷ []) → behind ≡ drop n rest → entry ≡ take n rest
-    → n ≡ le_at 0 2 rest → 4 ≤ n → n ≤ length rest → e.0 ≡ le_at 2 2 entry → e.1 ≡ held (le_at 2 2 entry) (drop 4 entry)
-    → ((es : List (ℕ × List ℕ)) (tail : List ℕ) → Entries es tail rest → Entries (items ++ es) tail bytes)
-    → (es : List (ℕ × List ℕ)) (tail : List ℕ) → Entries es tail behind → Entries (new ++ es) tail bytes
+    → n ≡ le_at 0 2 rest → 4 ≤ n → n ≤ length rest → e.0 ≡ le_at 2 2 entry → e.1 ≡ kept_payload (le_at 2 2 entry) (drop 4 entry)
+    → ((es : List (ℕ × List ℕ)) (tail : List ℕ) → SplitsEntries es tail rest → SplitsEntries (items ++ es) tail bytes)
+    → (es : List (ℕ × List ℕ)) (tail : List ℕ) → SplitsEntries es tail behind → SplitsEntries (new ++ es) tail bytes
 more_entries items new e bytes rest behind entry n pushed back front size least within kind kept sofar es tail more =
     let kind_is : e.0 ≡ le_at 2 2 rest = kind ∙ ap (le_at 2 2) front ∙ ap le (field-take 2 2 n rest (omega (arith, least))) in
     let payload : drop 4 entry ≡ field 4 (n - 4) rest = ap (drop 4) front ∙ ap (λ (k : ℕ). drop 4 (take k rest)) (split n least) ∙ drop-take 4 (n - 4) rest in
-    let kept_is : e.1 ≡ held e.0 (field 4 (n - 4) rest) = kept ∙ ap (λ (k : ℕ). held k (drop 4 entry)) (sym kind) ∙ ap (held e.0) payload in
-    let one = entry_before rest n e es tail size least within kind_is kept_is (subst (Entries es tail) back more) in
+    let kept_is : e.1 ≡ kept_payload e.0 (field 4 (n - 4) rest) = kept ∙ ap (λ (k : ℕ). kept_payload k (drop 4 entry)) (sym kind) ∙ ap (kept_payload e.0) payload in
+    let one = entry_before rest n e es tail size least within kind_is kept_is (subst (SplitsEntries es tail) back more) in
     let joined : items ++ (e ∷ es) ≡ new ++ es = sym (append_assoc items (e ∷ []) es) ∙ ap (λ (xs : List (ℕ × List ℕ)). xs ++ es) (sym pushed) in
-    subst (λ (xs : List (ℕ × List ℕ)). Entries xs tail bytes) joined (sofar (e ∷ es) tail one)
+    subst (λ (xs : List (ℕ × List ℕ)). SplitsEntries xs tail bytes) joined (sofar (e ∷ es) tail one)
   where
     split : (n : ℕ) → 4 ≤ n → n ≡ 4 + (n - 4)
     split n least = omega arith
 
 -- what is left begins no entry
-pub end_entries : (items : List (ℕ × List ℕ)) (bytes rest tail : List ℕ) → ((es : List (ℕ × List ℕ)) (end : List ℕ) → Entries es end rest → Entries (items ++ es) end bytes)
-    → BeginNone rest → tail ≡ rest → Entries items tail bytes
+pub end_entries : (items : List (ℕ × List ℕ)) (bytes rest tail : List ℕ) → ((es : List (ℕ × List ℕ)) (end : List ℕ) → SplitsEntries es end rest → SplitsEntries (items ++ es) end bytes)
+    → BeginNoEntry rest → tail ≡ rest → SplitsEntries items tail bytes
 end_entries items bytes rest tail sofar ended same =
-    subst (λ (xs : List (ℕ × List ℕ)). Entries xs tail bytes) (append-nil items) (sofar [] tail (sym same, ended))
+    subst (λ (xs : List (ℕ × List ℕ)). SplitsEntries xs tail bytes) (append-nil items) (sofar [] tail (sym same, ended))
 
 -- what is read behind the name and the size
 pub ext_from : (b : List ℕ) (g : Guid) (es : List (ℕ × List ℕ)) (tail : List ℕ) → 20 ≤ length b → length b ≤ ext_limit → le_at 16 4 b ≡ length b → bytes_of g ≡ take 16 b
-    → Entries es tail (take (length b - 20) (drop 20 b)) → IsExt (record { name = g; entries = es; tail = tail }) b
+    → SplitsEntries es tail (take (length b - 20) (drop 20 b)) → IsExt (record { name = g; entries = es; tail = tail }) b
 ext_from b g es tail least most size name entries =
-    ext_of b g es tail least most size name (subst (Entries es tail) (take_all (length b - 20) (drop 20 b) (omega (arith, length-drop 20 b))) entries)
+    ext_of b g es tail least most size name (subst (SplitsEntries es tail) (take_all (length b - 20) (drop 20 b) (omega (arith, length-drop 20 b))) entries)
 
 -- what a header with an ExtHeaderOffset has
-pub record Stands (e : Extent) (b : List ℕ) : Type 0 where
+pub record ExtStands (e : Extent) (b : List ℕ) : Type 0 where
   pub least : 20 ≤ ext_size_at b
   pub most : ext_size_at b ≤ ext_limit
   pub behind_header : e.header_len ≤ ext_offset_at b
@@ -370,7 +370,7 @@ pub record Stands (e : Extent) (b : List ℕ) : Type 0 where
   pub size : le_at 16 4 (field (ext_offset_at b) (ext_size_at b) b) ≡ ext_size_at b
   pub first : e.first ≡ up_to_8 (ext_offset_at b + ext_size_at b)
 
-pub stands : (x : Option Extension) (e : Extent) (b : List ℕ) → HasExt x e b → (ext_offset_at b ≡ 0 → ⊥) → Stands e b
+pub stands : (x : Option Extension) (e : Extent) (b : List ℕ) → HasExt x e b → (ext_offset_at b ≡ 0 → ⊥) → ExtStands e b
 stands None e b h some = absurd (some h.0)
 stands (Some x) e b h some =
     let p = placed x e b h in
@@ -386,6 +386,6 @@ stands (Some x) e b h some =
     }
 
 -- an extended header that is read there
-pub read_there : (x : Extension) (e : Extent) (b part : List ℕ) → Stands e b → e.length ≤ length b → part ≡ field (ext_offset_at b) (ext_size_at b) b → IsExt x part → HasExt (Some x) e b
+pub read_there : (x : Extension) (e : Extent) (b part : List ℕ) → ExtStands e b → e.length ≤ length b → part ≡ field (ext_offset_at b) (ext_size_at b) b → IsExt x part → HasExt (Some x) e b
 read_there x e b part s whole is read =
     make_has_ext x e b (ext_size_at b) whole s.behind_header s.within s.first (subst (IsExt x) is read)

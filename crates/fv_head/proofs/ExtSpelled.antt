@@ -7,8 +7,8 @@ use Rattle.fv_base.specs.Guids.{bytes_of}
 use Rattle.fv_base.specs.Limits.{ext_limit}
 use Rattle.fv_base.specs.Value.{IsBytes, le, le_bytes, le_at}
 use Rattle.fv_base.proofs.FieldLemmas.{bytes_drop, le-le_bytes, two_bytes}
-use Rattle.fv_head.specs.Ext.{Extension, held, no_size, is_used_size, BeginNone, Entries, IsExt, IsReadExt}
-use Rattle.fv_head.specs.SpelledExt.{payload_with, entry_bytes, entries_bytes, entries_len, ext_len, ext_spelled}
+use Rattle.fv_head.specs.Ext.{Extension, kept_payload, zero_used_size, is_used_size, BeginNoEntry, SplitsEntries, IsExt, IsReadExt}
+use Rattle.fv_head.specs.ExtImage.{payload_with, entry_bytes, entries_bytes, entries_len, ext_len, ext_spelled}
 use Rattle.fv_head.proofs.ExtLemmas.{begins}
 
 -- a number of four bytes
@@ -18,15 +18,15 @@ four_bytes n small = four n small where
   four n small = omega arith
 
 -- what is kept of a payload has its length
-length-held : (kind : ℕ) (payload : List ℕ) → length (held kind payload) ≡ length payload
+length-held : (kind : ℕ) (payload : List ℕ) → length (kept_payload kind payload) ≡ length payload
 length-held kind payload = go (kind == 3) (length payload == 4) refl where
-  go : (p q : Bool) → (length payload == 4) ≡ q → length (if p && q then no_size else payload) ≡ length payload
+  go : (p q : Bool) → (length payload == 4) ≡ q → length (if p && q then zero_used_size else payload) ≡ length payload
   go true true is = sym (eqb-true (length payload) 4 is)
   go true false is = refl
   go false q is = refl
 
 -- entries have so many bytes before their tail
-pub length-entries : (es : List (ℕ × List ℕ)) (tail b : List ℕ) → Entries es tail b → entries_len es + length tail ≡ length b
+pub length-entries : (es : List (ℕ × List ℕ)) (tail b : List ℕ) → SplitsEntries es tail b → entries_len es + length tail ≡ length b
 length-entries [] tail b h = omega (arith, ap length h.0)
 length-entries (e ∷ es) tail b (head, payload, rest, text, four, size, kind, kept, more) =
     let is = begins b head payload rest text four size in
@@ -42,13 +42,13 @@ length-payload_with used e = go (e.0 == 3) (length e.1 == 4) refl where
   go false q is = refl
 
 -- and the same is kept of it
-held-payload_with : (used : ℕ) (e : ℕ × List ℕ) (payload : List ℕ) → e.1 ≡ held e.0 payload → e.1 ≡ held e.0 (payload_with used e)
+held-payload_with : (used : ℕ) (e : ℕ × List ℕ) (payload : List ℕ) → e.1 ≡ kept_payload e.0 payload → e.1 ≡ kept_payload e.0 (payload_with used e)
 held-payload_with used e payload kept = go (e.0 == 3) (length e.1 == 4) (length payload == 4) refl refl kept where
   same : (length e.1 == 4) ≡ (length payload == 4)
   same = ap (λ (n : ℕ). n == 4) (ap length kept ∙ length-held e.0 payload)
 
-  go : (p q r : Bool) → (length e.1 == 4) ≡ q → (length payload == 4) ≡ r → e.1 ≡ (if p && r then no_size else payload)
-      → e.1 ≡ (if p && (length (if p && q then le_bytes 4 used else e.1) == 4) then no_size else (if p && q then le_bytes 4 used else e.1))
+  go : (p q r : Bool) → (length e.1 == 4) ≡ q → (length payload == 4) ≡ r → e.1 ≡ (if p && r then zero_used_size else payload)
+      → e.1 ≡ (if p && (length (if p && q then le_bytes 4 used else e.1) == 4) then zero_used_size else (if p && q then le_bytes 4 used else e.1))
   go true true true one two kept = kept
   go true true false one two kept = let never : true ≡ false = sym one ∙ same ∙ two in cc
   go true false true one two kept = let never : false ≡ true = sym one ∙ same ∙ two in cc
@@ -56,8 +56,8 @@ held-payload_with used e payload kept = go (e.0 == 3) (length e.1 == 4) (length 
   go false q r one two kept = refl
 
 -- the entries as they are spelled are these entries
-pub entries_again : (es : List (ℕ × List ℕ)) (tail b : List ℕ) (used : ℕ) → IsBytes b → length b ≤ ext_limit → Entries es tail b → Entries es tail (entries_bytes used es ++ tail)
-entries_again [] tail b used small most h = (refl, subst BeginNone h.0 h.1)
+pub entries_again : (es : List (ℕ × List ℕ)) (tail b : List ℕ) (used : ℕ) → IsBytes b → length b ≤ ext_limit → SplitsEntries es tail b → SplitsEntries es tail (entries_bytes used es ++ tail)
+entries_again [] tail b used small most h = (refl, subst BeginNoEntry h.0 h.1)
 entries_again (e ∷ es) tail b used small most (head, payload, rest, text, four, size, kind, kept, more) =
     let is = begins b head payload rest text four size in
     let same : length e.1 ≡ length payload = ap length kept ∙ length-held e.0 payload in

@@ -20,8 +20,8 @@ use Rattle.fv_base.proofs.CheckLemmas.{and_split, and_join, all_hold, none_fault
 use Rattle.fv_base.proofs.FieldLemmas.{take-take_le, field-take, bytes_take}
 use Rattle.fv_head.specs.Attributes.{polarity_of}
 use Rattle.fv_head.specs.Ext.{Extension, IsExt}
-use Rattle.fv_head.specs.Head.{HasExt, HeadFields, IsHead, Front, system_guid}
-use Rattle.fv_head.specs.HeadChecks.{has_signature, is_header_len, has_sum, has_block_map, is_volume_len, head_checks, verdict_of, verdict_by, extent_or, extent_at, is_zero_pair, blocks_at, makes_up, file_system_at, header_len_at, volume_len_at, ext_offset_at, ext_size_at, has_ext}
+use Rattle.fv_head.specs.Head.{HasExt, HeadFields, IsHead, BeginsVolume, system_guid}
+use Rattle.fv_head.specs.HeadChecks.{has_signature, is_header_len, has_sum, has_block_map, is_volume_len, head_checks, head_verdict, extent_verdict, extent_or, extent_at, is_zero_pair, blocks_at, makes_up, file_system_at, header_len_at, volume_len_at, ext_offset_at, ext_size_at, has_ext}
 use Rattle.fv_head.specs.Pairs.{pairs_of}
 use Rattle.fv_head.specs.declared.extent.Extent.{Extent}
 use Rattle.fv_head.proofs.BlockLemmas.{pairs_of-step}
@@ -39,7 +39,7 @@ fields_of fs x b = record {
   ext = x;
 }
 
-pub verdict_ok : (f : Option Fault) (b : List ℕ) (e : Extent) → verdict_by f b ≡ Ok e
+pub verdict_ok : (f : Option Fault) (b : List ℕ) (e : Extent) → extent_verdict f b ≡ Ok e
     → (f ≡ None) × (extent_or (file_system_at b) (outer_fault kinds.FileSystem 16) b ≡ Ok e)
 verdict_ok None b e h = (refl, h)
 verdict_ok (Some f) b e h = cc
@@ -50,13 +50,13 @@ extent_ok None f b e h = cc
 extent_ok (Some fs) f b e h = (fs, refl, cc)
 
 -- the verdict by its first fault and its file system
-pub verdict_err : (o : Option Fault) (b : List ℕ) (f : Fault) → o ≡ Some f → verdict_by o b ≡ Err f
+pub verdict_err : (o : Option Fault) (b : List ℕ) (f : Fault) → o ≡ Some f → extent_verdict o b ≡ Err f
 verdict_err None b f is = cc
 verdict_err (Some g) b f is = cc
 
-pub verdict_extent : (b : List ℕ) (fs : FileSystem) → first_fault (head_checks b) ≡ None → file_system_at b ≡ Some fs → verdict_of b ≡ Ok (extent_at fs b)
+pub verdict_extent : (b : List ℕ) (fs : FileSystem) → first_fault (head_checks b) ≡ None → file_system_at b ≡ Some fs → head_verdict b ≡ Ok (extent_at fs b)
 verdict_extent b fs none system =
-    ap (λ (o : Option Fault). verdict_by o b) none ∙ ap (λ (o : Option FileSystem). extent_or o (outer_fault kinds.FileSystem 16) b) system
+    ap (λ (o : Option Fault). extent_verdict o b) none ∙ ap (λ (o : Option FileSystem). extent_or o (outer_fault kinds.FileSystem 16) b) system
 
 -- ---- the block map
 
@@ -169,7 +169,7 @@ checked b (front, (signature, (system, (revision, (header_len, (header, (sum, (m
 }
 
 front_of : (b : List ℕ) (fs : FileSystem) → IsBytes b → file_system_at b ≡ Some fs → field 16 16 b ≡ system_guid fs → AllHold (head_checks b)
-    → (x : Option Extension) × Front (fields_of fs x b) (extent_at fs b) b
+    → (x : Option Extension) × BeginsVolume (fields_of fs x b) (extent_at fs b) b
 front_of b fs small is guid all =
     let n : ℕ = header_len_at b in
     let holds = checked b all in
@@ -208,7 +208,7 @@ front_of b fs small is guid all =
       volume_least = rw len (leb-true _ _ vol_low.1);
       volume_most = leb-true _ _ vol.1;
     } in
-    let front : Front h (extent_at fs b) b = record {
+    let front : BeginsVolume h (extent_at fs b) b = record {
       head = head;
       long_enough = within;
       whole = whole;
@@ -236,18 +236,18 @@ guid_finds b Ffs3 is =
     rw (two, (bytes_eq-Decides (field 16 16 b) (system_guid Ffs3)).1 is) refl
 
 -- bytes without a fault begin with a volume
-pub front_found : (b : List ℕ) (e : Extent) → IsBytes b → verdict_of b ≡ Ok e → (x : Option Extension) × Front (fields_of e.file_system x b) e b
+pub front_found : (b : List ℕ) (e : Extent) → IsBytes b → head_verdict b ≡ Ok e → (x : Option Extension) × BeginsVolume (fields_of e.file_system x b) e b
 front_found b e small h =
     let v = verdict_ok (first_fault (head_checks b)) b e h in
     let x = extent_ok (file_system_at b) _ b e v.1 in
-    subst (λ (e : Extent). (y : Option Extension) × Front (fields_of e.file_system y b) e b) x.2 (front_of b x.0 small x.1 (guid_found b x.0 x.1) (all_hold (head_checks b) v.0))
+    subst (λ (e : Extent). (y : Option Extension) × BeginsVolume (fields_of e.file_system y b) e b) x.2 (front_of b x.0 small x.1 (guid_found b x.0 x.1) (all_hold (head_checks b) v.0))
 
 -- an extent by its fields
 extent_is : (l n f : ℕ) (fs : FileSystem) (p : Polarity) (e : Extent) → l ≡ e.length → n ≡ e.header_len → f ≡ e.first → fs ≡ e.file_system → p ≡ e.polarity
     → (let made : Extent = record { length = l; header_len = n; first = f; file_system = fs; polarity = p } in made) ≡ e
 extent_is l n f fs p e a b c d g = rw (a, b, c, d, g) refl
 
-front_exact : (b : List ℕ) (h : HeadFields) (e : Extent) → header_len_at b ≡ e.header_len → 64 ≤ e.header_len → Front h e b → verdict_of b ≡ Ok e
+front_exact : (b : List ℕ) (h : HeadFields) (e : Extent) → header_len_at b ≡ e.header_len → 64 ≤ e.header_len → BeginsVolume h e b → head_verdict b ≡ Ok e
 front_exact b h e same least f =
     let m : ℕ = e.header_len in
     let head = f.head in
@@ -304,7 +304,7 @@ front_exact b h e same least f =
     rw (none_faulty (head_checks b) all, system) (ap Ok made)
 
 -- bytes that begin with a volume have no fault
-pub front_only : (b : List ℕ) (h : HeadFields) (e : Extent) → Front h e b → verdict_of b ≡ Ok e
+pub front_only : (b : List ℕ) (h : HeadFields) (e : Extent) → BeginsVolume h e b → head_verdict b ≡ Ok e
 front_only b h e f =
     let head = f.head in
     let n : ℕ = header_len_at b in
@@ -320,7 +320,7 @@ fields_are : (z : List ℕ) (fs : FileSystem) (l a r : ℕ) (bs : List (ℕ × �
 fields_are z fs l a r bs x h p q s t u v w = rw (← p, ← q, ← s, ← t, ← u, ← v, ← w) refl
 
 -- a volume's header has no other fields
-pub front_fields : (b : List ℕ) (h : HeadFields) (e : Extent) → Front h e b → h ≡ fields_of e.file_system h.ext b
+pub front_fields : (b : List ℕ) (h : HeadFields) (e : Extent) → BeginsVolume h e b → h ≡ fields_of e.file_system h.ext b
 front_fields b h e f =
     let head = f.head in
     let m : ℕ = e.header_len in
@@ -338,9 +338,9 @@ front_fields b h e f =
     (sym pairs.0 ∙ ap (λ (n : ℕ). blocks_at n b) (sym same))
     refl
 
-pub fault_first : (b : List ℕ) (f : Fault) → verdict_of b ≡ Err f → IsFirstFault (head_checks b) f
+pub fault_first : (b : List ℕ) (f : Fault) → head_verdict b ≡ Err f → IsFirstFault (head_checks b) f
 fault_first b f h = go (first_fault (head_checks b)) refl h where
-  go : (o : Option Fault) → first_fault (head_checks b) ≡ o → verdict_by o b ≡ Err f → IsFirstFault (head_checks b) f
+  go : (o : Option Fault) → first_fault (head_checks b) ≡ o → extent_verdict o b ≡ Err f → IsFirstFault (head_checks b) f
   go (Some g) is k = first_is (head_checks b) f (is ∙ cc)
   go None is k = found (file_system_at b) (checked b (all_hold (head_checks b) is)).file_system k where
     found : (o : Option FileSystem) → is_some o ≡ true → extent_or o (outer_fault kinds.FileSystem 16) b ≡ Err f → IsFirstFault (head_checks b) f
@@ -373,15 +373,15 @@ fault_known b f first = λ want.
 
 -- ---- an answer
 
-pub ok_found : (b : List ℕ) (r : Result Extent Fault) → IsBytes b → r ≡ verdict_of b → IfOk r (λ e. (h : HeadFields) × Front h e b)
+pub ok_found : (b : List ℕ) (r : Result Extent Fault) → IsBytes b → r ≡ head_verdict b → IfOk r (λ e. (h : HeadFields) × BeginsVolume h e b)
 ok_found b (Ok e) small is = let found = front_found b e small (sym is) in (fields_of e.file_system found.0 b, found.1)
 ok_found b (Err f) small is = tt
 
-pub err_first : (b : List ℕ) (r : Result Extent Fault) → r ≡ verdict_of b → IfErr r (IsFirstFault (head_checks b))
+pub err_first : (b : List ℕ) (r : Result Extent Fault) → r ≡ head_verdict b → IfErr r (IsFirstFault (head_checks b))
 err_first b (Ok e) is = tt
 err_first b (Err f) is = fault_first b f (sym is)
 
-pub err_within : (b : List ℕ) (r : Result Extent Fault) → r ≡ verdict_of b → IfErr r (λ f. f.place.offset ≤ length b)
+pub err_within : (b : List ℕ) (r : Result Extent Fault) → r ≡ head_verdict b → IfErr r (λ f. f.place.offset ≤ length b)
 err_within b (Ok e) is = tt
 err_within b (Err f) is = fault_within b f (fault_first b f (sym is))
 
@@ -392,7 +392,7 @@ pub record Within (b : List ℕ) (e : Extent) : Type 0 where
   pub multiple : e.header_len % 8 ≡ 0
   pub within : e.header_len ≤ length b
 
-pub front_within : (b : List ℕ) (h : HeadFields) (e : Extent) → Front h e b → Within b e
+pub front_within : (b : List ℕ) (h : HeadFields) (e : Extent) → BeginsVolume h e b → Within b e
 front_within b h e f =
     let len : length (take e.header_len b) ≡ e.header_len = length-take-le e.header_len b f.long_enough in
     let least : 64 ≤ e.header_len = rw (← len) f.head.least in
@@ -404,9 +404,9 @@ front_within b h e f =
     }
 
 -- what is kept of a header, with the extended header that stands there, are its fields
-pub kept_fields : (b : List ℕ) (e : Extent) (z : List ℕ) (l a r : ℕ) (bs : List (ℕ × ℕ)) (x : Option Extension) → (h : HeadFields) × Front h e b → z ≡ field 0 16 b
+pub kept_fields : (b : List ℕ) (e : Extent) (z : List ℕ) (l a r : ℕ) (bs : List (ℕ × ℕ)) (x : Option Extension) → (h : HeadFields) × BeginsVolume h e b → z ≡ field 0 16 b
     → l ≡ volume_len_at b → a ≡ le_at 44 4 b → r ≡ slice_index b 54 → bs ≡ pairs_of (field 56 (e.header_len - 64) b) → HasExt x e b
-    → (let made : HeadFields = record { zero_vector = z; file_system = e.file_system; length = l; attributes = a; reserved = r; blocks = bs; ext = x } in Front made e b)
+    → (let made : HeadFields = record { zero_vector = z; file_system = e.file_system; length = l; attributes = a; reserved = r; blocks = bs; ext = x } in BeginsVolume made e b)
 kept_fields b e z l a r bs x found p q s t u ext =
     let front = found.1 in
     let within = front_within b found.0 e front in
@@ -414,7 +414,7 @@ kept_fields b e z l a r bs x found p q s t u ext =
     let exts : found.0.ext ≡ x = one_has_ext found.0.ext x e b within.least front.ext ext in
     let same : fields_of e.file_system found.0.ext b ≡ made =
     fields_are _ _ _ _ _ _ _ (fields_of e.file_system found.0.ext b) (sym p) refl (sym q) (sym s) (sym t) (ap (λ (n : ℕ). blocks_at n b) (sym within.at) ∙ sym u) exts in
-    subst (λ (h : HeadFields). Front h e b) (front_fields b found.0 e front ∙ same) front
+    subst (λ (h : HeadFields). BeginsVolume h e b) (front_fields b found.0 e front ∙ same) front
 
 -- where a volume has an ExtHeaderOffset, the extended header that it names
 pub record ExtThere (e : Extent) (b : List ℕ) : Type 0 where
@@ -425,7 +425,7 @@ pub record ExtThere (e : Extent) (b : List ℕ) : Type 0 where
   pub size : le_at 16 4 (field (ext_offset_at b) (ext_size_at b) b) ≡ ext_size_at b
   pub read : (x : Extension) → IsExt x (field (ext_offset_at b) (ext_size_at b) b) → HasExt (Some x) e b
 
-pub ext_there : {b : List ℕ} {e : Extent} {offset : ℕ} → ((h : HeadFields) × Front h e b) → offset ≡ ext_offset_at b → (offset ≡ 0 → ⊥)
+pub ext_there : {b : List ℕ} {e : Extent} {offset : ℕ} → ((h : HeadFields) × BeginsVolume h e b) → offset ≡ ext_offset_at b → (offset ≡ 0 → ⊥)
     → ExtThere e b
 ext_there {b} {e} {offset} found at some =
     let front = found.1 in
@@ -440,22 +440,22 @@ ext_there {b} {e} {offset} found at some =
     }
 
 -- bytes begin with one volume at most
-pub one_front : (b : List ℕ) (h k : HeadFields) (e x : Extent) → Front h e b → Front k x b → (h ≡ k) × (e ≡ x)
+pub one_front : (b : List ℕ) (h k : HeadFields) (e x : Extent) → BeginsVolume h e b → BeginsVolume k x b → (h ≡ k) × (e ≡ x)
 one_front b h k e x front other =
     let both : (let A : Type 0 = Result Extent Fault in ◌≡◌ {A = A} (Ok e) (Ok x)) = sym (front_only b h e front) ∙ front_only b k x other in
     let extents : e ≡ x = cc in
-    let here : Front k e b = subst (λ (y : Extent). Front k y b) (sym extents) other in
+    let here : BeginsVolume k e b = subst (λ (y : Extent). BeginsVolume k y b) (sym extents) other in
     let exts : h.ext ≡ k.ext = one_has_ext h.ext k.ext e b (front_within b h e front).least front.ext here.ext in
     (front_fields b h e front ∙ ap (λ (y : Option Extension). fields_of e.file_system y b) exts ∙ sym (front_fields b k e here), extents)
 
 -- ---- laws for the crates above
 
 -- the checks of the header of a volume hold
-pub front_holds : (b : List ℕ) (h : HeadFields) (e : Extent) → Front h e b → AllHold (head_checks b)
+pub front_holds : (b : List ℕ) (h : HeadFields) (e : Extent) → BeginsVolume h e b → AllHold (head_checks b)
 front_holds b h e front = all_hold (head_checks b) (verdict_ok (first_fault (head_checks b)) b e (front_only b h e front)).0
 
 -- its extent is what the header says
-pub front_extent : (b : List ℕ) (h : HeadFields) (e : Extent) → Front h e b → (fs : FileSystem) × (extent_at fs b ≡ e)
+pub front_extent : (b : List ℕ) (h : HeadFields) (e : Extent) → BeginsVolume h e b → (fs : FileSystem) × (extent_at fs b ≡ e)
 front_extent b h e front =
     let v = verdict_ok (first_fault (head_checks b)) b e (front_only b h e front) in
     let x = extent_ok (file_system_at b) _ b e v.1 in
@@ -468,7 +468,7 @@ pub record Lies (e : Extent) : Type 0 where
   pub within : e.header_len ≤ e.length
   pub limit : e.length ≤ volume_limit
 
-pub front_lies : (b : List ℕ) (h : HeadFields) (e : Extent) → Front h e b → Lies e
+pub front_lies : (b : List ℕ) (h : HeadFields) (e : Extent) → BeginsVolume h e b → Lies e
 front_lies b h e f =
     let len : length (take e.header_len b) ≡ e.header_len = length-take-le e.header_len b f.long_enough in
     record {
@@ -479,7 +479,7 @@ front_lies b h e f =
     }
 
 -- the first file may stand at a multiple of 8 in the volume, whose length is a multiple of 8
-pub first_lies : (b : List ℕ) (h : HeadFields) (e : Extent) → Front h e b → (e.first % 8 ≡ 0) × (e.first ≤ e.length) × (e.length % 8 ≡ 0)
+pub first_lies : (b : List ℕ) (h : HeadFields) (e : Extent) → BeginsVolume h e b → (e.first % 8 ≡ 0) × (e.first ≤ e.length) × (e.length % 8 ≡ 0)
 first_lies b h e f =
     by h.ext f.ext (front_within b h e f).multiple (front_lies b h e f).within (ap (λ (n : ℕ). n % 8) f.length_is ∙ f.head.volume_multiple)
   where
@@ -489,7 +489,7 @@ first_lies b h e f =
     by (Some x) (before, part, behind, text, at, low, high, ext, is) multiple within whole = (omega (arith, is), omega (arith, is, high, whole), whole)
 
 -- a volume is a matter of its own bytes
-pub front_same : (b c : List ℕ) (h : HeadFields) (e : Extent) → Front h e b → e.length ≤ length c → take e.length c ≡ take e.length b → Front h e c
+pub front_same : (b c : List ℕ) (h : HeadFields) (e : Extent) → BeginsVolume h e b → e.length ≤ length c → take e.length c ≡ take e.length b → BeginsVolume h e c
 front_same b c h e f long same =
     let lies = front_lies b h e f in
     let first : take e.header_len c ≡ take e.header_len b =
@@ -515,13 +515,13 @@ offset_none None e b least has zero = refl
 offset_none (Some x) e b least has zero = absurd (omega (arith, least, zero, (placed x e b has).behind_header))
 
 -- ExtHeaderOffset is 0 where there is none
-pub bare_offset : (b : List ℕ) (h : HeadFields) (e : Extent) → Front h e b → h.ext ≡ None → (ext_offset_at b == 0) ≡ true
+pub bare_offset : (b : List ℕ) (h : HeadFields) (e : Extent) → BeginsVolume h e b → h.ext ≡ None → (ext_offset_at b == 0) ≡ true
 bare_offset b h e front bare = eq-eqb _ _ (none_offset h.ext e b front.ext bare).0
 
 -- and there is none where it is 0
-pub offset_bare : (b : List ℕ) (h : HeadFields) (e : Extent) → Front h e b → (ext_offset_at b == 0) ≡ true → h.ext ≡ None
+pub offset_bare : (b : List ℕ) (h : HeadFields) (e : Extent) → BeginsVolume h e b → (ext_offset_at b == 0) ≡ true → h.ext ≡ None
 offset_bare b h e front zero = offset_none h.ext e b (front_within b h e front).least front.ext (eqb-true _ _ zero)
 
 -- without one, the first file stands behind the header
-pub bare_first : (b : List ℕ) (h : HeadFields) (e : Extent) → Front h e b → h.ext ≡ None → e.first ≡ e.header_len
+pub bare_first : (b : List ℕ) (h : HeadFields) (e : Extent) → BeginsVolume h e b → h.ext ≡ None → e.first ≡ e.header_len
 bare_first b h e front bare = (none_offset h.ext e b front.ext bare).1

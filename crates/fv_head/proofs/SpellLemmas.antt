@@ -6,14 +6,14 @@ use Rattle.fv_base.specs.Sinks.{WalkLaws}
 use Rattle.fv_base.specs.Value.{le_bytes}
 use Rattle.fv_head.specs.Pairs.{pairs_bytes}
 use Rattle.fv_head.specs.WordLaws.{adds_joined}
-use Rattle.fv_head.specs.WordSums.{worth, turned}
+use Rattle.fv_head.specs.WordSums.{word_weight, is_high_behind}
 
 -- one more byte is added
-pub byte_added : (high h : Bool) (xs : List ℕ) (i t0 t w : ℕ) → i < length xs → h ≡ turned high (take i xs) → t % 65536 ≡ (t0 + worth high (take i xs)) % 65536
-    → w ≡ worth h (get_or xs i 0 ∷ []) → (not h ≡ turned high (take (i + 1) xs)) × ((t + w) % 65536 % 65536 ≡ (t0 + worth high (take (i + 1) xs)) % 65536)
+pub byte_added : (high h : Bool) (xs : List ℕ) (i t0 t w : ℕ) → i < length xs → h ≡ is_high_behind high (take i xs) → t % 65536 ≡ (t0 + word_weight high (take i xs)) % 65536
+    → w ≡ word_weight h (get_or xs i 0 ∷ []) → (not h ≡ is_high_behind high (take (i + 1) xs)) × ((t + w) % 65536 % 65536 ≡ (t0 + word_weight high (take (i + 1) xs)) % 65536)
 byte_added high h xs i t0 t w within first total is =
     let x : List ℕ = get_or xs i 0 ∷ [] in
-    let more : (t + w) % 65536 % 65536 ≡ (t + worth h x) % 65536 = rw (← is) (omega arith) in
+    let more : (t + w) % 65536 % 65536 ≡ (t + word_weight h x) % 65536 = rw (← is) (omega arith) in
     let both = adds_joined t0 t ((t + w) % 65536) high h (not h) (take i xs) x first refl total more in
     rw (take_more xs i 0 within) both
 

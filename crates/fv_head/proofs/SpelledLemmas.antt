@@ -10,11 +10,11 @@ use Rattle.fv_base.proofs.FieldLemmas.{bytes_take, bytes_drop, bytes_append, byt
 use Rattle.std.proofs.lemmas.List.Sums.{sum_by-cons}
 use Rattle.fv_base.proofs.SumLemmas.{sum-words_of-append}
 use Rattle.fv_head.specs.Ext.{Extension}
-use Rattle.fv_head.specs.Head.{HasExt, HeadFields, IsHead, IsReadHead, Front, IsCanonicalHead, canonical_offset, extent_of, header_len_of, signature_bytes, system_guid}
+use Rattle.fv_head.specs.Head.{HasExt, HeadFields, IsHead, IsReadHead, BeginsVolume, IsCanonicalHead, canonical_offset, extent_of, header_len_of, signature_bytes, system_guid}
 use Rattle.fv_head.specs.Pairs.{pairs_of, pairs_bytes}
-use Rattle.fv_head.specs.SpelledExt.{ext_spelled, IfRead, canonical_end, canonical_first, CanonicalRest}
-use Rattle.fv_head.specs.Spelled.{spelled, checksum_of, canonical_head}
-use Rattle.fv_head.specs.WordSums.{worth}
+use Rattle.fv_head.specs.ExtImage.{ext_spelled, IfRead, canonical_end, canonical_first, CanonicalRest}
+use Rattle.fv_head.specs.HeadImage.{head_spelled, checksum_of, canonical_head}
+use Rattle.fv_head.specs.WordSums.{word_weight}
 use Rattle.fv_head.proofs.ExtSpelled.{ext_again, ext_len_most}
 
 -- ---- pairs
@@ -119,8 +119,8 @@ patched b checksum offset = take 50 b ++ (le_bytes 2 checksum ++ (le_bytes 2 off
 rejoined : (a b c d e f g h i j k : List ℕ) → a ++ (b ++ (c ++ (d ++ (e ++ (f ++ (g ++ (h ++ (i ++ (j ++ k))))))))) ≡ a ++ b ++ c ++ d ++ e ++ f ++ g ++ h ++ i ++ j ++ k
 rejoined a b c d e f g h i j k = simp append_assoc refl
 
-patched_is : (h : HeadFields) (b : List ℕ) (checksum offset : ℕ) → IsHead h b → patched b checksum offset ≡ spelled h checksum offset
-unfolding spelled patched
+patched_is : (h : HeadFields) (b : List ℕ) (checksum offset : ℕ) → IsHead h b → patched b checksum offset ≡ head_spelled h checksum offset
+unfolding head_spelled patched
 patched_is h b checksum offset head =
     before_is h b (le_bytes 2 checksum ++ (le_bytes 2 offset ++ drop 54 b)) head
     ∙ ap (λ (xs : List ℕ). h.zero_vector ++ (system_guid h.file_system ++ (le_bytes 8 h.length ++ (signature_bytes ++ (le_bytes 4 h.attributes
@@ -268,13 +268,13 @@ canonical_is h (b, head) =
     let long : 54 ≤ length b = omega (arith, head.least) in
     let offset : ℕ = canonical_offset h h.ext in
     let total : ℕ = sum (words_of (patched b 0 offset)) in
-    let none : patched b 0 offset ≡ spelled h 0 offset = patched_is h b 0 offset head in
+    let none : patched b 0 offset ≡ head_spelled h 0 offset = patched_is h b 0 offset head in
     let checksum : ℕ = checksum_of h offset in
     let checksum_is : checksum ≡ (65536 - total % 65536) % 65536 = ap (λ (xs : List ℕ). (65536 - sum16_of xs) % 65536) (sym none) in
-    let small : checksum < 65536 = checksum_small (sum16_of (spelled h 0 offset)) in
+    let small : checksum < 65536 = checksum_small (sum16_of (head_spelled h 0 offset)) in
     let sums : sum (words_of (patched b checksum offset)) ≡ total + checksum = sum_patched b checksum offset small long in
     let right : sum16_of (patched b checksum offset) ≡ 0 = ap (λ (n : ℕ). n % 65536) (sums ∙ ap (λ (n : ℕ). total + n) checksum_is) ∙ checksum_right total in
-    let same : patched b checksum offset ≡ spelled h checksum offset = patched_is h b checksum offset head in
+    let same : patched b checksum offset ≡ head_spelled h checksum offset = patched_is h b checksum offset head in
     record {
       head = subst (IsHead h) same (patched_head h b checksum offset head right);
       offset = ap (le_at 52 2) (sym same) ∙ patched_offset b checksum offset (canonical_offset_small h b h.ext head) long;
@@ -293,11 +293,11 @@ canonical_only h b canonical =
     let whole : patched b checksum offset ≡ b = unpatched h b head in
     let sums : sum (words_of b) ≡ total + checksum = ap (λ (xs : List ℕ). sum (words_of xs)) (sym whole) ∙ sum_patched b checksum offset small long in
     let none_left : (total + checksum) % 65536 ≡ 0 = ap (λ (n : ℕ). n % 65536) (sym sums) ∙ head.sum in
-    let none : patched b 0 offset ≡ spelled h 0 offset = patched_is h b 0 offset head in
+    let none : patched b 0 offset ≡ head_spelled h 0 offset = patched_is h b 0 offset head in
     let checksum_is : checksum ≡ checksum_of h offset = checksum_only total checksum small none_left ∙ ap (λ (xs : List ℕ). (65536 - sum16_of xs) % 65536) none in
     sym whole ∙ patched_is h b checksum offset head
-    ∙ ap (λ (n : ℕ). spelled h n offset) checksum_is
-    ∙ ap (λ (n : ℕ). spelled h (checksum_of h n) n) canonical.offset
+    ∙ ap (λ (n : ℕ). head_spelled h n offset) checksum_is
+    ∙ ap (λ (n : ℕ). head_spelled h (checksum_of h n) n) canonical.offset
 
 -- it is as long as its fields say
 pub length-canonical : (h : HeadFields) → IsReadHead h → length (canonical_head h) ≡ header_len_of h
@@ -319,7 +319,7 @@ canonical_ext h rest (Some x) read is known (pad, used, behind, text, long) fits
 
 -- read again, with its extended header in a pad file behind it, it gives its fields
 pub canonical_front : (h : HeadFields) (rest : List ℕ) → IsReadHead h → IfRead h.ext → CanonicalRest h.ext rest → canonical_end h h.ext ≤ h.length → h.length ≤ length (canonical_head h ++ rest)
-    → Front h (extent_of h (canonical_first h h.ext)) (canonical_head h ++ rest)
+    → BeginsVolume h (extent_of h (canonical_first h h.ext)) (canonical_head h ++ rest)
 canonical_front h rest read known there fits long =
     let b : List ℕ = canonical_head h in
     let canonical = canonical_is h read in
@@ -338,15 +338,15 @@ canonical_front h rest read known there fits long =
 
 -- without an extended header, it gives its fields with any bytes behind it
 pub canonical_bare : (h : HeadFields) (rest : List ℕ) → IsReadHead h → h.ext ≡ None → header_len_of h ≤ h.length → h.length ≤ length (canonical_head h ++ rest)
-    → Front h (extent_of h (header_len_of h)) (canonical_head h ++ rest)
+    → BeginsVolume h (extent_of h (header_len_of h)) (canonical_head h ++ rest)
 canonical_bare h rest read bare fits long =
-    subst (λ (x : Option Extension). Front h (extent_of h (canonical_first h x)) (canonical_head h ++ rest)) bare
+    subst (λ (x : Option Extension). BeginsVolume h (extent_of h (canonical_first h x)) (canonical_head h ++ rest)) bare
     (canonical_front h rest read (subst IfRead (sym bare) tt) (subst (λ (x : Option Extension). CanonicalRest x rest) (sym bare) tt)
     (subst (λ (x : Option Extension). canonical_end h x ≤ h.length) (sym bare) fits) long)
 
 -- ---- sums of words in parts
 
-pub worth-words : (xs : List ℕ) → length xs % 2 ≡ 0 → worth false xs ≡ sum (words_of xs)
+pub worth-words : (xs : List ℕ) → length xs % 2 ≡ 0 → word_weight false xs ≡ sum (words_of xs)
 worth-words [] h = refl
 worth-words (x ∷ []) h = absurd (omega arith)
 worth-words (x ∷ y ∷ xs) h =
@@ -355,9 +355,9 @@ worth-words (x ∷ y ∷ xs) h =
     omega (arith, rest, first)
 
 -- a header has words alone
-pub spelled_even : (h : HeadFields) (checksum offset : ℕ) → IsReadHead h → length (spelled h checksum offset) % 2 ≡ 0
+pub spelled_even : (h : HeadFields) (checksum offset : ℕ) → IsReadHead h → length (head_spelled h checksum offset) % 2 ≡ 0
 spelled_even h checksum offset (b, head) =
-    let same : length (spelled h checksum offset) ≡ length b = ap length (sym (patched_is h b checksum offset head)) ∙ length-patched b checksum offset (omega (arith, head.least)) in
+    let same : length (head_spelled h checksum offset) ≡ length b = ap length (sym (patched_is h b checksum offset head)) ∙ length-patched b checksum offset (omega (arith, head.least)) in
     omega (arith, same, head.multiple)
 
 -- the most bytes of a header
@@ -375,10 +375,10 @@ canonical_first_multiple h None = omega arith
 canonical_first_multiple h (Some x) = omega arith
 
 -- the checksum that a sum of words comes to
-pub checksum_from : (h : HeadFields) (offset total : ℕ) → IsReadHead h → total < 65536 → total % 65536 ≡ (0 + worth false (spelled h 0 offset)) % 65536
+pub checksum_from : (h : HeadFields) (offset total : ℕ) → IsReadHead h → total < 65536 → total % 65536 ≡ (0 + word_weight false (head_spelled h 0 offset)) % 65536
     → (65536 - total) % 65536 ≡ checksum_of h offset
 checksum_from h offset total read small sums =
-    let words : total ≡ sum16_of (spelled h 0 offset) = same total (worth false (spelled h 0 offset)) small sums ∙ ap (λ (n : ℕ). n % 65536) (worth-words (spelled h 0 offset) (spelled_even h 0 offset read)) in
+    let words : total ≡ sum16_of (head_spelled h 0 offset) = same total (word_weight false (head_spelled h 0 offset)) small sums ∙ ap (λ (n : ℕ). n % 65536) (worth-words (head_spelled h 0 offset) (spelled_even h 0 offset read)) in
     ap (λ (n : ℕ). (65536 - n) % 65536) words
   where
     same : (n w : ℕ) → n < 65536 → n % 65536 ≡ (0 + w) % 65536 → n ≡ w % 65536

@@ -12,27 +12,27 @@ pub record Extension : Type 0 where
   pub tail : List ℕ
 
 -- four zero bytes
-abbrev pub no_size : List ℕ
-no_size = 0 ∷ 0 ∷ 0 ∷ 0 ∷ []
+abbrev pub zero_used_size : List ℕ
+zero_used_size = 0 ∷ 0 ∷ 0 ∷ 0 ∷ []
 
 -- an entry of type 3 with 4 bytes holds the used size
 abbrev pub is_used_size : ℕ → List ℕ → Bool
 is_used_size kind payload = (kind == 3) && (length payload == 4)
 
 -- what is kept of a payload: the value of a used size is no part of the meaning
-abbrev pub held : ℕ → List ℕ → List ℕ
-held kind payload = if is_used_size kind payload then no_size else payload
+abbrev pub kept_payload : ℕ → List ℕ → List ℕ
+kept_payload kind payload = if is_used_size kind payload then zero_used_size else payload
 
 -- the bytes begin no entry: they are shorter than an entry's header, or the size is below that or goes past their end
-abbrev pub BeginNone : List ℕ → Type 0
-BeginNone b = (length b < 4) ⊎ ((le_at 0 2 b < 4) ⊎ (length b < le_at 0 2 b))
+abbrev pub BeginNoEntry : List ℕ → Type 0
+BeginNoEntry b = (length b < 4) ⊎ ((le_at 0 2 b < 4) ⊎ (length b < le_at 0 2 b))
 
 -- the bytes are the entries joined, each a header of size and type and a payload, and then the tail, which begins no entry
-abbrev pub Entries : List (ℕ × List ℕ) → List ℕ → List ℕ → Type 0
-Entries [] tail b = (b ≡ tail) × BeginNone b
-Entries (e ∷ es) tail b =
+abbrev pub SplitsEntries : List (ℕ × List ℕ) → List ℕ → List ℕ → Type 0
+SplitsEntries [] tail b = (b ≡ tail) × BeginNoEntry b
+SplitsEntries (e ∷ es) tail b =
     (head : List ℕ) × (payload : List ℕ) × (rest : List ℕ) × (b ≡ head ++ (payload ++ rest)) × (length head ≡ 4)
-    × (le_at 0 2 head ≡ 4 + length payload) × (le_at 2 2 head ≡ e.0) × (e.1 ≡ held e.0 payload) × Entries es tail rest
+    × (le_at 0 2 head ≡ 4 + length payload) × (le_at 2 2 head ≡ e.0) × (e.1 ≡ kept_payload e.0 payload) × SplitsEntries es tail rest
 
 -- the bytes are an extended header that says this: name, size (their number), entries and tail
 pub record IsExt (x : Extension) (b : List ℕ) : Type 0 where
@@ -43,7 +43,7 @@ pub record IsExt (x : Extension) (b : List ℕ) : Type 0 where
   pub head_length : length head ≡ 4
   pub size : le head ≡ length b
   pub most : length b ≤ ext_limit
-  pub entries : Entries x.entries x.tail rest
+  pub entries : SplitsEntries x.entries x.tail rest
 
 -- some bytes are an extended header that says this
 abbrev pub IsReadExt : Extension → Type 0

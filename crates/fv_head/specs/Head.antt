@@ -65,7 +65,7 @@ HasExt (Some x) e b =
     × (e.header_len ≤ length before) × (length before + length part ≤ e.length) × IsExt x part × (e.first ≡ up_to_8 (length before + length part))
 
 -- the bytes begin with a volume of this header and this extent
-pub record Front (h : HeadFields) (e : Extent) (b : List ℕ) : Type 0 where
+pub record BeginsVolume (h : HeadFields) (e : Extent) (b : List ℕ) : Type 0 where
   pub head : IsHead h (take e.header_len b)
   pub long_enough : e.header_len ≤ length b
   pub whole : e.length ≤ length b

@@ -121,9 +121,9 @@ extent_or None f b = Err f
 extent_or (Some fs) f b = Ok (extent_at fs b)
 
 -- the first fault, or the extent
-abbrev pub verdict_by : Option Fault → List ℕ → Result Extent Fault
-verdict_by (Some f) b = Err f
-verdict_by None b = extent_or (file_system_at b) (outer_fault kinds.FileSystem 16) b
+abbrev pub extent_verdict : Option Fault → List ℕ → Result Extent Fault
+extent_verdict (Some f) b = Err f
+extent_verdict None b = extent_or (file_system_at b) (outer_fault kinds.FileSystem 16) b
 
-abbrev pub verdict_of : List ℕ → Result Extent Fault
-verdict_of b = verdict_by (first_fault (head_checks b)) b
+abbrev pub head_verdict : List ℕ → Result Extent Fault
+head_verdict b = extent_verdict (first_fault (head_checks b)) b

@@ -3,8 +3,8 @@ pub mod Ext
 pub mod Head
 pub mod HeadChecks
 pub mod Pairs
-pub mod Spelled
-pub mod SpelledExt
-pub mod View
+pub mod HeadImage
+pub mod ExtImage
+pub mod HeadView
 pub mod WordLaws
 pub mod WordSums

@@ -2,15 +2,15 @@
 use Rattle.std.specs.Prelude.{◌≡◌, ℕ, ◌+◌, ◌*◌, ◌%◌, List, [], ◌∷◌, Bool, true, false, not}
 
 -- the worth of bytes, where the first is the high byte of a word or is not
-abbrev pub worth : Bool → List ℕ → ℕ
-worth high [] = 0
-worth false (x ∷ xs) = x + worth true xs
-worth true (x ∷ xs) = 256 * x + worth false xs
+abbrev pub word_weight : Bool → List ℕ → ℕ
+word_weight high [] = 0
+word_weight false (x ∷ xs) = x + word_weight true xs
+word_weight true (x ∷ xs) = 256 * x + word_weight false xs
 
 -- whether the byte behind them is the high byte of a word
-abbrev pub turned : Bool → List ℕ → Bool
-turned high [] = high
-turned high (x ∷ xs) = turned (not high) xs
+abbrev pub is_high_behind : Bool → List ℕ → Bool
+is_high_behind high [] = high
+is_high_behind high (x ∷ xs) = is_high_behind (not high) xs
 
 abbrev pub AddsWords : {S : Type 0} (total : S → ℕ) (high : S → Bool) → S → List ℕ → S → Type 0
-AddsWords total high s bytes t = (high t ≡ turned (high s) bytes) × (total t % 65536 ≡ (total s + worth (high s) bytes) % 65536)
+AddsWords total high s bytes t = (high t ≡ is_high_behind (high s) bytes) × (total t % 65536 ≡ (total s + word_weight (high s) bytes) % 65536)

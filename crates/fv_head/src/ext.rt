@@ -4,7 +4,7 @@ ghost use Rattle.std.specs.Prelude.{◌≡◌, ◌+◌, ◌≤◌, ℕ, List, dr
 ghost use Rattle.fv_base.specs.Faults.{want_of_memory};
 ghost use Rattle.fv_base.specs.Limits.{ext_limit};
 ghost use Rattle.fv_base.specs.Value.{le_at};
-ghost use Rattle.fv_head.specs.Ext.{BeginNone, Entries, IsExt, IsReadExt, held, is_used_size};
+ghost use Rattle.fv_head.specs.Ext.{BeginNoEntry, SplitsEntries, IsExt, IsReadExt, kept_payload, is_used_size};
 
 use crate::layout::{
     EXT_ENTRY_HEADER_LEN, EXT_ENTRY_SIZE_OFFSET, EXT_ENTRY_TYPE_OFFSET, EXT_HEADER_LEN,
@@ -99,7 +99,7 @@ impl ExtHeader {
 // The size of the entry that the bytes begin with, if they begin one.
 fn entry_len(bytes: &[u8]) -> Option<usize>
     ensures some { IfSome result (λ n. (n ≡ le_at 0 2 bytes.now) × (4 ≤ n) × (n ≤ length bytes.now)) }
-    ensures none { IfNone result (BeginNone bytes.now) }
+    ensures none { IfNone result (BeginNoEntry bytes.now) }
 {
     if bytes.len() < EXT_ENTRY_HEADER_LEN {
         return None;
@@ -121,7 +121,7 @@ pub(crate) fn is_used_size(kind: u16, payload: &[u8]) -> bool
 // The entry of these bytes, whose first two are its size.
 fn entry_of(alloc: Global, entry: &[u8]) -> Result<ExtEntry, Fault>
     requires { 4 ≤ length entry.now }
-    ensures ok { IfOk result (λ e. (e.0 ≡ le_at 2 2 entry.now) × (e.1 ≡ held (le_at 2 2 entry.now) (drop 4 entry.now))) }
+    ensures ok { IfOk result (λ e. (e.0 ≡ le_at 2 2 entry.now) × (e.1 ≡ kept_payload (le_at 2 2 entry.now) (drop 4 entry.now))) }
     ensures err { IfErr result (λ f. f ≡ want_of_memory) }
 {
     let kind = u16_at(entry, EXT_ENTRY_TYPE_OFFSET);
@@ -137,7 +137,7 @@ fn entry_of(alloc: Global, entry: &[u8]) -> Result<ExtEntry, Fault>
 
 // The entries that the bytes begin with, and the tail behind them.
 fn entries_of(alloc: Global, bytes: &[u8]) -> Result<(Vec<ExtEntry>, ByteList), Fault>
-    ensures ok { IfOk result (λ r. Entries r.0.items r.1 bytes.now) }
+    ensures ok { IfOk result (λ r. SplitsEntries r.0.items r.1 bytes.now) }
     ensures err { IfErr result (λ f. f ≡ want_of_memory) }
 {
     let mut entries = Vec::new(alloc);

@@ -4,7 +4,7 @@ ghost use Rattle.std.specs.Prelude.{◌≡◌, ◌⊎◌, ◌%◌, ◌≤◌, le
 ghost use Rattle.fv_base.specs.Checks.{IsFirstFault};
 ghost use Rattle.fv_base.specs.Faults.{want_of_memory};
 ghost use Rattle.fv_base.specs.Limits.{header_limit};
-ghost use Rattle.fv_head.specs.Head.{HasExt, HeadFields, Front, IsReadHead, header_len_of};
+ghost use Rattle.fv_head.specs.Head.{HasExt, HeadFields, BeginsVolume, IsReadHead, header_len_of};
 ghost use Rattle.fv_head.specs.HeadChecks.{head_checks};
 ghost use Rattle.fv_head.specs.Pairs.{pairs_of};
 ghost use Rattle.fv_head.specs.declared.extent.Extent.{Extent};
@@ -43,7 +43,7 @@ impl Model for VolumeHead {
 
     ghost Value = { HeadFields };
 
-    ghost use Rattle.fv_head.specs.View.{fields_held};
+    ghost use Rattle.fv_head.specs.HeadView.{fields_held};
 
     ghost view = { fields_held };
 
@@ -132,7 +132,7 @@ fn blocks_of(alloc: Global, bytes: &[u8]) -> Result<BlockMap, Fault>
 
 // The extended header of the volume that the bytes begin with, if there is one.
 fn ext_at(alloc: Global, bytes: &[u8], extent: &Extent) -> Result<Option<ExtHeader>, Fault>
-    requires front { (h : HeadFields) × Front h extent.now bytes.now }
+    requires front { (h : HeadFields) × BeginsVolume h extent.now bytes.now }
     ensures ok { IfOk result (λ x. HasExt x extent.now bytes.now) }
     ensures err { IfErr result (λ f. f ≡ want_of_memory) }
 {
@@ -144,8 +144,8 @@ fn ext_at(alloc: Global, bytes: &[u8], extent: &Extent) -> Result<Option<ExtHead
 
 // The fields of the header that the bytes begin with.
 fn head_of(alloc: Global, bytes: &[u8], extent: &Extent) -> Result<VolumeHead, Fault>
-    requires front { (h : HeadFields) × Front h extent.now bytes.now }
-    ensures ok { IfOk result (λ h. Front h extent.now bytes.now) }
+    requires front { (h : HeadFields) × BeginsVolume h extent.now bytes.now }
+    ensures ok { IfOk result (λ h. BeginsVolume h extent.now bytes.now) }
     ensures err { IfErr result (λ f. f ≡ want_of_memory) }
 {
     let header_len = extent.header_len as usize;
@@ -175,16 +175,16 @@ fn head_of(alloc: Global, bytes: &[u8], extent: &Extent) -> Result<VolumeHead, F
 /// begin with a volume.
 pub fn read_head(alloc: Global, bytes: &[u8]) -> Result<(VolumeHead, Extent), Fault>
     // The bytes begin with this volume.
-    ensures found { IfOk result (λ r. Front r.0 r.1 bytes.now) }
+    ensures found { IfOk result (λ r. BeginsVolume r.0 r.1 bytes.now) }
 
     // Every volume that they begin with is answered, unless memory runs out.
-    ensures only { (h : HeadFields) (e : Extent) → Front h e bytes.now → (result ≡ Ok (h, e)) ⊎ (result ≡ Err want_of_memory) }
+    ensures only { (h : HeadFields) (e : Extent) → BeginsVolume h e bytes.now → (result ≡ Ok (h, e)) ⊎ (result ≡ Err want_of_memory) }
 
     // A refusal names the first check that does not hold.
     ensures first { IfErr result (λ f. (f ≡ want_of_memory) ⊎ IsFirstFault (head_checks bytes.now) f) }
 
     // Memory is wanted only where they begin with a volume.
-    ensures memory { IfErr result (λ f. f ≡ want_of_memory → (h : HeadFields) × (e : Extent) × Front h e bytes.now) }
+    ensures memory { IfErr result (λ f. f ≡ want_of_memory → (h : HeadFields) × (e : Extent) × BeginsVolume h e bytes.now) }
 
     // A refusal stands within the bytes or at their end.
     ensures bound { IfErr result (λ f. f.place.offset ≤ length bytes.now) }

@@ -4,11 +4,11 @@
 mod attributes;
 mod block_map;
 mod ext;
+mod ext_image;
 mod extent;
 mod head;
+mod head_image;
 mod layout;
-mod spell;
-mod spell_ext;
 #[cfg(test)]
 mod tests;
 mod verify;
@@ -17,9 +17,9 @@ mod write;
 pub use attributes::FvAttributes;
 pub use block_map::BlockMap;
 pub use ext::{ExtEntry, ExtHeader};
+pub use ext_image::{ext_bytes, len_of_ext, put_ext};
 pub use extent::Extent;
 pub use head::{VolumeHead, read_head};
-pub use spell::{first_edge, head_bytes, put_head};
-pub use spell_ext::{ext_bytes, len_of_ext, put_ext};
+pub use head_image::{first_edge, head_bytes, put_head};
 pub use verify::{is_one_volume, verify_fv};
 pub use write::{write_ext, write_head};

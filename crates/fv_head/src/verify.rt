@@ -5,8 +5,8 @@ ghost use Rattle.fv_base.specs.Checks.{IsFirstFault, first_fault};
 ghost use Rattle.fv_base.specs.Guids.{bytes_of};
 ghost use Rattle.fv_base.specs.Sums.{sum16_of};
 ghost use Rattle.fv_base.specs.Value.{le_at};
-ghost use Rattle.fv_head.specs.Head.{HeadFields, Front, system_guid};
-ghost use Rattle.fv_head.specs.HeadChecks.{has_signature, file_system_at, is_one_volume, header_len_at, is_header_len, is_zero_pair, makes_up, has_block_map, is_volume_len, has_ext, first_at, extent_at, verdict_of, front_checks, whole_checks, head_checks};
+ghost use Rattle.fv_head.specs.Head.{HeadFields, BeginsVolume, system_guid};
+ghost use Rattle.fv_head.specs.HeadChecks.{has_signature, file_system_at, is_one_volume, header_len_at, is_header_len, is_zero_pair, makes_up, has_block_map, is_volume_len, has_ext, first_at, extent_at, head_verdict, front_checks, whole_checks, head_checks};
 ghost use Rattle.fv_head.specs.Pairs.{pairs_of};
 ghost use Rattle.fv_head.specs.declared.extent.Extent.{Extent};
 
@@ -259,7 +259,7 @@ fn whole_verdict(bytes: &[u8]) -> Result<(), Fault>
 
 // The extent, or the first fault.
 fn verdict(bytes: &[u8]) -> Result<Extent, Fault>
-    ensures { result ≡ verdict_of bytes.now }
+    ensures { result ≡ head_verdict bytes.now }
 {
     let file_system = front_verdict(bytes)?;
     whole_verdict(bytes)?;
@@ -276,10 +276,10 @@ fn verdict(bytes: &[u8]) -> Result<Extent, Fault>
 /// where FvLength bytes are not there, ExtHeader. Offsets are in bytes from the first.
 pub fn verify_fv(bytes: &[u8]) -> Result<Extent, Fault>
     // The bytes begin with a volume of this extent.
-    ensures found { IfOk result (λ e. (h : HeadFields) × Front h e bytes.now) }
+    ensures found { IfOk result (λ e. (h : HeadFields) × BeginsVolume h e bytes.now) }
 
     // Every volume that they begin with is answered.
-    ensures only { (h : HeadFields) (e : Extent) → Front h e bytes.now → result ≡ Ok e }
+    ensures only { (h : HeadFields) (e : Extent) → BeginsVolume h e bytes.now → result ≡ Ok e }
 
     // A refusal names the first check that does not hold.
     ensures first { IfErr result (IsFirstFault (head_checks bytes.now)) }

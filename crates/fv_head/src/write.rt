@@ -5,12 +5,12 @@ ghost use Rattle.std.specs.Io.KnownBytes.{Appends};
 ghost use Rattle.fv_base.specs.Output.{WriteStops};
 ghost use Rattle.fv_base.specs.Port.{inner_of, has_erred};
 ghost use Rattle.fv_head.specs.Head.{IsCanonicalHead};
-ghost use Rattle.fv_head.specs.SpelledExt.{ext_spelled};
+ghost use Rattle.fv_head.specs.ExtImage.{ext_spelled};
 
 use crate::ext::ExtHeader;
+use crate::ext_image::put_ext;
 use crate::head::VolumeHead;
-use crate::spell::put_head;
-use crate::spell_ext::put_ext;
+use crate::head_image::put_head;
 use fv_base::{Fault, Port, WriteSink};
 use std::io::Write;
 

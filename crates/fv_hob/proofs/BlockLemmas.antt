@@ -7,17 +7,17 @@ use Rattle.fv_base.specs.Checks.{AllHold, first_fault}
 use Rattle.fv_base.specs.Value.{IsBytes, le, le_at}
 use Rattle.fv_base.proofs.CheckLemmas.{and_split, and_join, all_hold}
 use Rattle.fv_base.proofs.FieldLemmas.{bytes_take, field-append_front, field-take, same_cut, two_bytes}
-use Rattle.fv_hob.specs.Checks.{BlockStands, hob_checks, is_hob_len}
-use Rattle.fv_hob.specs.Hobs.{HobForm, IsHob, code_of, has_shape, hob_in, len_of}
+use Rattle.fv_hob.specs.Checks.{BeginsBlock, hob_checks, is_hob_len}
+use Rattle.fv_hob.specs.Hobs.{HobForm, IsHob, hob_type, has_shape, hob_in, hob_len}
 use Rattle.fv_hob.proofs.RowLemmas.{code_by, len_by}
 
-pub code_is : (h : HobForm) (b : List ℕ) → IsHob h b → code_of h.kind ≡ le_at 0 2 b
-code_is h b is = ap (λ (g : HobForm). code_of g.kind) is.said ∙ code_by b (le_at 0 2 b)
+pub code_is : (h : HobForm) (b : List ℕ) → IsHob h b → hob_type h.kind ≡ le_at 0 2 b
+code_is h b is = ap (λ (g : HobForm). hob_type g.kind) is.said ∙ code_by b (le_at 0 2 b)
 
-pub len_is : (h : HobForm) (b : List ℕ) → IsHob h b → len_of h.kind ≡ length b
-len_is h b is = ap (λ (g : HobForm). len_of g.kind) is.said ∙ len_by b (is.block).least (le_at 0 2 b) (is.block).shaped
+pub len_is : (h : HobForm) (b : List ℕ) → IsHob h b → hob_len h.kind ≡ length b
+len_is h b is = ap (λ (g : HobForm). hob_len g.kind) is.said ∙ len_by b (is.block).least (le_at 0 2 b) (is.block).shaped
 
-pub len_small : (h : HobForm) (b : List ℕ) → IsHob h b → len_of h.kind < 65536
+pub len_small : (h : HobForm) (b : List ℕ) → IsHob h b → hob_len h.kind < 65536
 len_small h b is = subst (λ (n : ℕ). n < 65536) ((is.block).sized ∙ sym (len_is h b is)) (two_bytes 2 b (is.block).bytes)
 
 -- ---- from the checks to the block
@@ -39,7 +39,7 @@ checks_of_block : (first : Bool) (r : List ℕ) → AllHold (hob_checks first r)
 checks_of_block first r (some, (headed, (sized, (inside, (begins, (shaped, end)))))) =
     record { some = some; headed = headed; sized = sized; inside = inside; begins = begins; shaped = shaped }
 
-pub stands : (first : Bool) (r : List ℕ) → IsBytes r → first_fault (hob_checks first r) ≡ None → BlockStands first (take (le_at 2 2 r) r) r
+pub stands : (first : Bool) (r : List ℕ) → IsBytes r → first_fault (hob_checks first r) ≡ None → BeginsBlock first (take (le_at 2 2 r) r) r
 stands first r bytes none =
     let checks = checks_of_block first r (all_hold (hob_checks first r) none) in
     let n : ℕ = le_at 2 2 r in
@@ -67,7 +67,7 @@ join_first : (first : Bool) (t : Bool) → (first ≡ true → t ≡ true) → (
 join_first true t h = h refl
 join_first false t h = refl
 
-pub checks_hold : (first : Bool) (h : HobForm) (c x : List ℕ) → IsHob h c → (first ≡ true → code_of h.kind ≡ 0x0001) → AllHold (hob_checks first (c ++ x))
+pub checks_hold : (first : Bool) (h : HobForm) (c x : List ℕ) → IsHob h c → (first ≡ true → hob_type h.kind ≡ 0x0001) → AllHold (hob_checks first (c ++ x))
 checks_hold first h c x is begins =
     let r : List ℕ = c ++ x in
     let block = is.block in

@@ -1,25 +1,25 @@
 -- Bytes begin with one list at most.
 use Rattle.std.proofs.Common.{◌≡◌, ◌≤◌, ℕ, ◌*◌, List, [], ◌∷◌, ◌++◌, length, refl, sym, ap, ◌∙◌, subst, arith, length-append, append_assoc, append-nil}
 use Rattle.std.specs.List.{AllByRecursion}
-use Rattle.fv_hob.specs.Hobs.{HobForm, IsHob, code_of}
-use Rattle.fv_hob.specs.Lists.{IsEnd, IsHobList, IsNoEnd, Joins}
+use Rattle.fv_hob.specs.Hobs.{HobForm, IsHob, hob_type}
+use Rattle.fv_hob.specs.Lists.{IsEndHob, IsHobList, IsNoEndHob, JoinsHobs}
 use Rattle.fv_hob.proofs.BlockLemmas.{one_block}
 
-pub end_is_none : (g h : HobForm) → h ≡ g → IsNoEnd h → IsEnd g → ⊥
-end_is_none g h e other end = other (ap (λ (f : HobForm). code_of f.kind) e ∙ end)
+pub end_is_none : (g h : HobForm) → h ≡ g → IsNoEndHob h → IsEndHob g → ⊥
+end_is_none g h e other end = other (ap (λ (f : HobForm). hob_type f.kind) e ∙ end)
 
 -- one more block
-pub joins_more : (hs : List HobForm) (h : HobForm) (c d : List ℕ) → Joins hs c → IsHob h d → Joins (hs ++ h ∷ []) (c ++ d)
+pub joins_more : (hs : List HobForm) (h : HobForm) (c d : List ℕ) → JoinsHobs hs c → IsHob h d → JoinsHobs (hs ++ h ∷ []) (c ++ d)
 joins_more [] h c d e is = (d, [], ap (λ (l : List ℕ). l ++ d) e ∙ sym (append-nil d), is, refl)
 joins_more (g ∷ gs) h c d (c', rest, e, is, more) js =
     (c', rest ++ d, ap (λ (l : List ℕ). l ++ d) e ∙ append_assoc c' rest d, is, joins_more gs h rest d more js)
 
 -- blocks have 8 bytes at least
-pub blocks_fit : (hs : List HobForm) (b : List ℕ) → Joins hs b → 8 * length hs ≤ length b
+pub blocks_fit : (hs : List HobForm) (b : List ℕ) → JoinsHobs hs b → 8 * length hs ≤ length b
 blocks_fit [] b join = omega arith
 blocks_fit (h ∷ hs) b (c, rest, e, is, more) = omega (arith, blocks_fit hs rest more, (is.block).least, ap length e, length-append c rest)
 
-pub others_more : (hs : List HobForm) (h : HobForm) → AllByRecursion IsNoEnd hs → IsNoEnd h → AllByRecursion IsNoEnd (hs ++ h ∷ [])
+pub others_more : (hs : List HobForm) (h : HobForm) → AllByRecursion IsNoEndHob hs → IsNoEndHob h → AllByRecursion IsNoEndHob (hs ++ h ∷ [])
 others_more [] h all other = (other, tt)
 others_more (g ∷ gs) h all other = (all.0, others_more gs h all.1 other)
 
@@ -32,10 +32,10 @@ pub record SameFront (hs front : List HobForm) (last : HobForm) (x y : List ℕ)
   pub more : List HobForm
   pub e : List ℕ
   pub front_is : front ≡ hs ++ more
-  pub joined : Joins (more ++ last ∷ []) e
+  pub joined : JoinsHobs (more ++ last ∷ []) e
   pub bytes_are : x ≡ e ++ y
 
-pub same_front : (hs front : List HobForm) (last : HobForm) (c d x y : List ℕ) → Joins hs c → AllByRecursion IsNoEnd hs → Joins (front ++ last ∷ []) d → IsEnd last → c ++ x ≡ d ++ y
+pub same_front : (hs front : List HobForm) (last : HobForm) (c d x y : List ℕ) → JoinsHobs hs c → AllByRecursion IsNoEndHob hs → JoinsHobs (front ++ last ∷ []) d → IsEndHob last → c ++ x ≡ d ++ y
     → SameFront hs front last x y
 same_front [] front last c d x y e all join end same =
     record { more = front; e = d; front_is = refl; joined = join; bytes_are = ap (λ (l : List ℕ). l ++ x) (sym e) ∙ same }
@@ -48,8 +48,8 @@ same_front (h ∷ hs) (g ∷ gs) last c d x y (c', rest, e, is, more) all (d', r
     record { more = s.more; e = s.e; front_is = ap (λ (f : HobForm). f ∷ gs) (sym one.block_is) ∙ ap (λ (l : List HobForm). h ∷ l) s.front_is; joined = s.joined; bytes_are = s.bytes_are }
 
 -- the one list
-pub one_list : (front front' : List HobForm) (last last' : HobForm) (c d x y : List ℕ) → Joins (front ++ last ∷ []) c → AllByRecursion IsNoEnd front → IsEnd last
-    → Joins (front' ++ last' ∷ []) d → AllByRecursion IsNoEnd front' → IsEnd last' → c ++ x ≡ d ++ y → (front' ++ last' ∷ [] ≡ front ++ last ∷ []) × (d ≡ c)
+pub one_list : (front front' : List HobForm) (last last' : HobForm) (c d x y : List ℕ) → JoinsHobs (front ++ last ∷ []) c → AllByRecursion IsNoEndHob front → IsEndHob last
+    → JoinsHobs (front' ++ last' ∷ []) d → AllByRecursion IsNoEndHob front' → IsEndHob last' → c ++ x ≡ d ++ y → (front' ++ last' ∷ [] ≡ front ++ last ∷ []) × (d ≡ c)
 one_list [] [] last last' c d x y (c', rest, e, is, none) all end (d', rest', e', js, none') all' end' same =
     let one = one_block last last' c' d' (rest ++ x) (rest' ++ y) is js (whole c c' rest x e ∙ same ∙ sym (whole d d' rest' y e')) in
     (ap (λ (h : HobForm). h ∷ []) (sym one.block_is), e' ∙ ap (λ (l : List ℕ). d' ++ l) (none' ∙ sym none) ∙ ap (λ (l : List ℕ). l ++ rest) (sym one.bytes_are) ∙ sym e)
@@ -66,6 +66,6 @@ one_list (h ∷ hs) (g ∷ gs) last last' c d x y (c', rest, e, is, more) all en
 
 pub only_list : (xs ys : List HobForm) (c d x y : List ℕ) → IsHobList xs c → IsHobList ys d → c ++ x ≡ d ++ y → (ys ≡ xs) × (d ≡ c)
 only_list xs ys c d x y is js same =
-    let r = one_list is.front js.front is.last js.last c d x y (subst (λ (l : List HobForm). Joins l c) is.ends is.joined) is.others is.last_is
-    (subst (λ (l : List HobForm). Joins l d) js.ends js.joined) js.others js.last_is same in
+    let r = one_list is.front js.front is.last js.last c d x y (subst (λ (l : List HobForm). JoinsHobs l c) is.ends is.joined) is.others is.last_is
+    (subst (λ (l : List HobForm). JoinsHobs l d) js.ends js.joined) js.others js.last_is same in
     (js.ends ∙ r.0 ∙ sym is.ends, r.1)

@@ -7,9 +7,9 @@ use Rattle.std.proofs.lemmas.List.{take-append-drop, take_at, take_rest, length-
 use Rattle.std.proofs.Math.Seq.{take-add}
 use Rattle.fv_base.specs.Checks.{IsFirstFault}
 use Rattle.fv_base.proofs.CheckLemmas.{none_faulty, not_first, first_among}
-use Rattle.fv_hob.specs.Checks.{BlockStands, IsFirst, TableStands, hob_checks}
-use Rattle.fv_hob.specs.Hobs.{HobForm, IsHob, code_of}
-use Rattle.fv_hob.specs.Lists.{Begins, IsEnd, IsHobList, IsNoEnd, Joins}
+use Rattle.fv_hob.specs.Checks.{BeginsBlock, IsFirstHobFault, BeginsTable, hob_checks}
+use Rattle.fv_hob.specs.Hobs.{HobForm, IsHob, hob_type}
+use Rattle.fv_hob.specs.Lists.{BeginWithTable, IsEndHob, IsHobList, IsNoEndHob, JoinsHobs}
 use Rattle.fv_hob.specs.declared.fault.HobFault.{HobFault}
 use Rattle.fv_hob.specs.declared.fault.HobFaultKind.{HobFaultKind}
 use Rattle.fv_hob.specs.declared.fault.HobFaultKind.TheVariants as kinds
@@ -17,51 +17,51 @@ use Rattle.fv_hob.proofs.BlockLemmas.{checks_hold, code_is}
 use Rattle.fv_hob.proofs.ListLemmas.{joins_more, others_more, same_front}
 
 -- the blocks that were read make up the bytes up to a place
-pub record Kept (b : List ℕ) (items : List HobForm) (at : ℕ) : Type 0 where
-  pub joined : Joins items (take at b)
-  pub begins : Begins items
-  pub others : AllByRecursion IsNoEnd items
+pub record HobsKept (b : List ℕ) (items : List HobForm) (at : ℕ) : Type 0 where
+  pub joined : JoinsHobs items (take at b)
+  pub begins : BeginWithTable items
+  pub others : AllByRecursion IsNoEndHob items
   pub inside : at ≤ length b
 
-pub kept_none : (b : List ℕ) (items : List HobForm) → items ≡ [] → Kept b items 0
-kept_none b items e = subst (λ (l : List HobForm). Kept b l 0) (sym e) (record { joined = refl; begins = tt; others = tt; inside = omega arith })
+pub kept_none : (b : List ℕ) (items : List HobForm) → items ≡ [] → HobsKept b items 0
+kept_none b items e = subst (λ (l : List HobForm). HobsKept b l 0) (sym e) (record { joined = refl; begins = tt; others = tt; inside = omega arith })
 
-begins_more : (items : List HobForm) (h : HobForm) → Begins items → ((length items == 0) ≡ true → code_of h.kind ≡ 0x0001) → Begins (items ++ h ∷ [])
+begins_more : (items : List HobForm) (h : HobForm) → BeginWithTable items → ((length items == 0) ≡ true → hob_type h.kind ≡ 0x0001) → BeginWithTable (items ++ h ∷ [])
 begins_more [] h begins first = first refl
 begins_more (g ∷ gs) h begins first = begins
 
 -- the block at the front of the bytes behind a place
 stands_at : (b : List ℕ) (items : List HobForm) (c : List ℕ) (at : ℕ) (first : Bool) → first ≡ (length items == 0)
-    → BlockStands first c (take (length b - at) (drop at b)) → BlockStands (length items == 0) c (drop at b)
+    → BeginsBlock first c (take (length b - at) (drop at b)) → BeginsBlock (length items == 0) c (drop at b)
 stands_at b items c at first e stands =
-    subst (λ (t : Bool). BlockStands t c (drop at b)) e (subst (λ (l : List ℕ). BlockStands first c l) (take_rest b at) stands)
+    subst (λ (t : Bool). BeginsBlock t c (drop at b)) e (subst (λ (l : List ℕ). BeginsBlock first c l) (take_rest b at) stands)
 
 -- one more block
-pub record OneMore (b : List ℕ) (items : List HobForm) (h : HobForm) (at n : ℕ) : Type 0 where
-  pub joined : Joins (items ++ h ∷ []) (take (at + n) b)
-  pub begins : Begins (items ++ h ∷ [])
+pub record OneMoreHob (b : List ℕ) (items : List HobForm) (h : HobForm) (at n : ℕ) : Type 0 where
+  pub joined : JoinsHobs (items ++ h ∷ []) (take (at + n) b)
+  pub begins : BeginWithTable (items ++ h ∷ [])
   pub inside : at + n ≤ length b
   pub some : 8 ≤ n
 
-pub one_more : (b : List ℕ) (items : List HobForm) (h : HobForm) (c : List ℕ) (at : ℕ) → Kept b items at
-    → BlockStands (length items == 0) c (drop at b) → IsHob h c → OneMore b items h at (length c)
+pub one_more : (b : List ℕ) (items : List HobForm) (h : HobForm) (c : List ℕ) (at : ℕ) → HobsKept b items at
+    → BeginsBlock (length items == 0) c (drop at b) → IsHob h c → OneMoreHob b items h at (length c)
 one_more b items h c at k stands is =
     let whole : drop at b ≡ c ++ stands.behind = stands.joined in
     let part : take (length c) (drop at b) ≡ c = ap (take (length c)) whole ∙ take_at c stands.behind (length c) refl in
     let long : length (drop at b) ≡ length c + length stands.behind = ap length whole ∙ length-append c stands.behind in
     record {
-      joined = subst (λ (l : List ℕ). Joins (items ++ h ∷ []) l) (sym (take-add at (length c) b ∙ ap (λ (l : List ℕ). take at b ++ l) part)) (joins_more items h (take at b) c k.joined is);
+      joined = subst (λ (l : List ℕ). JoinsHobs (items ++ h ∷ []) l) (sym (take-add at (length c) b ∙ ap (λ (l : List ℕ). take at b ++ l) part)) (joins_more items h (take at b) c k.joined is);
       begins = begins_more items h k.begins (λ first. code_is h c is ∙ stands.begins first);
       inside = omega (arith, long, length-drop at b, k.inside);
       some = (stands.block).least;
     }
 
 pub kept : (b : List ℕ) (items new : List HobForm) (h : HobForm) (c : List ℕ) (at : ℕ) (first : Bool) → first ≡ (length items == 0)
-    → Kept b items at → BlockStands first c (take (length b - at) (drop at b)) → IsHob h c → IsNoEnd h → new ≡ items ++ h ∷ []
-    → Kept b new (at + length c)
+    → HobsKept b items at → BeginsBlock first c (take (length b - at) (drop at b)) → IsHob h c → IsNoEndHob h → new ≡ items ++ h ∷ []
+    → HobsKept b new (at + length c)
 kept b items new h c at first first_is k stands is other new_is =
     let more = one_more b items h c at k (stands_at b items c at first first_is stands) is in
-    subst (λ (l : List HobForm). Kept b l (at + length c)) (sym new_is) (record {
+    subst (λ (l : List HobForm). HobsKept b l (at + length c)) (sym new_is) (record {
       joined = more.joined;
       begins = more.begins;
       others = others_more items h k.others other;
@@ -69,7 +69,7 @@ kept b items new h c at first first_is k stands is other new_is =
     })
 
 pub ended : (b : List ℕ) (items new : List HobForm) (h : HobForm) (c : List ℕ) (at : ℕ) (first : Bool) → first ≡ (length items == 0)
-    → Kept b items at → BlockStands first c (take (length b - at) (drop at b)) → IsHob h c → IsEnd h → new ≡ items ++ h ∷ []
+    → HobsKept b items at → BeginsBlock first c (take (length b - at) (drop at b)) → IsHob h c → IsEndHob h → new ≡ items ++ h ∷ []
     → (at + length c ≤ length b) × IsHobList new (take (at + length c) b)
 ended b items new h c at first first_is k stands is end new_is =
     let more = one_more b items h c at k (stands_at b items c at first first_is stands) is in (
@@ -85,8 +85,8 @@ ended b items new h c at first first_is k stands is end new_is =
       }),
     )
 
-pub first_here : (b : List ℕ) (items : List HobForm) (at : ℕ) (kind : HobFaultKind) (offset : ℕ) → Kept b items at
-    → IsFirstFault (hob_checks (length items == 0) (take (length b - at) (drop at b))) kind → offset ≡ at → IsFirst b (record { kind = kind; offset = offset })
+pub first_here : (b : List ℕ) (items : List HobForm) (at : ℕ) (kind : HobFaultKind) (offset : ℕ) → HobsKept b items at
+    → IsFirstFault (hob_checks (length items == 0) (take (length b - at) (drop at b))) kind → offset ≡ at → IsFirstHobFault b (record { kind = kind; offset = offset })
 first_here b items at kind offset k first place = record {
   before = items;
   c = take at b;
@@ -101,14 +101,14 @@ first_here b items at kind offset k first place = record {
 
 -- where a block was read, or is there to be read, the bytes begin with a table
 pub table_stands : (b : List ℕ) (items : List HobForm) (c : List ℕ) (at : ℕ) (first : Bool) → first ≡ (length items == 0)
-    → Kept b items at → BlockStands first c (take (length b - at) (drop at b)) → TableStands b
+    → HobsKept b items at → BeginsBlock first c (take (length b - at) (drop at b)) → BeginsTable b
 table_stands b [] c at first first_is k stands =
-    (c, subst (λ (l : List ℕ). BlockStands true c l) (whole k.joined) (stands_at b [] c at first first_is stands))
+    (c, subst (λ (l : List ℕ). BeginsBlock true c l) (whole k.joined) (stands_at b [] c at first first_is stands))
   where
     whole : take at b ≡ [] → drop at b ≡ b
     whole e = ap (λ (l : List ℕ). l ++ drop at b) (sym e) ∙ take-append-drop at b
 table_stands b (h ∷ hs) c at first first_is k stands = go k.joined k.begins where
-  go : Joins (h ∷ hs) (take at b) → code_of h.kind ≡ 0x0001 → TableStands b
+  go : JoinsHobs (h ∷ hs) (take at b) → hob_type h.kind ≡ 0x0001 → BeginsTable b
   go (d, rest, e, is, more) begins = (
     d,
     record {
@@ -127,22 +127,22 @@ no_want begins r kind first =
     first_among P (hob_checks begins r) kind all first
 
 -- where there is a first fault the bytes begin with no list
-pub none_after : (b : List ℕ) (f : HobFault) (all : List HobForm) (d y : List ℕ) → IsFirst b f → IsHobList all d → b ≡ d ++ y → ⊥
+pub none_after : (b : List ℕ) (f : HobFault) (all : List HobForm) (d y : List ℕ) → IsFirstHobFault b f → IsHobList all d → b ≡ d ++ y → ⊥
 none_after b f all d y here is whole =
-    let s = same_front here.before is.front is.last here.c d here.r y here.read here.others (subst (λ (l : List HobForm). Joins l d) is.ends is.joined) is.last_is (sym here.joined ∙ whole) in
+    let s = same_front here.before is.front is.last here.c d here.r y here.read here.others (subst (λ (l : List HobForm). JoinsHobs l d) is.ends is.joined) is.last_is (sym here.joined ∙ whole) in
     go s.more s.e s.joined s.bytes_are (is.ends ∙ ap (λ (l : List HobForm). l ++ (is.last ∷ [])) s.front_is)
   where
     -- the block that stands at the fault
-    head : (before more : List HobForm) (last h : HobForm) (behind : List HobForm) → more ++ last ∷ [] ≡ h ∷ behind → all ≡ (before ++ more) ++ last ∷ [] → (length before == 0) ≡ true → code_of h.kind ≡ 0x0001
-    head [] more last h behind e same first = subst Begins (same ∙ e) is.begins
+    head : (before more : List HobForm) (last h : HobForm) (behind : List HobForm) → more ++ last ∷ [] ≡ h ∷ behind → all ≡ (before ++ more) ++ last ∷ [] → (length before == 0) ≡ true → hob_type h.kind ≡ 0x0001
+    head [] more last h behind e same first = subst BeginWithTable (same ∙ e) is.begins
     head (g ∷ gs) more last h behind e same first = absurd (omega (arith, eqb-true (length (g ∷ gs)) 0 first))
 
-    refuse : (h : HobForm) (c x : List ℕ) → IsHob h c → here.r ≡ c ++ x → ((length here.before == 0) ≡ true → code_of h.kind ≡ 0x0001) → ⊥
+    refuse : (h : HobForm) (c x : List ℕ) → IsHob h c → here.r ≡ c ++ x → ((length here.before == 0) ≡ true → hob_type h.kind ≡ 0x0001) → ⊥
     refuse h c x js e first =
         not_first (hob_checks (length here.before == 0) (c ++ x)) f.kind (subst (λ (l : List ℕ). IsFirstFault (hob_checks (length here.before == 0) l) f.kind) e here.kind_is)
         (none_faulty (hob_checks (length here.before == 0) (c ++ x)) (checks_hold (length here.before == 0) h c x js first))
 
-    go : (more : List HobForm) (e : List ℕ) → Joins (more ++ is.last ∷ []) e → here.r ≡ e ++ y → all ≡ (here.before ++ more) ++ is.last ∷ [] → ⊥
+    go : (more : List HobForm) (e : List ℕ) → JoinsHobs (more ++ is.last ∷ []) e → here.r ≡ e ++ y → all ≡ (here.before ++ more) ++ is.last ∷ [] → ⊥
     go [] e (c, rest, e_is, js, more') r_is same = refuse is.last c (rest ++ y) js (r_is ∙ ap (λ (l : List ℕ). l ++ y) e_is ∙ append_assoc c rest y) (head here.before [] is.last is.last [] refl same)
     go (h ∷ hs) e (c, rest, e_is, js, more') r_is same =
         refuse h c (rest ++ y) js (r_is ∙ ap (λ (l : List ℕ). l ++ y) e_is ∙ append_assoc c rest y) (head here.before (h ∷ hs) is.last h (hs ++ is.last ∷ []) refl same)

@@ -8,15 +8,15 @@ use Rattle.std.proofs.Math.Seq.{take-add}
 use Rattle.fv_base.specs.Value.{IsBytes, field, le, le_at, le_bytes}
 use Rattle.fv_base.proofs.FieldLemmas.{bytes_append, bytes_take, field_is, field-append_front, field-take}
 use Rattle.fv_base.proofs.TestLemmas.{not_equal}
-use Rattle.fv_hob.specs.Hobs.{HobForm, IsHob, code_of, has_shape, kind_by, len_of}
+use Rattle.fv_hob.specs.Hobs.{HobForm, IsHob, hob_type, has_shape, kind_by, hob_len}
 use Rattle.fv_hob.specs.declared.hob.HobKind.TheVariants as kinds
-use Rattle.fv_hob.specs.Lists.{IsHobList, IsUsed, Joins}
-use Rattle.fv_hob.specs.Spelled.{body_of, hob_spelled, list_spelled}
+use Rattle.fv_hob.specs.Lists.{IsHobList, IsUsedHob, JoinsHobs}
+use Rattle.fv_hob.specs.HobImage.{hob_fields, hob_spelled, list_spelled}
 use Rattle.fv_hob.proofs.BlockLemmas.{code_is, len_is}
 use Rattle.fv_hob.proofs.RowLemmas.{body_by}
 
 -- the header is written as it was read
-header : (h : HobForm) (b x : List ℕ) → IsHob h b → le_bytes 2 (code_of h.kind) ++ (le_bytes 2 (len_of h.kind) ++ (le_bytes 4 h.reserved ++ x)) ≡ take 8 b ++ x
+header : (h : HobForm) (b x : List ℕ) → IsHob h b → le_bytes 2 (hob_type h.kind) ++ (le_bytes 2 (hob_len h.kind) ++ (le_bytes 4 h.reserved ++ x)) ≡ take 8 b ++ x
 header h b x is =
     let bytes = (is.block).bytes in
     let least : 8 ≤ length b = (is.block).least in
@@ -71,38 +71,38 @@ zeroed h b is e =
 
 -- a block is written as it was read, but for the body of an unused one
 kept_by : (h : HobForm) (b : List ℕ) → IsHob h b → (le_at 0 2 b == 0xfffe) ≡ false → hob_spelled h ≡ b
-kept_by h b is e = header h b (concat (body_of h.kind)) is ∙ ap (λ (l : List ℕ). take 8 b ++ l) body ∙ take-append-drop 8 b where
-  body : concat (body_of h.kind) ≡ drop 8 b
-  body = ap (λ (g : HobForm). concat (body_of g.kind)) is.said ∙ body_by b (is.block).bytes (le_at 0 2 b) (is.block).shaped e
+kept_by h b is e = header h b (concat (hob_fields h.kind)) is ∙ ap (λ (l : List ℕ). take 8 b ++ l) body ∙ take-append-drop 8 b where
+  body : concat (hob_fields h.kind) ≡ drop 8 b
+  body = ap (λ (g : HobForm). concat (hob_fields g.kind)) is.said ∙ body_by b (is.block).bytes (le_at 0 2 b) (is.block).shaped e
 
 pub written_again : (h : HobForm) (b : List ℕ) → IsHob h b → IsHob h (hob_spelled h)
 written_again h b is = go (le_at 0 2 b == 0xfffe) refl where
-  zeros : (le_at 0 2 b == 0xfffe) ≡ true → concat (body_of h.kind) ≡ replicate (length b - 8) 0
-  zeros e = ap (λ (g : HobForm). concat (body_of g.kind)) is.said ∙ ap (λ (n : ℕ). concat (body_of (kind_by n b))) (eqb-true (le_at 0 2 b) 0xfffe e) ∙ append-nil (replicate (length b - 8) 0)
+  zeros : (le_at 0 2 b == 0xfffe) ≡ true → concat (hob_fields h.kind) ≡ replicate (length b - 8) 0
+  zeros e = ap (λ (g : HobForm). concat (hob_fields g.kind)) is.said ∙ ap (λ (n : ℕ). concat (hob_fields (kind_by n b))) (eqb-true (le_at 0 2 b) 0xfffe e) ∙ append-nil (replicate (length b - 8) 0)
 
   go : (t : Bool) → (le_at 0 2 b == 0xfffe) ≡ t → IsHob h (hob_spelled h)
-  go true e = subst (λ (l : List ℕ). IsHob h l) (sym (header h b (concat (body_of h.kind)) is ∙ ap (λ (l : List ℕ). take 8 b ++ l) (zeros e))) (zeroed h b is e)
+  go true e = subst (λ (l : List ℕ). IsHob h l) (sym (header h b (concat (hob_fields h.kind)) is ∙ ap (λ (l : List ℕ). take 8 b ++ l) (zeros e))) (zeroed h b is e)
   go false e = subst (λ (l : List ℕ). IsHob h l) (sym (kept_by h b is e)) is
 
 -- a block that is used is written as it was read
-pub block_kept : (h : HobForm) (b : List ℕ) → IsHob h b → IsUsed h → hob_spelled h ≡ b
+pub block_kept : (h : HobForm) (b : List ℕ) → IsHob h b → IsUsedHob h → hob_spelled h ≡ b
 block_kept h b is used = kept_by h b is (not_equal (le_at 0 2 b) 0xfffe (λ f. used (code_is h b is ∙ f)))
 
 -- a block is written in as many bytes as it has
-pub spelled_len : (h : HobForm) (b : List ℕ) → IsHob h b → length (hob_spelled h) ≡ len_of h.kind
+pub spelled_len : (h : HobForm) (b : List ℕ) → IsHob h b → length (hob_spelled h) ≡ hob_len h.kind
 spelled_len h b is = sym (len_is h (hob_spelled h) (written_again h b is))
 
 -- blocks that are used are written as they were read
-joins_kept : (hs : List HobForm) (b : List ℕ) → Joins hs b → AllByRecursion IsUsed hs → list_spelled hs ≡ b
+joins_kept : (hs : List HobForm) (b : List ℕ) → JoinsHobs hs b → AllByRecursion IsUsedHob hs → list_spelled hs ≡ b
 joins_kept [] b join used = sym join
 joins_kept (h ∷ hs) b (c, rest, e, is, more) used =
     ap (λ (l : List ℕ). l ++ list_spelled hs) (block_kept h c is used.0) ∙ ap (λ (l : List ℕ). c ++ l) (joins_kept hs rest more used.1) ∙ sym e
 
-pub list_kept : (all : List HobForm) (c : List ℕ) → IsHobList all c → AllByRecursion IsUsed all → list_spelled all ≡ c
+pub list_kept : (all : List HobForm) (c : List ℕ) → IsHobList all c → AllByRecursion IsUsedHob all → list_spelled all ≡ c
 list_kept all c is used = joins_kept all c is.joined used
 
 -- and all in as many as they were read from
-joins_len : (hs : List HobForm) (b : List ℕ) → Joins hs b → length (list_spelled hs) ≡ length b
+joins_len : (hs : List HobForm) (b : List ℕ) → JoinsHobs hs b → length (list_spelled hs) ≡ length b
 joins_len [] b join = ap length (sym join)
 joins_len (h ∷ hs) b (c, rest, e, is, more) =
     length-append (hob_spelled h) (list_spelled hs) ∙ ap (λ (n : ℕ). n + length (list_spelled hs)) (spelled_len h c is ∙ len_is h c is)
@@ -111,7 +111,7 @@ joins_len (h ∷ hs) b (c, rest, e, is, more) =
 pub list_len : (all : List HobForm) (b : List ℕ) → IsHobList all b → length (list_spelled all) ≡ length b
 list_len all b is = joins_len all b is.joined
 
-joins_again : (hs : List HobForm) (b : List ℕ) → Joins hs b → Joins hs (list_spelled hs)
+joins_again : (hs : List HobForm) (b : List ℕ) → JoinsHobs hs b → JoinsHobs hs (list_spelled hs)
 joins_again [] b join = refl
 joins_again (h ∷ hs) b (c, rest, e, is, more) = (hob_spelled h, list_spelled hs, refl, written_again h c is, joins_again hs rest more)
 

@@ -4,8 +4,8 @@ use Rattle.std.specs.Prelude.{Option, None, Some}
 use Rattle.std.specs.List.{concat}
 use Rattle.std.proofs.lemmas.List.{take_more}
 use Rattle.fv_hob.specs.Hobs.{HobForm}
-use Rattle.fv_hob.specs.Lists.{behind, span_of, spans_of}
-use Rattle.fv_hob.specs.Spelled.{hob_spelled, list_spelled}
+use Rattle.fv_hob.specs.Lists.{with_span, span_of, spans_of}
+use Rattle.fv_hob.specs.HobImage.{hob_spelled, list_spelled}
 use Rattle.fv_hob.specs.declared.span.Span.{Span}
 
 -- behind some bytes these fields were written
@@ -35,21 +35,21 @@ spelled_more hs i h old new within is p q =
     q ∙ ap (λ (l : List ℕ). l ++ hob_spelled h) p ∙ ap (λ (g : HobForm). list_spelled (take i hs) ++ hob_spelled g) is
     ∙ sym (ap list_spelled (take_more hs i h within) ∙ spelled_join (take i hs) (get_or hs i h))
 
-spans_join : (hs : List HobForm) (h : HobForm) → spans_of (hs ++ h ∷ []) ≡ spans_of hs ++ behind (span_of h.kind) []
+spans_join : (hs : List HobForm) (h : HobForm) → spans_of (hs ++ h ∷ []) ≡ spans_of hs ++ with_span (span_of h.kind) []
 spans_join [] h = refl
-spans_join (g ∷ gs) h = ap (behind (span_of g.kind)) (spans_join gs h) ∙ first (span_of g.kind) (spans_of gs) (behind (span_of h.kind) []) where
-  first : (o : Option Span) (ss ts : List Span) → behind o (ss ++ ts) ≡ behind o ss ++ ts
+spans_join (g ∷ gs) h = ap (with_span (span_of g.kind)) (spans_join gs h) ∙ first (span_of g.kind) (spans_of gs) (with_span (span_of h.kind) []) where
+  first : (o : Option Span) (ss ts : List Span) → with_span o (ss ++ ts) ≡ with_span o ss ++ ts
   first None ss ts = refl
   first (Some s) ss ts = refl
 
 pub spans_more : (hs : List HobForm) (i : ℕ) (h : HobForm) (o : Option Span) (old new : List Span) → i < length hs → h ≡ get_or hs i h → o ≡ span_of h.kind → old ≡ spans_of (take i hs)
-    → new ≡ old ++ behind o [] → new ≡ spans_of (take (i + 1) hs)
+    → new ≡ old ++ with_span o [] → new ≡ spans_of (take (i + 1) hs)
 spans_more hs i h o old new within is span p q =
-    q ∙ ap (λ (l : List Span). l ++ behind o []) p ∙ ap (λ (x : Option Span). spans_of (take i hs) ++ behind x []) (span ∙ ap (λ (g : HobForm). span_of g.kind) is)
+    q ∙ ap (λ (l : List Span). l ++ with_span o []) p ∙ ap (λ (x : Option Span). spans_of (take i hs) ++ with_span x []) (span ∙ ap (λ (g : HobForm). span_of g.kind) is)
     ∙ sym (ap spans_of (take_more hs i h within) ∙ spans_join (take i hs) (get_or hs i h))
 
-pub span_some : (o : Option Span) (s : Span) (old new : List Span) → o ≡ Some s → new ≡ old ++ s ∷ [] → new ≡ old ++ behind o []
-span_some o s old new e p = p ∙ sym (ap (λ (x : Option Span). old ++ behind x []) e)
+pub span_some : (o : Option Span) (s : Span) (old new : List Span) → o ≡ Some s → new ≡ old ++ s ∷ [] → new ≡ old ++ with_span o []
+span_some o s old new e p = p ∙ sym (ap (λ (x : Option Span). old ++ with_span x []) e)
 
-pub span_none : (o : Option Span) (old new : List Span) → o ≡ None → new ≡ old → new ≡ old ++ behind o []
-span_none o old new e p = p ∙ sym (append-nil old) ∙ sym (ap (λ (x : Option Span). old ++ behind x []) e)
+pub span_none : (o : Option Span) (old new : List Span) → o ≡ None → new ≡ old → new ≡ old ++ with_span o []
+span_none o old new e p = p ∙ sym (append-nil old) ∙ sym (ap (λ (x : Option Span). old ++ with_span x []) e)

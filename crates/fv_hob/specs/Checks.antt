@@ -4,7 +4,7 @@ use Rattle.std.specs.List.{AllByRecursion}
 use Rattle.fv_base.specs.Checks.{Check, IsFirstFault}
 use Rattle.fv_base.specs.Value.{le_at}
 use Rattle.fv_hob.specs.Hobs.{HobForm, IsBlock, has_shape}
-use Rattle.fv_hob.specs.Lists.{Begins, IsNoEnd, Joins}
+use Rattle.fv_hob.specs.Lists.{BeginWithTable, IsNoEndHob, JoinsHobs}
 use Rattle.fv_hob.specs.declared.fault.HobFault.{HobFault}
 use Rattle.fv_hob.specs.declared.fault.HobFaultKind.{HobFaultKind}
 use Rattle.fv_hob.specs.declared.fault.HobFaultKind.TheVariants as kinds
@@ -28,35 +28,35 @@ hob_checks first r =
     ∷ []
 
 -- r begins with the block c, which may stand there
-pub record BlockStands (first : Bool) (c r : List ℕ) : Type 0 where
+pub record BeginsBlock (first : Bool) (c r : List ℕ) : Type 0 where
   pub behind : List ℕ
   pub joined : r ≡ c ++ behind
   pub block : IsBlock c
   pub begins : first ≡ true → le_at 0 2 c ≡ 0x0001
 
 -- r begins with a hand-off information table (PHIT)
-abbrev pub TableStands : List ℕ → Type 0
-TableStands r = (c : List ℕ) × BlockStands true c r
+abbrev pub BeginsTable : List ℕ → Type 0
+BeginsTable r = (c : List ℕ) × BeginsBlock true c r
 
 -- some blocks, none of them an end, are read up to the fault's offset, and there it is that of the first check that does not hold
-pub record IsFirst (b : List ℕ) (fault : HobFault) : Type 0 where
+pub record IsFirstHobFault (b : List ℕ) (fault : HobFault) : Type 0 where
   pub before : List HobForm
   pub c : List ℕ
   pub r : List ℕ
   pub joined : b ≡ c ++ r
-  pub read : Joins before c
-  pub begins : Begins before
-  pub others : AllByRecursion IsNoEnd before
+  pub read : JoinsHobs before c
+  pub begins : BeginWithTable before
+  pub others : AllByRecursion IsNoEndHob before
   pub place : fault.offset ≡ length c
   pub kind_is : IsFirstFault (hob_checks (length before == 0) r) fault.kind
 
-abbrev pub want_of_memory : HobFault
-want_of_memory = record { kind = kinds.OutOfMemory; offset = 0 }
+abbrev pub hob_want_of_memory : HobFault
+hob_want_of_memory = record { kind = kinds.OutOfMemory; offset = 0 }
 
-abbrev pub number_of : HobFaultKind → ℕ
-number_of kinds.Short = 1
-number_of kinds.Length = 2
-number_of kinds.First = 3
-number_of kinds.Shape = 4
-number_of kinds.NoEnd = 5
-number_of kinds.OutOfMemory = 6
+abbrev pub hob_fault_number : HobFaultKind → ℕ
+hob_fault_number kinds.Short = 1
+hob_fault_number kinds.Length = 2
+hob_fault_number kinds.First = 3
+hob_fault_number kinds.Shape = 4
+hob_fault_number kinds.NoEnd = 5
+hob_fault_number kinds.OutOfMemory = 6

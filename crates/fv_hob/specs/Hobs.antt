@@ -14,34 +14,34 @@ pub record HobForm : Type 0 where
   pub kind : HobKind
 
 -- the type of a block
-abbrev pub code_of : HobKind → ℕ
-code_of (kinds.Handoff said) = 0x0001
-code_of (kinds.MemoryAllocation said) = 0x0002
-code_of (kinds.Resource said) = 0x0003
-code_of (kinds.GuidExtension name payload) = 0x0004
-code_of (kinds.FirmwareVolume base len) = 0x0005
-code_of (kinds.Cpu memory io reserved) = 0x0006
-code_of kinds.MemoryPool = 0x0007
-code_of (kinds.FirmwareVolume2 base len volume file) = 0x0009
-code_of (kinds.Capsule base len) = 0x000b
-code_of (kinds.Unused len) = 0xfffe
-code_of kinds.End = 0xffff
-code_of (kinds.Other code payload) = code
+abbrev pub hob_type : HobKind → ℕ
+hob_type (kinds.Handoff said) = 0x0001
+hob_type (kinds.MemoryAllocation said) = 0x0002
+hob_type (kinds.Resource said) = 0x0003
+hob_type (kinds.GuidExtension name payload) = 0x0004
+hob_type (kinds.FirmwareVolume base len) = 0x0005
+hob_type (kinds.Cpu memory io reserved) = 0x0006
+hob_type kinds.MemoryPool = 0x0007
+hob_type (kinds.FirmwareVolume2 base len volume file) = 0x0009
+hob_type (kinds.Capsule base len) = 0x000b
+hob_type (kinds.Unused len) = 0xfffe
+hob_type kinds.End = 0xffff
+hob_type (kinds.Other code payload) = code
 
 -- how many bytes a block has, its header of 8 among them
-abbrev pub len_of : HobKind → ℕ
-len_of (kinds.Handoff said) = 56
-len_of (kinds.MemoryAllocation said) = 48 + length said.rest
-len_of (kinds.Resource said) = 48
-len_of (kinds.GuidExtension name payload) = 24 + length payload
-len_of (kinds.FirmwareVolume base len) = 24
-len_of (kinds.Cpu memory io reserved) = 16
-len_of kinds.MemoryPool = 8
-len_of (kinds.FirmwareVolume2 base len volume file) = 56
-len_of (kinds.Capsule base len) = 24
-len_of (kinds.Unused len) = 8 + len
-len_of kinds.End = 8
-len_of (kinds.Other code payload) = 8 + length payload
+abbrev pub hob_len : HobKind → ℕ
+hob_len (kinds.Handoff said) = 56
+hob_len (kinds.MemoryAllocation said) = 48 + length said.rest
+hob_len (kinds.Resource said) = 48
+hob_len (kinds.GuidExtension name payload) = 24 + length payload
+hob_len (kinds.FirmwareVolume base len) = 24
+hob_len (kinds.Cpu memory io reserved) = 16
+hob_len kinds.MemoryPool = 8
+hob_len (kinds.FirmwareVolume2 base len volume file) = 56
+hob_len (kinds.Capsule base len) = 24
+hob_len (kinds.Unused len) = 8 + len
+hob_len kinds.End = 8
+hob_len (kinds.Other code payload) = 8 + length payload
 
 -- the lengths that a block of a type may have
 abbrev pub has_shape : ℕ → ℕ → Bool

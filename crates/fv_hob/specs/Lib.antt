@@ -1,4 +1,4 @@
 pub mod Checks
 pub mod Hobs
 pub mod Lists
-pub mod Spelled
+pub mod HobImage

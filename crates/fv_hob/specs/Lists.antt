@@ -1,39 +1,39 @@
 -- Lists of hand-off blocks (PI specification, volume 3, section 5), and the volumes that they name.
 use Rattle.std.specs.Prelude.{◌≡◌, ◌≢◌, ℕ, ⊤, List, [], ◌∷◌, ◌++◌, Option, None, Some}
 use Rattle.std.specs.List.{AllByRecursion}
-use Rattle.fv_hob.specs.Hobs.{HobForm, IsHob, code_of}
+use Rattle.fv_hob.specs.Hobs.{HobForm, IsHob, hob_type}
 use Rattle.fv_hob.specs.declared.hob.HobKind.{HobKind}
 use Rattle.fv_hob.specs.declared.hob.HobKind.TheVariants as kinds
 use Rattle.fv_hob.specs.declared.span.Span.{Span}
 
 -- b is these blocks, one behind the other
-abbrev pub Joins : List HobForm → List ℕ → Type 0
-Joins [] b = b ≡ []
-Joins (h ∷ hs) b = (c : List ℕ) × (rest : List ℕ) × (b ≡ c ++ rest) × IsHob h c × Joins hs rest
+abbrev pub JoinsHobs : List HobForm → List ℕ → Type 0
+JoinsHobs [] b = b ≡ []
+JoinsHobs (h ∷ hs) b = (c : List ℕ) × (rest : List ℕ) × (b ≡ c ++ rest) × IsHob h c × JoinsHobs hs rest
 
-abbrev pub IsEnd : HobForm → Type 0
-IsEnd h = code_of h.kind ≡ 0xffff
+abbrev pub IsEndHob : HobForm → Type 0
+IsEndHob h = hob_type h.kind ≡ 0xffff
 
-abbrev pub IsNoEnd : HobForm → Type 0
-IsNoEnd h = code_of h.kind ≢ 0xffff
+abbrev pub IsNoEndHob : HobForm → Type 0
+IsNoEndHob h = hob_type h.kind ≢ 0xffff
 
 -- there are no blocks, or the first is a hand-off information table (PHIT)
-abbrev pub Begins : List HobForm → Type 0
-Begins [] = ⊤
-Begins (h ∷ hs) = code_of h.kind ≡ 0x0001
+abbrev pub BeginWithTable : List HobForm → Type 0
+BeginWithTable [] = ⊤
+BeginWithTable (h ∷ hs) = hob_type h.kind ≡ 0x0001
 
 -- b is the list: its blocks joined, the first a PHIT, the last the one end block
 pub record IsHobList (all : List HobForm) (b : List ℕ) : Type 0 where
   pub front : List HobForm
   pub last : HobForm
   pub ends : all ≡ front ++ (last ∷ [])
-  pub joined : Joins all b
-  pub begins : Begins all
-  pub others : AllByRecursion IsNoEnd front
-  pub last_is : IsEnd last
+  pub joined : JoinsHobs all b
+  pub begins : BeginWithTable all
+  pub others : AllByRecursion IsNoEndHob front
+  pub last_is : IsEndHob last
 
-abbrev pub IsUsed : HobForm → Type 0
-IsUsed h = code_of h.kind ≢ 0xfffe
+abbrev pub IsUsedHob : HobForm → Type 0
+IsUsedHob h = hob_type h.kind ≢ 0xfffe
 
 -- some bytes are the list
 abbrev pub IsReadList : List HobForm → Type 0
@@ -45,11 +45,11 @@ span_of (kinds.FirmwareVolume base len) = Some (record { base = base; length = l
 span_of (kinds.FirmwareVolume2 base len volume file) = Some (record { base = base; length = len })
 span_of _ = None
 
-abbrev pub behind : Option Span → List Span → List Span
-behind None ss = ss
-behind (Some s) ss = s ∷ ss
+abbrev pub with_span : Option Span → List Span → List Span
+with_span None ss = ss
+with_span (Some s) ss = s ∷ ss
 
 -- those of all blocks, in their order
 abbrev pub spans_of : List HobForm → List Span
 spans_of [] = []
-spans_of (h ∷ hs) = behind (span_of h.kind) (spans_of hs)
+spans_of (h ∷ hs) = with_span (span_of h.kind) (spans_of hs)

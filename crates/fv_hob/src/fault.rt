@@ -1,7 +1,7 @@
 //! Why a hand-off list was refused.
 
 ghost use Rattle.std.specs.Prelude.{◌≡◌};
-ghost use Rattle.fv_hob.specs.Checks.{number_of, want_of_memory};
+ghost use Rattle.fv_hob.specs.Checks.{hob_fault_number, hob_want_of_memory};
 
 use std::alloc::{AllocError, AllocFailed};
 use thiserror::Error;
@@ -32,7 +32,7 @@ pub enum HobFaultKind {
 impl HobFaultKind {
     /// The number by which the kind is known: 1 to 6, in the order above.
     pub fn number(self) -> u8
-        ensures { result ≡ number_of self }
+        ensures { result ≡ hob_fault_number self }
     {
         match self {
             HobFaultKind::Short => 1,
@@ -58,7 +58,7 @@ pub struct HobFault {
 impl HobFault {
     /// The number by which the fault's kind is known, 1 to 6.
     pub fn number(self) -> u8
-        ensures { result ≡ number_of self.kind }
+        ensures { result ≡ hob_fault_number self.kind }
     {
         self.kind.number()
     }
@@ -71,7 +71,7 @@ const WANT_OF_MEMORY: HobFault = HobFault {
 };
 
 impl From<AllocError> for HobFault {
-    ghost from_gives = { λ _ f. f ≡ want_of_memory };
+    ghost from_gives = { λ _ f. f ≡ hob_want_of_memory };
 
     fn from(_error: AllocError) -> HobFault {
         WANT_OF_MEMORY
@@ -79,7 +79,7 @@ impl From<AllocError> for HobFault {
 }
 
 impl<T: Drop> From<AllocFailed<T>> for HobFault {
-    ghost from_gives = { λ _ f. f ≡ want_of_memory };
+    ghost from_gives = { λ _ f. f ≡ hob_want_of_memory };
 
     fn from(_error: AllocFailed<T>) -> HobFault {
         WANT_OF_MEMORY

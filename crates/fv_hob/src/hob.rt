@@ -1,7 +1,7 @@
 //! Hand-off blocks. Addresses and lengths are in bytes; numbers are little-endian in the bytes.
 
 ghost use Rattle.std.specs.Prelude.{◌≡◌};
-ghost use Rattle.fv_hob.specs.Hobs.{IsReadHob, code_of, len_of};
+ghost use Rattle.fv_hob.specs.Hobs.{IsReadHob, hob_type, hob_len};
 
 use crate::hob_type;
 use crate::layout::{allocation, cpu, extension, handoff, header, resource, span, volume2};
@@ -150,7 +150,7 @@ impl Model for Hob {
 
 // The length of a block that says this.
 fn len_of(kind: &HobKind) -> usize
-    ensures { result ≡ len_of kind.now }
+    ensures { result ≡ hob_len kind.now }
 {
     match kind {
         HobKind::Handoff(_) => handoff::LEN,
@@ -194,7 +194,7 @@ impl Hob {
 
     /// HobType of the header, 0001 (EFI_HOB_TYPE_HANDOFF) to FFFF (EFI_HOB_TYPE_END_OF_HOB_LIST).
     pub fn code(&self) -> u16
-        ensures { result ≡ code_of self.now.kind }
+        ensures { result ≡ hob_type self.now.kind }
     {
         match &self.kind {
             HobKind::Handoff(_) => hob_type::HANDOFF,
@@ -214,7 +214,7 @@ impl Hob {
 
     /// HobLength of the header: the length of the block in bytes, its header of 8 among them.
     pub fn length(&self) -> u16
-        ensures { result ≡ len_of self.now.kind }
+        ensures { result ≡ hob_len self.now.kind }
     {
         len_of(&self.kind) as u16
     }

@@ -5,9 +5,9 @@
 mod fault;
 mod fields;
 mod hob;
+mod hob_list;
 mod hob_type;
 mod layout;
-mod list;
 mod read;
 mod row;
 mod span;
@@ -17,7 +17,7 @@ mod write;
 
 pub use fault::{HobFault, HobFaultKind};
 pub use hob::{Handoff, Hob, HobKind, MemoryAllocation, Resource};
-pub use list::HobList;
+pub use hob_list::HobList;
 pub use read::read_hobs;
 pub use span::{Span, Spans, volume_hobs};
 pub use write::hob_bytes;

@@ -2,16 +2,16 @@
 
 ghost use Rattle.std.specs.Prelude.{◌≡◌, ◌≢◌, ◌≤◌, ℕ, List, length, take, None, Some, IfOk, IfErr, OnOk};
 ghost use Rattle.fv_base.specs.Checks.{first_fault, IsFirstFault};
-ghost use Rattle.fv_hob.specs.Checks.{BlockStands, IsFirst, TableStands, hob_checks, is_hob_len, want_of_memory};
+ghost use Rattle.fv_hob.specs.Checks.{BeginsBlock, IsFirstHobFault, BeginsTable, hob_checks, is_hob_len, hob_want_of_memory};
 ghost use Rattle.fv_base.specs.Value.{le_at};
 ghost use Rattle.fv_hob.specs.Hobs.{HobForm};
 ghost use Rattle.fv_hob.specs.Lists.{IsHobList};
 
 use crate::fault::{HobFault, HobFaultKind};
 use crate::hob::Hob;
+use crate::hob_list::HobList;
 use crate::hob_type;
 use crate::layout::header;
-use crate::list::HobList;
 use crate::row::{has_shape, hob_in};
 use fv_base::field::u16_at;
 use std::alloc::Global;
@@ -52,7 +52,7 @@ fn check_block(rest: &[u8], first: bool) -> Result<usize, HobFaultKind>
 
 // The block at the front, or the kind of the first fault there.
 fn next_block(rest: &[u8], first: bool) -> Result<&[u8], HobFaultKind>
-    ensures found { IfOk result (λ block. BlockStands first block.now rest.now) }
+    ensures found { IfOk result (λ block. BeginsBlock first block.now rest.now) }
     ensures first { IfErr result (λ kind. IsFirstFault (hob_checks first rest.now) kind) }
 {
     let len = check_block(rest, first)?;
@@ -62,8 +62,8 @@ fn next_block(rest: &[u8], first: bool) -> Result<&[u8], HobFaultKind>
 // The blocks up to the end block, and how many bytes they have.
 fn read_blocks(alloc: Global, bytes: &[u8]) -> Result<(Vec<Hob>, usize), HobFault>
     ensures found { IfOk result (λ p. (p.1 ≤ length bytes.now) × IsHobList p.0.items (take p.1 bytes.now)) }
-    ensures first { IfErr result (λ f. f ≢ want_of_memory → IsFirst bytes.now f) }
-    ensures memory { IfErr result (λ f. f ≡ want_of_memory → TableStands bytes.now) }
+    ensures first { IfErr result (λ f. f ≢ hob_want_of_memory → IsFirstHobFault bytes.now f) }
+    ensures memory { IfErr result (λ f. f ≡ hob_want_of_memory → BeginsTable bytes.now) }
 {
     let mut hobs = Vec::new(alloc);
     let mut at = 0;
@@ -103,13 +103,13 @@ pub fn read_hobs(alloc: Global, bytes: &[u8]) -> Result<(HobList, u64), HobFault
     ensures only { IfOk result (λ p. (all : List HobForm) (n : ℕ) → n ≤ length bytes.now → IsHobList all (take n bytes.now) → (all ≡ p.0) × (n ≡ p.1)) }
 
     // Where it refuses, want of memory aside, they begin with none.
-    ensures none { IfErr result (λ f. f ≢ want_of_memory → (all : List HobForm) (n : ℕ) → IsHobList all (take n bytes.now) → ⊥) }
+    ensures none { IfErr result (λ f. f ≢ hob_want_of_memory → (all : List HobForm) (n : ℕ) → IsHobList all (take n bytes.now) → ⊥) }
 
     // A refusal, want of memory aside, names the first check that does not hold, at the first block that has one.
-    ensures first { IfErr result (λ f. f ≢ want_of_memory → IsFirst bytes.now f) }
+    ensures first { IfErr result (λ f. f ≢ hob_want_of_memory → IsFirstHobFault bytes.now f) }
 
     // Memory is wanting only where the bytes begin with a hand-off information table.
-    ensures memory { IfErr result (λ f. f ≡ want_of_memory → TableStands bytes.now) }
+    ensures memory { IfErr result (λ f. f ≡ hob_want_of_memory → BeginsTable bytes.now) }
 {
     let (hobs, at) = read_blocks(alloc, bytes)?;
     Ok((HobList::from_vec(hobs), at as u64))

@@ -1,12 +1,12 @@
 //! The volumes that a hand-off list names.
 
 ghost use Rattle.std.specs.Prelude.{◌≡◌, IfOk, IfErr};
-ghost use Rattle.fv_hob.specs.Checks.{want_of_memory};
+ghost use Rattle.fv_hob.specs.Checks.{hob_want_of_memory};
 ghost use Rattle.fv_hob.specs.Lists.{span_of, spans_of};
 
 use crate::fault::HobFault;
 use crate::hob::{Hob, HobKind};
-use crate::list::HobList;
+use crate::hob_list::HobList;
 use std::alloc::Global;
 use std::marker::Model;
 
@@ -69,7 +69,7 @@ impl Hob {
 /// OutOfMemory.
 pub fn volume_hobs(alloc: Global, hobs: &HobList) -> Result<Spans, HobFault>
     ensures spans { IfOk result (λ s. s ≡ spans_of hobs.now) }
-    ensures err { IfErr result (λ f. f ≡ want_of_memory) }
+    ensures err { IfErr result (λ f. f ≡ hob_want_of_memory) }
 {
     let mut list = Vec::new(alloc);
     for hob in hobs.as_slice() {

@@ -4,14 +4,14 @@ ghost use Rattle.std.specs.Prelude.{◌≡◌, ℕ, List, [], ◌∷◌, ◌++�
 ghost use Rattle.std.specs.List.{AllByRecursion, concat};
 ghost use Rattle.fv_base.specs.Guids.{bytes_of};
 ghost use Rattle.fv_base.specs.Value.{le_bytes};
-ghost use Rattle.fv_hob.specs.Checks.{want_of_memory};
+ghost use Rattle.fv_hob.specs.Checks.{hob_want_of_memory};
 ghost use Rattle.fv_hob.specs.declared.hob.HobKind.TheVariants as kinds;
-ghost use Rattle.fv_hob.specs.Lists.{IsHobList, IsUsed};
-ghost use Rattle.fv_hob.specs.Spelled.{body_of, hob_spelled, list_spelled};
+ghost use Rattle.fv_hob.specs.Lists.{IsHobList, IsUsedHob};
+ghost use Rattle.fv_hob.specs.HobImage.{hob_fields, hob_spelled, list_spelled};
 
 use crate::fault::HobFault;
 use crate::hob::{Handoff, Hob, HobKind, MemoryAllocation, Resource};
-use crate::list::HobList;
+use crate::hob_list::HobList;
 use byteorder::{ByteOrder, LittleEndian};
 use fv_base::{ByteList, Guid};
 use std::alloc::{AllocError, Global};
@@ -62,7 +62,7 @@ fn push_zeros(bytes: &mut Vec<u8>, count: u16) -> Result<(), AllocError>
 }
 
 fn push_handoff(bytes: &mut Vec<u8>, said: &Handoff) -> Result<(), AllocError>
-    ensures { OnOk result (bytes.new.items ≡ bytes.old.items ++ concat (body_of (kinds.Handoff said.now))) }
+    ensures { OnOk result (bytes.new.items ≡ bytes.old.items ++ concat (hob_fields (kinds.Handoff said.now))) }
 {
     push_u32(bytes, said.version)?;
     push_u32(bytes, said.boot_mode)?;
@@ -74,7 +74,7 @@ fn push_handoff(bytes: &mut Vec<u8>, said: &Handoff) -> Result<(), AllocError>
 }
 
 fn push_allocation(bytes: &mut Vec<u8>, said: &MemoryAllocation) -> Result<(), AllocError>
-    ensures { OnOk result (bytes.new.items ≡ bytes.old.items ++ concat (body_of (kinds.MemoryAllocation said.now))) }
+    ensures { OnOk result (bytes.new.items ≡ bytes.old.items ++ concat (hob_fields (kinds.MemoryAllocation said.now))) }
 {
     push_guid(bytes, &said.name)?;
     push_u64(bytes, said.base)?;
@@ -85,7 +85,7 @@ fn push_allocation(bytes: &mut Vec<u8>, said: &MemoryAllocation) -> Result<(), A
 }
 
 fn push_resource(bytes: &mut Vec<u8>, said: &Resource) -> Result<(), AllocError>
-    ensures { OnOk result (bytes.new.items ≡ bytes.old.items ++ concat (body_of (kinds.Resource said.now))) }
+    ensures { OnOk result (bytes.new.items ≡ bytes.old.items ++ concat (hob_fields (kinds.Resource said.now))) }
 {
     push_guid(bytes, &said.owner)?;
     push_u32(bytes, said.resource_type)?;
@@ -95,7 +95,7 @@ fn push_resource(bytes: &mut Vec<u8>, said: &Resource) -> Result<(), AllocError>
 }
 
 fn push_span(bytes: &mut Vec<u8>, base: u64, length: u64) -> Result<(), AllocError>
-    ensures { OnOk result (bytes.new.items ≡ bytes.old.items ++ concat (body_of (kinds.FirmwareVolume base length))) }
+    ensures { OnOk result (bytes.new.items ≡ bytes.old.items ++ concat (hob_fields (kinds.FirmwareVolume base length))) }
 {
     push_u64(bytes, base)?;
     push_u64(bytes, length)
@@ -110,7 +110,7 @@ fn push_names(bytes: &mut Vec<u8>, volume: &Guid, file: &Guid) -> Result<(), All
 
 // The bytes with a block's body behind them.
 fn push_body(bytes: &mut Vec<u8>, kind: &HobKind) -> Result<(), AllocError>
-    ensures { OnOk result (bytes.new.items ≡ bytes.old.items ++ concat (body_of kind.now)) }
+    ensures { OnOk result (bytes.new.items ≡ bytes.old.items ++ concat (hob_fields kind.now)) }
 {
     match kind {
         HobKind::Handoff(said) => push_handoff(bytes, said),
@@ -177,11 +177,11 @@ pub fn hob_bytes(alloc: Global, hobs: &HobList) -> Result<ByteList, HobFault>
     ensures list { IfOk result (λ b. IsHobList hobs.now b) }
 
     // Where no block is unused, they are those that it was read from.
-    ensures kept { IfOk result (λ b. (c : List ℕ) → IsHobList hobs.now c → AllByRecursion IsUsed hobs.now → b ≡ c) }
+    ensures kept { IfOk result (λ b. (c : List ℕ) → IsHobList hobs.now c → AllByRecursion IsUsedHob hobs.now → b ≡ c) }
 
     // They are these bytes.
     ensures bytes { IfOk result (λ b. b ≡ list_spelled hobs.now) }
-    ensures err { IfErr result (λ f. f ≡ want_of_memory) }
+    ensures err { IfErr result (λ f. f ≡ hob_want_of_memory) }
 {
     let bytes = list_spelled(alloc, hobs.as_slice())?;
     Ok(ByteList::from_vec(bytes))

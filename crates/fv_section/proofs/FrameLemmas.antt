@@ -10,47 +10,47 @@ use Rattle.fv_base.specs.declared.fault.Fault.{Fault}
 use Rattle.fv_base.proofs.CheckLemmas.{and_split, and_join, all_hold, none_faulty, first_is, not_first, verdict_ok, verdict_err, verdict_none}
 use Rattle.fv_base.proofs.FieldLemmas.{field-take, field-append_front}
 use Rattle.fv_base.proofs.TestLemmas.{not_equal}
-use Rattle.fv_section.specs.FrameChecks.{is_extended, head_len_at, size_in, size_at, frame_checks, frame_in, frame_verdict}
-use Rattle.fv_section.specs.Frames.{FrameForm, Begins, SaysSize, StandsAt, head_len, size}
+use Rattle.fv_section.specs.FrameChecks.{has_extended_size, section_header_len_at, section_size_in, section_size_at, frame_checks, frame_in, frame_verdict}
+use Rattle.fv_section.specs.Frames.{FrameForm, BeginsFrame, SaysSize, FrameStandsAt, section_header_len, frame_len}
 
-pub head_least : (extended : Bool) → 4 ≤ head_len extended
+pub head_least : (extended : Bool) → 4 ≤ section_header_len extended
 head_least false = omega arith
 head_least true = omega arith
 
-pub size_least : (f : FrameForm) → 4 ≤ size f
+pub size_least : (f : FrameForm) → 4 ≤ frame_len f
 size_least f = omega (arith, head_least f.extended)
 
 -- ---- from the checks to the frame
 
-says_size : (t : Bool) (n : ℕ) (r h : List ℕ) → is_extended r ≡ t → le_at 0 3 h ≡ le_at 0 3 r → (t ≡ true → le_at 4 4 h ≡ le_at 4 4 r) → n ≡ size_in t r → SaysSize t n h
+says_size : (t : Bool) (n : ℕ) (r h : List ℕ) → has_extended_size r ≡ t → le_at 0 3 h ≡ le_at 0 3 r → (t ≡ true → le_at 4 4 h ≡ le_at 4 4 r) → n ≡ section_size_in t r → SaysSize t n h
 says_size false n r h is short long e = (short ∙ sym e, λ full. eqb-false (le_at 0 3 r) 0xffffff is (sym e ∙ full))
 says_size true n r h is short long e = (short ∙ eqb-true (le_at 0 3 r) 0xffffff is, long refl ∙ sym e)
 
-pub begins_in : (at : ℕ) (r : List ℕ) → AllHold (frame_checks at r) → Begins (frame_in at r) r (drop (size_at r) r)
+pub begins_in : (at : ℕ) (r : List ℕ) → AllHold (frame_checks at r) → BeginsFrame (frame_in at r) r (drop (section_size_at r) r)
 begins_in at r all =
-    let n : ℕ = head_len_at r in
+    let n : ℕ = section_header_len_at r in
     let parts = and_split _ _ all.1.0 in
     let parts' = and_split _ _ parts.1 in
     let whole : n ≤ length r = leb-true _ _ parts.0 in
-    let least : n ≤ size_at r = leb-true _ _ parts'.0 in
-    let within : size_at r ≤ length r = leb-true _ _ parts'.1 in
-    let low : 4 ≤ n = head_least (is_extended r) in
-    let body : List ℕ = take (size_at r - n) (drop n r) in
-    let len : length body ≡ size_at r - n = length-take-le (size_at r - n) (drop n r) (omega (arith, length-drop n r, within)) in
-    let behind : drop (size_at r - n) (drop n r) ≡ drop (size_at r) r = drop-drop (size_at r - n) n r ∙ ap (λ (k : ℕ). drop k r) (omega (arith, least)) in
-    let split : drop n r ≡ body ++ drop (size_at r) r = sym (take-append-drop (size_at r - n) (drop n r)) ∙ ap (λ (l : List ℕ). body ++ l) behind in
+    let least : n ≤ section_size_at r = leb-true _ _ parts'.0 in
+    let within : section_size_at r ≤ length r = leb-true _ _ parts'.1 in
+    let low : 4 ≤ n = head_least (has_extended_size r) in
+    let body : List ℕ = take (section_size_at r - n) (drop n r) in
+    let len : length body ≡ section_size_at r - n = length-take-le (section_size_at r - n) (drop n r) (omega (arith, length-drop n r, within)) in
+    let behind : drop (section_size_at r - n) (drop n r) ≡ drop (section_size_at r) r = drop-drop (section_size_at r - n) n r ∙ ap (λ (k : ℕ). drop k r) (omega (arith, least)) in
+    let split : drop n r ≡ body ++ drop (section_size_at r) r = sym (take-append-drop (section_size_at r - n) (drop n r)) ∙ ap (λ (l : List ℕ). body ++ l) behind in
     record {
       head = take n r;
       is_header = record {
         whole = length-take-le n r whole;
         kind_is = get_or-take n r 3 0 (omega (arith, low));
-        says = says_size (is_extended r) (n + length body) r (take n r) refl (ap le (field-take 0 3 n r (omega (arith, low)))) (λ e. ap le (field-take 4 4 n r (eight e))) (omega (arith, len, least));
+        says = says_size (has_extended_size r) (n + length body) r (take n r) refl (ap le (field-take 0 3 n r (omega (arith, low)))) (λ e. ap le (field-take 4 4 n r (eight e))) (omega (arith, len, least));
       };
       text = sym (take-append-drop n r) ∙ ap (λ (l : List ℕ). take n r ++ l) split;
     }
   where
-    eight : is_extended r ≡ true → 4 + 4 ≤ head_len_at r
-    eight e = subst (λ (t : Bool). 4 + 4 ≤ head_len t) (sym e) (omega arith)
+    eight : has_extended_size r ≡ true → 4 + 4 ≤ section_header_len_at r
+    eight e = subst (λ (t : Bool). 4 + 4 ≤ section_header_len t) (sym e) (omega arith)
 
 -- ---- from the frame to the checks
 
@@ -58,15 +58,15 @@ begins_in at r all =
 pub record ReadsFrame (f : FrameForm) (r rest : List ℕ) : Type 0 where
   pub checks : (at : ℕ) → AllHold (frame_checks at r)
   pub frame_is : frame_in f.offset r ≡ f
-  pub size_is : size_at r ≡ size f
-  pub rest_is : rest ≡ drop (size f) r
-  pub whole : length r ≡ size f + length rest
+  pub size_is : section_size_at r ≡ frame_len f
+  pub rest_is : rest ≡ drop (frame_len f) r
+  pub whole : length r ≡ frame_len f + length rest
 
 shown : (extended : Bool) (n : ℕ) (h : List ℕ) → SaysSize extended n h → (le_at 0 3 h == 0xffffff) ≡ extended
 shown false n h (is, ne) = not_equal (le_at 0 3 h) 0xffffff (λ e. ne (sym is ∙ e))
 shown true n h (is, e) = eq-eqb (le_at 0 3 h) 0xffffff is
 
-sized : (extended : Bool) (n : ℕ) (h y : List ℕ) → length h ≡ head_len extended → SaysSize extended n h → size_in extended (h ++ y) ≡ n
+sized : (extended : Bool) (n : ℕ) (h y : List ℕ) → length h ≡ section_header_len extended → SaysSize extended n h → section_size_in extended (h ++ y) ≡ n
 sized false n h y l (is, ne) = ap le (field-append_front 0 3 h y (omega (arith, l))) ∙ is
 sized true n h y l (is, e) = ap le (field-append_front 4 4 h y (omega (arith, l))) ∙ e
 
@@ -76,52 +76,52 @@ frame_by at kind extended body = record { offset = at; kind = kind; extended = e
 same_form : (a : ℕ) (k k' : ℕ) (x x' : Bool) (c c' : List ℕ) → k ≡ k' → x ≡ x' → c ≡ c' → frame_by a k x c ≡ frame_by a k' x' c'
 same_form a k k' x x' c c' p q s = rw (p, q, s) refl
 
-pub frame_reads : (f : FrameForm) (r rest : List ℕ) → Begins f r rest → ReadsFrame f r rest
+pub frame_reads : (f : FrameForm) (r rest : List ℕ) → BeginsFrame f r rest → ReadsFrame f r rest
 frame_reads f r rest b =
     let h : List ℕ = b.head in
     let y : List ℕ = f.body ++ rest in
     let is = b.is_header in
     let low : 4 ≤ length h = subst (λ (k : ℕ). 4 ≤ k) (sym is.whole) (head_least f.extended) in
     let first : le_at 0 3 r ≡ le_at 0 3 h = ap (λ (l : List ℕ). le_at 0 3 l) b.text ∙ ap le (field-append_front 0 3 h y (omega (arith, low))) in
-    let form : is_extended r ≡ f.extended = ap (λ (k : ℕ). k == 0xffffff) first ∙ shown f.extended (size f) h is.says in
-    let n : head_len_at r ≡ length h = ap head_len form ∙ sym is.whole in
-    let all : size_at r ≡ size f = ap (λ (t : Bool). size_in t r) form ∙ ap (size_in f.extended) b.text ∙ sized f.extended (size f) h y is.whole is.says in
+    let form : has_extended_size r ≡ f.extended = ap (λ (k : ℕ). k == 0xffffff) first ∙ shown f.extended (frame_len f) h is.says in
+    let n : section_header_len_at r ≡ length h = ap section_header_len form ∙ sym is.whole in
+    let all : section_size_at r ≡ frame_len f = ap (λ (t : Bool). section_size_in t r) form ∙ ap (section_size_in f.extended) b.text ∙ sized f.extended (frame_len f) h y is.whole is.says in
     let kind : slice_index r 3 ≡ f.kind = ap (λ (l : List ℕ). slice_index l 3) b.text ∙ get_or-append h y 0 3 (omega (arith, low)) ∙ is.kind_is in
-    let long : length r ≡ size f + length rest = omega (arith, ap length b.text, length-append h y, length-append f.body rest, is.whole) in
-    let body_len : size_at r - head_len_at r ≡ length f.body = omega (arith, all, n, is.whole) in
-    let behind : drop (head_len_at r) r ≡ y = ap (drop (head_len_at r)) b.text ∙ drop_at h y (head_len_at r) (sym n) in
-    let body : take (size_at r - head_len_at r) (drop (head_len_at r) r) ≡ f.body = ap (take (size_at r - head_len_at r)) behind ∙ take_at f.body rest (size_at r - head_len_at r) (sym body_len) in
+    let long : length r ≡ frame_len f + length rest = omega (arith, ap length b.text, length-append h y, length-append f.body rest, is.whole) in
+    let body_len : section_size_at r - section_header_len_at r ≡ length f.body = omega (arith, all, n, is.whole) in
+    let behind : drop (section_header_len_at r) r ≡ y = ap (drop (section_header_len_at r)) b.text ∙ drop_at h y (section_header_len_at r) (sym n) in
+    let body : take (section_size_at r - section_header_len_at r) (drop (section_header_len_at r) r) ≡ f.body = ap (take (section_size_at r - section_header_len_at r)) behind ∙ take_at f.body rest (section_size_at r - section_header_len_at r) (sym body_len) in
     let flat : r ≡ (h ++ f.body) ++ rest = b.text ∙ sym (append_assoc h f.body rest) in
-    let front : length (h ++ f.body) ≡ size f = omega (arith, length-append h f.body, is.whole) in
+    let front : length (h ++ f.body) ≡ frame_len f = omega (arith, length-append h f.body, is.whole) in
     record {
       checks = λ at. (
         le-leb 4 (length r) (omega (arith, long, size_least f)),
         (
-          and_join _ _ (le-leb (head_len_at r) (length r) (omega (arith, n, is.whole, long)))
-              (and_join _ _ (le-leb (head_len_at r) (size_at r) (omega (arith, n, is.whole, all))) (le-leb (size_at r) (length r) (omega (arith, all, long)))),
+          and_join _ _ (le-leb (section_header_len_at r) (length r) (omega (arith, n, is.whole, long)))
+              (and_join _ _ (le-leb (section_header_len_at r) (section_size_at r) (omega (arith, n, is.whole, all))) (le-leb (section_size_at r) (length r) (omega (arith, all, long)))),
           tt,
         ),
       );
-      frame_is = same_form f.offset (slice_index r 3) f.kind (is_extended r) f.extended _ f.body kind form body;
+      frame_is = same_form f.offset (slice_index r 3) f.kind (has_extended_size r) f.extended _ f.body kind form body;
       size_is = all;
-      rest_is = sym (ap (drop (size f)) flat ∙ drop_at (h ++ f.body) rest (size f) front);
+      rest_is = sym (ap (drop (frame_len f)) flat ∙ drop_at (h ++ f.body) rest (frame_len f) front);
       whole = long;
     }
 
 -- how long what a frame begins is
-pub length_begun : (f : FrameForm) (b rest : List ℕ) → Begins f b rest → length b ≡ size f + length rest
+pub length_begun : (f : FrameForm) (b rest : List ℕ) → BeginsFrame f b rest → length b ≡ frame_len f + length rest
 length_begun f b rest h = (frame_reads f b rest h).whole
 
 -- one frame at most begins a list, at one place
-pub one_frame : (f g : FrameForm) (b r s : List ℕ) → f.offset ≡ g.offset → Begins f b r → Begins g b s → (f ≡ g) × (r ≡ s)
+pub one_frame : (f g : FrameForm) (b r s : List ℕ) → f.offset ≡ g.offset → BeginsFrame f b r → BeginsFrame g b s → (f ≡ g) × (r ≡ s)
 one_frame f g b r s o hf hg =
     let rf = frame_reads f b r hf in
     let rg = frame_reads g b s hg in
     let same : f ≡ g = sym rf.frame_is ∙ ap (λ (k : ℕ). frame_in k b) o ∙ rg.frame_is in
-    (same, rf.rest_is ∙ ap (λ (k : FrameForm). drop (size k) b) same ∙ sym rg.rest_is)
+    (same, rf.rest_is ∙ ap (λ (k : FrameForm). drop (frame_len k) b) same ∙ sym rg.rest_is)
 
 -- more bytes behind
-pub begins_more : (f : FrameForm) (b r y : List ℕ) → Begins f b r → Begins f (b ++ y) (r ++ y)
+pub begins_more : (f : FrameForm) (b r y : List ℕ) → BeginsFrame f b r → BeginsFrame f (b ++ y) (r ++ y)
 begins_more f b r y h = record {
   head = h.head;
   is_header = h.is_header;
@@ -130,18 +130,18 @@ begins_more f b r y h = record {
 
 -- ---- the verdict
 
-pub verdict_stands : (at : ℕ) (b : List ℕ) (f : FrameForm) → at < length b → frame_verdict at (drop at b) ≡ Ok f → StandsAt f at b
+pub verdict_stands : (at : ℕ) (b : List ℕ) (f : FrameForm) → at < length b → frame_verdict at (drop at b) ≡ Ok f → FrameStandsAt f at b
 verdict_stands at b f inside is =
     let r : List ℕ = drop at b in
     let v = verdict_ok (first_fault (frame_checks at r)) (frame_in at r) f is in
-    subst (λ (g : FrameForm). StandsAt g at b) v.1 (record {
+    subst (λ (g : FrameForm). FrameStandsAt g at b) v.1 (record {
       offset = refl;
       inside = inside;
-      behind = drop (size_at r) r;
+      behind = drop (section_size_at r) r;
       begins = begins_in at r (all_hold (frame_checks at r) v.0);
     })
 
-pub stands_verdict : (at : ℕ) (b : List ℕ) (g : FrameForm) → StandsAt g at b → frame_verdict at (drop at b) ≡ Ok g
+pub stands_verdict : (at : ℕ) (b : List ℕ) (g : FrameForm) → FrameStandsAt g at b → frame_verdict at (drop at b) ≡ Ok g
 stands_verdict at b g stands =
     let reads = frame_reads g (drop at b) stands.behind stands.begins in
     verdict_none (first_fault (frame_checks at (drop at b))) (frame_in at (drop at b)) (none_faulty (frame_checks at (drop at b)) (reads.checks at))
@@ -155,7 +155,7 @@ pub verdict_rest : (at : ℕ) (b : List ℕ) → frame_verdict at (take (length 
 verdict_rest at b = ap (frame_verdict at) (take_rest b at)
 
 -- where a check does not hold no frame stands
-pub none_stands : (at : ℕ) (b : List ℕ) (e : Fault) (g : FrameForm) → IsFirstFault (frame_checks at (drop at b)) e → StandsAt g at b → ⊥
+pub none_stands : (at : ℕ) (b : List ℕ) (e : Fault) (g : FrameForm) → IsFirstFault (frame_checks at (drop at b)) e → FrameStandsAt g at b → ⊥
 none_stands at b e g first stands =
     let reads = frame_reads g (drop at b) stands.behind stands.begins in
     not_first (frame_checks at (drop at b)) e first (none_faulty (frame_checks at (drop at b)) (reads.checks at))

@@ -4,31 +4,31 @@ use Rattle.fv_base.specs.Checks.{Check, check, first_fault, verdict_by, IsFirstF
 use Rattle.fv_base.specs.Value.{le_at}
 use Rattle.fv_base.specs.declared.fault.Fault.{Fault}
 use Rattle.fv_base.specs.declared.fault.FaultKind.TheVariants as kinds
-use Rattle.fv_section.specs.Frames.{FrameForm, head_len, Splits}
+use Rattle.fv_section.specs.Frames.{FrameForm, section_header_len, Splits}
 
 -- what the header that begins r says: its form, its bytes, and those of the section
-abbrev pub is_extended : List ℕ → Bool
-is_extended r = le_at 0 3 r == 0xffffff
+abbrev pub has_extended_size : List ℕ → Bool
+has_extended_size r = le_at 0 3 r == 0xffffff
 
-abbrev pub head_len_at : List ℕ → ℕ
-head_len_at r = head_len (is_extended r)
+abbrev pub section_header_len_at : List ℕ → ℕ
+section_header_len_at r = section_header_len (has_extended_size r)
 
-abbrev pub size_in : Bool → List ℕ → ℕ
-size_in false r = le_at 0 3 r
-size_in true r = le_at 4 4 r
+abbrev pub section_size_in : Bool → List ℕ → ℕ
+section_size_in false r = le_at 0 3 r
+section_size_in true r = le_at 4 4 r
 
-abbrev pub size_at : List ℕ → ℕ
-size_at r = size_in (is_extended r) r
+abbrev pub section_size_at : List ℕ → ℕ
+section_size_at r = section_size_in (has_extended_size r) r
 
 -- the header is whole, and the size is neither below it nor past the end
-abbrev pub has_size : List ℕ → Bool
-has_size r = nat_le (head_len_at r) (length r) && (nat_le (head_len_at r) (size_at r) && nat_le (size_at r) (length r))
+abbrev pub has_section_size : List ℕ → Bool
+has_section_size r = nat_le (section_header_len_at r) (length r) && (nat_le (section_header_len_at r) (section_size_at r) && nat_le (section_size_at r) (length r))
 
 -- of a section at the place `at`, from where on the bytes are r
 abbrev pub frame_checks : ℕ → List ℕ → List (Check Fault)
 frame_checks at r =
     check (nat_le 4 (length r)) kinds.SectionTail at
-    ∷ check (has_size r) kinds.SectionSize at
+    ∷ check (has_section_size r) kinds.SectionSize at
     ∷ []
 
 -- the frame at the place `at`, from where on the bytes are r
@@ -36,8 +36,8 @@ abbrev pub frame_in : ℕ → List ℕ → FrameForm
 frame_in at r = record {
   offset = at;
   kind = slice_index r 3;
-  extended = is_extended r;
-  body = take (size_at r - head_len_at r) (drop (head_len_at r) r);
+  extended = has_extended_size r;
+  body = take (section_size_at r - section_header_len_at r) (drop (section_header_len_at r) r);
 }
 
 abbrev pub frame_verdict : ℕ → List ℕ → Result FrameForm Fault
@@ -45,7 +45,7 @@ frame_verdict at r = verdict_by (first_fault (frame_checks at r)) (frame_in at r
 
 -- frames and fillers join up to a place within the stream, a multiple of 4; there the fault is that of the first check that does
 -- not hold
-pub record IsFirst (b : List ℕ) (fault : Fault) : Type 0 where
+pub record IsFirstFrameFault (b : List ℕ) (fault : Fault) : Type 0 where
   pub frames : List FrameForm
   pub tail : ℕ
   pub at : ℕ

@@ -10,13 +10,13 @@ pub record FrameForm : Type 0 where
   pub body : List ℕ
 
 -- the bytes of a header, short and extended
-abbrev pub head_len : Bool → ℕ
-head_len false = 4
-head_len true = 8
+abbrev pub section_header_len : Bool → ℕ
+section_header_len false = 4
+section_header_len true = 8
 
 -- how many bytes a frame has
-abbrev pub size : FrameForm → ℕ
-size f = head_len f.extended + length f.body
+abbrev pub frame_len : FrameForm → ℕ
+frame_len f = section_header_len f.extended + length f.body
 
 -- a short header says the size in its Size, which is then not FFFFFF; an extended one says it behind, and its Size is FFFFFF
 abbrev pub SaysSize : Bool → ℕ → List ℕ → Type 0
@@ -24,15 +24,15 @@ SaysSize false n h = (le_at 0 3 h ≡ n) × (n ≢ 0xffffff)
 SaysSize true n h = (le_at 0 3 h ≡ 0xffffff) × (le_at 4 4 h ≡ n)
 
 -- the bytes h are the header of a section of this form and type, whose body has n bytes; the size counts the header
-pub record IsHeader (extended : Bool) (kind n : ℕ) (h : List ℕ) : Type 0 where
-  pub whole : length h ≡ head_len extended
+pub record IsSectionHeader (extended : Bool) (kind n : ℕ) (h : List ℕ) : Type 0 where
+  pub whole : length h ≡ section_header_len extended
   pub kind_is : slice_index h 3 ≡ kind
-  pub says : SaysSize extended (head_len extended + n) h
+  pub says : SaysSize extended (section_header_len extended + n) h
 
 -- b is the frame's header and body, and then rest
-pub record Begins (f : FrameForm) (b rest : List ℕ) : Type 0 where
+pub record BeginsFrame (f : FrameForm) (b rest : List ℕ) : Type 0 where
   pub head : List ℕ
-  pub is_header : IsHeader f.extended f.kind (length f.body) head
+  pub is_header : IsSectionHeader f.extended f.kind (length f.body) head
   pub text : b ≡ head ++ (f.body ++ rest)
 
 -- the least multiple of 4 that is at least n
@@ -41,26 +41,26 @@ up_to_4 n = (n + 3) / 4 * 4
 
 -- from the place `at` of the stream on, b is these frames, joined, with filler of any value from each to the next multiple of 4, and
 -- `tail` bytes behind the last, at most to the next multiple of 4
-abbrev pub From : ℕ → List FrameForm → ℕ → List ℕ → Type 0
-From at [] tail b = (b ≡ []) × (tail ≡ 0)
-From at (f ∷ []) tail b =
-    (rest : List ℕ) × Begins f b rest × (f.offset ≡ at) × (length rest ≡ tail) × (at + size f + tail ≤ up_to_4 (at + size f))
-From at (f ∷ g ∷ fs) tail b =
-    (filler : List ℕ) × (rest : List ℕ) × Begins f b (filler ++ rest) × (f.offset ≡ at)
-    × (at + size f + length filler ≡ up_to_4 (at + size f)) × From (up_to_4 (at + size f)) (g ∷ fs) tail rest
+abbrev pub SplitsFrom : ℕ → List FrameForm → ℕ → List ℕ → Type 0
+SplitsFrom at [] tail b = (b ≡ []) × (tail ≡ 0)
+SplitsFrom at (f ∷ []) tail b =
+    (rest : List ℕ) × BeginsFrame f b rest × (f.offset ≡ at) × (length rest ≡ tail) × (at + frame_len f + tail ≤ up_to_4 (at + frame_len f))
+SplitsFrom at (f ∷ g ∷ fs) tail b =
+    (filler : List ℕ) × (rest : List ℕ) × BeginsFrame f b (filler ++ rest) × (f.offset ≡ at)
+    × (at + frame_len f + length filler ≡ up_to_4 (at + frame_len f)) × SplitsFrom (up_to_4 (at + frame_len f)) (g ∷ fs) tail rest
 
 -- b is a stream of these frames, with `tail` bytes behind the last one
 abbrev pub Splits : List FrameForm → ℕ → List ℕ → Type 0
-Splits fs tail b = From 0 fs tail b
+Splits fs tail b = SplitsFrom 0 fs tail b
 
 -- this frame's header stands at the place `at` of b
-pub record StandsAt (f : FrameForm) (at : ℕ) (b : List ℕ) : Type 0 where
+pub record FrameStandsAt (f : FrameForm) (at : ℕ) (b : List ℕ) : Type 0 where
   pub offset : f.offset ≡ at
   pub inside : at < length b
   pub behind : List ℕ
-  pub begins : Begins f (drop at b) behind
+  pub begins : BeginsFrame f (drop at b) behind
 
 -- each frame ends within so many bytes from the stream's start
-abbrev pub AllWithin : ℕ → List FrameForm → Type 0
-AllWithin end [] = Unit {0}
-AllWithin end (f ∷ fs) = (f.offset + size f ≤ end) × AllWithin end fs
+abbrev pub FramesWithin : ℕ → List FrameForm → Type 0
+FramesWithin end [] = Unit {0}
+FramesWithin end (f ∷ fs) = (f.offset + frame_len f ≤ end) × FramesWithin end fs

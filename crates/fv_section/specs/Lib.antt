@@ -1,5 +1,5 @@
 pub mod FrameChecks
 pub mod Frames
-pub mod Seen
+pub mod FrameForms
 pub mod Texts
-pub mod Written
+pub mod SectionImage

@@ -3,9 +3,9 @@
 ghost use Rattle.std.specs.Prelude.{◌≡◌, ◌==◌, ◌<◌, ◌≤◌, length, drop, Ok, Err, IfOk, IfErr, IfSome, IfNone};
 ghost use Rattle.fv_base.specs.Checks.{IsFirstFault};
 ghost use Rattle.fv_base.specs.Value.{le_at};
-ghost use Rattle.fv_section.specs.FrameChecks.{is_extended, head_len_at, size_at, has_size, frame_in, frame_checks, frame_verdict};
-ghost use Rattle.fv_section.specs.Frames.{FrameForm, StandsAt};
-ghost use Rattle.fv_section.specs.Seen.{form_of};
+ghost use Rattle.fv_section.specs.FrameChecks.{has_extended_size, section_header_len_at, section_size_at, has_section_size, frame_in, frame_checks, frame_verdict};
+ghost use Rattle.fv_section.specs.Frames.{FrameForm, FrameStandsAt};
+ghost use Rattle.fv_section.specs.FrameForms.{frame_form};
 
 use crate::layout::{
     EXTENDED_HEADER_LEN, EXTENDED_SIZE_OFFSET, HEADER_LEN, SIZE_OFFSET, TYPE_OFFSET,
@@ -38,18 +38,18 @@ fn short_size(rest: &[u8]) -> u32
     LittleEndian::read_u24(field(rest, SIZE_OFFSET, 3))
 }
 
-fn is_extended(rest: &[u8]) -> bool
+fn has_extended_size(rest: &[u8]) -> bool
     requires least { 4 ≤ length rest.now }
-    ensures { result ≡ is_extended rest.now }
+    ensures { result ≡ has_extended_size rest.now }
 {
     short_size(rest) == EXTENDED
 }
 
 fn head_len(rest: &[u8]) -> usize
     requires least { 4 ≤ length rest.now }
-    ensures { result ≡ head_len_at rest.now }
+    ensures { result ≡ section_header_len_at rest.now }
 {
-    if is_extended(rest) {
+    if has_extended_size(rest) {
         EXTENDED_HEADER_LEN
     } else {
         HEADER_LEN
@@ -58,19 +58,19 @@ fn head_len(rest: &[u8]) -> usize
 
 fn size_of(rest: &[u8]) -> usize
     requires least { 4 ≤ length rest.now }
-    requires header { head_len_at rest.now ≤ length rest.now }
-    ensures { result ≡ size_at rest.now }
+    requires header { section_header_len_at rest.now ≤ length rest.now }
+    ensures { result ≡ section_size_at rest.now }
 {
-    if is_extended(rest) {
+    if has_extended_size(rest) {
         u32_at(rest, EXTENDED_SIZE_OFFSET) as usize
     } else {
         short_size(rest) as usize
     }
 }
 
-fn has_size(rest: &[u8]) -> bool
+fn has_section_size(rest: &[u8]) -> bool
     requires least { 4 ≤ length rest.now }
-    ensures { result ≡ has_size rest.now }
+    ensures { result ≡ has_section_size rest.now }
 {
     let header = head_len(rest);
     header <= rest.len() && header <= size_of(rest) && size_of(rest) <= rest.len()
@@ -79,26 +79,26 @@ fn has_size(rest: &[u8]) -> bool
 // The frame at the front.
 fn frame_in(rest: &[u8], at: u64) -> Frame<'_>
     requires least { 4 ≤ length rest.now }
-    requires header { head_len_at rest.now ≤ size_at rest.now }
-    requires within { size_at rest.now ≤ length rest.now }
-    ensures { form_of result ≡ frame_in at rest.now }
+    requires header { section_header_len_at rest.now ≤ section_size_at rest.now }
+    requires within { section_size_at rest.now ≤ length rest.now }
+    ensures { frame_form result ≡ frame_in at rest.now }
 {
     Frame {
         offset: at,
         kind: rest[TYPE_OFFSET],
-        extended: is_extended(rest),
+        extended: has_extended_size(rest),
         body: &rest[head_len(rest)..size_of(rest)],
     }
 }
 
 // The frame at the front, or the first fault.
 fn front(rest: &[u8], at: u64) -> Result<Frame<'_>, Fault>
-    ensures found { IfOk result (λ f. frame_verdict at rest.now ≡ Ok (form_of f)) }
+    ensures found { IfOk result (λ f. frame_verdict at rest.now ≡ Ok (frame_form f)) }
     ensures refused { IfErr result (λ e. frame_verdict at rest.now ≡ Err e) }
     ensures place { IfErr result (λ e. e.place.offset ≡ at) }
 {
     check(rest.len() >= HEADER_LEN, FaultKind::SectionTail, at)?;
-    check(has_size(rest), FaultKind::SectionSize, at)?;
+    check(has_section_size(rest), FaultKind::SectionSize, at)?;
     Ok(frame_in(rest, at))
 }
 
@@ -111,16 +111,16 @@ fn front(rest: &[u8], at: u64) -> Result<Frame<'_>, Fault>
 /// the header or past the end, or an extended header is cut.
 pub fn next_frame(stream: &[u8], at: u64) -> Result<Option<Frame<'_>>, Fault>
     // This frame stands there.
-    ensures found { IfOk result (λ o. IfSome o (λ f. StandsAt (form_of f) at stream.now)) }
+    ensures found { IfOk result (λ o. IfSome o (λ f. FrameStandsAt (frame_form f) at stream.now)) }
 
     // No other does.
-    ensures only { IfOk result (λ o. IfSome o (λ f. (g : FrameForm) → StandsAt g at stream.now → g ≡ form_of f)) }
+    ensures only { IfOk result (λ o. IfSome o (λ f. (g : FrameForm) → FrameStandsAt g at stream.now → g ≡ frame_form f)) }
 
     // There is none at the end and past it.
     ensures past { IfOk result (λ o. IfNone o (length stream.now ≤ at)) }
 
     // Where it refuses, none stands there.
-    ensures none { IfErr result (λ _. (g : FrameForm) → StandsAt g at stream.now → ⊥) }
+    ensures none { IfErr result (λ _. (g : FrameForm) → FrameStandsAt g at stream.now → ⊥) }
 
     // A refusal names the first check that does not hold.
     ensures first { IfErr result (IsFirstFault (frame_checks at (drop at stream.now))) }

@@ -2,16 +2,16 @@
 #![tactic(auto)]
 
 mod frame;
+mod frame_list;
+mod frame_walk;
 mod layout;
-mod list;
-mod spell;
-mod split;
+mod section_head;
 #[cfg(test)]
 mod tests;
 mod texts;
 
 pub use frame::{Frame, next_frame};
-pub use list::Frames;
-pub use spell::{SectionHead, section_head_bytes};
-pub use split::frames;
+pub use frame_list::Frames;
+pub use frame_walk::frames;
+pub use section_head::{SectionHead, section_head_bytes};
 pub use texts::{freeform, ui_text, version};

@@ -8,21 +8,21 @@ use Rattle.fv_command.specs.declared.plan.Plan.{Plan}
 use Rattle.fv_command.specs.declared.plan.Task.{Task}
 use Rattle.fv_command.specs.declared.plan.Task.TheVariants.{Normalise, NormaliseAll}
 use Rattle.fv_tool.specs.Options.{normalise_app, text_in}
-use Rattle.fv_tool.specs.Words.{AsksBy, HasOneInput, HasTexts, IsFile, IsTaken, has_flag, name_of, name_of_task}
+use Rattle.fv_tool.specs.Words.{AsksBy, HasOneInput, HasTexts, IsFileWord, IsTaken, has_flag, command_name, task_name}
 
 -- the plan is that of the words, where its task is this one
 asked : (rest : List (List ℕ)) (task other : Task) (file : Option (String Global)) (plan : Plan) → plan.command ≡ Single task file
-    → task ≡ other → codes "normalise" ≡ name_of_task other → plan.hex ≡ has_flag (codes "--hex") rest
+    → task ≡ other → codes "normalise" ≡ task_name other → plan.hex ≡ has_flag (codes "--hex") rest
     → HasTexts rest (Single other file) → AsksBy (codes "normalise") rest plan
 asked rest task other file plan command same name hex texts =
     let is : plan.command ≡ Single other file = command ∙ ap (λ (t : Task). Single t file) same in
-    record { command = name ∙ sym (ap name_of is); hex = hex; texts = subst (HasTexts rest) (sym is) texts }
+    record { command = name ∙ sym (ap command_name is); hex = hex; texts = subst (HasTexts rest) (sym is) texts }
 
 -- the flag tells the task
 pub normalise_asked : (rest : List (List ℕ)) (all : Bool) (task : Task) (file : Option (String Global)) (plan : Plan)
     → (all ≡ true → task ≡ NormaliseAll) → (all ≡ false → task ≡ Normalise) → all ≡ has_flag (codes "--all") rest
     → plan.hex ≡ has_flag (codes "--hex") rest → plan.command ≡ Single task file
-    → IsFile (text_in normalise_app (codes "file") rest) file → AsksBy (codes "normalise") rest plan
+    → IsFileWord (text_in normalise_app (codes "file") rest) file → AsksBy (codes "normalise") rest plan
 normalise_asked rest true task file plan each one is hex command texts =
     asked rest task NormaliseAll file plan command (each refl) refl hex (sym is, texts)
 normalise_asked rest false task file plan each one is hex command texts =

@@ -21,18 +21,18 @@ abbrev pub plan_without_words : Plan
 plan_without_words = record { hex = true; command = Single Normalise None }
 
 -- the word that names a task, and that which names a command
-abbrev pub name_of_task : Task → List ℕ
-name_of_task Normalise = codes "normalise"
-name_of_task NormaliseAll = codes "normalise"
-name_of_task Listing = codes "list"
-name_of_task (Extract part) = codes "extract"
-name_of_task Check = codes "check"
-name_of_task Scan = codes "scan"
+abbrev pub task_name : Task → List ℕ
+task_name Normalise = codes "normalise"
+task_name NormaliseAll = codes "normalise"
+task_name Listing = codes "list"
+task_name (Extract part) = codes "extract"
+task_name Check = codes "check"
+task_name Scan = codes "scan"
 
-abbrev pub name_of : Command → List ℕ
-name_of (Single task file) = name_of_task task
-name_of (Hobs file image) = codes "hobs"
-name_of (Compare first second) = codes "compare"
+abbrev pub command_name : Command → List ℕ
+command_name (Single task file) = task_name task
+command_name (Hobs file image) = codes "hobs"
+command_name (Compare first second) = codes "compare"
 
 -- the commands with one input and no option but `--hex`
 abbrev pub HasOneInput : List ℕ → Type 0
@@ -55,63 +55,63 @@ has_flag flag [] = false
 has_flag flag (w ∷ ws) = if bytes_eq w (codes "--") then false else (bytes_eq w flag || has_flag flag ws)
 
 -- the type of a section is that of one or two hexadecimal digits, where they are given
-abbrev pub IsSectionType : Option (List ℕ) → Option ℕ → Type 0
-IsSectionType None kind = kind ≡ None
-IsSectionType (Some text) kind = IsNumeral 16 text × (length text ≤ 2) × (kind ≡ Some (digits_value 16 text))
+abbrev pub IsSectionTypeWord : Option (List ℕ) → Option ℕ → Type 0
+IsSectionTypeWord None kind = kind ≡ None
+IsSectionTypeWord (Some text) kind = IsNumeral 16 text × (length text ≤ 2) × (kind ≡ Some (digits_value 16 text))
 
 -- a number of so many bits, in decimal digits that a plus may stand before
-abbrev pub IsNumber : ℕ → List ℕ → ℕ → Type 0
-IsNumber bits text n = IsNumeral 10 (without_leading_plus text) → digits_value 10 (without_leading_plus text) < 2 ^ bits
+abbrev pub IsNumberWord : ℕ → List ℕ → ℕ → Type 0
+IsNumberWord bits text n = IsNumeral 10 (without_leading_plus text) → digits_value 10 (without_leading_plus text) < 2 ^ bits
     → n ≡ digits_value 10 (without_leading_plus text)
 
 -- which section it is, and the first where nothing is given
-abbrev pub IsInstance : Option (List ℕ) → ℕ → Type 0
-IsInstance None n = n ≡ 1
-IsInstance (Some text) n = IsNumber 32 text n
+abbrev pub IsInstanceWord : Option (List ℕ) → ℕ → Type 0
+IsInstanceWord None n = n ≡ 1
+IsInstanceWord (Some text) n = IsNumberWord 32 text n
 
 -- the part of a volume: the file of a name that is read as a GUID, the type of a section and which of them it is
 pub record IsPartBy (name section which : Option (List ℕ)) (part : Part) : Type 0 where
   pub name_is : option_and_then guid_read name ≡ Some part.name
-  pub section_is : IsSectionType section part.section
-  pub instance_is : IsInstance which part.instance
+  pub section_is : IsSectionTypeWord section part.section
+  pub instance_is : IsInstanceWord which part.instance
 
 -- the address of an image's first byte
-abbrev pub IsBase : Option (List ℕ) → ℕ → Type 0
-IsBase None n = ⊥
-IsBase (Some text) n = IsNumber 64 text n
+abbrev pub IsBaseWord : Option (List ℕ) → ℕ → Type 0
+IsBaseWord None n = ⊥
+IsBaseWord (Some text) n = IsNumberWord 64 text n
 
 -- an image that is named, with its base
-abbrev pub IsImage : (path base : Option (List ℕ)) → Option ImageFile → Type 0
-IsImage path base None = path ≡ None
-IsImage path base (Some image) = (path ≡ Some (string_bytes image.path)) × IsBase base image.base
+abbrev pub IsImageWords : (path base : Option (List ℕ)) → Option ImageFile → Type 0
+IsImageWords path base None = path ≡ None
+IsImageWords path base (Some image) = (path ≡ Some (string_bytes image.path)) × IsBaseWord base image.base
 
-abbrev pub IsFile : Option (List ℕ) → Option (String Global) → Type 0
-IsFile text file = option_map string_bytes file ≡ text
+abbrev pub IsFileWord : Option (List ℕ) → Option (String Global) → Type 0
+IsFileWord text file = option_map string_bytes file ≡ text
 
 -- the texts of a task, and those of a command, are those that the reader finds; of the two tasks of one name the flag `--all` tells which
 abbrev pub HasTaskTexts : List (List ℕ) → Task → Option (String Global) → Type 0
-HasTaskTexts rest Normalise file = (has_flag (codes "--all") rest ≡ false) × IsFile (text_in normalise_app (codes "file") rest) file
-HasTaskTexts rest NormaliseAll file = (has_flag (codes "--all") rest ≡ true) × IsFile (text_in normalise_app (codes "file") rest) file
-HasTaskTexts rest Listing file = IsFile (text_in one_input_app (codes "file") rest) file
+HasTaskTexts rest Normalise file = (has_flag (codes "--all") rest ≡ false) × IsFileWord (text_in normalise_app (codes "file") rest) file
+HasTaskTexts rest NormaliseAll file = (has_flag (codes "--all") rest ≡ true) × IsFileWord (text_in normalise_app (codes "file") rest) file
+HasTaskTexts rest Listing file = IsFileWord (text_in one_input_app (codes "file") rest) file
 HasTaskTexts rest (Extract part) file =
-    IsFile (text_in extract_app (codes "file") rest) file
+    IsFileWord (text_in extract_app (codes "file") rest) file
     × IsPartBy (text_in extract_app (codes "name") rest) (text_in extract_app (codes "section") rest)
     (number_in extract_app (codes "instance") rest) part
-HasTaskTexts rest Check file = IsFile (text_in one_input_app (codes "file") rest) file
-HasTaskTexts rest Scan file = IsFile (text_in one_input_app (codes "file") rest) file
+HasTaskTexts rest Check file = IsFileWord (text_in one_input_app (codes "file") rest) file
+HasTaskTexts rest Scan file = IsFileWord (text_in one_input_app (codes "file") rest) file
 
 abbrev pub HasTexts : List (List ℕ) → Command → Type 0
 HasTexts rest (Single task file) = HasTaskTexts rest task file
 HasTexts rest (Hobs file image) =
-    IsFile (text_in hobs_app (codes "file") rest) file
-    × IsImage (text_in hobs_app (codes "image") rest) (number_in hobs_app (codes "base") rest) image
+    IsFileWord (text_in hobs_app (codes "file") rest) file
+    × IsImageWords (text_in hobs_app (codes "image") rest) (number_in hobs_app (codes "base") rest) image
 HasTexts rest (Compare first second) =
     (Some (string_bytes first) ≡ text_in compare_app (codes "first") rest)
     × (Some (string_bytes second) ≡ text_in compare_app (codes "second") rest)
 
 -- the plan is that of the command that the first word names, with text where the words behind it have the flag
 pub record AsksBy (name : List ℕ) (rest : List (List ℕ)) (plan : Plan) : Type 0 where
-  pub command : name ≡ name_of plan.command
+  pub command : name ≡ command_name plan.command
   pub hex : plan.hex ≡ has_flag (codes "--hex") rest
   pub texts : HasTexts rest plan.command
 

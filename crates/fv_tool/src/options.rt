@@ -3,8 +3,8 @@
 ghost use Rattle.clap.specs.Words.{app_of, first_value, found_of, one_text, rule_of, takes};
 ghost use Rattle.fv_tool.specs.Options.{compare_app, extract_app, flag_app, hobs_app, normalise_app, one_input_app, text_in};
 ghost use Rattle.fv_tool.specs.Options.{base_rule, flag_rule, instance_rule, option_rule};
-ghost use Rattle.fv_tool.specs.Words.{AsksBy, IsFile, IsTaken, has_flag};
-ghost use Rattle.fv_tool.specs.Words.{IsImage, IsInstance, IsPartBy, IsSectionType};
+ghost use Rattle.fv_tool.specs.Words.{AsksBy, IsFileWord, IsTaken, has_flag};
+ghost use Rattle.fv_tool.specs.Words.{IsImageWords, IsInstanceWord, IsPartBy, IsSectionTypeWord};
 ghost use Rattle.std.specs.String.{string_bytes};
 ghost use Rattle.std.specs.Prelude.{◌≡◌, ◌≤◌, false, codes, drop, length, map, option_map, true, IfErr, IfOk, SomeIff};
 ghost use Rattle.std.specs.Str.Parse.{IsNumeral, digits_value};
@@ -136,7 +136,7 @@ fn file_of(
 // The flag and the file of a command with one input.
 fn one_input(alloc: Global, words: &[String]) -> Result<(bool, Option<String>), WordFault>
     ensures hex { IfOk result (λ r. r.0 ≡ has_flag (codes "--hex") (drop 1 (map string_bytes words.now))) }
-    ensures file { IfOk result (λ r. IsFile (text_in one_input_app (codes "file")
+    ensures file { IfOk result (λ r. IsFileWord (text_in one_input_app (codes "file")
         (drop 1 (map string_bytes words.now))) r.1) }
 
     // Words that the reader takes are refused for want of memory alone.
@@ -175,7 +175,7 @@ fn normalise(alloc: Global, words: &[String]) -> Result<Plan, WordFault>
 
 // The image that was named, with its base: one without the other is wrong.
 fn image_of(alloc: Global, matches: &ArgMatches<'_>) -> Result<Option<ImageFile>, WordFault>
-    ensures { IfOk result (IsImage (first_value (found_of matches.now) (codes "image"))
+    ensures { IfOk result (IsImageWords (first_value (found_of matches.now) (codes "image"))
         (one_text (found_of matches.now) (codes "base"))) }
 {
     match (matches.get_str("image"), matches.get_one::<u64>("base")) {
@@ -217,7 +217,7 @@ fn section_type(text: &str) -> Option<u8>
 
 // The type of the section that was named, if one was.
 fn section_of(matches: &ArgMatches<'_>) -> Result<Option<u8>, WordFault>
-    ensures { IfOk result (IsSectionType (first_value (found_of matches.now) (codes "section"))) }
+    ensures { IfOk result (IsSectionTypeWord (first_value (found_of matches.now) (codes "section"))) }
 {
     let Some(text) = matches.get_str("section") else {
         return Ok(None);
@@ -230,7 +230,7 @@ fn section_of(matches: &ArgMatches<'_>) -> Result<Option<u8>, WordFault>
 
 // Which of the sections of a type was asked for: the first where none was.
 fn instance_of(matches: &ArgMatches<'_>) -> u32
-    ensures { IsInstance (one_text (found_of matches.now) (codes "instance")) result }
+    ensures { IsInstanceWord (one_text (found_of matches.now) (codes "instance")) result }
 {
     matches.get_one::<u32>("instance").unwrap_or(1)
 }

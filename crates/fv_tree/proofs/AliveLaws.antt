@@ -10,7 +10,7 @@ use Rattle.fv_base.proofs.Laws.{and_split, and_join}
 use Rattle.fv_base.specs.Guids.{bytes_of}
 use Rattle.fv_base.specs.declared.fault.Fault.{Fault}
 use Rattle.fv_file.specs.Cells.{CellForm}
-use Rattle.fv_tree.specs.Body.{AliveFirst}
+use Rattle.fv_tree.specs.ReadingParts.{AliveFirst}
 use Rattle.fv_tree.specs.Files.{FileForm, files_in, same_name, is_marked, is_twin, NoTwins, alive_in, is_top, end_of, TopAtEnd, Alive}
 use Rattle.fv_tree.specs.FirstFault.{FirstTwin, TopElsewhere}
 

@@ -10,13 +10,13 @@ use Rattle.fv_base.specs.declared.flash.FileSystem.{FileSystem}
 use Rattle.fv_base.specs.declared.flash.Polarity.{Polarity}
 use Rattle.fv_base.proofs.Laws.{bytes_front, bytes_back, bytes_drop}
 use Rattle.std.proofs.lemmas.List.{length-drop}
-use Rattle.fv_file.specs.Cells.{CellForm, Valid, Pad, Dead, Stub, Free, Tiles, AllWithin, IsCell, IsMadeUp, offset_of, span}
+use Rattle.fv_file.specs.Cells.{CellForm, Valid, Pad, Dead, Stub, Free, Tiles, CellsWithin, IsCell, IsMadeUp, offset_of, cell_len}
 use Rattle.fv_file.proofs.Laws.{cell_span}
 use Rattle.fv_head.specs.declared.extent.Extent.{Extent}
-use Rattle.fv_tree.specs.Body.{HasFiles, AreAlive, StandIn, StandFirst, AliveFirst, IsReadyFile, AllStored}
-use Rattle.fv_tree.specs.Denotes.{Streams, Pairs, IsFile}
+use Rattle.fv_tree.specs.ReadingParts.{HasFiles, AreAlive, StandIn, StandFirst, AliveFirst, IsReadyFile, AllStored}
+use Rattle.fv_tree.specs.Denotes.{Streams, Pairs, MeansFile}
 use Rattle.fv_tree.specs.Files.{FileForm, NoTwins, files_in, alive_in, TopAtEnd, Alive, replaces}
-use Rattle.fv_tree.specs.FirstFault.{moved, Faulty, FileFirst, BodyFirst, FirstOf}
+use Rattle.fv_tree.specs.FirstFault.{moved_fault, Faulty, FileFirst, BodyFirst, FirstOf}
 use Rattle.fv_tree.specs.Meaning.{FileMeaning}
 use Rattle.fv_tree.proofs.AliveLaws.{alive_none}
 
@@ -49,7 +49,7 @@ module _ (e : Extent) (volume : List ℕ) (cs : List CellForm) where
 -- ---- what the files mean
 
 module _ (S : Streams) (e : Extent) (volume : List ℕ) where
-  pub body_found : (fs : List FileForm) (ms : List FileMeaning) → StandIn e volume fs → Pairs (IsFile S) fs ms → HasFiles S e volume ms
+  pub body_found : (fs : List FileForm) (ms : List FileMeaning) → StandIn e volume fs → Pairs (MeansFile S) fs ms → HasFiles S e volume ms
   body_found fs ms stand pairs = record {
     cells = stand.cells;
     tiles = stand.tiles;
@@ -62,12 +62,12 @@ module _ (S : Streams) (e : Extent) (volume : List ℕ) where
   standing ms h = record { cells = h.cells; tiles = h.tiles; alive = h.alive }
 
   pub body_only : (fs : List FileForm) → ((gs : List FileForm) → StandIn e volume gs → gs ≡ fs) → (ms : List FileMeaning)
-      → ((ts : List FileMeaning) → Pairs (IsFile S) fs ts → ts ≡ ms) → (ts : List FileMeaning) → HasFiles S e volume ts → ts ≡ ms
-  body_only fs only ms one ts h = one ts (subst (λ (gs : List FileForm). Pairs (IsFile S) gs ts) (only h.files (standing ts h)) h.meanings)
+      → ((ts : List FileMeaning) → Pairs (MeansFile S) fs ts → ts ≡ ms) → (ts : List FileMeaning) → HasFiles S e volume ts → ts ≡ ms
+  body_only fs only ms one ts h = one ts (subst (λ (gs : List FileForm). Pairs (MeansFile S) gs ts) (only h.files (standing ts h)) h.meanings)
 
   pub body_none : (fs : List FileForm) → ((gs : List FileForm) → StandIn e volume gs → gs ≡ fs)
-      → ((ts : List FileMeaning) → Pairs (IsFile S) fs ts → ⊥) → (ts : List FileMeaning) → HasFiles S e volume ts → ⊥
-  body_none fs only none ts h = none ts (subst (λ (gs : List FileForm). Pairs (IsFile S) gs ts) (only h.files (standing ts h)) h.meanings)
+      → ((ts : List FileMeaning) → Pairs (MeansFile S) fs ts → ⊥) → (ts : List FileMeaning) → HasFiles S e volume ts → ⊥
+  body_none fs only none ts h = none ts (subst (λ (gs : List FileForm). Pairs (MeansFile S) gs ts) (only h.files (standing ts h)) h.meanings)
 
   pub files_none : ((gs : List FileForm) → StandIn e volume gs → ⊥) → (ts : List FileMeaning) → HasFiles S e volume ts → ⊥
   files_none none ts h = none h.files (standing ts h)
@@ -75,15 +75,15 @@ module _ (S : Streams) (e : Extent) (volume : List ℕ) where
 module _ (S : Streams) (I : Faulty) (e : Extent) (volume : List ℕ) (base depth : ℕ) where
   pub stand_first : (g : Fault) → StandFirst e g volume base depth → BodyFirst S I e g volume base depth
   stand_first g (inl first) = inl first
-  stand_first g (inr (cs, tiles, f, inl (x, twin, same), is)) = inr (cs, tiles, inl (x, twin, is ∙ ap (moved base depth) same))
+  stand_first g (inr (cs, tiles, f, inl (x, twin, same), is)) = inr (cs, tiles, inl (x, twin, is ∙ ap (moved_fault base depth) same))
   stand_first g (inr (cs, tiles, f, inr (none, (x, top, same)), is)) =
-      inr (cs, tiles, inr (none, inl (x, top, is ∙ ap (moved base depth) same)))
+      inr (cs, tiles, inr (none, inl (x, top, is ∙ ap (moved_fault base depth) same)))
 
-  pub files_first : (fs : List FileForm) (g : Fault) → StandIn e volume fs → FirstOf (IsFile S) (λ f. FileFirst I g f base depth) fs
+  pub files_first : (fs : List FileForm) (g : Fault) → StandIn e volume fs → FirstOf (MeansFile S) (λ f. FileFirst I g f base depth) fs
       → BodyFirst S I e g volume base depth
   files_first fs g stand first =
       let alive = stand.alive in
-      let P : List FileForm → Type 0 = λ l. FirstOf (IsFile S) (λ f. FileFirst I g f base depth) l in
+      let P : List FileForm → Type 0 = λ l. FirstOf (MeansFile S) (λ f. FileFirst I g f base depth) l in
       let top = subst (TopAtEnd e.length) alive.files_are alive.top in
       inr (stand.cells, stand.tiles, inr (alive.no_twins, inr (top, subst P alive.files_are first)))
 
@@ -91,7 +91,7 @@ module _ (S : Streams) (I : Faulty) (e : Extent) (volume : List ℕ) (base depth
 
 stored_here : (s : FileSystem) (p : Polarity) (c : CellForm) (x : List ℕ) (base end : ℕ) (cs : List CellForm) → IsBytes x
     → length x ≤ volume_limit → base + end < 2 ^ 63 → IsCell s p c x
-    → offset_of c + span c ≤ end → IsMadeUp c → AllStored base (files_in cs) → AllStored base (files_in (c ∷ cs))
+    → offset_of c + cell_len c ≤ end → IsMadeUp c → AllStored base (files_in cs) → AllStored base (files_in (c ∷ cs))
 stored_here s p (Valid at head payload) x base end cs small short fits is lies made rest = (
   (
     (s, p, x, small, short, is),
@@ -107,7 +107,7 @@ stored_here s p (Stub at len) x base end cs small short fits is lies made rest =
 stored_here s p (Free at len) x base end cs small short fits is lies made rest = rest
 
 pub stored_in : (s : FileSystem) (p : Polarity) (at base end : ℕ) (cs : List CellForm) (b : List ℕ) → IsBytes b
-    → length b ≤ volume_limit → base + end < 2 ^ 63 → Tiles s p at cs b → AllWithin end cs
+    → length b ≤ volume_limit → base + end < 2 ^ 63 → Tiles s p at cs b → CellsWithin end cs
     → AllStored base (files_in cs)
 stored_in s p at base end [] b small short fits tiles within = tt
 stored_in s p at base end (c ∷ cs) b small short fits (x, rest, text, is, o, free, more) (lies, made, others) =
@@ -126,7 +126,7 @@ all_filter test P (f ∷ fs) h = go (test f) refl (all_filter test P fs h.1) whe
 
 pub files_stored : (e : Extent) (volume : List ℕ) (base : ℕ) (cs : List CellForm) (fs : List FileForm) → IsBytes volume
     → length volume ≤ volume_limit → base + length volume < 2 ^ 63
-    → Tiles e.file_system e.polarity e.first cs (drop e.first volume) → AllWithin (length volume) cs → Alive e.length cs fs
+    → Tiles e.file_system e.polarity e.first cs (drop e.first volume) → CellsWithin (length volume) cs → Alive e.length cs fs
     → AllStored base fs
 files_stored e volume base cs fs small short fits tiles within alive =
     let short' : length (drop e.first volume) ≤ volume_limit = omega (arith, length-drop e.first volume, short) in

@@ -7,7 +7,7 @@ use Rattle.std.proofs.lemmas.List.{length-drop}
 use Rattle.fv_file.specs.Cells.{CellForm, Valid, Pad, Dead, Stub, Free}
 use Rattle.fv_file.proofs.Laws.{cells_few}
 use Rattle.fv_head.proofs.Laws.{front_lies}
-use Rattle.fv_tree.specs.Denotes.{Pairs, Stream, Denotes, IsFile, IsMeaning}
+use Rattle.fv_tree.specs.Denotes.{Pairs, Stream, Denotes, MeansFile, IsMeaning}
 use Rattle.fv_tree.specs.Files.{FileForm, files_in, replaces}
 use Rattle.fv_tree.specs.Meaning.{Meaning, files_of, head_of}
 
@@ -43,7 +43,7 @@ few_files n b m d =
       files_few d.cells,
       all,
       ap length d.alive.files_are,
-      pairs_length (IsFile
+      pairs_length (MeansFile
           (Stream n)) d.files (files_of m) d.meanings,
     )
 

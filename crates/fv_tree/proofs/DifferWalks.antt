@@ -5,7 +5,7 @@ use Rattle.std.specs.Prelude.{◌==◌, ◌&&◌}
 use Rattle.std.specs.Str.{bytes_eq}
 use Rattle.std.proofs.lemmas.List.{drop_all}
 use Rattle.fv_head.specs.Head.{HeadFields}
-use Rattle.fv_tree.specs.Difference.{Differs, differ_in, in_word, or_else, turned, entries_eq}
+use Rattle.fv_tree.specs.Difference.{Differs, differ_in, in_word, or_else, outermost_first, entries_eq}
 use Rattle.fv_tree.specs.Difference.{head_differs, difference, files_differ, sections_differ}
 use Rattle.fv_tree.specs.declared.difference.Step.{Step}
 use Rattle.fv_tree.specs.declared.difference.Word.{Word}
@@ -91,9 +91,9 @@ volume_word (Volume a fs) (Volume b gs) h g o word x y said is =
 pub no_other : (v w : Meaning) → v ≡ w → difference v w ≡ None
 no_other v w e = ap (λ x. difference x w) e ∙ no_difference w
 
-none_told : (d : List Step × Word) → turned (Some d) ≡ None → ⊥
+none_told : (d : List Step × Word) → outermost_first (Some d) ≡ None → ⊥
 none_told d e = cc
 
 -- a difference that was told is one
-pub differ_told : (v w : Meaning) (o : Differs) (d : List Step × Word) → turned o ≡ difference v w → o ≡ Some d → v ≡ w → ⊥
-differ_told v w o d told is e = none_told d (sym (ap turned is) ∙ told ∙ no_other v w e)
+pub differ_told : (v w : Meaning) (o : Differs) (d : List Step × Word) → outermost_first o ≡ difference v w → o ≡ Some d → v ≡ w → ⊥
+differ_told v w o d told is e = none_told d (sym (ap outermost_first is) ∙ told ∙ no_other v w e)

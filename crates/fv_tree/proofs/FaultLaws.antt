@@ -6,7 +6,7 @@ use Rattle.fv_file.specs.FileChecks as file
 use Rattle.fv_head.specs.declared.extent.Extent.{Extent}
 use Rattle.fv_section.specs.FrameChecks as section
 use Rattle.fv_section.specs.Frames.{FrameForm}
-use Rattle.fv_tree.specs.Denotes.{Sections, Streams, IsFile, IsSection, Stream, depth_limit}
+use Rattle.fv_tree.specs.Denotes.{Sections, Streams, MeansFile, MeansSection, Stream, depth_limit}
 use Rattle.fv_tree.specs.FaultStands.{Fails, SomeOf, FrameFails, CellFails, HasTwin, InStream, InFiles, InVolume, InSection, FaultStands}
 use Rattle.fv_tree.specs.Files.{FileForm}
 use Rattle.fv_tree.specs.FirstFault.{Faulty, FrameFaulty, FirstOf, StreamFirst, FirstTwin, FilesFirst, FileFirst, VolumeFirst}
@@ -24,7 +24,7 @@ some_of : {A B : Type 0} (R : A → B → Type 0) (first stands : A → Type 0) 
 some_of R first stands xs weak (before, x, after, read, is, pairs, bad) = (before, x, after, is, weak x bad)
 
 -- of the checks of a section header
-frame_fails : (b : List ℕ) (f : Fault) → section.IsFirst b f → FrameFails b f
+frame_fails : (b : List ℕ) (f : Fault) → section.IsFirstFrameFault b f → FrameFails b f
 frame_fails b f first = record {
   frames = first.frames;
   tail = first.tail;
@@ -36,7 +36,7 @@ frame_fails b f first = record {
 }
 
 -- of the checks of a cell
-cell_fails : (x : Extent) (body : List ℕ) (f : Fault) → file.IsFirst x.file_system x.polarity x.first body f → CellFails x body f
+cell_fails : (x : Extent) (body : List ℕ) (f : Fault) → file.IsFirstCellFault x.file_system x.polarity x.first body f → CellFails x body f
 cell_fails x body f first = record {
   cells = first.cells;
   at = first.at;
@@ -76,7 +76,7 @@ module _ (S : Streams) (I J : Faulty) (weak : (e : Fault) (b : List ℕ) (base d
   files_by length e fs base depth (inl (f, twin, is)) = inl (f, has_twin f fs twin, is)
   files_by length e fs base depth (inr (none, inl (f, top, is))) = inr (inl (f, top, is))
   files_by length e fs base depth (inr (none, inr (top, first))) =
-      inr (inr (some_of (IsFile S) (λ f. FileFirst I e f base depth) (λ f. FileFirst J e f base depth) _ (file_by e base depth) first))
+      inr (inr (some_of (MeansFile S) (λ f. FileFirst I e f base depth) (λ f. FileFirst J e f base depth) _ (file_by e base depth) first))
 
   -- of a volume
   volume_by : (e : Fault) (b : List ℕ) (base depth : ℕ) → VolumeFirst S I e b base depth → InVolume J e b base depth
@@ -92,13 +92,13 @@ module _ (S : Streams) (I J : Faulty) (weak : (e : Fault) (b : List ℕ) (base d
 section_stands : (n : ℕ) (e : Fault) (f : FrameForm) (base depth : ℕ) → SectionFirst n e f base depth → InSection n e f base depth
 section_stands zero e f base depth first = first
 section_stands (suc n) e f base depth (inl (group, first)) =
-    inl (group, stream_by (IsSection n) (SectionFirst n) (InSection n) (section_stands n) e f.body _ (depth + 1) first)
+    inl (group, stream_by (MeansSection n) (SectionFirst n) (InSection n) (section_stands n) e f.body _ (depth + 1) first)
 section_stands (suc n) e f base depth (inr (kind, opens, first)) =
     inr (
       kind,
       opens,
       volume_by (Stream n) (FirstInStream n) (InStream (InSection n))
-          (stream_by (IsSection n) (SectionFirst n) (InSection n) (section_stands n)) e f.body _ (depth + 1) first,
+          (stream_by (MeansSection n) (SectionFirst n) (InSection n) (section_stands n)) e f.body _ (depth + 1) first,
     )
 
 -- that of the first fault of a volume stands in the volume
@@ -106,7 +106,7 @@ pub first_stands : (n : ℕ) (e : Fault) (b : List ℕ) (base depth : ℕ) → F
     → InVolume (InStream (InSection n)) e b base depth
 first_stands n e b base depth first =
     volume_by (Stream n) (FirstInStream n) (InStream (InSection n))
-    (stream_by (IsSection n) (SectionFirst n) (InSection n) (section_stands n)) e b base depth first
+    (stream_by (MeansSection n) (SectionFirst n) (InSection n) (section_stands n)) e b base depth first
 
 -- and that of the first fault of bytes that were handed to a call
 pub fault_stands : (b : List ℕ) (e : Fault) → IsFirstOfVolume b e → FaultStands b e

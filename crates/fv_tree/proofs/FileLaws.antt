@@ -2,8 +2,8 @@
 use Rattle.std.proofs.Common.{◌≡◌, ℕ, List, Bool, true, false, refl, sym, ap, ◌∙◌, subst}
 use Rattle.std.specs.Prelude.{not}
 use Rattle.fv_file.specs.Attributes.{attribute_bits, without_large}
-use Rattle.fv_tree.specs.Body.{Reads}
-use Rattle.fv_tree.specs.Denotes.{holds_sections, Stream, IsContent, IsFile}
+use Rattle.fv_tree.specs.ReadingParts.{ReadsContent}
+use Rattle.fv_tree.specs.Denotes.{holds_sections, Stream, MeansContent, MeansFile}
 use Rattle.fv_tree.specs.Files.{FileForm}
 use Rattle.fv_tree.specs.Meaning.{FileMeaning, File, ContentMeaning, Plain, Sectioned, SectionMeaning, sections_list, sections_from}
 use Rattle.fv_tree.proofs.SectionLaws.{list_back, sections_back}
@@ -15,20 +15,20 @@ pub true_by : (t : Bool) → not t ≡ false → t ≡ true
 true_by true h = refl
 true_by false h = cc
 
-pub plain_reads : (n : ℕ) (f : FileForm) → holds_sections f.head.kind ≡ false → Reads n f (Plain f.payload)
+pub plain_reads : (n : ℕ) (f : FileForm) → holds_sections f.head.kind ≡ false → ReadsContent n f (Plain f.payload)
 plain_reads n f h = record { is = (h, refl); one = only }
   where
-    only : (d : ContentMeaning) → IsContent (Stream n) f.head.kind f.payload d → d ≡ Plain f.payload
+    only : (d : ContentMeaning) → MeansContent (Stream n) f.head.kind f.payload d → d ≡ Plain f.payload
     only (Plain b) (p, q) = ap Plain q
     only (Sectioned ss t) (p, q) = absurd (never (holds_sections f.head.kind) p h)
 
 pub stream_reads : (n : ℕ) (f : FileForm) (ss : List SectionMeaning) (t : ℕ) → holds_sections f.head.kind ≡ true → Stream n ss t f.payload
-    → ((us : List SectionMeaning) (u : ℕ) → Stream n us u f.payload → (us ≡ ss) × (u ≡ t)) → Reads n f (Sectioned (sections_from ss) t)
+    → ((us : List SectionMeaning) (u : ℕ) → Stream n us u f.payload → (us ≡ ss) × (u ≡ t)) → ReadsContent n f (Sectioned (sections_from ss) t)
 stream_reads n f ss t h s only =
     let P : List SectionMeaning → Type 0 = λ l. Stream n l t f.payload in
     record { is = (h, subst P (sym (list_back ss)) s); one = one }
   where
-    one : (d : ContentMeaning) → IsContent (Stream n) f.head.kind f.payload d → d ≡ Sectioned (sections_from ss) t
+    one : (d : ContentMeaning) → MeansContent (Stream n) f.head.kind f.payload d → d ≡ Sectioned (sections_from ss) t
     one (Plain b) (p, q) = absurd (never (holds_sections f.head.kind) h p)
     one (Sectioned us u) (p, q) =
         let same = only (sections_list us) u q in
@@ -37,19 +37,19 @@ stream_reads n f ss t h s only =
         cc
 
 pub file_found : (n : ℕ) (f : FileForm) (a : ℕ) (c : ContentMeaning) → a ≡ without_large (attribute_bits f.head.attributes)
-    → Reads n f c → IsFile (Stream n) f (File f.head.name f.head.kind a c)
+    → ReadsContent n f c → MeansFile (Stream n) f (File f.head.name f.head.kind a c)
 file_found n f a c e r = (refl, refl, e, r.is)
 
 pub file_one : (n : ℕ) (f : FileForm) (a : ℕ) (c : ContentMeaning) → a ≡ without_large (attribute_bits f.head.attributes)
-    → Reads n f c → (m : FileMeaning) → IsFile (Stream n) f m → m ≡ File f.head.name f.head.kind a c
+    → ReadsContent n f c → (m : FileMeaning) → MeansFile (Stream n) f m → m ≡ File f.head.name f.head.kind a c
 file_one n f a c e r (File name kind attributes content) (p, q, s, h) =
-    let P : ℕ → Type 0 = λ k. IsContent (Stream n) k f.payload content in
+    let P : ℕ → Type 0 = λ k. MeansContent (Stream n) k f.payload content in
     let same : content ≡ c = r.one content (subst P q h) in
     let bits : attributes ≡ a = s ∙ sym e in
     cc
 
 pub stream_bad : (n : ℕ) (f : FileForm) → holds_sections f.head.kind ≡ true → ((us : List SectionMeaning) (u : ℕ)
-    → Stream n us u f.payload → ⊥) → (m : FileMeaning) → IsFile (Stream n) f m → ⊥
+    → Stream n us u f.payload → ⊥) → (m : FileMeaning) → MeansFile (Stream n) f m → ⊥
 stream_bad n f h none (File name kind attributes (Plain b)) (p, q, s, (no_sections, r)) = never (holds_sections f.head.kind) h
     (ap holds_sections (sym q) ∙ no_sections)
 stream_bad n f h none (File name kind attributes (Sectioned us u)) (p, q, s, (has, r)) = none (sections_list us) u r

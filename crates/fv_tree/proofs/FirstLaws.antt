@@ -14,9 +14,9 @@ use Rattle.fv_head.proofs.Laws.{front_holds, one_front}
 use Rattle.fv_section.specs.Frames.{FrameForm}
 use Rattle.fv_section.proofs.Laws.{one_split}
 use Rattle.fv_section.proofs.Laws as framed
-use Rattle.fv_tree.specs.Denotes.{Sections, IsFile, IsSection, Stream, Denotes, group_kind, volume_kind, depth_limit}
+use Rattle.fv_tree.specs.Denotes.{Sections, MeansFile, MeansSection, Stream, Denotes, group_kind, volume_kind, depth_limit}
 use Rattle.fv_tree.specs.Files.{FileForm, files_in, alive_in}
-use Rattle.fv_tree.specs.FirstFault.{moved, FrameFaulty, FirstOf, StreamFirst, FilesFirst, FileFirst, BodyFirst, data_place}
+use Rattle.fv_tree.specs.FirstFault.{moved_fault, FrameFaulty, FirstOf, StreamFirst, FilesFirst, FileFirst, BodyFirst, data_place}
 use Rattle.fv_tree.specs.FirstFault.{SectionFirst, FirstInStream, FirstInVolume, IsFirstOfVolume}
 use Rattle.fv_tree.specs.Meaning.{Meaning, SectionMeaning, length_of}
 use Rattle.fv_tree.proofs.AliveLaws.{twin_none, top_none}
@@ -28,8 +28,8 @@ use Rattle.fv_tree.proofs.TopLaws.{one_twin, one_top}
 -- ---- by what stands inside
 
 -- faults that are moved by as much
-same_moved : (e g a b : Fault) (base depth : ℕ) → e ≡ moved base depth a → g ≡ moved base depth b → a ≡ b → e ≡ g
-same_moved e g a b base depth is is' same = is ∙ ap (moved base depth) same ∙ sym is'
+same_moved : (e g a b : Fault) (base depth : ℕ) → e ≡ moved_fault base depth a → g ≡ moved_fault base depth b → a ≡ b → e ≡ g
+same_moved e g a b base depth is is' same = is ∙ ap (moved_fault base depth) same ∙ sym is'
 
 -- a stream has one first fault, where each frame has one at most, and then is no section
 stream_once : (R : Sections) (I : FrameFaulty)
@@ -70,7 +70,7 @@ module _ (n : ℕ) (refused : StreamRefuses n) (once : StreamOnce n) (e g : Faul
   files_once len fs (inr (none, inr (last, _))) (inr (_, inl (f, top, is))) = absurd (top_none len f (alive_in fs) top last)
   files_once len fs (inr (none, inr (last, first))) (inr (_, inr (_, first'))) =
       let one =
-      first_of_once (IsFile (Stream n)) (λ f. FileFirst (FirstInStream n) e f base depth) (λ f. FileFirst (FirstInStream n) g f base depth)
+      first_of_once (MeansFile (Stream n)) (λ f. FileFirst (FirstInStream n) e f base depth) (λ f. FileFirst (FirstInStream n) g f base depth)
       (alive_in fs) (file_by n refused e base depth) (file_by n refused g base depth) first first' in
       once e g (one.0).payload (base + data_place one.0) depth one.1.1 one.2.1
 
@@ -112,18 +112,18 @@ section_once : (n : ℕ) (e g : Fault) (f : FrameForm) (base depth : ℕ) → Se
     → SectionFirst n g f base depth → e ≡ g
 section_once zero e g f base depth (_, is) (_, is') = is ∙ sym is'
 section_once (suc n) e g f base depth (inl (group, first)) (inl (_, first')) =
-    stream_once (IsSection n) (SectionFirst n) (section_refuses n) (section_once n) e g f.body _ (depth + 1) first first'
+    stream_once (MeansSection n) (SectionFirst n) (section_refuses n) (section_once n) e g f.body _ (depth + 1) first first'
 section_once (suc n) e g f base depth (inl (group, _)) (inr (kind, opens, _)) = absurd (two_kinds f group kind)
 section_once (suc n) e g f base depth (inr (kind, opens, _)) (inl (group, _)) = absurd (two_kinds f group kind)
 section_once (suc n) e g f base depth (inr (kind, opens, first)) (inr (_, _, first')) =
-    volume_once n (stream_refuses n) (stream_once (IsSection n) (SectionFirst n) (section_refuses n) (section_once n)) e g _ (depth + 1)
+    volume_once n (stream_refuses n) (stream_once (MeansSection n) (SectionFirst n) (section_refuses n) (section_once n)) e g _ (depth + 1)
     f.body first first'
 
 -- a volume has one first fault
 pub first_once : (n : ℕ) (e g : Fault) (b : List ℕ) (base depth : ℕ) → FirstInVolume n e b base depth → FirstInVolume n g b base depth
     → e ≡ g
 first_once n e g b base depth first first' =
-    volume_once n (stream_refuses n) (stream_once (IsSection n) (SectionFirst n) (section_refuses n) (section_once n)) e g base depth b
+    volume_once n (stream_refuses n) (stream_once (MeansSection n) (SectionFirst n) (section_refuses n) (section_once n)) e g base depth b
     first first'
 
 -- ---- an answer

@@ -3,7 +3,7 @@ use Rattle.std.proofs.Common.{◌≡◌, ℕ, zero, suc, ◌+◌, ◌-◌, ◌<�
 use Rattle.std.proofs.Common.{arith, Bool, true, false, Option, Some, None}
 use Rattle.std.specs.Prelude.{slice_get, ◌==◌, ◌⊎◌, min}
 use Rattle.std.specs.List.{filter}
-use Rattle.fv_section.specs.Frames.{FrameForm, Splits, StandsAt, size, up_to_4}
+use Rattle.fv_section.specs.Frames.{FrameForm, Splits, FrameStandsAt, frame_len, up_to_4}
 use Rattle.fv_tree.specs.Instances.{instance_of, frame_of_type}
 use Rattle.fv_tree.proofs.LookLaws.{no_type, one_type}
 use Rattle.fv_tree.proofs.StreamLaws.{split_more as walk_more}
@@ -64,10 +64,10 @@ instance_nothing (suc k) = refl
 
 -- the frames so far, and the one that stands behind them
 pub split_more : (b : List ℕ) (fs : List FrameForm) (t at : ℕ) (f : FrameForm) (next : ℕ) → Splits fs t (take at b) → at ≡ up_to_4 at
-    → StandsAt f at b → next ≡ up_to_4 (f.offset + size f)
+    → FrameStandsAt f at b → next ≡ up_to_4 (f.offset + frame_len f)
     → (u : ℕ) × Splits (fs ++ f ∷ []) u (take next b)
 split_more b fs t at f next split even s n =
-    (min next (length b) - (f.offset + size f), walk_more b fs t at f (f.offset + size f) next split even s refl n)
+    (min next (length b) - (f.offset + frame_len f), walk_more b fs t at f (f.offset + frame_len f) next split even s refl n)
 
 abbrev is_of : ℕ → FrameForm → Bool
 is_of kind f = f.kind == kind

@@ -23,11 +23,11 @@ use Rattle.fv_base.specs.Value.{IsBytes, field}
 use Rattle.fv_base.specs.declared.guid.Guid.{Guid}
 use Rattle.fv_base.proofs.FieldLemmas.{bytes_take, bytes_drop}
 use Rattle.fv_file.specs.declared.state.FileState.TheVariants as states
-use Rattle.fv_tree.specs.Denotes.{IsFile, Pairs, Streams}
+use Rattle.fv_tree.specs.Denotes.{MeansFile, Pairs, Streams}
 use Rattle.fv_tree.specs.Files.{FileForm, NoTwins, alive_in, is_marked, is_twin, replaces, same_name}
-use Rattle.fv_tree.specs.Meaning.{FileMeaning, File, name_of}
+use Rattle.fv_tree.specs.Meaning.{FileMeaning, File, file_name_of}
 use Rattle.fv_tree.specs.Names.{Entry, Halves, IsIndex, IsName, entry_cmp, halves_cmp, halves_of, is_named, names_in, number_from, numbered}
-use Rattle.fv_tree.specs.Seen.{form_of}
+use Rattle.fv_tree.specs.StandingForms.{file_form}
 use Rattle.fv_tree.specs.declared.alive.Standing.{Standing}
 use Rattle.fv_tree.proofs.AliveLaws.{same_name_back}
 
@@ -175,39 +175,39 @@ no_file = record {
 
 module _ (files : List Standing) (i : ℕ) where
   abbrev names : List Guid
-  names = names_in (map form_of files)
+  names = names_in (map file_form files)
 
   names_length : length names ≡ length files
-  names_length = length-map (map form_of files) (λ f. f.head.name) ∙ length-map files form_of
+  names_length = length-map (map file_form files) (λ f. f.head.name) ∙ length-map files file_form
 
-  pub count_taken : i ≤ length files → length (numbered 0 (take i (names_in (map form_of files)))) ≡ i
+  pub count_taken : i ≤ length files → length (numbered 0 (take i (names_in (map file_form files)))) ≡ i
   count_taken l = numbered_length 0 (take i names) ∙ length-take-le i names (omega (arith, l, names_length))
 
-  pub more_entries : (d : Standing) → i < length files → numbered 0 (take (i + 1) (names_in (map form_of files)))
-      ≡ numbered 0 (take i (names_in (map form_of files))) ++ (halves_of (get_or files i d).head.name, i) ∷ []
+  pub more_entries : (d : Standing) → i < length files → numbered 0 (take (i + 1) (names_in (map file_form files)))
+      ≡ numbered 0 (take i (names_in (map file_form files))) ++ (halves_of (get_or files i d).head.name, i) ∷ []
   more_entries d l =
       let lt : i < length names = omega (arith, l, names_length) in
-      let mid : i < length (map form_of files) = omega (arith, l, length-map files form_of) in
+      let mid : i < length (map file_form files) = omega (arith, l, length-map files file_form) in
       let is : get_or names i d.head.name ≡ (get_or files i d).head.name =
-      get_or-map (λ (f : FileForm). f.head.name) (map form_of files) i (form_of d) d.head.name mid
-      ∙ ap (λ (f : FileForm). f.head.name) (get_or-map form_of files i d (form_of d) l) in
+      get_or-map (λ (f : FileForm). f.head.name) (map file_form files) i (file_form d) d.head.name mid
+      ∙ ap (λ (f : FileForm). f.head.name) (get_or-map file_form files i d (file_form d) l) in
       let count : 0 + length (take i names) ≡ i = omega (arith, length-take-le i names (omega (arith, lt))) in
       ap (numbered 0) (take_more names i d.head.name lt) ∙ numbered_push 0 (take i names) (get_or names i d.head.name)
       ∙ ap (λ (n : Guid). numbered 0 (take i names) ++ (halves_of n, 0 + length (take i names)) ∷ []) is
       ∙ ap (λ (k : ℕ). numbered 0 (take i names) ++ (halves_of (get_or files i d).head.name, k) ∷ []) count
 
-  pub more_whole : (d : Standing) → i < length files → AllByRecursion IsName (take i (names_in (map form_of files)))
-      → IsName (get_or files i d).head.name → AllByRecursion IsName (take (i + 1) (names_in (map form_of files)))
+  pub more_whole : (d : Standing) → i < length files → AllByRecursion IsName (take i (names_in (map file_form files)))
+      → IsName (get_or files i d).head.name → AllByRecursion IsName (take (i + 1) (names_in (map file_form files)))
   more_whole d l all whole =
       let lt : i < length names = omega (arith, l, names_length) in
-      let mid : i < length (map form_of files) = omega (arith, l, length-map files form_of) in
+      let mid : i < length (map file_form files) = omega (arith, l, length-map files file_form) in
       let is : get_or names i d.head.name ≡ (get_or files i d).head.name =
-      get_or-map (λ (f : FileForm). f.head.name) (map form_of files) i (form_of d) d.head.name mid
-      ∙ ap (λ (f : FileForm). f.head.name) (get_or-map form_of files i d (form_of d) l) in
+      get_or-map (λ (f : FileForm). f.head.name) (map file_form files) i (file_form d) d.head.name mid
+      ∙ ap (λ (f : FileForm). f.head.name) (get_or-map file_form files i d (file_form d) l) in
       subst (AllByRecursion IsName) (sym (take_more names i d.head.name lt)) (all_push (take i names) (get_or names i d.head.name) all
       (subst IsName (sym is) whole))
 
-  pub all_taken : length files ≤ i → take i (names_in (map form_of files)) ≡ names_in (map form_of files)
+  pub all_taken : length files ≤ i → take i (names_in (map file_form files)) ≡ names_in (map file_form files)
   all_taken l = take_all i names (omega (arith, l, names_length))
 
 -- sixteen bytes are the first eight and the last eight
@@ -234,30 +234,30 @@ pub one_name : (a b : Guid) → IsName a → IsName b → halves_of a ≡ halves
 one_name a b p q e =
     same_guid a b (sym (halves_back a p) ∙ ap (λ (h : Halves). to_le_bytes w64 h.0 ++ to_le_bytes w64 h.1) e ∙ halves_back b q)
 
-named_so : (name : Guid) (f : FileMeaning) → is_named name f ≡ true → halves_of (name_of f) ≡ halves_of name
-named_so name f h = ap halves_of (sym (same_guid name (name_of f) ((bytes_eq-Decides (bytes_of name) (bytes_of (name_of f))).0 h)))
+named_so : (name : Guid) (f : FileMeaning) → is_named name f ≡ true → halves_of (file_name_of f) ≡ halves_of name
+named_so name f h = ap halves_of (sym (same_guid name (file_name_of f) ((bytes_eq-Decides (bytes_of name) (bytes_of (file_name_of f))).0 h)))
 
-so_named : (name : Guid) (f : FileMeaning) → IsName name → IsName (name_of f) → halves_of (name_of f) ≡ halves_of name
+so_named : (name : Guid) (f : FileMeaning) → IsName name → IsName (file_name_of f) → halves_of (file_name_of f) ≡ halves_of name
     → is_named name f ≡ true
-so_named name f p q e = (bytes_eq-Decides (bytes_of name) (bytes_of (name_of f))).1 (ap bytes_of (sym (one_name (name_of f) name q p e)))
+so_named name f p q e = (bytes_eq-Decides (bytes_of name) (bytes_of (file_name_of f))).1 (ap bytes_of (sym (one_name (file_name_of f) name q p e)))
 
 -- the least number of a name
-lowest : (k : ℕ) (name : Guid) (fs : List FileMeaning) (e : ℕ) → IsName name → AllByRecursion IsName (map name_of fs)
-    → Contains (numbered k (map name_of fs)) (halves_of name, e)
-    → ((j : ℕ) → Contains (numbered k (map name_of fs)) (halves_of name, j) → e ≤ j) → number_from k name fs ≡ Some e
+lowest : (k : ℕ) (name : Guid) (fs : List FileMeaning) (e : ℕ) → IsName name → AllByRecursion IsName (map file_name_of fs)
+    → Contains (numbered k (map file_name_of fs)) (halves_of name, e)
+    → ((j : ℕ) → Contains (numbered k (map file_name_of fs)) (halves_of name, j) → e ≤ j) → number_from k name fs ≡ Some e
 lowest k name [] e whole all (n, l, is) low = absurd (omega (arith, l))
 lowest k name (f ∷ fs) e whole all has low =
-    go (is_named name f) refl (in_front (halves_of (name_of f), k) tail (halves_of name, e) has)
-    (λ rest. lowest (k + 1) name fs e whole all.1 rest (λ j h. low j (behind (halves_of (name_of f), k) tail (halves_of name, j) h)))
+    go (is_named name f) refl (in_front (halves_of (file_name_of f), k) tail (halves_of name, e) has)
+    (λ rest. lowest (k + 1) name fs e whole all.1 rest (λ j h. low j (behind (halves_of (file_name_of f), k) tail (halves_of name, j) h)))
   where
     tail : List Entry
-    tail = numbered (k + 1) (map name_of fs)
+    tail = numbered (k + 1) (map file_name_of fs)
 
-    go : (t : Bool) → is_named name f ≡ t → (same_pair (halves_of (name_of f), k) (halves_of name, e)) ⊎ Contains tail (halves_of name, e)
+    go : (t : Bool) → is_named name f ≡ t → (same_pair (halves_of (file_name_of f), k) (halves_of name, e)) ⊎ Contains tail (halves_of name, e)
         → (Contains tail (halves_of name, e) → number_from (k + 1) name fs ≡ Some e) → number_from k name (f ∷ fs) ≡ Some e
     go true is place later =
         let upto : e ≤ k = low k (zero, omega arith, ap (λ (n : Halves). (n, k)) (named_so name f is)) in
-        let same : k ≡ e = omega (arith, upto, numbers_above k (map name_of (f ∷ fs)) (halves_of name) e has) in
+        let same : k ≡ e = omega (arith, upto, numbers_above k (map file_name_of (f ∷ fs)) (halves_of name) e has) in
         rw is (ap (λ (j : ℕ). Some j) same)
     go false is (inl same) later =
         let on : is_named name f ≡ true = so_named name f whole all.0 (ap (λ (x : Entry). x.0) same) in
@@ -265,11 +265,11 @@ lowest k name (f ∷ fs) e whole all has low =
     go false is (inr rest) later = rw is (later rest)
 
 missing : (k : ℕ) (name : Guid) (fs : List FileMeaning)
-    → ((j : ℕ) → Contains (numbered k (map name_of fs)) (halves_of name, j) → ⊥) → number_from k name fs ≡ None
+    → ((j : ℕ) → Contains (numbered k (map file_name_of fs)) (halves_of name, j) → ⊥) → number_from k name fs ≡ None
 missing k name [] none = refl
 missing k name (f ∷ fs) none =
     go (is_named name f) refl
-    (missing (k + 1) name fs (λ j h. none j (behind (halves_of (name_of f), k) (numbered (k + 1) (map name_of fs)) (halves_of name, j) h)))
+    (missing (k + 1) name fs (λ j h. none j (behind (halves_of (file_name_of f), k) (numbered (k + 1) (map file_name_of fs)) (halves_of name, j) h)))
   where
     go : (t : Bool) → is_named name f ≡ t → number_from (k + 1) name fs ≡ None → number_from k name (f ∷ fs) ≡ None
     go true is rest = absurd (none k (zero, omega arith, ap (λ (n : Halves). (n, k)) (named_so name f is)))
@@ -277,15 +277,15 @@ missing k name (f ∷ fs) none =
 
 -- ---- a search for the least entry of a name
 
-module _ (es : List Entry) (name : Guid) (fs : List FileMeaning) (whole : IsName name) (index : IsIndex (map name_of fs) es) where
+module _ (es : List Entry) (name : Guid) (fs : List FileMeaning) (whole : IsName name) (index : IsIndex (map file_name_of fs) es) where
   abbrev key : Halves
   key = halves_of name
 
-  listed : (e : Entry) → Contains (numbered 0 (map name_of fs)) e → Contains es e
-  listed e h = Contains-permutation (numbered 0 (map name_of fs)) es e index.all h
+  listed : (e : Entry) → Contains (numbered 0 (map file_name_of fs)) e → Contains es e
+  listed e h = Contains-permutation (numbered 0 (map file_name_of fs)) es e index.all h
 
-  unlisted : (e : Entry) → Contains es e → Contains (numbered 0 (map name_of fs)) e
-  unlisted e h = Contains-permutation es (numbered 0 (map name_of fs)) e (IsPermutation-sym (numbered 0 (map name_of fs)) es index.all) h
+  unlisted : (e : Entry) → Contains es e → Contains (numbered 0 (map file_name_of fs)) e
+  unlisted e h = Contains-permutation es (numbered 0 (map file_name_of fs)) e (IsPermutation-sym (numbered 0 (map file_name_of fs)) es index.all) h
 
   pub found_first : (k : ℕ) → k < length es → HoldsAt (λ e. entry_cmp e (halves_of name, 0) ≡ Equal) es k → Some 0 ≡ number_from 0 name fs
   found_first k l same =
@@ -346,12 +346,12 @@ module _ (es : List Entry) (name : Guid) (fs : List FileMeaning) (whole : IsName
 -- ---- the names of files
 
 -- what files mean has their names
-pub read_names : (S : Streams) (fs : List FileForm) (ms : List FileMeaning) → Pairs (IsFile S) fs ms → map name_of ms ≡ names_in fs
+pub read_names : (S : Streams) (fs : List FileForm) (ms : List FileMeaning) → Pairs (MeansFile S) fs ms → map file_name_of ms ≡ names_in fs
 read_names S [] [] p = refl
 read_names S [] (m ∷ ms) p = absurd p
 read_names S (f ∷ fs) [] p = absurd p
 read_names S (f ∷ fs) (File name kind attributes content ∷ ms) p =
-    ap (λ (n : Guid). n ∷ map name_of ms) p.0.0 ∙ ap (λ (ns : List Guid). f.head.name ∷ ns) (read_names S fs ms p.1)
+    ap (λ (n : Guid). n ∷ map file_name_of ms) p.0.0 ∙ ap (λ (ns : List Guid). f.head.name ∷ ns) (read_names S fs ms p.1)
 
 -- ---- names that differ
 

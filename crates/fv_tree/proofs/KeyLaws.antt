@@ -9,7 +9,7 @@ use Rattle.std.proofs.lemmas.List.FromFn.{length-range_with_len}
 use Rattle.std.proofs.lemmas.List.Sorted.{Contains-permutation, IsPermutation-map, IsPermutation-sym, length_permutation}
 use Rattle.std.proofs.lemmas.Nat.{mod-mul-add, one_shl, or_shifted, shr_split}
 use Rattle.fv_tree.specs.Names.{Entry, halves_of, names_in, numbered}
-use Rattle.fv_tree.specs.Seen.{form_of}
+use Rattle.fv_tree.specs.StandingForms.{file_form}
 use Rattle.fv_tree.specs.declared.alive.Standing.{Standing}
 use Rattle.fv_tree.proofs.IndexLaws.{all_taken, more_entries, no_file}
 
@@ -46,17 +46,17 @@ module _ (files : List Standing) where
   abbrev pub entry_at : ℕ → Entry
   entry_at n = (halves_of (get_or files n no_file).head.name, n)
 
-  taken : (i : ℕ) → i ≤ length files → map entry_at (range_with_len 0 i) ≡ numbered 0 (take i (names_in (map form_of files)))
+  taken : (i : ℕ) → i ≤ length files → map entry_at (range_with_len 0 i) ≡ numbered 0 (take i (names_in (map file_form files)))
   taken zero l = refl
   taken (suc i) l =
       let one : suc i ≡ i + 1 = omega arith in
       let z : 0 + i ≡ i = omega arith in
-      subst (λ (n : ℕ). map entry_at (range_with_len 0 n) ≡ numbered 0 (take n (names_in (map form_of files)))) (sym one)
+      subst (λ (n : ℕ). map entry_at (range_with_len 0 n) ≡ numbered 0 (take n (names_in (map file_form files)))) (sym one)
       (ap (map entry_at) (range_push 0 i) ∙ map-append entry_at (range_with_len 0 i) ((0 + i) ∷ [])
       ∙ ap (λ (k : ℕ). map entry_at (range_with_len 0 i) ++ entry_at k ∷ []) z
       ∙ ap (λ (es : List Entry). es ++ entry_at i ∷ []) (taken i (omega (arith, l))) ∙ sym (more_entries files i no_file (omega (arith, l))))
 
-  entries_are : map entry_at (range_with_len 0 (length files)) ≡ numbered 0 (names_in (map form_of files))
+  entries_are : map entry_at (range_with_len 0 (length files)) ≡ numbered 0 (names_in (map file_form files))
   entries_are = taken (length files) (omega arith) ∙ ap (numbered 0) (all_taken files (length files) (omega arith))
 
   module _ (f : ℕ → ℕ) (keys : List ℕ) (all : IsPermutation (range_with_len 0 (length files)) (map f keys)) where
@@ -81,7 +81,7 @@ module _ (files : List Standing) where
     maps (k ∷ ks) = ap (λ (es : List Entry). entry_at (f k) ∷ es) (maps ks)
 
     -- the entries of the keys are the names with their numbers
-    pub keyed_all : IsPermutation (numbered 0 (names_in (map form_of files))) (map (λ (k : ℕ). entry_at (f k)) keys)
+    pub keyed_all : IsPermutation (numbered 0 (names_in (map file_form files))) (map (λ (k : ℕ). entry_at (f k)) keys)
     keyed_all =
         subst (λ (es : List Entry). IsPermutation es (map (λ (k : ℕ). entry_at (f k)) keys)) entries_are
         (subst (λ (es : List Entry). IsPermutation (map entry_at (range_with_len 0 (length files))) es) (maps keys)

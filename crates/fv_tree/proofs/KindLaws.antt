@@ -18,7 +18,7 @@ use Rattle.fv_section.specs.Frames.{FrameForm}
 use Rattle.fv_tree.specs.FaultStands.{Fails, InStream, InFiles, InVolume, InSection, FaultStands}
 use Rattle.fv_tree.specs.Denotes.{depth_limit}
 use Rattle.fv_tree.specs.Files.{FileForm}
-use Rattle.fv_tree.specs.FirstFault.{Faulty, FrameFaulty, moved}
+use Rattle.fv_tree.specs.FirstFault.{Faulty, FrameFaulty, moved_fault}
 use Rattle.fv_tree.proofs.Orders.{in_middle}
 
 -- P holds of each kind of fault that reading may have
@@ -83,7 +83,7 @@ module _ (P : FaultKind → Type 0) (all : OfReading P) where
   cell_kinds s p at r = (all.free_space, state_kinds (state_of p (slice_index r 23)) s at r)
 
   -- of a fault of the same kind
-  same_kind : (e f : Fault) (base depth : ℕ) → e ≡ moved base depth f → P f.kind → P e.kind
+  same_kind : (e f : Fault) (base depth : ℕ) → e ≡ moved_fault base depth f → P f.kind → P e.kind
   same_kind e f base depth is h = subst (λ (g : Fault). P g.kind) (sym is) h
 
   -- of a stream, by its sections

@@ -20,7 +20,7 @@ use Rattle.fv_base.specs.declared.fault.Fault.{Fault}
 use Rattle.fv_base.specs.declared.fault.FaultKind.TheVariants as kinds
 use Rattle.fv_base.specs.Guids.{bytes_of}
 use Rattle.fv_base.specs.declared.guid.Guid.{Guid}
-use Rattle.fv_file.specs.Cells.{CellForm, Valid, Pad, Dead, Stub, Free, AllWithin}
+use Rattle.fv_file.specs.Cells.{CellForm, Valid, Pad, Dead, Stub, Free, CellsWithin}
 use Rattle.fv_tree.specs.Files.{FileForm, files_in, same_name, is_marked, is_twin, NoTwins, replaces, is_top, end_of, TopAtEnd}
 use Rattle.fv_tree.specs.FirstFault.{FirstTwin, TopElsewhere}
 use Rattle.fv_tree.specs.Names.{key_cmp, is_keyed, HasNames}
@@ -212,7 +212,7 @@ misplaced false last ends p = cc
 
 -- ---- where files begin
 
-pub files_within : (end : ℕ) (cs : List CellForm) → AllWithin end cs → AllByRecursion (λ f. f.offset ≤ end) (files_in cs)
+pub files_within : (end : ℕ) (cs : List CellForm) → CellsWithin end cs → AllByRecursion (λ f. f.offset ≤ end) (files_in cs)
 files_within end [] h = tt
 files_within end (Valid at head payload ∷ cs) (lies, made, rest) = (omega (arith, lies), files_within end cs rest)
 files_within end (Pad at head payload ∷ cs) (lies, made, rest) = files_within end cs rest

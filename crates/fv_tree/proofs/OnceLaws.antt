@@ -14,7 +14,7 @@ use Rattle.fv_file.specs.FileChecks as file
 use Rattle.fv_file.proofs.Laws.{one_cell, no_cell, not_empty}
 use Rattle.fv_file.proofs.Laws as cellular
 use Rattle.fv_section.specs.FrameChecks as section
-use Rattle.fv_section.specs.Frames.{FrameForm, Begins, From, Splits, up_to_4}
+use Rattle.fv_section.specs.Frames.{FrameForm, BeginsFrame, SplitsFrom, Splits, up_to_4}
 use Rattle.fv_section.proofs.Laws.{begins_more, begins_of, none_stands}
 use Rattle.fv_section.proofs.Laws as framed
 use Rattle.fv_tree.proofs.Orders.{one_fault}
@@ -42,10 +42,10 @@ between b m n l within = omega (arith, length-take-le (n - m) (drop m b) (omega 
 -- ---- frames
 
 -- a fault of a section header does not stand before the end of frames that join
-frame_later : (b : List ℕ) (f g : Fault) → (x : section.IsFirst b f) → (y : section.IsFirst b g) → x.at < y.at → ⊥
+frame_later : (b : List ℕ) (f g : Fault) → (x : section.IsFirstFrameFault b f) → (y : section.IsFirstFrameFault b g) → x.at < y.at → ⊥
 frame_later b f g x y l =
     let r = framed.cut 0 x.frames y.frames x.tail y.tail (take x.at b) part x.split even whole (between b x.at y.at l y.inside) in
-    go r.0 (subst (λ (k : ℕ). From k r.0 y.tail part) place r.2)
+    go r.0 (subst (λ (k : ℕ). SplitsFrom k r.0 y.tail part) place r.2)
   where
     part : List ℕ
     part = take (y.at - x.at) (drop x.at b)
@@ -62,7 +62,7 @@ frame_later b f g x y l =
     whole : Splits y.frames y.tail (take x.at b ++ part)
     whole = subst (λ (c : List ℕ). Splits y.frames y.tail c) (later b x.at y.at l) y.split
 
-    go : (more : List FrameForm) → From x.at more y.tail part → ⊥
+    go : (more : List FrameForm) → SplitsFrom x.at more y.tail part → ⊥
     go [] (z, n) = omega (arith, ap length z, between b x.at y.at l y.inside)
     go (h ∷ hs) from =
         let begun = begins_of x.at h hs y.tail part from in
@@ -72,11 +72,11 @@ frame_later b f g x y l =
           offset = begun.0;
           inside = x.inside;
           behind = begun.1 ++ beyond;
-          begins = subst (λ (c : List ℕ). Begins h c (begun.1 ++ beyond)) (take-append-drop (y.at - x.at) (drop x.at b)) there;
+          begins = subst (λ (c : List ℕ). BeginsFrame h c (begun.1 ++ beyond)) (take-append-drop (y.at - x.at) (drop x.at b)) there;
         })
 
 -- a stream has one first fault of its frames
-pub one_frame_fault : (b : List ℕ) (f g : Fault) → section.IsFirst b f → section.IsFirst b g → f ≡ g
+pub one_frame_fault : (b : List ℕ) (f g : Fault) → section.IsFirstFrameFault b f → section.IsFirstFrameFault b g → f ≡ g
 one_frame_fault b f g x y =
     let at : x.at ≡ y.at = same_place x.at y.at (frame_later b f g x y) (frame_later b g f y x) in
     one_fault (section.frame_checks y.at (drop y.at b)) f g
@@ -91,7 +91,7 @@ none_free_behind (c ∷ cs) ds h = none_free_behind cs ds h.1
 
 module _ (s : FileSystem) (p : Polarity) (first : ℕ) (body : List ℕ) where
   -- a fault of a cell does not stand before the end of cells that tile
-  cell_later : (f g : Fault) → (x : file.IsFirst s p first body f) → (y : file.IsFirst s p first body g) → x.at < y.at → ⊥
+  cell_later : (f g : Fault) → (x : file.IsFirstCellFault s p first body f) → (y : file.IsFirstCellFault s p first body g) → x.at < y.at → ⊥
   cell_later f g x y l =
       let r = cellular.cut s p (one_cell s p) (not_empty s p) first x.cells y.cells (take x.at body) part x.tiled x.none_free whole in
       go r.0 (none_free_behind x.cells r.0 (subst (λ (cs : List CellForm). NoneFree cs) r.1 y.none_free))
@@ -120,7 +120,7 @@ module _ (s : FileSystem) (p : Polarity) (first : ℕ) (body : List ℕ) where
           never t h k = absurd cc
 
   -- a body has one first fault of its cells
-  pub one_cell_fault : (f g : Fault) → file.IsFirst s p first body f → file.IsFirst s p first body g → f ≡ g
+  pub one_cell_fault : (f g : Fault) → file.IsFirstCellFault s p first body f → file.IsFirstCellFault s p first body g → f ≡ g
   one_cell_fault f g x y =
       let at : x.at ≡ y.at = same_place x.at y.at (cell_later f g x y) (cell_later g f y x) in
       one_fault (file.cell_checks s p (first + y.at) (drop y.at body)) f g

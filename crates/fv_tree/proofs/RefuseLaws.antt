@@ -11,8 +11,8 @@ use Rattle.fv_head.proofs.Laws.{front_holds}
 use Rattle.fv_section.specs.Frames.{FrameForm}
 use Rattle.fv_section.proofs.Laws.{one_split}
 use Rattle.fv_section.proofs.Laws as framed
-use Rattle.fv_tree.specs.Body.{HasFiles}
-use Rattle.fv_tree.specs.Denotes.{Sections, StreamOver, Pairs, IsFile, IsSection, Stream, Denotes}
+use Rattle.fv_tree.specs.ReadingParts.{HasFiles}
+use Rattle.fv_tree.specs.Denotes.{Sections, StreamOver, Pairs, MeansFile, MeansSection, Stream, Denotes}
 use Rattle.fv_tree.specs.Files.{FileForm, Alive, files_in, alive_in, TopAtEnd}
 use Rattle.fv_tree.specs.FirstFault.{FrameFaulty, StreamFirst, FilesFirst, FileFirst, BodyFirst, data_place}
 use Rattle.fv_tree.specs.FirstFault.{SectionFirst, FirstInStream, FirstInVolume}
@@ -43,20 +43,20 @@ StreamRefuses n =
 module _ (n : ℕ) (refused : StreamRefuses n) where
   -- a file with a first fault is not read
   pub file_by : (e : Fault) (base depth : ℕ) (f : FileForm) (m : FileMeaning) → FileFirst (FirstInStream n) e f base depth
-      → IsFile (Stream n) f m → ⊥
+      → MeansFile (Stream n) f m → ⊥
   file_by e base depth f m (holds, inside) is =
       stream_bad n f holds (λ us u s. refused e f.payload (base + data_place f) depth us u inside s) m is
 
   -- files with a first fault are not those of a volume
   files_by : (len : ℕ) (e : Fault) (cells : List CellForm) (files : List FileForm) (base depth : ℕ) (ms : List FileMeaning)
       → FilesFirst (Stream n) (FirstInStream n) len e (files_in cells) base depth → Alive len cells files
-      → Pairs (IsFile (Stream n)) files ms → ⊥
+      → Pairs (MeansFile (Stream n)) files ms → ⊥
   files_by len e cells files base depth ms (inl (f, twin, is)) alive pairs = twin_none f (files_in cells) twin alive.no_twins
   files_by len e cells files base depth ms (inr (none, inl (f, top, is))) alive pairs =
       top_none len f (alive_in (files_in cells)) top (subst (TopAtEnd len) alive.files_are alive.top)
   files_by len e cells files base depth ms (inr (none, inr (top, first))) alive pairs =
-      first_of_none (IsFile (Stream n)) (λ f. FileFirst (FirstInStream n) e f base depth) (alive_in (files_in cells)) ms
-      (file_by e base depth) first (subst (λ (l : List FileForm). Pairs (IsFile (Stream n)) l ms) alive.files_are pairs)
+      first_of_none (MeansFile (Stream n)) (λ f. FileFirst (FirstInStream n) e f base depth) (alive_in (files_in cells)) ms
+      (file_by e base depth) first (subst (λ (l : List FileForm). Pairs (MeansFile (Stream n)) l ms) alive.files_are pairs)
 
   -- a body with a first fault has no files
   body_by : (x : Extent) (volume : List ℕ) (e : Fault) (base depth : ℕ) (ms : List FileMeaning)
@@ -82,20 +82,20 @@ module _ (n : ℕ) (refused : StreamRefuses n) where
 
 -- a section with a first fault is not read
 pub section_refuses : (n : ℕ) (e : Fault) (f : FrameForm) (base depth : ℕ) (s : SectionMeaning) → SectionFirst n e f base depth
-    → IsSection n f s → ⊥
+    → MeansSection n f s → ⊥
 section_refuses zero e f base depth s (inl group, is) h = too_deep f (inl group) s h
 section_refuses zero e f base depth s (inr (kind, opens), is) h = too_deep f (inr (record { kind = kind; opens = opens })) s h
 section_refuses (suc n) e f base depth s (inl (group, first)) h =
     group_none n f group
-    (λ us u r. stream_by (IsSection n) (SectionFirst n) (section_refuses n) e f.body _ (depth + 1) us u first r) s h
+    (λ us u r. stream_by (MeansSection n) (SectionFirst n) (section_refuses n) e f.body _ (depth + 1) us u first r) s h
 section_refuses (suc n) e f base depth s (inr (kind, opens, first)) h =
     nested_none n f (record { kind = kind; opens = opens })
     (λ k m within d.
-    volume_by n (stream_by (IsSection n) (SectionFirst n) (section_refuses n)) e f.body _ (depth + 1) k m within first d) s h
+    volume_by n (stream_by (MeansSection n) (SectionFirst n) (section_refuses n)) e f.body _ (depth + 1) k m within first d) s h
 
 -- bytes with a first fault of a stream are none
 pub stream_refuses : (n : ℕ) → StreamRefuses n
-stream_refuses n = stream_by (IsSection n) (SectionFirst n) (section_refuses n)
+stream_refuses n = stream_by (MeansSection n) (SectionFirst n) (section_refuses n)
 
 -- bytes with a first fault begin with no volume
 pub first_refuses : (n k : ℕ) (e : Fault) (b : List ℕ) (base depth : ℕ) (m : Meaning) → k ≤ length b → FirstInVolume n e b base depth

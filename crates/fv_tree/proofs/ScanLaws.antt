@@ -7,7 +7,7 @@ use Rattle.std.specs.Str.{bytes_eq}
 use Rattle.std.proofs.lemmas.List.{take_all, length-drop}
 use Rattle.fv_base.specs.Checks.{first_fault}
 use Rattle.fv_base.proofs.CheckLemmas.{all_hold}
-use Rattle.fv_head.specs.Head.{HeadFields, Front, signature_bytes}
+use Rattle.fv_head.specs.Head.{HeadFields, BeginsVolume, signature_bytes}
 use Rattle.fv_head.specs.HeadChecks.{head_checks, has_signature}
 use Rattle.fv_head.specs.declared.extent.Extent.{Extent}
 use Rattle.fv_head.proofs.FrontLemmas.{front_only, one_front, verdict_ok}
@@ -24,7 +24,7 @@ order (suc a) (suc k) = up (order a k) where
 
 -- ---- a volume
 
-some_length : (b : List ℕ) (h : HeadFields) (e : Extent) → Front h e b → (64 ≤ e.length) × (e.length % 8 ≡ 0)
+some_length : (b : List ℕ) (h : HeadFields) (e : Extent) → BeginsVolume h e b → (64 ≤ e.length) × (e.length % 8 ≡ 0)
 some_length b h e f =
     (omega (arith, f.head.least, f.head.volume_least, f.length_is), omega (arith, f.head.volume_multiple, f.length_is))
 
@@ -68,7 +68,7 @@ between_one b at e none = λ k n l u m v. none n (subst (λ j. VolumeAt b j n) (
 pub none_past : (b : List ℕ) (at : ℕ) → length b < at + 56 → NoneFrom b at
 none_past b at short = λ k n l m v. omega (arith, short, l, at_within b k n v, at_least b k n v)
 
-signed : (b : List ℕ) (h : HeadFields) (e : Extent) → Front h e b → has_signature b ≡ true
+signed : (b : List ℕ) (h : HeadFields) (e : Extent) → BeginsVolume h e b → has_signature b ≡ true
 signed b h e f = (all_hold (head_checks b) (verdict_ok (first_fault (head_checks b)) b e (front_only b h e f)).0).1.0
 
 -- no signature
@@ -85,12 +85,12 @@ signature_at b at n e =
 rest_is : (at : ℕ) (b : List ℕ) → take (length b - at) (drop at b) ≡ drop at b
 rest_is at b = take_all (length b - at) (drop at b) (omega (arith, length-drop at b))
 
-pub none_rest : (b : List ℕ) (at : ℕ) → ((h : HeadFields) (e : Extent) → Front h e (take (length b - at) (drop at b)) → ⊥)
+pub none_rest : (b : List ℕ) (at : ℕ) → ((h : HeadFields) (e : Extent) → BeginsVolume h e (take (length b - at) (drop at b)) → ⊥)
     → (n : ℕ) → VolumeAt b at n → ⊥
-none_rest b at f n v = f v.0 v.1 (subst (λ l. Front v.0 v.1 l) (sym (rest_is at b)) v.2)
+none_rest b at f n v = f v.0 v.1 (subst (λ l. BeginsVolume v.0 v.1 l) (sym (rest_is at b)) v.2)
 
-pub front_rest : (b : List ℕ) (at : ℕ) (h : HeadFields) (e : Extent) → Front h e (take (length b - at) (drop at b)) → VolumeAt b at e.length
-front_rest b at h e f = (h, e, subst (λ l. Front h e l) (rest_is at b) f, refl)
+pub front_rest : (b : List ℕ) (at : ℕ) (h : HeadFields) (e : Extent) → BeginsVolume h e (take (length b - at) (drop at b)) → VolumeAt b at e.length
+front_rest b at h e f = (h, e, subst (λ l. BeginsVolume h e l) (rest_is at b) f, refl)
 
 -- one list of places at most
 pub one_walk : (from : ℕ) (b xs ys : List ℕ) → FoundFrom from b xs → FoundFrom from b ys → xs ≡ ys

@@ -17,8 +17,8 @@ use Rattle.fv_base.specs.declared.flash.FileSystem.TheVariants.{Ffs2, Ffs3}
 use Rattle.fv_head.specs.Head.{system_guid}
 use Rattle.fv_head.specs.HeadChecks.{is_one_volume, file_system_at}
 use Rattle.fv_section.specs.Frames.{FrameForm}
-use Rattle.fv_tree.specs.Denotes.{group_kind, volume_kind, Opens, Streams, Volumes, IsSection, SectionOver, Stream, Denotes}
-use Rattle.fv_tree.specs.FirstFault.{moved, body_place, SectionFirst, FirstInStream, FirstInVolume}
+use Rattle.fv_tree.specs.Denotes.{group_kind, volume_kind, Opens, Streams, Volumes, MeansSection, SectionOver, Stream, Denotes}
+use Rattle.fv_tree.specs.FirstFault.{moved_fault, body_place, SectionFirst, FirstInStream, FirstInVolume}
 use Rattle.fv_tree.specs.Meaning.{Meaning, SectionMeaning, Section, SectionMeanings, NoSections, MoreSections, Leaf, Group}
 use Rattle.fv_tree.specs.Meaning.{Nested, sections_list, sections_from}
 use Rattle.fv_tree.specs.Shapes.{shape_of}
@@ -131,23 +131,23 @@ leaf_only_over S V f l (Section k e (Leaf b)) (p, q, (_, _, r)) = cc
 leaf_only_over S V f l (Section k e (Group ss t)) (p, q, (g, r)) = absurd (l.no_group g)
 leaf_only_over S V f l (Section k e (Nested v)) (p, q, (k', o, r)) = absurd (l.not_opened k' o)
 
-pub leaf_is : (n : ℕ) (f : FrameForm) → IsLeaf f → IsSection n f (Section f.kind f.extended (Leaf f.body))
+pub leaf_is : (n : ℕ) (f : FrameForm) → IsLeaf f → MeansSection n f (Section f.kind f.extended (Leaf f.body))
 leaf_is zero f l = leaf_over (λ _ _ _. ⊥) (λ _ _. ⊥) f l
 leaf_is (suc n) f l = leaf_over (Stream n) (Denotes n) f l
 
-pub leaf_only : (n : ℕ) (f : FrameForm) → IsLeaf f → (s : SectionMeaning) → IsSection n f s → s ≡ Section f.kind f.extended (Leaf f.body)
+pub leaf_only : (n : ℕ) (f : FrameForm) → IsLeaf f → (s : SectionMeaning) → MeansSection n f s → s ≡ Section f.kind f.extended (Leaf f.body)
 leaf_only zero f l s h = leaf_only_over (λ _ _ _. ⊥) (λ _ _. ⊥) f l s h
 leaf_only (suc n) f l s h = leaf_only_over (Stream n) (Denotes n) f l s h
 
 -- ---- a group
 
 pub group_is : (k : ℕ) (f : FrameForm) (ss : List SectionMeaning) (t : ℕ) → f.kind ≡ group_kind → Stream k ss t f.body
-    → IsSection (suc k) f (Section f.kind f.extended (Group (sections_from ss) t))
+    → MeansSection (suc k) f (Section f.kind f.extended (Group (sections_from ss) t))
 group_is k f ss t g h = let P : List SectionMeaning → Type 0 = λ l. Stream k l t f.body in (refl, refl, (g, subst P (sym (list_back ss)) h))
 
 pub group_only : (k : ℕ) (f : FrameForm) (ss : List SectionMeaning) (t : ℕ) → f.kind ≡ group_kind
     → ((us : List SectionMeaning) (u : ℕ) → Stream k us u f.body → (us ≡ ss) × (u ≡ t))
-    → (s : SectionMeaning) → IsSection (suc k) f s → s ≡ Section f.kind f.extended (Group (sections_from ss) t)
+    → (s : SectionMeaning) → MeansSection (suc k) f s → s ≡ Section f.kind f.extended (Group (sections_from ss) t)
 group_only k f ss t g one (Section x e (Leaf b)) (p, q, (off, _, r)) = absurd (off g)
 group_only k f ss t g one (Section x e (Group us u)) (p, q, (g', r)) =
     let same = one (sections_list us) u r in
@@ -157,7 +157,7 @@ group_only k f ss t g one (Section x e (Group us u)) (p, q, (g', r)) =
 group_only k f ss t g one (Section x e (Nested v)) (p, q, (k', o, r)) = absurd (group_is_no_volume f g k')
 
 pub group_none : (k : ℕ) (f : FrameForm) → f.kind ≡ group_kind → ((us : List SectionMeaning) (u : ℕ) → Stream k us u f.body → ⊥)
-    → (s : SectionMeaning) → IsSection (suc k) f s → ⊥
+    → (s : SectionMeaning) → MeansSection (suc k) f s → ⊥
 group_none k f g none (Section x e (Leaf b)) (p, q, (off, _, r)) = off g
 group_none k f g none (Section x e (Group us u)) (p, q, (g', r)) = none (sections_list us) u r
 group_none k f g none (Section x e (Nested v)) (p, q, (k', o, r)) = group_is_no_volume f g k'
@@ -168,12 +168,12 @@ whole_take : (b : List ℕ) → take (length b) b ≡ b
 whole_take b = take_all (length b) b (omega arith)
 
 pub nested_is : (k : ℕ) (f : FrameForm) (v : Meaning) → IsOpened f → Denotes k f.body v
-    → IsSection (suc k) f (Section f.kind f.extended (Nested v))
+    → MeansSection (suc k) f (Section f.kind f.extended (Nested v))
 nested_is k f v o d = (refl, refl, (o.kind, o.opens, d))
 
 pub nested_only : (k : ℕ) (f : FrameForm) (v : Meaning) (r : ℕ) → IsOpened f → ((n : ℕ) (m : Meaning) → n ≤ length f.body
     → Denotes k (take n f.body) m → (m ≡ v) × (n ≡ r))
-    → (s : SectionMeaning) → IsSection (suc k) f s → s ≡ Section f.kind f.extended (Nested v)
+    → (s : SectionMeaning) → MeansSection (suc k) f s → s ≡ Section f.kind f.extended (Nested v)
 nested_only k f v r o one (Section x e (Leaf b)) (p, q, (off, not, h)) = absurd (not o.kind o.opens)
 nested_only k f v r o one (Section x e (Group us u)) (p, q, (g, h)) = absurd (group_is_no_volume f g o.kind)
 nested_only k f v r o one (Section x e (Nested w)) (p, q, (k', o', d)) =
@@ -182,7 +182,7 @@ nested_only k f v r o one (Section x e (Nested w)) (p, q, (k', o', d)) =
     cc
 
 pub nested_none : (k : ℕ) (f : FrameForm) → IsOpened f → ((n : ℕ) (m : Meaning) → n ≤ length f.body → Denotes k (take n f.body) m
-    → ⊥) → (s : SectionMeaning) → IsSection (suc k) f s → ⊥
+    → ⊥) → (s : SectionMeaning) → MeansSection (suc k) f s → ⊥
 nested_none k f o none (Section x e (Leaf b)) (p, q, (off, not, h)) = not o.kind o.opens
 nested_none k f o none (Section x e (Group us u)) (p, q, (g, h)) = group_is_no_volume f g o.kind
 nested_none k f o none (Section x e (Nested w)) (p, q, (k', o', d)) =
@@ -191,7 +191,7 @@ nested_none k f o none (Section x e (Nested w)) (p, q, (k', o', d)) =
 
 -- ---- no level is left
 
-pub too_deep : (f : FrameForm) → (f.kind ≡ group_kind) ⊎ IsOpened f → (s : SectionMeaning) → IsSection zero f s → ⊥
+pub too_deep : (f : FrameForm) → (f.kind ≡ group_kind) ⊎ IsOpened f → (s : SectionMeaning) → MeansSection zero f s → ⊥
 too_deep f (inl g) (Section x e (Leaf b)) (p, q, (off, _, r)) = off g
 too_deep f (inl g) (Section x e (Group us u)) (p, q, (g', r)) = r
 too_deep f (inl g) (Section x e (Nested v)) (p, q, (k', o, r)) = r
@@ -200,7 +200,7 @@ too_deep f (inr o) (Section x e (Group us u)) (p, q, (g', r)) = r
 too_deep f (inr o) (Section x e (Nested v)) (p, q, (k', o', r)) = r
 
 pub deep_first : (f : FrameForm) (e : Fault) (base depth : ℕ) → (f.kind ≡ group_kind) ⊎ IsOpened f
-    → e ≡ moved base depth (outer_fault kinds.Depth f.offset) → SectionFirst zero e f base depth
+    → e ≡ moved_fault base depth (outer_fault kinds.Depth f.offset) → SectionFirst zero e f base depth
 deep_first f e base depth (inl g) is = (inl g, is)
 deep_first f e base depth (inr o) is = (inr (o.kind, o.opens), is)
 
@@ -210,18 +210,18 @@ pub suc_is : (n k : ℕ) → n ≡ k + 1 → suc k ≡ n
 suc_is n k e = omega (arith, e)
 
 pub group_found : (n k : ℕ) (f : FrameForm) (ss : List SectionMeaning) (t : ℕ) → n ≡ k + 1 → f.kind ≡ group_kind
-    → Stream k ss t f.body → IsSection n f (Section f.kind f.extended (Group (sections_from ss) t))
-group_found n k f ss t e g h = subst (λ m. IsSection m f (Section f.kind f.extended (Group (sections_from ss) t))) (suc_is n k e)
+    → Stream k ss t f.body → MeansSection n f (Section f.kind f.extended (Group (sections_from ss) t))
+group_found n k f ss t e g h = subst (λ m. MeansSection m f (Section f.kind f.extended (Group (sections_from ss) t))) (suc_is n k e)
     (group_is k f ss t g h)
 
 pub group_one : (n k : ℕ) (f : FrameForm) (ss : List SectionMeaning) (t : ℕ) → n ≡ k + 1 → f.kind ≡ group_kind
     → ((us : List SectionMeaning) (u : ℕ) → Stream k us u f.body → (us ≡ ss) × (u ≡ t))
-    → (s : SectionMeaning) → IsSection n f s → s ≡ Section f.kind f.extended (Group (sections_from ss) t)
-group_one n k f ss t e g one s h = group_only k f ss t g one s (subst (λ m. IsSection m f s) (sym (suc_is n k e)) h)
+    → (s : SectionMeaning) → MeansSection n f s → s ≡ Section f.kind f.extended (Group (sections_from ss) t)
+group_one n k f ss t e g one s h = group_only k f ss t g one s (subst (λ m. MeansSection m f s) (sym (suc_is n k e)) h)
 
 pub group_bad : (n k : ℕ) (f : FrameForm) → n ≡ k + 1 → f.kind ≡ group_kind → ((us : List SectionMeaning) (u : ℕ)
-    → Stream k us u f.body → ⊥) → (s : SectionMeaning) → IsSection n f s → ⊥
-group_bad n k f e g none s h = group_none k f g none s (subst (λ m. IsSection m f s) (sym (suc_is n k e)) h)
+    → Stream k us u f.body → ⊥) → (s : SectionMeaning) → MeansSection n f s → ⊥
+group_bad n k f e g none s h = group_none k f g none s (subst (λ m. MeansSection m f s) (sym (suc_is n k e)) h)
 
 pub group_first : (n k : ℕ) (f : FrameForm) (x : Fault) (base depth b d : ℕ) → n ≡ k + 1 → f.kind ≡ group_kind
     → b ≡ base + body_place f → d ≡ depth + 1 → FirstInStream k x f.body b d → SectionFirst n x f base depth
@@ -232,17 +232,17 @@ group_first n k f x base depth b d e g p q h =
     subst (λ m. SectionFirst m x f base depth) (suc_is n k e) inside
 
 pub nested_found : (n k : ℕ) (f : FrameForm) (v : Meaning) → n ≡ k + 1 → IsOpened f → Denotes k f.body v
-    → IsSection n f (Section f.kind f.extended (Nested v))
-nested_found n k f v e o d = subst (λ m. IsSection m f (Section f.kind f.extended (Nested v))) (suc_is n k e) (nested_is k f v o d)
+    → MeansSection n f (Section f.kind f.extended (Nested v))
+nested_found n k f v e o d = subst (λ m. MeansSection m f (Section f.kind f.extended (Nested v))) (suc_is n k e) (nested_is k f v o d)
 
 pub nested_one : (n k : ℕ) (f : FrameForm) (v : Meaning) (r : ℕ) → n ≡ k + 1 → IsOpened f → ((j : ℕ) (m : Meaning)
     → j ≤ length f.body → Denotes k (take j f.body) m → (m ≡ v) × (j ≡ r))
-    → (s : SectionMeaning) → IsSection n f s → s ≡ Section f.kind f.extended (Nested v)
-nested_one n k f v r e o one s h = nested_only k f v r o one s (subst (λ m. IsSection m f s) (sym (suc_is n k e)) h)
+    → (s : SectionMeaning) → MeansSection n f s → s ≡ Section f.kind f.extended (Nested v)
+nested_one n k f v r e o one s h = nested_only k f v r o one s (subst (λ m. MeansSection m f s) (sym (suc_is n k e)) h)
 
 pub nested_bad : (n k : ℕ) (f : FrameForm) → n ≡ k + 1 → IsOpened f → ((j : ℕ) (m : Meaning) → j ≤ length f.body
-    → Denotes k (take j f.body) m → ⊥) → (s : SectionMeaning) → IsSection n f s → ⊥
-nested_bad n k f e o none s h = nested_none k f o none s (subst (λ m. IsSection m f s) (sym (suc_is n k e)) h)
+    → Denotes k (take j f.body) m → ⊥) → (s : SectionMeaning) → MeansSection n f s → ⊥
+nested_bad n k f e o none s h = nested_none k f o none s (subst (λ m. MeansSection m f s) (sym (suc_is n k e)) h)
 
 pub nested_first : (n k : ℕ) (f : FrameForm) (x : Fault) (base depth b d : ℕ) → n ≡ k + 1 → IsOpened f → b ≡ base + body_place f
     → d ≡ depth + 1 → FirstInVolume k x f.body b d → SectionFirst n x f base depth
@@ -252,9 +252,9 @@ nested_first n k f x base depth b d e o p q h =
     let inside : SectionFirst (suc k) x f base depth = inr (o.kind, o.opens, here) in
     subst (λ m. SectionFirst m x f base depth) (suc_is n k e) inside
 
-pub deep_bad : (n : ℕ) (f : FrameForm) → n ≡ 0 → (f.kind ≡ group_kind) ⊎ IsOpened f → (s : SectionMeaning) → IsSection n f s → ⊥
-deep_bad n f e w s h = too_deep f w s (subst (λ m. IsSection m f s) e h)
+pub deep_bad : (n : ℕ) (f : FrameForm) → n ≡ 0 → (f.kind ≡ group_kind) ⊎ IsOpened f → (s : SectionMeaning) → MeansSection n f s → ⊥
+deep_bad n f e w s h = too_deep f w s (subst (λ m. MeansSection m f s) e h)
 
 pub deep_fault : (n : ℕ) (f : FrameForm) (x : Fault) (base depth : ℕ) → n ≡ 0 → (f.kind ≡ group_kind) ⊎ IsOpened f
-    → x ≡ moved base depth (outer_fault kinds.Depth f.offset) → SectionFirst n x f base depth
+    → x ≡ moved_fault base depth (outer_fault kinds.Depth f.offset) → SectionFirst n x f base depth
 deep_fault n f x base depth e w is = subst (λ m. SectionFirst m x f base depth) (sym e) (deep_first f x base depth w is)

@@ -8,10 +8,10 @@ use Rattle.fv_base.specs.Value.{IsBytes}
 use Rattle.fv_base.specs.declared.fault.Fault.{Fault}
 use Rattle.fv_section.specs.FrameChecks as section
 use Rattle.fv_section.specs.FrameChecks.{frame_checks}
-use Rattle.fv_section.specs.Frames.{FrameForm, Splits, From, StandsAt, size, up_to_4}
+use Rattle.fv_section.specs.Frames.{FrameForm, Splits, SplitsFrom, FrameStandsAt, frame_len, up_to_4}
 use Rattle.fv_section.proofs.Laws.{step, cut, one_frame, one_split, begins_of, first_here, none_after, stands_within, whole_of}
-use Rattle.fv_tree.specs.Denotes.{Pairs, IsSection, Stream, IsStoredFrame}
-use Rattle.fv_tree.specs.FirstFault.{moved, SectionFirst, FirstInStream}
+use Rattle.fv_tree.specs.Denotes.{Pairs, MeansSection, Stream, IsStoredFrame}
+use Rattle.fv_tree.specs.FirstFault.{moved_fault, SectionFirst, FirstInStream}
 use Rattle.fv_tree.specs.Meaning.{SectionMeaning}
 use Rattle.fv_tree.proofs.Lists.{pairs_push, pairs_only, pairs_empty}
 
@@ -19,11 +19,11 @@ use Rattle.fv_tree.proofs.Lists.{pairs_push, pairs_only, pairs_empty}
 
 -- the frames so far, and the one that stands behind them
 pub split_more : (b : List ℕ) (fs : List FrameForm) (t at : ℕ) (f : FrameForm) (end next : ℕ) → Splits fs t (take at b)
-    → at ≡ up_to_4 at → StandsAt f at b → end ≡ f.offset + size f → next ≡ up_to_4 (f.offset + size f)
+    → at ≡ up_to_4 at → FrameStandsAt f at b → end ≡ f.offset + frame_len f → next ≡ up_to_4 (f.offset + frame_len f)
     → Splits (fs ++ f ∷ []) (min next (length b) - end) (take next b)
 split_more b fs t at f end next split even s e n =
-    let e' : end ≡ at + size f = e ∙ ap (λ k. k + size f) s.offset in
-    let n' : next ≡ up_to_4 (at + size f) = n ∙ ap (λ k. up_to_4 (k + size f)) s.offset in
+    let e' : end ≡ at + frame_len f = e ∙ ap (λ k. k + frame_len f) s.offset in
+    let n' : next ≡ up_to_4 (at + frame_len f) = n ∙ ap (λ k. up_to_4 (k + frame_len f)) s.offset in
     rw (e', n') (step b fs f t at s.behind split even s.inside s.offset s.begins)
 
 pub counted : (fs : List FrameForm) (f : FrameForm) (count : ℕ) → length fs ≡ count → length (fs ++ f ∷ []) ≡ count + 1
@@ -38,16 +38,16 @@ whole_stream b fs end at split past =
 
 -- a frame that stands behind the first frames of a stream is the next of its frames
 pub next_is : (b : List ℕ) (fs : List FrameForm) (t at : ℕ) (f : FrameForm) (gs : List FrameForm) (u : ℕ) → Splits fs t (take at b)
-    → at ≡ up_to_4 at → StandsAt f at b → Splits gs u b → (rest : List FrameForm) × (gs ≡ fs ++ f ∷ rest)
+    → at ≡ up_to_4 at → FrameStandsAt f at b → Splits gs u b → (rest : List FrameForm) × (gs ≡ fs ++ f ∷ rest)
 next_is b fs t at f gs u split even s whole =
     let long : length (take at b) ≡ at = omega (arith, length-take at b, s.inside) in
     let multiple : 0 + length (take at b) ≡ up_to_4 (0 + length (take at b)) = omega (arith, even, long) in
     let some : 0 < length (drop at b) = omega (arith, length-drop at b, s.inside) in
     let joined : Splits gs u (take at b ++ drop at b) = subst (λ l. Splits gs u l) (sym (take-append-drop at b)) whole in
     let r = cut 0 fs gs t u (take at b) (drop at b) split multiple joined some in
-    go r.0 r.1 (subst (λ k. From k r.0 u (drop at b)) (omega (arith, long)) r.2)
+    go r.0 r.1 (subst (λ k. SplitsFrom k r.0 u (drop at b)) (omega (arith, long)) r.2)
   where
-    go : (more : List FrameForm) → gs ≡ fs ++ more → From at more u (drop at b) → (rest : List FrameForm) × (gs ≡ fs ++ f ∷ rest)
+    go : (more : List FrameForm) → gs ≡ fs ++ more → SplitsFrom at more u (drop at b) → (rest : List FrameForm) × (gs ≡ fs ++ f ∷ rest)
     go [] e (z, n) = absurd (omega (arith, ap length z, length-drop at b, s.inside))
     go (g ∷ more) e h =
         let begun = begins_of at g more u (drop at b) h in
@@ -56,39 +56,39 @@ next_is b fs t at f gs u split even s whole =
 
 -- what the reader of a section asks of a frame
 abbrev pub IsReady : List ℕ → FrameForm → Type 0
-IsReady b f = (f.offset + size f ≤ length b) × IsStoredFrame f
+IsReady b f = (f.offset + frame_len f ≤ length b) × IsStoredFrame f
 
 -- and it holds where a frame stands
-pub stands_ready : (b : List ℕ) (at : ℕ) (f : FrameForm) → IsBytes b → length b ≤ volume_limit → StandsAt f at b → IsReady b f
+pub stands_ready : (b : List ℕ) (at : ℕ) (f : FrameForm) → IsBytes b → length b ≤ volume_limit → FrameStandsAt f at b → IsReady b f
 stands_ready b at f small short s =
-    (stands_within f b at s, (b, small, short, subst (λ k. StandsAt f k b) (sym s.offset) s))
+    (stands_within f b at s, (b, small, short, subst (λ k. FrameStandsAt f k b) (sym s.offset) s))
 
 -- ---- the sections
 
-pub uncut_first : (n : ℕ) (b : List ℕ) (f g : Fault) (base depth : ℕ) → section.IsFirst b f → g ≡ moved base depth f
+pub uncut_first : (n : ℕ) (b : List ℕ) (f g : Fault) (base depth : ℕ) → section.IsFirstFrameFault b f → g ≡ moved_fault base depth f
     → FirstInStream n g b base depth
 uncut_first n b f g base depth first is = inl (f, first, is)
 
 -- the frames before a place are read, as these sections and as no others
 abbrev pub Walked : ℕ → List ℕ → ℕ → List SectionMeaning → Type 0
 Walked n b at ss =
-    (fs : List FrameForm) × (t : ℕ) × Splits fs t (take at b) × Pairs (IsSection n) fs ss
-    × ((zs : List SectionMeaning) → Pairs (IsSection n) fs zs → zs ≡ ss)
+    (fs : List FrameForm) × (t : ℕ) × Splits fs t (take at b) × Pairs (MeansSection n) fs ss
+    × ((zs : List SectionMeaning) → Pairs (MeansSection n) fs zs → zs ≡ ss)
 
 pub walk_begun : (n : ℕ) (b : List ℕ) (ss : List SectionMeaning) → ss ≡ [] → Walked n b 0 ss
-walk_begun n b ss e = rw e ([], 0, (refl, refl), tt, λ zs h. pairs_empty (IsSection n) zs h)
+walk_begun n b ss e = rw e ([], 0, (refl, refl), tt, λ zs h. pairs_empty (MeansSection n) zs h)
 
 -- the frame that stands there is read
 pub walk_more : (n : ℕ) (b : List ℕ) (at next : ℕ) (ss new : List SectionMeaning) (f : FrameForm) (s : SectionMeaning) → Walked n b at ss
-    → at ≡ up_to_4 at → StandsAt f at b → next ≡ up_to_4 (f.offset + size f) → IsSection n f s
-    → ((z : SectionMeaning) → IsSection n f z → z ≡ s) → new ≡ ss ++ s ∷ [] → Walked n b next new
+    → at ≡ up_to_4 at → FrameStandsAt f at b → next ≡ up_to_4 (f.offset + frame_len f) → MeansSection n f s
+    → ((z : SectionMeaning) → MeansSection n f z → z ≡ s) → new ≡ ss ++ s ∷ [] → Walked n b next new
 walk_more n b at next ss new f s w even stands place is one e =
     rw e (
       w.0 ++ f ∷ [],
-      min next (length b) - (f.offset + size f),
-      split_more b w.0 w.1 at f (f.offset + size f) next w.2 even stands refl place,
-      pairs_push (IsSection n) w.0 ss f s w.3 is,
-      λ zs h. pairs_only (IsSection n) w.0 ss f s w.4 one zs h,
+      min next (length b) - (f.offset + frame_len f),
+      split_more b w.0 w.1 at f (f.offset + frame_len f) next w.2 even stands refl place,
+      pairs_push (MeansSection n) w.0 ss f s w.3 is,
+      λ zs h. pairs_only (MeansSection n) w.0 ss f s w.4 one zs h,
     )
 
 -- an item that is paired with one
@@ -101,15 +101,15 @@ pairs_met R (a ∷ xs) x after (y ∷ ys) p = pairs_met R xs x after ys p.1
 
 -- it is no section: there is no stream
 pub walk_none : (n : ℕ) (b : List ℕ) (at : ℕ) (ss : List SectionMeaning) (f : FrameForm) → Walked n b at ss → at ≡ up_to_4 at
-    → StandsAt f at b → ((s : SectionMeaning) → IsSection n f s → ⊥) → (zs : List SectionMeaning) (u : ℕ) → Stream n zs u b → ⊥
+    → FrameStandsAt f at b → ((s : SectionMeaning) → MeansSection n f s → ⊥) → (zs : List SectionMeaning) (u : ℕ) → Stream n zs u b → ⊥
 walk_none n b at ss f w even stands bad zs u (gs, split, pairs) =
     let m = next_is b w.0 w.1 at f gs u w.2 even stands split in
-    let met = pairs_met (IsSection n) w.0 f m.0 zs (subst (λ hs. Pairs (IsSection n) hs zs) m.1 pairs) in
+    let met = pairs_met (MeansSection n) w.0 f m.0 zs (subst (λ hs. Pairs (MeansSection n) hs zs) m.1 pairs) in
     bad met.0 met.1
 
 -- it is the first that is refused
 pub walk_first : (n : ℕ) (b : List ℕ) (at : ℕ) (ss : List SectionMeaning) (f : FrameForm) (e : Fault) (base depth : ℕ)
-    (gs : List FrameForm) (u : ℕ) → Walked n b at ss → at ≡ up_to_4 at → StandsAt f at b → Splits gs u b
+    (gs : List FrameForm) (u : ℕ) → Walked n b at ss → at ≡ up_to_4 at → FrameStandsAt f at b → Splits gs u b
     → SectionFirst n e f base depth → FirstInStream n e b base depth
 walk_first n b at ss f e base depth gs u w even stands split first =
     let m = next_is b w.0 w.1 at f gs u w.2 even stands split in
@@ -133,4 +133,4 @@ pub walk_only : (n : ℕ) (b : List ℕ) (at : ℕ) (ss : List SectionMeaning) (
 walk_only n b at ss gs u w past split zs v (hs, other, pairs) =
     let whole = whole_of b w.0 w.1 at w.2 past in
     let same = one_split 0 hs w.0 v w.1 b other whole in
-    (w.4 zs (subst (λ k. Pairs (IsSection n) k zs) same.0 pairs), (one_split 0 hs gs v u b other split).1)
+    (w.4 zs (subst (λ k. Pairs (MeansSection n) k zs) same.0 pairs), (one_split 0 hs gs v u b other split).1)

@@ -9,13 +9,13 @@ use Rattle.fv_base.specs.Faults.{want_of_memory}
 use Rattle.fv_base.specs.declared.fault.Fault.{Fault}
 use Rattle.fv_base.specs.declared.fault.FaultKind.TheVariants as kinds
 use Rattle.fv_base.proofs.Laws.{first_among, take-take_le}
-use Rattle.fv_head.specs.Head.{HeadFields, Front}
+use Rattle.fv_head.specs.Head.{HeadFields, BeginsVolume}
 use Rattle.fv_head.specs.HeadChecks.{head_checks, volume_len_at}
 use Rattle.fv_head.specs.declared.extent.Extent.{Extent}
 use Rattle.fv_head.proofs.Laws.{one_front, front_extent, front_same}
-use Rattle.fv_tree.specs.Body.{HasFiles}
+use Rattle.fv_tree.specs.ReadingParts.{HasFiles}
 use Rattle.fv_tree.specs.Denotes.{Stream, Denotes, Opens}
-use Rattle.fv_tree.specs.FirstFault.{moved, BodyFirst, FirstInStream, FirstInVolume}
+use Rattle.fv_tree.specs.FirstFault.{moved_fault, BodyFirst, FirstInStream, FirstInVolume}
 use Rattle.fv_tree.specs.Meaning.{Meaning, Volume, FileMeaning, FileMeanings, NoFiles, MoreFiles, files_list, files_from, head_of, files_of}
 
 -- a list, there and back
@@ -29,7 +29,7 @@ files_back (MoreFiles f fs) = ap (λ l. MoreFiles f l) (files_back fs)
 
 -- ---- a header and files make a volume
 
-pub made : (n : ℕ) (b : List ℕ) (h : HeadFields) (e : Extent) (ms : List FileMeaning) → Front h e b
+pub made : (n : ℕ) (b : List ℕ) (h : HeadFields) (e : Extent) (ms : List FileMeaning) → BeginsVolume h e b
     → HasFiles (Stream n) e (take e.length b) ms
     → Denotes n (take e.length b) (Volume h (files_from ms))
 made n b h e ms front has =
@@ -49,7 +49,7 @@ made n b h e ms front has =
 
 -- ---- a volume has a header and files
 
-pub front_of : (n k : ℕ) (b : List ℕ) (m : Meaning) → k ≤ length b → (d : Denotes n (take k b) m) → Front (head_of m) d.extent b
+pub front_of : (n k : ℕ) (b : List ℕ) (m : Meaning) → k ≤ length b → (d : Denotes n (take k b) m) → BeginsVolume (head_of m) d.extent b
     × (d.extent.length ≡ k)
 front_of n k b m within d =
     let same : k ≡ d.extent.length = sym (length-take-le k b within) ∙ d.whole in (
@@ -62,7 +62,7 @@ has_of : (n k : ℕ) (b : List ℕ) (m : Meaning) → (d : Denotes n (take k b) 
 has_of n k b (Volume h fs) d = record { cells = d.cells; tiles = d.tiles; files = d.files; alive = d.alive; meanings = d.meanings }
 
 -- the volume's files, by a header that the bytes begin with
-pub has_files : (n k : ℕ) (b : List ℕ) (m : Meaning) (h : HeadFields) (e : Extent) → Front h e b → k ≤ length b → Denotes n (take k b) m
+pub has_files : (n k : ℕ) (b : List ℕ) (m : Meaning) (h : HeadFields) (e : Extent) → BeginsVolume h e b → k ≤ length b → Denotes n (take k b) m
     → (head_of m ≡ h) × (k ≡ e.length) × HasFiles (Stream n) e (take e.length b) (files_of m)
 has_files n k b m h e front within d =
     let other = front_of n k b m within d in
@@ -75,20 +75,20 @@ has_files n k b m h e front within d =
 volume_is : (m : Meaning) (h : HeadFields) (ms : List FileMeaning) → head_of m ≡ h → files_of m ≡ ms → m ≡ Volume h (files_from ms)
 volume_is (Volume k fs) h ms p q = let r : fs ≡ files_from ms = sym (files_back fs) ∙ ap files_from q in cc
 
-pub no_other : (n : ℕ) (b : List ℕ) (h : HeadFields) (e : Extent) (ms : List FileMeaning) → Front h e b → ((ts : List FileMeaning)
+pub no_other : (n : ℕ) (b : List ℕ) (h : HeadFields) (e : Extent) (ms : List FileMeaning) → BeginsVolume h e b → ((ts : List FileMeaning)
     → HasFiles (Stream n) e (take e.length b) ts → ts ≡ ms)
     → (k : ℕ) (m : Meaning) → k ≤ length b → Denotes n (take k b) m → (m ≡ Volume h (files_from ms)) × (k ≡ e.length)
 no_other n b h e ms front one k m within d =
     let x = has_files n k b m h e front within d in
     (volume_is m h ms x.0 (one (files_of m) x.2), x.1)
 
-pub no_files : (n : ℕ) (b : List ℕ) (h : HeadFields) (e : Extent) → Front h e b → ((ts : List FileMeaning)
+pub no_files : (n : ℕ) (b : List ℕ) (h : HeadFields) (e : Extent) → BeginsVolume h e b → ((ts : List FileMeaning)
     → HasFiles (Stream n) e (take e.length b) ts → ⊥)
     → (k : ℕ) (m : Meaning) → k ≤ length b → Denotes n (take k b) m → ⊥
 no_files n b h e front none k m within d = none (files_of m) (has_files n k b m h e front within d).2
 
 -- a header that is refused begins no volume
-pub head_unread : (n : ℕ) (b : List ℕ) (f : Fault) → ((h : HeadFields) (e : Extent) → Front h e b
+pub head_unread : (n : ℕ) (b : List ℕ) (f : Fault) → ((h : HeadFields) (e : Extent) → BeginsVolume h e b
     → (let A : Type 0 = Result (HeadFields × Extent) Fault in (◌≡◌ {A = A} (Err f) (Ok (h, e)))
     ⊎ (◌≡◌ {A = A} (Err f) (Err want_of_memory))))
     → f ≢ want_of_memory → (k : ℕ) (m : Meaning) → k ≤ length b → Denotes n (take k b) m → ⊥
@@ -109,11 +109,11 @@ head_known b f first =
     first_among P (head_checks b) f all first
 
 pub head_first : (n : ℕ) (b : List ℕ) (f g : Fault) (base depth : ℕ) → (f ≡ want_of_memory) ⊎ IsFirstFault (head_checks b) f
-    → f ≢ want_of_memory → g ≡ moved base depth f → FirstInVolume n g b base depth
+    → f ≢ want_of_memory → g ≡ moved_fault base depth f → FirstInVolume n g b base depth
 head_first n b f g base depth (inl want) ne is = absurd (ne want)
 head_first n b f g base depth (inr first) ne is = inl (f, first, is)
 
-pub body_first : (n : ℕ) (b : List ℕ) (h : HeadFields) (e : Extent) (f : Fault) (base depth : ℕ) → Front h e b
+pub body_first : (n : ℕ) (b : List ℕ) (h : HeadFields) (e : Extent) (f : Fault) (base depth : ℕ) → BeginsVolume h e b
     → BodyFirst (Stream n) (FirstInStream n) e f (take e.length b) base depth → FirstInVolume n f b base depth
 body_first n b h e f base depth front first = inr (h, e, front, first)
 

@@ -1,7 +1,7 @@
 -- What a look-up of a section answers.
 use Rattle.std.specs.Prelude.{◌≡◌, Option, Some, None}
 use Rattle.fv_section.specs.Frames.{FrameForm}
-use Rattle.fv_section.specs.Seen.{form_of}
+use Rattle.fv_section.specs.FrameForms.{frame_form}
 use Rattle.fv_tree.specs.Meaning.{SectionMeaning}
 use Rattle.fv_tree.specs.declared.lookup.Item.TheVariants as items
 use Rattle.fv_tree.specs.declared.lookup.Lookup.{Lookup}
@@ -17,7 +17,7 @@ SeesSection answers.NotSectioned o = ⊥
 -- it is this frame, or Absent where there is none
 abbrev pub SeesFrame : Lookup → Option FrameForm → Type 0
 SeesFrame (answers.Found (items.Section s)) o = ⊥
-SeesFrame (answers.Found (items.Frame f)) o = o ≡ Some (form_of f)
+SeesFrame (answers.Found (items.Frame f)) o = o ≡ Some (frame_form f)
 SeesFrame answers.Absent o = o ≡ None
 SeesFrame answers.NotSectioned o = ⊥
 

@@ -7,9 +7,9 @@ use Rattle.fv_base.specs.declared.flash.FileSystem.{FileSystem}
 use Rattle.fv_base.specs.declared.flash.Polarity.{Polarity}
 use Rattle.fv_file.specs.Attributes.{attribute_bits, without_large}
 use Rattle.fv_file.specs.Cells.{CellForm, Valid, IsCell, Tiles}
-use Rattle.fv_head.specs.Head.{Front, signature_bytes, system_guid}
+use Rattle.fv_head.specs.Head.{BeginsVolume, signature_bytes, system_guid}
 use Rattle.fv_head.specs.declared.extent.Extent.{Extent}
-use Rattle.fv_section.specs.Frames.{FrameForm, Splits, StandsAt}
+use Rattle.fv_section.specs.Frames.{FrameForm, Splits, FrameStandsAt}
 use Rattle.fv_tree.specs.Files.{FileForm, Alive}
 use Rattle.fv_tree.specs.Meaning.{Meaning, FileMeaning, File, ContentMeaning, Plain, Sectioned, SectionMeaning, Section, BodyMeaning, Leaf}
 use Rattle.fv_tree.specs.Meaning.{Group, Nested, sections_list, head_of, files_of}
@@ -57,48 +57,48 @@ abbrev pub StreamOver : Sections → Streams
 StreamOver is_section sections tail b = (frames : List FrameForm) × Splits frames tail b × Pairs is_section frames sections
 
 -- the data of a file of this type are this content
-abbrev pub IsContent : Streams → ℕ → List ℕ → ContentMeaning → Type 0
-IsContent is_stream kind payload (Plain b) = (holds_sections kind ≡ false) × (b ≡ payload)
-IsContent is_stream kind payload (Sectioned sections tail) = (holds_sections kind ≡ true) × is_stream (sections_list sections) tail payload
+abbrev pub MeansContent : Streams → ℕ → List ℕ → ContentMeaning → Type 0
+MeansContent is_stream kind payload (Plain b) = (holds_sections kind ≡ false) × (b ≡ payload)
+MeansContent is_stream kind payload (Sectioned sections tail) = (holds_sections kind ≡ true) × is_stream (sections_list sections) tail payload
 
 -- what lies in the volume is this file
-abbrev pub IsFile : Streams → FileForm → FileMeaning → Type 0
-IsFile is_stream f (File name kind attributes content) =
+abbrev pub MeansFile : Streams → FileForm → FileMeaning → Type 0
+MeansFile is_stream f (File name kind attributes content) =
     (name ≡ f.head.name) × (kind ≡ f.head.kind) × (attributes ≡ without_large (attribute_bits f.head.attributes))
-    × IsContent is_stream kind f.payload content
+    × MeansContent is_stream kind f.payload content
 
 -- the bytes are a volume of this meaning: they begin with its header, cells tile the rest from the first file's place on, and the
 -- files of these cells are its files
 pub record VolumeOver (is_stream : Streams) (b : List ℕ) (m : Meaning) : Type 0 where
   pub extent : Extent
-  pub front : Front (head_of m) extent b
+  pub front : BeginsVolume (head_of m) extent b
   pub whole : length b ≡ extent.length
   pub cells : List CellForm
   pub tiles : Tiles extent.file_system extent.polarity extent.first cells (drop extent.first b)
   pub files : List FileForm
   pub alive : Alive extent.length cells files
-  pub meanings : Pairs (IsFile is_stream) files (files_of m)
+  pub meanings : Pairs (MeansFile is_stream) files (files_of m)
 
 -- the frame's bytes are this body: those of a group are a stream, those that are opened a volume, and all others are a leaf
-abbrev pub IsBody : Streams → Volumes → FrameForm → BodyMeaning → Type 0
-IsBody is_stream is_volume f (Leaf b) = (f.kind ≢ group_kind) × (f.kind ≡ volume_kind → Opens f.body → ⊥) × (b ≡ f.body)
-IsBody is_stream is_volume f (Group sections tail) = (f.kind ≡ group_kind) × is_stream (sections_list sections) tail f.body
-IsBody is_stream is_volume f (Nested volume) = (f.kind ≡ volume_kind) × Opens f.body × is_volume f.body volume
+abbrev pub MeansBody : Streams → Volumes → FrameForm → BodyMeaning → Type 0
+MeansBody is_stream is_volume f (Leaf b) = (f.kind ≢ group_kind) × (f.kind ≡ volume_kind → Opens f.body → ⊥) × (b ≡ f.body)
+MeansBody is_stream is_volume f (Group sections tail) = (f.kind ≡ group_kind) × is_stream (sections_list sections) tail f.body
+MeansBody is_stream is_volume f (Nested volume) = (f.kind ≡ volume_kind) × Opens f.body × is_volume f.body volume
 
 abbrev pub SectionOver : Streams → Volumes → Sections
 SectionOver is_stream is_volume f (Section kind extended body) =
-    (kind ≡ f.kind) × (extended ≡ f.extended) × IsBody is_stream is_volume f body
+    (kind ≡ f.kind) × (extended ≡ f.extended) × MeansBody is_stream is_volume f body
 
 -- ---- the recursion
 
 -- the frame is this section, which is a leaf where n is 0; groups and opened volumes nest at most n deep
-abbrev pub IsSection : ℕ → Sections
-IsSection zero = SectionOver (λ _ _ _. ⊥) (λ _ _. ⊥)
-IsSection (suc n) = SectionOver (StreamOver (IsSection n)) (VolumeOver (StreamOver (IsSection n)))
+abbrev pub MeansSection : ℕ → Sections
+MeansSection zero = SectionOver (λ _ _ _. ⊥) (λ _ _. ⊥)
+MeansSection (suc n) = SectionOver (StreamOver (MeansSection n)) (VolumeOver (StreamOver (MeansSection n)))
 
 -- the bytes are a stream of these sections, with so many bytes behind the last, in which groups and volumes nest at most n deep
 abbrev pub Stream : ℕ → Streams
-Stream n = StreamOver (IsSection n)
+Stream n = StreamOver (MeansSection n)
 
 -- the bytes are a volume of this meaning, in which groups and volumes nest at most n deep
 abbrev pub Denotes : ℕ → Volumes
@@ -126,12 +126,12 @@ IsStoredFile f =
 
 -- a file that stands in some bytes is this one
 abbrev pub IsReadFile : FileMeaning → Type 0
-IsReadFile m = (n : ℕ) × (n ≤ depth_limit) × (f : FileForm) × IsStoredFile f × IsFile (Stream n) f m
+IsReadFile m = (n : ℕ) × (n ≤ depth_limit) × (f : FileForm) × IsStoredFile f × MeansFile (Stream n) f m
 
 -- in some bytes this frame stands
 abbrev pub IsStoredFrame : FrameForm → Type 0
-IsStoredFrame f = (b : List ℕ) × IsBytes b × (length b ≤ volume_limit) × StandsAt f f.offset b
+IsStoredFrame f = (b : List ℕ) × IsBytes b × (length b ≤ volume_limit) × FrameStandsAt f f.offset b
 
 -- a frame that stands in some bytes is this section
 abbrev pub IsReadSection : SectionMeaning → Type 0
-IsReadSection m = (n : ℕ) × (n ≤ depth_limit) × (f : FrameForm) × IsStoredFrame f × IsSection n f m
+IsReadSection m = (n : ℕ) × (n ≤ depth_limit) × (f : FrameForm) × IsStoredFrame f × MeansSection n f m

@@ -67,9 +67,9 @@ under s None = None
 under s (Some d) = Some (s ∷ d.0, d.1)
 
 -- the steps in the other order
-abbrev pub turned : Differs → Differs
-turned None = None
-turned (Some d) = Some (reverse d.0, d.1)
+abbrev pub outermost_first : Differs → Differs
+outermost_first None = None
+outermost_first (Some d) = Some (reverse d.0, d.1)
 
 -- ---- the walk
 
@@ -131,6 +131,6 @@ abbrev mutual
 -- ---- while it is found
 
 -- what a walk answers: where the two first differ, with the steps from the inmost out; memory is wanted only where they do
-abbrev pub Tells : Result Differs Fault → Differs → Type 0
-Tells (Ok o) d = turned o ≡ d
-Tells (Err f) d = (f ≡ want_of_memory) × (d ≢ None)
+abbrev pub AnswersDifference : Result Differs Fault → Differs → Type 0
+AnswersDifference (Ok o) d = outermost_first o ≡ d
+AnswersDifference (Err f) d = (f ≡ want_of_memory) × (d ≢ None)

@@ -1,12 +1,12 @@
 -- The volumes in some bytes.
 use Rattle.std.specs.Prelude.{◌≡◌, ℕ, ◌+◌, ◌%◌, ◌≤◌, ◌<◌, List, [], ◌∷◌, drop}
 use Rattle.std.specs.List.{AllByRecursion, Contains}
-use Rattle.fv_head.specs.Head.{HeadFields, Front}
+use Rattle.fv_head.specs.Head.{HeadFields, BeginsVolume}
 use Rattle.fv_head.specs.declared.extent.Extent.{Extent}
 
 -- from the place k of b on, b begins with a volume of n bytes
 abbrev pub VolumeAt : List ℕ → ℕ → ℕ → Type 0
-VolumeAt b k n = (h : HeadFields) × (e : Extent) × Front h e (drop k b) × (n ≡ e.length)
+VolumeAt b k n = (h : HeadFields) × (e : Extent) × BeginsVolume h e (drop k b) × (n ≡ e.length)
 
 -- a place is a multiple of 8, and a volume begins there
 abbrev pub IsPlace : List ℕ → ℕ → Type 0

@@ -8,8 +8,8 @@ pub mod Sizes
 pub mod Views
 pub mod Falls
 pub mod Names
-pub mod Seen
-pub mod Body
+pub mod StandingForms
+pub mod ReadingParts
 pub mod Shapes
 pub mod Difference
 pub mod Instances

@@ -13,7 +13,7 @@ use Rattle.fv_base.specs.Guids.{bytes_of}
 use Rattle.fv_base.specs.Value.{IsBytes, field}
 use Rattle.fv_base.specs.declared.guid.Guid.{Guid}
 use Rattle.fv_tree.specs.Files.{FileForm, is_marked}
-use Rattle.fv_tree.specs.Meaning.{FileMeaning, name_of}
+use Rattle.fv_tree.specs.Meaning.{FileMeaning, file_name_of}
 use Rattle.fv_tree.specs.declared.numbers.Numbers.{Numbers}
 
 -- the order of names, and of names with whether the file is marked
@@ -33,7 +33,7 @@ HasNames names fs = (key : Guid × Bool) → contains key_cmp names key ≡ list
 
 -- the first file of this name
 abbrev pub is_named : Guid → FileMeaning → Bool
-is_named name f = bytes_eq (bytes_of name) (bytes_of (name_of f))
+is_named name f = bytes_eq (bytes_of name) (bytes_of (file_name_of f))
 
 abbrev pub file_named : Guid → List FileMeaning → Option FileMeaning
 file_named name fs = find (is_named name) fs
@@ -44,11 +44,11 @@ number_from k name [] = None
 number_from k name (f ∷ fs) = if is_named name f then Some k else number_from (k + 1) name fs
 
 -- sixteen bytes, and a name that has them
-abbrev pub IsWhole : List ℕ → Type 0
-IsWhole bytes = (length bytes ≡ 16) × IsBytes bytes
+abbrev pub IsSixteenBytes : List ℕ → Type 0
+IsSixteenBytes bytes = (length bytes ≡ 16) × IsBytes bytes
 
 abbrev pub IsName : Guid → Type 0
-IsName name = IsWhole (bytes_of name)
+IsName name = IsSixteenBytes (bytes_of name)
 
 -- two numbers, and such a pair with the number of a file
 abbrev pub Halves : Type 0
@@ -84,7 +84,7 @@ pub record IsIndex (names : List Guid) (entries : List Entry) : Type 0 where
 
 -- the numbers are those of these files
 abbrev pub HasNumbers : Numbers → List FileMeaning → Type 0
-HasNumbers numbers fs = IsIndex (map name_of fs) numbers.sorted.items
+HasNumbers numbers fs = IsIndex (map file_name_of fs) numbers.sorted.items
 
 abbrev pub names_in : List FileForm → List Guid
 names_in fs = map (λ f. f.head.name) fs

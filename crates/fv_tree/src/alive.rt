@@ -4,12 +4,12 @@ ghost use Rattle.std.specs.Prelude.{◌≡◌, ◌≢◌, ◌≤◌, ◌<◌, �
 ghost use Rattle.std.specs.Prelude.{IfOk, IfErr, OnOk, IfSome, IfNone};
 ghost use Rattle.std.specs.List.{list_any, AllByRecursion};
 ghost use Rattle.fv_base.specs.Faults.{outer_fault, want_of_memory};
-ghost use Rattle.fv_file.specs.Seen as cellular;
+ghost use Rattle.fv_file.specs.CellForms as cellular;
 ghost use Rattle.fv_tree.specs.Files.{FileForm, NoTwins, TopAtEnd, files_in, alive_in, is_marked, is_top, end_of, replaces};
 ghost use Rattle.fv_tree.specs.FirstFault.{FirstTwin, TopElsewhere};
-ghost use Rattle.fv_tree.specs.Body.{AreAlive, AliveFirst};
+ghost use Rattle.fv_tree.specs.ReadingParts.{AreAlive, AliveFirst};
 ghost use Rattle.fv_tree.specs.Names.{HasNames, IsIndex, names_in};
-ghost use Rattle.fv_tree.specs.Seen.{form_of};
+ghost use Rattle.fv_tree.specs.StandingForms.{file_form};
 
 use crate::numbers::Numbers;
 use fv_base::{Fault, FaultKind, Guid, check};
@@ -41,15 +41,15 @@ fn is_marked(state: FileState) -> bool
 }
 
 fn is_top(file: &Standing) -> bool
-    ensures { result ≡ is_top (form_of file.now) }
+    ensures { result ≡ is_top (file_form file.now) }
 {
     file.head.name.to_bytes()[..] == TOP[..]
 }
 
 // The file that a cell is, if it is one.
 fn file_of<'a>(cell: &Cell<'a>) -> Option<Standing<'a>>
-    ensures some { IfSome result (λ s. files_in (cellular.form_of cell.now ∷ []) ≡ form_of s ∷ []) }
-    ensures none { IfNone result (files_in (cellular.form_of cell.now ∷ []) ≡ []) }
+    ensures some { IfSome result (λ s. files_in (cellular.cell_form cell.now ∷ []) ≡ file_form s ∷ []) }
+    ensures none { IfNone result (files_in (cellular.cell_form cell.now ∷ []) ≡ []) }
 {
     match *cell {
         Cell::Valid {
@@ -67,7 +67,7 @@ fn file_of<'a>(cell: &Cell<'a>) -> Option<Standing<'a>>
 
 // The files of some cells, in their order.
 pub(crate) fn files_of<'a>(alloc: Global, cells: &[Cell<'a>]) -> Result<Vec<Standing<'a>>, Fault>
-    ensures found { IfOk result (λ fs. map form_of fs.items ≡ files_in (map cellular.form_of cells.now)) }
+    ensures found { IfOk result (λ fs. map file_form fs.items ≡ files_in (map cellular.cell_form cells.now)) }
     ensures err { IfErr result (λ f. f ≡ want_of_memory) }
 {
     let mut files = Vec::with_capacity(alloc, cells.len())?;
@@ -82,8 +82,8 @@ pub(crate) fn files_of<'a>(alloc: Global, cells: &[Cell<'a>]) -> Result<Vec<Stan
 
 // The names of the files, each with whether the file is marked, or the first of two twins.
 fn names_of(alloc: Global, files: &[Standing]) -> Result<BTreeSet<(Guid, bool)>, Fault>
-    ensures found { IfOk result (λ names. NoTwins (map form_of files.now) × HasNames names (map form_of files.now)) }
-    ensures first { IfErr result (λ e. (e ≡ want_of_memory) ⊎ ((f : FileForm) × FirstTwin f (map form_of files.now)
+    ensures found { IfOk result (λ names. NoTwins (map file_form files.now) × HasNames names (map file_form files.now)) }
+    ensures first { IfErr result (λ e. (e ≡ want_of_memory) ⊎ ((f : FileForm) × FirstTwin f (map file_form files.now)
         × (e ≡ outer_fault FaultKind.DuplicateName f.offset))) }
 {
     let mut names = BTreeSet::new(alloc);
@@ -96,37 +96,37 @@ fn names_of(alloc: Global, files: &[Standing]) -> Result<BTreeSet<(Guid, bool)>,
 
 // Whether none of the files that have these names replaces the file.
 fn is_kept(file: &Standing, names: &BTreeSet<(Guid, bool)>) -> bool
-    ensures { (fs : List FileForm) → HasNames names.now fs → result ≡ not (list_any (replaces (form_of file.now)) fs) }
+    ensures { (fs : List FileForm) → HasNames names.now fs → result ≡ not (list_any (replaces (file_form file.now)) fs) }
 {
     !is_marked(file.head.state) || !names.contains(&(file.head.name, false))
 }
 
 // Leaves those of the files that none of them replaces.
 fn keep_alive(files: &mut Vec<Standing>, names: &BTreeSet<(Guid, bool)>)
-    requires { HasNames names.now (map form_of files.old.items) }
-    ensures { map form_of files.new.items ≡ alive_in (map form_of files.old.items) }
+    requires { HasNames names.now (map file_form files.old.items) }
+    ensures { map file_form files.new.items ≡ alive_in (map file_form files.old.items) }
 {
     files.retain(|file| is_kept(file, names));
 }
 
 // Whether a file ends at this place.
 fn ends_at(file: &Standing, place: u64) -> bool
-    ensures { result ≡ (end_of (form_of file.now) == place) }
+    ensures { result ≡ (end_of (file_form file.now) == place) }
 {
     file.head.size <= place && file.offset == place - file.head.size
 }
 
 // Whether a file is no volume top file, or is the last and ends where the volume does.
 fn is_placed(file: &Standing, last: bool, length: u64) -> bool
-    ensures { result ≡ (not (is_top (form_of file.now)) || (last && (end_of (form_of file.now) == length))) }
+    ensures { result ≡ (not (is_top (file_form file.now)) || (last && (end_of (file_form file.now) == length))) }
 {
     !is_top(file) || (last && ends_at(file, length))
 }
 
 // Done where a volume top file is the last of the files, and ends where the volume does.
 fn check_top(files: &[Standing], length: u64) -> Result<(), Fault>
-    ensures found { OnOk result (TopAtEnd length (map form_of files.now)) }
-    ensures first { IfErr result (λ e. (f : FileForm) × TopElsewhere length f (map form_of files.now)
+    ensures found { OnOk result (TopAtEnd length (map file_form files.now)) }
+    ensures first { IfErr result (λ e. (f : FileForm) × TopElsewhere length f (map file_form files.now)
         × (e ≡ outer_fault FaultKind.TopFile f.offset)) }
 {
     let mut left = files.len();
@@ -147,11 +147,11 @@ fn apart_files<'a>(
     files: Vec<Standing<'a>>,
     length: u64,
 ) -> Result<(Vec<Standing<'a>>, Numbers), Fault>
-    requires within { AllByRecursion (λ f. f.offset ≤ length) (map form_of files.items) }
+    requires within { AllByRecursion (λ f. f.offset ≤ length) (map file_form files.items) }
     requires few { length_of files.items < 2 ^ 32 }
-    ensures found { IfOk result (λ r. AreAlive length (map form_of files.entry.items) (map form_of r.0.items)) }
-    ensures numbers { IfOk result (λ r. IsIndex (names_in (map form_of r.0.items)) r.1.sorted.items) }
-    ensures first { IfErr result (λ f. f ≢ want_of_memory → AliveFirst length (map form_of files.entry.items) f) }
+    ensures found { IfOk result (λ r. AreAlive length (map file_form files.entry.items) (map file_form r.0.items)) }
+    ensures numbers { IfOk result (λ r. IsIndex (names_in (map file_form r.0.items)) r.1.sorted.items) }
+    ensures first { IfErr result (λ f. f ≢ want_of_memory → AliveFirst length (map file_form files.entry.items) f) }
     ensures bound { IfErr result (λ f. f.place.offset ≤ length) }
 {
     let names = names_of(alloc, files.as_slice())?;
@@ -170,11 +170,11 @@ pub(crate) fn alive_files<'a>(
     files: Vec<Standing<'a>>,
     length: u64,
 ) -> Result<(Vec<Standing<'a>>, Numbers), Fault>
-    requires within { AllByRecursion (λ f. f.offset ≤ length) (map form_of files.items) }
+    requires within { AllByRecursion (λ f. f.offset ≤ length) (map file_form files.items) }
     requires few { length_of files.items < 2 ^ 32 }
-    ensures found { IfOk result (λ r. AreAlive length (map form_of files.entry.items) (map form_of r.0.items)) }
-    ensures numbers { IfOk result (λ r. IsIndex (names_in (map form_of r.0.items)) r.1.sorted.items) }
-    ensures first { IfErr result (λ f. f ≢ want_of_memory → AliveFirst length (map form_of files.entry.items) f) }
+    ensures found { IfOk result (λ r. AreAlive length (map file_form files.entry.items) (map file_form r.0.items)) }
+    ensures numbers { IfOk result (λ r. IsIndex (names_in (map file_form r.0.items)) r.1.sorted.items) }
+    ensures first { IfErr result (λ f. f ≢ want_of_memory → AliveFirst length (map file_form files.entry.items) f) }
     ensures bound { IfErr result (λ f. f.place.offset ≤ length) }
 {
     let numbers = Numbers::of(alloc, files.as_slice())?;

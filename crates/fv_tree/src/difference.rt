@@ -3,7 +3,7 @@
 ghost use Rattle.std.specs.Prelude.{◌≡◌, ◌≢◌, ◌==◌, Some, option_copied, IfOk, IfErr, IfSome, IfNone};
 ghost use Rattle.fv_base.specs.Faults.{want_of_memory};
 ghost use Rattle.fv_tree.specs.Difference.{blocks_eq, entries_eq, ext_eq};
-ghost use Rattle.fv_tree.specs.Difference.{differ_in, in_word, unless_one, or_else, under, turned, Tells};
+ghost use Rattle.fv_tree.specs.Difference.{differ_in, in_word, unless_one, or_else, under, outermost_first, AnswersDifference};
 ghost use Rattle.fv_tree.specs.Difference.{head_differs, difference, files_differ, file_differs, content_differs};
 ghost use Rattle.fv_tree.specs.Difference.{sections_differ, section_differs, body_differs};
 ghost use Rattle.fv_tree.specs.declared.difference.Word.TheVariants as words;
@@ -101,7 +101,7 @@ impl Difference {
 
 // A difference in this word, with no step.
 fn differ_in(alloc: Global, word: Word) -> Difference
-    ensures { turned (Some result) ≡ differ_in word }
+    ensures { outermost_first (Some result) ≡ differ_in word }
 {
     Difference {
         steps: Vec::new(alloc),
@@ -111,7 +111,7 @@ fn differ_in(alloc: Global, word: Word) -> Difference
 
 // The difference, one step further out. While it is found, its steps are kept from the inmost out.
 fn under(step: Step, found: Difference) -> Result<Difference, Fault>
-    ensures ok { IfOk result (λ d. turned (Some d) ≡ under step (turned (Some found))) }
+    ensures ok { IfOk result (λ d. outermost_first (Some d) ≡ under step (outermost_first (Some found))) }
     ensures err { IfErr result (λ f. f ≡ want_of_memory) }
 {
     let mut found = found;
@@ -191,7 +191,7 @@ fn stream_difference(
     others: &[SectionView],
     other_tail: u8,
 ) -> Result<Option<Difference>, Fault>
-    ensures { Tells result (or_else (sections_differ 0 (sections_from sections.now) (sections_from others.now)) (unless_one (tail == other_tail) words.Tail)) }
+    ensures { AnswersDifference result (or_else (sections_differ 0 (sections_from sections.now) (sections_from others.now)) (unless_one (tail == other_tail) words.Tail)) }
 {
     for (i, section) in sections.iter().enumerate() {
         let Some(other) = others.get(i) else {
@@ -217,7 +217,7 @@ fn section_difference(
     section: &SectionView,
     other: &SectionView,
 ) -> Result<Option<Difference>, Fault>
-    ensures { Tells result (section_differs section.now other.now) }
+    ensures { AnswersDifference result (section_differs section.now other.now) }
 {
     if section.kind() != other.kind() {
         return Ok(Some(differ_in(alloc, Word::Type)));
@@ -231,7 +231,7 @@ fn section_difference(
 // The same of what two sections hold.
 #[cycle(differ)]
 fn body_difference(alloc: Global, body: &Body, other: &Body) -> Result<Option<Difference>, Fault>
-    ensures { Tells result (body_differs (body_view body.now) (body_view other.now)) }
+    ensures { AnswersDifference result (body_differs (body_view body.now) (body_view other.now)) }
 {
     match (body, other) {
         (Body::Leaf(x), Body::Leaf(y)) => {
@@ -262,7 +262,7 @@ fn content_difference(
     content: &Content,
     other: &Content,
 ) -> Result<Option<Difference>, Fault>
-    ensures { Tells result (content_differs (content_view content.now) (content_view other.now)) }
+    ensures { AnswersDifference result (content_differs (content_view content.now) (content_view other.now)) }
 {
     match (content, other) {
         (Content::Plain(x), Content::Plain(y)) => {
@@ -292,7 +292,7 @@ fn file_difference(
     file: &FileView,
     other: &FileView,
 ) -> Result<Option<Difference>, Fault>
-    ensures { Tells result (file_differs file.now other.now) }
+    ensures { AnswersDifference result (file_differs file.now other.now) }
 {
     if file.name() != other.name() {
         return Ok(Some(differ_in(alloc, Word::Name)));
@@ -313,7 +313,7 @@ fn files_difference(
     files: &[FileView],
     others: &[FileView],
 ) -> Result<Option<Difference>, Fault>
-    ensures { Tells result (files_differ 0 (files_from files.now) (files_from others.now)) }
+    ensures { AnswersDifference result (files_differ 0 (files_from files.now) (files_from others.now)) }
 {
     for (i, file) in files.iter().enumerate() {
         let Some(other) = others.get(i) else {
@@ -336,7 +336,7 @@ fn volume_difference(
     volume: &VolumeView,
     other: &VolumeView,
 ) -> Result<Option<Difference>, Fault>
-    ensures { Tells result (difference volume.now other.now) }
+    ensures { AnswersDifference result (difference volume.now other.now) }
 {
     if let Some(word) = head_word(volume.head(), other.head()) {
         return Ok(Some(differ_in(alloc, word)));

@@ -2,9 +2,9 @@
 
 ghost use Rattle.std.specs.Prelude.{◌≡◌, ◌∷◌, ℕ, Ok, Err, IfOk, IfErr, List, option_map};
 ghost use Rattle.std.specs.Prelude.{option_copied};
-ghost use Rattle.fv_section.specs.FrameChecks.{IsFirst};
+ghost use Rattle.fv_section.specs.FrameChecks.{IsFirstFrameFault};
 ghost use Rattle.fv_section.specs.Frames.{FrameForm, Splits};
-ghost use Rattle.fv_section.specs.Seen as framed;
+ghost use Rattle.fv_section.specs.FrameForms as framed;
 ghost use Rattle.fv_tree.specs.Answers.{SeesSection, SeesFrame, IsNotSectioned};
 ghost use Rattle.fv_tree.specs.Instances.{file_after, file_of_type, section_of_type, frame_of_type, of_type};
 ghost use Rattle.fv_tree.specs.Instances.{preorder, inside_section, inside_body, sought, security_core};
@@ -171,10 +171,10 @@ fn section_lookup<'v, 'a>(
 // that the bytes are one.
 fn frame_by_type(bytes: &[u8], kind: u8, instance: u32) -> Result<Option<Frame<'_>>, Fault>
     ensures ok { IfOk result (λ o. (fs : List FrameForm) (t : ℕ) → Splits fs t bytes.now
-        → option_map framed.form_of o ≡ frame_of_type kind instance fs) }
+        → option_map framed.frame_form o ≡ frame_of_type kind instance fs) }
     ensures split { IfOk result (λ _. (fs : List FrameForm) × (t : ℕ) × Splits fs t bytes.now) }
     ensures err { IfErr result (λ _. (fs : List FrameForm) (t : ℕ) → Splits fs t bytes.now → ⊥) }
-    ensures first { IfErr result (IsFirst bytes.now) }
+    ensures first { IfErr result (IsFirstFrameFault bytes.now) }
 {
     let mut found = None;
     let mut left = instance;

@@ -6,8 +6,8 @@ ghost use Rattle.std.specs.List.Sorted.{IsPermutation};
 ghost use Rattle.std.specs.Ordering.{eq_by_cmp};
 ghost use Rattle.fv_base.specs.Faults.{want_of_memory};
 ghost use Rattle.fv_tree.specs.Meaning.{FileMeaning};
-ghost use Rattle.fv_tree.specs.Names.{HasNumbers, IsIndex, IsName, IsWhole, entry_cmp, halves_cmp, halves_in, halves_of, names_in, number_from};
-ghost use Rattle.fv_tree.specs.Seen.{form_of};
+ghost use Rattle.fv_tree.specs.Names.{HasNumbers, IsIndex, IsName, IsSixteenBytes, entry_cmp, halves_cmp, halves_in, halves_of, names_in, number_from};
+ghost use Rattle.fv_tree.specs.StandingForms.{file_form};
 
 use crate::alive::Standing;
 use fv_base::{Fault, Guid};
@@ -22,7 +22,7 @@ pub(crate) struct Numbers {
 // Sixteen bytes as two numbers.
 fn numbers_in(bytes: [u8; 16]) -> (u64, u64)
     ensures is { result ≡ halves_in bytes }
-    ensures whole { IsWhole bytes }
+    ensures whole { IsSixteenBytes bytes }
 {
     let mut front = [0u8; 8];
     front.copy_from_slice(&bytes[..8]);
@@ -54,7 +54,7 @@ fn sorted_keys(alloc: Global, files: &[Standing], bits: u32) -> Result<Vec<u64>,
     requires room { length files.now ≤ 2 ^ bits }
     requires bits { bits < 64 }
     ensures numbers { IfOk result (λ keys. IsPermutation (range_with_len 0 (length files.now)) (map (λ key. key % 2 ^ bits) keys.items)) }
-    ensures whole { IfOk result (λ _. AllByRecursion IsName (names_in (map form_of files.now))) }
+    ensures whole { IfOk result (λ _. AllByRecursion IsName (names_in (map file_form files.now))) }
     ensures err { IfErr result (λ f. f ≡ want_of_memory) }
 {
     let mut keys = Vec::with_capacity(alloc, files.len())?;
@@ -71,7 +71,7 @@ impl Numbers {
     // Those of these files, of which the first has the number 0.
     pub(crate) fn of(alloc: Global, files: &[Standing]) -> Result<Numbers, Fault>
         requires { length files.now < 2 ^ 32 }
-        ensures found { IfOk result (λ numbers. IsIndex (names_in (map form_of files.now)) numbers.sorted.items) }
+        ensures found { IfOk result (λ numbers. IsIndex (names_in (map file_form files.now)) numbers.sorted.items) }
         ensures err { IfErr result (λ f. f ≡ want_of_memory) }
     {
         let bits = bits_for(files.len());

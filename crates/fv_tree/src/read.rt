@@ -4,21 +4,21 @@ ghost use Rattle.std.specs.Prelude.{◌≡◌, ◌≢◌, ◌≤◌, ◌<◌, �
 ghost use Rattle.fv_base.specs.Faults.{outer_fault, want_of_memory};
 ghost use Rattle.fv_base.specs.Limits.{volume_limit};
 ghost use Rattle.fv_base.specs.declared.fault.Fault.{Fault};
-ghost use Rattle.fv_head.specs.Head.{HeadFields, Front};
+ghost use Rattle.fv_head.specs.Head.{HeadFields, BeginsVolume};
 ghost use Rattle.fv_head.specs.declared.extent.Extent.{Extent};
-ghost use Rattle.fv_section.specs.Frames.{FrameForm, head_len, size};
-ghost use Rattle.fv_section.specs.Seen as framed;
+ghost use Rattle.fv_section.specs.Frames.{FrameForm, section_header_len, frame_len};
+ghost use Rattle.fv_section.specs.FrameForms as framed;
 ghost use Rattle.fv_tree.specs.Meaning.{Meaning, FileMeaning, SectionMeaning, length_of};
 ghost use Rattle.fv_tree.specs.Files.{FileForm};
-ghost use Rattle.fv_tree.specs.Denotes.{Pairs, IsFile, IsSection, Stream, Denotes, Accepted, depth_limit, holds_sections, IsStoredFile};
+ghost use Rattle.fv_tree.specs.Denotes.{Pairs, MeansFile, MeansSection, Stream, Denotes, Accepted, depth_limit, holds_sections, IsStoredFile};
 ghost use Rattle.fv_tree.specs.Denotes.{IsStoredFrame};
-ghost use Rattle.fv_tree.specs.FirstFault.{moved, FirstInStream, FirstInVolume, SectionFirst, BodyFirst, FirstOf, FileFirst};
+ghost use Rattle.fv_tree.specs.FirstFault.{moved_fault, FirstInStream, FirstInVolume, SectionFirst, BodyFirst, FirstOf, FileFirst};
 ghost use Rattle.fv_tree.specs.FirstFault.{IsFirstOfVolume, body_place, data_place};
 ghost use Rattle.fv_tree.specs.FaultStands.{FaultStands};
-ghost use Rattle.fv_tree.specs.Body.{HasFiles, StandIn, StandFirst, AllStored, Reads};
+ghost use Rattle.fv_tree.specs.ReadingParts.{HasFiles, StandIn, StandFirst, AllStored, ReadsContent};
 ghost use Rattle.fv_tree.specs.Names.{HasNumbers, IsIndex, names_in};
 ghost use Rattle.fv_tree.specs.Views.{content_view};
-ghost use Rattle.fv_tree.specs.Seen.{form_of};
+ghost use Rattle.fv_tree.specs.StandingForms.{file_form};
 ghost use Rattle.fv_tree.specs.Shapes.{shape_of};
 
 use crate::alive::{Standing, alive_files, files_of};
@@ -40,7 +40,7 @@ const VOLUME: u8 = 0x17;
 // A fault of bytes that begin at this place.
 fn within(fault: Fault, place: Place) -> Fault
     requires { place.offset + fault.place.offset < 2 ^ 64 }
-    ensures moved { result ≢ want_of_memory → (fault ≢ want_of_memory) × (result ≡ moved place.offset place.depth fault) }
+    ensures moved { result ≢ want_of_memory → (fault ≢ want_of_memory) × (result ≡ moved_fault place.offset place.depth fault) }
     ensures kind { result.kind ≡ fault.kind }
 {
     if matches!(fault.kind, FaultKind::OutOfMemory) {
@@ -64,7 +64,7 @@ fn holds_sections(kind: u8) -> bool
 
 // How many bytes the header of a section has.
 fn head_of(extended: bool) -> u64
-    ensures { result ≡ head_len extended }
+    ensures { result ≡ section_header_len extended }
 {
     if extended { 8 } else { 4 }
 }
@@ -77,7 +77,7 @@ enum Shape {
 }
 
 fn shape_of(frame: &Frame) -> Shape
-    ensures { result ≡ shape_of (framed.form_of frame.now) }
+    ensures { result ≡ shape_of (framed.frame_form frame.now) }
 {
     if frame.kind == GROUP {
         return Shape::Group;
@@ -90,11 +90,11 @@ fn shape_of(frame: &Frame) -> Shape
 
 // Where the body of a frame begins in what was handed in, and how many levels may nest in it; none may where no level is left.
 fn deeper(frame: &Frame, place: Place, left: u8) -> Result<(Place, u8), Fault>
-    requires place { place.offset + frame.now.offset + size (framed.form_of frame.now) < 2 ^ 63 }
+    requires place { place.offset + frame.now.offset + frame_len (framed.frame_form frame.now) < 2 ^ 63 }
     requires depth { place.depth + left ≤ depth_limit }
-    ensures ok { IfOk result (λ r. (left ≡ r.1 + 1) × (r.0.offset ≡ place.offset + body_place (framed.form_of frame.now))
+    ensures ok { IfOk result (λ r. (left ≡ r.1 + 1) × (r.0.offset ≡ place.offset + body_place (framed.frame_form frame.now))
         × (r.0.depth ≡ place.depth + 1)) }
-    ensures err { IfErr result (λ f. (left ≡ 0) × (f ≡ moved place.offset place.depth (outer_fault FaultKind.Depth frame.now.offset))) }
+    ensures err { IfErr result (λ f. (left ≡ 0) × (f ≡ moved_fault place.offset place.depth (outer_fault FaultKind.Depth frame.now.offset))) }
 {
     if left == 0 {
         return Err(Fault {
@@ -125,10 +125,10 @@ fn files_in_body<'a>(
     requires first_multiple { extent.first % 8 ≡ 0 }
     requires first_within { extent.first ≤ length volume.now }
     requires length_is { extent.length ≡ length volume.now }
-    ensures found { IfOk result (λ r. StandIn extent volume.now (map form_of r.0.items)) }
-    ensures only { IfOk result (λ r. (gs : List FileForm) → StandIn extent volume.now gs → gs ≡ map form_of r.0.items) }
-    ensures stored { IfOk result (λ r. AllStored place.offset (map form_of r.0.items)) }
-    ensures numbers { IfOk result (λ r. IsIndex (names_in (map form_of r.0.items)) r.1.sorted.items) }
+    ensures found { IfOk result (λ r. StandIn extent volume.now (map file_form r.0.items)) }
+    ensures only { IfOk result (λ r. (gs : List FileForm) → StandIn extent volume.now gs → gs ≡ map file_form r.0.items) }
+    ensures stored { IfOk result (λ r. AllStored place.offset (map file_form r.0.items)) }
+    ensures numbers { IfOk result (λ r. IsIndex (names_in (map file_form r.0.items)) r.1.sorted.items) }
     ensures none { IfErr result (λ f. f ≢ want_of_memory → (gs : List FileForm) → StandIn extent volume.now gs → ⊥) }
     ensures first { IfErr result (λ e. e ≢ want_of_memory → StandFirst extent e volume.now place.offset place.depth) }
 {
@@ -158,13 +158,13 @@ fn read_section<'a>(
     place: Place,
     left: u8,
 ) -> Result<SectionView<'a>, Fault>
-    requires place { place.offset + frame.now.offset + size (framed.form_of frame.now) < 2 ^ 63 }
+    requires place { place.offset + frame.now.offset + frame_len (framed.frame_form frame.now) < 2 ^ 63 }
     requires depth { place.depth + left ≤ depth_limit }
-    requires stored { IsStoredFrame (framed.form_of frame.now) }
-    ensures found { IfOk result (λ s. IsSection left (framed.form_of frame.now) s) }
-    ensures only { IfOk result (λ s. (t : SectionMeaning) → IsSection left (framed.form_of frame.now) t → t ≡ s) }
-    ensures none { IfErr result (λ f. f ≢ want_of_memory → (t : SectionMeaning) → IsSection left (framed.form_of frame.now) t → ⊥) }
-    ensures first { IfErr result (λ f. f ≢ want_of_memory → SectionFirst left f (framed.form_of frame.now) place.offset place.depth) }
+    requires stored { IsStoredFrame (framed.frame_form frame.now) }
+    ensures found { IfOk result (λ s. MeansSection left (framed.frame_form frame.now) s) }
+    ensures only { IfOk result (λ s. (t : SectionMeaning) → MeansSection left (framed.frame_form frame.now) t → t ≡ s) }
+    ensures none { IfErr result (λ f. f ≢ want_of_memory → (t : SectionMeaning) → MeansSection left (framed.frame_form frame.now) t → ⊥) }
+    ensures first { IfErr result (λ f. f ≢ want_of_memory → SectionFirst left f (framed.frame_form frame.now) place.offset place.depth) }
 {
     let len = frame.body.len() as u32;
     let body = match shape_of(frame) {
@@ -228,12 +228,12 @@ fn read_content<'a>(
     place: Place,
     left: u8,
 ) -> Result<Content<'a>, Fault>
-    requires place { place.offset + data_place (form_of file.now) + length file.now.payload.now < 2 ^ 63 }
+    requires place { place.offset + data_place (file_form file.now) + length file.now.payload.now < 2 ^ 63 }
     requires depth { place.depth + left ≤ depth_limit }
     requires small { length file.now.payload.now ≤ volume_limit }
-    ensures found { IfOk result (λ c. Reads left (form_of file.now) (content_view c)) }
-    ensures none { IfErr result (λ f. f ≢ want_of_memory → (m : FileMeaning) → IsFile (Stream left) (form_of file.now) m → ⊥) }
-    ensures first { IfErr result (λ f. f ≢ want_of_memory → FileFirst (FirstInStream left) f (form_of file.now) place.offset place.depth) }
+    ensures found { IfOk result (λ c. ReadsContent left (file_form file.now) (content_view c)) }
+    ensures none { IfErr result (λ f. f ≢ want_of_memory → (m : FileMeaning) → MeansFile (Stream left) (file_form file.now) m → ⊥) }
+    ensures first { IfErr result (λ f. f ≢ want_of_memory → FileFirst (FirstInStream left) f (file_form file.now) place.offset place.depth) }
 {
     if !holds_sections(file.head.kind) {
         return Ok(Content::Plain(file.payload));
@@ -254,14 +254,14 @@ fn read_file<'a>(
     place: Place,
     left: u8,
 ) -> Result<FileView<'a>, Fault>
-    requires place { place.offset + data_place (form_of file.now) + length file.now.payload.now < 2 ^ 63 }
+    requires place { place.offset + data_place (file_form file.now) + length file.now.payload.now < 2 ^ 63 }
     requires depth { place.depth + left ≤ depth_limit }
-    requires stored { IsStoredFile (form_of file.now) }
+    requires stored { IsStoredFile (file_form file.now) }
     requires small { length file.now.payload.now ≤ volume_limit }
-    ensures found { IfOk result (λ m. IsFile (Stream left) (form_of file.now) m) }
-    ensures only { IfOk result (λ m. (t : FileMeaning) → IsFile (Stream left) (form_of file.now) t → t ≡ m) }
-    ensures none { IfErr result (λ f. f ≢ want_of_memory → (t : FileMeaning) → IsFile (Stream left) (form_of file.now) t → ⊥) }
-    ensures first { IfErr result (λ f. f ≢ want_of_memory → FileFirst (FirstInStream left) f (form_of file.now) place.offset place.depth) }
+    ensures found { IfOk result (λ m. MeansFile (Stream left) (file_form file.now) m) }
+    ensures only { IfOk result (λ m. (t : FileMeaning) → MeansFile (Stream left) (file_form file.now) t → t ≡ m) }
+    ensures none { IfErr result (λ f. f ≢ want_of_memory → (t : FileMeaning) → MeansFile (Stream left) (file_form file.now) t → ⊥) }
+    ensures first { IfErr result (λ f. f ≢ want_of_memory → FileFirst (FirstInStream left) f (file_form file.now) place.offset place.depth) }
 {
     let content = read_content(alloc, file, place, left)?;
     let attributes = file.head.attributes.without_large();
@@ -283,13 +283,13 @@ fn read_files<'a>(
     left: u8,
 ) -> Result<Vec<FileView<'a>>, Fault>
     requires depth { place.depth + left ≤ depth_limit }
-    requires stored { AllStored place.offset (map form_of files.now) }
-    ensures found { IfOk result (λ ms. Pairs (IsFile (Stream left)) (map form_of files.now) ms.items) }
-    ensures only { IfOk result (λ ms. (ts : List FileMeaning) → Pairs (IsFile (Stream left)) (map form_of files.now) ts → ts ≡ ms.items) }
+    requires stored { AllStored place.offset (map file_form files.now) }
+    ensures found { IfOk result (λ ms. Pairs (MeansFile (Stream left)) (map file_form files.now) ms.items) }
+    ensures only { IfOk result (λ ms. (ts : List FileMeaning) → Pairs (MeansFile (Stream left)) (map file_form files.now) ts → ts ≡ ms.items) }
     ensures none { IfErr result (λ f. f ≢ want_of_memory → (ts : List FileMeaning)
-        → Pairs (IsFile (Stream left)) (map form_of files.now) ts → ⊥) }
-    ensures first { IfErr result (λ e. e ≢ want_of_memory → FirstOf (IsFile (Stream left)) (λ f. FileFirst
-        (FirstInStream left) e f place.offset place.depth) (map form_of files.now)) }
+        → Pairs (MeansFile (Stream left)) (map file_form files.now) ts → ⊥) }
+    ensures first { IfErr result (λ e. e ≢ want_of_memory → FirstOf (MeansFile (Stream left)) (λ f. FileFirst
+        (FirstInStream left) e f place.offset place.depth) (map file_form files.now)) }
 {
     let mut views = Vec::with_capacity(alloc, files.len())?;
     for file in files {
@@ -344,7 +344,7 @@ fn read_at<'a>(
     ensures none { IfErr result (λ f. f ≢ want_of_memory → (n : ℕ) (m : Meaning) → n ≤ length bytes.now
         → Denotes left (take n bytes.now) m → ⊥) }
     ensures first { IfErr result (λ f. f ≢ want_of_memory → FirstInVolume left f bytes.now place.offset place.depth) }
-    ensures memory { IfErr result (λ f. f ≡ want_of_memory → (h : HeadFields) × (e : Extent) × Front h e bytes.now) }
+    ensures memory { IfErr result (λ f. f ≡ want_of_memory → (h : HeadFields) × (e : Extent) × BeginsVolume h e bytes.now) }
 {
     let (head, extent) = match read_head(alloc, bytes) {
         Ok(read) => read,
@@ -384,7 +384,7 @@ pub fn read_volume(alloc: Global, bytes: &[u8]) -> Result<(VolumeView<'_>, u64),
     ensures stands { IfErr result (λ f. f ≢ want_of_memory → FaultStands bytes.now f) }
 
     // Memory is wanted only where they begin with the header of a volume.
-    ensures memory { IfErr result (λ f. f ≡ want_of_memory → (h : HeadFields) × (e : Extent) × Front h e bytes.now) }
+    ensures memory { IfErr result (λ f. f ≡ want_of_memory → (h : HeadFields) × (e : Extent) × BeginsVolume h e bytes.now) }
 {
     let place = Place {
         offset: 0,

@@ -1,17 +1,17 @@
 //! Walking a stream of sections, from frame to frame.
 
 ghost use Rattle.std.specs.Prelude.{◌≡◌, ◌+◌, ◌≤◌, List, length, IfOk, IfErr};
-ghost use Rattle.fv_section.specs.FrameChecks.{IsFirst};
-ghost use Rattle.fv_section.specs.Frames.{FrameForm, Splits, size, up_to_4};
-ghost use Rattle.fv_section.specs.Seen.{form_of};
+ghost use Rattle.fv_section.specs.FrameChecks.{IsFirstFrameFault};
+ghost use Rattle.fv_section.specs.Frames.{FrameForm, Splits, frame_len, up_to_4};
+ghost use Rattle.fv_section.specs.FrameForms.{frame_form};
 
 use fv_base::Fault;
 use fv_section::{Frame, next_frame};
 
 // Where a frame of the stream ends.
 fn end_of(stream: &[u8], frame: &Frame) -> u64
-    requires { frame.now.offset + size (form_of frame.now) ≤ length stream.now }
-    ensures { result ≡ frame.now.offset + size (form_of frame.now) }
+    requires { frame.now.offset + frame_len (frame_form frame.now) ≤ length stream.now }
+    ensures { result ≡ frame.now.offset + frame_len (frame_form frame.now) }
 {
     let header = if frame.extended { 8 } else { 4 };
     frame.offset + header + frame.body.len() as u64
@@ -19,8 +19,8 @@ fn end_of(stream: &[u8], frame: &Frame) -> u64
 
 // Where the frame behind this one would stand.
 pub(crate) fn behind(stream: &[u8], frame: &Frame) -> u64
-    requires { frame.now.offset + size (form_of frame.now) ≤ length stream.now }
-    ensures { result ≡ up_to_4 (frame.now.offset + size (form_of frame.now)) }
+    requires { frame.now.offset + frame_len (frame_form frame.now) ≤ length stream.now }
+    ensures { result ≡ up_to_4 (frame.now.offset + frame_len (frame_form frame.now)) }
 {
     (end_of(stream, frame) + 3) / 4 * 4
 }
@@ -28,7 +28,7 @@ pub(crate) fn behind(stream: &[u8], frame: &Frame) -> u64
 // How many frames a stream has, and how many bytes follow the last; or its first fault. Takes no memory.
 pub(crate) fn stream_size(stream: &[u8]) -> Result<(usize, u8), Fault>
     ensures found { IfOk result (λ r. (fs : List FrameForm) × Splits fs r.1 stream.now × (length fs ≡ r.0)) }
-    ensures first { IfErr result (λ f. IsFirst stream.now f) }
+    ensures first { IfErr result (λ f. IsFirstFrameFault stream.now f) }
     ensures bound { IfErr result (λ f. f.place.offset ≤ length stream.now) }
 {
     let mut count = 0;

@@ -4,8 +4,8 @@ ghost use Rattle.std.specs.Prelude.{◌≡◌, length, option_map, option_copied
 ghost use Rattle.fv_file.specs.Attributes.{attribute_bits};
 ghost use Rattle.fv_tree.specs.Denotes.{IsMeaning, IsReadFile, IsReadSection};
 ghost use Rattle.fv_tree.specs.Meaning.{head_of, files_of};
-ghost use Rattle.fv_tree.specs.Meaning.{name_of, file_kind_of, attributes_of, content_of, plain_of, data_len_of};
-ghost use Rattle.fv_tree.specs.Meaning.{section_kind_of, is_extended, body_of, leaf_of, body_len};
+ghost use Rattle.fv_tree.specs.Meaning.{file_name_of, file_kind_of, attributes_of, content_of, plain_of, data_len_of};
+ghost use Rattle.fv_tree.specs.Meaning.{section_kind_of, section_is_extended, body_of, leaf_of, body_len};
 ghost use Rattle.fv_tree.specs.Names.{HasNumbers, number_from};
 ghost use Rattle.fv_tree.specs.Views.{body_view, content_view};
 
@@ -250,7 +250,7 @@ impl<'a> FileView<'a> {
 
     /// The name.
     pub fn name(&self) -> Guid
-        ensures name { result ≡ name_of self.now }
+        ensures name { result ≡ file_name_of self.now }
 
         // Some bytes are a file of this meaning.
         ensures read { IsReadFile self.now }
@@ -327,7 +327,7 @@ impl<'a> SectionView<'a> {
 
     /// Whether its header is extended: 8 bytes, and not 4.
     pub fn extended(&self) -> bool
-        ensures { result ≡ is_extended self.now }
+        ensures { result ≡ section_is_extended self.now }
     {
         self.extended
     }

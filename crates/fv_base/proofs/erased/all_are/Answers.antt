@@ -4,20 +4,20 @@ use Rattle.fv_base.proofs.erased.all_are.Goals as goal
 pub loop-rest-preserved : goal.loop-rest-preserved
 loop-rest-preserved c =
     all_pieces c.args.byte c.args.bytes.now c.split_at.result.0.now c.split_at.result.1.now c.loop-rest.rest.now
-    (split_is 4096 _ _ _ c.split_at.ensures.front c.split_at.ensures.back) c.loop-rest.invariant (c.is_even.ensures.0 c.if-not-is_even.false)
+    (split_is 4096 _ _ _ c.split_at.ensures.front c.split_at.ensures.back) c.loop-rest.invariant (c.is_filled.ensures.0 c.if-not-is_filled.false)
 
-pub returns-then-not-is_even-clause-all : goal.returns-then-not-is_even-clause-all
-returns-then-not-is_even-clause-all c =
-    piece_differs c.args.byte c.args.bytes.now c.split_at.result.0.now c.split_at.result.1.now c.loop-rest.rest.now c.is_even.result
-    (split_is 4096 _ _ _ c.split_at.ensures.front c.split_at.ensures.back) c.loop-rest.invariant c.is_even.ensures c.if-not-is_even.true
+pub returns-then-not-is_filled-clause-all : goal.returns-then-not-is_filled-clause-all
+returns-then-not-is_filled-clause-all c =
+    piece_differs c.args.byte c.args.bytes.now c.split_at.result.0.now c.split_at.result.1.now c.loop-rest.rest.now c.is_filled.result
+    (split_is 4096 _ _ _ c.split_at.ensures.front c.split_at.ensures.back) c.loop-rest.invariant c.is_filled.ensures c.if-not-is_filled.true
 
-pub returns-then-not-is_even-clause-test : goal.returns-then-not-is_even-clause-test
-returns-then-not-is_even-clause-test c =
+pub returns-then-not-is_filled-clause-test : goal.returns-then-not-is_filled-clause-test
+returns-then-not-is_filled-clause-test c =
     same_test _ c.args.byte c.args.bytes.now
-    (piece_differs c.args.byte c.args.bytes.now c.split_at.result.0.now c.split_at.result.1.now c.loop-rest.rest.now c.is_even.result
-    (split_is 4096 _ _ _ c.split_at.ensures.front c.split_at.ensures.back) c.loop-rest.invariant c.is_even.ensures c.if-not-is_even.true)
+    (piece_differs c.args.byte c.args.bytes.now c.split_at.result.0.now c.split_at.result.1.now c.loop-rest.rest.now c.is_filled.result
+    (split_is 4096 _ _ _ c.split_at.ensures.front c.split_at.ensures.back) c.loop-rest.invariant c.is_filled.ensures c.if-not-is_filled.true)
 
 pub returns-clause-test : goal.returns-clause-test
 returns-clause-test c =
     same_test _ c.args.byte c.args.bytes.now
-    (λ on. c.loop-rest.invariant.0 (c.is_even-2.ensures.0 on), λ all. c.is_even-2.ensures.1 (c.loop-rest.invariant.1 all))
+    (λ on. c.loop-rest.invariant.0 (c.is_filled-2.ensures.0 on), λ all. c.is_filled-2.ensures.1 (c.loop-rest.invariant.1 all))

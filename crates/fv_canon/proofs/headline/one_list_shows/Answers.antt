@@ -1,10 +1,10 @@
 use Rattle.std.proofs.Common.{ℕ, List, sym, subst}
-use Rattle.fv_canon.specs.Spans.{Shows}
+use Rattle.fv_canon.specs.Spans.{ShowsSpans}
 use Rattle.fv_canon.proofs.Paint.{shows_walk, one_image}
 use Rattle.fv_canon.proofs.headline.one_list_shows.Goals as goal
 
 pub returns : goal.returns
 returns c erased total spans bytes o = (
   λ h. one_image erased total spans bytes o h,
-  λ e. subst (λ (xs : List ℕ). Shows total erased spans xs) (sym e) (shows_walk erased total spans o),
+  λ e. subst (λ (xs : List ℕ). ShowsSpans total erased spans xs) (sym e) (shows_walk erased total spans o),
 )

@@ -2,7 +2,7 @@ use Rattle.std.proofs.Common.{◌≡◌, List, map, sym, ap, ◌∙◌, subst}
 use Rattle.std.specs.Prelude.{All}
 use Rattle.std.proofs.lemmas.List.{take_all}
 use Rattle.fv_canon.specs.Layouts.{part_of}
-use Rattle.fv_canon.specs.Starts.{IsPart}
+use Rattle.fv_canon.specs.Starts.{IsLawfulPart}
 use Rattle.fv_canon.specs.declared.place.Part.{Part}
 use Rattle.fv_tree.proofs.Laws.{files_list_back}
 use Rattle.fv_tree.specs.Meaning.{FileMeaning, files_of, head_of}
@@ -16,6 +16,6 @@ returns-clause-ok c =
     let is : c.loop-file.parts.items ≡ map part_of (files_of c.args.view.now) =
     c.loop-file.invariant ∙ ap (map part_of) (take_all c.loop-file.file-index fs c.loop-file-test.false ∙ sym are) in (
       is,
-      subst (λ (ps : List Part). All (IsPart (head_of c.args.view.now).length) ps) (sym is)
+      subst (λ (ps : List Part). All (IsLawfulPart (head_of c.args.view.now).length) ps) (sym is)
           (parts_fit c.args.view.now c.head-head.ensures.meaning),
     )

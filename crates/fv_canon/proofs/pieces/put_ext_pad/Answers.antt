@@ -3,11 +3,11 @@ use Rattle.std.specs.Prelude.{Option, None, Some, option_copied}
 use Rattle.fv_base.specs.Flash.{erased_byte}
 use Rattle.fv_base.specs.Value.{up_to_8}
 use Rattle.fv_base.specs.declared.flash.Polarity.{Polarity}
-use Rattle.fv_file.specs.Written.{pad_head_of}
+use Rattle.fv_file.specs.NewHeaders.{pad_head_of}
 use Rattle.fv_head.specs.Attributes.{polarity_of}
 use Rattle.fv_head.specs.Ext.{Extension}
 use Rattle.fv_head.specs.Head.{HeadFields, header_len_of}
-use Rattle.fv_head.specs.SpelledExt.{canonical_end, canonical_first, ext_len, ext_spelled}
+use Rattle.fv_head.specs.ExtImage.{canonical_end, canonical_first, ext_len, ext_spelled}
 use Rattle.fv_canon.specs.Stored.{ext_pad}
 use Rattle.fv_canon.proofs.pieces.put_ext_pad.Goals as goal
 

@@ -1,6 +1,6 @@
 use Rattle.std.proofs.Common.{ℕ, ◌-◌, List, replicate, subst, ◌∙◌}
 use Rattle.fv_base.specs.Flash.{erased_byte}
-use Rattle.fv_file.specs.Written.{pad_head_of}
+use Rattle.fv_file.specs.NewHeaders.{pad_head_of}
 use Rattle.fv_canon.specs.Stored.{pad_bytes}
 use Rattle.fv_canon.proofs.pieces.put_pad.Goals as goal
 

@@ -4,18 +4,18 @@ use Rattle.fv_tree.specs.Sizes.{volume_size, files_size, content_size, sections_
 use Rattle.fv_tree.specs.Views.{body_view, content_view}
 use Rattle.fv_canon.specs.Layouts.{LaysSections, LaysFiles}
 use Rattle.fv_canon.specs.Image.{starts_in_sections, starts_in_files}
-use Rattle.fv_canon.specs.Walks.{Begins}
+use Rattle.fv_canon.specs.ImageWalks.{BeginsWithStarts}
 use Rattle.fv_canon.proofs.skip.+skip.Given as goal
 
 abbrev pub invariant-skip_sections-loop-section : goal.invariant-skip_sections-loop-section
 invariant-skip_sections-loop-section l = record {
-  laid : Begins LaysSections (sections_from (drop l.section-index l.sections)) l.rest;
+  laid : BeginsWithStarts LaysSections (sections_from (drop l.section-index l.sections)) l.rest;
   left : drop (starts_in_sections (sections_from (drop l.section-index l.sections))) l.rest ≡ drop (starts_in_sections (sections_from l.sections)) l.starts;
 }
 
 abbrev pub invariant-skip_files-loop-file : goal.invariant-skip_files-loop-file
 invariant-skip_files-loop-file l = record {
-  laid : Begins LaysFiles (files_from (drop l.file-index l.files)) l.rest;
+  laid : BeginsWithStarts LaysFiles (files_from (drop l.file-index l.files)) l.rest;
   left : drop (starts_in_files (files_from (drop l.file-index l.files))) l.rest ≡ drop (starts_in_files (files_from l.files)) l.starts;
 }
 

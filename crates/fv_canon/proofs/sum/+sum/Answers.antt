@@ -1,8 +1,8 @@
 use Rattle.std.proofs.Common.{◌≡◌, ◌≤◌, ◌<◌, ◌+◌, ◌-◌, ℕ, List, ◌++◌, length, drop, replicate, sym, ap, ◌∙◌, subst, arith}
 use Rattle.std.proofs.lemmas.Grind.{common_steps}
 use Rattle.fv_section.specs.Frames.{up_to_4}
-use Rattle.fv_section.specs.Written.{section_head_of}
-use Rattle.fv_tree.specs.Meaning.{Meaning, SectionMeaning, BodyMeaning, sections_from, body_of, body_len, is_extended, section_kind_of, section_len}
+use Rattle.fv_section.specs.SectionImage.{section_head_of}
+use Rattle.fv_tree.specs.Meaning.{Meaning, SectionMeaning, BodyMeaning, sections_from, body_of, body_len, section_is_extended, section_kind_of, section_len}
 use Rattle.fv_tree.specs.Sizes.{volume_size, sections_size, body_size}
 use Rattle.fv_tree.specs.Views.{body_view}
 use Rattle.fv_tree.specs.declared.view.Body.{Body}
@@ -11,28 +11,28 @@ use Rattle.fv_canon.specs.Layouts.{LaysSections, LaysBody, LaysVolume}
 use Rattle.std.proofs.Common.{get_or}
 use Rattle.fv_base.specs.Flash.{erased_byte}
 use Rattle.fv_base.specs.Value.{up_to_8}
-use Rattle.fv_file.specs.Written.{file_head_of}
-use Rattle.fv_tree.specs.Meaning.{ContentMeaning, FileMeaning, files_from, name_of, file_kind_of, attributes_of, content_of, data_len_of}
+use Rattle.fv_file.specs.NewHeaders.{file_head_of}
+use Rattle.fv_tree.specs.Meaning.{ContentMeaning, FileMeaning, files_from, file_name_of, file_kind_of, attributes_of, content_of, data_len_of}
 use Rattle.fv_canon.specs.Image.{stored_of, stored_file, data_of, starts_in_file, starts_in_files}
 use Rattle.fv_canon.specs.Layouts.{LaysFiles}
 use Rattle.fv_canon.specs.Stored.{files_bytes, stored_bytes, gap_bytes, size_for, file_sum_for}
 use Rattle.fv_canon.specs.Placed.{ArePlaced}
 use Rattle.fv_canon.proofs.FileLaws.{file_long, stored_is, size_is, at_file, file_laid, files_left, walk_goes, file_smaller, placed_on}
-use Rattle.fv_canon.specs.Walks.{Begins, Front, sections_bytes}
+use Rattle.fv_canon.specs.ImageWalks.{BeginsWithStarts, TakesFront, sections_bytes}
 use Rattle.fv_canon.proofs.SectionLaws.{section_known, item_laid, in_body, body_laid, left_is, goes_on, front_more, front_end, section_smaller}
 use Rattle.std.proofs.Common.{take, drop-drop}
 use Rattle.fv_base.specs.declared.flash.Polarity.{Polarity}
 use Rattle.fv_head.specs.Attributes.{polarity_of}
 use Rattle.fv_head.specs.Head.{HeadFields}
-use Rattle.fv_head.specs.Spelled.{canonical_head}
-use Rattle.fv_head.specs.SpelledExt.{canonical_end, canonical_first}
+use Rattle.fv_head.specs.HeadImage.{canonical_head}
+use Rattle.fv_head.specs.ExtImage.{canonical_end, canonical_first}
 use Rattle.fv_tree.specs.Sizes.{files_size}
 use Rattle.fv_canon.specs.Image.{image_of, starts_in}
 use Rattle.fv_canon.specs.Stored.{ext_pad}
 use Rattle.fv_canon.specs.Placed.{used_by}
 use Rattle.fv_canon.proofs.VolumeWalks.{volume_is, volume_seen, volume_text, volume_left, files_same}
 use Rattle.fv_base.specs.Sinks.{WalkLaws}
-use Rattle.fv_canon.specs.SumSinks.{AddsUp, adds_by}
+use Rattle.fv_canon.specs.SumSinks.{AddsUp, adds_up_by}
 use Rattle.fv_canon.specs.declared.sum.SumSink.{SumSink}
 use Rattle.std.proofs.Common.{true, false}
 use Rattle.fv_file.specs.Attributes.{is_summed}
@@ -43,21 +43,21 @@ abbrev takes : SumSink → List ℕ → SumSink → Type 0
 takes = AddsUp (λ s. s.total)
 
 laws : WalkLaws takes
-laws = adds_by (λ s. s.total)
+laws = adds_up_by (λ s. s.total)
 
 pub sum_body-sum_sections-requires : goal.sum_body-sum_sections-requires
 sum_body-sum_sections-requires t c =
     let is : body_size (body_view c.args.body.now) ≡ sections_size (sections_from c.in-Group.sections.items) = ap (λ (b : Body). body_size (body_view b)) c.in-Group.is in
     let same : sections_size (sections_from c.as_slice.result.now) ≡ sections_size (sections_from c.in-Group.sections.items) = ap (λ (xs : List SectionMeaning). sections_size (sections_from xs)) c.as_slice.ensures.value in
-    let laid = subst (λ (b : Body). Begins LaysBody (body_view b) c.args.starts.now) c.in-Group.is c.requires.laid in
-    (omega (arith, c.decreases, is, same), subst (λ (xs : List SectionMeaning). Begins LaysSections (sections_from xs) c.args.starts.now) (sym c.as_slice.ensures.value) laid)
+    let laid = subst (λ (b : Body). BeginsWithStarts LaysBody (body_view b) c.args.starts.now) c.in-Group.is c.requires.laid in
+    (omega (arith, c.decreases, is, same), subst (λ (xs : List SectionMeaning). BeginsWithStarts LaysSections (sections_from xs) c.args.starts.now) (sym c.as_slice.ensures.value) laid)
 
 pub sum_body-sum_volume-requires : goal.sum_body-sum_volume-requires
 sum_body-sum_volume-requires t c =
     let is : body_size (body_view c.args.body.now) ≡ volume_size c.in-Nested.volume.value = ap (λ (b : Body). body_size (body_view b)) c.in-Nested.is in
-    let laid = subst (λ (b : Body). Begins LaysBody (body_view b) c.args.starts.now) c.in-Nested.is c.requires.laid in
+    let laid = subst (λ (b : Body). BeginsWithStarts LaysBody (body_view b) c.args.starts.now) c.in-Nested.is c.requires.laid in
     let size : volume_size c.deref.result.now ≡ volume_size c.in-Nested.volume.value = ap (λ (m : Meaning). volume_size m) c.deref.ensures in
-    (omega (arith, c.decreases, is, size), subst (λ (m : Meaning). Begins LaysVolume m c.args.starts.now) (sym c.deref.ensures) laid)
+    (omega (arith, c.decreases, is, size), subst (λ (m : Meaning). BeginsWithStarts LaysVolume m c.args.starts.now) (sym c.deref.ensures) laid)
 
 pub sum_sections-put_section_head-requires : goal.sum_sections-put_section_head-requires
 sum_sections-put_section_head-requires t c =
@@ -69,7 +69,7 @@ sum_sections-sum_body-rest-requires t c =
     let l = item_laid c.args.sections.now c.loop-section.section-index c.section-item.result c.loop-section.rest.now c.loop-section-test.true c.section-item.is c.loop-section.invariant.laid in
     let less = section_smaller c.args.sections.now c.loop-section.section-index c.section-item.result c.loop-section-test.true c.section-item.is in
     let same : body_size (body_view c.body.result.now) ≡ body_size (body_of c.section-item.result) = ap body_size c.body.ensures in
-    (omega (arith, c.decreases, less, same), subst (λ (b : BodyMeaning). Begins LaysBody b c.loop-section.rest.now) (sym c.body.ensures) (body_laid c.section-item.result c.loop-section.rest.now l.0))
+    (omega (arith, c.decreases, less, same), subst (λ (b : BodyMeaning). BeginsWithStarts LaysBody b c.loop-section.rest.now) (sym c.body.ensures) (body_laid c.section-item.result c.loop-section.rest.now l.0))
 
 pub sum_sections-filler_of-gap-requires : goal.sum_sections-filler_of-gap-requires
 sum_sections-filler_of-gap-requires t c =
@@ -88,12 +88,12 @@ sum_sections-loop-section-preserved t c =
     let body = subst (λ (b : BodyMeaning). takes c.put_section_head.new.out (body_image b rest) c.sum_body-rest.new.out) c.body.ensures c.sum_body-rest.ensures.bytes in
     record {
       small = few (section_len s) c.filler_of-gap.result c.filler_of-gap.ensures;
-      laid = subst (λ (xs : List ℕ). Begins LaysSections (sections_from (drop (i + 1) ss)) xs) (sym next) l.1;
+      laid = subst (λ (xs : List ℕ). BeginsWithStarts LaysSections (sections_from (drop (i + 1) ss)) xs) (sym next) l.1;
       left = ap (λ (xs : List ℕ). drop (starts_in_sections (sections_from (drop (i + 1) ss))) xs) next ∙ sym (left_is ss i s rest c.loop-section-test.true c.section-item.is) ∙ c.loop-section.invariant.left;
-      done = subst (λ (xs : List ℕ). Front takes c.args.out.now c.sum_body-rest.new.out (sections_bytes 0 (sections_from ss) c.args.starts.now) (sections_bytes c.filler_of-gap.result (sections_from (drop (i + 1) ss)) xs)) (sym next)
-          (subst (λ (n : ℕ). Front takes c.args.out.now c.sum_body-rest.new.out (sections_bytes 0 (sections_from ss) c.args.starts.now) (sections_bytes n (sections_from (drop (i + 1) ss)) (drop (starts_in_section s) rest))) (sym c.filler_of-gap.ensures)
+      done = subst (λ (xs : List ℕ). TakesFront takes c.args.out.now c.sum_body-rest.new.out (sections_bytes 0 (sections_from ss) c.args.starts.now) (sections_bytes c.filler_of-gap.result (sections_from (drop (i + 1) ss)) xs)) (sym next)
+          (subst (λ (n : ℕ). TakesFront takes c.args.out.now c.sum_body-rest.new.out (sections_bytes 0 (sections_from ss) c.args.starts.now) (sections_bytes n (sections_from (drop (i + 1) ss)) (drop (starts_in_section s) rest))) (sym c.filler_of-gap.ensures)
           (front_more takes laws c.args.out.now c.loop-section.out c.fill.new.out c.put_section_head.new.out c.sum_body-rest.new.out (sections_bytes 0 (sections_from ss) c.args.starts.now)
-          (sections_bytes c.loop-section.gap (sections_from (drop i ss)) rest) (replicate c.loop-section.gap 0) (section_head_of (section_kind_of s) (is_extended s) (body_len (body_of s))) (body_image (body_of s) rest)
+          (sections_bytes c.loop-section.gap (sections_from (drop i ss)) rest) (replicate c.loop-section.gap 0) (section_head_of (section_kind_of s) (section_is_extended s) (body_len (body_of s))) (body_image (body_of s) rest)
           (sections_bytes (up_to_4 (section_len s) - section_len s) (sections_from (drop (i + 1) ss)) (drop (starts_in_section s) rest)) c.loop-section.invariant.done
           (goes_on ss i s rest c.loop-section.gap c.loop-section-test.true c.section-item.is k) c.fill.ensures c.put_section_head.ensures body));
     }
@@ -154,10 +154,10 @@ sum_files-loop-i-preserved t c =
     let whole : List ℕ = files_bytes p total c.args.first (stored_of (files_from fs) c.args.starts.now) own in
     record {
       placed = subst (λ (n : ℕ). ArePlaced total n (drop (i + 1) fs) (drop (i + 1) own)) (sym edge) (placed_on total c.loop-i.edge f (drop (i + 1) fs) s (drop (i + 1) own) at.placed);
-      laid = subst (λ (xs : List ℕ). Begins LaysFiles (files_from (drop (i + 1) fs)) xs) (sym next) l.1;
+      laid = subst (λ (xs : List ℕ). BeginsWithStarts LaysFiles (files_from (drop (i + 1) fs)) xs) (sym next) l.1;
       left = ap (λ (xs : List ℕ). drop (starts_in_files (files_from (drop (i + 1) fs))) xs) next ∙ sym (files_left fs i f rest c.loop-i-test.true c.index-files-i.is) ∙ c.loop-i.invariant.left;
-      done = subst (λ (xs : List ℕ). Front takes c.args.out.now c.fill.new.out whole (files_bytes p total c.up_to_8-edge.result (stored_of (files_from (drop (i + 1) fs)) xs) (drop (i + 1) own))) (sym next)
-          (subst (λ (n : ℕ). Front takes c.args.out.now c.fill.new.out whole (files_bytes p total n (stored_of (files_from (drop (i + 1) fs)) (drop (starts_in_file f) rest)) (drop (i + 1) own))) (sym edge)
+      done = subst (λ (xs : List ℕ). TakesFront takes c.args.out.now c.fill.new.out whole (files_bytes p total c.up_to_8-edge.result (stored_of (files_from (drop (i + 1) fs)) xs) (drop (i + 1) own))) (sym next)
+          (subst (λ (n : ℕ). TakesFront takes c.args.out.now c.fill.new.out whole (files_bytes p total n (stored_of (files_from (drop (i + 1) fs)) (drop (starts_in_file f) rest)) (drop (i + 1) own))) (sym edge)
           (front_more takes laws c.args.out.now c.loop-i.out c.put_gap.new.out c.sum_file-rest.new.out c.fill.new.out whole
           (files_bytes p total c.loop-i.edge (stored_of (files_from (drop i fs)) rest) (drop i own)) (gap_bytes p (s - c.loop-i.edge)) (stored_bytes p (stored_file f rest))
           (replicate (up_to_8 (s + size_for (data_len_of f)) - (s + size_for (data_len_of f))) (erased_byte p))
@@ -185,7 +185,7 @@ sum_volume-sum_files-requires t c =
       omega (arith, c.decreases, falls),
       (
         subst (λ (n : ℕ). ArePlaced n c.first_edge-first.result fs c.split_at.result.0.now) (sym c.length.ensures) placed,
-        subst (λ (xs : List ℕ). Begins LaysFiles (files_from fs) xs) (sym c.split_at.ensures.back) v.inner,
+        subst (λ (xs : List ℕ). BeginsWithStarts LaysFiles (files_from fs) xs) (sym c.split_at.ensures.back) v.inner,
       ),
     )
 
@@ -231,8 +231,8 @@ sum_file-returns-clause-bytes t c =
     let is : is_summed (attributes_of c.args.file.now) ≡ false = sym (ap is_summed c.attributes.ensures) ∙ sym c.is_summed.ensures ∙ c.if-is_summed.false in
     let none = unsummed_text (attributes_of c.args.file.now) (data_of (content_of c.args.file.now) c.args.starts.now) is in
     let long = file_long c.args.file.now c.args.starts.now c.name-name.ensures.read c.requires.laid in
-    let head = file_head_of (name_of c.args.file.now) (file_kind_of c.args.file.now) (record { 0 = attributes_of c.args.file.now }) (data_len_of c.args.file.now) (file_sum_for (attributes_of c.args.file.now) (data_of (content_of c.args.file.now) c.args.starts.now)) c.args.polarity in
+    let head = file_head_of (file_name_of c.args.file.now) (file_kind_of c.args.file.now) (record { 0 = attributes_of c.args.file.now }) (data_len_of c.args.file.now) (file_sum_for (attributes_of c.args.file.now) (data_of (content_of c.args.file.now) c.args.starts.now)) c.args.polarity in
     subst (λ (xs : List ℕ). takes c.args.out.now xs c.sum_content.new.out) (sym (stored_is c.args.polarity c.args.file.now c.args.starts.now long))
     (laws.joined c.args.out.now c.put_file_head.new.out c.sum_content.new.out head (data_of (content_of c.args.file.now) c.args.starts.now)
-    (subst (λ (n : ℕ). takes c.args.out.now (file_head_of (name_of c.args.file.now) (file_kind_of c.args.file.now) (record { 0 = attributes_of c.args.file.now }) (data_len_of c.args.file.now) n c.args.polarity) c.put_file_head.new.out) none c.put_file_head.ensures)
+    (subst (λ (n : ℕ). takes c.args.out.now (file_head_of (file_name_of c.args.file.now) (file_kind_of c.args.file.now) (record { 0 = attributes_of c.args.file.now }) (data_len_of c.args.file.now) n c.args.polarity) c.put_file_head.new.out) none c.put_file_head.ensures)
     (subst (λ (x : ContentMeaning). takes c.put_file_head.new.out (data_of x c.args.starts.now) c.sum_content.new.out) c.content-2.ensures c.sum_content.ensures.bytes))

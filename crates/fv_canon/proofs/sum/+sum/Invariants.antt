@@ -4,7 +4,7 @@ use Rattle.fv_tree.specs.Sizes.{volume_size, files_size, file_size, content_size
 use Rattle.fv_tree.specs.Views.{body_view, content_view}
 use Rattle.fv_canon.specs.Layouts.{LaysSections, LaysFiles}
 use Rattle.fv_canon.specs.Image.{starts_in_sections, starts_in_files, stored_of}
-use Rattle.fv_canon.specs.Walks.{sections_bytes, Begins, Front}
+use Rattle.fv_canon.specs.ImageWalks.{sections_bytes, BeginsWithStarts, TakesFront}
 use Rattle.fv_canon.specs.Stored.{files_bytes}
 use Rattle.fv_canon.specs.Placed.{ArePlaced}
 use Rattle.fv_canon.specs.SumSinks.{AddsUp}
@@ -13,9 +13,9 @@ use Rattle.fv_canon.proofs.sum.+sum.Given as goal
 abbrev pub invariant-sum_sections-loop-section : goal.invariant-sum_sections-loop-section
 invariant-sum_sections-loop-section l = record {
   small : l.gap ≤ 3;
-  laid : Begins LaysSections (sections_from (drop l.section-index l.sections)) l.rest;
+  laid : BeginsWithStarts LaysSections (sections_from (drop l.section-index l.sections)) l.rest;
   left : drop (starts_in_sections (sections_from (drop l.section-index l.sections))) l.rest ≡ drop (starts_in_sections (sections_from l.sections)) l.starts;
-  done : Front (AddsUp (λ s. s.total)) l.initial.out l.out (sections_bytes 0 (sections_from l.sections) l.starts) (sections_bytes l.gap (sections_from (drop l.section-index l.sections)) l.rest);
+  done : TakesFront (AddsUp (λ s. s.total)) l.initial.out l.out (sections_bytes 0 (sections_from l.sections) l.starts) (sections_bytes l.gap (sections_from (drop l.section-index l.sections)) l.rest);
 }
 
 abbrev pub decreases-sum_sections : goal.decreases-sum_sections
@@ -39,8 +39,8 @@ decreases-sum_files l = 2 * files_size (files_from l.files.now) + 1
 abbrev pub invariant-sum_files-loop-i : goal.invariant-sum_files-loop-i
 invariant-sum_files-loop-i l = record {
   placed : ArePlaced l.total l.edge (drop l.i l.files) (drop l.i l.own);
-  laid : Begins LaysFiles (files_from (drop l.i l.files)) l.rest;
+  laid : BeginsWithStarts LaysFiles (files_from (drop l.i l.files)) l.rest;
   left : drop (starts_in_files (files_from (drop l.i l.files))) l.rest ≡ drop (starts_in_files (files_from l.files)) l.starts;
-  done : Front (AddsUp (λ s. s.total)) l.initial.out l.out (files_bytes l.polarity l.total l.first (stored_of (files_from l.files) l.starts) l.own)
+  done : TakesFront (AddsUp (λ s. s.total)) l.initial.out l.out (files_bytes l.polarity l.total l.first (stored_of (files_from l.files) l.starts) l.own)
       (files_bytes l.polarity l.total l.edge (stored_of (files_from (drop l.i l.files)) l.rest) (drop l.i l.own));
 }

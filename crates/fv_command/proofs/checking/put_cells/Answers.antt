@@ -1,6 +1,6 @@
 use Rattle.std.proofs.Common.{◌≤◌, ◌*◌, ℕ, List, [], length, map, take, get_or, arith, subst, sym}
 use Rattle.std.proofs.lemmas.List.{take_all}
-use Rattle.fv_file.specs.Seen.{form_of}
+use Rattle.fv_file.specs.CellForms.{cell_form}
 use Rattle.fv_file.specs.declared.cell.Cell.{Cell}
 use Rattle.fv_file.specs.declared.cell.Cell.TheVariants as cells
 use Rattle.fv_file.specs.declared.state.FileState.TheVariants as states
@@ -28,21 +28,21 @@ loop-cell-preserved g c =
     let p = c.args.polarity in
     let list : List Cell = c.args.list.now in
     let i : ℕ = c.loop-cell.cell-index in
-    let e = seen_next (pad_note p) form_of list i no_cell c.loop-cell-test.true in
+    let e = seen_next (pad_note p) cell_form list i no_cell c.loop-cell-test.true in
     record {
       text = subst (λ (t : List ℕ). g.S.Sink.takes c.args.out.now t c.put_cell.new.out) (sym e)
           (g.S.Sink.laws.joined _ _ _ _ _ c.loop-cell.invariant.text c.put_cell.ensures.text);
-      short = pads_longer _ (pad_notes p (map form_of (take i list)))
-          (pad_note p (form_of (get_or list i no_cell))) (length (take i list)) _ e
+      short = pads_longer _ (pad_notes p (map cell_form (take i list)))
+          (pad_note p (cell_form (get_or list i no_cell))) (length (take i list)) _ e
           (one_longer list i no_cell c.loop-cell-test.true) c.loop-cell.invariant.short c.put_cell.ensures.short;
     }
 
 pub returns-clause-text : goal.returns-clause-text
 returns-clause-text g c =
-    subst (λ (cs : List Cell). g.S.Sink.takes c.args.out.now (pad_notes c.args.polarity (map form_of cs)) c.loop-cell.out)
+    subst (λ (cs : List Cell). g.S.Sink.takes c.args.out.now (pad_notes c.args.polarity (map cell_form cs)) c.loop-cell.out)
     (take_all c.loop-cell.cell-index c.args.list.now c.loop-cell-test.false) c.loop-cell.invariant.text
 
 pub returns-clause-short : goal.returns-clause-short
 returns-clause-short g c =
-    subst (λ (cs : List Cell). length (pad_notes c.args.polarity (map form_of cs)) ≤ 66 * length cs)
+    subst (λ (cs : List Cell). length (pad_notes c.args.polarity (map cell_form cs)) ≤ 66 * length cs)
     (take_all c.loop-cell.cell-index c.args.list.now c.loop-cell-test.false) c.loop-cell.invariant.short

@@ -1,10 +1,10 @@
 use Rattle.std.proofs.Common.{◌≤◌, ◌*◌, length, map, take}
-use Rattle.fv_file.specs.Seen.{form_of}
+use Rattle.fv_file.specs.CellForms.{cell_form}
 use Rattle.fv_command.specs.Checks.{pad_notes}
 use Rattle.fv_command.proofs.checking.put_cells.Given as goal
 
 abbrev pub invariant-loop-cell : goal.invariant-loop-cell
 invariant-loop-cell g l = record {
-  text : g.S.Sink.takes l.initial.out (pad_notes l.polarity (map form_of (take l.cell-index l.list))) l.out;
-  short : length (pad_notes l.polarity (map form_of (take l.cell-index l.list))) ≤ 66 * length (take l.cell-index l.list);
+  text : g.S.Sink.takes l.initial.out (pad_notes l.polarity (map cell_form (take l.cell-index l.list))) l.out;
+  short : length (pad_notes l.polarity (map cell_form (take l.cell-index l.list))) ≤ 66 * length (take l.cell-index l.list);
 }

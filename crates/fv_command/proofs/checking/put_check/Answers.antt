@@ -1,5 +1,5 @@
 use Rattle.std.proofs.Common.{◌++◌, map, arith, length-append}
-use Rattle.fv_file.specs.Seen.{form_of}
+use Rattle.fv_file.specs.CellForms.{cell_form}
 use Rattle.fv_command.specs.Checks.{pad_notes, depex_lines, verdict_line}
 use Rattle.fv_command.proofs.checking.put_check.Goals as goal
 
@@ -14,7 +14,7 @@ returns-clause-short g c =
     let last = verdict_line c.args.is_same in
     omega (
       arith,
-      length-append (pad_notes c.args.polarity (map form_of c.args.list.now)) (notes ++ last),
+      length-append (pad_notes c.args.polarity (map cell_form c.args.list.now)) (notes ++ last),
       length-append notes last,
       c.put_cells.ensures.short,
       c.put_notes.ensures.short,

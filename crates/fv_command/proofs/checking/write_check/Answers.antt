@@ -4,7 +4,7 @@ use Rattle.std.proofs.lemmas.Result.{err_from_is_err_and}
 use Rattle.std.proofs.lemmas.List.{length-map}
 use Rattle.fv_base.specs.Limits.{volume_limit}
 use Rattle.fv_file.specs.Cells.{CellForm}
-use Rattle.fv_file.specs.Seen.{form_of}
+use Rattle.fv_file.specs.CellForms.{cell_form}
 use Rattle.fv_command.proofs.CheckLemmas.{check_text, notes_bound, refused_kind}
 use Rattle.fv_command.proofs.checking.write_check.Goals as goal
 
@@ -53,8 +53,8 @@ returns-in_err-notes-clause-erred g c =
 
 pub write_lines-requires : goal.write_lines-requires
 write_lines-requires g c =
-    let long : length (map form_of c.as_slice.result.now) ≡ length c.as_slice.result.now = length-map c.as_slice.result.now form_of in
-    let cells : length (map form_of c.as_slice.result.now) ≤ volume_limit =
+    let long : length (map cell_form c.as_slice.result.now) ≡ length c.as_slice.result.now = length-map c.as_slice.result.now cell_form in
+    let cells : length (map cell_form c.as_slice.result.now) ≤ volume_limit =
     subst (λ (cs : List CellForm). length cs ≤ volume_limit) (sym c.as_slice.ensures) c.in_ok-list.ensures.few in
     let notes : 4 * length c.in_ok-notes.notes.items ≤ volume_limit * volume_limit =
     notes_bound c.args.input.now c.in_ok-view.view (4 * length c.in_ok-notes.notes.items) c.in_ok-view.ensures.found
@@ -68,7 +68,7 @@ pub returns-in_err-write_lines-clause-err : goal.returns-in_err-write_lines-clau
 returns-in_err-write_lines-clause-err g c =
     let p = err_from_is_err_and c.from_residual-in_err-write_lines.result c.from_residual-in_err-write_lines.ensures.1 in
     let told = check_text c.args.input.now c.in_ok-is_same.is_same c.in_ok-view.view c.in_ok-list.polarity c.in_ok-list.list
-    (map form_of c.as_slice.result.now) c.in_ok-notes.notes.items c.as_slice-2.result.now c.in_ok-view.ensures.found
+    (map cell_form c.as_slice.result.now) c.in_ok-notes.notes.items c.as_slice-2.result.now c.in_ok-view.ensures.found
     c.in_ok-view.ensures.only c.in_ok-is_same.ensures.ok c.in_ok-list.ensures.ok c.as_slice.ensures c.in_ok-notes.ensures.ok
     c.as_slice-2.ensures.value in
     rw (p.1, p.2) (inr (c.in_ok-is_same.is_same, _, told, c.in_err-write_lines.ensures.err))
@@ -76,7 +76,7 @@ returns-in_err-write_lines-clause-err g c =
 pub returns-clause-ok : goal.returns-clause-ok
 returns-clause-ok g c =
     let told = check_text c.args.input.now c.in_ok-is_same.is_same c.in_ok-view.view c.in_ok-list.polarity c.in_ok-list.list
-    (map form_of c.as_slice.result.now) c.in_ok-notes.notes.items c.as_slice-2.result.now c.in_ok-view.ensures.found
+    (map cell_form c.as_slice.result.now) c.in_ok-notes.notes.items c.as_slice-2.result.now c.in_ok-view.ensures.found
     c.in_ok-view.ensures.only c.in_ok-is_same.ensures.ok c.in_ok-list.ensures.ok c.as_slice.ensures c.in_ok-notes.ensures.ok
     c.as_slice-2.ensures.value in
     (_, told, c.in_ok-write_lines.ensures.ok)

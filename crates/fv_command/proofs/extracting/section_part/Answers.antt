@@ -1,10 +1,10 @@
 use Rattle.std.proofs.Common.{◌≡◌, ℕ, List, Option, Some, refl, sym, subst}
 use Rattle.std.proofs.lemmas.Result.{err_from_is_err_and}
 use Rattle.fv_section.specs.Frames.{FrameForm}
-use Rattle.fv_section.specs.Seen.{form_of}
+use Rattle.fv_section.specs.FrameForms.{frame_form}
 use Rattle.fv_tree.specs.Instances.{section_of_type, frame_of_type}
 use Rattle.fv_tree.specs.Meaning.{Plain, Sectioned, SectionMeaning, SectionMeanings, content_of}
-use Rattle.fv_command.specs.Parts.{IsSection, IsFrame}
+use Rattle.fv_command.specs.Parts.{IsSectionPart, IsFramePart}
 use Rattle.fv_command.specs.declared.extracting.Extraction.TheVariants.{Made, Stored}
 use Rattle.fv_command.proofs.PartLemmas.{stops_section}
 use Rattle.fv_command.proofs.extracting.section_part.Goals as goal
@@ -18,7 +18,7 @@ returns-in_ok-body_bytes-in-Found-Section-clause-ok c =
     record {
       sections = λ ss t e.
           let p : section_of_type c.args.kind c.args.instance ss ≡ Some s = rw item at (w.sections ss t e) in
-          subst (λ (o : Option SectionMeaning). IsSection o (Made bytes)) (sym p) c.in_ok-body_bytes-in-Found-Section.ensures.body;
+          subst (λ (o : Option SectionMeaning). IsSectionPart o (Made bytes)) (sym p) c.in_ok-body_bytes-in-Found-Section.ensures.body;
       core = λ b fs t e k h. absurd (rw item at (w.core b fs t e k h));
       plain = λ b e n. let same = w.plain b e n in cc;
     }
@@ -30,8 +30,8 @@ returns-in-Found-Frame-clause-ok c =
     record {
       sections = λ ss t e. absurd (rw item at (w.sections ss t e));
       core = λ b fs t e k h.
-          let p : frame_of_type c.args.kind c.args.instance fs ≡ Some (form_of c.in-Found-Frame.frame) = rw item at (w.core b fs t e k h) in
-          subst (λ (o : Option FrameForm). IsFrame o (Stored c.in-Found-Frame.frame.body)) (sym p) refl;
+          let p : frame_of_type c.args.kind c.args.instance fs ≡ Some (frame_form c.in-Found-Frame.frame) = rw item at (w.core b fs t e k h) in
+          subst (λ (o : Option FrameForm). IsFramePart o (Stored c.in-Found-Frame.frame.body)) (sym p) refl;
       plain = λ b e n. let same = w.plain b e n in cc;
     }
 

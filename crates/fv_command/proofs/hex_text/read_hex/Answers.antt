@@ -7,7 +7,7 @@ use Rattle.fv_base.proofs.Pieces.{end_read, none_read, up_is_not_down}
 use Rattle.fv_base.specs.Limits.{volume_limit}
 use Rattle.fv_command.proofs.HexInLemmas.{both_ok, piece_count, piece_read, ran_out, refused_stops, stops_by_long_text, stops_by_reader}
 use Rattle.fv_command.specs.HexIn.{RefusesText}
-use Rattle.fv_command.specs.HexPairs.{Reads, squeezed}
+use Rattle.fv_command.specs.HexPairs.{DigitsSpell, squeezed}
 use Rattle.fv_command.proofs.hex_text.read_hex.Goals as goal
 use Rattle.fv_command.proofs.hex_text.read_hex.Goals.{in-Text+else-text_len-gt-TEXT_LIMIT+in_ok-take-in-Text, in-Interrupted}
 use Rattle.fv_command.proofs.hex_text.read_hex.Goals.{else-loop-turn-test, then-loop-turn-test+in-Failed}
@@ -16,7 +16,7 @@ pub returns-in-End-clause-read : goal.returns-in-End-clause-read
 returns-in-End-clause-read g c =
     let (text, gave, decodes, count, short, turns) = c.loop-turn.invariant.3 in
     let did = c.in-End.ensures.piece in
-    both_ok c.finish.result (λ v. Reads (squeezed text) v.items) (λ v. vec_len v ≤ volume_limit) _
+    both_ok c.finish.result (λ v. DigitsSpell (squeezed text) v.items) (λ v. vec_len v ≤ volume_limit) _
     (λ v reads few. record {
       text = text;
       gives = record { gave = end_read _ _ _ _ _ gave refl did.0; at_end = did.1 };

@@ -2,14 +2,14 @@ use Rattle.std.proofs.Common.{◌+◌, ◌*◌}
 use Rattle.fv_tree.specs.Meaning.{sections_from}
 use Rattle.fv_tree.specs.Sizes.{volume_size, content_size, sections_size, body_size}
 use Rattle.fv_tree.specs.Views.{body_view, content_view}
-use Rattle.fv_command.specs.Puts.{Puts}
+use Rattle.fv_command.specs.Puts.{PutsSome}
 use Rattle.fv_command.proofs.listing.+lines.Given as goal
 
 abbrev pub invariant-put_sections-loop-number : goal.invariant-put_sections-loop-number
-invariant-put_sections-loop-number g l = Puts g.S.Sink.takes l.initial.out l.out
+invariant-put_sections-loop-number g l = PutsSome g.S.Sink.takes l.initial.out l.out
 
 abbrev pub invariant-put_volume-loop-number : goal.invariant-put_volume-loop-number
-invariant-put_volume-loop-number g l = Puts g.S.Sink.takes l.initial.out l.out
+invariant-put_volume-loop-number g l = PutsSome g.S.Sink.takes l.initial.out l.out
 
 abbrev pub decreases-put_sections : goal.decreases-put_sections
 decreases-put_sections g l = 2 * sections_size (sections_from l.sections.now)

@@ -1,7 +1,7 @@
 use Rattle.std.proofs.Common.{List, ℕ, inl, inr, subst}
 use Rattle.std.proofs.KnownBytes.{Keeps-refl}
 use Rattle.std.proofs.lemmas.Result.{err_from_is_err_and}
-use Rattle.fv_command.specs.HexText.{Shows}
+use Rattle.fv_command.specs.HexText.{ShowsBytes}
 use Rattle.fv_command.specs.declared.status.Status.TheVariants.{Done}
 use Rattle.fv_command.proofs.RunLemmas.{fronted}
 use Rattle.fv_command.proofs.tasks.normalise_all.Goals as goal
@@ -15,7 +15,7 @@ pub returns-in_err-write_shown-clause-err : goal.returns-in_err-write_shown-clau
 returns-in_err-write_shown-clause-err g c =
     let p = err_from_is_err_and c.from_residual-in_err-write_shown.result c.from_residual-in_err-write_shown.ensures.1 in
     let e = c.in_err-write_shown.ensures in
-    let shows = subst (λ (b : List ℕ). Shows c.args.hex b e.err.0) c.as_slice.ensures e.err.1 in
+    let shows = subst (λ (b : List ℕ). ShowsBytes c.args.hex b e.err.0) c.as_slice.ensures e.err.1 in
     rw (p.1, p.2) (inr (
       Done,
       e.err.0,

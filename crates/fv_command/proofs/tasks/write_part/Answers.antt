@@ -1,6 +1,6 @@
 use Rattle.std.proofs.Common.{List, ℕ, subst, sym}
 use Rattle.std.proofs.lemmas.Result.{err_from_is_err_and}
-use Rattle.fv_command.specs.HexText.{Shows}
+use Rattle.fv_command.specs.HexText.{ShowsBytes}
 use Rattle.fv_command.specs.Tasks.{PartText}
 use Rattle.fv_command.specs.declared.extracting.Extraction.{Extraction}
 use Rattle.fv_command.specs.declared.status.Status.TheVariants.{Done}
@@ -11,7 +11,7 @@ pub returns-in_err-write_shown-in-Made-clause-err : goal.returns-in_err-write_sh
 returns-in_err-write_shown-in-Made-clause-err g c =
     let p = err_from_is_err_and c.from_residual.result c.from_residual.ensures.1 in
     let e = c.in_err-write_shown-in-Made.ensures in
-    let shows = subst (λ (b : List ℕ). Shows c.args.hex b e.err.0) c.as_slice.ensures e.err.1 in
+    let shows = subst (λ (b : List ℕ). ShowsBytes c.args.hex b e.err.0) c.as_slice.ensures e.err.1 in
     let said = subst (λ (x : Extraction). PartText c.args.hex x Done e.err.0) (sym c.in-Made.is) shows in
     rw (p.1, p.2) (Done, e.err.0, said, fronted _ _ e.err.0 _ e.kind (e.err.2, e.err.3, e.err.4) e.erred)
 

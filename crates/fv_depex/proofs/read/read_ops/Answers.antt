@@ -1,7 +1,7 @@
 use Rattle.std.proofs.Common.{◌∙◌, sym, subst, ap, arith, rules}
 use Rattle.std.proofs.lemmas.List.{take_rest}
 use Rattle.fv_base.proofs.CheckLemmas.{whatever}
-use Rattle.fv_depex.specs.Checks.{FirstStands, OpStands, want_of_memory}
+use Rattle.fv_depex.specs.Checks.{BeginsFirstOp, BeginsOp, depex_want_of_memory}
 use Rattle.fv_depex.specs.declared.fault.DepexFault.{DepexFault}
 use Rattle.fv_depex.proofs.ReadLemmas.{kept_none, kept, ended, no_want, one_more, stands_first}
 use Rattle.fv_depex.proofs.read.read_ops.Goals as goal
@@ -19,7 +19,7 @@ pub loop-op-smaller : goal.loop-op-smaller
 loop-op-smaller c =
     let b = c.args.bytes.now in
     let at = c.loop-op.at in
-    let stands = subst (λ l. OpStands c.args.phase c.loop-op.stage c.in-Ok.op l) (take_rest b at) c.in-Ok.ensures.found in
+    let stands = subst (λ l. BeginsOp c.args.phase c.loop-op.stage c.in-Ok.op l) (take_rest b at) c.in-Ok.ensures.found in
     let more = one_more c.args.phase b c.loop-op.ops.items c.in-Ok.op at c.op_len-at.result c.loop-op.stage
     c.loop-op.invariant stands c.op_len-at.ensures in
     omega (arith, more.inside, c.op_len-at.ensures)
@@ -36,6 +36,6 @@ returns-in-Err-clause-memory c = λ e.
 
 pub returns-in_err-push-clause-memory : goal.returns-in_err-push-clause-memory
 returns-in_err-push-clause-memory c =
-    whatever c.from_residual.result want_of_memory (FirstStands c.args.phase c.args.bytes.now)
+    whatever c.from_residual.result depex_want_of_memory (BeginsFirstOp c.args.phase c.args.bytes.now)
     (stands_first c.args.phase c.args.bytes.now c.loop-op.ops.items c.in-Ok.op c.loop-op.at c.loop-op.stage
     c.loop-op.invariant c.in-Ok.ensures.found)

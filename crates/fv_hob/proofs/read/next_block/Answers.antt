@@ -1,7 +1,7 @@
 use Rattle.std.proofs.Common.{sym, subst, take, rules}
 use Rattle.std.proofs.lemmas.Result.{err_from_is_err_and}
 use Rattle.fv_base.proofs.CheckLemmas.{first_is}
-use Rattle.fv_hob.specs.Checks.{BlockStands, hob_checks}
+use Rattle.fv_hob.specs.Checks.{BeginsBlock, hob_checks}
 use Rattle.fv_hob.proofs.BlockLemmas.{stands}
 use Rattle.fv_hob.proofs.read.next_block.Goals as goal
 
@@ -12,4 +12,4 @@ returns-in_err-len-clause-first c =
 
 pub returns-clause-found : goal.returns-clause-found
 returns-clause-found c =
-    subst (λ n. BlockStands c.args.first (take n c.args.rest.now) c.args.rest.now) (sym c.in_ok-len.ensures.ok.1) (stands c.args.first c.args.rest.now (search rules) c.in_ok-len.ensures.ok.0)
+    subst (λ n. BeginsBlock c.args.first (take n c.args.rest.now) c.args.rest.now) (sym c.in_ok-len.ensures.ok.1) (stands c.args.first c.args.rest.now (search rules) c.in_ok-len.ensures.ok.0)

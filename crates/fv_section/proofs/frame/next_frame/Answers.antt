@@ -1,17 +1,17 @@
 use Rattle.std.proofs.Common.{◌∙◌, sym, arith}
 use Rattle.std.proofs.lemmas.Result.{IfErr-weaker, err_from_is_err_and}
-use Rattle.fv_section.specs.Seen.{form_of}
+use Rattle.fv_section.specs.FrameForms.{frame_form}
 use Rattle.fv_section.proofs.FrameLemmas.{verdict_rest, verdict_stands, stands_verdict, verdict_first, none_stands, other_verdict}
 use Rattle.fv_section.proofs.frame.next_frame.Goals as goal
 
 pub returns-clause-found : goal.returns-clause-found
 returns-clause-found c =
-    verdict_stands c.args.at c.args.stream.now (form_of c.in_ok-frame.frame) (omega arith)
+    verdict_stands c.args.at c.args.stream.now (frame_form c.in_ok-frame.frame) (omega arith)
     (sym (verdict_rest c.args.at c.args.stream.now) ∙ c.in_ok-frame.ensures.found)
 
 pub returns-clause-only : goal.returns-clause-only
 returns-clause-only c = λ g stands.
-    other_verdict _ (form_of c.in_ok-frame.frame) g c.in_ok-frame.ensures.found
+    other_verdict _ (frame_form c.in_ok-frame.frame) g c.in_ok-frame.ensures.found
     (verdict_rest c.args.at c.args.stream.now ∙ stands_verdict c.args.at c.args.stream.now g stands)
 
 pub returns-in_err-frame-clause-first : goal.returns-in_err-frame-clause-first

@@ -1,11 +1,11 @@
 use Rattle.std.proofs.Common.{◌≡◌, ◌∙◌, sym, ap, [], ◌∷◌, ◌++◌, take, map, append-nil, rules}
 use Rattle.std.proofs.lemmas.List.{map_push}
-use Rattle.fv_file.specs.Seen as cellular
+use Rattle.fv_file.specs.CellForms as cellular
 use Rattle.fv_file.specs.declared.cell.Cell.{Cell}
 use Rattle.fv_file.specs.declared.cell.Cell.TheVariants as cells
 use Rattle.fv_file.specs.declared.state.FileState.TheVariants as states
 use Rattle.fv_tree.specs.Files.{files_in}
-use Rattle.fv_tree.specs.Seen.{form_of}
+use Rattle.fv_tree.specs.StandingForms.{file_form}
 use Rattle.fv_tree.proofs.NameLaws.{files_in_items}
 use Rattle.fv_tree.proofs.alive.files_of.Goals as goal
 
@@ -23,15 +23,15 @@ no_cell = cells.Valid 0 (record {
 
 pub loop-cell-preserved-in_default : goal.loop-cell-preserved-in_default
 loop-cell-preserved-in_default c =
-    let fs = files_in (take c.loop-cell.cell-index (map cellular.form_of c.args.cells.now)) in
-    c.loop-cell.invariant ∙ sym (files_in_items cellular.form_of c.args.cells.now c.loop-cell.cell-index no_cell c.loop-cell-test.true ∙
+    let fs = files_in (take c.loop-cell.cell-index (map cellular.cell_form c.args.cells.now)) in
+    c.loop-cell.invariant ∙ sym (files_in_items cellular.cell_form c.args.cells.now c.loop-cell.cell-index no_cell c.loop-cell-test.true ∙
     ap (λ l. fs ++ l) c.in_default.ensures.none ∙ append-nil fs)
 
 pub loop-cell-preserved : goal.loop-cell-preserved
 loop-cell-preserved c =
-    let fs = files_in (take c.loop-cell.cell-index (map cellular.form_of c.args.cells.now)) in
+    let fs = files_in (take c.loop-cell.cell-index (map cellular.cell_form c.args.cells.now)) in
     let items : c.push.new.self.items ≡ c.loop-cell.files.items ++ c.in-Some.file ∷ [] = search rules in
-    ap (map form_of) items ∙ map_push form_of c.loop-cell.files.items c.in-Some.file
-    ∙ ap (λ l. l ++ form_of c.in-Some.file ∷ []) c.loop-cell.invariant
-    ∙ sym (files_in_items cellular.form_of c.args.cells.now c.loop-cell.cell-index no_cell c.loop-cell-test.true
+    ap (map file_form) items ∙ map_push file_form c.loop-cell.files.items c.in-Some.file
+    ∙ ap (λ l. l ++ file_form c.in-Some.file ∷ []) c.loop-cell.invariant
+    ∙ sym (files_in_items cellular.cell_form c.args.cells.now c.loop-cell.cell-index no_cell c.loop-cell-test.true
     ∙ ap (λ l. fs ++ l) c.in-Some.ensures.some)

@@ -1,6 +1,6 @@
 use Rattle.std.proofs.Common.{sym, ap, ◌∙◌}
 use Rattle.std.proofs.lemmas.Result.{err_from_is_err_and}
-use Rattle.fv_tree.specs.Difference.{turned}
+use Rattle.fv_tree.specs.Difference.{outermost_first}
 use Rattle.fv_tree.proofs.DifferLaws.{one_volume}
 use Rattle.fv_tree.proofs.DifferWalks.{no_other, differ_told}
 use Rattle.fv_tree.proofs.difference.first_difference.Goals as goal
@@ -11,7 +11,7 @@ returns-in_err-found-clause-memory c =
     rw p.1 (λ same. c.in_err-found.ensures.1 (no_other c.args.a.now c.args.b.now same))
 
 pub returns-in_default-clause-same : goal.returns-in_default-clause-same
-returns-in_default-clause-same c = one_volume c.args.a.now c.args.b.now (sym c.in_ok-found.ensures ∙ ap turned c.in_default.is)
+returns-in_default-clause-same c = one_volume c.args.a.now c.args.b.now (sym c.in_ok-found.ensures ∙ ap outermost_first c.in_default.is)
 
 pub returns-clause-differ : goal.returns-clause-differ
 returns-clause-differ c = differ_told c.args.a.now c.args.b.now c.in_ok-found.field-0 c.in-Some.found c.in_ok-found.ensures c.in-Some.is

@@ -2,7 +2,7 @@ use Rattle.std.proofs.Common.{◌++◌, ◌∷◌, [], ℕ, List, refl, sym, ap,
 use Rattle.std.proofs.lemmas.Result.{err_from_is_err_and}
 use Rattle.fv_section.proofs.SplitLemmas.{stands_within, grows, first_here, none_after, whole_of}
 use Rattle.fv_section.proofs.StreamLemmas.{one_split}
-use Rattle.fv_section.specs.Seen.{form_of}
+use Rattle.fv_section.specs.FrameForms.{frame_form}
 use Rattle.fv_tree.specs.Instances.{frame_of_type}
 use Rattle.fv_tree.proofs.FrameLaws.{instance_nothing, split_more, frame_passed, frame_here, frame_on}
 use Rattle.fv_tree.proofs.lookup.frame_by_type.Goals as goal
@@ -36,7 +36,7 @@ pub loop-frame-preserved-then-frame-kind : goal.loop-frame-preserved-then-frame-
 loop-frame-preserved-then-frame-kind c =
     let b : List ℕ = c.args.bytes.now in
     let w = c.loop-frame.invariant.frames in
-    let f = form_of c.in-Some.frame in
+    let f = frame_form c.in-Some.frame in
     let u = split_more b w.0 w.1 c.loop-frame.at f c.behind-at.result w.2 c.loop-frame.invariant.even
     (rw c.in-Some.is at c.in_ok-frame.ensures.found) c.behind-at.ensures in
     let n = frame_passed c.args.kind c.args.instance w.0 c.loop-frame.left _ f c.then-frame-kind.either (w.3, w.4) in
@@ -50,7 +50,7 @@ pub loop-frame-preserved-then-left-eq0-2 : goal.loop-frame-preserved-then-left-e
 loop-frame-preserved-then-left-eq0-2 c =
     let b : List ℕ = c.args.bytes.now in
     let w = c.loop-frame.invariant.frames in
-    let f = form_of c.in-Some.frame in
+    let f = frame_form c.in-Some.frame in
     let u = split_more b w.0 w.1 c.loop-frame.at f c.behind-at.result w.2 c.loop-frame.invariant.even
     (rw c.in-Some.is at c.in_ok-frame.ensures.found) c.behind-at.ensures in
     let n = frame_here c.args.kind c.args.instance w.0 c.loop-frame.left _ f c.if-frame-kind.false c.if-left-eq0.false c.if-left-eq0-2.true
@@ -65,7 +65,7 @@ pub loop-frame-preserved : goal.loop-frame-preserved
 loop-frame-preserved c =
     let b : List ℕ = c.args.bytes.now in
     let w = c.loop-frame.invariant.frames in
-    let f = form_of c.in-Some.frame in
+    let f = frame_form c.in-Some.frame in
     let u = split_more b w.0 w.1 c.loop-frame.at f c.behind-at.result w.2 c.loop-frame.invariant.even
     (rw c.in-Some.is at c.in_ok-frame.ensures.found) c.behind-at.ensures in
     let n = frame_on c.args.kind c.args.instance w.0 c.loop-frame.left _ f c.if-frame-kind.false c.if-left-eq0.false c.if-left-eq0-2.false

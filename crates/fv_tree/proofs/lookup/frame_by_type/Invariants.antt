@@ -2,7 +2,7 @@ use Rattle.std.proofs.Common.{◌≡◌, ◌-◌, ℕ, List, length, take}
 use Rattle.std.specs.Prelude.{◌==◌, option_map}
 use Rattle.std.specs.List.{filter}
 use Rattle.fv_section.specs.Frames.{FrameForm, Splits, up_to_4}
-use Rattle.fv_section.specs.Seen.{form_of}
+use Rattle.fv_section.specs.FrameForms.{frame_form}
 use Rattle.fv_tree.specs.Instances.{frame_of_type}
 use Rattle.fv_tree.proofs.lookup.frame_by_type.Given as goal
 
@@ -11,7 +11,7 @@ invariant-loop-frame l = record {
   even : l.at ≡ up_to_4 l.at;
   frames : (fs : List FrameForm) × (t : ℕ) × Splits fs t (take l.at l.bytes)
       × (l.left ≡ l.instance - length (filter (λ f. f.kind == l.kind) fs))
-      × (option_map form_of l.found ≡ frame_of_type l.kind l.instance fs);
+      × (option_map frame_form l.found ≡ frame_of_type l.kind l.instance fs);
 }
 
 abbrev pub decreases-loop-frame : goal.decreases-loop-frame

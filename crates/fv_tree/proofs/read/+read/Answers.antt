@@ -8,18 +8,18 @@ use Rattle.fv_base.specs.declared.fault.Fault.{Fault}
 use Rattle.fv_base.proofs.Laws.{at_index, bytes_take}
 use Rattle.fv_base.specs.Value.{IsBytes}
 use Rattle.fv_file.specs.declared.state.FileState.TheVariants as states
-use Rattle.fv_head.specs.Head.{HeadFields, Front}
+use Rattle.fv_head.specs.Head.{HeadFields, BeginsVolume}
 use Rattle.fv_head.specs.HeadChecks.{head_checks}
 use Rattle.fv_head.specs.declared.extent.Extent.{Extent}
 use Rattle.fv_section.specs.Frames.{FrameForm}
-use Rattle.fv_section.specs.Seen as framed
+use Rattle.fv_section.specs.FrameForms as framed
 use Rattle.fv_section.proofs.Laws.{grows, stands_within, none_after}
-use Rattle.fv_tree.specs.Body.{IsReadyFile, AllStored}
-use Rattle.fv_tree.specs.Denotes.{Pairs, IsFile, Stream, Denotes, holds_sections}
+use Rattle.fv_tree.specs.ReadingParts.{IsReadyFile, AllStored}
+use Rattle.fv_tree.specs.Denotes.{Pairs, MeansFile, Stream, Denotes, holds_sections}
 use Rattle.fv_tree.specs.Files.{FileForm}
 use Rattle.fv_tree.specs.FirstFault.{FileFirst, FirstInStream, FirstOf}
 use Rattle.fv_tree.specs.Meaning.{Meaning, FileMeaning, Section, Group, Nested, sections_from}
-use Rattle.fv_tree.specs.Seen.{form_of}
+use Rattle.fv_tree.specs.StandingForms.{file_form}
 use Rattle.fv_tree.specs.Views.{content_view}
 use Rattle.fv_tree.specs.declared.alive.Standing.{Standing}
 use Rattle.fv_tree.proofs.BodyLaws.{body_found, body_only, body_none, files_none, stand_first, files_first}
@@ -59,32 +59,32 @@ no_file = record {
 pub read_files-loop-file-init : goal.read_files-loop-file-init
 read_files-loop-file-init t c = record {
   pairs = rw c.in_ok-views.ensures.items tt;
-  one = λ ms h. pairs_empty (IsFile (Stream c.args.left)) ms h ∙ sym c.in_ok-views.ensures.items;
+  one = λ ms h. pairs_empty (MeansFile (Stream c.args.left)) ms h ∙ sym c.in_ok-views.ensures.items;
 }
 
 pub read_files-read_file-requires : goal.read_files-read_file-requires
 read_files-read_file-requires t c =
     let i : ℕ = c.loop-file.file-index in
     let lt : i < length c.args.files.now = c.loop-file-test.true in
-    let lt' = in_items (IsFile (Stream c.args.left)) form_of c.args.files.now i no_file (map form_of c.args.files.now) refl lt in
-    let item = item_is (IsFile (Stream c.args.left)) form_of c.args.files.now i no_file (map form_of c.args.files.now) refl lt in
-    let all = subst (IsReadyFile c.args.place.offset) item (at_index (IsReadyFile c.args.place.offset) (map form_of c.args.files.now) i
-    (form_of no_file) c.requires.stored lt') in
+    let lt' = in_items (MeansFile (Stream c.args.left)) file_form c.args.files.now i no_file (map file_form c.args.files.now) refl lt in
+    let item = item_is (MeansFile (Stream c.args.left)) file_form c.args.files.now i no_file (map file_form c.args.files.now) refl lt in
+    let all = subst (IsReadyFile c.args.place.offset) item (at_index (IsReadyFile c.args.place.offset) (map file_form c.args.files.now) i
+    (file_form no_file) c.requires.stored lt') in
     (omega arith, (all.1, (c.requires.depth, (all.0, all.2))))
 
 pub read_files-returns-in_err-view-clause-none : goal.read_files-returns-in_err-view-clause-none
 read_files-returns-in_err-view-clause-none t c =
     let p = err_from_is_err_and c.from_residual-in_err-view.result c.from_residual-in_err-view.ensures.1 in
-    rw (p.1, p.2) (λ ne ts h. unread (IsFile (Stream c.args.left)) form_of c.args.files.now c.loop-file.file-index no_file
-    (map form_of c.args.files.now) refl c.loop-file-test.true
+    rw (p.1, p.2) (λ ne ts h. unread (MeansFile (Stream c.args.left)) file_form c.args.files.now c.loop-file.file-index no_file
+    (map file_form c.args.files.now) refl c.loop-file-test.true
     (c.in_err-view.ensures.none ne) ts h)
 
 pub read_files-returns-in_err-view-clause-first : goal.read_files-returns-in_err-view-clause-first
 read_files-returns-in_err-view-clause-first t c =
     let p = err_from_is_err_and c.from_residual-in_err-view.result c.from_residual-in_err-view.ensures.1 in
-    rw (p.1, p.2) (λ ne. first_refused (IsFile (Stream c.args.left)) form_of c.args.files.now c.loop-file.file-index no_file
+    rw (p.1, p.2) (λ ne. first_refused (MeansFile (Stream c.args.left)) file_form c.args.files.now c.loop-file.file-index no_file
     (λ f. FileFirst (FirstInStream c.args.left) c.in_err-view.field-0.0 f c.args.place.offset c.args.place.depth)
-    (map form_of c.args.files.now) c.loop-file.views.items refl c.loop-file-test.true
+    (map file_form c.args.files.now) c.loop-file.views.items refl c.loop-file-test.true
     c.loop-file.invariant.pairs (c.in_err-view.ensures.first ne))
 
 pub read_files-returns-in_err-push-clause-none : goal.read_files-returns-in_err-push-clause-none
@@ -96,25 +96,25 @@ pub read_files-loop-file-preserved : goal.read_files-loop-file-preserved
 read_files-loop-file-preserved t c =
     let items : c.push.new.self.items ≡ c.loop-file.views.items ++ c.in_ok-view.view ∷ [] = search rules in
     record {
-      pairs = kept_pairs (IsFile (Stream c.args.left)) form_of c.args.files.now c.loop-file.file-index no_file c.loop-file.views.items
+      pairs = kept_pairs (MeansFile (Stream c.args.left)) file_form c.args.files.now c.loop-file.file-index no_file c.loop-file.views.items
           c.push.new.self.items c.in_ok-view.view c.loop-file-test.true c.loop-file.invariant.pairs c.in_ok-view.ensures.found items;
-      one = kept_only (IsFile (Stream c.args.left)) form_of c.args.files.now c.loop-file.file-index no_file c.loop-file.views.items
+      one = kept_only (MeansFile (Stream c.args.left)) file_form c.args.files.now c.loop-file.file-index no_file c.loop-file.views.items
           c.push.new.self.items c.in_ok-view.view c.loop-file-test.true c.loop-file.invariant.one c.in_ok-view.ensures.only items;
     }
 
 pub read_files-returns-clause-found : goal.read_files-returns-clause-found
 read_files-returns-clause-found t c =
     let past : length c.args.files.now ≤ c.loop-file.file-index = omega arith in
-    let all = all_items (IsFile (Stream c.args.left)) form_of c.args.files.now c.loop-file.file-index no_file
-    (map form_of c.args.files.now) refl past in
-    subst (λ fs. Pairs (IsFile (Stream c.args.left)) fs c.loop-file.views.items) all c.loop-file.invariant.pairs
+    let all = all_items (MeansFile (Stream c.args.left)) file_form c.args.files.now c.loop-file.file-index no_file
+    (map file_form c.args.files.now) refl past in
+    subst (λ fs. Pairs (MeansFile (Stream c.args.left)) fs c.loop-file.views.items) all c.loop-file.invariant.pairs
 
 pub read_files-returns-clause-only : goal.read_files-returns-clause-only
 read_files-returns-clause-only t c =
     let past : length c.args.files.now ≤ c.loop-file.file-index = omega arith in
-    let all = all_items (IsFile (Stream c.args.left)) form_of c.args.files.now c.loop-file.file-index no_file
-    (map form_of c.args.files.now) refl past in
-    λ ts h. c.loop-file.invariant.one ts (subst (λ fs. Pairs (IsFile (Stream c.args.left)) fs ts) (sym all) h)
+    let all = all_items (MeansFile (Stream c.args.left)) file_form c.args.files.now c.loop-file.file-index no_file
+    (map file_form c.args.files.now) refl past in
+    λ ts h. c.loop-file.invariant.one ts (subst (λ fs. Pairs (MeansFile (Stream c.args.left)) fs ts) (sym all) h)
 
 -- ---- one file
 
@@ -122,7 +122,7 @@ pub read_content-returns-in_err-sections-clause-none : goal.read_content-returns
 read_content-returns-in_err-sections-clause-none t c =
     let p = err_from_is_err_and c.from_residual.result c.from_residual.ensures.1 in
     let holds : holds_sections c.args.file.now.head.kind ≡ true = sym c.holds_sections.ensures ∙ c.if-not-holds_sections.false in
-    rw (p.1, p.2) (λ ne m h. stream_bad c.args.left (form_of c.args.file.now) holds (c.in_err-sections.ensures.none ne) m h)
+    rw (p.1, p.2) (λ ne m h. stream_bad c.args.left (file_form c.args.file.now) holds (c.in_err-sections.ensures.none ne) m h)
 
 pub read_content-returns-in_err-sections-clause-first : goal.read_content-returns-in_err-sections-clause-first
 read_content-returns-in_err-sections-clause-first t c =
@@ -134,7 +134,7 @@ read_content-returns-in_err-sections-clause-first t c =
 pub read_content-returns-clause-found : goal.read_content-returns-clause-found
 read_content-returns-clause-found t c =
     let holds : holds_sections c.args.file.now.head.kind ≡ true = sym c.holds_sections.ensures ∙ c.if-not-holds_sections.false in
-    stream_reads c.args.left (form_of c.args.file.now) c.in_ok-sections.sections.items c.in_ok-sections.tail holds
+    stream_reads c.args.left (file_form c.args.file.now) c.in_ok-sections.sections.items c.in_ok-sections.tail holds
     c.in_ok-sections.ensures.found c.in_ok-sections.ensures.only
 
 pub read_file-returns-in_err-content-clause-none : goal.read_file-returns-in_err-content-clause-none
@@ -151,27 +151,27 @@ pub read_file-new-requires-clause-read : goal.read_file-new-requires-clause-read
 read_file-new-requires-clause-read t c = (
   c.args.left,
   omega arith,
-  form_of c.args.file.now,
+  file_form c.args.file.now,
   c.requires.stored,
-  file_found c.args.left (form_of c.args.file.now) c.without_large-attributes.result.0
+  file_found c.args.left (file_form c.args.file.now) c.without_large-attributes.result.0
       (content_view c.in_ok-content.content) c.without_large-attributes.ensures c.in_ok-content.ensures.found,
 )
 
 pub read_file-new-requires-clause-len : goal.read_file-new-requires-clause-len
 read_file-new-requires-clause-len t c =
-    let f : FileForm = form_of c.args.file.now in
+    let f : FileForm = file_form c.args.file.now in
     content_long c.args.left f f.head.name f.head.kind c.without_large-attributes.result.0 (content_view c.in_ok-content.content)
     (file_found c.args.left f c.without_large-attributes.result.0
     (content_view c.in_ok-content.content) c.without_large-attributes.ensures c.in_ok-content.ensures.found)
 
 pub read_file-returns-clause-found : goal.read_file-returns-clause-found
 read_file-returns-clause-found t c =
-    rw c.new.ensures (file_found c.args.left (form_of c.args.file.now) c.without_large-attributes.result.0
+    rw c.new.ensures (file_found c.args.left (file_form c.args.file.now) c.without_large-attributes.result.0
     (content_view c.in_ok-content.content) c.without_large-attributes.ensures c.in_ok-content.ensures.found)
 
 pub read_file-returns-clause-only : goal.read_file-returns-clause-only
 read_file-returns-clause-only t c = λ m h.
-    file_one c.args.left (form_of c.args.file.now) c.without_large-attributes.result.0
+    file_one c.args.left (file_form c.args.file.now) c.without_large-attributes.result.0
     (content_view c.in_ok-content.content) c.without_large-attributes.ensures c.in_ok-content.ensures.found m h ∙ sym c.new.ensures
 
 -- ---- the body of a volume
@@ -189,53 +189,53 @@ read_body-returns-in_err-files-clause-first t c =
 
 pub read_body-read_files-requires : goal.read_body-read_files-requires
 read_body-read_files-requires t c =
-    let same : map form_of c.as_slice.result.now ≡ map form_of c.in_ok-files.files.items = ap (map form_of) c.as_slice.ensures.value in
+    let same : map file_form c.as_slice.result.now ≡ map file_form c.in_ok-files.files.items = ap (map file_form) c.as_slice.ensures.value in
     (omega arith, (c.requires.depth, subst (AllStored c.args.place.offset) (sym same) c.in_ok-files.ensures.stored))
 
 pub read_body-returns-in_err-views-clause-none : goal.read_body-returns-in_err-views-clause-none
 read_body-returns-in_err-views-clause-none t c =
     let p = err_from_is_err_and c.from_residual-in_err-views.result c.from_residual-in_err-views.ensures.1 in
-    let same : map form_of c.as_slice.result.now ≡ map form_of c.in_ok-files.files.items = ap (map form_of) c.as_slice.ensures.value in
+    let same : map file_form c.as_slice.result.now ≡ map file_form c.in_ok-files.files.items = ap (map file_form) c.as_slice.ensures.value in
     let S = Stream c.args.left in
-    rw (p.1, p.2) (λ ne. body_none S c.args.extent c.args.volume.now (map form_of c.in_ok-files.files.items) c.in_ok-files.ensures.only
-    (subst (λ (fs : List FileForm). (ts : List FileMeaning) → Pairs (IsFile S) fs ts → ⊥) same (c.in_err-views.ensures.none ne)))
+    rw (p.1, p.2) (λ ne. body_none S c.args.extent c.args.volume.now (map file_form c.in_ok-files.files.items) c.in_ok-files.ensures.only
+    (subst (λ (fs : List FileForm). (ts : List FileMeaning) → Pairs (MeansFile S) fs ts → ⊥) same (c.in_err-views.ensures.none ne)))
 
 pub read_body-returns-in_err-views-clause-first : goal.read_body-returns-in_err-views-clause-first
 read_body-returns-in_err-views-clause-first t c =
     let p = err_from_is_err_and c.from_residual-in_err-views.result c.from_residual-in_err-views.ensures.1 in
-    let same : map form_of c.as_slice.result.now ≡ map form_of c.in_ok-files.files.items = ap (map form_of) c.as_slice.ensures.value in
+    let same : map file_form c.as_slice.result.now ≡ map file_form c.in_ok-files.files.items = ap (map file_form) c.as_slice.ensures.value in
     let S = Stream c.args.left in
     let I = FirstInStream c.args.left in
     let place = c.args.place in
     let e = c.in_err-views.field-0.0 in
-    rw (p.1, p.2) (λ ne. files_first S I c.args.extent c.args.volume.now place.offset place.depth (map form_of c.in_ok-files.files.items) e
+    rw (p.1, p.2) (λ ne. files_first S I c.args.extent c.args.volume.now place.offset place.depth (map file_form c.in_ok-files.files.items) e
     c.in_ok-files.ensures.found
-    (subst (λ (fs : List FileForm). FirstOf (IsFile S) (λ f. FileFirst I e f place.offset place.depth) fs) same
+    (subst (λ (fs : List FileForm). FirstOf (MeansFile S) (λ f. FileFirst I e f place.offset place.depth) fs) same
     (c.in_err-views.ensures.first ne)))
 
 pub read_body-returns-clause-found : goal.read_body-returns-clause-found
 read_body-returns-clause-found t c =
-    let same : map form_of c.as_slice.result.now ≡ map form_of c.in_ok-files.files.items = ap (map form_of) c.as_slice.ensures.value in
+    let same : map file_form c.as_slice.result.now ≡ map file_form c.in_ok-files.files.items = ap (map file_form) c.as_slice.ensures.value in
     let S = Stream c.args.left in
-    body_found S c.args.extent c.args.volume.now (map form_of c.in_ok-files.files.items) c.in_ok-views.views.items
+    body_found S c.args.extent c.args.volume.now (map file_form c.in_ok-files.files.items) c.in_ok-views.views.items
     c.in_ok-files.ensures.found
-    (subst (λ (fs : List FileForm). Pairs (IsFile S) fs c.in_ok-views.views.items) same c.in_ok-views.ensures.found)
+    (subst (λ (fs : List FileForm). Pairs (MeansFile S) fs c.in_ok-views.views.items) same c.in_ok-views.ensures.found)
 
 pub read_body-returns-clause-only : goal.read_body-returns-clause-only
 read_body-returns-clause-only t c =
-    let same : map form_of c.as_slice.result.now ≡ map form_of c.in_ok-files.files.items = ap (map form_of) c.as_slice.ensures.value in
+    let same : map file_form c.as_slice.result.now ≡ map file_form c.in_ok-files.files.items = ap (map file_form) c.as_slice.ensures.value in
     let S = Stream c.args.left in
-    body_only S c.args.extent c.args.volume.now (map form_of c.in_ok-files.files.items) c.in_ok-files.ensures.only c.in_ok-views.views.items
-    (subst (λ (fs : List FileForm). (ts : List FileMeaning) → Pairs (IsFile S) fs ts → ts ≡ c.in_ok-views.views.items) same
+    body_only S c.args.extent c.args.volume.now (map file_form c.in_ok-files.files.items) c.in_ok-files.ensures.only c.in_ok-views.views.items
+    (subst (λ (fs : List FileForm). (ts : List FileMeaning) → Pairs (MeansFile S) fs ts → ts ≡ c.in_ok-views.views.items) same
     c.in_ok-views.ensures.only)
 
 pub read_body-returns-clause-numbers : goal.read_body-returns-clause-numbers
 read_body-returns-clause-numbers t c =
-    let same : map form_of c.as_slice.result.now ≡ map form_of c.in_ok-files.files.items = ap (map form_of) c.as_slice.ensures.value in
+    let same : map file_form c.as_slice.result.now ≡ map file_form c.in_ok-files.files.items = ap (map file_form) c.as_slice.ensures.value in
     let S = Stream c.args.left in
-    let pairs = subst (λ (fs : List FileForm). Pairs (IsFile S) fs c.in_ok-views.views.items) same c.in_ok-views.ensures.found in
+    let pairs = subst (λ (fs : List FileForm). Pairs (MeansFile S) fs c.in_ok-views.views.items) same c.in_ok-views.ensures.found in
     subst (λ (ns : List Guid). IsIndex ns c.in_ok-files.numbers.sorted.items)
-    (sym (read_names S (map form_of c.in_ok-files.files.items) c.in_ok-views.views.items pairs)) c.in_ok-files.ensures.numbers
+    (sym (read_names S (map file_form c.in_ok-files.files.items) c.in_ok-views.views.items pairs)) c.in_ok-files.ensures.numbers
 
 -- ---- a volume
 
@@ -297,7 +297,7 @@ read_stream-loop-sections-preserved t c =
     record {
       even = omega (arith, c.behind-at.ensures);
       walked = walk_more c.args.left c.args.bytes.now c.loop-sections.at c.behind-at.result c.loop-sections.sections.items
-          c.push.new.self.items (framed.form_of c.in-Some.frame) c.in_ok-section.section c.loop-sections.invariant.walked
+          c.push.new.self.items (framed.frame_form c.in-Some.frame) c.in_ok-section.section c.loop-sections.invariant.walked
           c.loop-sections.invariant.even stands c.behind-at.ensures c.in_ok-section.ensures.found c.in_ok-section.ensures.only items;
     }
 
@@ -305,7 +305,7 @@ pub read_stream-read_section-requires : goal.read_stream-read_section-requires
 read_stream-read_section-requires t c =
     let stands = rw c.in-Some.is at c.in_ok-frame.ensures.found in
     let small : IsBytes c.args.bytes.now = search rules in
-    let ready = stands_ready c.args.bytes.now c.loop-sections.at (framed.form_of c.in-Some.frame) small c.requires.small stands in
+    let ready = stands_ready c.args.bytes.now c.loop-sections.at (framed.frame_form c.in-Some.frame) small c.requires.small stands in
     (omega arith, (omega (arith, ready.0, c.requires.place), (c.requires.depth, ready.1)))
 
 pub read_stream-behind-at-requires : goal.read_stream-behind-at-requires
@@ -340,7 +340,7 @@ read_stream-returns-in_err-section-clause-none t c =
     let p = err_from_is_err_and c.from_residual-in_err-section.result c.from_residual-in_err-section.ensures.1 in
     let stands = rw c.in-Some.is at c.in_ok-frame.ensures.found in
     rw (p.1, p.2) (λ ne ss tail h. walk_none c.args.left c.args.bytes.now c.loop-sections.at c.loop-sections.sections.items
-    (framed.form_of c.in-Some.frame) c.loop-sections.invariant.walked c.loop-sections.invariant.even stands
+    (framed.frame_form c.in-Some.frame) c.loop-sections.invariant.walked c.loop-sections.invariant.even stands
     (c.in_err-section.ensures.none ne) ss tail h)
 
 pub read_stream-returns-in_err-section-clause-first : goal.read_stream-returns-in_err-section-clause-first
@@ -349,7 +349,7 @@ read_stream-returns-in_err-section-clause-first t c =
     let stands = rw c.in-Some.is at c.in_ok-frame.ensures.found in
     let s = c.in-Ok.ensures.found in
     rw (p.1, p.2) (λ ne. walk_first c.args.left c.args.bytes.now c.loop-sections.at c.loop-sections.sections.items
-    (framed.form_of c.in-Some.frame) c.in_err-section.field-0.0 c.args.place.offset c.args.place.depth s.0 _
+    (framed.frame_form c.in-Some.frame) c.in_err-section.field-0.0 c.args.place.offset c.args.place.depth s.0 _
     c.loop-sections.invariant.walked c.loop-sections.invariant.even stands s.1 (c.in_err-section.ensures.first ne))
 
 pub read_stream-returns-clause-found : goal.read_stream-returns-clause-found
@@ -370,7 +370,7 @@ read_stream-returns-clause-only t c =
 
 pub read_section-returns-in_err-sections-in-Group-clause-none : goal.read_section-returns-in_err-sections-in-Group-clause-none
 read_section-returns-in_err-sections-in-Group-clause-none t c =
-    let f : FrameForm = framed.form_of c.args.frame.now in
+    let f : FrameForm = framed.frame_form c.args.frame.now in
     let p = err_from_is_err_and c.from_residual-in_err-sections-in-Group.result c.from_residual-in_err-sections-in-Group.ensures.1 in
     let group = group_shape f (sym c.shape_of.ensures ∙ c.in-Group.is) in
     rw (p.1, p.2) (λ ne s h. group_bad c.args.left c.in_ok-inside-in-Group.below f c.in_ok-inside-in-Group.ensures.ok.0 group
@@ -378,7 +378,7 @@ read_section-returns-in_err-sections-in-Group-clause-none t c =
 
 pub read_section-returns-in_err-sections-in-Group-clause-first : goal.read_section-returns-in_err-sections-in-Group-clause-first
 read_section-returns-in_err-sections-in-Group-clause-first t c =
-    let f : FrameForm = framed.form_of c.args.frame.now in
+    let f : FrameForm = framed.frame_form c.args.frame.now in
     let p = err_from_is_err_and c.from_residual-in_err-sections-in-Group.result c.from_residual-in_err-sections-in-Group.ensures.1 in
     let group = group_shape f (sym c.shape_of.ensures ∙ c.in-Group.is) in
     let ok = c.in_ok-inside-in-Group.ensures.ok in
@@ -388,7 +388,7 @@ read_section-returns-in_err-sections-in-Group-clause-first t c =
 
 pub read_section-new-requires-clause-read : goal.read_section-new-requires-clause-read
 read_section-new-requires-clause-read t c =
-    let f : FrameForm = framed.form_of c.args.frame.now in
+    let f : FrameForm = framed.frame_form c.args.frame.now in
     let group = group_shape f (sym c.shape_of.ensures ∙ c.in-Group.is) in (
       c.args.left,
       omega arith,
@@ -400,7 +400,7 @@ read_section-new-requires-clause-read t c =
 
 pub read_section-new-requires-clause-len : goal.read_section-new-requires-clause-len
 read_section-new-requires-clause-len t c =
-    let f : FrameForm = framed.form_of c.args.frame.now in
+    let f : FrameForm = framed.frame_form c.args.frame.now in
     let group = group_shape f (sym c.shape_of.ensures ∙ c.in-Group.is) in
     body_long c.args.left f f.kind (Group (sections_from c.in_ok-sections-in-Group.sections.items) c.in_ok-sections-in-Group.tail)
     (group_found c.args.left c.in_ok-inside-in-Group.below f c.in_ok-sections-in-Group.sections.items c.in_ok-sections-in-Group.tail
@@ -408,14 +408,14 @@ read_section-new-requires-clause-len t c =
 
 pub read_section-returns-in-Group-clause-found : goal.read_section-returns-in-Group-clause-found
 read_section-returns-in-Group-clause-found t c =
-    let f : FrameForm = framed.form_of c.args.frame.now in
+    let f : FrameForm = framed.frame_form c.args.frame.now in
     let group = group_shape f (sym c.shape_of.ensures ∙ c.in-Group.is) in
     rw c.new.ensures (group_found c.args.left c.in_ok-inside-in-Group.below f c.in_ok-sections-in-Group.sections.items
     c.in_ok-sections-in-Group.tail c.in_ok-inside-in-Group.ensures.ok.0 group c.in_ok-sections-in-Group.ensures.found)
 
 pub read_section-returns-in-Group-clause-only : goal.read_section-returns-in-Group-clause-only
 read_section-returns-in-Group-clause-only t c =
-    let f : FrameForm = framed.form_of c.args.frame.now in
+    let f : FrameForm = framed.frame_form c.args.frame.now in
     let group = group_shape f (sym c.shape_of.ensures ∙ c.in-Group.is) in
     λ s h. group_one c.args.left c.in_ok-inside-in-Group.below f c.in_ok-sections-in-Group.sections.items c.in_ok-sections-in-Group.tail
     c.in_ok-inside-in-Group.ensures.ok.0 group c.in_ok-sections-in-Group.ensures.only s h ∙ sym c.new.ensures
@@ -424,14 +424,14 @@ read_section-returns-in-Group-clause-only t c =
 
 pub read_section-returns-in_err-inside-in-Volume-clause-none : goal.read_section-returns-in_err-inside-in-Volume-clause-none
 read_section-returns-in_err-inside-in-Volume-clause-none t c =
-    let f : FrameForm = framed.form_of c.args.frame.now in
+    let f : FrameForm = framed.frame_form c.args.frame.now in
     let p = err_from_is_err_and c.from_residual-in_err-inside-in-Volume.result c.from_residual-in_err-inside-in-Volume.ensures.1 in
     let opened = volume_shape f (sym c.shape_of.ensures ∙ c.in-Volume.is) in
     rw (p.1, p.2) (λ ne s h. deep_bad c.args.left f c.in_err-inside-in-Volume.ensures.err.0 (inr opened) s h)
 
 pub read_section-returns-in_err-inside-in-Volume-clause-first : goal.read_section-returns-in_err-inside-in-Volume-clause-first
 read_section-returns-in_err-inside-in-Volume-clause-first t c =
-    let f : FrameForm = framed.form_of c.args.frame.now in
+    let f : FrameForm = framed.frame_form c.args.frame.now in
     let p = err_from_is_err_and c.from_residual-in_err-inside-in-Volume.result c.from_residual-in_err-inside-in-Volume.ensures.1 in
     let opened = volume_shape f (sym c.shape_of.ensures ∙ c.in-Volume.is) in
     rw (p.1, p.2) (λ ne. deep_fault c.args.left f c.in_err-inside-in-Volume.field-0.0 c.args.place.offset c.args.place.depth
@@ -439,7 +439,7 @@ read_section-returns-in_err-inside-in-Volume-clause-first t c =
 
 pub read_section-returns-in_err-volume-in-Volume-clause-none : goal.read_section-returns-in_err-volume-in-Volume-clause-none
 read_section-returns-in_err-volume-in-Volume-clause-none t c =
-    let f : FrameForm = framed.form_of c.args.frame.now in
+    let f : FrameForm = framed.frame_form c.args.frame.now in
     let p = err_from_is_err_and c.from_residual-in_err-volume-in-Volume.result c.from_residual-in_err-volume-in-Volume.ensures.1 in
     let opened = volume_shape f (sym c.shape_of.ensures ∙ c.in-Volume.is) in
     rw (p.1, p.2) (λ ne s h. nested_bad c.args.left c.in_ok-inside-in-Volume.below f c.in_ok-inside-in-Volume.ensures.ok.0 opened
@@ -447,7 +447,7 @@ read_section-returns-in_err-volume-in-Volume-clause-none t c =
 
 pub read_section-returns-in_err-volume-in-Volume-clause-first : goal.read_section-returns-in_err-volume-in-Volume-clause-first
 read_section-returns-in_err-volume-in-Volume-clause-first t c =
-    let f : FrameForm = framed.form_of c.args.frame.now in
+    let f : FrameForm = framed.frame_form c.args.frame.now in
     let p = err_from_is_err_and c.from_residual-in_err-volume-in-Volume.result c.from_residual-in_err-volume-in-Volume.ensures.1 in
     let opened = volume_shape f (sym c.shape_of.ensures ∙ c.in-Volume.is) in
     let ok = c.in_ok-inside-in-Volume.ensures.ok in
@@ -457,7 +457,7 @@ read_section-returns-in_err-volume-in-Volume-clause-first t c =
 
 pub read_section-new-requires-in-Volume-2-clause-read : goal.read_section-new-requires-in-Volume-2-clause-read
 read_section-new-requires-in-Volume-2-clause-read t c =
-    let f : FrameForm = framed.form_of c.args.frame.now in
+    let f : FrameForm = framed.frame_form c.args.frame.now in
     let opened = volume_shape f (sym c.shape_of.ensures ∙ c.in-Volume.is) in
     let same : c.in_ok-nested-in-Volume.nested.value ≡ c.in_ok-volume-in-Volume.volume = c.in_ok-nested-in-Volume.ensures.ok in
     let v : Meaning = c.in_ok-nested-in-Volume.nested.value in
@@ -475,7 +475,7 @@ read_section-new-requires-in-Volume-2-clause-read t c =
 
 pub read_section-new-requires-in-Volume-2-clause-len : goal.read_section-new-requires-in-Volume-2-clause-len
 read_section-new-requires-in-Volume-2-clause-len t c =
-    let f : FrameForm = framed.form_of c.args.frame.now in
+    let f : FrameForm = framed.frame_form c.args.frame.now in
     let opened = volume_shape f (sym c.shape_of.ensures ∙ c.in-Volume.is) in
     let same : c.in_ok-nested-in-Volume.nested.value ≡ c.in_ok-volume-in-Volume.volume = c.in_ok-nested-in-Volume.ensures.ok in
     let v : Meaning = c.in_ok-nested-in-Volume.nested.value in
@@ -488,7 +488,7 @@ read_section-new-requires-in-Volume-2-clause-len t c =
 
 pub read_section-returns-in-Volume-clause-found : goal.read_section-returns-in-Volume-clause-found
 read_section-returns-in-Volume-clause-found t c =
-    let f : FrameForm = framed.form_of c.args.frame.now in
+    let f : FrameForm = framed.frame_form c.args.frame.now in
     let opened = volume_shape f (sym c.shape_of.ensures ∙ c.in-Volume.is) in
     let same : c.in_ok-nested-in-Volume.nested.value ≡ c.in_ok-volume-in-Volume.volume = c.in_ok-nested-in-Volume.ensures.ok in
     let v : Meaning = c.in_ok-nested-in-Volume.nested.value in
@@ -501,7 +501,7 @@ read_section-returns-in-Volume-clause-found t c =
 
 pub read_section-returns-in-Volume-clause-only : goal.read_section-returns-in-Volume-clause-only
 read_section-returns-in-Volume-clause-only t c =
-    let f : FrameForm = framed.form_of c.args.frame.now in
+    let f : FrameForm = framed.frame_form c.args.frame.now in
     let opened = volume_shape f (sym c.shape_of.ensures ∙ c.in-Volume.is) in
     let same : c.in_ok-nested-in-Volume.nested.value ≡ c.in_ok-volume-in-Volume.volume = c.in_ok-nested-in-Volume.ensures.ok in
     λ s h.
@@ -513,17 +513,17 @@ read_section-returns-in-Volume-clause-only t c =
 
 pub read_section-new-requires-2-clause-read : goal.read_section-new-requires-2-clause-read
 read_section-new-requires-2-clause-read t c =
-    let f : FrameForm = framed.form_of c.args.frame.now in
+    let f : FrameForm = framed.frame_form c.args.frame.now in
     (c.args.left, omega arith, f, c.requires.stored, leaf_is c.args.left f (leaf_shape f (sym c.shape_of.ensures ∙ c.in-Leaf.is)))
 
 pub read_section-returns-clause-found : goal.read_section-returns-clause-found
 read_section-returns-clause-found t c =
-    let f : FrameForm = framed.form_of c.args.frame.now in
+    let f : FrameForm = framed.frame_form c.args.frame.now in
     rw c.new-2.ensures (leaf_is c.args.left f (leaf_shape f (sym c.shape_of.ensures ∙ c.in-Leaf.is)))
 
 pub read_section-returns-clause-only : goal.read_section-returns-clause-only
 read_section-returns-clause-only t c =
-    let f : FrameForm = framed.form_of c.args.frame.now in
+    let f : FrameForm = framed.frame_form c.args.frame.now in
     λ s h. leaf_only c.args.left f (leaf_shape f (sym c.shape_of.ensures ∙ c.in-Leaf.is)) s h ∙ sym c.new-2.ensures
 
 pub read_at-returns-in-Err-clause-first : goal.read_at-returns-in-Err-clause-first
@@ -534,7 +534,7 @@ read_at-returns-in-Err-clause-first t c = λ ne.
 pub read_at-returns-in-Err-clause-memory : goal.read_at-returns-in-Err-clause-memory
 read_at-returns-in-Err-clause-memory t c = λ want. go c.in-Err.ensures.first want where
   go : (c.in-Err.fault ≡ want_of_memory) ⊎ IsFirstFault (head_checks c.args.bytes.now) c.in-Err.fault
-      → c.within.result ≡ want_of_memory → (h : HeadFields) × (e : Extent) × Front h e c.args.bytes.now
+      → c.within.result ≡ want_of_memory → (h : HeadFields) × (e : Extent) × BeginsVolume h e c.args.bytes.now
   go (inl same) want = c.in-Err.ensures.memory same
   go (inr first) want = absurd (head_known c.args.bytes.now c.in-Err.fault first (sym c.within.ensures.kind
       ∙ ap (λ (f : Fault). f.kind) want))

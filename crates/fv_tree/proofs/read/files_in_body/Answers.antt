@@ -1,10 +1,10 @@
 use Rattle.std.proofs.Common.{◌≡◌, ◌≤◌, ◌∙◌, ℕ, List, length, drop, arith, map, sym, ap, subst, inr, rules}
 use Rattle.std.specs.List.{AllByRecursion}
 use Rattle.fv_base.specs.Value.{IsBytes}
-use Rattle.fv_file.specs.Cells.{AllWithin}
-use Rattle.fv_tree.specs.Body.{AliveFirst}
+use Rattle.fv_file.specs.Cells.{CellsWithin}
+use Rattle.fv_tree.specs.ReadingParts.{AliveFirst}
 use Rattle.fv_tree.specs.Files.{FileForm, files_in}
-use Rattle.fv_tree.specs.Seen.{form_of}
+use Rattle.fv_tree.specs.StandingForms.{file_form}
 use Rattle.std.proofs.lemmas.List.{length-drop, length-map}
 use Rattle.fv_file.proofs.Laws.{cells_few}
 use Rattle.fv_head.specs.declared.extent.Extent.{Extent}
@@ -15,9 +15,9 @@ use Rattle.fv_tree.proofs.read.files_in_body.Goals as goal
 
 pub alive_files-requires : goal.alive_files-requires
 alive_files-requires c =
-    let standing : map form_of c.in_ok-files.files.items ≡ files_in c.in-Ok.list =
+    let standing : map file_form c.in_ok-files.files.items ≡ files_in c.in-Ok.list =
     c.in_ok-files.ensures.found ∙ ap files_in c.as_slice.ensures in
-    let within = subst (λ (n : ℕ). AllWithin n c.in-Ok.list) (sym c.requires.length_is) c.in-Ok.ensures.lies in
+    let within = subst (λ (n : ℕ). CellsWithin n c.in-Ok.list) (sym c.requires.length_is) c.in-Ok.ensures.lies in
     let P : FileForm → Type 0 = λ f. f.offset ≤ c.args.extent.length in
     let e : Extent = c.args.extent in
     record {
@@ -25,7 +25,7 @@ alive_files-requires c =
       few = omega (
         arith,
         ap length standing,
-        length-map c.in_ok-files.files.items form_of,
+        length-map c.in_ok-files.files.items file_form,
         files_few c.in-Ok.list,
         cells_few e.file_system e.polarity e.first c.in-Ok.list (drop e.first c.args.volume.now) c.in-Ok.ensures.found,
         length-drop e.first c.args.volume.now,
@@ -36,16 +36,16 @@ alive_files-requires c =
 pub returns-in-Ok-alive_files-clause-stored : goal.returns-in-Ok-alive_files-clause-stored
 returns-in-Ok-alive_files-clause-stored c =
     let small : IsBytes c.args.volume.now = search rules in
-    let standing : map form_of c.in_ok-files.files.items ≡ files_in c.in-Ok.list =
+    let standing : map file_form c.in_ok-files.files.items ≡ files_in c.in-Ok.list =
     c.in_ok-files.ensures.found ∙ ap files_in c.as_slice.ensures in
-    files_stored c.args.extent c.args.volume.now c.args.place.offset c.in-Ok.list (map form_of c.in-Ok-alive_files.read.0.items) small
+    files_stored c.args.extent c.args.volume.now c.args.place.offset c.in-Ok.list (map file_form c.in-Ok-alive_files.read.0.items) small
     c.requires.small c.requires.place c.in-Ok.ensures.found c.in-Ok.ensures.lies
-    (alive_of c.args.extent.length c.in-Ok.list (map form_of c.in_ok-files.files.items) (map form_of c.in-Ok-alive_files.read.0.items)
+    (alive_of c.args.extent.length c.in-Ok.list (map file_form c.in_ok-files.files.items) (map file_form c.in-Ok-alive_files.read.0.items)
     standing c.in-Ok-alive_files.ensures.found)
 
 pub returns-in-Err-alive_files-clause-none : goal.returns-in-Err-alive_files-clause-none
 returns-in-Err-alive_files-clause-none c = λ ne gs h.
-    let standing : map form_of c.in_ok-files.files.items ≡ files_in c.in-Ok.list =
+    let standing : map file_form c.in_ok-files.files.items ≡ files_in c.in-Ok.list =
     c.in_ok-files.ensures.found ∙ ap files_in c.as_slice.ensures in
     let fault = c.in-Err-alive_files.fault in
     let w = c.within-in-Err-alive_files.ensures.moved ne in
@@ -54,7 +54,7 @@ returns-in-Err-alive_files-clause-none c = λ ne gs h.
 
 pub returns-in-Err-alive_files-clause-first : goal.returns-in-Err-alive_files-clause-first
 returns-in-Err-alive_files-clause-first c = λ ne.
-    let standing : map form_of c.in_ok-files.files.items ≡ files_in c.in-Ok.list =
+    let standing : map file_form c.in_ok-files.files.items ≡ files_in c.in-Ok.list =
     c.in_ok-files.ensures.found ∙ ap files_in c.as_slice.ensures in
     let fault = c.in-Err-alive_files.fault in
     let w = c.within-in-Err-alive_files.ensures.moved ne in

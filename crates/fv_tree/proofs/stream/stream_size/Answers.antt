@@ -2,7 +2,7 @@ use Rattle.std.proofs.Common.{◌++◌, ◌∷◌, ◌-◌, [], length, refl, ar
 use Rattle.std.proofs.lemmas.Result.{err_from_is_err_and}
 use Rattle.fv_section.proofs.Laws.{stands_within, grows, first_here, size_least, tail_small}
 use Rattle.fv_section.specs.Frames.{FrameForm}
-use Rattle.fv_section.specs.Seen.{form_of}
+use Rattle.fv_section.specs.FrameForms.{frame_form}
 use Rattle.fv_tree.proofs.StreamLaws.{split_more, counted, whole_stream}
 use Rattle.fv_tree.proofs.stream.stream_size.Goals as goal
 
@@ -13,7 +13,7 @@ pub loop-frame-preserved : goal.loop-frame-preserved
 loop-frame-preserved c =
     let stands = rw c.in-Some.is at c.in_ok-frame.ensures.found in
     let w = c.loop-frame.invariant.frames in
-    let f : FrameForm = form_of c.in-Some.frame in
+    let f : FrameForm = frame_form c.in-Some.frame in
     record {
       even = omega (arith, c.behind-at.ensures);
       frames = (

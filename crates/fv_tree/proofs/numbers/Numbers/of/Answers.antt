@@ -5,7 +5,7 @@ use Rattle.std.proofs.lemmas.List.{map_more, take_all}
 use Rattle.std.proofs.lemmas.List.Sorted.{IsPermutation-trans}
 use Rattle.std.proofs.lemmas.Nat.{one_shl}
 use Rattle.fv_tree.specs.Names.{Entry, Halves, names_in, numbered}
-use Rattle.fv_tree.specs.Seen.{form_of}
+use Rattle.fv_tree.specs.StandingForms.{file_form}
 use Rattle.fv_tree.specs.declared.alive.Standing.{Standing}
 use Rattle.fv_tree.proofs.KeyLaws.{entry_at, file_within, keyed_all}
 use Rattle.fv_tree.proofs.numbers.Numbers.of.Goals as goal
@@ -47,7 +47,7 @@ returns-clause-found c =
     let keys : List ℕ = c.deref-key-items.result.now in
     let number : ℕ → ℕ = λ key. key % 2 ^ bits in
     let f : ℕ → Entry = λ key. entry_at files (number key) in
-    let names = numbered 0 (names_in (map form_of files)) in
+    let names = numbered 0 (names_in (map file_form files)) in
     let all : IsPermutation (range_with_len 0 (length files)) (map number keys) =
     subst (λ (l : List ℕ). IsPermutation (range_with_len 0 (length files)) (map number l)) (sym c.deref-key-items.ensures.value)
     c.in_ok-keys.ensures.numbers in

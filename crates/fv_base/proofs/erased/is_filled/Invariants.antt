@@ -1,0 +1,8 @@
+use Rattle.std.proofs.Common.{◌≡◌, take}
+use Rattle.std.specs.Prelude.{◌↔◌}
+use Rattle.fv_base.specs.Erased.{AllAre}
+use Rattle.fv_base.proofs.erased.is_filled.Given as goal
+
+-- nothing differed so far
+abbrev pub invariant-loop-other : goal.invariant-loop-other
+invariant-loop-other l = (l.seen ≡ 0) ↔ AllAre l.fn.byte (take l.other-index l.fn.piece)

@@ -1,0 +1,26 @@
+-- A lent port that takes bytes: what it holds, and how many bytes it took.
+use Rattle.std.specs.Prelude.{◌≡◌, ℕ, ◌+◌, ◌%◌, ◌^◌, ◌<◌, List, length, take, Bool, true, Option}
+use Rattle.std.specs.Io.KnownBytes.{Appends}
+use Rattle.fv_base.specs.Sinks.{Latched}
+
+-- what the writer tells of its bytes, whether the port has erred, and how many bytes were taken, modulo 2 ^ 64
+pub record PortShows : Type 0 where
+  pub contents : Option (List ℕ)
+  pub erred : Bool
+  pub count : ℕ
+
+-- all of the bytes were written
+abbrev pub WritesAll : PortShows → List ℕ → PortShows → Type 0
+WritesAll s bytes t = Appends s.contents t.contents bytes × (t.count % 2 ^ 64 ≡ (s.count + length bytes) % 2 ^ 64)
+
+-- exactly a front of the bytes was written, not all of them, and the port has erred
+abbrev pub WritesFront : PortShows → List ℕ → PortShows → Type 0
+WritesFront s bytes t = (n : ℕ) × (n < length bytes) × WritesAll s (take n bytes) t × (t.erred ≡ true)
+
+-- a view of a sink, and whether it goes on
+abbrev pub LatchedWrites : PortShows → Bool → List ℕ → PortShows → Bool → Type 0
+LatchedWrites s a bytes t b = Latched WritesAll WritesFront s a bytes t b
+
+-- a sink is seen by a view of it, by whether it goes on, and by a name that it keeps
+abbrev pub SeenTakes : {S N : Type 0} (view : S → PortShows) (on : S → Bool) (name : S → N) → S → List ℕ → S → Type 0
+SeenTakes view on name s bytes t = (name t ≡ name s) × LatchedWrites (view s) (on s) bytes (view t) (on t)

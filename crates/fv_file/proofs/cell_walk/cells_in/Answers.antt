@@ -1,0 +1,69 @@
+use Rattle.std.proofs.Common.{◌≡◌, ◌+◌, ◌-◌, ◌++◌, ◌∷◌, [], length, refl, arith, rules, length-drop, sym, ◌∙◌}
+use Rattle.std.proofs.lemmas.Result.{err_from_is_err_and}
+use Rattle.fv_file.specs.declared.cell.Cell.TheVariants as forms
+use Rattle.fv_file.proofs.BodyLemmas.{kept, free_kept, stands_in, whole_kept, rest_free, rest_used, first_here}
+use Rattle.fv_file.proofs.cell_walk.cells_in.Goals as goal
+use Rattle.fv_file.proofs.cell_walk.cells_in.Goals.{then-at-body+in_ok-push-2, else-at-body}
+
+pub returns-clause-found : goal.returns-clause-found
+returns-clause-found c =
+    let free = rest_free _ c.args.body.now c.loop-system.at (sym c.is_free.ensures ∙ c.loop-system-test.false) in
+    elim c.if-at-body.branch [
+      | then-at-body+in_ok-push-2 w ↦
+          let items : w.push-then-at-body.new.self.items ≡ c.loop-system.list.items ++ forms.Free (c.args.first + c.loop-system.at) (length c.args.body.now - c.loop-system.at) ∷ [] = search rules in
+          rw (c.from_vec.ensures, w.list-is) (free_kept c.args.system c.args.polarity c.args.first c.args.body.now c.loop-system.list.items w.push-then-at-body.new.self.items (forms.Free (c.args.first + c.loop-system.at) (length c.args.body.now - c.loop-system.at)) c.loop-system.at c.loop-system.invariant (omega arith) free refl items)
+      | else-at-body w ↦ rw (c.from_vec.ensures, w.list-is) (whole_kept c.args.system c.args.polarity c.args.first c.args.body.now c.loop-system.list.items c.loop-system.at c.loop-system.invariant (omega arith))
+    ]
+
+pub returns-in_err-cell-clause-first : goal.returns-in_err-cell-clause-first
+returns-in_err-cell-clause-first c =
+    let p = err_from_is_err_and c.from_residual.result c.from_residual.ensures.1 in
+    let used = rest_used _ c.args.body.now c.loop-system.at (sym c.is_free.ensures ∙ c.loop-system-test.true) in
+    rw (p.1, p.2) (λ memory. first_here _ _ _ _ _ _ _ c.loop-system.invariant used c.in_err-cell.ensures.refused)
+
+pub returns-in_err-cell-clause-some : goal.returns-in_err-cell-clause-some
+returns-in_err-cell-clause-some c =
+    rw (err_from_is_err_and c.from_residual.result c.from_residual.ensures.1).1
+    (omega (arith, (rest_used _ c.args.body.now c.loop-system.at (sym c.is_free.ensures ∙ c.loop-system-test.true)).0))
+
+pub span_of-len-requires : goal.span_of-len-requires
+span_of-len-requires c =
+    omega (
+      arith,
+      (stands_in c.loop-system.invariant c.requires.multiple c.in_ok-cell.ensures.found).within,
+      length-drop c.loop-system.at c.args.body.now,
+      c.requires.place,
+    )
+
+pub overflow_add-at : goal.overflow_add-at
+overflow_add-at c =
+    omega (
+      arith,
+      (stands_in c.loop-system.invariant c.requires.multiple c.in_ok-cell.ensures.found).within,
+      length-drop c.loop-system.at c.args.body.now,
+      c.requires.place,
+      c.span_of-len.ensures,
+      c.loop-system.invariant.inside,
+    )
+
+pub loop-system-init : goal.loop-system-init
+loop-system-init c = rw c.new-list.ensures.items (record { tiled = refl; none_free = tt; multiple = refl; inside = omega arith })
+
+pub loop-system-smaller : goal.loop-system-smaller
+loop-system-smaller c =
+    let stands = stands_in c.loop-system.invariant c.requires.multiple c.in_ok-cell.ensures.found in
+    omega (
+      arith,
+      stands.some,
+      stands.within,
+      length-drop c.loop-system.at c.args.body.now,
+      c.span_of-len.ensures,
+      (rest_used _ c.args.body.now c.loop-system.at (sym c.is_free.ensures ∙ c.loop-system-test.true)).0,
+    )
+
+pub loop-system-preserved : goal.loop-system-preserved
+loop-system-preserved c =
+    let items : c.push.new.self.items ≡ c.loop-system.list.items ++ c.in_ok-cell.cell ∷ [] = search rules in
+    kept c.args.system c.args.polarity c.args.first c.args.body.now c.loop-system.list.items c.push.new.self.items c.in_ok-cell.cell
+    c.loop-system.at c.span_of-len.result c.loop-system.invariant
+    (stands_in c.loop-system.invariant c.requires.multiple c.in_ok-cell.ensures.found) c.span_of-len.ensures items

@@ -1,6 +1,0 @@
-use Rattle.std.proofs.Common.{rules}
-use Rattle.fv_base.proofs.FieldLemmas.{bytes_take}
-use Rattle.fv_file.proofs.spell.header_with.Goals as goal
-
-pub returns-clause-bytes : goal.returns-clause-bytes
-returns-clause-bytes c = bytes_take c.if-is_large.result c.whole_bytes.result (search rules)

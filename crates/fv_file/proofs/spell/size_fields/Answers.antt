@@ -1,6 +1,0 @@
-use Rattle.std.proofs.Common.{append-nil}
-use Rattle.fv_file.proofs.WrittenLemmas.{le_bytes_8-low_first}
-use Rattle.fv_file.proofs.spell.size_fields.Goals as goal
-
-pub returns-then-large : goal.returns-then-large
-returns-then-large c = rw (append-nil, c.if-large.true, le_bytes_8-low_first c.args.size, c.write_u64.ensures)

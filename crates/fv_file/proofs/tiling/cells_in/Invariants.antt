@@ -1,9 +1,0 @@
-use Rattle.std.proofs.Common.{◌-◌, length}
-use Rattle.fv_file.proofs.BodyLemmas.{Kept}
-use Rattle.fv_file.proofs.tiling.cells_in.Given as goal
-
-abbrev pub invariant-loop-system : goal.invariant-loop-system
-invariant-loop-system l = Kept l.fn.system l.fn.polarity l.fn.first l.fn.body l.list.items l.at
-
-abbrev pub decreases-loop-system : goal.decreases-loop-system
-decreases-loop-system l = length l.fn.body - l.at

@@ -1,0 +1,99 @@
+-- File headers as they are written (PI specification, volume 3, section 3.2.3.1).
+use Rattle.std.specs.Prelude.{◌≡◌, ℕ, ◌+◌, ◌-◌, ◌%◌, ◌<◌, nat_lt, Bool, true, false, if◌then◌else◌, List, [], ◌∷◌, ◌++◌, length, replicate, slice_index, sum}
+use Rattle.fv_base.specs.Guids.{bytes_of}
+use Rattle.fv_base.specs.Value.{IsBytes, le_bytes}
+use Rattle.fv_base.specs.declared.flash.FileSystem.{FileSystem}
+use Rattle.fv_base.specs.declared.flash.FileSystem.TheVariants.{Ffs3}
+use Rattle.fv_base.specs.declared.flash.Polarity.{Polarity}
+use Rattle.fv_base.specs.declared.flash.Polarity.TheVariants.{Ones, Zeros}
+use Rattle.fv_base.specs.declared.guid.Guid.{Guid}
+use Rattle.fv_file.specs.Attributes.{attribute_bits, is_large}
+use Rattle.fv_file.specs.Cells.{IsCell, Valid, Pad}
+use Rattle.fv_file.specs.Files.{file_header_len, pad_kind, IsFileHeader, IsSound}
+use Rattle.fv_file.specs.declared.attributes.FileAttributes.{FileAttributes}
+use Rattle.fv_file.specs.declared.head.FileHead.{FileHead}
+use Rattle.fv_file.specs.declared.state.FileState.TheVariants as states
+
+-- a file of so much data has a large header: with a short one its size would pass FFFFFF
+abbrev pub needs_large : ℕ → Bool
+needs_large data_len = nat_lt 0xffffff (24 + data_len)
+
+-- the attribute bits, of which 01 is clear, with 01 set for a large header
+abbrev pub with_large : Bool → ℕ → ℕ
+with_large large attributes = if large then attributes + 1 else attributes
+
+-- the State byte of a file that stands: the bits 01, 02 and 04 were written
+abbrev pub state_byte : Polarity → ℕ
+state_byte Ones = 0xf8
+state_byte Zeros = 0x07
+
+-- the name, the type and the file sum of a pad
+abbrev pub pad_name : List ℕ
+pad_name = replicate 16 0xff
+
+abbrev pub fixed_checksum : ℕ
+fixed_checksum = 0xaa
+
+-- the fields of a file with data valid, and of a pad; the header sum is left to be found
+abbrev pub fields_of : List ℕ → ℕ → ℕ → ℕ → Bool → ℕ → ℕ → FileHead
+fields_of name kind attributes size large header_sum file_sum = record {
+  name = record { bytes = name };
+  kind = kind;
+  attributes = record { 0 = attributes };
+  size = size;
+  header_len = file_header_len large;
+  header_sum = header_sum;
+  file_sum = file_sum;
+  state = states.DataValid;
+}
+
+abbrev pub file_fields : Guid → ℕ → FileAttributes → ℕ → ℕ → ℕ → FileHead
+file_fields name kind attributes data_len file_sum header_sum =
+    fields_of (bytes_of name) kind (with_large (needs_large data_len) (attribute_bits attributes))
+    (file_header_len (needs_large data_len) + data_len) (needs_large data_len) header_sum file_sum
+
+abbrev pub pad_fields : ℕ → ℕ → FileHead
+pad_fields size header_sum = fields_of pad_name pad_kind 0 size false header_sum fixed_checksum
+
+-- the bytes h are the header of these fields, in each file system that has such headers, with the State byte of a new file
+pub record IsNewHeader (polarity : Polarity) (head : FileHead) (h : List ℕ) : Type 0 where
+  pub header : (system : FileSystem) → (is_large (attribute_bits head.attributes) ≡ true → system ≡ Ffs3) → IsFileHeader system polarity head h
+  pub state : slice_index h 23 ≡ state_byte polarity
+  pub bytes : IsBytes h
+
+-- what makes a number a multiple of 256
+abbrev pub complement : ℕ → ℕ
+complement n = (256 - n % 256) % 256
+
+-- a header with these two sums, by its bytes in their order: Size is zero in a large one, whose size stands behind State
+abbrev pub header_with : ℕ → ℕ → List ℕ → ℕ → ℕ → ℕ → Bool → ℕ → List ℕ
+header_with header_sum file_sum name kind attributes size large state =
+    name ++ (header_sum ∷ file_sum ∷ kind ∷ attributes ∷ [])
+    ++ (if large then le_bytes 3 0 else le_bytes 3 size) ++ (state ∷ []) ++ (if large then le_bytes 8 size else [])
+
+-- the header with its right sum, for which file sum and State count as zero
+unfoldable pub header_bytes : ℕ → List ℕ → ℕ → ℕ → ℕ → Bool → ℕ → List ℕ
+header_bytes file_sum name kind attributes size large state =
+    header_with (complement (sum (header_with 0 0 name kind attributes size large 0))) file_sum name kind attributes size large state
+
+-- the bytes of the header of a file with data valid, and of that of a pad
+abbrev pub file_head_of : Guid → ℕ → FileAttributes → ℕ → ℕ → Polarity → List ℕ
+file_head_of name kind attributes data_len file_sum polarity =
+    header_bytes file_sum (bytes_of name) kind (with_large (needs_large data_len) (attribute_bits attributes))
+    (file_header_len (needs_large data_len) + data_len) (needs_large data_len) (state_byte polarity)
+
+abbrev pub pad_head_of : ℕ → Polarity → List ℕ
+pad_head_of size polarity = header_bytes fixed_checksum pad_name pad_kind 0 size false (state_byte polarity)
+
+-- behind the header, the data and less than 8 bytes to the next multiple of 8 make it a file that stands
+abbrev pub IsHeadOfFile : Polarity → FileHead → List ℕ → Type 0
+IsHeadOfFile polarity head h =
+    (system : FileSystem) (at : ℕ) (payload filler : List ℕ) → (is_large (attribute_bits head.attributes) ≡ true → system ≡ Ffs3)
+    → head.size ≡ length h + length payload → IsSound head payload → length filler < 8 → (head.size + length filler) % 8 ≡ 0
+    → IsCell system polarity (Valid at head payload) (h ++ (payload ++ filler))
+
+-- behind the header, so many bytes and less than 8 to the next multiple of 8 make it a pad
+abbrev pub IsHeadOfPad : Polarity → FileHead → List ℕ → Type 0
+IsHeadOfPad polarity head h =
+    (system : FileSystem) (at : ℕ) (payload filler : List ℕ) → head.size ≡ length h + length payload → length filler < 8
+    → (head.size + length filler) % 8 ≡ 0 → IsCell system polarity (Pad at head payload) (h ++ (payload ++ filler))

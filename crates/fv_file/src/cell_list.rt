@@ -1,0 +1,39 @@
+//! A list of cells.
+
+ghost use Rattle.std.specs.Prelude.{◌≡◌, map};
+ghost use Rattle.fv_file.specs.CellForms.{cell_form};
+
+use crate::cell::Cell;
+use std::marker::Model;
+
+/// The cells of a body, in their order.
+#[derive(Drop)]
+pub struct Cells<'a> {
+    list: Vec<Cell<'a>>,
+}
+
+impl<'a> Model for Cells<'a> {
+    ghost use Rattle.std.specs.Prelude.{List, map};
+    ghost use Rattle.fv_file.specs.Cells.{CellForm};
+    ghost use Rattle.fv_file.specs.CellForms.{cell_form};
+
+    ghost Value = { List CellForm };
+
+    ghost view = { λ c. map cell_form c.list.items };
+}
+
+impl<'a> Cells<'a> {
+    // The cells of a vector. Takes no memory.
+    pub(crate) fn from_vec(list: Vec<Cell<'a>>) -> Cells<'a>
+        ensures { result ≡ map cell_form list.entry.items }
+    {
+        Cells { list }
+    }
+
+    /// The cells in their order.
+    pub fn as_slice(&self) -> &[Cell<'a>]
+        ensures { map cell_form result.now ≡ self.now }
+    {
+        self.list.as_slice()
+    }
+}

@@ -1,0 +1,184 @@
+//! The body of a volume, cut into cells.
+
+ghost use Rattle.std.specs.Prelude.{◌≡◌, ◌≢◌, ◌+◌, ◌<◌, ◌≤◌, ◌%◌, ◌^◌, List, length, drop, Ok, Err, IfOk, IfErr};
+ghost use Rattle.fv_base.specs.Erased.{all_are};
+ghost use Rattle.fv_base.specs.Faults.{outer_fault, want_of_memory};
+ghost use Rattle.fv_base.specs.Flash.{erased_byte};
+ghost use Rattle.fv_file.specs.Cells.{CellForm, CellsWithin, Tiles, cell_len};
+ghost use Rattle.fv_file.specs.FileChecks.{IsFirstCellFault, leading_count};
+ghost use Rattle.fv_file.specs.CellVerdicts.{cell_verdict};
+ghost use Rattle.fv_file.specs.CellForms.{cell_form};
+
+use crate::cell::Cell;
+use crate::cell_list::Cells;
+use crate::head::{PAD, file_at, header_len_at};
+use crate::layout::{HEADER_LEN, SIZE_OFFSET, STATE_OFFSET};
+use crate::leading::leading_count;
+use crate::state::{FileState, file_state};
+use fv_base::field::up_to_8;
+use fv_base::{Fault, FaultKind, FileSystem, Polarity, all_are, check};
+use std::alloc::Global;
+
+// Whether a free cell stands here: all that is left is erased. All of it is looked at only where
+// fewer than 24 bytes are left or `State` is erased. If it is not free there, cell_at
+// refuses it, so that a body is looked through once at most.
+fn is_free(rest: &[u8], polarity: Polarity) -> bool
+    ensures { result ≡ all_are (erased_byte polarity) rest.now }
+{
+    let erased = polarity.erased();
+    (rest.len() < HEADER_LEN || rest[STATE_OFFSET] == erased) && all_are(rest, erased)
+}
+
+// The fault of bytes that are no cell and not all erased.
+fn stray(rest: &[u8], at: u64, polarity: Polarity) -> Fault
+    requires { at + length rest.now < 2 ^ 63 }
+    ensures is { result ≡ outer_fault FaultKind.FreeSpace (at + leading_count (erased_byte polarity) rest.now) }
+    ensures bound { result.place.offset ≤ at + length rest.now }
+{
+    Fault::outer(
+        FaultKind::FreeSpace,
+        at + leading_count(rest, polarity.erased()) as u64,
+    )
+}
+
+// The cell at `at`, which is not a free one, or the first fault there.
+fn cell_at<'a>(
+    rest: &'a [u8],
+    at: u64,
+    system: FileSystem,
+    polarity: Polarity,
+) -> Result<Cell<'a>, Fault>
+    requires place { at + length rest.now < 2 ^ 63 }
+    ensures found { IfOk result (λ c. cell_verdict system polarity at rest.now ≡ Ok (cell_form c)) }
+    ensures refused { IfErr result (λ f. cell_verdict system polarity at rest.now ≡ Err f) }
+    ensures bound { IfErr result (λ f. f.place.offset ≤ at + length rest.now) }
+{
+    if rest.len() < HEADER_LEN {
+        return Err(stray(rest, at, polarity));
+    }
+    let Some(state) = file_state(rest[STATE_OFFSET], polarity) else {
+        return Err(Fault::outer(FaultKind::FileState, at + STATE_OFFSET as u64));
+    };
+    match state {
+        FileState::Free => Err(stray(rest, at, polarity)),
+        FileState::Construction | FileState::HeaderInvalid => {
+            let len = header_len_at(rest);
+            let size = at + SIZE_OFFSET as u64;
+            check(len <= rest.len(), FaultKind::FileSize, size)?;
+            Ok(Cell::Stub {
+                offset: at,
+                len: len as u64,
+            })
+        }
+        FileState::HeaderValid | FileState::Deleted => {
+            let head = file_at(rest, at, system, state)?;
+            Ok(Cell::Dead {
+                offset: at,
+                len: up_to_8(head.size),
+            })
+        }
+        FileState::DataValid | FileState::Marked => {
+            let head = file_at(rest, at, system, state)?;
+            let payload = &rest[head.header_len as usize..head.size as usize];
+            if head.kind == PAD {
+                Ok(Cell::Pad {
+                    offset: at,
+                    head,
+                    payload,
+                })
+            } else {
+                Ok(Cell::Valid {
+                    offset: at,
+                    head,
+                    payload,
+                })
+            }
+        }
+    }
+}
+
+// How many bytes a cell has, filler counted.
+fn span_of(cell: &Cell) -> u64
+    requires { cell_len (cell_form cell.now) < 2 ^ 64 }
+    ensures { result ≡ cell_len (cell_form cell.now) }
+{
+    match cell {
+        Cell::Valid { head, .. } | Cell::Pad { head, .. } => up_to_8(head.size),
+        Cell::Dead { len, .. } | Cell::Stub { len, .. } | Cell::Free { len, .. } => *len,
+    }
+}
+
+// The cells of a body that begins at `first` of its volume.
+fn cells_in(
+    alloc: Global,
+    body: &[u8],
+    first: u64,
+    system: FileSystem,
+    polarity: Polarity,
+) -> Result<Cells<'_>, Fault>
+    requires multiple { length body.now % 8 ≡ 0 }
+    requires place { first + length body.now < 2 ^ 63 }
+    ensures found { IfOk result (λ cs. Tiles system polarity first cs body.now) }
+    ensures first { IfErr result (λ f. f ≢ want_of_memory → IsFirstCellFault system polarity first body.now f) }
+    ensures bound { IfErr result (λ f. f.place.offset ≤ first + length body.now) }
+    ensures some { IfErr result (λ _. 0 < length body.now) }
+{
+    let mut list = Vec::new(alloc);
+    let mut at = 0;
+    while !is_free(&body[at..], polarity) {
+        let cell = cell_at(&body[at..], first + at as u64, system, polarity)?;
+        let len = span_of(&cell);
+        list.push(cell)?;
+        at += len as usize;
+    }
+    if at < body.len() {
+        list.push(Cell::Free {
+            offset: first + at as u64,
+            len: (body.len() - at) as u64,
+        })?;
+    }
+    Ok(Cells::from_vec(list))
+}
+
+/// The one tiling by cells of a volume's body, which begins at `first`, in bytes from the volume's start, as all
+/// offsets are. `first` lies in the volume, and it and the volume's bytes are multiples of 8. A file's payload is the
+/// volume's bytes behind its header. (PI specification, volume 3, sections 3.2.2 and 3.2.3.)
+///
+/// # Errors
+///
+/// The fault of the first cell that has one; of a cell FreeSpace, FileState, then of a stub
+/// FileSize, of all others LargeFile, FileSize where a large header is cut, FileHeaderSum,
+/// FileSize, and of a file that stands and is no pad Fixed, FileSum. OutOfMemory at 0.
+pub fn cells(
+    alloc: Global,
+    volume: &[u8],
+    first: u64,
+    system: FileSystem,
+    polarity: Polarity,
+) -> Result<Cells<'_>, Fault>
+    requires multiple { length volume.now % 8 ≡ 0 }
+    requires first_multiple { first % 8 ≡ 0 }
+    requires within { first ≤ length volume.now }
+
+    // These cells tile the body.
+    ensures found { IfOk result (λ cs. Tiles system polarity first cs (drop first volume.now)) }
+
+    // No others do.
+    ensures only { IfOk result (λ cs. (ds : List CellForm) → Tiles system polarity first ds (drop first volume.now) → ds ≡ cs) }
+
+    // Where it refuses, want of memory aside, none do.
+    ensures none { IfErr result (λ f. f ≢ want_of_memory → (ds : List CellForm) → Tiles system polarity first ds (drop first volume.now) → ⊥) }
+
+    // A refusal, want of memory aside, names the first check that does not hold at the first place where no cell
+    // stands.
+    ensures first { IfErr result (λ f. f ≢ want_of_memory → IsFirstCellFault system polarity first (drop first volume.now) f) }
+
+    // Cells and faults lie within the volume.
+    ensures lies { IfOk result (CellsWithin (length volume.now)) }
+    ensures bound { IfErr result (λ f. f.place.offset ≤ length volume.now) }
+
+    // A body of no bytes is not refused, not even for want of memory.
+    ensures some { IfErr result (λ _. first < length volume.now) }
+{
+    cells_in(alloc, &volume[first as usize..], first, system, polarity)
+}

@@ -1,0 +1,16 @@
+//! Bytes at the front that are erased.
+
+ghost use Rattle.std.specs.Prelude.{◌≡◌, ◌≤◌, length};
+ghost use Rattle.fv_file.specs.FileChecks.{leading_count};
+
+// How many bytes at the front are this one.
+pub(crate) fn leading_count(bytes: &[u8], byte: u8) -> usize
+    ensures run { result ≡ leading_count byte bytes.now }
+    ensures bound { result ≤ length bytes.now }
+{
+    let mut at = 0;
+    while at < bytes.len() && bytes[at] == byte {
+        at += 1;
+    }
+    at
+}

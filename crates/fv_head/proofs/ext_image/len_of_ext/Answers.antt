@@ -1,0 +1,28 @@
+use Rattle.std.proofs.Common.{ap, arith, length}
+use Rattle.fv_head.specs.ExtImage.{entries_len}
+use Rattle.fv_head.proofs.ExtSpelled.{ext_len_most}
+use Rattle.fv_head.proofs.ext_image.len_of_ext.Goals as goal
+
+pub len_of_entries-requires : goal.len_of_entries-requires
+len_of_entries-requires c = omega (arith, ext_len_most c.args.ext.now c.name-name.ensures.read, ap entries_len c.entries.ensures)
+
+pub overflow_add-result : goal.overflow_add-result
+overflow_add-result c =
+    omega (arith, ext_len_most c.args.ext.now c.name-name.ensures.read, ap entries_len c.entries.ensures, c.len_of_entries.ensures)
+
+pub overflow_cast-result : goal.overflow_cast-result
+overflow_cast-result c = omega (arith, ext_len_most c.args.ext.now c.name-name.ensures.read, ap length c.tail.ensures)
+
+pub overflow_add-result-2 : goal.overflow_add-result-2
+overflow_add-result-2 c =
+    omega (
+      arith,
+      ext_len_most c.args.ext.now c.name-name.ensures.read,
+      ap entries_len c.entries.ensures,
+      ap length c.tail.ensures,
+      c.len_of_entries.ensures,
+    )
+
+pub returns-clause-most : goal.returns-clause-most
+returns-clause-most c =
+    ext_len_most c.args.ext.now c.name-name.ensures.read

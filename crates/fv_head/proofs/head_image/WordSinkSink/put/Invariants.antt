@@ -1,0 +1,9 @@
+use Rattle.std.proofs.Common.{◌≡◌, ◌+◌, ◌%◌, take}
+use Rattle.fv_head.specs.WordSums.{word_weight, is_high_behind}
+use Rattle.fv_head.proofs.head_image.WordSinkSink.put.Given as goal
+
+-- the bytes so far are added
+abbrev pub invariant-loop-byte : goal.invariant-loop-byte
+invariant-loop-byte l =
+    (l.self.high ≡ is_high_behind l.fn.self.high (take l.byte-index l.bytes))
+    × (l.self.total % 65536 ≡ (l.fn.self.total + word_weight l.fn.self.high (take l.byte-index l.bytes)) % 65536)

@@ -1,0 +1,99 @@
+//! An extended header, spelled with a used size.
+
+ghost use Rattle.std.specs.Prelude.{◌≡◌, ◌+◌, ◌<◌, ◌≤◌, ℕ, List, length, IfOk, IfErr};
+ghost use Rattle.fv_base.specs.Faults.{want_of_memory};
+ghost use Rattle.fv_base.specs.Limits.{ext_limit};
+ghost use Rattle.fv_head.specs.Ext.{IsExt, IsReadExt};
+ghost use Rattle.fv_head.specs.ExtImage.{payload_with, entry_bytes, entries_bytes, entries_len, ext_len, ext_spelled};
+
+use crate::ext::{ExtEntry, ExtHeader, is_used_size};
+use crate::head_image::{put_u16, put_u32};
+use fv_base::{ByteList, Fault, ListSink, Sink};
+use std::alloc::Global;
+
+// How many bytes the entries have.
+fn len_of_entries(entries: &[ExtEntry]) -> u32
+    requires { entries_len entries.now ≤ ext_limit }
+    ensures { result ≡ entries_len entries.now }
+{
+    let mut len = 0;
+    for entry in entries {
+        len += 4 + entry.payload().len() as u32;
+    }
+    len
+}
+
+/// How many bytes an extended header has, `ExtHeaderSize`: 20, the bytes of its entries and those of its tail. Takes
+/// no memory. (PI specification, volume 3, section 3.2.1.2.)
+pub fn len_of_ext(ext: &ExtHeader) -> u32
+    ensures len { result ≡ ext_len ext.now }
+    ensures most { ext_len ext.now ≤ ext_limit }
+    ensures read { IsReadExt ext.now }
+{
+    let _name = ext.name();
+    20 + len_of_entries(ext.entries()) + ext.tail().len() as u32
+}
+
+// Puts the payload of an entry, with the used size as it is handed.
+fn put_payload<S: Sink>(out: &mut S, entry: &ExtEntry, used: u32)
+    ensures { S.takes out.old (payload_with used entry.now) out.new }
+{
+    let payload = entry.payload();
+    if is_used_size(entry.kind(), payload) {
+        put_u32(out, used);
+    } else {
+        out.put(payload);
+    }
+}
+
+// Puts an entry, with the used size as it is handed.
+fn put_entry<S: Sink>(out: &mut S, entry: &ExtEntry, used: u32)
+    requires { 4 + length entry.now.1 ≤ ext_limit }
+    ensures { S.takes out.old (entry_bytes used entry.now) out.new }
+{
+    put_u16(out, 4 + entry.payload().len() as u16);
+    put_u16(out, entry.kind());
+    put_payload(out, entry, used);
+}
+
+// Puts entries, one behind the other.
+fn put_entries<S: Sink>(out: &mut S, entries: &[ExtEntry], used: u32)
+    requires { entries_len entries.now ≤ ext_limit }
+    ensures { S.takes out.old (entries_bytes used entries.now) out.new }
+{
+    for entry in entries {
+        put_entry(out, entry, used);
+    }
+}
+
+/// Puts an extended header: `FvName`, `ExtHeaderSize`, its entries with each used size as it is handed (that of an
+/// entry `EFI_FV_EXT_TYPE_USED_SIZE_TYPE`, in bytes), and its tail. (PI specification, volume 3, section 3.2.1.2.)
+pub fn put_ext<S: Sink>(out: &mut S, ext: &ExtHeader, used: u32)
+    ensures bytes { S.takes out.old (ext_spelled ext.now used) out.new }
+    ensures len { length (ext_spelled ext.now used) ≡ ext_len ext.now }
+    ensures most { ext_len ext.now ≤ ext_limit }
+{
+    let len = len_of_ext(ext);
+    out.put(&ext.name().to_bytes());
+    put_u32(out, len);
+    put_entries(out, ext.entries(), used);
+    out.put(ext.tail());
+}
+
+/// The bytes of an extended header, with each used size as it is handed, as `put_ext` puts them. (PI specification,
+/// volume 3, section 3.2.1.2.)
+///
+/// # Errors
+///
+/// OutOfMemory at 0.
+pub fn ext_bytes(alloc: Global, ext: &ExtHeader, used: u32) -> Result<ByteList, Fault>
+    ensures bytes { IfOk result (λ bytes. bytes ≡ ext_spelled ext.now used) }
+
+    // Read again, they say the same.
+    ensures again { IfOk result (λ bytes. IsExt ext.now bytes) }
+    ensures err { IfErr result (λ f. f ≡ want_of_memory) }
+{
+    let mut out = ListSink::with_room(alloc, len_of_ext(ext) as usize)?;
+    put_ext(&mut out, ext, used);
+    out.finish()
+}

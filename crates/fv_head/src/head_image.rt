@@ -1,0 +1,186 @@
+//! A header, spelled as the canonical image has it.
+
+ghost use Rattle.std.specs.Prelude.{◌≡◌, ◌+◌, ◌-◌, ◌%◌, ◌≤◌, ◌<◌, ◌++◌, List, [], ◌∷◌, ℕ, length, IfOk, IfErr};
+ghost use Rattle.fv_base.specs.Faults.{want_of_memory};
+ghost use Rattle.fv_base.specs.Limits.{header_limit, ext_limit};
+ghost use Rattle.fv_base.specs.Value.{le_bytes, up_to_8};
+ghost use Rattle.fv_head.specs.Head.{IsCanonicalHead, IsReadHead, BeginsVolume, canonical_offset, extent_of};
+ghost use Rattle.fv_head.specs.Pairs.{pairs_bytes};
+ghost use Rattle.fv_head.specs.ExtImage.{CanonicalRest, IfRead, canonical_end, canonical_first};
+ghost use Rattle.fv_head.specs.HeadImage.{head_spelled, canonical_head, checksum_of};
+ghost use Rattle.fv_head.specs.WordLaws.{adds_words_by};
+ghost use Rattle.fv_head.specs.WordSums.{AddsWords, word_weight};
+
+use crate::ext_image::len_of_ext;
+use crate::head::VolumeHead;
+use crate::verify::{REVISION, SIGNATURE, system_guid};
+use bitflags::Flags;
+use byteorder::{ByteOrder, LittleEndian};
+use fv_base::field::up_to_8;
+use fv_base::{ByteList, Fault, ListSink, Sink};
+use std::alloc::Global;
+
+/// The sum of the words of the bytes that are put, modulo 65536.
+#[derive(Drop)]
+struct WordSink {
+    total: u16,
+    high: bool,
+}
+
+// What a byte adds to a sum of words, as the low or the high byte of a word.
+fn word_weight(byte: u8, high: bool) -> u16
+    ensures { result ≡ word_weight high (byte ∷ []) }
+{
+    let low = u16::from(byte);
+    if high { low * 256 } else { low }
+}
+
+impl Sink for WordSink {
+    ghost takes = { AddsWords (λ s. s.total) (λ s. s.high) };
+
+    ghost laws = { adds_words_by (λ s. s.total) (λ s. s.high) };
+
+    fn put(&mut self, bytes: &[u8]) {
+        for byte in bytes {
+            self.total = self.total.wrapping_add(word_weight(*byte, self.high));
+            self.high = !self.high;
+        }
+    }
+}
+
+// Puts a number of 2 bytes.
+pub(crate) fn put_u16<S: Sink>(out: &mut S, number: u16)
+    ensures { S.takes out.old (le_bytes 2 number) out.new }
+{
+    let mut bytes = [0; 2];
+    LittleEndian::write_u16(&mut bytes, number);
+    out.put(&bytes);
+}
+
+// Puts a number of 4 bytes.
+pub(crate) fn put_u32<S: Sink>(out: &mut S, number: u32)
+    ensures { S.takes out.old (le_bytes 4 number) out.new }
+{
+    let mut bytes = [0; 4];
+    LittleEndian::write_u32(&mut bytes, number);
+    out.put(&bytes);
+}
+
+// Puts a number of 8 bytes.
+fn put_u64<S: Sink>(out: &mut S, number: u64)
+    ensures { S.takes out.old (le_bytes 8 number) out.new }
+{
+    let mut bytes = [0; 8];
+    LittleEndian::write_u64(&mut bytes, number);
+    out.put(&bytes);
+}
+
+// Puts the pairs of a block map.
+fn put_pairs<S: Sink>(out: &mut S, pairs: &[(u32, u32)])
+    ensures { S.takes out.old (pairs_bytes pairs.now) out.new }
+{
+    for (count, size) in pairs {
+        put_u32(out, *count);
+        put_u32(out, *size);
+    }
+}
+
+// `ExtHeaderOffset` of the canonical head: where the extended header stands, or 0 without one.
+fn canonical_offset(head: &VolumeHead) -> u16
+    ensures offset { result ≡ canonical_offset head.now head.now.ext }
+    ensures read { IfRead head.now.ext }
+{
+    match head.ext() {
+        None => 0,
+        Some(ext) => {
+            let _name = ext.name();
+            head.header_len() + 24
+        }
+    }
+}
+
+/// Where the first file of the canonical image may stand, in bytes from the volume's start: behind
+/// the header; with an extended header at the next multiple of 8 behind the pad file (24 bytes, and
+/// the extended header) that stands behind the header. Takes no memory. (PI specification, volume
+/// 3, sections 3.2.1.1 and 3.2.1.2.)
+pub fn first_edge(head: &VolumeHead) -> u64
+    ensures edge { result ≡ canonical_first head.now head.now.ext }
+    ensures most { result ≤ up_to_8 (header_limit + 24 + ext_limit) }
+{
+    let header_len = u64::from(head.header_len());
+    match head.ext() {
+        None => header_len,
+        Some(ext) => up_to_8(header_len + 24 + u64::from(len_of_ext(ext))),
+    }
+}
+
+// Puts a header with this checksum.
+fn put_spelled<S: Sink>(out: &mut S, head: &VolumeHead, checksum: u16)
+    ensures bytes { S.takes out.old (head_spelled head.now checksum (canonical_offset head.now head.now.ext)) out.new }
+    ensures read { IsReadHead head.now }
+    ensures ext { IfRead head.now.ext }
+{
+    out.put(head.zero_vector());
+    out.put(&system_guid(head.file_system()).to_bytes());
+    put_u64(out, head.length());
+    out.put(&SIGNATURE);
+    put_u32(out, head.attributes().bits());
+    put_u16(out, head.header_len());
+    put_u16(out, checksum);
+    put_u16(out, canonical_offset(head));
+    out.put(&[head.reserved(), REVISION]);
+    put_pairs(out, head.blocks().as_slice());
+    put_u64(out, 0);
+}
+
+// What makes a sum of words 0.
+fn complement(sum: u16) -> u16
+    ensures value { result ≡ (65536 - sum) % 65536 }
+    ensures small { sum < 65536 }
+{
+    0u16.wrapping_sub(sum)
+}
+
+// `Checksum`, which makes the words of the header sum to 0.
+fn checksum_of(head: &VolumeHead) -> u16
+    ensures { result ≡ checksum_of head.now (canonical_offset head.now head.now.ext) }
+{
+    let mut sum = WordSink {
+        total: 0,
+        high: false,
+    };
+    put_spelled(&mut sum, head, 0);
+    complement(sum.total)
+}
+
+/// Puts the head of the canonical image: the fields of the header, with ExtHeaderOffset 0, or
+/// HeaderLength + 24 where there is an extended header, and the right sum. (PI specification,
+/// volume 3, section 3.2.1.1, `EFI_FIRMWARE_VOLUME_HEADER`.)
+pub fn put_head<S: Sink>(out: &mut S, head: &VolumeHead)
+    ensures bytes { S.takes out.old (canonical_head head.now) out.new }
+    ensures read { IsReadHead head.now }
+    ensures ext { IfRead head.now.ext }
+{
+    put_spelled(out, head, checksum_of(head));
+}
+
+/// The head of the canonical image, as `put_head` puts it: HeaderLength bytes. (PI specification, volume 3, section
+/// 3.2.1.1.)
+///
+/// # Errors
+///
+/// OutOfMemory at 0.
+pub fn head_bytes(alloc: Global, head: &VolumeHead) -> Result<ByteList, Fault>
+    // They are the head of the canonical image, and nothing else is.
+    ensures head { IfOk result (λ bytes. IsCanonicalHead head.now bytes) }
+    ensures only { (other : List ℕ) → IsCanonicalHead head.now other → IfOk result (λ bytes. bytes ≡ other) }
+
+    // Read again, with its extended header in a pad file behind it and the rest of a volume, it gives the head back.
+    ensures again { IfOk result (λ bytes. (rest : List ℕ) → CanonicalRest head.now.ext rest → canonical_end head.now head.now.ext ≤ head.now.length
+        → head.now.length ≤ length (bytes ++ rest) → BeginsVolume head.now (extent_of head.now (canonical_first head.now head.now.ext)) (bytes ++ rest)) }
+    ensures err { IfErr result (λ f. f ≡ want_of_memory) }
+{
+    let mut out = ListSink::with_room(alloc, usize::from(head.header_len()))?;
+    put_head(&mut out, head);
+    out.finish()
+}

@@ -1,0 +1,6 @@
+-- What the frames that are handed out stand for.
+use Rattle.fv_section.specs.Frames.{FrameForm}
+use Rattle.fv_section.specs.declared.frame.Frame.{Frame}
+
+abbrev pub frame_form : Frame → FrameForm
+frame_form f = record { offset = f.offset; kind = f.kind; extended = f.extended; body = f.body.now }

@@ -1,6 +1,0 @@
--- What the frames that are handed out stand for.
-use Rattle.fv_section.specs.Frames.{FrameForm}
-use Rattle.fv_section.specs.declared.frame.Frame.{Frame}
-
-abbrev pub form_of : Frame → FrameForm
-form_of f = record { offset = f.offset; kind = f.kind; extended = f.extended; body = f.body.now }

@@ -1,0 +1,48 @@
+//! The frames of a stream.
+
+ghost use Rattle.std.specs.Prelude.{◌≡◌, map};
+ghost use Rattle.fv_section.specs.FrameForms.{frame_form};
+
+use crate::frame::Frame;
+use std::marker::Model;
+
+/// The frames of a stream in their order, and how many bytes follow the last. Contracts see the
+/// list and the count.
+#[derive(Drop)]
+pub struct Frames<'a> {
+    list: Vec<Frame<'a>>,
+    tail: u8,
+}
+
+impl<'a> Model for Frames<'a> {
+    ghost use Rattle.std.specs.Prelude.{ℕ, List, map};
+    ghost use Rattle.fv_section.specs.Frames.{FrameForm};
+    ghost use Rattle.fv_section.specs.FrameForms.{frame_form};
+
+    ghost Value = { List FrameForm × ℕ };
+
+    ghost view = { λ s. (map frame_form s.list.items, s.tail) };
+}
+
+impl<'a> Frames<'a> {
+    // The frames of a vector and the bytes behind the last. Takes no memory.
+    pub(crate) fn from_parts(list: Vec<Frame<'a>>, tail: u8) -> Frames<'a>
+        ensures { result ≡ (map frame_form list.entry.items, tail) }
+    {
+        Frames { list, tail }
+    }
+
+    /// The frames in their order.
+    pub fn as_slice(&self) -> &[Frame<'a>]
+        ensures { map frame_form result.now ≡ self.now.0 }
+    {
+        self.list.as_slice()
+    }
+
+    /// How many bytes follow the last frame, 0 to 3.
+    pub fn tail(&self) -> u8
+        ensures { result ≡ self.now.1 }
+    {
+        self.tail
+    }
+}

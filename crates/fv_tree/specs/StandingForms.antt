@@ -1,0 +1,6 @@
+-- What the files that are found in a volume stand for.
+use Rattle.fv_tree.specs.Files.{FileForm}
+use Rattle.fv_tree.specs.declared.alive.Standing.{Standing}
+
+abbrev pub file_form : Standing → FileForm
+file_form s = record { offset = s.offset; head = s.head; payload = s.payload.now }
