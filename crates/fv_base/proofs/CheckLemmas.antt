@@ -2,7 +2,8 @@
 use Rattle.std.proofs.Common.{◌≡◌, List, [], ◌∷◌, ◌++◌, refl, ap, ◌∙◌, append_assoc, subst, sym, Bool, true, false}
 use Rattle.std.specs.Prelude.{◌&&◌, Option, None, Some, Result, Ok, Err, IfErr, if◌then◌else◌}
 use Rattle.std.specs.List.{AllByRecursion}
-use Rattle.fv_base.specs.Checks.{Check, first_fault, verdict_by, AllHold, IsFirstFault}
+use Rattle.fv_base.specs.Checks.{Check, AllHold, IsFirstFault}
+use Rattle.fv_base.specs.Verdicts.{first_fault, verdict_by}
 
 pub and_split : (a b : Bool) → (a && b) ≡ true → (a ≡ true) × (b ≡ true)
 and_split true b h = (refl, h)

@@ -1,5 +1,5 @@
 -- Checks in their order, and the first that does not hold.
-use Rattle.std.specs.Prelude.{ℕ, Bool, true, false, if◌then◌else◌, List, [], ◌∷◌, ◌++◌, ◌≡◌, Option, None, Some, Result, Ok, Err}
+use Rattle.std.specs.Prelude.{ℕ, Bool, true, false, List, ◌∷◌, ◌++◌, ◌≡◌}
 use Rattle.std.specs.List.{AllByRecursion}
 use Rattle.fv_base.specs.Faults.{outer_fault}
 use Rattle.fv_base.specs.declared.fault.Fault.{Fault}
@@ -13,16 +13,6 @@ pub record Check (F : Type 0) : Type 0 where
 -- a check of a volume, by the kind and the place of its fault
 abbrev pub check : Bool → FaultKind → ℕ → Check Fault
 check holds kind offset = record { holds = holds; fault = outer_fault kind offset }
-
--- the fault of the first check that does not hold
-abbrev pub first_fault : {F : Type 0} → List (Check F) → Option F
-first_fault [] = None
-first_fault (c ∷ cs) = if c.holds then first_fault cs else Some c.fault
-
--- a fault, or else the value
-abbrev pub verdict_by : {A F : Type 0} → Option F → A → Result A F
-verdict_by None a = Ok a
-verdict_by (Some f) a = Err f
 
 -- every check holds
 abbrev pub AllHold : {F : Type 0} → List (Check F) → Type 0

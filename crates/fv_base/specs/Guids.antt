@@ -8,6 +8,10 @@ use Rattle.fv_base.specs.declared.guid.Guid.{Guid}
 abbrev pub bytes_of : Guid → List ℕ
 bytes_of g = g.bytes
 
+-- the GUID of sixteen bytes
+abbrev pub guid_of : List ℕ → Guid
+guid_of b = record { bytes = b }
+
 -- a lower-case hexadecimal digit: 48 is the code of 0, and 97 that of a
 abbrev pub digit : ℕ → ℕ
 digit d = if nat_lt d 10 then 48 + d else 97 + d - 10

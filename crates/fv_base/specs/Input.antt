@@ -1,20 +1,10 @@
 -- What the reading of an input takes from a reader, and what stops it.
-use Rattle.std.specs.Prelude.{ℕ, ◌≡◌, ◌<◌, ◌≤◌, Bool, true, List, [], ◌++◌, length, Option}
-use Rattle.std.specs.Io.KnownBytes.{Consumes, IsAtEnd, Keeps}
+use Rattle.std.specs.Prelude.{ℕ, ◌≡◌, ◌<◌, ◌≤◌, List, length, Option}
+use Rattle.std.specs.Io.KnownBytes.{Consumes, IsAtEnd}
 use Rattle.fv_base.specs.declared.fault.Fault.{Fault}
 use Rattle.fv_base.specs.declared.fault.FaultKind.{FaultKind}
 use Rattle.fv_base.specs.declared.fault.FaultKind.TheVariants as kinds
-use Rattle.fv_base.specs.declared.input.Turn.{Turn}
-use Rattle.fv_base.specs.declared.input.Turn.TheVariants as turns
 use Rattle.fv_base.specs.Limits.{volume_limit}
-
--- what one turn of reading did: to the reader, to the bytes so far, and whether the port has erred now
-abbrev pub ReadsTurn : Turn → Option (List ℕ) → Option (List ℕ) → List ℕ → List ℕ → Bool → Type 0
-ReadsTurn turns.More old new before after erred =
-    (added : List ℕ) × (after ≡ before ++ added) × (0 < length added) × Consumes old new added
-ReadsTurn turns.Interrupted old new before after erred = (after ≡ before) × Keeps old new × (erred ≡ true)
-ReadsTurn turns.End old new before after erred = (after ≡ before) × Consumes old new [] × IsAtEnd new
-ReadsTurn turns.Failed old new before after erred = (after ≡ before) × Keeps old new × (erred ≡ true)
 
 -- a reader gave these bytes, which are all that it had, and no more than a run takes
 pub record ReadsWhole (old new : Option (List ℕ)) (input : List ℕ) : Type 0 where

@@ -17,7 +17,3 @@ ext_limit = 65535
 -- the most bytes of a file's data: those of a volume less the 32 of a large header
 abbrev pub data_limit : ℕ
 data_limit = 268435424
-
--- the most bytes that one read asks for
-abbrev pub read_limit : ℕ
-read_limit = 65536

@@ -1,5 +1,6 @@
 -- The laws of a lent port that takes bytes. There is nothing to believe here: these are proofs, and stand in specs/ since a
 -- ghost member cites the last of them.
+-- Serves private clauses alone: there is nothing to believe here.
 use Rattle.std.proofs.Common.{◌≡◌, ℕ, ◌+◌, ◌%◌, ◌^◌, ◌<◌, List, [], ◌++◌, length, take, refl, sym, ◌∙◌, ap, subst, arith, add_assoc, add-zero, append_assoc, append-nil, length-append, Bool, true, false}
 use Rattle.std.specs.Prelude.{Option, Some, None}
 use Rattle.std.specs.Io.KnownBytes.{Appends}

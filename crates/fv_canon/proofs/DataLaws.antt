@@ -8,7 +8,8 @@ use Rattle.fv_base.specs.ListSinks.{KeptLatched}
 use Rattle.fv_base.specs.declared.fault.Fault.{Fault}
 use Rattle.fv_tree.specs.Denotes.{IsReadFile, IsReadSection, MeansSection, Stream}
 use Rattle.fv_tree.specs.Meaning.{FileMeaning, File, SectionMeaning, Section, content_of, body_of}
-use Rattle.fv_canon.specs.Image.{IsData, IsBodyImage, IsFrame, data_of, body_image, frame_of}
+use Rattle.fv_canon.specs.Image.{IsData, IsBodyImage, IsFrame}
+use Rattle.fv_canon.specs.ImageOf.{data_of, body_image, frame_of}
 use Rattle.fv_canon.specs.Layouts.{LaysContent, LaysBody}
 use Rattle.fv_canon.proofs.MadeLaws.{data_made, stream_made, sections_made}
 use Rattle.fv_file.proofs.Laws.{cell_read}

@@ -4,7 +4,8 @@ use Rattle.fv_base.specs.Limits.{volume_limit}
 use Rattle.fv_head.proofs.Laws.{front_lies}
 use Rattle.fv_tree.specs.Denotes.{Accepted, IsMeaning}
 use Rattle.fv_tree.specs.Meaning.{Meaning, head_of}
-use Rattle.fv_canon.specs.Image.{IsImage, image_of}
+use Rattle.fv_canon.specs.Image.{IsImage}
+use Rattle.fv_canon.specs.ImageOf.{image_of}
 use Rattle.fv_canon.specs.Layouts.{LaysVolume}
 use Rattle.fv_canon.specs.Normal.{NormalisesTo}
 use Rattle.fv_canon.proofs.MadeLaws.{image_made}

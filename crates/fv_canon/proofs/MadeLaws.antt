@@ -8,9 +8,10 @@ use Rattle.fv_section.specs.Frames.{FrameForm, frame_len, up_to_4, SplitsFrom}
 use Rattle.fv_tree.specs.Files.{FileForm}
 use Rattle.fv_tree.specs.Meaning.{Meaning, Volume, FileMeanings, NoFiles, MoreFiles, FileMeaning, File, ContentMeaning, Plain, Sectioned, SectionMeanings, NoSections, MoreSections, SectionMeaning, Section, BodyMeaning, Leaf, Group, Nested, files_list, sections_list}
 use Rattle.fv_tree.specs.Denotes.{Sections, Streams, Volumes, Pairs, StreamOver, SectionOver, VolumeOver, MeansContent, MeansFile, MeansSection, Stream, Denotes}
-use Rattle.fv_canon.specs.Image.{IsImage, AreStored, IsStored, IsData, AreFrames, IsFrame, starts_in, starts_in_files, starts_in_file, starts_in_content, starts_in_sections, starts_in_section, starts_in_body, image_of, stored_of, stored_file, data_of, frames_of, frame_of}
+use Rattle.fv_canon.specs.Image.{IsImage, AreStored, IsStored, IsData, AreFrames, IsFrame}
+use Rattle.fv_canon.specs.ImageOf.{starts_in, starts_in_files, starts_in_file, starts_in_content, starts_in_sections, starts_in_section, starts_in_body, image_of, stored_of, stored_file, data_of, frames_of, frame_of}
 use Rattle.fv_canon.specs.Layouts.{LaysVolume, LaysFiles, LaysFile, LaysContent, LaysSections, LaysSection, LaysBody, parts_of, part_of, first_edge}
-use Rattle.fv_canon.specs.Stored.{volume_bytes}
+use Rattle.fv_canon.specs.StoredWalks.{volume_bytes}
 use Rattle.fv_canon.proofs.OneLaws.{follow_length}
 use Rattle.fv_canon.proofs.SpanLaws.{volume_written}
 use Rattle.fv_canon.proofs.StreamLaws.{StreamsAgain, begun_body, stream_again}

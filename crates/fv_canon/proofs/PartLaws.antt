@@ -9,7 +9,7 @@ use Rattle.fv_base.specs.declared.flash.FileSystem.{FileSystem}
 use Rattle.fv_file.specs.Files.{file_header_len}
 use Rattle.fv_file.specs.NewHeaders.{needs_large}
 use Rattle.fv_head.proofs.FrontLemmas.{front_lies}
-use Rattle.fv_canon.specs.Starts.{IsLawfulPart}
+use Rattle.fv_canon.specs.Reaches.{IsLawfulPart}
 use Rattle.fv_tree.proofs.Laws.{content_long}
 use Rattle.fv_tree.specs.Denotes.{MeansFile, IsMeaning, IsReadFile, Pairs, Stream}
 use Rattle.fv_tree.specs.Files.{FileForm}

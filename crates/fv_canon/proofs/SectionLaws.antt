@@ -11,7 +11,7 @@ use Rattle.fv_section.proofs.FrameLemmas.{length_begun}
 use Rattle.fv_tree.specs.Meaning.{SectionMeanings, NoSections, MoreSections, SectionMeaning, Section, sections_from, body_of, body_len, section_is_extended, section_kind_of, section_len}
 use Rattle.fv_tree.specs.Sizes.{section_size, sections_size, body_size}
 use Rattle.fv_tree.specs.Denotes.{MeansSection, IsReadSection}
-use Rattle.fv_canon.specs.Image.{frames_of, frame_of, body_image, starts_in_section, starts_in_sections, starts_in_body}
+use Rattle.fv_canon.specs.ImageOf.{frames_of, frame_of, body_image, starts_in_section, starts_in_sections, starts_in_body}
 use Rattle.fv_canon.specs.Layouts.{LaysSections, LaysSection, LaysBody}
 use Rattle.fv_canon.proofs.MadeLaws.{sections_made, laid_section, moved, behind_is}
 use Rattle.fv_canon.proofs.StreamLaws.{begun_fits, begun_body}

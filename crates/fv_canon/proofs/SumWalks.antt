@@ -7,7 +7,7 @@ use Rattle.fv_base.specs.declared.flash.Polarity.{Polarity}
 use Rattle.fv_file.specs.Attributes.{is_summed}
 use Rattle.fv_file.specs.NewHeaders.{complement, fixed_checksum, state_byte}
 use Rattle.fv_tree.specs.Meaning.{FileMeaning, File, attributes_of}
-use Rattle.fv_canon.specs.Image.{stored_file, data_of}
+use Rattle.fv_canon.specs.ImageOf.{stored_file, data_of}
 use Rattle.fv_canon.specs.Stored.{file_sum_for, stored_bytes}
 use Rattle.fv_canon.proofs.SumLaws.{stored_adds}
 

@@ -17,7 +17,8 @@ use Rattle.fv_file.proofs.AttributeLaws.{alignment_with}
 use Rattle.fv_canon.specs.Starts.{StartsFollow}
 use Rattle.fv_tree.specs.Files.{FileForm, files_in}
 use Rattle.fv_canon.specs.Aligned.{DataAligned}
-use Rattle.fv_canon.specs.Stored.{StoredFile, head_len_for, stored_len, stored_bytes, stored_part, pad_bytes, pads, long_pad, long_pads, PadsRule, gap_bytes, files_bytes}
+use Rattle.fv_canon.specs.Stored.{StoredFile, head_len_for, stored_len, stored_bytes, pad_bytes, pads, long_pad, long_pads, PadsRule, gap_bytes}
+use Rattle.fv_canon.specs.StoredWalks.{stored_part, files_bytes}
 use Rattle.fv_canon.proofs.CellLaws.{Storable, stored_head, file_cell, length-stored, pad_cell, length-pad}
 
 -- the files as they lie in the image

@@ -7,7 +7,8 @@ use Rattle.fv_base.specs.declared.fault.FaultKind.{FaultKind}
 use Rattle.fv_base.specs.declared.fault.FaultKind.TheVariants as kinds
 use Rattle.fv_tree.specs.Denotes.{Accepted}
 use Rattle.fv_tree.specs.Meaning.{Meaning}
-use Rattle.fv_canon.specs.Image.{IsImage, image_of}
+use Rattle.fv_canon.specs.Image.{IsImage}
+use Rattle.fv_canon.specs.ImageOf.{image_of}
 use Rattle.fv_canon.specs.Layouts.{LaysVolume, Unfit}
 use Rattle.fv_canon.proofs.FitLaws.{unfit_none}
 use Rattle.fv_canon.proofs.MadeLaws.{image_made}

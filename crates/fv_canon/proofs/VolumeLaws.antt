@@ -35,7 +35,8 @@ use Rattle.fv_tree.specs.Denotes.{Streams, Pairs, MeansContent, MeansFile, Strea
 use Rattle.fv_canon.specs.Image.{IsImage, AreStored, IsStored, IsData}
 use Rattle.fv_canon.specs.Layouts.{AreStarts, parts_of, part_of}
 use Rattle.fv_canon.specs.Spans.{ShowsSpans}
-use Rattle.fv_canon.specs.Stored.{StoredFile, size_for, head_len_for, stored_part, files_bytes, ext_pad, volume_bytes, volume_spans, used_size}
+use Rattle.fv_canon.specs.Stored.{StoredFile, size_for, head_len_for, ext_pad, volume_spans, used_size}
+use Rattle.fv_canon.specs.StoredWalks.{stored_part, files_bytes, volume_bytes}
 use Rattle.fv_canon.proofs.AliveLaws.{names_in, names_of, NamesApart, alive_apart, all_alive, forms_unmarked, no_twins, TopLast, top_last, forms_top, form_names}
 use Rattle.fv_canon.proofs.CellLaws.{Storable, stored_head, length-pad_head}
 use Rattle.fv_canon.proofs.ReadLaws.{FileIsAccepted, body_read, alive_read}

@@ -13,7 +13,8 @@ use Rattle.fv_base.specs.Value.{field}
 use Rattle.fv_base.specs.declared.fault.Fault.{Fault}
 use Rattle.fv_tree.specs.Denotes.{depth_limit}
 use Rattle.fv_tree.specs.FirstFault.{moved_fault}
-use Rattle.fv_tree.specs.Found.{Found, FoundFrom, IsCovered, VolumeAt}
+use Rattle.fv_tree.specs.Found.{Found, IsCovered, VolumeAt}
+use Rattle.fv_tree.specs.FoundWalks.{FoundFrom}
 use Rattle.fv_tree.specs.Meaning.{Meaning}
 use Rattle.fv_tree.proofs.IndexLaws.{in_front, behind}
 use Rattle.fv_tree.proofs.Laws.{one_found, one_length, at_within}

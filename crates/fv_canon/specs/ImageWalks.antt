@@ -1,9 +1,10 @@
 -- What a walk over a volume writes, piece by piece.
+-- Serves private clauses alone: there is nothing to believe here.
 use Rattle.std.specs.Prelude.{◌≡◌, ℕ, ◌-◌, List, [], ◌++◌, length, replicate, drop}
 use Rattle.fv_section.specs.Frames.{FrameForm, frame_len, up_to_4}
 use Rattle.fv_section.specs.SectionImage.{section_head_of}
 use Rattle.fv_tree.specs.Meaning.{SectionMeanings, NoSections, MoreSections}
-use Rattle.fv_canon.specs.Image.{frame_of, starts_in_section}
+use Rattle.fv_canon.specs.ImageOf.{frame_of, starts_in_section}
 
 -- a frame: header and body
 abbrev pub frame_bytes : FrameForm → List ℕ

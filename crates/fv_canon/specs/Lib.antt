@@ -3,6 +3,8 @@ pub mod Comparisons
 pub mod Depths
 pub mod Grown
 pub mod Image
+pub mod ImageOf
+pub mod ImageWalks
 pub mod Layouts
 pub mod Lines
 pub mod Matching
@@ -16,6 +18,6 @@ pub mod Runs
 pub mod Spans
 pub mod Starts
 pub mod Stored
+pub mod StoredWalks
 pub mod SumSinks
-pub mod ImageWalks
 pub mod Whole

@@ -1,4 +1,5 @@
 -- Bytes that are compared with others, which come one part after another.
+-- Serves private clauses alone: there is nothing to believe here.
 use Rattle.std.specs.Prelude.{◌≡◌, ℕ, List, ◌++◌, Bool, true, false}
 
 -- no front of the first are these bytes

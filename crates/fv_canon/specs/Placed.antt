@@ -1,4 +1,5 @@
 -- What a walk over the files of a volume asks.
+-- Serves private clauses alone: there is nothing to believe here.
 use Rattle.std.specs.Prelude.{◌≡◌, ◌≤◌, ◌+◌, ◌%◌, ℕ, List, [], ◌∷◌, map}
 use Rattle.fv_base.specs.Limits.{volume_limit}
 use Rattle.fv_tree.specs.Meaning.{FileMeaning, data_len_of}

@@ -1,4 +1,5 @@
 -- After which edges files can be placed, file by file from the last.
+-- Serves private clauses alone: there is nothing to believe here.
 use Rattle.std.specs.Prelude.{◌≡◌, ℕ, ◌+◌, ◌-◌, ◌%◌, ◌<◌, ◌≤◌, ◌⊎◌, List, length, drop, get_or, IsTrue}
 use Rattle.fv_base.specs.Alignment.{IsAlignment}
 use Rattle.fv_base.specs.Value.{up_to_8}
@@ -52,3 +53,10 @@ pub record IsGreatest (total : ℕ) (f : Part) (behind : Reach) (r : Reach) : Ty
 -- item k of the list is the reach of the last k files
 pub record AreReaches (total : ℕ) (fs : List Part) (found : List Reach) : Type 0 where
   pub each : (k : ℕ) (d : Reach) → k < length found → IsReach total (drop (length fs - k) fs) (get_or found k d)
+
+-- what the layout of a volume of `total` bytes is told of a file
+pub record IsLawfulPart (total : ℕ) (f : Part) : Type 0 where
+  pub header : f.header % 8 ≡ 0
+  pub holds : f.header ≤ f.size
+  pub within : f.size ≤ total
+  pub alignment : IsAlignment f.alignment

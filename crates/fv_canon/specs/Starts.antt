@@ -1,16 +1,8 @@
 -- Where the files of a volume may stand: lawful starts, placements, the first placement, and the least starts (PI specification,
 -- volume 3, section 3.2.3.1, for the alignment of data and the pads between files).
 use Rattle.std.specs.Prelude.{◌≡◌, ◌≢◌, ℕ, ◌+◌, ◌-◌, ◌%◌, ◌≤◌, ◌⊎◌, List, [], ◌∷◌, take, get_or, IsTrue, MatchBool}
-use Rattle.fv_base.specs.Alignment.{IsAlignment}
 use Rattle.fv_base.specs.Value.{up_to_8}
 use Rattle.fv_canon.specs.declared.place.Part.{Part}
-
--- what the layout of a volume of `total` bytes is told of a file
-pub record IsLawfulPart (total : ℕ) (f : Part) : Type 0 where
-  pub header : f.header % 8 ≡ 0
-  pub holds : f.header ≤ f.size
-  pub within : f.size ≤ total
-  pub alignment : IsAlignment f.alignment
 
 -- a start that a file may have after the edge e: a multiple of 8, at the edge or with room for a pad before it, its data aligned
 pub record Lawful (e : ℕ) (f : Part) (s : ℕ) : Type 0 where

@@ -1,22 +1,17 @@
 -- A volume whose files' data are known, as the canonical image has it (PI specification, volume 3, sections 3.2.1 to 3.2.3).
 use Rattle.std.specs.Prelude.{◌≡◌, ◌≤◌, ◌<◌, ◌%◌, ℕ, ◌+◌, ◌-◌, ◌/◌, ◌==◌, zero, suc, if◌then◌else◌, List, [], ◌∷◌, ◌++◌, length, replicate, sum, Option, None, Some}
-use Rattle.std.specs.Str.{bytes_eq}
-use Rattle.fv_base.specs.Alignment.{alignment_of}
 use Rattle.fv_base.specs.Flash.{erased_byte}
-use Rattle.fv_base.specs.Guids.{bytes_of}
 use Rattle.fv_base.specs.Value.{up_to_8}
 use Rattle.fv_base.specs.declared.flash.Polarity.{Polarity}
 use Rattle.fv_base.specs.declared.guid.Guid.{Guid}
 use Rattle.fv_file.specs.Attributes.{is_summed}
 use Rattle.fv_file.specs.Files.{file_header_len}
-use Rattle.fv_file.specs.NewHeaders.{needs_large, complement, fixed_checksum, state_byte, file_head_of, pad_head_of}
+use Rattle.fv_file.specs.NewHeaders.{needs_large, complement, fixed_checksum, file_head_of, pad_head_of}
 use Rattle.fv_head.specs.Attributes.{polarity_of}
 use Rattle.fv_head.specs.Ext.{Extension}
 use Rattle.fv_head.specs.Head.{HeadFields, header_len_of as head_len_of}
 use Rattle.fv_head.specs.HeadImage.{canonical_head}
-use Rattle.fv_head.specs.ExtImage.{canonical_end, canonical_first, ext_len, ext_spelled}
-use Rattle.fv_tree.specs.Files.{top_name}
-use Rattle.fv_canon.specs.declared.place.Part.{Part}
+use Rattle.fv_head.specs.ExtImage.{canonical_first, ext_len, ext_spelled}
 use Rattle.fv_canon.specs.Spans.{Span}
 
 -- a file, with its data as they are written
@@ -44,10 +39,6 @@ file_sum_for attributes payload = if is_summed attributes then complement (sum p
 unfoldable pub stored_bytes : Polarity → StoredFile → List ℕ
 stored_bytes polarity f =
     file_head_of f.name f.kind (record { 0 = f.attributes }) (length f.payload) (file_sum_for f.attributes f.payload) polarity ++ f.payload
-
--- a file with the checksum attribute adds its State alone, whatever its data are; another adds AA, State and its data
-abbrev pub file_adds : Polarity → StoredFile → ℕ
-file_adds p f = if is_summed f.attributes then state_byte p else (fixed_checksum + state_byte p + sum f.payload)
 
 -- a pad: its header, and erased bytes
 unfoldable pub pad_bytes : Polarity → ℕ → List ℕ
@@ -96,33 +87,7 @@ volume_spans h files starts =
     ∷ record { at = head_len_of h; bytes = ext_pad (polarity_of h.attributes) h.ext (used_size (canonical_first h h.ext) files starts) }
     ∷ file_spans (polarity_of h.attributes) (canonical_first h h.ext) files starts
 
--- what the layout is told of a file
-abbrev pub stored_part : StoredFile → Part
-stored_part f = record {
-  header = head_len_for (length f.payload);
-  size = stored_len f;
-  alignment = alignment_of f.attributes;
-  top = bytes_eq (bytes_of f.name) top_name;
-}
-
 -- ---- the same, part by part, as a walk writes it
-
--- from the edge e on: the pads of a gap, a file, erased bytes to the next edge, and so on to the end
-abbrev pub files_bytes : Polarity → ℕ → ℕ → List StoredFile → List ℕ → List ℕ
-files_bytes polarity total e [] starts = replicate (total - e) (erased_byte polarity)
-files_bytes polarity total e (f ∷ fs) [] = replicate (total - e) (erased_byte polarity)
-files_bytes polarity total e (f ∷ fs) (s ∷ ss) =
-    gap_bytes polarity (s - e)
-    ++ (stored_bytes polarity f
-    ++ (replicate (up_to_8 (s + stored_len f) - (s + stored_len f)) (erased_byte polarity) ++ files_bytes polarity total (up_to_8 (s + stored_len f)) fs ss))
-
--- the head, the extended header's pad, erased bytes to the first edge, and the files
-abbrev pub volume_bytes : HeadFields → List StoredFile → List ℕ → List ℕ
-volume_bytes h files starts =
-    canonical_head h
-    ++ (ext_pad (polarity_of h.attributes) h.ext (used_size (canonical_first h h.ext) files starts)
-    ++ (replicate (canonical_first h h.ext - canonical_end h h.ext) (erased_byte (polarity_of h.attributes))
-    ++ files_bytes (polarity_of h.attributes) h.length (canonical_first h h.ext) files starts))
 
 -- the rule of the pads of a gap: one pad where it fits, else the greatest pad first, and so on, the last of at least 256 bytes
 abbrev pub PadsRule : Type 0

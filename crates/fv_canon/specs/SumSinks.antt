@@ -1,5 +1,6 @@
 -- A sum of bytes modulo 256. There is nothing to believe here but the first word: the rest are proofs, and stand in specs/ since a
 -- ghost member cites them.
+-- Serves private clauses alone: there is nothing to believe here.
 use Rattle.std.proofs.Common.{◌≡◌, ℕ, ◌+◌, ◌%◌, List, sym, ◌∙◌, ap, add-zero}
 use Rattle.std.specs.Prelude.{sum}
 use Rattle.std.proofs.lemmas.List.Sums.{sum_by-append}

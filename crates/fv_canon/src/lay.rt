@@ -8,7 +8,8 @@ ghost use Rattle.fv_canon.specs.Layouts.{LaysVolume, LaysFiles, LaysContent, Lay
 ghost use Rattle.fv_canon.specs.Layouts.{Fits, FitsContent, FitsBody, Unfit, UnfitFiles, UnfitContent, UnfitSections, UnfitBody};
 ghost use Rattle.fv_canon.specs.Grown.{Grew, Shallow};
 ghost use Rattle.fv_canon.specs.Places.{IsLayout, UnfitAlone};
-ghost use Rattle.fv_canon.specs.Starts.{IsFirstPlacement, IsLawfulPart, Placement};
+ghost use Rattle.fv_canon.specs.Starts.{IsFirstPlacement, Placement};
+ghost use Rattle.fv_canon.specs.Reaches.{IsLawfulPart};
 ghost use Rattle.fv_tree.specs.Meaning.{head_of, files_of, content_of, body_of, sections_from, files_from};
 ghost use Rattle.fv_tree.specs.Views.{body_view, content_view};
 

@@ -1,7 +1,7 @@
 //! Bytes that are compared with what a walk writes.
 
 ghost use Rattle.std.specs.Prelude.{◌≡◌, ◌↔◌, IsTrue};
-ghost use Rattle.fv_canon.specs.Image.{image_of};
+ghost use Rattle.fv_canon.specs.ImageOf.{image_of};
 ghost use Rattle.fv_canon.specs.Layouts.{LaysVolume};
 ghost use Rattle.fv_canon.specs.Matching.{MatchTakes};
 ghost use Rattle.fv_canon.specs.MatchingLaws.{matches_by};

@@ -6,7 +6,8 @@ ghost use Rattle.fv_base.specs.Faults.{want_of_memory};
 ghost use Rattle.fv_base.specs.Limits.{volume_limit};
 ghost use Rattle.fv_base.specs.Value.{up_to_8};
 ghost use Rattle.fv_canon.specs.Reaches.{Widens, Reaches, Serves, IsFirstStart, IsGreatest, IsReach, CanPlace, AreReaches};
-ghost use Rattle.fv_canon.specs.Starts.{IsLawfulPart, Lawful, StandsInVolume, Placement, IsLeast, IsLeastStart, IsFirstPlacement, IsOff, TopOff};
+ghost use Rattle.fv_canon.specs.Reaches.{IsLawfulPart};
+ghost use Rattle.fv_canon.specs.Starts.{Lawful, StandsInVolume, Placement, IsLeast, IsLeastStart, IsFirstPlacement, IsOff, TopOff};
 ghost use Rattle.fv_canon.specs.declared.place.Part.{Part};
 
 use fv_base::Fault;

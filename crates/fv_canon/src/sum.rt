@@ -4,10 +4,11 @@ ghost use Rattle.std.specs.Prelude.{◌≡◌, ◌≤◌, ◌<◌, ◌+◌, ◌-
 ghost use Rattle.fv_section.specs.SectionImage.{stream_of};
 ghost use Rattle.fv_tree.specs.Meaning.{files_from, attributes_of, content_of, data_len_of, sections_from};
 ghost use Rattle.fv_tree.specs.Views.{body_view, content_view};
-ghost use Rattle.fv_canon.specs.Image.{image_of, stored_of, stored_file, data_of, frames_of, body_image};
-ghost use Rattle.fv_canon.specs.Image.{starts_in, starts_in_files, starts_in_file, starts_in_content, starts_in_sections, starts_in_body};
+ghost use Rattle.fv_canon.specs.ImageOf.{image_of, stored_of, stored_file, data_of, frames_of, body_image};
+ghost use Rattle.fv_canon.specs.ImageOf.{starts_in, starts_in_files, starts_in_file, starts_in_content, starts_in_sections, starts_in_body};
 ghost use Rattle.fv_canon.specs.Layouts.{LaysVolume, LaysFiles, LaysFile, LaysContent, LaysSections, LaysBody};
-ghost use Rattle.fv_canon.specs.Stored.{file_sum_for, stored_bytes, files_bytes, size_for};
+ghost use Rattle.fv_canon.specs.Stored.{file_sum_for, stored_bytes, size_for};
+ghost use Rattle.fv_canon.specs.StoredWalks.{files_bytes};
 ghost use Rattle.fv_canon.specs.Placed.{ArePlaced};
 ghost use Rattle.fv_canon.specs.SumSinks.{AddsUp, adds_up_by};
 ghost use Rattle.fv_canon.specs.ImageWalks.{BeginsWithStarts};

@@ -33,7 +33,8 @@ use Rattle.fv_tree.specs.Meaning.{NoSections, MoreSections, BodyMeaning, Leaf, G
 use Rattle.fv_tree.specs.Meaning.{section_kind_of, section_len, body_len, sections_end, data_len_of, files_of, head_of, sections_from}
 use Rattle.fv_tree.proofs.Laws.{fault_stands, few_files, stands_other}
 use Rattle.fv_command.specs.Checks.{written_in, pad_line, pad_text, phase_of, read_by, section_depex, sections_depexes, file_depexes}
-use Rattle.fv_command.specs.Checks.{HeldDepex, IsSpelled, IsNoted, AreNotes, Noted, AreCells, CheckText, check_lines, depexes_in}
+use Rattle.fv_command.specs.Checks.{HeldDepex, IsSpelled, IsNoted, AreNotes, AreCells, CheckText, check_lines, depexes_in}
+use Rattle.fv_command.specs.CheckRuns.{Noted}
 use Rattle.fv_command.specs.declared.checking.DepexNote.{DepexNote}
 
 -- ---- a walk over a list

@@ -6,7 +6,8 @@ use Rattle.hex.specs.Hex.{encode_lower, lower_digits}
 use Rattle.hex.proofs.HexLemmas.{length-encode_with}
 use Rattle.fv_base.specs.Sinks.{WalkLaws}
 use Rattle.fv_canon.specs.Lines.{line_feed}
-use Rattle.fv_command.specs.HexText.{IsHexText, IsWholeLine, Lined, ShowsBytes, last_text, line_text, lines_text}
+use Rattle.fv_command.specs.HexText.{IsHexText, IsWholeLine, ShowsBytes, last_text, line_text, lines_text}
+use Rattle.fv_command.specs.HexSinks.{Lined}
 
 -- a sink of lines with nothing waiting took the bytes, and then its last line was put
 pub text_put : {S : Type 0} {takes : S → List ℕ → S → Type 0} → WalkLaws takes → (s t u : S) (p bytes q : List ℕ) → p ≡ [] → length q < 32

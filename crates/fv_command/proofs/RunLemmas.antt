@@ -15,7 +15,7 @@ use Rattle.fv_tree.specs.Denotes.{Accepted, Denotes, depth_limit}
 use Rattle.fv_tree.specs.FirstFault.{IsFirstOfVolume}
 use Rattle.fv_tree.specs.Meaning.{Meaning, files_of}
 use Rattle.fv_tree.specs.Names.{file_named}
-use Rattle.fv_command.specs.Checks.{CheckStops}
+use Rattle.fv_command.specs.CheckRuns.{CheckStops}
 use Rattle.fv_command.specs.Images.{StopsImage}
 use Rattle.fv_command.specs.Inputs.{Shown, Gives, BeginsNone, BeginsWith, WritingStops}
 use Rattle.fv_command.specs.Parts.{StopsPart}

@@ -1,18 +1,13 @@
 -- What a check of a volume writes: what in it deserves a note, and whether it is its own canonical image.
 use Rattle.std.specs.Prelude.{◌≡◌, ◌↔◌, ◌⊎◌, ℕ, ◌==◌, ◌||◌, not, Bool, true, false, if◌then◌else◌, List, [], ◌∷◌, ◌++◌, drop, Option, Some}
 use Rattle.std.specs.Prelude.{None, codes, decimal}
-use Rattle.std.specs.Io.KnownBytes.{Appends, Keeps}
 use Rattle.std.specs.List.{count_by, flat_map}
-use Rattle.fv_base.specs.Faults.{want_of_memory}
 use Rattle.fv_base.specs.Flash.{erased_byte}
 use Rattle.fv_base.specs.Guids.{bytes_of, guid_text}
-use Rattle.fv_base.specs.Output.{WriteStops}
-use Rattle.fv_base.specs.declared.fault.Fault.{Fault}
 use Rattle.fv_base.specs.declared.flash.Polarity.{Polarity}
 use Rattle.fv_base.specs.declared.guid.Guid.{Guid}
 use Rattle.fv_canon.specs.Image.{IsImage}
 use Rattle.fv_canon.specs.Lines.{line_feed}
-use Rattle.fv_canon.specs.Refusals.{NotRead}
 use Rattle.fv_depex.specs.Checks.{IsFirstOpFault, depex_fault_number}
 use Rattle.fv_depex.specs.Expressions.{Spells}
 use Rattle.fv_depex.specs.declared.fault.DepexFault.{DepexFault}
@@ -113,10 +108,6 @@ AreNotes (x ∷ xs) notes =
     (IsSpelled x × AreNotes xs notes)
     ⊎ ((note : DepexNote) × (rest : List DepexNote) × IsNoted x note × (notes ≡ note ∷ rest) × AreNotes xs rest)
 
--- behind the notes that there were come those of some expressions
-abbrev pub Noted : List HeldDepex → List DepexNote → List DepexNote → Type 0
-Noted xs old new = (more : List DepexNote) × (new ≡ old ++ more) × AreNotes xs more
-
 -- the line of a note
 abbrev pub depex_line : DepexNote → List ℕ
 depex_line note =
@@ -155,13 +146,3 @@ pub record CheckText (input : List ℕ) (same : Bool) (text : List ℕ) : Type 0
   pub are_notes : AreNotes (depexes_in (files_of meaning)) notes
   pub text_is : text ≡ check_lines polarity cells notes same
   pub same_is : (same ≡ true) ↔ IsImage meaning input
-
--- the text of a check was written
-abbrev pub InputChecks : List ℕ → Option (List ℕ) → Option (List ℕ) → Bool → Type 0
-InputChecks input held holds same = (text : List ℕ) × CheckText input same text × Appends held holds text
-
--- nothing was written, for want of memory or since the input is no volume; or the writer stopped
-abbrev pub CheckStops : List ℕ → Option (List ℕ) → Option (List ℕ) → Fault → Type 0
-CheckStops input held holds fault =
-    (Keeps held holds × ((fault ≡ want_of_memory) ⊎ NotRead input fault))
-    ⊎ ((same : Bool) × (text : List ℕ) × CheckText input same text × WriteStops held holds text fault)

@@ -1,11 +1,13 @@
 -- The laws of a sink that puts lines of digits. There is nothing to believe here: these are proofs, and stand in specs/ since a
 -- ghost member cites the last of them.
+-- Serves private clauses alone: there is nothing to believe here.
 use Rattle.std.proofs.Common.{ℕ, List, [], ◌∷◌, ◌++◌, sym, ◌∙◌, ap, subst, append_assoc, append-nil}
 use Rattle.std.specs.List.{AllByRecursion, concat}
 use Rattle.std.proofs.lemmas.List.Concat.{flat_map-append}
 use Rattle.std.proofs.lemmas.List.Folds.{concat-append}
 use Rattle.fv_base.specs.Sinks.{WalkLaws}
-use Rattle.fv_command.specs.HexText.{HexTakes, IsWholeLine, Lined, line_text, lines_text}
+use Rattle.fv_command.specs.HexSinks.{HexTakes, Lined}
+use Rattle.fv_command.specs.HexText.{IsWholeLine, line_text, lines_text}
 
 whole_more : (xs ys : List (List ℕ)) → AllByRecursion IsWholeLine xs → AllByRecursion IsWholeLine ys → AllByRecursion IsWholeLine (xs ++ ys)
 whole_more [] ys a b = b

@@ -1,5 +1,5 @@
 -- Hexadecimal digits in pairs, with white space between them.
-use Rattle.std.specs.Prelude.{◌≡◌, ℕ, ◌+◌, ◌*◌, ◌==◌, ◌||◌, Bool, if◌then◌else◌, List, [], ◌∷◌, ◌++◌, Some}
+use Rattle.std.specs.Prelude.{◌≡◌, ℕ, ◌+◌, ◌*◌, ◌==◌, ◌||◌, Bool, if◌then◌else◌, List, [], ◌∷◌, Some}
 use Rattle.hex.specs.Hex.{hex_digit_value}
 
 -- a tab, a line feed, a carriage return or a space
@@ -19,16 +19,8 @@ pub record IsPair (h l byte : ℕ) : Type 0 where
   pub low_is : hex_digit_value l ≡ Some low
   pub byte_is : byte ≡ high * 16 + low
 
--- two characters are no byte: one of them at least is no digit
-abbrev pub IsNoPair : ℕ → ℕ → Type 0
-IsNoPair h l = (byte : ℕ) → IsPair h l byte → ⊥
-
 -- two digits for each byte
 abbrev pub DigitsSpell : List ℕ → List ℕ → Type 0
 DigitsSpell [] bytes = bytes ≡ []
 DigitsSpell (h ∷ []) bytes = ⊥
 DigitsSpell (h ∷ l ∷ ds) bytes = (byte : ℕ) × (rest : List ℕ) × IsPair h l byte × (bytes ≡ byte ∷ rest) × DigitsSpell ds rest
-
--- characters that spell no bytes, whatever stands behind them
-abbrev pub IsSpoilt : List ℕ → Type 0
-IsSpoilt digits = (behind bytes : List ℕ) → DigitsSpell (digits ++ behind) bytes → ⊥

@@ -6,7 +6,6 @@ use Rattle.fv_hob.specs.Hobs.{HobForm, hob_type, hob_len}
 use Rattle.fv_hob.specs.Lists.{span_of}
 use Rattle.fv_hob.specs.declared.span.Span.{Span}
 use Rattle.fv_command.specs.Standings.{IsStanding}
-use Rattle.fv_command.specs.declared.hobs.Image.{Image}
 use Rattle.fv_command.specs.declared.hobs.Standing.{Standing}
 use Rattle.fv_command.specs.declared.hobs.Standing.TheVariants.{Outside, Volume, Absent}
 
@@ -14,11 +13,6 @@ use Rattle.fv_command.specs.declared.hobs.Standing.TheVariants.{Outside, Volume,
 pub record ImageForm : Type 0 where
   pub bytes : List ℕ
   pub base : ℕ
-
--- those of an image in memory
-abbrev pub held_image : Option Image → Option ImageForm
-held_image None = None
-held_image (Some i) = Some (record { bytes = i.bytes.now; base = i.base })
 
 -- the image of these bytes, where there is a base
 abbrev pub image_form : Option ℕ → List ℕ → Option ImageForm

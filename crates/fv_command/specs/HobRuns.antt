@@ -9,8 +9,6 @@ use Rattle.fv_hob.specs.declared.fault.HobFault.{HobFault}
 use Rattle.fv_command.specs.HobLines.{HobsText, image_form}
 use Rattle.fv_command.specs.Inputs.{Shown, Gives, GivingStops, TellsStop, WritingStops}
 use Rattle.fv_command.specs.Lines.{hob_fault_line}
-use Rattle.fv_command.specs.declared.hob_runs.Refusal.{Refusal}
-use Rattle.fv_command.specs.declared.hob_runs.Refusal.TheVariants as refusals
 use Rattle.fv_command.specs.declared.status.Status.{Status}
 use Rattle.fv_command.specs.declared.status.Status.TheVariants.{Done, Refused}
 
@@ -55,11 +53,6 @@ abbrev pub FaultStopsHobs : Bool → Option ℕ → Shown → Shown → Shown �
 FaultStopsHobs hex base r s r' s' w v fault =
     (Keeps w.bytes v.bytes × HobInputStops hex base r s r' s' fault)
     ⊎ ListsHobs hex base r s r' s' (λ text. WritingStops w v text fault)
-
--- why nothing, or not all, was written
-abbrev pub RefusalStopsHobs : Bool → Option ℕ → Shown → Shown → Shown → Shown → Shown → Shown → Refusal → Type 0
-RefusalStopsHobs hex base r s r' s' w v (refusals.Input fault) = FaultStopsHobs hex base r s r' s' w v fault
-RefusalStopsHobs hex base r s r' s' w v (refusals.Hobs fault) = (v ≡ w) × RefusesHobs hex base r s r' s' fault
 
 -- the list was refused, and then the line of this fault was written, unless the port has erred
 abbrev pub TellsHobs : Bool → Option ℕ → Shown → Shown → Shown → Shown → Shown → Shown → Type 0

@@ -1,4 +1,5 @@
 -- How the canonical image of a volume goes out.
+-- Serves private clauses alone: there is nothing to believe here.
 use Rattle.std.specs.Prelude.{◌≡◌, ◌⊎◌, ℕ, List, Bool, Option}
 use Rattle.std.specs.Io.KnownBytes.{Appends, Keeps}
 use Rattle.fv_base.specs.Faults.{want_of_memory}

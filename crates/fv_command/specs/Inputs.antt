@@ -3,8 +3,10 @@ use Rattle.std.specs.Prelude.{◌≡◌, ◌<◌, ◌≤◌, ℕ, Bool, true, fa
 use Rattle.std.specs.Io.KnownBytes.{Appends}
 use Rattle.fv_base.specs.Faults.{fault_number}
 use Rattle.fv_base.specs.Input.{ReadsWhole, ReadStops}
+use Rattle.fv_base.specs.Port.{has_erred, inner_of}
 use Rattle.fv_base.specs.declared.fault.Fault.{Fault}
 use Rattle.fv_base.specs.declared.fault.FaultKind.TheVariants as kinds
+use Rattle.fv_base.specs.declared.port.Port.{Port}
 use Rattle.fv_tree.specs.Denotes.{Accepted}
 use Rattle.fv_tree.specs.FirstFault.{IsFirstOfVolume}
 use Rattle.fv_tree.specs.Meaning.{Meaning}
@@ -18,6 +20,10 @@ pub record Shown : Type 0 where
 
 abbrev pub seen : Option (List ℕ) → Bool → Shown
 seen bytes erred = record { bytes = bytes; erred = erred }
+
+-- what a port shows, by what its reader has left or its writer holds
+abbrev pub shown : {T : Type 0} → (T → Option (List ℕ)) → Port T → Shown
+shown told port = seen (told (inner_of port)) (has_erred port)
 
 -- an input was read to its end: as bytes, or as hexadecimal text that spells them
 abbrev pub Gives : Bool → Shown → Shown → List ℕ → Type 0

@@ -1,10 +1,14 @@
+pub mod CheckRuns
 pub mod Checks
 pub mod Files
+pub mod HexDecoding
 pub mod HexIn
 pub mod HexLaws
 pub mod HexPairs
+pub mod HexSinks
 pub mod HexText
 pub mod HobLines
+pub mod HobRefusals
 pub mod HobRuns
 pub mod Images
 pub mod Inputs

@@ -9,10 +9,6 @@ use Rattle.fv_hob.specs.declared.span.Span.{Span}
 use Rattle.fv_command.specs.declared.hobs.Standing.{Standing}
 use Rattle.fv_command.specs.declared.hobs.Standing.TheVariants.{Outside, Volume, Absent}
 
--- an input was read to its end, and it begins with a hand-off list
-abbrev pub ReadsHobs : Option (List ℕ) → Option (List ℕ) → Type 0
-ReadsHobs unread left = (input : List ℕ) × ReadsWhole unread left input × (all : List HobForm) × (n : ℕ) × (n ≤ length input) × IsHobList all (take n input)
-
 -- the span lies within so many bytes, the first of which has the address base
 abbrev pub IsWithin : ℕ → ℕ → Span → Type 0
 IsWithin base n s = (base ≤ s.base) × (s.base + s.length ≤ base + n)

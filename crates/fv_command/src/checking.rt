@@ -13,8 +13,9 @@ ghost use Rattle.fv_tree.specs.Instances.{inside_section, preorder};
 ghost use Rattle.fv_tree.specs.Meaning.{Meaning, files_of, sections_from};
 ghost use Rattle.fv_command.specs.Checks.{phase_of, written_in, pad_line, pad_note, pad_notes, note_of, read_by};
 ghost use Rattle.fv_command.specs.Checks.{sections_depexes, file_depexes, depexes_in, AreNotes};
-ghost use Rattle.fv_command.specs.Checks.{depex_line, depex_lines, verdict_line, check_lines, AreCells, Noted};
-ghost use Rattle.fv_command.specs.Checks.{InputChecks, CheckStops};
+ghost use Rattle.fv_command.specs.Checks.{depex_line, depex_lines, verdict_line, check_lines, AreCells};
+ghost use Rattle.fv_command.specs.CheckRuns.{Noted};
+ghost use Rattle.fv_command.specs.CheckRuns.{InputChecks, CheckStops};
 
 use fv_base::{Fault, FaultKind, Guid, Polarity, Port, Sink, WriteSink};
 use fv_canon::{is_canonical, put_decimal, whole_volume};

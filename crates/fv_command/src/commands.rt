@@ -1,7 +1,6 @@
 //! The commands, run over readers and a writer.
 
-ghost use Rattle.fv_base.specs.Port.{inner_of, has_erred};
-ghost use Rattle.fv_command.specs.Inputs.{seen};
+ghost use Rattle.fv_command.specs.Inputs.{shown};
 ghost use Rattle.fv_command.specs.Runs.{Runs};
 
 use crate::comparing::run_comparison;
@@ -28,12 +27,12 @@ pub fn run_plan<First: Read, Second: Read, W: Write>(
 ) -> Status
     // By the command and the status: what was read of each input, and what was written.
     ensures { Runs plan.now result
-        (seen (First.remaining (inner_of first.old)) (has_erred first.old))
-        (seen (First.remaining (inner_of first.new)) (has_erred first.new))
-        (seen (Second.remaining (inner_of second.old)) (has_erred second.old))
-        (seen (Second.remaining (inner_of second.new)) (has_erred second.new))
-        (seen (W.contents (inner_of writer.old)) (has_erred writer.old))
-        (seen (W.contents (inner_of writer.new)) (has_erred writer.new)) }
+        (shown First.remaining first.old)
+        (shown First.remaining first.new)
+        (shown Second.remaining second.old)
+        (shown Second.remaining second.new)
+        (shown W.contents writer.old)
+        (shown W.contents writer.new) }
 {
     match &plan.command {
         Command::Single { task, .. } => run_task(alloc, task, plan.hex, first, writer),

@@ -1,10 +1,9 @@
 //! Two volumes, compared.
 
 ghost use Rattle.std.specs.Prelude.{◌≡◌, ◌⊎◌, IfOk, IfErr};
-ghost use Rattle.fv_base.specs.Port.{inner_of, has_erred};
 ghost use Rattle.fv_canon.specs.Comparisons.{VolumeStops};
 ghost use Rattle.fv_tree.specs.Denotes.{Accepted};
-ghost use Rattle.fv_command.specs.Inputs.{Gives, GivingStops, seen};
+ghost use Rattle.fv_command.specs.Inputs.{Gives, GivingStops, shown};
 ghost use Rattle.fv_command.specs.SideRuns.{ComparesRead, RunsComparison, SideStops};
 
 use crate::inputs::read_bytes;
@@ -23,11 +22,11 @@ fn read_side<R: Read>(
     side: Side,
     reader: &mut Port<R>,
 ) -> Result<Vec<u8>, (Side, Fault)>
-    ensures ok { IfOk result (λ v. Gives hex (seen (R.remaining (inner_of reader.old)) (has_erred reader.old))
-        (seen (R.remaining (inner_of reader.new)) (has_erred reader.new)) v.items) }
+    ensures ok { IfOk result (λ v. Gives hex (shown R.remaining reader.old)
+        (shown R.remaining reader.new) v.items) }
     ensures err { IfErr result (λ e. (e.0 ≡ side) × GivingStops hex
-        (seen (R.remaining (inner_of reader.old)) (has_erred reader.old))
-        (seen (R.remaining (inner_of reader.new)) (has_erred reader.new)) e.1) }
+        (shown R.remaining reader.old)
+        (shown R.remaining reader.new) e.1) }
 {
     match read_bytes(alloc, hex, reader) {
         Ok(bytes) => Ok(bytes),
@@ -57,19 +56,19 @@ fn compare<First: Read, Second: Read, W: Write>(
     writer: &mut Port<W>,
 ) -> Result<bool, (Side, Fault)>
     ensures ok { IfOk result (ComparesRead hex
-        (seen (First.remaining (inner_of first.old)) (has_erred first.old))
-        (seen (First.remaining (inner_of first.new)) (has_erred first.new))
-        (seen (Second.remaining (inner_of second.old)) (has_erred second.old))
-        (seen (Second.remaining (inner_of second.new)) (has_erred second.new))
-        (seen (W.contents (inner_of writer.old)) (has_erred writer.old))
-        (seen (W.contents (inner_of writer.new)) (has_erred writer.new))) }
+        (shown First.remaining first.old)
+        (shown First.remaining first.new)
+        (shown Second.remaining second.old)
+        (shown Second.remaining second.new)
+        (shown W.contents writer.old)
+        (shown W.contents writer.new)) }
     ensures err { IfErr result (λ e. SideStops e.0 hex
-        (seen (First.remaining (inner_of first.old)) (has_erred first.old))
-        (seen (First.remaining (inner_of first.new)) (has_erred first.new))
-        (seen (Second.remaining (inner_of second.old)) (has_erred second.old))
-        (seen (Second.remaining (inner_of second.new)) (has_erred second.new))
-        (seen (W.contents (inner_of writer.old)) (has_erred writer.old))
-        (seen (W.contents (inner_of writer.new)) (has_erred writer.new)) e.1) }
+        (shown First.remaining first.old)
+        (shown First.remaining first.new)
+        (shown Second.remaining second.old)
+        (shown Second.remaining second.new)
+        (shown W.contents writer.old)
+        (shown W.contents writer.new) e.1) }
 {
     let first_bytes = read_side(alloc, hex, Side::First, first)?;
     let first_volume = accept_side(alloc, Side::First, &first_bytes)?;
@@ -87,12 +86,12 @@ pub fn run_comparison<First: Read, Second: Read, W: Write>(
     writer: &mut Port<W>,
 ) -> Status
     ensures { RunsComparison hex result
-        (seen (First.remaining (inner_of first.old)) (has_erred first.old))
-        (seen (First.remaining (inner_of first.new)) (has_erred first.new))
-        (seen (Second.remaining (inner_of second.old)) (has_erred second.old))
-        (seen (Second.remaining (inner_of second.new)) (has_erred second.new))
-        (seen (W.contents (inner_of writer.old)) (has_erred writer.old))
-        (seen (W.contents (inner_of writer.new)) (has_erred writer.new)) }
+        (shown First.remaining first.old)
+        (shown First.remaining first.new)
+        (shown Second.remaining second.old)
+        (shown Second.remaining second.new)
+        (shown W.contents writer.old)
+        (shown W.contents writer.new) }
 {
     match compare(alloc, hex, first, second, writer) {
         Ok(true) => Status::Done,

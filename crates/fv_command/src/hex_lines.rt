@@ -5,7 +5,8 @@ ghost use Rattle.std.specs.Prelude.{IfErr, OnOk, OnErr};
 ghost use Rattle.std.specs.Io.KnownBytes.{Appends};
 ghost use Rattle.fv_base.specs.Port.{inner_of, has_erred};
 ghost use Rattle.fv_command.specs.HexLaws.{hex_by};
-ghost use Rattle.fv_command.specs.HexText.{HexTakes, IsHexText, ShowsBytes, last_text, line_text};
+ghost use Rattle.fv_command.specs.HexSinks.{HexTakes};
+ghost use Rattle.fv_command.specs.HexText.{IsHexText, ShowsBytes, last_text, line_text};
 
 use fv_base::{Fault, FaultKind, Port, Sink, WriteSink};
 use std::io::Write;

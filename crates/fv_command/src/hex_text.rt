@@ -1,9 +1,11 @@
 //! Hexadecimal text as an input: the digits of either case, with white space between them.
 
 ghost use Rattle.std.specs.Prelude.{◌≡◌, ◌<◌, ◌≤◌, ◌++◌, ◌%◌, [], ℕ, List, false, length, IfOk, IfErr, OnOk, vec_len};
-ghost use Rattle.fv_base.specs.Limits.{read_limit, volume_limit};
+ghost use Rattle.fv_base.specs.ReadTurns.{read_limit};
+ghost use Rattle.fv_base.specs.Limits.{volume_limit};
 ghost use Rattle.fv_base.specs.Port.{inner_of, has_erred};
-ghost use Rattle.fv_command.specs.HexIn.{Decodes, DecodesPairs, ReadsPiece, RefusesText, SpellsWhole, TextStops};
+ghost use Rattle.fv_command.specs.HexDecoding.{Decodes, DecodesPairs, ReadsPiece, RefusesText};
+ghost use Rattle.fv_command.specs.HexIn.{SpellsWhole, TextStops};
 ghost use Rattle.fv_command.specs.HexPairs.{DigitsSpell, squeezed};
 
 use crate::hex_digits::{push_pairs, squeeze, take_odd};

@@ -2,10 +2,12 @@
 
 ghost use Rattle.std.specs.Prelude.{◌≡◌, ℕ, List, IfOk, IfErr, OnOk};
 ghost use Rattle.std.specs.Io.KnownBytes.{Appends};
-ghost use Rattle.fv_base.specs.Port.{inner_of, has_erred};
-ghost use Rattle.fv_command.specs.HobRuns.{GivesImage, HobImageStops, ListsHobs, RunsHobs, RefusalStopsHobs};
-ghost use Rattle.fv_command.specs.HobLines.{held_image, image_form};
-ghost use Rattle.fv_command.specs.Inputs.{seen};
+ghost use Rattle.fv_base.specs.Port.{inner_of};
+ghost use Rattle.fv_command.specs.HobRuns.{GivesImage, HobImageStops, ListsHobs, RunsHobs};
+ghost use Rattle.fv_command.specs.HobRefusals.{RefusalStopsHobs};
+ghost use Rattle.fv_command.specs.HobRefusals.{held_image};
+ghost use Rattle.fv_command.specs.HobLines.{image_form};
+ghost use Rattle.fv_command.specs.Inputs.{shown};
 
 use crate::hobs::{Image, write_hobs};
 use crate::inputs::read_bytes;
@@ -53,11 +55,11 @@ fn read_image<R: Read>(
     reader: &mut Port<R>,
 ) -> Result<Vec<u8>, Fault>
     ensures ok { IfOk result (λ v. GivesImage hex base
-        (seen (R.remaining (inner_of reader.old)) (has_erred reader.old))
-        (seen (R.remaining (inner_of reader.new)) (has_erred reader.new)) v.items) }
+        (shown R.remaining reader.old)
+        (shown R.remaining reader.new) v.items) }
     ensures err { IfErr result (HobImageStops hex base
-        (seen (R.remaining (inner_of reader.old)) (has_erred reader.old))
-        (seen (R.remaining (inner_of reader.new)) (has_erred reader.new))) }
+        (shown R.remaining reader.old)
+        (shown R.remaining reader.new)) }
 {
     match base {
         Some(_) => read_bytes(alloc, hex, reader),
@@ -86,18 +88,18 @@ fn list_hobs<First: Read, Second: Read, W: Write>(
     writer: &mut Port<W>,
 ) -> Result<(), Refusal>
     ensures ok { OnOk result (ListsHobs hex base
-        (seen (First.remaining (inner_of first.old)) (has_erred first.old))
-        (seen (First.remaining (inner_of first.new)) (has_erred first.new))
-        (seen (Second.remaining (inner_of second.old)) (has_erred second.old))
-        (seen (Second.remaining (inner_of second.new)) (has_erred second.new))
+        (shown First.remaining first.old)
+        (shown First.remaining first.new)
+        (shown Second.remaining second.old)
+        (shown Second.remaining second.new)
         (λ text. Appends (W.contents (inner_of writer.old)) (W.contents (inner_of writer.new)) text)) }
     ensures err { IfErr result (RefusalStopsHobs hex base
-        (seen (First.remaining (inner_of first.old)) (has_erred first.old))
-        (seen (First.remaining (inner_of first.new)) (has_erred first.new))
-        (seen (Second.remaining (inner_of second.old)) (has_erred second.old))
-        (seen (Second.remaining (inner_of second.new)) (has_erred second.new))
-        (seen (W.contents (inner_of writer.old)) (has_erred writer.old))
-        (seen (W.contents (inner_of writer.new)) (has_erred writer.new))) }
+        (shown First.remaining first.old)
+        (shown First.remaining first.new)
+        (shown Second.remaining second.old)
+        (shown Second.remaining second.new)
+        (shown W.contents writer.old)
+        (shown W.contents writer.new)) }
 {
     let list = read_bytes(alloc, hex, first)?;
     let bytes = read_image(alloc, hex, base, second)?;
@@ -115,12 +117,12 @@ pub fn run_hobs<First: Read, Second: Read, W: Write>(
     writer: &mut Port<W>,
 ) -> Status
     ensures { RunsHobs base hex result
-        (seen (First.remaining (inner_of first.old)) (has_erred first.old))
-        (seen (First.remaining (inner_of first.new)) (has_erred first.new))
-        (seen (Second.remaining (inner_of second.old)) (has_erred second.old))
-        (seen (Second.remaining (inner_of second.new)) (has_erred second.new))
-        (seen (W.contents (inner_of writer.old)) (has_erred writer.old))
-        (seen (W.contents (inner_of writer.new)) (has_erred writer.new)) }
+        (shown First.remaining first.old)
+        (shown First.remaining first.new)
+        (shown Second.remaining second.old)
+        (shown Second.remaining second.new)
+        (shown W.contents writer.old)
+        (shown W.contents writer.new) }
 {
     match list_hobs(alloc, hex, base, first, second, writer) {
         Ok(()) => Status::Done,

@@ -4,7 +4,8 @@ ghost use Rattle.std.specs.Prelude.{◌≡◌, ◌≤◌, ℕ, List, length, tru
 ghost use Rattle.std.specs.Io.KnownBytes.{Appends};
 ghost use Rattle.fv_base.specs.Output.{WriteStops};
 ghost use Rattle.fv_base.specs.Port.{inner_of, has_erred};
-ghost use Rattle.fv_command.specs.HobLines.{HobsText, IsWord, consumed_line, held_image, four_digits, hob_line, standing_word};
+ghost use Rattle.fv_command.specs.HobLines.{HobsText, IsWord, consumed_line, four_digits, hob_line, standing_word};
+ghost use Rattle.fv_command.specs.HobRefusals.{held_image};
 ghost use Rattle.fv_command.specs.Standings.{IsStanding};
 
 use fv_base::field::field;

@@ -1,8 +1,7 @@
 //! The bytes of an input.
 
 ghost use Rattle.std.specs.Prelude.{IfOk, IfErr};
-ghost use Rattle.fv_base.specs.Port.{inner_of, has_erred};
-ghost use Rattle.fv_command.specs.Inputs.{Gives, GivingStops, seen};
+ghost use Rattle.fv_command.specs.Inputs.{Gives, GivingStops, shown};
 
 use crate::hex_text::read_hex;
 use fv_base::{Fault, Port, read_input};
@@ -17,10 +16,10 @@ use std::io::Read;
 /// input is longer. Of text also ReadFault at 0, where it is no even number of digits.
 /// OutOfMemory.
 pub fn read_bytes<R: Read>(alloc: Global, hex: bool, reader: &mut Port<R>) -> Result<Vec<u8>, Fault>
-    ensures ok { IfOk result (λ v. Gives hex (seen (R.remaining (inner_of reader.old)) (has_erred reader.old))
-        (seen (R.remaining (inner_of reader.new)) (has_erred reader.new)) v.items) }
-    ensures err { IfErr result (GivingStops hex (seen (R.remaining (inner_of reader.old)) (has_erred reader.old))
-        (seen (R.remaining (inner_of reader.new)) (has_erred reader.new))) }
+    ensures ok { IfOk result (λ v. Gives hex (shown R.remaining reader.old)
+        (shown R.remaining reader.new) v.items) }
+    ensures err { IfErr result (GivingStops hex (shown R.remaining reader.old)
+        (shown R.remaining reader.new)) }
 {
     if hex {
         read_hex(alloc, reader)

@@ -2,8 +2,8 @@
 
 ghost use Rattle.std.specs.Prelude.{ℕ, Bool, List, IfOk, IfErr};
 ghost use Rattle.std.specs.Io.KnownBytes.{Appends};
-ghost use Rattle.fv_base.specs.Port.{inner_of, has_erred};
-ghost use Rattle.fv_command.specs.Inputs.{WritingStops, seen};
+ghost use Rattle.fv_base.specs.Port.{inner_of};
+ghost use Rattle.fv_command.specs.Inputs.{WritingStops, shown};
 ghost use Rattle.fv_command.specs.TaskRuns.{RunsTask, SaysInput, SaysRead, StopsInput, StopsRead};
 ghost use Rattle.fv_command.specs.Tasks.{PartText};
 
@@ -32,11 +32,11 @@ fn normalise<W: Write>(
     writer: &mut Port<W>,
 ) -> Result<Status, Fault>
     ensures ok { IfOk result (SaysInput Task.Normalise hex input.now
-        (seen (W.contents (inner_of writer.old)) (has_erred writer.old))
-        (seen (W.contents (inner_of writer.new)) (has_erred writer.new))) }
+        (shown W.contents writer.old)
+        (shown W.contents writer.new)) }
     ensures err { IfErr result (StopsInput Task.Normalise hex input.now
-        (seen (W.contents (inner_of writer.old)) (has_erred writer.old))
-        (seen (W.contents (inner_of writer.new)) (has_erred writer.new))) }
+        (shown W.contents writer.old)
+        (shown W.contents writer.new)) }
 {
     write_image(alloc, hex, input, writer)?;
     Ok(Status::Done)
@@ -51,11 +51,11 @@ fn normalise_all<W: Write>(
     writer: &mut Port<W>,
 ) -> Result<Status, Fault>
     ensures ok { IfOk result (SaysInput Task.NormaliseAll hex input.now
-        (seen (W.contents (inner_of writer.old)) (has_erred writer.old))
-        (seen (W.contents (inner_of writer.new)) (has_erred writer.new))) }
+        (shown W.contents writer.old)
+        (shown W.contents writer.new)) }
     ensures err { IfErr result (StopsInput Task.NormaliseAll hex input.now
-        (seen (W.contents (inner_of writer.old)) (has_erred writer.old))
-        (seen (W.contents (inner_of writer.new)) (has_erred writer.new))) }
+        (shown W.contents writer.old)
+        (shown W.contents writer.new)) }
 {
     let image = normalise_image(alloc, input)?;
     write_shown(writer, hex, image.as_slice())?;
@@ -65,11 +65,11 @@ fn normalise_all<W: Write>(
 // Writes what the volume holds that the input begins with.
 fn list<W: Write>(alloc: Global, input: &[u8], writer: &mut Port<W>) -> Result<Status, Fault>
     ensures ok { (hex : Bool) → IfOk result (SaysInput Task.List hex input.now
-        (seen (W.contents (inner_of writer.old)) (has_erred writer.old))
-        (seen (W.contents (inner_of writer.new)) (has_erred writer.new))) }
+        (shown W.contents writer.old)
+        (shown W.contents writer.new)) }
     ensures err { (hex : Bool) → IfErr result (StopsInput Task.List hex input.now
-        (seen (W.contents (inner_of writer.old)) (has_erred writer.old))
-        (seen (W.contents (inner_of writer.new)) (has_erred writer.new))) }
+        (shown W.contents writer.old)
+        (shown W.contents writer.new)) }
 {
     let (volume, _length) = read_volume(alloc, input)?;
     write_list(writer, &volume)?;
@@ -85,8 +85,8 @@ fn write_part<W: Write>(
     ensures ok { IfOk result (λ status. (text : List ℕ) × PartText hex extraction.now status text
         × Appends (W.contents (inner_of writer.old)) (W.contents (inner_of writer.new)) text) }
     ensures err { IfErr result (λ f. (status : Status) × (text : List ℕ) × PartText hex extraction.now status text
-        × WritingStops (seen (W.contents (inner_of writer.old)) (has_erred writer.old))
-        (seen (W.contents (inner_of writer.new)) (has_erred writer.new)) text f) }
+        × WritingStops (shown W.contents writer.old)
+        (shown W.contents writer.new) text f) }
 {
     match extraction {
         Extraction::Made(bytes) => {
@@ -117,11 +117,11 @@ fn extract_part<W: Write>(
     writer: &mut Port<W>,
 ) -> Result<Status, Fault>
     ensures ok { IfOk result (SaysInput (Task.Extract part.now) hex input.now
-        (seen (W.contents (inner_of writer.old)) (has_erred writer.old))
-        (seen (W.contents (inner_of writer.new)) (has_erred writer.new))) }
+        (shown W.contents writer.old)
+        (shown W.contents writer.new)) }
     ensures err { IfErr result (StopsInput (Task.Extract part.now) hex input.now
-        (seen (W.contents (inner_of writer.old)) (has_erred writer.old))
-        (seen (W.contents (inner_of writer.new)) (has_erred writer.new))) }
+        (shown W.contents writer.old)
+        (shown W.contents writer.new)) }
 {
     let (volume, _length) = read_volume(alloc, input)?;
     let extraction = extract(alloc, &volume, part)?;
@@ -131,11 +131,11 @@ fn extract_part<W: Write>(
 // Writes whether the input is a canonical image, and the notes of it.
 fn check<W: Write>(alloc: Global, input: &[u8], writer: &mut Port<W>) -> Result<Status, Fault>
     ensures ok { (hex : Bool) → IfOk result (SaysInput Task.Check hex input.now
-        (seen (W.contents (inner_of writer.old)) (has_erred writer.old))
-        (seen (W.contents (inner_of writer.new)) (has_erred writer.new))) }
+        (shown W.contents writer.old)
+        (shown W.contents writer.new)) }
     ensures err { (hex : Bool) → IfErr result (StopsInput Task.Check hex input.now
-        (seen (W.contents (inner_of writer.old)) (has_erred writer.old))
-        (seen (W.contents (inner_of writer.new)) (has_erred writer.new))) }
+        (shown W.contents writer.old)
+        (shown W.contents writer.new)) }
 {
     if write_check(alloc, input, writer)? {
         Ok(Status::Done)
@@ -147,11 +147,11 @@ fn check<W: Write>(alloc: Global, input: &[u8], writer: &mut Port<W>) -> Result<
 // Writes where volumes stand in the input.
 fn scan<W: Write>(alloc: Global, input: &[u8], writer: &mut Port<W>) -> Result<Status, Fault>
     ensures ok { (hex : Bool) → IfOk result (SaysInput Task.Scan hex input.now
-        (seen (W.contents (inner_of writer.old)) (has_erred writer.old))
-        (seen (W.contents (inner_of writer.new)) (has_erred writer.new))) }
+        (shown W.contents writer.old)
+        (shown W.contents writer.new)) }
     ensures err { (hex : Bool) → IfErr result (StopsInput Task.Scan hex input.now
-        (seen (W.contents (inner_of writer.old)) (has_erred writer.old))
-        (seen (W.contents (inner_of writer.new)) (has_erred writer.new))) }
+        (shown W.contents writer.old)
+        (shown W.contents writer.new)) }
 {
     let offsets = fv_tree::scan(alloc, input)?;
     write_volumes(writer, input, offsets.as_slice())?;
@@ -167,11 +167,11 @@ fn perform<W: Write>(
     writer: &mut Port<W>,
 ) -> Result<Status, Fault>
     ensures ok { IfOk result (SaysInput task.now hex input.now
-        (seen (W.contents (inner_of writer.old)) (has_erred writer.old))
-        (seen (W.contents (inner_of writer.new)) (has_erred writer.new))) }
+        (shown W.contents writer.old)
+        (shown W.contents writer.new)) }
     ensures err { IfErr result (StopsInput task.now hex input.now
-        (seen (W.contents (inner_of writer.old)) (has_erred writer.old))
-        (seen (W.contents (inner_of writer.new)) (has_erred writer.new))) }
+        (shown W.contents writer.old)
+        (shown W.contents writer.new)) }
 {
     match task {
         Task::Normalise => normalise(alloc, hex, input, writer),
@@ -192,15 +192,15 @@ fn read_and_perform<R: Read, W: Write>(
     writer: &mut Port<W>,
 ) -> Result<Status, Fault>
     ensures ok { IfOk result (SaysRead task.now hex
-        (seen (R.remaining (inner_of reader.old)) (has_erred reader.old))
-        (seen (R.remaining (inner_of reader.new)) (has_erred reader.new))
-        (seen (W.contents (inner_of writer.old)) (has_erred writer.old))
-        (seen (W.contents (inner_of writer.new)) (has_erred writer.new))) }
+        (shown R.remaining reader.old)
+        (shown R.remaining reader.new)
+        (shown W.contents writer.old)
+        (shown W.contents writer.new)) }
     ensures err { IfErr result (StopsRead task.now hex
-        (seen (R.remaining (inner_of reader.old)) (has_erred reader.old))
-        (seen (R.remaining (inner_of reader.new)) (has_erred reader.new))
-        (seen (W.contents (inner_of writer.old)) (has_erred writer.old))
-        (seen (W.contents (inner_of writer.new)) (has_erred writer.new))) }
+        (shown R.remaining reader.old)
+        (shown R.remaining reader.new)
+        (shown W.contents writer.old)
+        (shown W.contents writer.new)) }
 {
     let input = read_bytes(alloc, hex, reader)?;
     perform(alloc, task, hex, &input, writer)
@@ -216,10 +216,10 @@ pub fn run_task<R: Read, W: Write>(
     writer: &mut Port<W>,
 ) -> Status
     ensures { RunsTask task.now hex result
-        (seen (R.remaining (inner_of reader.old)) (has_erred reader.old))
-        (seen (R.remaining (inner_of reader.new)) (has_erred reader.new))
-        (seen (W.contents (inner_of writer.old)) (has_erred writer.old))
-        (seen (W.contents (inner_of writer.new)) (has_erred writer.new)) }
+        (shown R.remaining reader.old)
+        (shown R.remaining reader.new)
+        (shown W.contents writer.old)
+        (shown W.contents writer.new) }
 {
     match read_and_perform(alloc, task, hex, reader, writer) {
         Ok(status) => status,

@@ -1,4 +1,5 @@
 -- What ops do to a stack of truth values, its top first.
+-- Serves private clauses alone: there is nothing to believe here.
 use Rattle.std.specs.Prelude.{◌&&◌, ◌||◌, not, Bool, true, false, Option, None, Some, List, [], ◌∷◌}
 use Rattle.fv_base.specs.declared.guid.Guid.{Guid}
 use Rattle.fv_depex.specs.declared.op.Op.{Op}

@@ -1,9 +1,8 @@
 -- Dependency expressions (PI specification, volume 1, section 3.4, and volume 2, section 10.7).
-use Rattle.std.specs.Prelude.{◌≡◌, ℕ, ◌⊎◌, ◌==◌, ◌&&◌, ◌||◌, not, nat_le, if◌then◌else◌, Bool, true, false, List, [], ◌∷◌, ◌++◌, length, slice_index}
+use Rattle.std.specs.Prelude.{◌≡◌, ℕ, ◌⊎◌, ◌&&◌, ◌||◌, not, nat_le, Bool, true, false, List, [], ◌∷◌, ◌++◌, length}
 use Rattle.std.specs.List.{AllByRecursion, list_any}
 use Rattle.std.specs.Str.{bytes_eq}
 use Rattle.fv_base.specs.Guids.{bytes_of}
-use Rattle.fv_base.specs.Value.{field}
 use Rattle.fv_base.specs.declared.guid.Guid.{Guid}
 use Rattle.fv_depex.specs.declared.op.Op.{Op}
 use Rattle.fv_depex.specs.declared.op.Op.TheVariants as ops
@@ -40,7 +39,8 @@ pub record IsOrder (phase : Phase) (all : List Op) : Type 0 where
   pub joined : (all ≡ ops.Before guid ∷ ops.End ∷ []) ⊎ (all ≡ ops.After guid ∷ ops.End ∷ [])
   pub dxe : phase ≡ Dxe
 
--- the code of an op
+-- the code of an op: EFI_DEP_BEFORE (00), EFI_DEP_AFTER, EFI_DEP_PUSH, EFI_DEP_AND, EFI_DEP_OR, EFI_DEP_NOT, EFI_DEP_TRUE, EFI_DEP_FALSE,
+-- EFI_DEP_END, EFI_DEP_SOR (09)
 abbrev pub op_code : Op → ℕ
 op_code (ops.Before g) = 0x00
 op_code (ops.After g) = 0x01
@@ -64,23 +64,6 @@ op_operand _ = []
 abbrev pub ops_bytes : List Op → List ℕ
 ops_bytes [] = []
 ops_bytes (o ∷ os) = op_code o ∷ (op_operand o ++ ops_bytes os)
-
--- the op of a code, with a GUID if it carries one
-abbrev pub op_by : ℕ → Guid → Op
-op_by code g =
-    if code == 0x00 then ops.Before g
-    else (if code == 0x01 then ops.After g
-    else (if code == 0x02 then ops.Push g
-    else (if code == 0x03 then ops.And
-    else (if code == 0x04 then ops.Or
-    else (if code == 0x05 then ops.Not
-    else (if code == 0x06 then ops.True
-    else (if code == 0x07 then ops.False
-    else (if code == 0x08 then ops.End else ops.Sor))))))))
-
--- the op that begins r
-abbrev pub op_in : List ℕ → Op
-op_in r = op_by (slice_index r 0) (record { bytes = field 1 16 r })
 
 -- a code that carries a GUID
 abbrev pub carries : ℕ → Bool

@@ -1,4 +1,5 @@
 pub mod Checks
+pub mod DepexView
 pub mod Evaluation
 pub mod Expressions
-pub mod DepexView
+pub mod Ops

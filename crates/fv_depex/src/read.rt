@@ -1,9 +1,11 @@
 //! Expressions, read.
 
 ghost use Rattle.std.specs.Prelude.{◌≡◌, ◌≢◌, ◌≤◌, ◌+◌, ℕ, List, length, drop, true, None, Some, OnOk, IfOk, IfErr};
-ghost use Rattle.fv_base.specs.Checks.{IsFirstFault, first_fault};
+ghost use Rattle.fv_base.specs.Checks.{IsFirstFault};
+ghost use Rattle.fv_base.specs.Verdicts.{first_fault};
 ghost use Rattle.fv_depex.specs.Checks.{BeginsFirstOp, IsFirstOpFault, BeginsOp, has_code, in_place, has_values, holds_values, has_operand, op_checks, depex_want_of_memory};
-ghost use Rattle.fv_depex.specs.Expressions.{Spells, carries, op_code, op_in, operand_len};
+ghost use Rattle.fv_depex.specs.Expressions.{Spells, carries, op_code, operand_len};
+ghost use Rattle.fv_depex.specs.Ops.{op_in};
 ghost use Rattle.fv_depex.specs.declared.op.Op.{Op};
 
 use crate::depex::Depex;

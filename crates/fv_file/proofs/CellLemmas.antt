@@ -5,7 +5,8 @@ use Rattle.std.proofs.lemmas.Bool.{leb-true, le-leb, ltb-true, ltb-false, eqb-tr
 use Rattle.std.proofs.lemmas.List.{length-take-le, get_or-take}
 use Rattle.std.proofs.Math.ListN.{get_or-append}
 use Rattle.std.proofs.Math.Seq.{take-add}
-use Rattle.fv_base.specs.Checks.{first_fault, IsFirstFault}
+use Rattle.fv_base.specs.Verdicts.{first_fault}
+use Rattle.fv_base.specs.Checks.{IsFirstFault}
 use Rattle.fv_base.specs.Erased.{AllAre}
 use Rattle.fv_base.specs.Faults.{outer_fault}
 use Rattle.fv_base.specs.Flash.{erased_byte}

@@ -3,7 +3,8 @@ use Rattle.std.proofs.Common.{◌≡◌, ◌≤◌, ℕ, List, ◌++◌, length,
 use Rattle.std.specs.Prelude.{◌==◌, ◌⊎◌, nat_lt, slice_index, Option, None, Some, Result, Ok, Err, IfOk, IfErr, if◌then◌else◌}
 use Rattle.std.proofs.lemmas.Bool.{le-leb, ltb-true, ltb-false, eqb-true}
 use Rattle.std.proofs.lemmas.List.{take-append-drop}
-use Rattle.fv_base.specs.Checks.{first_fault, IsFirstFault}
+use Rattle.fv_base.specs.Verdicts.{first_fault}
+use Rattle.fv_base.specs.Checks.{IsFirstFault}
 use Rattle.fv_base.specs.Faults.{outer_fault}
 use Rattle.fv_base.specs.declared.fault.Fault.{Fault}
 use Rattle.fv_base.specs.declared.fault.FaultKind.TheVariants as kinds

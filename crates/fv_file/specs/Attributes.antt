@@ -6,15 +6,15 @@ use Rattle.fv_file.specs.declared.attributes.FileAttributes.{FileAttributes}
 abbrev pub attribute_bits : FileAttributes → ℕ
 attribute_bits a = a.0
 
--- bit 01: the header has 32 bytes, and the size stands behind its first 24
+-- bit 01, FFS_ATTRIB_LARGE_FILE: the header has 32 bytes, and the size stands behind its first 24
 abbrev pub is_large : ℕ → Bool
 is_large attributes = attributes % 2 == 1
 
--- bit 04: the file may not be moved
+-- bit 04, FFS_ATTRIB_FIXED: the file may not be moved
 abbrev pub is_fixed : ℕ → Bool
 is_fixed attributes = attributes / 4 % 2 == 1
 
--- bit 40: the file sum is over the data
+-- bit 40, FFS_ATTRIB_CHECKSUM: the file sum is over the data
 abbrev pub is_summed : ℕ → Bool
 is_summed attributes = attributes / 64 % 2 == 1
 

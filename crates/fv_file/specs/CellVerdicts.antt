@@ -1,6 +1,7 @@
 -- What is answered at one place: a value, or the fault of the first check that does not hold.
+-- Serves private clauses alone: there is nothing to believe here.
 use Rattle.std.specs.Prelude.{ℕ, ◌+◌, ◌==◌, nat_lt, if◌then◌else◌, Option, Some, None, Result, Ok, Err, List, length, slice_index}
-use Rattle.fv_base.specs.Checks.{first_fault, verdict_by}
+use Rattle.fv_base.specs.Verdicts.{first_fault, verdict_by}
 use Rattle.fv_base.specs.Faults.{outer_fault}
 use Rattle.fv_base.specs.Flash.{erased_byte}
 use Rattle.fv_base.specs.Value.{up_to_8}

@@ -1,5 +1,6 @@
 -- Files and their headers (PI specification, volume 3, section 3.2.3.1, EFI_FFS_FILE_HEADER and EFI_FFS_FILE_HEADER2).
 use Rattle.std.specs.Prelude.{◌≡◌, ◌≢◌, ℕ, ◌+◌, ◌%◌, ◌==◌, ◌⊎◌, Bool, true, false, if◌then◌else◌, List, ◌++◌, length, take, drop, slice_index, sum}
+use Rattle.fv_base.specs.Guids.{guid_of}
 use Rattle.fv_base.specs.Value.{le_at, field}
 use Rattle.fv_base.specs.declared.flash.FileSystem.{FileSystem}
 use Rattle.fv_base.specs.declared.flash.FileSystem.TheVariants.{Ffs3}
@@ -26,7 +27,7 @@ file_size_in true b = le_at 24 8 b
 -- the fields of the header that begins b, by their places
 abbrev pub head_in : FileState → List ℕ → FileHead
 head_in state b = record {
-  name = record { bytes = take 16 b };
+  name = guid_of (take 16 b);
   header_sum = slice_index b 16;
   file_sum = slice_index b 17;
   kind = slice_index b 18;
@@ -36,11 +37,11 @@ head_in state b = record {
   state = state;
 }
 
--- the sum of a header, with the file sum at 17 and State at 23 taken as zero
+-- the sum of a header, with the file sum at 17 (IntegrityCheck.Checksum.File) and State at 23 taken as zero
 abbrev pub header_sum_of : List ℕ → ℕ
 header_sum_of h = (sum (take 17 h) + sum (field 18 5 h) + sum (drop 24 h)) % 256
 
--- with the checksum attribute, data and file sum sum to zero; else the file sum is AA
+-- with the checksum attribute, data and file sum sum to zero; else the file sum is AA (FFS_FIXED_CHECKSUM)
 abbrev pub file_sum_right : ℕ → ℕ → List ℕ → Bool
 file_sum_right attributes file_sum payload =
     if is_summed attributes then (sum payload + file_sum) % 256 == 0 else file_sum == 0xaa

@@ -1,4 +1,5 @@
 -- How the bytes of a header are put together.
+-- Serves private clauses alone: there is nothing to believe here.
 use Rattle.std.specs.Prelude.{◌≡◌, ◌<◌, ℕ, Bool, false, if◌then◌else◌, List, ◌∷◌, ◌++◌}
 use Rattle.fv_base.specs.Guids.{bytes_of}
 use Rattle.fv_base.specs.Value.{le_bytes}

@@ -1,6 +1,6 @@
 -- File headers as they are written (PI specification, volume 3, section 3.2.3.1).
 use Rattle.std.specs.Prelude.{◌≡◌, ℕ, ◌+◌, ◌-◌, ◌%◌, ◌<◌, nat_lt, Bool, true, false, if◌then◌else◌, List, [], ◌∷◌, ◌++◌, length, replicate, slice_index, sum}
-use Rattle.fv_base.specs.Guids.{bytes_of}
+use Rattle.fv_base.specs.Guids.{bytes_of, guid_of}
 use Rattle.fv_base.specs.Value.{IsBytes, le_bytes}
 use Rattle.fv_base.specs.declared.flash.FileSystem.{FileSystem}
 use Rattle.fv_base.specs.declared.flash.FileSystem.TheVariants.{Ffs3}
@@ -37,7 +37,7 @@ fixed_checksum = 0xaa
 -- the fields of a file with data valid, and of a pad; the header sum is left to be found
 abbrev pub fields_of : List ℕ → ℕ → ℕ → ℕ → Bool → ℕ → ℕ → FileHead
 fields_of name kind attributes size large header_sum file_sum = record {
-  name = record { bytes = name };
+  name = guid_of name;
   kind = kind;
   attributes = record { 0 = attributes };
   size = size;

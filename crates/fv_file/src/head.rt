@@ -1,7 +1,7 @@
 //! The header of a file.
 
 ghost use Rattle.std.specs.Prelude.{◌≡◌, ◌==◌, ◌+◌, ◌%◌, ◌≤◌, ◌<◌, ◌^◌, length, slice_index, sum, take, IfOk, IfErr};
-ghost use Rattle.fv_base.specs.Checks.{first_fault, verdict_by};
+ghost use Rattle.fv_base.specs.Verdicts.{first_fault, verdict_by};
 ghost use Rattle.fv_base.specs.Value.{le_at};
 ghost use Rattle.fv_file.specs.Attributes.{attribute_bits};
 ghost use Rattle.fv_file.specs.FileChecks.{attributes_at, file_header_len_at, payload_at, file_size_at, may_be_large, has_header_sum, has_file_size, skips_data, has_file_sum, file_checks};

@@ -7,7 +7,8 @@ use Rattle.std.proofs.lemmas.Bool.{leb-true, le-leb, eqb-true, eq-eqb}
 use Rattle.std.proofs.lemmas.Slice.Eq.{bytes_eq-Decides}
 use Rattle.std.proofs.Math.Seq.{take-add}
 use Rattle.std.specs.Str.{bytes_eq}
-use Rattle.fv_base.specs.Checks.{AllHold, Check, check, first_fault, IsFirstFault}
+use Rattle.fv_base.specs.Checks.{AllHold, Check, check, IsFirstFault}
+use Rattle.fv_base.specs.Verdicts.{first_fault}
 use Rattle.fv_base.specs.Faults.{outer_fault, want_of_memory}
 use Rattle.fv_base.specs.Limits.{volume_limit, header_limit, ext_limit}
 use Rattle.fv_base.specs.Value.{IsBytes, le, field, le_at, up_to_8}
@@ -21,7 +22,8 @@ use Rattle.fv_base.proofs.FieldLemmas.{take-take_le, field-take, bytes_take}
 use Rattle.fv_head.specs.Attributes.{polarity_of}
 use Rattle.fv_head.specs.Ext.{Extension, IsExt}
 use Rattle.fv_head.specs.Head.{HasExt, HeadFields, IsHead, BeginsVolume, system_guid}
-use Rattle.fv_head.specs.HeadChecks.{has_signature, is_header_len, has_sum, has_block_map, is_volume_len, head_checks, head_verdict, extent_verdict, extent_or, extent_at, is_zero_pair, blocks_at, makes_up, file_system_at, header_len_at, volume_len_at, ext_offset_at, ext_size_at, has_ext}
+use Rattle.fv_head.specs.HeadChecks.{has_signature, is_header_len, has_sum, has_block_map, is_volume_len, head_checks, is_zero_pair, blocks_at, makes_up, file_system_at, header_len_at, volume_len_at, ext_offset_at, ext_size_at, has_ext}
+use Rattle.fv_head.specs.HeadVerdicts.{head_verdict, extent_verdict, extent_or, extent_at}
 use Rattle.fv_head.specs.Pairs.{pairs_of}
 use Rattle.fv_head.specs.declared.extent.Extent.{Extent}
 use Rattle.fv_head.proofs.BlockLemmas.{pairs_of-step}

@@ -15,7 +15,7 @@ pub record Extension : Type 0 where
 abbrev pub zero_used_size : List ℕ
 zero_used_size = 0 ∷ 0 ∷ 0 ∷ 0 ∷ []
 
--- an entry of type 3 with 4 bytes holds the used size
+-- an entry of type 3 (EFI_FV_EXT_TYPE_USED_SIZE_TYPE) with 4 bytes holds the used size
 abbrev pub is_used_size : ℕ → List ℕ → Bool
 is_used_size kind payload = (kind == 3) && (length payload == 4)
 

@@ -30,7 +30,8 @@ pub record HeadFields : Type 0 where
   pub blocks : List (ℕ × ℕ)
   pub ext : Option Extension
 
--- the bytes are a header with these fields; its checksum and its ExtHeaderOffset may be any that fit
+-- the bytes are a header with these fields: ZeroVector, FileSystemGuid, FvLength, Signature, Attributes, HeaderLength, Checksum (by the
+-- sum), ExtHeaderOffset (by HasExt), Reserved, Revision and BlockMap; Checksum and ExtHeaderOffset may be any that fit
 pub record IsHead (h : HeadFields) (b : List ℕ) : Type 0 where
   pub bytes : IsBytes b
   pub zero_vector : field 0 16 b ≡ h.zero_vector

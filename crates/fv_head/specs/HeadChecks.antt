@@ -1,18 +1,15 @@
 -- The checks of a volume's header, in their order.
-use Rattle.std.specs.Prelude.{ℕ, ◌+◌, ◌||◌, ◌-◌, ◌%◌, ◌==◌, nat_le, Bool, ◌&&◌, not, is_some, if◌then◌else◌, List, [], ◌∷◌, ◌++◌, length, take, slice_index, Option, None, Some, Result, Ok, Err}
+use Rattle.std.specs.Prelude.{ℕ, ◌+◌, ◌||◌, ◌-◌, ◌%◌, ◌==◌, nat_le, Bool, ◌&&◌, not, is_some, if◌then◌else◌, List, [], ◌∷◌, ◌++◌, length, take, slice_index, Option, None, Some}
 use Rattle.std.specs.Str.{bytes_eq}
 use Rattle.std.specs.List.{list_all}
-use Rattle.fv_base.specs.Checks.{Check, check, first_fault}
-use Rattle.fv_base.specs.Faults.{outer_fault}
+use Rattle.fv_base.specs.Checks.{Check, check}
 use Rattle.fv_base.specs.Limits.{volume_limit, header_limit, ext_limit}
 use Rattle.fv_base.specs.Sums.{sum16_of}
-use Rattle.fv_base.specs.Value.{field, le_at, up_to_8}
+use Rattle.fv_base.specs.Value.{field, le_at}
 use Rattle.fv_base.specs.declared.fault.Fault.{Fault}
 use Rattle.fv_base.specs.declared.fault.FaultKind.TheVariants as kinds
 use Rattle.fv_base.specs.declared.flash.FileSystem.{FileSystem}
 use Rattle.fv_base.specs.declared.flash.FileSystem.TheVariants.{Ffs2, Ffs3}
-use Rattle.fv_head.specs.declared.extent.Extent.{Extent}
-use Rattle.fv_head.specs.Attributes.{polarity_of}
 use Rattle.fv_head.specs.Head.{signature_bytes, system_guid}
 use Rattle.fv_head.specs.Pairs.{pairs_of, bytes_in}
 
@@ -76,10 +73,6 @@ has_ext n len b =
     || (nat_le n (ext_offset_at b) && nat_le (ext_offset_at b + 20) len && nat_le 20 (ext_size_at b) && nat_le (ext_size_at b) ext_limit
     && nat_le (ext_offset_at b + ext_size_at b) len)
 
--- where the first file may stand
-abbrev pub first_at : List ℕ → ℕ
-first_at b = if ext_offset_at b == 0 then header_len_at b else up_to_8 (ext_offset_at b + ext_size_at b)
-
 -- the checks of a header's first 56 bytes, in their order
 abbrev pub front_checks : List ℕ → List (Check Fault)
 front_checks b =
@@ -104,26 +97,3 @@ whole_checks b =
 -- the checks of a header, in their order
 abbrev pub head_checks : List ℕ → List (Check Fault)
 head_checks b = front_checks b ++ whole_checks b
-
--- the extent that a header of the file system says
-abbrev pub extent_at : FileSystem → List ℕ → Extent
-extent_at fs b = record {
-  length = volume_len_at b;
-  header_len = header_len_at b;
-  first = first_at b;
-  file_system = fs;
-  polarity = polarity_of (le_at 44 4 b);
-}
-
--- the extent where the file system is known, else a fault
-abbrev pub extent_or : Option FileSystem → Fault → List ℕ → Result Extent Fault
-extent_or None f b = Err f
-extent_or (Some fs) f b = Ok (extent_at fs b)
-
--- the first fault, or the extent
-abbrev pub extent_verdict : Option Fault → List ℕ → Result Extent Fault
-extent_verdict (Some f) b = Err f
-extent_verdict None b = extent_or (file_system_at b) (outer_fault kinds.FileSystem 16) b
-
-abbrev pub head_verdict : List ℕ → Result Extent Fault
-head_verdict b = extent_verdict (first_fault (head_checks b)) b

@@ -1,10 +1,11 @@
 pub mod Attributes
 pub mod Ext
+pub mod ExtImage
 pub mod Head
 pub mod HeadChecks
-pub mod Pairs
 pub mod HeadImage
-pub mod ExtImage
+pub mod HeadVerdicts
 pub mod HeadView
+pub mod Pairs
 pub mod WordLaws
 pub mod WordSums

@@ -1,5 +1,6 @@
 -- The laws of sums of words in parts. There is nothing to believe here: these are proofs, and stand in specs/ since a ghost
 -- member cites the last of them.
+-- Serves private clauses alone: there is nothing to believe here.
 use Rattle.std.proofs.Common.{◌≡◌, ℕ, ◌+◌, ◌%◌, List, [], ◌∷◌, ◌++◌, refl, sym, ◌∙◌, ap, arith, Bool, true, false}
 use Rattle.std.specs.Prelude.{not}
 use Rattle.fv_base.specs.Sinks.{WalkLaws}

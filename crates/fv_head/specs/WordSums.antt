@@ -1,4 +1,5 @@
 -- The sum of the words of bytes that come in parts.
+-- Serves private clauses alone: there is nothing to believe here.
 use Rattle.std.specs.Prelude.{◌≡◌, ℕ, ◌+◌, ◌*◌, ◌%◌, List, [], ◌∷◌, Bool, true, false, not}
 
 -- the worth of bytes, where the first is the high byte of a word or is not

@@ -3,7 +3,8 @@ use Rattle.std.proofs.Common.{◌≡◌, ◌≤◌, ◌<◌, ℕ, ◌+◌, List,
 use Rattle.std.specs.Prelude.{◌==◌, ◌%◌, ◌||◌, not, nat_le, None}
 use Rattle.std.proofs.lemmas.Bool.{eqb-true, eq-eqb, leb-true, le-leb}
 use Rattle.std.proofs.lemmas.List.{take-append-drop, length-take-le}
-use Rattle.fv_base.specs.Checks.{AllHold, first_fault}
+use Rattle.fv_base.specs.Checks.{AllHold}
+use Rattle.fv_base.specs.Verdicts.{first_fault}
 use Rattle.fv_base.specs.Value.{IsBytes, le, le_at}
 use Rattle.fv_base.proofs.CheckLemmas.{and_split, and_join, all_hold}
 use Rattle.fv_base.proofs.FieldLemmas.{bytes_take, field-append_front, field-take, same_cut, two_bytes}

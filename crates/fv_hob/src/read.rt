@@ -1,7 +1,8 @@
 //! Hand-off lists, read.
 
 ghost use Rattle.std.specs.Prelude.{◌≡◌, ◌≢◌, ◌≤◌, ℕ, List, length, take, None, Some, IfOk, IfErr, OnOk};
-ghost use Rattle.fv_base.specs.Checks.{first_fault, IsFirstFault};
+ghost use Rattle.fv_base.specs.Verdicts.{first_fault};
+ghost use Rattle.fv_base.specs.Checks.{IsFirstFault};
 ghost use Rattle.fv_hob.specs.Checks.{BeginsBlock, IsFirstHobFault, BeginsTable, hob_checks, is_hob_len, hob_want_of_memory};
 ghost use Rattle.fv_base.specs.Value.{le_at};
 ghost use Rattle.fv_hob.specs.Hobs.{HobForm};

@@ -4,13 +4,15 @@ use Rattle.std.specs.Prelude.{◌==◌, slice_index, Result, Ok, Err}
 use Rattle.std.proofs.lemmas.Bool.{leb-true, le-leb, eqb-true, eqb-false, eq-eqb}
 use Rattle.std.proofs.lemmas.List.{take-append-drop, take_at, take_rest, drop_at, length-take-le, get_or-take}
 use Rattle.std.proofs.Math.ListN.{get_or-append}
-use Rattle.fv_base.specs.Checks.{AllHold, first_fault, IsFirstFault}
+use Rattle.fv_base.specs.Checks.{AllHold, IsFirstFault}
+use Rattle.fv_base.specs.Verdicts.{first_fault}
 use Rattle.fv_base.specs.Value.{le, le_at}
 use Rattle.fv_base.specs.declared.fault.Fault.{Fault}
 use Rattle.fv_base.proofs.CheckLemmas.{and_split, and_join, all_hold, none_faulty, first_is, not_first, verdict_ok, verdict_err, verdict_none}
 use Rattle.fv_base.proofs.FieldLemmas.{field-take, field-append_front}
 use Rattle.fv_base.proofs.TestLemmas.{not_equal}
-use Rattle.fv_section.specs.FrameChecks.{has_extended_size, section_header_len_at, section_size_in, section_size_at, frame_checks, frame_in, frame_verdict}
+use Rattle.fv_section.specs.FrameChecks.{has_extended_size, section_header_len_at, section_size_in, section_size_at, frame_checks}
+use Rattle.fv_section.specs.FrameVerdicts.{frame_in, frame_verdict}
 use Rattle.fv_section.specs.Frames.{FrameForm, BeginsFrame, SaysSize, FrameStandsAt, section_header_len, frame_len}
 
 pub head_least : (extended : Bool) → 4 ≤ section_header_len extended

@@ -1,6 +1,6 @@
 -- The checks of a section header in their order, and the first fault of a stream.
-use Rattle.std.specs.Prelude.{◌≡◌, ℕ, ◌-◌, ◌%◌, ◌<◌, ◌==◌, nat_le, ◌&&◌, Bool, true, false, Result, List, [], ◌∷◌, length, take, drop, slice_index}
-use Rattle.fv_base.specs.Checks.{Check, check, first_fault, verdict_by, IsFirstFault}
+use Rattle.std.specs.Prelude.{◌≡◌, ℕ, ◌%◌, ◌<◌, ◌==◌, nat_le, ◌&&◌, Bool, true, false, List, [], ◌∷◌, length, take, drop}
+use Rattle.fv_base.specs.Checks.{Check, check, IsFirstFault}
 use Rattle.fv_base.specs.Value.{le_at}
 use Rattle.fv_base.specs.declared.fault.Fault.{Fault}
 use Rattle.fv_base.specs.declared.fault.FaultKind.TheVariants as kinds
@@ -30,18 +30,6 @@ frame_checks at r =
     check (nat_le 4 (length r)) kinds.SectionTail at
     ∷ check (has_section_size r) kinds.SectionSize at
     ∷ []
-
--- the frame at the place `at`, from where on the bytes are r
-abbrev pub frame_in : ℕ → List ℕ → FrameForm
-frame_in at r = record {
-  offset = at;
-  kind = slice_index r 3;
-  extended = has_extended_size r;
-  body = take (section_size_at r - section_header_len_at r) (drop (section_header_len_at r) r);
-}
-
-abbrev pub frame_verdict : ℕ → List ℕ → Result FrameForm Fault
-frame_verdict at r = verdict_by (first_fault (frame_checks at r)) (frame_in at r)
 
 -- frames and fillers join up to a place within the stream, a multiple of 4; there the fault is that of the first check that does
 -- not hold

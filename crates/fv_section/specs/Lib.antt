@@ -1,5 +1,6 @@
 pub mod FrameChecks
-pub mod Frames
 pub mod FrameForms
-pub mod Texts
+pub mod FrameVerdicts
+pub mod Frames
 pub mod SectionImage
+pub mod Texts

@@ -2,7 +2,7 @@
 #![tactic(auto)]
 
 ghost use Rattle.fv_base.specs.Port.{inner_of, has_erred};
-ghost use Rattle.fv_command.specs.Inputs.{seen};
+ghost use Rattle.fv_command.specs.Inputs.{shown};
 ghost use Rattle.fv_tool.specs.Does.{DoesAsked, RunsOver};
 ghost use Rattle.fv_tool.specs.Refusals.{line_of, status_of};
 ghost use Rattle.std.specs.Io.KnownBytes.{Appends};
@@ -40,8 +40,8 @@ fn run_over_inputs<R: Files + Input + AllocGlobal, W: Write>(
     writer: &mut Port<W>,
 ) -> Status
     // What is written, and the status, are those of a run of this plan over some inputs.
-    ensures { RunsOver plan.now result (seen (W.contents (inner_of writer.old)) (has_erred writer.old))
-        (seen (W.contents (inner_of writer.new)) (has_erred writer.new)) }
+    ensures { RunsOver plan.now result (shown W.contents writer.old)
+        (shown W.contents writer.new) }
 {
     let first = match plan.first() {
         Some(path) => open(rt, path.as_str()),
@@ -87,8 +87,8 @@ fn run_given<R: Files + Input + AllocGlobal, W: Write>(
 
     // What words ask for is run; words that ask for nothing are told, and so is want of memory.
     ensures given { IfOk words (λ ws. DoesAsked (map string_bytes ws.items) result
-        (seen (W.contents (inner_of writer.old)) (has_erred writer.old))
-        (seen (W.contents (inner_of writer.new)) (has_erred writer.new))) }
+        (shown W.contents writer.old)
+        (shown W.contents writer.new)) }
 
     // Wrong words are told, and only they.
     ensures wrong { result ≡ Status.WrongWords → has_erred writer.new ≡ false

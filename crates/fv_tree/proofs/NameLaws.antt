@@ -23,7 +23,7 @@ use Rattle.fv_base.specs.declared.guid.Guid.{Guid}
 use Rattle.fv_file.specs.Cells.{CellForm, Valid, Pad, Dead, Stub, Free, CellsWithin}
 use Rattle.fv_tree.specs.Files.{FileForm, files_in, same_name, is_marked, is_twin, NoTwins, replaces, is_top, end_of, TopAtEnd}
 use Rattle.fv_tree.specs.FirstFault.{FirstTwin, TopElsewhere}
-use Rattle.fv_tree.specs.Names.{key_cmp, is_keyed, HasNames}
+use Rattle.fv_tree.specs.NameOrders.{key_cmp, is_keyed, HasNames}
 use Rattle.fv_tree.proofs.AliveLaws.{twin_back}
 
 -- ---- tests

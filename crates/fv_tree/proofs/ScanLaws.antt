@@ -5,13 +5,14 @@ use Rattle.std.specs.Prelude.{◌⊎◌}
 use Rattle.std.specs.List.{AllByRecursion, Contains}
 use Rattle.std.specs.Str.{bytes_eq}
 use Rattle.std.proofs.lemmas.List.{take_all, length-drop}
-use Rattle.fv_base.specs.Checks.{first_fault}
+use Rattle.fv_base.specs.Verdicts.{first_fault}
 use Rattle.fv_base.proofs.CheckLemmas.{all_hold}
 use Rattle.fv_head.specs.Head.{HeadFields, BeginsVolume, signature_bytes}
 use Rattle.fv_head.specs.HeadChecks.{head_checks, has_signature}
 use Rattle.fv_head.specs.declared.extent.Extent.{Extent}
 use Rattle.fv_head.proofs.FrontLemmas.{front_only, one_front, verdict_ok}
-use Rattle.fv_tree.specs.Found.{VolumeAt, IsPlace, LiesBehind, Apart, IsCovered, Found, NoneBetween, NoneFrom, FoundFrom}
+use Rattle.fv_tree.specs.Found.{VolumeAt, IsPlace, LiesBehind, Apart, IsCovered, Found}
+use Rattle.fv_tree.specs.FoundWalks.{NoneBetween, NoneFrom, FoundFrom}
 use Rattle.fv_tree.proofs.IndexLaws.{in_front, behind}
 
 order : (a k : ℕ) → (a ≤ k) ⊎ (k < a)

@@ -1,8 +1,10 @@
 -- A meaning as a tree of numbers, by which two meanings are told apart. There is nothing to believe here: these are proofs, and stand
 -- in specs/ since ghost members cite them.
+-- Serves private clauses alone: there is nothing to believe here.
 use Rattle.std.specs.Prelude.{◌≡◌, ℕ, List, Bool, true, false, Option, refl}
 use Rattle.std.specs.Coded.{Coded, code_by, coded×, coded_ℕ, coded_bool, coded_list, coded_option}
 use base.Stored.{Gv, gnil, gnum, gcons}
+use Rattle.fv_base.specs.Guids.{bytes_of, guid_of}
 use Rattle.fv_base.specs.declared.flash.FileSystem.{FileSystem}
 use Rattle.fv_base.specs.declared.flash.FileSystem.TheVariants.{Ffs2, Ffs3}
 use Rattle.fv_base.specs.declared.guid.Guid.{Guid}
@@ -10,16 +12,13 @@ use Rattle.fv_head.specs.Ext.{Extension}
 use Rattle.fv_head.specs.Head.{HeadFields}
 use Rattle.fv_tree.specs.Meaning.{Meaning, Volume, FileMeanings, NoFiles, MoreFiles, FileMeaning, File, ContentMeaning, Plain, Sectioned}
 use Rattle.fv_tree.specs.Meaning.{SectionMeanings, NoSections, MoreSections, SectionMeaning, Section, BodyMeaning, Leaf, Group, Nested}
+use Rattle.fv_tree.specs.FileSystems.{is_ffs3}
 
 abbrev pub bytes_code : Coded (List ℕ)
 bytes_code = coded_list coded_ℕ
 
 abbrev pub guid_code : Coded Guid
-guid_code = code_by (List ℕ) bytes_code (λ g. g.bytes) (λ b. record { bytes = b }) (λ _. refl)
-
-abbrev pub is_ffs3 : FileSystem → Bool
-is_ffs3 Ffs2 = false
-is_ffs3 Ffs3 = true
+guid_code = code_by (List ℕ) bytes_code bytes_of guid_of (λ _. refl)
 
 abbrev pub system_by : Bool → FileSystem
 system_by false = Ffs2

@@ -1,14 +1,12 @@
 -- Where two volumes first differ in what they mean, in the order in which they are compared.
-use Rattle.std.specs.Prelude.{◌≡◌, ◌≢◌, ℕ, ◌+◌, ◌==◌, ◌&&◌, Bool, true, false}
-use Rattle.std.specs.Prelude.{List, [], ◌∷◌, reverse, Option, Some, None, Result, Ok, Err}
+use Rattle.std.specs.Prelude.{ℕ, ◌+◌, ◌==◌, ◌&&◌, Bool, true, false}
+use Rattle.std.specs.Prelude.{List, [], ◌∷◌, Option, Some, None}
 use Rattle.std.specs.Bool.{beq}
 use Rattle.std.specs.Str.{bytes_eq}
-use Rattle.fv_base.specs.Faults.{want_of_memory}
 use Rattle.fv_base.specs.Guids.{bytes_of}
-use Rattle.fv_base.specs.declared.fault.Fault.{Fault}
 use Rattle.fv_head.specs.Ext.{Extension}
 use Rattle.fv_head.specs.Head.{HeadFields}
-use Rattle.fv_tree.specs.Codes.{is_ffs3}
+use Rattle.fv_tree.specs.FileSystems.{is_ffs3}
 use Rattle.fv_tree.specs.Meaning.{Meaning, Volume, FileMeanings, NoFiles, MoreFiles, FileMeaning, File, ContentMeaning, Plain, Sectioned}
 use Rattle.fv_tree.specs.Meaning.{SectionMeanings, NoSections, MoreSections, SectionMeaning, Section, BodyMeaning, Leaf, Group, Nested}
 use Rattle.fv_tree.specs.declared.difference.Step.{Step}
@@ -51,11 +49,6 @@ abbrev pub unless_one : Bool → Word → Differs
 unless_one true word = None
 unless_one false word = differ_in word
 
--- in this word, if there is one
-abbrev pub in_word : Option Word → Differs
-in_word None = None
-in_word (Some word) = differ_in word
-
 -- the first of two
 abbrev pub or_else : Differs → Differs → Differs
 or_else None o = o
@@ -65,11 +58,6 @@ or_else (Some d) o = Some d
 abbrev pub under : Step → Differs → Differs
 under s None = None
 under s (Some d) = Some (s ∷ d.0, d.1)
-
--- the steps in the other order
-abbrev pub outermost_first : Differs → Differs
-outermost_first None = None
-outermost_first (Some d) = Some (reverse d.0, d.1)
 
 -- ---- the walk
 
@@ -129,8 +117,3 @@ abbrev mutual
   body_differs (Nested v) (Nested w) = difference v w
 
 -- ---- while it is found
-
--- what a walk answers: where the two first differ, with the steps from the inmost out; memory is wanted only where they do
-abbrev pub AnswersDifference : Result Differs Fault → Differs → Type 0
-AnswersDifference (Ok o) d = outermost_first o ≡ d
-AnswersDifference (Err f) d = (f ≡ want_of_memory) × (d ≢ None)

@@ -33,19 +33,3 @@ pub record Found (b os : List ℕ) : Type 0 where
   pub all : (k n : ℕ) → k % 8 ≡ 0 → VolumeAt b k n → IsCovered b os k
 
 -- ---- the walk that finds them
-
--- no volume begins at the multiples of 8 from one place to before another; nor from a place on
-abbrev pub NoneBetween : List ℕ → ℕ → ℕ → Type 0
-NoneBetween b from to = (k n : ℕ) → from ≤ k → k < to → k % 8 ≡ 0 → VolumeAt b k n → ⊥
-
-abbrev pub NoneFrom : List ℕ → ℕ → Type 0
-NoneFrom b from = (k n : ℕ) → from ≤ k → k % 8 ≡ 0 → VolumeAt b k n → ⊥
-
--- from this place on, `at` is the first multiple of 8 at which a volume begins, and it has n bytes
-abbrev pub IsNext : List ℕ → ℕ → ℕ → ℕ → Type 0
-IsNext b from at n = (from ≤ at) × (at % 8 ≡ 0) × NoneBetween b from at × VolumeAt b at n
-
--- from this place on, the volumes of b begin at these places
-abbrev pub FoundFrom : ℕ → List ℕ → List ℕ → Type 0
-FoundFrom from b [] = NoneFrom b from
-FoundFrom from b (o ∷ os) = (n : ℕ) × IsNext b from o n × FoundFrom (o + n) b os

@@ -1,5 +1,5 @@
 -- Looking for files and sections: the next one, and the one of a type that is so many of its type.
-use Rattle.std.specs.Prelude.{ℕ, ◌+◌, ◌==◌, ◌++◌, zero, suc, List, [], ◌∷◌, Option, Some, None, Result, Ok, Err, option_map, slice_get}
+use Rattle.std.specs.Prelude.{ℕ, ◌+◌, ◌==◌, ◌++◌, zero, suc, List, [], ◌∷◌, Option, Some, None, option_map, slice_get}
 use Rattle.std.specs.List.{filter}
 use Rattle.fv_section.specs.Frames.{FrameForm}
 use Rattle.fv_tree.specs.Meaning.{FileMeaning, file_kind_of, SectionMeaning, Section, SectionMeanings, NoSections, MoreSections}
@@ -44,12 +44,6 @@ of_type kind ss = filter (λ s. section_kind_of s == kind) ss
 -- the section of this type and instance, in preorder
 abbrev pub section_of_type : ℕ → ℕ → SectionMeanings → Option SectionMeaning
 section_of_type kind instance ss = instance_of instance (of_type kind (preorder ss))
-
--- item n of a list, counted from 0; or by how many it lies behind the last
-abbrev pub sought : {A : Type 0} → ℕ → List A → Result A ℕ
-sought n [] = Err n
-sought zero (x ∷ xs) = Ok x
-sought (suc n) (x ∷ xs) = sought n xs
 
 -- the type of a file whose data are sections that stay bytes (section 3.2.3, EFI_FV_FILETYPE_SECURITY_CORE)
 abbrev pub security_core : ℕ

@@ -1,35 +1,16 @@
 -- The names of files.
-use Rattle.std.specs.Prelude.{◌≡◌, ℕ, ◌+◌, ◌&&◌, Bool, if◌then◌else◌, List, [], ◌∷◌, length, map, Option, Some, None}
-use Rattle.std.specs.Bool.{beq}
+use Rattle.std.specs.Prelude.{◌≡◌, ℕ, ◌+◌, Bool, List, [], ◌∷◌, length, map, Option}
 use Rattle.std.specs.Int.{from_le_bytes, w64}
-use Rattle.std.specs.BTreeSet.{BTreeSet, contains}
-use Rattle.std.specs.List.{AllByRecursion, find, list_any}
+use Rattle.std.specs.List.{AllByRecursion, find}
 use Rattle.std.specs.List.Sorted.{IsPermutation, IsSorted}
-use Rattle.std.specs.Ordering.{nat_cmp, bool_cmp, ordering_then}
+use Rattle.std.specs.Ordering.{nat_cmp, ordering_then}
 use Rattle.std.specs.declared.cmp.Ordering.{Ordering}
-use Rattle.std.specs.Cmp.Lexicographic.{slice_cmp}
 use Rattle.std.specs.Str.{bytes_eq}
 use Rattle.fv_base.specs.Guids.{bytes_of}
 use Rattle.fv_base.specs.Value.{IsBytes, field}
 use Rattle.fv_base.specs.declared.guid.Guid.{Guid}
-use Rattle.fv_tree.specs.Files.{FileForm, is_marked}
 use Rattle.fv_tree.specs.Meaning.{FileMeaning, file_name_of}
 use Rattle.fv_tree.specs.declared.numbers.Numbers.{Numbers}
-
--- the order of names, and of names with whether the file is marked
-abbrev pub name_cmp : Guid → Guid → Ordering
-name_cmp a b = slice_cmp nat_cmp (bytes_of a) (bytes_of b)
-
-abbrev pub key_cmp : Guid × Bool → Guid × Bool → Ordering
-key_cmp a b = ordering_then (name_cmp a.0 b.0) (bool_cmp a.1 b.1)
-
--- a file of this name, marked or not
-abbrev pub is_keyed : Guid × Bool → FileForm → Bool
-is_keyed key f = bytes_eq (bytes_of key.0) (bytes_of f.head.name) && beq key.1 (is_marked f.head.state)
-
--- the set has the names of the files, each with whether the file is marked
-abbrev pub HasNames : BTreeSet (Guid × Bool) → List FileForm → Type 0
-HasNames names fs = (key : Guid × Bool) → contains key_cmp names key ≡ list_any (is_keyed key) fs
 
 -- the first file of this name
 abbrev pub is_named : Guid → FileMeaning → Bool
@@ -37,11 +18,6 @@ is_named name f = bytes_eq (bytes_of name) (bytes_of (file_name_of f))
 
 abbrev pub file_named : Guid → List FileMeaning → Option FileMeaning
 file_named name fs = find (is_named name) fs
-
--- its number, where the first of the files has this one
-abbrev pub number_from : ℕ → Guid → List FileMeaning → Option ℕ
-number_from k name [] = None
-number_from k name (f ∷ fs) = if is_named name f then Some k else number_from (k + 1) name fs
 
 -- sixteen bytes, and a name that has them
 abbrev pub IsSixteenBytes : List ℕ → Type 0
@@ -85,6 +61,3 @@ pub record IsIndex (names : List Guid) (entries : List Entry) : Type 0 where
 -- the numbers are those of these files
 abbrev pub HasNumbers : Numbers → List FileMeaning → Type 0
 HasNumbers numbers fs = IsIndex (map file_name_of fs) numbers.sorted.items
-
-abbrev pub names_in : List FileForm → List Guid
-names_in fs = map (λ f. f.head.name) fs

@@ -1,4 +1,5 @@
 -- The files of a volume, as its reader knows them.
+-- Serves private clauses alone: there is nothing to believe here.
 use Rattle.std.specs.Prelude.{◌≡◌, ℕ, ◌+◌, ◌<◌, ◌≤◌, ◌^◌, ◌⊎◌, List, length, drop}
 use Rattle.std.specs.List.{AllByRecursion}
 use Rattle.fv_base.specs.Faults.{outer_fault}

@@ -1,4 +1,5 @@
 -- What the files that are found in a volume stand for.
+-- Serves private clauses alone: there is nothing to believe here.
 use Rattle.fv_tree.specs.Files.{FileForm}
 use Rattle.fv_tree.specs.declared.alive.Standing.{Standing}
 

@@ -8,7 +8,8 @@ ghost use Rattle.fv_file.specs.CellForms as cellular;
 ghost use Rattle.fv_tree.specs.Files.{FileForm, NoTwins, TopAtEnd, files_in, alive_in, is_marked, is_top, end_of, replaces};
 ghost use Rattle.fv_tree.specs.FirstFault.{FirstTwin, TopElsewhere};
 ghost use Rattle.fv_tree.specs.ReadingParts.{AreAlive, AliveFirst};
-ghost use Rattle.fv_tree.specs.Names.{HasNames, IsIndex, names_in};
+ghost use Rattle.fv_tree.specs.NameOrders.{HasNames, names_in};
+ghost use Rattle.fv_tree.specs.Names.{IsIndex};
 ghost use Rattle.fv_tree.specs.StandingForms.{file_form};
 
 use crate::numbers::Numbers;

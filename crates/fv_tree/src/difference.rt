@@ -3,7 +3,8 @@
 ghost use Rattle.std.specs.Prelude.{◌≡◌, ◌≢◌, ◌==◌, Some, option_copied, IfOk, IfErr, IfSome, IfNone};
 ghost use Rattle.fv_base.specs.Faults.{want_of_memory};
 ghost use Rattle.fv_tree.specs.Difference.{blocks_eq, entries_eq, ext_eq};
-ghost use Rattle.fv_tree.specs.Difference.{differ_in, in_word, unless_one, or_else, under, outermost_first, AnswersDifference};
+ghost use Rattle.fv_tree.specs.Difference.{differ_in, unless_one, or_else, under};
+ghost use Rattle.fv_tree.specs.DifferenceWalks.{in_word, outermost_first, AnswersDifference};
 ghost use Rattle.fv_tree.specs.Difference.{head_differs, difference, files_differ, file_differs, content_differs};
 ghost use Rattle.fv_tree.specs.Difference.{sections_differ, section_differs, body_differs};
 ghost use Rattle.fv_tree.specs.declared.difference.Word.TheVariants as words;

@@ -6,7 +6,8 @@ ghost use Rattle.std.specs.List.Sorted.{IsPermutation};
 ghost use Rattle.std.specs.Ordering.{eq_by_cmp};
 ghost use Rattle.fv_base.specs.Faults.{want_of_memory};
 ghost use Rattle.fv_tree.specs.Meaning.{FileMeaning};
-ghost use Rattle.fv_tree.specs.Names.{HasNumbers, IsIndex, IsName, IsSixteenBytes, entry_cmp, halves_cmp, halves_in, halves_of, names_in, number_from};
+ghost use Rattle.fv_tree.specs.Names.{HasNumbers, IsIndex, IsName, IsSixteenBytes, entry_cmp, halves_cmp, halves_in, halves_of};
+ghost use Rattle.fv_tree.specs.NameOrders.{names_in, number_from};
 ghost use Rattle.fv_tree.specs.StandingForms.{file_form};
 
 use crate::alive::Standing;

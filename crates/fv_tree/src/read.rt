@@ -16,7 +16,8 @@ ghost use Rattle.fv_tree.specs.FirstFault.{moved_fault, FirstInStream, FirstInVo
 ghost use Rattle.fv_tree.specs.FirstFault.{IsFirstOfVolume, body_place, data_place};
 ghost use Rattle.fv_tree.specs.FaultStands.{FaultStands};
 ghost use Rattle.fv_tree.specs.ReadingParts.{HasFiles, StandIn, StandFirst, AllStored, ReadsContent};
-ghost use Rattle.fv_tree.specs.Names.{HasNumbers, IsIndex, names_in};
+ghost use Rattle.fv_tree.specs.Names.{HasNumbers, IsIndex};
+ghost use Rattle.fv_tree.specs.NameOrders.{names_in};
 ghost use Rattle.fv_tree.specs.Views.{content_view};
 ghost use Rattle.fv_tree.specs.StandingForms.{file_form};
 ghost use Rattle.fv_tree.specs.Shapes.{shape_of};

@@ -6,7 +6,8 @@ ghost use Rattle.fv_tree.specs.Denotes.{IsMeaning, IsReadFile, IsReadSection};
 ghost use Rattle.fv_tree.specs.Meaning.{head_of, files_of};
 ghost use Rattle.fv_tree.specs.Meaning.{file_name_of, file_kind_of, attributes_of, content_of, plain_of, data_len_of};
 ghost use Rattle.fv_tree.specs.Meaning.{section_kind_of, section_is_extended, body_of, leaf_of, body_len};
-ghost use Rattle.fv_tree.specs.Names.{HasNumbers, number_from};
+ghost use Rattle.fv_tree.specs.Names.{HasNumbers};
+ghost use Rattle.fv_tree.specs.NameOrders.{number_from};
 ghost use Rattle.fv_tree.specs.Views.{body_view, content_view};
 
 use crate::numbers::Numbers;
@@ -100,7 +101,7 @@ impl<'a> Model for VolumeView<'a> {
     ghost size = { volume_size };
 
     ghost use Rattle.std.proofs.Common.{arith};
-    ghost use Rattle.fv_tree.specs.Views.{files_fall};
+    ghost use Rattle.fv_tree.specs.ListFalls.{files_fall};
 
     ghost size_decreases = { λ v h. Prim.omega (arith, files_fall v.files.items) };
 }

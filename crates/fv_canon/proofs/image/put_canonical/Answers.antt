@@ -1,5 +1,5 @@
 use Rattle.std.proofs.Common.{[], append-nil, subst, sym}
-use Rattle.fv_canon.specs.Image.{image_of}
+use Rattle.fv_canon.specs.ImageOf.{image_of}
 use Rattle.fv_canon.specs.Layouts.{LaysVolume}
 use Rattle.fv_canon.proofs.ImageLaws.{image_is}
 use Rattle.fv_canon.proofs.image.put_canonical.Goals as goal

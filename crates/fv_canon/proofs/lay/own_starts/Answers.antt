@@ -1,7 +1,7 @@
 use Rattle.std.proofs.Common.{ℕ, List, sym, ap, ◌∙◌, subst}
 use Rattle.std.specs.Prelude.{All}
 use Rattle.fv_head.specs.Head.{HeadFields}
-use Rattle.fv_canon.specs.Starts.{IsLawfulPart}
+use Rattle.fv_canon.specs.Reaches.{IsLawfulPart}
 use Rattle.fv_canon.specs.declared.place.Part.{Part}
 use Rattle.fv_canon.proofs.lay.own_starts.Goals as goal
 

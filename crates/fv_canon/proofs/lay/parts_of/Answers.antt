@@ -2,7 +2,7 @@ use Rattle.std.proofs.Common.{◌≡◌, List, map, sym, ap, ◌∙◌, subst}
 use Rattle.std.specs.Prelude.{All}
 use Rattle.std.proofs.lemmas.List.{take_all}
 use Rattle.fv_canon.specs.Layouts.{part_of}
-use Rattle.fv_canon.specs.Starts.{IsLawfulPart}
+use Rattle.fv_canon.specs.Reaches.{IsLawfulPart}
 use Rattle.fv_canon.specs.declared.place.Part.{Part}
 use Rattle.fv_tree.proofs.Laws.{files_list_back}
 use Rattle.fv_tree.specs.Meaning.{FileMeaning, files_of, head_of}

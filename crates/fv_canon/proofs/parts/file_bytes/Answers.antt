@@ -1,7 +1,8 @@
 use Rattle.std.proofs.Common.{◌≡◌, ◌∙◌, ℕ, List, subst, sym}
 use Rattle.std.proofs.lemmas.Result.{IfOk-weaker}
 use Rattle.fv_tree.specs.Meaning.{content_of}
-use Rattle.fv_canon.specs.Image.{IsData, data_of}
+use Rattle.fv_canon.specs.Image.{IsData}
+use Rattle.fv_canon.specs.ImageOf.{data_of}
 use Rattle.fv_canon.proofs.OneLaws.{data_one}
 use Rattle.fv_canon.proofs.DataLaws.{data_is, kept_text}
 use Rattle.fv_canon.proofs.parts.file_bytes.Goals as goal

@@ -3,9 +3,9 @@ use Rattle.fv_tree.specs.Meaning.{sections_from, files_from}
 use Rattle.fv_tree.specs.Sizes.{volume_size, files_size, file_size, content_size, sections_size, body_size}
 use Rattle.fv_tree.specs.Views.{body_view, content_view}
 use Rattle.fv_canon.specs.Layouts.{LaysSections, LaysFiles}
-use Rattle.fv_canon.specs.Image.{starts_in_sections, starts_in_files, stored_of}
+use Rattle.fv_canon.specs.ImageOf.{starts_in_sections, starts_in_files, stored_of}
 use Rattle.fv_canon.specs.ImageWalks.{sections_bytes, BeginsWithStarts, TakesFront}
-use Rattle.fv_canon.specs.Stored.{files_bytes}
+use Rattle.fv_canon.specs.StoredWalks.{files_bytes}
 use Rattle.fv_canon.specs.Placed.{ArePlaced}
 use Rattle.fv_canon.proofs.put.+put.Given as goal
 

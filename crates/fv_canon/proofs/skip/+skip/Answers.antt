@@ -3,7 +3,7 @@ use Rattle.fv_head.specs.Head.{HeadFields}
 use Rattle.fv_tree.specs.Meaning.{SectionMeaning, BodyMeaning, FileMeaning, File, ContentMeaning, sections_from, files_from, body_of, content_of}
 use Rattle.fv_tree.specs.Sizes.{volume_size, files_size, file_size, content_size, body_size}
 use Rattle.fv_tree.specs.Views.{body_view, content_view}
-use Rattle.fv_canon.specs.Image.{starts_in, starts_in_files, starts_in_file, starts_in_content, starts_in_sections, starts_in_section, starts_in_body}
+use Rattle.fv_canon.specs.ImageOf.{starts_in, starts_in_files, starts_in_file, starts_in_content, starts_in_sections, starts_in_section, starts_in_body}
 use Rattle.fv_canon.specs.Layouts.{LaysSections, LaysBody, LaysContent, LaysFiles}
 use Rattle.fv_canon.specs.ImageWalks.{BeginsWithStarts}
 use Rattle.fv_canon.proofs.FileLaws.{file_laid, files_left, file_smaller, in_content, content_laid}

@@ -3,7 +3,7 @@ use Rattle.fv_tree.specs.Meaning.{sections_from, files_from}
 use Rattle.fv_tree.specs.Sizes.{volume_size, files_size, content_size, sections_size, body_size}
 use Rattle.fv_tree.specs.Views.{body_view, content_view}
 use Rattle.fv_canon.specs.Layouts.{LaysSections, LaysFiles}
-use Rattle.fv_canon.specs.Image.{starts_in_sections, starts_in_files}
+use Rattle.fv_canon.specs.ImageOf.{starts_in_sections, starts_in_files}
 use Rattle.fv_canon.specs.ImageWalks.{BeginsWithStarts}
 use Rattle.fv_canon.proofs.skip.+skip.Given as goal
 

@@ -6,16 +6,17 @@ use Rattle.fv_tree.specs.Meaning.{Meaning, SectionMeaning, BodyMeaning, sections
 use Rattle.fv_tree.specs.Sizes.{volume_size, sections_size, body_size}
 use Rattle.fv_tree.specs.Views.{body_view}
 use Rattle.fv_tree.specs.declared.view.Body.{Body}
-use Rattle.fv_canon.specs.Image.{body_image, starts_in_body, starts_in_section, starts_in_sections}
+use Rattle.fv_canon.specs.ImageOf.{body_image, starts_in_body, starts_in_section, starts_in_sections}
 use Rattle.fv_canon.specs.Layouts.{LaysSections, LaysBody, LaysVolume}
 use Rattle.std.proofs.Common.{get_or}
 use Rattle.fv_base.specs.Flash.{erased_byte}
 use Rattle.fv_base.specs.Value.{up_to_8}
 use Rattle.fv_file.specs.NewHeaders.{file_head_of}
 use Rattle.fv_tree.specs.Meaning.{ContentMeaning, FileMeaning, files_from, file_name_of, file_kind_of, attributes_of, content_of, data_len_of}
-use Rattle.fv_canon.specs.Image.{stored_of, stored_file, data_of, starts_in_file, starts_in_files}
+use Rattle.fv_canon.specs.ImageOf.{stored_of, stored_file, data_of, starts_in_file, starts_in_files}
 use Rattle.fv_canon.specs.Layouts.{LaysFiles}
-use Rattle.fv_canon.specs.Stored.{files_bytes, stored_bytes, gap_bytes, size_for, file_sum_for}
+use Rattle.fv_canon.specs.StoredWalks.{files_bytes}
+use Rattle.fv_canon.specs.Stored.{stored_bytes, gap_bytes, size_for, file_sum_for}
 use Rattle.fv_canon.specs.Placed.{ArePlaced}
 use Rattle.fv_canon.proofs.FileLaws.{file_long, stored_is, size_is, at_file, file_laid, files_left, walk_goes, file_smaller, placed_on}
 use Rattle.fv_canon.specs.ImageWalks.{BeginsWithStarts, TakesFront, sections_bytes}
@@ -27,7 +28,7 @@ use Rattle.fv_head.specs.Head.{HeadFields}
 use Rattle.fv_head.specs.HeadImage.{canonical_head}
 use Rattle.fv_head.specs.ExtImage.{canonical_end, canonical_first}
 use Rattle.fv_tree.specs.Sizes.{files_size}
-use Rattle.fv_canon.specs.Image.{image_of, starts_in}
+use Rattle.fv_canon.specs.ImageOf.{image_of, starts_in}
 use Rattle.fv_canon.specs.Stored.{ext_pad}
 use Rattle.fv_canon.specs.Placed.{used_by}
 use Rattle.fv_canon.proofs.VolumeWalks.{volume_is, volume_seen, volume_text, volume_left, files_same}

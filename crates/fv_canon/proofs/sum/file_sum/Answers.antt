@@ -2,7 +2,7 @@ use Rattle.std.proofs.Common.{◌≡◌, ◌+◌, ◌%◌, true, sym, ap, ◌∙
 use Rattle.std.specs.Prelude.{sum}
 use Rattle.fv_file.specs.Attributes.{is_summed}
 use Rattle.fv_tree.specs.Meaning.{ContentMeaning, attributes_of, content_of}
-use Rattle.fv_canon.specs.Image.{data_of}
+use Rattle.fv_canon.specs.ImageOf.{data_of}
 use Rattle.fv_canon.proofs.SumWalks.{summed_text}
 use Rattle.fv_canon.proofs.sum.file_sum.Goals as goal
 

@@ -1,4 +1,5 @@
-use Rattle.fv_command.specs.HobLines.{HobLines, held_image}
+use Rattle.fv_command.specs.HobLines.{HobLines}
+use Rattle.fv_command.specs.HobRefusals.{held_image}
 use Rattle.fv_command.proofs.WriteLemmas.{Tells}
 use Rattle.fv_command.proofs.hobs.put_hobs.Given as goal
 

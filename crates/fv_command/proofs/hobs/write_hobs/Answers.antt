@@ -1,7 +1,8 @@
 use Rattle.std.proofs.Common.{rules, ℕ, List, ◌<◌, ◌^◌, length, ap, subst, arith}
 use Rattle.fv_hob.specs.Hobs.{HobForm}
 use Rattle.fv_canon.proofs.WriteLaws.{some_written}
-use Rattle.fv_command.specs.HobLines.{HobsText, held_image}
+use Rattle.fv_command.specs.HobLines.{HobsText}
+use Rattle.fv_command.specs.HobRefusals.{held_image}
 use Rattle.fv_command.proofs.HobLemmas.{text_short}
 use Rattle.fv_command.proofs.hobs.write_hobs.Goals as goal
 

@@ -5,7 +5,8 @@ use Rattle.fv_base.specs.Faults.{outer_fault}
 use Rattle.fv_base.specs.declared.fault.FaultKind.TheVariants as kinds
 use Rattle.fv_tree.specs.Files.{FileForm, TopAtEnd}
 use Rattle.fv_tree.specs.FirstFault.{TopElsewhere}
-use Rattle.fv_tree.specs.Names.{Entry, IsIndex, names_in}
+use Rattle.fv_tree.specs.Names.{Entry, IsIndex}
+use Rattle.fv_tree.specs.NameOrders.{names_in}
 use Rattle.fv_tree.specs.StandingForms.{file_form}
 use Rattle.fv_tree.specs.declared.alive.Standing.{Standing}
 use Rattle.fv_tree.proofs.IndexLaws.{alone_alive, alone_twins}

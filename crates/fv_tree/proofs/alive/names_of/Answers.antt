@@ -4,7 +4,7 @@ use Rattle.fv_file.specs.declared.state.FileState.TheVariants as states
 use Rattle.std.specs.Prelude.{not, cond, true}
 use Rattle.std.specs.BTreeMap.{is_at}
 use Rattle.std.specs.BTreeSet.{contains}
-use Rattle.fv_tree.specs.Names.{key_cmp}
+use Rattle.fv_tree.specs.NameOrders.{key_cmp}
 use Rattle.fv_tree.specs.Files.{FileForm}
 use Rattle.fv_tree.specs.StandingForms.{file_form}
 use Rattle.fv_tree.specs.declared.alive.Standing.{Standing}

@@ -1,6 +1,7 @@
 use Rattle.std.proofs.Common.{◌≡◌, ◌%◌, ◌^◌, ℕ, map, take}
 use Rattle.std.specs.List.{AllByRecursion, range_with_len}
-use Rattle.fv_tree.specs.Names.{IsName, names_in}
+use Rattle.fv_tree.specs.Names.{IsName}
+use Rattle.fv_tree.specs.NameOrders.{names_in}
 use Rattle.fv_tree.specs.StandingForms.{file_form}
 use Rattle.fv_tree.proofs.numbers.sorted_keys.Given as goal
 

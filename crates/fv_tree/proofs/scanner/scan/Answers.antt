@@ -1,5 +1,5 @@
 use Rattle.std.proofs.Common.{◌++◌, ◌∷◌, [], ℕ, List, sym, ap, ◌∙◌, subst, arith, append_assoc, append-nil}
-use Rattle.fv_tree.specs.Found.{FoundFrom}
+use Rattle.fv_tree.specs.FoundWalks.{FoundFrom}
 use Rattle.fv_tree.proofs.ScanLaws.{at_multiple, at_within, walk_found, one_found}
 use Rattle.fv_tree.proofs.scanner.scan.Goals as goal
 

@@ -4,7 +4,8 @@ use Rattle.std.specs.List.Sorted.{IsPermutation}
 use Rattle.std.proofs.lemmas.List.{map_more, take_all}
 use Rattle.std.proofs.lemmas.List.Sorted.{IsPermutation-trans}
 use Rattle.std.proofs.lemmas.Nat.{one_shl}
-use Rattle.fv_tree.specs.Names.{Entry, Halves, names_in, numbered}
+use Rattle.fv_tree.specs.Names.{Entry, Halves, numbered}
+use Rattle.fv_tree.specs.NameOrders.{names_in}
 use Rattle.fv_tree.specs.StandingForms.{file_form}
 use Rattle.fv_tree.specs.declared.alive.Standing.{Standing}
 use Rattle.fv_tree.proofs.KeyLaws.{entry_at, file_within, keyed_all}

@@ -1,0 +1,19 @@
+-- Words of a run over a hand-off list: the image that it holds, and why it stopped.
+-- Serves private clauses alone: there is nothing to believe here.
+use Rattle.std.specs.Prelude.{◌≡◌, ℕ, Option, None, Some, Bool}
+use Rattle.fv_command.specs.declared.hobs.Image.{Image}
+use Rattle.fv_command.specs.HobLines.{ImageForm}
+use Rattle.fv_command.specs.Inputs.{Shown}
+use Rattle.fv_command.specs.declared.hob_runs.Refusal.{Refusal}
+use Rattle.fv_command.specs.declared.hob_runs.Refusal.TheVariants as refusals
+use Rattle.fv_command.specs.HobRuns.{RefusesHobs, FaultStopsHobs}
+
+-- those of an image in memory
+abbrev pub held_image : Option Image → Option ImageForm
+held_image None = None
+held_image (Some i) = Some (record { bytes = i.bytes.now; base = i.base })
+
+-- why nothing, or not all, was written
+abbrev pub RefusalStopsHobs : Bool → Option ℕ → Shown → Shown → Shown → Shown → Shown → Shown → Refusal → Type 0
+RefusalStopsHobs hex base r s r' s' w v (refusals.Input fault) = FaultStopsHobs hex base r s r' s' w v fault
+RefusalStopsHobs hex base r s r' s' w v (refusals.Hobs fault) = (v ≡ w) × RefusesHobs hex base r s r' s' fault

@@ -1,0 +1,19 @@
+-- The answer of the checks of a section header, as code finds it.
+-- Serves private clauses alone: there is nothing to believe here.
+use Rattle.std.specs.Prelude.{ℕ, ◌-◌, Result, List, take, drop, slice_index}
+use Rattle.fv_base.specs.Verdicts.{first_fault, verdict_by}
+use Rattle.fv_base.specs.declared.fault.Fault.{Fault}
+use Rattle.fv_section.specs.Frames.{FrameForm}
+use Rattle.fv_section.specs.FrameChecks.{has_extended_size, section_header_len_at, section_size_at, frame_checks}
+
+-- the frame at the place `at`, from where on the bytes are r
+abbrev pub frame_in : ℕ → List ℕ → FrameForm
+frame_in at r = record {
+  offset = at;
+  kind = slice_index r 3;
+  extended = has_extended_size r;
+  body = take (section_size_at r - section_header_len_at r) (drop (section_header_len_at r) r);
+}
+
+abbrev pub frame_verdict : ℕ → List ℕ → Result FrameForm Fault
+frame_verdict at r = verdict_by (first_fault (frame_checks at r)) (frame_in at r)
