@@ -17,7 +17,8 @@ and_join false b h k = cc
 pub all_hold : {F : Type 0} → (cs : List (Check F)) → first_fault cs ≡ None → AllHold cs
 all_hold [] none = tt
 all_hold (c ∷ cs) none = go c.holds refl (all_hold cs) none where
-  go : (h : Bool) → c.holds ≡ h → (first_fault cs ≡ None → AllHold cs) → (if h then first_fault cs else Some c.fault) ≡ None → AllHold (c ∷ cs)
+  go : (h : Bool) → c.holds ≡ h → (first_fault cs ≡ None → AllHold cs) → (if h then first_fault cs else Some c.fault) ≡ None
+      → AllHold (c ∷ cs)
   go true is rest n = (is, rest n)
   go false is rest n = cc
 
@@ -65,12 +66,14 @@ first_whole {F} (c ∷ cs) ds is = go c.holds (first_whole cs ds) is where
   go false rest k = cc
 
 -- what holds of all checks of a table holds of each
-in_table : {F : Type 0} → (P : Check F → Type 0) (before : List (Check F)) (c : Check F) (after : List (Check F)) → AllByRecursion P (before ++ c ∷ after) → P c
+in_table : {F : Type 0} → (P : Check F → Type 0) (before : List (Check F)) (c : Check F) (after : List (Check F))
+    → AllByRecursion P (before ++ c ∷ after) → P c
 in_table P [] c after h = h.0
 in_table P (d ∷ ds) c after h = in_table P ds c after h.1
 
 -- what is true of the faults of all checks is true of the first fault
-pub first_among : {F : Type 0} → (P : F → Type 0) (cs : List (Check F)) (f : F) → AllByRecursion (λ c. P c.fault) cs → IsFirstFault cs f → P f
+pub first_among : {F : Type 0} → (P : F → Type 0) (cs : List (Check F)) (f : F) → AllByRecursion (λ c. P c.fault) cs → IsFirstFault cs f
+    → P f
 first_among {F} P cs f all (before, c, after, is, held, fails, fault) =
     let Q : Check F → Type 0 = λ d. P d.fault in
     subst P (sym fault) (in_table Q before c after (subst (λ (l : List (Check F)). AllByRecursion Q l) is all))

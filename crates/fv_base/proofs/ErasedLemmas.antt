@@ -1,5 +1,6 @@
 -- Bytes that are all one byte.
-use Rattle.std.proofs.Common.{◌≡◌, ℕ, zero, suc, ◌+◌, ◌%◌, ◌<◌, List, [], ◌∷◌, ◌++◌, length, take, drop, get_or, bit_or, refl, sym, ap, ◌∙◌, subst, arith}
+use Rattle.std.proofs.Common.{◌≡◌, ℕ, zero, suc, ◌+◌, ◌%◌, ◌<◌, List, [], ◌∷◌, ◌++◌, length, take, drop, get_or, bit_or, refl, sym, ap, ◌∙◌}
+use Rattle.std.proofs.Common.{subst, arith}
 use Rattle.std.proofs.lemmas.List.{take-append-drop}
 use Rattle.std.specs.Prelude.{◌↔◌}
 use Rattle.std.specs.Int.RustNames.{bit_xor}
@@ -38,7 +39,8 @@ pub or_none : (a b : ℕ) → bit_or a b ≡ 0 → (a ≡ 0) × (b ≡ 0)
 or_none a b h = (omega (arith, le_or_l a b, h), omega (arith, le_or_r a b, h))
 
 pub xor_none : (a b : ℕ) → bit_xor a b ≡ 0 → a ≡ b
-xor_none a b h = same_from_bits a b (λ i. same_bit (bit_at a i) (bit_at b i) (bit_at-lt a i) (bit_at-lt b i) (sym (bit_at_xor a b i) ∙ ap (λ n. bit_at n i) h ∙ bit_at-zero i))
+xor_none a b h = same_from_bits a b (λ i.
+    same_bit (bit_at a i) (bit_at b i) (bit_at-lt a i) (bit_at-lt b i) (sym (bit_at_xor a b i) ∙ ap (λ n. bit_at n i) h ∙ bit_at-zero i))
   where
     same_bit : (x y : ℕ) → x < 2 → y < 2 → (x + y) % 2 ≡ 0 → x ≡ y
     same_bit x y l m e = omega arith
@@ -50,14 +52,16 @@ xor_same a = same_from_bits (bit_xor a a) 0 (λ i. bit_at_xor a a i ∙ twice (b
     twice x = omega arith
 
 -- a byte is looked at: nothing differed before and now
-pub looked_at : (e seen : ℕ) (x : List ℕ) (i : ℕ) → i < length x → ((seen ≡ 0) ↔ AllAre e (take i x)) → ((bit_or seen (bit_xor (get_or x i 0) e) ≡ 0) ↔ AllAre e (take (i + 1) x))
+pub looked_at : (e seen : ℕ) (x : List ℕ) (i : ℕ) → i < length x → ((seen ≡ 0) ↔ AllAre e (take i x))
+    → ((bit_or seen (bit_xor (get_or x i 0) e) ≡ 0) ↔ AllAre e (take (i + 1) x))
 looked_at e seen x i l h = (to, from)
   where
     next : suc i ≡ i + 1
     next = omega arith
 
     to : bit_or seen (bit_xor (get_or x i 0) e) ≡ 0 → AllAre e (take (i + 1) x)
-    to z = let p = or_none seen (bit_xor (get_or x i 0) e) z in subst (λ k. AllAre e (take k x)) next (one_more e x i l (h.0 p.0) (xor_none (get_or x i 0) e p.1))
+    to z = let p = or_none seen (bit_xor (get_or x i 0) e) z in
+        subst (λ k. AllAre e (take k x)) next (one_more e x i l (h.0 p.0) (xor_none (get_or x i 0) e p.1))
 
     from : AllAre e (take (i + 1) x) → bit_or seen (bit_xor (get_or x i 0) e) ≡ 0
     from all = let p = one_less e x i l (subst (λ k. AllAre e (take k x)) (sym next) all) in rw (h.1 p.0, p.1, xor_same e) refl
@@ -94,14 +98,16 @@ all-of_replicate byte zero = tt
 all-of_replicate byte (suc n) = (refl, all-of_replicate byte n)
 
 -- a piece and what is behind it
-pub all_pieces : (byte : ℕ) (whole piece behind rest : List ℕ) → rest ≡ piece ++ behind → (AllAre byte rest ↔ AllAre byte whole) → AllAre byte piece → (AllAre byte behind ↔ AllAre byte whole)
+pub all_pieces : (byte : ℕ) (whole piece behind rest : List ℕ) → rest ≡ piece ++ behind → (AllAre byte rest ↔ AllAre byte whole)
+    → AllAre byte piece → (AllAre byte behind ↔ AllAre byte whole)
 all_pieces byte whole piece behind rest is says held = (
   λ all. says.0 (subst (AllAre byte) (sym is) (all_append byte piece behind held all)),
   λ all. all_behind byte piece behind (subst (AllAre byte) is (says.1 all)),
 )
 
 -- a piece that differs
-pub piece_differs : (byte : ℕ) (whole piece behind rest : List ℕ) (t : Bool) → rest ≡ piece ++ behind → (AllAre byte rest ↔ AllAre byte whole) → ((t ≡ true) ↔ AllAre byte piece) → t ≡ false
+pub piece_differs : (byte : ℕ) (whole piece behind rest : List ℕ) (t : Bool) → rest ≡ piece ++ behind
+    → (AllAre byte rest ↔ AllAre byte whole) → ((t ≡ true) ↔ AllAre byte piece) → t ≡ false
     → ((false ≡ true) ↔ AllAre byte whole)
 piece_differs byte whole piece behind rest t is says test off = (
   λ never. cc,

@@ -1,5 +1,6 @@
 -- Fields of bytes, and the numbers that they spell.
-use Rattle.std.proofs.Common.{◌≡◌, ◌≤◌, ◌<◌, ◌+◌, ◌-◌, ◌*◌, ◌/◌, ◌%◌, ◌^◌, ℕ, zero, suc, List, [], ◌∷◌, ◌++◌, length, take, drop, refl, sym, ap, ◌∙◌, subst, arith, length-drop}
+use Rattle.std.proofs.Common.{◌≡◌, ◌≤◌, ◌<◌, ◌+◌, ◌-◌, ◌*◌, ◌/◌, ◌%◌, ◌^◌, ℕ, zero, suc, List, [], ◌∷◌, ◌++◌, length, take, drop, refl, sym}
+use Rattle.std.proofs.Common.{ap, ◌∙◌, subst, arith, length-drop}
 use Rattle.std.specs.Prelude.{slice_index}
 use Rattle.std.proofs.Math.Nat.{pow-suc}
 use Rattle.std.proofs.Math.Seq.{drop-append-add}
@@ -16,7 +17,8 @@ take-take_le (suc n) (suc m) (x ∷ xs) h = ap (λ (ys : List ℕ). x ∷ ys) (t
 pub field-take : (i n m : ℕ) (b : List ℕ) → i + n ≤ m → field i n (take m b) ≡ field i n b
 field-take i n m b h =
     let split : m ≡ i + (m - i) = omega arith in
-    let cut : drop i (take m b) ≡ take (m - i) (drop i b) = subst (λ (k : ℕ). drop i (take k b) ≡ take (m - i) (drop i b)) (sym split) (drop-take i (m - i) b) in
+    let cut : drop i (take m b) ≡ take (m - i) (drop i b) =
+    subst (λ (k : ℕ). drop i (take k b) ≡ take (m - i) (drop i b)) (sym split) (drop-take i (m - i) b) in
     ap (take n) cut ∙ take-take_le n (m - i) (drop i b) (omega arith)
 
 -- the bytes behind the first are bytes
@@ -60,7 +62,8 @@ bytes_drop (suc n) (x ∷ xs) h = bytes_drop n xs (bytes_behind x xs h)
 pub field_is : (at n : ℕ) (b : List ℕ) → IsBytes b → at + n ≤ length b → le_bytes n (le (field at n b)) ≡ field at n b
 field_is at n b h within =
     let long : length (field at n b) ≡ n = length-take-le n (drop at b) (simp length-drop (omega arith)) in
-    subst (λ (k : ℕ). le_bytes k (le (field at n b)) ≡ field at n b) long (le_bytes-le (field at n b) (bytes_take n (drop at b) (bytes_drop at b h)))
+    subst (λ (k : ℕ). le_bytes k (le (field at n b)) ≡ field at n b) long
+    (le_bytes-le (field at n b) (bytes_take n (drop at b) (bytes_drop at b h)))
 
 -- a byte before bytes
 pub bytes_cons : (x : ℕ) (b : List ℕ) → x < 256 → IsBytes b → IsBytes (x ∷ b)

@@ -17,7 +17,8 @@ pub text_length : (b : List ℕ) → length (hyphenated_text lower b) ≡ 36
 text_length b = by_index_length 36 _
 
 -- a text that names the UUID of a GUID names the GUID
-pub reads_again : (g : Guid) (text u : List ℕ) → length (bytes_of g) ≡ 16 → u ≡ swap_fields (bytes_of g) → Some u ≡ parsed text → guid_read text ≡ Some g
+pub reads_again : (g : Guid) (text u : List ℕ) → length (bytes_of g) ≡ 16 → u ≡ swap_fields (bytes_of g) → Some u ≡ parsed text
+    → guid_read text ≡ Some g
 reads_again g text u long is reads =
     ap (λ (o : Option (List ℕ)). option_map (λ (v : List ℕ). let h : Guid = record { bytes = swap_fields v } in h) o) (sym reads)
     ∙ ap (λ (v : List ℕ). let h : Guid = record { bytes = v } in Some h) (ap swap_fields is ∙ swap_twice (bytes_of g) long)
@@ -25,6 +26,7 @@ reads_again g text u long is reads =
 -- a text that names no UUID names no GUID
 pub names_none : (text : List ℕ) → ((u : List ℕ) × (parsed text ≡ Some u) → ⊥) → guid_read text ≡ None
 names_none text none = go (parsed text) none where
-  go : (o : Option (List ℕ)) → ((u : List ℕ) × (o ≡ Some u) → ⊥) → option_map (λ (v : List ℕ). let h : Guid = record { bytes = swap_fields v } in h) o ≡ None
+  go : (o : Option (List ℕ)) → ((u : List ℕ) × (o ≡ Some u) → ⊥)
+      → option_map (λ (v : List ℕ). let h : Guid = record { bytes = swap_fields v } in h) o ≡ None
   go None none = refl
   go (Some u) none = absurd (none (u, refl))

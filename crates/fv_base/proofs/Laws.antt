@@ -2,11 +2,13 @@
 
 -- fields and the numbers that they spell: a field within a cut or a join; bytes cut, joined or filled are bytes; a number and its
 -- bytes give one another back; so many bytes spell a number that they have room for; equal joins are cut at equal lengths
-pub use Rattle.fv_base.proofs.FieldLemmas.{take-take_le, field-take, field-append_front, drop-append_behind, field_is, le_bytes-le, le-le_bytes, length-le_bytes, two_bytes, same_cut}
-pub use Rattle.fv_base.proofs.FieldLemmas.{none_at, bytes_behind, bytes_cons, bytes_take, bytes_drop, bytes_append, bytes_le_bytes}
+pub use Rattle.fv_base.proofs.FieldLemmas.{take-take_le, field-take, field-append_front, drop-append_behind, field_is, le_bytes-le}
+pub use Rattle.fv_base.proofs.FieldLemmas.{le-le_bytes, length-le_bytes, two_bytes, same_cut, none_at, bytes_behind, bytes_cons, bytes_take}
+pub use Rattle.fv_base.proofs.FieldLemmas.{bytes_drop, bytes_append, bytes_le_bytes}
 pub use Rattle.fv_base.proofs.NumberLaws.{le_below, field_below, bytes_front, bytes_back, bytes_replicate}
 -- checks in their order: the first that does not hold, among some and among more; there is one where not all hold, and none else
-pub use Rattle.fv_base.proofs.CheckLemmas.{and_split, and_join, all_hold, none_faulty, first_is, first_before, first_behind, first_front, first_whole, first_among, not_first, verdict_ok, verdict_err, verdict_none, whatever}
+pub use Rattle.fv_base.proofs.CheckLemmas.{and_split, and_join, all_hold, none_faulty, first_is, first_before, first_behind, first_front}
+pub use Rattle.fv_base.proofs.CheckLemmas.{first_whole, first_among, not_first, verdict_ok, verdict_err, verdict_none, whatever}
 -- tests of numbers that hold or do not
 pub use Rattle.fv_base.proofs.TestLemmas.{if_true, if_false, not_less, not_at_most, not_equal}
 -- bytes that are all one byte: joined, cut, counted, and the test of it

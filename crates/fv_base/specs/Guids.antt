@@ -1,5 +1,6 @@
 -- GUIDs and their texts (UEFI specification, appendix A).
-use Rattle.std.specs.Prelude.{ℕ, ◌+◌, ◌-◌, ◌/◌, ◌%◌, nat_lt, List, [], ◌∷◌, ◌++◌, map, slice_index, Option, option_map, if◌then◌else◌}
+use Rattle.std.specs.Prelude.{ℕ, ◌+◌, ◌-◌, ◌/◌, ◌%◌, nat_lt, List, [], ◌∷◌, ◌++◌, map, slice_index, Option, option_map}
+use Rattle.std.specs.Prelude.{if◌then◌else◌}
 use Rattle.uuid.specs.Parts.{swap_fields}
 use Rattle.uuid.specs.Text.{parsed}
 use Rattle.fv_base.specs.declared.guid.Guid.{Guid}
@@ -31,6 +32,7 @@ guid_text b =
     digits_at (3 ∷ 2 ∷ 1 ∷ 0 ∷ []) b ++ 45 ∷ digits_at (5 ∷ 4 ∷ []) b ++ 45 ∷ digits_at (7 ∷ 6 ∷ []) b
     ++ 45 ∷ digits_at (8 ∷ 9 ∷ []) b ++ 45 ∷ digits_at (10 ∷ 11 ∷ 12 ∷ 13 ∷ 14 ∷ 15 ∷ []) b
 
--- the GUID that a text names, if it names one: the first three fields of a UUID stand with the most significant byte first
+-- the GUID that a text names, if it names one: the first three fields of a UUID stand with the
+-- most significant byte first
 abbrev pub guid_read : List ℕ → Option Guid
 guid_read text = option_map (λ u. record { bytes = swap_fields u }) (parsed text)

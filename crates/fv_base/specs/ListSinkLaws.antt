@@ -1,5 +1,5 @@
--- The laws of bytes that are kept in memory. There is nothing to believe here: these are proofs, and stand in specs/ since a
--- ghost member cites the last of them.
+-- The laws of bytes that are kept in memory. There is nothing to believe here: these are proofs, and stand in specs/
+-- since a ghost member cites the last of them.
 -- Serves private clauses alone: there is nothing to believe here.
 use Rattle.std.proofs.Common.{ℕ, List, [], ◌++◌, ap, sym, ◌∙◌, append_assoc, append-nil, Bool, true, false}
 use Rattle.fv_base.specs.ListSinks.{KeptLatched, KeptTakes}
@@ -9,7 +9,8 @@ kept_none : (s : List ℕ) (a : Bool) → KeptLatched s a [] s a
 kept_none s true = sym (append-nil s)
 kept_none s false = tt
 
-kept_joined : (s t u : List ℕ) (a b c : Bool) (xs ys : List ℕ) → KeptLatched s a xs t b → KeptLatched t b ys u c → KeptLatched s a (xs ++ ys) u c
+kept_joined : (s t u : List ℕ) (a b c : Bool) (xs ys : List ℕ) → KeptLatched s a xs t b → KeptLatched t b ys u c
+    → KeptLatched s a (xs ++ ys) u c
 kept_joined s t u true true true xs ys p q = q ∙ (ap (λ ws. ws ++ ys) p ∙ append_assoc s xs ys)
 kept_joined s t u true true false xs ys p q = tt
 kept_joined s t u true false true xs ys p q = absurd q

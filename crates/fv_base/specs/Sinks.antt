@@ -6,8 +6,10 @@ pub record WalkLaws {S : Type 0} (takes : S → List ℕ → S → Type 0) : Typ
   pub none : (s : S) → takes s [] s
   pub joined : (s t u : S) (a b : List ℕ) → takes s a t → takes t b u → takes s (a ++ b) u
 
--- a latch: while it is on, all of the bytes are taken, or a part of them and it goes off; once it is off, nothing changes
-abbrev pub Latched : {S : Type 0} → (S → List ℕ → S → Type 0) → (S → List ℕ → S → Type 0) → S → Bool → List ℕ → S → Bool → Type 0
+-- a latch: while it is on, all of the bytes are taken, or a part of them and it goes off; once
+-- it is off, nothing changes
+abbrev pub Latched : {S : Type 0} → (S → List ℕ → S → Type 0) → (S → List ℕ → S → Type 0) → S → Bool → List ℕ → S → Bool
+    → Type 0
 Latched takes stops s true bytes t true = takes s bytes t
 Latched takes stops s true bytes t false = stops s bytes t
 Latched takes stops s false bytes t true = ⊥

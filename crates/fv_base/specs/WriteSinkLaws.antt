@@ -1,7 +1,8 @@
--- The laws of a lent port that takes bytes. There is nothing to believe here: these are proofs, and stand in specs/ since a
--- ghost member cites the last of them.
+-- The laws of a lent port that takes bytes. There is nothing to believe here: these are proofs, and stand in specs/
+-- since a ghost member cites the last of them.
 -- Serves private clauses alone: there is nothing to believe here.
-use Rattle.std.proofs.Common.{◌≡◌, ℕ, ◌+◌, ◌%◌, ◌^◌, ◌<◌, List, [], ◌++◌, length, take, refl, sym, ◌∙◌, ap, subst, arith, add_assoc, add-zero, append_assoc, append-nil, length-append, Bool, true, false}
+use Rattle.std.proofs.Common.{◌≡◌, ℕ, ◌+◌, ◌%◌, ◌^◌, ◌<◌, List, [], ◌++◌, length, take, refl, sym, ◌∙◌, ap, subst}
+use Rattle.std.proofs.Common.{arith, add_assoc, add-zero, append_assoc, append-nil, length-append, Bool, true, false}
 use Rattle.std.specs.Prelude.{Option, Some, None}
 use Rattle.std.specs.Io.KnownBytes.{Appends}
 use Rattle.std.proofs.lemmas.List.{take-append-le}
@@ -12,7 +13,8 @@ use Rattle.fv_base.specs.WriteSinks.{PortShows, WritesAll, WritesFront, LatchedW
 
 pub sums_joined : (m s t u a b : ℕ) → t % m ≡ (s + a) % m → u % m ≡ (t + b) % m → u % m ≡ (s + (a + b)) % m
 sums_joined m s t u a b p q =
-    q ∙ (sym (mod-add-mod t m b) ∙ (ap (λ n. (n + b) % m) p ∙ (mod-add-mod (s + a) m b ∙ ap (λ n. n % m) (add_assoc s a b))))
+    q ∙ (sym (mod-add-mod t m b)
+    ∙ (ap (λ n. (n + b) % m) p ∙ (mod-add-mod (s + a) m b ∙ ap (λ n. n % m) (add_assoc s a b))))
 
 appends_none : (s : Option (List ℕ)) → Appends s s []
 appends_none None = tt
@@ -25,16 +27,30 @@ appends_joined (Some xs) (Some ys) None a b p q = absurd q
 appends_joined (Some xs) (Some ys) (Some zs) a b p q = q ∙ (ap (λ ws. ws ++ b) p ∙ append_assoc xs a b)
 
 pub writes_joined : (s t u : PortShows) (a b : List ℕ) → WritesAll s a t → WritesAll t b u → WritesAll s (a ++ b) u
-writes_joined s t u a b p q = (appends_joined s.contents t.contents u.contents a b p.0 q.0, sums_joined (2 ^ 64) s.count t.count u.count (length a) (length b) p.1 q.1 ∙ ap (λ n. (s.count + n) % 2 ^ 64) (sym (length-append a b)))
+writes_joined s t u a b p q = (
+  appends_joined s.contents t.contents u.contents a b p.0 q.0,
+  sums_joined (2 ^ 64) s.count t.count u.count (length a) (length b) p.1 q.1
+      ∙ ap (λ n. (s.count + n) % 2 ^ 64) (sym (length-append a b)),
+)
 
 front_early : (s t : PortShows) (a b : List ℕ) → WritesFront s a t → WritesFront s (a ++ b) t
-front_early s t a b h = (h.0, early h.0 (length a) (length b) (length (a ++ b)) (length-append a b) h.1, subst (λ xs. WritesAll s xs t) (sym (take-append-le h.0 a b (omega (arith, h.1)))) h.2, h.3)
+front_early s t a b h = (
+  h.0,
+  early h.0 (length a) (length b) (length (a ++ b)) (length-append a b) h.1,
+  subst (λ xs. WritesAll s xs t) (sym (take-append-le h.0 a b (omega (arith, h.1)))) h.2,
+  h.3,
+)
   where
     early : (n a b ab : ℕ) → ab ≡ a + b → n < a → n < ab
     early n a b ab e h = omega arith
 
 front_later : (s t u : PortShows) (a b : List ℕ) → WritesAll s a t → WritesFront t b u → WritesFront s (a ++ b) u
-front_later s t u a b p h = (length a + h.0, later h.0 (length a) (length b) (length (a ++ b)) (length-append a b) h.1, subst (λ xs. WritesAll s xs u) (sym (take-append-add a b h.0)) (writes_joined s t u a (take h.0 b) p h.2), h.3)
+front_later s t u a b p h = (
+  length a + h.0,
+  later h.0 (length a) (length b) (length (a ++ b)) (length-append a b) h.1,
+  subst (λ xs. WritesAll s xs u) (sym (take-append-add a b h.0)) (writes_joined s t u a (take h.0 b) p h.2),
+  h.3,
+)
   where
     later : (n a b ab : ℕ) → ab ≡ a + b → n < b → a + n < ab
     later n a b ab e h = omega arith
@@ -43,11 +59,13 @@ pub latched_none : (s : PortShows) (a : Bool) → LatchedWrites s a [] s a
 latched_none s true = (appends_none s.contents, ap (λ n. n % 2 ^ 64) (sym (add-zero s.count)))
 latched_none s false = refl
 
-pub latched_joined : (s t u : PortShows) (a b c : Bool) (xs ys : List ℕ) → LatchedWrites s a xs t b → LatchedWrites t b ys u c → LatchedWrites s a (xs ++ ys) u c
+pub latched_joined : (s t u : PortShows) (a b c : Bool) (xs ys : List ℕ) → LatchedWrites s a xs t b
+    → LatchedWrites t b ys u c → LatchedWrites s a (xs ++ ys) u c
 latched_joined s t u true true true xs ys p q = writes_joined s t u xs ys p q
 latched_joined s t u true true false xs ys p q = front_later s t u xs ys p q
 latched_joined s t u true false true xs ys p q = absurd q
-latched_joined s t u true false false xs ys p q = subst (λ z. WritesFront s (xs ++ ys) z) (sym q) (front_early s t xs ys p)
+latched_joined s t u true false false xs ys p q =
+    subst (λ z. WritesFront s (xs ++ ys) z) (sym q) (front_early s t xs ys p)
 latched_joined s t u false true c xs ys p q = absurd p
 latched_joined s t u false false true xs ys p q = absurd q
 latched_joined s t u false false false xs ys p q = q ∙ p

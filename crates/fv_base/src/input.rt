@@ -39,7 +39,8 @@ fn read_more<R: Read>(
 ) -> Result<Turn, AllocError>
     requires some { 0 < length chunk.old }
     requires small { length chunk.old ≤ read_limit }
-    ensures turn { IfOk result (λ turn. ReadsTurn turn (R.remaining (inner_of reader.old)) (R.remaining (inner_of reader.new))
+    ensures turn { IfOk result
+        (λ turn. ReadsTurn turn (R.remaining (inner_of reader.old)) (R.remaining (inner_of reader.new))
         bytes.old.items bytes.new.items (has_erred reader.new)) }
     ensures stays { has_erred reader.new ≡ false → has_erred reader.old ≡ false }
 {
@@ -62,11 +63,13 @@ fn read_more<R: Read>(
 /// ReadFault at the bytes read so far, where the reader fails or the turns run out; Length at the limit, where
 /// more bytes come; OutOfMemory at 0. The first that comes is answered.
 pub fn read_input<R: Read>(alloc: Global, reader: &mut Port<R>) -> Result<Vec<u8>, Fault>
-    ensures ok { IfOk result (λ v. ReadsWhole (R.remaining (inner_of reader.old)) (R.remaining (inner_of reader.new)) v.items) }
+    ensures ok { IfOk result
+        (λ v. ReadsWhole (R.remaining (inner_of reader.old)) (R.remaining (inner_of reader.new)) v.items) }
     ensures err { IfErr result (ReadStops (R.remaining (inner_of reader.old)) (R.remaining (inner_of reader.new))) }
 
     // The reader's fault comes only where the port has erred.
-    ensures erred { has_erred reader.old ≡ false → IfErr result (λ f. f.kind ≡ FaultKind.ReadFault → has_erred reader.new ≡ true) }
+    ensures erred { has_erred reader.old ≡ false
+        → IfErr result (λ f. f.kind ≡ FaultKind.ReadFault → has_erred reader.new ≡ true) }
 {
     let mut chunk = zeros(alloc, READ_LIMIT)?;
     let mut bytes = Vec::new(alloc);

@@ -1,6 +1,7 @@
 //! What takes bytes, one after another: one walk serves every kind of sink.
 
-ghost use Rattle.std.specs.Prelude.{◌≡◌, ℕ, ◌⊎◌, ◌<◌, ◌≤◌, ◌^◌, List, [], length, take, drop, replicate, true, false, IfOk, IfErr, OnErr};
+ghost use Rattle.std.specs.Prelude.{◌≡◌, ℕ, ◌⊎◌, ◌<◌, ◌≤◌, ◌^◌, List, [], length, take, drop, replicate, true, false};
+ghost use Rattle.std.specs.Prelude.{IfOk, IfErr, OnErr};
 ghost use Rattle.std.specs.Io.KnownBytes.{Appends};
 ghost use Rattle.fv_base.specs.Faults.{outer_fault, want_of_memory};
 ghost use Rattle.fv_base.specs.Port.{inner_of, has_erred};
@@ -66,9 +67,13 @@ pub struct WriteSink<'a, W: Write> {
 }
 
 impl<'a, W: Write> Sink for WriteSink<'a, W> {
-    ghost takes = { SeenTakes (λ s. record { contents = W.contents (inner_of s.port.now); erred = has_erred s.port.now; count = s.count }) (λ s. s.on) (λ s. s.port.ghost_name) };
+    ghost takes = { SeenTakes
+        (λ s. record { contents = W.contents (inner_of s.port.now); erred = has_erred s.port.now; count = s.count })
+        (λ s. s.on) (λ s. s.port.ghost_name) };
 
-    ghost laws = { seen_by (λ s. record { contents = W.contents (inner_of s.port.now); erred = has_erred s.port.now; count = s.count }) (λ s. s.on) (λ s. s.port.ghost_name) };
+    ghost laws = { seen_by
+        (λ s. record { contents = W.contents (inner_of s.port.now); erred = has_erred s.port.now; count = s.count })
+        (λ s. s.on) (λ s. s.port.ghost_name) };
 
     fn put(&mut self, bytes: &[u8]) {
         if self.on {

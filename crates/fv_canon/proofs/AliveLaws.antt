@@ -63,11 +63,13 @@ abbrev pub NamesApart : List (List ℕ) → Type 0
 NamesApart [] = Unit {0}
 NamesApart (n ∷ ns) = (list_any (bytes_eq n) ns ≡ false) × NamesApart ns
 
-none_named : (n : List ℕ) (ys : List FileForm) → ((g : FileForm) → Member g ys → bytes_eq n (bytes_of g.head.name) ≡ true → ⊥) → list_any (bytes_eq n) (names_in ys) ≡ false
+none_named : (n : List ℕ) (ys : List FileForm) → ((g : FileForm) → Member g ys → bytes_eq n (bytes_of g.head.name) ≡ true → ⊥)
+    → list_any (bytes_eq n) (names_in ys) ≡ false
 none_named n [] h = refl
 none_named n (y ∷ ys) h = go (none_named n ys (λ g m t. h g (inr m) t)) (bytes_eq n (bytes_of y.head.name)) refl
   where
-    go : list_any (bytes_eq n) (names_in ys) ≡ false → (b : Bool) → bytes_eq n (bytes_of y.head.name) ≡ b → list_any (bytes_eq n) (names_in (y ∷ ys)) ≡ false
+    go : list_any (bytes_eq n) (names_in ys) ≡ false → (b : Bool) → bytes_eq n (bytes_of y.head.name) ≡ b
+        → list_any (bytes_eq n) (names_in (y ∷ ys)) ≡ false
     go later true e = absurd (h y (inl refl) e)
     go later false e = rw e later
 
@@ -99,14 +101,17 @@ no_third true false p q r = cc
 no_third false true p q r = cc
 no_third false false p q r = cc
 
-two_apart : (all : List FileForm) (f g : FileForm) → Member f all → Member g all → kept all f ≡ true → kept all g ≡ true → is_twin f g ≡ false → same_name f g ≡ true → ⊥
+two_apart : (all : List FileForm) (f g : FileForm) → Member f all → Member g all → kept all f ≡ true → kept all g ≡ true
+    → is_twin f g ≡ false → same_name f g ≡ true → ⊥
 two_apart all f g in_f in_g keeps_f keeps_g twin same =
     no_third (is_marked f.head.state) (is_marked g.head.state)
     (ap (λ (b : Bool). b && beq (is_marked f.head.state) (is_marked g.head.state)) (sym same) ∙ twin)
-    (ap (λ (b : Bool). b && (is_marked f.head.state && not (is_marked g.head.state))) (sym same) ∙ any_false (replaces f) all g in_g (not_true (list_any (replaces f) all) keeps_f))
-    (ap (λ (b : Bool). b && (is_marked g.head.state && not (is_marked f.head.state))) (sym (name_turned f g same)) ∙ any_false (replaces g) all f in_f (not_true (list_any (replaces g) all) keeps_g))
+    (ap (λ (b : Bool). b && (is_marked f.head.state && not (is_marked g.head.state))) (sym same) ∙ any_false (replaces f) all g in_g
+    (not_true (list_any (replaces f) all) keeps_f)) (ap (λ (b : Bool). b && (is_marked g.head.state && not (is_marked f.head.state)))
+    (sym (name_turned f g same)) ∙ any_false (replaces g) all f in_f (not_true (list_any (replaces g) all) keeps_g))
 
-kept_apart : (all xs : List FileForm) → ((g : FileForm) → Member g xs → Member g all) → NoTwins xs → NamesApart (names_in (filter (kept all) xs))
+kept_apart : (all xs : List FileForm) → ((g : FileForm) → Member g xs → Member g all) → NoTwins xs
+    → NamesApart (names_in (filter (kept all) xs))
 kept_apart all [] inside twins = tt
 kept_apart all (f ∷ fs) inside twins = go (kept_apart all fs (λ g m. inside g (inr m)) twins.1) (kept all f) refl
   where
@@ -142,12 +147,14 @@ replaces_none f e (g ∷ gs) = rw e (rw (no_and (same_name f g)) (replaces_none 
 
 all_kept : (all xs : List FileForm) → NoneMarked xs → filter (kept all) xs ≡ xs
 all_kept all [] none = refl
-all_kept all (f ∷ fs) none = filter_true (kept all) f fs (ap not (replaces_none f none.0 all)) ∙ ap (λ (xs : List FileForm). f ∷ xs) (all_kept all fs none.1)
+all_kept all (f ∷ fs) none =
+    filter_true (kept all) f fs (ap not (replaces_none f none.0 all)) ∙ ap (λ (xs : List FileForm). f ∷ xs) (all_kept all fs none.1)
 
 pub all_alive : (xs : List FileForm) → NoneMarked xs → alive_in xs ≡ xs
 all_alive xs none = all_kept xs xs none
 
-twins_none : (f : FileForm) (xs : List FileForm) → list_any (bytes_eq (bytes_of f.head.name)) (names_in xs) ≡ false → list_any (is_twin f) xs ≡ false
+twins_none : (f : FileForm) (xs : List FileForm) → list_any (bytes_eq (bytes_of f.head.name)) (names_in xs) ≡ false
+    → list_any (is_twin f) xs ≡ false
 twins_none f [] e = refl
 twins_none f (x ∷ xs) e =
     let n = neither (same_name f x) (list_any (bytes_eq (bytes_of f.head.name)) (names_in xs)) e in
@@ -168,15 +175,19 @@ top_last length [] h = tt
 top_last length (f ∷ []) h = tt
 top_last length (f ∷ g ∷ fs) h = (h.0, top_last length (g ∷ fs) h.1)
 
-pub forms_top : (p : Polarity) (total e : ℕ) (fs : List StoredFile) (ss : List ℕ) → TopLast (names_of fs) → StartsFollow total e (map stored_part fs) ss → TopAtEnd total (forms_of p fs ss)
+pub forms_top : (p : Polarity) (total e : ℕ) (fs : List StoredFile) (ss : List ℕ) → TopLast (names_of fs)
+    → StartsFollow total e (map stored_part fs) ss → TopAtEnd total (forms_of p fs ss)
 forms_top p total e [] ss h follow = tt
 forms_top p total e (f ∷ fs) [] h follow = tt
 forms_top p total e (f ∷ []) (s ∷ []) h follow = λ top. follow.0.at_end top
 forms_top p total e (f ∷ []) (s ∷ t ∷ ss) h follow = absurd follow.1
 forms_top p total e (f ∷ g ∷ fs) (s ∷ []) h follow = absurd follow.1
-forms_top p total e (f ∷ g ∷ fs) (s ∷ t ∷ ss) h follow = (h.0, forms_top p total (up_to_8 (s + stored_len f)) (g ∷ fs) (t ∷ ss) h.1 follow.1)
+forms_top p total e (f ∷ g ∷ fs) (s ∷ t ∷ ss) h follow =
+    (h.0, forms_top p total (up_to_8 (s + stored_len f)) (g ∷ fs) (t ∷ ss) h.1 follow.1)
 
-pub form_names : (p : Polarity) (total e : ℕ) (fs : List StoredFile) (ss : List ℕ) → StartsFollow total e (map stored_part fs) ss → names_in (forms_of p fs ss) ≡ names_of fs
+pub form_names : (p : Polarity) (total e : ℕ) (fs : List StoredFile) (ss : List ℕ) → StartsFollow total e (map stored_part fs) ss
+    → names_in (forms_of p fs ss) ≡ names_of fs
 form_names p total e [] ss follow = refl
 form_names p total e (f ∷ fs) [] follow = absurd follow
-form_names p total e (f ∷ fs) (s ∷ ss) follow = ap (λ (ns : List (List ℕ)). bytes_of f.name ∷ ns) (form_names p total (up_to_8 (s + stored_len f)) fs ss follow.1)
+form_names p total e (f ∷ fs) (s ∷ ss) follow =
+    ap (λ (ns : List (List ℕ)). bytes_of f.name ∷ ns) (form_names p total (up_to_8 (s + stored_len f)) fs ss follow.1)

@@ -53,7 +53,8 @@ bytes_files system p total e (f ∷ fs) (s ∷ ss) all =
 -- ---- the extended header
 
 -- an entry that was read is bytes again, with any used size
-bytes_entry : (used : ℕ) (e : ℕ × List ℕ) (payload : List ℕ) → IsBytes payload → e.1 ≡ kept_payload e.0 payload → IsBytes (entry_bytes used e)
+bytes_entry : (used : ℕ) (e : ℕ × List ℕ) (payload : List ℕ) → IsBytes payload → e.1 ≡ kept_payload e.0 payload
+    → IsBytes (entry_bytes used e)
 bytes_entry used e payload small kept =
     let own : IsBytes e.1 =
     subst IsBytes (sym kept) (bytes_either (is_used_size e.0 payload) zero_used_size payload (bytes_le_bytes 4 0) small) in

@@ -1,5 +1,6 @@
 -- A file and a pad that are written as the canonical image has them are cells.
-use Rattle.std.proofs.Common.{◌≡◌, ◌≢◌, ◌≤◌, ◌<◌, ◌+◌, ◌-◌, ◌/◌, ◌%◌, ℕ, zero, suc, Bool, true, false, List, [], ◌∷◌, ◌++◌, length, replicate, refl, sym, ap, ◌∙◌, subst, arith, length-append, append_assoc, append-nil}
+use Rattle.std.proofs.Common.{◌≡◌, ◌≢◌, ◌≤◌, ◌<◌, ◌+◌, ◌-◌, ◌/◌, ◌%◌, ℕ, zero, suc, Bool, true, false, List, [], ◌∷◌, ◌++◌, length}
+use Rattle.std.proofs.Common.{replicate, refl, sym, ap, ◌∙◌, subst, arith, length-append, append_assoc, append-nil}
 use Rattle.std.specs.Prelude.{slice_index, sum, ◌==◌, if◌then◌else◌}
 use Rattle.std.proofs.lemmas.Bool.{eq-eqb}
 use Rattle.std.proofs.lemmas.Bool.Decides.{nat_tests}
@@ -15,7 +16,8 @@ use Rattle.fv_base.proofs.FieldLemmas.{bytes_append, bytes_le_bytes}
 use Rattle.fv_file.specs.Attributes.{is_large, is_fixed, is_summed}
 use Rattle.fv_file.specs.Cells.{Valid, Pad, IsCell}
 use Rattle.fv_file.specs.Files.{file_header_len, pad_kind, file_sum_right}
-use Rattle.fv_file.specs.NewHeaders.{needs_large, with_large, complement, fixed_checksum, pad_name, state_byte, header_with, header_bytes, file_fields, pad_fields, file_head_of, pad_head_of}
+use Rattle.fv_file.specs.NewHeaders.{needs_large, with_large, complement, fixed_checksum, pad_name, state_byte, header_with, header_bytes}
+use Rattle.fv_file.specs.NewHeaders.{file_fields, pad_fields, file_head_of, pad_head_of}
 use Rattle.fv_file.specs.declared.head.FileHead.{FileHead}
 use Rattle.fv_file.proofs.AttributeLemmas.{set_large}
 use Rattle.fv_file.proofs.WrittenLemmas.{file_written, pad_written, head_of_file, head_of_pad}
@@ -36,10 +38,12 @@ state_small Zeros = omega arith
 complement_small : (n : ℕ) → complement n < 256
 complement_small n = omega arith
 
-pub bytes_header : (file_sum : ℕ) (name : List ℕ) (kind attributes size : ℕ) (large : Bool) (state : ℕ) → IsBytes name → file_sum < 256 → kind < 256 → attributes < 256 → state < 256
+pub bytes_header : (file_sum : ℕ) (name : List ℕ) (kind attributes size : ℕ) (large : Bool) (state : ℕ) → IsBytes name → file_sum < 256
+    → kind < 256 → attributes < 256 → state < 256
     → IsBytes (header_bytes file_sum name kind attributes size large state)
 unfolding header_bytes
-bytes_header file_sum name kind attributes size large state n f k a s = parts large (complement (sum (header_with 0 0 name kind attributes size large 0))) (complement_small _)
+bytes_header file_sum name kind attributes size large state n f k a s =
+    parts large (complement (sum (header_with 0 0 name kind attributes size large 0))) (complement_small _)
   where
     parts : (large : Bool) (c : ℕ) → c < 256 → IsBytes (header_with c file_sum name kind attributes size large state)
     parts true c l =
@@ -47,31 +51,39 @@ bytes_header file_sum name kind attributes size large state n f k a s = parts la
         (bytes_append (name ++ (c ∷ file_sum ∷ kind ∷ attributes ∷ []) ++ le_bytes 3 0) (state ∷ [])
         (bytes_append (name ++ (c ∷ file_sum ∷ kind ∷ attributes ∷ [])) (le_bytes 3 0)
         (bytes_append name (c ∷ file_sum ∷ kind ∷ attributes ∷ []) n
-        (bytes_cons c (file_sum ∷ kind ∷ attributes ∷ []) l (bytes_cons file_sum (kind ∷ attributes ∷ []) f (bytes_cons kind (attributes ∷ []) k (bytes_cons attributes [] a bytes_none)))))
+        (bytes_cons c (file_sum ∷ kind ∷ attributes ∷ []) l
+        (bytes_cons file_sum (kind ∷ attributes ∷ []) f (bytes_cons kind (attributes ∷ []) k (bytes_cons attributes [] a bytes_none)))))
         (bytes_le_bytes 3 0)) (bytes_cons state [] s bytes_none)) (bytes_le_bytes 8 size)
     parts false c l =
         bytes_append (name ++ (c ∷ file_sum ∷ kind ∷ attributes ∷ []) ++ le_bytes 3 size ++ (state ∷ [])) []
         (bytes_append (name ++ (c ∷ file_sum ∷ kind ∷ attributes ∷ []) ++ le_bytes 3 size) (state ∷ [])
         (bytes_append (name ++ (c ∷ file_sum ∷ kind ∷ attributes ∷ [])) (le_bytes 3 size)
         (bytes_append name (c ∷ file_sum ∷ kind ∷ attributes ∷ []) n
-        (bytes_cons c (file_sum ∷ kind ∷ attributes ∷ []) l (bytes_cons file_sum (kind ∷ attributes ∷ []) f (bytes_cons kind (attributes ∷ []) k (bytes_cons attributes [] a bytes_none)))))
+        (bytes_cons c (file_sum ∷ kind ∷ attributes ∷ []) l
+        (bytes_cons file_sum (kind ∷ attributes ∷ []) f (bytes_cons kind (attributes ∷ []) k (bytes_cons attributes [] a bytes_none)))))
         (bytes_le_bytes 3 size)) (bytes_cons state [] s bytes_none)) bytes_none
 
 pub length-header : (file_sum : ℕ) (name : List ℕ) (kind attributes size : ℕ) (large : Bool) (state : ℕ) → length name ≡ 16
     → length (header_bytes file_sum name kind attributes size large state) ≡ file_header_len large
 unfolding header_bytes
-length-header file_sum name kind attributes size large state n = parts large (complement (sum (header_with 0 0 name kind attributes size large 0)))
+length-header file_sum name kind attributes size large state n =
+    parts large (complement (sum (header_with 0 0 name kind attributes size large 0)))
   where
-    front : (c : ℕ) (x : List ℕ) (k : ℕ) → length x ≡ k → length (name ++ (c ∷ file_sum ∷ kind ∷ attributes ∷ []) ++ x ++ (state ∷ [])) ≡ 21 + k
-    front c x k e = joined (length (name ++ (c ∷ file_sum ∷ kind ∷ attributes ∷ []) ++ x ++ (state ∷ []))) (length (name ++ (c ∷ file_sum ∷ kind ∷ attributes ∷ []) ++ x)) (length (name ++ (c ∷ file_sum ∷ kind ∷ attributes ∷ []))) (length x) (length name) k
-        (length-append (name ++ (c ∷ file_sum ∷ kind ∷ attributes ∷ []) ++ x) (state ∷ [])) (length-append (name ++ (c ∷ file_sum ∷ kind ∷ attributes ∷ [])) x) (length-append name (c ∷ file_sum ∷ kind ∷ attributes ∷ [])) n e
+    front : (c : ℕ) (x : List ℕ) (k : ℕ) → length x ≡ k
+        → length (name ++ (c ∷ file_sum ∷ kind ∷ attributes ∷ []) ++ x ++ (state ∷ [])) ≡ 21 + k
+    front c x k e = joined (length (name ++ (c ∷ file_sum ∷ kind ∷ attributes ∷ []) ++ x ++ (state ∷ [])))
+        (length (name ++ (c ∷ file_sum ∷ kind ∷ attributes ∷ []) ++ x)) (length (name ++ (c ∷ file_sum ∷ kind ∷ attributes ∷ [])))
+        (length x) (length name) k (length-append (name ++ (c ∷ file_sum ∷ kind ∷ attributes ∷ []) ++ x) (state ∷ []))
+        (length-append (name ++ (c ∷ file_sum ∷ kind ∷ attributes ∷ [])) x) (length-append name (c ∷ file_sum ∷ kind ∷ attributes ∷ [])) n e
       where
         joined : (a b d x n k : ℕ) → a ≡ b + 1 → b ≡ d + x → d ≡ n + 4 → n ≡ 16 → x ≡ k → a ≡ 21 + k
         joined a b d x n k p q r s t = omega arith
 
     parts : (large : Bool) (c : ℕ) → length (header_with c file_sum name kind attributes size large state) ≡ file_header_len large
-    parts true c = length-append (name ++ (c ∷ file_sum ∷ kind ∷ attributes ∷ []) ++ le_bytes 3 0 ++ (state ∷ [])) (le_bytes 8 size) ∙ ap (λ (n : ℕ). n + 8) (front c (le_bytes 3 0) 3 refl)
-    parts false c = length-append (name ++ (c ∷ file_sum ∷ kind ∷ attributes ∷ []) ++ le_bytes 3 size ++ (state ∷ [])) [] ∙ ap (λ (n : ℕ). n + 0) (front c (le_bytes 3 size) 3 refl)
+    parts true c = length-append (name ++ (c ∷ file_sum ∷ kind ∷ attributes ∷ []) ++ le_bytes 3 0 ++ (state ∷ [])) (le_bytes 8 size)
+        ∙ ap (λ (n : ℕ). n + 8) (front c (le_bytes 3 0) 3 refl)
+    parts false c = length-append (name ++ (c ∷ file_sum ∷ kind ∷ attributes ∷ []) ++ le_bytes 3 size ++ (state ∷ [])) []
+        ∙ ap (λ (n : ℕ). n + 0) (front c (le_bytes 3 size) 3 refl)
 
 -- ---- a file
 
@@ -93,7 +105,8 @@ stored_header p f = file_head_of f.name f.kind (record { 0 = f.attributes }) (le
 
 -- the header that is read again
 abbrev pub stored_head : Polarity → StoredFile → FileHead
-stored_head p f = file_fields f.name f.kind (record { 0 = f.attributes }) (length f.payload) (file_sum_for f.attributes f.payload) (slice_index (stored_header p f) 16)
+stored_head p f = file_fields f.name f.kind (record { 0 = f.attributes }) (length f.payload) (file_sum_for f.attributes f.payload)
+    (slice_index (stored_header p f) 16)
 
 even : (a : ℕ) → is_large a ≡ false → a % 2 ≡ 0
 even a h = grind (arith, nat_tests)
@@ -122,10 +135,13 @@ sums_up : (n : ℕ) → (n + complement n) % 256 ≡ 0
 sums_up n = omega arith
 
 -- the file sum is right
-sum_is_right : (l : Bool) (a : ℕ) (payload : List ℕ) → is_large a ≡ false → file_sum_right (with_large l a) (file_sum_for a payload) payload ≡ true
-sum_is_right l a payload h = ap (λ (b : Bool). if b then (sum payload + file_sum_for a payload) % 256 == 0 else file_sum_for a payload == 0xaa) (still_summed l a h) ∙ go (is_summed a)
+sum_is_right : (l : Bool) (a : ℕ) (payload : List ℕ) → is_large a ≡ false
+    → file_sum_right (with_large l a) (file_sum_for a payload) payload ≡ true
+sum_is_right l a payload h = ap (λ (b : Bool). if b then (sum payload + file_sum_for a payload) % 256 == 0
+    else file_sum_for a payload == 0xaa) (still_summed l a h) ∙ go (is_summed a)
   where
-    go : (b : Bool) → (if b then (sum payload + (if b then complement (sum payload) else fixed_checksum)) % 256 == 0 else (if b then complement (sum payload) else fixed_checksum) == 0xaa) ≡ true
+    go : (b : Bool) → (if b then (sum payload + (if b then complement (sum payload) else fixed_checksum)) % 256 == 0
+        else (if b then complement (sum payload) else fixed_checksum) == 0xaa) ≡ true
     go true = eq-eqb ((sum payload + complement (sum payload)) % 256) 0 (sums_up (sum payload))
     go false = refl
 
@@ -135,9 +151,11 @@ sum_small a payload = go (is_summed a) where
   go true = complement_small (sum payload)
   go false = omega arith
 
-pub length-stored_header : (system : FileSystem) (p : Polarity) (f : StoredFile) → Storable system f → length (stored_header p f) ≡ head_len_for (length f.payload)
+pub length-stored_header : (system : FileSystem) (p : Polarity) (f : StoredFile) → Storable system f
+    → length (stored_header p f) ≡ head_len_for (length f.payload)
 length-stored_header system p f k =
-    length-header (file_sum_for f.attributes f.payload) (bytes_of f.name) f.kind (with_large (needs_large (length f.payload)) f.attributes) (head_len_for (length f.payload) + length f.payload) (needs_large (length f.payload)) (state_byte p) k.name
+    length-header (file_sum_for f.attributes f.payload) (bytes_of f.name) f.kind (with_large (needs_large (length f.payload)) f.attributes)
+    (head_len_for (length f.payload) + length f.payload) (needs_large (length f.payload)) (state_byte p) k.name
 
 bytes_stored_header : (system : FileSystem) (p : Polarity) (f : StoredFile) → Storable system f → IsBytes (stored_header p f)
 bytes_stored_header system p f k =
@@ -151,7 +169,8 @@ pub bytes_stored : (system : FileSystem) (p : Polarity) (f : StoredFile) → Sto
 unfolding stored_bytes
 bytes_stored system p f k = bytes_append (stored_header p f) f.payload (bytes_stored_header system p f k) k.payload
 
-pub file_cell : (system : FileSystem) (p : Polarity) (f : StoredFile) → Storable system f → (at : ℕ) (filler : List ℕ) → length filler < 8 → (stored_len f + length filler) % 8 ≡ 0
+pub file_cell : (system : FileSystem) (p : Polarity) (f : StoredFile) → Storable system f → (at : ℕ) (filler : List ℕ) → length filler < 8
+    → (stored_len f + length filler) % 8 ≡ 0
     → IsCell system p (Valid at (stored_head p f) f.payload) (stored_bytes p f ++ filler)
 unfolding stored_bytes
 file_cell system p f k at filler few multiple =
@@ -163,12 +182,17 @@ file_cell system p f k at filler few multiple =
     let written = file_written p f.name f.kind (record { 0 = f.attributes }) n fs h k.name k.short k.most small refl in
     let cell = head_of_file p (stored_head p f) h written refl in
     subst (λ (x : List ℕ). IsCell system p (Valid at (stored_head p f) f.payload) x) (sym (append_assoc h f.payload filler))
-    (cell system at f.payload filler (λ e. k.large (sym (large_back large f.attributes k.short) ∙ e)) (ap (λ (m : ℕ). m + n) (sym (length-stored_header system p f k)))
-    (record { kind = k.kind; moves = still_moves large f.attributes k.short k.moves; file_sum = sum_is_right large f.attributes f.payload k.short }) few multiple)
+    (cell system at f.payload filler (λ e. k.large (sym (large_back large f.attributes k.short) ∙ e))
+    (ap (λ (m : ℕ). m + n) (sym (length-stored_header system p f k))) (record {
+      kind = k.kind;
+      moves = still_moves large f.attributes k.short k.moves;
+      file_sum = sum_is_right large f.attributes f.payload k.short;
+    }) few multiple)
 
 pub length-stored : (system : FileSystem) (p : Polarity) (f : StoredFile) → Storable system f → length (stored_bytes p f) ≡ stored_len f
 unfolding stored_bytes
-length-stored system p f k = length-append (stored_header p f) f.payload ∙ ap (λ (m : ℕ). m + length f.payload) (length-stored_header system p f k)
+length-stored system p f k =
+    length-append (stored_header p f) f.payload ∙ ap (λ (m : ℕ). m + length f.payload) (length-stored_header system p f k)
 
 -- ---- a pad
 
@@ -181,7 +205,8 @@ bytes_name = bytes_replicate 16 255 (omega arith)
 
 pub bytes_pad_head : (size : ℕ) (p : Polarity) → IsBytes (pad_head_of size p)
 bytes_pad_head size p =
-    bytes_header fixed_checksum pad_name pad_kind 0 size false (state_byte p) bytes_name (omega arith) (omega arith) (omega arith) (state_small p)
+    bytes_header fixed_checksum pad_name pad_kind 0 size false (state_byte p) bytes_name (omega arith) (omega arith)
+    (omega arith) (state_small p)
 
 pub bytes_erased : (p : Polarity) (n : ℕ) → IsBytes (replicate n (erased_byte p))
 bytes_erased p n = bytes_replicate n (erased_byte p) (small p)
@@ -201,13 +226,15 @@ length-pad_head size p = length-header fixed_checksum pad_name pad_kind 0 size f
 pub length-pad : (p : Polarity) (size : ℕ) → 24 ≤ size → length (pad_bytes p size) ≡ size
 unfolding pad_bytes
 length-pad p size l =
-    length-append (pad_head_of size p) (replicate (size - 24) (erased_byte p)) ∙ sum_of (length (pad_head_of size p)) (length (replicate (size - 24) (erased_byte p))) (length-pad_head size p) (length-replicate (size - 24) (erased_byte p))
+    length-append (pad_head_of size p) (replicate (size - 24) (erased_byte p)) ∙ sum_of (length (pad_head_of size p))
+    (length (replicate (size - 24) (erased_byte p))) (length-pad_head size p) (length-replicate (size - 24) (erased_byte p))
   where
     sum_of : (a b : ℕ) → a ≡ 24 → b ≡ size - 24 → a + b ≡ size
     sum_of a b e f = omega (arith, l)
 
 pub pad_cell : (system : FileSystem) (p : Polarity) (size : ℕ) → 24 ≤ size → size ≤ 0xffffff → size % 8 ≡ 0 → (at : ℕ)
-    → IsCell system p (Pad at (pad_fields size (slice_index (pad_head_of size p) 16)) (replicate (size - 24) (erased_byte p))) (pad_bytes p size)
+    → IsCell system p
+    (Pad at (pad_fields size (slice_index (pad_head_of size p) 16)) (replicate (size - 24) (erased_byte p))) (pad_bytes p size)
 unfolding pad_bytes
 pad_cell system p size least most multiple at =
     let h : List ℕ = pad_head_of size p in
@@ -216,7 +243,8 @@ pad_cell system p size least most multiple at =
     let head : FileHead = pad_fields size (slice_index h 16) in
     let cell = head_of_pad p head h written refl refl refl in
     subst (λ (x : List ℕ). IsCell system p (Pad at head payload) (h ++ x)) (append-nil payload)
-    (cell system at payload [] (sized (length h) (length payload) (length-pad_head size p) (length-replicate (size - 24) (erased_byte p))) (omega arith) (whole size multiple))
+    (cell system at payload [] (sized (length h) (length payload) (length-pad_head size p) (length-replicate (size - 24) (erased_byte p)))
+    (omega arith) (whole size multiple))
   where
     sized : (a b : ℕ) → a ≡ 24 → b ≡ size - 24 → size ≡ a + b
     sized a b e f = omega (arith, least)

@@ -80,7 +80,8 @@ module _ (at : ℕ) (r : List ℕ) where
   cell_within : (s : FileSystem) (p : Polarity) (f : Fault) → IsFirstFault (cell_checks s p at r) f → f.place.offset ≤ at + length r
   cell_within s p f ([], c, after, is, held, fails, fault) =
       let e : ℕ = erased_byte p in
-      let first : c ≡ check (nat_le 24 (length r) && not (bits_of p (slice_index r 23) == 0)) kinds.FreeSpace (at + leading_count e r) = cc in
+      let first : c ≡ check (nat_le 24 (length r) && not (bits_of p (slice_index r 23) == 0)) kinds.FreeSpace (at + leading_count e r) =
+      cc in
       let place : f.place.offset ≡ at + leading_count e r =
       ap (λ (g : Fault). g.place.offset) fault ∙ ap (λ (d : Check Fault). d.fault.place.offset) first in
       omega (arith, place, run_within e r)

@@ -1,5 +1,6 @@
 -- What is known of a file that was read and laid out, and how the files of a volume go on.
-use Rattle.std.proofs.Common.{◌≡◌, ◌≤◌, ◌<◌, ◌⊎◌, inl, inr, ◌+◌, ◌-◌, ◌%◌, ℕ, zero, suc, List, [], ◌∷◌, ◌++◌, length, drop, replicate, get_or, refl, sym, ap, ◌∙◌, subst, arith, append_assoc, drop-drop, length-drop}
+use Rattle.std.proofs.Common.{◌≡◌, ◌≤◌, ◌<◌, ◌⊎◌, inl, inr, ◌+◌, ◌-◌, ◌%◌, ℕ, zero, suc, List, [], ◌∷◌, ◌++◌, length, drop, replicate}
+use Rattle.std.proofs.Common.{get_or, refl, sym, ap, ◌∙◌, subst, arith, append_assoc, drop-drop, length-drop}
 use Rattle.std.specs.Prelude.{map}
 use Rattle.std.proofs.lemmas.List.{drop_more, length-map}
 use Rattle.fv_base.specs.Flash.{erased_byte}
@@ -8,7 +9,8 @@ use Rattle.fv_base.specs.declared.flash.Polarity.{Polarity}
 use Rattle.fv_file.specs.NewHeaders.{file_head_of, needs_large}
 use Rattle.fv_file.proofs.FileLemmas.{header_least}
 use Rattle.fv_canon.specs.Starts.{StandsInVolume}
-use Rattle.fv_tree.specs.Meaning.{MoreFiles, FileMeaning, File, files_from, file_name_of, file_kind_of, attributes_of, content_of, data_len_of}
+use Rattle.fv_tree.specs.Meaning.{MoreFiles, FileMeaning, File, files_from, file_name_of, file_kind_of, attributes_of, content_of}
+use Rattle.fv_tree.specs.Meaning.{data_len_of}
 use Rattle.fv_tree.specs.Sizes.{files_size, file_size}
 use Rattle.fv_tree.specs.Denotes.{IsReadFile, MeansSection, Stream}
 use Rattle.fv_canon.specs.ImageOf.{stored_of, stored_file, data_of, starts_in_file, starts_in_files, starts_in_content}
@@ -24,26 +26,33 @@ use Rattle.fv_canon.specs.Placed.{ArePlaced}
 use Rattle.fv_canon.specs.ImageWalks.{BeginsWithStarts}
 
 -- ---- a file
-pub file_long : (m : FileMeaning) (starts : List ℕ) → IsReadFile m → BeginsWithStarts LaysFile m starts → length (data_of (content_of m) starts) ≡ data_len_of m
-file_long (File name kind attributes content) starts (n, l, f, (system, p, b, small, most, cell), (named, kinds, bits, is)) (laid, more, text, lays) =
+pub file_long : (m : FileMeaning) (starts : List ℕ) → IsReadFile m → BeginsWithStarts LaysFile m starts
+    → length (data_of (content_of m) starts) ≡ data_len_of m
+file_long (File name kind attributes content) starts (n, l, f, (system, p, b, small, most, cell), (named, kinds, bits, is))
+    (laid, more, text, lays) =
     let r = cell_read system p f.offset f.head f.payload b small cell in
     let image = data_made (Stream n) (stream_made (MeansSection n) (sections_made n)) kind content f.payload laid more r.payload is lays in
-    let again = data_again (Stream n) (stream_again (MeansSection n) (sections_again n)) kind content f.payload (data_of content (laid ++ more)) r.payload is image in
+    let again = data_again (Stream n) (stream_again (MeansSection n) (sections_again n)) kind content f.payload
+    (data_of content (laid ++ more)) r.payload is image in
     ap (λ (xs : List ℕ). length (data_of content xs)) text ∙ again.len
 
 pub stored_is : (p : Polarity) (m : FileMeaning) (starts : List ℕ) → length (data_of (content_of m) starts) ≡ data_len_of m
-    → stored_bytes p (stored_file m starts) ≡ file_head_of (file_name_of m) (file_kind_of m) (record { 0 = attributes_of m }) (data_len_of m) (file_sum_for (attributes_of m) (data_of (content_of m) starts)) p ++ data_of (content_of m) starts
+    → stored_bytes p (stored_file m starts) ≡ file_head_of (file_name_of m) (file_kind_of m) (record { 0 = attributes_of m })
+    (data_len_of m) (file_sum_for (attributes_of m) (data_of (content_of m) starts)) p ++ data_of (content_of m) starts
 unfolding stored_bytes
 stored_is p (File name kind attributes content) starts long =
-    ap (λ (n : ℕ). file_head_of name kind (record { 0 = attributes }) n (file_sum_for attributes (data_of content starts)) p ++ data_of content starts) long
+    ap (λ (n : ℕ). file_head_of name kind (record { 0 = attributes }) n (file_sum_for attributes (data_of content starts)) p
+    ++ data_of content starts) long
 
-pub size_is : (m : FileMeaning) (starts : List ℕ) → length (data_of (content_of m) starts) ≡ data_len_of m → stored_len (stored_file m starts) ≡ size_for (data_len_of m)
+pub size_is : (m : FileMeaning) (starts : List ℕ) → length (data_of (content_of m) starts) ≡ data_len_of m
+    → stored_len (stored_file m starts) ≡ size_for (data_len_of m)
 size_is (File name kind attributes content) starts long = ap size_for long
 
 pub in_content : (m : FileMeaning) → starts_in_file m ≡ starts_in_content (content_of m)
 in_content (File name kind attributes content) = refl
 
-pub content_laid : (m : FileMeaning) (starts : List ℕ) → BeginsWithStarts LaysFile m starts → BeginsWithStarts LaysContent (content_of m) starts
+pub content_laid : (m : FileMeaning) (starts : List ℕ) → BeginsWithStarts LaysFile m starts
+    → BeginsWithStarts LaysContent (content_of m) starts
 content_laid (File name kind attributes content) starts laid = laid
 
 -- ---- the walk over the files
@@ -60,13 +69,15 @@ pub record Here (total e : ℕ) (f : FileMeaning) (s : ℕ) : Type 0 where
   pub ends : s + size_for (data_len_of f) ≤ total
   pub next : up_to_8 (s + size_for (data_len_of f)) ≤ total
 
-pub own_length : (total e : ℕ) (fs : List FileMeaning) (own : List ℕ) (i : ℕ) → i < length fs → ArePlaced total e (drop i fs) (drop i own) → i < length own
+pub own_length : (total e : ℕ) (fs : List FileMeaning) (own : List ℕ) (i : ℕ) → i < length fs → ArePlaced total e (drop i fs) (drop i own)
+    → i < length own
 own_length total e fs own i l placed =
     let same = follow_length total e (map part_of (drop i fs)) (drop i own) placed.follow in
     let parts = length-map (drop i fs) part_of in
     omega (arith, l, same, parts, length-drop i fs, length-drop i own)
 
-pub here_is : (total e : ℕ) (f : FileMeaning) (fs : List FileMeaning) (s : ℕ) (ss : List ℕ) → ArePlaced total e (f ∷ fs) (s ∷ ss) → Here total e f s
+pub here_is : (total e : ℕ) (f : FileMeaning) (fs : List FileMeaning) (s : ℕ) (ss : List ℕ) → ArePlaced total e (f ∷ fs) (s ∷ ss)
+    → Here total e f s
 here_is total e f fs s ss placed =
     let st = placed.follow.0 in
     record {
@@ -74,7 +85,8 @@ here_is total e f fs s ss placed =
       low = low st.lawful.apart;
       apart = apart st.lawful.apart;
       multiple = even st.lawful.apart;
-      most = small (data_len_of f) (head_len_for (data_len_of f)) (header_least (needs_large (data_len_of f))) (low st.lawful.apart) st.within;
+      most =
+          small (data_len_of f) (head_len_for (data_len_of f)) (header_least (needs_large (data_len_of f))) (low st.lawful.apart) st.within;
       ends = st.within;
       next = omega (arith, st.within, placed.multiple);
     }
@@ -93,20 +105,31 @@ here_is total e f fs s ss placed =
     small : (n k : ℕ) → 24 ≤ k → e ≤ s → s + (k + n) ≤ total → n ≤ 268435424
     small n k l o w = omega (arith, l, o, w, placed.behind, placed.limit)
 
-pub placed_on : (total e : ℕ) (f : FileMeaning) (fs : List FileMeaning) (s : ℕ) (ss : List ℕ) → ArePlaced total e (f ∷ fs) (s ∷ ss) → ArePlaced total (up_to_8 (s + size_for (data_len_of f))) fs ss
+pub placed_on : (total e : ℕ) (f : FileMeaning) (fs : List FileMeaning) (s : ℕ) (ss : List ℕ) → ArePlaced total e (f ∷ fs) (s ∷ ss)
+    → ArePlaced total (up_to_8 (s + size_for (data_len_of f))) fs ss
 placed_on total e f fs s ss placed =
     let h = here_is total e f fs s ss placed in
-    record { follow = placed.follow.1; eighth = omega arith; behind = omega (arith, placed.behind, h.low); within = h.next; multiple = placed.multiple; limit = placed.limit }
+    record {
+      follow = placed.follow.1;
+      eighth = omega arith;
+      behind = omega (arith, placed.behind, h.low);
+      within = h.next;
+      multiple = placed.multiple;
+      limit = placed.limit;
+    }
 
 -- the files from a place on are the one there, and then those behind it
-pub files_go : (p : Polarity) (total e : ℕ) (f : FileMeaning) (fs : List FileMeaning) (s : ℕ) (ss starts : List ℕ) → stored_len (stored_file f starts) ≡ size_for (data_len_of f)
+pub files_go : (p : Polarity) (total e : ℕ) (f : FileMeaning) (fs : List FileMeaning) (s : ℕ) (ss starts : List ℕ)
+    → stored_len (stored_file f starts) ≡ size_for (data_len_of f)
     → files_bytes p total e (stored_of (files_from (f ∷ fs)) starts) (s ∷ ss)
-    ≡ (gap_bytes p (s - e) ++ (stored_bytes p (stored_file f starts) ++ replicate (up_to_8 (s + size_for (data_len_of f)) - (s + size_for (data_len_of f))) (erased_byte p)))
+    ≡ (gap_bytes p (s - e) ++ (stored_bytes p (stored_file f starts)
+    ++ replicate (up_to_8 (s + size_for (data_len_of f)) - (s + size_for (data_len_of f))) (erased_byte p)))
     ++ files_bytes p total (up_to_8 (s + size_for (data_len_of f))) (stored_of (files_from fs) (drop (starts_in_file f) starts)) ss
 files_go p total e f fs s ss starts size =
     let gap : List ℕ = gap_bytes p (s - e) in
     let file : List ℕ = stored_bytes p (stored_file f starts) in
-    let rest : ℕ → List ℕ = λ (n : ℕ). files_bytes p total (up_to_8 (s + n)) (stored_of (files_from fs) (drop (starts_in_file f) starts)) ss in
+    let rest : ℕ → List ℕ =
+    λ (n : ℕ). files_bytes p total (up_to_8 (s + n)) (stored_of (files_from fs) (drop (starts_in_file f) starts)) ss in
     let fill : ℕ → List ℕ = λ (n : ℕ). replicate (up_to_8 (s + n) - (s + n)) (erased_byte p) in
     ap (λ (n : ℕ). gap ++ (file ++ (fill n ++ rest n))) size
     ∙ sym (append_assoc gap (file ++ fill (size_for (data_len_of f))) (rest (size_for (data_len_of f)))
@@ -119,41 +142,55 @@ pub record AtFile (total e : ℕ) (fs : List FileMeaning) (own : List ℕ) (i : 
   pub placed : ArePlaced total e (f ∷ drop (i + 1) fs) (get_or own i 0 ∷ drop (i + 1) own)
   pub here : Here total e f (get_or own i 0)
 
-pub at_file : (total e : ℕ) (fs : List FileMeaning) (own : List ℕ) (i : ℕ) (f : FileMeaning) → i < length fs → f ≡ get_or fs i f → ArePlaced total e (drop i fs) (drop i own) → AtFile total e fs own i f
+pub at_file : (total e : ℕ) (fs : List FileMeaning) (own : List ℕ) (i : ℕ) (f : FileMeaning) → i < length fs → f ≡ get_or fs i f
+    → ArePlaced total e (drop i fs) (drop i own) → AtFile total e fs own i f
 at_file total e fs own i f l is placed =
     let files = file_at fs i f l is in
     let starts = drop_more own i 0 (own_length total e fs own i l placed) in
-    let both = subst (λ (xs : List ℕ). ArePlaced total e (f ∷ drop (i + 1) fs) xs) starts (subst (λ (xs : List FileMeaning). ArePlaced total e xs (drop i own)) files placed) in
-    record { files = files; starts = starts; placed = both; here = here_is total e f (drop (i + 1) fs) (get_or own i 0) (drop (i + 1) own) both }
+    let both = subst (λ (xs : List ℕ). ArePlaced total e (f ∷ drop (i + 1) fs) xs) starts
+    (subst (λ (xs : List FileMeaning). ArePlaced total e xs (drop i own)) files placed) in
+    record {
+      files = files;
+      starts = starts;
+      placed = both;
+      here = here_is total e f (drop (i + 1) fs) (get_or own i 0) (drop (i + 1) own) both;
+    }
 
-pub file_laid : (fs : List FileMeaning) (i : ℕ) (f : FileMeaning) (starts : List ℕ) → i < length fs → f ≡ get_or fs i f → BeginsWithStarts LaysFiles (files_from (drop i fs)) starts
+pub file_laid : (fs : List FileMeaning) (i : ℕ) (f : FileMeaning) (starts : List ℕ) → i < length fs → f ≡ get_or fs i f
+    → BeginsWithStarts LaysFiles (files_from (drop i fs)) starts
     → BeginsWithStarts LaysFile f starts × BeginsWithStarts LaysFiles (files_from (drop (i + 1) fs)) (drop (starts_in_file f) starts)
-file_laid fs i f starts l is laid = go (subst (λ (xs : List FileMeaning). BeginsWithStarts LaysFiles (files_from xs) starts) (file_at fs i f l is) laid)
+file_laid fs i f starts l is laid =
+    go (subst (λ (xs : List FileMeaning). BeginsWithStarts LaysFiles (files_from xs) starts) (file_at fs i f l is) laid)
   where
-    go : BeginsWithStarts LaysFiles (MoreFiles f (files_from (drop (i + 1) fs))) starts → BeginsWithStarts LaysFile f starts × BeginsWithStarts LaysFiles (files_from (drop (i + 1) fs)) (drop (starts_in_file f) starts)
+    go : BeginsWithStarts LaysFiles (MoreFiles f (files_from (drop (i + 1) fs))) starts
+        → BeginsWithStarts LaysFile f starts × BeginsWithStarts LaysFiles (files_from (drop (i + 1) fs)) (drop (starts_in_file f) starts)
     go (whole, more, text, (here, behind, parts, p, q)) = (
       (here, behind ++ more, text ∙ moved whole here behind more parts, p),
       (behind, more, ap (drop (starts_in_file f)) text ∙ behind_is (starts_in_file f) whole here behind more parts (laid_file f here p), q),
     )
 
 pub files_left : (fs : List FileMeaning) (i : ℕ) (f : FileMeaning) (starts : List ℕ) → i < length fs → f ≡ get_or fs i f
-    → drop (starts_in_files (files_from (drop i fs))) starts ≡ drop (starts_in_files (files_from (drop (i + 1) fs))) (drop (starts_in_file f) starts)
+    → drop (starts_in_files (files_from (drop i fs))) starts
+    ≡ drop (starts_in_files (files_from (drop (i + 1) fs))) (drop (starts_in_file f) starts)
 files_left fs i f starts l is =
     ap (λ (xs : List FileMeaning). drop (starts_in_files (files_from xs)) starts) (file_at fs i f l is)
     ∙ sym (drop-drop (starts_in_files (files_from (drop (i + 1) fs))) (starts_in_file f) starts)
 
 -- the walk at a file: what is left is its gap, itself and its filler, and then the files behind it
-pub walk_goes : (p : Polarity) (total e : ℕ) (fs : List FileMeaning) (own : List ℕ) (i : ℕ) (f : FileMeaning) (starts : List ℕ) → AtFile total e fs own i f → stored_len (stored_file f starts) ≡ size_for (data_len_of f)
+pub walk_goes : (p : Polarity) (total e : ℕ) (fs : List FileMeaning) (own : List ℕ) (i : ℕ) (f : FileMeaning) (starts : List ℕ)
+    → AtFile total e fs own i f → stored_len (stored_file f starts) ≡ size_for (data_len_of f)
     → files_bytes p total e (stored_of (files_from (drop i fs)) starts) (drop i own)
     ≡ (gap_bytes p (get_or own i 0 - e) ++ (stored_bytes p (stored_file f starts)
     ++ replicate (up_to_8 (get_or own i 0 + size_for (data_len_of f)) - (get_or own i 0 + size_for (data_len_of f))) (erased_byte p)))
-    ++ files_bytes p total (up_to_8 (get_or own i 0 + size_for (data_len_of f))) (stored_of (files_from (drop (i + 1) fs)) (drop (starts_in_file f) starts)) (drop (i + 1) own)
+    ++ files_bytes p total (up_to_8 (get_or own i 0 + size_for (data_len_of f)))
+    (stored_of (files_from (drop (i + 1) fs)) (drop (starts_in_file f) starts)) (drop (i + 1) own)
 walk_goes p total e fs own i f starts at size =
     ap (λ (xs : List FileMeaning). files_bytes p total e (stored_of (files_from xs) starts) (drop i own)) at.files
     ∙ ap (λ (xs : List ℕ). files_bytes p total e (stored_of (files_from (f ∷ drop (i + 1) fs)) starts) xs) at.starts
     ∙ files_go p total e f (drop (i + 1) fs) (get_or own i 0) (drop (i + 1) own) starts size
 
-pub file_smaller : (fs : List FileMeaning) (i : ℕ) (f : FileMeaning) → i < length fs → f ≡ get_or fs i f → file_size f + 1 ≤ files_size (files_from fs)
+pub file_smaller : (fs : List FileMeaning) (i : ℕ) (f : FileMeaning) → i < length fs → f ≡ get_or fs i f
+    → file_size f + 1 ≤ files_size (files_from fs)
 file_smaller fs i f l is = subst (λ (x : FileMeaning). file_size x + 1 ≤ files_size (files_from fs)) (sym is) (go fs i f l)
   where
     go : (fs : List FileMeaning) (i : ℕ) (d : FileMeaning) → i < length fs → file_size (get_or fs i d) + 1 ≤ files_size (files_from fs)

@@ -5,8 +5,12 @@ use Rattle.fv_base.specs.declared.fault.Fault.{Fault}
 use Rattle.fv_canon.specs.Starts.{StartsFollow, TopOff, IsOff}
 use Rattle.fv_canon.specs.declared.place.Part.{Part}
 use Rattle.fv_canon.proofs.PlaceLaws.{agree}
-use Rattle.fv_tree.specs.Meaning.{Meaning, Volume, FileMeanings, NoFiles, MoreFiles, FileMeaning, File, ContentMeaning, Plain, Sectioned, SectionMeanings, NoSections, MoreSections, SectionMeaning, Section, BodyMeaning, Leaf, Group, Nested}
-use Rattle.fv_canon.specs.Layouts.{parts_of, first_edge, LaysVolume, LaysFiles, LaysFile, LaysContent, LaysSections, LaysSection, LaysBody, Fits, FitFiles, FitsFile, FitsContent, FitSections, FitsSection, FitsBody, Unfit, UnfitFiles, UnfitFile, UnfitContent, UnfitSections, UnfitSection, UnfitBody, LeastVolume, LeastFiles, LeastFile, LeastContent, LeastSections, LeastSection, LeastBody}
+use Rattle.fv_tree.specs.Meaning.{Meaning, Volume, FileMeanings, NoFiles, MoreFiles, FileMeaning, File, ContentMeaning, Plain, Sectioned}
+use Rattle.fv_tree.specs.Meaning.{SectionMeanings, NoSections, MoreSections, SectionMeaning, Section, BodyMeaning, Leaf, Group, Nested}
+use Rattle.fv_canon.specs.Layouts.{parts_of, first_edge, LaysVolume, LaysFiles, LaysFile, LaysContent, LaysSections, LaysSection, LaysBody}
+use Rattle.fv_canon.specs.Layouts.{Fits, FitFiles, FitsFile, FitsContent, FitSections, FitsSection, FitsBody, Unfit, UnfitFiles, UnfitFile}
+use Rattle.fv_canon.specs.Layouts.{UnfitContent, UnfitSections, UnfitSection, UnfitBody, LeastVolume, LeastFiles, LeastFile, LeastContent}
+use Rattle.fv_canon.specs.Layouts.{LeastSections, LeastSection, LeastBody}
 
 -- a top file that is off cannot stand
 off_none : (total e : ℕ) (f : Part) (s : ℕ) → s + f.size ≡ total → (s + f.header) % f.alignment ≡ 0 → s % 8 ≡ 0 → IsOff total f → ⊥
@@ -22,7 +26,8 @@ off_none total e f s at aligned eighth (inr b) = b (ap (λ (n : ℕ). n % 8) (st
 top_none : (total e : ℕ) (fs : List Part) (ss : List ℕ) → TopOff total fs → StartsFollow total e fs ss → ⊥
 top_none total e [] ss off follow = absurd off
 top_none total e (f ∷ fs) [] off follow = absurd follow
-top_none total e (f ∷ fs) (s ∷ ss) (inl (top, off)) follow = off_none total e f s (follow.0.at_end top) follow.0.lawful.aligned follow.0.lawful.eighth off
+top_none total e (f ∷ fs) (s ∷ ss) (inl (top, off)) follow =
+    off_none total e f s (follow.0.at_end top) follow.0.lawful.aligned follow.0.lawful.eighth off
 top_none total e (f ∷ fs) (s ∷ ss) (inr off) follow = top_none total (up_to_8 (s + f.size)) fs ss off follow.1
 
 mutual
@@ -58,7 +63,8 @@ mutual
 
   fit_files_laid : (files : FileMeanings) → FitFiles files → (starts : List ℕ) × LaysFiles files starts
   fit_files_laid NoFiles fit = ([], refl)
-  fit_files_laid (MoreFiles f fs) (p, q) = let a = fits_file_laid f p in let b = fit_files_laid fs q in (a.0 ++ b.0, (a.0, b.0, refl, a.1, b.1))
+  fit_files_laid (MoreFiles f fs) (p, q) = let a = fits_file_laid f p in let b = fit_files_laid fs q in
+      (a.0 ++ b.0, (a.0, b.0, refl, a.1, b.1))
 
   fits_file_laid : (m : FileMeaning) → FitsFile m → (starts : List ℕ) × LaysFile m starts
   fits_file_laid (File name kind attributes content) fit = fits_content_laid content fit
@@ -69,7 +75,8 @@ mutual
 
   fit_sections_laid : (ss : SectionMeanings) → FitSections ss → (starts : List ℕ) × LaysSections ss starts
   fit_sections_laid NoSections fit = ([], refl)
-  fit_sections_laid (MoreSections s ss) (p, q) = let a = fits_section_laid s p in let b = fit_sections_laid ss q in (a.0 ++ b.0, (a.0, b.0, refl, a.1, b.1))
+  fit_sections_laid (MoreSections s ss) (p, q) = let a = fits_section_laid s p in let b = fit_sections_laid ss q in
+      (a.0 ++ b.0, (a.0, b.0, refl, a.1, b.1))
 
   fits_section_laid : (s : SectionMeaning) → FitsSection s → (starts : List ℕ) × LaysSection s starts
   fits_section_laid (Section kind extended body) fit = fits_body_laid body fit
@@ -81,7 +88,8 @@ mutual
 
 mutual
   pub unfit_none : (m : Meaning) (depth : ℕ) (f : Fault) → Unfit m depth f → Fits m → ⊥
-  unfit_none (Volume h files) depth f (inl (off, is)) ((own, placed), fit) = top_none h.length (first_edge h) (parts_of files) own off placed.placement.follow
+  unfit_none (Volume h files) depth f (inl (off, is)) ((own, placed), fit) =
+      top_none h.length (first_edge h) (parts_of files) own off placed.placement.follow
   unfit_none (Volume h files) depth f (inr (inl (short, is))) ((own, placed), fit) = short.none own placed.placement
   unfit_none (Volume h files) depth f (inr (inr (own, inside))) (placed, fit) = unfit_files_none files depth f inside fit
 
@@ -113,7 +121,8 @@ mutual
 -- least starts that are placements are the layout
 mutual
   pub least_laid : (m : Meaning) (starts : List ℕ) → LeastVolume m starts → LaysVolume m starts
-  least_laid (Volume h files) starts (own, inner, text, least, placed, laid) = (own, inner, text, agree h.length (first_edge h) (parts_of files) own least placed, least_files files inner laid)
+  least_laid (Volume h files) starts (own, inner, text, least, placed, laid) =
+      (own, inner, text, agree h.length (first_edge h) (parts_of files) own least placed, least_files files inner laid)
 
   least_files : (files : FileMeanings) (starts : List ℕ) → LeastFiles files starts → LaysFiles files starts
   least_files NoFiles starts laid = laid
@@ -128,7 +137,8 @@ mutual
 
   least_sections : (ss : SectionMeanings) (starts : List ℕ) → LeastSections ss starts → LaysSections ss starts
   least_sections NoSections starts laid = laid
-  least_sections (MoreSections s ss) starts (here, behind, text, p, q) = (here, behind, text, least_section s here p, least_sections ss behind q)
+  least_sections (MoreSections s ss) starts (here, behind, text, p, q) =
+      (here, behind, text, least_section s here p, least_sections ss behind q)
 
   least_section : (s : SectionMeaning) (starts : List ℕ) → LeastSection s starts → LaysSection s starts
   least_section (Section kind extended body) starts laid = least_body body starts laid

@@ -3,8 +3,10 @@ use Rattle.std.proofs.Common.{◌≡◌, ◌≤◌, ◌+◌, ◌-◌, ℕ, zero,
 use Rattle.fv_base.specs.Value.{IsBytes}
 use Rattle.fv_section.specs.Frames.{FrameForm}
 use Rattle.fv_tree.specs.Files.{FileForm}
-use Rattle.fv_tree.specs.Meaning.{Meaning, FileMeaning, File, ContentMeaning, Plain, Sectioned, SectionMeaning, Section, Leaf, Group, Nested, sections_list, files_of}
-use Rattle.fv_tree.specs.Denotes.{Sections, Streams, Volumes, Pairs, StreamOver, SectionOver, VolumeOver, MeansContent, MeansFile, MeansSection, Stream, Denotes, Accepted, depth_limit}
+use Rattle.fv_tree.specs.Meaning.{Meaning, FileMeaning, File, ContentMeaning, Plain, Sectioned, SectionMeaning, Section, Leaf, Group}
+use Rattle.fv_tree.specs.Meaning.{Nested, sections_list, files_of}
+use Rattle.fv_tree.specs.Denotes.{Sections, Streams, Volumes, Pairs, StreamOver, SectionOver, VolumeOver, MeansContent, MeansFile}
+use Rattle.fv_tree.specs.Denotes.{MeansSection, Stream, Denotes, Accepted, depth_limit}
 use Rattle.fv_canon.specs.Image.{IsImage}
 use Rattle.fv_canon.specs.Normal.{MeanSame, ImagesTell, ImagesStay, OneMeaning}
 use Rattle.fv_canon.proofs.MeaningLaws.{one_meaning}
@@ -12,23 +14,28 @@ use Rattle.fv_canon.proofs.OneLaws.{image_one}
 use Rattle.fv_canon.proofs.VolumeLaws.{image_bytes, image_denotes, image_long}
 
 -- ---- what is nested less deep is nested at most deeper
-pairs_more : {A B : Type 0} (p q : A → B → Type 0) → ((x : A) (y : B) → p x y → q x y) → (xs : List A) (ys : List B) → Pairs p xs ys → Pairs q xs ys
+pairs_more : {A B : Type 0} (p q : A → B → Type 0) → ((x : A) (y : B) → p x y → q x y) → (xs : List A) (ys : List B) → Pairs p xs ys
+    → Pairs q xs ys
 pairs_more p q more [] [] h = tt
 pairs_more p q more [] (y ∷ ys) h = absurd h
 pairs_more p q more (x ∷ xs) [] h = absurd h
 pairs_more p q more (x ∷ xs) (y ∷ ys) h = (more x y h.0, pairs_more p q more xs ys h.1)
 
-stream_more : (p q : Sections) → ((f : FrameForm) (s : SectionMeaning) → p f s → q f s) → (ss : List SectionMeaning) (n : ℕ) (b : List ℕ) → StreamOver p ss n b → StreamOver q ss n b
+stream_more : (p q : Sections) → ((f : FrameForm) (s : SectionMeaning) → p f s → q f s) → (ss : List SectionMeaning) (n : ℕ) (b : List ℕ)
+    → StreamOver p ss n b → StreamOver q ss n b
 stream_more p q more ss n b (fs, split, pairs) = (fs, split, pairs_more p q more fs ss pairs)
 
-content_more : (p q : Streams) → ((ss : List SectionMeaning) (n : ℕ) (b : List ℕ) → p ss n b → q ss n b) → (kind : ℕ) (payload : List ℕ) (c : ContentMeaning) → MeansContent p kind payload c → MeansContent q kind payload c
+content_more : (p q : Streams) → ((ss : List SectionMeaning) (n : ℕ) (b : List ℕ) → p ss n b → q ss n b)
+    → (kind : ℕ) (payload : List ℕ) (c : ContentMeaning) → MeansContent p kind payload c → MeansContent q kind payload c
 content_more p q more kind payload (Plain b) h = h
 content_more p q more kind payload (Sectioned ss n) h = (h.0, more (sections_list ss) n payload h.1)
 
-file_more : (p q : Streams) → ((ss : List SectionMeaning) (n : ℕ) (b : List ℕ) → p ss n b → q ss n b) → (f : FileForm) (m : FileMeaning) → MeansFile p f m → MeansFile q f m
+file_more : (p q : Streams) → ((ss : List SectionMeaning) (n : ℕ) (b : List ℕ) → p ss n b → q ss n b) → (f : FileForm) (m : FileMeaning)
+    → MeansFile p f m → MeansFile q f m
 file_more p q more f (File name kind attributes content) (a, b, c, d) = (a, b, c, content_more p q more kind f.payload content d)
 
-volume_more : (p q : Streams) → ((ss : List SectionMeaning) (n : ℕ) (b : List ℕ) → p ss n b → q ss n b) → (b : List ℕ) (m : Meaning) → VolumeOver p b m → VolumeOver q b m
+volume_more : (p q : Streams) → ((ss : List SectionMeaning) (n : ℕ) (b : List ℕ) → p ss n b → q ss n b) → (b : List ℕ) (m : Meaning)
+    → VolumeOver p b m → VolumeOver q b m
 volume_more p q more b m d = record {
   extent = d.extent;
   front = d.front;
@@ -40,17 +47,21 @@ volume_more p q more b m d = record {
   meanings = pairs_more (MeansFile p) (MeansFile q) (file_more p q more) d.files (files_of m) d.meanings;
 }
 
-section_more : (p q : Streams) (v w : Volumes) → ((ss : List SectionMeaning) (n : ℕ) (b : List ℕ) → p ss n b → q ss n b) → ((b : List ℕ) (m : Meaning) → v b m → w b m) → (f : FrameForm) (s : SectionMeaning)
+section_more : (p q : Streams) (v w : Volumes) → ((ss : List SectionMeaning) (n : ℕ) (b : List ℕ) → p ss n b → q ss n b)
+    → ((b : List ℕ) (m : Meaning) → v b m → w b m) → (f : FrameForm) (s : SectionMeaning)
     → SectionOver p v f s → SectionOver q w f s
 section_more p q v w streams volumes f (Section kind extended (Leaf b)) h = h
-section_more p q v w streams volumes f (Section kind extended (Group ss n)) (a, b, (c, d)) = (a, b, (c, streams (sections_list ss) n f.body d))
+section_more p q v w streams volumes f (Section kind extended (Group ss n)) (a, b, (c, d)) =
+    (a, b, (c, streams (sections_list ss) n f.body d))
 section_more p q v w streams volumes f (Section kind extended (Nested m)) (a, b, (c, d, e)) = (a, b, (c, d, volumes f.body m e))
 
 sections_more : (n : ℕ) (f : FrameForm) (s : SectionMeaning) → MeansSection n f s → MeansSection (suc n) f s
-sections_more zero = section_more (λ _ _ _. ⊥) (StreamOver (MeansSection zero)) (λ _ _. ⊥) (VolumeOver (StreamOver (MeansSection zero))) (λ ss n b h. absurd h) (λ b m h. absurd h)
+sections_more zero = section_more (λ _ _ _. ⊥) (StreamOver (MeansSection zero)) (λ _ _. ⊥) (VolumeOver (StreamOver (MeansSection zero)))
+    (λ ss n b h. absurd h) (λ b m h. absurd h)
 sections_more (suc n) =
     let streams = stream_more (MeansSection n) (MeansSection (suc n)) (sections_more n) in
-    section_more (StreamOver (MeansSection n)) (StreamOver (MeansSection (suc n))) (VolumeOver (StreamOver (MeansSection n))) (VolumeOver (StreamOver (MeansSection (suc n)))) streams
+    section_more (StreamOver (MeansSection n)) (StreamOver (MeansSection (suc n))) (VolumeOver (StreamOver (MeansSection n)))
+    (VolumeOver (StreamOver (MeansSection (suc n)))) streams
     (volume_more (StreamOver (MeansSection n)) (StreamOver (MeansSection (suc n))) streams)
 
 one_deeper : (n : ℕ) (b : List ℕ) (m : Meaning) → Denotes n b m → Denotes (suc n) b m

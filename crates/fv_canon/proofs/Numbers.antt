@@ -11,7 +11,8 @@ use Rattle.std.proofs.Math.Nat.{mul-le-mul_left, mul-mod_right, mul-mod_left, mu
 pub masked : (w k x : ℕ) → k < w → x < 2 ^ w → bit_and x (2 ^ w - 1 - (2 ^ k - 1)) + x % 2 ^ k ≡ x
 masked w k x h f =
     ap (λ n. n + x % 2 ^ k) (and_comm x (2 ^ w - 1 - (2 ^ k - 1)))
-    ∙ (ap (λ n. bit_and (2 ^ w - 1 - (2 ^ k - 1)) x + n) (sym (and_mask x k) ∙ and_comm x (2 ^ k - 1)) ∙ and-not w (2 ^ k - 1) x (less (2 ^ k) (2 ^ w) (pow_below k w h)) f)
+    ∙ (ap (λ n. bit_and (2 ^ w - 1 - (2 ^ k - 1)) x + n) (sym (and_mask x k) ∙ and_comm x (2 ^ k - 1))
+    ∙ and-not w (2 ^ k - 1) x (less (2 ^ k) (2 ^ w) (pow_below k w h)) f)
   where
     less : (m n : ℕ) → m < n → m - 1 < n
     less m n h = omega arith
@@ -48,7 +49,10 @@ down_near d x a h e = let b = mod_below x a h in near d (x % a) x a e b
 
 pub down_greatest : (d x a : ℕ) → 0 < a → d + x % a ≡ x → (y : ℕ) → y % a ≡ 0 → y ≤ x → y ≤ d
 down_greatest d x a h e y p q =
-    elim (cases_lt d y) [ inl l ↦ absurd (past d x y a (multiples_apart a d y h (is_multiple d x a e) p l) (down_near d x a h e) q) | inr l ↦ l ]
+    elim (cases_lt d y) [
+      | inl l ↦ absurd (past d x y a (multiples_apart a d y h (is_multiple d x a e) p l) (down_near d x a h e) q)
+      | inr l ↦ l
+    ]
   where
     past : (d x y a : ℕ) → d + a ≤ y → x < d + a → y ≤ x → ⊥
     past d x y a p q r = omega arith
@@ -68,7 +72,10 @@ up_near d x a h e = near d ((x + (a - 1)) % a) x a h e
 
 pub up_least : (d x a : ℕ) → 0 < a → d + (x + (a - 1)) % a ≡ x + (a - 1) → (y : ℕ) → y % a ≡ 0 → x ≤ y → d ≤ y
 up_least d x a h e y p q =
-    elim (cases_lt y d) [ inl l ↦ absurd (past d x y a (multiples_apart a y d h p (is_multiple d (x + (a - 1)) a e) l) (up_near d x a h e) q) | inr l ↦ l ]
+    elim (cases_lt y d) [
+      | inl l ↦ absurd (past d x y a (multiples_apart a y d h p (is_multiple d (x + (a - 1)) a e) l) (up_near d x a h e) q)
+      | inr l ↦ l
+    ]
   where
     past : (d x y a : ℕ) → y + a ≤ d → d < x + a → x ≤ y → ⊥
     past d x y a p q r = omega arith
@@ -92,7 +99,11 @@ coarser_at j k x l h = let e : j ≡ (j - k) + k = omega arith in coarser (j - k
 
 pub widens_8 : (b k : ℕ) → b ≡ 2 ^ k → b < 8 → Widens 8 b
 widens_8 b k e l = elim (cases_lt k 4) [
-  | inl h ↦ record { alignment = (3, omega arith, refl); apart = λ x p. (p, subst (λ n. x % n ≡ 0) (sym e) (coarser_at 3 k x (omega arith) p)); joined = λ x p q. p }
+  | inl h ↦ record {
+    alignment = (3, omega arith, refl);
+    apart = λ x p. (p, subst (λ n. x % n ≡ 0) (sym e) (coarser_at 3 k x (omega arith) p));
+    joined = λ x p q. p;
+  }
   | inr h ↦ absurd (far b (2 ^ k) e l (pow_below 3 k (omega arith)))
 ]
   where

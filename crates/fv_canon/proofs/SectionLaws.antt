@@ -1,5 +1,6 @@
 -- What is known of a section that was read and laid out, and how a stream goes on.
-use Rattle.std.proofs.Common.{◌≡◌, ◌≤◌, ◌<◌, ◌+◌, ◌-◌, ◌^◌, ℕ, zero, suc, Bool, List, [], ◌∷◌, ◌++◌, length, drop, replicate, get_or, refl, sym, ap, ◌∙◌, subst, arith, append_assoc, append-nil, length-drop, drop-drop}
+use Rattle.std.proofs.Common.{◌≡◌, ◌≤◌, ◌<◌, ◌+◌, ◌-◌, ◌^◌, ℕ, zero, suc, Bool, List, [], ◌∷◌, ◌++◌, length, drop, replicate, get_or, refl}
+use Rattle.std.proofs.Common.{sym, ap, ◌∙◌, subst, arith, append_assoc, append-nil, length-drop, drop-drop}
 use Rattle.std.proofs.lemmas.List.{drop_more, drop_all}
 use Rattle.fv_base.specs.Value.{IsBytes}
 use Rattle.fv_base.specs.Limits.{volume_limit}
@@ -8,7 +9,8 @@ use Rattle.fv_base.proofs.FieldLemmas.{bytes_drop}
 use Rattle.fv_section.specs.Frames.{FrameForm, section_header_len, frame_len, up_to_4}
 use Rattle.fv_section.specs.SectionImage.{FitsForm, section_head_of, stream_of}
 use Rattle.fv_section.proofs.FrameLemmas.{length_begun}
-use Rattle.fv_tree.specs.Meaning.{SectionMeanings, NoSections, MoreSections, SectionMeaning, Section, sections_from, body_of, body_len, section_is_extended, section_kind_of, section_len}
+use Rattle.fv_tree.specs.Meaning.{SectionMeanings, NoSections, MoreSections, SectionMeaning, Section, sections_from, body_of, body_len}
+use Rattle.fv_tree.specs.Meaning.{section_is_extended, section_kind_of, section_len}
 use Rattle.fv_tree.specs.Sizes.{section_size, sections_size, body_size}
 use Rattle.fv_tree.specs.Denotes.{MeansSection, IsReadSection}
 use Rattle.fv_canon.specs.ImageOf.{frames_of, frame_of, body_image, starts_in_section, starts_in_sections, starts_in_body}
@@ -30,13 +32,16 @@ section_known (Section kind extended body) starts (n, l, f, (b, small, most, sta
     let bytes : IsBytes part = bytes_drop f.offset b small in
     let inside = begun_body f part stands.behind bytes stands.begins in
     let image = sections_made n (Section kind extended body) f 0 laid more inside.0 is lays in
-    let again = sections_again n (Section kind extended body) f (frame_of 0 (Section kind extended body) (laid ++ more)) inside.0 is image in
+    let again =
+    sections_again n (Section kind extended body) f (frame_of 0 (Section kind extended body) (laid ++ more)) inside.0 is image in
     let form = form_of n (Section kind extended body) f is in
     let own : body_len body ≡ length f.body = cancel extended f.extended (length f.body) (body_len body) form again.len in
     record {
-      fits = subst (λ (x : Bool). FitsForm x (body_len body)) (sym form) (subst (FitsForm f.extended) (sym own) (begun_fits f part stands.behind bytes stands.begins));
+      fits = subst (λ (x : Bool). FitsForm x (body_len body)) (sym form)
+          (subst (FitsForm f.extended) (sym own) (begun_fits f part stands.behind bytes stands.begins));
       long = ap (λ (xs : List ℕ). length (body_image body xs)) text ∙ again.long ∙ sym own;
-      small = below (section_len (Section kind extended body)) (frame_len f) (length part) (length b) (length stands.behind) f.offset again.len (length_begun f part stands.behind stands.begins) (length-drop f.offset b) most;
+      small = below (section_len (Section kind extended body)) (frame_len f) (length part) (length b) (length stands.behind) f.offset
+          again.len (length_begun f part stands.behind stands.begins) (length-drop f.offset b) most;
     }
   where
     form_of : (n : ℕ) (m : SectionMeaning) (f : FrameForm) → MeansSection n f m → section_is_extended m ≡ f.extended
@@ -52,25 +57,30 @@ section_known (Section kind extended body) starts (n, l, f, (b, small, most, sta
 -- ---- a stream goes on
 stream_goes : (at : ℕ) (s : SectionMeaning) (ss : SectionMeanings) (starts : List ℕ) (tail : ℕ)
     → stream_of (frames_of at (MoreSections s ss) starts) tail
-    ≡ frame_bytes (frame_of 0 s starts) ++ (sections_bytes (up_to_4 (frame_len (frame_of 0 s starts)) - frame_len (frame_of 0 s starts)) ss (drop (starts_in_section s) starts) ++ replicate tail 0)
-stream_goes at (Section k e b) NoSections starts tail = sym (append_assoc (section_head_of k e (length (body_image b starts))) (body_image b starts) (replicate tail 0))
+    ≡ frame_bytes (frame_of 0 s starts) ++ (sections_bytes (up_to_4 (frame_len (frame_of 0 s starts)) - frame_len (frame_of 0 s starts)) ss
+    (drop (starts_in_section s) starts) ++ replicate tail 0)
+stream_goes at (Section k e b) NoSections starts tail =
+    sym (append_assoc (section_head_of k e (length (body_image b starts))) (body_image b starts) (replicate tail 0))
 stream_goes at (Section k e b) (MoreSections t ss) starts tail =
     let f : FrameForm = frame_of 0 (Section k e b) starts in
     let head : List ℕ = section_head_of k e (length (body_image b starts)) in
     let fill : List ℕ = replicate (up_to_4 (frame_len f) - frame_len f) 0 in
     let later : List ℕ = drop (starts_in_section (Section k e b)) starts in
     let next : List ℕ = frame_bytes (frame_of 0 t later) in
-    let rest : List ℕ = sections_bytes (up_to_4 (frame_len (frame_of 0 t later)) - frame_len (frame_of 0 t later)) ss (drop (starts_in_section t) later) in
+    let rest : List ℕ =
+    sections_bytes (up_to_4 (frame_len (frame_of 0 t later)) - frame_len (frame_of 0 t later)) ss (drop (starts_in_section t) later) in
     let goes = stream_goes (up_to_4 (at + frame_len f)) t ss later tail in
     ap (λ (xs : List ℕ). head ++ (f.body ++ (fill ++ xs))) goes
     ∙ sym (append_assoc head f.body (fill ++ (next ++ (rest ++ replicate tail 0))))
-    ∙ ap (λ (xs : List ℕ). (head ++ f.body) ++ xs) (sym (append_assoc fill next (rest ++ replicate tail 0)) ∙ sym (append_assoc (fill ++ next) rest (replicate tail 0)))
+    ∙ ap (λ (xs : List ℕ). (head ++ f.body) ++ xs)
+    (sym (append_assoc fill next (rest ++ replicate tail 0)) ∙ sym (append_assoc (fill ++ next) rest (replicate tail 0)))
 
 -- the whole stream
 pub stream_whole : (s : SectionMeaning) (ss : SectionMeanings) (starts : List ℕ) (tail : ℕ)
     → sections_bytes 0 (MoreSections s ss) starts ++ replicate tail 0 ≡ stream_of (frames_of 0 (MoreSections s ss) starts) tail
 stream_whole s ss starts tail =
-    append_assoc (frame_bytes (frame_of 0 s starts)) (sections_bytes (up_to_4 (frame_len (frame_of 0 s starts)) - frame_len (frame_of 0 s starts)) ss (drop (starts_in_section s) starts)) (replicate tail 0)
+    append_assoc (frame_bytes (frame_of 0 s starts)) (sections_bytes
+    (up_to_4 (frame_len (frame_of 0 s starts)) - frame_len (frame_of 0 s starts)) ss (drop (starts_in_section s) starts)) (replicate tail 0)
     ∙ sym (stream_goes 0 s ss starts tail)
 
 -- ---- the walk over the sections of a stream
@@ -79,25 +89,36 @@ stream_whole s ss starts tail =
 at_is : (ss : List SectionMeaning) (i : ℕ) (s : SectionMeaning) → i < length ss → s ≡ get_or ss i s → drop i ss ≡ s ∷ drop (i + 1) ss
 at_is ss i s l is = drop_more ss i s l ∙ ap (λ (x : SectionMeaning). x ∷ drop (i + 1) ss) (sym is)
 
-pub item_laid : (ss : List SectionMeaning) (i : ℕ) (s : SectionMeaning) (starts : List ℕ) → i < length ss → s ≡ get_or ss i s → BeginsWithStarts LaysSections (sections_from (drop i ss)) starts
-    → BeginsWithStarts LaysSection s starts × BeginsWithStarts LaysSections (sections_from (drop (i + 1) ss)) (drop (starts_in_section s) starts)
-item_laid ss i s starts l is laid = go (subst (λ (xs : List SectionMeaning). BeginsWithStarts LaysSections (sections_from xs) starts) (at_is ss i s l is) laid)
+pub item_laid : (ss : List SectionMeaning) (i : ℕ) (s : SectionMeaning) (starts : List ℕ) → i < length ss → s ≡ get_or ss i s
+    → BeginsWithStarts LaysSections (sections_from (drop i ss)) starts
+    → BeginsWithStarts LaysSection s starts
+    × BeginsWithStarts LaysSections (sections_from (drop (i + 1) ss)) (drop (starts_in_section s) starts)
+item_laid ss i s starts l is laid =
+    go (subst (λ (xs : List SectionMeaning). BeginsWithStarts LaysSections (sections_from xs) starts) (at_is ss i s l is) laid)
   where
-    go : BeginsWithStarts LaysSections (MoreSections s (sections_from (drop (i + 1) ss))) starts → BeginsWithStarts LaysSection s starts × BeginsWithStarts LaysSections (sections_from (drop (i + 1) ss)) (drop (starts_in_section s) starts)
+    go : BeginsWithStarts LaysSections (MoreSections s (sections_from (drop (i + 1) ss))) starts → BeginsWithStarts LaysSection s starts
+        × BeginsWithStarts LaysSections (sections_from (drop (i + 1) ss)) (drop (starts_in_section s) starts)
     go (whole, more, text, (here, behind, parts, p, q)) = (
       (here, behind ++ more, text ∙ moved whole here behind more parts, p),
-      (behind, more, ap (drop (starts_in_section s)) text ∙ behind_is (starts_in_section s) whole here behind more parts (laid_section s here p), q),
+      (
+        behind,
+        more,
+        ap (drop (starts_in_section s)) text ∙ behind_is (starts_in_section s) whole here behind more parts (laid_section s here p),
+        q,
+      ),
     )
 
 pub in_body : (s : SectionMeaning) → starts_in_section s ≡ starts_in_body (body_of s)
 in_body (Section kind extended body) = refl
 
-pub body_laid : (s : SectionMeaning) (starts : List ℕ) → BeginsWithStarts LaysSection s starts → BeginsWithStarts LaysBody (body_of s) starts
+pub body_laid : (s : SectionMeaning) (starts : List ℕ) → BeginsWithStarts LaysSection s starts
+    → BeginsWithStarts LaysBody (body_of s) starts
 body_laid (Section kind extended body) starts laid = laid
 
 -- sections from a place on are the one there, and then those behind it
 pub left_is : (ss : List SectionMeaning) (i : ℕ) (s : SectionMeaning) (starts : List ℕ) → i < length ss → s ≡ get_or ss i s
-    → drop (starts_in_sections (sections_from (drop i ss))) starts ≡ drop (starts_in_sections (sections_from (drop (i + 1) ss))) (drop (starts_in_section s) starts)
+    → drop (starts_in_sections (sections_from (drop i ss))) starts
+    ≡ drop (starts_in_sections (sections_from (drop (i + 1) ss))) (drop (starts_in_section s) starts)
 left_is ss i s starts l is =
     ap (λ (xs : List SectionMeaning). drop (starts_in_sections (sections_from xs)) starts) (at_is ss i s l is)
     ∙ ap (λ (n : ℕ). drop n starts) (turned (starts_in_section s) (starts_in_sections (sections_from (drop (i + 1) ss))))
@@ -106,23 +127,30 @@ left_is ss i s starts l is =
     turned : (a b : ℕ) → a + b ≡ a + b
     turned a b = refl
 
-framed : (s : SectionMeaning) (starts : List ℕ) → SectionKnown s starts → frame_bytes (frame_of 0 s starts) ≡ section_head_of (section_kind_of s) (section_is_extended s) (body_len (body_of s)) ++ body_image (body_of s) starts
+framed : (s : SectionMeaning) (starts : List ℕ) → SectionKnown s starts → frame_bytes (frame_of 0 s starts)
+    ≡ section_head_of (section_kind_of s) (section_is_extended s) (body_len (body_of s)) ++ body_image (body_of s) starts
 framed (Section kind extended body) starts k = ap (λ (n : ℕ). section_head_of kind extended n ++ body_image body starts) k.long
 
 sized : (s : SectionMeaning) (starts : List ℕ) → SectionKnown s starts → frame_len (frame_of 0 s starts) ≡ section_len s
 sized (Section kind extended body) starts k = ap (λ (n : ℕ). section_header_len extended + n) k.long
 
-pub goes_on : (ss : List SectionMeaning) (i : ℕ) (s : SectionMeaning) (starts : List ℕ) (gap : ℕ) → i < length ss → s ≡ get_or ss i s → SectionKnown s starts
+pub goes_on : (ss : List SectionMeaning) (i : ℕ) (s : SectionMeaning) (starts : List ℕ) (gap : ℕ) → i < length ss → s ≡ get_or ss i s
+    → SectionKnown s starts
     → sections_bytes gap (sections_from (drop i ss)) starts
-    ≡ (replicate gap 0 ++ (section_head_of (section_kind_of s) (section_is_extended s) (body_len (body_of s)) ++ body_image (body_of s) starts))
+    ≡ (replicate gap 0
+    ++ (section_head_of (section_kind_of s) (section_is_extended s) (body_len (body_of s)) ++ body_image (body_of s) starts))
     ++ sections_bytes (up_to_4 (section_len s) - section_len s) (sections_from (drop (i + 1) ss)) (drop (starts_in_section s) starts)
 goes_on ss i s starts gap l is k =
     ap (λ (xs : List SectionMeaning). sections_bytes gap (sections_from xs) starts) (at_is ss i s l is)
-    ∙ ap (λ (xs : List ℕ). (replicate gap 0 ++ xs) ++ sections_bytes (up_to_4 (frame_len (frame_of 0 s starts)) - frame_len (frame_of 0 s starts)) (sections_from (drop (i + 1) ss)) (drop (starts_in_section s) starts)) (framed s starts k)
-    ∙ ap (λ (n : ℕ). (replicate gap 0 ++ (section_head_of (section_kind_of s) (section_is_extended s) (body_len (body_of s)) ++ body_image (body_of s) starts)) ++ sections_bytes (up_to_4 n - n) (sections_from (drop (i + 1) ss)) (drop (starts_in_section s) starts)) (sized s starts k)
+    ∙ ap (λ (xs : List ℕ). (replicate gap 0 ++ xs) ++ sections_bytes (up_to_4 (frame_len (frame_of 0 s starts)) - frame_len
+    (frame_of 0 s starts)) (sections_from (drop (i + 1) ss)) (drop (starts_in_section s) starts)) (framed s starts k)
+    ∙ ap (λ (n : ℕ). (replicate gap 0
+    ++ (section_head_of (section_kind_of s) (section_is_extended s) (body_len (body_of s)) ++ body_image (body_of s) starts))
+    ++ sections_bytes (up_to_4 n - n) (sections_from (drop (i + 1) ss)) (drop (starts_in_section s) starts)) (sized s starts k)
 
 -- a front grows by three pieces
-pub front_more : {S : Type 0} (takes : S → List ℕ → S → Type 0) → WalkLaws takes → (s t u v w : S) (whole rest a b c left : List ℕ) → TakesFront takes s t whole rest → rest ≡ (a ++ (b ++ c)) ++ left → takes t a u → takes u b v → takes v c w
+pub front_more : {S : Type 0} (takes : S → List ℕ → S → Type 0) → WalkLaws takes → (s t u v w : S) (whole rest a b c left : List ℕ)
+    → TakesFront takes s t whole rest → rest ≡ (a ++ (b ++ c)) ++ left → takes t a u → takes u b v → takes v c w
     → TakesFront takes s w whole left
 front_more takes laws s t u v w whole rest a b c left f e p q r = record {
   front = f.front ++ (a ++ (b ++ c));
@@ -131,21 +159,29 @@ front_more takes laws s t u v w whole rest a b c left f e p q r = record {
 }
 
 -- behind the last section come the tail's bytes
-pub front_end : {S : Type 0} (takes : S → List ℕ → S → Type 0) → WalkLaws takes → (ss : List SectionMeaning) (i : ℕ) (s t u : S) (gap : ℕ) (starts rest : List ℕ) (tail : ℕ) → length ss ≤ i → 0 < length ss
-    → TakesFront takes s t (sections_bytes 0 (sections_from ss) starts) (sections_bytes gap (sections_from (drop i ss)) rest) → takes t (replicate tail 0) u → takes s (stream_of (frames_of 0 (sections_from ss) starts) tail) u
+pub front_end : {S : Type 0} (takes : S → List ℕ → S → Type 0) → WalkLaws takes
+    → (ss : List SectionMeaning) (i : ℕ) (s t u : S) (gap : ℕ) (starts rest : List ℕ) (tail : ℕ) → length ss ≤ i → 0 < length ss
+    → TakesFront takes s t (sections_bytes 0 (sections_from ss) starts) (sections_bytes gap (sections_from (drop i ss)) rest)
+    → takes t (replicate tail 0) u → takes s (stream_of (frames_of 0 (sections_from ss) starts) tail) u
 front_end takes laws [] i s t u gap starts rest tail l some f p = absurd (omega (arith, some))
 front_end takes laws (x ∷ xs) i s t u gap starts rest tail l some f p =
-    let ended : sections_bytes gap (sections_from (drop i (x ∷ xs))) rest ≡ [] = ap (λ (ys : List SectionMeaning). sections_bytes gap (sections_from ys) rest) (drop_all i (x ∷ xs) l) in
-    let whole : f.front ≡ sections_bytes 0 (sections_from (x ∷ xs)) starts = sym (append-nil f.front) ∙ ap (λ (ys : List ℕ). f.front ++ ys) (sym ended) ∙ f.whole_is in
-    subst (λ (ys : List ℕ). takes s ys u) (ap (λ (ys : List ℕ). ys ++ replicate tail 0) whole ∙ stream_whole x (sections_from xs) starts tail) (laws.joined s t u f.front (replicate tail 0) f.taken p)
+    let ended : sections_bytes gap (sections_from (drop i (x ∷ xs))) rest ≡ [] =
+    ap (λ (ys : List SectionMeaning). sections_bytes gap (sections_from ys) rest) (drop_all i (x ∷ xs) l) in
+    let whole : f.front ≡ sections_bytes 0 (sections_from (x ∷ xs)) starts =
+    sym (append-nil f.front) ∙ ap (λ (ys : List ℕ). f.front ++ ys) (sym ended) ∙ f.whole_is in
+    subst (λ (ys : List ℕ). takes s ys u) (ap (λ (ys : List ℕ). ys ++ replicate tail 0) whole
+    ∙ stream_whole x (sections_from xs) starts tail) (laws.joined s t u f.front (replicate tail 0) f.taken p)
 
-pub section_smaller : (ss : List SectionMeaning) (i : ℕ) (s : SectionMeaning) → i < length ss → s ≡ get_or ss i s → body_size (body_of s) + 2 ≤ sections_size (sections_from ss)
-section_smaller ss i s l is = subst (λ (x : SectionMeaning). body_size (body_of x) + 2 ≤ sections_size (sections_from ss)) (sym is) (go ss i s l)
+pub section_smaller : (ss : List SectionMeaning) (i : ℕ) (s : SectionMeaning) → i < length ss → s ≡ get_or ss i s
+    → body_size (body_of s) + 2 ≤ sections_size (sections_from ss)
+section_smaller ss i s l is =
+    subst (λ (x : SectionMeaning). body_size (body_of x) + 2 ≤ sections_size (sections_from ss)) (sym is) (go ss i s l)
   where
     one : (x : SectionMeaning) → body_size (body_of x) + 1 ≡ section_size x
     one (Section k e b) = refl
 
-    go : (ss : List SectionMeaning) (i : ℕ) (d : SectionMeaning) → i < length ss → body_size (body_of (get_or ss i d)) + 2 ≤ sections_size (sections_from ss)
+    go : (ss : List SectionMeaning) (i : ℕ) (d : SectionMeaning) → i < length ss
+        → body_size (body_of (get_or ss i d)) + 2 ≤ sections_size (sections_from ss)
     go [] i d l = absurd (omega arith)
     go (x ∷ xs) zero d l = omega (arith, one x)
     go (x ∷ xs) (suc i) d l = omega (arith, go xs i d (omega arith))

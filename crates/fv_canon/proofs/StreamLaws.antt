@@ -1,5 +1,6 @@
 -- A stream that is written as the canonical image has it is read again as the same sections.
-use Rattle.std.proofs.Common.{◌≡◌, ◌≢◌, ◌≤◌, ◌<◌, ◌+◌, ◌-◌, ◌%◌, ℕ, Bool, true, false, List, [], ◌∷◌, ◌++◌, length, drop, replicate, refl, sym, ap, ◌∙◌, subst, arith, length-append}
+use Rattle.std.proofs.Common.{◌≡◌, ◌≢◌, ◌≤◌, ◌<◌, ◌+◌, ◌-◌, ◌%◌, ℕ, Bool, true, false, List, [], ◌∷◌, ◌++◌, length, drop, replicate, refl}
+use Rattle.std.proofs.Common.{sym, ap, ◌∙◌, subst, arith, length-append}
 use Rattle.std.proofs.lemmas.List.{length-take-le, length-replicate}
 use Rattle.fv_base.specs.Value.{IsBytes, le_at, le_bytes, field}
 use Rattle.fv_base.proofs.FieldLemmas.{none_at, bytes_cons, bytes_take, bytes_drop, bytes_append, bytes_le_bytes}
@@ -8,7 +9,8 @@ use Rattle.fv_section.specs.Frames.{FrameForm, section_header_len, frame_len, Is
 use Rattle.fv_section.specs.SectionImage.{FitsForm, section_head_of, stream_of, InPlace}
 use Rattle.fv_section.proofs.FrameLemmas.{length_begun}
 use Rattle.fv_section.proofs.WrittenLemmas.{streams_are_read}
-use Rattle.fv_tree.specs.Meaning.{Meaning, SectionMeanings, NoSections, MoreSections, SectionMeaning, Section, Leaf, Group, Nested, sections_list, sections_end, section_len, length_of}
+use Rattle.fv_tree.specs.Meaning.{Meaning, SectionMeanings, NoSections, MoreSections, SectionMeaning, Section, Leaf, Group, Nested}
+use Rattle.fv_tree.specs.Meaning.{sections_list, sections_end, section_len, length_of}
 use Rattle.fv_tree.specs.Denotes.{Sections, Streams, Volumes, Pairs, StreamOver, SectionOver, Opens}
 use Rattle.fv_canon.specs.Image.{IsImage, AreFrames, IsFrame}
 
@@ -40,7 +42,8 @@ fits_form true kind n h small is =
     long_drop (a ∷ b ∷ c ∷ []) e = absurd (omega arith)
 
 pub begun_fits : (f : FrameForm) (b rest : List ℕ) → IsBytes b → BeginsFrame f b rest → FitsForm f.extended (length f.body)
-begun_fits f b rest small is = fits_form f.extended f.kind (length f.body) is.head (bytes_front is.head (f.body ++ rest) (subst IsBytes is.text small)) is.is_header
+begun_fits f b rest small is =
+    fits_form f.extended f.kind (length f.body) is.head (bytes_front is.head (f.body ++ rest) (subst IsBytes is.text small)) is.is_header
 
 pub begun_body : (f : FrameForm) (b rest : List ℕ) → IsBytes b → BeginsFrame f b rest → IsBytes f.body × IsBytes rest
 begun_body f b rest small is =
@@ -77,7 +80,8 @@ pub record FrameAgain (is_section : Sections) (s : SectionMeaning) (f g : FrameF
   pub len : frame_len f ≡ section_len s
 
 abbrev pub SectionsAgain : Sections → Type 0
-SectionsAgain is_section = (s : SectionMeaning) (f g : FrameForm) → IsBytes f.body → is_section f s → IsFrame s g → FrameAgain is_section s f g
+SectionsAgain is_section = (s : SectionMeaning) (f g : FrameForm) → IsBytes f.body → is_section f s → IsFrame s g
+    → FrameAgain is_section s f g
 
 pub record StreamAgain (is_stream : Streams) (ss : SectionMeanings) (tail : ℕ) (b o : List ℕ) : Type 0 where
   pub is : is_stream (sections_list ss) tail o
@@ -112,7 +116,8 @@ head_long : (kind : ℕ) (extended : Bool) (n : ℕ) → length (section_head_of
 head_long kind false n = refl
 head_long kind true n = refl
 
-none_again : (is_section : Sections) (at end tail : ℕ) (b : List ℕ) → at % 4 ≡ 0 → up_to_4 end ≡ at → at ≡ end → b ≡ [] → tail ≡ 0 → FramesAgain is_section at end NoSections [] tail b
+none_again : (is_section : Sections) (at end tail : ℕ) (b : List ℕ) → at % 4 ≡ 0 → up_to_4 end ≡ at → at ≡ end → b ≡ [] → tail ≡ 0
+    → FramesAgain is_section at end NoSections [] tail b
 none_again is_section at end tail b m e z none count = record {
   placed = count;
   pairs = tt;
@@ -124,35 +129,49 @@ none_again is_section at end tail b m e z none count = record {
     joined : (a e n t : ℕ) → a ≡ e → n ≡ 0 → t ≡ 0 → a + n ≡ e + t
     joined a e n t p q r = omega arith
 
-last_again : (is_section : Sections) → SectionsAgain is_section → (at end : ℕ) (s : SectionMeaning) (f g : FrameForm) (tail : ℕ) (b : List ℕ) → IsBytes b → up_to_4 end ≡ at
-    → SplitsFrom at (f ∷ []) tail b → is_section f s → (g.offset ≡ at) → IsFrame s g → FramesAgain is_section at end (MoreSections s NoSections) (g ∷ []) tail b
+last_again : (is_section : Sections) → SectionsAgain is_section
+    → (at end : ℕ) (s : SectionMeaning) (f g : FrameForm) (tail : ℕ) (b : List ℕ) → IsBytes b → up_to_4 end ≡ at
+    → SplitsFrom at (f ∷ []) tail b → is_section f s → (g.offset ≡ at) → IsFrame s g
+    → FramesAgain is_section at end (MoreSections s NoSections) (g ∷ []) tail b
 last_again is_section again at end s f g tail b small e (rest, begun, offset, count, most) p there q =
     let a = again s f g (begun_body f b rest small begun).0 p q in
     let fits = begun_fits f b rest small begun in
     let sizes : frame_len g ≡ frame_len f = same_size f.extended g.extended (length f.body) (length g.body) a.extended a.long in
     record {
-      placed = (there, subst (λ (x : Bool). FitsForm x (length g.body)) (sym a.extended) (subst (FitsForm f.extended) (sym a.long) fits), subst (λ (n : ℕ). at + n + tail ≤ up_to_4 (at + n)) (sym sizes) most);
+      placed = (
+        there,
+        subst (λ (x : Bool). FitsForm x (length g.body)) (sym a.extended) (subst (FitsForm f.extended) (sym a.long) fits),
+        subst (λ (n : ℕ). at + n + tail ≤ up_to_4 (at + n)) (sym sizes) most,
+      );
       pairs = (a.is, tt);
       bytes =
           bytes_begun g f.kind (replicate tail 0) a.kind (begun_kind f b rest small begun) a.bytes (bytes_replicate tail 0 (omega arith));
-      long = whole (length (section_head_of g.kind g.extended (length g.body))) (length g.body) (length (replicate tail 0)) tail (length (g.body ++ replicate tail 0)) (length (stream_of (g ∷ []) tail)) (length b) (length rest) (section_header_len g.extended) (frame_len f)
-          (head_long g.kind g.extended (length g.body)) (length-replicate tail 0) (length-append g.body (replicate tail 0)) (length-append (section_head_of g.kind g.extended (length g.body)) (g.body ++ replicate tail 0)) sizes (length_begun f b rest begun) count;
-      len = ended at end (up_to_4 end) (length b) (frame_len f) (section_len s) (length rest) tail (length_begun f b rest begun) count e a.len;
+      long = whole (length (section_head_of g.kind g.extended (length g.body))) (length g.body) (length (replicate tail 0)) tail
+          (length (g.body ++ replicate tail 0)) (length (stream_of (g ∷ []) tail)) (length b) (length rest) (section_header_len g.extended)
+          (frame_len f) (head_long g.kind g.extended (length g.body)) (length-replicate tail 0) (length-append g.body (replicate tail 0))
+          (length-append (section_head_of g.kind g.extended (length g.body)) (g.body ++ replicate tail 0)) sizes
+          (length_begun f b rest begun) count;
+      len = ended at end (up_to_4 end) (length b) (frame_len f) (section_len s) (length rest) tail
+          (length_begun f b rest begun) count e a.len;
     }
   where
     same_size : (x y : Bool) (n k : ℕ) → y ≡ x → k ≡ n → section_header_len y + k ≡ section_header_len x + n
     same_size x y n k p q = rw (p, q)
 
-    whole : (h k r t kr all b rest hl sf : ℕ) → h ≡ hl → r ≡ t → kr ≡ k + r → all ≡ h + kr → hl + k ≡ sf → b ≡ sf + rest → rest ≡ t → all ≡ b
+    whole : (h k r t kr all b rest hl sf : ℕ) → h ≡ hl → r ≡ t → kr ≡ k + r → all ≡ h + kr → hl + k ≡ sf → b ≡ sf + rest → rest ≡ t
+        → all ≡ b
     whole h k r t kr all b rest hl sf p1 p2 p3 p4 p5 p6 p7 = omega arith
 
     ended : (at end up n sf sl rest tail : ℕ) → n ≡ sf + rest → rest ≡ tail → up ≡ at → sf ≡ sl → at + n ≡ (up + sl) + tail
     ended at end up n sf sl rest tail p q r l = omega arith
 
-more_again : (is_section : Sections) → SectionsAgain is_section → (at end : ℕ) (s t : SectionMeaning) (ss : SectionMeanings) (f h : FrameForm) (fs : List FrameForm) (g k : FrameForm) (gs : List FrameForm) (tail : ℕ) (b filler rest : List ℕ)
-    → IsBytes b → at % 4 ≡ 0 → up_to_4 end ≡ at → BeginsFrame f b (filler ++ rest) → f.offset ≡ at → at + frame_len f + length filler ≡ up_to_4 (at + frame_len f)
+more_again : (is_section : Sections) → SectionsAgain is_section → (at end : ℕ) (s t : SectionMeaning) (ss : SectionMeanings)
+    (f h : FrameForm) (fs : List FrameForm) (g k : FrameForm) (gs : List FrameForm) (tail : ℕ) (b filler rest : List ℕ)
+    → IsBytes b → at % 4 ≡ 0 → up_to_4 end ≡ at → BeginsFrame f b (filler ++ rest) → f.offset ≡ at
+    → at + frame_len f + length filler ≡ up_to_4 (at + frame_len f)
     → is_section f s → g.offset ≡ at → IsFrame s g
-    → (frame_len g ≡ frame_len f → FramesAgain is_section (up_to_4 (at + frame_len g)) (up_to_4 end + section_len s) (MoreSections t ss) (k ∷ gs) tail rest)
+    → (frame_len g ≡ frame_len f
+    → FramesAgain is_section (up_to_4 (at + frame_len g)) (up_to_4 end + section_len s) (MoreSections t ss) (k ∷ gs) tail rest)
     → FramesAgain is_section at end (MoreSections s (MoreSections t ss)) (g ∷ k ∷ gs) tail b
 more_again is_section again at end s t ss f h fs g k gs tail b filler rest small m e begun offset count p there q behind =
     let a = again s f g (begun_body f b (filler ++ rest) small begun).0 p q in
@@ -163,54 +182,70 @@ more_again is_section again at end s t ss f h fs g k gs tail b filler rest small
     let fill : List ℕ = replicate (up_to_4 (frame_len g) - frame_len g) 0 in
     let others : List ℕ = stream_of (k ∷ gs) tail in
     record {
-      placed = (there, subst (λ (x : Bool). FitsForm x (length g.body)) (sym a.extended) (subst (FitsForm f.extended) (sym a.long) fits), r.placed);
+      placed = (
+        there,
+        subst (λ (x : Bool). FitsForm x (length g.body)) (sym a.extended) (subst (FitsForm f.extended) (sym a.long) fits),
+        r.placed,
+      );
       pairs = (a.is, r.pairs);
       bytes = bytes_begun g f.kind (fill ++ others) a.kind (begun_kind f b (filler ++ rest) small begun) a.bytes
           (bytes_append fill others (bytes_replicate (up_to_4 (frame_len g) - frame_len g) 0 (omega arith)) r.bytes);
-      long = whole at (length head) (length g.body) (length fill) (length others) (length (fill ++ others)) (length (g.body ++ (fill ++ others))) (length (head ++ (g.body ++ (fill ++ others)))) (length b) (length (filler ++ rest)) (length filler) (length rest) (section_header_len g.extended) (frame_len f) (frame_len g)
-          m (head_long g.kind g.extended (length g.body)) (length-replicate (up_to_4 (frame_len g) - frame_len g) 0) (length-append fill others) (length-append g.body (fill ++ others)) (length-append head (g.body ++ (fill ++ others))) refl sizes
+      long = whole at (length head) (length g.body) (length fill) (length others) (length (fill ++ others))
+          (length (g.body ++ (fill ++ others))) (length (head ++ (g.body ++ (fill ++ others)))) (length b) (length (filler ++ rest))
+          (length filler) (length rest) (section_header_len g.extended) (frame_len f) (frame_len g)
+          m (head_long g.kind g.extended (length g.body)) (length-replicate (up_to_4 (frame_len g) - frame_len g) 0)
+          (length-append fill others) (length-append g.body (fill ++ others)) (length-append head (g.body ++ (fill ++ others))) refl sizes
           (length_begun f b (filler ++ rest) begun) (length-append filler rest) count r.long;
-      len = ended at end (up_to_4 (at + frame_len g)) (length b) (length (filler ++ rest)) (length filler) (length rest) (frame_len f) (frame_len g) (sections_end (up_to_4 end + section_len s) (MoreSections t ss) + tail)
+      len = ended at end (up_to_4 (at + frame_len g)) (length b) (length (filler ++ rest)) (length filler) (length rest) (frame_len f)
+          (frame_len g) (sections_end (up_to_4 end + section_len s) (MoreSections t ss) + tail)
           sizes refl (length_begun f b (filler ++ rest) begun) (length-append filler rest) count r.len;
     }
   where
     same_size : (x y : Bool) (n k : ℕ) → y ≡ x → k ≡ n → section_header_len y + k ≡ section_header_len x + n
     same_size x y n k p q = rw (p, q)
 
-    whole : (at h k z o zo kzo all b fr fi rest hl sf sg : ℕ) → at % 4 ≡ 0 → h ≡ hl → z ≡ up_to_4 sg - sg → zo ≡ z + o → kzo ≡ k + zo → all ≡ h + kzo → sg ≡ hl + k → sg ≡ sf → b ≡ sf + fr → fr ≡ fi + rest
+    whole : (at h k z o zo kzo all b fr fi rest hl sf sg : ℕ) → at % 4 ≡ 0 → h ≡ hl → z ≡ up_to_4 sg - sg → zo ≡ z + o → kzo ≡ k + zo
+        → all ≡ h + kzo → sg ≡ hl + k → sg ≡ sf → b ≡ sf + fr → fr ≡ fi + rest
         → at + sf + fi ≡ up_to_4 (at + sf) → o ≡ rest → all ≡ b
     whole at h k z o zo kzo all b fr fi rest hl sf sg p0 p1 p2 p3 p4 p5 p6 p7 p8 p9 p10 p11 = omega arith
 
-    ended : (at end next b fr fi rest sf sg e : ℕ) → sg ≡ sf → next ≡ up_to_4 (at + sg) → b ≡ sf + fr → fr ≡ fi + rest → at + sf + fi ≡ up_to_4 (at + sf) → next + rest ≡ e → at + b ≡ e
+    ended : (at end next b fr fi rest sf sg e : ℕ) → sg ≡ sf → next ≡ up_to_4 (at + sg) → b ≡ sf + fr → fr ≡ fi + rest
+        → at + sf + fi ≡ up_to_4 (at + sf) → next + rest ≡ e → at + b ≡ e
     ended at end next b fr fi rest sf sg e p0 p1 p2 p3 p4 p5 = omega arith
 
 up_is : (n : ℕ) → up_to_4 n % 4 ≡ 0
 up_is n = omega arith
 
-next_end : (at end sf : ℕ) (s : SectionMeaning) (sg : ℕ) → up_to_4 end ≡ at → sf ≡ section_len s → sg ≡ sf → up_to_4 (up_to_4 end + section_len s) ≡ up_to_4 (at + sg)
+next_end : (at end sf : ℕ) (s : SectionMeaning) (sg : ℕ) → up_to_4 end ≡ at → sf ≡ section_len s → sg ≡ sf
+    → up_to_4 (up_to_4 end + section_len s) ≡ up_to_4 (at + sg)
 next_end at end sf s sg e l k = rw (e, k, l)
 
 no_cons : {A : Type 0} (x : A) (xs : List A) → x ∷ xs ≡ [] → ⊥
 no_cons x xs e = cc
 
-frames_again : (is_section : Sections) → SectionsAgain is_section → (at end : ℕ) (ss : SectionMeanings) (fs gs : List FrameForm) (tail : ℕ) (b : List ℕ) → IsBytes b → at % 4 ≡ 0 → up_to_4 end ≡ at
-    → (fs ≡ [] → at ≡ end) → SplitsFrom at fs tail b → Pairs is_section fs (sections_list ss) → AreFrames at ss gs → FramesAgain is_section at end ss gs tail b
+frames_again : (is_section : Sections) → SectionsAgain is_section
+    → (at end : ℕ) (ss : SectionMeanings) (fs gs : List FrameForm) (tail : ℕ) (b : List ℕ) → IsBytes b → at % 4 ≡ 0 → up_to_4 end ≡ at
+    → (fs ≡ [] → at ≡ end) → SplitsFrom at fs tail b → Pairs is_section fs (sections_list ss) → AreFrames at ss gs
+    → FramesAgain is_section at end ss gs tail b
 frames_again is_section again at end NoSections [] [] tail b small m e z is p q = none_again is_section at end tail b m e (z refl) is.0 is.1
 frames_again is_section again at end NoSections [] (g ∷ gs) tail b small m e z is p q = absurd (no_cons g gs q)
 frames_again is_section again at end NoSections (f ∷ fs) gs tail b small m e z is p q = absurd p
 frames_again is_section again at end (MoreSections s ss) [] gs tail b small m e z is p q = absurd p
 frames_again is_section again at end (MoreSections s ss) (f ∷ fs) [] tail b small m e z is p q = absurd q
-frames_again is_section again at end (MoreSections s NoSections) (f ∷ []) (g ∷ []) tail b small m e z is p q = last_again is_section again at end s f g tail b small e is p.0 q.0 q.1
+frames_again is_section again at end (MoreSections s NoSections) (f ∷ []) (g ∷ []) tail b small m e z is p q =
+    last_again is_section again at end s f g tail b small e is p.0 q.0 q.1
 frames_again is_section again at end (MoreSections s NoSections) (f ∷ []) (g ∷ k ∷ gs) tail b small m e z is p q = absurd (no_cons k gs q.2)
 frames_again is_section again at end (MoreSections s NoSections) (f ∷ h ∷ fs) (g ∷ gs) tail b small m e z is p q = absurd p.1
 frames_again is_section again at end (MoreSections s (MoreSections t ss)) (f ∷ []) (g ∷ gs) tail b small m e z is p q = absurd p.1
 frames_again is_section again at end (MoreSections s (MoreSections t ss)) (f ∷ h ∷ fs) (g ∷ []) tail b small m e z is p q = absurd q.2
-frames_again is_section again at end (MoreSections s (MoreSections t ss)) (f ∷ h ∷ fs) (g ∷ k ∷ gs) tail b small m e z (filler, rest, begun, offset, count, more) p q =
+frames_again is_section again at end (MoreSections s (MoreSections t ss)) (f ∷ h ∷ fs) (g ∷ k ∷ gs) tail b small m e z
+    (filler, rest, begun, offset, count, more) p q =
     let parts = begun_body f b (filler ++ rest) small begun in
     let a = again s f g parts.0 p.0 q.1 in
     more_again is_section again at end s t ss f h fs g k gs tail b filler rest small m e begun offset count p.0 q.0 q.1
-    (λ same. frames_again is_section again (up_to_4 (at + frame_len g)) (up_to_4 end + section_len s) (MoreSections t ss) (h ∷ fs) (k ∷ gs) tail rest (bytes_back filler rest parts.1) (up_is (at + frame_len g))
-    (next_end at end (frame_len f) s (frame_len g) e a.len same) (λ none. absurd (no_cons h fs none)) (subst (λ (n : ℕ). SplitsFrom (up_to_4 (at + n)) (h ∷ fs) tail rest) (sym same) more) p.1 q.2)
+    (λ same. frames_again is_section again (up_to_4 (at + frame_len g)) (up_to_4 end + section_len s) (MoreSections t ss) (h ∷ fs) (k ∷ gs)
+    tail rest (bytes_back filler rest parts.1) (up_is (at + frame_len g)) (next_end at end (frame_len f) s (frame_len g) e a.len same)
+    (λ none. absurd (no_cons h fs none)) (subst (λ (n : ℕ). SplitsFrom (up_to_4 (at + n)) (h ∷ fs) tail rest) (sym same) more) p.1 q.2)
 
 -- a stream is read again
 pub stream_again : (is_section : Sections) → SectionsAgain is_section → StreamsAgain (StreamOver is_section)
@@ -227,8 +262,10 @@ stream_again is_section again ss tail b o small (fs, split, pairs) (gs, frames, 
     zero_off n k e = omega arith
 
 -- a section is read again
-pub section_again : (is_stream : Streams) (is_volume : Volumes) → StreamsAgain is_stream → VolumesAgain is_volume → SectionsAgain (SectionOver is_stream is_volume)
-section_again is_stream is_volume streams volumes (Section kind extended (Leaf body)) f g small (k, e, (not_group, not_volume, same)) (gk, ge, image) =
+pub section_again : (is_stream : Streams) (is_volume : Volumes) → StreamsAgain is_stream → VolumesAgain is_volume
+    → SectionsAgain (SectionOver is_stream is_volume)
+section_again is_stream is_volume streams volumes (Section kind extended (Leaf body)) f g small
+    (k, e, (not_group, not_volume, same)) (gk, ge, image) =
     let bodies : g.body ≡ f.body = image ∙ same in
     let kinds : g.kind ≡ f.kind = gk ∙ k in
     record {
@@ -242,7 +279,8 @@ section_again is_stream is_volume streams volumes (Section kind extended (Leaf b
   where
     sized : (f : FrameForm) (x : Bool) (n : ℕ) → x ≡ f.extended → length f.body ≡ n → frame_len f ≡ section_header_len x + n
     sized f x n p q = rw (p, q)
-section_again is_stream is_volume streams volumes (Section kind extended (Group sections tail)) f g small (k, e, (is_group, is)) (gk, ge, image) =
+section_again is_stream is_volume streams volumes (Section kind extended (Group sections tail)) f g small
+    (k, e, (is_group, is)) (gk, ge, image) =
     let a = streams sections tail f.body g.body small is image in
     let kinds : g.kind ≡ f.kind = gk ∙ k in
     record {
@@ -256,7 +294,8 @@ section_again is_stream is_volume streams volumes (Section kind extended (Group 
   where
     sized : (f : FrameForm) (x : Bool) (n : ℕ) → x ≡ f.extended → length f.body ≡ n → frame_len f ≡ section_header_len x + n
     sized f x n p q = rw (p, q)
-section_again is_stream is_volume streams volumes (Section kind extended (Nested volume)) f g small (k, e, (is_there, opens, is)) (gk, ge, image) =
+section_again is_stream is_volume streams volumes (Section kind extended (Nested volume)) f g small
+    (k, e, (is_there, opens, is)) (gk, ge, image) =
     let a = volumes volume f.body g.body small is image in
     let kinds : g.kind ≡ f.kind = gk ∙ k in
     record {

@@ -11,15 +11,18 @@ use Rattle.fv_canon.specs.ImageOf.{stored_file, data_of}
 use Rattle.fv_canon.specs.Stored.{file_sum_for, stored_bytes}
 use Rattle.fv_canon.proofs.SumLaws.{stored_adds}
 
-pub byte_added : (xs : List ℕ) (i t0 t : ℕ) → i < length xs → t % 256 ≡ (t0 + sum (take i xs)) % 256 → (t + get_or xs i 0) % 256 % 256 ≡ (t0 + sum (take (i + 1) xs)) % 256
+pub byte_added : (xs : List ℕ) (i t0 t : ℕ) → i < length xs → t % 256 ≡ (t0 + sum (take i xs)) % 256
+    → (t + get_or xs i 0) % 256 % 256 ≡ (t0 + sum (take (i + 1) xs)) % 256
 byte_added xs i t0 t l e =
-    joined t t0 (sum (take i xs)) (get_or xs i 0) (sum (take (i + 1) xs)) e (ap sum (take_more xs i 0 l) ∙ sum_by-append (λ (x : ℕ). x) (take i xs) (get_or xs i 0 ∷ []))
+    joined t t0 (sum (take i xs)) (get_or xs i 0) (sum (take (i + 1) xs)) e
+    (ap sum (take_more xs i 0 l) ∙ sum_by-append (λ (x : ℕ). x) (take i xs) (get_or xs i 0 ∷ []))
   where
     joined : (t t0 a x s : ℕ) → t % 256 ≡ (t0 + a) % 256 → s ≡ a + sum (x ∷ []) → (t + x) % 256 % 256 ≡ (t0 + s) % 256
     joined t t0 a x s p q = omega (arith, p, q)
 
 -- the file sum of a file with the checksum attribute, and of another
-pub summed_text : (a : ℕ) (d : List ℕ) (total : ℕ) → is_summed a ≡ true → total < 256 → total % 256 ≡ (0 + sum d) % 256 → (256 - total) % 256 ≡ file_sum_for a d
+pub summed_text : (a : ℕ) (d : List ℕ) (total : ℕ) → is_summed a ≡ true → total < 256 → total % 256 ≡ (0 + sum d) % 256
+    → (256 - total) % 256 ≡ file_sum_for a d
 summed_text a d total is small e = back total (sum d) small e ∙ sym (ap (λ (b : Bool). if b then complement (sum d) else fixed_checksum) is)
   where
     back : (t s : ℕ) → t < 256 → t % 256 ≡ (0 + s) % 256 → (256 - t) % 256 ≡ complement s
@@ -29,10 +32,12 @@ pub unsummed_text : (a : ℕ) (d : List ℕ) → is_summed a ≡ false → fixed
 unsummed_text a d is = sym (ap (λ (b : Bool). if b then complement (sum d) else fixed_checksum) is)
 
 -- a file with the checksum attribute adds its State alone
-pub summed_adds : (p : Polarity) (m : FileMeaning) (starts : List ℕ) (t u : ℕ) → is_summed (attributes_of m) ≡ true → u % 256 ≡ (t + sum (state_byte p ∷ [])) % 256 → u % 256 ≡ (t + sum (stored_bytes p (stored_file m starts))) % 256
+pub summed_adds : (p : Polarity) (m : FileMeaning) (starts : List ℕ) (t u : ℕ) → is_summed (attributes_of m) ≡ true
+    → u % 256 ≡ (t + sum (state_byte p ∷ [])) % 256 → u % 256 ≡ (t + sum (stored_bytes p (stored_file m starts))) % 256
 summed_adds p (File name kind attributes content) starts t u is e =
     join t u (sum (stored_bytes p (stored_file (File name kind attributes content) starts))) (state_byte p) e
-    (stored_adds p (stored_file (File name kind attributes content) starts) ∙ ap (λ (b : Bool). (if b then state_byte p else (fixed_checksum + state_byte p + sum (data_of content starts))) % 256) is)
+    (stored_adds p (stored_file (File name kind attributes content) starts)
+    ∙ ap (λ (b : Bool). (if b then state_byte p else (fixed_checksum + state_byte p + sum (data_of content starts))) % 256) is)
   where
     join : (t u x s : ℕ) → u % 256 ≡ (t + sum (s ∷ [])) % 256 → x % 256 ≡ s % 256 → u % 256 ≡ (t + x) % 256
     join t u x s p q = omega (arith, p, q)

@@ -1,5 +1,6 @@
 -- The files and pads that are written as the canonical image has them tile the body.
-use Rattle.std.proofs.Common.{◌≡◌, ◌≤◌, ◌<◌, ◌⊎◌, inl, inr, ◌+◌, ◌-◌, ◌*◌, ◌%◌, ℕ, zero, suc, Bool, true, false, List, [], ◌∷◌, ◌++◌, length, replicate, refl, sym, ap, ◌∙◌, subst, arith, length-append, append_assoc, append-nil}
+use Rattle.std.proofs.Common.{◌≡◌, ◌≤◌, ◌<◌, ◌⊎◌, inl, inr, ◌+◌, ◌-◌, ◌*◌, ◌%◌, ℕ, zero, suc, Bool, true, false, List, [], ◌∷◌, ◌++◌}
+use Rattle.std.proofs.Common.{length, replicate, refl, sym, ap, ◌∙◌, subst, arith, length-append, append_assoc, append-nil}
 use Rattle.std.specs.Prelude.{map, slice_index, if◌then◌else◌}
 use Rattle.std.specs.List.{AllByRecursion}
 use Rattle.std.proofs.lemmas.Bool.{ne_eqb}
@@ -17,7 +18,8 @@ use Rattle.fv_file.proofs.AttributeLaws.{alignment_with}
 use Rattle.fv_canon.specs.Starts.{StartsFollow}
 use Rattle.fv_tree.specs.Files.{FileForm, files_in}
 use Rattle.fv_canon.specs.Aligned.{DataAligned}
-use Rattle.fv_canon.specs.Stored.{StoredFile, head_len_for, stored_len, stored_bytes, pad_bytes, pads, long_pad, long_pads, PadsRule, gap_bytes}
+use Rattle.fv_canon.specs.Stored.{StoredFile, head_len_for, stored_len, stored_bytes, pad_bytes, pads, long_pad, long_pads, PadsRule}
+use Rattle.fv_canon.specs.Stored.{gap_bytes}
 use Rattle.fv_canon.specs.StoredWalks.{stored_part, files_bytes}
 use Rattle.fv_canon.proofs.CellLaws.{Storable, stored_head, file_cell, length-stored, pad_cell, length-pad}
 
@@ -39,7 +41,8 @@ never e = absurd cc
 
 -- ---- a gap
 
-pad_tiles : (system : FileSystem) (p : Polarity) (size at : ℕ) (rest : List ℕ) (forms : List FileForm) → 24 ≤ size → size ≤ 0xffffff → size % 8 ≡ 0
+pad_tiles : (system : FileSystem) (p : Polarity) (size at : ℕ) (rest : List ℕ) (forms : List FileForm) → 24 ≤ size → size ≤ 0xffffff
+    → size % 8 ≡ 0
     → Tiled system p (at + size) rest forms → Tiled system p at (pad_bytes p size ++ rest) forms
 pad_tiles system p size at rest forms least most multiple behind =
     let cell : CellForm = Pad at (pad_fields size (slice_index (pad_head_of size p) 16)) (replicate (size - 24) (erased_byte p)) in
@@ -58,12 +61,14 @@ pad_tiles system p size at rest forms least most multiple behind =
       aligned = behind.aligned;
     }
 
-pads_tile : (system : FileSystem) (p : Polarity) (n gap at : ℕ) (rest : List ℕ) (forms : List FileForm) → n * 0xffff00 + 24 ≤ gap → gap ≤ n * 0xffff00 + 0xfffff8 → gap % 8 ≡ 0
+pads_tile : (system : FileSystem) (p : Polarity) (n gap at : ℕ) (rest : List ℕ) (forms : List FileForm) → n * 0xffff00 + 24 ≤ gap
+    → gap ≤ n * 0xffff00 + 0xfffff8 → gap % 8 ≡ 0
     → Tiled system p (at + gap) rest forms → Tiled system p at (pads p n gap ++ rest) forms
-pads_tile system p zero gap at rest forms least most multiple behind = pad_tiles system p gap at rest forms (omega (arith, least)) (omega (arith, most)) multiple behind
+pads_tile system p zero gap at rest forms least most multiple behind =
+    pad_tiles system p gap at rest forms (omega (arith, least)) (omega (arith, most)) multiple behind
 pads_tile system p (suc n) gap at rest forms least most multiple behind =
-    let next = pads_tile system p n (gap - long_pad) (at + long_pad) rest forms (low n gap least) (high n gap least most) (even gap multiple)
-    (subst (λ (k : ℕ). Tiled system p k rest forms) (moved at gap n least) behind) in
+    let next = pads_tile system p n (gap - long_pad) (at + long_pad) rest forms (low n gap least) (high n gap least most)
+    (even gap multiple) (subst (λ (k : ℕ). Tiled system p k rest forms) (moved at gap n least) behind) in
     subst (λ (xs : List ℕ). Tiled system p at xs forms) (sym (append_assoc (pad_bytes p long_pad) (pads p n (gap - long_pad)) rest))
     (pad_tiles system p long_pad at (pads p n (gap - long_pad) ++ rest) forms (omega arith) (omega arith) refl next)
   where
@@ -94,19 +99,22 @@ gap_some p gap l = ap (λ (b : Bool). if b then [] else pads p (long_pads gap) g
 gap_tiles : (system : FileSystem) (p : Polarity) (gap at : ℕ) (rest : List ℕ) (forms : List FileForm) → (gap ≡ 0) ⊎ (24 ≤ gap) → gap % 8 ≡ 0
     → Tiled system p (at + gap) rest forms → Tiled system p at (gap_bytes p gap ++ rest) forms
 gap_tiles system p gap at rest forms (inl z) multiple behind =
-    subst (λ (xs : List ℕ). Tiled system p at (xs ++ rest) forms) (sym (gap_none p gap z)) (subst (λ (k : ℕ). Tiled system p k rest forms) (same at gap z) behind)
+    subst (λ (xs : List ℕ). Tiled system p at (xs ++ rest) forms) (sym (gap_none p gap z))
+    (subst (λ (k : ℕ). Tiled system p k rest forms) (same at gap z) behind)
   where
     same : (at gap : ℕ) → gap ≡ 0 → at + gap ≡ at
     same at gap z = omega arith
 gap_tiles system p gap at rest forms (inr l) multiple behind =
     let fits = long_pads_fit gap l multiple in
-    subst (λ (xs : List ℕ). Tiled system p at (xs ++ rest) forms) (sym (gap_some p gap l)) (pads_tile system p (long_pads gap) gap at rest forms fits.0 fits.1 multiple behind)
+    subst (λ (xs : List ℕ). Tiled system p at (xs ++ rest) forms) (sym (gap_some p gap l))
+    (pads_tile system p (long_pads gap) gap at rest forms fits.0 fits.1 multiple behind)
 
 length-pads : (p : Polarity) (n gap : ℕ) → n * 0xffff00 + 24 ≤ gap → length (pads p n gap) ≡ gap
 length-pads p zero gap least = length-pad p gap (omega (arith, least))
 length-pads p (suc n) gap least =
     length-append (pad_bytes p long_pad) (pads p n (gap - long_pad))
-    ∙ sum_of (length (pad_bytes p long_pad)) (length (pads p n (gap - long_pad))) (length-pad p long_pad (omega arith)) (length-pads p n (gap - long_pad) (low n gap least)) n gap least
+    ∙ sum_of (length (pad_bytes p long_pad)) (length (pads p n (gap - long_pad))) (length-pad p long_pad (omega arith))
+    (length-pads p n (gap - long_pad) (low n gap least)) n gap least
   where
     low : (n gap : ℕ) → suc n * 0xffff00 + 24 ≤ gap → n * 0xffff00 + 24 ≤ gap - 0xffff00
     low n gap l = omega (arith, l)
@@ -139,7 +147,8 @@ free_tiles system p at (suc n) = record {
 
 -- ---- file by file
 
-pub apart : (e s : ℕ) → e % 8 ≡ 0 → s % 8 ≡ 0 → (s ≡ e) ⊎ (e + 24 ≤ s) → ((s - e ≡ 0) ⊎ (24 ≤ s - e)) × ((s - e) % 8 ≡ 0) × (e + (s - e) ≡ s)
+pub apart : (e s : ℕ) → e % 8 ≡ 0 → s % 8 ≡ 0 → (s ≡ e) ⊎ (e + 24 ≤ s)
+    → ((s - e ≡ 0) ⊎ (24 ≤ s - e)) × ((s - e) % 8 ≡ 0) × (e + (s - e) ≡ s)
 apart e s m k (inl a) = (inl (omega arith), omega arith, omega arith)
 apart e s m k (inr a) = (inr (omega arith), omega arith, omega arith)
 
@@ -155,7 +164,8 @@ data_aligned p f s short h =
     let n : ℕ = length f.payload in
     subst (λ (a : ℕ). (s + head_len_for n) % a ≡ 0) (sym (alignment_with (needs_large n) f.attributes short)) h
 
-pub body_tiles : (system : FileSystem) (p : Polarity) (total e : ℕ) (fs : List StoredFile) (ss : List ℕ) → total % 8 ≡ 0 → e % 8 ≡ 0 → AllByRecursion (Storable system) fs → StartsFollow total e (map stored_part fs) ss
+pub body_tiles : (system : FileSystem) (p : Polarity) (total e : ℕ) (fs : List StoredFile) (ss : List ℕ) → total % 8 ≡ 0 → e % 8 ≡ 0
+    → AllByRecursion (Storable system) fs → StartsFollow total e (map stored_part fs) ss
     → Tiled system p e (files_bytes p total e fs ss) (forms_of p fs ss)
 body_tiles system p total e [] [] h m all follow = free_tiles system p e (total - e)
 body_tiles system p total e [] (s ∷ ss) h m all follow = absurd follow
@@ -170,8 +180,11 @@ body_tiles system p total e (f ∷ fs) (s ∷ ss) h m all follow =
     let behind = body_tiles system p total (up_to_8 x) fs ss h fill.2 all.1 follow.1 in
     let rest : List ℕ = files_bytes p total (up_to_8 x) fs ss in
     let few : length filler < 8 = subst (λ (n : ℕ). n < 8) (sym short) fill.0 in
-    let cell = file_cell system p f all.0 s filler few (whole s (stored_len f) (length filler) (up_to_8 x) follow.0.lawful.eighth fill.2 (ap (λ (n : ℕ). x + n) short ∙ fill.1)) in
-    let place : s + length (stored_bytes p f ++ filler) ≡ up_to_8 x = ended s (length (stored_bytes p f ++ filler)) (length (stored_bytes p f)) (stored_len f) (length filler) (up_to_8 x) (length-append (stored_bytes p f) filler) long (ap (λ (n : ℕ). x + n) short ∙ fill.1) in
+    let cell = file_cell system p f all.0 s filler few
+    (whole s (stored_len f) (length filler) (up_to_8 x) follow.0.lawful.eighth fill.2 (ap (λ (n : ℕ). x + n) short ∙ fill.1)) in
+    let place : s + length (stored_bytes p f ++ filler) ≡ up_to_8 x =
+    ended s (length (stored_bytes p f ++ filler)) (length (stored_bytes p f)) (stored_len f) (length filler) (up_to_8 x)
+    (length-append (stored_bytes p f) filler) long (ap (λ (n : ℕ). x + n) short ∙ fill.1) in
     gap_tiles system p (s - e) e (stored_bytes p f ++ (filler ++ rest)) (forms_of p (f ∷ fs) (s ∷ ss)) a.0 a.1
     (subst (λ (k : ℕ). Tiled system p k (stored_bytes p f ++ (filler ++ rest)) (forms_of p (f ∷ fs) (s ∷ ss))) (sym a.2) (record {
       cells = Valid s (stored_head p f) f.payload ∷ behind.cells;

@@ -38,9 +38,11 @@ pub next_eighth : (s a b : ℕ) → Widens a b → s % 8 ≡ 0 → (s + a) % 8 �
 next_eighth s a b w p = eighth_sum s a p (w.apart a (mod_self a)).0
 
 -- where s does not serve, what serves is a step behind it
-pub next_least : (total e : ℕ) (f : Part) (r : Reach) (a s t : ℕ) → Widens a f.alignment → f.header % 8 ≡ 0 → s % 8 ≡ 0 → (s + f.header) % f.alignment ≡ 0 → (Serves total f r s → ⊥) → Serves total f r t → s ≤ t → s + a ≤ t
+pub next_least : (total e : ℕ) (f : Part) (r : Reach) (a s t : ℕ) → Widens a f.alignment → f.header % 8 ≡ 0 → s % 8 ≡ 0
+    → (s + f.header) % f.alignment ≡ 0 → (Serves total f r s → ⊥) → Serves total f r t → s ≤ t → s + a ≤ t
 next_least total e f r a s t w h p q not v l = elim (cases_lt s t) [
-  | inl less ↦ far (multiples_apart a (s + f.header) (t + f.header) (positive (widens_eight a f.alignment w)) (w.joined (s + f.header) (eighth_sum s f.header p h) q) (w.joined (t + f.header) (eighth_sum t f.header v.eighth h) v.aligned) (more less))
+  | inl less ↦ far (multiples_apart a (s + f.header) (t + f.header) (positive (widens_eight a f.alignment w)) (w.joined (s + f.header)
+      (eighth_sum s f.header p h) q) (w.joined (t + f.header) (eighth_sum t f.header v.eighth h) v.aligned) (more less))
   | inr same ↦ absurd (not (subst (λ n. Serves total f r n) (equal same l) v))
 ]
   where
@@ -57,7 +59,8 @@ next_least total e f r a s t w h p q not v l = elim (cases_lt s t) [
     equal g k = omega arith
 
 -- a start that is lawful and does not serve has its end too near the greatest
-pub missed_at : (total e : ℕ) (f : Part) (r : Reach) (s : ℕ) → (IsTrue f.top → ⊥) → s % 8 ≡ 0 → (s + f.header) % f.alignment ≡ 0 → (Serves total f r s → ⊥) → r.greatest < up_to_8 (s + f.size) + 24
+pub missed_at : (total e : ℕ) (f : Part) (r : Reach) (s : ℕ) → (IsTrue f.top → ⊥) → s % 8 ≡ 0 → (s + f.header) % f.alignment ≡ 0
+    → (Serves total f r s → ⊥) → r.greatest < up_to_8 (s + f.size) + 24
 missed_at total e f r s top p q not = elim (cases_lt r.greatest (up_to_8 (s + f.size) + 24)) [
   | inl g ↦ g
   | inr g ↦ absurd (not (record { eighth = p; aligned = q; at_end = λ t. absurd (top t); reaches = inl (inl g) }))
@@ -80,9 +83,11 @@ not_true true e h = cc
 not_true false e h = cc
 
 -- ---- and down from the greatest
-pub next_most : (total : ℕ) (f : Part) (r : Reach) (a d t : ℕ) → Widens a f.alignment → f.header % 8 ≡ 0 → d % a ≡ 0 → f.header ≤ d → (Serves total f r (d - f.header) → ⊥) → Serves total f r t → t + f.header ≤ d → (t + f.header) + a ≤ d
+pub next_most : (total : ℕ) (f : Part) (r : Reach) (a d t : ℕ) → Widens a f.alignment → f.header % 8 ≡ 0 → d % a ≡ 0 → f.header ≤ d
+    → (Serves total f r (d - f.header) → ⊥) → Serves total f r t → t + f.header ≤ d → (t + f.header) + a ≤ d
 next_most total f r a d t w h m b not v l = elim (cases_lt (t + f.header) d) [
-  | inl less ↦ multiples_apart a (t + f.header) d (positive (widens_eight a f.alignment w)) (w.joined (t + f.header) (eighth_sum t f.header v.eighth h) v.aligned) m less
+  | inl less ↦ multiples_apart a (t + f.header) d (positive (widens_eight a f.alignment w))
+      (w.joined (t + f.header) (eighth_sum t f.header v.eighth h) v.aligned) m less
   | inr same ↦ absurd (not (subst (λ n. Serves total f r n) (equal same) v))
 ]
   where
@@ -93,7 +98,9 @@ next_most total f r a d t w h m b not v l = elim (cases_lt (t + f.header) d) [
     equal g = omega arith
 
 -- the fourth serves
-pub fourth_serves : (total : ℕ) (f : Part) (r : Reach) (a d : ℕ) → Widens a f.alignment → f.header % 8 ≡ 0 → d % a ≡ 0 → f.header ≤ d → (IsTrue f.top → ⊥) → r.greatest % 8 ≡ 0 → up_to_8 f.size ≤ r.greatest → d + 24 ≤ (r.greatest - up_to_8 f.size) + f.header → Serves total f r (d - f.header)
+pub fourth_serves : (total : ℕ) (f : Part) (r : Reach) (a d : ℕ) → Widens a f.alignment → f.header % 8 ≡ 0 → d % a ≡ 0 → f.header ≤ d
+    → (IsTrue f.top → ⊥) → r.greatest % 8 ≡ 0 → up_to_8 f.size ≤ r.greatest → d + 24 ≤ (r.greatest - up_to_8 f.size) + f.header
+    → Serves total f r (d - f.header)
 fourth_serves total f r a d w h m b top g x far =
     let both = w.apart d m in
     let back : (d - f.header) + f.header ≡ d = omega arith in
@@ -105,7 +112,8 @@ fourth_serves total f r a d w h m b top g x far =
       reaches = inl (inl (near f.size (d - f.header) eighth (low f.header d b far x)));
     }
   where
-    low : (k d : ℕ) → k ≤ d → d + 24 ≤ (r.greatest - up_to_8 f.size) + k → up_to_8 f.size ≤ r.greatest → (d - k) + (up_to_8 f.size + 24) ≤ r.greatest
+    low : (k d : ℕ) → k ≤ d → d + 24 ≤ (r.greatest - up_to_8 f.size) + k → up_to_8 f.size ≤ r.greatest
+        → (d - k) + (up_to_8 f.size + 24) ≤ r.greatest
     low k d p q z = omega arith
 
     near : (n s : ℕ) → s % 8 ≡ 0 → s + (up_to_8 n + 24) ≤ r.greatest → up_to_8 (s + n) + 24 ≤ r.greatest

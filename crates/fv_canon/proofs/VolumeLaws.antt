@@ -1,5 +1,6 @@
 -- The image of a volume is read again as a volume of its meaning.
-use Rattle.std.proofs.Common.{◌≡◌, ◌≢◌, ◌≤◌, ◌<◌, ◌+◌, ◌-◌, ◌*◌, ◌/◌, ◌%◌, ℕ, zero, suc, Bool, true, false, List, [], ◌∷◌, ◌++◌, length, take, drop, replicate, refl, sym, ap, ◌∙◌, subst, arith, append_assoc, length-append, length-drop}
+use Rattle.std.proofs.Common.{◌≡◌, ◌≢◌, ◌≤◌, ◌<◌, ◌+◌, ◌-◌, ◌*◌, ◌/◌, ◌%◌, ℕ, zero, suc, Bool, true, false, List, [], ◌∷◌, ◌++◌, length}
+use Rattle.std.proofs.Common.{take, drop, replicate, refl, sym, ap, ◌∙◌, subst, arith, append_assoc, length-append, length-drop}
 use Rattle.std.specs.Prelude.{map, nat_lt, ◌==◌, Option, None, Some}
 use Rattle.std.specs.List.{AllByRecursion}
 use Rattle.std.specs.Str.{bytes_eq}
@@ -30,14 +31,16 @@ use Rattle.fv_head.proofs.SpelledLemmas.{canonical_front, length-canonical}
 use Rattle.fv_canon.specs.Starts.{StartsFollow, IsFirstPlacement}
 use Rattle.fv_canon.specs.declared.place.Part.{Part}
 use Rattle.fv_tree.specs.Files.{FileForm, files_in, NoTwins, alive_in, top_name}
-use Rattle.fv_tree.specs.Meaning.{Meaning, Volume, FileMeanings, NoFiles, MoreFiles, FileMeaning, File, ContentMeaning, Plain, Sectioned, files_list, content_len}
+use Rattle.fv_tree.specs.Meaning.{Meaning, Volume, FileMeanings, NoFiles, MoreFiles, FileMeaning, File, ContentMeaning, Plain, Sectioned}
+use Rattle.fv_tree.specs.Meaning.{files_list, content_len}
 use Rattle.fv_tree.specs.Denotes.{Streams, Pairs, MeansContent, MeansFile, StreamOver, VolumeOver, Opens, MeansSection, Stream, Denotes}
 use Rattle.fv_canon.specs.Image.{IsImage, AreStored, IsStored, IsData}
 use Rattle.fv_canon.specs.Layouts.{AreStarts, parts_of, part_of}
 use Rattle.fv_canon.specs.Spans.{ShowsSpans}
 use Rattle.fv_canon.specs.Stored.{StoredFile, size_for, head_len_for, ext_pad, volume_spans, used_size}
 use Rattle.fv_canon.specs.StoredWalks.{stored_part, files_bytes, volume_bytes}
-use Rattle.fv_canon.proofs.AliveLaws.{names_in, names_of, NamesApart, alive_apart, all_alive, forms_unmarked, no_twins, TopLast, top_last, forms_top, form_names}
+use Rattle.fv_canon.proofs.AliveLaws.{names_in, names_of, NamesApart, alive_apart, all_alive, forms_unmarked, no_twins, TopLast, top_last}
+use Rattle.fv_canon.proofs.AliveLaws.{forms_top, form_names}
 use Rattle.fv_canon.proofs.CellLaws.{Storable, stored_head, length-pad_head}
 use Rattle.fv_canon.proofs.ReadLaws.{FileIsAccepted, body_read, alive_read}
 use Rattle.fv_canon.proofs.SpanLaws.{Writable, first_is, volume_shows, length-ext_pad}
@@ -62,7 +65,8 @@ pub record DataAgain (is_stream : Streams) (kind : ℕ) (content : ContentMeanin
   pub long : length d ≡ length payload
   pub len : length d ≡ content_len content
 
-pub data_again : (is_stream : Streams) → StreamsAgain is_stream → (kind : ℕ) (content : ContentMeaning) (payload d : List ℕ) → IsBytes payload → MeansContent is_stream kind payload content → IsData content d
+pub data_again : (is_stream : Streams) → StreamsAgain is_stream → (kind : ℕ) (content : ContentMeaning) (payload d : List ℕ)
+    → IsBytes payload → MeansContent is_stream kind payload content → IsData content d
     → DataAgain is_stream kind content payload d
 data_again is_stream streams kind (Plain b) payload d small (plain, same) image = record {
   is = (plain, sym image);
@@ -89,18 +93,21 @@ half_back : (l : Bool) (a : ℕ) → a / 2 * 2 ≡ with_large l (a / 2 * 2) / 2 
 half_back true a = omega arith
 half_back false a = omega arith
 
-large_system : (system : FileSystem) (l : Bool) (n : ℕ) → (l ≡ true → system ≡ Ffs3) → (l ≡ false → 24 + n < 16777216) → needs_large n ≡ true → system ≡ Ffs3
+large_system : (system : FileSystem) (l : Bool) (n : ℕ) → (l ≡ true → system ≡ Ffs3) → (l ≡ false → 24 + n < 16777216)
+    → needs_large n ≡ true → system ≡ Ffs3
 large_system system true n h k needs = h refl
 large_system system false n h k needs = absurd (both n needs (k refl))
   where
     both : (n : ℕ) → nat_lt 0xffffff (24 + n) ≡ true → 24 + n < 16777216 → ⊥
     both n e l = grind (arith, nat_tests)
 
-same_part : (n k a b : ℕ) (g h : Guid) → n ≡ k → a ≡ b → g ≡ h → let made : Part = record { header = head_len_for n; size = size_for n; alignment = alignment_of a; top = bytes_eq (bytes_of g) top_name } in
+same_part : (n k a b : ℕ) (g h : Guid) → n ≡ k → a ≡ b → g ≡ h → let made : Part =
+    record { header = head_len_for n; size = size_for n; alignment = alignment_of a; top = bytes_eq (bytes_of g) top_name } in
     made ≡ record { header = head_len_for k; size = size_for k; alignment = alignment_of b; top = bytes_eq (bytes_of h) top_name }
 same_part n k a b g h p q r = rw (p, q, r) refl
 
-file_again : (is_stream : Streams) → StreamsAgain is_stream → (system : FileSystem) (limit : ℕ) (m : FileMeaning) (f : FileForm) (x : StoredFile) → limit ≤ 268435448 → FileIsAccepted system limit f → MeansFile is_stream f m → IsStored m x
+file_again : (is_stream : Streams) → StreamsAgain is_stream → (system : FileSystem) (limit : ℕ) (m : FileMeaning) (f : FileForm)
+    (x : StoredFile) → limit ≤ 268435448 → FileIsAccepted system limit f → MeansFile is_stream f m → IsStored m x
     → FileAgain is_stream system m f x
 file_again is_stream streams system limit (File name kind attributes content) f x most r (named, kinds, bits, is) (xn, xk, xa, image) =
     let d = data_again is_stream streams kind content f.payload x.payload r.payload is image in
@@ -124,7 +131,8 @@ file_again is_stream streams system limit (File name kind attributes content) f 
       };
       part = same_part (length x.payload) (content_len content) x.attributes attributes x.name name d.len xa xn;
       name = names;
-      form = λ p at. (ap (λ (g : Guid). g) (sym xn) ∙ refl, sym xk, sym xa ∙ back (needs_large (length x.payload)) a x.attributes bits_are, d.is);
+      form = λ p at.
+          (ap (λ (g : Guid). g) (sym xn) ∙ refl, sym xk, sym xa ∙ back (needs_large (length x.payload)) a x.attributes bits_are, d.is);
     }
   where
     inside : (n k : ℕ) → n ≡ k → 24 + k ≤ limit → limit ≤ 268435448 → n ≤ 268435424
@@ -135,21 +143,27 @@ file_again is_stream streams system limit (File name kind attributes content) f 
 
 -- ---- file by file
 
-pub record FilesAgain (is_stream : Streams) (system : FileSystem) (files : FileMeanings) (forms : List FileForm) (stored : List StoredFile) : Type 0 where
+pub record FilesAgain (is_stream : Streams) (system : FileSystem) (files : FileMeanings) (forms : List FileForm)
+    (stored : List StoredFile) : Type 0 where
   pub storable : AllByRecursion (Storable system) stored
   pub parts : map stored_part stored ≡ parts_of files
   pub names : names_of stored ≡ names_in forms
-  pub are : (p : Polarity) (total e : ℕ) (ss : List ℕ) → StartsFollow total e (map stored_part stored) ss → Pairs (MeansFile is_stream) (forms_of p stored ss) (files_list files)
+  pub are : (p : Polarity) (total e : ℕ) (ss : List ℕ) → StartsFollow total e (map stored_part stored) ss
+      → Pairs (MeansFile is_stream) (forms_of p stored ss) (files_list files)
 
 no_file : {A : Type 0} (x : A) (xs : List A) → x ∷ xs ≡ [] → ⊥
 no_file x xs e = cc
 
-pairs_end : (is_stream : Streams) (p : Polarity) (total e : ℕ) (ss : List ℕ) → StartsFollow total e [] ss → Pairs (MeansFile is_stream) (forms_of p [] ss) []
+pairs_end : (is_stream : Streams) (p : Polarity) (total e : ℕ) (ss : List ℕ) → StartsFollow total e [] ss
+    → Pairs (MeansFile is_stream) (forms_of p [] ss) []
 pairs_end is_stream p total e ss follow = tt
 
-files_again : (is_stream : Streams) → StreamsAgain is_stream → (system : FileSystem) (limit : ℕ) (files : FileMeanings) (forms : List FileForm) (stored : List StoredFile) → limit ≤ 268435448
-    → AllByRecursion (FileIsAccepted system limit) forms → Pairs (MeansFile is_stream) forms (files_list files) → AreStored files stored → FilesAgain is_stream system files forms stored
-files_again is_stream streams system limit NoFiles [] [] most reads pairs are = record { storable = tt; parts = refl; names = refl; are = λ p total e ss follow. tt }
+files_again : (is_stream : Streams) → StreamsAgain is_stream
+    → (system : FileSystem) (limit : ℕ) (files : FileMeanings) (forms : List FileForm) (stored : List StoredFile) → limit ≤ 268435448
+    → AllByRecursion (FileIsAccepted system limit) forms → Pairs (MeansFile is_stream) forms (files_list files) → AreStored files stored
+    → FilesAgain is_stream system files forms stored
+files_again is_stream streams system limit NoFiles [] [] most reads pairs are =
+    record { storable = tt; parts = refl; names = refl; are = λ p total e ss follow. tt }
 files_again is_stream streams system limit NoFiles [] (x ∷ xs) most reads pairs are = absurd (no_file x xs are)
 files_again is_stream streams system limit NoFiles (f ∷ fs) stored most reads pairs are = absurd pairs
 files_again is_stream streams system limit (MoreFiles m ms) [] stored most reads pairs are = absurd pairs
@@ -164,8 +178,10 @@ files_again is_stream streams system limit (MoreFiles m ms) (f ∷ fs) (x ∷ xs
       are = λ p total e ss follow. step p total e ss follow here.form behind.are;
     }
   where
-    step : (p : Polarity) (total e : ℕ) (ss : List ℕ) → StartsFollow total e (map stored_part (x ∷ xs)) ss → ((q : Polarity) (at : ℕ) → MeansFile is_stream (record { offset = at; head = stored_head q x; payload = x.payload }) m)
-        → ((q : Polarity) (n k : ℕ) (ts : List ℕ) → StartsFollow n k (map stored_part xs) ts → Pairs (MeansFile is_stream) (forms_of q xs ts) (files_list ms)) → Pairs (MeansFile is_stream) (forms_of p (x ∷ xs) ss) (files_list (MoreFiles m ms))
+    step : (p : Polarity) (total e : ℕ) (ss : List ℕ) → StartsFollow total e (map stored_part (x ∷ xs)) ss
+        → ((q : Polarity) (at : ℕ) → MeansFile is_stream (record { offset = at; head = stored_head q x; payload = x.payload }) m)
+        → ((q : Polarity) (n k : ℕ) (ts : List ℕ) → StartsFollow n k (map stored_part xs) ts → Pairs (MeansFile is_stream)
+        (forms_of q xs ts) (files_list ms)) → Pairs (MeansFile is_stream) (forms_of p (x ∷ xs) ss) (files_list (MoreFiles m ms))
     step p total e [] follow form behind = absurd follow
     step p total e (s ∷ ss) follow form behind = (form p s, behind p total _ ss follow.1)
 
@@ -186,12 +202,18 @@ first_behind (Some x) e b (before, part, behind, text, at, least, within, is, fi
 rest_is : (p : Polarity) (h : HeadFields) (x : Option Extension) (used : ℕ) (behind : List ℕ) → CanonicalRest x (ext_pad p x used ++ behind)
 unfolding ext_pad
 rest_is p h None used behind = tt
-rest_is p h (Some x) used behind =
-    (pad_head_of (24 + ext_len x) p, used, behind, append_assoc (pad_head_of (24 + ext_len x) p) (ext_spelled x used) behind, length-pad_head (24 + ext_len x) p)
+rest_is p h (Some x) used behind = (
+  pad_head_of (24 + ext_len x) p,
+  used,
+  behind,
+  append_assoc (pad_head_of (24 + ext_len x) p) (ext_spelled x used) behind,
+  length-pad_head (24 + ext_len x) p,
+)
 
 -- the body of an image
 body_is : (h : HeadFields) (fs : List StoredFile) (ss : List ℕ) → IsReadHead h → IfRead h.ext
-    → drop (canonical_first h h.ext) (volume_bytes h fs ss) ≡ files_bytes (polarity_of h.attributes) h.length (canonical_first h h.ext) fs ss
+    → drop (canonical_first h h.ext) (volume_bytes h fs ss)
+    ≡ files_bytes (polarity_of h.attributes) h.length (canonical_first h h.ext) fs ss
 body_is h fs ss read ext =
     let p : Polarity = polarity_of h.attributes in
     let first : ℕ = canonical_first h h.ext in
@@ -200,9 +222,12 @@ body_is h fs ss read ext =
     let pad : List ℕ = ext_pad p h.ext used in
     let fill : List ℕ = replicate (first - canonical_end h h.ext) (erased_byte p) in
     let files : List ℕ = files_bytes p h.length first fs ss in
-    let joined : volume_bytes h fs ss ≡ ((head ++ pad) ++ fill) ++ files = sym (append_assoc (head ++ pad) fill files ∙ append_assoc head pad (fill ++ files)) in
-    let long : length ((head ++ pad) ++ fill) ≡ first = sum_of (length head) (length pad) (length fill) (header_len_of h) (canonical_end h h.ext) first (length (head ++ pad)) (length ((head ++ pad) ++ fill))
-    (length-canonical h read) (length-ext_pad p h h.ext used ext) (length-replicate (first - canonical_end h h.ext) (erased_byte p)) (first_is h h.ext).0 (length-append head pad) (length-append (head ++ pad) fill) in
+    let joined : volume_bytes h fs ss ≡ ((head ++ pad) ++ fill) ++ files =
+    sym (append_assoc (head ++ pad) fill files ∙ append_assoc head pad (fill ++ files)) in
+    let long : length ((head ++ pad) ++ fill) ≡ first = sum_of (length head) (length pad) (length fill) (header_len_of h)
+    (canonical_end h h.ext) first (length (head ++ pad)) (length ((head ++ pad) ++ fill))
+    (length-canonical h read) (length-ext_pad p h h.ext used ext) (length-replicate (first - canonical_end h h.ext) (erased_byte p))
+    (first_is h h.ext).0 (length-append head pad) (length-append (head ++ pad) fill) in
     ap (drop first) joined ∙ drop_at ((head ++ pad) ++ fill) files first long
   where
     sum_of : (a b c l e f ab abc : ℕ) → a ≡ l → l + b ≡ e → c ≡ f - e → e ≤ f → ab ≡ a + b → abc ≡ ab + c → abc ≡ f
@@ -222,20 +247,24 @@ opened h e o front whole =
     }
 
 -- what is known of a volume that was read, and of files that are stored for it and placed
-pub record Known (is_stream : Streams) (h : HeadFields) (files : FileMeanings) (forms : List FileForm) (stored : List StoredFile) (starts : List ℕ) : Type 0 where
+pub record Known (is_stream : Streams) (h : HeadFields) (files : FileMeanings) (forms : List FileForm) (stored : List StoredFile)
+    (starts : List ℕ) : Type 0 where
   pub writable : Writable h stored starts
   pub again : FilesAgain is_stream h.file_system files forms stored
 
 -- each file was read
-pub files_read : (is_stream : Streams) (h : HeadFields) (files : FileMeanings) (b : List ℕ) → IsBytes b → (d : VolumeOver is_stream b (Volume h files)) → AllByRecursion (FileIsAccepted h.file_system (length (drop d.extent.first b))) d.files
+pub files_read : (is_stream : Streams) (h : HeadFields) (files : FileMeanings) (b : List ℕ) → IsBytes b
+    → (d : VolumeOver is_stream b (Volume h files)) → AllByRecursion (FileIsAccepted h.file_system (length (drop d.extent.first b))) d.files
 files_read is_stream h files b small d =
     let e : Extent = d.extent in
     let body : List ℕ = drop e.first b in
     let reads = body_read e.file_system e.polarity (length body) e.first d.cells body (bytes_drop e.first b small) (omega arith) d.tiles in
     subst (λ (s : FileSystem). AllByRecursion (FileIsAccepted s (length body)) d.files) d.front.file_system
-    (subst (AllByRecursion (FileIsAccepted e.file_system (length body))) (sym d.alive.files_are) (alive_read e.file_system (length body) (files_in d.cells) reads))
+    (subst (AllByRecursion (FileIsAccepted e.file_system (length body))) (sym d.alive.files_are)
+    (alive_read e.file_system (length body) (files_in d.cells) reads))
 
-pub known : (is_stream : Streams) → StreamsAgain is_stream → (h : HeadFields) (files : FileMeanings) (b : List ℕ) → IsBytes b → (d : VolumeOver is_stream b (Volume h files)) (stored : List StoredFile) (starts : List ℕ)
+pub known : (is_stream : Streams) → StreamsAgain is_stream → (h : HeadFields) (files : FileMeanings) (b : List ℕ) → IsBytes b
+    → (d : VolumeOver is_stream b (Volume h files)) (stored : List StoredFile) (starts : List ℕ)
     → AreStored files stored → AreStarts h files starts → Known is_stream h files d.files stored starts
 known is_stream streams h files b small d stored starts are placed =
     let e : Extent = d.extent in
@@ -243,9 +272,11 @@ known is_stream streams h files b small d stored starts are placed =
     let lies = front_lies b h e d.front in
     let body : List ℕ = drop e.first b in
     let alive = files_read is_stream h files b small d in
-    let limit : length body ≤ 268435448 = most (length body) (length b) e.first e.header_len e.length (length-drop e.first b) d.whole lies.limit lies.least (first_behind h.ext e b d.front.ext) in
+    let limit : length body ≤ 268435448 = most (length body) (length b) e.first e.header_len e.length (length-drop e.first b) d.whole
+    lies.limit lies.least (first_behind h.ext e b d.front.ext) in
     let a = files_again is_stream streams h.file_system (length body) files d.files stored limit alive d.meanings are in
-    let place : IsFirstPlacement h.length first (map stored_part stored) starts = subst (λ (qs : List Part). IsFirstPlacement h.length first qs starts) (sym a.parts) placed in
+    let place : IsFirstPlacement h.length first (map stored_part stored) starts =
+    subst (λ (qs : List Part). IsFirstPlacement h.length first qs starts) (sym a.parts) placed in
     record {
       writable = record {
         read = (take e.header_len b, d.front.head);
@@ -263,7 +294,8 @@ known is_stream streams h files b small d stored starts are placed =
 
 -- an image begins with its head, and with the extended header in its pad behind it
 pub image_front : (h : HeadFields) (fs : List StoredFile) (ss o : List ℕ) → Writable h fs ss
-    → ShowsSpans h.length (erased_byte (polarity_of h.attributes)) (volume_spans h fs ss) o → BeginsVolume h (extent_of h (canonical_first h h.ext)) o
+    → ShowsSpans h.length (erased_byte (polarity_of h.attributes)) (volume_spans h fs ss) o
+    → BeginsVolume h (extent_of h (canonical_first h h.ext)) o
 image_front h fs ss o k shows =
     let p : Polarity = polarity_of h.attributes in
     let first : ℕ = canonical_first h h.ext in
@@ -306,7 +338,8 @@ volume_again is_stream streams (Volume h files) b o small d (stored, starts, are
     let front = image_front h stored starts o k shows in
     let tiled = image_tiled h stored starts o k shows in
     let names : names_in (forms_of p stored starts) ≡ names_in d.files = form_names p h.length first stored starts k.follow ∙ a.names in
-    let apart : NamesApart (names_in (forms_of p stored starts)) = subst NamesApart (sym names) (subst (λ (xs : List FileForm). NamesApart (names_in xs)) (sym d.alive.files_are) (alive_apart (files_in d.cells) d.alive.no_twins)) in
+    let apart : NamesApart (names_in (forms_of p stored starts)) = subst NamesApart (sym names)
+    (subst (λ (xs : List FileForm). NamesApart (names_in xs)) (sym d.alive.files_are) (alive_apart (files_in d.cells) d.alive.no_twins)) in
     let last : TopLast (names_of stored) = subst TopLast (sym a.names) (top_last d.extent.length d.files d.alive.top) in
     let same : length o ≡ length b = shows.length_is ∙ sym (d.whole ∙ d.front.length_is) in
     record {
@@ -342,7 +375,8 @@ pub sections_again : (n : ℕ) → SectionsAgain (MeansSection n)
 sections_again zero = section_again (λ _ _ _. ⊥) (λ _ _. ⊥) no_stream no_volume
 sections_again (suc n) =
     let streams = stream_again (MeansSection n) (sections_again n) in
-    section_again (StreamOver (MeansSection n)) (VolumeOver (StreamOver (MeansSection n))) streams (volume_again (StreamOver (MeansSection n)) streams)
+    section_again (StreamOver (MeansSection n)) (VolumeOver (StreamOver (MeansSection n))) streams
+    (volume_again (StreamOver (MeansSection n)) streams)
 
 -- an image of a meaning is a volume of this meaning
 pub image_denotes : (n : ℕ) (m : Meaning) (b o : List ℕ) → IsBytes b → Denotes n b m → IsImage m o → Denotes n o m

@@ -1,5 +1,6 @@
 -- What is known of a volume that was read and laid out, and what the walk over it writes.
-use Rattle.std.proofs.Common.{◌≡◌, ◌≤◌, ◌<◌, ◌+◌, ◌-◌, ℕ, zero, suc, List, [], ◌∷◌, ◌++◌, length, take, drop, replicate, get_or, refl, sym, ap, ◌∙◌, subst, arith, append_assoc, length-append}
+use Rattle.std.proofs.Common.{◌≡◌, ◌≤◌, ◌<◌, ◌+◌, ◌-◌, ℕ, zero, suc, List, [], ◌∷◌, ◌++◌, length, take, drop, replicate, get_or, refl, sym}
+use Rattle.std.proofs.Common.{ap, ◌∙◌, subst, arith, append_assoc, length-append}
 use Rattle.std.specs.Prelude.{map, Option, None, Some}
 use Rattle.std.proofs.lemmas.List.{length-map}
 use Rattle.fv_base.specs.Flash.{erased_byte}
@@ -47,15 +48,18 @@ used_files end [] ss = refl
 used_files end (f ∷ fs) [] = refl
 used_files end (f ∷ fs) (s ∷ ss) = used_files (s + size_for (data_len_of f)) fs ss
 
-pub used_last : (total e end : ℕ) (fs : List FileMeaning) (ss : List ℕ) (n : ℕ) (d : FileMeaning) → length fs ≡ suc n → StartsFollow total e (map part_of fs) ss
-    → (used_by end fs ss ≡ get_or ss n 0 + size_for (data_len_of (get_or fs n d))) × (get_or ss n 0 + size_for (data_len_of (get_or fs n d)) ≤ total) × (n < length ss)
+pub used_last : (total e end : ℕ) (fs : List FileMeaning) (ss : List ℕ) (n : ℕ) (d : FileMeaning) → length fs ≡ suc n
+    → StartsFollow total e (map part_of fs) ss
+    → (used_by end fs ss ≡ get_or ss n 0 + size_for (data_len_of (get_or fs n d)))
+    × (get_or ss n 0 + size_for (data_len_of (get_or fs n d)) ≤ total) × (n < length ss)
 used_last total e end [] ss n d l follow = absurd (omega (arith, l))
 used_last total e end (f ∷ fs) [] n d l follow = absurd follow
 used_last total e end (f ∷ []) (s ∷ ss) zero d l follow = (refl, follow.0.within, omega arith)
 used_last total e end (f ∷ []) (s ∷ ss) (suc n) d l follow = absurd (omega (arith, l))
 used_last total e end (f ∷ g ∷ fs) (s ∷ ss) zero d l follow = absurd (omega (arith, l))
 used_last total e end (f ∷ g ∷ fs) (s ∷ ss) (suc n) d l follow =
-    let r = used_last total (up_to_8 (s + size_for (data_len_of f))) (s + size_for (data_len_of f)) (g ∷ fs) ss n d (omega (arith, l)) follow.1 in
+    let r =
+    used_last total (up_to_8 (s + size_for (data_len_of f))) (s + size_for (data_len_of f)) (g ∷ fs) ss n d (omega (arith, l)) follow.1 in
     (r.0, r.1, omega (arith, r.2))
 
 -- ---- the volume
@@ -63,31 +67,37 @@ pub record VolumeLaid (h : HeadFields) (fs : List FileMeaning) (starts : List �
   pub enough : length fs ≤ length starts
   pub placed : ArePlaced h.length (canonical_first h h.ext) fs (take (length fs) starts)
   pub inner : BeginsWithStarts LaysFiles (files_from fs) (drop (length fs) starts)
-  pub used : used_size (canonical_first h h.ext) (stored_of (files_from fs) (drop (length fs) starts)) (take (length fs) starts) ≡ used_by (canonical_first h h.ext) fs (take (length fs) starts)
+  pub used : used_size (canonical_first h h.ext) (stored_of (files_from fs) (drop (length fs) starts)) (take (length fs) starts)
+      ≡ used_by (canonical_first h h.ext) fs (take (length fs) starts)
 
 least_first : (h : HeadFields) (x : Option Extension) → 64 ≤ canonical_end h x
 least_first h None = omega arith
 least_first h (Some x) = omega arith
 
-pub volume_laid : (h : HeadFields) (fs : List FileMeaning) (starts : List ℕ) → IsMeaning (Volume h (files_from fs)) → BeginsWithStarts LaysVolume (Volume h (files_from fs)) starts → VolumeLaid h fs starts
+pub volume_laid : (h : HeadFields) (fs : List FileMeaning) (starts : List ℕ) → IsMeaning (Volume h (files_from fs))
+    → BeginsWithStarts LaysVolume (Volume h (files_from fs)) starts → VolumeLaid h fs starts
 volume_laid h fs starts (k, few, b, small, d) (laid, more, whole, (own, inner, text, placed, lays)) =
     let files : FileMeanings = files_from fs in
     let first : ℕ = canonical_first h h.ext in
     let n : ℕ = length fs in
     let parts : parts_of files ≡ map part_of fs = ap (λ (xs : List FileMeaning). map part_of xs) (list_from fs) in
-    let follow : StartsFollow h.length first (map part_of fs) own = subst (λ (ps : List Part). StartsFollow h.length first ps own) parts placed.placement.follow in
+    let follow : StartsFollow h.length first (map part_of fs) own =
+    subst (λ (ps : List Part). StartsFollow h.length first ps own) parts placed.placement.follow in
     let count : length own ≡ n = follow_length h.length first (map part_of fs) own follow ∙ length-map fs part_of in
     let front : take n starts ≡ own = ap (take n) whole ∙ front_is n laid own inner more text count in
     let behind : drop n starts ≡ inner ++ more = ap (drop n) whole ∙ behind_is n laid own inner more text count in
     let reads = files_read (Stream k) h files b small d in
     let again = stream_again (MeansSection k) (sections_again k) in
-    let are : AreStored files (stored_of files (inner ++ more)) = files_made (Stream k) (stream_made (MeansSection k) (sections_made k)) h.file_system (length (drop d.extent.first b)) files d.files inner more reads d.meanings lays in
+    let are : AreStored files (stored_of files (inner ++ more)) = files_made (Stream k) (stream_made (MeansSection k) (sections_made k))
+    h.file_system (length (drop d.extent.first b)) files d.files inner more reads d.meanings lays in
     let same = (known (Stream k) again h files b small d (stored_of files (inner ++ more)) own are placed).again.parts in
     let used : used_size first (stored_of files (inner ++ more)) own ≡ used_by first fs own =
-    used_stored first (stored_of files (inner ++ more)) own ∙ ap (λ (ps : List Part). used_parts first ps own) (same ∙ parts) ∙ sym (used_files first fs own) in
+    used_stored first (stored_of files (inner ++ more)) own ∙ ap (λ (ps : List Part). used_parts first ps own) (same ∙ parts)
+    ∙ sym (used_files first fs own) in
     let f = first_is h h.ext in
     record {
-      enough = long n (length own) (length inner) (length more) (length laid) (length starts) count (ap length text ∙ length-append own inner) (ap length whole ∙ length-append laid more);
+      enough = long n (length own) (length inner) (length more) (length laid) (length starts) count
+          (ap length text ∙ length-append own inner) (ap length whole ∙ length-append laid more);
       placed = subst (λ (ss : List ℕ). ArePlaced h.length first fs ss) (sym front) (record {
         follow = follow;
         eighth = f.1;
@@ -105,9 +115,12 @@ volume_laid h fs starts (k, few, b, small, d) (laid, more, whole, (own, inner, t
     long n a b c l s p q r = omega arith
 
 -- what is written
-pub volume_text : (h : HeadFields) (fs : List FileMeaning) (starts : List ℕ) → VolumeLaid h fs starts → image_of (Volume h (files_from fs)) starts
-    ≡ canonical_head h ++ ((ext_pad (polarity_of h.attributes) h.ext (used_by (canonical_first h h.ext) fs (take (length fs) starts)) ++ replicate (canonical_first h h.ext - canonical_end h h.ext) (erased_byte (polarity_of h.attributes)))
-    ++ files_bytes (polarity_of h.attributes) h.length (canonical_first h h.ext) (stored_of (files_from fs) (drop (length fs) starts)) (take (length fs) starts))
+pub volume_text : (h : HeadFields) (fs : List FileMeaning) (starts : List ℕ) → VolumeLaid h fs starts
+    → image_of (Volume h (files_from fs)) starts
+    ≡ canonical_head h ++ ((ext_pad (polarity_of h.attributes) h.ext (used_by (canonical_first h h.ext) fs (take (length fs) starts))
+    ++ replicate (canonical_first h h.ext - canonical_end h h.ext) (erased_byte (polarity_of h.attributes)))
+    ++ files_bytes (polarity_of h.attributes) h.length (canonical_first h h.ext) (stored_of (files_from fs) (drop (length fs) starts))
+    (take (length fs) starts))
 volume_text h fs starts v =
     let n : ℕ = length fs in
     let p : Polarity = polarity_of h.attributes in
@@ -118,17 +131,21 @@ volume_text h fs starts v =
     ∙ ap (λ (u : ℕ). canonical_head h ++ (ext_pad p h.ext u ++ (fill ++ files))) v.used
     ∙ ap (λ (xs : List ℕ). canonical_head h ++ xs) (sym (append_assoc (ext_pad p h.ext (used_by first fs (take n starts))) fill files))
 
-pub volume_left : (h : HeadFields) (fs : List FileMeaning) → starts_in (Volume h (files_from fs)) ≡ length fs + starts_in_files (files_from fs)
+pub volume_left : (h : HeadFields) (fs : List FileMeaning)
+    → starts_in (Volume h (files_from fs)) ≡ length fs + starts_in_files (files_from fs)
 volume_left h fs = ap (λ (k : ℕ). k + starts_in_files (files_from fs)) (ap length (list_from fs))
 
 -- the same, of the view's meaning
-pub volume_is : (m : Meaning) (h : HeadFields) (fs : List FileMeaning) → m ≡ Volume (head_of m) (files_from fs) → h ≡ head_of m → m ≡ Volume h (files_from fs)
+pub volume_is : (m : Meaning) (h : HeadFields) (fs : List FileMeaning) → m ≡ Volume (head_of m) (files_from fs) → h ≡ head_of m
+    → m ≡ Volume h (files_from fs)
 volume_is m h fs e f = e ∙ ap (λ (x : HeadFields). Volume x (files_from fs)) (sym f)
 
-pub volume_seen : (m : Meaning) (h : HeadFields) (fs : List FileMeaning) (starts : List ℕ) → m ≡ Volume (head_of m) (files_from fs) → h ≡ head_of m → IsMeaning m → BeginsWithStarts LaysVolume m starts → VolumeLaid h fs starts
+pub volume_seen : (m : Meaning) (h : HeadFields) (fs : List FileMeaning) (starts : List ℕ) → m ≡ Volume (head_of m) (files_from fs)
+    → h ≡ head_of m → IsMeaning m → BeginsWithStarts LaysVolume m starts → VolumeLaid h fs starts
 volume_seen m h fs starts e f read laid =
     let is = volume_is m h fs e f in
     volume_laid h fs starts (subst IsMeaning is read) (subst (λ (x : Meaning). BeginsWithStarts LaysVolume x starts) is laid)
 
-pub files_same : (p q : Polarity) (n k e f : ℕ) (fs : FileMeanings) (xs ys ss ts : List ℕ) → p ≡ q → n ≡ k → e ≡ f → xs ≡ ys → ss ≡ ts → files_bytes p n e (stored_of fs xs) ss ≡ files_bytes q k f (stored_of fs ys) ts
+pub files_same : (p q : Polarity) (n k e f : ℕ) (fs : FileMeanings) (xs ys ss ts : List ℕ) → p ≡ q → n ≡ k → e ≡ f → xs ≡ ys → ss ≡ ts
+    → files_bytes p n e (stored_of fs xs) ss ≡ files_bytes q k f (stored_of fs ys) ts
 files_same p q n k e f fs xs ys ss ts a b c d g = rw (a, b, c, d, g) refl

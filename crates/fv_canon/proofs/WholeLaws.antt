@@ -1,9 +1,10 @@
 -- An image whose volumes are renewed, one after another.
-use Rattle.std.proofs.Common.{◌≡◌, ◌≢◌, ◌⊎◌, ◌≤◌, ◌<◌, ◌+◌, ◌-◌, ◌^◌, ℕ, zero, suc, List, [], ◌∷◌, ◌++◌, length, take, drop, get_or, refl, sym, ap}
-use Rattle.std.proofs.Common.{◌∙◌, subst, arith, inl, inr, append_assoc, length-append}
+use Rattle.std.proofs.Common.{◌≡◌, ◌≢◌, ◌⊎◌, ◌≤◌, ◌<◌, ◌+◌, ◌-◌, ◌^◌, ℕ, zero, suc, List, [], ◌∷◌, ◌++◌, length, take, drop, get_or, refl}
+use Rattle.std.proofs.Common.{sym, ap, ◌∙◌, subst, arith, inl, inr, append_assoc, length-append}
 use Rattle.std.specs.List.{AllByRecursion, Contains}
 use Rattle.std.proofs.lemmas.Bool.{cases_lt}
-use Rattle.std.proofs.lemmas.List.{drop_more, ext_get_or, get_or-drop, get_or-take, length-drop, length-take-le, take_more, take-append-drop}
+use Rattle.std.proofs.lemmas.List.{drop_more, ext_get_or, get_or-drop, get_or-take, length-drop, length-take-le, take_more}
+use Rattle.std.proofs.lemmas.List.{take-append-drop}
 use Rattle.std.proofs.Math.ListN.{drop_of_length-le}
 use Rattle.std.proofs.Math.Seq.{drop-append_seam, take-append_seam}
 use Rattle.fv_base.specs.Faults.{want_of_memory}
@@ -112,9 +113,11 @@ renews_more : (b ps bytes x image rest : List ℕ) (from p n : ℕ) → from ≤
     → RenewsFrom (p + n) b ps (bytes ++ (x ++ (image ++ rest))) → RenewsFrom from b (p ∷ ps) (bytes ++ (x ++ (image ++ rest)))
 renews_more b ps bytes x image rest from p n least v same long gap_long front_long image_long to more =
     let o : List ℕ = bytes ++ (x ++ (image ++ rest)) in
-    let gap : field from (p - from) o ≡ field from (p - from) b = field_joined bytes x (image ++ rest) from (p - from) long gap_long ∙ same in
+    let gap : field from (p - from) o ≡ field from (p - from) b =
+    field_joined bytes x (image ++ rest) from (p - from) long gap_long ∙ same in
     let flat : o ≡ (bytes ++ x) ++ (image ++ rest) = sym (append_assoc bytes x (image ++ rest)) in
-    let there : field p n o ≡ image = ap (λ (l : List ℕ). field p n l) flat ∙ field_joined (bytes ++ x) image rest p n front_long image_long in
+    let there : field p n o ≡ image =
+    ap (λ (l : List ℕ). field p n l) flat ∙ field_joined (bytes ++ x) image rest p n front_long image_long in
     (n, least, v, gap, subst (NormalisesTo (field p n b)) (sym there) to, more)
 
 -- ---- one volume
@@ -168,7 +171,8 @@ module _ {S : Type 0} (takes : S → List ℕ → S → Type 0) (laws : WalkLaws
 
   -- the next place, and what is left behind the volume that begins there
   pub next_of : {t : S} (i from : ℕ) → Puts takes s t b places i from → i < length places
-      → (from ≤ get_or places i 0) × ((n : ℕ) × VolumeAt b (get_or places i 0) n × FoundFrom (get_or places i 0 + n) b (drop (i + 1) places))
+      → (from ≤ get_or places i 0)
+      × ((n : ℕ) × VolumeAt b (get_or places i 0) n × FoundFrom (get_or places i 0 + n) b (drop (i + 1) places))
   next_of i from puts less =
       let p : ℕ = get_or places i 0 in
       let left : FoundFrom from b (p ∷ drop (i + 1) places) =
@@ -229,7 +233,8 @@ module _ {S : Type 0} (takes : S → List ℕ → S → Type 0) (laws : WalkLaws
 
   -- the volume that begins at the next place is refused
   pub puts_stops : {t : S} (i from n : ℕ) (own f : Fault) → Puts takes s t b places i from → i < length places
-      → VolumeAt b (get_or places i 0) n → Refuses (field (get_or places i 0) n b) own → f ≡ moved_fault (get_or places i 0) own.place.depth own
+      → VolumeAt b (get_or places i 0) n → Refuses (field (get_or places i 0) n b) own
+      → f ≡ moved_fault (get_or places i 0) own.place.depth own
       → FirstRefused b places f
   puts_stops i from n own f puts less volume refused is = record {
     before = take i places;

@@ -22,5 +22,6 @@ DataAligned (Free at len ∷ cells) = DataAligned cells
 -- in the image of a volume, whichever cells are read behind its header, the data of each file stand on their alignment
 abbrev pub ImagesAlign : Type 0
 ImagesAlign =
-    (m : Meaning) (image : List ℕ) (e : Extent) (cells : List CellForm) → IsMeaning m → IsImage m image → BeginsVolume (head_of m) e image
+    (m : Meaning) (image : List ℕ) (e : Extent) (cells : List CellForm) → IsMeaning m → IsImage m image
+    → BeginsVolume (head_of m) e image
     → Tiles e.file_system e.polarity e.first cells (drop e.first image) → DataAligned cells

@@ -19,7 +19,8 @@ use Rattle.fv_canon.specs.declared.side.Side.TheVariants as sides
 abbrev pub Compares : Meaning → Meaning → Option (List ℕ) → Option (List ℕ) → Bool → Type 0
 Compares m k held holds same = ((same ≡ true) ↔ (m ≡ k)) × Appends held holds (compare_line (difference m k))
 
--- memory was wanted before anything was written, which it is only where the two differ; or the writer stopped in the line
+-- memory was wanted before anything was written, which it is only where the two differ; or the
+-- writer stopped in the line
 abbrev pub ComparisonStops : Side → Meaning → Meaning → Option (List ℕ) → Option (List ℕ) → Fault → Type 0
 ComparisonStops sides.First m k held holds fault = Keeps held holds × (fault ≡ want_of_memory) × (m ≢ k)
 ComparisonStops sides.Second m k held holds fault = ⊥
@@ -37,20 +38,23 @@ VolumeStops input fault = (fault ≡ want_of_memory) ⊎ NotRead input fault
 
 -- an input stopped the run: while it was read, or behind its end
 abbrev pub InputSideStops : Option (List ℕ) → Option (List ℕ) → Fault → Type 0
-InputSideStops unread left fault = ReadStops unread left fault ⊎ ((input : List ℕ) × ReadsWhole unread left input × VolumeStops input fault)
+InputSideStops unread left fault =
+    ReadStops unread left fault ⊎ ((input : List ℕ) × ReadsWhole unread left input × VolumeStops input fault)
 
 -- both inputs were read, the answer is whether they mean the same, and the line was written
 abbrev pub RunCompares : (unread left unread' left' held holds : Option (List ℕ)) → Bool → Type 0
 RunCompares unread left unread' left' held holds same =
-    (m : Meaning) × (k : Meaning) × ReadsVolume unread left m × ReadsVolume unread' left' k × Compares m k held holds same
+    (m : Meaning) × (k : Meaning) × ReadsVolume unread left m × ReadsVolume unread' left' k
+    × Compares m k held holds same
 
--- the side tells what stopped the run. The second input is read only behind a first that is a volume, and nothing is written before
--- both are; then the line is, and the writer may stop in it
+-- the side tells what stopped the run. The second input is read only behind a first that is a volume, and nothing is
+-- written before both are; then the line is, and the writer may stop in it
 abbrev pub SideStopsRun : Side → (unread left unread' left' held holds : Option (List ℕ)) → Fault → Type 0
 SideStopsRun sides.First unread left unread' left' held holds fault =
     Keeps held holds
     × ((Keeps unread' left' × InputSideStops unread left fault)
-    ⊎ ((m : Meaning) × (k : Meaning) × ReadsVolume unread left m × ReadsVolume unread' left' k × (fault ≡ want_of_memory) × (m ≢ k)))
+    ⊎ ((m : Meaning) × (k : Meaning) × ReadsVolume unread left m × ReadsVolume unread' left' k
+    × (fault ≡ want_of_memory) × (m ≢ k)))
 SideStopsRun sides.Second unread left unread' left' held holds fault =
     Keeps held holds × ((m : Meaning) × ReadsVolume unread left m) × InputSideStops unread' left' fault
 SideStopsRun sides.Output unread left unread' left' held holds fault =

@@ -4,15 +4,17 @@ use Rattle.fv_base.specs.Flash.{erased_byte}
 use Rattle.fv_head.specs.Attributes.{polarity_of}
 use Rattle.fv_section.specs.Frames.{FrameForm, frame_len, up_to_4}
 use Rattle.fv_section.specs.SectionImage.{stream_of}
-use Rattle.fv_tree.specs.Meaning.{Meaning, Volume, FileMeanings, NoFiles, MoreFiles, FileMeaning, File, ContentMeaning, Plain, Sectioned, SectionMeanings, NoSections, MoreSections, SectionMeaning, Section, BodyMeaning, Leaf, Group, Nested}
+use Rattle.fv_tree.specs.Meaning.{Meaning, Volume, FileMeanings, NoFiles, MoreFiles, FileMeaning, File, ContentMeaning}
+use Rattle.fv_tree.specs.Meaning.{Plain, Sectioned, SectionMeanings, NoSections, MoreSections, SectionMeaning, Section}
+use Rattle.fv_tree.specs.Meaning.{BodyMeaning, Leaf, Group, Nested}
 use Rattle.fv_canon.specs.Layouts.{AreStarts}
 use Rattle.fv_canon.specs.Spans.{ShowsSpans}
 use Rattle.fv_canon.specs.Stored.{StoredFile, volume_spans}
 
--- the bytes are the canonical image of a volume of this meaning: with its files in their first placement, the head, the extended
--- header's pad, the files and the pads of the gaps stand where they have to, and every other byte is erased. The data of each file are
--- plain bytes, or its sections one after another, with zero bytes between them and behind the last; and the body of each volume inside
--- is its own image
+-- the bytes are the canonical image of a volume of this meaning: with its files in their first placement, the head, the
+-- extended header's pad, the files and the pads of the gaps stand where they have to, and every other byte is erased.
+-- The data of each file are plain bytes, or its sections one after another, with zero bytes between them and behind the
+-- last; and the body of each volume inside is its own image
 abbrev mutual
   pub IsImage : Meaning → List ℕ → Type 0
   IsImage (Volume h files) b =
@@ -25,21 +27,25 @@ abbrev mutual
   AreStored (MoreFiles f fs) (x ∷ xs) = IsStored f x × AreStored fs xs
 
   pub IsStored : FileMeaning → StoredFile → Type 0
-  IsStored (File name kind attributes content) x = (x.name ≡ name) × (x.kind ≡ kind) × (x.attributes ≡ attributes) × IsData content x.payload
+  IsStored (File name kind attributes content) x =
+      (x.name ≡ name) × (x.kind ≡ kind) × (x.attributes ≡ attributes) × IsData content x.payload
 
   pub IsData : ContentMeaning → List ℕ → Type 0
   IsData (Plain b) d = d ≡ b
-  IsData (Sectioned sections tail) d = (frames : List FrameForm) × AreFrames 0 sections frames × (d ≡ stream_of frames tail)
+  IsData (Sectioned sections tail) d =
+      (frames : List FrameForm) × AreFrames 0 sections frames × (d ≡ stream_of frames tail)
 
   pub AreFrames : ℕ → SectionMeanings → List FrameForm → Type 0
   AreFrames at NoSections frames = frames ≡ []
   AreFrames at (MoreSections s ss) [] = ⊥
-  AreFrames at (MoreSections s ss) (f ∷ fs) = (f.offset ≡ at) × IsFrame s f × AreFrames (up_to_4 (at + frame_len f)) ss fs
+  AreFrames at (MoreSections s ss) (f ∷ fs) =
+      (f.offset ≡ at) × IsFrame s f × AreFrames (up_to_4 (at + frame_len f)) ss fs
 
   pub IsFrame : SectionMeaning → FrameForm → Type 0
   IsFrame (Section kind extended body) f = (f.kind ≡ kind) × (f.extended ≡ extended) × IsBodyImage body f.body
 
   pub IsBodyImage : BodyMeaning → List ℕ → Type 0
   IsBodyImage (Leaf b) d = d ≡ b
-  IsBodyImage (Group sections tail) d = (frames : List FrameForm) × AreFrames 0 sections frames × (d ≡ stream_of frames tail)
+  IsBodyImage (Group sections tail) d =
+      (frames : List FrameForm) × AreFrames 0 sections frames × (d ≡ stream_of frames tail)
   IsBodyImage (Nested volume) d = IsImage volume d

@@ -3,7 +3,9 @@
 use Rattle.std.specs.Prelude.{ℕ, ◌+◌, List, [], ◌∷◌, length, take, drop}
 use Rattle.fv_section.specs.Frames.{FrameForm, frame_len, up_to_4}
 use Rattle.fv_section.specs.SectionImage.{stream_of}
-use Rattle.fv_tree.specs.Meaning.{Meaning, Volume, FileMeanings, NoFiles, MoreFiles, FileMeaning, File, ContentMeaning, Plain, Sectioned, SectionMeanings, NoSections, MoreSections, SectionMeaning, Section, BodyMeaning, Leaf, Group, Nested, files_list}
+use Rattle.fv_tree.specs.Meaning.{Meaning, Volume, FileMeanings, NoFiles, MoreFiles, FileMeaning, File, ContentMeaning}
+use Rattle.fv_tree.specs.Meaning.{Plain, Sectioned, SectionMeanings, NoSections, MoreSections, SectionMeaning, Section}
+use Rattle.fv_tree.specs.Meaning.{BodyMeaning, Leaf, Group, Nested, files_list}
 use Rattle.fv_canon.specs.Stored.{StoredFile}
 use Rattle.fv_canon.specs.StoredWalks.{volume_bytes}
 
@@ -39,14 +41,16 @@ abbrev mutual
 abbrev mutual
   pub image_of : Meaning → List ℕ → List ℕ
   image_of (Volume h files) starts =
-      volume_bytes h (stored_of files (drop (length (files_list files)) starts)) (take (length (files_list files)) starts)
+      volume_bytes h (stored_of files (drop (length (files_list files)) starts))
+      (take (length (files_list files)) starts)
 
   pub stored_of : FileMeanings → List ℕ → List StoredFile
   stored_of NoFiles starts = []
   stored_of (MoreFiles f fs) starts = stored_file f starts ∷ stored_of fs (drop (starts_in_file f) starts)
 
   pub stored_file : FileMeaning → List ℕ → StoredFile
-  stored_file (File name kind attributes content) starts = record { name = name; kind = kind; attributes = attributes; payload = data_of content starts }
+  stored_file (File name kind attributes content) starts =
+      record { name = name; kind = kind; attributes = attributes; payload = data_of content starts }
 
   pub data_of : ContentMeaning → List ℕ → List ℕ
   data_of (Plain b) starts = b
@@ -55,10 +59,12 @@ abbrev mutual
   pub frames_of : ℕ → SectionMeanings → List ℕ → List FrameForm
   frames_of at NoSections starts = []
   frames_of at (MoreSections s ss) starts =
-      frame_of at s starts ∷ frames_of (up_to_4 (at + frame_len (frame_of at s starts))) ss (drop (starts_in_section s) starts)
+      frame_of at s starts
+      ∷ frames_of (up_to_4 (at + frame_len (frame_of at s starts))) ss (drop (starts_in_section s) starts)
 
   pub frame_of : ℕ → SectionMeaning → List ℕ → FrameForm
-  frame_of at (Section kind extended body) starts = record { offset = at; kind = kind; extended = extended; body = body_image body starts }
+  frame_of at (Section kind extended body) starts =
+      record { offset = at; kind = kind; extended = extended; body = body_image body starts }
 
   pub body_image : BodyMeaning → List ℕ → List ℕ
   body_image (Leaf b) starts = b

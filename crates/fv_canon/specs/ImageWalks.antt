@@ -15,7 +15,8 @@ abbrev pub sections_bytes : ℕ → SectionMeanings → List ℕ → List ℕ
 sections_bytes gap NoSections starts = []
 sections_bytes gap (MoreSections s ss) starts =
     (replicate gap 0 ++ frame_bytes (frame_of 0 s starts))
-    ++ sections_bytes (up_to_4 (frame_len (frame_of 0 s starts)) - frame_len (frame_of 0 s starts)) ss (drop (starts_in_section s) starts)
+    ++ sections_bytes (up_to_4 (frame_len (frame_of 0 s starts)) - frame_len (frame_of 0 s starts)) ss
+    (drop (starts_in_section s) starts)
 
 -- the starts begin with those of this
 abbrev pub BeginsWithStarts : {M : Type 0} → (M → List ℕ → Type 0) → M → List ℕ → Type 0

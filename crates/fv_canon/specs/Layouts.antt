@@ -9,7 +9,10 @@ use Rattle.fv_base.specs.declared.fault.FaultKind.TheVariants as kinds
 use Rattle.fv_head.specs.Head.{HeadFields}
 use Rattle.fv_head.specs.ExtImage.{canonical_first}
 use Rattle.fv_tree.specs.Files.{top_name}
-use Rattle.fv_tree.specs.Meaning.{Meaning, Volume, FileMeanings, NoFiles, MoreFiles, FileMeaning, File, ContentMeaning, Plain, Sectioned, SectionMeanings, NoSections, MoreSections, SectionMeaning, Section, BodyMeaning, Leaf, Group, Nested, files_list, data_len_of, file_name_of, attributes_of}
+use Rattle.fv_tree.specs.Meaning.{Meaning, Volume, FileMeanings, NoFiles, MoreFiles, FileMeaning, File, ContentMeaning}
+use Rattle.fv_tree.specs.Meaning.{Plain, Sectioned, SectionMeanings, NoSections, MoreSections, SectionMeaning, Section}
+use Rattle.fv_tree.specs.Meaning.{BodyMeaning, Leaf, Group, Nested, files_list, data_len_of, file_name_of}
+use Rattle.fv_tree.specs.Meaning.{attributes_of}
 use Rattle.fv_canon.specs.Starts.{IsFirstPlacement, Placement, TopOff, HasNoRoom, IsLeast}
 use Rattle.fv_canon.specs.declared.place.Part.{Part}
 use Rattle.fv_canon.specs.Stored.{head_len_for, size_for}
@@ -37,11 +40,13 @@ AreStarts h files starts = IsFirstPlacement h.length (first_edge h) (parts_of fi
 -- the starts of a volume's own files, and then those of the volumes inside it, in preorder
 abbrev mutual
   pub LaysVolume : Meaning → List ℕ → Type 0
-  LaysVolume (Volume h files) starts = (own : List ℕ) × (inner : List ℕ) × (starts ≡ own ++ inner) × AreStarts h files own × LaysFiles files inner
+  LaysVolume (Volume h files) starts =
+      (own : List ℕ) × (inner : List ℕ) × (starts ≡ own ++ inner) × AreStarts h files own × LaysFiles files inner
 
   pub LaysFiles : FileMeanings → List ℕ → Type 0
   LaysFiles NoFiles starts = starts ≡ []
-  LaysFiles (MoreFiles f fs) starts = (here : List ℕ) × (behind : List ℕ) × (starts ≡ here ++ behind) × LaysFile f here × LaysFiles fs behind
+  LaysFiles (MoreFiles f fs) starts =
+      (here : List ℕ) × (behind : List ℕ) × (starts ≡ here ++ behind) × LaysFile f here × LaysFiles fs behind
 
   pub LaysFile : FileMeaning → List ℕ → Type 0
   LaysFile (File name kind attributes content) starts = LaysContent content starts
@@ -52,7 +57,8 @@ abbrev mutual
 
   pub LaysSections : SectionMeanings → List ℕ → Type 0
   LaysSections NoSections starts = starts ≡ []
-  LaysSections (MoreSections s ss) starts = (here : List ℕ) × (behind : List ℕ) × (starts ≡ here ++ behind) × LaysSection s here × LaysSections ss behind
+  LaysSections (MoreSections s ss) starts =
+      (here : List ℕ) × (behind : List ℕ) × (starts ≡ here ++ behind) × LaysSection s here × LaysSections ss behind
 
   pub LaysSection : SectionMeaning → List ℕ → Type 0
   LaysSection (Section kind extended body) starts = LaysBody body starts
@@ -94,8 +100,8 @@ abbrev mutual
 abbrev pub layout_fault : FaultKind → ℕ → Fault
 layout_fault kind depth = record { kind = kind; place = record { offset = 0; depth = depth } }
 
--- the first volume that does not fit, the outer one before those inside, and these in their order: the top file's start is not
--- aligned, or else the files cannot be placed
+-- the first volume that does not fit, the outer one before those inside, and these in their order: the top file's start
+-- is not aligned, or else the files cannot be placed
 abbrev mutual
   pub Unfit : Meaning → ℕ → Fault → Type 0
   Unfit (Volume h files) depth f =
@@ -135,7 +141,8 @@ abbrev mutual
 
   pub LeastFiles : FileMeanings → List ℕ → Type 0
   LeastFiles NoFiles starts = starts ≡ []
-  LeastFiles (MoreFiles f fs) starts = (here : List ℕ) × (behind : List ℕ) × (starts ≡ here ++ behind) × LeastFile f here × LeastFiles fs behind
+  LeastFiles (MoreFiles f fs) starts =
+      (here : List ℕ) × (behind : List ℕ) × (starts ≡ here ++ behind) × LeastFile f here × LeastFiles fs behind
 
   pub LeastFile : FileMeaning → List ℕ → Type 0
   LeastFile (File name kind attributes content) starts = LeastContent content starts
@@ -146,7 +153,8 @@ abbrev mutual
 
   pub LeastSections : SectionMeanings → List ℕ → Type 0
   LeastSections NoSections starts = starts ≡ []
-  LeastSections (MoreSections s ss) starts = (here : List ℕ) × (behind : List ℕ) × (starts ≡ here ++ behind) × LeastSection s here × LeastSections ss behind
+  LeastSections (MoreSections s ss) starts =
+      (here : List ℕ) × (behind : List ℕ) × (starts ≡ here ++ behind) × LeastSection s here × LeastSections ss behind
 
   pub LeastSection : SectionMeaning → List ℕ → Type 0
   LeastSection (Section kind extended body) starts = LeastBody body starts

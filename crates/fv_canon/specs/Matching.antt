@@ -6,8 +6,8 @@ use Rattle.std.specs.Prelude.{◌≡◌, ℕ, List, ◌++◌, Bool, true, false}
 abbrev pub IsNoFront : List ℕ → List ℕ → Type 0
 IsNoFront s bytes = (more : List ℕ) → s ≡ bytes ++ more → ⊥
 
--- from bytes that were the same so far, the bytes that come are taken off the front; or no front is they, and then nothing more is
--- compared
+-- from bytes that were the same so far, the bytes that come are taken off the front; or no front is they, and then
+-- nothing more is compared
 abbrev pub MatchLatched : List ℕ → Bool → List ℕ → List ℕ → Bool → Type 0
 MatchLatched s true bytes t true = s ≡ bytes ++ t
 MatchLatched s true bytes t false = IsNoFront s bytes

@@ -26,4 +26,5 @@ abbrev pub OneImage : Type 0
 OneImage = (m : Meaning) (image other : List ℕ) → IsImage m image → IsImage m other → image ≡ other
 
 abbrev pub OneMeaning : Type 0
-OneMeaning = (m other : Meaning) (image : List ℕ) → IsMeaning m → IsMeaning other → IsImage m image → IsImage other image → other ≡ m
+OneMeaning = (m other : Meaning) (image : List ℕ) → IsMeaning m → IsMeaning other → IsImage m image
+    → IsImage other image → other ≡ m

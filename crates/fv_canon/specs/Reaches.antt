@@ -21,7 +21,8 @@ pub record CanPlace (total e : ℕ) (fs : List Part) : Type 0 where
 
 -- with the greatest start that serves, and whether the starts 8 and 16 below it serve: the files can be placed after e
 abbrev pub Reaches : Reach → ℕ → Type 0
-Reaches r e = ((e + 24 ≤ r.greatest) ⊎ (e ≡ r.greatest)) ⊎ (((e + 8 ≡ r.greatest) × IsTrue r.near) ⊎ ((e + 16 ≡ r.greatest) × IsTrue r.far))
+Reaches r e = ((e + 24 ≤ r.greatest) ⊎ (e ≡ r.greatest))
+    ⊎ (((e + 8 ≡ r.greatest) × IsTrue r.near) ⊎ ((e + 16 ≡ r.greatest) × IsTrue r.far))
 
 -- the reach tells after which edges the files can be placed
 pub record IsReach (total : ℕ) (fs : List Part) (r : Reach) : Type 0 where
@@ -47,8 +48,10 @@ pub record IsFirstStart (total e : ℕ) (f : Part) (r : Reach) (s : ℕ) : Type 
 pub record IsGreatest (total : ℕ) (f : Part) (behind : Reach) (r : Reach) : Type 0 where
   pub serves : Serves total f behind r.greatest
   pub most : (t : ℕ) → Serves total f behind t → t ≤ r.greatest
-  pub near : (t : ℕ) → t + 8 ≡ r.greatest → (IsTrue r.near → Serves total f behind t) × (Serves total f behind t → IsTrue r.near)
-  pub far : (t : ℕ) → t + 16 ≡ r.greatest → (IsTrue r.far → Serves total f behind t) × (Serves total f behind t → IsTrue r.far)
+  pub near : (t : ℕ) → t + 8 ≡ r.greatest
+      → (IsTrue r.near → Serves total f behind t) × (Serves total f behind t → IsTrue r.near)
+  pub far : (t : ℕ) → t + 16 ≡ r.greatest
+      → (IsTrue r.far → Serves total f behind t) × (Serves total f behind t → IsTrue r.far)
 
 -- item k of the list is the reach of the last k files
 pub record AreReaches (total : ℕ) (fs : List Part) (found : List Reach) : Type 0 where

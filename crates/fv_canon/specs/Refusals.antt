@@ -8,12 +8,13 @@ use Rattle.fv_tree.specs.FirstFault.{IsFirstOfVolume}
 use Rattle.fv_tree.specs.Meaning.{Meaning, length_of}
 use Rattle.fv_canon.specs.Layouts.{Unfit}
 
--- the first fault of a whole input: that of the volume which it is to begin with, or Length at that volume's end where more bytes stand
--- behind it
+-- the first fault of a whole input: that of the volume which it is to begin with, or Length at that volume's end where
+-- more bytes stand behind it
 abbrev pub IsFirstOfInput : List ℕ → Fault → Type 0
 IsFirstOfInput input f =
     IsFirstOfVolume input f
-    ⊎ ((m : Meaning) × Accepted (take (length_of m) input) m × (length_of m < length input) × (f ≡ outer_fault kinds.Length (length_of m)))
+    ⊎ ((m : Meaning) × Accepted (take (length_of m) input) m × (length_of m < length input)
+    × (f ≡ outer_fault kinds.Length (length_of m)))
 
 -- an input is no volume, and this is its first fault
 pub record NotRead (input : List ℕ) (f : Fault) : Type 0 where

@@ -1,10 +1,11 @@
--- Where the files of a volume may stand: lawful starts, placements, the first placement, and the least starts (PI specification,
--- volume 3, section 3.2.3.1, for the alignment of data and the pads between files).
+-- Where the files of a volume may stand: lawful starts, placements, the first placement, and the least starts (PI
+-- specification, volume 3, section 3.2.3.1, for the alignment of data and the pads between files).
 use Rattle.std.specs.Prelude.{◌≡◌, ◌≢◌, ℕ, ◌+◌, ◌-◌, ◌%◌, ◌≤◌, ◌⊎◌, List, [], ◌∷◌, take, get_or, IsTrue, MatchBool}
 use Rattle.fv_base.specs.Value.{up_to_8}
 use Rattle.fv_canon.specs.declared.place.Part.{Part}
 
--- a start that a file may have after the edge e: a multiple of 8, at the edge or with room for a pad before it, its data aligned
+-- a start that a file may have after the edge e: a multiple of 8, at the edge or with room for a pad
+-- before it, its data aligned
 pub record Lawful (e : ℕ) (f : Part) (s : ℕ) : Type 0 where
   pub eighth : s % 8 ≡ 0
   pub apart : (s ≡ e) ⊎ (e + 24 ≤ s)
@@ -31,7 +32,8 @@ pub record Placement (total first : ℕ) (fs : List Part) (starts : List ℕ) : 
 -- the first placement: each start is the least that any placement with the same starts before it has there
 pub record IsFirstPlacement (total first : ℕ) (fs : List Part) (starts : List ℕ) : Type 0 where
   pub placement : Placement total first fs starts
-  pub least : (others : List ℕ) (i : ℕ) → Placement total first fs others → take i others ≡ take i starts → get_or starts i 0 ≤ get_or others i 0
+  pub least : (others : List ℕ) (i : ℕ) → Placement total first fs others → take i others ≡ take i starts
+      → get_or starts i 0 ≤ get_or others i 0
 
 -- the least start that is lawful after an edge, or for the volume top file the one that ends at the end
 abbrev pub IsLeastStart : ℕ → ℕ → Part → ℕ → Type 0

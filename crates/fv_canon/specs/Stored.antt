@@ -1,5 +1,7 @@
--- A volume whose files' data are known, as the canonical image has it (PI specification, volume 3, sections 3.2.1 to 3.2.3).
-use Rattle.std.specs.Prelude.{◌≡◌, ◌≤◌, ◌<◌, ◌%◌, ℕ, ◌+◌, ◌-◌, ◌/◌, ◌==◌, zero, suc, if◌then◌else◌, List, [], ◌∷◌, ◌++◌, length, replicate, sum, Option, None, Some}
+-- A volume whose files' data are known, as the canonical image has it (PI specification, volume 3,
+-- sections 3.2.1 to 3.2.3).
+use Rattle.std.specs.Prelude.{◌≡◌, ◌≤◌, ◌<◌, ◌%◌, ℕ, ◌+◌, ◌-◌, ◌/◌, ◌==◌, zero, suc, if◌then◌else◌, List, [], ◌∷◌, ◌++◌}
+use Rattle.std.specs.Prelude.{length, replicate, sum, Option, None, Some}
 use Rattle.fv_base.specs.Flash.{erased_byte}
 use Rattle.fv_base.specs.Value.{up_to_8}
 use Rattle.fv_base.specs.declared.flash.Polarity.{Polarity}
@@ -21,7 +23,8 @@ pub record StoredFile : Type 0 where
   pub attributes : ℕ
   pub payload : List ℕ
 
--- the bytes of the header, which is large where with a short one the size would pass FFFFFF, and those of the whole file
+-- the bytes of the header, which is large where with a short one the size would pass FFFFFF,
+-- and those of the whole file
 abbrev pub head_len_for : ℕ → ℕ
 head_len_for data_len = file_header_len (needs_large data_len)
 
@@ -38,7 +41,8 @@ file_sum_for attributes payload = if is_summed attributes then complement (sum p
 -- header and data
 unfoldable pub stored_bytes : Polarity → StoredFile → List ℕ
 stored_bytes polarity f =
-    file_head_of f.name f.kind (record { 0 = f.attributes }) (length f.payload) (file_sum_for f.attributes f.payload) polarity ++ f.payload
+    file_head_of f.name f.kind (record { 0 = f.attributes }) (length f.payload)
+    (file_sum_for f.attributes f.payload) polarity ++ f.payload
 
 -- a pad: its header, and erased bytes
 unfoldable pub pad_bytes : Polarity → ℕ → List ℕ
@@ -84,13 +88,18 @@ file_spans polarity e (f ∷ fs) (s ∷ ss) =
 abbrev pub volume_spans : HeadFields → List StoredFile → List ℕ → List Span
 volume_spans h files starts =
     record { at = 0; bytes = canonical_head h }
-    ∷ record { at = head_len_of h; bytes = ext_pad (polarity_of h.attributes) h.ext (used_size (canonical_first h h.ext) files starts) }
+    ∷ record {
+      at = head_len_of h;
+      bytes = ext_pad (polarity_of h.attributes) h.ext (used_size (canonical_first h h.ext) files starts);
+    }
     ∷ file_spans (polarity_of h.attributes) (canonical_first h h.ext) files starts
 
 -- ---- the same, part by part, as a walk writes it
 
--- the rule of the pads of a gap: one pad where it fits, else the greatest pad first, and so on, the last of at least 256 bytes
+-- the rule of the pads of a gap: one pad where it fits, else the greatest pad first, and so on, the
+-- last of at least 256 bytes
 abbrev pub PadsRule : Type 0
 PadsRule =
     (gap : ℕ) → 24 ≤ gap → gap % 8 ≡ 0
-    → (gap ≤ 0xfffff8 → long_pads gap ≡ 0) × (0xfffff8 < gap → (long_pads gap ≡ suc (long_pads (gap - long_pad))) × (256 ≤ gap - long_pad))
+    → (gap ≤ 0xfffff8 → long_pads gap ≡ 0)
+    × (0xfffff8 < gap → (long_pads gap ≡ suc (long_pads (gap - long_pad))) × (256 ≤ gap - long_pad))

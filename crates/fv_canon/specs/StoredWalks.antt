@@ -37,7 +37,8 @@ files_bytes polarity total e (f ∷ fs) [] = replicate (total - e) (erased_byte 
 files_bytes polarity total e (f ∷ fs) (s ∷ ss) =
     gap_bytes polarity (s - e)
     ++ (stored_bytes polarity f
-    ++ (replicate (up_to_8 (s + stored_len f) - (s + stored_len f)) (erased_byte polarity) ++ files_bytes polarity total (up_to_8 (s + stored_len f)) fs ss))
+    ++ (replicate (up_to_8 (s + stored_len f) - (s + stored_len f)) (erased_byte polarity)
+    ++ files_bytes polarity total (up_to_8 (s + stored_len f)) fs ss))
 
 -- the head, the extended header's pad, erased bytes to the first edge, and the files
 abbrev pub volume_bytes : HeadFields → List StoredFile → List ℕ → List ℕ

@@ -15,8 +15,8 @@ use Rattle.fv_canon.specs.Refusals.{Refuses}
 abbrev pub IsRenewed : List ℕ → List ℕ → ℕ → Type 0
 IsRenewed b o p = (n : ℕ) × VolumeAt b p n × NormalisesTo (field p n b) (field p n o)
 
--- o is as long as b, at each of the places it has the canonical image of the volume that begins there in b, and every byte in none of
--- these volumes is that of b
+-- o is as long as b, at each of the places it has the canonical image of the volume that begins there in b, and every
+-- byte in none of these volumes is that of b
 pub record Renewed (b places o : List ℕ) : Type 0 where
   pub length_is : length o ≡ length b
   pub volumes : AllByRecursion (IsRenewed b o) places
@@ -30,8 +30,8 @@ NormalisesAll b o = (length b ≤ volume_limit) × (places : List ℕ) × Found 
 abbrev pub HasImageAt : List ℕ → ℕ → Type 0
 HasImageAt b p = (n : ℕ) × (image : List ℕ) × VolumeAt b p n × NormalisesTo (field p n b) image
 
--- the volume at one of the places is refused, and those at the places before it have canonical images; the fault is that of the
--- volume, counted from the first byte of b
+-- the volume at one of the places is refused, and those at the places before it have canonical images; the fault is
+-- that of the volume, counted from the first byte of b
 pub record FirstRefused (b places : List ℕ) (fault : Fault) : Type 0 where
   pub before : List ℕ
   pub place : ℕ

@@ -1,5 +1,5 @@
-//! What canonical images promise, as laws over the definitions. None of these calls does anything: their contracts are what
-//! is proved.
+//! What canonical images promise, as laws over the definitions. None of these calls does anything: their
+//! contracts are what is proved.
 
 ghost use Rattle.std.specs.Prelude.{◌↔◌, ◌≡◌, List, ℕ};
 ghost use Rattle.fv_base.specs.declared.fault.Fault.{Fault};

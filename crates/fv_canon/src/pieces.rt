@@ -33,7 +33,8 @@ pub(crate) fn filler_of(section: &SectionView<'_>) -> u64
 // Puts the header of a section.
 pub(crate) fn put_section_head<S: Sink>(out: &mut S, section: &SectionView<'_>)
     requires { FitsForm (section_is_extended section.now) (body_len (body_of section.now)) }
-    ensures { S.takes out.old (section_head_of (section_kind_of section.now) (section_is_extended section.now) (body_len (body_of section.now))) out.new }
+    ensures { S.takes out.old (section_head_of (section_kind_of section.now) (section_is_extended section.now)
+        (body_len (body_of section.now))) out.new }
 {
     out.put(section_head_bytes(section.kind(), section.extended(), section.body_len()).as_slice());
 }
@@ -77,7 +78,8 @@ pub(crate) fn size_for(data_len: u64) -> u64
 // Puts the header of a file with this file sum.
 pub(crate) fn put_file_head<S: Sink>(out: &mut S, file: &FileView<'_>, sum: u8, polarity: Polarity)
     requires most { data_len_of file.now ≤ 268435424 }
-    ensures { S.takes out.old (file_head_of (file_name_of file.now) (file_kind_of file.now) (record { 0 = attributes_of file.now }) (data_len_of file.now) sum polarity) out.new }
+    ensures { S.takes out.old (file_head_of (file_name_of file.now) (file_kind_of file.now)
+        (record { 0 = attributes_of file.now }) (data_len_of file.now) sum polarity) out.new }
 {
     let name = file.name();
     let head = file_head_bytes(
@@ -93,7 +95,9 @@ pub(crate) fn put_file_head<S: Sink>(out: &mut S, file: &FileView<'_>, sum: u8, 
 
 // Puts the pad behind the head that holds the extended header, if there is one, and erased bytes to the first edge.
 pub(crate) fn put_ext_pad<S: Sink>(out: &mut S, head: &VolumeHead, used: u32)
-    ensures { S.takes out.old (ext_pad (polarity_of head.now.attributes) head.now.ext used ++ replicate (canonical_first head.now head.now.ext - canonical_end head.now head.now.ext) (erased_byte (polarity_of head.now.attributes))) out.new }
+    ensures { S.takes out.old (ext_pad (polarity_of head.now.attributes) head.now.ext used
+        ++ replicate (canonical_first head.now head.now.ext - canonical_end head.now head.now.ext)
+        (erased_byte (polarity_of head.now.attributes))) out.new }
 {
     let polarity = head.attributes().polarity();
     let header = u64::from(head.header_len());

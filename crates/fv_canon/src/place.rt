@@ -1,13 +1,15 @@
 //! Where the files of a volume stand.
 
-ghost use Rattle.std.specs.Prelude.{◌≡◌, ℕ, ◌+◌, ◌-◌, ◌*◌, ◌/◌, ◌%◌, ◌^◌, ◌<◌, ◌≤◌, IfOk, IfErr, IfSome, IfNone, List, IsTrue, ◌↔◌, All, get_or, drop, length, vec_len};
+ghost use Rattle.std.specs.Prelude.{◌≡◌, ℕ, ◌+◌, ◌-◌, ◌*◌, ◌/◌, ◌%◌, ◌^◌, ◌<◌, ◌≤◌, IfOk, IfErr, IfSome, IfNone, List};
+ghost use Rattle.std.specs.Prelude.{IsTrue, ◌↔◌, All, get_or, drop, length, vec_len};
 ghost use Rattle.fv_base.specs.Alignment.{IsAlignment};
 ghost use Rattle.fv_base.specs.Faults.{want_of_memory};
 ghost use Rattle.fv_base.specs.Limits.{volume_limit};
 ghost use Rattle.fv_base.specs.Value.{up_to_8};
-ghost use Rattle.fv_canon.specs.Reaches.{Widens, Reaches, Serves, IsFirstStart, IsGreatest, IsReach, CanPlace, AreReaches};
-ghost use Rattle.fv_canon.specs.Reaches.{IsLawfulPart};
-ghost use Rattle.fv_canon.specs.Starts.{Lawful, StandsInVolume, Placement, IsLeast, IsLeastStart, IsFirstPlacement, IsOff, TopOff};
+ghost use Rattle.fv_canon.specs.Reaches.{Widens, Reaches, Serves, IsFirstStart, IsGreatest, IsReach, CanPlace};
+ghost use Rattle.fv_canon.specs.Reaches.{AreReaches, IsLawfulPart};
+ghost use Rattle.fv_canon.specs.Starts.{Lawful, StandsInVolume, Placement, IsLeast, IsLeastStart, IsFirstPlacement};
+ghost use Rattle.fv_canon.specs.Starts.{IsOff, TopOff};
 ghost use Rattle.fv_canon.specs.declared.place.Part.{Part};
 
 use fv_base::Fault;
@@ -124,7 +126,8 @@ fn greatest_start(total: u64, part: &Part, behind: Reach) -> Option<u64>
     requires total { (total ≤ volume_limit) × (total % 8 ≡ 0) }
     requires part { IsLawfulPart total part.now }
     requires behind { (behind.greatest ≤ total) × (behind.greatest % 8 ≡ 0) }
-    ensures found { IfSome result (λ s. Serves total part.now behind s × ((t : ℕ) → Serves total part.now behind t → t ≤ s)) }
+    ensures found { IfSome result
+        (λ s. Serves total part.now behind s × ((t : ℕ) → Serves total part.now behind t → t ≤ s)) }
     ensures none { IfNone result ((s : ℕ) → Serves total part.now behind s → ⊥) }
 {
     if part.top {
@@ -179,7 +182,8 @@ fn serves_below(total: u64, part: &Part, behind: Reach, greatest: u64, by: u64) 
     requires total { total ≤ volume_limit }
     requires part { IsLawfulPart total part.now }
     requires greatest { greatest < 2 ^ 61 }
-    ensures { (t : ℕ) → t + by ≡ greatest → (IsTrue result → Serves total part.now behind t) × (Serves total part.now behind t → IsTrue result) }
+    ensures { (t : ℕ) → t + by ≡ greatest
+        → (IsTrue result → Serves total part.now behind t) × (Serves total part.now behind t → IsTrue result) }
 {
     by <= greatest && serves(total, part, behind, greatest - by)
 }

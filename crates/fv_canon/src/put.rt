@@ -5,7 +5,8 @@ ghost use Rattle.fv_section.specs.SectionImage.{stream_of};
 ghost use Rattle.fv_tree.specs.Meaning.{files_from, data_len_of, sections_from};
 ghost use Rattle.fv_tree.specs.Views.{body_view, content_view};
 ghost use Rattle.fv_canon.specs.ImageOf.{image_of, stored_of, stored_file, data_of, frames_of, body_image};
-ghost use Rattle.fv_canon.specs.ImageOf.{starts_in, starts_in_files, starts_in_file, starts_in_content, starts_in_sections, starts_in_body};
+ghost use Rattle.fv_canon.specs.ImageOf.{starts_in, starts_in_files, starts_in_file, starts_in_content};
+ghost use Rattle.fv_canon.specs.ImageOf.{starts_in_sections, starts_in_body};
 ghost use Rattle.fv_canon.specs.Layouts.{LaysVolume, LaysFiles, LaysFile, LaysContent, LaysSections, LaysBody};
 ghost use Rattle.fv_canon.specs.Stored.{stored_bytes, size_for};
 ghost use Rattle.fv_canon.specs.StoredWalks.{files_bytes};
@@ -112,7 +113,8 @@ fn put_files<'s, S: Sink>(
 ) -> &'s [u64]
     requires placed { ArePlaced total first files.now own.now }
     requires laid { BeginsWithStarts LaysFiles (files_from files.now) starts.now }
-    ensures bytes { S.takes out.old (files_bytes polarity total first (stored_of (files_from files.now) starts.now) own.now) out.new }
+    ensures bytes { S.takes out.old
+        (files_bytes polarity total first (stored_of (files_from files.now) starts.now) own.now) out.new }
     ensures rest { result.now ≡ drop (starts_in_files (files_from files.now)) starts.now }
 {
     let mut edge = first;

@@ -28,7 +28,8 @@ pub fn whole_volume(alloc: Global, input: &[u8]) -> Result<VolumeView<'_>, Fault
     ensures found { IfOk result (λ view. Accepted input.now view) }
     ensures only { IfOk result (λ view. (m : Meaning) → Accepted input.now m → m ≡ view) }
     ensures refused { IfErr result (λ f. (f ≡ want_of_memory) ⊎ NotRead input.now f) }
-    ensures memory { IfErr result (λ f. f ≡ want_of_memory → (h : HeadFields) × (e : Extent) × BeginsVolume h e input.now) }
+    ensures memory { IfErr result
+        (λ f. f ≡ want_of_memory → (h : HeadFields) × (e : Extent) × BeginsVolume h e input.now) }
     ensures kind { IfErr result (λ f. (f.kind ≢ FaultKind.ReadFault) × (f.kind ≢ FaultKind.WriteFault)) }
 {
     let (view, length) = read_volume(alloc, input)?;
@@ -54,7 +55,8 @@ pub fn normalise(alloc: Global, input: &[u8]) -> Result<ByteList, Fault>
     ensures fits { (image : List ℕ) → NormalisesTo input.now image → IfErr result (λ f. f ≡ want_of_memory) }
 
     // Memory is wanted only where the input begins with the header of a volume.
-    ensures memory { IfErr result (λ f. f ≡ want_of_memory → (h : HeadFields) × (e : Extent) × BeginsVolume h e input.now) }
+    ensures memory { IfErr result
+        (λ f. f ≡ want_of_memory → (h : HeadFields) × (e : Extent) × BeginsVolume h e input.now) }
 {
     let view = whole_volume(alloc, input)?;
     canonical(alloc, &view)
@@ -73,8 +75,10 @@ pub fn write_normalised<W: Write>(
     input: &[u8],
     writer: &mut Port<W>,
 ) -> Result<(), Fault>
-    ensures ok { OnOk result (InputWrites input.now (W.contents (inner_of writer.old)) (W.contents (inner_of writer.new))) }
-    ensures err { IfErr result (InputStops input.now (W.contents (inner_of writer.old)) (W.contents (inner_of writer.new))) }
+    ensures ok { OnOk result
+        (InputWrites input.now (W.contents (inner_of writer.old)) (W.contents (inner_of writer.new))) }
+    ensures err { IfErr result
+        (InputStops input.now (W.contents (inner_of writer.old)) (W.contents (inner_of writer.new))) }
     ensures read { IfErr result (λ f. f.kind ≢ FaultKind.ReadFault) }
     ensures erred { IfErr result (λ f. f.kind ≡ FaultKind.WriteFault → has_erred writer.new ≡ true) }
 {
@@ -102,7 +106,8 @@ pub fn run_normalise<R: Read, W: Write>(
         (W.contents (inner_of writer.old)) (W.contents (inner_of writer.new))) }
 
     // A fault of the reader or the writer comes only where its port has erred.
-    ensures reader_erred { has_erred reader.old ≡ false → IfErr result (λ f. f.kind ≡ FaultKind.ReadFault → has_erred reader.new ≡ true) }
+    ensures reader_erred { has_erred reader.old ≡ false
+        → IfErr result (λ f. f.kind ≡ FaultKind.ReadFault → has_erred reader.new ≡ true) }
     ensures writer_erred { IfErr result (λ f. f.kind ≡ FaultKind.WriteFault → has_erred writer.new ≡ true) }
 {
     let input = read_input(alloc, reader)?;

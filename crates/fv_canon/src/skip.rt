@@ -3,7 +3,8 @@
 ghost use Rattle.std.specs.Prelude.{◌≡◌, drop};
 ghost use Rattle.fv_tree.specs.Meaning.{files_from, sections_from};
 ghost use Rattle.fv_tree.specs.Views.{body_view, content_view};
-ghost use Rattle.fv_canon.specs.ImageOf.{starts_in, starts_in_files, starts_in_content, starts_in_sections, starts_in_body};
+ghost use Rattle.fv_canon.specs.ImageOf.{starts_in, starts_in_files, starts_in_content, starts_in_sections};
+ghost use Rattle.fv_canon.specs.ImageOf.{starts_in_body};
 ghost use Rattle.fv_canon.specs.Layouts.{LaysVolume, LaysFiles, LaysContent, LaysSections, LaysBody};
 ghost use Rattle.fv_canon.specs.ImageWalks.{BeginsWithStarts};
 

@@ -5,7 +5,8 @@ ghost use Rattle.fv_section.specs.SectionImage.{stream_of};
 ghost use Rattle.fv_tree.specs.Meaning.{files_from, attributes_of, content_of, data_len_of, sections_from};
 ghost use Rattle.fv_tree.specs.Views.{body_view, content_view};
 ghost use Rattle.fv_canon.specs.ImageOf.{image_of, stored_of, stored_file, data_of, frames_of, body_image};
-ghost use Rattle.fv_canon.specs.ImageOf.{starts_in, starts_in_files, starts_in_file, starts_in_content, starts_in_sections, starts_in_body};
+ghost use Rattle.fv_canon.specs.ImageOf.{starts_in, starts_in_files, starts_in_file, starts_in_content};
+ghost use Rattle.fv_canon.specs.ImageOf.{starts_in_sections, starts_in_body};
 ghost use Rattle.fv_canon.specs.Layouts.{LaysVolume, LaysFiles, LaysFile, LaysContent, LaysSections, LaysBody};
 ghost use Rattle.fv_canon.specs.Stored.{file_sum_for, stored_bytes, size_for};
 ghost use Rattle.fv_canon.specs.StoredWalks.{files_bytes};
@@ -61,7 +62,8 @@ pub(crate) fn file_sum(file: &FileView<'_>, starts: &[u64]) -> u8
     complement(sum.total)
 }
 
-// The sums of what the walk puts, without the data of a file that has the checksum attribute: such a file adds its State alone.
+// The sums of what the walk puts, without the data of a file that has the checksum attribute: such a
+// file adds its State alone.
 #[cycle(sum)]
 fn sum_sections<'s>(
     out: &mut SumSink,
@@ -70,7 +72,8 @@ fn sum_sections<'s>(
     starts: &'s [u64],
 ) -> &'s [u64]
     requires laid { BeginsWithStarts LaysSections (sections_from sections.now) starts.now }
-    ensures bytes { AddsUp (λ s. s.total) out.old (stream_of (frames_of 0 (sections_from sections.now) starts.now) tail) out.new }
+    ensures bytes { AddsUp (λ s. s.total) out.old
+        (stream_of (frames_of 0 (sections_from sections.now) starts.now) tail) out.new }
     ensures rest { result.now ≡ drop (starts_in_sections (sections_from sections.now)) starts.now }
 {
     let mut gap = 0;
@@ -152,7 +155,8 @@ fn sum_files<'s>(
 ) -> &'s [u64]
     requires placed { ArePlaced total first files.now own.now }
     requires laid { BeginsWithStarts LaysFiles (files_from files.now) starts.now }
-    ensures bytes { AddsUp (λ s. s.total) out.old (files_bytes polarity total first (stored_of (files_from files.now) starts.now) own.now) out.new }
+    ensures bytes { AddsUp (λ s. s.total) out.old
+        (files_bytes polarity total first (stored_of (files_from files.now) starts.now) own.now) out.new }
     ensures rest { result.now ≡ drop (starts_in_files (files_from files.now)) starts.now }
 {
     let mut edge = first;

@@ -49,7 +49,8 @@ fn volume_at(image: &[u8], start: usize) -> &[u8]
 // A fault of a volume that begins at this place of an image, as one of the image. Want of memory has no place.
 fn placed(fault: Fault, start: u64) -> Fault
     requires { start + fault.place.offset < 2 ^ 64 }
-    ensures { result ≢ want_of_memory → (fault ≢ want_of_memory) × (result ≡ moved_fault start fault.place.depth fault) }
+    ensures { result ≢ want_of_memory
+        → (fault ≢ want_of_memory) × (result ≡ moved_fault start fault.place.depth fault) }
 {
     if matches!(fault.kind, FaultKind::OutOfMemory) {
         return Fault::outer(FaultKind::OutOfMemory, 0);

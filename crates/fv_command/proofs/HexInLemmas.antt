@@ -52,7 +52,8 @@ taken before text waiting all digits kept left held holds was_long is_long h add
   many_more false bytes more were are = are refl
 
 -- the pairs of the digits that waited and of the next piece are spoilt
-pub taken_wrong : (before text waiting all digits kept held : List ℕ) (was_long : Bool) → HoldsDigits was_long held waiting (squeezed before)
+pub taken_wrong : (before text waiting all digits kept held : List ℕ) (was_long : Bool)
+    → HoldsDigits was_long held waiting (squeezed before)
     → IsSpoilt digits → all ≡ waiting ++ squeezed text → all ≡ digits ++ kept → IsSpoilt (squeezed (before ++ text))
 taken_wrong before text waiting all digits kept held was_long h spoilt joined split =
     subst IsSpoilt (sym (joins before text waiting all digits kept h.front h.joined joined split))

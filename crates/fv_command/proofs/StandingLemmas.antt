@@ -21,18 +21,24 @@ within : (base n : ℕ) (s : Span) → Fits base n s → IsWithin base n s
 within base n s f = (f.above, omega (arith, f.above, f.long, f.behind))
 
 part_len : (image : List ℕ) (base : ℕ) (s : Span) → Fits base (length image) s → length (bytes_in_span image base s) ≡ s.length
-part_len image base s f = length-take-le s.length (drop (s.base - base) image) (omega (arith, f.above, f.long, f.behind, length-drop (s.base - base) image))
+part_len image base s f =
+    length-take-le s.length (drop (s.base - base) image) (omega (arith, f.above, f.long, f.behind, length-drop (s.base - base) image))
 
-pub volume_here : (image : List ℕ) (base : ℕ) (s : Span) (b : List ℕ) (h : HeadFields) (e : Extent) → Fits base (length image) s → b ≡ field (s.base - base) s.length image
+pub volume_here : (image : List ℕ) (base : ℕ) (s : Span) (b : List ℕ) (h : HeadFields) (e : Extent) → Fits base (length image) s
+    → b ≡ field (s.base - base) s.length image
     → BeginsVolume h e b → e.length ≡ s.length → IsStanding image base s Volume
 volume_here image base s b h e f is front len =
     (within base (length image) s f, (h, e, subst (λ (l : List ℕ). BeginsVolume h e l) is front, len ∙ sym (part_len image base s f)))
 
 -- no volume has the length
-pub absent_here : (image : List ℕ) (base : ℕ) (s : Span) (b : List ℕ) (r : Result Extent Fault) → Fits base (length image) s → b ≡ field (s.base - base) s.length image
-    → ((h : HeadFields) (e : Extent) → BeginsVolume h e b → r ≡ Ok e) → ((e : Extent) → r ≡ Ok e → e.length ≢ s.length) → IsStanding image base s Absent
-absent_here image base s b r f is only other =
-    (within base (length image) s f, λ v. other v.1 (only v.0 v.1 (subst (λ (l : List ℕ). BeginsVolume v.0 v.1 l) (sym is) v.2)) (v.3 ∙ part_len image base s f))
+pub absent_here : (image : List ℕ) (base : ℕ) (s : Span) (b : List ℕ) (r : Result Extent Fault) → Fits base (length image) s
+    → b ≡ field (s.base - base) s.length image
+    → ((h : HeadFields) (e : Extent) → BeginsVolume h e b → r ≡ Ok e) → ((e : Extent) → r ≡ Ok e → e.length ≢ s.length)
+    → IsStanding image base s Absent
+absent_here image base s b r f is only other = (
+  within base (length image) s f,
+  λ v. other v.1 (only v.0 v.1 (subst (λ (l : List ℕ). BeginsVolume v.0 v.1 l) (sym is) v.2)) (v.3 ∙ part_len image base s f),
+)
 
 pub other_len : (r : Result Extent Fault) (x e : Extent) (n : ℕ) → r ≡ Ok x → x.length ≢ n → r ≡ Ok e → e.length ≢ n
 other_len r x e n is ne same = λ len. ne (ap (λ (y : Extent). y.length) (one x e (sym is ∙ same)) ∙ len) where
@@ -46,7 +52,8 @@ pub no_len : (r : Result Extent Fault) (f : Fault) (e : Extent) (n : ℕ) → r 
 no_len r f e n is same = cc
 
 -- one standing holds of a span
-pub one_standing : (image : List ℕ) (base : ℕ) (span : Span) (s t : Standing) → IsStanding image base span s → IsStanding image base span t → s ≡ t
+pub one_standing : (image : List ℕ) (base : ℕ) (span : Span) (s t : Standing) → IsStanding image base span s → IsStanding image base span t
+    → s ≡ t
 one_standing image base span Outside Outside p q = refl
 one_standing image base span Outside Volume p q = absurd (p q.0)
 one_standing image base span Outside Absent p q = absurd (p q.0)

@@ -1,6 +1,6 @@
 -- What a check of a volume writes: what in it deserves a note, and whether it is its own canonical image.
-use Rattle.std.specs.Prelude.{◌≡◌, ◌↔◌, ◌⊎◌, ℕ, ◌==◌, ◌||◌, not, Bool, true, false, if◌then◌else◌, List, [], ◌∷◌, ◌++◌, drop, Option, Some}
-use Rattle.std.specs.Prelude.{None, codes, decimal}
+use Rattle.std.specs.Prelude.{◌≡◌, ◌↔◌, ◌⊎◌, ℕ, ◌==◌, ◌||◌, not, Bool, true, false, if◌then◌else◌, List, [], ◌∷◌, ◌++◌}
+use Rattle.std.specs.Prelude.{drop, Option, Some, None, codes, decimal}
 use Rattle.std.specs.List.{count_by, flat_map}
 use Rattle.fv_base.specs.Flash.{erased_byte}
 use Rattle.fv_base.specs.Guids.{bytes_of, guid_text}
@@ -19,8 +19,8 @@ use Rattle.fv_head.specs.Head.{BeginsVolume}
 use Rattle.fv_head.specs.declared.extent.Extent.{Extent}
 use Rattle.fv_tree.specs.Denotes.{Accepted}
 use Rattle.fv_tree.specs.Instances.{preorder}
-use Rattle.fv_tree.specs.Meaning.{Meaning, FileMeaning, File, ContentMeaning, Plain, Sectioned, SectionMeaning, Section, BodyMeaning, Leaf}
-use Rattle.fv_tree.specs.Meaning.{Group, Nested, files_of, head_of}
+use Rattle.fv_tree.specs.Meaning.{Meaning, FileMeaning, File, ContentMeaning, Plain, Sectioned, SectionMeaning, Section}
+use Rattle.fv_tree.specs.Meaning.{BodyMeaning, Leaf, Group, Nested, files_of, head_of}
 use Rattle.fv_command.specs.declared.checking.DepexNote.{DepexNote}
 
 -- ---- pads
@@ -31,7 +31,8 @@ written_in polarity bytes = count_by (λ x. not (x == erased_byte polarity)) byt
 
 -- the line of a pad that begins at an offset and has so many written data bytes
 abbrev pub pad_text : ℕ → ℕ → List ℕ
-pad_text at n = codes "note pad at " ++ (decimal at ++ (codes " holds " ++ (decimal n ++ (codes " bytes" ++ line_feed))))
+pad_text at n =
+    codes "note pad at " ++ (decimal at ++ (codes " holds " ++ (decimal n ++ (codes " bytes" ++ line_feed))))
 
 -- a pad whose data bytes are all erased has no line
 abbrev pub pad_line : ℕ → ℕ → List ℕ
@@ -54,8 +55,8 @@ pub record HeldDepex : Type 0 where
   pub phase : Phase
   pub bytes : List ℕ
 
--- the phase that reads a section of this type, if it is one of a dependency expression (PI specification, volume 3, section 3.2.5,
--- EFI_SECTION_PEI_DEPEX, EFI_SECTION_DXE_DEPEX and EFI_SECTION_MM_DEPEX)
+-- the phase that reads a section of this type, if it is one of a dependency expression (PI specification, volume 3,
+-- section 3.2.5, EFI_SECTION_PEI_DEPEX, EFI_SECTION_DXE_DEPEX and EFI_SECTION_MM_DEPEX)
 abbrev pub phase_of : ℕ → Option Phase
 phase_of kind = if kind == 0x1b then Some Pei else (if (kind == 0x13) || (kind == 0x1c) then Some Dxe else None)
 
@@ -127,15 +128,16 @@ verdict_line false = codes "not canonical" ++ line_feed
 abbrev pub check_lines : Polarity → List CellForm → List DepexNote → Bool → List ℕ
 check_lines polarity cells notes same = pad_notes polarity cells ++ (depex_lines notes ++ verdict_line same)
 
--- a volume of this meaning has these cells, which tile it from its first file's place on, and an erased byte of it is of this polarity
+-- a volume of this meaning has these cells, which tile it from its first file's place on, and an erased byte
+-- of it is of this polarity
 pub record AreCells (m : Meaning) (b : List ℕ) (polarity : Polarity) (cells : List CellForm) : Type 0 where
   pub extent : Extent
   pub front : BeginsVolume (head_of m) extent b
   pub polarity_is : polarity ≡ extent.polarity
   pub tiles : Tiles extent.file_system polarity extent.first cells (drop extent.first b)
 
--- the input is a volume; the text has a line for each pad that holds written bytes and for each dependency expression that is
--- refused, and tells at its end whether the input is the canonical image of its meaning
+-- the input is a volume; the text has a line for each pad that holds written bytes and for each dependency expression
+-- that is refused, and tells at its end whether the input is the canonical image of its meaning
 pub record CheckText (input : List ℕ) (same : Bool) (text : List ℕ) : Type 0 where
   pub meaning : Meaning
   pub accepted : Accepted input meaning

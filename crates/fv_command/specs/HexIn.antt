@@ -40,7 +40,8 @@ TextStopsFor kinds.ReadFault old new erred n =
     ⊎ ((n ≡ 0) × ((text : List ℕ) × GivesText old new text × (length text ≤ text_limit) × IsNoText text))
 TextStopsFor kinds.Length old new erred n =
     (n ≡ volume_limit)
-    × (GaveMore old new text_limit ⊎ ((text : List ℕ) × GivesText old new text × (length text ≤ text_limit) × IsLongText text))
+    × (GaveMore old new text_limit
+    ⊎ ((text : List ℕ) × GivesText old new text × (length text ≤ text_limit) × IsLongText text))
 TextStopsFor kinds.OutOfMemory old new erred n = n ≡ 0
 TextStopsFor _ old new erred n = ⊥
 

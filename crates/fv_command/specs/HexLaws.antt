@@ -1,5 +1,5 @@
--- The laws of a sink that puts lines of digits. There is nothing to believe here: these are proofs, and stand in specs/ since a
--- ghost member cites the last of them.
+-- The laws of a sink that puts lines of digits. There is nothing to believe here: these are proofs, and stand in specs/
+-- since a ghost member cites the last of them.
 -- Serves private clauses alone: there is nothing to believe here.
 use Rattle.std.proofs.Common.{ℕ, List, [], ◌∷◌, ◌++◌, sym, ◌∙◌, ap, subst, append_assoc, append-nil}
 use Rattle.std.specs.List.{AllByRecursion, concat}
@@ -9,11 +9,13 @@ use Rattle.fv_base.specs.Sinks.{WalkLaws}
 use Rattle.fv_command.specs.HexSinks.{HexTakes, Lined}
 use Rattle.fv_command.specs.HexText.{IsWholeLine, line_text, lines_text}
 
-whole_more : (xs ys : List (List ℕ)) → AllByRecursion IsWholeLine xs → AllByRecursion IsWholeLine ys → AllByRecursion IsWholeLine (xs ++ ys)
+whole_more : (xs ys : List (List ℕ)) → AllByRecursion IsWholeLine xs → AllByRecursion IsWholeLine ys
+    → AllByRecursion IsWholeLine (xs ++ ys)
 whole_more [] ys a b = b
 whole_more (x ∷ xs) ys a b = (a.0, whole_more xs ys a.1 b)
 
-lined_none : {S : Type 0} (takes : S → List ℕ → S → Type 0) → WalkLaws takes → (s : S) (p : List ℕ) → Lined takes s p [] s p
+lined_none : {S : Type 0} (takes : S → List ℕ → S → Type 0) → WalkLaws takes → (s : S) (p : List ℕ)
+    → Lined takes s p [] s p
 lined_none takes laws s p = record { lines = []; joined = append-nil p; whole = tt; taken = laws.none s }
 
 pub lined_joined : {S : Type 0} (takes : S → List ℕ → S → Type 0) → WalkLaws takes → (s t u : S) (p q r a b : List ℕ)

@@ -23,4 +23,5 @@ pub record IsPair (h l byte : ℕ) : Type 0 where
 abbrev pub DigitsSpell : List ℕ → List ℕ → Type 0
 DigitsSpell [] bytes = bytes ≡ []
 DigitsSpell (h ∷ []) bytes = ⊥
-DigitsSpell (h ∷ l ∷ ds) bytes = (byte : ℕ) × (rest : List ℕ) × IsPair h l byte × (bytes ≡ byte ∷ rest) × DigitsSpell ds rest
+DigitsSpell (h ∷ l ∷ ds) bytes =
+    (byte : ℕ) × (rest : List ℕ) × IsPair h l byte × (bytes ≡ byte ∷ rest) × DigitsSpell ds rest

@@ -5,11 +5,13 @@ use Rattle.std.specs.List.{AllByRecursion, concat}
 use Rattle.fv_command.specs.HexText.{lines_text, IsWholeLine}
 
 -- a sink below that is s, with the bytes p waiting, took the bytes and is t, with the bytes q waiting
-pub record Lined {S : Type 0} (takes : S → List ℕ → S → Type 0) (s : S) (p bytes : List ℕ) (t : S) (q : List ℕ) : Type 0 where
+pub record Lined {S : Type 0} (takes : S → List ℕ → S → Type 0) (s : S) (p bytes : List ℕ) (t : S)
+    (q : List ℕ) : Type 0 where
   pub lines : List (List ℕ)
   pub joined : p ++ bytes ≡ concat lines ++ q
   pub whole : AllByRecursion IsWholeLine lines
   pub taken : takes s (lines_text lines) t
 
-abbrev pub HexTakes : {S H : Type 0} (takes : S → List ℕ → S → Type 0) (below : H → S) (waiting : H → List ℕ) → H → List ℕ → H → Type 0
+abbrev pub HexTakes : {S H : Type 0} (takes : S → List ℕ → S → Type 0) (below : H → S) (waiting : H → List ℕ) → H
+    → List ℕ → H → Type 0
 HexTakes takes below waiting s bytes t = Lined takes (below s) (waiting s) bytes (below t) (waiting t)

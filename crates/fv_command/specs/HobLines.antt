@@ -41,7 +41,8 @@ standing_word Absent = codes " absent"
 abbrev pub IsSpanWord : Option ImageForm → Option Span → List ℕ → Type 0
 IsSpanWord None span word = word ≡ []
 IsSpanWord (Some image) None word = word ≡ []
-IsSpanWord (Some image) (Some span) word = (s : Standing) × IsStanding image.bytes image.base span s × (word ≡ standing_word s)
+IsSpanWord (Some image) (Some span) word =
+    (s : Standing) × IsStanding image.bytes image.base span s × (word ≡ standing_word s)
 
 -- the word of the volume that a block names
 abbrev pub IsWord : Option ImageForm → HobForm → List ℕ → Type 0
@@ -55,4 +56,5 @@ HobLines image (h ∷ hs) text = (word : List ℕ) × (rest : List ℕ) × IsWor
 
 -- those, and how many bytes the list has
 abbrev pub HobsText : Option ImageForm → List HobForm → ℕ → List ℕ → Type 0
-HobsText image hobs consumed text = (lines : List ℕ) × HobLines image hobs lines × (text ≡ lines ++ consumed_line consumed)
+HobsText image hobs consumed text =
+    (lines : List ℕ) × HobLines image hobs lines × (text ≡ lines ++ consumed_line consumed)

@@ -63,5 +63,6 @@ TellsHobs hex base r s r' s' w v =
 -- a run over a hand-off list, by its status
 abbrev pub RunsHobs : Option ℕ → Bool → Status → Shown → Shown → Shown → Shown → Shown → Shown → Type 0
 RunsHobs base hex Done r s r' s' w v = ListsHobs hex base r s r' s' (λ text. Appends w.bytes v.bytes text)
-RunsHobs base hex Refused r s r' s' w v = TellsStop (FaultStopsHobs hex base r s r' s' w) v ⊎ TellsHobs hex base r s r' s' w v
+RunsHobs base hex Refused r s r' s' w v =
+    TellsStop (FaultStopsHobs hex base r s r' s' w) v ⊎ TellsHobs hex base r s r' s' w v
 RunsHobs base hex status r s r' s' w v = ⊥

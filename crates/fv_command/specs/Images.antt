@@ -18,4 +18,5 @@ ShowsImage hex input held holds =
 abbrev pub StopsImage : Bool → List ℕ → Option (List ℕ) → Option (List ℕ) → Fault → Type 0
 StopsImage hex input held holds fault =
     (Keeps held holds × ((fault ≡ want_of_memory) ⊎ Refuses input fault))
-    ⊎ ((image : List ℕ) × (text : List ℕ) × NormalisesTo input image × ShowsBytes hex image text × WriteStops held holds text fault)
+    ⊎ ((image : List ℕ) × (text : List ℕ) × NormalisesTo input image × ShowsBytes hex image text
+    × WriteStops held holds text fault)

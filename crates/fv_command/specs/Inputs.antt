@@ -13,7 +13,8 @@ use Rattle.fv_tree.specs.Meaning.{Meaning}
 use Rattle.fv_command.specs.HexIn.{SpellsWhole, TextStops}
 use Rattle.fv_command.specs.Lines.{TellsFault, fault_line}
 
--- what a port shows: what its reader has left, or its writer holds, where that is known, and whether one of its calls has failed
+-- what a port shows: what its reader has left, or its writer holds, where that is known, and whether
+-- one of its calls has failed
 pub record Shown : Type 0 where
   pub bytes : Option (List ℕ)
   pub erred : Bool

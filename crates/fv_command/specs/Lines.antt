@@ -39,4 +39,5 @@ volume_line at n = codes "volume at " ++ (decimal at ++ (codes " length " ++ (de
 -- the text of the volumes that begin at these offsets of b: a line for each, in order
 abbrev pub ScanText : List ℕ → List ℕ → List ℕ → Type 0
 ScanText b [] text = text ≡ []
-ScanText b (o ∷ os) text = (n : ℕ) × (rest : List ℕ) × VolumeAt b o n × (text ≡ volume_line o n ++ rest) × ScanText b os rest
+ScanText b (o ∷ os) text =
+    (n : ℕ) × (rest : List ℕ) × VolumeAt b o n × (text ≡ volume_line o n ++ rest) × ScanText b os rest

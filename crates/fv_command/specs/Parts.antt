@@ -6,7 +6,8 @@ use Rattle.fv_canon.specs.Layouts.{UnfitContent}
 use Rattle.fv_canon.specs.Places.{UnfitAlone}
 use Rattle.fv_section.specs.Frames.{FrameForm, Splits}
 use Rattle.fv_tree.specs.Instances.{section_of_type, frame_of_type, security_core}
-use Rattle.fv_tree.specs.Meaning.{FileMeaning, SectionMeaning, SectionMeanings, Plain, Sectioned, content_of, body_of, file_kind_of}
+use Rattle.fv_tree.specs.Meaning.{FileMeaning, SectionMeaning, SectionMeanings, Plain, Sectioned, content_of, body_of}
+use Rattle.fv_tree.specs.Meaning.{file_kind_of}
 use Rattle.fv_command.specs.declared.extracting.Extraction.{Extraction}
 use Rattle.fv_command.specs.declared.extracting.Extraction.TheVariants.{Made, Stored, NotFound, NotSectioned}
 use Rattle.fv_command.specs.declared.extracting.Part.{Part}
@@ -23,11 +24,13 @@ IsFramePart (Some f) (Stored bytes) = bytes.now ≡ f.body
 IsFramePart None NotFound = ⊤
 IsFramePart _ _ = ⊥
 
--- what there is of the section of this type and instance: in preorder through groups; of a security core among the frames of its
--- data, where these are a stream (PI specification, volume 3, section 3.2.3)
+-- what there is of the section of this type and instance: in preorder through groups; of a security core among the
+-- frames of its data, where these are a stream (PI specification, volume 3, section 3.2.3)
 pub record IsSectionOf (f : FileMeaning) (kind instance : ℕ) (answer : Extraction) : Type 0 where
-  pub sections : (ss : SectionMeanings) (t : ℕ) → content_of f ≡ Sectioned ss t → IsSectionPart (section_of_type kind instance ss) answer
-  pub core : (b : List ℕ) (fs : List FrameForm) (t : ℕ) → content_of f ≡ Plain b → file_kind_of f ≡ security_core → Splits fs t b
+  pub sections : (ss : SectionMeanings) (t : ℕ) → content_of f ≡ Sectioned ss t
+      → IsSectionPart (section_of_type kind instance ss) answer
+  pub core : (b : List ℕ) (fs : List FrameForm) (t : ℕ) → content_of f ≡ Plain b → file_kind_of f ≡ security_core
+      → Splits fs t b
       → IsFramePart (frame_of_type kind instance fs) answer
   pub plain : (b : List ℕ) → content_of f ≡ Plain b
       → (file_kind_of f ≡ security_core → (fs : List FrameForm) (t : ℕ) → Splits fs t b → ⊥) → answer ≡ NotSectioned
@@ -50,7 +53,8 @@ IsPart (Some f) part answer = IsFilePart f part.section part.instance answer
 abbrev pub StopsFilePart : FileMeaning → Option ℕ → ℕ → Fault → Type 0
 StopsFilePart f None instance fault = UnfitContent (content_of f) 0 fault
 StopsFilePart f (Some kind) instance fault =
-    (ss : SectionMeanings) × (t : ℕ) × (s : SectionMeaning) × (content_of f ≡ Sectioned ss t) × (section_of_type kind instance ss ≡ Some s)
+    (ss : SectionMeanings) × (t : ℕ) × (s : SectionMeaning) × (content_of f ≡ Sectioned ss t)
+    × (section_of_type kind instance ss ≡ Some s)
     × UnfitAlone (body_of s) fault
 
 abbrev pub StopsPart : Option FileMeaning → Part → Fault → Type 0

@@ -10,8 +10,8 @@ use Rattle.fv_command.specs.declared.plan.Command.TheVariants.{Single, Hobs, Com
 use Rattle.fv_command.specs.declared.plan.Plan.{Plan}
 use Rattle.fv_command.specs.declared.status.Status.{Status}
 
--- a run of a command, by its status: what was read of the first input and of the second, and what was written. A task reads nothing
--- of the second
+-- a run of a command, by its status: what was read of the first input and of the second, and what was written. A task
+-- reads nothing of the second
 abbrev pub RunsCommand : Command → Bool → Status → Shown → Shown → Shown → Shown → Shown → Shown → Type 0
 RunsCommand (Single task file) hex status r s r' s' w v = (s' ≡ r') × RunsTask task hex status r s w v
 RunsCommand (Hobs file image) hex status r s r' s' w v = RunsHobs (base_of image) hex status r s r' s' w v

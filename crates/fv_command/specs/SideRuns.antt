@@ -21,20 +21,23 @@ GivesVolume hex r s m = (input : List ℕ) × Gives hex r s input × Accepted in
 
 -- an input stopped the run: while it was read, or since it is no volume, or memory was wanted
 abbrev pub VolumeInputStops : Bool → Shown → Shown → Fault → Type 0
-VolumeInputStops hex r s fault = GivingStops hex r s fault ⊎ ((input : List ℕ) × Gives hex r s input × VolumeStops input fault)
+VolumeInputStops hex r s fault =
+    GivingStops hex r s fault ⊎ ((input : List ℕ) × Gives hex r s input × VolumeStops input fault)
 
--- both inputs are volumes, the answer is whether they mean the same, and the line of where they first differ was written
+-- both inputs are volumes, the answer is whether they mean the same, and the line of where they
+-- first differ was written
 abbrev pub ComparesRead : Bool → Shown → Shown → Shown → Shown → Shown → Shown → Bool → Type 0
 ComparesRead hex r s r' s' w v same =
     (m : Meaning) × (k : Meaning) × GivesVolume hex r s m × GivesVolume hex r' s' k × Compares m k w.bytes v.bytes same
 
--- the side tells what stopped the run. The second input is read only behind a first that is a volume, and nothing is written before
--- both are; then the line is, and the writer may stop in it
+-- the side tells what stopped the run. The second input is read only behind a first that is a volume, and nothing is
+-- written before both are; then the line is, and the writer may stop in it
 abbrev pub SideStops : Side → Bool → Shown → Shown → Shown → Shown → Shown → Shown → Fault → Type 0
 SideStops sides.First hex r s r' s' w v fault =
     Keeps w.bytes v.bytes
     × (((s' ≡ r') × VolumeInputStops hex r s fault)
-    ⊎ ((m : Meaning) × (k : Meaning) × GivesVolume hex r s m × GivesVolume hex r' s' k × (fault ≡ want_of_memory) × (m ≢ k)))
+    ⊎ ((m : Meaning) × (k : Meaning) × GivesVolume hex r s m × GivesVolume hex r' s' k × (fault ≡ want_of_memory)
+    × (m ≢ k)))
 SideStops sides.Second hex r s r' s' w v fault =
     Keeps w.bytes v.bytes × ((m : Meaning) × GivesVolume hex r s m) × VolumeInputStops hex r' s' fault
 SideStops sides.Output hex r s r' s' w v fault =

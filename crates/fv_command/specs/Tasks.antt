@@ -18,7 +18,8 @@ use Rattle.fv_command.specs.declared.status.Status.TheVariants.{Done, Different}
 use Rattle.fv_command.specs.declared.extracting.Extraction.{Extraction}
 use Rattle.fv_command.specs.declared.extracting.Extraction.TheVariants.{Made, Stored, NotFound, NotSectioned}
 use Rattle.fv_command.specs.declared.plan.Task.{Task}
-use Rattle.fv_command.specs.declared.plan.Task.TheVariants.{Normalise, NormaliseAll, List as Listing, Extract, Check, Scan}
+use Rattle.fv_command.specs.declared.plan.Task.TheVariants.{Normalise, NormaliseAll, List as Listing, Extract, Check}
+use Rattle.fv_command.specs.declared.plan.Task.TheVariants.{Scan}
 
 -- what is said of a part, and with which status: its bytes, or that there is none
 abbrev pub PartText : Bool → Extraction → Status → List ℕ → Type 0
@@ -34,7 +35,8 @@ Says Normalise hex input Done text = (image : List ℕ) × NormalisesTo input im
 Says NormaliseAll hex input Done text = (image : List ℕ) × NormalisesAll input image × ShowsBytes hex image text
 Says Listing hex input Done text = (m : Meaning) × BeginsWith input m
 Says (Extract part) hex input status text =
-    (m : Meaning) × (x : Extraction) × BeginsWith input m × IsPart (file_named part.name (files_of m)) part x × PartText hex x status text
+    (m : Meaning) × (x : Extraction) × BeginsWith input m × IsPart (file_named part.name (files_of m)) part x
+    × PartText hex x status text
 Says Check hex input Done text = CheckText input true text
 Says Check hex input Different text = CheckText input false text
 Says Scan hex input Done text = (offsets : List ℕ) × Found input offsets × ScanText input offsets text

@@ -109,7 +109,8 @@ fn put_consumed<S: Sink>(out: &mut S, consumed: u64)
 
 // Puts a line for each block, and how many bytes the list has.
 fn put_hobs<S: Sink>(out: &mut S, hobs: &[Hob], consumed: u64, image: Option<Image<'_>>)
-    ensures { (text : List ℕ) × HobsText (held_image image.entry) hobs.now consumed text × S.takes out.old text out.new }
+    ensures { (text : List ℕ) × HobsText (held_image image.entry) hobs.now consumed text
+        × S.takes out.old text out.new }
 {
     for hob in hobs {
         put_hob(out, hob.code(), hob.length(), word_of(hob, image));

@@ -17,7 +17,8 @@ use std::io::Write;
 /// WriteFault, where a write fails or takes no byte.
 pub fn write_bytes<W: Write>(writer: &mut Port<W>, bytes: &[u8]) -> Result<(), Fault>
     ensures ok { OnOk result (Appends (W.contents (inner_of writer.old)) (W.contents (inner_of writer.new)) bytes.now) }
-    ensures err { IfErr result (WriteStops (W.contents (inner_of writer.old)) (W.contents (inner_of writer.new)) bytes.now) }
+    ensures err { IfErr result
+        (WriteStops (W.contents (inner_of writer.old)) (W.contents (inner_of writer.new)) bytes.now) }
     ensures erred { OnErr result (has_erred writer.new ≡ true) }
 {
     let mut sink = WriteSink {

@@ -17,7 +17,8 @@ use std::io::Write;
 /// Writes a line and answers the status, or Refused where the line can not be written.
 pub fn say<W: Write>(writer: &mut Port<W>, line: &str, status: Status) -> Status
     // The line was written and the status is answered; or the port has erred.
-    ensures { ((result ≡ status) × Appends (W.contents (inner_of writer.old)) (W.contents (inner_of writer.new)) line.now)
+    ensures { ((result ≡ status)
+        × Appends (W.contents (inner_of writer.old)) (W.contents (inner_of writer.new)) line.now)
         ⊎ ((result ≡ Status.Refused) × (has_erred writer.new ≡ true)) }
 {
     match write_bytes(writer, line.as_bytes()) {

@@ -1,5 +1,6 @@
 -- An op stands where its checks hold.
-use Rattle.std.proofs.Common.{◌≡◌, ◌≤◌, ℕ, zero, suc, List, [], ◌∷◌, ◌++◌, length, drop, refl, sym, ap, ◌∙◌, arith, Bool, true, false, length-append, length-drop}
+use Rattle.std.proofs.Common.{◌≡◌, ◌≤◌, ℕ, zero, suc, List, [], ◌∷◌, ◌++◌, length, drop, refl, sym, ap, ◌∙◌, arith, Bool, true, false}
+use Rattle.std.proofs.Common.{length-append, length-drop}
 use Rattle.std.specs.Prelude.{◌||◌, not, nat_le, slice_index, None, if◌then◌else◌}
 use Rattle.std.proofs.lemmas.Bool.{leb-true, le-leb}
 use Rattle.std.proofs.lemmas.List.{take-append-drop, length-take-le}
@@ -42,8 +43,9 @@ below_10 P a b c d e f g h i j (suc (suc (suc (suc (suc (suc (suc (suc (suc (suc
 pub op_of_code : (g : Guid) (code : ℕ) → code ≤ 9 → IsOpOf code g (op_by code g)
 op_of_code g =
     below_10 (λ n. IsOpOf n g (op_by n g)) (record { code_is = refl; operand_is = refl }) (record { code_is = refl; operand_is = refl })
-    (record { code_is = refl; operand_is = refl }) (record { code_is = refl; operand_is = refl }) (record { code_is = refl; operand_is = refl })
-    (record { code_is = refl; operand_is = refl }) (record { code_is = refl; operand_is = refl }) (record { code_is = refl; operand_is = refl })
+    (record { code_is = refl; operand_is = refl }) (record { code_is = refl; operand_is = refl })
+    (record { code_is = refl; operand_is = refl }) (record { code_is = refl; operand_is = refl })
+    (record { code_is = refl; operand_is = refl }) (record { code_is = refl; operand_is = refl })
     (record { code_is = refl; operand_is = refl }) (record { code_is = refl; operand_is = refl })
 
 -- an op is that of its code and its GUID
@@ -82,7 +84,8 @@ checks_of_op phase stage r (some, (known, (placed, (whole, (valued, end))))) =
     record { some = some; known = known; placed = placed; whole = whole; valued = valued }
 
 -- where the checks hold, the op stands there
-pub op_stands : (phase : Phase) (stage : Stage) (r : List ℕ) → first_fault (op_checks phase stage r) ≡ None → BeginsOp phase stage (op_in r) r
+pub op_stands : (phase : Phase) (stage : Stage) (r : List ℕ) → first_fault (op_checks phase stage r) ≡ None
+    → BeginsOp phase stage (op_in r) r
 op_stands phase stage r none =
     let checks = checks_of_op phase stage r (all_hold (op_checks phase stage r) none) in
     let code : ℕ = slice_index r 0 in
@@ -111,20 +114,25 @@ op_stands phase stage r none =
           fits = fits is checks (ap length operand ∙ n ∙ sym (ap operand_len (ap carries is.code_is ∙ c)));
           behind = drop 16 (drop 1 r);
           joined = cons_of r some ∙ ap (λ (l : List ℕ). slice_index r 0 ∷ l) (sym (take-append-drop 16 (drop 1 r)))
-              ∙ ap (λ (k : ℕ). k ∷ (field 1 16 r ++ drop 16 (drop 1 r))) (sym is.code_is) ∙ ap (λ (l : List ℕ). op_code (op_in r) ∷ (l ++ drop 16 (drop 1 r))) (sym operand);
+              ∙ ap (λ (k : ℕ). k ∷ (field 1 16 r ++ drop 16 (drop 1 r))) (sym is.code_is)
+              ∙ ap (λ (l : List ℕ). op_code (op_in r) ∷ (l ++ drop 16 (drop 1 r))) (sym operand);
         }
     go false c is some checks =
         let operand : op_operand (op_in r) ≡ [] = is.operand_is ∙ ap (λ (t : Bool). if t then field 1 16 r else []) c in
         record {
           fits = fits is checks (ap length operand ∙ sym (ap operand_len (ap carries is.code_is ∙ c)));
           behind = drop 1 r;
-          joined = cons_of r some ∙ ap (λ (k : ℕ). k ∷ drop 1 r) (sym is.code_is) ∙ ap (λ (l : List ℕ). op_code (op_in r) ∷ (l ++ drop 1 r)) (sym operand);
+          joined = cons_of r some ∙ ap (λ (k : ℕ). k ∷ drop 1 r) (sym is.code_is)
+              ∙ ap (λ (l : List ℕ). op_code (op_in r) ∷ (l ++ drop 1 r)) (sym operand);
         }
 
 -- where an op stands the checks hold
-pub checks_hold : (phase : Phase) (stage : Stage) (o : Op) (x : List ℕ) → OpFits phase stage o → AllHold (op_checks phase stage (op_code o ∷ (op_operand o ++ x)))
-checks_hold phase stage o x fits =
-    (le-leb 1 (suc (length (op_operand o ++ x))) (omega arith), (fits.known, (fits.placed, (room (carries (op_code o)) refl, (fits.valued, tt)))))
+pub checks_hold : (phase : Phase) (stage : Stage) (o : Op) (x : List ℕ) → OpFits phase stage o
+    → AllHold (op_checks phase stage (op_code o ∷ (op_operand o ++ x)))
+checks_hold phase stage o x fits = (
+  le-leb 1 (suc (length (op_operand o ++ x))) (omega arith),
+  (fits.known, (fits.placed, (room (carries (op_code o)) refl, (fits.valued, tt)))),
+)
   where
     room : (c : Bool) → carries (op_code o) ≡ c → has_operand (op_code o ∷ (op_operand o ++ x)) ≡ true
     room true c =
@@ -133,12 +141,16 @@ checks_hold phase stage o x fits =
     room false c = ap (λ (t : Bool). not t || nat_le 17 (suc (length (op_operand o ++ x)))) c
 
 -- bytes begin with one op at most
-pub same_op : (o p : Op) (x y : List ℕ) → IsSized o → IsSized p → op_code o ∷ (op_operand o ++ x) ≡ op_code p ∷ (op_operand p ++ y) → (o ≡ p) × (x ≡ y)
+pub same_op : (o p : Op) (x y : List ℕ) → IsSized o → IsSized p → op_code o ∷ (op_operand o ++ x) ≡ op_code p ∷ (op_operand p ++ y)
+    → (o ≡ p) × (x ≡ y)
 same_op o p x y so sp e =
     let code : op_code o ≡ op_code p = ap (λ (l : List ℕ). slice_index l 0) e in
     let len : length (op_operand o) ≡ length (op_operand p) = so ∙ ap (λ (k : ℕ). operand_len (carries k)) code ∙ sym sp in
-    let parts = same_cut (op_operand o) (op_operand p) x y len (ap (drop 1) e) in
-    (sym (op_back o) ∙ ap (λ (k : ℕ). op_by k (record { bytes = op_operand o })) code ∙ ap (λ (l : List ℕ). op_by (op_code p) (record { bytes = l })) parts.0 ∙ op_back p, parts.1)
+    let parts = same_cut (op_operand o) (op_operand p) x y len (ap (drop 1) e) in (
+      sym (op_back o) ∙ ap (λ (k : ℕ). op_by k (record { bytes = op_operand o })) code
+          ∙ ap (λ (l : List ℕ). op_by (op_code p) (record { bytes = l })) parts.0 ∙ op_back p,
+      parts.1,
+    )
 
 -- the code of END is END's
 pub end_code : (o : Op) → op_code o ≡ 8 → o ≡ ops.End

@@ -1,12 +1,14 @@
 -- Ops that may stand one after another are those of whole expressions.
-use Rattle.std.proofs.Common.{◌≡◌, ◌≢◌, ◌≤◌, ◌<◌, ℕ, ◌+◌, ◌-◌, List, [], ◌∷◌, ◌++◌, length, drop, inl, inr, refl, sym, ap, ◌∙◌, subst, arith, true, false, length-append, append_assoc, append-nil}
+use Rattle.std.proofs.Common.{◌≡◌, ◌≢◌, ◌≤◌, ◌<◌, ℕ, ◌+◌, ◌-◌, List, [], ◌∷◌, ◌++◌, length, drop, inl, inr, refl, sym, ap, ◌∙◌, subst}
+use Rattle.std.proofs.Common.{arith, true, false, length-append, append_assoc, append-nil}
 use Rattle.std.specs.Prelude.{◌⊎◌, ◌&&◌, nat_le, slice_index}
 use Rattle.std.specs.List.{AllByRecursion}
 use Rattle.std.proofs.lemmas.Bool.{leb-true, le-leb, eqb-true}
 use Rattle.fv_base.specs.declared.guid.Guid.{Guid}
 use Rattle.fv_base.proofs.CheckLemmas.{and_split}
 use Rattle.fv_depex.specs.Checks.{OpFits, OpPath, has_values, has_code, stage_after, values_after, values_of}
-use Rattle.fv_depex.specs.Expressions.{Expression, always, never, installed, negated, both, either, IsTree, IsOrder, Spells, op_code, op_operand, ops_bytes, postfix, IsSized}
+use Rattle.fv_depex.specs.Expressions.{Expression, always, never, installed, negated, both, either, IsTree, IsOrder, Spells, op_code}
+use Rattle.fv_depex.specs.Expressions.{op_operand, ops_bytes, postfix, IsSized}
 use Rattle.fv_depex.specs.declared.op.Op.{Op}
 use Rattle.fv_depex.specs.declared.op.Op.TheVariants as ops
 use Rattle.fv_depex.specs.declared.op.Phase.{Phase}
@@ -21,7 +23,8 @@ pub path_join : (phase : Phase) (s m f : Stage) (xs ys : List Op) → OpPath pha
 path_join phase s m f [] ys p q = subst (λ (k : Stage). OpPath phase k ys f) (sym p) q
 path_join phase s m f (x ∷ xs) ys p q = (p.0, p.1, path_join phase (stage_after s x) m f xs ys p.2 q)
 
-pub path_more : (phase : Phase) (s f : Stage) (xs : List Op) (o : Op) → OpPath phase s xs f → OpFits phase f o → o ≢ ops.End → OpPath phase s (xs ++ o ∷ []) (stage_after f o)
+pub path_more : (phase : Phase) (s f : Stage) (xs : List Op) (o : Op) → OpPath phase s xs f → OpFits phase f o → o ≢ ops.End
+    → OpPath phase s (xs ++ o ∷ []) (stage_after f o)
 path_more phase s f xs o p fits ne = path_join phase s f (stage_after f o) xs (o ∷ []) p (fits, ne, refl)
 
 pub all_join : (xs ys : List Op) → AllByRecursion IsSized xs → AllByRecursion IsSized ys → AllByRecursion IsSized (xs ++ ys)
@@ -43,7 +46,8 @@ path_sized phase s f (x ∷ xs) p = ((p.0).sized, path_sized phase (stage_after 
 pub bytes_join : (xs ys : List Op) → ops_bytes (xs ++ ys) ≡ ops_bytes xs ++ ops_bytes ys
 bytes_join [] ys = refl
 bytes_join (x ∷ xs) ys =
-    ap (λ (l : List ℕ). op_code x ∷ l) (ap (λ (l : List ℕ). op_operand x ++ l) (bytes_join xs ys) ∙ sym (append_assoc (op_operand x) (ops_bytes xs) (ops_bytes ys)))
+    ap (λ (l : List ℕ). op_code x ∷ l)
+    (ap (λ (l : List ℕ). op_operand x ++ l) (bytes_join xs ys) ∙ sym (append_assoc (op_operand x) (ops_bytes xs) (ops_bytes ys)))
 
 -- an op has a byte at least
 pub ops_fit : (os : List Op) → length os ≤ length (ops_bytes os)
@@ -59,7 +63,8 @@ trees_ops (t ∷ ts) = postfix t ++ trees_ops ts
 
 trees_join : (ts us : List Expression) → trees_ops (ts ++ us) ≡ trees_ops ts ++ trees_ops us
 trees_join [] us = refl
-trees_join (t ∷ ts) us = ap (λ (l : List Op). postfix t ++ l) (trees_join ts us) ∙ sym (append_assoc (postfix t) (trees_ops ts) (trees_ops us))
+trees_join (t ∷ ts) us =
+    ap (λ (l : List Op). postfix t ++ l) (trees_join ts us) ∙ sym (append_assoc (postfix t) (trees_ops ts) (trees_ops us))
 
 -- SOR or nothing
 abbrev pub IsSor : Phase → List Op → Type 0
@@ -69,10 +74,12 @@ IsSor phase sor = (sor ≡ []) ⊎ ((sor ≡ ops.Sor ∷ []) × (phase ≡ Dxe))
 abbrev pub LeavesStage : Phase → Stage → List Op → Type 0
 LeavesStage phase stages.Start os = os ≡ []
 LeavesStage phase stages.Ordered os = (phase ≡ Dxe) × (g : Guid) × ((os ≡ ops.Before g ∷ []) ⊎ (os ≡ ops.After g ∷ []))
-LeavesStage phase (stages.Values n) os = (sor : List Op) × (ts : List Expression) × (os ≡ sor ++ trees_ops ts) × (length ts ≡ n) × IsSor phase sor
+LeavesStage phase (stages.Values n) os =
+    (sor : List Op) × (ts : List Expression) × (os ≡ sor ++ trees_ops ts) × (length ts ≡ n) × IsSor phase sor
 
 -- one more tree on the stack, in place of the last ones
-more_trees : (phase : Phase) (os sor : List Op) (us vs : List Expression) (t : Expression) (o : Op) (n : ℕ) → os ≡ sor ++ trees_ops (us ++ vs) → IsSor phase sor
+more_trees : (phase : Phase) (os sor : List Op) (us vs : List Expression) (t : Expression) (o : Op) (n : ℕ)
+    → os ≡ sor ++ trees_ops (us ++ vs) → IsSor phase sor
     → trees_ops vs ++ (o ∷ []) ≡ postfix t → length us + 1 ≡ n → LeavesStage phase (stages.Values n) (os ++ o ∷ [])
 more_trees phase os sor us vs t o n e s last len =
     let behind : trees_ops (us ++ vs) ++ (o ∷ []) ≡ trees_ops (us ++ (t ∷ [])) =
@@ -109,16 +116,20 @@ two_more phase n os make o made (sor, ts, e, len, s) some =
     last (omega (arith, len, some, ap length r.3, length-append r.0 (r.1 ∷ r.2 ∷ [])))
 
 -- an op on values
-values_more : (phase : Phase) (n : ℕ) (os : List Op) (o : Op) → LeavesStage phase (stages.Values n) os → 2 ≤ op_code o → op_code o < 8 → has_values n (op_code o) ≡ true
+values_more : (phase : Phase) (n : ℕ) (os : List Op) (o : Op) → LeavesStage phase (stages.Values n) os → 2 ≤ op_code o → op_code o < 8
+    → has_values n (op_code o) ≡ true
     → LeavesStage phase (stages.Values (values_after n o)) (os ++ o ∷ [])
 values_more phase n os (ops.Before g) h low high v = absurd (omega (arith, low))
 values_more phase n os (ops.After g) h low high v = absurd (omega (arith, low))
 values_more phase n os (ops.Push g) (sor, ts, e, len, s) low high v =
-    more_trees phase os sor ts [] (installed g) (ops.Push g) (n + 1) (e ∙ ap (λ (l : List Expression). sor ++ trees_ops l) (sym (append-nil ts))) s refl (ap (λ (k : ℕ). k + 1) len)
+    more_trees phase os sor ts [] (installed g) (ops.Push g) (n + 1)
+    (e ∙ ap (λ (l : List Expression). sor ++ trees_ops l) (sym (append-nil ts))) s refl (ap (λ (k : ℕ). k + 1) len)
 values_more phase n os ops.True (sor, ts, e, len, s) low high v =
-    more_trees phase os sor ts [] always ops.True (n + 1) (e ∙ ap (λ (l : List Expression). sor ++ trees_ops l) (sym (append-nil ts))) s refl (ap (λ (k : ℕ). k + 1) len)
+    more_trees phase os sor ts [] always ops.True (n + 1) (e ∙ ap (λ (l : List Expression). sor ++ trees_ops l) (sym (append-nil ts))) s
+    refl (ap (λ (k : ℕ). k + 1) len)
 values_more phase n os ops.False (sor, ts, e, len, s) low high v =
-    more_trees phase os sor ts [] never ops.False (n + 1) (e ∙ ap (λ (l : List Expression). sor ++ trees_ops l) (sym (append-nil ts))) s refl (ap (λ (k : ℕ). k + 1) len)
+    more_trees phase os sor ts [] never ops.False (n + 1) (e ∙ ap (λ (l : List Expression). sor ++ trees_ops l) (sym (append-nil ts))) s
+    refl (ap (λ (k : ℕ). k + 1) len)
 values_more phase n os ops.Not (sor, ts, e, len, s) low high v =
     let r = last_one ts (omega (arith, len, leb-true 1 n v)) in
     more_trees phase os sor r.0 (r.1 ∷ []) (negated r.1) ops.Not n (e ∙ ap (λ (l : List Expression). sor ++ trees_ops l) r.2) s
@@ -132,7 +143,8 @@ begun : (phase : Phase) (os : List Op) → os ≡ [] → LeavesStage phase (stag
 begun phase os e = ([], [], e, refl, inl refl)
 
 -- PEI has no BEFORE, AFTER and SOR
-no_pei : (phase : Phase) (o : Op) (stage : Stage) → OpFits phase stage o → ((op_code o ≡ 0) ⊎ (op_code o ≡ 1)) ⊎ (op_code o ≡ 9) → phase ≡ Dxe
+no_pei : (phase : Phase) (o : Op) (stage : Stage) → OpFits phase stage o → ((op_code o ≡ 0) ⊎ (op_code o ≡ 1)) ⊎ (op_code o ≡ 9)
+    → phase ≡ Dxe
 no_pei Dxe o stage fits h = refl
 no_pei Pei o stage fits h = absurd (go (op_code o) fits.known h)
   where
@@ -161,7 +173,8 @@ after_values stage ops.False l = refl
 after_values stage ops.End l = refl
 after_values stage ops.Sor l = refl
 
-placed_values : (phase : Phase) (n : ℕ) (os : List Op) (o : Op) → LeavesStage phase (stages.Values n) os → OpFits phase (stages.Values n) o → o ≢ ops.End
+placed_values : (phase : Phase) (n : ℕ) (os : List Op) (o : Op) → LeavesStage phase (stages.Values n) os → OpFits phase (stages.Values n) o
+    → o ≢ ops.End
     → LeavesStage phase (stage_after (stages.Values n) o) (os ++ o ∷ [])
 placed_values phase n os o h fits ne =
     let range = and_split (nat_le 2 (op_code o)) (nat_le (op_code o) 8) fits.placed in
@@ -170,14 +183,19 @@ placed_values phase n os o h fits ne =
     subst (λ (k : Stage). LeavesStage phase k (os ++ o ∷ [])) (sym (after_values (stages.Values n) o low))
     (values_more phase n os o h low (value_code o low high ne) fits.valued)
 
-start_value : (phase : Phase) (os : List Op) (o : Op) → LeavesStage phase stages.Start os → OpFits phase stages.Start o → 2 ≤ op_code o → op_code o < 8 → LeavesStage phase (stages.Values (values_after 0 o)) (os ++ o ∷ [])
+start_value : (phase : Phase) (os : List Op) (o : Op) → LeavesStage phase stages.Start os → OpFits phase stages.Start o → 2 ≤ op_code o
+    → op_code o < 8 → LeavesStage phase (stages.Values (values_after 0 o)) (os ++ o ∷ [])
 start_value phase os o h fits low high = values_more phase 0 os o (begun phase os h) low high fits.valued
 
 -- one more op
-pub leaves_more : (phase : Phase) (stage : Stage) (os : List Op) (o : Op) → LeavesStage phase stage os → OpFits phase stage o → o ≢ ops.End → LeavesStage phase (stage_after stage o) (os ++ o ∷ [])
-leaves_more phase stages.Start os (ops.Before g) h fits ne = (no_pei phase (ops.Before g) stages.Start fits (inl (inl refl)), g, inl (ap (λ (l : List Op). l ++ (ops.Before g ∷ [])) h))
-leaves_more phase stages.Start os (ops.After g) h fits ne = (no_pei phase (ops.After g) stages.Start fits (inl (inr refl)), g, inr (ap (λ (l : List Op). l ++ (ops.After g ∷ [])) h))
-leaves_more phase stages.Start os ops.Sor h fits ne = (ops.Sor ∷ [], [], ap (λ (l : List Op). l ++ (ops.Sor ∷ [])) h, refl, inr (refl, no_pei phase ops.Sor stages.Start fits (inr refl)))
+pub leaves_more : (phase : Phase) (stage : Stage) (os : List Op) (o : Op) → LeavesStage phase stage os → OpFits phase stage o → o ≢ ops.End
+    → LeavesStage phase (stage_after stage o) (os ++ o ∷ [])
+leaves_more phase stages.Start os (ops.Before g) h fits ne =
+    (no_pei phase (ops.Before g) stages.Start fits (inl (inl refl)), g, inl (ap (λ (l : List Op). l ++ (ops.Before g ∷ [])) h))
+leaves_more phase stages.Start os (ops.After g) h fits ne =
+    (no_pei phase (ops.After g) stages.Start fits (inl (inr refl)), g, inr (ap (λ (l : List Op). l ++ (ops.After g ∷ [])) h))
+leaves_more phase stages.Start os ops.Sor h fits ne =
+    (ops.Sor ∷ [], [], ap (λ (l : List Op). l ++ (ops.Sor ∷ [])) h, refl, inr (refl, no_pei phase ops.Sor stages.Start fits (inr refl)))
 leaves_more phase stages.Start os ops.End h fits ne = absurd (ne refl)
 leaves_more phase stages.Start os (ops.Push g) h fits ne = start_value phase os (ops.Push g) h fits (omega arith) (omega arith)
 leaves_more phase stages.Start os ops.And h fits ne = start_value phase os ops.And h fits (omega arith) (omega arith)
@@ -189,21 +207,25 @@ leaves_more phase stages.Ordered os o h fits ne = absurd (ne (end_code o (eqb-tr
 leaves_more phase (stages.Values n) os o h fits ne = placed_values phase n os o h fits ne
 
 -- with END they are whole
-pub leaves_whole : (phase : Phase) (stage : Stage) (os : List Op) → LeavesStage phase stage os → OpFits phase stage ops.End → ((t : Expression) × IsTree phase (os ++ ops.End ∷ []) t) ⊎ IsOrder phase (os ++ ops.End ∷ [])
+pub leaves_whole : (phase : Phase) (stage : Stage) (os : List Op) → LeavesStage phase stage os → OpFits phase stage ops.End
+    → ((t : Expression) × IsTree phase (os ++ ops.End ∷ []) t) ⊎ IsOrder phase (os ++ ops.End ∷ [])
 leaves_whole phase stages.Start os h fits = let no_values : false ≡ true = fits.valued in cc
 leaves_whole phase stages.Ordered os (dxe, g, which) fits = inr (record { guid = g; joined = joined which; dxe = dxe }) where
-  joined : (os ≡ ops.Before g ∷ []) ⊎ (os ≡ ops.After g ∷ []) → (os ++ ops.End ∷ [] ≡ ops.Before g ∷ ops.End ∷ []) ⊎ (os ++ ops.End ∷ [] ≡ ops.After g ∷ ops.End ∷ [])
+  joined : (os ≡ ops.Before g ∷ []) ⊎ (os ≡ ops.After g ∷ [])
+      → (os ++ ops.End ∷ [] ≡ ops.Before g ∷ ops.End ∷ []) ⊎ (os ++ ops.End ∷ [] ≡ ops.After g ∷ ops.End ∷ [])
   joined (inl e) = inl (ap (λ (l : List Op). l ++ (ops.End ∷ [])) e)
   joined (inr e) = inr (ap (λ (l : List Op). l ++ (ops.End ∷ [])) e)
 leaves_whole phase (stages.Values n) os (sor, ts, e, len, s) fits = one ts e (len ∙ eqb-true n 1 fits.valued) where
-  one : (us : List Expression) → os ≡ sor ++ trees_ops us → length us ≡ 1 → ((t : Expression) × IsTree phase (os ++ ops.End ∷ []) t) ⊎ IsOrder phase (os ++ ops.End ∷ [])
+  one : (us : List Expression) → os ≡ sor ++ trees_ops us → length us ≡ 1
+      → ((t : Expression) × IsTree phase (os ++ ops.End ∷ []) t) ⊎ IsOrder phase (os ++ ops.End ∷ [])
   one [] e l = absurd (omega (arith, l))
   one (t ∷ []) e l =
       inl (
         t,
         record {
           sor = sor;
-          joined = ap (λ (k : List Op). k ++ (ops.End ∷ [])) (e ∙ ap (λ (k : List Op). sor ++ k) (append-nil (postfix t))) ∙ append_assoc sor (postfix t) (ops.End ∷ []);
+          joined = ap (λ (k : List Op). k ++ (ops.End ∷ [])) (e ∙ ap (λ (k : List Op). sor ++ k) (append-nil (postfix t)))
+              ∙ append_assoc sor (postfix t) (ops.End ∷ []);
           sor_is = s;
         },
       )
@@ -215,7 +237,8 @@ knows_value : (phase : Phase) (code : ℕ) → 2 ≤ code → code ≤ 8 → has
 knows_value Pei code low high = rw (le-leb 2 code low, le-leb code 8 high) refl
 knows_value Dxe code low high = le-leb code 9 (omega (arith, high))
 
-fits_value : (phase : Phase) (n : ℕ) (o : Op) → 2 ≤ op_code o → op_code o ≤ 8 → has_values n (op_code o) ≡ true → IsSized o → OpFits phase (stages.Values n) o
+fits_value : (phase : Phase) (n : ℕ) (o : Op) → 2 ≤ op_code o → op_code o ≤ 8 → has_values n (op_code o) ≡ true → IsSized o
+    → OpFits phase (stages.Values n) o
 fits_value phase n o low high values sized = record {
   known = knows_value phase (op_code o) low high;
   placed = rw (le-leb 2 (op_code o) low, le-leb (op_code o) 8 high) refl;
@@ -223,8 +246,10 @@ fits_value phase n o low high values sized = record {
   sized = sized;
 }
 
-two_paths : (phase : Phase) (n : ℕ) (t u : Expression) (o : Op) → OpPath phase (stages.Values n) (postfix t) (stages.Values (n + 1)) → OpPath phase (stages.Values (n + 1)) (postfix u) (stages.Values (n + 1 + 1))
-    → OpFits phase (stages.Values (n + 1 + 1)) o → o ≢ ops.End → stage_after (stages.Values (n + 1 + 1)) o ≡ stages.Values (n + 1) → OpPath phase (stages.Values n) (postfix t ++ (postfix u ++ (o ∷ []))) (stages.Values (n + 1))
+two_paths : (phase : Phase) (n : ℕ) (t u : Expression) (o : Op) → OpPath phase (stages.Values n) (postfix t) (stages.Values (n + 1))
+    → OpPath phase (stages.Values (n + 1)) (postfix u) (stages.Values (n + 1 + 1))
+    → OpFits phase (stages.Values (n + 1 + 1)) o → o ≢ ops.End → stage_after (stages.Values (n + 1 + 1)) o ≡ stages.Values (n + 1)
+    → OpPath phase (stages.Values n) (postfix t ++ (postfix u ++ (o ∷ []))) (stages.Values (n + 1))
 two_paths phase n t u o p q fits ne after =
     path_join phase (stages.Values n) (stages.Values (n + 1)) (stages.Values (n + 1)) (postfix t) (postfix u ++ (o ∷ [])) p
     (path_join phase (stages.Values (n + 1)) (stages.Values (n + 1 + 1)) (stages.Values (n + 1)) (postfix u) (o ∷ []) q (fits, ne, after))
@@ -232,29 +257,37 @@ two_paths phase n t u o p q fits ne after =
 one_less : (n : ℕ) → n + 1 + 1 - 1 ≡ n + 1
 one_less n = omega arith
 
-pub tree_path : (phase : Phase) (n : ℕ) (t : Expression) → AllByRecursion IsSized (postfix t) → OpPath phase (stages.Values n) (postfix t) (stages.Values (n + 1))
+pub tree_path : (phase : Phase) (n : ℕ) (t : Expression) → AllByRecursion IsSized (postfix t)
+    → OpPath phase (stages.Values n) (postfix t) (stages.Values (n + 1))
 tree_path phase n always sized = (fits_value phase n ops.True (omega arith) (omega arith) refl refl, λ e. cc, refl)
 tree_path phase n never sized = (fits_value phase n ops.False (omega arith) (omega arith) refl refl, λ e. cc, refl)
 tree_path phase n (installed g) sized = (fits_value phase n (ops.Push g) (omega arith) (omega arith) refl sized.0, λ e. cc, refl)
 tree_path phase n (negated t) sized =
-    path_join phase (stages.Values n) (stages.Values (n + 1)) (stages.Values (n + 1)) (postfix t) (ops.Not ∷ []) (tree_path phase n t (all_front (postfix t) (ops.Not ∷ []) sized))
+    path_join phase (stages.Values n) (stages.Values (n + 1)) (stages.Values (n + 1)) (postfix t) (ops.Not ∷ [])
+    (tree_path phase n t (all_front (postfix t) (ops.Not ∷ []) sized))
     (fits_value phase (n + 1) ops.Not (omega arith) (omega arith) (le-leb 1 (n + 1) (omega arith)) refl, λ e. cc, refl)
 tree_path phase n (both t u) sized =
     two_paths phase n t u ops.And (tree_path phase n t (all_front (postfix t) (postfix u ++ ops.And ∷ []) sized))
     (tree_path phase (n + 1) u (all_front (postfix u) (ops.And ∷ []) (all_behind (postfix t) (postfix u ++ ops.And ∷ []) sized)))
-    (fits_value phase (n + 1 + 1) ops.And (omega arith) (omega arith) (le-leb 2 (n + 1 + 1) (omega arith)) refl) (λ e. cc) (ap (λ (k : ℕ). stages.Values k) (one_less n))
+    (fits_value phase (n + 1 + 1) ops.And (omega arith) (omega arith) (le-leb 2 (n + 1 + 1) (omega arith)) refl) (λ e. cc)
+    (ap (λ (k : ℕ). stages.Values k) (one_less n))
 tree_path phase n (either t u) sized =
     two_paths phase n t u ops.Or (tree_path phase n t (all_front (postfix t) (postfix u ++ ops.Or ∷ []) sized))
     (tree_path phase (n + 1) u (all_front (postfix u) (ops.Or ∷ []) (all_behind (postfix t) (postfix u ++ ops.Or ∷ []) sized)))
-    (fits_value phase (n + 1 + 1) ops.Or (omega arith) (omega arith) (le-leb 2 (n + 1 + 1) (omega arith)) refl) (λ e. cc) (ap (λ (k : ℕ). stages.Values k) (one_less n))
+    (fits_value phase (n + 1 + 1) ops.Or (omega arith) (omega arith) (le-leb 2 (n + 1 + 1) (omega arith)) refl) (λ e. cc)
+    (ap (λ (k : ℕ). stages.Values k) (one_less n))
 
 -- the ops from the start on
-from_start : (phase : Phase) (f : Stage) (o : Op) (os : List Op) → OpPath phase (stages.Values 0) (o ∷ os) f → OpPath phase stages.Start (o ∷ os) f
+from_start : (phase : Phase) (f : Stage) (o : Op) (os : List Op) → OpPath phase (stages.Values 0) (o ∷ os) f
+    → OpPath phase stages.Start (o ∷ os) f
 from_start phase f o os p =
     let range = and_split (nat_le 2 (op_code o)) (nat_le (op_code o) 8) (p.0).placed in
     let low : 2 ≤ op_code o = leb-true 2 (op_code o) range.0 in
-    let same = after_values (stages.Values 0) o low ∙ sym (after_values stages.Start o low) in
-    (record { known = (p.0).known; placed = refl; valued = (p.0).valued; sized = (p.0).sized }, p.1, subst (λ (k : Stage). OpPath phase k os f) same p.2)
+    let same = after_values (stages.Values 0) o low ∙ sym (after_values stages.Start o low) in (
+      record { known = (p.0).known; placed = refl; valued = (p.0).valued; sized = (p.0).sized },
+      p.1,
+      subst (λ (k : Stage). OpPath phase k os f) same p.2,
+    )
 
 some_ops : (t : Expression) → 1 ≤ length (postfix t)
 some_ops always = omega arith
@@ -264,7 +297,8 @@ some_ops (negated t) = omega (arith, length-append (postfix t) (ops.Not ∷ []))
 some_ops (both t u) = omega (arith, length-append (postfix t) (postfix u ++ ops.And ∷ []), some_ops t)
 some_ops (either t u) = omega (arith, length-append (postfix t) (postfix u ++ ops.Or ∷ []), some_ops t)
 
-start_path : (phase : Phase) (f : Stage) (os : List Op) → 1 ≤ length os → OpPath phase (stages.Values 0) os f → OpPath phase stages.Start os f
+start_path : (phase : Phase) (f : Stage) (os : List Op) → 1 ≤ length os → OpPath phase (stages.Values 0) os f
+    → OpPath phase stages.Start os f
 start_path phase f [] l p = absurd (omega (arith, l))
 start_path phase f (o ∷ os) l p = from_start phase f o os p
 
@@ -276,7 +310,8 @@ pub record IsEnded (phase : Phase) (all : List Op) : Type 0 where
   pub path : OpPath phase stages.Start front stage
   pub ended : OpFits phase stage ops.End
 
-tree_ended : (phase : Phase) (all sor : List Op) (t : Expression) → all ≡ sor ++ (postfix t ++ (ops.End ∷ [])) → IsSor phase sor → AllByRecursion IsSized all → IsEnded phase all
+tree_ended : (phase : Phase) (all sor : List Op) (t : Expression) → all ≡ sor ++ (postfix t ++ (ops.End ∷ [])) → IsSor phase sor
+    → AllByRecursion IsSized all → IsEnded phase all
 tree_ended phase all sor t e (inl none) sized =
     let whole : all ≡ postfix t ++ (ops.End ∷ []) = e ∙ ap (λ (l : List Op). l ++ (postfix t ++ (ops.End ∷ []))) none in
     let parts = all_front (postfix t) (ops.End ∷ []) (subst (λ (l : List Op). AllByRecursion IsSized l) whole sized) in
@@ -294,16 +329,31 @@ tree_ended phase all sor t e (inr (is, dxe)) sized =
       front = ops.Sor ∷ postfix t;
       stage = stages.Values (0 + 1);
       joined = whole;
-      path = (record { known = subst (λ (p : Phase). has_code p 9 ≡ true) (sym dxe) refl; placed = refl; valued = refl; sized = refl }, λ e. cc, tree_path phase 0 t parts);
+      path = (
+        record { known = subst (λ (p : Phase). has_code p 9 ≡ true) (sym dxe) refl; placed = refl; valued = refl; sized = refl },
+        λ e. cc,
+        tree_path phase 0 t parts,
+      );
       ended = fits_value phase (0 + 1) ops.End (omega arith) (omega arith) refl refl;
     }
 
-order_ended : (phase : Phase) (all : List Op) (o : Op) → all ≡ o ∷ ops.End ∷ [] → phase ≡ Dxe → (op_code o ≡ 0) ⊎ (op_code o ≡ 1) → AllByRecursion IsSized all → stage_after stages.Start o ≡ stages.Ordered → o ≢ ops.End → has_values 0 (op_code o) ≡ true → IsEnded phase all
+order_ended : (phase : Phase) (all : List Op) (o : Op) → all ≡ o ∷ ops.End ∷ [] → phase ≡ Dxe → (op_code o ≡ 0) ⊎ (op_code o ≡ 1)
+    → AllByRecursion IsSized all → stage_after stages.Start o ≡ stages.Ordered → o ≢ ops.End → has_values 0 (op_code o) ≡ true
+    → IsEnded phase all
 order_ended phase all o e dxe code sized after ne values = record {
   front = o ∷ [];
   stage = stages.Ordered;
   joined = e;
-  path = (record { known = subst (λ (p : Phase). has_code p (op_code o) ≡ true) (sym dxe) (known code); placed = refl; valued = values; sized = (subst (λ (l : List Op). AllByRecursion IsSized l) e sized).0 }, ne, after);
+  path = (
+    record {
+      known = subst (λ (p : Phase). has_code p (op_code o) ≡ true) (sym dxe) (known code);
+      placed = refl;
+      valued = values;
+      sized = (subst (λ (l : List Op). AllByRecursion IsSized l) e sized).0;
+    },
+    ne,
+    after,
+  );
   ended = record { known = subst (λ (p : Phase). has_code p 8 ≡ true) (sym dxe) refl; placed = refl; valued = refl; sized = refl };
 } where
   known : (op_code o ≡ 0) ⊎ (op_code o ≡ 1) → nat_le (op_code o) 9 ≡ true
@@ -329,16 +379,24 @@ pub record ContinuesPath (phase : Phase) (os xs : List Op) (f g : Stage) (r y : 
   pub bytes_are : r ≡ ops_bytes more ++ (8 ∷ y)
   pub path : OpPath phase f more g
 
-pub same_front : (phase : Phase) (s f g : Stage) (os xs : List Op) (r y : List ℕ) → OpPath phase s os f → OpPath phase s xs g → ops_bytes os ++ r ≡ ops_bytes xs ++ (8 ∷ y) → ContinuesPath phase os xs f g r y
-same_front phase s f g [] xs r y p q e = record { more = xs; ops_are = refl; bytes_are = e; path = subst (λ (k : Stage). OpPath phase k xs g) p q }
+pub same_front : (phase : Phase) (s f g : Stage) (os xs : List Op) (r y : List ℕ) → OpPath phase s os f → OpPath phase s xs g
+    → ops_bytes os ++ r ≡ ops_bytes xs ++ (8 ∷ y) → ContinuesPath phase os xs f g r y
+same_front phase s f g [] xs r y p q e =
+    record { more = xs; ops_are = refl; bytes_are = e; path = subst (λ (k : Stage). OpPath phase k xs g) p q }
 same_front phase s f g (o ∷ os) [] r y p q e = absurd (p.1 (end_code o (ap (λ (l : List ℕ). slice_index l 0) e)))
 same_front phase s f g (o ∷ os) (x ∷ xs) r y p q e =
     let left : op_code o ∷ (op_operand o ++ (ops_bytes os ++ r)) ≡ op_code x ∷ (op_operand x ++ (ops_bytes xs ++ (8 ∷ y))) =
-    ap (λ (l : List ℕ). op_code o ∷ l) (sym (append_assoc (op_operand o) (ops_bytes os) r)) ∙ e ∙ ap (λ (l : List ℕ). op_code x ∷ l) (append_assoc (op_operand x) (ops_bytes xs) (8 ∷ y)) in
+    ap (λ (l : List ℕ). op_code o ∷ l) (sym (append_assoc (op_operand o) (ops_bytes os) r)) ∙ e
+    ∙ ap (λ (l : List ℕ). op_code x ∷ l) (append_assoc (op_operand x) (ops_bytes xs) (8 ∷ y)) in
     let same = same_op o x (ops_bytes os ++ r) (ops_bytes xs ++ (8 ∷ y)) (p.0).sized (q.0).sized left in
     let q' : OpPath phase (stage_after s o) xs g = subst (λ (k : Op). OpPath phase (stage_after s k) xs g) (sym same.0) q.2 in
     let k = same_front phase (stage_after s o) f g os xs r y p.2 q' same.1 in
-    record { more = k.more; ops_are = ap (λ (l : List Op). l ++ xs) (ap (λ (z : Op). z ∷ []) (sym same.0)) ∙ ap (λ (l : List Op). o ∷ l) k.ops_are; bytes_are = k.bytes_are; path = k.path }
+    record {
+      more = k.more;
+      ops_are = ap (λ (l : List Op). l ++ xs) (ap (λ (z : Op). z ∷ []) (sym same.0)) ∙ ap (λ (l : List Op). o ∷ l) k.ops_are;
+      bytes_are = k.bytes_are;
+      path = k.path;
+    }
 
 pub ended_bytes : (front : List Op) (rest : List ℕ) → ops_bytes (front ++ (ops.End ∷ [])) ++ rest ≡ ops_bytes front ++ (8 ∷ rest)
 ended_bytes front rest = ap (λ (l : List ℕ). l ++ rest) (bytes_join front (ops.End ∷ [])) ∙ append_assoc (ops_bytes front) (8 ∷ []) rest
@@ -355,10 +413,12 @@ one_spelling phase xs ys r s b p q =
     let fronts : y.front ≡ x.front = k.ops_are ∙ ap (λ (l : List Op). x.front ++ l) n.0 ∙ append-nil x.front in
     (y.joined ∙ ap (λ (l : List Op). l ++ (ops.End ∷ [])) fronts ∙ sym x.joined, n.1)
   where
-    none_more : (phase : Phase) (f g : Stage) (more : List Op) (r s : List ℕ) → OpPath phase f more g → 8 ∷ r ≡ ops_bytes more ++ (8 ∷ s) → (more ≡ []) × (s ≡ r)
+    none_more : (phase : Phase) (f g : Stage) (more : List Op) (r s : List ℕ) → OpPath phase f more g → 8 ∷ r ≡ ops_bytes more ++ (8 ∷ s)
+        → (more ≡ []) × (s ≡ r)
     none_more phase f g [] r s p e = (refl, sym (ap (drop 1) e))
     none_more phase f g (o ∷ os) r s p e = absurd (p.1 (end_code o (sym (ap (λ (l : List ℕ). slice_index l 0) e))))
 
 -- what spells some bytes spells these
-pub spelled_again : (phase : Phase) (all : List Op) (rest b c : List ℕ) → Spells phase all rest b → c ≡ ops_bytes all ++ rest → Spells phase all rest c
+pub spelled_again : (phase : Phase) (all : List Op) (rest b c : List ℕ) → Spells phase all rest b → c ≡ ops_bytes all ++ rest
+    → Spells phase all rest c
 spelled_again phase all rest b c spells e = record { joined = e; whole = spells.whole; sized = spells.sized }

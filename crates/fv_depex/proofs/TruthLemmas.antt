@@ -18,7 +18,8 @@ two_before t u o os =
     append_assoc (postfix t) (postfix u ++ (o ∷ [])) os ∙ ap (λ (l : List Op). postfix t ++ l) (append_assoc (postfix u) (o ∷ []) os)
 
 -- the ops of a tree leave its truth on top
-run_tree : (set : List Guid) (t : Expression) (s : List Bool) (os : List Op) → evaluate_ops set (postfix t ++ os) s ≡ evaluate_ops set os (truth set t ∷ s)
+run_tree : (set : List Guid) (t : Expression) (s : List Bool) (os : List Op)
+    → evaluate_ops set (postfix t ++ os) s ≡ evaluate_ops set os (truth set t ∷ s)
 run_tree set always s os = refl
 run_tree set never s os = refl
 run_tree set (installed g) s os = refl
@@ -31,9 +32,11 @@ run_tree set (either t u) s os =
     ap (λ (l : List Op). evaluate_ops set l s) (two_before t u ops.Or os) ∙ run_tree set t s (postfix u ++ (ops.Or ∷ os))
     ∙ run_tree set u (truth set t ∷ s) (ops.Or ∷ os)
 
-pub truth_of_tree : (set : List Guid) (phase : Phase) (all : List Op) (t : Expression) → IsTree phase all t → evaluate_ops set all [] ≡ Some (truth set t)
+pub truth_of_tree : (set : List Guid) (phase : Phase) (all : List Op) (t : Expression) → IsTree phase all t
+    → evaluate_ops set all [] ≡ Some (truth set t)
 truth_of_tree set phase all t is = ap (λ (l : List Op). evaluate_ops set l []) is.joined ∙ go is.sor is.sor_is where
-  go : (sor : List Op) → (sor ≡ []) ⊎ ((sor ≡ ops.Sor ∷ []) × (phase ≡ Dxe)) → evaluate_ops set (sor ++ (postfix t ++ (ops.End ∷ []))) [] ≡ Some (truth set t)
+  go : (sor : List Op) → (sor ≡ []) ⊎ ((sor ≡ ops.Sor ∷ []) × (phase ≡ Dxe))
+      → evaluate_ops set (sor ++ (postfix t ++ (ops.End ∷ []))) [] ≡ Some (truth set t)
   go sor (inl e) = ap (λ (l : List Op). evaluate_ops set (l ++ (postfix t ++ (ops.End ∷ []))) []) e ∙ run_tree set t [] (ops.End ∷ [])
   go sor (inr e) = ap (λ (l : List Op). evaluate_ops set (l ++ (postfix t ++ (ops.End ∷ []))) []) e.0 ∙ run_tree set t [] (ops.End ∷ [])
 
@@ -51,20 +54,25 @@ tree_no_order phase all t tree order = never (truth [] t) (sym (truth_of_tree []
 
 -- ---- the loop over the ops
 
-pub run_step : (set : List Guid) (all : List Op) (s t : List Bool) (o : Op) (i : ℕ) → drop i all ≡ o ∷ drop (i + 1) all → evaluate_op set s o ≡ Some t
+pub run_step : (set : List Guid) (all : List Op) (s t : List Bool) (o : Op) (i : ℕ) → drop i all ≡ o ∷ drop (i + 1) all
+    → evaluate_op set s o ≡ Some t
     → evaluate_ops set all [] ≡ evaluate_ops set (drop i all) s → evaluate_ops set all [] ≡ evaluate_ops set (drop (i + 1) all) t
 run_step set all s t o i next done before =
-    before ∙ ap (λ (l : List Op). evaluate_ops set l s) next ∙ ap (λ (k : Option (List Bool)). and_then k (evaluate_ops set (drop (i + 1) all))) done
+    before ∙ ap (λ (l : List Op). evaluate_ops set l s) next
+    ∙ ap (λ (k : Option (List Bool)). and_then k (evaluate_ops set (drop (i + 1) all))) done
 
-pub run_end : (set : List Guid) (all : List Op) (s : List Bool) (i : ℕ) → length all ≤ i → evaluate_ops set all [] ≡ evaluate_ops set (drop i all) s → evaluate_ops set all [] ≡ top s
+pub run_end : (set : List Guid) (all : List Op) (s : List Bool) (i : ℕ) → length all ≤ i
+    → evaluate_ops set all [] ≡ evaluate_ops set (drop i all) s → evaluate_ops set all [] ≡ top s
 run_end set all s i past before = before ∙ ap (λ (l : List Op). evaluate_ops set l s) (drop_all i all past)
 
-pub value_truth : (set : List Guid) (phase : Phase) (all : List Op) (r : Result (Option Bool) DepexFault) → IfOk r (λ v. v ≡ evaluate_ops set all [])
+pub value_truth : (set : List Guid) (phase : Phase) (all : List Op) (r : Result (Option Bool) DepexFault)
+    → IfOk r (λ v. v ≡ evaluate_ops set all [])
     → IfOk r (λ v. (t : Expression) → IsTree phase all t → v ≡ Some (truth set t))
 value_truth set phase all (Ok v) is = λ t tree. is ∙ truth_of_tree set phase all t tree
 value_truth set phase all (Err f) is = tt
 
-pub value_order : (set : List Guid) (phase : Phase) (all : List Op) (r : Result (Option Bool) DepexFault) → IfOk r (λ v. v ≡ evaluate_ops set all []) → IfOk r (λ v. IsOrder phase all → v ≡ None)
+pub value_order : (set : List Guid) (phase : Phase) (all : List Op) (r : Result (Option Bool) DepexFault)
+    → IfOk r (λ v. v ≡ evaluate_ops set all []) → IfOk r (λ v. IsOrder phase all → v ≡ None)
 value_order set phase all (Ok v) is = λ order. is ∙ none_of_order set phase all order
 value_order set phase all (Err f) is = tt
 

@@ -1,5 +1,6 @@
 -- The checks of an op in their order, and the first fault of an expression.
-use Rattle.std.specs.Prelude.{◌≡◌, ◌≢◌, ℕ, ◌+◌, ◌-◌, ◌==◌, nat_le, ◌&&◌, ◌||◌, not, Bool, true, if◌then◌else◌, List, [], ◌∷◌, ◌++◌, length, slice_index}
+use Rattle.std.specs.Prelude.{◌≡◌, ◌≢◌, ℕ, ◌+◌, ◌-◌, ◌==◌, nat_le, ◌&&◌, ◌||◌, not, Bool, true, if◌then◌else◌, List, []}
+use Rattle.std.specs.Prelude.{◌∷◌, ◌++◌, length, slice_index}
 use Rattle.fv_base.specs.Checks.{Check, IsFirstFault}
 use Rattle.fv_depex.specs.declared.fault.DepexFault.{DepexFault}
 use Rattle.fv_depex.specs.declared.fault.DepexFaultKind.{DepexFaultKind}
@@ -23,8 +24,8 @@ in_place stages.Start code = true
 in_place stages.Ordered code = code == 8
 in_place (stages.Values n) code = nat_le 2 code && nat_le code 8
 
--- the values that the stack holds are those that the code takes: AND and OR two, NOT one, and END the only one; behind BEFORE or
--- AFTER the stack is empty, and END takes none
+-- the values that the stack holds are those that the code takes: AND and OR two, NOT one, and END the only one; behind
+-- BEFORE or AFTER the stack is empty, and END takes none
 abbrev pub has_values : ℕ → ℕ → Bool
 has_values n code =
     if (code == 3) || (code == 4) then nat_le 2 n
@@ -93,7 +94,8 @@ abbrev pub OpPath : Phase → Stage → List Op → Stage → Type 0
 OpPath phase stage [] final = stage ≡ final
 OpPath phase stage (o ∷ os) final = OpFits phase stage o × (o ≢ ops.End) × OpPath phase (stage_after stage o) os final
 
--- some ops that may stand there are read up to the fault's offset, and there it is that of the first check that does not hold
+-- some ops that may stand there are read up to the fault's offset, and there it is that of the first
+-- check that does not hold
 pub record IsFirstOpFault (phase : Phase) (b : List ℕ) (fault : DepexFault) : Type 0 where
   pub before : List Op
   pub stage : Stage

@@ -39,8 +39,8 @@ pub record IsOrder (phase : Phase) (all : List Op) : Type 0 where
   pub joined : (all ≡ ops.Before guid ∷ ops.End ∷ []) ⊎ (all ≡ ops.After guid ∷ ops.End ∷ [])
   pub dxe : phase ≡ Dxe
 
--- the code of an op: EFI_DEP_BEFORE (00), EFI_DEP_AFTER, EFI_DEP_PUSH, EFI_DEP_AND, EFI_DEP_OR, EFI_DEP_NOT, EFI_DEP_TRUE, EFI_DEP_FALSE,
--- EFI_DEP_END, EFI_DEP_SOR (09)
+-- the code of an op: EFI_DEP_BEFORE (00), EFI_DEP_AFTER, EFI_DEP_PUSH, EFI_DEP_AND, EFI_DEP_OR, EFI_DEP_NOT,
+-- EFI_DEP_TRUE, EFI_DEP_FALSE, EFI_DEP_END, EFI_DEP_SOR (09)
 abbrev pub op_code : Op → ℕ
 op_code (ops.Before g) = 0x00
 op_code (ops.After g) = 0x01

@@ -3,7 +3,8 @@
 ghost use Rattle.std.specs.Prelude.{◌≡◌, ◌≢◌, ◌≤◌, ◌+◌, ℕ, List, length, drop, true, None, Some, OnOk, IfOk, IfErr};
 ghost use Rattle.fv_base.specs.Checks.{IsFirstFault};
 ghost use Rattle.fv_base.specs.Verdicts.{first_fault};
-ghost use Rattle.fv_depex.specs.Checks.{BeginsFirstOp, IsFirstOpFault, BeginsOp, has_code, in_place, has_values, holds_values, has_operand, op_checks, depex_want_of_memory};
+ghost use Rattle.fv_depex.specs.Checks.{BeginsFirstOp, IsFirstOpFault, BeginsOp, has_code, in_place, has_values};
+ghost use Rattle.fv_depex.specs.Checks.{holds_values, has_operand, op_checks, depex_want_of_memory};
 ghost use Rattle.fv_depex.specs.Expressions.{Spells, carries, op_code, operand_len};
 ghost use Rattle.fv_depex.specs.Ops.{op_in};
 ghost use Rattle.fv_depex.specs.declared.op.Op.{Op};
@@ -140,7 +141,8 @@ fn next_op(rest: &[u8], phase: Phase, stage: Stage) -> Result<Op, DepexFaultKind
 
 // The ops up to END, and how many bytes they have.
 fn read_ops(alloc: Global, bytes: &[u8], phase: Phase) -> Result<(Vec<Op>, usize), DepexFault>
-    ensures found { IfOk result (λ p. (p.1 ≤ length bytes.now) × Spells phase p.0.items (drop p.1 bytes.now) bytes.now) }
+    ensures found { IfOk result
+        (λ p. (p.1 ≤ length bytes.now) × Spells phase p.0.items (drop p.1 bytes.now) bytes.now) }
     ensures first { IfErr result (λ f. f ≢ depex_want_of_memory → IsFirstOpFault phase bytes.now f) }
     ensures memory { IfErr result (λ f. f ≡ depex_want_of_memory → BeginsFirstOp phase bytes.now) }
 {
@@ -187,10 +189,12 @@ pub fn read_depex(alloc: Global, bytes: &[u8], phase: Phase) -> Result<Depex, De
     ensures found { IfOk result (λ d. (d.phase ≡ phase) × Spells phase d.ops d.rest bytes.now) }
 
     // They are spelled by no others.
-    ensures only { IfOk result (λ d. (ops : List Op) (rest : List ℕ) → Spells phase ops rest bytes.now → (ops ≡ d.ops) × (rest ≡ d.rest)) }
+    ensures only { IfOk result
+        (λ d. (ops : List Op) (rest : List ℕ) → Spells phase ops rest bytes.now → (ops ≡ d.ops) × (rest ≡ d.rest)) }
 
     // Where it refuses, want of memory aside, they are spelled by none.
-    ensures none { IfErr result (λ f. f ≢ depex_want_of_memory → (ops : List Op) (rest : List ℕ) → Spells phase ops rest bytes.now → ⊥) }
+    ensures none { IfErr result
+        (λ f. f ≢ depex_want_of_memory → (ops : List Op) (rest : List ℕ) → Spells phase ops rest bytes.now → ⊥) }
 
     // A refusal, want of memory aside, names the first check that does not hold, at the first op that has one.
     ensures first { IfErr result (λ f. f ≢ depex_want_of_memory → IsFirstOpFault phase bytes.now f) }

@@ -1,6 +1,7 @@
 //! Expressions, evaluated.
 
-ghost use Rattle.std.specs.Prelude.{◌≡◌, Bool, true, false, if◌then◌else◌, None, Some, [], ◌∷◌, ◌<◌, length, reverse, IfSome, IfNone, IfOk, IfErr};
+ghost use Rattle.std.specs.Prelude.{◌≡◌, Bool, true, false, if◌then◌else◌, None, Some, [], ◌∷◌, ◌<◌, length, reverse};
+ghost use Rattle.std.specs.Prelude.{IfSome, IfNone, IfOk, IfErr};
 ghost use Rattle.fv_depex.specs.Checks.{depex_want_of_memory};
 ghost use Rattle.fv_depex.specs.Evaluation.{evaluate_op, evaluate_ops, top};
 ghost use Rattle.fv_depex.specs.Expressions.{Expression, IsTree, IsOrder, is_among, truth};
@@ -37,7 +38,8 @@ fn top(stack: &mut Vec<bool>) -> Option<bool>
 
 // One op on the stack, and whether the stack had what it takes.
 fn evaluate_op(stack: &mut Vec<bool>, op: &Op, installed: &[Guid]) -> Result<bool, AllocError>
-    ensures { IfOk result (λ done. evaluate_op installed.now (reverse stack.old.items) op.now ≡ (if done then Some (reverse stack.new.items) else None)) }
+    ensures { IfOk result (λ done. evaluate_op installed.now (reverse stack.old.items) op.now
+        ≡ (if done then Some (reverse stack.new.items) else None)) }
 {
     match op {
         Op::Before(_) | Op::After(_) => return Ok(false),
@@ -95,13 +97,15 @@ pub fn evaluate(
     installed: &[Guid],
 ) -> Result<Option<bool>, DepexFault>
     // It is the truth of the tree whose ops these are.
-    ensures truth { IfOk result (λ v. (t : Expression) → IsTree depex.now.phase depex.now.ops t → v ≡ Some (truth installed.now t)) }
+    ensures truth { IfOk result
+        (λ v. (t : Expression) → IsTree depex.now.phase depex.now.ops t → v ≡ Some (truth installed.now t)) }
 
     // BEFORE and AFTER have none.
     ensures order { IfOk result (λ v. IsOrder depex.now.phase depex.now.ops → v ≡ None) }
 
     // They are the ops of one tree at most.
-    ensures tree { (t u : Expression) → IsTree depex.now.phase depex.now.ops t → IsTree depex.now.phase depex.now.ops u → t ≡ u }
+    ensures tree { (t u : Expression) → IsTree depex.now.phase depex.now.ops t → IsTree depex.now.phase depex.now.ops u
+        → t ≡ u }
     ensures err { IfErr result (λ f. f ≡ depex_want_of_memory) }
 {
     evaluate_ops(alloc, depex.ops(), installed)

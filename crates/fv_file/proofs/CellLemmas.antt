@@ -1,5 +1,6 @@
 -- What is answered at a place is the cell that stands there.
-use Rattle.std.proofs.Common.{◌≡◌, ◌≤◌, ◌<◌, ℕ, ◌+◌, ◌-◌, ◌*◌, ◌/◌, ◌%◌, List, [], ◌++◌, length, take, drop, inl, inr, refl, sym, ap, ◌∙◌, subst, arith, Bool, true, false, length-drop, length-append, append_assoc, append-nil}
+use Rattle.std.proofs.Common.{◌≡◌, ◌≤◌, ◌<◌, ℕ, ◌+◌, ◌-◌, ◌*◌, ◌/◌, ◌%◌, List, [], ◌++◌, length, take, drop, inl, inr, refl, sym, ap, ◌∙◌}
+use Rattle.std.proofs.Common.{subst, arith, Bool, true, false, length-drop, length-append, append_assoc, append-nil}
 use Rattle.std.specs.Prelude.{◌==◌, ◌⊎◌, ◌&&◌, ◌≢◌, not, nat_le, nat_lt, slice_index, Option, None, Some, Result, Ok, Err, if◌then◌else◌}
 use Rattle.std.proofs.lemmas.Bool.{leb-true, le-leb, ltb-true, ltb-false, eqb-true, eqb-false, eq-eqb}
 use Rattle.std.proofs.lemmas.List.{length-take-le, get_or-take}
@@ -19,7 +20,8 @@ use Rattle.fv_base.specs.declared.flash.Polarity.TheVariants.{Ones, Zeros}
 use Rattle.fv_base.proofs.CheckLemmas.{all_hold, first_is, not_first, verdict_ok, verdict_err, verdict_none}
 use Rattle.fv_file.specs.Attributes.{is_large}
 use Rattle.fv_file.specs.Cells.{CellForm, Valid, Pad, Dead, Stub, Free, offset_of, cell_len, is_free, IsFilled, IsCell, IsMadeUp}
-use Rattle.fv_file.specs.FileChecks.{leading_count, attributes_at, file_header_len_at, file_size_at, payload_at, file_checks, stub_checks, state_checks, cell_checks}
+use Rattle.fv_file.specs.FileChecks.{leading_count, attributes_at, file_header_len_at, file_size_at, payload_at, file_checks, stub_checks}
+use Rattle.fv_file.specs.FileChecks.{state_checks, cell_checks}
 use Rattle.fv_file.specs.Files.{pad_kind, file_header_len, head_in, IsSound}
 use Rattle.fv_file.specs.CellVerdicts.{file_verdict, cell_for, cell_with, stub_verdict, state_verdict, cell_verdict}
 use Rattle.fv_file.specs.States.{StateOf, bits_of, state_of, is_alive}
@@ -58,7 +60,8 @@ pub record CellStandsAt (system : FileSystem) (polarity : Polarity) (at : ℕ) (
 
 -- the file at the front of the bytes, with its filler
 filled_at : (s : FileSystem) (p : Polarity) (st : FileState) (r : List ℕ) → length r % 8 ≡ 0 → FileAt s p st r
-    → (up_to_8 (file_size_at r) ≤ length r) × (0 < up_to_8 (file_size_at r)) × (up_to_8 (file_size_at r) % 8 ≡ 0) × IsFilled s p (head_in st r) (payload_at r) (take (up_to_8 (file_size_at r)) r)
+    → (up_to_8 (file_size_at r) ≤ length r) × (0 < up_to_8 (file_size_at r)) × (up_to_8 (file_size_at r) % 8 ≡ 0)
+    × IsFilled s p (head_in st r) (payload_at r) (take (up_to_8 (file_size_at r)) r)
 filled_at s p st r even f =
     let n : ℕ = file_size_at r in
     let m : ℕ = up_to_8 n in
@@ -92,7 +95,8 @@ filled_at s p st r even f =
     fits : (n m : ℕ) → n ≤ m → m % 8 ≡ 0 → (n + 7) / 8 * 8 ≤ m
     fits n m l e = omega arith
 
-dead_stands : (s : FileSystem) (p : Polarity) (st : FileState) (at : ℕ) (r : List ℕ) → length r % 8 ≡ 0 → (st ≡ states.HeaderValid) ⊎ (st ≡ states.Deleted)
+dead_stands : (s : FileSystem) (p : Polarity) (st : FileState) (at : ℕ) (r : List ℕ) → length r % 8 ≡ 0
+    → (st ≡ states.HeaderValid) ⊎ (st ≡ states.Deleted)
     → FileAt s p st r → CellStandsAt s p at (Dead at (up_to_8 (file_size_at r))) r
 dead_stands s p st at r even dead f =
     let n = filled_at s p st r even f in
@@ -105,20 +109,23 @@ dead_stands s p st at r even dead f =
       cell = (head_in st r, payload_at r, n.3, dead, sym (length-take-le (up_to_8 (file_size_at r)) r n.0));
     }
 
-pad_stands : (s : FileSystem) (p : Polarity) (st : FileState) (at : ℕ) (r : List ℕ) → length r % 8 ≡ 0 → is_alive st ≡ true → slice_index r 18 ≡ pad_kind
+pad_stands : (s : FileSystem) (p : Polarity) (st : FileState) (at : ℕ) (r : List ℕ) → length r % 8 ≡ 0 → is_alive st ≡ true
+    → slice_index r 18 ≡ pad_kind
     → FileAt s p st r → CellStandsAt s p at (Pad at (head_in st r) (payload_at r)) r
 pad_stands s p st at r even alive kind f =
     let n = filled_at s p st r even f in
     record { not_free = refl; place = refl; within = n.0; some = n.1; multiple = n.2; cell = (n.3, alive, kind) }
 
-valid_stands : (s : FileSystem) (p : Polarity) (st : FileState) (at : ℕ) (r : List ℕ) → length r % 8 ≡ 0 → is_alive st ≡ true → (slice_index r 18 == pad_kind) ≡ false
+valid_stands : (s : FileSystem) (p : Polarity) (st : FileState) (at : ℕ) (r : List ℕ) → length r % 8 ≡ 0 → is_alive st ≡ true
+    → (slice_index r 18 == pad_kind) ≡ false
     → FileAt s p st r → CellStandsAt s p at (Valid at (head_in st r) (payload_at r)) r
 valid_stands s p st at r even alive kind f =
     let n = filled_at s p st r even f in
     record { not_free = refl; place = refl; within = n.0; some = n.1; multiple = n.2; cell = (n.3, alive, f.sound alive kind) }
 
 stub_stands : (s : FileSystem) (p : Polarity) (at : ℕ) (r : List ℕ) → file_header_len_at r ≤ length r
-    → (StateOf (slice_index r 23) p states.Construction ⊎ StateOf (slice_index r 23) p states.HeaderInvalid) → CellStandsAt s p at (Stub at (file_header_len_at r)) r
+    → (StateOf (slice_index r 23) p states.Construction ⊎ StateOf (slice_index r 23) p states.HeaderInvalid)
+    → CellStandsAt s p at (Stub at (file_header_len_at r)) r
 stub_stands s p at r within state =
     let n : ℕ = file_header_len_at r in
     let low : 24 ≤ n = header_least (is_large (attributes_at r)) in
@@ -140,25 +147,30 @@ stub_stands s p at r within state =
     eighth false = refl
     eighth true = refl
 
-with_ok : (st : FileState) (at : ℕ) (r : List ℕ) (x : Result FileHead Fault) (c : CellForm) → cell_with st at r x ≡ Ok c → (head : FileHead) × (x ≡ Ok head) × (cell_for st at head r ≡ c)
+with_ok : (st : FileState) (at : ℕ) (r : List ℕ) (x : Result FileHead Fault) (c : CellForm) → cell_with st at r x ≡ Ok c
+    → (head : FileHead) × (x ≡ Ok head) × (cell_for st at head r ≡ c)
 with_ok st at r (Ok head) c e = (head, refl, cc)
 with_ok st at r (Err f) c e = cc
 
-pub verdict_stands : (s : FileSystem) (p : Polarity) (at : ℕ) (r : List ℕ) (c : CellForm) → length r % 8 ≡ 0 → cell_verdict s p at r ≡ Ok c → CellStandsAt s p at c r
+pub verdict_stands : (s : FileSystem) (p : Polarity) (at : ℕ) (r : List ℕ) (c : CellForm) → length r % 8 ≡ 0 → cell_verdict s p at r ≡ Ok c
+    → CellStandsAt s p at c r
 verdict_stands s p at r c even is = go (nat_lt (length r) 24) refl (state_of p (slice_index r 23)) refl where
-  stub : 24 ≤ length r → (st : FileState) → state_of p (slice_index r 23) ≡ Some st → (st ≡ states.Construction) ⊎ (st ≡ states.HeaderInvalid)
+  stub : 24 ≤ length r → (st : FileState) → state_of p (slice_index r 23) ≡ Some st
+      → (st ≡ states.Construction) ⊎ (st ≡ states.HeaderInvalid)
       → stub_verdict at r ≡ Ok c → CellStandsAt s p at c r
   stub long st e which v =
       let k = verdict_ok (first_fault (stub_checks at r)) (Stub at (file_header_len_at r)) c v in
       let all = all_hold (stub_checks at r) k.0 in
       subst (λ (d : CellForm). CellStandsAt s p at d r) k.1 (stub_stands s p at r (leb-true _ _ all.0) (state which))
     where
-      state : (st ≡ states.Construction) ⊎ (st ≡ states.HeaderInvalid) → StateOf (slice_index r 23) p states.Construction ⊎ StateOf (slice_index r 23) p states.HeaderInvalid
+      state : (st ≡ states.Construction) ⊎ (st ≡ states.HeaderInvalid)
+          → StateOf (slice_index r 23) p states.Construction ⊎ StateOf (slice_index r 23) p states.HeaderInvalid
       state (inl h) = inl (subst (λ (t : FileState). StateOf (slice_index r 23) p t) h (state_read p (slice_index r 23) st e))
       state (inr h) = inr (subst (λ (t : FileState). StateOf (slice_index r 23) p t) h (state_read p (slice_index r 23) st e))
 
   dead : 24 ≤ length r → (st : FileState) → state_of p (slice_index r 23) ≡ Some st → (st ≡ states.HeaderValid) ⊎ (st ≡ states.Deleted)
-      → ((head : FileHead) → cell_for st at head r ≡ Dead at (up_to_8 head.size)) → cell_with st at r (file_verdict s st at r) ≡ Ok c → CellStandsAt s p at c r
+      → ((head : FileHead) → cell_for st at head r ≡ Dead at (up_to_8 head.size)) → cell_with st at r (file_verdict s st at r) ≡ Ok c
+      → CellStandsAt s p at c r
   dead long st e which form v =
       let k = with_ok st at r (file_verdict s st at r) c v in
       let f = file_ok s p st at r k.0 long (state_read p (slice_index r 23) st e) k.1 in
@@ -166,21 +178,27 @@ verdict_stands s p at r c even is = go (nat_lt (length r) 24) refl (state_of p (
       subst (λ (d : CellForm). CellStandsAt s p at d r) same (dead_stands s p st at r even which f.0)
 
   alive : 24 ≤ length r → (st : FileState) → state_of p (slice_index r 23) ≡ Some st → is_alive st ≡ true
-      → ((head : FileHead) → cell_for st at head r ≡ (if head.kind == pad_kind then Pad at head (payload_at r) else Valid at head (payload_at r)))
+      → ((head : FileHead)
+      → cell_for st at head r ≡ (if head.kind == pad_kind then Pad at head (payload_at r) else Valid at head (payload_at r)))
       → cell_with st at r (file_verdict s st at r) ≡ Ok c → CellStandsAt s p at c r
   alive long st e which form v =
       let k = with_ok st at r (file_verdict s st at r) c v in
       let f = file_ok s p st at r k.0 long (state_read p (slice_index r 23) st e) k.1 in
-      let same : (if slice_index r 18 == pad_kind then Pad at (head_in st r) (payload_at r) else Valid at (head_in st r) (payload_at r)) ≡ c =
+      let same :
+      (if slice_index r 18 == pad_kind then Pad at (head_in st r) (payload_at r) else Valid at (head_in st r) (payload_at r)) ≡ c =
       ap (λ (h : FileHead). if h.kind == pad_kind then Pad at h (payload_at r) else Valid at h (payload_at r)) f.1 ∙ sym (form k.0) ∙ k.2 in
       kind (slice_index r 18 == pad_kind) refl f.0 same
     where
       kind : (t : Bool) → (slice_index r 18 == pad_kind) ≡ t → FileAt s p st r
-          → (if slice_index r 18 == pad_kind then Pad at (head_in st r) (payload_at r) else Valid at (head_in st r) (payload_at r)) ≡ c → CellStandsAt s p at c r
-      kind true t f same = subst (λ (d : CellForm). CellStandsAt s p at d r) (sym (if_true _ _ _ t) ∙ same) (pad_stands s p st at r even which (eqb-true _ _ t) f)
-      kind false t f same = subst (λ (d : CellForm). CellStandsAt s p at d r) (sym (if_false _ _ _ t) ∙ same) (valid_stands s p st at r even which t f)
+          → (if slice_index r 18 == pad_kind then Pad at (head_in st r) (payload_at r) else Valid at (head_in st r) (payload_at r)) ≡ c
+          → CellStandsAt s p at c r
+      kind true t f same = subst (λ (d : CellForm). CellStandsAt s p at d r) (sym (if_true _ _ _ t) ∙ same)
+          (pad_stands s p st at r even which (eqb-true _ _ t) f)
+      kind false t f same =
+          subst (λ (d : CellForm). CellStandsAt s p at d r) (sym (if_false _ _ _ t) ∙ same) (valid_stands s p st at r even which t f)
 
-  cell : (o : Option FileState) → 24 ≤ length r → state_of p (slice_index r 23) ≡ o → state_verdict o s p at r ≡ Ok c → CellStandsAt s p at c r
+  cell : (o : Option FileState) → 24 ≤ length r → state_of p (slice_index r 23) ≡ o → state_verdict o s p at r ≡ Ok c
+      → CellStandsAt s p at c r
   cell None long e v = cc
   cell (Some states.Free) long e v = cc
   cell (Some states.Construction) long e v = stub long states.Construction e (inl refl) v
@@ -192,19 +210,23 @@ verdict_stands s p at r c even is = go (nat_lt (length r) 24) refl (state_of p (
 
   go : (t : Bool) → nat_lt (length r) 24 ≡ t → (o : Option FileState) → state_of p (slice_index r 23) ≡ o → CellStandsAt s p at c r
   go true l o e =
-      absurd (not_both (cell_verdict s p at r) (stray p at r) c (if_true _ (Err (stray p at r)) (state_verdict (state_of p (slice_index r 23)) s p at r) l) is)
+      absurd (not_both (cell_verdict s p at r) (stray p at r) c
+      (if_true _ (Err (stray p at r)) (state_verdict (state_of p (slice_index r 23)) s p at r) l) is)
   go false l o e =
-      cell o (ltb-false (length r) 24 l) e (ap (λ (q : Option FileState). state_verdict q s p at r) (sym e) ∙ sym (if_false _ (Err (stray p at r)) (state_verdict (state_of p (slice_index r 23)) s p at r) l) ∙ is)
+      cell o (ltb-false (length r) 24 l) e (ap (λ (q : Option FileState). state_verdict q s p at r) (sym e)
+      ∙ sym (if_false _ (Err (stray p at r)) (state_verdict (state_of p (slice_index r 23)) s p at r) l) ∙ is)
 
 -- ---- from the cell to the verdict
 
 -- the verdict on bytes that are long enough and show a state
-shown_verdict : (s : FileSystem) (p : Polarity) (at : ℕ) (r : List ℕ) (st : FileState) → 24 ≤ length r → StateOf (slice_index r 23) p st → cell_verdict s p at r ≡ state_verdict (Some st) s p at r
+shown_verdict : (s : FileSystem) (p : Polarity) (at : ℕ) (r : List ℕ) (st : FileState) → 24 ≤ length r → StateOf (slice_index r 23) p st
+    → cell_verdict s p at r ≡ state_verdict (Some st) s p at r
 shown_verdict s p at r st long state =
     if_false _ (Err (stray p at r)) (state_verdict (state_of p (slice_index r 23)) s p at r) (not_less (length r) 24 long)
     ∙ ap (λ (q : Option FileState). state_verdict q s p at r) (state_shown p (slice_index r 23) st state)
 
-alive_verdict : (s : FileSystem) (p : Polarity) (at : ℕ) (r : List ℕ) (st : FileState) → is_alive st ≡ true → state_verdict (Some st) s p at r ≡ cell_with st at r (file_verdict s st at r)
+alive_verdict : (s : FileSystem) (p : Polarity) (at : ℕ) (r : List ℕ) (st : FileState) → is_alive st ≡ true
+    → state_verdict (Some st) s p at r ≡ cell_with st at r (file_verdict s st at r)
 alive_verdict s p at r states.Free h = cc
 alive_verdict s p at r states.Construction h = cc
 alive_verdict s p at r states.HeaderValid h = cc
@@ -224,24 +246,28 @@ alive_form at head r states.Deleted h = cc
 alive_form at head r states.HeaderInvalid h = cc
 
 -- a file that stands is read as a pad or as a file
-alive_reads : (s : FileSystem) (p : Polarity) (at : ℕ) (head : FileHead) (payload u w : List ℕ) → IsFilled s p head payload u → is_alive head.state ≡ true
+alive_reads : (s : FileSystem) (p : Polarity) (at : ℕ) (head : FileHead) (payload u w : List ℕ) → IsFilled s p head payload u
+    → is_alive head.state ≡ true
     → (head.kind ≡ pad_kind) ⊎ IsSound head payload
     → cell_verdict s p at (u ++ w) ≡ Ok (if head.kind == pad_kind then Pad at head payload else Valid at head payload)
 alive_reads s p at head payload u w filled alive content =
-    let e : u ++ w ≡ filled.file ++ (filled.filler ++ w) = ap (λ (x : List ℕ). x ++ w) filled.text ∙ append_assoc filled.file filled.filler w in
+    let e : u ++ w ≡ filled.file ++ (filled.filler ++ w) =
+    ap (λ (x : List ℕ). x ++ w) filled.text ∙ append_assoc filled.file filled.filler w in
     let reads = file_reads s p head payload filled.file (filled.filler ++ w) filled.is_file in
     let r : List ℕ = filled.file ++ (filled.filler ++ w) in
     ap (cell_verdict s p at) e
     ∙ shown_verdict s p at r head.state reads.long reads.state
     ∙ alive_verdict s p at r head.state alive
     ∙ ap (cell_with head.state at r) (file_holds s p head payload filled.file r at reads (λ a. content))
-    ∙ ap Ok (alive_form at head r head.state alive ∙ ap (λ (q : List ℕ). if head.kind == pad_kind then Pad at head q else Valid at head q) reads.payload_is)
+    ∙ ap Ok (alive_form at head r head.state alive
+    ∙ ap (λ (q : List ℕ). if head.kind == pad_kind then Pad at head q else Valid at head q) reads.payload_is)
 
 -- a file that does not stand is passed over
 dead_reads : (s : FileSystem) (p : Polarity) (at : ℕ) (head : FileHead) (payload u w : List ℕ) → IsFilled s p head payload u
     → (head.state ≡ states.HeaderValid) ⊎ (head.state ≡ states.Deleted) → cell_verdict s p at (u ++ w) ≡ Ok (Dead at (up_to_8 head.size))
 dead_reads s p at head payload u w filled dead =
-    let e : u ++ w ≡ filled.file ++ (filled.filler ++ w) = ap (λ (x : List ℕ). x ++ w) filled.text ∙ append_assoc filled.file filled.filler w in
+    let e : u ++ w ≡ filled.file ++ (filled.filler ++ w) =
+    ap (λ (x : List ℕ). x ++ w) filled.text ∙ append_assoc filled.file filled.filler w in
     let reads = file_reads s p head payload filled.file (filled.filler ++ w) filled.is_file in
     let r : List ℕ = filled.file ++ (filled.filler ++ w) in
     ap (cell_verdict s p at) e
@@ -250,11 +276,15 @@ dead_reads s p at head payload u w filled dead =
     ∙ ap (cell_with head.state at r) (file_holds s p head payload filled.file r at reads (λ a. never head.state dead a))
     ∙ form head.state dead r
   where
-    verdict : (st : FileState) → (st ≡ states.HeaderValid) ⊎ (st ≡ states.Deleted) → (r : List ℕ) → state_verdict (Some st) s p at r ≡ cell_with st at r (file_verdict s st at r)
-    verdict st (inl h) r = subst (λ (t : FileState). state_verdict (Some t) s p at r ≡ cell_with t at r (file_verdict s t at r)) (sym h) refl
-    verdict st (inr h) r = subst (λ (t : FileState). state_verdict (Some t) s p at r ≡ cell_with t at r (file_verdict s t at r)) (sym h) refl
+    verdict : (st : FileState) → (st ≡ states.HeaderValid) ⊎ (st ≡ states.Deleted) → (r : List ℕ)
+        → state_verdict (Some st) s p at r ≡ cell_with st at r (file_verdict s st at r)
+    verdict st (inl h) r =
+        subst (λ (t : FileState). state_verdict (Some t) s p at r ≡ cell_with t at r (file_verdict s t at r)) (sym h) refl
+    verdict st (inr h) r =
+        subst (λ (t : FileState). state_verdict (Some t) s p at r ≡ cell_with t at r (file_verdict s t at r)) (sym h) refl
 
-    form : (st : FileState) → (st ≡ states.HeaderValid) ⊎ (st ≡ states.Deleted) → (r : List ℕ) → cell_with st at r (Ok head) ≡ Ok (Dead at (up_to_8 head.size))
+    form : (st : FileState) → (st ≡ states.HeaderValid) ⊎ (st ≡ states.Deleted) → (r : List ℕ)
+        → cell_with st at r (Ok head) ≡ Ok (Dead at (up_to_8 head.size))
     form st (inl h) r = subst (λ (t : FileState). cell_with t at r (Ok head) ≡ Ok (Dead at (up_to_8 head.size))) (sym h) refl
     form st (inr h) r = subst (λ (t : FileState). cell_with t at r (Ok head) ≡ Ok (Dead at (up_to_8 head.size))) (sym h) refl
 
@@ -262,7 +292,8 @@ dead_reads s p at head payload u w filled dead =
     never st (inl h) a = let t : is_alive states.HeaderValid ≡ true = subst (λ (u : FileState). is_alive u ≡ true) h a in absurd cc
     never st (inr h) a = let t : is_alive states.Deleted ≡ true = subst (λ (u : FileState). is_alive u ≡ true) h a in absurd cc
 
-stub_reads : (s : FileSystem) (p : Polarity) (at : ℕ) (u w : List ℕ) → (StateOf (slice_index u 23) p states.Construction ⊎ StateOf (slice_index u 23) p states.HeaderInvalid)
+stub_reads : (s : FileSystem) (p : Polarity) (at : ℕ) (u w : List ℕ)
+    → (StateOf (slice_index u 23) p states.Construction ⊎ StateOf (slice_index u 23) p states.HeaderInvalid)
     → length u ≡ file_header_len (is_large (slice_index u 19)) → cell_verdict s p at (u ++ w) ≡ Ok (Stub at (length u))
 stub_reads s p at u w state len = go state where
   low : 24 ≤ length u
@@ -283,22 +314,28 @@ stub_reads s p at u w state len = go state where
       (if_true _ _ _ (le-leb (file_header_len_at (u ++ w)) (length (u ++ w)) (omega (arith, n, length-append u w))))
       ∙ ap (λ (k : ℕ). ok (Stub at k)) n
 
-  go : StateOf (slice_index u 23) p states.Construction ⊎ StateOf (slice_index u 23) p states.HeaderInvalid → cell_verdict s p at (u ++ w) ≡ Ok (Stub at (length u))
+  go : StateOf (slice_index u 23) p states.Construction ⊎ StateOf (slice_index u 23) p states.HeaderInvalid
+      → cell_verdict s p at (u ++ w) ≡ Ok (Stub at (length u))
   go (inl h) =
-      shown_verdict s p at (u ++ w) states.Construction (omega (arith, low, length-append u w)) (subst (λ (k : ℕ). StateOf k p states.Construction) (sym e23) h) ∙ verdict
+      shown_verdict s p at (u ++ w) states.Construction (omega (arith, low, length-append u w))
+      (subst (λ (k : ℕ). StateOf k p states.Construction) (sym e23) h) ∙ verdict
   go (inr h) =
-      shown_verdict s p at (u ++ w) states.HeaderInvalid (omega (arith, low, length-append u w)) (subst (λ (k : ℕ). StateOf k p states.HeaderInvalid) (sym e23) h) ∙ verdict
+      shown_verdict s p at (u ++ w) states.HeaderInvalid (omega (arith, low, length-append u w))
+      (subst (λ (k : ℕ). StateOf k p states.HeaderInvalid) (sym e23) h) ∙ verdict
 
-filled_span : (s : FileSystem) (p : Polarity) (head : FileHead) (payload b : List ℕ) → IsFilled s p head payload b → up_to_8 head.size ≡ length b
+filled_span : (s : FileSystem) (p : Polarity) (head : FileHead) (payload b : List ℕ) → IsFilled s p head payload b
+    → up_to_8 head.size ≡ length b
 filled_span s p head payload b filled =
     let n : length b ≡ length filled.file + length filled.filler = ap length filled.text ∙ length-append filled.file filled.filler in
-    rounded head.size (length filled.filler) (length b) (n ∙ ap (λ (k : ℕ). k + length filled.filler) (sym filled.is_file.size)) filled.short filled.multiple
+    rounded head.size (length filled.filler) (length b) (n ∙ ap (λ (k : ℕ). k + length filled.filler) (sym filled.is_file.size))
+    filled.short filled.multiple
   where
     rounded : (n k m : ℕ) → m ≡ n + k → k < 8 → m % 8 ≡ 0 → (n + 7) / 8 * 8 ≡ m
     rounded n k m e l z = omega arith
 
 -- a cell that is not free is read
-pub cell_reads : (s : FileSystem) (p : Polarity) (c : CellForm) (u w : List ℕ) → IsCell s p c u → is_free c ≡ false → cell_verdict s p (offset_of c) (u ++ w) ≡ Ok c
+pub cell_reads : (s : FileSystem) (p : Polarity) (c : CellForm) (u w : List ℕ) → IsCell s p c u → is_free c ≡ false
+    → cell_verdict s p (offset_of c) (u ++ w) ≡ Ok c
 cell_reads s p (Valid at head payload) u w is f =
     alive_reads s p at head payload u w is.0 is.1 (inr is.2) ∙ ap Ok (if_false _ _ _ (not_equal head.kind pad_kind is.2.kind))
 cell_reads s p (Pad at head payload) u w is f =
@@ -317,7 +354,8 @@ cell_span s p (Dead at len) u is = is.4
 cell_span s p (Stub at len) u is = is.2
 cell_span s p (Free at len) u is = is.2
 
-file_made_up : (s : FileSystem) (p : Polarity) (head : FileHead) (payload b : List ℕ) → IsFilled s p head payload b → head.header_len + length payload ≡ head.size
+file_made_up : (s : FileSystem) (p : Polarity) (head : FileHead) (payload b : List ℕ) → IsFilled s p head payload b
+    → head.header_len + length payload ≡ head.size
 file_made_up s p head payload b filled =
     let is = filled.is_file in
     let len : head.header_len ≡ length is.header = ap (λ (h : FileHead). h.header_len) is.is_header.fields ∙ sym is.is_header.whole in
@@ -330,7 +368,8 @@ made_up s p (Dead at len) u is = tt
 made_up s p (Stub at len) u is = tt
 made_up s p (Free at len) u is = tt
 
-free_all : (s : FileSystem) (p : Polarity) (c : CellForm) (u : List ℕ) → IsCell s p c u → is_free c ≡ true → (c ≡ Free (offset_of c) (length u)) × AllAre (erased_byte p) u
+free_all : (s : FileSystem) (p : Polarity) (c : CellForm) (u : List ℕ) → IsCell s p c u → is_free c ≡ true
+    → (c ≡ Free (offset_of c) (length u)) × AllAre (erased_byte p) u
 free_all s p (Valid at head payload) u is f = cc
 free_all s p (Pad at head payload) u is f = cc
 free_all s p (Dead at len) u is f = cc
@@ -342,10 +381,12 @@ no_bits Ones b e = rw e refl
 no_bits Zeros b e = rw e refl
 
 -- erased bytes are not read as a cell
-erased_refused : (s : FileSystem) (p : Polarity) (at : ℕ) (r : List ℕ) (c : CellForm) → AllAre (erased_byte p) r → cell_verdict s p at r ≡ Ok c → ⊥
+erased_refused : (s : FileSystem) (p : Polarity) (at : ℕ) (r : List ℕ) (c : CellForm) → AllAre (erased_byte p) r
+    → cell_verdict s p at r ≡ Ok c → ⊥
 erased_refused s p at r c all is = go (nat_lt (length r) 24) refl where
   go : (t : Bool) → nat_lt (length r) 24 ≡ t → ⊥
-  go true l = not_both (cell_verdict s p at r) (stray p at r) c (if_true _ (Err (stray p at r)) (state_verdict (state_of p (slice_index r 23)) s p at r) l) is
+  go true l = not_both (cell_verdict s p at r) (stray p at r) c
+      (if_true _ (Err (stray p at r)) (state_verdict (state_of p (slice_index r 23)) s p at r) l) is
   go false l =
       let long = ltb-false (length r) 24 l in
       not_both (cell_verdict s p at r) (stray p at r) c
@@ -357,23 +398,35 @@ one_cell s p c d u v w z is is' o last last' e = go (is_free c) refl (is_free d)
     go : (f : Bool) → is_free c ≡ f → (g : Bool) → is_free d ≡ g → (c ≡ d) × (length u ≡ length v)
     go false f false g =
         let a = cell_reads s p c u w is f in
-        let b : cell_verdict s p (offset_of c) (u ++ w) ≡ Ok d = subst (λ k. cell_verdict s p k (u ++ w) ≡ Ok d) (sym o) (subst (λ r. cell_verdict s p (offset_of d) r ≡ Ok d) (sym e) (cell_reads s p d v z is' g)) in
+        let b : cell_verdict s p (offset_of c) (u ++ w) ≡ Ok d = subst (λ k. cell_verdict s p k (u ++ w) ≡ Ok d) (sym o)
+        (subst (λ r. cell_verdict s p (offset_of d) r ≡ Ok d) (sym e) (cell_reads s p d v z is' g)) in
         let same : c ≡ d = same_ok _ _ _ a b in
         (same, sym (cell_span s p c u is) ∙ ap cell_len same ∙ cell_span s p d v is')
     go true f false g =
-        let all = subst (λ r. AllAre (erased_byte p) r) (sym (append-nil u) ∙ ap (λ l. u ++ l) (sym (last f)) ∙ e) (free_all s p c u is f).1 in
+        let all =
+        subst (λ r. AllAre (erased_byte p) r) (sym (append-nil u) ∙ ap (λ l. u ++ l) (sym (last f)) ∙ e) (free_all s p c u is f).1 in
         absurd (erased_refused s p (offset_of d) (v ++ z) d all (cell_reads s p d v z is' g))
     go false f true g =
-        let all = subst (λ r. AllAre (erased_byte p) r) (sym (append-nil v) ∙ ap (λ l. v ++ l) (sym (last' g)) ∙ sym e) (free_all s p d v is' g).1 in
+        let all =
+        subst (λ r. AllAre (erased_byte p) r) (sym (append-nil v) ∙ ap (λ l. v ++ l) (sym (last' g)) ∙ sym e) (free_all s p d v is' g).1 in
         absurd (erased_refused s p (offset_of c) (u ++ w) c all (cell_reads s p c u w is f))
     go true f true g =
-        let n : length u ≡ length v = omega (arith, ap length e, length-append u w, length-append v z, ap length (last f), ap length (last' g)) in
+        let n : length u ≡ length v =
+        omega (arith, ap length e, length-append u w, length-append v z, ap length (last f), ap length (last' g)) in
         ((free_all s p c u is f).0 ∙ ap (λ k. Free k (length u)) o ∙ ap (λ k. Free (offset_of d) k) n ∙ sym (free_all s p d v is' g).0, n)
 
 file_some : (s : FileSystem) (p : Polarity) (head : FileHead) (payload b : List ℕ) → IsFilled s p head payload b → 0 < length b
 file_some s p head payload b filled =
     let is = filled.is_file in
-    omega (arith, ap length filled.text, length-append filled.file filled.filler, ap length is.text, length-append is.header payload, is.is_header.whole, header_least (is_large (slice_index is.header 19)))
+    omega (
+      arith,
+      ap length filled.text,
+      length-append filled.file filled.filler,
+      ap length is.text,
+      length-append is.header payload,
+      is.is_header.whole,
+      header_least (is_large (slice_index is.header 19)),
+    )
 
 pub not_empty : (s : FileSystem) (p : Polarity) → NotEmpty s p
 not_empty s p (Valid at head payload) u is = file_some s p head payload u is.0
@@ -414,25 +467,33 @@ err_some x f g a b = cc
 free_bits : (p : Polarity) (byte : ℕ) → state_of p byte ≡ Some states.Free → bits_of p byte ≡ 0
 free_bits p byte e = state_read p byte states.Free e
 
-pub verdict_first : (s : FileSystem) (p : Polarity) (at : ℕ) (r : List ℕ) (f : Fault) → cell_verdict s p at r ≡ Err f → IsFirstFault (cell_checks s p at r) f
+pub verdict_first : (s : FileSystem) (p : Polarity) (at : ℕ) (r : List ℕ) (f : Fault) → cell_verdict s p at r ≡ Err f
+    → IsFirstFault (cell_checks s p at r) f
 verdict_first s p at r f is = first_is (cell_checks s p at r) f (go (nat_lt (length r) 24) refl (state_of p (slice_index r 23)) refl) where
   bits : ℕ
   bits = bits_of p (slice_index r 23)
 
-  failed : (nat_le 24 (length r) ≡ false) ⊎ (bits ≡ 0) → cell_verdict s p at r ≡ Err (stray p at r) → first_fault (cell_checks s p at r) ≡ Some f
-  failed which v = if_false _ _ (Some (stray p at r)) (unused (nat_le 24 (length r)) bits which) ∙ err_some (cell_verdict s p at r) (stray p at r) f v is
+  failed : (nat_le 24 (length r) ≡ false) ⊎ (bits ≡ 0) → cell_verdict s p at r ≡ Err (stray p at r)
+      → first_fault (cell_checks s p at r) ≡ Some f
+  failed which v =
+      if_false _ _ (Some (stray p at r)) (unused (nat_le 24 (length r)) bits which) ∙ err_some (cell_verdict s p at r) (stray p at r) f v is
 
-  behind : (o : Option FileState) → 24 ≤ length r → state_of p (slice_index r 23) ≡ o → (o ≡ Some states.Free → ⊥) → first_fault (cell_checks s p at r) ≡ Some f
+  behind : (o : Option FileState) → 24 ≤ length r → state_of p (slice_index r 23) ≡ o → (o ≡ Some states.Free → ⊥)
+      → first_fault (cell_checks s p at r) ≡ Some f
   behind o long e free =
       let v : state_verdict o s p at r ≡ Err f =
-      ap (λ (q : Option FileState). state_verdict q s p at r) (sym e) ∙ sym (if_false _ (Err (stray p at r)) (state_verdict (state_of p (slice_index r 23)) s p at r) (not_less (length r) 24 long)) ∙ is in
-      if_true _ _ (Some (stray p at r)) (used (nat_le 24 (length r)) bits (le-leb 24 (length r) long) (λ z. free (sym e ∙ state_shown p (slice_index r 23) states.Free z)))
+      ap (λ (q : Option FileState). state_verdict q s p at r) (sym e)
+      ∙ sym (if_false _ (Err (stray p at r)) (state_verdict (state_of p (slice_index r 23)) s p at r) (not_less (length r) 24 long)) ∙ is in
+      if_true _ _ (Some (stray p at r))
+      (used (nat_le 24 (length r)) bits (le-leb 24 (length r) long) (λ z. free (sym e ∙ state_shown p (slice_index r 23) states.Free z)))
       ∙ ap (λ (q : Option FileState). first_fault (state_checks q s at r)) e
       ∙ state_err s p o at r f free v
 
-  go : (t : Bool) → nat_lt (length r) 24 ≡ t → (o : Option FileState) → state_of p (slice_index r 23) ≡ o → first_fault (cell_checks s p at r) ≡ Some f
+  go : (t : Bool) → nat_lt (length r) 24 ≡ t → (o : Option FileState) → state_of p (slice_index r 23) ≡ o
+      → first_fault (cell_checks s p at r) ≡ Some f
   go true l o e =
-      failed (inl (not_at_most 24 (length r) (ltb-true (length r) 24 l))) (if_true _ (Err (stray p at r)) (state_verdict (state_of p (slice_index r 23)) s p at r) l)
+      failed (inl (not_at_most 24 (length r) (ltb-true (length r) 24 l)))
+      (if_true _ (Err (stray p at r)) (state_verdict (state_of p (slice_index r 23)) s p at r) l)
   go false l None e = behind None (ltb-false (length r) 24 l) e (λ q. cc)
   go false l (Some states.Free) e =
       let free = free_bits p (slice_index r 23) e in
@@ -445,12 +506,14 @@ verdict_first s p at r f is = first_is (cell_checks s p at r) f (go (nat_lt (len
   go false l (Some states.HeaderInvalid) e = behind (Some states.HeaderInvalid) (ltb-false (length r) 24 l) e (λ q. cc)
 
 -- the checks that hold where a cell is read
-file_none : (s : FileSystem) (st : FileState) (at : ℕ) (r : List ℕ) {c : CellForm} → (head : FileHead) × (file_verdict s st at r ≡ Ok head) × (cell_for st at head r ≡ c)
+file_none : (s : FileSystem) (st : FileState) (at : ℕ) (r : List ℕ) {c : CellForm}
+    → (head : FileHead) × (file_verdict s st at r ≡ Ok head) × (cell_for st at head r ≡ c)
     → first_fault (file_checks s (is_alive st) at r) ≡ None
 unfolding file_verdict
 file_none s st at r k = (verdict_ok (first_fault (file_checks s (is_alive st) at r)) (head_in st r) k.0 k.1).0
 
-state_none : (s : FileSystem) (p : Polarity) (o : Option FileState) (at : ℕ) (r : List ℕ) (c : CellForm) → state_verdict o s p at r ≡ Ok c → first_fault (state_checks o s at r) ≡ None
+state_none : (s : FileSystem) (p : Polarity) (o : Option FileState) (at : ℕ) (r : List ℕ) (c : CellForm) → state_verdict o s p at r ≡ Ok c
+    → first_fault (state_checks o s at r) ≡ None
 state_none s p None at r c e = cc
 state_none s p (Some states.Free) at r c e = refl
 state_none s p (Some states.Construction) at r c e = (verdict_ok (first_fault (stub_checks at r)) (Stub at (file_header_len_at r)) c e).0
@@ -460,25 +523,34 @@ state_none s p (Some states.DataValid) at r c e = file_none s states.DataValid a
 state_none s p (Some states.Marked) at r c e = file_none s states.Marked at r (with_ok states.Marked at r _ c e)
 state_none s p (Some states.Deleted) at r c e = file_none s states.Deleted at r (with_ok states.Deleted at r _ c e)
 
-none_failed : (s : FileSystem) (p : Polarity) (at : ℕ) (r : List ℕ) (c : CellForm) → cell_verdict s p at r ≡ Ok c → first_fault (cell_checks s p at r) ≡ None
+none_failed : (s : FileSystem) (p : Polarity) (at : ℕ) (r : List ℕ) (c : CellForm) → cell_verdict s p at r ≡ Ok c
+    → first_fault (cell_checks s p at r) ≡ None
 none_failed s p at r c is = go (nat_lt (length r) 24) refl (bits_of p (slice_index r 23) == 0) refl where
-  go : (t : Bool) → nat_lt (length r) 24 ≡ t → (z : Bool) → (bits_of p (slice_index r 23) == 0) ≡ z → first_fault (cell_checks s p at r) ≡ None
+  go : (t : Bool) → nat_lt (length r) 24 ≡ t → (z : Bool) → (bits_of p (slice_index r 23) == 0) ≡ z
+      → first_fault (cell_checks s p at r) ≡ None
   go true l z e =
-      absurd (not_both (cell_verdict s p at r) (stray p at r) c (if_true _ (Err (stray p at r)) (state_verdict (state_of p (slice_index r 23)) s p at r) l) is)
+      absurd (not_both (cell_verdict s p at r) (stray p at r) c
+      (if_true _ (Err (stray p at r)) (state_verdict (state_of p (slice_index r 23)) s p at r) l) is)
   go false l true e =
-      absurd (not_both (cell_verdict s p at r) (stray p at r) c (shown_verdict s p at r states.Free (ltb-false (length r) 24 l) (eqb-true _ 0 e)) is)
+      absurd (not_both (cell_verdict s p at r) (stray p at r) c
+      (shown_verdict s p at r states.Free (ltb-false (length r) 24 l) (eqb-true _ 0 e)) is)
   go false l false e =
       let long = ltb-false (length r) 24 l in
-      if_true _ _ (Some (stray p at r)) (used (nat_le 24 (length r)) (bits_of p (slice_index r 23)) (le-leb 24 (length r) long) (eqb-false _ 0 e))
-      ∙ state_none s p (state_of p (slice_index r 23)) at r c (sym (if_false _ (Err (stray p at r)) (state_verdict (state_of p (slice_index r 23)) s p at r) l) ∙ is)
+      if_true _ _ (Some (stray p at r))
+      (used (nat_le 24 (length r)) (bits_of p (slice_index r 23)) (le-leb 24 (length r) long) (eqb-false _ 0 e))
+      ∙ state_none s p (state_of p (slice_index r 23)) at r c
+      (sym (if_false _ (Err (stray p at r)) (state_verdict (state_of p (slice_index r 23)) s p at r) l) ∙ is)
 
 -- where a check does not hold no cell stands
-pub no_cell : (s : FileSystem) (p : Polarity) (at : ℕ) (r : List ℕ) (f : Fault) (c : CellForm) (u w : List ℕ) → IsFirstFault (cell_checks s p at r) f → (AllAre (erased_byte p) r → ⊥)
+pub no_cell : (s : FileSystem) (p : Polarity) (at : ℕ) (r : List ℕ) (f : Fault) (c : CellForm) (u w : List ℕ)
+    → IsFirstFault (cell_checks s p at r) f → (AllAre (erased_byte p) r → ⊥)
     → IsCell s p c u → offset_of c ≡ at → r ≡ u ++ w → (is_free c ≡ true → w ≡ []) → ⊥
 no_cell s p at r f c u w fault differs is o e last = go (is_free c) refl
   where
     go : (g : Bool) → is_free c ≡ g → ⊥
-    go true g = differs (subst (λ (l : List ℕ). AllAre (erased_byte p) l) (sym (append-nil u) ∙ ap (λ (l : List ℕ). u ++ l) (sym (last g)) ∙ sym e) (free_all s p c u is g).1)
+    go true g = differs (subst (λ (l : List ℕ). AllAre (erased_byte p) l)
+        (sym (append-nil u) ∙ ap (λ (l : List ℕ). u ++ l) (sym (last g)) ∙ sym e) (free_all s p c u is g).1)
     go false g =
-        let read : cell_verdict s p at r ≡ Ok c = subst (λ l. cell_verdict s p at l ≡ Ok c) (sym e) (subst (λ k. cell_verdict s p k (u ++ w) ≡ Ok c) o (cell_reads s p c u w is g)) in
+        let read : cell_verdict s p at r ≡ Ok c =
+        subst (λ l. cell_verdict s p at l ≡ Ok c) (sym e) (subst (λ k. cell_verdict s p k (u ++ w) ≡ Ok c) o (cell_reads s p c u w is g)) in
         not_first (cell_checks s p at r) f fault (none_failed s p at r c read)

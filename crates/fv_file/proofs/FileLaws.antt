@@ -45,7 +45,8 @@ short_limit s p head payload b bytes h two =
       clash : Ffs2 ≡ Ffs3 → ⊥
       clash e = cc
 
-    by_form : (large : Bool) (n : ℕ) (h : List ℕ) → n ≡ file_size_in large h → length h ≡ file_header_len large → (large ≡ true → ⊥) → IsBytes h
+    by_form : (large : Bool) (n : ℕ) (h : List ℕ) → n ≡ file_size_in large h → length h ≡ file_header_len large → (large ≡ true → ⊥)
+        → IsBytes h
         → n < 16777216
     by_form true n h e l none f = absurd (none refl)
     by_form false n h e l none f = subst (λ (k : ℕ). k < 16777216) (sym e) (short_size h l f) where

@@ -1,5 +1,6 @@
 -- A file's checks hold exactly where its bytes are a file.
-use Rattle.std.proofs.Common.{◌≡◌, ◌≤◌, ◌<◌, ℕ, ◌+◌, ◌-◌, List, ◌++◌, length, take, drop, inl, inr, refl, sym, ap, ◌∙◌, subst, arith, Bool, true, false, length-append, append_assoc}
+use Rattle.std.proofs.Common.{◌≡◌, ◌≤◌, ◌<◌, ℕ, ◌+◌, ◌-◌, List, ◌++◌, length, take, drop, inl, inr, refl, sym, ap, ◌∙◌, subst, arith, Bool}
+use Rattle.std.proofs.Common.{true, false, length-append, append_assoc}
 use Rattle.std.specs.Prelude.{nat_le, ◌==◌, ◌⊎◌, ◌||◌, not, slice_index, Some, Ok, Err}
 use Rattle.std.proofs.lemmas.Bool.{leb-true, le-leb, eqb-true, eqb-false, eq-eqb}
 use Rattle.std.proofs.lemmas.List.{take-append-drop, take_at, drop_at, take-append-le, length-take-le, get_or-take}
@@ -15,7 +16,8 @@ use Rattle.fv_base.specs.declared.flash.Polarity.{Polarity}
 use Rattle.fv_base.proofs.CheckLemmas.{and_split, and_join, all_hold, none_faulty, verdict_ok, verdict_err, verdict_none}
 use Rattle.fv_base.proofs.FieldLemmas.{field-take, field-append_front}
 use Rattle.fv_file.specs.Attributes.{attribute_bits, is_large, is_fixed}
-use Rattle.fv_file.specs.FileChecks.{may_be_large, has_header_sum, skips_data, allows_large, attributes_at, file_header_len_at, file_size_at, payload_at, has_file_size, has_file_sum, file_checks}
+use Rattle.fv_file.specs.FileChecks.{may_be_large, has_header_sum, skips_data, allows_large, attributes_at, file_header_len_at}
+use Rattle.fv_file.specs.FileChecks.{file_size_at, payload_at, has_file_size, has_file_sum, file_checks}
 use Rattle.fv_file.specs.Files.{pad_kind, file_header_len, file_size_in, head_in, header_sum_of, file_sum_right, IsFile, IsSound}
 use Rattle.fv_file.specs.CellVerdicts.{file_verdict}
 use Rattle.fv_file.specs.States.{StateOf, is_alive}
@@ -42,7 +44,8 @@ front_head st h y l =
     let e18 = front_byte 18 h y (omega (arith, n, l)) in
     let e19 = front_byte 19 h y (omega (arith, n, l)) in
     let name : take 16 (h ++ y) ≡ take 16 h = take-append-le 16 h y (omega (arith, n, l)) in
-    let size : file_size_in (is_large (slice_index h 19)) (h ++ y) ≡ file_size_in (is_large (slice_index h 19)) h = front_size (is_large (slice_index h 19)) h y l in
+    let size : file_size_in (is_large (slice_index h 19)) (h ++ y) ≡ file_size_in (is_large (slice_index h 19)) h =
+    front_size (is_large (slice_index h 19)) h y l in
     rw (e19, e16, e17, e18, name, size) refl
 
 -- ---- from the checks to the file
@@ -110,7 +113,8 @@ file_at s p st at r long state all =
     let joined : h ++ drop n r ≡ r = take-append-drop n r in
     let fields : head_in st r ≡ head_in st h = ap (head_in st) (sym joined) ∙ front_head st h (drop n r) header_len in
     let size_field : le_at 20 3 h ≡ le_at 20 3 r = ap le (field-take 20 3 n r (omega (arith, low))) in
-    let split : take (file_size_at r) r ≡ h ++ payload_at r = ap (λ (k : ℕ). take k r) (parts (file_size_at r) n least) ∙ take-add n (file_size_at r - n) r in
+    let split : take (file_size_at r) r ≡ h ++ payload_at r =
+    ap (λ (k : ℕ). take k r) (parts (file_size_at r) n least) ∙ take-add n (file_size_at r - n) r in
     record {
       least = least;
       within = within;
@@ -151,7 +155,8 @@ pub record ReadsFile (system : FileSystem) (polarity : Polarity) (head : FileHea
   pub size : file_size_at r ≡ length file
   pub payload_is : payload_at r ≡ payload
   pub header_len : file_header_len_at r ≤ length r
-  pub checks : (at : ℕ) → (is_alive head.state ≡ true → (head.kind ≡ pad_kind) ⊎ IsSound head payload) → AllHold (file_checks system (is_alive head.state) at r)
+  pub checks : (at : ℕ) → (is_alive head.state ≡ true → (head.kind ≡ pad_kind) ⊎ IsSound head payload)
+      → AllHold (file_checks system (is_alive head.state) at r)
 
 large_may : (s : FileSystem) (large : Bool) → (large ≡ true → s ≡ Ffs3) → (not large || allows_large s) ≡ true
 large_may s false h = refl
@@ -176,14 +181,16 @@ is_not : (t : Bool) → t ≡ false → not t ≡ true
 is_not true e = cc
 is_not false e = refl
 
-pub file_reads : (s : FileSystem) (p : Polarity) (head : FileHead) (payload file w : List ℕ) → IsFile s p head payload file → ReadsFile s p head payload file (file ++ w)
+pub file_reads : (s : FileSystem) (p : Polarity) (head : FileHead) (payload file w : List ℕ) → IsFile s p head payload file
+    → ReadsFile s p head payload file (file ++ w)
 file_reads s p head payload file w is =
     let h : List ℕ = is.header in
     let y : List ℕ = payload ++ w in
     let r : List ℕ = file ++ w in
     let e : r ≡ h ++ y = ap (λ (x : List ℕ). x ++ w) is.text ∙ append_assoc h payload w in
     let low : 24 ≤ length h = subst (λ (k : ℕ). 24 ≤ k) (sym is.is_header.whole) (header_least (is_large (slice_index h 19))) in
-    let fields : head_in head.state r ≡ head = ap (head_in head.state) e ∙ front_head head.state h y is.is_header.whole ∙ sym is.is_header.fields in
+    let fields : head_in head.state r ≡ head =
+    ap (head_in head.state) e ∙ front_head head.state h y is.is_header.whole ∙ sym is.is_header.fields in
     let e19 : slice_index r 19 ≡ slice_index h 19 = ap (λ (x : List ℕ). slice_index x 19) e ∙ front_byte 19 h y (omega (arith, low)) in
     let e23 : slice_index r 23 ≡ slice_index h 23 = ap (λ (x : List ℕ). slice_index x 23) e ∙ front_byte 23 h y (omega (arith, low)) in
     let len : file_header_len_at r ≡ length h = ap (λ (k : ℕ). file_header_len (is_large k)) e19 ∙ sym is.is_header.whole in
@@ -193,12 +200,15 @@ file_reads s p head payload file w is =
     let front : take (file_header_len_at r) r ≡ h = ap (take (file_header_len_at r)) e ∙ take_at h y (file_header_len_at r) (sym len) in
     let behind : drop (file_header_len_at r) r ≡ y = ap (drop (file_header_len_at r)) e ∙ drop_at h y (file_header_len_at r) (sym len) in
     let payload_len : file_size_at r - file_header_len_at r ≡ length payload = omega (arith, size, len, length_file) in
-    let payload_is : payload_at r ≡ payload = ap (take (file_size_at r - file_header_len_at r)) behind ∙ take_at payload w (file_size_at r - file_header_len_at r) (sym payload_len) in
-    let size_field : le_at 20 3 r ≡ le_at 20 3 h = ap (λ (x : List ℕ). le_at 20 3 x) e ∙ ap le (field-append_front 20 3 h y (omega (arith, low))) in
+    let payload_is : payload_at r ≡ payload = ap (take (file_size_at r - file_header_len_at r)) behind
+    ∙ take_at payload w (file_size_at r - file_header_len_at r) (sym payload_len) in
+    let size_field : le_at 20 3 r ≡ le_at 20 3 h =
+    ap (λ (x : List ℕ). le_at 20 3 x) e ∙ ap le (field-append_front 20 3 h y (omega (arith, low))) in
     let big : is_large (slice_index r 19) ≡ is_large (slice_index h 19) = ap is_large e19 in
     let sizes : has_file_size r ≡ true =
     and_join _ _ (le-leb (file_header_len_at r) (file_size_at r) (omega (arith, len, size, length_file)))
-    (and_join _ _ (le-leb (file_size_at r) (length r) (omega (arith, size, length_r))) (zero_if (is_large (slice_index r 19)) (le_at 20 3 r) (λ l. size_field ∙ (is.is_header.large (sym big ∙ l)).1))) in
+    (and_join _ _ (le-leb (file_size_at r) (length r) (omega (arith, size, length_r)))
+    (zero_if (is_large (slice_index r 19)) (le_at 20 3 r) (λ l. size_field ∙ (is.is_header.large (sym big ∙ l)).1))) in
     record {
       long = omega (arith, low, length_file, length_r);
       state = subst (λ (k : ℕ). StateOf k p head.state) (sym e23) is.is_header.state;
@@ -215,9 +225,11 @@ file_reads s p head payload file w is =
             (
               sizes,
               (
-                looks (is_alive head.state) (slice_index r 18 == pad_kind) (not (is_fixed (attributes_at r))) (λ alive. moves r fields (content alive)),
+                looks (is_alive head.state) (slice_index r 18 == pad_kind) (not (is_fixed (attributes_at r)))
+                    (λ alive. moves r fields (content alive)),
                 (
-                  looks (is_alive head.state) (slice_index r 18 == pad_kind) (has_file_sum r) (λ alive. sums r fields payload_is (content alive)),
+                  looks (is_alive head.state) (slice_index r 18 == pad_kind) (has_file_sum r)
+                      (λ alive. sums r fields payload_is (content alive)),
                   tt,
                 ),
               ),
@@ -227,19 +239,23 @@ file_reads s p head payload file w is =
       );
     }
   where
-    moves : (r : List ℕ) → head_in head.state r ≡ head → (head.kind ≡ pad_kind) ⊎ IsSound head payload → ((slice_index r 18 == pad_kind) ≡ true) ⊎ (not (is_fixed (attributes_at r)) ≡ true)
+    moves : (r : List ℕ) → head_in head.state r ≡ head → (head.kind ≡ pad_kind) ⊎ IsSound head payload
+        → ((slice_index r 18 == pad_kind) ≡ true) ⊎ (not (is_fixed (attributes_at r)) ≡ true)
     moves r f (inl k) = inl (eq-eqb _ pad_kind (ap (λ (g : FileHead). g.kind) f ∙ k))
     moves r f (inr sound) = inr (is_not _ (ap (λ (g : FileHead). is_fixed (attribute_bits g.attributes)) f ∙ sound.moves))
 
-    sums : (r : List ℕ) → head_in head.state r ≡ head → payload_at r ≡ payload → (head.kind ≡ pad_kind) ⊎ IsSound head payload → ((slice_index r 18 == pad_kind) ≡ true) ⊎ (has_file_sum r ≡ true)
+    sums : (r : List ℕ) → head_in head.state r ≡ head → payload_at r ≡ payload → (head.kind ≡ pad_kind) ⊎ IsSound head payload
+        → ((slice_index r 18 == pad_kind) ≡ true) ⊎ (has_file_sum r ≡ true)
     sums r f e (inl k) = inl (eq-eqb _ pad_kind (ap (λ (g : FileHead). g.kind) f ∙ k))
     sums r f e (inr sound) =
-        inr (ap (λ (g : FileHead). file_sum_right (attribute_bits g.attributes) g.file_sum (payload_at r)) f ∙ ap (file_sum_right (attribute_bits head.attributes) head.file_sum) e ∙ sound.file_sum)
+        inr (ap (λ (g : FileHead). file_sum_right (attribute_bits g.attributes) g.file_sum (payload_at r)) f
+        ∙ ap (file_sum_right (attribute_bits head.attributes) head.file_sum) e ∙ sound.file_sum)
 
 -- ---- the verdict on a file
 
 -- a file that is answered is there
-pub file_ok : (s : FileSystem) (p : Polarity) (st : FileState) (at : ℕ) (r : List ℕ) (head : FileHead) → 24 ≤ length r → StateOf (slice_index r 23) p st
+pub file_ok : (s : FileSystem) (p : Polarity) (st : FileState) (at : ℕ) (r : List ℕ) (head : FileHead) → 24 ≤ length r
+    → StateOf (slice_index r 23) p st
     → file_verdict s st at r ≡ Ok head → FileAt s p st r × (head_in st r ≡ head)
 unfolding file_verdict
 file_ok s p st at r head long state is =
@@ -251,9 +267,11 @@ pub file_holds : (s : FileSystem) (p : Polarity) (head : FileHead) (payload file
     → (is_alive head.state ≡ true → (head.kind ≡ pad_kind) ⊎ IsSound head payload) → file_verdict s head.state at r ≡ Ok head
 unfolding file_verdict
 file_holds s p head payload file r at reads content =
-    verdict_none (first_fault (file_checks s (is_alive head.state) at r)) (head_in head.state r) (none_faulty (file_checks s (is_alive head.state) at r) (reads.checks at content)) ∙ ap Ok reads.fields
+    verdict_none (first_fault (file_checks s (is_alive head.state) at r)) (head_in head.state r)
+    (none_faulty (file_checks s (is_alive head.state) at r) (reads.checks at content)) ∙ ap Ok reads.fields
 
 -- the fault of a file is the first of its checks
-pub file_err : (s : FileSystem) (st : FileState) (at : ℕ) (r : List ℕ) (f : Fault) → file_verdict s st at r ≡ Err f → first_fault (file_checks s (is_alive st) at r) ≡ Some f
+pub file_err : (s : FileSystem) (st : FileState) (at : ℕ) (r : List ℕ) (f : Fault) → file_verdict s st at r ≡ Err f
+    → first_fault (file_checks s (is_alive st) at r) ≡ Some f
 unfolding file_verdict
 file_err s st at r f is = verdict_err (first_fault (file_checks s (is_alive st) at r)) (head_in st r) f is

@@ -19,11 +19,32 @@ highest_read states.HeaderValid n h =
 highest_read states.DataValid n h =
     rw (above_zero n (omega (arith, h.0)), not_less n 2 (omega (arith, h.0)), not_less n 4 h.0, lt-ltb n 8 h.1) refl
 highest_read states.Marked n h =
-    rw (above_zero n (omega (arith, h.0)), not_less n 2 (omega (arith, h.0)), not_less n 4 (omega (arith, h.0)), not_less n 8 h.0, lt-ltb n 16 h.1) refl
+    rw (
+      above_zero n (omega (arith, h.0)),
+      not_less n 2 (omega (arith, h.0)),
+      not_less n 4 (omega (arith, h.0)),
+      not_less n 8 h.0,
+      lt-ltb n 16 h.1,
+    ) refl
 highest_read states.Deleted n h =
-    rw (above_zero n (omega (arith, h.0)), not_less n 2 (omega (arith, h.0)), not_less n 4 (omega (arith, h.0)), not_less n 8 (omega (arith, h.0)), not_less n 16 h.0, lt-ltb n 32 h.1) refl
+    rw (
+      above_zero n (omega (arith, h.0)),
+      not_less n 2 (omega (arith, h.0)),
+      not_less n 4 (omega (arith, h.0)),
+      not_less n 8 (omega (arith, h.0)),
+      not_less n 16 h.0,
+      lt-ltb n 32 h.1,
+    ) refl
 highest_read states.HeaderInvalid n h =
-    rw (above_zero n (omega (arith, h.0)), not_less n 2 (omega (arith, h.0)), not_less n 4 (omega (arith, h.0)), not_less n 8 (omega (arith, h.0)), not_less n 16 (omega (arith, h.0)), not_less n 32 h.0, lt-ltb n 64 h.1) refl
+    rw (
+      above_zero n (omega (arith, h.0)),
+      not_less n 2 (omega (arith, h.0)),
+      not_less n 4 (omega (arith, h.0)),
+      not_less n 8 (omega (arith, h.0)),
+      not_less n 16 (omega (arith, h.0)),
+      not_less n 32 h.0,
+      lt-ltb n 64 h.1,
+    ) refl
 
 one_below : (n : ℕ) → n < 2 → (n ≡ 0 → ⊥) → n ≡ 1
 one_below zero l h = absurd (h refl)
@@ -39,11 +60,13 @@ read_highest s n is = at_0 (n == 0) refl where
   found : (t : FileState) → state_in n ≡ Some t → IsHighest t n → IsHighest s n
   found t e h = subst (λ (u : FileState). IsHighest u n) (same_state t s (sym e ∙ is)) h
 
-  at_64 : (t : Bool) → nat_lt n 64 ≡ t → (n == 0) ≡ false → nat_lt n 2 ≡ false → nat_lt n 4 ≡ false → nat_lt n 8 ≡ false → nat_lt n 16 ≡ false → nat_lt n 32 ≡ false → IsHighest s n
+  at_64 : (t : Bool) → nat_lt n 64 ≡ t → (n == 0) ≡ false → nat_lt n 2 ≡ false → nat_lt n 4 ≡ false → nat_lt n 8 ≡ false
+      → nat_lt n 16 ≡ false → nat_lt n 32 ≡ false → IsHighest s n
   at_64 true e a b c d f g = found states.HeaderInvalid (rw (a, b, c, d, f, g, e) refl) (ltb-false n 32 g, ltb-true n 64 e)
   at_64 false e a b c d f g = let none : state_in n ≡ None = rw (a, b, c, d, f, g, e) refl in absurd cc
 
-  at_32 : (t : Bool) → nat_lt n 32 ≡ t → (n == 0) ≡ false → nat_lt n 2 ≡ false → nat_lt n 4 ≡ false → nat_lt n 8 ≡ false → nat_lt n 16 ≡ false → IsHighest s n
+  at_32 : (t : Bool) → nat_lt n 32 ≡ t → (n == 0) ≡ false → nat_lt n 2 ≡ false → nat_lt n 4 ≡ false → nat_lt n 8 ≡ false
+      → nat_lt n 16 ≡ false → IsHighest s n
   at_32 true e a b c d f = found states.Deleted (rw (a, b, c, d, f, e) refl) (ltb-false n 16 f, ltb-true n 32 e)
   at_32 false e a b c d f = at_64 (nat_lt n 64) refl a b c d f e
 

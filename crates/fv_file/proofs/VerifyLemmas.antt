@@ -29,7 +29,8 @@ same_fault : (x y : Fault) → refused x ≡ refused y → Some x ≡ Some y
 same_fault x y h = cc
 
 -- a file that stands and is answered
-begins_at : (s : FileSystem) (p : Polarity) (st : FileState) (b : List ℕ) (head : FileHead) → 24 ≤ length b → state_of p (slice_index b 23) ≡ Some st
+begins_at : (s : FileSystem) (p : Polarity) (st : FileState) (b : List ℕ) (head : FileHead) → 24 ≤ length b
+    → state_of p (slice_index b 23) ≡ Some st
     → is_alive st ≡ true → file_verdict s st 0 b ≡ Ok head → BeginsFile s p head b
 begins_at s p st b head long state alive is =
     let f = file_ok s p st 0 b head long (state_read p (slice_index b 23) st state) is in
@@ -43,13 +44,15 @@ begins_at s p st b head long state alive is =
       content = content (slice_index b 18 == pad_kind) refl f.0;
     })
   where
-    content : (t : Bool) → (slice_index b 18 == pad_kind) ≡ t → FileAt s p st b → (slice_index b 18 ≡ pad_kind) ⊎ IsSound (head_in st b) (payload_at b)
+    content : (t : Bool) → (slice_index b 18 == pad_kind) ≡ t → FileAt s p st b
+        → (slice_index b 18 ≡ pad_kind) ⊎ IsSound (head_in st b) (payload_at b)
     content true e at = inl (eqb-true _ _ e)
     content false e at = inr (at.sound alive e)
 
 pub begins_found : (s : FileSystem) (p : Polarity) (b : List ℕ) (head : FileHead) → verify_verdict s p b ≡ Ok head → BeginsFile s p head b
 begins_found s p b head is = go (nat_lt (length b) 24) refl (state_of p (slice_index b 23)) refl where
-  standing : (o : Option FileState) → 24 ≤ length b → state_of p (slice_index b 23) ≡ o → standing_verdict o s b ≡ Ok head → BeginsFile s p head b
+  standing : (o : Option FileState) → 24 ≤ length b → state_of p (slice_index b 23) ≡ o → standing_verdict o s b ≡ Ok head
+      → BeginsFile s p head b
   standing None long e is = cc
   standing (Some states.Free) long e is = cc
   standing (Some states.Construction) long e is = cc
@@ -60,9 +63,11 @@ begins_found s p b head is = go (nat_lt (length b) 24) refl (state_of p (slice_i
   standing (Some states.HeaderInvalid) long e is = cc
 
   go : (t : Bool) → nat_lt (length b) 24 ≡ t → (o : Option FileState) → state_of p (slice_index b 23) ≡ o → BeginsFile s p head b
-  go true l o e = let r = sym (if_true _ (Err (outer_fault kinds.FileSize 20)) (standing_verdict (state_of p (slice_index b 23)) s b) l) ∙ is in cc
+  go true l o e =
+      let r = sym (if_true _ (Err (outer_fault kinds.FileSize 20)) (standing_verdict (state_of p (slice_index b 23)) s b) l) ∙ is in cc
   go false l o e =
-      standing o (ltb-false (length b) 24 l) e (ap (λ (q : Option FileState). standing_verdict q s b) (sym e) ∙ sym (if_false _ (Err (outer_fault kinds.FileSize 20)) (standing_verdict (state_of p (slice_index b 23)) s b) l) ∙ is)
+      standing o (ltb-false (length b) 24 l) e (ap (λ (q : Option FileState). standing_verdict q s b) (sym e)
+      ∙ sym (if_false _ (Err (outer_fault kinds.FileSize 20)) (standing_verdict (state_of p (slice_index b 23)) s b) l) ∙ is)
 
 -- a state of a file that stands
 alive_stands : (st : FileState) (s : FileSystem) (b : List ℕ) → is_alive st ≡ true → standing_verdict (Some st) s b ≡ file_verdict s st 0 b
@@ -85,7 +90,8 @@ begins_only s p b head begins =
     ∙ alive_stands head.state s r begins.alive
     ∙ file_holds s p head begins.payload begins.file r 0 reads (λ alive. begins.content))
 
-pub begins_first : (s : FileSystem) (p : Polarity) (b : List ℕ) (f : Fault) → verify_verdict s p b ≡ Err f → first_fault (verify_checks s p b) ≡ Some f
+pub begins_first : (s : FileSystem) (p : Polarity) (b : List ℕ) (f : Fault) → verify_verdict s p b ≡ Err f
+    → first_fault (verify_checks s p b) ≡ Some f
 begins_first s p b f is = go (nat_lt (length b) 24) refl (state_of p (slice_index b 23)) refl where
   behind : (o : Option FileState) → state_of p (slice_index b 23) ≡ o → standing_verdict o s b ≡ Err f
       → (if is_standing o then first_fault (file_checks s true 0 b) else Some (outer_fault kinds.FileState 23)) ≡ Some f
@@ -98,21 +104,28 @@ begins_first s p b f is = go (nat_lt (length b) 24) refl (state_of p (slice_inde
   behind (Some states.Deleted) e is = cc
   behind (Some states.HeaderInvalid) e is = cc
 
-  go : (t : Bool) → nat_lt (length b) 24 ≡ t → (o : Option FileState) → state_of p (slice_index b 23) ≡ o → first_fault (verify_checks s p b) ≡ Some f
+  go : (t : Bool) → nat_lt (length b) 24 ≡ t → (o : Option FileState) → state_of p (slice_index b 23) ≡ o
+      → first_fault (verify_checks s p b) ≡ Some f
   go true l o e =
-      let r : refused (outer_fault kinds.FileSize 20) ≡ Err f = sym (if_true _ (Err (outer_fault kinds.FileSize 20)) (standing_verdict (state_of p (slice_index b 23)) s b) l) ∙ is in
-      if_false _ _ (Some (outer_fault kinds.FileSize 20)) (not_at_most 24 (length b) (ltb-true (length b) 24 l)) ∙ same_fault (outer_fault kinds.FileSize 20) f r
+      let r : refused (outer_fault kinds.FileSize 20) ≡ Err f =
+      sym (if_true _ (Err (outer_fault kinds.FileSize 20)) (standing_verdict (state_of p (slice_index b 23)) s b) l) ∙ is in
+      if_false _ _ (Some (outer_fault kinds.FileSize 20)) (not_at_most 24 (length b) (ltb-true (length b) 24 l))
+      ∙ same_fault (outer_fault kinds.FileSize 20) f r
   go false l o e =
       if_true _ _ (Some (outer_fault kinds.FileSize 20)) (le-leb 24 (length b) (ltb-false (length b) 24 l))
-      ∙ ap (λ (q : Option FileState). if is_standing q then first_fault (file_checks s true 0 b) else Some (outer_fault kinds.FileState 23)) e
-      ∙ behind o e (ap (λ (q : Option FileState). standing_verdict q s b) (sym e) ∙ sym (if_false _ (Err (outer_fault kinds.FileSize 20)) (standing_verdict (state_of p (slice_index b 23)) s b) l) ∙ is)
+      ∙ ap
+      (λ (q : Option FileState). if is_standing q then first_fault (file_checks s true 0 b) else Some (outer_fault kinds.FileState 23)) e
+      ∙ behind o e (ap (λ (q : Option FileState). standing_verdict q s b) (sym e)
+      ∙ sym (if_false _ (Err (outer_fault kinds.FileSize 20)) (standing_verdict (state_of p (slice_index b 23)) s b) l) ∙ is)
 
 -- ---- what is answered
 
-pub ok_found : (s : FileSystem) (p : Polarity) (b : List ℕ) (r : Result FileHead Fault) → r ≡ verify_verdict s p b → IfOk r (λ head. BeginsFile s p head b)
+pub ok_found : (s : FileSystem) (p : Polarity) (b : List ℕ) (r : Result FileHead Fault) → r ≡ verify_verdict s p b
+    → IfOk r (λ head. BeginsFile s p head b)
 ok_found s p b (Ok head) is = begins_found s p b head (sym is)
 ok_found s p b (Err f) is = tt
 
-pub err_first : (s : FileSystem) (p : Polarity) (b : List ℕ) (r : Result FileHead Fault) → r ≡ verify_verdict s p b → IfErr r (IsFirstFault (verify_checks s p b))
+pub err_first : (s : FileSystem) (p : Polarity) (b : List ℕ) (r : Result FileHead Fault) → r ≡ verify_verdict s p b
+    → IfErr r (IsFirstFault (verify_checks s p b))
 err_first s p b (Ok head) is = tt
 err_first s p b (Err f) is = first_is (verify_checks s p b) f (begins_first s p b f (sym is))

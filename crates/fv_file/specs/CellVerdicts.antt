@@ -1,6 +1,7 @@
 -- What is answered at one place: a value, or the fault of the first check that does not hold.
 -- Serves private clauses alone: there is nothing to believe here.
-use Rattle.std.specs.Prelude.{ℕ, ◌+◌, ◌==◌, nat_lt, if◌then◌else◌, Option, Some, None, Result, Ok, Err, List, length, slice_index}
+use Rattle.std.specs.Prelude.{ℕ, ◌+◌, ◌==◌, nat_lt, if◌then◌else◌, Option, Some, None, Result, Ok, Err, List, length}
+use Rattle.std.specs.Prelude.{slice_index}
 use Rattle.fv_base.specs.Verdicts.{first_fault, verdict_by}
 use Rattle.fv_base.specs.Faults.{outer_fault}
 use Rattle.fv_base.specs.Flash.{erased_byte}
@@ -35,7 +36,8 @@ stub_verdict p r = verdict_by (first_fault (stub_checks p r)) (Stub p (file_head
 
 abbrev pub state_verdict : Option FileState → FileSystem → Polarity → ℕ → List ℕ → Result CellForm Fault
 state_verdict None system polarity p r = Err (outer_fault kinds.FileState (p + 23))
-state_verdict (Some states.Free) system polarity p r = Err (outer_fault kinds.FreeSpace (p + leading_count (erased_byte polarity) r))
+state_verdict (Some states.Free) system polarity p r =
+    Err (outer_fault kinds.FreeSpace (p + leading_count (erased_byte polarity) r))
 state_verdict (Some states.Construction) system polarity p r = stub_verdict p r
 state_verdict (Some states.HeaderInvalid) system polarity p r = stub_verdict p r
 state_verdict (Some state) system polarity p r = cell_with state p r (file_verdict system state p r)

@@ -1,5 +1,6 @@
 -- The cells of a volume's body (PI specification, volume 3, sections 3.2.2 and 3.2.3).
-use Rattle.std.specs.Prelude.{◌≡◌, ℕ, ◌+◌, ◌%◌, ◌<◌, ◌≤◌, ◌⊎◌, Bool, true, false, List, [], ◌∷◌, ◌++◌, length, slice_index}
+use Rattle.std.specs.Prelude.{◌≡◌, ℕ, ◌+◌, ◌%◌, ◌<◌, ◌≤◌, ◌⊎◌, Bool, true, false, List, [], ◌∷◌, ◌++◌, length}
+use Rattle.std.specs.Prelude.{slice_index}
 use Rattle.fv_base.specs.Erased.{AllAre}
 use Rattle.fv_base.specs.Flash.{erased_byte}
 use Rattle.fv_base.specs.Value.{up_to_8}
@@ -11,7 +12,8 @@ use Rattle.fv_file.specs.States.{StateOf, is_alive}
 use Rattle.fv_file.specs.declared.head.FileHead.{FileHead}
 use Rattle.fv_file.specs.declared.state.FileState.TheVariants as states
 
--- a cell: where it begins, in bytes from the volume's start, and a file's or pad's header and data, or how many bytes it has
+-- a cell: where it begins, in bytes from the volume's start, and a file's or pad's header and data,
+-- or how many bytes it has
 pub data CellForm : Type 0 where
   Valid : ℕ → FileHead → List ℕ → CellForm
   Pad : ℕ → FileHead → List ℕ → CellForm
@@ -48,8 +50,8 @@ pub record IsFilled (system : FileSystem) (polarity : Polarity) (head : FileHead
   pub short : length filler < 8
   pub multiple : length b % 8 ≡ 0
 
--- the bytes are this cell: a file that stands, a pad, a file that is not there any more or not yet, a header that was never
--- finished, or erased bytes
+-- the bytes are this cell: a file that stands, a pad, a file that is not there any more or not yet, a header that was
+-- never finished, or erased bytes
 abbrev pub IsCell : FileSystem → Polarity → CellForm → List ℕ → Type 0
 IsCell system polarity (Valid at head payload) b =
     IsFilled system polarity head payload b × (is_alive head.state ≡ true) × IsSound head payload

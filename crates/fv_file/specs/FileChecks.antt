@@ -1,5 +1,6 @@
 -- The checks of a file and of a cell in their order, and the first fault of a body.
-use Rattle.std.specs.Prelude.{ℕ, ◌+◌, ◌-◌, ◌<◌, ◌==◌, nat_le, ◌&&◌, ◌||◌, not, Bool, true, false, if◌then◌else◌, Option, Some, None, List, [], ◌∷◌, length, take, drop, slice_index}
+use Rattle.std.specs.Prelude.{ℕ, ◌+◌, ◌-◌, ◌<◌, ◌==◌, nat_le, ◌&&◌, ◌||◌, not, Bool, true, false, if◌then◌else◌, Option}
+use Rattle.std.specs.Prelude.{Some, None, List, [], ◌∷◌, length, take, drop, slice_index}
 use Rattle.fv_base.specs.Checks.{Check, check, IsFirstFault}
 use Rattle.fv_base.specs.Erased.{AllAre}
 use Rattle.fv_base.specs.Flash.{erased_byte}
@@ -82,7 +83,8 @@ state_checks (Some state) system p r = file_checks system (is_alive state) p r
 -- of a cell at p, from where on the bytes are r, not all of them erased
 abbrev pub cell_checks : FileSystem → Polarity → ℕ → List ℕ → List (Check Fault)
 cell_checks system polarity p r =
-    check (nat_le 24 (length r) && not (bits_of polarity (slice_index r 23) == 0)) kinds.FreeSpace (p + leading_count (erased_byte polarity) r)
+    check (nat_le 24 (length r) && not (bits_of polarity (slice_index r 23) == 0)) kinds.FreeSpace
+    (p + leading_count (erased_byte polarity) r)
     ∷ state_checks (state_of polarity (slice_index r 23)) system p r
 
 -- a state, if there is one, of a file that stands
@@ -97,9 +99,10 @@ verify_checks system polarity b =
     ∷ check (is_standing (state_of polarity (slice_index b 23))) kinds.FileState 23
     ∷ file_checks system true 0 b
 
--- some cells, none of them free, tile the body up to a place from where on not all is erased; there the fault is that of the
--- first check that does not hold. `first` is where the body begins in its volume
-pub record IsFirstCellFault (system : FileSystem) (polarity : Polarity) (first : ℕ) (body : List ℕ) (fault : Fault) : Type 0 where
+-- some cells, none of them free, tile the body up to a place from where on not all is erased; there the fault is that
+-- of the first check that does not hold. `first` is where the body begins in its volume
+pub record IsFirstCellFault (system : FileSystem) (polarity : Polarity) (first : ℕ) (body : List ℕ)
+    (fault : Fault) : Type 0 where
   pub cells : List CellForm
   pub at : ℕ
   pub tiled : Tiles system polarity first cells (take at body)

@@ -1,5 +1,6 @@
 -- Files and their headers (PI specification, volume 3, section 3.2.3.1, EFI_FFS_FILE_HEADER and EFI_FFS_FILE_HEADER2).
-use Rattle.std.specs.Prelude.{◌≡◌, ◌≢◌, ℕ, ◌+◌, ◌%◌, ◌==◌, ◌⊎◌, Bool, true, false, if◌then◌else◌, List, ◌++◌, length, take, drop, slice_index, sum}
+use Rattle.std.specs.Prelude.{◌≡◌, ◌≢◌, ℕ, ◌+◌, ◌%◌, ◌==◌, ◌⊎◌, Bool, true, false, if◌then◌else◌, List, ◌++◌, length}
+use Rattle.std.specs.Prelude.{take, drop, slice_index, sum}
 use Rattle.fv_base.specs.Guids.{guid_of}
 use Rattle.fv_base.specs.Value.{le_at, field}
 use Rattle.fv_base.specs.declared.flash.FileSystem.{FileSystem}

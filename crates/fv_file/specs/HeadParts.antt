@@ -10,7 +10,8 @@ use Rattle.fv_file.specs.declared.head.FileHead.{FileHead}
 
 -- the two fields for a size, of which the one that is not used is zero, and State between them
 abbrev pub size_fields : ℕ → Bool → ℕ → List ℕ
-size_fields size large state = le_bytes 3 (if large then 0 else size) ++ (state ∷ le_bytes 8 (if large then size else 0))
+size_fields size large state =
+    le_bytes 3 (if large then 0 else size) ++ (state ∷ le_bytes 8 (if large then size else 0))
 
 -- the size stands in the field that the attribute bits name
 abbrev pub HasPlace : FileHead → Type 0
@@ -20,7 +21,8 @@ HasPlace head = is_large (attribute_bits head.attributes) ≡ false → head.siz
 abbrev pub whole_bytes : FileHead → ℕ → ℕ → ℕ → List ℕ
 whole_bytes head header_sum file_sum state =
     bytes_of head.name
-    ++ (header_sum ∷ file_sum ∷ head.kind ∷ attribute_bits head.attributes ∷ size_fields head.size (is_large (attribute_bits head.attributes)) state)
+    ++ (header_sum ∷ file_sum ∷ head.kind ∷ attribute_bits head.attributes
+    ∷ size_fields head.size (is_large (attribute_bits head.attributes)) state)
 
 -- the header of these fields with these two sums and this State, and with its right sum
 abbrev pub head_with : FileHead → ℕ → ℕ → ℕ → List ℕ

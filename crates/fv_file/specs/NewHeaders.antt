@@ -1,5 +1,6 @@
 -- File headers as they are written (PI specification, volume 3, section 3.2.3.1).
-use Rattle.std.specs.Prelude.{◌≡◌, ℕ, ◌+◌, ◌-◌, ◌%◌, ◌<◌, nat_lt, Bool, true, false, if◌then◌else◌, List, [], ◌∷◌, ◌++◌, length, replicate, slice_index, sum}
+use Rattle.std.specs.Prelude.{◌≡◌, ℕ, ◌+◌, ◌-◌, ◌%◌, ◌<◌, nat_lt, Bool, true, false, if◌then◌else◌, List, [], ◌∷◌, ◌++◌}
+use Rattle.std.specs.Prelude.{length, replicate, slice_index, sum}
 use Rattle.fv_base.specs.Guids.{bytes_of, guid_of}
 use Rattle.fv_base.specs.Value.{IsBytes, le_bytes}
 use Rattle.fv_base.specs.declared.flash.FileSystem.{FileSystem}
@@ -55,9 +56,11 @@ file_fields name kind attributes data_len file_sum header_sum =
 abbrev pub pad_fields : ℕ → ℕ → FileHead
 pad_fields size header_sum = fields_of pad_name pad_kind 0 size false header_sum fixed_checksum
 
--- the bytes h are the header of these fields, in each file system that has such headers, with the State byte of a new file
+-- the bytes h are the header of these fields, in each file system that has such headers, with the
+-- State byte of a new file
 pub record IsNewHeader (polarity : Polarity) (head : FileHead) (h : List ℕ) : Type 0 where
-  pub header : (system : FileSystem) → (is_large (attribute_bits head.attributes) ≡ true → system ≡ Ffs3) → IsFileHeader system polarity head h
+  pub header : (system : FileSystem) → (is_large (attribute_bits head.attributes) ≡ true → system ≡ Ffs3)
+      → IsFileHeader system polarity head h
   pub state : slice_index h 23 ≡ state_byte polarity
   pub bytes : IsBytes h
 
@@ -65,7 +68,8 @@ pub record IsNewHeader (polarity : Polarity) (head : FileHead) (h : List ℕ) : 
 abbrev pub complement : ℕ → ℕ
 complement n = (256 - n % 256) % 256
 
--- a header with these two sums, by its bytes in their order: Size is zero in a large one, whose size stands behind State
+-- a header with these two sums, by its bytes in their order: Size is zero in a large one, whose
+-- size stands behind State
 abbrev pub header_with : ℕ → ℕ → List ℕ → ℕ → ℕ → ℕ → Bool → ℕ → List ℕ
 header_with header_sum file_sum name kind attributes size large state =
     name ++ (header_sum ∷ file_sum ∷ kind ∷ attributes ∷ [])
@@ -74,7 +78,8 @@ header_with header_sum file_sum name kind attributes size large state =
 -- the header with its right sum, for which file sum and State count as zero
 unfoldable pub header_bytes : ℕ → List ℕ → ℕ → ℕ → ℕ → Bool → ℕ → List ℕ
 header_bytes file_sum name kind attributes size large state =
-    header_with (complement (sum (header_with 0 0 name kind attributes size large 0))) file_sum name kind attributes size large state
+    header_with (complement (sum (header_with 0 0 name kind attributes size large 0))) file_sum name kind
+    attributes size large state
 
 -- the bytes of the header of a file with data valid, and of that of a pad
 abbrev pub file_head_of : Guid → ℕ → FileAttributes → ℕ → ℕ → Polarity → List ℕ
@@ -88,8 +93,10 @@ pad_head_of size polarity = header_bytes fixed_checksum pad_name pad_kind 0 size
 -- behind the header, the data and less than 8 bytes to the next multiple of 8 make it a file that stands
 abbrev pub IsHeadOfFile : Polarity → FileHead → List ℕ → Type 0
 IsHeadOfFile polarity head h =
-    (system : FileSystem) (at : ℕ) (payload filler : List ℕ) → (is_large (attribute_bits head.attributes) ≡ true → system ≡ Ffs3)
-    → head.size ≡ length h + length payload → IsSound head payload → length filler < 8 → (head.size + length filler) % 8 ≡ 0
+    (system : FileSystem) (at : ℕ) (payload filler : List ℕ)
+    → (is_large (attribute_bits head.attributes) ≡ true → system ≡ Ffs3)
+    → head.size ≡ length h + length payload → IsSound head payload → length filler < 8
+    → (head.size + length filler) % 8 ≡ 0
     → IsCell system polarity (Valid at head payload) (h ++ (payload ++ filler))
 
 -- behind the header, so many bytes and less than 8 to the next multiple of 8 make it a pad

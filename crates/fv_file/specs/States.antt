@@ -10,8 +10,8 @@ abbrev pub bits_of : Polarity → ℕ → ℕ
 bits_of Ones byte = 255 - byte
 bits_of Zeros byte = byte
 
--- the highest bit of n that is set is the state's: EFI_FILE_HEADER_CONSTRUCTION (01), EFI_FILE_HEADER_VALID (02), EFI_FILE_DATA_VALID (04),
--- EFI_FILE_MARKED_FOR_UPDATE (08), EFI_FILE_DELETED (10), EFI_FILE_HEADER_INVALID (20)
+-- the highest bit of n that is set is the state's: EFI_FILE_HEADER_CONSTRUCTION (01), EFI_FILE_HEADER_VALID (02),
+-- EFI_FILE_DATA_VALID (04), EFI_FILE_MARKED_FOR_UPDATE (08), EFI_FILE_DELETED (10), EFI_FILE_HEADER_INVALID (20)
 abbrev pub IsHighest : FileState → ℕ → Type 0
 IsHighest states.Free n = n ≡ 0
 IsHighest states.Construction n = n ≡ 0x01

@@ -30,7 +30,8 @@ impl Flags for FileAttributes {
 
     ghost exact = { ⊤ };
 
-    ghost table = { (codes "LARGE_FILE", 1) ∷ (codes "DATA_ALIGNMENT_2", 2) ∷ (codes "FIXED", 4) ∷ (codes "DATA_ALIGNMENT", 56)
+    ghost table = { (codes "LARGE_FILE", 1) ∷ (codes "DATA_ALIGNMENT_2", 2) ∷ (codes "FIXED", 4)
+        ∷ (codes "DATA_ALIGNMENT", 56)
         ∷ (codes "CHECKSUM", 64) ∷ [] };
 
     ghost set_of = { λ a. a.0 };

@@ -164,14 +164,17 @@ pub fn cells(
     ensures found { IfOk result (λ cs. Tiles system polarity first cs (drop first volume.now)) }
 
     // No others do.
-    ensures only { IfOk result (λ cs. (ds : List CellForm) → Tiles system polarity first ds (drop first volume.now) → ds ≡ cs) }
+    ensures only { IfOk result
+        (λ cs. (ds : List CellForm) → Tiles system polarity first ds (drop first volume.now) → ds ≡ cs) }
 
     // Where it refuses, want of memory aside, none do.
-    ensures none { IfErr result (λ f. f ≢ want_of_memory → (ds : List CellForm) → Tiles system polarity first ds (drop first volume.now) → ⊥) }
+    ensures none { IfErr result
+        (λ f. f ≢ want_of_memory → (ds : List CellForm) → Tiles system polarity first ds (drop first volume.now) → ⊥) }
 
     // A refusal, want of memory aside, names the first check that does not hold at the first place where no cell
     // stands.
-    ensures first { IfErr result (λ f. f ≢ want_of_memory → IsFirstCellFault system polarity first (drop first volume.now) f) }
+    ensures first { IfErr result
+        (λ f. f ≢ want_of_memory → IsFirstCellFault system polarity first (drop first volume.now) f) }
 
     // Cells and faults lie within the volume.
     ensures lies { IfOk result (CellsWithin (length volume.now)) }

@@ -4,7 +4,8 @@ ghost use Rattle.std.specs.Prelude.{◌≡◌, ◌==◌, ◌+◌, ◌%◌, ◌�
 ghost use Rattle.fv_base.specs.Verdicts.{first_fault, verdict_by};
 ghost use Rattle.fv_base.specs.Value.{le_at};
 ghost use Rattle.fv_file.specs.Attributes.{attribute_bits};
-ghost use Rattle.fv_file.specs.FileChecks.{attributes_at, file_header_len_at, payload_at, file_size_at, may_be_large, has_header_sum, has_file_size, skips_data, has_file_sum, file_checks};
+ghost use Rattle.fv_file.specs.FileChecks.{attributes_at, file_header_len_at, payload_at, file_size_at, may_be_large};
+ghost use Rattle.fv_file.specs.FileChecks.{has_header_sum, has_file_size, skips_data, has_file_sum, file_checks};
 ghost use Rattle.fv_file.specs.Files.{head_in, header_sum_of};
 ghost use Rattle.fv_file.specs.CellVerdicts.{file_verdict};
 ghost use Rattle.fv_file.specs.States.{is_alive};
@@ -185,7 +186,8 @@ fn head_in(rest: &[u8], state: FileState) -> FileHead
 fn checked(rest: &[u8], at: u64, system: FileSystem, state: FileState) -> Result<FileHead, Fault>
     requires least { 24 ≤ length rest.now }
     requires place { at < 2 ^ 63 }
-    ensures is { result ≡ verdict_by (first_fault (file_checks system (is_alive state) at rest.now)) (head_in state rest.now) }
+    ensures is { result
+        ≡ verdict_by (first_fault (file_checks system (is_alive state) at rest.now)) (head_in state rest.now) }
     ensures size { IfOk result (λ h. (h.header_len ≡ file_header_len_at rest.now) × (h.size ≡ file_size_at rest.now)) }
     ensures within { IfOk result (λ h. (h.header_len ≤ h.size) × (h.size ≤ length rest.now)) }
     ensures bound { IfErr result (λ f. f.place.offset ≤ at + length rest.now) }

@@ -7,7 +7,8 @@ ghost use Rattle.fv_base.specs.Value.{IsBytes};
 ghost use Rattle.fv_file.specs.Attributes.{attribute_bits, is_large, is_fixed};
 ghost use Rattle.fv_file.specs.Files.{pad_kind};
 ghost use Rattle.fv_file.specs.HeadParts.{HasPlace, size_fields, whole_bytes, head_with, head_bytes};
-ghost use Rattle.fv_file.specs.NewHeaders.{IsNewHeader, IsHeadOfFile, IsHeadOfPad, file_fields, pad_fields, file_head_of, pad_head_of, with_large, state_byte};
+ghost use Rattle.fv_file.specs.NewHeaders.{IsNewHeader, IsHeadOfFile, IsHeadOfPad, file_fields, pad_fields};
+ghost use Rattle.fv_file.specs.NewHeaders.{file_head_of, pad_head_of, with_large, state_byte};
 
 use crate::attributes::FileAttributes;
 use crate::head::{FileHead, NO_SUM, PAD};
@@ -198,13 +199,16 @@ pub fn file_head_bytes(
     requires most { data_len ≤ data_limit }
 
     // It is read again as the fields that were handed in.
-    ensures read { IsNewHeader polarity (file_fields name kind attributes data_len file_sum (slice_index result 16)) result }
+    ensures read { IsNewHeader polarity
+        (file_fields name kind attributes data_len file_sum (slice_index result 16)) result }
 
     // No other bytes are.
-    ensures only { (header_sum : ℕ) (h : List ℕ) → IsNewHeader polarity (file_fields name kind attributes data_len file_sum header_sum) h → h ≡ result }
+    ensures only { (header_sum : ℕ) (h : List ℕ)
+        → IsNewHeader polarity (file_fields name kind attributes data_len file_sum header_sum) h → h ≡ result }
 
     // With its data and filler it is a file that stands.
-    ensures cell { IsHeadOfFile polarity (file_fields name kind attributes data_len file_sum (slice_index result 16)) result }
+    ensures cell { IsHeadOfFile polarity
+        (file_fields name kind attributes data_len file_sum (slice_index result 16)) result }
 
     // It is these bytes.
     ensures bytes { result ≡ file_head_of name kind attributes data_len file_sum polarity }

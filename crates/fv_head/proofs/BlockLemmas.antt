@@ -1,5 +1,6 @@
 -- Lemmas on the block map.
-use Rattle.std.proofs.Common.{◌≡◌, ℕ, ◌+◌, ◌-◌, ◌*◌, ◌≤◌, List, [], ◌∷◌, length, take, drop, refl, sym, ap, ◌∙◌, arith, Bool, false, ◌++◌, append_assoc}
+use Rattle.std.proofs.Common.{◌≡◌, ℕ, ◌+◌, ◌-◌, ◌*◌, ◌≤◌, List, [], ◌∷◌, length, take, drop, refl, sym, ap, ◌∙◌, arith, Bool, false, ◌++◌}
+use Rattle.std.proofs.Common.{append_assoc}
 use Rattle.std.specs.Prelude.{◌==◌, ◌&&◌, not, sum_by}
 use Rattle.std.specs.List.{list_all}
 use Rattle.std.proofs.lemmas.Bool.Decides.{nat_tests}
@@ -41,4 +42,5 @@ makes_up-step xs left count size long first second some fits =
 pub pairs_of-more : (ps : List (ℕ × ℕ)) (xs : List ℕ) → 8 ≤ length xs
     → ps ++ pairs_of xs ≡ (ps ++ ((le (take 4 xs), le (take 4 (drop 4 xs))) ∷ [])) ++ pairs_of (drop 8 xs)
 pairs_of-more ps xs long =
-    ap (λ (qs : List (ℕ × ℕ)). ps ++ qs) (pairs_of-step xs long) ∙ sym (append_assoc ps ((le (take 4 xs), le (take 4 (drop 4 xs))) ∷ []) (pairs_of (drop 8 xs)))
+    ap (λ (qs : List (ℕ × ℕ)). ps ++ qs) (pairs_of-step xs long)
+    ∙ sym (append_assoc ps ((le (take 4 xs), le (take 4 (drop 4 xs))) ∷ []) (pairs_of (drop 8 xs)))

@@ -1,5 +1,6 @@
 -- Extended headers, and the entries in them.
-use Rattle.std.proofs.Common.{◌≡◌, ◌≤◌, ◌<◌, ℕ, zero, suc, ◌+◌, ◌-◌, List, [], ◌∷◌, ◌++◌, length, take, drop, refl, sym, ap, ◌∙◌, subst, arith, inl, inr, Bool, true, false, length-append, length-drop, append_assoc, append-nil, drop-drop}
+use Rattle.std.proofs.Common.{◌≡◌, ◌≤◌, ◌<◌, ℕ, zero, suc, ◌+◌, ◌-◌, List, [], ◌∷◌, ◌++◌, length, take, drop, refl, sym, ap, ◌∙◌, subst}
+use Rattle.std.proofs.Common.{arith, inl, inr, Bool, true, false, length-append, length-drop, append_assoc, append-nil, drop-drop}
 use Rattle.std.specs.Prelude.{◌==◌, ◌&&◌, ◌||◌, nat_le, nat_lt, if◌then◌else◌, Option, Some, None}
 use Rattle.std.proofs.lemmas.List.{drop-take, take_at, drop_at, take-append-drop, length-take-le, take_all}
 use Rattle.std.proofs.lemmas.Bool.{leb-true, le-leb, eqb-true}
@@ -25,10 +26,13 @@ pub record Begins (b head payload rest : List ℕ) : Type 0 where
   pub payload_is : payload ≡ field 4 (le_at 0 2 b - 4) b
   pub rest_is : rest ≡ drop (le_at 0 2 b) b
 
-pub begins : (b head payload rest : List ℕ) → b ≡ head ++ (payload ++ rest) → length head ≡ 4 → le_at 0 2 head ≡ 4 + length payload → Begins b head payload rest
+pub begins : (b head payload rest : List ℕ) → b ≡ head ++ (payload ++ rest) → length head ≡ 4 → le_at 0 2 head ≡ 4 + length payload
+    → Begins b head payload rest
 begins b head payload rest text four size =
-    let long : length b ≡ 4 + length payload + length rest = omega (arith, ap length text, length-append head (payload ++ rest), length-append payload rest, four) in
-    let at : le_at 0 2 b ≡ le_at 0 2 head = ap (le_at 0 2) text ∙ ap le (field-append_front 0 2 head (payload ++ rest) (omega (arith, four))) in
+    let long : length b ≡ 4 + length payload + length rest =
+    omega (arith, ap length text, length-append head (payload ++ rest), length-append payload rest, four) in
+    let at : le_at 0 2 b ≡ le_at 0 2 head =
+    ap (le_at 0 2) text ∙ ap le (field-append_front 0 2 head (payload ++ rest) (omega (arith, four))) in
     let behind : drop 4 b ≡ payload ++ rest = ap (drop 4) text ∙ drop_at head (payload ++ rest) 4 four in
     let same : le_at 0 2 b ≡ 4 + length payload = at ∙ size in
     record {
@@ -36,7 +40,8 @@ begins b head payload rest text four size =
       kind = ap (le_at 2 2) text ∙ ap le (field-append_front 2 2 head (payload ++ rest) (omega (arith, four)));
       long = long;
       payload_is = sym (ap (take (le_at 0 2 b - 4)) behind ∙ take_at payload rest (le_at 0 2 b - 4) (omega (arith, same)));
-      rest_is = sym (ap (λ (n : ℕ). drop n b) (same ∙ turned (length payload)) ∙ sym (drop-drop (length payload) 4 b) ∙ ap (drop (length payload)) behind ∙ drop_at payload rest (length payload) refl);
+      rest_is = sym (ap (λ (n : ℕ). drop n b) (same ∙ turned (length payload)) ∙ sym (drop-drop (length payload) 4 b)
+          ∙ ap (drop (length payload)) behind ∙ drop_at payload rest (length payload) refl);
     }
   where
     turned : (n : ℕ) → 4 + n ≡ 4 + n
@@ -52,13 +57,15 @@ pair_is : (e f : ℕ × List ℕ) → e.0 ≡ f.0 → e.1 ≡ f.1 → e ≡ f
 pair_is e f p q = ap (λ (n : ℕ). (n, e.1)) p ∙ ap (λ (xs : List ℕ). (f.0, xs)) q
 
 -- bytes are the entries and the tail of one list at most
-pub one_entries : (es fs : List (ℕ × List ℕ)) (tail other b : List ℕ) → SplitsEntries es tail b → SplitsEntries fs other b → (es ≡ fs) × (tail ≡ other)
+pub one_entries : (es fs : List (ℕ × List ℕ)) (tail other b : List ℕ) → SplitsEntries es tail b → SplitsEntries fs other b
+    → (es ≡ fs) × (tail ≡ other)
 one_entries [] [] tail other b first second = (refl, sym first.0 ∙ second.0)
 one_entries [] (f ∷ fs) tail other b first (head, payload, rest, text, four, size, kind, kept, more) =
     absurd (no_entry b head payload rest (begins b head payload rest text four size) first.1)
 one_entries (e ∷ es) [] tail other b (head, payload, rest, text, four, size, kind, kept, more) second =
     absurd (no_entry b head payload rest (begins b head payload rest text four size) second.1)
-one_entries (e ∷ es) (f ∷ fs) tail other b (head, payload, rest, text, four, size, kind, kept, more) (head', payload', rest', text', four', size', kind', kept', more') =
+one_entries (e ∷ es) (f ∷ fs) tail other b (head, payload, rest, text, four, size, kind, kept, more)
+    (head', payload', rest', text', four', size', kind', kept', more') =
     let first = begins b head payload rest text four size in
     let second = begins b head' payload' rest' text' four' size' in
     let payloads : payload ≡ payload' = first.payload_is ∙ sym second.payload_is in
@@ -78,7 +85,8 @@ entry_before b n e es tail size least within kind kept more =
     let long : length payload ≡ n - 4 = length-take-le (n - 4) (drop 4 b) (omega (arith, length-drop 4 b, within)) in
     let rest_is : drop (n - 4) (drop 4 b) ≡ drop n b = drop-drop (n - 4) 4 b ∙ ap (λ (k : ℕ). drop k b) (whole n least) in
     let text : b ≡ head ++ (payload ++ drop n b) =
-    sym (take-append-drop 4 b) ∙ ap (λ (xs : List ℕ). head ++ xs) (sym (take-append-drop (n - 4) (drop 4 b)) ∙ ap (λ (xs : List ℕ). payload ++ xs) rest_is) in (
+    sym (take-append-drop 4 b)
+    ∙ ap (λ (xs : List ℕ). head ++ xs) (sym (take-append-drop (n - 4) (drop 4 b)) ∙ ap (λ (xs : List ℕ). payload ++ xs) rest_is) in (
       head,
       payload,
       drop n b,
@@ -122,7 +130,8 @@ entry_and b long least within (es, tail, more) =
 pub some_entries : (n : ℕ) (b : List ℕ) → length b ≤ n → Split b
 some_entries zero b short = ([], b, (refl, inl (omega (arith, short))))
 some_entries (suc n) b short =
-    pick (starts b) (λ long least within. some_entries n (drop (le_at 0 2 b) b) (omega (arith, length-drop (le_at 0 2 b) b, short, least, within)))
+    pick (starts b)
+    (λ long least within. some_entries n (drop (le_at 0 2 b) b) (omega (arith, length-drop (le_at 0 2 b) b, short, least, within)))
   where
     pick : Starts b → (4 ≤ length b → 4 ≤ le_at 0 2 b → le_at 0 2 b ≤ length b → Split (drop (le_at 0 2 b) b)) → Split b
     pick (none is) more = ([], b, (refl, is))
@@ -154,17 +163,20 @@ one_ext x y b is other =
     let first = rest_of x b is in
     let second = rest_of y b other in
     let names : x.name ≡ y.name = guid_is x.name y.name (first.0 ∙ sym second.0) in
-    let entries = one_entries x.entries y.entries x.tail y.tail (drop 20 b) (subst (SplitsEntries x.entries x.tail) first.1 is.entries) (subst (SplitsEntries y.entries y.tail) second.1 other.entries) in
+    let entries = one_entries x.entries y.entries x.tail y.tail (drop 20 b) (subst (SplitsEntries x.entries x.tail) first.1 is.entries)
+    (subst (SplitsEntries y.entries y.tail) second.1 other.entries) in
     extension_is x y names entries.0 entries.1
 
 -- a name, a size and what stands behind them
-pub ext_of : (b : List ℕ) (g : Guid) (es : List (ℕ × List ℕ)) (tail : List ℕ) → 20 ≤ length b → length b ≤ ext_limit → le_at 16 4 b ≡ length b → bytes_of g ≡ take 16 b
+pub ext_of : (b : List ℕ) (g : Guid) (es : List (ℕ × List ℕ)) (tail : List ℕ) → 20 ≤ length b → length b ≤ ext_limit
+    → le_at 16 4 b ≡ length b → bytes_of g ≡ take 16 b
     → SplitsEntries es tail (drop 20 b) → IsExt (record { name = g; entries = es; tail = tail }) b
 ext_of b g es tail least most size name entries = record {
   head = field 16 4 b;
   rest = drop 20 b;
   text = sym (take-append-drop 16 b) ∙ ap (λ (xs : List ℕ). xs ++ drop 16 b) (sym name)
-      ∙ ap (λ (xs : List ℕ). bytes_of g ++ xs) (sym (take-append-drop 4 (drop 16 b)) ∙ ap (λ (xs : List ℕ). field 16 4 b ++ xs) (drop-drop 4 16 b));
+      ∙ ap (λ (xs : List ℕ). bytes_of g ++ xs)
+      (sym (take-append-drop 4 (drop 16 b)) ∙ ap (λ (xs : List ℕ). field 16 4 b ++ xs) (drop-drop 4 16 b));
   name_length = ap length name ∙ length-take-le 16 b (omega (arith, least));
   head_length = length-take-le 4 (drop 16 b) (omega (arith, length-drop 16 b, least));
   size = size;
@@ -194,17 +206,28 @@ pub record Placed (x : Extension) (e : Extent) (b part : List ℕ) : Type 0 wher
 
 pub placed : (x : Extension) (e : Extent) (b : List ℕ) → (h : HasExt (Some x) e b) → Placed x e b h.1
 placed x e b (before, part, behind, text, at, low, high, is, first) =
-    let least : 20 ≤ length part = omega (arith, ap length is.text, length-append (bytes_of x.name) (is.head ++ is.rest), length-append is.head is.rest, is.name_length, is.head_length) in
-    let moved : drop (length before) b ≡ part ++ behind = ap (drop (length before)) text ∙ drop_at before (part ++ behind) (length before) refl in
+    let least : 20 ≤ length part = omega (
+      arith,
+      ap length is.text,
+      length-append (bytes_of x.name) (is.head ++ is.rest),
+      length-append is.head is.rest,
+      is.name_length,
+      is.head_length,
+    ) in
+    let moved : drop (length before) b ≡ part ++ behind =
+    ap (drop (length before)) text ∙ drop_at before (part ++ behind) (length before) refl in
     let head : field 16 4 part ≡ is.head =
-    ap (take 4) (ap (drop 16) is.text ∙ drop_at (bytes_of x.name) (is.head ++ is.rest) 16 is.name_length) ∙ take_at is.head is.rest 4 is.head_length in
+    ap (take 4) (ap (drop 16) is.text ∙ drop_at (bytes_of x.name) (is.head ++ is.rest) 16 is.name_length)
+    ∙ take_at is.head is.rest 4 is.head_length in
     let size : ext_size_at b ≡ length part =
-    ap (λ (n : ℕ). le_at (n + 16) 4 b) (sym at) ∙ ap le (ap (take 4) (sym (drop-drop 16 (length before) b) ∙ ap (drop 16) moved) ∙ field-append_front 16 4 part behind (omega (arith, least)) ∙ head) ∙ is.size in
+    ap (λ (n : ℕ). le_at (n + 16) 4 b) (sym at) ∙ ap le (ap (take 4) (sym (drop-drop 16 (length before) b) ∙ ap (drop 16) moved)
+    ∙ field-append_front 16 4 part behind (omega (arith, least)) ∙ head) ∙ is.size in
     record {
       least = least;
       most = is.most;
       size = size;
-      part_is = sym (ap (λ (n : ℕ). field n (length part) b) (sym at) ∙ ap (take (length part)) moved ∙ take_at part behind (length part) refl);
+      part_is =
+          sym (ap (λ (n : ℕ). field n (length part) b) (sym at) ∙ ap (take (length part)) moved ∙ take_at part behind (length part) refl);
       behind_header = omega (arith, at, low);
       within = omega (arith, at, high);
       first = first ∙ ap (λ (n : ℕ). up_to_8 (n + length part)) at;
@@ -220,10 +243,12 @@ one_has_ext (Some x) (Some y) e b least first second =
     let p = placed x e b first in
     let q = placed y e b second in
     let same : first.1 ≡ second.1 = p.part_is ∙ ap (λ (n : ℕ). field (ext_offset_at b) n b) (sym p.size ∙ q.size) ∙ sym q.part_is in
-    ap (λ (z : Extension). let A : Type 0 = Option Extension in let made : A = Some z in made) (one_ext x y second.1 (subst (IsExt x) same p.is_ext) q.is_ext)
+    ap (λ (z : Extension). let A : Type 0 = Option Extension in let made : A = Some z in made)
+    (one_ext x y second.1 (subst (IsExt x) same p.is_ext) q.is_ext)
 
 -- an extended header at its place
-pub make_has_ext : (x : Extension) (e : Extent) (b : List ℕ) (n : ℕ) → e.length ≤ length b → e.header_len ≤ ext_offset_at b → ext_offset_at b + n ≤ e.length
+pub make_has_ext : (x : Extension) (e : Extent) (b : List ℕ) (n : ℕ) → e.length ≤ length b → e.header_len ≤ ext_offset_at b
+    → ext_offset_at b + n ≤ e.length
     → e.first ≡ up_to_8 (ext_offset_at b + n) → IsExt x (field (ext_offset_at b) n b) → HasExt (Some x) e b
 make_has_ext x e b n whole low high first is =
     let o : ℕ = ext_offset_at b in
@@ -265,16 +290,19 @@ tests_of o n s len h =
       within = leb-true _ _ one.1;
     }
 
-tests_hold : (o n s len : ℕ) → n ≤ o → o + 20 ≤ len → 20 ≤ s → s ≤ ext_limit → o + s ≤ len → (nat_le n o && nat_le (o + 20) len && nat_le 20 s && nat_le s ext_limit && nat_le (o + s) len) ≡ true
+tests_hold : (o n s len : ℕ) → n ≤ o → o + 20 ≤ len → 20 ≤ s → s ≤ ext_limit → o + s ≤ len
+    → (nat_le n o && nat_le (o + 20) len && nat_le 20 s && nat_le s ext_limit && nat_le (o + s) len) ≡ true
 tests_hold o n s len a b c d e =
     and_join _ _ (and_join _ _ (and_join _ _ (and_join _ _ (le-leb _ _ a) (le-leb _ _ b)) (le-leb _ _ c)) (le-leb _ _ d)) (le-leb _ _ e)
 
 -- where the check holds, an extended header stands there, or there is none
 pub some_has_ext : (e : Extent) (b : List ℕ) → e.length ≤ length b → has_ext e.header_len e.length b ≡ true
-    → e.first ≡ (if ext_offset_at b == 0 then e.header_len else up_to_8 (ext_offset_at b + ext_size_at b)) → (x : Option Extension) × HasExt x e b
+    → e.first ≡ (if ext_offset_at b == 0 then e.header_len else up_to_8 (ext_offset_at b + ext_size_at b))
+    → (x : Option Extension) × HasExt x e b
 some_has_ext e b whole holds first = go (ext_offset_at b == 0) refl holds first where
   go : (t : Bool) → (ext_offset_at b == 0) ≡ t
-      → (t || (nat_le e.header_len (ext_offset_at b) && nat_le (ext_offset_at b + 20) e.length && nat_le 20 (ext_size_at b) && nat_le (ext_size_at b) ext_limit
+      → (t || (nat_le e.header_len (ext_offset_at b) && nat_le (ext_offset_at b + 20) e.length && nat_le 20 (ext_size_at b)
+      && nat_le (ext_size_at b) ext_limit
       && nat_le (ext_offset_at b + ext_size_at b) e.length)) ≡ true
       → e.first ≡ (if t then e.header_len else up_to_8 (ext_offset_at b + ext_size_at b)) → (x : Option Extension) × HasExt x e b
   go true is holds first = (None, (eqb-true _ _ is, first))
@@ -296,7 +324,8 @@ pub has_ext_holds : (x : Option Extension) (e : Extent) (b : List ℕ) → HasEx
 has_ext_holds None e b h = rw h.0 refl
 has_ext_holds (Some x) e b h =
     let p = placed x e b h in
-    or_right (ext_offset_at b == 0) _ (rw p.size (tests_hold (ext_offset_at b) e.header_len (length h.1) e.length p.behind_header (omega (arith, p.least, p.within)) p.least p.most p.within))
+    or_right (ext_offset_at b == 0) _ (rw p.size (tests_hold (ext_offset_at b) e.header_len (length h.1) e.length p.behind_header
+    (omega (arith, p.least, p.within)) p.least p.most p.within))
   where
     or_right : (s t : Bool) → t ≡ true → (s || t) ≡ true
     or_right true t is = refl
@@ -314,11 +343,13 @@ has_ext_first (Some x) e b least h =
     not_zero o some = grind (arith, nat_tests)
 
 -- it is a matter of the volume's own bytes
-pub ext_same : (x : Option Extension) (e : Extent) (b c : List ℕ) → 64 ≤ e.header_len → e.header_len ≤ e.length → HasExt x e b → e.length ≤ length c → take e.length c ≡ take e.length b
+pub ext_same : (x : Option Extension) (e : Extent) (b c : List ℕ) → 64 ≤ e.header_len → e.header_len ≤ e.length → HasExt x e b
+    → e.length ≤ length c → take e.length c ≡ take e.length b
     → HasExt x e c
 ext_same x e b c least within h long same = go x h where
   offset : ext_offset_at c ≡ ext_offset_at b
-  offset = ap le (sym (field-take 52 2 e.length c (omega (arith, least, within))) ∙ ap (field 52 2) same ∙ field-take 52 2 e.length b (omega (arith, least, within)))
+  offset = ap le (sym (field-take 52 2 e.length c (omega (arith, least, within))) ∙ ap (field 52 2) same
+      ∙ field-take 52 2 e.length b (omega (arith, least, within)))
 
   go : (x : Option Extension) → HasExt x e b → HasExt x e c
   go None h = (offset ∙ h.0, h.1)
@@ -327,39 +358,47 @@ ext_same x e b c least within h long same = go x h where
       let n : ℕ = length h.1 in
       let o : ℕ = ext_offset_at b in
       let part : field (ext_offset_at c) n c ≡ h.1 =
-      ap (λ (k : ℕ). field k n c) offset ∙ sym (field-take o n e.length c p.within) ∙ ap (field o n) same ∙ field-take o n e.length b p.within ∙ sym p.part_is in
-      make_has_ext x e c n long (omega (arith, offset, p.behind_header)) (omega (arith, offset, p.within)) (p.first ∙ ap (λ (k : ℕ). up_to_8 (k + n)) (sym offset))
-      (subst (IsExt x) (sym part) p.is_ext)
+      ap (λ (k : ℕ). field k n c) offset ∙ sym (field-take o n e.length c p.within) ∙ ap (field o n) same
+      ∙ field-take o n e.length b p.within ∙ sym p.part_is in
+      make_has_ext x e c n long (omega (arith, offset, p.behind_header)) (omega (arith, offset, p.within))
+      (p.first ∙ ap (λ (k : ℕ). up_to_8 (k + n)) (sym offset)) (subst (IsExt x) (sym part) p.is_ext)
 
 -- ---- reading
 
 -- one entry more is read
-pub more_entries : (items new : List (ℕ × List ℕ)) (e : ℕ × List ℕ) (bytes rest behind entry : List ℕ) (n : ℕ) → new ≡ items ++ (e ∷ []) → behind ≡ drop n rest → entry ≡ take n rest
+pub more_entries : (items new : List (ℕ × List ℕ)) (e : ℕ × List ℕ) (bytes rest behind entry : List ℕ) (n : ℕ) → new ≡ items ++ (e ∷ [])
+    → behind ≡ drop n rest → entry ≡ take n rest
     → n ≡ le_at 0 2 rest → 4 ≤ n → n ≤ length rest → e.0 ≡ le_at 2 2 entry → e.1 ≡ kept_payload (le_at 2 2 entry) (drop 4 entry)
     → ((es : List (ℕ × List ℕ)) (tail : List ℕ) → SplitsEntries es tail rest → SplitsEntries (items ++ es) tail bytes)
     → (es : List (ℕ × List ℕ)) (tail : List ℕ) → SplitsEntries es tail behind → SplitsEntries (new ++ es) tail bytes
 more_entries items new e bytes rest behind entry n pushed back front size least within kind kept sofar es tail more =
     let kind_is : e.0 ≡ le_at 2 2 rest = kind ∙ ap (le_at 2 2) front ∙ ap le (field-take 2 2 n rest (omega (arith, least))) in
-    let payload : drop 4 entry ≡ field 4 (n - 4) rest = ap (drop 4) front ∙ ap (λ (k : ℕ). drop 4 (take k rest)) (split n least) ∙ drop-take 4 (n - 4) rest in
-    let kept_is : e.1 ≡ kept_payload e.0 (field 4 (n - 4) rest) = kept ∙ ap (λ (k : ℕ). kept_payload k (drop 4 entry)) (sym kind) ∙ ap (kept_payload e.0) payload in
+    let payload : drop 4 entry ≡ field 4 (n - 4) rest =
+    ap (drop 4) front ∙ ap (λ (k : ℕ). drop 4 (take k rest)) (split n least) ∙ drop-take 4 (n - 4) rest in
+    let kept_is : e.1 ≡ kept_payload e.0 (field 4 (n - 4) rest) =
+    kept ∙ ap (λ (k : ℕ). kept_payload k (drop 4 entry)) (sym kind) ∙ ap (kept_payload e.0) payload in
     let one = entry_before rest n e es tail size least within kind_is kept_is (subst (SplitsEntries es tail) back more) in
-    let joined : items ++ (e ∷ es) ≡ new ++ es = sym (append_assoc items (e ∷ []) es) ∙ ap (λ (xs : List (ℕ × List ℕ)). xs ++ es) (sym pushed) in
+    let joined : items ++ (e ∷ es) ≡ new ++ es =
+    sym (append_assoc items (e ∷ []) es) ∙ ap (λ (xs : List (ℕ × List ℕ)). xs ++ es) (sym pushed) in
     subst (λ (xs : List (ℕ × List ℕ)). SplitsEntries xs tail bytes) joined (sofar (e ∷ es) tail one)
   where
     split : (n : ℕ) → 4 ≤ n → n ≡ 4 + (n - 4)
     split n least = omega arith
 
 -- what is left begins no entry
-pub end_entries : (items : List (ℕ × List ℕ)) (bytes rest tail : List ℕ) → ((es : List (ℕ × List ℕ)) (end : List ℕ) → SplitsEntries es end rest → SplitsEntries (items ++ es) end bytes)
+pub end_entries : (items : List (ℕ × List ℕ)) (bytes rest tail : List ℕ)
+    → ((es : List (ℕ × List ℕ)) (end : List ℕ) → SplitsEntries es end rest → SplitsEntries (items ++ es) end bytes)
     → BeginNoEntry rest → tail ≡ rest → SplitsEntries items tail bytes
 end_entries items bytes rest tail sofar ended same =
     subst (λ (xs : List (ℕ × List ℕ)). SplitsEntries xs tail bytes) (append-nil items) (sofar [] tail (sym same, ended))
 
 -- what is read behind the name and the size
-pub ext_from : (b : List ℕ) (g : Guid) (es : List (ℕ × List ℕ)) (tail : List ℕ) → 20 ≤ length b → length b ≤ ext_limit → le_at 16 4 b ≡ length b → bytes_of g ≡ take 16 b
+pub ext_from : (b : List ℕ) (g : Guid) (es : List (ℕ × List ℕ)) (tail : List ℕ) → 20 ≤ length b → length b ≤ ext_limit
+    → le_at 16 4 b ≡ length b → bytes_of g ≡ take 16 b
     → SplitsEntries es tail (take (length b - 20) (drop 20 b)) → IsExt (record { name = g; entries = es; tail = tail }) b
 ext_from b g es tail least most size name entries =
-    ext_of b g es tail least most size name (subst (SplitsEntries es tail) (take_all (length b - 20) (drop 20 b) (omega (arith, length-drop 20 b))) entries)
+    ext_of b g es tail least most size name
+    (subst (SplitsEntries es tail) (take_all (length b - 20) (drop 20 b) (omega (arith, length-drop 20 b))) entries)
 
 -- what a header with an ExtHeaderOffset has
 pub record ExtStands (e : Extent) (b : List ℕ) : Type 0 where
@@ -375,7 +414,8 @@ stands None e b h some = absurd (some h.0)
 stands (Some x) e b h some =
     let p = placed x e b h in
     let inner : le_at 16 4 (field (ext_offset_at b) (ext_size_at b) b) ≡ ext_size_at b =
-    ap le (field-take 16 4 (ext_size_at b) (drop (ext_offset_at b) b) (omega (arith, p.least, p.size)) ∙ ap (take 4) (drop-drop 16 (ext_offset_at b) b)) in
+    ap le (field-take 16 4 (ext_size_at b) (drop (ext_offset_at b) b) (omega (arith, p.least, p.size))
+    ∙ ap (take 4) (drop-drop 16 (ext_offset_at b) b)) in
     record {
       least = omega (arith, p.least, p.size);
       most = omega (arith, p.most, p.size);
@@ -386,6 +426,7 @@ stands (Some x) e b h some =
     }
 
 -- an extended header that is read there
-pub read_there : (x : Extension) (e : Extent) (b part : List ℕ) → ExtStands e b → e.length ≤ length b → part ≡ field (ext_offset_at b) (ext_size_at b) b → IsExt x part → HasExt (Some x) e b
+pub read_there : (x : Extension) (e : Extent) (b part : List ℕ) → ExtStands e b → e.length ≤ length b
+    → part ≡ field (ext_offset_at b) (ext_size_at b) b → IsExt x part → HasExt (Some x) e b
 read_there x e b part s whole is read =
     make_has_ext x e b (ext_size_at b) whole s.behind_header s.within s.first (subst (IsExt x) is read)

@@ -1,5 +1,6 @@
 -- The checks of a header and its fields say the same.
-use Rattle.std.proofs.Common.{◌≡◌, ◌≢◌, ◌≤◌, ℕ, ◌+◌, ◌-◌, ◌%◌, List, [], ◌∷◌, ◌++◌, length, take, drop, refl, sym, ap, ◌∙◌, subst, arith, Bool, true, false, length-take, length-drop, drop-drop}
+use Rattle.std.proofs.Common.{◌≡◌, ◌≢◌, ◌≤◌, ℕ, ◌+◌, ◌-◌, ◌%◌, List, [], ◌∷◌, ◌++◌, length, take, drop, refl, sym, ap, ◌∙◌, subst, arith}
+use Rattle.std.proofs.Common.{Bool, true, false, length-take, length-drop, drop-drop}
 use Rattle.std.specs.Prelude.{◌==◌, nat_le, not, is_some, Option, None, Some, Result, Ok, Err, slice_index, if◌then◌else◌, IfOk, IfErr}
 use Rattle.std.specs.List.{AllByRecursion, list_all}
 use Rattle.std.proofs.lemmas.List.{drop-take, length-take-le, get_or-take}
@@ -22,7 +23,8 @@ use Rattle.fv_base.proofs.FieldLemmas.{take-take_le, field-take, bytes_take}
 use Rattle.fv_head.specs.Attributes.{polarity_of}
 use Rattle.fv_head.specs.Ext.{Extension, IsExt}
 use Rattle.fv_head.specs.Head.{HasExt, HeadFields, IsHead, BeginsVolume, system_guid}
-use Rattle.fv_head.specs.HeadChecks.{has_signature, is_header_len, has_sum, has_block_map, is_volume_len, head_checks, is_zero_pair, blocks_at, makes_up, file_system_at, header_len_at, volume_len_at, ext_offset_at, ext_size_at, has_ext}
+use Rattle.fv_head.specs.HeadChecks.{has_signature, is_header_len, has_sum, has_block_map, is_volume_len, head_checks, is_zero_pair}
+use Rattle.fv_head.specs.HeadChecks.{blocks_at, makes_up, file_system_at, header_len_at, volume_len_at, ext_offset_at, ext_size_at, has_ext}
 use Rattle.fv_head.specs.HeadVerdicts.{head_verdict, extent_verdict, extent_or, extent_at}
 use Rattle.fv_head.specs.Pairs.{pairs_of}
 use Rattle.fv_head.specs.declared.extent.Extent.{Extent}
@@ -56,9 +58,11 @@ pub verdict_err : (o : Option Fault) (b : List ℕ) (f : Fault) → o ≡ Some f
 verdict_err None b f is = cc
 verdict_err (Some g) b f is = cc
 
-pub verdict_extent : (b : List ℕ) (fs : FileSystem) → first_fault (head_checks b) ≡ None → file_system_at b ≡ Some fs → head_verdict b ≡ Ok (extent_at fs b)
+pub verdict_extent : (b : List ℕ) (fs : FileSystem) → first_fault (head_checks b) ≡ None → file_system_at b ≡ Some fs
+    → head_verdict b ≡ Ok (extent_at fs b)
 verdict_extent b fs none system =
-    ap (λ (o : Option Fault). extent_verdict o b) none ∙ ap (λ (o : Option FileSystem). extent_or o (outer_fault kinds.FileSystem 16) b) system
+    ap (λ (o : Option Fault). extent_verdict o b) none
+    ∙ ap (λ (o : Option FileSystem). extent_or o (outer_fault kinds.FileSystem 16) b) system
 
 -- ---- the block map
 
@@ -170,7 +174,8 @@ checked b (front, (signature, (system, (revision, (header_len, (header, (sum, (m
   ext = ext;
 }
 
-front_of : (b : List ℕ) (fs : FileSystem) → IsBytes b → file_system_at b ≡ Some fs → field 16 16 b ≡ system_guid fs → AllHold (head_checks b)
+front_of : (b : List ℕ) (fs : FileSystem) → IsBytes b → file_system_at b ≡ Some fs → field 16 16 b ≡ system_guid fs
+    → AllHold (head_checks b)
     → (x : Option Extension) × BeginsVolume (fields_of fs x b) (extent_at fs b) b
 front_of b fs small is guid all =
     let n : ℕ = header_len_at b in
@@ -238,18 +243,22 @@ guid_finds b Ffs3 is =
     rw (two, (bytes_eq-Decides (field 16 16 b) (system_guid Ffs3)).1 is) refl
 
 -- bytes without a fault begin with a volume
-pub front_found : (b : List ℕ) (e : Extent) → IsBytes b → head_verdict b ≡ Ok e → (x : Option Extension) × BeginsVolume (fields_of e.file_system x b) e b
+pub front_found : (b : List ℕ) (e : Extent) → IsBytes b → head_verdict b ≡ Ok e
+    → (x : Option Extension) × BeginsVolume (fields_of e.file_system x b) e b
 front_found b e small h =
     let v = verdict_ok (first_fault (head_checks b)) b e h in
     let x = extent_ok (file_system_at b) _ b e v.1 in
-    subst (λ (e : Extent). (y : Option Extension) × BeginsVolume (fields_of e.file_system y b) e b) x.2 (front_of b x.0 small x.1 (guid_found b x.0 x.1) (all_hold (head_checks b) v.0))
+    subst (λ (e : Extent). (y : Option Extension) × BeginsVolume (fields_of e.file_system y b) e b) x.2
+    (front_of b x.0 small x.1 (guid_found b x.0 x.1) (all_hold (head_checks b) v.0))
 
 -- an extent by its fields
-extent_is : (l n f : ℕ) (fs : FileSystem) (p : Polarity) (e : Extent) → l ≡ e.length → n ≡ e.header_len → f ≡ e.first → fs ≡ e.file_system → p ≡ e.polarity
+extent_is : (l n f : ℕ) (fs : FileSystem) (p : Polarity) (e : Extent) → l ≡ e.length → n ≡ e.header_len → f ≡ e.first → fs ≡ e.file_system
+    → p ≡ e.polarity
     → (let made : Extent = record { length = l; header_len = n; first = f; file_system = fs; polarity = p } in made) ≡ e
 extent_is l n f fs p e a b c d g = rw (a, b, c, d, g) refl
 
-front_exact : (b : List ℕ) (h : HeadFields) (e : Extent) → header_len_at b ≡ e.header_len → 64 ≤ e.header_len → BeginsVolume h e b → head_verdict b ≡ Ok e
+front_exact : (b : List ℕ) (h : HeadFields) (e : Extent) → header_len_at b ≡ e.header_len → 64 ≤ e.header_len → BeginsVolume h e b
+    → head_verdict b ≡ Ok e
 front_exact b h e same least f =
     let m : ℕ = e.header_len in
     let head = f.head in
@@ -264,7 +273,8 @@ front_exact b h e same least f =
     let vol_least : m ≤ h.length = rw len at head.volume_least in
     let whole : h.length ≤ length b = rw (← f.length_is) f.whole in
     let made_up : makes_up (blocks_at m b) h.length ≡ true =
-    ap (λ (ps : List (ℕ × ℕ)). makes_up ps h.length) pairs.0 ∙ and_join _ _ (all_not_zero h.blocks head.no_pair_of_zeros) (eq-eqb _ _ head.makes_up) in
+    ap (λ (ps : List (ℕ × ℕ)). makes_up ps h.length) pairs.0
+    ∙ and_join _ _ (all_not_zero h.blocks head.no_pair_of_zeros) (eq-eqb _ _ head.makes_up) in
     let last : is_zero_pair (le_at (m - 8) 4 b, le_at (m - 4) 4 b) ≡ true = ap is_zero_pair pairs.1 in
     let all : AllHold (head_checks b) = rw (same, vol, system) (
       le-leb 56 (length b) (omega (arith, f.long_enough)),
@@ -302,7 +312,8 @@ front_exact b h e same least f =
     ) in
     let made : extent_at h.file_system b ≡ e =
     extent_is _ _ _ _ _ e (vol ∙ sym f.length_is) same
-    (ap (λ (k : ℕ). if ext_offset_at b == 0 then k else up_to_8 (ext_offset_at b + ext_size_at b)) same ∙ has_ext_first h.ext e b least f.ext) (sym f.file_system) (ap polarity_of bits ∙ sym f.polarity) in
+    (ap (λ (k : ℕ). if ext_offset_at b == 0 then k else up_to_8 (ext_offset_at b + ext_size_at b)) same
+    ∙ has_ext_first h.ext e b least f.ext) (sym f.file_system) (ap polarity_of bits ∙ sym f.polarity) in
     rw (none_faulty (head_checks b) all, system) (ap Ok made)
 
 -- bytes that begin with a volume have no fault
@@ -316,9 +327,11 @@ front_only b h e f =
     front_exact b h e same least f
 
 -- fields by their parts
-fields_are : (z : List ℕ) (fs : FileSystem) (l a r : ℕ) (bs : List (ℕ × ℕ)) (x : Option Extension) (h : HeadFields) → h.zero_vector ≡ z → h.file_system ≡ fs → h.length ≡ l
+fields_are : (z : List ℕ) (fs : FileSystem) (l a r : ℕ) (bs : List (ℕ × ℕ)) (x : Option Extension) (h : HeadFields) → h.zero_vector ≡ z
+    → h.file_system ≡ fs → h.length ≡ l
     → h.attributes ≡ a → h.reserved ≡ r → h.blocks ≡ bs → h.ext ≡ x
-    → h ≡ (let made : HeadFields = record { zero_vector = z; file_system = fs; length = l; attributes = a; reserved = r; blocks = bs; ext = x } in made)
+    → h ≡ (let made : HeadFields =
+    record { zero_vector = z; file_system = fs; length = l; attributes = a; reserved = r; blocks = bs; ext = x } in made)
 fields_are z fs l a r bs x h p q s t u v w = rw (← p, ← q, ← s, ← t, ← u, ← v, ← w) refl
 
 -- a volume's header has no other fields
@@ -345,7 +358,8 @@ fault_first b f h = go (first_fault (head_checks b)) refl h where
   go : (o : Option Fault) → first_fault (head_checks b) ≡ o → extent_verdict o b ≡ Err f → IsFirstFault (head_checks b) f
   go (Some g) is k = first_is (head_checks b) f (is ∙ cc)
   go None is k = found (file_system_at b) (checked b (all_hold (head_checks b) is)).file_system k where
-    found : (o : Option FileSystem) → is_some o ≡ true → extent_or o (outer_fault kinds.FileSystem 16) b ≡ Err f → IsFirstFault (head_checks b) f
+    found : (o : Option FileSystem) → is_some o ≡ true → extent_or o (outer_fault kinds.FileSystem 16) b ≡ Err f
+        → IsFirstFault (head_checks b) f
     found (Some fs) some k = cc
     found None some k = cc
 
@@ -361,8 +375,16 @@ fault_within b f (d ∷ ds, c, after, is, held, fails, fault) =
     let first : d ≡ check (nat_le 56 (length b)) kinds.Truncated (length b) = cc in
     let long : 56 ≤ length b = leb-true _ _ (ap (λ (g : Check Fault). g.holds) (sym first) ∙ held.0) in
     let P : Fault → Type 0 = λ g. g.place.offset ≤ length b in
-    let all : AllByRecursion (λ g. P g.fault) (head_checks b) =
-    (omega arith, (omega arith, (omega arith, (omega arith, (omega arith, (omega arith, (omega arith, (omega arith, (omega arith, (omega arith, (omega arith, tt))))))))))) in
+    let all : AllByRecursion (λ g. P g.fault) (head_checks b) = (
+      omega arith,
+      (
+        omega arith,
+        (
+          omega arith,
+          (omega arith, (omega arith, (omega arith, (omega arith, (omega arith, (omega arith, (omega arith, (omega arith, tt)))))))),
+        ),
+      ),
+    ) in
     first_among P (head_checks b) f all (d ∷ ds, c, after, is, held, fails, fault)
 
 -- and is no want of memory
@@ -406,16 +428,21 @@ front_within b h e f =
     }
 
 -- what is kept of a header, with the extended header that stands there, are its fields
-pub kept_fields : (b : List ℕ) (e : Extent) (z : List ℕ) (l a r : ℕ) (bs : List (ℕ × ℕ)) (x : Option Extension) → (h : HeadFields) × BeginsVolume h e b → z ≡ field 0 16 b
+pub kept_fields : (b : List ℕ) (e : Extent) (z : List ℕ) (l a r : ℕ) (bs : List (ℕ × ℕ)) (x : Option Extension)
+    → (h : HeadFields) × BeginsVolume h e b → z ≡ field 0 16 b
     → l ≡ volume_len_at b → a ≡ le_at 44 4 b → r ≡ slice_index b 54 → bs ≡ pairs_of (field 56 (e.header_len - 64) b) → HasExt x e b
-    → (let made : HeadFields = record { zero_vector = z; file_system = e.file_system; length = l; attributes = a; reserved = r; blocks = bs; ext = x } in BeginsVolume made e b)
+    → (let made : HeadFields =
+    record { zero_vector = z; file_system = e.file_system; length = l; attributes = a; reserved = r; blocks = bs; ext = x } in
+    BeginsVolume made e b)
 kept_fields b e z l a r bs x found p q s t u ext =
     let front = found.1 in
     let within = front_within b found.0 e front in
-    let made : HeadFields = record { zero_vector = z; file_system = e.file_system; length = l; attributes = a; reserved = r; blocks = bs; ext = x } in
+    let made : HeadFields =
+    record { zero_vector = z; file_system = e.file_system; length = l; attributes = a; reserved = r; blocks = bs; ext = x } in
     let exts : found.0.ext ≡ x = one_has_ext found.0.ext x e b within.least front.ext ext in
     let same : fields_of e.file_system found.0.ext b ≡ made =
-    fields_are _ _ _ _ _ _ _ (fields_of e.file_system found.0.ext b) (sym p) refl (sym q) (sym s) (sym t) (ap (λ (n : ℕ). blocks_at n b) (sym within.at) ∙ sym u) exts in
+    fields_are _ _ _ _ _ _ _ (fields_of e.file_system found.0.ext b) (sym p) refl (sym q) (sym s) (sym t)
+    (ap (λ (n : ℕ). blocks_at n b) (sym within.at) ∙ sym u) exts in
     subst (λ (h : HeadFields). BeginsVolume h e b) (front_fields b found.0 e front ∙ same) front
 
 -- where a volume has an ExtHeaderOffset, the extended header that it names
@@ -427,7 +454,8 @@ pub record ExtThere (e : Extent) (b : List ℕ) : Type 0 where
   pub size : le_at 16 4 (field (ext_offset_at b) (ext_size_at b) b) ≡ ext_size_at b
   pub read : (x : Extension) → IsExt x (field (ext_offset_at b) (ext_size_at b) b) → HasExt (Some x) e b
 
-pub ext_there : {b : List ℕ} {e : Extent} {offset : ℕ} → ((h : HeadFields) × BeginsVolume h e b) → offset ≡ ext_offset_at b → (offset ≡ 0 → ⊥)
+pub ext_there : {b : List ℕ} {e : Extent} {offset : ℕ} → ((h : HeadFields) × BeginsVolume h e b) → offset ≡ ext_offset_at b
+    → (offset ≡ 0 → ⊥)
     → ExtThere e b
 ext_there {b} {e} {offset} found at some =
     let front = found.1 in
@@ -444,7 +472,8 @@ ext_there {b} {e} {offset} found at some =
 -- bytes begin with one volume at most
 pub one_front : (b : List ℕ) (h k : HeadFields) (e x : Extent) → BeginsVolume h e b → BeginsVolume k x b → (h ≡ k) × (e ≡ x)
 one_front b h k e x front other =
-    let both : (let A : Type 0 = Result Extent Fault in ◌≡◌ {A = A} (Ok e) (Ok x)) = sym (front_only b h e front) ∙ front_only b k x other in
+    let both : (let A : Type 0 = Result Extent Fault in ◌≡◌ {A = A} (Ok e) (Ok x)) =
+    sym (front_only b h e front) ∙ front_only b k x other in
     let extents : e ≡ x = cc in
     let here : BeginsVolume k e b = subst (λ (y : Extent). BeginsVolume k y b) (sym extents) other in
     let exts : h.ext ≡ k.ext = one_has_ext h.ext k.ext e b (front_within b h e front).least front.ext here.ext in
@@ -481,21 +510,25 @@ front_lies b h e f =
     }
 
 -- the first file may stand at a multiple of 8 in the volume, whose length is a multiple of 8
-pub first_lies : (b : List ℕ) (h : HeadFields) (e : Extent) → BeginsVolume h e b → (e.first % 8 ≡ 0) × (e.first ≤ e.length) × (e.length % 8 ≡ 0)
+pub first_lies : (b : List ℕ) (h : HeadFields) (e : Extent) → BeginsVolume h e b
+    → (e.first % 8 ≡ 0) × (e.first ≤ e.length) × (e.length % 8 ≡ 0)
 first_lies b h e f =
     by h.ext f.ext (front_within b h e f).multiple (front_lies b h e f).within (ap (λ (n : ℕ). n % 8) f.length_is ∙ f.head.volume_multiple)
   where
     by : (x : Option Extension) → HasExt x e b → e.header_len % 8 ≡ 0 → e.header_len ≤ e.length → e.length % 8 ≡ 0
         → (e.first % 8 ≡ 0) × (e.first ≤ e.length) × (e.length % 8 ≡ 0)
     by None (offset, is) multiple within whole = (omega (arith, is, multiple), omega (arith, is, within), whole)
-    by (Some x) (before, part, behind, text, at, low, high, ext, is) multiple within whole = (omega (arith, is), omega (arith, is, high, whole), whole)
+    by (Some x) (before, part, behind, text, at, low, high, ext, is) multiple within whole =
+        (omega (arith, is), omega (arith, is, high, whole), whole)
 
 -- a volume is a matter of its own bytes
-pub front_same : (b c : List ℕ) (h : HeadFields) (e : Extent) → BeginsVolume h e b → e.length ≤ length c → take e.length c ≡ take e.length b → BeginsVolume h e c
+pub front_same : (b c : List ℕ) (h : HeadFields) (e : Extent) → BeginsVolume h e b → e.length ≤ length c → take e.length c ≡ take e.length b
+    → BeginsVolume h e c
 front_same b c h e f long same =
     let lies = front_lies b h e f in
     let first : take e.header_len c ≡ take e.header_len b =
-    sym (take-take_le e.header_len e.length c lies.within) ∙ ap (take e.header_len) same ∙ take-take_le e.header_len e.length b lies.within in
+    sym (take-take_le e.header_len e.length c lies.within) ∙ ap (take e.header_len) same
+    ∙ take-take_le e.header_len e.length b lies.within in
     record {
       head = subst (IsHead h) (sym first) f.head;
       long_enough = omega (arith, lies.within, long);

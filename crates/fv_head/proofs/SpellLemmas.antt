@@ -1,5 +1,6 @@
 -- What walks over a header put.
-use Rattle.std.proofs.Common.{◌≡◌, ◌<◌, ◌≤◌, ℕ, ◌+◌, ◌%◌, List, [], ◌∷◌, ◌++◌, length, take, drop, get_or, refl, sym, ap, ◌∙◌, subst, arith, append_assoc, append-nil, Bool}
+use Rattle.std.proofs.Common.{◌≡◌, ◌<◌, ◌≤◌, ℕ, ◌+◌, ◌%◌, List, [], ◌∷◌, ◌++◌, length, take, drop, get_or, refl, sym, ap, ◌∙◌, subst, arith}
+use Rattle.std.proofs.Common.{append_assoc, append-nil, Bool}
 use Rattle.std.specs.Prelude.{not}
 use Rattle.std.proofs.lemmas.List.{take_more, drop_more, drop_all}
 use Rattle.fv_base.specs.Sinks.{WalkLaws}
@@ -9,8 +10,10 @@ use Rattle.fv_head.specs.WordLaws.{adds_joined}
 use Rattle.fv_head.specs.WordSums.{word_weight, is_high_behind}
 
 -- one more byte is added
-pub byte_added : (high h : Bool) (xs : List ℕ) (i t0 t w : ℕ) → i < length xs → h ≡ is_high_behind high (take i xs) → t % 65536 ≡ (t0 + word_weight high (take i xs)) % 65536
-    → w ≡ word_weight h (get_or xs i 0 ∷ []) → (not h ≡ is_high_behind high (take (i + 1) xs)) × ((t + w) % 65536 % 65536 ≡ (t0 + word_weight high (take (i + 1) xs)) % 65536)
+pub byte_added : (high h : Bool) (xs : List ℕ) (i t0 t w : ℕ) → i < length xs → h ≡ is_high_behind high (take i xs)
+    → t % 65536 ≡ (t0 + word_weight high (take i xs)) % 65536
+    → w ≡ word_weight h (get_or xs i 0 ∷ [])
+    → (not h ≡ is_high_behind high (take (i + 1) xs)) × ((t + w) % 65536 % 65536 ≡ (t0 + word_weight high (take (i + 1) xs)) % 65536)
 byte_added high h xs i t0 t w within first total is =
     let x : List ℕ = get_or xs i 0 ∷ [] in
     let more : (t + w) % 65536 % 65536 ≡ (t + word_weight h x) % 65536 = rw (← is) (omega arith) in
@@ -25,12 +28,15 @@ pairs_step front ps i within is =
     ∙ ap (λ (qs : List (ℕ × ℕ)). front ++ pairs_bytes qs) (sym (drop_more ps i (0, 0) within)) ∙ is
 
 -- no pair is left
-pub pairs_end : (front : List ℕ) (ps : List (ℕ × ℕ)) (i : ℕ) → length ps ≤ i → front ++ pairs_bytes (drop i ps) ≡ pairs_bytes ps → front ≡ pairs_bytes ps
+pub pairs_end : (front : List ℕ) (ps : List (ℕ × ℕ)) (i : ℕ) → length ps ≤ i → front ++ pairs_bytes (drop i ps) ≡ pairs_bytes ps
+    → front ≡ pairs_bytes ps
 pairs_end front ps i past is = sym (append-nil front) ∙ ap (λ (qs : List (ℕ × ℕ)). front ++ pairs_bytes qs) (sym (drop_all i ps past)) ∙ is
 
 -- a walk in eleven steps
-pub eleven : {S : Type 0} {takes : S → List ℕ → S → Type 0} (laws : WalkLaws takes) (s0 s1 s2 s3 s4 s5 s6 s7 s8 s9 s10 s11 : S) (a b c d e f g h i j k : List ℕ)
-    → takes s0 a s1 → takes s1 b s2 → takes s2 c s3 → takes s3 d s4 → takes s4 e s5 → takes s5 f s6 → takes s6 g s7 → takes s7 h s8 → takes s8 i s9 → takes s9 j s10 → takes s10 k s11
+pub eleven : {S : Type 0} {takes : S → List ℕ → S → Type 0} (laws : WalkLaws takes) (s0 s1 s2 s3 s4 s5 s6 s7 s8 s9 s10 s11 : S)
+    (a b c d e f g h i j k : List ℕ)
+    → takes s0 a s1 → takes s1 b s2 → takes s2 c s3 → takes s3 d s4 → takes s4 e s5 → takes s5 f s6 → takes s6 g s7 → takes s7 h s8
+    → takes s8 i s9 → takes s9 j s10 → takes s10 k s11
     → takes s0 (a ++ b ++ c ++ d ++ e ++ f ++ g ++ h ++ i ++ j ++ k) s11
 eleven {S} {takes} laws s0 s1 s2 s3 s4 s5 s6 s7 s8 s9 s10 s11 a b c d e f g h i j k p1 p2 p3 p4 p5 p6 p7 p8 p9 p10 p11 =
     let q2 : takes s0 (a ++ b) s2 = laws.joined s0 s1 s2 a b p1 p2 in
@@ -40,8 +46,10 @@ eleven {S} {takes} laws s0 s1 s2 s3 s4 s5 s6 s7 s8 s9 s10 s11 a b c d e f g h i 
     let q6 : takes s0 (a ++ b ++ c ++ d ++ e ++ f) s6 = laws.joined s0 s5 s6 (a ++ b ++ c ++ d ++ e) f q5 p6 in
     let q7 : takes s0 (a ++ b ++ c ++ d ++ e ++ f ++ g) s7 = laws.joined s0 s6 s7 (a ++ b ++ c ++ d ++ e ++ f) g q6 p7 in
     let q8 : takes s0 (a ++ b ++ c ++ d ++ e ++ f ++ g ++ h) s8 = laws.joined s0 s7 s8 (a ++ b ++ c ++ d ++ e ++ f ++ g) h q7 p8 in
-    let q9 : takes s0 (a ++ b ++ c ++ d ++ e ++ f ++ g ++ h ++ i) s9 = laws.joined s0 s8 s9 (a ++ b ++ c ++ d ++ e ++ f ++ g ++ h) i q8 p9 in
-    let q10 : takes s0 (a ++ b ++ c ++ d ++ e ++ f ++ g ++ h ++ i ++ j) s10 = laws.joined s0 s9 s10 (a ++ b ++ c ++ d ++ e ++ f ++ g ++ h ++ i) j q9 p10 in
+    let q9 : takes s0 (a ++ b ++ c ++ d ++ e ++ f ++ g ++ h ++ i) s9 =
+    laws.joined s0 s8 s9 (a ++ b ++ c ++ d ++ e ++ f ++ g ++ h) i q8 p9 in
+    let q10 : takes s0 (a ++ b ++ c ++ d ++ e ++ f ++ g ++ h ++ i ++ j) s10 =
+    laws.joined s0 s9 s10 (a ++ b ++ c ++ d ++ e ++ f ++ g ++ h ++ i) j q9 p10 in
     laws.joined s0 s10 s11 (a ++ b ++ c ++ d ++ e ++ f ++ g ++ h ++ i ++ j) k q10 p11
 
 -- the same bytes by another name

@@ -1,16 +1,19 @@
 -- A header is what its fields spell.
-use Rattle.std.proofs.Common.{◌≡◌, ◌≤◌, ◌<◌, ℕ, ◌+◌, ◌-◌, ◌*◌, ◌%◌, List, [], ◌∷◌, ◌++◌, length, take, drop, refl, sym, ap, ◌∙◌, subst, arith, false, length-append, length-drop, append_assoc, drop-drop}
+use Rattle.std.proofs.Common.{◌≡◌, ◌≤◌, ◌<◌, ℕ, ◌+◌, ◌-◌, ◌*◌, ◌%◌, List, [], ◌∷◌, ◌++◌, length, take, drop, refl, sym, ap, ◌∙◌, subst}
+use Rattle.std.proofs.Common.{arith, false, length-append, length-drop, append_assoc, drop-drop}
 use Rattle.std.specs.Prelude.{slice_index, sum, Option, None, Some}
 use Rattle.std.proofs.Math.Seq.{take-add}
 use Rattle.std.proofs.lemmas.List.{take-append-drop, take_at, drop_at, drop_more, get_or-drop, length-take-le}
 use Rattle.fv_base.specs.Sums.{words_of, sum16_of}
 use Rattle.fv_base.specs.Limits.{ext_limit, header_limit}
 use Rattle.fv_base.specs.Value.{IsBytes, le, le_bytes, field, le_at, up_to_8}
-use Rattle.fv_base.proofs.FieldLemmas.{bytes_take, bytes_drop, bytes_append, bytes_le_bytes, le_bytes-le, field_is, field-append_front, drop-append_behind, le-le_bytes, length-le_bytes, field-take, two_bytes}
+use Rattle.fv_base.proofs.FieldLemmas.{bytes_take, bytes_drop, bytes_append, bytes_le_bytes, le_bytes-le, field_is, field-append_front}
+use Rattle.fv_base.proofs.FieldLemmas.{drop-append_behind, le-le_bytes, length-le_bytes, field-take, two_bytes}
 use Rattle.std.proofs.lemmas.List.Sums.{sum_by-cons}
 use Rattle.fv_base.proofs.SumLemmas.{sum-words_of-append}
 use Rattle.fv_head.specs.Ext.{Extension}
-use Rattle.fv_head.specs.Head.{HasExt, HeadFields, IsHead, IsReadHead, BeginsVolume, IsCanonicalHead, canonical_offset, extent_of, header_len_of, signature_bytes, system_guid}
+use Rattle.fv_head.specs.Head.{HasExt, HeadFields, IsHead, IsReadHead, BeginsVolume, IsCanonicalHead, canonical_offset, extent_of}
+use Rattle.fv_head.specs.Head.{header_len_of, signature_bytes, system_guid}
 use Rattle.fv_head.specs.Pairs.{pairs_of, pairs_bytes}
 use Rattle.fv_head.specs.ExtImage.{ext_spelled, IfRead, canonical_end, canonical_first, CanonicalRest}
 use Rattle.fv_head.specs.HeadImage.{head_spelled, checksum_of, canonical_head}
@@ -64,7 +67,8 @@ pairs_bytes-append (p ∷ ps) qs =
 pub header_len_is : (h : HeadFields) (b : List ℕ) → IsHead h b → header_len_of h ≡ length b
 header_len_is h b head =
     let behind : length (drop 56 b) ≡ length b - 56 = length-drop 56 b in
-    let count : 8 * length (pairs_of (drop 56 b)) ≡ length (drop 56 b) = length-pairs_of (drop 56 b) (omega (arith, behind, head.multiple, head.least)) in
+    let count : 8 * length (pairs_of (drop 56 b)) ≡ length (drop 56 b) =
+    length-pairs_of (drop 56 b) (omega (arith, behind, head.multiple, head.least)) in
     let more : length (pairs_of (drop 56 b)) ≡ length h.blocks + 1 = ap length head.block_map ∙ length-append h.blocks ((0, 0) ∷ []) in
     omega (arith, behind, count, more, head.least)
 
@@ -80,18 +84,23 @@ cut at n k b r =
 -- the fields before the checksum
 before_is : (h : HeadFields) (b r : List ℕ) → IsHead h b
     → take 50 b ++ r
-    ≡ h.zero_vector ++ (system_guid h.file_system ++ (le_bytes 8 h.length ++ (signature_bytes ++ (le_bytes 4 h.attributes ++ (le_bytes 2 (header_len_of h) ++ r)))))
+    ≡ h.zero_vector ++ (system_guid h.file_system
+    ++ (le_bytes 8 h.length ++ (signature_bytes ++ (le_bytes 4 h.attributes ++ (le_bytes 2 (header_len_of h) ++ r)))))
 before_is h b r head =
-    let parts : take 50 b ++ r ≡ field 0 16 b ++ (field 16 16 b ++ (field 32 8 b ++ (field 40 4 b ++ (field 44 4 b ++ (field 48 2 b ++ r))))) =
+    let parts : take 50 b ++ r ≡ field 0 16 b
+    ++ (field 16 16 b ++ (field 32 8 b ++ (field 40 4 b ++ (field 44 4 b ++ (field 48 2 b ++ r))))) =
     cut 0 16 34 b r
     ∙ ap (λ (xs : List ℕ). field 0 16 b ++ xs) (cut 16 16 18 b r
     ∙ ap (λ (xs : List ℕ). field 16 16 b ++ xs) (cut 32 8 10 b r
     ∙ ap (λ (xs : List ℕ). field 32 8 b ++ xs) (cut 40 4 6 b r
     ∙ ap (λ (xs : List ℕ). field 40 4 b ++ xs) (cut 44 4 2 b r)))) in
-    let length_is : field 32 8 b ≡ le_bytes 8 h.length = sym (field_is 32 8 b head.bytes (omega (arith, head.least))) ∙ ap (le_bytes 8) head.volume_length in
-    let attributes_is : field 44 4 b ≡ le_bytes 4 h.attributes = sym (field_is 44 4 b head.bytes (omega (arith, head.least))) ∙ ap (le_bytes 4) head.attributes in
+    let length_is : field 32 8 b ≡ le_bytes 8 h.length =
+    sym (field_is 32 8 b head.bytes (omega (arith, head.least))) ∙ ap (le_bytes 8) head.volume_length in
+    let attributes_is : field 44 4 b ≡ le_bytes 4 h.attributes =
+    sym (field_is 44 4 b head.bytes (omega (arith, head.least))) ∙ ap (le_bytes 4) head.attributes in
     let own : le_at 48 2 b ≡ header_len_of h = head.header_length ∙ sym (header_len_is h b head) in
-    let own_is : field 48 2 b ≡ le_bytes 2 (header_len_of h) = sym (field_is 48 2 b head.bytes (omega (arith, head.least))) ∙ ap (le_bytes 2) own in
+    let own_is : field 48 2 b ≡ le_bytes 2 (header_len_of h) =
+    sym (field_is 48 2 b head.bytes (omega (arith, head.least))) ∙ ap (le_bytes 2) own in
     parts ∙ six _ _ _ _ _ _ _ _ _ _ _ _ r head.zero_vector head.file_system length_is head.signature attributes_is own_is
   where
     six : (a b c d e f a' b' c' d' e' f' r : List ℕ) → a ≡ a' → b ≡ b' → c ≡ c' → d ≡ d' → e ≡ e' → f ≡ f'
@@ -104,8 +113,10 @@ behind_is h b head =
     let behind : length (drop 56 b) ≡ length b - 56 = length-drop 56 b in
     let map : pairs_bytes (pairs_of (drop 56 b)) ≡ drop 56 b =
     pairs_bytes-pairs_of (drop 56 b) (bytes_drop 56 b head.bytes) (omega (arith, behind, head.multiple, head.least)) in
-    let pairs : drop 56 b ≡ pairs_bytes h.blocks ++ le_bytes 8 0 = sym map ∙ ap pairs_bytes head.block_map ∙ pairs_bytes-append h.blocks ((0, 0) ∷ []) in
-    drop_more b 54 0 (omega (arith, head.least)) ∙ ap (λ (xs : List ℕ). slice_index b 54 ∷ xs) (drop_more b 55 0 (omega (arith, head.least)))
+    let pairs : drop 56 b ≡ pairs_bytes h.blocks ++ le_bytes 8 0 =
+    sym map ∙ ap pairs_bytes head.block_map ∙ pairs_bytes-append h.blocks ((0, 0) ∷ []) in
+    drop_more b 54 0 (omega (arith, head.least))
+    ∙ ap (λ (xs : List ℕ). slice_index b 54 ∷ xs) (drop_more b 55 0 (omega (arith, head.least)))
     ∙ three _ _ _ _ _ _ head.reserved head.revision pairs
   where
     three : (x y x' y' : ℕ) (r r' : List ℕ) → x ≡ x' → y ≡ y' → r ≡ r' → x ∷ y ∷ r ≡ x' ∷ y' ∷ r'
@@ -116,17 +127,19 @@ patched : List ℕ → ℕ → ℕ → List ℕ
 patched b checksum offset = take 50 b ++ (le_bytes 2 checksum ++ (le_bytes 2 offset ++ drop 54 b))
 
 -- joins, from the right and from the left
-rejoined : (a b c d e f g h i j k : List ℕ) → a ++ (b ++ (c ++ (d ++ (e ++ (f ++ (g ++ (h ++ (i ++ (j ++ k))))))))) ≡ a ++ b ++ c ++ d ++ e ++ f ++ g ++ h ++ i ++ j ++ k
+rejoined : (a b c d e f g h i j k : List ℕ)
+    → a ++ (b ++ (c ++ (d ++ (e ++ (f ++ (g ++ (h ++ (i ++ (j ++ k))))))))) ≡ a ++ b ++ c ++ d ++ e ++ f ++ g ++ h ++ i ++ j ++ k
 rejoined a b c d e f g h i j k = simp append_assoc refl
 
 patched_is : (h : HeadFields) (b : List ℕ) (checksum offset : ℕ) → IsHead h b → patched b checksum offset ≡ head_spelled h checksum offset
 unfolding head_spelled patched
 patched_is h b checksum offset head =
     before_is h b (le_bytes 2 checksum ++ (le_bytes 2 offset ++ drop 54 b)) head
-    ∙ ap (λ (xs : List ℕ). h.zero_vector ++ (system_guid h.file_system ++ (le_bytes 8 h.length ++ (signature_bytes ++ (le_bytes 4 h.attributes
+    ∙ ap
+    (λ (xs : List ℕ). h.zero_vector ++ (system_guid h.file_system ++ (le_bytes 8 h.length ++ (signature_bytes ++ (le_bytes 4 h.attributes
     ++ (le_bytes 2 (header_len_of h) ++ (le_bytes 2 checksum ++ (le_bytes 2 offset ++ xs)))))))) (behind_is h b head)
-    ∙ rejoined h.zero_vector (system_guid h.file_system) (le_bytes 8 h.length) signature_bytes (le_bytes 4 h.attributes) (le_bytes 2 (header_len_of h))
-    (le_bytes 2 checksum) (le_bytes 2 offset) (h.reserved ∷ 2 ∷ []) (pairs_bytes h.blocks) (le_bytes 8 0)
+    ∙ rejoined h.zero_vector (system_guid h.file_system) (le_bytes 8 h.length) signature_bytes (le_bytes 4 h.attributes)
+    (le_bytes 2 (header_len_of h)) (le_bytes 2 checksum) (le_bytes 2 offset) (h.reserved ∷ 2 ∷ []) (pairs_bytes h.blocks) (le_bytes 8 0)
 
 -- unchanged, it is the header
 unpatched : (h : HeadFields) (b : List ℕ) → IsHead h b → patched b (le_at 50 2 b) (le_at 52 2 b) ≡ b
@@ -134,7 +147,8 @@ unfolding patched
 unpatched h b head =
     let checksum : le_bytes 2 (le_at 50 2 b) ≡ field 50 2 b = field_is 50 2 b head.bytes (omega (arith, head.least)) in
     let offset : le_bytes 2 (le_at 52 2 b) ≡ field 52 2 b = field_is 52 2 b head.bytes (omega (arith, head.least)) in
-    let second : drop 52 b ≡ field 52 2 b ++ drop 54 b = sym (take-append-drop 2 (drop 52 b)) ∙ ap (λ (xs : List ℕ). field 52 2 b ++ xs) (drop-drop 2 52 b) in
+    let second : drop 52 b ≡ field 52 2 b ++ drop 54 b =
+    sym (take-append-drop 2 (drop 52 b)) ∙ ap (λ (xs : List ℕ). field 52 2 b ++ xs) (drop-drop 2 52 b) in
     let first : drop 50 b ≡ field 50 2 b ++ (field 52 2 b ++ drop 54 b) =
     sym (take-append-drop 2 (drop 50 b)) ∙ ap (λ (xs : List ℕ). field 50 2 b ++ xs) (drop-drop 2 50 b ∙ second) in
     ap (λ (xs : List ℕ). take 50 b ++ (xs ++ (le_bytes 2 (le_at 52 2 b) ++ drop 54 b))) checksum
@@ -144,11 +158,13 @@ unpatched h b head =
 -- ---- a header that is changed
 
 -- places before the checksum
-patched_front : (i n : ℕ) (b : List ℕ) (checksum offset : ℕ) → i + n ≤ 50 → 54 ≤ length b → field i n (patched b checksum offset) ≡ field i n b
+patched_front : (i n : ℕ) (b : List ℕ) (checksum offset : ℕ) → i + n ≤ 50 → 54 ≤ length b
+    → field i n (patched b checksum offset) ≡ field i n b
 unfolding patched
 patched_front i n b checksum offset within long =
     let fifty : length (take 50 b) ≡ 50 = length-take-le 50 b (omega (arith, long)) in
-    field-append_front i n (take 50 b) (le_bytes 2 checksum ++ (le_bytes 2 offset ++ drop 54 b)) (omega (arith, fifty, within)) ∙ field-take i n 50 b within
+    field-append_front i n (take 50 b) (le_bytes 2 checksum ++ (le_bytes 2 offset ++ drop 54 b)) (omega (arith, fifty, within))
+    ∙ field-take i n 50 b within
 
 -- places behind ExtHeaderOffset
 patched_behind : (i : ℕ) (b : List ℕ) (checksum offset : ℕ) → 54 ≤ i → 54 ≤ length b → drop i (patched b checksum offset) ≡ drop i b
@@ -157,15 +173,19 @@ patched_behind i b checksum offset past long =
     let fifty : length (take 50 b) ≡ 50 = length-take-le 50 b (omega (arith, long)) in
     let rest : List ℕ = le_bytes 2 offset ++ drop 54 b in
     let first : drop i (take 50 b ++ (le_bytes 2 checksum ++ rest)) ≡ drop (i - 50) (le_bytes 2 checksum ++ rest) =
-    drop-append_behind i (take 50 b) (le_bytes 2 checksum ++ rest) (omega (arith, fifty, past)) ∙ ap (λ (n : ℕ). drop (i - n) (le_bytes 2 checksum ++ rest)) fifty in
-    let second : drop (i - 50) (le_bytes 2 checksum ++ rest) ≡ drop (i - 50 - 2) rest = drop-append_behind (i - 50) (le_bytes 2 checksum) rest (omega (arith, past)) in
-    let third : drop (i - 50 - 2) rest ≡ drop (i - 50 - 2 - 2) (drop 54 b) = drop-append_behind (i - 50 - 2) (le_bytes 2 offset) (drop 54 b) (omega (arith, past)) in
+    drop-append_behind i (take 50 b) (le_bytes 2 checksum ++ rest) (omega (arith, fifty, past))
+    ∙ ap (λ (n : ℕ). drop (i - n) (le_bytes 2 checksum ++ rest)) fifty in
+    let second : drop (i - 50) (le_bytes 2 checksum ++ rest) ≡ drop (i - 50 - 2) rest =
+    drop-append_behind (i - 50) (le_bytes 2 checksum) rest (omega (arith, past)) in
+    let third : drop (i - 50 - 2) rest ≡ drop (i - 50 - 2 - 2) (drop 54 b) =
+    drop-append_behind (i - 50 - 2) (le_bytes 2 offset) (drop 54 b) (omega (arith, past)) in
     first ∙ second ∙ third ∙ drop-drop (i - 50 - 2 - 2) 54 b ∙ ap (λ (n : ℕ). drop n b) (whole i past)
   where
     whole : (i : ℕ) → 54 ≤ i → 54 + (i - 50 - 2 - 2) ≡ i
     whole i past = omega arith
 
-patched_at : (i : ℕ) (b : List ℕ) (checksum offset : ℕ) → 54 ≤ i → 54 ≤ length b → slice_index (patched b checksum offset) i ≡ slice_index b i
+patched_at : (i : ℕ) (b : List ℕ) (checksum offset : ℕ) → 54 ≤ i → 54 ≤ length b
+    → slice_index (patched b checksum offset) i ≡ slice_index b i
 patched_at i b checksum offset past long =
     at i (patched b checksum offset) ∙ ap (λ (xs : List ℕ). slice_index xs 0) (patched_behind i b checksum offset past long) ∙ sym (at i b)
   where
@@ -179,9 +199,11 @@ patched_offset b checksum offset small long =
     let fifty : length (take 50 b) ≡ 50 = length-take-le 50 b (omega (arith, long)) in
     let rest : List ℕ = le_bytes 2 offset ++ drop 54 b in
     let first : drop 52 (take 50 b ++ (le_bytes 2 checksum ++ rest)) ≡ drop 2 (le_bytes 2 checksum ++ rest) =
-    drop-append_behind 52 (take 50 b) (le_bytes 2 checksum ++ rest) (omega (arith, fifty)) ∙ ap (λ (n : ℕ). drop (52 - n) (le_bytes 2 checksum ++ rest)) fifty in
+    drop-append_behind 52 (take 50 b) (le_bytes 2 checksum ++ rest) (omega (arith, fifty))
+    ∙ ap (λ (n : ℕ). drop (52 - n) (le_bytes 2 checksum ++ rest)) fifty in
     let second : drop 2 (le_bytes 2 checksum ++ rest) ≡ rest = drop_at (le_bytes 2 checksum) rest 2 refl in
-    ap (λ (xs : List ℕ). le (take 2 xs)) (first ∙ second) ∙ ap le (take_at (le_bytes 2 offset) (drop 54 b) 2 refl) ∙ le-le_bytes 2 offset small
+    ap (λ (xs : List ℕ). le (take 2 xs)) (first ∙ second) ∙ ap le (take_at (le_bytes 2 offset) (drop 54 b) 2 refl)
+    ∙ le-le_bytes 2 offset small
 
 length-patched : (b : List ℕ) (checksum offset : ℕ) → 54 ≤ length b → length (patched b checksum offset) ≡ length b
 unfolding patched
@@ -201,7 +223,8 @@ bytes_patched b checksum offset small =
     (bytes_append (le_bytes 2 offset) (drop 54 b) (bytes_le_bytes 2 offset) (bytes_drop 54 b small)))
 
 -- with a right sum it is a header of the same fields
-patched_head : (h : HeadFields) (b : List ℕ) (checksum offset : ℕ) → IsHead h b → sum16_of (patched b checksum offset) ≡ 0 → IsHead h (patched b checksum offset)
+patched_head : (h : HeadFields) (b : List ℕ) (checksum offset : ℕ) → IsHead h b → sum16_of (patched b checksum offset) ≡ 0
+    → IsHead h (patched b checksum offset)
 patched_head h b checksum offset head right =
     let long : 54 ≤ length b = omega (arith, head.least) in
     let same : length (patched b checksum offset) ≡ length b = length-patched b checksum offset long in
@@ -273,7 +296,8 @@ canonical_is h (b, head) =
     let checksum_is : checksum ≡ (65536 - total % 65536) % 65536 = ap (λ (xs : List ℕ). (65536 - sum16_of xs) % 65536) (sym none) in
     let small : checksum < 65536 = checksum_small (sum16_of (head_spelled h 0 offset)) in
     let sums : sum (words_of (patched b checksum offset)) ≡ total + checksum = sum_patched b checksum offset small long in
-    let right : sum16_of (patched b checksum offset) ≡ 0 = ap (λ (n : ℕ). n % 65536) (sums ∙ ap (λ (n : ℕ). total + n) checksum_is) ∙ checksum_right total in
+    let right : sum16_of (patched b checksum offset) ≡ 0 =
+    ap (λ (n : ℕ). n % 65536) (sums ∙ ap (λ (n : ℕ). total + n) checksum_is) ∙ checksum_right total in
     let same : patched b checksum offset ≡ head_spelled h checksum offset = patched_is h b checksum offset head in
     record {
       head = subst (IsHead h) same (patched_head h b checksum offset head right);
@@ -291,10 +315,12 @@ canonical_only h b canonical =
     let small : checksum < 65536 = two_bytes 50 b head.bytes in
     let total : ℕ = sum (words_of (patched b 0 offset)) in
     let whole : patched b checksum offset ≡ b = unpatched h b head in
-    let sums : sum (words_of b) ≡ total + checksum = ap (λ (xs : List ℕ). sum (words_of xs)) (sym whole) ∙ sum_patched b checksum offset small long in
+    let sums : sum (words_of b) ≡ total + checksum =
+    ap (λ (xs : List ℕ). sum (words_of xs)) (sym whole) ∙ sum_patched b checksum offset small long in
     let none_left : (total + checksum) % 65536 ≡ 0 = ap (λ (n : ℕ). n % 65536) (sym sums) ∙ head.sum in
     let none : patched b 0 offset ≡ head_spelled h 0 offset = patched_is h b 0 offset head in
-    let checksum_is : checksum ≡ checksum_of h offset = checksum_only total checksum small none_left ∙ ap (λ (xs : List ℕ). (65536 - sum16_of xs) % 65536) none in
+    let checksum_is : checksum ≡ checksum_of h offset =
+    checksum_only total checksum small none_left ∙ ap (λ (xs : List ℕ). (65536 - sum16_of xs) % 65536) none in
     sym whole ∙ patched_is h b checksum offset head
     ∙ ap (λ (n : ℕ). head_spelled h n offset) checksum_is
     ∙ ap (λ (n : ℕ). head_spelled h (checksum_of h n) n) canonical.offset
@@ -304,7 +330,8 @@ pub length-canonical : (h : HeadFields) → IsReadHead h → length (canonical_h
 length-canonical h read = sym (header_len_is h (canonical_head h) (canonical_is h read).head)
 
 -- where the extended header stands, behind the canonical head
-canonical_ext : (h : HeadFields) (rest : List ℕ) (x : Option Extension) → IsReadHead h → h.ext ≡ x → IfRead x → CanonicalRest x rest → canonical_end h x ≤ h.length
+canonical_ext : (h : HeadFields) (rest : List ℕ) (x : Option Extension) → IsReadHead h → h.ext ≡ x → IfRead x → CanonicalRest x rest
+    → canonical_end h x ≤ h.length
     → le_at 52 2 (canonical_head h ++ rest) ≡ canonical_offset h x → HasExt x (extent_of h (canonical_first h x)) (canonical_head h ++ rest)
 canonical_ext h rest None read is known there fits offset = (offset, refl)
 canonical_ext h rest (Some x) read is known (pad, used, behind, text, long) fits offset =
@@ -313,12 +340,14 @@ canonical_ext h rest (Some x) read is known (pad, used, behind, text, long) fits
     let part : List ℕ = ext_spelled x used in
     let again = ext_again x used known in
     let before : length (b ++ pad) ≡ header_len_of h + 24 = omega (arith, length-append b pad, own, long) in
-    let joined : b ++ rest ≡ (b ++ pad) ++ (part ++ behind) = ap (λ (xs : List ℕ). b ++ xs) text ∙ sym (append_assoc b pad (part ++ behind)) in
+    let joined : b ++ rest ≡ (b ++ pad) ++ (part ++ behind) =
+    ap (λ (xs : List ℕ). b ++ xs) text ∙ sym (append_assoc b pad (part ++ behind)) in
     let sum : length (b ++ pad) + length part ≡ canonical_end h (Some x) = omega (arith, before, again.1) in
     (b ++ pad, part, behind, joined, before ∙ sym offset, omega (arith, before), omega (arith, sum, fits), again.0, ap up_to_8 (sym sum))
 
 -- read again, with its extended header in a pad file behind it, it gives its fields
-pub canonical_front : (h : HeadFields) (rest : List ℕ) → IsReadHead h → IfRead h.ext → CanonicalRest h.ext rest → canonical_end h h.ext ≤ h.length → h.length ≤ length (canonical_head h ++ rest)
+pub canonical_front : (h : HeadFields) (rest : List ℕ) → IsReadHead h → IfRead h.ext → CanonicalRest h.ext rest
+    → canonical_end h h.ext ≤ h.length → h.length ≤ length (canonical_head h ++ rest)
     → BeginsVolume h (extent_of h (canonical_first h h.ext)) (canonical_head h ++ rest)
 canonical_front h rest read known there fits long =
     let b : List ℕ = canonical_head h in
@@ -337,7 +366,8 @@ canonical_front h rest read known there fits long =
     }
 
 -- without an extended header, it gives its fields with any bytes behind it
-pub canonical_bare : (h : HeadFields) (rest : List ℕ) → IsReadHead h → h.ext ≡ None → header_len_of h ≤ h.length → h.length ≤ length (canonical_head h ++ rest)
+pub canonical_bare : (h : HeadFields) (rest : List ℕ) → IsReadHead h → h.ext ≡ None → header_len_of h ≤ h.length
+    → h.length ≤ length (canonical_head h ++ rest)
     → BeginsVolume h (extent_of h (header_len_of h)) (canonical_head h ++ rest)
 canonical_bare h rest read bare fits long =
     subst (λ (x : Option Extension). BeginsVolume h (extent_of h (canonical_first h x)) (canonical_head h ++ rest)) bare
@@ -357,7 +387,8 @@ worth-words (x ∷ y ∷ xs) h =
 -- a header has words alone
 pub spelled_even : (h : HeadFields) (checksum offset : ℕ) → IsReadHead h → length (head_spelled h checksum offset) % 2 ≡ 0
 spelled_even h checksum offset (b, head) =
-    let same : length (head_spelled h checksum offset) ≡ length b = ap length (sym (patched_is h b checksum offset head)) ∙ length-patched b checksum offset (omega (arith, head.least)) in
+    let same : length (head_spelled h checksum offset) ≡ length b =
+    ap length (sym (patched_is h b checksum offset head)) ∙ length-patched b checksum offset (omega (arith, head.least)) in
     omega (arith, same, head.multiple)
 
 -- the most bytes of a header
@@ -365,7 +396,8 @@ pub header_len_most : (h : HeadFields) → IsReadHead h → header_len_of h ≤ 
 header_len_most h (b, head) = omega (arith, header_len_is h b head, head.most)
 
 -- where the first file of the canonical image may stand, at most
-pub canonical_first_most : (h : HeadFields) (x : Option Extension) → IsReadHead h → IfRead x → canonical_first h x ≤ up_to_8 (header_limit + 24 + ext_limit)
+pub canonical_first_most : (h : HeadFields) (x : Option Extension) → IsReadHead h → IfRead x
+    → canonical_first h x ≤ up_to_8 (header_limit + 24 + ext_limit)
 canonical_first_most h None read known = omega (arith, header_len_most h read)
 canonical_first_most h (Some x) read known = omega (arith, header_len_most h read, ext_len_most x known)
 
@@ -375,10 +407,12 @@ canonical_first_multiple h None = omega arith
 canonical_first_multiple h (Some x) = omega arith
 
 -- the checksum that a sum of words comes to
-pub checksum_from : (h : HeadFields) (offset total : ℕ) → IsReadHead h → total < 65536 → total % 65536 ≡ (0 + word_weight false (head_spelled h 0 offset)) % 65536
+pub checksum_from : (h : HeadFields) (offset total : ℕ) → IsReadHead h → total < 65536
+    → total % 65536 ≡ (0 + word_weight false (head_spelled h 0 offset)) % 65536
     → (65536 - total) % 65536 ≡ checksum_of h offset
 checksum_from h offset total read small sums =
-    let words : total ≡ sum16_of (head_spelled h 0 offset) = same total (word_weight false (head_spelled h 0 offset)) small sums ∙ ap (λ (n : ℕ). n % 65536) (worth-words (head_spelled h 0 offset) (spelled_even h 0 offset read)) in
+    let words : total ≡ sum16_of (head_spelled h 0 offset) = same total (word_weight false (head_spelled h 0 offset)) small sums
+    ∙ ap (λ (n : ℕ). n % 65536) (worth-words (head_spelled h 0 offset) (spelled_even h 0 offset read)) in
     ap (λ (n : ℕ). (65536 - n) % 65536) words
   where
     same : (n w : ℕ) → n < 65536 → n % 65536 ≡ (0 + w) % 65536 → n ≡ w % 65536

@@ -5,7 +5,8 @@ use Rattle.fv_base.specs.Limits.{ext_limit}
 use Rattle.fv_base.specs.Value.{IsBytes, le, le_at}
 use Rattle.fv_base.specs.declared.guid.Guid.{Guid}
 
--- what an extended header says of its volume: its name, its entries (a type and a payload each), and the bytes behind them
+-- what an extended header says of its volume: its name, its entries (a type and a payload each),
+-- and the bytes behind them
 pub record Extension : Type 0 where
   pub name : Guid
   pub entries : List (ℕ × List ℕ)
@@ -27,12 +28,14 @@ kept_payload kind payload = if is_used_size kind payload then zero_used_size els
 abbrev pub BeginNoEntry : List ℕ → Type 0
 BeginNoEntry b = (length b < 4) ⊎ ((le_at 0 2 b < 4) ⊎ (length b < le_at 0 2 b))
 
--- the bytes are the entries joined, each a header of size and type and a payload, and then the tail, which begins no entry
+-- the bytes are the entries joined, each a header of size and type and a payload, and then the
+-- tail, which begins no entry
 abbrev pub SplitsEntries : List (ℕ × List ℕ) → List ℕ → List ℕ → Type 0
 SplitsEntries [] tail b = (b ≡ tail) × BeginNoEntry b
 SplitsEntries (e ∷ es) tail b =
     (head : List ℕ) × (payload : List ℕ) × (rest : List ℕ) × (b ≡ head ++ (payload ++ rest)) × (length head ≡ 4)
-    × (le_at 0 2 head ≡ 4 + length payload) × (le_at 2 2 head ≡ e.0) × (e.1 ≡ kept_payload e.0 payload) × SplitsEntries es tail rest
+    × (le_at 0 2 head ≡ 4 + length payload) × (le_at 2 2 head ≡ e.0) × (e.1 ≡ kept_payload e.0 payload)
+    × SplitsEntries es tail rest
 
 -- the bytes are an extended header that says this: name, size (their number), entries and tail
 pub record IsExt (x : Extension) (b : List ℕ) : Type 0 where

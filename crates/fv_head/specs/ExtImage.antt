@@ -46,7 +46,9 @@ abbrev pub canonical_first : HeadFields → Option Extension → ℕ
 canonical_first h None = header_len_of h
 canonical_first h (Some x) = up_to_8 (canonical_end h (Some x))
 
--- what stands behind the canonical head: the 24 bytes of a pad file's header, and then the extended header, if there is one
+-- what stands behind the canonical head: the 24 bytes of a pad file's header, and then the
+-- extended header, if there is one
 abbrev pub CanonicalRest : Option Extension → List ℕ → Type 0
 CanonicalRest None rest = Unit {0}
-CanonicalRest (Some x) rest = (pad : List ℕ) × (used : ℕ) × (behind : List ℕ) × (rest ≡ pad ++ (ext_spelled x used ++ behind)) × (length pad ≡ 24)
+CanonicalRest (Some x) rest =
+    (pad : List ℕ) × (used : ℕ) × (behind : List ℕ) × (rest ≡ pad ++ (ext_spelled x used ++ behind)) × (length pad ≡ 24)

@@ -1,5 +1,6 @@
 -- The header that a volume begins with (PI specification, volume 3, section 3.2.1.1, EFI_FIRMWARE_VOLUME_HEADER).
-use Rattle.std.specs.Prelude.{◌≡◌, ◌≢◌, ◌≤◌, ◌+◌, ◌*◌, ◌%◌, ℕ, List, [], ◌∷◌, ◌++◌, length, take, drop, slice_index, Option, None, Some}
+use Rattle.std.specs.Prelude.{◌≡◌, ◌≢◌, ◌≤◌, ◌+◌, ◌*◌, ◌%◌, ℕ, List, [], ◌∷◌, ◌++◌, length, take, drop, slice_index}
+use Rattle.std.specs.Prelude.{Option, None, Some}
 use Rattle.std.specs.List.{AllByRecursion}
 use Rattle.fv_base.specs.Limits.{volume_limit, header_limit}
 use Rattle.fv_base.specs.Sums.{sum16_of}
@@ -17,8 +18,10 @@ signature_bytes = 0x5f ∷ 0x46 ∷ 0x56 ∷ 0x48 ∷ []
 
 -- the GUID of a file system, as it stands in a volume (section 3.2.2)
 abbrev pub system_guid : FileSystem → List ℕ
-system_guid Ffs2 = 0x78 ∷ 0xe5 ∷ 0x8c ∷ 0x8c ∷ 0x3d ∷ 0x8a ∷ 0x1c ∷ 0x4f ∷ 0x99 ∷ 0x35 ∷ 0x89 ∷ 0x61 ∷ 0x85 ∷ 0xc3 ∷ 0x2d ∷ 0xd3 ∷ []
-system_guid Ffs3 = 0x7a ∷ 0xc0 ∷ 0x73 ∷ 0x54 ∷ 0xcb ∷ 0x3d ∷ 0xca ∷ 0x4d ∷ 0xbd ∷ 0x6f ∷ 0x1e ∷ 0x96 ∷ 0x89 ∷ 0xe7 ∷ 0x34 ∷ 0x9a ∷ []
+system_guid Ffs2 =
+    0x78 ∷ 0xe5 ∷ 0x8c ∷ 0x8c ∷ 0x3d ∷ 0x8a ∷ 0x1c ∷ 0x4f ∷ 0x99 ∷ 0x35 ∷ 0x89 ∷ 0x61 ∷ 0x85 ∷ 0xc3 ∷ 0x2d ∷ 0xd3 ∷ []
+system_guid Ffs3 =
+    0x7a ∷ 0xc0 ∷ 0x73 ∷ 0x54 ∷ 0xcb ∷ 0x3d ∷ 0xca ∷ 0x4d ∷ 0xbd ∷ 0x6f ∷ 0x1e ∷ 0x96 ∷ 0x89 ∷ 0xe7 ∷ 0x34 ∷ 0x9a ∷ []
 
 -- what a header says of its volume
 pub record HeadFields : Type 0 where
@@ -30,8 +33,9 @@ pub record HeadFields : Type 0 where
   pub blocks : List (ℕ × ℕ)
   pub ext : Option Extension
 
--- the bytes are a header with these fields: ZeroVector, FileSystemGuid, FvLength, Signature, Attributes, HeaderLength, Checksum (by the
--- sum), ExtHeaderOffset (by HasExt), Reserved, Revision and BlockMap; Checksum and ExtHeaderOffset may be any that fit
+-- the bytes are a header with these fields: ZeroVector, FileSystemGuid, FvLength, Signature, Attributes,
+-- HeaderLength, Checksum (by the sum), ExtHeaderOffset (by HasExt), Reserved, Revision and BlockMap; Checksum and
+-- ExtHeaderOffset may be any that fit
 pub record IsHead (h : HeadFields) (b : List ℕ) : Type 0 where
   pub bytes : IsBytes b
   pub zero_vector : field 0 16 b ≡ h.zero_vector
@@ -57,13 +61,16 @@ pub record IsHead (h : HeadFields) (b : List ℕ) : Type 0 where
 abbrev pub header_len_of : HeadFields → ℕ
 header_len_of h = 56 + 8 * (length h.blocks + 1)
 
--- where the extended header stands, and with it the first file: the part of the bytes at ExtHeaderOffset says what x says, lies
--- behind the header and within the volume, and the first file stands at the next multiple of 8; or there is none
+-- where the extended header stands, and with it the first file: the part of the bytes at ExtHeaderOffset
+-- says what x says, lies behind the header and within the volume, and the first file stands at the next
+-- multiple of 8; or there is none
 abbrev pub HasExt : Option Extension → Extent → List ℕ → Type 0
 HasExt None e b = (le_at 52 2 b ≡ 0) × (e.first ≡ e.header_len)
 HasExt (Some x) e b =
-    (before : List ℕ) × (part : List ℕ) × (behind : List ℕ) × (b ≡ before ++ (part ++ behind)) × (length before ≡ le_at 52 2 b)
-    × (e.header_len ≤ length before) × (length before + length part ≤ e.length) × IsExt x part × (e.first ≡ up_to_8 (length before + length part))
+    (before : List ℕ) × (part : List ℕ) × (behind : List ℕ) × (b ≡ before ++ (part ++ behind))
+    × (length before ≡ le_at 52 2 b)
+    × (e.header_len ≤ length before) × (length before + length part ≤ e.length) × IsExt x part
+    × (e.first ≡ up_to_8 (length before + length part))
 
 -- the bytes begin with a volume of this header and this extent
 pub record BeginsVolume (h : HeadFields) (e : Extent) (b : List ℕ) : Type 0 where

@@ -1,5 +1,6 @@
 -- The checks of a volume's header, in their order.
-use Rattle.std.specs.Prelude.{ℕ, ◌+◌, ◌||◌, ◌-◌, ◌%◌, ◌==◌, nat_le, Bool, ◌&&◌, not, is_some, if◌then◌else◌, List, [], ◌∷◌, ◌++◌, length, take, slice_index, Option, None, Some}
+use Rattle.std.specs.Prelude.{ℕ, ◌+◌, ◌||◌, ◌-◌, ◌%◌, ◌==◌, nat_le, Bool, ◌&&◌, not, is_some, if◌then◌else◌, List, []}
+use Rattle.std.specs.Prelude.{◌∷◌, ◌++◌, length, take, slice_index, Option, None, Some}
 use Rattle.std.specs.Str.{bytes_eq}
 use Rattle.std.specs.List.{list_all}
 use Rattle.fv_base.specs.Checks.{Check, check}
@@ -70,7 +71,8 @@ ext_size_at b = le_at (ext_offset_at b + 16) 4 b
 abbrev pub has_ext : ℕ → ℕ → List ℕ → Bool
 has_ext n len b =
     (ext_offset_at b == 0)
-    || (nat_le n (ext_offset_at b) && nat_le (ext_offset_at b + 20) len && nat_le 20 (ext_size_at b) && nat_le (ext_size_at b) ext_limit
+    || (nat_le n (ext_offset_at b) && nat_le (ext_offset_at b + 20) len && nat_le 20 (ext_size_at b)
+    && nat_le (ext_size_at b) ext_limit
     && nat_le (ext_offset_at b + ext_size_at b) len)
 
 -- the checks of a header's first 56 bytes, in their order

@@ -14,4 +14,5 @@ is_high_behind high [] = high
 is_high_behind high (x ∷ xs) = is_high_behind (not high) xs
 
 abbrev pub AddsWords : {S : Type 0} (total : S → ℕ) (high : S → Bool) → S → List ℕ → S → Type 0
-AddsWords total high s bytes t = (high t ≡ is_high_behind (high s) bytes) × (total t % 65536 ≡ (total s + word_weight (high s) bytes) % 65536)
+AddsWords total high s bytes t =
+    (high t ≡ is_high_behind (high s) bytes) × (total t % 65536 ≡ (total s + word_weight (high s) bytes) % 65536)

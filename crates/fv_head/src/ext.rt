@@ -121,7 +121,8 @@ pub(crate) fn is_used_size(kind: u16, payload: &[u8]) -> bool
 // The entry of these bytes, whose first two are its size.
 fn entry_of(alloc: Global, entry: &[u8]) -> Result<ExtEntry, Fault>
     requires { 4 ≤ length entry.now }
-    ensures ok { IfOk result (λ e. (e.0 ≡ le_at 2 2 entry.now) × (e.1 ≡ kept_payload (le_at 2 2 entry.now) (drop 4 entry.now))) }
+    ensures ok { IfOk result
+        (λ e. (e.0 ≡ le_at 2 2 entry.now) × (e.1 ≡ kept_payload (le_at 2 2 entry.now) (drop 4 entry.now))) }
     ensures err { IfErr result (λ f. f ≡ want_of_memory) }
 {
     let kind = u16_at(entry, EXT_ENTRY_TYPE_OFFSET);

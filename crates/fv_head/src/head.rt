@@ -178,13 +178,15 @@ pub fn read_head(alloc: Global, bytes: &[u8]) -> Result<(VolumeHead, Extent), Fa
     ensures found { IfOk result (λ r. BeginsVolume r.0 r.1 bytes.now) }
 
     // Every volume that they begin with is answered, unless memory runs out.
-    ensures only { (h : HeadFields) (e : Extent) → BeginsVolume h e bytes.now → (result ≡ Ok (h, e)) ⊎ (result ≡ Err want_of_memory) }
+    ensures only { (h : HeadFields) (e : Extent) → BeginsVolume h e bytes.now
+        → (result ≡ Ok (h, e)) ⊎ (result ≡ Err want_of_memory) }
 
     // A refusal names the first check that does not hold.
     ensures first { IfErr result (λ f. (f ≡ want_of_memory) ⊎ IsFirstFault (head_checks bytes.now) f) }
 
     // Memory is wanted only where they begin with a volume.
-    ensures memory { IfErr result (λ f. f ≡ want_of_memory → (h : HeadFields) × (e : Extent) × BeginsVolume h e bytes.now) }
+    ensures memory { IfErr result
+        (λ f. f ≡ want_of_memory → (h : HeadFields) × (e : Extent) × BeginsVolume h e bytes.now) }
 
     // A refusal stands within the bytes or at their end.
     ensures bound { IfErr result (λ f. f.place.offset ≤ length bytes.now) }

@@ -176,8 +176,10 @@ pub fn head_bytes(alloc: Global, head: &VolumeHead) -> Result<ByteList, Fault>
     ensures only { (other : List ℕ) → IsCanonicalHead head.now other → IfOk result (λ bytes. bytes ≡ other) }
 
     // Read again, with its extended header in a pad file behind it and the rest of a volume, it gives the head back.
-    ensures again { IfOk result (λ bytes. (rest : List ℕ) → CanonicalRest head.now.ext rest → canonical_end head.now head.now.ext ≤ head.now.length
-        → head.now.length ≤ length (bytes ++ rest) → BeginsVolume head.now (extent_of head.now (canonical_first head.now head.now.ext)) (bytes ++ rest)) }
+    ensures again { IfOk result (λ bytes. (rest : List ℕ) → CanonicalRest head.now.ext rest
+        → canonical_end head.now head.now.ext ≤ head.now.length
+        → head.now.length ≤ length (bytes ++ rest)
+        → BeginsVolume head.now (extent_of head.now (canonical_first head.now head.now.ext)) (bytes ++ rest)) }
     ensures err { IfErr result (λ f. f ≡ want_of_memory) }
 {
     let mut out = ListSink::with_room(alloc, usize::from(head.header_len()))?;

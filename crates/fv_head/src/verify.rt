@@ -7,7 +7,9 @@ ghost use Rattle.fv_base.specs.Guids.{bytes_of};
 ghost use Rattle.fv_base.specs.Sums.{sum16_of};
 ghost use Rattle.fv_base.specs.Value.{le_at};
 ghost use Rattle.fv_head.specs.Head.{HeadFields, BeginsVolume, system_guid};
-ghost use Rattle.fv_head.specs.HeadChecks.{has_signature, file_system_at, is_one_volume, header_len_at, is_header_len, is_zero_pair, makes_up, has_block_map, is_volume_len, has_ext, front_checks, whole_checks, head_checks};
+ghost use Rattle.fv_head.specs.HeadChecks.{has_signature, file_system_at, is_one_volume, header_len_at, is_header_len};
+ghost use Rattle.fv_head.specs.HeadChecks.{is_zero_pair, makes_up, has_block_map, is_volume_len, has_ext, front_checks};
+ghost use Rattle.fv_head.specs.HeadChecks.{whole_checks, head_checks};
 ghost use Rattle.fv_head.specs.HeadVerdicts.{first_at, extent_at, head_verdict};
 ghost use Rattle.fv_head.specs.Pairs.{pairs_of};
 ghost use Rattle.fv_head.specs.declared.extent.Extent.{Extent};
@@ -198,7 +200,8 @@ fn extent_at(bytes: &[u8], file_system: FileSystem) -> Extent
 
 // The file system, or the first fault of the header's first 56 bytes.
 fn front_verdict(bytes: &[u8]) -> Result<FileSystem, Fault>
-    ensures ok { IfOk result (λ s. (first_fault (front_checks bytes.now) ≡ None) × (file_system_at bytes.now ≡ Some s)) }
+    ensures ok { IfOk result
+        (λ s. (first_fault (front_checks bytes.now) ≡ None) × (file_system_at bytes.now ≡ Some s)) }
     ensures long { OnOk result (56 ≤ length bytes.now) }
     ensures header_len { OnOk result (is_header_len (header_len_at bytes.now) ≡ true) }
     ensures err { IfErr result (λ f. first_fault (front_checks bytes.now) ≡ Some f) }

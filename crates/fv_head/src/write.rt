@@ -22,8 +22,10 @@ use std::io::Write;
 /// WriteFault at the bytes written in this call, where a write fails or takes no byte: exactly
 /// these bytes of the head were written then.
 pub fn write_head<W: Write>(head: &VolumeHead, writer: &mut Port<W>) -> Result<(), Fault>
-    ensures ok { OnOk result ((bytes : List ℕ) × IsCanonicalHead head.now bytes × Appends (W.contents (inner_of writer.old)) (W.contents (inner_of writer.new)) bytes) }
-    ensures err { IfErr result (λ f. (bytes : List ℕ) × IsCanonicalHead head.now bytes × WriteStops (W.contents (inner_of writer.old)) (W.contents (inner_of writer.new)) bytes f) }
+    ensures ok { OnOk result ((bytes : List ℕ) × IsCanonicalHead head.now bytes
+        × Appends (W.contents (inner_of writer.old)) (W.contents (inner_of writer.new)) bytes) }
+    ensures err { IfErr result (λ f. (bytes : List ℕ) × IsCanonicalHead head.now bytes
+        × WriteStops (W.contents (inner_of writer.old)) (W.contents (inner_of writer.new)) bytes f) }
     ensures erred { OnErr result (has_erred writer.new ≡ true) }
 {
     let mut out = WriteSink {
@@ -42,8 +44,10 @@ pub fn write_head<W: Write>(head: &VolumeHead, writer: &mut Port<W>) -> Result<(
 ///
 /// WriteFault, as `write_head`.
 pub fn write_ext<W: Write>(ext: &ExtHeader, used: u32, writer: &mut Port<W>) -> Result<(), Fault>
-    ensures ok { OnOk result (Appends (W.contents (inner_of writer.old)) (W.contents (inner_of writer.new)) (ext_spelled ext.now used)) }
-    ensures err { IfErr result (WriteStops (W.contents (inner_of writer.old)) (W.contents (inner_of writer.new)) (ext_spelled ext.now used)) }
+    ensures ok { OnOk result
+        (Appends (W.contents (inner_of writer.old)) (W.contents (inner_of writer.new)) (ext_spelled ext.now used)) }
+    ensures err { IfErr result
+        (WriteStops (W.contents (inner_of writer.old)) (W.contents (inner_of writer.new)) (ext_spelled ext.now used)) }
     ensures erred { OnErr result (has_erred writer.new ≡ true) }
 {
     let mut out = WriteSink {

@@ -1,5 +1,6 @@
 -- A block stands where its checks hold, and its length decides it.
-use Rattle.std.proofs.Common.{◌≡◌, ◌≤◌, ◌<◌, ℕ, ◌+◌, List, ◌++◌, length, take, drop, refl, sym, ap, ◌∙◌, subst, arith, Bool, true, false, length-append}
+use Rattle.std.proofs.Common.{◌≡◌, ◌≤◌, ◌<◌, ℕ, ◌+◌, List, ◌++◌, length, take, drop, refl, sym, ap, ◌∙◌, subst, arith, Bool, true, false}
+use Rattle.std.proofs.Common.{length-append}
 use Rattle.std.specs.Prelude.{◌==◌, ◌%◌, ◌||◌, not, nat_le, None}
 use Rattle.std.proofs.lemmas.Bool.{eqb-true, eq-eqb, leb-true, le-leb}
 use Rattle.std.proofs.lemmas.List.{take-append-drop, length-take-le}
@@ -68,7 +69,8 @@ join_first : (first : Bool) (t : Bool) → (first ≡ true → t ≡ true) → (
 join_first true t h = h refl
 join_first false t h = refl
 
-pub checks_hold : (first : Bool) (h : HobForm) (c x : List ℕ) → IsHob h c → (first ≡ true → hob_type h.kind ≡ 0x0001) → AllHold (hob_checks first (c ++ x))
+pub checks_hold : (first : Bool) (h : HobForm) (c x : List ℕ) → IsHob h c → (first ≡ true → hob_type h.kind ≡ 0x0001)
+    → AllHold (hob_checks first (c ++ x))
 checks_hold first h c x is begins =
     let r : List ℕ = c ++ x in
     let block = is.block in
@@ -95,7 +97,8 @@ pub record SameBlock (c d x y : List ℕ) (h g : HobForm) : Type 0 where
 
 pub one_block : (h g : HobForm) (c d x y : List ℕ) → IsHob h c → IsHob g d → c ++ x ≡ d ++ y → SameBlock c d x y h g
 one_block h g c d x y is js e =
-    let len : length c ≡ length d = sym (is.block).sized ∙ sym (ap le (field-append_front 2 2 c x (omega (arith, (is.block).least)))) ∙ ap (le_at 2 2) e
+    let len : length c ≡ length d =
+    sym (is.block).sized ∙ sym (ap le (field-append_front 2 2 c x (omega (arith, (is.block).least)))) ∙ ap (le_at 2 2) e
     ∙ ap le (field-append_front 2 2 d y (omega (arith, (js.block).least))) ∙ (js.block).sized in
     let parts = same_cut c d x y len e in
     record { bytes_are = parts.0; behind_is = parts.1; block_is = is.said ∙ ap hob_in parts.0 ∙ sym js.said }

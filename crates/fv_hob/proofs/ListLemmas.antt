@@ -1,5 +1,6 @@
 -- Bytes begin with one list at most.
-use Rattle.std.proofs.Common.{◌≡◌, ◌≤◌, ℕ, ◌*◌, List, [], ◌∷◌, ◌++◌, length, refl, sym, ap, ◌∙◌, subst, arith, length-append, append_assoc, append-nil}
+use Rattle.std.proofs.Common.{◌≡◌, ◌≤◌, ℕ, ◌*◌, List, [], ◌∷◌, ◌++◌, length, refl, sym, ap, ◌∙◌, subst, arith, length-append, append_assoc}
+use Rattle.std.proofs.Common.{append-nil}
 use Rattle.std.specs.List.{AllByRecursion}
 use Rattle.fv_hob.specs.Hobs.{HobForm, IsHob, hob_type}
 use Rattle.fv_hob.specs.Lists.{IsEndHob, IsHobList, IsNoEndHob, JoinsHobs}
@@ -35,7 +36,8 @@ pub record SameFront (hs front : List HobForm) (last : HobForm) (x y : List ℕ)
   pub joined : JoinsHobs (more ++ last ∷ []) e
   pub bytes_are : x ≡ e ++ y
 
-pub same_front : (hs front : List HobForm) (last : HobForm) (c d x y : List ℕ) → JoinsHobs hs c → AllByRecursion IsNoEndHob hs → JoinsHobs (front ++ last ∷ []) d → IsEndHob last → c ++ x ≡ d ++ y
+pub same_front : (hs front : List HobForm) (last : HobForm) (c d x y : List ℕ) → JoinsHobs hs c → AllByRecursion IsNoEndHob hs
+    → JoinsHobs (front ++ last ∷ []) d → IsEndHob last → c ++ x ≡ d ++ y
     → SameFront hs front last x y
 same_front [] front last c d x y e all join end same =
     record { more = front; e = d; front_is = refl; joined = join; bytes_are = ap (λ (l : List ℕ). l ++ x) (sym e) ∙ same }
@@ -45,14 +47,24 @@ same_front (h ∷ hs) [] last c d x y (c', rest, e, is, more) all (d', rest', e'
 same_front (h ∷ hs) (g ∷ gs) last c d x y (c', rest, e, is, more) all (d', rest', e', js, more') end same =
     let one = one_block h g c' d' (rest ++ x) (rest' ++ y) is js (whole c c' rest x e ∙ same ∙ sym (whole d d' rest' y e')) in
     let s = same_front hs gs last rest rest' x y more all.1 more' end one.behind_is in
-    record { more = s.more; e = s.e; front_is = ap (λ (f : HobForm). f ∷ gs) (sym one.block_is) ∙ ap (λ (l : List HobForm). h ∷ l) s.front_is; joined = s.joined; bytes_are = s.bytes_are }
+    record {
+      more = s.more;
+      e = s.e;
+      front_is = ap (λ (f : HobForm). f ∷ gs) (sym one.block_is) ∙ ap (λ (l : List HobForm). h ∷ l) s.front_is;
+      joined = s.joined;
+      bytes_are = s.bytes_are;
+    }
 
 -- the one list
-pub one_list : (front front' : List HobForm) (last last' : HobForm) (c d x y : List ℕ) → JoinsHobs (front ++ last ∷ []) c → AllByRecursion IsNoEndHob front → IsEndHob last
-    → JoinsHobs (front' ++ last' ∷ []) d → AllByRecursion IsNoEndHob front' → IsEndHob last' → c ++ x ≡ d ++ y → (front' ++ last' ∷ [] ≡ front ++ last ∷ []) × (d ≡ c)
+pub one_list : (front front' : List HobForm) (last last' : HobForm) (c d x y : List ℕ) → JoinsHobs (front ++ last ∷ []) c
+    → AllByRecursion IsNoEndHob front → IsEndHob last
+    → JoinsHobs (front' ++ last' ∷ []) d → AllByRecursion IsNoEndHob front' → IsEndHob last' → c ++ x ≡ d ++ y
+    → (front' ++ last' ∷ [] ≡ front ++ last ∷ []) × (d ≡ c)
 one_list [] [] last last' c d x y (c', rest, e, is, none) all end (d', rest', e', js, none') all' end' same =
-    let one = one_block last last' c' d' (rest ++ x) (rest' ++ y) is js (whole c c' rest x e ∙ same ∙ sym (whole d d' rest' y e')) in
-    (ap (λ (h : HobForm). h ∷ []) (sym one.block_is), e' ∙ ap (λ (l : List ℕ). d' ++ l) (none' ∙ sym none) ∙ ap (λ (l : List ℕ). l ++ rest) (sym one.bytes_are) ∙ sym e)
+    let one = one_block last last' c' d' (rest ++ x) (rest' ++ y) is js (whole c c' rest x e ∙ same ∙ sym (whole d d' rest' y e')) in (
+      ap (λ (h : HobForm). h ∷ []) (sym one.block_is),
+      e' ∙ ap (λ (l : List ℕ). d' ++ l) (none' ∙ sym none) ∙ ap (λ (l : List ℕ). l ++ rest) (sym one.bytes_are) ∙ sym e,
+    )
 one_list [] (g ∷ gs) last last' c d x y (c', rest, e, is, none) all end (d', rest', e', js, more') all' end' same =
     let one = one_block last g c' d' (rest ++ x) (rest' ++ y) is js (whole c c' rest x e ∙ same ∙ sym (whole d d' rest' y e')) in
     absurd (end_is_none last g (sym one.block_is) all'.0 end)
@@ -61,11 +73,13 @@ one_list (h ∷ hs) [] last last' c d x y (c', rest, e, is, more) all end (d', r
     absurd (end_is_none last' h one.block_is all.0 end')
 one_list (h ∷ hs) (g ∷ gs) last last' c d x y (c', rest, e, is, more) all end (d', rest', e', js, more') all' end' same =
     let one = one_block h g c' d' (rest ++ x) (rest' ++ y) is js (whole c c' rest x e ∙ same ∙ sym (whole d d' rest' y e')) in
-    let r = one_list hs gs last last' rest rest' x y more all.1 end more' all'.1 end' one.behind_is in
-    (ap (λ (f : HobForm). f ∷ (gs ++ last' ∷ [])) (sym one.block_is) ∙ ap (λ (l : List HobForm). h ∷ l) r.0, e' ∙ ap (λ (l : List ℕ). d' ++ l) r.1 ∙ ap (λ (l : List ℕ). l ++ rest) (sym one.bytes_are) ∙ sym e)
+    let r = one_list hs gs last last' rest rest' x y more all.1 end more' all'.1 end' one.behind_is in (
+      ap (λ (f : HobForm). f ∷ (gs ++ last' ∷ [])) (sym one.block_is) ∙ ap (λ (l : List HobForm). h ∷ l) r.0,
+      e' ∙ ap (λ (l : List ℕ). d' ++ l) r.1 ∙ ap (λ (l : List ℕ). l ++ rest) (sym one.bytes_are) ∙ sym e,
+    )
 
 pub only_list : (xs ys : List HobForm) (c d x y : List ℕ) → IsHobList xs c → IsHobList ys d → c ++ x ≡ d ++ y → (ys ≡ xs) × (d ≡ c)
 only_list xs ys c d x y is js same =
-    let r = one_list is.front js.front is.last js.last c d x y (subst (λ (l : List HobForm). JoinsHobs l c) is.ends is.joined) is.others is.last_is
-    (subst (λ (l : List HobForm). JoinsHobs l d) js.ends js.joined) js.others js.last_is same in
+    let r = one_list is.front js.front is.last js.last c d x y (subst (λ (l : List HobForm). JoinsHobs l c) is.ends is.joined) is.others
+    is.last_is (subst (λ (l : List HobForm). JoinsHobs l d) js.ends js.joined) js.others js.last_is same in
     (js.ends ∙ r.0 ∙ sym is.ends, r.1)

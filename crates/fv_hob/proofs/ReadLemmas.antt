@@ -1,5 +1,6 @@
 -- What the loop over the blocks keeps, and what its ends say.
-use Rattle.std.proofs.Common.{◌≡◌, ◌≤◌, ℕ, ◌+◌, ◌-◌, List, [], ◌∷◌, ◌++◌, length, take, drop, refl, sym, ap, ◌∙◌, subst, arith, true, length-append, length-drop, append_assoc}
+use Rattle.std.proofs.Common.{◌≡◌, ◌≤◌, ℕ, ◌+◌, ◌-◌, List, [], ◌∷◌, ◌++◌, length, take, drop, refl, sym, ap, ◌∙◌, subst, arith, true}
+use Rattle.std.proofs.Common.{length-append, length-drop, append_assoc}
 use Rattle.std.specs.Prelude.{◌==◌, ◌≢◌, Bool}
 use Rattle.std.specs.List.{AllByRecursion}
 use Rattle.std.proofs.lemmas.Bool.{eqb-true}
@@ -24,9 +25,11 @@ pub record HobsKept (b : List ℕ) (items : List HobForm) (at : ℕ) : Type 0 wh
   pub inside : at ≤ length b
 
 pub kept_none : (b : List ℕ) (items : List HobForm) → items ≡ [] → HobsKept b items 0
-kept_none b items e = subst (λ (l : List HobForm). HobsKept b l 0) (sym e) (record { joined = refl; begins = tt; others = tt; inside = omega arith })
+kept_none b items e =
+    subst (λ (l : List HobForm). HobsKept b l 0) (sym e) (record { joined = refl; begins = tt; others = tt; inside = omega arith })
 
-begins_more : (items : List HobForm) (h : HobForm) → BeginWithTable items → ((length items == 0) ≡ true → hob_type h.kind ≡ 0x0001) → BeginWithTable (items ++ h ∷ [])
+begins_more : (items : List HobForm) (h : HobForm) → BeginWithTable items → ((length items == 0) ≡ true → hob_type h.kind ≡ 0x0001)
+    → BeginWithTable (items ++ h ∷ [])
 begins_more [] h begins first = first refl
 begins_more (g ∷ gs) h begins first = begins
 
@@ -50,7 +53,8 @@ one_more b items h c at k stands is =
     let part : take (length c) (drop at b) ≡ c = ap (take (length c)) whole ∙ take_at c stands.behind (length c) refl in
     let long : length (drop at b) ≡ length c + length stands.behind = ap length whole ∙ length-append c stands.behind in
     record {
-      joined = subst (λ (l : List ℕ). JoinsHobs (items ++ h ∷ []) l) (sym (take-add at (length c) b ∙ ap (λ (l : List ℕ). take at b ++ l) part)) (joins_more items h (take at b) c k.joined is);
+      joined = subst (λ (l : List ℕ). JoinsHobs (items ++ h ∷ []) l)
+          (sym (take-add at (length c) b ∙ ap (λ (l : List ℕ). take at b ++ l) part)) (joins_more items h (take at b) c k.joined is);
       begins = begins_more items h k.begins (λ first. code_is h c is ∙ stands.begins first);
       inside = omega (arith, long, length-drop at b, k.inside);
       some = (stands.block).least;
@@ -86,7 +90,8 @@ ended b items new h c at first first_is k stands is end new_is =
     )
 
 pub first_here : (b : List ℕ) (items : List HobForm) (at : ℕ) (kind : HobFaultKind) (offset : ℕ) → HobsKept b items at
-    → IsFirstFault (hob_checks (length items == 0) (take (length b - at) (drop at b))) kind → offset ≡ at → IsFirstHobFault b (record { kind = kind; offset = offset })
+    → IsFirstFault (hob_checks (length items == 0) (take (length b - at) (drop at b))) kind → offset ≡ at
+    → IsFirstHobFault b (record { kind = kind; offset = offset })
 first_here b items at kind offset k first place = record {
   before = items;
   c = take at b;
@@ -123,26 +128,33 @@ table_stands b (h ∷ hs) c at first first_is k stands = go k.joined k.begins wh
 pub no_want : (begins : Bool) (r : List ℕ) (kind : HobFaultKind) → IsFirstFault (hob_checks begins r) kind → kind ≢ kinds.OutOfMemory
 no_want begins r kind first =
     let P : HobFaultKind → Type 0 = λ k. k ≢ kinds.OutOfMemory in
-    let all : AllByRecursion (λ c. P c.fault) (hob_checks begins r) = ((λ t. cc), ((λ t. cc), ((λ t. cc), ((λ t. cc), ((λ t. cc), ((λ t. cc), tt)))))) in
+    let all : AllByRecursion (λ c. P c.fault) (hob_checks begins r) =
+    ((λ t. cc), ((λ t. cc), ((λ t. cc), ((λ t. cc), ((λ t. cc), ((λ t. cc), tt)))))) in
     first_among P (hob_checks begins r) kind all first
 
 -- where there is a first fault the bytes begin with no list
 pub none_after : (b : List ℕ) (f : HobFault) (all : List HobForm) (d y : List ℕ) → IsFirstHobFault b f → IsHobList all d → b ≡ d ++ y → ⊥
 none_after b f all d y here is whole =
-    let s = same_front here.before is.front is.last here.c d here.r y here.read here.others (subst (λ (l : List HobForm). JoinsHobs l d) is.ends is.joined) is.last_is (sym here.joined ∙ whole) in
+    let s = same_front here.before is.front is.last here.c d here.r y here.read here.others
+    (subst (λ (l : List HobForm). JoinsHobs l d) is.ends is.joined) is.last_is (sym here.joined ∙ whole) in
     go s.more s.e s.joined s.bytes_are (is.ends ∙ ap (λ (l : List HobForm). l ++ (is.last ∷ [])) s.front_is)
   where
     -- the block that stands at the fault
-    head : (before more : List HobForm) (last h : HobForm) (behind : List HobForm) → more ++ last ∷ [] ≡ h ∷ behind → all ≡ (before ++ more) ++ last ∷ [] → (length before == 0) ≡ true → hob_type h.kind ≡ 0x0001
+    head : (before more : List HobForm) (last h : HobForm) (behind : List HobForm) → more ++ last ∷ [] ≡ h ∷ behind
+        → all ≡ (before ++ more) ++ last ∷ [] → (length before == 0) ≡ true → hob_type h.kind ≡ 0x0001
     head [] more last h behind e same first = subst BeginWithTable (same ∙ e) is.begins
     head (g ∷ gs) more last h behind e same first = absurd (omega (arith, eqb-true (length (g ∷ gs)) 0 first))
 
     refuse : (h : HobForm) (c x : List ℕ) → IsHob h c → here.r ≡ c ++ x → ((length here.before == 0) ≡ true → hob_type h.kind ≡ 0x0001) → ⊥
     refuse h c x js e first =
-        not_first (hob_checks (length here.before == 0) (c ++ x)) f.kind (subst (λ (l : List ℕ). IsFirstFault (hob_checks (length here.before == 0) l) f.kind) e here.kind_is)
+        not_first (hob_checks (length here.before == 0) (c ++ x)) f.kind
+        (subst (λ (l : List ℕ). IsFirstFault (hob_checks (length here.before == 0) l) f.kind) e here.kind_is)
         (none_faulty (hob_checks (length here.before == 0) (c ++ x)) (checks_hold (length here.before == 0) h c x js first))
 
-    go : (more : List HobForm) (e : List ℕ) → JoinsHobs (more ++ is.last ∷ []) e → here.r ≡ e ++ y → all ≡ (here.before ++ more) ++ is.last ∷ [] → ⊥
-    go [] e (c, rest, e_is, js, more') r_is same = refuse is.last c (rest ++ y) js (r_is ∙ ap (λ (l : List ℕ). l ++ y) e_is ∙ append_assoc c rest y) (head here.before [] is.last is.last [] refl same)
+    go : (more : List HobForm) (e : List ℕ) → JoinsHobs (more ++ is.last ∷ []) e → here.r ≡ e ++ y
+        → all ≡ (here.before ++ more) ++ is.last ∷ [] → ⊥
+    go [] e (c, rest, e_is, js, more') r_is same = refuse is.last c (rest ++ y) js
+        (r_is ∙ ap (λ (l : List ℕ). l ++ y) e_is ∙ append_assoc c rest y) (head here.before [] is.last is.last [] refl same)
     go (h ∷ hs) e (c, rest, e_is, js, more') r_is same =
-        refuse h c (rest ++ y) js (r_is ∙ ap (λ (l : List ℕ). l ++ y) e_is ∙ append_assoc c rest y) (head here.before (h ∷ hs) is.last h (hs ++ is.last ∷ []) refl same)
+        refuse h c (rest ++ y) js (r_is ∙ ap (λ (l : List ℕ). l ++ y) e_is ∙ append_assoc c rest y)
+        (head here.before (h ∷ hs) is.last h (hs ++ is.last ∷ []) refl same)

@@ -1,5 +1,6 @@
 -- A block that was read is written as a block that says the same.
-use Rattle.std.proofs.Common.{◌≡◌, ◌≤◌, ℕ, zero, suc, ◌+◌, ◌-◌, List, [], ◌∷◌, ◌++◌, length, take, drop, refl, sym, ap, ◌∙◌, subst, arith, Bool, true, false, length-append, append-nil, append_assoc}
+use Rattle.std.proofs.Common.{◌≡◌, ◌≤◌, ℕ, zero, suc, ◌+◌, ◌-◌, List, [], ◌∷◌, ◌++◌, length, take, drop, refl, sym, ap, ◌∙◌, subst, arith}
+use Rattle.std.proofs.Common.{Bool, true, false, length-append, append-nil, append_assoc}
 use Rattle.std.specs.Prelude.{◌==◌, ◌%◌, replicate}
 use Rattle.std.specs.List.{AllByRecursion, concat}
 use Rattle.std.proofs.lemmas.Bool.{eqb-true}
@@ -16,7 +17,8 @@ use Rattle.fv_hob.proofs.BlockLemmas.{code_is, len_is}
 use Rattle.fv_hob.proofs.RowLemmas.{body_by}
 
 -- the header is written as it was read
-header : (h : HobForm) (b x : List ℕ) → IsHob h b → le_bytes 2 (hob_type h.kind) ++ (le_bytes 2 (hob_len h.kind) ++ (le_bytes 4 h.reserved ++ x)) ≡ take 8 b ++ x
+header : (h : HobForm) (b x : List ℕ) → IsHob h b
+    → le_bytes 2 (hob_type h.kind) ++ (le_bytes 2 (hob_len h.kind) ++ (le_bytes 4 h.reserved ++ x)) ≡ take 8 b ++ x
 header h b x is =
     let bytes = (is.block).bytes in
     let least : 8 ≤ length b = (is.block).least in
@@ -38,10 +40,14 @@ zeroed h b is e =
     let z : List ℕ = replicate (length b - 8) 0 in
     let c : List ℕ = take 8 b ++ z in
     let front : length (take 8 b) ≡ 8 = length-take-le 8 b block.least in
-    let long : length c ≡ length b = length-append (take 8 b) z ∙ omega (arith, front, length-replicate {A = ℕ} (length b - 8) 0, block.least) in
-    let code : le_at 0 2 c ≡ le_at 0 2 b = ap le (field-append_front 0 2 (take 8 b) z (omega (arith, front)) ∙ field-take 0 2 8 b (omega arith)) in
-    let sized : le_at 2 2 c ≡ le_at 2 2 b = ap le (field-append_front 2 2 (take 8 b) z (omega (arith, front)) ∙ field-take 2 2 8 b (omega arith)) in
-    let reserved : le_at 4 4 c ≡ le_at 4 4 b = ap le (field-append_front 4 4 (take 8 b) z (omega (arith, front)) ∙ field-take 4 4 8 b (omega arith)) in
+    let long : length c ≡ length b =
+    length-append (take 8 b) z ∙ omega (arith, front, length-replicate {A = ℕ} (length b - 8) 0, block.least) in
+    let code : le_at 0 2 c ≡ le_at 0 2 b =
+    ap le (field-append_front 0 2 (take 8 b) z (omega (arith, front)) ∙ field-take 0 2 8 b (omega arith)) in
+    let sized : le_at 2 2 c ≡ le_at 2 2 b =
+    ap le (field-append_front 2 2 (take 8 b) z (omega (arith, front)) ∙ field-take 2 2 8 b (omega arith)) in
+    let reserved : le_at 4 4 c ≡ le_at 4 4 b =
+    ap le (field-append_front 4 4 (take 8 b) z (omega (arith, front)) ∙ field-take 4 4 8 b (omega arith)) in
     let is_unused : le_at 0 2 b ≡ 0xfffe = eqb-true (le_at 0 2 b) 0xfffe e in
     record {
       block = record {
@@ -51,7 +57,8 @@ zeroed h b is e =
         least = subst (λ (n : ℕ). 8 ≤ n) (sym long) block.least;
         shaped = ap (λ (n : ℕ). has_shape n (length c)) code ∙ ap (λ (n : ℕ). has_shape (le_at 0 2 b) n) long ∙ block.shaped;
       };
-      said = is.said ∙ same (le_at 4 4 b) (le_at 4 4 c) (le_at 0 2 b) (le_at 0 2 c) b c (sym reserved) is_unused (code ∙ is_unused) (sym long);
+      said =
+          is.said ∙ same (le_at 4 4 b) (le_at 4 4 c) (le_at 0 2 b) (le_at 0 2 c) b c (sym reserved) is_unused (code ∙ is_unused) (sym long);
     }
   where
     bytes_zeros : (n : ℕ) → IsBytes (replicate n 0)
@@ -78,10 +85,12 @@ kept_by h b is e = header h b (concat (hob_fields h.kind)) is ∙ ap (λ (l : Li
 pub written_again : (h : HobForm) (b : List ℕ) → IsHob h b → IsHob h (hob_spelled h)
 written_again h b is = go (le_at 0 2 b == 0xfffe) refl where
   zeros : (le_at 0 2 b == 0xfffe) ≡ true → concat (hob_fields h.kind) ≡ replicate (length b - 8) 0
-  zeros e = ap (λ (g : HobForm). concat (hob_fields g.kind)) is.said ∙ ap (λ (n : ℕ). concat (hob_fields (kind_by n b))) (eqb-true (le_at 0 2 b) 0xfffe e) ∙ append-nil (replicate (length b - 8) 0)
+  zeros e = ap (λ (g : HobForm). concat (hob_fields g.kind)) is.said
+      ∙ ap (λ (n : ℕ). concat (hob_fields (kind_by n b))) (eqb-true (le_at 0 2 b) 0xfffe e) ∙ append-nil (replicate (length b - 8) 0)
 
   go : (t : Bool) → (le_at 0 2 b == 0xfffe) ≡ t → IsHob h (hob_spelled h)
-  go true e = subst (λ (l : List ℕ). IsHob h l) (sym (header h b (concat (hob_fields h.kind)) is ∙ ap (λ (l : List ℕ). take 8 b ++ l) (zeros e))) (zeroed h b is e)
+  go true e = subst (λ (l : List ℕ). IsHob h l)
+      (sym (header h b (concat (hob_fields h.kind)) is ∙ ap (λ (l : List ℕ). take 8 b ++ l) (zeros e))) (zeroed h b is e)
   go false e = subst (λ (l : List ℕ). IsHob h l) (sym (kept_by h b is e)) is
 
 -- a block that is used is written as it was read
@@ -96,7 +105,8 @@ spelled_len h b is = sym (len_is h (hob_spelled h) (written_again h b is))
 joins_kept : (hs : List HobForm) (b : List ℕ) → JoinsHobs hs b → AllByRecursion IsUsedHob hs → list_spelled hs ≡ b
 joins_kept [] b join used = sym join
 joins_kept (h ∷ hs) b (c, rest, e, is, more) used =
-    ap (λ (l : List ℕ). l ++ list_spelled hs) (block_kept h c is used.0) ∙ ap (λ (l : List ℕ). c ++ l) (joins_kept hs rest more used.1) ∙ sym e
+    ap (λ (l : List ℕ). l ++ list_spelled hs) (block_kept h c is used.0) ∙ ap (λ (l : List ℕ). c ++ l) (joins_kept hs rest more used.1)
+    ∙ sym e
 
 pub list_kept : (all : List HobForm) (c : List ℕ) → IsHobList all c → AllByRecursion IsUsedHob all → list_spelled all ≡ c
 list_kept all c is used = joins_kept all c is.joined used

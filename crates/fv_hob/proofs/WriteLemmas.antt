@@ -27,9 +27,11 @@ one_field {a} {b} {c} {xs} x old new = record {
 
 spelled_join : (hs : List HobForm) (h : HobForm) → list_spelled (hs ++ h ∷ []) ≡ list_spelled hs ++ hob_spelled h
 spelled_join [] h = append-nil (hob_spelled h)
-spelled_join (g ∷ gs) h = ap (λ (l : List ℕ). hob_spelled g ++ l) (spelled_join gs h) ∙ sym (append_assoc (hob_spelled g) (list_spelled gs) (hob_spelled h))
+spelled_join (g ∷ gs) h =
+    ap (λ (l : List ℕ). hob_spelled g ++ l) (spelled_join gs h) ∙ sym (append_assoc (hob_spelled g) (list_spelled gs) (hob_spelled h))
 
-pub spelled_more : (hs : List HobForm) (i : ℕ) (h : HobForm) (old new : List ℕ) → i < length hs → h ≡ get_or hs i h → old ≡ list_spelled (take i hs) → new ≡ old ++ hob_spelled h
+pub spelled_more : (hs : List HobForm) (i : ℕ) (h : HobForm) (old new : List ℕ) → i < length hs → h ≡ get_or hs i h
+    → old ≡ list_spelled (take i hs) → new ≡ old ++ hob_spelled h
     → new ≡ list_spelled (take (i + 1) hs)
 spelled_more hs i h old new within is p q =
     q ∙ ap (λ (l : List ℕ). l ++ hob_spelled h) p ∙ ap (λ (g : HobForm). list_spelled (take i hs) ++ hob_spelled g) is
@@ -37,15 +39,18 @@ spelled_more hs i h old new within is p q =
 
 spans_join : (hs : List HobForm) (h : HobForm) → spans_of (hs ++ h ∷ []) ≡ spans_of hs ++ with_span (span_of h.kind) []
 spans_join [] h = refl
-spans_join (g ∷ gs) h = ap (with_span (span_of g.kind)) (spans_join gs h) ∙ first (span_of g.kind) (spans_of gs) (with_span (span_of h.kind) []) where
-  first : (o : Option Span) (ss ts : List Span) → with_span o (ss ++ ts) ≡ with_span o ss ++ ts
-  first None ss ts = refl
-  first (Some s) ss ts = refl
+spans_join (g ∷ gs) h =
+    ap (with_span (span_of g.kind)) (spans_join gs h) ∙ first (span_of g.kind) (spans_of gs) (with_span (span_of h.kind) []) where
+      first : (o : Option Span) (ss ts : List Span) → with_span o (ss ++ ts) ≡ with_span o ss ++ ts
+      first None ss ts = refl
+      first (Some s) ss ts = refl
 
-pub spans_more : (hs : List HobForm) (i : ℕ) (h : HobForm) (o : Option Span) (old new : List Span) → i < length hs → h ≡ get_or hs i h → o ≡ span_of h.kind → old ≡ spans_of (take i hs)
+pub spans_more : (hs : List HobForm) (i : ℕ) (h : HobForm) (o : Option Span) (old new : List Span) → i < length hs → h ≡ get_or hs i h
+    → o ≡ span_of h.kind → old ≡ spans_of (take i hs)
     → new ≡ old ++ with_span o [] → new ≡ spans_of (take (i + 1) hs)
 spans_more hs i h o old new within is span p q =
-    q ∙ ap (λ (l : List Span). l ++ with_span o []) p ∙ ap (λ (x : Option Span). spans_of (take i hs) ++ with_span x []) (span ∙ ap (λ (g : HobForm). span_of g.kind) is)
+    q ∙ ap (λ (l : List Span). l ++ with_span o []) p
+    ∙ ap (λ (x : Option Span). spans_of (take i hs) ++ with_span x []) (span ∙ ap (λ (g : HobForm). span_of g.kind) is)
     ∙ sym (ap spans_of (take_more hs i h within) ∙ spans_join (take i hs) (get_or hs i h))
 
 pub span_some : (o : Option Span) (s : Span) (old new : List Span) → o ≡ Some s → new ≡ old ++ s ∷ [] → new ≡ old ++ with_span o []

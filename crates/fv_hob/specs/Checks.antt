@@ -38,7 +38,8 @@ pub record BeginsBlock (first : Bool) (c r : List ℕ) : Type 0 where
 abbrev pub BeginsTable : List ℕ → Type 0
 BeginsTable r = (c : List ℕ) × BeginsBlock true c r
 
--- some blocks, none of them an end, are read up to the fault's offset, and there it is that of the first check that does not hold
+-- some blocks, none of them an end, are read up to the fault's offset, and there it is that of the first
+-- check that does not hold
 pub record IsFirstHobFault (b : List ℕ) (fault : HobFault) : Type 0 where
   pub before : List HobForm
   pub c : List ℕ

@@ -13,14 +13,17 @@ hob_fields (kinds.Handoff said) =
     le_bytes 4 said.version ∷ le_bytes 4 said.boot_mode ∷ le_bytes 8 said.memory_top ∷ le_bytes 8 said.memory_bottom
     ∷ le_bytes 8 said.free_memory_top ∷ le_bytes 8 said.free_memory_bottom ∷ le_bytes 8 said.end_of_list ∷ []
 hob_fields (kinds.MemoryAllocation said) =
-    bytes_of said.name ∷ le_bytes 8 said.base ∷ le_bytes 8 said.length ∷ le_bytes 4 said.memory_type ∷ said.reserved ∷ said.rest ∷ []
+    bytes_of said.name ∷ le_bytes 8 said.base ∷ le_bytes 8 said.length ∷ le_bytes 4 said.memory_type ∷ said.reserved
+    ∷ said.rest ∷ []
 hob_fields (kinds.Resource said) =
-    bytes_of said.owner ∷ le_bytes 4 said.resource_type ∷ le_bytes 4 said.attribute ∷ le_bytes 8 said.start ∷ le_bytes 8 said.length ∷ []
+    bytes_of said.owner ∷ le_bytes 4 said.resource_type ∷ le_bytes 4 said.attribute ∷ le_bytes 8 said.start
+    ∷ le_bytes 8 said.length ∷ []
 hob_fields (kinds.GuidExtension name payload) = bytes_of name ∷ payload ∷ []
 hob_fields (kinds.FirmwareVolume base len) = le_bytes 8 base ∷ le_bytes 8 len ∷ []
 hob_fields (kinds.Cpu memory io reserved) = (memory ∷ io ∷ []) ∷ reserved ∷ []
 hob_fields kinds.MemoryPool = []
-hob_fields (kinds.FirmwareVolume2 base len volume file) = le_bytes 8 base ∷ le_bytes 8 len ∷ bytes_of volume ∷ bytes_of file ∷ []
+hob_fields (kinds.FirmwareVolume2 base len volume file) =
+    le_bytes 8 base ∷ le_bytes 8 len ∷ bytes_of volume ∷ bytes_of file ∷ []
 hob_fields (kinds.Capsule base len) = le_bytes 8 base ∷ le_bytes 8 len ∷ []
 hob_fields (kinds.Unused len) = replicate len 0 ∷ []
 hob_fields kinds.End = []
@@ -28,7 +31,8 @@ hob_fields (kinds.Other code payload) = payload ∷ []
 
 -- a block: its type, its length, its reserved word and its body
 abbrev pub hob_spelled : HobForm → List ℕ
-hob_spelled h = concat (le_bytes 2 (hob_type h.kind) ∷ le_bytes 2 (hob_len h.kind) ∷ le_bytes 4 h.reserved ∷ hob_fields h.kind)
+hob_spelled h =
+    concat (le_bytes 2 (hob_type h.kind) ∷ le_bytes 2 (hob_len h.kind) ∷ le_bytes 4 h.reserved ∷ hob_fields h.kind)
 
 -- the blocks, one behind the other
 abbrev pub list_spelled : List HobForm → List ℕ

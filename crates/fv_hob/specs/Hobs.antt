@@ -1,5 +1,6 @@
 -- Hand-off blocks (PI specification, volume 3, section 5).
-use Rattle.std.specs.Prelude.{◌≡◌, ◌≤◌, ℕ, ◌+◌, ◌-◌, ◌%◌, ◌==◌, nat_le, if◌then◌else◌, Bool, true, List, length, drop, slice_index}
+use Rattle.std.specs.Prelude.{◌≡◌, ◌≤◌, ℕ, ◌+◌, ◌-◌, ◌%◌, ◌==◌, nat_le, if◌then◌else◌, Bool, true, List, length, drop}
+use Rattle.std.specs.Prelude.{slice_index}
 use Rattle.fv_base.specs.Guids.{guid_of}
 use Rattle.fv_base.specs.Value.{IsBytes, field, le_at}
 use Rattle.fv_base.specs.declared.guid.Guid.{Guid}
@@ -14,8 +15,8 @@ pub record HobForm : Type 0 where
   pub reserved : ℕ
   pub kind : HobKind
 
--- the type of a block: EFI_HOB_TYPE_HANDOFF (1), _MEMORY_ALLOCATION (2), _RESOURCE_DESCRIPTOR (3), _GUID_EXTENSION (4), _FV (5), _CPU (6),
--- _MEMORY_POOL (7), _FV2 (9), _UEFI_CAPSULE (B), _UNUSED (FFFE), _END_OF_HOB_LIST (FFFF)
+-- the type of a block: EFI_HOB_TYPE_HANDOFF (1), _MEMORY_ALLOCATION (2), _RESOURCE_DESCRIPTOR (3), _GUID_EXTENSION (4),
+-- _FV (5), _CPU (6), _MEMORY_POOL (7), _FV2 (9), _UEFI_CAPSULE (B), _UNUSED (FFFE), _END_OF_HOB_LIST (FFFF)
 abbrev pub hob_type : HobKind → ℕ
 hob_type (kinds.Handoff said) = 0x0001
 hob_type (kinds.MemoryAllocation said) = 0x0002

@@ -3,7 +3,8 @@
 ghost use Rattle.std.specs.Prelude.{◌≡◌, ◌≢◌, ◌≤◌, ℕ, List, length, take, None, Some, IfOk, IfErr, OnOk};
 ghost use Rattle.fv_base.specs.Verdicts.{first_fault};
 ghost use Rattle.fv_base.specs.Checks.{IsFirstFault};
-ghost use Rattle.fv_hob.specs.Checks.{BeginsBlock, IsFirstHobFault, BeginsTable, hob_checks, is_hob_len, hob_want_of_memory};
+ghost use Rattle.fv_hob.specs.Checks.{BeginsBlock, IsFirstHobFault, BeginsTable, hob_checks, is_hob_len};
+ghost use Rattle.fv_hob.specs.Checks.{hob_want_of_memory};
 ghost use Rattle.fv_base.specs.Value.{le_at};
 ghost use Rattle.fv_hob.specs.Hobs.{HobForm};
 ghost use Rattle.fv_hob.specs.Lists.{IsHobList};
@@ -101,10 +102,12 @@ pub fn read_hobs(alloc: Global, bytes: &[u8]) -> Result<(HobList, u64), HobFault
     ensures found { IfOk result (λ p. (p.1 ≤ length bytes.now) × IsHobList p.0 (take p.1 bytes.now)) }
 
     // They begin with no other list.
-    ensures only { IfOk result (λ p. (all : List HobForm) (n : ℕ) → n ≤ length bytes.now → IsHobList all (take n bytes.now) → (all ≡ p.0) × (n ≡ p.1)) }
+    ensures only { IfOk result (λ p. (all : List HobForm) (n : ℕ) → n ≤ length bytes.now
+        → IsHobList all (take n bytes.now) → (all ≡ p.0) × (n ≡ p.1)) }
 
     // Where it refuses, want of memory aside, they begin with none.
-    ensures none { IfErr result (λ f. f ≢ hob_want_of_memory → (all : List HobForm) (n : ℕ) → IsHobList all (take n bytes.now) → ⊥) }
+    ensures none { IfErr result
+        (λ f. f ≢ hob_want_of_memory → (all : List HobForm) (n : ℕ) → IsHobList all (take n bytes.now) → ⊥) }
 
     // A refusal, want of memory aside, names the first check that does not hold, at the first block that has one.
     ensures first { IfErr result (λ f. f ≢ hob_want_of_memory → IsFirstHobFault bytes.now f) }

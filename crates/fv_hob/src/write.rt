@@ -95,7 +95,8 @@ fn push_resource(bytes: &mut Vec<u8>, said: &Resource) -> Result<(), AllocError>
 }
 
 fn push_span(bytes: &mut Vec<u8>, base: u64, length: u64) -> Result<(), AllocError>
-    ensures { OnOk result (bytes.new.items ≡ bytes.old.items ++ concat (hob_fields (kinds.FirmwareVolume base length))) }
+    ensures { OnOk result
+        (bytes.new.items ≡ bytes.old.items ++ concat (hob_fields (kinds.FirmwareVolume base length))) }
 {
     push_u64(bytes, base)?;
     push_u64(bytes, length)

@@ -1,5 +1,6 @@
 -- A frame's checks hold exactly where a frame begins.
-use Rattle.std.proofs.Common.{◌≡◌, ◌≤◌, ◌<◌, ℕ, ◌+◌, ◌-◌, List, ◌++◌, length, take, drop, refl, sym, ap, ◌∙◌, subst, arith, Bool, true, false, length-append, length-drop, append_assoc, drop-drop}
+use Rattle.std.proofs.Common.{◌≡◌, ◌≤◌, ◌<◌, ℕ, ◌+◌, ◌-◌, List, ◌++◌, length, take, drop, refl, sym, ap, ◌∙◌, subst, arith, Bool, true}
+use Rattle.std.proofs.Common.{false, length-append, length-drop, append_assoc, drop-drop}
 use Rattle.std.specs.Prelude.{◌==◌, slice_index, Result, Ok, Err}
 use Rattle.std.proofs.lemmas.Bool.{leb-true, le-leb, eqb-true, eqb-false, eq-eqb}
 use Rattle.std.proofs.lemmas.List.{take-append-drop, take_at, take_rest, drop_at, length-take-le, get_or-take}
@@ -8,7 +9,8 @@ use Rattle.fv_base.specs.Checks.{AllHold, IsFirstFault}
 use Rattle.fv_base.specs.Verdicts.{first_fault}
 use Rattle.fv_base.specs.Value.{le, le_at}
 use Rattle.fv_base.specs.declared.fault.Fault.{Fault}
-use Rattle.fv_base.proofs.CheckLemmas.{and_split, and_join, all_hold, none_faulty, first_is, not_first, verdict_ok, verdict_err, verdict_none}
+use Rattle.fv_base.proofs.CheckLemmas.{and_split, and_join, all_hold, none_faulty, first_is, not_first, verdict_ok, verdict_err}
+use Rattle.fv_base.proofs.CheckLemmas.{verdict_none}
 use Rattle.fv_base.proofs.FieldLemmas.{field-take, field-append_front}
 use Rattle.fv_base.proofs.TestLemmas.{not_equal}
 use Rattle.fv_section.specs.FrameChecks.{has_extended_size, section_header_len_at, section_size_in, section_size_at, frame_checks}
@@ -24,7 +26,8 @@ size_least f = omega (arith, head_least f.extended)
 
 -- ---- from the checks to the frame
 
-says_size : (t : Bool) (n : ℕ) (r h : List ℕ) → has_extended_size r ≡ t → le_at 0 3 h ≡ le_at 0 3 r → (t ≡ true → le_at 4 4 h ≡ le_at 4 4 r) → n ≡ section_size_in t r → SaysSize t n h
+says_size : (t : Bool) (n : ℕ) (r h : List ℕ) → has_extended_size r ≡ t → le_at 0 3 h ≡ le_at 0 3 r → (t ≡ true → le_at 4 4 h ≡ le_at 4 4 r)
+    → n ≡ section_size_in t r → SaysSize t n h
 says_size false n r h is short long e = (short ∙ sym e, λ full. eqb-false (le_at 0 3 r) 0xffffff is (sym e ∙ full))
 says_size true n r h is short long e = (short ∙ eqb-true (le_at 0 3 r) 0xffffff is, long refl ∙ sym e)
 
@@ -38,15 +41,19 @@ begins_in at r all =
     let within : section_size_at r ≤ length r = leb-true _ _ parts'.1 in
     let low : 4 ≤ n = head_least (has_extended_size r) in
     let body : List ℕ = take (section_size_at r - n) (drop n r) in
-    let len : length body ≡ section_size_at r - n = length-take-le (section_size_at r - n) (drop n r) (omega (arith, length-drop n r, within)) in
-    let behind : drop (section_size_at r - n) (drop n r) ≡ drop (section_size_at r) r = drop-drop (section_size_at r - n) n r ∙ ap (λ (k : ℕ). drop k r) (omega (arith, least)) in
-    let split : drop n r ≡ body ++ drop (section_size_at r) r = sym (take-append-drop (section_size_at r - n) (drop n r)) ∙ ap (λ (l : List ℕ). body ++ l) behind in
+    let len : length body ≡ section_size_at r - n =
+    length-take-le (section_size_at r - n) (drop n r) (omega (arith, length-drop n r, within)) in
+    let behind : drop (section_size_at r - n) (drop n r) ≡ drop (section_size_at r) r =
+    drop-drop (section_size_at r - n) n r ∙ ap (λ (k : ℕ). drop k r) (omega (arith, least)) in
+    let split : drop n r ≡ body ++ drop (section_size_at r) r =
+    sym (take-append-drop (section_size_at r - n) (drop n r)) ∙ ap (λ (l : List ℕ). body ++ l) behind in
     record {
       head = take n r;
       is_header = record {
         whole = length-take-le n r whole;
         kind_is = get_or-take n r 3 0 (omega (arith, low));
-        says = says_size (has_extended_size r) (n + length body) r (take n r) refl (ap le (field-take 0 3 n r (omega (arith, low)))) (λ e. ap le (field-take 4 4 n r (eight e))) (omega (arith, len, least));
+        says = says_size (has_extended_size r) (n + length body) r (take n r) refl (ap le (field-take 0 3 n r (omega (arith, low))))
+            (λ e. ap le (field-take 4 4 n r (eight e))) (omega (arith, len, least));
       };
       text = sym (take-append-drop n r) ∙ ap (λ (l : List ℕ). take n r ++ l) split;
     }
@@ -68,7 +75,8 @@ shown : (extended : Bool) (n : ℕ) (h : List ℕ) → SaysSize extended n h →
 shown false n h (is, ne) = not_equal (le_at 0 3 h) 0xffffff (λ e. ne (sym is ∙ e))
 shown true n h (is, e) = eq-eqb (le_at 0 3 h) 0xffffff is
 
-sized : (extended : Bool) (n : ℕ) (h y : List ℕ) → length h ≡ section_header_len extended → SaysSize extended n h → section_size_in extended (h ++ y) ≡ n
+sized : (extended : Bool) (n : ℕ) (h y : List ℕ) → length h ≡ section_header_len extended → SaysSize extended n h
+    → section_size_in extended (h ++ y) ≡ n
 sized false n h y l (is, ne) = ap le (field-append_front 0 3 h y (omega (arith, l))) ∙ is
 sized true n h y l (is, e) = ap le (field-append_front 4 4 h y (omega (arith, l))) ∙ e
 
@@ -84,15 +92,22 @@ frame_reads f r rest b =
     let y : List ℕ = f.body ++ rest in
     let is = b.is_header in
     let low : 4 ≤ length h = subst (λ (k : ℕ). 4 ≤ k) (sym is.whole) (head_least f.extended) in
-    let first : le_at 0 3 r ≡ le_at 0 3 h = ap (λ (l : List ℕ). le_at 0 3 l) b.text ∙ ap le (field-append_front 0 3 h y (omega (arith, low))) in
+    let first : le_at 0 3 r ≡ le_at 0 3 h =
+    ap (λ (l : List ℕ). le_at 0 3 l) b.text ∙ ap le (field-append_front 0 3 h y (omega (arith, low))) in
     let form : has_extended_size r ≡ f.extended = ap (λ (k : ℕ). k == 0xffffff) first ∙ shown f.extended (frame_len f) h is.says in
     let n : section_header_len_at r ≡ length h = ap section_header_len form ∙ sym is.whole in
-    let all : section_size_at r ≡ frame_len f = ap (λ (t : Bool). section_size_in t r) form ∙ ap (section_size_in f.extended) b.text ∙ sized f.extended (frame_len f) h y is.whole is.says in
-    let kind : slice_index r 3 ≡ f.kind = ap (λ (l : List ℕ). slice_index l 3) b.text ∙ get_or-append h y 0 3 (omega (arith, low)) ∙ is.kind_is in
-    let long : length r ≡ frame_len f + length rest = omega (arith, ap length b.text, length-append h y, length-append f.body rest, is.whole) in
+    let all : section_size_at r ≡ frame_len f = ap (λ (t : Bool). section_size_in t r) form ∙ ap (section_size_in f.extended) b.text
+    ∙ sized f.extended (frame_len f) h y is.whole is.says in
+    let kind : slice_index r 3 ≡ f.kind =
+    ap (λ (l : List ℕ). slice_index l 3) b.text ∙ get_or-append h y 0 3 (omega (arith, low)) ∙ is.kind_is in
+    let long : length r ≡ frame_len f + length rest =
+    omega (arith, ap length b.text, length-append h y, length-append f.body rest, is.whole) in
     let body_len : section_size_at r - section_header_len_at r ≡ length f.body = omega (arith, all, n, is.whole) in
-    let behind : drop (section_header_len_at r) r ≡ y = ap (drop (section_header_len_at r)) b.text ∙ drop_at h y (section_header_len_at r) (sym n) in
-    let body : take (section_size_at r - section_header_len_at r) (drop (section_header_len_at r) r) ≡ f.body = ap (take (section_size_at r - section_header_len_at r)) behind ∙ take_at f.body rest (section_size_at r - section_header_len_at r) (sym body_len) in
+    let behind : drop (section_header_len_at r) r ≡ y =
+    ap (drop (section_header_len_at r)) b.text ∙ drop_at h y (section_header_len_at r) (sym n) in
+    let body : take (section_size_at r - section_header_len_at r) (drop (section_header_len_at r) r) ≡ f.body =
+    ap (take (section_size_at r - section_header_len_at r)) behind
+    ∙ take_at f.body rest (section_size_at r - section_header_len_at r) (sym body_len) in
     let flat : r ≡ (h ++ f.body) ++ rest = b.text ∙ sym (append_assoc h f.body rest) in
     let front : length (h ++ f.body) ≡ frame_len f = omega (arith, length-append h f.body, is.whole) in
     record {
@@ -100,7 +115,8 @@ frame_reads f r rest b =
         le-leb 4 (length r) (omega (arith, long, size_least f)),
         (
           and_join _ _ (le-leb (section_header_len_at r) (length r) (omega (arith, n, is.whole, long)))
-              (and_join _ _ (le-leb (section_header_len_at r) (section_size_at r) (omega (arith, n, is.whole, all))) (le-leb (section_size_at r) (length r) (omega (arith, all, long)))),
+              (and_join _ _ (le-leb (section_header_len_at r) (section_size_at r) (omega (arith, n, is.whole, all)))
+              (le-leb (section_size_at r) (length r) (omega (arith, all, long)))),
           tt,
         ),
       );
@@ -146,7 +162,8 @@ verdict_stands at b f inside is =
 pub stands_verdict : (at : ℕ) (b : List ℕ) (g : FrameForm) → FrameStandsAt g at b → frame_verdict at (drop at b) ≡ Ok g
 stands_verdict at b g stands =
     let reads = frame_reads g (drop at b) stands.behind stands.begins in
-    verdict_none (first_fault (frame_checks at (drop at b))) (frame_in at (drop at b)) (none_faulty (frame_checks at (drop at b)) (reads.checks at))
+    verdict_none (first_fault (frame_checks at (drop at b))) (frame_in at (drop at b))
+    (none_faulty (frame_checks at (drop at b)) (reads.checks at))
     ∙ ap Ok (ap (λ (k : ℕ). frame_in k (drop at b)) (sym stands.offset) ∙ reads.frame_is)
 
 pub verdict_first : (at : ℕ) (r : List ℕ) (e : Fault) → frame_verdict at r ≡ Err e → IsFirstFault (frame_checks at r) e
@@ -157,7 +174,8 @@ pub verdict_rest : (at : ℕ) (b : List ℕ) → frame_verdict at (take (length 
 verdict_rest at b = ap (frame_verdict at) (take_rest b at)
 
 -- where a check does not hold no frame stands
-pub none_stands : (at : ℕ) (b : List ℕ) (e : Fault) (g : FrameForm) → IsFirstFault (frame_checks at (drop at b)) e → FrameStandsAt g at b → ⊥
+pub none_stands : (at : ℕ) (b : List ℕ) (e : Fault) (g : FrameForm) → IsFirstFault (frame_checks at (drop at b)) e → FrameStandsAt g at b
+    → ⊥
 none_stands at b e g first stands =
     let reads = frame_reads g (drop at b) stands.behind stands.begins in
     not_first (frame_checks at (drop at b)) e first (none_faulty (frame_checks at (drop at b)) (reads.checks at))

@@ -16,7 +16,8 @@ pub use Rattle.fv_section.proofs.WrittenLemmas.{head_is}
 
 -- a stream is split in one way; frames up to a multiple of 4 begin every split; one more frame behind such frames
 pub use Rattle.fv_section.proofs.StreamLemmas.{from_least, one_split, cut, one_more}
--- a stream begins with its first frame; where no frame stands there is no split; each frame ends within the stream; one more frame of a loop, and where it ends
+-- a stream begins with its first frame; where no frame stands there is no split; each frame ends within the stream; one more frame of
+-- a loop, and where it ends
 pub use Rattle.fv_section.proofs.SplitLemmas.{begins_of, none_after, whole_within, stands_within, step, grows, first_here, whole_of}
 -- how long a stream is; its tail has at most 3 bytes
 pub use Rattle.fv_section.proofs.StreamLaws.{end_of, split_length, tail_small}

@@ -4,12 +4,14 @@ use Rattle.std.proofs.Common.{subst, arith, length-append, length-drop, append_a
 use Rattle.std.specs.List.{AllByRecursion}
 use Rattle.std.proofs.lemmas.List.{take_at, drop_at}
 use Rattle.fv_base.proofs.ListLaws.{at_index}
-use Rattle.fv_section.specs.Frames.{FrameForm, BeginsFrame, SplitsFrom, Splits, FrameStandsAt, FramesWithin, section_header_len, frame_len, up_to_4}
+use Rattle.fv_section.specs.Frames.{FrameForm, BeginsFrame, SplitsFrom, Splits, FrameStandsAt, FramesWithin, section_header_len, frame_len}
+use Rattle.fv_section.specs.Frames.{up_to_4}
 use Rattle.fv_section.proofs.FrameLemmas.{length_begun, size_least}
 
 -- ---- each frame of a split stands at its offset
 
-stands : (f : FrameForm) (at : ℕ) (whole b rest : List ℕ) → drop at whole ≡ b → BeginsFrame f b rest → f.offset ≡ at → FrameStandsAt f f.offset whole
+stands : (f : FrameForm) (at : ℕ) (whole b rest : List ℕ) → drop at whole ≡ b → BeginsFrame f b rest → f.offset ≡ at
+    → FrameStandsAt f f.offset whole
 stands f at whole b rest e begun o =
     let left : length whole - at ≡ length b = sym (length-drop at whole) ∙ ap length e in
     let Front : List ℕ → Type 0 = λ l. BeginsFrame f l rest in
@@ -44,7 +46,8 @@ split_stands fs t b split = from_stands 0 fs t b b refl split
 
 -- ---- a body is the part of the stream behind its header
 
-pub begun_body : (f : FrameForm) (b rest : List ℕ) → BeginsFrame f b rest → f.body ≡ take (length f.body) (drop (section_header_len f.extended) b)
+pub begun_body : (f : FrameForm) (b rest : List ℕ) → BeginsFrame f b rest
+    → f.body ≡ take (length f.body) (drop (section_header_len f.extended) b)
 begun_body f b rest begun =
     sym (ap (λ l. take (length f.body) (drop (section_header_len f.extended) l)) begun.text
     ∙ (ap (take (length f.body)) (drop_at begun.head (f.body ++ rest) (section_header_len f.extended) begun.is_header.whole)
@@ -55,7 +58,8 @@ pub body_behind : (f : FrameForm) (at : ℕ) (b : List ℕ) → FrameStandsAt f 
     → f.body ≡ take (length f.body) (drop (f.offset + section_header_len f.extended) b)
 body_behind f at b is =
     begun_body f (drop at b) is.behind is.begins
-    ∙ ap (take (length f.body)) (drop-drop (section_header_len f.extended) at b ∙ ap (λ n. drop (n + section_header_len f.extended) b) (sym is.offset))
+    ∙ ap (take (length f.body))
+    (drop-drop (section_header_len f.extended) at b ∙ ap (λ n. drop (n + section_header_len f.extended) b) (sym is.offset))
 
 -- a body's bytes and its place, in the stream
 abbrev pub IsBodyIn : List ℕ → FrameForm → Type 0

@@ -41,7 +41,8 @@ begun_bytes f b rest bytes begun =
 -- ---- the forms of its headers
 
 -- a size that bytes say fits the form
-pub form_fits : (extended : Bool) (n : ℕ) (h : List ℕ) → length h ≡ section_header_len extended → SaysSize extended (section_header_len extended + n) h
+pub form_fits : (extended : Bool) (n : ℕ) (h : List ℕ) → length h ≡ section_header_len extended
+    → SaysSize extended (section_header_len extended + n) h
     → IsBytes h → FitsForm extended n
 form_fits false n h long (is, other) bytes =
     let three : length (field 0 3 h) ≡ 3 = length-take-le 3 h (omega (arith, long)) in

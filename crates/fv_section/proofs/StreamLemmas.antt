@@ -1,5 +1,6 @@
 -- Bytes are a stream in one way at most, and one more frame behind a stream makes a stream.
-use Rattle.std.proofs.Common.{◌≡◌, ℕ, ◌+◌, ◌<◌, ◌≤◌, List, [], ◌∷◌, ◌++◌, length, refl, sym, ap, ◌∙◌, subst, arith, length-append, append_assoc}
+use Rattle.std.proofs.Common.{◌≡◌, ℕ, ◌+◌, ◌<◌, ◌≤◌, List, [], ◌∷◌, ◌++◌, length, refl, sym, ap, ◌∙◌, subst, arith, length-append}
+use Rattle.std.proofs.Common.{append_assoc}
 use Rattle.fv_base.proofs.FieldLemmas.{same_cut}
 use Rattle.fv_section.specs.Frames.{FrameForm, BeginsFrame, SplitsFrom, frame_len, up_to_4}
 use Rattle.fv_section.proofs.FrameLemmas.{length_begun, size_least, one_frame, begins_more}
@@ -14,7 +15,8 @@ filler_is : (e t : ℕ) → e + t ≤ up_to_4 e → e + t ≡ up_to_4 (e + t) �
 filler_is e t l m = omega arith
 
 -- frames up_to_4 to a multiple of 4 are the first frames of any stream that goes on from there
-pub cut : (at : ℕ) (fs gs : List FrameForm) (t u : ℕ) (x y : List ℕ) → SplitsFrom at fs t x → at + length x ≡ up_to_4 (at + length x) → SplitsFrom at gs u (x ++ y) → 0 < length y → (more : List FrameForm) × (gs ≡ fs ++ more) × SplitsFrom (at + length x) more u y
+pub cut : (at : ℕ) (fs gs : List FrameForm) (t u : ℕ) (x y : List ℕ) → SplitsFrom at fs t x → at + length x ≡ up_to_4 (at + length x)
+    → SplitsFrom at gs u (x ++ y) → 0 < length y → (more : List FrameForm) × (gs ≡ fs ++ more) × SplitsFrom (at + length x) more u y
 cut at [] gs t u x y (e, z) m hg ly =
     let n : at ≡ at + length x = omega (arith, ap length e) in
     let b : x ++ y ≡ y = ap (λ l. l ++ y) e in
@@ -23,7 +25,15 @@ cut at [] gs t u x y (e, z) m hg ly =
 cut at (f ∷ fs) [] t u x y hf m (e, z) ly = absurd (omega (arith, length-append x y, ap length e))
 cut at (f ∷ []) (g ∷ []) t u x y (rest, begun, o, l, fit) m (rest', begun', o', l', fit') ly =
     let same = one_frame f g (x ++ y) (rest ++ y) rest' (o ∙ sym o') (begins_more f x rest y begun) begun' in
-    absurd (omega (arith, length_begun f x rest begun, length_begun g (x ++ y) rest' begun', length-append x y, length-append rest y, ap length same.1, ap frame_len same.0))
+    absurd (omega (
+      arith,
+      length_begun f x rest begun,
+      length_begun g (x ++ y) rest' begun',
+      length-append x y,
+      length-append rest y,
+      ap length same.1,
+      ap frame_len same.0,
+    ))
 cut at (f ∷ []) (g ∷ g' ∷ gs) t u x y (rest, begun, o, l, fit) m (filler', rest', begun', o', fill', more') ly =
     let same = one_frame f g (x ++ y) (rest ++ y) (filler' ++ rest') (o ∙ sym o') (begins_more f x rest y begun) begun' in
     let len = length_begun f x rest begun in
@@ -31,13 +41,15 @@ cut at (f ∷ []) (g ∷ g' ∷ gs) t u x y (rest, begun, o, l, fit) m (filler',
     let n : length rest ≡ length filler' = omega arith in
     let parts = same_cut rest filler' y rest' n same.1 in
     let place : up_to_4 (at + frame_len g) ≡ at + length x = omega arith in
-    let go : SplitsFrom (up_to_4 (at + frame_len g)) (g' ∷ gs) u y = subst (λ l. SplitsFrom (up_to_4 (at + frame_len g)) (g' ∷ gs) u l) (sym parts.1) more' in
+    let go : SplitsFrom (up_to_4 (at + frame_len g)) (g' ∷ gs) u y =
+    subst (λ l. SplitsFrom (up_to_4 (at + frame_len g)) (g' ∷ gs) u l) (sym parts.1) more' in
     (g' ∷ gs, ap (λ h. h ∷ g' ∷ gs) (sym same.0), subst (λ k. SplitsFrom k (g' ∷ gs) u y) place go)
 cut at (f ∷ f' ∷ fs) (g ∷ []) t u x y (filler, rest, begun, o, fill, more) m (rest', begun', o', l', fit') ly =
     let same = one_frame f g (x ++ y) ((filler ++ rest) ++ y) rest' (o ∙ sym o') (begins_more f x (filler ++ rest) y begun) begun' in
     absurd (omega (arith, ap length same.1, length-append (filler ++ rest) y, length-append filler rest, ap frame_len same.0))
 cut at (f ∷ f' ∷ fs) (g ∷ g' ∷ gs) t u x y (filler, rest, begun, o, fill, more) m (filler', rest', begun', o', fill', more') ly =
-    let same = one_frame f g (x ++ y) ((filler ++ rest) ++ y) (filler' ++ rest') (o ∙ sym o') (begins_more f x (filler ++ rest) y begun) begun' in
+    let same =
+    one_frame f g (x ++ y) ((filler ++ rest) ++ y) (filler' ++ rest') (o ∙ sym o') (begins_more f x (filler ++ rest) y begun) begun' in
     let sizes = ap frame_len same.0 in
     let n : length filler ≡ length filler' = omega arith in
     let parts = same_cut filler filler' (rest ++ y) rest' n (sym (append_assoc filler rest y) ∙ same.1) in
@@ -46,7 +58,8 @@ cut at (f ∷ f' ∷ fs) (g ∷ g' ∷ gs) t u x y (filler, rest, begun, o, fill
     let place : up_to_4 (at + frame_len f) + length rest ≡ at + length x = omega arith in
     let place' : up_to_4 (at + frame_len g) ≡ up_to_4 (at + frame_len f) = omega arith in
     let m' : up_to_4 (at + frame_len f) + length rest ≡ up_to_4 (up_to_4 (at + frame_len f) + length rest) = omega arith in
-    let h : SplitsFrom (up_to_4 (at + frame_len g)) (g' ∷ gs) u (rest ++ y) = subst (λ l. SplitsFrom (up_to_4 (at + frame_len g)) (g' ∷ gs) u l) (sym parts.1) more' in
+    let h : SplitsFrom (up_to_4 (at + frame_len g)) (g' ∷ gs) u (rest ++ y) =
+    subst (λ l. SplitsFrom (up_to_4 (at + frame_len g)) (g' ∷ gs) u l) (sym parts.1) more' in
     let h' : SplitsFrom (up_to_4 (at + frame_len f)) (g' ∷ gs) u (rest ++ y) = subst (λ k. SplitsFrom k (g' ∷ gs) u (rest ++ y)) place' h in
     let r = cut (up_to_4 (at + frame_len f)) (f' ∷ fs) (g' ∷ gs) t u rest y more m' h' ly in
     (r.0, ap (λ l. g ∷ l) r.1 ∙ ap (λ h. h ∷ f' ∷ (fs ++ r.0)) (sym same.0), subst (λ k. SplitsFrom k r.0 u y) place r.2)
@@ -71,7 +84,8 @@ one_split at (f ∷ f' ∷ fs) (g ∷ g' ∷ gs) t u b (filler, rest, begun, o, 
     let n : length filler ≡ length filler' = omega arith in
     let parts = same_cut filler filler' rest rest' n same.1 in
     let place : up_to_4 (at + frame_len g) ≡ up_to_4 (at + frame_len f) = omega arith in
-    let h : SplitsFrom (up_to_4 (at + frame_len g)) (g' ∷ gs) u rest = subst (λ l. SplitsFrom (up_to_4 (at + frame_len g)) (g' ∷ gs) u l) (sym parts.1) more' in
+    let h : SplitsFrom (up_to_4 (at + frame_len g)) (g' ∷ gs) u rest =
+    subst (λ l. SplitsFrom (up_to_4 (at + frame_len g)) (g' ∷ gs) u l) (sym parts.1) more' in
     let h' : SplitsFrom (up_to_4 (at + frame_len f)) (g' ∷ gs) u rest = subst (λ k. SplitsFrom k (g' ∷ gs) u rest) place h in
     let r = one_split (up_to_4 (at + frame_len f)) (f' ∷ fs) (g' ∷ gs) t u rest more h' in
     let p : f ≡ g = same.0 in
@@ -79,7 +93,9 @@ one_split at (f ∷ f' ∷ fs) (g ∷ g' ∷ gs) t u b (filler, rest, begun, o, 
     (cc, r.1)
 
 -- one more frame behind frames up_to_4 to a multiple of 4
-pub one_more : (at : ℕ) (fs : List FrameForm) (f : FrameForm) (t : ℕ) (x y r : List ℕ) → SplitsFrom at fs t x → at + length x ≡ up_to_4 (at + length x) → BeginsFrame f y r → f.offset ≡ at + length x → at + length x + frame_len f + length r ≤ up_to_4 (at + length x + frame_len f) → SplitsFrom at (fs ++ f ∷ []) (length r) (x ++ y)
+pub one_more : (at : ℕ) (fs : List FrameForm) (f : FrameForm) (t : ℕ) (x y r : List ℕ) → SplitsFrom at fs t x
+    → at + length x ≡ up_to_4 (at + length x) → BeginsFrame f y r → f.offset ≡ at + length x
+    → at + length x + frame_len f + length r ≤ up_to_4 (at + length x + frame_len f) → SplitsFrom at (fs ++ f ∷ []) (length r) (x ++ y)
 one_more at [] f t x y r (e, z) m begun o fit =
     let n : at ≡ at + length x = omega (arith, ap length e) in
     let b : y ≡ x ++ y = sym (ap (λ l. l ++ y) e) in
@@ -95,7 +111,10 @@ one_more at (g ∷ g' ∷ fs) f t x y r (filler, rest, begun', o', fill', more) 
     let lens = length-append filler rest in
     let place : at + length x ≡ up_to_4 (at + frame_len g) + length rest = omega arith in
     let m' : up_to_4 (at + frame_len g) + length rest ≡ up_to_4 (up_to_4 (at + frame_len g) + length rest) = omega arith in
-    let fit2 : up_to_4 (at + frame_len g) + length rest + frame_len f + length r ≤ up_to_4 (up_to_4 (at + frame_len g) + length rest + frame_len f) = subst (λ k. k + frame_len f + length r ≤ up_to_4 (k + frame_len f)) place fit in
+    let fit2 :
+    up_to_4 (at + frame_len g) + length rest + frame_len f + length r ≤ up_to_4 (up_to_4 (at + frame_len g) + length rest + frame_len f) =
+    subst (λ k. k + frame_len f + length r ≤ up_to_4 (k + frame_len f)) place fit in
     let h = one_more (up_to_4 (at + frame_len g)) (g' ∷ fs) f t rest y r more m' begun (o ∙ place) fit2 in
-    let b : BeginsFrame g (x ++ y) (filler ++ (rest ++ y)) = subst (λ l. BeginsFrame g (x ++ y) l) (append_assoc filler rest y) (begins_more g x (filler ++ rest) y begun') in
+    let b : BeginsFrame g (x ++ y) (filler ++ (rest ++ y)) =
+    subst (λ l. BeginsFrame g (x ++ y) l) (append_assoc filler rest y) (begins_more g x (filler ++ rest) y begun') in
     (filler, rest ++ y, b, o', fill', h)

@@ -1,5 +1,6 @@
 -- Texts that end with a zero unit.
-use Rattle.std.proofs.Common.{◌≡◌, ◌≢◌, ◌≤◌, ℕ, ◌+◌, ◌-◌, ◌%◌, List, [], ◌∷◌, ◌++◌, length, take, drop, refl, sym, ap, ◌∙◌, subst, arith, Bool, true, false, length-append, length-drop}
+use Rattle.std.proofs.Common.{◌≡◌, ◌≢◌, ◌≤◌, ℕ, ◌+◌, ◌-◌, ◌%◌, List, [], ◌∷◌, ◌++◌, length, take, drop, refl, sym, ap, ◌∙◌, subst, arith}
+use Rattle.std.proofs.Common.{Bool, true, false, length-append, length-drop}
 use Rattle.std.specs.Prelude.{◌==◌, not}
 use Rattle.std.specs.List.{AllByRecursion}
 use Rattle.std.proofs.lemmas.Bool.{eqb-true, eq-eqb, leb-true, le-leb}
@@ -58,8 +59,8 @@ text_holds b text is =
     let front : take (length b - 2) b ≡ text = ap (take (length b - 2)) is.joined ∙ take_at text (0 ∷ 0 ∷ []) (length b - 2) k in
     let end : drop (length b - 2) b ≡ 0 ∷ 0 ∷ [] = ap (drop (length b - 2)) is.joined ∙ drop_at text (0 ∷ 0 ∷ []) (length b - 2) k in
     and_join _ _
-    (and_join _ _ (and_join _ _ (le-leb 2 (length b) (omega (arith, n))) (eq-eqb (length b % 2) 0 (even (length b) (length text) n is.whole_units)))
-    (eq-eqb (le (drop (length b - 2) b)) 0 (ap le end)))
+    (and_join _ _ (and_join _ _ (le-leb 2 (length b) (omega (arith, n)))
+    (eq-eqb (length b % 2) 0 (even (length b) (length text) n is.whole_units))) (eq-eqb (le (drop (length b - 2) b)) 0 (ap le end)))
     (ap (λ (u : List ℕ). none_zero (words_of u)) front ∙ all-none_zero (words_of text) is.none_zero)
   where
     even : (m k : ℕ) → m ≡ k + 2 → k % 2 ≡ 0 → m % 2 ≡ 0

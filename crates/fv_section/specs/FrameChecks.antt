@@ -1,5 +1,6 @@
 -- The checks of a section header in their order, and the first fault of a stream.
-use Rattle.std.specs.Prelude.{◌≡◌, ℕ, ◌%◌, ◌<◌, ◌==◌, nat_le, ◌&&◌, Bool, true, false, List, [], ◌∷◌, length, take, drop}
+use Rattle.std.specs.Prelude.{◌≡◌, ℕ, ◌%◌, ◌<◌, ◌==◌, nat_le, ◌&&◌, Bool, true, false, List, [], ◌∷◌, length, take}
+use Rattle.std.specs.Prelude.{drop}
 use Rattle.fv_base.specs.Checks.{Check, check, IsFirstFault}
 use Rattle.fv_base.specs.Value.{le_at}
 use Rattle.fv_base.specs.declared.fault.Fault.{Fault}
@@ -22,7 +23,8 @@ section_size_at r = section_size_in (has_extended_size r) r
 
 -- the header is whole, and the size is neither below it nor past the end
 abbrev pub has_section_size : List ℕ → Bool
-has_section_size r = nat_le (section_header_len_at r) (length r) && (nat_le (section_header_len_at r) (section_size_at r) && nat_le (section_size_at r) (length r))
+has_section_size r = nat_le (section_header_len_at r) (length r)
+    && (nat_le (section_header_len_at r) (section_size_at r) && nat_le (section_size_at r) (length r))
 
 -- of a section at the place `at`, from where on the bytes are r
 abbrev pub frame_checks : ℕ → List ℕ → List (Check Fault)
@@ -31,8 +33,8 @@ frame_checks at r =
     ∷ check (has_section_size r) kinds.SectionSize at
     ∷ []
 
--- frames and fillers join up to a place within the stream, a multiple of 4; there the fault is that of the first check that does
--- not hold
+-- frames and fillers join up to a place within the stream, a multiple of 4; there the fault is that of the first
+-- check that does not hold
 pub record IsFirstFrameFault (b : List ℕ) (fault : Fault) : Type 0 where
   pub frames : List FrameForm
   pub tail : ℕ

@@ -1,5 +1,7 @@
--- Streams of sections (PI specification, volume 3, section 3.2.4, EFI_COMMON_SECTION_HEADER and EFI_COMMON_SECTION_HEADER2).
-use Rattle.std.specs.Prelude.{◌≡◌, ◌≢◌, ℕ, ◌+◌, ◌*◌, ◌/◌, ◌<◌, ◌≤◌, Bool, true, false, List, [], ◌∷◌, ◌++◌, length, drop, slice_index}
+-- Streams of sections (PI specification, volume 3, section 3.2.4, EFI_COMMON_SECTION_HEADER and
+-- EFI_COMMON_SECTION_HEADER2).
+use Rattle.std.specs.Prelude.{◌≡◌, ◌≢◌, ℕ, ◌+◌, ◌*◌, ◌/◌, ◌<◌, ◌≤◌, Bool, true, false, List, [], ◌∷◌, ◌++◌, length}
+use Rattle.std.specs.Prelude.{drop, slice_index}
 use Rattle.fv_base.specs.Value.{le_at}
 
 -- a frame: a section as it lies in its stream, by where its header begins, its type, its form, and its body
@@ -18,7 +20,8 @@ section_header_len true = 8
 abbrev pub frame_len : FrameForm → ℕ
 frame_len f = section_header_len f.extended + length f.body
 
--- a short header says the size in its Size, which is then not FFFFFF; an extended one says it behind, and its Size is FFFFFF
+-- a short header says the size in its Size, which is then not FFFFFF; an extended one says it
+-- behind, and its Size is FFFFFF
 abbrev pub SaysSize : Bool → ℕ → List ℕ → Type 0
 SaysSize false n h = (le_at 0 3 h ≡ n) × (n ≢ 0xffffff)
 SaysSize true n h = (le_at 0 3 h ≡ 0xffffff) × (le_at 4 4 h ≡ n)
@@ -39,15 +42,17 @@ pub record BeginsFrame (f : FrameForm) (b rest : List ℕ) : Type 0 where
 abbrev pub up_to_4 : ℕ → ℕ
 up_to_4 n = (n + 3) / 4 * 4
 
--- from the place `at` of the stream on, b is these frames, joined, with filler of any value from each to the next multiple of 4, and
--- `tail` bytes behind the last, at most to the next multiple of 4
+-- from the place `at` of the stream on, b is these frames, joined, with filler of any value from each to the next
+-- multiple of 4, and `tail` bytes behind the last, at most to the next multiple of 4
 abbrev pub SplitsFrom : ℕ → List FrameForm → ℕ → List ℕ → Type 0
 SplitsFrom at [] tail b = (b ≡ []) × (tail ≡ 0)
 SplitsFrom at (f ∷ []) tail b =
-    (rest : List ℕ) × BeginsFrame f b rest × (f.offset ≡ at) × (length rest ≡ tail) × (at + frame_len f + tail ≤ up_to_4 (at + frame_len f))
+    (rest : List ℕ) × BeginsFrame f b rest × (f.offset ≡ at) × (length rest ≡ tail)
+    × (at + frame_len f + tail ≤ up_to_4 (at + frame_len f))
 SplitsFrom at (f ∷ g ∷ fs) tail b =
     (filler : List ℕ) × (rest : List ℕ) × BeginsFrame f b (filler ++ rest) × (f.offset ≡ at)
-    × (at + frame_len f + length filler ≡ up_to_4 (at + frame_len f)) × SplitsFrom (up_to_4 (at + frame_len f)) (g ∷ fs) tail rest
+    × (at + frame_len f + length filler ≡ up_to_4 (at + frame_len f))
+    × SplitsFrom (up_to_4 (at + frame_len f)) (g ∷ fs) tail rest
 
 -- b is a stream of these frames, with `tail` bytes behind the last one
 abbrev pub Splits : List FrameForm → ℕ → List ℕ → Type 0

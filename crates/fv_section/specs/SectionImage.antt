@@ -19,21 +19,25 @@ IsHeadOfFrame extended kind n h =
     (at : ℕ) (body rest : List ℕ) → length body ≡ n
     → BeginsFrame (record { offset = at; kind = kind; extended = extended; body = body }) (h ++ (body ++ rest)) rest
 
--- the frames, one after another, each with its header, with zero bytes to the next multiple of 4 between two of them, and `tail` zero
--- bytes behind the last
+-- the frames, one after another, each with its header, with zero bytes to the next multiple of 4 between two of them,
+-- and `tail` zero bytes behind the last
 abbrev pub stream_of : List FrameForm → ℕ → List ℕ
 stream_of [] tail = []
 stream_of (f ∷ []) tail = section_head_of f.kind f.extended (length f.body) ++ (f.body ++ replicate tail 0)
 stream_of (f ∷ g ∷ fs) tail =
-    section_head_of f.kind f.extended (length f.body) ++ (f.body ++ (replicate (up_to_4 (frame_len f) - frame_len f) 0 ++ stream_of (g ∷ fs) tail))
+    section_head_of f.kind f.extended (length f.body)
+    ++ (f.body ++ (replicate (up_to_4 (frame_len f) - frame_len f) 0 ++ stream_of (g ∷ fs) tail))
 
--- from the place `at` on, each frame's offset is the next multiple of 4 behind the one before, each body fits its header's form, and
--- the tail goes at most to the next multiple of 4
+-- from the place `at` on, each frame's offset is the next multiple of 4 behind the one before, each body fits its
+-- header's form, and the tail goes at most to the next multiple of 4
 abbrev pub InPlace : ℕ → List FrameForm → ℕ → Type 0
 InPlace at [] tail = tail ≡ 0
-InPlace at (f ∷ []) tail = (f.offset ≡ at) × FitsForm f.extended (length f.body) × (at + frame_len f + tail ≤ up_to_4 (at + frame_len f))
-InPlace at (f ∷ g ∷ fs) tail = (f.offset ≡ at) × FitsForm f.extended (length f.body) × InPlace (up_to_4 (at + frame_len f)) (g ∷ fs) tail
+InPlace at (f ∷ []) tail =
+    (f.offset ≡ at) × FitsForm f.extended (length f.body) × (at + frame_len f + tail ≤ up_to_4 (at + frame_len f))
+InPlace at (f ∷ g ∷ fs) tail =
+    (f.offset ≡ at) × FitsForm f.extended (length f.body) × InPlace (up_to_4 (at + frame_len f)) (g ∷ fs) tail
 
 -- frames that are written one after another are read again as the same frames
 abbrev pub StreamsAreRead : Type 0
-StreamsAreRead = (at : ℕ) (fs : List FrameForm) (tail : ℕ) → at % 4 ≡ 0 → InPlace at fs tail → SplitsFrom at fs tail (stream_of fs tail)
+StreamsAreRead = (at : ℕ) (fs : List FrameForm) (tail : ℕ) → at % 4 ≡ 0 → InPlace at fs tail
+    → SplitsFrom at fs tail (stream_of fs tail)

@@ -1,5 +1,6 @@
 -- What some leaf sections hold (PI specification, volume 3, sections 3.2.5.14, 3.2.5.15 and 3.2.5.6).
-use Rattle.std.specs.Prelude.{◌≡◌, ◌≢◌, ℕ, ◌-◌, ◌%◌, ◌==◌, nat_le, ◌&&◌, not, Bool, List, [], ◌∷◌, ◌++◌, length, take, drop}
+use Rattle.std.specs.Prelude.{◌≡◌, ◌≢◌, ℕ, ◌-◌, ◌%◌, ◌==◌, nat_le, ◌&&◌, not, Bool, List, [], ◌∷◌, ◌++◌, length, take}
+use Rattle.std.specs.Prelude.{drop}
 use Rattle.std.specs.List.{AllByRecursion, list_all}
 use Rattle.fv_base.specs.Guids.{bytes_of}
 use Rattle.fv_base.specs.Sums.{words_of}

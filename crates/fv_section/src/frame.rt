@@ -3,7 +3,8 @@
 ghost use Rattle.std.specs.Prelude.{◌≡◌, ◌==◌, ◌<◌, ◌≤◌, length, drop, Ok, Err, IfOk, IfErr, IfSome, IfNone};
 ghost use Rattle.fv_base.specs.Checks.{IsFirstFault};
 ghost use Rattle.fv_base.specs.Value.{le_at};
-ghost use Rattle.fv_section.specs.FrameChecks.{has_extended_size, section_header_len_at, section_size_at, has_section_size, frame_checks};
+ghost use Rattle.fv_section.specs.FrameChecks.{has_extended_size, section_header_len_at, section_size_at};
+ghost use Rattle.fv_section.specs.FrameChecks.{has_section_size, frame_checks};
 ghost use Rattle.fv_section.specs.FrameVerdicts.{frame_in, frame_verdict};
 ghost use Rattle.fv_section.specs.Frames.{FrameForm, FrameStandsAt};
 ghost use Rattle.fv_section.specs.FrameForms.{frame_form};
@@ -115,7 +116,8 @@ pub fn next_frame(stream: &[u8], at: u64) -> Result<Option<Frame<'_>>, Fault>
     ensures found { IfOk result (λ o. IfSome o (λ f. FrameStandsAt (frame_form f) at stream.now)) }
 
     // No other does.
-    ensures only { IfOk result (λ o. IfSome o (λ f. (g : FrameForm) → FrameStandsAt g at stream.now → g ≡ frame_form f)) }
+    ensures only { IfOk result
+        (λ o. IfSome o (λ f. (g : FrameForm) → FrameStandsAt g at stream.now → g ≡ frame_form f)) }
 
     // There is none at the end and past it.
     ensures past { IfOk result (λ o. IfNone o (length stream.now ≤ at)) }

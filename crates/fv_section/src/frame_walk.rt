@@ -67,10 +67,12 @@ pub fn frames(alloc: Global, stream: &[u8]) -> Result<Frames<'_>, Fault>
     ensures found { IfOk result (λ s. Splits s.0 s.1 stream.now) }
 
     // It is no others.
-    ensures only { IfOk result (λ s. (fs : List FrameForm) (tail : ℕ) → Splits fs tail stream.now → (fs ≡ s.0) × (tail ≡ s.1)) }
+    ensures only { IfOk result
+        (λ s. (fs : List FrameForm) (tail : ℕ) → Splits fs tail stream.now → (fs ≡ s.0) × (tail ≡ s.1)) }
 
     // Where it refuses, want of memory aside, it is none.
-    ensures none { IfErr result (λ f. f ≢ want_of_memory → (fs : List FrameForm) (tail : ℕ) → Splits fs tail stream.now → ⊥) }
+    ensures none { IfErr result
+        (λ f. f ≢ want_of_memory → (fs : List FrameForm) (tail : ℕ) → Splits fs tail stream.now → ⊥) }
 
     // A refusal, want of memory aside, names the first check that does not hold where no frame stands.
     ensures first { IfErr result (λ f. f ≢ want_of_memory → IsFirstFrameFault stream.now f) }

@@ -1,5 +1,6 @@
 -- The flag of a command, by the reader's walk over the words: its row is there where the flag stands before any `--`.
-use Rattle.std.proofs.Common.{◌≡◌, ◌∙◌, ◌==◌, ◌+◌, ◌&&◌, ◌||◌, ℕ, Bool, cond, true, false, not, zero, suc, refl, sym, ap, ap₂, subst, arith, min, take, true≢false, List, [], ◌∷◌, ◌++◌, drop, length, Option, Some, None, codes}
+use Rattle.std.proofs.Common.{◌≡◌, ◌∙◌, ◌==◌, ◌+◌, ◌&&◌, ◌||◌, ℕ, Bool, cond, true, false, not, zero, suc, refl, sym, ap, ap₂, subst, arith}
+use Rattle.std.proofs.Common.{min, take, true≢false, List, [], ◌∷◌, ◌++◌, drop, length, Option, Some, None, codes}
 use Rattle.std.specs.List.{find, fold, list_all, before_first, position_or_len}
 use Rattle.std.specs.Option.{is_some, option_map_or}
 use Rattle.std.specs.Prelude.{encode_utf8, nat_lt, option_and_then, slice_get}
@@ -8,11 +9,19 @@ use Rattle.std.proofs.lemmas.Slice.Eq.{bytes_eq-Decides}
 use Rattle.clap.proofs.WalkLemmas.{both, first_value-rows, one_text-rows}
 use Rattle.clap.specs.Lexer.{has_byte, long_of, long_of_rest, name_and_value, short_of, strip_byte}
 use Rattle.clap.specs.Values.{bool_text}
-use Rattle.clap.specs.Walk.{Held, Outcome, Row, Rule, Step, Text, Waiting, Walk, action_of, after_flag, after_step, arg_by_id, arg_by_index, arg_by_long, arg_by_short, at_row, attached_value, bundle_met, bundle_step, count_of, default_rows, done, finished, first_of, flag_met, has_long, has_row, has_short, idle, long_met, is_multiple, is_pending, long_or_other, more_values, most_values, row_text, takes_several, new_count, next, nothing_held, one_of, option, option_met, option_word, pending_count, plain, plain_word, positional, pushed, reacted, reading_by, refused, rows_after, rows_of, settled, settled_rows, short_met, short_or_plain, started, subcommand, subcommand_met, subcommand_or_other, takes_values, to_positional, trailing, used, used_as, used_by_id, value, values_or_missing, waits, walk, walk_from, walked, walked_from, with_count, with_default, with_values, without, word_met}
+use Rattle.clap.specs.Walk.{Held, Outcome, Row, Rule, Step, Text, Waiting, Walk, action_of, after_flag, after_step, arg_by_id, arg_by_index}
+use Rattle.clap.specs.Walk.{arg_by_long, arg_by_short, at_row, attached_value, bundle_met, bundle_step, count_of, default_rows, done}
+use Rattle.clap.specs.Walk.{finished, first_of, flag_met, has_long, has_row, has_short, idle, long_met, is_multiple, is_pending}
+use Rattle.clap.specs.Walk.{long_or_other, more_values, most_values, row_text, takes_several, new_count, next, nothing_held, one_of, option}
+use Rattle.clap.specs.Walk.{option_met, option_word, pending_count, plain, plain_word, positional, pushed, reacted, reading_by, refused}
+use Rattle.clap.specs.Walk.{rows_after, rows_of, settled, settled_rows, short_met, short_or_plain, started, subcommand, subcommand_met}
+use Rattle.clap.specs.Walk.{subcommand_or_other, takes_values, to_positional, trailing, used, used_as, used_by_id, value, values_or_missing}
+use Rattle.clap.specs.Walk.{waits, walk, walk_from, walked, walked_from, with_count, with_default, with_values, without, word_met}
 use Rattle.clap.specs.Matches.{count_text, first_value, found_of, one_text}
 use Rattle.clap.specs.Simple.{App, HasMatchesOf, built, is_simple, matches_of, names_of, new_rule}
 use Rattle.clap.specs.declared.builder.action.ArgAction.{ArgAction}
-use Rattle.clap.specs.declared.builder.action.ArgAction.TheVariants.{Set, Append, SetTrue, SetFalse, Count, Help, HelpShort, HelpLong, Version}
+use Rattle.clap.specs.declared.builder.action.ArgAction.TheVariants.{Set, Append, SetTrue, SetFalse, Count, Help, HelpShort, HelpLong}
+use Rattle.clap.specs.declared.builder.action.ArgAction.TheVariants.{Version}
 use Rattle.clap.specs.declared.builder.value_parser.Reading.{Reading}
 use Rattle.clap.specs.declared.builder.value_parser.Reading.TheVariants.{AsWritten}
 use Rattle.clap.specs.declared.builder.value_parser.ValueParser.TheVariants as parsers
@@ -134,7 +143,8 @@ module _ (hex : Text) (some : bytes_eq [] hex ≡ false) (whole : has_byte 61 he
   find_flag [] = refl
   find_flag (r ∷ rs) = go (is_flag r) (find_flag rs)
     where
-      go : (b : Bool) → find is_flag rs ≡ slice_get (flags rs) 0 → cond b (Some r) (find is_flag rs) ≡ slice_get (cond b (r ∷ flags rs) (flags rs)) 0
+      go : (b : Bool) → find is_flag rs ≡ slice_get (flags rs) 0
+          → cond b (Some r) (find is_flag rs) ≡ slice_get (cond b (r ∷ flags rs) (flags rs)) 0
       go true e = refl
       go false e = e
 
@@ -156,7 +166,8 @@ module _ (hex : Text) (some : bytes_eq [] hex ≡ false) (whole : has_byte 61 he
 
   values_other : (id : Text) (how : Reading) (s : ValueSource) (vs : List Text) (rows : List Row) → bytes_eq id hex ≡ false
       → flags (with_values id how s vs rows) ≡ flags rows
-  values_other id how s vs rows other = at_other id (more_values s vs) (row_with id vs None s how) rows other (λ r e. rw e refl) (rw other refl)
+  values_other id how s vs rows other =
+      at_other id (more_values s vs) (row_with id vs None s how) rows other (λ r e. rw e refl) (rw other refl)
 
   without_other : (id : Text) (rows : List Row) → bytes_eq id hex ≡ false → flags (without id rows) ≡ flags rows
   without_other id rows other = at_other id (λ r. []) [] rows other (λ r e. refl) refl
@@ -172,8 +183,10 @@ module _ (hex : Text) (some : bytes_eq [] hex ≡ false) (whole : has_byte 61 he
   used_as_other SetTrue id how vs rows other = values_other id how CommandLine vs (without id rows) other ∙ without_other id rows other
   used_as_other SetFalse id how vs rows other = values_other id how CommandLine vs (without id rows) other ∙ without_other id rows other
   used_as_other Append id how vs rows other = values_other id how CommandLine vs rows other
-  used_as_other Count id how [] rows other = count_other id how CommandLine (min (count_of id rows + 1) 255) (without id rows) other ∙ without_other id rows other
-  used_as_other Count id how (v ∷ vs) rows other = values_other id how CommandLine (v ∷ vs) (without id rows) other ∙ without_other id rows other
+  used_as_other Count id how [] rows other =
+      count_other id how CommandLine (min (count_of id rows + 1) 255) (without id rows) other ∙ without_other id rows other
+  used_as_other Count id how (v ∷ vs) rows other =
+      values_other id how CommandLine (v ∷ vs) (without id rows) other ∙ without_other id rows other
   used_as_other Help id how vs rows other = refl
   used_as_other HelpShort id how vs rows other = refl
   used_as_other HelpLong id how vs rows other = refl
@@ -187,18 +200,21 @@ module _ (hex : Text) (some : bytes_eq [] hex ≡ false) (whole : has_byte 61 he
   without_flag [] = refl
   without_flag (r ∷ rs) = go (is_flag r) refl (without_flag rs)
     where
-      go : (b : Bool) → is_flag r ≡ b → flags (without hex rs) ≡ drop 1 (flags rs) → flags (cond b ([] ++ rs) (r ∷ without hex rs)) ≡ drop 1 (cond b (r ∷ flags rs) (flags rs))
+      go : (b : Bool) → is_flag r ≡ b → flags (without hex rs) ≡ drop 1 (flags rs)
+          → flags (cond b ([] ++ rs) (r ∷ without hex rs)) ≡ drop 1 (cond b (r ∷ flags rs) (flags rs))
       go true e later = refl
       go false e later = rw e later
 
   some≢nil : (r : Row) (rs : List Row) → r ∷ rs ≡ [] → ⊥
   some≢nil r rs e = true≢false (ap (λ xs. option_map_or (λ _. true) (slice_get xs 0) false) e)
 
-  added_flag : (change : Row → List Row) (missing rows : List Row) → flags rows ≡ [] → flags (at_row hex change missing rows) ≡ flags missing
+  added_flag : (change : Row → List Row) (missing rows : List Row) → flags rows ≡ []
+      → flags (at_row hex change missing rows) ≡ flags missing
   added_flag change missing [] none = refl
   added_flag change missing (r ∷ rs) none = go (is_flag r) refl none (λ k. added_flag change missing rs k)
     where
-      go : (b : Bool) → is_flag r ≡ b → cond b (r ∷ flags rs) (flags rs) ≡ [] → (flags rs ≡ [] → flags (at_row hex change missing rs) ≡ flags missing)
+      go : (b : Bool) → is_flag r ≡ b → cond b (r ∷ flags rs) (flags rs) ≡ []
+          → (flags rs ≡ [] → flags (at_row hex change missing rs) ≡ flags missing)
           → flags (cond b (change r ++ rs) (r ∷ at_row hex change missing rs)) ≡ flags missing
       go true e k later = absurd (some≢nil r (flags rs) k)
       go false e k later = rw e (later k)
@@ -209,8 +225,8 @@ module _ (hex : Text) (some : bytes_eq [] hex ≡ false) (whole : has_byte 61 he
 
   used_flag : (rows : List Row) (b : Bool) → flags rows ≡ seen_rows b → flags (used built_flag [] rows) ≡ seen_rows true
   used_flag rows b e =
-      added_flag (more_values CommandLine (codes "true" ∷ [])) (row_with hex (codes "true" ∷ []) None CommandLine AsWritten) (without hex rows)
-      (without_flag rows ∙ ap (drop 1) e ∙ dropped b)
+      added_flag (more_values CommandLine (codes "true" ∷ [])) (row_with hex (codes "true" ∷ []) None CommandLine AsWritten)
+      (without hex rows) (without_flag rows ∙ ap (drop 1) e ∙ dropped b)
       ∙ rw own refl
 
   row_there : (rows : List Row) (b : Bool) → flags rows ≡ seen_rows b → has_row hex rows ≡ b
@@ -260,7 +276,8 @@ module _ (hex : Text) (some : bytes_eq [] hex ≡ false) (whole : has_byte 61 he
   rest_names : (t : Text) → names_flag (bytes_eq hex (name_and_value t).0) (name_and_value t).1 ≡ bytes_eq t hex
   rest_names t = go (bytes_eq t hex) refl (has_byte 61 t) refl
     where
-      go : (b : Bool) → bytes_eq t hex ≡ b → (k : Bool) → has_byte 61 t ≡ k → names_flag (bytes_eq hex (name_and_value t).0) (name_and_value t).1 ≡ b
+      go : (b : Bool) → bytes_eq t hex ≡ b → (k : Bool) → has_byte 61 t ≡ k
+          → names_flag (bytes_eq hex (name_and_value t).0) (name_and_value t).1 ≡ b
       go true e k f = ap (λ u. names_flag (bytes_eq hex (name_and_value u).0) (name_and_value u).1) ((bytes_eq-Decides t hex).0 e) ∙ itself
       go false e true f = rw f refl
       go false e false f = rw (f, uncut t f) (turned t hex e)
@@ -374,7 +391,8 @@ module _ (hex : Text) (some : bytes_eq [] hex ≡ false) (whole : has_byte 61 he
     BundleKeeps seen k = (flagged : Text) (skip : ℕ) (so_far : Outcome) (h : Held) → Holds seen h → outcome_other so_far ≡ true
         → Holds seen (bundle_met c k flagged skip so_far h).0 × (outcome_other (bundle_met c k flagged skip so_far h).1 ≡ true)
 
-    short_named : (seen : Bool) (k : ℕ) (h : Held) → Holds seen h → BundleKeeps seen k → (a : Rule) → is_other a ≡ true → (left : Text) (b : Bool)
+    short_named : (seen : Bool) (k : ℕ) (h : Held) → Holds seen h → BundleKeeps seen k → (a : Rule) → is_other a ≡ true
+        → (left : Text) (b : Bool)
         → Holds seen (cond b (option_met c a (attached_value left) h) (bundle_met c k left 0 done (reacted c a [] h))).0
         × (outcome_other (cond b (option_met c a (attached_value left) h) (bundle_met c k left 0 done (reacted c a [] h))).1 ≡ true)
     short_named seen k h g later a other left true = option_keeps seen a (attached_value left) h other g
@@ -385,10 +403,12 @@ module _ (hex : Text) (some : bytes_eq [] hex ≡ false) (whole : has_byte 61 he
         × (outcome_other (short_met c (arg_by_short c x) left h (bundle_met c k left 0 done)).1 ≡ true)
     short_keeps seen k h g later x left =
         find_past (λ a. not (is_some a.index) && has_short a x) front rest
-        (λ o. Holds seen (short_met c o left h (bundle_met c k left 0 done)).0 × (outcome_other (short_met c o left h (bundle_met c k left 0 done)).1 ≡ true))
+        (λ o. Holds seen (short_met c o left h (bundle_met c k left 0 done)).0
+        × (outcome_other (short_met c o left h (bundle_met c k left 0 done)).1 ≡ true))
         refl early all (g, refl) (λ a other. short_named seen k h g later a other left (takes_values a))
 
-    step_of_bundle : (seen : Bool) (k : ℕ) (flagged : Text) (so_far : Outcome) (h : Held) → Holds seen h → outcome_other so_far ≡ true → BundleKeeps seen k
+    step_of_bundle : (seen : Bool) (k : ℕ) (flagged : Text) (so_far : Outcome) (h : Held) → Holds seen h → outcome_other so_far ≡ true
+        → BundleKeeps seen k
         → (o : Option ℕ) (skip : ℕ) → Holds seen (bundle_step c o flagged skip so_far h (bundle_met c k)).0
         × (outcome_other (bundle_step c o flagged skip so_far h (bundle_met c k)).1 ≡ true)
     step_of_bundle seen k flagged so_far h g e later None skip = (g, e)
@@ -398,7 +418,8 @@ module _ (hex : Text) (some : bytes_eq [] hex ≡ false) (whole : has_byte 61 he
     bundle_keeps : (seen : Bool) (k : ℕ) → BundleKeeps seen k
     unfolding bundle_met
     bundle_keeps seen zero flagged skip so_far h g e = (g, e)
-    bundle_keeps seen (suc k) flagged skip so_far h g e = step_of_bundle seen k flagged so_far h g e (bundle_keeps seen k) (slice_get (chars flagged) 0) skip
+    bundle_keeps seen (suc k) flagged skip so_far h g e =
+        step_of_bundle seen k flagged so_far h g e (bundle_keeps seen k) (slice_get (chars flagged) 0) skip
 
     -- ---- one word
 
@@ -424,7 +445,8 @@ module _ (hex : Text) (some : bytes_eq [] hex ≡ false) (whole : has_byte 61 he
     plain_keeps seen idle word h e g = (g, refl)
     plain_keeps seen positional word h e g = (g, refl)
 
-    after_keeps : (seen : Bool) (w : Waiting) (word : Text) (h : Held) (o : Outcome) → waiting_other w ≡ true → Holds seen h → outcome_other o ≡ true
+    after_keeps : (seen : Bool) (w : Waiting) (word : Text) (h : Held) (o : Outcome) → waiting_other w ≡ true → Holds seen h
+        → outcome_other o ≡ true
         → Holds seen (after_flag c w word h o).0 × (step_other (after_flag c w word h o).1 ≡ true)
     after_keeps seen w word h done e g k = (g, refl)
     after_keeps seen w word h (waits id) e g k = (g, k)
@@ -439,7 +461,8 @@ module _ (hex : Text) (some : bytes_eq [] hex ≡ false) (whole : has_byte 61 he
         none : (s : Option Text) → Holds seen (short_or_plain c w word s h).0 × (step_other (short_or_plain c w word s h).1 ≡ true)
         none None = plain_keeps seen w word h e g
         none (Some flagged) =
-            let met = bundle_keeps seen (length flagged) flagged h.skip plain (record h { skip = 0 }) (record { rows = g.rows; pending = g.pending }) refl in
+            let met = bundle_keeps seen (length flagged) flagged h.skip plain (record h { skip = 0 })
+            (record { rows = g.rows; pending = g.pending }) refl in
             after_keeps seen w word _ _ e met.0 met.1
 
         go : (o : Option (Text × Option Text)) (b : Bool) → parts_name_flag o ≡ b
@@ -480,7 +503,8 @@ module _ (hex : Text) (some : bytes_eq [] hex ≡ false) (whole : has_byte 61 he
         waits_on true = refl
         waits_on false = refl
 
-        begun : (a : Rule) → is_other a ≡ true → (p : Option (Text × List Text)) → pending_other p ≡ true → not (bytes_eq (started a.id p).0 hex) ≡ true
+        begun : (a : Rule) → is_other a ≡ true → (p : Option (Text × List Text)) → pending_other p ≡ true
+            → not (bytes_eq (started a.id p).0 hex) ≡ true
         begun a other None k = (both _ _ other).0
         begun a other (Some q) k = k
 
@@ -488,9 +512,11 @@ module _ (hex : Text) (some : bytes_eq [] hex ≡ false) (whole : has_byte 61 he
         pushes a other true = record { rows = g.rows; pending = begun a other h.pending g.pending }
         pushes a other false = record { rows = settled_keeps h g.pending ∙ g.rows; pending = (both _ _ other).0 }
 
-    step_keeps : (seen now : Bool) (w : Walk) (word : Text) (h : Held) (step : Step) → Stands seen false w → Holds now h → step_other step ≡ true
+    step_keeps : (seen now : Bool) (w : Walk) (word : Text) (h : Held) (step : Step) → Stands seen false w → Holds now h
+        → step_other step ≡ true
         → Stands now false (after_step c word w h step)
-    step_keeps seen now w word h (next waiting) s g e = record { holds = g; is_other_waiting = e; trails_so = s.trails_so; goes_on = s.goes_on }
+    step_keeps seen now w word h (next waiting) s g e =
+        record { holds = g; is_other_waiting = e; trails_so = s.trails_so; goes_on = s.goes_on }
     step_keeps seen now w word h (trailing position) s g e = absurd (true≢false (sym e))
     step_keeps seen now w word h (subcommand name) s g e = absurd (true≢false (sym e))
     step_keeps seen now w word h value s g e = to_keeps seen now false w word h s g
@@ -501,14 +527,16 @@ module _ (hex : Text) (some : bytes_eq [] hex ≡ false) (whole : has_byte 61 he
     abbrev open_met : Walk → Text → Bool → Held × Step
     open_met w word b = cond b (w.held, trailing w.position) (long_or_other c w.waiting word (long_of word) w.held)
 
-    walked_trailing : (w : Walk) (word : Text) → w.stopped ≡ None → w.is_trailing ≡ true → to_positional c (arg_by_index c w.position) word w w.held ≡ walked c [] w word
+    walked_trailing : (w : Walk) (word : Text) → w.stopped ≡ None → w.is_trailing ≡ true
+        → to_positional c (arg_by_index c w.position) word w w.held ≡ walked c [] w word
     unfolding walked
     walked_trailing w word e f = sym (
         ap (λ o. walked_from c [] o w word) e
         ∙ ap (λ t. stepped w word (word_met c [] t w.waiting w.position word w.held)) f
         )
 
-    walked_open : (w : Walk) (word : Text) → w.stopped ≡ None → w.is_trailing ≡ false → stepped w word (open_met w word (bytes_eq word (codes "--"))) ≡ walked c [] w word
+    walked_open : (w : Walk) (word : Text) → w.stopped ≡ None → w.is_trailing ≡ false
+        → stepped w word (open_met w word (bytes_eq word (codes "--"))) ≡ walked c [] w word
     unfolding walked
     walked_open w word e f = sym (
         ap (λ o. walked_from c [] o w word) e
@@ -534,7 +562,8 @@ module _ (hex : Text) (some : bytes_eq [] hex ≡ false) (whole : has_byte 61 he
     regrouped false true z = refl
     regrouped false false z = refl
 
-    walk_keeps : (words : List Text) (seen trails : Bool) (w : Walk) → Stands seen trails w → Holds (seen_in trails words || seen) (fold (walked c []) w words).held
+    walk_keeps : (words : List Text) (seen trails : Bool) (w : Walk) → Stands seen trails w
+        → Holds (seen_in trails words || seen) (fold (walked c []) w words).held
     walk_keeps [] seen true w s = s.holds
     walk_keeps [] seen false w s = s.holds
     walk_keeps (x ∷ xs) seen true w s =
@@ -571,7 +600,8 @@ module _ (hex : Text) (some : bytes_eq [] hex ≡ false) (whole : has_byte 61 he
         go true = refl
         go false = by a.defaults
 
-    defaults_keep : (rules : List Rule) (rows : List Row) → list_all is_other rules ≡ true → flags (fold with_default rows rules) ≡ flags rows
+    defaults_keep : (rules : List Rule) (rows : List Row) → list_all is_other rules ≡ true
+        → flags (fold with_default rows rules) ≡ flags rows
     defaults_keep [] rows e = refl
     defaults_keep (a ∷ more) rows e = defaults_keep more (with_default rows a) (both _ _ e).1 ∙ default_keeps a rows (both _ _ e).0
 
@@ -581,7 +611,8 @@ module _ (hex : Text) (some : bytes_eq [] hex ≡ false) (whole : has_byte 61 he
         go : (t : Bool) → has_row hex rows ≡ t → flags rows ≡ seen_rows t → flags (with_default rows built_flag) ≡ last_rows t
         go true k f = rw k f
         go false k f =
-            rw k (added_flag (more_values DefaultValue (codes "false" ∷ [])) (row_with hex (codes "false" ∷ []) None DefaultValue AsWritten) rows f ∙ rw own refl)
+            rw k (added_flag (more_values DefaultValue (codes "false" ∷ []))
+            (row_with hex (codes "false" ∷ []) None DefaultValue AsWritten) rows f ∙ rw own refl)
 
     all_defaults : (before : List Rule) → list_all is_other before ≡ true → (rows : List Row) (b : Bool) → flags rows ≡ seen_rows b
         → flags (fold with_default rows (before ++ built_flag ∷ rest)) ≡ last_rows b
@@ -596,7 +627,8 @@ module _ (hex : Text) (some : bytes_eq [] hex ≡ false) (whole : has_byte 61 he
     -- what the walk makes of the flag
     pub flag_found : (words : List Text) → one_of hex (rows_after c [] words) ≡ Some (bool_text (has_flag dashed words))
     flag_found words =
-        let start : Stands false false (walk_from nothing_held) = record { holds = record { rows = refl; pending = refl }; is_other_waiting = refl; trails_so = refl; goes_on = refl } in
+        let start : Stands false false (walk_from nothing_held) =
+        record { holds = record { rows = refl; pending = refl }; is_other_waiting = refl; trails_so = refl; goes_on = refl } in
         let held = walk_keeps words false false (walk_from nothing_held) start in
         let h = (walk c [] nothing_held words).held in
         let seen : flags (settled c h).rows ≡ seen_rows (has_flag dashed words) =
@@ -606,7 +638,8 @@ module _ (hex : Text) (some : bytes_eq [] hex ≡ false) (whole : has_byte 61 he
         ap (option_and_then row_text) (find_flag (finished c h) ∙ ap (λ xs. slice_get xs 0) last) ∙ shown (has_flag dashed words)
 
   -- what the matches of a command with the flag say of it
-  pub flag_matched : (app : App) (front rest : List Rule) → (built app).top.rules ≡ front ++ built_flag ∷ rest → list_all is_other front ≡ true
+  pub flag_matched : (app : App) (front rest : List Rule) → (built app).top.rules ≡ front ++ built_flag ∷ rest
+      → list_all is_other front ≡ true
       → list_all is_other rest ≡ true → names_of (built app) ≡ []
       → app.top.no_binary_name ≡ false → is_simple app ≡ true → (words : List Text) (m : ArgMatches) → HasMatchesOf app words m
       → one_text (found_of m) hex ≡ Some (bool_text (has_flag dashed (drop 1 words)))
@@ -619,12 +652,14 @@ module _ (hex : Text) (some : bytes_eq [] hex ≡ false) (whole : has_byte 61 he
   -- the flag, as it is read of the matches
   pub flag_answer : (app : App) (front rest : List Rule) → (built app).top.rules ≡ front ++ built_flag ∷ rest
       → list_all is_other front ≡ true → list_all is_other rest ≡ true → names_of (built app) ≡ []
-      → app.top.no_binary_name ≡ false → is_simple app ≡ true → (given : App) → given ≡ app → (words : List Text) (m : ArgMatches) → HasMatchesOf given words m
+      → app.top.no_binary_name ≡ false → is_simple app ≡ true → (given : App) → given ≡ app → (words : List Text) (m : ArgMatches)
+      → HasMatchesOf given words m
       → (answer : Bool) → (one_text (found_of m) hex ≡ Some (codes "true") → answer ≡ true)
       → (one_text (found_of m) hex ≡ Some (codes "false") → answer ≡ false)
       → answer ≡ has_flag dashed (drop 1 words)
   flag_answer app front rest rules early all names named simple given is words m matches answer on_true on_false =
-      read (has_flag dashed (drop 1 words)) (flag_matched app front rest rules early all names named simple words m (subst (λ (a : App). HasMatchesOf a words m) is matches))
+      read (has_flag dashed (drop 1 words))
+      (flag_matched app front rest rules early all names named simple words m (subst (λ (a : App). HasMatchesOf a words m) is matches))
     where
       read : (b : Bool) → one_text (found_of m) hex ≡ Some (bool_text b) → answer ≡ b
       read true e = on_true e

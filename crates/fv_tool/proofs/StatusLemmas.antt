@@ -1,6 +1,5 @@
 -- How a plan's run does not end, and what is told of words.
-use Rattle.std.proofs.Common.{◌≡◌, ◌∙◌, ◌⊎◌, inl, inr, Bool, true, false, true≢false, ap, sym, subst, List, ℕ}
-use Rattle.std.specs.Io.KnownBytes.{Appends}
+use Rattle.std.proofs.Common.{◌≡◌, ◌∙◌, ◌⊎◌, inl, inr, Bool, true, false, true≢false, sym, subst}
 use Rattle.fv_command.specs.Inputs.{Shown}
 use Rattle.fv_command.specs.Runs.{RunsCommand}
 use Rattle.fv_command.specs.declared.plan.Command.{Command}

@@ -1,5 +1,6 @@
 -- Texts of one or two hexadecimal digits.
-use Rattle.std.proofs.Common.{◌≡◌, ◌==◌, ◌^◌, ◌<◌, ◌≤◌, ℕ, Bool, cond, true, false, refl, subst, arith, eqb-true, List, [], ◌∷◌, drop, length}
+use Rattle.std.proofs.Common.{◌≡◌, ◌==◌, ◌^◌, ◌<◌, ◌≤◌, ℕ, Bool, cond, true, false, refl, subst, arith, eqb-true, List, [], ◌∷◌, drop}
+use Rattle.std.proofs.Common.{length}
 use Rattle.std.specs.Char.{digit_value}
 use Rattle.std.specs.Str.Parse.{IsNumeral, digits_value, without_leading_plus}
 

@@ -14,8 +14,8 @@ use Rattle.fv_tool.specs.declared.words.WordFault.TheVariants.{OutOfMemory}
 abbrev pub RunsOver : Plan → Status → Shown → Shown → Type 0
 RunsOver p status w v = (r : Shown) × (s : Shown) × (r' : Shown) × (s' : Shown) × Runs p status r s r' s' w v
 
--- a refusal of words: there is one behind the program's name, and words that a command with one input takes are refused for want of
--- memory alone
+-- a refusal of words: there is one behind the program's name, and words that a command with one input takes are refused
+-- for want of memory alone
 abbrev pub MayRefuse : List (List ℕ) → WordFault → Type 0
 MayRefuse words fault = (1 < length words) × (AreTaken words → fault ≡ OutOfMemory)
 

@@ -43,8 +43,8 @@ hobs_app = with_rule (with_rule (with_rule flag_app (option_rule (codes "image")
 
 abbrev pub extract_app : App
 extract_app =
-    with_rule (with_rule (with_rule (with_rule flag_app (option_rule (codes "name"))) (option_rule (codes "section"))) instance_rule)
-    (new_rule (codes "file"))
+    with_rule (with_rule (with_rule (with_rule flag_app (option_rule (codes "name"))) (option_rule (codes "section")))
+    instance_rule) (new_rule (codes "file"))
 
 abbrev pub compare_app : App
 compare_app = with_rule (with_rule flag_app (new_rule (codes "first"))) (new_rule (codes "second"))

@@ -14,7 +14,8 @@ use Rattle.fv_command.specs.declared.plan.Command.TheVariants.{Single, Hobs, Com
 use Rattle.fv_command.specs.declared.plan.ImageFile.{ImageFile}
 use Rattle.fv_command.specs.declared.plan.Plan.{Plan}
 use Rattle.fv_command.specs.declared.plan.Task.{Task}
-use Rattle.fv_command.specs.declared.plan.Task.TheVariants.{Normalise, NormaliseAll, List as Listing, Extract, Check, Scan}
+use Rattle.fv_command.specs.declared.plan.Task.TheVariants.{Normalise, NormaliseAll, List as Listing, Extract, Check}
+use Rattle.fv_command.specs.declared.plan.Task.TheVariants.{Scan}
 
 -- of no words: hexadecimal text from standard input is normalised
 abbrev pub plan_without_words : Plan
@@ -41,7 +42,8 @@ HasOneInput name = (name ≡ codes "list") ⊎ (name ≡ codes "check") ⊎ (nam
 -- the name is that of such a command, or of the one that has `--all` besides, and its reader takes the words
 abbrev pub IsTaken : List ℕ → List (List ℕ) → Type 0
 IsTaken name words =
-    ((name ≡ codes "normalise") × (takes normalise_app words ≡ true)) ⊎ (HasOneInput name × (takes one_input_app words ≡ true))
+    ((name ≡ codes "normalise") × (takes normalise_app words ≡ true))
+    ⊎ (HasOneInput name × (takes one_input_app words ≡ true))
 
 -- the same of a line of words, of which the first is the program's name
 abbrev pub AreTaken : List (List ℕ) → Type 0
@@ -61,7 +63,8 @@ IsSectionTypeWord (Some text) kind = IsNumeral 16 text × (length text ≤ 2) ×
 
 -- a number of so many bits, in decimal digits that a plus may stand before
 abbrev pub IsNumberWord : ℕ → List ℕ → ℕ → Type 0
-IsNumberWord bits text n = IsNumeral 10 (without_leading_plus text) → digits_value 10 (without_leading_plus text) < 2 ^ bits
+IsNumberWord bits text n = IsNumeral 10 (without_leading_plus text)
+    → digits_value 10 (without_leading_plus text) < 2 ^ bits
     → n ≡ digits_value 10 (without_leading_plus text)
 
 -- which section it is, and the first where nothing is given
@@ -88,10 +91,13 @@ IsImageWords path base (Some image) = (path ≡ Some (string_bytes image.path)) 
 abbrev pub IsFileWord : Option (List ℕ) → Option (String Global) → Type 0
 IsFileWord text file = option_map string_bytes file ≡ text
 
--- the texts of a task, and those of a command, are those that the reader finds; of the two tasks of one name the flag `--all` tells which
+-- the texts of a task, and those of a command, are those that the reader finds; of the two tasks of one name the
+-- flag `--all` tells which
 abbrev pub HasTaskTexts : List (List ℕ) → Task → Option (String Global) → Type 0
-HasTaskTexts rest Normalise file = (has_flag (codes "--all") rest ≡ false) × IsFileWord (text_in normalise_app (codes "file") rest) file
-HasTaskTexts rest NormaliseAll file = (has_flag (codes "--all") rest ≡ true) × IsFileWord (text_in normalise_app (codes "file") rest) file
+HasTaskTexts rest Normalise file =
+    (has_flag (codes "--all") rest ≡ false) × IsFileWord (text_in normalise_app (codes "file") rest) file
+HasTaskTexts rest NormaliseAll file =
+    (has_flag (codes "--all") rest ≡ true) × IsFileWord (text_in normalise_app (codes "file") rest) file
 HasTaskTexts rest Listing file = IsFileWord (text_in one_input_app (codes "file") rest) file
 HasTaskTexts rest (Extract part) file =
     IsFileWord (text_in extract_app (codes "file") rest) file

@@ -1,8 +1,8 @@
 //! The commands and their options, as they are given to the reader of command lines.
 
 ghost use Rattle.clap.specs.Words.{app_of, first_value, found_of, one_text, rule_of, takes};
-ghost use Rattle.fv_tool.specs.Options.{compare_app, extract_app, flag_app, hobs_app, normalise_app, one_input_app, text_in};
-ghost use Rattle.fv_tool.specs.Options.{base_rule, flag_rule, instance_rule, option_rule};
+ghost use Rattle.fv_tool.specs.Options.{compare_app, extract_app, flag_app, hobs_app, normalise_app, one_input_app};
+ghost use Rattle.fv_tool.specs.Options.{text_in, base_rule, flag_rule, instance_rule, option_rule};
 ghost use Rattle.fv_tool.specs.Words.{AsksBy, IsFileWord, IsTaken, has_flag};
 ghost use Rattle.fv_tool.specs.Words.{IsImageWords, IsInstanceWord, IsPartBy, IsSectionTypeWord};
 ghost use Rattle.std.specs.String.{string_bytes};
@@ -22,7 +22,8 @@ impl From<clap::Error> for WordFault {
     ghost use Rattle.fv_tool.specs.declared.words.WordFault.TheVariants.{Words, OutOfMemory};
     ghost use Rattle.std.specs.Prelude.{◌≡◌, ◌≢◌};
 
-    ghost from_gives = { λ e f. (kind_of e ≡ error_kinds.OutOfMemory → f ≡ OutOfMemory) × (kind_of e ≢ error_kinds.OutOfMemory → f ≡ Words) };
+    ghost from_gives = { λ e f. (kind_of e ≡ error_kinds.OutOfMemory → f ≡ OutOfMemory)
+        × (kind_of e ≢ error_kinds.OutOfMemory → f ≡ Words) };
 
     fn from(error: clap::Error) -> WordFault {
         if error.kind() == ErrorKind::OutOfMemory {
@@ -305,7 +306,8 @@ fn single(task: Task, given: (bool, Option<String>)) -> Plan
 pub fn parse_command(alloc: Global, name: &str, words: &[String]) -> Result<Plan, WordFault>
     ensures asked { IfOk result (AsksBy name.now (drop 1 (map string_bytes words.now))) }
 
-    // Of a command with one input and no option but flags, words that the reader takes are refused for want of memory alone.
+    // Of a command with one input and no option but flags, words that the reader takes are refused
+    // for want of memory alone.
     ensures taken { IfErr result (λ f. IsTaken name.now (map string_bytes words.now) → f ≡ WordFault.OutOfMemory) }
 {
     match name {

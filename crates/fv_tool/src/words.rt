@@ -35,7 +35,8 @@ impl From<io::Error> for WordFault {
     ghost use Rattle.std.specs.declared.io.ErrorKind.TheVariants as error_kinds;
     ghost use Rattle.fv_tool.specs.declared.words.WordFault.TheVariants.{Words, OutOfMemory};
 
-    ghost from_gives = { λ e f. (error_kind e ≡ error_kinds.OutOfMemory → f ≡ OutOfMemory) × (error_kind e ≢ error_kinds.OutOfMemory → f ≡ Words) };
+    ghost from_gives = { λ e f. (error_kind e ≡ error_kinds.OutOfMemory → f ≡ OutOfMemory)
+        × (error_kind e ≢ error_kinds.OutOfMemory → f ≡ Words) };
 
     fn from(error: io::Error) -> WordFault {
         if error.kind() == ErrorKind::OutOfMemory {
@@ -58,7 +59,8 @@ pub fn parse_words(alloc: Global, words: &[String]) -> Result<Plan, WordFault>
     // The plan is of the command that is named, and its inputs are text where the flag says so.
     ensures asked { IfOk result (Asks (map string_bytes words.now)) }
 
-    // Of a command with one input and no option but flags, words that the reader takes are refused for want of memory alone.
+    // Of a command with one input and no option but flags, words that the reader takes are refused
+    // for want of memory alone.
     ensures taken { IfErr result (λ f. AreTaken (map string_bytes words.now) → f ≡ WordFault.OutOfMemory) }
 {
     if words.len() <= 1 {

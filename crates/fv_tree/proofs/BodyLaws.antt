@@ -63,11 +63,13 @@ module _ (S : Streams) (e : Extent) (volume : List ℕ) where
 
   pub body_only : (fs : List FileForm) → ((gs : List FileForm) → StandIn e volume gs → gs ≡ fs) → (ms : List FileMeaning)
       → ((ts : List FileMeaning) → Pairs (MeansFile S) fs ts → ts ≡ ms) → (ts : List FileMeaning) → HasFiles S e volume ts → ts ≡ ms
-  body_only fs only ms one ts h = one ts (subst (λ (gs : List FileForm). Pairs (MeansFile S) gs ts) (only h.files (standing ts h)) h.meanings)
+  body_only fs only ms one ts h =
+      one ts (subst (λ (gs : List FileForm). Pairs (MeansFile S) gs ts) (only h.files (standing ts h)) h.meanings)
 
   pub body_none : (fs : List FileForm) → ((gs : List FileForm) → StandIn e volume gs → gs ≡ fs)
       → ((ts : List FileMeaning) → Pairs (MeansFile S) fs ts → ⊥) → (ts : List FileMeaning) → HasFiles S e volume ts → ⊥
-  body_none fs only none ts h = none ts (subst (λ (gs : List FileForm). Pairs (MeansFile S) gs ts) (only h.files (standing ts h)) h.meanings)
+  body_none fs only none ts h =
+      none ts (subst (λ (gs : List FileForm). Pairs (MeansFile S) gs ts) (only h.files (standing ts h)) h.meanings)
 
   pub files_none : ((gs : List FileForm) → StandIn e volume gs → ⊥) → (ts : List FileMeaning) → HasFiles S e volume ts → ⊥
   files_none none ts h = none h.files (standing ts h)

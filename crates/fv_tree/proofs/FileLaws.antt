@@ -23,7 +23,8 @@ plain_reads n f h = record { is = (h, refl); one = only }
     only (Sectioned ss t) (p, q) = absurd (never (holds_sections f.head.kind) p h)
 
 pub stream_reads : (n : ℕ) (f : FileForm) (ss : List SectionMeaning) (t : ℕ) → holds_sections f.head.kind ≡ true → Stream n ss t f.payload
-    → ((us : List SectionMeaning) (u : ℕ) → Stream n us u f.payload → (us ≡ ss) × (u ≡ t)) → ReadsContent n f (Sectioned (sections_from ss) t)
+    → ((us : List SectionMeaning) (u : ℕ) → Stream n us u f.payload → (us ≡ ss) × (u ≡ t))
+    → ReadsContent n f (Sectioned (sections_from ss) t)
 stream_reads n f ss t h s only =
     let P : List SectionMeaning → Type 0 = λ l. Stream n l t f.payload in
     record { is = (h, subst P (sym (list_back ss)) s); one = one }

@@ -70,7 +70,8 @@ module _ (n : ℕ) (refused : StreamRefuses n) (once : StreamOnce n) (e g : Faul
   files_once len fs (inr (none, inr (last, _))) (inr (_, inl (f, top, is))) = absurd (top_none len f (alive_in fs) top last)
   files_once len fs (inr (none, inr (last, first))) (inr (_, inr (_, first'))) =
       let one =
-      first_of_once (MeansFile (Stream n)) (λ f. FileFirst (FirstInStream n) e f base depth) (λ f. FileFirst (FirstInStream n) g f base depth)
+      first_of_once (MeansFile (Stream n)) (λ f. FileFirst (FirstInStream n) e f base depth)
+      (λ f. FileFirst (FirstInStream n) g f base depth)
       (alive_in fs) (file_by n refused e base depth) (file_by n refused g base depth) first first' in
       once e g (one.0).payload (base + data_place one.0) depth one.1.1 one.2.1
 

@@ -1,6 +1,6 @@
 -- Names with their numbers, in order: what is looked up there, and that names that differ leave no twin and replace no file.
-use Rattle.std.proofs.Common.{◌≡◌, ◌≤◌, ◌<◌, ◌⊎◌, ℕ, zero, suc, ◌+◌, List, [], ◌∷◌, ◌++◌, length, take, drop, get_or, map, Bool, true, false}
-use Rattle.std.proofs.Common.{refl, sym, ap, ◌∙◌, subst, arith, inl, inr}
+use Rattle.std.proofs.Common.{◌≡◌, ◌≤◌, ◌<◌, ◌⊎◌, ℕ, zero, suc, ◌+◌, List, [], ◌∷◌, ◌++◌, length, take, drop, get_or, map, Bool, true}
+use Rattle.std.proofs.Common.{false, refl, sym, ap, ◌∙◌, subst, arith, inl, inr}
 use Rattle.std.specs.Prelude.{◌≢◌, ◌==◌, ◌&&◌, ◌||◌, not, Some, None}
 use Rattle.std.specs.Cmp.{IsTotalOrder, IsStrictWeakOrder, unsigned_Decides}
 use Rattle.std.specs.Int.{from_le_bytes, to_le_bytes, w64}
@@ -11,7 +11,8 @@ use Rattle.std.specs.declared.cmp.Ordering.{Ordering}
 use Rattle.std.specs.declared.cmp.Ordering.TheVariants.{Less, Equal, Greater}
 use Rattle.std.proofs.lemmas.Bool.{cases_lt}
 use Rattle.std.proofs.lemmas.Cmp.{eq_by_cmp_equiv, nat_cmp_total, on_total, ranked, then_total, tied_itself}
-use Rattle.std.proofs.lemmas.List.{get_or-map, get_or_default, length-drop, length-map, length-take-le, take-append-drop, take_all, take_more}
+use Rattle.std.proofs.lemmas.List.{get_or-map, get_or_default, length-drop, length-map, length-take-le, take-append-drop, take_all}
+use Rattle.std.proofs.lemmas.List.{take_more}
 use Rattle.std.proofs.lemmas.List.Elements.{Contains-get_or}
 use Rattle.std.proofs.lemmas.List.MinMax.{ranks_by}
 use Rattle.std.proofs.lemmas.List.Sorted.{Contains-permutation, IsPermutation-map, IsPermutation-sym, searchable_from_sorted, sorted_far}
@@ -236,11 +237,13 @@ one_name a b p q e =
     same_guid a b (sym (halves_back a p) ∙ ap (λ (h : Halves). to_le_bytes w64 h.0 ++ to_le_bytes w64 h.1) e ∙ halves_back b q)
 
 named_so : (name : Guid) (f : FileMeaning) → is_named name f ≡ true → halves_of (file_name_of f) ≡ halves_of name
-named_so name f h = ap halves_of (sym (same_guid name (file_name_of f) ((bytes_eq-Decides (bytes_of name) (bytes_of (file_name_of f))).0 h)))
+named_so name f h =
+    ap halves_of (sym (same_guid name (file_name_of f) ((bytes_eq-Decides (bytes_of name) (bytes_of (file_name_of f))).0 h)))
 
 so_named : (name : Guid) (f : FileMeaning) → IsName name → IsName (file_name_of f) → halves_of (file_name_of f) ≡ halves_of name
     → is_named name f ≡ true
-so_named name f p q e = (bytes_eq-Decides (bytes_of name) (bytes_of (file_name_of f))).1 (ap bytes_of (sym (one_name (file_name_of f) name q p e)))
+so_named name f p q e =
+    (bytes_eq-Decides (bytes_of name) (bytes_of (file_name_of f))).1 (ap bytes_of (sym (one_name (file_name_of f) name q p e)))
 
 -- the least number of a name
 lowest : (k : ℕ) (name : Guid) (fs : List FileMeaning) (e : ℕ) → IsName name → AllByRecursion IsName (map file_name_of fs)
@@ -254,7 +257,8 @@ lowest k name (f ∷ fs) e whole all has low =
     tail : List Entry
     tail = numbered (k + 1) (map file_name_of fs)
 
-    go : (t : Bool) → is_named name f ≡ t → (same_pair (halves_of (file_name_of f), k) (halves_of name, e)) ⊎ Contains tail (halves_of name, e)
+    go : (t : Bool) → is_named name f ≡ t
+        → (same_pair (halves_of (file_name_of f), k) (halves_of name, e)) ⊎ Contains tail (halves_of name, e)
         → (Contains tail (halves_of name, e) → number_from (k + 1) name fs ≡ Some e) → number_from k name (f ∷ fs) ≡ Some e
     go true is place later =
         let upto : e ≤ k = low k (zero, omega arith, ap (λ (n : Halves). (n, k)) (named_so name f is)) in
@@ -270,7 +274,8 @@ missing : (k : ℕ) (name : Guid) (fs : List FileMeaning)
 missing k name [] none = refl
 missing k name (f ∷ fs) none =
     go (is_named name f) refl
-    (missing (k + 1) name fs (λ j h. none j (behind (halves_of (file_name_of f), k) (numbered (k + 1) (map file_name_of fs)) (halves_of name, j) h)))
+    (missing (k + 1) name fs
+    (λ j h. none j (behind (halves_of (file_name_of f), k) (numbered (k + 1) (map file_name_of fs)) (halves_of name, j) h)))
   where
     go : (t : Bool) → is_named name f ≡ t → number_from (k + 1) name fs ≡ None → number_from k name (f ∷ fs) ≡ None
     go true is rest = absurd (none k (zero, omega arith, ap (λ (n : Halves). (n, k)) (named_so name f is)))
@@ -286,7 +291,8 @@ module _ (es : List Entry) (name : Guid) (fs : List FileMeaning) (whole : IsName
   listed e h = Contains-permutation (numbered 0 (map file_name_of fs)) es e index.all h
 
   unlisted : (e : Entry) → Contains es e → Contains (numbered 0 (map file_name_of fs)) e
-  unlisted e h = Contains-permutation es (numbered 0 (map file_name_of fs)) e (IsPermutation-sym (numbered 0 (map file_name_of fs)) es index.all) h
+  unlisted e h =
+      Contains-permutation es (numbered 0 (map file_name_of fs)) e (IsPermutation-sym (numbered 0 (map file_name_of fs)) es index.all) h
 
   pub found_first : (k : ℕ) → k < length es → HoldsAt (λ e. entry_cmp e (halves_of name, 0) ≡ Equal) es k → Some 0 ≡ number_from 0 name fs
   found_first k l same =
@@ -300,7 +306,8 @@ module _ (es : List Entry) (name : Guid) (fs : List FileMeaning) (whole : IsName
   from_place place less j q is = go (cases_lt q place) where
     go : (q < place) ⊎ (place ≤ q) → place ≤ q
     go (inl l) =
-        let lt : entry_cmp (key, j) (key, 0) ≡ Less = ap (λ e. entry_cmp e (halves_of name, 0)) (sym is) ∙ less q (key, j) (omega arith) l in
+        let lt : entry_cmp (key, j) (key, 0) ≡ Less =
+        ap (λ e. entry_cmp e (halves_of name, 0)) (sym is) ∙ less q (key, j) (omega arith) l in
         let under : j < 0 = ranked j 0 Less (sym lt ∙ of_one_name key j 0) in
         omega (arith, under)
     go (inr l) = l
@@ -317,8 +324,8 @@ module _ (es : List Entry) (name : Guid) (fs : List FileMeaning) (whole : IsName
   found_there place d l less is =
       let e : ℕ = (get_or es place d).1 in
       let same : get_or es place d ≡ (key, e) = same_entry (get_or es place d) (key, e) is refl in
-      sym (lowest 0 name fs e whole index.whole (unlisted (key, e) (subst (Contains es) same (Contains-get_or es place d l))) (λ j h. go e same j (listed
-      (key, j) h)))
+      sym (lowest 0 name fs e whole index.whole (unlisted (key, e) (subst (Contains es) same (Contains-get_or es place d l)))
+      (λ j h. go e same j (listed (key, j) h)))
     where
       go : (e : ℕ) → get_or es place d ≡ (key, e) → (j : ℕ) → Contains es (key, j) → e ≤ j
       go e same j (q, lq, at) =
@@ -391,7 +398,8 @@ distinct_names names es index h =
     let first : Entry → Halves = λ e. e.0 in
     let moved = IsPermutation-map first es (numbered 0 names) (IsPermutation-sym (numbered 0 names) es index.all) in
     subst (IsDistinct (eq_by_cmp halves_cmp)) (numbered_names 0 names)
-    (IsDistinct-IsPermutation (eq_by_cmp halves_cmp) (eq_by_cmp_equiv halves_total).symm (map first es) (map first (numbered 0 names)) moved h)
+    (IsDistinct-IsPermutation (eq_by_cmp halves_cmp) (eq_by_cmp_equiv halves_total).symm (map first es)
+    (map first (numbered 0 names)) moved h)
 
 names_differ : (f g : FileForm) → eq_by_cmp halves_cmp (halves_of f.head.name) (halves_of g.head.name) ≡ false → same_name f g ≡ false
 names_differ f g h = go (same_name f g) refl where
@@ -418,7 +426,8 @@ abbrev WantsName : (FileForm → FileForm → Bool) → Type 0
 WantsName test = (f g : FileForm) → same_name f g ≡ false → test f g ≡ false
 
 none_any : (test : FileForm → FileForm → Bool) → WantsName test → (f : FileForm) (fs : List FileForm)
-    → AllByRecursion (λ y. eq_by_cmp halves_cmp (halves_of f.head.name) y ≡ false) (map halves_of (names_in fs)) → list_any (test f) fs ≡ false
+    → AllByRecursion (λ y. eq_by_cmp halves_cmp (halves_of f.head.name) y ≡ false) (map halves_of (names_in fs))
+    → list_any (test f) fs ≡ false
 none_any test wants f [] all = refl
 none_any test wants f (g ∷ gs) all =
     neither (test f g) (list_any (test f) gs) (wants f g (names_differ f g all.0)) (none_any test wants f gs all.1)
@@ -439,7 +448,8 @@ not_itself true true = refl
 not_itself true false = refl
 not_itself false marked = refl
 
-kept_behind : (f : FileForm) (fs gs : List FileForm) → AllByRecursion (λ y. eq_by_cmp halves_cmp (halves_of f.head.name) y ≡ false) (map halves_of (names_in gs))
+kept_behind : (f : FileForm) (fs gs : List FileForm)
+    → AllByRecursion (λ y. eq_by_cmp halves_cmp (halves_of f.head.name) y ≡ false) (map halves_of (names_in gs))
     → AllByRecursion (λ g. list_any (replaces g) fs ≡ false) gs → AllByRecursion (λ g. list_any (replaces g) (f ∷ fs) ≡ false) gs
 kept_behind f fs [] all kept = tt
 kept_behind f fs (g ∷ gs) all kept = (

@@ -55,7 +55,8 @@ module _ (files : List Standing) where
       subst (λ (n : ℕ). map entry_at (range_with_len 0 n) ≡ numbered 0 (take n (names_in (map file_form files)))) (sym one)
       (ap (map entry_at) (range_push 0 i) ∙ map-append entry_at (range_with_len 0 i) ((0 + i) ∷ [])
       ∙ ap (λ (k : ℕ). map entry_at (range_with_len 0 i) ++ entry_at k ∷ []) z
-      ∙ ap (λ (es : List Entry). es ++ entry_at i ∷ []) (taken i (omega (arith, l))) ∙ sym (more_entries files i no_file (omega (arith, l))))
+      ∙ ap (λ (es : List Entry). es ++ entry_at i ∷ []) (taken i (omega (arith, l)))
+      ∙ sym (more_entries files i no_file (omega (arith, l))))
 
   entries_are : map entry_at (range_with_len 0 (length files)) ≡ numbered 0 (names_in (map file_form files))
   entries_are = taken (length files) (omega arith) ∙ ap (numbered 0) (all_taken files (length files) (omega arith))
@@ -66,8 +67,8 @@ module _ (files : List Standing) where
         ∙ length-range_with_len 0 (length files)
 
     pub key_below : (x : ℕ) → Contains (map f keys) x → x < length files
-    key_below x h = subst (λ (n : ℕ). x < n) zero_plus (range_below 0 (length files) x (Contains-permutation (map f keys) (range_with_len 0 (length files)) x (IsPermutation-sym
-        (range_with_len 0 (length files)) (map f keys) all) h))
+    key_below x h = subst (λ (n : ℕ). x < n) zero_plus (range_below 0 (length files) x (Contains-permutation (map f keys)
+        (range_with_len 0 (length files)) x (IsPermutation-sym (range_with_len 0 (length files)) (map f keys) all) h))
       where
         zero_plus : 0 + length files ≡ length files
         zero_plus = omega arith
@@ -75,7 +76,8 @@ module _ (files : List Standing) where
     pub key_within : (i : ℕ) → i < length keys → f (get_or keys i 0) < length files
     key_within i l =
         let at : i < length (map f keys) = omega (arith, l, length-map keys f) in
-        key_below (f (get_or keys i 0)) (subst (Contains (map f keys)) (get_or-map f keys i 0 (f 0) l) (Contains-get_or (map f keys) i (f 0) at))
+        key_below (f (get_or keys i 0))
+        (subst (Contains (map f keys)) (get_or-map f keys i 0 (f 0) l) (Contains-get_or (map f keys) i (f 0) at))
 
     maps : (ks : List ℕ) → map entry_at (map f ks) ≡ map (λ (k : ℕ). entry_at (f k)) ks
     maps [] = refl

@@ -90,7 +90,8 @@ pub none_rest : (b : List ℕ) (at : ℕ) → ((h : HeadFields) (e : Extent) →
     → (n : ℕ) → VolumeAt b at n → ⊥
 none_rest b at f n v = f v.0 v.1 (subst (λ l. BeginsVolume v.0 v.1 l) (sym (rest_is at b)) v.2)
 
-pub front_rest : (b : List ℕ) (at : ℕ) (h : HeadFields) (e : Extent) → BeginsVolume h e (take (length b - at) (drop at b)) → VolumeAt b at e.length
+pub front_rest : (b : List ℕ) (at : ℕ) (h : HeadFields) (e : Extent) → BeginsVolume h e (take (length b - at) (drop at b))
+    → VolumeAt b at e.length
 front_rest b at h e f = (h, e, subst (λ l. BeginsVolume h e l) (rest_is at b) f, refl)
 
 -- one list of places at most

@@ -62,7 +62,8 @@ has_of : (n k : ℕ) (b : List ℕ) (m : Meaning) → (d : Denotes n (take k b) 
 has_of n k b (Volume h fs) d = record { cells = d.cells; tiles = d.tiles; files = d.files; alive = d.alive; meanings = d.meanings }
 
 -- the volume's files, by a header that the bytes begin with
-pub has_files : (n k : ℕ) (b : List ℕ) (m : Meaning) (h : HeadFields) (e : Extent) → BeginsVolume h e b → k ≤ length b → Denotes n (take k b) m
+pub has_files : (n k : ℕ) (b : List ℕ) (m : Meaning) (h : HeadFields) (e : Extent) → BeginsVolume h e b → k ≤ length b
+    → Denotes n (take k b) m
     → (head_of m ≡ h) × (k ≡ e.length) × HasFiles (Stream n) e (take e.length b) (files_of m)
 has_files n k b m h e front within d =
     let other = front_of n k b m within d in

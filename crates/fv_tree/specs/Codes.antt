@@ -1,5 +1,5 @@
--- A meaning as a tree of numbers, by which two meanings are told apart. There is nothing to believe here: these are proofs, and stand
--- in specs/ since ghost members cite them.
+-- A meaning as a tree of numbers, by which two meanings are told apart. There is nothing to believe here: these are
+-- proofs, and stand in specs/ since ghost members cite them.
 -- Serves private clauses alone: there is nothing to believe here.
 use Rattle.std.specs.Prelude.{◌≡◌, ℕ, List, Bool, true, false, Option, refl}
 use Rattle.std.specs.Coded.{Coded, code_by, coded×, coded_ℕ, coded_bool, coded_list, coded_option}
@@ -10,8 +10,9 @@ use Rattle.fv_base.specs.declared.flash.FileSystem.TheVariants.{Ffs2, Ffs3}
 use Rattle.fv_base.specs.declared.guid.Guid.{Guid}
 use Rattle.fv_head.specs.Ext.{Extension}
 use Rattle.fv_head.specs.Head.{HeadFields}
-use Rattle.fv_tree.specs.Meaning.{Meaning, Volume, FileMeanings, NoFiles, MoreFiles, FileMeaning, File, ContentMeaning, Plain, Sectioned}
-use Rattle.fv_tree.specs.Meaning.{SectionMeanings, NoSections, MoreSections, SectionMeaning, Section, BodyMeaning, Leaf, Group, Nested}
+use Rattle.fv_tree.specs.Meaning.{Meaning, Volume, FileMeanings, NoFiles, MoreFiles, FileMeaning, File, ContentMeaning}
+use Rattle.fv_tree.specs.Meaning.{Plain, Sectioned, SectionMeanings, NoSections, MoreSections, SectionMeaning, Section}
+use Rattle.fv_tree.specs.Meaning.{BodyMeaning, Leaf, Group, Nested}
 use Rattle.fv_tree.specs.FileSystems.{is_ffs3}
 
 abbrev pub bytes_code : Coded (List ℕ)
@@ -33,14 +34,15 @@ system_code = code_by Bool coded_bool is_ffs3 system_by system_back
 
 abbrev pub extension_code : Coded Extension
 extension_code =
-    code_by (Guid × (List (ℕ × List ℕ) × List ℕ)) (coded× guid_code (coded× (coded_list (coded× coded_ℕ bytes_code)) bytes_code))
+    code_by (Guid × (List (ℕ × List ℕ) × List ℕ))
+    (coded× guid_code (coded× (coded_list (coded× coded_ℕ bytes_code)) bytes_code))
     (λ x. (x.name, (x.entries, x.tail))) (λ p. record { name = p.0; entries = p.1.0; tail = p.1.1 }) (λ _. refl)
 
 abbrev pub head_code : Coded HeadFields
 head_code =
     code_by (List ℕ × (FileSystem × (ℕ × (ℕ × (ℕ × (List (ℕ × ℕ) × Option Extension))))))
-    (coded× bytes_code (coded× system_code (coded× coded_ℕ (coded× coded_ℕ (coded× coded_ℕ (coded× (coded_list (coded× coded_ℕ coded_ℕ))
-    (coded_option extension_code)))))))
+    (coded× bytes_code (coded× system_code (coded× coded_ℕ
+    (coded× coded_ℕ (coded× coded_ℕ (coded× (coded_list (coded× coded_ℕ coded_ℕ)) (coded_option extension_code)))))))
     (λ h. (h.zero_vector, (h.file_system, (h.length, (h.attributes, (h.reserved, (h.blocks, h.ext)))))))
     (λ p. record {
       zero_vector = p.0;

@@ -1,6 +1,6 @@
 -- Which bytes are a volume of a meaning: one recursion on how deep groups and opened volumes nest.
-use Rattle.std.specs.Prelude.{◌≡◌, ◌≢◌, ℕ, zero, suc, ◌≤◌, ◌==◌, ◌&&◌, ◌||◌, Bool, true, false, nat_le, List, [], ◌∷◌, length}
-use Rattle.std.specs.Prelude.{drop}
+use Rattle.std.specs.Prelude.{◌≡◌, ◌≢◌, ℕ, zero, suc, ◌≤◌, ◌==◌, ◌&&◌, ◌||◌, Bool, true, false, nat_le, List, [], ◌∷◌}
+use Rattle.std.specs.Prelude.{length, drop}
 use Rattle.fv_base.specs.Limits.{volume_limit}
 use Rattle.fv_base.specs.Value.{IsBytes, field, le_at}
 use Rattle.fv_base.specs.declared.flash.FileSystem.{FileSystem}
@@ -11,11 +11,11 @@ use Rattle.fv_head.specs.Head.{BeginsVolume, signature_bytes, system_guid}
 use Rattle.fv_head.specs.declared.extent.Extent.{Extent}
 use Rattle.fv_section.specs.Frames.{FrameForm, Splits, FrameStandsAt}
 use Rattle.fv_tree.specs.Files.{FileForm, Alive}
-use Rattle.fv_tree.specs.Meaning.{Meaning, FileMeaning, File, ContentMeaning, Plain, Sectioned, SectionMeaning, Section, BodyMeaning, Leaf}
-use Rattle.fv_tree.specs.Meaning.{Group, Nested, sections_list, head_of, files_of}
+use Rattle.fv_tree.specs.Meaning.{Meaning, FileMeaning, File, ContentMeaning, Plain, Sectioned, SectionMeaning, Section}
+use Rattle.fv_tree.specs.Meaning.{BodyMeaning, Leaf, Group, Nested, sections_list, head_of, files_of}
 
--- the type of a section that groups others, and that of one which may hold a volume (section 3.2.5, EFI_SECTION_DISPOSABLE and
--- EFI_SECTION_FIRMWARE_VOLUME_IMAGE)
+-- the type of a section that groups others, and that of one which may hold a volume (section 3.2.5,
+-- EFI_SECTION_DISPOSABLE and EFI_SECTION_FIRMWARE_VOLUME_IMAGE)
 abbrev pub group_kind : ℕ
 group_kind = 0x03
 
@@ -29,7 +29,8 @@ pub record Opens (b : List ℕ) : Type 0 where
   pub file_system : (system : FileSystem) × (field 16 16 b ≡ system_guid system)
   pub whole : le_at 32 8 b ≡ length b
 
--- the types of files that hold sections (section 3.2.3, EFI_FV_FILETYPE_FREEFORM and those from EFI_FV_FILETYPE_PEI_CORE on)
+-- the types of files that hold sections (section 3.2.3, EFI_FV_FILETYPE_FREEFORM and those from
+-- EFI_FV_FILETYPE_PEI_CORE on)
 abbrev pub holds_sections : ℕ → Bool
 holds_sections kind = (kind == 0x02) || (nat_le 0x04 kind && nat_le kind 0x0f)
 
@@ -54,12 +55,14 @@ Volumes = List ℕ → Meaning → Type 0
 
 -- the bytes are a stream of these sections, with so many bytes behind the last
 abbrev pub StreamOver : Sections → Streams
-StreamOver is_section sections tail b = (frames : List FrameForm) × Splits frames tail b × Pairs is_section frames sections
+StreamOver is_section sections tail b =
+    (frames : List FrameForm) × Splits frames tail b × Pairs is_section frames sections
 
 -- the data of a file of this type are this content
 abbrev pub MeansContent : Streams → ℕ → List ℕ → ContentMeaning → Type 0
 MeansContent is_stream kind payload (Plain b) = (holds_sections kind ≡ false) × (b ≡ payload)
-MeansContent is_stream kind payload (Sectioned sections tail) = (holds_sections kind ≡ true) × is_stream (sections_list sections) tail payload
+MeansContent is_stream kind payload (Sectioned sections tail) =
+    (holds_sections kind ≡ true) × is_stream (sections_list sections) tail payload
 
 -- what lies in the volume is this file
 abbrev pub MeansFile : Streams → FileForm → FileMeaning → Type 0
@@ -67,8 +70,8 @@ MeansFile is_stream f (File name kind attributes content) =
     (name ≡ f.head.name) × (kind ≡ f.head.kind) × (attributes ≡ without_large (attribute_bits f.head.attributes))
     × MeansContent is_stream kind f.payload content
 
--- the bytes are a volume of this meaning: they begin with its header, cells tile the rest from the first file's place on, and the
--- files of these cells are its files
+-- the bytes are a volume of this meaning: they begin with its header, cells tile the rest from the first file's place
+-- on, and the files of these cells are its files
 pub record VolumeOver (is_stream : Streams) (b : List ℕ) (m : Meaning) : Type 0 where
   pub extent : Extent
   pub front : BeginsVolume (head_of m) extent b
@@ -79,10 +82,13 @@ pub record VolumeOver (is_stream : Streams) (b : List ℕ) (m : Meaning) : Type 
   pub alive : Alive extent.length cells files
   pub meanings : Pairs (MeansFile is_stream) files (files_of m)
 
--- the frame's bytes are this body: those of a group are a stream, those that are opened a volume, and all others are a leaf
+-- the frame's bytes are this body: those of a group are a stream, those that are opened a volume,
+-- and all others are a leaf
 abbrev pub MeansBody : Streams → Volumes → FrameForm → BodyMeaning → Type 0
-MeansBody is_stream is_volume f (Leaf b) = (f.kind ≢ group_kind) × (f.kind ≡ volume_kind → Opens f.body → ⊥) × (b ≡ f.body)
-MeansBody is_stream is_volume f (Group sections tail) = (f.kind ≡ group_kind) × is_stream (sections_list sections) tail f.body
+MeansBody is_stream is_volume f (Leaf b) =
+    (f.kind ≢ group_kind) × (f.kind ≡ volume_kind → Opens f.body → ⊥) × (b ≡ f.body)
+MeansBody is_stream is_volume f (Group sections tail) =
+    (f.kind ≡ group_kind) × is_stream (sections_list sections) tail f.body
 MeansBody is_stream is_volume f (Nested volume) = (f.kind ≡ volume_kind) × Opens f.body × is_volume f.body volume
 
 abbrev pub SectionOver : Streams → Volumes → Sections
@@ -96,7 +102,8 @@ abbrev pub MeansSection : ℕ → Sections
 MeansSection zero = SectionOver (λ _ _ _. ⊥) (λ _ _. ⊥)
 MeansSection (suc n) = SectionOver (StreamOver (MeansSection n)) (VolumeOver (StreamOver (MeansSection n)))
 
--- the bytes are a stream of these sections, with so many bytes behind the last, in which groups and volumes nest at most n deep
+-- the bytes are a stream of these sections, with so many bytes behind the last, in which groups and
+-- volumes nest at most n deep
 abbrev pub Stream : ℕ → Streams
 Stream n = StreamOver (MeansSection n)
 

@@ -7,8 +7,9 @@ use Rattle.fv_base.specs.Guids.{bytes_of}
 use Rattle.fv_head.specs.Ext.{Extension}
 use Rattle.fv_head.specs.Head.{HeadFields}
 use Rattle.fv_tree.specs.FileSystems.{is_ffs3}
-use Rattle.fv_tree.specs.Meaning.{Meaning, Volume, FileMeanings, NoFiles, MoreFiles, FileMeaning, File, ContentMeaning, Plain, Sectioned}
-use Rattle.fv_tree.specs.Meaning.{SectionMeanings, NoSections, MoreSections, SectionMeaning, Section, BodyMeaning, Leaf, Group, Nested}
+use Rattle.fv_tree.specs.Meaning.{Meaning, Volume, FileMeanings, NoFiles, MoreFiles, FileMeaning, File, ContentMeaning}
+use Rattle.fv_tree.specs.Meaning.{Plain, Sectioned, SectionMeanings, NoSections, MoreSections, SectionMeaning, Section}
+use Rattle.fv_tree.specs.Meaning.{BodyMeaning, Leaf, Group, Nested}
 use Rattle.fv_tree.specs.declared.difference.Step.{Step}
 use Rattle.fv_tree.specs.declared.difference.Step.TheVariants as steps
 use Rattle.fv_tree.specs.declared.difference.Word.{Word}
@@ -32,7 +33,8 @@ abbrev pub ext_eq : Option Extension → Option Extension → Bool
 ext_eq None None = true
 ext_eq None (Some y) = false
 ext_eq (Some x) None = false
-ext_eq (Some x) (Some y) = bytes_eq (bytes_of x.name) (bytes_of y.name) && entries_eq x.entries y.entries && bytes_eq x.tail y.tail
+ext_eq (Some x) (Some y) =
+    bytes_eq (bytes_of x.name) (bytes_of y.name) && entries_eq x.entries y.entries && bytes_eq x.tail y.tail
 
 -- ---- a place and a word
 
@@ -80,7 +82,8 @@ abbrev mutual
   files_differ i NoFiles NoFiles = None
   files_differ i NoFiles (MoreFiles g gs) = differ_in words.FileCount
   files_differ i (MoreFiles f fs) NoFiles = differ_in words.FileCount
-  files_differ i (MoreFiles f fs) (MoreFiles g gs) = or_else (under (steps.File i) (file_differs f g)) (files_differ (i + 1) fs gs)
+  files_differ i (MoreFiles f fs) (MoreFiles g gs) =
+      or_else (under (steps.File i) (file_differs f g)) (files_differ (i + 1) fs gs)
 
   pub file_differs : FileMeaning → FileMeaning → Differs
   file_differs (File n k a c) (File m l b d) =

@@ -16,7 +16,8 @@ abbrev pub outermost_first : Differs → Differs
 outermost_first None = None
 outermost_first (Some d) = Some (reverse d.0, d.1)
 
--- what a walk answers: where the two first differ, with the steps from the inmost out; memory is wanted only where they do
+-- what a walk answers: where the two first differ, with the steps from the inmost out; memory is
+-- wanted only where they do
 abbrev pub AnswersDifference : Result Differs Fault → Differs → Type 0
 AnswersDifference (Ok o) d = outermost_first o ≡ d
 AnswersDifference (Err f) d = (f ≡ want_of_memory) × (d ≢ None)

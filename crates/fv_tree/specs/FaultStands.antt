@@ -1,5 +1,5 @@
--- Where the condition of a fault stands: at its place in the bytes, whatever else is wrong with them (PI specification, volume 3,
--- sections 3.2.1 to 3.2.4).
+-- Where the condition of a fault stands: at its place in the bytes, whatever else is wrong with them (PI specification,
+-- volume 3, sections 3.2.1 to 3.2.4).
 use Rattle.std.specs.Prelude.{◌≡◌, ℕ, zero, suc, ◌+◌, ◌%◌, ◌<◌, ◌⊎◌, true, false, List, ◌∷◌, ◌++◌, length, take, drop}
 use Rattle.std.specs.List.{list_any}
 use Rattle.fv_base.specs.Checks.{Check}
@@ -22,7 +22,8 @@ use Rattle.fv_tree.specs.FirstFault.{moved_fault, Faulty, FrameFaulty, body_plac
 -- a check of the table does not hold, and this is its fault
 abbrev pub Fails : List (Check Fault) → Fault → Type 0
 Fails cs f =
-    (before : List (Check Fault)) × (c : Check Fault) × (after : List (Check Fault)) × (cs ≡ before ++ (c ∷ after)) × (c.holds ≡ false)
+    (before : List (Check Fault)) × (c : Check Fault) × (after : List (Check Fault)) × (cs ≡ before ++ (c ∷ after))
+    × (c.holds ≡ false)
     × (f ≡ c.fault)
 
 -- one of the items is such
@@ -39,7 +40,8 @@ pub record FrameFails (b : List ℕ) (f : Fault) : Type 0 where
   pub inside : at < length b
   pub fails : Fails (frame_checks at (drop at b)) f
 
--- a check of a cell fails at a place up to which cells, none of them free, tile the body; from there on not all is erased
+-- a check of a cell fails at a place up to which cells, none of them free, tile the body; from
+-- there on not all is erased
 pub record CellFails (x : Extent) (body : List ℕ) (f : Fault) : Type 0 where
   pub cells : List CellForm
   pub at : ℕ
@@ -51,7 +53,8 @@ pub record CellFails (x : Extent) (body : List ℕ) (f : Fault) : Type 0 where
 
 -- the file has a twin among those before it
 abbrev pub HasTwin : FileForm → List FileForm → Type 0
-HasTwin f fs = (before : List FileForm) × (after : List FileForm) × (fs ≡ before ++ (f ∷ after)) × (list_any (is_twin f) before ≡ true)
+HasTwin f fs = (before : List FileForm) × (after : List FileForm) × (fs ≡ before ++ (f ∷ after))
+    × (list_any (is_twin f) before ≡ true)
 
 -- in a stream: a check of a section header fails, or the fault stands in one of its sections
 abbrev pub InStream : FrameFaulty → Faulty
@@ -59,12 +62,15 @@ InStream in_section e b base depth =
     ((f : Fault) × FrameFails b f × (e ≡ moved_fault base depth f))
     ⊎ ((frames : List FrameForm) × (tail : ℕ) × Splits frames tail b × SomeOf (λ f. in_section e f base depth) frames)
 
--- among the files of a body: the later of two twins, a volume top file that is not at the end, or in the stream of one that is alive
+-- among the files of a body: the later of two twins, a volume top file that is not at the end, or in the
+-- stream of one that is alive
 abbrev pub InFiles : Faulty → ℕ → Fault → List FileForm → ℕ → ℕ → Type 0
 InFiles in_stream length e fs base depth =
     ((f : FileForm) × HasTwin f fs × (e ≡ moved_fault base depth (outer_fault kinds.DuplicateName f.offset)))
-    ⊎ ((f : FileForm) × TopElsewhere length f (alive_in fs) × (e ≡ moved_fault base depth (outer_fault kinds.TopFile f.offset)))
-    ⊎ SomeOf (λ f. (holds_sections f.head.kind ≡ true) × in_stream e f.payload (base + data_place f) depth) (alive_in fs)
+    ⊎ ((f : FileForm) × TopElsewhere length f (alive_in fs)
+    × (e ≡ moved_fault base depth (outer_fault kinds.TopFile f.offset)))
+    ⊎ SomeOf
+    (λ f. (holds_sections f.head.kind ≡ true) × in_stream e f.payload (base + data_place f) depth) (alive_in fs)
 
 -- in a volume: a check of its head or of a cell fails, or the fault stands among its files
 abbrev pub InVolume : Faulty → Faulty
@@ -75,13 +81,16 @@ InVolume in_stream e b base depth =
     ⊎ ((cells : List CellForm) × Tiles x.file_system x.polarity x.first cells (drop x.first (take x.length b))
     × InFiles in_stream x.length e (files_in cells) base depth)))
 
--- in a group or an opened volume: it lies too deep, where no level is left, or the fault stands in what it holds, one level deeper
+-- in a group or an opened volume: it lies too deep, where no level is left, or the fault stands in what
+-- it holds, one level deeper
 abbrev pub InSection : ℕ → FrameFaulty
 InSection zero e f base depth =
-    ((f.kind ≡ group_kind) ⊎ ((f.kind ≡ volume_kind) × Opens f.body)) × (e ≡ moved_fault base depth (outer_fault kinds.Depth f.offset))
+    ((f.kind ≡ group_kind) ⊎ ((f.kind ≡ volume_kind) × Opens f.body))
+    × (e ≡ moved_fault base depth (outer_fault kinds.Depth f.offset))
 InSection (suc n) e f base depth =
     ((f.kind ≡ group_kind) × InStream (InSection n) e f.body (base + body_place f) (depth + 1))
-    ⊎ ((f.kind ≡ volume_kind) × Opens f.body × InVolume (InStream (InSection n)) e f.body (base + body_place f) (depth + 1))
+    ⊎ ((f.kind ≡ volume_kind) × Opens f.body
+    × InVolume (InStream (InSection n)) e f.body (base + body_place f) (depth + 1))
 
 -- the condition of e stands in the volume that the bytes begin with, at e's place, counted from their first one
 abbrev pub FaultStands : List ℕ → Fault → Type 0

@@ -1,4 +1,5 @@
--- The first fault of bytes that are no volume: by the recursion of what bytes denote, in the order in which a volume is read.
+-- The first fault of bytes that are no volume: by the recursion of what bytes denote, in the order
+-- in which a volume is read.
 use Rattle.std.specs.Prelude.{◌≡◌, ℕ, zero, suc, ◌+◌, ◌⊎◌, true, List, [], ◌∷◌, ◌++◌, take, drop}
 use Rattle.std.specs.List.{list_any}
 use Rattle.fv_base.specs.Checks.{IsFirstFault}
@@ -13,8 +14,8 @@ use Rattle.fv_head.specs.declared.extent.Extent.{Extent}
 use Rattle.fv_section.specs.FrameChecks as section
 use Rattle.fv_section.specs.Frames.{FrameForm, Splits, section_header_len}
 use Rattle.fv_tree.specs.Files.{FileForm, files_in, is_twin, NoTwins, alive_in, is_top, end_of, TopAtEnd}
-use Rattle.fv_tree.specs.Denotes.{group_kind, volume_kind, Opens, holds_sections, Pairs, Sections, Streams, MeansFile, MeansSection, Stream}
-use Rattle.fv_tree.specs.Denotes.{depth_limit}
+use Rattle.fv_tree.specs.Denotes.{group_kind, volume_kind, Opens, holds_sections, Pairs, Sections, Streams, MeansFile}
+use Rattle.fv_tree.specs.Denotes.{MeansSection, Stream, depth_limit}
 
 -- a fault of bytes that begin at a place and lie so deep
 abbrev pub moved_fault : ℕ → ℕ → Fault → Fault
@@ -38,13 +39,15 @@ data_place f = f.offset + f.head.header_len
 -- the first item that is refused, behind ones that are read, has a fault
 abbrev pub FirstOf : {A B : Type 0} → (A → B → Type 0) → (A → Type 0) → List A → Type 0
 FirstOf {A} {B} R fault xs =
-    (before : List A) × (x : A) × (after : List A) × (read : List B) × (xs ≡ before ++ (x ∷ after)) × Pairs R before read × fault x
+    (before : List A) × (x : A) × (after : List A) × (read : List B) × (xs ≡ before ++ (x ∷ after))
+    × Pairs R before read × fault x
 
 -- the stream is not cut into frames; or it is, and e is the fault of the first section that is refused
 abbrev pub StreamFirst : Sections → FrameFaulty → Faulty
 StreamFirst is_section in_section e b base depth =
     ((f : Fault) × section.IsFirstFrameFault b f × (e ≡ moved_fault base depth f))
-    ⊎ ((frames : List FrameForm) × (tail : ℕ) × Splits frames tail b × FirstOf is_section (λ f. in_section e f base depth) frames)
+    ⊎ ((frames : List FrameForm) × (tail : ℕ) × Splits frames tail b
+    × FirstOf is_section (λ f. in_section e f base depth) frames)
 
 -- f is the first of the files that has a twin among those before it
 abbrev pub FirstTwin : FileForm → List FileForm → Type 0
@@ -60,22 +63,25 @@ TopElsewhere length f fs =
 
 -- e is the fault of the data of a file that holds sections
 abbrev pub FileFirst : Faulty → Fault → FileForm → ℕ → ℕ → Type 0
-FileFirst in_stream e f base depth = (holds_sections f.head.kind ≡ true) × in_stream e f.payload (base + data_place f) depth
+FileFirst in_stream e f base depth =
+    (holds_sections f.head.kind ≡ true) × in_stream e f.payload (base + data_place f) depth
 
--- of the files that stand in a volume of this length: the later of two twins; a volume top file that is not at the end; or the
--- fault of the first file whose data are no stream
+-- of the files that stand in a volume of this length: the later of two twins; a volume top file that is not at the end;
+-- or the fault of the first file whose data are no stream
 abbrev pub FilesFirst : Streams → Faulty → ℕ → Fault → List FileForm → ℕ → ℕ → Type 0
 FilesFirst is_stream in_stream length e fs base depth =
     ((f : FileForm) × FirstTwin f fs × (e ≡ moved_fault base depth (outer_fault kinds.DuplicateName f.offset)))
     ⊎ (NoTwins fs
-    × (((f : FileForm) × TopElsewhere length f (alive_in fs) × (e ≡ moved_fault base depth (outer_fault kinds.TopFile f.offset)))
+    × (((f : FileForm) × TopElsewhere length f (alive_in fs)
+    × (e ≡ moved_fault base depth (outer_fault kinds.TopFile f.offset)))
     ⊎ (TopAtEnd length (alive_in fs)
     × FirstOf (MeansFile is_stream) (λ f. FileFirst in_stream e f base depth) (alive_in fs))))
 
 -- no cells tile the volume's body; or some do, and e is the fault of its files
 abbrev pub BodyFirst : Streams → Faulty → Extent → Faulty
 BodyFirst is_stream in_stream x e volume base depth =
-    ((f : Fault) × file.IsFirstCellFault x.file_system x.polarity x.first (drop x.first volume) f × (e ≡ moved_fault base depth f))
+    ((f : Fault) × file.IsFirstCellFault x.file_system x.polarity x.first (drop x.first volume) f
+    × (e ≡ moved_fault base depth f))
     ⊎ ((cells : List CellForm) × Tiles x.file_system x.polarity x.first cells (drop x.first volume)
     × FilesFirst is_stream in_stream x.length e (files_in cells) base depth)
 
@@ -83,14 +89,17 @@ BodyFirst is_stream in_stream x e volume base depth =
 abbrev pub VolumeFirst : Streams → Faulty → Faulty
 VolumeFirst is_stream in_stream e b base depth =
     ((f : Fault) × IsFirstFault (head_checks b) f × (e ≡ moved_fault base depth f))
-    ⊎ ((h : HeadFields) × (x : Extent) × BeginsVolume h x b × BodyFirst is_stream in_stream x e (take x.length b) base depth)
+    ⊎ ((h : HeadFields) × (x : Extent) × BeginsVolume h x b
+    × BodyFirst is_stream in_stream x e (take x.length b) base depth)
 
 -- ---- the recursion
 
--- e is the first fault of this frame, which is a group or is opened as a volume: it lies too deep, or its body is refused
+-- e is the first fault of this frame, which is a group or is opened as a volume: it lies too
+-- deep, or its body is refused
 abbrev pub SectionFirst : ℕ → FrameFaulty
 SectionFirst zero e f base depth =
-    ((f.kind ≡ group_kind) ⊎ ((f.kind ≡ volume_kind) × Opens f.body)) × (e ≡ moved_fault base depth (outer_fault kinds.Depth f.offset))
+    ((f.kind ≡ group_kind) ⊎ ((f.kind ≡ volume_kind) × Opens f.body))
+    × (e ≡ moved_fault base depth (outer_fault kinds.Depth f.offset))
 SectionFirst (suc n) e f base depth =
     ((f.kind ≡ group_kind) × StreamFirst (MeansSection n) (SectionFirst n) e f.body (base + body_place f) (depth + 1))
     ⊎ ((f.kind ≡ volume_kind) × Opens f.body

@@ -25,8 +25,8 @@ Apart b (o ∷ os) = AllByRecursion (LiesBehind b o) os × Apart b os
 abbrev pub IsCovered : List ℕ → List ℕ → ℕ → Type 0
 IsCovered b os k = (o : ℕ) × (n : ℕ) × Contains os o × VolumeAt b o n × (o ≤ k) × (k < o + n)
 
--- the volumes of b begin at these places: each of them is one at which a volume begins, they rise and their volumes lie apart, and no
--- volume begins at a multiple of 8 that lies in none of these
+-- the volumes of b begin at these places: each of them is one at which a volume begins, they rise and their volumes lie
+-- apart, and no volume begins at a multiple of 8 that lies in none of these
 pub record Found (b os : List ℕ) : Type 0 where
   pub places : AllByRecursion (IsPlace b) os
   pub apart : Apart b os

@@ -2,8 +2,8 @@
 use Rattle.std.specs.Prelude.{ℕ, ◌+◌, ◌==◌, ◌++◌, zero, suc, List, [], ◌∷◌, Option, Some, None, option_map, slice_get}
 use Rattle.std.specs.List.{filter}
 use Rattle.fv_section.specs.Frames.{FrameForm}
-use Rattle.fv_tree.specs.Meaning.{FileMeaning, file_kind_of, SectionMeaning, Section, SectionMeanings, NoSections, MoreSections}
-use Rattle.fv_tree.specs.Meaning.{BodyMeaning, Leaf, Group, Nested, section_kind_of}
+use Rattle.fv_tree.specs.Meaning.{FileMeaning, file_kind_of, SectionMeaning, Section, SectionMeanings, NoSections}
+use Rattle.fv_tree.specs.Meaning.{MoreSections, BodyMeaning, Leaf, Group, Nested, section_kind_of}
 
 -- the number of the file after the one of this number, or of the first
 abbrev pub number_after : Option ℕ → ℕ

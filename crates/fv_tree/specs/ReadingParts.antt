@@ -43,13 +43,16 @@ AliveFirst length fs e =
 -- the first fault of such a body: that of its cells, or of which of their files are part of the volume
 abbrev pub StandFirst : Extent → Faulty
 StandFirst x e volume base depth =
-    ((f : Fault) × file.IsFirstCellFault x.file_system x.polarity x.first (drop x.first volume) f × (e ≡ moved_fault base depth f))
+    ((f : Fault) × file.IsFirstCellFault x.file_system x.polarity x.first (drop x.first volume) f
+    × (e ≡ moved_fault base depth f))
     ⊎ ((cells : List CellForm) × Tiles x.file_system x.polarity x.first cells (drop x.first volume)
     × (f : Fault) × AliveFirst x.length (files_in cells) f × (e ≡ moved_fault base depth f))
 
--- a file stands in some bytes, its data are not above the limit, and end below 2 ^ 63 where the volume begins at this place
+-- a file stands in some bytes, its data are not above the limit, and end below 2 ^ 63 where the
+-- volume begins at this place
 abbrev pub IsReadyFile : ℕ → FileForm → Type 0
-IsReadyFile base f = IsStoredFile f × (base + data_place f + length f.payload < 2 ^ 63) × (length f.payload ≤ volume_limit)
+IsReadyFile base f =
+    IsStoredFile f × (base + data_place f + length f.payload < 2 ^ 63) × (length f.payload ≤ volume_limit)
 
 abbrev pub AllStored : ℕ → List FileForm → Type 0
 AllStored base fs = AllByRecursion (IsReadyFile base) fs

@@ -1,11 +1,12 @@
 //! The files of a volume: which of the files that stand in its body are part of it.
 
-ghost use Rattle.std.specs.Prelude.{◌≡◌, ◌≢◌, ◌≤◌, ◌<◌, ◌^◌, ◌⊎◌, ◌==◌, ◌&&◌, ◌||◌, not, List, [], ◌∷◌, map, length as length_of};
-ghost use Rattle.std.specs.Prelude.{IfOk, IfErr, OnOk, IfSome, IfNone};
+ghost use Rattle.std.specs.Prelude.{◌≡◌, ◌≢◌, ◌≤◌, ◌<◌, ◌^◌, ◌⊎◌, ◌==◌, ◌&&◌, ◌||◌, not, List, [], ◌∷◌, map};
+ghost use Rattle.std.specs.Prelude.{length as length_of, IfOk, IfErr, OnOk, IfSome, IfNone};
 ghost use Rattle.std.specs.List.{list_any, AllByRecursion};
 ghost use Rattle.fv_base.specs.Faults.{outer_fault, want_of_memory};
 ghost use Rattle.fv_file.specs.CellForms as cellular;
-ghost use Rattle.fv_tree.specs.Files.{FileForm, NoTwins, TopAtEnd, files_in, alive_in, is_marked, is_top, end_of, replaces};
+ghost use Rattle.fv_tree.specs.Files.{FileForm, NoTwins, TopAtEnd, files_in, alive_in, is_marked, is_top, end_of};
+ghost use Rattle.fv_tree.specs.Files.{replaces};
 ghost use Rattle.fv_tree.specs.FirstFault.{FirstTwin, TopElsewhere};
 ghost use Rattle.fv_tree.specs.ReadingParts.{AreAlive, AliveFirst};
 ghost use Rattle.fv_tree.specs.NameOrders.{HasNames, names_in};
@@ -83,7 +84,8 @@ pub(crate) fn files_of<'a>(alloc: Global, cells: &[Cell<'a>]) -> Result<Vec<Stan
 
 // The names of the files, each with whether the file is marked, or the first of two twins.
 fn names_of(alloc: Global, files: &[Standing]) -> Result<BTreeSet<(Guid, bool)>, Fault>
-    ensures found { IfOk result (λ names. NoTwins (map file_form files.now) × HasNames names (map file_form files.now)) }
+    ensures found { IfOk result
+        (λ names. NoTwins (map file_form files.now) × HasNames names (map file_form files.now)) }
     ensures first { IfErr result (λ e. (e ≡ want_of_memory) ⊎ ((f : FileForm) × FirstTwin f (map file_form files.now)
         × (e ≡ outer_fault FaultKind.DuplicateName f.offset))) }
 {
@@ -97,7 +99,8 @@ fn names_of(alloc: Global, files: &[Standing]) -> Result<BTreeSet<(Guid, bool)>,
 
 // Whether none of the files that have these names replaces the file.
 fn is_kept(file: &Standing, names: &BTreeSet<(Guid, bool)>) -> bool
-    ensures { (fs : List FileForm) → HasNames names.now fs → result ≡ not (list_any (replaces (file_form file.now)) fs) }
+    ensures { (fs : List FileForm) → HasNames names.now fs
+        → result ≡ not (list_any (replaces (file_form file.now)) fs) }
 {
     !is_marked(file.head.state) || !names.contains(&(file.head.name, false))
 }

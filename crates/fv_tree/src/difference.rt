@@ -192,7 +192,8 @@ fn stream_difference(
     others: &[SectionView],
     other_tail: u8,
 ) -> Result<Option<Difference>, Fault>
-    ensures { AnswersDifference result (or_else (sections_differ 0 (sections_from sections.now) (sections_from others.now)) (unless_one (tail == other_tail) words.Tail)) }
+    ensures { AnswersDifference result (or_else (sections_differ 0 (sections_from sections.now)
+        (sections_from others.now)) (unless_one (tail == other_tail) words.Tail)) }
 {
     for (i, section) in sections.iter().enumerate() {
         let Some(other) = others.get(i) else {

@@ -6,7 +6,8 @@ ghost use Rattle.std.specs.List.Sorted.{IsPermutation};
 ghost use Rattle.std.specs.Ordering.{eq_by_cmp};
 ghost use Rattle.fv_base.specs.Faults.{want_of_memory};
 ghost use Rattle.fv_tree.specs.Meaning.{FileMeaning};
-ghost use Rattle.fv_tree.specs.Names.{HasNumbers, IsIndex, IsName, IsSixteenBytes, entry_cmp, halves_cmp, halves_in, halves_of};
+ghost use Rattle.fv_tree.specs.Names.{HasNumbers, IsIndex, IsName, IsSixteenBytes, entry_cmp, halves_cmp, halves_in};
+ghost use Rattle.fv_tree.specs.Names.{halves_of};
 ghost use Rattle.fv_tree.specs.NameOrders.{names_in, number_from};
 ghost use Rattle.fv_tree.specs.StandingForms.{file_form};
 
@@ -49,12 +50,13 @@ fn bits_for(count: usize) -> u32
     (count + 1).ilog2() + 1
 }
 
-// A key for each file: its number in the low bits, below the high bits of the first half of its name. Keys are quick to sort,
-// and hardly two names have the same high bits, so that the order of the keys is mostly that of the names.
+// A key for each file: its number in the low bits, below the high bits of the first half of its name. Keys are quick to
+// sort, and hardly two names have the same high bits, so that the order of the keys is mostly that of the names.
 fn sorted_keys(alloc: Global, files: &[Standing], bits: u32) -> Result<Vec<u64>, Fault>
     requires room { length files.now ≤ 2 ^ bits }
     requires bits { bits < 64 }
-    ensures numbers { IfOk result (λ keys. IsPermutation (range_with_len 0 (length files.now)) (map (λ key. key % 2 ^ bits) keys.items)) }
+    ensures numbers { IfOk result
+        (λ keys. IsPermutation (range_with_len 0 (length files.now)) (map (λ key. key % 2 ^ bits) keys.items)) }
     ensures whole { IfOk result (λ _. AllByRecursion IsName (names_in (map file_form files.now))) }
     ensures err { IfErr result (λ f. f ≡ want_of_memory) }
 {

@@ -10,10 +10,10 @@ ghost use Rattle.fv_section.specs.Frames.{FrameForm, section_header_len, frame_l
 ghost use Rattle.fv_section.specs.FrameForms as framed;
 ghost use Rattle.fv_tree.specs.Meaning.{Meaning, FileMeaning, SectionMeaning, length_of};
 ghost use Rattle.fv_tree.specs.Files.{FileForm};
-ghost use Rattle.fv_tree.specs.Denotes.{Pairs, MeansFile, MeansSection, Stream, Denotes, Accepted, depth_limit, holds_sections, IsStoredFile};
-ghost use Rattle.fv_tree.specs.Denotes.{IsStoredFrame};
-ghost use Rattle.fv_tree.specs.FirstFault.{moved_fault, FirstInStream, FirstInVolume, SectionFirst, BodyFirst, FirstOf, FileFirst};
-ghost use Rattle.fv_tree.specs.FirstFault.{IsFirstOfVolume, body_place, data_place};
+ghost use Rattle.fv_tree.specs.Denotes.{Pairs, MeansFile, MeansSection, Stream, Denotes, Accepted, depth_limit};
+ghost use Rattle.fv_tree.specs.Denotes.{holds_sections, IsStoredFile, IsStoredFrame};
+ghost use Rattle.fv_tree.specs.FirstFault.{moved_fault, FirstInStream, FirstInVolume, SectionFirst, BodyFirst, FirstOf};
+ghost use Rattle.fv_tree.specs.FirstFault.{FileFirst, IsFirstOfVolume, body_place, data_place};
 ghost use Rattle.fv_tree.specs.FaultStands.{FaultStands};
 ghost use Rattle.fv_tree.specs.ReadingParts.{HasFiles, StandIn, StandFirst, AllStored, ReadsContent};
 ghost use Rattle.fv_tree.specs.Names.{HasNumbers, IsIndex};
@@ -41,7 +41,8 @@ const VOLUME: u8 = 0x17;
 // A fault of bytes that begin at this place.
 fn within(fault: Fault, place: Place) -> Fault
     requires { place.offset + fault.place.offset < 2 ^ 64 }
-    ensures moved { result ≢ want_of_memory → (fault ≢ want_of_memory) × (result ≡ moved_fault place.offset place.depth fault) }
+    ensures moved { result ≢ want_of_memory
+        → (fault ≢ want_of_memory) × (result ≡ moved_fault place.offset place.depth fault) }
     ensures kind { result.kind ≡ fault.kind }
 {
     if matches!(fault.kind, FaultKind::OutOfMemory) {
@@ -89,13 +90,16 @@ fn shape_of(frame: &Frame) -> Shape
     Shape::Leaf
 }
 
-// Where the body of a frame begins in what was handed in, and how many levels may nest in it; none may where no level is left.
+// Where the body of a frame begins in what was handed in, and how many levels may nest in it; none
+// may where no level is left.
 fn deeper(frame: &Frame, place: Place, left: u8) -> Result<(Place, u8), Fault>
     requires place { place.offset + frame.now.offset + frame_len (framed.frame_form frame.now) < 2 ^ 63 }
     requires depth { place.depth + left ≤ depth_limit }
-    ensures ok { IfOk result (λ r. (left ≡ r.1 + 1) × (r.0.offset ≡ place.offset + body_place (framed.frame_form frame.now))
+    ensures ok { IfOk result
+        (λ r. (left ≡ r.1 + 1) × (r.0.offset ≡ place.offset + body_place (framed.frame_form frame.now))
         × (r.0.depth ≡ place.depth + 1)) }
-    ensures err { IfErr result (λ f. (left ≡ 0) × (f ≡ moved_fault place.offset place.depth (outer_fault FaultKind.Depth frame.now.offset))) }
+    ensures err { IfErr result
+        (λ f. (left ≡ 0) × (f ≡ moved_fault place.offset place.depth (outer_fault FaultKind.Depth frame.now.offset))) }
 {
     if left == 0 {
         return Err(Fault {
@@ -127,7 +131,8 @@ fn files_in_body<'a>(
     requires first_within { extent.first ≤ length volume.now }
     requires length_is { extent.length ≡ length volume.now }
     ensures found { IfOk result (λ r. StandIn extent volume.now (map file_form r.0.items)) }
-    ensures only { IfOk result (λ r. (gs : List FileForm) → StandIn extent volume.now gs → gs ≡ map file_form r.0.items) }
+    ensures only { IfOk result
+        (λ r. (gs : List FileForm) → StandIn extent volume.now gs → gs ≡ map file_form r.0.items) }
     ensures stored { IfOk result (λ r. AllStored place.offset (map file_form r.0.items)) }
     ensures numbers { IfOk result (λ r. IsIndex (names_in (map file_form r.0.items)) r.1.sorted.items) }
     ensures none { IfErr result (λ f. f ≢ want_of_memory → (gs : List FileForm) → StandIn extent volume.now gs → ⊥) }
@@ -164,8 +169,10 @@ fn read_section<'a>(
     requires stored { IsStoredFrame (framed.frame_form frame.now) }
     ensures found { IfOk result (λ s. MeansSection left (framed.frame_form frame.now) s) }
     ensures only { IfOk result (λ s. (t : SectionMeaning) → MeansSection left (framed.frame_form frame.now) t → t ≡ s) }
-    ensures none { IfErr result (λ f. f ≢ want_of_memory → (t : SectionMeaning) → MeansSection left (framed.frame_form frame.now) t → ⊥) }
-    ensures first { IfErr result (λ f. f ≢ want_of_memory → SectionFirst left f (framed.frame_form frame.now) place.offset place.depth) }
+    ensures none { IfErr result
+        (λ f. f ≢ want_of_memory → (t : SectionMeaning) → MeansSection left (framed.frame_form frame.now) t → ⊥) }
+    ensures first { IfErr result
+        (λ f. f ≢ want_of_memory → SectionFirst left f (framed.frame_form frame.now) place.offset place.depth) }
 {
     let len = frame.body.len() as u32;
     let body = match shape_of(frame) {
@@ -202,9 +209,11 @@ fn read_stream<'a>(
     requires depth { place.depth + left ≤ depth_limit }
     requires small { length bytes.now ≤ volume_limit }
     ensures found { IfOk result (λ s. Stream left s.0.items s.1 bytes.now) }
-    ensures only { IfOk result (λ s. (ss : List SectionMeaning) (tail : ℕ) → Stream left ss tail bytes.now → (ss ≡ s.0.items)
+    ensures only { IfOk result
+        (λ s. (ss : List SectionMeaning) (tail : ℕ) → Stream left ss tail bytes.now → (ss ≡ s.0.items)
         × (tail ≡ s.1)) }
-    ensures none { IfErr result (λ f. f ≢ want_of_memory → (ss : List SectionMeaning) (tail : ℕ) → Stream left ss tail bytes.now → ⊥) }
+    ensures none { IfErr result
+        (λ f. f ≢ want_of_memory → (ss : List SectionMeaning) (tail : ℕ) → Stream left ss tail bytes.now → ⊥) }
     ensures first { IfErr result (λ f. f ≢ want_of_memory → FirstInStream left f bytes.now place.offset place.depth) }
 {
     let (count, tail) = match stream_size(bytes) {
@@ -233,8 +242,10 @@ fn read_content<'a>(
     requires depth { place.depth + left ≤ depth_limit }
     requires small { length file.now.payload.now ≤ volume_limit }
     ensures found { IfOk result (λ c. ReadsContent left (file_form file.now) (content_view c)) }
-    ensures none { IfErr result (λ f. f ≢ want_of_memory → (m : FileMeaning) → MeansFile (Stream left) (file_form file.now) m → ⊥) }
-    ensures first { IfErr result (λ f. f ≢ want_of_memory → FileFirst (FirstInStream left) f (file_form file.now) place.offset place.depth) }
+    ensures none { IfErr result
+        (λ f. f ≢ want_of_memory → (m : FileMeaning) → MeansFile (Stream left) (file_form file.now) m → ⊥) }
+    ensures first { IfErr result
+        (λ f. f ≢ want_of_memory → FileFirst (FirstInStream left) f (file_form file.now) place.offset place.depth) }
 {
     if !holds_sections(file.head.kind) {
         return Ok(Content::Plain(file.payload));
@@ -261,8 +272,10 @@ fn read_file<'a>(
     requires small { length file.now.payload.now ≤ volume_limit }
     ensures found { IfOk result (λ m. MeansFile (Stream left) (file_form file.now) m) }
     ensures only { IfOk result (λ m. (t : FileMeaning) → MeansFile (Stream left) (file_form file.now) t → t ≡ m) }
-    ensures none { IfErr result (λ f. f ≢ want_of_memory → (t : FileMeaning) → MeansFile (Stream left) (file_form file.now) t → ⊥) }
-    ensures first { IfErr result (λ f. f ≢ want_of_memory → FileFirst (FirstInStream left) f (file_form file.now) place.offset place.depth) }
+    ensures none { IfErr result
+        (λ f. f ≢ want_of_memory → (t : FileMeaning) → MeansFile (Stream left) (file_form file.now) t → ⊥) }
+    ensures first { IfErr result
+        (λ f. f ≢ want_of_memory → FileFirst (FirstInStream left) f (file_form file.now) place.offset place.depth) }
 {
     let content = read_content(alloc, file, place, left)?;
     let attributes = file.head.attributes.without_large();
@@ -286,7 +299,8 @@ fn read_files<'a>(
     requires depth { place.depth + left ≤ depth_limit }
     requires stored { AllStored place.offset (map file_form files.now) }
     ensures found { IfOk result (λ ms. Pairs (MeansFile (Stream left)) (map file_form files.now) ms.items) }
-    ensures only { IfOk result (λ ms. (ts : List FileMeaning) → Pairs (MeansFile (Stream left)) (map file_form files.now) ts → ts ≡ ms.items) }
+    ensures only { IfOk result
+        (λ ms. (ts : List FileMeaning) → Pairs (MeansFile (Stream left)) (map file_form files.now) ts → ts ≡ ms.items) }
     ensures none { IfErr result (λ f. f ≢ want_of_memory → (ts : List FileMeaning)
         → Pairs (MeansFile (Stream left)) (map file_form files.now) ts → ⊥) }
     ensures first { IfErr result (λ e. e ≢ want_of_memory → FirstOf (MeansFile (Stream left)) (λ f. FileFirst
@@ -317,9 +331,11 @@ fn read_body<'a>(
     requires first_within { extent.first ≤ length volume.now }
     requires length_is { extent.length ≡ length volume.now }
     ensures found { IfOk result (λ r. HasFiles (Stream left) extent volume.now r.0.items) }
-    ensures only { IfOk result (λ r. (ts : List FileMeaning) → HasFiles (Stream left) extent volume.now ts → ts ≡ r.0.items) }
+    ensures only { IfOk result
+        (λ r. (ts : List FileMeaning) → HasFiles (Stream left) extent volume.now ts → ts ≡ r.0.items) }
     ensures numbers { IfOk result (λ r. HasNumbers r.1 r.0.items) }
-    ensures none { IfErr result (λ f. f ≢ want_of_memory → (ts : List FileMeaning) → HasFiles (Stream left) extent volume.now ts → ⊥) }
+    ensures none { IfErr result
+        (λ f. f ≢ want_of_memory → (ts : List FileMeaning) → HasFiles (Stream left) extent volume.now ts → ⊥) }
     ensures first { IfErr result (λ e. e ≢ want_of_memory → BodyFirst (Stream left)
         (FirstInStream left) extent e volume.now place.offset place.depth) }
 {
@@ -340,12 +356,14 @@ fn read_at<'a>(
     requires depth { place.depth + left ≤ depth_limit }
     ensures found { IfOk result (λ r. Denotes left (take r.1 bytes.now) r.0) }
     ensures length { IfOk result (λ r. (r.1 ≡ length_of r.0) × (r.1 ≤ length bytes.now)) }
-    ensures only { IfOk result (λ r. (n : ℕ) (m : Meaning) → n ≤ length bytes.now → Denotes left (take n bytes.now) m → (m ≡ r.0)
+    ensures only { IfOk result
+        (λ r. (n : ℕ) (m : Meaning) → n ≤ length bytes.now → Denotes left (take n bytes.now) m → (m ≡ r.0)
         × (n ≡ r.1)) }
     ensures none { IfErr result (λ f. f ≢ want_of_memory → (n : ℕ) (m : Meaning) → n ≤ length bytes.now
         → Denotes left (take n bytes.now) m → ⊥) }
     ensures first { IfErr result (λ f. f ≢ want_of_memory → FirstInVolume left f bytes.now place.offset place.depth) }
-    ensures memory { IfErr result (λ f. f ≡ want_of_memory → (h : HeadFields) × (e : Extent) × BeginsVolume h e bytes.now) }
+    ensures memory { IfErr result
+        (λ f. f ≡ want_of_memory → (h : HeadFields) × (e : Extent) × BeginsVolume h e bytes.now) }
 {
     let (head, extent) = match read_head(alloc, bytes) {
         Ok(read) => read,
@@ -371,7 +389,8 @@ pub fn read_volume(alloc: Global, bytes: &[u8]) -> Result<(VolumeView<'_>, u64),
     ensures length { IfOk result (λ r. (r.1 ≡ length_of r.0) × (r.1 ≤ length bytes.now)) }
 
     // The bytes begin with no other volume.
-    ensures only { IfOk result (λ r. (n : ℕ) (m : Meaning) → n ≤ length bytes.now → Denotes depth_limit (take n bytes.now) m
+    ensures only { IfOk result
+        (λ r. (n : ℕ) (m : Meaning) → n ≤ length bytes.now → Denotes depth_limit (take n bytes.now) m
         → (m ≡ r.0) × (n ≡ r.1)) }
 
     // Where it refuses, want of memory aside, they begin with none.
@@ -381,11 +400,13 @@ pub fn read_volume(alloc: Global, bytes: &[u8]) -> Result<(VolumeView<'_>, u64),
     // A refusal, want of memory aside, is the first fault, and there is no other first fault; its
     // condition stands in the bytes at its place.
     ensures first { IfErr result (λ f. f ≢ want_of_memory → IsFirstOfVolume bytes.now f) }
-    ensures one { (f : Fault) → IsFirstOfVolume bytes.now f → IfOk result (λ r. ⊥) × IfErr result (λ g. g ≢ want_of_memory → g ≡ f) }
+    ensures one { (f : Fault) → IsFirstOfVolume bytes.now f
+        → IfOk result (λ r. ⊥) × IfErr result (λ g. g ≢ want_of_memory → g ≡ f) }
     ensures stands { IfErr result (λ f. f ≢ want_of_memory → FaultStands bytes.now f) }
 
     // Memory is wanted only where they begin with the header of a volume.
-    ensures memory { IfErr result (λ f. f ≡ want_of_memory → (h : HeadFields) × (e : Extent) × BeginsVolume h e bytes.now) }
+    ensures memory { IfErr result
+        (λ f. f ≡ want_of_memory → (h : HeadFields) × (e : Extent) × BeginsVolume h e bytes.now) }
 {
     let place = Place {
         offset: 0,

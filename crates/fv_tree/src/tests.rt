@@ -1,7 +1,7 @@
 //! What no contract says: volumes from outside, and the fault of each that is none.
 //!
-//! A table is one text, which one function names. A line is the name of a case, what is wanted of it, and how its bytes are
-//! spelled, with a colon between.
+//! A table is one text, which one function names. A line is the name of a case, what is wanted of it, and how its bytes
+//! are spelled, with a colon between.
 
 mod content;
 mod deep;
@@ -22,7 +22,8 @@ fn byte_of(digits: &[u8]) -> Option<u8> {
     u8::from_str_radix(from_utf8(digits).ok()?, 16).ok()
 }
 
-/// The bytes that a text spells. Two digits are a byte, a star and a number behind a word repeat it, and spaces part words.
+/// The bytes that a text spells. Two digits are a byte, a star and a number behind a word repeat
+/// it, and spaces part words.
 fn spell(alloc: Global, text: &str) -> Option<Vec<u8>> {
     let mut bytes = Vec::new(alloc);
     for word in text.split_whitespace() {
@@ -42,8 +43,8 @@ fn row_of(line: &str) -> Option<(&str, &str)> {
     parts.split_once(": ")
 }
 
-/// What a file shows: the first byte of its name, its type, its attribute bits, how many bytes its data have, and how many
-/// sections, if they are sections.
+/// What a file shows: the first byte of its name, its type, its attribute bits, how many bytes its data have, and how
+/// many sections, if they are sections.
 fn listed(alloc: Global, file: &FileView) -> Option<String> {
     let sections = match file.content() {
         Content::Plain(_) => None,

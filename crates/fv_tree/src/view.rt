@@ -96,7 +96,8 @@ impl<'a> Model for VolumeView<'a> {
     ghost use Rattle.fv_tree.specs.Denotes.{IsMeaning};
     ghost use Rattle.fv_tree.specs.Names.{HasNumbers};
 
-    ghost invariant = { λ v. IsMeaning (Volume v.head (files_from v.files.items)) × HasNumbers v.numbers v.files.items };
+    ghost invariant = { λ v. IsMeaning (Volume v.head (files_from v.files.items))
+        × HasNumbers v.numbers v.files.items };
 
     ghost size = { volume_size };
 
@@ -149,7 +150,8 @@ impl<'a> Model for SectionView<'a> {
 
     ghost use Rattle.fv_tree.specs.Denotes.{IsReadSection};
 
-    ghost invariant = { λ s. IsReadSection (Section s.kind s.extended (body_view s.body)) × (s.len ≡ body_len (body_view s.body)) };
+    ghost invariant = { λ s. IsReadSection (Section s.kind s.extended (body_view s.body))
+        × (s.len ≡ body_len (body_view s.body)) };
 
     ghost size = { section_size };
 

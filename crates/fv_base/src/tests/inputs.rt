@@ -6,8 +6,8 @@ use std::io;
 use std::io::{ErrorKind, Read};
 use std::test::Fail;
 
-/// Gives so many bytes, as many as it is asked for, and then nothing, or `Interrupted` for ever. It counts its calls, and keeps
-/// the size of the largest buffer that it was handed.
+/// Gives so many bytes, as many as it is asked for, and then nothing, or `Interrupted` for ever. It counts its calls,
+/// and keeps the size of the largest buffer that it was handed.
 #[derive(Drop)]
 struct Counted {
     left: usize,
@@ -116,7 +116,8 @@ fn an_input_has_a_limit(rt: HostRuntime) {
     }
 }
 
-// A reader that is interrupted for ever is given up. (So many calls take a second or two when built, and too long under `rt try`.)
+// A reader that is interrupted for ever is given up. (So many calls take a second or two when built, and
+// too long under `rt try`.)
 #[test]
 fn a_stalled_reader_is_given_up(rt: HostRuntime) {
     let mut reader = reader_of(10, false);

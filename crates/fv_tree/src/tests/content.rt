@@ -109,8 +109,8 @@ fn between<'a>(volume: &'a [u8], places: &str) -> Option<&'a [u8]> {
     volume.get(from.parse::<usize>().ok()?..to.parse::<usize>().ok()?)
 }
 
-/// Whether a section of the volume holds what some words say: the bytes between two places of it, so many sections and a tail,
-/// or so many files.
+/// Whether a section of the volume holds what some words say: the bytes between two places of it, so many sections and
+/// a tail, or so many files.
 fn has_body(alloc: Global, section: &SectionView, volume: &[u8], wanted: &str) -> Option<bool> {
     let found = match section.body() {
         Body::Leaf(_) => {
@@ -128,8 +128,8 @@ fn has_body(alloc: Global, section: &SectionView, volume: &[u8], wanted: &str) -
     Some(found.as_str() == wanted)
 }
 
-/// Whether a section of the volume is the wanted one: its type, whether its header is extended, how many bytes its body has,
-/// and what it holds.
+/// Whether a section of the volume is the wanted one: its type, whether its header is extended, how many bytes its
+/// body has, and what it holds.
 fn is_framed(alloc: Global, section: &SectionView, volume: &[u8], wanted: &str) -> Option<bool> {
     let (head, holds) = wanted.split_once(", ")?;
     let (kind, extended, len) = (section.kind(), section.extended(), section.body_len());

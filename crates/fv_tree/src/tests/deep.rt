@@ -196,7 +196,8 @@ fn first_stream<'v, 'a>(view: &'v VolumeView<'a>) -> Option<&'v [SectionView<'a>
     }
 }
 
-/// Whether a section holds a group or a volume, and the sections of the group, or of the volume's first file, if it has one.
+/// Whether a section holds a group or a volume, and the sections of the group, or of the volume's
+/// first file, if it has one.
 fn below<'v, 'a>(section: &'v SectionView<'a>) -> Option<(u8, Option<&'v [SectionView<'a>]>)> {
     match section.body() {
         Body::Leaf(_) => None,

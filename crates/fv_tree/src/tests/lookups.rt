@@ -64,8 +64,8 @@ fn scanned() -> &'static str {
     "
 }
 
-/// What a look-up finds: a section with a body of so many bytes, and those of a leaf; or a frame, its place, and the bytes of
-/// its body.
+/// What a look-up finds: a section with a body of so many bytes, and those of a leaf; or a frame, its place,
+/// and the bytes of its body.
 fn shown(alloc: Global, lookup: &Lookup) -> Option<String> {
     match lookup {
         Lookup::Found(Item::Section(section)) => {

@@ -4,7 +4,8 @@ use Rattle.fv_base.proofs.erased.all_are.Goals as goal
 pub loop-rest-preserved : goal.loop-rest-preserved
 loop-rest-preserved c =
     all_pieces c.args.byte c.args.bytes.now c.split_at.result.0.now c.split_at.result.1.now c.loop-rest.rest.now
-    (split_is 4096 _ _ _ c.split_at.ensures.front c.split_at.ensures.back) c.loop-rest.invariant (c.is_filled.ensures.0 c.if-not-is_filled.false)
+    (split_is 4096 _ _ _ c.split_at.ensures.front c.split_at.ensures.back) c.loop-rest.invariant
+    (c.is_filled.ensures.0 c.if-not-is_filled.false)
 
 pub returns-then-not-is_filled-clause-all : goal.returns-then-not-is_filled-clause-all
 returns-then-not-is_filled-clause-all c =
@@ -15,7 +16,8 @@ pub returns-then-not-is_filled-clause-test : goal.returns-then-not-is_filled-cla
 returns-then-not-is_filled-clause-test c =
     same_test _ c.args.byte c.args.bytes.now
     (piece_differs c.args.byte c.args.bytes.now c.split_at.result.0.now c.split_at.result.1.now c.loop-rest.rest.now c.is_filled.result
-    (split_is 4096 _ _ _ c.split_at.ensures.front c.split_at.ensures.back) c.loop-rest.invariant c.is_filled.ensures c.if-not-is_filled.true)
+    (split_is 4096 _ _ _ c.split_at.ensures.front c.split_at.ensures.back) c.loop-rest.invariant c.is_filled.ensures
+    c.if-not-is_filled.true)
 
 pub returns-clause-test : goal.returns-clause-test
 returns-clause-test c =

@@ -21,5 +21,6 @@ returns-clause-short g c =
     subst (λ (xs : List Step). length (path_text xs) ≤ 29 * length xs) c.steps.ensures c.put_path.ensures.short in
     let is : c.difference_word.result.now ≡ difference_word c.args.difference.now.1 =
     c.difference_word.ensures.text ∙ ap (λ (w : Word). difference_word w) c.word.ensures in
-    let word : length (difference_word c.args.difference.now.1) ≤ 17 = subst (λ (t : List ℕ). length t ≤ 17) is c.difference_word.ensures.short in
+    let word : length (difference_word c.args.difference.now.1) ≤ 17 =
+    subst (λ (t : List ℕ). length t ≤ 17) is c.difference_word.ensures.short in
     short_line (path_text c.args.difference.now.0) (difference_word c.args.difference.now.1) (length c.args.difference.now.0) path word

@@ -7,6 +7,7 @@ use Rattle.fv_canon.proofs.pieces.put_pad.Goals as goal
 pub returns : goal.returns
 unfolding pad_bytes
 returns g c =
-    g.S.Sink.laws.joined c.args.out.now c.put.new.self c.fill.new.out (pad_head_of c.args.size c.args.polarity) (replicate (c.args.size - 24) (erased_byte c.args.polarity))
-    (subst (λ (xs : List ℕ). g.S.Sink.takes c.args.out.now xs c.put.new.self) (c.as_slice.ensures ∙ c.pad_head_bytes.ensures.bytes) c.put.ensures)
+    g.S.Sink.laws.joined c.args.out.now c.put.new.self c.fill.new.out (pad_head_of c.args.size c.args.polarity)
+    (replicate (c.args.size - 24) (erased_byte c.args.polarity)) (subst (λ (xs : List ℕ). g.S.Sink.takes c.args.out.now xs c.put.new.self)
+    (c.as_slice.ensures ∙ c.pad_head_bytes.ensures.bytes) c.put.ensures)
     (subst (λ (n : ℕ). g.S.Sink.takes c.put.new.self (replicate (c.args.size - 24) n) c.fill.new.out) c.erased.ensures.value c.fill.ensures)

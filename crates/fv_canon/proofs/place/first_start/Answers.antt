@@ -24,13 +24,15 @@ loop-preserved c =
       eighth = next_eighth c.loop.start c.widened-step.result c.args.part.now.alignment w inv.eighth;
       pad = omega (arith, inv.pad);
       aligned = next_aligned c.loop.start c.args.part.now.header c.widened-step.result c.args.part.now.alignment w inv.aligned;
-      least = λ t l v. next_least c.args.total c.args.edge c.args.part.now c.args.behind c.widened-step.result c.loop.start t w c.requires.part.header inv.eighth inv.aligned not v (inv.least t l v);
+      least = λ t l v. next_least c.args.total c.args.edge c.args.part.now c.args.behind c.widened-step.result c.loop.start t w
+          c.requires.part.header inv.eighth inv.aligned not v (inv.least t l v);
       far = omega (arith, eight, inv.far);
       small = omega (arith, inv.small);
       missed = λ p. elim (cases_lt 0 c.loop.counter) [
         | inl q ↦ inv.missed q
-        | inr z ↦ subst (λ n. c.args.behind.greatest < up_to_8 (n + c.args.part.now.size) + 24) (at_zero c.loop.counter c.loop.start (c.round_up.result - c.args.part.now.header) c.widened-step.result z inv.small inv.far)
-            (missed_at c.args.total c.args.edge c.args.part.now c.args.behind c.loop.start (not_true c.args.part.now.top c.if-part.false) inv.eighth inv.aligned not)
+        | inr z ↦ subst (λ n. c.args.behind.greatest < up_to_8 (n + c.args.part.now.size) + 24) (at_zero c.loop.counter c.loop.start
+            (c.round_up.result - c.args.part.now.header) c.widened-step.result z inv.small inv.far) (missed_at c.args.total c.args.edge
+            c.args.part.now c.args.behind c.loop.start (not_true c.args.part.now.top c.if-part.false) inv.eighth inv.aligned not)
       ];
     }
 
@@ -39,4 +41,5 @@ returns-clause-none c t l v =
     let inv = c.loop.invariant in
     let low = inv.least t l v in
     let turns = c.loop-test.false in
-    tried_out c.args.total c.args.part.now c.args.behind (c.round_up.result - c.args.part.now.header) t v (omega (arith, low, turns, inv.far)) (inv.missed (omega (arith, turns)))
+    tried_out c.args.total c.args.part.now c.args.behind (c.round_up.result - c.args.part.now.header) t v
+    (omega (arith, low, turns, inv.far)) (inv.missed (omega (arith, turns)))

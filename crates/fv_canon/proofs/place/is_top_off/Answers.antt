@@ -8,7 +8,8 @@ use Rattle.fv_canon.proofs.place.is_top_off.Goals.{else-part-via-then-part+else-
 use Rattle.fv_canon.proofs.Tries.{not_true}
 
 -- an item that is off is found, and one that is not is passed over
-found : (total : ℕ) (fs : List Part) (i : ℕ) (d : Part) → i < length fs → (TopOff total (drop i fs) → TopOff total fs) → IsTrue (get_or fs i d).top → IsOff total (get_or fs i d) → TopOff total fs
+found : (total : ℕ) (fs : List Part) (i : ℕ) (d : Part) → i < length fs → (TopOff total (drop i fs) → TopOff total fs)
+    → IsTrue (get_or fs i d).top → IsOff total (get_or fs i d) → TopOff total fs
 found total fs i d l back top off = back (subst (TopOff total) (sym (drop_more fs i d l)) (inl (top, off)))
 
 passed : (total : ℕ) (fs : List Part) (i : ℕ) (d : Part) → i < length fs → (IsTrue (get_or fs i d).top → IsOff total (get_or fs i d) → ⊥)
@@ -27,15 +28,21 @@ loop-part-init c = (λ o. o, λ o. o)
 
 pub returns-then-is_off : goal.returns-then-is_off
 returns-then-is_off c = (
-  λ h. found c.args.total c.args.parts.now c.loop-part.part-index _ c.loop-part-test.true c.loop-part.invariant.0 c.if-part.true (c.is_off.ensures.0 c.if-is_off.true),
+  λ h. found c.args.total c.args.parts.now c.loop-part.part-index _ c.loop-part-test.true c.loop-part.invariant.0 c.if-part.true
+      (c.is_off.ensures.0 c.if-is_off.true),
   λ o. refl,
 )
 
 pub loop-part-preserved : goal.loop-part-preserved
 loop-part-preserved c = elim c.else-part.branch [
-  | else-part-via-then-part+else-is_off w ↦ passed c.args.total c.args.parts.now c.loop-part.part-index (record { header = 0; size = 0; alignment = 0; top = false }) c.loop-part-test.true (λ top off. not_true w.is_off.result w.if-is_off.false (w.is_off.ensures.1 off)) c.loop-part.invariant
-  | else-part-via-else-part w ↦ passed c.args.total c.args.parts.now c.loop-part.part-index (record { header = 0; size = 0; alignment = 0; top = false }) c.loop-part-test.true (λ top off. not_true _ w.if-part.false top) c.loop-part.invariant
+  | else-part-via-then-part+else-is_off w ↦
+      passed c.args.total c.args.parts.now c.loop-part.part-index (record { header = 0; size = 0; alignment = 0; top = false })
+      c.loop-part-test.true (λ top off. not_true w.is_off.result w.if-is_off.false (w.is_off.ensures.1 off)) c.loop-part.invariant
+  | else-part-via-else-part w ↦
+      passed c.args.total c.args.parts.now c.loop-part.part-index (record { header = 0; size = 0; alignment = 0; top = false })
+      c.loop-part-test.true (λ top off. not_true _ w.if-part.false top) c.loop-part.invariant
 ]
 
 pub returns : goal.returns
-returns c = (λ h. cc, λ o. absurd (ended c.args.total c.args.parts.now c.loop-part.part-index c.loop-part-test.false (c.loop-part.invariant.1 o)))
+returns c =
+    (λ h. cc, λ o. absurd (ended c.args.total c.args.parts.now c.loop-part.part-index c.loop-part-test.false (c.loop-part.invariant.1 o)))

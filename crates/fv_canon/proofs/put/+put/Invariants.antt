@@ -13,8 +13,10 @@ abbrev pub invariant-put_sections-loop-section : goal.invariant-put_sections-loo
 invariant-put_sections-loop-section g l = record {
   small : l.gap ≤ 3;
   laid : BeginsWithStarts LaysSections (sections_from (drop l.section-index l.sections)) l.rest;
-  left : drop (starts_in_sections (sections_from (drop l.section-index l.sections))) l.rest ≡ drop (starts_in_sections (sections_from l.sections)) l.starts;
-  done : TakesFront g.S.Sink.takes l.initial.out l.out (sections_bytes 0 (sections_from l.sections) l.starts) (sections_bytes l.gap (sections_from (drop l.section-index l.sections)) l.rest);
+  left : drop (starts_in_sections (sections_from (drop l.section-index l.sections))) l.rest
+      ≡ drop (starts_in_sections (sections_from l.sections)) l.starts;
+  done : TakesFront g.S.Sink.takes l.initial.out l.out (sections_bytes 0 (sections_from l.sections) l.starts)
+      (sections_bytes l.gap (sections_from (drop l.section-index l.sections)) l.rest);
 }
 
 abbrev pub decreases-put_sections : goal.decreases-put_sections
@@ -40,6 +42,7 @@ invariant-put_files-loop-i g l = record {
   placed : ArePlaced l.total l.edge (drop l.i l.files) (drop l.i l.own);
   laid : BeginsWithStarts LaysFiles (files_from (drop l.i l.files)) l.rest;
   left : drop (starts_in_files (files_from (drop l.i l.files))) l.rest ≡ drop (starts_in_files (files_from l.files)) l.starts;
-  done : TakesFront g.S.Sink.takes l.initial.out l.out (files_bytes l.polarity l.total l.first (stored_of (files_from l.files) l.starts) l.own)
+  done :
+      TakesFront g.S.Sink.takes l.initial.out l.out (files_bytes l.polarity l.total l.first (stored_of (files_from l.files) l.starts) l.own)
       (files_bytes l.polarity l.total l.edge (stored_of (files_from (drop l.i l.files)) l.rest) (drop l.i l.own));
 }

@@ -33,7 +33,8 @@ returns-clause-again c =
 pub returns-clause-length : goal.returns-clause-length
 returns-clause-length c =
     IfOk-weaker c.canonical.result _ (λ (bytes : List ℕ). length bytes ≡ length c.args.input.now)
-    (λ bytes image. image_stays_long c.args.input.now bytes (c.in_ok-view.view, c.in_ok-view.ensures.found, image)) c.canonical.ensures.image
+    (λ bytes image. image_stays_long c.args.input.now bytes (c.in_ok-view.view, c.in_ok-view.ensures.found, image))
+    c.canonical.ensures.image
 
 pub returns-clause-err : goal.returns-clause-err
 returns-clause-err c =
@@ -47,5 +48,5 @@ returns-clause-fits c =
 pub returns-clause-memory : goal.returns-clause-memory
 returns-clause-memory c =
     let d = c.in_ok-view.ensures.found.1 in
-    IfErr-weaker c.canonical.result _ (λ (f : Fault). f ≡ want_of_memory → (h : HeadFields) × (e : Extent) × BeginsVolume h e c.args.input.now)
-    (λ f why same. (head_of c.in_ok-view.view, d.extent, d.front)) c.canonical.ensures.err
+    IfErr-weaker c.canonical.result _ (λ (f : Fault). f ≡ want_of_memory → (h : HeadFields) × (e : Extent)
+    × BeginsVolume h e c.args.input.now) (λ f why same. (head_of c.in_ok-view.view, d.extent, d.front)) c.canonical.ensures.err

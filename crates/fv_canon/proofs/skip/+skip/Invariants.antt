@@ -10,7 +10,8 @@ use Rattle.fv_canon.proofs.skip.+skip.Given as goal
 abbrev pub invariant-skip_sections-loop-section : goal.invariant-skip_sections-loop-section
 invariant-skip_sections-loop-section l = record {
   laid : BeginsWithStarts LaysSections (sections_from (drop l.section-index l.sections)) l.rest;
-  left : drop (starts_in_sections (sections_from (drop l.section-index l.sections))) l.rest ≡ drop (starts_in_sections (sections_from l.sections)) l.starts;
+  left : drop (starts_in_sections (sections_from (drop l.section-index l.sections))) l.rest
+      ≡ drop (starts_in_sections (sections_from l.sections)) l.starts;
 }
 
 abbrev pub invariant-skip_files-loop-file : goal.invariant-skip_files-loop-file

@@ -8,6 +8,9 @@ use Rattle.fv_canon.proofs.sum.file_sum.Goals as goal
 
 pub returns : goal.returns
 returns c =
-    let is : is_summed (attributes_of c.args.file.now) ≡ true = sym (ap is_summed c.attributes.ensures) ∙ sym c.is_summed.ensures ∙ c.if-not-is_summed.false in
-    let added = subst (λ (x : ContentMeaning). c.sum_content.new.out.total % 256 ≡ (0 + sum (data_of x c.args.starts.now)) % 256) c.content.ensures c.sum_content.ensures.bytes in
-    c.complement.ensures.value ∙ summed_text (attributes_of c.args.file.now) (data_of (content_of c.args.file.now) c.args.starts.now) c.sum_content.new.out.total is c.complement.ensures.small added
+    let is : is_summed (attributes_of c.args.file.now) ≡ true =
+    sym (ap is_summed c.attributes.ensures) ∙ sym c.is_summed.ensures ∙ c.if-not-is_summed.false in
+    let added = subst (λ (x : ContentMeaning). c.sum_content.new.out.total % 256 ≡ (0 + sum (data_of x c.args.starts.now)) % 256)
+    c.content.ensures c.sum_content.ensures.bytes in
+    c.complement.ensures.value ∙ summed_text (attributes_of c.args.file.now) (data_of (content_of c.args.file.now) c.args.starts.now)
+    c.sum_content.new.out.total is c.complement.ensures.small added

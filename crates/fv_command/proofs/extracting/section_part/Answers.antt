@@ -30,7 +30,8 @@ returns-in-Found-Frame-clause-ok c =
     record {
       sections = λ ss t e. absurd (rw item at (w.sections ss t e));
       core = λ b fs t e k h.
-          let p : frame_of_type c.args.kind c.args.instance fs ≡ Some (frame_form c.in-Found-Frame.frame) = rw item at (w.core b fs t e k h) in
+          let p : frame_of_type c.args.kind c.args.instance fs ≡ Some (frame_form c.in-Found-Frame.frame) =
+          rw item at (w.core b fs t e k h) in
           subst (λ (o : Option FrameForm). IsFramePart o (Stored c.in-Found-Frame.frame.body)) (sym p) refl;
       plain = λ b e n. let same = w.plain b e n in cc;
     }

@@ -10,7 +10,8 @@ pub returns-then-out-clause-ok : goal.returns-then-out-clause-ok
 returns-then-out-clause-ok g c =
     let text : List ℕ = c.put_hobs.ensures.0 in
     let is : HobsText (held_image c.args.image) c.args.hobs.now c.args.consumed text =
-    subst (λ (hs : List HobForm). HobsText (held_image c.args.image) hs c.args.consumed text) c.as_slice.ensures.blocks c.put_hobs.ensures.1 in
+    subst (λ (hs : List HobForm). HobsText (held_image c.args.image) hs c.args.consumed text)
+    c.as_slice.ensures.blocks c.put_hobs.ensures.1 in
     let wrote = rw c.if-out.true at c.put_hobs.ensures.2.1 in
     (text, is, search rules)
 
@@ -18,7 +19,8 @@ pub returns-else-out-clause-err : goal.returns-else-out-clause-err
 returns-else-out-clause-err g c =
     let text : List ℕ = c.put_hobs.ensures.0 in
     let is : HobsText (held_image c.args.image) c.args.hobs.now c.args.consumed text =
-    subst (λ (hs : List HobForm). HobsText (held_image c.args.image) hs c.args.consumed text) c.as_slice.ensures.blocks c.put_hobs.ensures.1 in
+    subst (λ (hs : List HobForm). HobsText (held_image c.args.image) hs c.args.consumed text)
+    c.as_slice.ensures.blocks c.put_hobs.ensures.1 in
     let hs : List HobForm = c.args.hobs.now in
     let few : length hs < 2 ^ 58 =
     omega (arith, c.as_slice.type_inv.1, ap (λ (l : List HobForm). length l) c.as_slice.ensures.blocks) in

@@ -9,8 +9,11 @@ use Rattle.fv_depex.proofs.truth.evaluate_ops.Goals as goal
 pub loop-op-preserved : goal.loop-op-preserved
 loop-op-preserved c =
     let d : Op = ops.Before (record { bytes = [] }) in
-    run_step c.args.installed.now c.args.ops.now (reverse c.loop-op.stack.items) (reverse c.evaluate_op.new.stack.items) (get_or c.args.ops.now c.loop-op.op-index d) c.loop-op.op-index
-    (drop_more c.args.ops.now c.loop-op.op-index d c.loop-op-test.true) (c.in_ok-evaluate_op.ensures ∙ ap (λ t. if t then Some (reverse c.evaluate_op.new.stack.items) else None) c.if-not-branch.false) c.loop-op.invariant
+    run_step c.args.installed.now c.args.ops.now (reverse c.loop-op.stack.items) (reverse c.evaluate_op.new.stack.items)
+    (get_or c.args.ops.now c.loop-op.op-index d) c.loop-op.op-index
+    (drop_more c.args.ops.now c.loop-op.op-index d c.loop-op-test.true) (c.in_ok-evaluate_op.ensures
+    ∙ ap (λ t. if t then Some (reverse c.evaluate_op.new.stack.items) else None) c.if-not-branch.false) c.loop-op.invariant
 
 pub returns-clause-value : goal.returns-clause-value
-returns-clause-value c = c.top.ensures ∙ sym (run_end c.args.installed.now c.args.ops.now (reverse c.loop-op.stack.items) c.loop-op.op-index c.loop-op-test.false c.loop-op.invariant)
+returns-clause-value c = c.top.ensures ∙ sym (run_end c.args.installed.now c.args.ops.now (reverse c.loop-op.stack.items) c.loop-op.op-index
+    c.loop-op-test.false c.loop-op.invariant)

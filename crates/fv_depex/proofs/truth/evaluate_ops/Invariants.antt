@@ -4,4 +4,5 @@ use Rattle.fv_depex.specs.Evaluation.{evaluate_ops}
 use Rattle.fv_depex.proofs.truth.evaluate_ops.Given as goal
 
 abbrev pub invariant-loop-op : goal.invariant-loop-op
-invariant-loop-op l = evaluate_ops l.fn.installed l.fn.ops [] ≡ evaluate_ops l.fn.installed (drop l.op-index l.fn.ops) (reverse l.stack.items)
+invariant-loop-op l =
+    evaluate_ops l.fn.installed l.fn.ops [] ≡ evaluate_ops l.fn.installed (drop l.op-index l.fn.ops) (reverse l.stack.items)

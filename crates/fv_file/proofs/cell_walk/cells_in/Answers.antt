@@ -10,9 +10,13 @@ returns-clause-found c =
     let free = rest_free _ c.args.body.now c.loop-system.at (sym c.is_free.ensures ∙ c.loop-system-test.false) in
     elim c.if-at-body.branch [
       | then-at-body+in_ok-push-2 w ↦
-          let items : w.push-then-at-body.new.self.items ≡ c.loop-system.list.items ++ forms.Free (c.args.first + c.loop-system.at) (length c.args.body.now - c.loop-system.at) ∷ [] = search rules in
-          rw (c.from_vec.ensures, w.list-is) (free_kept c.args.system c.args.polarity c.args.first c.args.body.now c.loop-system.list.items w.push-then-at-body.new.self.items (forms.Free (c.args.first + c.loop-system.at) (length c.args.body.now - c.loop-system.at)) c.loop-system.at c.loop-system.invariant (omega arith) free refl items)
-      | else-at-body w ↦ rw (c.from_vec.ensures, w.list-is) (whole_kept c.args.system c.args.polarity c.args.first c.args.body.now c.loop-system.list.items c.loop-system.at c.loop-system.invariant (omega arith))
+          let items : w.push-then-at-body.new.self.items ≡ c.loop-system.list.items
+          ++ forms.Free (c.args.first + c.loop-system.at) (length c.args.body.now - c.loop-system.at) ∷ [] = search rules in
+          rw (c.from_vec.ensures, w.list-is) (free_kept c.args.system c.args.polarity c.args.first c.args.body.now c.loop-system.list.items
+          w.push-then-at-body.new.self.items (forms.Free (c.args.first + c.loop-system.at) (length c.args.body.now - c.loop-system.at))
+          c.loop-system.at c.loop-system.invariant (omega arith) free refl items)
+      | else-at-body w ↦ rw (c.from_vec.ensures, w.list-is) (whole_kept c.args.system c.args.polarity c.args.first c.args.body.now
+          c.loop-system.list.items c.loop-system.at c.loop-system.invariant (omega arith))
     ]
 
 pub returns-in_err-cell-clause-first : goal.returns-in_err-cell-clause-first

@@ -7,14 +7,16 @@ use Rattle.fv_file.proofs.new_header.file_head_bytes.Goals as goal
 pub returns-clause-bytes : goal.returns-clause-bytes
 returns-clause-bytes c =
     let a = c.args in
-    c.header_bytes.ensures.is ∙ file_head_is a.polarity a.name a.kind a.attributes a.data_len a.file_sum c.file_fields.result c.requires.short c.file_fields.ensures
+    c.header_bytes.ensures.is
+    ∙ file_head_is a.polarity a.name a.kind a.attributes a.data_len a.file_sum c.file_fields.result c.requires.short c.file_fields.ensures
 
 pub returns-clause-read : goal.returns-clause-read
 returns-clause-read c =
     let a = c.args in
-    let long : length (bytes_of a.name) ≡ 16 = ap (λ (x : FileHead). length (bytes_of x.name)) (sym c.file_fields.ensures) ∙ c.header_bytes.ensures.name in
-    file_written a.polarity a.name a.kind a.attributes a.data_len a.file_sum c.header_bytes.result long c.requires.short c.requires.most c.header_bytes.ensures.bytes
-    (returns-clause-bytes c)
+    let long : length (bytes_of a.name) ≡ 16 =
+    ap (λ (x : FileHead). length (bytes_of x.name)) (sym c.file_fields.ensures) ∙ c.header_bytes.ensures.name in
+    file_written a.polarity a.name a.kind a.attributes a.data_len a.file_sum c.header_bytes.result long c.requires.short c.requires.most
+    c.header_bytes.ensures.bytes (returns-clause-bytes c)
 
 pub returns-clause-cell : goal.returns-clause-cell
 returns-clause-cell c = head_of_file c.args.polarity _ c.header_bytes.result (returns-clause-read c) refl
@@ -22,4 +24,5 @@ returns-clause-cell c = head_of_file c.args.polarity _ c.header_bytes.result (re
 pub returns-clause-only : goal.returns-clause-only
 returns-clause-only c = λ header_sum h written.
     let a = c.args in
-    only_file a.polarity a.name a.kind a.attributes a.data_len a.file_sum header_sum h c.requires.short written ∙ sym (returns-clause-bytes c)
+    only_file a.polarity a.name a.kind a.attributes a.data_len a.file_sum header_sum h c.requires.short written
+    ∙ sym (returns-clause-bytes c)

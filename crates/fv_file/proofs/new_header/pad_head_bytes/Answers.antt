@@ -8,7 +8,8 @@ pub returns-clause-bytes : goal.returns-clause-bytes
 returns-clause-bytes c = c.header_bytes.ensures.is ∙ ap (λ (x : FileHead). head_bytes x c.args.polarity) c.pad_fields.ensures
 
 pub returns-clause-read : goal.returns-clause-read
-returns-clause-read c = pad_written c.args.polarity c.args.size c.header_bytes.result c.requires.most c.header_bytes.ensures.bytes (returns-clause-bytes c)
+returns-clause-read c =
+    pad_written c.args.polarity c.args.size c.header_bytes.result c.requires.most c.header_bytes.ensures.bytes (returns-clause-bytes c)
 
 pub returns-clause-cell : goal.returns-clause-cell
 returns-clause-cell c = head_of_pad c.args.polarity _ c.header_bytes.result (returns-clause-read c) refl refl refl

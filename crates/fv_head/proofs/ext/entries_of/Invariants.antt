@@ -4,7 +4,8 @@ use Rattle.fv_head.proofs.ext.entries_of.Given as goal
 
 -- the entries so far, before those that the rest has, are those of all the bytes
 abbrev pub invariant-loop-len : goal.invariant-loop-len
-invariant-loop-len l = (es : List (ℕ × List ℕ)) (tail : List ℕ) → SplitsEntries es tail l.rest → SplitsEntries (l.entries.items ++ es) tail l.fn.bytes
+invariant-loop-len l = (es : List (ℕ × List ℕ)) (tail : List ℕ) → SplitsEntries es tail l.rest
+    → SplitsEntries (l.entries.items ++ es) tail l.fn.bytes
 
 abbrev pub decreases-loop-len : goal.decreases-loop-len
 decreases-loop-len l = length l.rest

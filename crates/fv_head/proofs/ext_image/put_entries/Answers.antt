@@ -22,4 +22,5 @@ loop-entry-preserved g c =
 pub returns : goal.returns
 returns g c =
     subst (λ (bytes : List ℕ). g.S.Sink.takes c.args.out.now bytes c.loop-entry.out)
-    (entries_end c.args.used c.loop-entry.invariant.0 c.args.entries.now c.loop-entry.entry-index c.loop-entry-test.false c.loop-entry.invariant.2) c.loop-entry.invariant.1
+    (entries_end c.args.used c.loop-entry.invariant.0 c.args.entries.now c.loop-entry.entry-index c.loop-entry-test.false
+    c.loop-entry.invariant.2) c.loop-entry.invariant.1

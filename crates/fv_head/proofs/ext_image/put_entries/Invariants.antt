@@ -6,5 +6,6 @@ use Rattle.fv_head.proofs.ext_image.put_entries.Given as goal
 -- the entries so far are put
 abbrev pub invariant-loop-entry : goal.invariant-loop-entry
 invariant-loop-entry g l =
-    (front : List ℕ) × g.S.Sink.takes l.initial.out front l.out × (front ++ entries_bytes l.used (drop l.entry-index l.entries) ≡ entries_bytes l.used l.entries)
+    (front : List ℕ) × g.S.Sink.takes l.initial.out front l.out
+    × (front ++ entries_bytes l.used (drop l.entry-index l.entries) ≡ entries_bytes l.used l.entries)
     × (entries_len (drop l.entry-index l.entries) ≤ ext_limit)

@@ -10,20 +10,24 @@ use Rattle.fv_head.proofs.head_image.head_bytes.Goals as goal
 pub returns-clause-head : goal.returns-clause-head
 returns-clause-head c =
     let h = c.args.head.now in
-    IfOk-weaker c.finish.result _ (IsCanonicalHead h) (λ bytes same. subst (IsCanonicalHead h) (sym same) (canonical_is h c.header_len.ensures.read))
-    (kept_whole _ _ (canonical_head h) _ _ c.finish.result c.in_ok-out.ensures.0 c.in_ok-out.ensures.1 c.put_head.ensures.bytes c.finish.ensures.ok)
+    IfOk-weaker c.finish.result _ (IsCanonicalHead h)
+    (λ bytes same. subst (IsCanonicalHead h) (sym same) (canonical_is h c.header_len.ensures.read)) (kept_whole _ _ (canonical_head h) _ _
+    c.finish.result c.in_ok-out.ensures.0 c.in_ok-out.ensures.1 c.put_head.ensures.bytes c.finish.ensures.ok)
 
 pub returns-clause-only : goal.returns-clause-only
 returns-clause-only c = λ other canonical.
     let h = c.args.head.now in
     IfOk-weaker c.finish.result _ (λ bytes. bytes ≡ other) (λ bytes same. same ∙ sym (canonical_only h other canonical))
-    (kept_whole _ _ (canonical_head h) _ _ c.finish.result c.in_ok-out.ensures.0 c.in_ok-out.ensures.1 c.put_head.ensures.bytes c.finish.ensures.ok)
+    (kept_whole _ _ (canonical_head h) _ _ c.finish.result c.in_ok-out.ensures.0 c.in_ok-out.ensures.1
+    c.put_head.ensures.bytes c.finish.ensures.ok)
 
 pub returns-clause-again : goal.returns-clause-again
 returns-clause-again c =
     let h = c.args.head.now in
     let again : List ℕ → Type 0 = λ bytes.
-    (rest : List ℕ) → CanonicalRest h.ext rest → canonical_end h h.ext ≤ h.length → h.length ≤ length (bytes ++ rest) → BeginsVolume h (extent_of h (canonical_first h h.ext)) (bytes ++ rest) in
+    (rest : List ℕ) → CanonicalRest h.ext rest → canonical_end h h.ext ≤ h.length → h.length ≤ length (bytes ++ rest)
+    → BeginsVolume h (extent_of h (canonical_first h h.ext)) (bytes ++ rest) in
     IfOk-weaker c.finish.result _ again
-    (λ bytes same. subst again (sym same) (λ rest there fits long. canonical_front h rest c.header_len.ensures.read c.put_head.ensures.ext there fits long))
-    (kept_whole _ _ (canonical_head h) _ _ c.finish.result c.in_ok-out.ensures.0 c.in_ok-out.ensures.1 c.put_head.ensures.bytes c.finish.ensures.ok)
+    (λ bytes same. subst again (sym same)
+    (λ rest there fits long. canonical_front h rest c.header_len.ensures.read c.put_head.ensures.ext there fits long)) (kept_whole _ _
+    (canonical_head h) _ _ c.finish.result c.in_ok-out.ensures.0 c.in_ok-out.ensures.1 c.put_head.ensures.bytes c.finish.ensures.ok)

@@ -17,4 +17,5 @@ loop-count-preserved g c =
 pub returns : goal.returns
 returns g c =
     subst (λ (bytes : List ℕ). g.S.Sink.takes c.args.out.now bytes c.loop-count.out)
-    (pairs_end c.loop-count.invariant.0 c.args.pairs.now c.loop-count.count-index c.loop-count-test.false c.loop-count.invariant.2) c.loop-count.invariant.1
+    (pairs_end c.loop-count.invariant.0 c.args.pairs.now c.loop-count.count-index c.loop-count-test.false c.loop-count.invariant.2)
+    c.loop-count.invariant.1

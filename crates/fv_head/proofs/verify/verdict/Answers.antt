@@ -15,9 +15,11 @@ pub returns-in_err-whole_verdict : goal.returns-in_err-whole_verdict
 returns-in_err-whole_verdict c =
     let b = c.args.bytes.now in
     let p = err_from_is_err_and c.from_residual-in_err-whole_verdict.result c.from_residual-in_err-whole_verdict.ensures.1 in
-    rw (p.1, p.2) (sym (verdict_err _ b _ (first_whole (front_checks b) (whole_checks b) c.in_ok-file_system.ensures.ok.0 ∙ c.in_err-whole_verdict.ensures.err)))
+    rw (p.1, p.2) (sym (verdict_err _ b _
+    (first_whole (front_checks b) (whole_checks b) c.in_ok-file_system.ensures.ok.0 ∙ c.in_err-whole_verdict.ensures.err)))
 
 pub returns : goal.returns
 returns c =
     let b = c.args.bytes.now in
-    rw c.extent_at.ensures (sym (verdict_extent b _ (first_whole (front_checks b) (whole_checks b) c.in_ok-file_system.ensures.ok.0 ∙ c.in_ok-whole_verdict.ensures.ok) c.in_ok-file_system.ensures.ok.1))
+    rw c.extent_at.ensures (sym (verdict_extent b _ (first_whole (front_checks b) (whole_checks b) c.in_ok-file_system.ensures.ok.0
+    ∙ c.in_ok-whole_verdict.ensures.ok) c.in_ok-file_system.ensures.ok.1))

@@ -10,8 +10,13 @@ use Rattle.fv_head.proofs.write.write_ext.Goals as goal
 pub returns-then-out-clause-ok : goal.returns-then-out-clause-ok
 returns-then-out-clause-ok g c =
     let whole = ext_spelled c.args.ext.now c.args.used in
-    let s : PortShows = record { contents = g.W.Write.contents (inner_of c.args.writer.now); erred = has_erred c.args.writer.now; count = 0 } in
-    let t : PortShows = record { contents = g.W.Write.contents (inner_of c.put_ext.new.out.port.now); erred = has_erred c.put_ext.new.out.port.now; count = c.put_ext.new.out.count } in
+    let s : PortShows =
+    record { contents = g.W.Write.contents (inner_of c.args.writer.now); erred = has_erred c.args.writer.now; count = 0 } in
+    let t : PortShows = record {
+      contents = g.W.Write.contents (inner_of c.put_ext.new.out.port.now);
+      erred = has_erred c.put_ext.new.out.port.now;
+      count = c.put_ext.new.out.count;
+    } in
     let wrote : WritesAll s whole t = rw c.if-out.true at c.put_ext.ensures.bytes.1 in
     let appended : Appends s.contents t.contents whole = wrote.0 in
     search rules
@@ -19,13 +24,19 @@ returns-then-out-clause-ok g c =
 pub returns-else-out-clause-err : goal.returns-else-out-clause-err
 returns-else-out-clause-err g c =
     let whole = ext_spelled c.args.ext.now c.args.used in
-    let s : PortShows = record { contents = g.W.Write.contents (inner_of c.args.writer.now); erred = has_erred c.args.writer.now; count = 0 } in
-    let t : PortShows = record { contents = g.W.Write.contents (inner_of c.put_ext.new.out.port.now); erred = has_erred c.put_ext.new.out.port.now; count = c.put_ext.new.out.count } in
+    let s : PortShows =
+    record { contents = g.W.Write.contents (inner_of c.args.writer.now); erred = has_erred c.args.writer.now; count = 0 } in
+    let t : PortShows = record {
+      contents = g.W.Write.contents (inner_of c.put_ext.new.out.port.now);
+      erred = has_erred c.put_ext.new.out.port.now;
+      count = c.put_ext.new.out.count;
+    } in
     let short : length whole < 2 ^ 62 = omega (arith, c.put_ext.ensures.len, c.put_ext.ensures.most) in
     let cut : WritesFront s whole t = rw c.if-out.false at c.put_ext.ensures.bytes.1 in
     let at = front_is s t whole refl c.fault.ensures.small short cut in
     let offset : c.fault.result.place.offset ≡ c.put_ext.new.out.count = ap (λ (f : Fault). f.place.offset) c.fault.ensures.fault in
-    let wrote : Appends s.contents t.contents (take c.fault.result.place.offset whole) = subst (λ (n : ℕ). Appends s.contents t.contents (take n whole)) (sym offset) at.1 in
+    let wrote : Appends s.contents t.contents (take c.fault.result.place.offset whole) =
+    subst (λ (n : ℕ). Appends s.contents t.contents (take n whole)) (sym offset) at.1 in
     record {
       kind = ap (λ (f : Fault). f.kind) c.fault.ensures.fault;
       depth = ap (λ (f : Fault). f.place.depth) c.fault.ensures.fault;

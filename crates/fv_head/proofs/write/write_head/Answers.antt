@@ -11,8 +11,13 @@ use Rattle.fv_head.proofs.write.write_head.Goals as goal
 pub returns-then-out-clause-ok : goal.returns-then-out-clause-ok
 returns-then-out-clause-ok g c =
     let whole = canonical_head c.args.head.now in
-    let s : PortShows = record { contents = g.W.Write.contents (inner_of c.args.writer.now); erred = has_erred c.args.writer.now; count = 0 } in
-    let t : PortShows = record { contents = g.W.Write.contents (inner_of c.put_head.new.out.port.now); erred = has_erred c.put_head.new.out.port.now; count = c.put_head.new.out.count } in
+    let s : PortShows =
+    record { contents = g.W.Write.contents (inner_of c.args.writer.now); erred = has_erred c.args.writer.now; count = 0 } in
+    let t : PortShows = record {
+      contents = g.W.Write.contents (inner_of c.put_head.new.out.port.now);
+      erred = has_erred c.put_head.new.out.port.now;
+      count = c.put_head.new.out.count;
+    } in
     let wrote : WritesAll s whole t = rw c.if-out.true at c.put_head.ensures.bytes.1 in
     let appended : Appends s.contents t.contents whole = wrote.0 in
     (whole, canonical_is c.args.head.now c.put_head.ensures.read, search rules)
@@ -21,13 +26,20 @@ pub returns-else-out-clause-err : goal.returns-else-out-clause-err
 returns-else-out-clause-err g c =
     let h = c.args.head.now in
     let whole = canonical_head h in
-    let s : PortShows = record { contents = g.W.Write.contents (inner_of c.args.writer.now); erred = has_erred c.args.writer.now; count = 0 } in
-    let t : PortShows = record { contents = g.W.Write.contents (inner_of c.put_head.new.out.port.now); erred = has_erred c.put_head.new.out.port.now; count = c.put_head.new.out.count } in
-    let short : length whole < 2 ^ 62 = omega (arith, length-canonical h c.put_head.ensures.read, header_len_most h c.put_head.ensures.read) in
+    let s : PortShows =
+    record { contents = g.W.Write.contents (inner_of c.args.writer.now); erred = has_erred c.args.writer.now; count = 0 } in
+    let t : PortShows = record {
+      contents = g.W.Write.contents (inner_of c.put_head.new.out.port.now);
+      erred = has_erred c.put_head.new.out.port.now;
+      count = c.put_head.new.out.count;
+    } in
+    let short : length whole < 2 ^ 62 =
+    omega (arith, length-canonical h c.put_head.ensures.read, header_len_most h c.put_head.ensures.read) in
     let cut : WritesFront s whole t = rw c.if-out.false at c.put_head.ensures.bytes.1 in
     let at = front_is s t whole refl c.fault.ensures.small short cut in
     let offset : c.fault.result.place.offset ≡ c.put_head.new.out.count = ap (λ (f : Fault). f.place.offset) c.fault.ensures.fault in
-    let wrote : Appends s.contents t.contents (take c.fault.result.place.offset whole) = subst (λ (n : ℕ). Appends s.contents t.contents (take n whole)) (sym offset) at.1 in (
+    let wrote : Appends s.contents t.contents (take c.fault.result.place.offset whole) =
+    subst (λ (n : ℕ). Appends s.contents t.contents (take n whole)) (sym offset) at.1 in (
       whole,
       canonical_is h c.put_head.ensures.read,
       record {

@@ -12,4 +12,5 @@ returns-in_err-len-clause-first c =
 
 pub returns-clause-found : goal.returns-clause-found
 returns-clause-found c =
-    subst (λ n. BeginsBlock c.args.first (take n c.args.rest.now) c.args.rest.now) (sym c.in_ok-len.ensures.ok.1) (stands c.args.first c.args.rest.now (search rules) c.in_ok-len.ensures.ok.0)
+    subst (λ n. BeginsBlock c.args.first (take n c.args.rest.now) c.args.rest.now) (sym c.in_ok-len.ensures.ok.1)
+    (stands c.args.first c.args.rest.now (search rules) c.in_ok-len.ensures.ok.0)

@@ -13,8 +13,11 @@ loop-hob-preserved c =
     let h = c.hob-item.result in
     let new : c.match-span.list.items ≡ c.loop-hob.list.items ++ with_span c.span.result [] =
     elim c.match-span.branch [
-      | in-Some+in_ok-push w ↦ span_some c.span.result w.in-Some.span c.loop-hob.list.items c.match-span.list.items w.in-Some.is (ap (λ (v : Vec Span Global). v.items) w.list-is ∙ w.in_ok-push.ensures.items)
-      | in_default w ↦ span_none c.span.result c.loop-hob.list.items c.match-span.list.items w.in_default.is (ap (λ (v : Vec Span Global). v.items) w.list-is)
+      | in-Some+in_ok-push w ↦ span_some c.span.result w.in-Some.span c.loop-hob.list.items c.match-span.list.items w.in-Some.is
+          (ap (λ (v : Vec Span Global). v.items) w.list-is ∙ w.in_ok-push.ensures.items)
+      | in_default w ↦ span_none c.span.result c.loop-hob.list.items c.match-span.list.items w.in_default.is
+          (ap (λ (v : Vec Span Global). v.items) w.list-is)
     ] in
-    spans_more c.args.hobs.now c.loop-hob.hob-index h c.span.result c.loop-hob.list.items c.match-span.list.items (subst (λ (l : List HobForm). c.loop-hob.hob-index < length l) same c.loop-hob-test.true)
+    spans_more c.args.hobs.now c.loop-hob.hob-index h c.span.result c.loop-hob.list.items c.match-span.list.items
+    (subst (λ (l : List HobForm). c.loop-hob.hob-index < length l) same c.loop-hob-test.true)
     (c.hob-item.is ∙ ap (λ (l : List HobForm). get_or l c.loop-hob.hob-index h) same) c.span.ensures c.loop-hob.invariant new

@@ -14,7 +14,8 @@ loop-list-preserved c =
     let stands = rw c.in-Some.is at c.in_ok-frame.ensures.found in
     let items : c.push.new.self.items ≡ c.loop-list.list.items ++ c.in-Some.frame ∷ [] = search rules in
     record {
-      split = kept c.args.stream.now c.loop-list.list.items c.push.new.self.items c.in-Some.frame c.loop-list.tail c.loop-list.at _ _ c.loop-list.invariant.split c.loop-list.invariant.even stands items c.behind-next.ensures.next c.behind-next.ensures.left;
+      split = kept c.args.stream.now c.loop-list.list.items c.push.new.self.items c.in-Some.frame c.loop-list.tail c.loop-list.at _ _
+          c.loop-list.invariant.split c.loop-list.invariant.even stands items c.behind-next.ensures.next c.behind-next.ensures.left;
       even = omega (arith, c.behind-next.ensures.next);
     }
 
@@ -26,7 +27,8 @@ loop-list-smaller c =
 pub returns-in_err-frame-clause-first : goal.returns-in_err-frame-clause-first
 returns-in_err-frame-clause-first c =
     let p = err_from_is_err_and c.from_residual.result c.from_residual.ensures.1 in
-    rw (p.1, p.2) (λ memory. first_here c.args.stream.now _ c.loop-list.tail c.loop-list.at _ c.loop-list.invariant.split c.loop-list.invariant.even c.in_err-frame.ensures.place.1 c.in_err-frame.ensures.first)
+    rw (p.1, p.2) (λ memory. first_here c.args.stream.now _ c.loop-list.tail c.loop-list.at _ c.loop-list.invariant.split
+    c.loop-list.invariant.even c.in_err-frame.ensures.place.1 c.in_err-frame.ensures.first)
 
 pub returns-in_err-frame-clause-bound : goal.returns-in_err-frame-clause-bound
 returns-in_err-frame-clause-bound c =

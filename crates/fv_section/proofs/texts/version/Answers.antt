@@ -5,4 +5,5 @@ use Rattle.fv_section.proofs.texts.version.Goals as goal
 
 pub returns-in_err-text-clause-none : goal.returns-in_err-text-clause-none
 returns-in_err-text-clause-none c =
-    rw c.from_residual.ensures (λ build text is. version_none c.args.body.now build text (λ t h. c.in_err-text.ensures.none t (subst (λ u. IsText u t) (sym c.split_at.ensures.back) h)) is)
+    rw c.from_residual.ensures (λ build text is. version_none c.args.body.now build text
+    (λ t h. c.in_err-text.ensures.none t (subst (λ u. IsText u t) (sym c.split_at.ensures.back) h)) is)

@@ -15,7 +15,8 @@ returns-in-Some-Some c =
     let second = text_answer compare_app refl refl _ app words m found (codes "second") in
     record {
       command = refl;
-      hex = flag_answer (codes "hex") refl refl refl compare_app [] _ refl refl refl refl refl refl _ app words m found c.get_flag.result flag.value flag.other;
+      hex = flag_answer (codes "hex") refl refl refl compare_app [] _ refl refl refl refl refl refl _ app words m found
+          c.get_flag.result flag.value flag.other;
       texts = (
         ap Some c.in_ok-from_str-in-Some-Some.ensures.ok ∙ c.in-Some-Some.ensures ∙ first,
         ap Some c.in_ok-from_str-in-Some-Some-2.ensures.ok ∙ c.in-Some-Some.ensures' ∙ second,

@@ -17,7 +17,8 @@ returns c =
     let which = number_answer extract_app refl refl _ app words m found (codes "instance") in
     record {
       command = refl;
-      hex = flag_answer (codes "hex") refl refl refl extract_app [] _ refl refl refl refl refl refl _ app words m found c.get_flag.result flag.value flag.other;
+      hex = flag_answer (codes "hex") refl refl refl extract_app [] _ refl refl refl refl refl refl _ app words m found
+          c.get_flag.result flag.value flag.other;
       texts = (
         c.in_ok-file_of.ensures ∙ text_answer extract_app refl refl _ app words m found (codes "file"),
         same_part _ _ _ _ _ _ c.in_ok-part_of.field-0 name section which c.in_ok-part_of.ensures,

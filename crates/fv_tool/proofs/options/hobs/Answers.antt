@@ -16,7 +16,8 @@ returns c =
     let base = number_answer hobs_app refl refl _ app words m found (codes "base") in
     record {
       command = refl;
-      hex = flag_answer (codes "hex") refl refl refl hobs_app [] _ refl refl refl refl refl refl _ app words m found c.get_flag.result flag.value flag.other;
+      hex = flag_answer (codes "hex") refl refl refl hobs_app [] _ refl refl refl refl refl refl _ app words m found
+          c.get_flag.result flag.value flag.other;
       texts = (
         c.in_ok-file_of.ensures ∙ text_answer hobs_app refl refl _ app words m found (codes "file"),
         same_image _ _ _ _ c.in_ok-image_of.field-0 path base c.in_ok-image_of.ensures,

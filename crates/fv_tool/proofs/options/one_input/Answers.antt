@@ -13,7 +13,8 @@ returns-clause-hex c =
     let found = c.in_ok-matches.ensures.matches in
     let app = c.in_ok-one_input_words.ensures in
     let flag = c.get_flag.ensures in
-    flag_answer (codes "hex") refl refl refl one_input_app [] _ refl refl refl refl refl refl _ app words m found c.get_flag.result flag.value flag.other
+    flag_answer (codes "hex") refl refl refl one_input_app [] _ refl refl refl refl refl refl _ app words m found
+    c.get_flag.result flag.value flag.other
 
 pub returns-clause-file : goal.returns-clause-file
 returns-clause-file c =

@@ -26,7 +26,8 @@ returns-in_err-check_top-clause-bound c =
     ap (map file_form) c.as_slice-2.ensures.value ∙ c.keep_alive.ensures in
     let some =
     subst (AllByRecursion P) (sym kept)
-    (all_filter (λ f. not (list_any (replaces f) (map file_form c.args.files.items))) P (map file_form c.args.files.items) c.requires.within) in
+    (all_filter (λ f. not (list_any (replaces f) (map file_form c.args.files.items))) P
+    (map file_form c.args.files.items) c.requires.within) in
     rw (p.1, p.2)
     (top_bound c.in_err-check_top.field-0.0 c.args.length c.args.length (map file_form c.as_slice-2.result.now) some
     c.in_err-check_top.ensures.first)

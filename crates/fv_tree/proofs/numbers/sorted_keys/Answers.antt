@@ -1,4 +1,5 @@
-use Rattle.std.proofs.Common.{◌≡◌, ◌<◌, ◌+◌, ◌/◌, ◌*◌, ◌%◌, ◌^◌, ℕ, [], ◌∷◌, ◌++◌, length, List, map, sym, ap, ◌∙◌, subst, arith, rules, bit_or}
+use Rattle.std.proofs.Common.{◌≡◌, ◌<◌, ◌+◌, ◌/◌, ◌*◌, ◌%◌, ◌^◌, ℕ, [], ◌∷◌, ◌++◌, length, List, map, sym, ap, ◌∙◌, subst, arith, rules}
+use Rattle.std.proofs.Common.{bit_or}
 use Rattle.std.specs.List.{AllByRecursion, range_with_len}
 use Rattle.std.specs.List.Sorted.{IsPermutation}
 use Rattle.std.proofs.lemmas.List.{length-map, map-append}

@@ -189,13 +189,15 @@ read_body-returns-in_err-files-clause-first t c =
 
 pub read_body-read_files-requires : goal.read_body-read_files-requires
 read_body-read_files-requires t c =
-    let same : map file_form c.as_slice.result.now ≡ map file_form c.in_ok-files.files.items = ap (map file_form) c.as_slice.ensures.value in
+    let same : map file_form c.as_slice.result.now ≡ map file_form c.in_ok-files.files.items =
+    ap (map file_form) c.as_slice.ensures.value in
     (omega arith, (c.requires.depth, subst (AllStored c.args.place.offset) (sym same) c.in_ok-files.ensures.stored))
 
 pub read_body-returns-in_err-views-clause-none : goal.read_body-returns-in_err-views-clause-none
 read_body-returns-in_err-views-clause-none t c =
     let p = err_from_is_err_and c.from_residual-in_err-views.result c.from_residual-in_err-views.ensures.1 in
-    let same : map file_form c.as_slice.result.now ≡ map file_form c.in_ok-files.files.items = ap (map file_form) c.as_slice.ensures.value in
+    let same : map file_form c.as_slice.result.now ≡ map file_form c.in_ok-files.files.items =
+    ap (map file_form) c.as_slice.ensures.value in
     let S = Stream c.args.left in
     rw (p.1, p.2) (λ ne. body_none S c.args.extent c.args.volume.now (map file_form c.in_ok-files.files.items) c.in_ok-files.ensures.only
     (subst (λ (fs : List FileForm). (ts : List FileMeaning) → Pairs (MeansFile S) fs ts → ⊥) same (c.in_err-views.ensures.none ne)))
@@ -203,19 +205,20 @@ read_body-returns-in_err-views-clause-none t c =
 pub read_body-returns-in_err-views-clause-first : goal.read_body-returns-in_err-views-clause-first
 read_body-returns-in_err-views-clause-first t c =
     let p = err_from_is_err_and c.from_residual-in_err-views.result c.from_residual-in_err-views.ensures.1 in
-    let same : map file_form c.as_slice.result.now ≡ map file_form c.in_ok-files.files.items = ap (map file_form) c.as_slice.ensures.value in
+    let same : map file_form c.as_slice.result.now ≡ map file_form c.in_ok-files.files.items =
+    ap (map file_form) c.as_slice.ensures.value in
     let S = Stream c.args.left in
     let I = FirstInStream c.args.left in
     let place = c.args.place in
     let e = c.in_err-views.field-0.0 in
-    rw (p.1, p.2) (λ ne. files_first S I c.args.extent c.args.volume.now place.offset place.depth (map file_form c.in_ok-files.files.items) e
-    c.in_ok-files.ensures.found
-    (subst (λ (fs : List FileForm). FirstOf (MeansFile S) (λ f. FileFirst I e f place.offset place.depth) fs) same
-    (c.in_err-views.ensures.first ne)))
+    rw (p.1, p.2) (λ ne. files_first S I c.args.extent c.args.volume.now place.offset place.depth (map file_form c.in_ok-files.files.items)
+    e c.in_ok-files.ensures.found (subst (λ (fs : List FileForm). FirstOf (MeansFile S) (λ f. FileFirst I e f place.offset place.depth) fs)
+    same (c.in_err-views.ensures.first ne)))
 
 pub read_body-returns-clause-found : goal.read_body-returns-clause-found
 read_body-returns-clause-found t c =
-    let same : map file_form c.as_slice.result.now ≡ map file_form c.in_ok-files.files.items = ap (map file_form) c.as_slice.ensures.value in
+    let same : map file_form c.as_slice.result.now ≡ map file_form c.in_ok-files.files.items =
+    ap (map file_form) c.as_slice.ensures.value in
     let S = Stream c.args.left in
     body_found S c.args.extent c.args.volume.now (map file_form c.in_ok-files.files.items) c.in_ok-views.views.items
     c.in_ok-files.ensures.found
@@ -223,15 +226,17 @@ read_body-returns-clause-found t c =
 
 pub read_body-returns-clause-only : goal.read_body-returns-clause-only
 read_body-returns-clause-only t c =
-    let same : map file_form c.as_slice.result.now ≡ map file_form c.in_ok-files.files.items = ap (map file_form) c.as_slice.ensures.value in
+    let same : map file_form c.as_slice.result.now ≡ map file_form c.in_ok-files.files.items =
+    ap (map file_form) c.as_slice.ensures.value in
     let S = Stream c.args.left in
-    body_only S c.args.extent c.args.volume.now (map file_form c.in_ok-files.files.items) c.in_ok-files.ensures.only c.in_ok-views.views.items
-    (subst (λ (fs : List FileForm). (ts : List FileMeaning) → Pairs (MeansFile S) fs ts → ts ≡ c.in_ok-views.views.items) same
-    c.in_ok-views.ensures.only)
+    body_only S c.args.extent c.args.volume.now (map file_form c.in_ok-files.files.items) c.in_ok-files.ensures.only
+    c.in_ok-views.views.items (subst (λ (fs : List FileForm). (ts : List FileMeaning) → Pairs (MeansFile S) fs ts
+    → ts ≡ c.in_ok-views.views.items) same c.in_ok-views.ensures.only)
 
 pub read_body-returns-clause-numbers : goal.read_body-returns-clause-numbers
 read_body-returns-clause-numbers t c =
-    let same : map file_form c.as_slice.result.now ≡ map file_form c.in_ok-files.files.items = ap (map file_form) c.as_slice.ensures.value in
+    let same : map file_form c.as_slice.result.now ≡ map file_form c.in_ok-files.files.items =
+    ap (map file_form) c.as_slice.ensures.value in
     let S = Stream c.args.left in
     let pairs = subst (λ (fs : List FileForm). Pairs (MeansFile S) fs c.in_ok-views.views.items) same c.in_ok-views.ensures.found in
     subst (λ (ns : List Guid). IsIndex ns c.in_ok-files.numbers.sorted.items)

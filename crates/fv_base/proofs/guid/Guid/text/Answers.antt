@@ -15,4 +15,5 @@ pub returns-clause-read : goal.returns-clause-read
 returns-clause-read c =
     let same = c.copy_from_slice.ensures.after ∙ c.as_bytes.ensures.value in
     subst (λ (text : List ℕ). guid_read text ≡ Some c.args.self) (sym same)
-    (reads_again c.args.self c.encode_lower-written.result.now _ (search rules) (c.hyphenated.ensures ∙ c.from_bytes_le-uuid.ensures) c.encode_lower-written.ensures.parsed)
+    (reads_again c.args.self c.encode_lower-written.result.now _ (search rules) (c.hyphenated.ensures ∙ c.from_bytes_le-uuid.ensures)
+    c.encode_lower-written.ensures.parsed)

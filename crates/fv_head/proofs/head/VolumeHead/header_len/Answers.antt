@@ -21,4 +21,5 @@ pub returns-clause-length : goal.returns-clause-length
 returns-clause-length c = omega (arith, ap length c.as_slice.ensures, ap header_len_of c.self.view_is)
 
 pub returns-clause-most : goal.returns-clause-most
-returns-clause-most c = subst (λ (h : HeadFields). header_len_of h ≤ header_limit) c.self.view_is (header_len_most (fields_held c.self.inside) c.self.invariant)
+returns-clause-most c =
+    subst (λ (h : HeadFields). header_len_of h ≤ header_limit) c.self.view_is (header_len_most (fields_held c.self.inside) c.self.invariant)

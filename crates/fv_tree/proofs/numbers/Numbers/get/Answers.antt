@@ -24,8 +24,8 @@ returns-in_default c = λ fs has.
     let same = c.deref.ensures.value in
     let at : HoldsAt (λ e. entry_cmp e (c.halves-key.result, 0) ≡ Equal) es k =
     subst (λ (l : List Entry). HoldsAt (λ e. entry_cmp e (c.halves-key.result, 0) ≡ Equal) l k) same c.in_default.ensures.ok in
-    found_first es c.args.name.now fs c.halves-key.ensures.whole has k (subst (λ (l : List Entry). k < length l) same c.in_default.ensures.bound)
-    (subst (λ (h : Halves). HoldsAt (λ e. entry_cmp e (h, 0) ≡ Equal) es k) c.halves-key.ensures.is at)
+    found_first es c.args.name.now fs c.halves-key.ensures.whole has k (subst (λ (l : List Entry). k < length l) same
+    c.in_default.ensures.bound) (subst (λ (h : Halves). HoldsAt (λ e. entry_cmp e (h, 0) ≡ Equal) es k) c.halves-key.ensures.is at)
 
 pub returns-then-eq : goal.returns-then-eq
 returns-then-eq c = λ fs has.

@@ -52,7 +52,8 @@ returns-clause-found c =
     let all : IsPermutation (range_with_len 0 (length files)) (map number keys) =
     subst (λ (l : List ℕ). IsPermutation (range_with_len 0 (length files)) (map number l)) (sym c.deref-key-items.ensures.value)
     c.in_ok-keys.ensures.numbers in
-    let whole : c.loop-key.sorted.items ≡ map f keys = c.loop-key.invariant ∙ ap (map f) (take_all c.loop-key.key-index keys (omega arith)) in
+    let whole : c.loop-key.sorted.items ≡ map f keys =
+    c.loop-key.invariant ∙ ap (map f) (take_all c.loop-key.key-index keys (omega arith)) in
     record {
       ordered = c.sort_unstable.ensures.sorted;
       all = IsPermutation-trans names c.loop-key.sorted.items c.sort_unstable.new.self.items
