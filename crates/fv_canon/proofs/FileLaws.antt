@@ -84,7 +84,7 @@ here_is total e f fs s ss placed =
       stands = st;
       low = low st.lawful.apart;
       apart = apart st.lawful.apart;
-      multiple = even st.lawful.apart;
+      multiple = eighth st.lawful.apart;
       most =
           small (data_len_of f) (head_len_for (data_len_of f)) (header_least (needs_large (data_len_of f))) (low st.lawful.apart) st.within;
       ends = st.within;
@@ -99,8 +99,8 @@ here_is total e f fs s ss placed =
     apart (inl a) = inl (omega arith)
     apart (inr a) = inr (omega arith)
 
-    even : (s ≡ e) ⊎ (e + 24 ≤ s) → (s - e) % 8 ≡ 0
-    even a = omega (arith, placed.eighth, placed.follow.0.lawful.eighth)
+    eighth : (s ≡ e) ⊎ (e + 24 ≤ s) → (s - e) % 8 ≡ 0
+    eighth a = omega (arith, placed.eighth, placed.follow.0.lawful.eighth)
 
     small : (n k : ℕ) → 24 ≤ k → e ≤ s → s + (k + n) ≤ total → n ≤ 268435424
     small n k l o w = omega (arith, l, o, w, placed.behind, placed.limit)

@@ -68,7 +68,7 @@ pads_tile system p zero gap at rest forms least most multiple behind =
     pad_tiles system p gap at rest forms (omega (arith, least)) (omega (arith, most)) multiple behind
 pads_tile system p (suc n) gap at rest forms least most multiple behind =
     let next = pads_tile system p n (gap - long_pad) (at + long_pad) rest forms (low n gap least) (high n gap least most)
-    (even gap multiple) (subst (λ (k : ℕ). Tiled system p k rest forms) (moved at gap n least) behind) in
+    (eighth gap multiple) (subst (λ (k : ℕ). Tiled system p k rest forms) (moved at gap n least) behind) in
     subst (λ (xs : List ℕ). Tiled system p at xs forms) (sym (append_assoc (pad_bytes p long_pad) (pads p n (gap - long_pad)) rest))
     (pad_tiles system p long_pad at (pads p n (gap - long_pad) ++ rest) forms (omega arith) (omega arith) refl next)
   where
@@ -78,8 +78,8 @@ pads_tile system p (suc n) gap at rest forms least most multiple behind =
     high : (n gap : ℕ) → suc n * 0xffff00 + 24 ≤ gap → gap ≤ suc n * 0xffff00 + 0xfffff8 → gap - 0xffff00 ≤ n * 0xffff00 + 0xfffff8
     high n gap l m = omega (arith, l, m)
 
-    even : (gap : ℕ) → gap % 8 ≡ 0 → (gap - 0xffff00) % 8 ≡ 0
-    even gap e = omega (arith, e)
+    eighth : (gap : ℕ) → gap % 8 ≡ 0 → (gap - 0xffff00) % 8 ≡ 0
+    eighth gap e = omega (arith, e)
 
     moved : (at gap n : ℕ) → suc n * 0xffff00 + 24 ≤ gap → at + gap ≡ (at + 0xffff00) + (gap - 0xffff00)
     moved at gap n l = omega (arith, l)
@@ -208,4 +208,4 @@ body_tiles system p total e (f ∷ fs) (s ∷ ss) h m all follow =
     ended s a b n k u p q r = omega arith
 
 pub pads_rule : PadsRule
-pads_rule gap least even = (λ fits. omega (arith, fits), λ past. (omega (arith, past, even), omega (arith, past, even)))
+pads_rule gap least eighth = (λ fits. omega (arith, fits), λ past. (omega (arith, past, eighth), omega (arith, past, eighth)))

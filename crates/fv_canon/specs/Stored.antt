@@ -6,7 +6,7 @@ use Rattle.fv_base.specs.Flash.{erased_byte}
 use Rattle.fv_base.specs.Value.{up_to_8}
 use Rattle.fv_base.specs.declared.flash.Polarity.{Polarity}
 use Rattle.fv_base.specs.declared.guid.Guid.{Guid}
-use Rattle.fv_file.specs.Attributes.{is_summed}
+use Rattle.fv_file.specs.Attributes.{attributes_by, is_summed}
 use Rattle.fv_file.specs.Files.{file_header_len}
 use Rattle.fv_file.specs.NewHeaders.{needs_large, complement, fixed_checksum, file_head_of, pad_head_of}
 use Rattle.fv_head.specs.Attributes.{polarity_of}
@@ -41,7 +41,7 @@ file_sum_for attributes payload = if is_summed attributes then complement (sum p
 -- header and data
 unfoldable pub stored_bytes : Polarity → StoredFile → List ℕ
 stored_bytes polarity f =
-    file_head_of f.name f.kind (record { 0 = f.attributes }) (length f.payload)
+    file_head_of f.name f.kind (attributes_by f.attributes) (length f.payload)
     (file_sum_for f.attributes f.payload) polarity ++ f.payload
 
 -- a pad: its header, and erased bytes

@@ -1,6 +1,7 @@
 //! The pieces of a canonical image: pads, gaps, and the headers of files and sections.
 
 ghost use Rattle.std.specs.Prelude.{◌⊎◌, ◌≡◌, ◌≤◌, ◌<◌, ◌+◌, ◌-◌, ◌%◌, ◌*◌, ◌^◌, ℕ, [], ◌∷◌, ◌++◌, replicate};
+ghost use Rattle.fv_file.specs.Attributes.{attributes_by};
 ghost use Rattle.fv_section.specs.Frames.{up_to_4};
 ghost use Rattle.fv_section.specs.SectionImage.{FitsForm, section_head_of};
 ghost use Rattle.fv_tree.specs.Meaning.{file_name_of, file_kind_of, attributes_of, data_len_of};
@@ -79,7 +80,7 @@ pub(crate) fn size_for(data_len: u64) -> u64
 pub(crate) fn put_file_head<S: Sink>(out: &mut S, file: &FileView<'_>, sum: u8, polarity: Polarity)
     requires most { data_len_of file.now ≤ 268435424 }
     ensures { S.takes out.old (file_head_of (file_name_of file.now) (file_kind_of file.now)
-        (record { 0 = attributes_of file.now }) (data_len_of file.now) sum polarity) out.new }
+        (attributes_by (attributes_of file.now)) (data_len_of file.now) sum polarity) out.new }
 {
     let name = file.name();
     let head = file_head_bytes(

@@ -6,6 +6,10 @@ use Rattle.fv_file.specs.declared.attributes.FileAttributes.{FileAttributes}
 abbrev pub attribute_bits : FileAttributes → ℕ
 attribute_bits a = a.0
 
+-- the attributes of these bits
+abbrev pub attributes_by : ℕ → FileAttributes
+attributes_by bits = record { 0 = bits }
+
 -- bit 01, FFS_ATTRIB_LARGE_FILE: the header has 32 bytes, and the size stands behind its first 24
 abbrev pub is_large : ℕ → Bool
 is_large attributes = attributes % 2 == 1

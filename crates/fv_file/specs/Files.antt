@@ -6,7 +6,7 @@ use Rattle.fv_base.specs.Value.{le_at, field}
 use Rattle.fv_base.specs.declared.flash.FileSystem.{FileSystem}
 use Rattle.fv_base.specs.declared.flash.FileSystem.TheVariants.{Ffs3}
 use Rattle.fv_base.specs.declared.flash.Polarity.{Polarity}
-use Rattle.fv_file.specs.Attributes.{attribute_bits, is_large, is_fixed, is_summed}
+use Rattle.fv_file.specs.Attributes.{attribute_bits, attributes_by, is_fixed, is_large, is_summed}
 use Rattle.fv_file.specs.States.{StateOf, is_alive}
 use Rattle.fv_file.specs.declared.head.FileHead.{FileHead}
 use Rattle.fv_file.specs.declared.state.FileState.{FileState}
@@ -32,7 +32,7 @@ head_in state b = record {
   header_sum = slice_index b 16;
   file_sum = slice_index b 17;
   kind = slice_index b 18;
-  attributes = record { 0 = slice_index b 19 };
+  attributes = attributes_by (slice_index b 19);
   size = file_size_in (is_large (slice_index b 19)) b;
   header_len = file_header_len (is_large (slice_index b 19));
   state = state;

@@ -8,7 +8,7 @@ use Rattle.fv_base.specs.declared.flash.FileSystem.TheVariants.{Ffs3}
 use Rattle.fv_base.specs.declared.flash.Polarity.{Polarity}
 use Rattle.fv_base.specs.declared.flash.Polarity.TheVariants.{Ones, Zeros}
 use Rattle.fv_base.specs.declared.guid.Guid.{Guid}
-use Rattle.fv_file.specs.Attributes.{attribute_bits, is_large}
+use Rattle.fv_file.specs.Attributes.{attribute_bits, attributes_by, is_large}
 use Rattle.fv_file.specs.Cells.{IsCell, Valid, Pad}
 use Rattle.fv_file.specs.Files.{file_header_len, pad_kind, IsFileHeader, IsSound}
 use Rattle.fv_file.specs.declared.attributes.FileAttributes.{FileAttributes}
@@ -40,7 +40,7 @@ abbrev pub fields_of : List ℕ → ℕ → ℕ → ℕ → Bool → ℕ → ℕ
 fields_of name kind attributes size large header_sum file_sum = record {
   name = guid_of name;
   kind = kind;
-  attributes = record { 0 = attributes };
+  attributes = attributes_by attributes;
   size = size;
   header_len = file_header_len large;
   header_sum = header_sum;

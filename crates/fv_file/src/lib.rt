@@ -5,6 +5,7 @@ mod attributes;
 mod cell;
 mod cell_list;
 mod cell_walk;
+mod first_file;
 mod head;
 mod layout;
 mod leading;
@@ -12,13 +13,12 @@ mod new_header;
 mod state;
 #[cfg(test)]
 mod tests;
-mod verify;
 
 pub use attributes::FileAttributes;
 pub use cell::Cell;
 pub use cell_list::Cells;
 pub use cell_walk::cells;
+pub use first_file::verify_ffs_file;
 pub use head::FileHead;
 pub use new_header::{HeadBytes, file_head_bytes, pad_head_bytes};
 pub use state::{FileState, file_state};
-pub use verify::verify_ffs_file;

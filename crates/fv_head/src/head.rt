@@ -13,12 +13,12 @@ use crate::attributes::FvAttributes;
 use crate::block_map::BlockMap;
 use crate::ext::{ExtHeader, ext_of};
 use crate::extent::Extent;
+use crate::header_checks::verify_fv;
 use crate::layout::{
     ATTRIBUTES_OFFSET, BLOCK_ENTRY_LEN, BLOCK_LENGTH_OFFSET, BLOCK_MAP_OFFSET, HEADER_LEAST,
     NUM_BLOCKS_OFFSET, RESERVED_OFFSET, ZERO_VECTOR_OFFSET, ext_bytes_at, ext_offset_at,
     volume_len_at,
 };
-use crate::verify::verify_fv;
 use bitflags::Flags;
 use fv_base::field::{field, u32_at};
 use fv_base::{Fault, FileSystem};

@@ -13,7 +13,7 @@ ghost use Rattle.fv_head.specs.WordSums.{AddsWords, word_weight};
 
 use crate::ext_image::len_of_ext;
 use crate::head::VolumeHead;
-use crate::verify::{REVISION, SIGNATURE, system_guid};
+use crate::header_checks::{REVISION, SIGNATURE, system_guid};
 use bitflags::Flags;
 use byteorder::{ByteOrder, LittleEndian};
 use fv_base::field::up_to_8;

@@ -8,10 +8,10 @@ mod ext_image;
 mod extent;
 mod head;
 mod head_image;
+mod header_checks;
 mod layout;
 #[cfg(test)]
 mod tests;
-mod verify;
 mod write;
 
 pub use attributes::FvAttributes;
@@ -21,5 +21,5 @@ pub use ext_image::{ext_bytes, len_of_ext, put_ext};
 pub use extent::Extent;
 pub use head::{VolumeHead, read_head};
 pub use head_image::{first_edge, head_bytes, put_head};
-pub use verify::{is_one_volume, verify_fv};
+pub use header_checks::{is_one_volume, verify_fv};
 pub use write::{write_ext, write_head};

@@ -2,15 +2,15 @@
 #![tactic(auto)]
 
 mod alive;
-pub mod difference;
-pub mod lookup;
+mod difference;
+mod lookup;
 mod numbers;
-pub mod read;
-pub mod scanner;
+mod read;
+mod scanner;
 mod stream;
 #[cfg(test)]
 mod tests;
-pub mod view;
+mod view;
 
 pub use difference::{Difference, Step, Word, first_difference};
 pub use lookup::{Item, Lookup, file_by_name, file_by_type, next_file, section_by_type};

@@ -1,6 +1,6 @@
 use Rattle.std.proofs.Common.{arith, ◌∙◌, sym}
 use Rattle.fv_head.proofs.BlockLemmas.{makes_up-step}
-use Rattle.fv_head.proofs.verify.makes_up.Goals as goal
+use Rattle.fv_head.proofs.header_checks.makes_up.Goals as goal
 
 pub loop-rest-preserved : goal.loop-rest-preserved
 loop-rest-preserved c = (

@@ -3,7 +3,7 @@ use Rattle.std.proofs.lemmas.Result.{err_from_is_err_and}
 use Rattle.fv_head.specs.HeadChecks.{front_checks, whole_checks}
 use Rattle.fv_base.proofs.CheckLemmas.{first_front, first_whole}
 use Rattle.fv_head.proofs.FrontLemmas.{verdict_err, verdict_extent}
-use Rattle.fv_head.proofs.verify.verdict.Goals as goal
+use Rattle.fv_head.proofs.header_checks.verdict.Goals as goal
 
 pub returns-in_err-file_system : goal.returns-in_err-file_system
 returns-in_err-file_system c =

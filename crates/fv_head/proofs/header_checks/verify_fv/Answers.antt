@@ -1,6 +1,6 @@
 use Rattle.std.proofs.Common.{rules, ◌∙◌}
 use Rattle.fv_head.proofs.FrontLemmas.{ok_found, front_only, err_first, err_within}
-use Rattle.fv_head.proofs.verify.verify_fv.Goals as goal
+use Rattle.fv_head.proofs.header_checks.verify_fv.Goals as goal
 
 pub returns-clause-found : goal.returns-clause-found
 returns-clause-found c = ok_found c.args.bytes.now c.verdict.result (search rules) c.verdict.ensures

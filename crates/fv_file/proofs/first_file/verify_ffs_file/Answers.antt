@@ -1,6 +1,6 @@
 use Rattle.std.proofs.Common.{◌∙◌}
 use Rattle.fv_file.proofs.VerifyLemmas.{ok_found, begins_only, err_first}
-use Rattle.fv_file.proofs.verify.verify_ffs_file.Goals as goal
+use Rattle.fv_file.proofs.first_file.verify_ffs_file.Goals as goal
 
 pub returns-clause-found : goal.returns-clause-found
 returns-clause-found c = ok_found c.args.system c.args.polarity c.args.bytes.now c.verdict.result c.verdict.ensures

@@ -1,7 +1,7 @@
 use Rattle.std.proofs.Common.{◌≡◌, ◌%◌, length}
 use Rattle.fv_head.specs.Pairs.{pairs_of}
 use Rattle.fv_head.specs.HeadChecks.{makes_up}
-use Rattle.fv_head.proofs.verify.makes_up.Given as goal
+use Rattle.fv_head.proofs.header_checks.makes_up.Given as goal
 
 -- what is left of the blocks answers for all of them
 abbrev pub invariant-loop-rest : goal.invariant-loop-rest
