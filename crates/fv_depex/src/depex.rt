@@ -28,7 +28,7 @@ impl Model for Depex {
 }
 
 impl Depex {
-    /// The expression of these ops and this rest.
+    // The expression of these ops and this rest.
     pub(crate) fn from_parts(phase: Phase, ops: Vec<Op>, rest: ByteList) -> Depex
         requires { IsReadDepex (record { phase = phase; ops = ops.items; rest = rest }) }
         ensures { result ≡ record { phase = phase; ops = ops.items; rest = rest } }

@@ -25,7 +25,7 @@ const ORDER: [u8; 16] = [
 /// A body, in parts.
 type Parts = &'static [&'static [u8]];
 
-/// The parts, joined.
+// The parts, joined.
 fn joined(alloc: Global, parts: &[&[u8]]) -> Result<Vec<u8>, DepexFault> {
     let mut bytes = Vec::new(alloc);
     for part in parts {
@@ -34,7 +34,7 @@ fn joined(alloc: Global, parts: &[&[u8]]) -> Result<Vec<u8>, DepexFault> {
     Ok(bytes)
 }
 
-/// TRUE, 1000 times TRUE and AND, then an op, and END.
+// TRUE, 1000 times TRUE and AND, then an op, and END.
 fn long(alloc: Global, last: u8) -> Result<Vec<u8>, DepexFault> {
     let mut bytes = Vec::new(alloc);
     bytes.push(0x06)?;
@@ -45,7 +45,7 @@ fn long(alloc: Global, last: u8) -> Result<Vec<u8>, DepexFault> {
     Ok(bytes)
 }
 
-/// The fault of an expression, if it is refused.
+// The fault of an expression, if it is refused.
 fn fault_of(alloc: Global, bytes: &[u8], phase: Phase) -> Option<DepexFault> {
     match read_depex(alloc, bytes, phase) {
         Ok(_depex) => None,

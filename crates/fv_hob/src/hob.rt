@@ -167,7 +167,7 @@ fn len_of(kind: &HobKind) -> usize
 }
 
 impl Hob {
-    /// The block of these parts.
+    // The block of these parts.
     pub(crate) fn from_parts(reserved: u32, kind: HobKind) -> Hob
         requires { IsReadHob (record { reserved = reserved; kind = kind }) }
         ensures { result ≡ record { reserved = reserved; kind = kind } }

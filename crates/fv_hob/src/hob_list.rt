@@ -27,7 +27,7 @@ impl Model for HobList {
 }
 
 impl HobList {
-    /// The list of these blocks.
+    // The list of these blocks.
     pub(crate) fn from_vec(list: Vec<Hob>) -> HobList
         requires { IsReadList list.items }
         ensures { result ≡ list.items }

@@ -126,7 +126,7 @@ const BEHIND: Parts = &[
     &[0xaa, 0xbb, 0xcc],
 ];
 
-/// Puts parts behind the bytes.
+// Puts parts behind the bytes.
 fn push_parts(bytes: &mut Vec<u8>, parts: &[&[u8]]) -> Result<(), AllocError> {
     for part in parts {
         bytes.extend_from_slice(part)?;
@@ -134,7 +134,7 @@ fn push_parts(bytes: &mut Vec<u8>, parts: &[&[u8]]) -> Result<(), AllocError> {
     Ok(())
 }
 
-/// The parts, and more behind them, joined.
+// The parts, and more behind them, joined.
 fn joined(alloc: Global, parts: &[&[u8]], more: &[&[u8]]) -> Result<Vec<u8>, HobFault> {
     let mut bytes = Vec::new(alloc);
     push_parts(&mut bytes, parts)?;
@@ -142,7 +142,7 @@ fn joined(alloc: Global, parts: &[&[u8]], more: &[&[u8]]) -> Result<Vec<u8>, Hob
     Ok(bytes)
 }
 
-/// Puts a part over the bytes that stand from a place on.
+// Puts a part over the bytes that stand from a place on.
 fn put(bytes: &mut [u8], at: usize, part: &[u8]) {
     let mut place = at;
     for byte in part {
@@ -153,14 +153,14 @@ fn put(bytes: &mut [u8], at: usize, part: &[u8]) {
     }
 }
 
-/// The type and the length field of a block.
+// The type and the length field of a block.
 fn header(code: u16, length: u16) -> [u8; 4] {
     let [code_low, code_high] = code.to_le_bytes();
     let [length_low, length_high] = length.to_le_bytes();
     [code_low, code_high, length_low, length_high]
 }
 
-/// The fault of the list that begins the bytes, if it is refused.
+// The fault of the list that begins the bytes, if it is refused.
 fn fault_of(alloc: Global, bytes: &[u8]) -> Option<HobFault> {
     match read_hobs(alloc, bytes) {
         Ok((_list, _)) => None,
@@ -168,13 +168,13 @@ fn fault_of(alloc: Global, bytes: &[u8]) -> Option<HobFault> {
     }
 }
 
-/// How many blocks the list has that begins the bytes, and how many bytes.
+// How many blocks the list has that begins the bytes, and how many bytes.
 fn counts(alloc: Global, bytes: &[u8]) -> Result<(usize, u64), HobFault> {
     let (list, length) = read_hobs(alloc, bytes)?;
     Ok((list.as_slice().len(), length))
 }
 
-/// Whether the list that begins the bytes is written as these.
+// Whether the list that begins the bytes is written as these.
 fn is_written_as(alloc: Global, bytes: &[u8], expected: &[u8]) -> Result<bool, HobFault> {
     let (list, _) = read_hobs(alloc, bytes)?;
     let written = hob_bytes(alloc, &list)?;

@@ -17,13 +17,13 @@ use crate::{Content, FileView, VolumeView, read_volume};
 use std::alloc::Global;
 use std::str::from_utf8;
 
-/// The byte that two hexadecimal digits are.
+// The byte that two hexadecimal digits are.
 fn byte_of(digits: &[u8]) -> Option<u8> {
     u8::from_str_radix(from_utf8(digits).ok()?, 16).ok()
 }
 
-/// The bytes that a text spells. Two digits are a byte, a star and a number behind a word repeat
-/// it, and spaces part words.
+// The bytes that a text spells. Two digits are a byte, a star and a number behind a word repeat
+// it, and spaces part words.
 fn spell(alloc: Global, text: &str) -> Option<Vec<u8>> {
     let mut bytes = Vec::new(alloc);
     for word in text.split_whitespace() {
@@ -37,14 +37,14 @@ fn spell(alloc: Global, text: &str) -> Option<Vec<u8>> {
     Some(bytes)
 }
 
-/// What is wanted of the case of a line, and how its bytes are spelled.
+// What is wanted of the case of a line, and how its bytes are spelled.
 fn row_of(line: &str) -> Option<(&str, &str)> {
     let (_, parts) = line.split_once(": ")?;
     parts.split_once(": ")
 }
 
-/// What a file shows: the first byte of its name, its type, its attribute bits, how many bytes its data have, and how
-/// many sections, if they are sections.
+// What a file shows: the first byte of its name, its type, its attribute bits, how many bytes its data have, and how
+// many sections, if they are sections.
 fn listed(alloc: Global, file: &FileView) -> Option<String> {
     let sections = match file.content() {
         Content::Plain(_) => None,
@@ -55,7 +55,7 @@ fn listed(alloc: Global, file: &FileView) -> Option<String> {
     format!(in alloc; "{first:02x} {kind:02x} {bits:02x} {len} {sections:?}").ok()
 }
 
-/// How many bytes a volume has, and its files.
+// How many bytes a volume has, and its files.
 fn list_of(alloc: Global, view: &VolumeView, length: u64) -> Option<String> {
     let mut list = format!(in alloc; "{length}").ok()?;
     for number in 0..view.file_count() {
@@ -66,7 +66,7 @@ fn list_of(alloc: Global, view: &VolumeView, length: u64) -> Option<String> {
     Some(list)
 }
 
-/// The volume that is read of some bytes, or the kind, offset and depth of the fault that refuses them.
+// The volume that is read of some bytes, or the kind, offset and depth of the fault that refuses them.
 fn told(alloc: Global, bytes: &[u8]) -> Option<String> {
     match read_volume(alloc, bytes) {
         Ok((view, length)) => list_of(alloc, &view, length),
@@ -77,7 +77,7 @@ fn told(alloc: Global, bytes: &[u8]) -> Option<String> {
     }
 }
 
-/// Whether what is told of the bytes of a line is what it wants.
+// Whether what is told of the bytes of a line is what it wants.
 fn is_told(alloc: Global, line: &str) -> Option<bool> {
     let (wanted, text) = row_of(line)?;
     let bytes = spell(alloc, text)?;

@@ -20,7 +20,7 @@ const SEVERAL: [u8; 14] = [
 /// Bodies, and their values where A is installed.
 const BODIES: [(&[u8], bool); 2] = [(&NOT_A, false), (&SEVERAL, true)];
 
-/// Whether an expression has its value, and is written as it was, or memory was refused.
+// Whether an expression has its value, and is written as it was, or memory was refused.
 fn is_answered(alloc: Global, depex: &Depex, bytes: &[u8], value: bool) -> bool {
     let truth = evaluate(alloc, depex, &[Guid::from_bytes(A)]);
     let is_written = match depex_bytes(alloc, depex) {
@@ -30,7 +30,7 @@ fn is_answered(alloc: Global, depex: &Depex, bytes: &[u8], value: bool) -> bool 
     is_written && (truth == Ok(Some(value)) || truth == Err(WANT))
 }
 
-/// Whether a body is read, and answered so, or memory was refused.
+// Whether a body is read, and answered so, or memory was refused.
 fn is_read(alloc: Global, bytes: &[u8], value: bool) -> bool {
     match read_depex(alloc, bytes, Phase::Dxe) {
         Ok(depex) => is_answered(alloc, &depex, bytes, value),

@@ -148,7 +148,7 @@ const READ: &[(Phase, Parts, &[Shown], &[u8])] = &[
     ),
 ];
 
-/// Whether an op carries the GUID of these bytes, or none where there are no bytes.
+// Whether an op carries the GUID of these bytes, or none where there are no bytes.
 fn has_operand(op: &Op, operand: &[u8]) -> bool {
     match op {
         Op::Before(guid) | Op::After(guid) | Op::Push(guid) => {
@@ -159,7 +159,7 @@ fn has_operand(op: &Op, operand: &[u8]) -> bool {
     }
 }
 
-/// How many ops from the first on are these, one behind the other.
+// How many ops from the first on are these, one behind the other.
 fn shown(found: &[Op], ops: &[Shown]) -> usize {
     let mut at = 0;
     for op in found {
@@ -170,7 +170,7 @@ fn shown(found: &[Op], ops: &[Shown]) -> usize {
     at
 }
 
-/// How many of the ops a body is read as, if it has so many, and whether this is its rest.
+// How many of the ops a body is read as, if it has so many, and whether this is its rest.
 fn read_as(
     alloc: Global,
     parts: Parts,
@@ -193,7 +193,7 @@ fn expressions_are_read(rt: HostRuntime) -> Result<(), Fail> {
     Ok(())
 }
 
-/// How many ops an expression has, and how many bytes behind END.
+// How many ops an expression has, and how many bytes behind END.
 fn counts(alloc: Global, bytes: &[u8], phase: Phase) -> Result<(usize, usize), DepexFault> {
     let depex = read_depex(alloc, bytes, phase)?;
     Ok((depex.ops().len(), depex.rest().len()))
@@ -224,7 +224,7 @@ fn a_long_expression_is_refused(rt: HostRuntime) -> Result<(), Fail> {
     Ok(())
 }
 
-/// The fault of a body, if it is refused.
+// The fault of a body, if it is refused.
 fn fault_in(alloc: Global, parts: Parts, phase: Phase) -> Result<Option<DepexFault>, DepexFault> {
     let bytes = joined(alloc, parts)?;
     Ok(fault_of(alloc, bytes.as_slice(), phase))
@@ -246,7 +246,7 @@ fn faults_have_their_places(rt: HostRuntime) -> Result<(), Fail> {
     Ok(())
 }
 
-/// The fault of so many bytes of NOT_A, fewer than it has: the GUID is cut, or END is missing.
+// The fault of so many bytes of NOT_A, fewer than it has: the GUID is cut, or END is missing.
 fn fault_of_front(length: usize) -> DepexFault {
     if length == 0 || length >= 17 {
         DepexFault {

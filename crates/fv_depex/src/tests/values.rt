@@ -54,7 +54,7 @@ pub(super) const VALUES: &[(Parts, [bool; 4])] = &[
     ),
 ];
 
-/// The value of an expression of the phase, where these GUIDs are installed.
+// The value of an expression of the phase, where these GUIDs are installed.
 fn value(
     alloc: Global,
     bytes: &[u8],
@@ -65,7 +65,7 @@ fn value(
     evaluate(alloc, &depex, installed)
 }
 
-/// The values of a body where nothing is installed, A alone, B alone, and both.
+// The values of a body where nothing is installed, A alone, B alone, and both.
 fn values(alloc: Global, parts: &[&[u8]], phase: Phase) -> Result<[Option<bool>; 4], DepexFault> {
     let a = Guid::from_bytes(A);
     let b = Guid::from_bytes(B);

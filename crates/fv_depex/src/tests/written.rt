@@ -18,14 +18,14 @@ const BODIES: &[(Phase, Parts)] = &[
     (Phase::Pei, &[&[0x02], &ORDER, &[0x08]]),
 ];
 
-/// Whether a body is written as it was read.
+// Whether a body is written as it was read.
 fn is_kept(alloc: Global, bytes: &[u8], phase: Phase) -> Result<bool, DepexFault> {
     let depex = read_depex(alloc, bytes, phase)?;
     let written = depex_bytes(alloc, &depex)?;
     Ok(written.as_slice() == bytes)
 }
 
-/// Whether a body in parts is.
+// Whether a body in parts is.
 fn are_kept(alloc: Global, parts: Parts, phase: Phase) -> Result<bool, DepexFault> {
     let bytes = joined(alloc, parts)?;
     is_kept(alloc, bytes.as_slice(), phase)

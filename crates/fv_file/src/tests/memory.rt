@@ -6,7 +6,7 @@ use super::written::{FILES, PADS, is_file, is_pad};
 use crate::{FileState, file_state};
 use fv_base::{Fault, FaultKind, FileSystem, Polarity};
 
-/// Whether the calls that take no memory answer.
+// Whether the calls that take no memory answer.
 fn are_answered() -> bool {
     let (size, polarity, fields) = PADS[0];
     is_file(&FILES[0])

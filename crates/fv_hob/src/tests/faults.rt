@@ -65,8 +65,8 @@ fn faults_have_their_places(rt: HostRuntime) -> Result<(), Fail> {
     Ok(())
 }
 
-/// The fault of so many bytes of the list, fewer than it has: a block is cut, or the end block is
-/// missing.
+// The fault of so many bytes of the list, fewer than it has: a block is cut, or the end block is
+// missing.
 fn fault_of_front(length: usize) -> HobFault {
     let mut last = 0;
     for at in [0, 56, 112, 120, 152] {
@@ -83,7 +83,7 @@ fn fault_of_front(length: usize) -> HobFault {
     HobFault { kind, offset }
 }
 
-/// The fault that so many bytes of the list have, if they are refused.
+// The fault that so many bytes of the list have, if they are refused.
 fn fault_of_first(alloc: Global, length: usize) -> Result<Option<HobFault>, HobFault> {
     let bytes = joined(alloc, LIST, &[])?;
     let list = bytes.as_slice();

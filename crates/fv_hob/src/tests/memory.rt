@@ -11,7 +11,7 @@ const WANT: HobFault = HobFault {
     offset: 0,
 };
 
-/// Puts the parts, joined, into the bytes.
+// Puts the parts, joined, into the bytes.
 fn lay(bytes: &mut [u8], parts: Parts) {
     let mut at = 0usize;
     for part in parts {
@@ -20,7 +20,7 @@ fn lay(bytes: &mut [u8], parts: Parts) {
     }
 }
 
-/// Whether a list is written as these bytes, or memory was refused.
+// Whether a list is written as these bytes, or memory was refused.
 fn is_written(alloc: Global, list: &HobList, wanted: &[u8]) -> bool {
     match hob_bytes(alloc, list) {
         Ok(bytes) => bytes.as_slice() == wanted,
@@ -28,7 +28,7 @@ fn is_written(alloc: Global, list: &HobList, wanted: &[u8]) -> bool {
     }
 }
 
-/// Whether a list names these volumes, or memory was refused.
+// Whether a list names these volumes, or memory was refused.
 fn is_named(alloc: Global, list: &HobList, wanted: &[Span]) -> bool {
     match volume_hobs(alloc, list) {
         Ok(spans) => spans.as_slice() == wanted,
@@ -54,8 +54,8 @@ const TYPES_SPANS: [Span; 2] = [
     },
 ];
 
-/// Whether the bytes are read as a list of these headers that names these volumes and is written as it was, or memory
-/// was refused.
+// Whether the bytes are read as a list of these headers that names these volumes and is written as it was, or memory
+// was refused.
 fn is_answered(alloc: Global, bytes: &[u8], headers: &[Header], spans: &[Span]) -> bool {
     match read_hobs(alloc, bytes) {
         Ok((list, length)) => {

@@ -28,7 +28,7 @@ const SECOND_SAYS: Handoff = Handoff {
     end_of_list: 0xefee_edec_ebea_e9e8,
 };
 
-/// Whether a block is a table that says this.
+// Whether a block is a table that says this.
 fn is_handoff(hob: &Hob, says: &Handoff) -> bool {
     match hob.kind() {
         HobKind::Handoff(said) => *said == *says,
@@ -39,7 +39,7 @@ fn is_handoff(hob: &Hob, says: &Handoff) -> bool {
 /// The bytes behind the allocation.
 const REST: &[u8] = &[0x38, 0x39, 0x3a, 0x3b, 0x3c, 0x3d, 0x3e, 0x3f];
 
-/// Whether a block is the allocation in the list of all types.
+// Whether a block is the allocation in the list of all types.
 fn is_allocation(hob: &Hob) -> bool {
     match hob.kind() {
         HobKind::MemoryAllocation(said) => {
@@ -54,7 +54,7 @@ fn is_allocation(hob: &Hob) -> bool {
     }
 }
 
-/// Whether it is the resource.
+// Whether it is the resource.
 fn is_resource(hob: &Hob) -> bool {
     match hob.kind() {
         HobKind::Resource(said) => {
@@ -68,7 +68,7 @@ fn is_resource(hob: &Hob) -> bool {
     }
 }
 
-/// Whether it is the volume.
+// Whether it is the volume.
 fn is_volume(hob: &Hob) -> bool {
     match hob.kind() {
         HobKind::FirmwareVolume { base, length } => {
@@ -78,7 +78,7 @@ fn is_volume(hob: &Hob) -> bool {
     }
 }
 
-/// Whether it is the processor.
+// Whether it is the processor.
 fn is_cpu(hob: &Hob) -> bool {
     match hob.kind() {
         HobKind::Cpu {
@@ -94,7 +94,7 @@ fn is_cpu(hob: &Hob) -> bool {
     }
 }
 
-/// Whether it is the capsule.
+// Whether it is the capsule.
 fn is_capsule(hob: &Hob) -> bool {
     match hob.kind() {
         HobKind::Capsule { base, length } => {
@@ -104,7 +104,7 @@ fn is_capsule(hob: &Hob) -> bool {
     }
 }
 
-/// Whether a block is a volume from a file of another, that says this.
+// Whether a block is a volume from a file of another, that says this.
 fn is_volume2(hob: &Hob, base: u64, length: u64, volume_name: Guid, file_name: Guid) -> bool {
     match hob.kind() {
         HobKind::FirmwareVolume2 {
@@ -122,7 +122,7 @@ fn is_volume2(hob: &Hob, base: u64, length: u64, volume_name: Guid, file_name: G
     }
 }
 
-/// Whether a block has this data of this name.
+// Whether a block has this data of this name.
 fn is_extension(hob: &Hob, named: Guid, data: &[u8]) -> bool {
     match hob.kind() {
         HobKind::GuidExtension { name, payload } => *name == named && payload.as_slice() == data,
@@ -130,7 +130,7 @@ fn is_extension(hob: &Hob, named: Guid, data: &[u8]) -> bool {
     }
 }
 
-/// Whether a block has this type, which has no row of its own, and this body.
+// Whether a block has this type, which has no row of its own, and this body.
 fn is_other(hob: &Hob, its: u16, body: &[u8]) -> bool {
     match hob.kind() {
         HobKind::Other { code, payload } => *code == its && payload.as_slice() == body,
@@ -138,7 +138,7 @@ fn is_other(hob: &Hob, its: u16, body: &[u8]) -> bool {
     }
 }
 
-/// Whether a block is not used, and has a body of so many bytes.
+// Whether a block is not used, and has a body of so many bytes.
 fn is_unused(hob: &Hob, length: u16) -> bool {
     match hob.kind() {
         HobKind::Unused { body_len } => *body_len == length,
@@ -146,7 +146,7 @@ fn is_unused(hob: &Hob, length: u16) -> bool {
     }
 }
 
-/// Whether a block stands in the list at this place, from 0.
+// Whether a block stands in the list at this place, from 0.
 fn stands_in_list(hob: &Hob, at: usize) -> bool {
     match at {
         0 => is_handoff(hob, &HANDOFF_SAYS),
@@ -173,7 +173,7 @@ const DATA: &[u8] = &[
     0x00, 0x01, 0x02, 0x03, 0x04, 0x05, 0x06, 0x07,
 ];
 
-/// Whether a block stands in the list of all types at this place, from 0.
+// Whether a block stands in the list of all types at this place, from 0.
 fn stands_in_types(hob: &Hob, at: usize) -> bool {
     let a = Guid::from_bytes(A);
     let b = Guid::from_bytes(B);
@@ -224,13 +224,13 @@ pub(super) const TYPES_HEADERS: &[Header] = &[
     (1, 0xffff, 8),
 ];
 
-/// Whether a block has this header.
+// Whether a block has this header.
 fn has_header(hob: &Hob, header: &Header) -> bool {
     let (reserved, code, length) = *header;
     hob.reserved() == reserved && hob.code() == code && hob.length() == length
 }
 
-/// How many blocks from the first on have these headers, one behind the other.
+// How many blocks from the first on have these headers, one behind the other.
 pub(super) fn headed(hobs: &[Hob], headers: &[Header]) -> usize {
     let mut at = 0;
     for hob in hobs {
@@ -272,8 +272,8 @@ fn each_type_is_read(rt: HostRuntime) -> Result<(), Fail> {
 /// Lists, how many blocks they have, and how many bytes.
 const COUNTS: &[(Parts, usize, u64)] = &[(LIST, 5, 160), (TYPES, 13, 448), (SHORTEST, 2, 64)];
 
-/// How many blocks the list has that these parts are, with so many of the others behind it, and how
-/// many bytes.
+// How many blocks the list has that these parts are, with so many of the others behind it, and how
+// many bytes.
 fn counts_with(alloc: Global, parts: Parts, more: usize) -> Result<(usize, u64), HobFault> {
     let bytes = joined(alloc, parts, &BEHIND[..more.min(BEHIND.len())])?;
     counts(alloc, bytes.as_slice())

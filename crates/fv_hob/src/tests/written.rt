@@ -7,8 +7,8 @@ use crate::{Hob, HobFault, Span, read_hobs, volume_hobs};
 use std::alloc::Global;
 use std::test::Fail;
 
-/// Whether a list is written as it was read. The body of the unused block, which stands at 312,
-/// alone is not kept.
+// Whether a list is written as it was read. The body of the unused block, which stands at 312,
+// alone is not kept.
 fn is_kept(alloc: Global, parts: Parts) -> Result<bool, HobFault> {
     let bytes = joined(alloc, parts, BEHIND)?;
     let mut expected = joined(alloc, parts, &[])?;
@@ -65,7 +65,7 @@ const VOLUMES: &[(Parts, &[Span])] = &[
     ),
 ];
 
-/// Whether a list names these volumes.
+// Whether a list names these volumes.
 fn has_volumes(alloc: Global, parts: Parts, expected: &[Span]) -> Result<bool, HobFault> {
     let bytes = joined(alloc, parts, BEHIND)?;
     let (list, _) = read_hobs(alloc, bytes.as_slice())?;
@@ -82,8 +82,8 @@ fn volumes_are_named_in_their_order(rt: HostRuntime) -> Result<(), Fail> {
     Ok(())
 }
 
-/// Whether a block of the list of all types names what it is to name: the fourth one a volume, the
-/// eleventh one that stood in a file of another, and the others none.
+// Whether a block of the list of all types names what it is to name: the fourth one a volume, the
+// eleventh one that stood in a file of another, and the others none.
 fn names_its_volume(hob: &Hob, at: usize) -> bool {
     match hob.span() {
         Some(span) if at == 3 => span.base == 0x6f6e_6d6c_6b6a_6968,
@@ -105,7 +105,7 @@ fn other_blocks_name_no_volume(rt: HostRuntime) -> Result<(), Fail> {
     Ok(())
 }
 
-/// A list of 1000 volumes of 16 bytes, at the addresses 0 to 999.
+// A list of 1000 volumes of 16 bytes, at the addresses 0 to 999.
 fn long(alloc: Global) -> Result<Vec<u8>, HobFault> {
     let mut bytes = joined(alloc, &[&HANDOFF], &[])?;
     for at in 0..1000u16 {
@@ -122,7 +122,7 @@ fn long(alloc: Global) -> Result<Vec<u8>, HobFault> {
     Ok(bytes)
 }
 
-/// How many spans from the first on lie at 0, at 1 and so on, and have 16 bytes.
+// How many spans from the first on lie at 0, at 1 and so on, and have 16 bytes.
 fn in_order(spans: &[Span]) -> u64 {
     let mut at = 0u64;
     for span in spans {

@@ -27,13 +27,13 @@ const NINE_FRAMES: [Seen<'static>; 9] = [
     (32, 0x19, false, &[]),
 ];
 
-/// Whether a stream without a tail is split into the frames that are seen, or memory was refused.
+// Whether a stream without a tail is split into the frames that are seen, or memory was refused.
 fn is_answered(alloc: Global, stream: &[u8], seen: &[Seen]) -> bool {
     let found = is_split(alloc, stream, seen, 0);
     found == Ok(true) || found == Err(Fault::outer(FaultKind::OutOfMemory, 0))
 }
 
-/// Whether the calls that take no memory answer.
+// Whether the calls that take no memory answer.
 fn are_answered() -> bool {
     let (body, text) = TEXTS[0];
     let (numbered, parts) = VERSIONS[0];

@@ -4,7 +4,7 @@ use super::{row_of, spell};
 use crate::{Body, Content, FileView, SectionView, VolumeView, read_volume};
 use std::alloc::Global;
 
-/// Files with sections.
+// Files with sections.
 fn streams() -> &'static str {
     "\
     two sections: 2 0; 19 false 1, leaf 100 101; 19 false 2, leaf 108 110: \
@@ -70,7 +70,7 @@ fn streams() -> &'static str {
     "
 }
 
-/// Files of bytes.
+// Files of bytes.
 fn plain() -> &'static str {
     "\
     a byte: 0 96 97: \
@@ -103,14 +103,14 @@ fn plain() -> &'static str {
     "
 }
 
-/// The bytes of the volume between two places.
+// The bytes of the volume between two places.
 fn between<'a>(volume: &'a [u8], places: &str) -> Option<&'a [u8]> {
     let (from, to) = places.split_once(' ')?;
     volume.get(from.parse::<usize>().ok()?..to.parse::<usize>().ok()?)
 }
 
-/// Whether a section of the volume holds what some words say: the bytes between two places of it, so many sections and
-/// a tail, or so many files.
+// Whether a section of the volume holds what some words say: the bytes between two places of it, so many sections and
+// a tail, or so many files.
 fn has_body(alloc: Global, section: &SectionView, volume: &[u8], wanted: &str) -> Option<bool> {
     let found = match section.body() {
         Body::Leaf(_) => {
@@ -128,8 +128,8 @@ fn has_body(alloc: Global, section: &SectionView, volume: &[u8], wanted: &str) -
     Some(found.as_str() == wanted)
 }
 
-/// Whether a section of the volume is the wanted one: its type, whether its header is extended, how many bytes its
-/// body has, and what it holds.
+// Whether a section of the volume is the wanted one: its type, whether its header is extended, how many bytes its
+// body has, and what it holds.
 fn is_framed(alloc: Global, section: &SectionView, volume: &[u8], wanted: &str) -> Option<bool> {
     let (head, holds) = wanted.split_once(", ")?;
     let (kind, extended, len) = (section.kind(), section.extended(), section.body_len());
@@ -137,7 +137,7 @@ fn is_framed(alloc: Global, section: &SectionView, volume: &[u8], wanted: &str) 
     Some(found.as_str() == head && has_body(alloc, section, volume, holds)?)
 }
 
-/// Whether a file of the volume holds so many sections and bytes behind them, and these sections.
+// Whether a file of the volume holds so many sections and bytes behind them, and these sections.
 fn has_sections(alloc: Global, file: &FileView, volume: &[u8], wanted: &str) -> Option<bool> {
     let Content::Stream { sections, tail } = file.content() else {
         return None;
@@ -155,7 +155,7 @@ fn has_sections(alloc: Global, file: &FileView, volume: &[u8], wanted: &str) -> 
     Some(parts.next().is_none() && file.plain().is_none())
 }
 
-/// Whether the first file of the volume of a line holds its sections.
+// Whether the first file of the volume of a line holds its sections.
 fn is_stream(alloc: Global, line: &str) -> Option<bool> {
     let (wanted, text) = row_of(line)?;
     let volume = spell(alloc, text)?;
@@ -163,14 +163,14 @@ fn is_stream(alloc: Global, line: &str) -> Option<bool> {
     has_sections(alloc, view.file(0)?, &volume, wanted)
 }
 
-/// Whether the data of a file lie between two places of the volume.
+// Whether the data of a file lie between two places of the volume.
 fn has_data(view: &VolumeView, volume: &[u8], wanted: &str) -> Option<bool> {
     let (number, places) = wanted.split_once(' ')?;
     let file = view.file(number.parse::<u32>().ok()?)?;
     Some(file.plain()? == between(volume, places)?)
 }
 
-/// Whether the file of the volume of a line holds its bytes.
+// Whether the file of the volume of a line holds its bytes.
 fn is_plain(alloc: Global, line: &str) -> Option<bool> {
     let (wanted, text) = row_of(line)?;
     let volume = spell(alloc, text)?;

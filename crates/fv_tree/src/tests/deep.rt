@@ -4,7 +4,7 @@ use super::spell;
 use crate::{Body, Content, SectionView, VolumeView, read_volume};
 use std::alloc::Global;
 
-/// Volumes of which a part is not read, or read apart.
+// Volumes of which a part is not read, or read apart.
 pub(super) fn accepted() -> &'static str {
     "\
     the stream of a superseded file is not read: 136, 0a 02 00 5 Some(1): \
@@ -31,7 +31,7 @@ pub(super) fn accepted() -> &'static str {
     "
 }
 
-/// Faults in groups and in volumes, and the first of several.
+// Faults in groups and in volumes, and the first of several.
 pub(super) fn refused() -> &'static str {
     "\
     nine groups: Depth 128 8: \
@@ -137,7 +137,7 @@ pub(super) fn refused() -> &'static str {
     "
 }
 
-/// What lies in what, from the outside in, g a group and v a volume, and how it is spelled.
+// What lies in what, from the outside in, g a group and v a volume, and how it is spelled.
 fn levels() -> &'static str {
     "\
     gggggggg: \
@@ -188,7 +188,7 @@ fn levels() -> &'static str {
     "
 }
 
-/// The sections of the first file.
+// The sections of the first file.
 fn first_stream<'v, 'a>(view: &'v VolumeView<'a>) -> Option<&'v [SectionView<'a>]> {
     match view.file(0)?.content() {
         Content::Stream { sections, .. } => Some(sections.as_slice()),
@@ -196,8 +196,8 @@ fn first_stream<'v, 'a>(view: &'v VolumeView<'a>) -> Option<&'v [SectionView<'a>
     }
 }
 
-/// Whether a section holds a group or a volume, and the sections of the group, or of the volume's
-/// first file, if it has one.
+// Whether a section holds a group or a volume, and the sections of the group, or of the volume's
+// first file, if it has one.
 fn below<'v, 'a>(section: &'v SectionView<'a>) -> Option<(u8, Option<&'v [SectionView<'a>]>)> {
     match section.body() {
         Body::Leaf(_) => None,
@@ -206,7 +206,7 @@ fn below<'v, 'a>(section: &'v SectionView<'a>) -> Option<(u8, Option<&'v [Sectio
     }
 }
 
-/// Whether the first sections hold one another so.
+// Whether the first sections hold one another so.
 fn has_levels(view: &VolumeView, levels: &str) -> Option<bool> {
     let mut sections = first_stream(view);
     for level in levels.bytes() {
@@ -219,7 +219,7 @@ fn has_levels(view: &VolumeView, levels: &str) -> Option<bool> {
     Some(sections.is_none_or(|last| last.is_empty()))
 }
 
-/// Whether the volume of a line has its levels.
+// Whether the volume of a line has its levels.
 fn is_nested(alloc: Global, line: &str) -> Option<bool> {
     let (levels, text) = line.split_once(": ")?;
     let bytes = spell(alloc, text)?;

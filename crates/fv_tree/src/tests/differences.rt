@@ -4,7 +4,7 @@ use super::{row_of, spell};
 use crate::{VolumeView, first_difference, read_volume};
 use std::alloc::Global;
 
-/// Two volumes each.
+// Two volumes each.
 fn compared() -> &'static str {
     "\
     zero vector: [] ZeroVector: \
@@ -178,7 +178,7 @@ fn compared() -> &'static str {
     "
 }
 
-/// Whether two volumes first differ as some words say.
+// Whether two volumes first differ as some words say.
 fn differ_as(alloc: Global, volume: &VolumeView, other: &VolumeView, wanted: &str) -> Option<bool> {
     let Some(found) = first_difference(alloc, volume, other).ok()? else {
         return Some(wanted == "same");
@@ -187,14 +187,14 @@ fn differ_as(alloc: Global, volume: &VolumeView, other: &VolumeView, wanted: &st
     Some(format!(in alloc; "{steps:?} {word:?}").ok()?.as_str() == wanted)
 }
 
-/// Whether the volumes in the bytes of a line first differ so.
+// Whether the volumes in the bytes of a line first differ so.
 fn are_compared(alloc: Global, bytes: &[u8], other: &[u8], wanted: &str) -> Option<bool> {
     let (volume, _) = read_volume(alloc, bytes).ok()?;
     let (other, _) = read_volume(alloc, other).ok()?;
     differ_as(alloc, &volume, &other, wanted)
 }
 
-/// Whether the two volumes of a line first differ as it says.
+// Whether the two volumes of a line first differ as it says.
 fn is_compared(alloc: Global, line: &str) -> Option<bool> {
     let (wanted, texts) = row_of(line)?;
     let (text, other) = texts.split_once(" -> ")?;

@@ -4,7 +4,7 @@ use super::{listed, spell};
 use crate::read_volume;
 use std::alloc::Global;
 
-/// Volumes with files whose header has 32 bytes.
+// Volumes with files whose header has 32 bytes.
 pub(super) fn accepted() -> &'static str {
     "\
     a large header: 128, 0a 01 00 0 None: \
@@ -22,7 +22,7 @@ pub(super) fn accepted() -> &'static str {
     "
 }
 
-/// Such volumes that are refused.
+// Such volumes that are refused.
 pub(super) fn refused() -> &'static str {
     "\
     a large header in the second file system: LargeFile 91 0: \
@@ -52,7 +52,7 @@ const LONG: &str =
     "00*16 7ac07354cb3dca4dbd6f1e9689e7349a 50000001 00*4 5f465648 fffe0400 48004545 00000002 01000000 50000001 00*8 0a*16 \
      55aa0101000000f8 0800000100000000";
 
-/// Whether the long volume is read with its file, whose data are all behind the headers.
+// Whether the long volume is read with its file, whose data are all behind the headers.
 fn is_long_read(alloc: Global) -> Option<bool> {
     let front = spell(alloc, LONG)?;
     let mut bytes = vec![in alloc; 0u8; 0x100_0050].ok()?;

@@ -8,7 +8,7 @@ use crate::{
 use fv_base::Guid;
 use std::alloc::Global;
 
-/// Sections.
+// Sections.
 fn sections() -> &'static str {
     "\
     eight groups: 03 1 section 28 None; 03 8 section 0 None; 03 9 absent: \
@@ -34,7 +34,7 @@ fn sections() -> &'static str {
     "
 }
 
-/// Bytes, and where the volumes in them begin.
+// Bytes, and where the volumes in them begin.
 fn scanned() -> &'static str {
     "\
     a volume behind 64 bytes: [64]: \
@@ -64,8 +64,8 @@ fn scanned() -> &'static str {
     "
 }
 
-/// What a look-up finds: a section with a body of so many bytes, and those of a leaf; or a frame, its place,
-/// and the bytes of its body.
+// What a look-up finds: a section with a body of so many bytes, and those of a leaf; or a frame, its place,
+// and the bytes of its body.
 fn shown(alloc: Global, lookup: &Lookup) -> Option<String> {
     match lookup {
         Lookup::Found(Item::Section(section)) => {
@@ -81,7 +81,7 @@ fn shown(alloc: Global, lookup: &Lookup) -> Option<String> {
     }
 }
 
-/// Whether the section of the type and the instance that some words begin with is what the others say.
+// Whether the section of the type and the instance that some words begin with is what the others say.
 fn is_shown(alloc: Global, file: &FileView, words: &str) -> Option<bool> {
     let (kind, words) = words.split_once(' ')?;
     let (instance, wanted) = words.split_once(' ')?;
@@ -90,7 +90,7 @@ fn is_shown(alloc: Global, file: &FileView, words: &str) -> Option<bool> {
     Some(shown(alloc, &found)?.as_str() == wanted)
 }
 
-/// Whether a file has the wanted sections.
+// Whether a file has the wanted sections.
 fn has_sections(alloc: Global, file: &FileView, wanted: &str) -> Option<bool> {
     for words in wanted.split("; ") {
         if !is_shown(alloc, file, words)? {
@@ -100,7 +100,7 @@ fn has_sections(alloc: Global, file: &FileView, wanted: &str) -> Option<bool> {
     Some(true)
 }
 
-/// Whether the first file of the volume of a line has its sections.
+// Whether the first file of the volume of a line has its sections.
 fn is_sectioned(alloc: Global, line: &str) -> Option<bool> {
     let (wanted, text) = row_of(line)?;
     let bytes = spell(alloc, text)?;
@@ -115,25 +115,25 @@ fn sections_are_looked_up(rt: HostRuntime) {
     }
 }
 
-/// The number of the file behind the one of this number, and the first byte of its name.
+// The number of the file behind the one of this number, and the first byte of its name.
 fn behind(view: &VolumeView, after: Option<u32>) -> Option<(u32, u8)> {
     let (number, file) = next_file(view, after)?;
     Some((number, file.name().to_bytes()[0]))
 }
 
-/// The first byte of the name of the file of type 01 and this instance.
+// The first byte of the name of the file of type 01 and this instance.
 fn of_type(view: &VolumeView, instance: u32) -> Option<u8> {
     let file = file_by_type(view, 0x01, instance)?;
     Some(file.name().to_bytes()[0])
 }
 
-/// The first byte of the data of the file of a name that is one byte 16 times, or None where there is no such file.
+// The first byte of the data of the file of a name that is one byte 16 times, or None where there is no such file.
 fn named(view: &VolumeView, byte: u8) -> Option<u8> {
     let file = file_by_name(view, &Guid::from_bytes([byte; 16]))?;
     Some(file.plain()?.first().copied().unwrap_or(0))
 }
 
-/// Whether the files of a volume are those of some names, and there are so many.
+// Whether the files of a volume are those of some names, and there are so many.
 fn has_names(view: &VolumeView) -> bool {
     let found = [
         named(view, 0x0a),
@@ -145,7 +145,7 @@ fn has_names(view: &VolumeView) -> bool {
     found == [Some(2), Some(0), None, None] && is_last
 }
 
-/// Whether the files of a volume are those behind some, and those of some instances.
+// Whether the files of a volume are those behind some, and those of some instances.
 fn has_files(view: &VolumeView) -> bool {
     let next = [
         behind(view, None),
@@ -168,7 +168,7 @@ const STATES: &str =
     "00*16 78e58c8c3d8a1c4f9935896185c32dd3 0001 00*6 5f465648 fffe0400 4800cef4 00000002 01000000 00010000 00*8 0c*16 \
      1faa0100200000e8 00*8 0a*16 3faa0100200000f0 01*8 0b*16 37aa0100180000f8 0a*16 3faa0100200000f8 02*8 ff*64";
 
-/// Whether the files of that volume are looked up.
+// Whether the files of that volume are looked up.
 fn is_looked_up(alloc: Global) -> Option<bool> {
     let bytes = spell(alloc, STATES)?;
     let (view, _) = read_volume(alloc, &bytes).ok()?;
@@ -180,7 +180,7 @@ fn files_are_looked_up(rt: HostRuntime) {
     assert!(rt; is_looked_up(rt.alloc()) == Some(true));
 }
 
-/// Whether the volumes in the bytes of a line begin where it says.
+// Whether the volumes in the bytes of a line begin where it says.
 fn is_scanned(alloc: Global, line: &str) -> Option<bool> {
     let (wanted, text) = row_of(line)?;
     let bytes = spell(alloc, text)?;

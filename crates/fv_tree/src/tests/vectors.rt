@@ -5,7 +5,7 @@ use crate::read_volume;
 use fv_base::{Fault, FaultKind};
 use std::alloc::Global;
 
-/// Volumes that are read.
+// Volumes that are read.
 pub(super) fn accepted() -> &'static str {
     "\
     depex fault: 128, 0a 07 00 6 Some(1): \
@@ -162,7 +162,7 @@ pub(super) fn accepted() -> &'static str {
     "
 }
 
-/// Bytes that begin with no volume.
+// Bytes that begin with no volume.
 pub(super) fn refused() -> &'static str {
     "\
     block map sum past 64 bits: BlockMap 56 0: \
@@ -299,7 +299,7 @@ pub(super) fn refused() -> &'static str {
     "
 }
 
-/// Whether each front of the volume of a line is Truncated at its end.
+// Whether each front of the volume of a line is Truncated at its end.
 fn is_cut_short(alloc: Global, line: &str) -> Option<bool> {
     let (_, text) = row_of(line)?;
     let bytes = spell(alloc, text)?;

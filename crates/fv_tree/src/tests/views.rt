@@ -15,7 +15,7 @@ const SECTION: &str =
     "00*16 78e58c8c3d8a1c4f9935896185c32dd3 68 00*7 5f465648 fffe0400 4800fef5 00000002 01000000 68000000 00*8 0a*16 \
      41aa02001d0000f8 050000195affffff";
 
-/// The data of a file, or the body of its first section.
+// The data of a file, or the body of its first section.
 fn part_of<'a>(file: &FileView<'a>) -> Option<&'a [u8]> {
     match file.content() {
         Content::Plain(_) => file.plain(),
@@ -23,7 +23,7 @@ fn part_of<'a>(file: &FileView<'a>) -> Option<&'a [u8]> {
     }
 }
 
-/// A part of the first file of a volume, taken out of a view that is gone when it is used.
+// A part of the first file of a volume, taken out of a view that is gone when it is used.
 fn first_part(alloc: Global, volume: &[u8]) -> Option<&[u8]> {
     let (view, _) = read_volume(alloc, volume).ok()?;
     let part = part_of(view.file(0)?);
@@ -31,7 +31,7 @@ fn first_part(alloc: Global, volume: &[u8]) -> Option<&[u8]> {
     part
 }
 
-/// Whether the part is one byte of the input, which is let go behind it.
+// Whether the part is one byte of the input, which is let go behind it.
 fn is_byte(alloc: Global, text: &str, byte: u8) -> Option<bool> {
     let input = spell(alloc, text)?;
     let part = first_part(alloc, &input)?;
