@@ -11,7 +11,7 @@ use Rattle.fv_base.specs.Value.{up_to_8}
 use Rattle.fv_base.specs.declared.flash.Polarity.{Polarity}
 use Rattle.fv_canon.specs.Starts.{StartsFollow}
 use Rattle.fv_tree.specs.Files.{FileForm, is_marked, same_name, is_twin, NoTwins, replaces, alive_in, top_name, TopAtEnd}
-use Rattle.fv_canon.specs.Stored.{StoredFile, stored_len}
+use Rattle.fv_canon.specs.StoredFiles.{StoredFile, stored_len}
 use Rattle.fv_canon.specs.StoredWalks.{stored_part}
 use Rattle.fv_canon.proofs.TileLaws.{forms_of}
 

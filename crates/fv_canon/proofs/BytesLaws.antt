@@ -17,9 +17,9 @@ use Rattle.fv_head.specs.HeadImage.{canonical_head}
 use Rattle.fv_head.specs.ExtImage.{IfRead, canonical_end, canonical_first, payload_with, entry_bytes, entries_bytes}
 use Rattle.fv_head.specs.ExtImage.{ext_len, ext_spelled}
 use Rattle.fv_head.proofs.SpelledLemmas.{canonical_is}
-use Rattle.fv_canon.specs.Stored.{StoredFile, stored_len, stored_bytes, pad_bytes, pads, long_pad, long_pads, gap_bytes}
+use Rattle.fv_canon.specs.StoredFiles.{StoredFile, stored_len, stored_bytes, pad_bytes, pads, long_pad, long_pads, gap_bytes}
 use Rattle.fv_canon.specs.StoredWalks.{files_bytes, volume_bytes}
-use Rattle.fv_canon.specs.Stored.{ext_pad, used_size}
+use Rattle.fv_canon.specs.StoredFiles.{ext_pad, used_size}
 use Rattle.fv_canon.proofs.CellLaws.{Storable, bytes_stored, bytes_pad_head, bytes_erased, bytes_pad}
 use Rattle.fv_canon.proofs.SpanLaws.{Writable}
 

@@ -21,7 +21,7 @@ use Rattle.fv_file.specs.NewHeaders.{file_fields, pad_fields, file_head_of, pad_
 use Rattle.fv_file.specs.declared.head.FileHead.{FileHead}
 use Rattle.fv_file.proofs.AttributeLemmas.{set_large}
 use Rattle.fv_file.proofs.WrittenLemmas.{file_written, pad_written, head_of_file, head_of_pad}
-use Rattle.fv_canon.specs.Stored.{StoredFile, stored_len, head_len_for, file_sum_for, stored_bytes, pad_bytes}
+use Rattle.fv_canon.specs.StoredFiles.{StoredFile, stored_len, head_len_for, file_sum_for, stored_bytes, pad_bytes}
 
 -- ---- headers are bytes, 24 or 32 of them
 bytes_cons : (x : ℕ) (xs : List ℕ) → x < 256 → IsBytes xs → IsBytes (x ∷ xs)

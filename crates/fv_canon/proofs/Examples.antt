@@ -9,7 +9,7 @@ use Rattle.fv_head.specs.HeadImage.{canonical_head, head_spelled}
 use Rattle.fv_head.specs.ExtImage.{ext_spelled}
 use Rattle.fv_tree.specs.Meaning.{Volume, NoFiles, MoreFiles, File, Plain, Sectioned, NoSections, MoreSections, Section, Leaf, Nested}
 use Rattle.fv_canon.specs.ImageOf.{image_of}
-use Rattle.fv_canon.specs.Stored.{stored_bytes, pad_bytes, gap_bytes, ext_pad, long_pads}
+use Rattle.fv_canon.specs.StoredFiles.{stored_bytes, pad_bytes, gap_bytes, ext_pad, long_pads}
 
 abbrev guid : ℕ → Guid
 guid n = record { bytes = replicate 16 n }

@@ -15,7 +15,7 @@ use Rattle.fv_tree.specs.Sizes.{files_size, file_size}
 use Rattle.fv_tree.specs.Denotes.{IsReadFile, MeansSection, Stream}
 use Rattle.fv_canon.specs.ImageOf.{stored_of, stored_file, data_of, starts_in_file, starts_in_files, starts_in_content}
 use Rattle.fv_canon.specs.Layouts.{LaysFiles, LaysFile, LaysContent, part_of}
-use Rattle.fv_canon.specs.Stored.{stored_len, size_for, head_len_for, file_sum_for, stored_bytes, gap_bytes}
+use Rattle.fv_canon.specs.StoredFiles.{stored_len, size_for, head_len_for, file_sum_for, stored_bytes, gap_bytes}
 use Rattle.fv_canon.specs.StoredWalks.{files_bytes}
 use Rattle.fv_canon.proofs.MadeLaws.{data_made, stream_made, sections_made, laid_file, moved, behind_is}
 use Rattle.fv_canon.proofs.OneLaws.{follow_length}

@@ -5,8 +5,8 @@ use Rattle.std.proofs.Common.{get_or, drop, zero, suc}
 use Rattle.std.specs.Prelude.{IsTrue}
 use Rattle.std.proofs.lemmas.Bool.{cases_lt}
 use Rattle.std.proofs.lemmas.List.{drop_more, get_or_append_left, get_or_push, length_push}
-use Rattle.fv_canon.specs.declared.place.Part.{Part}
-use Rattle.fv_canon.specs.declared.place.Reach.{Reach}
+use Rattle.fv_canon.specs.declared.first_placement.Part.{Part}
+use Rattle.fv_canon.specs.declared.first_placement.Reach.{Reach}
 use Rattle.fv_canon.specs.Starts.{Lawful, StartsFollow}
 use Rattle.fv_canon.specs.Reaches.{CanPlace, Reaches, IsReach, Serves, IsGreatest, AreReaches}
 use Rattle.fv_canon.proofs.Numbers.{edge_eighth, edge_within, edge_above}

@@ -11,7 +11,7 @@ use Rattle.fv_canon.specs.Layouts.{LaysFiles, LaysFile, LaysContent, LaysSection
 use Rattle.fv_canon.specs.Layouts.{UnfitFiles, UnfitFile, UnfitContent, UnfitSections, UnfitSection, UnfitBody}
 use Rattle.fv_canon.proofs.DepthLaws.{nests, file_in, stream_in, sections_in}
 use Rattle.fv_canon.proofs.FitLaws.{laid_fits_section, laid_fits_file}
-use Rattle.fv_canon.specs.Grown.{Shallow}
+use Rattle.fv_canon.specs.LayoutWalks.{Shallow}
 
 -- ---- sections
 

@@ -5,7 +5,7 @@ use Rattle.fv_tree.specs.Meaning.{Meaning, Volume, FileMeanings, NoFiles, MoreFi
 use Rattle.fv_tree.specs.Meaning.{SectionMeanings, NoSections, MoreSections, SectionMeaning, Section, BodyMeaning, Leaf, Group, Nested}
 use Rattle.fv_canon.specs.Image.{IsImage, AreStored, IsStored, IsData, AreFrames, IsFrame, IsBodyImage}
 use Rattle.fv_canon.specs.Layouts.{Fits, FitFiles, FitsFile, FitsContent, FitSections, FitsSection, FitsBody}
-use Rattle.fv_canon.specs.Stored.{StoredFile}
+use Rattle.fv_canon.specs.StoredFiles.{StoredFile}
 
 mutual
   pub image_fits : (m : Meaning) (b : List ℕ) → IsImage m b → Fits m

@@ -7,7 +7,7 @@ use Rattle.fv_tree.specs.Meaning.{Meaning, head_of}
 use Rattle.fv_canon.specs.Image.{IsImage}
 use Rattle.fv_canon.specs.ImageOf.{image_of}
 use Rattle.fv_canon.specs.Layouts.{LaysVolume}
-use Rattle.fv_canon.specs.Normal.{NormalisesTo}
+use Rattle.fv_canon.specs.Headline.{NormalisesTo}
 use Rattle.fv_canon.proofs.MadeLaws.{image_made}
 use Rattle.fv_canon.proofs.NormalLaws.{accepted, images_stay}
 use Rattle.fv_canon.proofs.OneLaws.{image_one}

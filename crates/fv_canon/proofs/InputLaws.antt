@@ -12,7 +12,7 @@ use Rattle.fv_tree.specs.FaultStands.{FaultStands}
 use Rattle.fv_tree.specs.FirstFault.{IsFirstOfVolume}
 use Rattle.fv_tree.specs.Meaning.{Meaning, length_of}
 use Rattle.fv_tree.proofs.Laws.{stands_other}
-use Rattle.fv_canon.specs.Normal.{NormalisesTo}
+use Rattle.fv_canon.specs.Headline.{NormalisesTo}
 use Rattle.fv_canon.specs.Layouts.{Fits, Unfit}
 use Rattle.fv_canon.specs.Refusals.{NotRead, Refuses}
 use Rattle.fv_canon.proofs.ImageFits.{image_fits as has_image_fits}

@@ -11,8 +11,8 @@ use Rattle.fv_canon.specs.Layouts.{LaysVolume, LaysFiles, LaysFile, LaysContent,
 use Rattle.fv_canon.specs.Layouts.{first_edge, part_of, parts_of}
 use Rattle.fv_canon.proofs.MadeLaws.{laid_volume}
 use Rattle.fv_canon.proofs.OneLaws.{follow_length, starts_one}
-use Rattle.fv_canon.specs.Grown.{Grew}
-use Rattle.fv_canon.specs.Places.{Places, IsLayout}
+use Rattle.fv_canon.specs.LayoutWalks.{Grew}
+use Rattle.fv_canon.specs.LayoutForms.{Places, IsLayout}
 
 -- two joins whose parts are the same
 joined : (a b here there behind beyond : List ℕ) → a ≡ here ++ behind → b ≡ there ++ beyond → here ≡ there → behind ≡ beyond → a ≡ b

@@ -8,7 +8,7 @@ use Rattle.fv_tree.specs.Meaning.{Nested, sections_list, files_of}
 use Rattle.fv_tree.specs.Denotes.{Sections, Streams, Volumes, Pairs, StreamOver, SectionOver, VolumeOver, MeansContent, MeansFile}
 use Rattle.fv_tree.specs.Denotes.{MeansSection, Stream, Denotes, Accepted, depth_limit}
 use Rattle.fv_canon.specs.Image.{IsImage}
-use Rattle.fv_canon.specs.Normal.{MeanSame, ImagesTell, ImagesStay, OneMeaning}
+use Rattle.fv_canon.specs.Headline.{MeanSame, ImagesTell, ImagesStay, OneMeaning}
 use Rattle.fv_canon.proofs.MeaningLaws.{one_meaning}
 use Rattle.fv_canon.proofs.OneLaws.{image_one}
 use Rattle.fv_canon.proofs.VolumeLaws.{image_bytes, image_denotes, image_long}

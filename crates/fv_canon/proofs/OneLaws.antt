@@ -9,7 +9,7 @@ use Rattle.fv_base.specs.declared.guid.Guid.{Guid}
 use Rattle.fv_head.specs.Attributes.{polarity_of}
 use Rattle.fv_head.specs.Head.{HeadFields}
 use Rattle.fv_canon.specs.Starts.{StartsFollow, IsFirstPlacement}
-use Rattle.fv_canon.specs.declared.place.Part.{Part}
+use Rattle.fv_canon.specs.declared.first_placement.Part.{Part}
 use Rattle.fv_canon.proofs.PlaceLaws.{first_same}
 use Rattle.fv_section.specs.Frames.{FrameForm, frame_len, up_to_4}
 use Rattle.fv_section.specs.SectionImage.{stream_of}
@@ -18,7 +18,7 @@ use Rattle.fv_tree.specs.Meaning.{SectionMeanings, NoSections, MoreSections, Sec
 use Rattle.fv_canon.specs.Image.{IsImage, AreStored, IsStored, IsData, AreFrames, IsFrame, IsBodyImage}
 use Rattle.fv_canon.specs.Layouts.{parts_of, first_edge}
 use Rattle.fv_canon.specs.Spans.{Span, StandsIn, IsInNone, AllStandIn, ShowsSpans}
-use Rattle.fv_canon.specs.Stored.{StoredFile, volume_spans}
+use Rattle.fv_canon.specs.StoredFiles.{StoredFile, volume_spans}
 
 -- ---- bytes that show the same are the same
 

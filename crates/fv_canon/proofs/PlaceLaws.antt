@@ -4,8 +4,8 @@ use Rattle.std.proofs.Common.{◌≡◌, ℕ, ◌+◌, ◌%◌, ◌<◌, ◌≤�
 use Rattle.std.proofs.Common.{append_assoc, append-nil, length, get_or, take, drop, zero, suc}
 use Rattle.std.specs.Prelude.{IsTrue, MatchBool}
 use Rattle.std.proofs.lemmas.List.{drop_more, drop_all}
-use Rattle.fv_canon.specs.declared.place.Part.{Part}
-use Rattle.fv_canon.specs.declared.place.Reach.{Reach}
+use Rattle.fv_canon.specs.declared.first_placement.Part.{Part}
+use Rattle.fv_canon.specs.declared.first_placement.Reach.{Reach}
 use Rattle.fv_canon.specs.Starts.{Lawful, StartsFollow, Placement, IsLeast, IsFirstPlacement}
 use Rattle.fv_canon.specs.Reaches.{CanPlace, IsReach, IsFirstStart}
 use Rattle.fv_canon.proofs.Numbers.{edge_eighth, edge_within, edge_above}

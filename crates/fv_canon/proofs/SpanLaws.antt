@@ -18,7 +18,7 @@ use Rattle.fv_head.proofs.SpelledLemmas.{length-canonical}
 use Rattle.fv_head.proofs.ExtSpelled.{ext_again}
 use Rattle.fv_canon.specs.Starts.{StartsFollow}
 use Rattle.fv_canon.specs.Spans.{Span, ShowsSpans, painted, InOrder}
-use Rattle.fv_canon.specs.Stored.{StoredFile, stored_len, stored_bytes, gap_bytes, file_spans, ext_pad, volume_spans, used_size}
+use Rattle.fv_canon.specs.StoredFiles.{StoredFile, stored_len, stored_bytes, gap_bytes, file_spans, ext_pad, volume_spans, used_size}
 use Rattle.fv_canon.specs.StoredWalks.{stored_part, files_bytes, volume_bytes}
 use Rattle.fv_canon.proofs.CellLaws.{Storable, length-stored, length-pad_head}
 use Rattle.fv_canon.proofs.Paint.{shows_walk, one_image}

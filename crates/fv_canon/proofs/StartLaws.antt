@@ -2,7 +2,7 @@
 use Rattle.fv_base.specs.Value.{up_to_8}
 use Rattle.std.proofs.Common.{◌≡◌, ℕ, ◌+◌, ◌-◌, ◌%◌, ◌≤◌, inl, inr, refl, sym, ◌∙◌, ap, subst, arith, List, [], ◌∷◌, Bool, true, false}
 use Rattle.std.specs.Prelude.{MatchBool}
-use Rattle.fv_canon.specs.declared.place.Part.{Part}
+use Rattle.fv_canon.specs.declared.first_placement.Part.{Part}
 use Rattle.fv_canon.specs.Starts.{Lawful, StandsInVolume, StartsFollow, IsLeast, IsLeastStart}
 use Rattle.fv_canon.specs.Reaches.{Widens}
 

@@ -8,7 +8,7 @@ use Rattle.fv_file.specs.Attributes.{is_summed}
 use Rattle.fv_file.specs.NewHeaders.{complement, fixed_checksum, state_byte}
 use Rattle.fv_tree.specs.Meaning.{FileMeaning, File, attributes_of}
 use Rattle.fv_canon.specs.ImageOf.{stored_file, data_of}
-use Rattle.fv_canon.specs.Stored.{file_sum_for, stored_bytes}
+use Rattle.fv_canon.specs.StoredFiles.{file_sum_for, stored_bytes}
 use Rattle.fv_canon.proofs.SumLaws.{stored_adds}
 
 pub byte_added : (xs : List ℕ) (i t0 t : ℕ) → i < length xs → t % 256 ≡ (t0 + sum (take i xs)) % 256

@@ -18,8 +18,8 @@ use Rattle.fv_file.proofs.AttributeLaws.{alignment_with}
 use Rattle.fv_canon.specs.Starts.{StartsFollow}
 use Rattle.fv_tree.specs.Files.{FileForm, files_in}
 use Rattle.fv_canon.specs.Aligned.{DataAligned}
-use Rattle.fv_canon.specs.Stored.{StoredFile, head_len_for, stored_len, stored_bytes, pad_bytes, pads, long_pad, long_pads, PadsRule}
-use Rattle.fv_canon.specs.Stored.{gap_bytes}
+use Rattle.fv_canon.specs.StoredFiles.{StoredFile, head_len_for, stored_len, stored_bytes, pad_bytes, pads, long_pad, long_pads, PadsRule}
+use Rattle.fv_canon.specs.StoredFiles.{gap_bytes}
 use Rattle.fv_canon.specs.StoredWalks.{stored_part, files_bytes}
 use Rattle.fv_canon.proofs.CellLaws.{Storable, stored_head, file_cell, length-stored, pad_cell, length-pad}
 

@@ -5,8 +5,8 @@ use Rattle.std.specs.Prelude.{IsTrue}
 use Rattle.std.proofs.lemmas.Bool.{cases_lt}
 use Rattle.std.proofs.lemmas.Nat.{pow_pos}
 use Rattle.std.proofs.Math.Nat.{mod_self, mod-add-mod, mod-eq-sub-mod}
-use Rattle.fv_canon.specs.declared.place.Part.{Part}
-use Rattle.fv_canon.specs.declared.place.Reach.{Reach}
+use Rattle.fv_canon.specs.declared.first_placement.Part.{Part}
+use Rattle.fv_canon.specs.declared.first_placement.Reach.{Reach}
 use Rattle.fv_canon.specs.Reaches.{Serves, Widens}
 use Rattle.fv_canon.proofs.Numbers.{multiples_apart}
 use Rattle.fv_canon.proofs.StartLaws.{eighth_sum, eighth_difference}

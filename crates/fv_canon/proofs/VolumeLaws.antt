@@ -29,7 +29,7 @@ use Rattle.fv_head.specs.declared.extent.Extent.{Extent}
 use Rattle.fv_head.proofs.FrontLemmas.{front_lies}
 use Rattle.fv_head.proofs.SpelledLemmas.{canonical_front, length-canonical}
 use Rattle.fv_canon.specs.Starts.{StartsFollow, IsFirstPlacement}
-use Rattle.fv_canon.specs.declared.place.Part.{Part}
+use Rattle.fv_canon.specs.declared.first_placement.Part.{Part}
 use Rattle.fv_tree.specs.Files.{FileForm, files_in, NoTwins, alive_in, top_name}
 use Rattle.fv_tree.specs.Meaning.{Meaning, Volume, FileMeanings, NoFiles, MoreFiles, FileMeaning, File, ContentMeaning, Plain, Sectioned}
 use Rattle.fv_tree.specs.Meaning.{files_list, content_len}
@@ -37,7 +37,7 @@ use Rattle.fv_tree.specs.Denotes.{Streams, Pairs, MeansContent, MeansFile, Strea
 use Rattle.fv_canon.specs.Image.{IsImage, AreStored, IsStored, IsData}
 use Rattle.fv_canon.specs.Layouts.{AreStarts, parts_of, part_of}
 use Rattle.fv_canon.specs.Spans.{ShowsSpans}
-use Rattle.fv_canon.specs.Stored.{StoredFile, size_for, head_len_for, ext_pad, volume_spans, used_size}
+use Rattle.fv_canon.specs.StoredFiles.{StoredFile, size_for, head_len_for, ext_pad, volume_spans, used_size}
 use Rattle.fv_canon.specs.StoredWalks.{stored_part, files_bytes, volume_bytes}
 use Rattle.fv_canon.proofs.AliveLaws.{names_in, names_of, NamesApart, alive_apart, all_alive, forms_unmarked, no_twins, TopLast, top_last}
 use Rattle.fv_canon.proofs.AliveLaws.{forms_top, form_names}

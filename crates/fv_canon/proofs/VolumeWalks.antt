@@ -11,14 +11,14 @@ use Rattle.fv_head.specs.Head.{HeadFields}
 use Rattle.fv_head.specs.HeadImage.{canonical_head}
 use Rattle.fv_head.specs.ExtImage.{canonical_end, canonical_first}
 use Rattle.fv_canon.specs.Starts.{StartsFollow}
-use Rattle.fv_canon.specs.declared.place.Part.{Part}
+use Rattle.fv_canon.specs.declared.first_placement.Part.{Part}
 use Rattle.fv_base.specs.Value.{up_to_8}
 use Rattle.fv_tree.specs.Meaning.{Meaning, Volume, FileMeanings, FileMeaning, files_from, files_list, head_of, data_len_of}
 use Rattle.fv_tree.specs.Denotes.{IsMeaning, MeansSection, Stream}
 use Rattle.fv_canon.specs.ImageOf.{image_of, stored_of, starts_in, starts_in_files}
 use Rattle.fv_canon.specs.Image.{AreStored}
 use Rattle.fv_canon.specs.Layouts.{LaysVolume, LaysFiles, parts_of, part_of}
-use Rattle.fv_canon.specs.Stored.{StoredFile, size_for, stored_len, used_size, ext_pad}
+use Rattle.fv_canon.specs.StoredFiles.{StoredFile, size_for, stored_len, used_size, ext_pad}
 use Rattle.fv_canon.specs.StoredWalks.{stored_part, volume_bytes, files_bytes}
 use Rattle.fv_canon.proofs.MadeLaws.{files_made, stream_made, sections_made, front_is, behind_is}
 use Rattle.fv_canon.proofs.OneLaws.{follow_length}

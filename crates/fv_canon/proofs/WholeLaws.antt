@@ -14,7 +14,7 @@ use Rattle.fv_base.specs.Value.{field}
 use Rattle.fv_base.specs.declared.fault.Fault.{Fault}
 use Rattle.fv_tree.specs.Denotes.{depth_limit}
 use Rattle.fv_tree.specs.FirstFault.{moved_fault}
-use Rattle.fv_tree.specs.Found.{Found, IsCovered, VolumeAt}
+use Rattle.fv_tree.specs.FoundVolumes.{Found, IsCovered, VolumeAt}
 use Rattle.fv_tree.specs.FoundWalks.{FoundFrom}
 use Rattle.fv_tree.specs.Meaning.{Meaning}
 use Rattle.fv_tree.proofs.IndexLaws.{in_front, behind}
@@ -22,9 +22,9 @@ use Rattle.fv_tree.proofs.Laws.{one_found, one_length, at_within}
 use Rattle.fv_tree.proofs.Orders.{in_middle}
 use Rattle.fv_tree.proofs.ScanLaws.{found_walk}
 use Rattle.fv_canon.specs.Image.{IsImage}
-use Rattle.fv_canon.specs.Normal.{NormalisesTo}
+use Rattle.fv_canon.specs.Headline.{NormalisesTo}
 use Rattle.fv_canon.specs.Refusals.{Refuses}
-use Rattle.fv_canon.specs.Whole.{FirstRefused, HasImageAt, IsRenewed, NormalisesAll, RefusesAll, Renewed}
+use Rattle.fv_canon.specs.FlashImages.{FirstRefused, HasImageAt, IsRenewed, NormalisesAll, RefusesAll, Renewed}
 use Rattle.fv_canon.proofs.FaultPlaces.{refused_within}
 use Rattle.fv_canon.proofs.FitLaws.{unfit_none}
 use Rattle.fv_canon.proofs.InputLaws.{image_fits, want_known}

@@ -8,7 +8,7 @@ use Rattle.fv_base.specs.declared.fault.Fault.{Fault}
 use Rattle.fv_tree.specs.Denotes.{Accepted}
 use Rattle.fv_tree.specs.Difference.{difference}
 use Rattle.fv_tree.specs.Meaning.{Meaning}
-use Rattle.fv_canon.specs.Lines.{compare_line}
+use Rattle.fv_canon.specs.ComparisonLines.{compare_line}
 use Rattle.fv_canon.specs.Refusals.{NotRead}
 use Rattle.fv_canon.specs.declared.side.Side.{Side}
 use Rattle.fv_canon.specs.declared.side.Side.TheVariants as sides

@@ -9,7 +9,7 @@ use Rattle.fv_tree.specs.Meaning.{Plain, Sectioned, SectionMeanings, NoSections,
 use Rattle.fv_tree.specs.Meaning.{BodyMeaning, Leaf, Group, Nested}
 use Rattle.fv_canon.specs.Layouts.{AreStarts}
 use Rattle.fv_canon.specs.Spans.{ShowsSpans}
-use Rattle.fv_canon.specs.Stored.{StoredFile, volume_spans}
+use Rattle.fv_canon.specs.StoredFiles.{StoredFile, volume_spans}
 
 -- the bytes are the canonical image of a volume of this meaning: with its files in their first placement, the head, the
 -- extended header's pad, the files and the pads of the gaps stand where they have to, and every other byte is erased.

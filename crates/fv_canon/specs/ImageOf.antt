@@ -6,7 +6,7 @@ use Rattle.fv_section.specs.SectionImage.{stream_of}
 use Rattle.fv_tree.specs.Meaning.{Meaning, Volume, FileMeanings, NoFiles, MoreFiles, FileMeaning, File, ContentMeaning}
 use Rattle.fv_tree.specs.Meaning.{Plain, Sectioned, SectionMeanings, NoSections, MoreSections, SectionMeaning, Section}
 use Rattle.fv_tree.specs.Meaning.{BodyMeaning, Leaf, Group, Nested, files_list}
-use Rattle.fv_canon.specs.Stored.{StoredFile}
+use Rattle.fv_canon.specs.StoredFiles.{StoredFile}
 use Rattle.fv_canon.specs.StoredWalks.{volume_bytes}
 
 -- how many starts the volumes inside have

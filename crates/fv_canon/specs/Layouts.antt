@@ -14,8 +14,8 @@ use Rattle.fv_tree.specs.Meaning.{Plain, Sectioned, SectionMeanings, NoSections,
 use Rattle.fv_tree.specs.Meaning.{BodyMeaning, Leaf, Group, Nested, files_list, data_len_of, file_name_of}
 use Rattle.fv_tree.specs.Meaning.{attributes_of}
 use Rattle.fv_canon.specs.Starts.{IsFirstPlacement, Placement, TopOff, HasNoRoom, IsLeast}
-use Rattle.fv_canon.specs.declared.place.Part.{Part}
-use Rattle.fv_canon.specs.Stored.{head_len_for, size_for}
+use Rattle.fv_canon.specs.declared.first_placement.Part.{Part}
+use Rattle.fv_canon.specs.StoredFiles.{head_len_for, size_for}
 
 -- what the layout is told of a file
 abbrev pub part_of : FileMeaning → Part

@@ -4,7 +4,7 @@ use Rattle.std.specs.Prelude.{◌≡◌, ◌≤◌, ◌+◌, ◌%◌, ℕ, List,
 use Rattle.fv_base.specs.Limits.{volume_limit}
 use Rattle.fv_tree.specs.Meaning.{FileMeaning, data_len_of}
 use Rattle.fv_canon.specs.Layouts.{part_of}
-use Rattle.fv_canon.specs.Stored.{size_for}
+use Rattle.fv_canon.specs.StoredFiles.{size_for}
 use Rattle.fv_canon.specs.Starts.{StartsFollow}
 
 -- the files can stand at these starts, from the edge e on, in a volume of `total` bytes

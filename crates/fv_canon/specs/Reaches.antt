@@ -4,8 +4,8 @@ use Rattle.std.specs.Prelude.{◌≡◌, ℕ, ◌+◌, ◌-◌, ◌%◌, ◌<◌
 use Rattle.fv_base.specs.Alignment.{IsAlignment}
 use Rattle.fv_base.specs.Value.{up_to_8}
 use Rattle.fv_canon.specs.Starts.{Lawful, StartsFollow}
-use Rattle.fv_canon.specs.declared.place.Part.{Part}
-use Rattle.fv_canon.specs.declared.place.Reach.{Reach}
+use Rattle.fv_canon.specs.declared.first_placement.Part.{Part}
+use Rattle.fv_canon.specs.declared.first_placement.Reach.{Reach}
 
 -- a is an alignment of at least 8, and its multiples are those of 8 and of b
 pub record Widens (a b : ℕ) : Type 0 where

@@ -2,7 +2,7 @@
 -- specification, volume 3, section 3.2.3.1, for the alignment of data and the pads between files).
 use Rattle.std.specs.Prelude.{◌≡◌, ◌≢◌, ℕ, ◌+◌, ◌-◌, ◌%◌, ◌≤◌, ◌⊎◌, List, [], ◌∷◌, take, get_or, IsTrue, MatchBool}
 use Rattle.fv_base.specs.Value.{up_to_8}
-use Rattle.fv_canon.specs.declared.place.Part.{Part}
+use Rattle.fv_canon.specs.declared.first_placement.Part.{Part}
 
 -- a start that a file may have after the edge e: a multiple of 8, at the edge or with room for a pad
 -- before it, its data aligned

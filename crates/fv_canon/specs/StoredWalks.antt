@@ -14,8 +14,9 @@ use Rattle.fv_head.specs.Head.{HeadFields}
 use Rattle.fv_head.specs.HeadImage.{canonical_head}
 use Rattle.fv_head.specs.ExtImage.{canonical_end, canonical_first}
 use Rattle.fv_tree.specs.Files.{top_name}
-use Rattle.fv_canon.specs.declared.place.Part.{Part}
-use Rattle.fv_canon.specs.Stored.{StoredFile, head_len_for, stored_len, stored_bytes, gap_bytes, ext_pad, used_size}
+use Rattle.fv_canon.specs.declared.first_placement.Part.{Part}
+use Rattle.fv_canon.specs.StoredFiles.{StoredFile, head_len_for, stored_len, stored_bytes, gap_bytes, ext_pad}
+use Rattle.fv_canon.specs.StoredFiles.{used_size}
 
 -- a file with the checksum attribute adds its State alone, whatever its data are; another adds AA, State and its data
 abbrev pub file_adds : Polarity → StoredFile → ℕ

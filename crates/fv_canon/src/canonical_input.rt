@@ -7,9 +7,9 @@ ghost use Rattle.fv_canon.specs.Refusals.{NotRead};
 ghost use Rattle.fv_tree.specs.Denotes.{Accepted};
 ghost use Rattle.fv_tree.specs.Meaning.{Meaning};
 
-use crate::lay::layout;
+use crate::layout_walk::layout;
 use crate::matching::is_image;
-use crate::run::whole_volume;
+use crate::normalising::whole_volume;
 use fv_base::{Fault, FaultKind};
 use std::alloc::Global;
 

@@ -7,11 +7,11 @@ ghost use Rattle.fv_base.specs.Input.{ReadsWhole, ReadStops};
 ghost use Rattle.fv_base.specs.Output.{WriteStops};
 ghost use Rattle.fv_base.specs.Port.{inner_of, has_erred};
 ghost use Rattle.fv_canon.specs.Comparisons.{Compares, ComparisonStops, RunCompares, SideStopsRun, VolumeStops};
-ghost use Rattle.fv_canon.specs.Lines.{compare_line};
+ghost use Rattle.fv_canon.specs.ComparisonLines.{compare_line};
 ghost use Rattle.fv_tree.specs.Denotes.{Accepted};
 
-use crate::lines::put_comparison;
-use crate::run::whole_volume;
+use crate::comparison_line::put_comparison;
+use crate::normalising::whole_volume;
 use crate::side::Side;
 use fv_base::{Fault, FaultKind, Port, WriteSink, read_input};
 use fv_tree::{Difference, VolumeView, first_difference};

@@ -6,9 +6,9 @@ ghost use Rattle.fv_base.specs.declared.fault.Fault.{Fault};
 ghost use Rattle.fv_tree.specs.Meaning.{Meaning};
 ghost use Rattle.fv_canon.specs.Aligned.{ImagesAlign};
 ghost use Rattle.fv_canon.specs.Layouts.{Fits, LaysVolume, LeastVolume, Unfit};
-ghost use Rattle.fv_canon.specs.Normal.{ImagesTell, ImagesStay, OneImage, OneMeaning};
+ghost use Rattle.fv_canon.specs.Headline.{ImagesTell, ImagesStay, OneImage, OneMeaning};
 ghost use Rattle.fv_canon.specs.Spans.{InOrder, ShowsSpans, Span, painted};
-ghost use Rattle.fv_canon.specs.Stored.{PadsRule};
+ghost use Rattle.fv_canon.specs.StoredFiles.{PadsRule};
 
 /// The headline: two volumes have the same meaning exactly if their canonical images are equal.
 pub fn images_tell()

@@ -6,13 +6,13 @@ ghost use Rattle.fv_base.specs.Faults.{want_of_memory};
 ghost use Rattle.fv_base.specs.Port.{inner_of, has_erred};
 ghost use Rattle.fv_canon.specs.Image.{IsImage};
 ghost use Rattle.fv_canon.specs.Layouts.{Fits, Unfit};
-ghost use Rattle.fv_canon.specs.Places.{IsLayout};
+ghost use Rattle.fv_canon.specs.LayoutForms.{IsLayout};
 ghost use Rattle.fv_base.specs.Output.{WriteStops};
 ghost use Rattle.fv_tree.specs.Denotes.{Accepted, IsMeaning};
 ghost use Rattle.fv_tree.specs.Meaning.{Meaning};
 
-use crate::lay::layout;
-use crate::put::put_volume;
+use crate::image_walk::put_volume;
+use crate::layout_walk::layout;
 use crate::starts::Layout;
 use fv_base::{ByteList, Fault, ListSink, Port, Sink, WriteSink};
 use fv_tree::VolumeView;

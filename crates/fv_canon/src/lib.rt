@@ -3,32 +3,32 @@
 
 mod canonical_input;
 mod compare;
+mod comparison_line;
+mod file_sums;
+mod first_placement;
+mod flash_image;
 mod headline;
 mod image;
-mod lay;
-mod lines;
+mod image_pieces;
+mod image_walk;
+mod layout_walk;
 mod matching;
-mod parts;
-mod pieces;
-mod place;
-mod put;
-mod run;
+mod normalising;
 mod side;
-mod skip;
+mod start_walk;
 mod starts;
-mod sum;
-mod whole;
+mod stored_parts;
 
 pub use canonical_input::is_canonical;
 pub use compare::{run_compare, write_comparison};
+pub use comparison_line::put_decimal;
+pub use flash_image::normalise_image;
 pub use headline::{
     fits, images_align, images_stay, images_tell, least_starts, one_image, one_list_shows, pads,
 };
 pub use image::{canonical, put_canonical, write_canonical};
-pub use lay::layout;
-pub use lines::put_decimal;
-pub use parts::{body_bytes, file_bytes};
-pub use run::{normalise, run_normalise, whole_volume, write_normalised};
+pub use layout_walk::layout;
+pub use normalising::{normalise, run_normalise, whole_volume, write_normalised};
 pub use side::Side;
 pub use starts::Layout;
-pub use whole::normalise_image;
+pub use stored_parts::{body_bytes, file_bytes};

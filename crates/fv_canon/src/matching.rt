@@ -6,7 +6,7 @@ ghost use Rattle.fv_canon.specs.Layouts.{LaysVolume};
 ghost use Rattle.fv_canon.specs.Matching.{MatchTakes};
 ghost use Rattle.fv_canon.specs.MatchingLaws.{matches_by};
 
-use crate::put::put_volume;
+use crate::image_walk::put_volume;
 use fv_base::Sink;
 use fv_tree::VolumeView;
 

@@ -19,7 +19,7 @@ pub struct Layout {
 
 impl Model for Layout {
     ghost use Rattle.std.specs.Prelude.{take, drop};
-    ghost use Rattle.fv_canon.specs.Places.{Places};
+    ghost use Rattle.fv_canon.specs.LayoutForms.{Places};
 
     ghost Value = { Places };
 

@@ -16,7 +16,7 @@ use Rattle.fv_base.specs.declared.fault.FaultKind.TheVariants as kinds
 use Rattle.fv_base.specs.declared.flash.Polarity.{Polarity}
 use Rattle.fv_base.specs.declared.guid.Guid.{Guid}
 use Rattle.fv_canon.specs.Image.{IsImage}
-use Rattle.fv_canon.specs.Lines.{line_feed}
+use Rattle.fv_canon.specs.ComparisonLines.{line_feed}
 use Rattle.fv_canon.specs.Refusals.{IsFirstOfInput, NotRead}
 use Rattle.fv_canon.proofs.InputLaws.{want_known}
 use Rattle.fv_canon.proofs.PartLaws.{data_short}
@@ -27,13 +27,13 @@ use Rattle.fv_head.specs.declared.extent.Extent.{Extent}
 use Rattle.fv_head.proofs.Laws.{front_lies}
 use Rattle.fv_section.specs.Frames.{up_to_4}
 use Rattle.fv_tree.specs.Denotes.{Accepted, IsReadFile, depth_limit}
-use Rattle.fv_tree.specs.Instances.{preorder, inside_section, inside_body}
+use Rattle.fv_tree.specs.LookupInstances.{preorder, inside_section, inside_body}
 use Rattle.fv_tree.specs.Meaning.{Meaning, FileMeaning, File, Plain, Sectioned, SectionMeaning, Section, SectionMeanings}
 use Rattle.fv_tree.specs.Meaning.{NoSections, MoreSections, BodyMeaning, Leaf, Group, Nested, body_of, content_of, file_name_of}
 use Rattle.fv_tree.specs.Meaning.{section_kind_of, section_len, body_len, sections_end, data_len_of, files_of, head_of, sections_from}
 use Rattle.fv_tree.proofs.Laws.{fault_stands, few_files, stands_other}
-use Rattle.fv_command.specs.Checks.{written_in, pad_line, pad_text, phase_of, read_by, section_depex, sections_depexes, file_depexes}
-use Rattle.fv_command.specs.Checks.{HeldDepex, IsSpelled, IsNoted, AreNotes, AreCells, CheckText, check_lines, depexes_in}
+use Rattle.fv_command.specs.CheckTexts.{written_in, pad_line, pad_text, phase_of, read_by, section_depex, sections_depexes, file_depexes}
+use Rattle.fv_command.specs.CheckTexts.{HeldDepex, IsSpelled, IsNoted, AreNotes, AreCells, CheckText, check_lines, depexes_in}
 use Rattle.fv_command.specs.CheckRuns.{Noted}
 use Rattle.fv_command.specs.declared.checking.DepexNote.{DepexNote}
 

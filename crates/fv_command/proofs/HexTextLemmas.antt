@@ -5,7 +5,7 @@ use Rattle.std.specs.List.{AllByRecursion, concat}
 use Rattle.hex.specs.Hex.{encode_lower, lower_digits}
 use Rattle.hex.proofs.HexLemmas.{length-encode_with}
 use Rattle.fv_base.specs.Sinks.{WalkLaws}
-use Rattle.fv_canon.specs.Lines.{line_feed}
+use Rattle.fv_canon.specs.ComparisonLines.{line_feed}
 use Rattle.fv_command.specs.HexText.{IsHexText, IsWholeLine, ShowsBytes, last_text, line_text, lines_text}
 use Rattle.fv_command.specs.HexSinks.{Lined}
 

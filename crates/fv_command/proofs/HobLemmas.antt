@@ -6,7 +6,7 @@ use Rattle.std.proofs.lemmas.Fmt.{length-decimal-le}
 use Rattle.hex.specs.Hex.{lower_digits}
 use Rattle.hex.proofs.HexLemmas.{length-encode_with}
 use Rattle.fv_base.specs.Sinks.{WalkLaws}
-use Rattle.fv_canon.specs.Lines.{line_feed}
+use Rattle.fv_canon.specs.ComparisonLines.{line_feed}
 use Rattle.fv_hob.specs.Hobs.{HobForm, hob_type, hob_len}
 use Rattle.fv_hob.specs.Lists.{JoinsHobs, span_of}
 use Rattle.fv_hob.specs.declared.span.Span.{Span}

@@ -13,9 +13,9 @@ use Rattle.fv_tree.specs.Denotes.{Accepted}
 use Rattle.fv_tree.specs.Meaning.{Meaning}
 use Rattle.fv_canon.specs.Image.{IsImage}
 use Rattle.fv_canon.specs.Refusals.{Refuses}
-use Rattle.fv_canon.specs.Runs.{InputStops, InputWrites, RunStops, RunWrites}
+use Rattle.fv_canon.specs.NormaliseRuns.{InputStops, InputWrites, RunStops, RunWrites}
 use Rattle.fv_command.specs.HexText.{IsHexText}
-use Rattle.fv_command.specs.Images.{ShowsImage, StopsImage}
+use Rattle.fv_command.specs.ImageTexts.{ShowsImage, StopsImage}
 
 -- nothing was written, since the input is refused or for want of memory
 pub image_refused : (hex : Bool) (input : List ℕ) (held : Option (List ℕ)) (f : Fault) → (f ≡ want_of_memory) ⊎ Refuses input f

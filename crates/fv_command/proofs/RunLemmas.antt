@@ -14,11 +14,11 @@ use Rattle.fv_canon.specs.declared.side.Side.TheVariants as sides
 use Rattle.fv_tree.specs.Denotes.{Accepted, Denotes, depth_limit}
 use Rattle.fv_tree.specs.FirstFault.{IsFirstOfVolume}
 use Rattle.fv_tree.specs.Meaning.{Meaning, files_of}
-use Rattle.fv_tree.specs.Names.{file_named}
+use Rattle.fv_tree.specs.FileNames.{file_named}
 use Rattle.fv_command.specs.CheckRuns.{CheckStops}
-use Rattle.fv_command.specs.Images.{StopsImage}
+use Rattle.fv_command.specs.ImageTexts.{StopsImage}
 use Rattle.fv_command.specs.Inputs.{Shown, Gives, BeginsNone, BeginsWith, WritingStops}
-use Rattle.fv_command.specs.Parts.{StopsPart}
+use Rattle.fv_command.specs.Extractions.{StopsPart}
 use Rattle.fv_command.specs.SideRuns.{GivesVolume, SideStops, VolumeInputStops}
 use Rattle.fv_command.specs.TaskRuns.{RunsTask, SaysRead, StopsInput}
 use Rattle.fv_command.specs.Tasks.{PartText, Says}

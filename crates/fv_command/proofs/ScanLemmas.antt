@@ -5,8 +5,8 @@ use Rattle.std.specs.List.{AllByRecursion}
 use Rattle.std.proofs.lemmas.Fmt.{length-decimal-le}
 use Rattle.std.proofs.lemmas.List.{length-drop}
 use Rattle.fv_base.specs.Sinks.{WalkLaws}
-use Rattle.fv_canon.specs.Lines.{line_feed}
-use Rattle.fv_tree.specs.Found.{Apart, Found, IsPlace, LiesBehind, VolumeAt}
+use Rattle.fv_canon.specs.ComparisonLines.{line_feed}
+use Rattle.fv_tree.specs.FoundVolumes.{Apart, Found, IsPlace, LiesBehind, VolumeAt}
 use Rattle.fv_command.specs.Lines.{ScanText, volume_line}
 use Rattle.fv_command.proofs.WriteLemmas.{Tells, tells_more}
 

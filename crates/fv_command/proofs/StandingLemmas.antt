@@ -7,7 +7,7 @@ use Rattle.fv_base.specs.declared.fault.Fault.{Fault}
 use Rattle.fv_head.specs.Head.{HeadFields, BeginsVolume}
 use Rattle.fv_head.specs.declared.extent.Extent.{Extent}
 use Rattle.fv_hob.specs.declared.span.Span.{Span}
-use Rattle.fv_command.specs.Standings.{IsWithin, IsStanding, bytes_in_span}
+use Rattle.fv_command.specs.VolumeStandings.{IsWithin, IsStanding, bytes_in_span}
 use Rattle.fv_command.specs.declared.hobs.Standing.{Standing}
 use Rattle.fv_command.specs.declared.hobs.Standing.TheVariants.{Outside, Volume, Absent}
 

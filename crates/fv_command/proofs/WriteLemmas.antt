@@ -4,7 +4,7 @@ use Rattle.std.proofs.Common.{codes, decimal, sym, subst, arith, append_assoc, a
 use Rattle.std.proofs.lemmas.Fmt.{length-decimal-le}
 use Rattle.std.proofs.lemmas.List.{drop_more, drop_all}
 use Rattle.fv_base.specs.Sinks.{WalkLaws}
-use Rattle.fv_canon.specs.Lines.{line_feed}
+use Rattle.fv_canon.specs.ComparisonLines.{line_feed}
 use Rattle.fv_command.specs.Lines.{fault_line}
 use Rattle.fv_command.specs.Puts.{PutsSome}
 

@@ -7,7 +7,7 @@ use Rattle.fv_base.specs.Output.{WriteStops}
 use Rattle.fv_base.specs.declared.fault.Fault.{Fault}
 use Rattle.fv_canon.specs.Refusals.{NotRead}
 use Rattle.fv_command.specs.declared.checking.DepexNote.{DepexNote}
-use Rattle.fv_command.specs.Checks.{HeldDepex, AreNotes, CheckText}
+use Rattle.fv_command.specs.CheckTexts.{HeldDepex, AreNotes, CheckText}
 
 -- behind the notes that there were come those of some expressions
 abbrev pub Noted : List HeldDepex → List DepexNote → List DepexNote → Type 0

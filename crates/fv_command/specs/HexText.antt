@@ -2,7 +2,7 @@
 use Rattle.std.specs.Prelude.{◌≡◌, ◌<◌, ℕ, List, [], ◌∷◌, ◌++◌, Bool, true, false, length}
 use Rattle.std.specs.List.{AllByRecursion, concat, flat_map}
 use Rattle.hex.specs.Hex.{encode_lower}
-use Rattle.fv_canon.specs.Lines.{line_feed}
+use Rattle.fv_canon.specs.ComparisonLines.{line_feed}
 
 -- the lower-case digits of some bytes, and a line feed
 abbrev pub line_text : List ℕ → List ℕ

@@ -1,11 +1,11 @@
 -- The text of a hand-off list.
 use Rattle.std.specs.Prelude.{◌≡◌, ℕ, ◌/◌, ◌%◌, List, [], ◌∷◌, ◌++◌, Option, None, Some, codes, decimal}
 use Rattle.hex.specs.Hex.{encode_lower}
-use Rattle.fv_canon.specs.Lines.{line_feed}
+use Rattle.fv_canon.specs.ComparisonLines.{line_feed}
 use Rattle.fv_hob.specs.Hobs.{HobForm, hob_type, hob_len}
 use Rattle.fv_hob.specs.Lists.{span_of}
 use Rattle.fv_hob.specs.declared.span.Span.{Span}
-use Rattle.fv_command.specs.Standings.{IsStanding}
+use Rattle.fv_command.specs.VolumeStandings.{IsStanding}
 use Rattle.fv_command.specs.declared.hobs.Standing.{Standing}
 use Rattle.fv_command.specs.declared.hobs.Standing.TheVariants.{Outside, Volume, Absent}
 

@@ -2,7 +2,7 @@
 use Rattle.std.specs.Prelude.{◌≡◌, ◌≤◌, ◌⊎◌, ℕ, Bool, false, List, [], Option, Some, None, length, take}
 use Rattle.std.specs.Io.KnownBytes.{Appends, Keeps}
 use Rattle.fv_base.specs.declared.fault.Fault.{Fault}
-use Rattle.fv_hob.specs.Checks.{IsFirstHobFault, hob_fault_number, hob_want_of_memory}
+use Rattle.fv_hob.specs.HobChecks.{IsFirstHobFault, hob_fault_number, hob_want_of_memory}
 use Rattle.fv_hob.specs.Hobs.{HobForm}
 use Rattle.fv_hob.specs.Lists.{IsHobList}
 use Rattle.fv_hob.specs.declared.fault.HobFault.{HobFault}

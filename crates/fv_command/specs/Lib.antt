@@ -1,5 +1,5 @@
 pub mod CheckRuns
-pub mod Checks
+pub mod CheckTexts
 pub mod Files
 pub mod HexDecoding
 pub mod HexIn
@@ -10,16 +10,16 @@ pub mod HexText
 pub mod HobLines
 pub mod HobRefusals
 pub mod HobRuns
-pub mod Images
+pub mod ImageTexts
 pub mod Inputs
 pub mod Lines
-pub mod Parts
+pub mod Extractions
 pub mod Plans
 pub mod Puts
 pub mod Runs
 pub mod SideRuns
 pub mod Sources
-pub mod Standings
+pub mod VolumeStandings
 pub mod Statuses
 pub mod TaskRuns
 pub mod Tasks

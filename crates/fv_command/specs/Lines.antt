@@ -4,10 +4,10 @@ use Rattle.std.specs.Io.KnownBytes.{Appends}
 use Rattle.fv_base.specs.Faults.{fault_number}
 use Rattle.fv_base.specs.declared.fault.Fault.{Fault}
 use Rattle.fv_base.specs.declared.fault.FaultKind.TheVariants as kinds
-use Rattle.fv_canon.specs.Lines.{line_feed}
+use Rattle.fv_canon.specs.ComparisonLines.{line_feed}
 use Rattle.fv_canon.specs.declared.side.Side.{Side}
 use Rattle.fv_canon.specs.declared.side.Side.TheVariants as sides
-use Rattle.fv_tree.specs.Found.{VolumeAt}
+use Rattle.fv_tree.specs.FoundVolumes.{VolumeAt}
 
 -- the line of a fault, that of a fault of a hand-off list, and that of a fault of one of two inputs
 abbrev pub fault_line : ℕ → ℕ → List ℕ

@@ -4,7 +4,7 @@ use Rattle.std.specs.Io.KnownBytes.{Keeps}
 use Rattle.fv_base.specs.Faults.{want_of_memory}
 use Rattle.fv_base.specs.declared.fault.Fault.{Fault}
 use Rattle.fv_canon.specs.Comparisons.{Compares, VolumeStops}
-use Rattle.fv_canon.specs.Lines.{compare_line}
+use Rattle.fv_canon.specs.ComparisonLines.{compare_line}
 use Rattle.fv_canon.specs.declared.side.Side.{Side}
 use Rattle.fv_canon.specs.declared.side.Side.TheVariants as sides
 use Rattle.fv_tree.specs.Denotes.{Accepted}

@@ -2,17 +2,17 @@
 use Rattle.std.specs.Prelude.{◌≡◌, ◌⊎◌, ℕ, Bool, true, false, List, codes}
 use Rattle.fv_base.specs.Faults.{want_of_memory}
 use Rattle.fv_base.specs.declared.fault.Fault.{Fault}
-use Rattle.fv_canon.specs.Normal.{NormalisesTo}
+use Rattle.fv_canon.specs.Headline.{NormalisesTo}
 use Rattle.fv_canon.specs.Refusals.{NotRead, Refuses}
-use Rattle.fv_canon.specs.Whole.{NormalisesAll, RefusesAll}
-use Rattle.fv_tree.specs.Found.{Found}
+use Rattle.fv_canon.specs.FlashImages.{NormalisesAll, RefusesAll}
+use Rattle.fv_tree.specs.FoundVolumes.{Found}
 use Rattle.fv_tree.specs.Meaning.{Meaning, files_of}
-use Rattle.fv_tree.specs.Names.{file_named}
-use Rattle.fv_command.specs.Checks.{CheckText}
+use Rattle.fv_tree.specs.FileNames.{file_named}
+use Rattle.fv_command.specs.CheckTexts.{CheckText}
 use Rattle.fv_command.specs.HexText.{ShowsBytes}
 use Rattle.fv_command.specs.Inputs.{BeginsWith, BeginsNone}
 use Rattle.fv_command.specs.Lines.{ScanText}
-use Rattle.fv_command.specs.Parts.{IsPart, StopsPart}
+use Rattle.fv_command.specs.Extractions.{IsPart, StopsPart}
 use Rattle.fv_command.specs.declared.status.Status.{Status}
 use Rattle.fv_command.specs.declared.status.Status.TheVariants.{Done, Different}
 use Rattle.fv_command.specs.declared.extracting.Extraction.{Extraction}

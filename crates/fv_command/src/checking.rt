@@ -9,11 +9,11 @@ ghost use Rattle.fv_base.specs.Output.{WriteStops};
 ghost use Rattle.fv_base.specs.Port.{inner_of, has_erred};
 ghost use Rattle.fv_file.specs.CellForms.{cell_form};
 ghost use Rattle.fv_tree.specs.Denotes.{Accepted};
-ghost use Rattle.fv_tree.specs.Instances.{inside_section, preorder};
+ghost use Rattle.fv_tree.specs.LookupInstances.{inside_section, preorder};
 ghost use Rattle.fv_tree.specs.Meaning.{Meaning, files_of, sections_from};
-ghost use Rattle.fv_command.specs.Checks.{phase_of, written_in, pad_line, pad_note, pad_notes, note_of, read_by};
-ghost use Rattle.fv_command.specs.Checks.{sections_depexes, file_depexes, depexes_in, AreNotes};
-ghost use Rattle.fv_command.specs.Checks.{depex_line, depex_lines, verdict_line, check_lines, AreCells};
+ghost use Rattle.fv_command.specs.CheckTexts.{phase_of, written_in, pad_line, pad_note, pad_notes, note_of, read_by};
+ghost use Rattle.fv_command.specs.CheckTexts.{sections_depexes, file_depexes, depexes_in, AreNotes};
+ghost use Rattle.fv_command.specs.CheckTexts.{depex_line, depex_lines, verdict_line, check_lines, AreCells};
 ghost use Rattle.fv_command.specs.CheckRuns.{Noted};
 ghost use Rattle.fv_command.specs.CheckRuns.{InputChecks, CheckStops};
 

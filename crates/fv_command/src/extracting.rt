@@ -2,9 +2,9 @@
 
 ghost use Rattle.std.specs.Prelude.{◌≡◌, ◌⊎◌, Some, IfOk, IfErr};
 ghost use Rattle.fv_base.specs.Faults.{want_of_memory};
-ghost use Rattle.fv_command.specs.Parts.{IsPart, IsSectionOf, StopsFilePart, StopsPart};
+ghost use Rattle.fv_command.specs.Extractions.{IsPart, IsSectionOf, StopsFilePart, StopsPart};
 ghost use Rattle.fv_tree.specs.Meaning.{files_of};
-ghost use Rattle.fv_tree.specs.Names.{file_named};
+ghost use Rattle.fv_tree.specs.FileNames.{file_named};
 
 use fv_base::{ByteList, Fault, Guid};
 use fv_canon::{body_bytes, file_bytes};

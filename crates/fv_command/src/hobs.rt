@@ -6,7 +6,7 @@ ghost use Rattle.fv_base.specs.Output.{WriteStops};
 ghost use Rattle.fv_base.specs.Port.{inner_of, has_erred};
 ghost use Rattle.fv_command.specs.HobLines.{HobsText, IsWord, consumed_line, four_digits, hob_line, standing_word};
 ghost use Rattle.fv_command.specs.HobRefusals.{held_image};
-ghost use Rattle.fv_command.specs.Standings.{IsStanding};
+ghost use Rattle.fv_command.specs.VolumeStandings.{IsStanding};
 
 use fv_base::field::field;
 use fv_base::{Fault, Port, Sink, WriteSink};

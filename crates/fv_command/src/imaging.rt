@@ -5,9 +5,9 @@ ghost use Rattle.std.specs.Io.KnownBytes.{Appends};
 ghost use Rattle.fv_base.specs.Output.{WriteStops};
 ghost use Rattle.fv_base.specs.Port.{inner_of, has_erred};
 ghost use Rattle.fv_canon.specs.Image.{IsImage};
-ghost use Rattle.fv_canon.specs.Places.{IsLayout};
+ghost use Rattle.fv_canon.specs.LayoutForms.{IsLayout};
 ghost use Rattle.fv_command.specs.HexText.{IsHexText};
-ghost use Rattle.fv_command.specs.Images.{ShowsImage, StopsImage};
+ghost use Rattle.fv_command.specs.ImageTexts.{ShowsImage, StopsImage};
 
 use crate::hex_lines::HexSink;
 use fv_base::{Fault, FaultKind, Port, Sink, WriteSink};

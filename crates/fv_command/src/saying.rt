@@ -4,7 +4,7 @@ ghost use Rattle.std.specs.Prelude.{◌≡◌, ◌≢◌, ◌⊎◌, ◌++◌, t
 ghost use Rattle.std.specs.Io.KnownBytes.{Appends};
 ghost use Rattle.fv_base.specs.Faults.{fault_number};
 ghost use Rattle.fv_base.specs.Port.{inner_of, has_erred};
-ghost use Rattle.fv_hob.specs.Checks.{hob_fault_number as hob_number_of};
+ghost use Rattle.fv_hob.specs.HobChecks.{hob_fault_number as hob_number_of};
 ghost use Rattle.fv_command.specs.Lines.{fault_line, hob_fault_line, TellsSideFault};
 
 use crate::lines::{write_bytes, write_fault};

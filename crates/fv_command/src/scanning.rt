@@ -4,7 +4,7 @@ ghost use Rattle.std.specs.Prelude.{◌≡◌, ◌≤◌, ℕ, List, length, dro
 ghost use Rattle.std.specs.Io.KnownBytes.{Appends};
 ghost use Rattle.fv_base.specs.Output.{WriteStops};
 ghost use Rattle.fv_base.specs.Port.{inner_of, has_erred};
-ghost use Rattle.fv_tree.specs.Found.{Found};
+ghost use Rattle.fv_tree.specs.FoundVolumes.{Found};
 ghost use Rattle.fv_command.specs.Lines.{ScanText};
 
 use crate::lines::put_found;

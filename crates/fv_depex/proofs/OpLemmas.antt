@@ -11,14 +11,14 @@ use Rattle.fv_base.specs.Value.{field}
 use Rattle.fv_base.specs.declared.guid.Guid.{Guid}
 use Rattle.fv_base.proofs.CheckLemmas.{all_hold, and_split}
 use Rattle.fv_base.proofs.FieldLemmas.{same_cut}
-use Rattle.fv_depex.specs.Checks.{OpFits, BeginsOp, has_operand, holds_values, in_place, has_code, op_checks}
+use Rattle.fv_depex.specs.OpChecks.{OpFits, BeginsOp, has_operand, holds_values, in_place, has_code, op_checks}
 use Rattle.fv_depex.specs.Expressions.{carries, op_code, operand_len, op_operand, IsSized}
 use Rattle.fv_depex.specs.Ops.{op_by, op_in}
 use Rattle.fv_depex.specs.declared.op.Op.{Op}
 use Rattle.fv_depex.specs.declared.op.Op.TheVariants as ops
 use Rattle.fv_depex.specs.declared.op.Phase.{Phase}
 use Rattle.fv_depex.specs.declared.op.Phase.TheVariants.{Pei, Dxe}
-use Rattle.fv_depex.specs.declared.stage.Stage.{Stage}
+use Rattle.fv_depex.specs.declared.op_stage.Stage.{Stage}
 
 -- ---- an op by its code
 

@@ -1,4 +1,4 @@
-pub mod Checks
+pub mod OpChecks
 pub mod DepexView
 pub mod Evaluation
 pub mod Expressions

@@ -1,7 +1,7 @@
 //! Why an expression was refused.
 
 ghost use Rattle.std.specs.Prelude.{◌≡◌};
-ghost use Rattle.fv_depex.specs.Checks.{depex_fault_number, depex_want_of_memory};
+ghost use Rattle.fv_depex.specs.OpChecks.{depex_fault_number, depex_want_of_memory};
 
 use std::alloc::{AllocError, AllocFailed};
 use thiserror::Error;

@@ -5,9 +5,9 @@
 mod depex;
 mod fault;
 mod op;
+mod op_stage;
 mod opcode;
 mod read;
-mod stage;
 #[cfg(test)]
 mod tests;
 mod truth;

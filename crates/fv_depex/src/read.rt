@@ -3,8 +3,8 @@
 ghost use Rattle.std.specs.Prelude.{◌≡◌, ◌≢◌, ◌≤◌, ◌+◌, ℕ, List, length, drop, true, None, Some, OnOk, IfOk, IfErr};
 ghost use Rattle.fv_base.specs.Checks.{IsFirstFault};
 ghost use Rattle.fv_base.specs.Verdicts.{first_fault};
-ghost use Rattle.fv_depex.specs.Checks.{BeginsFirstOp, IsFirstOpFault, BeginsOp, has_code, in_place, has_values};
-ghost use Rattle.fv_depex.specs.Checks.{holds_values, has_operand, op_checks, depex_want_of_memory};
+ghost use Rattle.fv_depex.specs.OpChecks.{BeginsFirstOp, IsFirstOpFault, BeginsOp, has_code, in_place, has_values};
+ghost use Rattle.fv_depex.specs.OpChecks.{holds_values, has_operand, op_checks, depex_want_of_memory};
 ghost use Rattle.fv_depex.specs.Expressions.{Spells, carries, op_code, operand_len};
 ghost use Rattle.fv_depex.specs.Ops.{op_in};
 ghost use Rattle.fv_depex.specs.declared.op.Op.{Op};
@@ -12,8 +12,8 @@ ghost use Rattle.fv_depex.specs.declared.op.Op.{Op};
 use crate::depex::Depex;
 use crate::fault::{DepexFault, DepexFaultKind};
 use crate::op::{Op, Phase};
+use crate::op_stage::{Stage, stage_after};
 use crate::opcode;
-use crate::stage::{Stage, stage_after};
 use fv_base::{ByteList, guid_at};
 use std::alloc::{AllocError, Global};
 

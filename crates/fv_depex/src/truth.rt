@@ -2,7 +2,7 @@
 
 ghost use Rattle.std.specs.Prelude.{◌≡◌, Bool, true, false, if◌then◌else◌, None, Some, [], ◌∷◌, ◌<◌, length, reverse};
 ghost use Rattle.std.specs.Prelude.{IfSome, IfNone, IfOk, IfErr};
-ghost use Rattle.fv_depex.specs.Checks.{depex_want_of_memory};
+ghost use Rattle.fv_depex.specs.OpChecks.{depex_want_of_memory};
 ghost use Rattle.fv_depex.specs.Evaluation.{evaluate_op, evaluate_ops, top};
 ghost use Rattle.fv_depex.specs.Expressions.{Expression, IsTree, IsOrder, is_among, truth};
 

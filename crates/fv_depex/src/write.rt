@@ -1,7 +1,7 @@
 //! Expressions, written.
 
 ghost use Rattle.std.specs.Prelude.{◌≡◌, ◌∷◌, ◌++◌, OnOk, IfOk, IfErr};
-ghost use Rattle.fv_depex.specs.Checks.{depex_want_of_memory};
+ghost use Rattle.fv_depex.specs.OpChecks.{depex_want_of_memory};
 ghost use Rattle.fv_depex.specs.Expressions.{Spells, op_code, op_operand, ops_bytes};
 
 use crate::depex::Depex;

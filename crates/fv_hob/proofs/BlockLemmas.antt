@@ -9,7 +9,7 @@ use Rattle.fv_base.specs.Verdicts.{first_fault}
 use Rattle.fv_base.specs.Value.{IsBytes, le, le_at}
 use Rattle.fv_base.proofs.CheckLemmas.{and_split, and_join, all_hold}
 use Rattle.fv_base.proofs.FieldLemmas.{bytes_take, field-append_front, field-take, same_cut, two_bytes}
-use Rattle.fv_hob.specs.Checks.{BeginsBlock, hob_checks, is_hob_len}
+use Rattle.fv_hob.specs.HobChecks.{BeginsBlock, hob_checks, is_hob_len}
 use Rattle.fv_hob.specs.Hobs.{HobForm, IsHob, hob_type, has_shape, hob_in, hob_len}
 use Rattle.fv_hob.proofs.RowLemmas.{code_by, len_by}
 

@@ -8,7 +8,7 @@ use Rattle.std.proofs.lemmas.List.{take-append-drop, take_at, take_rest, length-
 use Rattle.std.proofs.Math.Seq.{take-add}
 use Rattle.fv_base.specs.Checks.{IsFirstFault}
 use Rattle.fv_base.proofs.CheckLemmas.{none_faulty, not_first, first_among}
-use Rattle.fv_hob.specs.Checks.{BeginsBlock, IsFirstHobFault, BeginsTable, hob_checks}
+use Rattle.fv_hob.specs.HobChecks.{BeginsBlock, IsFirstHobFault, BeginsTable, hob_checks}
 use Rattle.fv_hob.specs.Hobs.{HobForm, IsHob, hob_type}
 use Rattle.fv_hob.specs.Lists.{BeginWithTable, IsEndHob, IsHobList, IsNoEndHob, JoinsHobs}
 use Rattle.fv_hob.specs.declared.fault.HobFault.{HobFault}

@@ -1,4 +1,4 @@
-pub mod Checks
+pub mod HobChecks
 pub mod Hobs
 pub mod Lists
 pub mod HobImage

@@ -1,7 +1,7 @@
 //! Why a hand-off list was refused.
 
 ghost use Rattle.std.specs.Prelude.{◌≡◌};
-ghost use Rattle.fv_hob.specs.Checks.{hob_fault_number, hob_want_of_memory};
+ghost use Rattle.fv_hob.specs.HobChecks.{hob_fault_number, hob_want_of_memory};
 
 use std::alloc::{AllocError, AllocFailed};
 use thiserror::Error;

@@ -2,6 +2,7 @@
 //! specification, volume 3, section 5.)
 #![tactic(auto)]
 
+mod block_kinds;
 mod fault;
 mod fields;
 mod hob;
@@ -9,7 +10,6 @@ mod hob_list;
 mod hob_type;
 mod layout;
 mod read;
-mod row;
 mod span;
 #[cfg(test)]
 mod tests;

@@ -3,18 +3,18 @@
 ghost use Rattle.std.specs.Prelude.{◌≡◌, ◌≢◌, ◌≤◌, ℕ, List, length, take, None, Some, IfOk, IfErr, OnOk};
 ghost use Rattle.fv_base.specs.Verdicts.{first_fault};
 ghost use Rattle.fv_base.specs.Checks.{IsFirstFault};
-ghost use Rattle.fv_hob.specs.Checks.{BeginsBlock, IsFirstHobFault, BeginsTable, hob_checks, is_hob_len};
-ghost use Rattle.fv_hob.specs.Checks.{hob_want_of_memory};
+ghost use Rattle.fv_hob.specs.HobChecks.{BeginsBlock, IsFirstHobFault, BeginsTable, hob_checks, is_hob_len};
+ghost use Rattle.fv_hob.specs.HobChecks.{hob_want_of_memory};
 ghost use Rattle.fv_base.specs.Value.{le_at};
 ghost use Rattle.fv_hob.specs.Hobs.{HobForm};
 ghost use Rattle.fv_hob.specs.Lists.{IsHobList};
 
+use crate::block_kinds::{has_shape, hob_in};
 use crate::fault::{HobFault, HobFaultKind};
 use crate::hob::Hob;
 use crate::hob_list::HobList;
 use crate::hob_type;
 use crate::layout::header;
-use crate::row::{has_shape, hob_in};
 use fv_base::field::u16_at;
 use std::alloc::Global;
 

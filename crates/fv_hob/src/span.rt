@@ -1,7 +1,7 @@
 //! The volumes that a hand-off list names.
 
 ghost use Rattle.std.specs.Prelude.{◌≡◌, IfOk, IfErr};
-ghost use Rattle.fv_hob.specs.Checks.{hob_want_of_memory};
+ghost use Rattle.fv_hob.specs.HobChecks.{hob_want_of_memory};
 ghost use Rattle.fv_hob.specs.Lists.{span_of, spans_of};
 
 use crate::fault::HobFault;

@@ -4,7 +4,7 @@ ghost use Rattle.std.specs.Prelude.{◌≡◌, ℕ, List, [], ◌∷◌, ◌++�
 ghost use Rattle.std.specs.List.{AllByRecursion, concat};
 ghost use Rattle.fv_base.specs.Guids.{bytes_of};
 ghost use Rattle.fv_base.specs.Value.{le_bytes};
-ghost use Rattle.fv_hob.specs.Checks.{hob_want_of_memory};
+ghost use Rattle.fv_hob.specs.HobChecks.{hob_want_of_memory};
 ghost use Rattle.fv_hob.specs.declared.hob.HobKind.TheVariants as kinds;
 ghost use Rattle.fv_hob.specs.Lists.{IsHobList, IsUsedHob};
 ghost use Rattle.fv_hob.specs.HobImage.{hob_fields, hob_spelled, list_spelled};

@@ -4,7 +4,7 @@ use Rattle.std.proofs.Common.{arith, Bool, true, false, Option, Some, None}
 use Rattle.std.specs.Prelude.{slice_get, ◌==◌, ◌⊎◌, min}
 use Rattle.std.specs.List.{filter}
 use Rattle.fv_section.specs.Frames.{FrameForm, Splits, FrameStandsAt, frame_len, up_to_4}
-use Rattle.fv_tree.specs.Instances.{instance_of, frame_of_type}
+use Rattle.fv_tree.specs.LookupInstances.{instance_of, frame_of_type}
 use Rattle.fv_tree.proofs.LookLaws.{no_type, one_type}
 use Rattle.fv_tree.proofs.StreamLaws.{split_more as walk_more}
 

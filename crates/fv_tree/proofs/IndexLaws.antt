@@ -27,10 +27,10 @@ use Rattle.fv_file.specs.declared.state.FileState.TheVariants as states
 use Rattle.fv_tree.specs.Denotes.{MeansFile, Pairs, Streams}
 use Rattle.fv_tree.specs.Files.{FileForm, NoTwins, alive_in, is_marked, is_twin, replaces, same_name}
 use Rattle.fv_tree.specs.Meaning.{FileMeaning, File, file_name_of}
-use Rattle.fv_tree.specs.Names.{Entry, Halves, IsIndex, IsName, entry_cmp, halves_cmp, halves_of, is_named, numbered}
+use Rattle.fv_tree.specs.FileNames.{Entry, Halves, IsIndex, IsName, entry_cmp, halves_cmp, halves_of, is_named, numbered}
 use Rattle.fv_tree.specs.NameOrders.{names_in, number_from}
 use Rattle.fv_tree.specs.StandingForms.{file_form}
-use Rattle.fv_tree.specs.declared.alive.Standing.{Standing}
+use Rattle.fv_tree.specs.declared.volume_files.Standing.{Standing}
 use Rattle.fv_tree.proofs.AliveLaws.{same_name_back}
 
 -- ---- the order

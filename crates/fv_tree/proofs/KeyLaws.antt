@@ -8,10 +8,10 @@ use Rattle.std.proofs.lemmas.List.Elements.{Contains-get_or}
 use Rattle.std.proofs.lemmas.List.FromFn.{length-range_with_len}
 use Rattle.std.proofs.lemmas.List.Sorted.{Contains-permutation, IsPermutation-map, IsPermutation-sym, length_permutation}
 use Rattle.std.proofs.lemmas.Nat.{mod-mul-add, one_shl, or_shifted, shr_split}
-use Rattle.fv_tree.specs.Names.{Entry, halves_of, numbered}
+use Rattle.fv_tree.specs.FileNames.{Entry, halves_of, numbered}
 use Rattle.fv_tree.specs.NameOrders.{names_in}
 use Rattle.fv_tree.specs.StandingForms.{file_form}
-use Rattle.fv_tree.specs.declared.alive.Standing.{Standing}
+use Rattle.fv_tree.specs.declared.volume_files.Standing.{Standing}
 use Rattle.fv_tree.proofs.IndexLaws.{all_taken, more_entries, no_file}
 
 -- ---- a key

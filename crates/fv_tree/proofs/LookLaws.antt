@@ -5,7 +5,7 @@ use Rattle.std.specs.Prelude.{slice_get, ◌==◌}
 use Rattle.std.specs.List.{filter}
 use Rattle.std.proofs.lemmas.List.{drop_more}
 use Rattle.std.proofs.lemmas.Bool.Decides.{Decides-eqb}
-use Rattle.fv_tree.specs.Instances.{instance_of, of_type, preorder, inside_section}
+use Rattle.fv_tree.specs.LookupInstances.{instance_of, of_type, preorder, inside_section}
 use Rattle.fv_tree.specs.Searches.{sought}
 use Rattle.fv_tree.specs.Meaning.{SectionMeaning, Section, sections_from, section_kind_of, body_of}
 use Rattle.fv_tree.specs.Sizes.{section_size, sections_size, body_size}

@@ -11,7 +11,7 @@ use Rattle.fv_head.specs.Head.{HeadFields, BeginsVolume, signature_bytes}
 use Rattle.fv_head.specs.HeadChecks.{head_checks, has_signature}
 use Rattle.fv_head.specs.declared.extent.Extent.{Extent}
 use Rattle.fv_head.proofs.FrontLemmas.{front_only, one_front, verdict_ok}
-use Rattle.fv_tree.specs.Found.{VolumeAt, IsPlace, LiesBehind, Apart, IsCovered, Found}
+use Rattle.fv_tree.specs.FoundVolumes.{VolumeAt, IsPlace, LiesBehind, Apart, IsCovered, Found}
 use Rattle.fv_tree.specs.FoundWalks.{NoneBetween, NoneFrom, FoundFrom}
 use Rattle.fv_tree.proofs.IndexLaws.{in_front, behind}
 

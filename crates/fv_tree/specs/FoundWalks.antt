@@ -1,7 +1,7 @@
 -- What a walk over some bytes finds, place after place.
 -- Serves private clauses alone: there is nothing to believe here.
 use Rattle.std.specs.Prelude.{◌≡◌, ℕ, ◌+◌, ◌%◌, ◌≤◌, ◌<◌, List, [], ◌∷◌}
-use Rattle.fv_tree.specs.Found.{VolumeAt}
+use Rattle.fv_tree.specs.FoundVolumes.{VolumeAt}
 
 -- no volume begins at the multiples of 8 from one place to before another; nor from a place on
 abbrev pub NoneBetween : List ℕ → ℕ → ℕ → Type 0

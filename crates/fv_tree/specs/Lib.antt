@@ -1,4 +1,4 @@
-pub mod Answers
+pub mod LookupAnswers
 pub mod Codes
 pub mod Denotes
 pub mod Difference
@@ -8,13 +8,13 @@ pub mod FaultStands
 pub mod FileSystems
 pub mod Files
 pub mod FirstFault
-pub mod Found
+pub mod FoundVolumes
 pub mod FoundWalks
-pub mod Instances
+pub mod LookupInstances
 pub mod ListFalls
 pub mod Meaning
 pub mod NameOrders
-pub mod Names
+pub mod FileNames
 pub mod ReadingParts
 pub mod Searches
 pub mod Shapes

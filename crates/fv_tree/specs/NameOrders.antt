@@ -12,7 +12,7 @@ use Rattle.fv_base.specs.Guids.{bytes_of}
 use Rattle.fv_base.specs.declared.guid.Guid.{Guid}
 use Rattle.fv_tree.specs.Files.{FileForm, is_marked}
 use Rattle.fv_tree.specs.Meaning.{FileMeaning}
-use Rattle.fv_tree.specs.Names.{is_named}
+use Rattle.fv_tree.specs.FileNames.{is_named}
 
 -- the order of names, and of names with whether the file is marked
 abbrev pub name_cmp : Guid → Guid → Ordering

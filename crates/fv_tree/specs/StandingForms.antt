@@ -1,7 +1,7 @@
 -- What the files that are found in a volume stand for.
 -- Serves private clauses alone: there is nothing to believe here.
 use Rattle.fv_tree.specs.Files.{FileForm}
-use Rattle.fv_tree.specs.declared.alive.Standing.{Standing}
+use Rattle.fv_tree.specs.declared.volume_files.Standing.{Standing}
 
 abbrev pub file_form : Standing → FileForm
 file_form s = record { offset = s.offset; head = s.head; payload = s.payload.now }

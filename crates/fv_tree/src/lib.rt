@@ -1,16 +1,16 @@
 //! What a firmware volume means, read as a view of its bytes.
 #![tactic(auto)]
 
-mod alive;
 mod difference;
+mod frame_places;
 mod lookup;
-mod numbers;
+mod name_index;
 mod read;
 mod scanner;
-mod stream;
 #[cfg(test)]
 mod tests;
 mod view;
+mod volume_files;
 
 pub use difference::{Difference, Step, Word, first_difference};
 pub use lookup::{Item, Lookup, file_by_name, file_by_type, next_file, section_by_type};

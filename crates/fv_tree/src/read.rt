@@ -16,16 +16,16 @@ ghost use Rattle.fv_tree.specs.FirstFault.{moved_fault, FirstInStream, FirstInVo
 ghost use Rattle.fv_tree.specs.FirstFault.{FileFirst, IsFirstOfVolume, body_place, data_place};
 ghost use Rattle.fv_tree.specs.FaultStands.{FaultStands};
 ghost use Rattle.fv_tree.specs.ReadingParts.{HasFiles, StandIn, StandFirst, AllStored, ReadsContent};
-ghost use Rattle.fv_tree.specs.Names.{HasNumbers, IsIndex};
+ghost use Rattle.fv_tree.specs.FileNames.{HasNumbers, IsIndex};
 ghost use Rattle.fv_tree.specs.NameOrders.{names_in};
 ghost use Rattle.fv_tree.specs.Views.{content_view};
 ghost use Rattle.fv_tree.specs.StandingForms.{file_form};
 ghost use Rattle.fv_tree.specs.Shapes.{shape_of};
 
-use crate::alive::{Standing, alive_files, files_of};
-use crate::numbers::Numbers;
-use crate::stream::{behind, stream_size};
+use crate::frame_places::{behind, stream_size};
+use crate::name_index::Numbers;
 use crate::view::{Body, Content, FileView, SectionView, VolumeView};
+use crate::volume_files::{Standing, alive_files, files_of};
 use fv_base::{Fault, FaultKind, Place};
 use fv_file::cells;
 use fv_head::{Extent, is_one_volume, read_head};

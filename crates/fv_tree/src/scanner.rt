@@ -3,7 +3,7 @@
 ghost use Rattle.std.specs.Prelude.{◌≡◌, ◌%◌, ◌≤◌, ◌+◌, ℕ, List, length, drop, IfOk, IfErr, IfSome, IfNone};
 ghost use Rattle.fv_base.specs.Faults.{want_of_memory};
 ghost use Rattle.fv_head.specs.HeadChecks.{has_signature};
-ghost use Rattle.fv_tree.specs.Found.{Found};
+ghost use Rattle.fv_tree.specs.FoundVolumes.{Found};
 ghost use Rattle.fv_tree.specs.FoundWalks.{IsNext, NoneBetween, NoneFrom};
 
 use fv_base::Fault;

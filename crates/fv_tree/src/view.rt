@@ -6,11 +6,11 @@ ghost use Rattle.fv_tree.specs.Denotes.{IsMeaning, IsReadFile, IsReadSection};
 ghost use Rattle.fv_tree.specs.Meaning.{head_of, files_of};
 ghost use Rattle.fv_tree.specs.Meaning.{file_name_of, file_kind_of, attributes_of, content_of, plain_of, data_len_of};
 ghost use Rattle.fv_tree.specs.Meaning.{section_kind_of, section_is_extended, body_of, leaf_of, body_len};
-ghost use Rattle.fv_tree.specs.Names.{HasNumbers};
+ghost use Rattle.fv_tree.specs.FileNames.{HasNumbers};
 ghost use Rattle.fv_tree.specs.NameOrders.{number_from};
 ghost use Rattle.fv_tree.specs.Views.{body_view, content_view};
 
-use crate::numbers::Numbers;
+use crate::name_index::Numbers;
 use fv_base::Guid;
 use fv_file::FileAttributes;
 use fv_head::VolumeHead;
@@ -94,7 +94,7 @@ impl<'a> Model for VolumeView<'a> {
     ghost view = { λ v. Volume v.head (files_from v.files.items) };
 
     ghost use Rattle.fv_tree.specs.Denotes.{IsMeaning};
-    ghost use Rattle.fv_tree.specs.Names.{HasNumbers};
+    ghost use Rattle.fv_tree.specs.FileNames.{HasNumbers};
 
     ghost invariant = { λ v. IsMeaning (Volume v.head (files_from v.files.items))
         × HasNumbers v.numbers v.files.items };

@@ -1,9 +1,9 @@
 use Rattle.std.proofs.Common.{take}
-use Rattle.fv_tree.specs.Instances.{preorder}
+use Rattle.fv_tree.specs.LookupInstances.{preorder}
 use Rattle.fv_tree.specs.Meaning.{sections_from}
 use Rattle.fv_tree.specs.Sizes.{section_size, sections_size}
 use Rattle.fv_command.specs.CheckRuns.{Noted}
-use Rattle.fv_command.specs.Checks.{sections_depexes}
+use Rattle.fv_command.specs.CheckTexts.{sections_depexes}
 use Rattle.fv_command.proofs.checking.+notes.Given as goal
 
 abbrev pub invariant-note_sections-loop-section : goal.invariant-note_sections-loop-section

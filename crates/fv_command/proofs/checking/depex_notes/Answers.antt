@@ -3,7 +3,7 @@ use Rattle.std.proofs.lemmas.List.{take_all}
 use Rattle.fv_base.specs.Limits.{volume_limit}
 use Rattle.fv_tree.specs.Meaning.{FileMeaning, files_of}
 use Rattle.fv_tree.proofs.Laws.{files_list_back}
-use Rattle.fv_command.specs.Checks.{AreNotes, HeldDepex, depexes_in, file_depexes}
+use Rattle.fv_command.specs.CheckTexts.{AreNotes, HeldDepex, depexes_in, file_depexes}
 use Rattle.fv_command.specs.declared.checking.DepexNote.{DepexNote}
 use Rattle.fv_command.proofs.CheckLemmas.{files_next, notes_then, one_longer}
 use Rattle.fv_command.proofs.checking.depex_notes.Goals as goal

@@ -1,6 +1,6 @@
 use Rattle.std.proofs.Common.{◌≤◌, ◌*◌, length, take}
 use Rattle.fv_base.specs.Limits.{volume_limit}
-use Rattle.fv_command.specs.Checks.{AreNotes, depexes_in}
+use Rattle.fv_command.specs.CheckTexts.{AreNotes, depexes_in}
 use Rattle.fv_command.proofs.checking.depex_notes.Given as goal
 
 abbrev pub invariant-loop-file : goal.invariant-loop-file

@@ -1,7 +1,7 @@
 use Rattle.std.proofs.Common.{ap, refl}
 use Rattle.std.proofs.lemmas.Result.{on_ok_weaker}
 use Rattle.fv_depex.specs.declared.fault.DepexFault.{DepexFault}
-use Rattle.fv_command.specs.Checks.{HeldDepex, note_of}
+use Rattle.fv_command.specs.CheckTexts.{HeldDepex, note_of}
 use Rattle.fv_command.proofs.CheckLemmas.{noted_spelled, noted_one}
 use Rattle.fv_command.proofs.checking.note_depex.Goals as goal
 

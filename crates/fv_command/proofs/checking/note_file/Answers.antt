@@ -1,10 +1,10 @@
 use Rattle.std.proofs.Common.{◌≡◌, ◌∙◌, List, sym, ap, subst}
 use Rattle.std.specs.Prelude.{OnOk}
 use Rattle.std.proofs.lemmas.Result.{on_ok_weaker}
-use Rattle.fv_tree.specs.Instances.{preorder}
+use Rattle.fv_tree.specs.LookupInstances.{preorder}
 use Rattle.fv_tree.specs.Meaning.{FileMeaning, Plain, Sectioned, SectionMeaning, content_of, sections_from}
 use Rattle.fv_tree.specs.Views.{content_view}
-use Rattle.fv_command.specs.Checks.{HeldDepex, file_depexes, sections_depexes}
+use Rattle.fv_command.specs.CheckTexts.{HeldDepex, file_depexes, sections_depexes}
 use Rattle.fv_command.specs.CheckRuns.{Noted}
 use Rattle.fv_command.proofs.CheckLemmas.{noted_few, noted_none, plain_depexes, read_few, stream_depexes}
 use Rattle.fv_command.proofs.checking.note_file.Goals as goal

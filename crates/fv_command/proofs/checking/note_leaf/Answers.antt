@@ -2,7 +2,7 @@ use Rattle.std.proofs.Common.{◌≡◌, ◌∙◌, Option, None, Some, sym, sub
 use Rattle.std.specs.Prelude.{OnOk}
 use Rattle.fv_depex.specs.declared.op.Phase.{Phase}
 use Rattle.fv_command.specs.CheckRuns.{Noted}
-use Rattle.fv_command.specs.Checks.{phase_of, read_by}
+use Rattle.fv_command.specs.CheckTexts.{phase_of, read_by}
 use Rattle.fv_command.proofs.CheckLemmas.{noted_none}
 use Rattle.fv_command.proofs.checking.note_leaf.Goals as goal
 

@@ -1,5 +1,5 @@
 use Rattle.std.proofs.Common.{ℕ, length, ◌≤◌, subst}
-use Rattle.fv_command.specs.Checks.{pad_line}
+use Rattle.fv_command.specs.CheckTexts.{pad_line}
 use Rattle.fv_command.proofs.checking.put_cell.Goals as goal
 
 pub returns-in-Pad-clause-text : goal.returns-in-Pad-clause-text

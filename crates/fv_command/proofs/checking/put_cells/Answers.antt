@@ -4,7 +4,7 @@ use Rattle.fv_file.specs.CellForms.{cell_form}
 use Rattle.fv_file.specs.declared.cell.Cell.{Cell}
 use Rattle.fv_file.specs.declared.cell.Cell.TheVariants as cells
 use Rattle.fv_file.specs.declared.state.FileState.TheVariants as states
-use Rattle.fv_command.specs.Checks.{pad_note, pad_notes}
+use Rattle.fv_command.specs.CheckTexts.{pad_note, pad_notes}
 use Rattle.fv_command.proofs.CheckLemmas.{seen_next, one_longer, pads_longer}
 use Rattle.fv_command.proofs.checking.put_cells.Goals as goal
 

@@ -1,6 +1,6 @@
 use Rattle.std.proofs.Common.{◌≤◌, ◌*◌, length, map, take}
 use Rattle.fv_file.specs.CellForms.{cell_form}
-use Rattle.fv_command.specs.Checks.{pad_notes}
+use Rattle.fv_command.specs.CheckTexts.{pad_notes}
 use Rattle.fv_command.proofs.checking.put_cells.Given as goal
 
 abbrev pub invariant-loop-cell : goal.invariant-loop-cell

@@ -1,6 +1,6 @@
 use Rattle.std.proofs.Common.{◌++◌, map, arith, length-append}
 use Rattle.fv_file.specs.CellForms.{cell_form}
-use Rattle.fv_command.specs.Checks.{pad_notes, depex_lines, verdict_line}
+use Rattle.fv_command.specs.CheckTexts.{pad_notes, depex_lines, verdict_line}
 use Rattle.fv_command.proofs.checking.put_check.Goals as goal
 
 pub returns-clause-text : goal.returns-clause-text

@@ -1,6 +1,6 @@
 use Rattle.std.proofs.Common.{◌≤◌, ◌*◌, ℕ, List, [], length, take, get_or, arith, subst, sym}
 use Rattle.std.proofs.lemmas.List.{take_all}
-use Rattle.fv_command.specs.Checks.{depex_line, depex_lines}
+use Rattle.fv_command.specs.CheckTexts.{depex_line, depex_lines}
 use Rattle.fv_command.specs.declared.checking.DepexNote.{DepexNote}
 use Rattle.fv_command.proofs.CheckLemmas.{texts_next, one_longer, notes_longer}
 use Rattle.fv_command.proofs.checking.put_notes.Goals as goal

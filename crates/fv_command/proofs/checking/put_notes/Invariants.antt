@@ -1,5 +1,5 @@
 use Rattle.std.proofs.Common.{◌≤◌, ◌*◌, length, take}
-use Rattle.fv_command.specs.Checks.{depex_lines}
+use Rattle.fv_command.specs.CheckTexts.{depex_lines}
 use Rattle.fv_command.proofs.checking.put_notes.Given as goal
 
 abbrev pub invariant-loop-note : goal.invariant-loop-note

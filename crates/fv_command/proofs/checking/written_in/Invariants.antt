@@ -1,5 +1,5 @@
 use Rattle.std.proofs.Common.{◌≡◌, take}
-use Rattle.fv_command.specs.Checks.{written_in}
+use Rattle.fv_command.specs.CheckTexts.{written_in}
 use Rattle.fv_command.proofs.checking.written_in.Given as goal
 
 abbrev pub invariant-loop-byte : goal.invariant-loop-byte

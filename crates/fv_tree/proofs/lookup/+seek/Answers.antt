@@ -1,5 +1,5 @@
 use Rattle.std.proofs.Common.{◌∷◌, refl, ap, ◌∙◌, arith}
-use Rattle.fv_tree.specs.Instances.{of_type, preorder, inside_section}
+use Rattle.fv_tree.specs.LookupInstances.{of_type, preorder, inside_section}
 use Rattle.fv_tree.specs.Searches.{sought}
 use Rattle.fv_tree.specs.Meaning.{sections_from}
 use Rattle.fv_tree.specs.Sizes.{body_size, sections_size}

@@ -1,5 +1,5 @@
 use Rattle.std.proofs.Common.{◌≡◌, ◌+◌, ◌*◌, drop}
-use Rattle.fv_tree.specs.Instances.{of_type, preorder}
+use Rattle.fv_tree.specs.LookupInstances.{of_type, preorder}
 use Rattle.fv_tree.specs.Searches.{sought}
 use Rattle.fv_tree.specs.Meaning.{sections_from}
 use Rattle.fv_tree.specs.Sizes.{section_size, body_size, sections_size}

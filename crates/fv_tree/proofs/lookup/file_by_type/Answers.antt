@@ -1,7 +1,7 @@
 use Rattle.std.proofs.Common.{◌+◌, ◌-◌, List, drop, sym, ap, ◌∙◌, arith, Bool}
 use Rattle.std.specs.Prelude.{slice_get, ◌==◌}
 use Rattle.std.specs.List.{filter}
-use Rattle.fv_tree.specs.Instances.{instance_of}
+use Rattle.fv_tree.specs.LookupInstances.{instance_of}
 use Rattle.fv_tree.specs.Meaning.{FileMeaning, file_kind_of, files_of}
 use Rattle.fv_tree.proofs.VolumeLaws.{files_list_back}
 use Rattle.fv_tree.proofs.LookLaws.{instance_at, past_end, passed, met, slice_next, slice_first, no_type, one_type}

@@ -3,7 +3,7 @@ use Rattle.std.specs.Prelude.{◌==◌, option_map}
 use Rattle.std.specs.List.{filter}
 use Rattle.fv_section.specs.Frames.{FrameForm, Splits, up_to_4}
 use Rattle.fv_section.specs.FrameForms.{frame_form}
-use Rattle.fv_tree.specs.Instances.{frame_of_type}
+use Rattle.fv_tree.specs.LookupInstances.{frame_of_type}
 use Rattle.fv_tree.proofs.lookup.frame_by_type.Given as goal
 
 abbrev pub invariant-loop-frame : goal.invariant-loop-frame

@@ -21,7 +21,7 @@ use Rattle.fv_tree.specs.FirstFault.{FileFirst, FirstInStream, FirstOf}
 use Rattle.fv_tree.specs.Meaning.{Meaning, FileMeaning, Section, Group, Nested, sections_from}
 use Rattle.fv_tree.specs.StandingForms.{file_form}
 use Rattle.fv_tree.specs.Views.{content_view}
-use Rattle.fv_tree.specs.declared.alive.Standing.{Standing}
+use Rattle.fv_tree.specs.declared.volume_files.Standing.{Standing}
 use Rattle.fv_tree.proofs.BodyLaws.{body_found, body_only, body_none, files_none, stand_first, files_first}
 use Rattle.fv_tree.proofs.FileLaws.{stream_reads, file_found, file_one, stream_bad}
 use Rattle.fv_tree.proofs.Lengths.{body_long, content_long}
@@ -33,7 +33,7 @@ use Rattle.fv_tree.proofs.StreamLaws.{walk_found, walk_only}
 use Rattle.fv_tree.proofs.VolumeLaws.{made, no_other, no_files, head_unread, head_known, head_first, body_first}
 use Rattle.fv_tree.proofs.VolumeLaws.{opened_whole}
 use Rattle.fv_tree.proofs.IndexLaws.{read_names}
-use Rattle.fv_tree.specs.Names.{IsIndex}
+use Rattle.fv_tree.specs.FileNames.{IsIndex}
 use Rattle.fv_base.specs.declared.guid.Guid.{Guid}
 use Rattle.fv_tree.proofs.read.+read.Goals as goal
 

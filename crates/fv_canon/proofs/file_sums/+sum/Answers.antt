@@ -1,0 +1,307 @@
+use Rattle.std.proofs.Common.{◌≡◌, ◌≤◌, ◌<◌, ◌+◌, ◌-◌, ℕ, List, ◌++◌, length, drop, replicate, sym, ap, ◌∙◌, subst, arith}
+use Rattle.std.proofs.lemmas.Grind.{common_steps}
+use Rattle.fv_section.specs.Frames.{up_to_4}
+use Rattle.fv_section.specs.SectionImage.{section_head_of}
+use Rattle.fv_tree.specs.Meaning.{Meaning, SectionMeaning, BodyMeaning, sections_from, body_of, body_len, section_is_extended}
+use Rattle.fv_tree.specs.Meaning.{section_kind_of, section_len}
+use Rattle.fv_tree.specs.Sizes.{volume_size, sections_size, body_size}
+use Rattle.fv_tree.specs.Views.{body_view}
+use Rattle.fv_tree.specs.declared.view.Body.{Body}
+use Rattle.fv_canon.specs.ImageOf.{body_image, starts_in_body, starts_in_section, starts_in_sections}
+use Rattle.fv_canon.specs.Layouts.{LaysSections, LaysBody, LaysVolume}
+use Rattle.std.proofs.Common.{get_or}
+use Rattle.fv_base.specs.Flash.{erased_byte}
+use Rattle.fv_base.specs.Value.{up_to_8}
+use Rattle.fv_file.specs.NewHeaders.{file_head_of}
+use Rattle.fv_tree.specs.Meaning.{ContentMeaning, FileMeaning, files_from, file_name_of, file_kind_of, attributes_of, content_of}
+use Rattle.fv_tree.specs.Meaning.{data_len_of}
+use Rattle.fv_canon.specs.ImageOf.{stored_of, stored_file, data_of, starts_in_file, starts_in_files}
+use Rattle.fv_canon.specs.Layouts.{LaysFiles}
+use Rattle.fv_canon.specs.StoredWalks.{files_bytes}
+use Rattle.fv_canon.specs.StoredFiles.{stored_bytes, gap_bytes, size_for, file_sum_for}
+use Rattle.fv_canon.specs.Placed.{ArePlaced}
+use Rattle.fv_canon.proofs.FileLaws.{file_long, stored_is, size_is, at_file, file_laid, files_left, walk_goes, file_smaller, placed_on}
+use Rattle.fv_canon.specs.ImageWalks.{BeginsWithStarts, TakesFront, sections_bytes}
+use Rattle.fv_canon.proofs.SectionLaws.{section_known, item_laid, in_body, body_laid, left_is, goes_on, front_more, front_end}
+use Rattle.fv_canon.proofs.SectionLaws.{section_smaller}
+use Rattle.std.proofs.Common.{take, drop-drop}
+use Rattle.fv_base.specs.declared.flash.Polarity.{Polarity}
+use Rattle.fv_head.specs.Attributes.{polarity_of}
+use Rattle.fv_head.specs.Head.{HeadFields}
+use Rattle.fv_head.specs.HeadImage.{canonical_head}
+use Rattle.fv_head.specs.ExtImage.{canonical_end, canonical_first}
+use Rattle.fv_tree.specs.Sizes.{files_size}
+use Rattle.fv_canon.specs.ImageOf.{image_of, starts_in}
+use Rattle.fv_canon.specs.StoredFiles.{ext_pad}
+use Rattle.fv_canon.specs.Placed.{used_by}
+use Rattle.fv_canon.proofs.VolumeWalks.{volume_is, volume_seen, volume_text, volume_left, files_same}
+use Rattle.fv_base.specs.Sinks.{WalkLaws}
+use Rattle.fv_canon.specs.SumSinks.{AddsUp, adds_up_by}
+use Rattle.fv_canon.specs.declared.file_sums.SumSink.{SumSink}
+use Rattle.std.proofs.Common.{true, false}
+use Rattle.fv_file.specs.Attributes.{is_summed}
+use Rattle.fv_canon.proofs.SumWalks.{summed_adds, unsummed_text}
+use Rattle.fv_canon.proofs.file_sums.+sum.Goals as goal
+
+abbrev takes : SumSink → List ℕ → SumSink → Type 0
+takes = AddsUp (λ s. s.total)
+
+laws : WalkLaws takes
+laws = adds_up_by (λ s. s.total)
+
+pub sum_body-sum_sections-requires : goal.sum_body-sum_sections-requires
+sum_body-sum_sections-requires t c =
+    let is : body_size (body_view c.args.body.now) ≡ sections_size (sections_from c.in-Group.sections.items) =
+    ap (λ (b : Body). body_size (body_view b)) c.in-Group.is in
+    let same : sections_size (sections_from c.as_slice.result.now) ≡ sections_size (sections_from c.in-Group.sections.items) =
+    ap (λ (xs : List SectionMeaning). sections_size (sections_from xs)) c.as_slice.ensures.value in
+    let laid = subst (λ (b : Body). BeginsWithStarts LaysBody (body_view b) c.args.starts.now) c.in-Group.is c.requires.laid in (
+      omega (arith, c.decreases, is, same),
+      subst (λ (xs : List SectionMeaning). BeginsWithStarts LaysSections (sections_from xs) c.args.starts.now)
+          (sym c.as_slice.ensures.value) laid,
+    )
+
+pub sum_body-sum_volume-requires : goal.sum_body-sum_volume-requires
+sum_body-sum_volume-requires t c =
+    let is : body_size (body_view c.args.body.now) ≡ volume_size c.in-Nested.volume.value =
+    ap (λ (b : Body). body_size (body_view b)) c.in-Nested.is in
+    let laid = subst (λ (b : Body). BeginsWithStarts LaysBody (body_view b) c.args.starts.now) c.in-Nested.is c.requires.laid in
+    let size : volume_size c.deref.result.now ≡ volume_size c.in-Nested.volume.value =
+    ap (λ (m : Meaning). volume_size m) c.deref.ensures in (
+      omega (arith, c.decreases, is, size),
+      subst (λ (m : Meaning). BeginsWithStarts LaysVolume m c.args.starts.now) (sym c.deref.ensures) laid,
+    )
+
+pub sum_sections-put_section_head-requires : goal.sum_sections-put_section_head-requires
+sum_sections-put_section_head-requires t c =
+    let l = item_laid c.args.sections.now c.loop-section.section-index c.section-item.result c.loop-section.rest.now
+    c.loop-section-test.true c.section-item.is c.loop-section.invariant.laid in
+    (section_known c.section-item.result c.loop-section.rest.now c.kind-kind.ensures.read l.0).fits
+
+pub sum_sections-sum_body-rest-requires : goal.sum_sections-sum_body-rest-requires
+sum_sections-sum_body-rest-requires t c =
+    let l = item_laid c.args.sections.now c.loop-section.section-index c.section-item.result c.loop-section.rest.now
+    c.loop-section-test.true c.section-item.is c.loop-section.invariant.laid in
+    let less =
+    section_smaller c.args.sections.now c.loop-section.section-index c.section-item.result c.loop-section-test.true c.section-item.is in
+    let same : body_size (body_view c.body.result.now) ≡ body_size (body_of c.section-item.result) = ap body_size c.body.ensures in (
+      omega (arith, c.decreases, less, same),
+      subst (λ (b : BodyMeaning). BeginsWithStarts LaysBody b c.loop-section.rest.now) (sym c.body.ensures)
+          (body_laid c.section-item.result c.loop-section.rest.now l.0),
+    )
+
+pub sum_sections-filler_of-gap-requires : goal.sum_sections-filler_of-gap-requires
+sum_sections-filler_of-gap-requires t c =
+    let l = item_laid c.args.sections.now c.loop-section.section-index c.section-item.result c.loop-section.rest.now
+    c.loop-section-test.true c.section-item.is c.loop-section.invariant.laid in
+    (section_known c.section-item.result c.loop-section.rest.now c.kind-kind.ensures.read l.0).small
+
+pub sum_sections-loop-section-preserved : goal.sum_sections-loop-section-preserved
+sum_sections-loop-section-preserved t c =
+    let i : ℕ = c.loop-section.section-index in
+    let ss : List SectionMeaning = c.args.sections.now in
+    let s : SectionMeaning = c.section-item.result in
+    let rest : List ℕ = c.loop-section.rest.now in
+    let l = item_laid ss i s rest c.loop-section-test.true c.section-item.is c.loop-section.invariant.laid in
+    let k = section_known s rest c.kind-kind.ensures.read l.0 in
+    let next : c.sum_body-rest.result.now ≡ drop (starts_in_section s) rest = c.sum_body-rest.ensures.rest
+    ∙ ap (λ (b : BodyMeaning). drop (starts_in_body b) rest) c.body.ensures ∙ ap (λ (n : ℕ). drop n rest) (sym (in_body s)) in
+    let body = subst (λ (b : BodyMeaning). takes c.put_section_head.new.out (body_image b rest) c.sum_body-rest.new.out) c.body.ensures
+    c.sum_body-rest.ensures.bytes in
+    record {
+      small = few (section_len s) c.filler_of-gap.result c.filler_of-gap.ensures;
+      laid = subst (λ (xs : List ℕ). BeginsWithStarts LaysSections (sections_from (drop (i + 1) ss)) xs) (sym next) l.1;
+      left = ap (λ (xs : List ℕ). drop (starts_in_sections (sections_from (drop (i + 1) ss))) xs) next
+          ∙ sym (left_is ss i s rest c.loop-section-test.true c.section-item.is) ∙ c.loop-section.invariant.left;
+      done = subst (λ (xs : List ℕ). TakesFront takes c.args.out.now c.sum_body-rest.new.out (sections_bytes 0 (sections_from ss)
+          c.args.starts.now) (sections_bytes c.filler_of-gap.result (sections_from (drop (i + 1) ss)) xs)) (sym next)
+          (subst (λ (n : ℕ). TakesFront takes c.args.out.now c.sum_body-rest.new.out (sections_bytes 0 (sections_from ss) c.args.starts.now)
+          (sections_bytes n (sections_from (drop (i + 1) ss)) (drop (starts_in_section s) rest))) (sym c.filler_of-gap.ensures)
+          (front_more takes laws c.args.out.now c.loop-section.out c.fill.new.out c.put_section_head.new.out c.sum_body-rest.new.out
+          (sections_bytes 0 (sections_from ss) c.args.starts.now) (sections_bytes c.loop-section.gap (sections_from (drop i ss)) rest)
+          (replicate c.loop-section.gap 0) (section_head_of (section_kind_of s) (section_is_extended s) (body_len (body_of s)))
+          (body_image (body_of s) rest) (sections_bytes (up_to_4 (section_len s) - section_len s) (sections_from (drop (i + 1) ss))
+          (drop (starts_in_section s) rest)) c.loop-section.invariant.done (goes_on ss i s rest c.loop-section.gap c.loop-section-test.true
+          c.section-item.is k) c.fill.ensures c.put_section_head.ensures body));
+    }
+  where
+    few : (x n : ℕ) → n ≡ up_to_4 x - x → n ≤ 3
+    few x n e = omega (arith, e)
+
+pub sum_sections-returns-then-not-is_empty-clause-bytes : goal.sum_sections-returns-then-not-is_empty-clause-bytes
+sum_sections-returns-then-not-is_empty-clause-bytes t c =
+    let some : 0 < length c.args.sections.now = grind (arith, common_steps, c.is_empty.ensures, c.if-not-is_empty.true) in
+    front_end takes laws c.args.sections.now c.loop-section.section-index c.args.out.now c.loop-section.out c.fill-then-not-is_empty.new.out
+    c.loop-section.gap c.args.starts.now c.loop-section.rest.now c.args.tail
+    c.loop-section-test.false some c.loop-section.invariant.done (subst
+    (λ (n : ℕ). takes c.loop-section.out (replicate n 0) c.fill-then-not-is_empty.new.out) c.from.ensures c.fill-then-not-is_empty.ensures)
+
+pub sum_files-overflow_sub-start : goal.sum_files-overflow_sub-start
+sum_files-overflow_sub-start t c = (at_file c.args.total c.loop-i.edge c.args.files.now c.args.own.now c.loop-i.i c.index-files-i.result
+    c.loop-i-test.true c.index-files-i.is c.loop-i.invariant.placed).here.low
+
+pub sum_files-put_gap-requires-clause-fits : goal.sum_files-put_gap-requires-clause-fits
+sum_files-put_gap-requires-clause-fits t c = (at_file c.args.total c.loop-i.edge c.args.files.now c.args.own.now c.loop-i.i
+    c.index-files-i.result c.loop-i-test.true c.index-files-i.is c.loop-i.invariant.placed).here.apart
+
+pub sum_files-put_gap-requires-clause-multiple : goal.sum_files-put_gap-requires-clause-multiple
+sum_files-put_gap-requires-clause-multiple t c = (at_file c.args.total c.loop-i.edge c.args.files.now c.args.own.now c.loop-i.i
+    c.index-files-i.result c.loop-i-test.true c.index-files-i.is c.loop-i.invariant.placed).here.multiple
+
+pub sum_files-sum_file-rest-requires : goal.sum_files-sum_file-rest-requires
+sum_files-sum_file-rest-requires t c =
+    let at = at_file c.args.total c.loop-i.edge c.args.files.now c.args.own.now c.loop-i.i c.index-files-i.result c.loop-i-test.true
+    c.index-files-i.is c.loop-i.invariant.placed in
+    let l = file_laid c.args.files.now c.loop-i.i c.index-files-i.result c.loop-i.rest.now c.loop-i-test.true c.index-files-i.is
+    c.loop-i.invariant.laid in
+    let less = file_smaller c.args.files.now c.loop-i.i c.index-files-i.result c.loop-i-test.true c.index-files-i.is in
+    (omega (arith, c.decreases, less), (l.0, at.here.most))
+
+pub sum_files-size_for-requires : goal.sum_files-size_for-requires
+sum_files-size_for-requires t c = let at = at_file c.args.total c.loop-i.edge c.args.files.now c.args.own.now c.loop-i.i
+    c.index-files-i.result c.loop-i-test.true c.index-files-i.is c.loop-i.invariant.placed in
+    omega (arith, at.here.most, c.data_len.ensures)
+
+pub sum_files-overflow_add-end : goal.sum_files-overflow_add-end
+sum_files-overflow_add-end t c = let at = at_file c.args.total c.loop-i.edge c.args.files.now c.args.own.now c.loop-i.i
+    c.index-files-i.result c.loop-i-test.true c.index-files-i.is c.loop-i.invariant.placed in
+    let sz = c.size_for.ensures ∙ ap size_for c.data_len.ensures in omega (arith, at.here.ends, sz, c.requires.placed.limit)
+
+pub sum_files-up_to_8-edge-requires : goal.sum_files-up_to_8-edge-requires
+sum_files-up_to_8-edge-requires t c = let at = at_file c.args.total c.loop-i.edge c.args.files.now c.args.own.now c.loop-i.i
+    c.index-files-i.result c.loop-i-test.true c.index-files-i.is c.loop-i.invariant.placed in
+    let sz = c.size_for.ensures ∙ ap size_for c.data_len.ensures in omega (arith, at.here.ends, sz, c.requires.placed.limit)
+
+pub sum_files-loop-i-preserved : goal.sum_files-loop-i-preserved
+sum_files-loop-i-preserved t c =
+    let i : ℕ = c.loop-i.i in
+    let fs : List FileMeaning = c.args.files.now in
+    let own : List ℕ = c.args.own.now in
+    let f : FileMeaning = c.index-files-i.result in
+    let rest : List ℕ = c.loop-i.rest.now in
+    let p = c.args.polarity in
+    let total : ℕ = c.args.total in
+    let s : ℕ = get_or own i 0 in
+    let at = at_file c.args.total c.loop-i.edge c.args.files.now c.args.own.now c.loop-i.i c.index-files-i.result c.loop-i-test.true
+    c.index-files-i.is c.loop-i.invariant.placed in
+    let l = file_laid fs i f rest c.loop-i-test.true c.index-files-i.is c.loop-i.invariant.laid in
+    let long = file_long f rest c.name-name.ensures.read l.0 in
+    let sz : c.size_for.result ≡ size_for (data_len_of f) = c.size_for.ensures ∙ ap size_for c.data_len.ensures in
+    let edge : c.up_to_8-edge.result ≡ up_to_8 (s + size_for (data_len_of f)) =
+    c.up_to_8-edge.ensures ∙ ap (λ (n : ℕ). up_to_8 (s + n)) sz in
+    let next : c.sum_file-rest.result.now ≡ drop (starts_in_file f) rest = c.sum_file-rest.ensures.rest in
+    let filled = subst (λ (n : ℕ). takes c.sum_file-rest.new.out
+    (replicate (up_to_8 (s + size_for (data_len_of f)) - (s + size_for (data_len_of f))) n) c.fill.new.out) c.erased.ensures.value (subst
+    (λ (n : ℕ). takes c.sum_file-rest.new.out (replicate (up_to_8 (s + size_for (data_len_of f)) - (s + n)) c.erased.result) c.fill.new.out)
+    sz (subst (λ (n : ℕ). takes c.sum_file-rest.new.out (replicate (n - (s + c.size_for.result)) c.erased.result) c.fill.new.out)
+    edge c.fill.ensures)) in
+    let whole : List ℕ = files_bytes p total c.args.first (stored_of (files_from fs) c.args.starts.now) own in
+    record {
+      placed = subst (λ (n : ℕ). ArePlaced total n (drop (i + 1) fs) (drop (i + 1) own)) (sym edge)
+          (placed_on total c.loop-i.edge f (drop (i + 1) fs) s (drop (i + 1) own) at.placed);
+      laid = subst (λ (xs : List ℕ). BeginsWithStarts LaysFiles (files_from (drop (i + 1) fs)) xs) (sym next) l.1;
+      left = ap (λ (xs : List ℕ). drop (starts_in_files (files_from (drop (i + 1) fs))) xs) next
+          ∙ sym (files_left fs i f rest c.loop-i-test.true c.index-files-i.is) ∙ c.loop-i.invariant.left;
+      done = subst (λ (xs : List ℕ). TakesFront takes c.args.out.now c.fill.new.out whole
+          (files_bytes p total c.up_to_8-edge.result (stored_of (files_from (drop (i + 1) fs)) xs) (drop (i + 1) own))) (sym next)
+          (subst (λ (n : ℕ). TakesFront takes c.args.out.now c.fill.new.out whole
+          (files_bytes p total n (stored_of (files_from (drop (i + 1) fs)) (drop (starts_in_file f) rest)) (drop (i + 1) own))) (sym edge)
+          (front_more takes laws c.args.out.now c.loop-i.out c.put_gap.new.out c.sum_file-rest.new.out c.fill.new.out whole
+          (files_bytes p total c.loop-i.edge (stored_of (files_from (drop i fs)) rest) (drop i own)) (gap_bytes p (s - c.loop-i.edge))
+          (stored_bytes p (stored_file f rest)) (replicate (up_to_8 (s + size_for (data_len_of f)) - (s + size_for (data_len_of f)))
+          (erased_byte p)) (files_bytes p total (up_to_8 (s + size_for (data_len_of f)))
+          (stored_of (files_from (drop (i + 1) fs)) (drop (starts_in_file f) rest)) (drop (i + 1) own)) c.loop-i.invariant.done (walk_goes p
+          total c.loop-i.edge fs own i f rest at (size_is f rest long)) c.put_gap.ensures c.sum_file-rest.ensures.bytes filled));
+    }
+
+pub sum_volume-split_at-requires : goal.sum_volume-split_at-requires
+sum_volume-split_at-requires t c = (volume_seen c.args.volume.now c.head-head.result.now c.files-files.result.now c.args.starts.now
+    c.files-files.ensures c.head-head.ensures.head c.head-head.ensures.meaning c.requires.laid).enough
+
+pub sum_volume-used_end-used-requires : goal.sum_volume-used_end-used-requires
+sum_volume-used_end-used-requires t c =
+    let h : HeadFields = c.head-head.result.now in
+    let fs : List FileMeaning = c.files-files.result.now in
+    let v = volume_seen c.args.volume.now c.head-head.result.now c.files-files.result.now c.args.starts.now c.files-files.ensures
+    c.head-head.ensures.head c.head-head.ensures.meaning c.requires.laid in (
+      h.length,
+      subst (λ (n : ℕ). ArePlaced h.length n fs c.split_at.result.0.now) (sym c.first_edge-first.ensures.edge)
+          (subst (λ (ss : List ℕ). ArePlaced h.length (canonical_first h h.ext) fs ss) (sym c.split_at.ensures.front) v.placed),
+    )
+
+pub sum_volume-sum_files-requires : goal.sum_volume-sum_files-requires
+sum_volume-sum_files-requires t c =
+    let h : HeadFields = c.head-head.result.now in
+    let fs : List FileMeaning = c.files-files.result.now in
+    let v = volume_seen c.args.volume.now c.head-head.result.now c.files-files.result.now c.args.starts.now c.files-files.ensures
+    c.head-head.ensures.head c.head-head.ensures.meaning c.requires.laid in
+    let falls : volume_size c.args.volume.now ≡ files_size (files_from fs) + 1 = ap volume_size c.files-files.ensures in
+    let placed = subst (λ (n : ℕ). ArePlaced h.length n fs c.split_at.result.0.now) (sym c.first_edge-first.ensures.edge)
+    (subst (λ (ss : List ℕ). ArePlaced h.length (canonical_first h h.ext) fs ss) (sym c.split_at.ensures.front) v.placed) in (
+      omega (arith, c.decreases, falls),
+      (
+        subst (λ (n : ℕ). ArePlaced n c.first_edge-first.result fs c.split_at.result.0.now) (sym c.length.ensures) placed,
+        subst (λ (xs : List ℕ). BeginsWithStarts LaysFiles (files_from fs) xs) (sym c.split_at.ensures.back) v.inner,
+      ),
+    )
+
+pub sum_volume-returns-clause-bytes : goal.sum_volume-returns-clause-bytes
+sum_volume-returns-clause-bytes t c =
+    let h : HeadFields = c.head-head.result.now in
+    let fs : List FileMeaning = c.files-files.result.now in
+    let starts : List ℕ = c.args.starts.now in
+    let n : ℕ = length fs in
+    let first : ℕ = canonical_first h h.ext in
+    let p : Polarity = polarity_of h.attributes in
+    let v = volume_seen c.args.volume.now c.head-head.result.now c.files-files.result.now c.args.starts.now c.files-files.ensures
+    c.head-head.ensures.head c.head-head.ensures.meaning c.requires.laid in
+    let is = volume_is c.args.volume.now h fs c.files-files.ensures c.head-head.ensures.head in
+    let text = ap (λ (m : Meaning). image_of m starts) is ∙ volume_text h fs starts v in
+    let polar : c.polarity-polarity.result ≡ polarity_of h.attributes = c.polarity-polarity.ensures ∙ ap polarity_of c.attributes.ensures in
+    let used : c.used_end-used.result ≡ used_by first fs (take n starts) =
+    c.used_end-used.ensures.used ∙ ap (λ (k : ℕ). used_by k fs c.split_at.result.0.now) c.first_edge-first.ensures.edge
+    ∙ ap (λ (ss : List ℕ). used_by first fs ss) c.split_at.ensures.front in
+    let fill : List ℕ = replicate (first - canonical_end h h.ext) (erased_byte p) in
+    let ext : List ℕ = ext_pad p h.ext (used_by first fs (take n starts)) ++ fill in
+    let files = files_same c.polarity-polarity.result p c.length.result h.length c.first_edge-first.result first (files_from fs)
+    c.split_at.result.1.now (drop n starts) c.split_at.result.0.now (take n starts) polar c.length.ensures c.first_edge-first.ensures.edge
+    c.split_at.ensures.back c.split_at.ensures.front in
+    let body : List ℕ = files_bytes p h.length first (stored_of (files_from fs) (drop n starts)) (take n starts) in
+    subst (λ (xs : List ℕ). takes c.args.out.now xs c.sum_files.new.out) (sym text)
+    (laws.joined c.args.out.now c.put_head.new.out c.sum_files.new.out (canonical_head h) (ext ++ body) c.put_head.ensures.bytes
+    (laws.joined c.put_head.new.out c.put_ext_pad.new.out c.sum_files.new.out ext body
+    (subst (λ (k : ℕ). takes c.put_head.new.out (ext_pad p h.ext k ++ fill) c.put_ext_pad.new.out) used c.put_ext_pad.ensures)
+    (subst (λ (xs : List ℕ). takes c.put_ext_pad.new.out xs c.sum_files.new.out) files c.sum_files.ensures.bytes)))
+
+pub sum_volume-returns-clause-rest : goal.sum_volume-returns-clause-rest
+sum_volume-returns-clause-rest t c =
+    let h : HeadFields = c.head-head.result.now in
+    let fs : List FileMeaning = c.files-files.result.now in
+    let is = volume_is c.args.volume.now h fs c.files-files.ensures c.head-head.ensures.head in
+    let k : ℕ = starts_in_files (files_from fs) in
+    c.sum_files.ensures.rest ∙ ap (drop k) c.split_at.ensures.back ∙ drop-drop k (length fs) c.args.starts.now
+    ∙ ap (λ (j : ℕ). drop j c.args.starts.now) (sym (volume_left h fs) ∙ ap starts_in (sym is))
+
+pub sum_file-returns-then-is_summed-clause-bytes : goal.sum_file-returns-then-is_summed-clause-bytes
+sum_file-returns-then-is_summed-clause-bytes t c =
+    let is : is_summed (attributes_of c.args.file.now) ≡ true =
+    sym (ap is_summed c.attributes.ensures) ∙ sym c.is_summed.ensures ∙ c.if-is_summed.true in
+    summed_adds c.args.polarity c.args.file.now c.args.starts.now c.args.out.now.total c.put_state.new.out.total is c.put_state.ensures
+
+pub sum_file-returns-clause-bytes : goal.sum_file-returns-clause-bytes
+sum_file-returns-clause-bytes t c =
+    let is : is_summed (attributes_of c.args.file.now) ≡ false =
+    sym (ap is_summed c.attributes.ensures) ∙ sym c.is_summed.ensures ∙ c.if-is_summed.false in
+    let none = unsummed_text (attributes_of c.args.file.now) (data_of (content_of c.args.file.now) c.args.starts.now) is in
+    let long = file_long c.args.file.now c.args.starts.now c.name-name.ensures.read c.requires.laid in
+    let head = file_head_of (file_name_of c.args.file.now) (file_kind_of c.args.file.now) (record { 0 = attributes_of c.args.file.now })
+    (data_len_of c.args.file.now)
+    (file_sum_for (attributes_of c.args.file.now) (data_of (content_of c.args.file.now) c.args.starts.now)) c.args.polarity in
+    subst (λ (xs : List ℕ). takes c.args.out.now xs c.sum_content.new.out)
+    (sym (stored_is c.args.polarity c.args.file.now c.args.starts.now long))
+    (laws.joined c.args.out.now c.put_file_head.new.out c.sum_content.new.out head (data_of (content_of c.args.file.now) c.args.starts.now)
+    (subst (λ (n : ℕ). takes c.args.out.now (file_head_of (file_name_of c.args.file.now) (file_kind_of c.args.file.now) (record {
+      0 = attributes_of c.args.file.now;
+    }) (data_len_of c.args.file.now) n c.args.polarity) c.put_file_head.new.out) none c.put_file_head.ensures)
+    (subst (λ (x : ContentMeaning). takes c.put_file_head.new.out (data_of x c.args.starts.now) c.sum_content.new.out) c.content-2.ensures
+    c.sum_content.ensures.bytes))

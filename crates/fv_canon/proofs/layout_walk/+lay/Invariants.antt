@@ -1,0 +1,30 @@
+use Rattle.std.proofs.Common.{◌+◌, ◌*◌, take}
+use Rattle.fv_tree.specs.Meaning.{sections_from, files_from}
+use Rattle.fv_tree.specs.Sizes.{volume_size, files_size, content_size, sections_size, body_size}
+use Rattle.fv_tree.specs.Views.{body_view, content_view}
+use Rattle.fv_canon.specs.Layouts.{LaysSections, LaysFiles}
+use Rattle.fv_canon.specs.LayoutWalks.{Grew}
+use Rattle.fv_canon.proofs.layout_walk.+lay.Given as goal
+
+abbrev pub invariant-lay_files-loop-file : goal.invariant-lay_files-loop-file
+invariant-lay_files-loop-file l = Grew LaysFiles (files_from (take l.file-index l.files)) l.initial.starts.items l.starts.items
+
+abbrev pub invariant-lay_sections-loop-section : goal.invariant-lay_sections-loop-section
+invariant-lay_sections-loop-section l =
+    Grew LaysSections (sections_from (take l.section-index l.sections)) l.initial.starts.items l.starts.items
+
+-- each walk is over something smaller, and a walk over one thing over what it holds
+abbrev pub decreases-lay_volume : goal.decreases-lay_volume
+decreases-lay_volume l = 2 * volume_size l.view.now
+
+abbrev pub decreases-lay_files : goal.decreases-lay_files
+decreases-lay_files l = 2 * files_size (files_from l.files.now) + 1
+
+abbrev pub decreases-lay_content : goal.decreases-lay_content
+decreases-lay_content l = 2 * content_size (content_view l.content.now) + 1
+
+abbrev pub decreases-lay_sections : goal.decreases-lay_sections
+decreases-lay_sections l = 2 * sections_size (sections_from l.sections.now)
+
+abbrev pub decreases-lay_body : goal.decreases-lay_body
+decreases-lay_body l = 2 * body_size (body_view l.body.now) + 1

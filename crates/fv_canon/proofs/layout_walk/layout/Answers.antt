@@ -1,0 +1,34 @@
+use Rattle.std.proofs.Common.{inl, inr}
+use Rattle.std.proofs.lemmas.Result.{err_from_is_err_and}
+use Rattle.fv_canon.proofs.FitLaws.{unfit_none}
+use Rattle.fv_canon.proofs.GrowLaws.{shallow_volume}
+use Rattle.fv_canon.proofs.LayoutLaws.{layout_is, one_layout, own_first}
+use Rattle.fv_canon.proofs.layout_walk.layout.Goals as goal
+
+pub lay_volume-requires : goal.lay_volume-requires
+lay_volume-requires c = record { shallow = shallow_volume c.args.view.now c.head-head.ensures.meaning }
+
+pub returns-clause-layout : goal.returns-clause-layout
+returns-clause-layout c =
+    layout_is c.args.view.now c.files-own.result.now c.new-starts.result.items c.lay_volume.new.starts.items c.new.result
+    c.files-own.ensures c.new-starts.ensures.items c.in_ok-lay_volume.ensures.ok c.new.ensures.own c.new.ensures.inner
+
+pub returns-clause-only : goal.returns-clause-only
+returns-clause-only c starts laid =
+    let is = layout_is c.args.view.now c.files-own.result.now c.new-starts.result.items c.lay_volume.new.starts.items c.new.result
+    c.files-own.ensures c.new-starts.ensures.items c.in_ok-lay_volume.ensures.ok c.new.ensures.own c.new.ensures.inner in
+    one_layout c.args.view.now starts _ laid is.0
+
+pub returns-clause-least : goal.returns-clause-least
+returns-clause-least c =
+    let is = layout_is c.args.view.now c.files-own.result.now c.new-starts.result.items c.lay_volume.new.starts.items c.new.result
+    c.files-own.ensures c.new-starts.ensures.items c.in_ok-lay_volume.ensures.ok c.new.ensures.own c.new.ensures.inner in
+    (own_first c.args.view.now c.new.result is).least
+
+pub returns-in_err-lay_volume-clause-fits : goal.returns-in_err-lay_volume-clause-fits
+returns-in_err-lay_volume-clause-fits c fit =
+    let p = err_from_is_err_and c.from_residual.result c.from_residual.ensures.1 in
+    rw (p.1, p.2) (elim c.in_err-lay_volume.ensures.err [
+      | inl memory ↦ memory
+      | inr unfit ↦ absurd (unfit_none c.args.view.now 0 c.in_err-lay_volume.field-0.0 unfit fit)
+    ])

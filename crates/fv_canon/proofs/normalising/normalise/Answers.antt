@@ -1,0 +1,52 @@
+use Rattle.std.proofs.Common.{◌≡◌, List, ℕ, length}
+use Rattle.std.proofs.lemmas.Result.{IfOk-weaker, IfErr-weaker, err_from_is_err_and}
+use Rattle.fv_base.specs.Faults.{want_of_memory}
+use Rattle.fv_base.specs.declared.fault.Fault.{Fault}
+use Rattle.fv_head.specs.Head.{HeadFields, BeginsVolume}
+use Rattle.fv_head.specs.declared.extent.Extent.{Extent}
+use Rattle.fv_tree.specs.Meaning.{head_of}
+use Rattle.fv_canon.specs.Headline.{NormalisesTo}
+use Rattle.fv_canon.proofs.ImageLaws.{image_again, image_stays_long}
+use Rattle.fv_canon.proofs.InputLaws.{image_fits, not_placed, not_read, not_read_never}
+use Rattle.fv_canon.proofs.normalising.normalise.Goals as goal
+
+pub returns-in_err-view-clause-err : goal.returns-in_err-view-clause-err
+returns-in_err-view-clause-err c =
+    let p = err_from_is_err_and c.from_residual.result c.from_residual.ensures.1 in
+    rw (p.1, p.2) (not_read c.args.input.now _ c.in_err-view.ensures.refused)
+
+pub returns-in_err-view-clause-fits : goal.returns-in_err-view-clause-fits
+returns-in_err-view-clause-fits c =
+    let p = err_from_is_err_and c.from_residual.result c.from_residual.ensures.1 in
+    rw (p.1, p.2) (λ image to. not_read_never c.args.input.now image _ c.in_err-view.ensures.refused to)
+
+pub returns-clause-ok : goal.returns-clause-ok
+returns-clause-ok c =
+    IfOk-weaker c.canonical.result _ (NormalisesTo c.args.input.now)
+    (λ bytes image. (c.in_ok-view.view, c.in_ok-view.ensures.found, image)) c.canonical.ensures.image
+
+pub returns-clause-again : goal.returns-clause-again
+returns-clause-again c =
+    IfOk-weaker c.canonical.result _ (λ bytes. NormalisesTo bytes bytes)
+    (λ bytes image. image_again c.args.input.now bytes (c.in_ok-view.view, c.in_ok-view.ensures.found, image)) c.canonical.ensures.image
+
+pub returns-clause-length : goal.returns-clause-length
+returns-clause-length c =
+    IfOk-weaker c.canonical.result _ (λ (bytes : List ℕ). length bytes ≡ length c.args.input.now)
+    (λ bytes image. image_stays_long c.args.input.now bytes (c.in_ok-view.view, c.in_ok-view.ensures.found, image))
+    c.canonical.ensures.image
+
+pub returns-clause-err : goal.returns-clause-err
+returns-clause-err c =
+    IfErr-weaker c.canonical.result _ _
+    (λ f why. not_placed c.args.input.now c.in_ok-view.view f c.in_ok-view.ensures.found why) c.canonical.ensures.err
+
+pub returns-clause-fits : goal.returns-clause-fits
+returns-clause-fits c =
+    λ image to. c.canonical.ensures.fits (image_fits c.args.input.now image c.in_ok-view.view c.in_ok-view.ensures.only to)
+
+pub returns-clause-memory : goal.returns-clause-memory
+returns-clause-memory c =
+    let d = c.in_ok-view.ensures.found.1 in
+    IfErr-weaker c.canonical.result _ (λ (f : Fault). f ≡ want_of_memory → (h : HeadFields) × (e : Extent)
+    × BeginsVolume h e c.args.input.now) (λ f why same. (head_of c.in_ok-view.view, d.extent, d.front)) c.canonical.ensures.err

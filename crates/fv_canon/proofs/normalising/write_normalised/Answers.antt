@@ -1,0 +1,45 @@
+use Rattle.std.proofs.Common.{◌≡◌, true}
+use Rattle.std.proofs.lemmas.Result.{err_from_is_err_and}
+use Rattle.fv_base.specs.Port.{has_erred}
+use Rattle.fv_base.specs.declared.fault.Fault.{Fault}
+use Rattle.fv_base.specs.declared.fault.FaultKind.TheVariants as kinds
+use Rattle.fv_canon.proofs.InputLaws.{not_placed, not_read, unfit_kind}
+use Rattle.fv_canon.proofs.RunLaws.{input_writes, writer_stops, refused_stops, write_not_read, of_some_kind}
+use Rattle.fv_canon.proofs.normalising.write_normalised.Goals as goal
+
+pub returns-in_err-view-clause-err : goal.returns-in_err-view-clause-err
+returns-in_err-view-clause-err g c =
+    let p = err_from_is_err_and c.from_residual.result c.from_residual.ensures.1 in
+    rw (p.1, p.2) (refused_stops c.args.input.now _ _ (not_read c.args.input.now _ c.in_err-view.ensures.refused))
+
+pub returns-in_err-places-clause-err : goal.returns-in_err-places-clause-err
+returns-in_err-places-clause-err g c =
+    let p = err_from_is_err_and c.from_residual-in_err-places.result c.from_residual-in_err-places.ensures.1 in
+    rw (p.1, p.2) (refused_stops c.args.input.now _ _
+    (not_placed c.args.input.now c.in_ok-view.view _ c.in_ok-view.ensures.found c.in_err-places.ensures.err))
+
+pub returns-in_err-places-clause-read : goal.returns-in_err-places-clause-read
+returns-in_err-places-clause-read g c =
+    let p = err_from_is_err_and c.from_residual-in_err-places.result c.from_residual-in_err-places.ensures.1 in
+    rw (p.1, p.2) (unfit_kind c.in_ok-view.view _ c.in_err-places.ensures.err).0
+
+pub returns-in_err-places-clause-erred : goal.returns-in_err-places-clause-erred
+returns-in_err-places-clause-erred g c =
+    let p = err_from_is_err_and c.from_residual-in_err-places.result c.from_residual-in_err-places.ensures.1 in
+    rw (p.1, p.2) (λ same. absurd ((unfit_kind c.in_ok-view.view _ c.in_err-places.ensures.err).1 same))
+
+pub returns-clause-ok : goal.returns-clause-ok
+returns-clause-ok g c =
+    input_writes c.args.input.now c.in_ok-view.view _ _ c.write_canonical.result c.in_ok-view.ensures.found c.write_canonical.ensures.ok
+
+pub returns-clause-err : goal.returns-clause-err
+returns-clause-err g c =
+    writer_stops c.args.input.now c.in_ok-view.view _ _ c.write_canonical.result c.in_ok-view.ensures.found c.write_canonical.ensures.err
+
+pub returns-clause-read : goal.returns-clause-read
+returns-clause-read g c = write_not_read c.in_ok-view.view _ _ c.write_canonical.result c.write_canonical.ensures.err
+
+pub returns-clause-erred : goal.returns-clause-erred
+returns-clause-erred g c =
+    of_some_kind (λ (f : Fault). f.kind ≡ kinds.WriteFault)
+    (has_erred c.write_canonical.new.writer ≡ true) c.write_canonical.result c.write_canonical.ensures.erred

@@ -1,5 +1,0 @@
-use Rattle.fv_canon.proofs.WholeLaws.{Puts}
-use Rattle.fv_canon.proofs.whole.put_renewed.Given as goal
-
-abbrev pub invariant-loop-offset : goal.invariant-loop-offset
-invariant-loop-offset g l = Puts g.S.Sink.takes l.initial.out l.out l.image l.offsets l.offset-index l.from

@@ -1,0 +1,51 @@
+-- Every volume of a flash image, replaced by its canonical image.
+use Rattle.std.specs.Prelude.{◌≡◌, ◌⊎◌, ◌<◌, ◌≤◌, ℕ, List, ◌∷◌, ◌++◌, length, get_or}
+use Rattle.std.specs.List.{AllByRecursion}
+use Rattle.fv_base.specs.Faults.{outer_fault}
+use Rattle.fv_base.specs.Limits.{volume_limit}
+use Rattle.fv_base.specs.Value.{field}
+use Rattle.fv_base.specs.declared.fault.Fault.{Fault}
+use Rattle.fv_base.specs.declared.fault.FaultKind.TheVariants as kinds
+use Rattle.fv_tree.specs.FirstFault.{moved_fault}
+use Rattle.fv_tree.specs.FoundVolumes.{Found, IsCovered, VolumeAt}
+use Rattle.fv_canon.specs.Headline.{NormalisesTo}
+use Rattle.fv_canon.specs.Refusals.{Refuses}
+
+-- a volume begins at the place p of b, and its canonical image stands there in o
+abbrev pub IsRenewed : List ℕ → List ℕ → ℕ → Type 0
+IsRenewed b o p = (n : ℕ) × VolumeAt b p n × NormalisesTo (field p n b) (field p n o)
+
+-- o is as long as b, at each of the places it has the canonical image of the volume that begins there in b, and every
+-- byte in none of these volumes is that of b
+pub record Renewed (b places o : List ℕ) : Type 0 where
+  pub length_is : length o ≡ length b
+  pub volumes : AllByRecursion (IsRenewed b o) places
+  pub others : (k : ℕ) → k < length b → (IsCovered b places k → ⊥) → get_or o k 0 ≡ get_or b k 0
+
+-- b is within the limit, and o is b with each volume that is found in it renewed
+abbrev pub NormalisesAll : List ℕ → List ℕ → Type 0
+NormalisesAll b o = (length b ≤ volume_limit) × (places : List ℕ) × Found b places × Renewed b places o
+
+-- the volume that begins at the place p of b has a canonical image
+abbrev pub HasImageAt : List ℕ → ℕ → Type 0
+HasImageAt b p = (n : ℕ) × (image : List ℕ) × VolumeAt b p n × NormalisesTo (field p n b) image
+
+-- the volume at one of the places is refused, and those at the places before it have canonical images; the fault is
+-- that of the volume, counted from the first byte of b
+pub record FirstRefused (b places : List ℕ) (fault : Fault) : Type 0 where
+  pub before : List ℕ
+  pub place : ℕ
+  pub behind : List ℕ
+  pub split : places ≡ before ++ (place ∷ behind)
+  pub images : AllByRecursion (HasImageAt b) before
+  pub size : ℕ
+  pub volume : VolumeAt b place size
+  pub own : Fault
+  pub refused : Refuses (field place size b) own
+  pub moved_is : fault ≡ moved_fault place own.place.depth own
+
+-- b is longer than the limit; or it is not, and the fault is that of the first volume found in it that is refused
+abbrev pub RefusesAll : List ℕ → Fault → Type 0
+RefusesAll b fault =
+    ((volume_limit < length b) × (fault ≡ outer_fault kinds.Length volume_limit))
+    ⊎ ((length b ≤ volume_limit) × (places : List ℕ) × Found b places × FirstRefused b places fault)

@@ -1,0 +1,29 @@
+-- What a run reads and writes, and what stops it.
+use Rattle.std.specs.Prelude.{ℕ, ◌≡◌, List, Option, ◌⊎◌}
+use Rattle.std.specs.Io.KnownBytes.{Appends, Keeps}
+use Rattle.fv_base.specs.Faults.{want_of_memory}
+use Rattle.fv_base.specs.Input.{ReadsWhole, ReadStops}
+use Rattle.fv_base.specs.Output.{WriteStops}
+use Rattle.fv_base.specs.declared.fault.Fault.{Fault}
+use Rattle.fv_canon.specs.Headline.{NormalisesTo}
+use Rattle.fv_canon.specs.Refusals.{Refuses}
+
+-- the image of the input was written
+abbrev pub InputWrites : List ℕ → Option (List ℕ) → Option (List ℕ) → Type 0
+InputWrites input held holds = (image : List ℕ) × NormalisesTo input image × Appends held holds image
+
+-- nothing was written, for want of memory or since the input is refused; or the writer stopped
+abbrev pub InputStops : List ℕ → Option (List ℕ) → Option (List ℕ) → Fault → Type 0
+InputStops input held holds fault =
+    (Keeps held holds × ((fault ≡ want_of_memory) ⊎ Refuses input fault))
+    ⊎ ((image : List ℕ) × NormalisesTo input image × WriteStops held holds image fault)
+
+-- a run read an input to its end, and wrote its image
+abbrev pub RunWrites : Option (List ℕ) → Option (List ℕ) → Option (List ℕ) → Option (List ℕ) → Type 0
+RunWrites unread left held holds = (input : List ℕ) × ReadsWhole unread left input × InputWrites input held holds
+
+-- a run stopped while it read, and nothing was written; or behind an input that it had read to its end
+abbrev pub RunStops : Option (List ℕ) → Option (List ℕ) → Option (List ℕ) → Option (List ℕ) → Fault → Type 0
+RunStops unread left held holds fault =
+    (Keeps held holds × ReadStops unread left fault)
+    ⊎ ((input : List ℕ) × ReadsWhole unread left input × InputStops input held holds fault)

@@ -1,0 +1,192 @@
+//! The file sum of a file, as its data lie in the canonical image.
+
+ghost use Rattle.std.specs.Prelude.{◌≡◌, ◌≤◌, ◌<◌, ◌+◌, ◌-◌, ◌%◌, drop};
+ghost use Rattle.fv_section.specs.SectionImage.{stream_of};
+ghost use Rattle.fv_tree.specs.Meaning.{files_from, attributes_of, content_of, data_len_of, sections_from};
+ghost use Rattle.fv_tree.specs.Views.{body_view, content_view};
+ghost use Rattle.fv_canon.specs.ImageOf.{image_of, stored_of, stored_file, data_of, frames_of, body_image};
+ghost use Rattle.fv_canon.specs.ImageOf.{starts_in, starts_in_files, starts_in_file, starts_in_content};
+ghost use Rattle.fv_canon.specs.ImageOf.{starts_in_sections, starts_in_body};
+ghost use Rattle.fv_canon.specs.Layouts.{LaysVolume, LaysFiles, LaysFile, LaysContent, LaysSections, LaysBody};
+ghost use Rattle.fv_canon.specs.StoredFiles.{file_sum_for, stored_bytes, size_for};
+ghost use Rattle.fv_canon.specs.StoredWalks.{files_bytes};
+ghost use Rattle.fv_canon.specs.Placed.{ArePlaced};
+ghost use Rattle.fv_canon.specs.SumSinks.{AddsUp, adds_up_by};
+ghost use Rattle.fv_canon.specs.ImageWalks.{BeginsWithStarts};
+
+use crate::image_pieces::{
+    filler_of, put_ext_pad, put_file_head, put_gap, put_section_head, put_state, size_for, used_end,
+};
+use crate::start_walk::skip_content;
+use fv_base::field::up_to_8;
+use fv_base::{Polarity, Sink, fill};
+use fv_head::{first_edge, put_head};
+use fv_tree::{Body, Content, FileView, SectionView, VolumeView};
+
+/// The sum of the bytes that are put, modulo 256.
+#[derive(Drop)]
+struct SumSink {
+    total: u8,
+}
+
+impl Sink for SumSink {
+    ghost takes = { AddsUp (λ s. s.total) };
+
+    ghost laws = { adds_up_by (λ s. s.total) };
+
+    fn put(&mut self, bytes: &[u8]) {
+        for byte in bytes {
+            self.total = self.total.wrapping_add(*byte);
+        }
+    }
+}
+
+// What makes a sum of bytes 0.
+fn complement(sum: u8) -> u8
+    ensures value { result ≡ (256 - sum) % 256 }
+    ensures small { sum < 256 }
+{
+    0u8.wrapping_sub(sum)
+}
+
+// The file sum of a file.
+pub(crate) fn file_sum(file: &FileView<'_>, starts: &[u64]) -> u8
+    requires laid { BeginsWithStarts LaysFile file.now starts.now }
+    ensures { result ≡ file_sum_for (attributes_of file.now) (data_of (content_of file.now) starts.now) }
+{
+    if !file.attributes().is_summed() {
+        return 0xaa;
+    }
+    let mut sum = SumSink { total: 0 };
+    sum_content(&mut sum, file.content(), starts);
+    complement(sum.total)
+}
+
+// The sums of what the walk puts, without the data of a file that has the checksum attribute: such a
+// file adds its State alone.
+#[cycle(sum)]
+fn sum_sections<'s>(
+    out: &mut SumSink,
+    sections: &[SectionView<'_>],
+    tail: u8,
+    starts: &'s [u64],
+) -> &'s [u64]
+    requires laid { BeginsWithStarts LaysSections (sections_from sections.now) starts.now }
+    ensures bytes { AddsUp (λ s. s.total) out.old
+        (stream_of (frames_of 0 (sections_from sections.now) starts.now) tail) out.new }
+    ensures rest { result.now ≡ drop (starts_in_sections (sections_from sections.now)) starts.now }
+{
+    let mut gap = 0;
+    let mut rest = starts;
+    for section in sections {
+        let _kind = section.kind();
+        fill(out, 0, gap);
+        put_section_head(out, section);
+        rest = sum_body(out, section.body(), rest);
+        gap = filler_of(section);
+    }
+    if !sections.is_empty() {
+        fill(out, 0, u64::from(tail));
+    }
+    rest
+}
+
+#[cycle(sum)]
+fn sum_body<'s>(out: &mut SumSink, body: &Body<'_>, starts: &'s [u64]) -> &'s [u64]
+    requires laid { BeginsWithStarts LaysBody (body_view body.now) starts.now }
+    ensures bytes { AddsUp (λ s. s.total) out.old (body_image (body_view body.now) starts.now) out.new }
+    ensures rest { result.now ≡ drop (starts_in_body (body_view body.now)) starts.now }
+{
+    match body {
+        Body::Leaf(bytes) => {
+            out.put(bytes);
+            starts
+        }
+        Body::Group { sections, tail } => sum_sections(out, sections.as_slice(), *tail, starts),
+        Body::Nested(volume) => sum_volume(out, volume, starts),
+    }
+}
+
+#[cycle(sum)]
+fn sum_content<'s>(out: &mut SumSink, content: &Content<'_>, starts: &'s [u64]) -> &'s [u64]
+    requires laid { BeginsWithStarts LaysContent (content_view content.now) starts.now }
+    ensures bytes { AddsUp (λ s. s.total) out.old (data_of (content_view content.now) starts.now) out.new }
+    ensures rest { result.now ≡ drop (starts_in_content (content_view content.now)) starts.now }
+{
+    match content {
+        Content::Plain(bytes) => {
+            out.put(bytes);
+            starts
+        }
+        Content::Stream { sections, tail } => sum_sections(out, sections.as_slice(), *tail, starts),
+    }
+}
+
+#[cycle(sum)]
+fn sum_file<'s>(
+    out: &mut SumSink,
+    file: &FileView<'_>,
+    polarity: Polarity,
+    starts: &'s [u64],
+) -> &'s [u64]
+    requires laid { BeginsWithStarts LaysFile file.now starts.now }
+    requires most { data_len_of file.now ≤ 268435424 }
+    ensures bytes { AddsUp (λ s. s.total) out.old (stored_bytes polarity (stored_file file.now starts.now)) out.new }
+    ensures rest { result.now ≡ drop (starts_in_file file.now) starts.now }
+{
+    let _name = file.name();
+    if file.attributes().is_summed() {
+        put_state(out, polarity);
+        return skip_content(file.content(), starts);
+    }
+    put_file_head(out, file, 0xaa, polarity);
+    sum_content(out, file.content(), starts)
+}
+
+#[cycle(sum)]
+fn sum_files<'s>(
+    out: &mut SumSink,
+    files: &[FileView<'_>],
+    own: &[u64],
+    polarity: Polarity,
+    first: u64,
+    total: u64,
+    starts: &'s [u64],
+) -> &'s [u64]
+    requires placed { ArePlaced total first files.now own.now }
+    requires laid { BeginsWithStarts LaysFiles (files_from files.now) starts.now }
+    ensures bytes { AddsUp (λ s. s.total) out.old
+        (files_bytes polarity total first (stored_of (files_from files.now) starts.now) own.now) out.new }
+    ensures rest { result.now ≡ drop (starts_in_files (files_from files.now)) starts.now }
+{
+    let mut edge = first;
+    let mut rest = starts;
+    for (i, file) in files.iter().enumerate() {
+        let _name = file.name();
+        let start = own[i];
+        put_gap(out, start - edge, polarity);
+        rest = sum_file(out, file, polarity, rest);
+        let end = start + size_for(file.data_len());
+        edge = up_to_8(end);
+        fill(out, polarity.erased(), edge - end);
+    }
+    fill(out, polarity.erased(), total - edge);
+    rest
+}
+
+#[cycle(sum)]
+fn sum_volume<'s>(out: &mut SumSink, volume: &VolumeView<'_>, starts: &'s [u64]) -> &'s [u64]
+    requires laid { BeginsWithStarts LaysVolume volume.now starts.now }
+    ensures bytes { AddsUp (λ s. s.total) out.old (image_of volume.now starts.now) out.new }
+    ensures rest { result.now ≡ drop (starts_in volume.now) starts.now }
+{
+    let head = volume.head();
+    let files = volume.files();
+    let polarity = head.attributes().polarity();
+    let first = first_edge(head);
+    let (own, inner) = starts.split_at(files.len());
+    let used = used_end(files, own, first) as u32;
+    put_head(out, head);
+    put_ext_pad(out, head, used);
+    sum_files(out, files, own, polarity, first, head.length(), inner)
+}

@@ -1,0 +1,280 @@
+//! Where the files of a volume stand.
+
+ghost use Rattle.std.specs.Prelude.{◌≡◌, ℕ, ◌+◌, ◌-◌, ◌*◌, ◌/◌, ◌%◌, ◌^◌, ◌<◌, ◌≤◌, IfOk, IfErr, IfSome, IfNone, List};
+ghost use Rattle.std.specs.Prelude.{IsTrue, ◌↔◌, All, get_or, drop, length, vec_len};
+ghost use Rattle.fv_base.specs.Alignment.{IsAlignment};
+ghost use Rattle.fv_base.specs.Faults.{want_of_memory};
+ghost use Rattle.fv_base.specs.Limits.{volume_limit};
+ghost use Rattle.fv_base.specs.Value.{up_to_8};
+ghost use Rattle.fv_canon.specs.Reaches.{Widens, Reaches, Serves, IsFirstStart, IsGreatest, IsReach, CanPlace};
+ghost use Rattle.fv_canon.specs.Reaches.{AreReaches, IsLawfulPart};
+ghost use Rattle.fv_canon.specs.Starts.{Lawful, StandsInVolume, Placement, IsLeast, IsLeastStart, IsFirstPlacement};
+ghost use Rattle.fv_canon.specs.Starts.{IsOff, TopOff};
+ghost use Rattle.fv_canon.specs.declared.first_placement.Part.{Part};
+
+use fv_base::Fault;
+use fv_base::field::up_to_8;
+use std::alloc::Global;
+
+/// What the layout is told of a file: the bytes of its header and of the whole, its alignment, and
+/// whether it is the volume top file.
+#[derive(Clone, Copy)]
+pub(crate) struct Part {
+    pub header: u64,
+    pub size: u64,
+    pub alignment: u64,
+    pub top: bool,
+}
+
+// The least multiple of the alignment that is at least `x`.
+pub(crate) fn round_up(x: u64, alignment: u64) -> u64
+    requires alignment { IsAlignment alignment }
+    requires small { x < 2 ^ 62 }
+    ensures multiple { result % alignment ≡ 0 }
+    ensures above { x ≤ result }
+    ensures near { result < x + alignment }
+    ensures least { (y : ℕ) → y % alignment ≡ 0 → x ≤ y → result ≤ y }
+{
+    let mask = alignment - 1;
+    (x + mask) & !mask
+}
+
+// The greatest multiple of the alignment that is at most `x`.
+pub(crate) fn round_down(x: u64, alignment: u64) -> u64
+    requires { IsAlignment alignment }
+    ensures multiple { result % alignment ≡ 0 }
+    ensures below { result ≤ x }
+    ensures near { x < result + alignment }
+    ensures greatest { (y : ℕ) → y % alignment ≡ 0 → y ≤ x → y ≤ result }
+{
+    x & !(alignment - 1)
+}
+
+// The alignment of a start: that of the data, and at least 8.
+fn widened(alignment: u64) -> u64
+    requires { IsAlignment alignment }
+    ensures { Widens result alignment }
+{
+    if alignment < 8 { 8 } else { alignment }
+}
+
+/// After which edges some files can be placed: the greatest start of the first of them that serves,
+/// and whether the starts 8 and 16 below it serve too.
+#[derive(Clone, Copy)]
+pub(crate) struct Reach {
+    pub greatest: u64,
+    pub near: bool,
+    pub far: bool,
+}
+
+// Whether files with this reach can be placed after `edge`.
+fn reaches(behind: Reach, edge: u64) -> bool
+    requires { edge < 2 ^ 62 }
+    ensures { IsTrue result ↔ Reaches behind edge }
+{
+    edge + 24 <= behind.greatest
+        || edge == behind.greatest
+        || (behind.near && edge + 8 == behind.greatest)
+        || (behind.far && edge + 16 == behind.greatest)
+}
+
+// Whether the file may start there, files with this reach behind it.
+fn serves(total: u64, part: &Part, behind: Reach, start: u64) -> bool
+    requires total { total ≤ volume_limit }
+    requires part { IsLawfulPart total part.now }
+    requires start { start < 2 ^ 61 }
+    ensures { IsTrue result ↔ Serves total part.now behind start }
+{
+    start % 8 == 0
+        && (start + part.header) % part.alignment == 0
+        && (!part.top || start + part.size == total)
+        && reaches(behind, up_to_8(start + part.size))
+}
+
+// The first start after `edge`, if there is one.
+fn first_start(total: u64, edge: u64, part: &Part, behind: Reach) -> Option<u64>
+    requires total { total ≤ volume_limit }
+    requires edge { (edge % 8 ≡ 0) × (edge ≤ total) }
+    requires part { IsLawfulPart total part.now }
+    ensures found { IfSome result (λ s. IsFirstStart total edge part.now behind s) }
+    ensures none { IfNone result ((s : ℕ) → Lawful edge part.now s → Serves total part.now behind s → ⊥) }
+{
+    if serves(total, part, behind, edge) {
+        return Some(edge);
+    }
+    if part.top {
+        let start = total - part.size;
+        return if edge + 24 <= start && serves(total, part, behind, start) {
+            Some(start)
+        } else {
+            None
+        };
+    }
+    let step = widened(part.alignment);
+    let mut start = round_up(edge + 24 + part.header, step) - part.header;
+    for _ in 0..3u64 {
+        if serves(total, part, behind, start) {
+            return Some(start);
+        }
+        start += step;
+    }
+    None
+}
+
+// The greatest start that serves, if there is one.
+fn greatest_start(total: u64, part: &Part, behind: Reach) -> Option<u64>
+    requires total { (total ≤ volume_limit) × (total % 8 ≡ 0) }
+    requires part { IsLawfulPart total part.now }
+    requires behind { (behind.greatest ≤ total) × (behind.greatest % 8 ≡ 0) }
+    ensures found { IfSome result
+        (λ s. Serves total part.now behind s × ((t : ℕ) → Serves total part.now behind t → t ≤ s)) }
+    ensures none { IfNone result ((s : ℕ) → Serves total part.now behind s → ⊥) }
+{
+    if part.top {
+        let start = total - part.size;
+        return if serves(total, part, behind, start) {
+            Some(start)
+        } else {
+            None
+        };
+    }
+    let extent = up_to_8(part.size);
+    if behind.greatest < extent {
+        return None;
+    }
+    let step = widened(part.alignment);
+    let mut data = round_down(behind.greatest - extent + part.header, step);
+    for _ in 0..4u64 {
+        if data < part.header {
+            return None;
+        }
+        if serves(total, part, behind, data - part.header) {
+            return Some(data - part.header);
+        }
+        if data < step {
+            return None;
+        }
+        data -= step;
+    }
+    None
+}
+
+// The reach of a file and those behind it.
+fn reach_of(total: u64, part: &Part, behind: Reach) -> Option<Reach>
+    requires total { (total ≤ volume_limit) × (total % 8 ≡ 0) }
+    requires part { IsLawfulPart total part.now }
+    requires behind { (behind.greatest ≤ total) × (behind.greatest % 8 ≡ 0) }
+    ensures found { IfSome result (λ r. IsGreatest total part.now behind r) }
+    ensures none { IfNone result ((s : ℕ) → Serves total part.now behind s → ⊥) }
+{
+    let greatest = greatest_start(total, part, behind)?;
+    let near = serves_below(total, part, behind, greatest, 8);
+    let far = serves_below(total, part, behind, greatest, 16);
+    Some(Reach {
+        greatest,
+        near,
+        far,
+    })
+}
+
+// Whether the start that is `by` below `greatest` serves.
+fn serves_below(total: u64, part: &Part, behind: Reach, greatest: u64, by: u64) -> bool
+    requires total { total ≤ volume_limit }
+    requires part { IsLawfulPart total part.now }
+    requires greatest { greatest < 2 ^ 61 }
+    ensures { (t : ℕ) → t + by ≡ greatest
+        → (IsTrue result → Serves total part.now behind t) × (Serves total part.now behind t → IsTrue result) }
+{
+    by <= greatest && serves(total, part, behind, greatest - by)
+}
+
+// The reaches of the files from each on, that of no files first and that of all of them last; None
+// where they cannot be placed at all.
+fn reaches_from(alloc: Global, total: u64, parts: &[Part]) -> Result<Option<Vec<Reach>>, Fault>
+    requires total { (total ≤ volume_limit) × (total % 8 ≡ 0) }
+    requires parts { All (IsLawfulPart total) parts.now }
+    ensures len { IfOk result (λ o. IfSome o (λ found. vec_len found ≡ length parts.now + 1)) }
+    ensures each { IfOk result (λ o. IfSome o (λ found. AreReaches total parts.now found.items)) }
+    ensures none { IfOk result (λ o. IfNone o ((e : ℕ) → CanPlace total e parts.now → ⊥)) }
+    ensures err { IfErr result (λ f. f ≡ want_of_memory) }
+{
+    let mut found = Vec::new(alloc);
+    let mut behind = Reach {
+        greatest: total,
+        near: true,
+        far: true,
+    };
+    let mut left = parts.len();
+    while left > 0 {
+        left -= 1;
+        found.push(behind)?;
+        match reach_of(total, &parts[left], behind) {
+            None => return Ok(None),
+            Some(reach) => behind = reach,
+        }
+    }
+    found.push(behind)?;
+    Ok(Some(found))
+}
+
+// The first placement of the files in a volume of `total` bytes with the first edge `first`; None
+// where they cannot be placed in their order at all.
+pub(crate) fn first_starts(
+    alloc: Global,
+    total: u64,
+    first: u64,
+    parts: &[Part],
+) -> Result<Option<Vec<u64>>, Fault>
+    requires total { (total ≤ volume_limit) × (total % 8 ≡ 0) }
+    requires first { (first % 8 ≡ 0) × (first < 2 ^ 32) }
+    requires parts { All (IsLawfulPart total) parts.now }
+    ensures found { IfOk result (λ o. IfSome o (λ starts. IsFirstPlacement total first parts.now starts.items)) }
+    ensures none { IfOk result (λ o. IfNone o ((starts : List ℕ) → Placement total first parts.now starts → ⊥)) }
+    ensures err { IfErr result (λ f. f ≡ want_of_memory) }
+{
+    let found = match reaches_from(alloc, total, parts)? {
+        None => return Ok(None),
+        Some(found) => found,
+    };
+    let whole = found[parts.len()];
+    if !reaches(whole, first) {
+        return Ok(None);
+    }
+    let mut starts = Vec::new(alloc);
+    let mut edge = first;
+    for (i, part) in parts.iter().enumerate() {
+        let behind = found[parts.len() - 1 - i];
+        match first_start(total, edge, part, behind) {
+            None => return Ok(None),
+            Some(start) => {
+                starts.push(start)?;
+                edge = up_to_8(start + part.size);
+            }
+        }
+    }
+    Ok(Some(starts))
+}
+
+// Whether the one start of the volume top file is not aligned.
+fn is_off(total: u64, part: &Part) -> bool
+    requires total { total ≤ volume_limit }
+    requires part { IsLawfulPart total part.now }
+    ensures { IsTrue result ↔ IsOff total part.now }
+{
+    let start = total - part.size;
+    (start + part.header) % part.alignment != 0 || start % 8 != 0
+}
+
+// Whether there is a volume top file whose one start, at the volume's end, is not aligned.
+pub(crate) fn is_top_off(total: u64, parts: &[Part]) -> bool
+    requires total { total ≤ volume_limit }
+    requires parts { All (IsLawfulPart total) parts.now }
+    ensures { IsTrue result ↔ TopOff total parts.now }
+{
+    for part in parts {
+        if part.top && is_off(total, part) {
+            return true;
+        }
+    }
+    false
+}

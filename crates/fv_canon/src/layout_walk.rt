@@ -1,0 +1,233 @@
+//! The layout of a volume and of the volumes inside it.
+
+ghost use Rattle.std.specs.Prelude.{◌≡◌, ◌≤◌, ◌⊎◌, ◌++◌, ℕ, List, All, map, take, get_or, IfOk, IfErr, OnOk};
+ghost use Rattle.fv_base.specs.Faults.{want_of_memory};
+ghost use Rattle.fv_canon.specs.Depths.{NestsVolume, NestsFiles, NestsContent, NestsSections, NestsBody};
+ghost use Rattle.fv_canon.specs.Layouts.{first_edge, layout_fault, part_of};
+ghost use Rattle.fv_canon.specs.Layouts.{LaysVolume, LaysFiles, LaysContent, LaysSections, LaysBody};
+ghost use Rattle.fv_canon.specs.Layouts.{Fits, FitsContent, FitsBody, Unfit, UnfitFiles, UnfitContent, UnfitSections};
+ghost use Rattle.fv_canon.specs.Layouts.{UnfitBody};
+ghost use Rattle.fv_canon.specs.LayoutWalks.{Grew, Shallow};
+ghost use Rattle.fv_canon.specs.LayoutForms.{IsLayout, UnfitAlone};
+ghost use Rattle.fv_canon.specs.Starts.{IsFirstPlacement, Placement};
+ghost use Rattle.fv_canon.specs.Reaches.{IsLawfulPart};
+ghost use Rattle.fv_tree.specs.Meaning.{head_of, files_of, content_of, body_of, sections_from, files_from};
+ghost use Rattle.fv_tree.specs.Views.{body_view, content_view};
+
+use crate::first_placement::{Part, first_starts, is_top_off};
+use crate::starts::Layout;
+use fv_base::{Align, Fault, FaultKind, Place};
+use fv_head::first_edge;
+use fv_tree::{Body, Content, FileView, SectionView, VolumeView};
+use std::alloc::Global;
+
+/// The name of the volume top file, 1ba0062e-c779-4582-8566-336ae8f78f09.
+const TOP: [u8; 16] = [
+    0x2e, 0x06, 0xa0, 0x1b, 0x79, 0xc7, 0x82, 0x45, 0x85, 0x66, 0x33, 0x6a, 0xe8, 0xf7, 0x8f, 0x09,
+];
+
+/// Where the files of the view's canonical image stand, and those of the volumes inside it. (PI
+/// specification, volume 3, section 3.2.3.1.)
+///
+/// # Errors
+///
+/// Of the first volume that does not fit, the outer one before those inside it, at 0 and with the
+/// depth of that volume: TopAlignment where the one start of its volume top file is not aligned, else
+/// NoRoom where its files cannot be placed in their order. OutOfMemory.
+pub fn layout(alloc: Global, view: &VolumeView<'_>) -> Result<Layout, Fault>
+    // At every level the files stand in their first placement.
+    ensures layout { IfOk result (IsLayout view.now) }
+
+    // There is no other.
+    ensures only { IfOk result (λ l. (starts : List ℕ) → LaysVolume view.now starts → starts ≡ l.own ++ l.inner) }
+
+    // Every other placement of the volume's own files has a larger start at the first place where the two differ.
+    ensures least { IfOk result (λ l. (others : List ℕ) (i : ℕ)
+        → Placement (head_of view.now).length (first_edge (head_of view.now)) (map part_of (files_of view.now)) others
+        → take i others ≡ take i l.own → get_or l.own i 0 ≤ get_or others i 0) }
+
+    // A refusal, want of memory aside, is that of the first volume that does not fit.
+    ensures err { IfErr result (λ f. (f ≡ want_of_memory) ⊎ Unfit view.now 0 f) }
+
+    // What fits is answered, unless memory runs out.
+    ensures fits { Fits view.now → IfErr result (λ f. f ≡ want_of_memory) }
+{
+    let _head = view.head();
+    let own = view.files().len();
+    let mut starts = Vec::new(alloc);
+    lay_volume(alloc, view, 0, &mut starts)?;
+    Ok(Layout::new(starts, own))
+}
+
+// The starts of the volumes in a file's data, which stand at depth 0.
+pub(crate) fn layout_of_content(alloc: Global, file: &FileView<'_>) -> Result<Vec<u64>, Fault>
+    ensures ok { IfOk result (λ starts. LaysContent (content_of file.now) starts.items) }
+    ensures err { IfErr result (λ f. (f ≡ want_of_memory) ⊎ UnfitContent (content_of file.now) 0 f) }
+    ensures fits { FitsContent (content_of file.now) → IfErr result (λ f. f ≡ want_of_memory) }
+{
+    let _name = file.name();
+    let mut starts = Vec::new(alloc);
+    lay_content(alloc, file.content(), 0, &mut starts)?;
+    Ok(starts)
+}
+
+// The starts of the volumes in a section's body, which stand at depth 0.
+pub(crate) fn layout_of_body(alloc: Global, section: &SectionView<'_>) -> Result<Vec<u64>, Fault>
+    ensures ok { IfOk result (λ starts. LaysBody (body_of section.now) starts.items) }
+    ensures err { IfErr result (λ f. (f ≡ want_of_memory) ⊎ UnfitAlone (body_of section.now) f) }
+    ensures fits { FitsBody (body_of section.now) → IfErr result (λ f. f ≡ want_of_memory) }
+{
+    let _kind = section.kind();
+    let mut starts = Vec::new(alloc);
+    match section.body() {
+        Body::Leaf(_) => {}
+        Body::Group { sections, .. } => lay_sections(alloc, sections.as_slice(), 0, &mut starts)?,
+        Body::Nested(volume) => lay_volume(alloc, volume, 0, &mut starts)?,
+    }
+    Ok(starts)
+}
+
+// Adds the starts of a volume at this depth: those of its own files, and then those of the volumes in them.
+#[cycle(lay)]
+fn lay_volume(
+    alloc: Global,
+    view: &VolumeView<'_>,
+    depth: u8,
+    starts: &mut Vec<u64>,
+) -> Result<(), Fault>
+    requires shallow { Shallow NestsVolume view.now depth }
+    ensures ok { OnOk result (Grew LaysVolume view.now starts.old.items starts.new.items) }
+    ensures err { IfErr result (λ f. (f ≡ want_of_memory) ⊎ Unfit view.now depth f) }
+{
+    let own = own_starts(alloc, view, depth)?;
+    starts.extend_from_slice(own.as_slice())?;
+    drop(own);
+    lay_files(alloc, view.files(), depth, starts)
+}
+
+// Adds the starts of the volumes in some files of a volume at this depth.
+#[cycle(lay)]
+fn lay_files(
+    alloc: Global,
+    files: &[FileView<'_>],
+    depth: u8,
+    starts: &mut Vec<u64>,
+) -> Result<(), Fault>
+    requires shallow { Shallow NestsFiles (files_from files.now) depth }
+    ensures ok { OnOk result (Grew LaysFiles (files_from files.now) starts.old.items starts.new.items) }
+    ensures err { IfErr result (λ f. (f ≡ want_of_memory) ⊎ UnfitFiles (files_from files.now) depth f) }
+{
+    for file in files {
+        lay_content(alloc, file.content(), depth, starts)?;
+    }
+    Ok(())
+}
+
+// Adds the starts of the volumes in a file's data.
+#[cycle(lay)]
+fn lay_content(
+    alloc: Global,
+    content: &Content<'_>,
+    depth: u8,
+    starts: &mut Vec<u64>,
+) -> Result<(), Fault>
+    requires shallow { Shallow NestsContent (content_view content.now) depth }
+    ensures ok { OnOk result (Grew LaysContent (content_view content.now) starts.old.items starts.new.items) }
+    ensures err { IfErr result (λ f. (f ≡ want_of_memory) ⊎ UnfitContent (content_view content.now) depth f) }
+{
+    match content {
+        Content::Plain(_) => Ok(()),
+        Content::Stream { sections, .. } => lay_sections(alloc, sections.as_slice(), depth, starts),
+    }
+}
+
+// Adds the starts of the volumes in some sections.
+#[cycle(lay)]
+fn lay_sections(
+    alloc: Global,
+    sections: &[SectionView<'_>],
+    depth: u8,
+    starts: &mut Vec<u64>,
+) -> Result<(), Fault>
+    requires shallow { Shallow NestsSections (sections_from sections.now) depth }
+    ensures ok { OnOk result (Grew LaysSections (sections_from sections.now) starts.old.items starts.new.items) }
+    ensures err { IfErr result (λ f. (f ≡ want_of_memory) ⊎ UnfitSections (sections_from sections.now) depth f) }
+{
+    for section in sections {
+        lay_body(alloc, section.body(), depth, starts)?;
+    }
+    Ok(())
+}
+
+// Adds the starts of the volumes in a section's body: a group and a volume are one deeper.
+#[cycle(lay)]
+fn lay_body(alloc: Global, body: &Body<'_>, depth: u8, starts: &mut Vec<u64>) -> Result<(), Fault>
+    requires shallow { Shallow NestsBody (body_view body.now) depth }
+    ensures ok { OnOk result (Grew LaysBody (body_view body.now) starts.old.items starts.new.items) }
+    ensures err { IfErr result (λ f. (f ≡ want_of_memory) ⊎ UnfitBody (body_view body.now) depth f) }
+{
+    match body {
+        Body::Leaf(_) => Ok(()),
+        Body::Group { sections, .. } => lay_sections(alloc, sections.as_slice(), depth + 1, starts),
+        Body::Nested(volume) => lay_volume(alloc, volume, depth + 1, starts),
+    }
+}
+
+// The starts of a volume's own files, or why they have none.
+fn own_starts(alloc: Global, view: &VolumeView<'_>, depth: u8) -> Result<Vec<u64>, Fault>
+    ensures ok { IfOk result (λ own. IsFirstPlacement (head_of view.now).length (first_edge (head_of view.now))
+        (map part_of (files_of view.now)) own.items) }
+    ensures err { IfErr result (λ f. (f ≡ want_of_memory) ⊎ Unfit view.now depth f) }
+{
+    let head = view.head();
+    let total = head.length();
+    let first = first_edge(head);
+    let parts = parts_of(alloc, view)?;
+    if is_top_off(total, parts.as_slice()) {
+        return Err(layout_fault(FaultKind::TopAlignment, depth));
+    }
+    match first_starts(alloc, total, first, parts.as_slice())? {
+        None => Err(layout_fault(FaultKind::NoRoom, depth)),
+        Some(own) => Ok(own),
+    }
+}
+
+// What the layout is told of a volume's files, in their order.
+fn parts_of(alloc: Global, view: &VolumeView<'_>) -> Result<Vec<Part>, Fault>
+    ensures ok { IfOk result (λ parts. (parts.items ≡ map part_of (files_of view.now))
+        × All (IsLawfulPart (head_of view.now).length) parts.items) }
+    ensures err { IfErr result (λ f. f ≡ want_of_memory) }
+{
+    let _head = view.head();
+    let files = view.files();
+    let mut parts = Vec::with_capacity(alloc, files.len())?;
+    for file in files {
+        parts.push(part_of(file))?;
+    }
+    Ok(parts)
+}
+
+// What the layout is told of a file: the header is large where with a short one the size would pass FFFFFF.
+fn part_of(file: &FileView<'_>) -> Part
+    ensures { result ≡ part_of file.now }
+{
+    let name = file.name();
+    let data_len = file.data_len();
+    let header: u64 = if 24 + data_len > 0xff_ffff { 32 } else { 24 };
+    Part {
+        header,
+        size: header + data_len,
+        alignment: Align::from_attributes(file.attributes().byte()).bytes(),
+        top: name.to_bytes()[..] == TOP[..],
+    }
+}
+
+// A fault of the layout of a volume at this depth.
+fn layout_fault(kind: FaultKind, depth: u8) -> Fault
+    ensures { result ≡ layout_fault kind depth }
+{
+    Fault {
+        kind,
+        place: Place { offset: 0, depth },
+    }
+}

@@ -1,0 +1,115 @@
+//! From bytes to the canonical image of the volume that they are.
+
+ghost use Rattle.std.specs.Prelude.{◌≡◌, ◌≢◌, ◌⊎◌, ℕ, List, length, IfOk, IfErr, OnOk, true, false};
+ghost use Rattle.fv_base.specs.Faults.{want_of_memory};
+ghost use Rattle.fv_base.specs.Port.{inner_of, has_erred};
+ghost use Rattle.fv_head.specs.Head.{HeadFields, BeginsVolume};
+ghost use Rattle.fv_head.specs.declared.extent.Extent.{Extent};
+ghost use Rattle.fv_canon.specs.Headline.{NormalisesTo};
+ghost use Rattle.fv_canon.specs.Refusals.{NotRead, Refuses};
+ghost use Rattle.fv_canon.specs.NormaliseRuns.{InputWrites, InputStops, RunWrites, RunStops};
+ghost use Rattle.fv_tree.specs.Denotes.{Accepted};
+ghost use Rattle.fv_tree.specs.Meaning.{Meaning};
+
+use crate::image::{canonical, write_canonical};
+use crate::layout_walk::layout;
+use fv_base::{ByteList, Fault, FaultKind, Port, check, read_input};
+use fv_tree::{VolumeView, read_volume};
+use std::alloc::Global;
+use std::io::{Read, Write};
+
+/// The volume that the whole input is. (PI specification, volume 3, section 3.2.)
+///
+/// # Errors
+///
+/// Those of `read_volume`; then Length at FvLength where bytes stand behind the volume.
+/// OutOfMemory.
+pub fn whole_volume(alloc: Global, input: &[u8]) -> Result<VolumeView<'_>, Fault>
+    ensures found { IfOk result (λ view. Accepted input.now view) }
+    ensures only { IfOk result (λ view. (m : Meaning) → Accepted input.now m → m ≡ view) }
+    ensures refused { IfErr result (λ f. (f ≡ want_of_memory) ⊎ NotRead input.now f) }
+    ensures memory { IfErr result
+        (λ f. f ≡ want_of_memory → (h : HeadFields) × (e : Extent) × BeginsVolume h e input.now) }
+    ensures kind { IfErr result (λ f. (f.kind ≢ FaultKind.ReadFault) × (f.kind ≢ FaultKind.WriteFault)) }
+{
+    let (view, length) = read_volume(alloc, input)?;
+    check(length == input.len() as u64, FaultKind::Length, length)?;
+    Ok(view)
+}
+
+/// The canonical image of the volume that the input is. (PI specification, volume 3, section 3.2.)
+///
+/// # Errors
+///
+/// The first fault: those of `read_volume`; then Length at FvLength where bytes stand behind the
+/// volume; then those of `layout`. OutOfMemory.
+pub fn normalise(alloc: Global, input: &[u8]) -> Result<ByteList, Fault>
+    ensures ok { IfOk result (λ bytes. NormalisesTo input.now bytes) }
+
+    // The image is a volume of the same meaning, and its own image.
+    ensures again { IfOk result (λ bytes. NormalisesTo bytes bytes) }
+    ensures length { IfOk result (λ bytes. length bytes ≡ length input.now) }
+    ensures err { IfErr result (λ f. (f ≡ want_of_memory) ⊎ Refuses input.now f) }
+
+    // A volume that has an image is refused only for want of memory.
+    ensures fits { (image : List ℕ) → NormalisesTo input.now image → IfErr result (λ f. f ≡ want_of_memory) }
+
+    // Memory is wanted only where the input begins with the header of a volume.
+    ensures memory { IfErr result
+        (λ f. f ≡ want_of_memory → (h : HeadFields) × (e : Extent) × BeginsVolume h e input.now) }
+{
+    let view = whole_volume(alloc, input)?;
+    canonical(alloc, &view)
+}
+
+/// Writes the canonical image of the volume that the input is. Nothing is written before the
+/// whole input is accepted and laid out, and no image is held. (PI specification, volume 3, section
+/// 3.2.)
+///
+/// # Errors
+///
+/// Those of `normalise`, and then nothing was written. WriteFault at the bytes written: exactly
+/// these bytes of the image were.
+pub fn write_normalised<W: Write>(
+    alloc: Global,
+    input: &[u8],
+    writer: &mut Port<W>,
+) -> Result<(), Fault>
+    ensures ok { OnOk result
+        (InputWrites input.now (W.contents (inner_of writer.old)) (W.contents (inner_of writer.new))) }
+    ensures err { IfErr result
+        (InputStops input.now (W.contents (inner_of writer.old)) (W.contents (inner_of writer.new))) }
+    ensures read { IfErr result (λ f. f.kind ≢ FaultKind.ReadFault) }
+    ensures erred { IfErr result (λ f. f.kind ≡ FaultKind.WriteFault → has_erred writer.new ≡ true) }
+{
+    let view = whole_volume(alloc, input)?;
+    let places = layout(alloc, &view)?;
+    write_canonical(&view, &places, writer)
+}
+
+/// Reads an input to its end, and then writes the canonical image of the volume that it is. The
+/// input and its view are held, and no image. (PI specification, volume 3, section 3.2.)
+///
+/// # Errors
+///
+/// ReadFault at the bytes read so far, Length at the limit where more bytes come, and those of
+/// `normalise`: nothing was written then. WriteFault at the bytes written: exactly these bytes of
+/// the image were.
+pub fn run_normalise<R: Read, W: Write>(
+    alloc: Global,
+    reader: &mut Port<R>,
+    writer: &mut Port<W>,
+) -> Result<(), Fault>
+    ensures ok { OnOk result (RunWrites (R.remaining (inner_of reader.old)) (R.remaining (inner_of reader.new))
+        (W.contents (inner_of writer.old)) (W.contents (inner_of writer.new))) }
+    ensures err { IfErr result (RunStops (R.remaining (inner_of reader.old)) (R.remaining (inner_of reader.new))
+        (W.contents (inner_of writer.old)) (W.contents (inner_of writer.new))) }
+
+    // A fault of the reader or the writer comes only where its port has erred.
+    ensures reader_erred { has_erred reader.old ≡ false
+        → IfErr result (λ f. f.kind ≡ FaultKind.ReadFault → has_erred reader.new ≡ true) }
+    ensures writer_erred { IfErr result (λ f. f.kind ≡ FaultKind.WriteFault → has_erred writer.new ≡ true) }
+{
+    let input = read_input(alloc, reader)?;
+    write_normalised(alloc, &input, writer)
+}

@@ -1,0 +1,117 @@
+-- The checks of an op in their order, and the first fault of an expression.
+use Rattle.std.specs.Prelude.{◌≡◌, ◌≢◌, ℕ, ◌+◌, ◌-◌, ◌==◌, nat_le, ◌&&◌, ◌||◌, not, Bool, true, if◌then◌else◌, List, []}
+use Rattle.std.specs.Prelude.{◌∷◌, ◌++◌, length, slice_index}
+use Rattle.fv_base.specs.Checks.{Check, IsFirstFault}
+use Rattle.fv_depex.specs.declared.fault.DepexFault.{DepexFault}
+use Rattle.fv_depex.specs.declared.fault.DepexFaultKind.{DepexFaultKind}
+use Rattle.fv_depex.specs.declared.fault.DepexFaultKind.TheVariants as kinds
+use Rattle.fv_depex.specs.declared.op.Op.{Op}
+use Rattle.fv_depex.specs.declared.op.Op.TheVariants as ops
+use Rattle.fv_depex.specs.declared.op.Phase.{Phase}
+use Rattle.fv_depex.specs.declared.op.Phase.TheVariants.{Pei, Dxe}
+use Rattle.fv_depex.specs.declared.op_stage.Stage.{Stage}
+use Rattle.fv_depex.specs.declared.op_stage.Stage.TheVariants as stages
+use Rattle.fv_depex.specs.Expressions.{carries, op_code, op_operand, ops_bytes, IsSized}
+
+-- a code that the phase has
+abbrev pub has_code : Phase → ℕ → Bool
+has_code Pei code = nat_le 2 code && nat_le code 8
+has_code Dxe code = nat_le code 9
+
+-- BEFORE, AFTER and SOR stand first only, and behind BEFORE or AFTER stands END alone
+abbrev pub in_place : Stage → ℕ → Bool
+in_place stages.Start code = true
+in_place stages.Ordered code = code == 8
+in_place (stages.Values n) code = nat_le 2 code && nat_le code 8
+
+-- the values that the stack holds are those that the code takes: AND and OR two, NOT one, and END the only one; behind
+-- BEFORE or AFTER the stack is empty, and END takes none
+abbrev pub has_values : ℕ → ℕ → Bool
+has_values n code =
+    if (code == 3) || (code == 4) then nat_le 2 n
+    else (if code == 5 then nat_le 1 n
+    else (if code == 8 then n == 1 else true))
+
+abbrev pub holds_values : Stage → ℕ → Bool
+holds_values stages.Start code = has_values 0 code
+holds_values stages.Ordered code = (code == 8) || has_values 0 code
+holds_values (stages.Values n) code = has_values n code
+
+abbrev pub has_operand : List ℕ → Bool
+has_operand r = not (carries (slice_index r 0)) || nat_le 17 (length r)
+
+-- a check of an op, by the kind of its fault
+abbrev pub op_check : Bool → DepexFaultKind → Check DepexFaultKind
+op_check holds kind = record { holds = holds; fault = kind }
+
+-- of the op that begins r
+abbrev pub op_checks : Phase → Stage → List ℕ → List (Check DepexFaultKind)
+op_checks phase stage r =
+    op_check (nat_le 1 (length r)) kinds.NoEnd
+    ∷ op_check (has_code phase (slice_index r 0)) kinds.Opcode
+    ∷ op_check (in_place stage (slice_index r 0)) kinds.Position
+    ∷ op_check (has_operand r) kinds.Short
+    ∷ op_check (holds_values stage (slice_index r 0)) kinds.Stack
+    ∷ []
+
+-- what was read before: nothing, BEFORE or AFTER, or ops that leave so many values
+abbrev pub values_after : ℕ → Op → ℕ
+values_after n (ops.Push g) = n + 1
+values_after n ops.True = n + 1
+values_after n ops.False = n + 1
+values_after n ops.And = n - 1
+values_after n ops.Or = n - 1
+values_after n _ = n
+
+abbrev pub values_of : Stage → ℕ
+values_of (stages.Values n) = n
+values_of _ = 0
+
+abbrev pub stage_after : Stage → Op → Stage
+stage_after stage (ops.Before g) = stages.Ordered
+stage_after stage (ops.After g) = stages.Ordered
+stage_after stage o = stages.Values (values_after (values_of stage) o)
+
+-- an op that may stand there
+pub record OpFits (phase : Phase) (stage : Stage) (o : Op) : Type 0 where
+  pub known : has_code phase (op_code o) ≡ true
+  pub placed : in_place stage (op_code o) ≡ true
+  pub valued : holds_values stage (op_code o) ≡ true
+  pub sized : IsSized o
+
+-- r begins with an op that may stand there
+pub record BeginsOp (phase : Phase) (stage : Stage) (o : Op) (r : List ℕ) : Type 0 where
+  pub fits : OpFits phase stage o
+  pub behind : List ℕ
+  pub joined : r ≡ op_code o ∷ (op_operand o ++ behind)
+
+-- b begins with an op that may stand first
+abbrev pub BeginsFirstOp : Phase → List ℕ → Type 0
+BeginsFirstOp phase b = (o : Op) × BeginsOp phase stages.Start o b
+
+-- ops that may stand one after another, none of them END, and the stage that they lead to
+abbrev pub OpPath : Phase → Stage → List Op → Stage → Type 0
+OpPath phase stage [] final = stage ≡ final
+OpPath phase stage (o ∷ os) final = OpFits phase stage o × (o ≢ ops.End) × OpPath phase (stage_after stage o) os final
+
+-- some ops that may stand there are read up to the fault's offset, and there it is that of the first
+-- check that does not hold
+pub record IsFirstOpFault (phase : Phase) (b : List ℕ) (fault : DepexFault) : Type 0 where
+  pub before : List Op
+  pub stage : Stage
+  pub r : List ℕ
+  pub joined : b ≡ ops_bytes before ++ r
+  pub read : OpPath phase stages.Start before stage
+  pub place : fault.offset ≡ length (ops_bytes before)
+  pub kind_is : IsFirstFault (op_checks phase stage r) fault.kind
+
+abbrev pub depex_want_of_memory : DepexFault
+depex_want_of_memory = record { kind = kinds.OutOfMemory; offset = 0 }
+
+abbrev pub depex_fault_number : DepexFaultKind → ℕ
+depex_fault_number kinds.Short = 1
+depex_fault_number kinds.Opcode = 2
+depex_fault_number kinds.Stack = 3
+depex_fault_number kinds.NoEnd = 4
+depex_fault_number kinds.Position = 5
+depex_fault_number kinds.OutOfMemory = 6

@@ -1,0 +1,48 @@
+//! How far the reading of an expression has come.
+
+ghost use Rattle.std.specs.Prelude.{◌≡◌, ◌<◌, ◌^◌};
+ghost use Rattle.fv_depex.specs.OpChecks.{values_after, values_of, stage_after};
+
+use crate::op::Op;
+
+/// What the ops before leave.
+#[derive(Clone, Copy, Debug, PartialEq, Eq)]
+pub enum Stage {
+    /// There are none.
+    Start,
+    /// BEFORE or AFTER, which END has to follow.
+    Ordered,
+    /// So many values on the stack.
+    Values(u64),
+}
+
+fn values_of(stage: Stage) -> u64
+    ensures { result ≡ values_of stage }
+{
+    match stage {
+        Stage::Start | Stage::Ordered => 0,
+        Stage::Values(count) => count,
+    }
+}
+
+fn values_after(count: u64, op: &Op) -> u64
+    requires { count < 2 ^ 63 }
+    ensures { result ≡ values_after count op.now }
+{
+    match op {
+        Op::Push(_) | Op::True | Op::False => count + 1,
+        Op::And | Op::Or => count.saturating_sub(1),
+        Op::Before(_) | Op::After(_) | Op::Not | Op::End | Op::Sor => count,
+    }
+}
+
+/// The stage behind an op.
+pub fn stage_after(stage: Stage, op: &Op) -> Stage
+    requires { values_of stage < 2 ^ 63 }
+    ensures { result ≡ stage_after stage op.now }
+{
+    match op {
+        Op::Before(_) | Op::After(_) => Stage::Ordered,
+        _ => Stage::Values(values_after(values_of(stage), op)),
+    }
+}

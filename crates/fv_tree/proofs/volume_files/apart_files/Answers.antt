@@ -1,0 +1,45 @@
+use Rattle.std.proofs.Common.{◌≡◌, ◌≤◌, ◌∙◌, sym, ap, subst, map, length, arith}
+use Rattle.std.specs.List.{AllByRecursion, list_any}
+use Rattle.std.specs.Prelude.{not}
+use Rattle.std.proofs.lemmas.Result.{err_from_is_err_and}
+use Rattle.fv_tree.specs.Files.{FileForm, alive_in, replaces}
+use Rattle.fv_tree.specs.StandingForms.{file_form}
+use Rattle.std.proofs.lemmas.List.{length-map}
+use Rattle.fv_tree.proofs.Counts.{filter_few}
+use Rattle.fv_tree.proofs.BodyLaws.{all_filter}
+use Rattle.fv_tree.proofs.NameLaws.{names_bound, top_bound}
+use Rattle.fv_tree.proofs.volume_files.apart_files.Goals as goal
+
+pub returns-in_err-names-clause-bound : goal.returns-in_err-names-clause-bound
+returns-in_err-names-clause-bound c =
+    let p = err_from_is_err_and c.from_residual.result c.from_residual.ensures.1 in
+    let P : FileForm → Type 0 = λ f. f.offset ≤ c.args.length in
+    let same : map file_form c.as_slice.result.now ≡ map file_form c.args.files.items = ap (map file_form) c.as_slice.ensures.value in
+    rw (p.1, p.2) (names_bound c.in_err-names.field-0.0 c.args.length (map file_form c.as_slice.result.now)
+    (subst (AllByRecursion P) (sym same) c.requires.within) c.in_err-names.ensures.first)
+
+pub returns-in_err-check_top-clause-bound : goal.returns-in_err-check_top-clause-bound
+returns-in_err-check_top-clause-bound c =
+    let p = err_from_is_err_and c.from_residual-in_err-check_top.result c.from_residual-in_err-check_top.ensures.1 in
+    let P : FileForm → Type 0 = λ f. f.offset ≤ c.args.length in
+    let kept : map file_form c.as_slice-2.result.now ≡ alive_in (map file_form c.args.files.items) =
+    ap (map file_form) c.as_slice-2.ensures.value ∙ c.keep_alive.ensures in
+    let some =
+    subst (AllByRecursion P) (sym kept)
+    (all_filter (λ f. not (list_any (replaces f) (map file_form c.args.files.items))) P
+    (map file_form c.args.files.items) c.requires.within) in
+    rw (p.1, p.2)
+    (top_bound c.in_err-check_top.field-0.0 c.args.length c.args.length (map file_form c.as_slice-2.result.now) some
+    c.in_err-check_top.ensures.first)
+
+pub of-requires : goal.of-requires
+of-requires c =
+    omega (
+      arith,
+      ap length c.as_slice-3.ensures.value,
+      ap length c.keep_alive.ensures,
+      length-map c.keep_alive.new.files.items file_form,
+      length-map c.args.files.items file_form,
+      filter_few (λ f. not (list_any (replaces f) (map file_form c.args.files.items))) (map file_form c.args.files.items),
+      c.requires.few,
+    )

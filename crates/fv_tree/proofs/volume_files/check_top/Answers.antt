@@ -1,0 +1,65 @@
+use Rattle.std.proofs.Common.{◌≡◌, ◌∙◌, ℕ, ◌+◌, ◌-◌, sym, arith, [], take, drop, get_or, map, List, true}
+use Rattle.std.specs.Prelude.{◌==◌, ◌&&◌, ◌||◌, not}
+use Rattle.std.proofs.lemmas.Bool.Decides.{Decides-eqb}
+use Rattle.std.proofs.lemmas.List.{length-map, take_all}
+use Rattle.std.proofs.lemmas.Result.{err_from_is_err_and}
+use Rattle.fv_file.specs.declared.state.FileState.TheVariants as states
+use Rattle.fv_tree.specs.Files.{FileForm, is_top, end_of}
+use Rattle.fv_tree.specs.StandingForms.{file_form}
+use Rattle.fv_tree.specs.declared.volume_files.Standing.{Standing}
+use Rattle.fv_tree.proofs.NameLaws.{more_items, seam_items, none_push, top_last, placed, misplaced, not_top_yet, after_none}
+use Rattle.fv_tree.proofs.volume_files.check_top.Goals as goal
+
+abbrev no_file : Standing
+no_file = record {
+  offset = 0;
+  head = record {
+    name = record { bytes = [] };
+    kind = 0;
+    attributes = record { 0 = 0 };
+    size = 0;
+    header_len = 0;
+    header_sum = 0;
+    file_sum = 0;
+    state = states.Free;
+  };
+  payload = record { ref_ptr = (0, 0); now = [] };
+}
+
+pub returns-in_err-check-clause-first : goal.returns-in_err-check-clause-first
+returns-in_err-check-clause-first c =
+    let p = err_from_is_err_and c.from_residual.result c.from_residual.ensures.1 in
+    let i : ℕ = c.loop-file.file-index in
+    let all : List FileForm = map file_form c.args.files.now in
+    let f : FileForm = file_form (get_or c.args.files.now i no_file) in
+    let bad = misplaced (is_top f) (c.loop-file.left - 1 == 0) (end_of f == c.args.length) (sym c.is_placed.ensures
+    ∙ c.in_err-check.ensures.err.0) in
+    let off : drop (i + 1) all ≡ [] → end_of f ≡ c.args.length → ⊥ = λ none ends.
+    bad.1 ((Decides-eqb (c.loop-file.left - 1) 0).1 (omega
+    (arith, after_none all i none, length-map c.args.files.now file_form, c.loop-file.invariant.count, c.loop-file-test.true)))
+    ((Decides-eqb (end_of f) c.args.length).1 ends) in
+    rw (p.1, p.2) (
+      f,
+      (take i all, drop (i + 1) all, seam_items file_form c.args.files.now i no_file c.loop-file-test.true, bad.0, off),
+      c.in_err-check.ensures.err.1,
+    )
+
+pub loop-file-preserved : goal.loop-file-preserved
+loop-file-preserved c =
+    let i : ℕ = c.loop-file.file-index in
+    let all : List FileForm = map file_form c.args.files.now in
+    let f : FileForm = file_form (get_or c.args.files.now i no_file) in
+    let good : (not (is_top f) || ((c.loop-file.left - 1 == 0) && (end_of f == c.args.length))) ≡ true = sym c.is_placed.ensures
+    ∙ c.in_ok-check.ensures.ok in
+    let more = more_items file_form c.args.files.now i no_file c.loop-file-test.true in
+    let none = c.loop-file.invariant.none c.loop-file-test.true in
+    record {
+      count = omega (arith, c.loop-file.invariant.count, c.loop-file-test.true);
+      none = λ l. none_push (take i all) (take (i + 1) all) f none (not_top_yet (is_top f) (c.loop-file.left - 1 == 0)
+          (end_of f == c.args.length) good
+          (λ last. let z : c.loop-file.left - 1 ≡ 0 = (Decides-eqb (c.loop-file.left - 1) 0).0 last in omega
+          (arith, z, l, c.loop-file.invariant.count))) more;
+      all = λ e. top_last c.args.length (take i all) all f none (λ top. (Decides-eqb (end_of f) c.args.length).0 (placed (is_top f)
+          (c.loop-file.left - 1 == 0) (end_of f == c.args.length) good top).1)
+          (sym (take_all (i + 1) all (omega (arith, e, length-map c.args.files.now file_form))) ∙ more);
+    }

@@ -1,0 +1,37 @@
+use Rattle.std.proofs.Common.{◌≡◌, ◌∙◌, sym, ap, [], ◌∷◌, ◌++◌, take, map, append-nil, rules}
+use Rattle.std.proofs.lemmas.List.{map_push}
+use Rattle.fv_file.specs.CellForms as cellular
+use Rattle.fv_file.specs.declared.cell.Cell.{Cell}
+use Rattle.fv_file.specs.declared.cell.Cell.TheVariants as cells
+use Rattle.fv_file.specs.declared.state.FileState.TheVariants as states
+use Rattle.fv_tree.specs.Files.{files_in}
+use Rattle.fv_tree.specs.StandingForms.{file_form}
+use Rattle.fv_tree.proofs.NameLaws.{files_in_items}
+use Rattle.fv_tree.proofs.volume_files.files_of.Goals as goal
+
+abbrev no_cell : Cell
+no_cell = cells.Valid 0 (record {
+  name = record { bytes = [] };
+  kind = 0;
+  attributes = record { 0 = 0 };
+  size = 0;
+  header_len = 0;
+  header_sum = 0;
+  file_sum = 0;
+  state = states.Free;
+}) (record { ref_ptr = (0, 0); now = [] })
+
+pub loop-cell-preserved-in_default : goal.loop-cell-preserved-in_default
+loop-cell-preserved-in_default c =
+    let fs = files_in (take c.loop-cell.cell-index (map cellular.cell_form c.args.cells.now)) in
+    c.loop-cell.invariant ∙ sym (files_in_items cellular.cell_form c.args.cells.now c.loop-cell.cell-index no_cell c.loop-cell-test.true ∙
+    ap (λ l. fs ++ l) c.in_default.ensures.none ∙ append-nil fs)
+
+pub loop-cell-preserved : goal.loop-cell-preserved
+loop-cell-preserved c =
+    let fs = files_in (take c.loop-cell.cell-index (map cellular.cell_form c.args.cells.now)) in
+    let items : c.push.new.self.items ≡ c.loop-cell.files.items ++ c.in-Some.file ∷ [] = search rules in
+    ap (map file_form) items ∙ map_push file_form c.loop-cell.files.items c.in-Some.file
+    ∙ ap (λ l. l ++ file_form c.in-Some.file ∷ []) c.loop-cell.invariant
+    ∙ sym (files_in_items cellular.cell_form c.args.cells.now c.loop-cell.cell-index no_cell c.loop-cell-test.true
+    ∙ ap (λ l. fs ++ l) c.in-Some.ensures.some)
