@@ -1,7 +1,10 @@
 //! The block map of a volume.
 
-ghost use Rattle.std.specs.Prelude.{◌≡◌, List, ℕ};
+ghost use Rattle.std.specs.Prelude.{◌≡◌, ◌+◌, ◌<◌, ◌∷◌, IfSome, IfNone, List, ℕ, length};
+ghost use Rattle.fv_head.specs.Pairs.{pairs_of};
 
+use crate::layout::{BLOCK_ENTRY_LEN, BLOCK_LENGTH_OFFSET, NUM_BLOCKS_OFFSET};
+use fv_base::field::u32_at;
 use std::marker::Model;
 
 /// The blocks of a volume: of each entry, how many blocks, `NumBlocks`, and the bytes of each, `Length`. Contracts
@@ -32,4 +35,18 @@ impl BlockMap {
     {
         self.blocks.as_slice()
     }
+}
+
+// The first pair that the bytes spell, and the bytes behind it; None where fewer than 8 are left.
+pub(crate) fn first_pair(bytes: &[u8]) -> Option<((u32, u32), &[u8])>
+    ensures some { IfSome result (λ e. (pairs_of bytes.now ≡ e.0 ∷ pairs_of e.1.now) × (length bytes.now ≡ 8 + length e.1.now)) }
+    ensures none { IfNone result (length bytes.now < 8) }
+{
+    if bytes.len() < BLOCK_ENTRY_LEN {
+        return None;
+    }
+    let count = u32_at(bytes, NUM_BLOCKS_OFFSET);
+    let size = u32_at(bytes, BLOCK_LENGTH_OFFSET);
+    let (_, behind) = bytes.split_at(BLOCK_ENTRY_LEN);
+    Some(((count, size), behind))
 }

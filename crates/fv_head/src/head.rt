@@ -10,14 +10,13 @@ ghost use Rattle.fv_head.specs.Pairs.{pairs_of};
 ghost use Rattle.fv_head.specs.declared.extent.Extent.{Extent};
 
 use crate::attributes::FvAttributes;
-use crate::block_map::BlockMap;
+use crate::block_map::{BlockMap, first_pair};
 use crate::ext::{ExtHeader, ext_of};
 use crate::extent::Extent;
 use crate::header_checks::verify_fv;
 use crate::layout::{
-    ATTRIBUTES_OFFSET, BLOCK_ENTRY_LEN, BLOCK_LENGTH_OFFSET, BLOCK_MAP_OFFSET, HEADER_LEAST,
-    NUM_BLOCKS_OFFSET, RESERVED_OFFSET, ZERO_VECTOR_OFFSET, ext_bytes_at, ext_offset_at,
-    volume_len_at,
+    ATTRIBUTES_OFFSET, BLOCK_MAP_OFFSET, HEADER_LEAST, RESERVED_OFFSET, ZERO_VECTOR_OFFSET,
+    ext_bytes_at, ext_offset_at, volume_len_at,
 };
 use bitflags::Flags;
 use fv_base::field::{field, u32_at};
@@ -120,11 +119,8 @@ fn blocks_of(alloc: Global, bytes: &[u8]) -> Result<BlockMap, Fault>
 {
     let mut blocks = Vec::new(alloc);
     let mut rest = bytes;
-    while rest.len() >= BLOCK_ENTRY_LEN {
-        let count = u32_at(rest, NUM_BLOCKS_OFFSET);
-        let size = u32_at(rest, BLOCK_LENGTH_OFFSET);
-        blocks.push((count, size))?;
-        let (_, behind) = rest.split_at(BLOCK_ENTRY_LEN);
+    while let Some((pair, behind)) = first_pair(rest) {
+        blocks.push(pair)?;
         rest = behind;
     }
     Ok(BlockMap::from_vec(blocks))

@@ -15,6 +15,7 @@ ghost use Rattle.fv_head.specs.Pairs.{pairs_of};
 ghost use Rattle.fv_head.specs.declared.extent.Extent.{Extent};
 
 use crate::attributes::FvAttributes;
+use crate::block_map::first_pair;
 use crate::extent::Extent;
 use crate::layout::{
     ATTRIBUTES_OFFSET, BLOCK_ENTRY_LEN, BLOCK_LENGTH_OFFSET, BLOCK_MAP_OFFSET, EXT_HEADER_LEN,
@@ -119,9 +120,7 @@ fn makes_up(blocks: &[u8], total: u64) -> bool
 {
     let mut rest = blocks;
     let mut left = total;
-    while rest.len() >= BLOCK_ENTRY_LEN {
-        let count = u32_at(rest, NUM_BLOCKS_OFFSET);
-        let size = u32_at(rest, BLOCK_LENGTH_OFFSET);
+    while let Some(((count, size), behind)) = first_pair(rest) {
         if is_zero_pair(count, size) {
             return false;
         }
@@ -130,7 +129,6 @@ fn makes_up(blocks: &[u8], total: u64) -> bool
             return false;
         }
         left -= bytes;
-        let (_, behind) = rest.split_at(BLOCK_ENTRY_LEN);
         rest = behind;
     }
     left == 0

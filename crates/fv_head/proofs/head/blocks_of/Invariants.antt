@@ -3,9 +3,9 @@ use Rattle.fv_head.specs.Pairs.{pairs_of}
 use Rattle.fv_head.proofs.head.blocks_of.Given as goal
 
 -- the pairs so far and those to come are all
-abbrev pub invariant-loop-rest : goal.invariant-loop-rest
-invariant-loop-rest l =
+abbrev pub invariant-loop-pair : goal.invariant-loop-pair
+invariant-loop-pair l =
     (length l.rest % 8 ≡ 0) × (l.blocks.items ++ pairs_of l.rest ≡ pairs_of l.fn.bytes)
 
-abbrev pub decreases-loop-rest : goal.decreases-loop-rest
-decreases-loop-rest l = length l.rest
+abbrev pub decreases-loop-pair : goal.decreases-loop-pair
+decreases-loop-pair l = length l.rest

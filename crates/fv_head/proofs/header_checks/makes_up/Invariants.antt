@@ -4,9 +4,9 @@ use Rattle.fv_head.specs.HeadChecks.{makes_up}
 use Rattle.fv_head.proofs.header_checks.makes_up.Given as goal
 
 -- what is left of the blocks answers for all of them
-abbrev pub invariant-loop-rest : goal.invariant-loop-rest
-invariant-loop-rest l =
+abbrev pub invariant-loop-count : goal.invariant-loop-count
+invariant-loop-count l =
     (length l.rest % 8 ≡ 0) × (makes_up (pairs_of l.rest) l.left ≡ makes_up (pairs_of l.fn.blocks) l.fn.total)
 
-abbrev pub decreases-loop-rest : goal.decreases-loop-rest
-decreases-loop-rest l = length l.rest
+abbrev pub decreases-loop-count : goal.decreases-loop-count
+decreases-loop-count l = length l.rest
