@@ -39,7 +39,8 @@ impl BlockMap {
 
 // The first pair that the bytes spell, and the bytes behind it; None where fewer than 8 are left.
 pub(crate) fn first_pair(bytes: &[u8]) -> Option<((u32, u32), &[u8])>
-    ensures some { IfSome result (λ e. (pairs_of bytes.now ≡ e.0 ∷ pairs_of e.1.now) × (length bytes.now ≡ 8 + length e.1.now)) }
+    ensures some { IfSome result
+        (λ e. (pairs_of bytes.now ≡ e.0 ∷ pairs_of e.1.now) × (length bytes.now ≡ 8 + length e.1.now)) }
     ensures none { IfNone result (length bytes.now < 8) }
 {
     if bytes.len() < BLOCK_ENTRY_LEN {
