@@ -21,12 +21,12 @@ pub more_written : (a b c : Option (List ℕ)) (m n : ℕ) (bytes : List ℕ) �
 more_written a b c m n bytes first next = subst (Appends a c) (sym (take-add m n bytes)) (Appends-trans a b c _ _ first next)
 
 -- where a port stopped, the count is how much of the bytes it holds
-pub front_is : (s t : PortShows) (bytes : List ℕ) → s.count ≡ 0 → t.count < 2 ^ 64 → length bytes < 2 ^ 62 → WritesFront s bytes t
+pub front_is : (s t : PortShows) (bytes : List ℕ) → s.count ≡ 0 → t.count < 2 ^ 64 → length bytes < 2 ^ 64 → WritesFront s bytes t
     → (t.count < length bytes) × Appends s.contents t.contents (take t.count bytes)
 front_is s t bytes z small short h =
     let is : t.count ≡ h.0 = same_count s.count t.count h.0 (length bytes) (length (take h.0 bytes)) z small short h.1
     (length-take-le h.0 bytes (omega (arith, h.1))) h.2.1 in
     (omega (arith, is, h.1), subst (λ n. Appends s.contents t.contents (take n bytes)) (sym is) h.2.0)
   where
-    same_count : (a b n long part : ℕ) → a ≡ 0 → b < 2 ^ 64 → long < 2 ^ 62 → n < long → part ≡ n → b % 2 ^ 64 ≡ (a + part) % 2 ^ 64 → b ≡ n
+    same_count : (a b n long part : ℕ) → a ≡ 0 → b < 2 ^ 64 → long < 2 ^ 64 → n < long → part ≡ n → b % 2 ^ 64 ≡ (a + part) % 2 ^ 64 → b ≡ n
     same_count a b n long part z small short cut is e = omega arith

@@ -1,6 +1,6 @@
 //! Places in bytes: a field at an offset, the number that it spells, and the next multiple of 8.
 
-ghost use Rattle.std.specs.Prelude.{◌≡◌, ◌+◌, ◌<◌, ◌≤◌, ◌^◌, length};
+ghost use Rattle.std.specs.Prelude.{◌≡◌, ◌+◌, ◌<◌, ◌≤◌, ◌^◌, length, drop};
 ghost use Rattle.fv_base.specs.Value.{field, le_at, up_to_8};
 
 /// The bytes of a field: `size` bytes from the offset `at` on, which lie within `bytes`.
@@ -10,6 +10,14 @@ pub fn field(bytes: &[u8], at: usize, size: usize) -> &[u8]
     ensures length { length result.now ≡ size }
 {
     &bytes[at..at + size]
+}
+
+/// The bytes from the offset `at` on, which is at most how many there are.
+pub fn bytes_from(bytes: &[u8], at: usize) -> &[u8]
+    requires { at ≤ length bytes.now }
+    ensures { result.now ≡ drop at bytes.now }
+{
+    &bytes[at..]
 }
 
 /// The number of 2 bytes at the offset `at`, the least significant byte first. They lie within `bytes`.

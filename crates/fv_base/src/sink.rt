@@ -1,7 +1,7 @@
 //! What takes bytes, one after another: one walk serves every kind of sink.
 
-ghost use Rattle.std.specs.Prelude.{◌≡◌, ℕ, ◌⊎◌, ◌<◌, ◌≤◌, ◌^◌, List, [], length, take, drop, replicate, true, false};
-ghost use Rattle.std.specs.Prelude.{IfOk, IfErr, OnErr};
+ghost use Rattle.std.specs.Prelude.{◌≡◌, ℕ, ◌⊎◌, ◌<◌, ◌≤◌, ◌^◌, List, [], length, take, replicate, true, false};
+ghost use Rattle.std.specs.Prelude.{IfOk, IfErr, OnErr, OnOk};
 ghost use Rattle.std.specs.Io.KnownBytes.{Appends};
 ghost use Rattle.fv_base.specs.Faults.{outer_fault, want_of_memory};
 ghost use Rattle.fv_base.specs.Port.{inner_of, has_erred};
@@ -13,6 +13,7 @@ ghost use Rattle.fv_base.specs.WriteSinkLaws.{seen_by};
 
 use crate::byte_list::ByteList;
 use crate::fault::{Fault, FaultKind};
+use crate::field::bytes_from;
 use crate::port::Port;
 use std::alloc::{AllocError, Global};
 use std::io::Write;
@@ -31,14 +32,6 @@ pub trait Sink {
         ensures { takes self.old bytes.now self.new };
 }
 
-// The bytes from a place on.
-fn behind(bytes: &[u8], at: usize) -> &[u8]
-    requires { at ≤ length bytes.now }
-    ensures { result.now ≡ drop at bytes.now }
-{
-    &bytes[at..]
-}
-
 // Writes a front of the bytes, all of them unless the port errs.
 fn write_front<W: Write>(port: &mut Port<W>, bytes: &[u8]) -> usize
     ensures bound { result ≤ length bytes.now }
@@ -47,7 +40,7 @@ fn write_front<W: Write>(port: &mut Port<W>, bytes: &[u8]) -> usize
 {
     let mut at = 0;
     while at < bytes.len() {
-        match port.write(behind(bytes, at)) {
+        match port.write(bytes_from(bytes, at)) {
             Ok(0) | Err(_) => return at,
             Ok(count) => at += count,
         }
@@ -85,12 +78,36 @@ impl<'a, W: Write> Sink for WriteSink<'a, W> {
 }
 
 impl<'a, W: Write> WriteSink<'a, W> {
-    /// The fault of a write that failed: WriteFault at the bytes written.
-    pub fn fault(&self) -> Fault
-        ensures fault { result ≡ outer_fault FaultKind.WriteFault self.now.count }
-        ensures small { self.now.count < 2 ^ 64 }
+    /// A sink that has written nothing to the port.
+    pub fn new(port: &'a mut Port<W>) -> WriteSink<'a, W>
+        ensures same_port { result.port.ghost_name ≡ port.entry.ghost_name }
+        ensures now { result.port.now ≡ port.old }
+        ensures on { result.on ≡ true }
+        ensures none { result.count ≡ 0 }
     {
-        Fault::outer(FaultKind::WriteFault, self.count)
+        WriteSink {
+            port,
+            on: true,
+            count: 0,
+        }
+    }
+
+    /// Whether all was written.
+    ///
+    /// # Errors
+    ///
+    /// WriteFault at the bytes written, modulo 2 ^ 64, where a write failed.
+    pub fn outcome(&self) -> Result<(), Fault>
+        ensures ok { OnOk result (self.now.on ≡ true) }
+        ensures err { IfErr result (λ f. f ≡ outer_fault FaultKind.WriteFault self.now.count) }
+        ensures off { OnErr result (self.now.on ≡ false) }
+        ensures small { OnErr result (self.now.count < 2 ^ 64) }
+    {
+        if self.on {
+            Ok(())
+        } else {
+            Err(Fault::outer(FaultKind::WriteFault, self.count))
+        }
     }
 }
 

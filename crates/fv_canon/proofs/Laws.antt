@@ -19,5 +19,3 @@ pub use Rattle.fv_canon.proofs.UnfitKinds.{IsOfLayout, unfit_is}
 pub use Rattle.fv_canon.proofs.InputLaws.{IsOfInput, unfit_kind, input_kind, stood_kind}
 -- what a run wrote, or what stopped it, by what is known of the meaning
 pub use Rattle.fv_canon.proofs.RunLaws.{input_writes, writer_stops, refused_stops, behind_stops}
--- where a sink stopped that writes a text to a port
-pub use Rattle.fv_canon.proofs.WriteLaws.{some_written}

@@ -42,4 +42,3 @@ pub mod UnfitKinds
 pub mod VolumeLaws
 pub mod VolumeWalks
 pub mod WholeLaws
-pub mod WriteLaws

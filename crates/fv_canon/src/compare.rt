@@ -27,13 +27,9 @@ fn write_line<W: Write>(writer: &mut Port<W>, found: Option<&Difference>) -> Res
         (compare_line (option_copied found.entry))) }
     ensures erred { OnErr result (has_erred writer.new ≡ true) }
 {
-    let mut out = WriteSink {
-        port: writer,
-        on: true,
-        count: 0,
-    };
+    let mut out = WriteSink::new(writer);
     put_comparison(&mut out, found);
-    if out.on { Ok(()) } else { Err(out.fault()) }
+    out.outcome()
 }
 
 /// Writes whether two volumes mean the same and, where they do not, where they first differ: a

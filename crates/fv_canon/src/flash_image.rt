@@ -1,6 +1,6 @@
 //! From a flash image to the same with each of its volumes in its canonical form.
 
-ghost use Rattle.std.specs.Prelude.{◌≡◌, ◌≢◌, ◌⊎◌, ◌+◌, ◌-◌, ◌<◌, ◌≤◌, ◌^◌, ℕ, List, length, drop, IfOk, IfErr, OnOk};
+ghost use Rattle.std.specs.Prelude.{◌≡◌, ◌≢◌, ◌⊎◌, ◌+◌, ◌-◌, ◌<◌, ◌≤◌, ◌^◌, ℕ, List, length, IfOk, IfErr, OnOk};
 ghost use Rattle.fv_base.specs.Faults.{want_of_memory};
 ghost use Rattle.fv_base.specs.Value.{field};
 ghost use Rattle.fv_canon.specs.Headline.{NormalisesTo};
@@ -12,6 +12,7 @@ ghost use Rattle.fv_tree.specs.FoundVolumes.{Found, VolumeAt};
 use crate::image::put_canonical;
 use crate::layout_walk::layout;
 use crate::normalising::whole_volume;
+use fv_base::field::bytes_from;
 use fv_base::limits::VOLUME_LIMIT;
 use fv_base::{ByteList, Fault, FaultKind, ListSink, Place, Sink, check};
 use fv_head::verify_fv;
@@ -26,21 +27,13 @@ fn between(image: &[u8], from: usize, to: usize) -> &[u8]
     &image[from..to]
 }
 
-// The bytes from a place on.
-fn behind(image: &[u8], from: usize) -> &[u8]
-    requires { from ≤ length image.now }
-    ensures { result.now ≡ drop from image.now }
-{
-    &image[from..]
-}
-
 // The bytes of the volume that begins at this place.
 fn volume_at(image: &[u8], start: usize) -> &[u8]
     requires { (n : ℕ) × VolumeAt image.now start n }
     ensures volume { VolumeAt image.now start (length result.now) }
     ensures bytes { result.now ≡ field start (length result.now) image.now }
 {
-    let Ok(extent) = verify_fv(behind(image, start)) else {
+    let Ok(extent) = verify_fv(bytes_from(image, start)) else {
         unreachable!()
     };
     between(image, start, start + extent.length as usize)
@@ -96,7 +89,7 @@ fn put_renewed<S: Sink>(
         }
         from = start + volume.len();
     }
-    out.put(behind(image, from));
+    out.put(bytes_from(image, from));
     Ok(())
 }
 

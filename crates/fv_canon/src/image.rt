@@ -54,14 +54,10 @@ pub fn write_canonical<W: Write>(
     // The writer's fault comes only where the port has erred.
     ensures erred { OnErr result (has_erred writer.new ≡ true) }
 {
-    let mut out = WriteSink {
-        port: writer,
-        on: true,
-        count: 0,
-    };
+    let mut out = WriteSink::new(writer);
     let _head = view.head();
     put_canonical(view, layout, &mut out);
-    if out.on { Ok(()) } else { Err(out.fault()) }
+    out.outcome()
 }
 
 /// The canonical image of the view. The whole length is reserved first. (PI specification, volume

@@ -301,13 +301,9 @@ fn write_lines<W: Write>(
         (check_lines polarity (map cell_form list.now) notes.now is_same)) }
     ensures erred { OnErr result (has_erred writer.new ≡ true) }
 {
-    let mut out = WriteSink {
-        port: writer,
-        on: true,
-        count: 0,
-    };
+    let mut out = WriteSink::new(writer);
     put_check(&mut out, list, polarity, notes, is_same);
-    if out.on { Ok(()) } else { Err(out.fault()) }
+    out.outcome()
 }
 
 // The cells of the volume that the input is, and what an erased byte of it holds.

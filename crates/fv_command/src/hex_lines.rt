@@ -1,6 +1,6 @@
 //! Bytes, put and written as lines of hexadecimal digits.
 
-ghost use Rattle.std.specs.Prelude.{◌≡◌, ◌≤◌, ◌<◌, ◌+◌, ◌++◌, ℕ, List, length, take, drop, true};
+ghost use Rattle.std.specs.Prelude.{◌≡◌, ◌≤◌, ◌<◌, ◌+◌, ◌++◌, ℕ, List, length, take, true};
 ghost use Rattle.std.specs.Prelude.{IfErr, OnOk, OnErr};
 ghost use Rattle.std.specs.Io.KnownBytes.{Appends};
 ghost use Rattle.fv_base.specs.Port.{inner_of, has_erred};
@@ -8,6 +8,7 @@ ghost use Rattle.fv_command.specs.HexLaws.{hex_by};
 ghost use Rattle.fv_command.specs.HexSinks.{HexTakes};
 ghost use Rattle.fv_command.specs.HexText.{IsHexText, ShowsBytes, last_text, line_text};
 
+use fv_base::field::bytes_from;
 use fv_base::{Fault, FaultKind, Port, Sink, WriteSink};
 use std::io::Write;
 
@@ -45,14 +46,6 @@ fn place(line: &mut [u8; LINE], at: usize, bytes: &[u8])
     ensures len { length line.new ≡ 32 }
 {
     line[at..at + bytes.len()].copy_from_slice(bytes);
-}
-
-// The bytes from a place on.
-fn behind(bytes: &[u8], at: usize) -> &[u8]
-    requires { at ≤ length bytes.now }
-    ensures { result.now ≡ drop at bytes.now }
-{
-    &bytes[at..]
 }
 
 /// A sink that turns bytes into lines of 64 lower-case digits, and puts them into a sink below. A
@@ -124,7 +117,7 @@ impl<S: Sink> Sink for HexSink<S> {
     fn put(&mut self, bytes: &[u8]) {
         let mut at = 0;
         while at < bytes.len() {
-            at += self.take_some(behind(bytes, at));
+            at += self.take_some(bytes_from(bytes, at));
         }
     }
 }
@@ -168,11 +161,6 @@ pub fn write_shown<W: Write>(writer: &mut Port<W>, hex: bool, bytes: &[u8]) -> R
     ensures kind { IfErr result (λ f. f.kind ≡ FaultKind.WriteFault) }
     ensures erred { OnErr result (has_erred writer.new ≡ true) }
 {
-    let sink = WriteSink {
-        port: writer,
-        on: true,
-        count: 0,
-    };
-    let out = put_shown(sink, hex, bytes);
-    if out.on { Ok(()) } else { Err(out.fault()) }
+    let out = put_shown(WriteSink::new(writer), hex, bytes);
+    out.outcome()
 }

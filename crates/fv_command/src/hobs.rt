@@ -138,11 +138,7 @@ pub fn write_hobs<W: Write>(
         × WriteStops (W.contents (inner_of writer.old)) (W.contents (inner_of writer.new)) text f) }
     ensures erred { OnErr result (has_erred writer.new ≡ true) }
 {
-    let mut out = WriteSink {
-        port: writer,
-        on: true,
-        count: 0,
-    };
+    let mut out = WriteSink::new(writer);
     put_hobs(&mut out, hobs.as_slice(), consumed, image);
-    if out.on { Ok(()) } else { Err(out.fault()) }
+    out.outcome()
 }

@@ -42,13 +42,8 @@ fn write_digits<W: Write>(
     ensures erred { OnErr result (has_erred writer.new ≡ true) }
 {
     let _head = view.head();
-    let sink = WriteSink {
-        port: writer,
-        on: true,
-        count: 0,
-    };
-    let out = put_digits(sink, view, places);
-    if out.on { Ok(()) } else { Err(out.fault()) }
+    let out = put_digits(WriteSink::new(writer), view, places);
+    out.outcome()
 }
 
 /// Writes the canonical image of the volume that the input is, as it is or as lines of digits.

@@ -21,13 +21,9 @@ pub fn write_bytes<W: Write>(writer: &mut Port<W>, bytes: &[u8]) -> Result<(), F
         (WriteStops (W.contents (inner_of writer.old)) (W.contents (inner_of writer.new)) bytes.now) }
     ensures erred { OnErr result (has_erred writer.new ≡ true) }
 {
-    let mut sink = WriteSink {
-        port: writer,
-        on: true,
-        count: 0,
-    };
-    sink.put(bytes);
-    if sink.on { Ok(()) } else { Err(sink.fault()) }
+    let mut out = WriteSink::new(writer);
+    out.put(bytes);
+    out.outcome()
 }
 
 // Puts the line of a fault, which begins with some words.
@@ -72,11 +68,7 @@ pub fn write_fault<W: Write>(
         (words.now ++ fault_line number offset) f) }
     ensures erred { OnErr result (has_erred writer.new ≡ true) }
 {
-    let mut out = WriteSink {
-        port: writer,
-        on: true,
-        count: 0,
-    };
+    let mut out = WriteSink::new(writer);
     put_fault(&mut out, words, number, offset);
-    if out.on { Ok(()) } else { Err(out.fault()) }
+    out.outcome()
 }

@@ -260,11 +260,7 @@ pub fn write_list<W: Write>(writer: &mut Port<W>, volume: &VolumeView<'_>) -> Re
         × WritesSomeFront (W.contents (inner_of writer.old)) (W.contents (inner_of writer.new))) }
     ensures erred { OnErr result (has_erred writer.new ≡ true) }
 {
-    let mut out = WriteSink {
-        port: writer,
-        on: true,
-        count: 0,
-    };
+    let mut out = WriteSink::new(writer);
     put_volume(&mut out, volume, 0);
-    if out.on { Ok(()) } else { Err(out.fault()) }
+    out.outcome()
 }

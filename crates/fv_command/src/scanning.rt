@@ -1,6 +1,6 @@
 //! The volumes that a scan found.
 
-ghost use Rattle.std.specs.Prelude.{◌≡◌, ◌≤◌, ℕ, List, length, drop, true, OnOk, IfErr, OnErr};
+ghost use Rattle.std.specs.Prelude.{◌≡◌, ℕ, List, length, true, OnOk, IfErr, OnErr};
 ghost use Rattle.std.specs.Io.KnownBytes.{Appends};
 ghost use Rattle.fv_base.specs.Output.{WriteStops};
 ghost use Rattle.fv_base.specs.Port.{inner_of, has_erred};
@@ -8,17 +8,10 @@ ghost use Rattle.fv_tree.specs.FoundVolumes.{Found};
 ghost use Rattle.fv_command.specs.Lines.{ScanText};
 
 use crate::lines::put_found;
+use fv_base::field::bytes_from;
 use fv_base::{Fault, Port, Sink, WriteSink};
 use fv_head::verify_fv;
 use std::io::Write;
-
-// The bytes from a place on.
-fn behind(bytes: &[u8], at: usize) -> &[u8]
-    requires { at ≤ length bytes.now }
-    ensures { result.now ≡ drop at bytes.now }
-{
-    &bytes[at..]
-}
 
 // Puts a line for each volume.
 fn put_volumes<S: Sink>(out: &mut S, input: &[u8], offsets: &[u64])
@@ -26,7 +19,7 @@ fn put_volumes<S: Sink>(out: &mut S, input: &[u8], offsets: &[u64])
     ensures { (text : List ℕ) × ScanText input.now offsets.now text × S.takes out.old text out.new }
 {
     for offset in offsets {
-        let Ok(extent) = verify_fv(behind(input, *offset as usize)) else {
+        let Ok(extent) = verify_fv(bytes_from(input, *offset as usize)) else {
             unreachable!()
         };
         put_found(out, *offset, extent.length);
@@ -53,11 +46,7 @@ pub fn write_volumes<W: Write>(
         × WriteStops (W.contents (inner_of writer.old)) (W.contents (inner_of writer.new)) text f) }
     ensures erred { OnErr result (has_erred writer.new ≡ true) }
 {
-    let mut out = WriteSink {
-        port: writer,
-        on: true,
-        count: 0,
-    };
+    let mut out = WriteSink::new(writer);
     put_volumes(&mut out, input, offsets);
-    if out.on { Ok(()) } else { Err(out.fault()) }
+    out.outcome()
 }

@@ -14,6 +14,7 @@ use crate::fault::{DepexFault, DepexFaultKind};
 use crate::op::{Op, Phase};
 use crate::op_stage::{Stage, stage_after};
 use crate::opcode;
+use fv_base::field::bytes_from;
 use fv_base::{ByteList, guid_at};
 use std::alloc::{AllocError, Global};
 
@@ -166,15 +167,6 @@ fn read_ops(alloc: Global, bytes: &[u8], phase: Phase) -> Result<(Vec<Op>, usize
     }
 }
 
-// The bytes from a place on.
-fn bytes_from(alloc: Global, bytes: &[u8], at: usize) -> Result<ByteList, AllocError>
-    requires { at ≤ length bytes.now }
-    ensures { IfOk result (λ list. list ≡ drop at bytes.now) }
-{
-    let rest = Vec::from_slice(alloc, &bytes[at..])?;
-    Ok(ByteList::from_vec(rest))
-}
-
 /// Reads the body of a dependency section (EFI_SECTION_PEI_DEPEX, EFI_SECTION_DXE_DEPEX or
 /// EFI_SECTION_MM_DEPEX) as the phase does: the ops up to END, which have to be a whole expression,
 /// and the bytes behind END. (PI specification, volume 1, section 3.4, and volume 2, section 10.7.)
@@ -203,6 +195,6 @@ pub fn read_depex(alloc: Global, bytes: &[u8], phase: Phase) -> Result<Depex, De
     ensures memory { IfErr result (λ f. f ≡ depex_want_of_memory → BeginsFirstOp phase bytes.now) }
 {
     let (ops, at) = read_ops(alloc, bytes, phase)?;
-    let rest = bytes_from(alloc, bytes, at)?;
+    let rest = ByteList::from_slice(alloc, bytes_from(bytes, at))?;
     Ok(Depex::from_parts(phase, ops, rest))
 }

@@ -28,13 +28,9 @@ pub fn write_head<W: Write>(head: &VolumeHead, writer: &mut Port<W>) -> Result<(
         × WriteStops (W.contents (inner_of writer.old)) (W.contents (inner_of writer.new)) bytes f) }
     ensures erred { OnErr result (has_erred writer.new ≡ true) }
 {
-    let mut out = WriteSink {
-        port: writer,
-        on: true,
-        count: 0,
-    };
+    let mut out = WriteSink::new(writer);
     put_head(&mut out, head);
-    if out.on { Ok(()) } else { Err(out.fault()) }
+    out.outcome()
 }
 
 /// Writes an extended header with each used size as it is handed, as `ext_bytes` gives it. Takes no memory. (PI
@@ -50,11 +46,7 @@ pub fn write_ext<W: Write>(ext: &ExtHeader, used: u32, writer: &mut Port<W>) -> 
         (WriteStops (W.contents (inner_of writer.old)) (W.contents (inner_of writer.new)) (ext_spelled ext.now used)) }
     ensures erred { OnErr result (has_erred writer.new ≡ true) }
 {
-    let mut out = WriteSink {
-        port: writer,
-        on: true,
-        count: 0,
-    };
+    let mut out = WriteSink::new(writer);
     put_ext(&mut out, ext, used);
-    if out.on { Ok(()) } else { Err(out.fault()) }
+    out.outcome()
 }

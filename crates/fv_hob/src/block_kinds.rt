@@ -4,12 +4,11 @@ ghost use Rattle.std.specs.Prelude.{◌≡◌, ◌≤◌, length, IfOk};
 ghost use Rattle.fv_base.specs.Value.{le_at};
 ghost use Rattle.fv_hob.specs.Hobs.{IsBlock, IsHob, allocation_in, handoff_in, has_shape, kind_by, resource_in};
 
-use crate::fields::bytes_from;
 use crate::hob::{Handoff, Hob, HobKind, MemoryAllocation, Resource};
 use crate::hob_type;
 use crate::layout::{allocation, cpu, extension, handoff, header, resource, span, volume2};
-use fv_base::field::{field, u16_at, u32_at, u64_at};
-use fv_base::guid_at;
+use fv_base::field::{bytes_from, field, u16_at, u32_at, u64_at};
+use fv_base::{ByteList, guid_at};
 use std::alloc::{AllocError, Global};
 
 /// Whether a block of this HobType may have this HobLength.
@@ -58,7 +57,7 @@ fn allocation_in(alloc: Global, block: &[u8]) -> Result<MemoryAllocation, AllocE
         length: u64_at(block, allocation::LENGTH),
         memory_type: u32_at(block, allocation::MEMORY_TYPE),
         reserved,
-        rest: bytes_from(alloc, block, allocation::LEAST)?,
+        rest: ByteList::from_slice(alloc, bytes_from(block, allocation::LEAST))?,
     })
 }
 
@@ -115,7 +114,7 @@ fn kind_in(alloc: Global, block: &[u8]) -> Result<HobKind, AllocError>
         hob_type::RESOURCE => HobKind::Resource(resource_in(block)),
         hob_type::GUID_EXTENSION => HobKind::GuidExtension {
             name: guid_at(block, extension::NAME),
-            payload: bytes_from(alloc, block, extension::LEAST)?,
+            payload: ByteList::from_slice(alloc, bytes_from(block, extension::LEAST))?,
         },
         hob_type::FIRMWARE_VOLUME => HobKind::FirmwareVolume {
             base: u64_at(block, span::BASE),
@@ -134,7 +133,7 @@ fn kind_in(alloc: Global, block: &[u8]) -> Result<HobKind, AllocError>
         hob_type::END => HobKind::End,
         _ => HobKind::Other {
             code,
-            payload: bytes_from(alloc, block, header::LEN)?,
+            payload: ByteList::from_slice(alloc, bytes_from(block, header::LEN))?,
         },
     })
 }

@@ -4,7 +4,6 @@
 
 mod block_kinds;
 mod fault;
-mod fields;
 mod hob;
 mod hob_list;
 mod hob_type;

@@ -35,14 +35,10 @@ fn ports_are_written_fills(rt: HostRuntime) -> Result<(), Fail> {
     for byte in [0xff, 0] {
         for count in COUNTS {
             let mut port = Port::new(Vec::new(rt.alloc()));
-            let mut sink = WriteSink {
-                port: &mut port,
-                on: true,
-                count: 0,
-            };
+            let mut sink = WriteSink::new(&mut port);
             fill(&mut sink, byte, count as u64);
             sink.put(&[1, 2]);
-            assert!(rt; sink.on);
+            assert_eq!(rt; sink.outcome(), Ok(()));
             assert_eq!(rt; sink.count, count as u64 + 2);
             let want = filled(rt.alloc(), byte, count)?;
             assert_eq!(rt; port.into_inner().as_slice(), want.as_slice(), "{count}");
@@ -57,6 +53,8 @@ fn erased_bytes_have_their_values(rt: HostRuntime) -> Result<(), Fail> {
     assert_eq!(rt; Polarity::Zeros.erased(), 0);
     let list = ByteList::from_vec(filled(rt.alloc(), 0, 0)?);
     assert!(rt; list.as_slice() == b"\x01\x02".as_slice());
+    let copy = ByteList::from_slice(rt.alloc(), list.as_slice())?;
+    assert!(rt; copy.as_slice() == b"\x01\x02".as_slice());
     Ok(())
 }
 
@@ -70,16 +68,12 @@ fn sinks_stop_where_a_write_fails(rt: HostRuntime) {
                 room,
                 fails,
             });
-            let mut sink = WriteSink {
-                port: &mut port,
-                on: true,
-                count: 0,
-            };
+            let mut sink = WriteSink::new(&mut port);
             fill(&mut sink, 0xff, 200_000);
-            let fault = Fault::outer(FaultKind::WriteFault, room as u64);
-            assert_eq!(rt; sink.fault(), fault);
+            let stopped = Err(Fault::outer(FaultKind::WriteFault, room as u64));
+            assert_eq!(rt; sink.outcome(), stopped);
             sink.put(&[1, 2]);
-            assert_eq!(rt; sink.fault(), fault);
+            assert_eq!(rt; sink.outcome(), stopped);
             assert!(rt; port.erred());
             let taken = port.into_inner().taken;
             assert_eq!(rt; taken.len(), room);

@@ -8,8 +8,8 @@ pub loop-at-preserved : goal.loop-at-preserved
 loop-at-preserved g c =
     let bytes = c.args.bytes.now in
     let appended = subst (λ xs. Appends (g.W.Write.contents (inner_of c.loop-at.port)) (g.W.Write.contents (inner_of c.write.new.self))
-    (take c.in-Ok.count xs)) c.behind.ensures c.in-Ok.ensures.bytes in
-    let bound = subst (λ xs. c.in-Ok.count ≤ length xs) c.behind.ensures c.in-Ok.ensures.bound in (
+    (take c.in-Ok.count xs)) c.bytes_from.ensures c.in-Ok.ensures.bytes in
+    let bound = subst (λ xs. c.in-Ok.count ≤ length xs) c.bytes_from.ensures c.in-Ok.ensures.bound in (
       omega (arith, length-drop c.loop-at.at bytes, bound),
       more_written _ _ _ c.loop-at.at c.in-Ok.count bytes c.loop-at.invariant.1 appended,
     )

@@ -46,4 +46,4 @@ loop-offset-preserved g c =
 pub returns-clause-ok : goal.returns-clause-ok
 returns-clause-ok g c =
     puts_all g.S.Sink.takes g.S.Sink.laws _ c.args.image.now c.args.offsets.now c.loop-offset.offset-index c.loop-offset.from
-    c.behind.result.now c.requires c.loop-offset.invariant c.loop-offset-test.false c.behind.ensures c.put-2.ensures
+    c.bytes_from.result.now c.requires c.loop-offset.invariant c.loop-offset-test.false c.bytes_from.ensures c.put-2.ensures

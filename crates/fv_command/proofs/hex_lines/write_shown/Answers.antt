@@ -1,18 +1,15 @@
-use Rattle.std.proofs.Common.{rules}
+use Rattle.std.proofs.Common.{rules, ◌<◌, ℕ, length, take}
+use Rattle.std.specs.Io.KnownBytes.{Appends}
+use Rattle.std.proofs.lemmas.Result.{on_ok_weaker, IfErr-weaker}
 use Rattle.fv_command.proofs.hex_lines.write_shown.Goals as goal
 
-pub returns-then-out-clause-ok : goal.returns-then-out-clause-ok
-returns-then-out-clause-ok g c =
+pub returns-clause-ok : goal.returns-clause-ok
+returns-clause-ok g c =
     let put = c.put_shown-out.ensures in
-    let wrote = rw c.if-out.true at put.2.1 in (put.0, put.1, search rules)
+    on_ok_weaker {P = Appends _ _ put.0} c.outcome.result (λ wrote. (put.0, put.1, wrote)) (search rules)
 
-pub returns-else-out-clause-err : goal.returns-else-out-clause-err
-returns-else-out-clause-err g c =
+pub returns-clause-err : goal.returns-clause-err
+returns-clause-err g c =
     let put = c.put_shown-out.ensures in
-    let front = rw c.if-out.false at put.2.1 in
-    let wrote = front.2.0 in (put.0, put.1, front.0, front.1, search rules)
-
-pub returns-else-out-clause-erred : goal.returns-else-out-clause-erred
-returns-else-out-clause-erred g c =
-    let front = rw c.if-out.false at c.put_shown-out.ensures.2.1 in
-    let erred = front.3 in search rules
+    IfErr-weaker c.outcome.result (λ _. (n : ℕ) × (n < length put.0) × Appends _ _ (take n put.0)) _
+    (λ f stops. (put.0, put.1, stops)) (search rules)

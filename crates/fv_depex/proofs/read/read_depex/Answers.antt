@@ -1,4 +1,4 @@
-use Rattle.std.proofs.Common.{refl, sym, subst}
+use Rattle.std.proofs.Common.{◌∙◌, refl, sym, subst}
 use Rattle.std.proofs.lemmas.Result.{err_from_is_err_and}
 use Rattle.fv_base.proofs.CheckLemmas.{whatever}
 use Rattle.fv_depex.specs.OpChecks.{BeginsFirstOp, depex_want_of_memory}
@@ -10,7 +10,8 @@ use Rattle.fv_depex.proofs.read.read_depex.Goals as goal
 pub returns-clause-found : goal.returns-clause-found
 returns-clause-found c =
     rw c.from_parts.ensures
-    (refl, subst (λ l. Spells c.args.phase c.in_ok-ops.ops.items l c.args.bytes.now) (sym c.in_ok-rest.ensures) c.in_ok-ops.ensures.found.1)
+    (refl, subst (λ l. Spells c.args.phase c.in_ok-ops.ops.items l c.args.bytes.now) (sym (c.in_ok-rest.ensures ∙ c.bytes_from.ensures))
+    c.in_ok-ops.ensures.found.1)
 
 pub returns-clause-only : goal.returns-clause-only
 returns-clause-only c = λ ops rest spells.

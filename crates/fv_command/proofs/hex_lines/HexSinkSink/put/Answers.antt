@@ -12,11 +12,11 @@ loop-at-preserved g c =
     let s = c.args.self.now in
     let t = c.loop-at.self in
     let u = c.take_some-at.new.self in
-    let bound = subst (λ (xs : List ℕ). n ≤ length xs) c.behind.ensures c.take_some-at.ensures.bound in
+    let bound = subst (λ (xs : List ℕ). n ≤ length xs) c.bytes_from.ensures c.take_some-at.ensures.bound in
     let before : List ℕ = take s.filled s.line in
     let waiting : List ℕ = take t.filled t.line in
     let after : List ℕ = take u.filled u.line in
-    let step = subst (λ (xs : List ℕ). Lined g.S.Sink.takes t.below waiting (take n xs) u.below after) c.behind.ensures
+    let step = subst (λ (xs : List ℕ). Lined g.S.Sink.takes t.below waiting (take n xs) u.below after) c.bytes_from.ensures
     c.take_some-at.ensures.takes in
     let joined = lined_joined g.S.Sink.takes g.S.Sink.laws s.below t.below u.below before waiting after (take at bytes)
     (take n (drop at bytes)) c.loop-at.invariant.1 step in (
