@@ -2,7 +2,7 @@
 use Rattle.std.proofs.Common.{◌≡◌, ◌≤◌, ◌<◌, ◌⊎◌, inl, inr, ◌+◌, ◌-◌, ◌%◌, ℕ, zero, suc, List, [], ◌∷◌, ◌++◌, length, drop, replicate}
 use Rattle.std.proofs.Common.{get_or, refl, sym, ap, ◌∙◌, subst, arith, append_assoc, drop-drop, length-drop}
 use Rattle.std.specs.Prelude.{map}
-use Rattle.std.proofs.lemmas.List.{drop_more, length-map}
+use Rattle.std.proofs.lemmas.List.{drop_all, drop_more, length-map}
 use Rattle.fv_base.specs.Flash.{erased_byte}
 use Rattle.fv_base.specs.Value.{up_to_8}
 use Rattle.fv_base.specs.declared.flash.Polarity.{Polarity}
@@ -23,7 +23,8 @@ use Rattle.fv_file.proofs.Laws.{cell_read}
 use Rattle.fv_canon.proofs.StreamLaws.{stream_again}
 use Rattle.fv_canon.proofs.VolumeLaws.{data_again, sections_again}
 use Rattle.fv_canon.specs.Placed.{ArePlaced}
-use Rattle.fv_canon.specs.ImageWalks.{BeginsWithStarts}
+use Rattle.fv_base.specs.Sinks.{WalkLaws}
+use Rattle.fv_canon.specs.ImageWalks.{BeginsWithStarts, TakesFront}
 
 -- ---- a file
 pub file_long : (m : FileMeaning) (starts : List ℕ) → IsReadFile m → BeginsWithStarts LaysFile m starts
@@ -197,3 +198,14 @@ file_smaller fs i f l is = subst (λ (x : FileMeaning). file_size x + 1 ≤ file
     go [] i d l = absurd (omega arith)
     go (x ∷ xs) zero d l = omega arith
     go (x ∷ xs) (suc i) d l = omega (arith, go xs i d (omega arith))
+
+-- where no file is left, erased bytes to the end make the whole
+pub files_end : {S : Type 0} (takes : S → List ℕ → S → Type 0) → WalkLaws takes
+    → (p : Polarity) (total edge : ℕ) (fs : List FileMeaning) (own rest : List ℕ) (i : ℕ) (s t u : S) (whole : List ℕ) → length fs ≤ i
+    → TakesFront takes s t whole (files_bytes p total edge (stored_of (files_from (drop i fs)) rest) (drop i own))
+    → takes t (replicate (total - edge) (erased_byte p)) u → takes s whole u
+files_end takes laws p total edge fs own rest i s t u whole end f filled =
+    let none : files_bytes p total edge (stored_of (files_from (drop i fs)) rest) (drop i own) ≡ replicate (total - edge) (erased_byte p) =
+    ap (λ (ts : List FileMeaning). files_bytes p total edge (stored_of (files_from ts) rest) (drop i own)) (drop_all i fs end) in
+    subst (λ (xs : List ℕ). takes s xs u) (ap (λ (xs : List ℕ). f.front ++ xs) (sym none) ∙ f.whole_is)
+    (laws.joined s t u f.front (replicate (total - edge) (erased_byte p)) f.taken filled)

@@ -1,24 +1,14 @@
 -- What a walk that sums bytes adds.
-use Rattle.std.proofs.Common.{◌≡◌, ◌<◌, ◌+◌, ◌-◌, ◌%◌, ℕ, Bool, true, false, List, [], ◌∷◌, length, take, get_or, sym, ap, ◌∙◌, arith}
+use Rattle.std.proofs.Common.{◌≡◌, ◌<◌, ◌+◌, ◌-◌, ◌%◌, ℕ, Bool, true, false, List, [], ◌∷◌, sym, ap, ◌∙◌, arith}
 use Rattle.std.specs.Prelude.{sum, if◌then◌else◌}
-use Rattle.std.proofs.lemmas.List.{take_more}
-use Rattle.std.proofs.lemmas.List.Sums.{sum_by-append}
 use Rattle.fv_base.specs.declared.flash.Polarity.{Polarity}
 use Rattle.fv_file.specs.Attributes.{is_summed}
 use Rattle.fv_file.specs.NewHeaders.{complement, fixed_checksum, state_byte}
 use Rattle.fv_tree.specs.Meaning.{FileMeaning, File, attributes_of}
 use Rattle.fv_canon.specs.ImageOf.{stored_file, data_of}
+use Rattle.fv_canon.specs.ImageSinks.{AddsOrPuts}
 use Rattle.fv_canon.specs.StoredFiles.{file_sum_for, stored_bytes}
 use Rattle.fv_canon.proofs.SumLaws.{stored_adds}
-
-pub byte_added : (xs : List ℕ) (i t0 t : ℕ) → i < length xs → t % 256 ≡ (t0 + sum (take i xs)) % 256
-    → (t + get_or xs i 0) % 256 % 256 ≡ (t0 + sum (take (i + 1) xs)) % 256
-byte_added xs i t0 t l e =
-    joined t t0 (sum (take i xs)) (get_or xs i 0) (sum (take (i + 1) xs)) e
-    (ap sum (take_more xs i 0 l) ∙ sum_by-append (λ (x : ℕ). x) (take i xs) (get_or xs i 0 ∷ []))
-  where
-    joined : (t t0 a x s : ℕ) → t % 256 ≡ (t0 + a) % 256 → s ≡ a + sum (x ∷ []) → (t + x) % 256 % 256 ≡ (t0 + s) % 256
-    joined t t0 a x s p q = omega (arith, p, q)
 
 -- the file sum of a file with the checksum attribute, and of another
 pub summed_text : (a : ℕ) (d : List ℕ) (total : ℕ) → is_summed a ≡ true → total < 256 → total % 256 ≡ (0 + sum d) % 256
@@ -41,3 +31,10 @@ summed_adds p (File name kind attributes content) starts t u is e =
   where
     join : (t u x s : ℕ) → u % 256 ≡ (t + sum (s ∷ [])) % 256 → x % 256 ≡ s % 256 → u % 256 ≡ (t + x) % 256
     join t u x s p q = omega (arith, p, q)
+
+-- so its State is all that a sink takes which sums
+pub state_adds : {S : Type 0} (takes : S → List ℕ → S → Type 0) (sums : Bool) (s t : S) (m n : ℕ) (p : Polarity) (file : FileMeaning)
+    (starts : List ℕ) → sums ≡ true → is_summed (attributes_of file) ≡ true → AddsOrPuts takes sums s m (state_byte p ∷ []) t n
+    → AddsOrPuts takes sums s m (stored_bytes p (stored_file file starts)) t n
+state_adds takes true s t m n p file starts on is put = (put.0, summed_adds p file starts m n is put.1)
+state_adds takes false s t m n p file starts on is put = let bad : false ≡ true = on in cc

@@ -19,5 +19,5 @@ pub mod Spans
 pub mod Starts
 pub mod StoredFiles
 pub mod StoredWalks
-pub mod SumSinks
+pub mod ImageSinks
 pub mod FlashImages

@@ -11,7 +11,7 @@ ghost use Rattle.fv_base.specs.Output.{WriteStops};
 ghost use Rattle.fv_tree.specs.Denotes.{Accepted, IsMeaning};
 ghost use Rattle.fv_tree.specs.Meaning.{Meaning};
 
-use crate::image_walk::put_volume;
+use crate::image_walk::put_image;
 use crate::layout_walk::layout;
 use crate::starts::Layout;
 use fv_base::{ByteList, Fault, ListSink, Port, Sink, WriteSink};
@@ -26,7 +26,7 @@ pub fn put_canonical<S: Sink>(view: &VolumeView<'_>, layout: &Layout, out: &mut 
     ensures { (image : List ℕ) × IsImage view.now image × S.takes out.old image out.new }
 {
     let _head = view.head();
-    put_volume(out, view, layout.all());
+    put_image(out, view, layout.all());
 }
 
 /// Writes the canonical image of the view to a port, in one walk that takes no memory. The

@@ -1,36 +1,48 @@
 //! One walk over a volume, which puts its canonical image into any sink.
 
-ghost use Rattle.std.specs.Prelude.{◌≡◌, ◌≤◌, ◌+◌, ◌-◌, drop};
+ghost use Rattle.std.specs.Prelude.{◌≡◌, ◌≤◌, ◌<◌, ◌+◌, ◌-◌, ◌%◌, [], drop, true, false};
+ghost use Rattle.fv_file.specs.Attributes.{is_summed};
 ghost use Rattle.fv_section.specs.SectionImage.{stream_of};
-ghost use Rattle.fv_tree.specs.Meaning.{files_from, data_len_of, sections_from};
+ghost use Rattle.fv_tree.specs.Meaning.{files_from, attributes_of, content_of, data_len_of, sections_from};
 ghost use Rattle.fv_tree.specs.Views.{body_view, content_view};
 ghost use Rattle.fv_canon.specs.ImageOf.{image_of, stored_of, stored_file, data_of, frames_of, body_image};
 ghost use Rattle.fv_canon.specs.ImageOf.{starts_in, starts_in_files, starts_in_file, starts_in_content};
 ghost use Rattle.fv_canon.specs.ImageOf.{starts_in_sections, starts_in_body};
 ghost use Rattle.fv_canon.specs.Layouts.{LaysVolume, LaysFiles, LaysFile, LaysContent, LaysSections, LaysBody};
-ghost use Rattle.fv_canon.specs.StoredFiles.{stored_bytes, size_for};
+ghost use Rattle.fv_canon.specs.StoredFiles.{file_sum_for, stored_bytes, size_for};
 ghost use Rattle.fv_canon.specs.StoredWalks.{files_bytes};
 ghost use Rattle.fv_canon.specs.Placed.{ArePlaced};
+ghost use Rattle.fv_canon.specs.ImageSinks.{ImageTakes};
 ghost use Rattle.fv_canon.specs.ImageWalks.{BeginsWithStarts};
 
-use crate::file_sums::file_sum;
 use crate::image_pieces::{
-    filler_of, put_ext_pad, put_file_head, put_gap, put_section_head, size_for, used_end,
+    filler_of, put_ext_pad, put_file_head, put_gap, put_section_head, put_state, size_for, used_end,
 };
+use crate::image_sink::ImageSink;
+use crate::start_walk::skip_content;
 use fv_base::field::up_to_8;
 use fv_base::{Polarity, Sink, fill};
 use fv_head::{first_edge, put_head};
 use fv_tree::{Body, Content, FileView, SectionView, VolumeView};
 
+// What makes a sum of bytes 0.
+fn complement(sum: u8) -> u8
+    ensures value { result ≡ (256 - sum) % 256 }
+    ensures small { sum < 256 }
+{
+    0u8.wrapping_sub(sum)
+}
+
 #[cycle(put)]
 fn put_sections<'s, S: Sink>(
-    out: &mut S,
+    out: &mut ImageSink<'_, S>,
     sections: &[SectionView<'_>],
     tail: u8,
     starts: &'s [u64],
 ) -> &'s [u64]
     requires laid { BeginsWithStarts LaysSections (sections_from sections.now) starts.now }
-    ensures bytes { S.takes out.old (stream_of (frames_of 0 (sections_from sections.now) starts.now) tail) out.new }
+    ensures bytes { ImageTakes S.takes out.old
+        (stream_of (frames_of 0 (sections_from sections.now) starts.now) tail) out.new }
     ensures rest { result.now ≡ drop (starts_in_sections (sections_from sections.now)) starts.now }
 {
     let mut gap = 0;
@@ -49,9 +61,13 @@ fn put_sections<'s, S: Sink>(
 }
 
 #[cycle(put)]
-pub(crate) fn put_body<'s, S: Sink>(out: &mut S, body: &Body<'_>, starts: &'s [u64]) -> &'s [u64]
+fn put_body<'s, S: Sink>(
+    out: &mut ImageSink<'_, S>,
+    body: &Body<'_>,
+    starts: &'s [u64],
+) -> &'s [u64]
     requires laid { BeginsWithStarts LaysBody (body_view body.now) starts.now }
-    ensures bytes { S.takes out.old (body_image (body_view body.now) starts.now) out.new }
+    ensures bytes { ImageTakes S.takes out.old (body_image (body_view body.now) starts.now) out.new }
     ensures rest { result.now ≡ drop (starts_in_body (body_view body.now)) starts.now }
 {
     match body {
@@ -65,13 +81,13 @@ pub(crate) fn put_body<'s, S: Sink>(out: &mut S, body: &Body<'_>, starts: &'s [u
 }
 
 #[cycle(put)]
-pub(crate) fn put_content<'s, S: Sink>(
-    out: &mut S,
+fn put_content<'s, S: Sink>(
+    out: &mut ImageSink<'_, S>,
     content: &Content<'_>,
     starts: &'s [u64],
 ) -> &'s [u64]
     requires laid { BeginsWithStarts LaysContent (content_view content.now) starts.now }
-    ensures bytes { S.takes out.old (data_of (content_view content.now) starts.now) out.new }
+    ensures bytes { ImageTakes S.takes out.old (data_of (content_view content.now) starts.now) out.new }
     ensures rest { result.now ≡ drop (starts_in_content (content_view content.now)) starts.now }
 {
     match content {
@@ -83,27 +99,51 @@ pub(crate) fn put_content<'s, S: Sink>(
     }
 }
 
+// The file sum of a file. Where the data have one, they are walked for it first, and nothing is put meanwhile.
+#[cycle(put)]
+fn file_sum<S: Sink>(out: &mut ImageSink<'_, S>, file: &FileView<'_>, starts: &[u64]) -> u8
+    requires laid { BeginsWithStarts LaysFile file.now starts.now }
+    requires puts { is_summed (attributes_of file.now) ≡ true → out.now.sums ≡ false }
+    ensures value { result ≡ file_sum_for (attributes_of file.now) (data_of (content_of file.now) starts.now) }
+    ensures none { ImageTakes S.takes out.old [] out.new }
+{
+    if !file.attributes().is_summed() {
+        return 0xaa;
+    }
+    out.sums = true;
+    out.total = 0;
+    put_content(out, file.content(), starts);
+    out.sums = false;
+    complement(out.total)
+}
+
+// Puts a file. While the data of another are summed, a file with the checksum attribute adds its State alone, whatever
+// its data are: its header sums to 0 without State and file sum, and file sum and data sum to 0.
 #[cycle(put)]
 fn put_file<'s, S: Sink>(
-    out: &mut S,
+    out: &mut ImageSink<'_, S>,
     file: &FileView<'_>,
     polarity: Polarity,
     starts: &'s [u64],
 ) -> &'s [u64]
     requires laid { BeginsWithStarts LaysFile file.now starts.now }
     requires most { data_len_of file.now ≤ 268435424 }
-    ensures bytes { S.takes out.old (stored_bytes polarity (stored_file file.now starts.now)) out.new }
+    ensures bytes { ImageTakes S.takes out.old (stored_bytes polarity (stored_file file.now starts.now)) out.new }
     ensures rest { result.now ≡ drop (starts_in_file file.now) starts.now }
 {
     let _name = file.name();
-    let sum = file_sum(file, starts);
+    if out.sums && file.attributes().is_summed() {
+        put_state(out, polarity);
+        return skip_content(file.content(), starts);
+    }
+    let sum = file_sum(out, file, starts);
     put_file_head(out, file, sum, polarity);
     put_content(out, file.content(), starts)
 }
 
 #[cycle(put)]
 fn put_files<'s, S: Sink>(
-    out: &mut S,
+    out: &mut ImageSink<'_, S>,
     files: &[FileView<'_>],
     own: &[u64],
     polarity: Polarity,
@@ -113,7 +153,7 @@ fn put_files<'s, S: Sink>(
 ) -> &'s [u64]
     requires placed { ArePlaced total first files.now own.now }
     requires laid { BeginsWithStarts LaysFiles (files_from files.now) starts.now }
-    ensures bytes { S.takes out.old
+    ensures bytes { ImageTakes S.takes out.old
         (files_bytes polarity total first (stored_of (files_from files.now) starts.now) own.now) out.new }
     ensures rest { result.now ≡ drop (starts_in_files (files_from files.now)) starts.now }
 {
@@ -132,15 +172,14 @@ fn put_files<'s, S: Sink>(
     rest
 }
 
-// Puts the canonical image of a volume.
 #[cycle(put)]
-pub(crate) fn put_volume<'s, S: Sink>(
-    out: &mut S,
+fn put_volume<'s, S: Sink>(
+    out: &mut ImageSink<'_, S>,
     volume: &VolumeView<'_>,
     starts: &'s [u64],
 ) -> &'s [u64]
     requires laid { BeginsWithStarts LaysVolume volume.now starts.now }
-    ensures bytes { S.takes out.old (image_of volume.now starts.now) out.new }
+    ensures bytes { ImageTakes S.takes out.old (image_of volume.now starts.now) out.new }
     ensures rest { result.now ≡ drop (starts_in volume.now) starts.now }
 {
     let head = volume.head();
@@ -152,4 +191,28 @@ pub(crate) fn put_volume<'s, S: Sink>(
     put_head(out, head);
     put_ext_pad(out, head, used);
     put_files(out, files, own, polarity, first, head.length(), inner)
+}
+
+// Puts the canonical image of a volume.
+pub(crate) fn put_image<S: Sink>(out: &mut S, volume: &VolumeView<'_>, starts: &[u64])
+    requires laid { BeginsWithStarts LaysVolume volume.now starts.now }
+    ensures { S.takes out.old (image_of volume.now starts.now) out.new }
+{
+    put_volume(&mut ImageSink::new(out), volume, starts);
+}
+
+// Puts the data of a file.
+pub(crate) fn put_data<S: Sink>(out: &mut S, content: &Content<'_>, starts: &[u64])
+    requires laid { BeginsWithStarts LaysContent (content_view content.now) starts.now }
+    ensures { S.takes out.old (data_of (content_view content.now) starts.now) out.new }
+{
+    put_content(&mut ImageSink::new(out), content, starts);
+}
+
+// Puts the body of a section.
+pub(crate) fn put_section_body<S: Sink>(out: &mut S, body: &Body<'_>, starts: &[u64])
+    requires laid { BeginsWithStarts LaysBody (body_view body.now) starts.now }
+    ensures { S.takes out.old (body_image (body_view body.now) starts.now) out.new }
+{
+    put_body(&mut ImageSink::new(out), body, starts);
 }

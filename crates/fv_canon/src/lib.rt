@@ -4,12 +4,12 @@
 mod canonical_input;
 mod compare;
 mod comparison_line;
-mod file_sums;
 mod first_placement;
 mod flash_image;
 mod headline;
 mod image;
 mod image_pieces;
+mod image_sink;
 mod image_walk;
 mod layout_walk;
 mod matching;

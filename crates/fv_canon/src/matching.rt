@@ -6,7 +6,7 @@ ghost use Rattle.fv_canon.specs.Layouts.{LaysVolume};
 ghost use Rattle.fv_canon.specs.Matching.{MatchTakes};
 ghost use Rattle.fv_canon.specs.MatchingLaws.{matches_by};
 
-use crate::image_walk::put_volume;
+use crate::image_walk::put_image;
 use fv_base::Sink;
 use fv_tree::VolumeView;
 
@@ -45,6 +45,6 @@ pub(crate) fn is_image(view: &VolumeView<'_>, starts: &[u64], bytes: &[u8]) -> b
         rest: bytes,
         same: true,
     };
-    put_volume(&mut out, view, starts);
+    put_image(&mut out, view, starts);
     out.same && out.rest.is_empty()
 }

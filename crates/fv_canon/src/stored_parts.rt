@@ -7,7 +7,7 @@ ghost use Rattle.fv_canon.specs.Layouts.{FitsContent, UnfitContent, FitsBody};
 ghost use Rattle.fv_canon.specs.LayoutForms.{UnfitAlone};
 ghost use Rattle.fv_tree.specs.Meaning.{content_of, body_of};
 
-use crate::image_walk::{put_body, put_content};
+use crate::image_walk::{put_data, put_section_body};
 use crate::layout_walk::{layout_of_body, layout_of_content};
 use fv_base::{ByteList, Fault, ListSink};
 use fv_tree::{FileView, SectionView};
@@ -32,7 +32,7 @@ pub fn file_bytes(alloc: Global, file: &FileView<'_>) -> Result<ByteList, Fault>
     let _name = file.name();
     let starts = layout_of_content(alloc, file)?;
     let mut out = ListSink::with_room(alloc, file.data_len() as usize)?;
-    put_content(&mut out, file.content(), starts.as_slice());
+    put_data(&mut out, file.content(), starts.as_slice());
     out.finish()
 }
 
@@ -56,6 +56,6 @@ pub fn body_bytes(alloc: Global, section: &SectionView<'_>) -> Result<ByteList, 
     let _kind = section.kind();
     let starts = layout_of_body(alloc, section)?;
     let mut out = ListSink::with_room(alloc, section.body_len() as usize)?;
-    put_body(&mut out, section.body(), starts.as_slice());
+    put_section_body(&mut out, section.body(), starts.as_slice());
     out.finish()
 }

@@ -9,4 +9,5 @@ bytes_from-requires c = omega (arith, at_within c.args.image.now c.args.start c.
 pub unreachable-requires : goal.unreachable-requires
 unreachable-requires c =
     let v = c.requires.1 in
-    c.in_default.not-Ok v.1 (c.verify_fv.ensures.only v.0 v.1 (subst (λ (x : List ℕ). BeginsVolume v.0 v.1 x) (sym c.bytes_from.ensures) v.2))
+    c.in_default.not-Ok v.1 (c.verify_fv.ensures.only v.0 v.1 (subst (λ (x : List ℕ). BeginsVolume v.0 v.1 x)
+    (sym c.bytes_from.ensures) v.2))

@@ -4,8 +4,8 @@ use Rattle.fv_canon.specs.Layouts.{LaysVolume}
 use Rattle.fv_canon.proofs.ImageLaws.{image_is}
 use Rattle.fv_canon.proofs.image.put_canonical.Goals as goal
 
-pub put_volume-requires : goal.put_volume-requires
-put_volume-requires g c =
+pub put_image-requires : goal.put_image-requires
+put_image-requires g c =
     let starts = c.all.result.now in
     let laid = subst (LaysVolume c.args.view.now) (sym c.all.ensures) c.requires.0 in
     record { laid = (starts, [], sym (append-nil starts), laid) }
@@ -15,4 +15,4 @@ returns g c =
     let m = c.args.view.now in
     let starts = c.all.result.now in
     let laid = subst (LaysVolume m) (sym c.all.ensures) c.requires.0 in
-    (image_of m starts, image_is m starts c.head-head.ensures.meaning laid, c.put_volume.ensures.bytes)
+    (image_of m starts, image_is m starts c.head-head.ensures.meaning laid, c.put_image.ensures)

@@ -1,4 +1,4 @@
-use Rattle.std.proofs.Common.{rules, ℕ, List, length, ◌<◌, ◌^◌, arith}
+use Rattle.std.proofs.Common.{rules, length, ◌<◌, ◌^◌, arith}
 use Rattle.std.specs.Io.KnownBytes.{Appends}
 use Rattle.std.proofs.lemmas.Result.{on_ok_weaker, IfErr-weaker}
 use Rattle.fv_base.specs.Output.{WriteStops}

@@ -20,7 +20,8 @@ use Rattle.fv_canon.specs.Layouts.{LaysFiles}
 use Rattle.fv_canon.specs.StoredWalks.{files_bytes}
 use Rattle.fv_canon.specs.StoredFiles.{stored_bytes, gap_bytes, size_for, file_sum_for}
 use Rattle.fv_canon.specs.Placed.{ArePlaced}
-use Rattle.fv_canon.proofs.FileLaws.{file_long, stored_is, size_is, at_file, file_laid, files_left, walk_goes, file_smaller, placed_on}
+use Rattle.fv_canon.proofs.FileLaws.{file_long, stored_is, size_is, at_file, file_laid, files_left, files_end, walk_goes}
+use Rattle.fv_canon.proofs.FileLaws.{file_smaller, placed_on}
 use Rattle.fv_canon.specs.ImageWalks.{BeginsWithStarts, TakesFront, sections_bytes}
 use Rattle.fv_canon.proofs.SectionLaws.{section_known, item_laid, in_body, body_laid, left_is, goes_on, front_more, front_end}
 use Rattle.fv_canon.proofs.SectionLaws.{section_smaller}
@@ -35,6 +36,10 @@ use Rattle.fv_canon.specs.ImageOf.{image_of, starts_in}
 use Rattle.fv_canon.specs.StoredFiles.{ext_pad}
 use Rattle.fv_canon.specs.Placed.{used_by}
 use Rattle.fv_canon.proofs.VolumeWalks.{volume_is, volume_seen, volume_text, volume_left, files_same}
+use Rattle.std.proofs.Common.{[], true}
+use Rattle.fv_file.specs.Attributes.{attributes_by, is_summed}
+use Rattle.fv_canon.specs.ImageSinks.{ImageTakes, image_by}
+use Rattle.fv_canon.proofs.SumWalks.{state_adds}
 use Rattle.fv_canon.proofs.image_walk.+put.Goals as goal
 
 pub put_body-put_sections-requires : goal.put_body-put_sections-requires
@@ -100,18 +105,21 @@ put_sections-loop-section-preserved g t c =
     let k = section_known s rest c.kind-kind.ensures.read l.0 in
     let next : c.put_body-rest.result.now ≡ drop (starts_in_section s) rest = c.put_body-rest.ensures.rest
     ∙ ap (λ (b : BodyMeaning). drop (starts_in_body b) rest) c.body.ensures ∙ ap (λ (n : ℕ). drop n rest) (sym (in_body s)) in
-    let body = subst (λ (b : BodyMeaning). g.S.Sink.takes c.put_section_head.new.out (body_image b rest) c.put_body-rest.new.out)
+    let body = subst (λ (b : BodyMeaning). ImageTakes g.S.Sink.takes c.put_section_head.new.out (body_image b rest) c.put_body-rest.new.out)
     c.body.ensures c.put_body-rest.ensures.bytes in
     record {
       small = few (section_len s) c.filler_of-gap.result c.filler_of-gap.ensures;
       laid = subst (λ (xs : List ℕ). BeginsWithStarts LaysSections (sections_from (drop (i + 1) ss)) xs) (sym next) l.1;
       left = ap (λ (xs : List ℕ). drop (starts_in_sections (sections_from (drop (i + 1) ss))) xs) next
           ∙ sym (left_is ss i s rest c.loop-section-test.true c.section-item.is) ∙ c.loop-section.invariant.left;
-      done = subst (λ (xs : List ℕ). TakesFront g.S.Sink.takes c.args.out.now c.put_body-rest.new.out (sections_bytes 0 (sections_from ss)
+      done = subst (λ (xs : List ℕ). TakesFront (ImageTakes g.S.Sink.takes) c.args.out.now c.put_body-rest.new.out (sections_bytes 0
+          (sections_from ss)
           c.args.starts.now) (sections_bytes c.filler_of-gap.result (sections_from (drop (i + 1) ss)) xs)) (sym next)
-          (subst (λ (n : ℕ). TakesFront g.S.Sink.takes c.args.out.now c.put_body-rest.new.out (sections_bytes 0 (sections_from ss)
+          (subst (λ (n : ℕ). TakesFront (ImageTakes g.S.Sink.takes) c.args.out.now c.put_body-rest.new.out (sections_bytes 0 (sections_from
+          ss)
           c.args.starts.now) (sections_bytes n (sections_from (drop (i + 1) ss)) (drop (starts_in_section s) rest)))
-          (sym c.filler_of-gap.ensures) (front_more g.S.Sink.takes g.S.Sink.laws c.args.out.now c.loop-section.out c.fill.new.out
+          (sym c.filler_of-gap.ensures) (front_more (ImageTakes g.S.Sink.takes) (image_by g.S.Sink.laws) c.args.out.now c.loop-section.out
+          c.fill.new.out
           c.put_section_head.new.out c.put_body-rest.new.out (sections_bytes 0 (sections_from ss) c.args.starts.now)
           (sections_bytes c.loop-section.gap (sections_from (drop i ss)) rest) (replicate c.loop-section.gap 0)
           (section_head_of (section_kind_of s) (section_is_extended s) (body_len (body_of s))) (body_image (body_of s) rest)
@@ -126,25 +134,39 @@ put_sections-loop-section-preserved g t c =
 pub put_sections-returns-then-not-is_empty-clause-bytes : goal.put_sections-returns-then-not-is_empty-clause-bytes
 put_sections-returns-then-not-is_empty-clause-bytes g t c =
     let some : 0 < length c.args.sections.now = grind (arith, common_steps, c.is_empty.ensures, c.if-not-is_empty.true) in
-    front_end g.S.Sink.takes g.S.Sink.laws c.args.sections.now c.loop-section.section-index c.args.out.now c.loop-section.out
+    front_end (ImageTakes g.S.Sink.takes) (image_by g.S.Sink.laws) c.args.sections.now c.loop-section.section-index c.args.out.now
+    c.loop-section.out
     c.fill-then-not-is_empty.new.out c.loop-section.gap c.args.starts.now c.loop-section.rest.now c.args.tail c.loop-section-test.false some
-    c.loop-section.invariant.done (subst (λ (n : ℕ). g.S.Sink.takes c.loop-section.out (replicate n 0) c.fill-then-not-is_empty.new.out)
+    c.loop-section.invariant.done (subst (λ (n : ℕ). ImageTakes g.S.Sink.takes c.loop-section.out (replicate n 0)
+    c.fill-then-not-is_empty.new.out)
     c.from.ensures c.fill-then-not-is_empty.ensures)
+
+pub put_file-returns-then-is_summed-clause-bytes : goal.put_file-returns-then-is_summed-clause-bytes
+put_file-returns-then-is_summed-clause-bytes g t c =
+    let is : is_summed (attributes_of c.args.file.now) ≡ true =
+    sym (ap is_summed c.attributes.ensures) ∙ sym c.is_summed.ensures ∙ c.if-is_summed.true in
+    let put = c.put_state.ensures in (
+      put.0,
+      put.1,
+      state_adds g.S.Sink.takes c.args.out.now.sums c.args.out.now.below.now c.put_state.new.out.below.now c.args.out.now.total
+          c.put_state.new.out.total c.args.polarity c.args.file.now c.args.starts.now c.if-out.true is put.2,
+    )
 
 pub put_file-returns-clause-bytes : goal.put_file-returns-clause-bytes
 put_file-returns-clause-bytes g t c =
     let long = file_long c.args.file.now c.args.starts.now c.name-name.ensures.read c.requires.laid in
-    let head = file_head_of (file_name_of c.args.file.now) (file_kind_of c.args.file.now) (record { 0 = attributes_of c.args.file.now })
-    (data_len_of c.args.file.now)
-    (file_sum_for (attributes_of c.args.file.now) (data_of (content_of c.args.file.now) c.args.starts.now)) c.args.polarity in
-    subst (λ (xs : List ℕ). g.S.Sink.takes c.args.out.now xs c.put_content.new.out)
-    (sym (stored_is c.args.polarity c.args.file.now c.args.starts.now long)) (g.S.Sink.laws.joined c.args.out.now c.put_file_head.new.out
-    c.put_content.new.out head (data_of (content_of c.args.file.now) c.args.starts.now)
-    (subst (λ (n : ℕ). g.S.Sink.takes c.args.out.now (file_head_of (file_name_of c.args.file.now) (file_kind_of c.args.file.now) (record {
-      0 = attributes_of c.args.file.now;
-    }) (data_len_of c.args.file.now) n c.args.polarity) c.put_file_head.new.out) c.file_sum-sum.ensures c.put_file_head.ensures)
-    (subst (λ (x : ContentMeaning). g.S.Sink.takes c.put_file_head.new.out (data_of x c.args.starts.now) c.put_content.new.out)
-    c.content.ensures c.put_content.ensures.bytes))
+    let head_by = λ (n : ℕ). file_head_of (file_name_of c.args.file.now) (file_kind_of c.args.file.now)
+    (attributes_by (attributes_of c.args.file.now)) (data_len_of c.args.file.now) n c.args.polarity in
+    let sum : ℕ = file_sum_for (attributes_of c.args.file.now) (data_of (content_of c.args.file.now) c.args.starts.now) in
+    let laws = image_by g.S.Sink.laws in
+    let head = laws.joined c.args.out.now c.file_sum-sum.new.out c.put_file_head.new.out [] (head_by sum) c.file_sum-sum.ensures.none
+    (subst (λ (n : ℕ). ImageTakes g.S.Sink.takes c.file_sum-sum.new.out (head_by n) c.put_file_head.new.out) c.file_sum-sum.ensures.value
+    c.put_file_head.ensures) in
+    subst (λ (xs : List ℕ). ImageTakes g.S.Sink.takes c.args.out.now xs c.put_content.new.out)
+    (sym (stored_is c.args.polarity c.args.file.now c.args.starts.now long)) (laws.joined c.args.out.now c.put_file_head.new.out
+    c.put_content.new.out (head_by sum) (data_of (content_of c.args.file.now) c.args.starts.now) head
+    (subst (λ (x : ContentMeaning). ImageTakes g.S.Sink.takes c.put_file_head.new.out (data_of x c.args.starts.now) c.put_content.new.out)
+    c.content-2.ensures c.put_content.ensures.bytes))
 
 pub put_files-overflow_sub-start : goal.put_files-overflow_sub-start
 put_files-overflow_sub-start g t c = (at_file c.args.total c.loop-i.edge c.args.files.now c.args.own.now c.loop-i.i c.index-files-i.result
@@ -200,10 +222,12 @@ put_files-loop-i-preserved g t c =
     let edge : c.up_to_8-edge.result ≡ up_to_8 (s + size_for (data_len_of f)) =
     c.up_to_8-edge.ensures ∙ ap (λ (n : ℕ). up_to_8 (s + n)) sz in
     let next : c.put_file-rest.result.now ≡ drop (starts_in_file f) rest = c.put_file-rest.ensures.rest in
-    let filled = subst (λ (n : ℕ). g.S.Sink.takes c.put_file-rest.new.out
+    let filled = subst (λ (n : ℕ). ImageTakes g.S.Sink.takes c.put_file-rest.new.out
     (replicate (up_to_8 (s + size_for (data_len_of f)) - (s + size_for (data_len_of f))) n) c.fill.new.out) c.erased.ensures.value
-    (subst (λ (n : ℕ). g.S.Sink.takes c.put_file-rest.new.out (replicate (up_to_8 (s + size_for (data_len_of f)) - (s + n)) c.erased.result)
-    c.fill.new.out) sz (subst (λ (n : ℕ). g.S.Sink.takes c.put_file-rest.new.out (replicate (n - (s + c.size_for.result)) c.erased.result)
+    (subst (λ (n : ℕ). ImageTakes g.S.Sink.takes c.put_file-rest.new.out (replicate (up_to_8 (s + size_for (data_len_of f)) - (s + n))
+    c.erased.result)
+    c.fill.new.out) sz (subst (λ (n : ℕ). ImageTakes g.S.Sink.takes c.put_file-rest.new.out (replicate (n - (s + c.size_for.result))
+    c.erased.result)
     c.fill.new.out) edge c.fill.ensures)) in
     let whole : List ℕ = files_bytes p total c.args.first (stored_of (files_from fs) c.args.starts.now) own in
     record {
@@ -212,11 +236,12 @@ put_files-loop-i-preserved g t c =
       laid = subst (λ (xs : List ℕ). BeginsWithStarts LaysFiles (files_from (drop (i + 1) fs)) xs) (sym next) l.1;
       left = ap (λ (xs : List ℕ). drop (starts_in_files (files_from (drop (i + 1) fs))) xs) next
           ∙ sym (files_left fs i f rest c.loop-i-test.true c.index-files-i.is) ∙ c.loop-i.invariant.left;
-      done = subst (λ (xs : List ℕ). TakesFront g.S.Sink.takes c.args.out.now c.fill.new.out whole
+      done = subst (λ (xs : List ℕ). TakesFront (ImageTakes g.S.Sink.takes) c.args.out.now c.fill.new.out whole
           (files_bytes p total c.up_to_8-edge.result (stored_of (files_from (drop (i + 1) fs)) xs) (drop (i + 1) own))) (sym next)
-          (subst (λ (n : ℕ). TakesFront g.S.Sink.takes c.args.out.now c.fill.new.out whole
+          (subst (λ (n : ℕ). TakesFront (ImageTakes g.S.Sink.takes) c.args.out.now c.fill.new.out whole
           (files_bytes p total n (stored_of (files_from (drop (i + 1) fs)) (drop (starts_in_file f) rest)) (drop (i + 1) own))) (sym edge)
-          (front_more g.S.Sink.takes g.S.Sink.laws c.args.out.now c.loop-i.out c.put_gap.new.out c.put_file-rest.new.out c.fill.new.out
+          (front_more (ImageTakes g.S.Sink.takes) (image_by g.S.Sink.laws) c.args.out.now c.loop-i.out c.put_gap.new.out
+          c.put_file-rest.new.out c.fill.new.out
           whole (files_bytes p total c.loop-i.edge (stored_of (files_from (drop i fs)) rest) (drop i own)) (gap_bytes p (s - c.loop-i.edge))
           (stored_bytes p (stored_file f rest)) (replicate (up_to_8 (s + size_for (data_len_of f)) - (s + size_for (data_len_of f)))
           (erased_byte p)) (files_bytes p total (up_to_8 (s + size_for (data_len_of f)))
@@ -280,11 +305,13 @@ put_volume-returns-clause-bytes g t c =
     c.split_at.result.1.now (drop n starts) c.split_at.result.0.now (take n starts) polar c.length.ensures c.first_edge-first.ensures.edge
     c.split_at.ensures.back c.split_at.ensures.front in
     let body : List ℕ = files_bytes p h.length first (stored_of (files_from fs) (drop n starts)) (take n starts) in
-    subst (λ (xs : List ℕ). g.S.Sink.takes c.args.out.now xs c.put_files.new.out) (sym text)
-    (g.S.Sink.laws.joined c.args.out.now c.put_head.new.out c.put_files.new.out (canonical_head h) (ext ++ body) c.put_head.ensures.bytes
-    (g.S.Sink.laws.joined c.put_head.new.out c.put_ext_pad.new.out c.put_files.new.out ext body
-    (subst (λ (k : ℕ). g.S.Sink.takes c.put_head.new.out (ext_pad p h.ext k ++ fill) c.put_ext_pad.new.out) used c.put_ext_pad.ensures)
-    (subst (λ (xs : List ℕ). g.S.Sink.takes c.put_ext_pad.new.out xs c.put_files.new.out) files c.put_files.ensures.bytes)))
+    subst (λ (xs : List ℕ). ImageTakes g.S.Sink.takes c.args.out.now xs c.put_files.new.out) (sym text)
+    ((image_by g.S.Sink.laws).joined c.args.out.now c.put_head.new.out c.put_files.new.out (canonical_head h) (ext ++ body)
+    c.put_head.ensures.bytes
+    ((image_by g.S.Sink.laws).joined c.put_head.new.out c.put_ext_pad.new.out c.put_files.new.out ext body
+    (subst (λ (k : ℕ). ImageTakes g.S.Sink.takes c.put_head.new.out (ext_pad p h.ext k ++ fill) c.put_ext_pad.new.out) used
+    c.put_ext_pad.ensures)
+    (subst (λ (xs : List ℕ). ImageTakes g.S.Sink.takes c.put_ext_pad.new.out xs c.put_files.new.out) files c.put_files.ensures.bytes)))
 
 pub put_volume-returns-clause-rest : goal.put_volume-returns-clause-rest
 put_volume-returns-clause-rest g t c =
@@ -294,3 +321,11 @@ put_volume-returns-clause-rest g t c =
     let k : ℕ = starts_in_files (files_from fs) in
     c.put_files.ensures.rest ∙ ap (drop k) c.split_at.ensures.back ∙ drop-drop k (length fs) c.args.starts.now
     ∙ ap (λ (j : ℕ). drop j c.args.starts.now) (sym (volume_left h fs) ∙ ap starts_in (sym is))
+
+pub put_files-returns-clause-bytes : goal.put_files-returns-clause-bytes
+put_files-returns-clause-bytes g t c =
+    files_end (ImageTakes g.S.Sink.takes) (image_by g.S.Sink.laws) c.args.polarity c.args.total c.loop-i.edge c.args.files.now
+    c.args.own.now
+    c.loop-i.rest.now c.loop-i.i c.args.out.now c.loop-i.out c.fill-2.new.out _ c.loop-i-test.false c.loop-i.invariant.done
+    (subst (λ (n : ℕ). ImageTakes g.S.Sink.takes c.loop-i.out (replicate (c.args.total - c.loop-i.edge) n) c.fill-2.new.out)
+    c.erased-2.ensures.value c.fill-2.ensures)

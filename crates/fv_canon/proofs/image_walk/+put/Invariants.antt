@@ -1,4 +1,4 @@
-use Rattle.std.proofs.Common.{◌≡◌, ◌+◌, ◌*◌, ◌≤◌, drop}
+use Rattle.std.proofs.Common.{◌≡◌, ◌+◌, ◌-◌, ◌*◌, ◌≤◌, drop}
 use Rattle.fv_tree.specs.Meaning.{sections_from, files_from}
 use Rattle.fv_tree.specs.Sizes.{volume_size, files_size, file_size, content_size, sections_size, body_size}
 use Rattle.fv_tree.specs.Views.{body_view, content_view}
@@ -7,6 +7,7 @@ use Rattle.fv_canon.specs.ImageOf.{starts_in_sections, starts_in_files, stored_o
 use Rattle.fv_canon.specs.ImageWalks.{sections_bytes, BeginsWithStarts, TakesFront}
 use Rattle.fv_canon.specs.StoredWalks.{files_bytes}
 use Rattle.fv_canon.specs.Placed.{ArePlaced}
+use Rattle.fv_canon.specs.ImageSinks.{ImageTakes}
 use Rattle.fv_canon.proofs.image_walk.+put.Given as goal
 
 abbrev pub invariant-put_sections-loop-section : goal.invariant-put_sections-loop-section
@@ -15,27 +16,30 @@ invariant-put_sections-loop-section g l = record {
   laid : BeginsWithStarts LaysSections (sections_from (drop l.section-index l.sections)) l.rest;
   left : drop (starts_in_sections (sections_from (drop l.section-index l.sections))) l.rest
       ≡ drop (starts_in_sections (sections_from l.sections)) l.starts;
-  done : TakesFront g.S.Sink.takes l.initial.out l.out (sections_bytes 0 (sections_from l.sections) l.starts)
+  done : TakesFront (ImageTakes g.S.Sink.takes) l.initial.out l.out (sections_bytes 0 (sections_from l.sections) l.starts)
       (sections_bytes l.gap (sections_from (drop l.section-index l.sections)) l.rest);
 }
 
 abbrev pub decreases-put_sections : goal.decreases-put_sections
-decreases-put_sections g l = 2 * sections_size (sections_from l.sections.now)
+decreases-put_sections g l = 4 * sections_size (sections_from l.sections.now)
 
 abbrev pub decreases-put_body : goal.decreases-put_body
-decreases-put_body g l = 2 * body_size (body_view l.body.now) + 1
+decreases-put_body g l = 4 * body_size (body_view l.body.now) + 2
 
 abbrev pub decreases-put_volume : goal.decreases-put_volume
-decreases-put_volume g l = 2 * volume_size l.volume.now
+decreases-put_volume g l = 4 * volume_size l.volume.now
 
 abbrev pub decreases-put_content : goal.decreases-put_content
-decreases-put_content g l = 2 * content_size (content_view l.content.now) + 1
+decreases-put_content g l = 4 * content_size (content_view l.content.now) + 2
+
+abbrev pub decreases-file_sum : goal.decreases-file_sum
+decreases-file_sum g l = 4 * file_size l.file.now - 1
 
 abbrev pub decreases-put_file : goal.decreases-put_file
-decreases-put_file g l = 2 * file_size l.file.now
+decreases-put_file g l = 4 * file_size l.file.now
 
 abbrev pub decreases-put_files : goal.decreases-put_files
-decreases-put_files g l = 2 * files_size (files_from l.files.now) + 1
+decreases-put_files g l = 4 * files_size (files_from l.files.now) + 2
 
 abbrev pub invariant-put_files-loop-i : goal.invariant-put_files-loop-i
 invariant-put_files-loop-i g l = record {
@@ -43,6 +47,7 @@ invariant-put_files-loop-i g l = record {
   laid : BeginsWithStarts LaysFiles (files_from (drop l.i l.files)) l.rest;
   left : drop (starts_in_files (files_from (drop l.i l.files))) l.rest ≡ drop (starts_in_files (files_from l.files)) l.starts;
   done :
-      TakesFront g.S.Sink.takes l.initial.out l.out (files_bytes l.polarity l.total l.first (stored_of (files_from l.files) l.starts) l.own)
+      TakesFront (ImageTakes g.S.Sink.takes) l.initial.out l.out
+      (files_bytes l.polarity l.total l.first (stored_of (files_from l.files) l.starts) l.own)
       (files_bytes l.polarity l.total l.edge (stored_of (files_from (drop l.i l.files)) l.rest) (drop l.i l.own));
 }

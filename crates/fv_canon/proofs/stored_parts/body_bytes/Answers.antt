@@ -14,7 +14,7 @@ returns-clause-body c =
     let is = body_is c.args.section.now starts c.kind-kind.ensures.read c.in_ok-starts.ensures.ok in
     IfOk-weaker c.finish.result _ (IsBodyImage m) (λ o same. subst (IsBodyImage m) (sym same) is)
     (kept_text body_image _ m _ starts _ _ _ _ c.finish.result c.body.ensures c.as_slice.ensures.value c.in_ok-out.ensures
-    c.put_body.ensures.bytes c.finish.ensures.ok)
+    c.put_section_body.ensures c.finish.ensures.ok)
 
 pub returns-clause-only : goal.returns-clause-only
 returns-clause-only c = λ other image.
@@ -23,4 +23,4 @@ returns-clause-only c = λ other image.
     let is = body_is c.args.section.now starts c.kind-kind.ensures.read c.in_ok-starts.ensures.ok in
     IfOk-weaker c.finish.result _ (λ (o : List ℕ). o ≡ other) (λ o same. same ∙ body_one m (body_image m starts) other is image)
     (kept_text body_image _ m _ starts _ _ _ _ c.finish.result c.body.ensures c.as_slice.ensures.value c.in_ok-out.ensures
-    c.put_body.ensures.bytes c.finish.ensures.ok)
+    c.put_section_body.ensures c.finish.ensures.ok)

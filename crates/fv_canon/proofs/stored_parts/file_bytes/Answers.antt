@@ -14,7 +14,7 @@ returns-clause-data c =
     let is = data_is c.args.file.now starts c.name-name.ensures.read c.in_ok-starts.ensures.ok in
     IfOk-weaker c.finish.result _ (IsData m) (λ o same. subst (IsData m) (sym same) is)
     (kept_text data_of _ m _ starts _ _ _ _ c.finish.result c.content.ensures c.as_slice.ensures.value c.in_ok-out.ensures
-    c.put_content.ensures.bytes c.finish.ensures.ok)
+    c.put_data.ensures c.finish.ensures.ok)
 
 pub returns-clause-only : goal.returns-clause-only
 returns-clause-only c = λ other image.
@@ -23,4 +23,4 @@ returns-clause-only c = λ other image.
     let is = data_is c.args.file.now starts c.name-name.ensures.read c.in_ok-starts.ensures.ok in
     IfOk-weaker c.finish.result _ (λ (o : List ℕ). o ≡ other) (λ o same. same ∙ data_one m (data_of m starts) other is image)
     (kept_text data_of _ m _ starts _ _ _ _ c.finish.result c.content.ensures c.as_slice.ensures.value c.in_ok-out.ensures
-    c.put_content.ensures.bytes c.finish.ensures.ok)
+    c.put_data.ensures c.finish.ensures.ok)

@@ -14,7 +14,8 @@ bytes_from-requires g c =
 pub unreachable-requires : goal.unreachable-requires
 unreachable-requires g c =
     let v = (found_at c.args.input.now c.args.offsets.now c.loop-offset.offset-index 0 c.requires.places c.loop-offset-test.true).1 in
-    c.in_default.not-Ok v.1 (c.verify_fv.ensures.only v.0 v.1 (subst (λ (x : List ℕ). BeginsVolume v.0 v.1 x) (sym c.bytes_from.ensures) v.2))
+    c.in_default.not-Ok v.1 (c.verify_fv.ensures.only v.0 v.1 (subst (λ (x : List ℕ). BeginsVolume v.0 v.1 x)
+    (sym c.bytes_from.ensures) v.2))
 
 pub loop-offset-preserved : goal.loop-offset-preserved
 loop-offset-preserved g c =

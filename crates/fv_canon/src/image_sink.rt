@@ -1,0 +1,46 @@
+//! The sink of a walk over a volume, which sums the data of a file before it puts them.
+
+ghost use Rattle.std.specs.Prelude.{◌≡◌, false};
+ghost use Rattle.fv_canon.specs.ImageSinks.{ImageTakes, image_by};
+
+use fv_base::{Sink, sum8};
+
+/// A sink below, into which an image is put; while the data of a file are summed, nothing is.
+#[derive(Drop)]
+pub(crate) struct ImageSink<'a, S: Sink> {
+    /// Where the image goes.
+    pub(crate) below: &'a mut S,
+    /// Whether bytes are summed, and not put.
+    pub(crate) sums: bool,
+    /// Their sum, modulo 256.
+    pub(crate) total: u8,
+}
+
+impl<'a, S: Sink> Sink for ImageSink<'a, S> {
+    ghost takes = { ImageTakes S.takes };
+
+    ghost laws = { image_by S.laws };
+
+    fn put(&mut self, bytes: &[u8]) {
+        if self.sums {
+            self.total = self.total.wrapping_add(sum8(bytes));
+        } else {
+            self.below.put(bytes);
+        }
+    }
+}
+
+impl<'a, S: Sink> ImageSink<'a, S> {
+    /// A sink that puts into the one below.
+    pub(crate) fn new(below: &'a mut S) -> ImageSink<'a, S>
+        ensures same_sink { result.below.ghost_name ≡ below.entry.ghost_name }
+        ensures now { result.below.now ≡ below.old }
+        ensures puts { result.sums ≡ false }
+    {
+        ImageSink {
+            below,
+            sums: false,
+            total: 0,
+        }
+    }
+}
