@@ -14,16 +14,10 @@ returns-clause-layout c =
     c.files-own.ensures c.new-starts.ensures.items c.in_ok-lay_volume.ensures.ok c.new.ensures.own c.new.ensures.inner
 
 pub returns-clause-only : goal.returns-clause-only
-returns-clause-only c starts laid =
-    let is = layout_is c.args.view.now c.files-own.result.now c.new-starts.result.items c.lay_volume.new.starts.items c.new.result
-    c.files-own.ensures c.new-starts.ensures.items c.in_ok-lay_volume.ensures.ok c.new.ensures.own c.new.ensures.inner in
-    one_layout c.args.view.now starts _ laid is.0
+returns-clause-only c starts laid = one_layout c.args.view.now starts _ laid (returns-clause-layout c).0
 
 pub returns-clause-least : goal.returns-clause-least
-returns-clause-least c =
-    let is = layout_is c.args.view.now c.files-own.result.now c.new-starts.result.items c.lay_volume.new.starts.items c.new.result
-    c.files-own.ensures c.new-starts.ensures.items c.in_ok-lay_volume.ensures.ok c.new.ensures.own c.new.ensures.inner in
-    (own_first c.args.view.now c.new.result is).least
+returns-clause-least c = (own_first c.args.view.now c.new.result (returns-clause-layout c)).least
 
 pub returns-in_err-lay_volume-clause-fits : goal.returns-in_err-lay_volume-clause-fits
 returns-in_err-lay_volume-clause-fits c fit =
