@@ -1,5 +1,5 @@
 -- What a walk writes for a part of a volume is its image, and the list that takes it has it.
-use Rattle.std.proofs.Common.{◌≡◌, ℕ, List, [], ◌++◌, refl, ◌∙◌, subst, append-nil, drop, Bool, true}
+use Rattle.std.proofs.Common.{◌≡◌, ℕ, List, [], ◌++◌, refl, ◌∙◌, sym, subst, append-nil, drop, Bool, true}
 use Rattle.std.specs.Prelude.{Result, IfOk}
 use Rattle.std.proofs.lemmas.Result.{IfOk-weaker}
 use Rattle.fv_base.proofs.FieldLemmas.{bytes_drop}
@@ -32,12 +32,12 @@ body_is (Section kind extended body) starts (n, l, f, (b, small, most, stands), 
     sections_made n (Section kind extended body) f 0 starts [] inside.0 is laid in
     subst (λ (xs : List ℕ). IsBodyImage body (body_image body xs)) (append-nil starts) frame.2
 
--- a list that took a text has it
-pub kept_text : {A : Type 0} (text : A → List ℕ → List ℕ) (x y : A) (xs ys s k : List ℕ) (a b : Bool) (r : Result (List ℕ) Fault)
-    → x ≡ y → xs ≡ ys → (s ≡ []) × (a ≡ true) → KeptLatched s a (text x xs) k b → IfOk r (λ o. (b ≡ true) × (o ≡ k))
-    → IfOk r (λ o. o ≡ text y ys)
-kept_text text x y xs ys s k a b r is same begun taken got =
-    IfOk-weaker r (λ (o : List ℕ). o ≡ text x xs) (λ (o : List ℕ). o ≡ text y ys) (λ o e. e ∙ moved)
+-- what a list has that took a text
+pub kept_text : {A : Type 0} (P : List ℕ → Type 0) (text : A → List ℕ → List ℕ) (x y : A) (xs ys s k : List ℕ) (a b : Bool)
+    (r : Result (List ℕ) Fault) → P (text y ys) → x ≡ y → xs ≡ ys → (s ≡ []) × (a ≡ true) → KeptLatched s a (text x xs) k b
+    → IfOk r (λ o. (b ≡ true) × (o ≡ k)) → IfOk r P
+kept_text P text x y xs ys s k a b r made is same begun taken got =
+    IfOk-weaker r (λ (o : List ℕ). o ≡ text x xs) P (λ o e. subst P (sym (e ∙ moved)) made)
     (kept_whole s k (text x xs) a b r begun.0 begun.1 taken got)
   where
     moved : text x xs ≡ text y ys

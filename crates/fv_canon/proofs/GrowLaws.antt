@@ -1,10 +1,13 @@
 -- A walk over a volume that adds the starts of the files in it.
-use Rattle.std.proofs.Common.{◌≡◌, ◌≤◌, ◌<◌, inl, inr, ◌+◌, ℕ, zero, suc, List, [], ◌∷◌, ◌++◌, length}
+use Rattle.std.proofs.Common.{◌≡◌, ◌≤◌, ◌<◌, ◌⊎◌, inl, inr, ◌+◌, ℕ, zero, suc, List, [], ◌∷◌, ◌++◌, length}
 use Rattle.std.proofs.Common.{take, get_or, refl, sym, ap, ◌∙◌, subst, arith, append_assoc, append-nil}
+use Rattle.std.specs.Prelude.{Result, Ok, Err, IfErr}
+use Rattle.std.specs.Result.{IsErrAnd}
+use Rattle.fv_base.specs.Faults.{want_of_memory}
 use Rattle.fv_base.specs.declared.fault.Fault.{Fault}
 use Rattle.fv_tree.specs.Denotes.{IsMeaning, IsReadFile, IsReadSection, MeansSection, Stream}
 use Rattle.fv_tree.specs.Meaning.{Meaning, files_from, FileMeaning, File, content_of}
-use Rattle.fv_tree.specs.Meaning.{SectionMeanings, SectionMeaning, Section, sections_from, body_of, Group, Nested}
+use Rattle.fv_tree.specs.Meaning.{SectionMeanings, SectionMeaning, Section, sections_from, BodyMeaning, body_of, Group, Nested}
 use Rattle.fv_tree.specs.Sizes.{files_size, file_size, content_size, section_size, sections_size, body_size}
 use Rattle.fv_canon.specs.Depths.{NestsVolume, NestsFiles, NestsContent, NestsSections, NestsBody}
 use Rattle.fv_canon.specs.Layouts.{LaysFiles, LaysFile, LaysContent, LaysSections, LaysSection, LaysBody}
@@ -125,12 +128,35 @@ pub shallow_content : (m : FileMeaning) → IsReadFile m → Shallow NestsConten
 shallow_content (File name kind attributes content) (n, few, f, stored, is) =
     (n, omega (arith, few), file_in (Stream n) n (stream_in (MeansSection n) n (sections_in n)) f (File name kind attributes content) is)
 
-pub shallow_body : (s : SectionMeaning) → IsReadSection s → Shallow NestsBody (body_of s) 0
+shallow_body : (s : SectionMeaning) → IsReadSection s → Shallow NestsBody (body_of s) 0
 shallow_body (Section kind extended body) (n, few, f, stored, is) = (n, omega (arith, few), sections_in n f (Section kind extended body) is)
 
--- what lies in a group or in a volume
-pub shallow_group : (ss : SectionMeanings) (tail : ℕ) → Shallow NestsBody (Group ss tail) 0 → Shallow NestsSections ss 0
-shallow_group ss tail (n, fits, (k, is, nests)) = (k, omega (arith, fits, is), nests)
+-- what lies in a section's body, a group or a volume
+pub shallow_group : (s : SectionMeaning) (ss : SectionMeanings) (tail : ℕ) → IsReadSection s → body_of s ≡ Group ss tail
+    → Shallow NestsSections ss 0
+shallow_group s ss tail read is = go (subst (λ (b : BodyMeaning). Shallow NestsBody b 0) is (shallow_body s read))
+  where
+    go : Shallow NestsBody (Group ss tail) 0 → Shallow NestsSections ss 0
+    go (n, fits, (k, is, nests)) = (k, omega (arith, fits, is), nests)
 
-pub shallow_nested : (m : Meaning) → Shallow NestsBody (Nested m) 0 → Shallow NestsVolume m 0
-shallow_nested m (n, fits, (k, is, nests)) = (k, omega (arith, fits, is), nests)
+pub shallow_nested : (s : SectionMeaning) (m : Meaning) → IsReadSection s → body_of s ≡ Nested m → Shallow NestsVolume m 0
+shallow_nested s m read is = go (subst (λ (b : BodyMeaning). Shallow NestsBody b 0) is (shallow_body s read))
+  where
+    go : Shallow NestsBody (Nested m) 0 → Shallow NestsVolume m 0
+    go (n, fits, (k, is, nests)) = (k, omega (arith, fits, is), nests)
+
+-- ---- a fault that is passed on
+
+-- where nothing is unfit, only memory can be wanting
+pub only_memory : {T U : Type 0} (r : Result T Fault) (f : Fault) → IsErrAnd r (λ g. g ≡ f) → (f ≡ want_of_memory) ⊎ U → (U → ⊥)
+    → IfErr r (λ g. g ≡ want_of_memory)
+only_memory (Ok x) f is err none = absurd is
+only_memory (Err g) f is (inl memory) none = is ∙ memory
+only_memory (Err g) f is (inr unfit) none = absurd (none unfit)
+
+-- what is unfit of a part is unfit of the whole
+pub unfit_passed : {T U : Type 0} (V : Fault → Type 0) (r : Result T Fault) (f : Fault) → IsErrAnd r (λ g. g ≡ f)
+    → (f ≡ want_of_memory) ⊎ U → (U → V f) → IfErr r (λ g. (g ≡ want_of_memory) ⊎ V g)
+unfit_passed V (Ok x) f is err whole = absurd is
+unfit_passed V (Err g) f is (inl memory) whole = inl (is ∙ memory)
+unfit_passed V (Err g) f is (inr unfit) whole = inr (subst V (sym is) (whole unfit))

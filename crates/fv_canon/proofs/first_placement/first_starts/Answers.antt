@@ -1,9 +1,27 @@
-use Rattle.std.proofs.Common.{◌≡◌, ◌+◌, [], ◌∷◌, ◌++◌, length, drop, arith, subst, sym}
+use Rattle.std.proofs.Common.{◌≡◌, ◌+◌, ◌-◌, ◌<◌, ℕ, [], ◌∷◌, ◌++◌, length, get_or, drop, arith, subst, sym}
 use Rattle.std.proofs.lemmas.Grind.{common_steps}
+use Rattle.fv_canon.specs.Reaches.{AreReaches, CanPlace, IsReach, Reaches}
+use Rattle.fv_canon.specs.declared.first_placement.Reach.{Reach}
 use Rattle.fv_canon.proofs.Numbers.{edge_eighth}
 use Rattle.fv_canon.proofs.FirstPlaces.{whole_can, next_reach, none_here, first_fits}
 use Rattle.fv_canon.proofs.PlaceLaws.{Forward, forward_at, forward_end}
+use Rattle.fv_canon.proofs.first_placement.first_starts.Goals.{In-Some}
 use Rattle.fv_canon.proofs.first_placement.first_starts.Goals as goal
+
+-- the reaches of the files from each on, one more than there are files
+found : (c : In-Some) → AreReaches c.args.total c.args.parts.now c.in-Some.found.items
+    × (length c.in-Some.found.items ≡ length c.args.parts.now + 1)
+found c = let ensured = rw c.in-Some.is at c.in_ok-reaches_from.ensures in (ensured.each, omega (arith, c.in-Some.found.ok.0, ensured.len))
+
+-- where the last of them allows it, all files can be placed after the first edge
+can : (c : In-Some) (r : Reach) → r ≡ get_or c.in-Some.found.items (length c.args.parts.now) r → Reaches r c.args.first
+    → CanPlace c.args.total c.args.first c.args.parts.now
+can c r is reaches = let f = found c in whole_can _ _ _ _ r f.0 f.1 is c.requires.first.0 reaches
+
+-- the reach of the files behind one
+behind : (c : In-Some) (i : ℕ) (r : Reach) → i < length c.args.parts.now
+    → r ≡ get_or c.in-Some.found.items (length c.args.parts.now - 1 - i) r → IsReach c.args.total (drop (i + 1) c.args.parts.now) r
+behind c i r there is = let f = found c in next_reach _ _ _ i r f.0 f.1 there is
 
 pub returns-in-None-clause-none : goal.returns-in-None-clause-none
 returns-in-None-clause-none c starts p =
@@ -12,10 +30,7 @@ returns-in-None-clause-none c starts p =
 
 pub loop-i-init : goal.loop-i-init
 loop-i-init c =
-    let ensured = rw c.in-Some.is at c.in_ok-reaches_from.ensures in
-    let lens : length c.in-Some.found.items ≡ length c.args.parts.now + 1 = omega (arith, c.in-Some.found.ok.0, ensured.len) in
-    let can = whole_can c.args.total c.args.first c.args.parts.now c.in-Some.found.items c.index-whole.result.now ensured.each lens
-    c.index-whole.ensures c.requires.first.0 (c.reaches.ensures.0 c.if-not-reaches.false) in
+    let can = can (goal.at.loop-i-init c).In-Some _ c.index-whole.ensures (c.reaches.ensures.0 c.if-not-reaches.false) in
     record {
       eighth = c.requires.first.0;
       within = can.room;
@@ -25,56 +40,35 @@ loop-i-init c =
 
 pub returns-in-None-first_start-clause-none : goal.returns-in-None-first_start-clause-none
 returns-in-None-first_start-clause-none c starts p =
-    let ensured = rw c.in-Some.is at c.in_ok-reaches_from.ensures in
-    let lens : length c.in-Some.found.items ≡ length c.args.parts.now + 1 = omega (arith, c.in-Some.found.ok.0, ensured.len) in
-    let behind = next_reach c.args.total c.args.parts.now c.in-Some.found.items c.loop-i.i c.index-behind.result.now ensured.each lens
-    c.loop-i-test.true c.index-behind.ensures in
+    let behind = behind (goal.at.returns-in-None-first_start-clause-none c).In-Some c.loop-i.i _ c.loop-i-test.true c.index-behind.ensures in
     none_here c.args.total c.loop-i.edge c.args.parts.now c.loop-i.i _ c.index-behind.result.now c.loop-i-test.true c.requires.total.1
     behind c.loop-i.invariant.forward.can c.in-None-first_start.ensures.none
 
 pub overflow_add-start : goal.overflow_add-start
 overflow_add-start c =
-    let ensured = rw c.in-Some.is at c.in_ok-reaches_from.ensures in
-    let lens : length c.in-Some.found.items ≡ length c.args.parts.now + 1 = omega (arith, c.in-Some.found.ok.0, ensured.len) in
-    let behind = next_reach c.args.total c.args.parts.now c.in-Some.found.items c.loop-i.i c.index-behind.result.now ensured.each lens
-    c.loop-i-test.true c.index-behind.ensures in
-    let fits = first_fits c.args.total (drop (c.loop-i.i + 1) c.args.parts.now) _ c.index-behind.result.now c.in-Some-first_start.start
-    behind c.in-Some-first_start.ensures.found.serves in
-    omega (arith, fits)
+    let behind = behind (goal.at.overflow_add-start c).In-Some c.loop-i.i _ c.loop-i-test.true c.index-behind.ensures in
+    omega (arith, first_fits _ _ _ _ _ behind c.in-Some-first_start.ensures.found.serves)
 
 pub up_to_8-edge-requires : goal.up_to_8-edge-requires
 up_to_8-edge-requires c =
-    let ensured = rw c.in-Some.is at c.in_ok-reaches_from.ensures in
-    let lens : length c.in-Some.found.items ≡ length c.args.parts.now + 1 = omega (arith, c.in-Some.found.ok.0, ensured.len) in
-    let behind = next_reach c.args.total c.args.parts.now c.in-Some.found.items c.loop-i.i c.index-behind.result.now ensured.each lens
-    c.loop-i-test.true c.index-behind.ensures in
-    let fits = first_fits c.args.total (drop (c.loop-i.i + 1) c.args.parts.now) _ c.index-behind.result.now c.in-Some-first_start.start
-    behind c.in-Some-first_start.ensures.found.serves in
-    omega (arith, fits)
+    let behind = behind (goal.at.up_to_8-edge-requires c).In-Some c.loop-i.i _ c.loop-i-test.true c.index-behind.ensures in
+    omega (arith, first_fits _ _ _ _ _ behind c.in-Some-first_start.ensures.found.serves)
 
 pub loop-i-preserved : goal.loop-i-preserved
 loop-i-preserved c =
-    let ensured = rw c.in-Some.is at c.in_ok-reaches_from.ensures in
-    let lens : length c.in-Some.found.items ≡ length c.args.parts.now + 1 = omega (arith, c.in-Some.found.ok.0, ensured.len) in
-    let behind = next_reach c.args.total c.args.parts.now c.in-Some.found.items c.loop-i.i c.index-behind.result.now ensured.each lens
-    c.loop-i-test.true c.index-behind.ensures in
-    let fits = first_fits c.args.total (drop (c.loop-i.i + 1) c.args.parts.now) _ c.index-behind.result.now c.in-Some-first_start.start
-    behind c.in-Some-first_start.ensures.found.serves in
+    let behind = behind (goal.at.loop-i-preserved c).In-Some c.loop-i.i _ c.loop-i-test.true c.index-behind.ensures in
     let pushed : c.push.new.self.items ≡ c.loop-i.starts.items ++ c.in-Some-first_start.start ∷ [] = grind (arith, common_steps) in
     let on = forward_at c.args.total c.args.first c.args.parts.now c.loop-i.edge c.loop-i.i _ c.index-behind.result.now
     c.loop-i.starts.items c.in-Some-first_start.start c.loop-i-test.true c.requires.total.1 behind c.loop-i.invariant.forward
     c.in-Some-first_start.ensures.found in
     record {
       eighth = rw c.up_to_8-edge.ensures (edge_eighth _);
-      within = rw c.up_to_8-edge.ensures fits;
+      within = rw c.up_to_8-edge.ensures (first_fits _ _ _ _ _ behind c.in-Some-first_start.ensures.found.serves);
       forward = rw (c.up_to_8-edge.ensures, pushed) on;
     }
 
 pub returns-clause-found : goal.returns-clause-found
 returns-clause-found c =
-    let ensured = rw c.in-Some.is at c.in_ok-reaches_from.ensures in
-    let lens : length c.in-Some.found.items ≡ length c.args.parts.now + 1 = omega (arith, c.in-Some.found.ok.0, ensured.len) in
-    let can = whole_can c.args.total c.args.first c.args.parts.now c.in-Some.found.items c.index-whole.result.now ensured.each lens
-    c.index-whole.ensures c.requires.first.0 (c.reaches.ensures.0 c.if-not-reaches.false) in
+    let can = can (goal.at.returns-clause-found c).In-Some _ c.index-whole.ensures (c.reaches.ensures.0 c.if-not-reaches.false) in
     forward_end c.args.total c.args.first c.args.parts.now c.loop-i.edge c.loop-i.i c.loop-i.starts.items c.loop-i-test.false can.room
     c.loop-i.invariant.forward

@@ -1,7 +1,5 @@
-use Rattle.std.proofs.Common.{inl, inr}
-use Rattle.std.proofs.lemmas.Result.{err_from_is_err_and}
 use Rattle.fv_canon.proofs.FitLaws.{unfit_none}
-use Rattle.fv_canon.proofs.GrowLaws.{shallow_volume}
+use Rattle.fv_canon.proofs.GrowLaws.{only_memory, shallow_volume}
 use Rattle.fv_canon.proofs.LayoutLaws.{layout_is, one_layout, own_first}
 use Rattle.fv_canon.proofs.layout_walk.layout.Goals as goal
 
@@ -14,21 +12,12 @@ returns-clause-layout c =
     c.files-own.ensures c.new-starts.ensures.items c.in_ok-lay_volume.ensures.ok c.new.ensures.own c.new.ensures.inner
 
 pub returns-clause-only : goal.returns-clause-only
-returns-clause-only c starts laid =
-    let is = layout_is c.args.view.now c.files-own.result.now c.new-starts.result.items c.lay_volume.new.starts.items c.new.result
-    c.files-own.ensures c.new-starts.ensures.items c.in_ok-lay_volume.ensures.ok c.new.ensures.own c.new.ensures.inner in
-    one_layout c.args.view.now starts _ laid is.0
+returns-clause-only c starts laid = one_layout c.args.view.now starts _ laid (returns-clause-layout c).0
 
 pub returns-clause-least : goal.returns-clause-least
-returns-clause-least c =
-    let is = layout_is c.args.view.now c.files-own.result.now c.new-starts.result.items c.lay_volume.new.starts.items c.new.result
-    c.files-own.ensures c.new-starts.ensures.items c.in_ok-lay_volume.ensures.ok c.new.ensures.own c.new.ensures.inner in
-    (own_first c.args.view.now c.new.result is).least
+returns-clause-least c = (own_first c.args.view.now c.new.result (returns-clause-layout c)).least
 
 pub returns-in_err-lay_volume-clause-fits : goal.returns-in_err-lay_volume-clause-fits
 returns-in_err-lay_volume-clause-fits c fit =
-    let p = err_from_is_err_and c.from_residual.result c.from_residual.ensures.1 in
-    rw (p.1, p.2) (elim c.in_err-lay_volume.ensures.err [
-      | inl memory ↦ memory
-      | inr unfit ↦ absurd (unfit_none c.args.view.now 0 c.in_err-lay_volume.field-0.0 unfit fit)
-    ])
+    only_memory c.from_residual.result _ c.from_residual.ensures.1 c.in_err-lay_volume.ensures.err
+    (λ unfit. unfit_none c.args.view.now 0 _ unfit fit)

@@ -1,4 +1,3 @@
-use Rattle.std.proofs.Common.{◌≡◌, ◌∙◌, ℕ, List, subst, sym}
 use Rattle.std.proofs.lemmas.Result.{IfOk-weaker}
 use Rattle.fv_tree.specs.Meaning.{body_of}
 use Rattle.fv_canon.specs.Image.{IsBodyImage}
@@ -11,16 +10,11 @@ pub returns-clause-body : goal.returns-clause-body
 returns-clause-body c =
     let m = body_of c.args.section.now in
     let starts = c.in_ok-starts.starts.items in
-    let is = body_is c.args.section.now starts c.kind-kind.ensures.read c.in_ok-starts.ensures.ok in
-    IfOk-weaker c.finish.result _ (IsBodyImage m) (λ o same. subst (IsBodyImage m) (sym same) is)
-    (kept_text body_image _ m _ starts _ _ _ _ c.finish.result c.body.ensures c.as_slice.ensures.value c.in_ok-out.ensures
-    c.put_section_body.ensures c.finish.ensures.ok)
+    kept_text (IsBodyImage m) body_image _ m _ starts _ _ _ _ c.finish.result
+    (body_is c.args.section.now starts c.kind-kind.ensures.read c.in_ok-starts.ensures.ok) c.body.ensures c.as_slice.ensures.value
+    c.in_ok-out.ensures c.put_section_body.ensures c.finish.ensures.ok
 
 pub returns-clause-only : goal.returns-clause-only
-returns-clause-only c = λ other image.
+returns-clause-only c other image =
     let m = body_of c.args.section.now in
-    let starts = c.in_ok-starts.starts.items in
-    let is = body_is c.args.section.now starts c.kind-kind.ensures.read c.in_ok-starts.ensures.ok in
-    IfOk-weaker c.finish.result _ (λ (o : List ℕ). o ≡ other) (λ o same. same ∙ body_one m (body_image m starts) other is image)
-    (kept_text body_image _ m _ starts _ _ _ _ c.finish.result c.body.ensures c.as_slice.ensures.value c.in_ok-out.ensures
-    c.put_section_body.ensures c.finish.ensures.ok)
+    IfOk-weaker c.finish.result (IsBodyImage m) _ (λ o is. body_one m o other is image) (returns-clause-body c)

@@ -1,4 +1,3 @@
-use Rattle.std.proofs.Common.{◌≡◌, ◌∙◌, ℕ, List, subst, sym}
 use Rattle.std.proofs.lemmas.Result.{IfOk-weaker}
 use Rattle.fv_tree.specs.Meaning.{content_of}
 use Rattle.fv_canon.specs.Image.{IsData}
@@ -11,16 +10,11 @@ pub returns-clause-data : goal.returns-clause-data
 returns-clause-data c =
     let m = content_of c.args.file.now in
     let starts = c.in_ok-starts.starts.items in
-    let is = data_is c.args.file.now starts c.name-name.ensures.read c.in_ok-starts.ensures.ok in
-    IfOk-weaker c.finish.result _ (IsData m) (λ o same. subst (IsData m) (sym same) is)
-    (kept_text data_of _ m _ starts _ _ _ _ c.finish.result c.content.ensures c.as_slice.ensures.value c.in_ok-out.ensures
-    c.put_data.ensures c.finish.ensures.ok)
+    kept_text (IsData m) data_of _ m _ starts _ _ _ _ c.finish.result
+    (data_is c.args.file.now starts c.name-name.ensures.read c.in_ok-starts.ensures.ok) c.content.ensures c.as_slice.ensures.value
+    c.in_ok-out.ensures c.put_data.ensures c.finish.ensures.ok
 
 pub returns-clause-only : goal.returns-clause-only
-returns-clause-only c = λ other image.
+returns-clause-only c other image =
     let m = content_of c.args.file.now in
-    let starts = c.in_ok-starts.starts.items in
-    let is = data_is c.args.file.now starts c.name-name.ensures.read c.in_ok-starts.ensures.ok in
-    IfOk-weaker c.finish.result _ (λ (o : List ℕ). o ≡ other) (λ o same. same ∙ data_one m (data_of m starts) other is image)
-    (kept_text data_of _ m _ starts _ _ _ _ c.finish.result c.content.ensures c.as_slice.ensures.value c.in_ok-out.ensures
-    c.put_data.ensures c.finish.ensures.ok)
+    IfOk-weaker c.finish.result (IsData m) _ (λ o is. data_one m o other is image) (returns-clause-data c)
