@@ -1,5 +1,4 @@
-use Rattle.std.proofs.Common.{◌≡◌, ℕ, List, length, map, [], ◌∷◌, ◌++◌, take, sym, ap, ◌∙◌, subst, arith, rules, inl, inr, refl}
-use Rattle.std.proofs.Common.{true}
+use Rattle.std.proofs.Common.{◌≡◌, ℕ, List, map, [], ◌∷◌, ◌++◌, take, sym, ap, ◌∙◌, subst, arith, rules, inl, inr, refl}
 use Rattle.std.specs.Prelude.{◌⊎◌, Result, Ok, Err, IfErr, IsErrAnd}
 use Rattle.fv_base.specs.Faults.{want_of_memory}
 use Rattle.fv_base.specs.Checks.{IsFirstFault}

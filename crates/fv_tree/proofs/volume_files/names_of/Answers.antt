@@ -1,4 +1,4 @@
-use Rattle.std.proofs.Common.{◌∙◌, ap, inr, [], take, drop, get_or, map, List, ◌+◌}
+use Rattle.std.proofs.Common.{◌∙◌, ap, inr, take, drop, get_or, map, List, ◌+◌}
 use Rattle.std.proofs.lemmas.Result.{err_from_is_err_and}
 use Rattle.std.specs.Prelude.{not, cond, true}
 use Rattle.std.specs.BTreeMap.{is_at}
