@@ -8,12 +8,7 @@ use Rattle.fv_head.proofs.ext_image.len_of_entries.Goals as goal
 one_more : (c : After-payload) → c.loop-entry.len + (4 + length c.payload.result.now)
     + entries_len (drop (c.loop-entry.entry-index + 1) c.args.entries.now) ≡ entries_len c.args.entries.now
 one_more c =
-    omega (
-      arith,
-      entries_len_step c.args.entries.now _ c.entry-item.result c.loop-entry-test.true c.entry-item.is,
-      ap length c.payload.ensures,
-      c.loop-entry.invariant,
-    )
+    omega (arith, entries_len_step _ _ _ c.loop-entry-test.true c.entry-item.is, ap length c.payload.ensures, c.loop-entry.invariant)
 
 pub overflow_cast-len : goal.overflow_cast-len
 overflow_cast-len c = omega (arith, one_more (goal.at.overflow_cast-len c).After-payload)
