@@ -159,6 +159,7 @@ all_push : (names : List Guid) (name : Guid) → AllByRecursion IsName names →
 all_push [] name all whole = (whole, tt)
 all_push (m ∷ names) name all whole = (all.0, all_push names name all.1 whole)
 
+-- what a loop over files reads past their end
 abbrev pub no_file : Standing
 no_file = record {
   offset = 0;

@@ -2,6 +2,8 @@
 use Rattle.std.proofs.Common.{◌≡◌, ℕ, zero, suc, ◌+◌, ◌<◌, ◌≤◌, List, [], ◌∷◌, ◌++◌, length, take, drop, get_or, map, refl, sym, ap, ◌∙◌}
 use Rattle.std.proofs.Common.{subst, arith}
 use Rattle.std.proofs.lemmas.List.{take-append-drop, drop_more, take_more, take_all, length-map, get_or-map}
+use Rattle.std.specs.List.{AllByRecursion}
+use Rattle.fv_base.proofs.Laws.{at_index}
 use Rattle.fv_tree.specs.Denotes.{Pairs}
 use Rattle.fv_tree.specs.FirstFault.{FirstOf}
 
@@ -48,16 +50,20 @@ seam xs i d l = sym (take-append-drop i xs) ∙ ap (λ r. take i xs ++ r) (drop_
 -- ---- what a loop over some items knows, which stand for others
 
 module _ {A B X : Type 0} (R : A → B → Type 0) (form : X → A) (items : List X) (i : ℕ) (d : X) where
-  pub in_items : (xs : List A) → map form items ≡ xs → i < length items → i < length xs
-  in_items xs e l = omega (arith, ap length e, length-map items form)
+  in_items : i < length items → i < length (map form items)
+  in_items l = omega (arith, l, length-map items form)
 
-  pub item_is : (xs : List A) → map form items ≡ xs → i < length items → get_or xs i (form d) ≡ form (get_or items i d)
-  item_is xs e l = ap (λ ys. get_or ys i (form d)) (sym e) ∙ get_or-map form items i d (form d) l
+  item_is : i < length items → get_or (map form items) i (form d) ≡ form (get_or items i d)
+  item_is l = get_or-map form items i d (form d) l
+
+  -- what holds of each
+  pub of_item : (P : A → Type 0) → AllByRecursion P (map form items) → i < length items → P (form (get_or items i d))
+  of_item P all l = subst P (item_is l) (at_index P (map form items) i (form d) all (in_items l))
 
   one_more : i < length items → take (i + 1) (map form items) ≡ take i (map form items) ++ form (get_or items i d) ∷ []
   one_more l =
-      take_more (map form items) i (form d) (in_items (map form items) refl l)
-      ∙ ap (λ f. take i (map form items) ++ f ∷ []) (item_is (map form items) refl l)
+      take_more (map form items) i (form d) (in_items l)
+      ∙ ap (λ f. take i (map form items) ++ f ∷ []) (item_is l)
 
   -- the item at i is read
   pub kept_pairs : (ys new : List B) (y : B) → i < length items → Pairs R (take i (map form items)) ys
@@ -76,26 +82,30 @@ module _ {A B X : Type 0} (R : A → B → Type 0) (form : X → A) (items : Lis
       pairs_only R (take i (map form items)) ys (form (get_or items i d)) y only one zs (subst P (one_more l) h) ∙ sym e
 
   -- it is refused
-  pub unread : (xs : List A) → map form items ≡ xs → i < length items → ((y : B) → R (form (get_or items i d)) y → ⊥) → (zs : List B)
-      → Pairs R xs zs → ⊥
-  unread xs e l bad zs h =
-      pairs_none R xs i (form d) zs (in_items xs e l) (λ y r. bad y (let P : A → Type 0 = λ x. R x y in subst P (item_is xs e l) r)) h
+  pub unread : i < length items → ((y : B) → R (form (get_or items i d)) y → ⊥) → (zs : List B) → Pairs R (map form items) zs → ⊥
+  unread l bad zs h =
+      pairs_none R (map form items) i (form d) zs (in_items l)
+      (λ y r. bad y (let P : A → Type 0 = λ x. R x y in subst P (item_is l) r)) h
 
-  pub first_refused : (fault : A → Type 0) (xs : List A) (ys : List B) → map form items ≡ xs → i < length items
-      → Pairs R (take i (map form items)) ys
-      → fault (form (get_or items i d)) → FirstOf R fault xs
-  first_refused fault xs ys e l pairs bad =
-      let P : List A → Type 0 = λ zs. Pairs R (take i zs) ys in (
-        take i xs,
-        get_or xs i (form d),
-        drop (i + 1) xs,
-        ys,
-        seam xs i (form d) (in_items xs e l),
-        subst P e pairs,
-        subst fault (sym
-            (item_is xs e l)) bad,
-      )
+  pub first_refused : (fault : A → Type 0) (ys : List B) → i < length items → Pairs R (take i (map form items)) ys
+      → fault (form (get_or items i d)) → FirstOf R fault (map form items)
+  first_refused fault ys l pairs bad = (
+    take i (map form items),
+    get_or (map form items) i (form d),
+    drop (i + 1) (map form items),
+    ys,
+    seam (map form items) i (form d) (in_items l),
+    pairs,
+    subst fault (sym (item_is l)) bad,
+  )
 
   -- all are read
-  pub all_items : (xs : List A) → map form items ≡ xs → length items ≤ i → take i (map form items) ≡ xs
-  all_items xs e l = take_all i (map form items) (omega (arith, length-map items form)) ∙ e
+  all_items : length items ≤ i → take i (map form items) ≡ map form items
+  all_items l = take_all i (map form items) (omega (arith, length-map items form))
+
+  pub all_pairs : (ys : List B) → length items ≤ i → Pairs R (take i (map form items)) ys → Pairs R (map form items) ys
+  all_pairs ys l pairs = subst (λ xs. Pairs R xs ys) (all_items l) pairs
+
+  pub all_only : (ys : List B) → length items ≤ i → ((zs : List B) → Pairs R (take i (map form items)) zs → zs ≡ ys) → (zs : List B)
+      → Pairs R (map form items) zs → zs ≡ ys
+  all_only ys l one zs h = one zs (subst (λ xs. Pairs R xs zs) (sym (all_items l)) h)

@@ -15,5 +15,4 @@ pub returns-clause-again : goal.returns-clause-again
 returns-clause-again c =
     let x = c.args.ext.now in
     IfOk-weaker c.finish.result _ (IsExt x) (λ bytes same. subst (IsExt x) (sym same) (ext_again x c.args.used c.len_of_ext.ensures.read).0)
-    (kept_whole _ _ (ext_spelled x c.args.used) _ _ c.finish.result c.in_ok-out.ensures.0 c.in_ok-out.ensures.1
-    c.put_ext.ensures.bytes c.finish.ensures.ok)
+    (returns-clause-bytes c)

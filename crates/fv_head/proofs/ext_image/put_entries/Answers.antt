@@ -4,19 +4,16 @@ use Rattle.fv_head.proofs.ExtSpelled.{entries_len_step, entries_step, entries_en
 use Rattle.fv_head.proofs.ext_image.put_entries.Goals as goal
 
 pub put_entry-requires : goal.put_entry-requires
-put_entry-requires g c =
-    let step = entries_len_step c.args.entries.now c.loop-entry.entry-index c.entry-item.result c.loop-entry-test.true c.entry-item.is in
-    omega (arith, step, c.loop-entry.invariant.3)
+put_entry-requires g c = omega (arith, entries_len_step _ _ _ c.loop-entry-test.true c.entry-item.is, c.loop-entry.invariant.3)
 
 pub loop-entry-preserved : goal.loop-entry-preserved
 loop-entry-preserved g c =
     let inv = c.loop-entry.invariant in
-    let e = c.entry-item.result in
-    let step = entries_len_step c.args.entries.now c.loop-entry.entry-index e c.loop-entry-test.true c.entry-item.is in (
+    let e = c.entry-item.result in (
       inv.0 ++ entry_bytes c.args.used e,
       g.S.Sink.laws.joined _ _ _ inv.0 (entry_bytes c.args.used e) inv.1 c.put_entry.ensures,
-      entries_step c.args.used inv.0 c.args.entries.now c.loop-entry.entry-index e c.loop-entry-test.true c.entry-item.is inv.2,
-      omega (arith, step, inv.3),
+      entries_step c.args.used inv.0 _ _ e c.loop-entry-test.true c.entry-item.is inv.2,
+      omega (arith, entries_len_step _ _ e c.loop-entry-test.true c.entry-item.is, inv.3),
     )
 
 pub returns : goal.returns

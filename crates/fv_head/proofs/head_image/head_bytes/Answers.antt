@@ -1,25 +1,30 @@
 use Rattle.std.proofs.Common.{◌≡◌, ◌∙◌, ◌++◌, ◌≤◌, ℕ, List, length, subst, sym}
+use Rattle.std.specs.Prelude.{IfOk}
 use Rattle.std.proofs.lemmas.Result.{IfOk-weaker}
 use Rattle.fv_base.proofs.KeptLemmas.{kept_whole}
 use Rattle.fv_head.specs.Head.{IsCanonicalHead, BeginsVolume, extent_of}
 use Rattle.fv_head.specs.HeadImage.{canonical_head}
 use Rattle.fv_head.specs.ExtImage.{CanonicalRest, canonical_end, canonical_first}
 use Rattle.fv_head.proofs.SpelledLemmas.{canonical_is, canonical_only, canonical_front}
+use Rattle.fv_head.proofs.head_image.head_bytes.Goals.{After-finish}
 use Rattle.fv_head.proofs.head_image.head_bytes.Goals as goal
+
+-- what is put is the head of the canonical image
+is_head : (c : After-finish) → IfOk c.finish.result (λ bytes. bytes ≡ canonical_head c.args.head.now)
+is_head c =
+    kept_whole _ _ (canonical_head c.args.head.now) _ _ c.finish.result c.in_ok-out.ensures.0 c.in_ok-out.ensures.1
+    c.put_head.ensures.bytes c.finish.ensures.ok
 
 pub returns-clause-head : goal.returns-clause-head
 returns-clause-head c =
     let h = c.args.head.now in
     IfOk-weaker c.finish.result _ (IsCanonicalHead h)
-    (λ bytes same. subst (IsCanonicalHead h) (sym same) (canonical_is h c.header_len.ensures.read)) (kept_whole _ _ (canonical_head h) _ _
-    c.finish.result c.in_ok-out.ensures.0 c.in_ok-out.ensures.1 c.put_head.ensures.bytes c.finish.ensures.ok)
+    (λ bytes same. subst (IsCanonicalHead h) (sym same) (canonical_is h c.header_len.ensures.read)) (is_head c)
 
 pub returns-clause-only : goal.returns-clause-only
 returns-clause-only c = λ other canonical.
-    let h = c.args.head.now in
-    IfOk-weaker c.finish.result _ (λ bytes. bytes ≡ other) (λ bytes same. same ∙ sym (canonical_only h other canonical))
-    (kept_whole _ _ (canonical_head h) _ _ c.finish.result c.in_ok-out.ensures.0 c.in_ok-out.ensures.1
-    c.put_head.ensures.bytes c.finish.ensures.ok)
+    IfOk-weaker c.finish.result _ (λ bytes. bytes ≡ other) (λ bytes same. same ∙ sym (canonical_only c.args.head.now other canonical))
+    (is_head c)
 
 pub returns-clause-again : goal.returns-clause-again
 returns-clause-again c =
@@ -27,7 +32,5 @@ returns-clause-again c =
     let again : List ℕ → Type 0 = λ bytes.
     (rest : List ℕ) → CanonicalRest h.ext rest → canonical_end h h.ext ≤ h.length → h.length ≤ length (bytes ++ rest)
     → BeginsVolume h (extent_of h (canonical_first h h.ext)) (bytes ++ rest) in
-    IfOk-weaker c.finish.result _ again
-    (λ bytes same. subst again (sym same)
-    (λ rest there fits long. canonical_front h rest c.header_len.ensures.read c.put_head.ensures.ext there fits long)) (kept_whole _ _
-    (canonical_head h) _ _ c.finish.result c.in_ok-out.ensures.0 c.in_ok-out.ensures.1 c.put_head.ensures.bytes c.finish.ensures.ok)
+    IfOk-weaker c.finish.result _ again (λ bytes same. subst again (sym same)
+    (λ rest there fits long. canonical_front h rest c.header_len.ensures.read c.put_head.ensures.ext there fits long)) (is_head c)

@@ -11,18 +11,17 @@ behind-next-requires c = stands_within _ _ _ (rw c.in-Some.is at c.in_ok-frame.e
 
 pub loop-list-preserved : goal.loop-list-preserved
 loop-list-preserved c =
-    let stands = rw c.in-Some.is at c.in_ok-frame.ensures.found in
     let items : c.push.new.self.items ≡ c.loop-list.list.items ++ c.in-Some.frame ∷ [] = search rules in
     record {
       split = kept c.args.stream.now c.loop-list.list.items c.push.new.self.items c.in-Some.frame c.loop-list.tail c.loop-list.at _ _
-          c.loop-list.invariant.split c.loop-list.invariant.even stands items c.behind-next.ensures.next c.behind-next.ensures.left;
+          c.loop-list.invariant.split c.loop-list.invariant.even (rw c.in-Some.is at c.in_ok-frame.ensures.found) items
+          c.behind-next.ensures.next c.behind-next.ensures.left;
       even = omega (arith, c.behind-next.ensures.next);
     }
 
 pub loop-list-smaller : goal.loop-list-smaller
 loop-list-smaller c =
-    let stands = rw c.in-Some.is at c.in_ok-frame.ensures.found in
-    grows c.args.stream.now c.in-Some.frame c.loop-list.at _ stands c.behind-next.ensures.next
+    grows c.args.stream.now c.in-Some.frame c.loop-list.at _ (rw c.in-Some.is at c.in_ok-frame.ensures.found) c.behind-next.ensures.next
 
 pub returns-in_err-frame-clause-first : goal.returns-in_err-frame-clause-first
 returns-in_err-frame-clause-first c =
@@ -37,5 +36,5 @@ returns-in_err-frame-clause-bound c =
 
 pub returns-clause-found : goal.returns-clause-found
 returns-clause-found c =
-    let past = rw c.in_default.is at c.in_ok-frame.ensures.past in
-    rw c.from_parts.ensures (whole_of c.args.stream.now _ c.loop-list.tail c.loop-list.at c.loop-list.invariant.split past)
+    rw c.from_parts.ensures (whole_of c.args.stream.now _ c.loop-list.tail c.loop-list.at c.loop-list.invariant.split
+    (rw c.in_default.is at c.in_ok-frame.ensures.past))

@@ -1,58 +1,44 @@
-use Rattle.std.proofs.Common.{◌≡◌, ◌<◌, ◌≤◌, ℕ, List, length, map, [], ◌∷◌, ◌++◌, take, sym, ap, ◌∙◌, subst, arith, rules, inl, inr, refl}
-use Rattle.std.proofs.Common.{true}
-use Rattle.std.specs.Prelude.{◌⊎◌}
+use Rattle.std.proofs.Common.{◌≡◌, ℕ, List, map, [], ◌∷◌, ◌++◌, take, sym, ap, ◌∙◌, subst, arith, rules, inl, inr, refl}
+use Rattle.std.specs.Prelude.{◌⊎◌, Result, Ok, Err, IfErr, IsErrAnd}
 use Rattle.fv_base.specs.Faults.{want_of_memory}
-use Rattle.std.proofs.lemmas.Result.{err_from_is_err_and}
 use Rattle.fv_base.specs.Checks.{IsFirstFault}
 use Rattle.fv_base.specs.declared.fault.Fault.{Fault}
-use Rattle.fv_base.proofs.Laws.{at_index, bytes_take}
+use Rattle.fv_base.proofs.Laws.{bytes_take}
 use Rattle.fv_base.specs.Value.{IsBytes}
-use Rattle.fv_file.specs.declared.state.FileState.TheVariants as states
 use Rattle.fv_head.specs.Head.{HeadFields, BeginsVolume}
 use Rattle.fv_head.specs.HeadChecks.{head_checks}
 use Rattle.fv_head.specs.declared.extent.Extent.{Extent}
 use Rattle.fv_section.specs.Frames.{FrameForm}
 use Rattle.fv_section.specs.FrameForms as framed
 use Rattle.fv_section.proofs.Laws.{grows, stands_within, none_after}
-use Rattle.fv_tree.specs.ReadingParts.{IsReadyFile, AllStored}
-use Rattle.fv_tree.specs.Denotes.{Pairs, MeansFile, Stream, Denotes, holds_sections}
+use Rattle.fv_tree.specs.ReadingParts.{IsReadyFile}
+use Rattle.fv_tree.specs.Denotes.{MeansFile, MeansSection, Stream}
 use Rattle.fv_tree.specs.Files.{FileForm}
-use Rattle.fv_tree.specs.FirstFault.{FileFirst, FirstInStream, FirstOf}
-use Rattle.fv_tree.specs.Meaning.{Meaning, FileMeaning, Section, Group, Nested, sections_from}
+use Rattle.fv_tree.specs.FirstFault.{FileFirst, FirstInStream}
+use Rattle.fv_tree.specs.Meaning.{Meaning, File, Section, Group, Nested, sections_from}
 use Rattle.fv_tree.specs.StandingForms.{file_form}
 use Rattle.fv_tree.specs.Views.{content_view}
-use Rattle.fv_tree.specs.declared.volume_files.Standing.{Standing}
 use Rattle.fv_tree.proofs.BodyLaws.{body_found, body_only, body_none, files_none, stand_first, files_first}
 use Rattle.fv_tree.proofs.FileLaws.{stream_reads, file_found, file_one, stream_bad}
 use Rattle.fv_tree.proofs.Lengths.{body_long, content_long}
-use Rattle.fv_tree.proofs.Lists.{pairs_empty, in_items, item_is, kept_pairs, kept_only, unread, first_refused, all_items}
+use Rattle.fv_tree.proofs.Lists.{pairs_empty, of_item, kept_pairs, kept_only, unread, first_refused, all_pairs, all_only}
 use Rattle.fv_tree.proofs.SectionLaws.{leaf_shape, group_shape, volume_shape, leaf_is, leaf_only, group_found, group_one, group_bad}
 use Rattle.fv_tree.proofs.SectionLaws.{group_first, nested_found, nested_one, nested_bad, nested_first, deep_bad, deep_fault}
 use Rattle.fv_tree.proofs.StreamLaws.{stands_ready, uncut_first, walk_begun, walk_more, walk_none, walk_first, walk_goes_on}
 use Rattle.fv_tree.proofs.StreamLaws.{walk_found, walk_only}
 use Rattle.fv_tree.proofs.VolumeLaws.{made, no_other, no_files, head_unread, head_known, head_first, body_first}
 use Rattle.fv_tree.proofs.VolumeLaws.{opened_whole}
-use Rattle.fv_tree.proofs.IndexLaws.{read_names}
+use Rattle.fv_tree.proofs.IndexLaws.{no_file, read_names}
 use Rattle.fv_tree.specs.FileNames.{IsIndex}
 use Rattle.fv_base.specs.declared.guid.Guid.{Guid}
+use Rattle.fv_tree.proofs.read.+read.Goals.{read_file-After-without_large-attributes, read_section-In_ok-sections-in-Group}
+use Rattle.fv_tree.proofs.read.+read.Goals.{read_section-In_ok-nested-in-Volume}
 use Rattle.fv_tree.proofs.read.+read.Goals as goal
 
--- what the loop over files reads past the end
-abbrev no_file : Standing
-no_file = record {
-  offset = 0;
-  head = record {
-    name = record { bytes = [] };
-    kind = 0;
-    attributes = record { 0 = 0 };
-    size = 0;
-    header_len = 0;
-    header_sum = 0;
-    file_sum = 0;
-    state = states.Free;
-  };
-  payload = record { ref_ptr = (0, 0); now = [] };
-}
+-- what a `?` returns, of the fault that it passes on
+passed : {T E : Type 0} (P : E → Type 0) (x : E) (r : Result T E) → IsErrAnd r (λ y. y ≡ x) → P x → IfErr r P
+passed P x (Ok v) h p = tt
+passed P x (Err y) h p = subst P (sym h) p
 
 -- ---- files
 
@@ -64,33 +50,26 @@ read_files-loop-file-init t c = record {
 
 pub read_files-read_file-requires : goal.read_files-read_file-requires
 read_files-read_file-requires t c =
-    let i : ℕ = c.loop-file.file-index in
-    let lt : i < length c.args.files.now = c.loop-file-test.true in
-    let lt' = in_items (MeansFile (Stream c.args.left)) file_form c.args.files.now i no_file (map file_form c.args.files.now) refl lt in
-    let item = item_is (MeansFile (Stream c.args.left)) file_form c.args.files.now i no_file (map file_form c.args.files.now) refl lt in
-    let all = subst (IsReadyFile c.args.place.offset) item (at_index (IsReadyFile c.args.place.offset) (map file_form c.args.files.now) i
-    (file_form no_file) c.requires.stored lt') in
+    let all = of_item (MeansFile (Stream c.args.left)) file_form c.args.files.now c.loop-file.file-index no_file
+    (IsReadyFile c.args.place.offset) c.requires.stored c.loop-file-test.true in
     (omega arith, (all.1, (c.requires.depth, (all.0, all.2))))
 
 pub read_files-returns-in_err-view-clause-none : goal.read_files-returns-in_err-view-clause-none
 read_files-returns-in_err-view-clause-none t c =
-    let p = err_from_is_err_and c.from_residual-in_err-view.result c.from_residual-in_err-view.ensures.1 in
-    rw (p.1, p.2) (λ ne ts h. unread (MeansFile (Stream c.args.left)) file_form c.args.files.now c.loop-file.file-index no_file
-    (map file_form c.args.files.now) refl c.loop-file-test.true
+    passed _ _ c.from_residual-in_err-view.result c.from_residual-in_err-view.ensures.1
+    (λ ne ts h. unread (MeansFile (Stream c.args.left)) file_form c.args.files.now c.loop-file.file-index no_file c.loop-file-test.true
     (c.in_err-view.ensures.none ne) ts h)
 
 pub read_files-returns-in_err-view-clause-first : goal.read_files-returns-in_err-view-clause-first
 read_files-returns-in_err-view-clause-first t c =
-    let p = err_from_is_err_and c.from_residual-in_err-view.result c.from_residual-in_err-view.ensures.1 in
-    rw (p.1, p.2) (λ ne. first_refused (MeansFile (Stream c.args.left)) file_form c.args.files.now c.loop-file.file-index no_file
+    passed _ _ c.from_residual-in_err-view.result c.from_residual-in_err-view.ensures.1
+    (λ ne. first_refused (MeansFile (Stream c.args.left)) file_form c.args.files.now c.loop-file.file-index no_file
     (λ f. FileFirst (FirstInStream c.args.left) c.in_err-view.field-0.0 f c.args.place.offset c.args.place.depth)
-    (map file_form c.args.files.now) c.loop-file.views.items refl c.loop-file-test.true
-    c.loop-file.invariant.pairs (c.in_err-view.ensures.first ne))
+    c.loop-file.views.items c.loop-file-test.true c.loop-file.invariant.pairs (c.in_err-view.ensures.first ne))
 
 pub read_files-returns-in_err-push-clause-none : goal.read_files-returns-in_err-push-clause-none
 read_files-returns-in_err-push-clause-none t c =
-    let p = err_from_is_err_and c.from_residual-in_err-push.result c.from_residual-in_err-push.ensures.1 in
-    rw p.1 (λ ne ts h. absurd (ne p.2))
+    passed _ _ c.from_residual-in_err-push.result c.from_residual-in_err-push.ensures.1 (λ ne ts h. absurd (ne refl))
 
 pub read_files-loop-file-preserved : goal.read_files-loop-file-preserved
 read_files-loop-file-preserved t c =
@@ -104,70 +83,61 @@ read_files-loop-file-preserved t c =
 
 pub read_files-returns-clause-found : goal.read_files-returns-clause-found
 read_files-returns-clause-found t c =
-    let past : length c.args.files.now ≤ c.loop-file.file-index = omega arith in
-    let all = all_items (MeansFile (Stream c.args.left)) file_form c.args.files.now c.loop-file.file-index no_file
-    (map file_form c.args.files.now) refl past in
-    subst (λ fs. Pairs (MeansFile (Stream c.args.left)) fs c.loop-file.views.items) all c.loop-file.invariant.pairs
+    all_pairs (MeansFile (Stream c.args.left)) file_form c.args.files.now c.loop-file.file-index no_file c.loop-file.views.items
+    (omega arith) c.loop-file.invariant.pairs
 
 pub read_files-returns-clause-only : goal.read_files-returns-clause-only
 read_files-returns-clause-only t c =
-    let past : length c.args.files.now ≤ c.loop-file.file-index = omega arith in
-    let all = all_items (MeansFile (Stream c.args.left)) file_form c.args.files.now c.loop-file.file-index no_file
-    (map file_form c.args.files.now) refl past in
-    λ ts h. c.loop-file.invariant.one ts (subst (λ fs. Pairs (MeansFile (Stream c.args.left)) fs ts) (sym all) h)
+    all_only (MeansFile (Stream c.args.left)) file_form c.args.files.now c.loop-file.file-index no_file c.loop-file.views.items
+    (omega arith) c.loop-file.invariant.one
 
 -- ---- one file
 
 pub read_content-returns-in_err-sections-clause-none : goal.read_content-returns-in_err-sections-clause-none
 read_content-returns-in_err-sections-clause-none t c =
-    let p = err_from_is_err_and c.from_residual.result c.from_residual.ensures.1 in
-    let holds : holds_sections c.args.file.now.head.kind ≡ true = sym c.holds_sections.ensures ∙ c.if-not-holds_sections.false in
-    rw (p.1, p.2) (λ ne m h. stream_bad c.args.left (file_form c.args.file.now) holds (c.in_err-sections.ensures.none ne) m h)
+    passed _ _ c.from_residual.result c.from_residual.ensures.1 (λ ne m h. stream_bad c.args.left (file_form c.args.file.now)
+    (sym c.holds_sections.ensures ∙ c.if-not-holds_sections.false) (c.in_err-sections.ensures.none ne) m h)
 
 pub read_content-returns-in_err-sections-clause-first : goal.read_content-returns-in_err-sections-clause-first
 read_content-returns-in_err-sections-clause-first t c =
-    let p = err_from_is_err_and c.from_residual.result c.from_residual.ensures.1 in
-    let holds : holds_sections c.args.file.now.head.kind ≡ true = sym c.holds_sections.ensures ∙ c.if-not-holds_sections.false in
     let P : ℕ → Type 0 = λ b. FirstInStream c.args.left c.in_err-sections.field-0.0 c.args.file.now.payload.now b c.args.place.depth in
-    rw (p.1, p.2) (λ ne. (holds, subst P (omega arith) (c.in_err-sections.ensures.first ne)))
+    passed _ _ c.from_residual.result c.from_residual.ensures.1
+    (λ ne. (sym c.holds_sections.ensures ∙ c.if-not-holds_sections.false, subst P (omega arith) (c.in_err-sections.ensures.first ne)))
 
 pub read_content-returns-clause-found : goal.read_content-returns-clause-found
 read_content-returns-clause-found t c =
-    let holds : holds_sections c.args.file.now.head.kind ≡ true = sym c.holds_sections.ensures ∙ c.if-not-holds_sections.false in
-    stream_reads c.args.left (file_form c.args.file.now) c.in_ok-sections.sections.items c.in_ok-sections.tail holds
-    c.in_ok-sections.ensures.found c.in_ok-sections.ensures.only
+    stream_reads c.args.left (file_form c.args.file.now) c.in_ok-sections.sections.items c.in_ok-sections.tail
+    (sym c.holds_sections.ensures ∙ c.if-not-holds_sections.false) c.in_ok-sections.ensures.found c.in_ok-sections.ensures.only
 
 pub read_file-returns-in_err-content-clause-none : goal.read_file-returns-in_err-content-clause-none
 read_file-returns-in_err-content-clause-none t c =
-    let p = err_from_is_err_and c.from_residual.result c.from_residual.ensures.1 in
-    rw (p.1, p.2) c.in_err-content.ensures.none
+    passed _ _ c.from_residual.result c.from_residual.ensures.1 c.in_err-content.ensures.none
 
 pub read_file-returns-in_err-content-clause-first : goal.read_file-returns-in_err-content-clause-first
 read_file-returns-in_err-content-clause-first t c =
-    let p = err_from_is_err_and c.from_residual.result c.from_residual.ensures.1 in
-    rw (p.1, p.2) c.in_err-content.ensures.first
+    passed _ _ c.from_residual.result c.from_residual.ensures.1 c.in_err-content.ensures.first
+
+-- the file means what is made of it
+file_means : (t : ℕ) (c : read_file-After-without_large-attributes t) → MeansFile (Stream c.args.left) (file_form c.args.file.now)
+    (File c.args.file.now.head.name c.args.file.now.head.kind c.without_large-attributes.result.0 (content_view c.in_ok-content.content))
+file_means t c =
+    file_found c.args.left (file_form c.args.file.now) c.without_large-attributes.result.0 (content_view c.in_ok-content.content)
+    c.without_large-attributes.ensures c.in_ok-content.ensures.found
 
 pub read_file-new-requires-clause-read : goal.read_file-new-requires-clause-read
-read_file-new-requires-clause-read t c = (
-  c.args.left,
-  omega arith,
-  file_form c.args.file.now,
-  c.requires.stored,
-  file_found c.args.left (file_form c.args.file.now) c.without_large-attributes.result.0
-      (content_view c.in_ok-content.content) c.without_large-attributes.ensures c.in_ok-content.ensures.found,
-)
+read_file-new-requires-clause-read t c =
+    let means = file_means t (goal.at.read_file-new-requires-clause-read t c).After-without_large-attributes in
+    (c.args.left, omega arith, file_form c.args.file.now, c.requires.stored, means)
 
 pub read_file-new-requires-clause-len : goal.read_file-new-requires-clause-len
 read_file-new-requires-clause-len t c =
     let f : FileForm = file_form c.args.file.now in
     content_long c.args.left f f.head.name f.head.kind c.without_large-attributes.result.0 (content_view c.in_ok-content.content)
-    (file_found c.args.left f c.without_large-attributes.result.0
-    (content_view c.in_ok-content.content) c.without_large-attributes.ensures c.in_ok-content.ensures.found)
+    (file_means t (goal.at.read_file-new-requires-clause-len t c).After-without_large-attributes)
 
 pub read_file-returns-clause-found : goal.read_file-returns-clause-found
 read_file-returns-clause-found t c =
-    rw c.new.ensures (file_found c.args.left (file_form c.args.file.now) c.without_large-attributes.result.0
-    (content_view c.in_ok-content.content) c.without_large-attributes.ensures c.in_ok-content.ensures.found)
+    rw c.new.ensures (file_means t (goal.at.read_file-returns-clause-found t c).After-without_large-attributes)
 
 pub read_file-returns-clause-only : goal.read_file-returns-clause-only
 read_file-returns-clause-only t c = λ m h.
@@ -178,69 +148,48 @@ read_file-returns-clause-only t c = λ m h.
 
 pub read_body-returns-in_err-files-clause-none : goal.read_body-returns-in_err-files-clause-none
 read_body-returns-in_err-files-clause-none t c =
-    let p = err_from_is_err_and c.from_residual.result c.from_residual.ensures.1 in
-    rw (p.1, p.2) (λ ne ts h. files_none (Stream c.args.left) c.args.extent c.args.volume.now (c.in_err-files.ensures.none ne) ts h)
+    passed _ _ c.from_residual.result c.from_residual.ensures.1
+    (λ ne ts h. files_none (Stream c.args.left) c.args.extent c.args.volume.now (c.in_err-files.ensures.none ne) ts h)
 
 pub read_body-returns-in_err-files-clause-first : goal.read_body-returns-in_err-files-clause-first
 read_body-returns-in_err-files-clause-first t c =
-    let p = err_from_is_err_and c.from_residual.result c.from_residual.ensures.1 in
-    rw (p.1, p.2) (λ ne. stand_first (Stream c.args.left) (FirstInStream c.args.left) c.args.extent c.args.volume.now c.args.place.offset
+    passed _ _ c.from_residual.result c.from_residual.ensures.1
+    (λ ne. stand_first (Stream c.args.left) (FirstInStream c.args.left) c.args.extent c.args.volume.now c.args.place.offset
     c.args.place.depth c.in_err-files.field-0.0 (c.in_err-files.ensures.first ne))
 
 pub read_body-read_files-requires : goal.read_body-read_files-requires
 read_body-read_files-requires t c =
-    let same : map file_form c.as_slice.result.now ≡ map file_form c.in_ok-files.files.items =
-    ap (map file_form) c.as_slice.ensures.value in
-    (omega arith, (c.requires.depth, subst (AllStored c.args.place.offset) (sym same) c.in_ok-files.ensures.stored))
+    (omega arith, (c.requires.depth, rw c.as_slice.ensures.value c.in_ok-files.ensures.stored))
 
 pub read_body-returns-in_err-views-clause-none : goal.read_body-returns-in_err-views-clause-none
 read_body-returns-in_err-views-clause-none t c =
-    let p = err_from_is_err_and c.from_residual-in_err-views.result c.from_residual-in_err-views.ensures.1 in
-    let same : map file_form c.as_slice.result.now ≡ map file_form c.in_ok-files.files.items =
-    ap (map file_form) c.as_slice.ensures.value in
-    let S = Stream c.args.left in
-    rw (p.1, p.2) (λ ne. body_none S c.args.extent c.args.volume.now (map file_form c.in_ok-files.files.items) c.in_ok-files.ensures.only
-    (subst (λ (fs : List FileForm). (ts : List FileMeaning) → Pairs (MeansFile S) fs ts → ⊥) same (c.in_err-views.ensures.none ne)))
+    passed _ _ c.from_residual-in_err-views.result c.from_residual-in_err-views.ensures.1
+    (λ ne. body_none (Stream c.args.left) c.args.extent c.args.volume.now (map file_form c.in_ok-files.files.items)
+    c.in_ok-files.ensures.only (rw c.as_slice.ensures.value at (c.in_err-views.ensures.none ne)))
 
 pub read_body-returns-in_err-views-clause-first : goal.read_body-returns-in_err-views-clause-first
 read_body-returns-in_err-views-clause-first t c =
-    let p = err_from_is_err_and c.from_residual-in_err-views.result c.from_residual-in_err-views.ensures.1 in
-    let same : map file_form c.as_slice.result.now ≡ map file_form c.in_ok-files.files.items =
-    ap (map file_form) c.as_slice.ensures.value in
-    let S = Stream c.args.left in
-    let I = FirstInStream c.args.left in
-    let place = c.args.place in
-    let e = c.in_err-views.field-0.0 in
-    rw (p.1, p.2) (λ ne. files_first S I c.args.extent c.args.volume.now place.offset place.depth (map file_form c.in_ok-files.files.items)
-    e c.in_ok-files.ensures.found (subst (λ (fs : List FileForm). FirstOf (MeansFile S) (λ f. FileFirst I e f place.offset place.depth) fs)
-    same (c.in_err-views.ensures.first ne)))
+    passed _ _ c.from_residual-in_err-views.result c.from_residual-in_err-views.ensures.1
+    (λ ne. files_first (Stream c.args.left) (FirstInStream c.args.left) c.args.extent c.args.volume.now c.args.place.offset
+    c.args.place.depth (map file_form c.in_ok-files.files.items) c.in_err-views.field-0.0 c.in_ok-files.ensures.found
+    (rw c.as_slice.ensures.value at (c.in_err-views.ensures.first ne)))
 
 pub read_body-returns-clause-found : goal.read_body-returns-clause-found
 read_body-returns-clause-found t c =
-    let same : map file_form c.as_slice.result.now ≡ map file_form c.in_ok-files.files.items =
-    ap (map file_form) c.as_slice.ensures.value in
-    let S = Stream c.args.left in
-    body_found S c.args.extent c.args.volume.now (map file_form c.in_ok-files.files.items) c.in_ok-views.views.items
-    c.in_ok-files.ensures.found
-    (subst (λ (fs : List FileForm). Pairs (MeansFile S) fs c.in_ok-views.views.items) same c.in_ok-views.ensures.found)
+    body_found (Stream c.args.left) c.args.extent c.args.volume.now (map file_form c.in_ok-files.files.items) c.in_ok-views.views.items
+    c.in_ok-files.ensures.found (rw c.as_slice.ensures.value at c.in_ok-views.ensures.found)
 
 pub read_body-returns-clause-only : goal.read_body-returns-clause-only
 read_body-returns-clause-only t c =
-    let same : map file_form c.as_slice.result.now ≡ map file_form c.in_ok-files.files.items =
-    ap (map file_form) c.as_slice.ensures.value in
-    let S = Stream c.args.left in
-    body_only S c.args.extent c.args.volume.now (map file_form c.in_ok-files.files.items) c.in_ok-files.ensures.only
-    c.in_ok-views.views.items (subst (λ (fs : List FileForm). (ts : List FileMeaning) → Pairs (MeansFile S) fs ts
-    → ts ≡ c.in_ok-views.views.items) same c.in_ok-views.ensures.only)
+    body_only (Stream c.args.left) c.args.extent c.args.volume.now (map file_form c.in_ok-files.files.items) c.in_ok-files.ensures.only
+    c.in_ok-views.views.items (rw c.as_slice.ensures.value at c.in_ok-views.ensures.only)
 
 pub read_body-returns-clause-numbers : goal.read_body-returns-clause-numbers
 read_body-returns-clause-numbers t c =
-    let same : map file_form c.as_slice.result.now ≡ map file_form c.in_ok-files.files.items =
-    ap (map file_form) c.as_slice.ensures.value in
-    let S = Stream c.args.left in
-    let pairs = subst (λ (fs : List FileForm). Pairs (MeansFile S) fs c.in_ok-views.views.items) same c.in_ok-views.ensures.found in
+    let pairs = rw c.as_slice.ensures.value at c.in_ok-views.ensures.found in
     subst (λ (ns : List Guid). IsIndex ns c.in_ok-files.numbers.sorted.items)
-    (sym (read_names S (map file_form c.in_ok-files.files.items) c.in_ok-views.views.items pairs)) c.in_ok-files.ensures.numbers
+    (sym (read_names (Stream c.args.left) (map file_form c.in_ok-files.files.items) c.in_ok-views.views.items pairs))
+    c.in_ok-files.ensures.numbers
 
 -- ---- a volume
 
@@ -253,14 +202,14 @@ read_at-returns-in-Err-clause-none t c = λ ne n m within d.
 
 pub read_at-returns-in_err-files-clause-none : goal.read_at-returns-in_err-files-clause-none
 read_at-returns-in_err-files-clause-none t c =
-    let p = err_from_is_err_and c.from_residual.result c.from_residual.ensures.1 in
-    rw (p.1, p.2) (λ ne n m within d. no_files c.args.left c.args.bytes.now c.in-Ok.read.0 c.in-Ok.read.1 c.in-Ok.ensures.found
+    passed _ _ c.from_residual.result c.from_residual.ensures.1
+    (λ ne n m within d. no_files c.args.left c.args.bytes.now c.in-Ok.read.0 c.in-Ok.read.1 c.in-Ok.ensures.found
     (c.in_err-files.ensures.none ne) n m within d)
 
 pub read_at-returns-in_err-files-clause-first : goal.read_at-returns-in_err-files-clause-first
 read_at-returns-in_err-files-clause-first t c =
-    let p = err_from_is_err_and c.from_residual.result c.from_residual.ensures.1 in
-    rw (p.1, p.2) (λ ne. body_first c.args.left c.args.bytes.now c.in-Ok.read.0 c.in-Ok.read.1 c.in_err-files.field-0.0
+    passed _ _ c.from_residual.result c.from_residual.ensures.1
+    (λ ne. body_first c.args.left c.args.bytes.now c.in-Ok.read.0 c.in-Ok.read.1 c.in_err-files.field-0.0
     c.args.place.offset c.args.place.depth c.in-Ok.ensures.found (c.in_err-files.ensures.first ne))
 
 pub read_at-new-requires-clause-meaning : goal.read_at-new-requires-clause-meaning
@@ -297,20 +246,20 @@ read_stream-loop-sections-smaller t c =
 
 pub read_stream-loop-sections-preserved : goal.read_stream-loop-sections-preserved
 read_stream-loop-sections-preserved t c =
-    let stands = rw c.in-Some.is at c.in_ok-frame.ensures.found in
     let items : c.push.new.self.items ≡ c.loop-sections.sections.items ++ c.in_ok-section.section ∷ [] = search rules in
     record {
       even = omega (arith, c.behind-at.ensures);
       walked = walk_more c.args.left c.args.bytes.now c.loop-sections.at c.behind-at.result c.loop-sections.sections.items
           c.push.new.self.items (framed.frame_form c.in-Some.frame) c.in_ok-section.section c.loop-sections.invariant.walked
-          c.loop-sections.invariant.even stands c.behind-at.ensures c.in_ok-section.ensures.found c.in_ok-section.ensures.only items;
+          c.loop-sections.invariant.even (rw c.in-Some.is at c.in_ok-frame.ensures.found) c.behind-at.ensures
+          c.in_ok-section.ensures.found c.in_ok-section.ensures.only items;
     }
 
 pub read_stream-read_section-requires : goal.read_stream-read_section-requires
 read_stream-read_section-requires t c =
-    let stands = rw c.in-Some.is at c.in_ok-frame.ensures.found in
     let small : IsBytes c.args.bytes.now = search rules in
-    let ready = stands_ready c.args.bytes.now c.loop-sections.at (framed.frame_form c.in-Some.frame) small c.requires.small stands in
+    let ready = stands_ready c.args.bytes.now c.loop-sections.at (framed.frame_form c.in-Some.frame) small c.requires.small
+    (rw c.in-Some.is at c.in_ok-frame.ensures.found) in
     (omega arith, (omega (arith, ready.0, c.requires.place), (c.requires.depth, ready.1)))
 
 pub read_stream-behind-at-requires : goal.read_stream-behind-at-requires
@@ -327,192 +276,163 @@ read_stream-returns-in-Err-clause-first t c = λ ne.
 
 pub read_stream-returns-in_err-frame-clause-none : goal.read_stream-returns-in_err-frame-clause-none
 read_stream-returns-in_err-frame-clause-none t c =
-    let p = err_from_is_err_and c.from_residual-in_err-frame.result c.from_residual-in_err-frame.ensures.1 in
-    rw (p.1, p.2) (λ ne ss tail h. walk_goes_on c.args.left c.args.bytes.now c.loop-sections.at c.loop-sections.sections.items
+    passed _ _ c.from_residual-in_err-frame.result c.from_residual-in_err-frame.ensures.1
+    (λ ne ss tail h. walk_goes_on c.args.left c.args.bytes.now c.loop-sections.at c.loop-sections.sections.items
     c.in_err-frame.field-0.0 h.0 tail c.loop-sections.invariant.walked c.loop-sections.invariant.even h.1
     c.in_err-frame.ensures.place.1 c.in_err-frame.ensures.first)
 
 pub read_stream-returns-in_err-frame-clause-first : goal.read_stream-returns-in_err-frame-clause-first
 read_stream-returns-in_err-frame-clause-first t c =
-    let p = err_from_is_err_and c.from_residual-in_err-frame.result c.from_residual-in_err-frame.ensures.1 in
     let s = c.in-Ok.ensures.found in
-    rw (p.1, p.2) (λ ne. absurd (walk_goes_on c.args.left c.args.bytes.now c.loop-sections.at c.loop-sections.sections.items
+    passed _ _ c.from_residual-in_err-frame.result c.from_residual-in_err-frame.ensures.1
+    (λ ne. absurd (walk_goes_on c.args.left c.args.bytes.now c.loop-sections.at c.loop-sections.sections.items
     c.in_err-frame.field-0.0 s.0 _ c.loop-sections.invariant.walked c.loop-sections.invariant.even s.1
     c.in_err-frame.ensures.place.1 c.in_err-frame.ensures.first))
 
 pub read_stream-returns-in_err-section-clause-none : goal.read_stream-returns-in_err-section-clause-none
 read_stream-returns-in_err-section-clause-none t c =
-    let p = err_from_is_err_and c.from_residual-in_err-section.result c.from_residual-in_err-section.ensures.1 in
-    let stands = rw c.in-Some.is at c.in_ok-frame.ensures.found in
-    rw (p.1, p.2) (λ ne ss tail h. walk_none c.args.left c.args.bytes.now c.loop-sections.at c.loop-sections.sections.items
-    (framed.frame_form c.in-Some.frame) c.loop-sections.invariant.walked c.loop-sections.invariant.even stands
-    (c.in_err-section.ensures.none ne) ss tail h)
+    passed _ _ c.from_residual-in_err-section.result c.from_residual-in_err-section.ensures.1
+    (λ ne ss tail h. walk_none c.args.left c.args.bytes.now c.loop-sections.at c.loop-sections.sections.items
+    (framed.frame_form c.in-Some.frame) c.loop-sections.invariant.walked c.loop-sections.invariant.even
+    (rw c.in-Some.is at c.in_ok-frame.ensures.found) (c.in_err-section.ensures.none ne) ss tail h)
 
 pub read_stream-returns-in_err-section-clause-first : goal.read_stream-returns-in_err-section-clause-first
 read_stream-returns-in_err-section-clause-first t c =
-    let p = err_from_is_err_and c.from_residual-in_err-section.result c.from_residual-in_err-section.ensures.1 in
-    let stands = rw c.in-Some.is at c.in_ok-frame.ensures.found in
     let s = c.in-Ok.ensures.found in
-    rw (p.1, p.2) (λ ne. walk_first c.args.left c.args.bytes.now c.loop-sections.at c.loop-sections.sections.items
+    passed _ _ c.from_residual-in_err-section.result c.from_residual-in_err-section.ensures.1
+    (λ ne. walk_first c.args.left c.args.bytes.now c.loop-sections.at c.loop-sections.sections.items
     (framed.frame_form c.in-Some.frame) c.in_err-section.field-0.0 c.args.place.offset c.args.place.depth s.0 _
-    c.loop-sections.invariant.walked c.loop-sections.invariant.even stands s.1 (c.in_err-section.ensures.first ne))
+    c.loop-sections.invariant.walked c.loop-sections.invariant.even (rw c.in-Some.is at c.in_ok-frame.ensures.found) s.1
+    (c.in_err-section.ensures.first ne))
 
 pub read_stream-returns-clause-found : goal.read_stream-returns-clause-found
 read_stream-returns-clause-found t c =
-    let past = rw c.in_default.is at c.in_ok-frame.ensures.past in
     let s = c.in-Ok.ensures.found in
     walk_found c.args.left c.args.bytes.now c.loop-sections.at c.loop-sections.sections.items s.0 _ c.loop-sections.invariant.walked
-    past s.1
+    (rw c.in_default.is at c.in_ok-frame.ensures.past) s.1
 
 pub read_stream-returns-clause-only : goal.read_stream-returns-clause-only
 read_stream-returns-clause-only t c =
-    let past = rw c.in_default.is at c.in_ok-frame.ensures.past in
     let s = c.in-Ok.ensures.found in
-    λ ss tail h. walk_only c.args.left c.args.bytes.now c.loop-sections.at c.loop-sections.sections.items s.0 _
-    c.loop-sections.invariant.walked past s.1 ss tail h
+    walk_only c.args.left c.args.bytes.now c.loop-sections.at c.loop-sections.sections.items s.0 _ c.loop-sections.invariant.walked
+    (rw c.in_default.is at c.in_ok-frame.ensures.past) s.1
 
 -- ---- a section that is a group
 
 pub read_section-returns-in_err-sections-in-Group-clause-none : goal.read_section-returns-in_err-sections-in-Group-clause-none
 read_section-returns-in_err-sections-in-Group-clause-none t c =
-    let f : FrameForm = framed.frame_form c.args.frame.now in
-    let p = err_from_is_err_and c.from_residual-in_err-sections-in-Group.result c.from_residual-in_err-sections-in-Group.ensures.1 in
-    let group = group_shape f (sym c.shape_of.ensures ∙ c.in-Group.is) in
-    rw (p.1, p.2) (λ ne s h. group_bad c.args.left c.in_ok-inside-in-Group.below f c.in_ok-inside-in-Group.ensures.ok.0 group
+    passed _ _ c.from_residual-in_err-sections-in-Group.result c.from_residual-in_err-sections-in-Group.ensures.1
+    (λ ne s h. group_bad c.args.left c.in_ok-inside-in-Group.below (framed.frame_form c.args.frame.now)
+    c.in_ok-inside-in-Group.ensures.ok.0 (group_shape (framed.frame_form c.args.frame.now) (sym c.shape_of.ensures ∙ c.in-Group.is))
     (c.in_err-sections-in-Group.ensures.none ne) s h)
 
 pub read_section-returns-in_err-sections-in-Group-clause-first : goal.read_section-returns-in_err-sections-in-Group-clause-first
 read_section-returns-in_err-sections-in-Group-clause-first t c =
-    let f : FrameForm = framed.frame_form c.args.frame.now in
-    let p = err_from_is_err_and c.from_residual-in_err-sections-in-Group.result c.from_residual-in_err-sections-in-Group.ensures.1 in
-    let group = group_shape f (sym c.shape_of.ensures ∙ c.in-Group.is) in
     let ok = c.in_ok-inside-in-Group.ensures.ok in
-    rw (p.1, p.2) (λ ne. group_first c.args.left c.in_ok-inside-in-Group.below f c.in_err-sections-in-Group.field-0.0 c.args.place.offset
-    c.args.place.depth c.in_ok-inside-in-Group.inside.offset c.in_ok-inside-in-Group.inside.depth
-    ok.0 group ok.1 ok.2 (c.in_err-sections-in-Group.ensures.first ne))
+    passed _ _ c.from_residual-in_err-sections-in-Group.result c.from_residual-in_err-sections-in-Group.ensures.1
+    (λ ne. group_first c.args.left c.in_ok-inside-in-Group.below (framed.frame_form c.args.frame.now)
+    c.in_err-sections-in-Group.field-0.0 c.args.place.offset c.args.place.depth c.in_ok-inside-in-Group.inside.offset
+    c.in_ok-inside-in-Group.inside.depth ok.0 (group_shape (framed.frame_form c.args.frame.now) (sym c.shape_of.ensures ∙ c.in-Group.is))
+    ok.1 ok.2 (c.in_err-sections-in-Group.ensures.first ne))
+
+-- the group means what is made of it
+group_means : (t : ℕ) (c : read_section-In_ok-sections-in-Group t) → MeansSection c.args.left (framed.frame_form c.args.frame.now)
+    (Section c.args.frame.now.kind c.args.frame.now.extended
+    (Group (sections_from c.in_ok-sections-in-Group.sections.items) c.in_ok-sections-in-Group.tail))
+group_means t c =
+    let f : FrameForm = framed.frame_form c.args.frame.now in
+    group_found c.args.left c.in_ok-inside-in-Group.below f c.in_ok-sections-in-Group.sections.items c.in_ok-sections-in-Group.tail
+    c.in_ok-inside-in-Group.ensures.ok.0 (group_shape f (sym c.shape_of.ensures ∙ c.in-Group.is)) c.in_ok-sections-in-Group.ensures.found
 
 pub read_section-new-requires-clause-read : goal.read_section-new-requires-clause-read
 read_section-new-requires-clause-read t c =
-    let f : FrameForm = framed.frame_form c.args.frame.now in
-    let group = group_shape f (sym c.shape_of.ensures ∙ c.in-Group.is) in (
-      c.args.left,
-      omega arith,
-      f,
-      c.requires.stored,
-      group_found c.args.left c.in_ok-inside-in-Group.below f c.in_ok-sections-in-Group.sections.items c.in_ok-sections-in-Group.tail
-          c.in_ok-inside-in-Group.ensures.ok.0 group c.in_ok-sections-in-Group.ensures.found,
-    )
+    let means = group_means t (goal.at.read_section-new-requires-clause-read t c).In_ok-sections-in-Group in
+    (c.args.left, omega arith, framed.frame_form c.args.frame.now, c.requires.stored, means)
 
 pub read_section-new-requires-clause-len : goal.read_section-new-requires-clause-len
 read_section-new-requires-clause-len t c =
-    let f : FrameForm = framed.frame_form c.args.frame.now in
-    let group = group_shape f (sym c.shape_of.ensures ∙ c.in-Group.is) in
-    body_long c.args.left f f.kind (Group (sections_from c.in_ok-sections-in-Group.sections.items) c.in_ok-sections-in-Group.tail)
-    (group_found c.args.left c.in_ok-inside-in-Group.below f c.in_ok-sections-in-Group.sections.items c.in_ok-sections-in-Group.tail
-    c.in_ok-inside-in-Group.ensures.ok.0 group c.in_ok-sections-in-Group.ensures.found)
+    body_long c.args.left (framed.frame_form c.args.frame.now) c.args.frame.now.kind
+    (Group (sections_from c.in_ok-sections-in-Group.sections.items) c.in_ok-sections-in-Group.tail)
+    (group_means t (goal.at.read_section-new-requires-clause-len t c).In_ok-sections-in-Group)
 
 pub read_section-returns-in-Group-clause-found : goal.read_section-returns-in-Group-clause-found
 read_section-returns-in-Group-clause-found t c =
-    let f : FrameForm = framed.frame_form c.args.frame.now in
-    let group = group_shape f (sym c.shape_of.ensures ∙ c.in-Group.is) in
-    rw c.new.ensures (group_found c.args.left c.in_ok-inside-in-Group.below f c.in_ok-sections-in-Group.sections.items
-    c.in_ok-sections-in-Group.tail c.in_ok-inside-in-Group.ensures.ok.0 group c.in_ok-sections-in-Group.ensures.found)
+    rw c.new.ensures (group_means t (goal.at.read_section-returns-in-Group-clause-found t c).In_ok-sections-in-Group)
 
 pub read_section-returns-in-Group-clause-only : goal.read_section-returns-in-Group-clause-only
-read_section-returns-in-Group-clause-only t c =
+read_section-returns-in-Group-clause-only t c = λ s h.
     let f : FrameForm = framed.frame_form c.args.frame.now in
-    let group = group_shape f (sym c.shape_of.ensures ∙ c.in-Group.is) in
-    λ s h. group_one c.args.left c.in_ok-inside-in-Group.below f c.in_ok-sections-in-Group.sections.items c.in_ok-sections-in-Group.tail
-    c.in_ok-inside-in-Group.ensures.ok.0 group c.in_ok-sections-in-Group.ensures.only s h ∙ sym c.new.ensures
+    group_one c.args.left c.in_ok-inside-in-Group.below f c.in_ok-sections-in-Group.sections.items c.in_ok-sections-in-Group.tail
+    c.in_ok-inside-in-Group.ensures.ok.0 (group_shape f (sym c.shape_of.ensures ∙ c.in-Group.is)) c.in_ok-sections-in-Group.ensures.only s h
+    ∙ sym c.new.ensures
 
 -- ---- a section that is opened as a volume
 
 pub read_section-returns-in_err-inside-in-Volume-clause-none : goal.read_section-returns-in_err-inside-in-Volume-clause-none
 read_section-returns-in_err-inside-in-Volume-clause-none t c =
     let f : FrameForm = framed.frame_form c.args.frame.now in
-    let p = err_from_is_err_and c.from_residual-in_err-inside-in-Volume.result c.from_residual-in_err-inside-in-Volume.ensures.1 in
-    let opened = volume_shape f (sym c.shape_of.ensures ∙ c.in-Volume.is) in
-    rw (p.1, p.2) (λ ne s h. deep_bad c.args.left f c.in_err-inside-in-Volume.ensures.err.0 (inr opened) s h)
+    passed _ _ c.from_residual-in_err-inside-in-Volume.result c.from_residual-in_err-inside-in-Volume.ensures.1
+    (λ ne s h. deep_bad c.args.left f c.in_err-inside-in-Volume.ensures.err.0
+    (inr (volume_shape f (sym c.shape_of.ensures ∙ c.in-Volume.is))) s h)
 
 pub read_section-returns-in_err-inside-in-Volume-clause-first : goal.read_section-returns-in_err-inside-in-Volume-clause-first
 read_section-returns-in_err-inside-in-Volume-clause-first t c =
     let f : FrameForm = framed.frame_form c.args.frame.now in
-    let p = err_from_is_err_and c.from_residual-in_err-inside-in-Volume.result c.from_residual-in_err-inside-in-Volume.ensures.1 in
-    let opened = volume_shape f (sym c.shape_of.ensures ∙ c.in-Volume.is) in
-    rw (p.1, p.2) (λ ne. deep_fault c.args.left f c.in_err-inside-in-Volume.field-0.0 c.args.place.offset c.args.place.depth
-    c.in_err-inside-in-Volume.ensures.err.0 (inr opened) c.in_err-inside-in-Volume.ensures.err.1)
+    passed _ _ c.from_residual-in_err-inside-in-Volume.result c.from_residual-in_err-inside-in-Volume.ensures.1
+    (λ ne. deep_fault c.args.left f c.in_err-inside-in-Volume.field-0.0 c.args.place.offset c.args.place.depth
+    c.in_err-inside-in-Volume.ensures.err.0 (inr (volume_shape f (sym c.shape_of.ensures ∙ c.in-Volume.is)))
+    c.in_err-inside-in-Volume.ensures.err.1)
 
 pub read_section-returns-in_err-volume-in-Volume-clause-none : goal.read_section-returns-in_err-volume-in-Volume-clause-none
 read_section-returns-in_err-volume-in-Volume-clause-none t c =
     let f : FrameForm = framed.frame_form c.args.frame.now in
-    let p = err_from_is_err_and c.from_residual-in_err-volume-in-Volume.result c.from_residual-in_err-volume-in-Volume.ensures.1 in
-    let opened = volume_shape f (sym c.shape_of.ensures ∙ c.in-Volume.is) in
-    rw (p.1, p.2) (λ ne s h. nested_bad c.args.left c.in_ok-inside-in-Volume.below f c.in_ok-inside-in-Volume.ensures.ok.0 opened
-    (c.in_err-volume-in-Volume.ensures.none ne) s h)
+    passed _ _ c.from_residual-in_err-volume-in-Volume.result c.from_residual-in_err-volume-in-Volume.ensures.1
+    (λ ne s h. nested_bad c.args.left c.in_ok-inside-in-Volume.below f c.in_ok-inside-in-Volume.ensures.ok.0
+    (volume_shape f (sym c.shape_of.ensures ∙ c.in-Volume.is)) (c.in_err-volume-in-Volume.ensures.none ne) s h)
 
 pub read_section-returns-in_err-volume-in-Volume-clause-first : goal.read_section-returns-in_err-volume-in-Volume-clause-first
 read_section-returns-in_err-volume-in-Volume-clause-first t c =
-    let f : FrameForm = framed.frame_form c.args.frame.now in
-    let p = err_from_is_err_and c.from_residual-in_err-volume-in-Volume.result c.from_residual-in_err-volume-in-Volume.ensures.1 in
-    let opened = volume_shape f (sym c.shape_of.ensures ∙ c.in-Volume.is) in
     let ok = c.in_ok-inside-in-Volume.ensures.ok in
-    rw (p.1, p.2) (λ ne. nested_first c.args.left c.in_ok-inside-in-Volume.below f c.in_err-volume-in-Volume.field-0.0
-    c.args.place.offset c.args.place.depth c.in_ok-inside-in-Volume.inside.offset c.in_ok-inside-in-Volume.inside.depth
-    ok.0 opened ok.1 ok.2 (c.in_err-volume-in-Volume.ensures.first ne))
+    let f : FrameForm = framed.frame_form c.args.frame.now in
+    passed _ _ c.from_residual-in_err-volume-in-Volume.result c.from_residual-in_err-volume-in-Volume.ensures.1
+    (λ ne. nested_first c.args.left c.in_ok-inside-in-Volume.below f c.in_err-volume-in-Volume.field-0.0 c.args.place.offset
+    c.args.place.depth c.in_ok-inside-in-Volume.inside.offset c.in_ok-inside-in-Volume.inside.depth ok.0
+    (volume_shape f (sym c.shape_of.ensures ∙ c.in-Volume.is)) ok.1 ok.2 (c.in_err-volume-in-Volume.ensures.first ne))
+
+-- the opened volume means what is made of it
+nested_means : (t : ℕ) (c : read_section-In_ok-nested-in-Volume t) → MeansSection c.args.left (framed.frame_form c.args.frame.now)
+    (Section c.args.frame.now.kind c.args.frame.now.extended (Nested c.in_ok-nested-in-Volume.nested.value))
+nested_means t c =
+    let f : FrameForm = framed.frame_form c.args.frame.now in
+    let opened = volume_shape f (sym c.shape_of.ensures ∙ c.in-Volume.is) in
+    let read = c.in_ok-volume-in-Volume.ensures in
+    rw c.in_ok-nested-in-Volume.ensures.ok (nested_found c.args.left c.in_ok-inside-in-Volume.below f c.in_ok-volume-in-Volume.volume
+    c.in_ok-inside-in-Volume.ensures.ok.0 opened (opened_whole c.in_ok-inside-in-Volume.below c.in_ok-volume-in-Volume.field-0-1 f.body
+    c.in_ok-volume-in-Volume.volume opened.opens read.length.1 read.found))
 
 pub read_section-new-requires-in-Volume-2-clause-read : goal.read_section-new-requires-in-Volume-2-clause-read
 read_section-new-requires-in-Volume-2-clause-read t c =
-    let f : FrameForm = framed.frame_form c.args.frame.now in
-    let opened = volume_shape f (sym c.shape_of.ensures ∙ c.in-Volume.is) in
-    let same : c.in_ok-nested-in-Volume.nested.value ≡ c.in_ok-volume-in-Volume.volume = c.in_ok-nested-in-Volume.ensures.ok in
-    let v : Meaning = c.in_ok-nested-in-Volume.nested.value in
-    let whole =
-    subst (Denotes c.in_ok-inside-in-Volume.below f.body) (sym same)
-    (opened_whole c.in_ok-inside-in-Volume.below c.in_ok-volume-in-Volume.field-0-1 f.body c.in_ok-volume-in-Volume.volume opened.opens
-    c.in_ok-volume-in-Volume.ensures.length.1 c.in_ok-volume-in-Volume.ensures.found) in (
-      c.args.left,
-      omega arith,
-      f,
-      c.requires.stored,
-      nested_found c.args.left c.in_ok-inside-in-Volume.below f v
-          c.in_ok-inside-in-Volume.ensures.ok.0 opened whole,
-    )
+    let means = nested_means t (goal.at.read_section-new-requires-in-Volume-2-clause-read t c).In_ok-nested-in-Volume in
+    (c.args.left, omega arith, framed.frame_form c.args.frame.now, c.requires.stored, means)
 
 pub read_section-new-requires-in-Volume-2-clause-len : goal.read_section-new-requires-in-Volume-2-clause-len
 read_section-new-requires-in-Volume-2-clause-len t c =
-    let f : FrameForm = framed.frame_form c.args.frame.now in
-    let opened = volume_shape f (sym c.shape_of.ensures ∙ c.in-Volume.is) in
-    let same : c.in_ok-nested-in-Volume.nested.value ≡ c.in_ok-volume-in-Volume.volume = c.in_ok-nested-in-Volume.ensures.ok in
-    let v : Meaning = c.in_ok-nested-in-Volume.nested.value in
-    let whole =
-    subst (Denotes c.in_ok-inside-in-Volume.below f.body) (sym same)
-    (opened_whole c.in_ok-inside-in-Volume.below c.in_ok-volume-in-Volume.field-0-1 f.body c.in_ok-volume-in-Volume.volume opened.opens
-    c.in_ok-volume-in-Volume.ensures.length.1 c.in_ok-volume-in-Volume.ensures.found) in
-    body_long c.args.left f f.kind (Nested v)
-    (nested_found c.args.left c.in_ok-inside-in-Volume.below f v c.in_ok-inside-in-Volume.ensures.ok.0 opened whole)
+    body_long c.args.left (framed.frame_form c.args.frame.now) c.args.frame.now.kind (Nested c.in_ok-nested-in-Volume.nested.value)
+    (nested_means t (goal.at.read_section-new-requires-in-Volume-2-clause-len t c).In_ok-nested-in-Volume)
 
 pub read_section-returns-in-Volume-clause-found : goal.read_section-returns-in-Volume-clause-found
 read_section-returns-in-Volume-clause-found t c =
-    let f : FrameForm = framed.frame_form c.args.frame.now in
-    let opened = volume_shape f (sym c.shape_of.ensures ∙ c.in-Volume.is) in
-    let same : c.in_ok-nested-in-Volume.nested.value ≡ c.in_ok-volume-in-Volume.volume = c.in_ok-nested-in-Volume.ensures.ok in
-    let v : Meaning = c.in_ok-nested-in-Volume.nested.value in
-    let whole =
-    subst (Denotes c.in_ok-inside-in-Volume.below f.body) (sym same)
-    (opened_whole c.in_ok-inside-in-Volume.below c.in_ok-volume-in-Volume.field-0-1 f.body c.in_ok-volume-in-Volume.volume opened.opens
-    c.in_ok-volume-in-Volume.ensures.length.1 c.in_ok-volume-in-Volume.ensures.found) in
-    rw c.new-in-Volume-2.ensures (nested_found c.args.left c.in_ok-inside-in-Volume.below f v c.in_ok-inside-in-Volume.ensures.ok.0
-    opened whole)
+    rw c.new-in-Volume-2.ensures
+    (nested_means t (goal.at.read_section-returns-in-Volume-clause-found t c).In_ok-nested-in-Volume)
 
 pub read_section-returns-in-Volume-clause-only : goal.read_section-returns-in-Volume-clause-only
-read_section-returns-in-Volume-clause-only t c =
+read_section-returns-in-Volume-clause-only t c = λ s h.
     let f : FrameForm = framed.frame_form c.args.frame.now in
-    let opened = volume_shape f (sym c.shape_of.ensures ∙ c.in-Volume.is) in
-    let same : c.in_ok-nested-in-Volume.nested.value ≡ c.in_ok-volume-in-Volume.volume = c.in_ok-nested-in-Volume.ensures.ok in
-    λ s h.
     nested_one c.args.left c.in_ok-inside-in-Volume.below f c.in_ok-volume-in-Volume.volume c.in_ok-volume-in-Volume.field-0-1
-    c.in_ok-inside-in-Volume.ensures.ok.0 opened c.in_ok-volume-in-Volume.ensures.only s h
-    ∙ ap (λ (m : Meaning). Section f.kind f.extended (Nested m)) (sym same) ∙ sym c.new-in-Volume-2.ensures
+    c.in_ok-inside-in-Volume.ensures.ok.0 (volume_shape f (sym c.shape_of.ensures ∙ c.in-Volume.is))
+    c.in_ok-volume-in-Volume.ensures.only s h
+    ∙ ap (λ (m : Meaning). Section f.kind f.extended (Nested m)) (sym c.in_ok-nested-in-Volume.ensures.ok)
+    ∙ sym c.new-in-Volume-2.ensures
 
 -- ---- a leaf
 

@@ -36,32 +36,24 @@ alive_files-requires c =
 pub returns-in-Ok-alive_files-clause-stored : goal.returns-in-Ok-alive_files-clause-stored
 returns-in-Ok-alive_files-clause-stored c =
     let small : IsBytes c.args.volume.now = search rules in
-    let standing : map file_form c.in_ok-files.files.items ≡ files_in c.in-Ok.list =
-    c.in_ok-files.ensures.found ∙ ap files_in c.as_slice.ensures in
     files_stored c.args.extent c.args.volume.now c.args.place.offset c.in-Ok.list (map file_form c.in-Ok-alive_files.read.0.items) small
     c.requires.small c.requires.place c.in-Ok.ensures.found c.in-Ok.ensures.lies
     (alive_of c.args.extent.length c.in-Ok.list (map file_form c.in_ok-files.files.items) (map file_form c.in-Ok-alive_files.read.0.items)
-    standing c.in-Ok-alive_files.ensures.found)
+    (c.in_ok-files.ensures.found ∙ ap files_in c.as_slice.ensures) c.in-Ok-alive_files.ensures.found)
 
 pub returns-in-Err-alive_files-clause-none : goal.returns-in-Err-alive_files-clause-none
 returns-in-Err-alive_files-clause-none c = λ ne gs h.
-    let standing : map file_form c.in_ok-files.files.items ≡ files_in c.in-Ok.list =
-    c.in_ok-files.ensures.found ∙ ap files_in c.as_slice.ensures in
-    let fault = c.in-Err-alive_files.fault in
     let w = c.within-in-Err-alive_files.ensures.moved ne in
-    stand_none c.args.extent c.args.volume.now c.in-Ok.list c.in-Ok.ensures.only fault
-    (subst (λ (fs : List FileForm). AliveFirst c.args.extent.length fs fault) standing (c.in-Err-alive_files.ensures.first w.0)) gs h
+    stand_none c.args.extent c.args.volume.now c.in-Ok.list c.in-Ok.ensures.only c.in-Err-alive_files.fault
+    (rw (c.in_ok-files.ensures.found, c.as_slice.ensures) at (c.in-Err-alive_files.ensures.first w.0)) gs h
 
 pub returns-in-Err-alive_files-clause-first : goal.returns-in-Err-alive_files-clause-first
 returns-in-Err-alive_files-clause-first c = λ ne.
-    let standing : map file_form c.in_ok-files.files.items ≡ files_in c.in-Ok.list =
-    c.in_ok-files.ensures.found ∙ ap files_in c.as_slice.ensures in
-    let fault = c.in-Err-alive_files.fault in
     let w = c.within-in-Err-alive_files.ensures.moved ne in
     inr (
       c.in-Ok.list,
       c.in-Ok.ensures.found,
-      fault,
-      subst (λ (fs : List FileForm). AliveFirst c.args.extent.length fs fault) standing (c.in-Err-alive_files.ensures.first w.0),
+      c.in-Err-alive_files.fault,
+      rw (c.in_ok-files.ensures.found, c.as_slice.ensures) at (c.in-Err-alive_files.ensures.first w.0),
       w.1,
     )

@@ -3,28 +3,11 @@ use Rattle.std.specs.Prelude.{◌==◌, ◌&&◌, ◌||◌, not}
 use Rattle.std.proofs.lemmas.Bool.Decides.{Decides-eqb}
 use Rattle.std.proofs.lemmas.List.{length-map, take_all}
 use Rattle.std.proofs.lemmas.Result.{err_from_is_err_and}
-use Rattle.fv_file.specs.declared.state.FileState.TheVariants as states
 use Rattle.fv_tree.specs.Files.{FileForm, is_top, end_of}
 use Rattle.fv_tree.specs.StandingForms.{file_form}
-use Rattle.fv_tree.specs.declared.volume_files.Standing.{Standing}
+use Rattle.fv_tree.proofs.IndexLaws.{no_file}
 use Rattle.fv_tree.proofs.NameLaws.{more_items, seam_items, none_push, top_last, placed, misplaced, not_top_yet, after_none}
 use Rattle.fv_tree.proofs.volume_files.check_top.Goals as goal
-
-abbrev no_file : Standing
-no_file = record {
-  offset = 0;
-  head = record {
-    name = record { bytes = [] };
-    kind = 0;
-    attributes = record { 0 = 0 };
-    size = 0;
-    header_len = 0;
-    header_sum = 0;
-    file_sum = 0;
-    state = states.Free;
-  };
-  payload = record { ref_ptr = (0, 0); now = [] };
-}
 
 pub returns-in_err-check-clause-first : goal.returns-in_err-check-clause-first
 returns-in_err-check-clause-first c =

@@ -1,31 +1,14 @@
-use Rattle.std.proofs.Common.{◌∙◌, ap, inr, [], take, drop, get_or, map, List, ◌+◌}
+use Rattle.std.proofs.Common.{◌∙◌, ap, inr, take, drop, get_or, map, List, ◌+◌}
 use Rattle.std.proofs.lemmas.Result.{err_from_is_err_and}
-use Rattle.fv_file.specs.declared.state.FileState.TheVariants as states
 use Rattle.std.specs.Prelude.{not, cond, true}
 use Rattle.std.specs.BTreeMap.{is_at}
 use Rattle.std.specs.BTreeSet.{contains}
 use Rattle.fv_tree.specs.NameOrders.{key_cmp}
 use Rattle.fv_tree.specs.Files.{FileForm}
 use Rattle.fv_tree.specs.StandingForms.{file_form}
-use Rattle.fv_tree.specs.declared.volume_files.Standing.{Standing}
+use Rattle.fv_tree.proofs.IndexLaws.{no_file}
 use Rattle.fv_tree.proofs.NameLaws.{more_items, seam_items, names_more, twins_more, twin_found}
 use Rattle.fv_tree.proofs.volume_files.names_of.Goals as goal
-
-abbrev no_file : Standing
-no_file = record {
-  offset = 0;
-  head = record {
-    name = record { bytes = [] };
-    kind = 0;
-    attributes = record { 0 = 0 };
-    size = 0;
-    header_len = 0;
-    header_sum = 0;
-    file_sum = 0;
-    state = states.Free;
-  };
-  payload = record { ref_ptr = (0, 0); now = [] };
-}
 
 pub returns-in_err-check-clause-first : goal.returns-in_err-check-clause-first
 returns-in_err-check-clause-first c =
