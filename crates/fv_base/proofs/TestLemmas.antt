@@ -1,6 +1,6 @@
 -- Tests that hold or do not.
 use Rattle.std.proofs.Common.{◌≡◌, ◌≤◌, ◌<◌, ℕ, refl, arith, Bool, true, false}
-use Rattle.std.specs.Prelude.{◌==◌, ◌≢◌, nat_le, nat_lt, if◌then◌else◌}
+use Rattle.std.specs.Prelude.{◌==◌, ◌≢◌, ◌||◌, nat_le, nat_lt, if◌then◌else◌}
 use Rattle.std.proofs.lemmas.Bool.{eqb-true, leb-true, ltb-true}
 
 pub if_true : {A : Type 0} → (b : Bool) (x y : A) → b ≡ true → (if b then x else y) ≡ x
@@ -28,3 +28,12 @@ not_equal n m h = go (n == m) refl where
   go : (t : Bool) → (n == m) ≡ t → t ≡ false
   go true e = absurd (h (eqb-true n m e))
   go false e = refl
+
+-- neither of two tests holds
+pub or_parts : (a b : Bool) → (a || b) ≡ false → (a ≡ false) × (b ≡ false)
+or_parts true b h = cc
+or_parts false b h = (refl, h)
+
+pub or_both : (a b : Bool) → a ≡ false → b ≡ false → (a || b) ≡ false
+or_both true b p q = cc
+or_both false b p q = q

@@ -14,6 +14,8 @@ use Rattle.fv_tree.specs.Files.{FileForm, is_marked, same_name, is_twin, NoTwins
 use Rattle.fv_canon.specs.StoredFiles.{StoredFile, stored_len}
 use Rattle.fv_canon.specs.StoredWalks.{stored_part}
 use Rattle.fv_canon.proofs.TileLaws.{forms_of}
+use Rattle.fv_base.proofs.TestLemmas.{or_parts}
+use Rattle.fv_tree.proofs.AliveLaws.{same_name_back}
 
 -- ---- tests over lists
 abbrev pub Member : {A : Type 0} → A → List A → Type 0
@@ -23,14 +25,10 @@ Member x (y ∷ ys) = (x ≡ y) ⊎ Member x ys
 clash : {A : Type 0} (b : Bool) → b ≡ true → b ≡ false → A
 clash b p q = absurd cc
 
-neither : (a b : Bool) → (a || b) ≡ false → (a ≡ false) × (b ≡ false)
-neither true b e = cc
-neither false b e = (refl, e)
-
 any_false : {A : Type 0} (q : A → Bool) (xs : List A) (g : A) → Member g xs → list_any q xs ≡ false → q g ≡ false
 any_false q [] g m e = absurd m
-any_false q (x ∷ xs) g (inl s) e = ap q s ∙ (neither (q x) (list_any q xs) e).0
-any_false q (x ∷ xs) g (inr m) e = any_false q xs g m (neither (q x) (list_any q xs) e).1
+any_false q (x ∷ xs) g (inl s) e = ap q s ∙ (or_parts (q x) (list_any q xs) e).0
+any_false q (x ∷ xs) g (inr m) e = any_false q xs g m (or_parts (q x) (list_any q xs) e).1
 
 pub filter_true : {A : Type 0} (p : A → Bool) (x : A) (xs : List A) → p x ≡ true → filter p (x ∷ xs) ≡ x ∷ filter p xs
 filter_true p x xs e = rw e refl
@@ -89,12 +87,7 @@ same_by x y e = (bytes_eq-Decides x y).0 e
 eq_self : (x : List ℕ) → bytes_eq x x ≡ true
 eq_self x = (bytes_eq-Decides x x).1 refl
 
-name_turned : (f g : FileForm) → same_name f g ≡ true → same_name g f ≡ true
-name_turned f g e =
-    let same : bytes_of f.head.name ≡ bytes_of g.head.name = same_by (bytes_of f.head.name) (bytes_of g.head.name) e in
-    ap (λ (n : List ℕ). bytes_eq n (bytes_of f.head.name)) (sym same) ∙ eq_self (bytes_of f.head.name)
-
--- two files of one name that are no twins, and of which neither replaces the other
+-- two files of one name that are no twins, and of which or_parts replaces the other
 no_third : (a b : Bool) → (true && beq a b) ≡ false → (true && (a && not b)) ≡ false → (true && (b && not a)) ≡ false → ⊥
 no_third true true p q r = cc
 no_third true false p q r = cc
@@ -108,7 +101,7 @@ two_apart all f g in_f in_g keeps_f keeps_g twin same =
     (ap (λ (b : Bool). b && beq (is_marked f.head.state) (is_marked g.head.state)) (sym same) ∙ twin)
     (ap (λ (b : Bool). b && (is_marked f.head.state && not (is_marked g.head.state))) (sym same) ∙ any_false (replaces f) all g in_g
     (not_true (list_any (replaces f) all) keeps_f)) (ap (λ (b : Bool). b && (is_marked g.head.state && not (is_marked f.head.state)))
-    (sym (name_turned f g same)) ∙ any_false (replaces g) all f in_f (not_true (list_any (replaces g) all) keeps_g))
+    (sym (same_name_back f g same)) ∙ any_false (replaces g) all f in_f (not_true (list_any (replaces g) all) keeps_g))
 
 kept_apart : (all xs : List FileForm) → ((g : FileForm) → Member g xs → Member g all) → NoTwins xs
     → NamesApart (names_in (filter (kept all) xs))
@@ -157,7 +150,7 @@ twins_none : (f : FileForm) (xs : List FileForm) → list_any (bytes_eq (bytes_o
     → list_any (is_twin f) xs ≡ false
 twins_none f [] e = refl
 twins_none f (x ∷ xs) e =
-    let n = neither (same_name f x) (list_any (bytes_eq (bytes_of f.head.name)) (names_in xs)) e in
+    let n = or_parts (same_name f x) (list_any (bytes_eq (bytes_of f.head.name)) (names_in xs)) e in
     rw n.0 (twins_none f xs n.1)
 
 pub no_twins : (xs : List FileForm) → NamesApart (names_in xs) → NoTwins xs

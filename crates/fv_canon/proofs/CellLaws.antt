@@ -12,7 +12,8 @@ use Rattle.fv_base.specs.declared.flash.FileSystem.{FileSystem}
 use Rattle.fv_base.specs.declared.flash.FileSystem.TheVariants.{Ffs3}
 use Rattle.fv_base.specs.declared.flash.Polarity.{Polarity}
 use Rattle.fv_base.specs.declared.flash.Polarity.TheVariants.{Ones, Zeros}
-use Rattle.fv_base.proofs.FieldLemmas.{bytes_append, bytes_le_bytes}
+use Rattle.fv_base.proofs.FieldLemmas.{bytes_append}
+use Rattle.fv_base.proofs.NumberLaws.{bytes_replicate}
 use Rattle.fv_file.specs.Attributes.{is_large, is_fixed, is_summed}
 use Rattle.fv_file.specs.Cells.{Valid, Pad, IsCell}
 use Rattle.fv_file.specs.Files.{file_header_len, pad_kind, file_sum_right}
@@ -20,70 +21,10 @@ use Rattle.fv_file.specs.NewHeaders.{needs_large, with_large, complement, fixed_
 use Rattle.fv_file.specs.NewHeaders.{file_fields, pad_fields, file_head_of, pad_head_of}
 use Rattle.fv_file.specs.declared.head.FileHead.{FileHead}
 use Rattle.fv_file.proofs.AttributeLemmas.{set_large}
-use Rattle.fv_file.proofs.WrittenLemmas.{file_written, pad_written, head_of_file, head_of_pad}
+use Rattle.fv_file.proofs.AttributeLaws.{fixed_with, summed_with, with_large_small}
+use Rattle.fv_file.proofs.HeaderLaws.{bytes_header, length-header, state_small}
+use Rattle.fv_file.proofs.WrittenLemmas.{complement_small, file_written, pad_written, head_of_file, head_of_pad}
 use Rattle.fv_canon.specs.StoredFiles.{StoredFile, stored_len, head_len_for, file_sum_for, stored_bytes, pad_bytes}
-
--- ---- headers are bytes, 24 or 32 of them
-bytes_cons : (x : ℕ) (xs : List ℕ) → x < 256 → IsBytes xs → IsBytes (x ∷ xs)
-bytes_cons x xs l h zero = l
-bytes_cons x xs l h (suc i) = h i
-
-bytes_none : IsBytes []
-bytes_none i = omega arith
-
-state_small : (p : Polarity) → state_byte p < 256
-state_small Ones = omega arith
-state_small Zeros = omega arith
-
-complement_small : (n : ℕ) → complement n < 256
-complement_small n = omega arith
-
-pub bytes_header : (file_sum : ℕ) (name : List ℕ) (kind attributes size : ℕ) (large : Bool) (state : ℕ) → IsBytes name → file_sum < 256
-    → kind < 256 → attributes < 256 → state < 256
-    → IsBytes (header_bytes file_sum name kind attributes size large state)
-unfolding header_bytes
-bytes_header file_sum name kind attributes size large state n f k a s =
-    parts large (complement (sum (header_with 0 0 name kind attributes size large 0))) (complement_small _)
-  where
-    parts : (large : Bool) (c : ℕ) → c < 256 → IsBytes (header_with c file_sum name kind attributes size large state)
-    parts true c l =
-        bytes_append (name ++ (c ∷ file_sum ∷ kind ∷ attributes ∷ []) ++ le_bytes 3 0 ++ (state ∷ [])) (le_bytes 8 size)
-        (bytes_append (name ++ (c ∷ file_sum ∷ kind ∷ attributes ∷ []) ++ le_bytes 3 0) (state ∷ [])
-        (bytes_append (name ++ (c ∷ file_sum ∷ kind ∷ attributes ∷ [])) (le_bytes 3 0)
-        (bytes_append name (c ∷ file_sum ∷ kind ∷ attributes ∷ []) n
-        (bytes_cons c (file_sum ∷ kind ∷ attributes ∷ []) l
-        (bytes_cons file_sum (kind ∷ attributes ∷ []) f (bytes_cons kind (attributes ∷ []) k (bytes_cons attributes [] a bytes_none)))))
-        (bytes_le_bytes 3 0)) (bytes_cons state [] s bytes_none)) (bytes_le_bytes 8 size)
-    parts false c l =
-        bytes_append (name ++ (c ∷ file_sum ∷ kind ∷ attributes ∷ []) ++ le_bytes 3 size ++ (state ∷ [])) []
-        (bytes_append (name ++ (c ∷ file_sum ∷ kind ∷ attributes ∷ []) ++ le_bytes 3 size) (state ∷ [])
-        (bytes_append (name ++ (c ∷ file_sum ∷ kind ∷ attributes ∷ [])) (le_bytes 3 size)
-        (bytes_append name (c ∷ file_sum ∷ kind ∷ attributes ∷ []) n
-        (bytes_cons c (file_sum ∷ kind ∷ attributes ∷ []) l
-        (bytes_cons file_sum (kind ∷ attributes ∷ []) f (bytes_cons kind (attributes ∷ []) k (bytes_cons attributes [] a bytes_none)))))
-        (bytes_le_bytes 3 size)) (bytes_cons state [] s bytes_none)) bytes_none
-
-pub length-header : (file_sum : ℕ) (name : List ℕ) (kind attributes size : ℕ) (large : Bool) (state : ℕ) → length name ≡ 16
-    → length (header_bytes file_sum name kind attributes size large state) ≡ file_header_len large
-unfolding header_bytes
-length-header file_sum name kind attributes size large state n =
-    parts large (complement (sum (header_with 0 0 name kind attributes size large 0)))
-  where
-    front : (c : ℕ) (x : List ℕ) (k : ℕ) → length x ≡ k
-        → length (name ++ (c ∷ file_sum ∷ kind ∷ attributes ∷ []) ++ x ++ (state ∷ [])) ≡ 21 + k
-    front c x k e = joined (length (name ++ (c ∷ file_sum ∷ kind ∷ attributes ∷ []) ++ x ++ (state ∷ [])))
-        (length (name ++ (c ∷ file_sum ∷ kind ∷ attributes ∷ []) ++ x)) (length (name ++ (c ∷ file_sum ∷ kind ∷ attributes ∷ [])))
-        (length x) (length name) k (length-append (name ++ (c ∷ file_sum ∷ kind ∷ attributes ∷ []) ++ x) (state ∷ []))
-        (length-append (name ++ (c ∷ file_sum ∷ kind ∷ attributes ∷ [])) x) (length-append name (c ∷ file_sum ∷ kind ∷ attributes ∷ [])) n e
-      where
-        joined : (a b d x n k : ℕ) → a ≡ b + 1 → b ≡ d + x → d ≡ n + 4 → n ≡ 16 → x ≡ k → a ≡ 21 + k
-        joined a b d x n k p q r s t = omega arith
-
-    parts : (large : Bool) (c : ℕ) → length (header_with c file_sum name kind attributes size large state) ≡ file_header_len large
-    parts true c = length-append (name ++ (c ∷ file_sum ∷ kind ∷ attributes ∷ []) ++ le_bytes 3 0 ++ (state ∷ [])) (le_bytes 8 size)
-        ∙ ap (λ (n : ℕ). n + 8) (front c (le_bytes 3 0) 3 refl)
-    parts false c = length-append (name ++ (c ∷ file_sum ∷ kind ∷ attributes ∷ []) ++ le_bytes 3 size ++ (state ∷ [])) []
-        ∙ ap (λ (n : ℕ). n + 0) (front c (le_bytes 3 size) 3 refl)
 
 -- ---- a file
 
@@ -115,22 +56,6 @@ large_back : (l : Bool) (a : ℕ) → is_large a ≡ false → is_large (with_la
 large_back true a h = set_large a h
 large_back false a h = h
 
-pub with_large_small : (l : Bool) (a : ℕ) → is_large a ≡ false → a < 256 → with_large l a < 256
-with_large_small true a h l = let e = even a h in omega (arith, e)
-with_large_small false a h l = l
-
-still_moves : (l : Bool) (a : ℕ) → is_large a ≡ false → is_fixed a ≡ false → is_fixed (with_large l a) ≡ false
-still_moves true a h f = ap (λ (n : ℕ). n % 2 == 1) (same a (even a h)) ∙ f where
-  same : (a : ℕ) → a % 2 ≡ 0 → (a + 1) / 4 ≡ a / 4
-  same a e = omega arith
-still_moves false a h f = f
-
-still_summed : (l : Bool) (a : ℕ) → is_large a ≡ false → is_summed (with_large l a) ≡ is_summed a
-still_summed true a h = ap (λ (n : ℕ). n % 2 == 1) (same a (even a h)) where
-  same : (a : ℕ) → a % 2 ≡ 0 → (a + 1) / 64 ≡ a / 64
-  same a e = omega arith
-still_summed false a h = refl
-
 sums_up : (n : ℕ) → (n + complement n) % 256 ≡ 0
 sums_up n = omega arith
 
@@ -138,7 +63,7 @@ sums_up n = omega arith
 sum_is_right : (l : Bool) (a : ℕ) (payload : List ℕ) → is_large a ≡ false
     → file_sum_right (with_large l a) (file_sum_for a payload) payload ≡ true
 sum_is_right l a payload h = ap (λ (b : Bool). if b then (sum payload + file_sum_for a payload) % 256 == 0
-    else file_sum_for a payload == 0xaa) (still_summed l a h) ∙ go (is_summed a)
+    else file_sum_for a payload == 0xaa) (summed_with l a h) ∙ go (is_summed a)
   where
     go : (b : Bool) → (if b then (sum payload + (if b then complement (sum payload) else fixed_checksum)) % 256 == 0
         else (if b then complement (sum payload) else fixed_checksum) == 0xaa) ≡ true
@@ -185,7 +110,7 @@ file_cell system p f k at filler few multiple =
     (cell system at f.payload filler (λ e. k.large (sym (large_back large f.attributes k.short) ∙ e))
     (ap (λ (m : ℕ). m + n) (sym (length-stored_header system p f k))) (record {
       kind = k.kind;
-      moves = still_moves large f.attributes k.short k.moves;
+      moves = fixed_with large f.attributes k.short ∙ k.moves;
       file_sum = sum_is_right large f.attributes f.payload k.short;
     }) few multiple)
 
@@ -195,10 +120,6 @@ length-stored system p f k =
     length-append (stored_header p f) f.payload ∙ ap (λ (m : ℕ). m + length f.payload) (length-stored_header system p f k)
 
 -- ---- a pad
-
-bytes_replicate : (k x : ℕ) → x < 256 → IsBytes (replicate k x)
-bytes_replicate zero x l = bytes_none
-bytes_replicate (suc k) x l = bytes_cons x (replicate k x) l (bytes_replicate k x l)
 
 bytes_name : IsBytes pad_name
 bytes_name = bytes_replicate 16 255 (omega arith)

@@ -13,7 +13,7 @@ use Rattle.fv_canon.specs.ImageOf.{data_of, body_image, frame_of}
 use Rattle.fv_canon.specs.Layouts.{LaysContent, LaysBody}
 use Rattle.fv_canon.proofs.MadeLaws.{data_made, stream_made, sections_made}
 use Rattle.fv_file.proofs.Laws.{cell_read}
-use Rattle.fv_canon.proofs.StreamLaws.{begun_body}
+use Rattle.fv_section.proofs.StreamLaws.{begun_bytes}
 
 -- the data of a file that was read and laid out
 pub data_is : (m : FileMeaning) (starts : List ℕ) → IsReadFile m → LaysContent (content_of m) starts
@@ -27,7 +27,7 @@ data_is (File name kind attributes content) starts (n, l, f, (system, p, b, smal
 pub body_is : (m : SectionMeaning) (starts : List ℕ) → IsReadSection m → LaysBody (body_of m) starts
     → IsBodyImage (body_of m) (body_image (body_of m) starts)
 body_is (Section kind extended body) starts (n, l, f, (b, small, most, stands), is) laid =
-    let inside = begun_body f (drop f.offset b) stands.behind (bytes_drop f.offset b small) stands.begins in
+    let inside = begun_bytes f (drop f.offset b) stands.behind (bytes_drop f.offset b small) stands.begins in
     let frame : IsFrame (Section kind extended body) (frame_of 0 (Section kind extended body) (starts ++ [])) =
     sections_made n (Section kind extended body) f 0 starts [] inside.0 is laid in
     subst (λ (xs : List ℕ). IsBodyImage body (body_image body xs)) (append-nil starts) frame.2

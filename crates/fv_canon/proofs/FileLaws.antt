@@ -190,15 +190,6 @@ walk_goes p total e fs own i f starts at size =
     ∙ ap (λ (xs : List ℕ). files_bytes p total e (stored_of (files_from (f ∷ drop (i + 1) fs)) starts) xs) at.starts
     ∙ files_go p total e f (drop (i + 1) fs) (get_or own i 0) (drop (i + 1) own) starts size
 
-pub file_smaller : (fs : List FileMeaning) (i : ℕ) (f : FileMeaning) → i < length fs → f ≡ get_or fs i f
-    → file_size f + 1 ≤ files_size (files_from fs)
-file_smaller fs i f l is = subst (λ (x : FileMeaning). file_size x + 1 ≤ files_size (files_from fs)) (sym is) (go fs i f l)
-  where
-    go : (fs : List FileMeaning) (i : ℕ) (d : FileMeaning) → i < length fs → file_size (get_or fs i d) + 1 ≤ files_size (files_from fs)
-    go [] i d l = absurd (omega arith)
-    go (x ∷ xs) zero d l = omega arith
-    go (x ∷ xs) (suc i) d l = omega (arith, go xs i d (omega arith))
-
 -- where no file is left, erased bytes to the end make the whole
 pub files_end : {S : Type 0} (takes : S → List ℕ → S → Type 0) → WalkLaws takes
     → (p : Polarity) (total edge : ℕ) (fs : List FileMeaning) (own rest : List ℕ) (i : ℕ) (s t u : S) (whole : List ℕ) → length fs ≤ i

@@ -20,7 +20,8 @@ use Rattle.fv_canon.specs.Layouts.{first_edge}
 use Rattle.fv_canon.specs.StoredWalks.{volume_bytes}
 use Rattle.fv_canon.proofs.OneLaws.{follow_length}
 use Rattle.fv_canon.proofs.SpanLaws.{volume_written}
-use Rattle.fv_canon.proofs.StreamLaws.{StreamsAgain, begun_body, stream_again}
+use Rattle.fv_canon.proofs.StreamLaws.{StreamsAgain, stream_again}
+use Rattle.fv_section.proofs.StreamLaws.{begun_bytes}
 use Rattle.fv_base.proofs.Laws.{bytes_back}
 use Rattle.fv_canon.proofs.VolumeLaws.{known, files_read, sections_again}
 use Rattle.fv_canon.proofs.ReadLaws.{FileIsAccepted}
@@ -100,13 +101,13 @@ frames_made is_section made at place (MoreSections s NoSections) (f ∷ []) tail
     (here, behind, text, q, r) = (
       offset_is place s (starts ++ more),
       subst (λ (xs : List ℕ). IsFrame s (frame_of place s xs)) (sym (moved starts here behind more text))
-          (made s f place here (behind ++ more) (begun_body f b rest small begun).0 p.0 q),
+          (made s f place here (behind ++ more) (begun_bytes f b rest small begun).0 p.0 q),
       refl,
     )
 frames_made is_section made at place (MoreSections s (MoreSections t ss)) (f ∷ []) tail b starts more small is p laid = absurd p.1
 frames_made is_section made at place (MoreSections s ss) (f ∷ g ∷ fs) tail b starts more small (filler, rest, begun, offset, count, later) p
     (here, behind, text, q, r) =
-    let parts = begun_body f b (filler ++ rest) small begun in
+    let parts = begun_bytes f b (filler ++ rest) small begun in
     let next : ℕ = up_to_4 (place + frame_len (frame_of place s (starts ++ more))) in (
       offset_is place s (starts ++ more),
       subst (λ (xs : List ℕ). IsFrame s (frame_of place s xs)) (sym (moved starts here behind more text))

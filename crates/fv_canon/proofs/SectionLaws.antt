@@ -16,7 +16,7 @@ use Rattle.fv_tree.specs.Denotes.{MeansSection, IsReadSection}
 use Rattle.fv_canon.specs.ImageOf.{frames_of, frame_of, body_image, starts_in_section, starts_in_sections, starts_in_body}
 use Rattle.fv_canon.specs.Layouts.{LaysSections, LaysSection, LaysBody}
 use Rattle.fv_canon.proofs.MadeLaws.{sections_made, laid_section, moved, behind_is}
-use Rattle.fv_canon.proofs.StreamLaws.{begun_fits, begun_body}
+use Rattle.fv_section.proofs.StreamLaws.{begun_bytes, fits}
 use Rattle.fv_canon.proofs.VolumeLaws.{sections_again}
 use Rattle.fv_canon.specs.ImageWalks.{frame_bytes, sections_bytes, BeginsWithStarts, TakesFront}
 
@@ -30,7 +30,7 @@ pub section_known : (m : SectionMeaning) (starts : List ℕ) → IsReadSection m
 section_known (Section kind extended body) starts (n, l, f, (b, small, most, stands), is) (laid, more, text, lays) =
     let part : List ℕ = drop f.offset b in
     let bytes : IsBytes part = bytes_drop f.offset b small in
-    let inside = begun_body f part stands.behind bytes stands.begins in
+    let inside = begun_bytes f part stands.behind bytes stands.begins in
     let image = sections_made n (Section kind extended body) f 0 laid more inside.0 is lays in
     let again =
     sections_again n (Section kind extended body) f (frame_of 0 (Section kind extended body) (laid ++ more)) inside.0 is image in
@@ -38,7 +38,7 @@ section_known (Section kind extended body) starts (n, l, f, (b, small, most, sta
     let own : body_len body ≡ length f.body = cancel extended f.extended (length f.body) (body_len body) form again.len in
     record {
       fits = subst (λ (x : Bool). FitsForm x (body_len body)) (sym form)
-          (subst (FitsForm f.extended) (sym own) (begun_fits f part stands.behind bytes stands.begins));
+          (subst (FitsForm f.extended) (sym own) (fits f part stands.behind bytes stands.begins));
       long = ap (λ (xs : List ℕ). length (body_image body xs)) text ∙ again.long ∙ sym own;
       small = below (section_len (Section kind extended body)) (frame_len f) (length part) (length b) (length stands.behind) f.offset
           again.len (length_begun f part stands.behind stands.begins) (length-drop f.offset b) most;
@@ -171,17 +171,3 @@ front_end takes laws (x ∷ xs) i s t u gap starts rest tail l some f p =
     sym (append-nil f.front) ∙ ap (λ (ys : List ℕ). f.front ++ ys) (sym ended) ∙ f.whole_is in
     subst (λ (ys : List ℕ). takes s ys u) (ap (λ (ys : List ℕ). ys ++ replicate tail 0) whole
     ∙ stream_whole x (sections_from xs) starts tail) (laws.joined s t u f.front (replicate tail 0) f.taken p)
-
-pub section_smaller : (ss : List SectionMeaning) (i : ℕ) (s : SectionMeaning) → i < length ss → s ≡ get_or ss i s
-    → body_size (body_of s) + 2 ≤ sections_size (sections_from ss)
-section_smaller ss i s l is =
-    subst (λ (x : SectionMeaning). body_size (body_of x) + 2 ≤ sections_size (sections_from ss)) (sym is) (go ss i s l)
-  where
-    one : (x : SectionMeaning) → body_size (body_of x) + 1 ≡ section_size x
-    one (Section k e b) = refl
-
-    go : (ss : List SectionMeaning) (i : ℕ) (d : SectionMeaning) → i < length ss
-        → body_size (body_of (get_or ss i d)) + 2 ≤ sections_size (sections_from ss)
-    go [] i d l = absurd (omega arith)
-    go (x ∷ xs) zero d l = omega (arith, one x)
-    go (x ∷ xs) (suc i) d l = omega (arith, go xs i d (omega arith))

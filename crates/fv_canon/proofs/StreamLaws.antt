@@ -13,42 +13,9 @@ use Rattle.fv_tree.specs.Meaning.{Meaning, SectionMeanings, NoSections, MoreSect
 use Rattle.fv_tree.specs.Meaning.{sections_list, sections_end, section_len, length_of}
 use Rattle.fv_tree.specs.Denotes.{Sections, Streams, Volumes, Pairs, StreamOver, SectionOver, Opens}
 use Rattle.fv_canon.specs.Image.{IsImage, AreFrames, IsFrame}
+use Rattle.fv_section.proofs.StreamLaws.{begun_bytes, fits}
 
--- ---- a body that was read fits the form of its header
-fits_form : (extended : Bool) (kind n : ℕ) (h : List ℕ) → IsBytes h → IsSectionHeader extended kind n h → FitsForm extended n
-fits_form false kind n h small is =
-    let long : length (field 0 3 h) ≡ 3 = length-take-le 3 h (omega (arith, is.whole)) in
-    let most : le_at 0 3 h < 16777216 = le_below 3 (field 0 3 h) (bytes_take 3 h small) long in
-    below (le_at 0 3 h) n is.says.0 is.says.1 most
-  where
-    below : (v n : ℕ) → v ≡ 4 + n → 4 + n ≢ 0xffffff → v < 16777216 → 4 + n ≤ 0xfffffe
-    below v n e d l = omega (arith, e, d, l)
-fits_form true kind n h small is =
-    let long : length (field 4 4 h) ≡ 4 = length-take-le 4 (drop 4 h) (room (length (drop 4 h)) (long_drop h is.whole)) in
-    let most : le_at 4 4 h < 4294967296 = le_below 4 (field 4 4 h) (bytes_take 4 (drop 4 h) (bytes_drop 4 h small)) long in
-    below (le_at 4 4 h) n is.says.1 most
-  where
-    below : (v n : ℕ) → v ≡ 8 + n → v < 4294967296 → 8 + n ≤ 0xffffffff
-    below v n e l = omega (arith, e, l)
 
-    room : (k : ℕ) → k ≡ 4 → 4 ≤ k
-    room k e = omega arith
-
-    long_drop : (h : List ℕ) → length h ≡ 8 → length (drop 4 h) ≡ 4
-    long_drop (a ∷ b ∷ c ∷ d ∷ r) e = omega arith
-    long_drop [] e = absurd (omega arith)
-    long_drop (a ∷ []) e = absurd (omega arith)
-    long_drop (a ∷ b ∷ []) e = absurd (omega arith)
-    long_drop (a ∷ b ∷ c ∷ []) e = absurd (omega arith)
-
-pub begun_fits : (f : FrameForm) (b rest : List ℕ) → IsBytes b → BeginsFrame f b rest → FitsForm f.extended (length f.body)
-begun_fits f b rest small is =
-    fits_form f.extended f.kind (length f.body) is.head (bytes_front is.head (f.body ++ rest) (subst IsBytes is.text small)) is.is_header
-
-pub begun_body : (f : FrameForm) (b rest : List ℕ) → IsBytes b → BeginsFrame f b rest → IsBytes f.body × IsBytes rest
-begun_body f b rest small is =
-    let back = bytes_back is.head (f.body ++ rest) (subst IsBytes is.text small) in
-    (bytes_front f.body rest back, bytes_back f.body rest back)
 
 -- the type of a section that was read is a byte, and then a header of this type is bytes
 begun_kind : (f : FrameForm) (b rest : List ℕ) → IsBytes b → BeginsFrame f b rest → f.kind < 256
@@ -134,13 +101,13 @@ last_again : (is_section : Sections) → SectionsAgain is_section
     → SplitsFrom at (f ∷ []) tail b → is_section f s → (g.offset ≡ at) → IsFrame s g
     → FramesAgain is_section at end (MoreSections s NoSections) (g ∷ []) tail b
 last_again is_section again at end s f g tail b small e (rest, begun, offset, count, most) p there q =
-    let a = again s f g (begun_body f b rest small begun).0 p q in
-    let fits = begun_fits f b rest small begun in
+    let a = again s f g (begun_bytes f b rest small begun).0 p q in
+    let room = fits f b rest small begun in
     let sizes : frame_len g ≡ frame_len f = same_size f.extended g.extended (length f.body) (length g.body) a.extended a.long in
     record {
       placed = (
         there,
-        subst (λ (x : Bool). FitsForm x (length g.body)) (sym a.extended) (subst (FitsForm f.extended) (sym a.long) fits),
+        subst (λ (x : Bool). FitsForm x (length g.body)) (sym a.extended) (subst (FitsForm f.extended) (sym a.long) room),
         subst (λ (n : ℕ). at + n + tail ≤ up_to_4 (at + n)) (sym sizes) most,
       );
       pairs = (a.is, tt);
@@ -174,8 +141,8 @@ more_again : (is_section : Sections) → SectionsAgain is_section → (at end : 
     → FramesAgain is_section (up_to_4 (at + frame_len g)) (up_to_4 end + section_len s) (MoreSections t ss) (k ∷ gs) tail rest)
     → FramesAgain is_section at end (MoreSections s (MoreSections t ss)) (g ∷ k ∷ gs) tail b
 more_again is_section again at end s t ss f h fs g k gs tail b filler rest small m e begun offset count p there q behind =
-    let a = again s f g (begun_body f b (filler ++ rest) small begun).0 p q in
-    let fits = begun_fits f b (filler ++ rest) small begun in
+    let a = again s f g (begun_bytes f b (filler ++ rest) small begun).0 p q in
+    let room = fits f b (filler ++ rest) small begun in
     let sizes : frame_len g ≡ frame_len f = same_size f.extended g.extended (length f.body) (length g.body) a.extended a.long in
     let r = behind sizes in
     let head : List ℕ = section_head_of g.kind g.extended (length g.body) in
@@ -184,7 +151,7 @@ more_again is_section again at end s t ss f h fs g k gs tail b filler rest small
     record {
       placed = (
         there,
-        subst (λ (x : Bool). FitsForm x (length g.body)) (sym a.extended) (subst (FitsForm f.extended) (sym a.long) fits),
+        subst (λ (x : Bool). FitsForm x (length g.body)) (sym a.extended) (subst (FitsForm f.extended) (sym a.long) room),
         r.placed,
       );
       pairs = (a.is, r.pairs);
@@ -240,7 +207,7 @@ frames_again is_section again at end (MoreSections s (MoreSections t ss)) (f ∷
 frames_again is_section again at end (MoreSections s (MoreSections t ss)) (f ∷ h ∷ fs) (g ∷ []) tail b small m e z is p q = absurd q.2
 frames_again is_section again at end (MoreSections s (MoreSections t ss)) (f ∷ h ∷ fs) (g ∷ k ∷ gs) tail b small m e z
     (filler, rest, begun, offset, count, more) p q =
-    let parts = begun_body f b (filler ++ rest) small begun in
+    let parts = begun_bytes f b (filler ++ rest) small begun in
     let a = again s f g parts.0 p.0 q.1 in
     more_again is_section again at end s t ss f h fs g k gs tail b filler rest small m e begun offset count p.0 q.0 q.1
     (λ same. frames_again is_section again (up_to_4 (at + frame_len g)) (up_to_4 end + section_len s) (MoreSections t ss) (h ∷ fs) (k ∷ gs)

@@ -27,10 +27,7 @@ use Rattle.fv_canon.proofs.StreamLaws.{stream_again}
 use Rattle.fv_canon.proofs.VolumeLaws.{known, files_read, sections_again}
 use Rattle.fv_canon.specs.Placed.{ArePlaced, used_by}
 use Rattle.fv_canon.specs.ImageWalks.{BeginsWithStarts}
-
-pub list_from : (fs : List FileMeaning) → files_list (files_from fs) ≡ fs
-list_from [] = refl
-list_from (f ∷ fs) = ap (λ (xs : List FileMeaning). f ∷ xs) (list_from fs)
+use Rattle.fv_tree.proofs.VolumeLaws.{files_list_back}
 
 -- ---- the used size
 abbrev used_parts : ℕ → List Part → List ℕ → ℕ
@@ -80,7 +77,7 @@ volume_laid h fs starts (k, few, b, small, d) (laid, more, whole, (own, inner, t
     let files : FileMeanings = files_from fs in
     let first : ℕ = canonical_first h h.ext in
     let n : ℕ = length fs in
-    let parts : parts_of files ≡ map part_of fs = ap (λ (xs : List FileMeaning). map part_of xs) (list_from fs) in
+    let parts : parts_of files ≡ map part_of fs = ap (λ (xs : List FileMeaning). map part_of xs) (files_list_back fs) in
     let follow : StartsFollow h.length first (map part_of fs) own =
     subst (λ (ps : List Part). StartsFollow h.length first ps own) parts placed.placement.follow in
     let count : length own ≡ n = follow_length h.length first (map part_of fs) own follow ∙ length-map fs part_of in
@@ -127,13 +124,13 @@ volume_text h fs starts v =
     let first : ℕ = canonical_first h h.ext in
     let fill : List ℕ = replicate (first - canonical_end h h.ext) (erased_byte p) in
     let files : List ℕ = files_bytes p h.length first (stored_of (files_from fs) (drop n starts)) (take n starts) in
-    ap (λ (k : ℕ). volume_bytes h (stored_of (files_from fs) (drop k starts)) (take k starts)) (ap length (list_from fs))
+    ap (λ (k : ℕ). volume_bytes h (stored_of (files_from fs) (drop k starts)) (take k starts)) (ap length (files_list_back fs))
     ∙ ap (λ (u : ℕ). canonical_head h ++ (ext_pad p h.ext u ++ (fill ++ files))) v.used
     ∙ ap (λ (xs : List ℕ). canonical_head h ++ xs) (sym (append_assoc (ext_pad p h.ext (used_by first fs (take n starts))) fill files))
 
 pub volume_left : (h : HeadFields) (fs : List FileMeaning)
     → starts_in (Volume h (files_from fs)) ≡ length fs + starts_in_files (files_from fs)
-volume_left h fs = ap (λ (k : ℕ). k + starts_in_files (files_from fs)) (ap length (list_from fs))
+volume_left h fs = ap (λ (k : ℕ). k + starts_in_files (files_from fs)) (ap length (files_list_back fs))
 
 -- the same, of the view's meaning
 pub volume_is : (m : Meaning) (h : HeadFields) (fs : List FileMeaning) → m ≡ Volume (head_of m) (files_from fs) → h ≡ head_of m

@@ -31,6 +31,7 @@ use Rattle.fv_canon.proofs.InputLaws.{image_fits, want_known}
 use Rattle.fv_canon.proofs.ImageLaws.{image_stays_long}
 use Rattle.fv_canon.proofs.MeaningLaws.{one_meaning}
 use Rattle.fv_canon.proofs.OneLaws.{image_one}
+use Rattle.fv_tree.proofs.ScanLaws.{one_of}
 
 -- ---- bytes
 
@@ -305,11 +306,6 @@ covered_known b o (p ∷ ps) k ((n, v, to), all) = go (cases_lt k p) (cases_lt k
   go (inr at) (inr most) (inr none) = inr (past most none)
   go (inl less) _ (inl c) = inl (c.0, c.1, behind p ps c.0 c.2, c.3, c.4, c.5)
   go (inl less) _ (inr none) = inr (before less none)
-
-one_of : (P : ℕ → Type 0) (xs : List ℕ) (x : ℕ) → AllByRecursion P xs → Contains xs x → P x
-one_of P [] x h (k, l, e) = absurd (omega (arith, l))
-one_of P (y ∷ xs) x (p, h) (zero, l, e) = subst P e p
-one_of P (y ∷ xs) x (p, h) (suc k, l, e) = one_of P xs x h (k, omega (arith, l), e)
 
 -- the image at a place, by the length of the volume there
 image_at : (b places o : List ℕ) (p n : ℕ) → Renewed b places o → Contains places p → VolumeAt b p n

@@ -36,6 +36,7 @@ use Rattle.fv_command.specs.CheckTexts.{written_in, pad_line, pad_text, phase_of
 use Rattle.fv_command.specs.CheckTexts.{HeldDepex, IsSpelled, IsNoted, AreNotes, AreCells, CheckText, check_lines, depexes_in}
 use Rattle.fv_command.specs.CheckRuns.{Noted}
 use Rattle.fv_command.specs.declared.checking.DepexNote.{DepexNote}
+use Rattle.fv_base.proofs.TestLemmas.{not_equal}
 
 -- ---- a walk over a list
 
@@ -71,12 +72,6 @@ notes_longer whole text piece count more is one before short =
 same_test : (a b : ℕ) → a ≡ b → (a == b) ≡ true
 same_test a b h = (Decides-eqb a b).1 h
 
-other_test : (a b : ℕ) → (a ≡ b → ⊥) → (a == b) ≡ false
-other_test a b h = go (a == b) refl where
-  go : (t : Bool) → (a == b) ≡ t → t ≡ false
-  go true is = absurd (h ((Decides-eqb a b).0 is))
-  go false is = refl
-
 pub erased_next : (p : Polarity) (b : List ℕ) (i e : ℕ) → i < length b → e ≡ erased_byte p → get_or b i 0 ≡ e
     → written_in p (take (i + 1) b) ≡ written_in p (take i b)
 erased_next p b i e l is same =
@@ -86,10 +81,10 @@ pub written_next : (p : Polarity) (b : List ℕ) (i e : ℕ) → i < length b �
     → written_in p (take (i + 1) b) ≡ written_in p (take i b) + 1
 written_next p b i e l is other =
     count_by_more_yes (λ x. not (x == erased_byte p)) b i 0 l
-    (ap not (other_test (get_or b i 0) (erased_byte p) (λ h. other (h ∙ sym is))))
+    (ap not (not_equal (get_or b i 0) (erased_byte p) (λ h. other (h ∙ sym is))))
 
 pub pad_told : (at n : ℕ) → (n ≡ 0 → ⊥) → pad_text at n ≡ pad_line at n
-pad_told at n h = rw (other_test n 0 h) refl
+pad_told at n h = rw (not_equal n 0 h) refl
 
 pub short_pad : (at n : List ℕ) → length at ≤ 20 → length n ≤ 20
     → length (codes "note pad at " ++ (at ++ (codes " holds " ++ (n ++ (codes " bytes" ++ line_feed))))) ≤ 66

@@ -24,6 +24,7 @@ use Rattle.fv_tree.proofs.OnceLaws.{one_cell_fault, one_frame_fault}
 use Rattle.fv_tree.proofs.Orders.{one_fault, first_of_once}
 use Rattle.fv_tree.proofs.RefuseLaws.{StreamRefuses, file_by, section_refuses, stream_refuses, first_refuses}
 use Rattle.fv_tree.proofs.TopLaws.{one_twin, one_top}
+use Rattle.fv_tree.proofs.SectionLaws.{group_is_no_volume}
 
 -- ---- by what stands inside
 
@@ -104,18 +105,14 @@ module _ (n : ℕ) (refused : StreamRefuses n) (once : StreamOnce n) (e g : Faul
 
 -- ---- the recursion
 
--- a group is no volume
-two_kinds : (f : FrameForm) → f.kind ≡ group_kind → f.kind ≡ volume_kind → ⊥
-two_kinds f p q = omega (arith, p, q)
-
 -- a section has one first fault
 section_once : (n : ℕ) (e g : Fault) (f : FrameForm) (base depth : ℕ) → SectionFirst n e f base depth
     → SectionFirst n g f base depth → e ≡ g
 section_once zero e g f base depth (_, is) (_, is') = is ∙ sym is'
 section_once (suc n) e g f base depth (inl (group, first)) (inl (_, first')) =
     stream_once (MeansSection n) (SectionFirst n) (section_refuses n) (section_once n) e g f.body _ (depth + 1) first first'
-section_once (suc n) e g f base depth (inl (group, _)) (inr (kind, opens, _)) = absurd (two_kinds f group kind)
-section_once (suc n) e g f base depth (inr (kind, opens, _)) (inl (group, _)) = absurd (two_kinds f group kind)
+section_once (suc n) e g f base depth (inl (group, _)) (inr (kind, opens, _)) = absurd (group_is_no_volume f group kind)
+section_once (suc n) e g f base depth (inr (kind, opens, _)) (inl (group, _)) = absurd (group_is_no_volume f group kind)
 section_once (suc n) e g f base depth (inr (kind, opens, first)) (inr (_, _, first')) =
     volume_once n (stream_refuses n) (stream_once (MeansSection n) (SectionFirst n) (section_refuses n) (section_once n)) e g _ (depth + 1)
     f.body first first'

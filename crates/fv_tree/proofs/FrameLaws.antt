@@ -5,7 +5,8 @@ use Rattle.std.specs.Prelude.{slice_get, ◌==◌, ◌⊎◌, min}
 use Rattle.std.specs.List.{filter}
 use Rattle.fv_section.specs.Frames.{FrameForm, Splits, FrameStandsAt, frame_len, up_to_4}
 use Rattle.fv_tree.specs.LookupInstances.{instance_of, frame_of_type}
-use Rattle.fv_tree.proofs.LookLaws.{no_type, one_type}
+use Rattle.fv_base.proofs.TestLemmas.{not_equal}
+use Rattle.fv_tree.proofs.LookLaws.{one_type}
 use Rattle.fv_tree.proofs.StreamLaws.{split_more as walk_more}
 
 module _ {A : Type 0} (test : A → Bool) where
@@ -80,7 +81,7 @@ pub frame_passed : (kind instance : ℕ) (fs : List FrameForm) (left : ℕ) (o :
     ⊎ ((f.kind ≡ kind) × (left ≡ 0))
     → Counted kind instance fs left o → Counted kind instance (fs ++ f ∷ []) left o
 frame_passed kind instance fs left o f (inl apart) h =
-    let e = filter_less (is_of kind) fs f (no_type f.kind kind apart) in
+    let e = filter_less (is_of kind) fs f (not_equal f.kind kind apart) in
     (h.0 ∙ ap (λ (l : List FrameForm). instance - length l) (sym e), h.1 ∙ ap (instance_of instance) (sym e))
 frame_passed kind instance fs left o f (inr met) h =
     let xs : List FrameForm = filter (is_of kind) fs in

@@ -32,6 +32,7 @@ use Rattle.fv_tree.specs.NameOrders.{names_in, number_from}
 use Rattle.fv_tree.specs.StandingForms.{file_form}
 use Rattle.fv_tree.specs.declared.volume_files.Standing.{Standing}
 use Rattle.fv_tree.proofs.AliveLaws.{same_name_back}
+use Rattle.fv_base.proofs.TestLemmas.{or_both}
 
 -- ---- the order
 
@@ -418,10 +419,6 @@ differ_back f g h = go (same_name g f) refl where
   go true e = sym (same_name_back g f e) ∙ h
   go false e = refl
 
-neither : (a b : Bool) → a ≡ false → b ≡ false → (a || b) ≡ false
-neither true b p q = cc
-neither false b p q = q
-
 -- a test of a file against another that wants one name
 abbrev WantsName : (FileForm → FileForm → Bool) → Type 0
 WantsName test = (f g : FileForm) → same_name f g ≡ false → test f g ≡ false
@@ -431,7 +428,7 @@ none_any : (test : FileForm → FileForm → Bool) → WantsName test → (f : F
     → list_any (test f) fs ≡ false
 none_any test wants f [] all = refl
 none_any test wants f (g ∷ gs) all =
-    neither (test f g) (list_any (test f) gs) (wants f g (names_differ f g all.0)) (none_any test wants f gs all.1)
+    or_both (test f g) (list_any (test f) gs) (wants f g (names_differ f g all.0)) (none_any test wants f gs all.1)
 
 twin_wants : WantsName is_twin
 twin_wants f g h = rw h refl
@@ -454,7 +451,7 @@ kept_behind : (f : FileForm) (fs gs : List FileForm)
     → AllByRecursion (λ g. list_any (replaces g) fs ≡ false) gs → AllByRecursion (λ g. list_any (replaces g) (f ∷ fs) ≡ false) gs
 kept_behind f fs [] all kept = tt
 kept_behind f fs (g ∷ gs) all kept = (
-  neither (replaces g f) (list_any (replaces g) fs) (replaces_wants g f (differ_back f g (names_differ f g all.0))) kept.0,
+  or_both (replaces g f) (list_any (replaces g) fs) (replaces_wants g f (differ_back f g (names_differ f g all.0))) kept.0,
   kept_behind f fs gs all.1 kept.1,
 )
 
@@ -463,7 +460,7 @@ all_kept : (fs : List FileForm) → IsDistinct (eq_by_cmp halves_cmp) (map halve
 unfolding IsDistinct
 all_kept [] h = tt
 all_kept (f ∷ fs) h = (
-  neither (replaces f f) (list_any (replaces f) fs) (not_itself (same_name f f) (is_marked f.head.state)) (none_any replaces replaces_wants
+  or_both (replaces f f) (list_any (replaces f) fs) (not_itself (same_name f f) (is_marked f.head.state)) (none_any replaces replaces_wants
       f fs h.0),
   kept_behind f fs fs h.0 (all_kept fs h.1),
 )

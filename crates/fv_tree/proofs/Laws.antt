@@ -9,12 +9,15 @@ pub use Rattle.fv_tree.proofs.SectionLaws.{list_back, sections_back}
 pub use Rattle.fv_tree.proofs.Lengths.{AsLong, stream_long, section_long, body_long, content_long}
 -- a volume has fewer files than bytes
 pub use Rattle.fv_tree.proofs.Counts.{few_files, few_of}
+-- what stands in a list is smaller than the list
+pub use Rattle.fv_tree.proofs.SizeLaws.{section_falls, body_falls, section_body_falls, file_falls, content_falls}
 -- ---- a volume
 
 -- a volume that bytes begin with has its front there, and the files of any front that they begin with
 pub use Rattle.fv_tree.proofs.VolumeLaws.{front_of, has_files}
--- alive files have different names
+-- alive files have different names; two have one name, whichever is first
 pub use Rattle.fv_tree.proofs.TopLaws.{names_differ}
+pub use Rattle.fv_tree.proofs.AliveLaws.{same_name_back}
 -- ---- a fault
 
 -- bytes have one first fault at most, and none where they begin with a volume; its condition stands
@@ -30,6 +33,6 @@ pub use Rattle.fv_tree.proofs.DifferLaws.{one_volume, no_difference}
 -- ---- the volumes in some bytes
 
 -- they begin at one list of places, and each of them lies within the bytes
-pub use Rattle.fv_tree.proofs.ScanLaws.{one_found, found_within}
+pub use Rattle.fv_tree.proofs.ScanLaws.{one_found, found_within, one_of}
 -- a volume at a place has one length, 64 at least and a multiple of 8, and lies within the bytes
 pub use Rattle.fv_tree.proofs.ScanLaws.{one_length, at_least, at_multiple, at_within}

@@ -20,6 +20,7 @@ pub mod FirstLaws
 pub mod KindLaws
 pub mod DifferLaws
 pub mod DifferWalks
+pub mod SizeLaws
 pub mod LookLaws
 pub mod FrameLaws
 pub mod ScanLaws

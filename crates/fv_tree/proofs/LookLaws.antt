@@ -45,12 +45,6 @@ pub slice_first : {A : Type 0} (x : A) (xs : List A) (n : ℕ) → n ≡ 0 → s
 slice_first x xs zero h = refl
 slice_first x xs (suc n) h = absurd (omega (arith, h))
 
-pub no_type : (a b : ℕ) → (a ≡ b → ⊥) → (a == b) ≡ false
-no_type a b h = go (a == b) refl where
-  go : (t : Bool) → (a == b) ≡ t → t ≡ false
-  go true is = absurd (h ((Decides-eqb a b).0 is))
-  go false is = refl
-
 pub one_type : (a b : ℕ) → a ≡ b → (a == b) ≡ true
 one_type a b h = (Decides-eqb a b).1 h
 
@@ -83,15 +77,6 @@ filter_append {A = A} test (x ∷ xs) ys = go (test x) refl (filter_append test 
       ≡ filter test (x ∷ xs) ++ filter test ys
   go true is h = rw is (ap (λ l. x ∷ l) h)
   go false is h = rw is h
-
-pub size_item : (ss : List SectionMeaning) (i : ℕ) (s : SectionMeaning) → i < length ss → s ≡ get_or ss i s
-    → section_size s + 1 ≤ sections_size (sections_from ss)
-size_item [] i s l is = absurd (omega (arith, l))
-size_item (x ∷ ss) zero s l is = omega (arith, ap section_size is)
-size_item (x ∷ ss) (suc i) s l is = omega (arith, size_item ss i s (omega (arith, l)) is)
-
-pub size_body : (s : SectionMeaning) → section_size s ≡ body_size (body_of s) + 1
-size_body (Section k e b) = refl
 
 -- the sections from i on, cut behind the one at i and those in it
 pub from_one : (kind : ℕ) (ss : List SectionMeaning) (i : ℕ) (s : SectionMeaning) → i < length ss → s ≡ get_or ss i s

@@ -25,6 +25,7 @@ use Rattle.fv_tree.specs.Files.{FileForm, files_in, same_name, is_marked, is_twi
 use Rattle.fv_tree.specs.FirstFault.{FirstTwin, TopElsewhere}
 use Rattle.fv_tree.specs.NameOrders.{key_cmp, is_keyed, HasNames}
 use Rattle.fv_tree.proofs.AliveLaws.{twin_back}
+use Rattle.fv_base.proofs.TestLemmas.{or_parts, or_both}
 
 -- ---- tests
 
@@ -106,14 +107,6 @@ not_twin f g h = go (is_twin g f) refl where
   go : (t : Bool) → is_twin g f ≡ t → t ≡ false
   go true p = sym (twin_back g f p) ∙ h
   go false p = refl
-
-or_parts : (a b : Bool) → (a || b) ≡ false → (a ≡ false) × (b ≡ false)
-or_parts true b h = cc
-or_parts false b h = (refl, h)
-
-or_both : (a b : Bool) → a ≡ false → b ≡ false → (a || b) ≡ false
-or_both true b p q = p
-or_both false b p q = q
 
 twins_push : (fs : List FileForm) (f : FileForm) → NoTwins fs → list_any (is_twin f) fs ≡ false → NoTwins (fs ++ f ∷ [])
 twins_push [] f none h = (refl, tt)

@@ -117,7 +117,7 @@ weaker : (P Q : ℕ → Type 0) → ((k : ℕ) → P k → Q k) → (xs : List �
 weaker P Q f [] h = tt
 weaker P Q f (x ∷ xs) (p, h) = (f x p, weaker P Q f xs h)
 
-one_of : (P : ℕ → Type 0) (xs : List ℕ) (x : ℕ) → AllByRecursion P xs → Contains xs x → P x
+pub one_of : (P : ℕ → Type 0) (xs : List ℕ) (x : ℕ) → AllByRecursion P xs → Contains xs x → P x
 one_of P [] x h (k, l, e) = absurd (omega (arith, l))
 one_of P (y ∷ xs) x (p, h) (zero, l, e) = subst P e p
 one_of P (y ∷ xs) x (p, h) (suc k, l, e) = one_of P xs x h (k, omega (arith, l), e)

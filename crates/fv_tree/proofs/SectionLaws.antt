@@ -117,7 +117,8 @@ group_shape f h = (by_tests f (f.kind == group_kind) ((f.kind == volume_kind) &&
 pub volume_shape : (f : FrameForm) → shape_of f ≡ shapes.Volume → IsOpened f
 volume_shape f h = (by_tests f (f.kind == group_kind) ((f.kind == volume_kind) && is_one_volume f.body) refl refl).2 h
 
-group_is_no_volume : (f : FrameForm) → f.kind ≡ group_kind → f.kind ≡ volume_kind → ⊥
+-- a group is no volume
+pub group_is_no_volume : (f : FrameForm) → f.kind ≡ group_kind → f.kind ≡ volume_kind → ⊥
 group_is_no_volume f a b = omega (arith, a, b)
 
 -- ---- a leaf, whatever lies inside

@@ -9,6 +9,7 @@ use Rattle.fv_tree.specs.Files.{FileForm, same_name, is_marked, is_twin, replace
 use Rattle.fv_tree.specs.FirstFault.{FirstTwin, TopElsewhere}
 use Rattle.fv_tree.proofs.AliveLaws.{twin_none}
 use Rattle.fv_tree.proofs.Orders.{Earlier, TwoCuts, two_cuts, in_middle, all_behind}
+use Rattle.fv_base.proofs.TestLemmas.{or_parts, or_both}
 
 -- ---- the first twin
 
@@ -24,25 +25,15 @@ one_twin f g fs (before, after, is, none, has) (before', after', is', none', has
 
 -- ---- some of the files, by a test
 
--- a disjunction that does not hold
-or_false : (a b : Bool) → (a || b) ≡ false → (a ≡ false) × (b ≡ false)
-or_false true b h = cc
-or_false false b h = (refl, h)
-
--- and back
-both_false : (a b : Bool) → a ≡ false → b ≡ false → (a || b) ≡ false
-both_false true b p q = cc
-both_false false b p q = q
-
 -- what finds nothing among the files finds nothing among some of them
 none_kept : (p q : FileForm → Bool) (fs : List FileForm) → list_any q fs ≡ false → list_any q (filter p fs) ≡ false
 none_kept p q [] h = refl
 none_kept p q (f ∷ fs) h =
-    let parts = or_false (q f) (list_any q fs) h in
+    let parts = or_parts (q f) (list_any q fs) h in
     go (p f) refl parts.0 (none_kept p q fs parts.1)
   where
     go : (t : Bool) → p f ≡ t → q f ≡ false → list_any q (filter p fs) ≡ false → list_any q (filter p (f ∷ fs)) ≡ false
-    go true e here rest = rw e (both_false (q f) (list_any q (filter p fs)) here rest)
+    go true e here rest = rw e (or_both (q f) (list_any q (filter p fs)) here rest)
     go false e here rest = rw e rest
 
 -- files without twins, of which some are kept
@@ -66,14 +57,14 @@ all_pass p (f ∷ fs) = go (p f) refl (all_pass p fs)
 -- a test that finds nothing fails at each item
 any_middle : (q : FileForm → Bool) (before : List FileForm) (f : FileForm) (after : List FileForm)
     → list_any q (before ++ (f ∷ after)) ≡ false → q f ≡ false
-any_middle q [] f after h = (or_false (q f) (list_any q after) h).0
-any_middle q (g ∷ gs) f after h = any_middle q gs f after (or_false (q g) (list_any q (gs ++ (f ∷ after))) h).1
+any_middle q [] f after h = (or_parts (q f) (list_any q after) h).0
+any_middle q (g ∷ gs) f after h = any_middle q gs f after (or_parts (q g) (list_any q (gs ++ (f ∷ after))) h).1
 
 -- and finds nothing behind it
 any_behind : (q : FileForm → Bool) (before : List FileForm) (f : FileForm) (after : List FileForm)
     → list_any q (before ++ (f ∷ after)) ≡ false → list_any q after ≡ false
-any_behind q [] f after h = (or_false (q f) (list_any q after) h).1
-any_behind q (g ∷ gs) f after h = any_behind q gs f after (or_false (q g) (list_any q (gs ++ (f ∷ after))) h).1
+any_behind q [] f after h = (or_parts (q f) (list_any q after) h).1
+any_behind q (g ∷ gs) f after h = any_behind q gs f after (or_parts (q g) (list_any q (gs ++ (f ∷ after))) h).1
 
 -- of files without twins, two at different places are none
 apart : (before : List FileForm) (f : FileForm) (mid : List FileForm) (g : FileForm) (after : List FileForm)

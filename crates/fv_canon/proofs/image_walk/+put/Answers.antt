@@ -21,10 +21,10 @@ use Rattle.fv_canon.specs.StoredWalks.{files_bytes}
 use Rattle.fv_canon.specs.StoredFiles.{stored_bytes, gap_bytes, size_for, file_sum_for}
 use Rattle.fv_canon.specs.Placed.{ArePlaced}
 use Rattle.fv_canon.proofs.FileLaws.{file_long, stored_is, size_is, at_file, file_laid, files_left, files_end, walk_goes}
-use Rattle.fv_canon.proofs.FileLaws.{file_smaller, placed_on}
+use Rattle.fv_canon.proofs.FileLaws.{placed_on}
 use Rattle.fv_canon.specs.ImageWalks.{BeginsWithStarts, TakesFront, sections_bytes}
 use Rattle.fv_canon.proofs.SectionLaws.{section_known, item_laid, in_body, body_laid, left_is, goes_on, front_more, front_end}
-use Rattle.fv_canon.proofs.SectionLaws.{section_smaller}
+use Rattle.fv_tree.proofs.SizeLaws.{section_body_falls, file_falls}
 use Rattle.std.proofs.Common.{take, drop-drop}
 use Rattle.fv_base.specs.declared.flash.Polarity.{Polarity}
 use Rattle.fv_head.specs.Attributes.{polarity_of}
@@ -79,7 +79,7 @@ put_sections-put_body-rest-requires g t c κs within =
     let l = item_laid c.args.sections.now c.loop-section.section-index c.section-item.result c.loop-section.rest.now
     c.loop-section-test.true c.section-item.is c.loop-section.invariant.laid in
     let less =
-    section_smaller c.args.sections.now c.loop-section.section-index c.section-item.result c.loop-section-test.true c.section-item.is in
+    section_body_falls c.args.sections.now c.loop-section.section-index c.section-item.result c.loop-section-test.true c.section-item.is in
     let same : body_size (body_view c.body.result.now) ≡ body_size (body_of c.section-item.result) = ap body_size c.body.ensures in (
       omega (arith, c.decreases, less, same),
       (
@@ -186,7 +186,7 @@ put_files-put_file-rest-requires g t c κs within =
     c.index-files-i.is c.loop-i.invariant.placed in
     let l = file_laid c.args.files.now c.loop-i.i c.index-files-i.result c.loop-i.rest.now c.loop-i-test.true c.index-files-i.is
     c.loop-i.invariant.laid in
-    let less = file_smaller c.args.files.now c.loop-i.i c.index-files-i.result c.loop-i-test.true c.index-files-i.is in
+    let less = file_falls c.args.files.now c.loop-i.i c.index-files-i.result c.loop-i-test.true c.index-files-i.is in
     (omega (arith, c.decreases, less), (within, (l.0, at.here.most)))
 
 pub put_files-size_for-requires : goal.put_files-size_for-requires

@@ -4,7 +4,8 @@ use Rattle.fv_tree.specs.Searches.{sought}
 use Rattle.fv_tree.specs.Meaning.{sections_from}
 use Rattle.fv_tree.specs.Sizes.{body_size, sections_size}
 use Rattle.fv_tree.specs.Views.{body_view}
-use Rattle.fv_tree.proofs.LookLaws.{from_one, size_body, size_item, sought_in, sought_past, past_end}
+use Rattle.fv_tree.proofs.LookLaws.{from_one, sought_in, sought_past, past_end}
+use Rattle.fv_tree.proofs.SizeLaws.{section_falls, body_falls}
 use Rattle.fv_tree.proofs.lookup.+seek.Goals as goal
 
 pub seek_body-seek_sections-requires : goal.seek_body-seek_sections-requires
@@ -19,17 +20,17 @@ seek_body-seek_sections-requires t c = (
 )
 
 pub seek_section-seek_body-requires : goal.seek_section-seek_body-requires
-seek_section-seek_body-requires t c = (omega (arith, c.decreases, size_body c.args.section.now, ap body_size c.body.ensures), tt)
+seek_section-seek_body-requires t c = (omega (arith, c.decreases, body_falls c.args.section.now, ap body_size c.body.ensures), tt)
 
 pub seek_section-seek_body-requires-2 : goal.seek_section-seek_body-requires-2
-seek_section-seek_body-requires-2 t c = (omega (arith, c.decreases, size_body c.args.section.now, ap body_size c.body-2.ensures), tt)
+seek_section-seek_body-requires-2 t c = (omega (arith, c.decreases, body_falls c.args.section.now, ap body_size c.body-2.ensures), tt)
 
 pub seek_sections-seek_section-requires : goal.seek_sections-seek_section-requires
 seek_sections-seek_section-requires t c = (
   omega (
     arith,
     c.decreases,
-    size_item c.args.sections.now c.loop-section.section-index c.section-item.result c.loop-section-test.true c.section-item.is,
+    section_falls c.args.sections.now c.loop-section.section-index c.section-item.result c.loop-section-test.true c.section-item.is,
   ),
   tt,
 )

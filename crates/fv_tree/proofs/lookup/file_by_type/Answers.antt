@@ -4,7 +4,8 @@ use Rattle.std.specs.List.{filter}
 use Rattle.fv_tree.specs.LookupInstances.{instance_of}
 use Rattle.fv_tree.specs.Meaning.{FileMeaning, file_kind_of, files_of}
 use Rattle.fv_tree.proofs.VolumeLaws.{files_list_back}
-use Rattle.fv_tree.proofs.LookLaws.{instance_at, past_end, passed, met, slice_next, slice_first, no_type, one_type}
+use Rattle.fv_base.proofs.TestLemmas.{not_equal}
+use Rattle.fv_tree.proofs.LookLaws.{instance_at, past_end, passed, met, slice_next, slice_first, one_type}
 use Rattle.fv_tree.proofs.lookup.file_by_type.Goals as goal
 
 pub loop-file-init : goal.loop-file-init
@@ -18,7 +19,7 @@ loop-file-preserved-then-kind c =
     c.loop-file.invariant
     ∙ ap (λ l. slice_get l c.loop-file.left)
     (passed test c.files-file-items.result.now c.loop-file.file-index c.file-item.result c.loop-file-test.true c.file-item.is
-    (no_type (file_kind_of c.file-item.result) c.args.kind (λ e. c.if-kind.true (c.kind.ensures ∙ e))))
+    (not_equal (file_kind_of c.file-item.result) c.args.kind (λ e. c.if-kind.true (c.kind.ensures ∙ e))))
 
 pub returns-then-left-eq0 : goal.returns-then-left-eq0
 returns-then-left-eq0 c =
