@@ -40,7 +40,8 @@ loop-i-init c =
 
 pub returns-in-None-first_start-clause-none : goal.returns-in-None-first_start-clause-none
 returns-in-None-first_start-clause-none c starts p =
-    let behind = behind (goal.at.returns-in-None-first_start-clause-none c).In-Some c.loop-i.i _ c.loop-i-test.true c.index-behind.ensures in
+    let behind =
+    behind (goal.at.returns-in-None-first_start-clause-none c).In-Some c.loop-i.i _ c.loop-i-test.true c.index-behind.ensures in
     none_here c.args.total c.loop-i.edge c.args.parts.now c.loop-i.i _ c.index-behind.result.now c.loop-i-test.true c.requires.total.1
     behind c.loop-i.invariant.forward.can c.in-None-first_start.ensures.none
 
