@@ -57,6 +57,7 @@ pub content_laid : (m : FileMeaning) (starts : List ℕ) → BeginsWithStarts La
 content_laid (File name kind attributes content) starts laid = laid
 
 -- ---- the walk over the files
+
 -- what is known of the file at a place
 pub record Here (total e : ℕ) (f : FileMeaning) (s : ℕ) : Type 0 where
   pub stands : StandsInVolume total e (part_of f) s
