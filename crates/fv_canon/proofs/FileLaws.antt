@@ -1,5 +1,5 @@
 -- What is known of a file that was read and laid out, and how the files of a volume go on.
-use Rattle.std.proofs.Common.{◌≡◌, ◌≤◌, ◌<◌, ◌⊎◌, inl, inr, ◌+◌, ◌-◌, ◌%◌, ℕ, zero, suc, List, [], ◌∷◌, ◌++◌, length, drop, replicate}
+use Rattle.std.proofs.Common.{◌≡◌, ◌≤◌, ◌<◌, ◌⊎◌, inl, inr, ◌+◌, ◌-◌, ◌%◌, ℕ, List, ◌∷◌, ◌++◌, length, drop, replicate}
 use Rattle.std.proofs.Common.{get_or, refl, sym, ap, ◌∙◌, subst, arith, append_assoc, drop-drop, length-drop}
 use Rattle.std.specs.Prelude.{map}
 use Rattle.std.proofs.lemmas.List.{drop_all, drop_more, length-map}
@@ -9,15 +9,16 @@ use Rattle.fv_base.specs.declared.flash.Polarity.{Polarity}
 use Rattle.fv_file.specs.NewHeaders.{file_head_of, needs_large}
 use Rattle.fv_file.proofs.FileLemmas.{header_least}
 use Rattle.fv_canon.specs.Starts.{StandsInVolume}
-use Rattle.fv_tree.specs.Meaning.{MoreFiles, FileMeaning, File, files_from, file_name_of, file_kind_of, attributes_of, content_of}
+use Rattle.fv_tree.specs.Meaning.{FileMeaning, File, files_from, file_name_of, file_kind_of, attributes_of, content_of}
 use Rattle.fv_tree.specs.Meaning.{data_len_of}
-use Rattle.fv_tree.specs.Sizes.{files_size, file_size}
+use Rattle.fv_tree.specs.Sizes.{files_size, file_size, content_size}
 use Rattle.fv_tree.specs.Denotes.{IsReadFile, MeansSection, Stream}
 use Rattle.fv_canon.specs.ImageOf.{stored_of, stored_file, data_of, starts_in_file, starts_in_files, starts_in_content}
 use Rattle.fv_canon.specs.Layouts.{LaysFiles, LaysFile, LaysContent, part_of}
 use Rattle.fv_canon.specs.StoredFiles.{stored_len, size_for, head_len_for, file_sum_for, stored_bytes, gap_bytes}
 use Rattle.fv_canon.specs.StoredWalks.{files_bytes}
-use Rattle.fv_canon.proofs.MadeLaws.{data_made, stream_made, sections_made, laid_file, moved, behind_is}
+use Rattle.fv_canon.proofs.ItemLaws.{item_at, both_laid}
+use Rattle.fv_canon.proofs.MadeLaws.{data_made, stream_made, sections_made, laid_file}
 use Rattle.fv_canon.proofs.OneLaws.{follow_length}
 use Rattle.fv_file.proofs.Laws.{cell_read}
 use Rattle.fv_canon.proofs.StreamLaws.{stream_again}
@@ -57,8 +58,6 @@ pub content_laid : (m : FileMeaning) (starts : List ℕ) → BeginsWithStarts La
 content_laid (File name kind attributes content) starts laid = laid
 
 -- ---- the walk over the files
-pub file_at : (fs : List FileMeaning) (i : ℕ) (f : FileMeaning) → i < length fs → f ≡ get_or fs i f → drop i fs ≡ f ∷ drop (i + 1) fs
-file_at fs i f l is = drop_more fs i f l ∙ ap (λ (x : FileMeaning). x ∷ drop (i + 1) fs) (sym is)
 
 -- what is known of the file at a place
 pub record Here (total e : ℕ) (f : FileMeaning) (s : ℕ) : Type 0 where
@@ -146,7 +145,7 @@ pub record AtFile (total e : ℕ) (fs : List FileMeaning) (own : List ℕ) (i : 
 pub at_file : (total e : ℕ) (fs : List FileMeaning) (own : List ℕ) (i : ℕ) (f : FileMeaning) → i < length fs → f ≡ get_or fs i f
     → ArePlaced total e (drop i fs) (drop i own) → AtFile total e fs own i f
 at_file total e fs own i f l is placed =
-    let files = file_at fs i f l is in
+    let files = item_at fs i f l is in
     let starts = drop_more own i 0 (own_length total e fs own i l placed) in
     let both = subst (λ (xs : List ℕ). ArePlaced total e (f ∷ drop (i + 1) fs) xs) starts
     (subst (λ (xs : List FileMeaning). ArePlaced total e xs (drop i own)) files placed) in
@@ -161,20 +160,14 @@ pub file_laid : (fs : List FileMeaning) (i : ℕ) (f : FileMeaning) (starts : Li
     → BeginsWithStarts LaysFiles (files_from (drop i fs)) starts
     → BeginsWithStarts LaysFile f starts × BeginsWithStarts LaysFiles (files_from (drop (i + 1) fs)) (drop (starts_in_file f) starts)
 file_laid fs i f starts l is laid =
-    go (subst (λ (xs : List FileMeaning). BeginsWithStarts LaysFiles (files_from xs) starts) (file_at fs i f l is) laid)
-  where
-    go : BeginsWithStarts LaysFiles (MoreFiles f (files_from (drop (i + 1) fs))) starts
-        → BeginsWithStarts LaysFile f starts × BeginsWithStarts LaysFiles (files_from (drop (i + 1) fs)) (drop (starts_in_file f) starts)
-    go (whole, more, text, (here, behind, parts, p, q)) = (
-      (here, behind ++ more, text ∙ moved whole here behind more parts, p),
-      (behind, more, ap (drop (starts_in_file f)) text ∙ behind_is (starts_in_file f) whole here behind more parts (laid_file f here p), q),
-    )
+    both_laid LaysFile LaysFiles f (files_from (drop (i + 1) fs)) (starts_in_file f) starts (laid_file f)
+    (subst (λ (xs : List FileMeaning). BeginsWithStarts LaysFiles (files_from xs) starts) (item_at fs i f l is) laid)
 
 pub files_left : (fs : List FileMeaning) (i : ℕ) (f : FileMeaning) (starts : List ℕ) → i < length fs → f ≡ get_or fs i f
     → drop (starts_in_files (files_from (drop i fs))) starts
     ≡ drop (starts_in_files (files_from (drop (i + 1) fs))) (drop (starts_in_file f) starts)
 files_left fs i f starts l is =
-    ap (λ (xs : List FileMeaning). drop (starts_in_files (files_from xs)) starts) (file_at fs i f l is)
+    ap (λ (xs : List FileMeaning). drop (starts_in_files (files_from xs)) starts) (item_at fs i f l is)
     ∙ sym (drop-drop (starts_in_files (files_from (drop (i + 1) fs))) (starts_in_file f) starts)
 
 -- the walk at a file: what is left is its gap, itself and its filler, and then the files behind it

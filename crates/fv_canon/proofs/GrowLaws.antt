@@ -1,122 +1,82 @@
 -- A walk over a volume that adds the starts of the files in it.
 use Rattle.std.proofs.Common.{◌≡◌, ◌≤◌, ◌<◌, ◌⊎◌, inl, inr, ◌+◌, ℕ, zero, suc, List, [], ◌∷◌, ◌++◌, length}
-use Rattle.std.proofs.Common.{take, get_or, refl, sym, ap, ◌∙◌, subst, arith, append_assoc, append-nil}
-use Rattle.std.specs.Prelude.{Result, Ok, Err, IfErr}
-use Rattle.std.specs.Result.{IsErrAnd}
+use Rattle.std.proofs.Common.{take, get_or, refl, sym, ap, ◌∙◌, subst, arith, append_assoc, append-nil, Result, Ok, Err, IfErr, IsErrAnd}
 use Rattle.fv_base.specs.Faults.{want_of_memory}
 use Rattle.fv_base.specs.declared.fault.Fault.{Fault}
 use Rattle.fv_tree.specs.Denotes.{IsMeaning, IsReadFile, IsReadSection, MeansSection, Stream}
 use Rattle.fv_tree.specs.Meaning.{Meaning, files_from, FileMeaning, File, content_of}
 use Rattle.fv_tree.specs.Meaning.{SectionMeanings, SectionMeaning, Section, sections_from, BodyMeaning, body_of, Group, Nested}
-use Rattle.fv_tree.specs.Sizes.{files_size, file_size, content_size, section_size, sections_size, body_size}
-use Rattle.fv_canon.specs.Depths.{NestsVolume, NestsFiles, NestsContent, NestsSections, NestsBody}
-use Rattle.fv_canon.specs.Layouts.{LaysFiles, LaysFile, LaysContent, LaysSections, LaysSection, LaysBody}
-use Rattle.fv_canon.specs.Layouts.{UnfitFiles, UnfitFile, UnfitContent, UnfitSections, UnfitSection, UnfitBody}
+use Rattle.fv_canon.specs.Depths.{NestsVolume, NestsFiles, NestsFile, NestsContent, NestsSections, NestsSection, NestsBody}
+use Rattle.fv_canon.specs.Layouts.{LaysFiles, LaysContent, LaysSections, LaysBody}
+use Rattle.fv_canon.specs.Layouts.{UnfitFiles, UnfitContent, UnfitSections, UnfitBody}
 use Rattle.fv_canon.proofs.DepthLaws.{nests, file_in, stream_in, sections_in}
+use Rattle.fv_canon.proofs.ItemLaws.{item_has}
 use Rattle.fv_canon.proofs.FitLaws.{laid_fits_section, laid_fits_file}
-use Rattle.fv_canon.specs.LayoutWalks.{Shallow}
+use Rattle.fv_canon.specs.LayoutWalks.{Grew, Shallow}
 
 -- ---- sections
 
 -- one section more
 pub lays_push : (ss : List SectionMeaning) (i : ℕ) (d : SectionMeaning) (a b : List ℕ) → i < length ss
-    → LaysSections (sections_from (take i ss)) a → LaysSection (get_or ss i d) b → LaysSections (sections_from (take (suc i) ss)) (a ++ b)
+    → LaysSections (sections_from (take i ss)) a → LaysBody (body_of (get_or ss i d)) b
+    → LaysSections (sections_from (take (suc i) ss)) (a ++ b)
 lays_push [] i d a b l p q = absurd (omega arith)
-lays_push (s ∷ ss) zero d a b l p q = (b, [], ap (λ (xs : List ℕ). xs ++ b) p ∙ sym (append-nil b), q, refl)
+lays_push (Section k e m ∷ ss) zero d a b l p q = (b, [], ap (λ (xs : List ℕ). xs ++ b) p ∙ sym (append-nil b), q, refl)
 lays_push (s ∷ ss) (suc i) d a b l (here, behind, text, p, r) q =
     (here, behind ++ b, ap (λ (xs : List ℕ). xs ++ b) text ∙ append_assoc here behind b, p, lays_push ss i d behind b (omega arith) r q)
 
 -- the first section that is not laid out
 pub unfit_at : (ss : List SectionMeaning) (i : ℕ) (d : SectionMeaning) (a : List ℕ) (depth : ℕ) (f : Fault) → i < length ss
-    → LaysSections (sections_from (take i ss)) a → UnfitSection (get_or ss i d) depth f → UnfitSections (sections_from ss) depth f
+    → LaysSections (sections_from (take i ss)) a → UnfitBody (body_of (get_or ss i d)) depth f → UnfitSections (sections_from ss) depth f
 unfit_at [] i d a depth f l p q = absurd (omega arith)
-unfit_at (s ∷ ss) zero d a depth f l p q = inl q
+unfit_at (Section k e m ∷ ss) zero d a depth f l p q = inl q
 unfit_at (s ∷ ss) (suc i) d a depth f l (here, behind, text, p, r) q =
     inr (laid_fits_section s here p, unfit_at ss i d behind depth f (omega arith) r q)
 
--- a section is its body
-pub as_body : (s : SectionMeaning) (b : List ℕ) → LaysBody (body_of s) b → LaysSection s b
-as_body (Section k e m) b h = h
-
-pub unfit_body : (s : SectionMeaning) (depth : ℕ) (f : Fault) → UnfitBody (body_of s) depth f → UnfitSection s depth f
-unfit_body (Section k e m) depth f h = h
-
--- a section nests no deeper than those around it, and is smaller
-nests_at : (ss : List SectionMeaning) (i : ℕ) (d : SectionMeaning) (n : ℕ) → i < length ss → NestsSections (sections_from ss) n
-    → NestsBody (body_of (get_or ss i d)) n
-nests_at [] i d n l h = absurd (omega arith)
-nests_at (Section k e m ∷ ss) zero d n l h = h.0
-nests_at (s ∷ ss) (suc i) d n l h = nests_at ss i d n (omega arith) h.1
-
+-- a section nests no deeper than those around it
 pub shallow_at : (ss : List SectionMeaning) (i : ℕ) (s : SectionMeaning) (depth : ℕ) → i < length ss → s ≡ get_or ss i s
     → Shallow NestsSections (sections_from ss) depth → Shallow NestsBody (body_of s) depth
 shallow_at ss i s depth l is (k, fits, h) =
-    (k, fits, subst (λ (x : SectionMeaning). NestsBody (body_of x) k) (sym is) (nests_at ss i s k l h))
-
-pub section_smaller : (ss : List SectionMeaning) (i : ℕ) (s : SectionMeaning) → i < length ss → s ≡ get_or ss i s
-    → body_size (body_of s) + 2 ≤ sections_size (sections_from ss)
-section_smaller ss i s l is =
-    subst (λ (x : SectionMeaning). body_size (body_of x) + 2 ≤ sections_size (sections_from ss)) (sym is) (go ss i s l)
+    (k, fits, item_has (λ xs. NestsSections (sections_from xs) k) (λ x. NestsBody (body_of x) k) (λ x xs h. (one x h.0, h.1)) ss i s l is h)
   where
-    one : (x : SectionMeaning) → body_size (body_of x) + 1 ≡ section_size x
-    one (Section k e b) = refl
-
-    go : (ss : List SectionMeaning) (i : ℕ) (d : SectionMeaning) → i < length ss
-        → body_size (body_of (get_or ss i d)) + 2 ≤ sections_size (sections_from ss)
-    go [] i d l = absurd (omega arith)
-    go (x ∷ xs) zero d l = omega (arith, one x)
-    go (x ∷ xs) (suc i) d l = omega (arith, go xs i d (omega arith))
+    one : (x : SectionMeaning) → NestsSection x k → NestsBody (body_of x) k
+    one (Section kind extended body) h = h
 
 -- ---- files
 
 -- one file more
 pub file_push : (fs : List FileMeaning) (i : ℕ) (d : FileMeaning) (a b : List ℕ) → i < length fs
-    → LaysFiles (files_from (take i fs)) a → LaysFile (get_or fs i d) b → LaysFiles (files_from (take (suc i) fs)) (a ++ b)
+    → LaysFiles (files_from (take i fs)) a → LaysContent (content_of (get_or fs i d)) b → LaysFiles (files_from (take (suc i) fs)) (a ++ b)
 file_push [] i d a b l p q = absurd (omega arith)
-file_push (s ∷ ss) zero d a b l p q = (b, [], ap (λ (xs : List ℕ). xs ++ b) p ∙ sym (append-nil b), q, refl)
-file_push (s ∷ ss) (suc i) d a b l (here, behind, text, p, r) q =
-    (here, behind ++ b, ap (λ (xs : List ℕ). xs ++ b) text ∙ append_assoc here behind b, p, file_push ss i d behind b (omega arith) r q)
+file_push (File n k t c ∷ fs) zero d a b l p q = (b, [], ap (λ (xs : List ℕ). xs ++ b) p ∙ sym (append-nil b), q, refl)
+file_push (m ∷ fs) (suc i) d a b l (here, behind, text, p, r) q =
+    (here, behind ++ b, ap (λ (xs : List ℕ). xs ++ b) text ∙ append_assoc here behind b, p, file_push fs i d behind b (omega arith) r q)
 
 -- the first file that is not laid out
 pub unfit_file_at : (fs : List FileMeaning) (i : ℕ) (d : FileMeaning) (a : List ℕ) (depth : ℕ) (f : Fault) → i < length fs
-    → LaysFiles (files_from (take i fs)) a → UnfitFile (get_or fs i d) depth f → UnfitFiles (files_from fs) depth f
+    → LaysFiles (files_from (take i fs)) a → UnfitContent (content_of (get_or fs i d)) depth f → UnfitFiles (files_from fs) depth f
 unfit_file_at [] i d a depth f l p q = absurd (omega arith)
-unfit_file_at (s ∷ ss) zero d a depth f l p q = inl q
-unfit_file_at (s ∷ ss) (suc i) d a depth f l (here, behind, text, p, r) q =
-    inr (laid_fits_file s here p, unfit_file_at ss i d behind depth f (omega arith) r q)
+unfit_file_at (File n k t c ∷ fs) zero d a depth f l p q = inl q
+unfit_file_at (m ∷ fs) (suc i) d a depth f l (here, behind, text, p, r) q =
+    inr (laid_fits_file m here p, unfit_file_at fs i d behind depth f (omega arith) r q)
 
--- a file is its content
-pub as_content : (m : FileMeaning) (b : List ℕ) → LaysContent (content_of m) b → LaysFile m b
-as_content (File n k a c) b h = h
-
-pub unfit_content : (m : FileMeaning) (depth : ℕ) (f : Fault) → UnfitContent (content_of m) depth f → UnfitFile m depth f
-unfit_content (File n k a c) depth f h = h
-
--- a file nests no deeper than those around it, and is smaller
-nests_file_at : (fs : List FileMeaning) (i : ℕ) (d : FileMeaning) (n : ℕ) → i < length fs → NestsFiles (files_from fs) n
-    → NestsContent (content_of (get_or fs i d)) n
-nests_file_at [] i d n l h = absurd (omega arith)
-nests_file_at (File m k a c ∷ fs) zero d n l h = h.0
-nests_file_at (s ∷ ss) (suc i) d n l h = nests_file_at ss i d n (omega arith) h.1
-
+-- a file nests no deeper than those around it
 pub shallow_file_at : (fs : List FileMeaning) (i : ℕ) (m : FileMeaning) (depth : ℕ) → i < length fs → m ≡ get_or fs i m
     → Shallow NestsFiles (files_from fs) depth → Shallow NestsContent (content_of m) depth
 shallow_file_at fs i m depth l is (k, fits, h) =
-    (k, fits, subst (λ (x : FileMeaning). NestsContent (content_of x) k) (sym is) (nests_file_at fs i m k l h))
-
-pub file_smaller : (fs : List FileMeaning) (i : ℕ) (m : FileMeaning) → i < length fs → m ≡ get_or fs i m
-    → content_size (content_of m) + 2 ≤ files_size (files_from fs)
-file_smaller fs i m l is =
-    subst (λ (x : FileMeaning). content_size (content_of x) + 2 ≤ files_size (files_from fs)) (sym is) (go fs i m l)
+    (k, fits, item_has (λ xs. NestsFiles (files_from xs) k) (λ x. NestsContent (content_of x) k) (λ x xs h. (one x h.0, h.1)) fs i m l is h)
   where
-    one : (x : FileMeaning) → content_size (content_of x) + 1 ≡ file_size x
-    one (File n k a c) = refl
+    one : (x : FileMeaning) → NestsFile x k → NestsContent (content_of x) k
+    one (File name kind attributes content) h = h
 
-    go : (fs : List FileMeaning) (i : ℕ) (d : FileMeaning) → i < length fs
-        → content_size (content_of (get_or fs i d)) + 2 ≤ files_size (files_from fs)
-    go [] i d l = absurd (omega arith)
-    go (x ∷ xs) zero d l = omega (arith, one x)
-    go (x ∷ xs) (suc i) d l = omega (arith, go xs i d (omega arith))
+-- ---- sections and files
+
+-- a walk adds the starts of a part behind those that it added before
+pub grew_on : {L M N : Type 0} (first : L → List ℕ → Type 0) (more : M → List ℕ → Type 0) (whole : N → List ℕ → Type 0)
+    (x : L) (y : M) (z : N) (old now next : List ℕ) → ((a b : List ℕ) → first x a → more y b → whole z (a ++ b))
+    → Grew first x old now → Grew more y now next → Grew whole z old next
+grew_on first more whole x y z old now next joined (a, p, q) (b, r, s) =
+    (a ++ b, r ∙ ap (λ (xs : List ℕ). xs ++ b) p ∙ append_assoc old a b, joined a b q s)
 
 -- ---- how deep it is
 
@@ -132,18 +92,16 @@ shallow_body : (s : SectionMeaning) → IsReadSection s → Shallow NestsBody (b
 shallow_body (Section kind extended body) (n, few, f, stored, is) = (n, omega (arith, few), sections_in n f (Section kind extended body) is)
 
 -- what lies in a section's body, a group or a volume
+inside : (P : ℕ → Type 0) → (n : ℕ) × (0 + n ≤ 255) × ((k : ℕ) × (n ≡ suc k) × P k) → (k : ℕ) × (0 + k ≤ 255) × P k
+inside P (n, fits, (k, is, nests)) = (k, omega (arith, fits, is), nests)
+
 pub shallow_group : (s : SectionMeaning) (ss : SectionMeanings) (tail : ℕ) → IsReadSection s → body_of s ≡ Group ss tail
     → Shallow NestsSections ss 0
-shallow_group s ss tail read is = go (subst (λ (b : BodyMeaning). Shallow NestsBody b 0) is (shallow_body s read))
-  where
-    go : Shallow NestsBody (Group ss tail) 0 → Shallow NestsSections ss 0
-    go (n, fits, (k, is, nests)) = (k, omega (arith, fits, is), nests)
+shallow_group s ss tail read is =
+    inside (NestsSections ss) (subst (λ (b : BodyMeaning). Shallow NestsBody b 0) is (shallow_body s read))
 
 pub shallow_nested : (s : SectionMeaning) (m : Meaning) → IsReadSection s → body_of s ≡ Nested m → Shallow NestsVolume m 0
-shallow_nested s m read is = go (subst (λ (b : BodyMeaning). Shallow NestsBody b 0) is (shallow_body s read))
-  where
-    go : Shallow NestsBody (Nested m) 0 → Shallow NestsVolume m 0
-    go (n, fits, (k, is, nests)) = (k, omega (arith, fits, is), nests)
+shallow_nested s m read is = inside (NestsVolume m) (subst (λ (b : BodyMeaning). Shallow NestsBody b 0) is (shallow_body s read))
 
 -- ---- a fault that is passed on
 

@@ -15,6 +15,7 @@ pub mod GrowLaws
 pub mod ImageFits
 pub mod ImageLaws
 pub mod InputLaws
+pub mod ItemLaws
 pub mod Laws
 pub mod LayoutLaws
 pub mod LineLaws

@@ -1,7 +1,7 @@
 -- What is known of a section that was read and laid out, and how a stream goes on.
 use Rattle.std.proofs.Common.{◌≡◌, ◌≤◌, ◌<◌, ◌+◌, ◌-◌, ◌^◌, ℕ, zero, suc, Bool, List, [], ◌∷◌, ◌++◌, length, drop, replicate, get_or, refl}
 use Rattle.std.proofs.Common.{sym, ap, ◌∙◌, subst, arith, append_assoc, append-nil, length-drop, drop-drop}
-use Rattle.std.proofs.lemmas.List.{drop_more, drop_all}
+use Rattle.std.proofs.lemmas.List.{drop_all}
 use Rattle.fv_base.specs.Value.{IsBytes}
 use Rattle.fv_base.specs.Limits.{volume_limit}
 use Rattle.fv_base.specs.Sinks.{WalkLaws}
@@ -15,7 +15,8 @@ use Rattle.fv_tree.specs.Sizes.{section_size, sections_size, body_size}
 use Rattle.fv_tree.specs.Denotes.{MeansSection, IsReadSection}
 use Rattle.fv_canon.specs.ImageOf.{frames_of, frame_of, body_image, starts_in_section, starts_in_sections, starts_in_body}
 use Rattle.fv_canon.specs.Layouts.{LaysSections, LaysSection, LaysBody}
-use Rattle.fv_canon.proofs.MadeLaws.{sections_made, laid_section, moved, behind_is}
+use Rattle.fv_canon.proofs.ItemLaws.{item_at, both_laid}
+use Rattle.fv_canon.proofs.MadeLaws.{sections_made, laid_section}
 use Rattle.fv_section.proofs.StreamLaws.{begun_bytes, fits}
 use Rattle.fv_canon.proofs.VolumeLaws.{sections_again}
 use Rattle.fv_canon.specs.ImageWalks.{frame_bytes, sections_bytes, BeginsWithStarts, TakesFront}
@@ -86,27 +87,13 @@ stream_whole s ss starts tail =
 -- ---- the walk over the sections of a stream
 
 -- the item at a place, and what is behind it
-at_is : (ss : List SectionMeaning) (i : ℕ) (s : SectionMeaning) → i < length ss → s ≡ get_or ss i s → drop i ss ≡ s ∷ drop (i + 1) ss
-at_is ss i s l is = drop_more ss i s l ∙ ap (λ (x : SectionMeaning). x ∷ drop (i + 1) ss) (sym is)
-
 pub item_laid : (ss : List SectionMeaning) (i : ℕ) (s : SectionMeaning) (starts : List ℕ) → i < length ss → s ≡ get_or ss i s
     → BeginsWithStarts LaysSections (sections_from (drop i ss)) starts
     → BeginsWithStarts LaysSection s starts
     × BeginsWithStarts LaysSections (sections_from (drop (i + 1) ss)) (drop (starts_in_section s) starts)
 item_laid ss i s starts l is laid =
-    go (subst (λ (xs : List SectionMeaning). BeginsWithStarts LaysSections (sections_from xs) starts) (at_is ss i s l is) laid)
-  where
-    go : BeginsWithStarts LaysSections (MoreSections s (sections_from (drop (i + 1) ss))) starts → BeginsWithStarts LaysSection s starts
-        × BeginsWithStarts LaysSections (sections_from (drop (i + 1) ss)) (drop (starts_in_section s) starts)
-    go (whole, more, text, (here, behind, parts, p, q)) = (
-      (here, behind ++ more, text ∙ moved whole here behind more parts, p),
-      (
-        behind,
-        more,
-        ap (drop (starts_in_section s)) text ∙ behind_is (starts_in_section s) whole here behind more parts (laid_section s here p),
-        q,
-      ),
-    )
+    both_laid LaysSection LaysSections s (sections_from (drop (i + 1) ss)) (starts_in_section s) starts (laid_section s)
+    (subst (λ (xs : List SectionMeaning). BeginsWithStarts LaysSections (sections_from xs) starts) (item_at ss i s l is) laid)
 
 pub in_body : (s : SectionMeaning) → starts_in_section s ≡ starts_in_body (body_of s)
 in_body (Section kind extended body) = refl
@@ -120,12 +107,8 @@ pub left_is : (ss : List SectionMeaning) (i : ℕ) (s : SectionMeaning) (starts 
     → drop (starts_in_sections (sections_from (drop i ss))) starts
     ≡ drop (starts_in_sections (sections_from (drop (i + 1) ss))) (drop (starts_in_section s) starts)
 left_is ss i s starts l is =
-    ap (λ (xs : List SectionMeaning). drop (starts_in_sections (sections_from xs)) starts) (at_is ss i s l is)
-    ∙ ap (λ (n : ℕ). drop n starts) (turned (starts_in_section s) (starts_in_sections (sections_from (drop (i + 1) ss))))
+    ap (λ (xs : List SectionMeaning). drop (starts_in_sections (sections_from xs)) starts) (item_at ss i s l is)
     ∙ sym (drop-drop (starts_in_sections (sections_from (drop (i + 1) ss))) (starts_in_section s) starts)
-  where
-    turned : (a b : ℕ) → a + b ≡ a + b
-    turned a b = refl
 
 framed : (s : SectionMeaning) (starts : List ℕ) → SectionKnown s starts → frame_bytes (frame_of 0 s starts)
     ≡ section_head_of (section_kind_of s) (section_is_extended s) (body_len (body_of s)) ++ body_image (body_of s) starts
@@ -141,7 +124,7 @@ pub goes_on : (ss : List SectionMeaning) (i : ℕ) (s : SectionMeaning) (starts 
     ++ (section_head_of (section_kind_of s) (section_is_extended s) (body_len (body_of s)) ++ body_image (body_of s) starts))
     ++ sections_bytes (up_to_4 (section_len s) - section_len s) (sections_from (drop (i + 1) ss)) (drop (starts_in_section s) starts)
 goes_on ss i s starts gap l is k =
-    ap (λ (xs : List SectionMeaning). sections_bytes gap (sections_from xs) starts) (at_is ss i s l is)
+    ap (λ (xs : List SectionMeaning). sections_bytes gap (sections_from xs) starts) (item_at ss i s l is)
     ∙ ap (λ (xs : List ℕ). (replicate gap 0 ++ xs) ++ sections_bytes (up_to_4 (frame_len (frame_of 0 s starts)) - frame_len
     (frame_of 0 s starts)) (sections_from (drop (i + 1) ss)) (drop (starts_in_section s) starts)) (framed s starts k)
     ∙ ap (λ (n : ℕ). (replicate gap 0

@@ -11,6 +11,7 @@ pub use Rattle.fv_tree.proofs.Lengths.{AsLong, stream_long, section_long, body_l
 pub use Rattle.fv_tree.proofs.Counts.{few_files, few_of}
 -- what stands in a list is smaller than the list
 pub use Rattle.fv_tree.proofs.SizeLaws.{section_falls, body_falls, section_body_falls, file_falls, content_falls}
+pub use Rattle.fv_tree.proofs.SizeLaws.{file_content_falls}
 -- ---- a volume
 
 -- a volume that bytes begin with has its front there, and the files of any front that they begin with

@@ -30,45 +30,46 @@ returns-in-None-clause-none c starts p =
 
 pub loop-i-init : goal.loop-i-init
 loop-i-init c =
-    let can = can (goal.at.loop-i-init c).In-Some _ c.index-whole.ensures (c.reaches.ensures.0 c.if-not-reaches.false) in
+    let placed = can (goal.at.loop-i-init c).In-Some _ c.index-whole.ensures (c.reaches.ensures.0 c.if-not-reaches.false) in
     record {
       eighth = c.requires.first.0;
-      within = can.room;
+      within = placed.room;
       forward = subst (λ xs. Forward c.args.total c.args.first c.args.parts.now c.args.first c.args.parts.now xs)
-          (sym c.new-starts.ensures.items) (record { whole = λ rest g. g; can = can });
+          (sym c.new-starts.ensures.items) (record { whole = λ rest g. g; can = placed });
     }
 
 pub returns-in-None-first_start-clause-none : goal.returns-in-None-first_start-clause-none
 returns-in-None-first_start-clause-none c starts p =
-    let behind = behind (goal.at.returns-in-None-first_start-clause-none c).In-Some c.loop-i.i _ c.loop-i-test.true c.index-behind.ensures in
+    let reach =
+    behind (goal.at.returns-in-None-first_start-clause-none c).In-Some c.loop-i.i _ c.loop-i-test.true c.index-behind.ensures in
     none_here c.args.total c.loop-i.edge c.args.parts.now c.loop-i.i _ c.index-behind.result.now c.loop-i-test.true c.requires.total.1
-    behind c.loop-i.invariant.forward.can c.in-None-first_start.ensures.none
+    reach c.loop-i.invariant.forward.can c.in-None-first_start.ensures.none
 
 pub overflow_add-start : goal.overflow_add-start
 overflow_add-start c =
-    let behind = behind (goal.at.overflow_add-start c).In-Some c.loop-i.i _ c.loop-i-test.true c.index-behind.ensures in
-    omega (arith, first_fits _ _ _ _ _ behind c.in-Some-first_start.ensures.found.serves)
+    let reach = behind (goal.at.overflow_add-start c).In-Some c.loop-i.i _ c.loop-i-test.true c.index-behind.ensures in
+    omega (arith, first_fits _ _ _ _ _ reach c.in-Some-first_start.ensures.found.serves)
 
 pub up_to_8-edge-requires : goal.up_to_8-edge-requires
 up_to_8-edge-requires c =
-    let behind = behind (goal.at.up_to_8-edge-requires c).In-Some c.loop-i.i _ c.loop-i-test.true c.index-behind.ensures in
-    omega (arith, first_fits _ _ _ _ _ behind c.in-Some-first_start.ensures.found.serves)
+    let reach = behind (goal.at.up_to_8-edge-requires c).In-Some c.loop-i.i _ c.loop-i-test.true c.index-behind.ensures in
+    omega (arith, first_fits _ _ _ _ _ reach c.in-Some-first_start.ensures.found.serves)
 
 pub loop-i-preserved : goal.loop-i-preserved
 loop-i-preserved c =
-    let behind = behind (goal.at.loop-i-preserved c).In-Some c.loop-i.i _ c.loop-i-test.true c.index-behind.ensures in
+    let reach = behind (goal.at.loop-i-preserved c).In-Some c.loop-i.i _ c.loop-i-test.true c.index-behind.ensures in
     let pushed : c.push.new.self.items ≡ c.loop-i.starts.items ++ c.in-Some-first_start.start ∷ [] = grind (arith, common_steps) in
     let on = forward_at c.args.total c.args.first c.args.parts.now c.loop-i.edge c.loop-i.i _ c.index-behind.result.now
-    c.loop-i.starts.items c.in-Some-first_start.start c.loop-i-test.true c.requires.total.1 behind c.loop-i.invariant.forward
+    c.loop-i.starts.items c.in-Some-first_start.start c.loop-i-test.true c.requires.total.1 reach c.loop-i.invariant.forward
     c.in-Some-first_start.ensures.found in
     record {
       eighth = rw c.up_to_8-edge.ensures (edge_eighth _);
-      within = rw c.up_to_8-edge.ensures (first_fits _ _ _ _ _ behind c.in-Some-first_start.ensures.found.serves);
+      within = rw c.up_to_8-edge.ensures (first_fits _ _ _ _ _ reach c.in-Some-first_start.ensures.found.serves);
       forward = rw (c.up_to_8-edge.ensures, pushed) on;
     }
 
 pub returns-clause-found : goal.returns-clause-found
 returns-clause-found c =
-    let can = can (goal.at.returns-clause-found c).In-Some _ c.index-whole.ensures (c.reaches.ensures.0 c.if-not-reaches.false) in
-    forward_end c.args.total c.args.first c.args.parts.now c.loop-i.edge c.loop-i.i c.loop-i.starts.items c.loop-i-test.false can.room
-    c.loop-i.invariant.forward
+    let placed = can (goal.at.returns-clause-found c).In-Some _ c.index-whole.ensures (c.reaches.ensures.0 c.if-not-reaches.false) in
+    forward_end c.args.total c.args.first c.args.parts.now c.loop-i.edge c.loop-i.i c.loop-i.starts.items c.loop-i-test.false
+    placed.room c.loop-i.invariant.forward

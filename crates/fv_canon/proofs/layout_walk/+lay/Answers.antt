@@ -1,92 +1,54 @@
-use Rattle.std.proofs.Common.{◌≡◌, inl, inr, ℕ, List, ◌++◌, take, sym, ap, ◌∙◌, subst, arith, append_assoc, add-one}
-use Rattle.std.proofs.lemmas.Result.{err_from_is_err_and}
-use Rattle.fv_tree.specs.Meaning.{BodyMeaning, ContentMeaning, FileMeaning, SectionMeaning, body_of, content_of, files_from, sections_from}
-use Rattle.fv_tree.specs.Sizes.{body_size, content_size}
-use Rattle.fv_tree.specs.Views.{body_view, content_view}
-use Rattle.fv_canon.specs.Depths.{NestsBody, NestsContent}
-use Rattle.fv_canon.specs.Layouts.{LaysBody, LaysContent, LaysFile, LaysFiles, LaysSection, LaysSections}
-use Rattle.fv_canon.specs.Layouts.{UnfitBody, UnfitContent, UnfitFile, UnfitSection}
-use Rattle.fv_canon.specs.LayoutWalks.{Shallow}
-use Rattle.fv_canon.proofs.GrowLaws.{as_body, lays_push, section_smaller, shallow_at, unfit_at, unfit_body}
-use Rattle.fv_canon.proofs.GrowLaws.{as_content, file_push, file_smaller, shallow_file_at, unfit_content, unfit_file_at}
+use Rattle.std.proofs.Common.{ℕ, List, ap, ◌∙◌, arith, add-one}
+use Rattle.fv_tree.specs.Meaning.{SectionMeaning, FileMeaning, body_of, content_of, files_from, sections_from}
+use Rattle.fv_canon.specs.Layouts.{LaysBody, LaysContent, LaysFiles, LaysSections, UnfitFiles, UnfitSections}
+use Rattle.fv_canon.proofs.GrowLaws.{lays_push, shallow_at, unfit_at, file_push, shallow_file_at, unfit_file_at, grew_on, unfit_passed}
 use Rattle.fv_canon.proofs.layout_walk.+lay.Goals as goal
+use Rattle.fv_tree.proofs.SizeLaws.{section_body_falls, file_content_falls}
 
 pub lay_sections-lay_body-requires : goal.lay_sections-lay_body-requires
 lay_sections-lay_body-requires t c =
-    let i = c.loop-section.section-index in
-    let s = c.section-item.result in
-    let there = c.loop-section-test.true in
-    let less = section_smaller c.args.sections.now i s there c.section-item.is in
-    let same : body_size (body_view c.body.result.now) ≡ body_size (body_of s) = ap body_size c.body.ensures in (
-      omega (arith, c.decreases, less, same),
-      subst (λ (b : BodyMeaning). Shallow NestsBody b c.args.depth) (sym c.body.ensures)
-          (shallow_at c.args.sections.now i s c.args.depth there c.section-item.is c.requires.shallow),
+    let ss : List SectionMeaning = c.args.sections.now in
+    let i : ℕ = c.loop-section.section-index in
+    let s : SectionMeaning = c.section-item.result in
+    rw c.body.ensures (
+      omega (arith, c.decreases, section_body_falls ss i s c.loop-section-test.true c.section-item.is),
+      shallow_at ss i s c.args.depth c.loop-section-test.true c.section-item.is c.requires.shallow,
     )
 
 pub lay_sections-returns-in_err-lay_body-clause-err : goal.lay_sections-returns-in_err-lay_body-clause-err
 lay_sections-returns-in_err-lay_body-clause-err t c =
-    let p = err_from_is_err_and c.from_residual.result c.from_residual.ensures.1 in
-    let f = c.in_err-lay_body.field-0.0 in
-    rw (p.1, p.2) (elim c.in_err-lay_body.ensures.err [
-      | inl m ↦ inl m
-      | inr u ↦
-          let inv = c.loop-section.invariant in
-          let s = c.section-item.result in
-          let body = subst (λ (b : BodyMeaning). UnfitBody b c.args.depth f) c.body.ensures u in
-          inr (unfit_at c.args.sections.now c.loop-section.section-index s inv.0 c.args.depth f c.loop-section-test.true inv.2
-          (subst (λ (x : SectionMeaning). UnfitSection x c.args.depth f) c.section-item.is (unfit_body s c.args.depth f body)))
-    ])
+    let body = c.body.ensures ∙ ap body_of c.section-item.is in
+    unfit_passed (UnfitSections (sections_from c.args.sections.now) c.args.depth) c.from_residual.result _ c.from_residual.ensures.1
+    c.in_err-lay_body.ensures.err (λ unfit. unfit_at c.args.sections.now c.loop-section.section-index c.section-item.result
+    c.loop-section.invariant.0 c.args.depth _ c.loop-section-test.true c.loop-section.invariant.2 (rw body at unfit))
 
 pub lay_sections-loop-section-preserved : goal.lay_sections-loop-section-preserved
 lay_sections-loop-section-preserved t c =
-    let inv = c.loop-section.invariant in
-    let i : ℕ = c.loop-section.section-index in
-    let s = c.section-item.result in
-    let more = c.in_ok-lay_body.ensures.ok in
-    let laid = as_body s more.0 (subst (λ (b : BodyMeaning). LaysBody b more.0) c.body.ensures more.2) in
-    let pushed = lays_push c.args.sections.now i s inv.0 more.0 c.loop-section-test.true inv.2
-    (subst (λ (x : SectionMeaning). LaysSection x more.0) c.section-item.is laid) in (
-      inv.0 ++ more.0,
-      more.1 ∙ ap (λ (xs : List ℕ). xs ++ more.0) inv.1 ∙ append_assoc c.args.starts.now.items inv.0 more.0,
-      subst (λ (n : ℕ). LaysSections (sections_from (take n c.args.sections.now)) (inv.0 ++ more.0)) (sym (add-one i)) pushed,
-    )
+    let body = c.body.ensures ∙ ap body_of c.section-item.is in
+    rw add-one (grew_on LaysSections LaysBody LaysSections _ _ _ _ _ _ (λ a b p q. lays_push c.args.sections.now
+    c.loop-section.section-index c.section-item.result a b c.loop-section-test.true p (rw body at q))
+    c.loop-section.invariant c.in_ok-lay_body.ensures.ok)
 
 pub lay_files-lay_content-requires : goal.lay_files-lay_content-requires
 lay_files-lay_content-requires t c =
-    let i = c.loop-file.file-index in
-    let m = c.file-item.result in
-    let there = c.loop-file-test.true in
-    let less = file_smaller c.args.files.now i m there c.file-item.is in
-    let same : content_size (content_view c.content.result.now) ≡ content_size (content_of m) = ap content_size c.content.ensures in (
-      omega (arith, c.decreases, less, same),
-      subst (λ (x : ContentMeaning). Shallow NestsContent x c.args.depth) (sym c.content.ensures)
-          (shallow_file_at c.args.files.now i m c.args.depth there c.file-item.is c.requires.shallow),
+    let fs : List FileMeaning = c.args.files.now in
+    let i : ℕ = c.loop-file.file-index in
+    let m : FileMeaning = c.file-item.result in
+    rw c.content.ensures (
+      omega (arith, c.decreases, file_content_falls fs i m c.loop-file-test.true c.file-item.is),
+      shallow_file_at fs i m c.args.depth c.loop-file-test.true c.file-item.is c.requires.shallow,
     )
 
 pub lay_files-returns-in_err-lay_content-clause-err : goal.lay_files-returns-in_err-lay_content-clause-err
 lay_files-returns-in_err-lay_content-clause-err t c =
-    let p = err_from_is_err_and c.from_residual.result c.from_residual.ensures.1 in
-    let f = c.in_err-lay_content.field-0.0 in
-    rw (p.1, p.2) (elim c.in_err-lay_content.ensures.err [
-      | inl m ↦ inl m
-      | inr u ↦
-          let inv = c.loop-file.invariant in
-          let m = c.file-item.result in
-          let content = subst (λ (x : ContentMeaning). UnfitContent x c.args.depth f) c.content.ensures u in
-          inr (unfit_file_at c.args.files.now c.loop-file.file-index m inv.0 c.args.depth f c.loop-file-test.true inv.2
-          (subst (λ (x : FileMeaning). UnfitFile x c.args.depth f) c.file-item.is (unfit_content m c.args.depth f content)))
-    ])
+    let content = c.content.ensures ∙ ap content_of c.file-item.is in
+    unfit_passed (UnfitFiles (files_from c.args.files.now) c.args.depth) c.from_residual.result _ c.from_residual.ensures.1
+    c.in_err-lay_content.ensures.err (λ unfit. unfit_file_at c.args.files.now c.loop-file.file-index c.file-item.result
+    c.loop-file.invariant.0 c.args.depth _ c.loop-file-test.true c.loop-file.invariant.2 (rw content at unfit))
 
 pub lay_files-loop-file-preserved : goal.lay_files-loop-file-preserved
 lay_files-loop-file-preserved t c =
-    let inv = c.loop-file.invariant in
-    let i : ℕ = c.loop-file.file-index in
-    let m = c.file-item.result in
-    let more = c.in_ok-lay_content.ensures.ok in
-    let laid = as_content m more.0 (subst (λ (x : ContentMeaning). LaysContent x more.0) c.content.ensures more.2) in
-    let pushed = file_push c.args.files.now i m inv.0 more.0 c.loop-file-test.true inv.2
-    (subst (λ (x : FileMeaning). LaysFile x more.0) c.file-item.is laid) in (
-      inv.0 ++ more.0,
-      more.1 ∙ ap (λ (xs : List ℕ). xs ++ more.0) inv.1 ∙ append_assoc c.args.starts.now.items inv.0 more.0,
-      subst (λ (n : ℕ). LaysFiles (files_from (take n c.args.files.now)) (inv.0 ++ more.0)) (sym (add-one i)) pushed,
-    )
+    let content = c.content.ensures ∙ ap content_of c.file-item.is in
+    rw add-one (grew_on LaysFiles LaysContent LaysFiles _ _ _ _ _ _ (λ a b p q. file_push c.args.files.now
+    c.loop-file.file-index c.file-item.result a b c.loop-file-test.true p (rw content at q))
+    c.loop-file.invariant c.in_ok-lay_content.ensures.ok)
