@@ -1,7 +1,7 @@
 -- Of the files that stand in a body no two have one name, once those that are replaced are taken out; and files that are written are
 -- all of them alive.
 use Rattle.std.proofs.Common.{◌≡◌, ◌⊎◌, inl, inr, ◌+◌, ℕ, Bool, true, false, List, [], ◌∷◌, refl, sym, ap, ◌∙◌, subst}
-use Rattle.std.specs.Prelude.{map, not, ◌&&◌, ◌||◌}
+use Rattle.std.specs.Prelude.{map, not, ◌&&◌}
 use Rattle.std.specs.Bool.{beq}
 use Rattle.std.specs.List.{filter, list_any}
 use Rattle.std.specs.Str.{bytes_eq}

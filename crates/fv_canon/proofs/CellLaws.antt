@@ -1,5 +1,5 @@
 -- A file and a pad that are written as the canonical image has them are cells.
-use Rattle.std.proofs.Common.{◌≡◌, ◌≢◌, ◌≤◌, ◌<◌, ◌+◌, ◌-◌, ◌/◌, ◌%◌, ℕ, zero, suc, Bool, true, false, List, [], ◌∷◌, ◌++◌, length}
+use Rattle.std.proofs.Common.{◌≡◌, ◌≢◌, ◌≤◌, ◌<◌, ◌+◌, ◌-◌, ◌%◌, ℕ, Bool, true, false, List, [], ◌++◌, length}
 use Rattle.std.proofs.Common.{replicate, refl, sym, ap, ◌∙◌, subst, arith, length-append, append_assoc, append-nil}
 use Rattle.std.specs.Prelude.{slice_index, sum, ◌==◌, if◌then◌else◌}
 use Rattle.std.proofs.lemmas.Bool.{eq-eqb}
@@ -7,7 +7,7 @@ use Rattle.std.proofs.lemmas.Bool.Decides.{nat_tests}
 use Rattle.std.proofs.lemmas.List.{length-replicate}
 use Rattle.fv_base.specs.Flash.{erased_byte}
 use Rattle.fv_base.specs.Guids.{bytes_of}
-use Rattle.fv_base.specs.Value.{IsBytes, le_bytes}
+use Rattle.fv_base.specs.Value.{IsBytes}
 use Rattle.fv_base.specs.declared.flash.FileSystem.{FileSystem}
 use Rattle.fv_base.specs.declared.flash.FileSystem.TheVariants.{Ffs3}
 use Rattle.fv_base.specs.declared.flash.Polarity.{Polarity}
@@ -16,8 +16,8 @@ use Rattle.fv_base.proofs.FieldLemmas.{bytes_append}
 use Rattle.fv_base.proofs.NumberLaws.{bytes_replicate}
 use Rattle.fv_file.specs.Attributes.{is_large, is_fixed, is_summed}
 use Rattle.fv_file.specs.Cells.{Valid, Pad, IsCell}
-use Rattle.fv_file.specs.Files.{file_header_len, pad_kind, file_sum_right}
-use Rattle.fv_file.specs.NewHeaders.{needs_large, with_large, complement, fixed_checksum, pad_name, state_byte, header_with, header_bytes}
+use Rattle.fv_file.specs.Files.{pad_kind, file_sum_right}
+use Rattle.fv_file.specs.NewHeaders.{needs_large, with_large, complement, fixed_checksum, pad_name, state_byte}
 use Rattle.fv_file.specs.NewHeaders.{file_fields, pad_fields, file_head_of, pad_head_of}
 use Rattle.fv_file.specs.declared.head.FileHead.{FileHead}
 use Rattle.fv_file.proofs.AttributeLemmas.{set_large}

@@ -11,7 +11,6 @@ use Rattle.fv_file.proofs.FileLemmas.{header_least}
 use Rattle.fv_canon.specs.Starts.{StandsInVolume}
 use Rattle.fv_tree.specs.Meaning.{FileMeaning, File, files_from, file_name_of, file_kind_of, attributes_of, content_of}
 use Rattle.fv_tree.specs.Meaning.{data_len_of}
-use Rattle.fv_tree.specs.Sizes.{files_size, file_size, content_size}
 use Rattle.fv_tree.specs.Denotes.{IsReadFile, MeansSection, Stream}
 use Rattle.fv_canon.specs.ImageOf.{stored_of, stored_file, data_of, starts_in_file, starts_in_files, starts_in_content}
 use Rattle.fv_canon.specs.Layouts.{LaysFiles, LaysFile, LaysContent, part_of}

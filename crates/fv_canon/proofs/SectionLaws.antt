@@ -11,7 +11,6 @@ use Rattle.fv_section.specs.SectionImage.{FitsForm, section_head_of, stream_of}
 use Rattle.fv_section.proofs.FrameLemmas.{length_begun}
 use Rattle.fv_tree.specs.Meaning.{SectionMeanings, NoSections, MoreSections, SectionMeaning, Section, sections_from, body_of, body_len}
 use Rattle.fv_tree.specs.Meaning.{section_is_extended, section_kind_of, section_len}
-use Rattle.fv_tree.specs.Sizes.{section_size, sections_size, body_size}
 use Rattle.fv_tree.specs.Denotes.{MeansSection, IsReadSection}
 use Rattle.fv_canon.specs.ImageOf.{frames_of, frame_of, body_image, starts_in_section, starts_in_sections, starts_in_body}
 use Rattle.fv_canon.specs.Layouts.{LaysSections, LaysSection, LaysBody}

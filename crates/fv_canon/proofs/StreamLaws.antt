@@ -1,11 +1,11 @@
 -- A stream that is written as the canonical image has it is read again as the same sections.
-use Rattle.std.proofs.Common.{◌≡◌, ◌≢◌, ◌≤◌, ◌<◌, ◌+◌, ◌-◌, ◌%◌, ℕ, Bool, true, false, List, [], ◌∷◌, ◌++◌, length, drop, replicate, refl}
+use Rattle.std.proofs.Common.{◌≡◌, ◌≤◌, ◌<◌, ◌+◌, ◌-◌, ◌%◌, ℕ, Bool, true, false, List, [], ◌∷◌, ◌++◌, length, replicate, refl}
 use Rattle.std.proofs.Common.{sym, ap, ◌∙◌, subst, arith, length-append}
-use Rattle.std.proofs.lemmas.List.{length-take-le, length-replicate}
-use Rattle.fv_base.specs.Value.{IsBytes, le_at, le_bytes, field}
-use Rattle.fv_base.proofs.FieldLemmas.{none_at, bytes_cons, bytes_take, bytes_drop, bytes_append, bytes_le_bytes}
-use Rattle.fv_base.proofs.NumberLaws.{bytes_front, bytes_back, bytes_replicate, le_below}
-use Rattle.fv_section.specs.Frames.{FrameForm, section_header_len, frame_len, IsSectionHeader, BeginsFrame, SplitsFrom, Splits, up_to_4}
+use Rattle.std.proofs.lemmas.List.{length-replicate}
+use Rattle.fv_base.specs.Value.{IsBytes, le_bytes}
+use Rattle.fv_base.proofs.FieldLemmas.{none_at, bytes_cons, bytes_append, bytes_le_bytes}
+use Rattle.fv_base.proofs.NumberLaws.{bytes_front, bytes_back, bytes_replicate}
+use Rattle.fv_section.specs.Frames.{FrameForm, section_header_len, frame_len, BeginsFrame, SplitsFrom, Splits, up_to_4}
 use Rattle.fv_section.specs.SectionImage.{FitsForm, section_head_of, stream_of, InPlace}
 use Rattle.fv_section.proofs.FrameLemmas.{length_begun}
 use Rattle.fv_section.proofs.WrittenLemmas.{streams_are_read}

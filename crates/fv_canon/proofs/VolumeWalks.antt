@@ -13,7 +13,7 @@ use Rattle.fv_head.specs.ExtImage.{canonical_end, canonical_first}
 use Rattle.fv_canon.specs.Starts.{StartsFollow}
 use Rattle.fv_canon.specs.declared.first_placement.Part.{Part}
 use Rattle.fv_base.specs.Value.{up_to_8}
-use Rattle.fv_tree.specs.Meaning.{Meaning, Volume, FileMeanings, FileMeaning, files_from, files_list, head_of, data_len_of}
+use Rattle.fv_tree.specs.Meaning.{Meaning, Volume, FileMeanings, FileMeaning, files_from, head_of, data_len_of}
 use Rattle.fv_tree.specs.Denotes.{IsMeaning, MeansSection, Stream}
 use Rattle.fv_canon.specs.ImageOf.{image_of, stored_of, starts_in, starts_in_files}
 use Rattle.fv_canon.specs.Image.{AreStored}

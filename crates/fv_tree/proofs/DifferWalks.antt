@@ -1,5 +1,5 @@
 -- What the turns of a walk through two meanings tell.
-use Rattle.std.proofs.Common.{◌≡◌, ℕ, zero, suc, ◌+◌, ◌<◌, ◌≤◌, List, [], ◌∷◌, length, drop, get_or, refl, sym, ap, ◌∙◌, arith}
+use Rattle.std.proofs.Common.{◌≡◌, ℕ, zero, suc, ◌<◌, ◌≤◌, List, [], ◌∷◌, length, drop, refl, sym, ap, ◌∙◌, arith}
 use Rattle.std.proofs.Common.{Bool, true, false, Option, Some, None}
 use Rattle.std.specs.Prelude.{◌==◌, ◌&&◌}
 use Rattle.std.specs.Str.{bytes_eq}
@@ -11,9 +11,7 @@ use Rattle.fv_tree.specs.Difference.{head_differs, difference, files_differ, sec
 use Rattle.fv_tree.specs.declared.difference.Step.{Step}
 use Rattle.fv_tree.specs.declared.difference.Word.{Word}
 use Rattle.fv_tree.specs.declared.difference.Word.TheVariants as words
-use Rattle.fv_tree.specs.Meaning.{Meaning, Volume, FileMeaning, File, SectionMeaning, Section, head_of, files_from, sections_from}
-use Rattle.fv_tree.specs.Meaning.{body_of, content_of}
-use Rattle.fv_tree.specs.Sizes.{files_size, file_size, content_size, sections_size, section_size, body_size}
+use Rattle.fv_tree.specs.Meaning.{Meaning, Volume, FileMeaning, SectionMeaning, head_of, files_from, sections_from}
 use Rattle.fv_tree.proofs.DifferLaws.{no_difference}
 
 -- ---- the first of two

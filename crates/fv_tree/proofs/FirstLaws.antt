@@ -1,5 +1,5 @@
 -- Bytes have one first fault at most.
-use Rattle.std.proofs.Common.{◌≡◌, ◌≢◌, ◌≤◌, ℕ, zero, suc, ◌+◌, List, length, take, drop, sym, ap, ◌∙◌, subst, arith, inl, inr}
+use Rattle.std.proofs.Common.{◌≡◌, ◌≢◌, ◌≤◌, ℕ, zero, suc, ◌+◌, List, length, take, drop, sym, ap, ◌∙◌, subst, inl, inr}
 use Rattle.std.specs.Prelude.{Result, Ok, Err, IfOk, IfErr}
 use Rattle.fv_base.proofs.Laws.{none_faulty, not_first}
 use Rattle.fv_base.specs.Faults.{outer_fault, want_of_memory}
@@ -14,7 +14,7 @@ use Rattle.fv_head.proofs.Laws.{front_holds, one_front}
 use Rattle.fv_section.specs.Frames.{FrameForm}
 use Rattle.fv_section.proofs.Laws.{one_split}
 use Rattle.fv_section.proofs.Laws as framed
-use Rattle.fv_tree.specs.Denotes.{Sections, MeansFile, MeansSection, Stream, Denotes, group_kind, volume_kind, depth_limit}
+use Rattle.fv_tree.specs.Denotes.{Sections, MeansFile, MeansSection, Stream, Denotes, depth_limit}
 use Rattle.fv_tree.specs.Files.{FileForm, files_in, alive_in}
 use Rattle.fv_tree.specs.FirstFault.{moved_fault, FrameFaulty, FirstOf, StreamFirst, FilesFirst, FileFirst, BodyFirst, data_place}
 use Rattle.fv_tree.specs.FirstFault.{SectionFirst, FirstInStream, FirstInVolume, IsFirstOfVolume}

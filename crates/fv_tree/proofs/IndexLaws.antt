@@ -1,7 +1,7 @@
 -- Names with their numbers, in order: what is looked up there, and that names that differ leave no twin and replace no file.
 use Rattle.std.proofs.Common.{◌≡◌, ◌≤◌, ◌<◌, ◌⊎◌, ℕ, zero, suc, ◌+◌, List, [], ◌∷◌, ◌++◌, length, take, drop, get_or, map, Bool, true}
 use Rattle.std.proofs.Common.{false, refl, sym, ap, ◌∙◌, subst, arith, inl, inr}
-use Rattle.std.specs.Prelude.{◌≢◌, ◌==◌, ◌&&◌, ◌||◌, not, Some, None}
+use Rattle.std.specs.Prelude.{◌≢◌, ◌==◌, ◌&&◌, not, Some, None}
 use Rattle.std.specs.Cmp.{IsTotalOrder, IsStrictWeakOrder, unsigned_Decides}
 use Rattle.std.specs.Int.{from_le_bytes, to_le_bytes, w64}
 use Rattle.std.specs.List.{AllAdjacentBelow, AllByRecursion, AllWithin, Contains, HoldsAt, IsDistinct, filter, list_any}

@@ -5,7 +5,7 @@ use Rattle.fv_tree.specs.LookupInstances.{preorder, inside_section}
 use Rattle.fv_tree.specs.Meaning.{Leaf, Group, Nested, SectionMeaning, body_of, sections_from}
 use Rattle.fv_tree.specs.Sizes.{body_size, sections_size}
 use Rattle.fv_tree.specs.Views.{body_view}
-use Rattle.fv_tree.proofs.LookLaws.{size_body, size_item}
+use Rattle.fv_tree.proofs.SizeLaws.{body_falls, section_falls}
 use Rattle.fv_command.specs.CheckTexts.{HeldDepex, sections_depexes}
 use Rattle.fv_command.specs.CheckRuns.{Noted}
 use Rattle.fv_command.proofs.CheckLemmas.{noted_none, noted_then, leaf_depexes, group_depexes, nested_depexes, sections_next}
@@ -16,7 +16,7 @@ note_section-note_sections-requires t c = (
   omega (
     arith,
     c.decreases,
-    size_body c.args.section.now,
+    body_falls c.args.section.now,
     ap body_size c.body.ensures,
     ap (λ b. body_size (body_view b)) c.in-Group.is,
     ap (λ l. sections_size (sections_from l)) c.as_slice.ensures.value,
@@ -55,7 +55,7 @@ note_sections-note_section-requires t c = (
   omega (
     arith,
     c.decreases,
-    size_item c.args.sections.now c.loop-section.section-index c.section-item.result c.loop-section-test.true c.section-item.is,
+    section_falls c.args.sections.now c.loop-section.section-index c.section-item.result c.loop-section-test.true c.section-item.is,
   ),
   tt,
 )
