@@ -11,20 +11,17 @@ use Rattle.fv_head.proofs.head_image.head_bytes.Goals as goal
 
 -- what is put is the head of the canonical image
 is_head : (c : After-finish) → IfOk c.finish.result (λ bytes. bytes ≡ canonical_head c.args.head.now)
-is_head c =
-    kept_whole _ _ (canonical_head c.args.head.now) _ _ c.finish.result c.in_ok-out.ensures.0 c.in_ok-out.ensures.1
-    c.put_head.ensures.bytes c.finish.ensures.ok
+is_head c = kept_whole _ _ _ _ _ _ c.in_ok-out.ensures.0 c.in_ok-out.ensures.1 c.put_head.ensures.bytes c.finish.ensures.ok
 
 pub returns-clause-head : goal.returns-clause-head
 returns-clause-head c =
     let h = c.args.head.now in
-    IfOk-weaker c.finish.result _ (IsCanonicalHead h)
-    (λ bytes same. subst (IsCanonicalHead h) (sym same) (canonical_is h c.header_len.ensures.read)) (is_head c)
+    IfOk-weaker _ _ (IsCanonicalHead h) (λ bytes same. subst (IsCanonicalHead h) (sym same) (canonical_is h c.header_len.ensures.read))
+    (is_head c)
 
 pub returns-clause-only : goal.returns-clause-only
 returns-clause-only c = λ other canonical.
-    IfOk-weaker c.finish.result _ (λ bytes. bytes ≡ other) (λ bytes same. same ∙ sym (canonical_only c.args.head.now other canonical))
-    (is_head c)
+    IfOk-weaker _ _ (λ bytes. bytes ≡ other) (λ bytes same. same ∙ sym (canonical_only c.args.head.now other canonical)) (is_head c)
 
 pub returns-clause-again : goal.returns-clause-again
 returns-clause-again c =
@@ -32,5 +29,5 @@ returns-clause-again c =
     let again : List ℕ → Type 0 = λ bytes.
     (rest : List ℕ) → CanonicalRest h.ext rest → canonical_end h h.ext ≤ h.length → h.length ≤ length (bytes ++ rest)
     → BeginsVolume h (extent_of h (canonical_first h h.ext)) (bytes ++ rest) in
-    IfOk-weaker c.finish.result _ again (λ bytes same. subst again (sym same)
+    IfOk-weaker _ _ again (λ bytes same. subst again (sym same)
     (λ rest there fits long. canonical_front h rest c.header_len.ensures.read c.put_head.ensures.ext there fits long)) (is_head c)

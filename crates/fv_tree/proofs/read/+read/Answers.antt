@@ -56,20 +56,20 @@ read_files-read_file-requires t c =
 
 pub read_files-returns-in_err-view-clause-none : goal.read_files-returns-in_err-view-clause-none
 read_files-returns-in_err-view-clause-none t c =
-    passed _ _ c.from_residual-in_err-view.result c.from_residual-in_err-view.ensures.1
+    passed _ _ _ c.from_residual-in_err-view.ensures.1
     (λ ne ts h. unread (MeansFile (Stream c.args.left)) file_form c.args.files.now c.loop-file.file-index no_file c.loop-file-test.true
     (c.in_err-view.ensures.none ne) ts h)
 
 pub read_files-returns-in_err-view-clause-first : goal.read_files-returns-in_err-view-clause-first
 read_files-returns-in_err-view-clause-first t c =
-    passed _ _ c.from_residual-in_err-view.result c.from_residual-in_err-view.ensures.1
+    passed _ _ _ c.from_residual-in_err-view.ensures.1
     (λ ne. first_refused (MeansFile (Stream c.args.left)) file_form c.args.files.now c.loop-file.file-index no_file
     (λ f. FileFirst (FirstInStream c.args.left) c.in_err-view.field-0.0 f c.args.place.offset c.args.place.depth)
     c.loop-file.views.items c.loop-file-test.true c.loop-file.invariant.pairs (c.in_err-view.ensures.first ne))
 
 pub read_files-returns-in_err-push-clause-none : goal.read_files-returns-in_err-push-clause-none
 read_files-returns-in_err-push-clause-none t c =
-    passed _ _ c.from_residual-in_err-push.result c.from_residual-in_err-push.ensures.1 (λ ne ts h. absurd (ne refl))
+    passed _ _ _ c.from_residual-in_err-push.ensures.1 (λ ne ts h. absurd (ne refl))
 
 pub read_files-loop-file-preserved : goal.read_files-loop-file-preserved
 read_files-loop-file-preserved t c =
@@ -95,13 +95,13 @@ read_files-returns-clause-only t c =
 
 pub read_content-returns-in_err-sections-clause-none : goal.read_content-returns-in_err-sections-clause-none
 read_content-returns-in_err-sections-clause-none t c =
-    passed _ _ c.from_residual.result c.from_residual.ensures.1 (λ ne m h. stream_bad c.args.left (file_form c.args.file.now)
+    passed _ _ _ c.from_residual.ensures.1 (λ ne m h. stream_bad c.args.left (file_form c.args.file.now)
     (sym c.holds_sections.ensures ∙ c.if-not-holds_sections.false) (c.in_err-sections.ensures.none ne) m h)
 
 pub read_content-returns-in_err-sections-clause-first : goal.read_content-returns-in_err-sections-clause-first
 read_content-returns-in_err-sections-clause-first t c =
     let P : ℕ → Type 0 = λ b. FirstInStream c.args.left c.in_err-sections.field-0.0 c.args.file.now.payload.now b c.args.place.depth in
-    passed _ _ c.from_residual.result c.from_residual.ensures.1
+    passed _ _ _ c.from_residual.ensures.1
     (λ ne. (sym c.holds_sections.ensures ∙ c.if-not-holds_sections.false, subst P (omega arith) (c.in_err-sections.ensures.first ne)))
 
 pub read_content-returns-clause-found : goal.read_content-returns-clause-found
@@ -111,11 +111,11 @@ read_content-returns-clause-found t c =
 
 pub read_file-returns-in_err-content-clause-none : goal.read_file-returns-in_err-content-clause-none
 read_file-returns-in_err-content-clause-none t c =
-    passed _ _ c.from_residual.result c.from_residual.ensures.1 c.in_err-content.ensures.none
+    passed _ _ _ c.from_residual.ensures.1 c.in_err-content.ensures.none
 
 pub read_file-returns-in_err-content-clause-first : goal.read_file-returns-in_err-content-clause-first
 read_file-returns-in_err-content-clause-first t c =
-    passed _ _ c.from_residual.result c.from_residual.ensures.1 c.in_err-content.ensures.first
+    passed _ _ _ c.from_residual.ensures.1 c.in_err-content.ensures.first
 
 -- the file means what is made of it
 file_means : (t : ℕ) (c : read_file-After-without_large-attributes t) → MeansFile (Stream c.args.left) (file_form c.args.file.now)
@@ -148,12 +148,12 @@ read_file-returns-clause-only t c = λ m h.
 
 pub read_body-returns-in_err-files-clause-none : goal.read_body-returns-in_err-files-clause-none
 read_body-returns-in_err-files-clause-none t c =
-    passed _ _ c.from_residual.result c.from_residual.ensures.1
+    passed _ _ _ c.from_residual.ensures.1
     (λ ne ts h. files_none (Stream c.args.left) c.args.extent c.args.volume.now (c.in_err-files.ensures.none ne) ts h)
 
 pub read_body-returns-in_err-files-clause-first : goal.read_body-returns-in_err-files-clause-first
 read_body-returns-in_err-files-clause-first t c =
-    passed _ _ c.from_residual.result c.from_residual.ensures.1
+    passed _ _ _ c.from_residual.ensures.1
     (λ ne. stand_first (Stream c.args.left) (FirstInStream c.args.left) c.args.extent c.args.volume.now c.args.place.offset
     c.args.place.depth c.in_err-files.field-0.0 (c.in_err-files.ensures.first ne))
 
@@ -163,13 +163,13 @@ read_body-read_files-requires t c =
 
 pub read_body-returns-in_err-views-clause-none : goal.read_body-returns-in_err-views-clause-none
 read_body-returns-in_err-views-clause-none t c =
-    passed _ _ c.from_residual-in_err-views.result c.from_residual-in_err-views.ensures.1
+    passed _ _ _ c.from_residual-in_err-views.ensures.1
     (λ ne. body_none (Stream c.args.left) c.args.extent c.args.volume.now (map file_form c.in_ok-files.files.items)
     c.in_ok-files.ensures.only (rw c.as_slice.ensures.value at (c.in_err-views.ensures.none ne)))
 
 pub read_body-returns-in_err-views-clause-first : goal.read_body-returns-in_err-views-clause-first
 read_body-returns-in_err-views-clause-first t c =
-    passed _ _ c.from_residual-in_err-views.result c.from_residual-in_err-views.ensures.1
+    passed _ _ _ c.from_residual-in_err-views.ensures.1
     (λ ne. files_first (Stream c.args.left) (FirstInStream c.args.left) c.args.extent c.args.volume.now c.args.place.offset
     c.args.place.depth (map file_form c.in_ok-files.files.items) c.in_err-views.field-0.0 c.in_ok-files.ensures.found
     (rw c.as_slice.ensures.value at (c.in_err-views.ensures.first ne)))
@@ -200,15 +200,28 @@ pub read_at-returns-in-Err-clause-none : goal.read_at-returns-in-Err-clause-none
 read_at-returns-in-Err-clause-none t c = λ ne n m within d.
     head_unread c.args.left c.args.bytes.now c.in-Err.fault c.in-Err.ensures.only (c.within.ensures.moved ne).0 n m within d
 
+pub read_at-returns-in-Err-clause-first : goal.read_at-returns-in-Err-clause-first
+read_at-returns-in-Err-clause-first t c = λ ne.
+    head_first c.args.left c.args.bytes.now c.in-Err.fault c.within.result c.args.place.offset c.args.place.depth c.in-Err.ensures.first
+    (c.within.ensures.moved ne).0 (c.within.ensures.moved ne).1
+
+pub read_at-returns-in-Err-clause-memory : goal.read_at-returns-in-Err-clause-memory
+read_at-returns-in-Err-clause-memory t c = λ want. go c.in-Err.ensures.first want where
+  go : (c.in-Err.fault ≡ want_of_memory) ⊎ IsFirstFault (head_checks c.args.bytes.now) c.in-Err.fault
+      → c.within.result ≡ want_of_memory → (h : HeadFields) × (e : Extent) × BeginsVolume h e c.args.bytes.now
+  go (inl same) want = c.in-Err.ensures.memory same
+  go (inr first) want = absurd (head_known c.args.bytes.now c.in-Err.fault first (sym c.within.ensures.kind
+      ∙ ap (λ (f : Fault). f.kind) want))
+
 pub read_at-returns-in_err-files-clause-none : goal.read_at-returns-in_err-files-clause-none
 read_at-returns-in_err-files-clause-none t c =
-    passed _ _ c.from_residual.result c.from_residual.ensures.1
+    passed _ _ _ c.from_residual.ensures.1
     (λ ne n m within d. no_files c.args.left c.args.bytes.now c.in-Ok.read.0 c.in-Ok.read.1 c.in-Ok.ensures.found
     (c.in_err-files.ensures.none ne) n m within d)
 
 pub read_at-returns-in_err-files-clause-first : goal.read_at-returns-in_err-files-clause-first
 read_at-returns-in_err-files-clause-first t c =
-    passed _ _ c.from_residual.result c.from_residual.ensures.1
+    passed _ _ _ c.from_residual.ensures.1
     (λ ne. body_first c.args.left c.args.bytes.now c.in-Ok.read.0 c.in-Ok.read.1 c.in_err-files.field-0.0
     c.args.place.offset c.args.place.depth c.in-Ok.ensures.found (c.in_err-files.ensures.first ne))
 
@@ -276,7 +289,7 @@ read_stream-returns-in-Err-clause-first t c = λ ne.
 
 pub read_stream-returns-in_err-frame-clause-none : goal.read_stream-returns-in_err-frame-clause-none
 read_stream-returns-in_err-frame-clause-none t c =
-    passed _ _ c.from_residual-in_err-frame.result c.from_residual-in_err-frame.ensures.1
+    passed _ _ _ c.from_residual-in_err-frame.ensures.1
     (λ ne ss tail h. walk_goes_on c.args.left c.args.bytes.now c.loop-sections.at c.loop-sections.sections.items
     c.in_err-frame.field-0.0 h.0 tail c.loop-sections.invariant.walked c.loop-sections.invariant.even h.1
     c.in_err-frame.ensures.place.1 c.in_err-frame.ensures.first)
@@ -284,14 +297,14 @@ read_stream-returns-in_err-frame-clause-none t c =
 pub read_stream-returns-in_err-frame-clause-first : goal.read_stream-returns-in_err-frame-clause-first
 read_stream-returns-in_err-frame-clause-first t c =
     let s = c.in-Ok.ensures.found in
-    passed _ _ c.from_residual-in_err-frame.result c.from_residual-in_err-frame.ensures.1
+    passed _ _ _ c.from_residual-in_err-frame.ensures.1
     (λ ne. absurd (walk_goes_on c.args.left c.args.bytes.now c.loop-sections.at c.loop-sections.sections.items
     c.in_err-frame.field-0.0 s.0 _ c.loop-sections.invariant.walked c.loop-sections.invariant.even s.1
     c.in_err-frame.ensures.place.1 c.in_err-frame.ensures.first))
 
 pub read_stream-returns-in_err-section-clause-none : goal.read_stream-returns-in_err-section-clause-none
 read_stream-returns-in_err-section-clause-none t c =
-    passed _ _ c.from_residual-in_err-section.result c.from_residual-in_err-section.ensures.1
+    passed _ _ _ c.from_residual-in_err-section.ensures.1
     (λ ne ss tail h. walk_none c.args.left c.args.bytes.now c.loop-sections.at c.loop-sections.sections.items
     (framed.frame_form c.in-Some.frame) c.loop-sections.invariant.walked c.loop-sections.invariant.even
     (rw c.in-Some.is at c.in_ok-frame.ensures.found) (c.in_err-section.ensures.none ne) ss tail h)
@@ -299,7 +312,7 @@ read_stream-returns-in_err-section-clause-none t c =
 pub read_stream-returns-in_err-section-clause-first : goal.read_stream-returns-in_err-section-clause-first
 read_stream-returns-in_err-section-clause-first t c =
     let s = c.in-Ok.ensures.found in
-    passed _ _ c.from_residual-in_err-section.result c.from_residual-in_err-section.ensures.1
+    passed _ _ _ c.from_residual-in_err-section.ensures.1
     (λ ne. walk_first c.args.left c.args.bytes.now c.loop-sections.at c.loop-sections.sections.items
     (framed.frame_form c.in-Some.frame) c.in_err-section.field-0.0 c.args.place.offset c.args.place.depth s.0 _
     c.loop-sections.invariant.walked c.loop-sections.invariant.even (rw c.in-Some.is at c.in_ok-frame.ensures.found) s.1
@@ -321,7 +334,7 @@ read_stream-returns-clause-only t c =
 
 pub read_section-returns-in_err-sections-in-Group-clause-none : goal.read_section-returns-in_err-sections-in-Group-clause-none
 read_section-returns-in_err-sections-in-Group-clause-none t c =
-    passed _ _ c.from_residual-in_err-sections-in-Group.result c.from_residual-in_err-sections-in-Group.ensures.1
+    passed _ _ _ c.from_residual-in_err-sections-in-Group.ensures.1
     (λ ne s h. group_bad c.args.left c.in_ok-inside-in-Group.below (framed.frame_form c.args.frame.now)
     c.in_ok-inside-in-Group.ensures.ok.0 (group_shape (framed.frame_form c.args.frame.now) (sym c.shape_of.ensures ∙ c.in-Group.is))
     (c.in_err-sections-in-Group.ensures.none ne) s h)
@@ -329,7 +342,7 @@ read_section-returns-in_err-sections-in-Group-clause-none t c =
 pub read_section-returns-in_err-sections-in-Group-clause-first : goal.read_section-returns-in_err-sections-in-Group-clause-first
 read_section-returns-in_err-sections-in-Group-clause-first t c =
     let ok = c.in_ok-inside-in-Group.ensures.ok in
-    passed _ _ c.from_residual-in_err-sections-in-Group.result c.from_residual-in_err-sections-in-Group.ensures.1
+    passed _ _ _ c.from_residual-in_err-sections-in-Group.ensures.1
     (λ ne. group_first c.args.left c.in_ok-inside-in-Group.below (framed.frame_form c.args.frame.now)
     c.in_err-sections-in-Group.field-0.0 c.args.place.offset c.args.place.depth c.in_ok-inside-in-Group.inside.offset
     c.in_ok-inside-in-Group.inside.depth ok.0 (group_shape (framed.frame_form c.args.frame.now) (sym c.shape_of.ensures ∙ c.in-Group.is))
@@ -371,14 +384,14 @@ read_section-returns-in-Group-clause-only t c = λ s h.
 pub read_section-returns-in_err-inside-in-Volume-clause-none : goal.read_section-returns-in_err-inside-in-Volume-clause-none
 read_section-returns-in_err-inside-in-Volume-clause-none t c =
     let f : FrameForm = framed.frame_form c.args.frame.now in
-    passed _ _ c.from_residual-in_err-inside-in-Volume.result c.from_residual-in_err-inside-in-Volume.ensures.1
+    passed _ _ _ c.from_residual-in_err-inside-in-Volume.ensures.1
     (λ ne s h. deep_bad c.args.left f c.in_err-inside-in-Volume.ensures.err.0
     (inr (volume_shape f (sym c.shape_of.ensures ∙ c.in-Volume.is))) s h)
 
 pub read_section-returns-in_err-inside-in-Volume-clause-first : goal.read_section-returns-in_err-inside-in-Volume-clause-first
 read_section-returns-in_err-inside-in-Volume-clause-first t c =
     let f : FrameForm = framed.frame_form c.args.frame.now in
-    passed _ _ c.from_residual-in_err-inside-in-Volume.result c.from_residual-in_err-inside-in-Volume.ensures.1
+    passed _ _ _ c.from_residual-in_err-inside-in-Volume.ensures.1
     (λ ne. deep_fault c.args.left f c.in_err-inside-in-Volume.field-0.0 c.args.place.offset c.args.place.depth
     c.in_err-inside-in-Volume.ensures.err.0 (inr (volume_shape f (sym c.shape_of.ensures ∙ c.in-Volume.is)))
     c.in_err-inside-in-Volume.ensures.err.1)
@@ -386,7 +399,7 @@ read_section-returns-in_err-inside-in-Volume-clause-first t c =
 pub read_section-returns-in_err-volume-in-Volume-clause-none : goal.read_section-returns-in_err-volume-in-Volume-clause-none
 read_section-returns-in_err-volume-in-Volume-clause-none t c =
     let f : FrameForm = framed.frame_form c.args.frame.now in
-    passed _ _ c.from_residual-in_err-volume-in-Volume.result c.from_residual-in_err-volume-in-Volume.ensures.1
+    passed _ _ _ c.from_residual-in_err-volume-in-Volume.ensures.1
     (λ ne s h. nested_bad c.args.left c.in_ok-inside-in-Volume.below f c.in_ok-inside-in-Volume.ensures.ok.0
     (volume_shape f (sym c.shape_of.ensures ∙ c.in-Volume.is)) (c.in_err-volume-in-Volume.ensures.none ne) s h)
 
@@ -394,7 +407,7 @@ pub read_section-returns-in_err-volume-in-Volume-clause-first : goal.read_sectio
 read_section-returns-in_err-volume-in-Volume-clause-first t c =
     let ok = c.in_ok-inside-in-Volume.ensures.ok in
     let f : FrameForm = framed.frame_form c.args.frame.now in
-    passed _ _ c.from_residual-in_err-volume-in-Volume.result c.from_residual-in_err-volume-in-Volume.ensures.1
+    passed _ _ _ c.from_residual-in_err-volume-in-Volume.ensures.1
     (λ ne. nested_first c.args.left c.in_ok-inside-in-Volume.below f c.in_err-volume-in-Volume.field-0.0 c.args.place.offset
     c.args.place.depth c.in_ok-inside-in-Volume.inside.offset c.in_ok-inside-in-Volume.inside.depth ok.0
     (volume_shape f (sym c.shape_of.ensures ∙ c.in-Volume.is)) ok.1 ok.2 (c.in_err-volume-in-Volume.ensures.first ne))
@@ -450,16 +463,3 @@ pub read_section-returns-clause-only : goal.read_section-returns-clause-only
 read_section-returns-clause-only t c =
     let f : FrameForm = framed.frame_form c.args.frame.now in
     λ s h. leaf_only c.args.left f (leaf_shape f (sym c.shape_of.ensures ∙ c.in-Leaf.is)) s h ∙ sym c.new-2.ensures
-
-pub read_at-returns-in-Err-clause-first : goal.read_at-returns-in-Err-clause-first
-read_at-returns-in-Err-clause-first t c = λ ne.
-    head_first c.args.left c.args.bytes.now c.in-Err.fault c.within.result c.args.place.offset c.args.place.depth c.in-Err.ensures.first
-    (c.within.ensures.moved ne).0 (c.within.ensures.moved ne).1
-
-pub read_at-returns-in-Err-clause-memory : goal.read_at-returns-in-Err-clause-memory
-read_at-returns-in-Err-clause-memory t c = λ want. go c.in-Err.ensures.first want where
-  go : (c.in-Err.fault ≡ want_of_memory) ⊎ IsFirstFault (head_checks c.args.bytes.now) c.in-Err.fault
-      → c.within.result ≡ want_of_memory → (h : HeadFields) × (e : Extent) × BeginsVolume h e c.args.bytes.now
-  go (inl same) want = c.in-Err.ensures.memory same
-  go (inr first) want = absurd (head_known c.args.bytes.now c.in-Err.fault first (sym c.within.ensures.kind
-      ∙ ap (λ (f : Fault). f.kind) want))
