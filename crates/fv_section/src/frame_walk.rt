@@ -25,7 +25,7 @@ fn size_of(frame: &Frame) -> u64
 }
 
 // Where the frame behind this one would stand, and how many bytes lie before it.
-fn behind(stream: &[u8], frame: &Frame) -> (u64, u8)
+fn next_frame_at(stream: &[u8], frame: &Frame) -> (u64, u8)
     requires { frame.now.offset + frame_len (frame_form frame.now) ≤ length stream.now }
     ensures next { result.0 ≡ up_to_4 (frame.now.offset + frame_len (frame_form frame.now)) }
     ensures left { result.1 ≡ min result.0 (length stream.now) - (frame.now.offset + frame_len (frame_form frame.now)) }
@@ -47,7 +47,7 @@ fn frames_in(alloc: Global, stream: &[u8]) -> Result<Frames<'_>, Fault>
     let mut tail = 0;
     let mut at = 0;
     while let Some(frame) = next_frame(stream, at)? {
-        let (next, left) = behind(stream, &frame);
+        let (next, left) = next_frame_at(stream, &frame);
         list.push(frame)?;
         tail = left;
         at = next;

@@ -18,7 +18,7 @@ fn end_of(stream: &[u8], frame: &Frame) -> u64
 }
 
 // Where the frame behind this one would stand.
-pub(crate) fn behind(stream: &[u8], frame: &Frame) -> u64
+pub(crate) fn next_frame_at(stream: &[u8], frame: &Frame) -> u64
     requires { frame.now.offset + frame_len (frame_form frame.now) ≤ length stream.now }
     ensures { result ≡ up_to_4 (frame.now.offset + frame_len (frame_form frame.now)) }
 {
@@ -36,7 +36,7 @@ pub(crate) fn stream_size(stream: &[u8]) -> Result<(usize, u8), Fault>
     let mut at = 0;
     while let Some(frame) = next_frame(stream, at)? {
         end = end_of(stream, &frame);
-        at = behind(stream, &frame);
+        at = next_frame_at(stream, &frame);
         count += 1;
     }
     let tail = stream.len() as u64 - end;

@@ -14,7 +14,7 @@ ghost use Rattle.fv_tree.specs.Meaning.{SectionMeanings, sections_from};
 ghost use Rattle.fv_tree.specs.FileNames.{file_named};
 ghost use Rattle.fv_tree.specs.Views.{body_view};
 
-use crate::frame_places::behind;
+use crate::frame_places::next_frame_at;
 use crate::view::{Body, Content, FileView, SectionView, VolumeView};
 use fv_base::{Fault, Guid};
 use fv_section::{Frame, next_frame};
@@ -181,7 +181,7 @@ fn frame_by_type(bytes: &[u8], kind: u8, instance: u32) -> Result<Option<Frame<'
     let mut left = instance;
     let mut at = 0;
     while let Some(frame) = next_frame(bytes, at)? {
-        at = behind(bytes, &frame);
+        at = next_frame_at(bytes, &frame);
         if frame.kind != kind || left == 0 {
             continue;
         }

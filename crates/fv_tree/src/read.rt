@@ -22,7 +22,7 @@ ghost use Rattle.fv_tree.specs.Views.{content_view};
 ghost use Rattle.fv_tree.specs.StandingForms.{file_form};
 ghost use Rattle.fv_tree.specs.Shapes.{shape_of};
 
-use crate::frame_places::{behind, stream_size};
+use crate::frame_places::{next_frame_at, stream_size};
 use crate::name_index::Numbers;
 use crate::view::{Body, Content, FileView, SectionView, VolumeView};
 use crate::volume_files::{Standing, alive_files, files_of};
@@ -225,7 +225,7 @@ fn read_stream<'a>(
     while let Some(frame) = next_frame(bytes, at)? {
         let section = read_section(alloc, &frame, place, left)?;
         sections.push(section)?;
-        at = behind(bytes, &frame);
+        at = next_frame_at(bytes, &frame);
     }
     Ok((sections, tail))
 }

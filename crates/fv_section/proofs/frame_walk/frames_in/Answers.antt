@@ -6,8 +6,8 @@ use Rattle.fv_section.proofs.frame_walk.frames_in.Goals as goal
 pub loop-list-init : goal.loop-list-init
 loop-list-init c = record { split = rw c.new-list.ensures.items (refl, refl); even = refl }
 
-pub behind-next-requires : goal.behind-next-requires
-behind-next-requires c = stands_within _ _ _ (rw c.in-Some.is at c.in_ok-frame.ensures.found)
+pub next_frame_at-next-requires : goal.next_frame_at-next-requires
+next_frame_at-next-requires c = stands_within _ _ _ (rw c.in-Some.is at c.in_ok-frame.ensures.found)
 
 pub loop-list-preserved : goal.loop-list-preserved
 loop-list-preserved c =
@@ -15,13 +15,13 @@ loop-list-preserved c =
     record {
       split = kept c.args.stream.now c.loop-list.list.items c.push.new.self.items c.in-Some.frame c.loop-list.tail c.loop-list.at _ _
           c.loop-list.invariant.split c.loop-list.invariant.even (rw c.in-Some.is at c.in_ok-frame.ensures.found) items
-          c.behind-next.ensures.next c.behind-next.ensures.left;
-      even = omega (arith, c.behind-next.ensures.next);
+          c.next_frame_at-next.ensures.next c.next_frame_at-next.ensures.left;
+      even = omega (arith, c.next_frame_at-next.ensures.next);
     }
 
 pub loop-list-smaller : goal.loop-list-smaller
 loop-list-smaller c =
-    grows c.args.stream.now c.in-Some.frame c.loop-list.at _ (rw c.in-Some.is at c.in_ok-frame.ensures.found) c.behind-next.ensures.next
+    grows c.args.stream.now c.in-Some.frame c.loop-list.at _ (rw c.in-Some.is at c.in_ok-frame.ensures.found) c.next_frame_at-next.ensures.next
 
 pub returns-in_err-frame-clause-first : goal.returns-in_err-frame-clause-first
 returns-in_err-frame-clause-first c =

@@ -15,20 +15,20 @@ loop-frame-preserved c =
     let w = c.loop-frame.invariant.frames in
     let f : FrameForm = frame_form c.in-Some.frame in
     record {
-      even = omega (arith, c.behind-at.ensures);
+      even = omega (arith, c.next_frame_at-at.ensures);
       frames = (
         w.0 ++ f ∷ [],
-        split_more c.args.stream.now w.0 _ c.loop-frame.at f c.end_of-end.result c.behind-at.result w.1 c.loop-frame.invariant.even stands
-            c.end_of-end.ensures c.behind-at.ensures,
+        split_more c.args.stream.now w.0 _ c.loop-frame.at f c.end_of-end.result c.next_frame_at-at.result w.1 c.loop-frame.invariant.even stands
+            c.end_of-end.ensures c.next_frame_at-at.ensures,
         counted w.0 f c.loop-frame.count w.2,
       );
       within = omega (arith, c.end_of-end.ensures, stands_within f c.args.stream.now c.loop-frame.at stands);
-      few = omega (arith, c.loop-frame.invariant.few, c.behind-at.ensures, stands.offset, size_least f);
+      few = omega (arith, c.loop-frame.invariant.few, c.next_frame_at-at.ensures, stands.offset, size_least f);
     }
 
 pub loop-frame-smaller : goal.loop-frame-smaller
 loop-frame-smaller c =
-    grows c.args.stream.now c.in-Some.frame c.loop-frame.at _ (rw c.in-Some.is at c.in_ok-frame.ensures.found) c.behind-at.ensures
+    grows c.args.stream.now c.in-Some.frame c.loop-frame.at _ (rw c.in-Some.is at c.in_ok-frame.ensures.found) c.next_frame_at-at.ensures
 
 pub returns-clause-found : goal.returns-clause-found
 returns-clause-found c =

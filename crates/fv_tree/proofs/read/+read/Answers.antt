@@ -255,16 +255,16 @@ read_stream-loop-sections-init t c =
 
 pub read_stream-loop-sections-smaller : goal.read_stream-loop-sections-smaller
 read_stream-loop-sections-smaller t c =
-    grows c.args.bytes.now c.in-Some.frame c.loop-sections.at _ (rw c.in-Some.is at c.in_ok-frame.ensures.found) c.behind-at.ensures
+    grows c.args.bytes.now c.in-Some.frame c.loop-sections.at _ (rw c.in-Some.is at c.in_ok-frame.ensures.found) c.next_frame_at-at.ensures
 
 pub read_stream-loop-sections-preserved : goal.read_stream-loop-sections-preserved
 read_stream-loop-sections-preserved t c =
     let items : c.push.new.self.items ≡ c.loop-sections.sections.items ++ c.in_ok-section.section ∷ [] = search rules in
     record {
-      even = omega (arith, c.behind-at.ensures);
-      walked = walk_more c.args.left c.args.bytes.now c.loop-sections.at c.behind-at.result c.loop-sections.sections.items
+      even = omega (arith, c.next_frame_at-at.ensures);
+      walked = walk_more c.args.left c.args.bytes.now c.loop-sections.at c.next_frame_at-at.result c.loop-sections.sections.items
           c.push.new.self.items (framed.frame_form c.in-Some.frame) c.in_ok-section.section c.loop-sections.invariant.walked
-          c.loop-sections.invariant.even (rw c.in-Some.is at c.in_ok-frame.ensures.found) c.behind-at.ensures
+          c.loop-sections.invariant.even (rw c.in-Some.is at c.in_ok-frame.ensures.found) c.next_frame_at-at.ensures
           c.in_ok-section.ensures.found c.in_ok-section.ensures.only items;
     }
 
@@ -275,8 +275,8 @@ read_stream-read_section-requires t c =
     (rw c.in-Some.is at c.in_ok-frame.ensures.found) in
     (omega arith, (omega (arith, ready.0, c.requires.place), (c.requires.depth, ready.1)))
 
-pub read_stream-behind-at-requires : goal.read_stream-behind-at-requires
-read_stream-behind-at-requires t c = stands_within _ _ _ (rw c.in-Some.is at c.in_ok-frame.ensures.found)
+pub read_stream-next_frame_at-at-requires : goal.read_stream-next_frame_at-at-requires
+read_stream-next_frame_at-at-requires t c = stands_within _ _ _ (rw c.in-Some.is at c.in_ok-frame.ensures.found)
 
 pub read_stream-returns-in-Err-clause-none : goal.read_stream-returns-in-Err-clause-none
 read_stream-returns-in-Err-clause-none t c = λ ne ss tail h.
