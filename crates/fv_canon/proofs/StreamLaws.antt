@@ -15,8 +15,6 @@ use Rattle.fv_tree.specs.Denotes.{Sections, Streams, Volumes, Pairs, StreamOver,
 use Rattle.fv_canon.specs.Image.{IsImage, AreFrames, IsFrame}
 use Rattle.fv_section.proofs.StreamLaws.{begun_bytes, fits}
 
-
-
 -- the type of a section that was read is a byte, and then a header of this type is bytes
 begun_kind : (f : FrameForm) (b rest : List ℕ) → IsBytes b → BeginsFrame f b rest → f.kind < 256
 begun_kind f b rest small is =

@@ -9,9 +9,11 @@ use Rattle.fv_depex.proofs.read.read_depex.Goals as goal
 
 pub returns-clause-found : goal.returns-clause-found
 returns-clause-found c =
-    rw c.from_parts.ensures
-    (refl, subst (λ l. Spells c.args.phase c.in_ok-ops.ops.items l c.args.bytes.now) (sym (c.in_ok-rest.ensures ∙ c.bytes_from.ensures))
-    c.in_ok-ops.ensures.found.1)
+    rw c.from_parts.ensures (
+      refl,
+      subst (λ l. Spells c.args.phase c.in_ok-ops.ops.items l c.args.bytes.now) (sym (c.in_ok-rest.ensures ∙ c.bytes_from.ensures))
+          c.in_ok-ops.ensures.found.1,
+    )
 
 pub returns-clause-only : goal.returns-clause-only
 returns-clause-only c = λ ops rest spells.
