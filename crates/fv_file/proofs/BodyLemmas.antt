@@ -56,10 +56,10 @@ kept s p first body items new cell at len before stands l n =
 pub stands_in : {s : FileSystem} {p : Polarity} {first : ℕ} {body : List ℕ} {items : List Cell} {at : ℕ} {c : CellForm}
     → CellsKept s p first body items at → length body % 8 ≡ 0
     → cell_verdict s p (first + at) (take (length body - at) (drop at body)) ≡ Ok c → CellStandsAt s p (first + at) c (drop at body)
-stands_in {s} {p} {first} {body} {items} {at} {c} k even is =
+stands_in {s} {p} {first} {body} {items} {at} {c} k in_eights is =
     let same : take (length body - at) (drop at body) ≡ drop at body = take_rest body at in
     verdict_stands s p (first + at) (drop at body) c (ap (λ (n : ℕ). n % 8) (length-drop at body)
-    ∙ eighth (length body) at even k.multiple k.inside) (subst (λ r. cell_verdict s p (first + at) r ≡ Ok c) same is)
+    ∙ eighth (length body) at in_eights k.multiple k.inside) (subst (λ r. cell_verdict s p (first + at) r ≡ Ok c) same is)
   where
     eighth : (a b : ℕ) → a % 8 ≡ 0 → b % 8 ≡ 0 → b ≤ a → (a - b) % 8 ≡ 0
     eighth a b h k l = omega arith

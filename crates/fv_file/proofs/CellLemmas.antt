@@ -62,13 +62,13 @@ pub record CellStandsAt (system : FileSystem) (polarity : Polarity) (at : ℕ) (
 filled_at : (s : FileSystem) (p : Polarity) (st : FileState) (r : List ℕ) → length r % 8 ≡ 0 → FileAt s p st r
     → (up_to_8 (file_size_at r) ≤ length r) × (0 < up_to_8 (file_size_at r)) × (up_to_8 (file_size_at r) % 8 ≡ 0)
     × IsFilled s p (head_in st r) (payload_at r) (take (up_to_8 (file_size_at r)) r)
-filled_at s p st r even f =
+filled_at s p st r in_eights f =
     let n : ℕ = file_size_at r in
     let m : ℕ = up_to_8 n in
     let above : n ≤ m = omega arith in
     let near : m - n < 8 = omega arith in
     let multiple : m % 8 ≡ 0 = eighth n in
-    let within : m ≤ length r = fits n (length r) f.within even in
+    let within : m ≤ length r = fits n (length r) f.within in_eights in
     let some : 0 < m = omega (arith, f.least, header_least (is_large (attributes_at r)), above) in
     let long : length (take m r) ≡ m = length-take-le m r within in
     let split : take m r ≡ take n r ++ take (m - n) (drop n r) = ap (λ (k : ℕ). take k r) (parts m n above) ∙ take-add n (m - n) r in
@@ -98,8 +98,8 @@ filled_at s p st r even f =
 dead_stands : (s : FileSystem) (p : Polarity) (st : FileState) (at : ℕ) (r : List ℕ) → length r % 8 ≡ 0
     → (st ≡ states.HeaderValid) ⊎ (st ≡ states.Deleted)
     → FileAt s p st r → CellStandsAt s p at (Dead at (up_to_8 (file_size_at r))) r
-dead_stands s p st at r even dead f =
-    let n = filled_at s p st r even f in
+dead_stands s p st at r in_eights dead f =
+    let n = filled_at s p st r in_eights f in
     record {
       not_free = refl;
       place = refl;
@@ -112,15 +112,15 @@ dead_stands s p st at r even dead f =
 pad_stands : (s : FileSystem) (p : Polarity) (st : FileState) (at : ℕ) (r : List ℕ) → length r % 8 ≡ 0 → is_alive st ≡ true
     → slice_index r 18 ≡ pad_kind
     → FileAt s p st r → CellStandsAt s p at (Pad at (head_in st r) (payload_at r)) r
-pad_stands s p st at r even alive kind f =
-    let n = filled_at s p st r even f in
+pad_stands s p st at r in_eights alive kind f =
+    let n = filled_at s p st r in_eights f in
     record { not_free = refl; place = refl; within = n.0; some = n.1; multiple = n.2; cell = (n.3, alive, kind) }
 
 valid_stands : (s : FileSystem) (p : Polarity) (st : FileState) (at : ℕ) (r : List ℕ) → length r % 8 ≡ 0 → is_alive st ≡ true
     → (slice_index r 18 == pad_kind) ≡ false
     → FileAt s p st r → CellStandsAt s p at (Valid at (head_in st r) (payload_at r)) r
-valid_stands s p st at r even alive kind f =
-    let n = filled_at s p st r even f in
+valid_stands s p st at r in_eights alive kind f =
+    let n = filled_at s p st r in_eights f in
     record { not_free = refl; place = refl; within = n.0; some = n.1; multiple = n.2; cell = (n.3, alive, f.sound alive kind) }
 
 stub_stands : (s : FileSystem) (p : Polarity) (at : ℕ) (r : List ℕ) → file_header_len_at r ≤ length r
@@ -154,7 +154,7 @@ with_ok st at r (Err f) c e = cc
 
 pub verdict_stands : (s : FileSystem) (p : Polarity) (at : ℕ) (r : List ℕ) (c : CellForm) → length r % 8 ≡ 0 → cell_verdict s p at r ≡ Ok c
     → CellStandsAt s p at c r
-verdict_stands s p at r c even is = go (nat_lt (length r) 24) refl (state_of p (slice_index r 23)) refl where
+verdict_stands s p at r c in_eights is = go (nat_lt (length r) 24) refl (state_of p (slice_index r 23)) refl where
   stub : 24 ≤ length r → (st : FileState) → state_of p (slice_index r 23) ≡ Some st
       → (st ≡ states.Construction) ⊎ (st ≡ states.HeaderInvalid)
       → stub_verdict at r ≡ Ok c → CellStandsAt s p at c r
@@ -175,7 +175,7 @@ verdict_stands s p at r c even is = go (nat_lt (length r) 24) refl (state_of p (
       let k = with_ok st at r (file_verdict s st at r) c v in
       let f = file_ok s p st at r k.0 long (state_read p (slice_index r 23) st e) k.1 in
       let same : Dead at (up_to_8 (file_size_at r)) ≡ c = ap (λ (h : FileHead). Dead at (up_to_8 h.size)) f.1 ∙ sym (form k.0) ∙ k.2 in
-      subst (λ (d : CellForm). CellStandsAt s p at d r) same (dead_stands s p st at r even which f.0)
+      subst (λ (d : CellForm). CellStandsAt s p at d r) same (dead_stands s p st at r in_eights which f.0)
 
   alive : 24 ≤ length r → (st : FileState) → state_of p (slice_index r 23) ≡ Some st → is_alive st ≡ true
       → ((head : FileHead)
@@ -193,9 +193,9 @@ verdict_stands s p at r c even is = go (nat_lt (length r) 24) refl (state_of p (
           → (if slice_index r 18 == pad_kind then Pad at (head_in st r) (payload_at r) else Valid at (head_in st r) (payload_at r)) ≡ c
           → CellStandsAt s p at c r
       kind true t f same = subst (λ (d : CellForm). CellStandsAt s p at d r) (sym (if_true _ _ _ t) ∙ same)
-          (pad_stands s p st at r even which (eqb-true _ _ t) f)
+          (pad_stands s p st at r in_eights which (eqb-true _ _ t) f)
       kind false t f same =
-          subst (λ (d : CellForm). CellStandsAt s p at d r) (sym (if_false _ _ _ t) ∙ same) (valid_stands s p st at r even which t f)
+          subst (λ (d : CellForm). CellStandsAt s p at d r) (sym (if_false _ _ _ t) ∙ same) (valid_stands s p st at r in_eights which t f)
 
   cell : (o : Option FileState) → 24 ≤ length r → state_of p (slice_index r 23) ≡ o → state_verdict o s p at r ≡ Ok c
       → CellStandsAt s p at c r

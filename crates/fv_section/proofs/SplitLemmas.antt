@@ -35,7 +35,7 @@ begins_less f b r k h =
 pub step : (b : List ℕ) (fs : List FrameForm) (f : FrameForm) (t at : ℕ) (r : List ℕ) → Splits fs t (take at b) → at ≡ up_to_4 at
     → at < length b → f.offset ≡ at → BeginsFrame f (drop at b) r
     → Splits (fs ++ f ∷ []) (min (up_to_4 (at + frame_len f)) (length b) - (at + frame_len f)) (take (up_to_4 (at + frame_len f)) b)
-step b fs f t at r split even inside offset begun =
+step b fs f t at r split in_fours inside offset begun =
     let end : ℕ = at + frame_len f in
     let k : ℕ = up_to_4 end - end in
     let x : List ℕ = take at b in
@@ -63,8 +63,8 @@ pub kept : (b : List ℕ) (items new : List Frame) (f : Frame) (t at next left :
     → at ≡ up_to_4 at → FrameStandsAt (frame_form f) at b
     → new ≡ items ++ f ∷ [] → next ≡ up_to_4 (f.offset + frame_len (frame_form f))
     → left ≡ min next (length b) - (f.offset + frame_len (frame_form f)) → Splits (map frame_form new) left (take next b)
-kept b items new f t at next left split even s e n l =
-    let h = step b (map frame_form items) (frame_form f) t at s.behind split even s.inside s.offset s.begins in
+kept b items new f t at next left split in_fours s e n l =
+    let h = step b (map frame_form items) (frame_form f) t at s.behind split in_fours s.inside s.offset s.begins in
     let n' : next ≡ up_to_4 (at + frame_len (frame_form f)) = n ∙ ap (λ k. up_to_4 (k + frame_len (frame_form f))) s.offset in
     let l' : left ≡ min (up_to_4 (at + frame_len (frame_form f))) (length b) - (at + frame_len (frame_form f)) = l ∙ ap (λ k.
     min next (length b) - (k + frame_len (frame_form f))) s.offset ∙ ap (λ k. min k (length b) - (at + frame_len (frame_form f))) n' in
@@ -78,8 +78,8 @@ grows b f at next s n = omega (arith, s.offset, s.inside, n, size_least (frame_f
 -- the place at which the loop stops is the first fault
 pub first_here : (b : List ℕ) (fs : List FrameForm) (t at : ℕ) (e : Fault) → Splits fs t (take at b) → at ≡ up_to_4 at → at < length b
     → IsFirstFault (frame_checks at (drop at b)) e → IsFirstFrameFault b e
-first_here b fs t at e split even inside fault =
-    record { frames = fs; tail = t; at = at; split = split; multiple = omega (arith, even); inside = inside; fault_is = fault }
+first_here b fs t at e split in_fours inside fault =
+    record { frames = fs; tail = t; at = at; split = split; multiple = omega (arith, in_fours); inside = inside; fault_is = fault }
 
 -- past the end the stream is split
 pub whole_of : (b : List ℕ) (fs : List FrameForm) (t at : ℕ) → Splits fs t (take at b) → length b ≤ at → Splits fs t b

@@ -21,15 +21,15 @@ begins_with f rest fits = record {
 }
 
 pub streams_are_read : StreamsAreRead
-streams_are_read at [] tail even place = (refl, place)
-streams_are_read at (f ∷ []) tail even (o, fits, room) =
+streams_are_read at [] tail in_fours place = (refl, place)
+streams_are_read at (f ∷ []) tail in_fours (o, fits, room) =
     (replicate tail 0, begins_with f (replicate tail 0) fits, o, length-replicate {A = ℕ} tail 0, room)
-streams_are_read at (f ∷ g ∷ fs) tail even (o, fits, place) = (
+streams_are_read at (f ∷ g ∷ fs) tail in_fours (o, fits, place) = (
   replicate (up_to_4 (frame_len f) - frame_len f) 0,
   stream_of (g ∷ fs) tail,
   begins_with f (replicate (up_to_4 (frame_len f) - frame_len f) 0 ++ stream_of (g ∷ fs) tail) fits,
   o,
-  fills at (frame_len f) (length (replicate (up_to_4 (frame_len f) - frame_len f) 0)) even
+  fills at (frame_len f) (length (replicate (up_to_4 (frame_len f) - frame_len f) 0)) in_fours
       (length-replicate {A = ℕ} (up_to_4 (frame_len f) - frame_len f) 0),
   streams_are_read (up_to_4 (at + frame_len f)) (g ∷ fs) tail (fourth (at + frame_len f)) place,
 )

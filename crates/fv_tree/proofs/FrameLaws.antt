@@ -67,8 +67,8 @@ instance_nothing (suc k) = refl
 pub split_more : (b : List ℕ) (fs : List FrameForm) (t at : ℕ) (f : FrameForm) (next : ℕ) → Splits fs t (take at b) → at ≡ up_to_4 at
     → FrameStandsAt f at b → next ≡ up_to_4 (f.offset + frame_len f)
     → (u : ℕ) × Splits (fs ++ f ∷ []) u (take next b)
-split_more b fs t at f next split even s n =
-    (min next (length b) - (f.offset + frame_len f), walk_more b fs t at f (f.offset + frame_len f) next split even s refl n)
+split_more b fs t at f next split in_fours s n =
+    (min next (length b) - (f.offset + frame_len f), walk_more b fs t at f (f.offset + frame_len f) next split in_fours s refl n)
 
 abbrev is_of : ℕ → FrameForm → Bool
 is_of kind f = f.kind == kind

@@ -44,7 +44,7 @@ between b m n l within = omega (arith, length-take-le (n - m) (drop m b) (omega 
 -- a fault of a section header does not stand before the end of frames that join
 frame_later : (b : List ℕ) (f g : Fault) → (x : section.IsFirstFrameFault b f) → (y : section.IsFirstFrameFault b g) → x.at < y.at → ⊥
 frame_later b f g x y l =
-    let r = framed.cut 0 x.frames y.frames x.tail y.tail (take x.at b) part x.split even whole (between b x.at y.at l y.inside) in
+    let r = framed.cut 0 x.frames y.frames x.tail y.tail (take x.at b) part x.split in_fours whole (between b x.at y.at l y.inside) in
     go r.0 (subst (λ (k : ℕ). SplitsFrom k r.0 y.tail part) place r.2)
   where
     part : List ℕ
@@ -56,8 +56,8 @@ frame_later b f g x y l =
     place : 0 + length (take x.at b) ≡ x.at
     place = omega (arith, length-take-le x.at b (omega (arith, x.inside)))
 
-    even : 0 + length (take x.at b) ≡ up_to_4 (0 + length (take x.at b))
-    even = omega (arith, place, x.multiple)
+    in_fours : 0 + length (take x.at b) ≡ up_to_4 (0 + length (take x.at b))
+    in_fours = omega (arith, place, x.multiple)
 
     whole : Splits y.frames y.tail (take x.at b ++ part)
     whole = subst (λ (c : List ℕ). Splits y.frames y.tail c) (later b x.at y.at l) y.split

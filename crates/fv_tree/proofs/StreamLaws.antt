@@ -21,10 +21,10 @@ use Rattle.fv_tree.proofs.Lists.{pairs_push, pairs_only, pairs_empty}
 pub split_more : (b : List ℕ) (fs : List FrameForm) (t at : ℕ) (f : FrameForm) (end next : ℕ) → Splits fs t (take at b)
     → at ≡ up_to_4 at → FrameStandsAt f at b → end ≡ f.offset + frame_len f → next ≡ up_to_4 (f.offset + frame_len f)
     → Splits (fs ++ f ∷ []) (min next (length b) - end) (take next b)
-split_more b fs t at f end next split even s e n =
+split_more b fs t at f end next split in_fours s e n =
     let e' : end ≡ at + frame_len f = e ∙ ap (λ k. k + frame_len f) s.offset in
     let n' : next ≡ up_to_4 (at + frame_len f) = n ∙ ap (λ k. up_to_4 (k + frame_len f)) s.offset in
-    rw (e', n') (step b fs f t at s.behind split even s.inside s.offset s.begins)
+    rw (e', n') (step b fs f t at s.behind split in_fours s.inside s.offset s.begins)
 
 pub counted : (fs : List FrameForm) (f : FrameForm) (count : ℕ) → length fs ≡ count → length (fs ++ f ∷ []) ≡ count + 1
 counted fs f count e = omega (arith, length-append fs (f ∷ []), e)
@@ -39,9 +39,9 @@ whole_stream b fs end at split past =
 -- a frame that stands behind the first frames of a stream is the next of its frames
 pub next_is : (b : List ℕ) (fs : List FrameForm) (t at : ℕ) (f : FrameForm) (gs : List FrameForm) (u : ℕ) → Splits fs t (take at b)
     → at ≡ up_to_4 at → FrameStandsAt f at b → Splits gs u b → (rest : List FrameForm) × (gs ≡ fs ++ f ∷ rest)
-next_is b fs t at f gs u split even s whole =
+next_is b fs t at f gs u split in_fours s whole =
     let long : length (take at b) ≡ at = omega (arith, length-take at b, s.inside) in
-    let multiple : 0 + length (take at b) ≡ up_to_4 (0 + length (take at b)) = omega (arith, even, long) in
+    let multiple : 0 + length (take at b) ≡ up_to_4 (0 + length (take at b)) = omega (arith, in_fours, long) in
     let some : 0 < length (drop at b) = omega (arith, length-drop at b, s.inside) in
     let joined : Splits gs u (take at b ++ drop at b) = subst (λ l. Splits gs u l) (sym (take-append-drop at b)) whole in
     let r = cut 0 fs gs t u (take at b) (drop at b) split multiple joined some in
@@ -82,11 +82,11 @@ walk_begun n b ss e = rw e ([], 0, (refl, refl), tt, λ zs h. pairs_empty (Means
 pub walk_more : (n : ℕ) (b : List ℕ) (at next : ℕ) (ss new : List SectionMeaning) (f : FrameForm) (s : SectionMeaning) → Walked n b at ss
     → at ≡ up_to_4 at → FrameStandsAt f at b → next ≡ up_to_4 (f.offset + frame_len f) → MeansSection n f s
     → ((z : SectionMeaning) → MeansSection n f z → z ≡ s) → new ≡ ss ++ s ∷ [] → Walked n b next new
-walk_more n b at next ss new f s w even stands place is one e =
+walk_more n b at next ss new f s w in_fours stands place is one e =
     rw e (
       w.0 ++ f ∷ [],
       min next (length b) - (f.offset + frame_len f),
-      split_more b w.0 w.1 at f (f.offset + frame_len f) next w.2 even stands refl place,
+      split_more b w.0 w.1 at f (f.offset + frame_len f) next w.2 in_fours stands refl place,
       pairs_push (MeansSection n) w.0 ss f s w.3 is,
       λ zs h. pairs_only (MeansSection n) w.0 ss f s w.4 one zs h,
     )
@@ -102,8 +102,8 @@ pairs_met R (a ∷ xs) x after (y ∷ ys) p = pairs_met R xs x after ys p.1
 -- it is no section: there is no stream
 pub walk_none : (n : ℕ) (b : List ℕ) (at : ℕ) (ss : List SectionMeaning) (f : FrameForm) → Walked n b at ss → at ≡ up_to_4 at
     → FrameStandsAt f at b → ((s : SectionMeaning) → MeansSection n f s → ⊥) → (zs : List SectionMeaning) (u : ℕ) → Stream n zs u b → ⊥
-walk_none n b at ss f w even stands bad zs u (gs, split, pairs) =
-    let m = next_is b w.0 w.1 at f gs u w.2 even stands split in
+walk_none n b at ss f w in_fours stands bad zs u (gs, split, pairs) =
+    let m = next_is b w.0 w.1 at f gs u w.2 in_fours stands split in
     let met = pairs_met (MeansSection n) w.0 f m.0 zs (subst (λ hs. Pairs (MeansSection n) hs zs) m.1 pairs) in
     bad met.0 met.1
 
@@ -111,14 +111,14 @@ walk_none n b at ss f w even stands bad zs u (gs, split, pairs) =
 pub walk_first : (n : ℕ) (b : List ℕ) (at : ℕ) (ss : List SectionMeaning) (f : FrameForm) (e : Fault) (base depth : ℕ)
     (gs : List FrameForm) (u : ℕ) → Walked n b at ss → at ≡ up_to_4 at → FrameStandsAt f at b → Splits gs u b
     → SectionFirst n e f base depth → FirstInStream n e b base depth
-walk_first n b at ss f e base depth gs u w even stands split first =
-    let m = next_is b w.0 w.1 at f gs u w.2 even stands split in
+walk_first n b at ss f e base depth gs u w in_fours stands split first =
+    let m = next_is b w.0 w.1 at f gs u w.2 in_fours stands split in
     inr (gs, u, split, (w.0, f, m.0, ss, m.1, w.3, first))
 
 -- in bytes that are a stream a frame stands at each place that the walk comes to
 pub walk_goes_on : (n : ℕ) (b : List ℕ) (at : ℕ) (ss : List SectionMeaning) (e : Fault) (gs : List FrameForm) (u : ℕ) → Walked n b at ss
     → at ≡ up_to_4 at → Splits gs u b → at < length b → IsFirstFault (frame_checks at (drop at b)) e → ⊥
-walk_goes_on n b at ss e gs u w even split inside first = none_after b e gs u (first_here b w.0 w.1 at e w.2 even inside first) split
+walk_goes_on n b at ss e gs u w in_fours split inside first = none_after b e gs u (first_here b w.0 w.1 at e w.2 in_fours inside first) split
 
 -- at the end the sections are those of the stream
 pub walk_found : (n : ℕ) (b : List ℕ) (at : ℕ) (ss : List SectionMeaning) (gs : List FrameForm) (u : ℕ) → Walked n b at ss

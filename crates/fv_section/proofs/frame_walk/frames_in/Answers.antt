@@ -4,7 +4,7 @@ use Rattle.fv_section.proofs.SplitLemmas.{stands_within, kept, grows, first_here
 use Rattle.fv_section.proofs.frame_walk.frames_in.Goals as goal
 
 pub loop-list-init : goal.loop-list-init
-loop-list-init c = record { split = rw c.new-list.ensures.items (refl, refl); even = refl }
+loop-list-init c = record { split = rw c.new-list.ensures.items (refl, refl); in_fours = refl }
 
 pub next_frame_at-next-requires : goal.next_frame_at-next-requires
 next_frame_at-next-requires c = stands_within _ _ _ (rw c.in-Some.is at c.in_ok-frame.ensures.found)
@@ -14,9 +14,9 @@ loop-list-preserved c =
     let items : c.push.new.self.items ≡ c.loop-list.list.items ++ c.in-Some.frame ∷ [] = search rules in
     record {
       split = kept c.args.stream.now c.loop-list.list.items c.push.new.self.items c.in-Some.frame c.loop-list.tail c.loop-list.at _ _
-          c.loop-list.invariant.split c.loop-list.invariant.even (rw c.in-Some.is at c.in_ok-frame.ensures.found) items
+          c.loop-list.invariant.split c.loop-list.invariant.in_fours (rw c.in-Some.is at c.in_ok-frame.ensures.found) items
           c.next_frame_at-next.ensures.next c.next_frame_at-next.ensures.left;
-      even = omega (arith, c.next_frame_at-next.ensures.next);
+      in_fours = omega (arith, c.next_frame_at-next.ensures.next);
     }
 
 pub loop-list-smaller : goal.loop-list-smaller
@@ -27,7 +27,7 @@ pub returns-in_err-frame-clause-first : goal.returns-in_err-frame-clause-first
 returns-in_err-frame-clause-first c =
     let p = err_from_is_err_and c.from_residual.result c.from_residual.ensures.1 in
     rw (p.1, p.2) (λ memory. first_here c.args.stream.now _ c.loop-list.tail c.loop-list.at _ c.loop-list.invariant.split
-    c.loop-list.invariant.even c.in_err-frame.ensures.place.1 c.in_err-frame.ensures.first)
+    c.loop-list.invariant.in_fours c.in_err-frame.ensures.place.1 c.in_err-frame.ensures.first)
 
 pub returns-in_err-frame-clause-bound : goal.returns-in_err-frame-clause-bound
 returns-in_err-frame-clause-bound c =

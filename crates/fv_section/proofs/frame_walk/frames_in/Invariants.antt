@@ -6,7 +6,7 @@ use Rattle.fv_section.proofs.frame_walk.frames_in.Given as goal
 abbrev pub invariant-loop-list : goal.invariant-loop-list
 invariant-loop-list l = record {
   split : Splits (map frame_form l.list.items) l.tail (take l.at l.stream);
-  even : l.at ≡ up_to_4 l.at;
+  in_fours : l.at ≡ up_to_4 l.at;
 }
 
 abbrev pub decreases-loop-list : goal.decreases-loop-list

@@ -7,7 +7,7 @@ use Rattle.fv_tree.proofs.StreamLaws.{split_more, counted, whole_stream}
 use Rattle.fv_tree.proofs.frame_places.stream_size.Goals as goal
 
 pub loop-frame-init : goal.loop-frame-init
-loop-frame-init c = record { even = refl; frames = ([], (refl, omega arith), refl); within = omega arith; few = omega arith }
+loop-frame-init c = record { in_fours = refl; frames = ([], (refl, omega arith), refl); within = omega arith; few = omega arith }
 
 pub loop-frame-preserved : goal.loop-frame-preserved
 loop-frame-preserved c =
@@ -15,10 +15,10 @@ loop-frame-preserved c =
     let w = c.loop-frame.invariant.frames in
     let f : FrameForm = frame_form c.in-Some.frame in
     record {
-      even = omega (arith, c.next_frame_at-at.ensures);
+      in_fours = omega (arith, c.next_frame_at-at.ensures);
       frames = (
         w.0 ++ f ∷ [],
-        split_more c.args.stream.now w.0 _ c.loop-frame.at f c.end_of-end.result c.next_frame_at-at.result w.1 c.loop-frame.invariant.even stands
+        split_more c.args.stream.now w.0 _ c.loop-frame.at f c.end_of-end.result c.next_frame_at-at.result w.1 c.loop-frame.invariant.in_fours stands
             c.end_of-end.ensures c.next_frame_at-at.ensures,
         counted w.0 f c.loop-frame.count w.2,
       );
@@ -47,7 +47,7 @@ pub returns-in_err-frame-clause-first : goal.returns-in_err-frame-clause-first
 returns-in_err-frame-clause-first c =
     let p = err_from_is_err_and c.from_residual.result c.from_residual.ensures.1 in
     let w = c.loop-frame.invariant.frames in
-    rw (p.1, p.2) (first_here c.args.stream.now w.0 _ c.loop-frame.at _ w.1 c.loop-frame.invariant.even c.in_err-frame.ensures.place.1
+    rw (p.1, p.2) (first_here c.args.stream.now w.0 _ c.loop-frame.at _ w.1 c.loop-frame.invariant.in_fours c.in_err-frame.ensures.place.1
     c.in_err-frame.ensures.first)
 
 pub returns-in_err-frame-clause-bound : goal.returns-in_err-frame-clause-bound

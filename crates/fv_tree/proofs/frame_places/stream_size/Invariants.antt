@@ -4,7 +4,7 @@ use Rattle.fv_tree.proofs.frame_places.stream_size.Given as goal
 
 abbrev pub invariant-loop-frame : goal.invariant-loop-frame
 invariant-loop-frame l = record {
-  even : l.at ≡ up_to_4 l.at;
+  in_fours : l.at ≡ up_to_4 l.at;
   frames : (fs : List FrameForm) × Splits fs (min l.at (length l.stream) - l.end) (take l.at l.stream) × (length fs ≡ l.count);
   within : l.end ≤ length l.stream;
   few : l.count ≤ l.at;

@@ -8,7 +8,7 @@ use Rattle.fv_tree.proofs.lookup.frame_by_type.Given as goal
 
 abbrev pub invariant-loop-frame : goal.invariant-loop-frame
 invariant-loop-frame l = record {
-  even : l.at ≡ up_to_4 l.at;
+  in_fours : l.at ≡ up_to_4 l.at;
   frames : (fs : List FrameForm) × (t : ℕ) × Splits fs t (take l.at l.bytes)
       × (l.left ≡ l.instance - length (filter (λ f. f.kind == l.kind) fs))
       × (option_map frame_form l.found ≡ frame_of_type l.kind l.instance fs);

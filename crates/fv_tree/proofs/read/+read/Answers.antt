@@ -251,7 +251,7 @@ read_at-returns-clause-only t c = λ n m within d.
 
 pub read_stream-loop-sections-init : goal.read_stream-loop-sections-init
 read_stream-loop-sections-init t c =
-    record { even = refl; walked = walk_begun c.args.left c.args.bytes.now _ c.in_ok-sections.ensures.items }
+    record { in_fours = refl; walked = walk_begun c.args.left c.args.bytes.now _ c.in_ok-sections.ensures.items }
 
 pub read_stream-loop-sections-smaller : goal.read_stream-loop-sections-smaller
 read_stream-loop-sections-smaller t c =
@@ -261,10 +261,10 @@ pub read_stream-loop-sections-preserved : goal.read_stream-loop-sections-preserv
 read_stream-loop-sections-preserved t c =
     let items : c.push.new.self.items ≡ c.loop-sections.sections.items ++ c.in_ok-section.section ∷ [] = search rules in
     record {
-      even = omega (arith, c.next_frame_at-at.ensures);
+      in_fours = omega (arith, c.next_frame_at-at.ensures);
       walked = walk_more c.args.left c.args.bytes.now c.loop-sections.at c.next_frame_at-at.result c.loop-sections.sections.items
           c.push.new.self.items (framed.frame_form c.in-Some.frame) c.in_ok-section.section c.loop-sections.invariant.walked
-          c.loop-sections.invariant.even (rw c.in-Some.is at c.in_ok-frame.ensures.found) c.next_frame_at-at.ensures
+          c.loop-sections.invariant.in_fours (rw c.in-Some.is at c.in_ok-frame.ensures.found) c.next_frame_at-at.ensures
           c.in_ok-section.ensures.found c.in_ok-section.ensures.only items;
     }
 
@@ -291,7 +291,7 @@ pub read_stream-returns-in_err-frame-clause-none : goal.read_stream-returns-in_e
 read_stream-returns-in_err-frame-clause-none t c =
     passed _ _ _ c.from_residual-in_err-frame.ensures.1
     (λ ne ss tail h. walk_goes_on c.args.left c.args.bytes.now c.loop-sections.at c.loop-sections.sections.items
-    c.in_err-frame.field-0.0 h.0 tail c.loop-sections.invariant.walked c.loop-sections.invariant.even h.1
+    c.in_err-frame.field-0.0 h.0 tail c.loop-sections.invariant.walked c.loop-sections.invariant.in_fours h.1
     c.in_err-frame.ensures.place.1 c.in_err-frame.ensures.first)
 
 pub read_stream-returns-in_err-frame-clause-first : goal.read_stream-returns-in_err-frame-clause-first
@@ -299,14 +299,14 @@ read_stream-returns-in_err-frame-clause-first t c =
     let s = c.in-Ok.ensures.found in
     passed _ _ _ c.from_residual-in_err-frame.ensures.1
     (λ ne. absurd (walk_goes_on c.args.left c.args.bytes.now c.loop-sections.at c.loop-sections.sections.items
-    c.in_err-frame.field-0.0 s.0 _ c.loop-sections.invariant.walked c.loop-sections.invariant.even s.1
+    c.in_err-frame.field-0.0 s.0 _ c.loop-sections.invariant.walked c.loop-sections.invariant.in_fours s.1
     c.in_err-frame.ensures.place.1 c.in_err-frame.ensures.first))
 
 pub read_stream-returns-in_err-section-clause-none : goal.read_stream-returns-in_err-section-clause-none
 read_stream-returns-in_err-section-clause-none t c =
     passed _ _ _ c.from_residual-in_err-section.ensures.1
     (λ ne ss tail h. walk_none c.args.left c.args.bytes.now c.loop-sections.at c.loop-sections.sections.items
-    (framed.frame_form c.in-Some.frame) c.loop-sections.invariant.walked c.loop-sections.invariant.even
+    (framed.frame_form c.in-Some.frame) c.loop-sections.invariant.walked c.loop-sections.invariant.in_fours
     (rw c.in-Some.is at c.in_ok-frame.ensures.found) (c.in_err-section.ensures.none ne) ss tail h)
 
 pub read_stream-returns-in_err-section-clause-first : goal.read_stream-returns-in_err-section-clause-first
@@ -315,7 +315,7 @@ read_stream-returns-in_err-section-clause-first t c =
     passed _ _ _ c.from_residual-in_err-section.ensures.1
     (λ ne. walk_first c.args.left c.args.bytes.now c.loop-sections.at c.loop-sections.sections.items
     (framed.frame_form c.in-Some.frame) c.in_err-section.field-0.0 c.args.place.offset c.args.place.depth s.0 _
-    c.loop-sections.invariant.walked c.loop-sections.invariant.even (rw c.in-Some.is at c.in_ok-frame.ensures.found) s.1
+    c.loop-sections.invariant.walked c.loop-sections.invariant.in_fours (rw c.in-Some.is at c.in_ok-frame.ensures.found) s.1
     (c.in_err-section.ensures.first ne))
 
 pub read_stream-returns-clause-found : goal.read_stream-returns-clause-found

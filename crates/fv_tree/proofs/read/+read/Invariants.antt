@@ -8,7 +8,7 @@ use Rattle.fv_tree.proofs.read.+read.Given as goal
 
 abbrev pub invariant-read_stream-loop-sections : goal.invariant-read_stream-loop-sections
 invariant-read_stream-loop-sections l = record {
-  even : l.at ≡ up_to_4 l.at;
+  in_fours : l.at ≡ up_to_4 l.at;
   walked : Walked l.left l.bytes l.at l.sections.items;
 }
 
