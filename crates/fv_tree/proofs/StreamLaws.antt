@@ -118,7 +118,8 @@ walk_first n b at ss f e base depth gs u w in_fours stands split first =
 -- in bytes that are a stream a frame stands at each place that the walk comes to
 pub walk_goes_on : (n : ℕ) (b : List ℕ) (at : ℕ) (ss : List SectionMeaning) (e : Fault) (gs : List FrameForm) (u : ℕ) → Walked n b at ss
     → at ≡ up_to_4 at → Splits gs u b → at < length b → IsFirstFault (frame_checks at (drop at b)) e → ⊥
-walk_goes_on n b at ss e gs u w in_fours split inside first = none_after b e gs u (first_here b w.0 w.1 at e w.2 in_fours inside first) split
+walk_goes_on n b at ss e gs u w in_fours split inside first =
+    none_after b e gs u (first_here b w.0 w.1 at e w.2 in_fours inside first) split
 
 -- at the end the sections are those of the stream
 pub walk_found : (n : ℕ) (b : List ℕ) (at : ℕ) (ss : List SectionMeaning) (gs : List FrameForm) (u : ℕ) → Walked n b at ss

@@ -1,4 +1,5 @@
-use Rattle.std.proofs.Common.{◌≡◌, ◌≤◌, ◌<◌, ◌+◌, ◌-◌, ℕ, List, ◌++◌, length, drop, replicate, sym, ap, ◌∙◌, subst, arith}
+use Rattle.std.proofs.Common.{◌≡◌, ◌≤◌, ◌<◌, ◌+◌, ◌-◌, ℕ, true, List, [], ◌++◌, length, take, drop, replicate, get_or, sym, ap, ◌∙◌}
+use Rattle.std.proofs.Common.{subst, arith, drop-drop}
 use Rattle.std.proofs.lemmas.Grind.{common_steps}
 use Rattle.fv_section.specs.Frames.{up_to_4}
 use Rattle.fv_section.specs.SectionImage.{section_head_of}
@@ -9,7 +10,6 @@ use Rattle.fv_tree.specs.Views.{body_view}
 use Rattle.fv_tree.specs.declared.view.Body.{Body}
 use Rattle.fv_canon.specs.ImageOf.{body_image, starts_in_body, starts_in_section, starts_in_sections}
 use Rattle.fv_canon.specs.Layouts.{LaysSections, LaysBody, LaysVolume}
-use Rattle.std.proofs.Common.{get_or}
 use Rattle.fv_base.specs.Flash.{erased_byte}
 use Rattle.fv_base.specs.Value.{up_to_8}
 use Rattle.fv_file.specs.NewHeaders.{file_head_of}
@@ -25,7 +25,6 @@ use Rattle.fv_canon.proofs.FileLaws.{placed_on}
 use Rattle.fv_canon.specs.ImageWalks.{BeginsWithStarts, TakesFront, sections_bytes}
 use Rattle.fv_canon.proofs.SectionLaws.{section_known, item_laid, in_body, body_laid, left_is, goes_on, front_more, front_end}
 use Rattle.fv_tree.proofs.SizeLaws.{section_body_falls, file_falls}
-use Rattle.std.proofs.Common.{take, drop-drop}
 use Rattle.fv_base.specs.declared.flash.Polarity.{Polarity}
 use Rattle.fv_head.specs.Attributes.{polarity_of}
 use Rattle.fv_head.specs.Head.{HeadFields}
@@ -36,7 +35,6 @@ use Rattle.fv_canon.specs.ImageOf.{image_of, starts_in}
 use Rattle.fv_canon.specs.StoredFiles.{ext_pad}
 use Rattle.fv_canon.specs.Placed.{used_by}
 use Rattle.fv_canon.proofs.VolumeWalks.{volume_is, volume_seen, volume_text, volume_left, files_same}
-use Rattle.std.proofs.Common.{[], true}
 use Rattle.fv_file.specs.Attributes.{attributes_by, is_summed}
 use Rattle.fv_canon.specs.ImageSinks.{ImageTakes, image_by}
 use Rattle.fv_canon.proofs.SumWalks.{state_adds}
@@ -70,14 +68,12 @@ put_body-put_volume-requires g t c κs within =
 
 pub put_sections-put_section_head-requires : goal.put_sections-put_section_head-requires
 put_sections-put_section_head-requires g t c =
-    let l = item_laid c.args.sections.now c.loop-section.section-index c.section-item.result c.loop-section.rest.now
-    c.loop-section-test.true c.section-item.is c.loop-section.invariant.laid in
+    let l = item_laid _ _ _ _ c.loop-section-test.true c.section-item.is c.loop-section.invariant.laid in
     (section_known c.section-item.result c.loop-section.rest.now c.kind-kind.ensures.read l.0).fits
 
 pub put_sections-put_body-rest-requires : goal.put_sections-put_body-rest-requires
 put_sections-put_body-rest-requires g t c κs within =
-    let l = item_laid c.args.sections.now c.loop-section.section-index c.section-item.result c.loop-section.rest.now
-    c.loop-section-test.true c.section-item.is c.loop-section.invariant.laid in
+    let l = item_laid _ _ _ _ c.loop-section-test.true c.section-item.is c.loop-section.invariant.laid in
     let less =
     section_body_falls c.args.sections.now c.loop-section.section-index c.section-item.result c.loop-section-test.true c.section-item.is in
     let same : body_size (body_view c.body.result.now) ≡ body_size (body_of c.section-item.result) = ap body_size c.body.ensures in (
@@ -91,8 +87,7 @@ put_sections-put_body-rest-requires g t c κs within =
 
 pub put_sections-filler_of-gap-requires : goal.put_sections-filler_of-gap-requires
 put_sections-filler_of-gap-requires g t c =
-    let l = item_laid c.args.sections.now c.loop-section.section-index c.section-item.result c.loop-section.rest.now
-    c.loop-section-test.true c.section-item.is c.loop-section.invariant.laid in
+    let l = item_laid _ _ _ _ c.loop-section-test.true c.section-item.is c.loop-section.invariant.laid in
     (section_known c.section-item.result c.loop-section.rest.now c.kind-kind.ensures.read l.0).small
 
 pub put_sections-loop-section-preserved : goal.put_sections-loop-section-preserved
@@ -169,39 +164,37 @@ put_file-returns-clause-bytes g t c =
     c.content-2.ensures c.put_content.ensures.bytes))
 
 pub put_files-overflow_sub-start : goal.put_files-overflow_sub-start
-put_files-overflow_sub-start g t c = (at_file c.args.total c.loop-i.edge c.args.files.now c.args.own.now c.loop-i.i c.index-files-i.result
-    c.loop-i-test.true c.index-files-i.is c.loop-i.invariant.placed).here.low
+put_files-overflow_sub-start g t c = (at_file _ _ _ _ _ _ c.loop-i-test.true c.index-files-i.is c.loop-i.invariant.placed).here.low
 
 pub put_files-put_gap-requires-clause-fits : goal.put_files-put_gap-requires-clause-fits
-put_files-put_gap-requires-clause-fits g t c = (at_file c.args.total c.loop-i.edge c.args.files.now c.args.own.now c.loop-i.i
-    c.index-files-i.result c.loop-i-test.true c.index-files-i.is c.loop-i.invariant.placed).here.apart
+put_files-put_gap-requires-clause-fits g t c =
+    (at_file _ _ _ _ _ _ c.loop-i-test.true c.index-files-i.is c.loop-i.invariant.placed).here.apart
 
 pub put_files-put_gap-requires-clause-multiple : goal.put_files-put_gap-requires-clause-multiple
-put_files-put_gap-requires-clause-multiple g t c = (at_file c.args.total c.loop-i.edge c.args.files.now c.args.own.now c.loop-i.i
-    c.index-files-i.result c.loop-i-test.true c.index-files-i.is c.loop-i.invariant.placed).here.multiple
+put_files-put_gap-requires-clause-multiple g t c =
+    (at_file _ _ _ _ _ _ c.loop-i-test.true c.index-files-i.is c.loop-i.invariant.placed).here.multiple
 
 pub put_files-put_file-rest-requires : goal.put_files-put_file-rest-requires
 put_files-put_file-rest-requires g t c κs within =
-    let at = at_file c.args.total c.loop-i.edge c.args.files.now c.args.own.now c.loop-i.i c.index-files-i.result c.loop-i-test.true
-    c.index-files-i.is c.loop-i.invariant.placed in
+    let at = at_file _ _ _ _ _ _ c.loop-i-test.true c.index-files-i.is c.loop-i.invariant.placed in
     let l = file_laid c.args.files.now c.loop-i.i c.index-files-i.result c.loop-i.rest.now c.loop-i-test.true c.index-files-i.is
     c.loop-i.invariant.laid in
     let less = file_falls c.args.files.now c.loop-i.i c.index-files-i.result c.loop-i-test.true c.index-files-i.is in
     (omega (arith, c.decreases, less), (within, (l.0, at.here.most)))
 
 pub put_files-size_for-requires : goal.put_files-size_for-requires
-put_files-size_for-requires g t c = let at = at_file c.args.total c.loop-i.edge c.args.files.now c.args.own.now c.loop-i.i
-    c.index-files-i.result c.loop-i-test.true c.index-files-i.is c.loop-i.invariant.placed in
+put_files-size_for-requires g t c =
+    let at = at_file _ _ _ _ _ _ c.loop-i-test.true c.index-files-i.is c.loop-i.invariant.placed in
     omega (arith, at.here.most, c.data_len.ensures)
 
 pub put_files-overflow_add-end : goal.put_files-overflow_add-end
-put_files-overflow_add-end g t c = let at = at_file c.args.total c.loop-i.edge c.args.files.now c.args.own.now c.loop-i.i
-    c.index-files-i.result c.loop-i-test.true c.index-files-i.is c.loop-i.invariant.placed in
+put_files-overflow_add-end g t c =
+    let at = at_file _ _ _ _ _ _ c.loop-i-test.true c.index-files-i.is c.loop-i.invariant.placed in
     let sz = c.size_for.ensures ∙ ap size_for c.data_len.ensures in omega (arith, at.here.ends, sz, c.requires.placed.limit)
 
 pub put_files-up_to_8-edge-requires : goal.put_files-up_to_8-edge-requires
-put_files-up_to_8-edge-requires g t c = let at = at_file c.args.total c.loop-i.edge c.args.files.now c.args.own.now c.loop-i.i
-    c.index-files-i.result c.loop-i-test.true c.index-files-i.is c.loop-i.invariant.placed in
+put_files-up_to_8-edge-requires g t c =
+    let at = at_file _ _ _ _ _ _ c.loop-i-test.true c.index-files-i.is c.loop-i.invariant.placed in
     let sz = c.size_for.ensures ∙ ap size_for c.data_len.ensures in omega (arith, at.here.ends, sz, c.requires.placed.limit)
 
 pub put_files-loop-i-preserved : goal.put_files-loop-i-preserved
@@ -214,8 +207,7 @@ put_files-loop-i-preserved g t c =
     let p = c.args.polarity in
     let total : ℕ = c.args.total in
     let s : ℕ = get_or own i 0 in
-    let at = at_file c.args.total c.loop-i.edge c.args.files.now c.args.own.now c.loop-i.i c.index-files-i.result c.loop-i-test.true
-    c.index-files-i.is c.loop-i.invariant.placed in
+    let at = at_file _ _ _ _ _ _ c.loop-i-test.true c.index-files-i.is c.loop-i.invariant.placed in
     let l = file_laid fs i f rest c.loop-i-test.true c.index-files-i.is c.loop-i.invariant.laid in
     let long = file_long f rest c.name-name.ensures.read l.0 in
     let sz : c.size_for.result ≡ size_for (data_len_of f) = c.size_for.ensures ∙ ap size_for c.data_len.ensures in

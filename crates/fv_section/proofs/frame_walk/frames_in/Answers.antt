@@ -21,7 +21,8 @@ loop-list-preserved c =
 
 pub loop-list-smaller : goal.loop-list-smaller
 loop-list-smaller c =
-    grows c.args.stream.now c.in-Some.frame c.loop-list.at _ (rw c.in-Some.is at c.in_ok-frame.ensures.found) c.next_frame_at-next.ensures.next
+    grows c.args.stream.now c.in-Some.frame c.loop-list.at _ (rw c.in-Some.is at c.in_ok-frame.ensures.found)
+    c.next_frame_at-next.ensures.next
 
 pub returns-in_err-frame-clause-first : goal.returns-in_err-frame-clause-first
 returns-in_err-frame-clause-first c =

@@ -18,8 +18,8 @@ loop-frame-preserved c =
       in_fours = omega (arith, c.next_frame_at-at.ensures);
       frames = (
         w.0 ++ f ∷ [],
-        split_more c.args.stream.now w.0 _ c.loop-frame.at f c.end_of-end.result c.next_frame_at-at.result w.1 c.loop-frame.invariant.in_fours stands
-            c.end_of-end.ensures c.next_frame_at-at.ensures,
+        split_more c.args.stream.now w.0 _ c.loop-frame.at f c.end_of-end.result c.next_frame_at-at.result w.1
+            c.loop-frame.invariant.in_fours stands c.end_of-end.ensures c.next_frame_at-at.ensures,
         counted w.0 f c.loop-frame.count w.2,
       );
       within = omega (arith, c.end_of-end.ensures, stands_within f c.args.stream.now c.loop-frame.at stands);
