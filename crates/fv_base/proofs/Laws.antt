@@ -16,7 +16,9 @@ pub use Rattle.fv_base.proofs.ErasedLemmas.{all_append, all_front, all_behind, a
 -- sums of the words of joined bytes
 pub use Rattle.fv_base.proofs.SumLemmas.{words_of-append, sum-words_of-append}
 -- what a list sink and a written port hold behind a walk
-pub use Rattle.fv_base.proofs.KeptLemmas.{kept_whole}
-pub use Rattle.fv_base.proofs.Runs.{front_is}
--- what holds of every item of a list holds of the one at a place
-pub use Rattle.fv_base.proofs.ListLaws.{at_index}
+pub use Rattle.fv_base.proofs.SinkLemmas.{kept_whole, front_is}
+-- what was read from a reader behind a turn that met its end, or that failed; a flag is not both up and down
+pub use Rattle.fv_base.proofs.ReadLemmas.{end_read, none_read, up_is_not_down}
+-- what holds of every item of a list holds of the one at a place, of the one where it is cut, and of those that are kept of it; an item of
+-- a list is its first or one behind it
+pub use Rattle.fv_base.proofs.ListLaws.{at_index, in_middle, all_filter, first_or_behind, one_behind}

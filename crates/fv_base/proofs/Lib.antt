@@ -2,11 +2,10 @@ pub mod CheckLemmas
 pub mod ErasedLemmas
 pub mod FieldLemmas
 pub mod GuidLemmas
-pub mod KeptLemmas
 pub mod Laws
 pub mod ListLaws
 pub mod NumberLaws
-pub mod Pieces
-pub mod Runs
+pub mod ReadLemmas
+pub mod SinkLemmas
 pub mod SumLemmas
 pub mod TestLemmas

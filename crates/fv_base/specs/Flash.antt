@@ -1,4 +1,4 @@
--- What a volume says of the flash memory that it lies in.
+-- What an erased byte of the flash memory holds.
 use Rattle.std.specs.Prelude.{ℕ}
 use Rattle.fv_base.specs.declared.flash.Polarity.{Polarity}
 use Rattle.fv_base.specs.declared.flash.Polarity.TheVariants.{Ones, Zeros}

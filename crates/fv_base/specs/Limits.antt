@@ -1,5 +1,5 @@
--- The limits of what is read. The code has constants of its own (src/limits.rt): a contract that cites one of these
--- numbers is proved only while the two agree.
+-- The limits of what is read. For the first three the code has constants of its own (src/limits.rt): a contract that
+-- cites one of these numbers is proved only while the two agree. No code has the last: clauses alone cite it.
 use Rattle.std.specs.Prelude.{ℕ}
 
 -- the most bytes that a volume has, and that a run takes as binary input

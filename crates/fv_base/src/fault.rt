@@ -6,10 +6,11 @@ ghost use Rattle.fv_base.specs.Faults.{fault_number, outer_fault, want_of_memory
 use std::alloc::{AllocError, AllocFailed};
 use thiserror::Error;
 
-/// Why an input was refused, or a run stopped. Each variant says at which offset it stands.
+/// Why an input was refused, or a run stopped. Each variant says when it is the fault, and at which offset it stands.
+/// A file stands where its data are valid, marked for update or not.
 #[derive(Clone, Copy, Debug, PartialEq, Eq, Error)]
 pub enum FaultKind {
-    /// Fewer than 56 bytes, than `HeaderLength` or than `FvLength`. At the end of the bytes.
+    /// There are fewer bytes than 56, than `HeaderLength` or than `FvLength`. At the end of the bytes.
     #[error("the bytes end before the volume does")]
     Truncated,
     /// `Signature`, the four bytes at 40, is not `_FVH`, `EFI_FVH_SIGNATURE`. At 40.
@@ -31,69 +32,79 @@ pub enum FaultKind {
     /// `FvLength`. At 56.
     #[error("the block map does not make up the volume")]
     BlockMap,
-    /// `FvLength` is no multiple of 8, below `HeaderLength` or above the limit (at 32); bytes stand behind the volume
-    /// (at `FvLength`); or an input is longer than the limit (at the limit).
+    /// `FvLength` is no multiple of 8, below `HeaderLength` or above the limit (at 32); bytes stand behind the volume,
+    /// in a call that takes a whole one (at `FvLength`); or an input is longer than the limit (at the limit).
     #[error("the length is out of range")]
     Length,
-    /// The extended header, at `ExtHeaderOffset`, does not lie in the volume, or `ExtHeaderSize` is out of range. At
-    /// 52.
+    /// The extended header, at `ExtHeaderOffset`, begins before `HeaderLength`, has fewer than 20 bytes before
+    /// `FvLength` or ends past it, or `ExtHeaderSize` is below 20 or above 65,535. At 52.
     #[error("the extended header is out of range")]
     ExtHeader,
-    /// `State` has bit 40 or 80. At the file + 23.
+    /// In `State` bit 0x40 or 0x80 was written; or `verify_ffs_file` is given a file that does not stand.
+    /// At the file + 23.
     #[error("the state of a file is not known")]
     FileState,
-    /// The bytes of a file header do not sum to 0 with `IntegrityCheck.Checksum.Header`. At the file.
+    /// The bytes of a file header, with `IntegrityCheck.Checksum.File` and `State` taken as 0, do not sum to 0 with
+    /// `IntegrityCheck.Checksum.Header`. At the file.
     #[error("a file header has a wrong sum")]
     FileHeaderSum,
-    /// `Size` or `ExtendedSize` is below the header or past the end. At the file + 20.
+    /// `Size` or `ExtendedSize` of a file is below the header or past the end, `Size` of a large header is not 0, or
+    /// the header is cut by the end. At the file + 20.
     #[error("the size of a file is out of range")]
     FileSize,
-    /// `FFS_ATTRIB_LARGE_FILE`, attribute 01, in FFS2. At the file + 19.
+    /// `Attributes` of a file in FFS2 has `FFS_ATTRIB_LARGE_FILE`, bit 0x01. (A header that was never finished may have
+    /// it.) At the file + 19.
     #[error("a large file in FFS2")]
     LargeFile,
-    /// The file sum, `IntegrityCheck.Checksum.File`, is wrong. At the file + 17.
+    /// With `FFS_ATTRIB_CHECKSUM` the data of a file that stands, and is no pad, do not sum to 0 with
+    /// `IntegrityCheck.Checksum.File`; without it, that is not 0xAA. At the file + 17.
     #[error("a file has a wrong sum")]
     FileSum,
-    /// `FFS_ATTRIB_FIXED`, attribute 04. At the file + 19.
+    /// `Attributes` of a file that stands, and is no pad, has `FFS_ATTRIB_FIXED`, bit 0x04. At the file + 19.
     #[error("a file is marked fixed")]
     Fixed,
-    /// At the first such byte.
+    /// Where a cell would begin, not all bytes up to the volume's end are erased, and fewer than 24 are left or `State`
+    /// is erased. At the first byte from there on that is not erased.
     #[error("a byte of the free space is not erased")]
     FreeSpace,
-    /// At the later file.
+    /// A file that stands, and is no pad, has the `Name` of an earlier one in the same state. At the later file.
     #[error("two files of one state have one name")]
     DuplicateName,
-    /// The file named `EFI_FFS_VOLUME_TOP_FILE_GUID` is not the last, or does not end with the volume. At the file.
+    /// A file whose `Name` is `EFI_FFS_VOLUME_TOP_FILE_GUID`, and which is not superseded, is not the last, or does not
+    /// end at `FvLength`. At the file.
     #[error("the volume top file is not at the end")]
     TopFile,
-    /// `Size` or `ExtendedSize` is below the header or past the end. At the section header.
+    /// `Size` or `ExtendedSize` of a section is below the header or past the end, or an extended header is cut by the
+    /// end. At the section header.
     #[error("the size of a section is out of range")]
     SectionSize,
-    /// One to three bytes where a section would begin. At the first of them.
+    /// One to three bytes are left where a section would begin. At the first of them.
     #[error("too few bytes for a section header")]
     SectionTail,
-    /// A group or volume at depth 9. At the section header.
+    /// The content of a group or of an opened volume would lie at depth 9. At the section header.
     #[error("sections are nested too deep")]
     Depth,
-    /// At 0.
+    /// The files of a volume that is read have no placement in its `FvLength` bytes, though its volume top file could
+    /// stand. At 0, with the depth of that volume.
     #[error("the files do not fit")]
     NoRoom,
-    /// At 0.
+    /// The volume top file of a volume that is read, where it ends at `FvLength`, begins at no multiple of 8, or its
+    /// data are off their alignment (`FFS_ATTRIB_DATA_ALIGNMENT`). At 0, with the depth of that volume.
     #[error("the volume top file can not be aligned")]
     TopAlignment,
-    /// A growth was refused. At 0.
+    /// A growth of memory was refused. At 0.
     #[error("out of memory")]
     OutOfMemory,
-    /// At the bytes read so far.
+    /// The reader failed, or was interrupted too often. At the bytes read so far.
     #[error("the reader failed")]
     ReadFault,
-    /// At the bytes written so far.
+    /// The writer failed, or took no byte of some. At the bytes written so far.
     #[error("the writer failed")]
     WriteFault,
 }
 
 impl FaultKind {
-    /// The number by which the kind is known.
+    /// The number by which the kind is known, from 1 to 26.
     pub fn number(self) -> u8
         ensures { result ≡ fault_number self }
     {

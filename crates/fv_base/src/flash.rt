@@ -1,4 +1,4 @@
-//! What a volume says of the flash memory that it lies in.
+//! What an erased byte holds, and the two file systems.
 
 ghost use Rattle.std.specs.Prelude.{◌≡◌, ◌⊎◌};
 ghost use Rattle.fv_base.specs.Flash.{erased_byte};
@@ -7,14 +7,14 @@ ghost use Rattle.fv_base.specs.Flash.{erased_byte};
 /// `EFI_FVB2_ERASE_POLARITY`.)
 #[derive(Clone, Copy, Debug, PartialEq, Eq)]
 pub enum Polarity {
-    /// An erased byte is FF.
+    /// An erased byte is 0xFF.
     Ones,
-    /// An erased byte is 00.
+    /// An erased byte is 0x00.
     Zeros,
 }
 
 impl Polarity {
-    /// The value of an erased byte: FF or 00.
+    /// The value of an erased byte: 0xFF or 0x00.
     pub fn erased(self) -> u8
         ensures value { result ≡ erased_byte self }
         ensures either { (result ≡ 0) ⊎ (result ≡ 255) }

@@ -1,6 +1,8 @@
-//! The limits of what is read, each of them once in code. For those of volumes, headers and reads the definitions
-//! have their own numbers (`specs/Limits.antt`), and contracts tie the two: such a limit is changed in both, or
-//! nothing is proved. The limits of hexadecimal text and of calls of `read` have no definition: tests show them.
+//! The limits of what is read, each of them once in code. The limits in bytes have definitions with numbers of their
+//! own: those of a volume and of its headers in `specs/Limits.antt`, that of one read in `specs/ReadTurns.antt`, that
+//! of hexadecimal text in `specs/HexIn.antt` of `fv_command`. Contracts tie the two: such a limit is changed in both,
+//! or nothing is proved. The limits of calls of `read` have no definition. Contracts say that without a failed call
+//! they suffice, and tests show how many calls they are.
 
 /// The most bytes that a volume has, and that a run takes as binary input.
 pub const VOLUME_LIMIT: u64 = 268_435_456;

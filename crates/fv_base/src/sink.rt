@@ -164,8 +164,10 @@ impl Sink for ListSink {
     }
 }
 
+/// The zero bytes of which fills are put.
 static ZEROS: [u8; 65536] = [0; 65536];
 
+/// The bytes 0xFF of which fills are put.
 static ONES: [u8; 65536] = [0xff; 65536];
 
 // Zero bytes, some of them.
@@ -176,7 +178,7 @@ fn zeros() -> &'static [u8]
     &ZEROS
 }
 
-// Bytes FF, some of them.
+// Bytes 0xFF, some of them.
 fn ones() -> &'static [u8]
     ensures some { 0 < length result.now }
     ensures same { result.now ≡ replicate (length result.now) 255 }
@@ -184,7 +186,7 @@ fn ones() -> &'static [u8]
     &ONES
 }
 
-// A run of the byte, of some length.
+// The byte again and again, at least once.
 fn fill_block(byte: u8) -> &'static [u8]
     requires { (byte ≡ 0) ⊎ (byte ≡ 255) }
     ensures some { 0 < length result.now }
@@ -201,7 +203,7 @@ fn cut(chunk: &[u8], count: u64) -> &[u8]
     &chunk[..count as usize]
 }
 
-// Puts so many bytes, a chunk at a time.
+// Puts the byte so many times, a chunk at a time.
 fn fill_by<S: Sink>(out: &mut S, chunk: &[u8], byte: u8, count: u64)
     requires some { 0 < length chunk.now }
     requires same { chunk.now ≡ replicate (length chunk.now) byte }
@@ -215,7 +217,7 @@ fn fill_by<S: Sink>(out: &mut S, chunk: &[u8], byte: u8, count: u64)
     out.put(cut(chunk, left));
 }
 
-/// Puts `count` times the byte, which is 00 or FF.
+/// Puts `count` times the byte, which is 0x00 or 0xFF.
 pub fn fill<S: Sink>(out: &mut S, byte: u8, count: u64)
     requires { (byte ≡ 0) ⊎ (byte ≡ 255) }
     ensures { S.takes out.old (replicate count byte) out.new }

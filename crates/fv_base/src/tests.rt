@@ -8,7 +8,7 @@ mod sinks;
 use crate::{Align, Fault, FaultKind, Guid, Place, guid_at, sum8, sum16};
 use std::test::Fail;
 
-// The names of the two file systems and of the volume top file: their bytes and their text.
+/// The names of the two file systems and of the volume top file: their bytes and their text.
 const NAMES: [([u8; 16], &str); 3] = [
     (
         [
@@ -43,7 +43,7 @@ fn guids_have_their_texts(rt: HostRuntime) {
     }
 }
 
-// The forms of a name a line, that with hyphens first.
+/// A line has the forms of one name, that with hyphens first.
 const FORMS: &str = "\
     8c8ce578-8a3d-4f1c-9935-896185c32dd3 8c8ce5788a3d4f1c9935896185c32dd3 \
     {8c8ce578-8a3d-4f1c-9935-896185c32dd3} urn:uuid:8c8ce578-8a3d-4f1c-9935-896185c32dd3 \
@@ -115,7 +115,7 @@ fn sums(rt: HostRuntime) {
     }
 }
 
-// A line has the bits of an alignment, and what they are in bytes without bit 02 and with it.
+/// A line has the bits of an alignment, and what they are in bytes without bit 0x02 and with it.
 const ALIGNMENTS: &str = "\
     0 1 131072
     8 16 262144

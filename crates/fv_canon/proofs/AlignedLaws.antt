@@ -2,12 +2,12 @@
 use Rattle.std.proofs.Common.{◌≡◌, ℕ, List, drop, subst}
 use Rattle.fv_base.specs.declared.flash.Polarity.{Polarity}
 use Rattle.fv_file.specs.Cells.{Tiles}
-use Rattle.fv_file.proofs.BodyLemmas.{only_one}
+use Rattle.fv_file.proofs.Laws.{only_one}
 use Rattle.fv_head.specs.Attributes.{polarity_of}
 use Rattle.fv_head.specs.Head.{BeginsVolume, extent_of}
 use Rattle.fv_head.specs.ExtImage.{canonical_first}
 use Rattle.fv_head.specs.declared.extent.Extent.{Extent}
-use Rattle.fv_head.proofs.FrontLemmas.{one_front}
+use Rattle.fv_head.proofs.Laws.{one_front}
 use Rattle.fv_tree.specs.Denotes.{MeansSection, Stream}
 use Rattle.fv_tree.specs.Meaning.{Volume}
 use Rattle.fv_canon.specs.Aligned.{DataAligned, ImagesAlign}

@@ -5,7 +5,6 @@ use Rattle.std.specs.Prelude.{map, not, ◌&&◌}
 use Rattle.std.specs.Bool.{beq}
 use Rattle.std.specs.List.{filter, list_any}
 use Rattle.std.specs.Str.{bytes_eq}
-use Rattle.std.proofs.lemmas.Slice.Eq.{bytes_eq-Decides}
 use Rattle.fv_base.specs.Guids.{bytes_of}
 use Rattle.fv_base.specs.Value.{up_to_8}
 use Rattle.fv_base.specs.declared.flash.Polarity.{Polarity}
@@ -13,17 +12,14 @@ use Rattle.fv_canon.specs.Starts.{StartsFollow}
 use Rattle.fv_tree.specs.Files.{FileForm, is_marked, same_name, is_twin, NoTwins, replaces, alive_in, top_name, TopAtEnd}
 use Rattle.fv_canon.specs.StoredFiles.{StoredFile, stored_len}
 use Rattle.fv_canon.specs.StoredWalks.{stored_part}
-use Rattle.fv_canon.proofs.TileLaws.{forms_of}
-use Rattle.fv_base.proofs.TestLemmas.{or_parts}
-use Rattle.fv_tree.proofs.AliveLaws.{same_name_back}
+use Rattle.fv_canon.proofs.StoredTilingLaws.{forms_of}
+use Rattle.fv_base.proofs.Laws.{or_parts}
+use Rattle.fv_tree.proofs.Laws.{same_name_back}
 
 -- ---- tests over lists
 abbrev pub Member : {A : Type 0} → A → List A → Type 0
 Member x [] = ⊥
 Member x (y ∷ ys) = (x ≡ y) ⊎ Member x ys
-
-clash : {A : Type 0} (b : Bool) → b ≡ true → b ≡ false → A
-clash b p q = absurd cc
 
 any_false : {A : Type 0} (q : A → Bool) (xs : List A) (g : A) → Member g xs → list_any q xs ≡ false → q g ≡ false
 any_false q [] g m e = absurd m
@@ -71,8 +67,7 @@ none_named n (y ∷ ys) h = go (none_named n ys (λ g m t. h g (inr m) t)) (byte
     go later true e = absurd (h y (inl refl) e)
     go later false e = rw e later
 
--- what is kept of the files among which replaced ones are
-
+-- a file is kept where none of the files replaces it
 abbrev kept : List FileForm → FileForm → Bool
 kept all f = not (list_any (replaces f) all)
 
@@ -80,14 +75,7 @@ not_true : (b : Bool) → not b ≡ true → b ≡ false
 not_true true e = sym e
 not_true false e = refl
 
--- equal by the test, equal
-same_by : (x y : List ℕ) → bytes_eq x y ≡ true → x ≡ y
-same_by x y e = (bytes_eq-Decides x y).0 e
-
-eq_self : (x : List ℕ) → bytes_eq x x ≡ true
-eq_self x = (bytes_eq-Decides x x).1 refl
-
--- two files of one name that are no twins, and of which or_parts replaces the other
+-- two files of one name that are no twins, and of which neither replaces the other
 no_third : (a b : Bool) → (true && beq a b) ≡ false → (true && (a && not b)) ≡ false → (true && (b && not a)) ≡ false → ⊥
 no_third true true p q r = cc
 no_third true false p q r = cc

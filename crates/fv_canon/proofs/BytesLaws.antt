@@ -7,8 +7,7 @@ use Rattle.fv_base.specs.Guids.{bytes_of}
 use Rattle.fv_base.specs.Value.{IsBytes, le_bytes, up_to_8}
 use Rattle.fv_base.specs.declared.flash.FileSystem.{FileSystem}
 use Rattle.fv_base.specs.declared.flash.Polarity.{Polarity}
-use Rattle.fv_base.proofs.FieldLemmas.{none_at, bytes_append, bytes_le_bytes}
-use Rattle.fv_base.proofs.NumberLaws.{bytes_front, bytes_back}
+use Rattle.fv_base.proofs.Laws.{bytes_append, bytes_back, bytes_front, bytes_le_bytes, none_at}
 use Rattle.fv_file.specs.NewHeaders.{pad_head_of}
 use Rattle.fv_head.specs.Attributes.{polarity_of}
 use Rattle.fv_head.specs.Ext.{Extension, SplitsEntries, IsReadExt, kept_payload, is_used_size, zero_used_size}
@@ -16,7 +15,7 @@ use Rattle.fv_head.specs.Head.{HeadFields}
 use Rattle.fv_head.specs.HeadImage.{canonical_head}
 use Rattle.fv_head.specs.ExtImage.{IfRead, canonical_end, canonical_first, payload_with, entry_bytes, entries_bytes}
 use Rattle.fv_head.specs.ExtImage.{ext_len, ext_spelled}
-use Rattle.fv_head.proofs.SpelledLemmas.{canonical_is}
+use Rattle.fv_head.proofs.Laws.{canonical_is}
 use Rattle.fv_canon.specs.StoredFiles.{StoredFile, stored_len, stored_bytes, pad_bytes, pads, long_pad, long_pads, gap_bytes}
 use Rattle.fv_canon.specs.StoredWalks.{files_bytes, volume_bytes}
 use Rattle.fv_canon.specs.StoredFiles.{ext_pad, used_size}

@@ -3,7 +3,6 @@ use Rattle.std.proofs.Common.{◌≡◌, ◌≢◌, ◌≤◌, ◌<◌, ◌+◌,
 use Rattle.std.proofs.Common.{replicate, refl, sym, ap, ◌∙◌, subst, arith, length-append, append_assoc, append-nil}
 use Rattle.std.specs.Prelude.{slice_index, sum, ◌==◌, if◌then◌else◌}
 use Rattle.std.proofs.lemmas.Bool.{eq-eqb}
-use Rattle.std.proofs.lemmas.Bool.Decides.{nat_tests}
 use Rattle.std.proofs.lemmas.List.{length-replicate}
 use Rattle.fv_base.specs.Flash.{erased_byte}
 use Rattle.fv_base.specs.Guids.{bytes_of}
@@ -12,18 +11,15 @@ use Rattle.fv_base.specs.declared.flash.FileSystem.{FileSystem}
 use Rattle.fv_base.specs.declared.flash.FileSystem.TheVariants.{Ffs3}
 use Rattle.fv_base.specs.declared.flash.Polarity.{Polarity}
 use Rattle.fv_base.specs.declared.flash.Polarity.TheVariants.{Ones, Zeros}
-use Rattle.fv_base.proofs.FieldLemmas.{bytes_append}
-use Rattle.fv_base.proofs.NumberLaws.{bytes_replicate}
+use Rattle.fv_base.proofs.Laws.{bytes_append, bytes_replicate}
 use Rattle.fv_file.specs.Attributes.{is_large, is_fixed, is_summed}
 use Rattle.fv_file.specs.Cells.{Valid, Pad, IsCell}
-use Rattle.fv_file.specs.Files.{pad_kind, file_sum_right}
-use Rattle.fv_file.specs.NewHeaders.{needs_large, with_large, complement, fixed_checksum, pad_name, state_byte}
+use Rattle.fv_file.specs.Files.{pad_kind, file_sum_right, fixed_checksum}
+use Rattle.fv_file.specs.NewHeaders.{needs_large, with_large, complement, pad_name, state_byte}
 use Rattle.fv_file.specs.NewHeaders.{file_fields, pad_fields, file_head_of, pad_head_of}
 use Rattle.fv_file.specs.declared.head.FileHead.{FileHead}
-use Rattle.fv_file.proofs.AttributeLemmas.{set_large}
-use Rattle.fv_file.proofs.AttributeLaws.{fixed_with, summed_with, with_large_small}
-use Rattle.fv_file.proofs.HeaderLaws.{bytes_header, length-header, state_small}
-use Rattle.fv_file.proofs.WrittenLemmas.{complement_small, file_written, pad_written, head_of_file, head_of_pad}
+use Rattle.fv_file.proofs.Laws.{bytes_header, complement_small, file_written, fixed_with, head_of_file, head_of_pad, length-header}
+use Rattle.fv_file.proofs.Laws.{pad_written, set_large, state_small, summed_with, with_large_small}
 use Rattle.fv_canon.specs.StoredFiles.{StoredFile, stored_len, head_len_for, file_sum_for, stored_bytes, pad_bytes}
 
 -- ---- a file
@@ -48,9 +44,6 @@ stored_header p f = file_head_of f.name f.kind (record { 0 = f.attributes }) (le
 abbrev pub stored_head : Polarity → StoredFile → FileHead
 stored_head p f = file_fields f.name f.kind (record { 0 = f.attributes }) (length f.payload) (file_sum_for f.attributes f.payload)
     (slice_index (stored_header p f) 16)
-
-even : (a : ℕ) → is_large a ≡ false → a % 2 ≡ 0
-even a h = grind (arith, nat_tests)
 
 large_back : (l : Bool) (a : ℕ) → is_large a ≡ false → is_large (with_large l a) ≡ l
 large_back true a h = set_large a h

@@ -5,7 +5,7 @@ use Rattle.std.specs.Prelude.{Option, Some, None, nat_le, ◌&&◌, ◌==◌, sl
 use Rattle.std.specs.List.{AllByRecursion, list_any}
 use Rattle.std.proofs.lemmas.List.{length-drop, length-take-le}
 use Rattle.std.proofs.lemmas.Bool.{leb-true}
-use Rattle.fv_base.proofs.Laws.{and_split, first_among}
+use Rattle.fv_base.proofs.Laws.{all_filter, and_split, first_among, in_middle}
 use Rattle.fv_base.specs.Checks.{Check, check, IsFirstFault}
 use Rattle.fv_base.specs.Flash.{erased_byte}
 use Rattle.fv_base.specs.declared.fault.Fault.{Fault}
@@ -22,16 +22,14 @@ use Rattle.fv_file.proofs.Laws.{all_within}
 use Rattle.fv_head.proofs.Laws.{fault_within, first_lies}
 use Rattle.fv_section.specs.FrameChecks.{frame_checks}
 use Rattle.fv_section.specs.FrameChecks as section
-use Rattle.fv_section.specs.Frames.{FrameForm, Splits, frame_len}
+use Rattle.fv_section.specs.Frames.{FrameForm, frame_len}
 use Rattle.fv_section.specs.Frames as framed
 use Rattle.fv_section.proofs.Laws.{whole_within}
 use Rattle.fv_tree.specs.Denotes.{Sections, Streams, MeansSection, Stream, depth_limit}
 use Rattle.fv_tree.specs.Files.{FileForm, files_in, alive_in, replaces}
 use Rattle.fv_tree.specs.FirstFault.{moved_fault, Faulty, FrameFaulty, StreamFirst, FilesFirst, BodyFirst, VolumeFirst}
 use Rattle.fv_tree.specs.FirstFault.{SectionFirst, FirstInStream, IsFirstOfVolume, data_place}
-use Rattle.fv_tree.proofs.BodyLaws.{all_filter}
-use Rattle.fv_tree.proofs.NameLaws.{files_within, twin_within, top_within}
-use Rattle.fv_tree.proofs.Orders.{in_middle}
+use Rattle.fv_tree.proofs.Laws.{files_within, top_within, twin_within}
 use Rattle.fv_canon.specs.Refusals.{Refuses, IsFirstOfInput}
 use Rattle.fv_canon.proofs.UnfitKinds.{unfit_place}
 

@@ -7,7 +7,7 @@ use Rattle.fv_base.specs.Flash.{erased_byte}
 use Rattle.fv_base.specs.Value.{up_to_8}
 use Rattle.fv_base.specs.declared.flash.Polarity.{Polarity}
 use Rattle.fv_file.specs.NewHeaders.{file_head_of, needs_large}
-use Rattle.fv_file.proofs.FileLemmas.{header_least}
+use Rattle.fv_file.proofs.Laws.{cell_read, header_least}
 use Rattle.fv_canon.specs.Starts.{StandsInVolume}
 use Rattle.fv_tree.specs.Meaning.{FileMeaning, File, files_from, file_name_of, file_kind_of, attributes_of, content_of}
 use Rattle.fv_tree.specs.Meaning.{data_len_of}
@@ -17,9 +17,8 @@ use Rattle.fv_canon.specs.Layouts.{LaysFiles, LaysFile, LaysContent, part_of}
 use Rattle.fv_canon.specs.StoredFiles.{stored_len, size_for, head_len_for, file_sum_for, stored_bytes, gap_bytes}
 use Rattle.fv_canon.specs.StoredWalks.{files_bytes}
 use Rattle.fv_canon.proofs.ItemLaws.{item_at, both_laid}
-use Rattle.fv_canon.proofs.MadeLaws.{data_made, stream_made, sections_made, laid_file}
-use Rattle.fv_canon.proofs.OneLaws.{follow_length}
-use Rattle.fv_file.proofs.Laws.{cell_read}
+use Rattle.fv_canon.proofs.WrittenImageLaws.{data_made, stream_made, sections_made, laid_file}
+use Rattle.fv_canon.proofs.OneImageLaws.{follow_length}
 use Rattle.fv_canon.proofs.StreamLaws.{stream_again}
 use Rattle.fv_canon.proofs.VolumeLaws.{data_again, sections_again}
 use Rattle.fv_canon.specs.Placed.{ArePlaced}

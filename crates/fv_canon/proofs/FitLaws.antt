@@ -4,7 +4,7 @@ use Rattle.fv_base.specs.Value.{up_to_8}
 use Rattle.fv_base.specs.declared.fault.Fault.{Fault}
 use Rattle.fv_canon.specs.Starts.{StartsFollow, TopOff, IsOff}
 use Rattle.fv_canon.specs.declared.first_placement.Part.{Part}
-use Rattle.fv_canon.proofs.PlaceLaws.{agree}
+use Rattle.fv_canon.proofs.PlacementLaws.{agree}
 use Rattle.fv_tree.specs.Meaning.{Meaning, Volume, FileMeanings, NoFiles, MoreFiles, FileMeaning, File, ContentMeaning, Plain, Sectioned}
 use Rattle.fv_tree.specs.Meaning.{SectionMeanings, NoSections, MoreSections, SectionMeaning, Section, BodyMeaning, Leaf, Group, Nested}
 use Rattle.fv_canon.specs.Layouts.{parts_of, first_edge, LaysVolume, LaysFiles, LaysFile, LaysContent, LaysSections, LaysSection, LaysBody}

@@ -8,9 +8,9 @@ use Rattle.fv_canon.specs.Image.{IsImage}
 use Rattle.fv_canon.specs.ImageOf.{image_of}
 use Rattle.fv_canon.specs.Layouts.{LaysVolume}
 use Rattle.fv_canon.specs.Headline.{NormalisesTo}
-use Rattle.fv_canon.proofs.MadeLaws.{image_made}
-use Rattle.fv_canon.proofs.NormalLaws.{accepted, images_stay}
-use Rattle.fv_canon.proofs.OneLaws.{image_one}
+use Rattle.fv_canon.proofs.WrittenImageLaws.{image_made}
+use Rattle.fv_canon.proofs.HeadlineLaws.{accepted, images_stay}
+use Rattle.fv_canon.proofs.OneImageLaws.{image_one}
 use Rattle.fv_canon.proofs.VolumeLaws.{image_bytes, image_denotes, image_long}
 
 -- what is written for a layout of a meaning that some bytes have is its image

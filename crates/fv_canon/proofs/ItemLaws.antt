@@ -2,7 +2,7 @@
 use Rattle.std.proofs.Common.{◌≡◌, ◌<◌, ◌+◌, ℕ, zero, suc, List, [], ◌∷◌, ◌++◌, length, drop, get_or, sym, ap, ◌∙◌, subst, arith}
 use Rattle.std.proofs.lemmas.List.{drop_more}
 use Rattle.fv_canon.specs.ImageWalks.{BeginsWithStarts}
-use Rattle.fv_canon.proofs.MadeLaws.{moved, behind_is}
+use Rattle.fv_canon.proofs.WrittenImageLaws.{moved, behind_is}
 
 -- where P of a list says Q of its first item and P of the rest, it says Q of each item
 pub item_has : {A : Type 0} (P : List A → Type 0) (Q : A → Type 0) → ((x : A) (xs : List A) → P (x ∷ xs) → Q x × P xs)

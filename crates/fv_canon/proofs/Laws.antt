@@ -6,7 +6,7 @@ pub use Rattle.fv_canon.proofs.ImageLaws.{image_is, image_only, image_accepted, 
 pub use Rattle.fv_canon.proofs.ImageLaws.{image_again, image_stays_long}
 -- one meaning of some bytes, and of an image; bytes that are a volume within the limit are accepted
 pub use Rattle.fv_canon.proofs.MeaningLaws.{one_meaning}
-pub use Rattle.fv_canon.proofs.NormalLaws.{accepted, one_meaning_of}
+pub use Rattle.fv_canon.proofs.HeadlineLaws.{accepted, one_meaning_of}
 -- what has an image fits; what is laid out fits, and what is refused does not
 pub use Rattle.fv_canon.proofs.ImageFits.{image_fits, data_fits, body_fits}
 pub use Rattle.fv_canon.proofs.FitLaws.{laid_fits, fits_laid, unfit_none}
@@ -14,8 +14,12 @@ pub use Rattle.fv_canon.proofs.FitLaws.{laid_fits, fits_laid, unfit_none}
 pub use Rattle.fv_canon.proofs.InputLaws.{input_prefix, end_found, end_only, volume_refused, end_refused}
 -- an input that is no volume, or one that does not fit, is refused; one that has an image is neither
 pub use Rattle.fv_canon.proofs.InputLaws.{not_read, not_placed, not_read_never}
+-- a fault is a want of memory or it is none
+pub use Rattle.fv_canon.proofs.InputLaws.{want_known}
+-- the data of a file that was read are shorter than a volume may be
+pub use Rattle.fv_canon.proofs.StoredPartLaws.{data_short}
 -- the faults of a layout are none of a reader or a writer
 pub use Rattle.fv_canon.proofs.UnfitKinds.{IsOfLayout, unfit_is}
 pub use Rattle.fv_canon.proofs.InputLaws.{IsOfInput, unfit_kind, input_kind, stood_kind}
 -- what a run wrote, or what stopped it, by what is known of the meaning
-pub use Rattle.fv_canon.proofs.RunLaws.{input_writes, writer_stops, refused_stops, behind_stops}
+pub use Rattle.fv_canon.proofs.NormaliseRunLaws.{input_writes, writer_stops, refused_stops, behind_stops, of_some_kind}

@@ -9,8 +9,8 @@ use Rattle.fv_tree.specs.Meaning.{SectionMeanings, NoSections, MoreSections, Sec
 use Rattle.fv_tree.specs.Meaning.{files_from, files_list, files_of, head_of}
 use Rattle.fv_canon.specs.Layouts.{LaysVolume, LaysFiles, LaysFile, LaysContent, LaysSections, LaysSection, LaysBody}
 use Rattle.fv_canon.specs.Layouts.{first_edge, part_of, parts_of}
-use Rattle.fv_canon.proofs.MadeLaws.{laid_volume}
-use Rattle.fv_canon.proofs.OneLaws.{follow_length, starts_one}
+use Rattle.fv_canon.proofs.WrittenImageLaws.{laid_volume}
+use Rattle.fv_canon.proofs.OneImageLaws.{follow_length, starts_one}
 use Rattle.fv_canon.specs.LayoutWalks.{Grew}
 use Rattle.fv_canon.specs.LayoutForms.{Places, IsLayout}
 

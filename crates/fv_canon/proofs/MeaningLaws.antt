@@ -1,12 +1,11 @@
 -- Bytes have one meaning at most.
 use Rattle.std.proofs.Common.{◌≡◌, ℕ, zero, suc, Bool, true, false, List, [], ◌∷◌, drop, refl, sym, ap, ◌∙◌, subst}
 use Rattle.fv_file.specs.Cells.{CellForm, Tiles}
-use Rattle.fv_file.proofs.CellLemmas.{one_cell, not_empty}
-use Rattle.fv_file.proofs.TilingLemmas.{one_tiling}
+use Rattle.fv_file.proofs.Laws.{not_empty, one_cell, one_tiling}
 use Rattle.fv_head.specs.declared.extent.Extent.{Extent}
-use Rattle.fv_head.proofs.FrontLemmas.{one_front}
+use Rattle.fv_head.proofs.Laws.{one_front}
 use Rattle.fv_section.specs.Frames.{FrameForm}
-use Rattle.fv_section.proofs.StreamLemmas.{one_split}
+use Rattle.fv_section.proofs.Laws.{one_split}
 use Rattle.fv_tree.specs.Files.{FileForm, files_in, alive_in}
 use Rattle.fv_tree.specs.Meaning.{Meaning, Volume, FileMeanings, NoFiles, MoreFiles, FileMeaning, File, ContentMeaning, Plain, Sectioned}
 use Rattle.fv_tree.specs.Meaning.{SectionMeanings, NoSections, MoreSections, SectionMeaning, Section, BodyMeaning, Leaf, Group, Nested}

@@ -6,10 +6,9 @@ use Rattle.fv_base.specs.Value.{IsBytes}
 use Rattle.fv_base.specs.declared.flash.FileSystem.{FileSystem}
 use Rattle.fv_base.specs.declared.flash.Polarity.{Polarity}
 use Rattle.fv_file.specs.Cells.{CellForm, Valid, Pad, Dead, Stub, Free, Tiles}
-use Rattle.fv_file.proofs.Laws.{IsRead, tiles_read}
-use Rattle.fv_file.proofs.Laws.{FileRead as HeadRead}
+use Rattle.fv_file.proofs.Laws.{FileRead as HeadRead, IsRead, tiles_read}
 use Rattle.fv_tree.specs.Files.{FileForm, files_in, replaces, alive_in}
-use Rattle.fv_tree.proofs.BodyLaws.{all_filter}
+use Rattle.fv_base.proofs.Laws.{all_filter}
 
 abbrev pub FileIsAccepted : FileSystem → ℕ → FileForm → Type 0
 FileIsAccepted system limit f = HeadRead system limit f.head f.payload

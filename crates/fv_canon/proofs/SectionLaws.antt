@@ -5,18 +5,17 @@ use Rattle.std.proofs.lemmas.List.{drop_all}
 use Rattle.fv_base.specs.Value.{IsBytes}
 use Rattle.fv_base.specs.Limits.{volume_limit}
 use Rattle.fv_base.specs.Sinks.{WalkLaws}
-use Rattle.fv_base.proofs.FieldLemmas.{bytes_drop}
+use Rattle.fv_base.proofs.Laws.{bytes_drop}
 use Rattle.fv_section.specs.Frames.{FrameForm, section_header_len, frame_len, up_to_4}
 use Rattle.fv_section.specs.SectionImage.{FitsForm, section_head_of, stream_of}
-use Rattle.fv_section.proofs.FrameLemmas.{length_begun}
+use Rattle.fv_section.proofs.Laws.{begun_bytes, fits, length_begun}
 use Rattle.fv_tree.specs.Meaning.{SectionMeanings, NoSections, MoreSections, SectionMeaning, Section, sections_from, body_of, body_len}
 use Rattle.fv_tree.specs.Meaning.{section_is_extended, section_kind_of, section_len}
 use Rattle.fv_tree.specs.Denotes.{MeansSection, IsReadSection}
 use Rattle.fv_canon.specs.ImageOf.{frames_of, frame_of, body_image, starts_in_section, starts_in_sections, starts_in_body}
 use Rattle.fv_canon.specs.Layouts.{LaysSections, LaysSection, LaysBody}
 use Rattle.fv_canon.proofs.ItemLaws.{item_at, both_laid}
-use Rattle.fv_canon.proofs.MadeLaws.{sections_made, laid_section}
-use Rattle.fv_section.proofs.StreamLaws.{begun_bytes, fits}
+use Rattle.fv_canon.proofs.WrittenImageLaws.{sections_made, laid_section}
 use Rattle.fv_canon.proofs.VolumeLaws.{sections_again}
 use Rattle.fv_canon.specs.ImageWalks.{frame_bytes, sections_bytes, BeginsWithStarts, TakesFront}
 

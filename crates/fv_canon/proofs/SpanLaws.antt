@@ -14,15 +14,14 @@ use Rattle.fv_head.specs.Ext.{Extension}
 use Rattle.fv_head.specs.Head.{HeadFields, IsReadHead, header_len_of}
 use Rattle.fv_head.specs.HeadImage.{canonical_head}
 use Rattle.fv_head.specs.ExtImage.{IfRead, canonical_end, canonical_first, ext_len, ext_spelled}
-use Rattle.fv_head.proofs.SpelledLemmas.{length-canonical}
-use Rattle.fv_head.proofs.ExtSpelled.{ext_again}
+use Rattle.fv_head.proofs.Laws.{ext_again, length-canonical}
 use Rattle.fv_canon.specs.Starts.{StartsFollow}
 use Rattle.fv_canon.specs.Spans.{Span, ShowsSpans, painted, InOrder}
 use Rattle.fv_canon.specs.StoredFiles.{StoredFile, stored_len, stored_bytes, gap_bytes, file_spans, ext_pad, volume_spans, used_size}
 use Rattle.fv_canon.specs.StoredWalks.{stored_part, files_bytes, volume_bytes}
 use Rattle.fv_canon.proofs.CellLaws.{Storable, length-stored, length-pad_head}
-use Rattle.fv_canon.proofs.Paint.{shows_walk, one_image}
-use Rattle.fv_canon.proofs.TileLaws.{apart, filler_is, length-gap}
+use Rattle.fv_canon.proofs.PositionLaws.{shows_walk, one_image}
+use Rattle.fv_canon.proofs.StoredTilingLaws.{apart, filler_is, length-gap}
 
 edges : (x total : ℕ) → total % 8 ≡ 0 → x ≤ total → (x ≤ up_to_8 x) × (up_to_8 x ≤ total)
 edges x total h l = (omega arith, omega arith)

@@ -3,17 +3,14 @@ use Rattle.std.proofs.Common.{◌≡◌, ◌≤◌, ◌<◌, ◌+◌, ◌-◌, �
 use Rattle.std.proofs.Common.{sym, ap, ◌∙◌, subst, arith, length-append}
 use Rattle.std.proofs.lemmas.List.{length-replicate}
 use Rattle.fv_base.specs.Value.{IsBytes, le_bytes}
-use Rattle.fv_base.proofs.FieldLemmas.{none_at, bytes_cons, bytes_append, bytes_le_bytes}
-use Rattle.fv_base.proofs.NumberLaws.{bytes_front, bytes_back, bytes_replicate}
+use Rattle.fv_base.proofs.Laws.{bytes_append, bytes_back, bytes_cons, bytes_front, bytes_le_bytes, bytes_replicate, none_at}
 use Rattle.fv_section.specs.Frames.{FrameForm, section_header_len, frame_len, BeginsFrame, SplitsFrom, Splits, up_to_4}
 use Rattle.fv_section.specs.SectionImage.{FitsForm, section_head_of, stream_of, InPlace}
-use Rattle.fv_section.proofs.FrameLemmas.{length_begun}
-use Rattle.fv_section.proofs.WrittenLemmas.{streams_are_read}
+use Rattle.fv_section.proofs.Laws.{begun_bytes, fits, length_begun, streams_are_read}
 use Rattle.fv_tree.specs.Meaning.{Meaning, SectionMeanings, NoSections, MoreSections, SectionMeaning, Section, Leaf, Group, Nested}
 use Rattle.fv_tree.specs.Meaning.{sections_list, sections_end, section_len, length_of}
 use Rattle.fv_tree.specs.Denotes.{Sections, Streams, Volumes, Pairs, StreamOver, SectionOver, Opens}
 use Rattle.fv_canon.specs.Image.{IsImage, AreFrames, IsFrame}
-use Rattle.fv_section.proofs.StreamLaws.{begun_bytes, fits}
 
 -- the type of a section that was read is a byte, and then a header of this type is bytes
 begun_kind : (f : FrameForm) (b rest : List ℕ) → IsBytes b → BeginsFrame f b rest → f.kind < 256

@@ -6,7 +6,8 @@ use Rattle.fv_base.specs.Guids.{bytes_of}
 use Rattle.fv_base.specs.Value.{le_bytes}
 use Rattle.fv_base.specs.declared.flash.Polarity.{Polarity}
 use Rattle.fv_file.specs.Attributes.{is_summed}
-use Rattle.fv_file.specs.NewHeaders.{complement, fixed_checksum, header_with, header_bytes, needs_large, with_large, state_byte}
+use Rattle.fv_file.specs.NewHeaders.{complement, header_with, header_bytes, needs_large, with_large, state_byte}
+use Rattle.fv_file.specs.Files.{fixed_checksum}
 use Rattle.fv_canon.specs.StoredFiles.{StoredFile, file_sum_for, stored_bytes, head_len_for}
 use Rattle.fv_canon.specs.StoredWalks.{file_adds}
 

@@ -1,25 +1,15 @@
 -- What a walk that sums bytes adds.
-use Rattle.std.proofs.Common.{◌≡◌, ◌<◌, ◌+◌, ◌-◌, ◌%◌, ℕ, Bool, true, false, List, [], ◌∷◌, sym, ap, ◌∙◌, arith}
+use Rattle.std.proofs.Common.{◌≡◌, ◌<◌, ◌+◌, ◌-◌, ◌%◌, ℕ, Bool, true, false, List, [], ◌∷◌, ap, ◌∙◌, arith}
 use Rattle.std.specs.Prelude.{sum, if◌then◌else◌}
 use Rattle.fv_base.specs.declared.flash.Polarity.{Polarity}
 use Rattle.fv_file.specs.Attributes.{is_summed}
-use Rattle.fv_file.specs.NewHeaders.{complement, fixed_checksum, state_byte}
+use Rattle.fv_file.specs.NewHeaders.{state_byte}
+use Rattle.fv_file.specs.Files.{fixed_checksum}
 use Rattle.fv_tree.specs.Meaning.{FileMeaning, File, attributes_of}
 use Rattle.fv_canon.specs.ImageOf.{stored_file, data_of}
 use Rattle.fv_canon.specs.ImageSinks.{AddsOrPuts}
-use Rattle.fv_canon.specs.StoredFiles.{file_sum_for, stored_bytes}
+use Rattle.fv_canon.specs.StoredFiles.{stored_bytes}
 use Rattle.fv_canon.proofs.SumLaws.{stored_adds}
-
--- the file sum of a file with the checksum attribute, and of another
-pub summed_text : (a : ℕ) (d : List ℕ) (total : ℕ) → is_summed a ≡ true → total < 256 → total % 256 ≡ (0 + sum d) % 256
-    → (256 - total) % 256 ≡ file_sum_for a d
-summed_text a d total is small e = back total (sum d) small e ∙ sym (ap (λ (b : Bool). if b then complement (sum d) else fixed_checksum) is)
-  where
-    back : (t s : ℕ) → t < 256 → t % 256 ≡ (0 + s) % 256 → (256 - t) % 256 ≡ complement s
-    back t s l e = omega (arith, l, e)
-
-pub unsummed_text : (a : ℕ) (d : List ℕ) → is_summed a ≡ false → fixed_checksum ≡ file_sum_for a d
-unsummed_text a d is = sym (ap (λ (b : Bool). if b then complement (sum d) else fixed_checksum) is)
 
 -- a file with the checksum attribute adds its State alone
 pub summed_adds : (p : Polarity) (m : FileMeaning) (starts : List ℕ) (t u : ℕ) → is_summed (attributes_of m) ≡ true

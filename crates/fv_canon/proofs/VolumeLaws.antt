@@ -16,7 +16,7 @@ use Rattle.fv_base.specs.declared.flash.FileSystem.{FileSystem}
 use Rattle.fv_base.specs.declared.flash.FileSystem.TheVariants.{Ffs3}
 use Rattle.fv_base.specs.declared.flash.Polarity.{Polarity}
 use Rattle.fv_base.specs.declared.guid.Guid.{Guid}
-use Rattle.fv_base.proofs.FieldLemmas.{field-take, bytes_drop}
+use Rattle.fv_base.proofs.Laws.{bytes_back, bytes_drop, bytes_front, field-take}
 use Rattle.fv_file.specs.Attributes.{attribute_bits, is_large, is_fixed, without_large}
 use Rattle.fv_file.specs.Files.{pad_kind}
 use Rattle.fv_file.specs.NewHeaders.{needs_large, with_large, pad_head_of}
@@ -26,8 +26,7 @@ use Rattle.fv_head.specs.Head.{HeadFields, HasExt, BeginsVolume, extent_of, IsRe
 use Rattle.fv_head.specs.HeadImage.{canonical_head}
 use Rattle.fv_head.specs.ExtImage.{CanonicalRest, IfRead, canonical_end, canonical_first, ext_len, ext_spelled}
 use Rattle.fv_head.specs.declared.extent.Extent.{Extent}
-use Rattle.fv_head.proofs.FrontLemmas.{front_lies}
-use Rattle.fv_head.proofs.SpelledLemmas.{canonical_front, length-canonical}
+use Rattle.fv_head.proofs.Laws.{canonical_front, front_lies, length-canonical}
 use Rattle.fv_canon.specs.Starts.{StartsFollow, IsFirstPlacement}
 use Rattle.fv_canon.specs.declared.first_placement.Part.{Part}
 use Rattle.fv_tree.specs.Files.{FileForm, files_in, NoTwins, alive_in, top_name}
@@ -45,9 +44,8 @@ use Rattle.fv_canon.proofs.CellLaws.{Storable, stored_head, length-pad_head}
 use Rattle.fv_canon.proofs.ReadLaws.{FileIsAccepted, body_read, alive_read}
 use Rattle.fv_canon.proofs.SpanLaws.{Writable, first_is, volume_shows, length-ext_pad}
 use Rattle.fv_canon.proofs.StreamLaws.{SectionsAgain, section_again, stream_again, StreamsAgain, VolumesAgain}
-use Rattle.fv_base.proofs.Laws.{bytes_front, bytes_back}
 use Rattle.fv_canon.proofs.BytesLaws.{bytes_volume}
-use Rattle.fv_canon.proofs.TileLaws.{forms_of, Tiled, body_tiles}
+use Rattle.fv_canon.proofs.StoredTilingLaws.{forms_of, Tiled, body_tiles}
 
 -- ---- a file
 
@@ -153,10 +151,6 @@ pub record FilesAgain (is_stream : Streams) (system : FileSystem) (files : FileM
 
 no_file : {A : Type 0} (x : A) (xs : List A) → x ∷ xs ≡ [] → ⊥
 no_file x xs e = cc
-
-pairs_end : (is_stream : Streams) (p : Polarity) (total e : ℕ) (ss : List ℕ) → StartsFollow total e [] ss
-    → Pairs (MeansFile is_stream) (forms_of p [] ss) []
-pairs_end is_stream p total e ss follow = tt
 
 files_again : (is_stream : Streams) → StreamsAgain is_stream
     → (system : FileSystem) (limit : ℕ) (files : FileMeanings) (forms : List FileForm) (stored : List StoredFile) → limit ≤ 268435448

@@ -20,14 +20,14 @@ use Rattle.fv_canon.specs.Image.{AreStored}
 use Rattle.fv_canon.specs.Layouts.{LaysVolume, LaysFiles, parts_of, part_of}
 use Rattle.fv_canon.specs.StoredFiles.{StoredFile, size_for, stored_len, used_size, ext_pad}
 use Rattle.fv_canon.specs.StoredWalks.{stored_part, volume_bytes, files_bytes}
-use Rattle.fv_canon.proofs.MadeLaws.{files_made, stream_made, sections_made, front_is, behind_is}
-use Rattle.fv_canon.proofs.OneLaws.{follow_length}
+use Rattle.fv_canon.proofs.WrittenImageLaws.{files_made, stream_made, sections_made, front_is, behind_is}
+use Rattle.fv_canon.proofs.OneImageLaws.{follow_length}
 use Rattle.fv_canon.proofs.SpanLaws.{first_is}
 use Rattle.fv_canon.proofs.StreamLaws.{stream_again}
 use Rattle.fv_canon.proofs.VolumeLaws.{known, files_read, sections_again}
 use Rattle.fv_canon.specs.Placed.{ArePlaced, used_by}
 use Rattle.fv_canon.specs.ImageWalks.{BeginsWithStarts}
-use Rattle.fv_tree.proofs.VolumeLaws.{files_list_back}
+use Rattle.fv_tree.proofs.Laws.{files_list_back}
 
 -- ---- the used size
 abbrev used_parts : ℕ → List Part → List ℕ → ℕ

@@ -40,7 +40,7 @@ difference_word words.Form = codes "form"
 difference_word words.Shape = codes "shape"
 difference_word words.Body = codes "body"
 
--- the line of where two volumes first differ, or of two that are one
+-- the line of where two volumes first differ, or of two that mean the same
 abbrev pub compare_line : Differs → List ℕ
 compare_line None = codes "same" ++ line_feed
 compare_line (Some d) = codes "different at " ++ (path_text d.0 ++ (difference_word d.1 ++ line_feed))

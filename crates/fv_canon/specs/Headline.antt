@@ -21,10 +21,11 @@ abbrev pub ImagesStay : Type 0
 ImagesStay =
     (a image : List ℕ) → NormalisesTo a image → (length image ≡ length a) × MeanSame a image × NormalisesTo image image
 
--- a meaning has one image at most, and is the only one of this image that some bytes have
+-- a meaning has one image at most
 abbrev pub OneImage : Type 0
 OneImage = (m : Meaning) (image other : List ℕ) → IsImage m image → IsImage m other → image ≡ other
 
+-- two meanings of some bytes that have one image are the same
 abbrev pub OneMeaning : Type 0
 OneMeaning = (m other : Meaning) (image : List ℕ) → IsMeaning m → IsMeaning other → IsImage m image
     → IsImage other image → other ≡ m

@@ -9,7 +9,7 @@ use Rattle.fv_tree.specs.Meaning.{BodyMeaning, Leaf, Group, Nested, files_list}
 use Rattle.fv_canon.specs.StoredFiles.{StoredFile}
 use Rattle.fv_canon.specs.StoredWalks.{volume_bytes}
 
--- how many starts the volumes inside have
+-- how many starts each part has: those of a volume's own files, and those of the volumes inside
 abbrev mutual
   pub starts_in : Meaning → ℕ
   starts_in (Volume h files) = length (files_list files) + starts_in_files files

@@ -1,5 +1,5 @@
--- The laws of bytes that are compared. There is nothing to believe here: these are proofs, and stand in specs/ since a
--- ghost member cites the last of them.
+-- The laws of bytes that are compared. They are proofs, and stand in specs/ since a ghost member cites the last of
+-- them.
 -- Serves private clauses alone: there is nothing to believe here.
 use Rattle.std.proofs.Common.{ℕ, List, [], ◌++◌, refl, ap, sym, ◌∙◌, append_assoc, Bool, true, false}
 use Rattle.std.proofs.lemmas.List.{append_cancel_left}

@@ -7,8 +7,8 @@ use Rattle.fv_base.specs.Value.{up_to_8}
 use Rattle.fv_base.specs.declared.flash.Polarity.{Polarity}
 use Rattle.fv_base.specs.declared.guid.Guid.{Guid}
 use Rattle.fv_file.specs.Attributes.{attributes_by, is_summed}
-use Rattle.fv_file.specs.Files.{file_header_len}
-use Rattle.fv_file.specs.NewHeaders.{needs_large, complement, fixed_checksum, file_head_of, pad_head_of}
+use Rattle.fv_file.specs.Files.{file_header_len, fixed_checksum}
+use Rattle.fv_file.specs.NewHeaders.{needs_large, complement, file_head_of, pad_head_of}
 use Rattle.fv_head.specs.Attributes.{polarity_of}
 use Rattle.fv_head.specs.Ext.{Extension}
 use Rattle.fv_head.specs.Head.{HeadFields, header_len_of as head_len_of}
@@ -23,18 +23,18 @@ pub record StoredFile : Type 0 where
   pub attributes : ℕ
   pub payload : List ℕ
 
--- the bytes of the header, which is large where with a short one the size would pass FFFFFF,
--- and those of the whole file
+-- the bytes of the header, which is large where with a short one the size would pass 0xFFFFFF
 abbrev pub head_len_for : ℕ → ℕ
 head_len_for data_len = file_header_len (needs_large data_len)
 
+-- the bytes of the whole file
 abbrev pub size_for : ℕ → ℕ
 size_for data_len = head_len_for data_len + data_len
 
 abbrev pub stored_len : StoredFile → ℕ
 stored_len f = size_for (length f.payload)
 
--- with the checksum attribute what makes the data's sum a multiple of 256, else AA
+-- with the checksum attribute what makes the data's sum a multiple of 256, else 0xAA
 abbrev pub file_sum_for : ℕ → List ℕ → ℕ
 file_sum_for attributes payload = if is_summed attributes then complement (sum payload) else fixed_checksum
 
@@ -57,7 +57,7 @@ abbrev pub pads : Polarity → ℕ → ℕ → List ℕ
 pads polarity zero gap = pad_bytes polarity gap
 pads polarity (suc n) gap = pad_bytes polarity long_pad ++ pads polarity n (gap - long_pad)
 
--- how many of them a gap begins with: the least number that leaves at most FFFFF8 bytes
+-- how many of them a gap begins with: the least number that leaves at most 0xFFFFF8 bytes
 abbrev pub long_pads : ℕ → ℕ
 long_pads gap = (gap - 249) / long_pad
 
@@ -94,7 +94,7 @@ volume_spans h files starts =
     }
     ∷ file_spans (polarity_of h.attributes) (canonical_first h h.ext) files starts
 
--- ---- the same, part by part, as a walk writes it
+-- ---- the rule of the pads
 
 -- the rule of the pads of a gap: one pad where it fits, else the greatest pad first, and so on, the
 -- last of at least 256 bytes

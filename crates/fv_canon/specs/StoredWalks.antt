@@ -8,7 +8,8 @@ use Rattle.fv_base.specs.Guids.{bytes_of}
 use Rattle.fv_base.specs.Value.{up_to_8}
 use Rattle.fv_base.specs.declared.flash.Polarity.{Polarity}
 use Rattle.fv_file.specs.Attributes.{is_summed}
-use Rattle.fv_file.specs.NewHeaders.{fixed_checksum, state_byte}
+use Rattle.fv_file.specs.NewHeaders.{state_byte}
+use Rattle.fv_file.specs.Files.{fixed_checksum}
 use Rattle.fv_head.specs.Attributes.{polarity_of}
 use Rattle.fv_head.specs.Head.{HeadFields}
 use Rattle.fv_head.specs.HeadImage.{canonical_head}
@@ -18,7 +19,7 @@ use Rattle.fv_canon.specs.declared.first_placement.Part.{Part}
 use Rattle.fv_canon.specs.StoredFiles.{StoredFile, head_len_for, stored_len, stored_bytes, gap_bytes, ext_pad}
 use Rattle.fv_canon.specs.StoredFiles.{used_size}
 
--- a file with the checksum attribute adds its State alone, whatever its data are; another adds AA, State and its data
+-- a file with the checksum attribute adds its State alone, whatever its data are; another adds 0xAA, State and its data
 abbrev pub file_adds : Polarity → StoredFile → ℕ
 file_adds p f = if is_summed f.attributes then state_byte p else (fixed_checksum + state_byte p + sum f.payload)
 

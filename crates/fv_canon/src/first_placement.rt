@@ -16,13 +16,16 @@ use fv_base::Fault;
 use fv_base::field::up_to_8;
 use std::alloc::Global;
 
-/// What the layout is told of a file: the bytes of its header and of the whole, its alignment, and
-/// whether it is the volume top file.
+/// What the layout is told of a file.
 #[derive(Clone, Copy)]
 pub(crate) struct Part {
+    /// The bytes of its header.
     pub header: u64,
+    /// The bytes of the whole file.
     pub size: u64,
+    /// The alignment of its data, in bytes.
     pub alignment: u64,
+    /// Whether it is the volume top file.
     pub top: bool,
 }
 
@@ -58,12 +61,14 @@ fn widened(alignment: u64) -> u64
     if alignment < 8 { 8 } else { alignment }
 }
 
-/// After which edges some files can be placed: the greatest start of the first of them that serves,
-/// and whether the starts 8 and 16 below it serve too.
+/// After which edges some files can be placed.
 #[derive(Clone, Copy)]
 pub(crate) struct Reach {
+    /// The greatest start of the first of them that serves, in bytes from the volume's start.
     pub greatest: u64,
+    /// Whether the start 8 bytes below it serves too.
     pub near: bool,
+    /// Whether the start 16 bytes below it serves too.
     pub far: bool,
 }
 

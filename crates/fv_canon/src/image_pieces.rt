@@ -10,7 +10,7 @@ ghost use Rattle.fv_file.specs.NewHeaders.{file_head_of, state_byte};
 ghost use Rattle.fv_canon.specs.StoredFiles.{ext_pad, gap_bytes, pad_bytes, size_for};
 ghost use Rattle.fv_canon.specs.Placed.{ArePlaced, used_by};
 ghost use Rattle.fv_base.specs.Flash.{erased_byte};
-ghost use Rattle.fv_base.specs.Limits.{volume_limit};
+ghost use Rattle.fv_base.specs.Limits.{data_limit, volume_limit};
 ghost use Rattle.fv_head.specs.Attributes.{polarity_of};
 ghost use Rattle.fv_head.specs.ExtImage.{canonical_end, canonical_first};
 
@@ -21,7 +21,7 @@ use fv_head::{VolumeHead, len_of_ext, put_ext};
 use fv_section::section_head_bytes;
 use fv_tree::{FileView, SectionView};
 
-// The zero bytes behind a section, before the next.
+// How many zero bytes stand behind a section, before the next.
 pub(crate) fn filler_of(section: &SectionView<'_>) -> u64
     requires { section_len section.now < 2 ^ 32 }
     ensures { result ≡ up_to_4 (section_len section.now) - section_len section.now }
@@ -50,6 +50,12 @@ pub(crate) fn put_pad<S: Sink>(out: &mut S, size: u64, polarity: Polarity)
     fill(out, polarity.erased(), size - 24);
 }
 
+/// The most bytes of a pad in a gap: the greatest multiple of 8 that `Size` can say.
+const PAD_MOST: u64 = 0xff_fff8;
+
+/// The bytes of each pad of a longer gap but its last.
+const LONG_PAD: u64 = 0xff_ff00;
+
 // Puts the pads of a gap.
 pub(crate) fn put_gap<S: Sink>(out: &mut S, gap: u64, polarity: Polarity)
     requires fits { (gap ≡ 0) ⊎ (24 ≤ gap) }
@@ -60,14 +66,14 @@ pub(crate) fn put_gap<S: Sink>(out: &mut S, gap: u64, polarity: Polarity)
         return;
     }
     let mut left = gap;
-    while left > 0xfffff8 {
-        put_pad(out, 0xffff00, polarity);
-        left -= 0xffff00;
+    while left > PAD_MOST {
+        put_pad(out, LONG_PAD, polarity);
+        left -= LONG_PAD;
     }
     put_pad(out, left, polarity);
 }
 
-// The bytes of a file: its header, and data of so many bytes.
+// How many bytes a file has: its header, and data of so many bytes.
 pub(crate) fn size_for(data_len: u64) -> u64
     requires { data_len < 2 ^ 62 }
     ensures { result ≡ size_for data_len }
@@ -78,7 +84,7 @@ pub(crate) fn size_for(data_len: u64) -> u64
 
 // Puts the header of a file with this file sum.
 pub(crate) fn put_file_head<S: Sink>(out: &mut S, file: &FileView<'_>, sum: u8, polarity: Polarity)
-    requires most { data_len_of file.now ≤ 268435424 }
+    requires most { data_len_of file.now ≤ data_limit }
     ensures { S.takes out.old (file_head_of (file_name_of file.now) (file_kind_of file.now)
         (attributes_by (attributes_of file.now)) (data_len_of file.now) sum polarity) out.new }
 {

@@ -31,7 +31,7 @@ impl<'a, S: Sink> Sink for ImageSink<'a, S> {
 }
 
 impl<'a, S: Sink> ImageSink<'a, S> {
-    /// A sink that puts into the one below.
+    // A sink that puts into the one below.
     pub(crate) fn new(below: &'a mut S) -> ImageSink<'a, S>
         ensures same_sink { result.below.ghost_name ≡ below.entry.ghost_name }
         ensures now { result.below.now ≡ below.old }

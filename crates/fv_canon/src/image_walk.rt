@@ -1,6 +1,7 @@
 //! One walk over a volume, which puts its canonical image into any sink.
 
 ghost use Rattle.std.specs.Prelude.{◌≡◌, ◌≤◌, ◌<◌, ◌+◌, ◌-◌, ◌%◌, [], drop, true, false};
+ghost use Rattle.fv_base.specs.Limits.{data_limit};
 ghost use Rattle.fv_file.specs.Attributes.{is_summed};
 ghost use Rattle.fv_section.specs.SectionImage.{stream_of};
 ghost use Rattle.fv_tree.specs.Meaning.{files_from, attributes_of, content_of, data_len_of, sections_from};
@@ -22,6 +23,7 @@ use crate::image_sink::ImageSink;
 use crate::start_walk::skip_content;
 use fv_base::field::up_to_8;
 use fv_base::{Polarity, Sink, fill};
+use fv_file::FIXED_CHECKSUM;
 use fv_head::{first_edge, put_head};
 use fv_tree::{Body, Content, FileView, SectionView, VolumeView};
 
@@ -33,6 +35,8 @@ fn complement(sum: u8) -> u8
     0u8.wrapping_sub(sum)
 }
 
+// Puts some sections with the zero bytes between them, and those behind the last. Each walk answers the starts that it
+// leaves.
 #[cycle(put)]
 fn put_sections<'s, S: Sink>(
     out: &mut ImageSink<'_, S>,
@@ -60,6 +64,7 @@ fn put_sections<'s, S: Sink>(
     rest
 }
 
+// Puts the body of a section.
 #[cycle(put)]
 fn put_body<'s, S: Sink>(
     out: &mut ImageSink<'_, S>,
@@ -80,6 +85,7 @@ fn put_body<'s, S: Sink>(
     }
 }
 
+// Puts the data of a file.
 #[cycle(put)]
 fn put_content<'s, S: Sink>(
     out: &mut ImageSink<'_, S>,
@@ -108,7 +114,7 @@ fn file_sum<S: Sink>(out: &mut ImageSink<'_, S>, file: &FileView<'_>, starts: &[
     ensures none { ImageTakes S.takes out.old [] out.new }
 {
     if !file.attributes().is_summed() {
-        return 0xaa;
+        return FIXED_CHECKSUM;
     }
     out.sums = true;
     out.total = 0;
@@ -127,7 +133,7 @@ fn put_file<'s, S: Sink>(
     starts: &'s [u64],
 ) -> &'s [u64]
     requires laid { BeginsWithStarts LaysFile file.now starts.now }
-    requires most { data_len_of file.now ≤ 268435424 }
+    requires most { data_len_of file.now ≤ data_limit }
     ensures bytes { ImageTakes S.takes out.old (stored_bytes polarity (stored_file file.now starts.now)) out.new }
     ensures rest { result.now ≡ drop (starts_in_file file.now) starts.now }
 {
@@ -141,6 +147,7 @@ fn put_file<'s, S: Sink>(
     put_content(out, file.content(), starts)
 }
 
+// Puts the files of a volume from the edge `first` on, with the pads of the gaps, and erased bytes to the end.
 #[cycle(put)]
 fn put_files<'s, S: Sink>(
     out: &mut ImageSink<'_, S>,
@@ -172,6 +179,7 @@ fn put_files<'s, S: Sink>(
     rest
 }
 
+// Puts the image of a volume: its head, the pad of its extended header, and its files.
 #[cycle(put)]
 fn put_volume<'s, S: Sink>(
     out: &mut ImageSink<'_, S>,
@@ -193,7 +201,7 @@ fn put_volume<'s, S: Sink>(
     put_files(out, files, own, polarity, first, head.length(), inner)
 }
 
-// Puts the canonical image of a volume.
+// Puts the canonical image of a volume into any sink.
 pub(crate) fn put_image<S: Sink>(out: &mut S, volume: &VolumeView<'_>, starts: &[u64])
     requires laid { BeginsWithStarts LaysVolume volume.now starts.now }
     ensures { S.takes out.old (image_of volume.now starts.now) out.new }
@@ -201,7 +209,7 @@ pub(crate) fn put_image<S: Sink>(out: &mut S, volume: &VolumeView<'_>, starts: &
     put_volume(&mut ImageSink::new(out), volume, starts);
 }
 
-// Puts the data of a file.
+// Puts the data of a file into any sink.
 pub(crate) fn put_data<S: Sink>(out: &mut S, content: &Content<'_>, starts: &[u64])
     requires laid { BeginsWithStarts LaysContent (content_view content.now) starts.now }
     ensures { S.takes out.old (data_of (content_view content.now) starts.now) out.new }
@@ -209,7 +217,7 @@ pub(crate) fn put_data<S: Sink>(out: &mut S, content: &Content<'_>, starts: &[u6
     put_content(&mut ImageSink::new(out), content, starts);
 }
 
-// Puts the body of a section.
+// Puts the body of a section into any sink.
 pub(crate) fn put_section_body<S: Sink>(out: &mut S, body: &Body<'_>, starts: &[u64])
     requires laid { BeginsWithStarts LaysBody (body_view body.now) starts.now }
     ensures { S.takes out.old (body_image (body_view body.now) starts.now) out.new }

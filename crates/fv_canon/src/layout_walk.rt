@@ -18,13 +18,8 @@ use crate::first_placement::{Part, first_starts, is_top_off};
 use crate::starts::Layout;
 use fv_base::{Align, Fault, FaultKind, Place};
 use fv_head::first_edge;
-use fv_tree::{Body, Content, FileView, SectionView, VolumeView};
+use fv_tree::{Body, Content, FileView, SectionView, VOLUME_TOP_FILE, VolumeView};
 use std::alloc::Global;
-
-/// The name of the volume top file, 1ba0062e-c779-4582-8566-336ae8f78f09.
-const TOP: [u8; 16] = [
-    0x2e, 0x06, 0xa0, 0x1b, 0x79, 0xc7, 0x82, 0x45, 0x85, 0x66, 0x33, 0x6a, 0xe8, 0xf7, 0x8f, 0x09,
-];
 
 /// Where the files of the view's canonical image stand, and those of the volumes inside it. (PI
 /// specification, volume 3, section 3.2.3.1.)
@@ -207,7 +202,7 @@ fn parts_of(alloc: Global, view: &VolumeView<'_>) -> Result<Vec<Part>, Fault>
     Ok(parts)
 }
 
-// What the layout is told of a file: the header is large where with a short one the size would pass FFFFFF.
+// What the layout is told of a file: the header is large where with a short one the size would pass 0xFFFFFF.
 fn part_of(file: &FileView<'_>) -> Part
     ensures { result ≡ part_of file.now }
 {
@@ -218,7 +213,7 @@ fn part_of(file: &FileView<'_>) -> Part
         header,
         size: header + data_len,
         alignment: Align::from_attributes(file.attributes().byte()).bytes(),
-        top: name.to_bytes()[..] == TOP[..],
+        top: name.to_bytes()[..] == VOLUME_TOP_FILE[..],
     }
 }
 

@@ -23,6 +23,7 @@ fn skip_sections<'s>(sections: &[SectionView<'_>], starts: &'s [u64]) -> &'s [u6
     rest
 }
 
+// The starts behind those of a section's body.
 #[cycle(skip)]
 fn skip_body<'s>(body: &Body<'_>, starts: &'s [u64]) -> &'s [u64]
     requires laid { BeginsWithStarts LaysBody (body_view body.now) starts.now }
@@ -35,6 +36,7 @@ fn skip_body<'s>(body: &Body<'_>, starts: &'s [u64]) -> &'s [u64]
     }
 }
 
+// The starts behind those of a file's data.
 #[cycle(skip)]
 pub(crate) fn skip_content<'s>(content: &Content<'_>, starts: &'s [u64]) -> &'s [u64]
     requires laid { BeginsWithStarts LaysContent (content_view content.now) starts.now }
@@ -46,6 +48,7 @@ pub(crate) fn skip_content<'s>(content: &Content<'_>, starts: &'s [u64]) -> &'s 
     }
 }
 
+// The starts behind those of the files, which are the starts of the volumes in them.
 #[cycle(skip)]
 fn skip_files<'s>(files: &[FileView<'_>], starts: &'s [u64]) -> &'s [u64]
     requires laid { BeginsWithStarts LaysFiles (files_from files.now) starts.now }
@@ -58,6 +61,7 @@ fn skip_files<'s>(files: &[FileView<'_>], starts: &'s [u64]) -> &'s [u64]
     rest
 }
 
+// The starts behind those of a volume: its own files, and the volumes in them.
 #[cycle(skip)]
 fn skip_volume<'s>(volume: &VolumeView<'_>, starts: &'s [u64]) -> &'s [u64]
     requires laid { BeginsWithStarts LaysVolume volume.now starts.now }

@@ -11,9 +11,9 @@ use std::marker::Model;
 /// 3.2.3.1.)
 #[derive(Drop)]
 pub struct Layout {
-    // All starts.
+    /// All starts.
     starts: Vec<u64>,
-    // How many of them are those of the volume's own files.
+    /// How many of them are those of the volume's own files.
     own: usize,
 }
 

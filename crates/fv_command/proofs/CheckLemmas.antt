@@ -18,8 +18,7 @@ use Rattle.fv_base.specs.declared.guid.Guid.{Guid}
 use Rattle.fv_canon.specs.Image.{IsImage}
 use Rattle.fv_canon.specs.ComparisonLines.{line_feed}
 use Rattle.fv_canon.specs.Refusals.{IsFirstOfInput, NotRead}
-use Rattle.fv_canon.proofs.InputLaws.{want_known}
-use Rattle.fv_canon.proofs.PartLaws.{data_short}
+use Rattle.fv_canon.proofs.Laws.{data_short, want_known}
 use Rattle.fv_depex.specs.declared.op.Phase.{Phase}
 use Rattle.fv_file.specs.Cells.{CellForm, Tiles}
 use Rattle.fv_head.specs.Head.{HeadFields, BeginsVolume}
@@ -36,7 +35,7 @@ use Rattle.fv_command.specs.CheckTexts.{written_in, pad_line, pad_text, phase_of
 use Rattle.fv_command.specs.CheckTexts.{HeldDepex, IsSpelled, IsNoted, AreNotes, AreCells, CheckText, check_lines, depexes_in}
 use Rattle.fv_command.specs.CheckRuns.{Noted}
 use Rattle.fv_command.specs.declared.checking.DepexNote.{DepexNote}
-use Rattle.fv_base.proofs.TestLemmas.{not_equal}
+use Rattle.fv_base.proofs.Laws.{not_equal}
 
 -- ---- a walk over a list
 

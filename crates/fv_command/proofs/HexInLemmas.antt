@@ -12,7 +12,7 @@ use Rattle.fv_base.specs.declared.fault.FaultKind.{FaultKind}
 use Rattle.fv_base.specs.declared.fault.FaultKind.TheVariants as kinds
 use Rattle.fv_base.specs.Faults.{outer_fault}
 use Rattle.fv_base.specs.Limits.{volume_limit}
-use Rattle.fv_base.proofs.Pieces.{up_is_not_down}
+use Rattle.fv_base.proofs.Laws.{up_is_not_down}
 use Rattle.fv_command.specs.declared.hex_text.Decoder.{Decoder}
 use Rattle.fv_command.specs.HexDecoding.{AddsDigits, Decodes, DecodesPairs, HoldsDigits}
 use Rattle.fv_command.specs.HexIn.{GivesText, IsLongText, IsNoText, TextStops, TextStopsFor, text_limit}

@@ -1,12 +1,12 @@
 -- The text of some bytes: put by a sink of lines, and how long it is.
 use Rattle.std.proofs.Common.{◌≡◌, ◌∙◌, ◌≤◌, ◌<◌, ◌+◌, ◌*◌, ℕ, List, [], ◌∷◌, ◌++◌, length}
-use Rattle.std.proofs.Common.{refl, ap, sym, arith, length-append, Bool, true, false}
+use Rattle.std.proofs.Common.{refl, ap, sym, arith, length-append}
 use Rattle.std.specs.List.{AllByRecursion, concat}
 use Rattle.hex.specs.Hex.{encode_lower, lower_digits}
 use Rattle.hex.proofs.HexLemmas.{length-encode_with}
 use Rattle.fv_base.specs.Sinks.{WalkLaws}
 use Rattle.fv_canon.specs.ComparisonLines.{line_feed}
-use Rattle.fv_command.specs.HexText.{IsHexText, IsWholeLine, ShowsBytes, last_text, line_text, lines_text}
+use Rattle.fv_command.specs.HexText.{IsHexText, IsWholeLine, last_text, line_text, lines_text}
 use Rattle.fv_command.specs.HexSinks.{Lined}
 
 -- a sink of lines with nothing waiting took the bytes, and then its last line was put
@@ -56,7 +56,3 @@ hex_long bytes text is =
     let parts : length bytes ≡ length (concat is.lines) + length is.last =
     ap (λ (l : List ℕ). length l) is.joined ∙ length-append (concat is.lines) is.last in
     omega (arith, lines, last, whole, parts)
-
-pub shown_long : (hex : Bool) (bytes text : List ℕ) → ShowsBytes hex bytes text → length text ≤ 3 * length bytes
-shown_long false bytes text is = let same = ap (λ (l : List ℕ). length l) is in omega (arith, same)
-shown_long true bytes text is = hex_long bytes text is

@@ -1,4 +1,4 @@
--- The text of a hand-off list: a block has one word, its line is short, and the lines are put in order.
+-- The text of a hand-off list: the word of a block is short, and so is the text; and the lines are put in order.
 use Rattle.std.proofs.Common.{◌≡◌, ℕ, suc, ◌+◌, ◌*◌, ◌/◌, ◌%◌, ◌^◌, ◌<◌, ◌≤◌, List, [], ◌∷◌, ◌++◌, length, get_or, drop, codes, decimal}
 use Rattle.std.proofs.Common.{refl, sym, ◌∙◌, ap, subst, arith, length-append}
 use Rattle.std.specs.Prelude.{Option, None, Some}
@@ -16,28 +16,8 @@ use Rattle.fv_command.specs.HobLines.{standing_word}
 use Rattle.fv_command.specs.declared.hobs.Standing.{Standing}
 use Rattle.fv_command.specs.declared.hobs.Standing.TheVariants.{Outside, Volume, Absent}
 use Rattle.fv_command.proofs.WriteLemmas.{Tells, tells_more, tells_all}
-use Rattle.fv_command.proofs.StandingLemmas.{one_standing}
 
 -- ---- the word of a block
-
--- there is one
-pub one_word : (image : Option ImageForm) (h : HobForm) (v w : List ℕ) → IsWord image h v → IsWord image h w → v ≡ w
-one_word image h v w p q = by_span image (span_of h.kind) v w p q where
-  by_span : (image : Option ImageForm) (span : Option Span) (v w : List ℕ) → IsSpanWord image span v → IsSpanWord image span w → v ≡ w
-  by_span None span v w p q = p ∙ sym q
-  by_span (Some i) None v w p q = p ∙ sym q
-  by_span (Some i) (Some s) v w p q = p.2 ∙ ap standing_word (one_standing i.bytes i.base s p.0 q.0 p.1 q.1) ∙ sym q.2
-
--- and a list has one text
-pub one_text : (image : Option ImageForm) (hs : List HobForm) (n : ℕ) (x y : List ℕ) → HobsText image hs n x → HobsText image hs n y
-    → x ≡ y
-one_text image hs n x y (a, p, is) (b, q, same) = is ∙ ap (λ (l : List ℕ). l ++ consumed_line n) (by_block hs a b p q) ∙ sym same where
-  by_block : (hs : List HobForm) (x y : List ℕ) → HobLines image hs x → HobLines image hs y → x ≡ y
-  by_block [] x y p q = p ∙ sym q
-  by_block (h ∷ hs) x y (v, more, p, is, m) (w, rest, q, same, l) =
-      let line : List ℕ → List ℕ = λ word. hob_line (hob_type h.kind) (hob_len h.kind) word in
-      let first : line v ++ more ≡ line w ++ more = ap (λ (word : List ℕ). line word ++ more) (one_word image h v w p q) in
-      is ∙ first ∙ ap (λ (t : List ℕ). line w ++ t) (by_block hs more rest m l) ∙ sym same
 
 standing_short : (s : Standing) → length (standing_word s) ≤ 8
 standing_short Outside = omega arith

@@ -1,11 +1,10 @@
 -- The image of a volume, as it goes out.
-use Rattle.std.proofs.Common.{◌≡◌, ◌≢◌, ◌∙◌, ◌⊎◌, ℕ, List, sym, subst, refl, inl, inr, Bool, true, false}
+use Rattle.std.proofs.Common.{◌≡◌, ◌≢◌, ◌∙◌, ◌⊎◌, ℕ, List, sym, refl, inl, inr, Bool, true, false}
 use Rattle.std.specs.Prelude.{Option, Result, IfErr, OnOk}
 use Rattle.std.specs.Io.KnownBytes.{Appends}
 use Rattle.std.proofs.KnownBytes.{Keeps-refl}
 use Rattle.std.proofs.lemmas.Result.{on_ok_weaker, IfErr-weaker}
 use Rattle.fv_base.specs.Faults.{want_of_memory}
-use Rattle.fv_base.specs.Input.{ReadsWhole}
 use Rattle.fv_base.specs.Output.{WriteStops}
 use Rattle.fv_base.specs.declared.fault.Fault.{Fault}
 use Rattle.fv_base.specs.declared.fault.FaultKind.TheVariants as kinds
@@ -13,7 +12,7 @@ use Rattle.fv_tree.specs.Denotes.{Accepted}
 use Rattle.fv_tree.specs.Meaning.{Meaning}
 use Rattle.fv_canon.specs.Image.{IsImage}
 use Rattle.fv_canon.specs.Refusals.{Refuses}
-use Rattle.fv_canon.specs.NormaliseRuns.{InputStops, InputWrites, RunStops, RunWrites}
+use Rattle.fv_canon.specs.NormaliseRuns.{InputStops, InputWrites}
 use Rattle.fv_command.specs.HexText.{IsHexText}
 use Rattle.fv_command.specs.ImageTexts.{ShowsImage, StopsImage}
 
@@ -39,29 +38,6 @@ pub plain_stopped : (hex : Bool) (input : List ℕ) (held holds : Option (List �
 plain_stopped false input held holds r is stops =
     IfErr-weaker r _ (StopsImage false input held holds) (stops_plain input held holds) stops
 plain_stopped true input held holds r is stops = let bad : true ≡ false = is in cc
-
--- so a run that wrote it, or that stopped, did so with the image itself
-shows_plain : (hex : Bool) (input : List ℕ) (held holds : Option (List ℕ)) → hex ≡ false → ShowsImage hex input held holds
-    → InputWrites input held holds
-shows_plain false input held holds is (image, text, to, same, wrote) = (image, to, subst (λ (t : List ℕ). Appends held holds t) same wrote)
-shows_plain true input held holds is shows = let bad : true ≡ false = is in cc
-
-plain_stops : (hex : Bool) (input : List ℕ) (held holds : Option (List ℕ)) (f : Fault) → hex ≡ false → StopsImage hex input held holds f
-    → InputStops input held holds f
-plain_stops false input held holds f is (inl kept) = inl kept
-plain_stops false input held holds f is (inr (image, text, to, same, stops)) =
-    inr (image, to, subst (λ (t : List ℕ). WriteStops held holds t f) same stops)
-plain_stops true input held holds f is stops = let bad : true ≡ false = is in cc
-
-pub plain_run : (hex : Bool) (unread left held holds : Option (List ℕ)) (input : List ℕ) (r : Result (Unit {0}) Fault) → hex ≡ false
-    → ReadsWhole unread left input → OnOk r (ShowsImage hex input held holds) → OnOk r (RunWrites unread left held holds)
-plain_run hex unread left held holds input r is read shows =
-    on_ok_weaker r (λ p. (input, read, shows_plain hex input held holds is p)) shows
-
-pub plain_run_stops : (hex : Bool) (unread left held holds : Option (List ℕ)) (input : List ℕ) (r : Result (Unit {0}) Fault) → hex ≡ false
-    → ReadsWhole unread left input → IfErr r (StopsImage hex input held holds) → IfErr r (RunStops unread left held holds)
-plain_run_stops hex unread left held holds input r is read stops =
-    IfErr-weaker r _ (RunStops unread left held holds) (λ f p. inr (input, read, plain_stops hex input held holds f is p)) stops
 
 -- ---- as lines of digits
 

@@ -7,7 +7,7 @@ use Rattle.fv_base.specs.Faults.{want_of_memory}
 use Rattle.fv_base.specs.Output.{WriteStops}
 use Rattle.fv_base.specs.declared.fault.Fault.{Fault}
 use Rattle.fv_base.specs.declared.fault.FaultKind.TheVariants as kinds
-use Rattle.fv_canon.proofs.InputLaws.{want_known}
+use Rattle.fv_canon.proofs.Laws.{want_known}
 use Rattle.fv_canon.specs.Comparisons.{ComparisonStops, VolumeStops}
 use Rattle.fv_canon.specs.declared.side.Side.{Side}
 use Rattle.fv_canon.specs.declared.side.Side.TheVariants as sides
@@ -20,15 +20,10 @@ use Rattle.fv_command.specs.ImageTexts.{StopsImage}
 use Rattle.fv_command.specs.Inputs.{Shown, Gives, BeginsNone, BeginsWith, WritingStops}
 use Rattle.fv_command.specs.Extractions.{StopsPart}
 use Rattle.fv_command.specs.SideRuns.{GivesVolume, SideStops, VolumeInputStops}
-use Rattle.fv_command.specs.TaskRuns.{RunsTask, SaysRead, StopsInput}
-use Rattle.fv_command.specs.Tasks.{PartText, Says}
-use Rattle.fv_command.specs.declared.extracting.Extraction.{Extraction}
-use Rattle.fv_command.specs.declared.extracting.Extraction.TheVariants.{Made, Stored, NotFound, NotSectioned}
+use Rattle.fv_command.specs.TaskRuns.{StopsInput}
 use Rattle.fv_command.specs.declared.extracting.Part.{Part}
-use Rattle.fv_command.specs.declared.plan.Task.{Task}
-use Rattle.fv_command.specs.declared.plan.Task.TheVariants.{Normalise, NormaliseAll, List as Listing, Extract, Check, Scan}
-use Rattle.fv_command.specs.declared.status.Status.{Status}
-use Rattle.fv_command.specs.declared.status.Status.TheVariants.{Done, Different, Refused, WrongWords}
+use Rattle.fv_command.specs.declared.plan.Task.TheVariants.{Normalise, Extract, Check}
+use Rattle.fv_command.specs.declared.status.Status.TheVariants.{Done, Different}
 
 -- ---- a writer that stops
 
@@ -80,42 +75,6 @@ pub part_stopped : (hex : Bool) (input : List ℕ) (m : Meaning) (part : Part) (
     → (f ≡ want_of_memory) ⊎ StopsPart (file_named part.name (files_of m)) part f → StopsInput (Extract part) hex input w w f
 part_stopped hex input m part w f b (inl is) = inl (Keeps-refl w.bytes, inl is)
 part_stopped hex input m part w f b (inr stops) = inl (Keeps-refl w.bytes, inr (inr (m, b, stops)))
-
--- a task says nothing with another status
-part_refused : (hex : Bool) (x : Extraction) (text : List ℕ) → PartText hex x Refused text → ⊥
-part_refused hex (Made bytes) text p = p
-part_refused hex (Stored bytes) text p = p
-part_refused hex NotFound text p = p
-part_refused hex NotSectioned text p = p
-
-part_wrong : (hex : Bool) (x : Extraction) (text : List ℕ) → PartText hex x WrongWords text → ⊥
-part_wrong hex (Made bytes) text p = p
-part_wrong hex (Stored bytes) text p = p
-part_wrong hex NotFound text p = p
-part_wrong hex NotSectioned text p = p
-
-said_refused : (task : Task) (hex : Bool) (input text : List ℕ) → Says task hex input Refused text → ⊥
-said_refused Normalise hex input text p = p
-said_refused NormaliseAll hex input text p = p
-said_refused Listing hex input text p = p
-said_refused (Extract part) hex input text (m, x, b, is, p) = part_refused hex x text p
-said_refused Check hex input text p = p
-said_refused Scan hex input text p = p
-
-said_wrong : (task : Task) (hex : Bool) (input text : List ℕ) → Says task hex input WrongWords text → ⊥
-said_wrong Normalise hex input text p = p
-said_wrong NormaliseAll hex input text p = p
-said_wrong Listing hex input text p = p
-said_wrong (Extract part) hex input text (m, x, b, is, p) = part_wrong hex x text p
-said_wrong Check hex input text p = p
-said_wrong Scan hex input text p = p
-
-pub task_ran : (task : Task) (hex : Bool) (status : Status) (r s w v : Shown) → SaysRead task hex r s w v status
-    → RunsTask task hex status r s w v
-task_ran task hex Done r s w v p = p
-task_ran task hex Different r s w v p = p
-task_ran task hex Refused r s w v (input, gives, (text, says, wrote)) = absurd (said_refused task hex input text says)
-task_ran task hex WrongWords r s w v (input, gives, (text, says, wrote)) = absurd (said_wrong task hex input text says)
 
 -- ---- a comparison
 

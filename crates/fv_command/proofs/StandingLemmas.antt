@@ -1,5 +1,5 @@
 -- What stands in a span of an image.
-use Rattle.std.proofs.Common.{◌≡◌, ◌≢◌, ◌≤◌, ℕ, ◌-◌, List, length, drop, refl, sym, ap, ◌∙◌, subst, arith, length-drop}
+use Rattle.std.proofs.Common.{◌≡◌, ◌≢◌, ◌≤◌, ℕ, ◌-◌, List, length, drop, sym, ap, ◌∙◌, subst, arith, length-drop}
 use Rattle.std.specs.Prelude.{Result, Ok, Err}
 use Rattle.std.proofs.lemmas.List.{length-take-le}
 use Rattle.fv_base.specs.Value.{field}
@@ -8,8 +8,7 @@ use Rattle.fv_head.specs.Head.{HeadFields, BeginsVolume}
 use Rattle.fv_head.specs.declared.extent.Extent.{Extent}
 use Rattle.fv_hob.specs.declared.span.Span.{Span}
 use Rattle.fv_command.specs.VolumeStandings.{IsWithin, IsStanding, bytes_in_span}
-use Rattle.fv_command.specs.declared.hobs.Standing.{Standing}
-use Rattle.fv_command.specs.declared.hobs.Standing.TheVariants.{Outside, Volume, Absent}
+use Rattle.fv_command.specs.declared.hobs.Standing.TheVariants.{Volume, Absent}
 
 -- the tests of a place within an image of n bytes
 pub record Fits (base n : ℕ) (s : Span) : Type 0 where
@@ -50,16 +49,3 @@ other_len r x e n is ne same = λ len. ne (ap (λ (y : Extent). y.length) (one x
 
 pub no_len : (r : Result Extent Fault) (f : Fault) (e : Extent) (n : ℕ) → r ≡ Err f → r ≡ Ok e → e.length ≢ n
 no_len r f e n is same = cc
-
--- one standing holds of a span
-pub one_standing : (image : List ℕ) (base : ℕ) (span : Span) (s t : Standing) → IsStanding image base span s → IsStanding image base span t
-    → s ≡ t
-one_standing image base span Outside Outside p q = refl
-one_standing image base span Outside Volume p q = absurd (p q.0)
-one_standing image base span Outside Absent p q = absurd (p q.0)
-one_standing image base span Volume Outside p q = absurd (q p.0)
-one_standing image base span Volume Volume p q = refl
-one_standing image base span Volume Absent p q = absurd (q.1 p.1)
-one_standing image base span Absent Outside p q = absurd (q p.0)
-one_standing image base span Absent Volume p q = absurd (p.1 q.1)
-one_standing image base span Absent Absent p q = refl

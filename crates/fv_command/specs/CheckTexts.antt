@@ -60,6 +60,7 @@ pub record HeldDepex : Type 0 where
 abbrev pub phase_of : ℕ → Option Phase
 phase_of kind = if kind == 0x1b then Some Pei else (if (kind == 0x13) || (kind == 0x1c) then Some Dxe else None)
 
+-- the bytes as an expression that a phase reads, if there is a phase
 abbrev pub read_by : Guid → List ℕ → Option Phase → List HeldDepex
 read_by name b None = []
 read_by name b (Some phase) = record { name = name; phase = phase; bytes = b } ∷ []

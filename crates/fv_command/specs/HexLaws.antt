@@ -1,5 +1,5 @@
--- The laws of a sink that puts lines of digits. There is nothing to believe here: these are proofs, and stand in specs/
--- since a ghost member cites the last of them.
+-- The laws of a sink that puts lines of digits. They are proofs, and stand in specs/ since a ghost member cites the
+-- last of them.
 -- Serves private clauses alone: there is nothing to believe here.
 use Rattle.std.proofs.Common.{ℕ, List, [], ◌∷◌, ◌++◌, sym, ◌∙◌, ap, subst, append_assoc, append-nil}
 use Rattle.std.specs.List.{AllByRecursion, concat}

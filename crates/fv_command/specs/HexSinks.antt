@@ -12,6 +12,7 @@ pub record Lined {S : Type 0} (takes : S → List ℕ → S → Type 0) (s : S) 
   pub whole : AllByRecursion IsWholeLine lines
   pub taken : takes s (lines_text lines) t
 
+-- the same, by what is below a sink of lines and which bytes wait in it
 abbrev pub HexTakes : {S H : Type 0} (takes : S → List ℕ → S → Type 0) (below : H → S) (waiting : H → List ℕ) → H
     → List ℕ → H → Type 0
 HexTakes takes below waiting s bytes t = Lined takes (below s) (waiting s) bytes (below t) (waiting t)

@@ -8,7 +8,7 @@ use Rattle.fv_command.specs.declared.hob_runs.Refusal.{Refusal}
 use Rattle.fv_command.specs.declared.hob_runs.Refusal.TheVariants as refusals
 use Rattle.fv_command.specs.HobRuns.{RefusesHobs, FaultStopsHobs}
 
--- those of an image in memory
+-- the bytes and the address of an image in memory
 abbrev pub held_image : Option Image → Option ImageForm
 held_image None = None
 held_image (Some i) = Some (record { bytes = i.bytes.now; base = i.base })

@@ -1,4 +1,4 @@
--- What a plan asks for.
+-- The address that a plan gives for an image.
 use Rattle.std.specs.Prelude.{ℕ, Option, None, Some}
 use Rattle.fv_command.specs.declared.plan.ImageFile.{ImageFile}
 

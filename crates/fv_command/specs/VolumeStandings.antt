@@ -1,4 +1,4 @@
--- What is read of a hand-off list, and what an image holds where a volume should lie.
+-- What an image holds where a volume should lie.
 use Rattle.std.specs.Prelude.{◌≡◌, ◌≤◌, ℕ, ◌+◌, ◌-◌, List, Option, length, take, drop}
 use Rattle.fv_base.specs.Input.{ReadsWhole}
 use Rattle.fv_head.specs.Head.{HeadFields, BeginsVolume}
@@ -21,6 +21,7 @@ bytes_in_span image base s = take s.length (drop (s.base - base) image)
 abbrev pub IsWholeVolume : List ℕ → Type 0
 IsWholeVolume b = (h : HeadFields) × (e : Extent) × BeginsVolume h e b × (e.length ≡ length b)
 
+-- the span is not within the image; or it is, and its bytes are a whole volume, or are not
 abbrev pub IsStanding : List ℕ → ℕ → Span → Standing → Type 0
 IsStanding image base s Outside = IsWithin base (length image) s → ⊥
 IsStanding image base s Volume = IsWithin base (length image) s × IsWholeVolume (bytes_in_span image base s)

@@ -16,7 +16,7 @@ fn is_space(byte: u8) -> bool
     byte == b'\t' || byte == b'\n' || byte == b'\r' || byte == b' '
 }
 
-/// Puts what is no white space in the text behind the digits.
+/// Puts the text without its white space behind the digits.
 ///
 /// # Errors
 ///

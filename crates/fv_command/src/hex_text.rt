@@ -28,6 +28,7 @@ struct Decoder {
 }
 
 impl Decoder {
+    // A decoder that has taken no text.
     fn new(alloc: Global) -> Decoder
         ensures empty { Decodes result [] }
         ensures small { vec_len result.bytes ≤ volume_limit }

@@ -12,13 +12,19 @@ use fv_section::{freeform, ui_text, version};
 use fv_tree::{Body, Content, FileView, SectionView, VolumeView};
 use std::io::Write;
 
-/// The types of the leaves of which more is shown (PI specification, volume 3, section 3.2.5).
+/// `EFI_SECTION_VERSION`, the type 0x14 of a section whose build number is shown. (PI specification, volume 3, section
+/// 3.2.5.15.)
 const VERSION: u8 = 0x14;
 
+/// `EFI_SECTION_USER_INTERFACE`, the type 0x15 of a section whose text is shown. (PI specification, volume 3, section
+/// 3.2.5.14.)
 const USER_INTERFACE: u8 = 0x15;
 
+/// `EFI_SECTION_FREEFORM_SUBTYPE_GUID`, the type 0x18 of a section whose GUID is shown. (PI specification, volume 3,
+/// section 3.2.5.6.)
 const FREEFORM_SUBTYPE: u8 = 0x18;
 
+/// The lower-case hexadecimal digits, by their values.
 static DIGITS: [u8; 16] = *b"0123456789abcdef";
 
 // The lower-case digits of a byte.
@@ -199,6 +205,7 @@ fn put_volume_line<S: Sink>(out: &mut S, volume: &VolumeView<'_>, indent: usize)
     out.put(b"\n");
 }
 
+// Puts the lines of some sections, and of all that they hold.
 #[cycle(lines)]
 fn put_sections<S: Sink>(out: &mut S, sections: &[SectionView<'_>], indent: usize)
     ensures { PutsSome S.takes out.old out.new }
@@ -209,6 +216,7 @@ fn put_sections<S: Sink>(out: &mut S, sections: &[SectionView<'_>], indent: usiz
     }
 }
 
+// Puts the lines of what the body of a section holds: nothing, where it is a leaf.
 #[cycle(lines)]
 fn put_body<S: Sink>(out: &mut S, body: &Body<'_>, indent: usize)
     ensures { PutsSome S.takes out.old out.new }
@@ -220,6 +228,7 @@ fn put_body<S: Sink>(out: &mut S, body: &Body<'_>, indent: usize)
     }
 }
 
+// Puts the lines of the sections of a file, if it holds some.
 #[cycle(lines)]
 fn put_content<S: Sink>(out: &mut S, content: &Content<'_>, indent: usize)
     ensures { PutsSome S.takes out.old out.new }

@@ -29,6 +29,7 @@ use std::alloc::Global;
 use std::io::{BufWriter, Read, Write};
 use std::test::Fail;
 
+/// How many bytes at most a reader gives, or a writer takes, at once.
 const STEPS: [usize; 3] = [1, 3, 65_536];
 
 // Whether the text is read as the bytes, whatever its reader gives at once.
@@ -95,16 +96,20 @@ fn is_wrong(alloc: Global, text: &[u8]) -> bool {
     true
 }
 
+/// The 32 bytes of a whole line.
 const FULL: &[u8] = b"ABCDEFGHIJKLMNOPQRSTUVWXYZabcdef";
 
+/// Their line.
 const FULL_LINE: &[u8] = b"4142434445464748494a4b4c4d4e4f505152535455565758595a616263646566\n";
 
+/// Three times those bytes, and 2 bytes more.
 const THREE_COPIES_AND_2_BYTES: &[u8] = b"\
 ABCDEFGHIJKLMNOPQRSTUVWXYZabcdef\
 ABCDEFGHIJKLMNOPQRSTUVWXYZabcdef\
 ABCDEFGHIJKLMNOPQRSTUVWXYZabcdef\
 \x0a\xbc";
 
+/// Their lines.
 const THREE_LINES_AND_2_BYTES: &[u8] = b"\
 4142434445464748494a4b4c4d4e4f505152535455565758595a616263646566\n\
 4142434445464748494a4b4c4d4e4f505152535455565758595a616263646566\n\

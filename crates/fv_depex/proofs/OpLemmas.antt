@@ -9,8 +9,7 @@ use Rattle.fv_base.specs.Verdicts.{first_fault}
 use Rattle.fv_base.specs.Guids.{bytes_of}
 use Rattle.fv_base.specs.Value.{field}
 use Rattle.fv_base.specs.declared.guid.Guid.{Guid}
-use Rattle.fv_base.proofs.CheckLemmas.{all_hold, and_split}
-use Rattle.fv_base.proofs.FieldLemmas.{same_cut}
+use Rattle.fv_base.proofs.Laws.{all_hold, and_split, same_cut}
 use Rattle.fv_depex.specs.OpChecks.{OpFits, BeginsOp, has_operand, holds_values, in_place, has_code, op_checks}
 use Rattle.fv_depex.specs.Expressions.{carries, op_code, operand_len, op_operand, IsSized}
 use Rattle.fv_depex.specs.Ops.{op_by, op_in}

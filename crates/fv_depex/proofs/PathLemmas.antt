@@ -5,7 +5,7 @@ use Rattle.std.specs.Prelude.{◌⊎◌, ◌&&◌, nat_le, slice_index}
 use Rattle.std.specs.List.{AllByRecursion}
 use Rattle.std.proofs.lemmas.Bool.{leb-true, le-leb, eqb-true}
 use Rattle.fv_base.specs.declared.guid.Guid.{Guid}
-use Rattle.fv_base.proofs.CheckLemmas.{and_split}
+use Rattle.fv_base.proofs.Laws.{and_split}
 use Rattle.fv_depex.specs.OpChecks.{OpFits, OpPath, has_values, has_code, stage_after, values_after, values_of}
 use Rattle.fv_depex.specs.Expressions.{Expression, always, never, installed, negated, both, either, IsTree, IsOrder, Spells, op_code}
 use Rattle.fv_depex.specs.Expressions.{op_operand, ops_bytes, postfix, IsSized}

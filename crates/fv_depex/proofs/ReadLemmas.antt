@@ -3,10 +3,10 @@ use Rattle.std.proofs.Common.{◌≡◌, ◌≢◌, ◌≤◌, ℕ, suc, ◌+◌
 use Rattle.std.proofs.Common.{length-append, length-drop, append_assoc, append-nil}
 use Rattle.std.specs.Prelude.{◌⊎◌}
 use Rattle.std.specs.List.{AllByRecursion}
-use Rattle.std.proofs.lemmas.List.{take-append-drop, take_at, take_rest, length-take-le}
+use Rattle.std.proofs.lemmas.List.{take-append-drop, take_at, take_rest}
 use Rattle.std.proofs.Math.Seq.{take-add}
 use Rattle.fv_base.specs.Checks.{IsFirstFault}
-use Rattle.fv_base.proofs.CheckLemmas.{none_faulty, not_first, first_among}
+use Rattle.fv_base.proofs.Laws.{first_among, none_faulty, not_first}
 use Rattle.fv_depex.specs.OpChecks.{BeginsFirstOp, OpFits, IsFirstOpFault, BeginsOp, OpPath, op_checks, stage_after, values_of}
 use Rattle.fv_depex.specs.Expressions.{Expression, IsTree, IsOrder, IsSized, Spells, carries, op_code, operand_len, op_operand, ops_bytes}
 use Rattle.fv_depex.specs.declared.fault.DepexFault.{DepexFault}
@@ -106,20 +106,6 @@ ended phase b items new o at n stage k stands' len is new_is =
             (all_join items (ops.End ∷ []) (path_sized phase stages.Start stage items k.path) (refl, tt));
       },
     )
-
-pub first_here : (phase : Phase) (b : List ℕ) (items : List Op) (at : ℕ) (stage : Stage) (kind : DepexFaultKind) (offset : ℕ)
-    → OpsKept phase b items at stage
-    → IsFirstFault (op_checks phase stage (take (length b - at) (drop at b))) kind → offset ≡ at
-    → IsFirstOpFault phase b (record { kind = kind; offset = offset })
-first_here phase b items at stage kind offset k first place = record {
-  before = items;
-  stage = stage;
-  r = drop at b;
-  joined = sym (take-append-drop at b) ∙ ap (λ (l : List ℕ). l ++ drop at b) k.bytes;
-  read = k.path;
-  place = place ∙ sym (length-take-le at b k.inside) ∙ ap length k.bytes;
-  kind_is = subst (λ (l : List ℕ). IsFirstFault (op_checks phase stage l) kind) (take_rest b at) first;
-}
 
 -- where an op was read, or is there to be read, one stands first
 pub stands_first : (phase : Phase) (b : List ℕ) (items : List Op) (o : Op) (at : ℕ) (stage : Stage) → OpsKept phase b items at stage

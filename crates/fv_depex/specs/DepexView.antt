@@ -1,4 +1,4 @@
--- What an expression that is kept shows.
+-- What contracts see of a dependency expression that was read.
 use Rattle.std.specs.Prelude.{ℕ, List}
 use Rattle.fv_depex.specs.declared.op.Op.{Op}
 use Rattle.fv_depex.specs.declared.op.Phase.{Phase}

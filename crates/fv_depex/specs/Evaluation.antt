@@ -20,6 +20,7 @@ evaluate_op set s ops.End = Some s
 evaluate_op set s ops.Sor = Some s
 evaluate_op set s _ = None
 
+-- the value on top, if there is one
 abbrev pub top : List Bool → Option Bool
 top [] = None
 top (v ∷ s) = Some v

@@ -39,8 +39,8 @@ pub record IsOrder (phase : Phase) (all : List Op) : Type 0 where
   pub joined : (all ≡ ops.Before guid ∷ ops.End ∷ []) ⊎ (all ≡ ops.After guid ∷ ops.End ∷ [])
   pub dxe : phase ≡ Dxe
 
--- the code of an op: EFI_DEP_BEFORE (00), EFI_DEP_AFTER, EFI_DEP_PUSH, EFI_DEP_AND, EFI_DEP_OR, EFI_DEP_NOT,
--- EFI_DEP_TRUE, EFI_DEP_FALSE, EFI_DEP_END, EFI_DEP_SOR (09)
+-- the code of an op: EFI_DEP_BEFORE (0x00), EFI_DEP_AFTER, EFI_DEP_PUSH, EFI_DEP_AND, EFI_DEP_OR, EFI_DEP_NOT,
+-- EFI_DEP_TRUE, EFI_DEP_FALSE, EFI_DEP_END, EFI_DEP_SOR (0x09)
 abbrev pub op_code : Op → ℕ
 op_code (ops.Before g) = 0x00
 op_code (ops.After g) = 0x01
@@ -74,6 +74,7 @@ abbrev pub operand_len : Bool → ℕ
 operand_len true = 16
 operand_len false = 0
 
+-- the operand of an op is as long as its code says
 abbrev pub IsSized : Op → Type 0
 IsSized o = length (op_operand o) ≡ operand_len (carries (op_code o))
 

@@ -24,19 +24,20 @@ in_place stages.Start code = true
 in_place stages.Ordered code = code == 8
 in_place (stages.Values n) code = nat_le 2 code && nat_le code 8
 
--- the values that the stack holds are those that the code takes: AND and OR two, NOT one, and END the only one; behind
--- BEFORE or AFTER the stack is empty, and END takes none
+-- so many values are those that the code takes: AND and OR two, NOT one, and END the only one
 abbrev pub has_values : ℕ → ℕ → Bool
 has_values n code =
     if (code == 3) || (code == 4) then nat_le 2 n
     else (if code == 5 then nat_le 1 n
     else (if code == 8 then n == 1 else true))
 
+-- the stack holds them; behind BEFORE or AFTER it is empty, and END takes none
 abbrev pub holds_values : Stage → ℕ → Bool
 holds_values stages.Start code = has_values 0 code
 holds_values stages.Ordered code = (code == 8) || has_values 0 code
 holds_values (stages.Values n) code = has_values n code
 
+-- r has the GUID that its code carries, if it carries one
 abbrev pub has_operand : List ℕ → Bool
 has_operand r = not (carries (slice_index r 0)) || nat_le 17 (length r)
 
@@ -44,7 +45,7 @@ has_operand r = not (carries (slice_index r 0)) || nat_le 17 (length r)
 abbrev pub op_check : Bool → DepexFaultKind → Check DepexFaultKind
 op_check holds kind = record { holds = holds; fault = kind }
 
--- of the op that begins r
+-- the checks of the op that begins r, in their order
 abbrev pub op_checks : Phase → Stage → List ℕ → List (Check DepexFaultKind)
 op_checks phase stage r =
     op_check (nat_le 1 (length r)) kinds.NoEnd
@@ -54,7 +55,7 @@ op_checks phase stage r =
     ∷ op_check (holds_values stage (slice_index r 0)) kinds.Stack
     ∷ []
 
--- what was read before: nothing, BEFORE or AFTER, or ops that leave so many values
+-- how many values are on the stack behind an op that finds so many there
 abbrev pub values_after : ℕ → Op → ℕ
 values_after n (ops.Push g) = n + 1
 values_after n ops.True = n + 1
@@ -63,10 +64,12 @@ values_after n ops.And = n - 1
 values_after n ops.Or = n - 1
 values_after n _ = n
 
+-- how many values a stage has on the stack
 abbrev pub values_of : Stage → ℕ
 values_of (stages.Values n) = n
 values_of _ = 0
 
+-- the stage behind an op
 abbrev pub stage_after : Stage → Op → Stage
 stage_after stage (ops.Before g) = stages.Ordered
 stage_after stage (ops.After g) = stages.Ordered
@@ -105,9 +108,11 @@ pub record IsFirstOpFault (phase : Phase) (b : List ℕ) (fault : DepexFault) : 
   pub place : fault.offset ≡ length (ops_bytes before)
   pub kind_is : IsFirstFault (op_checks phase stage r) fault.kind
 
+-- the fault of every call whose memory was refused
 abbrev pub depex_want_of_memory : DepexFault
 depex_want_of_memory = record { kind = kinds.OutOfMemory; offset = 0 }
 
+-- the number by which a kind of fault is known
 abbrev pub depex_fault_number : DepexFaultKind → ℕ
 depex_fault_number kinds.Short = 1
 depex_fault_number kinds.Opcode = 2

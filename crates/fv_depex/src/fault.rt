@@ -6,26 +6,28 @@ ghost use Rattle.fv_depex.specs.OpChecks.{depex_fault_number, depex_want_of_memo
 use std::alloc::{AllocError, AllocFailed};
 use thiserror::Error;
 
-/// Why an expression was refused. (PI specification, volume 1, section 3.4, and volume 2, section
+/// Why an expression was refused, and where the fault lies: an offset in bytes from the first byte
+/// that was handed to the call. (PI specification, volume 1, section 3.4, and volume 2, section
 /// 10.7.)
 #[derive(Clone, Copy, Debug, PartialEq, Eq, Error)]
 pub enum DepexFaultKind {
-    /// Fewer than 16 bytes are left for the GUID of BEFORE, AFTER or PUSH.
+    /// Fewer than 16 bytes are left for the GUID of BEFORE, AFTER or PUSH. At the op's code.
     #[error("the GUID of an op is cut")]
     Short,
-    /// An op code that the phase has not: PEI has 02 to 08, DXE 00 to 09.
+    /// An op code that the phase has not: PEI has 0x02 to 0x08, DXE 0x00 to 0x09. At that code.
     #[error("the code of an op is not known")]
     Opcode,
-    /// The stack holds fewer than two values at AND or OR, none at NOT, or not exactly one at END.
+    /// The stack holds fewer than two values at AND or OR, none at NOT, or not exactly one at END
+    /// (behind BEFORE or AFTER END takes none). At the op's code.
     #[error("the stack does not hold what an op takes")]
     Stack,
-    /// The bytes end before END.
+    /// The bytes end before END. At their end.
     #[error("the expression has no end")]
     NoEnd,
-    /// BEFORE, AFTER or SOR not first, or an op but END behind BEFORE or AFTER.
+    /// BEFORE, AFTER or SOR not first, or an op but END behind BEFORE or AFTER. At the op's code.
     #[error("an op stands where it may not")]
     Position,
-    /// The allocator refused. The offset is 0.
+    /// A growth of memory was refused. At 0.
     #[error("out of memory")]
     OutOfMemory,
 }
@@ -52,7 +54,8 @@ impl DepexFaultKind {
 pub struct DepexFault {
     /// Why.
     pub kind: DepexFaultKind,
-    /// The offset of the op's code, in bytes from the first byte that was handed to the call.
+    /// Where, in bytes from the first byte that was handed to the call: at the op's code, or where
+    /// one is missing, or 0 for OutOfMemory.
     pub offset: u64,
 }
 

@@ -10,43 +10,43 @@ use fv_base::Guid;
 /// specification, volume 1, section 3.4, and volume 2, section 10.7.)
 #[derive(Clone, Copy, Debug, PartialEq, Eq)]
 pub enum Phase {
-    /// PEI (volume 1), which has no BEFORE, AFTER and SOR: op codes 02 to 08.
+    /// PEI (volume 1), which has no BEFORE, AFTER and SOR: op codes 0x02 to 0x08.
     Pei,
-    /// DXE (volume 2): op codes 00 to 09.
+    /// DXE (volume 2): op codes 0x00 to 0x09.
     Dxe,
 }
 
-/// An op of a dependency expression, a evaluate_op on a stack of truth values. (PI specification, volume
+/// An op of a dependency expression: one step on a stack of truth values. (PI specification, volume
 /// 1, section 3.4, and volume 2, section 10.7.)
 #[derive(Clone, Copy, Debug, PartialEq, Eq)]
 pub enum Op {
-    /// EFI_DEP_BEFORE, 00: right before the driver whose file has this name. It stands first, and
+    /// EFI_DEP_BEFORE, 0x00: right before the driver whose file has this name. It stands first, and
     /// END follows it. DXE only.
     Before(Guid),
-    /// EFI_DEP_AFTER, 01: right after the driver whose file has this name. It stands first, and
+    /// EFI_DEP_AFTER, 0x01: right after the driver whose file has this name. It stands first, and
     /// END follows it. DXE only.
     After(Guid),
-    /// EFI_DEP_PUSH, 02: pushes whether the protocol of this name, in PEI the PPI, is installed.
+    /// EFI_DEP_PUSH, 0x02: pushes whether the protocol of this name, in PEI the PPI, is installed.
     Push(Guid),
-    /// EFI_DEP_AND, 03: pops two values, and pushes whether both are true.
+    /// EFI_DEP_AND, 0x03: pops two values, and pushes whether both are true.
     And,
-    /// EFI_DEP_OR, 04: pops two values, and pushes whether either is true.
+    /// EFI_DEP_OR, 0x04: pops two values, and pushes whether either is true.
     Or,
-    /// EFI_DEP_NOT, 05: pops a value, and pushes its negation.
+    /// EFI_DEP_NOT, 0x05: pops a value, and pushes its negation.
     Not,
-    /// EFI_DEP_TRUE, 06: pushes true.
+    /// EFI_DEP_TRUE, 0x06: pushes true.
     True,
-    /// EFI_DEP_FALSE, 07: pushes false.
+    /// EFI_DEP_FALSE, 0x07: pushes false.
     False,
-    /// EFI_DEP_END, 08: the end. The one value on the stack is the expression's.
+    /// EFI_DEP_END, 0x08: the end. The one value on the stack is the expression's.
     End,
-    /// EFI_DEP_SOR, 09: schedule on request, which does not change the value. It stands first, and
+    /// EFI_DEP_SOR, 0x09: schedule on request, which does not change the value. It stands first, and
     /// an expression follows it. DXE only.
     Sor,
 }
 
 impl Op {
-    /// The op code, 00 (EFI_DEP_BEFORE) to 09 (EFI_DEP_SOR): the first byte of the op.
+    /// The op code, 0x00 (EFI_DEP_BEFORE) to 0x09 (EFI_DEP_SOR): the first byte of the op.
     pub fn code(&self) -> u8
         ensures { result ≡ op_code self.now }
     {

@@ -16,6 +16,7 @@ pub enum Stage {
     Values(u64),
 }
 
+// How many values a stage has on the stack.
 fn values_of(stage: Stage) -> u64
     ensures { result ≡ values_of stage }
 {
@@ -25,6 +26,7 @@ fn values_of(stage: Stage) -> u64
     }
 }
 
+// How many values are on the stack behind an op that finds so many there.
 fn values_after(count: u64, op: &Op) -> u64
     requires { count < 2 ^ 63 }
     ensures { result ≡ values_after count op.now }

@@ -24,6 +24,7 @@ const OPERAND: usize = 1;
 /// Bytes of an op that carries a GUID: its code, and the GUID's 16.
 const WITH_GUID: usize = 17;
 
+// Whether the phase has this op code.
 fn has_code(phase: Phase, code: u8) -> bool
     ensures { result ≡ has_code phase code }
 {
@@ -33,6 +34,7 @@ fn has_code(phase: Phase, code: u8) -> bool
     }
 }
 
+// Whether an op of this code may stand here: BEFORE, AFTER and SOR first only, and behind BEFORE or AFTER END alone.
 fn in_place(stage: Stage, code: u8) -> bool
     ensures { result ≡ in_place stage code }
 {
@@ -43,6 +45,7 @@ fn in_place(stage: Stage, code: u8) -> bool
     }
 }
 
+// Whether so many values are those that an op of this code takes.
 fn has_values(count: u64, code: u8) -> bool
     ensures { result ≡ has_values count code }
 {
@@ -57,6 +60,7 @@ fn has_values(count: u64, code: u8) -> bool
     }
 }
 
+// Whether the stack holds the values that an op of this code takes. Behind BEFORE or AFTER END takes none.
 fn holds_values(stage: Stage, code: u8) -> bool
     ensures { result ≡ holds_values stage code }
 {
@@ -67,12 +71,14 @@ fn holds_values(stage: Stage, code: u8) -> bool
     }
 }
 
+// Whether an op of this code carries a GUID.
 fn carries(code: u8) -> bool
     ensures { result ≡ carries code }
 {
     code <= opcode::PUSH
 }
 
+// Whether the GUID of the op at the front is there, if the op carries one.
 fn has_operand(rest: &[u8]) -> bool
     requires { 1 ≤ length rest.now }
     ensures { result ≡ has_operand rest.now }

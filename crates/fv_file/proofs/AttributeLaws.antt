@@ -1,4 +1,4 @@
--- The attribute bits of a file with and without bit 01, which goes with the form of its header.
+-- The attribute bits of a file with and without bit 0x01, which goes with the form of its header.
 use Rattle.std.proofs.Common.{◌≡◌, ◌<◌, ◌+◌, ◌*◌, ◌/◌, ◌%◌, ℕ, Bool, true, false, refl, ap, arith}
 use Rattle.std.specs.Prelude.{◌==◌, slice_index}
 use Rattle.std.proofs.lemmas.Bool.{eqb-true, ne_eqb}
@@ -7,7 +7,7 @@ use Rattle.fv_file.specs.Attributes.{is_large, is_fixed, is_summed, without_larg
 use Rattle.fv_file.specs.NewHeaders.{with_large}
 use Rattle.fv_file.proofs.AttributeLemmas.{small_even}
 
--- ---- with bit 01 as the form wants it
+-- ---- with bit 0x01 as the form wants it
 
 pub fixed_with : (l : Bool) (a : ℕ) → is_large a ≡ false → is_fixed (with_large l a) ≡ is_fixed a
 fixed_with false a h = refl
@@ -32,7 +32,7 @@ pub with_large_small : (l : Bool) (a : ℕ) → is_large a ≡ false → a < 256
 with_large_small true a h l = let e = small_even a h in omega (arith, e)
 with_large_small false a h l = l
 
--- ---- without bit 01
+-- ---- without bit 0x01
 
 pub short_without : (a : ℕ) → is_large (without_large a) ≡ false
 short_without a = ne_eqb (a / 2 * 2 % 2) 1 (λ e. odd a e) where
@@ -57,7 +57,7 @@ alignment_without a = ap (slice_index alignments) (same a) where
 pub without_small : (a : ℕ) → a < 256 → without_large a < 256
 without_small a l = omega arith
 
--- bits without bit 01 are left as they are
+-- bits without bit 0x01 are left as they are
 pub without_short : (a : ℕ) → is_large a ≡ false → without_large a ≡ a
 without_short a h = same a (small_even a h) where
   same : (a : ℕ) → a % 2 ≡ 0 → a / 2 * 2 ≡ a

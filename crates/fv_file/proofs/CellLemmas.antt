@@ -17,12 +17,13 @@ use Rattle.fv_base.specs.declared.fault.FaultKind.TheVariants as kinds
 use Rattle.fv_base.specs.declared.flash.FileSystem.{FileSystem}
 use Rattle.fv_base.specs.declared.flash.Polarity.{Polarity}
 use Rattle.fv_base.specs.declared.flash.Polarity.TheVariants.{Ones, Zeros}
-use Rattle.fv_base.proofs.CheckLemmas.{all_hold, first_is, not_first, verdict_ok, verdict_err, verdict_none}
+use Rattle.fv_base.proofs.Laws.{all_hold, first_is, if_false, if_true, not_at_most, not_equal, not_first, not_less, verdict_err}
+use Rattle.fv_base.proofs.Laws.{verdict_none, verdict_ok}
 use Rattle.fv_file.specs.Attributes.{is_large}
 use Rattle.fv_file.specs.Cells.{CellForm, Valid, Pad, Dead, Stub, Free, offset_of, cell_len, is_free, IsFilled, IsCell, IsMadeUp}
-use Rattle.fv_file.specs.FileChecks.{leading_count, attributes_at, file_header_len_at, file_size_at, payload_at, file_checks, stub_checks}
+use Rattle.fv_file.specs.FileChecks.{leading_count, file_header_len_at, file_size_at, payload_at, file_checks, stub_checks}
 use Rattle.fv_file.specs.FileChecks.{state_checks, cell_checks}
-use Rattle.fv_file.specs.Files.{pad_kind, file_header_len, head_in, IsSound}
+use Rattle.fv_file.specs.Files.{pad_kind, file_header_len, head_in, IsSound, attributes_at}
 use Rattle.fv_file.specs.CellVerdicts.{file_verdict, cell_for, cell_with, stub_verdict, state_verdict, cell_verdict}
 use Rattle.fv_file.specs.States.{StateOf, bits_of, state_of, is_alive}
 use Rattle.fv_file.specs.declared.head.FileHead.{FileHead}
@@ -31,7 +32,6 @@ use Rattle.fv_file.specs.declared.state.FileState.TheVariants as states
 use Rattle.fv_file.proofs.ErasedLemmas.{all_at}
 use Rattle.fv_file.proofs.FileLemmas.{header_least, FileAt, file_ok, file_err, file_holds, file_reads}
 use Rattle.fv_file.proofs.StateLemmas.{state_read, state_shown}
-use Rattle.fv_base.proofs.TestLemmas.{if_true, if_false, not_less, not_at_most, not_equal}
 use Rattle.fv_file.proofs.TilingLemmas.{OneCell, NotEmpty}
 
 abbrev ok : CellForm → Result CellForm Fault

@@ -8,8 +8,7 @@ use Rattle.fv_base.specs.Value.{IsBytes, field, le_at}
 use Rattle.fv_base.specs.declared.flash.FileSystem.{FileSystem}
 use Rattle.fv_base.specs.declared.flash.FileSystem.TheVariants.{Ffs2, Ffs3}
 use Rattle.fv_base.specs.declared.flash.Polarity.{Polarity}
-use Rattle.fv_base.proofs.FieldLemmas.{bytes_take, bytes_drop}
-use Rattle.fv_base.proofs.NumberLaws.{le_below, bytes_front, bytes_back}
+use Rattle.fv_base.proofs.Laws.{bytes_back, bytes_drop, bytes_front, bytes_take, le_below}
 use Rattle.fv_file.specs.Attributes.{attribute_bits, is_large, is_fixed}
 use Rattle.fv_file.specs.Cells.{IsCell, IsFilled, Valid}
 use Rattle.fv_file.specs.Files.{file_header_len, file_size_in, pad_kind}

@@ -13,10 +13,11 @@ use Rattle.fv_base.specs.declared.fault.Fault.{Fault}
 use Rattle.fv_base.specs.declared.flash.FileSystem.{FileSystem}
 use Rattle.fv_base.specs.declared.flash.FileSystem.TheVariants.{Ffs2, Ffs3}
 use Rattle.fv_base.specs.declared.flash.Polarity.{Polarity}
-use Rattle.fv_base.proofs.CheckLemmas.{and_split, and_join, all_hold, none_faulty, verdict_ok, verdict_err, verdict_none}
-use Rattle.fv_base.proofs.FieldLemmas.{field-take, field-append_front}
+use Rattle.fv_base.proofs.Laws.{all_hold, and_join, and_split, field-append_front, field-take, none_faulty, verdict_err, verdict_none}
+use Rattle.fv_base.proofs.Laws.{verdict_ok}
 use Rattle.fv_file.specs.Attributes.{attribute_bits, is_large, is_fixed}
-use Rattle.fv_file.specs.FileChecks.{may_be_large, has_header_sum, skips_data, allows_large, attributes_at, file_header_len_at}
+use Rattle.fv_file.specs.FileChecks.{may_be_large, has_header_sum, skips_data, allows_large, file_header_len_at}
+use Rattle.fv_file.specs.Files.{attributes_at}
 use Rattle.fv_file.specs.FileChecks.{file_size_at, payload_at, has_file_size, has_file_sum, file_checks}
 use Rattle.fv_file.specs.Files.{pad_kind, file_header_len, file_size_in, head_in, header_sum_of, file_sum_right, IsFile, IsSound}
 use Rattle.fv_file.specs.CellVerdicts.{file_verdict}

@@ -25,21 +25,21 @@ pub use Rattle.fv_file.proofs.FileLaws.{payload_behind, short_limit, FileRead, c
 pub use Rattle.fv_file.proofs.FileLemmas.{header_least}
 -- ---- attribute bits
 
--- bits without bit 01 are even; with it they are those of a large header
+-- bits without bit 0x01 are even; with it they are those of a large header
 pub use Rattle.fv_file.proofs.AttributeLemmas.{small_even, set_large}
 -- with the bit of the form, the bits say the form
-pub use Rattle.fv_file.proofs.WrittenLemmas.{with_large_is}
--- the other bits stay where bit 01 is set as the form wants it
+pub use Rattle.fv_file.proofs.NewHeaderLemmas.{with_large_is}
+-- the other bits stay where bit 0x01 is set as the form wants it
 pub use Rattle.fv_file.proofs.AttributeLaws.{fixed_with, summed_with, alignment_with, with_large_small}
--- the other bits stay where bit 01 is cleared
+-- the other bits stay where bit 0x01 is cleared
 pub use Rattle.fv_file.proofs.AttributeLaws.{short_without, fixed_without, summed_without, alignment_without, without_small, without_short}
 -- one undoes the other
 pub use Rattle.fv_file.proofs.AttributeLaws.{with_without, without_with}
 -- ---- headers that are written
 
 -- they are so many bytes
-pub use Rattle.fv_file.proofs.HeaderLaws.{state_small, bytes_header, length-header}
+pub use Rattle.fv_file.proofs.NewHeaderLaws.{state_small, bytes_header, length-header}
 -- they are read again as their fields, and with data and filler they are files and pads
-pub use Rattle.fv_file.proofs.WrittenLemmas.{complement_small, file_written, pad_written, head_of_file, head_of_pad}
+pub use Rattle.fv_file.proofs.NewHeaderLemmas.{complement_small, file_written, pad_written, head_of_file, head_of_pad}
 -- no other bytes are the header of these fields
-pub use Rattle.fv_file.proofs.WrittenLemmas.{only_written, only_file, only_pad}
+pub use Rattle.fv_file.proofs.NewHeaderLemmas.{only_written, only_file, only_pad}

@@ -5,10 +5,10 @@ pub mod CellLemmas
 pub mod ErasedLemmas
 pub mod FileLaws
 pub mod FileLemmas
-pub mod HeaderLaws
+pub mod FirstFileLemmas
 pub mod Laws
+pub mod NewHeaderLaws
+pub mod NewHeaderLemmas
 pub mod StateLemmas
 pub mod TilingLaws
 pub mod TilingLemmas
-pub mod VerifyLemmas
-pub mod WrittenLemmas

@@ -6,7 +6,7 @@ use Rattle.fv_base.specs.declared.flash.Polarity.{Polarity}
 use Rattle.fv_file.specs.States.{IsHighest, StateOf, bits_of, state_in, state_of}
 use Rattle.fv_file.specs.declared.state.FileState.{FileState}
 use Rattle.fv_file.specs.declared.state.FileState.TheVariants as states
-use Rattle.fv_base.proofs.TestLemmas.{not_less, not_equal}
+use Rattle.fv_base.proofs.Laws.{not_equal, not_less}
 
 above_zero : (n : ℕ) → 1 ≤ n → (n == 0) ≡ false
 above_zero n h = not_equal n 0 (λ e. omega (arith, h, e))

@@ -6,8 +6,7 @@ use Rattle.std.proofs.lemmas.List.{drop_at}
 use Rattle.fv_base.specs.Value.{IsBytes, up_to_8}
 use Rattle.fv_base.specs.declared.flash.FileSystem.{FileSystem}
 use Rattle.fv_base.specs.declared.flash.Polarity.{Polarity}
-use Rattle.fv_base.proofs.FieldLemmas.{field-append_front}
-use Rattle.fv_base.proofs.NumberLaws.{bytes_front, bytes_back}
+use Rattle.fv_base.proofs.Laws.{bytes_back, bytes_front, field-append_front}
 use Rattle.fv_file.specs.Cells.{CellForm, Valid, Pad, Dead, Stub, Free, IsCell, IsFilled, Tiles, NoneFree, CellsWithin, offset_of, cell_len}
 use Rattle.fv_file.specs.declared.head.FileHead.{FileHead}
 use Rattle.fv_file.proofs.CellLemmas.{cell_span, made_up, not_empty}

@@ -3,7 +3,7 @@ use Rattle.std.proofs.Common.{◌≡◌, ◌<◌, ℕ, ◌+◌, List, [], ◌∷
 use Rattle.std.proofs.Common.{length-append, append_assoc, append-nil}
 use Rattle.fv_base.specs.declared.flash.Polarity.{Polarity}
 use Rattle.fv_base.specs.declared.flash.FileSystem.{FileSystem}
-use Rattle.fv_base.proofs.FieldLemmas.{same_cut}
+use Rattle.fv_base.proofs.Laws.{same_cut}
 use Rattle.fv_file.specs.Cells.{CellForm, offset_of, is_free, IsCell, Tiles, NoneFree}
 
 -- at one place stands one cell, a free one only where it is all the rest

@@ -1,13 +1,12 @@
 -- The cells of a volume's body (PI specification, volume 3, sections 3.2.2 and 3.2.3).
 use Rattle.std.specs.Prelude.{◌≡◌, ℕ, ◌+◌, ◌%◌, ◌<◌, ◌≤◌, ◌⊎◌, Bool, true, false, List, [], ◌∷◌, ◌++◌, length}
-use Rattle.std.specs.Prelude.{slice_index}
 use Rattle.fv_base.specs.Erased.{AllAre}
 use Rattle.fv_base.specs.Flash.{erased_byte}
 use Rattle.fv_base.specs.Value.{up_to_8}
 use Rattle.fv_base.specs.declared.flash.FileSystem.{FileSystem}
 use Rattle.fv_base.specs.declared.flash.Polarity.{Polarity}
 use Rattle.fv_file.specs.Attributes.{is_large}
-use Rattle.fv_file.specs.Files.{file_header_len, pad_kind, IsFile, IsSound}
+use Rattle.fv_file.specs.Files.{attributes_at, file_header_len, pad_kind, state_at, IsFile, IsSound}
 use Rattle.fv_file.specs.States.{StateOf, is_alive}
 use Rattle.fv_file.specs.declared.head.FileHead.{FileHead}
 use Rattle.fv_file.specs.declared.state.FileState.TheVariants as states
@@ -37,6 +36,7 @@ cell_len (Dead at len) = len
 cell_len (Stub at len) = len
 cell_len (Free at len) = len
 
+-- a free cell
 abbrev pub is_free : CellForm → Bool
 is_free (Free at len) = true
 is_free _ = false
@@ -61,8 +61,8 @@ IsCell system polarity (Dead at len) b =
     (head : FileHead) × (payload : List ℕ) × IsFilled system polarity head payload b
     × ((head.state ≡ states.HeaderValid) ⊎ (head.state ≡ states.Deleted)) × (len ≡ length b)
 IsCell system polarity (Stub at len) b =
-    (StateOf (slice_index b 23) polarity states.Construction ⊎ StateOf (slice_index b 23) polarity states.HeaderInvalid)
-    × (length b ≡ file_header_len (is_large (slice_index b 19))) × (len ≡ length b)
+    (StateOf (state_at b) polarity states.Construction ⊎ StateOf (state_at b) polarity states.HeaderInvalid)
+    × (length b ≡ file_header_len (is_large (attributes_at b))) × (len ≡ length b)
 IsCell system polarity (Free at len) b = (0 < len) × AllAre (erased_byte polarity) b × (len ≡ length b)
 
 -- the bytes are these cells, joined, the first of them at the place `at`; a free one stands last only

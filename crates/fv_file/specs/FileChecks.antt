@@ -12,7 +12,8 @@ use Rattle.fv_base.specs.declared.flash.FileSystem.TheVariants.{Ffs2, Ffs3}
 use Rattle.fv_base.specs.declared.flash.Polarity.{Polarity}
 use Rattle.fv_file.specs.Attributes.{is_large, is_fixed}
 use Rattle.fv_file.specs.Cells.{CellForm, Tiles, NoneFree}
-use Rattle.fv_file.specs.Files.{file_header_len, file_size_in, pad_kind, header_sum_of, file_sum_right}
+use Rattle.fv_file.specs.Files.{attributes_at, file_header_len, file_size_in, file_sum_right, header_sum_of, pad_kind}
+use Rattle.fv_file.specs.Files.{state_at}
 use Rattle.fv_file.specs.States.{bits_of, state_of, is_alive}
 use Rattle.fv_file.specs.declared.state.FileState.{FileState}
 use Rattle.fv_file.specs.declared.state.FileState.TheVariants as states
@@ -22,14 +23,12 @@ abbrev pub leading_count : ℕ → List ℕ → ℕ
 leading_count e [] = 0
 leading_count e (x ∷ xs) = if x == e then 1 + leading_count e xs else 0
 
+-- large headers stand in FFS3 alone
 abbrev pub allows_large : FileSystem → Bool
 allows_large Ffs2 = false
 allows_large Ffs3 = true
 
--- what the header that begins r says: the attributes, the bytes of the header, those of the file, and the data
-abbrev pub attributes_at : List ℕ → ℕ
-attributes_at r = slice_index r 19
-
+-- what the header that begins r says: the bytes of the header, those of the file, and the data
 abbrev pub file_header_len_at : List ℕ → ℕ
 file_header_len_at r = file_header_len (is_large (attributes_at r))
 
@@ -39,12 +38,15 @@ file_size_at r = file_size_in (is_large (attributes_at r)) r
 abbrev pub payload_at : List ℕ → List ℕ
 payload_at r = take (file_size_at r - file_header_len_at r) (drop (file_header_len_at r) r)
 
+-- the header is short, or the file system has large ones
 abbrev pub may_be_large : FileSystem → List ℕ → Bool
 may_be_large system r = not (is_large (attributes_at r)) || allows_large system
 
+-- the header sums to zero
 abbrev pub has_header_sum : List ℕ → Bool
 has_header_sum r = header_sum_of (take (file_header_len_at r) r) == 0
 
+-- the size is neither below the header nor past the end, and Size of a large header is zero
 abbrev pub has_file_size : List ℕ → Bool
 has_file_size r =
     nat_le (file_header_len_at r) (file_size_at r)
@@ -54,10 +56,11 @@ has_file_size r =
 abbrev pub skips_data : Bool → List ℕ → Bool
 skips_data alive r = not alive || (slice_index r 18 == pad_kind)
 
+-- the file sum is right
 abbrev pub has_file_sum : List ℕ → Bool
 has_file_sum r = file_sum_right (attributes_at r) (slice_index r 17) (payload_at r)
 
--- of a file at p that stands or does not, from where on the bytes are r
+-- the checks of a file at p that stands or does not, from where on the bytes are r
 abbrev pub file_checks : FileSystem → Bool → ℕ → List ℕ → List (Check Fault)
 file_checks system alive p r =
     check (may_be_large system r) kinds.LargeFile (p + 19)
@@ -68,11 +71,11 @@ file_checks system alive p r =
     ∷ check (skips_data alive r || has_file_sum r) kinds.FileSum (p + 17)
     ∷ []
 
--- of a header that was never finished
+-- those of a header that was never finished
 abbrev pub stub_checks : ℕ → List ℕ → List (Check Fault)
 stub_checks p r = check (nat_le (file_header_len_at r) (length r)) kinds.FileSize (p + 20) ∷ []
 
--- of a cell by its state; one that is free has failed before
+-- those of a cell by its state; one that is free has failed before
 abbrev pub state_checks : Option FileState → FileSystem → ℕ → List ℕ → List (Check Fault)
 state_checks None system p r = check false kinds.FileState (p + 23) ∷ []
 state_checks (Some states.Free) system p r = []
@@ -80,23 +83,23 @@ state_checks (Some states.Construction) system p r = stub_checks p r
 state_checks (Some states.HeaderInvalid) system p r = stub_checks p r
 state_checks (Some state) system p r = file_checks system (is_alive state) p r
 
--- of a cell at p, from where on the bytes are r, not all of them erased
+-- the checks of a cell at p, from where on the bytes are r, not all of them erased
 abbrev pub cell_checks : FileSystem → Polarity → ℕ → List ℕ → List (Check Fault)
 cell_checks system polarity p r =
-    check (nat_le 24 (length r) && not (bits_of polarity (slice_index r 23) == 0)) kinds.FreeSpace
+    check (nat_le 24 (length r) && not (bits_of polarity (state_at r) == 0)) kinds.FreeSpace
     (p + leading_count (erased_byte polarity) r)
-    ∷ state_checks (state_of polarity (slice_index r 23)) system p r
+    ∷ state_checks (state_of polarity (state_at r)) system p r
 
 -- a state, if there is one, of a file that stands
 abbrev pub is_standing : Option FileState → Bool
 is_standing None = false
 is_standing (Some state) = is_alive state
 
--- of bytes that are to begin with a file that stands, or with a pad
+-- the checks of bytes that are to begin with a file that stands, or with a pad
 abbrev pub verify_checks : FileSystem → Polarity → List ℕ → List (Check Fault)
 verify_checks system polarity b =
     check (nat_le 24 (length b)) kinds.FileSize 20
-    ∷ check (is_standing (state_of polarity (slice_index b 23))) kinds.FileState 23
+    ∷ check (is_standing (state_of polarity (state_at b))) kinds.FileState 23
     ∷ file_checks system true 0 b
 
 -- some cells, none of them free, tile the body up to a place from where on not all is erased; there the fault is that

@@ -11,7 +11,7 @@ use Rattle.fv_file.specs.States.{StateOf, is_alive}
 use Rattle.fv_file.specs.declared.head.FileHead.{FileHead}
 use Rattle.fv_file.specs.declared.state.FileState.{FileState}
 
--- the type of a pad file (section 3.2.3.1, EFI_FV_FILETYPE_FFS_PAD)
+-- the type of a pad file (EFI_FV_FILETYPE_FFS_PAD)
 abbrev pub pad_kind : ℕ
 pad_kind = 0xf0
 
@@ -20,7 +20,19 @@ abbrev pub file_header_len : Bool → ℕ
 file_header_len false = 24
 file_header_len true = 32
 
--- where a short and a large header say the size
+-- the header sum in the header that begins b (IntegrityCheck.Checksum.Header)
+abbrev pub header_sum_at : List ℕ → ℕ
+header_sum_at b = slice_index b 16
+
+-- the attribute bits in it (Attributes)
+abbrev pub attributes_at : List ℕ → ℕ
+attributes_at b = slice_index b 19
+
+-- the State byte in it (State)
+abbrev pub state_at : List ℕ → ℕ
+state_at b = slice_index b 23
+
+-- the size that a short header says (Size), and a large one (ExtendedSize)
 abbrev pub file_size_in : Bool → List ℕ → ℕ
 file_size_in false b = le_at 20 3 b
 file_size_in true b = le_at 24 8 b
@@ -29,12 +41,12 @@ file_size_in true b = le_at 24 8 b
 abbrev pub head_in : FileState → List ℕ → FileHead
 head_in state b = record {
   name = guid_of (take 16 b);
-  header_sum = slice_index b 16;
+  header_sum = header_sum_at b;
   file_sum = slice_index b 17;
   kind = slice_index b 18;
-  attributes = attributes_by (slice_index b 19);
-  size = file_size_in (is_large (slice_index b 19)) b;
-  header_len = file_header_len (is_large (slice_index b 19));
+  attributes = attributes_by (attributes_at b);
+  size = file_size_in (is_large (attributes_at b)) b;
+  header_len = file_header_len (is_large (attributes_at b));
   state = state;
 }
 
@@ -42,17 +54,21 @@ head_in state b = record {
 abbrev pub header_sum_of : List ℕ → ℕ
 header_sum_of h = (sum (take 17 h) + sum (field 18 5 h) + sum (drop 24 h)) % 256
 
--- with the checksum attribute, data and file sum sum to zero; else the file sum is AA (FFS_FIXED_CHECKSUM)
+-- the file sum of a file whose data are not summed (FFS_FIXED_CHECKSUM)
+abbrev pub fixed_checksum : ℕ
+fixed_checksum = 0xaa
+
+-- with the checksum attribute, data and file sum sum to zero; else the file sum is the fixed one
 abbrev pub file_sum_right : ℕ → ℕ → List ℕ → Bool
 file_sum_right attributes file_sum payload =
-    if is_summed attributes then (sum payload + file_sum) % 256 == 0 else file_sum == 0xaa
+    if is_summed attributes then (sum payload + file_sum) % 256 == 0 else file_sum == fixed_checksum
 
 -- the bytes h are the header of these fields; a large one stands in FFS3 alone, and its Size is zero
 pub record IsFileHeader (system : FileSystem) (polarity : Polarity) (head : FileHead) (h : List ℕ) : Type 0 where
-  pub whole : length h ≡ file_header_len (is_large (slice_index h 19))
+  pub whole : length h ≡ file_header_len (is_large (attributes_at h))
   pub fields : head ≡ head_in head.state h
-  pub state : StateOf (slice_index h 23) polarity head.state
-  pub large : is_large (slice_index h 19) ≡ true → (system ≡ Ffs3) × (le_at 20 3 h ≡ 0)
+  pub state : StateOf (state_at h) polarity head.state
+  pub large : is_large (attributes_at h) ≡ true → (system ≡ Ffs3) × (le_at 20 3 h ≡ 0)
   pub sum : header_sum_of h ≡ 0
 
 -- the bytes are a header and its data

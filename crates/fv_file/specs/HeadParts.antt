@@ -13,7 +13,7 @@ abbrev pub size_fields : ℕ → Bool → ℕ → List ℕ
 size_fields size large state =
     le_bytes 3 (if large then 0 else size) ++ (state ∷ le_bytes 8 (if large then size else 0))
 
--- the size stands in the field that the attribute bits name
+-- the size has room in the field that the attribute bits name
 abbrev pub HasPlace : FileHead → Type 0
 HasPlace head = is_large (attribute_bits head.attributes) ≡ false → head.size < 0x1000000
 

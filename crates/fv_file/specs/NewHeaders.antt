@@ -1,6 +1,6 @@
 -- File headers as they are written (PI specification, volume 3, section 3.2.3.1).
 use Rattle.std.specs.Prelude.{◌≡◌, ℕ, ◌+◌, ◌-◌, ◌%◌, ◌<◌, nat_lt, Bool, true, false, if◌then◌else◌, List, [], ◌∷◌, ◌++◌}
-use Rattle.std.specs.Prelude.{length, replicate, slice_index, sum}
+use Rattle.std.specs.Prelude.{length, replicate, sum}
 use Rattle.fv_base.specs.Guids.{bytes_of, guid_of}
 use Rattle.fv_base.specs.Value.{IsBytes, le_bytes}
 use Rattle.fv_base.specs.declared.flash.FileSystem.{FileSystem}
@@ -10,30 +10,27 @@ use Rattle.fv_base.specs.declared.flash.Polarity.TheVariants.{Ones, Zeros}
 use Rattle.fv_base.specs.declared.guid.Guid.{Guid}
 use Rattle.fv_file.specs.Attributes.{attribute_bits, attributes_by, is_large}
 use Rattle.fv_file.specs.Cells.{IsCell, Valid, Pad}
-use Rattle.fv_file.specs.Files.{file_header_len, pad_kind, IsFileHeader, IsSound}
+use Rattle.fv_file.specs.Files.{file_header_len, fixed_checksum, pad_kind, state_at, IsFileHeader, IsSound}
 use Rattle.fv_file.specs.declared.attributes.FileAttributes.{FileAttributes}
 use Rattle.fv_file.specs.declared.head.FileHead.{FileHead}
 use Rattle.fv_file.specs.declared.state.FileState.TheVariants as states
 
--- a file of so much data has a large header: with a short one its size would pass FFFFFF
+-- a file of so much data has a large header: with a short one its size would pass 0xFFFFFF
 abbrev pub needs_large : ℕ → Bool
 needs_large data_len = nat_lt 0xffffff (24 + data_len)
 
--- the attribute bits, of which 01 is clear, with 01 set for a large header
+-- the attribute bits, of which 0x01 is clear, with 0x01 set for a large header
 abbrev pub with_large : Bool → ℕ → ℕ
 with_large large attributes = if large then attributes + 1 else attributes
 
--- the State byte of a file that stands: the bits 01, 02 and 04 were written
+-- the State byte of a file that stands: the bits 0x01, 0x02 and 0x04 were written
 abbrev pub state_byte : Polarity → ℕ
 state_byte Ones = 0xf8
 state_byte Zeros = 0x07
 
--- the name, the type and the file sum of a pad
+-- the name of a pad
 abbrev pub pad_name : List ℕ
 pad_name = replicate 16 0xff
-
-abbrev pub fixed_checksum : ℕ
-fixed_checksum = 0xaa
 
 -- the fields of a file with data valid, and of a pad; the header sum is left to be found
 abbrev pub fields_of : List ℕ → ℕ → ℕ → ℕ → Bool → ℕ → ℕ → FileHead
@@ -61,7 +58,7 @@ pad_fields size header_sum = fields_of pad_name pad_kind 0 size false header_sum
 pub record IsNewHeader (polarity : Polarity) (head : FileHead) (h : List ℕ) : Type 0 where
   pub header : (system : FileSystem) → (is_large (attribute_bits head.attributes) ≡ true → system ≡ Ffs3)
       → IsFileHeader system polarity head h
-  pub state : slice_index h 23 ≡ state_byte polarity
+  pub state : state_at h ≡ state_byte polarity
   pub bytes : IsBytes h
 
 -- what makes a number a multiple of 256

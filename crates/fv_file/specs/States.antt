@@ -10,8 +10,9 @@ abbrev pub bits_of : Polarity → ℕ → ℕ
 bits_of Ones byte = 255 - byte
 bits_of Zeros byte = byte
 
--- the highest bit of n that is set is the state's: EFI_FILE_HEADER_CONSTRUCTION (01), EFI_FILE_HEADER_VALID (02),
--- EFI_FILE_DATA_VALID (04), EFI_FILE_MARKED_FOR_UPDATE (08), EFI_FILE_DELETED (10), EFI_FILE_HEADER_INVALID (20)
+-- the highest bit of n that is set is the state's: EFI_FILE_HEADER_CONSTRUCTION (0x01), EFI_FILE_HEADER_VALID (0x02),
+-- EFI_FILE_DATA_VALID (0x04), EFI_FILE_MARKED_FOR_UPDATE (0x08), EFI_FILE_DELETED (0x10) or
+-- EFI_FILE_HEADER_INVALID (0x20)
 abbrev pub IsHighest : FileState → ℕ → Type 0
 IsHighest states.Free n = n ≡ 0
 IsHighest states.Construction n = n ≡ 0x01
@@ -36,6 +37,7 @@ state_in n =
     else (if nat_lt n 0x20 then Some states.Deleted
     else (if nat_lt n 0x40 then Some states.HeaderInvalid else None))))))
 
+-- the state that a State byte shows, if there is one
 unfoldable pub state_of : Polarity → ℕ → Option FileState
 state_of polarity byte = state_in (bits_of polarity byte)
 

@@ -57,28 +57,28 @@ impl FileAttributes {
         self.bits()
     }
 
-    /// Whether the header has 32 bytes, by bit 01, `FFS_ATTRIB_LARGE_FILE`.
+    /// Whether the header has 32 bytes, by bit 0x01, `FFS_ATTRIB_LARGE_FILE`.
     pub fn is_large(self) -> bool
         ensures { result ≡ is_large self.0 }
     {
         self.contains(FileAttributes::LARGE_FILE)
     }
 
-    /// Whether the file may not be moved, by bit 04, `FFS_ATTRIB_FIXED`.
+    /// Whether the file may not be moved, by bit 0x04, `FFS_ATTRIB_FIXED`.
     pub fn is_fixed(self) -> bool
         ensures { result ≡ is_fixed self.0 }
     {
         self.contains(FileAttributes::FIXED)
     }
 
-    /// Whether the file sum is over the data, by bit 40, `FFS_ATTRIB_CHECKSUM`.
+    /// Whether the file sum is over the data, by bit 0x40, `FFS_ATTRIB_CHECKSUM`.
     pub fn is_summed(self) -> bool
         ensures { result ≡ is_summed self.0 }
     {
         self.contains(FileAttributes::CHECKSUM)
     }
 
-    /// The bits without 01, `FFS_ATTRIB_LARGE_FILE`, which goes with the form of the header: what `file_head_bytes`
+    /// The bits without 0x01, `FFS_ATTRIB_LARGE_FILE`, which goes with the form of the header: what `file_head_bytes`
     /// takes of a file that was read.
     pub fn without_large(self) -> FileAttributes
         ensures { result.0 ≡ without_large self.0 }

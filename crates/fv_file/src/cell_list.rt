@@ -6,7 +6,7 @@ ghost use Rattle.fv_file.specs.CellForms.{cell_form};
 use crate::cell::Cell;
 use std::marker::Model;
 
-/// The cells of a body, in their order.
+/// The cells of a volume's body, in their order. (PI specification, volume 3, sections 3.2.2 and 3.2.3.)
 #[derive(Drop)]
 pub struct Cells<'a> {
     list: Vec<Cell<'a>>,

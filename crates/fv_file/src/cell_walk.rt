@@ -20,7 +20,7 @@ use fv_base::{Fault, FaultKind, FileSystem, Polarity, all_are, check};
 use std::alloc::Global;
 
 // Whether a free cell stands here: all that is left is erased. All of it is looked at only where
-// fewer than 24 bytes are left or `State` is erased. If it is not free there, cell_at
+// fewer than 24 bytes are left or `State` is erased. If it is not free there, `cell_at`
 // refuses it, so that a body is looked through once at most.
 fn is_free(rest: &[u8], polarity: Polarity) -> bool
     ensures { result ≡ all_are (erased_byte polarity) rest.now }

@@ -34,9 +34,9 @@ fn verdict(bytes: &[u8], system: FileSystem, polarity: Polarity) -> Result<FileH
 ///
 /// # Errors
 ///
-/// The first fault, in this order: FileSize where 24 bytes are not there, FileState (bit 40 or 80,
-/// or a file that does not stand), LargeFile, FileSize where a large header is cut, FileHeaderSum,
-/// FileSize, and where it is no pad Fixed, FileSum. Offsets are in bytes from the first.
+/// The first fault, in this order: FileSize where 24 bytes are not there, FileState (bit 0x40 or 0x80, or a file that
+/// does not stand), LargeFile, FileSize where a large header is cut, FileHeaderSum, FileSize, and where it is no pad
+/// Fixed, FileSum. Offsets are in bytes from the first.
 pub fn verify_ffs_file(
     bytes: &[u8],
     system: FileSystem,

@@ -4,9 +4,9 @@ ghost use Rattle.std.specs.Prelude.{◌≡◌, ◌==◌, ◌+◌, ◌%◌, ◌�
 ghost use Rattle.fv_base.specs.Verdicts.{first_fault, verdict_by};
 ghost use Rattle.fv_base.specs.Value.{le_at};
 ghost use Rattle.fv_file.specs.Attributes.{attribute_bits};
-ghost use Rattle.fv_file.specs.FileChecks.{attributes_at, file_header_len_at, payload_at, file_size_at, may_be_large};
+ghost use Rattle.fv_file.specs.FileChecks.{file_header_len_at, payload_at, file_size_at, may_be_large};
 ghost use Rattle.fv_file.specs.FileChecks.{has_header_sum, has_file_size, skips_data, has_file_sum, file_checks};
-ghost use Rattle.fv_file.specs.Files.{head_in, header_sum_of};
+ghost use Rattle.fv_file.specs.Files.{head_in, header_sum_of, attributes_at};
 ghost use Rattle.fv_file.specs.CellVerdicts.{file_verdict};
 ghost use Rattle.fv_file.specs.States.{is_alive};
 
@@ -24,8 +24,9 @@ use fv_base::{Fault, FaultKind, FileSystem, Guid, check, guid_at, sum8};
 /// `Type` of a pad file: `EFI_FV_FILETYPE_FFS_PAD`.
 pub(crate) const PAD: u8 = 0xf0;
 
-/// `IntegrityCheck.Checksum.File` of a file whose data are not summed: `FFS_FIXED_CHECKSUM`.
-pub(crate) const NO_SUM: u8 = 0xaa;
+/// `IntegrityCheck.Checksum.File` of a file whose data are not summed: `FFS_FIXED_CHECKSUM`. (PI specification, volume
+/// 3, section 3.2.3.1.)
+pub const FIXED_CHECKSUM: u8 = 0xaa;
 
 /// The header of a file, as it was found. (PI specification, volume 3, section 3.2.3.1,
 /// `EFI_FFS_FILE_HEADER` and `EFI_FFS_FILE_HEADER2`.)
@@ -33,7 +34,7 @@ pub(crate) const NO_SUM: u8 = 0xaa;
 pub struct FileHead {
     /// The name, `Name`.
     pub name: Guid,
-    /// The type, `Type`: F0, `EFI_FV_FILETYPE_FFS_PAD`, for a pad.
+    /// The type, `Type`: 0xF0, `EFI_FV_FILETYPE_FFS_PAD`, for a pad.
     pub kind: u8,
     /// The attribute bits, `Attributes`.
     pub attributes: FileAttributes,
@@ -43,7 +44,7 @@ pub struct FileHead {
     pub header_len: u64,
     /// What makes the header's bytes sum to zero, `IntegrityCheck.Checksum.Header`.
     pub header_sum: u8,
-    /// What makes the data sum to zero, or AA: `IntegrityCheck.Checksum.File`.
+    /// What makes the data sum to zero, or 0xAA: `IntegrityCheck.Checksum.File`.
     pub file_sum: u8,
     /// How far the file has come, by `State`.
     pub state: FileState,
@@ -69,6 +70,7 @@ pub(crate) fn header_len_at(rest: &[u8]) -> usize
     }
 }
 
+// `Size`, as it stands in the header that the bytes begin with.
 fn short_size(rest: &[u8]) -> u64
     requires least { 24 ≤ length rest.now }
     ensures { result ≡ le_at 20 3 rest.now }
@@ -76,6 +78,7 @@ fn short_size(rest: &[u8]) -> u64
     u64::from(LittleEndian::read_u24(field(rest, SIZE_OFFSET, 3)))
 }
 
+// `ExtendedSize`, as it stands there in a large header.
 fn large_size(rest: &[u8]) -> u64
     requires least { 32 ≤ length rest.now }
     ensures { result ≡ le_at 24 8 rest.now }
@@ -83,6 +86,7 @@ fn large_size(rest: &[u8]) -> u64
     u64_at(rest, EXTENDED_SIZE_OFFSET)
 }
 
+// How many bytes the file has, its header counted, by the field that its header uses.
 fn size_at(rest: &[u8]) -> u64
     requires least { 24 ≤ length rest.now }
     requires header { file_header_len_at rest.now ≤ length rest.now }
@@ -106,6 +110,7 @@ fn header_sum(header: &[u8]) -> u8
         .wrapping_add(sum8(&header[HEADER_LEN..]))
 }
 
+// Whether the file system has headers of this form: large ones stand in FFS3 alone.
 fn may_be_large(rest: &[u8], system: FileSystem) -> bool
     requires least { 24 ≤ length rest.now }
     ensures { result ≡ may_be_large system rest.now }
@@ -113,6 +118,7 @@ fn may_be_large(rest: &[u8], system: FileSystem) -> bool
     !attributes_at(rest).is_large() || system == FileSystem::Ffs3
 }
 
+// Whether the header sums to zero.
 fn has_header_sum(rest: &[u8]) -> bool
     requires least { 24 ≤ length rest.now }
     requires header { file_header_len_at rest.now ≤ length rest.now }
@@ -121,6 +127,7 @@ fn has_header_sum(rest: &[u8]) -> bool
     header_sum(&rest[..header_len_at(rest)]) == 0
 }
 
+// Whether the size is neither below the header nor past the end, and `Size` of a large header is zero.
 fn has_file_size(rest: &[u8]) -> bool
     requires least { 24 ≤ length rest.now }
     requires header { file_header_len_at rest.now ≤ length rest.now }
@@ -151,6 +158,7 @@ fn is_sum_zero(rest: &[u8]) -> bool
     sum8(payload).wrapping_add(rest[FILE_SUM_OFFSET]) == 0
 }
 
+// Whether the file sum is right: over the data, or the fixed one.
 fn has_file_sum(rest: &[u8]) -> bool
     requires least { 24 ≤ length rest.now }
     requires header { file_header_len_at rest.now ≤ file_size_at rest.now }
@@ -160,7 +168,7 @@ fn has_file_sum(rest: &[u8]) -> bool
     if attributes_at(rest).is_summed() {
         is_sum_zero(rest)
     } else {
-        rest[FILE_SUM_OFFSET] == NO_SUM
+        rest[FILE_SUM_OFFSET] == FIXED_CHECKSUM
     }
 }
 

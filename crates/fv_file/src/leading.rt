@@ -1,4 +1,4 @@
-//! Bytes at the front that are erased.
+//! How many bytes at the front are erased.
 
 ghost use Rattle.std.specs.Prelude.{◌≡◌, ◌≤◌, length};
 ghost use Rattle.fv_file.specs.FileChecks.{leading_count};

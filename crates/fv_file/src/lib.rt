@@ -19,6 +19,6 @@ pub use cell::Cell;
 pub use cell_list::Cells;
 pub use cell_walk::cells;
 pub use first_file::verify_ffs_file;
-pub use head::FileHead;
+pub use head::{FIXED_CHECKSUM, FileHead};
 pub use new_header::{HeadBytes, file_head_bytes, pad_head_bytes};
 pub use state::{FileState, file_state};

@@ -1,17 +1,17 @@
 //! File and pad headers, written.
 
-ghost use Rattle.std.specs.Prelude.{◌≡◌, ℕ, List, ◌≢◌, ◌<◌, ◌≤◌, false, length, slice_index};
+ghost use Rattle.std.specs.Prelude.{◌≡◌, ℕ, List, ◌≢◌, ◌<◌, ◌≤◌, false, length};
 ghost use Rattle.fv_base.specs.Guids.{bytes_of};
 ghost use Rattle.fv_base.specs.Limits.{data_limit};
 ghost use Rattle.fv_base.specs.Value.{IsBytes};
 ghost use Rattle.fv_file.specs.Attributes.{attribute_bits, is_large, is_fixed};
-ghost use Rattle.fv_file.specs.Files.{pad_kind};
+ghost use Rattle.fv_file.specs.Files.{header_sum_at, pad_kind};
 ghost use Rattle.fv_file.specs.HeadParts.{HasPlace, size_fields, whole_bytes, head_with, head_bytes};
 ghost use Rattle.fv_file.specs.NewHeaders.{IsNewHeader, IsHeadOfFile, IsHeadOfPad, file_fields, pad_fields};
 ghost use Rattle.fv_file.specs.NewHeaders.{file_head_of, pad_head_of, with_large, state_byte};
 
 use crate::attributes::FileAttributes;
-use crate::head::{FileHead, NO_SUM, PAD};
+use crate::head::{FIXED_CHECKSUM, FileHead, PAD};
 use crate::layout::{
     ATTRIBUTES_OFFSET, EXTENDED_SIZE_OFFSET, FILE_SUM_OFFSET, HEADER_LEN, HEADER_SUM_OFFSET,
     LARGE_HEADER_LEN, SIZE_OFFSET, STATE_OFFSET, TYPE_OFFSET,
@@ -26,7 +26,7 @@ use std::marker::Model;
 const SHORT_LIMIT: u64 = 0xff_ffff;
 
 /// The bytes of a header, `EFI_FFS_FILE_HEADER` or `EFI_FFS_FILE_HEADER2`: 24, or 32 of a large one. Contracts see
-/// them as a list.
+/// them as a list. (PI specification, volume 3, section 3.2.3.1.)
 #[derive(Drop)]
 pub struct HeadBytes {
     bytes: [u8; 32],
@@ -175,16 +175,15 @@ fn pad_fields(size: u64) -> FileHead
         size,
         header_len: 24,
         header_sum: 0,
-        file_sum: NO_SUM,
+        file_sum: FIXED_CHECKSUM,
         state: FileState::DataValid,
     }
 }
 
-/// The header of a file whose data are valid, in the short form where header and data are at most
-/// FFFFFF bytes, else in the large form. `attributes` has neither bit 01, which is set with the
-/// large form, nor bit 04; `kind` is no pad's; `data_len` is the bytes of the data, at most
-/// 268,435,424: a volume's less a large header. Takes no memory. (PI specification, volume 3,
-/// section 3.2.3.1.)
+/// The header of a file whose data are valid, in the short form where header and data are at most 0xFFFFFF bytes, else
+/// in the large form. `attributes` has neither bit 0x01, which is set with the large form, nor bit 0x04; `kind` is no
+/// pad's; `data_len` is the bytes of the data, at most 268,435,424: a volume's less a large header. Takes no memory.
+/// (PI specification, volume 3, section 3.2.3.1.)
 pub fn file_head_bytes(
     name: Guid,
     kind: u8,
@@ -200,7 +199,7 @@ pub fn file_head_bytes(
 
     // It is read again as the fields that were handed in.
     ensures read { IsNewHeader polarity
-        (file_fields name kind attributes data_len file_sum (slice_index result 16)) result }
+        (file_fields name kind attributes data_len file_sum (header_sum_at result)) result }
 
     // No other bytes are.
     ensures only { (header_sum : ℕ) (h : List ℕ)
@@ -208,7 +207,7 @@ pub fn file_head_bytes(
 
     // With its data and filler it is a file that stands.
     ensures cell { IsHeadOfFile polarity
-        (file_fields name kind attributes data_len file_sum (slice_index result 16)) result }
+        (file_fields name kind attributes data_len file_sum (header_sum_at result)) result }
 
     // It is these bytes.
     ensures bytes { result ≡ file_head_of name kind attributes data_len file_sum polarity }
@@ -219,21 +218,20 @@ pub fn file_head_bytes(
     )
 }
 
-/// The header of a pad file of so many bytes, the header counted: 24 to FFFFFF. Its name is 16
-/// bytes FF, its type F0, its attributes are 0 and its file sum is AA. Takes no memory. (PI
-/// specification, volume 3, section 3.2.3.1.)
+/// The header of a pad file of so many bytes, the header counted: 24 to 0xFFFFFF. Its name is 16 bytes 0xFF, its type
+/// 0xF0, its attributes are 0 and its file sum is 0xAA. Takes no memory. (PI specification, volume 3, section 3.2.3.1.)
 pub fn pad_head_bytes(size: u64, polarity: Polarity) -> HeadBytes
     requires least { 24 ≤ size }
     requires most { size ≤ 0xffffff }
 
     // It is read again as the header of a pad of this size.
-    ensures read { IsNewHeader polarity (pad_fields size (slice_index result 16)) result }
+    ensures read { IsNewHeader polarity (pad_fields size (header_sum_at result)) result }
 
     // No other bytes are.
     ensures only { (header_sum : ℕ) (h : List ℕ) → IsNewHeader polarity (pad_fields size header_sum) h → h ≡ result }
 
     // With its data and filler it is a pad.
-    ensures cell { IsHeadOfPad polarity (pad_fields size (slice_index result 16)) result }
+    ensures cell { IsHeadOfPad polarity (pad_fields size (header_sum_at result)) result }
 
     // It is these bytes.
     ensures bytes { result ≡ pad_head_of size polarity }

@@ -12,17 +12,17 @@ use fv_base::Polarity;
 pub enum FileState {
     /// Nothing was written: no bit.
     Free,
-    /// A header is being written, by bit 01, `EFI_FILE_HEADER_CONSTRUCTION`.
+    /// A header is being written, by bit 0x01, `EFI_FILE_HEADER_CONSTRUCTION`.
     Construction,
-    /// The header is whole, by bit 02, `EFI_FILE_HEADER_VALID`; the data are not.
+    /// The header is whole, by bit 0x02, `EFI_FILE_HEADER_VALID`; the data are not.
     HeaderValid,
-    /// The file is whole, by bit 04, `EFI_FILE_DATA_VALID`.
+    /// The file is whole, by bit 0x04, `EFI_FILE_DATA_VALID`.
     DataValid,
-    /// The file is whole and is to be replaced, by bit 08, `EFI_FILE_MARKED_FOR_UPDATE`.
+    /// The file is whole and is to be replaced, by bit 0x08, `EFI_FILE_MARKED_FOR_UPDATE`.
     Marked,
-    /// The file was deleted, by bit 10, `EFI_FILE_DELETED`.
+    /// The file was deleted, by bit 0x10, `EFI_FILE_DELETED`.
     Deleted,
-    /// The header was never finished, by bit 20, `EFI_FILE_HEADER_INVALID`.
+    /// The header was never finished, by bit 0x20, `EFI_FILE_HEADER_INVALID`.
     HeaderInvalid,
 }
 
@@ -45,7 +45,7 @@ fn bits_of(byte: u8, polarity: Polarity) -> u8
     }
 }
 
-// The state of the highest bit.
+// The state of the highest bit, if it is one of a state.
 fn state_in(bits: u8) -> Option<FileState>
     ensures { result ≡ state_in bits }
 {
@@ -62,7 +62,7 @@ fn state_in(bits: u8) -> Option<FileState>
 }
 
 /// The state that `State`, the byte at 23 of a file's header, shows: that of the highest bit which was written, or
-/// None where bit 40 or 80 was. Takes no memory. (PI specification, volume 3, section 3.2.3.1.)
+/// None where bit 0x40 or 0x80 was. Takes no memory. (PI specification, volume 3, section 3.2.3.1.)
 pub fn file_state(byte: u8, polarity: Polarity) -> Option<FileState>
     // The byte shows this state.
     ensures found { IfSome result (StateOf byte polarity) }

@@ -9,8 +9,7 @@ use Rattle.fv_base.specs.Guids.{bytes_of}
 use Rattle.fv_base.specs.Limits.{ext_limit}
 use Rattle.fv_base.specs.Value.{le, field, le_at, up_to_8}
 use Rattle.fv_base.specs.declared.guid.Guid.{Guid}
-use Rattle.fv_base.proofs.CheckLemmas.{and_split, and_join}
-use Rattle.fv_base.proofs.FieldLemmas.{field-append_front, field-take}
+use Rattle.fv_base.proofs.Laws.{and_join, and_split, field-append_front, field-take}
 use Rattle.fv_head.specs.Ext.{Extension, kept_payload, BeginNoEntry, SplitsEntries, IsExt}
 use Rattle.fv_head.specs.Head.{HasExt}
 use Rattle.fv_head.specs.HeadChecks.{ext_offset_at, ext_size_at, has_ext}

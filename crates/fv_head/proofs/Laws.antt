@@ -2,19 +2,19 @@
 
 -- of a volume that bytes begin with: its header and extent are the only ones, the checks of the header hold, and the extent is what the
 -- header says; it is a matter of its own bytes
-pub use Rattle.fv_head.proofs.FrontLemmas.{one_front, front_holds, front_extent, front_same}
+pub use Rattle.fv_head.proofs.HeadCheckLemmas.{one_front, front_holds, front_extent, front_same}
 -- its header lies in it, and it is within the limit; its first file may stand at a multiple of 8 in it, and its length is one
-pub use Rattle.fv_head.proofs.FrontLemmas.{Lies, front_lies, first_lies}
+pub use Rattle.fv_head.proofs.HeadCheckLemmas.{Lies, front_lies, first_lies}
 -- without an extended header, and only then, ExtHeaderOffset is 0, and the first file stands behind the header
-pub use Rattle.fv_head.proofs.FrontLemmas.{bare_offset, offset_bare, bare_first}
+pub use Rattle.fv_head.proofs.HeadCheckLemmas.{bare_offset, offset_bare, bare_first}
 -- a fault of a header stands within the bytes or at their end, and is no want of memory
-pub use Rattle.fv_head.proofs.FrontLemmas.{fault_within, fault_known}
+pub use Rattle.fv_head.proofs.HeadCheckLemmas.{fault_within, fault_known}
 -- bytes are one extended header at most; what is spelled of one is read as the same, and how long it is, at most
 pub use Rattle.fv_head.proofs.ExtLemmas.{one_ext}
-pub use Rattle.fv_head.proofs.ExtSpelled.{ext_again, ext_len_most}
+pub use Rattle.fv_head.proofs.ExtImageLemmas.{ext_again, ext_len_most}
 -- the canonical head is one, and the only one; how long it is, and a header at most
-pub use Rattle.fv_head.proofs.SpelledLemmas.{canonical_is, canonical_only, length-canonical, header_len_is, header_len_most}
+pub use Rattle.fv_head.proofs.HeadImageLemmas.{canonical_is, canonical_only, length-canonical, header_len_is, header_len_most}
 -- with its extended header in a pad file behind it, or with anything behind it where there is none, it begins a volume of its fields
-pub use Rattle.fv_head.proofs.SpelledLemmas.{canonical_front, canonical_bare}
+pub use Rattle.fv_head.proofs.HeadImageLemmas.{canonical_front, canonical_bare}
 -- where the first file of the canonical image may stand: at most, and at a multiple of 8
-pub use Rattle.fv_head.proofs.SpelledLemmas.{canonical_first_most, canonical_first_multiple}
+pub use Rattle.fv_head.proofs.HeadImageLemmas.{canonical_first_most, canonical_first_multiple}

@@ -1,7 +1,7 @@
 pub mod BlockLemmas
+pub mod ExtImageLemmas
 pub mod ExtLemmas
-pub mod ExtSpelled
-pub mod FrontLemmas
+pub mod HeadCheckLemmas
+pub mod HeadImageLemmas
+pub mod HeadWalkLemmas
 pub mod Laws
-pub mod SpellLemmas
-pub mod SpelledLemmas

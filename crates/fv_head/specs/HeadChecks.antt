@@ -14,6 +14,7 @@ use Rattle.fv_base.specs.declared.flash.FileSystem.TheVariants.{Ffs2, Ffs3}
 use Rattle.fv_head.specs.Head.{signature_bytes, system_guid}
 use Rattle.fv_head.specs.Pairs.{pairs_of, bytes_in}
 
+-- Signature is _FVH
 abbrev pub has_signature : List ℕ → Bool
 has_signature b = bytes_eq (field 40 4 b) signature_bytes
 
@@ -30,6 +31,7 @@ header_len_at b = le_at 48 2 b
 abbrev pub volume_len_at : List ℕ → ℕ
 volume_len_at b = le_at 32 8 b
 
+-- a header may have n bytes
 abbrev pub is_header_len : ℕ → Bool
 is_header_len n = (n % 8 == 0) && nat_le 64 n && nat_le n header_limit
 
@@ -37,6 +39,7 @@ is_header_len n = (n % 8 == 0) && nat_le 64 n && nat_le n header_limit
 abbrev pub has_sum : ℕ → List ℕ → Bool
 has_sum n b = sum16_of (take n b) == 0
 
+-- both numbers of a pair are zero
 abbrev pub is_zero_pair : ℕ × ℕ → Bool
 is_zero_pair p = (p.0 == 0) && (p.1 == 0)
 
@@ -57,10 +60,11 @@ abbrev pub has_block_map : ℕ → List ℕ → Bool
 has_block_map n b =
     makes_up (blocks_at n b) (volume_len_at b) && is_zero_pair (le_at (n - 8) 4 b, le_at (n - 4) 4 b)
 
+-- a volume with a header of n bytes may have len bytes
 abbrev pub is_volume_len : ℕ → ℕ → Bool
 is_volume_len n len = (len % 8 == 0) && nat_le n len && nat_le len volume_limit
 
--- ExtHeaderOffset and ExtHeaderSize, as they stand in the header
+-- ExtHeaderOffset, and ExtHeaderSize of the extended header that stands there
 abbrev pub ext_offset_at : List ℕ → ℕ
 ext_offset_at b = le_at 52 2 b
 

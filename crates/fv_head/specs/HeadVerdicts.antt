@@ -1,6 +1,7 @@
 -- The answer of the checks of a header, as code finds it.
 -- Serves private clauses alone: there is nothing to believe here.
-use Rattle.std.specs.Prelude.{ℕ, ◌+◌, ◌==◌, if◌then◌else◌, List, length, Option, None, Some, Result, Ok, Err}
+use Rattle.std.specs.Prelude.{◌≡◌, ◌⊎◌, ◌≤◌, ℕ, ◌+◌, ◌==◌, if◌then◌else◌, List, length, Option, None, Some}
+use Rattle.std.specs.Prelude.{Result, Ok, Err}
 use Rattle.fv_base.specs.Verdicts.{first_fault}
 use Rattle.fv_base.specs.Faults.{outer_fault}
 use Rattle.fv_base.specs.Value.{le_at, up_to_8}
@@ -11,6 +12,10 @@ use Rattle.fv_head.specs.declared.extent.Extent.{Extent}
 use Rattle.fv_head.specs.Attributes.{polarity_of}
 use Rattle.fv_head.specs.HeadChecks.{file_system_at, header_len_at, volume_len_at, ext_offset_at, ext_size_at}
 use Rattle.fv_head.specs.HeadChecks.{head_checks}
+
+-- there is no extended header, or its fields lie within the bytes
+abbrev pub ExtHeaderWithin : List ℕ → Type 0
+ExtHeaderWithin b = (ext_offset_at b ≡ 0) ⊎ (ext_offset_at b + 20 ≤ length b)
 
 -- where the first file may stand
 abbrev pub first_at : List ℕ → ℕ

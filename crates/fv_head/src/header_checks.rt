@@ -5,12 +5,11 @@ ghost use Rattle.fv_base.specs.Checks.{IsFirstFault};
 ghost use Rattle.fv_base.specs.Verdicts.{first_fault};
 ghost use Rattle.fv_base.specs.Guids.{bytes_of};
 ghost use Rattle.fv_base.specs.Sums.{sum16_of};
-ghost use Rattle.fv_base.specs.Value.{le_at};
 ghost use Rattle.fv_head.specs.Head.{HeadFields, BeginsVolume, system_guid};
 ghost use Rattle.fv_head.specs.HeadChecks.{has_signature, file_system_at, is_one_volume, header_len_at, is_header_len};
 ghost use Rattle.fv_head.specs.HeadChecks.{is_zero_pair, makes_up, has_block_map, is_volume_len, has_ext, front_checks};
 ghost use Rattle.fv_head.specs.HeadChecks.{whole_checks, head_checks};
-ghost use Rattle.fv_head.specs.HeadVerdicts.{first_at, extent_at, head_verdict};
+ghost use Rattle.fv_head.specs.HeadVerdicts.{ExtHeaderWithin, first_at, extent_at, head_verdict};
 ghost use Rattle.fv_head.specs.Pairs.{pairs_of};
 ghost use Rattle.fv_head.specs.declared.extent.Extent.{Extent};
 
@@ -54,6 +53,7 @@ pub(crate) fn system_guid(file_system: FileSystem) -> Guid
     }
 }
 
+// Whether `Signature` is `_FVH`.
 fn has_signature(bytes: &[u8]) -> bool
     requires { 56 ≤ length bytes.now }
     ensures { result ≡ has_signature bytes.now }
@@ -61,6 +61,7 @@ fn has_signature(bytes: &[u8]) -> bool
     bytes[SIGNATURE_OFFSET..SIGNATURE_OFFSET + 4] == SIGNATURE[..]
 }
 
+// The file system whose GUID stands in `FileSystemGuid`, if it is one of the two.
 fn file_system_at(bytes: &[u8]) -> Option<FileSystem>
     requires { 56 ≤ length bytes.now }
     ensures { result ≡ file_system_at bytes.now }
@@ -87,18 +88,21 @@ pub fn is_one_volume(bytes: &[u8]) -> bool
         && volume_len_at(bytes) == bytes.len() as u64
 }
 
+// Whether `HeaderLength` may be this: a multiple of 8, from 64 to the limit.
 fn is_header_len(len: usize) -> bool
     ensures { result ≡ is_header_len len }
 {
     len % 8 == 0 && HEADER_LEAST <= len && len <= HEADER_LIMIT
 }
 
+// Whether `FvLength` may be this behind a header of so many bytes: a multiple of 8, up to the limit.
 fn is_volume_len(header_len: usize, len: u64) -> bool
     ensures { result ≡ is_volume_len header_len len }
 {
     len % 8 == 0 && header_len as u64 <= len && len <= VOLUME_LIMIT
 }
 
+// Whether the words of a header sum to 0.
 fn has_sum(bytes: &[u8]) -> bool
     requires { length bytes.now % 2 ≡ 0 }
     ensures { result ≡ (sum16_of bytes.now == 0) }
@@ -106,14 +110,15 @@ fn has_sum(bytes: &[u8]) -> bool
     sum16(bytes) == 0
 }
 
+// Whether both numbers of a pair are zero, as of the pair that ends a block map.
 fn is_zero_pair(count: u32, size: u32) -> bool
     ensures { result ≡ is_zero_pair (count, size) }
 {
     count == 0 && size == 0
 }
 
-// Whether blocks, of which none is a pair of zeros, make up so many bytes. What is left of the
-// bytes is counted down, so that no sum can wrap.
+// Whether none of the blocks is a pair of zeros, and they make up so many bytes. What is left of the bytes is counted
+// down, so that no sum can wrap.
 fn makes_up(blocks: &[u8], total: u64) -> bool
     requires { length blocks.now % 8 ≡ 0 }
     ensures { result ≡ makes_up (pairs_of blocks.now) total }
@@ -134,6 +139,7 @@ fn makes_up(blocks: &[u8], total: u64) -> bool
     left == 0
 }
 
+// Whether the first pair of zeros stands at the header's end, and the blocks before it make up `FvLength`.
 fn has_block_map(bytes: &[u8], header_len: usize) -> bool
     requires least { 64 ≤ header_len }
     requires multiple { header_len % 8 ≡ 0 }
@@ -170,7 +176,7 @@ fn has_ext(bytes: &[u8], header_len: usize, volume_len: u64) -> bool
 // Where the first file may stand.
 fn first_at(bytes: &[u8]) -> u64
     requires least { 56 ≤ length bytes.now }
-    requires ext { (le_at 52 2 bytes.now ≡ 0) ⊎ (le_at 52 2 bytes.now + 20 ≤ length bytes.now) }
+    requires ext { ExtHeaderWithin bytes.now }
     ensures { result ≡ first_at bytes.now }
 {
     let offset = ext_offset_at(bytes);
@@ -184,7 +190,7 @@ fn first_at(bytes: &[u8]) -> u64
 // What the header says, which has no fault.
 fn extent_at(bytes: &[u8], file_system: FileSystem) -> Extent
     requires least { 56 ≤ length bytes.now }
-    requires ext { (le_at 52 2 bytes.now ≡ 0) ⊎ (le_at 52 2 bytes.now + 20 ≤ length bytes.now) }
+    requires ext { ExtHeaderWithin bytes.now }
     ensures { result ≡ extent_at file_system bytes.now }
 {
     Extent {
@@ -234,7 +240,7 @@ fn whole_verdict(bytes: &[u8]) -> Result<(), Fault>
     requires long { 56 ≤ length bytes.now }
     requires header_len { is_header_len (header_len_at bytes.now) ≡ true }
     ensures ok { OnOk result (first_fault (whole_checks bytes.now) ≡ None) }
-    ensures ext { OnOk result ((le_at 52 2 bytes.now ≡ 0) ⊎ (le_at 52 2 bytes.now + 20 ≤ length bytes.now)) }
+    ensures ext { OnOk result (ExtHeaderWithin bytes.now) }
     ensures err { IfErr result (λ f. first_fault (whole_checks bytes.now) ≡ Some f) }
 {
     let end = bytes.len() as u64;

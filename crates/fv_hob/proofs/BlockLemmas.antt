@@ -7,11 +7,10 @@ use Rattle.std.proofs.lemmas.List.{take-append-drop, length-take-le}
 use Rattle.fv_base.specs.Checks.{AllHold}
 use Rattle.fv_base.specs.Verdicts.{first_fault}
 use Rattle.fv_base.specs.Value.{IsBytes, le, le_at}
-use Rattle.fv_base.proofs.CheckLemmas.{and_split, and_join, all_hold}
-use Rattle.fv_base.proofs.FieldLemmas.{bytes_take, field-append_front, field-take, same_cut, two_bytes}
+use Rattle.fv_base.proofs.Laws.{all_hold, and_join, and_split, bytes_take, field-append_front, field-take, same_cut, two_bytes}
 use Rattle.fv_hob.specs.HobChecks.{BeginsBlock, hob_checks, is_hob_len}
 use Rattle.fv_hob.specs.Hobs.{HobForm, IsHob, hob_type, has_shape, hob_in, hob_len}
-use Rattle.fv_hob.proofs.RowLemmas.{code_by, len_by}
+use Rattle.fv_hob.proofs.BlockKindLemmas.{code_by, len_by}
 
 pub code_is : (h : HobForm) (b : List ℕ) → IsHob h b → hob_type h.kind ≡ le_at 0 2 b
 code_is h b is = ap (λ (g : HobForm). hob_type g.kind) is.said ∙ code_by b (le_at 0 2 b)

@@ -1,7 +1,7 @@
+pub mod BlockKindLemmas
 pub mod BlockLemmas
+pub mod HobImageLemmas
 pub mod Laws
 pub mod ListLemmas
 pub mod ReadLemmas
-pub mod RowLemmas
-pub mod SpelledLemmas
 pub mod WriteLemmas

@@ -4,10 +4,10 @@ use Rattle.std.proofs.Common.{length-append, length-drop, append_assoc}
 use Rattle.std.specs.Prelude.{◌==◌, ◌≢◌, Bool}
 use Rattle.std.specs.List.{AllByRecursion}
 use Rattle.std.proofs.lemmas.Bool.{eqb-true}
-use Rattle.std.proofs.lemmas.List.{take-append-drop, take_at, take_rest, length-take-le}
+use Rattle.std.proofs.lemmas.List.{take-append-drop, take_at, take_rest}
 use Rattle.std.proofs.Math.Seq.{take-add}
 use Rattle.fv_base.specs.Checks.{IsFirstFault}
-use Rattle.fv_base.proofs.CheckLemmas.{none_faulty, not_first, first_among}
+use Rattle.fv_base.proofs.Laws.{first_among, none_faulty, not_first}
 use Rattle.fv_hob.specs.HobChecks.{BeginsBlock, IsFirstHobFault, BeginsTable, hob_checks}
 use Rattle.fv_hob.specs.Hobs.{HobForm, IsHob, hob_type}
 use Rattle.fv_hob.specs.Lists.{BeginWithTable, IsEndHob, IsHobList, IsNoEndHob, JoinsHobs}
@@ -23,10 +23,6 @@ pub record HobsKept (b : List ℕ) (items : List HobForm) (at : ℕ) : Type 0 wh
   pub begins : BeginWithTable items
   pub others : AllByRecursion IsNoEndHob items
   pub inside : at ≤ length b
-
-pub kept_none : (b : List ℕ) (items : List HobForm) → items ≡ [] → HobsKept b items 0
-kept_none b items e =
-    subst (λ (l : List HobForm). HobsKept b l 0) (sym e) (record { joined = refl; begins = tt; others = tt; inside = omega arith })
 
 begins_more : (items : List HobForm) (h : HobForm) → BeginWithTable items → ((length items == 0) ≡ true → hob_type h.kind ≡ 0x0001)
     → BeginWithTable (items ++ h ∷ [])
@@ -88,21 +84,6 @@ ended b items new h c at first first_is k stands is end new_is =
         last_is = end;
       }),
     )
-
-pub first_here : (b : List ℕ) (items : List HobForm) (at : ℕ) (kind : HobFaultKind) (offset : ℕ) → HobsKept b items at
-    → IsFirstFault (hob_checks (length items == 0) (take (length b - at) (drop at b))) kind → offset ≡ at
-    → IsFirstHobFault b (record { kind = kind; offset = offset })
-first_here b items at kind offset k first place = record {
-  before = items;
-  c = take at b;
-  r = drop at b;
-  joined = sym (take-append-drop at b);
-  read = k.joined;
-  begins = k.begins;
-  others = k.others;
-  place = place ∙ sym (length-take-le at b k.inside);
-  kind_is = subst (λ (l : List ℕ). IsFirstFault (hob_checks (length items == 0) l) kind) (take_rest b at) first;
-}
 
 -- where a block was read, or is there to be read, the bytes begin with a table
 pub table_stands : (b : List ℕ) (items : List HobForm) (c : List ℕ) (at : ℕ) (first : Bool) → first ≡ (length items == 0)

@@ -2,8 +2,7 @@
 use Rattle.std.specs.Prelude.{◌≡◌, ℕ, ◌%◌, ◌==◌, nat_le, ◌&&◌, ◌||◌, not, Bool, true, List, [], ◌∷◌, ◌++◌, length}
 use Rattle.std.specs.List.{AllByRecursion}
 use Rattle.fv_base.specs.Checks.{Check, IsFirstFault}
-use Rattle.fv_base.specs.Value.{le_at}
-use Rattle.fv_hob.specs.Hobs.{HobForm, IsBlock, has_shape}
+use Rattle.fv_hob.specs.Hobs.{HobForm, IsBlock, has_shape, hob_len_at, hob_type_at}
 use Rattle.fv_hob.specs.Lists.{BeginWithTable, IsNoEndHob, JoinsHobs}
 use Rattle.fv_hob.specs.declared.fault.HobFault.{HobFault}
 use Rattle.fv_hob.specs.declared.fault.HobFaultKind.{HobFaultKind}
@@ -13,18 +12,19 @@ use Rattle.fv_hob.specs.declared.fault.HobFaultKind.TheVariants as kinds
 abbrev pub is_hob_len : ℕ → Bool
 is_hob_len n = nat_le 8 n && (n % 8 == 0)
 
+-- a check of a block, by the kind of its fault
 abbrev pub hob_check : Bool → HobFaultKind → Check HobFaultKind
 hob_check holds kind = record { holds = holds; fault = kind }
 
--- of the block that begins r, the first of the list or a later one
+-- the checks of the block that begins r, the first of the list or a later one, in their order
 abbrev pub hob_checks : Bool → List ℕ → List (Check HobFaultKind)
 hob_checks first r =
     hob_check (nat_le 1 (length r)) kinds.NoEnd
     ∷ hob_check (nat_le 8 (length r)) kinds.Short
-    ∷ hob_check (is_hob_len (le_at 2 2 r)) kinds.Length
-    ∷ hob_check (nat_le (le_at 2 2 r) (length r)) kinds.Short
-    ∷ hob_check (not first || (le_at 0 2 r == 0x0001)) kinds.First
-    ∷ hob_check (has_shape (le_at 0 2 r) (le_at 2 2 r)) kinds.Shape
+    ∷ hob_check (is_hob_len (hob_len_at r)) kinds.Length
+    ∷ hob_check (nat_le (hob_len_at r) (length r)) kinds.Short
+    ∷ hob_check (not first || (hob_type_at r == 0x0001)) kinds.First
+    ∷ hob_check (has_shape (hob_type_at r) (hob_len_at r)) kinds.Shape
     ∷ []
 
 -- r begins with the block c, which may stand there
@@ -32,7 +32,7 @@ pub record BeginsBlock (first : Bool) (c r : List ℕ) : Type 0 where
   pub behind : List ℕ
   pub joined : r ≡ c ++ behind
   pub block : IsBlock c
-  pub begins : first ≡ true → le_at 0 2 c ≡ 0x0001
+  pub begins : first ≡ true → hob_type_at c ≡ 0x0001
 
 -- r begins with a hand-off information table (PHIT)
 abbrev pub BeginsTable : List ℕ → Type 0
@@ -51,9 +51,11 @@ pub record IsFirstHobFault (b : List ℕ) (fault : HobFault) : Type 0 where
   pub place : fault.offset ≡ length c
   pub kind_is : IsFirstFault (hob_checks (length before == 0) r) fault.kind
 
+-- the fault of every call whose memory was refused
 abbrev pub hob_want_of_memory : HobFault
 hob_want_of_memory = record { kind = kinds.OutOfMemory; offset = 0 }
 
+-- the number by which a kind of fault is known
 abbrev pub hob_fault_number : HobFaultKind → ℕ
 hob_fault_number kinds.Short = 1
 hob_fault_number kinds.Length = 2

@@ -10,13 +10,14 @@ use Rattle.fv_hob.specs.declared.hob.Resource.{Resource}
 use Rattle.fv_hob.specs.declared.hob.HobKind.{HobKind}
 use Rattle.fv_hob.specs.declared.hob.HobKind.TheVariants as kinds
 
--- a block: its reserved word, and what its row says of the rest
+-- a block: its reserved word, and what it says by its type
 pub record HobForm : Type 0 where
   pub reserved : ℕ
   pub kind : HobKind
 
--- the type of a block: EFI_HOB_TYPE_HANDOFF (1), _MEMORY_ALLOCATION (2), _RESOURCE_DESCRIPTOR (3), _GUID_EXTENSION (4),
--- _FV (5), _CPU (6), _MEMORY_POOL (7), _FV2 (9), _UEFI_CAPSULE (B), _UNUSED (FFFE), _END_OF_HOB_LIST (FFFF)
+-- the type of a block: EFI_HOB_TYPE_HANDOFF (0x0001), _MEMORY_ALLOCATION (0x0002), _RESOURCE_DESCRIPTOR (0x0003),
+-- _GUID_EXTENSION (0x0004), _FV (0x0005), _CPU (0x0006), _MEMORY_POOL (0x0007), _FV2 (0x0009), _UEFI_CAPSULE (0x000B),
+-- _UNUSED (0xFFFE), _END_OF_HOB_LIST (0xFFFF)
 abbrev pub hob_type : HobKind → ℕ
 hob_type (kinds.Handoff said) = 0x0001
 hob_type (kinds.MemoryAllocation said) = 0x0002
@@ -64,7 +65,7 @@ has_shape code n =
 abbrev pub guid_in : ℕ → List ℕ → Guid
 guid_in at b = guid_of (field at 16 b)
 
--- the fields of a block at their offsets, of these types and of all
+-- the fields of a hand-off information table (PHIT) at their offsets in its block
 abbrev pub handoff_in : List ℕ → Handoff
 handoff_in b = record {
   version = le_at 8 4 b;
@@ -76,6 +77,7 @@ handoff_in b = record {
   end_of_list = le_at 48 8 b;
 }
 
+-- those of an allocation of memory
 abbrev pub allocation_in : List ℕ → MemoryAllocation
 allocation_in b = record {
   name = guid_in 8 b;
@@ -86,6 +88,7 @@ allocation_in b = record {
   rest = drop 48 b;
 }
 
+-- those of a resource
 abbrev pub resource_in : List ℕ → Resource
 resource_in b = record {
   owner = guid_in 8 b;
@@ -95,6 +98,7 @@ resource_in b = record {
   length = le_at 40 8 b;
 }
 
+-- what a block of this type says: its fields at their offsets
 abbrev pub kind_by : ℕ → List ℕ → HobKind
 kind_by code b =
     if code == 0x0001 then kinds.Handoff (handoff_in b)
@@ -109,17 +113,25 @@ kind_by code b =
     else (if code == 0xfffe then kinds.Unused (length b - 8)
     else (if code == 0xffff then kinds.End else kinds.Other code (drop 8 b)))))))))))
 
--- the type stands at 0, the length at 2, the reserved word at 4
+-- HobType, the type of the block that begins b
+abbrev pub hob_type_at : List ℕ → ℕ
+hob_type_at b = le_at 0 2 b
+
+-- HobLength, the length of that block in bytes
+abbrev pub hob_len_at : List ℕ → ℕ
+hob_len_at b = le_at 2 2 b
+
+-- what the block b says, with its reserved word, which stands at 4
 abbrev pub hob_in : List ℕ → HobForm
-hob_in b = record { reserved = le_at 4 4 b; kind = kind_by (le_at 0 2 b) b }
+hob_in b = record { reserved = le_at 4 4 b; kind = kind_by (hob_type_at b) b }
 
 -- b is one block: its length is a multiple of 8, at least 8, and one that its type may have
 pub record IsBlock (b : List ℕ) : Type 0 where
   pub bytes : IsBytes b
-  pub sized : le_at 2 2 b ≡ length b
+  pub sized : hob_len_at b ≡ length b
   pub whole : length b % 8 ≡ 0
   pub least : 8 ≤ length b
-  pub shaped : has_shape (le_at 0 2 b) (length b) ≡ true
+  pub shaped : has_shape (hob_type_at b) (length b) ≡ true
 
 -- b is this block
 pub record IsHob (h : HobForm) (b : List ℕ) : Type 0 where

@@ -11,6 +11,7 @@ abbrev pub JoinsHobs : List HobForm → List ℕ → Type 0
 JoinsHobs [] b = b ≡ []
 JoinsHobs (h ∷ hs) b = (c : List ℕ) × (rest : List ℕ) × (b ≡ c ++ rest) × IsHob h c × JoinsHobs hs rest
 
+-- an end block (EFI_HOB_TYPE_END_OF_HOB_LIST), and any other
 abbrev pub IsEndHob : HobForm → Type 0
 IsEndHob h = hob_type h.kind ≡ 0xffff
 
@@ -32,6 +33,7 @@ pub record IsHobList (all : List HobForm) (b : List ℕ) : Type 0 where
   pub others : AllByRecursion IsNoEndHob front
   pub last_is : IsEndHob last
 
+-- a block that is not unused (EFI_HOB_TYPE_UNUSED)
 abbrev pub IsUsedHob : HobForm → Type 0
 IsUsedHob h = hob_type h.kind ≢ 0xfffe
 
@@ -45,11 +47,12 @@ span_of (kinds.FirmwareVolume base len) = Some (record { base = base; length = l
 span_of (kinds.FirmwareVolume2 base len volume file) = Some (record { base = base; length = len })
 span_of _ = None
 
+-- a span, if there is one, before others
 abbrev pub with_span : Option Span → List Span → List Span
 with_span None ss = ss
 with_span (Some s) ss = s ∷ ss
 
--- those of all blocks, in their order
+-- the base and the length of each volume that the blocks name, in their order
 abbrev pub spans_of : List HobForm → List Span
 spans_of [] = []
 spans_of (h ∷ hs) = with_span (span_of h.kind) (spans_of hs)

@@ -1,8 +1,8 @@
 //! One block, read by its type. (PI specification, volume 3, section 5.)
 
 ghost use Rattle.std.specs.Prelude.{◌≡◌, ◌≤◌, length, IfOk};
-ghost use Rattle.fv_base.specs.Value.{le_at};
-ghost use Rattle.fv_hob.specs.Hobs.{IsBlock, IsHob, allocation_in, handoff_in, has_shape, kind_by, resource_in};
+ghost use Rattle.fv_hob.specs.Hobs.{IsBlock, IsHob, allocation_in, handoff_in, has_shape, hob_type_at, kind_by};
+ghost use Rattle.fv_hob.specs.Hobs.{resource_in};
 
 use crate::hob::{Handoff, Hob, HobKind, MemoryAllocation, Resource};
 use crate::hob_type;
@@ -105,7 +105,7 @@ fn volume2_in(block: &[u8]) -> HobKind
 // What a block says behind its header.
 fn kind_in(alloc: Global, block: &[u8]) -> Result<HobKind, AllocError>
     requires { IsBlock block.now }
-    ensures { IfOk result (λ kind. kind ≡ kind_by (le_at 0 2 block.now) block.now) }
+    ensures { IfOk result (λ kind. kind ≡ kind_by (hob_type_at block.now) block.now) }
 {
     let code = u16_at(block, header::HOB_TYPE);
     Ok(match code {

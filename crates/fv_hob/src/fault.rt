@@ -6,25 +6,27 @@ ghost use Rattle.fv_hob.specs.HobChecks.{hob_fault_number, hob_want_of_memory};
 use std::alloc::{AllocError, AllocFailed};
 use thiserror::Error;
 
-/// Why a hand-off list was refused. (PI specification, volume 3, section 5.)
+/// Why a hand-off list was refused, and where the fault lies: an offset in bytes from the first byte
+/// of the list. (PI specification, volume 3, section 5.)
 #[derive(Clone, Copy, Debug, PartialEq, Eq, Error)]
 pub enum HobFaultKind {
-    /// Fewer than the 8 bytes of a header are left, or fewer than HobLength says.
+    /// Fewer than the 8 bytes of a header are left, or fewer than HobLength says. At the block's
+    /// header.
     #[error("a block is cut")]
     Short,
-    /// HobLength is no multiple of 8, or below 8.
+    /// HobLength is no multiple of 8, or below 8. At the block's header.
     #[error("the length of a block is no multiple of 8 from 8 on")]
     Length,
-    /// The first block is no hand-off information table (PHIT).
+    /// The first block is no hand-off information table (PHIT). At 0.
     #[error("the first block is no hand-off information table")]
     First,
-    /// HobLength is none that the block's HobType may have.
+    /// HobLength is none that the block's HobType may have. At the block's header.
     #[error("the length of a block is not that of its type")]
     Shape,
-    /// The bytes end before an end block (EFI_HOB_TYPE_END_OF_HOB_LIST).
+    /// The bytes end before an end block (EFI_HOB_TYPE_END_OF_HOB_LIST). At their end.
     #[error("the list has no end block")]
     NoEnd,
-    /// The allocator refused. The offset is 0.
+    /// A growth of memory was refused. At 0.
     #[error("out of memory")]
     OutOfMemory,
 }
@@ -51,7 +53,8 @@ impl HobFaultKind {
 pub struct HobFault {
     /// Why.
     pub kind: HobFaultKind,
-    /// The offset of the block's header, in bytes from the first byte of the list.
+    /// Where, in bytes from the first byte of the list: at the block's header, or where one is
+    /// missing, or 0 for OutOfMemory.
     pub offset: u64,
 }
 

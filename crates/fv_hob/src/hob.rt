@@ -65,27 +65,27 @@ pub struct Resource {
 /// header of 8 among them. (PI specification, volume 3, section 5.)
 #[derive(Drop)]
 pub enum HobKind {
-    /// EFI_HOB_TYPE_HANDOFF, 0001: the hand-off information table (PHIT), 56 bytes.
+    /// EFI_HOB_TYPE_HANDOFF, 0x0001: the hand-off information table (PHIT), 56 bytes.
     Handoff(Handoff),
-    /// EFI_HOB_TYPE_MEMORY_ALLOCATION, 0002: an allocation of memory, at least 48 bytes.
+    /// EFI_HOB_TYPE_MEMORY_ALLOCATION, 0x0002: an allocation of memory, at least 48 bytes.
     MemoryAllocation(MemoryAllocation),
-    /// EFI_HOB_TYPE_RESOURCE_DESCRIPTOR, 0003: a resource, 48 bytes.
+    /// EFI_HOB_TYPE_RESOURCE_DESCRIPTOR, 0x0003: a resource, 48 bytes.
     Resource(Resource),
-    /// EFI_HOB_TYPE_GUID_EXTENSION, 0004: data of a name, at least 24 bytes.
+    /// EFI_HOB_TYPE_GUID_EXTENSION, 0x0004: data of a name, at least 24 bytes.
     GuidExtension {
         /// Name.
         name: Guid,
         /// The data: the bytes of the block from 24 on, kept as they stand.
         payload: ByteList,
     },
-    /// EFI_HOB_TYPE_FV, 0005: a firmware volume, 24 bytes.
+    /// EFI_HOB_TYPE_FV, 0x0005: a firmware volume, 24 bytes.
     FirmwareVolume {
         /// BaseAddress.
         base: u64,
         /// Length.
         length: u64,
     },
-    /// EFI_HOB_TYPE_CPU, 0006: the processor, 16 bytes.
+    /// EFI_HOB_TYPE_CPU, 0x0006: the processor, 16 bytes.
     Cpu {
         /// SizeOfMemorySpace: the bits of a memory address.
         memory_bits: u8,
@@ -94,9 +94,9 @@ pub enum HobKind {
         /// Reserved, kept as they stand.
         reserved: [u8; 6],
     },
-    /// EFI_HOB_TYPE_MEMORY_POOL, 0007: a pool of memory, 8 bytes.
+    /// EFI_HOB_TYPE_MEMORY_POOL, 0x0007: a pool of memory, 8 bytes.
     MemoryPool,
-    /// EFI_HOB_TYPE_FV2, 0009: a firmware volume that stood in a file of another, 56 bytes.
+    /// EFI_HOB_TYPE_FV2, 0x0009: a firmware volume that stood in a file of another, 56 bytes.
     FirmwareVolume2 {
         /// BaseAddress.
         base: u64,
@@ -107,22 +107,22 @@ pub enum HobKind {
         /// FileName: the file in it.
         file_name: Guid,
     },
-    /// EFI_HOB_TYPE_UEFI_CAPSULE, 000B: a capsule, 24 bytes.
+    /// EFI_HOB_TYPE_UEFI_CAPSULE, 0x000B: a capsule, 24 bytes.
     Capsule {
         /// BaseAddress.
         base: u64,
         /// Length.
         length: u64,
     },
-    /// EFI_HOB_TYPE_UNUSED, FFFE: a block that is not used, at least 8 bytes; its body is not read,
-    /// and is written as zeros.
+    /// EFI_HOB_TYPE_UNUSED, 0xFFFE: a block that is not used, at least 8 bytes; its body is not
+    /// read, and is written as zeros.
     Unused {
         /// How many bytes follow its header.
         body_len: u16,
     },
-    /// EFI_HOB_TYPE_END_OF_HOB_LIST, FFFF: the end of the list, 8 bytes.
+    /// EFI_HOB_TYPE_END_OF_HOB_LIST, 0xFFFF: the end of the list, 8 bytes.
     End,
-    /// Any other type, EFI_HOB_TYPE_FV3 (000C) among them, at least 8 bytes.
+    /// Any other type, EFI_HOB_TYPE_FV3 (0x000C) among them, at least 8 bytes.
     Other {
         /// HobType.
         code: u16,
@@ -192,7 +192,7 @@ impl Hob {
         &self.kind
     }
 
-    /// HobType of the header, 0001 (EFI_HOB_TYPE_HANDOFF) to FFFF (EFI_HOB_TYPE_END_OF_HOB_LIST).
+    /// HobType of the header, 0x0001 (EFI_HOB_TYPE_HANDOFF) to 0xFFFF (EFI_HOB_TYPE_END_OF_HOB_LIST).
     pub fn code(&self) -> u16
         ensures { result ≡ hob_type self.now.kind }
     {

@@ -5,8 +5,7 @@ ghost use Rattle.fv_base.specs.Verdicts.{first_fault};
 ghost use Rattle.fv_base.specs.Checks.{IsFirstFault};
 ghost use Rattle.fv_hob.specs.HobChecks.{BeginsBlock, IsFirstHobFault, BeginsTable, hob_checks, is_hob_len};
 ghost use Rattle.fv_hob.specs.HobChecks.{hob_want_of_memory};
-ghost use Rattle.fv_base.specs.Value.{le_at};
-ghost use Rattle.fv_hob.specs.Hobs.{HobForm};
+ghost use Rattle.fv_hob.specs.Hobs.{HobForm, hob_len_at};
 ghost use Rattle.fv_hob.specs.Lists.{IsHobList};
 
 use crate::block_kinds::{has_shape, hob_in};
@@ -18,6 +17,7 @@ use crate::layout::header;
 use fv_base::field::u16_at;
 use std::alloc::Global;
 
+// Whether a block may have this length: one that counts the header, and is a multiple of 8.
 fn is_hob_len(len: usize) -> bool
     ensures { result ≡ is_hob_len len }
 {
@@ -26,7 +26,7 @@ fn is_hob_len(len: usize) -> bool
 
 // The length of the block at the front, or the kind of the first check that does not hold.
 fn check_block(rest: &[u8], first: bool) -> Result<usize, HobFaultKind>
-    ensures ok { IfOk result (λ len. (first_fault (hob_checks first rest.now) ≡ None) × (len ≡ le_at 2 2 rest.now)) }
+    ensures ok { IfOk result (λ len. (first_fault (hob_checks first rest.now) ≡ None) × (len ≡ hob_len_at rest.now)) }
     ensures err { IfErr result (λ kind. first_fault (hob_checks first rest.now) ≡ Some kind) }
 {
     if rest.is_empty() {

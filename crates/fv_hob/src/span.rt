@@ -44,9 +44,9 @@ impl Spans {
 }
 
 impl Hob {
-    /// Where the volume lies that the block names: that of EFI_HOB_TYPE_FV (0005) and
-    /// EFI_HOB_TYPE_FV2 (0009), and None for every other type. (PI specification, volume 3, section
-    /// 5.7.)
+    /// Where the volume lies that the block names: that of EFI_HOB_TYPE_FV (0x0005) and
+    /// EFI_HOB_TYPE_FV2 (0x0009), and None for every other type. (PI specification, volume 3,
+    /// section 5.7.)
     pub fn span(&self) -> Option<Span>
         ensures { result ≡ span_of self.now.kind }
     {

@@ -17,7 +17,7 @@ use fv_base::{ByteList, Guid};
 use std::alloc::{AllocError, Global};
 use std::iter::repeat_n;
 
-// The bytes with those of a number behind them.
+// The bytes with those of a number of 16 bits behind them, little-endian.
 fn push_u16(bytes: &mut Vec<u8>, number: u16) -> Result<(), AllocError>
     ensures { OnOk result (bytes.new.items ≡ bytes.old.items ++ le_bytes 2 number) }
 {
@@ -26,6 +26,7 @@ fn push_u16(bytes: &mut Vec<u8>, number: u16) -> Result<(), AllocError>
     bytes.extend_from_slice(&spelled)
 }
 
+// The same of a number of 32 bits.
 fn push_u32(bytes: &mut Vec<u8>, number: u32) -> Result<(), AllocError>
     ensures { OnOk result (bytes.new.items ≡ bytes.old.items ++ le_bytes 4 number) }
 {
@@ -34,6 +35,7 @@ fn push_u32(bytes: &mut Vec<u8>, number: u32) -> Result<(), AllocError>
     bytes.extend_from_slice(&spelled)
 }
 
+// The same of a number of 64 bits.
 fn push_u64(bytes: &mut Vec<u8>, number: u64) -> Result<(), AllocError>
     ensures { OnOk result (bytes.new.items ≡ bytes.old.items ++ le_bytes 8 number) }
 {
@@ -42,12 +44,14 @@ fn push_u64(bytes: &mut Vec<u8>, number: u64) -> Result<(), AllocError>
     bytes.extend_from_slice(&spelled)
 }
 
+// The bytes with others behind them.
 fn push_bytes(bytes: &mut Vec<u8>, more: &[u8]) -> Result<(), AllocError>
     ensures { OnOk result (bytes.new.items ≡ bytes.old.items ++ more.now) }
 {
     bytes.extend_from_slice(more)
 }
 
+// The bytes with those of a GUID behind them.
 fn push_guid(bytes: &mut Vec<u8>, guid: &Guid) -> Result<(), AllocError>
     ensures { OnOk result (bytes.new.items ≡ bytes.old.items ++ bytes_of guid.now) }
 {
@@ -61,6 +65,7 @@ fn push_zeros(bytes: &mut Vec<u8>, count: u16) -> Result<(), AllocError>
     bytes.extend(repeat_n(0, usize::from(count)))
 }
 
+// The bytes with the body of a hand-off information table behind them.
 fn push_handoff(bytes: &mut Vec<u8>, said: &Handoff) -> Result<(), AllocError>
     ensures { OnOk result (bytes.new.items ≡ bytes.old.items ++ concat (hob_fields (kinds.Handoff said.now))) }
 {
@@ -73,6 +78,7 @@ fn push_handoff(bytes: &mut Vec<u8>, said: &Handoff) -> Result<(), AllocError>
     push_u64(bytes, said.end_of_list)
 }
 
+// The bytes with the body of an allocation of memory behind them.
 fn push_allocation(bytes: &mut Vec<u8>, said: &MemoryAllocation) -> Result<(), AllocError>
     ensures { OnOk result (bytes.new.items ≡ bytes.old.items ++ concat (hob_fields (kinds.MemoryAllocation said.now))) }
 {
@@ -84,6 +90,7 @@ fn push_allocation(bytes: &mut Vec<u8>, said: &MemoryAllocation) -> Result<(), A
     push_bytes(bytes, said.rest.as_slice())
 }
 
+// The bytes with the body of a resource behind them.
 fn push_resource(bytes: &mut Vec<u8>, said: &Resource) -> Result<(), AllocError>
     ensures { OnOk result (bytes.new.items ≡ bytes.old.items ++ concat (hob_fields (kinds.Resource said.now))) }
 {
@@ -94,6 +101,7 @@ fn push_resource(bytes: &mut Vec<u8>, said: &Resource) -> Result<(), AllocError>
     push_u64(bytes, said.length)
 }
 
+// The bytes with a base and a length behind them.
 fn push_span(bytes: &mut Vec<u8>, base: u64, length: u64) -> Result<(), AllocError>
     ensures { OnOk result
         (bytes.new.items ≡ bytes.old.items ++ concat (hob_fields (kinds.FirmwareVolume base length))) }
@@ -102,6 +110,7 @@ fn push_span(bytes: &mut Vec<u8>, base: u64, length: u64) -> Result<(), AllocErr
     push_u64(bytes, length)
 }
 
+// The bytes with the names of a volume and of a file in it behind them.
 fn push_names(bytes: &mut Vec<u8>, volume: &Guid, file: &Guid) -> Result<(), AllocError>
     ensures { OnOk result (bytes.new.items ≡ bytes.old.items ++ concat (bytes_of volume.now ∷ bytes_of file.now ∷ [])) }
 {

@@ -9,10 +9,8 @@ use Rattle.fv_base.specs.Checks.{AllHold, IsFirstFault}
 use Rattle.fv_base.specs.Verdicts.{first_fault}
 use Rattle.fv_base.specs.Value.{le, le_at}
 use Rattle.fv_base.specs.declared.fault.Fault.{Fault}
-use Rattle.fv_base.proofs.CheckLemmas.{and_split, and_join, all_hold, none_faulty, first_is, not_first, verdict_ok, verdict_err}
-use Rattle.fv_base.proofs.CheckLemmas.{verdict_none}
-use Rattle.fv_base.proofs.FieldLemmas.{field-take, field-append_front}
-use Rattle.fv_base.proofs.TestLemmas.{not_equal}
+use Rattle.fv_base.proofs.Laws.{all_hold, and_join, and_split, field-append_front, field-take, first_is, none_faulty, not_equal}
+use Rattle.fv_base.proofs.Laws.{not_first, verdict_err, verdict_none, verdict_ok}
 use Rattle.fv_section.specs.FrameChecks.{has_extended_size, section_header_len_at, section_size_in, section_size_at, frame_checks}
 use Rattle.fv_section.specs.FrameVerdicts.{frame_in, frame_verdict}
 use Rattle.fv_section.specs.Frames.{FrameForm, BeginsFrame, SaysSize, FrameStandsAt, section_header_len, frame_len}

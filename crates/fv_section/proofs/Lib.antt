@@ -1,8 +1,8 @@
 pub mod FrameLemmas
+pub mod FrameWalkLemmas
 pub mod Laws
 pub mod PlaceLaws
-pub mod SplitLemmas
+pub mod SectionImageLemmas
 pub mod StreamLaws
 pub mod StreamLemmas
 pub mod TextLemmas
-pub mod WrittenLemmas

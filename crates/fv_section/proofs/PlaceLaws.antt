@@ -3,7 +3,7 @@ use Rattle.std.proofs.Common.{◌≡◌, ◌≤◌, ◌<◌, ◌+◌, ◌-◌, �
 use Rattle.std.proofs.Common.{subst, arith, length-append, length-drop, append_assoc, drop-drop}
 use Rattle.std.specs.List.{AllByRecursion}
 use Rattle.std.proofs.lemmas.List.{take_at, drop_at}
-use Rattle.fv_base.proofs.ListLaws.{at_index}
+use Rattle.fv_base.proofs.Laws.{at_index}
 use Rattle.fv_section.specs.Frames.{FrameForm, BeginsFrame, SplitsFrom, Splits, FrameStandsAt, FramesWithin, section_header_len, frame_len}
 use Rattle.fv_section.specs.Frames.{up_to_4}
 use Rattle.fv_section.proofs.FrameLemmas.{length_begun, size_least}

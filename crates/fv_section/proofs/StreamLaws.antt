@@ -3,8 +3,7 @@ use Rattle.std.proofs.Common.{◌≡◌, ◌≢◌, ◌≤◌, ◌<◌, ◌+◌,
 use Rattle.std.proofs.Common.{arith, length-append, length-drop}
 use Rattle.std.proofs.lemmas.List.{length-take-le}
 use Rattle.fv_base.specs.Value.{IsBytes, field, le_at}
-use Rattle.fv_base.proofs.FieldLemmas.{bytes_take, bytes_drop}
-use Rattle.fv_base.proofs.NumberLaws.{le_below, bytes_front, bytes_back}
+use Rattle.fv_base.proofs.Laws.{bytes_back, bytes_drop, bytes_front, bytes_take, le_below}
 use Rattle.fv_section.specs.Frames.{FrameForm, BeginsFrame, SplitsFrom, IsSectionHeader, SaysSize, section_header_len, frame_len, up_to_4}
 use Rattle.fv_section.specs.SectionImage.{FitsForm, InPlace}
 use Rattle.fv_section.proofs.FrameLemmas.{length_begun}

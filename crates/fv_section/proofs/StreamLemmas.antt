@@ -1,7 +1,7 @@
 -- Bytes are a stream in one way at most, and one more frame behind a stream makes a stream.
 use Rattle.std.proofs.Common.{◌≡◌, ℕ, ◌+◌, ◌<◌, ◌≤◌, List, [], ◌∷◌, ◌++◌, length, refl, sym, ap, ◌∙◌, subst, arith, length-append}
 use Rattle.std.proofs.Common.{append_assoc}
-use Rattle.fv_base.proofs.FieldLemmas.{same_cut}
+use Rattle.fv_base.proofs.Laws.{same_cut}
 use Rattle.fv_section.specs.Frames.{FrameForm, BeginsFrame, SplitsFrom, frame_len, up_to_4}
 use Rattle.fv_section.proofs.FrameLemmas.{length_begun, size_least, one_frame, begins_more}
 
@@ -10,11 +10,7 @@ pub from_least : (at : ℕ) (f : FrameForm) (fs : List FrameForm) (t : ℕ) (b :
 from_least at f [] t b (rest, begun, o, l, fit) = omega (arith, length_begun f b rest begun, size_least f)
 from_least at f (g ∷ fs) t b (filler, rest, begun, o, fill, more) = omega (arith, length_begun f b (filler ++ rest) begun, size_least f)
 
--- a whole multiple of 4 ends where filler does
-filler_is : (e t : ℕ) → e + t ≤ up_to_4 e → e + t ≡ up_to_4 (e + t) → e + t ≡ up_to_4 e
-filler_is e t l m = omega arith
-
--- frames up_to_4 to a multiple of 4 are the first frames of any stream that goes on from there
+-- frames up to a multiple of 4 are the first frames of any stream that goes on from there
 pub cut : (at : ℕ) (fs gs : List FrameForm) (t u : ℕ) (x y : List ℕ) → SplitsFrom at fs t x → at + length x ≡ up_to_4 (at + length x)
     → SplitsFrom at gs u (x ++ y) → 0 < length y → (more : List FrameForm) × (gs ≡ fs ++ more) × SplitsFrom (at + length x) more u y
 cut at [] gs t u x y (e, z) m hg ly =
@@ -64,7 +60,7 @@ cut at (f ∷ f' ∷ fs) (g ∷ g' ∷ gs) t u x y (filler, rest, begun, o, fill
     let r = cut (up_to_4 (at + frame_len f)) (f' ∷ fs) (g' ∷ gs) t u rest y more m' h' ly in
     (r.0, ap (λ l. g ∷ l) r.1 ∙ ap (λ h. h ∷ f' ∷ (fs ++ r.0)) (sym same.0), subst (λ k. SplitsFrom k r.0 u y) place r.2)
 
--- one way to cut a list
+-- one way to split bytes
 pub one_split : (at : ℕ) (fs gs : List FrameForm) (t u : ℕ) (b : List ℕ) → SplitsFrom at fs t b → SplitsFrom at gs u b → (fs ≡ gs) × (t ≡ u)
 one_split at [] [] t u b (e, z) (e', z') = (refl, z ∙ sym z')
 one_split at [] (g ∷ gs) t u b (e, z) h = absurd (omega (arith, from_least at g gs u b h, ap length e))
@@ -92,7 +88,7 @@ one_split at (f ∷ f' ∷ fs) (g ∷ g' ∷ gs) t u b (filler, rest, begun, o, 
     let q : f' ∷ fs ≡ g' ∷ gs = r.0 in
     (cc, r.1)
 
--- one more frame behind frames up_to_4 to a multiple of 4
+-- one more frame behind frames up to a multiple of 4
 pub one_more : (at : ℕ) (fs : List FrameForm) (f : FrameForm) (t : ℕ) (x y r : List ℕ) → SplitsFrom at fs t x
     → at + length x ≡ up_to_4 (at + length x) → BeginsFrame f y r → f.offset ≡ at + length x
     → at + length x + frame_len f + length r ≤ up_to_4 (at + length x + frame_len f) → SplitsFrom at (fs ++ f ∷ []) (length r) (x ++ y)

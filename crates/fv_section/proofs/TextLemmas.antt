@@ -7,8 +7,7 @@ use Rattle.std.proofs.lemmas.Bool.{eqb-true, eq-eqb, leb-true, le-leb}
 use Rattle.std.proofs.lemmas.List.{take-append-drop, take_at, drop_at, length-take-le}
 use Rattle.fv_base.specs.Sums.{words_of}
 use Rattle.fv_base.specs.Value.{le}
-use Rattle.fv_base.proofs.TestLemmas.{not_equal}
-use Rattle.fv_base.proofs.CheckLemmas.{and_split, and_join}
+use Rattle.fv_base.proofs.Laws.{and_join, and_split, not_equal}
 use Rattle.fv_section.specs.Texts.{IsText, IsVersion, none_zero, is_text}
 
 none_zero-all : (units : List ℕ) → none_zero units ≡ true → AllByRecursion (λ unit. unit ≢ 0) units

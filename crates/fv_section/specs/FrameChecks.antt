@@ -26,7 +26,7 @@ abbrev pub has_section_size : List ℕ → Bool
 has_section_size r = nat_le (section_header_len_at r) (length r)
     && (nat_le (section_header_len_at r) (section_size_at r) && nat_le (section_size_at r) (length r))
 
--- of a section at the place `at`, from where on the bytes are r
+-- the checks of a section at the place `at`, from where on the bytes are r
 abbrev pub frame_checks : ℕ → List ℕ → List (Check Fault)
 frame_checks at r =
     check (nat_le 4 (length r)) kinds.SectionTail at

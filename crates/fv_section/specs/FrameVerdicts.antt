@@ -15,5 +15,6 @@ frame_in at r = record {
   body = take (section_size_at r - section_header_len_at r) (drop (section_header_len_at r) r);
 }
 
+-- that frame, or the fault of the first check that does not hold
 abbrev pub frame_verdict : ℕ → List ℕ → Result FrameForm Fault
 frame_verdict at r = verdict_by (first_fault (frame_checks at r)) (frame_in at r)

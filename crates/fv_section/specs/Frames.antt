@@ -20,8 +20,8 @@ section_header_len true = 8
 abbrev pub frame_len : FrameForm → ℕ
 frame_len f = section_header_len f.extended + length f.body
 
--- a short header says the size in its Size, which is then not FFFFFF; an extended one says it
--- behind, and its Size is FFFFFF
+-- a short header says the size in its Size, which is then not 0xFFFFFF; an extended one says it
+-- behind (ExtendedSize), and its Size is 0xFFFFFF
 abbrev pub SaysSize : Bool → ℕ → List ℕ → Type 0
 SaysSize false n h = (le_at 0 3 h ≡ n) × (n ≢ 0xffffff)
 SaysSize true n h = (le_at 0 3 h ≡ 0xffffff) × (le_at 4 4 h ≡ n)

@@ -25,7 +25,7 @@ const EXTENDED: u32 = 0xff_ffff;
 pub struct Frame<'a> {
     /// Where its header begins, in bytes from the stream's start.
     pub offset: u64,
-    /// Its `Type`, as 15 for `EFI_SECTION_USER_INTERFACE`.
+    /// Its `Type`, as 0x15 for `EFI_SECTION_USER_INTERFACE`.
     pub kind: u8,
     /// Whether its header is `EFI_COMMON_SECTION_HEADER2`, of 8 bytes, and not one of 4.
     pub extended: bool,
@@ -33,6 +33,7 @@ pub struct Frame<'a> {
     pub body: &'a [u8],
 }
 
+// `Size`, as it stands in the header that the bytes begin with.
 fn short_size(rest: &[u8]) -> u32
     requires least { 4 ≤ length rest.now }
     ensures { result ≡ le_at 0 3 rest.now }
@@ -40,6 +41,7 @@ fn short_size(rest: &[u8]) -> u32
     LittleEndian::read_u24(field(rest, SIZE_OFFSET, 3))
 }
 
+// Whether that header is extended: its `Size` is 0xFFFFFF.
 fn has_extended_size(rest: &[u8]) -> bool
     requires least { 4 ≤ length rest.now }
     ensures { result ≡ has_extended_size rest.now }
@@ -47,6 +49,7 @@ fn has_extended_size(rest: &[u8]) -> bool
     short_size(rest) == EXTENDED
 }
 
+// How many bytes the header has.
 fn head_len(rest: &[u8]) -> usize
     requires least { 4 ≤ length rest.now }
     ensures { result ≡ section_header_len_at rest.now }
@@ -58,6 +61,7 @@ fn head_len(rest: &[u8]) -> usize
     }
 }
 
+// How many bytes the section has, its header counted: `Size` or `ExtendedSize`.
 fn size_of(rest: &[u8]) -> usize
     requires least { 4 ≤ length rest.now }
     requires header { section_header_len_at rest.now ≤ length rest.now }
@@ -70,6 +74,7 @@ fn size_of(rest: &[u8]) -> usize
     }
 }
 
+// Whether the header is whole, and the size is neither below it nor past the end.
 fn has_section_size(rest: &[u8]) -> bool
     requires least { 4 ≤ length rest.now }
     ensures { result ≡ has_section_size rest.now }

@@ -6,8 +6,8 @@ ghost use Rattle.fv_section.specs.FrameForms.{frame_form};
 use crate::frame::Frame;
 use std::marker::Model;
 
-/// The frames of a stream in their order, and how many bytes follow the last. Contracts see the
-/// list and the count.
+/// The frames of a stream in their order, and how many bytes follow the last. Contracts see the list and the count.
+/// (PI specification, volume 3, section 3.2.4.)
 #[derive(Drop)]
 pub struct Frames<'a> {
     list: Vec<Frame<'a>>,

@@ -1,7 +1,7 @@
 //! Where the fields of a section's header stand, in bytes from its first, and how long it is. (PI specification,
 //! volume 3, section 3.2.4, `EFI_COMMON_SECTION_HEADER` and `EFI_COMMON_SECTION_HEADER2`.)
 
-/// `Size`, 3 bytes: the bytes of the section, its header counted, or FFFFFF in an extended header.
+/// `Size`, 3 bytes: the bytes of the section, its header counted, or 0xFFFFFF in an extended header.
 pub(crate) const SIZE_OFFSET: usize = 0;
 
 /// `Type`, 1 byte.

@@ -9,7 +9,8 @@ use crate::layout::{EXTENDED_HEADER_LEN, EXTENDED_SIZE_OFFSET, HEADER_LEN, TYPE_
 use byteorder::{ByteOrder, LittleEndian};
 use std::marker::Model;
 
-/// The bytes of a section header: 4, or 8 of an extended one. Contracts see them as a list.
+/// The bytes of a section header: 4, or 8 of an extended one. Contracts see them as a list. (PI specification, volume
+/// 3, section 3.2.4, `EFI_COMMON_SECTION_HEADER` and `EFI_COMMON_SECTION_HEADER2`.)
 #[derive(Drop)]
 pub struct SectionHead {
     bytes: [u8; EXTENDED_HEADER_LEN],
@@ -62,9 +63,9 @@ fn extended_head(kind: u8, size: u32) -> SectionHead
     }
 }
 
-/// The header of a section of this `Type` and form whose body has so many bytes: `Size`, or FFFFFF and
-/// `ExtendedSize`. The size, which counts the header, fits the form: at most FFFFFE in a short header, FFFFFFFF in an
-/// extended one. Takes no memory. (PI specification, volume 3, section 3.2.4.)
+/// The header of a section of this `Type` and form whose body has so many bytes: `Size`, or 0xFFFFFF and
+/// `ExtendedSize`. The size, which counts the header, fits the form: at most 0xFFFFFE in a short header, 0xFFFFFFFF in
+/// an extended one. Takes no memory. (PI specification, volume 3, section 3.2.4.)
 pub fn section_head_bytes(kind: u8, extended: bool, body_len: u64) -> SectionHead
     requires fits { FitsForm extended body_len }
 

@@ -33,9 +33,9 @@ fn is_text(bytes: &[u8]) -> bool
         && none_zero(&bytes[..len - 2])
 }
 
-/// The text, `FileNameString`, of a user interface section's body (`EFI_SECTION_USER_INTERFACE`, type 15): its 16-bit
-/// units before the zero unit that ends it, in bytes. None where the body has an odd number of bytes, or its last
-/// unit is not the only one that is zero. Takes no memory. (PI specification, volume 3, section 3.2.5.14.)
+/// The text, `FileNameString`, of a user interface section's body (`EFI_SECTION_USER_INTERFACE`, type 0x15): its
+/// 16-bit units before the zero unit that ends it, in bytes. None where the body has an odd number of bytes, or its
+/// last unit is not the only one that is zero. Takes no memory. (PI specification, volume 3, section 3.2.5.14.)
 pub fn ui_text(body: &[u8]) -> Option<&[u8]>
     ensures found { IfSome result (λ text. IsText body.now text.now) }
     ensures none { IfNone result ((text : List ℕ) → IsText body.now text → ⊥) }
@@ -47,7 +47,7 @@ pub fn ui_text(body: &[u8]) -> Option<&[u8]>
     }
 }
 
-/// `BuildNumber` and the text, `VersionString`, of a version section's body (`EFI_SECTION_VERSION`, type 14). None
+/// `BuildNumber` and the text, `VersionString`, of a version section's body (`EFI_SECTION_VERSION`, type 0x14). None
 /// where the body is no number of 2 bytes and a text with its zero unit. Takes no memory. (PI specification, volume
 /// 3, section 3.2.5.15.)
 pub fn version(body: &[u8]) -> Option<(u16, &[u8])>
@@ -63,7 +63,7 @@ pub fn version(body: &[u8]) -> Option<(u16, &[u8])>
 }
 
 /// The GUID, `SubTypeGuid`, and the bytes behind it of a freeform subtype section's body
-/// (`EFI_SECTION_FREEFORM_SUBTYPE_GUID`, type 18). None where the body has fewer than 16 bytes. Takes no memory. (PI
+/// (`EFI_SECTION_FREEFORM_SUBTYPE_GUID`, type 0x18). None where the body has fewer than 16 bytes. Takes no memory. (PI
 /// specification, volume 3, section 3.2.5.6.)
 pub fn freeform(body: &[u8]) -> Option<(Guid, &[u8])>
     ensures found { IfSome result (λ v. IsFreeform body.now v.0 v.1.now) }

@@ -247,7 +247,7 @@ module _ (hex : Text) (some : bytes_eq [] hex ≡ false) (whole : has_byte 61 he
 
   -- ---- words
 
-  -- `--hex` with no value is the flag
+  -- the flag's name with no value behind it names the flag
   abbrev names_flag : Bool → Option Text → Bool
   names_flag b None = b
   names_flag b (Some v) = false

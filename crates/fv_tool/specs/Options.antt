@@ -21,13 +21,14 @@ all_rule = flag_rule (codes "all")
 abbrev pub option_rule : List ℕ → Rule
 option_rule name = record (new_rule name) { long = Some name }
 
+-- the option `--base`, a number of 64 bits, and the option `--instance`, one of 32
 abbrev pub base_rule : Rule
 base_rule = record (option_rule (codes "base")) { parser = Some (parsers.Unsigned 0 18446744073709551615) }
 
 abbrev pub instance_rule : Rule
 instance_rule = record (option_rule (codes "instance")) { parser = Some (parsers.Signed (pos 0) (pos 4294967295)) }
 
--- a command with the flag
+-- a command with the flag `--hex`
 abbrev pub flag_app : App
 flag_app = with_rule (new_app (codes "fvtool")) hex_rule
 

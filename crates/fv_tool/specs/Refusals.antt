@@ -6,11 +6,12 @@ use Rattle.fv_command.specs.declared.status.Status.TheVariants as statuses
 use Rattle.fv_tool.specs.declared.words.WordFault.{WordFault}
 use Rattle.fv_tool.specs.declared.words.WordFault.TheVariants.{Words, OutOfMemory}
 
+-- the status that a refusal of words ends with, and the line that tells it
 abbrev pub status_of : WordFault → Status
 status_of Words = statuses.WrongWords
 status_of OutOfMemory = statuses.Refused
 
--- want of memory is told as the fault of that number
+-- want of memory is told as the fault OutOfMemory, number 24
 abbrev pub line_of : WordFault → List ℕ
 line_of Words = codes "wrong words" ++ 10 ∷ []
 line_of OutOfMemory = fault_line 24 0

@@ -88,6 +88,7 @@ abbrev pub IsImageWords : (path base : Option (List ℕ)) → Option ImageFile �
 IsImageWords path base None = path ≡ None
 IsImageWords path base (Some image) = (path ≡ Some (string_bytes image.path)) × IsBaseWord base image.base
 
+-- a file that is named, if one is
 abbrev pub IsFileWord : Option (List ℕ) → Option (String Global) → Type 0
 IsFileWord text file = option_map string_bytes file ≡ text
 

@@ -1,4 +1,5 @@
-//! Reads firmware volumes and writes their canonical images.
+//! The program `fvtool`: does what a command says with firmware volumes and hand-off lists, and tells by its exit
+//! status how it went.
 #![tactic(auto)]
 
 ghost use Rattle.fv_base.specs.Port.{inner_of, has_erred};
@@ -104,6 +105,7 @@ fn run_given<R: Files + Input + AllocGlobal, W: Write>(
     }
 }
 
+// Does what the words of the command line ask for, and ends with the exit code of its status.
 fn main(rt: HostRuntime) -> ExitCode {
     let status = match BufWriter::new(rt.alloc(), io::writer(&rt)) {
         Ok(buffered) => {

@@ -50,7 +50,7 @@ fn text_option<'a>(alloc: Global, name: &'static str) -> Arg<'a>
     Arg::new(alloc, name).long(name)
 }
 
-// The address of an image's first byte.
+// The option `--base`: the address of an image's first byte.
 fn base_option<'a>(alloc: Global) -> Arg<'a>
     ensures rule { rule_of result ≡ base_rule }
     ensures local { result.global ≡ false }
@@ -58,7 +58,7 @@ fn base_option<'a>(alloc: Global) -> Arg<'a>
     text_option(alloc, "base").value_parser(value_parser!(u64))
 }
 
-// Which of the sections of a type is written.
+// The option `--instance`: which of the sections of a type is written.
 fn instance_option<'a>(alloc: Global) -> Arg<'a>
     ensures rule { rule_of result ≡ instance_rule }
     ensures local { result.global ≡ false }

@@ -41,9 +41,11 @@ fn reads_words(rt: HostRuntime) -> Result<(), Fail> {
     let list_input = "Plan { hex: false, command: Hobs { file: None, image: None } }";
     let list_hex_file = "Plan { hex: true, command: Hobs { file: Some(\"a.hob\"), image: None } }";
     let list_and_image =
-        "Plan { hex: false, command: Hobs { file: Some(\"a.hob\"), image: Some(ImageFile { path: \"a.fv\", base: 16711680 }) } }";
+        "Plan { hex: false, command: Hobs { file: Some(\"a.hob\"), image: Some(ImageFile { path: \"a.fv\", \
+         base: 16711680 }) } }";
     let list_and_top =
-        "Plan { hex: false, command: Hobs { file: None, image: Some(ImageFile { path: \"a.fv\", base: 18446744073709551615 }) } }";
+        "Plan { hex: false, command: Hobs { file: None, image: Some(ImageFile { path: \"a.fv\", \
+         base: 18446744073709551615 }) } }";
     let volume = "Plan { hex: false, command: Single { task: List, file: None } }";
     let volume_text = "Plan { hex: true, command: Single { task: List, file: Some(\"a.txt\") } }";
     let bytes = "Plan { hex: false, command: Single { task: Scan, file: Some(\"a.bin\") } }";

@@ -13,9 +13,9 @@ use std::io::ErrorKind;
 /// Why a line of words is refused.
 #[derive(Clone, Copy, Debug, PartialEq, Eq)]
 pub enum WordFault {
-    /// The words name no command that there is.
+    /// The words name no command that there is, or are wrong for the command.
     Words,
-    /// A growth was refused.
+    /// A growth of memory was refused.
     OutOfMemory,
 }
 

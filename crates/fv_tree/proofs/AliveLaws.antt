@@ -1,4 +1,4 @@
--- Which files are part of a volume.
+-- Files with a twin, or with a volume top file that is not at the end, are those of no volume.
 use Rattle.std.proofs.Common.{◌≡◌, ◌⊎◌, ℕ, List, [], ◌∷◌, ◌++◌, Bool, true, false, refl, sym, subst}
 use Rattle.std.proofs.Common.{inl, inr}
 use Rattle.std.specs.Prelude.{◌||◌}
@@ -6,7 +6,7 @@ use Rattle.std.specs.Bool.{beq}
 use Rattle.std.specs.Cmp.{booleans_Decides}
 use Rattle.std.specs.List.{list_any}
 use Rattle.std.proofs.lemmas.Slice.Eq.{bytes_eq-Decides}
-use Rattle.fv_base.proofs.Laws.{and_split, and_join}
+use Rattle.fv_base.proofs.Laws.{and_join, and_split}
 use Rattle.fv_base.specs.Guids.{bytes_of}
 use Rattle.fv_base.specs.declared.fault.Fault.{Fault}
 use Rattle.fv_file.specs.Cells.{CellForm}

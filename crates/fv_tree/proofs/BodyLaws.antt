@@ -1,14 +1,14 @@
 -- The files of a volume are those of its cells.
-use Rattle.std.proofs.Common.{◌≡◌, ◌≤◌, ◌<◌, ℕ, ◌+◌, ◌^◌, List, [], ◌∷◌, ◌++◌, length, drop, Bool, true, false, refl, sym, ap}
+use Rattle.std.proofs.Common.{◌≡◌, ◌≤◌, ◌<◌, ℕ, ◌+◌, ◌^◌, List, [], ◌∷◌, ◌++◌, length, drop, sym, ap}
 use Rattle.std.proofs.Common.{◌∙◌, subst, arith, inl, inr, length-append}
 use Rattle.std.specs.Prelude.{not}
-use Rattle.std.specs.List.{AllByRecursion, filter, list_any}
+use Rattle.std.specs.List.{list_any}
 use Rattle.fv_base.specs.Limits.{volume_limit}
 use Rattle.fv_base.specs.Value.{IsBytes}
 use Rattle.fv_base.specs.declared.fault.Fault.{Fault}
 use Rattle.fv_base.specs.declared.flash.FileSystem.{FileSystem}
 use Rattle.fv_base.specs.declared.flash.Polarity.{Polarity}
-use Rattle.fv_base.proofs.Laws.{bytes_front, bytes_back, bytes_drop}
+use Rattle.fv_base.proofs.Laws.{all_filter, bytes_back, bytes_drop, bytes_front}
 use Rattle.std.proofs.lemmas.List.{length-drop}
 use Rattle.fv_file.specs.Cells.{CellForm, Valid, Pad, Dead, Stub, Free, Tiles, CellsWithin, IsCell, IsMadeUp, offset_of, cell_len}
 use Rattle.fv_file.proofs.Laws.{cell_span}
@@ -117,14 +117,6 @@ stored_in s p at base end (c ∷ cs) b small short fits (x, rest, text, is, o, f
     let parts : IsBytes (x ++ rest) = subst IsBytes text small in
     stored_here s p c x base end cs (bytes_front x rest parts) (omega (arith, long, short)) fits is lies made
     (stored_in s p (at + length x) base end cs rest (bytes_back x rest parts) (omega (arith, long, short)) fits more others)
-
-pub all_filter : (test : FileForm → Bool) (P : FileForm → Type 0) (fs : List FileForm) → AllByRecursion P fs
-    → AllByRecursion P (filter test fs)
-all_filter test P [] h = tt
-all_filter test P (f ∷ fs) h = go (test f) refl (all_filter test P fs h.1) where
-  go : (t : Bool) → test f ≡ t → AllByRecursion P (filter test fs) → AllByRecursion P (filter test (f ∷ fs))
-  go true e rest = rw e (h.0, rest)
-  go false e rest = rw e rest
 
 pub files_stored : (e : Extent) (volume : List ℕ) (base : ℕ) (cs : List CellForm) (fs : List FileForm) → IsBytes volume
     → length volume ≤ volume_limit → base + length volume < 2 ^ 63

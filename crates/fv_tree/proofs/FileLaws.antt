@@ -1,6 +1,5 @@
 -- A file is read by its type.
 use Rattle.std.proofs.Common.{◌≡◌, ℕ, List, Bool, true, false, refl, sym, ap, ◌∙◌, subst}
-use Rattle.std.specs.Prelude.{not}
 use Rattle.fv_file.specs.Attributes.{attribute_bits, without_large}
 use Rattle.fv_tree.specs.ReadingParts.{ReadsContent}
 use Rattle.fv_tree.specs.Denotes.{holds_sections, Stream, MeansContent, MeansFile}
@@ -10,17 +9,6 @@ use Rattle.fv_tree.proofs.SectionLaws.{list_back, sections_back}
 
 never : (t : Bool) → t ≡ true → t ≡ false → ⊥
 never t p q = cc
-
-pub true_by : (t : Bool) → not t ≡ false → t ≡ true
-true_by true h = refl
-true_by false h = cc
-
-pub plain_reads : (n : ℕ) (f : FileForm) → holds_sections f.head.kind ≡ false → ReadsContent n f (Plain f.payload)
-plain_reads n f h = record { is = (h, refl); one = only }
-  where
-    only : (d : ContentMeaning) → MeansContent (Stream n) f.head.kind f.payload d → d ≡ Plain f.payload
-    only (Plain b) (p, q) = ap Plain q
-    only (Sectioned ss t) (p, q) = absurd (never (holds_sections f.head.kind) p h)
 
 pub stream_reads : (n : ℕ) (f : FileForm) (ss : List SectionMeaning) (t : ℕ) → holds_sections f.head.kind ≡ true → Stream n ss t f.payload
     → ((us : List SectionMeaning) (u : ℕ) → Stream n us u f.payload → (us ≡ ss) × (u ≡ t))

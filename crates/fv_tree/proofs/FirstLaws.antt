@@ -20,10 +20,10 @@ use Rattle.fv_tree.specs.FirstFault.{moved_fault, FrameFaulty, FirstOf, StreamFi
 use Rattle.fv_tree.specs.FirstFault.{SectionFirst, FirstInStream, FirstInVolume, IsFirstOfVolume}
 use Rattle.fv_tree.specs.Meaning.{Meaning, SectionMeaning, length_of}
 use Rattle.fv_tree.proofs.AliveLaws.{twin_none, top_none}
-use Rattle.fv_tree.proofs.OnceLaws.{one_cell_fault, one_frame_fault}
-use Rattle.fv_tree.proofs.Orders.{one_fault, first_of_once}
-use Rattle.fv_tree.proofs.RefuseLaws.{StreamRefuses, file_by, section_refuses, stream_refuses, first_refuses}
-use Rattle.fv_tree.proofs.TopLaws.{one_twin, one_top}
+use Rattle.fv_tree.proofs.OneFaultLaws.{one_cell_fault, one_frame_fault}
+use Rattle.fv_tree.proofs.ListCuts.{one_fault, first_of_once}
+use Rattle.fv_tree.proofs.RefusalLaws.{StreamRefuses, file_by, section_refuses, stream_refuses, first_refuses}
+use Rattle.fv_tree.proofs.TwinLaws.{one_twin, one_top}
 use Rattle.fv_tree.proofs.SectionLaws.{group_is_no_volume}
 
 -- ---- by what stands inside

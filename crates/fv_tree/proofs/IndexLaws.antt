@@ -22,7 +22,7 @@ use Rattle.std.proofs.lemmas.Slice.Eq.{bytes_eq-Decides}
 use Rattle.fv_base.specs.Guids.{bytes_of}
 use Rattle.fv_base.specs.Value.{IsBytes, field}
 use Rattle.fv_base.specs.declared.guid.Guid.{Guid}
-use Rattle.fv_base.proofs.FieldLemmas.{bytes_take, bytes_drop}
+use Rattle.fv_base.proofs.Laws.{bytes_drop, bytes_take, first_or_behind, one_behind, or_both}
 use Rattle.fv_file.specs.declared.state.FileState.TheVariants as states
 use Rattle.fv_tree.specs.Denotes.{MeansFile, Pairs, Streams}
 use Rattle.fv_tree.specs.Files.{FileForm, NoTwins, alive_in, is_marked, is_twin, replaces, same_name}
@@ -32,7 +32,6 @@ use Rattle.fv_tree.specs.NameOrders.{names_in, number_from}
 use Rattle.fv_tree.specs.StandingForms.{file_form}
 use Rattle.fv_tree.specs.declared.volume_files.Standing.{Standing}
 use Rattle.fv_tree.proofs.AliveLaws.{same_name_back}
-use Rattle.fv_base.proofs.TestLemmas.{or_both}
 
 -- ---- the order
 
@@ -56,9 +55,6 @@ first_total = on_total (λ (e : Entry). e.0) halves_total
 
 entry_total : IsTotalOrder entry_cmp
 entry_total = then_total first_total number_total
-
-is_less : Entry → Entry → Bool
-is_less a b = is_lt (entry_cmp a b)
 
 less_orders : IsStrictWeakOrder (λ (a b : Entry). is_lt (entry_cmp a b))
 less_orders = ranks_by entry_total (λ (e : Entry). e)
@@ -122,17 +118,10 @@ rises es name ordered = searchable_from_sorted entry_total (λ (e : Entry). e) e
 abbrev same_pair : Entry → Entry → Type 0
 same_pair a b = a ≡ b
 
-pub in_front : {X : Type 0} (x : X) (xs : List X) (y : X) → Contains (x ∷ xs) y → (x ≡ y) ⊎ Contains xs y
-in_front x xs y (zero, l, e) = inl e
-in_front x xs y (suc k, l, e) = inr (k, omega (arith, l), e)
-
-pub behind : {X : Type 0} (x : X) (xs : List X) (y : X) → Contains xs y → Contains (x ∷ xs) y
-behind x xs y (k, l, e) = (suc k, omega (arith, l), e)
-
 numbers_above : (k : ℕ) (names : List Guid) (name : Halves) (j : ℕ) → Contains (numbered k names) (name, j) → k ≤ j
 numbers_above k [] name j (n, l, e) = omega (arith, l)
 numbers_above k (m ∷ names) name j h =
-    go (in_front (halves_of m, k) (numbered (k + 1) names) (name, j) h) (numbers_above (k + 1) names name j)
+    go (first_or_behind (halves_of m, k) (numbered (k + 1) names) (name, j) h) (numbers_above (k + 1) names name j)
   where
     go : (same_pair (halves_of m, k) (name, j)) ⊎ Contains (numbered (k + 1) names) (name, j)
         → (Contains (numbered (k + 1) names) (name, j) → k + 1 ≤ j) → k ≤ j
@@ -253,8 +242,9 @@ lowest : (k : ℕ) (name : Guid) (fs : List FileMeaning) (e : ℕ) → IsName na
     → ((j : ℕ) → Contains (numbered k (map file_name_of fs)) (halves_of name, j) → e ≤ j) → number_from k name fs ≡ Some e
 lowest k name [] e whole all (n, l, is) low = absurd (omega (arith, l))
 lowest k name (f ∷ fs) e whole all has low =
-    go (is_named name f) refl (in_front (halves_of (file_name_of f), k) tail (halves_of name, e) has)
-    (λ rest. lowest (k + 1) name fs e whole all.1 rest (λ j h. low j (behind (halves_of (file_name_of f), k) tail (halves_of name, j) h)))
+    go (is_named name f) refl (first_or_behind (halves_of (file_name_of f), k) tail (halves_of name, e) has)
+    (λ rest. lowest (k + 1) name fs e whole all.1 rest
+    (λ j h. low j (one_behind (halves_of (file_name_of f), k) tail (halves_of name, j) h)))
   where
     tail : List Entry
     tail = numbered (k + 1) (map file_name_of fs)
@@ -277,7 +267,7 @@ missing k name [] none = refl
 missing k name (f ∷ fs) none =
     go (is_named name f) refl
     (missing (k + 1) name fs
-    (λ j h. none j (behind (halves_of (file_name_of f), k) (numbered (k + 1) (map file_name_of fs)) (halves_of name, j) h)))
+    (λ j h. none j (one_behind (halves_of (file_name_of f), k) (numbered (k + 1) (map file_name_of fs)) (halves_of name, j) h)))
   where
     go : (t : Bool) → is_named name f ≡ t → number_from (k + 1) name fs ≡ None → number_from k name (f ∷ fs) ≡ None
     go true is rest = absurd (none k (zero, omega arith, ap (λ (n : Halves). (n, k)) (named_so name f is)))

@@ -6,9 +6,9 @@
 pub use Rattle.fv_tree.proofs.VolumeLaws.{files_list_back, files_back}
 pub use Rattle.fv_tree.proofs.SectionLaws.{list_back, sections_back}
 -- a stream, a section, a body and a content have as many bytes as those that they were read from
-pub use Rattle.fv_tree.proofs.Lengths.{AsLong, stream_long, section_long, body_long, content_long}
+pub use Rattle.fv_tree.proofs.LengthLaws.{AsLong, stream_long, section_long, body_long, content_long}
 -- a volume has fewer files than bytes
-pub use Rattle.fv_tree.proofs.Counts.{few_files, few_of}
+pub use Rattle.fv_tree.proofs.FileCountLaws.{few_files, few_of}
 -- what stands in a list is smaller than the list
 pub use Rattle.fv_tree.proofs.SizeLaws.{section_falls, body_falls, section_body_falls, file_falls, content_falls}
 pub use Rattle.fv_tree.proofs.SizeLaws.{file_content_falls}
@@ -17,23 +17,25 @@ pub use Rattle.fv_tree.proofs.SizeLaws.{file_content_falls}
 -- a volume that bytes begin with has its front there, and the files of any front that they begin with
 pub use Rattle.fv_tree.proofs.VolumeLaws.{front_of, has_files}
 -- alive files have different names; two have one name, whichever is first
-pub use Rattle.fv_tree.proofs.TopLaws.{names_differ}
+pub use Rattle.fv_tree.proofs.TwinLaws.{names_differ}
 pub use Rattle.fv_tree.proofs.AliveLaws.{same_name_back}
+-- each file begins within the volume; so does one of two of one name, and a volume top file
+pub use Rattle.fv_tree.proofs.NameLaws.{files_within, twin_within, top_within}
 -- ---- a fault
 
 -- bytes have one first fault at most, and none where they begin with a volume; its condition stands
 pub use Rattle.fv_tree.proofs.FirstLaws.{first_once}
-pub use Rattle.fv_tree.proofs.RefuseLaws.{first_refuses}
+pub use Rattle.fv_tree.proofs.RefusalLaws.{first_refuses}
 pub use Rattle.fv_tree.proofs.FaultLaws.{first_stands, fault_stands}
 -- the kinds of the faults of reading
-pub use Rattle.fv_tree.proofs.KindLaws.{OfReading, stands_kind, is_reading, stands_reading, stands_other}
+pub use Rattle.fv_tree.proofs.FaultKindLaws.{OfReading, stands_kind, is_reading, stands_reading, stands_other}
 -- ---- two meanings
 
 -- they differ nowhere exactly where they are one
-pub use Rattle.fv_tree.proofs.DifferLaws.{one_volume, no_difference}
+pub use Rattle.fv_tree.proofs.DifferenceLaws.{one_volume, no_difference}
 -- ---- the volumes in some bytes
 
 -- they begin at one list of places, and each of them lies within the bytes
-pub use Rattle.fv_tree.proofs.ScanLaws.{one_found, found_within, one_of}
+pub use Rattle.fv_tree.proofs.ScanLaws.{one_found, found_within, found_walk, one_of}
 -- a volume at a place has one length, 64 at least and a multiple of 8, and lies within the bytes
 pub use Rattle.fv_tree.proofs.ScanLaws.{one_length, at_least, at_multiple, at_within}

@@ -1,4 +1,4 @@
--- The names of files in a set, file by file.
+-- What the walks over the files of a volume know: their names in a set, files that are replaced, the volume top file, where files begin.
 use Rattle.std.proofs.Common.{◌≡◌, ◌≤◌, ◌<◌, ◌⊎◌, ℕ, ◌+◌, List, [], ◌∷◌, ◌++◌, length, take, drop, get_or, map, Bool, true}
 use Rattle.std.proofs.Common.{false, refl, sym, ap, ◌∙◌, subst, arith, inl, inr}
 use Rattle.std.specs.Prelude.{◌&&◌, ◌||◌, not, cond}
@@ -8,7 +8,6 @@ use Rattle.std.specs.BTreeSet.{BTreeSet, contains}
 use Rattle.std.specs.Cmp.{tied_then}
 use Rattle.std.specs.Cmp.Lexicographic.{slice_cmp}
 use Rattle.std.specs.List.{AllByRecursion, filter, list_any}
-use Rattle.std.proofs.lemmas.List.Elements.{filter_more}
 use Rattle.std.specs.Ordering.{is_eq, nat_cmp, bool_cmp}
 use Rattle.std.specs.Str.{bytes_eq}
 use Rattle.std.proofs.lemmas.List.{take-append-drop, drop_more, take_more, length-map, get_or-map, length-drop}
@@ -25,7 +24,7 @@ use Rattle.fv_tree.specs.Files.{FileForm, files_in, same_name, is_marked, is_twi
 use Rattle.fv_tree.specs.FirstFault.{FirstTwin, TopElsewhere}
 use Rattle.fv_tree.specs.NameOrders.{key_cmp, is_keyed, HasNames}
 use Rattle.fv_tree.proofs.AliveLaws.{twin_back}
-use Rattle.fv_base.proofs.TestLemmas.{or_parts, or_both}
+use Rattle.fv_base.proofs.Laws.{in_middle, or_both, or_parts}
 
 -- ---- tests
 
@@ -213,33 +212,18 @@ files_within end (Dead at len ∷ cs) (lies, made, rest) = files_within end cs r
 files_within end (Stub at len ∷ cs) (lies, made, rest) = files_within end cs rest
 files_within end (Free at len ∷ cs) (lies, made, rest) = files_within end cs rest
 
-all_at : (P : FileForm → Type 0) (before : List FileForm) (f : FileForm) (after : List FileForm)
-    → AllByRecursion P (before ++ (f ∷ after)) → P f
-all_at P [] f after h = h.0
-all_at P (g ∷ gs) f after h = all_at P gs f after h.1
-
 pub twin_within : (end : ℕ) (f : FileForm) (fs : List FileForm) → AllByRecursion (λ g. g.offset ≤ end) fs → FirstTwin f fs → f.offset ≤ end
-twin_within end f fs all (before, after, is, none, has) = all_at (λ g. g.offset ≤ end) before f after (subst (AllByRecursion
+twin_within end f fs all (before, after, is, none, has) = in_middle (λ g. g.offset ≤ end) before f after (subst (AllByRecursion
     (λ g. g.offset ≤ end)) is all)
 
 pub top_within : (end n : ℕ) (f : FileForm) (fs : List FileForm) → AllByRecursion (λ g. g.offset ≤ end) fs → TopElsewhere n f fs
     → f.offset ≤ end
-top_within end n f fs all (before, after, is, top, off) = all_at (λ g. g.offset ≤ end) before f after (subst (AllByRecursion
+top_within end n f fs all (before, after, is, top, off) = in_middle (λ g. g.offset ≤ end) before f after (subst (AllByRecursion
     (λ g. g.offset ≤ end)) is all)
 
 -- what is after the item at i
 pub after_none : {A : Type 0} (xs : List A) (i : ℕ) → drop (i + 1) xs ≡ [] → length xs ≤ i + 1
 after_none xs i e = omega (arith, ap length e, length-drop (i + 1) xs)
-
--- a filter, with the item at i
-pub filter_items : {X : Type 0} (form : X → FileForm) (test : FileForm → Bool) (items : List X) (i : ℕ) (d : X) → i < length items
-    → {t : Bool} → test (form (get_or items i d)) ≡ t
-    → filter test (take (i + 1) (map form items)) ≡ filter test (take i (map form items)) ++ cond t (form (get_or items i d) ∷ []) []
-filter_items form test items i d l {t} e =
-    let lt : i < length (map form items) = omega (arith, l, length-map items form) in
-    filter_more test (map form items) i (form d) lt
-    ∙ ap (λ x. filter test (take i (map form items)) ++ cond (test x) (x ∷ []) []) (get_or-map form items i d (form d) l)
-    ∙ ap (λ u. filter test (take i (map form items)) ++ cond u (form (get_or items i d) ∷ []) []) e
 
 pub not_top_yet : (top last ends : Bool) → (not top || (last && ends)) ≡ true → (last ≡ true → ⊥) → top ≡ false
 not_top_yet true last ends p off = absurd (off (placed true last ends p refl).0)

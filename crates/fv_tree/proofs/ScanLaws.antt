@@ -5,15 +5,13 @@ use Rattle.std.specs.Prelude.{◌⊎◌}
 use Rattle.std.specs.List.{AllByRecursion, Contains}
 use Rattle.std.specs.Str.{bytes_eq}
 use Rattle.std.proofs.lemmas.List.{take_all, length-drop}
-use Rattle.fv_base.specs.Verdicts.{first_fault}
-use Rattle.fv_base.proofs.CheckLemmas.{all_hold}
+use Rattle.fv_base.proofs.Laws.{first_or_behind, one_behind}
 use Rattle.fv_head.specs.Head.{HeadFields, BeginsVolume, signature_bytes}
-use Rattle.fv_head.specs.HeadChecks.{head_checks, has_signature}
+use Rattle.fv_head.specs.HeadChecks.{has_signature}
 use Rattle.fv_head.specs.declared.extent.Extent.{Extent}
-use Rattle.fv_head.proofs.FrontLemmas.{front_only, one_front, verdict_ok}
+use Rattle.fv_head.proofs.Laws.{front_holds, one_front}
 use Rattle.fv_tree.specs.FoundVolumes.{VolumeAt, IsPlace, LiesBehind, Apart, IsCovered, Found}
 use Rattle.fv_tree.specs.FoundWalks.{NoneBetween, NoneFrom, FoundFrom}
-use Rattle.fv_tree.proofs.IndexLaws.{in_front, behind}
 
 order : (a k : ℕ) → (a ≤ k) ⊎ (k < a)
 order zero k = inl (omega arith)
@@ -70,7 +68,7 @@ pub none_past : (b : List ℕ) (at : ℕ) → length b < at + 56 → NoneFrom b 
 none_past b at short = λ k n l m v. omega (arith, short, l, at_within b k n v, at_least b k n v)
 
 signed : (b : List ℕ) (h : HeadFields) (e : Extent) → BeginsVolume h e b → has_signature b ≡ true
-signed b h e f = (all_hold (head_checks b) (verdict_ok (first_fault (head_checks b)) b e (front_only b h e f)).0).1.0
+signed b h e f = (front_holds b h e f).1.0
 
 -- no signature
 pub none_unsigned : (b : List ℕ) (at : ℕ) → has_signature (drop at b) ≡ false → (n : ℕ) → VolumeAt b at n → ⊥
@@ -147,7 +145,7 @@ walk_all from b (o ∷ os) (len, (low, e, none, w), rest) k n l m v =
     go : (o ≤ k) ⊎ (k < o) → (o + len ≤ k) ⊎ (k < o + len) → (o + len ≤ k → IsCovered b os k) → IsCovered b (o ∷ os) k
     go (inr u) _ more = absurd (none k n l u m v)
     go (inl t) (inr u) more = (o, len, (0, omega arith, refl), w, t, u)
-    go (inl t) (inl u) more = let c = more u in (c.0, c.1, behind o os c.0 c.2, c.3, c.4, c.5)
+    go (inl t) (inl u) more = let c = more u in (c.0, c.1, one_behind o os c.0 c.2, c.3, c.4, c.5)
 
 pub walk_found : (b os : List ℕ) → FoundFrom 0 b os → Found b os
 walk_found b os f = record {
@@ -169,7 +167,7 @@ covered_between : (from : ℕ) (b : List ℕ) (o : ℕ) (os : List ℕ) → AllB
     → NoneBetween b from o
 covered_between from b o os clear all = λ k n l u m v. go k u (all k n l m v) where
   go : (k : ℕ) → k < o → IsCovered b (o ∷ os) k → ⊥
-  go k u (p, j, h, w, s, t) = at (in_front o os p h) where
+  go k u (p, j, h, w, s, t) = at (first_or_behind o os p h) where
     at : (o ≡ p) ⊎ Contains os p → ⊥
     at (inl e) = omega (arith, e, u, s)
     at (inr h) = omega (arith, (one_of (LiesBehind b o) os p clear h).0, u, s)
@@ -178,7 +176,7 @@ covered_between from b o os clear all = λ k n l u m v. go k u (all k n l m v) w
 covered_rest : (from : ℕ) (b : List ℕ) (o n : ℕ) (os : List ℕ) → from ≤ o → VolumeAt b o n → AllFrom from b (o ∷ os) → AllFrom (o + n) b os
 covered_rest from b o n os low v all = λ k m l e w. go k l (all k m (omega (arith, low, l)) e w) where
   go : (k : ℕ) → o + n ≤ k → IsCovered b (o ∷ os) k → IsCovered b os k
-  go k l (p, j, h, w, s, t) = at (in_front o os p h) where
+  go k l (p, j, h, w, s, t) = at (first_or_behind o os p h) where
     at : (o ≡ p) ⊎ Contains os p → IsCovered b os k
     at (inl e) = absurd (omega (arith, e, l, t, one_length b o n j v (subst (λ i. VolumeAt b i j) (sym e) w)))
     at (inr h) = (p, j, h, w, s, t)

@@ -9,11 +9,11 @@ use Rattle.fv_base.specs.declared.fault.Fault.{Fault}
 use Rattle.fv_section.specs.FrameChecks as section
 use Rattle.fv_section.specs.FrameChecks.{frame_checks}
 use Rattle.fv_section.specs.Frames.{FrameForm, Splits, SplitsFrom, FrameStandsAt, frame_len, up_to_4}
-use Rattle.fv_section.proofs.Laws.{step, cut, one_frame, one_split, begins_of, first_here, none_after, stands_within, whole_of}
+use Rattle.fv_section.proofs.Laws.{begins_of, cut, first_here, none_after, one_frame, one_split, stands_within, step, whole_of}
 use Rattle.fv_tree.specs.Denotes.{Pairs, MeansSection, Stream, IsStoredFrame}
 use Rattle.fv_tree.specs.FirstFault.{moved_fault, SectionFirst, FirstInStream}
 use Rattle.fv_tree.specs.Meaning.{SectionMeaning}
-use Rattle.fv_tree.proofs.Lists.{pairs_push, pairs_only, pairs_empty}
+use Rattle.fv_tree.proofs.ListPairs.{pairs_push, pairs_only, pairs_empty}
 
 -- ---- the frames
 

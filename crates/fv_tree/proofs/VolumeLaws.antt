@@ -12,7 +12,7 @@ use Rattle.fv_base.proofs.Laws.{first_among, take-take_le}
 use Rattle.fv_head.specs.Head.{HeadFields, BeginsVolume}
 use Rattle.fv_head.specs.HeadChecks.{head_checks, volume_len_at}
 use Rattle.fv_head.specs.declared.extent.Extent.{Extent}
-use Rattle.fv_head.proofs.Laws.{one_front, front_extent, front_same}
+use Rattle.fv_head.proofs.Laws.{front_extent, front_same, one_front}
 use Rattle.fv_tree.specs.ReadingParts.{HasFiles}
 use Rattle.fv_tree.specs.Denotes.{Stream, Denotes, Opens}
 use Rattle.fv_tree.specs.FirstFault.{moved_fault, BodyFirst, FirstInStream, FirstInVolume}

@@ -118,5 +118,3 @@ abbrev mutual
   body_differs (Nested v) (Leaf c) = differ_in words.Shape
   body_differs (Nested v) (Group rs u) = differ_in words.Shape
   body_differs (Nested v) (Nested w) = difference v w
-
--- ---- while it is found

@@ -72,7 +72,7 @@ InFiles in_stream length e fs base depth =
     ⊎ SomeOf
     (λ f. (holds_sections f.head.kind ≡ true) × in_stream e f.payload (base + data_place f) depth) (alive_in fs)
 
--- in a volume: a check of its head or of a cell fails, or the fault stands among its files
+-- in a volume: a check of its header or of a cell fails, or the fault stands among its files
 abbrev pub InVolume : Faulty → Faulty
 InVolume in_stream e b base depth =
     ((f : Fault) × Fails (head_checks b) f × (e ≡ moved_fault base depth f))

@@ -12,10 +12,11 @@ use Rattle.fv_base.specs.declared.guid.Guid.{Guid}
 use Rattle.fv_tree.specs.Meaning.{FileMeaning, file_name_of}
 use Rattle.fv_tree.specs.declared.name_index.Numbers.{Numbers}
 
--- the first file of this name
+-- a file of this name
 abbrev pub is_named : Guid → FileMeaning → Bool
 is_named name f = bytes_eq (bytes_of name) (bytes_of (file_name_of f))
 
+-- the first file of this name
 abbrev pub file_named : Guid → List FileMeaning → Option FileMeaning
 file_named name fs = find (is_named name) fs
 

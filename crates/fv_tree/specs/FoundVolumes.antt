@@ -31,5 +31,3 @@ pub record Found (b os : List ℕ) : Type 0 where
   pub places : AllByRecursion (IsPlace b) os
   pub apart : Apart b os
   pub all : (k n : ℕ) → k % 8 ≡ 0 → VolumeAt b k n → IsCovered b os k
-
--- ---- the walk that finds them

@@ -6,7 +6,7 @@ use denote.Param.Weighed.{most}
 use Rattle.fv_tree.specs.Meaning.{FileMeaning, SectionMeaning, files_from, sections_from}
 use Rattle.fv_tree.specs.Sizes.{file_size, files_size, section_size, sections_size}
 
--- each part of a list is smaller than it
+-- of a list of sections, and of a list of files
 pub sections_fall : (ss : List SectionMeaning) → most (λ s. section_size s + 1) ss ≤ sections_size (sections_from ss)
 sections_fall [] = omega arith
 sections_fall (s ∷ ss) = omega (arith, sections_fall ss)

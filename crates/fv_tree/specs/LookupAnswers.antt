@@ -21,5 +21,6 @@ SeesFrame (answers.Found (items.Frame f)) o = o ≡ Some (frame_form f)
 SeesFrame answers.Absent o = o ≡ None
 SeesFrame answers.NotSectioned o = ⊥
 
+-- it is NotSectioned: the file holds no sections
 abbrev pub IsNotSectioned : Lookup → Type 0
 IsNotSectioned l = l ≡ answers.NotSectioned

@@ -1,4 +1,4 @@
--- The order of names, and of names with whether the file is marked.
+-- What the look-ups of names go by: their order, which names some files have, and the number of a file by its name.
 -- Serves private clauses alone: there is nothing to believe here.
 use Rattle.std.specs.Prelude.{◌≡◌, ℕ, ◌+◌, ◌&&◌, Bool, if◌then◌else◌, List, [], ◌∷◌, map, Option, Some, None}
 use Rattle.std.specs.Bool.{beq}
@@ -29,10 +29,11 @@ is_keyed key f = bytes_eq (bytes_of key.0) (bytes_of f.head.name) && beq key.1 (
 abbrev pub HasNames : BTreeSet (Guid × Bool) → List FileForm → Type 0
 HasNames names fs = (key : Guid × Bool) → contains key_cmp names key ≡ list_any (is_keyed key) fs
 
--- its number, where the first of the files has this one
+-- the number of the first file of this name, where the first of the files has the number k
 abbrev pub number_from : ℕ → Guid → List FileMeaning → Option ℕ
 number_from k name [] = None
 number_from k name (f ∷ fs) = if is_named name f then Some k else number_from (k + 1) name fs
 
+-- the names of files, in their order
 abbrev pub names_in : List FileForm → List Guid
 names_in fs = map (λ f. f.head.name) fs

@@ -54,6 +54,7 @@ abbrev pub IsReadyFile : ℕ → FileForm → Type 0
 IsReadyFile base f =
     IsStoredFile f × (base + data_place f + length f.payload < 2 ^ 63) × (length f.payload ≤ volume_limit)
 
+-- all of the files do
 abbrev pub AllStored : ℕ → List FileForm → Type 0
 AllStored base fs = AllByRecursion (IsReadyFile base) fs
 

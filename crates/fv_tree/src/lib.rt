@@ -17,3 +17,4 @@ pub use lookup::{Item, Lookup, file_by_name, file_by_type, next_file, section_by
 pub use read::read_volume;
 pub use scanner::{Offsets, scan};
 pub use view::{Body, Content, FileView, SectionView, VolumeView};
+pub use volume_files::VOLUME_TOP_FILE;

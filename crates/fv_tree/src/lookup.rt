@@ -23,7 +23,7 @@ use fv_section::{Frame, next_frame};
 /// 3, section 3.2.3, EFI_FV_FILETYPE_SECURITY_CORE.)
 const SECURITY_CORE: u8 = 0x03;
 
-/// What a look-up of a section found.
+/// What a look-up of a section found. (PI specification, volume 3, section 3.2.4.)
 #[derive(Clone, Copy)]
 pub enum Item<'v, 'a> {
     /// A section of the tree.

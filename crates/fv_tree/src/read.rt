@@ -32,11 +32,24 @@ use fv_head::{Extent, is_one_volume, read_head};
 use fv_section::{Frame, next_frame};
 use std::alloc::Global;
 
-/// The type of a section that groups others.
+/// `EFI_SECTION_DISPOSABLE`, the type of a section that groups others. (PI specification, volume 3, section 3.2.5.)
 const GROUP: u8 = 0x03;
 
-/// The type of a section that may hold a volume.
+/// `EFI_SECTION_FIRMWARE_VOLUME_IMAGE`, the type of a section that may hold a volume.
 const VOLUME: u8 = 0x17;
+
+/// How many levels deep groups and opened volumes may nest in a volume.
+const DEPTH_LIMIT: u8 = 8;
+
+/// `EFI_FV_FILETYPE_FREEFORM`, the type of a file that holds sections, as do the types from `PEI_CORE` to
+/// `MM_CORE_STANDALONE`. (PI specification, volume 3, section 3.2.3.)
+const FREEFORM: u8 = 0x02;
+
+/// `EFI_FV_FILETYPE_PEI_CORE`, the least of those types.
+const PEI_CORE: u8 = 0x04;
+
+/// `EFI_FV_FILETYPE_MM_CORE_STANDALONE`, the greatest of them.
+const MM_CORE_STANDALONE: u8 = 0x0f;
 
 // A fault of bytes that begin at this place.
 fn within(fault: Fault, place: Place) -> Fault
@@ -57,11 +70,11 @@ fn within(fault: Fault, place: Place) -> Fault
     }
 }
 
-// The types of files that hold sections.
+// Whether a file of this type holds sections.
 fn holds_sections(kind: u8) -> bool
     ensures { result ≡ holds_sections kind }
 {
-    kind == 0x02 || (0x04 <= kind && kind <= 0x0f)
+    kind == FREEFORM || (PEI_CORE <= kind && kind <= MM_CORE_STANDALONE)
 }
 
 // How many bytes the header of a section has.
@@ -71,13 +84,17 @@ fn head_of(extended: bool) -> u64
     if extended { 8 } else { 4 }
 }
 
-// How the body of a section is read.
+/// How the body of a section is read.
 enum Shape {
+    /// As bytes of no further meaning.
     Leaf,
+    /// As sections.
     Group,
+    /// As a volume.
     Volume,
 }
 
+// How the body of the section in a frame is read: by its type, and a volume's by what it holds.
 fn shape_of(frame: &Frame) -> Shape
     ensures { result ≡ shape_of (framed.frame_form frame.now) }
 {
@@ -382,7 +399,8 @@ fn read_at<'a>(
 /// The first fault: those of the header, as `verify_fv`; of the body, as `cells`; DuplicateName at
 /// the later of two files of one name and state; TopFile at a volume top file that is not at the
 /// end; and then, file by file, those of the sections, as `frames`, Depth at a group or an opened
-/// volume that lies too deep, and those of what it holds. OutOfMemory.
+/// volume that lies too deep, and those of what it holds. The offset is in bytes from the first of
+/// `bytes`, and the depth is the number of groups and opened volumes round it. OutOfMemory at 0.
 pub fn read_volume(alloc: Global, bytes: &[u8]) -> Result<(VolumeView<'_>, u64), Fault>
     // These bytes are a volume of this meaning.
     ensures found { IfOk result (λ r. Accepted (take r.1 bytes.now) r.0) }
@@ -412,5 +430,5 @@ pub fn read_volume(alloc: Global, bytes: &[u8]) -> Result<(VolumeView<'_>, u64),
         offset: 0,
         depth: 0,
     };
-    read_at(alloc, bytes, place, 8)
+    read_at(alloc, bytes, place, DEPTH_LIMIT)
 }

@@ -117,13 +117,14 @@ impl<'a> Model for FileView<'a> {
 
     ghost coded = { file_code };
 
+    ghost use Rattle.fv_file.specs.Attributes.{attribute_bits};
     ghost use Rattle.fv_tree.specs.Views.{content_view};
 
-    ghost view = { λ f. File f.name f.file_type f.attributes.0 (content_view f.content) };
+    ghost view = { λ f. File f.name f.file_type (attribute_bits f.attributes) (content_view f.content) };
 
     ghost use Rattle.fv_tree.specs.Denotes.{IsReadFile};
 
-    ghost invariant = { λ f. IsReadFile (File f.name f.file_type f.attributes.0 (content_view f.content))
+    ghost invariant = { λ f. IsReadFile (File f.name f.file_type (attribute_bits f.attributes) (content_view f.content))
         × (f.data_len ≡ content_len (content_view f.content)) };
 
     ghost size = { file_size };
@@ -238,9 +239,9 @@ impl<'a> FileView<'a> {
         content: Content<'a>,
         len: u32,
     ) -> FileView<'a>
-        requires read { IsReadFile (File name kind attributes.0 (content_view content)) }
+        requires read { IsReadFile (File name kind (attribute_bits attributes) (content_view content)) }
         requires len { len ≡ content_len (content_view content) }
-        ensures { result ≡ File name kind attributes.0 (content_view content.entry) }
+        ensures { result ≡ File name kind (attribute_bits attributes) (content_view content.entry) }
     {
         FileView {
             name,
@@ -268,8 +269,8 @@ impl<'a> FileView<'a> {
         self.file_type
     }
 
-    /// The attribute bits without 01, which goes with the form of the header. (PI specification,
-    /// volume 3, section 3.2.3.1.)
+    /// The attribute bits without 0x01 (FFS_ATTRIB_LARGE_FILE), which goes with the form of the
+    /// header. (PI specification, volume 3, section 3.2.3.1.)
     pub fn attributes(&self) -> FileAttributes
         ensures { attribute_bits result ≡ attributes_of self.now }
     {

@@ -19,8 +19,9 @@ use fv_file::{Cell, FileHead, FileState};
 use std::alloc::Global;
 use std::collections::BTreeSet;
 
-/// The name of the volume top file, 1ba0062e-c779-4582-8566-336ae8f78f09.
-const TOP: [u8; 16] = [
+/// The bytes of the name of the volume top file, `EFI_FFS_VOLUME_TOP_FILE_GUID`,
+/// 1ba0062e-c779-4582-8566-336ae8f78f09. (PI specification, volume 3, section 3.2.1.3.)
+pub const VOLUME_TOP_FILE: [u8; 16] = [
     0x2e, 0x06, 0xa0, 0x1b, 0x79, 0xc7, 0x82, 0x45, 0x85, 0x66, 0x33, 0x6a, 0xe8, 0xf7, 0x8f, 0x09,
 ];
 
@@ -42,10 +43,11 @@ fn is_marked(state: FileState) -> bool
     matches!(state, FileState::Marked)
 }
 
+// Whether a file is a volume top file, by its name.
 fn is_top(file: &Standing) -> bool
     ensures { result ≡ is_top (file_form file.now) }
 {
-    file.head.name.to_bytes()[..] == TOP[..]
+    file.head.name.to_bytes()[..] == VOLUME_TOP_FILE[..]
 }
 
 // The file that a cell is, if it is one.
@@ -145,7 +147,7 @@ fn check_top(files: &[Standing], length: u64) -> Result<(), Fault>
     Ok(())
 }
 
-// Those that are part of it where two of them may have one name.
+// As `alive_files`, where two of the files may have one name.
 fn apart_files<'a>(
     alloc: Global,
     files: Vec<Standing<'a>>,

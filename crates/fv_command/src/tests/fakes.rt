@@ -7,12 +7,15 @@ use std::io::{ErrorKind, Read, Write};
 /// Gives bytes, so many at most a call, and fails after so many in all.
 #[derive(Drop)]
 pub struct FakeReader<'a> {
+    /// The bytes that are not yet given.
     rest: &'a [u8],
+    /// How many bytes a call gives at most.
     step: usize,
     /// How many bytes are given before a call fails.
     until_failure: usize,
     /// Whether every second call is interrupted.
     is_interrupted: bool,
+    /// Whether the last call was one of those.
     is_second: bool,
 }
 
@@ -108,13 +111,17 @@ impl Read for InterruptedReader {
 /// Takes so many bytes, and then fails.
 #[derive(Drop)]
 pub struct FakeWriter {
+    /// The bytes that it took.
     taken: Vec<u8>,
     /// Whether a call came after the first that failed.
     is_late: bool,
+    /// How many bytes a call takes at most.
     step: usize,
+    /// How many bytes it still takes in all.
     room: usize,
     /// Whether a call without room is an error, or takes no byte.
     is_broken: bool,
+    /// Whether a call has failed, or took no byte.
     has_failed: bool,
 }
 

@@ -102,7 +102,7 @@ fn has_start(places: &Layout, index: u32, digits: &str) -> bool {
     }
 }
 
-// Whether the files stand just there.
+/// Whether the files stand just there.
 pub fn has_starts(places: &Layout, starts: &str) -> bool {
     let mut index = 0u32;
     for digits in starts.split_whitespace() {

@@ -27,10 +27,15 @@ type Input<'a> = Source<FakeReader<'a>, FakeReader<'a>>;
 /// A run, and how it ends.
 #[derive(Drop)]
 struct Run {
+    /// What is to be done.
     plan: Plan,
+    /// The bytes of the first input.
     first: Vec<u8>,
+    /// The bytes of the second input, or none.
     second: Vec<u8>,
+    /// The exit status.
     status: u64,
+    /// The bytes that are written.
     written: Vec<u8>,
 }
 

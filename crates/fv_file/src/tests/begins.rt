@@ -87,7 +87,7 @@ fn files_begin_bytes(rt: HostRuntime) {
 
 /// What stands behind the name in a header, and the fault in FFS2 where 32 erased bytes follow.
 const HEADERS: [(&[u8], FaultKind, u64); 13] = [
-    // State bit 40, and all State bits.
+    // State bit 0x40, and all State bits.
     (
         &[0x47, 0xaa, 0x01, 0x00, 0x18, 0x00, 0x00, 0xb8],
         FaultKind::FileState,

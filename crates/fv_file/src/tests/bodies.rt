@@ -129,7 +129,7 @@ static PADS: [Body; 5] = [
     ),
 ];
 
-/// Where an erased byte is 00.
+/// Where an erased byte is 0x00.
 static ZEROS: [Body; 2] = [
     ("erased bytes", 128, &[], &[(Free, 72, 56, 0, &[])]),
     (

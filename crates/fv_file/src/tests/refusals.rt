@@ -217,7 +217,7 @@ static STUBS: [Refusal; 2] = [
     ),
 ];
 
-/// Where an erased byte is 00.
+/// Where an erased byte is 0x00.
 static ZEROS: [Refusal; 2] = [
     (
         "a State byte that is right where an erased byte is FF",

@@ -47,7 +47,7 @@ pub(super) static STATES: [Body; 7] = [
         &[&P, &[0x08, 0xaa, 0xf0, 0x00, 0x18, 0x00, 0x00, 0xe8]],
         &[(Dead, 72, 24, 0, &[]), (Free, 96, 32, 0, &[])],
     ),
-    // Bit 01 of its attributes is set, so the header would have had 32 bytes.
+    // Bit 0x01 of its attributes is set, so the header would have had 32 bytes.
     (
         "a file, and a header of 32 bytes that was begun",
         128,
@@ -87,7 +87,7 @@ pub(super) static STATES: [Body; 7] = [
     ),
 ];
 
-/// Where an erased byte is 00.
+/// Where an erased byte is 0x00.
 static ZEROS: [Body; 2] = [
     (
         "a marked file and a deleted one",

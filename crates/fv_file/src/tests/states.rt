@@ -76,7 +76,7 @@ fn files_stand_in_two_states(rt: HostRuntime) {
     }
 }
 
-// Whether the bits are read so, with and without bit 01.
+// Whether the bits are read so, with and without bit 0x01.
 fn is_read(bits: u8, is_large: bool, is_fixed: bool, is_summed: bool, without: u8) -> bool {
     let attributes = FileAttributes::from_bits_retain(bits);
     attributes.bits() == bits

@@ -76,7 +76,7 @@ static ONES: [Refusal; 8] = [
     ),
 ];
 
-/// Where an erased byte is 00.
+/// Where an erased byte is 0x00.
 static ZEROS: [Refusal; 1] = [(
     "the last byte where an erased one is 00",
     128,
@@ -136,7 +136,7 @@ fn long_stretches_are_free(rt: HostRuntime) {
     assert_eq!(rt; first, None);
 }
 
-// The fault of a volume of 12,448 bytes, a file and erased bytes, in which one byte is 7F.
+// The fault of a volume of 12,448 bytes, a file and erased bytes, in which one byte is 0x7F.
 fn fault_with(alloc: Global, at: usize) -> Option<Fault> {
     let mut bytes = [0u8; ROOM];
     lay(&mut bytes, &FILE, Polarity::Ones);

@@ -19,7 +19,7 @@ const LENGTHS: &[(u16, &[u16], &[u16])] = &[
     (0xfffe, &[8, 16, 0xfff8], &[]),
     // An end block with a body.
     (0xffff, &[], &[16, 24]),
-    // Types that have no row of their own.
+    // Types that have no kind of their own.
     (0x0000, &[8, 16], &[]),
     (0x0008, &[8, 24], &[]),
     (0x000a, &[8, 56], &[]),

@@ -130,7 +130,7 @@ fn is_extension(hob: &Hob, named: Guid, data: &[u8]) -> bool {
     }
 }
 
-// Whether a block has this type, which has no row of its own, and this body.
+// Whether a block has this type, which has no kind of its own, and this body.
 fn is_other(hob: &Hob, its: u16, body: &[u8]) -> bool {
     match hob.kind() {
         HobKind::Other { code, payload } => *code == its && payload.as_slice() == body,
@@ -162,7 +162,7 @@ fn stands_in_list(hob: &Hob, at: usize) -> bool {
     }
 }
 
-/// The body of the block whose type has no row of its own.
+/// The body of the block whose type has no kind of its own.
 const OTHER_BODY: &[u8] = &[
     0x90, 0x91, 0x92, 0x93, 0x94, 0x95, 0x96, 0x97, 0x98, 0x99, 0x9a, 0x9b, 0x9c, 0x9d, 0x9e, 0x9f,
 ];

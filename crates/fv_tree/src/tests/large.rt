@@ -49,7 +49,8 @@ pub(super) fn refused() -> &'static str {
 /// What a volume of 16 MiB and 80 bytes begins with: a header, and that of a file with so many bytes that
 /// no short one can say them.
 const LONG: &str =
-    "00*16 7ac07354cb3dca4dbd6f1e9689e7349a 50000001 00*4 5f465648 fffe0400 48004545 00000002 01000000 50000001 00*8 0a*16 \
+    "00*16 7ac07354cb3dca4dbd6f1e9689e7349a 50000001 00*4 5f465648 fffe0400 48004545 00000002 01000000 50000001 00*8 \
+     0a*16 \
      55aa0101000000f8 0800000100000000";
 
 // Whether the long volume is read with its file, whose data are all behind the headers.

@@ -121,7 +121,7 @@ fn behind(view: &VolumeView, after: Option<u32>) -> Option<(u32, u8)> {
     Some((number, file.name().to_bytes()[0]))
 }
 
-// The first byte of the name of the file of type 01 and this instance.
+// The first byte of the name of the file of type 0x01 and this instance.
 fn of_type(view: &VolumeView, instance: u32) -> Option<u8> {
     let file = file_by_type(view, 0x01, instance)?;
     Some(file.name().to_bytes()[0])

@@ -5,12 +5,12 @@ use crate::{Content, FileView, SectionView, read_volume};
 use std::alloc::Global;
 use std::mem::size_of;
 
-/// A file whose data are the byte 5a.
+/// A file whose data are the byte 0x5a.
 const BYTE: &str =
     "00*16 78e58c8c3d8a1c4f9935896185c32dd3 80 00*7 5f465648 fffe0400 4800cef5 00000002 01000000 80000000 00*8 0a*16 \
      46aa0100190000f8 5a ff*31";
 
-/// A file with one section, whose body is the byte 5a.
+/// A file with one section, whose body is the byte 0x5a.
 const SECTION: &str =
     "00*16 78e58c8c3d8a1c4f9935896185c32dd3 68 00*7 5f465648 fffe0400 4800fef5 00000002 01000000 68000000 00*8 0a*16 \
      41aa02001d0000f8 050000195affffff";

@@ -1,5 +1,5 @@
 use Rattle.std.proofs.Common.{arith, length, length-append, ap, ◌∙◌}
-use Rattle.fv_base.proofs.Pieces.{stops_by_error, stops_by_length, more_read, end_read, none_read, up_is_not_down}
+use Rattle.fv_base.proofs.ReadLemmas.{stops_by_error, stops_by_length, more_read, end_read, none_read, up_is_not_down}
 use Rattle.fv_base.proofs.input.read_input.Goals as goal
 use Rattle.fv_base.proofs.input.read_input.Goals.{in-More+else-len-gt-VOLUME_LIMIT, in-Interrupted}
 

@@ -1,6 +1,6 @@
 use Rattle.std.proofs.Common.{ℕ, ◌-◌, List, length, take, ◌∙◌, ap, subst, arith}
 use Rattle.std.proofs.lemmas.List.{take-replicate}
-use Rattle.fv_base.proofs.Runs.{run_joined}
+use Rattle.fv_base.proofs.SinkLemmas.{run_joined}
 use Rattle.fv_base.proofs.sink.fill_by.Goals as goal
 
 pub loop-left-preserved : goal.loop-left-preserved

@@ -1,7 +1,7 @@
 use Rattle.std.proofs.Common.{length, take, arith, subst, length-drop, ◌≤◌}
 use Rattle.std.specs.Io.KnownBytes.{Appends}
 use Rattle.fv_base.specs.Port.{inner_of}
-use Rattle.fv_base.proofs.Runs.{more_written}
+use Rattle.fv_base.proofs.SinkLemmas.{more_written}
 use Rattle.fv_base.proofs.sink.write_front.Goals as goal
 
 pub loop-at-preserved : goal.loop-at-preserved

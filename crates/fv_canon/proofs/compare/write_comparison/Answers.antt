@@ -2,7 +2,7 @@ use Rattle.std.proofs.Common.{◌≤◌, ◌∙◌, length, subst, sym}
 use Rattle.std.specs.Prelude.{IfSome}
 use Rattle.std.proofs.KnownBytes.{Keeps-refl}
 use Rattle.fv_tree.specs.Difference.{Differs}
-use Rattle.fv_canon.proofs.FewSteps.{few_steps}
+use Rattle.fv_canon.proofs.FewStepLaws.{few_steps}
 use Rattle.fv_canon.proofs.compare.write_comparison.Goals as goal
 
 pub write_line-requires : goal.write_line-requires

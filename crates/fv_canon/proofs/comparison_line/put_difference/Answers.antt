@@ -2,7 +2,7 @@ use Rattle.std.proofs.Common.{◌≡◌, ◌∙◌, ◌≤◌, ◌*◌, ℕ, Lis
 use Rattle.fv_tree.specs.declared.difference.Step.{Step}
 use Rattle.fv_tree.specs.declared.difference.Word.{Word}
 use Rattle.fv_canon.specs.ComparisonLines.{path_text, difference_word}
-use Rattle.fv_canon.proofs.LineLaws.{short_line}
+use Rattle.fv_canon.proofs.ComparisonLineLaws.{short_line}
 use Rattle.fv_canon.proofs.comparison_line.put_difference.Goals as goal
 
 pub returns-clause-line : goal.returns-clause-line

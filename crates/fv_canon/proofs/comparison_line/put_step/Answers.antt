@@ -1,6 +1,6 @@
 use Rattle.std.proofs.Common.{arith, decimal}
 use Rattle.std.specs.Prelude.{codes}
-use Rattle.fv_canon.proofs.LineLaws.{short_step}
+use Rattle.fv_canon.proofs.ComparisonLineLaws.{short_step}
 use Rattle.fv_canon.proofs.comparison_line.put_step.Goals as goal
 
 pub returns-in-File-clause-text : goal.returns-in-File-clause-text

@@ -2,7 +2,8 @@ use Rattle.fv_base.specs.Value.{up_to_8}
 use Rattle.std.proofs.Common.{◌+◌, ◌-◌, ◌<◌, inl, inr, arith, subst, refl}
 use Rattle.std.proofs.lemmas.Bool.{cases_lt}
 use Rattle.fv_canon.specs.Reaches.{Serves}
-use Rattle.fv_canon.proofs.Tries.{widens_eight, next_aligned, next_eighth, next_least, missed_at, tried_out, at_zero, not_true, never_true}
+use Rattle.fv_canon.proofs.StartSearchLaws.{widens_eight, next_aligned, next_eighth, next_least, missed_at, tried_out}
+use Rattle.fv_canon.proofs.StartSearchLaws.{at_zero, not_true, never_true}
 use Rattle.fv_canon.proofs.first_placement.first_start.Goals as goal
 
 pub returns-then-serves-3-clause-found : goal.returns-then-serves-3-clause-found

@@ -2,9 +2,9 @@ use Rattle.std.proofs.Common.{◌≡◌, ◌+◌, ◌-◌, ◌<◌, ℕ, [], ◌
 use Rattle.std.proofs.lemmas.Grind.{common_steps}
 use Rattle.fv_canon.specs.Reaches.{AreReaches, CanPlace, IsReach, Reaches}
 use Rattle.fv_canon.specs.declared.first_placement.Reach.{Reach}
-use Rattle.fv_canon.proofs.Numbers.{edge_eighth}
-use Rattle.fv_canon.proofs.FirstPlaces.{whole_can, next_reach, none_here, first_fits}
-use Rattle.fv_canon.proofs.PlaceLaws.{Forward, forward_at, forward_end}
+use Rattle.fv_canon.proofs.MultipleLaws.{edge_eighth}
+use Rattle.fv_canon.proofs.FirstPlacementLaws.{whole_can, next_reach, none_here, first_fits}
+use Rattle.fv_canon.proofs.PlacementLaws.{Forward, forward_at, forward_end}
 use Rattle.fv_canon.proofs.first_placement.first_starts.Goals.{In-Some}
 use Rattle.fv_canon.proofs.first_placement.first_starts.Goals as goal
 

@@ -1,5 +1,5 @@
 use Rattle.std.proofs.Common.{◌≡◌, ◌%◌, ◌≤◌, drop}
-use Rattle.fv_canon.proofs.PlaceLaws.{Forward}
+use Rattle.fv_canon.proofs.PlacementLaws.{Forward}
 use Rattle.fv_canon.proofs.first_placement.first_starts.Given as goal
 
 abbrev pub invariant-loop-i : goal.invariant-loop-i

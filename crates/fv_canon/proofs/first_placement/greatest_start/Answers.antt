@@ -1,7 +1,7 @@
 use Rattle.std.proofs.Common.{◌-◌, inl, inr, arith}
 use Rattle.std.proofs.lemmas.Bool.{cases_lt}
 use Rattle.fv_canon.specs.Reaches.{Serves}
-use Rattle.fv_canon.proofs.Tries.{widens_eight, next_most, fourth_serves, step_down, not_true, never_true}
+use Rattle.fv_canon.proofs.StartSearchLaws.{widens_eight, next_most, fourth_serves, step_down, not_true, never_true}
 use Rattle.fv_canon.proofs.first_placement.greatest_start.Goals as goal
 
 pub returns-then-data-step-clause-none : goal.returns-then-data-step-clause-none

@@ -5,7 +5,7 @@ use Rattle.fv_canon.specs.Starts.{TopOff, IsOff}
 use Rattle.fv_canon.specs.declared.first_placement.Part.{Part}
 use Rattle.fv_canon.proofs.first_placement.is_top_off.Goals as goal
 use Rattle.fv_canon.proofs.first_placement.is_top_off.Goals.{else-part-via-then-part+else-is_off, else-part-via-else-part}
-use Rattle.fv_canon.proofs.Tries.{not_true}
+use Rattle.fv_canon.proofs.StartSearchLaws.{not_true}
 
 -- an item that is off is found, and one that is not is passed over
 found : (total : ℕ) (fs : List Part) (i : ℕ) (d : Part) → i < length fs → (TopOff total (drop i fs) → TopOff total fs)

@@ -1,6 +1,6 @@
 use Rattle.std.proofs.Common.{◌≡◌, ◌+◌, [], ◌∷◌, ◌++◌, length, vec_len, arith}
 use Rattle.std.proofs.lemmas.Grind.{common_steps}
-use Rattle.fv_canon.proofs.FirstPlaces.{none_behind, reach_back, kept_more}
+use Rattle.fv_canon.proofs.FirstPlacementLaws.{none_behind, reach_back, kept_more}
 use Rattle.fv_canon.proofs.first_placement.reaches_from.Goals as goal
 
 pub returns-in-None-clause-none : goal.returns-in-None-clause-none

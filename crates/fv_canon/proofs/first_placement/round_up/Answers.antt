@@ -1,5 +1,5 @@
 use Rattle.std.proofs.Common.{ℕ, ◌+◌, ◌-◌, ◌<◌, ◌≤◌, arith}
-use Rattle.fv_canon.proofs.Numbers.{masked_at, is_multiple, up_above, up_near, up_least, small}
+use Rattle.fv_canon.proofs.MultipleLaws.{masked_at, is_multiple, up_above, up_near, up_least, small}
 use Rattle.fv_canon.proofs.first_placement.round_up.Goals as goal
 
 below : {k : ℕ} → k ≤ 24 → k < 64

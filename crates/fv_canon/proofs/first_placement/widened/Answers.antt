@@ -1,4 +1,4 @@
-use Rattle.fv_canon.proofs.Numbers.{widens_8, widens_self}
+use Rattle.fv_canon.proofs.MultipleLaws.{widens_8, widens_self}
 use Rattle.fv_canon.proofs.first_placement.widened.Goals as goal
 
 pub returns-then-alignment-lt8 : goal.returns-then-alignment-lt8

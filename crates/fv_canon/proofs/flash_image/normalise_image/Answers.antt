@@ -1,11 +1,11 @@
 use Rattle.std.proofs.Common.{◌≡◌, ◌∙◌, ◌≤◌, ℕ, List, length, subst, sym}
 use Rattle.std.proofs.lemmas.Bool.{leb-true}
 use Rattle.std.proofs.lemmas.Result.{err_from_is_err_and, IfOk-weaker}
-use Rattle.fv_base.proofs.KeptLemmas.{kept_whole}
+use Rattle.fv_base.proofs.Laws.{kept_whole}
 use Rattle.fv_base.specs.Limits.{volume_limit}
 use Rattle.fv_tree.specs.FoundVolumes.{Found}
 use Rattle.fv_canon.specs.FlashImages.{NormalisesAll}
-use Rattle.fv_canon.proofs.WholeLaws.{normalised_one, only_want}
+use Rattle.fv_canon.proofs.FlashImageLaws.{normalised_one, only_want}
 use Rattle.fv_canon.proofs.flash_image.normalise_image.Goals as goal
 
 pub returns-in_err-put_renewed-clause-fits : goal.returns-in_err-put_renewed-clause-fits

@@ -1,7 +1,7 @@
 use Rattle.std.proofs.Common.{rules, ℕ, List, ◌<◌, ◌^◌, length, get_or, arith, subst}
 use Rattle.fv_tree.proofs.Laws.{at_within}
 use Rattle.fv_canon.specs.Headline.{NormalisesTo}
-use Rattle.fv_canon.proofs.WholeLaws.{next_of, place_fits, puts_all, puts_more, puts_none, puts_told}
+use Rattle.fv_canon.proofs.FlashImageLaws.{next_of, place_fits, puts_all, puts_more, puts_none, puts_told}
 use Rattle.fv_canon.proofs.flash_image.put_renewed.Goals as goal
 
 pub loop-offset-init : goal.loop-offset-init

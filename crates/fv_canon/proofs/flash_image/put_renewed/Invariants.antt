@@ -1,4 +1,4 @@
-use Rattle.fv_canon.proofs.WholeLaws.{Puts}
+use Rattle.fv_canon.proofs.FlashImageLaws.{Puts}
 use Rattle.fv_canon.proofs.flash_image.put_renewed.Given as goal
 
 abbrev pub invariant-loop-offset : goal.invariant-loop-offset

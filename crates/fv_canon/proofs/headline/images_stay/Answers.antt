@@ -1,4 +1,4 @@
-use Rattle.fv_canon.proofs.NormalLaws.{images_stay}
+use Rattle.fv_canon.proofs.HeadlineLaws.{images_stay}
 use Rattle.fv_canon.proofs.headline.images_stay.Goals as goal
 
 pub returns : goal.returns

@@ -1,4 +1,4 @@
-use Rattle.fv_canon.proofs.NormalLaws.{images_tell}
+use Rattle.fv_canon.proofs.HeadlineLaws.{images_tell}
 use Rattle.fv_canon.proofs.headline.images_tell.Goals as goal
 
 pub returns : goal.returns

@@ -1,5 +1,5 @@
-use Rattle.fv_canon.proofs.NormalLaws.{one_meaning_of}
-use Rattle.fv_canon.proofs.OneLaws.{image_one}
+use Rattle.fv_canon.proofs.HeadlineLaws.{one_meaning_of}
+use Rattle.fv_canon.proofs.OneImageLaws.{image_one}
 use Rattle.fv_canon.proofs.headline.one_image.Goals as goal
 
 pub returns-clause-image : goal.returns-clause-image

@@ -1,4 +1,4 @@
-use Rattle.fv_canon.proofs.TileLaws.{pads_rule}
+use Rattle.fv_canon.proofs.StoredTilingLaws.{pads_rule}
 use Rattle.fv_canon.proofs.headline.pads.Goals as goal
 
 pub returns : goal.returns

@@ -1,12 +1,12 @@
 use Rattle.std.proofs.Common.{◌≡◌, ◌∙◌, ℕ, List, subst, sym}
 use Rattle.std.proofs.lemmas.Result.{IfOk-weaker}
-use Rattle.fv_base.proofs.KeptLemmas.{kept_whole}
+use Rattle.fv_base.proofs.Laws.{kept_whole}
 use Rattle.fv_tree.specs.Denotes.{Accepted, IsMeaning}
 use Rattle.fv_tree.specs.Meaning.{Meaning}
 use Rattle.fv_canon.specs.Image.{IsImage}
 use Rattle.fv_canon.proofs.ImageLaws.{image_accepted}
-use Rattle.fv_canon.proofs.NormalLaws.{one_meaning_of}
-use Rattle.fv_canon.proofs.OneLaws.{image_one}
+use Rattle.fv_canon.proofs.HeadlineLaws.{one_meaning_of}
+use Rattle.fv_canon.proofs.OneImageLaws.{image_one}
 use Rattle.fv_canon.proofs.image.canonical.Goals as goal
 
 pub returns-clause-image : goal.returns-clause-image

@@ -1,6 +1,6 @@
 use Rattle.std.proofs.Common.{◌≡◌, ◌≤◌, ◌⊎◌, inl, inr, ◌-◌, ℕ, List, [], ◌++◌, sym, ap, ◌∙◌, subst, arith, append_assoc}
 use Rattle.fv_canon.specs.StoredFiles.{pad_bytes, pads, long_pads, long_pad}
-use Rattle.fv_canon.proofs.TileLaws.{gap_none, gap_some, pads_rule}
+use Rattle.fv_canon.proofs.StoredTilingLaws.{gap_none, gap_some, pads_rule}
 use Rattle.fv_canon.proofs.image_pieces.put_gap.Goals as goal
 
 least_of : (n : ℕ) → (n ≡ 0) ⊎ (24 ≤ n) → (n ≡ 0 → ⊥) → 24 ≤ n

@@ -4,7 +4,7 @@ use Rattle.std.proofs.lemmas.Grind.{common_steps}
 use Rattle.std.proofs.lemmas.List.{length-map}
 use Rattle.fv_canon.specs.Layouts.{part_of}
 use Rattle.fv_canon.specs.StoredFiles.{size_for}
-use Rattle.fv_canon.proofs.OneLaws.{follow_length}
+use Rattle.fv_canon.proofs.OneImageLaws.{follow_length}
 use Rattle.fv_tree.specs.Meaning.{data_len_of}
 use Rattle.fv_canon.proofs.VolumeWalks.{used_last}
 use Rattle.fv_canon.proofs.image_pieces.used_end.Goals as goal

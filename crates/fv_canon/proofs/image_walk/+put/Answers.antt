@@ -24,7 +24,7 @@ use Rattle.fv_canon.proofs.FileLaws.{file_long, stored_is, size_is, at_file, fil
 use Rattle.fv_canon.proofs.FileLaws.{placed_on}
 use Rattle.fv_canon.specs.ImageWalks.{BeginsWithStarts, TakesFront, sections_bytes}
 use Rattle.fv_canon.proofs.SectionLaws.{section_known, item_laid, in_body, body_laid, left_is, goes_on, front_more, front_end}
-use Rattle.fv_tree.proofs.SizeLaws.{section_body_falls, file_falls}
+use Rattle.fv_tree.proofs.Laws.{file_falls, section_body_falls}
 use Rattle.fv_base.specs.declared.flash.Polarity.{Polarity}
 use Rattle.fv_head.specs.Attributes.{polarity_of}
 use Rattle.fv_head.specs.Head.{HeadFields}

@@ -1,9 +1,10 @@
 use Rattle.std.proofs.Common.{ℕ, List, ap, ◌∙◌, arith, add-one}
 use Rattle.fv_tree.specs.Meaning.{SectionMeaning, FileMeaning, body_of, content_of, files_from, sections_from}
 use Rattle.fv_canon.specs.Layouts.{LaysBody, LaysContent, LaysFiles, LaysSections, UnfitFiles, UnfitSections}
-use Rattle.fv_canon.proofs.GrowLaws.{lays_push, shallow_at, unfit_at, file_push, shallow_file_at, unfit_file_at, grew_on, unfit_passed}
+use Rattle.fv_canon.proofs.LayoutWalkLaws.{lays_push, shallow_at, unfit_at, file_push, shallow_file_at, unfit_file_at}
+use Rattle.fv_canon.proofs.LayoutWalkLaws.{grew_on, unfit_passed}
 use Rattle.fv_canon.proofs.layout_walk.+lay.Goals as goal
-use Rattle.fv_tree.proofs.SizeLaws.{section_body_falls, file_content_falls}
+use Rattle.fv_tree.proofs.Laws.{file_content_falls, section_body_falls}
 
 pub lay_sections-lay_body-requires : goal.lay_sections-lay_body-requires
 lay_sections-lay_body-requires t c =

@@ -1,5 +1,5 @@
 use Rattle.fv_canon.proofs.FitLaws.{unfit_none}
-use Rattle.fv_canon.proofs.GrowLaws.{only_memory, shallow_volume}
+use Rattle.fv_canon.proofs.LayoutWalkLaws.{only_memory, shallow_volume}
 use Rattle.fv_canon.proofs.LayoutLaws.{layout_is, one_layout, own_first}
 use Rattle.fv_canon.proofs.layout_walk.layout.Goals as goal
 

@@ -3,7 +3,7 @@ use Rattle.fv_tree.specs.Meaning.{sections_from}
 use Rattle.fv_tree.specs.Views.{body_view}
 use Rattle.fv_canon.specs.Layouts.{FitsBody}
 use Rattle.fv_canon.proofs.FitLaws.{unfit_none, unfit_sections_none}
-use Rattle.fv_canon.proofs.GrowLaws.{only_memory, shallow_group, shallow_nested}
+use Rattle.fv_canon.proofs.LayoutWalkLaws.{only_memory, shallow_group, shallow_nested}
 use Rattle.fv_canon.proofs.layout_walk.layout_of_body.Goals as goal
 
 pub lay_sections-requires : goal.lay_sections-requires

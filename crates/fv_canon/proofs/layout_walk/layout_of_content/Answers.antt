@@ -1,6 +1,6 @@
 use Rattle.fv_tree.specs.Meaning.{content_of}
 use Rattle.fv_canon.proofs.FitLaws.{unfit_content_none}
-use Rattle.fv_canon.proofs.GrowLaws.{only_memory, shallow_content}
+use Rattle.fv_canon.proofs.LayoutWalkLaws.{only_memory, shallow_content}
 use Rattle.fv_canon.proofs.layout_walk.layout_of_content.Goals as goal
 
 pub lay_content-requires : goal.lay_content-requires

@@ -1,5 +1,5 @@
 use Rattle.std.proofs.Common.{arith}
-use Rattle.fv_canon.proofs.PartLaws.{data_short}
+use Rattle.fv_canon.proofs.StoredPartLaws.{data_short}
 use Rattle.fv_canon.proofs.layout_walk.part_of.Goals as goal
 use Rattle.fv_canon.proofs.layout_walk.part_of.Goals.{then-data_len-gt16777215, else-data_len-gt16777215}
 

@@ -6,7 +6,7 @@ use Rattle.fv_canon.specs.Reaches.{IsLawfulPart}
 use Rattle.fv_canon.specs.declared.first_placement.Part.{Part}
 use Rattle.fv_tree.proofs.Laws.{files_list_back}
 use Rattle.fv_tree.specs.Meaning.{FileMeaning, files_of, head_of}
-use Rattle.fv_canon.proofs.PartLaws.{parts_fit}
+use Rattle.fv_canon.proofs.StoredPartLaws.{parts_fit}
 use Rattle.fv_canon.proofs.layout_walk.parts_of.Goals as goal
 
 pub returns-clause-ok : goal.returns-clause-ok

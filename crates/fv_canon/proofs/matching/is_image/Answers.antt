@@ -1,5 +1,5 @@
 use Rattle.fv_canon.specs.ImageOf.{image_of}
-use Rattle.fv_canon.proofs.MatchLemmas.{match_cut}
+use Rattle.fv_canon.proofs.MatchingLemmas.{match_cut}
 use Rattle.fv_canon.proofs.matching.is_image.Goals as goal
 
 pub returns-else-out : goal.returns-else-out

@@ -1,5 +1,5 @@
 use Rattle.std.proofs.Common.{rules}
-use Rattle.fv_canon.proofs.RunLaws.{behind_stops}
+use Rattle.fv_canon.proofs.NormaliseRunLaws.{behind_stops}
 use Rattle.fv_canon.proofs.normalising.run_normalise.Goals as goal
 
 pub returns-in_err-input-clause-err : goal.returns-in_err-input-clause-err

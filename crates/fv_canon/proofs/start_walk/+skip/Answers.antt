@@ -8,7 +8,7 @@ use Rattle.fv_canon.proofs.SectionLaws.{item_laid, in_body, body_laid, left_is}
 use Rattle.fv_canon.proofs.VolumeWalks.{VolumeLaid, volume_is, volume_seen, volume_left}
 use Rattle.fv_canon.proofs.start_walk.+skip.Goals.{skip_volume-After-files-files}
 use Rattle.fv_canon.proofs.start_walk.+skip.Goals as goal
-use Rattle.fv_tree.proofs.SizeLaws.{section_body_falls, file_content_falls}
+use Rattle.fv_tree.proofs.Laws.{file_content_falls, section_body_falls}
 
 pub skip_sections-skip_body-rest-requires : goal.skip_sections-skip_body-rest-requires
 skip_sections-skip_body-rest-requires t c =

@@ -2,8 +2,8 @@ use Rattle.std.proofs.lemmas.Result.{IfOk-weaker}
 use Rattle.fv_tree.specs.Meaning.{body_of}
 use Rattle.fv_canon.specs.Image.{IsBodyImage}
 use Rattle.fv_canon.specs.ImageOf.{body_image}
-use Rattle.fv_canon.proofs.OneLaws.{body_one}
-use Rattle.fv_canon.proofs.DataLaws.{body_is, kept_text}
+use Rattle.fv_canon.proofs.OneImageLaws.{body_one}
+use Rattle.fv_canon.proofs.ImagePieceLaws.{body_is, kept_text}
 use Rattle.fv_canon.proofs.stored_parts.body_bytes.Goals as goal
 
 pub returns-clause-body : goal.returns-clause-body

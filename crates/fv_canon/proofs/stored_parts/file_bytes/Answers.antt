@@ -2,8 +2,8 @@ use Rattle.std.proofs.lemmas.Result.{IfOk-weaker}
 use Rattle.fv_tree.specs.Meaning.{content_of}
 use Rattle.fv_canon.specs.Image.{IsData}
 use Rattle.fv_canon.specs.ImageOf.{data_of}
-use Rattle.fv_canon.proofs.OneLaws.{data_one}
-use Rattle.fv_canon.proofs.DataLaws.{data_is, kept_text}
+use Rattle.fv_canon.proofs.OneImageLaws.{data_one}
+use Rattle.fv_canon.proofs.ImagePieceLaws.{data_is, kept_text}
 use Rattle.fv_canon.proofs.stored_parts.file_bytes.Goals as goal
 
 pub returns-clause-data : goal.returns-clause-data

@@ -5,7 +5,7 @@ use Rattle.fv_tree.specs.LookupInstances.{preorder, inside_section}
 use Rattle.fv_tree.specs.Meaning.{Leaf, Group, Nested, SectionMeaning, body_of, sections_from}
 use Rattle.fv_tree.specs.Sizes.{body_size, sections_size}
 use Rattle.fv_tree.specs.Views.{body_view}
-use Rattle.fv_tree.proofs.SizeLaws.{body_falls, section_falls}
+use Rattle.fv_tree.proofs.Laws.{body_falls, section_falls}
 use Rattle.fv_command.specs.CheckTexts.{HeldDepex, sections_depexes}
 use Rattle.fv_command.specs.CheckRuns.{Noted}
 use Rattle.fv_command.proofs.CheckLemmas.{noted_none, noted_then, leaf_depexes, group_depexes, nested_depexes, sections_next}

@@ -3,7 +3,7 @@ use Rattle.std.proofs.KnownBytes.{Consumes-trans}
 use Rattle.std.proofs.lemmas.List.{length-take-le}
 use Rattle.std.proofs.lemmas.Result.{IfErr-weaker}
 use Rattle.std.specs.Prelude.{vec_len}
-use Rattle.fv_base.proofs.Pieces.{end_read, none_read, up_is_not_down}
+use Rattle.fv_base.proofs.Laws.{end_read, none_read, up_is_not_down}
 use Rattle.fv_base.specs.Limits.{volume_limit}
 use Rattle.fv_command.proofs.HexInLemmas.{both_ok, piece_count, piece_read, ran_out, refused_stops, stops_by_long_text, stops_by_reader}
 use Rattle.fv_command.specs.HexDecoding.{RefusesText}

@@ -2,7 +2,7 @@ use Rattle.std.proofs.Common.{rules, ◌<◌, ◌^◌, length, arith}
 use Rattle.std.specs.Io.KnownBytes.{Appends}
 use Rattle.std.proofs.lemmas.Result.{on_ok_weaker, IfErr-weaker}
 use Rattle.fv_base.specs.Output.{WriteStops}
-use Rattle.fv_canon.proofs.ImageLaws.{image_length, length_limit}
+use Rattle.fv_canon.proofs.Laws.{image_length, length_limit}
 use Rattle.fv_command.proofs.HexTextLemmas.{hex_long}
 use Rattle.fv_command.proofs.imaging.write_digits.Goals as goal
 

@@ -3,8 +3,7 @@ use Rattle.std.proofs.lemmas.Result.{err_from_is_err_and}
 use Rattle.fv_base.specs.Port.{has_erred}
 use Rattle.fv_base.specs.declared.fault.Fault.{Fault}
 use Rattle.fv_base.specs.declared.fault.FaultKind.TheVariants as kinds
-use Rattle.fv_canon.proofs.InputLaws.{not_placed, not_read, unfit_kind}
-use Rattle.fv_canon.proofs.RunLaws.{of_some_kind}
+use Rattle.fv_canon.proofs.Laws.{not_placed, not_read, of_some_kind, unfit_kind}
 use Rattle.fv_command.proofs.ImageTextLemmas.{digits_not_read, digits_stopped, digits_written, image_refused, plain_stopped, plain_written}
 use Rattle.fv_command.proofs.imaging.write_image.Goals as goal
 

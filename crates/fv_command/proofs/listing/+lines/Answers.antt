@@ -1,8 +1,8 @@
-use Rattle.std.proofs.Common.{◌≡◌, ◌+◌, refl, ap, arith}
-use Rattle.fv_tree.specs.Meaning.{FileMeaning, File, SectionMeaning, body_of, content_of, files_from}
-use Rattle.fv_tree.specs.Sizes.{volume_size, files_size, file_size, content_size, body_size}
+use Rattle.std.proofs.Common.{◌≡◌, ◌+◌, ap, arith}
+use Rattle.fv_tree.specs.Meaning.{FileMeaning, SectionMeaning, body_of, content_of, files_from}
+use Rattle.fv_tree.specs.Sizes.{volume_size, files_size, content_size, body_size}
 use Rattle.fv_tree.specs.Views.{body_view, content_view}
-use Rattle.fv_tree.proofs.SizeLaws.{section_body_falls, file_falls, content_falls}
+use Rattle.fv_tree.proofs.Laws.{content_falls, file_falls, section_body_falls}
 use Rattle.fv_command.proofs.WriteLemmas.{put_then}
 use Rattle.fv_command.proofs.listing.+lines.Goals as goal
 

@@ -1,5 +1,5 @@
 use Rattle.std.proofs.lemmas.Result.{err_from_is_err_and}
-use Rattle.fv_base.proofs.CheckLemmas.{first_is}
+use Rattle.fv_base.proofs.Laws.{first_is}
 use Rattle.fv_depex.specs.OpChecks.{op_checks}
 use Rattle.fv_depex.proofs.OpLemmas.{op_stands}
 use Rattle.fv_depex.proofs.read.next_op.Goals as goal

@@ -1,6 +1,6 @@
 use Rattle.std.proofs.Common.{◌∙◌, refl, sym, subst}
 use Rattle.std.proofs.lemmas.Result.{err_from_is_err_and}
-use Rattle.fv_base.proofs.CheckLemmas.{whatever}
+use Rattle.fv_base.proofs.Laws.{whatever}
 use Rattle.fv_depex.specs.OpChecks.{BeginsFirstOp, depex_want_of_memory}
 use Rattle.fv_depex.specs.Expressions.{Spells}
 use Rattle.fv_depex.proofs.PathLemmas.{one_spelling}

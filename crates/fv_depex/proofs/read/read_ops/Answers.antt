@@ -1,6 +1,6 @@
 use Rattle.std.proofs.Common.{◌∙◌, sym, subst, ap, arith, rules}
 use Rattle.std.proofs.lemmas.List.{take_rest}
-use Rattle.fv_base.proofs.CheckLemmas.{whatever}
+use Rattle.fv_base.proofs.Laws.{whatever}
 use Rattle.fv_depex.specs.OpChecks.{BeginsFirstOp, BeginsOp, depex_want_of_memory}
 use Rattle.fv_depex.specs.declared.fault.DepexFault.{DepexFault}
 use Rattle.fv_depex.proofs.ReadLemmas.{kept_none, kept, ended, no_want, one_more, stands_first}

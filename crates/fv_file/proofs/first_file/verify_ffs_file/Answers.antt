@@ -1,5 +1,5 @@
 use Rattle.std.proofs.Common.{◌∙◌}
-use Rattle.fv_file.proofs.VerifyLemmas.{ok_found, begins_only, err_first}
+use Rattle.fv_file.proofs.FirstFileLemmas.{ok_found, begins_only, err_first}
 use Rattle.fv_file.proofs.first_file.verify_ffs_file.Goals as goal
 
 pub returns-clause-found : goal.returns-clause-found

@@ -1,7 +1,7 @@
 use Rattle.std.proofs.Common.{◌≡◌, ◌∙◌, ap, length, refl, sym}
 use Rattle.fv_base.specs.Guids.{bytes_of}
 use Rattle.fv_file.specs.declared.head.FileHead.{FileHead}
-use Rattle.fv_file.proofs.WrittenLemmas.{file_head_is, file_written, head_of_file, only_file}
+use Rattle.fv_file.proofs.NewHeaderLemmas.{file_head_is, file_written, head_of_file, only_file}
 use Rattle.fv_file.proofs.new_header.file_head_bytes.Goals as goal
 
 pub returns-clause-bytes : goal.returns-clause-bytes

@@ -1,5 +1,5 @@
 use Rattle.std.proofs.Common.{rules}
-use Rattle.fv_base.proofs.FieldLemmas.{bytes_take}
+use Rattle.fv_base.proofs.Laws.{bytes_take}
 use Rattle.fv_file.proofs.new_header.header_with.Goals as goal
 
 pub returns-clause-bytes : goal.returns-clause-bytes

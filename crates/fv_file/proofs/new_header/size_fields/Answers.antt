@@ -1,5 +1,5 @@
 use Rattle.std.proofs.Common.{append-nil}
-use Rattle.fv_file.proofs.WrittenLemmas.{le_bytes_8-low_first}
+use Rattle.fv_file.proofs.NewHeaderLemmas.{le_bytes_8-low_first}
 use Rattle.fv_file.proofs.new_header.size_fields.Goals as goal
 
 pub returns-then-large : goal.returns-then-large

@@ -1,6 +1,6 @@
 use Rattle.std.proofs.Common.{ap, arith, length}
 use Rattle.fv_head.specs.ExtImage.{entries_len}
-use Rattle.fv_head.proofs.ExtSpelled.{ext_len_most}
+use Rattle.fv_head.proofs.ExtImageLemmas.{ext_len_most}
 use Rattle.fv_head.proofs.ext_image.len_of_ext.Goals as goal
 
 pub len_of_entries-requires : goal.len_of_entries-requires

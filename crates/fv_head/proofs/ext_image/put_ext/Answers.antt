@@ -2,8 +2,8 @@ use Rattle.std.proofs.Common.{◌∙◌, ap}
 use Rattle.fv_base.specs.Guids.{bytes_of}
 use Rattle.fv_base.specs.Value.{le_bytes}
 use Rattle.fv_head.specs.ExtImage.{entries_bytes, ext_spelled}
-use Rattle.fv_head.proofs.ExtSpelled.{ext_again}
-use Rattle.fv_head.proofs.SpellLemmas.{renamed}
+use Rattle.fv_head.proofs.ExtImageLemmas.{ext_again}
+use Rattle.fv_head.proofs.HeadWalkLemmas.{renamed}
 use Rattle.fv_head.proofs.ext_image.put_ext.Goals as goal
 
 pub returns-clause-bytes : goal.returns-clause-bytes

@@ -1,5 +1,5 @@
-use Rattle.fv_head.proofs.ExtSpelled.{used_put, payload_put}
-use Rattle.fv_head.proofs.SpellLemmas.{renamed}
+use Rattle.fv_head.proofs.ExtImageLemmas.{used_put, payload_put}
+use Rattle.fv_head.proofs.HeadWalkLemmas.{renamed}
 use Rattle.fv_head.proofs.ext_image.put_payload.Goals as goal
 
 pub returns-then-is_used_size : goal.returns-then-is_used_size

@@ -1,6 +1,6 @@
 use Rattle.std.proofs.Common.{◌∙◌, sym, inl, refl}
 use Rattle.std.proofs.lemmas.Result.{err_from_is_err_and}
-use Rattle.fv_head.proofs.FrontLemmas.{one_front, fault_known}
+use Rattle.fv_head.proofs.HeadCheckLemmas.{one_front, fault_known}
 use Rattle.fv_head.proofs.head.read_head.Goals as goal
 
 pub returns-clause-only : goal.returns-clause-only

@@ -1,11 +1,11 @@
 use Rattle.std.proofs.Common.{◌≡◌, ◌∙◌, ◌++◌, ◌≤◌, ℕ, List, length, subst, sym}
 use Rattle.std.specs.Prelude.{IfOk}
 use Rattle.std.proofs.lemmas.Result.{IfOk-weaker}
-use Rattle.fv_base.proofs.KeptLemmas.{kept_whole}
+use Rattle.fv_base.proofs.Laws.{kept_whole}
 use Rattle.fv_head.specs.Head.{IsCanonicalHead, BeginsVolume, extent_of}
 use Rattle.fv_head.specs.HeadImage.{canonical_head}
 use Rattle.fv_head.specs.ExtImage.{CanonicalRest, canonical_end, canonical_first}
-use Rattle.fv_head.proofs.SpelledLemmas.{canonical_is, canonical_only, canonical_front}
+use Rattle.fv_head.proofs.HeadImageLemmas.{canonical_is, canonical_only, canonical_front}
 use Rattle.fv_head.proofs.head_image.head_bytes.Goals.{After-finish}
 use Rattle.fv_head.proofs.head_image.head_bytes.Goals as goal
 

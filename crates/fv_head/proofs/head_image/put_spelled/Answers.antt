@@ -3,7 +3,7 @@ use Rattle.fv_base.specs.Value.{le_bytes}
 use Rattle.fv_head.specs.Head.{system_guid}
 use Rattle.fv_head.specs.Pairs.{pairs_bytes}
 use Rattle.fv_head.specs.HeadImage.{head_spelled}
-use Rattle.fv_head.proofs.SpellLemmas.{eleven, renamed}
+use Rattle.fv_head.proofs.HeadWalkLemmas.{eleven, renamed}
 use Rattle.fv_head.proofs.head_image.put_spelled.Goals as goal
 
 pub returns-clause-bytes : goal.returns-clause-bytes

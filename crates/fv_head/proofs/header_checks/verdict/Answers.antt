@@ -1,8 +1,8 @@
 use Rattle.std.proofs.Common.{◌∙◌, sym}
 use Rattle.std.proofs.lemmas.Result.{err_from_is_err_and}
 use Rattle.fv_head.specs.HeadChecks.{front_checks, whole_checks}
-use Rattle.fv_base.proofs.CheckLemmas.{first_front, first_whole}
-use Rattle.fv_head.proofs.FrontLemmas.{verdict_err, verdict_extent}
+use Rattle.fv_base.proofs.Laws.{first_front, first_whole}
+use Rattle.fv_head.proofs.HeadCheckLemmas.{verdict_err, verdict_extent}
 use Rattle.fv_head.proofs.header_checks.verdict.Goals as goal
 
 pub returns-in_err-file_system : goal.returns-in_err-file_system

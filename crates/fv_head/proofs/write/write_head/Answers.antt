@@ -3,7 +3,7 @@ use Rattle.std.specs.Io.KnownBytes.{Appends}
 use Rattle.std.proofs.lemmas.Result.{on_ok_weaker, IfErr-weaker}
 use Rattle.fv_base.specs.Output.{WriteStops}
 use Rattle.fv_head.specs.HeadImage.{canonical_head}
-use Rattle.fv_head.proofs.SpelledLemmas.{canonical_is, length-canonical, header_len_most}
+use Rattle.fv_head.proofs.HeadImageLemmas.{canonical_is, length-canonical, header_len_most}
 use Rattle.fv_head.proofs.write.write_head.Goals as goal
 
 pub returns-clause-ok : goal.returns-clause-ok

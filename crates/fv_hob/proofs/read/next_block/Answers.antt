@@ -1,6 +1,6 @@
 use Rattle.std.proofs.Common.{sym, subst, take, rules}
 use Rattle.std.proofs.lemmas.Result.{err_from_is_err_and}
-use Rattle.fv_base.proofs.CheckLemmas.{first_is}
+use Rattle.fv_base.proofs.Laws.{first_is}
 use Rattle.fv_hob.specs.HobChecks.{BeginsBlock, hob_checks}
 use Rattle.fv_hob.proofs.BlockLemmas.{stands}
 use Rattle.fv_hob.proofs.read.next_block.Goals as goal

@@ -1,5 +1,5 @@
 use Rattle.std.proofs.Common.{◌∙◌, sym, ap, rules}
-use Rattle.fv_base.proofs.CheckLemmas.{whatever}
+use Rattle.fv_base.proofs.Laws.{whatever}
 use Rattle.fv_hob.specs.HobChecks.{BeginsTable, hob_want_of_memory}
 use Rattle.fv_hob.specs.declared.fault.HobFault.{HobFault}
 use Rattle.fv_hob.proofs.ReadLemmas.{kept, ended, no_want, table_stands}

@@ -1,5 +1,5 @@
 use Rattle.std.proofs.lemmas.Result.{IfOk-weaker, IfErr-weaker}
-use Rattle.fv_section.proofs.SplitLemmas.{none_after, whole_within}
+use Rattle.fv_section.proofs.FrameWalkLemmas.{none_after, whole_within}
 use Rattle.fv_section.proofs.StreamLemmas.{one_split}
 use Rattle.fv_section.proofs.frame_walk.frames.Goals as goal
 

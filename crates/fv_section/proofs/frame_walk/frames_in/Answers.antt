@@ -1,6 +1,6 @@
 use Rattle.std.proofs.Common.{◌≡◌, ◌++◌, ◌∷◌, [], refl, arith, rules}
 use Rattle.std.proofs.lemmas.Result.{err_from_is_err_and}
-use Rattle.fv_section.proofs.SplitLemmas.{stands_within, kept, grows, first_here, whole_of}
+use Rattle.fv_section.proofs.FrameWalkLemmas.{stands_within, kept, grows, first_here, whole_of}
 use Rattle.fv_section.proofs.frame_walk.frames_in.Goals as goal
 
 pub loop-list-init : goal.loop-list-init

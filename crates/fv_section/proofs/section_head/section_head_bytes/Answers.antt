@@ -1,4 +1,4 @@
-use Rattle.fv_section.proofs.WrittenLemmas.{streams_are_read}
+use Rattle.fv_section.proofs.SectionImageLemmas.{streams_are_read}
 use Rattle.fv_section.proofs.section_head.section_head_bytes.Goals as goal
 
 pub returns-then-extended-clause-streams : goal.returns-then-extended-clause-streams

@@ -1,8 +1,8 @@
 use Rattle.std.proofs.Common.{sym, ap, ◌∙◌}
 use Rattle.std.proofs.lemmas.Result.{err_from_is_err_and}
 use Rattle.fv_tree.specs.DifferenceWalks.{outermost_first}
-use Rattle.fv_tree.proofs.DifferLaws.{one_volume}
-use Rattle.fv_tree.proofs.DifferWalks.{no_other, differ_told}
+use Rattle.fv_tree.proofs.DifferenceLaws.{one_volume}
+use Rattle.fv_tree.proofs.DifferenceWalkLaws.{no_other, differ_told}
 use Rattle.fv_tree.proofs.difference.first_difference.Goals as goal
 
 pub returns-in_err-found-clause-memory : goal.returns-in_err-found-clause-memory

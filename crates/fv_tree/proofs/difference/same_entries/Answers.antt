@@ -1,5 +1,5 @@
 use Rattle.std.proofs.Common.{sym}
-use Rattle.fv_tree.proofs.DifferWalks.{entries_long}
+use Rattle.fv_tree.proofs.DifferenceWalkLaws.{entries_long}
 use Rattle.fv_tree.proofs.difference.same_entries.Goals as goal
 
 pub returns-then-a-b : goal.returns-then-a-b

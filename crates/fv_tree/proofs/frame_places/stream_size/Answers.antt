@@ -1,6 +1,6 @@
 use Rattle.std.proofs.Common.{◌++◌, ◌∷◌, ◌-◌, [], length, refl, arith}
 use Rattle.std.proofs.lemmas.Result.{err_from_is_err_and}
-use Rattle.fv_section.proofs.Laws.{stands_within, grows, first_here, size_least, tail_small}
+use Rattle.fv_section.proofs.Laws.{first_here, grows, size_least, stands_within, tail_small}
 use Rattle.fv_section.specs.Frames.{FrameForm}
 use Rattle.fv_section.specs.FrameForms.{frame_form}
 use Rattle.fv_tree.proofs.StreamLaws.{split_more, counted, whole_stream}

@@ -4,7 +4,7 @@ use Rattle.fv_tree.specs.Searches.{sought}
 use Rattle.fv_tree.specs.Meaning.{sections_from}
 use Rattle.fv_tree.specs.Sizes.{body_size, sections_size}
 use Rattle.fv_tree.specs.Views.{body_view}
-use Rattle.fv_tree.proofs.LookLaws.{from_one, sought_in, sought_past, past_end}
+use Rattle.fv_tree.proofs.LookupLaws.{from_one, sought_in, sought_past, past_end}
 use Rattle.fv_tree.proofs.SizeLaws.{section_falls, body_falls}
 use Rattle.fv_tree.proofs.lookup.+seek.Goals as goal
 

@@ -4,8 +4,8 @@ use Rattle.std.specs.List.{filter}
 use Rattle.fv_tree.specs.LookupInstances.{instance_of}
 use Rattle.fv_tree.specs.Meaning.{FileMeaning, file_kind_of, files_of}
 use Rattle.fv_tree.proofs.VolumeLaws.{files_list_back}
-use Rattle.fv_base.proofs.TestLemmas.{not_equal}
-use Rattle.fv_tree.proofs.LookLaws.{instance_at, past_end, passed, met, slice_next, slice_first, one_type}
+use Rattle.fv_base.proofs.Laws.{not_equal}
+use Rattle.fv_tree.proofs.LookupLaws.{instance_at, past_end, passed, met, slice_next, slice_first, one_type}
 use Rattle.fv_tree.proofs.lookup.file_by_type.Goals as goal
 
 pub loop-file-init : goal.loop-file-init

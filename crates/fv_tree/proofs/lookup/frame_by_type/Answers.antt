@@ -1,10 +1,9 @@
 use Rattle.std.proofs.Common.{◌++◌, ◌∷◌, [], ℕ, List, refl, sym, ap, ◌∙◌, arith}
 use Rattle.std.proofs.lemmas.Result.{err_from_is_err_and}
-use Rattle.fv_section.proofs.SplitLemmas.{stands_within, grows, first_here, none_after, whole_of}
-use Rattle.fv_section.proofs.StreamLemmas.{one_split}
+use Rattle.fv_section.proofs.Laws.{first_here, grows, none_after, one_split, stands_within, whole_of}
 use Rattle.fv_section.specs.FrameForms.{frame_form}
 use Rattle.fv_tree.specs.LookupInstances.{frame_of_type}
-use Rattle.fv_tree.proofs.FrameLaws.{instance_nothing, split_more, frame_passed, frame_here, frame_on}
+use Rattle.fv_tree.proofs.FramePlaceLaws.{instance_nothing, split_more, frame_passed, frame_here, frame_on}
 use Rattle.fv_tree.proofs.lookup.frame_by_type.Goals as goal
 
 pub loop-frame-init : goal.loop-frame-init

@@ -10,7 +10,7 @@ use Rattle.fv_head.specs.HeadChecks.{head_checks}
 use Rattle.fv_head.specs.declared.extent.Extent.{Extent}
 use Rattle.fv_section.specs.Frames.{FrameForm}
 use Rattle.fv_section.specs.FrameForms as framed
-use Rattle.fv_section.proofs.Laws.{grows, stands_within, none_after}
+use Rattle.fv_section.proofs.Laws.{grows, none_after, stands_within}
 use Rattle.fv_tree.specs.ReadingParts.{IsReadyFile}
 use Rattle.fv_tree.specs.Denotes.{MeansFile, MeansSection, Stream}
 use Rattle.fv_tree.specs.Files.{FileForm}
@@ -20,8 +20,8 @@ use Rattle.fv_tree.specs.StandingForms.{file_form}
 use Rattle.fv_tree.specs.Views.{content_view}
 use Rattle.fv_tree.proofs.BodyLaws.{body_found, body_only, body_none, files_none, stand_first, files_first}
 use Rattle.fv_tree.proofs.FileLaws.{stream_reads, file_found, file_one, stream_bad}
-use Rattle.fv_tree.proofs.Lengths.{body_long, content_long}
-use Rattle.fv_tree.proofs.Lists.{pairs_empty, of_item, kept_pairs, kept_only, unread, first_refused, all_pairs, all_only}
+use Rattle.fv_tree.proofs.LengthLaws.{body_long, content_long}
+use Rattle.fv_tree.proofs.ListPairs.{pairs_empty, of_item, kept_pairs, kept_only, unread, first_refused, all_pairs, all_only}
 use Rattle.fv_tree.proofs.SectionLaws.{leaf_shape, group_shape, volume_shape, leaf_is, leaf_only, group_found, group_one, group_bad}
 use Rattle.fv_tree.proofs.SectionLaws.{group_first, nested_found, nested_one, nested_bad, nested_first, deep_bad, deep_fault}
 use Rattle.fv_tree.proofs.StreamLaws.{stands_ready, uncut_first, walk_begun, walk_more, walk_none, walk_first, walk_goes_on}

@@ -7,7 +7,7 @@ use Rattle.fv_tree.specs.StandingForms.{file_form}
 use Rattle.std.proofs.lemmas.List.{length-drop, length-map}
 use Rattle.fv_file.proofs.Laws.{cells_few}
 use Rattle.fv_head.specs.declared.extent.Extent.{Extent}
-use Rattle.fv_tree.proofs.Counts.{files_few}
+use Rattle.fv_tree.proofs.FileCountLaws.{files_few}
 use Rattle.fv_tree.proofs.BodyLaws.{alive_of, stand_none, files_stored}
 use Rattle.fv_tree.proofs.NameLaws.{files_within}
 use Rattle.fv_tree.proofs.read.files_in_body.Goals as goal

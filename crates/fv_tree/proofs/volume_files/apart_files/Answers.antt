@@ -5,8 +5,8 @@ use Rattle.std.proofs.lemmas.Result.{err_from_is_err_and}
 use Rattle.fv_tree.specs.Files.{FileForm, alive_in, replaces}
 use Rattle.fv_tree.specs.StandingForms.{file_form}
 use Rattle.std.proofs.lemmas.List.{length-map}
-use Rattle.fv_tree.proofs.Counts.{filter_few}
-use Rattle.fv_tree.proofs.BodyLaws.{all_filter}
+use Rattle.fv_tree.proofs.FileCountLaws.{filter_few}
+use Rattle.fv_base.proofs.Laws.{all_filter}
 use Rattle.fv_tree.proofs.NameLaws.{names_bound, top_bound}
 use Rattle.fv_tree.proofs.volume_files.apart_files.Goals as goal
 

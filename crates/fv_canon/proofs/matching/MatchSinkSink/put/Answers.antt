@@ -1,6 +1,6 @@
 use Rattle.std.proofs.Common.{length, take, sym}
 use Rattle.std.specs.Cmp.Lexicographic.{same_text, other_text}
-use Rattle.fv_canon.proofs.MatchLemmas.{front_off, front_differs, match_taken, match_ended}
+use Rattle.fv_canon.proofs.MatchingLemmas.{front_off, front_differs, match_taken, match_ended}
 use Rattle.fv_canon.proofs.matching.MatchSinkSink.put.Goals as goal
 
 pub returns-in-Some : goal.returns-in-Some

@@ -1,5 +1,5 @@
 use Rattle.std.proofs.Common.{◌∙◌}
-use Rattle.fv_base.proofs.Pieces.{up_is_not_down}
+use Rattle.fv_base.proofs.Laws.{up_is_not_down}
 use Rattle.fv_command.proofs.HexInLemmas.{none_waits, odd_is_no_text, one_waits, refuses_long_text, refuses_no_text}
 use Rattle.fv_command.proofs.HexInLemmas.{spoilt_is_no_text, whole_reads}
 use Rattle.fv_command.proofs.hex_text.Decoder.finish.Goals as goal

@@ -1,5 +1,5 @@
 use Rattle.std.proofs.lemmas.List.{take_all}
-use Rattle.fv_head.proofs.SpellLemmas.{byte_added}
+use Rattle.fv_head.proofs.HeadWalkLemmas.{byte_added}
 use Rattle.fv_head.proofs.head_image.WordSinkSink.put.Goals as goal
 
 pub loop-byte-preserved : goal.loop-byte-preserved

@@ -1,0 +1,43 @@
+-- What a sink holds behind a walk, or behind several.
+use Rattle.std.proofs.Common.{◌≡◌, ℕ, ◌+◌, ◌<◌, ◌%◌, ◌^◌, List, [], ◌++◌, take, drop, length, replicate, sym, ◌∙◌, ap, subst, arith}
+use Rattle.std.proofs.Common.{Bool, true, false}
+use Rattle.std.proofs.lemmas.List.{length-take-le, replicate-append-replicate}
+use Rattle.std.proofs.Math.Seq.{take-add}
+use Rattle.std.proofs.KnownBytes.{Appends-trans}
+use Rattle.std.specs.Prelude.{Option, Result, Ok, Err, IfOk}
+use Rattle.std.specs.Io.KnownBytes.{Appends}
+use Rattle.fv_base.specs.ListSinks.{KeptLatched}
+use Rattle.fv_base.specs.Sinks.{WalkLaws}
+use Rattle.fv_base.specs.WriteSinks.{PortShows, WritesFront}
+use Rattle.fv_base.specs.declared.fault.Fault.{Fault}
+
+-- a walk over bytes that are all one byte, in two steps
+pub run_joined : {S : Type 0} {takes : S → List ℕ → S → Type 0} (laws : WalkLaws takes) (s t u : S) (byte m n k : ℕ)
+    → takes s (replicate m byte) t → takes t (replicate n byte) u → m + n ≡ k → takes s (replicate k byte) u
+run_joined {S} {takes} laws s t u byte m n k p q e =
+    subst (λ xs. takes s xs u) (replicate-append-replicate m n byte ∙ ap (λ i. replicate i byte) e)
+    (laws.joined s t u (replicate m byte) (replicate n byte) p q)
+
+-- the first m bytes were written, and then the next n
+pub more_written : (a b c : Option (List ℕ)) (m n : ℕ) (bytes : List ℕ) → Appends a b (take m bytes) → Appends b c (take n (drop m bytes))
+    → Appends a c (take (m + n) bytes)
+more_written a b c m n bytes first next = subst (Appends a c) (sym (take-add m n bytes)) (Appends-trans a b c _ _ first next)
+
+-- where a port stopped, the count is how much of the bytes it holds
+pub front_is : (s t : PortShows) (bytes : List ℕ) → s.count ≡ 0 → t.count < 2 ^ 64 → length bytes < 2 ^ 64 → WritesFront s bytes t
+    → (t.count < length bytes) × Appends s.contents t.contents (take t.count bytes)
+front_is s t bytes z small short h =
+    let is : t.count ≡ h.0 = same_count s.count t.count h.0 (length bytes) (length (take h.0 bytes)) z small short h.1
+    (length-take-le h.0 bytes (omega (arith, h.1))) h.2.1 in
+    (omega (arith, is, h.1), subst (λ n. Appends s.contents t.contents (take n bytes)) (sym is) h.2.0)
+  where
+    same_count : (a b n long part : ℕ) → a ≡ 0 → b < 2 ^ 64 → long < 2 ^ 64 → n < long → part ≡ n → b % 2 ^ 64 ≡ (a + part) % 2 ^ 64 → b ≡ n
+    same_count a b n long part z small short cut is e = omega arith
+
+-- an empty list that took bytes, and went on, has these bytes
+pub kept_whole : (s k bytes : List ℕ) (a b : Bool) (r : Result (List ℕ) Fault) → s ≡ [] → a ≡ true → KeptLatched s a bytes k b
+    → IfOk r (λ o. (b ≡ true) × (o ≡ k)) → IfOk r (λ o. o ≡ bytes)
+kept_whole s k bytes true true (Ok o) none on taken got = got.1 ∙ taken ∙ ap (λ (xs : List ℕ). xs ++ bytes) none
+kept_whole s k bytes true false (Ok o) none on taken got = let never : false ≡ true = got.0 in cc
+kept_whole s k bytes false b (Ok o) none on taken got = cc
+kept_whole s k bytes a b (Err f) none on taken got = tt

@@ -1,0 +1,337 @@
+-- A flash image whose volumes are renewed, one after another.
+use Rattle.std.proofs.Common.{◌≡◌, ◌≢◌, ◌⊎◌, ◌≤◌, ◌<◌, ◌+◌, ◌-◌, ◌^◌, ℕ, List, [], ◌∷◌, ◌++◌, length, take, drop, get_or, refl}
+use Rattle.std.proofs.Common.{sym, ap, ◌∙◌, subst, arith, inl, inr, append_assoc, length-append}
+use Rattle.std.specs.List.{AllByRecursion, Contains}
+use Rattle.std.proofs.lemmas.Bool.{cases_lt}
+use Rattle.std.proofs.lemmas.List.{drop_more, ext_get_or, get_or-drop, get_or-take, length-drop, length-take-le, take_more}
+use Rattle.std.proofs.lemmas.List.{take-append-drop}
+use Rattle.std.proofs.Math.ListN.{drop_of_length-le}
+use Rattle.std.proofs.Math.Seq.{drop-append_seam, take-append_seam}
+use Rattle.fv_base.specs.Faults.{want_of_memory}
+use Rattle.fv_base.specs.Sinks.{WalkLaws}
+use Rattle.fv_base.specs.Value.{field}
+use Rattle.fv_base.specs.declared.fault.Fault.{Fault}
+use Rattle.fv_tree.specs.Denotes.{depth_limit}
+use Rattle.fv_tree.specs.FirstFault.{moved_fault}
+use Rattle.fv_tree.specs.FoundVolumes.{Found, IsCovered, VolumeAt}
+use Rattle.fv_tree.specs.FoundWalks.{FoundFrom}
+use Rattle.fv_tree.specs.Meaning.{Meaning}
+use Rattle.fv_tree.proofs.Laws.{at_within, found_walk, one_found, one_length, one_of}
+use Rattle.fv_base.proofs.Laws.{first_or_behind, in_middle, one_behind}
+use Rattle.fv_canon.specs.Image.{IsImage}
+use Rattle.fv_canon.specs.Headline.{NormalisesTo}
+use Rattle.fv_canon.specs.Refusals.{Refuses}
+use Rattle.fv_canon.specs.FlashImages.{FirstRefused, HasImageAt, IsRenewed, NormalisesAll, Renewed}
+use Rattle.fv_canon.proofs.FaultPlaces.{refused_within}
+use Rattle.fv_canon.proofs.FitLaws.{unfit_none}
+use Rattle.fv_canon.proofs.InputLaws.{image_fits, want_known}
+use Rattle.fv_canon.proofs.ImageLaws.{image_stays_long}
+use Rattle.fv_canon.proofs.MeaningLaws.{one_meaning}
+use Rattle.fv_canon.proofs.OneImageLaws.{image_one}
+
+-- ---- bytes
+
+-- a byte of those from a place on, and of a field
+rest_at : (b : List ℕ) (from k : ℕ) → from ≤ k → get_or (drop from b) (k - from) 0 ≡ get_or b k 0
+rest_at b from k low = get_or-drop from b (k - from) 0 ∙ ap (λ (i : ℕ). get_or b i 0) (sum from k low) where
+  sum : (from k : ℕ) → from ≤ k → from + (k - from) ≡ k
+  sum from k low = omega (arith, low)
+
+field_at : (b : List ℕ) (from n k : ℕ) → from ≤ k → k < from + n → get_or (field from n b) (k - from) 0 ≡ get_or b k 0
+field_at b from n k low high = get_or-take n (drop from b) (k - from) 0 (omega (arith, low, high)) ∙ rest_at b from k low
+
+-- of bytes that are joined, those behind the first, and the part in the middle
+drop_joined : (xs ys : List ℕ) (n : ℕ) → length xs ≡ n → drop n (xs ++ ys) ≡ ys
+drop_joined xs ys n long = ap (λ (i : ℕ). drop i (xs ++ ys)) (sym long) ∙ drop-append_seam xs ys
+
+field_joined : (xs ys zs : List ℕ) (at n : ℕ) → length xs ≡ at → length ys ≡ n → field at n (xs ++ (ys ++ zs)) ≡ ys
+field_joined xs ys zs at n long size =
+    ap (λ (l : List ℕ). take n l) (drop_joined xs (ys ++ zs) at long)
+    ∙ ap (λ (i : ℕ). take i (ys ++ zs)) (sym size) ∙ take-append_seam ys zs
+
+-- ---- images
+
+-- a volume has one image, and then it is not refused
+one_image_of : (b image other : List ℕ) → NormalisesTo b image → NormalisesTo b other → image ≡ other
+one_image_of b image other (m, a, is) (k, c, is') =
+    let same : m ≡ k = one_meaning depth_limit depth_limit b m k a.1 c.1 in
+    image_one m image other is (subst (λ (n : Meaning). IsImage n other) (sym same) is')
+
+refused_never : (b image : List ℕ) (f : Fault) → Refuses b f → NormalisesTo b image → ⊥
+refused_never b image f (inl bad) (m, a, is) = bad.none m a
+refused_never b image f (inr (v, a, unfit)) to =
+    unfit_none v 0 f unfit (image_fits b image v (λ m c. one_meaning depth_limit depth_limit b m v c.1 a.1) to)
+
+-- ---- the walk
+
+-- from one place on, o is b but for the volumes that begin at these places: there their canonical images stand in it
+abbrev pub RenewsFrom : ℕ → List ℕ → List ℕ → List ℕ → Type 0
+RenewsFrom from b [] o = drop from o ≡ drop from b
+RenewsFrom from b (p ∷ ps) o =
+    (n : ℕ) × (from ≤ p) × VolumeAt b p n × (field from (p - from) o ≡ field from (p - from) b)
+    × NormalisesTo (field p n b) (field p n o) × RenewsFrom (p + n) b ps o
+
+-- ---- what was walked
+
+-- at each of the places the image stands
+renewed_each : (from : ℕ) (b ps o : List ℕ) → RenewsFrom from b ps o → AllByRecursion (IsRenewed b o) ps
+renewed_each from b [] o same = tt
+renewed_each from b (p ∷ ps) o (n, low, v, same, to, more) = ((n, v, to), renewed_each (p + n) b ps o more)
+
+-- and the bytes in none of the volumes are as they were
+renewed_others : (from : ℕ) (b ps o : List ℕ) → RenewsFrom from b ps o → (k : ℕ) → from ≤ k → (IsCovered b ps k → ⊥)
+    → get_or o k 0 ≡ get_or b k 0
+renewed_others from b [] o same k low none =
+    sym (rest_at o from k low) ∙ (ap (λ (l : List ℕ). get_or l (k - from) 0) same ∙ rest_at b from k low)
+renewed_others from b (p ∷ ps) o (n, least, v, same, to, more) k low none =
+    go (cases_lt k p) (cases_lt k (p + n))
+    (λ past. renewed_others (p + n) b ps o more k past (λ c. none (c.0, c.1, one_behind p ps c.0 c.2, c.3, c.4, c.5)))
+  where
+    go : (k < p) ⊎ (p ≤ k) → (k < p + n) ⊎ (p + n ≤ k) → (p + n ≤ k → get_or o k 0 ≡ get_or b k 0) → get_or o k 0 ≡ get_or b k 0
+    go (inl before) _ _ =
+        let inside : k < from + (p - from) = omega (arith, before, least) in
+        sym (field_at o from (p - from) k low inside)
+        ∙ (ap (λ (l : List ℕ). get_or l (k - from) 0) same ∙ field_at b from (p - from) k low inside)
+    go (inr at) (inl inside) _ = absurd (none (p, n, (0, omega arith, refl), v, at, inside))
+    go (inr at) (inr past) later = later past
+
+renewed_is : (b places o : List ℕ) → RenewsFrom 0 b places o → length o ≡ length b → Renewed b places o
+renewed_is b places o walk long = record {
+  length_is = long;
+  volumes = renewed_each 0 b places o walk;
+  others = λ k inside none. renewed_others 0 b places o walk k (omega arith) none;
+}
+
+-- ---- one step of the walk
+
+-- the bytes up to a volume, its image, and what is renewed behind it
+renews_more : (b ps bytes x image rest : List ℕ) (from p n : ℕ) → from ≤ p → VolumeAt b p n → x ≡ field from (p - from) b
+    → length bytes ≡ from → length x ≡ p - from → length (bytes ++ x) ≡ p → length image ≡ n → NormalisesTo (field p n b) image
+    → RenewsFrom (p + n) b ps (bytes ++ (x ++ (image ++ rest))) → RenewsFrom from b (p ∷ ps) (bytes ++ (x ++ (image ++ rest)))
+renews_more b ps bytes x image rest from p n least v same long gap_long front_long image_long to more =
+    let o : List ℕ = bytes ++ (x ++ (image ++ rest)) in
+    let gap : field from (p - from) o ≡ field from (p - from) b =
+    field_joined bytes x (image ++ rest) from (p - from) long gap_long ∙ same in
+    let flat : o ≡ (bytes ++ x) ++ (image ++ rest) = sym (append_assoc bytes x (image ++ rest)) in
+    let there : field p n o ≡ image =
+    ap (λ (l : List ℕ). field p n l) flat ∙ field_joined (bytes ++ x) image rest p n front_long image_long in
+    (n, least, v, gap, subst (NormalisesTo (field p n b)) (sym there) to, more)
+
+-- ---- one volume
+
+-- its fault has a place in the image
+pub place_fits : (b x : List ℕ) (p : ℕ) (f : Fault) → VolumeAt b p (length x) → length b < 2 ^ 63 → (f ≡ want_of_memory) ⊎ Refuses x f
+    → p + f.place.offset < 2 ^ 64
+place_fits b x p f v small (inl want) =
+    let none : f.place.offset ≡ 0 = ap (λ (g : Fault). g.place.offset) want in
+    omega (arith, none, at_within b p (length x) v, small)
+place_fits b x p f v small (inr refused) = omega (arith, refused_within x f refused, at_within b p (length x) v, small)
+
+-- ---- the loop
+
+-- what lies up to the place `from`, of the volumes before the i-th, is put: bytes behind which anything makes a whole
+pub record Puts {S : Type 0} (takes : S → List ℕ → S → Type 0) (s t : S) (b places : List ℕ) (i from : ℕ) : Type 0 where
+  pub bytes : List ℕ
+  pub taken : takes s bytes t
+  pub long : length bytes ≡ from
+  pub inside : from ≤ length b
+  pub left : FoundFrom from b (drop i places)
+  pub whole : (rest : List ℕ) → RenewsFrom from b (drop i places) (bytes ++ rest) → RenewsFrom 0 b places (bytes ++ rest)
+  pub images : AllByRecursion (HasImageAt b) (take i places)
+
+-- one item more
+all_push : (P : ℕ → Type 0) (xs : List ℕ) (x : ℕ) → AllByRecursion P xs → P x → AllByRecursion P (xs ++ x ∷ [])
+all_push P [] x all h = (h, tt)
+all_push P (y ∷ ys) x all h = (all.0, all_push P ys x all.1 h)
+
+module _ {S : Type 0} (takes : S → List ℕ → S → Type 0) (laws : WalkLaws takes) (s : S) (b places : List ℕ) where
+  -- nothing is put
+  pub puts_none : Found b places → Puts takes s s b places 0 0
+  puts_none found = record {
+    bytes = [];
+    taken = laws.none s;
+    long = refl;
+    inside = omega arith;
+    left = found_walk b places found;
+    whole = λ rest all. all;
+    images = tt;
+  }
+
+  -- the next place, and what is left behind the volume that begins there
+  pub next_of : {t : S} (i from : ℕ) → Puts takes s t b places i from → i < length places
+      → (from ≤ get_or places i 0)
+      × ((n : ℕ) × VolumeAt b (get_or places i 0) n × FoundFrom (get_or places i 0 + n) b (drop (i + 1) places))
+  next_of i from puts less =
+      let p : ℕ = get_or places i 0 in
+      let left : FoundFrom from b (p ∷ drop (i + 1) places) =
+      subst (λ (l : List ℕ). FoundFrom from b l) (drop_more places i 0 less) puts.left in
+      (left.1.0, (left.0, left.1.3, left.2))
+
+  -- what is renewed behind the next volume makes a whole
+  puts_whole : {t : S} (i from n : ℕ) (x image rest : List ℕ) → (puts : Puts takes s t b places i from) → i < length places
+      → from ≤ get_or places i 0 → VolumeAt b (get_or places i 0) n → x ≡ field from (get_or places i 0 - from) b
+      → length x ≡ get_or places i 0 - from → length (puts.bytes ++ x) ≡ get_or places i 0 → length image ≡ n
+      → NormalisesTo (field (get_or places i 0) n b) image
+      → RenewsFrom (get_or places i 0 + n) b (drop (i + 1) places) (((puts.bytes ++ x) ++ image) ++ rest)
+      → RenewsFrom 0 b places (((puts.bytes ++ x) ++ image) ++ rest)
+  puts_whole i from n x image rest puts less least volume same gap_long front_long image_long to more =
+      let p : ℕ = get_or places i 0 in
+      let ps : List ℕ = drop (i + 1) places in
+      let flat : ((puts.bytes ++ x) ++ image) ++ rest ≡ puts.bytes ++ (x ++ (image ++ rest)) =
+      append_assoc (puts.bytes ++ x) image rest ∙ append_assoc puts.bytes x (image ++ rest) in
+      let o : List ℕ = puts.bytes ++ (x ++ (image ++ rest)) in
+      let more' : RenewsFrom (p + n) b ps o = subst (RenewsFrom (p + n) b ps) flat more in
+      let here : RenewsFrom from b (p ∷ ps) o =
+      renews_more b ps puts.bytes x image rest from p n least volume same puts.long gap_long front_long image_long to more' in
+      let left : RenewsFrom from b (drop i places) o =
+      subst (λ (l : List ℕ). RenewsFrom from b l o) (sym (drop_more places i 0 less)) here in
+      subst (RenewsFrom 0 b places) (sym flat) (puts.whole (x ++ (image ++ rest)) left)
+
+  -- the bytes up to the next volume are put, and its image
+  pub puts_more : {t u w : S} (i from n : ℕ) (between image : List ℕ) → (puts : Puts takes s t b places i from) → i < length places
+      → VolumeAt b (get_or places i 0) n → between ≡ field from (get_or places i 0 - from) b → takes t between u
+      → NormalisesTo (field (get_or places i 0) n b) image → takes u image w → Puts takes s w b places (i + 1) (get_or places i 0 + n)
+  puts_more {t} {u} {w} i from n between image puts less volume is gap' to put =
+      let p : ℕ = get_or places i 0 in
+      let ps : List ℕ = drop (i + 1) places in
+      let next = next_of i from puts less in
+      let x : List ℕ = field from (p - from) b in
+      let gap : takes t x u = subst (λ (l : List ℕ). takes t l u) is gap' in
+      let within : p + n ≤ length b = at_within b p n volume in
+      let same : next.1.0 ≡ n = one_length b p next.1.0 n next.1.1 volume in
+      let gap_long : length x ≡ p - from =
+      length-take-le (p - from) (drop from b) (omega (arith, length-drop from b, next.0, within)) in
+      let volume_long : length (field p n b) ≡ n = length-take-le n (drop p b) (omega (arith, length-drop p b, within)) in
+      let image_long : length image ≡ n = image_stays_long (field p n b) image to ∙ volume_long in
+      let front_long : length (puts.bytes ++ x) ≡ p =
+      omega (arith, length-append puts.bytes x, puts.long, gap_long, next.0) in
+      let all_long : length ((puts.bytes ++ x) ++ image) ≡ p + n =
+      omega (arith, length-append (puts.bytes ++ x) image, front_long, image_long) in
+      record {
+        bytes = (puts.bytes ++ x) ++ image;
+        taken = laws.joined s u w (puts.bytes ++ x) image (laws.joined s t u puts.bytes x puts.taken gap) put;
+        long = all_long;
+        inside = within;
+        left = subst (λ (k : ℕ). FoundFrom (p + k) b ps) same next.1.2;
+        whole = λ rest more. puts_whole i from n x image rest puts less next.0 volume refl gap_long front_long image_long
+            to more;
+        images = subst (λ (l : List ℕ). AllByRecursion (HasImageAt b) l) (sym (take_more places i 0 less))
+            (all_push (HasImageAt b) (take i places) p puts.images (n, image, volume, to));
+      }
+
+  -- the volume that begins at the next place is refused
+  pub puts_stops : {t : S} (i from n : ℕ) (own f : Fault) → Puts takes s t b places i from → i < length places
+      → VolumeAt b (get_or places i 0) n → Refuses (field (get_or places i 0) n b) own
+      → f ≡ moved_fault (get_or places i 0) own.place.depth own
+      → FirstRefused b places f
+  puts_stops i from n own f puts less volume refused is = record {
+    before = take i places;
+    place = get_or places i 0;
+    behind = drop (i + 1) places;
+    split = sym (take-append-drop i places) ∙ ap (λ (l : List ℕ). take i places ++ l) (drop_more places i 0 less);
+    images = puts.images;
+    size = n;
+    volume = volume;
+    own = own;
+    refused = refused;
+    moved_is = is;
+  }
+
+  -- the fault of the next volume is told at its place, or memory was wanted
+  pub puts_told : {t : S} (i from : ℕ) (x : List ℕ) (own f : Fault) → Puts takes s t b places i from → i < length places
+      → VolumeAt b (get_or places i 0) (length x) → x ≡ field (get_or places i 0) (length x) b
+      → (own ≡ want_of_memory) ⊎ Refuses x own
+      → (f ≢ want_of_memory → (own ≢ want_of_memory) × (f ≡ moved_fault (get_or places i 0) own.place.depth own))
+      → (f ≡ want_of_memory) ⊎ FirstRefused b places f
+  puts_told i from x own f puts less volume is why told = go (want_known f) why where
+    go : (f ≡ want_of_memory) ⊎ (f ≢ want_of_memory) → (own ≡ want_of_memory) ⊎ Refuses x own
+        → (f ≡ want_of_memory) ⊎ FirstRefused b places f
+    go (inl want) why = inl want
+    go (inr other) (inl want) = absurd ((told other).0 want)
+    go (inr other) (inr refused) =
+        inr (puts_stops i from (length x) own f puts less volume (subst (λ (l : List ℕ). Refuses l own) is refused) (told other).1)
+
+  -- all volumes are put, and the bytes behind the last
+  pub puts_all : {t u : S} (i from : ℕ) (rest : List ℕ) → Found b places → Puts takes s t b places i from → length places ≤ i
+      → rest ≡ drop from b → takes t rest u
+      → (bytes : List ℕ) × Renewed b places bytes × takes s bytes u
+  puts_all {t} {u} i from rest found puts past is put' =
+      let o : List ℕ = puts.bytes ++ drop from b in
+      let put : takes t (drop from b) u = subst (λ (l : List ℕ). takes t l u) is put' in
+      let none : drop i places ≡ [] = drop_of_length-le places past in
+      let ends : drop from o ≡ drop from b = drop_joined puts.bytes (drop from b) from puts.long in
+      let walk : RenewsFrom 0 b places o =
+      puts.whole (drop from b) (subst (λ (l : List ℕ). RenewsFrom from b l o) (sym none) ends) in
+      let long : length o ≡ length b =
+      omega (arith, length-append puts.bytes (drop from b), puts.long, length-drop from b, puts.inside) in
+      (o, renewed_is b places o walk long, laws.joined s t u puts.bytes (drop from b) puts.taken put)
+
+-- ---- no other bytes
+
+-- a byte is in one of the volumes, or in none
+covered_known : (b o ps : List ℕ) (k : ℕ) → AllByRecursion (IsRenewed b o) ps → IsCovered b ps k ⊎ (IsCovered b ps k → ⊥)
+covered_known b o [] k all = inr none where
+  none : IsCovered b [] k → ⊥
+  none (p, m, (j, l, e), w, low, high) = omega (arith, l)
+covered_known b o (p ∷ ps) k ((n, v, to), all) = go (cases_lt k p) (cases_lt k (p + n)) (covered_known b o ps k all) where
+  before : k < p → (IsCovered b ps k → ⊥) → IsCovered b (p ∷ ps) k → ⊥
+  before less none (q, m, has, w, low, high) = at (first_or_behind p ps q has) where
+    at : (p ≡ q) ⊎ Contains ps q → ⊥
+    at (inl e) = omega (arith, e, less, low)
+    at (inr h) = none (q, m, h, w, low, high)
+
+  past : p + n ≤ k → (IsCovered b ps k → ⊥) → IsCovered b (p ∷ ps) k → ⊥
+  past most none (q, m, has, w, low, high) = at (first_or_behind p ps q has) where
+    at : (p ≡ q) ⊎ Contains ps q → ⊥
+    at (inl e) = omega (arith, e, most, high, one_length b p n m v (subst (λ (i : ℕ). VolumeAt b i m) (sym e) w))
+    at (inr h) = none (q, m, h, w, low, high)
+
+  go : (k < p) ⊎ (p ≤ k) → (k < p + n) ⊎ (p + n ≤ k) → IsCovered b ps k ⊎ (IsCovered b ps k → ⊥)
+      → IsCovered b (p ∷ ps) k ⊎ (IsCovered b (p ∷ ps) k → ⊥)
+  go (inr at) (inl inside) _ = inl (p, n, (0, omega arith, refl), v, at, inside)
+  go (inr at) (inr most) (inl c) = inl (c.0, c.1, one_behind p ps c.0 c.2, c.3, c.4, c.5)
+  go (inr at) (inr most) (inr none) = inr (past most none)
+  go (inl less) _ (inl c) = inl (c.0, c.1, one_behind p ps c.0 c.2, c.3, c.4, c.5)
+  go (inl less) _ (inr none) = inr (before less none)
+
+-- the image at a place, by the length of the volume there
+image_at : (b places o : List ℕ) (p n : ℕ) → Renewed b places o → Contains places p → VolumeAt b p n
+    → NormalisesTo (field p n b) (field p n o)
+image_at b places o p n r has v =
+    let is = one_of (IsRenewed b o) places p r.volumes has in
+    subst (λ (k : ℕ). NormalisesTo (field p k b) (field p k o)) (one_length b p is.0 n is.1 v) is.2
+
+pub renewed_one : (b places o other : List ℕ) → Renewed b places o → Renewed b places other → o ≡ other
+renewed_one b places o other r s = ext_get_or 0 o other (r.length_is ∙ sym s.length_is) each where
+  by : (k : ℕ) → k < length b → IsCovered b places k ⊎ (IsCovered b places k → ⊥) → get_or o k 0 ≡ get_or other k 0
+  by k inside (inl (p, n, has, v, low, high)) =
+      let same = one_image_of (field p n b) (field p n o) (field p n other) (image_at b places o p n r has v)
+      (image_at b places other p n s has v) in
+      sym (field_at o p n k low high) ∙ (ap (λ (l : List ℕ). get_or l (k - p) 0) same ∙ field_at other p n k low high)
+  by k inside (inr none) = r.others k inside none ∙ sym (s.others k inside none)
+
+  each : (k : ℕ) → k < length o → get_or o k 0 ≡ get_or other k 0
+  each k less = by k (omega (arith, less, r.length_is)) (covered_known b o places k r.volumes)
+
+-- one list of bytes has all volumes renewed
+pub normalised_one : (b o other : List ℕ) → NormalisesAll b o → NormalisesAll b other → o ≡ other
+normalised_one b o other (short, places, found, r) (short', places', found', s) =
+    let same : places ≡ places' = one_found b places places' found found' in
+    renewed_one b places o other r (subst (λ (l : List ℕ). Renewed b l other) (sym same) s)
+
+-- and then no volume is refused
+pub renewed_never : (b places other : List ℕ) (f : Fault) → Found b places → FirstRefused b places f → NormalisesAll b other → ⊥
+renewed_never b places other f found stops (short, places', found', s) =
+    let same : places ≡ places' = one_found b places places' found found' in
+    let split : places' ≡ stops.before ++ (stops.place ∷ stops.behind) = sym same ∙ stops.split in
+    let is = in_middle (IsRenewed b other) stops.before stops.place stops.behind
+    (subst (λ (l : List ℕ). AllByRecursion (IsRenewed b other) l) split s.volumes) in
+    let long : is.0 ≡ stops.size = one_length b stops.place is.0 stops.size is.1 stops.volume in
+    refused_never (field stops.place stops.size b) (field stops.place stops.size other) stops.own stops.refused
+    (subst (λ (k : ℕ). NormalisesTo (field stops.place k b) (field stops.place k other)) long is.2)
+
+-- so where all volumes have images, only memory can be wanting
+pub only_want : (b places other : List ℕ) (f : Fault) → Found b places → (f ≡ want_of_memory) ⊎ FirstRefused b places f
+    → NormalisesAll b other → f ≡ want_of_memory
+only_want b places other f found (inl want) to = want
+only_want b places other f found (inr stops) to = absurd (renewed_never b places other f found stops to)

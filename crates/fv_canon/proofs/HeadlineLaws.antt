@@ -1,0 +1,108 @@
+-- The headline: equal images tell equal meanings, and an image is its own image; and an image has one meaning.
+use Rattle.std.proofs.Common.{◌≡◌, ◌≤◌, ◌+◌, ◌-◌, ℕ, zero, suc, List, [], ◌∷◌, sym, ◌∙◌, subst, arith}
+use Rattle.fv_base.specs.Value.{IsBytes}
+use Rattle.fv_section.specs.Frames.{FrameForm}
+use Rattle.fv_tree.specs.Files.{FileForm}
+use Rattle.fv_tree.specs.Meaning.{Meaning, FileMeaning, File, ContentMeaning, Plain, Sectioned, SectionMeaning, Section, Leaf, Group}
+use Rattle.fv_tree.specs.Meaning.{Nested, sections_list, files_of}
+use Rattle.fv_tree.specs.Denotes.{Sections, Streams, Volumes, Pairs, StreamOver, SectionOver, VolumeOver, MeansContent, MeansFile}
+use Rattle.fv_tree.specs.Denotes.{MeansSection, Stream, Denotes, Accepted, depth_limit}
+use Rattle.fv_canon.specs.Image.{IsImage}
+use Rattle.fv_canon.specs.Headline.{MeanSame, ImagesTell, ImagesStay, OneMeaning}
+use Rattle.fv_canon.proofs.MeaningLaws.{one_meaning}
+use Rattle.fv_canon.proofs.OneImageLaws.{image_one}
+use Rattle.fv_canon.proofs.VolumeLaws.{image_bytes, image_denotes, image_long}
+
+-- ---- what nests to a depth at most nests to a greater one at most
+pairs_more : {A B : Type 0} (p q : A → B → Type 0) → ((x : A) (y : B) → p x y → q x y) → (xs : List A) (ys : List B) → Pairs p xs ys
+    → Pairs q xs ys
+pairs_more p q more [] [] h = tt
+pairs_more p q more [] (y ∷ ys) h = absurd h
+pairs_more p q more (x ∷ xs) [] h = absurd h
+pairs_more p q more (x ∷ xs) (y ∷ ys) h = (more x y h.0, pairs_more p q more xs ys h.1)
+
+stream_more : (p q : Sections) → ((f : FrameForm) (s : SectionMeaning) → p f s → q f s) → (ss : List SectionMeaning) (n : ℕ) (b : List ℕ)
+    → StreamOver p ss n b → StreamOver q ss n b
+stream_more p q more ss n b (fs, split, pairs) = (fs, split, pairs_more p q more fs ss pairs)
+
+content_more : (p q : Streams) → ((ss : List SectionMeaning) (n : ℕ) (b : List ℕ) → p ss n b → q ss n b)
+    → (kind : ℕ) (payload : List ℕ) (c : ContentMeaning) → MeansContent p kind payload c → MeansContent q kind payload c
+content_more p q more kind payload (Plain b) h = h
+content_more p q more kind payload (Sectioned ss n) h = (h.0, more (sections_list ss) n payload h.1)
+
+file_more : (p q : Streams) → ((ss : List SectionMeaning) (n : ℕ) (b : List ℕ) → p ss n b → q ss n b) → (f : FileForm) (m : FileMeaning)
+    → MeansFile p f m → MeansFile q f m
+file_more p q more f (File name kind attributes content) (a, b, c, d) = (a, b, c, content_more p q more kind f.payload content d)
+
+volume_more : (p q : Streams) → ((ss : List SectionMeaning) (n : ℕ) (b : List ℕ) → p ss n b → q ss n b) → (b : List ℕ) (m : Meaning)
+    → VolumeOver p b m → VolumeOver q b m
+volume_more p q more b m d = record {
+  extent = d.extent;
+  front = d.front;
+  whole = d.whole;
+  cells = d.cells;
+  tiles = d.tiles;
+  files = d.files;
+  alive = d.alive;
+  meanings = pairs_more (MeansFile p) (MeansFile q) (file_more p q more) d.files (files_of m) d.meanings;
+}
+
+section_more : (p q : Streams) (v w : Volumes) → ((ss : List SectionMeaning) (n : ℕ) (b : List ℕ) → p ss n b → q ss n b)
+    → ((b : List ℕ) (m : Meaning) → v b m → w b m) → (f : FrameForm) (s : SectionMeaning)
+    → SectionOver p v f s → SectionOver q w f s
+section_more p q v w streams volumes f (Section kind extended (Leaf b)) h = h
+section_more p q v w streams volumes f (Section kind extended (Group ss n)) (a, b, (c, d)) =
+    (a, b, (c, streams (sections_list ss) n f.body d))
+section_more p q v w streams volumes f (Section kind extended (Nested m)) (a, b, (c, d, e)) = (a, b, (c, d, volumes f.body m e))
+
+sections_more : (n : ℕ) (f : FrameForm) (s : SectionMeaning) → MeansSection n f s → MeansSection (suc n) f s
+sections_more zero = section_more (λ _ _ _. ⊥) (StreamOver (MeansSection zero)) (λ _ _. ⊥) (VolumeOver (StreamOver (MeansSection zero)))
+    (λ ss n b h. absurd h) (λ b m h. absurd h)
+sections_more (suc n) =
+    let streams = stream_more (MeansSection n) (MeansSection (suc n)) (sections_more n) in
+    section_more (StreamOver (MeansSection n)) (StreamOver (MeansSection (suc n))) (VolumeOver (StreamOver (MeansSection n)))
+    (VolumeOver (StreamOver (MeansSection (suc n)))) streams
+    (volume_more (StreamOver (MeansSection n)) (StreamOver (MeansSection (suc n))) streams)
+
+one_deeper : (n : ℕ) (b : List ℕ) (m : Meaning) → Denotes n b m → Denotes (suc n) b m
+one_deeper n b m d = volume_more (Stream n) (Stream (suc n)) (stream_more (MeansSection n) (MeansSection (suc n)) (sections_more n)) b m d
+
+pub deeper : (k n : ℕ) (b : List ℕ) (m : Meaning) → Denotes n b m → Denotes (k + n) b m
+deeper zero n b m d = subst (λ (i : ℕ). Denotes i b m) (none n) d
+  where
+    none : (n : ℕ) → n ≡ 0 + n
+    none n = omega arith
+deeper (suc k) n b m d = subst (λ (i : ℕ). Denotes i b m) (next k n) (one_deeper (k + n) b m (deeper k n b m d))
+  where
+    next : (k n : ℕ) → suc (k + n) ≡ suc k + n
+    next k n = omega arith
+
+-- bytes that are a volume at a depth within the limit are accepted
+pub accepted : (n : ℕ) (b : List ℕ) (m : Meaning) → IsBytes b → n ≤ depth_limit → Denotes n b m → Accepted b m
+accepted n b m small l d = (small, subst (λ (i : ℕ). Denotes i b m) (back n l) (deeper (8 - n) n b m d))
+  where
+    back : (n : ℕ) → n ≤ 8 → (8 - n) + n ≡ 8
+    back n l = omega arith
+
+-- ---- the headline
+pub images_tell : ImagesTell
+images_tell a b image other (m, (small, means), is) (k, (little, means'), is') = (
+  λ (same : MeanSame a b).
+      let of_a : same.0 ≡ m = one_meaning 8 8 a same.0 m same.1.1 means in
+      let of_b : same.0 ≡ k = one_meaning 8 8 b same.0 k same.2.1 means' in
+      image_one k image other (subst (λ (j : Meaning). IsImage j image) (sym of_a ∙ of_b) is) is',
+  λ (same : image ≡ other).
+      let first = image_denotes 8 m a image small means is in
+      let second = image_denotes 8 k b other little means' is' in
+      let one : m ≡ k = one_meaning 8 8 other m k (subst (λ (xs : List ℕ). Denotes 8 xs m) same first) second in
+      (m, (small, means), (little, subst (λ (j : Meaning). Denotes 8 b j) (sym one) means')),
+)
+
+pub images_stay : ImagesStay
+images_stay a image (m, (small, means), is) =
+    let d : Accepted image m = (image_bytes 8 m a image small means is, image_denotes 8 m a image small means is) in
+    (image_long 8 m a image small means is, (m, (small, means), d), (m, d, is))
+
+pub one_meaning_of : OneMeaning
+one_meaning_of m other image (n, l, b, small, d) (k, l', c, little, d') is is' =
+    one_meaning k n image other m (image_denotes k other c image little d' is') (image_denotes n m b image small d is)

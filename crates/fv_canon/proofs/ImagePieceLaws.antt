@@ -1,0 +1,43 @@
+-- What a walk writes for a part of a volume is its image, and the list that takes it has it.
+use Rattle.std.proofs.Common.{◌≡◌, ℕ, List, [], ◌++◌, refl, ◌∙◌, sym, subst, append-nil, drop, Bool, true}
+use Rattle.std.specs.Prelude.{Result, IfOk}
+use Rattle.std.proofs.lemmas.Result.{IfOk-weaker}
+use Rattle.fv_base.proofs.Laws.{bytes_drop, kept_whole}
+use Rattle.fv_base.specs.ListSinks.{KeptLatched}
+use Rattle.fv_base.specs.declared.fault.Fault.{Fault}
+use Rattle.fv_tree.specs.Denotes.{IsReadFile, IsReadSection, MeansSection, Stream}
+use Rattle.fv_tree.specs.Meaning.{FileMeaning, File, SectionMeaning, Section, content_of, body_of}
+use Rattle.fv_canon.specs.Image.{IsData, IsBodyImage, IsFrame}
+use Rattle.fv_canon.specs.ImageOf.{data_of, body_image, frame_of}
+use Rattle.fv_canon.specs.Layouts.{LaysContent, LaysBody}
+use Rattle.fv_canon.proofs.WrittenImageLaws.{data_made, stream_made, sections_made}
+use Rattle.fv_file.proofs.Laws.{cell_read}
+use Rattle.fv_section.proofs.Laws.{begun_bytes}
+
+-- the data of a file that was read and laid out
+pub data_is : (m : FileMeaning) (starts : List ℕ) → IsReadFile m → LaysContent (content_of m) starts
+    → IsData (content_of m) (data_of (content_of m) starts)
+data_is (File name kind attributes content) starts (n, l, f, (system, p, b, small, most, cell), (named, kinds, bits, is)) laid =
+    let r = cell_read system p f.offset f.head f.payload b small cell in
+    subst (λ (xs : List ℕ). IsData content (data_of content xs)) (append-nil starts)
+    (data_made (Stream n) (stream_made (MeansSection n) (sections_made n)) kind content f.payload starts [] r.payload is laid)
+
+-- the body of a section that was read and laid out
+pub body_is : (m : SectionMeaning) (starts : List ℕ) → IsReadSection m → LaysBody (body_of m) starts
+    → IsBodyImage (body_of m) (body_image (body_of m) starts)
+body_is (Section kind extended body) starts (n, l, f, (b, small, most, stands), is) laid =
+    let inside = begun_bytes f (drop f.offset b) stands.behind (bytes_drop f.offset b small) stands.begins in
+    let frame : IsFrame (Section kind extended body) (frame_of 0 (Section kind extended body) (starts ++ [])) =
+    sections_made n (Section kind extended body) f 0 starts [] inside.0 is laid in
+    subst (λ (xs : List ℕ). IsBodyImage body (body_image body xs)) (append-nil starts) frame.2
+
+-- what a list has that took a text
+pub kept_text : {A : Type 0} (P : List ℕ → Type 0) (text : A → List ℕ → List ℕ) (x y : A) (xs ys s k : List ℕ) (a b : Bool)
+    (r : Result (List ℕ) Fault) → P (text y ys) → x ≡ y → xs ≡ ys → (s ≡ []) × (a ≡ true) → KeptLatched s a (text x xs) k b
+    → IfOk r (λ o. (b ≡ true) × (o ≡ k)) → IfOk r P
+kept_text P text x y xs ys s k a b r made is same begun taken got =
+    IfOk-weaker r (λ (o : List ℕ). o ≡ text x xs) P (λ o e. subst P (sym (e ∙ moved)) made)
+    (kept_whole s k (text x xs) a b r begun.0 begun.1 taken got)
+  where
+    moved : text x xs ≡ text y ys
+    moved = subst (λ z. text x xs ≡ text z ys) is (subst (λ zs. text x xs ≡ text x zs) same refl)

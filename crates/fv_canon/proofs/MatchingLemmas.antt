@@ -1,0 +1,33 @@
+-- Bytes that are compared with what a walk writes: one step, and what is told in the end.
+use Rattle.std.proofs.Common.{◌≡◌, ℕ, List, [], ◌++◌, length, take, drop, refl, ap, sym, ◌∙◌, append-nil, take-append-drop}
+use Rattle.std.proofs.Common.{Bool, true, false}
+use Rattle.std.specs.Prelude.{IsTrue}
+use Rattle.std.proofs.lemmas.List.{take_at}
+use Rattle.fv_canon.specs.Matching.{IsNoFront, MatchLatched}
+
+-- ---- one step
+
+-- a front that is the same is taken off
+pub front_off : (s bytes t : List ℕ) → take (length bytes) s ≡ bytes → t ≡ drop (length bytes) s → s ≡ bytes ++ t
+front_off s bytes t front behind =
+    sym (take-append-drop (length bytes) s) ∙ (ap (λ xs. xs ++ drop (length bytes) s) front ∙ ap (λ xs. bytes ++ xs) (sym behind))
+
+-- one that differs is none
+pub front_differs : (s bytes : List ℕ) → (take (length bytes) s ≡ bytes → ⊥) → IsNoFront s bytes
+front_differs s bytes other more e = other (ap (take (length bytes)) e ∙ take_at bytes more (length bytes) refl)
+
+pub match_taken : (s bytes t : List ℕ) (a : Bool) → a ≡ true → s ≡ bytes ++ t → MatchLatched s a bytes t a
+match_taken s bytes t true e taken = taken
+match_taken s bytes t false e taken = cc
+
+pub match_ended : (s bytes t : List ℕ) (a : Bool) → a ≡ true → IsNoFront s bytes → MatchLatched s a bytes t false
+match_ended s bytes t true e differs = differs
+match_ended s bytes t false e differs = cc
+
+-- ---- in the end
+
+-- bytes that differed are no front
+pub match_cut : (s bytes t : List ℕ) (b : Bool) → MatchLatched s true bytes t b → b ≡ false
+    → (IsTrue b → s ≡ bytes) × (s ≡ bytes → IsTrue b)
+match_cut s bytes t true taken e = cc
+match_cut s bytes t false taken e = (λ h. let never : false ≡ true = h in cc, λ same. absurd (taken [] (same ∙ sym (append-nil bytes))))

@@ -1,0 +1,49 @@
+-- The laws of a run that normalises an input: what it wrote, or what stopped it.
+use Rattle.std.proofs.Common.{◌≡◌, ◌≢◌, ◌∙◌, ◌⊎◌, ℕ, List, sym, inl, inr}
+use Rattle.std.specs.Prelude.{Option, Result, Ok, Err, IfErr, OnErr, OnOk}
+use Rattle.std.specs.Io.KnownBytes.{Appends}
+use Rattle.std.proofs.KnownBytes.{Keeps-refl}
+use Rattle.std.proofs.lemmas.Result.{on_ok_weaker, IfErr-weaker}
+use Rattle.fv_base.specs.Faults.{want_of_memory}
+use Rattle.fv_base.specs.Input.{ReadsWhole}
+use Rattle.fv_base.specs.declared.fault.Fault.{Fault}
+use Rattle.fv_base.specs.declared.fault.FaultKind.TheVariants as kinds
+use Rattle.fv_tree.specs.Denotes.{Accepted}
+use Rattle.fv_tree.specs.Meaning.{Meaning}
+use Rattle.fv_canon.specs.Image.{IsImage}
+use Rattle.fv_base.specs.Output.{WriteStops}
+use Rattle.fv_canon.specs.Refusals.{Refuses}
+use Rattle.fv_canon.specs.NormaliseRuns.{InputWrites, InputStops, RunStops}
+
+-- the image of the meaning was written
+pub input_writes : (input : List ℕ) (m : Meaning) (held holds : Option (List ℕ)) (r : Result (Unit {0}) Fault) → Accepted input m
+    → OnOk r ((image : List ℕ) × IsImage m image × Appends held holds image) → OnOk r (InputWrites input held holds)
+input_writes input m held holds r d wrote = on_ok_weaker r (λ p. (p.0, (m, d, p.1), p.2)) wrote
+
+-- the writer stopped
+pub writer_stops : (input : List ℕ) (m : Meaning) (held holds : Option (List ℕ)) (r : Result (Unit {0}) Fault) → Accepted input m
+    → IfErr r (λ f. (image : List ℕ) × IsImage m image × WriteStops held holds image f) → IfErr r (InputStops input held holds)
+writer_stops input m held holds r d stops = IfErr-weaker r _ (InputStops input held holds) (λ f p. inr (p.0, (m, d, p.1), p.2)) stops
+
+-- nothing was written, since the input is refused or for want of memory
+pub refused_stops : (input : List ℕ) (held : Option (List ℕ)) (f : Fault) → (f ≡ want_of_memory) ⊎ Refuses input f
+    → InputStops input held held f
+refused_stops input held f why = inl (Keeps-refl held, why)
+
+-- a run stopped behind its input
+pub behind_stops : (unread left held holds : Option (List ℕ)) (input : List ℕ) (r : Result (Unit {0}) Fault) → ReadsWhole unread left input
+    → IfErr r (InputStops input held holds) → IfErr r (RunStops unread left held holds)
+behind_stops unread left held holds input r reads stops =
+    IfErr-weaker r _ (RunStops unread left held holds) (λ f p. inr (input, reads, p)) stops
+
+-- the writer's fault is not the reader's
+pub write_not_read : (m : Meaning) (held holds : Option (List ℕ)) (r : Result (Unit {0}) Fault)
+    → IfErr r (λ f. (image : List ℕ) × IsImage m image × WriteStops held holds image f) → IfErr r (λ f. f.kind ≢ kinds.ReadFault)
+write_not_read m held holds r stops =
+    IfErr-weaker r _ (λ f. f.kind ≢ kinds.ReadFault)
+    (λ f p same. let bad : kinds.WriteFault ≡ kinds.ReadFault = sym p.2.kind ∙ same in cc) stops
+
+-- what an error leaves is left by an error of some kind
+pub of_some_kind : (P : Fault → Type 0) (Q : Type 0) (r : Result (Unit {0}) Fault) → OnErr r Q → IfErr r (λ f. P f → Q)
+of_some_kind P Q (Ok u) h = tt
+of_some_kind P Q (Err f) h = λ p. h

@@ -1,0 +1,152 @@
+-- A meaning has one image at most.
+use Rattle.std.proofs.Common.{◌≡◌, ◌≤◌, ◌<◌, inl, inr, ◌+◌, ◌-◌, ℕ, zero, suc, Bool, List, [], ◌∷◌, ◌++◌, length, take, drop, get_or, refl}
+use Rattle.std.proofs.Common.{sym, ap, ◌∙◌, subst, arith, add-one}
+use Rattle.std.proofs.lemmas.Bool.{cases_lt}
+use Rattle.std.proofs.lemmas.List.{ext_get_or, get_or-take, get_or-drop, take_more, take_all}
+use Rattle.fv_base.specs.Flash.{erased_byte}
+use Rattle.fv_base.specs.Value.{up_to_8}
+use Rattle.fv_base.specs.declared.guid.Guid.{Guid}
+use Rattle.fv_head.specs.Attributes.{polarity_of}
+use Rattle.fv_head.specs.Head.{HeadFields}
+use Rattle.fv_canon.specs.Starts.{StartsFollow, IsFirstPlacement}
+use Rattle.fv_canon.specs.declared.first_placement.Part.{Part}
+use Rattle.fv_canon.proofs.PlacementLaws.{first_same}
+use Rattle.fv_section.specs.Frames.{FrameForm, frame_len, up_to_4}
+use Rattle.fv_section.specs.SectionImage.{stream_of}
+use Rattle.fv_tree.specs.Meaning.{Meaning, Volume, FileMeanings, NoFiles, MoreFiles, FileMeaning, File, ContentMeaning, Plain, Sectioned}
+use Rattle.fv_tree.specs.Meaning.{SectionMeanings, NoSections, MoreSections, SectionMeaning, Section, BodyMeaning, Leaf, Group, Nested}
+use Rattle.fv_canon.specs.Image.{IsImage, AreStored, IsStored, IsData, AreFrames, IsFrame, IsBodyImage}
+use Rattle.fv_canon.specs.Layouts.{parts_of, first_edge}
+use Rattle.fv_canon.specs.Spans.{Span, StandsIn, IsInNone, AllStandIn, ShowsSpans}
+use Rattle.fv_canon.specs.StoredFiles.{StoredFile, volume_spans}
+
+-- ---- bytes that show the same are the same
+
+-- a byte within a span is the span's
+byte_in : (b : List ℕ) (p : Span) (k : ℕ) → StandsIn b p → p.at ≤ k → k < p.at + length p.bytes → get_or b k 0 ≡ get_or p.bytes (k - p.at) 0
+byte_in b p k stands low high =
+    ap (λ (n : ℕ). get_or b n 0) (back p.at k low) ∙ sym (get_or-drop p.at b (k - p.at) 0)
+    ∙ sym (get_or-take (length p.bytes) (drop p.at b) (k - p.at) 0 (inside p.at k (length p.bytes) low high))
+    ∙ ap (λ (xs : List ℕ). get_or xs (k - p.at) 0) stands.1
+  where
+    back : (a k : ℕ) → a ≤ k → k ≡ a + (k - a)
+    back a k l = omega arith
+
+    inside : (a k n : ℕ) → a ≤ k → k < a + n → k - a < n
+    inside a k n l h = omega arith
+
+same_byte : (ps : List Span) (b c : List ℕ) (k e : ℕ) → AllStandIn b ps → AllStandIn c ps → (IsInNone k ps → get_or b k 0 ≡ e)
+    → (IsInNone k ps → get_or c k 0 ≡ e) → get_or b k 0 ≡ get_or c k 0
+same_byte [] b c k e sb sc rb rc = rb tt ∙ sym (rc tt)
+same_byte (p ∷ ps) b c k e sb sc rb rc = elim (cases_lt k p.at) [
+  | inl before ↦ same_byte ps b c k e sb.1 sc.1 (λ n. rb (λ i. under i.0 before, n)) (λ n. rc (λ i. under i.0 before, n))
+  | inr low ↦ elim (cases_lt k (p.at + length p.bytes)) [
+    | inl high ↦ byte_in b p k sb.0 low high ∙ sym (byte_in c p k sc.0 low high)
+    | inr past ↦ same_byte ps b c k e sb.1 sc.1 (λ n. rb (λ i. over i.1 past, n)) (λ n. rc (λ i. over i.1 past, n))
+  ]
+]
+  where
+    under : {k a : ℕ} → a ≤ k → k < a → ⊥
+    under p q = omega arith
+
+    over : {k m : ℕ} → k < m → m ≤ k → ⊥
+    over p q = omega arith
+
+pub shows_one : (total erased : ℕ) (ps : List Span) (b c : List ℕ) → ShowsSpans total erased ps b → ShowsSpans total erased ps c → b ≡ c
+shows_one total erased ps b c p q =
+    ext_get_or 0 b c (p.length_is ∙ sym q.length_is) (λ k l. let within : k < total = subst (λ (n : ℕ). k < n) p.length_is l in
+    same_byte ps b c k erased p.stand q.stand (p.rest k within) (q.rest k within))
+
+-- ---- there is one first placement at most
+pub follow_length : (total e : ℕ) (fs : List Part) (ss : List ℕ) → StartsFollow total e fs ss → length ss ≡ length fs
+follow_length total e [] [] h = refl
+follow_length total e [] (s ∷ ss) h = absurd h
+follow_length total e (f ∷ fs) [] h = absurd h
+follow_length total e (f ∷ fs) (s ∷ ss) h = ap suc (follow_length total (up_to_8 (s + f.size)) fs ss h.1)
+
+fronts_same : (total first : ℕ) (fs : List Part) (ss ts : List ℕ) → IsFirstPlacement total first fs ss → IsFirstPlacement total first fs ts
+    → length ss ≡ length ts → (i : ℕ) → i ≤ length ss → take i ss ≡ take i ts
+fronts_same total first fs ss ts p q same zero l = refl
+fronts_same total first fs ss ts p q same (suc i) l =
+    let before = fronts_same total first fs ss ts p q same i (omega (arith, l)) in
+    let here = first_same total first fs ss ts p q i before in
+    ap (λ (n : ℕ). take n ss) (sym (add-one i)) ∙ take_more ss i 0 (omega (arith, l))
+    ∙ ap (λ (xs : List ℕ). xs ++ (get_or ss i 0 ∷ [])) before ∙ ap (λ (n : ℕ). take i ts ++ (n ∷ [])) here
+    ∙ sym (take_more ts i 0 (omega (arith, l, same))) ∙ ap (λ (n : ℕ). take n ts) (add-one i)
+
+pub starts_one : (total first : ℕ) (fs : List Part) (ss ts : List ℕ) → IsFirstPlacement total first fs ss
+    → IsFirstPlacement total first fs ts → ss ≡ ts
+starts_one total first fs ss ts p q =
+    let n = follow_length total first fs ss p.placement.follow in
+    let k = follow_length total first fs ts q.placement.follow in
+    sym (take_all (length ss) ss (omega arith)) ∙ fronts_same total first fs ss ts p q (n ∙ sym k) (length ss) (omega arith)
+    ∙ take_all (length ss) ts (omega (arith, n, k))
+
+-- ---- there is one image at most
+same_spans : (h : HeadFields) (b : List ℕ) (xs ys : List StoredFile) (ss ts : List ℕ) → xs ≡ ys → ss ≡ ts
+    → ShowsSpans h.length (erased_byte (polarity_of h.attributes)) (volume_spans h xs ss) b
+    → ShowsSpans h.length (erased_byte (polarity_of h.attributes)) (volume_spans h ys ts) b
+same_spans h b xs ys ss ts p q shows =
+    subst (λ (us : List ℕ). ShowsSpans h.length (erased_byte (polarity_of h.attributes)) (volume_spans h ys us) b) q
+    (subst (λ (zs : List StoredFile). ShowsSpans h.length (erased_byte (polarity_of h.attributes)) (volume_spans h zs ss) b) p shows)
+
+same_file : (x y : StoredFile) → x.name ≡ y.name → x.kind ≡ y.kind → x.attributes ≡ y.attributes → x.payload ≡ y.payload → x ≡ y
+same_file x y p q r s = parts x.name y.name x.kind y.kind x.attributes y.attributes x.payload y.payload p q r s
+  where
+    parts : (a b : Guid) (c d e f : ℕ) (g h : List ℕ) → a ≡ b → c ≡ d → e ≡ f → g ≡ h → let made : StoredFile =
+        record { name = a; kind = c; attributes = e; payload = g } in made ≡ record { name = b; kind = d; attributes = f; payload = h }
+    parts a b c d e f g h p q r s = rw (p, q, r, s) refl
+
+same_frame : (f g : FrameForm) → f.offset ≡ g.offset → f.kind ≡ g.kind → f.extended ≡ g.extended → f.body ≡ g.body → f ≡ g
+same_frame f g p q r s = parts f.offset g.offset f.kind g.kind f.extended g.extended f.body g.body p q r s
+  where
+    parts : (a b c d : ℕ) (x y : Bool) (v w : List ℕ) → a ≡ b → c ≡ d → x ≡ y → v ≡ w → let made : FrameForm =
+        record { offset = a; kind = c; extended = x; body = v } in made ≡ record { offset = b; kind = d; extended = y; body = w }
+    parts a b c d x y v w p q r s = rw (p, q, r, s) refl
+
+mutual
+  pub image_one : (m : Meaning) (b c : List ℕ) → IsImage m b → IsImage m c → b ≡ c
+  image_one (Volume h files) b c (xs, ss, are, placed, shows) (ys, ts, are', placed', shows') =
+      let stored : xs ≡ ys = stored_one files xs ys are are' in
+      let starts : ss ≡ ts = starts_one h.length (first_edge h) (parts_of files) ss ts placed placed' in
+      shows_one h.length (erased_byte (polarity_of h.attributes)) (volume_spans h ys ts) b c
+      (same_spans h b xs ys ss ts stored starts shows) shows'
+
+  stored_one : (files : FileMeanings) (xs ys : List StoredFile) → AreStored files xs → AreStored files ys → xs ≡ ys
+  stored_one NoFiles xs ys p q = p ∙ sym q
+  stored_one (MoreFiles f fs) [] ys p q = absurd p
+  stored_one (MoreFiles f fs) (x ∷ xs) [] p q = absurd q
+  stored_one (MoreFiles f fs) (x ∷ xs) (y ∷ ys) p q =
+      let here : x ≡ y = file_one f x y p.0 q.0 in
+      let behind : xs ≡ ys = stored_one fs xs ys p.1 q.1 in
+      cc
+
+  file_one : (m : FileMeaning) (x y : StoredFile) → IsStored m x → IsStored m y → x ≡ y
+  file_one (File name kind attributes content) x y (a, b, c, d) (e, f, g, h) =
+      same_file x y (a ∙ sym e) (b ∙ sym f) (c ∙ sym g) (data_one content x.payload y.payload d h)
+
+  pub data_one : (c : ContentMeaning) (d e : List ℕ) → IsData c d → IsData c e → d ≡ e
+  data_one (Plain b) d e p q = p ∙ sym q
+  data_one (Sectioned sections tail) d e (fs, are, text) (gs, are', text') =
+      text ∙ ap (λ (xs : List FrameForm). stream_of xs tail) (frames_one 0 sections fs gs are are') ∙ sym text'
+
+  frames_one : (at : ℕ) (sections : SectionMeanings) (fs gs : List FrameForm) → AreFrames at sections fs → AreFrames at sections gs
+      → fs ≡ gs
+  frames_one at NoSections fs gs p q = p ∙ sym q
+  frames_one at (MoreSections s ss) [] gs p q = absurd p
+  frames_one at (MoreSections s ss) (f ∷ fs) [] p q = absurd q
+  frames_one at (MoreSections s ss) (f ∷ fs) (g ∷ gs) p q =
+      let here : f ≡ g = frame_one s f g (p.0 ∙ sym q.0) p.1 q.1 in
+      let behind : fs ≡ gs = frames_one (up_to_4 (at + frame_len g)) ss fs gs
+      (subst (λ (h : FrameForm). AreFrames (up_to_4 (at + frame_len h)) ss fs) here p.2) q.2 in
+      cc
+
+  frame_one : (s : SectionMeaning) (f g : FrameForm) → f.offset ≡ g.offset → IsFrame s f → IsFrame s g → f ≡ g
+  frame_one (Section kind extended body) f g same (a, b, c) (d, e, h) =
+      same_frame f g same (a ∙ sym d) (b ∙ sym e) (body_one body f.body g.body c h)
+
+  pub body_one : (m : BodyMeaning) (d e : List ℕ) → IsBodyImage m d → IsBodyImage m e → d ≡ e
+  body_one (Leaf b) d e p q = p ∙ sym q
+  body_one (Group sections tail) d e (fs, are, text) (gs, are', text') =
+      text ∙ ap (λ (xs : List FrameForm). stream_of xs tail) (frames_one 0 sections fs gs are are') ∙ sym text'
+  body_one (Nested volume) d e p q = image_one volume d e p q

@@ -1,0 +1,159 @@
+-- What a walk writes shows each span at its position and erased bytes elsewhere, and no other bytes do.
+use Rattle.std.proofs.Common.{◌≡◌, ℕ, ◌+◌, ◌-◌, ◌<◌, ◌≤◌, inl, inr, List, [], ◌∷◌, ◌++◌, length, take, drop, get_or, replicate, refl, sym}
+use Rattle.std.proofs.Common.{◌∙◌, ap, subst, arith, append_assoc, length-append, take-append-drop, zero-add}
+use Rattle.std.proofs.lemmas.Bool.{cases_lt}
+use Rattle.std.proofs.lemmas.List.{length-replicate, length-drop, drop-drop, take_at, drop_at, get_or_append_left, get_or-append_right}
+use Rattle.std.proofs.lemmas.List.{get_or-replicate, get_or-take, get_or-drop, ext_get_or, length-take-le}
+use Rattle.fv_canon.specs.Spans.{Span, IsInNone, AllStandIn, ShowsSpans, painted, InOrder}
+
+-- what is before the spans is in none of them
+pub before_none : (total e k : ℕ) (ps : List Span) → InOrder total e ps → k < e → IsInNone k ps
+before_none total e k [] o l = tt
+before_none total e k (p ∷ ps) o l = (λ i. omega (arith, i.0, o.0), before_none total (p.at + length p.bytes) k ps o.1 (omega (arith, o.0)))
+
+-- a byte behind a front
+get_behind : (front back : List ℕ) (k : ℕ) → length front ≤ k → get_or (front ++ back) k 0 ≡ get_or back (k - length front) 0
+get_behind front back k l = get_or-append_right front back (length front) k 0 refl l
+
+-- ---- from the walk to the positions: front is what stands before e
+pub walk_stands : (erased total e : ℕ) (ps : List Span) (front : List ℕ) → length front ≡ e → InOrder total e ps
+    → AllStandIn (front ++ painted erased total e ps) ps
+walk_stands erased total e [] front l o = tt
+walk_stands erased total e (p ∷ ps) front l o =
+    let gap = replicate (p.at - e) erased in
+    let behind = painted erased total (p.at + length p.bytes) ps in
+    let there : length (front ++ gap) ≡ p.at = length-append front gap ∙ there_is (length gap) (length-replicate (p.at - e) erased) in
+    let moved : front ++ ((gap ++ p.bytes) ++ behind) ≡ ((front ++ gap) ++ p.bytes) ++ behind =
+    sym (append_assoc front (gap ++ p.bytes) behind) ∙ ap (λ xs. xs ++ behind) (sym (append_assoc front gap p.bytes)) in
+    let apart : front ++ ((gap ++ p.bytes) ++ behind) ≡ (front ++ gap) ++ (p.bytes ++ behind) =
+    moved ∙ append_assoc (front ++ gap) p.bytes behind in
+    let far : length ((front ++ gap) ++ p.bytes) ≡ p.at + length p.bytes =
+    length-append (front ++ gap) p.bytes ∙ ap (λ n. n + length p.bytes) there in
+    let later = walk_stands erased total (p.at + length p.bytes) ps ((front ++ gap) ++ p.bytes) far o.1 in (
+      (
+        subst (λ xs. p.at + length p.bytes ≤ length xs) (sym moved) (long (length (((front ++ gap) ++ p.bytes) ++ behind)) (length behind)
+            (length-append ((front ++ gap) ++ p.bytes) behind ∙ ap (λ n. n + length behind) far)),
+        ap (λ xs. take (length p.bytes) (drop p.at xs)) apart ∙ (ap (λ xs. take (length p.bytes) xs)
+            (drop_at (front ++ gap) (p.bytes ++ behind) p.at there) ∙ take_at p.bytes behind (length p.bytes) refl),
+      ),
+      subst (λ xs. AllStandIn xs ps) (sym moved) later,
+    )
+  where
+    there_is : (g : ℕ) → g ≡ p.at - e → length front + g ≡ p.at
+    there_is g h = omega (arith, o.0)
+
+    long : (n m : ℕ) → n ≡ (p.at + length p.bytes) + m → p.at + length p.bytes ≤ n
+    long n m h = omega arith
+
+pub walk_erased : (erased total e : ℕ) (ps : List Span) (front : List ℕ) → length front ≡ e → InOrder total e ps → (k : ℕ) → e ≤ k
+    → k < total → IsInNone k ps → get_or (front ++ painted erased total e ps) k 0 ≡ erased
+walk_erased erased total e [] front l o k a b n =
+    get_behind front (replicate (total - e) erased) k (omega arith) ∙ get_or-replicate (total - e) (k - length front) erased 0 (omega arith)
+walk_erased erased total e (p ∷ ps) front l o k a b n =
+    let gap = replicate (p.at - e) erased in
+    let behind = painted erased total (p.at + length p.bytes) ps in
+    let there : length (front ++ gap) ≡ p.at = length-append front gap ∙ there_is (length gap) (length-replicate (p.at - e) erased) in
+    let moved : front ++ ((gap ++ p.bytes) ++ behind) ≡ ((front ++ gap) ++ p.bytes) ++ behind =
+    sym (append_assoc front (gap ++ p.bytes) behind) ∙ ap (λ xs. xs ++ behind) (sym (append_assoc front gap p.bytes)) in
+    let apart : front ++ ((gap ++ p.bytes) ++ behind) ≡ (front ++ gap) ++ (p.bytes ++ behind) =
+    moved ∙ append_assoc (front ++ gap) p.bytes behind in
+    let far : length ((front ++ gap) ++ p.bytes) ≡ p.at + length p.bytes =
+    length-append (front ++ gap) p.bytes ∙ ap (λ n. n + length p.bytes) there in
+    elim (cases_lt k p.at) [
+      | inl c ↦
+          ap (λ xs. get_or xs k 0) apart
+          ∙ (get_or_append_left (front ++ gap) (p.bytes ++ behind) 0 k (in_front (length (front ++ gap)) there c)
+          ∙ (get_behind front gap k (omega arith)
+          ∙ get_or-replicate (p.at - e) (k - length front) erased 0 (omega (arith, o.0))))
+      | inr c ↦ elim (cases_lt k (p.at + length p.bytes)) [
+        | inl d ↦ absurd (n.0 (c, d))
+        | inr d ↦ ap (λ xs. get_or xs k 0) moved
+            ∙ walk_erased erased total (p.at + length p.bytes) ps ((front ++ gap) ++ p.bytes) far o.1 k d b n.1
+      ]
+    ]
+  where
+    there_is : (g : ℕ) → g ≡ p.at - e → length front + g ≡ p.at
+    there_is g h = omega (arith, o.0)
+
+    in_front : (m : ℕ) → m ≡ p.at → k < p.at → k < m
+    in_front m h c = omega arith
+
+pub walk_length : (erased total e : ℕ) (ps : List Span) → InOrder total e ps → e + length (painted erased total e ps) ≡ total
+walk_length erased total e [] o = let g = length-replicate (total - e) erased in omega arith
+walk_length erased total e (p ∷ ps) o =
+    let gap = replicate (p.at - e) erased in
+    let behind = painted erased total (p.at + length p.bytes) ps in
+    let all = walk_length erased total (p.at + length p.bytes) ps o.1 in
+    joined (length gap) (length behind) (length (gap ++ p.bytes)) (length ((gap ++ p.bytes) ++ behind)) (length-replicate (p.at - e) erased)
+    (length-append gap p.bytes) (length-append (gap ++ p.bytes) behind) all
+  where
+    joined : (g b gp all : ℕ) → g ≡ p.at - e → gp ≡ g + length p.bytes → all ≡ gp + b → (p.at + length p.bytes) + b ≡ total
+        → e + all ≡ total
+    joined g b gp all h i j k = omega (arith, o.0)
+
+pub shows_walk : (erased total : ℕ) (ps : List Span) → InOrder total 0 ps → ShowsSpans total erased ps (painted erased total 0 ps)
+shows_walk erased total ps o = record {
+  length_is = sym (zero-add (length (painted erased total 0 ps))) ∙ walk_length erased total 0 ps o;
+  stand = walk_stands erased total 0 ps [] refl o;
+  rest = λ k l n. walk_erased erased total 0 ps [] refl o k (omega arith) l n;
+}
+
+-- ---- from the positions to the walk
+pub walk_from : (erased total e : ℕ) (ps : List Span) (b : List ℕ) → length b ≡ total → InOrder total e ps → AllStandIn b ps
+    → ((k : ℕ) → e ≤ k → k < total → IsInNone k ps → get_or b k 0 ≡ erased) → drop e b ≡ painted erased total e ps
+walk_from erased total e [] b l o s r =
+    ext_get_or 0 (drop e b) (replicate (total - e) erased)
+    (length-drop e b ∙ (ap (λ n. n - e) l ∙ sym (length-replicate (total - e) erased)))
+    (λ i h. get_or-drop e b i 0 ∙ (r (e + i) (omega arith) (near i (length (drop e b)) (length-drop e b) h) tt
+    ∙ sym (get_or-replicate (total - e) i erased 0 (short i (length (drop e b)) (length-drop e b) h))))
+  where
+    near : (i n : ℕ) → n ≡ length b - e → i < n → e + i < total
+    near i n g h = omega (arith, l)
+
+    short : (i n : ℕ) → n ≡ length b - e → i < n → i < total - e
+    short i n g h = omega (arith, l)
+walk_from erased total e (p ∷ ps) b l o s r =
+    let gap = replicate (p.at - e) erased in
+    let cut : take (p.at - e) (drop e b) ≡ gap = ext_get_or 0 (take (p.at - e) (drop e b)) gap (length-take-le (p.at - e) (drop e b)
+    (room (length (drop e b)) (length-drop e b)) ∙ sym (length-replicate (p.at - e) erased)) (λ i h. let within =
+    shorter i (length (take (p.at - e) (drop e b))) (length-take-le (p.at - e) (drop e b) (room (length (drop e b)) (length-drop e b))) h in
+    get_or-take (p.at - e) (drop e b) i 0 within ∙ (get_or-drop e b i 0 ∙ (r (e + i) (omega arith) (under i within) (
+      λ z. not_yet i within z.0,
+      before_none total (p.at + length p.bytes) (e + i) ps o.1 (earlier i within),
+    ) ∙ sym (get_or-replicate (p.at - e) i erased 0 within)))) in
+    let behind = walk_from erased total (p.at + length p.bytes) ps b l o.1 s.1 (λ k a c n. r k (later k a) c (λ z. past k a z.1, n)) in
+    sym (take-append-drop (p.at - e) (drop e b))
+    ∙ (ap (λ xs. xs ++ drop (p.at - e) (drop e b)) cut
+    ∙ (ap (λ xs. gap ++ xs)
+    (drop-drop (p.at - e) e b ∙ (ap (λ n. drop n b) at_is ∙ (sym (take-append-drop (length p.bytes) (drop p.at b)) ∙ (ap
+    (λ xs. xs ++ drop (length p.bytes) (drop p.at b)) s.0.1 ∙ ap (λ xs. p.bytes ++ xs) (drop-drop (length p.bytes) p.at b ∙ behind)))))
+    ∙ sym (append_assoc gap p.bytes (painted erased total (p.at + length p.bytes) ps))))
+  where
+    at_is : e + (p.at - e) ≡ p.at
+    at_is = omega (arith, o.0)
+
+    room : (n : ℕ) → n ≡ length b - e → p.at - e ≤ n
+    room n h = omega (arith, s.0.0)
+
+    shorter : (i n : ℕ) → n ≡ p.at - e → i < n → i < p.at - e
+    shorter i n h g = omega arith
+
+    under : (i : ℕ) → i < p.at - e → e + i < total
+    under i h = omega (arith, s.0.0, l)
+
+    not_yet : (i : ℕ) → i < p.at - e → p.at ≤ e + i → ⊥
+    not_yet i h g = omega arith
+
+    earlier : (i : ℕ) → i < p.at - e → e + i < p.at + length p.bytes
+    earlier i h = omega arith
+
+    later : (k : ℕ) → p.at + length p.bytes ≤ k → e ≤ k
+    later k h = omega (arith, o.0)
+
+    past : (k : ℕ) → p.at + length p.bytes ≤ k → k < p.at + length p.bytes → ⊥
+    past k h g = omega arith
+
+-- one list shows the spans, and it is what the walk writes
+pub one_image : (erased total : ℕ) (ps : List Span) (b : List ℕ) → InOrder total 0 ps → ShowsSpans total erased ps b
+    → b ≡ painted erased total 0 ps
+one_image erased total ps b o h = walk_from erased total 0 ps b h.length_is o h.stand (λ k a c n. h.rest k c n)

@@ -1,0 +1,418 @@
+-- Headers as they are written, and read again.
+use Rattle.std.proofs.Common.{◌≡◌, ◌≤◌, ◌<◌, ◌+◌, ◌/◌, ◌%◌, ◌^◌, ℕ, Bool, true, false, List, [], ◌∷◌, ◌++◌, length, take, drop, refl, sym}
+use Rattle.std.proofs.Common.{ap, ◌∙◌, subst, arith, append_assoc, length-append, length-drop, drop-drop}
+use Rattle.std.specs.Prelude.{slice_index, sum}
+use Rattle.std.specs.Int.{bytes_low_first}
+use Rattle.std.proofs.Math.Seq.{take-append-add, drop-append-add}
+use Rattle.std.proofs.lemmas.List.{take-append-drop, take_at, take_all, drop_more, drop_all, get_or-append-add, length-take-le}
+use Rattle.std.proofs.lemmas.List.{length-replicate}
+use Rattle.std.proofs.lemmas.List.Sums.{sum_by-append}
+use Rattle.std.proofs.lemmas.Bool.Decides.{nat_tests}
+use Rattle.std.proofs.lemmas.Nat.{shr-shr}
+use Rattle.fv_base.specs.Guids.{bytes_of}
+use Rattle.fv_base.specs.Limits.{data_limit}
+use Rattle.fv_base.specs.Value.{IsBytes, le, le_bytes, field, le_at}
+use Rattle.fv_base.specs.declared.flash.FileSystem.{FileSystem}
+use Rattle.fv_base.specs.declared.flash.FileSystem.TheVariants.{Ffs3}
+use Rattle.fv_base.specs.declared.flash.Polarity.{Polarity}
+use Rattle.fv_base.specs.declared.flash.Polarity.TheVariants.{Ones, Zeros}
+use Rattle.fv_base.specs.declared.guid.Guid.{Guid}
+use Rattle.fv_base.proofs.Laws.{field_is, le-le_bytes}
+use Rattle.fv_file.specs.Attributes.{attribute_bits, is_large}
+use Rattle.fv_file.specs.Cells.{IsFilled}
+use Rattle.fv_file.specs.Files.{file_header_len, head_in, header_sum_of, pad_kind, file_size_in, IsFileHeader}
+use Rattle.fv_file.specs.States.{StateOf, is_alive}
+use Rattle.fv_file.specs.HeadParts.{head_bytes}
+use Rattle.fv_file.specs.NewHeaders.{IsNewHeader, IsHeadOfFile, IsHeadOfPad, complement, fields_of, file_fields, file_head_of, header_bytes}
+use Rattle.fv_file.specs.NewHeaders.{header_with, needs_large, pad_fields, pad_head_of, pad_name, state_byte, with_large}
+use Rattle.fv_file.specs.Files.{fixed_checksum}
+use Rattle.fv_file.specs.declared.attributes.FileAttributes.{FileAttributes}
+use Rattle.fv_file.specs.declared.head.FileHead.{FileHead}
+use Rattle.fv_file.specs.declared.state.FileState.TheVariants as states
+use Rattle.fv_file.proofs.AttributeLemmas.{set_large}
+use Rattle.fv_file.proofs.FileLemmas.{header_least}
+
+-- the eight bytes of a number, as they are written
+pub le_bytes_8-low_first : (n : ℕ) → le_bytes 8 n ≡ bytes_low_first 0 8 n
+le_bytes_8-low_first n = rw (shr-shr n 8 8, shr-shr n 16 8, shr-shr n 24 8, shr-shr n 32 8, shr-shr n 40 8, shr-shr n 48 8)
+
+-- ---- a header in parts
+
+-- the number in the field for a short size, and the bytes behind State
+abbrev short_size : Bool → ℕ → ℕ
+short_size true size = 0
+short_size false size = size
+
+abbrev long_size : Bool → ℕ → List ℕ
+long_size true size = le_bytes 8 size
+long_size false size = []
+
+-- what a size is below
+abbrev size_limit : Bool → ℕ
+size_limit true = 2 ^ 64
+size_limit false = 2 ^ 24
+
+-- the bytes behind the name
+abbrev behind_name : ℕ → ℕ → ℕ → ℕ → ℕ → ℕ → List ℕ → List ℕ
+behind_name header_sum file_sum kind attributes short state long =
+    header_sum ∷ file_sum ∷ kind ∷ attributes ∷ (le_bytes 3 short ++ (state ∷ long))
+
+rejoined : (a b c d e : List ℕ) → a ++ b ++ c ++ d ++ e ≡ a ++ (b ++ (c ++ (d ++ e)))
+rejoined a b c d e = simp append_assoc
+
+header_parts : (header_sum file_sum : ℕ) (name : List ℕ) (kind attributes size : ℕ) (large : Bool) (state : ℕ)
+    → header_with header_sum file_sum name kind attributes size large state
+    ≡ name ++ behind_name header_sum file_sum kind attributes (short_size large size) state (long_size large size)
+header_parts header_sum file_sum name kind attributes size true state =
+    rejoined name (header_sum ∷ file_sum ∷ kind ∷ attributes ∷ []) (le_bytes 3 0) (state ∷ []) (le_bytes 8 size)
+header_parts header_sum file_sum name kind attributes size false state =
+    rejoined name (header_sum ∷ file_sum ∷ kind ∷ attributes ∷ []) (le_bytes 3 size) (state ∷ []) []
+
+-- places behind a name
+at_behind : (k : ℕ) (name rest : List ℕ) → length name ≡ 16 → slice_index (name ++ rest) (16 + k) ≡ slice_index rest k
+at_behind k name rest long =
+    subst (λ (n : ℕ). slice_index (name ++ rest) (n + k) ≡ slice_index rest k) long (get_or-append-add name rest k 0)
+
+take_behind : (k : ℕ) (name rest : List ℕ) → length name ≡ 16 → take (16 + k) (name ++ rest) ≡ name ++ take k rest
+take_behind k name rest long = subst (λ (n : ℕ). take (n + k) (name ++ rest) ≡ name ++ take k rest) long (take-append-add name rest k)
+
+drop_behind : (k : ℕ) (name rest : List ℕ) → length name ≡ 16 → drop (16 + k) (name ++ rest) ≡ drop k rest
+drop_behind k name rest long = subst (λ (n : ℕ). drop (n + k) (name ++ rest) ≡ drop k rest) long (drop-append-add name rest k)
+
+-- ---- the header sum
+
+sum_parts : (name l : List ℕ) (a b c d e f g h : ℕ)
+    → sum (name ++ (a ∷ b ∷ c ∷ d ∷ e ∷ f ∷ g ∷ h ∷ l)) ≡ sum name + (a + b + c + d + e + f + g + h) + sum l
+sum_parts name l a b c d e f g h =
+    sum_by-append (λ (x : ℕ). x) name (a ∷ b ∷ c ∷ d ∷ e ∷ f ∷ g ∷ h ∷ l)
+    ∙ (ap (λ (n : ℕ). sum name + n) (sum_by-append (λ (x : ℕ). x) (a ∷ b ∷ c ∷ d ∷ e ∷ f ∷ g ∷ h ∷ []) l)
+    ∙ turned (sum name) (sum l) a b c d e f g h)
+  where
+    turned : (s t a b c d e f g h : ℕ) → s + (sum (a ∷ b ∷ c ∷ d ∷ e ∷ f ∷ g ∷ h ∷ []) + t) ≡ s + (a + b + c + d + e + f + g + h) + t
+    turned s t a b c d e f g h = omega arith
+
+-- the header sum counts by itself, file sum and State as zero
+sum_apart : (name l : List ℕ) (a b c d e f g h : ℕ) → length name ≡ 16
+    → header_sum_of (name ++ (a ∷ b ∷ c ∷ d ∷ e ∷ f ∷ g ∷ h ∷ l)) ≡ (sum (name ++ (0 ∷ 0 ∷ c ∷ d ∷ e ∷ f ∷ g ∷ 0 ∷ l)) + a) % 256
+sum_apart name l a b c d e f g h long =
+    let rest : List ℕ = a ∷ b ∷ c ∷ d ∷ e ∷ f ∷ g ∷ h ∷ l in
+    let first : sum (take 17 (name ++ rest)) ≡ sum name + sum (a ∷ []) =
+    ap sum (take_behind 1 name rest long) ∙ sum_by-append (λ (x : ℕ). x) name (a ∷ []) in
+    let second : sum (field 18 5 (name ++ rest)) ≡ sum (c ∷ d ∷ e ∷ f ∷ g ∷ []) =
+    ap (λ (xs : List ℕ). sum (take 5 xs)) (drop_behind 2 name rest long) in
+    let third : sum (drop 24 (name ++ rest)) ≡ sum l = ap sum (drop_behind 8 name rest long) in
+    ap (λ (n : ℕ). n % 256) (added _ _ _ _ (sum name) (sum l) a c d e f g first second third (sum_parts name l 0 0 c d e f g 0))
+  where
+    added : (x y z w s t a c d e f g : ℕ) → x ≡ s + sum (a ∷ []) → y ≡ sum (c ∷ d ∷ e ∷ f ∷ g ∷ []) → z ≡ t
+        → w ≡ s + (0 + 0 + c + d + e + f + g + 0) + t → x + y + z ≡ w + a
+    added x y z w s t a c d e f g p q r v = omega arith
+
+-- the sum of a header, with both sums and State zero
+abbrev bare_sum : List ℕ → ℕ → ℕ → ℕ → Bool → ℕ
+bare_sum name kind attributes size large = sum (header_with 0 0 name kind attributes size large 0)
+
+header_sum_is : (header_sum file_sum : ℕ) (name : List ℕ) (kind attributes size : ℕ) (large : Bool) (state : ℕ) → length name ≡ 16
+    → header_sum_of (header_with header_sum file_sum name kind attributes size large state)
+    ≡ (bare_sum name kind attributes size large + header_sum) % 256
+header_sum_is header_sum file_sum name kind attributes size large state long =
+    let short : ℕ = short_size large size in
+    ap header_sum_of (header_parts header_sum file_sum name kind attributes size large state)
+    ∙ (sum_apart name (long_size large size) header_sum file_sum kind attributes (short % 256) (short / 256 % 256)
+    (short / 256 / 256 % 256) state long
+    ∙ ap (λ (xs : List ℕ). (sum xs + header_sum) % 256) (sym (header_parts 0 0 name kind attributes size large 0)))
+
+-- the complement makes it right, and no other byte does
+complement_right : (n : ℕ) → (n + complement n) % 256 ≡ 0
+complement_right n = omega arith
+
+complement_only : (n a : ℕ) → a < 256 → (n + a) % 256 ≡ 0 → a ≡ complement n
+complement_only n a small right = omega arith
+
+pub complement_small : (n : ℕ) → complement n < 256
+complement_small n = omega arith
+
+-- ---- a header, read
+
+-- the size
+size_is : (header_sum file_sum : ℕ) (name : List ℕ) (kind attributes size : ℕ) (large : Bool) (state : ℕ) → length name ≡ 16
+    → size < size_limit large
+    → file_size_in large (name ++ behind_name header_sum file_sum kind attributes (short_size large size) state (long_size large size))
+    ≡ size
+size_is header_sum file_sum name kind attributes size true state long small =
+    ap (λ (xs : List ℕ). le (take 8 xs))
+    (drop_behind 8 name (behind_name header_sum file_sum kind attributes 0 state (le_bytes 8 size)) long) ∙ le-le_bytes 8 size small
+size_is header_sum file_sum name kind attributes size false state long small =
+    ap (λ (xs : List ℕ). le (take 3 xs)) (drop_behind 4 name (behind_name header_sum file_sum kind attributes size state []) long)
+    ∙ le-le_bytes 3 size small
+
+zero_size : (header_sum file_sum : ℕ) (name : List ℕ) (kind attributes size : ℕ) (large : Bool) (state : ℕ) → length name ≡ 16
+    → large ≡ true
+    → le_at 20 3 (name ++ behind_name header_sum file_sum kind attributes (short_size large size) state (long_size large size)) ≡ 0
+zero_size header_sum file_sum name kind attributes size true state long is =
+    ap (λ (xs : List ℕ). le (take 3 xs))
+    (drop_behind 4 name (behind_name header_sum file_sum kind attributes 0 state (le_bytes 8 size)) long)
+zero_size header_sum file_sum name kind attributes size false state long is = cc
+
+-- the fields
+abbrev fields : List ℕ → ℕ → ℕ → ℕ → ℕ → ℕ → ℕ → FileHead
+fields name kind attributes size header_len header_sum file_sum = record {
+  name = record { bytes = name };
+  kind = kind;
+  attributes = record { 0 = attributes };
+  size = size;
+  header_len = header_len;
+  header_sum = header_sum;
+  file_sum = file_sum;
+  state = states.DataValid;
+}
+
+fields_are : (header_sum file_sum : ℕ) (name : List ℕ) (kind attributes size : ℕ) (large : Bool) (state : ℕ) → length name ≡ 16
+    → is_large attributes ≡ large → size < size_limit large
+    → fields_of name kind attributes size large header_sum file_sum
+    ≡ head_in states.DataValid
+    (name ++ behind_name header_sum file_sum kind attributes (short_size large size) state (long_size large size))
+fields_are header_sum file_sum name kind attributes size large state long is small =
+    let rest : List ℕ = behind_name header_sum file_sum kind attributes (short_size large size) state (long_size large size) in
+    let b : List ℕ = name ++ rest in
+    let place : is_large (slice_index b 19) ≡ large = ap is_large (at_behind 3 name rest long) ∙ is in
+    let whole : file_size_in (is_large (slice_index b 19)) b ≡ size =
+    ap (λ (l : Bool). file_size_in l b) place ∙ size_is header_sum file_sum name kind attributes size large state long small in
+    sym (same_fields _ _ _ _ _ _ _ _ _ _ _ _ _ _ (take_at name rest 16 long) (at_behind 2 name rest long) (at_behind 3 name rest long) whole
+    (ap file_header_len place) (at_behind 0 name rest long) (at_behind 1 name rest long))
+  where
+    same_fields : (a a' : List ℕ) (b b' c c' d d' e e' f f' g g' : ℕ) → a ≡ a' → b ≡ b' → c ≡ c' → d ≡ d' → e ≡ e' → f ≡ f' → g ≡ g'
+        → fields a b c d e f g ≡ fields a' b' c' d' e' f' g'
+    same_fields a a' b b' c c' d d' e e' f f' g g' p q r s t u v = rw (p, q, r, s, t, u, v)
+
+length_is : (header_sum file_sum : ℕ) (name : List ℕ) (kind attributes size : ℕ) (large : Bool) (state : ℕ) → length name ≡ 16
+    → length (name ++ behind_name header_sum file_sum kind attributes (short_size large size) state (long_size large size))
+    ≡ file_header_len large
+length_is header_sum file_sum name kind attributes size true state long =
+    length-append name (behind_name header_sum file_sum kind attributes 0 state (le_bytes 8 size)) ∙ ap (λ (n : ℕ). n + 16) long
+length_is header_sum file_sum name kind attributes size false state long =
+    length-append name (behind_name header_sum file_sum kind attributes size state []) ∙ ap (λ (n : ℕ). n + 8) long
+
+-- the State byte of a new file
+state_is : (polarity : Polarity) → StateOf (state_byte polarity) polarity states.DataValid
+state_is Ones = (omega arith, omega arith)
+state_is Zeros = (omega arith, omega arith)
+
+-- a header with a right sum is that of its fields
+written_with : (polarity : Polarity) (header_sum file_sum : ℕ) (name : List ℕ) (kind attributes size : ℕ) (large : Bool) → length name ≡ 16
+    → is_large attributes ≡ large → size < size_limit large → (bare_sum name kind attributes size large + header_sum) % 256 ≡ 0
+    → IsBytes (header_with header_sum file_sum name kind attributes size large (state_byte polarity))
+    → IsNewHeader polarity (fields_of name kind attributes size large header_sum file_sum)
+    (header_with header_sum file_sum name kind attributes size large (state_byte polarity))
+written_with polarity header_sum file_sum name kind attributes size large long is small right bytes =
+    let state : ℕ = state_byte polarity in
+    let head : FileHead = fields_of name kind attributes size large header_sum file_sum in
+    let rest : List ℕ = behind_name header_sum file_sum kind attributes (short_size large size) state (long_size large size) in
+    let b : List ℕ = name ++ rest in
+    let parts = header_parts header_sum file_sum name kind attributes size large state in
+    let place : is_large (slice_index b 19) ≡ large = ap is_large (at_behind 3 name rest long) ∙ is in
+    let byte : slice_index b 23 ≡ state = at_behind 7 name rest long in
+    let sums : header_sum_of b ≡ 0 =
+    ap header_sum_of (sym parts) ∙ header_sum_is header_sum file_sum name kind attributes size large state long ∙ right in
+    let written : IsNewHeader polarity head b = record {
+      header = λ system only. record {
+        whole = length_is header_sum file_sum name kind attributes size large state long ∙ ap file_header_len (sym place);
+        fields = fields_are header_sum file_sum name kind attributes size large state long is small;
+        state = subst (λ (n : ℕ). StateOf n polarity states.DataValid) (sym byte) (state_is polarity);
+        large = λ e. (only (is ∙ sym place ∙ e), zero_size header_sum file_sum name kind attributes size large state long (sym place ∙ e));
+        sum = sums;
+      };
+      state = byte;
+      bytes = subst IsBytes parts bytes;
+    } in
+    subst (IsNewHeader polarity head) (sym parts) written
+
+-- the header sum of a header with its right sum
+sum_at : (header_sum file_sum : ℕ) (name : List ℕ) (kind attributes size : ℕ) (large : Bool) (state : ℕ) → length name ≡ 16
+    → slice_index (header_with header_sum file_sum name kind attributes size large state) 16 ≡ header_sum
+sum_at header_sum file_sum name kind attributes size large state long =
+    ap (λ (b : List ℕ). slice_index b 16) (header_parts header_sum file_sum name kind attributes size large state)
+    ∙ at_behind 0 name (behind_name header_sum file_sum kind attributes (short_size large size) state (long_size large size)) long
+
+-- a header with its right sum is read again as its fields
+written_is : (polarity : Polarity) (file_sum : ℕ) (name : List ℕ) (kind attributes size : ℕ) (large : Bool) → length name ≡ 16
+    → is_large attributes ≡ large → size < size_limit large
+    → IsBytes (header_bytes file_sum name kind attributes size large (state_byte polarity))
+    → IsNewHeader polarity (fields_of name kind attributes size large
+    (slice_index (header_bytes file_sum name kind attributes size large (state_byte polarity)) 16) file_sum)
+    (header_bytes file_sum name kind attributes size large (state_byte polarity))
+unfolding header_bytes
+written_is polarity file_sum name kind attributes size large long is small bytes =
+    let bare : ℕ = bare_sum name kind attributes size large in
+    subst (λ (n : ℕ). IsNewHeader polarity (fields_of name kind attributes size large n file_sum)
+    (header_with (complement bare) file_sum name kind attributes size large (state_byte polarity)))
+    (sym (sum_at (complement bare) file_sum name kind attributes size large (state_byte polarity) long))
+    (written_with polarity (complement bare) file_sum name kind attributes size large long is small (complement_right bare) bytes)
+
+-- ---- with data and filler, a header is that of a cell
+
+filled : (system : FileSystem) (polarity : Polarity) (head : FileHead) (h payload filler : List ℕ) → IsFileHeader system polarity head h
+    → head.size ≡ length h + length payload
+    → length filler < 8 → (head.size + length filler) % 8 ≡ 0 → IsFilled system polarity head payload (h ++ (payload ++ filler))
+filled system polarity head h payload filler is size short multiple =
+    let whole : head.size ≡ length (h ++ payload) = size ∙ sym (length-append h payload) in
+    let joined : h ++ (payload ++ filler) ≡ (h ++ payload) ++ filler = sym (append_assoc h payload filler) in
+    let all : length (h ++ (payload ++ filler)) ≡ head.size + length filler =
+    ap length joined ∙ length-append (h ++ payload) filler ∙ ap (λ (n : ℕ). n + length filler) (sym whole) in
+    record {
+      file = h ++ payload;
+      filler = filler;
+      text = joined;
+      is_file = record { header = h; text = refl; is_header = is; size = whole };
+      short = short;
+      multiple = ap (λ (n : ℕ). n % 8) all ∙ multiple;
+    }
+
+pub head_of_file : (polarity : Polarity) (head : FileHead) (h : List ℕ) → IsNewHeader polarity head h → is_alive head.state ≡ true
+    → IsHeadOfFile polarity head h
+head_of_file polarity head h written alive = λ system at payload filler only size sound short multiple.
+    (filled system polarity head h payload filler (written.header system only) size short multiple, alive, sound)
+
+pub head_of_pad : (polarity : Polarity) (head : FileHead) (h : List ℕ) → IsNewHeader polarity head h → is_alive head.state ≡ true
+    → head.kind ≡ pad_kind
+    → is_large (attribute_bits head.attributes) ≡ false → IsHeadOfPad polarity head h
+head_of_pad polarity head h written alive pad short = λ system at payload filler size little multiple.
+    (filled system polarity head h payload filler (written.header system (λ large. cc)) size little multiple, alive, pad)
+
+-- ---- files and pads
+
+-- the bits with which a header is written say its form
+pub with_large_is : (large : Bool) (attributes : ℕ) → is_large attributes ≡ false → is_large (with_large large attributes) ≡ large
+with_large_is true attributes short = set_large attributes short
+with_large_is false attributes short = short
+
+size_small : (data_len : ℕ) → data_len ≤ data_limit → file_header_len (needs_large data_len) + data_len < size_limit (needs_large data_len)
+size_small data_len most = by_form (needs_large data_len) data_len refl most where
+  by_form : (large : Bool) (n : ℕ) → needs_large n ≡ large → n ≤ data_limit → file_header_len large + n < size_limit large
+  by_form true n is most = omega arith
+  by_form false n is most = grind (arith, nat_tests)
+
+-- the bytes that the fields of a file give are its header's
+pub file_head_is : (polarity : Polarity) (name : Guid) (kind : ℕ) (attributes : FileAttributes) (data_len file_sum : ℕ) (head : FileHead)
+    → is_large (attribute_bits attributes) ≡ false
+    → head ≡ file_fields name kind attributes data_len file_sum 0
+    → head_bytes head polarity ≡ file_head_of name kind attributes data_len file_sum polarity
+file_head_is polarity name kind attributes data_len file_sum head short is =
+    let large : Bool = needs_large data_len in
+    let bits : ℕ = with_large large (attribute_bits attributes) in
+    ap (λ (x : FileHead). head_bytes x polarity) is
+    ∙ ap (λ (l : Bool). header_bytes file_sum (bytes_of name) kind bits (file_header_len large + data_len) l (state_byte polarity))
+    (with_large_is large (attribute_bits attributes) short)
+
+pub file_written : (polarity : Polarity) (name : Guid) (kind : ℕ) (attributes : FileAttributes) (data_len file_sum : ℕ) (b : List ℕ)
+    → length (bytes_of name) ≡ 16
+    → is_large (attribute_bits attributes) ≡ false → data_len ≤ data_limit → IsBytes b
+    → b ≡ file_head_of name kind attributes data_len file_sum polarity
+    → IsNewHeader polarity (file_fields name kind attributes data_len file_sum (slice_index b 16)) b
+file_written polarity name kind attributes data_len file_sum b long short most bytes is =
+    let large : Bool = needs_large data_len in
+    subst (λ (x : List ℕ). IsNewHeader polarity (file_fields name kind attributes data_len file_sum (slice_index x 16)) x) (sym is)
+    (written_is polarity file_sum (bytes_of name) kind (with_large large (attribute_bits attributes)) (file_header_len large + data_len)
+    large long (with_large_is large (attribute_bits attributes) short) (size_small data_len most) (subst IsBytes is bytes))
+
+pub pad_written : (polarity : Polarity) (size : ℕ) (b : List ℕ) → size ≤ 0xffffff → IsBytes b → b ≡ pad_head_of size polarity
+    → IsNewHeader polarity (pad_fields size (slice_index b 16)) b
+pad_written polarity size b most bytes is =
+    subst (λ (x : List ℕ). IsNewHeader polarity (pad_fields size (slice_index x 16)) x) (sym is)
+    (written_is polarity fixed_checksum pad_name pad_kind 0 size false (length-replicate {A = ℕ} 16 0xff) refl (below size most)
+    (subst IsBytes is bytes))
+  where
+    below : (n : ℕ) → n ≤ 0xffffff → n < 2 ^ 24
+    below n most = omega arith
+
+-- ---- no other bytes are the header of these fields
+
+-- bytes in parts
+parts_of : (b : List ℕ) → IsBytes b → 24 ≤ length b
+    → b ≡ take 16 b
+    ++ behind_name (slice_index b 16) (slice_index b 17) (slice_index b 18) (slice_index b 19) (le_at 20 3 b) (slice_index b 23) (drop 24 b)
+parts_of b small least =
+    let tail : drop 23 b ≡ slice_index b 23 ∷ drop 24 b = drop_more b 23 0 (omega (arith, least)) in
+    let size : drop 20 b ≡ le_bytes 3 (le_at 20 3 b) ++ drop 23 b =
+    sym (take-append-drop 3 (drop 20 b)) ∙ (ap (λ (xs : List ℕ). field 20 3 b ++ xs) (drop-drop 3 20 b)
+    ∙ ap (λ (xs : List ℕ). xs ++ drop 23 b) (sym (field_is 20 3 b small (omega (arith, least))))) in
+    sym (take-append-drop 16 b)
+    ∙ ap (λ (xs : List ℕ). take 16 b ++ xs) (drop_more b 16 0 (omega (arith, least))
+    ∙ ap (λ (xs : List ℕ). slice_index b 16 ∷ xs) (drop_more b 17 0 (omega (arith, least))
+    ∙ ap (λ (xs : List ℕ). slice_index b 17 ∷ xs) (drop_more b 18 0 (omega (arith, least))
+    ∙ ap (λ (xs : List ℕ). slice_index b 18 ∷ xs) (drop_more b 19 0 (omega (arith, least))
+    ∙ ap (λ (xs : List ℕ). slice_index b 19 ∷ xs) (size ∙ ap (λ (xs : List ℕ). le_bytes 3 (le_at 20 3 b) ++ xs) tail)))))
+
+short_is : (large : Bool) (b : List ℕ) (size : ℕ) → (large ≡ true → le_at 20 3 b ≡ 0) → size ≡ file_size_in large b
+    → le_at 20 3 b ≡ short_size large size
+short_is true b size none is = none refl
+short_is false b size none is = sym is
+
+long_is : (large : Bool) (b : List ℕ) (size : ℕ) → IsBytes b → length b ≡ file_header_len large → size ≡ file_size_in large b
+    → drop 24 b ≡ long_size large size
+long_is true b size small whole is =
+    sym (take_all 8 (drop 24 b) (omega (arith, length-drop 24 b, whole))) ∙ sym (field_is 24 8 b small (omega (arith, whole)))
+    ∙ ap (le_bytes 8) (sym is)
+long_is false b size small whole is = drop_all 24 b (omega (arith, whole))
+
+-- bytes that are the header of these fields have this form
+form_of : (polarity : Polarity) (head : FileHead) (b : List ℕ) → IsNewHeader polarity head b
+    → b ≡ header_with head.header_sum head.file_sum (bytes_of head.name) head.kind (attribute_bits head.attributes) head.size
+    (is_large (attribute_bits head.attributes)) (state_byte polarity)
+form_of polarity head b written =
+    let is = written.header Ffs3 (λ large. refl) in
+    let at : attribute_bits head.attributes ≡ slice_index b 19 = ap (λ (x : FileHead). attribute_bits x.attributes) is.fields in
+    let large : Bool = is_large (slice_index b 19) in
+    let size : head.size ≡ file_size_in large b = ap (λ (x : FileHead). x.size) is.fields in
+    let least : 24 ≤ length b = subst (λ (n : ℕ). 24 ≤ n) (sym is.whole) (header_least large) in
+    let short : le_at 20 3 b ≡ short_size large head.size = short_is large b head.size (λ e. (is.large e).1) size in
+    let long : drop 24 b ≡ long_size large head.size = long_is large b head.size written.bytes is.whole size in
+    parts_of b written.bytes least
+    ∙ same _ _ _ _ _ _ _ _ _ _ _ _ _ _ _ _ (ap (λ (x : FileHead). bytes_of x.name) (sym is.fields))
+    (ap (λ (x : FileHead). x.header_sum) (sym is.fields))
+    (ap (λ (x : FileHead). x.file_sum) (sym is.fields)) (ap (λ (x : FileHead). x.kind) (sym is.fields)) (sym at) short written.state long
+    ∙ sym (header_parts head.header_sum head.file_sum (bytes_of head.name) head.kind (attribute_bits head.attributes) head.size
+    large (state_byte polarity))
+    ∙ ap (λ (l : Bool). header_with head.header_sum head.file_sum (bytes_of head.name) head.kind (attribute_bits head.attributes) head.size
+    l (state_byte polarity)) (ap is_large (sym at))
+  where
+    same : (n n' : List ℕ) (a a' b b' c c' d d' e e' f f' : ℕ) (l l' : List ℕ) → n ≡ n' → a ≡ a' → b ≡ b' → c ≡ c' → d ≡ d' → e ≡ e'
+        → f ≡ f' → l ≡ l'
+        → n ++ behind_name a b c d e f l ≡ n' ++ behind_name a' b' c' d' e' f' l'
+    same n n' a a' b b' c c' d d' e e' f f' l l' o p q r s t u v = rw (o, p, q, r, s, t, u, v)
+
+pub only_written : (polarity : Polarity) (head : FileHead) (b : List ℕ) → IsNewHeader polarity head b
+    → b ≡ header_bytes head.file_sum (bytes_of head.name) head.kind (attribute_bits head.attributes) head.size
+    (is_large (attribute_bits head.attributes)) (state_byte polarity)
+unfolding header_bytes
+only_written polarity head b written =
+    let is = written.header Ffs3 (λ large. refl) in
+    let large : Bool = is_large (attribute_bits head.attributes) in
+    let form = form_of polarity head b written in
+    let least : 24 ≤ length b = subst (λ (n : ℕ). 24 ≤ n) (sym is.whole) (header_least (is_large (slice_index b 19))) in
+    let named : length (bytes_of head.name) ≡ 16 =
+    ap (λ (x : FileHead). length (bytes_of x.name)) is.fields ∙ length-take-le 16 b (omega (arith, least)) in
+    let small : head.header_sum < 256 =
+    subst (λ (n : ℕ). n < 256) (ap (λ (x : FileHead). x.header_sum) (sym is.fields)) (written.bytes 16) in
+    let bare : ℕ = bare_sum (bytes_of head.name) head.kind (attribute_bits head.attributes) head.size large in
+    let right : (bare + head.header_sum) % 256 ≡ 0 =
+    sym (header_sum_is head.header_sum head.file_sum (bytes_of head.name) head.kind (attribute_bits head.attributes) head.size large
+    (state_byte polarity) named)
+    ∙ ap header_sum_of (sym form) ∙ is.sum in
+    form ∙ ap (λ (n : ℕ). header_with n head.file_sum (bytes_of head.name) head.kind (attribute_bits head.attributes) head.size large
+    (state_byte polarity)) (complement_only bare head.header_sum small right)
+
+-- the header of a file of these fields, and that of a pad, is no other
+pub only_file : (polarity : Polarity) (name : Guid) (kind : ℕ) (attributes : FileAttributes) (data_len file_sum header_sum : ℕ) (h : List ℕ)
+    → is_large (attribute_bits attributes) ≡ false
+    → IsNewHeader polarity (file_fields name kind attributes data_len file_sum header_sum) h
+    → h ≡ file_head_of name kind attributes data_len file_sum polarity
+only_file polarity name kind attributes data_len file_sum header_sum h short written =
+    let large : Bool = needs_large data_len in
+    let bits : ℕ = with_large large (attribute_bits attributes) in
+    only_written polarity (file_fields name kind attributes data_len file_sum header_sum) h written
+    ∙ ap (λ (l : Bool). header_bytes file_sum (bytes_of name) kind bits (file_header_len large + data_len) l (state_byte polarity))
+    (with_large_is large (attribute_bits attributes) short)
+
+pub only_pad : (polarity : Polarity) (size header_sum : ℕ) (h : List ℕ) → IsNewHeader polarity (pad_fields size header_sum) h
+    → h ≡ pad_head_of size polarity
+only_pad polarity size header_sum h written = only_written polarity (pad_fields size header_sum) h written

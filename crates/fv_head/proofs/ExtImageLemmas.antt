@@ -1,0 +1,188 @@
+-- An extended header is spelled as it is read.
+use Rattle.std.proofs.Common.{◌≡◌, ◌≤◌, ◌<◌, ℕ, ◌+◌, ◌*◌, ◌/◌, ◌%◌, List, [], ◌∷◌, ◌++◌, length, drop, refl, sym, ap, ◌∙◌, subst, arith}
+use Rattle.std.proofs.Common.{Bool, true, false, get_or, length-append, append_assoc, append-nil}
+use Rattle.std.specs.Prelude.{◌==◌, ◌&&◌, if◌then◌else◌}
+use Rattle.std.proofs.lemmas.List.{drop_at, drop_more, drop_all}
+use Rattle.std.proofs.lemmas.Bool.{eqb-true}
+use Rattle.fv_base.specs.Guids.{bytes_of}
+use Rattle.fv_base.specs.Limits.{ext_limit}
+use Rattle.fv_base.specs.Value.{IsBytes, le, le_bytes, le_at}
+use Rattle.fv_base.proofs.Laws.{bytes_drop, le-le_bytes, two_bytes}
+use Rattle.fv_head.specs.Ext.{Extension, kept_payload, zero_used_size, is_used_size, BeginNoEntry, SplitsEntries, IsExt, IsReadExt}
+use Rattle.fv_head.specs.ExtImage.{payload_with, entry_bytes, entries_bytes, entries_len, ext_len, ext_spelled}
+use Rattle.fv_head.proofs.ExtLemmas.{begins}
+
+-- a number of four bytes
+four_bytes : (n : ℕ) → n < 65536 → le (le_bytes 4 n) ≡ n
+four_bytes n small = four n small where
+  four : (n : ℕ) → n < 65536
+      → n % 256 + 256 * (n / 256 % 256 + 256 * (n / 256 / 256 % 256 + 256 * (n / 256 / 256 / 256 % 256 + 256 * 0))) ≡ n
+  four n small = omega arith
+
+-- what is kept of a payload has its length
+length-held : (kind : ℕ) (payload : List ℕ) → length (kept_payload kind payload) ≡ length payload
+length-held kind payload = go (kind == 3) (length payload == 4) refl where
+  go : (p q : Bool) → (length payload == 4) ≡ q → length (if p && q then zero_used_size else payload) ≡ length payload
+  go true true is = sym (eqb-true (length payload) 4 is)
+  go true false is = refl
+  go false q is = refl
+
+-- entries have so many bytes before their tail
+pub length-entries : (es : List (ℕ × List ℕ)) (tail b : List ℕ) → SplitsEntries es tail b → entries_len es + length tail ≡ length b
+length-entries [] tail b h = omega (arith, ap length h.0)
+length-entries (e ∷ es) tail b (head, payload, rest, text, four, size, kind, kept, more) =
+    let is = begins b head payload rest text four size in
+    let same : length e.1 ≡ length payload = ap length kept ∙ length-held e.0 payload in
+    omega (arith, is.long, same, length-entries es tail rest more)
+
+-- a payload with a used size has the length of what is kept
+length-payload_with : (used : ℕ) (e : ℕ × List ℕ) → length (payload_with used e) ≡ length e.1
+length-payload_with used e = go (e.0 == 3) (length e.1 == 4) refl where
+  go : (p q : Bool) → (length e.1 == 4) ≡ q → length (if p && q then le_bytes 4 used else e.1) ≡ length e.1
+  go true true is = sym (eqb-true (length e.1) 4 is)
+  go true false is = refl
+  go false q is = refl
+
+-- and the same is kept of it
+held-payload_with : (used : ℕ) (e : ℕ × List ℕ) (payload : List ℕ) → e.1 ≡ kept_payload e.0 payload
+    → e.1 ≡ kept_payload e.0 (payload_with used e)
+held-payload_with used e payload kept = go (e.0 == 3) (length e.1 == 4) (length payload == 4) refl refl kept where
+  same : (length e.1 == 4) ≡ (length payload == 4)
+  same = ap (λ (n : ℕ). n == 4) (ap length kept ∙ length-held e.0 payload)
+
+  go : (p q r : Bool) → (length e.1 == 4) ≡ q → (length payload == 4) ≡ r → e.1 ≡ (if p && r then zero_used_size else payload)
+      → e.1
+      ≡ (if p && (length (if p && q then le_bytes 4 used else e.1) == 4) then zero_used_size else (if p && q then le_bytes 4 used else e.1))
+  go true true true one two kept = kept
+  go true true false one two kept = let never : true ≡ false = sym one ∙ same ∙ two in cc
+  go true false true one two kept = let never : false ≡ true = sym one ∙ same ∙ two in cc
+  go true false false one two kept = rw one refl
+  go false q r one two kept = refl
+
+-- the entries as they are spelled are these entries
+pub entries_again : (es : List (ℕ × List ℕ)) (tail b : List ℕ) (used : ℕ) → IsBytes b → length b ≤ ext_limit → SplitsEntries es tail b
+    → SplitsEntries es tail (entries_bytes used es ++ tail)
+entries_again [] tail b used small most h = (refl, subst BeginNoEntry h.0 h.1)
+entries_again (e ∷ es) tail b used small most (head, payload, rest, text, four, size, kind, kept, more) =
+    let is = begins b head payload rest text four size in
+    let same : length e.1 ≡ length payload = ap length kept ∙ length-held e.0 payload in
+    let n : ℕ = 4 + length e.1 in
+    let kind_small : e.0 < 65536 = rw (← kind, ← is.kind) (two_bytes 2 b small) in
+    let size_small : n < 65536 = omega (arith, is.long, same, most) in
+    let header : List ℕ = le_bytes 2 n ++ le_bytes 2 e.0 in
+    let body : List ℕ = payload_with used e in
+    let long : length body ≡ length e.1 = length-payload_with used e in
+    let behind : List ℕ = entries_bytes used es ++ tail in
+    let rest_bytes : IsBytes rest = subst IsBytes (sym is.rest_is) (bytes_drop (le_at 0 2 b) b small) in
+    let others = entries_again es tail rest used rest_bytes (omega (arith, is.long, most)) more in
+    let joined : (header ++ body ++ entries_bytes used es) ++ tail ≡ header ++ (body ++ behind) =
+    append_assoc (header ++ body) (entries_bytes used es) tail ∙ append_assoc header body behind in (
+      header,
+      body,
+      behind,
+      joined,
+      refl,
+      le-le_bytes 2 n size_small ∙ ap (λ (k : ℕ). 4 + k) (sym long),
+      le-le_bytes 2 e.0 kind_small,
+      held-payload_with used e payload kept,
+      others,
+    )
+
+-- the extended header as it is spelled
+pub ext_again : (x : Extension) (used : ℕ) → IsReadExt x → IsExt x (ext_spelled x used) × (length (ext_spelled x used) ≡ ext_len x)
+unfolding ext_spelled
+ext_again x used (b, small, is) =
+    let name : List ℕ = bytes_of x.name in
+    let whole : List ℕ = entries_bytes used x.entries ++ x.tail in
+    let rest_small : IsBytes is.rest = subst IsBytes (behind x b is) (bytes_drop 20 b small) in
+    let parts : length b ≡ 20 + length is.rest = omega
+    (arith, ap length is.text, length-append name (is.head ++ is.rest), length-append is.head is.rest, is.name_length, is.head_length) in
+    let again = entries_again x.entries x.tail is.rest used rest_small (omega (arith, parts, is.most)) is.entries in
+    let source : entries_len x.entries + length x.tail ≡ length is.rest = length-entries x.entries x.tail is.rest is.entries in
+    let made : entries_len x.entries + length x.tail ≡ length whole = length-entries x.entries x.tail whole again in
+    let small_len : ext_len x < 65536 = omega (arith, parts, source, is.most) in
+    let joined : name ++ le_bytes 4 (ext_len x) ++ entries_bytes used x.entries ++ x.tail ≡ name ++ (le_bytes 4 (ext_len x) ++ whole) =
+    append_assoc (name ++ le_bytes 4 (ext_len x)) (entries_bytes used x.entries) x.tail
+    ∙ append_assoc name (le_bytes 4 (ext_len x)) whole in
+    let long : length (name ++ le_bytes 4 (ext_len x) ++ entries_bytes used x.entries ++ x.tail) ≡ ext_len x =
+    ap length joined ∙ total (length name) (length whole) (ext_len x) (entries_len x.entries) (length x.tail) _ _
+    (length-append name (le_bytes 4 (ext_len x) ++ whole)) (length-append (le_bytes 4 (ext_len x)) whole) is.name_length made refl in
+    let ext : IsExt x (name ++ le_bytes 4 (ext_len x) ++ entries_bytes used x.entries ++ x.tail) = record {
+      head = le_bytes 4 (ext_len x);
+      rest = whole;
+      text = joined;
+      name_length = is.name_length;
+      head_length = refl;
+      size = four_bytes (ext_len x) small_len ∙ sym long;
+      most = omega (arith, long, small_len);
+      entries = again;
+    } in
+    (ext, long)
+  where
+    behind : (x : Extension) (b : List ℕ) (is : IsExt x b) → drop 20 b ≡ is.rest
+    behind x b is =
+        ap (drop 20) (is.text ∙ sym (append_assoc (bytes_of x.name) is.head is.rest))
+        ∙ drop_at (bytes_of x.name ++ is.head) is.rest 20
+        (omega (arith, length-append (bytes_of x.name) is.head, is.name_length, is.head_length))
+
+    total : (n w l e t a c : ℕ) → a ≡ n + c → c ≡ 4 + w → n ≡ 16 → e + t ≡ w → l ≡ 20 + e + t → a ≡ l
+    total n w l e t a c one two three four five = omega arith
+
+-- ---- walks
+
+-- the payload that is put
+pub used_put : (used : ℕ) (e : ℕ × List ℕ) (kind : ℕ) (payload : List ℕ) (t : Bool) → t ≡ is_used_size kind payload → kind ≡ e.0
+    → payload ≡ e.1 → t ≡ true → le_bytes 4 used ≡ payload_with used e
+used_put used e kind payload t test kinds payloads on =
+    let here : is_used_size e.0 e.1 ≡ true =
+    ap (λ (k : ℕ). is_used_size k e.1) (sym kinds) ∙ ap (is_used_size kind) (sym payloads) ∙ sym test ∙ on in
+    go (is_used_size e.0 e.1) here
+  where
+    go : (q : Bool) → q ≡ true → le_bytes 4 used ≡ (if q then le_bytes 4 used else e.1)
+    go true is = refl
+    go false is = cc
+
+pub payload_put : (used : ℕ) (e : ℕ × List ℕ) (kind : ℕ) (payload : List ℕ) (t : Bool) → t ≡ is_used_size kind payload → kind ≡ e.0
+    → payload ≡ e.1 → t ≡ false → payload ≡ payload_with used e
+payload_put used e kind payload t test kinds payloads off =
+    let here : is_used_size e.0 e.1 ≡ false =
+    ap (λ (k : ℕ). is_used_size k e.1) (sym kinds) ∙ ap (is_used_size kind) (sym payloads) ∙ sym test ∙ off in
+    payloads ∙ go (is_used_size e.0 e.1) here
+  where
+    go : (q : Bool) → q ≡ false → e.1 ≡ (if q then le_bytes 4 used else e.1)
+    go true is = cc
+    go false is = refl
+
+-- one entry more
+pub entries_len_step : (es : List (ℕ × List ℕ)) (i : ℕ) (e : ℕ × List ℕ) → i < length es → e ≡ get_or es i e
+    → entries_len (drop i es) ≡ (4 + length e.1) + entries_len (drop (i + 1) es)
+entries_len_step es i e within is =
+    ap entries_len (drop_more es i e within) ∙ ap (λ (d : ℕ × List ℕ). (4 + length d.1) + entries_len (drop (i + 1) es)) (sym is)
+
+pub entries_step : (used : ℕ) (front : List ℕ) (es : List (ℕ × List ℕ)) (i : ℕ) (e : ℕ × List ℕ) → i < length es → e ≡ get_or es i e
+    → front ++ entries_bytes used (drop i es) ≡ entries_bytes used es
+    → (front ++ entry_bytes used e) ++ entries_bytes used (drop (i + 1) es) ≡ entries_bytes used es
+entries_step used front es i e within item is =
+    append_assoc front (entry_bytes used e) (entries_bytes used (drop (i + 1) es))
+    ∙ ap (λ (d : ℕ × List ℕ). front ++ (entry_bytes used d ++ entries_bytes used (drop (i + 1) es))) item
+    ∙ ap (λ (fs : List (ℕ × List ℕ)). front ++ entries_bytes used fs) (sym (drop_more es i e within)) ∙ is
+
+pub entries_end : (used : ℕ) (front : List ℕ) (es : List (ℕ × List ℕ)) (i : ℕ) → length es ≤ i
+    → front ++ entries_bytes used (drop i es) ≡ entries_bytes used es → front ≡ entries_bytes used es
+entries_end used front es i past is =
+    sym (append-nil front) ∙ ap (λ (fs : List (ℕ × List ℕ)). front ++ entries_bytes used fs) (sym (drop_all i es past)) ∙ is
+
+-- the most bytes of an extended header
+pub ext_len_most : (x : Extension) → IsReadExt x → ext_len x ≤ ext_limit
+ext_len_most x (b, small, is) =
+    let parts : length b ≡ 20 + length is.rest =
+    omega (
+      arith,
+      ap length is.text,
+      length-append (bytes_of x.name) (is.head ++ is.rest),
+      length-append is.head is.rest,
+      is.name_length,
+      is.head_length,
+    ) in
+    let source : entries_len x.entries + length x.tail ≡ length is.rest = length-entries x.entries x.tail is.rest is.entries in
+    omega (arith, parts, source, is.most)

@@ -1,0 +1,74 @@
+-- A stream, a section, a body and a content have as many bytes as those that they were read from.
+use Rattle.std.proofs.Common.{◌≡◌, ℕ, zero, suc, ◌+◌, List, [], ◌∷◌, ◌++◌, length, refl, sym, ap, ◌∙◌, subst}
+use Rattle.std.proofs.Common.{arith, length-append}
+use Rattle.fv_base.specs.declared.guid.Guid.{Guid}
+use Rattle.fv_section.specs.Frames.{FrameForm, SplitsFrom, frame_len, up_to_4}
+use Rattle.fv_section.proofs.Laws.{length_begun}
+use Rattle.fv_tree.specs.Denotes.{Pairs, Sections, Streams, StreamOver, VolumeOver, SectionOver, MeansSection, Stream}
+use Rattle.fv_tree.specs.Denotes.{MeansFile}
+use Rattle.fv_tree.specs.Files.{FileForm}
+use Rattle.fv_tree.specs.Meaning.{Meaning, Volume, File, ContentMeaning, Plain, Sectioned, SectionMeaning, Section}
+use Rattle.fv_tree.specs.Meaning.{SectionMeanings, NoSections, MoreSections, BodyMeaning, Leaf, Group, Nested, sections_list}
+use Rattle.fv_tree.specs.Meaning.{body_len, section_len, sections_end, content_len, length_of}
+
+-- a section has as many bytes as its frame
+abbrev pub AsLong : Sections → Type 0
+AsLong R = (f : FrameForm) (s : SectionMeaning) → R f s → section_len s ≡ frame_len f
+
+from_long : (R : Sections) → AsLong R → (at end : ℕ) (f : FrameForm) (fs : List FrameForm) (s : SectionMeaning) (ss : SectionMeanings)
+    (tail : ℕ) (b : List ℕ) → up_to_4 end ≡ at
+    → SplitsFrom at (f ∷ fs) tail b → Pairs R (f ∷ fs) (s ∷ sections_list ss) → sections_end end (MoreSections s ss) + tail ≡ at + length b
+from_long R each at end f [] s NoSections tail b e (rest, begun, o, t, most) (r, _) =
+    let long = length_begun f b rest begun in
+    let same = each f s r in
+    let x : sections_end (up_to_4 end + section_len s) NoSections ≡ at + frame_len f = omega (arith, e, same) in
+    omega (arith, x, long, t)
+from_long R each at end f [] s (MoreSections u us) tail b e from (r, p) = absurd p
+from_long R each at end f (g ∷ gs) s NoSections tail b e from (r, p) = absurd p
+from_long R each at end f (g ∷ gs) s (MoreSections u us) tail b e (filler, rest, begun, o, fill, more) (r, p) =
+    let long = length_begun f b (filler ++ rest) begun in
+    let joined = length-append filler rest in
+    let same = each f s r in
+    let here : up_to_4 end + section_len s ≡ at + frame_len f = omega (arith, e, same) in
+    let go = from_long R each (up_to_4 (at + frame_len f)) (at + frame_len f) g gs u us tail rest refl more p in
+    let P : ℕ → Type 0 = λ n. sections_end n (MoreSections u us) + tail ≡ at + length b in
+    subst P (sym here) (go ∙ omega (arith, long, joined, fill))
+
+-- the sections of a stream and its tail have as many bytes as it
+pub stream_long : (R : Sections) → AsLong R → (ss : SectionMeanings) (tail : ℕ) (b : List ℕ) → StreamOver R (sections_list ss) tail b
+    → sections_end 0 ss + tail ≡ length b
+stream_long R each NoSections tail b ([], split, p) = let e : b ≡ [] = split.0 in (let t : tail ≡ 0 = split.1 in omega
+    (arith, t, ap length e))
+stream_long R each NoSections tail b (f ∷ fs, split, p) = absurd p
+stream_long R each (MoreSections s ss) tail b ([], split, p) = absurd p
+stream_long R each (MoreSections s ss) tail b (f ∷ fs, split, p) = let z = from_long R each 0 0 f fs s ss tail b refl split p in omega
+    (arith, z)
+
+volume_long : (S : Streams) (b : List ℕ) (m : Meaning) → VolumeOver S b m → length_of m ≡ length b
+volume_long S b (Volume h fs) d = sym (d.whole ∙ d.front.length_is)
+
+section_long_over : (R : Sections) (S : Streams) → AsLong R → (f : FrameForm) (s : SectionMeaning)
+    → SectionOver (StreamOver R) (VolumeOver S) f s → section_len s ≡ frame_len f
+section_long_over R S each f (Section k e (Leaf b)) (p, q, (g, o, same)) = rw (q, same) refl
+section_long_over R S each f (Section k e (Group ss t)) (p, q, (g, h)) = rw (q, stream_long R each ss t f.body h) refl
+section_long_over R S each f (Section k e (Nested v)) (p, q, (g, o, d)) = rw (q, volume_long S f.body v d) refl
+
+section_long_zero : (f : FrameForm) (s : SectionMeaning) → MeansSection zero f s → section_len s ≡ frame_len f
+section_long_zero f (Section k e (Leaf b)) (p, q, (g, o, same)) = rw (q, same) refl
+section_long_zero f (Section k e (Group ss t)) (p, q, (g, h)) = absurd h
+section_long_zero f (Section k e (Nested v)) (p, q, (g, o, d)) = absurd d
+
+pub section_long : (n : ℕ) → AsLong (MeansSection n)
+section_long zero f s h = section_long_zero f s h
+section_long (suc n) f s h = section_long_over (MeansSection n) (Stream n) (section_long n) f s h
+
+-- the body of a section has as many bytes as that of its frame
+pub body_long : (n : ℕ) (f : FrameForm) (k : ℕ) (body : BodyMeaning) → MeansSection n f (Section k f.extended body)
+    → length f.body ≡ body_len body
+body_long n f k body h = let z = section_long n f (Section k f.extended body) h in omega (arith, z)
+
+-- the content of a file has as many bytes as its data
+pub content_long : (n : ℕ) (f : FileForm) (name : Guid) (k a : ℕ) (c : ContentMeaning) → MeansFile (Stream n) f (File name k a c)
+    → length f.payload ≡ content_len c
+content_long n f name k a (Plain b) (p, q, r, (h, same)) = ap length (sym same)
+content_long n f name k a (Sectioned ss t) (p, q, r, (h, s)) = sym (stream_long (MeansSection n) (section_long n) ss t f.payload s)

@@ -1,0 +1,153 @@
+-- The first twin is one, and so is the volume top file that is not at the end: no two files that are alive have one name.
+use Rattle.std.proofs.Common.{◌≡◌, ℕ, Bool, true, false, List, [], ◌∷◌, ◌++◌, refl, sym, ap, ◌∙◌, subst, inl, inr}
+use Rattle.std.specs.Prelude.{◌&&◌, not}
+use Rattle.std.specs.Bool.{beq}
+use Rattle.std.specs.List.{AllByRecursion, filter, list_any}
+use Rattle.std.proofs.lemmas.Slice.Eq.{bytes_eq-Decides}
+use Rattle.fv_base.specs.Guids.{bytes_of}
+use Rattle.fv_tree.specs.Files.{FileForm, same_name, is_marked, is_twin, replaces, NoTwins, alive_in, is_top, top_name}
+use Rattle.fv_tree.specs.FirstFault.{FirstTwin, TopElsewhere}
+use Rattle.fv_tree.proofs.AliveLaws.{twin_none}
+use Rattle.fv_tree.proofs.ListCuts.{Earlier, TwoCuts, two_cuts, all_behind}
+use Rattle.fv_base.proofs.Laws.{in_middle, or_both, or_parts}
+
+-- ---- the first twin
+
+-- files have one first twin
+pub one_twin : (f g : FileForm) (fs : List FileForm) → FirstTwin f fs → FirstTwin g fs → f ≡ g
+one_twin f g fs (before, after, is, none, has) (before', after', is', none', has') =
+    go (two_cuts before f after before' g after' (sym is ∙ is'))
+  where
+    go : TwoCuts before f after before' g after' → f ≡ g
+    go (inl (same, item)) = item
+    go (inr (inl (mid, late, rest))) = absurd (twin_none f before' (before, mid, late, none, has) none')
+    go (inr (inr (mid, late, rest))) = absurd (twin_none g before (before', mid, late, none', has') none)
+
+-- ---- some of the files, by a test
+
+-- what finds nothing among the files finds nothing among some of them
+none_kept : (p q : FileForm → Bool) (fs : List FileForm) → list_any q fs ≡ false → list_any q (filter p fs) ≡ false
+none_kept p q [] h = refl
+none_kept p q (f ∷ fs) h =
+    let parts = or_parts (q f) (list_any q fs) h in
+    go (p f) refl parts.0 (none_kept p q fs parts.1)
+  where
+    go : (t : Bool) → p f ≡ t → q f ≡ false → list_any q (filter p fs) ≡ false → list_any q (filter p (f ∷ fs)) ≡ false
+    go true e here rest = rw e (or_both (q f) (list_any q (filter p fs)) here rest)
+    go false e here rest = rw e rest
+
+-- files without twins, of which some are kept
+no_twins_kept : (p : FileForm → Bool) (fs : List FileForm) → NoTwins fs → NoTwins (filter p fs)
+no_twins_kept p [] h = tt
+no_twins_kept p (f ∷ fs) h = go (p f) refl (no_twins_kept p fs h.1)
+  where
+    go : (t : Bool) → p f ≡ t → NoTwins (filter p fs) → NoTwins (filter p (f ∷ fs))
+    go true e rest = rw e (none_kept p (is_twin f) fs h.0, rest)
+    go false e rest = rw e rest
+
+-- what a test keeps passes it
+all_pass : (p : FileForm → Bool) (fs : List FileForm) → AllByRecursion (λ f. p f ≡ true) (filter p fs)
+all_pass p [] = tt
+all_pass p (f ∷ fs) = go (p f) refl (all_pass p fs)
+  where
+    go : (t : Bool) → p f ≡ t → AllByRecursion (λ g. p g ≡ true) (filter p fs) → AllByRecursion (λ g. p g ≡ true) (filter p (f ∷ fs))
+    go true e rest = rw e (e, rest)
+    go false e rest = rw e rest
+
+-- a test that finds nothing fails at each item
+any_middle : (q : FileForm → Bool) (before : List FileForm) (f : FileForm) (after : List FileForm)
+    → list_any q (before ++ (f ∷ after)) ≡ false → q f ≡ false
+any_middle q [] f after h = (or_parts (q f) (list_any q after) h).0
+any_middle q (g ∷ gs) f after h = any_middle q gs f after (or_parts (q g) (list_any q (gs ++ (f ∷ after))) h).1
+
+-- and finds nothing behind it
+any_behind : (q : FileForm → Bool) (before : List FileForm) (f : FileForm) (after : List FileForm)
+    → list_any q (before ++ (f ∷ after)) ≡ false → list_any q after ≡ false
+any_behind q [] f after h = (or_parts (q f) (list_any q after) h).1
+any_behind q (g ∷ gs) f after h = any_behind q gs f after (or_parts (q g) (list_any q (gs ++ (f ∷ after))) h).1
+
+-- of files without twins, two at different places are none
+apart : (before : List FileForm) (f : FileForm) (mid : List FileForm) (g : FileForm) (after : List FileForm)
+    → NoTwins (before ++ (f ∷ (mid ++ (g ∷ after)))) → is_twin f g ≡ false
+apart [] f mid g after none = any_middle (is_twin f) mid g after none.0
+apart (h ∷ hs) f mid g after none = apart hs f mid g after none.1
+
+-- ---- two files of one name are not both alive
+
+-- none of these files replaces it
+abbrev is_alive : List FileForm → FileForm → Bool
+is_alive fs f = not (list_any (replaces f) fs)
+
+-- what is not so where its contrary is
+true_not : (t : Bool) → not t ≡ true → t ≡ false
+true_not true h = cc
+true_not false h = refl
+
+-- neither is the other's twin, and neither replaces the other: then the names differ
+tests_differ : (s r m k : Bool) → s ≡ true → r ≡ true → (s && beq m k) ≡ false → (s && (m && not k)) ≡ false
+    → (r && (k && not m)) ≡ false → ⊥
+tests_differ true true true true p q twin over under = cc
+tests_differ true true true false p q twin over under = cc
+tests_differ true true false true p q twin over under = cc
+tests_differ true true false false p q twin over under = cc
+tests_differ true false m k p q twin over under = cc
+tests_differ false r m k p q twin over under = cc
+
+-- two files that are alive, at different places
+pub names_differ : (fs before : List FileForm) (f : FileForm) (mid : List FileForm) (g : FileForm) (after : List FileForm) → NoTwins fs
+    → alive_in fs ≡ before ++ (f ∷ (mid ++ (g ∷ after))) → same_name f g ≡ true → same_name g f ≡ true → ⊥
+names_differ fs before f mid g after none is forth back =
+    tests_differ (same_name f g) (same_name g f) (is_marked f.head.state) (is_marked g.head.state) forth back twin over under
+  where
+    whole : List FileForm
+    whole = before ++ (f ∷ (mid ++ (g ∷ after)))
+
+    twin : is_twin f g ≡ false
+    twin = apart before f mid g after (subst NoTwins is (no_twins_kept (is_alive fs) fs none))
+
+    all : AllByRecursion (λ h. is_alive fs h ≡ true) whole
+    all = subst (λ (l : List FileForm). AllByRecursion (λ h. is_alive fs h ≡ true) l) is (all_pass (is_alive fs) fs)
+
+    -- a file that is alive is replaced by none that is
+    not_replaced : (h : FileForm) → is_alive fs h ≡ true → list_any (replaces h) whole ≡ false
+    not_replaced h alive =
+        subst (λ (l : List FileForm). list_any (replaces h) l ≡ false) is
+        (none_kept (is_alive fs) (replaces h) fs (true_not (list_any (replaces h) fs) alive))
+
+    over : replaces f g ≡ false
+    over =
+        any_middle (replaces f) mid g after
+        (any_behind (replaces f) before f (mid ++ (g ∷ after))
+        (not_replaced f (in_middle (λ h. is_alive fs h ≡ true) before f (mid ++ (g ∷ after)) all)))
+
+    under : replaces g f ≡ false
+    under =
+        any_middle (replaces g) before f (mid ++ (g ∷ after))
+        (not_replaced g (in_middle (λ h. is_alive fs h ≡ true) mid g after
+        (all_behind (λ h. is_alive fs h ≡ true) before f (mid ++ (g ∷ after)) all)))
+
+-- ---- the volume top file
+
+-- two top files are of one name
+top_names : (f g : FileForm) → is_top f ≡ true → is_top g ≡ true → same_name f g ≡ true
+top_names f g p q =
+    (bytes_eq-Decides (bytes_of f.head.name) (bytes_of g.head.name)).1
+    ((bytes_eq-Decides (bytes_of f.head.name) top_name).0 p ∙ sym ((bytes_eq-Decides (bytes_of g.head.name) top_name).0 q))
+
+-- two top files at different places are not both alive
+two_tops : (fs before : List FileForm) (f : FileForm) (after before' : List FileForm) (g : FileForm) (after' : List FileForm) → NoTwins fs
+    → alive_in fs ≡ before ++ (f ∷ after) → is_top f ≡ true → is_top g ≡ true → Earlier before f after before' g after' → ⊥
+two_tops fs before f after before' g after' none is top top' (mid, late, rest) =
+    names_differ fs before f mid g after' none (is ∙ ap (λ (l : List FileForm). before ++ (f ∷ l)) rest) (top_names f g top top')
+    (top_names g f top' top)
+
+-- one file at most that is alive is a top file, so one at most is at the wrong place
+pub one_top : (len : ℕ) (f g : FileForm) (fs : List FileForm) → NoTwins fs → TopElsewhere len f (alive_in fs)
+    → TopElsewhere len g (alive_in fs) → f ≡ g
+one_top len f g fs none (before, after, is, top, off) (before', after', is', top', off') =
+    go (two_cuts before f after before' g after' (sym is ∙ is'))
+  where
+    go : TwoCuts before f after before' g after' → f ≡ g
+    go (inl (same, item)) = item
+    go (inr (inl earlier)) = absurd (two_tops fs before f after before' g after' none is top top' earlier)
+    go (inr (inr earlier)) = absurd (two_tops fs before' g after' before f after none is' top' top earlier)
