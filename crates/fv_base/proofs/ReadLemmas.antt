@@ -1,5 +1,5 @@
 -- What was read, turn by turn.
-use Rattle.std.proofs.Common.{◌≡◌, ◌<◌, ℕ, List, length, ◌++◌, ◌+◌, ◌-◌, sym, subst, ◌∙◌, refl, []}
+use Rattle.std.proofs.Common.{◌≡◌, ◌<◌, ℕ, List, length, ◌++◌, sym, subst, ◌∙◌, refl, []}
 use Rattle.std.proofs.Common.{append-nil}
 use Rattle.std.specs.Prelude.{Option, Bool, true, false}
 use Rattle.std.specs.Io.KnownBytes.{Consumes, Keeps}

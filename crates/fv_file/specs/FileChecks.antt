@@ -1,6 +1,6 @@
 -- The checks of a file and of a cell in their order, and the first fault of a body.
 use Rattle.std.specs.Prelude.{ℕ, ◌+◌, ◌-◌, ◌<◌, ◌==◌, nat_le, ◌&&◌, ◌||◌, not, Bool, true, false, if◌then◌else◌, Option}
-use Rattle.std.specs.Prelude.{Some, None, List, [], ◌∷◌, length, take, drop, slice_index}
+use Rattle.std.specs.Prelude.{Some, None, List, [], ◌∷◌, length, take, drop}
 use Rattle.fv_base.specs.Checks.{Check, check, IsFirstFault}
 use Rattle.fv_base.specs.Erased.{AllAre}
 use Rattle.fv_base.specs.Flash.{erased_byte}
@@ -12,8 +12,8 @@ use Rattle.fv_base.specs.declared.flash.FileSystem.TheVariants.{Ffs2, Ffs3}
 use Rattle.fv_base.specs.declared.flash.Polarity.{Polarity}
 use Rattle.fv_file.specs.Attributes.{is_large, is_fixed}
 use Rattle.fv_file.specs.Cells.{CellForm, Tiles, NoneFree}
-use Rattle.fv_file.specs.Files.{attributes_at, file_header_len, file_size_in, file_sum_right, header_sum_of, pad_kind}
-use Rattle.fv_file.specs.Files.{state_at}
+use Rattle.fv_file.specs.Files.{attributes_at, file_header_len, file_size_in, file_sum_at, file_sum_right, file_type_at}
+use Rattle.fv_file.specs.Files.{header_sum_of, pad_kind, state_at}
 use Rattle.fv_file.specs.States.{bits_of, state_of, is_alive}
 use Rattle.fv_file.specs.declared.state.FileState.{FileState}
 use Rattle.fv_file.specs.declared.state.FileState.TheVariants as states
@@ -54,11 +54,11 @@ has_file_size r =
 
 -- a file whose data are not looked at: a pad, or one that does not stand
 abbrev pub skips_data : Bool → List ℕ → Bool
-skips_data alive r = not alive || (slice_index r 18 == pad_kind)
+skips_data alive r = not alive || (file_type_at r == pad_kind)
 
 -- the file sum is right
 abbrev pub has_file_sum : List ℕ → Bool
-has_file_sum r = file_sum_right (attributes_at r) (slice_index r 17) (payload_at r)
+has_file_sum r = file_sum_right (attributes_at r) (file_sum_at r) (payload_at r)
 
 -- the checks of a file at p that stands or does not, from where on the bytes are r
 abbrev pub file_checks : FileSystem → Bool → ℕ → List ℕ → List (Check Fault)

@@ -24,6 +24,14 @@ file_header_len true = 32
 abbrev pub header_sum_at : List ℕ → ℕ
 header_sum_at b = slice_index b 16
 
+-- the file sum in it (IntegrityCheck.Checksum.File)
+abbrev pub file_sum_at : List ℕ → ℕ
+file_sum_at b = slice_index b 17
+
+-- the type of the file in it (Type)
+abbrev pub file_type_at : List ℕ → ℕ
+file_type_at b = slice_index b 18
+
 -- the attribute bits in it (Attributes)
 abbrev pub attributes_at : List ℕ → ℕ
 attributes_at b = slice_index b 19
@@ -42,8 +50,8 @@ abbrev pub head_in : FileState → List ℕ → FileHead
 head_in state b = record {
   name = guid_of (take 16 b);
   header_sum = header_sum_at b;
-  file_sum = slice_index b 17;
-  kind = slice_index b 18;
+  file_sum = file_sum_at b;
+  kind = file_type_at b;
   attributes = attributes_by (attributes_at b);
   size = file_size_in (is_large (attributes_at b)) b;
   header_len = file_header_len (is_large (attributes_at b));

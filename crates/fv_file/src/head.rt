@@ -1,12 +1,12 @@
 //! The header of a file.
 
-ghost use Rattle.std.specs.Prelude.{◌≡◌, ◌==◌, ◌+◌, ◌%◌, ◌≤◌, ◌<◌, ◌^◌, length, slice_index, sum, take, IfOk, IfErr};
+ghost use Rattle.std.specs.Prelude.{◌≡◌, ◌==◌, ◌+◌, ◌%◌, ◌≤◌, ◌<◌, ◌^◌, length, sum, take, IfOk, IfErr};
 ghost use Rattle.fv_base.specs.Verdicts.{first_fault, verdict_by};
 ghost use Rattle.fv_base.specs.Value.{le_at};
 ghost use Rattle.fv_file.specs.Attributes.{attribute_bits};
 ghost use Rattle.fv_file.specs.FileChecks.{file_header_len_at, payload_at, file_size_at, may_be_large};
 ghost use Rattle.fv_file.specs.FileChecks.{has_header_sum, has_file_size, skips_data, has_file_sum, file_checks};
-ghost use Rattle.fv_file.specs.Files.{head_in, header_sum_of, attributes_at};
+ghost use Rattle.fv_file.specs.Files.{head_in, header_sum_of, attributes_at, file_sum_at};
 ghost use Rattle.fv_file.specs.CellVerdicts.{file_verdict};
 ghost use Rattle.fv_file.specs.States.{is_alive};
 
@@ -152,7 +152,7 @@ fn is_sum_zero(rest: &[u8]) -> bool
     requires least { 24 ≤ length rest.now }
     requires header { file_header_len_at rest.now ≤ file_size_at rest.now }
     requires within { file_size_at rest.now ≤ length rest.now }
-    ensures { result ≡ ((sum (payload_at rest.now) + slice_index rest.now 17) % 256 == 0) }
+    ensures { result ≡ ((sum (payload_at rest.now) + file_sum_at rest.now) % 256 == 0) }
 {
     let payload = &rest[header_len_at(rest)..size_at(rest) as usize];
     sum8(payload).wrapping_add(rest[FILE_SUM_OFFSET]) == 0

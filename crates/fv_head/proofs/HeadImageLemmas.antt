@@ -375,11 +375,11 @@ canonical_bare h rest read bare fits long =
 
 -- ---- sums of words in parts
 
-pub worth-words : (xs : List ℕ) → length xs % 2 ≡ 0 → word_weight false xs ≡ sum (words_of xs)
-worth-words [] h = refl
-worth-words (x ∷ []) h = absurd (omega arith)
-worth-words (x ∷ y ∷ xs) h =
-    let rest = worth-words xs (omega arith) in
+pub weight-words : (xs : List ℕ) → length xs % 2 ≡ 0 → word_weight false xs ≡ sum (words_of xs)
+weight-words [] h = refl
+weight-words (x ∷ []) h = absurd (omega arith)
+weight-words (x ∷ y ∷ xs) h =
+    let rest = weight-words xs (omega arith) in
     let first = sum_by-cons (λ (n : ℕ). n) (le (x ∷ y ∷ [])) (words_of xs) in
     omega (arith, rest, first)
 
@@ -411,7 +411,7 @@ pub checksum_from : (h : HeadFields) (offset total : ℕ) → IsReadHead h → t
     → (65536 - total) % 65536 ≡ checksum_of h offset
 checksum_from h offset total read small sums =
     let words : total ≡ sum16_of (head_spelled h 0 offset) = same total (word_weight false (head_spelled h 0 offset)) small sums
-    ∙ ap (λ (n : ℕ). n % 65536) (worth-words (head_spelled h 0 offset) (spelled_even h 0 offset read)) in
+    ∙ ap (λ (n : ℕ). n % 65536) (weight-words (head_spelled h 0 offset) (spelled_even h 0 offset read)) in
     ap (λ (n : ℕ). (65536 - n) % 65536) words
   where
     same : (n w : ℕ) → n < 65536 → n % 65536 ≡ (0 + w) % 65536 → n ≡ w % 65536
