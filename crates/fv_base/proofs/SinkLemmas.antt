@@ -1,6 +1,6 @@
 -- What a sink holds behind a walk, or behind several.
-use Rattle.std.proofs.Common.{◌≡◌, ℕ, ◌+◌, ◌<◌, ◌%◌, ◌^◌, List, [], ◌++◌, take, drop, length, replicate, sym, ◌∙◌, ap, subst, arith}
-use Rattle.std.proofs.Common.{Bool, true, false}
+use Rattle.std.proofs.Common.{◌≡◌, ℕ, ◌+◌, ◌<◌, ◌%◌, ◌^◌, List, [], ◌++◌, take, drop, length, replicate, refl, sym, ◌∙◌, ap, subst, arith}
+use Rattle.std.proofs.Common.{◌||◌, ◌&&◌, ◌==◌, not, eqb-true, Bool, true, false}
 use Rattle.std.proofs.lemmas.List.{length-take-le, replicate-append-replicate}
 use Rattle.std.proofs.Math.Seq.{take-add}
 use Rattle.std.proofs.KnownBytes.{Appends-trans}
@@ -22,6 +22,15 @@ run_joined {S} {takes} laws s t u byte m n k p q e =
 pub more_written : (a b c : Option (List ℕ)) (m n : ℕ) (bytes : List ℕ) → Appends a b (take m bytes) → Appends b c (take n (drop m bytes))
     → Appends a c (take (m + n) bytes)
 more_written a b c m n bytes first next = subst (Appends a c) (sym (take-add m n bytes)) (Appends-trans a b c _ _ first next)
+
+-- a write that took some bytes did not fail
+pub some_taken : (erred : Bool) (n : ℕ) (buf : List ℕ) → 0 < n → (erred || ((n == 0) && not (length buf == 0))) ≡ erred
+some_taken true n buf some = refl
+some_taken false n buf some = go (n == 0) refl
+  where
+    go : (b : Bool) → (n == 0) ≡ b → ((n == 0) && not (length buf == 0)) ≡ false
+    go true e = absurd (omega (arith, some, eqb-true n 0 e))
+    go false e = ap (λ b. b && not (length buf == 0)) e
 
 -- where a port stopped, the count is how much of the bytes it holds
 pub front_is : (s t : PortShows) (bytes : List ℕ) → s.count ≡ 0 → t.count < 2 ^ 64 → length bytes < 2 ^ 64 → WritesFront s bytes t

@@ -9,7 +9,7 @@ use Rattle.std.proofs.lemmas.List.{take-append-le}
 use Rattle.std.proofs.Math.Seq.{take-append-add}
 use Rattle.std.proofs.Math.Nat.{mod-add-mod}
 use Rattle.fv_base.specs.Sinks.{WalkLaws}
-use Rattle.fv_base.specs.WriteSinks.{PortShows, WritesAll, WritesFront, LatchedWrites, SeenTakes}
+use Rattle.fv_base.specs.WriteSinks.{PortShows, WritesBytes, WritesAll, WritesFront, LatchedWrites, SeenTakes}
 
 pub sums_joined : (m s t u a b : ℕ) → t % m ≡ (s + a) % m → u % m ≡ (t + b) % m → u % m ≡ (s + (a + b)) % m
 sums_joined m s t u a b p q =
@@ -26,18 +26,21 @@ appends_joined (Some xs) None u a b p q = absurd p
 appends_joined (Some xs) (Some ys) None a b p q = absurd q
 appends_joined (Some xs) (Some ys) (Some zs) a b p q = q ∙ (ap (λ ws. ws ++ b) p ∙ append_assoc xs a b)
 
-pub writes_joined : (s t u : PortShows) (a b : List ℕ) → WritesAll s a t → WritesAll t b u → WritesAll s (a ++ b) u
-writes_joined s t u a b p q = (
+bytes_joined : (s t u : PortShows) (a b : List ℕ) → WritesBytes s a t → WritesBytes t b u → WritesBytes s (a ++ b) u
+bytes_joined s t u a b p q = (
   appends_joined s.contents t.contents u.contents a b p.0 q.0,
   sums_joined (2 ^ 64) s.count t.count u.count (length a) (length b) p.1 q.1
       ∙ ap (λ n. (s.count + n) % 2 ^ 64) (sym (length-append a b)),
 )
 
+pub writes_joined : (s t u : PortShows) (a b : List ℕ) → WritesAll s a t → WritesAll t b u → WritesAll s (a ++ b) u
+writes_joined s t u a b p q = (bytes_joined s t u a b p.0 q.0, q.1 ∙ p.1)
+
 front_early : (s t : PortShows) (a b : List ℕ) → WritesFront s a t → WritesFront s (a ++ b) t
 front_early s t a b h = (
   h.0,
   early h.0 (length a) (length b) (length (a ++ b)) (length-append a b) h.1,
-  subst (λ xs. WritesAll s xs t) (sym (take-append-le h.0 a b (omega (arith, h.1)))) h.2,
+  subst (λ xs. WritesBytes s xs t) (sym (take-append-le h.0 a b (omega (arith, h.1)))) h.2,
   h.3,
 )
   where
@@ -48,7 +51,7 @@ front_later : (s t u : PortShows) (a b : List ℕ) → WritesAll s a t → Write
 front_later s t u a b p h = (
   length a + h.0,
   later h.0 (length a) (length b) (length (a ++ b)) (length-append a b) h.1,
-  subst (λ xs. WritesAll s xs u) (sym (take-append-add a b h.0)) (writes_joined s t u a (take h.0 b) p h.2),
+  subst (λ xs. WritesBytes s xs u) (sym (take-append-add a b h.0)) (bytes_joined s t u a (take h.0 b) p.0 h.2),
   h.3,
 )
   where
@@ -56,7 +59,7 @@ front_later s t u a b p h = (
     later n a b ab e h = omega arith
 
 pub latched_none : (s : PortShows) (a : Bool) → LatchedWrites s a [] s a
-latched_none s true = (appends_none s.contents, ap (λ n. n % 2 ^ 64) (sym (add-zero s.count)))
+latched_none s true = ((appends_none s.contents, ap (λ n. n % 2 ^ 64) (sym (add-zero s.count))), refl)
 latched_none s false = refl
 
 pub latched_joined : (s t u : PortShows) (a b c : Bool) (xs ys : List ℕ) → LatchedWrites s a xs t b

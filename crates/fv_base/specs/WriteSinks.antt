@@ -9,13 +9,17 @@ pub record PortShows : Type 0 where
   pub erred : Bool
   pub count : ℕ
 
--- all of the bytes were written
+-- the bytes were written, and counted modulo 2 ^ 64
+abbrev pub WritesBytes : PortShows → List ℕ → PortShows → Type 0
+WritesBytes s bytes t = Appends s.contents t.contents bytes × (t.count % 2 ^ 64 ≡ (s.count + length bytes) % 2 ^ 64)
+
+-- all of the bytes were written, and no write failed
 abbrev pub WritesAll : PortShows → List ℕ → PortShows → Type 0
-WritesAll s bytes t = Appends s.contents t.contents bytes × (t.count % 2 ^ 64 ≡ (s.count + length bytes) % 2 ^ 64)
+WritesAll s bytes t = WritesBytes s bytes t × (t.erred ≡ s.erred)
 
 -- exactly a front of the bytes was written, not all of them, and the port has erred
 abbrev pub WritesFront : PortShows → List ℕ → PortShows → Type 0
-WritesFront s bytes t = (n : ℕ) × (n < length bytes) × WritesAll s (take n bytes) t × (t.erred ≡ true)
+WritesFront s bytes t = (n : ℕ) × (n < length bytes) × WritesBytes s (take n bytes) t × (t.erred ≡ true)
 
 -- a view of a sink, and whether it goes on
 abbrev pub LatchedWrites : PortShows → Bool → List ℕ → PortShows → Bool → Type 0

@@ -37,6 +37,7 @@ fn write_front<W: Write>(port: &mut Port<W>, bytes: &[u8]) -> usize
     ensures bound { result ≤ length bytes.now }
     ensures front { Appends (W.contents (inner_of port.old)) (W.contents (inner_of port.new)) (take result bytes.now) }
     ensures erred { result < length bytes.now → has_erred port.new ≡ true }
+    ensures fine { result ≡ length bytes.now → has_erred port.new ≡ has_erred port.old }
 {
     let mut at = 0;
     while at < bytes.len() {

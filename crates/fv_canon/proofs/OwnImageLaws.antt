@@ -1,27 +1,25 @@
--- Whether an input is its own image: it is exactly where a walk over its volume writes it, and never where its layout is refused.
+-- Whether bytes are the image of a volume: they are exactly where a walk over it writes them, and never where its layout is refused.
 use Rattle.std.proofs.Common.{◌≡◌, ◌≢◌, ◌⊎◌, inl, inr, ℕ, List, sym, ◌∙◌, ap, subst, Bool, true}
 use Rattle.std.specs.Prelude.{IsTrue}
 use Rattle.fv_base.specs.Faults.{want_of_memory}
 use Rattle.fv_base.specs.declared.fault.Fault.{Fault}
 use Rattle.fv_base.specs.declared.fault.FaultKind.{FaultKind}
 use Rattle.fv_base.specs.declared.fault.FaultKind.TheVariants as kinds
-use Rattle.fv_tree.specs.Denotes.{Accepted}
+use Rattle.fv_tree.specs.Denotes.{IsMeaning}
 use Rattle.fv_tree.specs.Meaning.{Meaning}
 use Rattle.fv_canon.specs.Image.{IsImage}
 use Rattle.fv_canon.specs.ImageOf.{image_of}
 use Rattle.fv_canon.specs.Layouts.{LaysVolume, Unfit}
 use Rattle.fv_canon.proofs.FitLaws.{unfit_none}
-use Rattle.fv_canon.proofs.WrittenImageLaws.{image_made}
-use Rattle.fv_canon.proofs.OneImageLaws.{image_one}
 use Rattle.fv_canon.proofs.ImageFits.{image_fits}
+use Rattle.fv_canon.proofs.ImageLaws.{image_is, image_only}
 use Rattle.fv_canon.proofs.UnfitKinds.{IsOfLayout, unfit_is}
 
--- an input that is laid out is its image exactly where it is what the walk writes
-pub image_told : (m : Meaning) (b starts : List ℕ) (t : Bool) → Accepted b m → LaysVolume m starts
+-- bytes are the image of what is laid out exactly where they are what the walk writes
+pub image_told : (m : Meaning) (b starts : List ℕ) (t : Bool) → IsMeaning m → LaysVolume m starts
     → (IsTrue t → b ≡ image_of m starts) × (b ≡ image_of m starts → IsTrue t) → (t ≡ true → IsImage m b) × (IsImage m b → t ≡ true)
-image_told m b starts t (small, denotes) laid (there, back) =
-    let image : IsImage m (image_of m starts) = image_made 8 m b starts small denotes laid in
-    (λ e. subst (IsImage m) (sym (there e)) image, λ is. back (image_one m b (image_of m starts) is image))
+image_told m b starts t is laid (there, back) =
+    (λ e. subst (IsImage m) (sym (there e)) (image_is m starts is laid), λ image. back (image_only m starts b is laid image))
 
 -- a volume whose layout is refused, and not for want of memory, has no image
 pub none_refused : (m : Meaning) (b : List ℕ) (f : Fault) → (f ≡ want_of_memory) ⊎ Unfit m 0 f → f.kind ≢ kinds.OutOfMemory

@@ -1,4 +1,4 @@
-//! Whether an input is the canonical image of the volume that it is.
+//! Whether bytes are a canonical image: that of a view, or of the volume that they are.
 
 ghost use Rattle.std.specs.Prelude.{◌≡◌, ◌↔◌, ◌⊎◌, IfOk, IfErr, true};
 ghost use Rattle.fv_base.specs.Faults.{want_of_memory};
@@ -11,7 +11,31 @@ use crate::layout_walk::layout;
 use crate::matching::is_image;
 use crate::normalising::whole_volume;
 use fv_base::{Fault, FaultKind};
+use fv_tree::VolumeView;
 use std::alloc::Global;
+
+/// Whether the bytes are the canonical image of the view. They are not where it does not fit. No image is made.
+/// (PI specification, volume 3, section 3.2.)
+///
+/// # Errors
+///
+/// OutOfMemory.
+pub fn is_canonical_image(alloc: Global, view: &VolumeView<'_>, bytes: &[u8]) -> Result<bool, Fault>
+    // Whether the bytes are the image of the view's meaning.
+    ensures ok { IfOk result (λ t. (t ≡ true) ↔ IsImage view.now bytes.now) }
+    ensures err { IfErr result (λ f. f ≡ want_of_memory) }
+{
+    let _head = view.head();
+    match layout(alloc, view) {
+        Ok(places) => Ok(is_image(view, places.all(), bytes)),
+        Err(fault) => {
+            if fault.kind == FaultKind::OutOfMemory {
+                return Err(fault);
+            }
+            Ok(false)
+        }
+    }
+}
 
 /// Whether the input is the canonical image of the volume that it is. No image is made. (PI
 /// specification, volume 3, section 3.2.)
@@ -28,13 +52,5 @@ pub fn is_canonical(alloc: Global, input: &[u8]) -> Result<bool, Fault>
     ensures err { IfErr result (λ f. (f ≡ want_of_memory) ⊎ NotRead input.now f) }
 {
     let view = whole_volume(alloc, input)?;
-    match layout(alloc, &view) {
-        Ok(places) => Ok(is_image(&view, places.all(), input)),
-        Err(fault) => {
-            if fault.kind == FaultKind::OutOfMemory {
-                return Err(fault);
-            }
-            Ok(false)
-        }
-    }
+    is_canonical_image(alloc, &view, input)
 }

@@ -25,6 +25,7 @@ fn write_line<W: Write>(writer: &mut Port<W>, found: Option<&Difference>) -> Res
         (compare_line (option_copied found.entry))) }
     ensures err { IfErr result (WriteStops (W.contents (inner_of writer.old)) (W.contents (inner_of writer.new))
         (compare_line (option_copied found.entry))) }
+    ensures fine { OnOk result (has_erred writer.new ≡ has_erred writer.old) }
     ensures erred { OnErr result (has_erred writer.new ≡ true) }
 {
     let mut out = WriteSink::new(writer);
@@ -53,6 +54,8 @@ pub fn write_comparison<W: Write>(
         (W.contents (inner_of writer.old)) (W.contents (inner_of writer.new)) e.1) }
 
     // The writer's fault is of the output, and comes only where the port has erred.
+    ensures writer_fine { OnOk result (has_erred writer.new ≡ has_erred writer.old) }
+    ensures untouched { IfErr result (λ e. e.1.kind ≢ FaultKind.WriteFault → writer.new ≡ writer.old) }
     ensures writer_erred { IfErr result (λ e. e.1.kind ≡ FaultKind.WriteFault
         → (e.0 ≡ Side.Output) × (has_erred writer.new ≡ true)) }
 {

@@ -51,7 +51,8 @@ pub fn write_canonical<W: Write>(
     ensures err { IfErr result (λ f. (image : List ℕ) × IsImage view.now image
         × WriteStops (W.contents (inner_of writer.old)) (W.contents (inner_of writer.new)) image f) }
 
-    // The writer's fault comes only where the port has erred.
+    // The writer's fault comes exactly where a write failed.
+    ensures fine { OnOk result (has_erred writer.new ≡ has_erred writer.old) }
     ensures erred { OnErr result (has_erred writer.new ≡ true) }
 {
     let mut out = WriteSink::new(writer);

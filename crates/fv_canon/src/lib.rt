@@ -19,7 +19,7 @@ mod start_walk;
 mod starts;
 mod stored_parts;
 
-pub use canonical_input::is_canonical;
+pub use canonical_input::{is_canonical, is_canonical_image};
 pub use compare::{run_compare, write_comparison};
 pub use comparison_line::put_decimal;
 pub use flash_image::normalise_image;

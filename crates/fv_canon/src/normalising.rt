@@ -80,6 +80,9 @@ pub fn write_normalised<W: Write>(
     ensures err { IfErr result
         (InputStops input.now (W.contents (inner_of writer.old)) (W.contents (inner_of writer.new))) }
     ensures read { IfErr result (λ f. f.kind ≢ FaultKind.ReadFault) }
+
+    // The writer's fault comes exactly where a write failed.
+    ensures fine { OnOk result (has_erred writer.new ≡ has_erred writer.old) }
     ensures erred { IfErr result (λ f. f.kind ≡ FaultKind.WriteFault → has_erred writer.new ≡ true) }
 {
     let view = whole_volume(alloc, input)?;

@@ -1,4 +1,4 @@
--- The text of some bytes: put by a sink of lines, and how long it is.
+-- The text of some bytes, put by a sink of lines.
 use Rattle.std.proofs.Common.{◌≡◌, ◌∙◌, ◌≤◌, ◌<◌, ◌+◌, ◌*◌, ℕ, List, [], ◌∷◌, ◌++◌, length}
 use Rattle.std.proofs.Common.{refl, ap, sym, arith, length-append}
 use Rattle.std.specs.List.{AllByRecursion, concat}
@@ -24,35 +24,3 @@ text_put laws s t u p bytes q none short took last = (
   },
   laws.joined s t u (lines_text took.lines) (last_text q) took.taken last,
 )
-
--- ---- the length of a text
-
-line_long : (b : List ℕ) → length (line_text b) ≡ 2 * length b + 1
-line_long b = length-append (encode_lower b) line_feed ∙ ap (λ (n : ℕ). n + 1) (length-encode_with lower_digits b)
-
-lines_long : (lines : List (List ℕ)) → AllByRecursion IsWholeLine lines → length (lines_text lines) ≤ 3 * length (concat lines)
-lines_long [] whole = omega arith
-lines_long (b ∷ bs) whole =
-    omega (
-      arith,
-      length-append (line_text b) (lines_text bs),
-      length-append b (concat bs),
-      line_long b,
-      whole.0,
-      lines_long bs whole.1,
-    )
-
-last_long : (b : List ℕ) → length (last_text b) ≤ 3 * length b
-last_long [] = omega arith
-last_long (x ∷ b) = omega (arith, line_long (x ∷ b))
-
--- at most three times as long as the bytes
-pub hex_long : (bytes text : List ℕ) → IsHexText bytes text → length text ≤ 3 * length bytes
-hex_long bytes text is =
-    let lines = lines_long is.lines is.whole in
-    let last = last_long is.last in
-    let whole : length text ≡ length (lines_text is.lines) + length (last_text is.last) =
-    ap (λ (l : List ℕ). length l) is.text_is ∙ length-append (lines_text is.lines) (last_text is.last) in
-    let parts : length bytes ≡ length (concat is.lines) + length is.last =
-    ap (λ (l : List ℕ). length l) is.joined ∙ length-append (concat is.lines) is.last in
-    omega (arith, lines, last, whole, parts)

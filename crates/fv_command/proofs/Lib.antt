@@ -1,9 +1,11 @@
 pub mod CheckLemmas
+pub mod DepexNoteLemmas
 pub mod HexDigitLemmas
 pub mod HexInLemmas
 pub mod HexTextLemmas
 pub mod HobLemmas
-pub mod ImageTextLemmas
+pub mod ListLemmas
+pub mod PadLemmas
 pub mod PartLemmas
 pub mod RunLemmas
 pub mod ScanLemmas

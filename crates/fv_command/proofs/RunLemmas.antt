@@ -1,8 +1,6 @@
 -- What the runs come to: from what the calls promise to the words of a run.
-use Rattle.std.proofs.Common.{◌≡◌, ◌≢◌, ◌<◌, ◌≤◌, ◌⊎◌, ℕ, Bool, true, false, List, length, take, sym, subst, inl, inr}
-use Rattle.std.specs.Prelude.{Result, Ok, Err, IfErr, IfOk}
-use Rattle.std.specs.Io.KnownBytes.{Appends}
-use Rattle.std.proofs.KnownBytes.{Keeps-refl}
+use Rattle.std.proofs.Common.{◌≡◌, ◌≢◌, ◌∙◌, ◌≤◌, ◌⊎◌, ℕ, Bool, true, false, List, length, take, ap, refl, sym, subst, inl, inr}
+use Rattle.std.specs.Prelude.{Result, Ok, Err, IfErr, IfOk, OnOk}
 use Rattle.fv_base.specs.Faults.{want_of_memory}
 use Rattle.fv_base.specs.Output.{WriteStops}
 use Rattle.fv_base.specs.declared.fault.Fault.{Fault}
@@ -17,29 +15,22 @@ use Rattle.fv_tree.specs.Meaning.{Meaning, files_of}
 use Rattle.fv_tree.specs.FileNames.{file_named}
 use Rattle.fv_command.specs.CheckRuns.{CheckStops}
 use Rattle.fv_command.specs.ImageTexts.{StopsImage}
-use Rattle.fv_command.specs.Inputs.{Shown, Gives, BeginsNone, BeginsWith, WritingStops}
+use Rattle.fv_command.specs.Inputs.{Gives, BeginsNone, BeginsWith}
+use Rattle.fv_command.specs.PortViews.{Shown, WritingStops}
 use Rattle.fv_command.specs.Extractions.{StopsPart}
 use Rattle.fv_command.specs.SideRuns.{GivesVolume, SideStops, VolumeInputStops}
-use Rattle.fv_command.specs.TaskRuns.{StopsInput}
+use Rattle.fv_command.specs.TaskRuns.{SaysInput, StopsInput}
+use Rattle.fv_command.specs.TaskSteps.{Performs}
 use Rattle.fv_command.specs.declared.extracting.Part.{Part}
+use Rattle.fv_command.specs.declared.plan.Task.{Task}
 use Rattle.fv_command.specs.declared.plan.Task.TheVariants.{Normalise, Extract, Check}
+use Rattle.fv_command.specs.declared.status.Status.{Status}
 use Rattle.fv_command.specs.declared.status.Status.TheVariants.{Done, Different}
 
 -- ---- a writer that stops
 
 pub stopped : (w v : Shown) (text : List ℕ) (f : Fault) → WriteStops w.bytes v.bytes text f → v.erred ≡ true → WritingStops w v text f
-stopped w v text f s erred = record {
-  kind = s.kind;
-  count = f.place.offset;
-  before_end = s.before_end;
-  wrote = s.wrote;
-  failed = erred;
-}
-
-pub fronted : (w v : Shown) (text : List ℕ) (f : Fault) → f.kind ≡ kinds.WriteFault
-    → (n : ℕ) × (n < length text) × Appends w.bytes v.bytes (take n text) → v.erred ≡ true → WritingStops w v text f
-fronted w v text f kind front erred =
-    record { kind = kind; count = front.0; before_end = front.1; wrote = front.2; failed = erred }
+stopped w v text f s erred = (s.kind, (f.place.offset, s.before_end, s.wrote, erred))
 
 -- ---- an input that begins with no volume
 
@@ -53,28 +44,32 @@ not_begun input f none first = go (want_known f) where
 
 -- ---- the tasks
 
-pub image_stopped : (hex : Bool) (input : List ℕ) (w v : Shown) (f : Fault) → StopsImage hex input w.bytes v.bytes f
-    → (f.kind ≡ kinds.WriteFault → v.erred ≡ true) → StopsInput Normalise hex input w v f
-image_stopped hex input w v f (inl why) erred = inl why
-image_stopped hex input w v f (inr (image, text, is, shows, stops)) erred =
-    inr (Done, text, (image, is, shows), stopped w v text f stops (erred stops.kind))
+pub image_stopped : (hex : Bool) (input : List ℕ) (w v : Shown) (f : Fault) → StopsImage hex input w v f
+    → StopsInput Normalise hex input w v f
+image_stopped hex input w v f (inl why) = inl why
+image_stopped hex input w v f (inr (image, text, is, shows, stops)) = inr (Done, text, (image, is, shows), stops)
 
-pub check_stopped : (hex : Bool) (input : List ℕ) (w v : Shown) (f : Fault) → CheckStops input w.bytes v.bytes f
-    → (f.kind ≡ kinds.WriteFault → v.erred ≡ true) → StopsInput Check hex input w v f
-check_stopped hex input w v f (inl why) erred = inl why
-check_stopped hex input w v f (inr (true, text, is, stops)) erred = inr (Done, text, is, stopped w v text f stops (erred stops.kind))
-check_stopped hex input w v f (inr (false, text, is, stops)) erred = inr (Different, text, is, stopped w v text f stops (erred stops.kind))
+pub check_stopped : (hex : Bool) (input : List ℕ) (w v : Shown) (f : Fault) → CheckStops input w v f → StopsInput Check hex input w v f
+check_stopped hex input w v f (inl why) = inl why
+check_stopped hex input w v f (inr (true, text, is, stops)) = inr (Done, text, is, stops)
+check_stopped hex input w v f (inr (false, text, is, stops)) = inr (Different, text, is, stops)
+
+-- a task by its status, and by its fault
+pub performed : (task : Task) (hex : Bool) (input : List ℕ) (w v : Shown) (r : Result Status Fault)
+    → IfOk r (SaysInput task hex input w v) → IfErr r (StopsInput task hex input w v) → Performs task hex input w v r
+performed task hex input w v (Ok status) says stops = says
+performed task hex input w v (Err fault) says stops = stops
 
 -- why a part is not extracted: there is no volume; or there is
 pub part_denied : (hex : Bool) (input : List ℕ) (part : Part) (w : Shown) (f : Fault) → (f ≡ want_of_memory) ⊎ BeginsNone input f
     → StopsInput (Extract part) hex input w w f
-part_denied hex input part w f (inl is) = inl (Keeps-refl w.bytes, inl is)
-part_denied hex input part w f (inr none) = inl (Keeps-refl w.bytes, inr (inl none))
+part_denied hex input part w f (inl is) = inl (refl, inl is)
+part_denied hex input part w f (inr none) = inl (refl, inr (inl none))
 
 pub part_stopped : (hex : Bool) (input : List ℕ) (m : Meaning) (part : Part) (w : Shown) (f : Fault) → BeginsWith input m
     → (f ≡ want_of_memory) ⊎ StopsPart (file_named part.name (files_of m)) part f → StopsInput (Extract part) hex input w w f
-part_stopped hex input m part w f b (inl is) = inl (Keeps-refl w.bytes, inl is)
-part_stopped hex input m part w f b (inr stops) = inl (Keeps-refl w.bytes, inr (inr (m, b, stops)))
+part_stopped hex input m part w f b (inl is) = inl (refl, inl is)
+part_stopped hex input m part w f b (inr stops) = inl (refl, inr (inr (m, b, stops)))
 
 -- ---- a comparison
 
@@ -89,25 +84,25 @@ not_given hex r s items bytes f is gives stops = inr (items, gives, subst (λ (b
 pub second_stopped : (side : Side) (hex : Bool) (r s r' s' w : Shown) (m : Meaning) (f : Fault) → side ≡ sides.Second
     → GivesVolume hex r s m → VolumeInputStops hex r' s' f → SideStops side hex r s r' s' w w f
 second_stopped side hex r s r' s' w m f is first stops =
-    subst (λ (x : Side). SideStops x hex r s r' s' w w f) (sym is) (Keeps-refl w.bytes, (m, first), stops)
+    subst (λ (x : Side). SideStops x hex r s r' s' w w f) (sym is) (refl, (m, first), stops)
 
 pub comparison_stopped : (side : Side) (hex : Bool) (r s r' s' w v : Shown) (m k : Meaning) (f : Fault) → GivesVolume hex r s m
     → GivesVolume hex r' s' k → ComparisonStops side m k w.bytes v.bytes f
-    → (f.kind ≡ kinds.WriteFault → (side ≡ sides.Output) × (v.erred ≡ true)) → SideStops side hex r s r' s' w v f
-comparison_stopped sides.First hex r s r' s' w v m k f a b (keeps, want, other) erred = (keeps, inr (m, k, a, b, want, other))
-comparison_stopped sides.Second hex r s r' s' w v m k f a b stops erred = absurd stops
-comparison_stopped sides.Output hex r s r' s' w v m k f a b stops erred =
+    → (f.kind ≡ kinds.WriteFault → (side ≡ sides.Output) × (v.erred ≡ true)) → (f.kind ≢ kinds.WriteFault → v ≡ w)
+    → SideStops side hex r s r' s' w v f
+comparison_stopped sides.First hex r s r' s' w v m k f a b (keeps, want, other) erred same =
+    let none : f.kind ≡ kinds.WriteFault → ⊥ = λ e. let bad : kinds.OutOfMemory ≡ kinds.WriteFault = sym (ap (λ (x : Fault). x.kind) want) ∙ e in cc in
+    (same none, inr (m, k, a, b, want, other))
+comparison_stopped sides.Second hex r s r' s' w v m k f a b stops erred same = absurd stops
+comparison_stopped sides.Output hex r s r' s' w v m k f a b stops erred same =
     (m, k, a, b, stopped w v _ f stops (erred stops.kind).1)
 
--- two facts of one error
-pub both : {A E : Type 0} {P Q R : E → Type 0} (r : Result A E) → ((e : E) → P e → Q e → R e) → IfErr r P → IfErr r Q → IfErr r R
-both (Ok a) f p q = tt
-both (Err e) f p q = f e p q
+-- three facts of one error
+pub both : {A E : Type 0} {P Q O R : E → Type 0} (r : Result A E) → ((e : E) → P e → Q e → O e → R e) → IfErr r P → IfErr r Q → IfErr r O
+    → IfErr r R
+both (Ok a) f p q o = tt
+both (Err e) f p q o = f e p q o
 
-pub failing : {A E : Type 0} {P Q : E → Type 0} (r : Result A E) → ((e : E) → P e → Q e) → IfErr r P → IfErr r Q
-failing (Ok a) f p = tt
-failing (Err e) f p = f e p
-
-pub okay : {A E : Type 0} {P Q : A → Type 0} (r : Result A E) → ((a : A) → P a → Q a) → IfOk r P → IfOk r Q
-okay (Ok a) f p = f a p
-okay (Err e) f p = tt
+pub okay : {A E : Type 0} {P Q : A → Type 0} {O : Type 0} (r : Result A E) → ((a : A) → P a → O → Q a) → IfOk r P → OnOk r O → IfOk r Q
+okay (Ok a) f p o = f a p o
+okay (Err e) f p o = tt

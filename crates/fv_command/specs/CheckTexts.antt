@@ -21,7 +21,7 @@ use Rattle.fv_tree.specs.Denotes.{Accepted}
 use Rattle.fv_tree.specs.LookupInstances.{preorder}
 use Rattle.fv_tree.specs.Meaning.{Meaning, FileMeaning, File, ContentMeaning, Plain, Sectioned, SectionMeaning, Section}
 use Rattle.fv_tree.specs.Meaning.{BodyMeaning, Leaf, Group, Nested, files_of, head_of}
-use Rattle.fv_command.specs.declared.checking.DepexNote.{DepexNote}
+use Rattle.fv_command.specs.declared.depex_notes.DepexNote.{DepexNote}
 
 -- ---- pads
 

@@ -3,7 +3,7 @@
 use Rattle.std.specs.Prelude.{◌≡◌, ℕ, Option, None, Some, Bool}
 use Rattle.fv_command.specs.declared.hobs.Image.{Image}
 use Rattle.fv_command.specs.HobLines.{ImageForm}
-use Rattle.fv_command.specs.Inputs.{Shown}
+use Rattle.fv_command.specs.PortViews.{Shown}
 use Rattle.fv_command.specs.declared.hob_runs.Refusal.{Refusal}
 use Rattle.fv_command.specs.declared.hob_runs.Refusal.TheVariants as refusals
 use Rattle.fv_command.specs.HobRuns.{RefusesHobs, FaultStopsHobs}

@@ -1,14 +1,14 @@
 -- A run over a hand-off list, and over the image that its volumes should lie in.
-use Rattle.std.specs.Prelude.{◌≡◌, ◌≤◌, ◌⊎◌, ℕ, Bool, false, List, [], Option, Some, None, length, take}
-use Rattle.std.specs.Io.KnownBytes.{Appends, Keeps}
+use Rattle.std.specs.Prelude.{◌≡◌, ◌≤◌, ◌⊎◌, ℕ, Bool, List, [], Option, Some, None, length, take}
 use Rattle.fv_base.specs.declared.fault.Fault.{Fault}
 use Rattle.fv_hob.specs.HobChecks.{IsFirstHobFault, hob_fault_number, hob_want_of_memory}
 use Rattle.fv_hob.specs.Hobs.{HobForm}
 use Rattle.fv_hob.specs.Lists.{IsHobList}
 use Rattle.fv_hob.specs.declared.fault.HobFault.{HobFault}
 use Rattle.fv_command.specs.HobLines.{HobsText, image_form}
-use Rattle.fv_command.specs.Inputs.{Shown, Gives, GivingStops, TellsStop, WritingStops}
+use Rattle.fv_command.specs.Inputs.{Gives, GivingStops, TellsStop}
 use Rattle.fv_command.specs.Lines.{hob_fault_line}
+use Rattle.fv_command.specs.PortViews.{Shown, Writes, WritesOrStops, WritingStops}
 use Rattle.fv_command.specs.declared.status.Status.{Status}
 use Rattle.fv_command.specs.declared.status.Status.TheVariants.{Done, Refused}
 
@@ -51,18 +51,18 @@ RefusesHobs hex base r s r' s' fault =
 -- an input stopped the run, and nothing was written; or the writer did, in the lines
 abbrev pub FaultStopsHobs : Bool → Option ℕ → Shown → Shown → Shown → Shown → Shown → Shown → Fault → Type 0
 FaultStopsHobs hex base r s r' s' w v fault =
-    (Keeps w.bytes v.bytes × HobInputStops hex base r s r' s' fault)
+    ((v ≡ w) × HobInputStops hex base r s r' s' fault)
     ⊎ ListsHobs hex base r s r' s' (λ text. WritingStops w v text fault)
 
--- the list was refused, and then the line of this fault was written, unless the port has erred
+-- the list was refused, and then the line of this fault was written, or a write failed in it
 abbrev pub TellsHobs : Bool → Option ℕ → Shown → Shown → Shown → Shown → Shown → Shown → Type 0
 TellsHobs hex base r s r' s' w v =
     (fault : HobFault) × RefusesHobs hex base r s r' s' fault
-    × (v.erred ≡ false → Appends w.bytes v.bytes (hob_fault_line (hob_fault_number fault.kind) fault.offset))
+    × WritesOrStops w v (hob_fault_line (hob_fault_number fault.kind) fault.offset)
 
 -- a run over a hand-off list, by its status
 abbrev pub RunsHobs : Option ℕ → Bool → Status → Shown → Shown → Shown → Shown → Shown → Shown → Type 0
-RunsHobs base hex Done r s r' s' w v = ListsHobs hex base r s r' s' (λ text. Appends w.bytes v.bytes text)
+RunsHobs base hex Done r s r' s' w v = ListsHobs hex base r s r' s' (λ text. Writes w v text)
 RunsHobs base hex Refused r s r' s' w v =
     TellsStop (FaultStopsHobs hex base r s r' s' w) v ⊎ TellsHobs hex base r s r' s' w v
 RunsHobs base hex status r s r' s' w v = ⊥

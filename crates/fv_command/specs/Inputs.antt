@@ -1,30 +1,15 @@
--- What a run reads and writes, seen from outside.
-use Rattle.std.specs.Prelude.{◌≡◌, ◌<◌, ◌≤◌, ℕ, Bool, true, false, List, Option, length, take}
-use Rattle.std.specs.Io.KnownBytes.{Appends}
+-- What a run reads, and how it tells what stopped it.
+use Rattle.std.specs.Prelude.{◌≡◌, ◌≤◌, ℕ, Bool, true, false, List, length, take}
 use Rattle.fv_base.specs.Faults.{fault_number}
 use Rattle.fv_base.specs.Input.{ReadsWhole, ReadStops}
-use Rattle.fv_base.specs.Port.{has_erred, inner_of}
 use Rattle.fv_base.specs.declared.fault.Fault.{Fault}
 use Rattle.fv_base.specs.declared.fault.FaultKind.TheVariants as kinds
-use Rattle.fv_base.specs.declared.port.Port.{Port}
 use Rattle.fv_tree.specs.Denotes.{Accepted}
 use Rattle.fv_tree.specs.FirstFault.{IsFirstOfVolume}
 use Rattle.fv_tree.specs.Meaning.{Meaning}
 use Rattle.fv_command.specs.HexIn.{SpellsWhole, TextStops}
 use Rattle.fv_command.specs.Lines.{TellsFault, fault_line}
-
--- what a port shows: what its reader has left, or its writer holds, where that is known, and whether
--- one of its calls has failed
-pub record Shown : Type 0 where
-  pub bytes : Option (List ℕ)
-  pub erred : Bool
-
-abbrev pub seen : Option (List ℕ) → Bool → Shown
-seen bytes erred = record { bytes = bytes; erred = erred }
-
--- what a port shows, by what its reader has left or its writer holds
-abbrev pub shown : {T : Type 0} → (T → Option (List ℕ)) → Port T → Shown
-shown told port = seen (told (inner_of port)) (has_erred port)
+use Rattle.fv_command.specs.PortViews.{Shown}
 
 -- an input was read to its end: as bytes, or as hexadecimal text that spells them
 abbrev pub Gives : Bool → Shown → Shown → List ℕ → Type 0
@@ -35,7 +20,7 @@ Gives true old new input = SpellsWhole old.bytes new.bytes input
 abbrev pub GivingStops : Bool → Shown → Shown → Fault → Type 0
 GivingStops false old new fault =
     ReadStops old.bytes new.bytes fault × (old.erred ≡ false → fault.kind ≡ kinds.ReadFault → new.erred ≡ true)
-GivingStops true old new fault = old.erred ≡ false → TextStops old.bytes new.bytes new.erred fault
+GivingStops true old new fault = TextStops old.bytes new.bytes new.erred fault
 
 -- an input begins with a volume of this meaning
 abbrev pub BeginsWith : List ℕ → Meaning → Type 0
@@ -46,16 +31,8 @@ pub record BeginsNone (input : List ℕ) (fault : Fault) : Type 0 where
   pub none : (m : Meaning) → BeginsWith input m → ⊥
   pub first : IsFirstOfVolume input fault
 
--- the writer stopped in a text: it holds a front of it, not all, and one of its calls has failed
-pub record WritingStops (old new : Shown) (text : List ℕ) (fault : Fault) : Type 0 where
-  pub kind : fault.kind ≡ kinds.WriteFault
-  pub count : ℕ
-  pub before_end : count < length text
-  pub wrote : Appends old.bytes new.bytes (take count text)
-  pub failed : new.erred ≡ true
-
--- a run stopped for some fault, and then the line of this fault was written, unless the port has erred
+-- a run stopped for some fault, and then the line of this fault was written, unless a write had failed
 abbrev pub TellsStop : (Shown → Fault → Type 0) → Shown → Type 0
 TellsStop stops v =
     (fault : Fault) × (between : Shown) × stops between fault
-    × TellsFault fault (fault_line (fault_number fault.kind) fault.place.offset) between.bytes v.bytes v.erred
+    × TellsFault fault (fault_line (fault_number fault.kind) fault.place.offset) between v

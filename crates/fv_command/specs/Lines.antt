@@ -1,6 +1,5 @@
 -- The lines that the program writes.
-use Rattle.std.specs.Prelude.{◌≡◌, ◌≢◌, ℕ, List, [], ◌∷◌, ◌++◌, Bool, false, Option, codes, decimal}
-use Rattle.std.specs.Io.KnownBytes.{Appends}
+use Rattle.std.specs.Prelude.{◌≡◌, ◌≢◌, ℕ, List, [], ◌∷◌, ◌++◌, codes, decimal}
 use Rattle.fv_base.specs.Faults.{fault_number}
 use Rattle.fv_base.specs.declared.fault.Fault.{Fault}
 use Rattle.fv_base.specs.declared.fault.FaultKind.TheVariants as kinds
@@ -8,6 +7,7 @@ use Rattle.fv_canon.specs.ComparisonLines.{line_feed}
 use Rattle.fv_canon.specs.declared.side.Side.{Side}
 use Rattle.fv_canon.specs.declared.side.Side.TheVariants as sides
 use Rattle.fv_tree.specs.FoundVolumes.{VolumeAt}
+use Rattle.fv_command.specs.PortViews.{Shown, WritesOrStops}
 
 -- the line of a fault, that of a fault of a hand-off list, and that of a fault of one of two inputs
 abbrev pub fault_line : ℕ → ℕ → List ℕ
@@ -21,16 +21,16 @@ side_fault_line sides.First number at = codes "first " ++ fault_line number at
 side_fault_line sides.Second number at = codes "second " ++ fault_line number at
 side_fault_line sides.Output number at = []
 
--- after a failed write nothing more is written; else, unless the port has erred, the line is
-pub record TellsFault (fault : Fault) (line : List ℕ) (held holds : Option (List ℕ)) (erred : Bool) : Type 0 where
-  pub silent : fault.kind ≡ kinds.WriteFault → holds ≡ held
-  pub said : fault.kind ≢ kinds.WriteFault → erred ≡ false → Appends held holds line
+-- after a failed write nothing more is written; else the line is, or a write fails in it
+pub record TellsFault (fault : Fault) (line : List ℕ) (old new : Shown) : Type 0 where
+  pub silent : fault.kind ≡ kinds.WriteFault → new ≡ old
+  pub said : fault.kind ≢ kinds.WriteFault → WritesOrStops old new line
 
--- where the output stopped, nothing more is written; else, unless the port has erred, the line of the side is
-abbrev pub TellsSideFault : Side → Fault → (held holds : Option (List ℕ)) → Bool → Type 0
-TellsSideFault sides.Output fault held holds erred = holds ≡ held
-TellsSideFault side fault held holds erred = erred ≡ false
-    → Appends held holds (side_fault_line side (fault_number fault.kind) fault.place.offset)
+-- where the output stopped, nothing more is written; else the line of the side is, or a write fails in it
+abbrev pub TellsSideFault : Side → Fault → Shown → Shown → Type 0
+TellsSideFault sides.Output fault old new = new ≡ old
+TellsSideFault side fault old new =
+    WritesOrStops old new (side_fault_line side (fault_number fault.kind) fault.place.offset)
 
 -- the line of a volume of n bytes that begins at an offset
 abbrev pub volume_line : ℕ → ℕ → List ℕ

@@ -1,8 +1,8 @@
 -- What a run of a plan does to its inputs and its output.
 use Rattle.std.specs.Prelude.{◌≡◌, Bool}
 use Rattle.fv_command.specs.HobRuns.{RunsHobs}
-use Rattle.fv_command.specs.Inputs.{Shown}
 use Rattle.fv_command.specs.Plans.{base_of}
+use Rattle.fv_command.specs.PortViews.{Shown}
 use Rattle.fv_command.specs.SideRuns.{RunsComparison}
 use Rattle.fv_command.specs.TaskRuns.{RunsTask}
 use Rattle.fv_command.specs.declared.plan.Command.{Command}

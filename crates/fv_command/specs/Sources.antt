@@ -1,5 +1,6 @@
 -- Where the bytes of an input come from.
-use Rattle.std.specs.Prelude.{ℕ, ⊤, List, [], Option, Some}
+use Rattle.std.specs.Prelude.{◌≡◌, ℕ, ⊤, List, [], Option, Some, None, String}
+use Rattle.std.specs.Global.{Global}
 use Rattle.fv_command.specs.declared.source.Source.{Source}
 use Rattle.fv_command.specs.declared.source.Source.TheVariants.{Standard, File, Missing, Nothing}
 
@@ -16,3 +17,14 @@ abbrev pub IsFileOrMissing : {S F : Type 0} → Source S F → Type 0
 IsFileOrMissing (File file) = ⊤
 IsFileOrMissing Missing = ⊤
 IsFileOrMissing _ = ⊥
+
+-- the source of a command's first input: standard input where no file is named, else the file
+abbrev pub IsFirstSource : {S F : Type 0} → Option (String Global) → Source S F → Type 0
+IsFirstSource None (Standard reader) = ⊤
+IsFirstSource None source = ⊥
+IsFirstSource (Some path) source = IsFileOrMissing source
+
+-- that of its second input: there is none where no file is named
+abbrev pub IsSecondSource : {S F : Type 0} → Option (String Global) → Source S F → Type 0
+IsSecondSource None source = source ≡ Nothing
+IsSecondSource (Some path) source = IsFileOrMissing source

@@ -1,8 +1,8 @@
 -- A run of a task over one input.
-use Rattle.std.specs.Prelude.{◌⊎◌, ℕ, Bool, List}
-use Rattle.std.specs.Io.KnownBytes.{Appends, Keeps}
+use Rattle.std.specs.Prelude.{◌≡◌, ◌⊎◌, ℕ, Bool, List}
 use Rattle.fv_base.specs.declared.fault.Fault.{Fault}
-use Rattle.fv_command.specs.Inputs.{Shown, Gives, GivingStops, TellsStop, WritingStops}
+use Rattle.fv_command.specs.Inputs.{Gives, GivingStops, TellsStop}
+use Rattle.fv_command.specs.PortViews.{Shown, Writes, WritingStops}
 use Rattle.fv_command.specs.Tasks.{Says, Denies}
 use Rattle.fv_command.specs.declared.plan.Task.{Task}
 use Rattle.fv_command.specs.declared.status.Status.{Status}
@@ -10,12 +10,12 @@ use Rattle.fv_command.specs.declared.status.Status.TheVariants.{Done, Different,
 
 -- what the task says of the input was written
 abbrev pub SaysInput : Task → Bool → List ℕ → Shown → Shown → Status → Type 0
-SaysInput task hex input w v status = (text : List ℕ) × Says task hex input status text × Appends w.bytes v.bytes text
+SaysInput task hex input w v status = (text : List ℕ) × Says task hex input status text × Writes w v text
 
 -- nothing was written, since the task says nothing of the input; or the writer stopped in what it says
 abbrev pub StopsInput : Task → Bool → List ℕ → Shown → Shown → Fault → Type 0
 StopsInput task hex input w v fault =
-    (Keeps w.bytes v.bytes × Denies task input fault)
+    ((v ≡ w) × Denies task input fault)
     ⊎ ((status : Status) × (text : List ℕ) × Says task hex input status text × WritingStops w v text fault)
 
 -- an input was read to its end, and what the task says of it was written
@@ -25,7 +25,7 @@ SaysRead task hex r s w v status = (input : List ℕ) × Gives hex r s input × 
 -- the run stopped while it read, and nothing was written; or behind an input that it had read to its end
 abbrev pub StopsRead : Task → Bool → Shown → Shown → Shown → Shown → Fault → Type 0
 StopsRead task hex r s w v fault =
-    (Keeps w.bytes v.bytes × GivingStops hex r s fault)
+    ((v ≡ w) × GivingStops hex r s fault)
     ⊎ ((input : List ℕ) × Gives hex r s input × StopsInput task hex input w v fault)
 
 -- a run of a task, by its status

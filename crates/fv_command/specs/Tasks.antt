@@ -12,6 +12,7 @@ use Rattle.fv_command.specs.CheckTexts.{CheckText}
 use Rattle.fv_command.specs.HexText.{ShowsBytes}
 use Rattle.fv_command.specs.Inputs.{BeginsWith, BeginsNone}
 use Rattle.fv_command.specs.Lines.{ScanText}
+use Rattle.fv_command.specs.ListTexts.{ListText}
 use Rattle.fv_command.specs.Extractions.{IsPart, StopsPart}
 use Rattle.fv_command.specs.declared.status.Status.{Status}
 use Rattle.fv_command.specs.declared.status.Status.TheVariants.{Done, Different}
@@ -29,11 +30,11 @@ PartText hex NotFound Different text = text ≡ codes "not found\n"
 PartText hex NotSectioned Different text = text ≡ codes "not sectioned\n"
 PartText hex x status text = ⊥
 
--- what a task says of its input, and with which status. Of the text of a list no more is said than that there is one
+-- what a task says of its input, and with which status
 abbrev pub Says : Task → Bool → List ℕ → Status → List ℕ → Type 0
 Says Normalise hex input Done text = (image : List ℕ) × NormalisesTo input image × ShowsBytes hex image text
 Says NormaliseAll hex input Done text = (image : List ℕ) × NormalisesAll input image × ShowsBytes hex image text
-Says Listing hex input Done text = (m : Meaning) × BeginsWith input m
+Says Listing hex input Done text = (m : Meaning) × BeginsWith input m × ListText m text
 Says (Extract part) hex input status text =
     (m : Meaning) × (x : Extraction) × BeginsWith input m × IsPart (file_named part.name (files_of m)) part x
     × PartText hex x status text

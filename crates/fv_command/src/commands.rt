@@ -1,6 +1,6 @@
 //! The commands, run over readers and a writer.
 
-ghost use Rattle.fv_command.specs.Inputs.{shown};
+ghost use Rattle.fv_command.specs.PortViews.{shown};
 ghost use Rattle.fv_command.specs.Runs.{Runs};
 
 use crate::comparing::run_comparison;

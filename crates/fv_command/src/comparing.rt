@@ -3,7 +3,8 @@
 ghost use Rattle.std.specs.Prelude.{◌≡◌, ◌⊎◌, IfOk, IfErr};
 ghost use Rattle.fv_canon.specs.Comparisons.{VolumeStops};
 ghost use Rattle.fv_tree.specs.Denotes.{Accepted};
-ghost use Rattle.fv_command.specs.Inputs.{Gives, GivingStops, shown};
+ghost use Rattle.fv_command.specs.Inputs.{Gives, GivingStops};
+ghost use Rattle.fv_command.specs.PortViews.{shown};
 ghost use Rattle.fv_command.specs.SideRuns.{ComparesRead, RunsComparison, SideStops};
 
 use crate::inputs::read_bytes;

@@ -1,15 +1,14 @@
 //! Bytes, put and written as lines of hexadecimal digits.
 
-ghost use Rattle.std.specs.Prelude.{◌≡◌, ◌≤◌, ◌<◌, ◌+◌, ◌++◌, ℕ, List, length, take, true};
-ghost use Rattle.std.specs.Prelude.{IfErr, OnOk, OnErr};
-ghost use Rattle.std.specs.Io.KnownBytes.{Appends};
-ghost use Rattle.fv_base.specs.Port.{inner_of, has_erred};
+ghost use Rattle.std.specs.Prelude.{◌≡◌, ◌≤◌, ◌<◌, ◌+◌, ◌++◌, ℕ, List, length, take};
+ghost use Rattle.std.specs.Prelude.{IfErr, OnOk};
 ghost use Rattle.fv_command.specs.HexLaws.{hex_by};
 ghost use Rattle.fv_command.specs.HexSinks.{HexTakes};
 ghost use Rattle.fv_command.specs.HexText.{IsHexText, ShowsBytes, last_text, line_text};
+ghost use Rattle.fv_command.specs.PortViews.{Writes, WritingStops, shown};
 
 use fv_base::field::bytes_from;
-use fv_base::{Fault, FaultKind, Port, Sink, WriteSink};
+use fv_base::{Fault, Port, Sink, WriteSink};
 use std::io::Write;
 
 /// How many bytes a line has.
@@ -151,15 +150,10 @@ fn put_shown<S: Sink>(below: S, hex: bool, bytes: &[u8]) -> S
 /// WriteFault at the bytes of text written in this call, where a write fails or takes no byte:
 /// exactly these bytes of the text were written then.
 pub fn write_shown<W: Write>(writer: &mut Port<W>, hex: bool, bytes: &[u8]) -> Result<(), Fault>
-    // The text was written.
     ensures ok { OnOk result ((text : List ℕ) × ShowsBytes hex bytes.now text
-        × Appends (W.contents (inner_of writer.old)) (W.contents (inner_of writer.new)) text) }
-
-    // A front of it was, and not all of it.
-    ensures err { IfErr result (λ f. (text : List ℕ) × ShowsBytes hex bytes.now text × (n : ℕ) × (n < length text)
-        × Appends (W.contents (inner_of writer.old)) (W.contents (inner_of writer.new)) (take n text)) }
-    ensures kind { IfErr result (λ f. f.kind ≡ FaultKind.WriteFault) }
-    ensures erred { OnErr result (has_erred writer.new ≡ true) }
+        × Writes (shown W.contents writer.old) (shown W.contents writer.new) text) }
+    ensures err { IfErr result (λ f. (text : List ℕ) × ShowsBytes hex bytes.now text
+        × WritingStops (shown W.contents writer.old) (shown W.contents writer.new) text f) }
 {
     let out = put_shown(WriteSink::new(writer), hex, bytes);
     out.outcome()

@@ -1,13 +1,11 @@
 //! A run over a hand-off list, and the image in which its volumes are looked for.
 
 ghost use Rattle.std.specs.Prelude.{◌≡◌, ℕ, List, IfOk, IfErr, OnOk};
-ghost use Rattle.std.specs.Io.KnownBytes.{Appends};
-ghost use Rattle.fv_base.specs.Port.{inner_of};
 ghost use Rattle.fv_command.specs.HobRuns.{GivesImage, HobImageStops, ListsHobs, RunsHobs};
 ghost use Rattle.fv_command.specs.HobRefusals.{RefusalStopsHobs};
 ghost use Rattle.fv_command.specs.HobRefusals.{held_image};
 ghost use Rattle.fv_command.specs.HobLines.{image_form};
-ghost use Rattle.fv_command.specs.Inputs.{shown};
+ghost use Rattle.fv_command.specs.PortViews.{Writes, shown};
 
 use crate::hobs::{Image, write_hobs};
 use crate::inputs::read_bytes;
@@ -92,7 +90,7 @@ fn list_hobs<First: Read, Second: Read, W: Write>(
         (shown First.remaining first.new)
         (shown Second.remaining second.old)
         (shown Second.remaining second.new)
-        (λ text. Appends (W.contents (inner_of writer.old)) (W.contents (inner_of writer.new)) text)) }
+        (λ text. Writes (shown W.contents writer.old) (shown W.contents writer.new) text)) }
     ensures err { IfErr result (RefusalStopsHobs hex base
         (shown First.remaining first.old)
         (shown First.remaining first.new)

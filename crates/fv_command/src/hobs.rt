@@ -1,11 +1,9 @@
 //! The blocks of a hand-off list, and what an image holds where their volumes should lie.
 
-ghost use Rattle.std.specs.Prelude.{◌≡◌, ◌≤◌, ℕ, List, length, true, IfErr, OnErr, OnOk};
-ghost use Rattle.std.specs.Io.KnownBytes.{Appends};
-ghost use Rattle.fv_base.specs.Output.{WriteStops};
-ghost use Rattle.fv_base.specs.Port.{inner_of, has_erred};
+ghost use Rattle.std.specs.Prelude.{◌≡◌, ℕ, List, IfErr, OnOk};
 ghost use Rattle.fv_command.specs.HobLines.{HobsText, IsWord, consumed_line, four_digits, hob_line, standing_word};
 ghost use Rattle.fv_command.specs.HobRefusals.{held_image};
+ghost use Rattle.fv_command.specs.PortViews.{Writes, WritingStops, shown};
 ghost use Rattle.fv_command.specs.VolumeStandings.{IsStanding};
 
 use fv_base::field::field;
@@ -74,8 +72,8 @@ fn word_of(hob: &Hob, image: Option<Image<'_>>) -> &'static str
     }
 }
 
-// Puts a number by four lower-case hexadecimal digits.
-fn put_four_digits<S: Sink>(out: &mut S, number: u16)
+/// Puts a number by four lower-case hexadecimal digits.
+pub fn put_four_digits<S: Sink>(out: &mut S, number: u16)
     ensures { S.takes out.old (four_digits number) out.new }
 {
     let mut text = [0u8; 4];
@@ -129,14 +127,10 @@ pub fn write_hobs<W: Write>(
     consumed: u64,
     image: Option<Image<'_>>,
 ) -> Result<(), Fault>
-    // No write failed: the text of the list was written, and all of it.
     ensures ok { OnOk result ((text : List ℕ) × HobsText (held_image image.entry) hobs.now consumed text
-        × Appends (W.contents (inner_of writer.old)) (W.contents (inner_of writer.new)) text) }
-
-    // One failed: the first bytes of the text were written, as many as the fault says, and not all of them.
+        × Writes (shown W.contents writer.old) (shown W.contents writer.new) text) }
     ensures err { IfErr result (λ f. (text : List ℕ) × HobsText (held_image image.entry) hobs.now consumed text
-        × WriteStops (W.contents (inner_of writer.old)) (W.contents (inner_of writer.new)) text f) }
-    ensures erred { OnErr result (has_erred writer.new ≡ true) }
+        × WritingStops (shown W.contents writer.old) (shown W.contents writer.new) text f) }
 {
     let mut out = WriteSink::new(writer);
     put_hobs(&mut out, hobs.as_slice(), consumed, image);

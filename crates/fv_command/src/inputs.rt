@@ -1,7 +1,8 @@
 //! The bytes of an input.
 
 ghost use Rattle.std.specs.Prelude.{IfOk, IfErr};
-ghost use Rattle.fv_command.specs.Inputs.{Gives, GivingStops, shown};
+ghost use Rattle.fv_command.specs.Inputs.{Gives, GivingStops};
+ghost use Rattle.fv_command.specs.PortViews.{shown};
 
 use crate::hex_text::read_hex;
 use fv_base::{Fault, Port, read_input};

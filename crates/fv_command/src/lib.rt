@@ -1,10 +1,12 @@
 //! The commands of the program, over readers and a writer.
 #![tactic(auto)]
 
+mod check_lines;
 mod checking;
 mod closing;
 mod commands;
 mod comparing;
+mod depex_notes;
 mod extracting;
 mod hex_digits;
 mod hex_lines;
@@ -15,6 +17,8 @@ mod imaging;
 mod inputs;
 mod lines;
 mod listing;
+mod output;
+mod pads;
 mod plan;
 mod saying;
 mod scanning;
@@ -27,6 +31,7 @@ mod tests;
 pub use closing::close;
 pub use commands::run_plan;
 pub use extracting::Part;
+pub use output::Output;
 pub use plan::{Command, ImageFile, Plan, Task};
 pub use saying::{refuse, say};
 pub use source::{Source, open};

@@ -1,12 +1,10 @@
 //! Lines of text, put into a sink.
 
-ghost use Rattle.std.specs.Prelude.{◌≡◌, ◌++◌, IfErr, OnOk, OnErr, true};
-ghost use Rattle.std.specs.Io.KnownBytes.{Appends};
-ghost use Rattle.fv_base.specs.Output.{WriteStops};
-ghost use Rattle.fv_base.specs.Port.{inner_of, has_erred};
+ghost use Rattle.std.specs.Prelude.{◌++◌, IfErr, OnOk};
 ghost use Rattle.fv_command.specs.Lines.{fault_line, volume_line};
+ghost use Rattle.fv_command.specs.PortViews.{Writes, WritingStops, shown};
 
-use fv_base::{Fault, FaultKind, Port, Sink, WriteSink};
+use fv_base::{Fault, Port, Sink, WriteSink};
 use fv_canon::put_decimal;
 use std::io::Write;
 
@@ -16,10 +14,8 @@ use std::io::Write;
 ///
 /// WriteFault, where a write fails or takes no byte.
 pub fn write_bytes<W: Write>(writer: &mut Port<W>, bytes: &[u8]) -> Result<(), Fault>
-    ensures ok { OnOk result (Appends (W.contents (inner_of writer.old)) (W.contents (inner_of writer.new)) bytes.now) }
-    ensures err { IfErr result
-        (WriteStops (W.contents (inner_of writer.old)) (W.contents (inner_of writer.new)) bytes.now) }
-    ensures erred { OnErr result (has_erred writer.new ≡ true) }
+    ensures ok { OnOk result (Writes (shown W.contents writer.old) (shown W.contents writer.new) bytes.now) }
+    ensures err { IfErr result (WritingStops (shown W.contents writer.old) (shown W.contents writer.new) bytes.now) }
 {
     let mut out = WriteSink::new(writer);
     out.put(bytes);
@@ -60,13 +56,10 @@ pub fn write_fault<W: Write>(
     number: u8,
     offset: u64,
 ) -> Result<(), Fault>
-    ensures ok { OnOk result (Appends (W.contents (inner_of writer.old)) (W.contents (inner_of writer.new))
+    ensures ok { OnOk result (Writes (shown W.contents writer.old) (shown W.contents writer.new)
         (words.now ++ fault_line number offset)) }
-
-    // A write failed: the first bytes of the line were written, as many as the fault says, and not all of them.
-    ensures err { IfErr result (λ f. WriteStops (W.contents (inner_of writer.old)) (W.contents (inner_of writer.new))
-        (words.now ++ fault_line number offset) f) }
-    ensures erred { OnErr result (has_erred writer.new ≡ true) }
+    ensures err { IfErr result (WritingStops (shown W.contents writer.old) (shown W.contents writer.new)
+        (words.now ++ fault_line number offset)) }
 {
     let mut out = WriteSink::new(writer);
     put_fault(&mut out, words, number, offset);

@@ -1,11 +1,10 @@
 //! The line that a run ends with: of its words, or of the fault that stopped it.
 
-ghost use Rattle.std.specs.Prelude.{◌≡◌, ◌≢◌, ◌⊎◌, ◌++◌, true, false};
-ghost use Rattle.std.specs.Io.KnownBytes.{Appends};
+ghost use Rattle.std.specs.Prelude.{◌≡◌, ◌⊎◌, ◌++◌};
 ghost use Rattle.fv_base.specs.Faults.{fault_number};
-ghost use Rattle.fv_base.specs.Port.{inner_of, has_erred};
 ghost use Rattle.fv_hob.specs.HobChecks.{hob_fault_number as hob_number_of};
-ghost use Rattle.fv_command.specs.Lines.{fault_line, hob_fault_line, TellsSideFault};
+ghost use Rattle.fv_command.specs.Lines.{fault_line, hob_fault_line, TellsFault, TellsSideFault};
+ghost use Rattle.fv_command.specs.PortViews.{StopsIn, Writes, WritesOrStops, shown};
 
 use crate::lines::{write_bytes, write_fault};
 use crate::status::Status;
@@ -14,12 +13,11 @@ use fv_canon::Side;
 use fv_hob::HobFault;
 use std::io::Write;
 
-/// Writes a line and answers the status, or Refused where the line can not be written.
+/// Writes a line and returns the status, or Refused where the line can not be written.
 pub fn say<W: Write>(writer: &mut Port<W>, line: &str, status: Status) -> Status
-    // The line was written and the status is answered; or the port has erred.
-    ensures { ((result ≡ status)
-        × Appends (W.contents (inner_of writer.old)) (W.contents (inner_of writer.new)) line.now)
-        ⊎ ((result ≡ Status.Refused) × (has_erred writer.new ≡ true)) }
+    // The line was written, and the status is the one given; or a write failed in the line.
+    ensures { ((result ≡ status) × Writes (shown W.contents writer.old) (shown W.contents writer.new) line.now)
+        ⊎ ((result ≡ Status.Refused) × StopsIn (shown W.contents writer.old) (shown W.contents writer.new) line.now) }
 {
     match write_bytes(writer, line.as_bytes()) {
         Ok(()) => status,
@@ -27,13 +25,10 @@ pub fn say<W: Write>(writer: &mut Port<W>, line: &str, status: Status) -> Status
     }
 }
 
-// Writes the line of a fault, which begins with some words, and answers Refused.
+// Writes the line of a fault, which begins with some words, and returns Refused.
 fn say_fault<W: Write>(writer: &mut Port<W>, words: &[u8], number: u8, offset: u64) -> Status
     ensures status { result ≡ Status.Refused }
-
-    // Unless the port has erred, the line was written.
-    ensures said { has_erred writer.new ≡ false
-        → Appends (W.contents (inner_of writer.old)) (W.contents (inner_of writer.new))
+    ensures said { WritesOrStops (shown W.contents writer.old) (shown W.contents writer.new)
         (words.now ++ fault_line number offset) }
 {
     match write_fault(writer, words, number, offset) {
@@ -41,16 +36,12 @@ fn say_fault<W: Write>(writer: &mut Port<W>, words: &[u8], number: u8, offset: u
     }
 }
 
-/// Writes the line `fault N at M` of a fault, with its number and its offset in bytes, and answers
+/// Writes the line `fault N at M` of a fault, with its number and its offset in bytes, and returns
 /// Refused. After a failed write nothing more is written.
 pub fn refuse<W: Write>(writer: &mut Port<W>, fault: Fault) -> Status
     ensures status { result ≡ Status.Refused }
-    ensures silent { fault.kind ≡ FaultKind.WriteFault → writer.new ≡ writer.old }
-
-    // Unless the port has erred, the line of this fault was written.
-    ensures said { fault.kind ≢ FaultKind.WriteFault → has_erred writer.new ≡ false
-        → Appends (W.contents (inner_of writer.old)) (W.contents (inner_of writer.new))
-        (fault_line (fault_number fault.kind) fault.place.offset) }
+    ensures told { TellsFault fault (fault_line (fault_number fault.kind) fault.place.offset)
+        (shown W.contents writer.old) (shown W.contents writer.new) }
 {
     if fault.kind == FaultKind::WriteFault {
         return Status::Refused;
@@ -58,24 +49,20 @@ pub fn refuse<W: Write>(writer: &mut Port<W>, fault: Fault) -> Status
     say_fault(writer, b"", fault.kind.number(), fault.place.offset)
 }
 
-/// Writes the line `hob fault N at M` of a refused hand-off list, and answers Refused.
+/// Writes the line `hob fault N at M` of a refused hand-off list, and returns Refused.
 pub fn refuse_hobs<W: Write>(writer: &mut Port<W>, fault: HobFault) -> Status
     ensures status { result ≡ Status.Refused }
-
-    // Unless the port has erred, the line of this fault was written.
-    ensures said { has_erred writer.new ≡ false
-        → Appends (W.contents (inner_of writer.old)) (W.contents (inner_of writer.new))
+    ensures said { WritesOrStops (shown W.contents writer.old) (shown W.contents writer.new)
         (hob_fault_line (hob_number_of fault.kind) fault.offset) }
 {
     say_fault(writer, b"hob ", fault.number(), fault.offset)
 }
 
-/// Writes the line of what refuses one of two inputs, with the side before it, and answers Refused.
+/// Writes the line of what refuses one of two inputs, with the side before it, and returns Refused.
 /// Where the output stopped, nothing more is written.
 pub fn refuse_side<W: Write>(writer: &mut Port<W>, side: Side, fault: Fault) -> Status
     ensures status { result ≡ Status.Refused }
-    ensures told { TellsSideFault side fault (W.contents (inner_of writer.old)) (W.contents (inner_of writer.new))
-        (has_erred writer.new) }
+    ensures told { TellsSideFault side fault (shown W.contents writer.old) (shown W.contents writer.new) }
 {
     let number = fault.kind.number();
     let offset = fault.place.offset;

@@ -1,11 +1,9 @@
 //! The volumes that a scan found.
 
-ghost use Rattle.std.specs.Prelude.{◌≡◌, ℕ, List, length, true, OnOk, IfErr, OnErr};
-ghost use Rattle.std.specs.Io.KnownBytes.{Appends};
-ghost use Rattle.fv_base.specs.Output.{WriteStops};
-ghost use Rattle.fv_base.specs.Port.{inner_of, has_erred};
+ghost use Rattle.std.specs.Prelude.{ℕ, List, OnOk, IfErr};
 ghost use Rattle.fv_tree.specs.FoundVolumes.{Found};
 ghost use Rattle.fv_command.specs.Lines.{ScanText};
+ghost use Rattle.fv_command.specs.PortViews.{Writes, WritingStops, shown};
 
 use crate::lines::put_found;
 use fv_base::field::bytes_from;
@@ -39,12 +37,9 @@ pub fn write_volumes<W: Write>(
 ) -> Result<(), Fault>
     requires { Found input.now offsets.now }
     ensures ok { OnOk result ((text : List ℕ) × ScanText input.now offsets.now text
-        × Appends (W.contents (inner_of writer.old)) (W.contents (inner_of writer.new)) text) }
-
-    // A write failed: the first bytes of the text were written, as many as the fault says, and not all of them.
+        × Writes (shown W.contents writer.old) (shown W.contents writer.new) text) }
     ensures err { IfErr result (λ f. (text : List ℕ) × ScanText input.now offsets.now text
-        × WriteStops (W.contents (inner_of writer.old)) (W.contents (inner_of writer.new)) text f) }
-    ensures erred { OnErr result (has_erred writer.new ≡ true) }
+        × WritingStops (shown W.contents writer.old) (shown W.contents writer.new) text f) }
 {
     let mut out = WriteSink::new(writer);
     put_volumes(&mut out, input, offsets);

@@ -1,10 +1,9 @@
 //! The tasks over one input.
 
 ghost use Rattle.std.specs.Prelude.{ℕ, Bool, List, IfOk, IfErr};
-ghost use Rattle.std.specs.Io.KnownBytes.{Appends};
-ghost use Rattle.fv_base.specs.Port.{inner_of};
-ghost use Rattle.fv_command.specs.Inputs.{WritingStops, shown};
-ghost use Rattle.fv_command.specs.TaskRuns.{RunsTask, SaysInput, SaysRead, StopsInput, StopsRead};
+ghost use Rattle.fv_command.specs.PortViews.{Writes, WritingStops, shown};
+ghost use Rattle.fv_command.specs.TaskRuns.{RunsTask, SaysRead, StopsRead};
+ghost use Rattle.fv_command.specs.TaskSteps.{Performs};
 ghost use Rattle.fv_command.specs.Tasks.{PartText};
 
 use crate::checking::write_check;
@@ -31,12 +30,7 @@ fn normalise<W: Write>(
     input: &[u8],
     writer: &mut Port<W>,
 ) -> Result<Status, Fault>
-    ensures ok { IfOk result (SaysInput Task.Normalise hex input.now
-        (shown W.contents writer.old)
-        (shown W.contents writer.new)) }
-    ensures err { IfErr result (StopsInput Task.Normalise hex input.now
-        (shown W.contents writer.old)
-        (shown W.contents writer.new)) }
+    ensures { Performs Task.Normalise hex input.now (shown W.contents writer.old) (shown W.contents writer.new) result }
 {
     write_image(alloc, hex, input, writer)?;
     Ok(Status::Done)
@@ -50,12 +44,7 @@ fn normalise_all<W: Write>(
     input: &[u8],
     writer: &mut Port<W>,
 ) -> Result<Status, Fault>
-    ensures ok { IfOk result (SaysInput Task.NormaliseAll hex input.now
-        (shown W.contents writer.old)
-        (shown W.contents writer.new)) }
-    ensures err { IfErr result (StopsInput Task.NormaliseAll hex input.now
-        (shown W.contents writer.old)
-        (shown W.contents writer.new)) }
+    ensures { Performs Task.NormaliseAll hex input.now (shown W.contents writer.old) (shown W.contents writer.new) result }
 {
     let image = normalise_image(alloc, input)?;
     write_shown(writer, hex, image.as_slice())?;
@@ -64,12 +53,8 @@ fn normalise_all<W: Write>(
 
 // Writes what the volume holds that the input begins with.
 fn list<W: Write>(alloc: Global, input: &[u8], writer: &mut Port<W>) -> Result<Status, Fault>
-    ensures ok { (hex : Bool) → IfOk result (SaysInput Task.List hex input.now
-        (shown W.contents writer.old)
-        (shown W.contents writer.new)) }
-    ensures err { (hex : Bool) → IfErr result (StopsInput Task.List hex input.now
-        (shown W.contents writer.old)
-        (shown W.contents writer.new)) }
+    ensures { (hex : Bool)
+        → Performs Task.List hex input.now (shown W.contents writer.old) (shown W.contents writer.new) result }
 {
     let (volume, _length) = read_volume(alloc, input)?;
     write_list(writer, &volume)?;
@@ -83,10 +68,9 @@ fn write_part<W: Write>(
     extraction: &Extraction<'_>,
 ) -> Result<Status, Fault>
     ensures ok { IfOk result (λ status. (text : List ℕ) × PartText hex extraction.now status text
-        × Appends (W.contents (inner_of writer.old)) (W.contents (inner_of writer.new)) text) }
+        × Writes (shown W.contents writer.old) (shown W.contents writer.new) text) }
     ensures err { IfErr result (λ f. (status : Status) × (text : List ℕ) × PartText hex extraction.now status text
-        × WritingStops (shown W.contents writer.old)
-        (shown W.contents writer.new) text f) }
+        × WritingStops (shown W.contents writer.old) (shown W.contents writer.new) text f) }
 {
     match extraction {
         Extraction::Made(bytes) => {
@@ -116,12 +100,7 @@ fn extract_part<W: Write>(
     part: &Part,
     writer: &mut Port<W>,
 ) -> Result<Status, Fault>
-    ensures ok { IfOk result (SaysInput (Task.Extract part.now) hex input.now
-        (shown W.contents writer.old)
-        (shown W.contents writer.new)) }
-    ensures err { IfErr result (StopsInput (Task.Extract part.now) hex input.now
-        (shown W.contents writer.old)
-        (shown W.contents writer.new)) }
+    ensures { Performs (Task.Extract part.now) hex input.now (shown W.contents writer.old) (shown W.contents writer.new) result }
 {
     let (volume, _length) = read_volume(alloc, input)?;
     let extraction = extract(alloc, &volume, part)?;
@@ -130,12 +109,8 @@ fn extract_part<W: Write>(
 
 // Writes whether the input is a canonical image, and the notes of it.
 fn check<W: Write>(alloc: Global, input: &[u8], writer: &mut Port<W>) -> Result<Status, Fault>
-    ensures ok { (hex : Bool) → IfOk result (SaysInput Task.Check hex input.now
-        (shown W.contents writer.old)
-        (shown W.contents writer.new)) }
-    ensures err { (hex : Bool) → IfErr result (StopsInput Task.Check hex input.now
-        (shown W.contents writer.old)
-        (shown W.contents writer.new)) }
+    ensures { (hex : Bool)
+        → Performs Task.Check hex input.now (shown W.contents writer.old) (shown W.contents writer.new) result }
 {
     if write_check(alloc, input, writer)? {
         Ok(Status::Done)
@@ -146,12 +121,8 @@ fn check<W: Write>(alloc: Global, input: &[u8], writer: &mut Port<W>) -> Result<
 
 // Writes where volumes stand in the input.
 fn scan<W: Write>(alloc: Global, input: &[u8], writer: &mut Port<W>) -> Result<Status, Fault>
-    ensures ok { (hex : Bool) → IfOk result (SaysInput Task.Scan hex input.now
-        (shown W.contents writer.old)
-        (shown W.contents writer.new)) }
-    ensures err { (hex : Bool) → IfErr result (StopsInput Task.Scan hex input.now
-        (shown W.contents writer.old)
-        (shown W.contents writer.new)) }
+    ensures { (hex : Bool)
+        → Performs Task.Scan hex input.now (shown W.contents writer.old) (shown W.contents writer.new) result }
 {
     let offsets = fv_tree::scan(alloc, input)?;
     write_volumes(writer, input, offsets.as_slice())?;
@@ -166,12 +137,7 @@ fn perform<W: Write>(
     input: &[u8],
     writer: &mut Port<W>,
 ) -> Result<Status, Fault>
-    ensures ok { IfOk result (SaysInput task.now hex input.now
-        (shown W.contents writer.old)
-        (shown W.contents writer.new)) }
-    ensures err { IfErr result (StopsInput task.now hex input.now
-        (shown W.contents writer.old)
-        (shown W.contents writer.new)) }
+    ensures { Performs task.now hex input.now (shown W.contents writer.old) (shown W.contents writer.new) result }
 {
     match task {
         Task::Normalise => normalise(alloc, hex, input, writer),

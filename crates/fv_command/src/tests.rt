@@ -21,6 +21,7 @@ mod whole;
 use crate::closing::close;
 use crate::hex_lines::HexSink;
 use crate::hex_text::read_hex;
+use crate::output::Output;
 use crate::saying::say;
 use crate::status::Status;
 use fakes::{FakeReader, FakeWriter};
@@ -151,9 +152,9 @@ fn writes_lines(rt: HostRuntime) {
 
 // How a run ends that says that its words are wrong.
 fn closed_after(alloc: Global, inner: &mut FakeWriter) -> Result<Status, Fail> {
-    let mut writer = Port::new(BufWriter::new(alloc, inner)?);
+    let mut writer = Port::new(BufWriter::new(alloc, Output::new(inner))?);
     let status = say(&mut writer, "wrong words\n", Status::WrongWords);
-    Ok(close(writer, status))
+    Ok(close(writer, status).0)
 }
 
 #[test]

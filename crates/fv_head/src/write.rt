@@ -26,6 +26,7 @@ pub fn write_head<W: Write>(head: &VolumeHead, writer: &mut Port<W>) -> Result<(
         × Appends (W.contents (inner_of writer.old)) (W.contents (inner_of writer.new)) bytes) }
     ensures err { IfErr result (λ f. (bytes : List ℕ) × IsCanonicalHead head.now bytes
         × WriteStops (W.contents (inner_of writer.old)) (W.contents (inner_of writer.new)) bytes f) }
+    ensures fine { OnOk result (has_erred writer.new ≡ has_erred writer.old) }
     ensures erred { OnErr result (has_erred writer.new ≡ true) }
 {
     let mut out = WriteSink::new(writer);
@@ -44,6 +45,7 @@ pub fn write_ext<W: Write>(ext: &ExtHeader, used: u32, writer: &mut Port<W>) -> 
         (Appends (W.contents (inner_of writer.old)) (W.contents (inner_of writer.new)) (ext_spelled ext.now used)) }
     ensures err { IfErr result
         (WriteStops (W.contents (inner_of writer.old)) (W.contents (inner_of writer.new)) (ext_spelled ext.now used)) }
+    ensures fine { OnOk result (has_erred writer.new ≡ has_erred writer.old) }
     ensures erred { OnErr result (has_erred writer.new ≡ true) }
 {
     let mut out = WriteSink::new(writer);

@@ -1,4 +1,15 @@
--- The flag of a command, by the reader's walk over the words: its row is there where the flag stands before any `--`.
+-- The flag of a command, by the reader's walk over the words: its row is there exactly where the flag is one of the words
+-- before any `--`.
+-- 1. A use of another argument leaves the flag's rows as they are (used_other), and a use of the flag makes them one row,
+--    `true` (used_flag).
+-- 2. Of all words, exactly the flag's own gives its name with no value (word_names), and that name finds its rule (long_found).
+-- 3. So each kind of word keeps that the row is there where the flag was seen, and that the flag is never what waits for a
+--    value (Holds): a long flag (long_keeps), a bundle of short ones (bundle_keeps), a value or a positional (plain_keeps).
+-- 4. After `--` each word is a positional (walked_trailing). By induction over the words the row is there where has_flag is
+--    true (walk_keeps).
+-- 5. A default adds the row `false` where there is none (all_defaults). The matches have these rows, and get_flag reads the
+--    first (flag_matched, flag_answer).
+-- That the reader finds no fault says nothing of the rows, so it makes none of these steps shorter.
 use Rattle.std.proofs.Common.{◌≡◌, ◌∙◌, ◌==◌, ◌+◌, ◌&&◌, ◌||◌, ℕ, Bool, cond, true, false, not, zero, suc, refl, sym, ap, ap₂, subst, arith}
 use Rattle.std.proofs.Common.{min, take, true≢false, List, [], ◌∷◌, ◌++◌, drop, length, Option, Some, None, codes}
 use Rattle.std.specs.List.{find, fold, list_all, before_first, position_or_len}
@@ -28,7 +39,7 @@ use Rattle.clap.specs.declared.builder.value_parser.ValueParser.TheVariants as p
 use Rattle.clap.specs.declared.parser.matches.ArgMatches.{ArgMatches}
 use Rattle.clap.specs.declared.parser.matches.ValueSource.{ValueSource}
 use Rattle.clap.specs.declared.parser.matches.ValueSource.TheVariants.{DefaultValue, CommandLine}
-use Rattle.fv_tool.specs.Options.{number_in, rows_in, text_in}
+use Rattle.fv_tool.specs.Options.{rows_in, text_in}
 use Rattle.fv_tool.specs.Words.{has_flag}
 
 -- a flag of this name, which is some word without `=`
@@ -678,10 +689,3 @@ pub text_answer : (app : App) → app.top.no_binary_name ≡ false → is_simple
     → first_value (found_of m) id ≡ text_in app id (drop 1 words)
 text_answer app named simple given is words m matches id =
     first_value-rows (found_of m) id ∙ ap (first_of id) (rows_matched app named simple given is words m matches)
-
--- and that of a number
-pub number_answer : (app : App) → app.top.no_binary_name ≡ false → is_simple app ≡ true → (given : App) → given ≡ app
-    → (words : List Text) (m : ArgMatches) → HasMatchesOf given words m → (id : Text)
-    → one_text (found_of m) id ≡ number_in app id (drop 1 words)
-number_answer app named simple given is words m matches id =
-    one_text-rows (found_of m) id ∙ ap (one_of id) (rows_matched app named simple given is words m matches)

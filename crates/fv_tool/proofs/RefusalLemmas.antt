@@ -1,14 +1,130 @@
--- What the reader refuses, as it is handed on.
-use Rattle.std.proofs.Common.{◌≡◌, ◌≢◌, IfErr, Result, Ok, Err}
-use Rattle.std.specs.Prelude.{IsErrAnd}
+-- Words that are refused as wrong are not right.
+use Rattle.std.proofs.Common.{◌≡◌, ◌≢◌, ◌∙◌, ◌⊎◌, ℕ, List, [], ◌∷◌, IfErr, Result, Ok, Err, Option, Some, None, ap, codes, inl, inr}
+use Rattle.std.proofs.Common.{refl, subst, sym, true, false, true≢false}
+use Rattle.std.proofs.lemmas.Result.{IfErr-weaker}
+use Rattle.std.proofs.lemmas.Slice.Eq.{bytes_eq-Decides}
+use Rattle.std.specs.Prelude.{IsErrAnd, if◌then◌else◌, is_some, option_and_then}
+use Rattle.std.specs.Str.{bytes_eq}
 use Rattle.clap.specs.Values.{kind_of}
+use Rattle.clap.specs.Words.{App, HasKind, Kinds, is_simple_and_free}
 use Rattle.clap.specs.declared.error.Error.{Error}
 use Rattle.clap.specs.declared.error.kind.ErrorKind.TheVariants as error_kinds
+use Rattle.fv_base.specs.Guids.{guid_read}
+use Rattle.fv_command.specs.declared.plan.Command.{Command}
+use Rattle.fv_command.specs.declared.plan.Command.TheVariants.{Single, Hobs, Compare}
+use Rattle.fv_command.specs.declared.plan.Task.TheVariants.{Normalise, NormaliseAll, List as Listing, Extract, Check, Scan}
+use Rattle.fv_tool.specs.Options.{compare_app, extract_app, faults_in, hobs_app, normalise_app, one_input_app, text_in}
+use Rattle.fv_tool.specs.Words.{AreRightFor, HasTexts, IsBaseWord, IsSectionTypeWord, command_app, command_name}
 use Rattle.fv_tool.specs.declared.words.WordFault.{WordFault}
 use Rattle.fv_tool.specs.declared.words.WordFault.TheVariants.{Words, OutOfMemory}
 
-pub handed_on : {T : Type 0} (r : Result T WordFault) (e : Error) (P : Type 0)
+-- the options of the command that a word names
+abbrev pub app_named : List ℕ → App
+app_named name =
+    if bytes_eq name (codes "normalise") then normalise_app
+    else (if bytes_eq name (codes "hobs") then hobs_app
+    else (if bytes_eq name (codes "extract") then extract_app
+    else (if bytes_eq name (codes "compare") then compare_app else one_input_app)))
+
+named_app : (c : Command) → app_named (command_name c) ≡ command_app c
+named_app (Single Normalise file) = refl
+named_app (Single NormaliseAll file) = refl
+named_app (Single Listing file) = refl
+named_app (Single (Extract part) file) = refl
+named_app (Single Check file) = refl
+named_app (Single Scan file) = refl
+named_app (Hobs file image) = refl
+named_app (Compare first second) = refl
+
+-- the reader finds no fault in right words
+pub right_taken : (name : List ℕ) (rest : List (List ℕ)) → AreRightFor name rest → faults_in (app_named name) rest ≡ []
+right_taken name rest right =
+    ap (λ (a : App). faults_in a rest) (ap app_named right.1.command ∙ named_app right.0.command) ∙ right.1.taken
+
+-- what the reader says of a command that it was given, it says of the options that the command has
+pub by_app : (P : App → Type 0) (app : App) → is_simple_and_free app ≡ true → (given : App) → given ≡ app
+    → (is_simple_and_free given ≡ true → P given) → P app
+by_app P app free given is h = subst P is (h (ap is_simple_and_free is ∙ free))
+
+-- what the reader refuses, as it is handed on
+pub refused_for : {T : Type 0} (r : Result T WordFault) (e : Error) (ks : Kinds)
     → IsErrAnd r (λ f. (kind_of e ≡ error_kinds.OutOfMemory → f ≡ OutOfMemory) × (kind_of e ≢ error_kinds.OutOfMemory → f ≡ Words))
-    → (P → kind_of e ≡ error_kinds.OutOfMemory) → IfErr r (λ f. P → f ≡ OutOfMemory)
-handed_on (Ok x) e P h wants = tt
-handed_on (Err f) e P h wants = λ p. h.0 (wants p)
+    → HasKind ks e → IfErr r (λ f. f ≡ Words → ks ≢ [])
+refused_for (Ok x) e ks h has = tt
+refused_for (Err f) e ks h (inl memory) = λ is. absurd (differ (sym (h.0 memory) ∙ is))
+  where
+    differ : OutOfMemory ≡ Words → ⊥
+    differ e = cc
+refused_for (Err f) e [] h (inr among) = absurd among
+refused_for (Err f) e (k ∷ ks) h (inr among) = λ is none. cc
+
+pub refused_right : {T : Type 0} (name : List ℕ) (rest : List (List ℕ)) (r : Result T WordFault) (e : Error)
+    → IsErrAnd r (λ f. (kind_of e ≡ error_kinds.OutOfMemory → f ≡ OutOfMemory) × (kind_of e ≢ error_kinds.OutOfMemory → f ≡ Words))
+    → HasKind (faults_in (app_named name) rest) e → IfErr r (λ f. f ≡ Words → AreRightFor name rest → ⊥)
+refused_right name rest r e h has =
+    IfErr-weaker r _ _ (λ f wrong words right. wrong words (right_taken name rest right))
+    (refused_for r e (faults_in (app_named name) rest) h has)
+
+-- a refusal of words that is passed on
+pub passed_on : {T : Type 0} (r : Result T WordFault) (e : WordFault) → IsErrAnd r (λ f. f ≡ e) → (P : Type 0) → (e ≡ Words → P)
+    → IfErr r (λ f. f ≡ Words → P)
+passed_on (Ok x) e h P g = tt
+passed_on (Err f) e h P g = λ is. g (sym h ∙ is)
+
+-- what holds of each refusal
+pub IfErr-always : {T E : Type 0} (r : Result T E) (P : E → Type 0) → ((e : E) → P e) → IfErr r P
+IfErr-always (Ok x) P h = tt
+IfErr-always (Err e) P h = h e
+
+-- two words that differ
+other : (a b : List ℕ) → bytes_eq a b ≡ false → a ≡ b → ⊥
+other a b e is = true≢false (sym ((bytes_eq-Decides a b).1 is) ∙ e)
+
+-- a part needs a name that is read, and a type, if one is given
+pub no_name : (rest : List (List ℕ)) → option_and_then guid_read (text_in extract_app (codes "name") rest) ≡ None
+    → AreRightFor (codes "extract") rest → ⊥
+no_name rest none right = go right.0.command right.1.command right.1.texts
+  where
+    go : (c : Command) → codes "extract" ≡ command_name c → HasTexts rest c → ⊥
+    go (Single (Extract part) file) is texts = let same : None ≡ Some part.name = sym none ∙ texts.1.name_is in cc
+    go c is texts = absurd (other _ _ refl is)
+
+pub no_type : (rest : List (List ℕ)) → ((kind : Option ℕ) → IsSectionTypeWord (text_in extract_app (codes "section") rest) kind → ⊥)
+    → AreRightFor (codes "extract") rest → ⊥
+no_type rest none right = go right.0.command right.1.command right.1.texts
+  where
+    go : (c : Command) → codes "extract" ≡ command_name c → HasTexts rest c → ⊥
+    go (Single (Extract part) file) is texts = none part.section texts.1.section_is
+    go c is texts = absurd (other _ _ refl is)
+
+-- an image and its base come together
+pub no_pair : (rest : List (List ℕ)) → is_some (text_in hobs_app (codes "image") rest) ≢ is_some (text_in hobs_app (codes "base") rest)
+    → AreRightFor (codes "hobs") rest → ⊥
+no_pair rest differ right = go right.0.command right.1.command right.1.texts
+  where
+    based : (text : Option (List ℕ)) (n : ℕ) → IsBaseWord text n → is_some text ≡ true
+    based None n h = absurd h
+    based (Some text) n h = refl
+
+    go : (c : Command) → codes "hobs" ≡ command_name c → HasTexts rest c → ⊥
+    go (Hobs file None) is texts = differ (ap is_some texts.1.0 ∙ sym (ap is_some texts.1.1))
+    go (Hobs file (Some image)) is texts = differ (ap is_some texts.1.0 ∙ sym (based _ _ texts.1.1))
+    go (Single Normalise file) is texts = absurd (other _ _ refl is)
+    go c is texts = absurd (other _ _ refl is)
+
+-- and two files are compared
+pub no_files : (rest : List (List ℕ))
+    → (text_in compare_app (codes "first") rest ≡ None) ⊎ (text_in compare_app (codes "second") rest ≡ None)
+    → AreRightFor (codes "compare") rest → ⊥
+no_files rest none right = go right.0.command right.1.command right.1.texts
+  where
+    missing : (text : Option (List ℕ)) (file : List ℕ) → Some file ≡ text → text ≡ None → ⊥
+    missing text file e f = let same : Some file ≡ None = e ∙ f in cc
+
+    go : (c : Command) → codes "compare" ≡ command_name c → HasTexts rest c → ⊥
+    go (Compare first second) is texts = elim none [
+      | inl e ↦ missing _ _ texts.0 e
+      | inr e ↦ missing _ _ texts.1 e
+    ]
+    go (Single Normalise file) is texts = absurd (other _ _ refl is)
+    go c is texts = absurd (other _ _ refl is)

@@ -1,30 +1,39 @@
 -- What the program does with the words that it is given.
-use Rattle.std.specs.Prelude.{◌≡◌, ◌<◌, ◌⊎◌, ℕ, false, List, length}
-use Rattle.std.specs.Io.KnownBytes.{Appends}
-use Rattle.fv_command.specs.Inputs.{Shown}
+use Rattle.std.specs.Prelude.{◌≡◌, ◌<◌, ◌⊎◌, ℕ, false, List, Option, length}
+use Rattle.fv_command.specs.Files.{first_file, second_file}
+use Rattle.fv_command.specs.PortViews.{Shown, seen}
 use Rattle.fv_command.specs.Runs.{Runs}
+use Rattle.fv_command.specs.Sources.{IsFirstSource, IsSecondSource, unread}
 use Rattle.fv_command.specs.declared.plan.Plan.{Plan}
+use Rattle.fv_command.specs.declared.source.Source.{Source}
 use Rattle.fv_command.specs.declared.status.Status.{Status}
-use Rattle.fv_tool.specs.Refusals.{line_of, status_of}
-use Rattle.fv_tool.specs.Words.{AreTaken, Asks}
+use Rattle.fv_tool.specs.Refusals.{TellsRefusal}
+use Rattle.fv_tool.specs.Words.{AreRight, Asks}
 use Rattle.fv_tool.specs.declared.words.WordFault.{WordFault}
-use Rattle.fv_tool.specs.declared.words.WordFault.TheVariants.{OutOfMemory}
+use Rattle.fv_tool.specs.declared.words.WordFault.TheVariants.{Words}
 
--- a run of the plan, over inputs that are somewhere
-abbrev pub RunsOver : Plan → Status → Shown → Shown → Type 0
-RunsOver p status w v = (r : Shown) × (s : Shown) × (r' : Shown) × (s' : Shown) × Runs p status r s r' s' w v
+-- what a source shows before anything is read of it
+abbrev pub fresh : {S F : Type 0} → (S → Option (List ℕ)) → (F → Option (List ℕ)) → Source S F → Shown
+fresh of_input of_file source = seen (unread of_input of_file source) false
 
--- a refusal of words: there is one behind the program's name, and words that a command with one input takes are refused
--- for want of memory alone
+-- a run of the plan, over the sources that it names
+abbrev pub RunsOver : {S F : Type 0} → (S → Option (List ℕ)) → (F → Option (List ℕ)) → Plan → Status → Shown → Shown → Type 0
+RunsOver {S} {F} of_input of_file p status w v =
+    (first : Source S F) × (second : Source S F) × IsFirstSource (first_file p.command) first
+    × IsSecondSource (second_file p.command) second × (s : Shown) × (s' : Shown)
+    × Runs p status (fresh of_input of_file first) s (fresh of_input of_file second) s' w v
+
+-- a rejection of arguments: there are some after the program's name, and only those that are not right are rejected as wrong
 abbrev pub MayRefuse : List (List ℕ) → WordFault → Type 0
-MayRefuse words fault = (1 < length words) × (AreTaken words → fault ≡ OutOfMemory)
+MayRefuse words fault = (1 < length words) × (fault ≡ Words → AreRight words → ⊥)
 
--- the words are refused; unless the port has erred, the line of that was written, and the status is its own
+-- the arguments are rejected, and that was reported
 abbrev pub TellsWords : List (List ℕ) → Status → Shown → Shown → Type 0
-TellsWords words status w v =
-    (fault : WordFault) × MayRefuse words fault
-    × (v.erred ≡ false → (status ≡ status_of fault) × Appends w.bytes v.bytes (line_of fault))
+TellsWords words status w v = (fault : WordFault) × MayRefuse words fault × TellsRefusal fault status w v
 
--- what the words ask for was run; or they ask for nothing, or memory was wanted, and that was told
-abbrev pub DoesAsked : List (List ℕ) → Status → Shown → Shown → Type 0
-DoesAsked words status w v = ((p : Plan) × Asks words p × RunsOver p status w v) ⊎ TellsWords words status w v
+-- the arguments are right, and the plan that they ask for was run; or they are rejected: those that are not right as wrong
+-- or out of memory, and those that are right out of memory alone
+abbrev pub DoesAsked : {S F : Type 0} → (S → Option (List ℕ)) → (F → Option (List ℕ)) → List (List ℕ) → Status → Shown → Shown
+    → Type 0
+DoesAsked of_input of_file words status w v =
+    ((p : Plan) × Asks words p × RunsOver of_input of_file p status w v) ⊎ TellsWords words status w v

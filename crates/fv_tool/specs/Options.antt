@@ -1,8 +1,10 @@
 -- The options of the commands, as the reader of command lines has them.
-use Rattle.std.specs.Prelude.{ℕ, List, Option, Some, pos, codes}
+use Rattle.std.specs.Prelude.{ℕ, List, Option, Some, codes}
+use Rattle.clap.specs.Faults.{built_fault}
+use Rattle.clap.specs.Kinds.{Kinds}
 use Rattle.clap.specs.Simple.{names_of}
-use Rattle.clap.specs.Walk.{rows_after}
-use Rattle.clap.specs.Words.{App, Row, Rule, built, first_of, new_app, new_rule, one_of, with_rule}
+use Rattle.clap.specs.Walk.{nothing_held, rows_after}
+use Rattle.clap.specs.Words.{App, Row, Rule, built, first_of, new_app, new_rule, with_rule}
 use Rattle.clap.specs.declared.builder.action.ArgAction.TheVariants.{SetTrue}
 use Rattle.clap.specs.declared.builder.value_parser.ValueParser.TheVariants as parsers
 
@@ -21,12 +23,16 @@ all_rule = flag_rule (codes "all")
 abbrev pub option_rule : List ℕ → Rule
 option_rule name = record (new_rule name) { long = Some name }
 
+-- an option of this name, with a number up to `most`
+abbrev pub number_rule : List ℕ → ℕ → Rule
+number_rule name most = record (option_rule name) { parser = Some (parsers.Unsigned 0 most) }
+
 -- the option `--base`, a number of 64 bits, and the option `--instance`, one of 32
 abbrev pub base_rule : Rule
-base_rule = record (option_rule (codes "base")) { parser = Some (parsers.Unsigned 0 18446744073709551615) }
+base_rule = number_rule (codes "base") 18446744073709551615
 
 abbrev pub instance_rule : Rule
-instance_rule = record (option_rule (codes "instance")) { parser = Some (parsers.Signed (pos 0) (pos 4294967295)) }
+instance_rule = number_rule (codes "instance") 4294967295
 
 -- a command with the flag `--hex`
 abbrev pub flag_app : App
@@ -50,13 +56,14 @@ extract_app =
 abbrev pub compare_app : App
 compare_app = with_rule (with_rule flag_app (new_rule (codes "first"))) (new_rule (codes "second"))
 
--- what the reader finds in the words behind the command's name
+-- what the reader finds in the words after the command's name
 abbrev pub rows_in : App → List (List ℕ) → List Row
 rows_in app rest = rows_after (built app).top.rules (names_of (built app)) rest
 
--- the text of an argument, and the text of one that is a number
+-- what the reader finds wrong with them: nothing where it takes them
+abbrev pub faults_in : App → List (List ℕ) → Kinds
+faults_in app rest = built_fault (built app) nothing_held rest
+
+-- the text of an argument
 abbrev pub text_in : App → List ℕ → List (List ℕ) → Option (List ℕ)
 text_in app id rest = first_of id (rows_in app rest)
-
-abbrev pub number_in : App → List ℕ → List (List ℕ) → Option (List ℕ)
-number_in app id rest = one_of id (rows_in app rest)

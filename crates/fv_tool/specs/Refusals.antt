@@ -1,6 +1,7 @@
 -- What refuses a line of words, as the program tells it.
-use Rattle.std.specs.Prelude.{ℕ, List, [], ◌∷◌, ◌++◌, codes}
+use Rattle.std.specs.Prelude.{◌≡◌, ◌⊎◌, ℕ, List, [], ◌∷◌, ◌++◌, codes}
 use Rattle.fv_command.specs.Lines.{fault_line}
+use Rattle.fv_command.specs.PortViews.{Shown, StopsIn, Writes}
 use Rattle.fv_command.specs.declared.status.Status.{Status}
 use Rattle.fv_command.specs.declared.status.Status.TheVariants as statuses
 use Rattle.fv_tool.specs.declared.words.WordFault.{WordFault}
@@ -15,3 +16,8 @@ status_of OutOfMemory = statuses.Refused
 abbrev pub line_of : WordFault → List ℕ
 line_of Words = codes "wrong words" ++ 10 ∷ []
 line_of OutOfMemory = fault_line 24 0
+
+-- a refusal of words was reported: its line was written, and the status is its own; or a write failed in the line
+abbrev pub TellsRefusal : WordFault → Status → Shown → Shown → Type 0
+TellsRefusal fault status w v =
+    ((status ≡ status_of fault) × Writes w v (line_of fault)) ⊎ ((status ≡ statuses.Refused) × StopsIn w v (line_of fault))

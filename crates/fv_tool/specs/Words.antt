@@ -1,14 +1,14 @@
 -- What a line of words asks for.
-use Rattle.std.specs.Prelude.{◌≡◌, ◌⊎◌, ◌<◌, ◌≤◌, ◌^◌, ◌||◌, ℕ, Bool, true, false, List, [], ◌∷◌, length}
+use Rattle.std.specs.Prelude.{◌≡◌, ◌<◌, ◌≤◌, ◌^◌, ◌||◌, ℕ, Bool, true, false, List, [], ◌∷◌, length}
 use Rattle.std.specs.Prelude.{Option, Some, None, String, codes, if◌then◌else◌, option_and_then, option_map}
 use Rattle.std.specs.Str.{bytes_eq}
 use Rattle.std.specs.Str.Parse.{IsNumeral, digits_value, without_leading_plus}
 use Rattle.std.specs.Global.{Global}
 use Rattle.std.specs.String.{string_bytes}
-use Rattle.clap.specs.Takes.{takes}
+use Rattle.clap.specs.Words.{App}
 use Rattle.fv_base.specs.Guids.{guid_read}
 use Rattle.fv_command.specs.declared.extracting.Part.{Part}
-use Rattle.fv_tool.specs.Options.{compare_app, extract_app, hobs_app, normalise_app, number_in, one_input_app, text_in}
+use Rattle.fv_tool.specs.Options.{compare_app, extract_app, faults_in, hobs_app, normalise_app, one_input_app, text_in}
 use Rattle.fv_command.specs.declared.plan.Command.{Command}
 use Rattle.fv_command.specs.declared.plan.Command.TheVariants.{Single, Hobs, Compare}
 use Rattle.fv_command.specs.declared.plan.ImageFile.{ImageFile}
@@ -35,21 +35,19 @@ command_name (Single task file) = task_name task
 command_name (Hobs file image) = codes "hobs"
 command_name (Compare first second) = codes "compare"
 
--- the commands with one input and no option but `--hex`
-abbrev pub HasOneInput : List ℕ → Type 0
-HasOneInput name = (name ≡ codes "list") ⊎ (name ≡ codes "check") ⊎ (name ≡ codes "scan")
+-- the options of the command
+abbrev pub task_app : Task → App
+task_app Normalise = normalise_app
+task_app NormaliseAll = normalise_app
+task_app Listing = one_input_app
+task_app (Extract part) = extract_app
+task_app Check = one_input_app
+task_app Scan = one_input_app
 
--- the name is that of such a command, or of the one that has `--all` besides, and its reader takes the words
-abbrev pub IsTaken : List ℕ → List (List ℕ) → Type 0
-IsTaken name words =
-    ((name ≡ codes "normalise") × (takes normalise_app words ≡ true))
-    ⊎ (HasOneInput name × (takes one_input_app words ≡ true))
-
--- the same of a line of words, of which the first is the program's name
-abbrev pub AreTaken : List (List ℕ) → Type 0
-AreTaken [] = ⊥
-AreTaken (program ∷ []) = ⊥
-AreTaken (program ∷ name ∷ rest) = IsTaken name (name ∷ rest)
+abbrev pub command_app : Command → App
+command_app (Single task file) = task_app task
+command_app (Hobs file image) = hobs_app
+command_app (Compare first second) = compare_app
 
 -- the word stands among the words, before any `--`
 abbrev pub has_flag : List ℕ → List (List ℕ) → Bool
@@ -61,11 +59,10 @@ abbrev pub IsSectionTypeWord : Option (List ℕ) → Option ℕ → Type 0
 IsSectionTypeWord None kind = kind ≡ None
 IsSectionTypeWord (Some text) kind = IsNumeral 16 text × (length text ≤ 2) × (kind ≡ Some (digits_value 16 text))
 
--- a number of so many bits, in decimal digits that a plus may stand before
+-- the text is a decimal numeral, before which a plus may come, and it spells n, a number of so many bits
 abbrev pub IsNumberWord : ℕ → List ℕ → ℕ → Type 0
-IsNumberWord bits text n = IsNumeral 10 (without_leading_plus text)
-    → digits_value 10 (without_leading_plus text) < 2 ^ bits
-    → n ≡ digits_value 10 (without_leading_plus text)
+IsNumberWord bits text n =
+    IsNumeral 10 (without_leading_plus text) × (n ≡ digits_value 10 (without_leading_plus text)) × (n < 2 ^ bits)
 
 -- which section it is, and the first where nothing is given
 abbrev pub IsInstanceWord : Option (List ℕ) → ℕ → Type 0
@@ -83,9 +80,9 @@ abbrev pub IsBaseWord : Option (List ℕ) → ℕ → Type 0
 IsBaseWord None n = ⊥
 IsBaseWord (Some text) n = IsNumberWord 64 text n
 
--- an image that is named, with its base
+-- an image that is named, with its base: neither is given, or both are
 abbrev pub IsImageWords : (path base : Option (List ℕ)) → Option ImageFile → Type 0
-IsImageWords path base None = path ≡ None
+IsImageWords path base None = (path ≡ None) × (base ≡ None)
 IsImageWords path base (Some image) = (path ≡ Some (string_bytes image.path)) × IsBaseWord base image.base
 
 -- a file that is named, if one is
@@ -103,7 +100,7 @@ HasTaskTexts rest Listing file = IsFileWord (text_in one_input_app (codes "file"
 HasTaskTexts rest (Extract part) file =
     IsFileWord (text_in extract_app (codes "file") rest) file
     × IsPartBy (text_in extract_app (codes "name") rest) (text_in extract_app (codes "section") rest)
-    (number_in extract_app (codes "instance") rest) part
+    (text_in extract_app (codes "instance") rest) part
 HasTaskTexts rest Check file = IsFileWord (text_in one_input_app (codes "file") rest) file
 HasTaskTexts rest Scan file = IsFileWord (text_in one_input_app (codes "file") rest) file
 
@@ -111,14 +108,16 @@ abbrev pub HasTexts : List (List ℕ) → Command → Type 0
 HasTexts rest (Single task file) = HasTaskTexts rest task file
 HasTexts rest (Hobs file image) =
     IsFileWord (text_in hobs_app (codes "file") rest) file
-    × IsImageWords (text_in hobs_app (codes "image") rest) (number_in hobs_app (codes "base") rest) image
+    × IsImageWords (text_in hobs_app (codes "image") rest) (text_in hobs_app (codes "base") rest) image
 HasTexts rest (Compare first second) =
     (Some (string_bytes first) ≡ text_in compare_app (codes "first") rest)
     × (Some (string_bytes second) ≡ text_in compare_app (codes "second") rest)
 
--- the plan is that of the command that the first word names, with text where the words behind it have the flag
+-- the plan is that of the command that the first word names; the reader finds no fault in the words after it, and inputs
+-- are text where those have the flag
 pub record AsksBy (name : List ℕ) (rest : List (List ℕ)) (plan : Plan) : Type 0 where
   pub command : name ≡ command_name plan.command
+  pub taken : faults_in (command_app plan.command) rest ≡ []
   pub hex : plan.hex ≡ has_flag (codes "--hex") rest
   pub texts : HasTexts rest plan.command
 
@@ -127,3 +126,11 @@ abbrev pub Asks : List (List ℕ) → Plan → Type 0
 Asks [] plan = plan ≡ plan_without_words
 Asks (program ∷ []) plan = plan ≡ plan_without_words
 Asks (program ∷ name ∷ rest) plan = AsksBy name rest plan
+
+-- the words of a command are right where there is a plan that they ask for
+abbrev pub AreRightFor : List ℕ → List (List ℕ) → Type 0
+AreRightFor name rest = (plan : Plan) × AsksBy name rest plan
+
+-- and so are those of a line
+abbrev pub AreRight : List (List ℕ) → Type 0
+AreRight words = (plan : Plan) × Asks words plan

@@ -2,12 +2,14 @@
 //! status how it went.
 #![tactic(auto)]
 
-ghost use Rattle.fv_base.specs.Port.{inner_of, has_erred};
-ghost use Rattle.fv_command.specs.Inputs.{shown};
+ghost use Rattle.fv_command.specs.Files.{first_file, second_file};
+ghost use Rattle.fv_command.specs.PortViews.{Writes, shown};
+ghost use Rattle.fv_command.specs.Sources.{IsFirstSource, IsSecondSource};
+ghost use Rattle.fv_command.specs.Statuses.{exit_code};
 ghost use Rattle.fv_tool.specs.Does.{DoesAsked, RunsOver};
-ghost use Rattle.fv_tool.specs.Refusals.{line_of, status_of};
-ghost use Rattle.std.specs.Io.KnownBytes.{Appends};
-ghost use Rattle.std.specs.Prelude.{◌≡◌, ◌⊎◌, false, map, Err, IfOk};
+ghost use Rattle.fv_tool.specs.Refusals.{TellsRefusal, line_of};
+ghost use Rattle.std.specs.Prelude.{◌≡◌, map, Err, IfOk};
+ghost use Rattle.std.specs.Process.{exit_status};
 ghost use Rattle.std.specs.String.{string_bytes};
 
 mod options;
@@ -16,11 +18,11 @@ mod tests;
 mod words;
 
 use fv_base::{Fault, FaultKind, Port};
-use fv_command::{Plan, Source, Status, close, open, refuse, run_plan, say};
+use fv_command::{Output, Plan, Source, Status, close, open, refuse, run_plan, say};
 use std::io::{BufWriter, Write};
 use std::process::ExitCode;
 use std::rt::{Env, Files};
-use std::{env, io};
+use std::{env, fs, io};
 use words::{WordFault, parse_words};
 
 // The words that the program was started with.
@@ -34,24 +36,37 @@ fn arguments<R: Env + AllocGlobal>(rt: &R) -> Result<Vec<String>, WordFault> {
     Ok(words)
 }
 
-// Runs a plan over its files, or over standard input.
+// The source of the first input: standard input, where no file is named.
+fn first_source<R: Files + Input>(rt: &R, plan: &Plan) -> Source<R::Reader, R::File>
+    ensures { IsFirstSource (first_file plan.now.command) result }
+{
+    match plan.first() {
+        Some(path) => open(rt, path.as_str()),
+        None => Source::Standard(rt.reader()),
+    }
+}
+
+// The source of the second input: there is none, where no file is named.
+fn second_source<R: Files + Input>(rt: &R, plan: &Plan) -> Source<R::Reader, R::File>
+    ensures { IsSecondSource (second_file plan.now.command) result }
+{
+    match plan.second() {
+        Some(path) => open(rt, path.as_str()),
+        None => Source::Nothing,
+    }
+}
+
+// Runs a plan over its files, or over standard input. Both files are opened before anything is read.
 fn run_over_inputs<R: Files + Input + AllocGlobal, W: Write>(
     rt: &R,
     plan: &Plan,
     writer: &mut Port<W>,
 ) -> Status
-    // What is written, and the status, are those of a run of this plan over some inputs.
-    ensures { RunsOver plan.now result (shown W.contents writer.old)
-        (shown W.contents writer.new) }
+    ensures { RunsOver R.Reader.remaining R.File.remaining plan.now result
+        (shown W.contents writer.old) (shown W.contents writer.new) }
 {
-    let first = match plan.first() {
-        Some(path) => open(rt, path.as_str()),
-        None => Source::Standard(rt.reader()),
-    };
-    let second = match plan.second() {
-        Some(path) => open(rt, path.as_str()),
-        None => Source::Nothing,
-    };
+    let first = first_source(rt, plan);
+    let second = second_source(rt, plan);
     run_plan(
         rt.alloc(),
         plan,
@@ -61,13 +76,9 @@ fn run_over_inputs<R: Files + Input + AllocGlobal, W: Write>(
     )
 }
 
-// Tells that words are wrong, or that no memory was found for them.
+// Reports that words are wrong, or that memory ran out while they were read.
 fn refuse_words<W: Write>(writer: &mut Port<W>, fault: WordFault) -> Status
-    ensures status { (result ≡ status_of fault) ⊎ (result ≡ Status.Refused) }
-
-    // Unless the port has erred, the line was written and the status is that of the fault.
-    ensures said { has_erred writer.new ≡ false → (result ≡ status_of fault)
-        × Appends (W.contents (inner_of writer.old)) (W.contents (inner_of writer.new)) (line_of fault) }
+    ensures { TellsRefusal fault result (shown W.contents writer.old) (shown W.contents writer.new) }
 {
     match fault {
         WordFault::Words => say(writer, "wrong words\n", Status::WrongWords),
@@ -75,25 +86,23 @@ fn refuse_words<W: Write>(writer: &mut Port<W>, fault: WordFault) -> Status
     }
 }
 
-// Does what the words ask for, or tells why they are refused.
+// Does what the words ask for, or reports why they are refused.
 fn run_given<R: Files + Input + AllocGlobal, W: Write>(
     rt: &R,
     words: Result<Vec<String>, WordFault>,
     writer: &mut Port<W>,
 ) -> Status
-    // Words that were not found are told.
-    ensures none { (fault : WordFault) → words ≡ Err fault → has_erred writer.new ≡ false
-        → (result ≡ status_of fault)
-        × Appends (W.contents (inner_of writer.old)) (W.contents (inner_of writer.new)) (line_of fault) }
+    // Words that were not found are reported.
+    ensures none { (fault : WordFault) → words ≡ Err fault
+        → TellsRefusal fault result (shown W.contents writer.old) (shown W.contents writer.new) }
 
-    // What words ask for is run; words that ask for nothing are told, and so is want of memory.
-    ensures given { IfOk words (λ ws. DoesAsked (map string_bytes ws.items) result
-        (shown W.contents writer.old)
-        (shown W.contents writer.new)) }
+    // What words ask for is run; words that ask for nothing are reported, and so is a lack of memory.
+    ensures given { IfOk words (λ ws. DoesAsked R.Reader.remaining R.File.remaining (map string_bytes ws.items) result
+        (shown W.contents writer.old) (shown W.contents writer.new)) }
 
-    // Wrong words are told, and only they.
-    ensures wrong { result ≡ Status.WrongWords → has_erred writer.new ≡ false
-        → Appends (W.contents (inner_of writer.old)) (W.contents (inner_of writer.new)) (line_of WordFault.Words) }
+    // Wrong words are reported, and only they.
+    ensures wrong { result ≡ Status.WrongWords
+        → Writes (shown W.contents writer.old) (shown W.contents writer.new) (line_of WordFault.Words) }
 {
     let plan = match words {
         Ok(words) => parse_words(rt.alloc(), &words),
@@ -105,18 +114,36 @@ fn run_given<R: Files + Input + AllocGlobal, W: Write>(
     }
 }
 
+// Holds the numbers below 3 that are closed, so that no file of the run is taken for a standard
+// stream: a read and a write of a directory fail, as those of a closed number do.
+fn hold_numbers<R: Files>(rt: &R) -> [Option<R::File>; 3] {
+    [
+        fs::open(rt, "/").ok(),
+        fs::open(rt, "/").ok(),
+        fs::open(rt, "/").ok(),
+    ]
+}
+
+// The exit code of a status.
+fn exit_with(status: Status) -> ExitCode
+    ensures { exit_status result ≡ exit_code status }
+{
+    ExitCode::from(status.code())
+}
+
 // Does what the words of the command line ask for, and ends with the exit code of its status.
 fn main(rt: HostRuntime) -> ExitCode {
-    let status = match BufWriter::new(rt.alloc(), io::writer(&rt)) {
+    let _held = hold_numbers(&rt);
+    let status = match BufWriter::new(rt.alloc(), Output::new(io::writer(&rt))) {
         Ok(buffered) => {
-            let mut writer = Port::new(buffered);
-            let status = run_given(&rt, arguments(&rt), &mut writer);
-            close(writer, status)
+            let mut port = Port::new(buffered);
+            let status = run_given(&rt, arguments(&rt), &mut port);
+            close(port, status).0
         }
         Err(_) => {
-            let mut writer = Port::new(io::writer(&rt));
-            refuse(&mut writer, Fault::outer(FaultKind::OutOfMemory, 0))
+            let mut port = Port::new(io::writer(&rt));
+            refuse(&mut port, Fault::outer(FaultKind::OutOfMemory, 0))
         }
     };
-    ExitCode::from(status.code())
+    exit_with(status)
 }

@@ -1,17 +1,19 @@
 //! The commands and their options, as they are given to the reader of command lines.
 
-ghost use Rattle.clap.specs.Words.{app_of, first_value, found_of, one_text, rule_of, takes};
+ghost use Rattle.clap.specs.Words.{app_of, first_value, found_of, rule_of};
 ghost use Rattle.fv_tool.specs.Options.{compare_app, extract_app, flag_app, hobs_app, normalise_app, one_input_app};
-ghost use Rattle.fv_tool.specs.Options.{text_in, base_rule, flag_rule, instance_rule, option_rule};
-ghost use Rattle.fv_tool.specs.Words.{AsksBy, IsFileWord, IsTaken, has_flag};
-ghost use Rattle.fv_tool.specs.Words.{IsImageWords, IsInstanceWord, IsPartBy, IsSectionTypeWord};
+ghost use Rattle.fv_tool.specs.Options.{faults_in, flag_rule, number_rule, option_rule, text_in};
+ghost use Rattle.fv_tool.specs.Words.{AreRightFor, AsksBy, IsFileWord, IsSectionTypeWord, has_flag};
+ghost use Rattle.fv_base.specs.Guids.{guid_read};
 ghost use Rattle.std.specs.String.{string_bytes};
-ghost use Rattle.std.specs.Prelude.{◌≡◌, ◌≤◌, false, codes, drop, length, map, option_map, true, IfErr, IfOk, SomeIff};
+ghost use Rattle.std.specs.Prelude.{◌≡◌, ◌≢◌, ◌≤◌, ℕ, None, Option, Some, [], false, codes, drop, is_some, length, map};
+ghost use Rattle.std.specs.Prelude.{option_and_then, option_map, true, IfErr, IfOk, SomeIff};
 ghost use Rattle.std.specs.Str.Parse.{IsNumeral, digits_value};
 
 use crate::words::WordFault;
+use clap::builder::ValueParser;
 use clap::error::ErrorKind;
-use clap::{Arg, ArgAction, ArgMatches, value_parser};
+use clap::{Arg, ArgAction, ArgMatches};
 use fv_base::Guid;
 use fv_command::{Command, ImageFile, Part, Plan, Task};
 use std::alloc::{AllocError, Global};
@@ -50,20 +52,12 @@ fn text_option<'a>(alloc: Global, name: &'static str) -> Arg<'a>
     Arg::new(alloc, name).long(name)
 }
 
-// The option `--base`: the address of an image's first byte.
-fn base_option<'a>(alloc: Global) -> Arg<'a>
-    ensures rule { rule_of result ≡ base_rule }
+// An option of this name, with a decimal number up to `most` as its value.
+fn number_option<'a>(alloc: Global, name: &'static str, most: u64) -> Arg<'a>
+    ensures rule { rule_of result ≡ number_rule name.now most }
     ensures local { result.global ≡ false }
 {
-    text_option(alloc, "base").value_parser(value_parser!(u64))
-}
-
-// The option `--instance`: which of the sections of a type is written.
-fn instance_option<'a>(alloc: Global) -> Arg<'a>
-    ensures rule { rule_of result ≡ instance_rule }
-    ensures local { result.global ≡ false }
-{
-    text_option(alloc, "instance").value_parser(value_parser!(u32))
+    text_option(alloc, name).value_parser(ValueParser::unsigned(0, most))
 }
 
 // The words of a command with the flag that inputs and outputs are text.
@@ -89,28 +83,28 @@ fn normalise_words<'a>(alloc: Global) -> Result<clap::Command<'a>, AllocError>
         .arg(Arg::new(alloc, "file"))
 }
 
-// The words of `hobs`. That an image and a base come together is looked at behind the reading.
+// The words of `hobs`. That an image and a base come together is looked at after the reading.
 fn hobs_words<'a>(alloc: Global) -> Result<clap::Command<'a>, AllocError>
     ensures { IfOk result (λ c. app_of c ≡ hobs_app) }
 {
     flag_words(alloc)?
         .arg(text_option(alloc, "image"))?
-        .arg(base_option(alloc))?
+        .arg(number_option(alloc, "base", u64::MAX))?
         .arg(Arg::new(alloc, "file"))
 }
 
-// The words of `extract`. That a file is named is looked at behind the reading.
+// The words of `extract`. That a file is named is looked at after the reading.
 fn extract_words<'a>(alloc: Global) -> Result<clap::Command<'a>, AllocError>
     ensures { IfOk result (λ c. app_of c ≡ extract_app) }
 {
     flag_words(alloc)?
         .arg(text_option(alloc, "name"))?
         .arg(text_option(alloc, "section"))?
-        .arg(instance_option(alloc))?
+        .arg(number_option(alloc, "instance", u64::from(u32::MAX)))?
         .arg(Arg::new(alloc, "file"))
 }
 
-// The words of `compare`, which has two inputs. That both are named is looked at behind the
+// The words of `compare`, which has two inputs. That both are named is looked at after the
 // reading.
 fn compare_words<'a>(alloc: Global) -> Result<clap::Command<'a>, AllocError>
     ensures { IfOk result (λ c. app_of c ≡ compare_app) }
@@ -140,9 +134,11 @@ fn one_input(alloc: Global, words: &[String]) -> Result<(bool, Option<String>), 
     ensures file { IfOk result (λ r. IsFileWord (text_in one_input_app (codes "file")
         (drop 1 (map string_bytes words.now))) r.1) }
 
-    // Words that the reader takes are refused for want of memory alone.
-    ensures taken { IfErr result (λ f. takes one_input_app (map string_bytes words.now) ≡ true
-        → f ≡ WordFault.OutOfMemory) }
+    // The words are taken where the reader finds no fault in them, and refused as wrong where it
+    // finds one.
+    ensures taken { IfOk result (λ _. faults_in one_input_app (drop 1 (map string_bytes words.now)) ≡ []) }
+    ensures wrong { IfErr result (λ f. f ≡ WordFault.Words
+        → faults_in one_input_app (drop 1 (map string_bytes words.now)) ≢ []) }
 {
     let matches = one_input_words(alloc)?.try_get_matches_from(words)?;
     Ok((matches.get_flag("hex"), file_of(alloc, &matches, "file")?))
@@ -164,9 +160,9 @@ fn normalise_task(all: bool) -> Task
 fn normalise(alloc: Global, words: &[String]) -> Result<Plan, WordFault>
     ensures asked { IfOk result (AsksBy (codes "normalise") (drop 1 (map string_bytes words.now))) }
 
-    // Words that the reader takes are refused for want of memory alone.
-    ensures taken { IfErr result (λ f. takes normalise_app (map string_bytes words.now) ≡ true
-        → f ≡ WordFault.OutOfMemory) }
+    // No words that are right are refused as wrong.
+    ensures wrong { IfErr result (λ f. f ≡ WordFault.Words
+        → AreRightFor (codes "normalise") (drop 1 (map string_bytes words.now)) → ⊥) }
 {
     let matches = normalise_words(alloc)?.try_get_matches_from(words)?;
     let task = normalise_task(matches.get_flag("all"));
@@ -174,12 +170,17 @@ fn normalise(alloc: Global, words: &[String]) -> Result<Plan, WordFault>
     Ok(single(task, (matches.get_flag("hex"), file)))
 }
 
-// The image that was named, with its base: one without the other is wrong.
-fn image_of(alloc: Global, matches: &ArgMatches<'_>) -> Result<Option<ImageFile>, WordFault>
-    ensures { IfOk result (IsImageWords (first_value (found_of matches.now) (codes "image"))
-        (one_text (found_of matches.now) (codes "base"))) }
+// The image of this path and this base, if they are given: one without the other is wrong.
+fn image_of(
+    alloc: Global,
+    path: Option<&str>,
+    base: Option<u64>,
+) -> Result<Option<ImageFile>, WordFault>
+    ensures path { IfOk result (λ i. option_map (λ f. string_bytes f.path) i ≡ option_map (λ s. s.now) path.entry) }
+    ensures base { IfOk result (λ i. option_map (λ f. f.base) i ≡ base) }
+    ensures wrong { IfErr result (λ f. f ≡ WordFault.Words → is_some path.entry ≢ is_some base) }
 {
-    match (matches.get_str("image"), matches.get_one::<u64>("base")) {
+    match (path, base) {
         (None, None) => Ok(None),
         (Some(path), Some(base)) => Ok(Some(ImageFile {
             path: String::from_str(alloc, path)?,
@@ -191,14 +192,19 @@ fn image_of(alloc: Global, matches: &ArgMatches<'_>) -> Result<Option<ImageFile>
 
 // A list, and the image that its volumes are looked for in.
 fn hobs(alloc: Global, words: &[String]) -> Result<Plan, WordFault>
-    ensures { IfOk result (AsksBy (codes "hobs") (drop 1 (map string_bytes words.now))) }
+    ensures asked { IfOk result (AsksBy (codes "hobs") (drop 1 (map string_bytes words.now))) }
+
+    // No words that are right are refused as wrong.
+    ensures wrong { IfErr result (λ f. f ≡ WordFault.Words
+        → AreRightFor (codes "hobs") (drop 1 (map string_bytes words.now)) → ⊥) }
 {
     let matches = hobs_words(alloc)?.try_get_matches_from(words)?;
+    let (path, base) = (matches.get_str("image"), matches.get_one::<u64>("base"));
     Ok(Plan {
         hex: matches.get_flag("hex"),
         command: Command::Hobs {
             file: file_of(alloc, &matches, "file")?,
-            image: image_of(alloc, &matches)?,
+            image: image_of(alloc, path, base)?,
         },
     })
 }
@@ -216,11 +222,13 @@ fn section_type(text: &str) -> Option<u8>
     }
 }
 
-// The type of the section that was named, if one was.
-fn section_of(matches: &ArgMatches<'_>) -> Result<Option<u8>, WordFault>
-    ensures { IfOk result (IsSectionTypeWord (first_value (found_of matches.now) (codes "section"))) }
+// The type of the section that a text names, if one is given.
+fn section_of(text: Option<&str>) -> Result<Option<u8>, WordFault>
+    ensures named { IfOk result (IsSectionTypeWord (option_map (λ s. s.now) text.entry)) }
+    ensures wrong { IfErr result (λ _. (kind : Option ℕ)
+        → IsSectionTypeWord (option_map (λ s. s.now) text.entry) kind → ⊥) }
 {
-    let Some(text) = matches.get_str("section") else {
+    let Some(text) = text else {
         return Ok(None);
     };
     match section_type(text) {
@@ -229,41 +237,39 @@ fn section_of(matches: &ArgMatches<'_>) -> Result<Option<u8>, WordFault>
     }
 }
 
-// Which of the sections of a type was asked for: the first where none was.
-fn instance_of(matches: &ArgMatches<'_>) -> u32
-    ensures { IsInstanceWord (one_text (found_of matches.now) (codes "instance")) result }
+// The name of the file that a text gives, as a GUID: it has to be given.
+fn name_of(text: Option<&str>) -> Result<Guid, WordFault>
+    ensures named { IfOk result (λ name. option_and_then guid_read (option_map (λ s. s.now) text.entry) ≡ Some name) }
+    ensures wrong { IfErr result (λ _. option_and_then guid_read (option_map (λ s. s.now) text.entry) ≡ None) }
 {
-    matches.get_one::<u32>("instance").unwrap_or(1)
-}
-
-// The part of a volume that was named: the file by its GUID, and the first section of a type where
-// no other was asked for.
-fn part_of(matches: &ArgMatches<'_>) -> Result<Part, WordFault>
-    ensures { IfOk result (IsPartBy (first_value (found_of matches.now) (codes "name"))
-        (first_value (found_of matches.now) (codes "section")) (one_text (found_of matches.now) (codes "instance"))) }
-{
-    let Some(text) = matches.get_str("name") else {
+    let Some(text) = text else {
         return Err(WordFault::Words);
     };
-    let Some(name) = Guid::parse(text) else {
-        return Err(WordFault::Words);
-    };
-    Ok(Part {
-        name,
-        section: section_of(matches)?,
-        instance: instance_of(matches),
-    })
+    match Guid::parse(text) {
+        Some(name) => Ok(name),
+        None => Err(WordFault::Words),
+    }
 }
 
-// A volume, and the part of it that is written.
+// A volume, and the part of it that is written: the first section of a type where no other is
+// asked for.
 fn extract(alloc: Global, words: &[String]) -> Result<Plan, WordFault>
-    ensures { IfOk result (AsksBy (codes "extract") (drop 1 (map string_bytes words.now))) }
+    ensures asked { IfOk result (AsksBy (codes "extract") (drop 1 (map string_bytes words.now))) }
+
+    // No words that are right are refused as wrong.
+    ensures wrong { IfErr result (λ f. f ≡ WordFault.Words
+        → AreRightFor (codes "extract") (drop 1 (map string_bytes words.now)) → ⊥) }
 {
     let matches = extract_words(alloc)?.try_get_matches_from(words)?;
+    let part = Part {
+        name: name_of(matches.get_str("name"))?,
+        section: section_of(matches.get_str("section"))?,
+        instance: matches.get_one::<u32>("instance").unwrap_or(1),
+    };
     Ok(Plan {
         hex: matches.get_flag("hex"),
         command: Command::Single {
-            task: Task::Extract(part_of(&matches)?),
+            task: Task::Extract(part),
             file: file_of(alloc, &matches, "file")?,
         },
     })
@@ -271,7 +277,11 @@ fn extract(alloc: Global, words: &[String]) -> Result<Plan, WordFault>
 
 // The two files that are compared: both have to be named.
 fn compare(alloc: Global, words: &[String]) -> Result<Plan, WordFault>
-    ensures { IfOk result (AsksBy (codes "compare") (drop 1 (map string_bytes words.now))) }
+    ensures asked { IfOk result (AsksBy (codes "compare") (drop 1 (map string_bytes words.now))) }
+
+    // No words that are right are refused as wrong.
+    ensures wrong { IfErr result (λ f. f ≡ WordFault.Words
+        → AreRightFor (codes "compare") (drop 1 (map string_bytes words.now)) → ⊥) }
 {
     let matches = compare_words(alloc)?.try_get_matches_from(words)?;
     match (matches.get_str("first"), matches.get_str("second")) {
@@ -306,9 +316,9 @@ fn single(task: Task, given: (bool, Option<String>)) -> Plan
 pub fn parse_command(alloc: Global, name: &str, words: &[String]) -> Result<Plan, WordFault>
     ensures asked { IfOk result (AsksBy name.now (drop 1 (map string_bytes words.now))) }
 
-    // Of a command with one input and no option but flags, words that the reader takes are refused
-    // for want of memory alone.
-    ensures taken { IfErr result (λ f. IsTaken name.now (map string_bytes words.now) → f ≡ WordFault.OutOfMemory) }
+    // No words that are right are refused as wrong.
+    ensures wrong { IfErr result (λ f. f ≡ WordFault.Words
+        → AreRightFor name.now (drop 1 (map string_bytes words.now)) → ⊥) }
 {
     match name {
         "normalise" => normalise(alloc, words),

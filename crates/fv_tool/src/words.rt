@@ -2,7 +2,7 @@
 
 ghost use Rattle.std.specs.String.{string_bytes};
 ghost use Rattle.std.specs.Prelude.{◌≡◌, ◌≤◌, length, map, IfErr, IfOk, Ok};
-ghost use Rattle.fv_tool.specs.Words.{AreTaken, Asks, plan_without_words};
+ghost use Rattle.fv_tool.specs.Words.{AreRight, Asks, plan_without_words};
 
 use crate::options::parse_command;
 use fv_command::{Command, Plan, Task};
@@ -47,7 +47,7 @@ impl From<io::Error> for WordFault {
     }
 }
 
-/// Reads a line of words, of which the first is the program's name. With no word behind it the
+/// Reads a line of words, of which the first is the program's name. With no word after it the
 /// plan is to normalise hexadecimal text from standard input.
 ///
 /// # Errors
@@ -56,12 +56,12 @@ impl From<io::Error> for WordFault {
 pub fn parse_words(alloc: Global, words: &[String]) -> Result<Plan, WordFault>
     ensures none { length words.now ≤ 1 → result ≡ Ok plan_without_words }
 
-    // The plan is of the command that is named, and its inputs are text where the flag says so.
-    ensures asked { IfOk result (Asks (map string_bytes words.now)) }
+    // A plan comes only of words that are right: it is what they ask for.
+    ensures right { IfOk result (Asks (map string_bytes words.now)) }
 
-    // Of a command with one input and no option but flags, words that the reader takes are refused
-    // for want of memory alone.
-    ensures taken { IfErr result (λ f. AreTaken (map string_bytes words.now) → f ≡ WordFault.OutOfMemory) }
+    // And only words that are not are refused as wrong: right words are refused for OutOfMemory
+    // alone.
+    ensures wrong { IfErr result (λ f. f ≡ WordFault.Words → AreRight (map string_bytes words.now) → ⊥) }
 {
     if words.len() <= 1 {
         return Ok(Plan {

@@ -4,6 +4,7 @@ use super::fakes::{EndlessReader, FakeReader, FakeWriter, InterruptedReader, Spa
 use super::runs::{ends_as, plan_of, shown};
 use super::volumes::row_of;
 use crate::hex_text::read_hex;
+use crate::inputs::read_bytes;
 use crate::plan::Plan;
 use crate::source::Source;
 use fv_base::{Fault, FaultKind, Port};
@@ -85,4 +86,19 @@ fn interruptions_run_out(rt: HostRuntime) {
     let fault = read_hex(rt.alloc(), &mut port).err();
     assert!(rt; fault == Some(Fault::outer(FaultKind::ReadFault, 2)));
     assert!(rt; port.into_inner().calls == 1_073_741_826);
+}
+
+// The bytes `ab`, or their digits as text, from a reader each of whose second calls is interrupted.
+fn reads_on(alloc: Global, hex: bool, given: &[u8]) -> bool {
+    let mut port = Port::new(FakeReader::new(given, 1, true));
+    match read_bytes(alloc, hex, &mut port) {
+        Ok(bytes) => bytes.as_slice() == b"ab".as_slice(),
+        Err(_) => false,
+    }
+}
+
+#[test]
+fn an_interrupted_read_does_not_end_a_run(rt: HostRuntime) {
+    assert!(rt; reads_on(rt.alloc(), false, b"ab"));
+    assert!(rt; reads_on(rt.alloc(), true, b"6162"));
 }

@@ -1,7 +1,7 @@
-use Rattle.std.proofs.Common.{length, take, arith, subst, length-drop, ◌≤◌}
+use Rattle.std.proofs.Common.{◌∙◌, length, take, arith, subst, length-drop, ◌≤◌}
 use Rattle.std.specs.Io.KnownBytes.{Appends}
-use Rattle.fv_base.specs.Port.{inner_of}
-use Rattle.fv_base.proofs.SinkLemmas.{more_written}
+use Rattle.fv_base.specs.Port.{inner_of, has_erred}
+use Rattle.fv_base.proofs.SinkLemmas.{more_written, some_taken}
 use Rattle.fv_base.proofs.sink.write_front.Goals as goal
 
 pub loop-at-preserved : goal.loop-at-preserved
@@ -12,4 +12,7 @@ loop-at-preserved g c =
     let bound = subst (λ xs. c.in-Ok.count ≤ length xs) c.bytes_from.ensures c.in-Ok.ensures.bound in (
       omega (arith, length-drop c.loop-at.at bytes, bound),
       more_written _ _ _ c.loop-at.at c.in-Ok.count bytes c.loop-at.invariant.1 appended,
+      c.in-Ok.ensures.erred
+          ∙ (some_taken (has_erred c.loop-at.port) c.in-Ok.count c.bytes_from.result.now (omega (arith, c.in-Ok.count-is))
+          ∙ c.loop-at.invariant.2),
     )

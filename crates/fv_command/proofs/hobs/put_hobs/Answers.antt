@@ -5,7 +5,7 @@ use Rattle.fv_command.proofs.WriteLemmas.{tells_none}
 use Rattle.fv_command.proofs.hobs.put_hobs.Goals as goal
 
 pub loop-hob-init : goal.loop-hob-init
-loop-hob-init g c = tells_none g.S.Sink.laws (HobLines (held_image c.args.image)) c.args.hobs.now c.args.out.now
+loop-hob-init g c = tells_none g.S.Sink.laws (λ _. HobLines (held_image c.args.image)) c.args.hobs.now c.args.out.now
 
 pub loop-hob-preserved : goal.loop-hob-preserved
 loop-hob-preserved g c =

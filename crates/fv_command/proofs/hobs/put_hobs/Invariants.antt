@@ -4,4 +4,4 @@ use Rattle.fv_command.proofs.WriteLemmas.{Tells}
 use Rattle.fv_command.proofs.hobs.put_hobs.Given as goal
 
 abbrev pub invariant-loop-hob : goal.invariant-loop-hob
-invariant-loop-hob g l = Tells g.S.Sink.takes (HobLines (held_image l.image)) l.hobs l.hob-index l.initial.out l.out
+invariant-loop-hob g l = Tells g.S.Sink.takes (λ _. HobLines (held_image l.image)) l.hobs l.hob-index l.initial.out l.out

@@ -1,9 +1,14 @@
-use Rattle.std.proofs.Common.{length}
-use Rattle.fv_command.specs.Puts.{PutsSome}
+use Rattle.std.proofs.Common.{◌≡◌, ◌++◌, ℕ, List, length}
+use Rattle.std.specs.List.{flat_map}
+use Rattle.fv_base.specs.Sums.{words_of}
+use Rattle.fv_command.specs.ListTexts.{unit_text}
 use Rattle.fv_command.proofs.listing.put_units.Given as goal
 
+-- the text so far, and that of the units to come, make the whole
 abbrev pub invariant-loop-rest : goal.invariant-loop-rest
-invariant-loop-rest g l = PutsSome g.S.Sink.takes l.initial.out l.out
+invariant-loop-rest g l =
+    (text : List ℕ) × g.S.Sink.takes l.initial.out text l.out
+    × (text ++ flat_map unit_text (words_of l.rest) ≡ flat_map unit_text (words_of l.fn.units))
 
 abbrev pub decreases-loop-rest : goal.decreases-loop-rest
 decreases-loop-rest g l = length l.rest

@@ -1,8 +1,8 @@
-use Rattle.std.proofs.Common.{[], ◌≡◌, ◌∙◌, ap, codes, map, refl, true}
-use Rattle.clap.specs.Words.{App, takes}
-use Rattle.fv_tool.proofs.RefusalLemmas.{handed_on}
+use Rattle.std.proofs.Common.{[], ◌≡◌, ◌∙◌, codes, map, refl}
+use Rattle.clap.specs.Words.{HasKind, fault_of}
 use Rattle.std.specs.String.{string_bytes}
 use Rattle.fv_tool.proofs.FlagLemmas.{flag_answer, text_answer}
+use Rattle.fv_tool.proofs.RefusalLemmas.{by_app, refused_for}
 use Rattle.fv_tool.specs.Options.{one_input_app}
 use Rattle.fv_tool.proofs.options.one_input.Goals as goal
 
@@ -24,9 +24,15 @@ returns-clause-file c =
     let app = c.in_ok-one_input_words.ensures in
     c.in_ok-file_of.ensures ∙ text_answer one_input_app refl refl _ app words m found (codes "file")
 
-pub returns-in_err-matches-clause-taken : goal.returns-in_err-matches-clause-taken
-returns-in_err-matches-clause-taken c =
+pub returns-clause-taken : goal.returns-clause-taken
+returns-clause-taken c =
+    let words = map string_bytes c.args.words.now in
+    by_app (λ a. fault_of a words ≡ []) one_input_app refl _ c.in_ok-one_input_words.ensures c.in_ok-matches.ensures.kinds
+
+pub returns-in_err-matches-clause-wrong : goal.returns-in_err-matches-clause-wrong
+returns-in_err-matches-clause-wrong c =
     let words = map string_bytes c.args.words.now in
     let failed = c.from_residual-in_err-matches in
-    handed_on failed.result c.in_err-matches.field-0.0 (takes one_input_app words ≡ true) failed.ensures.1
-    (λ p. c.in_err-matches.ensures.passes (ap (λ (a : App). takes a words) c.in_ok-one_input_words.ensures ∙ p))
+    let e = c.in_err-matches.field-0.0 in
+    refused_for failed.result e (fault_of one_input_app words) failed.ensures.1
+    (by_app (λ a. HasKind (fault_of a words) e) one_input_app refl _ c.in_ok-one_input_words.ensures c.in_err-matches.ensures.kinds)

@@ -1,0 +1,146 @@
+-- The text of `list`: a line for a volume, for each of its files and for each section of these, in their order. What a part
+-- holds follows its line, two spaces further in.
+use Rattle.std.specs.Prelude.{◌≡◌, ◌≢◌, ◌⊎◌, ℕ, zero, suc, ◌+◌, ◌==◌, ◌&&◌, nat_le, not, Bool, true, false, if◌then◌else◌}
+use Rattle.std.specs.Prelude.{List, [], ◌∷◌, ◌++◌, length, Option, Some, None, codes, decimal}
+use Rattle.std.specs.List.{flat_map}
+use Rattle.hex.specs.Hex.{encode_lower}
+use Rattle.fv_base.specs.Guids.{bytes_of, guid_text}
+use Rattle.fv_base.specs.Sums.{words_of}
+use Rattle.fv_base.specs.declared.flash.FileSystem.{FileSystem}
+use Rattle.fv_base.specs.declared.flash.FileSystem.TheVariants.{Ffs2, Ffs3}
+use Rattle.fv_base.specs.declared.guid.Guid.{Guid}
+use Rattle.fv_canon.specs.ComparisonLines.{line_feed}
+use Rattle.fv_head.specs.Ext.{Extension}
+use Rattle.fv_section.specs.Texts.{IsText, IsVersion, IsFreeform}
+use Rattle.fv_tree.specs.Meaning.{Meaning, Volume, FileMeanings, NoFiles, MoreFiles, FileMeaning, File, ContentMeaning, Plain, Sectioned}
+use Rattle.fv_tree.specs.Meaning.{SectionMeanings, NoSections, MoreSections, SectionMeaning, Section, BodyMeaning, Leaf, Group, Nested}
+use Rattle.fv_tree.specs.Meaning.{head_of, files_of, file_name_of, file_kind_of, attributes_of, data_len_of}
+use Rattle.fv_tree.specs.Meaning.{section_kind_of, section_is_extended, body_of, body_len}
+use Rattle.fv_command.specs.HobLines.{four_digits}
+
+-- ---- what a leaf shows
+
+-- the units 0020 to 007E but the quote (0022) and the backslash (005C) are plain
+abbrev pub is_plain : ℕ → Bool
+is_plain unit = nat_le 0x20 unit && (nat_le unit 0x7e && (not (unit == 0x22) && not (unit == 0x5c)))
+
+-- a plain unit is shown as its character, any other by `\u` and four digits
+abbrev pub unit_text : ℕ → List ℕ
+unit_text unit = if is_plain unit then unit ∷ [] else codes "\\u" ++ four_digits unit
+
+-- what is held is shown by a text, and where nothing is held the text is empty
+abbrev pub Shows : {A : Type 0} → (A → Type 0) → (A → List ℕ) → List ℕ → Type 0
+Shows {A = A} Holds shown text = ((x : A) × Holds x × (text ≡ shown x)) ⊎ (((x : A) → Holds x → ⊥) × (text ≡ []))
+
+-- the build number of a version, the text of a user interface section, and the GUID of a freeform subtype section
+abbrev pub VersionText : List ℕ → List ℕ → Type 0
+VersionText b text =
+    Shows (λ (build : ℕ). (units : List ℕ) × IsVersion b build units) (λ build. codes " version " ++ decimal build) text
+
+abbrev pub InterfaceText : List ℕ → List ℕ → Type 0
+InterfaceText b text =
+    Shows (λ (units : List ℕ). IsText b units)
+    (λ units. codes " ui \"" ++ (flat_map unit_text (words_of units) ++ codes "\"")) text
+
+abbrev pub SubtypeText : List ℕ → List ℕ → Type 0
+SubtypeText b text =
+    Shows (λ (guid : Guid). (rest : List ℕ) × IsFreeform b guid rest) (λ guid. codes " subtype " ++ guid_text (bytes_of guid)) text
+
+-- what is shown of a leaf, by its type
+pub record LeafText (kind : ℕ) (b text : List ℕ) : Type 0 where
+  pub version : kind ≡ 0x14 → VersionText b text
+  pub interface : kind ≡ 0x15 → InterfaceText b text
+  pub subtype : kind ≡ 0x18 → SubtypeText b text
+  pub other : kind ≢ 0x14 → kind ≢ 0x15 → kind ≢ 0x18 → text ≡ []
+
+-- what is shown of the body of a section: nothing, where it is no leaf
+abbrev pub BodyShown : ℕ → BodyMeaning → List ℕ → Type 0
+BodyShown kind (Leaf b) text = LeafText kind b text
+BodyShown kind (Group _ _) text = text ≡ []
+BodyShown kind (Nested _) text = text ≡ []
+
+-- ---- lines
+
+-- two spaces for each level
+abbrev pub spaces : ℕ → List ℕ
+spaces zero = []
+spaces (suc k) = codes "  " ++ spaces k
+
+-- a byte by two lower-case hexadecimal digits
+abbrev pub two_digits : ℕ → List ℕ
+two_digits n = encode_lower (n ∷ [])
+
+-- the line of a volume k levels further in, with its name, where it has an extended header
+abbrev pub system_text : FileSystem → List ℕ
+system_text Ffs2 = codes "volume ffs2 length "
+system_text Ffs3 = codes "volume ffs3 length "
+
+abbrev pub name_text : Option Extension → List ℕ
+name_text None = []
+name_text (Some ext) = codes " name " ++ guid_text (bytes_of ext.name)
+
+abbrev pub volume_text : ℕ → Meaning → List ℕ
+volume_text k m =
+    spaces k ++ (system_text (head_of m).file_system ++ (decimal (head_of m).length ++ (codes " files "
+    ++ (decimal (length (files_of m)) ++ (name_text (head_of m).ext ++ line_feed)))))
+
+-- the line of a file, which has the number i in its volume
+abbrev pub file_text : ℕ → ℕ → FileMeaning → List ℕ
+file_text k i f =
+    spaces k ++ (codes "file " ++ (decimal i ++ (codes " " ++ (guid_text (bytes_of (file_name_of f))
+    ++ (codes " type " ++ (two_digits (file_kind_of f)
+    ++ (codes " attributes " ++ (two_digits (attributes_of f) ++ (codes " data " ++ (decimal (data_len_of f) ++ line_feed))))))))))
+
+-- the line of a section, which has the number j in its stream and of whose body this is shown
+abbrev pub form_text : Bool → List ℕ
+form_text true = codes " extended body "
+form_text false = codes " short body "
+
+abbrev pub section_text : ℕ → ℕ → SectionMeaning → List ℕ → List ℕ
+section_text k j s shown =
+    spaces k ++ (codes "section " ++ (decimal j ++ (codes " type " ++ (two_digits (section_kind_of s)
+    ++ (form_text (section_is_extended s) ++ (decimal (body_len (body_of s)) ++ (shown ++ line_feed)))))))
+
+-- ---- the walk
+
+abbrev mutual
+  -- the line of a volume k levels further in, and the lines of its files
+  pub VolumeLines : ℕ → Meaning → List ℕ → Type 0
+  VolumeLines k (Volume head files) text =
+      (rest : List ℕ) × (text ≡ volume_text k (Volume head files) ++ rest) × FilesLines (k + 1) 0 files rest
+
+  -- those of files, of which the first has the number i
+  pub FilesLines : ℕ → ℕ → FileMeanings → List ℕ → Type 0
+  FilesLines k i NoFiles text = text ≡ []
+  FilesLines k i (MoreFiles f files) text =
+      (here : List ℕ) × (rest : List ℕ) × (text ≡ here ++ rest) × FileLines k i f here × FilesLines k (i + 1) files rest
+
+  -- the line of a file, and those of its sections, where it holds some
+  pub FileLines : ℕ → ℕ → FileMeaning → List ℕ → Type 0
+  FileLines k i (File name kind attributes content) text =
+      (rest : List ℕ) × (text ≡ file_text k i (File name kind attributes content) ++ rest) × ContentLines (k + 1) content rest
+
+  pub ContentLines : ℕ → ContentMeaning → List ℕ → Type 0
+  ContentLines k (Plain b) text = text ≡ []
+  ContentLines k (Sectioned sections tail) text = SectionsLines k 0 sections text
+
+  -- those of sections, of which the first has the number j
+  pub SectionsLines : ℕ → ℕ → SectionMeanings → List ℕ → Type 0
+  SectionsLines k j NoSections text = text ≡ []
+  SectionsLines k j (MoreSections s sections) text =
+      (here : List ℕ) × (rest : List ℕ) × (text ≡ here ++ rest) × SectionLines k j s here × SectionsLines k (j + 1) sections rest
+
+  -- the line of a section, and those of what it holds, where it is no leaf
+  pub SectionLines : ℕ → ℕ → SectionMeaning → List ℕ → Type 0
+  SectionLines k j (Section kind extended body) text =
+      (shown : List ℕ) × (rest : List ℕ) × BodyShown kind body shown
+      × (text ≡ section_text k j (Section kind extended body) shown ++ rest) × BodyLines (k + 1) body rest
+
+  pub BodyLines : ℕ → BodyMeaning → List ℕ → Type 0
+  BodyLines k (Leaf b) text = text ≡ []
+  BodyLines k (Group sections tail) text = SectionsLines k 0 sections text
+  BodyLines k (Nested volume) text = VolumeLines k volume text
+
+-- the text of `list` of a volume of this meaning
+abbrev pub ListText : Meaning → List ℕ → Type 0
+ListText m text = VolumeLines 0 m text

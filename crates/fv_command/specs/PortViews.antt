@@ -1,0 +1,36 @@
+-- What a run reads and writes, seen from outside: what a port shows, and what was written to one.
+use Rattle.std.specs.Prelude.{◌≡◌, ◌<◌, ◌⊎◌, ℕ, Bool, true, List, Option, length, take}
+use Rattle.std.specs.Io.KnownBytes.{Appends}
+use Rattle.fv_base.specs.Port.{has_erred, inner_of}
+use Rattle.fv_base.specs.declared.fault.Fault.{Fault}
+use Rattle.fv_base.specs.declared.fault.FaultKind.TheVariants as kinds
+use Rattle.fv_base.specs.declared.port.Port.{Port}
+
+-- what a port shows: what its reader has left, or its writer holds, where that is known, and whether
+-- one of its calls has failed
+pub record Shown : Type 0 where
+  pub bytes : Option (List ℕ)
+  pub erred : Bool
+
+abbrev pub seen : Option (List ℕ) → Bool → Shown
+seen bytes erred = record { bytes = bytes; erred = erred }
+
+-- what a port shows, by what its reader has left or its writer holds
+abbrev pub shown : {T : Type 0} → (T → Option (List ℕ)) → Port T → Shown
+shown told port = seen (told (inner_of port)) (has_erred port)
+
+-- a text was written, and no write failed
+abbrev pub Writes : Shown → Shown → List ℕ → Type 0
+Writes old new text = Appends old.bytes new.bytes text × (new.erred ≡ old.erred)
+
+-- a write failed in a text: a front of it was written, not all of it, and nothing else
+abbrev pub StopsIn : Shown → Shown → List ℕ → Type 0
+StopsIn old new text = (n : ℕ) × (n < length text) × Appends old.bytes new.bytes (take n text) × (new.erred ≡ true)
+
+-- a text was written, or a write failed in it
+abbrev pub WritesOrStops : Shown → Shown → List ℕ → Type 0
+WritesOrStops old new text = Writes old new text ⊎ StopsIn old new text
+
+-- a write failed in a text, and the fault says so
+abbrev pub WritingStops : Shown → Shown → List ℕ → Fault → Type 0
+WritingStops old new text fault = (fault.kind ≡ kinds.WriteFault) × StopsIn old new text

@@ -1,0 +1,83 @@
+//! The lines of a check, put and written.
+
+ghost use Rattle.std.specs.Prelude.{map, IfErr, OnOk};
+ghost use Rattle.fv_file.specs.CellForms.{cell_form};
+ghost use Rattle.fv_command.specs.CheckTexts.{depex_line, depex_lines, verdict_line, check_lines};
+ghost use Rattle.fv_command.specs.PortViews.{Writes, WritingStops, shown};
+
+use crate::depex_notes::DepexNote;
+use crate::pads::put_cells;
+use fv_base::{Fault, Polarity, Port, Sink, WriteSink};
+use fv_canon::put_decimal;
+use fv_file::Cell;
+use std::io::Write;
+
+// Puts the line of a dependency expression that is refused.
+fn put_note<S: Sink>(out: &mut S, note: &DepexNote)
+    ensures { S.takes out.old (depex_line note.now) out.new }
+{
+    out.put(b"note depex in ");
+    out.put(&note.name.text());
+    out.put(b" fault ");
+    put_decimal(out, u64::from(note.number));
+    out.put(b" at ");
+    put_decimal(out, note.offset);
+    out.put(b"\n");
+}
+
+// Puts the lines of the dependency expressions that are refused.
+fn put_notes<S: Sink>(out: &mut S, notes: &[DepexNote])
+    ensures { S.takes out.old (depex_lines notes.now) out.new }
+{
+    for note in notes {
+        put_note(out, note);
+    }
+}
+
+// Puts whether a volume is its own canonical image.
+fn put_verdict<S: Sink>(out: &mut S, is_same: bool)
+    ensures { S.takes out.old (verdict_line is_same) out.new }
+{
+    if is_same {
+        out.put(b"canonical\n");
+    } else {
+        out.put(b"not canonical\n");
+    }
+}
+
+// Puts the lines of a check.
+fn put_check<S: Sink>(
+    out: &mut S,
+    list: &[Cell<'_>],
+    polarity: Polarity,
+    notes: &[DepexNote],
+    is_same: bool,
+)
+    ensures { S.takes out.old (check_lines polarity (map cell_form list.now) notes.now is_same) out.new }
+{
+    put_cells(out, list, polarity);
+    put_notes(out, notes);
+    put_verdict(out, is_same);
+}
+
+/// Writes the lines of a check.
+///
+/// # Errors
+///
+/// WriteFault, where a write fails or takes no byte.
+pub fn write_lines<W: Write>(
+    writer: &mut Port<W>,
+    list: &[Cell<'_>],
+    polarity: Polarity,
+    notes: &[DepexNote],
+    is_same: bool,
+) -> Result<(), Fault>
+    ensures ok { OnOk result (Writes (shown W.contents writer.old) (shown W.contents writer.new)
+        (check_lines polarity (map cell_form list.now) notes.now is_same)) }
+    ensures err { IfErr result (WritingStops (shown W.contents writer.old) (shown W.contents writer.new)
+        (check_lines polarity (map cell_form list.now) notes.now is_same)) }
+{
+    let mut out = WriteSink::new(writer);
+    put_check(&mut out, list, polarity, notes, is_same);
+    out.outcome()
+}

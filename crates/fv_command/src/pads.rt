@@ -1,0 +1,87 @@
+//! The pads of a volume, and what is put for those that hold written bytes.
+
+ghost use Rattle.std.specs.Prelude.{◌≡◌, map, IfOk, IfErr};
+ghost use Rattle.fv_base.specs.Faults.{want_of_memory};
+ghost use Rattle.fv_file.specs.CellForms.{cell_form};
+ghost use Rattle.fv_tree.specs.Denotes.{Accepted};
+ghost use Rattle.fv_tree.specs.Meaning.{Meaning};
+ghost use Rattle.fv_command.specs.CheckTexts.{written_in, pad_line, pad_note, pad_notes, AreCells};
+
+use fv_base::{Fault, Polarity, Sink};
+use fv_canon::put_decimal;
+use fv_file::{Cell, Cells, cells};
+use fv_head::verify_fv;
+use std::alloc::Global;
+
+/// The cells of the volume that the input is, and what an erased byte of it holds.
+///
+/// # Errors
+///
+/// OutOfMemory.
+pub fn outer_cells(alloc: Global, input: &[u8]) -> Result<(Cells<'_>, Polarity), Fault>
+    requires { (m : Meaning) × Accepted input.now m }
+    ensures ok { IfOk result (λ r. (m : Meaning) → Accepted input.now m → AreCells m input.now r.1 r.0) }
+    ensures err { IfErr result (λ f. f ≡ want_of_memory) }
+{
+    let extent = verify_fv(input)?;
+    let list = cells(
+        alloc,
+        input,
+        extent.first,
+        extent.file_system,
+        extent.polarity,
+    )?;
+    Ok((list, extent.polarity))
+}
+
+// How many of the bytes are not erased.
+fn written_in(bytes: &[u8], polarity: Polarity) -> u64
+    ensures { result ≡ written_in polarity bytes.now }
+{
+    let erased = polarity.erased();
+    let mut count = 0;
+    for byte in bytes {
+        if *byte == erased {
+            continue;
+        }
+        count += 1;
+    }
+    count
+}
+
+// Puts the line of a pad, unless all of its data bytes are erased.
+fn put_pad<S: Sink>(out: &mut S, offset: u64, count: u64)
+    ensures { S.takes out.old (pad_line offset count) out.new }
+{
+    if count == 0 {
+        return;
+    }
+    out.put(b"note pad at ");
+    put_decimal(out, offset);
+    out.put(b" holds ");
+    put_decimal(out, count);
+    out.put(b" bytes\n");
+}
+
+// Puts what is noted of a cell.
+fn put_cell<S: Sink>(out: &mut S, cell: &Cell<'_>, polarity: Polarity)
+    ensures { S.takes out.old (pad_note polarity (cell_form cell.now)) out.new }
+{
+    match *cell {
+        Cell::Pad {
+            offset,
+            payload,
+            ..
+        } => put_pad(out, offset, written_in(payload, polarity)),
+        _ => {}
+    }
+}
+
+/// Puts what is noted of the cells, in their order.
+pub fn put_cells<S: Sink>(out: &mut S, list: &[Cell<'_>], polarity: Polarity)
+    ensures { S.takes out.old (pad_notes polarity (map cell_form list.now)) out.new }
+{
+    for cell in list {
+        put_cell(out, cell, polarity);
+    }
+}
