@@ -19,7 +19,7 @@ seen bytes erred = record { bytes = bytes; erred = erred }
 abbrev pub shown : {T : Type 0} → (T → Option (List ℕ)) → Port T → Shown
 shown told port = seen (told (inner_of port)) (has_erred port)
 
--- a text was written, and no write failed
+-- a text was written, and the port has erred only if it had before
 abbrev pub Writes : Shown → Shown → List ℕ → Type 0
 Writes old new text = Appends old.bytes new.bytes text × (new.erred ≡ old.erred)
 
