@@ -13,8 +13,8 @@ use Rattle.fv_hob.specs.declared.span.Span.{Span}
 use Rattle.fv_hob.proofs.Laws.{len_small}
 use Rattle.fv_command.specs.HobLines.{ImageForm, HobLines, HobsText, IsSpanWord, IsWord, consumed_line, four_digits, hob_line}
 use Rattle.fv_command.specs.HobLines.{standing_word}
-use Rattle.fv_command.specs.declared.hobs.Standing.{Standing}
-use Rattle.fv_command.specs.declared.hobs.Standing.TheVariants.{Outside, Volume, Absent}
+use Rattle.fv_command.specs.declared.hob_text.Standing.{Standing}
+use Rattle.fv_command.specs.declared.hob_text.Standing.TheVariants.{Outside, Volume, Absent}
 use Rattle.fv_command.proofs.WriteLemmas.{Tells, tells_more, tells_all}
 
 -- the line of one block more

@@ -16,7 +16,7 @@ use Rattle.fv_tree.specs.FileNames.{file_named}
 use Rattle.fv_command.specs.CheckRuns.{CheckStops}
 use Rattle.fv_command.specs.ImageTexts.{StopsImage}
 use Rattle.fv_command.specs.Inputs.{Gives, BeginsNone, BeginsWith}
-use Rattle.fv_command.specs.PortViews.{Shown, WritingStops}
+use Rattle.fv_command.specs.PortViews.{Change, Shown, WritingStops}
 use Rattle.fv_command.specs.Extractions.{StopsPart}
 use Rattle.fv_command.specs.SideRuns.{GivesVolume, SideStops, VolumeInputStops}
 use Rattle.fv_command.specs.TaskRuns.{SaysInput, StopsInput}
@@ -73,23 +73,26 @@ part_stopped hex input m part w f b (inr stops) = inl (refl, inr (inr (m, b, sto
 
 -- ---- a comparison
 
+abbrev turn : Shown → Shown → Change
+turn old new = record { old = old; new = new }
+
 pub given : (hex : Bool) (r s : Shown) (items bytes : List ℕ) (m : Meaning) → bytes ≡ items → Gives hex r s items → Accepted bytes m
-    → GivesVolume hex r s m
+    → GivesVolume hex (turn r s) m
 given hex r s items bytes m is gives accepted = (items, gives, subst (λ (b : List ℕ). Accepted b m) is accepted)
 
 pub not_given : (hex : Bool) (r s : Shown) (items bytes : List ℕ) (f : Fault) → bytes ≡ items → Gives hex r s items → VolumeStops bytes f
-    → VolumeInputStops hex r s f
+    → VolumeInputStops hex (turn r s) f
 not_given hex r s items bytes f is gives stops = inr (items, gives, subst (λ (b : List ℕ). VolumeStops b f) is stops)
 
 pub second_stopped : (side : Side) (hex : Bool) (r s r' s' w : Shown) (m : Meaning) (f : Fault) → side ≡ sides.Second
-    → GivesVolume hex r s m → VolumeInputStops hex r' s' f → SideStops side hex r s r' s' w w f
+    → GivesVolume hex (turn r s) m → VolumeInputStops hex (turn r' s') f → SideStops side hex (turn r s) (turn r' s') (turn w w) f
 second_stopped side hex r s r' s' w m f is first stops =
-    subst (λ (x : Side). SideStops x hex r s r' s' w w f) (sym is) (refl, (m, first), stops)
+    subst (λ (x : Side). SideStops x hex (turn r s) (turn r' s') (turn w w) f) (sym is) (refl, (m, first), stops)
 
-pub comparison_stopped : (side : Side) (hex : Bool) (r s r' s' w v : Shown) (m k : Meaning) (f : Fault) → GivesVolume hex r s m
-    → GivesVolume hex r' s' k → ComparisonStops side m k w.bytes v.bytes f
+pub comparison_stopped : (side : Side) (hex : Bool) (r s r' s' w v : Shown) (m k : Meaning) (f : Fault) → GivesVolume hex (turn r s) m
+    → GivesVolume hex (turn r' s') k → ComparisonStops side m k w.bytes v.bytes f
     → (f.kind ≡ kinds.WriteFault → (side ≡ sides.Output) × (v.erred ≡ true)) → (f.kind ≢ kinds.WriteFault → v ≡ w)
-    → SideStops side hex r s r' s' w v f
+    → SideStops side hex (turn r s) (turn r' s') (turn w v) f
 comparison_stopped sides.First hex r s r' s' w v m k f a b (keeps, want, other) erred same =
     let none : f.kind ≡ kinds.WriteFault → ⊥ = λ e. let bad : kinds.OutOfMemory ≡ kinds.WriteFault = sym (ap (λ (x : Fault). x.kind) want) ∙ e in cc in
     (same none, inr (m, k, a, b, want, other))

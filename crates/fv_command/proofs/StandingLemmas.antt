@@ -8,7 +8,7 @@ use Rattle.fv_head.specs.Head.{HeadFields, BeginsVolume}
 use Rattle.fv_head.specs.declared.extent.Extent.{Extent}
 use Rattle.fv_hob.specs.declared.span.Span.{Span}
 use Rattle.fv_command.specs.VolumeStandings.{IsWithin, IsStanding, bytes_in_span}
-use Rattle.fv_command.specs.declared.hobs.Standing.TheVariants.{Volume, Absent}
+use Rattle.fv_command.specs.declared.hob_text.Standing.TheVariants.{Volume, Absent}
 
 -- the tests of a place within an image of n bytes
 pub record Fits (base n : ℕ) (s : Span) : Type 0 where

@@ -6,8 +6,8 @@ use Rattle.fv_hob.specs.Hobs.{HobForm, hob_type, hob_len}
 use Rattle.fv_hob.specs.Lists.{span_of}
 use Rattle.fv_hob.specs.declared.span.Span.{Span}
 use Rattle.fv_command.specs.VolumeStandings.{IsStanding}
-use Rattle.fv_command.specs.declared.hobs.Standing.{Standing}
-use Rattle.fv_command.specs.declared.hobs.Standing.TheVariants.{Outside, Volume, Absent}
+use Rattle.fv_command.specs.declared.hob_text.Standing.{Standing}
+use Rattle.fv_command.specs.declared.hob_text.Standing.TheVariants.{Outside, Volume, Absent}
 
 -- the bytes of an image, and the address of the first
 pub record ImageForm : Type 0 where

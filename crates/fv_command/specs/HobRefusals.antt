@@ -1,11 +1,11 @@
 -- Words of a run over a hand-off list: the image that it holds, and why it stopped.
 -- Serves private clauses alone: there is nothing to believe here.
 use Rattle.std.specs.Prelude.{◌≡◌, ℕ, Option, None, Some, Bool}
-use Rattle.fv_command.specs.declared.hobs.Image.{Image}
+use Rattle.fv_command.specs.declared.hob_text.Image.{Image}
 use Rattle.fv_command.specs.HobLines.{ImageForm}
-use Rattle.fv_command.specs.PortViews.{Shown}
-use Rattle.fv_command.specs.declared.hob_runs.Refusal.{Refusal}
-use Rattle.fv_command.specs.declared.hob_runs.Refusal.TheVariants as refusals
+use Rattle.fv_command.specs.PortViews.{Change}
+use Rattle.fv_command.specs.declared.hob_run.Refusal.{Refusal}
+use Rattle.fv_command.specs.declared.hob_run.Refusal.TheVariants as refusals
 use Rattle.fv_command.specs.HobRuns.{RefusesHobs, FaultStopsHobs}
 
 -- the bytes and the address of an image in memory
@@ -14,6 +14,7 @@ held_image None = None
 held_image (Some i) = Some (record { bytes = i.bytes.now; base = i.base })
 
 -- why nothing, or not all, was written
-abbrev pub RefusalStopsHobs : Bool → Option ℕ → Shown → Shown → Shown → Shown → Shown → Shown → Refusal → Type 0
-RefusalStopsHobs hex base r s r' s' w v (refusals.Input fault) = FaultStopsHobs hex base r s r' s' w v fault
-RefusalStopsHobs hex base r s r' s' w v (refusals.Hobs fault) = (v ≡ w) × RefusesHobs hex base r s r' s' fault
+abbrev pub RefusalStopsHobs : Bool → Option ℕ → (first second output : Change) → Refusal → Type 0
+RefusalStopsHobs hex base first second output (refusals.Input fault) = FaultStopsHobs hex base first second output fault
+RefusalStopsHobs hex base first second output (refusals.Hobs fault) =
+    (output.new ≡ output.old) × RefusesHobs hex base first second fault

@@ -8,26 +8,26 @@ use Rattle.fv_hob.specs.declared.fault.HobFault.{HobFault}
 use Rattle.fv_command.specs.HobLines.{HobsText, image_form}
 use Rattle.fv_command.specs.Inputs.{Gives, GivingStops, TellsStop}
 use Rattle.fv_command.specs.Lines.{hob_fault_line}
-use Rattle.fv_command.specs.PortViews.{Shown, Writes, WritesOrStops, WritingStops}
+use Rattle.fv_command.specs.PortViews.{Change, Ports, Writes, WritesOrStops, WritingStops}
 use Rattle.fv_command.specs.declared.status.Status.{Status}
 use Rattle.fv_command.specs.declared.status.Status.TheVariants.{Done, Refused}
 
 -- with a base an image was read to its end; with none nothing was read, and there are no bytes
-abbrev pub GivesImage : Bool → Option ℕ → Shown → Shown → List ℕ → Type 0
-GivesImage hex None r s bytes = (s ≡ r) × (bytes ≡ [])
-GivesImage hex (Some base) r s bytes = Gives hex r s bytes
+abbrev pub GivesImage : Bool → Option ℕ → Change → List ℕ → Type 0
+GivesImage hex None input bytes = (input.new ≡ input.old) × (bytes ≡ [])
+GivesImage hex (Some base) input bytes = Gives hex input.old input.new bytes
 
 -- the reading of the image stopped, where there is a base
-abbrev pub HobImageStops : Bool → Option ℕ → Shown → Shown → Fault → Type 0
-HobImageStops hex None r s fault = ⊥
-HobImageStops hex (Some base) r s fault = GivingStops hex r s fault
+abbrev pub HobImageStops : Bool → Option ℕ → Change → Fault → Type 0
+HobImageStops hex None input fault = ⊥
+HobImageStops hex (Some base) input fault = GivingStops hex input.old input.new fault
 
 -- the list and the image were read, the first input begins with this list, and its lines were written
-pub record ListsHobs (hex : Bool) (base : Option ℕ) (r s r' s' : Shown) (wrote : List ℕ → Type 0) : Type 0 where
+pub record ListsHobs (hex : Bool) (base : Option ℕ) (first second : Change) (wrote : List ℕ → Type 0) : Type 0 where
   pub list : List ℕ
-  pub gives : Gives hex r s list
+  pub gives : Gives hex first.old first.new list
   pub image : List ℕ
-  pub gives_image : GivesImage hex base r' s' image
+  pub gives_image : GivesImage hex base second image
   pub all : List HobForm
   pub consumed : ℕ
   pub within : consumed ≤ length list
@@ -36,33 +36,34 @@ pub record ListsHobs (hex : Bool) (base : Option ℕ) (r s r' s' : Shown) (wrote
   pub text_is : HobsText (image_form base image) all consumed text
   pub written : wrote text
 
--- an input stopped the run: the list; or the image, behind a list that was read to its end
-abbrev pub HobInputStops : Bool → Option ℕ → Shown → Shown → Shown → Shown → Fault → Type 0
-HobInputStops hex base r s r' s' fault =
-    ((s' ≡ r') × GivingStops hex r s fault)
-    ⊎ ((list : List ℕ) × Gives hex r s list × HobImageStops hex base r' s' fault)
+-- an input stopped the run: the list; or the image, after a list that was read to its end
+abbrev pub HobInputStops : Bool → Option ℕ → (first second : Change) → Fault → Type 0
+HobInputStops hex base first second fault =
+    ((second.new ≡ second.old) × GivingStops hex first.old first.new fault)
+    ⊎ ((list : List ℕ) × Gives hex first.old first.new list × HobImageStops hex base second fault)
 
--- both were read, and the first input begins with no hand-off list, or memory was wanted
-abbrev pub RefusesHobs : Bool → Option ℕ → Shown → Shown → Shown → Shown → HobFault → Type 0
-RefusesHobs hex base r s r' s' fault =
-    (list : List ℕ) × (image : List ℕ) × Gives hex r s list × GivesImage hex base r' s' image
+-- both were read, and the first input begins with no hand-off list, or memory ran out
+abbrev pub RefusesHobs : Bool → Option ℕ → (first second : Change) → HobFault → Type 0
+RefusesHobs hex base first second fault =
+    (list : List ℕ) × (image : List ℕ) × Gives hex first.old first.new list × GivesImage hex base second image
     × ((fault ≡ hob_want_of_memory) ⊎ IsFirstHobFault list fault)
 
 -- an input stopped the run, and nothing was written; or the writer did, in the lines
-abbrev pub FaultStopsHobs : Bool → Option ℕ → Shown → Shown → Shown → Shown → Shown → Shown → Fault → Type 0
-FaultStopsHobs hex base r s r' s' w v fault =
-    ((v ≡ w) × HobInputStops hex base r s r' s' fault)
-    ⊎ ListsHobs hex base r s r' s' (λ text. WritingStops w v text fault)
+abbrev pub FaultStopsHobs : Bool → Option ℕ → (first second output : Change) → Fault → Type 0
+FaultStopsHobs hex base first second output fault =
+    ((output.new ≡ output.old) × HobInputStops hex base first second fault)
+    ⊎ ListsHobs hex base first second (λ text. WritingStops output.old output.new text fault)
 
 -- the list was refused, and then the line of this fault was written, or a write failed in it
-abbrev pub TellsHobs : Bool → Option ℕ → Shown → Shown → Shown → Shown → Shown → Shown → Type 0
-TellsHobs hex base r s r' s' w v =
-    (fault : HobFault) × RefusesHobs hex base r s r' s' fault
-    × WritesOrStops w v (hob_fault_line (hob_fault_number fault.kind) fault.offset)
+abbrev pub TellsHobs : Bool → Option ℕ → Ports → Type 0
+TellsHobs hex base ports =
+    (fault : HobFault) × RefusesHobs hex base ports.first ports.second fault
+    × WritesOrStops ports.output.old ports.output.new (hob_fault_line (hob_fault_number fault.kind) fault.offset)
 
 -- a run over a hand-off list, by its status
-abbrev pub RunsHobs : Option ℕ → Bool → Status → Shown → Shown → Shown → Shown → Shown → Shown → Type 0
-RunsHobs base hex Done r s r' s' w v = ListsHobs hex base r s r' s' (λ text. Writes w v text)
-RunsHobs base hex Refused r s r' s' w v =
-    TellsStop (FaultStopsHobs hex base r s r' s' w) v ⊎ TellsHobs hex base r s r' s' w v
-RunsHobs base hex status r s r' s' w v = ⊥
+abbrev pub RunsHobs : Option ℕ → Bool → Status → Ports → Type 0
+RunsHobs base hex Done ports =
+    ListsHobs hex base ports.first ports.second (λ text. Writes ports.output.old ports.output.new text)
+RunsHobs base hex Refused ports =
+    TellsStop (FaultStopsHobs hex base ports.first ports.second) ports.output ⊎ TellsHobs hex base ports
+RunsHobs base hex status ports = ⊥

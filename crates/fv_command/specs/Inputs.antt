@@ -9,7 +9,7 @@ use Rattle.fv_tree.specs.FirstFault.{IsFirstOfVolume}
 use Rattle.fv_tree.specs.Meaning.{Meaning}
 use Rattle.fv_command.specs.HexIn.{SpellsWhole, TextStops}
 use Rattle.fv_command.specs.Lines.{TellsFault, fault_line}
-use Rattle.fv_command.specs.PortViews.{Shown}
+use Rattle.fv_command.specs.PortViews.{Change, Shown}
 
 -- an input was read to its end: as bytes, or as hexadecimal text that spells them
 abbrev pub Gives : Bool → Shown → Shown → List ℕ → Type 0
@@ -32,7 +32,7 @@ pub record BeginsNone (input : List ℕ) (fault : Fault) : Type 0 where
   pub first : IsFirstOfVolume input fault
 
 -- a run stopped for some fault, and then the line of this fault was written, unless a write had failed
-abbrev pub TellsStop : (Shown → Fault → Type 0) → Shown → Type 0
-TellsStop stops v =
-    (fault : Fault) × (between : Shown) × stops between fault
-    × TellsFault fault (fault_line (fault_number fault.kind) fault.place.offset) between v
+abbrev pub TellsStop : (Change → Fault → Type 0) → Change → Type 0
+TellsStop stops output =
+    (fault : Fault) × (between : Shown) × stops (record { old = output.old; new = between }) fault
+    × TellsFault fault (fault_line (fault_number fault.kind) fault.place.offset) between output.new

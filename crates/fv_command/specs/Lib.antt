@@ -14,6 +14,7 @@ pub mod ImageTexts
 pub mod Indents
 pub mod Inputs
 pub mod Lines
+pub mod Endings
 pub mod Extractions
 pub mod ListTexts
 pub mod Outputs

@@ -19,6 +19,20 @@ seen bytes erred = record { bytes = bytes; erred = erred }
 abbrev pub shown : {T : Type 0} → (T → Option (List ℕ)) → Port T → Shown
 shown told port = seen (told (inner_of port)) (has_erred port)
 
+-- what a port shows before a run and after it
+pub record Change : Type 0 where
+  pub old : Shown
+  pub new : Shown
+
+abbrev pub change : {T : Type 0} → (T → Option (List ℕ)) → Port T → Port T → Change
+change told old new = record { old = shown told old; new = shown told new }
+
+-- the ports of a run: its two inputs and its output
+pub record Ports : Type 0 where
+  pub first : Change
+  pub second : Change
+  pub output : Change
+
 -- a text was written, and the port has erred only if it had before
 abbrev pub Writes : Shown → Shown → List ℕ → Type 0
 Writes old new text = Appends old.bytes new.bytes text × (new.erred ≡ old.erred)

@@ -2,7 +2,7 @@
 use Rattle.std.specs.Prelude.{◌≡◌, Bool}
 use Rattle.fv_command.specs.HobRuns.{RunsHobs}
 use Rattle.fv_command.specs.Plans.{base_of}
-use Rattle.fv_command.specs.PortViews.{Shown}
+use Rattle.fv_command.specs.PortViews.{Ports}
 use Rattle.fv_command.specs.SideRuns.{RunsComparison}
 use Rattle.fv_command.specs.TaskRuns.{RunsTask}
 use Rattle.fv_command.specs.declared.plan.Command.{Command}
@@ -12,10 +12,11 @@ use Rattle.fv_command.specs.declared.status.Status.{Status}
 
 -- a run of a command, by its status: what was read of the first input and of the second, and what was written. A task
 -- reads nothing of the second
-abbrev pub RunsCommand : Command → Bool → Status → Shown → Shown → Shown → Shown → Shown → Shown → Type 0
-RunsCommand (Single task file) hex status r s r' s' w v = (s' ≡ r') × RunsTask task hex status r s w v
-RunsCommand (Hobs file image) hex status r s r' s' w v = RunsHobs (base_of image) hex status r s r' s' w v
-RunsCommand (Compare first second) hex status r s r' s' w v = RunsComparison hex status r s r' s' w v
+abbrev pub RunsCommand : Command → Bool → Status → Ports → Type 0
+RunsCommand (Single task file) hex status ports =
+    (ports.second.new ≡ ports.second.old) × RunsTask task hex status ports.first ports.output
+RunsCommand (Hobs file image) hex status ports = RunsHobs (base_of image) hex status ports
+RunsCommand (Compare first second) hex status ports = RunsComparison hex status ports
 
-abbrev pub Runs : Plan → Status → Shown → Shown → Shown → Shown → Shown → Shown → Type 0
-Runs p status r s r' s' w v = RunsCommand p.command p.hex status r s r' s' w v
+abbrev pub Runs : Plan → Status → Ports → Type 0
+Runs p status ports = RunsCommand p.command p.hex status ports

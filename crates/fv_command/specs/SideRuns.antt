@@ -11,45 +11,48 @@ use Rattle.fv_tree.specs.Difference.{difference}
 use Rattle.fv_tree.specs.Meaning.{Meaning}
 use Rattle.fv_command.specs.Inputs.{Gives, GivingStops}
 use Rattle.fv_command.specs.Lines.{TellsSideFault}
-use Rattle.fv_command.specs.PortViews.{Shown, WritingStops}
+use Rattle.fv_command.specs.PortViews.{Change, Ports, Shown, WritingStops}
 use Rattle.fv_command.specs.declared.status.Status.{Status}
 use Rattle.fv_command.specs.declared.status.Status.TheVariants.{Done, Different, Refused, WrongWords}
 
 -- an input was read to its end, and is a volume of this meaning
-abbrev pub GivesVolume : Bool → Shown → Shown → Meaning → Type 0
-GivesVolume hex r s m = (input : List ℕ) × Gives hex r s input × Accepted input m
+abbrev pub GivesVolume : Bool → Change → Meaning → Type 0
+GivesVolume hex input m = (bytes : List ℕ) × Gives hex input.old input.new bytes × Accepted bytes m
 
--- an input stopped the run: while it was read, or since it is no volume, or memory was wanted
-abbrev pub VolumeInputStops : Bool → Shown → Shown → Fault → Type 0
-VolumeInputStops hex r s fault =
-    GivingStops hex r s fault ⊎ ((input : List ℕ) × Gives hex r s input × VolumeStops input fault)
+-- an input stopped the run: while it was read, or since it is no volume, or memory ran out
+abbrev pub VolumeInputStops : Bool → Change → Fault → Type 0
+VolumeInputStops hex input fault =
+    GivingStops hex input.old input.new fault
+    ⊎ ((bytes : List ℕ) × Gives hex input.old input.new bytes × VolumeStops bytes fault)
 
 -- both inputs are volumes, the answer is whether they mean the same, and the line of where they
 -- first differ was written, with no failed write
-abbrev pub ComparesRead : Bool → Shown → Shown → Shown → Shown → Shown → Shown → Bool → Type 0
-ComparesRead hex r s r' s' w v same =
-    (m : Meaning) × (k : Meaning) × GivesVolume hex r s m × GivesVolume hex r' s' k × Compares m k w.bytes v.bytes same
-    × (v.erred ≡ w.erred)
+abbrev pub ComparesRead : Bool → Ports → Bool → Type 0
+ComparesRead hex ports same =
+    (m : Meaning) × (k : Meaning) × GivesVolume hex ports.first m × GivesVolume hex ports.second k
+    × Compares m k ports.output.old.bytes ports.output.new.bytes same
+    × (ports.output.new.erred ≡ ports.output.old.erred)
 
--- the side tells what stopped the run. The second input is read only behind a first that is a volume, and nothing is
--- written before both are; then the line is, and the writer may stop in it
-abbrev pub SideStops : Side → Bool → Shown → Shown → Shown → Shown → Shown → Shown → Fault → Type 0
-SideStops sides.First hex r s r' s' w v fault =
-    (v ≡ w)
-    × (((s' ≡ r') × VolumeInputStops hex r s fault)
-    ⊎ ((m : Meaning) × (k : Meaning) × GivesVolume hex r s m × GivesVolume hex r' s' k × (fault ≡ want_of_memory)
+-- the side says what stopped the run. The second input is read only after a first that is a volume, and nothing is
+-- written before both are read; then the line is, and the writer may stop in it
+abbrev pub SideStops : Side → Bool → (first second output : Change) → Fault → Type 0
+SideStops sides.First hex first second output fault =
+    (output.new ≡ output.old)
+    × (((second.new ≡ second.old) × VolumeInputStops hex first fault)
+    ⊎ ((m : Meaning) × (k : Meaning) × GivesVolume hex first m × GivesVolume hex second k × (fault ≡ want_of_memory)
     × (m ≢ k)))
-SideStops sides.Second hex r s r' s' w v fault =
-    (v ≡ w) × ((m : Meaning) × GivesVolume hex r s m) × VolumeInputStops hex r' s' fault
-SideStops sides.Output hex r s r' s' w v fault =
-    (m : Meaning) × (k : Meaning) × GivesVolume hex r s m × GivesVolume hex r' s' k
-    × WritingStops w v (compare_line (difference m k)) fault
+SideStops sides.Second hex first second output fault =
+    (output.new ≡ output.old) × ((m : Meaning) × GivesVolume hex first m) × VolumeInputStops hex second fault
+SideStops sides.Output hex first second output fault =
+    (m : Meaning) × (k : Meaning) × GivesVolume hex first m × GivesVolume hex second k
+    × WritingStops output.old output.new (compare_line (difference m k)) fault
 
 -- a comparison, by its status
-abbrev pub RunsComparison : Bool → Status → Shown → Shown → Shown → Shown → Shown → Shown → Type 0
-RunsComparison hex Done r s r' s' w v = ComparesRead hex r s r' s' w v true
-RunsComparison hex Different r s r' s' w v = ComparesRead hex r s r' s' w v false
-RunsComparison hex Refused r s r' s' w v =
-    (side : Side) × (fault : Fault) × (between : Shown) × SideStops side hex r s r' s' w between fault
-    × TellsSideFault side fault between v
-RunsComparison hex WrongWords r s r' s' w v = ⊥
+abbrev pub RunsComparison : Bool → Status → Ports → Type 0
+RunsComparison hex Done ports = ComparesRead hex ports true
+RunsComparison hex Different ports = ComparesRead hex ports false
+RunsComparison hex Refused ports =
+    (side : Side) × (fault : Fault) × (between : Shown)
+    × SideStops side hex ports.first ports.second (record { old = ports.output.old; new = between }) fault
+    × TellsSideFault side fault between ports.output.new
+RunsComparison hex WrongWords ports = ⊥

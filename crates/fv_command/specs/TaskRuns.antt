@@ -2,7 +2,7 @@
 use Rattle.std.specs.Prelude.{◌≡◌, ◌⊎◌, ℕ, Bool, List}
 use Rattle.fv_base.specs.declared.fault.Fault.{Fault}
 use Rattle.fv_command.specs.Inputs.{Gives, GivingStops, TellsStop}
-use Rattle.fv_command.specs.PortViews.{Shown, Writes, WritingStops}
+use Rattle.fv_command.specs.PortViews.{Change, Shown, Writes, WritingStops}
 use Rattle.fv_command.specs.Tasks.{Says, Denies}
 use Rattle.fv_command.specs.declared.plan.Task.{Task}
 use Rattle.fv_command.specs.declared.status.Status.{Status}
@@ -19,18 +19,19 @@ StopsInput task hex input w v fault =
     ⊎ ((status : Status) × (text : List ℕ) × Says task hex input status text × WritingStops w v text fault)
 
 -- an input was read to its end, and what the task says of it was written
-abbrev pub SaysRead : Task → Bool → Shown → Shown → Shown → Shown → Status → Type 0
-SaysRead task hex r s w v status = (input : List ℕ) × Gives hex r s input × SaysInput task hex input w v status
+abbrev pub SaysRead : Task → Bool → (input output : Change) → Status → Type 0
+SaysRead task hex input output status =
+    (bytes : List ℕ) × Gives hex input.old input.new bytes × SaysInput task hex bytes output.old output.new status
 
--- the run stopped while it read, and nothing was written; or behind an input that it had read to its end
-abbrev pub StopsRead : Task → Bool → Shown → Shown → Shown → Shown → Fault → Type 0
-StopsRead task hex r s w v fault =
-    ((v ≡ w) × GivingStops hex r s fault)
-    ⊎ ((input : List ℕ) × Gives hex r s input × StopsInput task hex input w v fault)
+-- the run stopped while it read, and nothing was written; or after an input that it had read to its end
+abbrev pub StopsRead : Task → Bool → (input output : Change) → Fault → Type 0
+StopsRead task hex input output fault =
+    ((output.new ≡ output.old) × GivingStops hex input.old input.new fault)
+    ⊎ ((bytes : List ℕ) × Gives hex input.old input.new bytes × StopsInput task hex bytes output.old output.new fault)
 
 -- a run of a task, by its status
-abbrev pub RunsTask : Task → Bool → Status → Shown → Shown → Shown → Shown → Type 0
-RunsTask task hex Done r s w v = SaysRead task hex r s w v Done
-RunsTask task hex Different r s w v = SaysRead task hex r s w v Different
-RunsTask task hex Refused r s w v = TellsStop (StopsRead task hex r s w) v
-RunsTask task hex WrongWords r s w v = ⊥
+abbrev pub RunsTask : Task → Bool → Status → (input output : Change) → Type 0
+RunsTask task hex Done input output = SaysRead task hex input output Done
+RunsTask task hex Different input output = SaysRead task hex input output Different
+RunsTask task hex Refused input output = TellsStop (StopsRead task hex input) output
+RunsTask task hex WrongWords input output = ⊥

@@ -6,8 +6,8 @@ use Rattle.fv_head.specs.declared.extent.Extent.{Extent}
 use Rattle.fv_hob.specs.Hobs.{HobForm}
 use Rattle.fv_hob.specs.Lists.{IsHobList}
 use Rattle.fv_hob.specs.declared.span.Span.{Span}
-use Rattle.fv_command.specs.declared.hobs.Standing.{Standing}
-use Rattle.fv_command.specs.declared.hobs.Standing.TheVariants.{Outside, Volume, Absent}
+use Rattle.fv_command.specs.declared.hob_text.Standing.{Standing}
+use Rattle.fv_command.specs.declared.hob_text.Standing.TheVariants.{Outside, Volume, Absent}
 
 -- the span lies within so many bytes, the first of which has the address base
 abbrev pub IsWithin : ℕ → ℕ → Span → Type 0

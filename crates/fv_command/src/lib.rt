@@ -1,38 +1,41 @@
 //! The commands of the program, over readers and a writer.
+//!
+//! A module `.._text` holds the lines of an answer, and puts them into a sink. A module `.._run` reads inputs, and writes
+//! the answer or the line of a fault.
 #![tactic(auto)]
 
-mod check_lines;
-mod checking;
-mod closing;
-mod commands;
-mod comparing;
+mod check_run;
+mod check_text;
+mod comparison_run;
 mod depex_notes;
 mod extracting;
+mod fault_text;
 mod hex_digits;
 mod hex_lines;
 mod hex_text;
-mod hob_runs;
-mod hobs;
-mod imaging;
+mod hob_run;
+mod hob_text;
+mod image_text;
 mod inputs;
-mod lines;
-mod listing;
+mod list_text;
 mod output;
 mod pads;
 mod plan;
-mod saying;
-mod scanning;
+mod plan_run;
+mod run_end;
+mod scan_text;
 mod source;
 mod status;
-mod tasks;
+mod task_run;
 #[cfg(test)]
 mod tests;
+mod whole_write;
 
-pub use closing::close;
-pub use commands::run_plan;
 pub use extracting::Part;
+pub use fault_text::{refuse, say};
 pub use output::Output;
 pub use plan::{Command, ImageFile, Plan, Task};
-pub use saying::{refuse, say};
+pub use plan_run::run_plan;
+pub use run_end::close;
 pub use source::{Source, open};
 pub use status::Status;

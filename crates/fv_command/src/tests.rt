@@ -18,11 +18,11 @@ mod stopped;
 mod volumes;
 mod whole;
 
-use crate::closing::close;
+use crate::fault_text::say;
 use crate::hex_lines::HexSink;
 use crate::hex_text::read_hex;
 use crate::output::Output;
-use crate::saying::say;
+use crate::run_end::close;
 use crate::status::Status;
 use fakes::{FakeReader, FakeWriter};
 use fv_base::{Fault, FaultKind, Port, Sink, WriteSink};

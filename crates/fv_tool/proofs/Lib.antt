@@ -1,4 +1,5 @@
 pub mod AllLemmas
+pub mod EndLemmas
 pub mod FlagLemmas
 pub mod NumberLemmas
 pub mod RefusalLemmas

@@ -3,7 +3,7 @@ use Rattle.std.proofs.Common.{◌≡◌, ◌∙◌, ◌⊎◌, ℕ, List, ap, in
 use Rattle.std.specs.Prelude.{Option}
 use Rattle.fv_base.specs.Port.{has_erred, inner_of}
 use Rattle.fv_base.specs.declared.port.Port.{Port}
-use Rattle.fv_command.specs.PortViews.{Shown, Writes, seen, shown}
+use Rattle.fv_command.specs.PortViews.{Change, Ports, Shown, Writes, seen, shown}
 use Rattle.fv_command.specs.Runs.{Runs, RunsCommand}
 use Rattle.fv_command.specs.Sources.{unread}
 use Rattle.fv_command.specs.declared.source.Source.{Source}
@@ -17,25 +17,28 @@ use Rattle.fv_tool.specs.Refusals.{TellsRefusal, line_of}
 use Rattle.fv_tool.specs.declared.words.WordFault.{WordFault}
 use Rattle.fv_tool.specs.declared.words.WordFault.TheVariants.{Words, OutOfMemory}
 
-command_not_wrong : (c : Command) (hex : Bool) (r s r' s' w v : Shown) → RunsCommand c hex WrongWords r s r' s' w v → ⊥
-command_not_wrong (Single task file) hex r s r' s' w v (same, ran) = ran
-command_not_wrong (Hobs file image) hex r s r' s' w v ran = ran
-command_not_wrong (Compare first second) hex r s r' s' w v ran = ran
+abbrev ports_of : (r s r' s' : Shown) → Change → Ports
+ports_of r s r' s' output =
+    record { first = record { old = r; new = s }; second = record { old = r'; new = s' }; output = output }
+
+command_not_wrong : (c : Command) (hex : Bool) (ports : Ports) → RunsCommand c hex WrongWords ports → ⊥
+command_not_wrong (Single task file) hex ports (same, ran) = ran
+command_not_wrong (Hobs file image) hex ports ran = ran
+command_not_wrong (Compare first second) hex ports ran = ran
 
 -- the run of a plan does not end in wrong words
-pub never_wrong : {S F : Type 0} (of_input : S → Option (List ℕ)) (of_file : F → Option (List ℕ)) (p : Plan) (status : Status) (w v : Shown)
-    → RunsOver of_input of_file p status w v → status ≡ WrongWords → ⊥
-never_wrong of_input of_file p status w v (first, second, is_first, is_second, s, s', ran) is =
-    command_not_wrong p.command p.hex _ s _ s' w v
-    (subst (λ (x : Status). RunsCommand p.command p.hex x (fresh of_input of_file first) s (fresh of_input of_file second) s' w v) is ran)
+pub never_wrong : {S F : Type 0} (of_input : S → Option (List ℕ)) (of_file : F → Option (List ℕ)) (p : Plan) (status : Status)
+    (output : Change) → RunsOver of_input of_file p status output → status ≡ WrongWords → ⊥
+never_wrong of_input of_file p status output (first, second, is_first, is_second, s, s', ran) is =
+    command_not_wrong p.command p.hex _ (subst (λ (x : Status). RunsCommand p.command p.hex x _) is ran)
 
 -- where arguments were rejected with the status of wrong words, that line was written
-pub wrong_said : (fault : WordFault) (status : Status) (w v : Shown) → TellsRefusal fault status w v → status ≡ WrongWords
-    → Writes w v (line_of Words)
-wrong_said Words status w v (inl said) is = said.1
-wrong_said Words status w v (inr failed) is = let bad : Refused ≡ WrongWords = sym failed.0 ∙ is in cc
-wrong_said OutOfMemory status w v (inl said) is = let bad : Refused ≡ WrongWords = sym said.0 ∙ is in cc
-wrong_said OutOfMemory status w v (inr failed) is = let bad : Refused ≡ WrongWords = sym failed.0 ∙ is in cc
+pub wrong_said : (fault : WordFault) (status : Status) (output : Change) → TellsRefusal fault status output → status ≡ WrongWords
+    → Writes output.old output.new (line_of Words)
+wrong_said Words status output (inl said) is = said.1
+wrong_said Words status output (inr failed) is = let bad : Refused ≡ WrongWords = sym failed.0 ∙ is in cc
+wrong_said OutOfMemory status output (inl said) is = let bad : Refused ≡ WrongWords = sym said.0 ∙ is in cc
+wrong_said OutOfMemory status output (inr failed) is = let bad : Refused ≡ WrongWords = sym failed.0 ∙ is in cc
 
 -- what a new port over a source shows
 pub shown_fresh : {S F : Type 0} (of_input : S → Option (List ℕ)) (of_file : F → Option (List ℕ)) (port : Port (Source S F))
@@ -45,7 +48,7 @@ shown_fresh of_input of_file port source is fine =
     ap (λ e. seen (unread of_input of_file (inner_of port)) e) fine ∙ ap (λ x. seen (unread of_input of_file x) false) is
 
 -- a run over what is shown is one over the same
-pub runs_over : (p : Plan) (status : Status) (r a s r' b s' w v : Shown) → r ≡ a → r' ≡ b → Runs p status r s r' s' w v
-    → Runs p status a s b s' w v
-runs_over p status r a s r' b s' w v e f ran =
-    subst (λ (x : Shown). Runs p status x s b s' w v) e (subst (λ (x : Shown). Runs p status r s x s' w v) f ran)
+pub runs_over : (p : Plan) (status : Status) (r a s r' b s' : Shown) (output : Change) → r ≡ a → r' ≡ b
+    → Runs p status (ports_of r s r' s' output) → Runs p status (ports_of a s b s' output)
+runs_over p status r a s r' b s' output e f ran =
+    subst (λ (x : Shown). Runs p status (ports_of x s b s' output)) e (subst (λ (x : Shown). Runs p status (ports_of r s x s' output)) f ran)

@@ -1,12 +1,14 @@
 -- What the program does with the words that it is given.
-use Rattle.std.specs.Prelude.{◌≡◌, ◌<◌, ◌⊎◌, ℕ, false, List, Option, length}
+use Rattle.std.specs.Io.KnownBytes.{Keeps, append_known}
+use Rattle.std.specs.Prelude.{◌≡◌, ◌<◌, ◌⊎◌, ℕ, Bool, true, false, List, Option, length}
 use Rattle.fv_command.specs.Files.{first_file, second_file}
-use Rattle.fv_command.specs.PortViews.{Shown, seen}
+use Rattle.fv_command.specs.PortViews.{Change, Shown, seen}
 use Rattle.fv_command.specs.Runs.{Runs}
 use Rattle.fv_command.specs.Sources.{IsFirstSource, IsSecondSource, unread}
 use Rattle.fv_command.specs.declared.plan.Plan.{Plan}
 use Rattle.fv_command.specs.declared.source.Source.{Source}
 use Rattle.fv_command.specs.declared.status.Status.{Status}
+use Rattle.fv_command.specs.declared.status.Status.TheVariants.{Refused}
 use Rattle.fv_tool.specs.Refusals.{TellsRefusal}
 use Rattle.fv_tool.specs.Words.{AreRight, Asks}
 use Rattle.fv_tool.specs.declared.words.WordFault.{WordFault}
@@ -17,23 +19,38 @@ abbrev pub fresh : {S F : Type 0} → (S → Option (List ℕ)) → (F → Optio
 fresh of_input of_file source = seen (unread of_input of_file source) false
 
 -- a run of the plan, over the sources that it names
-abbrev pub RunsOver : {S F : Type 0} → (S → Option (List ℕ)) → (F → Option (List ℕ)) → Plan → Status → Shown → Shown → Type 0
-RunsOver {S} {F} of_input of_file p status w v =
+abbrev pub RunsOver : {S F : Type 0} → (S → Option (List ℕ)) → (F → Option (List ℕ)) → Plan → Status → Change → Type 0
+RunsOver {S} {F} of_input of_file p status output =
     (first : Source S F) × (second : Source S F) × IsFirstSource (first_file p.command) first
     × IsSecondSource (second_file p.command) second × (s : Shown) × (s' : Shown)
-    × Runs p status (fresh of_input of_file first) s (fresh of_input of_file second) s' w v
+    × Runs p status (record {
+      first = record { old = fresh of_input of_file first; new = s };
+      second = record { old = fresh of_input of_file second; new = s' };
+      output = output;
+    })
 
 -- a rejection of arguments: there are some after the program's name, and only those that are not right are rejected as wrong
 abbrev pub MayRefuse : List (List ℕ) → WordFault → Type 0
 MayRefuse words fault = (1 < length words) × (fault ≡ Words → AreRight words → ⊥)
 
 -- the arguments are rejected, and that was reported
-abbrev pub TellsWords : List (List ℕ) → Status → Shown → Shown → Type 0
-TellsWords words status w v = (fault : WordFault) × MayRefuse words fault × TellsRefusal fault status w v
+abbrev pub TellsWords : List (List ℕ) → Status → Change → Type 0
+TellsWords words status output = (fault : WordFault) × MayRefuse words fault × TellsRefusal fault status output
 
 -- the arguments are right, and the plan that they ask for was run; or they are rejected: those that are not right as wrong
 -- or out of memory, and those that are right out of memory alone
-abbrev pub DoesAsked : {S F : Type 0} → (S → Option (List ℕ)) → (F → Option (List ℕ)) → List (List ℕ) → Status → Shown → Shown
-    → Type 0
-DoesAsked of_input of_file words status w v =
-    ((p : Plan) × Asks words p × RunsOver of_input of_file p status w v) ⊎ TellsWords words status w v
+abbrev pub DoesAsked : {S F : Type 0} → (S → Option (List ℕ)) → (F → Option (List ℕ)) → List (List ℕ) → Status → Change → Type 0
+DoesAsked of_input of_file words status output =
+    ((p : Plan) × Asks words p × RunsOver of_input of_file p status output) ⊎ TellsWords words status output
+
+-- an output holds a front of some bytes, where these are known
+abbrev pub HoldsFront : (held all : Option (List ℕ)) → Type 0
+HoldsFront held all = (rest : List ℕ) × Keeps all (append_known held rest)
+
+-- the end of a run that wrote to the buffer of an output. All that it wrote is in the output, and the status is its own; or
+-- a write or a flush failed, the output holds a front of what the run wrote, and the status is Refused
+abbrev pub Ends : (ran : Status) → (wrote : Shown) → (status : Status) → (held : Shown) → (failed : Bool) → Type 0
+Ends ran wrote status held failed =
+    ((status ≡ ran) × Keeps wrote.bytes held.bytes × (wrote.erred ≡ false) × (held.erred ≡ false) × (failed ≡ false))
+    ⊎ ((status ≡ Refused) × HoldsFront held.bytes wrote.bytes
+    × ((wrote.erred ≡ true) ⊎ (held.erred ≡ true) ⊎ (failed ≡ true)))

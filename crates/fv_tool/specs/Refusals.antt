@@ -1,7 +1,7 @@
 -- What refuses a line of words, as the program tells it.
 use Rattle.std.specs.Prelude.{◌≡◌, ◌⊎◌, ℕ, List, [], ◌∷◌, ◌++◌, codes}
 use Rattle.fv_command.specs.Lines.{fault_line}
-use Rattle.fv_command.specs.PortViews.{Shown, StopsIn, Writes}
+use Rattle.fv_command.specs.PortViews.{Change, StopsIn, Writes}
 use Rattle.fv_command.specs.declared.status.Status.{Status}
 use Rattle.fv_command.specs.declared.status.Status.TheVariants as statuses
 use Rattle.fv_tool.specs.declared.words.WordFault.{WordFault}
@@ -18,6 +18,7 @@ line_of Words = codes "wrong words" ++ 10 ∷ []
 line_of OutOfMemory = fault_line 24 0
 
 -- a refusal of words was reported: its line was written, and the status is its own; or a write failed in the line
-abbrev pub TellsRefusal : WordFault → Status → Shown → Shown → Type 0
-TellsRefusal fault status w v =
-    ((status ≡ status_of fault) × Writes w v (line_of fault)) ⊎ ((status ≡ statuses.Refused) × StopsIn w v (line_of fault))
+abbrev pub TellsRefusal : WordFault → Status → Change → Type 0
+TellsRefusal fault status output =
+    ((status ≡ status_of fault) × Writes output.old output.new (line_of fault))
+    ⊎ ((status ≡ statuses.Refused) × StopsIn output.old output.new (line_of fault))

@@ -3,12 +3,15 @@
 #![tactic(auto)]
 
 ghost use Rattle.fv_command.specs.Files.{first_file, second_file};
-ghost use Rattle.fv_command.specs.PortViews.{Writes, shown};
+ghost use Rattle.fv_base.specs.Port.{inner_of};
+ghost use Rattle.fv_command.specs.Outputs.{has_failed, output_contents};
+ghost use Rattle.fv_command.specs.PortViews.{Shown, Writes, change, seen, shown};
 ghost use Rattle.fv_command.specs.Sources.{IsFirstSource, IsSecondSource};
 ghost use Rattle.fv_command.specs.Statuses.{exit_code};
-ghost use Rattle.fv_tool.specs.Does.{DoesAsked, RunsOver};
+ghost use Rattle.fv_tool.specs.Does.{DoesAsked, Ends, RunsOver};
 ghost use Rattle.fv_tool.specs.Refusals.{TellsRefusal, line_of};
-ghost use Rattle.std.specs.Prelude.{◌≡◌, map, Err, IfOk};
+ghost use Rattle.std.specs.Io.Buffered.{writer_contents};
+ghost use Rattle.std.specs.Prelude.{◌≡◌, map, false, Err, IfErr, IfOk, MatchResult};
 ghost use Rattle.std.specs.Process.{exit_status};
 ghost use Rattle.std.specs.String.{string_bytes};
 
@@ -19,21 +22,25 @@ mod words;
 
 use fv_base::{Fault, FaultKind, Port};
 use fv_command::{Output, Plan, Source, Status, close, open, refuse, run_plan, say};
+use std::alloc::Global;
+use std::env::Args;
 use std::io::{BufWriter, Write};
 use std::process::ExitCode;
 use std::rt::{Env, Files};
 use std::{env, fs, io};
 use words::{WordFault, parse_words};
 
-// The words that the program was started with.
+// The arguments in their order.
+fn collected(alloc: Global, arguments: Args) -> Result<Vec<String>, WordFault>
+    ensures ok { IfOk result (λ words. words.items ≡ into_iter_items arguments) }
+    ensures err { IfErr result (λ f. f ≡ WordFault.OutOfMemory) }
+{
+    Ok(arguments.collect(alloc)?)
+}
+
+// The arguments that the program was started with.
 fn arguments<R: Env + AllocGlobal>(rt: &R) -> Result<Vec<String>, WordFault> {
-    let mut words = Vec::new(rt.alloc());
-    for word in env::args(rt)? {
-        if words.push(word).is_err() {
-            return Err(WordFault::OutOfMemory);
-        }
-    }
-    Ok(words)
+    collected(rt.alloc(), env::args(rt)?)
 }
 
 // The source of the first input: standard input, where no file is named.
@@ -63,7 +70,7 @@ fn run_over_inputs<R: Files + Input + AllocGlobal, W: Write>(
     writer: &mut Port<W>,
 ) -> Status
     ensures { RunsOver R.Reader.remaining R.File.remaining plan.now result
-        (shown W.contents writer.old) (shown W.contents writer.new) }
+        (change W.contents writer.old writer.new) }
 {
     let first = first_source(rt, plan);
     let second = second_source(rt, plan);
@@ -78,7 +85,7 @@ fn run_over_inputs<R: Files + Input + AllocGlobal, W: Write>(
 
 // Reports that words are wrong, or that memory ran out while they were read.
 fn refuse_words<W: Write>(writer: &mut Port<W>, fault: WordFault) -> Status
-    ensures { TellsRefusal fault result (shown W.contents writer.old) (shown W.contents writer.new) }
+    ensures { TellsRefusal fault result (change W.contents writer.old writer.new) }
 {
     match fault {
         WordFault::Words => say(writer, "wrong words\n", Status::WrongWords),
@@ -94,11 +101,11 @@ fn run_given<R: Files + Input + AllocGlobal, W: Write>(
 ) -> Status
     // Words that were not found are reported.
     ensures none { (fault : WordFault) → words ≡ Err fault
-        → TellsRefusal fault result (shown W.contents writer.old) (shown W.contents writer.new) }
+        → TellsRefusal fault result (change W.contents writer.old writer.new) }
 
     // What words ask for is run; words that ask for nothing are reported, and so is a lack of memory.
     ensures given { IfOk words (λ ws. DoesAsked R.Reader.remaining R.File.remaining (map string_bytes ws.items) result
-        (shown W.contents writer.old) (shown W.contents writer.new)) }
+        (change W.contents writer.old writer.new)) }
 
     // Wrong words are reported, and only they.
     ensures wrong { result ≡ Status.WrongWords
@@ -112,6 +119,27 @@ fn run_given<R: Files + Input + AllocGlobal, W: Write>(
         Ok(plan) => run_over_inputs(rt, &plan, writer),
         Err(fault) => refuse_words(writer, fault),
     }
+}
+
+// Does what the arguments ask for, or reports why they are rejected, and writes all of it to the
+// output. Returns how the run ended, and the output below the buffer.
+fn run<R: Files + Input + AllocGlobal, W: Write + Drop>(
+    rt: &R,
+    words: Result<Vec<String>, WordFault>,
+    output: BufWriter<Output<W>>,
+) -> (Status, Port<Output<W>>)
+    // What was asked for was done, with some status. It is in the output, and the status is the one returned; or a write
+    // failed, and then a front of it is in the output, and the run is refused.
+    ensures { (ran : Status) × (wrote : Shown) × MatchResult words
+        (λ ws. DoesAsked R.Reader.remaining R.File.remaining (map string_bytes ws.items) ran
+        (record { old = seen (writer_contents (output_contents W.contents) output) false; new = wrote; }))
+        (λ fault. TellsRefusal fault ran
+        (record { old = seen (writer_contents (output_contents W.contents) output) false; new = wrote; }))
+        × Ends ran wrote result.0 (shown (output_contents W.contents) result.1) (has_failed (inner_of result.1)) }
+{
+    let mut port = Port::new(output);
+    let status = run_given(rt, words, &mut port);
+    close(port, status)
 }
 
 // Holds the numbers below 3 that are closed, so that no file of the run is taken for a standard
@@ -131,15 +159,11 @@ fn exit_with(status: Status) -> ExitCode
     ExitCode::from(status.code())
 }
 
-// Does what the words of the command line ask for, and ends with the exit code of its status.
+// Does what the arguments ask for, and ends with the exit code of its status.
 fn main(rt: HostRuntime) -> ExitCode {
     let _held = hold_numbers(&rt);
     let status = match BufWriter::new(rt.alloc(), Output::new(io::writer(&rt))) {
-        Ok(buffered) => {
-            let mut port = Port::new(buffered);
-            let status = run_given(&rt, arguments(&rt), &mut port);
-            close(port, status).0
-        }
+        Ok(output) => run(&rt, arguments(&rt), output).0,
         Err(_) => {
             let mut port = Port::new(io::writer(&rt));
             refuse(&mut port, Fault::outer(FaultKind::OutOfMemory, 0))

@@ -13,7 +13,7 @@ use super::fakes::{FakeReader, FakeWriter};
 use super::listed::listed;
 use super::spelling::{bytes_of, lines_of, number_of};
 use super::volumes::{refused, row_of};
-use crate::commands::run_plan;
+use crate::plan_run::run_plan;
 use crate::extracting::Part;
 use crate::plan::{Command, ImageFile, Plan, Task};
 use crate::source::Source;

@@ -1,7 +1,7 @@
 //! What an image holds where a volume should lie.
 
 use crate::hex_text::read_hex;
-use crate::hobs::{Standing, standing_of};
+use crate::hob_text::{Standing, standing_of};
 use fv_base::Port;
 use fv_hob::Span;
 use std::test::Fail;

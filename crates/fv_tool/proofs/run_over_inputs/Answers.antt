@@ -13,5 +13,5 @@ returns g c =
       c.second_source-second.ensures,
       _,
       _,
-      runs_over c.args.plan.now c.run_plan.result _ _ _ _ _ _ _ _ first second c.run_plan.ensures,
+      runs_over c.args.plan.now c.run_plan.result _ _ _ _ _ _ _ first second c.run_plan.ensures,
     )

@@ -1,0 +1,43 @@
+//! Whether a volume is its own canonical image, and what in it deserves a note.
+
+ghost use Rattle.std.specs.Prelude.{IfOk, IfErr};
+ghost use Rattle.fv_command.specs.CheckRuns.{InputChecks, CheckStops};
+ghost use Rattle.fv_command.specs.PortViews.{shown};
+
+use crate::check_text::write_lines;
+use crate::depex_notes::depex_notes;
+use crate::pads::outer_cells;
+use fv_base::{Fault, Port};
+use fv_canon::{is_canonical_image, whole_volume};
+use std::alloc::Global;
+use std::io::Write;
+
+/// Writes a line for each pad of the volume that the input is which holds written bytes, then one
+/// for each dependency expression of its files that is refused, and last whether the input is its
+/// own canonical image. Returns whether it is. Nothing is written before the whole input and every
+/// expression have been read.
+///
+/// # Errors
+///
+/// Those of `whole_volume`; OutOfMemory; nothing was written then. WriteFault, where a write fails or
+/// takes no byte: a front of the lines was written, and not all of them.
+pub fn write_check<W: Write>(
+    alloc: Global,
+    input: &[u8],
+    writer: &mut Port<W>,
+) -> Result<bool, Fault>
+    // The lines of the check were written, and their last says the same as the result.
+    ensures ok { IfOk result (InputChecks input.now (shown W.contents writer.old)
+        (shown W.contents writer.new)) }
+
+    // Nothing was, or a write failed in them.
+    ensures err { IfErr result (CheckStops input.now (shown W.contents writer.old)
+        (shown W.contents writer.new)) }
+{
+    let view = whole_volume(alloc, input)?;
+    let is_same = is_canonical_image(alloc, &view, input)?;
+    let (list, polarity) = outer_cells(alloc, input)?;
+    let notes = depex_notes(alloc, &view)?;
+    write_lines(writer, list.as_slice(), polarity, notes.as_slice(), is_same)?;
+    Ok(is_same)
+}

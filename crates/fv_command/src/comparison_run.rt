@@ -1,0 +1,93 @@
+//! Two volumes, compared.
+
+ghost use Rattle.std.specs.Prelude.{◌≡◌, ◌⊎◌, IfOk, IfErr};
+ghost use Rattle.fv_canon.specs.Comparisons.{VolumeStops};
+ghost use Rattle.fv_tree.specs.Denotes.{Accepted};
+ghost use Rattle.fv_command.specs.Inputs.{Gives, GivingStops};
+ghost use Rattle.fv_command.specs.PortViews.{change, shown};
+ghost use Rattle.fv_command.specs.SideRuns.{ComparesRead, RunsComparison, SideStops};
+
+use crate::inputs::read_bytes;
+use crate::fault_text::refuse_side;
+use crate::status::Status;
+use fv_base::{Fault, Port};
+use fv_canon::{Side, whole_volume, write_comparison};
+use fv_tree::VolumeView;
+use std::alloc::Global;
+use std::io::{Read, Write};
+
+// The bytes of the input of a side.
+fn read_side<R: Read>(
+    alloc: Global,
+    hex: bool,
+    side: Side,
+    reader: &mut Port<R>,
+) -> Result<Vec<u8>, (Side, Fault)>
+    ensures ok { IfOk result (λ v. Gives hex (shown R.remaining reader.old)
+        (shown R.remaining reader.new) v.items) }
+    ensures err { IfErr result (λ e. (e.0 ≡ side) × GivingStops hex
+        (shown R.remaining reader.old)
+        (shown R.remaining reader.new) e.1) }
+{
+    match read_bytes(alloc, hex, reader) {
+        Ok(bytes) => Ok(bytes),
+        Err(fault) => Err((side, fault)),
+    }
+}
+
+// The volume that the bytes of a side are.
+fn accept_side(alloc: Global, side: Side, bytes: &[u8]) -> Result<VolumeView<'_>, (Side, Fault)>
+    ensures ok { IfOk result (λ view. Accepted bytes.now view) }
+    ensures err { IfErr result (λ e. (e.0 ≡ side) × VolumeStops bytes.now e.1) }
+{
+    match whole_volume(alloc, bytes) {
+        Ok(volume) => Ok(volume),
+        Err(fault) => Err((side, fault)),
+    }
+}
+
+// Writes whether the two volumes that the readers give mean the same and, where they do not,
+// where they first differ. Answers whether they do. The second is read only behind a first that
+// is a volume. A fault is told with the side that stopped the run, as by `run_compare`.
+fn compare<First: Read, Second: Read, W: Write>(
+    alloc: Global,
+    hex: bool,
+    first: &mut Port<First>,
+    second: &mut Port<Second>,
+    writer: &mut Port<W>,
+) -> Result<bool, (Side, Fault)>
+    ensures ok { IfOk result (ComparesRead hex (record {
+        first = change First.remaining first.old first.new;
+        second = change Second.remaining second.old second.new;
+        output = change W.contents writer.old writer.new;
+    })) }
+    ensures err { IfErr result (λ e. SideStops e.0 hex (change First.remaining first.old first.new)
+        (change Second.remaining second.old second.new) (change W.contents writer.old writer.new) e.1) }
+{
+    let first_bytes = read_side(alloc, hex, Side::First, first)?;
+    let first_volume = accept_side(alloc, Side::First, &first_bytes)?;
+    let second_bytes = read_side(alloc, hex, Side::Second, second)?;
+    let second_volume = accept_side(alloc, Side::Second, &second_bytes)?;
+    write_comparison(alloc, &first_volume, &second_volume, writer)
+}
+
+/// Writes whether two volumes mean the same, or the line of what refuses one of them.
+pub fn run_comparison<First: Read, Second: Read, W: Write>(
+    alloc: Global,
+    hex: bool,
+    first: &mut Port<First>,
+    second: &mut Port<Second>,
+    writer: &mut Port<W>,
+) -> Status
+    ensures { RunsComparison hex result (record {
+        first = change First.remaining first.old first.new;
+        second = change Second.remaining second.old second.new;
+        output = change W.contents writer.old writer.new;
+    }) }
+{
+    match compare(alloc, hex, first, second, writer) {
+        Ok(true) => Status::Done,
+        Ok(false) => Status::Different,
+        Err((side, fault)) => refuse_side(writer, side, fault),
+    }
+}

@@ -1,0 +1,43 @@
+//! The commands, run over readers and a writer.
+
+ghost use Rattle.fv_command.specs.PortViews.{change};
+ghost use Rattle.fv_command.specs.Runs.{Runs};
+
+use crate::comparison_run::run_comparison;
+use crate::hob_run::run_hobs;
+use crate::plan::{Command, Plan};
+use crate::status::Status;
+use crate::task_run::run_task;
+use fv_base::Port;
+use std::alloc::Global;
+use std::io::{Read, Write};
+
+/// Runs a plan, and writes what it comes to: the answer, or the line of a fault. A command with
+/// one input reads nothing from the second reader.
+///
+/// Done and Different are answered where all of the answer was written: Different of a comparison
+/// of two volumes that differ, of a part that there is not, and of a volume that is not its own
+/// image. Else Refused: an input was refused, memory ran out, or a write failed.
+pub fn run_plan<First: Read, Second: Read, W: Write>(
+    alloc: Global,
+    plan: &Plan,
+    first: &mut Port<First>,
+    second: &mut Port<Second>,
+    writer: &mut Port<W>,
+) -> Status
+    // By the command and the status: what was read of each input, and what was written.
+    ensures { Runs plan.now result (record {
+        first = change First.remaining first.old first.new;
+        second = change Second.remaining second.old second.new;
+        output = change W.contents writer.old writer.new;
+    }) }
+{
+    match &plan.command {
+        Command::Single { task, .. } => run_task(alloc, task, plan.hex, first, writer),
+        Command::Hobs { image, .. } => {
+            let base = image.as_ref().map(|image| image.base);
+            run_hobs(alloc, plan.hex, base, first, second, writer)
+        }
+        Command::Compare { .. } => run_comparison(alloc, plan.hex, first, second, writer),
+    }
+}

@@ -1,0 +1,185 @@
+//! The tasks over one input.
+
+ghost use Rattle.std.specs.Prelude.{ℕ, Bool, List, IfOk, IfErr};
+ghost use Rattle.fv_command.specs.PortViews.{Writes, WritingStops, change, shown};
+ghost use Rattle.fv_command.specs.TaskRuns.{RunsTask, SaysRead, StopsRead};
+ghost use Rattle.fv_command.specs.TaskSteps.{Performs};
+ghost use Rattle.fv_command.specs.Tasks.{PartText};
+
+use crate::check_run::write_check;
+use crate::extracting::{Extraction, Part, extract};
+use crate::fault_text::refuse;
+use crate::hex_lines::write_shown;
+use crate::image_text::write_image;
+use crate::inputs::read_bytes;
+use crate::list_text::write_list;
+use crate::plan::Task;
+use crate::scan_text::write_volumes;
+use crate::status::Status;
+use crate::whole_write::write_bytes;
+use fv_base::{Fault, Port};
+use fv_canon::normalise_image;
+use fv_tree::read_volume;
+use std::alloc::Global;
+use std::io::{Read, Write};
+
+// Writes the canonical image of the volume that the input is.
+fn normalise<W: Write>(
+    alloc: Global,
+    hex: bool,
+    input: &[u8],
+    writer: &mut Port<W>,
+) -> Result<Status, Fault>
+    ensures { Performs Task.Normalise hex input.now (shown W.contents writer.old) (shown W.contents writer.new) result }
+{
+    write_image(alloc, hex, input, writer)?;
+    Ok(Status::Done)
+}
+
+// Writes the input with each volume in it replaced by its canonical image. Nothing is written
+// before the whole result is made.
+fn normalise_all<W: Write>(
+    alloc: Global,
+    hex: bool,
+    input: &[u8],
+    writer: &mut Port<W>,
+) -> Result<Status, Fault>
+    ensures { Performs Task.NormaliseAll hex input.now (shown W.contents writer.old) (shown W.contents writer.new) result }
+{
+    let image = normalise_image(alloc, input)?;
+    write_shown(writer, hex, image.as_slice())?;
+    Ok(Status::Done)
+}
+
+// Writes what the volume holds that the input begins with.
+fn list<W: Write>(alloc: Global, input: &[u8], writer: &mut Port<W>) -> Result<Status, Fault>
+    ensures { (hex : Bool)
+        → Performs Task.List hex input.now (shown W.contents writer.old) (shown W.contents writer.new) result }
+{
+    let (volume, _length) = read_volume(alloc, input)?;
+    write_list(writer, &volume)?;
+    Ok(Status::Done)
+}
+
+// Writes what an extraction came to: bytes, or that there are none.
+fn write_part<W: Write>(
+    writer: &mut Port<W>,
+    hex: bool,
+    extraction: &Extraction<'_>,
+) -> Result<Status, Fault>
+    ensures ok { IfOk result (λ status. (text : List ℕ) × PartText hex extraction.now status text
+        × Writes (shown W.contents writer.old) (shown W.contents writer.new) text) }
+    ensures err { IfErr result (λ f. (status : Status) × (text : List ℕ) × PartText hex extraction.now status text
+        × WritingStops (shown W.contents writer.old) (shown W.contents writer.new) text f) }
+{
+    match extraction {
+        Extraction::Made(bytes) => {
+            write_shown(writer, hex, bytes.as_slice())?;
+            Ok(Status::Done)
+        }
+        Extraction::Stored(bytes) => {
+            write_shown(writer, hex, bytes)?;
+            Ok(Status::Done)
+        }
+        Extraction::NotFound => {
+            write_bytes(writer, b"not found\n")?;
+            Ok(Status::Different)
+        }
+        Extraction::NotSectioned => {
+            write_bytes(writer, b"not sectioned\n")?;
+            Ok(Status::Different)
+        }
+    }
+}
+
+// Writes a part of the volume that the input begins with.
+fn extract_part<W: Write>(
+    alloc: Global,
+    hex: bool,
+    input: &[u8],
+    part: &Part,
+    writer: &mut Port<W>,
+) -> Result<Status, Fault>
+    ensures { Performs (Task.Extract part.now) hex input.now (shown W.contents writer.old) (shown W.contents writer.new) result }
+{
+    let (volume, _length) = read_volume(alloc, input)?;
+    let extraction = extract(alloc, &volume, part)?;
+    write_part(writer, hex, &extraction)
+}
+
+// Writes whether the input is a canonical image, and the notes of it.
+fn check<W: Write>(alloc: Global, input: &[u8], writer: &mut Port<W>) -> Result<Status, Fault>
+    ensures { (hex : Bool)
+        → Performs Task.Check hex input.now (shown W.contents writer.old) (shown W.contents writer.new) result }
+{
+    if write_check(alloc, input, writer)? {
+        Ok(Status::Done)
+    } else {
+        Ok(Status::Different)
+    }
+}
+
+// Writes where volumes stand in the input.
+fn scan<W: Write>(alloc: Global, input: &[u8], writer: &mut Port<W>) -> Result<Status, Fault>
+    ensures { (hex : Bool)
+        → Performs Task.Scan hex input.now (shown W.contents writer.old) (shown W.contents writer.new) result }
+{
+    let offsets = fv_tree::scan(alloc, input)?;
+    write_volumes(writer, input, offsets.as_slice())?;
+    Ok(Status::Done)
+}
+
+// Writes what the task says of the input.
+fn perform<W: Write>(
+    alloc: Global,
+    task: &Task,
+    hex: bool,
+    input: &[u8],
+    writer: &mut Port<W>,
+) -> Result<Status, Fault>
+    ensures { Performs task.now hex input.now (shown W.contents writer.old) (shown W.contents writer.new) result }
+{
+    match task {
+        Task::Normalise => normalise(alloc, hex, input, writer),
+        Task::NormaliseAll => normalise_all(alloc, hex, input, writer),
+        Task::List => list(alloc, input, writer),
+        Task::Extract(part) => extract_part(alloc, hex, input, part, writer),
+        Task::Check => check(alloc, input, writer),
+        Task::Scan => scan(alloc, input, writer),
+    }
+}
+
+// Reads an input to its end, and writes what the task says of it.
+fn read_and_perform<R: Read, W: Write>(
+    alloc: Global,
+    task: &Task,
+    hex: bool,
+    reader: &mut Port<R>,
+    writer: &mut Port<W>,
+) -> Result<Status, Fault>
+    ensures ok { IfOk result (SaysRead task.now hex (change R.remaining reader.old reader.new)
+        (change W.contents writer.old writer.new)) }
+    ensures err { IfErr result (StopsRead task.now hex (change R.remaining reader.old reader.new)
+        (change W.contents writer.old writer.new)) }
+{
+    let input = read_bytes(alloc, hex, reader)?;
+    perform(alloc, task, hex, &input, writer)
+}
+
+/// Reads an input to its end, and writes what the task says of it, or the line of the fault that
+/// stops the run.
+pub fn run_task<R: Read, W: Write>(
+    alloc: Global,
+    task: &Task,
+    hex: bool,
+    reader: &mut Port<R>,
+    writer: &mut Port<W>,
+) -> Status
+    ensures { RunsTask task.now hex result (change R.remaining reader.old reader.new)
+        (change W.contents writer.old writer.new) }
+{
+    match read_and_perform(alloc, task, hex, reader, writer) {
+        Ok(status) => status,
+        Err(fault) => refuse(writer, fault),
+    }
+}

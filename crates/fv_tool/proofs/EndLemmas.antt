@@ -1,0 +1,44 @@
+-- The end of a run over a buffered output, from what its closing says.
+use Rattle.std.proofs.Common.{◌≡◌, ◌∙◌, ◌⊎◌, ◌++◌, ℕ, Bool, true, false, List, [], drop, take, Option, Some, None, ap, inl, inr, refl, subst, sym}
+use Rattle.std.proofs.lemmas.List.{append-nil, append_assoc, take-append-drop}
+use Rattle.std.specs.Io.KnownBytes.{Appends, Keeps, append_known}
+use Rattle.std.specs.Prelude.{if◌then◌else◌}
+use Rattle.fv_command.specs.Endings.{WritesRest}
+use Rattle.fv_command.specs.PortViews.{Shown, StopsIn, Writes, seen}
+use Rattle.fv_command.specs.declared.status.Status.{Status}
+use Rattle.fv_command.specs.declared.status.Status.TheVariants.{Refused}
+use Rattle.fv_tool.specs.Does.{Ends, HoldsFront}
+
+-- bytes that grew by a front of some bytes are a front of them all
+front_held : (below held : Option (List ℕ)) (part rest all : List ℕ) → Appends below held part → part ++ rest ≡ all
+    → Keeps (append_known below all) (append_known held rest)
+front_held None held part rest all grew e = tt
+front_held (Some xs) None part rest all grew e = absurd grew
+front_held (Some xs) (Some ys) part rest all grew e =
+    ap (λ l. l ++ rest) grew ∙ append_assoc xs part rest ∙ ap (λ l. xs ++ l) e
+
+all_held : (below held : Option (List ℕ)) (all : List ℕ) → Appends below held all → Keeps (append_known below all) held
+all_held None held all grew = tt
+all_held (Some xs) None all grew = absurd grew
+all_held (Some xs) (Some ys) all grew = grew
+
+same_held : (below : Option (List ℕ)) (rest : List ℕ) → Keeps (append_known below rest) (append_known below rest)
+same_held None rest = tt
+same_held (Some xs) rest = refl
+
+-- what the buffer held was let go, or written, or a write failed in it
+pub ends : (ran status : Status) (below : Option (List ℕ)) (rest : List ℕ) (erred failed : Bool) (held : Shown)
+    → (erred ≡ true → (status ≡ Refused) × (held.bytes ≡ below))
+    → (erred ≡ false → WritesRest ran rest (seen below false) held failed status)
+    → Ends ran (seen (append_known below rest) erred) status held failed
+ends ran status below rest true failed held let_go written =
+    let stopped = let_go refl in
+    inr (stopped.0, (rest, subst (λ (b : Option (List ℕ)). Keeps (append_known below rest) (append_known b rest)) (sym stopped.1)
+    (same_held below rest)), inl refl)
+ends ran status below rest false failed held let_go written = go failed (written refl)
+  where
+    go : (f : Bool) → WritesRest ran rest (seen below false) held f status → Ends ran (seen (append_known below rest) false) status held f
+    go false (inl (is, grew, fine)) = inl (is, all_held below held.bytes rest grew, refl, fine, refl)
+    go true (inl (is, grew, fine)) = inr (is, ([], front_held below held.bytes rest [] rest grew (append-nil rest)), inr (inr refl))
+    go f (inr (is, n, less, grew, failing)) =
+        inr (is, (drop n rest, front_held below held.bytes (take n rest) (drop n rest) rest grew (take-append-drop n rest)), inr (inl failing))
