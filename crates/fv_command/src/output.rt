@@ -35,16 +35,20 @@ impl<W: Write> Output<W> {
     {
         self.failed
     }
-}
 
-// An error that is not tried again: that of an interrupted call is another.
-fn final_error(error: io::Error) -> io::Error
-    ensures { error_kind result ≢ ErrorKind.Interrupted }
-{
-    if error.kind() == ErrorKind::Interrupted {
-        io::Error::from(ErrorKind::Other)
-    } else {
-        error
+    // Notes that a call of the writer has failed, and returns its error as one that is not tried
+    // again: that of an interrupted call is another.
+    fn fail(&mut self, error: io::Error) -> io::Error
+        ensures writer { output_of self.new ≡ output_of self.old }
+        ensures failed { has_failed self.new ≡ true }
+        ensures kind { error_kind result ≢ ErrorKind.Interrupted }
+    {
+        self.failed = true;
+        if error.kind() == ErrorKind::Interrupted {
+            io::Error::from(ErrorKind::Other)
+        } else {
+            error
+        }
     }
 }
 
@@ -61,10 +65,7 @@ impl<W: Write> Write for Output<W> {
     {
         match self.writer.write(buf) {
             Ok(count) => Ok(count),
-            Err(error) => {
-                self.failed = true;
-                Err(final_error(error))
-            }
+            Err(error) => Err(self.fail(error)),
         }
     }
 
@@ -74,10 +75,7 @@ impl<W: Write> Write for Output<W> {
     {
         match self.writer.flush() {
             Ok(()) => Ok(()),
-            Err(error) => {
-                self.failed = true;
-                Err(final_error(error))
-            }
+            Err(error) => Err(self.fail(error)),
         }
     }
 }

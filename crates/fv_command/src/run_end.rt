@@ -16,7 +16,7 @@ use std::io::{BufWriter, Write};
 
 // Flushes an output to which all was written, and returns how the run ended.
 fn flush<W: Write + Drop>(output: Output<W>, status: Status) -> (Status, Output<W>)
-    ensures bytes { Keeps (output_contents W.contents output.entry) (output_contents W.contents result.1) }
+    ensures bytes { Keeps (output_contents W.contents output) (output_contents W.contents result.1) }
     ensures status { result.0 ≡ (if has_failed result.1 then Status.Refused else status) }
 {
     let mut flushed = output;
