@@ -1,12 +1,8 @@
 -- The text of some bytes, put by a sink of lines.
-use Rattle.std.proofs.Common.{◌≡◌, ◌∙◌, ◌≤◌, ◌<◌, ◌+◌, ◌*◌, ℕ, List, [], ◌∷◌, ◌++◌, length}
-use Rattle.std.proofs.Common.{refl, ap, sym, arith, length-append}
-use Rattle.std.specs.List.{AllByRecursion, concat}
-use Rattle.hex.specs.Hex.{encode_lower, lower_digits}
-use Rattle.hex.proofs.HexLemmas.{length-encode_with}
+use Rattle.std.proofs.Common.{◌≡◌, ◌∙◌, ◌<◌, ℕ, List, [], ◌++◌, length}
+use Rattle.std.proofs.Common.{refl, ap, sym}
 use Rattle.fv_base.specs.Sinks.{WalkLaws}
-use Rattle.fv_canon.specs.ComparisonLines.{line_feed}
-use Rattle.fv_command.specs.HexText.{IsHexText, IsWholeLine, last_text, line_text, lines_text}
+use Rattle.fv_command.specs.HexText.{IsHexText, last_text, lines_text}
 use Rattle.fv_command.specs.HexSinks.{Lined}
 
 -- a sink of lines with nothing waiting took the bytes, and then its last line was put

@@ -1,20 +1,10 @@
 -- The text of a hand-off list: the word of a block is short, and so is the text; and the lines are put in order.
-use Rattle.std.proofs.Common.{◌≡◌, ℕ, suc, ◌+◌, ◌*◌, ◌/◌, ◌%◌, ◌^◌, ◌<◌, ◌≤◌, List, [], ◌∷◌, ◌++◌, length, get_or, drop, codes, decimal}
-use Rattle.std.proofs.Common.{refl, sym, ◌∙◌, ap, subst, arith, length-append}
-use Rattle.std.specs.Prelude.{Option, None, Some}
-use Rattle.std.proofs.lemmas.Fmt.{length-decimal-le}
-use Rattle.hex.specs.Hex.{lower_digits}
-use Rattle.hex.proofs.HexLemmas.{length-encode_with}
+use Rattle.std.proofs.Common.{◌≡◌, ℕ, ◌+◌, ◌<◌, ◌≤◌, List, ◌∷◌, ◌++◌, length, get_or, drop}
+use Rattle.std.proofs.Common.{refl, ◌∙◌, ap, subst}
+use Rattle.std.specs.Prelude.{Option}
 use Rattle.fv_base.specs.Sinks.{WalkLaws}
-use Rattle.fv_canon.specs.ComparisonLines.{line_feed}
 use Rattle.fv_hob.specs.Hobs.{HobForm, hob_type, hob_len}
-use Rattle.fv_hob.specs.Lists.{JoinsHobs, span_of}
-use Rattle.fv_hob.specs.declared.span.Span.{Span}
-use Rattle.fv_hob.proofs.Laws.{len_small}
-use Rattle.fv_command.specs.HobLines.{ImageForm, HobLines, HobsText, IsSpanWord, IsWord, consumed_line, four_digits, hob_line}
-use Rattle.fv_command.specs.HobLines.{standing_word}
-use Rattle.fv_command.specs.declared.hob_text.Standing.{Standing}
-use Rattle.fv_command.specs.declared.hob_text.Standing.TheVariants.{Outside, Volume, Absent}
+use Rattle.fv_command.specs.HobLines.{ImageForm, HobLines, HobsText, IsWord, consumed_line, hob_line}
 use Rattle.fv_command.proofs.WriteLemmas.{Tells, tells_more, tells_all}
 
 -- the line of one block more

@@ -1,6 +1,5 @@
 -- The text of `list`: how the code comes to each of its parts.
-use Rattle.std.proofs.Common.{◌≡◌, ℕ, ◌+◌, ◌<◌, ◌≤◌, List, [], ◌∷◌, ◌++◌, length, drop, get_or, refl, sym, ap, ◌∙◌, subst, arith, add-one}
-use Rattle.std.proofs.Common.{codes, inl, inr}
+use Rattle.std.proofs.Common.{◌≡◌, ℕ, ◌+◌, ◌<◌, ◌≤◌, List, [], ◌∷◌, ◌++◌, length, drop, get_or, refl, sym, subst, arith}
 use Rattle.std.specs.Prelude.{Option, None, Some}
 use Rattle.std.specs.List.{flat_map}
 use Rattle.fv_base.specs.Sinks.{WalkLaws}
@@ -9,8 +8,7 @@ use Rattle.fv_base.specs.Value.{le_at}
 use Rattle.fv_head.specs.Head.{HeadFields}
 use Rattle.fv_tree.specs.Meaning.{Meaning, Volume, FileMeaning, File, ContentMeaning, SectionMeaning, Section, BodyMeaning, Leaf, Group, Nested}
 use Rattle.fv_tree.specs.Meaning.{files_from, sections_from, content_of, section_kind_of, body_of, leaf_of}
-use Rattle.fv_command.specs.Indents.{levels}
-use Rattle.fv_command.specs.ListTexts.{unit_text, spaces, volume_text, file_text, section_text, LeafText, BodyShown}
+use Rattle.fv_command.specs.ListTexts.{unit_text, volume_text, file_text, section_text, LeafText, BodyShown}
 use Rattle.fv_command.specs.ListTexts.{VolumeLines, FilesLines, FileLines, ContentLines, SectionsLines, SectionLines, BodyLines}
 use Rattle.fv_command.proofs.WriteLemmas.{Tells, tells_more}
 

@@ -1,6 +1,6 @@
 -- The cells of an input, and what is put for its pads.
-use Rattle.std.proofs.Common.{◌≡◌, ◌∙◌, ◌<◌, ◌+◌, ℕ, List, [], ◌∷◌, ◌++◌, length, take, get_or, true, refl, sym, ap, subst, inl, inr}
-use Rattle.std.specs.Prelude.{◌==◌, ◌≢◌, ◌⊎◌, not, drop, map, Result, Ok, Err}
+use Rattle.std.proofs.Common.{◌≡◌, ◌∙◌, ◌<◌, ◌+◌, ℕ, List, ◌++◌, length, take, get_or, true, refl, sym, ap, subst, inl, inr}
+use Rattle.std.specs.Prelude.{◌==◌, ◌≢◌, ◌⊎◌, not, drop, map, Result, Ok}
 use Rattle.std.specs.List.{flat_map}
 use Rattle.std.proofs.lemmas.Bool.Decides.{Decides-eqb}
 use Rattle.std.proofs.lemmas.List.{map_more}

@@ -1,12 +1,10 @@
 -- A line for each volume that was found.
-use Rattle.std.proofs.Common.{◌≡◌, ℕ, zero, suc, ◌+◌, ◌*◌, ◌<◌, ◌≤◌, ◌^◌, List, [], ◌∷◌, ◌++◌, length, get_or, codes, decimal}
-use Rattle.std.proofs.Common.{refl, sym, ap, ◌∙◌, subst, arith, length-append}
+use Rattle.std.proofs.Common.{ℕ, zero, suc, ◌+◌, ◌<◌, ◌≤◌, List, [], ◌∷◌, length, get_or}
+use Rattle.std.proofs.Common.{refl, arith}
 use Rattle.std.specs.List.{AllByRecursion}
-use Rattle.std.proofs.lemmas.Fmt.{length-decimal-le}
 use Rattle.std.proofs.lemmas.List.{length-drop}
 use Rattle.fv_base.specs.Sinks.{WalkLaws}
-use Rattle.fv_canon.specs.ComparisonLines.{line_feed}
-use Rattle.fv_tree.specs.FoundVolumes.{Apart, Found, IsPlace, LiesBehind, VolumeAt}
+use Rattle.fv_tree.specs.FoundVolumes.{IsPlace, VolumeAt}
 use Rattle.fv_command.specs.Lines.{ScanText, volume_line}
 use Rattle.fv_command.proofs.WriteLemmas.{Tells, tells_more}
 

@@ -1,5 +1,5 @@
 -- The end of a run: what the buffer of its output still holds is written.
-use Rattle.std.specs.Prelude.{◌≡◌, ◌⊎◌, ℕ, Bool, true, false, List, if◌then◌else◌}
+use Rattle.std.specs.Prelude.{◌≡◌, ◌⊎◌, ℕ, Bool, List, if◌then◌else◌}
 use Rattle.fv_command.specs.PortViews.{Shown, StopsIn, Writes}
 use Rattle.fv_command.specs.declared.status.Status.{Status}
 use Rattle.fv_command.specs.declared.status.Status.TheVariants.{Refused}

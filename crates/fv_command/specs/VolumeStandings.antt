@@ -1,10 +1,7 @@
 -- What an image holds where a volume should lie.
-use Rattle.std.specs.Prelude.{◌≡◌, ◌≤◌, ℕ, ◌+◌, ◌-◌, List, Option, length, take, drop}
-use Rattle.fv_base.specs.Input.{ReadsWhole}
+use Rattle.std.specs.Prelude.{◌≡◌, ◌≤◌, ℕ, ◌+◌, ◌-◌, List, length, take, drop}
 use Rattle.fv_head.specs.Head.{HeadFields, BeginsVolume}
 use Rattle.fv_head.specs.declared.extent.Extent.{Extent}
-use Rattle.fv_hob.specs.Hobs.{HobForm}
-use Rattle.fv_hob.specs.Lists.{IsHobList}
 use Rattle.fv_hob.specs.declared.span.Span.{Span}
 use Rattle.fv_command.specs.declared.hob_text.Standing.{Standing}
 use Rattle.fv_command.specs.declared.hob_text.Standing.TheVariants.{Outside, Volume, Absent}

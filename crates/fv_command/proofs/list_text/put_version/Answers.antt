@@ -1,4 +1,4 @@
-use Rattle.std.proofs.Common.{ℕ, List, [], ◌++◌, codes, decimal, inl, inr, refl, subst}
+use Rattle.std.proofs.Common.{ℕ, [], ◌++◌, codes, decimal, inl, inr, refl, subst}
 use Rattle.fv_command.proofs.list_text.put_version.Goals as goal
 
 pub returns-in-Some : goal.returns-in-Some

@@ -1,5 +1,4 @@
 use Rattle.std.proofs.lemmas.Result.{err_from_is_err_and}
-use Rattle.fv_command.specs.declared.status.Status.TheVariants.{Done, Different}
 use Rattle.fv_command.proofs.RunLemmas.{check_stopped}
 use Rattle.fv_command.proofs.task_run.check.Goals as goal
 
