@@ -2,7 +2,7 @@
 use Rattle.std.proofs.Common.{◌≡◌, ◌∙◌, ◌⊎◌, ◌++◌, ℕ, Bool, true, false, List, [], drop, take, Option, Some, None, ap, inl, inr, refl, subst, sym}
 use Rattle.std.proofs.lemmas.List.{append-nil, append_assoc, take-append-drop}
 use Rattle.std.specs.Io.KnownBytes.{Appends, Keeps, append_known}
-use Rattle.std.specs.Prelude.{if◌then◌else◌}
+use Rattle.std.specs.Prelude.{if◌then◌else◌, Result, Ok, Err, IfOk, MatchResult}
 use Rattle.fv_command.specs.Endings.{WritesRest}
 use Rattle.fv_command.specs.PortViews.{Shown, StopsIn, Writes, seen}
 use Rattle.fv_command.specs.declared.status.Status.{Status}
@@ -38,7 +38,13 @@ ends ran status below rest true failed held let_go written =
 ends ran status below rest false failed held let_go written = go failed (written refl)
   where
     go : (f : Bool) → WritesRest ran rest (seen below false) held f status → Ends ran (seen (append_known below rest) false) status held f
-    go false (inl (is, grew, fine)) = inl (is, all_held below held.bytes rest grew, refl, fine, refl)
-    go true (inl (is, grew, fine)) = inr (is, ([], front_held below held.bytes rest [] rest grew (append-nil rest)), inr (inr refl))
-    go f (inr (is, n, less, grew, failing)) =
+    go false (inl (is, (grew, fine))) = inl (is, all_held below held.bytes rest grew, refl, fine, refl)
+    go true (inl (is, (grew, fine))) = inr (is, ([], front_held below held.bytes rest [] rest grew (append-nil rest)), inr (inr refl))
+    go f (inr (is, (n, less, grew, failing))) =
         inr (is, (drop n rest, front_held below held.bytes (take n rest) (drop n rest) rest grew (take-append-drop n rest)), inr (inl failing))
+
+-- what holds of arguments that were read, or of why they were not
+pub by_words : {A E : Type 0} (words : Result A E) (P : A → Type 0) (Q : E → Type 0) → IfOk words P → ((e : E) → words ≡ Err e → Q e)
+    → MatchResult words P Q
+by_words (Ok x) P Q given none = given
+by_words (Err e) P Q given none = none e refl

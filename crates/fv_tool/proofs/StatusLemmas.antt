@@ -30,7 +30,8 @@ command_not_wrong (Compare first second) hex ports ran = ran
 pub never_wrong : {S F : Type 0} (of_input : S → Option (List ℕ)) (of_file : F → Option (List ℕ)) (p : Plan) (status : Status)
     (output : Change) → RunsOver of_input of_file p status output → status ≡ WrongWords → ⊥
 never_wrong of_input of_file p status output (first, second, is_first, is_second, s, s', ran) is =
-    command_not_wrong p.command p.hex _ (subst (λ (x : Status). RunsCommand p.command p.hex x _) is ran)
+    let ports = ports_of (fresh of_input of_file first) s (fresh of_input of_file second) s' output in
+    command_not_wrong p.command p.hex ports (subst (λ (x : Status). RunsCommand p.command p.hex x ports) is ran)
 
 -- where arguments were rejected with the status of wrong words, that line was written
 pub wrong_said : (fault : WordFault) (status : Status) (output : Change) → TellsRefusal fault status output → status ≡ WrongWords
@@ -40,12 +41,10 @@ wrong_said Words status output (inr failed) is = let bad : Refused ≡ WrongWord
 wrong_said OutOfMemory status output (inl said) is = let bad : Refused ≡ WrongWords = sym said.0 ∙ is in cc
 wrong_said OutOfMemory status output (inr failed) is = let bad : Refused ≡ WrongWords = sym failed.0 ∙ is in cc
 
--- what a new port over a source shows
-pub shown_fresh : {S F : Type 0} (of_input : S → Option (List ℕ)) (of_file : F → Option (List ℕ)) (port : Port (Source S F))
-    (source : Source S F) → inner_of port ≡ source → has_erred port ≡ false
-    → shown (unread of_input of_file) port ≡ fresh of_input of_file source
-shown_fresh of_input of_file port source is fine =
-    ap (λ e. seen (unread of_input of_file (inner_of port)) e) fine ∙ ap (λ x. seen (unread of_input of_file x) false) is
+-- what a new port shows
+pub shown_new : {T : Type 0} (told : T → Option (List ℕ)) (port : Port T) (inner : T) → inner_of port ≡ inner → has_erred port ≡ false
+    → shown told port ≡ seen (told inner) false
+shown_new told port inner is fine = ap (λ e. seen (told (inner_of port)) e) fine ∙ ap (λ x. seen (told x) false) is
 
 -- a run over what is shown is one over the same
 pub runs_over : (p : Plan) (status : Status) (r a s r' b s' : Shown) (output : Change) → r ≡ a → r' ≡ b

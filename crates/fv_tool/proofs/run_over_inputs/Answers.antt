@@ -1,11 +1,12 @@
-use Rattle.fv_tool.proofs.StatusLemmas.{runs_over, shown_fresh}
+use Rattle.fv_command.specs.Sources.{unread}
+use Rattle.fv_tool.proofs.StatusLemmas.{runs_over, shown_new}
 use Rattle.fv_tool.proofs.run_over_inputs.Goals as goal
 
 pub returns : goal.returns
 returns g c =
-    let first = shown_fresh g.R.Reader.Read.remaining g.R.File.Read.remaining c.new.result c.first_source-first.result
+    let first = shown_new (unread g.R.Reader.Read.remaining g.R.File.Read.remaining) c.new.result c.first_source-first.result
     c.new.ensures.inner c.new.ensures.erred in
-    let second = shown_fresh g.R.Reader.Read.remaining g.R.File.Read.remaining c.new-2.result c.second_source-second.result
+    let second = shown_new (unread g.R.Reader.Read.remaining g.R.File.Read.remaining) c.new-2.result c.second_source-second.result
     c.new-2.ensures.inner c.new-2.ensures.erred in (
       c.first_source-first.result,
       c.second_source-second.result,
