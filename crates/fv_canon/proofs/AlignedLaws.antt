@@ -1,22 +1,27 @@
--- The data of each file of an image stand on their alignment.
-use Rattle.std.proofs.Common.{◌≡◌, ℕ, List, drop, subst}
+-- The data of each file of an image stand on their alignment, and its pads have only erased data.
+use Rattle.std.proofs.Common.{◌≡◌, ℕ, List, drop, subst, sym}
+use Rattle.std.specs.List.{AllByRecursion}
 use Rattle.fv_base.specs.declared.flash.Polarity.{Polarity}
-use Rattle.fv_file.specs.Cells.{Tiles}
+use Rattle.fv_file.specs.Cells.{CellForm, Tiles}
 use Rattle.fv_file.proofs.Laws.{only_one}
 use Rattle.fv_head.specs.Attributes.{polarity_of}
 use Rattle.fv_head.specs.Head.{BeginsVolume, extent_of}
 use Rattle.fv_head.specs.ExtImage.{canonical_first}
 use Rattle.fv_head.specs.declared.extent.Extent.{Extent}
 use Rattle.fv_head.proofs.Laws.{one_front}
-use Rattle.fv_tree.specs.Denotes.{MeansSection, Stream}
-use Rattle.fv_tree.specs.Meaning.{Volume}
+use Rattle.fv_tree.specs.Denotes.{IsMeaning, MeansSection, Stream}
+use Rattle.fv_tree.specs.Meaning.{Meaning, Volume, head_of}
 use Rattle.fv_canon.specs.Aligned.{DataAligned, ImagesAlign}
+use Rattle.fv_canon.specs.Image.{IsImage}
+use Rattle.fv_canon.proofs.StoredTilingLaws.{PadErased}
 use Rattle.fv_canon.proofs.StreamLaws.{stream_again}
 use Rattle.fv_canon.proofs.VolumeLaws.{known, image_front, image_tiled, sections_again}
 
--- the cells that are read are those that were written, and each file that is written has a lawful start
-pub images_align : ImagesAlign
-images_align (Volume h files) image e cells (n, most, b, small, d) (stored, starts, are, placed, shows) front tiles =
+-- the cells that are read are those that were written: each file has a lawful start, and each pad only erased data
+cells_are : (m : Meaning) (image : List ℕ) (e : Extent) (cells : List CellForm) → IsMeaning m → IsImage m image
+    → BeginsVolume (head_of m) e image → Tiles e.file_system e.polarity e.first cells (drop e.first image)
+    → DataAligned cells × AllByRecursion (PadErased e.polarity) cells
+cells_are (Volume h files) image e cells (n, most, b, small, d) (stored, starts, are, placed, shows) front tiles =
     let first : ℕ = canonical_first h h.ext in
     let again = stream_again (MeansSection n) (sections_again n) in
     let k = (known (Stream n) again h files b small d stored starts are placed).writable in
@@ -27,4 +32,17 @@ images_align (Volume h files) image e cells (n, most, b, small, d) (stored, star
     let body : List ℕ = drop first image in
     let here : Tiles h.file_system p first cells body =
     subst (λ (x : Extent). Tiles x.file_system x.polarity x.first cells (drop x.first image)) extents tiles in
-    subst DataAligned (only_one h.file_system p first body cells tiled.cells here tiled.tiles) tiled.aligned
+    let same : tiled.cells ≡ cells = only_one h.file_system p first body cells tiled.cells here tiled.tiles in (
+      subst DataAligned same tiled.aligned,
+      subst (λ (x : Extent). AllByRecursion (PadErased x.polarity) cells) (sym extents)
+          (subst (AllByRecursion (PadErased p)) same tiled.erased),
+    )
+
+pub images_align : ImagesAlign
+images_align m image e cells is own front tiles = (cells_are m image e cells is own front tiles).0
+
+-- the pads of an image that stand from its first file's place on have only erased data
+pub pads_erased : (m : Meaning) (image : List ℕ) (e : Extent) (cells : List CellForm) → IsMeaning m → IsImage m image
+    → BeginsVolume (head_of m) e image → Tiles e.file_system e.polarity e.first cells (drop e.first image)
+    → AllByRecursion (PadErased e.polarity) cells
+pads_erased m image e cells is own front tiles = (cells_are m image e cells is own front tiles).1

@@ -4,6 +4,9 @@
 pub use Rattle.fv_canon.proofs.ImageLaws.{image_is, image_only, image_accepted, image_length, length_limit}
 -- the image of a volume is its own image, and as long as the volume
 pub use Rattle.fv_canon.proofs.ImageLaws.{image_again, image_stays_long}
+-- in an image the pads from the first file's place on have only erased data
+pub use Rattle.fv_canon.proofs.AlignedLaws.{pads_erased}
+pub use Rattle.fv_canon.proofs.StoredTilingLaws.{PadErased}
 -- one meaning of some bytes, and of an image; bytes that are a volume within the limit are accepted
 pub use Rattle.fv_canon.proofs.MeaningLaws.{one_meaning}
 pub use Rattle.fv_canon.proofs.HeadlineLaws.{accepted, one_meaning_of}

@@ -6,6 +6,7 @@ use Rattle.std.specs.List.{AllByRecursion}
 use Rattle.std.proofs.lemmas.Bool.{ne_eqb}
 use Rattle.std.proofs.lemmas.List.{length-replicate}
 use Rattle.fv_base.specs.Alignment.{alignment_of}
+use Rattle.fv_base.specs.Erased.{AllAre}
 use Rattle.fv_base.specs.Flash.{erased_byte}
 use Rattle.fv_base.specs.Value.{up_to_8}
 use Rattle.fv_base.specs.declared.flash.FileSystem.{FileSystem}
@@ -29,12 +30,18 @@ forms_of p [] starts = []
 forms_of p (f ∷ fs) [] = []
 forms_of p (f ∷ fs) (s ∷ ss) = record { offset = s; head = stored_head p f; payload = f.payload } ∷ forms_of p fs ss
 
+-- a pad has only erased data
+abbrev pub PadErased : Polarity → CellForm → Type 0
+PadErased p (Pad at head payload) = AllAre (erased_byte p) payload
+PadErased p _ = Unit {0}
+
 -- some cells tile the bytes, and these are the files among them
 pub record Tiled (system : FileSystem) (p : Polarity) (at : ℕ) (b : List ℕ) (forms : List FileForm) : Type 0 where
   pub cells : List CellForm
   pub tiles : Tiles system p at cells b
   pub files_are : files_in cells ≡ forms
   pub aligned : DataAligned cells
+  pub erased : AllByRecursion (PadErased p) cells
 
 never : {A : Type 0} → false ≡ true → A
 never e = absurd cc
@@ -59,6 +66,7 @@ pad_tiles system p size at rest forms least most multiple behind =
       );
       files_are = behind.files_are;
       aligned = behind.aligned;
+      erased = (all-of_replicate (erased_byte p) (size - 24), behind.erased);
     }
 
 pads_tile : (system : FileSystem) (p : Polarity) (n gap at : ℕ) (rest : List ℕ) (forms : List FileForm) → n * 0xffff00 + 24 ≤ gap
@@ -129,7 +137,7 @@ length-gap p gap (inr l) multiple = ap length (gap_some p gap l) ∙ length-pads
 -- ---- erased bytes at the end
 
 free_tiles : (system : FileSystem) (p : Polarity) (at n : ℕ) → Tiled system p at (replicate n (erased_byte p)) []
-free_tiles system p at zero = record { cells = []; tiles = refl; files_are = refl; aligned = tt }
+free_tiles system p at zero = record { cells = []; tiles = refl; files_are = refl; aligned = tt; erased = tt }
 free_tiles system p at (suc n) = record {
   cells = Free at (suc n) ∷ [];
   tiles = (
@@ -143,6 +151,7 @@ free_tiles system p at (suc n) = record {
   );
   files_are = refl;
   aligned = tt;
+  erased = (tt, tt);
 }
 
 -- ---- file by file
@@ -199,6 +208,7 @@ body_tiles system p total e (f ∷ fs) (s ∷ ss) h m all follow =
       );
       files_are = ap (λ (xs : List FileForm). record { offset = s; head = stored_head p f; payload = f.payload } ∷ xs) behind.files_are;
       aligned = (data_aligned p f s all.0.short follow.0.lawful.aligned, behind.aligned);
+      erased = (tt, behind.erased);
     }))
   where
     whole : (s n k u : ℕ) → s % 8 ≡ 0 → u % 8 ≡ 0 → (s + n) + k ≡ u → (n + k) % 8 ≡ 0

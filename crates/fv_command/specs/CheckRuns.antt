@@ -1,16 +1,34 @@
 -- What a check has noted so far, what it wrote, and why it stopped.
 -- Serves private clauses alone: there is nothing to believe here.
-use Rattle.std.specs.Prelude.{◌≡◌, ◌⊎◌, ℕ, Bool, List, ◌++◌}
+use Rattle.std.specs.Prelude.{◌≡◌, ◌⊎◌, ℕ, Bool, true, List, [], ◌++◌, Option, Some, None}
 use Rattle.fv_base.specs.Faults.{want_of_memory}
 use Rattle.fv_base.specs.declared.fault.Fault.{Fault}
+use Rattle.fv_base.specs.declared.flash.Polarity.{Polarity}
 use Rattle.fv_canon.specs.Refusals.{NotRead}
+use Rattle.fv_file.specs.Cells.{CellForm}
+use Rattle.fv_tree.specs.Denotes.{Accepted}
+use Rattle.fv_tree.specs.Meaning.{Meaning}
 use Rattle.fv_command.specs.declared.depex_notes.DepexNote.{DepexNote}
-use Rattle.fv_command.specs.CheckTexts.{HeldDepex, AreNotes, CheckText}
+use Rattle.fv_command.specs.CheckTexts.{HeldDepex, AreCells, AreNotes, CheckText, depex_lines, pad_notes, verdict_line}
 use Rattle.fv_command.specs.PortViews.{Shown, Writes, WritingStops}
 
 -- behind the notes that there were come those of some expressions
 abbrev pub Noted : List HeldDepex → List DepexNote → List DepexNote → Type 0
 Noted xs old new = (more : List DepexNote) × (new ≡ old ++ more) × AreNotes xs more
+
+-- the cells of the input, and of which polarity its erased bytes are; none where it is its own canonical image
+abbrev pub NotedCells : List ℕ → Bool → Option (List CellForm × Polarity) → Type 0
+NotedCells input same None = same ≡ true
+NotedCells input same (Some (cells, polarity)) = (m : Meaning) → Accepted input m → AreCells m input polarity cells
+
+-- what is noted of the cells, if there are any to look at
+abbrev pub noted_pads : Option (List CellForm × Polarity) → List ℕ
+noted_pads None = []
+noted_pads (Some (cells, polarity)) = pad_notes polarity cells
+
+-- the lines of a check
+abbrev pub noted_lines : Option (List CellForm × Polarity) → List DepexNote → Bool → List ℕ
+noted_lines tiled notes same = noted_pads tiled ++ (depex_lines notes ++ verdict_line same)
 
 -- the text of a check was written
 abbrev pub InputChecks : List ℕ → Shown → Shown → Bool → Type 0

@@ -6,7 +6,7 @@ ghost use Rattle.fv_command.specs.PortViews.{shown};
 
 use crate::check_text::write_lines;
 use crate::depex_notes::depex_notes;
-use crate::pads::outer_cells;
+use crate::pads::noted_cells;
 use fv_base::{Fault, Port};
 use fv_canon::{is_canonical_image, whole_volume};
 use std::alloc::Global;
@@ -36,8 +36,8 @@ pub fn write_check<W: Write>(
 {
     let view = whole_volume(alloc, input)?;
     let is_same = is_canonical_image(alloc, &view, input)?;
-    let (list, polarity) = outer_cells(alloc, input)?;
+    let tiled = noted_cells(alloc, input, is_same)?;
     let notes = depex_notes(alloc, &view)?;
-    write_lines(writer, list.as_slice(), polarity, notes.as_slice(), is_same)?;
+    write_lines(writer, tiled.as_ref(), notes.as_slice(), is_same)?;
     Ok(is_same)
 }

@@ -1,15 +1,15 @@
 //! The lines of a check, put and written.
 
-ghost use Rattle.std.specs.Prelude.{map, IfErr, OnOk};
-ghost use Rattle.fv_file.specs.CellForms.{cell_form};
-ghost use Rattle.fv_command.specs.CheckTexts.{depex_line, depex_lines, verdict_line, check_lines};
+ghost use Rattle.std.specs.Prelude.{option_copied, IfErr, OnOk};
+ghost use Rattle.fv_command.specs.CheckRuns.{noted_lines};
+ghost use Rattle.fv_command.specs.CheckTexts.{depex_line, depex_lines, verdict_line};
 ghost use Rattle.fv_command.specs.PortViews.{Writes, WritingStops, shown};
 
 use crate::depex_notes::DepexNote;
-use crate::pads::put_cells;
+use crate::pads::put_pads;
 use fv_base::{Fault, Polarity, Port, Sink, WriteSink};
 use fv_canon::put_decimal;
-use fv_file::Cell;
+use fv_file::Cells;
 use std::io::Write;
 
 // Puts the line of a dependency expression that is refused.
@@ -48,36 +48,34 @@ fn put_verdict<S: Sink>(out: &mut S, is_same: bool)
 // Puts the lines of a check.
 fn put_check<S: Sink>(
     out: &mut S,
-    list: &[Cell<'_>],
-    polarity: Polarity,
+    tiled: Option<&(Cells<'_>, Polarity)>,
     notes: &[DepexNote],
     is_same: bool,
 )
-    ensures { S.takes out.old (check_lines polarity (map cell_form list.now) notes.now is_same) out.new }
+    ensures { S.takes out.old (noted_lines (option_copied tiled.entry) notes.now is_same) out.new }
 {
-    put_cells(out, list, polarity);
+    put_pads(out, tiled);
     put_notes(out, notes);
     put_verdict(out, is_same);
 }
 
-/// Writes the lines of a check.
+/// Writes the lines of a check. None stands for the cells of an image, none of whose pads is noted.
 ///
 /// # Errors
 ///
 /// WriteFault, where a write fails or takes no byte.
 pub fn write_lines<W: Write>(
     writer: &mut Port<W>,
-    list: &[Cell<'_>],
-    polarity: Polarity,
+    tiled: Option<&(Cells<'_>, Polarity)>,
     notes: &[DepexNote],
     is_same: bool,
 ) -> Result<(), Fault>
     ensures ok { OnOk result (Writes (shown W.contents writer.old) (shown W.contents writer.new)
-        (check_lines polarity (map cell_form list.now) notes.now is_same)) }
+        (noted_lines (option_copied tiled.entry) notes.now is_same)) }
     ensures err { IfErr result (WritingStops (shown W.contents writer.old) (shown W.contents writer.new)
-        (check_lines polarity (map cell_form list.now) notes.now is_same)) }
+        (noted_lines (option_copied tiled.entry) notes.now is_same)) }
 {
     let mut out = WriteSink::new(writer);
-    put_check(&mut out, list, polarity, notes, is_same);
+    put_check(&mut out, tiled, notes, is_same);
     out.outcome()
 }

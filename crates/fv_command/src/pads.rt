@@ -1,10 +1,11 @@
 //! The pads of a volume, and what is put for those that hold written bytes.
 
-ghost use Rattle.std.specs.Prelude.{◌≡◌, map, IfOk, IfErr};
+ghost use Rattle.std.specs.Prelude.{◌≡◌, map, option_copied, IfOk, IfErr};
 ghost use Rattle.fv_base.specs.Faults.{want_of_memory};
 ghost use Rattle.fv_file.specs.CellForms.{cell_form};
 ghost use Rattle.fv_tree.specs.Denotes.{Accepted};
 ghost use Rattle.fv_tree.specs.Meaning.{Meaning};
+ghost use Rattle.fv_command.specs.CheckRuns.{NotedCells, noted_pads};
 ghost use Rattle.fv_command.specs.CheckTexts.{written_in, pad_line, pad_note, pad_notes, AreCells};
 
 use fv_base::{Fault, Polarity, Sink};
@@ -13,12 +14,8 @@ use fv_file::{Cell, Cells, cells};
 use fv_head::verify_fv;
 use std::alloc::Global;
 
-/// The cells of the volume that the input is, and what an erased byte of it holds.
-///
-/// # Errors
-///
-/// OutOfMemory.
-pub fn outer_cells(alloc: Global, input: &[u8]) -> Result<(Cells<'_>, Polarity), Fault>
+// The cells of the volume that the input is, and what an erased byte of it holds.
+fn outer_cells(alloc: Global, input: &[u8]) -> Result<(Cells<'_>, Polarity), Fault>
     requires { (m : Meaning) × Accepted input.now m }
     ensures ok { IfOk result (λ r. (m : Meaning) → Accepted input.now m → AreCells m input.now r.1 r.0) }
     ensures err { IfErr result (λ f. f ≡ want_of_memory) }
@@ -32,6 +29,29 @@ pub fn outer_cells(alloc: Global, input: &[u8]) -> Result<(Cells<'_>, Polarity),
         extent.polarity,
     )?;
     Ok((list, extent.polarity))
+}
+
+/// The cells of the volume that the input is, and what an erased byte of it holds; None where the volume is its own
+/// canonical image. In an image no pad from the first file's place on holds a written byte. So none is noted, and the
+/// volume need not be tiled for its pads.
+///
+/// # Errors
+///
+/// OutOfMemory.
+pub fn noted_cells(
+    alloc: Global,
+    input: &[u8],
+    is_same: bool,
+) -> Result<Option<(Cells<'_>, Polarity)>, Fault>
+    requires { (m : Meaning) × Accepted input.now m }
+    ensures ok { IfOk result (NotedCells input.now is_same) }
+    ensures err { IfErr result (λ f. f ≡ want_of_memory) }
+{
+    if is_same {
+        return Ok(None);
+    }
+    let tiled = outer_cells(alloc, input)?;
+    Ok(Some(tiled))
 }
 
 // How many of the bytes are not erased.
@@ -77,11 +97,21 @@ fn put_cell<S: Sink>(out: &mut S, cell: &Cell<'_>, polarity: Polarity)
     }
 }
 
-/// Puts what is noted of the cells, in their order.
-pub fn put_cells<S: Sink>(out: &mut S, list: &[Cell<'_>], polarity: Polarity)
+// Puts what is noted of the cells, in their order.
+fn put_cells<S: Sink>(out: &mut S, list: &[Cell<'_>], polarity: Polarity)
     ensures { S.takes out.old (pad_notes polarity (map cell_form list.now)) out.new }
 {
     for cell in list {
         put_cell(out, cell, polarity);
+    }
+}
+
+/// Puts what is noted of the pads among the cells, if the volume was tiled for them.
+pub fn put_pads<S: Sink>(out: &mut S, tiled: Option<&(Cells<'_>, Polarity)>)
+    ensures { S.takes out.old (noted_pads (option_copied tiled.entry)) out.new }
+{
+    if let Some(found) = tiled {
+        let (list, polarity) = found;
+        put_cells(out, list.as_slice(), *polarity);
     }
 }

@@ -1,6 +1,5 @@
-use Rattle.std.proofs.Common.{map, inl, inr, refl}
+use Rattle.std.proofs.Common.{inl, inr, option_copied, refl}
 use Rattle.std.proofs.lemmas.Result.{err_from_is_err_and}
-use Rattle.fv_file.specs.CellForms.{cell_form}
 use Rattle.fv_command.proofs.CheckLemmas.{check_text}
 use Rattle.fv_command.proofs.check_run.write_check.Goals as goal
 
@@ -14,13 +13,13 @@ returns-in_err-is_same-clause-err g c =
     let p = err_from_is_err_and c.from_residual-in_err-is_same.result c.from_residual-in_err-is_same.ensures.1 in
     rw (p.1, p.2) (inl (refl, inl c.in_err-is_same.ensures.err))
 
-pub outer_cells-requires : goal.outer_cells-requires
-outer_cells-requires g c = (c.in_ok-view.view, c.in_ok-view.ensures.found)
+pub noted_cells-requires : goal.noted_cells-requires
+noted_cells-requires g c = (c.in_ok-view.view, c.in_ok-view.ensures.found)
 
-pub returns-in_err-list-clause-err : goal.returns-in_err-list-clause-err
-returns-in_err-list-clause-err g c =
-    let p = err_from_is_err_and c.from_residual-in_err-list.result c.from_residual-in_err-list.ensures.1 in
-    rw (p.1, p.2) (inl (refl, inl c.in_err-list.ensures.err))
+pub returns-in_err-tiled-clause-err : goal.returns-in_err-tiled-clause-err
+returns-in_err-tiled-clause-err g c =
+    let p = err_from_is_err_and c.from_residual-in_err-tiled.result c.from_residual-in_err-tiled.ensures.1 in
+    rw (p.1, p.2) (inl (refl, inl c.in_err-tiled.ensures.err))
 
 pub returns-in_err-notes-clause-err : goal.returns-in_err-notes-clause-err
 returns-in_err-notes-clause-err g c =
@@ -30,14 +29,14 @@ returns-in_err-notes-clause-err g c =
 pub returns-in_err-write_lines-clause-err : goal.returns-in_err-write_lines-clause-err
 returns-in_err-write_lines-clause-err g c =
     let p = err_from_is_err_and c.from_residual-in_err-write_lines.result c.from_residual-in_err-write_lines.ensures.1 in
-    let told = check_text c.args.input.now c.in_ok-is_same.is_same c.in_ok-view.view c.in_ok-list.polarity c.in_ok-list.list
-    (map cell_form c.as_slice.result.now) c.in_ok-notes.notes.items c.as_slice-2.result.now c.in_ok-view.ensures.found
-    c.in_ok-is_same.ensures.ok c.in_ok-list.ensures.ok c.as_slice.ensures c.in_ok-notes.ensures.ok c.as_slice-2.ensures.value in
+    let told = check_text c.args.input.now c.in_ok-is_same.is_same c.in_ok-view.view c.in_ok-tiled.tiled
+    (option_copied c.as_ref.result) c.in_ok-notes.notes.items c.as_slice.result.now c.in_ok-view.ensures.found
+    c.in_ok-is_same.ensures.ok c.in_ok-tiled.ensures.ok c.as_ref.ensures.value c.in_ok-notes.ensures.ok c.as_slice.ensures.value in
     rw (p.1, p.2) (inr (c.in_ok-is_same.is_same, _, told, c.in_err-write_lines.ensures.err))
 
 pub returns-clause-ok : goal.returns-clause-ok
 returns-clause-ok g c =
-    let told = check_text c.args.input.now c.in_ok-is_same.is_same c.in_ok-view.view c.in_ok-list.polarity c.in_ok-list.list
-    (map cell_form c.as_slice.result.now) c.in_ok-notes.notes.items c.as_slice-2.result.now c.in_ok-view.ensures.found
-    c.in_ok-is_same.ensures.ok c.in_ok-list.ensures.ok c.as_slice.ensures c.in_ok-notes.ensures.ok c.as_slice-2.ensures.value in
+    let told = check_text c.args.input.now c.in_ok-is_same.is_same c.in_ok-view.view c.in_ok-tiled.tiled
+    (option_copied c.as_ref.result) c.in_ok-notes.notes.items c.as_slice.result.now c.in_ok-view.ensures.found
+    c.in_ok-is_same.ensures.ok c.in_ok-tiled.ensures.ok c.as_ref.ensures.value c.in_ok-notes.ensures.ok c.as_slice.ensures.value in
     (_, told, c.in_ok-write_lines.ensures.ok)
