@@ -4,14 +4,14 @@
 -- the bound, and reading it as written gives the number.
 use Rattle.std.proofs.Common.{◌≡◌, ◌∙◌, ◌^◌, ◌<◌, ◌≤◌, ◌||◌, ℕ, Bool, true, false, true≢false, not, List, [], ◌∷◌, length}
 use Rattle.std.proofs.Common.{Option, Some, None}
-use Rattle.std.proofs.Common.{Result, Ok, Err, ap, arith, codes, inl, inr, is_some, refl, subst, sym}
+use Rattle.std.proofs.Common.{Result, Ok, Err, drop, ap, arith, codes, inl, inr, is_some, refl, subst, sym}
 use Rattle.std.specs.Borrow.{Bor}
 use Rattle.std.specs.List.{All, list_all, slice_index_or}
 use Rattle.std.specs.Prelude.{nat_le, option_map, slice_get}
 use Rattle.std.specs.Option.{unwrap_or}
 use Rattle.std.specs.Str.{bytes_eq}
 use Rattle.std.specs.String.{string_bytes}
-use Rattle.std.specs.Str.Parse.{IsNumeral, ParsesUnsigned, digits_value, without_leading_plus}
+use Rattle.std.specs.Str.Parse.{ExplainsUnsignedError, HasUnsignedDigitsIfOk, IsNumeral, ParsesUnsigned, digits_value, without_leading_plus}
 use Rattle.std.proofs.lemmas.Bool.{cases_lt, leb-true}
 use Rattle.std.proofs.lemmas.Slice.Eq.{bytes_eq-Decides}
 use Rattle.clap.proofs.CallerLemmas.{entry_by_id}
@@ -31,6 +31,8 @@ use Rattle.clap.specs.declared.builder.value_parser.ValueParser.TheVariants as p
 use Rattle.clap.specs.declared.parser.matches.ArgMatches.{ArgMatches}
 use Rattle.clap.specs.declared.parser.matches.MatchedArg.{MatchedArg}
 use Rattle.fv_command.specs.declared.plan.ImageFile.{ImageFile}
+use Rattle.fv_tool.proofs.ReadLemmas.{IsRead, text_answer}
+use Rattle.fv_tool.specs.Options.{text_in}
 use Rattle.fv_tool.specs.Words.{IsImageWords, IsInstanceWord, IsNumberWord}
 
 -- a parser of numbers up to `most`
@@ -173,12 +175,13 @@ module _ (most : ℕ) (id : List ℕ) (given : bytes_eq [] id ≡ false) (help :
           rw e (taken_of got.0 x got.1 (read_as_written got.0 got.2 got.3) (values_up_to got.0 got.2 got.3))
 
   -- so it is read as the number that its text spells
-  pub number_answer : {E : Type 0} (G : List ℕ → Result ℕ E → Type 0) (bits : ℕ)
-      → ((u : List ℕ) (x : Result ℕ E) → G u x → ParsesUnsigned bits 10 u x) → most < 2 ^ bits
-      → (text : Option (List ℕ)) → first_value (found_of m) id ≡ text → (r : Option ℕ) → (one_text (found_of m) id ≡ None → r ≡ None)
-      → ((t : List ℕ) → one_text (found_of m) id ≡ Some t → ReadsOne G t r) → IsNumberOf bits text r
-  number_answer G bits only fits text is_text r none some =
-      subst (λ (t : Option (List ℕ)). IsNumberOf bits t r) is_text (number_read G bits most only fits _ _ r number_taken none some)
+  pub number_answer : {words : List (List ℕ)} → IsRead app words m → (bits : ℕ) → most < 2 ^ bits
+      → (r : Option ℕ) → (one_text (found_of m) id ≡ None → r ≡ None)
+      → ((t : List ℕ) → one_text (found_of m) id ≡ Some t → ReadsOne (λ bs x. ParsesUnsigned bits 10 bs x × ExplainsUnsignedError 10 bs x
+      × HasUnsignedDigitsIfOk bs x) t r) → IsNumberOf bits (text_in app id (drop 1 words)) r
+  number_answer has bits fits r none some =
+      subst (λ (t : Option (List ℕ)). IsNumberOf bits t r) (text_answer has id)
+      (number_read _ bits most (λ u x g. g.0) fits _ _ r number_taken none some)
 
 -- which section it is, the first where nothing is given
 pub instance_read : (text : Option (List ℕ)) (r : Option ℕ) → IsNumberOf 32 text r → IsInstanceWord text (unwrap_or r 1)

@@ -1,18 +1,20 @@
--- Words that are refused as wrong are not right.
+-- Words that are refused as wrong are not right: the reader finds a fault in them (refused_right), or what it reads is no plan
+-- (no_name, no_type, no_pair, no_files).
 use Rattle.std.proofs.Common.{◌≡◌, ◌≢◌, ◌∙◌, ◌⊎◌, ℕ, List, [], ◌∷◌, IfErr, Result, Ok, Err, Option, Some, None, ap, codes, inl, inr}
-use Rattle.std.proofs.Common.{refl, subst, sym, true, false, true≢false}
+use Rattle.std.proofs.Common.{drop, refl, subst, sym, true, false, true≢false}
 use Rattle.std.proofs.lemmas.Result.{IfErr-weaker}
 use Rattle.std.proofs.lemmas.Slice.Eq.{bytes_eq-Decides}
 use Rattle.std.specs.Prelude.{IsErrAnd, if◌then◌else◌, is_some, option_and_then}
 use Rattle.std.specs.Str.{bytes_eq}
 use Rattle.clap.specs.Values.{kind_of}
-use Rattle.clap.specs.Words.{App, HasKind, Kinds, is_simple_and_free}
+use Rattle.clap.specs.Words.{App, HasKind, Kinds, fault_of, is_simple_and_free}
 use Rattle.clap.specs.declared.error.Error.{Error}
 use Rattle.clap.specs.declared.error.kind.ErrorKind.TheVariants as error_kinds
 use Rattle.fv_base.specs.Guids.{guid_read}
 use Rattle.fv_command.specs.declared.plan.Command.{Command}
 use Rattle.fv_command.specs.declared.plan.Command.TheVariants.{Single, Hobs, Compare}
 use Rattle.fv_command.specs.declared.plan.Task.TheVariants.{Normalise, NormaliseAll, List as Listing, Extract, Check, Scan}
+use Rattle.fv_tool.proofs.ReadLemmas.{IsGiven, by_app, faults_read}
 use Rattle.fv_tool.specs.Options.{compare_app, extract_app, faults_in, hobs_app, normalise_app, one_input_app, text_in}
 use Rattle.fv_tool.specs.Words.{AreRightFor, HasTexts, IsBaseWord, IsSectionTypeWord, command_app, command_name}
 use Rattle.fv_tool.specs.declared.words.WordFault.{WordFault}
@@ -37,44 +39,38 @@ named_app (Hobs file image) = refl
 named_app (Compare first second) = refl
 
 -- the reader finds no fault in right words
-pub right_taken : (name : List ℕ) (rest : List (List ℕ)) → AreRightFor name rest → faults_in (app_named name) rest ≡ []
+right_taken : (name : List ℕ) (rest : List (List ℕ)) → AreRightFor name rest → faults_in (app_named name) rest ≡ []
 right_taken name rest right =
     ap (λ (a : App). faults_in a rest) (ap app_named right.1.command ∙ named_app right.0.command) ∙ right.1.taken
 
--- what the reader says of a command that it was given, it says of the options that the command has
-pub by_app : (P : App → Type 0) (app : App) → is_simple_and_free app ≡ true → (given : App) → given ≡ app
-    → (is_simple_and_free given ≡ true → P given) → P app
-by_app P app free given is h = subst P is (h (ap is_simple_and_free is ∙ free))
+-- a fault of the reader, as it is handed on
+abbrev pub IsHandedOn : Error → WordFault → Type 0
+IsHandedOn e f = (kind_of e ≡ error_kinds.OutOfMemory → f ≡ OutOfMemory) × (kind_of e ≢ error_kinds.OutOfMemory → f ≡ Words)
 
--- what the reader refuses, as it is handed on
-pub refused_for : {T : Type 0} (r : Result T WordFault) (e : Error) (ks : Kinds)
-    → IsErrAnd r (λ f. (kind_of e ≡ error_kinds.OutOfMemory → f ≡ OutOfMemory) × (kind_of e ≢ error_kinds.OutOfMemory → f ≡ Words))
-    → HasKind ks e → IfErr r (λ f. f ≡ Words → ks ≢ [])
-refused_for (Ok x) e ks h has = tt
-refused_for (Err f) e ks h (inl memory) = λ is. absurd (differ (sym (h.0 memory) ∙ is))
+handed_on : {T : Type 0} (r : Result T WordFault) (e : Error) (ks : Kinds) → IsErrAnd r (IsHandedOn e) → HasKind ks e
+    → IfErr r (λ f. f ≡ Words → ks ≢ [])
+handed_on (Ok x) e ks h has = tt
+handed_on (Err f) e ks h (inl memory) = λ is. absurd (differ (sym (h.0 memory) ∙ is))
   where
     differ : OutOfMemory ≡ Words → ⊥
     differ e = cc
-refused_for (Err f) e [] h (inr among) = absurd among
-refused_for (Err f) e (k ∷ ks) h (inr among) = λ is none. cc
+handed_on (Err f) e [] h (inr among) = absurd among
+handed_on (Err f) e (k ∷ ks) h (inr among) = λ is none. cc
 
-pub refused_right : {T : Type 0} (name : List ℕ) (rest : List (List ℕ)) (r : Result T WordFault) (e : Error)
-    → IsErrAnd r (λ f. (kind_of e ≡ error_kinds.OutOfMemory → f ≡ OutOfMemory) × (kind_of e ≢ error_kinds.OutOfMemory → f ≡ Words))
-    → HasKind (faults_in (app_named name) rest) e → IfErr r (λ f. f ≡ Words → AreRightFor name rest → ⊥)
-refused_right name rest r e h has =
-    IfErr-weaker r _ _ (λ f wrong words right. wrong words (right_taken name rest right))
-    (refused_for r e (faults_in (app_named name) rest) h has)
+-- words in which the reader finds a fault
+pub refused : {T : Type 0} (app given : App) → IsGiven app given → (words : List (List ℕ)) (e : Error)
+    → (is_simple_and_free given ≡ true → HasKind (fault_of given words) e) → (r : Result T WordFault) → IsErrAnd r (IsHandedOn e)
+    → IfErr r (λ f. f ≡ Words → faults_in app (drop 1 words) ≢ [])
+refused app given g words e kinds r h =
+    handed_on r e _ h
+    (subst (λ ks. HasKind ks e) (faults_read app given g words) (by_app (λ a. HasKind (fault_of a words) e) app given g kinds))
 
--- a refusal of words that is passed on
-pub passed_on : {T : Type 0} (r : Result T WordFault) (e : WordFault) → IsErrAnd r (λ f. f ≡ e) → (P : Type 0) → (e ≡ Words → P)
-    → IfErr r (λ f. f ≡ Words → P)
-passed_on (Ok x) e h P g = tt
-passed_on (Err f) e h P g = λ is. g (sym h ∙ is)
-
--- what holds of each refusal
-pub IfErr-always : {T E : Type 0} (r : Result T E) (P : E → Type 0) → ((e : E) → P e) → IfErr r P
-IfErr-always (Ok x) P h = tt
-IfErr-always (Err e) P h = h e
+pub refused_right : {T : Type 0} (name : List ℕ) (given : App) → IsGiven (app_named name) given → (words : List (List ℕ)) (e : Error)
+    → (is_simple_and_free given ≡ true → HasKind (fault_of given words) e) → (r : Result T WordFault) → IsErrAnd r (IsHandedOn e)
+    → IfErr r (λ f. f ≡ Words → AreRightFor name (drop 1 words) → ⊥)
+refused_right name given g words e kinds r h =
+    IfErr-weaker r _ _ (λ f wrong is right. wrong is (right_taken name (drop 1 words) right))
+    (refused (app_named name) given g words e kinds r h)
 
 -- two words that differ
 other : (a b : List ℕ) → bytes_eq a b ≡ false → a ≡ b → ⊥
