@@ -8,7 +8,7 @@
 -- 5. A default adds the row `false` where there is none (all_defaults). The matches have these rows, and get_flag reads the
 --    first (flag_found, flag_answer).
 -- That the reader finds no fault says nothing of the rows, so it makes none of these steps shorter.
-use Rattle.std.proofs.Common.{◌≡◌, ◌∙◌, Bool, true, false, List, [], ◌∷◌, Some, ap, codes, drop, inl, inr, refl, sym}
+use Rattle.std.proofs.Common.{◌≡◌, ◌∙◌, Bool, true, false, List, [], ◌∷◌, Some, ap, codes, drop, inl, inr, refl}
 use Rattle.std.specs.List.{fold, list_all}
 use Rattle.std.specs.Prelude.{option_and_then, slice_get}
 use Rattle.clap.proofs.WalkLemmas.{both, one_text-rows}

@@ -119,10 +119,9 @@ module _ (flag : Text) where
   at_other id change missing [] differs changed none = none
   at_other id change missing (r ∷ rs) differs changed none =
       let later = at_other id change missing rs differs changed none in
+      let plain = λ (e : bytes_eq r.id id ≡ true). differ r.id flag (λ is. differs (sym ((bytes_eq-Decides r.id id).0 e) ∙ is)) in
       cond_both (bytes_eq r.id id) _ _ (λ xs. flags xs ≡ flags (r ∷ rs))
-      (λ e.
-          let plain : is_flag r ≡ false = differ r.id flag (λ is. differs (sym ((bytes_eq-Decides r.id id).0 e) ∙ is)) in
-          filter-append is_flag (change r) rs ∙ ap (λ xs. xs ++ flags rs) (changed r plain) ∙ rw plain refl)
+      (λ e. filter-append is_flag (change r) rs ∙ ap (λ xs. xs ++ flags rs) (changed r (plain e)) ∙ rw (plain e) refl)
       (λ _. ap (λ xs. cond (is_flag r) (r ∷ xs) xs) later)
 
   module _ (id : Text) (differs : id ≢ flag) (how : Reading) where

@@ -1,6 +1,6 @@
 -- What the reader of command lines says of the words of a command: the rows that it makes of them, and that it finds no fault in
 -- them (IsRead). A text is read of these rows (text_answer).
-use Rattle.std.proofs.Common.{◌≡◌, ◌∙◌, Bool, List, [], Option, ap, cond, drop, false, sym, true, subst}
+use Rattle.std.proofs.Common.{◌≡◌, ◌∙◌, List, [], ap, cond, drop, false, sym, true, subst}
 use Rattle.clap.proofs.WalkLemmas.{both, first_value-rows}
 use Rattle.clap.specs.Faults.{built_fault}
 use Rattle.clap.specs.Matches.{first_value, found_of}
