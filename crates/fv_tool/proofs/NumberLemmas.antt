@@ -75,18 +75,22 @@ IsNumberOf bits None n = n ≡ None
 IsNumberOf bits (Some text) None = ⊥
 IsNumberOf bits (Some text) (Some n) = IsNumberWord bits text n
 
-number_read : {E : Type 0} (G : List ℕ → Result ℕ E → Type 0) (bits most : ℕ)
-    → ((u : List ℕ) (x : Result ℕ E) → G u x → ParsesUnsigned bits 10 u x) → most < 2 ^ bits → (one first : Option (List ℕ)) (r : Option ℕ)
+-- a text is read as a number of so many bits, as `from_str` does
+abbrev pub ReadsNumber : ℕ → List ℕ → Option ℕ → Type 0
+ReadsNumber bits =
+    ReadsOne (λ text n. ParsesUnsigned bits 10 text n × ExplainsUnsignedError 10 text n × HasUnsignedDigitsIfOk text n)
+
+number_read : (bits most : ℕ) → most < 2 ^ bits → (one first : Option (List ℕ)) (r : Option ℕ)
     → (one ≡ first) × ((t : List ℕ) → first ≡ Some t → IsUpTo most t) → (one ≡ None → r ≡ None)
-    → ((t : List ℕ) → one ≡ Some t → ReadsOne G t r) → IsNumberOf bits first r
-number_read G bits most only fits one None r taken none some = none taken.0
-number_read G bits most only fits one (Some t) (Some n) taken none some =
-    let h = only t (Ok n) (some t taken.0) in
+    → ((t : List ℕ) → one ≡ Some t → ReadsNumber bits t r) → IsNumberOf bits first r
+number_read bits most fits one None r taken none some = none taken.0
+number_read bits most fits one (Some t) (Some n) taken none some =
+    let h = (some t taken.0).0 in
     (h.0.0, h.1, rw h.1 h.0.1)
-number_read G bits most only fits one (Some t) None taken none some =
+number_read bits most fits one (Some t) None taken none some =
     let failed = some t taken.0 in
     let numeral = taken.1 t refl in
-    only t (Err failed.0) failed.1 (numeral.0, omega (arith, numeral.1, fits))
+    failed.1.0 (numeral.0, omega (arith, numeral.1, fits))
 
 module _ (most : ℕ) (id : List ℕ) (given : bytes_eq [] id ≡ false) (help : bytes_eq (codes "help") id ≡ false)
     (version : bytes_eq (codes "version") id ≡ false) (old : Command) (m : ArgMatches) (p : IsParsedFrom old m) (app : App)
@@ -175,13 +179,11 @@ module _ (most : ℕ) (id : List ℕ) (given : bytes_eq [] id ≡ false) (help :
           rw e (taken_of got.0 x got.1 (read_as_written got.0 got.2 got.3) (values_up_to got.0 got.2 got.3))
 
   -- so it is read as the number that its text spells
-  pub number_answer : {words : List (List ℕ)} → IsRead app words m → (bits : ℕ) → most < 2 ^ bits
-      → (r : Option ℕ) → (one_text (found_of m) id ≡ None → r ≡ None)
-      → ((t : List ℕ) → one_text (found_of m) id ≡ Some t → ReadsOne (λ bs x. ParsesUnsigned bits 10 bs x × ExplainsUnsignedError 10 bs x
-      × HasUnsignedDigitsIfOk bs x) t r) → IsNumberOf bits (text_in app id (drop 1 words)) r
+  pub number_answer : {words : List (List ℕ)} → IsRead app words m → (bits : ℕ) → most < 2 ^ bits → (r : Option ℕ)
+      → (one_text (found_of m) id ≡ None → r ≡ None) → ((t : List ℕ) → one_text (found_of m) id ≡ Some t → ReadsNumber bits t r)
+      → IsNumberOf bits (text_in app id (drop 1 words)) r
   number_answer has bits fits r none some =
-      subst (λ (t : Option (List ℕ)). IsNumberOf bits t r) (text_answer has id)
-      (number_read _ bits most (λ u x g. g.0) fits _ _ r number_taken none some)
+      subst (λ (t : Option (List ℕ)). IsNumberOf bits t r) (text_answer has id) (number_read bits most fits _ _ r number_taken none some)
 
 -- which section it is, the first where nothing is given
 pub instance_read : (text : Option (List ℕ)) (r : Option ℕ) → IsNumberOf 32 text r → IsInstanceWord text (unwrap_or r 1)
