@@ -4,7 +4,7 @@
 -- the bound, and reading it as written gives the number.
 use Rattle.std.proofs.Common.{◌≡◌, ◌∙◌, ◌^◌, ◌<◌, ◌≤◌, ◌||◌, ℕ, Bool, true, false, true≢false, not, List, [], ◌∷◌, length}
 use Rattle.std.proofs.Common.{Option, Some, None}
-use Rattle.std.proofs.Common.{Result, Ok, Err, drop, ap, arith, codes, inl, inr, is_some, refl, subst, sym}
+use Rattle.std.proofs.Common.{drop, ap, arith, codes, inl, inr, is_some, refl, subst, sym}
 use Rattle.std.specs.Borrow.{Bor}
 use Rattle.std.specs.List.{All, list_all, slice_index_or}
 use Rattle.std.specs.Prelude.{nat_le, option_map, slice_get}

@@ -1,5 +1,4 @@
-use Rattle.std.proofs.Common.{[], ◌≡◌, ◌∙◌, Some, ap, codes, drop, inl, inr, map, refl, sym}
-use Rattle.std.specs.String.{string_bytes}
+use Rattle.std.proofs.Common.{◌∙◌, Some, ap, codes, inl, inr, refl, sym}
 use Rattle.fv_tool.proofs.FlagLemmas.{flag_answer}
 use Rattle.fv_tool.proofs.ReadLemmas.{read, text_answer}
 use Rattle.fv_tool.proofs.RefusalLemmas.{no_files, refused_right}

@@ -1,4 +1,4 @@
-use Rattle.std.proofs.Common.{[], ◌≡◌, ◌∙◌, ap, arith, codes, drop, inl, map, refl, subst, sym}
+use Rattle.std.proofs.Common.{◌∙◌, ap, arith, codes, drop, inl, map, refl, subst, sym}
 use Rattle.std.specs.Prelude.{option_and_then}
 use Rattle.std.specs.String.{string_bytes}
 use Rattle.clap.proofs.TakesLemmas.{passed_up}

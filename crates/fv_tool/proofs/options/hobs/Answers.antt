@@ -1,5 +1,4 @@
-use Rattle.std.proofs.Common.{[], ◌≡◌, ◌∙◌, ap, arith, codes, inl, is_some, map, refl, sym}
-use Rattle.std.specs.String.{string_bytes}
+use Rattle.std.proofs.Common.{◌∙◌, ap, arith, codes, inl, is_some, refl, sym}
 use Rattle.clap.proofs.TakesLemmas.{passed_up}
 use Rattle.fv_tool.proofs.FlagLemmas.{flag_answer}
 use Rattle.fv_tool.proofs.NumberLemmas.{image_read, is_some-map, number_answer, number_given}

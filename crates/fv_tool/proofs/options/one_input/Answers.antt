@@ -1,5 +1,4 @@
-use Rattle.std.proofs.Common.{[], ◌≡◌, ◌∙◌, codes, inl, map, refl}
-use Rattle.std.specs.String.{string_bytes}
+use Rattle.std.proofs.Common.{◌∙◌, codes, inl, refl}
 use Rattle.fv_tool.proofs.FlagLemmas.{flag_answer}
 use Rattle.fv_tool.proofs.ReadLemmas.{read, text_answer}
 use Rattle.fv_tool.proofs.RefusalLemmas.{refused}
