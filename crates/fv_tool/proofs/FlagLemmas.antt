@@ -1,7 +1,8 @@
 -- The flag of a command, by the reader's walk over the words: its row is there exactly where the flag is one of the words
 -- before any `--`.
 -- 1. A use of another argument leaves the flag's rows as they are, and a use of the flag makes them one row, `true` (FlagRows).
--- 2. Of all words, exactly the flag's own gives its name with no value, and that name finds its rule (FlagWords).
+-- 2. Of all words, exactly the flag's own gives its name with no value (FlagWords). That the name finds the flag's rule is computed
+--    for each command (HasFlag of FlagWords).
 -- 3. So each kind of word keeps that the row is there where the flag was seen, and that the flag is never what waits for a value.
 --    After `--` each word is a positional (FlagWalk).
 -- 4. By induction over the words the row is there where has_flag is true (seen_by_walk of FlagWalk).

@@ -22,7 +22,7 @@ use Rattle.fv_tool.proofs.FlagRows.{IsOther, built_flag, differ, find_past, flag
 use Rattle.fv_tool.proofs.FlagWords.{HasFlag, dashed, is_named, word_names}
 use Rattle.fv_tool.specs.Words.{has_flag}
 
--- the walk between two words of a command with no subcommand
+-- the walk between two words of a command with no subcommand; behind `--` it trails
 abbrev at : Bool → Held → Waiting → ℕ → Walk
 at trails h w n = record { held = h; waiting = w; position = n; is_trailing = trails; stopped = None }
 
@@ -156,11 +156,10 @@ module _ (flag : Text) where
       to_keeps : (o : Option Rule) → IfSome o (IsOther flag) → P (to_positional c o word (at trails held w n) h)
       to_keeps None none = later h w n g e
       to_keeps (Some a) other =
-          rw (other.trailing, or-false trails)
-          (later _ _ _
-          (pushed_holds seen _ (cond_both (is_pending a h.pending && takes_several a) h (settled c h) (Holds seen) (λ _. g)
-          (λ _. settled_holds seen h g)) a.id word other.id)
-          (cond_both (is_multiple a) positional idle WaitsOther (λ _. tt) (λ _. tt)))
+          let goes_on = is_pending a h.pending && takes_several a in
+          let ready = cond_both goes_on h (settled c h) (Holds seen) (λ _. g) (λ _. settled_holds seen h g) in
+          let waits_other = cond_both (is_multiple a) positional idle WaitsOther (λ _. tt) (λ _. tt) in
+          rw (other.trailing, or-false trails) (later _ _ _ (pushed_holds seen _ ready a.id word other.id) waits_other)
 
       step_keeps : (step : Step) → GoesOn step → P (after_step c word (at trails held w n) h step)
       step_keeps (next waiting) k = later h waiting n g k

@@ -1,4 +1,5 @@
--- The word of a flag: of all words exactly its own gives its name with no value (word_names).
+-- The word of a flag: of all words exactly its own gives its name with no value (word_names). That this name finds the flag among
+-- the rules of a command is a fact of the command (HasFlag).
 use Rattle.std.proofs.Common.{◌≡◌, ◌∙◌, ◌==◌, ◌&&◌, Bool, cond, true, false, true≢false, not, refl, sym, ap, List, [], ◌∷◌}
 use Rattle.std.proofs.Common.{Option, Some, None}
 use Rattle.std.proofs.Math.Bool.{and-false, and-true}
