@@ -6,7 +6,8 @@ use Rattle.fv_base.specs.Sinks.{WalkLaws}
 use Rattle.fv_base.specs.Sums.{words_of}
 use Rattle.fv_base.specs.Value.{le_at}
 use Rattle.fv_head.specs.Head.{HeadFields}
-use Rattle.fv_tree.specs.Meaning.{Meaning, Volume, FileMeaning, File, ContentMeaning, SectionMeaning, Section, BodyMeaning, Leaf, Group, Nested}
+use Rattle.fv_tree.specs.Meaning.{Meaning, Volume, FileMeaning, File, ContentMeaning, SectionMeaning, Section, BodyMeaning}
+use Rattle.fv_tree.specs.Meaning.{Leaf, Group, Nested}
 use Rattle.fv_tree.specs.Meaning.{files_from, sections_from, content_of, section_kind_of, body_of, leaf_of}
 use Rattle.fv_command.specs.ListTexts.{unit_text, volume_text, file_text, section_text, LeafText, BodyShown}
 use Rattle.fv_command.specs.ListTexts.{VolumeLines, FilesLines, FileLines, ContentLines, SectionsLines, SectionLines, BodyLines}

@@ -94,7 +94,8 @@ pub comparison_stopped : (side : Side) (hex : Bool) (r s r' s' w v : Shown) (m k
     → (f.kind ≡ kinds.WriteFault → (side ≡ sides.Output) × (v.erred ≡ true)) → (f.kind ≢ kinds.WriteFault → v ≡ w)
     → SideStops side hex (turn r s) (turn r' s') (turn w v) f
 comparison_stopped sides.First hex r s r' s' w v m k f a b (keeps, want, other) erred same =
-    let none : f.kind ≡ kinds.WriteFault → ⊥ = λ e. let bad : kinds.OutOfMemory ≡ kinds.WriteFault = sym (ap (λ (x : Fault). x.kind) want) ∙ e in cc in
+    let none : f.kind ≡ kinds.WriteFault → ⊥ =
+    λ e. let bad : kinds.OutOfMemory ≡ kinds.WriteFault = sym (ap (λ (x : Fault). x.kind) want) ∙ e in cc in
     (same none, inr (m, k, a, b, want, other))
 comparison_stopped sides.Second hex r s r' s' w v m k f a b stops erred same = absurd stops
 comparison_stopped sides.Output hex r s r' s' w v m k f a b stops erred same =

@@ -1,7 +1,7 @@
--- The text of `list`: a line for a volume, for each of its files and for each section of these, in their order. What a part
--- holds follows its line, two spaces further in.
-use Rattle.std.specs.Prelude.{◌≡◌, ◌≢◌, ◌⊎◌, ℕ, zero, suc, ◌+◌, ◌==◌, ◌&&◌, nat_le, not, Bool, true, false, if◌then◌else◌}
-use Rattle.std.specs.Prelude.{List, [], ◌∷◌, ◌++◌, length, Option, Some, None, codes, decimal}
+-- The text of `list`: a line for a volume, for each of its files and for each section of these, in their order. What a
+-- part holds follows its line, two spaces further in.
+use Rattle.std.specs.Prelude.{◌≡◌, ◌≢◌, ◌⊎◌, ℕ, zero, suc, ◌+◌, ◌==◌, ◌&&◌, nat_le, not, Bool, true, false}
+use Rattle.std.specs.Prelude.{if◌then◌else◌, List, [], ◌∷◌, ◌++◌, length, Option, Some, None, codes, decimal}
 use Rattle.std.specs.List.{flat_map}
 use Rattle.hex.specs.Hex.{encode_lower}
 use Rattle.fv_base.specs.Guids.{bytes_of, guid_text}
@@ -12,8 +12,9 @@ use Rattle.fv_base.specs.declared.guid.Guid.{Guid}
 use Rattle.fv_canon.specs.ComparisonLines.{line_feed}
 use Rattle.fv_head.specs.Ext.{Extension}
 use Rattle.fv_section.specs.Texts.{IsText, IsVersion, IsFreeform}
-use Rattle.fv_tree.specs.Meaning.{Meaning, Volume, FileMeanings, NoFiles, MoreFiles, FileMeaning, File, ContentMeaning, Plain, Sectioned}
-use Rattle.fv_tree.specs.Meaning.{SectionMeanings, NoSections, MoreSections, SectionMeaning, Section, BodyMeaning, Leaf, Group, Nested}
+use Rattle.fv_tree.specs.Meaning.{Meaning, Volume, FileMeanings, NoFiles, MoreFiles, FileMeaning, File, ContentMeaning}
+use Rattle.fv_tree.specs.Meaning.{Plain, Sectioned, SectionMeanings, NoSections, MoreSections, SectionMeaning, Section}
+use Rattle.fv_tree.specs.Meaning.{BodyMeaning, Leaf, Group, Nested}
 use Rattle.fv_tree.specs.Meaning.{head_of, files_of, file_name_of, file_kind_of, attributes_of, data_len_of}
 use Rattle.fv_tree.specs.Meaning.{section_kind_of, section_is_extended, body_of, body_len}
 use Rattle.fv_command.specs.HobLines.{four_digits}
@@ -44,7 +45,8 @@ InterfaceText b text =
 
 abbrev pub SubtypeText : List ℕ → List ℕ → Type 0
 SubtypeText b text =
-    Shows (λ (guid : Guid). (rest : List ℕ) × IsFreeform b guid rest) (λ guid. codes " subtype " ++ guid_text (bytes_of guid)) text
+    Shows (λ (guid : Guid). (rest : List ℕ) × IsFreeform b guid rest)
+    (λ guid. codes " subtype " ++ guid_text (bytes_of guid)) text
 
 -- what is shown of a leaf, by its type
 pub record LeafText (kind : ℕ) (b text : List ℕ) : Type 0 where
@@ -89,7 +91,8 @@ abbrev pub file_text : ℕ → ℕ → FileMeaning → List ℕ
 file_text k i f =
     spaces k ++ (codes "file " ++ (decimal i ++ (codes " " ++ (guid_text (bytes_of (file_name_of f))
     ++ (codes " type " ++ (two_digits (file_kind_of f)
-    ++ (codes " attributes " ++ (two_digits (attributes_of f) ++ (codes " data " ++ (decimal (data_len_of f) ++ line_feed))))))))))
+    ++ (codes " attributes " ++ (two_digits (attributes_of f)
+    ++ (codes " data " ++ (decimal (data_len_of f) ++ line_feed))))))))))
 
 -- the line of a section, which has the number j in its stream and of whose body this is shown
 abbrev pub form_text : Bool → List ℕ
@@ -118,7 +121,8 @@ abbrev mutual
   -- the line of a file, and those of its sections, where it holds some
   pub FileLines : ℕ → ℕ → FileMeaning → List ℕ → Type 0
   FileLines k i (File name kind attributes content) text =
-      (rest : List ℕ) × (text ≡ file_text k i (File name kind attributes content) ++ rest) × ContentLines (k + 1) content rest
+      (rest : List ℕ) × (text ≡ file_text k i (File name kind attributes content) ++ rest)
+      × ContentLines (k + 1) content rest
 
   pub ContentLines : ℕ → ContentMeaning → List ℕ → Type 0
   ContentLines k (Plain b) text = text ≡ []
@@ -128,7 +132,8 @@ abbrev mutual
   pub SectionsLines : ℕ → ℕ → SectionMeanings → List ℕ → Type 0
   SectionsLines k j NoSections text = text ≡ []
   SectionsLines k j (MoreSections s sections) text =
-      (here : List ℕ) × (rest : List ℕ) × (text ≡ here ++ rest) × SectionLines k j s here × SectionsLines k (j + 1) sections rest
+      (here : List ℕ) × (rest : List ℕ) × (text ≡ here ++ rest) × SectionLines k j s here
+      × SectionsLines k (j + 1) sections rest
 
   -- the line of a section, and those of what it holds, where it is no leaf
   pub SectionLines : ℕ → ℕ → SectionMeaning → List ℕ → Type 0

@@ -7,8 +7,8 @@ ghost use Rattle.fv_command.specs.Inputs.{Gives, GivingStops};
 ghost use Rattle.fv_command.specs.PortViews.{change, shown};
 ghost use Rattle.fv_command.specs.SideRuns.{ComparesRead, RunsComparison, SideStops};
 
-use crate::inputs::read_bytes;
 use crate::fault_text::refuse_side;
+use crate::inputs::read_bytes;
 use crate::status::Status;
 use fv_base::{Fault, Port};
 use fv_canon::{Side, whole_volume, write_comparison};
@@ -57,9 +57,9 @@ fn compare<First: Read, Second: Read, W: Write>(
     writer: &mut Port<W>,
 ) -> Result<bool, (Side, Fault)>
     ensures ok { IfOk result (ComparesRead hex (record {
-        first = change First.remaining first.old first.new;
-        second = change Second.remaining second.old second.new;
-        output = change W.contents writer.old writer.new;
+      first = change First.remaining first.old first.new;
+      second = change Second.remaining second.old second.new;
+      output = change W.contents writer.old writer.new;
     })) }
     ensures err { IfErr result (λ e. SideStops e.0 hex (change First.remaining first.old first.new)
         (change Second.remaining second.old second.new) (change W.contents writer.old writer.new) e.1) }
@@ -80,9 +80,9 @@ pub fn run_comparison<First: Read, Second: Read, W: Write>(
     writer: &mut Port<W>,
 ) -> Status
     ensures { RunsComparison hex result (record {
-        first = change First.remaining first.old first.new;
-        second = change Second.remaining second.old second.new;
-        output = change W.contents writer.old writer.new;
+      first = change First.remaining first.old first.new;
+      second = change Second.remaining second.old second.new;
+      output = change W.contents writer.old writer.new;
     }) }
 {
     match compare(alloc, hex, first, second, writer) {

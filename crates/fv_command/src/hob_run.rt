@@ -7,9 +7,9 @@ ghost use Rattle.fv_command.specs.HobRefusals.{held_image};
 ghost use Rattle.fv_command.specs.HobLines.{image_form};
 ghost use Rattle.fv_command.specs.PortViews.{Writes, change, shown};
 
+use crate::fault_text::{refuse, refuse_hobs};
 use crate::hob_text::{Image, write_hobs};
 use crate::inputs::read_bytes;
-use crate::fault_text::{refuse, refuse_hobs};
 use crate::status::Status;
 use fv_base::{Fault, Port};
 use fv_hob::{HobFault, read_hobs};
@@ -103,9 +103,9 @@ pub fn run_hobs<First: Read, Second: Read, W: Write>(
     writer: &mut Port<W>,
 ) -> Status
     ensures { RunsHobs base hex result (record {
-        first = change First.remaining first.old first.new;
-        second = change Second.remaining second.old second.new;
-        output = change W.contents writer.old writer.new;
+      first = change First.remaining first.old first.new;
+      second = change Second.remaining second.old second.new;
+      output = change W.contents writer.old writer.new;
     }) }
 {
     match list_hobs(alloc, hex, base, first, second, writer) {

@@ -57,7 +57,8 @@ impl<W: Write> Write for Output<W> {
 
     fn write(&mut self, buf: &[u8]) -> io::Result<usize>
         ensures bound { WritesAtMost result buf.now }
-        ensures bytes { WriteAppends (output_contents W.contents self.old) (output_contents W.contents self.new) result buf.now }
+        ensures bytes { WriteAppends (output_contents W.contents self.old)
+            (output_contents W.contents self.new) result buf.now }
 
         // A failed write is noted, and never asks to be tried again.
         ensures failed { has_failed self.new ≡ (has_failed self.old || is_err result) }

@@ -27,9 +27,9 @@ pub fn run_plan<First: Read, Second: Read, W: Write>(
 ) -> Status
     // By the command and the status: what was read of each input, and what was written.
     ensures { Runs plan.now result (record {
-        first = change First.remaining first.old first.new;
-        second = change Second.remaining second.old second.new;
-        output = change W.contents writer.old writer.new;
+      first = change First.remaining first.old first.new;
+      second = change Second.remaining second.old second.new;
+      output = change W.contents writer.old writer.new;
     }) }
 {
     match &plan.command {

@@ -44,7 +44,8 @@ fn normalise_all<W: Write>(
     input: &[u8],
     writer: &mut Port<W>,
 ) -> Result<Status, Fault>
-    ensures { Performs Task.NormaliseAll hex input.now (shown W.contents writer.old) (shown W.contents writer.new) result }
+    ensures { Performs Task.NormaliseAll hex input.now
+        (shown W.contents writer.old) (shown W.contents writer.new) result }
 {
     let image = normalise_image(alloc, input)?;
     write_shown(writer, hex, image.as_slice())?;
@@ -100,7 +101,8 @@ fn extract_part<W: Write>(
     part: &Part,
     writer: &mut Port<W>,
 ) -> Result<Status, Fault>
-    ensures { Performs (Task.Extract part.now) hex input.now (shown W.contents writer.old) (shown W.contents writer.new) result }
+    ensures { Performs (Task.Extract part.now) hex input.now
+        (shown W.contents writer.old) (shown W.contents writer.new) result }
 {
     let (volume, _length) = read_volume(alloc, input)?;
     let extraction = extract(alloc, &volume, part)?;

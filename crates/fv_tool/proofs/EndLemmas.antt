@@ -1,13 +1,14 @@
 -- The end of a run over a buffered output, from what its closing says.
-use Rattle.std.proofs.Common.{◌≡◌, ◌∙◌, ◌⊎◌, ◌++◌, ℕ, Bool, true, false, List, [], drop, take, Option, Some, None, ap, inl, inr, refl, subst, sym}
+use Rattle.std.proofs.Common.{◌≡◌, ◌∙◌, ◌++◌, ℕ, Bool, true, false, List, [], drop, take, Option, Some, None, ap, inl, inr, refl}
+use Rattle.std.proofs.Common.{subst, sym}
 use Rattle.std.proofs.lemmas.List.{append-nil, append_assoc, take-append-drop}
 use Rattle.std.specs.Io.KnownBytes.{Appends, Keeps, append_known}
 use Rattle.std.specs.Prelude.{if◌then◌else◌, Result, Ok, Err, IfOk, MatchResult}
 use Rattle.fv_command.specs.Endings.{WritesRest}
-use Rattle.fv_command.specs.PortViews.{Shown, StopsIn, Writes, seen}
+use Rattle.fv_command.specs.PortViews.{Shown, seen}
 use Rattle.fv_command.specs.declared.status.Status.{Status}
 use Rattle.fv_command.specs.declared.status.Status.TheVariants.{Refused}
-use Rattle.fv_tool.specs.Does.{Ends, HoldsFront}
+use Rattle.fv_tool.specs.Does.{Ends}
 
 -- bytes that grew by a front of some bytes are a front of them all
 front_held : (below held : Option (List ℕ)) (part rest all : List ℕ) → Appends below held part → part ++ rest ≡ all
@@ -33,15 +34,23 @@ pub ends : (ran status : Status) (below : Option (List ℕ)) (rest : List ℕ) (
     → Ends ran (seen (append_known below rest) erred) status held failed
 ends ran status below rest true failed held let_go written =
     let stopped = let_go refl in
-    inr (stopped.0, (rest, subst (λ (b : Option (List ℕ)). Keeps (append_known below rest) (append_known b rest)) (sym stopped.1)
-    (same_held below rest)), inl refl)
+    inr (
+      stopped.0,
+      (
+        rest,
+        subst (λ (b : Option (List ℕ)). Keeps (append_known below rest) (append_known b rest)) (sym stopped.1)
+            (same_held below rest),
+      ),
+      inl refl,
+    )
 ends ran status below rest false failed held let_go written = go failed (written refl)
   where
     go : (f : Bool) → WritesRest ran rest (seen below false) held f status → Ends ran (seen (append_known below rest) false) status held f
     go false (inl (is, (grew, fine))) = inl (is, all_held below held.bytes rest grew, refl, fine, refl)
     go true (inl (is, (grew, fine))) = inr (is, ([], front_held below held.bytes rest [] rest grew (append-nil rest)), inr (inr refl))
     go f (inr (is, (n, less, grew, failing))) =
-        inr (is, (drop n rest, front_held below held.bytes (take n rest) (drop n rest) rest grew (take-append-drop n rest)), inr (inl failing))
+        let front = front_held below held.bytes (take n rest) (drop n rest) rest grew (take-append-drop n rest) in
+        inr (is, (drop n rest, front), inr (inl failing))
 
 -- what holds of arguments that were read, or of why they were not
 pub by_words : {A E : Type 0} (words : Result A E) (P : A → Type 0) (Q : E → Type 0) → IfOk words P → ((e : E) → words ≡ Err e → Q e)

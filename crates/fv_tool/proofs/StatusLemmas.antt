@@ -50,4 +50,5 @@ shown_new told port inner is fine = ap (λ e. seen (told (inner_of port)) e) fin
 pub runs_over : (p : Plan) (status : Status) (r a s r' b s' : Shown) (output : Change) → r ≡ a → r' ≡ b
     → Runs p status (ports_of r s r' s' output) → Runs p status (ports_of a s b s' output)
 runs_over p status r a s r' b s' output e f ran =
-    subst (λ (x : Shown). Runs p status (ports_of x s b s' output)) e (subst (λ (x : Shown). Runs p status (ports_of r s x s' output)) f ran)
+    subst (λ (x : Shown). Runs p status (ports_of x s b s' output)) e
+    (subst (λ (x : Shown). Runs p status (ports_of r s x s' output)) f ran)

@@ -113,8 +113,8 @@ HasTexts rest (Compare first second) =
     (Some (string_bytes first) ≡ text_in compare_app (codes "first") rest)
     × (Some (string_bytes second) ≡ text_in compare_app (codes "second") rest)
 
--- the plan is that of the command that the first word names; the reader finds no fault in the words after it, and inputs
--- are text where those have the flag
+-- the plan is that of the command that the first word names; the reader finds no fault in the words after it, and
+-- inputs are text where those have the flag
 pub record AsksBy (name : List ℕ) (rest : List (List ℕ)) (plan : Plan) : Type 0 where
   pub command : name ≡ command_name plan.command
   pub taken : faults_in (command_app plan.command) rest ≡ []

@@ -129,13 +129,13 @@ fn run<R: Files + Input + AllocGlobal, W: Write + Drop>(
     words: Result<Vec<String>, WordFault>,
     output: BufWriter<Output<W>>,
 ) -> (Status, Port<Output<W>>)
-    // What was asked for was done, with some status. It is in the output, and the status is the one returned; or a write
-    // failed, and then a front of it is in the output, and the run is refused.
+    // What was asked for was done, with some status. It is in the output, and the status is the one returned; or a
+    // write failed, and then a front of it is in the output, and the run is refused.
     ensures { (ran : Status) × (wrote : Shown) × MatchResult words
         (λ ws. DoesAsked R.Reader.remaining R.File.remaining (map string_bytes ws.items) ran
-        (record { old = seen (writer_contents (output_contents W.contents) output) false; new = wrote; }))
+        (record { old = seen (writer_contents (output_contents W.contents) output) false; new = wrote }))
         (λ fault. TellsRefusal fault ran
-        (record { old = seen (writer_contents (output_contents W.contents) output) false; new = wrote; }))
+        (record { old = seen (writer_contents (output_contents W.contents) output) false; new = wrote }))
         × Ends ran wrote result.0 (shown (output_contents W.contents) result.1) (has_failed (inner_of result.1)) }
 {
     let mut port = Port::new(output);

@@ -1,4 +1,4 @@
-use Rattle.std.proofs.Common.{◌≡◌, map, subst, MatchResult}
+use Rattle.std.proofs.Common.{ap, map, subst, MatchResult}
 use Rattle.fv_base.specs.Port.{has_erred, inner_of}
 use Rattle.fv_command.specs.Outputs.{has_failed, output_contents}
 use Rattle.fv_command.specs.PortViews.{Shown, shown}
@@ -6,7 +6,6 @@ use Rattle.fv_tool.proofs.EndLemmas.{by_words, ends}
 use Rattle.fv_tool.proofs.StatusLemmas.{shown_new}
 use Rattle.fv_tool.specs.Does.{DoesAsked}
 use Rattle.fv_tool.specs.Refusals.{TellsRefusal}
-use Rattle.std.proofs.Common.{ap}
 use Rattle.std.specs.Global.{Global}
 use Rattle.std.specs.Io.Buffered.{writer_buffer, writer_contents, writer_inner}
 use Rattle.std.specs.String.{string_bytes}
@@ -22,12 +21,12 @@ returns g c =
       ran,
       shown held port,
       subst
-      (λ (x : Shown). MatchResult c.args.words
-      (λ ws. DoesAsked g.R.Reader.Read.remaining g.R.File.Read.remaining (map (string_bytes {Z = Global}) ws.items) ran
-      (record { old = x; new = shown held port }))
-      (λ fault. TellsRefusal fault ran (record { old = x; new = shown held port }))) before
-      (by_words c.args.words _ _ c.run_given-status.ensures.given c.run_given-status.ensures.none),
+          (λ (x : Shown). MatchResult c.args.words
+          (λ ws. DoesAsked g.R.Reader.Read.remaining g.R.File.Read.remaining (map (string_bytes {Z = Global}) ws.items) ran
+          (record { old = x; new = shown held port }))
+          (λ fault. TellsRefusal fault ran (record { old = x; new = shown held port }))) before
+          (by_words c.args.words _ _ c.run_given-status.ensures.given c.run_given-status.ensures.none),
       ends ran c.close.result.0 (below (writer_inner (inner_of port))) (writer_buffer (inner_of port)) (has_erred port)
-      (has_failed (inner_of c.close.result.1)) (shown below c.close.result.1)
-      (λ e. let h = c.close.ensures.erred e in (h.0, ap below h.1)) c.close.ensures.written,
+          (has_failed (inner_of c.close.result.1)) (shown below c.close.result.1)
+          (λ e. let h = c.close.ensures.erred e in (h.0, ap below h.1)) c.close.ensures.written,
     )

@@ -27,7 +27,8 @@ returns-clause-ok g c =
     c.in_ok-first_volume.ensures.ok in
     let second = given c.args.hex _ _ _ _ c.in_ok-second_volume.second_volume c.deref-2.ensures.value c.in_ok-second_bytes.ensures.ok
     c.in_ok-second_volume.ensures.ok in
-    okay c.write_comparison.result (λ same p fine. (c.in_ok-first_volume.first_volume, c.in_ok-second_volume.second_volume, first, second, p, fine))
+    okay c.write_comparison.result
+    (λ same p fine. (c.in_ok-first_volume.first_volume, c.in_ok-second_volume.second_volume, first, second, p, fine))
     c.write_comparison.ensures.ok c.write_comparison.ensures.writer_fine
 
 pub returns-clause-err : goal.returns-clause-err
@@ -38,5 +39,5 @@ returns-clause-err g c =
     c.in_ok-second_volume.ensures.ok in
     both c.write_comparison.result
     (λ e p q same. comparison_stopped e.0 c.args.hex _ _ _ _ _ _ c.in_ok-first_volume.first_volume c.in_ok-second_volume.second_volume e.1
-    first second p q (λ other. ap (shown g.W.Write.contents) (same other))) c.write_comparison.ensures.err c.write_comparison.ensures.writer_erred
-    c.write_comparison.ensures.untouched
+    first second p q (λ other. ap (shown g.W.Write.contents) (same other))) c.write_comparison.ensures.err
+    c.write_comparison.ensures.writer_erred c.write_comparison.ensures.untouched

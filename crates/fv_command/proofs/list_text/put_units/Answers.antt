@@ -1,4 +1,5 @@
-use Rattle.std.proofs.Common.{◌≡◌, ◌++◌, ◌∙◌, ◌-◌, ℕ, List, [], length, take, drop, refl, sym, ap, subst, arith, append_assoc, append-nil, length-drop}
+use Rattle.std.proofs.Common.{◌≡◌, ◌++◌, ◌∙◌, ◌-◌, ℕ, List, [], length, take, drop, refl, sym, ap, subst, arith}
+use Rattle.std.proofs.Common.{append_assoc, append-nil, length-drop}
 use Rattle.std.proofs.lemmas.List.{take_all}
 use Rattle.std.specs.List.{flat_map}
 use Rattle.fv_base.specs.Sums.{words_of}

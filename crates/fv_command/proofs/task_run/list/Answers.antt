@@ -14,11 +14,13 @@ pub returns-in_err-write_list : goal.returns-in_err-write_list
 returns-in_err-write_list g c =
     let p = err_from_is_err_and c.from_residual-in_err-write_list.result c.from_residual-in_err-write_list.ensures.1 in
     let e = c.in_err-write_list.ensures.err in
-    let begins : BeginsWith c.args.input.now c.in_ok-volume.volume = (c.in_ok-volume._length, c.in_ok-volume.ensures.length.1, c.in_ok-volume.ensures.found) in
+    let begins : BeginsWith c.args.input.now c.in_ok-volume.volume =
+    (c.in_ok-volume._length, c.in_ok-volume.ensures.length.1, c.in_ok-volume.ensures.found) in
     λ hex. rw (p.1, p.2) (inr (Done, e.0, (c.in_ok-volume.volume, begins, e.1), e.2))
 
 pub returns : goal.returns
 returns g c =
     let e = c.in_ok-write_list.ensures.ok in
-    let begins : BeginsWith c.args.input.now c.in_ok-volume.volume = (c.in_ok-volume._length, c.in_ok-volume.ensures.length.1, c.in_ok-volume.ensures.found) in
+    let begins : BeginsWith c.args.input.now c.in_ok-volume.volume =
+    (c.in_ok-volume._length, c.in_ok-volume.ensures.length.1, c.in_ok-volume.ensures.found) in
     λ hex. (e.0, (c.in_ok-volume.volume, begins, e.1), e.2)
