@@ -11,12 +11,13 @@ use Rattle.fv_tree.specs.Denotes.{Accepted, Denotes, depth_limit}
 use Rattle.fv_tree.specs.FaultStands.{FaultStands}
 use Rattle.fv_tree.specs.FirstFault.{IsFirstOfVolume}
 use Rattle.fv_tree.specs.Meaning.{Meaning, length_of}
-use Rattle.fv_tree.proofs.Laws.{stands_other}
-use Rattle.fv_canon.specs.Headline.{NormalisesTo}
+use Rattle.fv_tree.proofs.Laws.{fault_stands, stands_other}
+use Rattle.fv_canon.specs.Headline.{IsNoVolume, IsOfLayout, IsUnfit, NormalisesTo, OnlyWhatDoesNotFitIsRefused}
 use Rattle.fv_canon.specs.Layouts.{Fits, Unfit}
-use Rattle.fv_canon.specs.Refusals.{NotRead, Refuses}
+use Rattle.fv_canon.specs.Refusals.{IsFirstOfInput, NotRead, Refuses}
+use Rattle.fv_canon.proofs.FitLaws.{unfit_none}
 use Rattle.fv_canon.proofs.ImageFits.{image_fits as has_image_fits}
-use Rattle.fv_canon.proofs.UnfitKinds.{IsOfLayout, unfit_is}
+use Rattle.fv_canon.proofs.UnfitKinds.{not_layout, unfit_is}
 
 -- ---- want of memory, or not
 
@@ -170,3 +171,29 @@ input_kind f known = go (want_known f) where
 pub stood_kind : (b : List ℕ) (f : Fault) → (f ≢ want_of_memory → FaultStands b f) → IsOfInput f.kind
 stood_kind b f stands =
     input_kind f (λ other. (stands_other b f kinds.ReadFault refl (stands other), stands_other b f kinds.WriteFault refl (stands other)))
+
+-- ---- what is refused as what
+
+-- the first fault of an input is none of a layout
+first_kind : (b : List ℕ) (f : Fault) → IsFirstOfInput b f → IsOfLayout f.kind → ⊥
+first_kind b f (inl first) (inl top) = stands_other b f kinds.TopAlignment refl (fault_stands b f first) top
+first_kind b f (inl first) (inr room) = stands_other b f kinds.NoRoom refl (fault_stands b f first) room
+first_kind b f (inr (m, d, less, is)) layout = go (subst (λ (g : Fault). IsOfLayout g.kind) is layout) where
+  go : IsOfLayout kinds.Length → ⊥
+  go (inl top) = cc
+  go (inr room) = cc
+
+-- only what does not fit is refused as what does not fit, and nothing else is but what is no volume
+pub only_what_does_not_fit_is_refused : OnlyWhatDoesNotFitIsRefused
+only_what_does_not_fit_is_refused b f (inl bad) = (λ layout. absurd (first_kind b f bad.first layout), λ other. bad.none)
+only_what_does_not_fit_is_refused b f (inr (m, d, unfit)) =
+    (λ layout. (m, d, unfit_none m 0 f unfit), λ other. absurd (other (unfit_is m 0 f unfit)))
+
+pub unfit_refused : (b : List ℕ) (f : Fault) → (f ≡ want_of_memory) ⊎ Refuses b f → IsOfLayout f.kind → IsUnfit b
+unfit_refused b f (inl want) layout = absurd (not_layout f.kind layout (ap (λ (g : Fault). g.kind) want))
+unfit_refused b f (inr why) layout = (only_what_does_not_fit_is_refused b f why).0 layout
+
+pub unread_refused : (b : List ℕ) (f : Fault) → (f ≡ want_of_memory) ⊎ Refuses b f → f ≢ want_of_memory → (IsOfLayout f.kind → ⊥)
+    → IsNoVolume b
+unread_refused b f (inl want) memory other = absurd (memory want)
+unread_refused b f (inr why) memory other = (only_what_does_not_fit_is_refused b f why).1 other

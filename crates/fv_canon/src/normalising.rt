@@ -5,7 +5,7 @@ ghost use Rattle.fv_base.specs.Faults.{want_of_memory};
 ghost use Rattle.fv_base.specs.Port.{inner_of, has_erred};
 ghost use Rattle.fv_head.specs.Head.{HeadFields, BeginsVolume};
 ghost use Rattle.fv_head.specs.declared.extent.Extent.{Extent};
-ghost use Rattle.fv_canon.specs.Headline.{NormalisesTo};
+ghost use Rattle.fv_canon.specs.Headline.{IsNoVolume, IsOfLayout, IsUnfit, NormalisesTo};
 ghost use Rattle.fv_canon.specs.Refusals.{NotRead, Refuses};
 ghost use Rattle.fv_canon.specs.NormaliseRuns.{InputWrites, InputStops, RunWrites, RunStops};
 ghost use Rattle.fv_tree.specs.Denotes.{Accepted};
@@ -51,7 +51,12 @@ pub fn normalise(alloc: Global, input: &[u8]) -> Result<ByteList, Fault>
     ensures length { IfOk result (λ bytes. length bytes ≡ length input.now) }
     ensures err { IfErr result (λ f. (f ≡ want_of_memory) ⊎ Refuses input.now f) }
 
-    // A volume that has an image is refused only for want of memory.
+    // Only a volume that does not fit is refused as NoRoom or TopAlignment, and with another fault only what is
+    // no volume.
+    ensures unfit { IfErr result (λ f. IsOfLayout f.kind → IsUnfit input.now) }
+    ensures unread { IfErr result (λ f. f ≢ want_of_memory → (IsOfLayout f.kind → ⊥) → IsNoVolume input.now) }
+
+    // A volume that has an image is refused only where memory runs out.
     ensures fits { (image : List ℕ) → NormalisesTo input.now image → IfErr result (λ f. f ≡ want_of_memory) }
 
     // Memory is wanted only where the input begins with the header of a volume.
