@@ -7,10 +7,10 @@ use Rattle.fv_tree.specs.Meaning.{Meaning, head_of}
 use Rattle.fv_canon.specs.Image.{IsImage}
 use Rattle.fv_canon.specs.ImageOf.{image_of}
 use Rattle.fv_canon.specs.Layouts.{Fits, LaysVolume}
-use Rattle.fv_canon.specs.Headline.{NormalisesTo, WhatFitsHasAnImage}
+use Rattle.fv_canon.specs.Headline.{MeanSame, NormalisesTo, WhatFitsHasAnImage}
 use Rattle.fv_canon.proofs.FitLaws.{fits_laid}
 use Rattle.fv_canon.proofs.WrittenImageLaws.{image_made}
-use Rattle.fv_canon.proofs.HeadlineLaws.{accepted, image_keeps_length_and_meaning}
+use Rattle.fv_canon.proofs.HeadlineLaws.{accepted, image_keeps_length_and_meaning, image_is_its_own_image}
 use Rattle.fv_canon.proofs.ImageFits.{image_fits}
 use Rattle.fv_canon.proofs.OneImageLaws.{image_one}
 use Rattle.fv_canon.proofs.VolumeLaws.{image_bytes, image_denotes, image_long}
@@ -35,7 +35,10 @@ image_length m image (n, l, b, small, d) is = image_long n m b image small d is 
 pub length_limit : (m : Meaning) → IsMeaning m → (head_of m).length ≤ volume_limit
 length_limit m (n, l, b, small, d) = omega (arith, (front_lies b (head_of m) d.extent d.front).limit, d.front.length_is)
 
--- the image of a volume is as long as the volume
+-- the image of a volume is a volume of the same meaning, its own image, and as long as the volume
+pub image_again : (input image : List ℕ) → NormalisesTo input image → MeanSame input image × NormalisesTo image image
+image_again input image to = ((image_keeps_length_and_meaning input image to).1, image_is_its_own_image input image to)
+
 pub image_stays_long : (input image : List ℕ) → NormalisesTo input image → length image ≡ length input
 image_stays_long input image to = (image_keeps_length_and_meaning input image to).0
 

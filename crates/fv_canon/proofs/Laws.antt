@@ -2,9 +2,8 @@
 
 -- what is written for a layout of a meaning that some bytes have is its one image, a volume of it, as long as its header says
 pub use Rattle.fv_canon.proofs.ImageLaws.{image_is, image_only, image_accepted, image_length, length_limit}
--- the image of a volume is its own image, and as long as the volume
-pub use Rattle.fv_canon.proofs.HeadlineLaws.{image_is_its_own_image}
-pub use Rattle.fv_canon.proofs.ImageLaws.{image_stays_long}
+-- the image of a volume is a volume of the same meaning, its own image, and as long as the volume
+pub use Rattle.fv_canon.proofs.ImageLaws.{image_again, image_stays_long}
 -- in an image the pads from the first file's place on have only erased data
 pub use Rattle.fv_canon.proofs.AlignedLaws.{pads_erased}
 pub use Rattle.fv_canon.proofs.StoredTilingLaws.{PadErased}

@@ -22,6 +22,11 @@ pub fn fits()
     ensures unfit { (m : Meaning) (depth : ℕ) (f : Fault) → Unfit m depth f → Fits m → ⊥ }
 {}
 
+/// What does not fit is refused with one fault.
+pub fn one_fault()
+    ensures { (m : Meaning) (depth : ℕ) (f g : Fault) → Unfit m depth f → Unfit m depth g → f ≡ g }
+{}
+
 /// Where at every level the least starts are a placement, they are the layout.
 pub fn least_starts()
     ensures { (m : Meaning) (starts : List ℕ) → LeastVolume m starts → LaysVolume m starts }

@@ -5,9 +5,8 @@ use Rattle.fv_base.specs.declared.fault.Fault.{Fault}
 use Rattle.fv_head.specs.Head.{HeadFields, BeginsVolume}
 use Rattle.fv_head.specs.declared.extent.Extent.{Extent}
 use Rattle.fv_tree.specs.Meaning.{head_of}
-use Rattle.fv_canon.specs.Headline.{NormalisesTo}
-use Rattle.fv_canon.proofs.HeadlineLaws.{image_is_its_own_image}
-use Rattle.fv_canon.proofs.ImageLaws.{image_stays_long}
+use Rattle.fv_canon.specs.Headline.{MeanSame, NormalisesTo}
+use Rattle.fv_canon.proofs.ImageLaws.{image_again, image_stays_long}
 use Rattle.fv_canon.proofs.InputLaws.{image_fits, not_placed, not_read, not_read_never, unfit_refused, unread_refused}
 use Rattle.fv_canon.proofs.normalising.normalise.Goals as goal
 
@@ -38,9 +37,8 @@ returns-clause-ok c =
 
 pub returns-clause-again : goal.returns-clause-again
 returns-clause-again c =
-    IfOk-weaker c.canonical.result _ (λ bytes. NormalisesTo bytes bytes)
-    (λ bytes image. image_is_its_own_image c.args.input.now bytes (c.in_ok-view.view, c.in_ok-view.ensures.found, image))
-    c.canonical.ensures.image
+    IfOk-weaker c.canonical.result _ (λ bytes. MeanSame c.args.input.now bytes × NormalisesTo bytes bytes)
+    (λ bytes image. image_again c.args.input.now bytes (c.in_ok-view.view, c.in_ok-view.ensures.found, image)) c.canonical.ensures.image
 
 pub returns-clause-length : goal.returns-clause-length
 returns-clause-length c =
