@@ -11,7 +11,8 @@ use Rattle.fv_head.specs.declared.extent.Extent.{Extent}
 use Rattle.fv_head.proofs.Laws.{one_front}
 use Rattle.fv_tree.specs.Denotes.{IsMeaning, MeansSection, Stream}
 use Rattle.fv_tree.specs.Meaning.{Meaning, Volume, head_of}
-use Rattle.fv_canon.specs.Aligned.{DataAligned, ImagesAlign}
+use Rattle.fv_canon.specs.Aligned.{DataAligned}
+use Rattle.fv_canon.specs.Headline.{DataAreAligned}
 use Rattle.fv_canon.specs.Image.{IsImage}
 use Rattle.fv_canon.proofs.StoredTilingLaws.{PadErased}
 use Rattle.fv_canon.proofs.StreamLaws.{stream_again}
@@ -38,8 +39,8 @@ cells_are (Volume h files) image e cells (n, most, b, small, d) (stored, starts,
           (subst (AllByRecursion (PadErased p)) same tiled.erased),
     )
 
-pub images_align : ImagesAlign
-images_align m image e cells is own front tiles = (cells_are m image e cells is own front tiles).0
+pub data_are_aligned : DataAreAligned
+data_are_aligned m image e cells is own front tiles = (cells_are m image e cells is own front tiles).0
 
 -- the pads of an image that stand from its first file's place on have only erased data
 pub pads_erased : (m : Meaning) (image : List ℕ) (e : Extent) (cells : List CellForm) → IsMeaning m → IsImage m image

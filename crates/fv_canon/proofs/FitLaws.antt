@@ -1,5 +1,5 @@
 -- A volume fits exactly where its files, and those of each volume inside, are laid out; and one that is refused does not fit.
-use Rattle.std.proofs.Common.{◌≡◌, inl, inr, ◌+◌, ◌-◌, ◌%◌, ℕ, List, [], ◌∷◌, ◌++◌, refl, ap, ◌∙◌, arith}
+use Rattle.std.proofs.Common.{◌≡◌, inl, inr, ◌+◌, ◌-◌, ◌%◌, ℕ, List, [], ◌∷◌, ◌++◌, refl, sym, ap, ◌∙◌, arith}
 use Rattle.fv_base.specs.Value.{up_to_8}
 use Rattle.fv_base.specs.declared.fault.Fault.{Fault}
 use Rattle.fv_canon.specs.Starts.{StartsFollow, TopOff, IsOff}
@@ -117,6 +117,52 @@ mutual
   unfit_body_none (Leaf b) depth f un fit = un
   unfit_body_none (Group sections tail) depth f un fit = unfit_sections_none sections (depth + 1) f un fit
   unfit_body_none (Nested volume) depth f un fit = unfit_none volume (depth + 1) f un fit
+
+-- and the fault is one
+mutual
+  pub one_fault : (m : Meaning) (depth : ℕ) (f g : Fault) → Unfit m depth f → Unfit m depth g → f ≡ g
+  one_fault (Volume h files) depth f g (inl (off, is)) (inl (off', is')) = is ∙ sym is'
+  one_fault (Volume h files) depth f g (inl (off, is)) (inr (inl (short, is'))) = absurd (short.top_stands off)
+  one_fault (Volume h files) depth f g (inl (off, is)) (inr (inr ((own, placed), inside))) =
+      absurd (top_none h.length (first_edge h) (parts_of files) own off placed.placement.follow)
+  one_fault (Volume h files) depth f g (inr (inl (short, is))) (inl (off, is')) = absurd (short.top_stands off)
+  one_fault (Volume h files) depth f g (inr (inl (short, is))) (inr (inl (short', is'))) = is ∙ sym is'
+  one_fault (Volume h files) depth f g (inr (inl (short, is))) (inr (inr ((own, placed), inside))) =
+      absurd (short.none own placed.placement)
+  one_fault (Volume h files) depth f g (inr (inr ((own, placed), inside))) (inl (off, is)) =
+      absurd (top_none h.length (first_edge h) (parts_of files) own off placed.placement.follow)
+  one_fault (Volume h files) depth f g (inr (inr ((own, placed), inside))) (inr (inl (short, is))) =
+      absurd (short.none own placed.placement)
+  one_fault (Volume h files) depth f g (inr (inr (own, inside))) (inr (inr (own', inside'))) = files_fault files depth f g inside inside'
+
+  files_fault : (files : FileMeanings) (depth : ℕ) (f g : Fault) → UnfitFiles files depth f → UnfitFiles files depth g → f ≡ g
+  files_fault NoFiles depth f g un other = absurd un
+  files_fault (MoreFiles x xs) depth f g (inl un) (inl other) = file_fault x depth f g un other
+  files_fault (MoreFiles x xs) depth f g (inl un) (inr (fits, other)) = absurd (unfit_file_none x depth f un fits)
+  files_fault (MoreFiles x xs) depth f g (inr (fits, un)) (inl other) = absurd (unfit_file_none x depth g other fits)
+  files_fault (MoreFiles x xs) depth f g (inr (fits, un)) (inr (fits', other)) = files_fault xs depth f g un other
+
+  file_fault : (x : FileMeaning) (depth : ℕ) (f g : Fault) → UnfitFile x depth f → UnfitFile x depth g → f ≡ g
+  file_fault (File name kind attributes content) depth f g un other = content_fault content depth f g un other
+
+  content_fault : (c : ContentMeaning) (depth : ℕ) (f g : Fault) → UnfitContent c depth f → UnfitContent c depth g → f ≡ g
+  content_fault (Plain b) depth f g un other = absurd un
+  content_fault (Sectioned sections tail) depth f g un other = sections_fault sections depth f g un other
+
+  sections_fault : (ss : SectionMeanings) (depth : ℕ) (f g : Fault) → UnfitSections ss depth f → UnfitSections ss depth g → f ≡ g
+  sections_fault NoSections depth f g un other = absurd un
+  sections_fault (MoreSections s ss) depth f g (inl un) (inl other) = section_fault s depth f g un other
+  sections_fault (MoreSections s ss) depth f g (inl un) (inr (fits, other)) = absurd (unfit_section_none s depth f un fits)
+  sections_fault (MoreSections s ss) depth f g (inr (fits, un)) (inl other) = absurd (unfit_section_none s depth g other fits)
+  sections_fault (MoreSections s ss) depth f g (inr (fits, un)) (inr (fits', other)) = sections_fault ss depth f g un other
+
+  section_fault : (s : SectionMeaning) (depth : ℕ) (f g : Fault) → UnfitSection s depth f → UnfitSection s depth g → f ≡ g
+  section_fault (Section kind extended body) depth f g un other = body_fault body depth f g un other
+
+  body_fault : (m : BodyMeaning) (depth : ℕ) (f g : Fault) → UnfitBody m depth f → UnfitBody m depth g → f ≡ g
+  body_fault (Leaf b) depth f g un other = absurd un
+  body_fault (Group sections tail) depth f g un other = sections_fault sections (depth + 1) f g un other
+  body_fault (Nested volume) depth f g un other = one_fault volume (depth + 1) f g un other
 
 -- least starts that are placements are the layout
 mutual

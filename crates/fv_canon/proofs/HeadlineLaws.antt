@@ -8,7 +8,7 @@ use Rattle.fv_tree.specs.Meaning.{Nested, sections_list, files_of}
 use Rattle.fv_tree.specs.Denotes.{Sections, Streams, Volumes, Pairs, StreamOver, SectionOver, VolumeOver, MeansContent, MeansFile}
 use Rattle.fv_tree.specs.Denotes.{MeansSection, Stream, Denotes, Accepted, depth_limit}
 use Rattle.fv_canon.specs.Image.{IsImage}
-use Rattle.fv_canon.specs.Headline.{MeanSame, ImagesTell, ImagesStay, OneMeaning}
+use Rattle.fv_canon.specs.Headline.{MeanSame, SameMeaningIffSameImage, ImageKeepsLengthAndMeaning, ImageIsItsOwnImage, OneMeaning}
 use Rattle.fv_canon.proofs.MeaningLaws.{one_meaning}
 use Rattle.fv_canon.proofs.OneImageLaws.{image_one}
 use Rattle.fv_canon.proofs.VolumeLaws.{image_bytes, image_denotes, image_long}
@@ -85,8 +85,8 @@ accepted n b m small l d = (small, subst (λ (i : ℕ). Denotes i b m) (back n l
     back n l = omega arith
 
 -- ---- the headline
-pub images_tell : ImagesTell
-images_tell a b image other (m, (small, means), is) (k, (little, means'), is') = (
+pub same_meaning_iff_same_image : SameMeaningIffSameImage
+same_meaning_iff_same_image a b image other (m, (small, means), is) (k, (little, means'), is') = (
   λ (same : MeanSame a b).
       let of_a : same.0 ≡ m = one_meaning 8 8 a same.0 m same.1.1 means in
       let of_b : same.0 ≡ k = one_meaning 8 8 b same.0 k same.2.1 means' in
@@ -98,10 +98,14 @@ images_tell a b image other (m, (small, means), is) (k, (little, means'), is') =
       (m, (small, means), (little, subst (λ (j : Meaning). Denotes 8 b j) (sym one) means')),
 )
 
-pub images_stay : ImagesStay
-images_stay a image (m, (small, means), is) =
-    let d : Accepted image m = (image_bytes 8 m a image small means is, image_denotes 8 m a image small means is) in
-    (image_long 8 m a image small means is, (m, (small, means), d), (m, d, is))
+image_read : (m : Meaning) (a image : List ℕ) → Accepted a m → IsImage m image → Accepted image m
+image_read m a image (small, means) is = (image_bytes 8 m a image small means is, image_denotes 8 m a image small means is)
+
+pub image_keeps_length_and_meaning : ImageKeepsLengthAndMeaning
+image_keeps_length_and_meaning a image (m, d, is) = (image_long 8 m a image d.0 d.1 is, (m, d, image_read m a image d is))
+
+pub image_is_its_own_image : ImageIsItsOwnImage
+image_is_its_own_image a image (m, d, is) = (m, image_read m a image d is, is)
 
 pub one_meaning_of : OneMeaning
 one_meaning_of m other image (n, l, b, small, d) (k, l', c, little, d') is is' =

@@ -6,10 +6,12 @@ use Rattle.fv_tree.specs.Denotes.{Accepted, IsMeaning}
 use Rattle.fv_tree.specs.Meaning.{Meaning, head_of}
 use Rattle.fv_canon.specs.Image.{IsImage}
 use Rattle.fv_canon.specs.ImageOf.{image_of}
-use Rattle.fv_canon.specs.Layouts.{LaysVolume}
-use Rattle.fv_canon.specs.Headline.{NormalisesTo}
+use Rattle.fv_canon.specs.Layouts.{Fits, LaysVolume}
+use Rattle.fv_canon.specs.Headline.{MeanSame, NormalisesTo, WhatFitsHasAnImage}
+use Rattle.fv_canon.proofs.FitLaws.{fits_laid}
 use Rattle.fv_canon.proofs.WrittenImageLaws.{image_made}
-use Rattle.fv_canon.proofs.HeadlineLaws.{accepted, images_stay}
+use Rattle.fv_canon.proofs.HeadlineLaws.{accepted, image_keeps_length_and_meaning, image_is_its_own_image}
+use Rattle.fv_canon.proofs.ImageFits.{image_fits}
 use Rattle.fv_canon.proofs.OneImageLaws.{image_one}
 use Rattle.fv_canon.proofs.VolumeLaws.{image_bytes, image_denotes, image_long}
 
@@ -33,9 +35,16 @@ image_length m image (n, l, b, small, d) is = image_long n m b image small d is 
 pub length_limit : (m : Meaning) → IsMeaning m → (head_of m).length ≤ volume_limit
 length_limit m (n, l, b, small, d) = omega (arith, (front_lies b (head_of m) d.extent d.front).limit, d.front.length_is)
 
--- the image of a volume is its own image, and as long as the volume
-pub image_again : (input image : List ℕ) → NormalisesTo input image → NormalisesTo image image
-image_again input image to = (images_stay input image to).2
+-- the image of a volume is a volume of the same meaning, its own image, and as long as the volume
+pub image_again : (input image : List ℕ) → NormalisesTo input image → MeanSame input image × NormalisesTo image image
+image_again input image to = ((image_keeps_length_and_meaning input image to).1, image_is_its_own_image input image to)
 
 pub image_stays_long : (input image : List ℕ) → NormalisesTo input image → length image ≡ length input
-image_stays_long input image to = (images_stay input image to).0
+image_stays_long input image to = (image_keeps_length_and_meaning input image to).0
+
+-- a volume fits exactly if it has an image
+pub what_fits_has_an_image : WhatFitsHasAnImage
+what_fits_has_an_image m is = (
+  λ (fit : Fits m). let laid = fits_laid m fit in (image_of m laid.0, image_is m laid.0 is laid.1),
+  λ has. image_fits m has.0 has.1,
+)

@@ -1,6 +1,6 @@
 -- The laws of inputs that are refused.
 use Rattle.std.proofs.Common.{◌≡◌, ◌≢◌, ◌≤◌, ◌<◌, ℕ, List, length, take, refl, sym, ap, ◌∙◌, subst, arith, inl, inr, ◌⊎◌, true, false}
-use Rattle.std.specs.Prelude.{◌==◌, Bool}
+use Rattle.std.specs.Prelude.{◌==◌, Bool, Result, Ok, Err, IfErr, IsErrAnd}
 use Rattle.std.proofs.lemmas.List.{take_all}
 use Rattle.std.proofs.lemmas.Bool.{eqb-true, eq-eqb}
 use Rattle.fv_base.specs.Faults.{outer_fault, want_of_memory}
@@ -11,12 +11,13 @@ use Rattle.fv_tree.specs.Denotes.{Accepted, Denotes, depth_limit}
 use Rattle.fv_tree.specs.FaultStands.{FaultStands}
 use Rattle.fv_tree.specs.FirstFault.{IsFirstOfVolume}
 use Rattle.fv_tree.specs.Meaning.{Meaning, length_of}
-use Rattle.fv_tree.proofs.Laws.{stands_other}
-use Rattle.fv_canon.specs.Headline.{NormalisesTo}
+use Rattle.fv_tree.proofs.Laws.{fault_stands, stands_other}
+use Rattle.fv_canon.specs.Headline.{IsNoVolume, IsOfLayout, IsUnfit, NormalisesTo, OnlyWhatDoesNotFitIsRefused}
 use Rattle.fv_canon.specs.Layouts.{Fits, Unfit}
-use Rattle.fv_canon.specs.Refusals.{NotRead, Refuses}
+use Rattle.fv_canon.specs.Refusals.{GoesOn, IsFirstOfInput, NotRead, Refuses}
+use Rattle.fv_canon.proofs.FitLaws.{unfit_none}
 use Rattle.fv_canon.proofs.ImageFits.{image_fits as has_image_fits}
-use Rattle.fv_canon.proofs.UnfitKinds.{IsOfLayout, unfit_is}
+use Rattle.fv_canon.proofs.UnfitKinds.{not_layout, unfit_is}
 
 -- ---- want of memory, or not
 
@@ -74,6 +75,11 @@ want_known f = by_kind (kind_known f.kind) where
   by_kind (inl kind) = by_offset kind (number_known f.place.offset)
   by_kind (inr off) = inr (λ same. off (ap (λ (g : Fault). g.kind) same))
 
+-- what is true of a fault is true of it where a `?` passes it on
+pub fault_passed : {T : Type 0} (P : Fault → Type 0) (r : Result T Fault) (f : Fault) → IsErrAnd r (λ g. g ≡ f) → P f → IfErr r P
+fault_passed P (Ok x) f same holds = tt
+fault_passed P (Err g) f same holds = subst P (sym same) holds
+
 -- ---- an input and the volume that it begins with
 
 -- an input that is a volume begins with it
@@ -93,27 +99,31 @@ volume_refused b f none first = go (want_known f) where
         first = inl (first other);
       })
 
--- one that goes on behind its volume is none
-pub end_refused : (b : List ℕ) (f : Fault) (v : Meaning) (n : ℕ) → Accepted (take n b) v → (n ≡ length_of v) × (n ≤ length b)
-    → (n == length b) ≡ false → f ≡ outer_fault kinds.Length n
-    → ((k : ℕ) (m : Meaning) → k ≤ length b → Denotes depth_limit (take k b) m → (m ≡ v) × (k ≡ n)) → NotRead b f
-end_refused b f v n accepted (own, within) differs is only =
-    record {
-      none = λ m d. other (sym (only (length b) m (omega arith) (input_prefix b m d.1)).1);
-      first = inr (v, at, subst (λ (k : ℕ). k < length b) own less, is ∙ ap (outer_fault kinds.Length) own);
-    }
-  where
-    other : n ≢ length b
-    other same = let bad : true ≡ false = sym (eq-eqb n (length b) same) ∙ differs in cc
+-- one that goes on after its volume is none
+not_the_end : (b : List ℕ) (n : ℕ) → (n == length b) ≡ false → n ≢ length b
+not_the_end b n differs same = let bad : true ≡ false = sym (eq-eqb n (length b) same) ∙ differs in cc
 
+pub goes_on : (b : List ℕ) (f : Fault) (v : Meaning) (n : ℕ) → Accepted (take n b) v → (n ≡ length_of v) × (n ≤ length b)
+    → (n == length b) ≡ false → f ≡ outer_fault kinds.Length n → GoesOn b f
+goes_on b f v n accepted (own, within) differs is =
+    (v, at, subst (λ (k : ℕ). k < length b) own less, is ∙ ap (outer_fault kinds.Length) own)
+  where
     below : (k l : ℕ) → k ≤ l → k ≢ l → k < l
     below k l low ne = omega (arith, low, ne)
 
     less : n < length b
-    less = below n (length b) within other
+    less = below n (length b) within (not_the_end b n differs)
 
     at : Accepted (take (length_of v) b) v
     at = subst (λ (k : ℕ). Accepted (take k b) v) own accepted
+
+pub end_refused : (b : List ℕ) (f : Fault) (v : Meaning) (n : ℕ) → Accepted (take n b) v → (n ≡ length_of v) × (n ≤ length b)
+    → (n == length b) ≡ false → f ≡ outer_fault kinds.Length n
+    → ((k : ℕ) (m : Meaning) → k ≤ length b → Denotes depth_limit (take k b) m → (m ≡ v) × (k ≡ n)) → NotRead b f
+end_refused b f v n accepted long differs is only = record {
+  none = λ m d. not_the_end b n differs (sym (only (length b) m (omega arith) (input_prefix b m d.1)).1);
+  first = inr (goes_on b f v n accepted long differs is);
+}
 
 -- one that ends with its volume is it
 pub end_found : (b : List ℕ) (v : Meaning) (n : ℕ) → Accepted (take n b) v → (n == length b) ≡ true → Accepted b v
@@ -170,3 +180,29 @@ input_kind f known = go (want_known f) where
 pub stood_kind : (b : List ℕ) (f : Fault) → (f ≢ want_of_memory → FaultStands b f) → IsOfInput f.kind
 stood_kind b f stands =
     input_kind f (λ other. (stands_other b f kinds.ReadFault refl (stands other), stands_other b f kinds.WriteFault refl (stands other)))
+
+-- ---- what is refused as what
+
+-- the first fault of an input is none of a layout
+first_kind : (b : List ℕ) (f : Fault) → IsFirstOfInput b f → IsOfLayout f.kind → ⊥
+first_kind b f (inl first) (inl top) = stands_other b f kinds.TopAlignment refl (fault_stands b f first) top
+first_kind b f (inl first) (inr room) = stands_other b f kinds.NoRoom refl (fault_stands b f first) room
+first_kind b f (inr (m, d, less, is)) layout = go (subst (λ (g : Fault). IsOfLayout g.kind) is layout) where
+  go : IsOfLayout kinds.Length → ⊥
+  go (inl top) = cc
+  go (inr room) = cc
+
+-- only what does not fit is refused as what does not fit, and nothing else is but what is no volume
+pub only_what_does_not_fit_is_refused : OnlyWhatDoesNotFitIsRefused
+only_what_does_not_fit_is_refused b f (inl bad) = (λ layout. absurd (first_kind b f bad.first layout), λ other. bad.none)
+only_what_does_not_fit_is_refused b f (inr (m, d, unfit)) =
+    (λ layout. (m, d, unfit_none m 0 f unfit), λ other. absurd (other (unfit_is m 0 f unfit)))
+
+pub unfit_refused : (b : List ℕ) (f : Fault) → (f ≡ want_of_memory) ⊎ Refuses b f → IsOfLayout f.kind → IsUnfit b
+unfit_refused b f (inl want) layout = absurd (not_layout f.kind layout (ap (λ (g : Fault). g.kind) want))
+unfit_refused b f (inr why) layout = (only_what_does_not_fit_is_refused b f why).0 layout
+
+pub unread_refused : (b : List ℕ) (f : Fault) → (f ≡ want_of_memory) ⊎ Refuses b f → f ≢ want_of_memory → (IsOfLayout f.kind → ⊥)
+    → IsNoVolume b
+unread_refused b f (inl want) memory other = absurd (memory want)
+unread_refused b f (inr why) memory other = (only_what_does_not_fit_is_refused b f why).1 other

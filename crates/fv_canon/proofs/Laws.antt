@@ -2,7 +2,7 @@
 
 -- what is written for a layout of a meaning that some bytes have is its one image, a volume of it, as long as its header says
 pub use Rattle.fv_canon.proofs.ImageLaws.{image_is, image_only, image_accepted, image_length, length_limit}
--- the image of a volume is its own image, and as long as the volume
+-- the image of a volume is a volume of the same meaning, its own image, and as long as the volume
 pub use Rattle.fv_canon.proofs.ImageLaws.{image_again, image_stays_long}
 -- in an image the pads from the first file's place on have only erased data
 pub use Rattle.fv_canon.proofs.AlignedLaws.{pads_erased}
@@ -22,7 +22,7 @@ pub use Rattle.fv_canon.proofs.InputLaws.{want_known}
 -- the data of a file that was read are shorter than a volume may be
 pub use Rattle.fv_canon.proofs.StoredPartLaws.{data_short}
 -- the faults of a layout are none of a reader or a writer
-pub use Rattle.fv_canon.proofs.UnfitKinds.{IsOfLayout, unfit_is}
+pub use Rattle.fv_canon.proofs.UnfitKinds.{unfit_is}
 pub use Rattle.fv_canon.proofs.InputLaws.{IsOfInput, unfit_kind, input_kind, stood_kind}
 -- what a run wrote, or what stopped it, by what is known of the meaning
 pub use Rattle.fv_canon.proofs.NormaliseRunLaws.{input_writes, writer_stops, refused_stops, behind_stops, of_some_kind}

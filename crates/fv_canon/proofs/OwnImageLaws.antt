@@ -1,9 +1,8 @@
 -- Whether bytes are the image of a volume: they are exactly where a walk over it writes them, and never where its layout is refused.
-use Rattle.std.proofs.Common.{◌≡◌, ◌≢◌, ◌⊎◌, inl, inr, ℕ, List, sym, ◌∙◌, ap, subst, Bool, true}
+use Rattle.std.proofs.Common.{◌≡◌, ◌≢◌, ◌⊎◌, inl, inr, ℕ, List, sym, ap, subst, Bool, true}
 use Rattle.std.specs.Prelude.{IsTrue}
 use Rattle.fv_base.specs.Faults.{want_of_memory}
 use Rattle.fv_base.specs.declared.fault.Fault.{Fault}
-use Rattle.fv_base.specs.declared.fault.FaultKind.{FaultKind}
 use Rattle.fv_base.specs.declared.fault.FaultKind.TheVariants as kinds
 use Rattle.fv_tree.specs.Denotes.{IsMeaning}
 use Rattle.fv_tree.specs.Meaning.{Meaning}
@@ -13,7 +12,7 @@ use Rattle.fv_canon.specs.Layouts.{LaysVolume, Unfit}
 use Rattle.fv_canon.proofs.FitLaws.{unfit_none}
 use Rattle.fv_canon.proofs.ImageFits.{image_fits}
 use Rattle.fv_canon.proofs.ImageLaws.{image_is, image_only}
-use Rattle.fv_canon.proofs.UnfitKinds.{IsOfLayout, unfit_is}
+use Rattle.fv_canon.proofs.UnfitKinds.{not_layout, unfit_is}
 
 -- bytes are the image of what is laid out exactly where they are what the walk writes
 pub image_told : (m : Meaning) (b starts : List ℕ) (t : Bool) → IsMeaning m → LaysVolume m starts
@@ -27,12 +26,7 @@ pub none_refused : (m : Meaning) (b : List ℕ) (f : Fault) → (f ≡ want_of_m
 none_refused m b f (inl want) other is = other (ap (λ (g : Fault). g.kind) want)
 none_refused m b f (inr unfit) other is = unfit_none m 0 f unfit (image_fits m b is)
 
--- want of memory is no fault of what does not fit
-not_layout : (kind : FaultKind) → IsOfLayout kind → kind ≢ kinds.OutOfMemory
-not_layout kind (inl is) same = let never : kinds.TopAlignment ≡ kinds.OutOfMemory = sym is ∙ same in cc
-not_layout kind (inr is) same = let never : kinds.NoRoom ≡ kinds.OutOfMemory = sym is ∙ same in cc
-
--- so a layout that is refused with this kind is for want of memory
+-- a layout that is refused with this kind is for want of memory
 pub want_refused : (m : Meaning) (f : Fault) → (f ≡ want_of_memory) ⊎ Unfit m 0 f → f.kind ≡ kinds.OutOfMemory → f ≡ want_of_memory
 want_refused m f (inl want) kind = want
 want_refused m f (inr unfit) kind = absurd (not_layout f.kind (unfit_is m 0 f unfit) kind)

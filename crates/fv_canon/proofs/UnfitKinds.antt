@@ -1,15 +1,12 @@
 -- The fault of what does not fit is one of a layout, and stands at 0.
-use Rattle.std.proofs.Common.{◌≡◌, ◌⊎◌, inl, inr, ◌+◌, ℕ, refl, subst, sym}
+use Rattle.std.proofs.Common.{◌≡◌, ◌≢◌, inl, inr, ◌+◌, ◌∙◌, ℕ, refl, subst, sym}
 use Rattle.fv_base.specs.declared.fault.Fault.{Fault}
 use Rattle.fv_base.specs.declared.fault.FaultKind.{FaultKind}
 use Rattle.fv_base.specs.declared.fault.FaultKind.TheVariants as kinds
 use Rattle.fv_tree.specs.Meaning.{Meaning, Volume, FileMeanings, NoFiles, MoreFiles, FileMeaning, File, ContentMeaning, Plain, Sectioned}
 use Rattle.fv_tree.specs.Meaning.{SectionMeanings, NoSections, MoreSections, SectionMeaning, Section, BodyMeaning, Leaf, Group, Nested}
+use Rattle.fv_canon.specs.Headline.{IsOfLayout}
 use Rattle.fv_canon.specs.Layouts.{layout_fault, Unfit, UnfitFiles, UnfitFile, UnfitContent, UnfitSections, UnfitSection, UnfitBody}
-
--- TopAlignment or NoRoom
-abbrev pub IsOfLayout : FaultKind → Type 0
-IsOfLayout kind = (kind ≡ kinds.TopAlignment) ⊎ (kind ≡ kinds.NoRoom)
 
 -- what is true of both faults at every depth is true of the fault of what does not fit
 module _ (P : Fault → Type 0) (top : (depth : ℕ) → P (layout_fault kinds.TopAlignment depth))
@@ -47,6 +44,11 @@ module _ (P : Fault → Type 0) (top : (depth : ℕ) → P (layout_fault kinds.T
 
 pub unfit_is : (m : Meaning) (depth : ℕ) (f : Fault) → Unfit m depth f → IsOfLayout f.kind
 unfit_is m depth f unfit = unfit_has (λ g. IsOfLayout g.kind) (λ d. inl refl) (λ d. inr refl) m depth f unfit
+
+-- want of memory is no such fault
+pub not_layout : (kind : FaultKind) → IsOfLayout kind → kind ≢ kinds.OutOfMemory
+not_layout kind (inl is) same = let never : kinds.TopAlignment ≡ kinds.OutOfMemory = sym is ∙ same in cc
+not_layout kind (inr is) same = let never : kinds.NoRoom ≡ kinds.OutOfMemory = sym is ∙ same in cc
 
 -- it has no place
 pub unfit_place : (m : Meaning) (depth : ℕ) (f : Fault) → Unfit m depth f → f.place.offset ≡ 0

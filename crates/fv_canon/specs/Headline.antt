@@ -1,8 +1,17 @@
--- From a volume to its canonical image, and the headline.
-use Rattle.std.specs.Prelude.{◌≡◌, ◌↔◌, ℕ, List, length}
+-- From a volume to its canonical image, and the headline, clause by clause.
+use Rattle.std.specs.Prelude.{◌≡◌, ◌↔◌, ◌⊎◌, ℕ, List, length, drop}
+use Rattle.fv_base.specs.declared.fault.Fault.{Fault}
+use Rattle.fv_base.specs.declared.fault.FaultKind.{FaultKind}
+use Rattle.fv_base.specs.declared.fault.FaultKind.TheVariants as kinds
+use Rattle.fv_file.specs.Cells.{CellForm, Tiles}
+use Rattle.fv_head.specs.Head.{BeginsVolume}
+use Rattle.fv_head.specs.declared.extent.Extent.{Extent}
 use Rattle.fv_tree.specs.Denotes.{Accepted, IsMeaning}
-use Rattle.fv_tree.specs.Meaning.{Meaning}
+use Rattle.fv_tree.specs.Meaning.{Meaning, head_of}
+use Rattle.fv_canon.specs.Aligned.{DataAligned}
 use Rattle.fv_canon.specs.Image.{IsImage}
+use Rattle.fv_canon.specs.Layouts.{Fits}
+use Rattle.fv_canon.specs.Refusals.{Refuses}
 
 -- the input is a volume, and the bytes are the image of its meaning
 abbrev pub NormalisesTo : List ℕ → List ℕ → Type 0
@@ -12,14 +21,52 @@ NormalisesTo input image = (m : Meaning) × Accepted input m × IsImage m image
 abbrev pub MeanSame : List ℕ → List ℕ → Type 0
 MeanSame a b = (m : Meaning) × Accepted a m × Accepted b m
 
--- two volumes have the same meaning exactly if their canonical images are equal
-abbrev pub ImagesTell : Type 0
-ImagesTell = (a b image other : List ℕ) → NormalisesTo a image → NormalisesTo b other → (MeanSame a b ↔ (image ≡ other))
+-- the input is a volume that does not fit
+abbrev pub IsUnfit : List ℕ → Type 0
+IsUnfit input = (m : Meaning) × Accepted input m × (Fits m → ⊥)
 
--- the image of a volume is a volume of the same length and meaning, and its own image
-abbrev pub ImagesStay : Type 0
-ImagesStay =
-    (a image : List ℕ) → NormalisesTo a image → (length image ≡ length a) × MeanSame a image × NormalisesTo image image
+-- the input is no volume
+abbrev pub IsNoVolume : List ℕ → Type 0
+IsNoVolume input = (m : Meaning) → Accepted input m → ⊥
+
+-- the kind of a fault of a layout
+abbrev pub IsOfLayout : FaultKind → Type 0
+IsOfLayout kind = (kind ≡ kinds.TopAlignment) ⊎ (kind ≡ kinds.NoRoom)
+
+-- ---- the headline
+
+-- two volumes have the same meaning exactly if their images are equal
+abbrev pub SameMeaningIffSameImage : Type 0
+SameMeaningIffSameImage =
+    (a b image other : List ℕ) → NormalisesTo a image → NormalisesTo b other → (MeanSame a b ↔ (image ≡ other))
+
+-- the image of a volume is as long as the volume, and is a volume of the same meaning
+abbrev pub ImageKeepsLengthAndMeaning : Type 0
+ImageKeepsLengthAndMeaning =
+    (a image : List ℕ) → NormalisesTo a image → (length image ≡ length a) × MeanSame a image
+
+-- the image of a volume is its own image
+abbrev pub ImageIsItsOwnImage : Type 0
+ImageIsItsOwnImage = (a image : List ℕ) → NormalisesTo a image → NormalisesTo image image
+
+-- in the image of a volume, whichever cells are read after its header, the data of each file are on their alignment
+abbrev pub DataAreAligned : Type 0
+DataAreAligned =
+    (m : Meaning) (image : List ℕ) (e : Extent) (cells : List CellForm) → IsMeaning m → IsImage m image
+    → BeginsVolume (head_of m) e image
+    → Tiles e.file_system e.polarity e.first cells (drop e.first image) → DataAligned cells
+
+-- a volume fits exactly if it has an image
+abbrev pub WhatFitsHasAnImage : Type 0
+WhatFitsHasAnImage = (m : Meaning) → IsMeaning m → (Fits m ↔ ((image : List ℕ) × IsImage m image))
+
+-- an input that is refused is a volume that does not fit, if the fault is of a layout, and otherwise no volume
+abbrev pub OnlyWhatDoesNotFitIsRefused : Type 0
+OnlyWhatDoesNotFitIsRefused =
+    (input : List ℕ) (f : Fault) → Refuses input f
+    → (IsOfLayout f.kind → IsUnfit input) × ((IsOfLayout f.kind → ⊥) → IsNoVolume input)
+
+-- ---- one image and one meaning
 
 -- a meaning has one image at most
 abbrev pub OneImage : Type 0

@@ -4,17 +4,24 @@ use Rattle.fv_base.specs.Faults.{outer_fault}
 use Rattle.fv_base.specs.declared.fault.Fault.{Fault}
 use Rattle.fv_base.specs.declared.fault.FaultKind.TheVariants as kinds
 use Rattle.fv_tree.specs.Denotes.{Accepted}
+use Rattle.fv_tree.specs.FaultStands.{FaultStands}
 use Rattle.fv_tree.specs.FirstFault.{IsFirstOfVolume}
 use Rattle.fv_tree.specs.Meaning.{Meaning, length_of}
 use Rattle.fv_canon.specs.Layouts.{Unfit}
 
--- the first fault of a whole input: that of the volume which it is to begin with, or Length at that volume's end where
--- more bytes stand behind it
+-- more bytes follow the volume that an input begins with, and the fault is Length at that volume's end
+abbrev pub GoesOn : List ℕ → Fault → Type 0
+GoesOn input f =
+    (m : Meaning) × Accepted (take (length_of m) input) m × (length_of m < length input)
+    × (f ≡ outer_fault kinds.Length (length_of m))
+
+-- the first fault of a whole input: that of the volume which it is to begin with, or of the bytes that follow it
 abbrev pub IsFirstOfInput : List ℕ → Fault → Type 0
-IsFirstOfInput input f =
-    IsFirstOfVolume input f
-    ⊎ ((m : Meaning) × Accepted (take (length_of m) input) m × (length_of m < length input)
-    × (f ≡ outer_fault kinds.Length (length_of m)))
+IsFirstOfInput input f = IsFirstOfVolume input f ⊎ GoesOn input f
+
+-- the condition of the fault holds in the input at its place, whatever else is wrong
+abbrev pub FaultStandsInInput : List ℕ → Fault → Type 0
+FaultStandsInInput input f = FaultStands input f ⊎ GoesOn input f
 
 -- an input is no volume, and this is its first fault
 pub record NotRead (input : List ℕ) (f : Fault) : Type 0 where

@@ -2,6 +2,8 @@
 
 ghost use Rattle.std.specs.Prelude.{◌≡◌, ◌↔◌, ◌⊎◌, IfOk, IfErr, true};
 ghost use Rattle.fv_base.specs.Faults.{want_of_memory};
+ghost use Rattle.fv_head.specs.Head.{HeadFields, BeginsVolume};
+ghost use Rattle.fv_head.specs.declared.extent.Extent.{Extent};
 ghost use Rattle.fv_canon.specs.Image.{IsImage};
 ghost use Rattle.fv_canon.specs.Refusals.{NotRead};
 ghost use Rattle.fv_tree.specs.Denotes.{Accepted};
@@ -50,6 +52,10 @@ pub fn is_canonical(alloc: Global, input: &[u8]) -> Result<bool, Fault>
 
     // Refused, want of memory aside, is only what is no volume.
     ensures err { IfErr result (λ f. (f ≡ want_of_memory) ⊎ NotRead input.now f) }
+
+    // Memory is wanted only where the input begins with the header of a volume.
+    ensures memory { IfErr result
+        (λ f. f ≡ want_of_memory → (h : HeadFields) × (e : Extent) × BeginsVolume h e input.now) }
 {
     let view = whole_volume(alloc, input)?;
     is_canonical_image(alloc, &view, input)

@@ -2,6 +2,7 @@
 
 ghost use Rattle.std.specs.Prelude.{◌≡◌, ◌≢◌, ◌⊎◌, ◌+◌, ◌-◌, ◌<◌, ◌≤◌, ◌^◌, ℕ, List, length, IfOk, IfErr, OnOk};
 ghost use Rattle.fv_base.specs.Faults.{want_of_memory};
+ghost use Rattle.fv_base.specs.Limits.{volume_limit};
 ghost use Rattle.fv_base.specs.Value.{field};
 ghost use Rattle.fv_canon.specs.Headline.{NormalisesTo};
 ghost use Rattle.fv_canon.specs.Refusals.{Refuses};
@@ -110,6 +111,9 @@ pub fn normalise_image(alloc: Global, image: &[u8]) -> Result<ByteList, Fault>
 
     // Where each volume has an image, only want of memory is answered.
     ensures fits { (other : List ℕ) → NormalisesAll image.now other → IfErr result (λ f. f ≡ want_of_memory) }
+
+    // Memory is wanted only where the image is within the limit.
+    ensures memory { IfErr result (λ f. f ≡ want_of_memory → length image.now ≤ volume_limit) }
 {
     let total = image.len() as u64;
     check(total <= VOLUME_LIMIT, FaultKind::Length, VOLUME_LIMIT)?;

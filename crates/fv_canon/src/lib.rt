@@ -6,7 +6,8 @@ mod compare;
 mod comparison_line;
 mod first_placement;
 mod flash_image;
-mod headline;
+pub mod further_laws;
+pub mod headline;
 mod image;
 mod image_pieces;
 mod image_sink;
@@ -23,9 +24,6 @@ pub use canonical_input::{is_canonical, is_canonical_image};
 pub use compare::{run_compare, write_comparison};
 pub use comparison_line::put_decimal;
 pub use flash_image::normalise_image;
-pub use headline::{
-    fits, images_align, images_stay, images_tell, least_starts, one_image, one_list_shows, pads,
-};
 pub use image::{canonical, put_canonical, write_canonical};
 pub use layout_walk::layout;
 pub use normalising::{normalise, run_normalise, whole_volume, write_normalised};

@@ -5,8 +5,8 @@ ghost use Rattle.fv_base.specs.Faults.{want_of_memory};
 ghost use Rattle.fv_base.specs.Port.{inner_of, has_erred};
 ghost use Rattle.fv_head.specs.Head.{HeadFields, BeginsVolume};
 ghost use Rattle.fv_head.specs.declared.extent.Extent.{Extent};
-ghost use Rattle.fv_canon.specs.Headline.{NormalisesTo};
-ghost use Rattle.fv_canon.specs.Refusals.{NotRead, Refuses};
+ghost use Rattle.fv_canon.specs.Headline.{IsNoVolume, IsOfLayout, IsUnfit, MeanSame, NormalisesTo};
+ghost use Rattle.fv_canon.specs.Refusals.{FaultStandsInInput, NotRead, Refuses};
 ghost use Rattle.fv_canon.specs.NormaliseRuns.{InputWrites, InputStops, RunWrites, RunStops};
 ghost use Rattle.fv_tree.specs.Denotes.{Accepted};
 ghost use Rattle.fv_tree.specs.Meaning.{Meaning};
@@ -28,6 +28,11 @@ pub fn whole_volume(alloc: Global, input: &[u8]) -> Result<VolumeView<'_>, Fault
     ensures found { IfOk result (λ view. Accepted input.now view) }
     ensures only { IfOk result (λ view. (m : Meaning) → Accepted input.now m → m ≡ view) }
     ensures refused { IfErr result (λ f. (f ≡ want_of_memory) ⊎ NotRead input.now f) }
+
+    // The condition of a fault holds in the input at its place.
+    ensures stands { IfErr result (λ f. f ≢ want_of_memory → FaultStandsInInput input.now f) }
+
+    // Memory is wanted only where the input begins with the header of a volume.
     ensures memory { IfErr result
         (λ f. f ≡ want_of_memory → (h : HeadFields) × (e : Extent) × BeginsVolume h e input.now) }
     ensures kind { IfErr result (λ f. (f.kind ≢ FaultKind.ReadFault) × (f.kind ≢ FaultKind.WriteFault)) }
@@ -47,11 +52,16 @@ pub fn normalise(alloc: Global, input: &[u8]) -> Result<ByteList, Fault>
     ensures ok { IfOk result (λ bytes. NormalisesTo input.now bytes) }
 
     // The image is a volume of the same meaning, and its own image.
-    ensures again { IfOk result (λ bytes. NormalisesTo bytes bytes) }
+    ensures again { IfOk result (λ bytes. MeanSame input.now bytes × NormalisesTo bytes bytes) }
     ensures length { IfOk result (λ bytes. length bytes ≡ length input.now) }
     ensures err { IfErr result (λ f. (f ≡ want_of_memory) ⊎ Refuses input.now f) }
 
-    // A volume that has an image is refused only for want of memory.
+    // Only a volume that does not fit is refused as NoRoom or TopAlignment, and with another fault only what is
+    // no volume.
+    ensures unfit { IfErr result (λ f. IsOfLayout f.kind → IsUnfit input.now) }
+    ensures unread { IfErr result (λ f. f ≢ want_of_memory → (IsOfLayout f.kind → ⊥) → IsNoVolume input.now) }
+
+    // A volume that has an image is refused only where memory runs out.
     ensures fits { (image : List ℕ) → NormalisesTo input.now image → IfErr result (λ f. f ≡ want_of_memory) }
 
     // Memory is wanted only where the input begins with the header of a volume.
@@ -80,6 +90,10 @@ pub fn write_normalised<W: Write>(
     ensures err { IfErr result
         (InputStops input.now (W.contents (inner_of writer.old)) (W.contents (inner_of writer.new))) }
     ensures read { IfErr result (λ f. f.kind ≢ FaultKind.ReadFault) }
+
+    // Memory is wanted only where the input begins with the header of a volume.
+    ensures memory { IfErr result
+        (λ f. f ≡ want_of_memory → (h : HeadFields) × (e : Extent) × BeginsVolume h e input.now) }
 
     // The writer's fault comes exactly where a write failed.
     ensures fine { OnOk result (has_erred writer.new ≡ has_erred writer.old) }

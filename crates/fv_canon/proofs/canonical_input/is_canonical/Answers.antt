@@ -1,6 +1,16 @@
-use Rattle.std.proofs.Common.{inl}
-use Rattle.std.proofs.lemmas.Result.{IfOk-weaker, IfErr-weaker}
+use Rattle.std.proofs.Common.{◌≡◌, inl}
+use Rattle.std.proofs.lemmas.Result.{IfOk-weaker, IfErr-weaker, err_from_is_err_and}
+use Rattle.fv_base.specs.Faults.{want_of_memory}
+use Rattle.fv_base.specs.declared.fault.Fault.{Fault}
+use Rattle.fv_head.specs.Head.{HeadFields, BeginsVolume}
+use Rattle.fv_head.specs.declared.extent.Extent.{Extent}
+use Rattle.fv_tree.specs.Meaning.{head_of}
 use Rattle.fv_canon.proofs.canonical_input.is_canonical.Goals as goal
+
+pub returns-in_err-view-clause-memory : goal.returns-in_err-view-clause-memory
+returns-in_err-view-clause-memory c =
+    let p = err_from_is_err_and c.from_residual.result c.from_residual.ensures.1 in
+    rw (p.1, p.2) c.in_err-view.ensures.memory
 
 pub returns-clause-ok : goal.returns-clause-ok
 returns-clause-ok c =
@@ -9,3 +19,10 @@ returns-clause-ok c =
 
 pub returns-clause-err : goal.returns-clause-err
 returns-clause-err c = IfErr-weaker c.is_canonical_image.result _ _ (λ f want. inl want) c.is_canonical_image.ensures.err
+
+pub returns-clause-memory : goal.returns-clause-memory
+returns-clause-memory c =
+    let d = c.in_ok-view.ensures.found.1 in
+    IfErr-weaker c.is_canonical_image.result _ (λ (f : Fault). f ≡ want_of_memory → (h : HeadFields) × (e : Extent)
+    × BeginsVolume h e c.args.input.now) (λ f why want. (head_of c.in_ok-view.view, d.extent, d.front))
+    c.is_canonical_image.ensures.err

@@ -1,8 +1,10 @@
 use Rattle.std.proofs.Common.{◌≡◌, ◌∙◌, ◌≤◌, ℕ, List, length, subst, sym}
 use Rattle.std.proofs.lemmas.Bool.{leb-true}
-use Rattle.std.proofs.lemmas.Result.{err_from_is_err_and, IfOk-weaker}
+use Rattle.std.proofs.lemmas.Result.{err_from_is_err_and, IfOk-weaker, IfErr-weaker}
 use Rattle.fv_base.proofs.Laws.{kept_whole}
+use Rattle.fv_base.specs.Faults.{want_of_memory}
 use Rattle.fv_base.specs.Limits.{volume_limit}
+use Rattle.fv_base.specs.declared.fault.Fault.{Fault}
 use Rattle.fv_tree.specs.FoundVolumes.{Found}
 use Rattle.fv_canon.specs.FlashImages.{NormalisesAll}
 use Rattle.fv_canon.proofs.FlashImageLaws.{normalised_one, only_want}
@@ -24,3 +26,8 @@ returns-clause-only c = λ other to.
     let all : NormalisesAll b put.0 = (short, c.as_slice.result.now, found, put.1) in
     IfOk-weaker c.finish.result _ (λ (bytes : List ℕ). bytes ≡ other) (λ bytes same. same ∙ normalised_one b put.0 other all to)
     (kept_whole _ _ put.0 _ _ c.finish.result c.in_ok-out.ensures.0 c.in_ok-out.ensures.1 put.2 c.finish.ensures.ok)
+
+pub returns-clause-memory : goal.returns-clause-memory
+returns-clause-memory c =
+    IfErr-weaker c.finish.result _ (λ (f : Fault). f ≡ want_of_memory → length c.args.image.now ≤ volume_limit)
+    (λ f why want. leb-true _ _ c.in_ok-check.ensures.ok) c.finish.ensures.err

@@ -5,9 +5,9 @@ use Rattle.fv_base.specs.declared.fault.Fault.{Fault}
 use Rattle.fv_head.specs.Head.{HeadFields, BeginsVolume}
 use Rattle.fv_head.specs.declared.extent.Extent.{Extent}
 use Rattle.fv_tree.specs.Meaning.{head_of}
-use Rattle.fv_canon.specs.Headline.{NormalisesTo}
+use Rattle.fv_canon.specs.Headline.{MeanSame, NormalisesTo}
 use Rattle.fv_canon.proofs.ImageLaws.{image_again, image_stays_long}
-use Rattle.fv_canon.proofs.InputLaws.{image_fits, not_placed, not_read, not_read_never}
+use Rattle.fv_canon.proofs.InputLaws.{image_fits, not_placed, not_read, not_read_never, unfit_refused, unread_refused}
 use Rattle.fv_canon.proofs.normalising.normalise.Goals as goal
 
 pub returns-in_err-view-clause-err : goal.returns-in_err-view-clause-err
@@ -20,6 +20,16 @@ returns-in_err-view-clause-fits c =
     let p = err_from_is_err_and c.from_residual.result c.from_residual.ensures.1 in
     rw (p.1, p.2) (λ image to. not_read_never c.args.input.now image _ c.in_err-view.ensures.refused to)
 
+pub returns-in_err-view-clause-unfit : goal.returns-in_err-view-clause-unfit
+returns-in_err-view-clause-unfit c =
+    let p = err_from_is_err_and c.from_residual.result c.from_residual.ensures.1 in
+    rw (p.1, p.2) (unfit_refused c.args.input.now _ (not_read c.args.input.now _ c.in_err-view.ensures.refused))
+
+pub returns-in_err-view-clause-unread : goal.returns-in_err-view-clause-unread
+returns-in_err-view-clause-unread c =
+    let p = err_from_is_err_and c.from_residual.result c.from_residual.ensures.1 in
+    rw (p.1, p.2) (unread_refused c.args.input.now _ (not_read c.args.input.now _ c.in_err-view.ensures.refused))
+
 pub returns-clause-ok : goal.returns-clause-ok
 returns-clause-ok c =
     IfOk-weaker c.canonical.result _ (NormalisesTo c.args.input.now)
@@ -27,7 +37,7 @@ returns-clause-ok c =
 
 pub returns-clause-again : goal.returns-clause-again
 returns-clause-again c =
-    IfOk-weaker c.canonical.result _ (λ bytes. NormalisesTo bytes bytes)
+    IfOk-weaker c.canonical.result _ (λ bytes. MeanSame c.args.input.now bytes × NormalisesTo bytes bytes)
     (λ bytes image. image_again c.args.input.now bytes (c.in_ok-view.view, c.in_ok-view.ensures.found, image)) c.canonical.ensures.image
 
 pub returns-clause-length : goal.returns-clause-length
@@ -40,6 +50,18 @@ pub returns-clause-err : goal.returns-clause-err
 returns-clause-err c =
     IfErr-weaker c.canonical.result _ _
     (λ f why. not_placed c.args.input.now c.in_ok-view.view f c.in_ok-view.ensures.found why) c.canonical.ensures.err
+
+pub returns-clause-unfit : goal.returns-clause-unfit
+returns-clause-unfit c =
+    let b : List ℕ = c.args.input.now in
+    IfErr-weaker c.canonical.result _ _
+    (λ f why. unfit_refused b f (not_placed b c.in_ok-view.view f c.in_ok-view.ensures.found why)) c.canonical.ensures.err
+
+pub returns-clause-unread : goal.returns-clause-unread
+returns-clause-unread c =
+    let b : List ℕ = c.args.input.now in
+    IfErr-weaker c.canonical.result _ _
+    (λ f why. unread_refused b f (not_placed b c.in_ok-view.view f c.in_ok-view.ensures.found why)) c.canonical.ensures.err
 
 pub returns-clause-fits : goal.returns-clause-fits
 returns-clause-fits c =

@@ -1,8 +1,12 @@
 use Rattle.std.proofs.Common.{◌≡◌, true}
-use Rattle.std.proofs.lemmas.Result.{err_from_is_err_and}
+use Rattle.std.proofs.lemmas.Result.{IfErr-weaker, err_from_is_err_and}
+use Rattle.fv_base.specs.Faults.{want_of_memory}
 use Rattle.fv_base.specs.Port.{has_erred}
 use Rattle.fv_base.specs.declared.fault.Fault.{Fault}
 use Rattle.fv_base.specs.declared.fault.FaultKind.TheVariants as kinds
+use Rattle.fv_head.specs.Head.{HeadFields, BeginsVolume}
+use Rattle.fv_head.specs.declared.extent.Extent.{Extent}
+use Rattle.fv_tree.specs.Meaning.{head_of}
 use Rattle.fv_canon.proofs.InputLaws.{not_placed, not_read, unfit_kind}
 use Rattle.fv_canon.proofs.NormaliseRunLaws.{input_writes, writer_stops, refused_stops, write_not_read, of_some_kind}
 use Rattle.fv_canon.proofs.normalising.write_normalised.Goals as goal
@@ -11,6 +15,17 @@ pub returns-in_err-view-clause-err : goal.returns-in_err-view-clause-err
 returns-in_err-view-clause-err g c =
     let p = err_from_is_err_and c.from_residual.result c.from_residual.ensures.1 in
     rw (p.1, p.2) (refused_stops c.args.input.now _ _ (not_read c.args.input.now _ c.in_err-view.ensures.refused))
+
+pub returns-in_err-view-clause-memory : goal.returns-in_err-view-clause-memory
+returns-in_err-view-clause-memory g c =
+    let p = err_from_is_err_and c.from_residual.result c.from_residual.ensures.1 in
+    rw (p.1, p.2) c.in_err-view.ensures.memory
+
+pub returns-in_err-places-clause-memory : goal.returns-in_err-places-clause-memory
+returns-in_err-places-clause-memory g c =
+    let p = err_from_is_err_and c.from_residual-in_err-places.result c.from_residual-in_err-places.ensures.1 in
+    let d = c.in_ok-view.ensures.found.1 in
+    rw (p.1, p.2) (λ want. (head_of c.in_ok-view.view, d.extent, d.front))
 
 pub returns-in_err-places-clause-err : goal.returns-in_err-places-clause-err
 returns-in_err-places-clause-err g c =
@@ -35,6 +50,12 @@ returns-clause-ok g c =
 pub returns-clause-err : goal.returns-clause-err
 returns-clause-err g c =
     writer_stops c.args.input.now c.in_ok-view.view _ _ c.write_canonical.result c.in_ok-view.ensures.found c.write_canonical.ensures.err
+
+pub returns-clause-memory : goal.returns-clause-memory
+returns-clause-memory g c =
+    let d = c.in_ok-view.ensures.found.1 in
+    IfErr-weaker c.write_canonical.result _ (λ (f : Fault). f ≡ want_of_memory → (h : HeadFields) × (e : Extent)
+    × BeginsVolume h e c.args.input.now) (λ f stops want. (head_of c.in_ok-view.view, d.extent, d.front)) c.write_canonical.ensures.err
 
 pub returns-clause-read : goal.returns-clause-read
 returns-clause-read g c = write_not_read c.in_ok-view.view _ _ c.write_canonical.result c.write_canonical.ensures.err

@@ -1,7 +1,7 @@
 use Rattle.std.proofs.Common.{ℕ, List, sym, subst}
 use Rattle.fv_canon.specs.Spans.{ShowsSpans}
 use Rattle.fv_canon.proofs.PositionLaws.{shows_walk, one_image}
-use Rattle.fv_canon.proofs.headline.one_list_shows.Goals as goal
+use Rattle.fv_canon.proofs.further_laws.one_list_shows.Goals as goal
 
 pub returns : goal.returns
 returns c erased total spans bytes o = (

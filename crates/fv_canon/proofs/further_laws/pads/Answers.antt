@@ -1,5 +1,5 @@
 use Rattle.fv_canon.proofs.StoredTilingLaws.{pads_rule}
-use Rattle.fv_canon.proofs.headline.pads.Goals as goal
+use Rattle.fv_canon.proofs.further_laws.pads.Goals as goal
 
 pub returns : goal.returns
 returns c = pads_rule

@@ -1,5 +1,5 @@
 use Rattle.fv_canon.proofs.FitLaws.{least_laid}
-use Rattle.fv_canon.proofs.headline.least_starts.Goals as goal
+use Rattle.fv_canon.proofs.further_laws.least_starts.Goals as goal
 
 pub returns : goal.returns
 returns c = least_laid

@@ -1,5 +1,5 @@
 use Rattle.fv_canon.proofs.FitLaws.{laid_fits, fits_laid, unfit_none}
-use Rattle.fv_canon.proofs.headline.fits.Goals as goal
+use Rattle.fv_canon.proofs.further_laws.fits.Goals as goal
 
 pub returns-clause-laid : goal.returns-clause-laid
 returns-clause-laid c = laid_fits
