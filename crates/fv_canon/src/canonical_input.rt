@@ -53,7 +53,7 @@ pub fn is_canonical(alloc: Global, input: &[u8]) -> Result<bool, Fault>
     // Refused, want of memory aside, is only what is no volume.
     ensures err { IfErr result (λ f. (f ≡ want_of_memory) ⊎ NotRead input.now f) }
 
-    // Memory is wanted only where the input begins with the header of a volume.
+    // Memory runs out only where the input begins with the header of a volume.
     ensures memory { IfErr result
         (λ f. f ≡ want_of_memory → (h : HeadFields) × (e : Extent) × BeginsVolume h e input.now) }
 {

@@ -112,7 +112,7 @@ pub fn normalise_image(alloc: Global, image: &[u8]) -> Result<ByteList, Fault>
     // Where each volume has an image, only want of memory is answered.
     ensures fits { (other : List ℕ) → NormalisesAll image.now other → IfErr result (λ f. f ≡ want_of_memory) }
 
-    // Memory is wanted only where the image is within the limit.
+    // Memory runs out only where the image is within the limit.
     ensures memory { IfErr result (λ f. f ≡ want_of_memory → length image.now ≤ volume_limit) }
 {
     let total = image.len() as u64;

@@ -32,7 +32,7 @@ pub fn whole_volume(alloc: Global, input: &[u8]) -> Result<VolumeView<'_>, Fault
     // The condition of a fault holds in the input at its place.
     ensures stands { IfErr result (λ f. f ≢ want_of_memory → FaultStandsInInput input.now f) }
 
-    // Memory is wanted only where the input begins with the header of a volume.
+    // Memory runs out only where the input begins with the header of a volume.
     ensures memory { IfErr result
         (λ f. f ≡ want_of_memory → (h : HeadFields) × (e : Extent) × BeginsVolume h e input.now) }
     ensures kind { IfErr result (λ f. (f.kind ≢ FaultKind.ReadFault) × (f.kind ≢ FaultKind.WriteFault)) }
@@ -64,7 +64,7 @@ pub fn normalise(alloc: Global, input: &[u8]) -> Result<ByteList, Fault>
     // A volume that has an image is refused only where memory runs out.
     ensures fits { (image : List ℕ) → NormalisesTo input.now image → IfErr result (λ f. f ≡ want_of_memory) }
 
-    // Memory is wanted only where the input begins with the header of a volume.
+    // Memory runs out only where the input begins with the header of a volume.
     ensures memory { IfErr result
         (λ f. f ≡ want_of_memory → (h : HeadFields) × (e : Extent) × BeginsVolume h e input.now) }
 {
@@ -91,7 +91,7 @@ pub fn write_normalised<W: Write>(
         (InputStops input.now (W.contents (inner_of writer.old)) (W.contents (inner_of writer.new))) }
     ensures read { IfErr result (λ f. f.kind ≢ FaultKind.ReadFault) }
 
-    // Memory is wanted only where the input begins with the header of a volume.
+    // Memory runs out only where the input begins with the header of a volume.
     ensures memory { IfErr result
         (λ f. f ≡ want_of_memory → (h : HeadFields) × (e : Extent) × BeginsVolume h e input.now) }
 
