@@ -6,7 +6,7 @@ use Rattle.std.specs.Prelude.{IsTrue, MatchBool}
 use Rattle.std.proofs.lemmas.List.{drop_more, drop_all}
 use Rattle.fv_canon.specs.declared.first_placement.Part.{Part}
 use Rattle.fv_canon.specs.declared.first_placement.Reach.{Reach}
-use Rattle.fv_canon.specs.Starts.{Lawful, StartsFollow, Placement, IsLeast, IsFirstPlacement}
+use Rattle.fv_canon.specs.Starts.{Lawful, StandsInVolume, StartsFollow, Placement, IsLeast, IsLeastStart, IsFirstPlacement}
 use Rattle.fv_canon.specs.Reaches.{CanPlace, IsReach, IsFirstStart}
 use Rattle.fv_canon.proofs.MultipleLaws.{edge_eighth, edge_above}
 use Rattle.fv_canon.proofs.FirstPlacementLaws.{begins}
@@ -112,3 +112,27 @@ forward_end total first fs e i done l room o =
     let c = subst (λ xs. Chosen total first fs xs) (append-nil done)
     (o.whole [] (subst (λ xs. Chosen total e xs []) (sym (drop_all i fs l)) (record { follow = tt; firsts = tt }))) in
     first_from total first fs done (record { room = room; follow = c.follow }) c.firsts
+
+-- ---- the least starts, file by file
+pub record Least (total first : ℕ) (fs : List Part) (e : ℕ) (left : List Part) (done : List ℕ) : Type 0 where
+  pub follow : (rest : List ℕ) → StartsFollow total e left rest → StartsFollow total first fs (done ++ rest)
+  pub least : (rest : List ℕ) → IsLeast total e left rest → IsLeast total first fs (done ++ rest)
+
+pub least_at : (total first : ℕ) (fs : List Part) (e i : ℕ) (d : Part) (done : List ℕ) (s : ℕ) → i < length fs
+    → Least total first fs e (drop i fs) done → StandsInVolume total e (get_or fs i d) s → IsLeastStart total e (get_or fs i d) s
+    → Least total first fs (up_to_8 (s + (get_or fs i d).size)) (drop (i + 1) fs) (done ++ s ∷ [])
+least_at total first fs e i d done s l h stands least = record {
+  follow = λ rest p. subst (λ xs. StartsFollow total first fs xs) (sym (append_assoc done (s ∷ []) rest))
+      (h.follow (s ∷ rest) (subst (λ xs. StartsFollow total e xs (s ∷ rest)) (sym (drop_more fs i d l)) (stands, p)));
+  least = λ rest p. subst (λ xs. IsLeast total first fs xs) (sym (append_assoc done (s ∷ []) rest))
+      (h.least (s ∷ rest) (subst (λ xs. IsLeast total e xs (s ∷ rest)) (sym (drop_more fs i d l)) (least, p)));
+}
+
+pub least_end : (total first : ℕ) (fs : List Part) (e i : ℕ) (done : List ℕ) → length fs ≤ i → first ≤ total
+    → Least total first fs e (drop i fs) done → IsFirstPlacement total first fs done
+least_end total first fs e i done l room h =
+    let follow = subst (λ xs. StartsFollow total first fs xs) (append-nil done)
+    (h.follow [] (subst (λ xs. StartsFollow total e xs []) (sym (drop_all i fs l)) tt)) in
+    let least = subst (λ xs. IsLeast total first fs xs) (append-nil done)
+    (h.least [] (subst (λ xs. IsLeast total e xs []) (sym (drop_all i fs l)) tt)) in
+    agree total first fs done least (record { room = room; follow = follow })

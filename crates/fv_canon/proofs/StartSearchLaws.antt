@@ -7,6 +7,7 @@ use Rattle.std.proofs.lemmas.Nat.{pow_pos}
 use Rattle.std.proofs.Math.Nat.{mod_self, mod-add-mod, mod-eq-sub-mod}
 use Rattle.fv_canon.specs.declared.first_placement.Part.{Part}
 use Rattle.fv_canon.specs.declared.first_placement.Reach.{Reach}
+use Rattle.fv_canon.specs.Starts.{Lawful}
 use Rattle.fv_canon.specs.Reaches.{Serves, Widens}
 use Rattle.fv_canon.proofs.MultipleLaws.{multiples_apart, eighth_sum, eighth_difference}
 use Rattle.fv_canon.proofs.FirstPlacementLaws.{reach_bound}
@@ -123,3 +124,28 @@ never_true h = cc
 
 pub step_down : (x a : ℕ) → x % a ≡ 0 → a ≤ x → (x - a) % a ≡ 0
 step_down x a p l = sym (mod-eq-sub-mod l) ∙ p
+
+-- ---- the least lawful start, where the edge is none
+
+-- the data at the multiple x of the widened alignment
+pub rounded_lawful : (e : ℕ) (f : Part) (a x : ℕ) → Widens a f.alignment → f.header % 8 ≡ 0 → x % a ≡ 0 → e + 24 + f.header ≤ x
+    → Lawful e f (x - f.header)
+rounded_lawful e f a x w h m above =
+    let both = w.apart x m in
+    let back : (x - f.header) + f.header ≡ x = omega arith in
+    record {
+      eighth = eighth_difference (x - f.header) f.header (subst (λ n. n % 8 ≡ 0) (sym back) both.0) h;
+      apart = inr (omega arith);
+      aligned = subst (λ n. n % f.alignment ≡ 0) (sym back) both.1;
+    }
+
+-- each other lawful start has its data at such a multiple too
+pub rounded_least : (e : ℕ) (f : Part) (a x t : ℕ) → Widens a f.alignment → f.header % 8 ≡ 0
+    → ((y : ℕ) → y % a ≡ 0 → e + 24 + f.header ≤ y → x ≤ y) → (Lawful e f e → ⊥) → Lawful e f t → x - f.header ≤ t
+rounded_least e f a x t w h least not l = elim l.apart [
+  | inl same ↦ absurd (not (subst (λ n. Lawful e f n) same l))
+  | inr far ↦ below (least (t + f.header) (w.joined (t + f.header) (eighth_sum t f.header l.eighth h) l.aligned) (omega arith))
+]
+  where
+    below : x ≤ t + f.header → x - f.header ≤ t
+    below p = omega arith

@@ -222,9 +222,96 @@ fn reaches_from(alloc: Global, total: u64, parts: &[Part]) -> Result<Option<Vec<
     Ok(Some(found))
 }
 
-// The first placement of the files in a volume of `total` bytes with the first edge `first`; None
-// where they cannot be placed in their order at all.
-pub(crate) fn first_starts(
+// Whether the start is lawful after the edge.
+fn is_lawful(edge: u64, part: &Part, start: u64) -> bool
+    requires edge { edge ≤ volume_limit }
+    requires header { part.now.header ≤ volume_limit }
+    requires alignment { IsAlignment part.now.alignment }
+    requires start { start ≤ volume_limit }
+    ensures { IsTrue result ↔ Lawful edge part.now start }
+{
+    (start + part.header) % part.alignment == 0
+        && start % 8 == 0
+        && (start == edge || edge + 24 <= start)
+}
+
+// The least lawful start after `edge`, wherever the volume ends.
+fn least_lawful(edge: u64, part: &Part) -> u64
+    requires edge { (edge % 8 ≡ 0) × (edge ≤ volume_limit) }
+    requires header { (part.now.header % 8 ≡ 0) × (part.now.header ≤ volume_limit) }
+    requires alignment { IsAlignment part.now.alignment }
+    ensures lawful { Lawful edge part.now result }
+    ensures least { (t : ℕ) → Lawful edge part.now t → result ≤ t }
+    ensures small { result < 2 ^ 32 }
+{
+    if is_lawful(edge, part, edge) {
+        return edge;
+    }
+    let step = widened(part.alignment);
+    round_up(edge + 24 + part.header, step) - part.header
+}
+
+// The least start after `edge`, or of the volume top file the start at the volume's end; None where the
+// file cannot stand there.
+fn least_start(total: u64, edge: u64, part: &Part) -> Option<u64>
+    requires total { total ≤ volume_limit }
+    requires edge { (edge % 8 ≡ 0) × (edge ≤ total) }
+    requires part { IsLawfulPart total part.now }
+    ensures stands { IfSome result (λ s. StandsInVolume total edge part.now s) }
+    ensures least { IfSome result (λ s. IsLeastStart total edge part.now s) }
+{
+    if part.top {
+        let end = total - part.size;
+        return if is_lawful(edge, part, end) {
+            Some(end)
+        } else {
+            None
+        };
+    }
+    let start = least_lawful(edge, part);
+    if start + part.size <= total {
+        Some(start)
+    } else {
+        None
+    }
+}
+
+// The least starts of the files, one after another, where they are a placement; None where they are none.
+// Where they are one, it is the first: each start is the least that is lawful after those before it.
+fn least_placement(
+    alloc: Global,
+    total: u64,
+    first: u64,
+    parts: &[Part],
+) -> Result<Option<Vec<u64>>, Fault>
+    requires total { (total ≤ volume_limit) × (total % 8 ≡ 0) }
+    requires first { (first % 8 ≡ 0) × (first < 2 ^ 32) }
+    requires parts { All (IsLawfulPart total) parts.now }
+    ensures found { IfOk result (λ o. IfSome o (λ starts. IsFirstPlacement total first parts.now starts.items)) }
+    ensures err { IfErr result (λ f. f ≡ want_of_memory) }
+{
+    if first > total {
+        return Ok(None);
+    }
+    let mut starts = Vec::with_capacity(alloc, parts.len())?;
+    let mut edge = first;
+    for part in parts {
+        match least_start(total, edge, part) {
+            None => return Ok(None),
+            Some(start) => {
+                starts.push(start)?;
+                edge = up_to_8(start + part.size);
+            }
+        }
+    }
+    Ok(Some(starts))
+}
+
+// The first placement by a search; None where there is none. A least start may be too early: where 8 or 16 bytes
+// are left before the volume top file, no pad fits there, and a file before it has to stand further on. So the
+// search first goes backwards: after which edges can the files from here on be placed? Then it goes forwards, and
+// puts each file at its least start that leaves such an edge.
+fn searched_starts(
     alloc: Global,
     total: u64,
     first: u64,
@@ -258,6 +345,28 @@ pub(crate) fn first_starts(
         }
     }
     Ok(Some(starts))
+}
+
+// The first placement of the files in a volume of `total` bytes with the first edge `first`; None
+// where they cannot be placed in their order at all.
+pub(crate) fn first_starts(
+    alloc: Global,
+    total: u64,
+    first: u64,
+    parts: &[Part],
+) -> Result<Option<Vec<u64>>, Fault>
+    requires total { (total ≤ volume_limit) × (total % 8 ≡ 0) }
+    requires first { (first % 8 ≡ 0) × (first < 2 ^ 32) }
+    requires parts { All (IsLawfulPart total) parts.now }
+    ensures found { IfOk result (λ o. IfSome o (λ starts. IsFirstPlacement total first parts.now starts.items)) }
+    ensures none { IfOk result (λ o. IfNone o ((starts : List ℕ) → Placement total first parts.now starts → ⊥)) }
+    ensures err { IfErr result (λ f. f ≡ want_of_memory) }
+{
+    // Most volumes need no search: their least starts are a placement.
+    if let Some(starts) = least_placement(alloc, total, first, parts)? {
+        return Ok(Some(starts));
+    }
+    searched_starts(alloc, total, first, parts)
 }
 
 // Whether the one start of the volume top file is not aligned.

@@ -5,8 +5,8 @@ use Rattle.fv_canon.specs.declared.first_placement.Reach.{Reach}
 use Rattle.fv_canon.proofs.MultipleLaws.{edge_eighth}
 use Rattle.fv_canon.proofs.FirstPlacementLaws.{whole_can, next_reach, none_here, first_fits}
 use Rattle.fv_canon.proofs.PlacementLaws.{Forward, forward_at, forward_end}
-use Rattle.fv_canon.proofs.first_placement.first_starts.Goals.{In-Some}
-use Rattle.fv_canon.proofs.first_placement.first_starts.Goals as goal
+use Rattle.fv_canon.proofs.first_placement.searched_starts.Goals.{In-Some}
+use Rattle.fv_canon.proofs.first_placement.searched_starts.Goals as goal
 
 -- the reaches of the files from each on, one more than there are files
 found : (c : In-Some) → AreReaches c.args.total c.args.parts.now c.in-Some.found.items

@@ -1,6 +1,6 @@
 use Rattle.std.proofs.Common.{◌≡◌, ◌%◌, ◌≤◌, drop}
 use Rattle.fv_canon.proofs.PlacementLaws.{Forward}
-use Rattle.fv_canon.proofs.first_placement.first_starts.Given as goal
+use Rattle.fv_canon.proofs.first_placement.searched_starts.Given as goal
 
 abbrev pub invariant-loop-i : goal.invariant-loop-i
 invariant-loop-i l = record {

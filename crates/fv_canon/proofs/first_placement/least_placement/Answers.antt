@@ -1,0 +1,8 @@
+use Rattle.std.proofs.Common.{arith}
+use Rattle.fv_canon.proofs.PlacementLaws.{least_end}
+use Rattle.fv_canon.proofs.first_placement.least_placement.Goals as goal
+
+pub returns-clause-found : goal.returns-clause-found
+returns-clause-found c =
+    least_end c.args.total c.args.first c.args.parts.now c.loop-part.edge c.loop-part.part-index c.loop-part.starts.items
+    c.loop-part-test.false (omega (arith, c.if-first-total.false)) c.loop-part.invariant.least
