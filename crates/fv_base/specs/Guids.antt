@@ -22,7 +22,7 @@ abbrev pub digits : List ℕ → List ℕ
 digits [] = []
 digits (b ∷ bs) = digit (b / 16 % 16) ∷ digit (b % 16) ∷ digits bs
 
--- the digits of the bytes at these places, in this order
+-- the hexadecimal digits of the bytes at these offsets, in this order
 abbrev pub digits_at : List ℕ → List ℕ → List ℕ
 digits_at places b = digits (map (slice_index b) places)
 
@@ -32,7 +32,6 @@ guid_text b =
     digits_at (3 ∷ 2 ∷ 1 ∷ 0 ∷ []) b ++ 45 ∷ digits_at (5 ∷ 4 ∷ []) b ++ 45 ∷ digits_at (7 ∷ 6 ∷ []) b
     ++ 45 ∷ digits_at (8 ∷ 9 ∷ []) b ++ 45 ∷ digits_at (10 ∷ 11 ∷ 12 ∷ 13 ∷ 14 ∷ 15 ∷ []) b
 
--- the GUID that a text names, if it names one: the first three fields of a UUID stand with the
--- most significant byte first
+-- the GUID that a text names, if it names one: in a UUID the first three fields have the most significant byte first
 abbrev pub guid_read : List ℕ → Option Guid
 guid_read text = option_map (λ u. record { bytes = swap_fields u }) (parsed text)

@@ -1,12 +1,13 @@
 -- The limits of what is read. For the first three the code has constants of its own (src/limits.rt): a contract that
--- cites one of these numbers is proved only while the two agree. No code has the last: clauses alone cite it.
+-- cites one of these numbers is proved only while the two agree. The last has no constant in the code: only clauses
+-- cite it.
 use Rattle.std.specs.Prelude.{ℕ}
 
--- the most bytes that a volume has, and that a run takes as binary input
+-- the most bytes that a volume may have, and that a run reads as binary input
 abbrev pub volume_limit : ℕ
 volume_limit = 268435456
 
--- the most bytes of a volume header: 56, and 8 for each of 256 block entries and for the pair of zeros behind them
+-- the most bytes of a volume header: 56, and 8 for each of 256 block map entries and for the pair of zeros after them
 abbrev pub header_limit : ℕ
 header_limit = 2112
 

@@ -1,5 +1,5 @@
--- The laws of bytes that are kept in memory. There is nothing to believe here: these are proofs, and stand in specs/
--- since a ghost member cites the last of them.
+-- The laws of bytes that are kept in memory. There is nothing to believe here: these are proofs. They are in specs/
+-- because a ghost member cites the last of them.
 -- Serves private clauses alone: there is nothing to believe here.
 use Rattle.std.proofs.Common.{ℕ, List, [], ◌++◌, ap, sym, ◌∙◌, append_assoc, append-nil, Bool, true, false}
 use Rattle.fv_base.specs.ListSinks.{KeptLatched, KeptTakes}

@@ -2,7 +2,7 @@
 use Rattle.std.specs.Prelude.{◌≡◌, ℕ, List, ◌++◌, Bool, true, false}
 use Rattle.fv_base.specs.declared.sink.ListSink.{ListSink}
 
--- the bytes, and whether no growth was refused
+-- the bytes kept, and (`is_on`) whether no allocation has failed
 abbrev pub kept_in : ListSink → List ℕ
 kept_in s = s.bytes.items
 
@@ -13,7 +13,7 @@ is_on s = s.on
 abbrev pub KeepsAll : List ℕ → List ℕ → List ℕ → Type 0
 KeepsAll s bytes t = t ≡ s ++ bytes
 
--- what is kept does not matter once a growth was refused
+-- once an allocation has failed, what is kept does not matter
 abbrev pub KeptLatched : List ℕ → Bool → List ℕ → List ℕ → Bool → Type 0
 KeptLatched s true bytes t true = KeepsAll s bytes t
 KeptLatched s true bytes t false = Unit {0}

@@ -5,7 +5,7 @@ use Rattle.std.specs.Io.KnownBytes.{Consumes, IsAtEnd, Keeps}
 use Rattle.fv_base.specs.declared.input.Turn.{Turn}
 use Rattle.fv_base.specs.declared.input.Turn.TheVariants as turns
 
--- what one turn of reading did: to the reader, to the bytes so far, and whether the port has erred now
+-- what one turn of reading did: to the reader, to the bytes read so far, and whether the port has erred now
 abbrev pub ReadsTurn : Turn → Option (List ℕ) → Option (List ℕ) → List ℕ → List ℕ → Bool → Type 0
 ReadsTurn turns.More old new before after erred =
     (added : List ℕ) × (after ≡ before ++ added) × (0 < length added) × Consumes old new added

@@ -1,8 +1,8 @@
--- The sums that headers carry (PI specification, volume 3, sections 3.2.1.1 and 3.2.3.1).
+-- The sums in headers (PI specification, volume 3, sections 3.2.1.1 and 3.2.3.1).
 use Rattle.std.specs.Prelude.{ℕ, ◌%◌, List, [], ◌∷◌, sum}
 use Rattle.fv_base.specs.Value.{le}
 
--- the little-endian words of bytes; a last byte alone is no word
+-- the little-endian 16-bit words of the bytes; a last single byte is no word
 abbrev pub words_of : List ℕ → List ℕ
 words_of [] = []
 words_of (a ∷ []) = []
@@ -12,6 +12,6 @@ words_of (a ∷ b ∷ bs) = le (a ∷ b ∷ []) ∷ words_of bs
 abbrev pub sum8_of : List ℕ → ℕ
 sum8_of bs = sum bs % 256
 
--- the plain sum of the words modulo 65536
+-- the plain sum of the 16-bit words modulo 65536
 abbrev pub sum16_of : List ℕ → ℕ
 sum16_of bs = sum (words_of bs) % 65536

@@ -10,12 +10,12 @@ abbrev pub le : List ℕ → ℕ
 le [] = 0
 le (b ∷ bs) = b + 256 * le bs
 
--- the lowest bytes of a number, so many of them, the least significant byte first
+-- the lowest k bytes of a number, the least significant byte first
 abbrev pub le_bytes : ℕ → ℕ → List ℕ
 le_bytes zero n = []
 le_bytes (suc k) n = (n % 256) ∷ le_bytes k (n / 256)
 
--- the bytes of a field: so many from a place on
+-- the bytes of a field: `size` bytes from the offset `at` on
 abbrev pub field : ℕ → ℕ → List ℕ → List ℕ
 field at size b = take size (drop at b)
 

@@ -1,5 +1,5 @@
--- The laws of a lent port that takes bytes. There is nothing to believe here: these are proofs, and stand in specs/
--- since a ghost member cites the last of them.
+-- The laws of a lent port that takes bytes. There is nothing to believe here: these are proofs. They are in specs/
+-- because a ghost member cites the last of them.
 -- Serves private clauses alone: there is nothing to believe here.
 use Rattle.std.proofs.Common.{◌≡◌, ℕ, ◌+◌, ◌%◌, ◌^◌, ◌<◌, List, [], ◌++◌, length, take, refl, sym, ◌∙◌, ap, subst}
 use Rattle.std.proofs.Common.{arith, add_assoc, add-zero, append_assoc, append-nil, length-append, Bool, true, false}

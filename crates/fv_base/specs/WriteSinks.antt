@@ -3,7 +3,7 @@ use Rattle.std.specs.Prelude.{◌≡◌, ℕ, ◌+◌, ◌%◌, ◌^◌, ◌<◌
 use Rattle.std.specs.Io.KnownBytes.{Appends}
 use Rattle.fv_base.specs.Sinks.{Latched}
 
--- what the writer tells of its bytes, whether the port has erred, and how many bytes were taken, modulo 2 ^ 64
+-- what the writer says of its bytes, whether the port has erred, and how many bytes were taken, modulo 2 ^ 64
 pub record PortShows : Type 0 where
   pub contents : Option (List ℕ)
   pub erred : Bool
@@ -17,14 +17,14 @@ WritesBytes s bytes t = Appends s.contents t.contents bytes × (t.count % 2 ^ 64
 abbrev pub WritesAll : PortShows → List ℕ → PortShows → Type 0
 WritesAll s bytes t = WritesBytes s bytes t × (t.erred ≡ s.erred)
 
--- exactly a front of the bytes was written, not all of them, and the port has erred
+-- the first n bytes were written and no others, fewer than all of them, and the port has erred
 abbrev pub WritesFront : PortShows → List ℕ → PortShows → Type 0
 WritesFront s bytes t = (n : ℕ) × (n < length bytes) × WritesBytes s (take n bytes) t × (t.erred ≡ true)
 
--- a view of a sink, and whether it goes on
+-- how a sink takes bytes, by its view and by whether it is still on
 abbrev pub LatchedWrites : PortShows → Bool → List ℕ → PortShows → Bool → Type 0
 LatchedWrites s a bytes t b = Latched WritesAll WritesFront s a bytes t b
 
--- a sink is seen by a view of it, by whether it goes on, and by a name that it keeps
+-- the same, for a sink given by its view, by whether it is still on, and by a name that it keeps
 abbrev pub SeenTakes : {S N : Type 0} (view : S → PortShows) (on : S → Bool) (name : S → N) → S → List ℕ → S → Type 0
 SeenTakes view on name s bytes t = (name t ≡ name s) × LatchedWrites (view s) (on s) bytes (view t) (on t)

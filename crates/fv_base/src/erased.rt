@@ -1,12 +1,12 @@
-//! Bytes that are all the same, as erased ones are.
+//! Bytes that all have the same value, such as erased bytes.
 
 ghost use Rattle.std.specs.Prelude.{◌≡◌, ◌↔◌, IsTrue};
 ghost use Rattle.fv_base.specs.Erased.{AllAre, all_are};
 
-/// How many bytes are looked at before it is asked whether to go on.
+/// The number of bytes that are looked at before the loop decides whether to go on.
 const PIECE: usize = 4096;
 
-// Whether every byte is this one. Looks at all of them.
+// Whether every byte of the piece has this value. Looks at all of them.
 fn is_filled(piece: &[u8], byte: u8) -> bool
     ensures { IsTrue result ↔ AllAre byte piece.now }
 {
@@ -17,7 +17,7 @@ fn is_filled(piece: &[u8], byte: u8) -> bool
     seen == 0
 }
 
-/// Whether every one of the bytes is this one. It is so of no bytes. Takes no memory.
+/// Whether every byte has the value `byte`. True if there are no bytes. Takes no memory.
 pub fn all_are(bytes: &[u8], byte: u8) -> bool
     ensures test { result ≡ all_are byte bytes.now }
     ensures all { IsTrue result ↔ AllAre byte bytes.now }

@@ -1,4 +1,4 @@
-//! Faults: what was refused, and where.
+//! Faults: why an input was rejected, and at which offset.
 
 ghost use Rattle.std.specs.Prelude.{◌≡◌, true, false, OnOk, IfErr};
 ghost use Rattle.fv_base.specs.Faults.{fault_number, outer_fault, want_of_memory};
@@ -6,11 +6,12 @@ ghost use Rattle.fv_base.specs.Faults.{fault_number, outer_fault, want_of_memory
 use std::alloc::{AllocError, AllocFailed};
 use thiserror::Error;
 
-/// Why an input was refused, or a run stopped. Each variant says when it is the fault, and at which offset it stands.
-/// A file stands where its data are valid, marked for update or not.
+/// Why an input was rejected, or a run stopped. Each variant says when it is the fault, and its
+/// offset. A valid file is one whose data are valid, marked for update or not.
 #[derive(Clone, Copy, Debug, PartialEq, Eq, Error)]
 pub enum FaultKind {
-    /// There are fewer bytes than 56, than `HeaderLength` or than `FvLength`. At the end of the bytes.
+    /// There are fewer bytes than 56, than `HeaderLength` or than `FvLength`. At the end of the
+    /// bytes.
     #[error("the bytes end before the volume does")]
     Truncated,
     /// `Signature`, the four bytes at 40, is not `_FVH`, `EFI_FVH_SIGNATURE`. At 40.
@@ -22,60 +23,65 @@ pub enum FaultKind {
     /// `Revision`, the byte at 55, is not 2, `EFI_FVH_REVISION`. At 55.
     #[error("the header is not of revision 2")]
     Revision,
-    /// `HeaderLength` is no multiple of 8 from 64 to 2112. At 48.
+    /// `HeaderLength` is not a multiple of 8 from 64 to 2112. At 48.
     #[error("the header length is out of range")]
     HeaderLength,
-    /// The words of the header do not sum to 0 with its `Checksum`. At 0.
+    /// The 16-bit words of the header, with its `Checksum`, do not sum to 0. At 0.
     #[error("the volume header has a wrong sum")]
     HeaderSum,
-    /// Of `BlockMap` the first pair of zeros does not stand at `HeaderLength` - 8, or the blocks do not sum to
-    /// `FvLength`. At 56.
+    /// The first pair of zeros of `BlockMap` is not at `HeaderLength` - 8, or the blocks do not sum
+    /// to `FvLength`. At 56.
     #[error("the block map does not make up the volume")]
     BlockMap,
-    /// `FvLength` is no multiple of 8, below `HeaderLength` or above the limit (at 32); bytes stand behind the volume,
-    /// in a call that takes a whole one (at `FvLength`); or an input is longer than the limit (at the limit).
+    /// `FvLength` is not a multiple of 8, is below `HeaderLength` or is above the limit (at 32). Or
+    /// bytes follow the volume in a call that takes a whole one (at `FvLength`). Or an input is
+    /// longer than the limit (at the limit).
     #[error("the length is out of range")]
     Length,
-    /// The extended header, at `ExtHeaderOffset`, begins before `HeaderLength`, has fewer than 20 bytes before
-    /// `FvLength` or ends past it, or `ExtHeaderSize` is below 20 or above 65,535. At 52.
+    /// The extended header, at `ExtHeaderOffset`, begins before `HeaderLength`, has fewer than 20
+    /// bytes before `FvLength` or ends past it; or `ExtHeaderSize` is below 20 or above 65,535. At
+    /// 52.
     #[error("the extended header is out of range")]
     ExtHeader,
-    /// In `State` bit 0x40 or 0x80 was written; or `verify_ffs_file` is given a file that does not stand.
-    /// At the file + 23.
+    /// Bit 0x40 or 0x80 of `State` was written; or `verify_ffs_file` is given a file that is not
+    /// valid. At the file + 23.
     #[error("the state of a file is not known")]
     FileState,
-    /// The bytes of a file header, with `IntegrityCheck.Checksum.File` and `State` taken as 0, do not sum to 0 with
-    /// `IntegrityCheck.Checksum.Header`. At the file.
+    /// The bytes of a file header, with `IntegrityCheck.Checksum.File` and `State` taken as 0, do
+    /// not sum to 0. At the file.
     #[error("a file header has a wrong sum")]
     FileHeaderSum,
-    /// `Size` or `ExtendedSize` of a file is below the header or past the end, `Size` of a large header is not 0, or
-    /// the header is cut by the end. At the file + 20.
+    /// `Size` or `ExtendedSize` of a file is below its header's length or past the end; `Size` of a
+    /// large header is not 0; or the header is cut short by the end. At the file + 20.
     #[error("the size of a file is out of range")]
     FileSize,
-    /// `Attributes` of a file in FFS2 has `FFS_ATTRIB_LARGE_FILE`, bit 0x01. (A header that was never finished may have
-    /// it.) At the file + 19.
+    /// `Attributes` of a file in FFS2 has `FFS_ATTRIB_LARGE_FILE`, bit 0x01. (A header that was
+    /// never finished may have it.) At the file + 19.
     #[error("a large file in FFS2")]
     LargeFile,
-    /// With `FFS_ATTRIB_CHECKSUM` the data of a file that stands, and is no pad, do not sum to 0 with
-    /// `IntegrityCheck.Checksum.File`; without it, that is not 0xAA. At the file + 17.
+    /// The file sum of a valid file that is no pad is wrong: with `FFS_ATTRIB_CHECKSUM`, the data
+    /// and `IntegrityCheck.Checksum.File` do not sum to 0; without it,
+    /// `IntegrityCheck.Checksum.File` is not 0xAA. At the file + 17.
     #[error("a file has a wrong sum")]
     FileSum,
-    /// `Attributes` of a file that stands, and is no pad, has `FFS_ATTRIB_FIXED`, bit 0x04. At the file + 19.
+    /// `Attributes` of a valid file that is no pad has `FFS_ATTRIB_FIXED`, bit 0x04. At the file +
+    /// 19.
     #[error("a file is marked fixed")]
     Fixed,
-    /// Where a cell would begin, not all bytes up to the volume's end are erased, and fewer than 24 are left or `State`
-    /// is erased. At the first byte from there on that is not erased.
+    /// Where a cell would begin, not all bytes up to the volume's end are erased, and either fewer
+    /// than 24 are left or `State` is erased. At the first byte from there on that is not erased.
     #[error("a byte of the free space is not erased")]
     FreeSpace,
-    /// A file that stands, and is no pad, has the `Name` of an earlier one in the same state. At the later file.
+    /// A valid file that is no pad has the `Name` of an earlier one in the same state. At the later
+    /// file.
     #[error("two files of one state have one name")]
     DuplicateName,
-    /// A file whose `Name` is `EFI_FFS_VOLUME_TOP_FILE_GUID`, and which is not superseded, is not the last, or does not
-    /// end at `FvLength`. At the file.
+    /// A file whose `Name` is `EFI_FFS_VOLUME_TOP_FILE_GUID`, and which is not superseded, is not
+    /// the last file, or does not end at `FvLength`. At the file.
     #[error("the volume top file is not at the end")]
     TopFile,
-    /// `Size` or `ExtendedSize` of a section is below the header or past the end, or an extended header is cut by the
-    /// end. At the section header.
+    /// `Size` or `ExtendedSize` of a section is below its header's length or past the end, or an
+    /// extended header is cut short by the end. At the section header.
     #[error("the size of a section is out of range")]
     SectionSize,
     /// One to three bytes are left where a section would begin. At the first of them.
@@ -84,27 +90,29 @@ pub enum FaultKind {
     /// The content of a group or of an opened volume would lie at depth 9. At the section header.
     #[error("sections are nested too deep")]
     Depth,
-    /// The files of a volume that is read have no placement in its `FvLength` bytes, though its volume top file could
-    /// stand. At 0, with the depth of that volume.
+    /// The files of a volume that was read have no placement in its `FvLength` bytes, though its
+    /// volume top file, if it has one, could be placed. At 0, with the depth of that volume.
     #[error("the files do not fit")]
     NoRoom,
-    /// The volume top file of a volume that is read, where it ends at `FvLength`, begins at no multiple of 8, or its
-    /// data are off their alignment (`FFS_ATTRIB_DATA_ALIGNMENT`). At 0, with the depth of that volume.
+    /// The volume top file of a volume that was read, placed so that it ends at `FvLength`, does
+    /// not begin at a multiple of 8, or its data are not aligned (`FFS_ATTRIB_DATA_ALIGNMENT`). At
+    /// 0, with the depth of that volume.
     #[error("the volume top file can not be aligned")]
     TopAlignment,
-    /// A growth of memory was refused. At 0.
+    /// Memory ran out. At 0.
     #[error("out of memory")]
     OutOfMemory,
-    /// The reader failed, or was interrupted too often. At the bytes read so far.
+    /// The reader failed, or was interrupted too often. At the number of bytes read so far.
     #[error("the reader failed")]
     ReadFault,
-    /// The writer failed, or took no byte of some. At the bytes written so far.
+    /// The writer failed, or took no byte though some were given. At the number of bytes written so
+    /// far.
     #[error("the writer failed")]
     WriteFault,
 }
 
 impl FaultKind {
-    /// The number by which the kind is known, from 1 to 26.
+    /// The number of the kind, from 1 to 26.
     pub fn number(self) -> u8
         ensures { result ≡ fault_number self }
     {
@@ -139,27 +147,27 @@ impl FaultKind {
     }
 }
 
-/// Where a fault stands.
+/// Where a fault is.
 #[derive(Clone, Copy, Debug, PartialEq, Eq)]
 pub struct Place {
-    /// Bytes from the first byte that was handed to the call.
+    /// The offset in bytes from the first byte that was passed to the call.
     pub offset: u64,
-    /// How many groups and opened volumes are round it.
+    /// The number of groups and opened volumes around it.
     pub depth: u8,
 }
 
-/// What was refused, and where.
+/// Why an input was rejected or a run stopped, and where.
 #[derive(Clone, Copy, Debug, PartialEq, Eq, Error)]
 #[error("{kind} (fault {}) at offset {}, depth {}", .kind.number(), .place.offset, .place.depth)]
 pub struct Fault {
-    /// Why.
+    /// The kind of the fault.
     pub kind: FaultKind,
-    /// Where.
+    /// The place of the fault.
     pub place: Place,
 }
 
 impl Fault {
-    /// A fault of the outermost level, at an offset in bytes.
+    /// A fault at the outermost level, at an offset in bytes.
     pub const fn outer(kind: FaultKind, offset: u64) -> Fault
         ensures { result ≡ outer_fault kind offset }
     {
@@ -170,7 +178,7 @@ impl Fault {
     }
 }
 
-/// Done where the check holds, else the fault of this kind at this offset, at the outermost level.
+/// Ok if the check holds, else the fault of this kind at this offset, at the outermost level.
 pub fn check(holds: bool, kind: FaultKind, offset: u64) -> Result<(), Fault>
     ensures ok { OnOk result (holds ≡ true) }
     ensures err { IfErr result (λ f. (holds ≡ false) × (f ≡ outer_fault kind offset)) }

@@ -1,9 +1,9 @@
-//! What an erased byte holds, and the two file systems.
+//! The value of erased bits, and the two file systems.
 
 ghost use Rattle.std.specs.Prelude.{◌≡◌, ◌⊎◌};
 ghost use Rattle.fv_base.specs.Flash.{erased_byte};
 
-/// What an erased byte holds: ones or zeros. (PI specification, volume 3, section 3.2.1.1,
+/// The value of erased bits: ones or zeros. (PI specification, volume 3, section 3.2.1.1,
 /// `EFI_FVB2_ERASE_POLARITY`.)
 #[derive(Clone, Copy, Debug, PartialEq, Eq)]
 pub enum Polarity {
@@ -29,7 +29,8 @@ impl Polarity {
 /// The two file systems that are read. (PI specification, volume 3, section 3.2.2.)
 #[derive(Clone, Copy, Debug, PartialEq, Eq)]
 pub enum FileSystem {
-    /// Files below 16 MiB: `EFI_FIRMWARE_FILE_SYSTEM2_GUID`, `8c8ce578-8a3d-4f1c-9935-896185c32dd3`.
+    /// Files below 16 MiB: `EFI_FIRMWARE_FILE_SYSTEM2_GUID`,
+    /// `8c8ce578-8a3d-4f1c-9935-896185c32dd3`.
     Ffs2,
     /// Files of any size: `EFI_FIRMWARE_FILE_SYSTEM3_GUID`, `5473c07a-3dcb-4dca-bd6f-1e9689e7349a`.
     Ffs3,

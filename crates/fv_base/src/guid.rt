@@ -7,30 +7,30 @@ ghost use Rattle.fv_base.specs.Value.{field};
 use crate::field::field;
 use uuid::Uuid;
 
-/// A GUID, `EFI_GUID`: sixteen bytes as they stand in a volume. (PI specification, volume 1; UEFI
-/// specification, appendix A.)
+/// A GUID, `EFI_GUID`: sixteen bytes as they are stored in a volume. (PI specification, volume 1;
+/// UEFI specification, appendix A.)
 #[derive(Clone, Copy, Debug, PartialEq, Eq, PartialOrd, Ord)]
 pub struct Guid {
     bytes: [u8; 16],
 }
 
 impl Guid {
-    /// The GUID of sixteen bytes as they stand in a volume.
+    /// The GUID with these sixteen bytes, in the order in which a volume stores them.
     pub const fn from_bytes(bytes: [u8; 16]) -> Guid
         ensures { bytes_of result ≡ bytes }
     {
         Guid { bytes }
     }
 
-    /// The sixteen bytes as they stand in a volume.
+    /// The sixteen bytes, in the order in which a volume stores them.
     pub const fn to_bytes(self) -> [u8; 16]
         ensures { result ≡ bytes_of self }
     {
         self.bytes
     }
 
-    /// The GUID that a text names, in any of the four forms that `uuid` reads, or None where it
-    /// reads none.
+    /// The GUID that a text names, in any of the four forms that `uuid` reads, or None if `uuid`
+    /// does not read it.
     pub fn parse(text: &str) -> Option<Guid>
         ensures { result ≡ guid_read text.now }
     {
@@ -40,8 +40,8 @@ impl Guid {
         }
     }
 
-    /// The text of 36 characters, 8-4-4-4-12 lower-case digits: the three numbers most significant
-    /// digit first, then the last eight bytes in order.
+    /// The text of 36 characters: 8-4-4-4-12 lower-case digits. The three numbers come first, each
+    /// with its most significant digit first, then the last eight bytes in order.
     pub fn text(self) -> [u8; 36]
         ensures text { result ≡ guid_text (bytes_of self) }
 
@@ -57,7 +57,7 @@ impl Guid {
     }
 }
 
-/// The GUID that stands at the offset `at` of some bytes, of which 16 are there.
+/// The GUID at the offset `at` of some bytes. Its 16 bytes lie within `bytes`.
 pub fn guid_at(bytes: &[u8], at: usize) -> Guid
     requires { at + 16 ≤ length bytes.now }
     ensures { bytes_of result ≡ field at 16 bytes.now }

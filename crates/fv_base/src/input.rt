@@ -12,7 +12,7 @@ use crate::port::Port;
 use std::alloc::{AllocError, Global};
 use std::io::{ErrorKind, Read};
 
-// So many zero bytes.
+// A vector of `count` zero bytes.
 fn zeros(alloc: Global, count: usize) -> Result<Vec<u8>, AllocError>
     ensures { IfOk result (λ v. vec_len v ≡ count) }
 {
@@ -21,17 +21,17 @@ fn zeros(alloc: Global, count: usize) -> Result<Vec<u8>, AllocError>
 
 /// What one turn of reading did.
 enum Turn {
-    /// It read a byte at least.
+    /// It read at least one byte.
     More,
-    /// It was interrupted, and is to be tried again.
+    /// It was interrupted, and is to be repeated.
     Interrupted,
-    /// Nothing is left.
+    /// The reader is at its end.
     End,
     /// The reader failed.
     Failed,
 }
 
-// One read, whose bytes go behind those that are there. It asks for no more than the limit.
+// One read, whose bytes are appended to those that are there. It asks for no more than the limit.
 fn read_more<R: Read>(
     reader: &mut Port<R>,
     chunk: &mut [u8],
@@ -55,19 +55,19 @@ fn read_more<R: Read>(
     }
 }
 
-/// The bytes of an input, read to its end: at most as many as a volume has. `Interrupted` is asked again, and counts
-/// as a turn.
+/// The bytes of an input, read to its end: at most as many as a volume may have. A read that
+/// returns `Interrupted` is repeated, and counts as a turn.
 ///
 /// # Errors
 ///
-/// ReadFault at the bytes read so far, where the reader fails or the turns run out; Length at the limit, where
-/// more bytes come; OutOfMemory at 0. The first that comes is answered.
+/// ReadFault at the number of bytes read so far, if the reader fails or the turns run out; Length
+/// at the limit, if more bytes come; OutOfMemory at 0. The first of these is returned.
 pub fn read_input<R: Read>(alloc: Global, reader: &mut Port<R>) -> Result<Vec<u8>, Fault>
     ensures ok { IfOk result
         (λ v. ReadsWhole (R.remaining (inner_of reader.old)) (R.remaining (inner_of reader.new)) v.items) }
     ensures err { IfErr result (ReadStops (R.remaining (inner_of reader.old)) (R.remaining (inner_of reader.new))) }
 
-    // The reader's fault comes only where the port has erred.
+    // ReadFault is returned only if the port has erred.
     ensures erred { has_erred reader.old ≡ false
         → IfErr result (λ f. f.kind ≡ FaultKind.ReadFault → has_erred reader.new ≡ true) }
 {

@@ -1,4 +1,4 @@
-//! What every crate here speaks of: GUIDs, sums, alignments, faults, limits, ports and sinks.
+//! What all crates here use: GUIDs, sums, alignments, faults, limits, ports and sinks.
 #![tactic(auto)]
 
 mod align;

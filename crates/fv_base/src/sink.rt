@@ -1,4 +1,4 @@
-//! What takes bytes, one after another: one walk serves every kind of sink.
+//! What takes bytes, part after part: one walk serves every kind of sink.
 
 ghost use Rattle.std.specs.Prelude.{◌≡◌, ℕ, ◌⊎◌, ◌<◌, ◌≤◌, ◌^◌, List, [], length, take, replicate, true, false};
 ghost use Rattle.std.specs.Prelude.{IfOk, IfErr, OnErr, OnOk};
@@ -18,13 +18,13 @@ use crate::port::Port;
 use std::alloc::{AllocError, Global};
 use std::io::Write;
 
-/// What takes bytes, one after another. A sink that can stop remembers that it has, and takes no
-/// more from then on.
+/// What takes bytes, part after part. A sink that can stop remembers that it has stopped, and takes
+/// no more from then on.
 pub trait Sink {
-    /// A sink that is the first is the second behind the bytes.
+    /// A sink in the first state is in the second after it took the bytes.
     ghost takes: { Self → List ℕ → Self → Type 0 };
 
-    /// No bytes change nothing, and bytes may come in parts.
+    /// Taking no bytes changes nothing, and bytes may come in parts.
     ghost laws: { WalkLaws takes };
 
     /// Takes the bytes.
@@ -32,7 +32,7 @@ pub trait Sink {
         ensures { takes self.old bytes.now self.new };
 }
 
-// Writes a front of the bytes, all of them unless the port errs.
+// Writes the bytes from the first on: all of them, unless the port errs.
 fn write_front<W: Write>(port: &mut Port<W>, bytes: &[u8]) -> usize
     ensures bound { result ≤ length bytes.now }
     ensures front { Appends (W.contents (inner_of port.old)) (W.contents (inner_of port.new)) (take result bytes.now) }
@@ -49,12 +49,12 @@ fn write_front<W: Write>(port: &mut Port<W>, bytes: &[u8]) -> usize
     at
 }
 
-/// A lent port that is written to, until a write fails.
+/// A borrowed port that is written to until a write fails.
 #[derive(Drop)]
 pub struct WriteSink<'a, W: Write> {
     /// The port.
     pub port: &'a mut Port<W>,
-    /// Whether no write has failed.
+    /// True while no write has failed.
     pub on: bool,
     /// How many bytes were written, modulo 2 ^ 64.
     pub count: u64,
@@ -93,11 +93,11 @@ impl<'a, W: Write> WriteSink<'a, W> {
         }
     }
 
-    /// Whether all was written.
+    /// Whether everything was written.
     ///
     /// # Errors
     ///
-    /// WriteFault at the bytes written, modulo 2 ^ 64, where a write failed.
+    /// WriteFault at the number of bytes written, modulo 2 ^ 64, if a write failed.
     pub fn outcome(&self) -> Result<(), Fault>
         ensures ok { OnOk result (self.now.on ≡ true) }
         ensures err { IfErr result (λ f. f ≡ outer_fault FaultKind.WriteFault self.now.count) }
@@ -112,7 +112,7 @@ impl<'a, W: Write> WriteSink<'a, W> {
     }
 }
 
-/// Bytes that are kept in memory, until a growth is refused.
+/// Bytes that are kept in memory, until memory runs out.
 #[derive(Drop)]
 pub struct ListSink {
     bytes: Vec<u8>,
@@ -120,11 +120,11 @@ pub struct ListSink {
 }
 
 impl ListSink {
-    /// A sink with room for so many bytes.
+    /// A sink with room for `total` bytes.
     ///
     /// # Errors
     ///
-    /// `AllocError` where the memory is not there.
+    /// `AllocError` if memory runs out.
     pub fn with_room(alloc: Global, total: usize) -> Result<ListSink, AllocError>
         ensures { IfOk result (λ s. (kept_in s ≡ []) × (is_on s ≡ true)) }
     {
@@ -138,7 +138,7 @@ impl ListSink {
     ///
     /// # Errors
     ///
-    /// OutOfMemory where a growth was refused.
+    /// OutOfMemory if memory ran out.
     pub fn finish(self) -> Result<ByteList, Fault>
         ensures ok { IfOk result (λ bytes. (is_on self ≡ true) × (bytes ≡ kept_in self)) }
         ensures err { IfErr result (λ f. f ≡ want_of_memory) }
@@ -165,13 +165,13 @@ impl Sink for ListSink {
     }
 }
 
-/// The zero bytes of which fills are put.
+/// The zero bytes from which fills are written.
 static ZEROS: [u8; 65536] = [0; 65536];
 
-/// The bytes 0xFF of which fills are put.
+/// The bytes 0xFF from which fills are written.
 static ONES: [u8; 65536] = [0xff; 65536];
 
-// Zero bytes, some of them.
+// Zero bytes, at least one.
 fn zeros() -> &'static [u8]
     ensures some { 0 < length result.now }
     ensures same { result.now ≡ replicate (length result.now) 0 }
@@ -179,7 +179,7 @@ fn zeros() -> &'static [u8]
     &ZEROS
 }
 
-// Bytes 0xFF, some of them.
+// Bytes 0xFF, at least one.
 fn ones() -> &'static [u8]
     ensures some { 0 < length result.now }
     ensures same { result.now ≡ replicate (length result.now) 255 }
@@ -187,7 +187,7 @@ fn ones() -> &'static [u8]
     &ONES
 }
 
-// The byte again and again, at least once.
+// Copies of the byte, at least one.
 fn fill_block(byte: u8) -> &'static [u8]
     requires { (byte ≡ 0) ⊎ (byte ≡ 255) }
     ensures some { 0 < length result.now }
@@ -204,7 +204,7 @@ fn cut(chunk: &[u8], count: u64) -> &[u8]
     &chunk[..count as usize]
 }
 
-// Puts the byte so many times, a chunk at a time.
+// Puts the byte `count` times, a chunk at a time.
 fn fill_by<S: Sink>(out: &mut S, chunk: &[u8], byte: u8, count: u64)
     requires some { 0 < length chunk.now }
     requires same { chunk.now ≡ replicate (length chunk.now) byte }
@@ -218,7 +218,7 @@ fn fill_by<S: Sink>(out: &mut S, chunk: &[u8], byte: u8, count: u64)
     out.put(cut(chunk, left));
 }
 
-/// Puts `count` times the byte, which is 0x00 or 0xFF.
+/// Puts the byte, which is 0x00 or 0xFF, `count` times.
 pub fn fill<S: Sink>(out: &mut S, byte: u8, count: u64)
     requires { (byte ≡ 0) ⊎ (byte ≡ 255) }
     ensures { S.takes out.old (replicate count byte) out.new }

@@ -1,10 +1,10 @@
-//! The sums that headers carry.
+//! The sums in headers.
 
 ghost use Rattle.std.specs.Prelude.{◌≡◌, ◌%◌, length};
 ghost use Rattle.fv_base.specs.Sums.{sum8_of, sum16_of};
 
-/// The plain sum of the bytes, modulo 256, as `IntegrityCheck` of a file has it. (PI specification, volume 3,
-/// section 3.2.3.1.)
+/// The plain sum of the bytes, modulo 256, as in `IntegrityCheck` of a file. (PI specification,
+/// volume 3, section 3.2.3.1.)
 pub fn sum8(bytes: &[u8]) -> u8
     ensures { result ≡ sum8_of bytes.now }
 {
@@ -15,8 +15,8 @@ pub fn sum8(bytes: &[u8]) -> u8
     total
 }
 
-/// The plain sum of the 16-bit words, least significant byte first, modulo 65536, as `Checksum` of a volume header
-/// has it. The bytes are even in number. (PI specification, volume 3, section 3.2.1.1.)
+/// The plain sum of the 16-bit words, least significant byte first, modulo 65536, as in `Checksum`
+/// of a volume header. The number of bytes is even. (PI specification, volume 3, section 3.2.1.1.)
 pub fn sum16(bytes: &[u8]) -> u16
     requires { length bytes.now % 2 ≡ 0 }
     ensures { result ≡ sum16_of bytes.now }

@@ -43,7 +43,7 @@ fn guids_have_their_texts(rt: HostRuntime) {
     }
 }
 
-/// A line has the forms of one name, that with hyphens first.
+/// Each line has the forms of one name, the one with hyphens first.
 const FORMS: &str = "\
     8c8ce578-8a3d-4f1c-9935-896185c32dd3 8c8ce5788a3d4f1c9935896185c32dd3 \
     {8c8ce578-8a3d-4f1c-9935-896185c32dd3} urn:uuid:8c8ce578-8a3d-4f1c-9935-896185c32dd3 \
@@ -58,7 +58,7 @@ const FORMS: &str = "\
     1BA0062E-C779-4582-8566-336AE8F78F09 1BA0062EC77945828566336AE8F78F09 \
     {1BA0062E-C779-4582-8566-336AE8F78F09}";
 
-// Whether all forms of a line are read as the first is.
+// Whether all forms in a line are read as the first one is.
 fn is_one_name(line: &str) -> Option<bool> {
     let mut forms = line.split_whitespace();
     let guid = Guid::parse(forms.next()?)?;
@@ -70,7 +70,7 @@ fn is_one_name(line: &str) -> Option<bool> {
     Some(true)
 }
 
-// The other forms of the same names, and texts that are none.
+// The other forms of the same names, and texts that are no names.
 #[test]
 fn texts_are_read(rt: HostRuntime) {
     for line in FORMS.lines() {
@@ -115,7 +115,7 @@ fn sums(rt: HostRuntime) {
     }
 }
 
-/// A line has the bits of an alignment, and what they are in bytes without bit 0x02 and with it.
+/// Each line has the bits of an alignment, and the alignment in bytes without and with bit 0x02.
 const ALIGNMENTS: &str = "\
     0 1 131072
     8 16 262144

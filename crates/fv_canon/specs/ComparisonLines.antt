@@ -10,7 +10,7 @@ use Rattle.fv_tree.specs.declared.difference.Word.TheVariants as words
 abbrev pub line_feed : List ℕ
 line_feed = 10 ∷ []
 
--- a step, with a space behind it
+-- a step, followed by a space
 abbrev pub step_text : Step → List ℕ
 step_text (steps.File number) = codes "file " ++ (decimal number ++ codes " ")
 step_text (steps.Section number) = codes "section " ++ (decimal number ++ codes " ")
@@ -20,7 +20,7 @@ abbrev pub path_text : List Step → List ℕ
 path_text [] = []
 path_text (s ∷ ss) = step_text s ++ path_text ss
 
--- in what two volumes differ
+-- the text of a kind of difference
 abbrev pub difference_word : Word → List ℕ
 difference_word words.ZeroVector = codes "zero vector"
 difference_word words.FileSystem = codes "file system"
@@ -40,7 +40,7 @@ difference_word words.Form = codes "form"
 difference_word words.Shape = codes "shape"
 difference_word words.Body = codes "body"
 
--- the line of where two volumes first differ, or of two that mean the same
+-- the line for where two volumes first differ, or for two volumes with the same meaning
 abbrev pub compare_line : Differs → List ℕ
 compare_line None = codes "same" ++ line_feed
 compare_line (Some d) = codes "different at " ++ (path_text d.0 ++ (difference_word d.1 ++ line_feed))

@@ -15,12 +15,12 @@ use Rattle.fv_canon.specs.declared.side.Side.TheVariants as sides
 
 -- ---- two volumes
 
--- the answer is whether the two mean the same, and the line of where they first differ was written
+-- the result says whether the two have the same meaning, and the line of where they first differ was written
 abbrev pub Compares : Meaning → Meaning → Option (List ℕ) → Option (List ℕ) → Bool → Type 0
 Compares m k held holds same = ((same ≡ true) ↔ (m ≡ k)) × Appends held holds (compare_line (difference m k))
 
--- memory was wanted before anything was written, which it is only where the two differ; or the
--- writer stopped in the line
+-- memory ran out before anything was written, which can happen only if the two differ; or the writer stopped in the
+-- line
 abbrev pub ComparisonStops : Side → Meaning → Meaning → Option (List ℕ) → Option (List ℕ) → Fault → Type 0
 ComparisonStops sides.First m k held holds fault = Keeps held holds × (fault ≡ want_of_memory) × (m ≢ k)
 ComparisonStops sides.Second m k held holds fault = ⊥
@@ -28,27 +28,27 @@ ComparisonStops sides.Output m k held holds fault = WriteStops held holds (compa
 
 -- ---- two inputs
 
--- an input was read to its end, and is a volume of this meaning
+-- an input was read to its end, and is a volume with this meaning
 abbrev pub ReadsVolume : Option (List ℕ) → Option (List ℕ) → Meaning → Type 0
 ReadsVolume unread left m = (input : List ℕ) × ReadsWhole unread left input × Accepted input m
 
--- an input that was read to its end is no volume, or memory was wanted
+-- an input that was read to its end is no volume, or memory ran out
 abbrev pub VolumeStops : List ℕ → Fault → Type 0
 VolumeStops input fault = (fault ≡ want_of_memory) ⊎ NotRead input fault
 
--- an input stopped the run: while it was read, or behind its end
+-- an input stopped the run: while it was read, or after its end
 abbrev pub InputSideStops : Option (List ℕ) → Option (List ℕ) → Fault → Type 0
 InputSideStops unread left fault =
     ReadStops unread left fault ⊎ ((input : List ℕ) × ReadsWhole unread left input × VolumeStops input fault)
 
--- both inputs were read, the answer is whether they mean the same, and the line was written
+-- both inputs were read, the result says whether they have the same meaning, and the line was written
 abbrev pub RunCompares : (unread left unread' left' held holds : Option (List ℕ)) → Bool → Type 0
 RunCompares unread left unread' left' held holds same =
     (m : Meaning) × (k : Meaning) × ReadsVolume unread left m × ReadsVolume unread' left' k
     × Compares m k held holds same
 
--- the side tells what stopped the run. The second input is read only behind a first that is a volume, and nothing is
--- written before both are; then the line is, and the writer may stop in it
+-- the side says what stopped the run. The second input is read only after a first that is a volume. Nothing is written
+-- before both are read; then the line is written, and the writer may stop in it
 abbrev pub SideStopsRun : Side → (unread left unread' left' held holds : Option (List ℕ)) → Fault → Type 0
 SideStopsRun sides.First unread left unread' left' held holds fault =
     Keeps held holds

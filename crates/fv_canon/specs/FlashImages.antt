@@ -11,12 +11,12 @@ use Rattle.fv_tree.specs.FoundVolumes.{Found, IsCovered, VolumeAt}
 use Rattle.fv_canon.specs.Headline.{NormalisesTo}
 use Rattle.fv_canon.specs.Refusals.{Refuses}
 
--- a volume begins at the place p of b, and its canonical image stands there in o
+-- a volume begins at the offset p of b, and o has its canonical image there
 abbrev pub IsRenewed : List ℕ → List ℕ → ℕ → Type 0
 IsRenewed b o p = (n : ℕ) × VolumeAt b p n × NormalisesTo (field p n b) (field p n o)
 
--- o is as long as b, at each of the places it has the canonical image of the volume that begins there in b, and every
--- byte in none of these volumes is that of b
+-- o is as long as b. At each of the offsets it has the canonical image of the volume that begins there in b. Every byte
+-- outside these volumes is that of b
 pub record Renewed (b places o : List ℕ) : Type 0 where
   pub length_is : length o ≡ length b
   pub volumes : AllByRecursion (IsRenewed b o) places
@@ -26,12 +26,12 @@ pub record Renewed (b places o : List ℕ) : Type 0 where
 abbrev pub NormalisesAll : List ℕ → List ℕ → Type 0
 NormalisesAll b o = (length b ≤ volume_limit) × (places : List ℕ) × Found b places × Renewed b places o
 
--- the volume that begins at the place p of b has a canonical image
+-- the volume that begins at the offset p of b has a canonical image
 abbrev pub HasImageAt : List ℕ → ℕ → Type 0
 HasImageAt b p = (n : ℕ) × (image : List ℕ) × VolumeAt b p n × NormalisesTo (field p n b) image
 
--- the volume at one of the places is refused, and those at the places before it have canonical images; the fault is
--- that of the volume, counted from the first byte of b
+-- the volume at one of the offsets is rejected, and those at the offsets before it have canonical images; the fault is
+-- that of the volume, with its offset counted from the first byte of b
 pub record FirstRefused (b places : List ℕ) (fault : Fault) : Type 0 where
   pub before : List ℕ
   pub place : ℕ
@@ -44,7 +44,7 @@ pub record FirstRefused (b places : List ℕ) (fault : Fault) : Type 0 where
   pub refused : Refuses (field place size b) own
   pub moved_is : fault ≡ moved_fault place own.place.depth own
 
--- b is longer than the limit; or it is not, and the fault is that of the first volume found in it that is refused
+-- b is longer than the limit; or it is not, and the fault is that of the first volume in it that is rejected
 abbrev pub RefusesAll : List ℕ → Fault → Type 0
 RefusesAll b fault =
     ((volume_limit < length b) × (fault ≡ outer_fault kinds.Length volume_limit))

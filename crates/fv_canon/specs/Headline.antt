@@ -17,7 +17,7 @@ use Rattle.fv_canon.specs.Refusals.{Refuses}
 abbrev pub NormalisesTo : List ℕ → List ℕ → Type 0
 NormalisesTo input image = (m : Meaning) × Accepted input m × IsImage m image
 
--- the two are volumes of one meaning
+-- the two are volumes with the same meaning
 abbrev pub MeanSame : List ℕ → List ℕ → Type 0
 MeanSame a b = (m : Meaning) × Accepted a m × Accepted b m
 
@@ -29,7 +29,7 @@ IsUnfit input = (m : Meaning) × Accepted input m × (Fits m → ⊥)
 abbrev pub IsNoVolume : List ℕ → Type 0
 IsNoVolume input = (m : Meaning) → Accepted input m → ⊥
 
--- the kind of a fault of a layout
+-- the kinds of the faults of a layout
 abbrev pub IsOfLayout : FaultKind → Type 0
 IsOfLayout kind = (kind ≡ kinds.TopAlignment) ⊎ (kind ≡ kinds.NoRoom)
 
@@ -40,7 +40,7 @@ abbrev pub SameMeaningIffSameImage : Type 0
 SameMeaningIffSameImage =
     (a b image other : List ℕ) → NormalisesTo a image → NormalisesTo b other → (MeanSame a b ↔ (image ≡ other))
 
--- the image of a volume is as long as the volume, and is a volume of the same meaning
+-- the image of a volume is as long as the volume, and is a volume with the same meaning
 abbrev pub ImageKeepsLengthAndMeaning : Type 0
 ImageKeepsLengthAndMeaning =
     (a image : List ℕ) → NormalisesTo a image → (length image ≡ length a) × MeanSame a image
@@ -49,7 +49,7 @@ ImageKeepsLengthAndMeaning =
 abbrev pub ImageIsItsOwnImage : Type 0
 ImageIsItsOwnImage = (a image : List ℕ) → NormalisesTo a image → NormalisesTo image image
 
--- in the image of a volume, whichever cells are read after its header, the data of each file are on their alignment
+-- in the image of a volume, whichever cells are read after its header, the data of each file are aligned
 abbrev pub DataAreAligned : Type 0
 DataAreAligned =
     (m : Meaning) (image : List ℕ) (e : Extent) (cells : List CellForm) → IsMeaning m → IsImage m image
@@ -60,7 +60,7 @@ DataAreAligned =
 abbrev pub WhatFitsHasAnImage : Type 0
 WhatFitsHasAnImage = (m : Meaning) → IsMeaning m → (Fits m ↔ ((image : List ℕ) × IsImage m image))
 
--- an input that is refused is a volume that does not fit, if the fault is of a layout, and otherwise no volume
+-- an input that is rejected is a volume that does not fit, if the fault is one of a layout, and otherwise no volume
 abbrev pub OnlyWhatDoesNotFitIsRefused : Type 0
 OnlyWhatDoesNotFitIsRefused =
     (input : List ℕ) (f : Fault) → Refuses input f
@@ -68,11 +68,11 @@ OnlyWhatDoesNotFitIsRefused =
 
 -- ---- one image and one meaning
 
--- a meaning has one image at most
+-- a meaning has at most one image
 abbrev pub OneImage : Type 0
 OneImage = (m : Meaning) (image other : List ℕ) → IsImage m image → IsImage m other → image ≡ other
 
--- two meanings of some bytes that have one image are the same
+-- two meanings, each of some bytes, that have the same image are equal
 abbrev pub OneMeaning : Type 0
 OneMeaning = (m other : Meaning) (image : List ℕ) → IsMeaning m → IsMeaning other → IsImage m image
     → IsImage other image → other ≡ m

@@ -11,10 +11,10 @@ use Rattle.fv_canon.specs.Layouts.{AreStarts}
 use Rattle.fv_canon.specs.Spans.{ShowsSpans}
 use Rattle.fv_canon.specs.StoredFiles.{StoredFile, volume_spans}
 
--- the bytes are the canonical image of a volume of this meaning: with its files in their first placement, the head, the
--- extended header's pad, the files and the pads of the gaps stand where they have to, and every other byte is erased.
--- The data of each file are plain bytes, or its sections one after another, with zero bytes between them and behind the
--- last; and the body of each volume inside is its own image
+-- the bytes are the canonical image of a volume with this meaning. Its files are in their first placement. The head,
+-- the extended header's pad, the files and the pads of the gaps are where they must be, and every other byte is erased.
+-- The data of each file are plain bytes, or its sections one after another, with zero bytes between them and after the
+-- last. The body of each volume inside is its own image
 abbrev mutual
   pub IsImage : Meaning → List ℕ → Type 0
   IsImage (Volume h files) b =

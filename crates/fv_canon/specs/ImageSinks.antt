@@ -1,5 +1,5 @@
 -- What the sink of a walk over a volume takes: it puts bytes into a sink below or, while the data of a file are summed,
--- adds them up. The laws are proofs, and stand in specs/ since a ghost member cites the last of them.
+-- adds them up. The laws are proofs. They are in specs/ because a ghost member cites the last of them.
 -- Serves private clauses alone: there is nothing to believe here.
 use Rattle.std.proofs.Common.{◌≡◌, ℕ, ◌+◌, ◌%◌, List, [], ◌++◌, Bool, true, false, refl, sym, subst, ◌∙◌, ap, add-zero}
 use Rattle.std.specs.Prelude.{sum}
@@ -8,12 +8,12 @@ use Rattle.fv_base.specs.Sinks.{WalkLaws}
 use Rattle.fv_base.specs.WriteSinkLaws.{sums_joined}
 use Rattle.fv_canon.specs.declared.image_sink.ImageSink.{ImageSink}
 
--- the sum grew by the bytes, modulo 256, and nothing was put below; or they were put below
+-- the sum grew by the bytes, modulo 256, and nothing was put into the sink below; or they were put into it
 abbrev pub AddsOrPuts : {T : Type 0} (takes : T → List ℕ → T → Type 0) → Bool → T → ℕ → List ℕ → T → ℕ → Type 0
 AddsOrPuts takes true s m bytes t n = (t ≡ s) × (n % 256 ≡ (m + sum bytes) % 256)
 AddsOrPuts takes false s m bytes t n = takes s bytes t
 
--- it puts or adds as before, and into the same sink
+-- it puts or adds as before, into the same sink
 abbrev pub ImageTakes : {S : Type 0} (takes : S → List ℕ → S → Type 0) → ImageSink S → List ℕ → ImageSink S → Type 0
 ImageTakes takes s bytes t =
     (t.below.ghost_name ≡ s.below.ghost_name) × (t.sums ≡ s.sums)

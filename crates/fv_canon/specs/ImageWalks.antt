@@ -10,7 +10,7 @@ use Rattle.fv_canon.specs.ImageOf.{frame_of, starts_in_section}
 abbrev pub frame_bytes : FrameForm → List ℕ
 frame_bytes f = section_head_of f.kind f.extended (length f.body) ++ f.body
 
--- sections with the zero bytes between them, of which so many are still to come before the first
+-- sections with the zero bytes between them; `gap` zero bytes come before the first
 abbrev pub sections_bytes : ℕ → SectionMeanings → List ℕ → List ℕ
 sections_bytes gap NoSections starts = []
 sections_bytes gap (MoreSections s ss) starts =
@@ -18,11 +18,11 @@ sections_bytes gap (MoreSections s ss) starts =
     ++ sections_bytes (up_to_4 (frame_len (frame_of 0 s starts)) - frame_len (frame_of 0 s starts)) ss
     (drop (starts_in_section s) starts)
 
--- the starts begin with those of this
+-- the starts begin with those of m
 abbrev pub BeginsWithStarts : {M : Type 0} → (M → List ℕ → Type 0) → M → List ℕ → Type 0
 BeginsWithStarts lays m starts = (laid : List ℕ) × (more : List ℕ) × (starts ≡ laid ++ more) × lays m laid
 
--- a front of the whole was taken, and this is left
+-- the first bytes of the whole were taken, and `rest` is left
 pub record TakesFront {S : Type 0} (takes : S → List ℕ → S → Type 0) (s t : S) (whole rest : List ℕ) : Type 0 where
   pub front : List ℕ
   pub taken : takes s front t

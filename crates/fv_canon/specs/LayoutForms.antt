@@ -1,4 +1,4 @@
--- Layouts as they are kept.
+-- Layouts as they are kept in memory.
 use Rattle.std.specs.Prelude.{◌≡◌, ℕ, List, ◌++◌, length}
 use Rattle.fv_base.specs.declared.fault.Fault.{Fault}
 use Rattle.fv_canon.specs.Layouts.{LaysVolume, Unfit, UnfitSections}
@@ -13,7 +13,7 @@ pub record Places : Type 0 where
 abbrev pub IsLayout : Meaning → Places → Type 0
 IsLayout m l = LaysVolume m (l.own ++ l.inner) × (length l.own ≡ length (files_of m))
 
--- the fault of the first volume in a body that does not fit, where the body is at depth 0
+-- the fault of the first volume in a body that does not fit; the body is at depth 0
 abbrev pub UnfitAlone : BodyMeaning → Fault → Type 0
 UnfitAlone (Leaf b) f = ⊥
 UnfitAlone (Group sections tail) f = UnfitSections sections 0 f

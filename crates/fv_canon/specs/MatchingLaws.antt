@@ -1,4 +1,4 @@
--- The laws of bytes that are compared. They are proofs, and stand in specs/ since a ghost member cites the last of
+-- The laws of bytes that are compared. They are proofs. They are in specs/ because a ghost member cites the last of
 -- them.
 -- Serves private clauses alone: there is nothing to believe here.
 use Rattle.std.proofs.Common.{ℕ, List, [], ◌++◌, refl, ap, sym, ◌∙◌, append_assoc, Bool, true, false}

@@ -12,7 +12,7 @@ use Rattle.fv_canon.specs.Refusals.{Refuses}
 abbrev pub InputWrites : List ℕ → Option (List ℕ) → Option (List ℕ) → Type 0
 InputWrites input held holds = (image : List ℕ) × NormalisesTo input image × Appends held holds image
 
--- nothing was written, for want of memory or since the input is refused; or the writer stopped
+-- nothing was written, because memory ran out or the input is rejected; or the writer stopped
 abbrev pub InputStops : List ℕ → Option (List ℕ) → Option (List ℕ) → Fault → Type 0
 InputStops input held holds fault =
     (Keeps held holds × ((fault ≡ want_of_memory) ⊎ Refuses input fault))
@@ -22,7 +22,7 @@ InputStops input held holds fault =
 abbrev pub RunWrites : Option (List ℕ) → Option (List ℕ) → Option (List ℕ) → Option (List ℕ) → Type 0
 RunWrites unread left held holds = (input : List ℕ) × ReadsWhole unread left input × InputWrites input held holds
 
--- a run stopped while it read, and nothing was written; or behind an input that it had read to its end
+-- a run stopped while it read, and nothing was written; or it stopped after an input that it had read to its end
 abbrev pub RunStops : Option (List ℕ) → Option (List ℕ) → Option (List ℕ) → Option (List ℕ) → Fault → Type 0
 RunStops unread left held holds fault =
     (Keeps held holds × ReadStops unread left fault)

@@ -1,4 +1,4 @@
--- What a walk over the files of a volume asks.
+-- What a walk over the files of a volume requires.
 -- Serves private clauses alone: there is nothing to believe here.
 use Rattle.std.specs.Prelude.{◌≡◌, ◌≤◌, ◌+◌, ◌%◌, ℕ, List, [], ◌∷◌, map}
 use Rattle.fv_base.specs.Limits.{volume_limit}
@@ -7,7 +7,7 @@ use Rattle.fv_canon.specs.Layouts.{part_of}
 use Rattle.fv_canon.specs.StoredFiles.{size_for}
 use Rattle.fv_canon.specs.Starts.{StartsFollow}
 
--- the files can stand at these starts, from the edge e on, in a volume of `total` bytes
+-- the files can be placed at these starts, from the edge e on, in a volume of `total` bytes
 pub record ArePlaced (total e : ℕ) (files : List FileMeaning) (starts : List ℕ) : Type 0 where
   pub follow : StartsFollow total e (map part_of files) starts
   pub eighth : e % 8 ≡ 0
@@ -16,7 +16,7 @@ pub record ArePlaced (total e : ℕ) (files : List FileMeaning) (starts : List �
   pub multiple : total % 8 ≡ 0
   pub limit : total ≤ volume_limit
 
--- the end of the last file, or this where there is none
+-- the end of the last file, or `end` if there is none
 abbrev pub used_by : ℕ → List FileMeaning → List ℕ → ℕ
 used_by end [] starts = end
 used_by end (f ∷ fs) [] = end

@@ -7,7 +7,7 @@ use Rattle.fv_canon.specs.Starts.{Lawful, StartsFollow}
 use Rattle.fv_canon.specs.declared.first_placement.Part.{Part}
 use Rattle.fv_canon.specs.declared.first_placement.Reach.{Reach}
 
--- a is an alignment of at least 8, and its multiples are those of 8 and of b
+-- a is an alignment of at least 8, and each multiple of a is one of 8 and of b
 pub record Widens (a b : ℕ) : Type 0 where
   pub alignment : IsAlignment a
   pub apart : (x : ℕ) → x % a ≡ 0 → (x % 8 ≡ 0) × (x % b ≡ 0)
@@ -19,32 +19,32 @@ pub record CanPlace (total e : ℕ) (fs : List Part) : Type 0 where
   pub starts : List ℕ
   pub follow : StartsFollow total e fs starts
 
--- with the greatest start that serves, and whether the starts 8 and 16 below it serve: the files can be placed after e
+-- the files can be placed after e, by the greatest usable start, and by whether the starts 8 and 16 below it are usable
 abbrev pub Reaches : Reach → ℕ → Type 0
 Reaches r e = ((e + 24 ≤ r.greatest) ⊎ (e ≡ r.greatest))
     ⊎ (((e + 8 ≡ r.greatest) × IsTrue r.near) ⊎ ((e + 16 ≡ r.greatest) × IsTrue r.far))
 
--- the reach tells after which edges the files can be placed
+-- the reach says after which edges the files can be placed
 pub record IsReach (total : ℕ) (fs : List Part) (r : Reach) : Type 0 where
   pub greatest : r.greatest ≤ total
   pub eighth : r.greatest % 8 ≡ 0
   pub sound : (e : ℕ) → e % 8 ≡ 0 → Reaches r e → CanPlace total e fs
   pub complete : (e : ℕ) → e % 8 ≡ 0 → CanPlace total e fs → Reaches r e
 
--- a start of f serves, where the files behind it have this reach
+-- s is a usable start of f, if the files after it have the reach r
 pub record Serves (total : ℕ) (f : Part) (r : Reach) (s : ℕ) : Type 0 where
   pub eighth : s % 8 ≡ 0
   pub aligned : (s + f.header) % f.alignment ≡ 0
   pub at_end : IsTrue f.top → s + f.size ≡ total
   pub reaches : Reaches r (up_to_8 (s + f.size))
 
--- the first start: lawful and serving, and the least such
+-- the first start: lawful and usable, and the least such
 pub record IsFirstStart (total e : ℕ) (f : Part) (r : Reach) (s : ℕ) : Type 0 where
   pub lawful : Lawful e f s
   pub serves : Serves total f r s
   pub least : (t : ℕ) → Lawful e f t → Serves total f r t → s ≤ t
 
--- the greatest start of f that serves, and whether those 8 and 16 below it do
+-- the greatest usable start of f, and whether the starts 8 and 16 below it are usable
 pub record IsGreatest (total : ℕ) (f : Part) (behind : Reach) (r : Reach) : Type 0 where
   pub serves : Serves total f behind r.greatest
   pub most : (t : ℕ) → Serves total f behind t → t ≤ r.greatest
@@ -57,7 +57,7 @@ pub record IsGreatest (total : ℕ) (f : Part) (behind : Reach) (r : Reach) : Ty
 pub record AreReaches (total : ℕ) (fs : List Part) (found : List Reach) : Type 0 where
   pub each : (k : ℕ) (d : Reach) → k < length found → IsReach total (drop (length fs - k) fs) (get_or found k d)
 
--- what the layout of a volume of `total` bytes is told of a file
+-- what the layout of a volume of `total` bytes knows of a file
 pub record IsLawfulPart (total : ℕ) (f : Part) : Type 0 where
   pub header : f.header % 8 ≡ 0
   pub holds : f.header ≤ f.size

@@ -1,4 +1,4 @@
--- Why an input is refused.
+-- Why an input is rejected.
 use Rattle.std.specs.Prelude.{◌≡◌, ◌⊎◌, ◌<◌, ℕ, List, length, take}
 use Rattle.fv_base.specs.Faults.{outer_fault}
 use Rattle.fv_base.specs.declared.fault.Fault.{Fault}
@@ -9,17 +9,17 @@ use Rattle.fv_tree.specs.FirstFault.{IsFirstOfVolume}
 use Rattle.fv_tree.specs.Meaning.{Meaning, length_of}
 use Rattle.fv_canon.specs.Layouts.{Unfit}
 
--- more bytes follow the volume that an input begins with, and the fault is Length at that volume's end
+-- more bytes follow the volume that the input begins with, and the fault is Length at that volume's end
 abbrev pub GoesOn : List ℕ → Fault → Type 0
 GoesOn input f =
     (m : Meaning) × Accepted (take (length_of m) input) m × (length_of m < length input)
     × (f ≡ outer_fault kinds.Length (length_of m))
 
--- the first fault of a whole input: that of the volume which it is to begin with, or of the bytes that follow it
+-- the first fault of a whole input: that of the volume at its start, or of the bytes that follow it
 abbrev pub IsFirstOfInput : List ℕ → Fault → Type 0
 IsFirstOfInput input f = IsFirstOfVolume input f ⊎ GoesOn input f
 
--- the condition of the fault holds in the input at its place, whatever else is wrong
+-- the condition of the fault holds in the input at the fault's offset, whatever else is wrong
 abbrev pub FaultStandsInInput : List ℕ → Fault → Type 0
 FaultStandsInInput input f = FaultStands input f ⊎ GoesOn input f
 
@@ -32,6 +32,6 @@ pub record NotRead (input : List ℕ) (f : Fault) : Type 0 where
 abbrev pub NotPlaced : List ℕ → Fault → Type 0
 NotPlaced input f = (m : Meaning) × Accepted input m × Unfit m 0 f
 
--- the input is refused: it is no volume, or it does not fit
+-- the input is rejected: it is no volume, or it does not fit
 abbrev pub Refuses : List ℕ → Fault → Type 0
 Refuses input f = NotRead input f ⊎ NotPlaced input f

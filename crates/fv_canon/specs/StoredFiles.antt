@@ -1,5 +1,5 @@
--- A volume whose files' data are known, as the canonical image has it (PI specification, volume 3,
--- sections 3.2.1 to 3.2.3).
+-- A volume whose files' data are known, as it is in the canonical image (PI specification, volume 3, sections 3.2.1 to
+-- 3.2.3).
 use Rattle.std.specs.Prelude.{◌≡◌, ◌≤◌, ◌<◌, ◌%◌, ℕ, ◌+◌, ◌-◌, ◌/◌, ◌==◌, zero, suc, if◌then◌else◌, List, [], ◌∷◌, ◌++◌}
 use Rattle.std.specs.Prelude.{length, replicate, sum, Option, None, Some}
 use Rattle.fv_base.specs.Flash.{erased_byte}
@@ -16,25 +16,25 @@ use Rattle.fv_head.specs.HeadImage.{canonical_head}
 use Rattle.fv_head.specs.ExtImage.{canonical_first, ext_len, ext_spelled}
 use Rattle.fv_canon.specs.Spans.{Span}
 
--- a file, with its data as they are written
+-- a file, with its data as written
 pub record StoredFile : Type 0 where
   pub name : Guid
   pub kind : ℕ
   pub attributes : ℕ
   pub payload : List ℕ
 
--- the bytes of the header, which is large where with a short one the size would pass 0xFFFFFF
+-- the length of the header, which is large if with a short one the size would be more than 0xFFFFFF
 abbrev pub head_len_for : ℕ → ℕ
 head_len_for data_len = file_header_len (needs_large data_len)
 
--- the bytes of the whole file
+-- the length of the whole file
 abbrev pub size_for : ℕ → ℕ
 size_for data_len = head_len_for data_len + data_len
 
 abbrev pub stored_len : StoredFile → ℕ
 stored_len f = size_for (length f.payload)
 
--- with the checksum attribute what makes the data's sum a multiple of 256, else 0xAA
+-- with the checksum attribute, what must be added to make the sum of the data a multiple of 256; else 0xAA
 abbrev pub file_sum_for : ℕ → List ℕ → ℕ
 file_sum_for attributes payload = if is_summed attributes then complement (sum payload) else fixed_checksum
 
@@ -48,35 +48,36 @@ stored_bytes polarity f =
 unfoldable pub pad_bytes : Polarity → ℕ → List ℕ
 pad_bytes polarity size = pad_head_of size polarity ++ replicate (size - 24) (erased_byte polarity)
 
--- the greatest pad of a gap that more pads follow
+-- the size of the greatest pad that may be followed by another pad in its gap
 abbrev pub long_pad : ℕ
 long_pad = 0xffff00
 
--- so many of the greatest pads, and one pad of the rest
+-- n of the greatest pads, and one pad of what is left
 abbrev pub pads : Polarity → ℕ → ℕ → List ℕ
 pads polarity zero gap = pad_bytes polarity gap
 pads polarity (suc n) gap = pad_bytes polarity long_pad ++ pads polarity n (gap - long_pad)
 
--- how many of them a gap begins with: the least number that leaves at most 0xFFFFF8 bytes
+-- how many of the greatest pads a gap begins with: the least number that leaves at most 0xFFFFF8 bytes (`PadsRule`)
 abbrev pub long_pads : ℕ → ℕ
 long_pads gap = (gap - 249) / long_pad
 
--- a gap between an edge and the file behind it: nothing where it is empty, else pads
+-- a gap between an edge and the file after it: nothing if it is empty, else pads
 unfoldable pub gap_bytes : Polarity → ℕ → List ℕ
 gap_bytes polarity gap = if gap == 0 then [] else pads polarity (long_pads gap) gap
 
--- the pad behind the head that holds the extended header, if there is one, with this used size
+-- the pad after the head that holds the extended header, if there is one, with this used size
 unfoldable pub ext_pad : Polarity → Option Extension → ℕ → List ℕ
 ext_pad polarity None used = []
 ext_pad polarity (Some x) used = pad_head_of (24 + ext_len x) polarity ++ ext_spelled x used
 
--- the offset after the last file's last byte, or the first edge where there is no file
+-- the offset after the last file's last byte, or the first edge if there is no file
 abbrev pub used_size : ℕ → List StoredFile → List ℕ → ℕ
 used_size end [] starts = end
 used_size end (f ∷ fs) [] = end
 used_size end (f ∷ fs) (s ∷ ss) = used_size (s + stored_len f) fs ss
 
--- where the files stand, from the edge e on: the pads of each gap, and each file
+-- where the files are, from the edge e on: the pads of each gap, and each file. There are as many starts as files
+-- (`AreStarts`); the other cases do not occur
 abbrev pub file_spans : Polarity → ℕ → List StoredFile → List ℕ → List Span
 file_spans polarity e [] starts = []
 file_spans polarity e (f ∷ fs) [] = []
@@ -84,7 +85,7 @@ file_spans polarity e (f ∷ fs) (s ∷ ss) =
     record { at = e; bytes = gap_bytes polarity (s - e) } ∷ record { at = s; bytes = stored_bytes polarity f }
     ∷ file_spans polarity (up_to_8 (s + stored_len f)) fs ss
 
--- where everything stands: the head, the extended header's pad, the files
+-- where everything is: the head, the extended header's pad, the files
 abbrev pub volume_spans : HeadFields → List StoredFile → List ℕ → List Span
 volume_spans h files starts =
     record { at = 0; bytes = canonical_head h }
@@ -96,8 +97,8 @@ volume_spans h files starts =
 
 -- ---- the rule of the pads
 
--- the rule of the pads of a gap: one pad where it fits, else the greatest pad first, and so on, the
--- last of at least 256 bytes
+-- the rule of the pads of a gap: one pad if the gap is small enough; else the greatest pad first, and so on, and the
+-- last pad has at least 256 bytes
 abbrev pub PadsRule : Type 0
 PadsRule =
     (gap : ℕ) → 24 ≤ gap → gap % 8 ≡ 0

@@ -19,11 +19,12 @@ use Rattle.fv_canon.specs.declared.first_placement.Part.{Part}
 use Rattle.fv_canon.specs.StoredFiles.{StoredFile, head_len_for, stored_len, stored_bytes, gap_bytes, ext_pad}
 use Rattle.fv_canon.specs.StoredFiles.{used_size}
 
--- a file with the checksum attribute adds its State alone, whatever its data are; another adds 0xAA, State and its data
+-- a file with the checksum attribute adds only its State, whatever its data are; any other adds 0xAA, State and its
+-- data
 abbrev pub file_adds : Polarity → StoredFile → ℕ
 file_adds p f = if is_summed f.attributes then state_byte p else (fixed_checksum + state_byte p + sum f.payload)
 
--- what the layout is told of a file
+-- what the layout knows of a file
 abbrev pub stored_part : StoredFile → Part
 stored_part f = record {
   header = head_len_for (length f.payload);
@@ -32,7 +33,7 @@ stored_part f = record {
   top = bytes_eq (bytes_of f.name) top_name;
 }
 
--- from the edge e on: the pads of a gap, a file, erased bytes to the next edge, and so on to the end
+-- from the edge e on: the pads of a gap, a file, erased bytes to the next edge, and so on, up to the end of the volume
 abbrev pub files_bytes : Polarity → ℕ → ℕ → List StoredFile → List ℕ → List ℕ
 files_bytes polarity total e [] starts = replicate (total - e) (erased_byte polarity)
 files_bytes polarity total e (f ∷ fs) [] = replicate (total - e) (erased_byte polarity)

@@ -1,4 +1,4 @@
-//! Whether bytes are a canonical image: that of a view, or of the volume that they are.
+//! Whether bytes are a canonical image: that of a view, or their own.
 
 ghost use Rattle.std.specs.Prelude.{◌≡◌, ◌↔◌, ◌⊎◌, IfOk, IfErr, true};
 ghost use Rattle.fv_base.specs.Faults.{want_of_memory};
@@ -16,8 +16,8 @@ use fv_base::{Fault, FaultKind};
 use fv_tree::VolumeView;
 use std::alloc::Global;
 
-/// Whether the bytes are the canonical image of the view. They are not where it does not fit. No image is made.
-/// (PI specification, volume 3, section 3.2.)
+/// Whether the bytes are the canonical image of the view. False if the view does not fit. No image
+/// is made. (PI specification, volume 3, section 3.2.)
 ///
 /// # Errors
 ///
@@ -39,21 +39,21 @@ pub fn is_canonical_image(alloc: Global, view: &VolumeView<'_>, bytes: &[u8]) ->
     }
 }
 
-/// Whether the input is the canonical image of the volume that it is. No image is made. (PI
+/// Whether the input is a volume that is its own canonical image. No image is made. (PI
 /// specification, volume 3, section 3.2.)
 ///
 /// # Errors
 ///
-/// The first fault: those of `read_volume`; then Length at FvLength where bytes stand behind the
-/// volume. OutOfMemory.
+/// The first fault: those of `read_volume`; then Length at FvLength if bytes follow the volume.
+/// OutOfMemory.
 pub fn is_canonical(alloc: Global, input: &[u8]) -> Result<bool, Fault>
     // Whether the bytes are the image of the meaning that they have.
     ensures ok { IfOk result (λ t. (m : Meaning) × Accepted input.now m × ((t ≡ true) ↔ IsImage m input.now)) }
 
-    // Refused, want of memory aside, is only what is no volume.
+    // Any error other than OutOfMemory says that the input is no volume.
     ensures err { IfErr result (λ f. (f ≡ want_of_memory) ⊎ NotRead input.now f) }
 
-    // Memory runs out only where the input begins with the header of a volume.
+    // Memory runs out only if the input begins with the header of a volume.
     ensures memory { IfErr result
         (λ f. f ≡ want_of_memory → (h : HeadFields) × (e : Extent) × BeginsVolume h e input.now) }
 {

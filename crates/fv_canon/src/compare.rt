@@ -18,7 +18,7 @@ use fv_tree::{Difference, VolumeView, first_difference};
 use std::alloc::Global;
 use std::io::{Read, Write};
 
-// Writes the line of where two volumes first differ, or of two that mean the same.
+// Writes the line for where two volumes first differ, or for two with the same meaning.
 fn write_line<W: Write>(writer: &mut Port<W>, found: Option<&Difference>) -> Result<(), Fault>
     requires few { IfSome (option_copied found) (λ d. length d.0 ≤ 18) }
     ensures ok { OnOk result (Appends (W.contents (inner_of writer.old)) (W.contents (inner_of writer.new))
@@ -33,15 +33,15 @@ fn write_line<W: Write>(writer: &mut Port<W>, found: Option<&Difference>) -> Res
     out.outcome()
 }
 
-/// Writes whether two volumes mean the same and, where they do not, where they first differ: a
-/// line `same`, or `different at` with the steps down to there, each `file` or `section` with its
-/// number, and the word of what differs. The answer is true where they mean the same. (PI
+/// Writes whether two volumes have the same meaning and, if not, where they first differ: a line
+/// `same`, or `different at` with the steps down to there, each `file` or `section` with its
+/// number, and the kind of the difference. Returns true if they have the same meaning. (PI
 /// specification, volume 3, section 3.2.)
 ///
 /// # Errors
 ///
-/// OutOfMemory, of the first side, and then nothing was written. WriteFault at the bytes written,
-/// of the output: exactly these bytes of the line were written.
+/// OutOfMemory, with the first side; nothing was written then. WriteFault at the number of bytes
+/// written, with the output; exactly that many bytes of the line were written then.
 pub fn write_comparison<W: Write>(
     alloc: Global,
     first: &VolumeView<'_>,
@@ -53,7 +53,7 @@ pub fn write_comparison<W: Write>(
     ensures err { IfErr result (λ e. ComparisonStops e.0 first.now second.now
         (W.contents (inner_of writer.old)) (W.contents (inner_of writer.new)) e.1) }
 
-    // The writer's fault is of the output, and comes only where the port has erred.
+    // The writer's fault has the side of the output, and is returned only if the port has erred.
     ensures writer_fine { OnOk result (has_erred writer.new ≡ has_erred writer.old) }
     ensures untouched { IfErr result (λ e. e.1.kind ≢ FaultKind.WriteFault → writer.new ≡ writer.old) }
     ensures writer_erred { IfErr result (λ e. e.1.kind ≡ FaultKind.WriteFault
@@ -89,7 +89,7 @@ fn read_side<R: Read>(
     }
 }
 
-// The volume that the whole input of a side is.
+// The volume of the whole input of a side.
 fn accept_side(alloc: Global, side: Side, input: &[u8]) -> Result<VolumeView<'_>, (Side, Fault)>
     ensures ok { IfOk result (λ view. Accepted input.now view) }
     ensures err { IfErr result (λ e. (e.0 ≡ side) × VolumeStops input.now e.1) }
@@ -101,16 +101,16 @@ fn accept_side(alloc: Global, side: Side, input: &[u8]) -> Result<VolumeView<'_>
     }
 }
 
-/// Reads two inputs to their ends, the second only behind a first that is a volume, and writes
-/// the line of `write_comparison`. The answer is true where they mean the same. The inputs and
-/// their views are held. (PI specification, volume 3, section 3.2.)
+/// Reads two inputs to their ends, the second only after a first that is a volume, and writes the
+/// line of `write_comparison`. Returns true if they have the same meaning. The inputs and their
+/// views are kept in memory. (PI specification, volume 3, section 3.2.)
 ///
 /// # Errors
 ///
-/// The side that stopped the run, with the fault. Of an input: ReadFault at the bytes read so
-/// far, Length at the limit where more bytes come, and those of `whole_volume`. OutOfMemory while
-/// the two are compared is of the first. In all these cases nothing was written. Those of
-/// `write_comparison`.
+/// The side that stopped the run, with the fault. For an input: ReadFault at the number of bytes
+/// read so far, Length at the limit if more bytes come, and the faults of `whole_volume`. If memory
+/// runs out while the two are compared, the side is the first. In all these cases nothing was
+/// written. And the faults of `write_comparison`.
 pub fn run_compare<R: Read, Q: Read, W: Write>(
     alloc: Global,
     first: &mut Port<R>,
@@ -125,7 +125,8 @@ pub fn run_compare<R: Read, Q: Read, W: Write>(
         (Q.remaining (inner_of second.old)) (Q.remaining (inner_of second.new))
         (W.contents (inner_of writer.old)) (W.contents (inner_of writer.new)) e.1) }
 
-    // A fault of a reader or of the writer is of its own side, and comes only where its port has erred.
+    // A fault of a reader or of the writer has its own side, and is returned only if its port has
+    // erred.
     ensures first_erred { has_erred first.old ≡ false
         → IfErr result (λ e. e.0 ≡ Side.First → e.1.kind ≡ FaultKind.ReadFault → has_erred first.new ≡ true) }
     ensures second_erred { has_erred second.old ≡ false

@@ -7,7 +7,7 @@ use fv_base::Sink;
 use fv_tree::{Difference, Step, Word};
 use itoa::Buffer;
 
-/// Puts a number by its decimal digits, of which it has at most 20. Takes no memory.
+/// Puts a number in decimal digits, at most 20 of them. Takes no memory.
 pub fn put_decimal<S: Sink>(out: &mut S, number: u64)
     ensures text { S.takes out.old (decimal number) out.new }
     ensures short { length (decimal number) ≤ 20 }
@@ -16,7 +16,7 @@ pub fn put_decimal<S: Sink>(out: &mut S, number: u64)
     out.put(buffer.format(number).as_bytes());
 }
 
-// Puts what a step goes to, by its number, and a space.
+// Puts a step: whether it goes to a file or to a section, its number, and a space.
 fn put_step<S: Sink>(out: &mut S, step: Step)
     ensures text { S.takes out.old (step_text step) out.new }
     ensures short { length (step_text step) ≤ 29 }
@@ -45,7 +45,7 @@ fn put_path<S: Sink>(out: &mut S, steps: &[Step])
     }
 }
 
-// In what two volumes differ.
+// The text of a kind of difference.
 fn difference_word(word: Word) -> &'static str
     ensures text { result.now ≡ difference_word word }
     ensures short { length result.now ≤ 17 }
@@ -71,7 +71,7 @@ fn difference_word(word: Word) -> &'static str
     }
 }
 
-// Puts the line of where two volumes first differ.
+// Puts the line for where two volumes first differ.
 fn put_difference<S: Sink>(out: &mut S, difference: &Difference)
     ensures line { S.takes out.old (compare_line (Some difference.now)) out.new }
     ensures short { length (compare_line (Some difference.now)) ≤ 31 + 29 * length difference.now.0 }
@@ -82,7 +82,7 @@ fn put_difference<S: Sink>(out: &mut S, difference: &Difference)
     out.put(b"\n");
 }
 
-// Puts the line of two volumes, which differ there or mean the same.
+// Puts the line for two volumes: where they differ, or that they have the same meaning.
 pub(crate) fn put_comparison<S: Sink>(out: &mut S, found: Option<&Difference>)
     requires few { IfSome (option_copied found) (λ d. length d.0 ≤ 18) }
     ensures line { S.takes out.old (compare_line (option_copied found.entry)) out.new }

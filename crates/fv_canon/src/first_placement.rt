@@ -1,4 +1,4 @@
-//! Where the files of a volume stand.
+//! Where the files of a volume are placed.
 
 ghost use Rattle.std.specs.Prelude.{◌≡◌, ℕ, ◌+◌, ◌-◌, ◌*◌, ◌/◌, ◌%◌, ◌^◌, ◌<◌, ◌≤◌, IfOk, IfErr, IfSome, IfNone, List};
 ghost use Rattle.std.specs.Prelude.{IsTrue, ◌↔◌, All, get_or, drop, length, vec_len};
@@ -16,12 +16,12 @@ use fv_base::Fault;
 use fv_base::field::up_to_8;
 use std::alloc::Global;
 
-/// What the layout is told of a file.
+/// What the layout knows of a file.
 #[derive(Clone, Copy)]
 pub(crate) struct Part {
-    /// The bytes of its header.
+    /// The length of its header.
     pub header: u64,
-    /// The bytes of the whole file.
+    /// The size of the whole file.
     pub size: u64,
     /// The alignment of its data, in bytes.
     pub alignment: u64,
@@ -61,14 +61,16 @@ fn widened(alignment: u64) -> u64
     if alignment < 8 { 8 } else { alignment }
 }
 
-/// After which edges some files can be placed.
+/// After which edges some files can be placed: `greatest`, the edges 8 and 16 below it as `near`
+/// and `far` say, and every edge that is 24 or more below it, because a pad fits before `greatest`
+/// then.
 #[derive(Clone, Copy)]
 pub(crate) struct Reach {
-    /// The greatest start of the first of them that serves, in bytes from the volume's start.
+    /// The greatest usable start of the first of them, in bytes from the volume's start.
     pub greatest: u64,
-    /// Whether the start 8 bytes below it serves too.
+    /// Whether the start 8 bytes below it is usable too.
     pub near: bool,
-    /// Whether the start 16 bytes below it serves too.
+    /// Whether the start 16 bytes below it is usable too.
     pub far: bool,
 }
 
@@ -83,7 +85,7 @@ fn reaches(behind: Reach, edge: u64) -> bool
         || (behind.far && edge + 16 == behind.greatest)
 }
 
-// Whether the file may start there, files with this reach behind it.
+// Whether the file may begin at `start`, if the files after it have the reach `behind`.
 fn serves(total: u64, part: &Part, behind: Reach, start: u64) -> bool
     requires total { total ≤ volume_limit }
     requires part { IsLawfulPart total part.now }
@@ -96,7 +98,9 @@ fn serves(total: u64, part: &Part, behind: Reach, start: u64) -> bool
         && reaches(behind, up_to_8(start + part.size))
 }
 
-// The first start after `edge`, if there is one.
+// The first start after `edge`, if there is one. Starts are at least 8 apart. A file that ends 24
+// or more below the next file's greatest start is followed by a usable edge, so only the edges 16,
+// 8 and 0 below it need a look: three tries are enough.
 fn first_start(total: u64, edge: u64, part: &Part, behind: Reach) -> Option<u64>
     requires total { total ≤ volume_limit }
     requires edge { (edge % 8 ≡ 0) × (edge ≤ total) }
@@ -126,7 +130,9 @@ fn first_start(total: u64, edge: u64, part: &Part, behind: Reach) -> Option<u64>
     None
 }
 
-// The greatest start that serves, if there is one.
+// The greatest usable start, if there is one. Of four starts from the greatest down, the fourth
+// leaves an edge that is 24 or more below the next file's greatest start, which is usable: four
+// tries are enough.
 fn greatest_start(total: u64, part: &Part, behind: Reach) -> Option<u64>
     requires total { (total ≤ volume_limit) × (total % 8 ≡ 0) }
     requires part { IsLawfulPart total part.now }
@@ -164,7 +170,7 @@ fn greatest_start(total: u64, part: &Part, behind: Reach) -> Option<u64>
     None
 }
 
-// The reach of a file and those behind it.
+// The reach of a file and those after it.
 fn reach_of(total: u64, part: &Part, behind: Reach) -> Option<Reach>
     requires total { (total ≤ volume_limit) × (total % 8 ≡ 0) }
     requires part { IsLawfulPart total part.now }
@@ -182,7 +188,7 @@ fn reach_of(total: u64, part: &Part, behind: Reach) -> Option<Reach>
     })
 }
 
-// Whether the start that is `by` below `greatest` serves.
+// Whether the start that is `by` below `greatest` is usable.
 fn serves_below(total: u64, part: &Part, behind: Reach, greatest: u64, by: u64) -> bool
     requires total { total ≤ volume_limit }
     requires part { IsLawfulPart total part.now }
@@ -193,8 +199,8 @@ fn serves_below(total: u64, part: &Part, behind: Reach, greatest: u64, by: u64) 
     by <= greatest && serves(total, part, behind, greatest - by)
 }
 
-// The reaches of the files from each on, that of no files first and that of all of them last; None
-// where they cannot be placed at all.
+// The reach of the files from each one on: that of no files first, that of all files last. None if
+// the files cannot be placed at all.
 fn reaches_from(alloc: Global, total: u64, parts: &[Part]) -> Result<Option<Vec<Reach>>, Fault>
     requires total { (total ≤ volume_limit) × (total % 8 ≡ 0) }
     requires parts { All (IsLawfulPart total) parts.now }
@@ -251,8 +257,8 @@ fn least_lawful(edge: u64, part: &Part) -> u64
     round_up(edge + 24 + part.header, step) - part.header
 }
 
-// The least start after `edge`, or of the volume top file the start at the volume's end; None where the
-// file cannot stand there.
+// The least start after `edge`; for the volume top file, the start with which it ends at the
+// volume's end. None if the file cannot be placed there.
 fn least_start(total: u64, edge: u64, part: &Part) -> Option<u64>
     requires total { total ≤ volume_limit }
     requires edge { (edge % 8 ≡ 0) × (edge ≤ total) }
@@ -276,8 +282,8 @@ fn least_start(total: u64, edge: u64, part: &Part) -> Option<u64>
     }
 }
 
-// The least starts of the files, one after another, where they are a placement; None where they are none.
-// Where they are one, it is the first: each start is the least that is lawful after those before it.
+// The least starts of the files, one after another, if they are a placement, else None. If they are
+// a placement, it is the first: each start is the least that is lawful after those before it.
 fn least_placement(
     alloc: Global,
     total: u64,
@@ -307,10 +313,11 @@ fn least_placement(
     Ok(Some(starts))
 }
 
-// The first placement by a search; None where there is none. A least start may be too early: where 8 or 16 bytes
-// are left before the volume top file, no pad fits there, and a file before it has to stand further on. So the
-// search first goes backwards: after which edges can the files from here on be placed? Then it goes forwards, and
-// puts each file at its least start that leaves such an edge.
+// The first placement by a search; None if there is none. A least start may be too early: if 8 or
+// 16 bytes are left before the volume top file, no pad fits there, and a file before it has to be
+// placed further on. So the search first goes backwards: after which edges can the files from here
+// on be placed? Then it goes forwards, and puts each file at its least start that leaves such an
+// edge.
 fn searched_starts(
     alloc: Global,
     total: u64,
@@ -348,7 +355,7 @@ fn searched_starts(
 }
 
 // The first placement of the files in a volume of `total` bytes with the first edge `first`; None
-// where they cannot be placed in their order at all.
+// if they cannot be placed in their order at all.
 pub(crate) fn first_starts(
     alloc: Global,
     total: u64,
@@ -369,7 +376,7 @@ pub(crate) fn first_starts(
     searched_starts(alloc, total, first, parts)
 }
 
-// Whether the one start of the volume top file is not aligned.
+// Whether the volume top file, at its only possible start, is not aligned.
 fn is_off(total: u64, part: &Part) -> bool
     requires total { total ≤ volume_limit }
     requires part { IsLawfulPart total part.now }
@@ -379,7 +386,8 @@ fn is_off(total: u64, part: &Part) -> bool
     (start + part.header) % part.alignment != 0 || start % 8 != 0
 }
 
-// Whether there is a volume top file whose one start, at the volume's end, is not aligned.
+// Whether there is a volume top file that is not aligned at its only possible start, with which it
+// ends at the volume's end.
 pub(crate) fn is_top_off(total: u64, parts: &[Part]) -> bool
     requires total { total ≤ volume_limit }
     requires parts { All (IsLawfulPart total) parts.now }

@@ -1,4 +1,4 @@
-//! From a flash image to the same with each of its volumes in its canonical form.
+//! From a flash image to the same image with each of its volumes in canonical form.
 
 ghost use Rattle.std.specs.Prelude.{◌≡◌, ◌≢◌, ◌⊎◌, ◌+◌, ◌-◌, ◌<◌, ◌≤◌, ◌^◌, ℕ, List, length, IfOk, IfErr, OnOk};
 ghost use Rattle.fv_base.specs.Faults.{want_of_memory};
@@ -20,7 +20,7 @@ use fv_head::verify_fv;
 use fv_tree::scan;
 use std::alloc::Global;
 
-// The bytes from one place to another.
+// The bytes from one offset to another.
 fn between(image: &[u8], from: usize, to: usize) -> &[u8]
     requires { (from ≤ to) × (to ≤ length image.now) }
     ensures { result.now ≡ field from (to - from) image.now }
@@ -28,7 +28,7 @@ fn between(image: &[u8], from: usize, to: usize) -> &[u8]
     &image[from..to]
 }
 
-// The bytes of the volume that begins at this place.
+// The bytes of the volume that begins at this offset.
 fn volume_at(image: &[u8], start: usize) -> &[u8]
     requires { (n : ℕ) × VolumeAt image.now start n }
     ensures volume { VolumeAt image.now start (length result.now) }
@@ -40,7 +40,8 @@ fn volume_at(image: &[u8], start: usize) -> &[u8]
     between(image, start, start + extent.length as usize)
 }
 
-// A fault of a volume that begins at this place of an image, as one of the image. Want of memory has no place.
+// A fault of a volume that begins at this offset of an image, as a fault of the image. OutOfMemory
+// stays at 0.
 fn placed(fault: Fault, start: u64) -> Fault
     requires { start + fault.place.offset < 2 ^ 64 }
     ensures { result ≢ want_of_memory
@@ -69,7 +70,8 @@ fn put_normalised<S: Sink>(alloc: Global, volume: &[u8], out: &mut S) -> Result<
     Ok(())
 }
 
-// Puts the image with the volumes that begin at these places, all there are, in their canonical form.
+// Puts the image with its volumes in canonical form. `places` are the offsets at which they begin,
+// of all of them.
 fn put_renewed<S: Sink>(
     alloc: Global,
     image: &[u8],
@@ -95,24 +97,25 @@ fn put_renewed<S: Sink>(
 }
 
 /// The image with each volume that `scan` finds in it replaced by its canonical image. Every other
-/// byte is kept, and the whole length is reserved once. (PI specification, volume 3, section 3.2.)
+/// byte is kept. Memory for the whole length is reserved once. (PI specification, volume 3, section
+/// 3.2.)
 ///
 /// # Errors
 ///
-/// Length at the limit of 268,435,456 bytes, where the image is longer. Else the fault of the first
-/// volume that `normalise` refuses, at its place in the image: NoRoom and TopAlignment at the
+/// Length at the limit of 268,435,456 bytes, if the image is longer. Else the fault of the first
+/// volume that `normalise` rejects, at its offset in the image; NoRoom and TopAlignment are at the
 /// volume's start. OutOfMemory.
 pub fn normalise_image(alloc: Global, image: &[u8]) -> Result<ByteList, Fault>
     ensures ok { IfOk result (λ bytes. NormalisesAll image.now bytes) }
 
-    // There are no other such bytes.
+    // No other bytes are.
     ensures only { (other : List ℕ) → NormalisesAll image.now other → IfOk result (λ bytes. bytes ≡ other) }
     ensures err { IfErr result (λ f. (f ≡ want_of_memory) ⊎ RefusesAll image.now f) }
 
-    // Where each volume has an image, only want of memory is answered.
+    // If each volume has an image, the only error is OutOfMemory.
     ensures fits { (other : List ℕ) → NormalisesAll image.now other → IfErr result (λ f. f ≡ want_of_memory) }
 
-    // Memory runs out only where the image is within the limit.
+    // Memory runs out only if the image is within the limit.
     ensures memory { IfErr result (λ f. f ≡ want_of_memory → length image.now ≤ volume_limit) }
 {
     let total = image.len() as u64;

@@ -1,5 +1,5 @@
-//! What else holds of layouts and canonical images, as laws over the definitions. None of these calls does
-//! anything: their contracts are what is proved.
+//! What else holds of layouts and canonical images, as laws over the definitions. None of these
+//! functions does anything: their contracts are what is proved.
 
 ghost use Rattle.std.specs.Prelude.{◌↔◌, ◌≡◌, List, ℕ};
 ghost use Rattle.fv_base.specs.declared.fault.Fault.{Fault};
@@ -9,25 +9,25 @@ ghost use Rattle.fv_canon.specs.Layouts.{Fits, LaysVolume, LeastVolume, Unfit};
 ghost use Rattle.fv_canon.specs.Spans.{InOrder, ShowsSpans, Span, painted};
 ghost use Rattle.fv_canon.specs.StoredFiles.{PadsRule};
 
-/// A meaning has one image at most, and an image one meaning.
+/// A meaning has at most one image, and an image has one meaning.
 pub fn one_image()
     ensures image { OneImage }
     ensures meaning { OneMeaning }
 {}
 
-/// A volume fits exactly where it has a layout, and one that is refused does not fit.
+/// A volume fits exactly if it has a layout, and a volume that is rejected does not fit.
 pub fn fits()
     ensures laid { (m : Meaning) (starts : List ℕ) → LaysVolume m starts → Fits m }
     ensures lays { (m : Meaning) → Fits m → (starts : List ℕ) × LaysVolume m starts }
     ensures unfit { (m : Meaning) (depth : ℕ) (f : Fault) → Unfit m depth f → Fits m → ⊥ }
 {}
 
-/// What does not fit is refused with one fault.
+/// A volume that does not fit is rejected with one fault only.
 pub fn one_fault()
     ensures { (m : Meaning) (depth : ℕ) (f g : Fault) → Unfit m depth f → Unfit m depth g → f ≡ g }
 {}
 
-/// Where at every level the least starts are a placement, they are the layout.
+/// If the least starts are a placement at every level, they are the layout.
 pub fn least_starts()
     ensures { (m : Meaning) (starts : List ℕ) → LeastVolume m starts → LaysVolume m starts }
 {}
@@ -37,7 +37,8 @@ pub fn pads()
     ensures { PadsRule }
 {}
 
-/// One list of bytes shows what stands where, and it is the join of what stands there and of erased bytes.
+/// Exactly one list of bytes has these spans and is erased elsewhere: the spans and the erased
+/// bytes between them, joined.
 pub fn one_list_shows()
     ensures { (erased total : ℕ) (spans : List Span) (bytes : List ℕ) → InOrder total 0 spans
         → ShowsSpans total erased spans bytes ↔ (bytes ≡ painted erased total 0 spans) }

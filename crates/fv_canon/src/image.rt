@@ -20,7 +20,7 @@ use std::alloc::Global;
 use std::io::Write;
 
 /// Puts the canonical image of the view into a sink, in one walk that takes no memory. The layout
-/// has to be that of the view. (PI specification, volume 3, section 3.2.)
+/// must be that of the view. (PI specification, volume 3, section 3.2.)
 pub fn put_canonical<S: Sink>(view: &VolumeView<'_>, layout: &Layout, out: &mut S)
     requires { IsLayout view.now layout.now }
     ensures { (image : List ℕ) × IsImage view.now image × S.takes out.old image out.new }
@@ -29,13 +29,13 @@ pub fn put_canonical<S: Sink>(view: &VolumeView<'_>, layout: &Layout, out: &mut 
     put_image(out, view, layout.all());
 }
 
-/// Writes the canonical image of the view to a port, in one walk that takes no memory. The
-/// layout has to be that of the view. (PI specification, volume 3, section 3.2.)
+/// Writes the canonical image of the view to a port, in one walk that takes no memory. The layout
+/// must be that of the view. (PI specification, volume 3, section 3.2.)
 ///
 /// # Errors
 ///
-/// WriteFault at the bytes written in this call, where a write fails or takes no byte: exactly
-/// these bytes of the image were written then.
+/// WriteFault at the number of bytes written in this call, if a write fails or takes no byte.
+/// Exactly that many bytes of the image were written then.
 pub fn write_canonical<W: Write>(
     view: &VolumeView<'_>,
     layout: &Layout,
@@ -47,11 +47,11 @@ pub fn write_canonical<W: Write>(
     ensures ok { OnOk result ((image : List ℕ) × IsImage view.now image
         × Appends (W.contents (inner_of writer.old)) (W.contents (inner_of writer.new)) image) }
 
-    // A front of it was, as long as the fault's offset says.
+    // The first bytes of it were written, as many as the fault's offset says.
     ensures err { IfErr result (λ f. (image : List ℕ) × IsImage view.now image
         × WriteStops (W.contents (inner_of writer.old)) (W.contents (inner_of writer.new)) image f) }
 
-    // The writer's fault comes exactly where a write failed.
+    // The writer's fault is returned exactly if a write failed.
     ensures fine { OnOk result (has_erred writer.new ≡ has_erred writer.old) }
     ensures erred { OnErr result (has_erred writer.new ≡ true) }
 {
@@ -61,8 +61,8 @@ pub fn write_canonical<W: Write>(
     out.outcome()
 }
 
-/// The canonical image of the view. The whole length is reserved first. (PI specification, volume
-/// 3, section 3.2.)
+/// The canonical image of the view. Memory for the whole length is reserved first. (PI
+/// specification, volume 3, section 3.2.)
 ///
 /// # Errors
 ///
@@ -72,11 +72,11 @@ pub fn canonical(alloc: Global, view: &VolumeView<'_>) -> Result<ByteList, Fault
     ensures image { IfOk result (λ bytes. IsImage view.now bytes) }
     ensures only { (other : List ℕ) → IsImage view.now other → IfOk result (λ bytes. bytes ≡ other) }
 
-    // It is a volume of the meaning, and the image of no other meaning that some bytes have.
+    // It is a volume with this meaning, and the image of no other meaning that some bytes have.
     ensures denotes { IfOk result (λ bytes. Accepted bytes view.now) }
     ensures meaning { IfOk result (λ bytes. (m : Meaning) → IsMeaning m → IsImage m bytes → m ≡ view.now) }
 
-    // A refusal, want of memory aside, is that of a volume that does not fit.
+    // Any error other than OutOfMemory is that of a volume that does not fit.
     ensures err { IfErr result (λ f. (f ≡ want_of_memory) ⊎ Unfit view.now 0 f) }
     ensures fits { Fits view.now → IfErr result (λ f. f ≡ want_of_memory) }
 {

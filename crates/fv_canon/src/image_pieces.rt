@@ -21,7 +21,7 @@ use fv_head::{VolumeHead, len_of_ext, put_ext};
 use fv_section::section_head_bytes;
 use fv_tree::{FileView, SectionView};
 
-// How many zero bytes stand behind a section, before the next.
+// The number of zero bytes between a section and the next.
 pub(crate) fn filler_of(section: &SectionView<'_>) -> u64
     requires { section_len section.now < 2 ^ 32 }
     ensures { result ≡ up_to_4 (section_len section.now) - section_len section.now }
@@ -50,10 +50,10 @@ pub(crate) fn put_pad<S: Sink>(out: &mut S, size: u64, polarity: Polarity)
     fill(out, polarity.erased(), size - 24);
 }
 
-/// The most bytes of a pad in a gap: the greatest multiple of 8 that `Size` can say.
+/// The most bytes of a pad in a gap: the greatest multiple of 8 that fits in `Size`.
 const PAD_MOST: u64 = 0xff_fff8;
 
-/// The bytes of each pad of a longer gap but its last.
+/// The size of every pad of a longer gap except its last.
 const LONG_PAD: u64 = 0xff_ff00;
 
 // Puts the pads of a gap.
@@ -73,7 +73,7 @@ pub(crate) fn put_gap<S: Sink>(out: &mut S, gap: u64, polarity: Polarity)
     put_pad(out, left, polarity);
 }
 
-// How many bytes a file has: its header, and data of so many bytes.
+// The size of a file with `data_len` bytes of data, its header included.
 pub(crate) fn size_for(data_len: u64) -> u64
     requires { data_len < 2 ^ 62 }
     ensures { result ≡ size_for data_len }
@@ -100,7 +100,8 @@ pub(crate) fn put_file_head<S: Sink>(out: &mut S, file: &FileView<'_>, sum: u8, 
     out.put(head.as_slice());
 }
 
-// Puts the pad behind the head that holds the extended header, if there is one, and erased bytes to the first edge.
+// Puts the pad after the head that holds the extended header, if there is one, and erased bytes to
+// the first edge.
 pub(crate) fn put_ext_pad<S: Sink>(out: &mut S, head: &VolumeHead, used: u32)
     ensures { S.takes out.old (ext_pad (polarity_of head.now.attributes) head.now.ext used
         ++ replicate (canonical_first head.now head.now.ext - canonical_end head.now head.now.ext)
@@ -120,7 +121,7 @@ pub(crate) fn put_ext_pad<S: Sink>(out: &mut S, head: &VolumeHead, used: u32)
     }
 }
 
-// The end of the last file, or the first edge where there is none.
+// The end of the last file, or the first edge if there is none.
 pub(crate) fn used_end(files: &[FileView<'_>], own: &[u64], first: u64) -> u64
     requires { (total : ℕ) × ArePlaced total first files.now own.now }
     ensures used { result ≡ used_by first files.now own.now }

@@ -1,16 +1,17 @@
-//! The sink of a walk over a volume, which sums the data of a file before it puts them.
+//! The sink of a walk over a volume. It sums the data of a file before it puts them.
 
 ghost use Rattle.std.specs.Prelude.{◌≡◌, false};
 ghost use Rattle.fv_canon.specs.ImageSinks.{ImageTakes, image_by};
 
 use fv_base::{Sink, sum8};
 
-/// A sink below, into which an image is put; while the data of a file are summed, nothing is.
+/// A sink over another one, into which an image is put; while the data of a file are summed,
+/// nothing is put.
 #[derive(Drop)]
 pub(crate) struct ImageSink<'a, S: Sink> {
-    /// Where the image goes.
+    /// The sink into which the image is put.
     pub(crate) below: &'a mut S,
-    /// Whether bytes are summed, and not put.
+    /// Whether bytes are summed instead of put.
     pub(crate) sums: bool,
     /// Their sum, modulo 256.
     pub(crate) total: u8,

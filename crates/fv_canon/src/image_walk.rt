@@ -27,7 +27,7 @@ use fv_file::FIXED_CHECKSUM;
 use fv_head::{first_edge, put_head};
 use fv_tree::{Body, Content, FileView, SectionView, VolumeView};
 
-// What makes a sum of bytes 0.
+// What must be added to make a sum of bytes 0.
 fn complement(sum: u8) -> u8
     ensures value { result ≡ (256 - sum) % 256 }
     ensures small { sum < 256 }
@@ -35,8 +35,8 @@ fn complement(sum: u8) -> u8
     0u8.wrapping_sub(sum)
 }
 
-// Puts some sections with the zero bytes between them, and those behind the last. Each walk answers the starts that it
-// leaves.
+// Puts some sections with the zero bytes between them, and those after the last. Each of these
+// walks returns the starts that it has not used.
 #[cycle(put)]
 fn put_sections<'s, S: Sink>(
     out: &mut ImageSink<'_, S>,
@@ -105,7 +105,8 @@ fn put_content<'s, S: Sink>(
     }
 }
 
-// The file sum of a file. Where the data have one, they are walked for it first, and nothing is put meanwhile.
+// The file sum of a file. If it is a sum of the data, the data are walked for it first, and nothing
+// is put meanwhile.
 #[cycle(put)]
 fn file_sum<S: Sink>(out: &mut ImageSink<'_, S>, file: &FileView<'_>, starts: &[u64]) -> u8
     requires laid { BeginsWithStarts LaysFile file.now starts.now }
@@ -123,8 +124,9 @@ fn file_sum<S: Sink>(out: &mut ImageSink<'_, S>, file: &FileView<'_>, starts: &[
     complement(out.total)
 }
 
-// Puts a file. While the data of another are summed, a file with the checksum attribute adds its State alone, whatever
-// its data are: its header sums to 0 without State and file sum, and file sum and data sum to 0.
+// Puts a file. While the data of another file are summed, a file with the checksum attribute adds
+// only its State, whatever its data are: its header sums to 0 without State and file sum, and its
+// file sum and data sum to 0.
 #[cycle(put)]
 fn put_file<'s, S: Sink>(
     out: &mut ImageSink<'_, S>,
@@ -147,7 +149,8 @@ fn put_file<'s, S: Sink>(
     put_content(out, file.content(), starts)
 }
 
-// Puts the files of a volume from the edge `first` on, with the pads of the gaps, and erased bytes to the end.
+// Puts the files of a volume from the edge `first` on, with the pads of the gaps, and erased bytes
+// to the end.
 #[cycle(put)]
 fn put_files<'s, S: Sink>(
     out: &mut ImageSink<'_, S>,

@@ -21,30 +21,31 @@ use fv_head::first_edge;
 use fv_tree::{Body, Content, FileView, SectionView, VOLUME_TOP_FILE, VolumeView};
 use std::alloc::Global;
 
-/// Where the files of the view's canonical image stand, and those of the volumes inside it. (PI
-/// specification, volume 3, section 3.2.3.1.)
+/// Where the files of the view's canonical image are placed, and those of the volumes inside it.
+/// (PI specification, volume 3, section 3.2.3.1.)
 ///
 /// # Errors
 ///
-/// Of the first volume that does not fit, the outer one before those inside it, at 0 and with the
-/// depth of that volume: TopAlignment where the one start of its volume top file is not aligned, else
-/// NoRoom where its files cannot be placed in their order. OutOfMemory.
+/// The fault of the first volume that does not fit (the outer volume comes before those inside it),
+/// at 0 and with the depth of that volume: TopAlignment if its volume top file is not aligned at
+/// its only possible start, else NoRoom if its files cannot be placed in their order. OutOfMemory.
 pub fn layout(alloc: Global, view: &VolumeView<'_>) -> Result<Layout, Fault>
-    // At every level the files stand in their first placement.
+    // At every level the files are in their first placement.
     ensures layout { IfOk result (IsLayout view.now) }
 
-    // There is no other.
+    // There is no other layout.
     ensures only { IfOk result (λ l. (starts : List ℕ) → LaysVolume view.now starts → starts ≡ l.own ++ l.inner) }
 
-    // Every other placement of the volume's own files has a larger start at the first place where the two differ.
+    // Every other placement of the volume's own files has a larger start at the first file where
+    // the two differ.
     ensures least { IfOk result (λ l. (others : List ℕ) (i : ℕ)
         → Placement (head_of view.now).length (first_edge (head_of view.now)) (map part_of (files_of view.now)) others
         → take i others ≡ take i l.own → get_or l.own i 0 ≤ get_or others i 0) }
 
-    // A refusal, want of memory aside, is that of the first volume that does not fit.
+    // Any error other than OutOfMemory is that of the first volume that does not fit.
     ensures err { IfErr result (λ f. (f ≡ want_of_memory) ⊎ Unfit view.now 0 f) }
 
-    // What fits is answered, unless memory runs out.
+    // The layout of a volume that fits is returned, unless memory runs out.
     ensures fits { Fits view.now → IfErr result (λ f. f ≡ want_of_memory) }
 {
     let _head = view.head();
@@ -54,7 +55,7 @@ pub fn layout(alloc: Global, view: &VolumeView<'_>) -> Result<Layout, Fault>
     Ok(Layout::new(starts, own))
 }
 
-// The starts of the volumes in a file's data, which stand at depth 0.
+// The starts of the volumes in a file's data, which are at depth 0.
 pub(crate) fn layout_of_content(alloc: Global, file: &FileView<'_>) -> Result<Vec<u64>, Fault>
     ensures ok { IfOk result (λ starts. LaysContent (content_of file.now) starts.items) }
     ensures err { IfErr result (λ f. (f ≡ want_of_memory) ⊎ UnfitContent (content_of file.now) 0 f) }
@@ -66,7 +67,7 @@ pub(crate) fn layout_of_content(alloc: Global, file: &FileView<'_>) -> Result<Ve
     Ok(starts)
 }
 
-// The starts of the volumes in a section's body, which stand at depth 0.
+// The starts of the volumes in a section's body, which is at depth 0.
 pub(crate) fn layout_of_body(alloc: Global, section: &SectionView<'_>) -> Result<Vec<u64>, Fault>
     ensures ok { IfOk result (λ starts. LaysBody (body_of section.now) starts.items) }
     ensures err { IfErr result (λ f. (f ≡ want_of_memory) ⊎ UnfitAlone (body_of section.now) f) }
@@ -82,7 +83,8 @@ pub(crate) fn layout_of_body(alloc: Global, section: &SectionView<'_>) -> Result
     Ok(starts)
 }
 
-// Adds the starts of a volume at this depth: those of its own files, and then those of the volumes in them.
+// Adds the starts of a volume at this depth: those of its own files, and then those of the volumes
+// in them.
 #[cycle(lay)]
 fn lay_volume(
     alloc: Global,
@@ -154,7 +156,7 @@ fn lay_sections(
     Ok(())
 }
 
-// Adds the starts of the volumes in a section's body: a group and a volume are one deeper.
+// Adds the starts of the volumes in a section's body: a group and a volume are one level deeper.
 #[cycle(lay)]
 fn lay_body(alloc: Global, body: &Body<'_>, depth: u8, starts: &mut Vec<u64>) -> Result<(), Fault>
     requires shallow { Shallow NestsBody (body_view body.now) depth }
@@ -168,7 +170,7 @@ fn lay_body(alloc: Global, body: &Body<'_>, depth: u8, starts: &mut Vec<u64>) ->
     }
 }
 
-// The starts of a volume's own files, or why they have none.
+// The starts of a volume's own files, or the fault if they have none.
 fn own_starts(alloc: Global, view: &VolumeView<'_>, depth: u8) -> Result<Vec<u64>, Fault>
     ensures ok { IfOk result (λ own. IsFirstPlacement (head_of view.now).length (first_edge (head_of view.now))
         (map part_of (files_of view.now)) own.items) }
@@ -187,7 +189,7 @@ fn own_starts(alloc: Global, view: &VolumeView<'_>, depth: u8) -> Result<Vec<u64
     }
 }
 
-// What the layout is told of a volume's files, in their order.
+// What the layout knows of a volume's files, in order.
 fn parts_of(alloc: Global, view: &VolumeView<'_>) -> Result<Vec<Part>, Fault>
     ensures ok { IfOk result (λ parts. (parts.items ≡ map part_of (files_of view.now))
         × All (IsLawfulPart (head_of view.now).length) parts.items) }
@@ -202,7 +204,8 @@ fn parts_of(alloc: Global, view: &VolumeView<'_>) -> Result<Vec<Part>, Fault>
     Ok(parts)
 }
 
-// What the layout is told of a file: the header is large where with a short one the size would pass 0xFFFFFF.
+// What the layout knows of a file: its header is large if with a short one the size would be more
+// than 0xFFFFFF.
 fn part_of(file: &FileView<'_>) -> Part
     ensures { result ≡ part_of file.now }
 {

@@ -1,4 +1,5 @@
-//! The canonical image of a firmware volume, runs that write it, and a run that compares two volumes.
+//! The canonical image of a firmware volume, runs that write it, and a run that compares two
+//! volumes.
 #![tactic(auto)]
 
 mod canonical_input;

@@ -11,12 +11,12 @@ use fv_base::Sink;
 use fv_tree::VolumeView;
 
 /// Bytes that are compared with those that are put. What was put is taken off their front, until
-/// their front is another.
+/// the two differ.
 #[derive(Drop)]
 pub(crate) struct MatchSink<'a> {
-    /// The bytes behind all that were put.
+    /// The bytes after all that were put.
     pub(crate) rest: &'a [u8],
-    /// Whether all that were put were a front of the bytes.
+    /// Whether the bytes began with all that were put.
     pub(crate) same: bool,
 }
 
@@ -35,8 +35,8 @@ impl<'a> Sink for MatchSink<'a> {
     }
 }
 
-// Whether the bytes are the canonical image of the view, where its files stand at these starts.
-// No image is made.
+// Whether the bytes are the canonical image of the view, given that its files have these starts. No
+// image is made.
 pub(crate) fn is_image(view: &VolumeView<'_>, starts: &[u64], bytes: &[u8]) -> bool
     requires { LaysVolume view.now starts.now }
     ensures { IsTrue result ↔ (bytes.now ≡ image_of view.now starts.now) }

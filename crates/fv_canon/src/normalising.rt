@@ -1,4 +1,4 @@
-//! From bytes to the canonical image of the volume that they are.
+//! From bytes that are a volume to its canonical image.
 
 ghost use Rattle.std.specs.Prelude.{◌≡◌, ◌≢◌, ◌⊎◌, ℕ, List, length, IfOk, IfErr, OnOk, true, false};
 ghost use Rattle.fv_base.specs.Faults.{want_of_memory};
@@ -18,21 +18,20 @@ use fv_tree::{VolumeView, read_volume};
 use std::alloc::Global;
 use std::io::{Read, Write};
 
-/// The volume that the whole input is. (PI specification, volume 3, section 3.2.)
+/// The volume of the whole input. (PI specification, volume 3, section 3.2.)
 ///
 /// # Errors
 ///
-/// Those of `read_volume`; then Length at FvLength where bytes stand behind the volume.
-/// OutOfMemory.
+/// Those of `read_volume`; then Length at FvLength if bytes follow the volume. OutOfMemory.
 pub fn whole_volume(alloc: Global, input: &[u8]) -> Result<VolumeView<'_>, Fault>
     ensures found { IfOk result (λ view. Accepted input.now view) }
     ensures only { IfOk result (λ view. (m : Meaning) → Accepted input.now m → m ≡ view) }
     ensures refused { IfErr result (λ f. (f ≡ want_of_memory) ⊎ NotRead input.now f) }
 
-    // The condition of a fault holds in the input at its place.
+    // The condition of a fault holds in the input at its offset.
     ensures stands { IfErr result (λ f. f ≢ want_of_memory → FaultStandsInInput input.now f) }
 
-    // Memory runs out only where the input begins with the header of a volume.
+    // Memory runs out only if the input begins with the header of a volume.
     ensures memory { IfErr result
         (λ f. f ≡ want_of_memory → (h : HeadFields) × (e : Extent) × BeginsVolume h e input.now) }
     ensures kind { IfErr result (λ f. (f.kind ≢ FaultKind.ReadFault) × (f.kind ≢ FaultKind.WriteFault)) }
@@ -46,25 +45,25 @@ pub fn whole_volume(alloc: Global, input: &[u8]) -> Result<VolumeView<'_>, Fault
 ///
 /// # Errors
 ///
-/// The first fault: those of `read_volume`; then Length at FvLength where bytes stand behind the
-/// volume; then those of `layout`. OutOfMemory.
+/// The first fault: those of `read_volume`; then Length at FvLength if bytes follow the volume;
+/// then those of `layout`. OutOfMemory.
 pub fn normalise(alloc: Global, input: &[u8]) -> Result<ByteList, Fault>
     ensures ok { IfOk result (λ bytes. NormalisesTo input.now bytes) }
 
-    // The image is a volume of the same meaning, and its own image.
+    // The image is a volume with the same meaning, and its own image.
     ensures again { IfOk result (λ bytes. MeanSame input.now bytes × NormalisesTo bytes bytes) }
     ensures length { IfOk result (λ bytes. length bytes ≡ length input.now) }
     ensures err { IfErr result (λ f. (f ≡ want_of_memory) ⊎ Refuses input.now f) }
 
-    // Only a volume that does not fit is refused as NoRoom or TopAlignment, and with another fault only what is
-    // no volume.
+    // Only a volume that does not fit is rejected as NoRoom or TopAlignment. Only an input that is
+    // no volume is rejected with any other fault.
     ensures unfit { IfErr result (λ f. IsOfLayout f.kind → IsUnfit input.now) }
     ensures unread { IfErr result (λ f. f ≢ want_of_memory → (IsOfLayout f.kind → ⊥) → IsNoVolume input.now) }
 
-    // A volume that has an image is refused only where memory runs out.
+    // The only error for a volume that has an image is OutOfMemory.
     ensures fits { (image : List ℕ) → NormalisesTo input.now image → IfErr result (λ f. f ≡ want_of_memory) }
 
-    // Memory runs out only where the input begins with the header of a volume.
+    // Memory runs out only if the input begins with the header of a volume.
     ensures memory { IfErr result
         (λ f. f ≡ want_of_memory → (h : HeadFields) × (e : Extent) × BeginsVolume h e input.now) }
 {
@@ -72,14 +71,14 @@ pub fn normalise(alloc: Global, input: &[u8]) -> Result<ByteList, Fault>
     canonical(alloc, &view)
 }
 
-/// Writes the canonical image of the volume that the input is. Nothing is written before the
-/// whole input is accepted and laid out, and no image is held. (PI specification, volume 3, section
-/// 3.2.)
+/// Writes the canonical image of the volume that the input is. Nothing is written before the whole
+/// input is accepted and laid out. The image is not kept in memory. (PI specification, volume 3,
+/// section 3.2.)
 ///
 /// # Errors
 ///
-/// Those of `normalise`, and then nothing was written. WriteFault at the bytes written: exactly
-/// these bytes of the image were.
+/// Those of `normalise`; nothing was written then. WriteFault at the number of bytes written;
+/// exactly that many bytes of the image were written then.
 pub fn write_normalised<W: Write>(
     alloc: Global,
     input: &[u8],
@@ -91,11 +90,11 @@ pub fn write_normalised<W: Write>(
         (InputStops input.now (W.contents (inner_of writer.old)) (W.contents (inner_of writer.new))) }
     ensures read { IfErr result (λ f. f.kind ≢ FaultKind.ReadFault) }
 
-    // Memory runs out only where the input begins with the header of a volume.
+    // Memory runs out only if the input begins with the header of a volume.
     ensures memory { IfErr result
         (λ f. f ≡ want_of_memory → (h : HeadFields) × (e : Extent) × BeginsVolume h e input.now) }
 
-    // The writer's fault comes exactly where a write failed.
+    // The writer's fault is returned exactly if a write failed.
     ensures fine { OnOk result (has_erred writer.new ≡ has_erred writer.old) }
     ensures erred { IfErr result (λ f. f.kind ≡ FaultKind.WriteFault → has_erred writer.new ≡ true) }
 {
@@ -105,13 +104,14 @@ pub fn write_normalised<W: Write>(
 }
 
 /// Reads an input to its end, and then writes the canonical image of the volume that it is. The
-/// input and its view are held, and no image. (PI specification, volume 3, section 3.2.)
+/// input and its view are kept in memory; the image is not. (PI specification, volume 3, section
+/// 3.2.)
 ///
 /// # Errors
 ///
-/// ReadFault at the bytes read so far, Length at the limit where more bytes come, and those of
-/// `normalise`: nothing was written then. WriteFault at the bytes written: exactly these bytes of
-/// the image were.
+/// ReadFault at the number of bytes read so far, Length at the limit if more bytes come, and those
+/// of `normalise`; nothing was written then. WriteFault at the number of bytes written; exactly
+/// that many bytes of the image were written then.
 pub fn run_normalise<R: Read, W: Write>(
     alloc: Global,
     reader: &mut Port<R>,
@@ -122,7 +122,7 @@ pub fn run_normalise<R: Read, W: Write>(
     ensures err { IfErr result (RunStops (R.remaining (inner_of reader.old)) (R.remaining (inner_of reader.new))
         (W.contents (inner_of writer.old)) (W.contents (inner_of writer.new))) }
 
-    // A fault of the reader or the writer comes only where its port has erred.
+    // A fault of the reader or the writer is returned only if its port has erred.
     ensures reader_erred { has_erred reader.old ≡ false
         → IfErr result (λ f. f.kind ≡ FaultKind.ReadFault → has_erred reader.new ≡ true) }
     ensures writer_erred { IfErr result (λ f. f.kind ≡ FaultKind.WriteFault → has_erred writer.new ≡ true) }

@@ -1,4 +1,4 @@
-//! The starts of a layout behind those of some part of a volume.
+//! The starts of a layout that follow those of some part of a volume.
 
 ghost use Rattle.std.specs.Prelude.{◌≡◌, drop};
 ghost use Rattle.fv_tree.specs.Meaning.{files_from, sections_from};
@@ -10,7 +10,7 @@ ghost use Rattle.fv_canon.specs.ImageWalks.{BeginsWithStarts};
 
 use fv_tree::{Body, Content, FileView, SectionView, VolumeView};
 
-// The starts behind those of the sections.
+// The starts after those of the sections.
 #[cycle(skip)]
 fn skip_sections<'s>(sections: &[SectionView<'_>], starts: &'s [u64]) -> &'s [u64]
     requires laid { BeginsWithStarts LaysSections (sections_from sections.now) starts.now }
@@ -23,7 +23,7 @@ fn skip_sections<'s>(sections: &[SectionView<'_>], starts: &'s [u64]) -> &'s [u6
     rest
 }
 
-// The starts behind those of a section's body.
+// The starts after those of a section's body.
 #[cycle(skip)]
 fn skip_body<'s>(body: &Body<'_>, starts: &'s [u64]) -> &'s [u64]
     requires laid { BeginsWithStarts LaysBody (body_view body.now) starts.now }
@@ -36,7 +36,7 @@ fn skip_body<'s>(body: &Body<'_>, starts: &'s [u64]) -> &'s [u64]
     }
 }
 
-// The starts behind those of a file's data.
+// The starts after those of a file's data.
 #[cycle(skip)]
 pub(crate) fn skip_content<'s>(content: &Content<'_>, starts: &'s [u64]) -> &'s [u64]
     requires laid { BeginsWithStarts LaysContent (content_view content.now) starts.now }
@@ -48,7 +48,7 @@ pub(crate) fn skip_content<'s>(content: &Content<'_>, starts: &'s [u64]) -> &'s 
     }
 }
 
-// The starts behind those of the files, which are the starts of the volumes in them.
+// The starts after those of the volumes in the files.
 #[cycle(skip)]
 fn skip_files<'s>(files: &[FileView<'_>], starts: &'s [u64]) -> &'s [u64]
     requires laid { BeginsWithStarts LaysFiles (files_from files.now) starts.now }
@@ -61,7 +61,7 @@ fn skip_files<'s>(files: &[FileView<'_>], starts: &'s [u64]) -> &'s [u64]
     rest
 }
 
-// The starts behind those of a volume: its own files, and the volumes in them.
+// The starts after those of a volume: of its own files, and of the volumes in them.
 #[cycle(skip)]
 fn skip_volume<'s>(volume: &VolumeView<'_>, starts: &'s [u64]) -> &'s [u64]
     requires laid { BeginsWithStarts LaysVolume volume.now starts.now }

@@ -1,19 +1,19 @@
-//! Where the files of a canonical image stand, once that is known.
+//! Where the files of a canonical image are placed.
 
 ghost use Rattle.std.specs.Prelude.{◌≡◌, ◌++◌, slice_get, take, drop};
 
 use std::marker::Model;
 
-/// Where the files of a canonical image stand: the starts of the volume's own files in their order,
-/// and behind them those of the files of the volumes inside it, each volume's own before those of
-/// the volumes inside that one, in the order in which the volumes lie. A start counts bytes from the
-/// start of the file's own volume. Contracts see the two parts. (PI specification, volume 3, section
-/// 3.2.3.1.)
+/// Where the files of a canonical image are placed. The starts of the volume's own files come
+/// first, in order. The starts of the files of the volumes inside it follow, in the order of these
+/// volumes; each volume's own files come before those of the volumes inside it. A start counts
+/// bytes from the start of the file's own volume. Contracts see the two parts. (PI specification,
+/// volume 3, section 3.2.3.1.)
 #[derive(Drop)]
 pub struct Layout {
     /// All starts.
     starts: Vec<u64>,
-    /// How many of them are those of the volume's own files.
+    /// How many of them belong to the volume's own files.
     own: usize,
 }
 
@@ -27,7 +27,7 @@ impl Model for Layout {
 }
 
 impl Layout {
-    // The layout of a volume with so many files of its own.
+    // The layout of a volume with `own` files of its own.
     pub(crate) fn new(starts: Vec<u64>, own: usize) -> Layout
         ensures own { result.own ≡ take own starts.items }
         ensures inner { result.inner ≡ drop own starts.items }
@@ -35,8 +35,8 @@ impl Layout {
         Layout { starts, own }
     }
 
-    /// Where the file of this number stands, counted from 0 in the order in which they lie, in bytes
-    /// from the volume's start; None past the last file.
+    /// The offset of file number `index`, counted from 0 in the order of the files, in bytes from
+    /// the volume's start; None past the last file.
     pub fn start(&self, index: u32) -> Option<u64>
         ensures { result ≡ slice_get self.now.own index }
     {

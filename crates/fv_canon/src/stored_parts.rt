@@ -13,8 +13,8 @@ use fv_base::{ByteList, Fault, ListSink};
 use fv_tree::{FileView, SectionView};
 use std::alloc::Global;
 
-/// The data of a file as its volume's canonical image has them. The whole length is reserved
-/// first. (PI specification, volume 3, section 3.2.3.)
+/// The data of a file as they are in its volume's canonical image. Memory for the whole length is
+/// reserved first. (PI specification, volume 3, section 3.2.3.)
 ///
 /// # Errors
 ///
@@ -22,10 +22,10 @@ use std::alloc::Global;
 pub fn file_bytes(alloc: Global, file: &FileView<'_>) -> Result<ByteList, Fault>
     ensures data { IfOk result (λ o. IsData (content_of file.now) o) }
 
-    // There are no others.
+    // No other bytes are.
     ensures only { (other : List ℕ) → IsData (content_of file.now) other → IfOk result (λ o. o ≡ other) }
 
-    // A refusal, want of memory aside, is that of the first volume that does not fit.
+    // Any error other than OutOfMemory is that of the first volume that does not fit.
     ensures err { IfErr result (λ f. (f ≡ want_of_memory) ⊎ UnfitContent (content_of file.now) 0 f) }
     ensures fits { FitsContent (content_of file.now) → IfErr result (λ f. f ≡ want_of_memory) }
 {
@@ -36,20 +36,20 @@ pub fn file_bytes(alloc: Global, file: &FileView<'_>) -> Result<ByteList, Fault>
     out.finish()
 }
 
-/// The body of a section as its volume's canonical image has it. The whole length is reserved
-/// first. (PI specification, volume 3, section 3.2.4.)
+/// The body of a section as it is in its volume's canonical image. Memory for the whole length is
+/// reserved first. (PI specification, volume 3, section 3.2.4.)
 ///
 /// # Errors
 ///
-/// The fault of the first volume in the body that does not fit, where a volume that is the body is
+/// The fault of the first volume in the body that does not fit; a volume that is the body itself is
 /// at depth 0. OutOfMemory.
 pub fn body_bytes(alloc: Global, section: &SectionView<'_>) -> Result<ByteList, Fault>
     ensures body { IfOk result (λ o. IsBodyImage (body_of section.now) o) }
 
-    // There is no other.
+    // No other bytes are.
     ensures only { (other : List ℕ) → IsBodyImage (body_of section.now) other → IfOk result (λ o. o ≡ other) }
 
-    // A refusal, want of memory aside, is that of the first volume that does not fit.
+    // Any error other than OutOfMemory is that of the first volume that does not fit.
     ensures err { IfErr result (λ f. (f ≡ want_of_memory) ⊎ UnfitAlone (body_of section.now) f) }
     ensures fits { FitsBody (body_of section.now) → IfErr result (λ f. f ≡ want_of_memory) }
 {

@@ -12,11 +12,11 @@ use Rattle.fv_command.specs.declared.depex_notes.DepexNote.{DepexNote}
 use Rattle.fv_command.specs.CheckTexts.{HeldDepex, AreCells, AreNotes, CheckText, depex_lines, pad_notes, verdict_line}
 use Rattle.fv_command.specs.PortViews.{Shown, Writes, WritingStops}
 
--- behind the notes that there were come those of some expressions
+-- the new notes are the old ones, followed by those of these expressions
 abbrev pub Noted : List HeldDepex → List DepexNote → List DepexNote → Type 0
 Noted xs old new = (more : List DepexNote) × (new ≡ old ++ more) × AreNotes xs more
 
--- the cells of the input, and of which polarity its erased bytes are; none where it is its own canonical image
+-- the cells of the input, and the polarity of its erased bytes; None if it is its own canonical image
 abbrev pub NotedCells : List ℕ → Bool → Option (List CellForm × Polarity) → Type 0
 NotedCells input same None = same ≡ true
 NotedCells input same (Some (cells, polarity)) = (m : Meaning) → Accepted input m → AreCells m input polarity cells
@@ -34,7 +34,7 @@ noted_lines tiled notes same = noted_pads tiled ++ (depex_lines notes ++ verdict
 abbrev pub InputChecks : List ℕ → Shown → Shown → Bool → Type 0
 InputChecks input w v same = (text : List ℕ) × CheckText input same text × Writes w v text
 
--- nothing was written, since memory ran out or the input is no volume; or a write failed in the text of the check
+-- nothing was written, because memory ran out or the input is no volume; or a write failed in the text of the check
 abbrev pub CheckStops : List ℕ → Shown → Shown → Fault → Type 0
 CheckStops input w v fault =
     ((v ≡ w) × ((fault ≡ want_of_memory) ⊎ NotRead input fault))

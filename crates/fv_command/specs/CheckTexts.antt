@@ -29,7 +29,7 @@ use Rattle.fv_command.specs.declared.depex_notes.DepexNote.{DepexNote}
 abbrev pub written_in : Polarity → List ℕ → ℕ
 written_in polarity bytes = count_by (λ x. not (x == erased_byte polarity)) bytes
 
--- the line of a pad that begins at an offset and has so many written data bytes
+-- the line of a pad at an offset whose data have n bytes that are not erased
 abbrev pub pad_text : ℕ → ℕ → List ℕ
 pad_text at n =
     codes "note pad at " ++ (decimal at ++ (codes " holds " ++ (decimal n ++ (codes " bytes" ++ line_feed))))
@@ -38,12 +38,12 @@ pad_text at n =
 abbrev pub pad_line : ℕ → ℕ → List ℕ
 pad_line at n = if n == 0 then [] else pad_text at n
 
--- what is noted of a cell: of a pad, the written ones of the data behind its header
+-- what is noted of a cell: for a pad, how many of its data bytes are not erased
 abbrev pub pad_note : Polarity → CellForm → List ℕ
 pad_note polarity (Pad at head payload) = pad_line at (written_in polarity payload)
 pad_note polarity _ = []
 
--- what is noted of some cells, in their order
+-- what is noted of some cells, in order
 abbrev pub pad_notes : Polarity → List CellForm → List ℕ
 pad_notes polarity cells = flat_map (pad_note polarity) cells
 
@@ -85,25 +85,25 @@ content_depexes name (Sectioned ss tail) = sections_depexes name (preorder ss)
 abbrev pub file_depexes : FileMeaning → List HeldDepex
 file_depexes (File name kind attributes content) = content_depexes name content
 
--- those in some files, in their order
+-- the expressions in some files, in order
 abbrev pub depexes_in : List FileMeaning → List HeldDepex
 depexes_in fs = flat_map file_depexes fs
 
--- the bytes spell an expression, and perhaps more bytes behind it
+-- the bytes spell an expression, and more bytes may follow it
 abbrev pub IsSpelled : HeldDepex → Type 0
 IsSpelled x = (ops : List Op) × (rest : List ℕ) × Spells x.phase ops rest x.bytes
 
--- what is noted of a fault of an expression that a file of this name holds
+-- what is noted of a fault of an expression in a file with this name
 abbrev pub note_of : Guid → DepexFault → DepexNote
 note_of name fault = record { name = name; number = depex_fault_number fault.kind; offset = fault.offset }
 
--- the bytes spell none, and this is noted of their first fault
+-- the bytes spell no expression, and the note is that of their first fault
 pub record IsNoted (x : HeldDepex) (note : DepexNote) : Type 0 where
   pub fault : DepexFault
   pub first : IsFirstOpFault x.phase x.bytes fault
   pub note_is : note ≡ note_of x.name fault
 
--- these are the notes of some expressions, in their order: one of each that is not spelled
+-- the notes of some expressions, in order: one for each that the bytes do not spell
 abbrev pub AreNotes : List HeldDepex → List DepexNote → Type 0
 AreNotes [] notes = notes ≡ []
 AreNotes (x ∷ xs) notes =
@@ -129,16 +129,16 @@ verdict_line false = codes "not canonical" ++ line_feed
 abbrev pub check_lines : Polarity → List CellForm → List DepexNote → Bool → List ℕ
 check_lines polarity cells notes same = pad_notes polarity cells ++ (depex_lines notes ++ verdict_line same)
 
--- a volume of this meaning has these cells, which tile it from its first file's place on, and an erased byte
--- of it is of this polarity
+-- a volume with this meaning has these cells, which tile it from its first file's offset on, and its erased bytes are
+-- of this polarity
 pub record AreCells (m : Meaning) (b : List ℕ) (polarity : Polarity) (cells : List CellForm) : Type 0 where
   pub extent : Extent
   pub front : BeginsVolume (head_of m) extent b
   pub polarity_is : polarity ≡ extent.polarity
   pub tiles : Tiles extent.file_system polarity extent.first cells (drop extent.first b)
 
--- the input is a volume; the text has a line for each pad that holds written bytes and for each dependency expression
--- that is refused, and tells at its end whether the input is the canonical image of its meaning
+-- the input is a volume. The text has a line for each pad that holds bytes which are not erased, and for each
+-- dependency expression that is rejected. Its last line says whether the input is the canonical image of its meaning
 pub record CheckText (input : List ℕ) (same : Bool) (text : List ℕ) : Type 0 where
   pub meaning : Meaning
   pub accepted : Accepted input meaning

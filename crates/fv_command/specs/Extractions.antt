@@ -1,4 +1,4 @@
--- What is extracted of a volume: the data of a file, or the body of one of its sections.
+-- What is extracted from a volume: the data of a file, or the body of one of its sections.
 use Rattle.std.specs.Prelude.{◌≡◌, ⊤, ℕ, List, Option, Some, None}
 use Rattle.fv_base.specs.declared.fault.Fault.{Fault}
 use Rattle.fv_canon.specs.Image.{IsData, IsBodyImage}
@@ -18,14 +18,14 @@ IsSectionPart (Some s) (Made bytes) = IsBodyImage (body_of s) bytes
 IsSectionPart None NotFound = ⊤
 IsSectionPart _ _ = ⊥
 
--- the body of this frame, as it stands; or there is none
+-- the body of this frame, as it is stored; or there is none
 abbrev pub IsFramePart : Option FrameForm → Extraction → Type 0
 IsFramePart (Some f) (Stored bytes) = bytes.now ≡ f.body
 IsFramePart None NotFound = ⊤
 IsFramePart _ _ = ⊥
 
--- what there is of the section of this type and instance: in preorder through groups; of a security core among the
--- frames of its data, where these are a stream (PI specification, volume 3, section 3.2.3)
+-- the section of this type and instance, or that there is none: in preorder through groups; for a security core, among
+-- the frames of its data, if these are a stream (PI specification, volume 3, section 3.2.3)
 pub record IsSectionOf (f : FileMeaning) (kind instance : ℕ) (answer : Extraction) : Type 0 where
   pub sections : (ss : SectionMeanings) (t : ℕ) → content_of f ≡ Sectioned ss t
       → IsSectionPart (section_of_type kind instance ss) answer
@@ -44,7 +44,7 @@ abbrev pub IsFilePart : FileMeaning → Option ℕ → ℕ → Extraction → Ty
 IsFilePart f None instance answer = IsFileData f answer
 IsFilePart f (Some kind) instance answer = IsSectionOf f kind instance answer
 
--- the part of the file of the part's name, if there is one
+-- the part of the file with the part's name, if there is such a file
 abbrev pub IsPart : Option FileMeaning → Part → Extraction → Type 0
 IsPart None part answer = answer ≡ NotFound
 IsPart (Some f) part answer = IsFilePart f part.section part.instance answer

@@ -1,4 +1,4 @@
--- What hexadecimal text says, and which is refused.
+-- What hexadecimal text spells, and which text is rejected.
 use Rattle.std.specs.Prelude.{◌≡◌, ◌<◌, ◌≤◌, ◌⊎◌, ℕ, Bool, true, List, Option, length}
 use Rattle.std.specs.Io.KnownBytes.{Consumes, IsAtEnd}
 use Rattle.fv_base.specs.declared.fault.Fault.{Fault}
@@ -25,7 +25,7 @@ pub record SpellsWhole (old new : Option (List ℕ)) (input : List ℕ) : Type 0
   pub spells : DigitsSpell (squeezed text) input
   pub small : length input ≤ volume_limit
 
--- text that is no even number of digits, white space aside
+-- the text is not an even number of digits, white space left out
 abbrev pub IsNoText : List ℕ → Type 0
 IsNoText text = (bytes : List ℕ) → DigitsSpell (squeezed text) bytes → ⊥
 
@@ -33,7 +33,7 @@ IsNoText text = (bytes : List ℕ) → DigitsSpell (squeezed text) bytes → ⊥
 abbrev pub IsLongText : List ℕ → Type 0
 IsLongText text = (bytes : List ℕ) × DigitsSpell (squeezed text) bytes × (volume_limit < length bytes)
 
--- why the text gave no input, by the kind of the fault, at an offset; and whether the port has erred
+-- why the text gave no input, by the kind of the fault and its offset; and whether the port has erred
 abbrev pub TextStopsFor : FaultKind → Option (List ℕ) → Option (List ℕ) → Bool → ℕ → Type 0
 TextStopsFor kinds.ReadFault old new erred n =
     (GaveCount old new n × (erred ≡ true))

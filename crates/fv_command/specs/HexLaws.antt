@@ -1,4 +1,4 @@
--- The laws of a sink that puts lines of digits. They are proofs, and stand in specs/ since a ghost member cites the
+-- The laws of a sink that writes lines of digits. They are proofs. They are in specs/ because a ghost member cites the
 -- last of them.
 -- Serves private clauses alone: there is nothing to believe here.
 use Rattle.std.proofs.Common.{ℕ, List, [], ◌∷◌, ◌++◌, sym, ◌∙◌, ap, subst, append_assoc, append-nil}

@@ -11,7 +11,7 @@ abbrev pub squeezed : List ℕ → List ℕ
 squeezed [] = []
 squeezed (c ∷ cs) = if is_space c then squeezed cs else (c ∷ squeezed cs)
 
--- two digits, of either case, are a byte: the high one first
+-- two digits, in upper or lower case, are a byte: the high one first
 pub record IsPair (h l byte : ℕ) : Type 0 where
   pub high : ℕ
   pub low : ℕ

@@ -1,4 +1,4 @@
--- The text by which some bytes go out: as they are, or as lines of hexadecimal digits.
+-- The text in which bytes are written: as they are, or as lines of hexadecimal digits.
 use Rattle.std.specs.Prelude.{◌≡◌, ◌<◌, ℕ, List, [], ◌∷◌, ◌++◌, Bool, true, false, length}
 use Rattle.std.specs.List.{AllByRecursion, concat, flat_map}
 use Rattle.hex.specs.Hex.{encode_lower}
@@ -20,7 +20,7 @@ last_text (x ∷ b) = line_text (x ∷ b)
 abbrev pub IsWholeLine : List ℕ → Type 0
 IsWholeLine b = length b ≡ 32
 
--- the text has a line for each 32 of the bytes, and one for what is left
+-- the text has a line for every 32 of the bytes, and one for what is left
 pub record IsHexText (bytes text : List ℕ) : Type 0 where
   pub lines : List (List ℕ)
   pub last : List ℕ
@@ -29,7 +29,7 @@ pub record IsHexText (bytes text : List ℕ) : Type 0 where
   pub short : length last < 32
   pub text_is : text ≡ lines_text lines ++ last_text last
 
--- the text by which the bytes go out: themselves, or as lines of digits
+-- the text in which the bytes are written: themselves, or as lines of digits
 abbrev pub ShowsBytes : Bool → List ℕ → List ℕ → Type 0
 ShowsBytes false bytes text = text ≡ bytes
 ShowsBytes true bytes text = IsHexText bytes text

@@ -9,21 +9,21 @@ use Rattle.fv_command.specs.VolumeStandings.{IsStanding}
 use Rattle.fv_command.specs.declared.hob_text.Standing.{Standing}
 use Rattle.fv_command.specs.declared.hob_text.Standing.TheVariants.{Outside, Volume, Absent}
 
--- the bytes of an image, and the address of the first
+-- the bytes of an image, and the address of the first byte
 pub record ImageForm : Type 0 where
   pub bytes : List ℕ
   pub base : ℕ
 
--- the image of these bytes, where there is a base
+-- the image with these bytes, if there is a base
 abbrev pub image_form : Option ℕ → List ℕ → Option ImageForm
 image_form None bytes = None
 image_form (Some base) bytes = Some (record { bytes = bytes; base = base })
 
--- a number below 65536 by four lower-case hexadecimal digits
+-- the four lower-case hexadecimal digits of a number below 65536
 abbrev pub four_digits : ℕ → List ℕ
 four_digits n = encode_lower (n / 256 ∷ n % 256 ∷ [])
 
--- the line of a block of this type and length, with a word behind it
+-- the line of a block of this type and length, with a text after it
 abbrev pub hob_line : ℕ → ℕ → List ℕ → List ℕ
 hob_line code n word = codes "hob " ++ (four_digits code ++ (codes " length " ++ (decimal n ++ (word ++ line_feed))))
 
@@ -31,20 +31,20 @@ hob_line code n word = codes "hob " ++ (four_digits code ++ (codes " length " ++
 abbrev pub consumed_line : ℕ → List ℕ
 consumed_line n = codes "consumed " ++ (decimal n ++ line_feed)
 
--- what is said of a volume, behind a space
+-- what is said of a volume, after a space
 abbrev pub standing_word : Standing → List ℕ
 standing_word Outside = codes " outside"
 standing_word Volume = codes " volume"
 standing_word Absent = codes " absent"
 
--- the word of the volume that should lie in a span; none, where there is no image or no span
+-- the text for the volume that should be in a span; it is empty if there is no image or no span
 abbrev pub IsSpanWord : Option ImageForm → Option Span → List ℕ → Type 0
 IsSpanWord None span word = word ≡ []
 IsSpanWord (Some image) None word = word ≡ []
 IsSpanWord (Some image) (Some span) word =
     (s : Standing) × IsStanding image.bytes image.base span s × (word ≡ standing_word s)
 
--- the word of the volume that a block names
+-- the text for the volume that a block describes
 abbrev pub IsWord : Option ImageForm → HobForm → List ℕ → Type 0
 IsWord image h word = IsSpanWord image (span_of h.kind) word
 
@@ -54,7 +54,7 @@ HobLines image [] text = text ≡ []
 HobLines image (h ∷ hs) text = (word : List ℕ) × (rest : List ℕ) × IsWord image h word
     × (text ≡ hob_line (hob_type h.kind) (hob_len h.kind) word ++ rest) × HobLines image hs rest
 
--- those, and how many bytes the list has
+-- those lines, and how many bytes the list has
 abbrev pub HobsText : Option ImageForm → List HobForm → ℕ → List ℕ → Type 0
 HobsText image hobs consumed text =
     (lines : List ℕ) × HobLines image hobs lines × (text ≡ lines ++ consumed_line consumed)

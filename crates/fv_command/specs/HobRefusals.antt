@@ -1,4 +1,4 @@
--- Words of a run over a hand-off list: the image that it holds, and why it stopped.
+-- Definitions for a run over a hand-off list: the image that it holds, and why it stopped.
 -- Serves private clauses alone: there is nothing to believe here.
 use Rattle.std.specs.Prelude.{◌≡◌, ℕ, Option, None, Some, Bool}
 use Rattle.fv_command.specs.declared.hob_text.Image.{Image}

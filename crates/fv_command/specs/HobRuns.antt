@@ -1,4 +1,4 @@
--- A run over a hand-off list, and over the image that its volumes should lie in.
+-- A run over a hand-off list, and over the image that should hold its volumes.
 use Rattle.std.specs.Prelude.{◌≡◌, ◌≤◌, ◌⊎◌, ℕ, Bool, List, [], Option, Some, None, length, take}
 use Rattle.fv_base.specs.declared.fault.Fault.{Fault}
 use Rattle.fv_hob.specs.HobChecks.{IsFirstHobFault, hob_fault_number, hob_want_of_memory}
@@ -12,12 +12,12 @@ use Rattle.fv_command.specs.PortViews.{Change, Ports, Writes, WritesOrStops, Wri
 use Rattle.fv_command.specs.declared.status.Status.{Status}
 use Rattle.fv_command.specs.declared.status.Status.TheVariants.{Done, Refused}
 
--- with a base an image was read to its end; with none nothing was read, and there are no bytes
+-- with a base, an image was read to its end; without one, nothing was read, and there are no bytes
 abbrev pub GivesImage : Bool → Option ℕ → Change → List ℕ → Type 0
 GivesImage hex None input bytes = (input.new ≡ input.old) × (bytes ≡ [])
 GivesImage hex (Some base) input bytes = Gives hex input.old input.new bytes
 
--- the reading of the image stopped, where there is a base
+-- the reading of the image stopped; there is a base
 abbrev pub HobImageStops : Bool → Option ℕ → Change → Fault → Type 0
 HobImageStops hex None input fault = ⊥
 HobImageStops hex (Some base) input fault = GivingStops hex input.old input.new fault
@@ -48,13 +48,13 @@ RefusesHobs hex base first second fault =
     (list : List ℕ) × (image : List ℕ) × Gives hex first.old first.new list × GivesImage hex base second image
     × ((fault ≡ hob_want_of_memory) ⊎ IsFirstHobFault list fault)
 
--- an input stopped the run, and nothing was written; or the writer did, in the lines
+-- an input stopped the run, and nothing was written; or the writer stopped in the lines
 abbrev pub FaultStopsHobs : Bool → Option ℕ → (first second output : Change) → Fault → Type 0
 FaultStopsHobs hex base first second output fault =
     ((output.new ≡ output.old) × HobInputStops hex base first second fault)
     ⊎ ListsHobs hex base first second (λ text. WritingStops output.old output.new text fault)
 
--- the list was refused, and then the line of this fault was written, or a write failed in it
+-- the list was rejected, and then the line of this fault was written, or a write failed in it
 abbrev pub TellsHobs : Bool → Option ℕ → Ports → Type 0
 TellsHobs hex base ports =
     (fault : HobFault) × RefusesHobs hex base ports.first ports.second fault

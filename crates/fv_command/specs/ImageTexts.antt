@@ -1,4 +1,4 @@
--- How the canonical image of a volume goes out.
+-- How the canonical image of a volume is written.
 -- Serves private clauses alone: there is nothing to believe here.
 use Rattle.std.specs.Prelude.{◌≡◌, ◌⊎◌, ℕ, List, Bool}
 use Rattle.fv_base.specs.Faults.{want_of_memory}
@@ -13,7 +13,7 @@ abbrev pub ShowsImage : Bool → List ℕ → Shown → Shown → Type 0
 ShowsImage hex input old new =
     (image : List ℕ) × (text : List ℕ) × NormalisesTo input image × ShowsBytes hex image text × Writes old new text
 
--- nothing was written: out of memory, or the input is refused; or a write failed in the text of the image
+-- nothing was written: memory ran out, or the input is rejected; or a write failed in the text of the image
 abbrev pub StopsImage : Bool → List ℕ → Shown → Shown → Fault → Type 0
 StopsImage hex input old new fault =
     ((new ≡ old) × ((fault ≡ want_of_memory) ⊎ Refuses input fault))

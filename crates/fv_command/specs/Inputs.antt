@@ -1,4 +1,4 @@
--- What a run reads, and how it tells what stopped it.
+-- What a run reads, and how it reports what stopped it.
 use Rattle.std.specs.Prelude.{◌≡◌, ◌≤◌, ℕ, Bool, true, false, List, length, take}
 use Rattle.fv_base.specs.Faults.{fault_number}
 use Rattle.fv_base.specs.Input.{ReadsWhole, ReadStops}
@@ -16,13 +16,13 @@ abbrev pub Gives : Bool → Shown → Shown → List ℕ → Type 0
 Gives false old new input = ReadsWhole old.bytes new.bytes input
 Gives true old new input = SpellsWhole old.bytes new.bytes input
 
--- the reading of an input stopped; where the reader is to blame, one of its calls has failed
+-- the reading of an input stopped; if the reader is to blame, one of its calls has failed
 abbrev pub GivingStops : Bool → Shown → Shown → Fault → Type 0
 GivingStops false old new fault =
     ReadStops old.bytes new.bytes fault × (old.erred ≡ false → fault.kind ≡ kinds.ReadFault → new.erred ≡ true)
 GivingStops true old new fault = TextStops old.bytes new.bytes new.erred fault
 
--- an input begins with a volume of this meaning
+-- an input begins with a volume with this meaning
 abbrev pub BeginsWith : List ℕ → Meaning → Type 0
 BeginsWith input m = (n : ℕ) × (n ≤ length input) × Accepted (take n input) m
 
@@ -31,7 +31,7 @@ pub record BeginsNone (input : List ℕ) (fault : Fault) : Type 0 where
   pub none : (m : Meaning) → BeginsWith input m → ⊥
   pub first : IsFirstOfVolume input fault
 
--- a run stopped for some fault, and then the line of this fault was written, unless a write had failed
+-- a run stopped with some fault, and then the line of this fault was written, unless a write had failed
 abbrev pub TellsStop : (Change → Fault → Type 0) → Change → Type 0
 TellsStop stops output =
     (fault : Fault) × (between : Shown) × stops (record { old = output.old; new = between }) fault

@@ -21,12 +21,12 @@ side_fault_line sides.First number at = codes "first " ++ fault_line number at
 side_fault_line sides.Second number at = codes "second " ++ fault_line number at
 side_fault_line sides.Output number at = []
 
--- after a failed write nothing more is written; else the line is, or a write fails in it
+-- after a failed write nothing more is written; else the line is written, or a write fails in it
 pub record TellsFault (fault : Fault) (line : List ℕ) (old new : Shown) : Type 0 where
   pub silent : fault.kind ≡ kinds.WriteFault → new ≡ old
   pub said : fault.kind ≢ kinds.WriteFault → WritesOrStops old new line
 
--- where the output stopped, nothing more is written; else the line of the side is, or a write fails in it
+-- if the output stopped, nothing more is written; else the line of the side is written, or a write fails in it
 abbrev pub TellsSideFault : Side → Fault → Shown → Shown → Type 0
 TellsSideFault sides.Output fault old new = new ≡ old
 TellsSideFault side fault old new =

@@ -1,5 +1,5 @@
--- The text of `list`: a line for a volume, for each of its files and for each section of these, in their order. What a
--- part holds follows its line, two spaces further in.
+-- The text of `list`: a line for a volume, for each of its files and for each section of these, in order. What a part
+-- holds follows its line, indented by two more spaces.
 use Rattle.std.specs.Prelude.{◌≡◌, ◌≢◌, ◌⊎◌, ℕ, zero, suc, ◌+◌, ◌==◌, ◌&&◌, nat_le, not, Bool, true, false}
 use Rattle.std.specs.Prelude.{if◌then◌else◌, List, [], ◌∷◌, ◌++◌, length, Option, Some, None, codes, decimal}
 use Rattle.std.specs.List.{flat_map}
@@ -21,7 +21,7 @@ use Rattle.fv_command.specs.HobLines.{four_digits}
 
 -- ---- what a leaf shows
 
--- the units 0020 to 007E but the quote (0022) and the backslash (005C) are plain
+-- the units 0020 to 007E are plain, except the quote (0022) and the backslash (005C)
 abbrev pub is_plain : ℕ → Bool
 is_plain unit = nat_le 0x20 unit && (nat_le unit 0x7e && (not (unit == 0x22) && not (unit == 0x5c)))
 
@@ -29,7 +29,7 @@ is_plain unit = nat_le 0x20 unit && (nat_le unit 0x7e && (not (unit == 0x22) && 
 abbrev pub unit_text : ℕ → List ℕ
 unit_text unit = if is_plain unit then unit ∷ [] else codes "\\u" ++ four_digits unit
 
--- what is held is shown by a text, and where nothing is held the text is empty
+-- the text shows what holds; if nothing does, it is empty
 abbrev pub Shows : {A : Type 0} → (A → Type 0) → (A → List ℕ) → List ℕ → Type 0
 Shows {A = A} Holds shown text = ((x : A) × Holds x × (text ≡ shown x)) ⊎ (((x : A) → Holds x → ⊥) × (text ≡ []))
 
@@ -55,7 +55,7 @@ pub record LeafText (kind : ℕ) (b text : List ℕ) : Type 0 where
   pub subtype : kind ≡ 0x18 → SubtypeText b text
   pub other : kind ≢ 0x14 → kind ≢ 0x15 → kind ≢ 0x18 → text ≡ []
 
--- what is shown of the body of a section: nothing, where it is no leaf
+-- what is shown of the body of a section: nothing, if it is no leaf
 abbrev pub BodyShown : ℕ → BodyMeaning → List ℕ → Type 0
 BodyShown kind (Leaf b) text = LeafText kind b text
 BodyShown kind (Group _ _) text = text ≡ []
@@ -72,7 +72,7 @@ spaces (suc k) = codes "  " ++ spaces k
 abbrev pub two_digits : ℕ → List ℕ
 two_digits n = encode_lower (n ∷ [])
 
--- the line of a volume k levels further in, with its name, where it has an extended header
+-- the line of a volume, indented by k levels; it has the volume's name if there is an extended header
 abbrev pub system_text : FileSystem → List ℕ
 system_text Ffs2 = codes "volume ffs2 length "
 system_text Ffs3 = codes "volume ffs3 length "
@@ -86,7 +86,7 @@ volume_text k m =
     spaces k ++ (system_text (head_of m).file_system ++ (decimal (head_of m).length ++ (codes " files "
     ++ (decimal (length (files_of m)) ++ (name_text (head_of m).ext ++ line_feed)))))
 
--- the line of a file, which has the number i in its volume
+-- the line of a file, which is number i in its volume
 abbrev pub file_text : ℕ → ℕ → FileMeaning → List ℕ
 file_text k i f =
     spaces k ++ (codes "file " ++ (decimal i ++ (codes " " ++ (guid_text (bytes_of (file_name_of f))
@@ -94,7 +94,7 @@ file_text k i f =
     ++ (codes " attributes " ++ (two_digits (attributes_of f)
     ++ (codes " data " ++ (decimal (data_len_of f) ++ line_feed))))))))))
 
--- the line of a section, which has the number j in its stream and of whose body this is shown
+-- the line of a section, which is number j in its stream; `shown` is what is shown of its body
 abbrev pub form_text : Bool → List ℕ
 form_text true = codes " extended body "
 form_text false = codes " short body "
@@ -107,18 +107,18 @@ section_text k j s shown =
 -- ---- the walk
 
 abbrev mutual
-  -- the line of a volume k levels further in, and the lines of its files
+  -- the line of a volume, indented by k levels, and the lines of its files
   pub VolumeLines : ℕ → Meaning → List ℕ → Type 0
   VolumeLines k (Volume head files) text =
       (rest : List ℕ) × (text ≡ volume_text k (Volume head files) ++ rest) × FilesLines (k + 1) 0 files rest
 
-  -- those of files, of which the first has the number i
+  -- the lines of files, the first of which is number i
   pub FilesLines : ℕ → ℕ → FileMeanings → List ℕ → Type 0
   FilesLines k i NoFiles text = text ≡ []
   FilesLines k i (MoreFiles f files) text =
       (here : List ℕ) × (rest : List ℕ) × (text ≡ here ++ rest) × FileLines k i f here × FilesLines k (i + 1) files rest
 
-  -- the line of a file, and those of its sections, where it holds some
+  -- the line of a file, and those of its sections, if it holds any
   pub FileLines : ℕ → ℕ → FileMeaning → List ℕ → Type 0
   FileLines k i (File name kind attributes content) text =
       (rest : List ℕ) × (text ≡ file_text k i (File name kind attributes content) ++ rest)
@@ -128,14 +128,14 @@ abbrev mutual
   ContentLines k (Plain b) text = text ≡ []
   ContentLines k (Sectioned sections tail) text = SectionsLines k 0 sections text
 
-  -- those of sections, of which the first has the number j
+  -- the lines of sections, the first of which is number j
   pub SectionsLines : ℕ → ℕ → SectionMeanings → List ℕ → Type 0
   SectionsLines k j NoSections text = text ≡ []
   SectionsLines k j (MoreSections s sections) text =
       (here : List ℕ) × (rest : List ℕ) × (text ≡ here ++ rest) × SectionLines k j s here
       × SectionsLines k (j + 1) sections rest
 
-  -- the line of a section, and those of what it holds, where it is no leaf
+  -- the line of a section, and those of what it holds, if it is no leaf
   pub SectionLines : ℕ → ℕ → SectionMeaning → List ℕ → Type 0
   SectionLines k j (Section kind extended body) text =
       (shown : List ℕ) × (rest : List ℕ) × BodyShown kind body shown
@@ -146,6 +146,6 @@ abbrev mutual
   BodyLines k (Group sections tail) text = SectionsLines k 0 sections text
   BodyLines k (Nested volume) text = VolumeLines k volume text
 
--- the text of `list` of a volume of this meaning
+-- the text of `list` for a volume with this meaning
 abbrev pub ListText : Meaning → List ℕ → Type 0
 ListText m text = VolumeLines 0 m text

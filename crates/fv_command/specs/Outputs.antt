@@ -10,6 +10,6 @@ output_of o = o.writer
 abbrev pub has_failed : {W : Type 0} → Output W → Bool
 has_failed o = o.failed
 
--- the bytes that the writer inside holds, where they are known
+-- the bytes that the writer inside holds, if they are known
 abbrev pub output_contents : {W : Type 0} → (W → Option (List ℕ)) → Output W → Option (List ℕ)
 output_contents contents o = contents o.writer

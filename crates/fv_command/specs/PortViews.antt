@@ -6,8 +6,8 @@ use Rattle.fv_base.specs.declared.fault.Fault.{Fault}
 use Rattle.fv_base.specs.declared.fault.FaultKind.TheVariants as kinds
 use Rattle.fv_base.specs.declared.port.Port.{Port}
 
--- what a port shows: what its reader has left, or its writer holds, where that is known, and whether
--- one of its calls has failed
+-- what a port shows: what its reader has left, or what its writer holds, if that is known; and whether one of its calls
+-- has failed
 pub record Shown : Type 0 where
   pub bytes : Option (List ℕ)
   pub erred : Bool
@@ -37,7 +37,7 @@ pub record Ports : Type 0 where
 abbrev pub Writes : Shown → Shown → List ℕ → Type 0
 Writes old new text = Appends old.bytes new.bytes text × (new.erred ≡ old.erred)
 
--- a write failed in a text: a front of it was written, not all of it, and nothing else
+-- a write failed in a text: the first n bytes of it were written, fewer than all, and nothing else
 abbrev pub StopsIn : Shown → Shown → List ℕ → Type 0
 StopsIn old new text = (n : ℕ) × (n < length text) × Appends old.bytes new.bytes (take n text) × (new.erred ≡ true)
 

@@ -11,7 +11,7 @@ use Rattle.fv_command.specs.declared.plan.Plan.{Plan}
 use Rattle.fv_command.specs.declared.status.Status.{Status}
 
 -- a run of a command, by its status: what was read of the first input and of the second, and what was written. A task
--- reads nothing of the second
+-- reads nothing of the second input
 abbrev pub RunsCommand : Command → Bool → Status → Ports → Type 0
 RunsCommand (Single task file) hex status ports =
     (ports.second.new ≡ ports.second.old) × RunsTask task hex status ports.first ports.output

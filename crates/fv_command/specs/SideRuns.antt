@@ -15,26 +15,26 @@ use Rattle.fv_command.specs.PortViews.{Change, Ports, Shown, WritingStops}
 use Rattle.fv_command.specs.declared.status.Status.{Status}
 use Rattle.fv_command.specs.declared.status.Status.TheVariants.{Done, Different, Refused, WrongWords}
 
--- an input was read to its end, and is a volume of this meaning
+-- an input was read to its end, and is a volume with this meaning
 abbrev pub GivesVolume : Bool → Change → Meaning → Type 0
 GivesVolume hex input m = (bytes : List ℕ) × Gives hex input.old input.new bytes × Accepted bytes m
 
--- an input stopped the run: while it was read, or since it is no volume, or memory ran out
+-- an input stopped the run: while it was read, or because it is no volume, or because memory ran out
 abbrev pub VolumeInputStops : Bool → Change → Fault → Type 0
 VolumeInputStops hex input fault =
     GivingStops hex input.old input.new fault
     ⊎ ((bytes : List ℕ) × Gives hex input.old input.new bytes × VolumeStops bytes fault)
 
--- both inputs are volumes, the answer is whether they mean the same, and the line of where they
--- first differ was written, with no failed write
+-- both inputs are volumes, the result says whether they have the same meaning, and the line of where they first differ
+-- was written, with no failed write
 abbrev pub ComparesRead : Bool → Ports → Bool → Type 0
 ComparesRead hex ports same =
     (m : Meaning) × (k : Meaning) × GivesVolume hex ports.first m × GivesVolume hex ports.second k
     × Compares m k ports.output.old.bytes ports.output.new.bytes same
     × (ports.output.new.erred ≡ ports.output.old.erred)
 
--- the side says what stopped the run. The second input is read only after a first that is a volume, and nothing is
--- written before both are read; then the line is, and the writer may stop in it
+-- the side says what stopped the run. The second input is read only after a first that is a volume. Nothing is written
+-- before both are read; then the line is written, and the writer may stop in it
 abbrev pub SideStops : Side → Bool → (first second output : Change) → Fault → Type 0
 SideStops sides.First hex first second output fault =
     (output.new ≡ output.old)

@@ -12,7 +12,8 @@ use Rattle.fv_command.specs.declared.status.Status.TheVariants.{Done, Different,
 abbrev pub SaysInput : Task → Bool → List ℕ → Shown → Shown → Status → Type 0
 SaysInput task hex input w v status = (text : List ℕ) × Says task hex input status text × Writes w v text
 
--- nothing was written, since the task says nothing of the input; or the writer stopped in what it says
+-- nothing was written, because the task rejects the input or memory ran out; or the writer stopped in what the task
+-- writes
 abbrev pub StopsInput : Task → Bool → List ℕ → Shown → Shown → Fault → Type 0
 StopsInput task hex input w v fault =
     ((v ≡ w) × Denies task input fault)
@@ -23,7 +24,7 @@ abbrev pub SaysRead : Task → Bool → (input output : Change) → Status → T
 SaysRead task hex input output status =
     (bytes : List ℕ) × Gives hex input.old input.new bytes × SaysInput task hex bytes output.old output.new status
 
--- the run stopped while it read, and nothing was written; or after an input that it had read to its end
+-- the run stopped while it read, and nothing was written; or it stopped after an input that it had read to its end
 abbrev pub StopsRead : Task → Bool → (input output : Change) → Fault → Type 0
 StopsRead task hex input output fault =
     ((output.new ≡ output.old) × GivingStops hex input.old input.new fault)

@@ -7,7 +7,7 @@ use Rattle.fv_command.specs.TaskRuns.{SaysInput, StopsInput}
 use Rattle.fv_command.specs.declared.plan.Task.{Task}
 use Rattle.fv_command.specs.declared.status.Status.{Status}
 
--- by its status or its fault
+-- what a task did, by its status or its fault
 abbrev pub Performs : Task → Bool → List ℕ → Shown → Shown → Result Status Fault → Type 0
 Performs task hex input w v (Ok status) = SaysInput task hex input w v status
 Performs task hex input w v (Err fault) = StopsInput task hex input w v fault

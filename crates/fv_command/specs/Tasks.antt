@@ -22,7 +22,7 @@ use Rattle.fv_command.specs.declared.plan.Task.{Task}
 use Rattle.fv_command.specs.declared.plan.Task.TheVariants.{Normalise, NormaliseAll, List as Listing, Extract, Check}
 use Rattle.fv_command.specs.declared.plan.Task.TheVariants.{Scan}
 
--- what is said of a part, and with which status: its bytes, or that there is none
+-- what is written of a part, and with which status: its bytes, or that there is no such part
 abbrev pub PartText : Bool → Extraction → Status → List ℕ → Type 0
 PartText hex (Made bytes) Done text = ShowsBytes hex bytes text
 PartText hex (Stored bytes) Done text = ShowsBytes hex bytes.now text
@@ -30,7 +30,7 @@ PartText hex NotFound Different text = text ≡ codes "not found\n"
 PartText hex NotSectioned Different text = text ≡ codes "not sectioned\n"
 PartText hex x status text = ⊥
 
--- what a task says of its input, and with which status
+-- what a task writes of its input, and with which status
 abbrev pub Says : Task → Bool → List ℕ → Status → List ℕ → Type 0
 Says Normalise hex input Done text = (image : List ℕ) × NormalisesTo input image × ShowsBytes hex image text
 Says NormaliseAll hex input Done text = (image : List ℕ) × NormalisesAll input image × ShowsBytes hex image text
@@ -43,7 +43,7 @@ Says Check hex input Different text = CheckText input false text
 Says Scan hex input Done text = (offsets : List ℕ) × Found input offsets × ScanText input offsets text
 Says task hex input status text = ⊥
 
--- why it says nothing of its input
+-- why a task writes nothing of its input
 abbrev pub Denies : Task → List ℕ → Fault → Type 0
 Denies Normalise input fault = (fault ≡ want_of_memory) ⊎ Refuses input fault
 Denies NormaliseAll input fault = (fault ≡ want_of_memory) ⊎ RefusesAll input fault

@@ -1,4 +1,4 @@
--- What an image holds where a volume should lie.
+-- What an image holds where a volume should be.
 use Rattle.std.specs.Prelude.{◌≡◌, ◌≤◌, ℕ, ◌+◌, ◌-◌, List, length, take, drop}
 use Rattle.fv_head.specs.Head.{HeadFields, BeginsVolume}
 use Rattle.fv_head.specs.declared.extent.Extent.{Extent}
@@ -6,7 +6,7 @@ use Rattle.fv_hob.specs.declared.span.Span.{Span}
 use Rattle.fv_command.specs.declared.hob_text.Standing.{Standing}
 use Rattle.fv_command.specs.declared.hob_text.Standing.TheVariants.{Outside, Volume, Absent}
 
--- the span lies within so many bytes, the first of which has the address base
+-- the span is within n bytes, the first of which has the address `base`
 abbrev pub IsWithin : ℕ → ℕ → Span → Type 0
 IsWithin base n s = (base ≤ s.base) × (s.base + s.length ≤ base + n)
 
@@ -14,11 +14,11 @@ IsWithin base n s = (base ≤ s.base) × (s.base + s.length ≤ base + n)
 abbrev pub bytes_in_span : List ℕ → ℕ → Span → List ℕ
 bytes_in_span image base s = take s.length (drop (s.base - base) image)
 
--- bytes that a volume begins, and fills
+-- the bytes are a volume, and all of them belong to it
 abbrev pub IsWholeVolume : List ℕ → Type 0
 IsWholeVolume b = (h : HeadFields) × (e : Extent) × BeginsVolume h e b × (e.length ≡ length b)
 
--- the span is not within the image; or it is, and its bytes are a whole volume, or are not
+-- the span is not within the image; or it is, and its bytes are a whole volume, or they are not
 abbrev pub IsStanding : List ℕ → ℕ → Span → Standing → Type 0
 IsStanding image base s Outside = IsWithin base (length image) s → ⊥
 IsStanding image base s Volume = IsWithin base (length image) s × IsWholeVolume (bytes_in_span image base s)

@@ -12,25 +12,25 @@ use fv_canon::{is_canonical_image, whole_volume};
 use std::alloc::Global;
 use std::io::Write;
 
-/// Writes a line for each pad of the volume that the input is which holds written bytes, then one
-/// for each dependency expression of its files that is refused, and last whether the input is its
-/// own canonical image. Returns whether it is. Nothing is written before the whole input and every
-/// expression have been read.
+/// Writes the lines of a check: one for each pad of the input's volume that holds bytes which are
+/// not erased, one for each dependency expression of its files that is rejected, and last whether
+/// the input is its own canonical image. Returns whether it is. Nothing is written before the whole
+/// input and every expression have been read.
 ///
 /// # Errors
 ///
-/// Those of `whole_volume`; OutOfMemory; nothing was written then. WriteFault, where a write fails or
-/// takes no byte: a front of the lines was written, and not all of them.
+/// Those of `whole_volume`; OutOfMemory; nothing was written then. WriteFault if a write fails or
+/// takes no byte; the first bytes of the lines were written then, and not all of them.
 pub fn write_check<W: Write>(
     alloc: Global,
     input: &[u8],
     writer: &mut Port<W>,
 ) -> Result<bool, Fault>
-    // The lines of the check were written, and their last says the same as the result.
+    // The lines of the check were written, and the last of them says the same as the result.
     ensures ok { IfOk result (InputChecks input.now (shown W.contents writer.old)
         (shown W.contents writer.new)) }
 
-    // Nothing was, or a write failed in them.
+    // Nothing was written, or a write failed in them.
     ensures err { IfErr result (CheckStops input.now (shown W.contents writer.old)
         (shown W.contents writer.new)) }
 {

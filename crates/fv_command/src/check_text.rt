@@ -12,7 +12,7 @@ use fv_canon::put_decimal;
 use fv_file::Cells;
 use std::io::Write;
 
-// Puts the line of a dependency expression that is refused.
+// Puts the line of a dependency expression that is rejected.
 fn put_note<S: Sink>(out: &mut S, note: &DepexNote)
     ensures { S.takes out.old (depex_line note.now) out.new }
 {
@@ -25,7 +25,7 @@ fn put_note<S: Sink>(out: &mut S, note: &DepexNote)
     out.put(b"\n");
 }
 
-// Puts the lines of the dependency expressions that are refused.
+// Puts the lines of the dependency expressions that are rejected.
 fn put_notes<S: Sink>(out: &mut S, notes: &[DepexNote])
     ensures { S.takes out.old (depex_lines notes.now) out.new }
 {
@@ -59,11 +59,12 @@ fn put_check<S: Sink>(
     put_verdict(out, is_same);
 }
 
-/// Writes the lines of a check. None stands for the cells of an image, none of whose pads is noted.
+/// Writes the lines of a check. If `tiled` is None, no pad is noted: the volume is its own
+/// canonical image.
 ///
 /// # Errors
 ///
-/// WriteFault, where a write fails or takes no byte.
+/// WriteFault if a write fails or takes no byte.
 pub fn write_lines<W: Write>(
     writer: &mut Port<W>,
     tiled: Option<&(Cells<'_>, Polarity)>,

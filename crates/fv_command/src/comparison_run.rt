@@ -35,7 +35,7 @@ fn read_side<R: Read>(
     }
 }
 
-// The volume that the bytes of a side are.
+// The volume of the whole input of a side.
 fn accept_side(alloc: Global, side: Side, bytes: &[u8]) -> Result<VolumeView<'_>, (Side, Fault)>
     ensures ok { IfOk result (λ view. Accepted bytes.now view) }
     ensures err { IfErr result (λ e. (e.0 ≡ side) × VolumeStops bytes.now e.1) }
@@ -46,9 +46,9 @@ fn accept_side(alloc: Global, side: Side, bytes: &[u8]) -> Result<VolumeView<'_>
     }
 }
 
-// Writes whether the two volumes that the readers give mean the same and, where they do not,
-// where they first differ. Answers whether they do. The second is read only behind a first that
-// is a volume. A fault is told with the side that stopped the run, as by `run_compare`.
+// Writes whether the two volumes that the readers give have the same meaning and, if not, where
+// they first differ. Returns whether they have. The second is read only after a first that is a
+// volume. A fault is returned with the side that stopped the run, as by `run_compare`.
 fn compare<First: Read, Second: Read, W: Write>(
     alloc: Global,
     hex: bool,
@@ -71,7 +71,7 @@ fn compare<First: Read, Second: Read, W: Write>(
     write_comparison(alloc, &first_volume, &second_volume, writer)
 }
 
-/// Writes whether two volumes mean the same, or the line of what refuses one of them.
+/// Writes whether two volumes have the same meaning, or the line of the fault that stopped the run.
 pub fn run_comparison<First: Read, Second: Read, W: Write>(
     alloc: Global,
     hex: bool,

@@ -13,26 +13,26 @@ use fv_depex::{DepexFault, DepexFaultKind, Phase, read_depex};
 use fv_tree::{Body, Content, FileView, SectionView, VolumeView};
 use std::alloc::Global;
 
-/// `EFI_SECTION_DXE_DEPEX`, the type 0x13 of a section that is a dependency expression of a DXE driver. (PI
-/// specification, volume 3, section 3.2.5.)
+/// `EFI_SECTION_DXE_DEPEX`, the type 0x13 of a section that is a dependency expression of a DXE
+/// driver. (PI specification, volume 3, section 3.2.5.)
 const DXE_DEPEX: u8 = 0x13;
 
-/// `EFI_SECTION_PEI_DEPEX`, the type 0x1B of a section that is a dependency expression of a PEIM. (PI specification,
-/// volume 3, section 3.2.5.)
+/// `EFI_SECTION_PEI_DEPEX`, the type 0x1B of a section that is a dependency expression of a PEIM.
+/// (PI specification, volume 3, section 3.2.5.)
 const PEI_DEPEX: u8 = 0x1b;
 
-/// `EFI_SECTION_MM_DEPEX`, the type 0x1C of a section that is a dependency expression of an MM driver. (PI
-/// specification, volume 3, section 3.2.5.)
+/// `EFI_SECTION_MM_DEPEX`, the type 0x1C of a section that is a dependency expression of an MM
+/// driver. (PI specification, volume 3, section 3.2.5.)
 const MM_DEPEX: u8 = 0x1c;
 
-/// What is noted of a dependency expression that is refused.
+/// What is noted of a dependency expression that is rejected.
 #[derive(Clone, Copy, Debug, PartialEq, Eq)]
 pub struct DepexNote {
     /// The name of the file that holds it.
     pub name: Guid,
     /// The number of its first fault.
     pub number: u8,
-    /// Where that fault is, in bytes from the expression's start.
+    /// The offset of that fault, in bytes from the expression's start.
     pub offset: u64,
 }
 
@@ -86,7 +86,8 @@ fn note_depex(
     note_fault(notes, name, fault)
 }
 
-// Reads the expression that a leaf of this type is, if it is one, and notes its first fault.
+// Reads the expression that a leaf of this type is, if its type is that of an expression, and notes
+// its first fault.
 fn note_leaf(
     alloc: Global,
     notes: &mut Vec<DepexNote>,

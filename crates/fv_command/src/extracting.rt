@@ -11,7 +11,7 @@ use fv_canon::{body_bytes, file_bytes};
 use fv_tree::{FileView, Item, Lookup, VolumeView, file_by_name, section_by_type};
 use std::alloc::Global;
 
-/// What is to be extracted of a volume.
+/// What is to be extracted from a volume.
 #[derive(Clone, Copy, Debug, PartialEq, Eq)]
 pub struct Part {
     /// The name of the file.
@@ -22,14 +22,14 @@ pub struct Part {
     pub instance: u32,
 }
 
-/// What an extraction comes to.
+/// The result of an extraction.
 #[derive(Drop)]
 pub enum Extraction<'a> {
-    /// These bytes, as the canonical image of the volume has them.
+    /// These bytes, as they are in the canonical image of the volume.
     Made(ByteList),
-    /// The body of a frame of a security core, as it stands.
+    /// The body of a frame of a security core, as it is stored.
     Stored(&'a [u8]),
-    /// The volume has no file of the name, or the file no section of the type and instance.
+    /// The volume has no file with the name, or the file has no section of the type and instance.
     NotFound,
     /// The file holds no sections.
     NotSectioned,

@@ -1,4 +1,5 @@
-//! The line that a run ends with: of its words, or of the fault that stopped it.
+//! The line that a run ends with: that of a wrong command line, or of the fault that stopped the
+//! run.
 
 ghost use Rattle.std.specs.Prelude.{◌≡◌, ◌⊎◌, ◌++◌, IfErr, OnOk};
 ghost use Rattle.fv_base.specs.Faults.{fault_number};
@@ -13,7 +14,7 @@ use fv_canon::{Side, put_decimal};
 use fv_hob::HobFault;
 use std::io::Write;
 
-// Puts the line of a fault, which begins with some words.
+// Puts the line of a fault, which begins with `words`.
 fn put_fault<S: Sink>(out: &mut S, words: &[u8], number: u8, offset: u64)
     ensures { S.takes out.old (words.now ++ fault_line number offset) out.new }
 {
@@ -25,11 +26,11 @@ fn put_fault<S: Sink>(out: &mut S, words: &[u8], number: u8, offset: u64)
     out.put(b"\n");
 }
 
-// Writes the line of a fault, which begins with some words.
+// Writes the line of a fault, which begins with `words`.
 //
 // # Errors
 //
-// WriteFault, where a write fails or takes no byte.
+// WriteFault if a write fails or takes no byte.
 fn write_fault<W: Write>(
     writer: &mut Port<W>,
     words: &[u8],
@@ -46,7 +47,7 @@ fn write_fault<W: Write>(
     out.outcome()
 }
 
-/// Writes a line and returns the status, or Refused where the line can not be written.
+/// Writes a line and returns the status, or Refused if the line cannot be written.
 pub fn say<W: Write>(writer: &mut Port<W>, line: &str, status: Status) -> Status
     // The line was written, and the status is the one given; or a write failed in the line.
     ensures { ((result ≡ status) × Writes (shown W.contents writer.old) (shown W.contents writer.new) line.now)
@@ -58,7 +59,7 @@ pub fn say<W: Write>(writer: &mut Port<W>, line: &str, status: Status) -> Status
     }
 }
 
-// Writes the line of a fault, which begins with some words, and returns Refused.
+// Writes the line of a fault, which begins with `words`, and returns Refused.
 fn say_fault<W: Write>(writer: &mut Port<W>, words: &[u8], number: u8, offset: u64) -> Status
     ensures status { result ≡ Status.Refused }
     ensures said { WritesOrStops (shown W.contents writer.old) (shown W.contents writer.new)
@@ -82,7 +83,7 @@ pub fn refuse<W: Write>(writer: &mut Port<W>, fault: Fault) -> Status
     say_fault(writer, b"", fault.kind.number(), fault.place.offset)
 }
 
-/// Writes the line `hob fault N at M` of a refused hand-off list, and returns Refused.
+/// Writes the line `hob fault N at M` of a rejected hand-off list, and returns Refused.
 pub fn refuse_hobs<W: Write>(writer: &mut Port<W>, fault: HobFault) -> Status
     ensures status { result ≡ Status.Refused }
     ensures said { WritesOrStops (shown W.contents writer.old) (shown W.contents writer.new)
@@ -91,8 +92,8 @@ pub fn refuse_hobs<W: Write>(writer: &mut Port<W>, fault: HobFault) -> Status
     say_fault(writer, b"hob ", fault.number(), fault.offset)
 }
 
-/// Writes the line of what refuses one of two inputs, with the side before it, and returns Refused.
-/// Where the output stopped, nothing more is written.
+/// Writes the line of the fault of one of two inputs, with the side before it, and returns Refused.
+/// If the output stopped, nothing more is written.
 pub fn refuse_side<W: Write>(writer: &mut Port<W>, side: Side, fault: Fault) -> Status
     ensures status { result ≡ Status.Refused }
     ensures told { TellsSideFault side fault (shown W.contents writer.old) (shown W.contents writer.new) }

@@ -16,11 +16,11 @@ fn is_space(byte: u8) -> bool
     byte == b'\t' || byte == b'\n' || byte == b'\r' || byte == b' '
 }
 
-/// Puts the text without its white space behind the digits.
+/// Appends the text to the digits, without its white space.
 ///
 /// # Errors
 ///
-/// AllocError, where no memory is found.
+/// AllocError if memory runs out.
 pub fn squeeze(text: &[u8], digits: &mut Vec<u8>) -> Result<(), AllocError>
     ensures { OnOk result (digits.new.items ≡ digits.old.items ++ squeezed text.now) }
 {
@@ -34,7 +34,7 @@ pub fn squeeze(text: &[u8], digits: &mut Vec<u8>) -> Result<(), AllocError>
     digits.extend_from_slice(&text[start..])
 }
 
-/// Takes the last digit off an odd number of them.
+/// Takes the last digit off if their number is odd.
 pub fn take_odd(digits: &mut Vec<u8>) -> Option<u8>
     ensures items { digits.old.items ≡ digits.new.items ++ option_to_list result }
     ensures even { vec_len digits.new % 2 ≡ 0 }
@@ -47,8 +47,8 @@ pub fn take_odd(digits: &mut Vec<u8>) -> Option<u8>
     }
 }
 
-// The value of a digit of either case, or 16 where the byte is none. It has no branch that random
-// digits would mislead.
+// The value of a digit, in upper or lower case, or 16 if the byte is no digit. It has no branch
+// that random digits would mispredict.
 fn digit_value(byte: u8) -> u8
     ensures { result ≡ unwrap_or (hex_digit_value byte) 16 }
 {
@@ -65,7 +65,7 @@ fn digit_value(byte: u8) -> u8
     value
 }
 
-// The byte of two digits, the high one first, or nothing where one of them is no digit.
+// The byte of two digits, the high one first, or None if one of them is no digit.
 fn pair_value(high_digit: u8, low_digit: u8) -> Option<u8>
     ensures { MatchOption result (IsNoPair high_digit low_digit) (IsPair high_digit low_digit) }
 {
@@ -78,11 +78,12 @@ fn pair_value(high_digit: u8, low_digit: u8) -> Option<u8>
     }
 }
 
-/// Puts the bytes of pairs of digits behind others, up to a pair that is not of digits: then the answer is false.
+/// Appends the bytes of pairs of digits, up to a pair that is not of digits: then false is
+/// returned.
 ///
 /// # Errors
 ///
-/// AllocError, where no memory is found.
+/// AllocError if memory runs out.
 pub fn push_pairs(digits: &[u8], bytes: &mut Vec<u8>) -> Result<bool, AllocError>
     requires even { length digits.now % 2 ≡ 0 }
     ensures read { IfOk result (λ all. all ≡ true → (more : List ℕ) × DigitsSpell digits.now more

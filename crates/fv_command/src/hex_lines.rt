@@ -11,7 +11,7 @@ use fv_base::field::bytes_from;
 use fv_base::{Fault, Port, Sink, WriteSink};
 use std::io::Write;
 
-/// How many bytes a line has.
+/// The number of bytes of a line.
 const LINE: usize = 32;
 
 // Puts one line: the digits of the bytes and a line feed.
@@ -38,7 +38,7 @@ fn put_last<S: Sink>(out: &mut S, bytes: &[u8])
     }
 }
 
-// Puts bytes at a place of a line.
+// Copies bytes to an offset of a line.
 fn place(line: &mut [u8; LINE], at: usize, bytes: &[u8])
     requires { at + length bytes.now ≤ 32 }
     ensures placed { take (at + length bytes.now) line.new ≡ take at line.old ++ bytes.now }
@@ -47,15 +47,15 @@ fn place(line: &mut [u8; LINE], at: usize, bytes: &[u8])
     line[at..at + bytes.len()].copy_from_slice(bytes);
 }
 
-/// A sink that turns bytes into lines of 64 lower-case digits, and puts them into a sink below. A
-/// last short line is put by `finish`.
+/// A sink that turns bytes into lines of 64 lower-case digits, and puts them into a sink below.
+/// `finish` puts the last line if it is a short one.
 #[derive(Drop)]
 pub struct HexSink<S: Sink> {
-    /// Where the lines go.
+    /// The sink into which the lines are put.
     below: S,
     /// The bytes of the line that is not yet put.
     line: [u8; LINE],
-    /// How many bytes these are.
+    /// How many bytes wait.
     filled: usize,
     ghost room: { filled < 32 },
 }
@@ -73,7 +73,7 @@ impl<S: Sink> HexSink<S> {
         }
     }
 
-    // Takes a front of the bytes, at most up to the end of the line.
+    // Takes the first of the bytes, at most up to the end of the line.
     fn take_some(&mut self, bytes: &[u8]) -> usize
         requires { 0 < length bytes.now }
         ensures some { 0 < result }
@@ -93,7 +93,7 @@ impl<S: Sink> HexSink<S> {
         count
     }
 
-    /// Puts the last line, where it is a short one, and answers the sink below.
+    /// Puts the last line if it is a short one, and returns the sink below.
     pub fn finish(self) -> S
         ensures { S.takes self.below (last_text (take self.filled self.line)) result }
     {
@@ -121,7 +121,7 @@ impl<S: Sink> Sink for HexSink<S> {
     }
 }
 
-/// Puts the bytes as lines of digits, and answers the sink.
+/// Puts the bytes as lines of digits, and returns the sink.
 pub fn put_hex<S: Sink>(below: S, bytes: &[u8]) -> S
     ensures { (text : List ℕ) × IsHexText bytes.now text × S.takes below text result }
 {
@@ -130,7 +130,7 @@ pub fn put_hex<S: Sink>(below: S, bytes: &[u8]) -> S
     lines.finish()
 }
 
-// Puts the bytes as they are or as lines of digits, and answers the sink.
+// Puts the bytes as they are or as lines of digits, and returns the sink.
 fn put_shown<S: Sink>(below: S, hex: bool, bytes: &[u8]) -> S
     ensures { (text : List ℕ) × ShowsBytes hex bytes.now text × S.takes below text result }
 {
@@ -147,8 +147,8 @@ fn put_shown<S: Sink>(below: S, hex: bool, bytes: &[u8]) -> S
 ///
 /// # Errors
 ///
-/// WriteFault at the bytes of text written in this call, where a write fails or takes no byte:
-/// exactly these bytes of the text were written then.
+/// WriteFault at the number of bytes of text written in this call, if a write fails or takes no
+/// byte. Exactly that many bytes of the text were written then.
 pub fn write_shown<W: Write>(writer: &mut Port<W>, hex: bool, bytes: &[u8]) -> Result<(), Fault>
     ensures ok { OnOk result ((text : List ℕ) × ShowsBytes hex bytes.now text
         × Writes (shown W.contents writer.old) (shown W.contents writer.new) text) }

@@ -1,4 +1,4 @@
-//! Hexadecimal text as an input: the digits of either case, with white space between them.
+//! Hexadecimal text as an input: digits in upper or lower case, with white space between them.
 
 ghost use Rattle.std.specs.Prelude.{◌≡◌, ◌<◌, ◌≤◌, ◌++◌, ◌%◌, [], ℕ, List, false, length, IfOk, IfErr, OnOk, vec_len};
 ghost use Rattle.fv_base.specs.ReadTurns.{read_limit};
@@ -14,16 +14,19 @@ use fv_base::{Fault, FaultKind, Port};
 use std::alloc::{AllocError, Global};
 use std::io::{ErrorKind, Read};
 
-/// What the text comes to so far. Neither the text is kept, nor more bytes than a volume has.
+/// What the text so far amounts to. The text is not kept, and no more bytes are kept than a volume
+/// may have.
 #[derive(Drop)]
 struct Decoder {
-    /// The digit that waits for the other of its pair, and behind it those of the piece that is taken.
+    /// The digit that waits for the other of its pair, and after it the digits of the current
+    /// piece.
     digits: Vec<u8>,
-    /// What the digits before those spell, unless it was let go.
+    /// What the digits before those spell, unless it was dropped.
     bytes: Vec<u8>,
-    /// Whether something stood there that is no digit.
+    /// Whether the text had something that is no digit.
     is_wrong: bool,
-    /// Whether there were more bytes than a volume has. Those are let go, since the text will be refused.
+    /// Whether there were more bytes than a volume may have. They are dropped, because the text
+    /// will be rejected.
     is_long: bool,
 }
 
@@ -42,7 +45,8 @@ impl Decoder {
         }
     }
 
-    // Decodes the digits, which are pairs, and lets them go. The text is wrong where one of the pairs is no byte.
+    // Decodes the digits, which are pairs, and drops them. The text is wrong if one of the pairs is
+    // no byte.
     fn decode(&mut self) -> Result<(), AllocError>
         requires right { self.old.is_wrong ≡ false }
         requires even { vec_len self.old.digits % 2 ≡ 0 }
@@ -83,8 +87,8 @@ impl Decoder {
         Ok(())
     }
 
-    // The bytes of the whole text. ReadFault at 0, where the text is no even number of digits; else Length at the
-    // limit of a volume, where it spells more bytes.
+    // The bytes of the whole text. ReadFault at 0 if the text is not an even number of digits; else
+    // Length at the limit of a volume, if it spells more bytes.
     fn finish(self) -> Result<Vec<u8>, Fault>
         requires small { vec_len self.bytes ≤ volume_limit }
         requires waiting { vec_len self.digits ≤ 1 }
@@ -108,20 +112,20 @@ impl Decoder {
     }
 }
 
-// So many zero bytes.
+// A vector of `count` zero bytes.
 fn zeros(alloc: Global, count: usize) -> Result<Vec<u8>, AllocError>
     ensures { IfOk result (λ v. vec_len v ≡ count) }
 {
     vec![in alloc; 0u8; count]
 }
 
-/// What one read gave.
+/// What one read returned.
 enum Piece {
-    /// So many bytes of text.
+    /// This many bytes of text.
     Text(usize),
-    /// Nothing: it was interrupted, and is to be tried again.
+    /// Nothing: it was interrupted, and is to be repeated.
     Interrupted,
-    /// Nothing, since nothing is left.
+    /// Nothing: the reader is at its end.
     End,
     /// Nothing: the reader failed.
     Failed,
@@ -142,14 +146,14 @@ fn read_piece<R: Read>(reader: &mut Port<R>, chunk: &mut [u8]) -> Piece
     }
 }
 
-/// Reads hexadecimal text to its end, and decodes it. `Interrupted` is asked again, and counts as
-/// a turn.
+/// Reads hexadecimal text to its end, and decodes it. A read that returns `Interrupted` is
+/// repeated, and counts as a turn.
 ///
 /// # Errors
 ///
-/// ReadFault at the bytes of text read so far, where the reader fails or the turns run out.
-/// Length at the limit of a volume, where the text is too long; else ReadFault at 0, where it is
-/// no even number of digits; else Length at the limit of a volume, where it spells more bytes.
+/// ReadFault at the number of bytes of text read so far, if the reader fails or the turns run out.
+/// Length at the limit of a volume, if the text is too long; else ReadFault at 0, if it is not an
+/// even number of digits; else Length at the limit of a volume, if it spells more bytes.
 /// OutOfMemory.
 pub fn read_hex<R: Read>(alloc: Global, reader: &mut Port<R>) -> Result<Vec<u8>, Fault>
     ensures read { IfOk result (λ v. SpellsWhole (R.remaining (inner_of reader.old)) (R.remaining (inner_of reader.new))

@@ -18,9 +18,9 @@ use std::io::{Read, Write};
 
 /// Why a hand-off list was not listed.
 enum Refusal {
-    /// An input can not be read, or a write fails.
+    /// An input cannot be read, or a write failed.
     Input(Fault),
-    /// The list is refused.
+    /// The list is rejected.
     Hobs(HobFault),
 }
 
@@ -44,8 +44,8 @@ impl From<HobFault> for Refusal {
     }
 }
 
-// The bytes of the image that the reader gives, where there is a base; none where there is none,
-// and then nothing is read.
+// The bytes of the image that the reader gives, if there is a base. Without a base nothing is read,
+// and there are no bytes.
 fn read_image<R: Read>(
     alloc: Global,
     hex: bool,
@@ -61,7 +61,7 @@ fn read_image<R: Read>(
     }
 }
 
-// The bytes as an image, where there is a base.
+// The bytes as an image, if there is a base.
 fn image_of(bytes: &[u8], base: Option<u64>) -> Option<Image<'_>>
     ensures { held_image result ≡ image_form base bytes.now }
 {
@@ -93,7 +93,7 @@ fn list_hobs<First: Read, Second: Read, W: Write>(
     Ok(write_hobs(writer, &hobs, consumed, image_of(&bytes, base))?)
 }
 
-/// Writes the blocks of a hand-off list, or the line of what refuses it.
+/// Writes the blocks of a hand-off list, or the line of the fault that stopped the run.
 pub fn run_hobs<First: Read, Second: Read, W: Write>(
     alloc: Global,
     hex: bool,

@@ -1,4 +1,4 @@
-//! The blocks of a hand-off list, and what an image holds where their volumes should lie.
+//! The blocks of a hand-off list, and what an image holds where their volumes should be.
 
 ghost use Rattle.std.specs.Prelude.{◌≡◌, ℕ, List, IfErr, OnOk};
 ghost use Rattle.fv_command.specs.HobLines.{HobsText, IsWord, consumed_line, four_digits, hob_line, standing_word};
@@ -13,7 +13,7 @@ use fv_head::verify_fv;
 use fv_hob::{Hob, HobList, Span};
 use std::io::Write;
 
-/// What an image holds where a volume should lie.
+/// What an image holds where a volume should be.
 #[derive(Clone, Copy, Debug, PartialEq, Eq)]
 pub enum Standing {
     /// The place is not within the image.
@@ -25,7 +25,7 @@ pub enum Standing {
 }
 
 impl Standing {
-    /// The word of it, behind a space.
+    /// Its text, after a space.
     pub fn word(self) -> &'static str
         ensures { result.now ≡ standing_word self }
     {
@@ -46,7 +46,7 @@ pub struct Image<'a> {
     pub base: u64,
 }
 
-/// What an image holds where a volume should lie. Addresses are whole numbers: nothing wraps.
+/// What an image holds where a volume should be. Addresses are whole numbers: nothing wraps.
 pub fn standing_of(image: &[u8], base: u64, span: Span) -> Standing
     ensures { IsStanding image.now base span result }
 {
@@ -62,7 +62,7 @@ pub fn standing_of(image: &[u8], base: u64, span: Span) -> Standing
     }
 }
 
-// What is said of the volume that a block names, if it names one and there is an image.
+// What is said of the volume that a block describes, if it describes one and there is an image.
 fn word_of(hob: &Hob, image: Option<Image<'_>>) -> &'static str
     ensures { IsWord (held_image image.entry) hob.now result.now }
 {
@@ -72,7 +72,7 @@ fn word_of(hob: &Hob, image: Option<Image<'_>>) -> &'static str
     }
 }
 
-/// Puts a number by four lower-case hexadecimal digits.
+/// Puts a number in four lower-case hexadecimal digits.
 pub fn put_four_digits<S: Sink>(out: &mut S, number: u16)
     ensures { S.takes out.old (four_digits number) out.new }
 {
@@ -84,7 +84,7 @@ pub fn put_four_digits<S: Sink>(out: &mut S, number: u16)
     out.put(&text);
 }
 
-// Puts the line of a block, with a word behind it.
+// Puts the line of a block, with a text after it.
 fn put_hob<S: Sink>(out: &mut S, code: u16, length: u16, word: &str)
     ensures { S.takes out.old (hob_line code length word.now) out.new }
 {
@@ -120,7 +120,7 @@ fn put_hobs<S: Sink>(out: &mut S, hobs: &[Hob], consumed: u64, image: Option<Ima
 ///
 /// # Errors
 ///
-/// WriteFault, where a write fails or takes no byte.
+/// WriteFault if a write fails or takes no byte.
 pub fn write_hobs<W: Write>(
     writer: &mut Port<W>,
     hobs: &HobList,

@@ -58,12 +58,13 @@ fn write_view<W: Write>(
 }
 
 /// Writes the canonical image of the volume that the input is, as it is or as lines of digits.
-/// Nothing is written before the whole input is accepted and laid out, and no image is held.
+/// Nothing is written before the whole input is accepted and laid out. The image is not kept in
+/// memory.
 ///
 /// # Errors
 ///
-/// Those of `fv_canon::normalise`, and then nothing was written; WriteFault, and then a front of
-/// the text was.
+/// Those of `fv_canon::normalise`; nothing was written then. WriteFault; the first bytes of the
+/// text were written then.
 pub fn write_image<W: Write>(
     alloc: Global,
     hex: bool,

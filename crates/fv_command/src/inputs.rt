@@ -13,8 +13,8 @@ use std::io::Read;
 ///
 /// # Errors
 ///
-/// ReadFault at the bytes read so far, where the reader fails; Length at the limit, where the
-/// input is longer. Of text also ReadFault at 0, where it is no even number of digits.
+/// ReadFault at the number of bytes read so far, if the reader fails; Length at the limit, if the
+/// input is longer. For text also ReadFault at 0, if it is not an even number of digits.
 /// OutOfMemory.
 pub fn read_bytes<R: Read>(alloc: Global, hex: bool, reader: &mut Port<R>) -> Result<Vec<u8>, Fault>
     ensures ok { IfOk result (λ v. Gives hex (shown R.remaining reader.old)

@@ -1,7 +1,7 @@
 //! The commands of the program, over readers and a writer.
 //!
-//! A module `.._text` holds the lines of an answer, and puts them into a sink. A module `.._run` reads inputs, and
-//! writes the answer or the line of a fault.
+//! A module `.._text` holds the lines that a command writes, and puts them into a sink. A module
+//! `.._run` reads inputs, and writes these lines or the line of a fault.
 #![tactic(auto)]
 
 mod check_run;

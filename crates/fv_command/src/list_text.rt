@@ -1,4 +1,4 @@
-//! The files and the sections of a volume, a line each.
+//! The files and the sections of a volume, one line each.
 
 ghost use Rattle.std.specs.Prelude.{◌≡◌, ℕ, List, IfErr, OnOk};
 ghost use Rattle.std.specs.List.{flat_map};
@@ -23,16 +23,16 @@ use fv_section::{freeform, ui_text, version};
 use fv_tree::{Body, Content, FileView, SectionView, VolumeView};
 use std::io::Write;
 
-/// `EFI_SECTION_VERSION`, the type 0x14 of a section whose build number is shown. (PI specification, volume 3, section
-/// 3.2.5.15.)
+/// `EFI_SECTION_VERSION`, the type 0x14 of a section whose build number is shown. (PI
+/// specification, volume 3, section 3.2.5.15.)
 const VERSION: u8 = 0x14;
 
-/// `EFI_SECTION_USER_INTERFACE`, the type 0x15 of a section whose text is shown. (PI specification, volume 3, section
-/// 3.2.5.14.)
+/// `EFI_SECTION_USER_INTERFACE`, the type 0x15 of a section whose text is shown. (PI specification,
+/// volume 3, section 3.2.5.14.)
 const USER_INTERFACE: u8 = 0x15;
 
-/// `EFI_SECTION_FREEFORM_SUBTYPE_GUID`, the type 0x18 of a section whose GUID is shown. (PI specification, volume 3,
-/// section 3.2.5.6.)
+/// `EFI_SECTION_FREEFORM_SUBTYPE_GUID`, the type 0x18 of a section whose GUID is shown. (PI
+/// specification, volume 3, section 3.2.5.6.)
 const FREEFORM_SUBTYPE: u8 = 0x18;
 
 /// How far a line is indented.
@@ -57,7 +57,7 @@ fn put_indent<S: Sink>(out: &mut S, indent: &Indent<'_>)
     }
 }
 
-// Puts a byte by its two digits.
+// Puts a byte in two digits.
 fn put_two_digits<S: Sink>(out: &mut S, byte: u8)
     ensures { S.takes out.old (two_digits byte) out.new }
 {
@@ -69,7 +69,7 @@ fn put_two_digits<S: Sink>(out: &mut S, byte: u8)
     out.put(&text);
 }
 
-// Whether a 16-bit unit is shown as it is: a printable character of ASCII but the quote and the
+// Whether a 16-bit unit is shown as it is: a printable ASCII character except the quote and the
 // backslash.
 fn is_plain(unit: u16) -> bool
     ensures { result ≡ is_plain unit }
@@ -77,7 +77,7 @@ fn is_plain(unit: u16) -> bool
     0x20 <= unit && unit <= 0x7e && unit != 0x22 && unit != 0x5c
 }
 
-// Puts a 16-bit unit of a text, as it is or by its number.
+// Puts a 16-bit unit of a text, as it is or as its number.
 fn put_unit<S: Sink>(out: &mut S, unit: u16)
     ensures { S.takes out.old (unit_text unit) out.new }
 {
@@ -100,7 +100,7 @@ fn put_units<S: Sink>(out: &mut S, units: &[u8])
     }
 }
 
-// Puts the build number of a version section, where the body has the shape of one.
+// Puts the build number of a version section, if the body has the form of one.
 fn put_version<S: Sink>(out: &mut S, body: &[u8])
     ensures { (text : List ℕ) × VersionText body.now text × S.takes out.old text out.new }
 {
@@ -113,7 +113,7 @@ fn put_version<S: Sink>(out: &mut S, body: &[u8])
     }
 }
 
-// Puts the text of a user interface section, where the body has the shape of one.
+// Puts the text of a user interface section, if the body has the form of one.
 fn put_interface<S: Sink>(out: &mut S, body: &[u8])
     ensures { (text : List ℕ) × InterfaceText body.now text × S.takes out.old text out.new }
 {
@@ -127,7 +127,7 @@ fn put_interface<S: Sink>(out: &mut S, body: &[u8])
     }
 }
 
-// Puts the GUID of a freeform subtype section, where the body has the shape of one.
+// Puts the GUID of a freeform subtype section, if the body has the form of one.
 fn put_subtype<S: Sink>(out: &mut S, body: &[u8])
     ensures { (text : List ℕ) × SubtypeText body.now text × S.takes out.old text out.new }
 {
@@ -152,7 +152,7 @@ fn put_leaf<S: Sink>(out: &mut S, kind: u8, body: &[u8])
     }
 }
 
-// Puts what is shown of the body of a section: nothing, where it is no leaf.
+// Puts what is shown of the body of a section: nothing, if it is no leaf.
 fn put_shown<S: Sink>(out: &mut S, section: &SectionView<'_>)
     ensures { (text : List ℕ) × BodyShown (section_kind_of section.now) (body_of section.now) text
         × S.takes out.old text out.new }
@@ -163,7 +163,7 @@ fn put_shown<S: Sink>(out: &mut S, section: &SectionView<'_>)
     }
 }
 
-// The words for the form of a section's header, and before the length of its body.
+// The text for the form of a section's header, which comes before the length of its body.
 fn form_words(is_extended: bool) -> &'static [u8]
     ensures { result.now ≡ form_text is_extended }
 {
@@ -213,7 +213,7 @@ fn put_file_line<S: Sink>(out: &mut S, file: &FileView<'_>, number: u64, indent:
     out.put(b"\n");
 }
 
-// Puts the name of a volume, where its header has one.
+// Puts the name of a volume, if its header has one.
 fn put_name<S: Sink>(out: &mut S, head: &VolumeHead)
     ensures { S.takes out.old (name_text head.now.ext) out.new }
 {
@@ -226,7 +226,7 @@ fn put_name<S: Sink>(out: &mut S, head: &VolumeHead)
     }
 }
 
-// The first words of the line of a volume.
+// The text at the start of a volume's line.
 fn system_words(system: FileSystem) -> &'static [u8]
     ensures { result.now ≡ system_text system }
 {
@@ -263,7 +263,7 @@ fn put_sections<S: Sink>(out: &mut S, sections: &[SectionView<'_>], indent: &Ind
     }
 }
 
-// Puts the lines of what the body of a section holds: nothing, where it is a leaf.
+// Puts the lines of what the body of a section holds: nothing, if it is a leaf.
 #[cycle(lines)]
 fn put_body<S: Sink>(out: &mut S, body: &Body<'_>, indent: &Indent<'_>)
     ensures { (text : List ℕ) × BodyLines (levels indent.now) (body_view body.now) text × S.takes out.old text out.new }
@@ -275,7 +275,7 @@ fn put_body<S: Sink>(out: &mut S, body: &Body<'_>, indent: &Indent<'_>)
     }
 }
 
-// Puts the lines of the sections of a file, if it holds some.
+// Puts the lines of the sections of a file, if it holds any.
 #[cycle(lines)]
 fn put_content<S: Sink>(out: &mut S, content: &Content<'_>, indent: &Indent<'_>)
     ensures { (text : List ℕ) × ContentLines (levels indent.now) (content_view content.now) text
@@ -309,12 +309,12 @@ fn put_volume<S: Sink>(out: &mut S, volume: &VolumeView<'_>, indent: &Indent<'_>
     put_files(out, volume.files(), &Indent::Inside(&*indent));
 }
 
-/// Writes a line for the volume, for each of its files and for each section in these, and so on
+/// Writes a line for the volume, for each of its files and for each section in these, and likewise
 /// for what groups and nested volumes hold.
 ///
 /// # Errors
 ///
-/// WriteFault, where a write fails or takes no byte.
+/// WriteFault if a write fails or takes no byte.
 pub fn write_list<W: Write>(writer: &mut Port<W>, volume: &VolumeView<'_>) -> Result<(), Fault>
     ensures ok { OnOk result ((text : List ℕ) × ListText volume.now text
         × Writes (shown W.contents writer.old) (shown W.contents writer.new) text) }

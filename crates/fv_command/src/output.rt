@@ -9,8 +9,8 @@ ghost use Rattle.fv_command.specs.Outputs.{has_failed, output_contents, output_o
 use std::io;
 use std::io::{ErrorKind, Write};
 
-/// A writer, each of whose errors is final: an interrupted write is an error like any other, and
-/// is not tried again by the buffer above. It notes that a write or a flush has failed.
+/// A writer whose every error is final: an interrupted write is an error like any other, and the
+/// buffer above does not repeat it. It remembers whether a write or a flush has failed.
 #[derive(Drop)]
 pub struct Output<W> {
     writer: W,
@@ -36,8 +36,8 @@ impl<W: Write> Output<W> {
         self.failed
     }
 
-    // Notes that a call of the writer has failed, and returns its error as one that is not tried
-    // again: that of an interrupted call is another.
+    // Remembers that a call of the writer has failed, and returns its error as one that is not
+    // repeated: the error of an interrupted call is changed into another.
     fn fail(&mut self, error: io::Error) -> io::Error
         ensures writer { output_of self.new ≡ output_of self.old }
         ensures failed { has_failed self.new ≡ true }
@@ -60,7 +60,7 @@ impl<W: Write> Write for Output<W> {
         ensures bytes { WriteAppends (output_contents W.contents self.old)
             (output_contents W.contents self.new) result buf.now }
 
-        // A failed write is noted, and never asks to be tried again.
+        // A failed write is remembered, and its error never asks for a repetition.
         ensures failed { has_failed self.new ≡ (has_failed self.old || is_err result) }
         ensures kind { IfErr result (λ e. error_kind e ≢ ErrorKind.Interrupted) }
     {

@@ -1,4 +1,4 @@
-//! The pads of a volume, and what is put for those that hold written bytes.
+//! The pads of a volume, and the lines for those that hold bytes which are not erased.
 
 ghost use Rattle.std.specs.Prelude.{◌≡◌, map, option_copied, IfOk, IfErr};
 ghost use Rattle.fv_base.specs.Faults.{want_of_memory};
@@ -14,7 +14,7 @@ use fv_file::{Cell, Cells, cells};
 use fv_head::verify_fv;
 use std::alloc::Global;
 
-// The cells of the volume that the input is, and what an erased byte of it holds.
+// The cells of the volume that the input is, and the value of its erased bits.
 fn outer_cells(alloc: Global, input: &[u8]) -> Result<(Cells<'_>, Polarity), Fault>
     requires { (m : Meaning) × Accepted input.now m }
     ensures ok { IfOk result (λ r. (m : Meaning) → Accepted input.now m → AreCells m input.now r.1 r.0) }
@@ -31,9 +31,9 @@ fn outer_cells(alloc: Global, input: &[u8]) -> Result<(Cells<'_>, Polarity), Fau
     Ok((list, extent.polarity))
 }
 
-/// The cells of the volume that the input is, and what an erased byte of it holds; None where the volume is its own
-/// canonical image. In an image no pad from the first file's place on holds a written byte. So none is noted, and the
-/// volume need not be tiled for its pads.
+/// The cells of the volume that the input is, and the value of its erased bits; None if the volume
+/// is its own canonical image. In an image, no pad from the first file's offset on holds a byte
+/// that is not erased. So none is noted, and the volume need not be tiled for its pads.
 ///
 /// # Errors
 ///
@@ -97,7 +97,7 @@ fn put_cell<S: Sink>(out: &mut S, cell: &Cell<'_>, polarity: Polarity)
     }
 }
 
-// Puts what is noted of the cells, in their order.
+// Puts what is noted of the cells, in order.
 fn put_cells<S: Sink>(out: &mut S, list: &[Cell<'_>], polarity: Polarity)
     ensures { S.takes out.old (pad_notes polarity (map cell_form list.now)) out.new }
 {

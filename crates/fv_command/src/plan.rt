@@ -5,7 +5,7 @@ ghost use Rattle.fv_command.specs.Files.{first_file, second_file};
 
 use crate::extracting::Part;
 
-/// What a line of words asks for.
+/// What a command line asks for.
 #[derive(Debug, Drop)]
 pub struct Plan {
     /// Whether inputs, images and parts are hexadecimal text.
@@ -31,7 +31,7 @@ pub enum Command {
         /// The image in which its volumes are looked for.
         image: Option<ImageFile>,
     },
-    /// Tell whether two volumes mean the same.
+    /// Say whether two volumes have the same meaning.
     Compare {
         /// The file of the first volume.
         first: String,
@@ -51,7 +51,7 @@ pub enum Task {
     List,
     /// Write the data of a file of a volume, or the body of one of its sections.
     Extract(Part),
-    /// Tell whether a volume is its own canonical image, and what in it deserves a note.
+    /// Say whether a volume is its own canonical image, and what in it deserves a note.
     Check,
     /// Find the volumes in some bytes.
     Scan,
@@ -77,7 +77,7 @@ impl Plan {
         }
     }
 
-    /// The file of the second input, where there is one.
+    /// The file of the second input, if there is one.
     pub fn second(&self) -> Option<&String>
         ensures { option_copied result ≡ second_file self.now.command }
     {

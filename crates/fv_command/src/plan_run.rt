@@ -12,12 +12,12 @@ use fv_base::Port;
 use std::alloc::Global;
 use std::io::{Read, Write};
 
-/// Runs a plan, and writes what it comes to: the answer, or the line of a fault. A command with
-/// one input reads nothing from the second reader.
+/// Runs a plan, and writes its result or the line of a fault. A command with one input reads
+/// nothing from the second reader.
 ///
-/// Done and Different are answered where all of the answer was written: Different of a comparison
-/// of two volumes that differ, of a part that there is not, and of a volume that is not its own
-/// image. Else Refused: an input was refused, memory ran out, or a write failed.
+/// Done and Different are returned if the whole result was written. Different is for two volumes
+/// that differ, for a part that does not exist, and for a volume that is not its own image. Else
+/// Refused is returned: an input was rejected, memory ran out, or a write failed.
 pub fn run_plan<First: Read, Second: Read, W: Write>(
     alloc: Global,
     plan: &Plan,

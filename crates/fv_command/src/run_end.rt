@@ -14,7 +14,7 @@ use crate::whole_write::write_bytes;
 use fv_base::Port;
 use std::io::{BufWriter, Write};
 
-// Flushes an output to which all was written, and returns how the run ended.
+// Flushes an output to which everything was written, and returns how the run ended.
 fn flush<W: Write + Drop>(output: Output<W>, status: Status) -> (Status, Output<W>)
     ensures bytes { Keeps (output_contents W.contents output) (output_contents W.contents result.1) }
     ensures status { result.0 ≡ (if has_failed result.1 then Status.Refused else status) }
@@ -34,12 +34,12 @@ pub fn close<W: Write + Drop>(
     writer: Port<BufWriter<Output<W>>>,
     status: Status,
 ) -> (Status, Port<Output<W>>)
-    // After a failed write nothing more is written, and the run is refused.
+    // After a failed write nothing more is written, and the status is Refused.
     ensures erred { has_erred writer ≡ true
         → (result.0 ≡ Status.Refused) × (inner_of result.1 ≡ writer_inner (inner_of writer)) }
 
-    // Else all that was buffered is written, and the status is the one given unless the output has failed; or a write
-    // failed, and the run is refused.
+    // Else everything that was buffered is written, and the status is the one given unless the
+    // output has failed; or a write failed, and the status is Refused.
     ensures written { has_erred writer ≡ false
         → WritesRest status (writer_buffer (inner_of writer))
         (seen (output_contents W.contents (writer_inner (inner_of writer))) false)

@@ -35,12 +35,12 @@ fn put_volumes<S: Sink>(out: &mut S, input: &[u8], offsets: &[u64])
     }
 }
 
-/// Writes a line for each volume that begins in the input at one of the offsets, which are those
-/// of a scan.
+/// Writes a line for each volume that begins in the input at one of the offsets, which are those of
+/// a scan.
 ///
 /// # Errors
 ///
-/// WriteFault, where a write fails or takes no byte.
+/// WriteFault if a write fails or takes no byte.
 pub fn write_volumes<W: Write>(
     writer: &mut Port<W>,
     input: &[u8],

@@ -31,11 +31,11 @@ impl<S: Read, F: Read> Read for Source<S, F> {
         ensures bytes { ReadConsumes (unread S.remaining F.remaining self.old) (unread S.remaining F.remaining self.new)
             result buf.new }
 
-        // Each read of a file that could not be opened fails, and is not asked for again.
+        // Each read of a file that could not be opened fails, and is not repeated.
         ensures missing { self.old ≡ Source.Missing → (self.new ≡ Source.Missing)
             × IsErrAnd result (λ e. error_kind e ≡ ErrorKind.NotFound) }
 
-        // An input that there is not is at its end.
+        // An input that does not exist is at its end.
         ensures nothing { self.old ≡ Source.Nothing → (self.new ≡ Source.Nothing) × (result ≡ Ok 0) }
     {
         match self {
@@ -47,7 +47,7 @@ impl<S: Read, F: Read> Read for Source<S, F> {
     }
 }
 
-/// The file of a path, which is missing where it can not be opened.
+/// The file at a path; Missing if it cannot be opened.
 pub fn open<R: Files + Input>(rt: &R, path: &str) -> Source<R::Reader, R::File>
     ensures { IsFileOrMissing result }
 {

@@ -6,18 +6,19 @@ ghost use Rattle.fv_command.specs.Statuses.{exit_code};
 /// How a run ended.
 #[derive(Clone, Copy, Debug, PartialEq, Eq)]
 pub enum Status {
-    /// All that was asked for is written.
+    /// Everything that was asked for was written.
     Done,
     /// Two inputs, or an input and its image, differ; or there is no such part.
     Different,
-    /// An input was refused, or a write failed.
+    /// An input was rejected, memory ran out, or a write failed.
     Refused,
-    /// The words name no command.
+    /// The command line is wrong.
     WrongWords,
 }
 
 impl Status {
-    /// The exit status of the process: 0 of Done, 1 of Different, 2 of Refused, 3 of WrongWords.
+    /// The exit status of the process: 0 for Done, 1 for Different, 2 for Refused, 3 for
+    /// WrongWords.
     pub fn code(self) -> u8
         ensures { result ≡ exit_code self }
     {

@@ -52,7 +52,7 @@ fn normalise_all<W: Write>(
     Ok(Status::Done)
 }
 
-// Writes what the volume holds that the input begins with.
+// Writes what the volume at the start of the input holds.
 fn list<W: Write>(alloc: Global, input: &[u8], writer: &mut Port<W>) -> Result<Status, Fault>
     ensures { (hex : Bool)
         → Performs Task.List hex input.now (shown W.contents writer.old) (shown W.contents writer.new) result }
@@ -62,7 +62,7 @@ fn list<W: Write>(alloc: Global, input: &[u8], writer: &mut Port<W>) -> Result<S
     Ok(Status::Done)
 }
 
-// Writes what an extraction came to: bytes, or that there are none.
+// Writes the result of an extraction: the bytes, or that there is no such part.
 fn write_part<W: Write>(
     writer: &mut Port<W>,
     hex: bool,
@@ -93,7 +93,7 @@ fn write_part<W: Write>(
     }
 }
 
-// Writes a part of the volume that the input begins with.
+// Writes a part of the volume at the start of the input.
 fn extract_part<W: Write>(
     alloc: Global,
     hex: bool,
@@ -109,7 +109,7 @@ fn extract_part<W: Write>(
     write_part(writer, hex, &extraction)
 }
 
-// Writes whether the input is a canonical image, and the notes of it.
+// Writes whether the input is a canonical image, and the notes on it.
 fn check<W: Write>(alloc: Global, input: &[u8], writer: &mut Port<W>) -> Result<Status, Fault>
     ensures { (hex : Bool)
         → Performs Task.Check hex input.now (shown W.contents writer.old) (shown W.contents writer.new) result }
@@ -121,7 +121,7 @@ fn check<W: Write>(alloc: Global, input: &[u8], writer: &mut Port<W>) -> Result<
     }
 }
 
-// Writes where volumes stand in the input.
+// Writes where volumes begin in the input.
 fn scan<W: Write>(alloc: Global, input: &[u8], writer: &mut Port<W>) -> Result<Status, Fault>
     ensures { (hex : Bool)
         → Performs Task.Scan hex input.now (shown W.contents writer.old) (shown W.contents writer.new) result }
@@ -131,7 +131,7 @@ fn scan<W: Write>(alloc: Global, input: &[u8], writer: &mut Port<W>) -> Result<S
     Ok(Status::Done)
 }
 
-// Writes what the task says of the input.
+// Writes the result of the task for the input.
 fn perform<W: Write>(
     alloc: Global,
     task: &Task,
@@ -151,7 +151,7 @@ fn perform<W: Write>(
     }
 }
 
-// Reads an input to its end, and writes what the task says of it.
+// Reads an input to its end, and writes the result of the task for it.
 fn read_and_perform<R: Read, W: Write>(
     alloc: Global,
     task: &Task,
@@ -168,8 +168,8 @@ fn read_and_perform<R: Read, W: Write>(
     perform(alloc, task, hex, &input, writer)
 }
 
-/// Reads an input to its end, and writes what the task says of it, or the line of the fault that
-/// stops the run.
+/// Reads an input to its end, and writes the result of the task for it, or the line of the fault
+/// that stops the run.
 pub fn run_task<R: Read, W: Write>(
     alloc: Global,
     task: &Task,

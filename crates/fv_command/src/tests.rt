@@ -1,4 +1,4 @@
-//! Text, words and what a run writes.
+//! Hexadecimal text, command lines, and what a run writes.
 
 mod answers;
 mod checked;
@@ -33,7 +33,7 @@ use std::test::Fail;
 /// How many bytes at most a reader gives, or a writer takes, at once.
 const STEPS: [usize; 3] = [1, 3, 65_536];
 
-// Whether the text is read as the bytes, whatever its reader gives at once.
+// Whether the text is read as the bytes, however many bytes its reader gives at once.
 fn is_read_as(alloc: Global, text: &[u8], bytes: &[u8]) -> bool {
     for step in STEPS {
         for is_interrupted in [false, true] {
@@ -86,7 +86,7 @@ fn reads_text(rt: HostRuntime) {
     }
 }
 
-// Whether the text is refused, whatever its reader gives at once.
+// Whether the text is rejected, however many bytes its reader gives at once.
 fn is_wrong(alloc: Global, text: &[u8]) -> bool {
     let fault = Fault::outer(FaultKind::ReadFault, 0);
     for step in STEPS {
@@ -150,7 +150,7 @@ fn writes_lines(rt: HostRuntime) {
     }
 }
 
-// How a run ends that says that its words are wrong.
+// The status of a run that reports a wrong command line.
 fn closed_after(alloc: Global, inner: &mut FakeWriter) -> Result<Status, Fail> {
     let mut writer = Port::new(BufWriter::new(alloc, Output::new(inner))?);
     let status = say(&mut writer, "wrong words\n", Status::WrongWords);

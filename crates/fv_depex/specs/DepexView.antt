@@ -9,6 +9,6 @@ pub record DepexForm : Type 0 where
   pub ops : List Op
   pub rest : List ℕ
 
--- some bytes are spelled by it
+-- some bytes spell this expression
 abbrev pub IsReadDepex : DepexForm → Type 0
 IsReadDepex d = (b : List ℕ) × Spells d.phase d.ops d.rest b

@@ -1,4 +1,4 @@
--- What ops do to a stack of truth values, its top first.
+-- What the ops do to a stack of truth values, whose top is its first item.
 -- Serves private clauses alone: there is nothing to believe here.
 use Rattle.std.specs.Prelude.{◌&&◌, ◌||◌, not, Bool, true, false, Option, None, Some, List, [], ◌∷◌}
 use Rattle.fv_base.specs.declared.guid.Guid.{Guid}
@@ -6,7 +6,7 @@ use Rattle.fv_depex.specs.declared.op.Op.{Op}
 use Rattle.fv_depex.specs.declared.op.Op.TheVariants as ops
 use Rattle.fv_depex.specs.Expressions.{is_among}
 
--- the stack behind one op, if it has what the op takes; BEFORE and AFTER have no truth
+-- the stack after one op, if it holds what the op takes; BEFORE and AFTER have no truth value
 abbrev pub evaluate_op : List Guid → List Bool → Op → Option (List Bool)
 evaluate_op set s (ops.Before g) = None
 evaluate_op set s (ops.After g) = None
@@ -29,7 +29,7 @@ abbrev pub and_then : Option (List Bool) → (List Bool → Option Bool) → Opt
 and_then None f = None
 and_then (Some s) f = f s
 
--- the value on top behind all ops
+-- the value on top after all ops
 abbrev pub evaluate_ops : List Guid → List Op → List Bool → Option Bool
 evaluate_ops set [] s = top s
 evaluate_ops set (o ∷ os) s = and_then (evaluate_op set s o) (evaluate_ops set os)

@@ -9,7 +9,7 @@ use Rattle.fv_depex.specs.declared.op.Op.TheVariants as ops
 use Rattle.fv_depex.specs.declared.op.Phase.{Phase}
 use Rattle.fv_depex.specs.declared.op.Phase.TheVariants.{Dxe}
 
--- an expression is a tree: true, false, that a GUID is installed, not t, t and u, t or u
+-- an expression is a tree: true, false, "this GUID is installed", not t, t and u, t or u
 pub data Expression : Type 0 where
   always : Expression
   never : Expression
@@ -18,7 +18,7 @@ pub data Expression : Type 0 where
   both : Expression → Expression → Expression
   either : Expression → Expression → Expression
 
--- the ops of a tree, operands first
+-- the ops of a tree in postfix order, operands first
 abbrev pub postfix : Expression → List Op
 postfix always = ops.True ∷ []
 postfix never = ops.False ∷ []
@@ -27,13 +27,13 @@ postfix (negated t) = postfix t ++ (ops.Not ∷ [])
 postfix (both t u) = postfix t ++ (postfix u ++ (ops.And ∷ []))
 postfix (either t u) = postfix t ++ (postfix u ++ (ops.Or ∷ []))
 
--- the ops are those of a tree and END, before them perhaps SOR, which PEI has not
+-- the ops are those of a tree and then END; before them may be SOR, except in PEI, which has no SOR
 pub record IsTree (phase : Phase) (all : List Op) (t : Expression) : Type 0 where
   pub sor : List Op
   pub joined : all ≡ sor ++ (postfix t ++ (ops.End ∷ []))
   pub sor_is : (sor ≡ []) ⊎ ((sor ≡ ops.Sor ∷ []) × (phase ≡ Dxe))
 
--- the ops are BEFORE or AFTER with a GUID, and END; PEI has neither
+-- the ops are BEFORE or AFTER with a GUID, and then END; PEI has neither
 pub record IsOrder (phase : Phase) (all : List Op) : Type 0 where
   pub guid : Guid
   pub joined : (all ≡ ops.Before guid ∷ ops.End ∷ []) ⊎ (all ≡ ops.After guid ∷ ops.End ∷ [])
@@ -60,7 +60,7 @@ op_operand (ops.After g) = bytes_of g
 op_operand (ops.Push g) = bytes_of g
 op_operand _ = []
 
--- the bytes of ops: of each its code, and its GUID if it carries one
+-- the bytes of ops: for each its code, and its GUID if it carries one
 abbrev pub ops_bytes : List Op → List ℕ
 ops_bytes [] = []
 ops_bytes (o ∷ os) = op_code o ∷ (op_operand o ++ ops_bytes os)
@@ -69,26 +69,26 @@ ops_bytes (o ∷ os) = op_code o ∷ (op_operand o ++ ops_bytes os)
 abbrev pub carries : ℕ → Bool
 carries code = nat_le code 2
 
--- a GUID has 16 bytes
+-- the length of an op's operand: a GUID has 16 bytes
 abbrev pub operand_len : Bool → ℕ
 operand_len true = 16
 operand_len false = 0
 
--- the operand of an op is as long as its code says
+-- the operand of an op is as long as its code requires
 abbrev pub IsSized : Op → Type 0
 IsSized o = length (op_operand o) ≡ operand_len (carries (op_code o))
 
--- b is the ops and then the rest, and the ops are a whole expression of the phase
+-- b is the ops and then the rest, and the ops are a complete expression of the phase
 pub record Spells (phase : Phase) (all : List Op) (rest b : List ℕ) : Type 0 where
   pub joined : b ≡ ops_bytes all ++ rest
   pub whole : ((t : Expression) × IsTree phase all t) ⊎ IsOrder phase all
   pub sized : AllByRecursion IsSized all
 
--- whether a GUID is among those that are installed
+-- whether a GUID is among those installed
 abbrev pub is_among : Guid → List Guid → Bool
 is_among g set = list_any (λ h. bytes_eq (bytes_of h) (bytes_of g)) set
 
--- the truth of a tree, where these GUIDs are installed
+-- the truth value of a tree when these GUIDs are installed
 abbrev pub truth : List Guid → Expression → Bool
 truth set always = true
 truth set never = false

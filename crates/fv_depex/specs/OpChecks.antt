@@ -1,4 +1,4 @@
--- The checks of an op in their order, and the first fault of an expression.
+-- The checks of an op in a fixed order, and the first fault of an expression.
 use Rattle.std.specs.Prelude.{◌≡◌, ◌≢◌, ℕ, ◌+◌, ◌-◌, ◌==◌, nat_le, ◌&&◌, ◌||◌, not, Bool, true, if◌then◌else◌, List, []}
 use Rattle.std.specs.Prelude.{◌∷◌, ◌++◌, length, slice_index}
 use Rattle.fv_base.specs.Checks.{Check, IsFirstFault}
@@ -18,26 +18,26 @@ abbrev pub has_code : Phase → ℕ → Bool
 has_code Pei code = nat_le 2 code && nat_le code 8
 has_code Dxe code = nat_le code 9
 
--- BEFORE, AFTER and SOR stand first only, and behind BEFORE or AFTER stands END alone
+-- BEFORE, AFTER and SOR may only be first, and only END may follow BEFORE or AFTER
 abbrev pub in_place : Stage → ℕ → Bool
 in_place stages.Start code = true
 in_place stages.Ordered code = code == 8
 in_place (stages.Values n) code = nat_le 2 code && nat_le code 8
 
--- so many values are those that the code takes: AND and OR two, NOT one, and END the only one
+-- n values are enough for the code: AND and OR take two, NOT takes one, and END needs exactly one
 abbrev pub has_values : ℕ → ℕ → Bool
 has_values n code =
     if (code == 3) || (code == 4) then nat_le 2 n
     else (if code == 5 then nat_le 1 n
     else (if code == 8 then n == 1 else true))
 
--- the stack holds them; behind BEFORE or AFTER it is empty, and END takes none
+-- the stack holds what the code takes; after BEFORE or AFTER the stack is empty, and END takes nothing
 abbrev pub holds_values : Stage → ℕ → Bool
 holds_values stages.Start code = has_values 0 code
 holds_values stages.Ordered code = (code == 8) || has_values 0 code
 holds_values (stages.Values n) code = has_values n code
 
--- r has the GUID that its code carries, if it carries one
+-- r has the GUID that its code carries, or the code carries none
 abbrev pub has_operand : List ℕ → Bool
 has_operand r = not (carries (slice_index r 0)) || nat_le 17 (length r)
 
@@ -45,7 +45,7 @@ has_operand r = not (carries (slice_index r 0)) || nat_le 17 (length r)
 abbrev pub op_check : Bool → DepexFaultKind → Check DepexFaultKind
 op_check holds kind = record { holds = holds; fault = kind }
 
--- the checks of the op that begins r, in their order
+-- the checks of the op at the start of r, in order
 abbrev pub op_checks : Phase → Stage → List ℕ → List (Check DepexFaultKind)
 op_checks phase stage r =
     op_check (nat_le 1 (length r)) kinds.NoEnd
@@ -55,7 +55,7 @@ op_checks phase stage r =
     ∷ op_check (holds_values stage (slice_index r 0)) kinds.Stack
     ∷ []
 
--- how many values are on the stack behind an op that finds so many there
+-- how many values are on the stack after an op, if there were n before it
 abbrev pub values_after : ℕ → Op → ℕ
 values_after n (ops.Push g) = n + 1
 values_after n ops.True = n + 1
@@ -64,41 +64,41 @@ values_after n ops.And = n - 1
 values_after n ops.Or = n - 1
 values_after n _ = n
 
--- how many values a stage has on the stack
+-- how many values are on the stack at a stage
 abbrev pub values_of : Stage → ℕ
 values_of (stages.Values n) = n
 values_of _ = 0
 
--- the stage behind an op
+-- the stage after an op
 abbrev pub stage_after : Stage → Op → Stage
 stage_after stage (ops.Before g) = stages.Ordered
 stage_after stage (ops.After g) = stages.Ordered
 stage_after stage o = stages.Values (values_after (values_of stage) o)
 
--- an op that may stand there
+-- an op that is allowed at this stage
 pub record OpFits (phase : Phase) (stage : Stage) (o : Op) : Type 0 where
   pub known : has_code phase (op_code o) ≡ true
   pub placed : in_place stage (op_code o) ≡ true
   pub valued : holds_values stage (op_code o) ≡ true
   pub sized : IsSized o
 
--- r begins with an op that may stand there
+-- r begins with an op that is allowed at this stage
 pub record BeginsOp (phase : Phase) (stage : Stage) (o : Op) (r : List ℕ) : Type 0 where
   pub fits : OpFits phase stage o
   pub behind : List ℕ
   pub joined : r ≡ op_code o ∷ (op_operand o ++ behind)
 
--- b begins with an op that may stand first
+-- b begins with an op that may be the first
 abbrev pub BeginsFirstOp : Phase → List ℕ → Type 0
 BeginsFirstOp phase b = (o : Op) × BeginsOp phase stages.Start o b
 
--- ops that may stand one after another, none of them END, and the stage that they lead to
+-- a sequence of ops, none of them END, each allowed at the stage that the one before it leads to; `final` is the stage
+-- after the last
 abbrev pub OpPath : Phase → Stage → List Op → Stage → Type 0
 OpPath phase stage [] final = stage ≡ final
 OpPath phase stage (o ∷ os) final = OpFits phase stage o × (o ≢ ops.End) × OpPath phase (stage_after stage o) os final
 
--- some ops that may stand there are read up to the fault's offset, and there it is that of the first
--- check that does not hold
+-- some allowed ops are read up to the fault's offset, and the fault is that of the first check there that does not hold
 pub record IsFirstOpFault (phase : Phase) (b : List ℕ) (fault : DepexFault) : Type 0 where
   pub before : List Op
   pub stage : Stage
@@ -108,11 +108,11 @@ pub record IsFirstOpFault (phase : Phase) (b : List ℕ) (fault : DepexFault) : 
   pub place : fault.offset ≡ length (ops_bytes before)
   pub kind_is : IsFirstFault (op_checks phase stage r) fault.kind
 
--- the fault of every call whose memory was refused
+-- the fault of every call when memory runs out
 abbrev pub depex_want_of_memory : DepexFault
 depex_want_of_memory = record { kind = kinds.OutOfMemory; offset = 0 }
 
--- the number by which a kind of fault is known
+-- the number of each kind of fault
 abbrev pub depex_fault_number : DepexFaultKind → ℕ
 depex_fault_number kinds.Short = 1
 depex_fault_number kinds.Opcode = 2

@@ -1,4 +1,4 @@
--- The op that bytes begin with.
+-- The op at the start of some bytes.
 -- Serves private clauses alone: there is nothing to believe here.
 use Rattle.std.specs.Prelude.{ℕ, ◌==◌, if◌then◌else◌, List, slice_index}
 use Rattle.fv_base.specs.Guids.{guid_of}
@@ -7,7 +7,7 @@ use Rattle.fv_base.specs.declared.guid.Guid.{Guid}
 use Rattle.fv_depex.specs.declared.op.Op.{Op}
 use Rattle.fv_depex.specs.declared.op.Op.TheVariants as ops
 
--- the op of a code, with a GUID if it carries one
+-- the op with this code, and with this GUID if it carries one
 abbrev pub op_by : ℕ → Guid → Op
 op_by code g =
     if code == 0x00 then ops.Before g
@@ -20,6 +20,6 @@ op_by code g =
     else (if code == 0x07 then ops.False
     else (if code == 0x08 then ops.End else ops.Sor))))))))
 
--- the op that begins r
+-- the op at the start of r
 abbrev pub op_in : List ℕ → Op
 op_in r = op_by (slice_index r 0) (guid_of (field 1 16 r))

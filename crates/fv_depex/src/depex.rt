@@ -8,8 +8,8 @@ use crate::op::{Op, Phase};
 use fv_base::ByteList;
 use std::marker::Model;
 
-/// A dependency expression, made by `read_depex` alone: its ops, the last of which is END, and the
-/// bytes behind it. (PI specification, volume 1, section 3.4, and volume 2, section 10.7.)
+/// A dependency expression; only `read_depex` makes one. It has the ops, the last of which is END,
+/// and the bytes after END. (PI specification, volume 1, section 3.4, and volume 2, section 10.7.)
 #[derive(Drop)]
 pub struct Depex {
     phase: Phase,
@@ -28,7 +28,7 @@ impl Model for Depex {
 }
 
 impl Depex {
-    // The expression of these ops and this rest.
+    // The expression with these ops and this rest.
     pub(crate) fn from_parts(phase: Phase, ops: Vec<Op>, rest: ByteList) -> Depex
         requires { IsReadDepex (record { phase = phase; ops = ops.items; rest = rest }) }
         ensures { result ≡ record { phase = phase; ops = ops.items; rest = rest } }
@@ -52,7 +52,7 @@ impl Depex {
         self.ops.as_slice()
     }
 
-    /// The bytes behind END, kept as they stand.
+    /// The bytes after END, kept as found.
     pub fn rest(&self) -> &[u8]
         ensures { result.now ≡ self.now.rest }
     {

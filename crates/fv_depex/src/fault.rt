@@ -1,4 +1,4 @@
-//! Why an expression was refused.
+//! Why an expression was rejected.
 
 ghost use Rattle.std.specs.Prelude.{◌≡◌};
 ghost use Rattle.fv_depex.specs.OpChecks.{depex_fault_number, depex_want_of_memory};
@@ -6,34 +6,36 @@ ghost use Rattle.fv_depex.specs.OpChecks.{depex_fault_number, depex_want_of_memo
 use std::alloc::{AllocError, AllocFailed};
 use thiserror::Error;
 
-/// Why an expression was refused, and where the fault lies: an offset in bytes from the first byte
-/// that was handed to the call. (PI specification, volume 1, section 3.4, and volume 2, section
-/// 10.7.)
+/// Why an expression was rejected. Each variant also says at which offset, in bytes from the first
+/// byte that was passed to the call. (PI specification, volume 1, section 3.4, and volume 2,
+/// section 10.7.)
 #[derive(Clone, Copy, Debug, PartialEq, Eq, Error)]
 pub enum DepexFaultKind {
     /// Fewer than 16 bytes are left for the GUID of BEFORE, AFTER or PUSH. At the op's code.
     #[error("the GUID of an op is cut")]
     Short,
-    /// An op code that the phase has not: PEI has 0x02 to 0x08, DXE 0x00 to 0x09. At that code.
+    /// An op code that the phase does not have: PEI has 0x02 to 0x08, DXE 0x00 to 0x09. At that
+    /// code.
     #[error("the code of an op is not known")]
     Opcode,
     /// The stack holds fewer than two values at AND or OR, none at NOT, or not exactly one at END
-    /// (behind BEFORE or AFTER END takes none). At the op's code.
+    /// (after BEFORE or AFTER, END takes none). At the op's code.
     #[error("the stack does not hold what an op takes")]
     Stack,
     /// The bytes end before END. At their end.
     #[error("the expression has no end")]
     NoEnd,
-    /// BEFORE, AFTER or SOR not first, or an op but END behind BEFORE or AFTER. At the op's code.
+    /// BEFORE, AFTER or SOR that is not first, or an op other than END after BEFORE or AFTER. At
+    /// the op's code.
     #[error("an op stands where it may not")]
     Position,
-    /// A growth of memory was refused. At 0.
+    /// Memory ran out. At 0.
     #[error("out of memory")]
     OutOfMemory,
 }
 
 impl DepexFaultKind {
-    /// The number by which the kind is known: 1 to 6, in the order above.
+    /// The number of the kind: 1 to 6, in the order above.
     pub fn number(self) -> u8
         ensures { result ≡ depex_fault_number self }
     {
@@ -48,19 +50,19 @@ impl DepexFaultKind {
     }
 }
 
-/// What was refused, and where.
+/// Why an expression was rejected, and where.
 #[derive(Clone, Copy, Debug, PartialEq, Eq, Error)]
 #[error("{kind} (depex fault {}) at offset {offset}", .kind.number())]
 pub struct DepexFault {
-    /// Why.
+    /// The kind of the fault.
     pub kind: DepexFaultKind,
-    /// Where, in bytes from the first byte that was handed to the call: at the op's code, or where
-    /// one is missing, or 0 for OutOfMemory.
+    /// The offset in bytes from the first byte that was passed to the call: that of the op's code,
+    /// or where one is missing, or 0 for OutOfMemory.
     pub offset: u64,
 }
 
 impl DepexFault {
-    /// The number by which the fault's kind is known, 1 to 6.
+    /// The number of the fault's kind, 1 to 6.
     pub fn number(self) -> u8
         ensures { result ≡ depex_fault_number self.kind }
     {
@@ -68,7 +70,7 @@ impl DepexFault {
     }
 }
 
-/// The fault of every call whose memory was refused.
+/// The fault of every call when memory runs out.
 const WANT_OF_MEMORY: DepexFault = DepexFault {
     kind: DepexFaultKind::OutOfMemory,
     offset: 0,

@@ -20,13 +20,14 @@ pub enum Phase {
 /// 1, section 3.4, and volume 2, section 10.7.)
 #[derive(Clone, Copy, Debug, PartialEq, Eq)]
 pub enum Op {
-    /// EFI_DEP_BEFORE, 0x00: right before the driver whose file has this name. It stands first, and
-    /// END follows it. DXE only.
+    /// EFI_DEP_BEFORE, 0x00: right before the driver whose file has this name. It is the first op,
+    /// and END follows it. DXE only.
     Before(Guid),
-    /// EFI_DEP_AFTER, 0x01: right after the driver whose file has this name. It stands first, and
-    /// END follows it. DXE only.
+    /// EFI_DEP_AFTER, 0x01: right after the driver whose file has this name. It is the first op,
+    /// and END follows it. DXE only.
     After(Guid),
-    /// EFI_DEP_PUSH, 0x02: pushes whether the protocol of this name, in PEI the PPI, is installed.
+    /// EFI_DEP_PUSH, 0x02: pushes whether the protocol with this GUID, in PEI the PPI, is
+    /// installed.
     Push(Guid),
     /// EFI_DEP_AND, 0x03: pops two values, and pushes whether both are true.
     And,
@@ -38,10 +39,10 @@ pub enum Op {
     True,
     /// EFI_DEP_FALSE, 0x07: pushes false.
     False,
-    /// EFI_DEP_END, 0x08: the end. The one value on the stack is the expression's.
+    /// EFI_DEP_END, 0x08: the end. The one value on the stack is that of the expression.
     End,
-    /// EFI_DEP_SOR, 0x09: schedule on request, which does not change the value. It stands first, and
-    /// an expression follows it. DXE only.
+    /// EFI_DEP_SOR, 0x09: schedule on request, which does not change the value. It is the first op,
+    /// and an expression follows it. DXE only.
     Sor,
 }
 

@@ -5,18 +5,18 @@ ghost use Rattle.fv_depex.specs.OpChecks.{values_after, values_of, stage_after};
 
 use crate::op::Op;
 
-/// What the ops before leave.
+/// What the ops so far have left.
 #[derive(Clone, Copy, Debug, PartialEq, Eq)]
 pub enum Stage {
-    /// There are none.
+    /// There were none.
     Start,
     /// BEFORE or AFTER, which END has to follow.
     Ordered,
-    /// So many values on the stack.
+    /// This many values on the stack.
     Values(u64),
 }
 
-// How many values a stage has on the stack.
+// How many values are on the stack at a stage.
 fn values_of(stage: Stage) -> u64
     ensures { result ≡ values_of stage }
 {
@@ -26,7 +26,7 @@ fn values_of(stage: Stage) -> u64
     }
 }
 
-// How many values are on the stack behind an op that finds so many there.
+// How many values are on the stack after an op, if there were `count` before it.
 fn values_after(count: u64, op: &Op) -> u64
     requires { count < 2 ^ 63 }
     ensures { result ≡ values_after count op.now }
@@ -38,7 +38,7 @@ fn values_after(count: u64, op: &Op) -> u64
     }
 }
 
-/// The stage behind an op.
+/// The stage after an op.
 pub fn stage_after(stage: Stage, op: &Op) -> Stage
     requires { values_of stage < 2 ^ 63 }
     ensures { result ≡ stage_after stage op.now }

@@ -1,13 +1,13 @@
-//! The codes of ops (PI specification, volume 2, section 10.7): an op's first byte, both where it
-//! is read and where it is written.
+//! The codes of ops (PI specification, volume 2, section 10.7): an op's first byte. Both reading
+//! and writing use them.
 
-/// EFI_DEP_BEFORE, and a GUID behind it.
+/// EFI_DEP_BEFORE, followed by a GUID.
 pub const BEFORE: u8 = 0x00;
 
-/// EFI_DEP_AFTER, and a GUID behind it.
+/// EFI_DEP_AFTER, followed by a GUID.
 pub const AFTER: u8 = 0x01;
 
-/// EFI_DEP_PUSH, and a GUID behind it: the highest that carries one, and PEI's lowest.
+/// EFI_DEP_PUSH, followed by a GUID: the highest code that carries one, and PEI's lowest code.
 pub const PUSH: u8 = 0x02;
 
 /// EFI_DEP_AND.
@@ -25,8 +25,8 @@ pub const TRUE: u8 = 0x06;
 /// EFI_DEP_FALSE.
 pub const FALSE: u8 = 0x07;
 
-/// EFI_DEP_END, PEI's highest.
+/// EFI_DEP_END, PEI's highest code.
 pub const END: u8 = 0x08;
 
-/// EFI_DEP_SOR, DXE's highest.
+/// EFI_DEP_SOR, DXE's highest code.
 pub const SOR: u8 = 0x09;

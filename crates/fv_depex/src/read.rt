@@ -18,10 +18,10 @@ use fv_base::field::bytes_from;
 use fv_base::{ByteList, guid_at};
 use std::alloc::{AllocError, Global};
 
-/// Where the GUID of an op stands: right behind its code.
+/// The offset of the GUID of an op: right after its code.
 const OPERAND: usize = 1;
 
-/// Bytes of an op that carries a GUID: its code, and the GUID's 16.
+/// The length of an op that carries a GUID: its code, and the 16 bytes of the GUID.
 const WITH_GUID: usize = 17;
 
 // Whether the phase has this op code.
@@ -34,7 +34,8 @@ fn has_code(phase: Phase, code: u8) -> bool
     }
 }
 
-// Whether an op of this code may stand here: BEFORE, AFTER and SOR first only, and behind BEFORE or AFTER END alone.
+// Whether an op with this code is allowed here: BEFORE, AFTER and SOR only as the first, and only
+// END after BEFORE or AFTER.
 fn in_place(stage: Stage, code: u8) -> bool
     ensures { result ≡ in_place stage code }
 {
@@ -45,7 +46,7 @@ fn in_place(stage: Stage, code: u8) -> bool
     }
 }
 
-// Whether so many values are those that an op of this code takes.
+// Whether `count` values are enough for an op with this code.
 fn has_values(count: u64, code: u8) -> bool
     ensures { result ≡ has_values count code }
 {
@@ -60,7 +61,8 @@ fn has_values(count: u64, code: u8) -> bool
     }
 }
 
-// Whether the stack holds the values that an op of this code takes. Behind BEFORE or AFTER END takes none.
+// Whether the stack holds the values that an op with this code takes. After BEFORE or AFTER, END
+// takes none.
 fn holds_values(stage: Stage, code: u8) -> bool
     ensures { result ≡ holds_values stage code }
 {
@@ -71,7 +73,7 @@ fn holds_values(stage: Stage, code: u8) -> bool
     }
 }
 
-// Whether an op of this code carries a GUID.
+// Whether an op with this code carries a GUID.
 fn carries(code: u8) -> bool
     ensures { result ≡ carries code }
 {
@@ -86,7 +88,7 @@ fn has_operand(rest: &[u8]) -> bool
     !carries(rest[0]) || rest.len() >= WITH_GUID
 }
 
-// Done, or the kind of the first check that does not hold.
+// Ok, or the kind of the first check that does not hold.
 fn check_op(rest: &[u8], phase: Phase, stage: Stage) -> Result<(), DepexFaultKind>
     ensures ok { OnOk result (first_fault (op_checks phase stage rest.now) ≡ None) }
     ensures err { IfErr result (λ kind. first_fault (op_checks phase stage rest.now) ≡ Some kind) }
@@ -130,7 +132,7 @@ fn op_in(rest: &[u8]) -> Op
     }
 }
 
-// How many bytes an op has.
+// The number of bytes of an op.
 fn op_len(op: &Op) -> usize
     ensures { result ≡ 1 + operand_len (carries (op_code op.now)) }
 {
@@ -146,7 +148,7 @@ fn next_op(rest: &[u8], phase: Phase, stage: Stage) -> Result<Op, DepexFaultKind
     Ok(op_in(rest))
 }
 
-// The ops up to END, and how many bytes they have.
+// The ops up to END, and the number of their bytes.
 fn read_ops(alloc: Global, bytes: &[u8], phase: Phase) -> Result<(Vec<Op>, usize), DepexFault>
     ensures found { IfOk result
         (λ p. (p.1 ≤ length bytes.now) × Spells phase p.0.items (drop p.1 bytes.now) bytes.now) }
@@ -174,30 +176,31 @@ fn read_ops(alloc: Global, bytes: &[u8], phase: Phase) -> Result<(Vec<Op>, usize
 }
 
 /// Reads the body of a dependency section (EFI_SECTION_PEI_DEPEX, EFI_SECTION_DXE_DEPEX or
-/// EFI_SECTION_MM_DEPEX) as the phase does: the ops up to END, which have to be a whole expression,
-/// and the bytes behind END. (PI specification, volume 1, section 3.4, and volume 2, section 10.7.)
+/// EFI_SECTION_MM_DEPEX) as the phase does: the ops up to END, which must be a complete expression,
+/// and the bytes after END. (PI specification, volume 1, section 3.4, and volume 2, section 10.7.)
 ///
 /// # Errors
 ///
-/// At the first op that has a fault, in this order: NoEnd where no bytes are left, Opcode,
-/// Position, Short, Stack. The offset is that of the op's code, in bytes from the first of `bytes`.
+/// At the first op that has a fault, in this order: NoEnd if no bytes are left, Opcode, Position,
+/// Short, Stack. The offset is that of the op's code, in bytes from the first of `bytes`.
 /// OutOfMemory at 0.
 pub fn read_depex(alloc: Global, bytes: &[u8], phase: Phase) -> Result<Depex, DepexFault>
-    // The bytes are spelled by these ops and this rest.
+    // These ops and this rest spell the bytes.
     ensures found { IfOk result (λ d. (d.phase ≡ phase) × Spells phase d.ops d.rest bytes.now) }
 
-    // They are spelled by no others.
+    // No others do.
     ensures only { IfOk result
         (λ d. (ops : List Op) (rest : List ℕ) → Spells phase ops rest bytes.now → (ops ≡ d.ops) × (rest ≡ d.rest)) }
 
-    // Where it refuses, want of memory aside, they are spelled by none.
+    // If an error other than OutOfMemory is returned, none do.
     ensures none { IfErr result
         (λ f. f ≢ depex_want_of_memory → (ops : List Op) (rest : List ℕ) → Spells phase ops rest bytes.now → ⊥) }
 
-    // A refusal, want of memory aside, names the first check that does not hold, at the first op that has one.
+    // An error other than OutOfMemory names the first check that does not hold, at the first op
+    // that has one.
     ensures first { IfErr result (λ f. f ≢ depex_want_of_memory → IsFirstOpFault phase bytes.now f) }
 
-    // Memory is wanting only where the bytes begin with an op that may stand first.
+    // Memory runs out only if the bytes begin with an op that may be the first.
     ensures memory { IfErr result (λ f. f ≡ depex_want_of_memory → BeginsFirstOp phase bytes.now) }
 {
     let (ops, at) = read_ops(alloc, bytes, phase)?;

@@ -14,10 +14,10 @@ use std::test::Fail;
 /// The bytes of a GUID.
 const A: [u8; 16] = [0x0a; 16];
 
-/// The bytes of another.
+/// The bytes of another GUID.
 const B: [u8; 16] = [0x0b; 16];
 
-/// The bytes of one that are not the same backwards.
+/// The bytes of a GUID that differs from its reverse.
 const ORDER: [u8; 16] = [
     0x1f, 0x2e, 0x3d, 0x4c, 0x5b, 0x6a, 0x79, 0x88, 0x97, 0xa6, 0xb5, 0xc4, 0xd3, 0xe2, 0xf1, 0x00,
 ];
@@ -45,7 +45,7 @@ fn long(alloc: Global, last: u8) -> Result<Vec<u8>, DepexFault> {
     Ok(bytes)
 }
 
-// The fault of an expression, if it is refused.
+// The fault of an expression, if it is rejected.
 fn fault_of(alloc: Global, bytes: &[u8], phase: Phase) -> Option<DepexFault> {
     match read_depex(alloc, bytes, phase) {
         Ok(_depex) => None,

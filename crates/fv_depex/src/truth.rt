@@ -12,7 +12,7 @@ use crate::op::Op;
 use fv_base::Guid;
 use std::alloc::{AllocError, Global};
 
-// Whether a GUID is among those that are installed.
+// Whether a GUID is among those installed.
 fn is_among(guid: &Guid, installed: &[Guid]) -> bool
     ensures { result ≡ is_among guid.now installed.now }
 {
@@ -36,7 +36,7 @@ fn top(stack: &mut Vec<bool>) -> Option<bool>
     stack.pop()
 }
 
-// One op on the stack, and whether the stack had what it takes.
+// Evaluates one op on the stack; false if the stack did not hold what the op takes.
 fn evaluate_op(stack: &mut Vec<bool>, op: &Op, installed: &[Guid]) -> Result<bool, AllocError>
     ensures { IfOk result (λ done. evaluate_op installed.now (reverse stack.old.items) op.now
         ≡ (if done then Some (reverse stack.new.items) else None)) }
@@ -69,7 +69,7 @@ fn evaluate_op(stack: &mut Vec<bool>, op: &Op, installed: &[Guid]) -> Result<boo
     Ok(true)
 }
 
-// The value that ops leave on top, if they have one.
+// The value that the ops leave on top, if they leave one.
 fn evaluate_ops(alloc: Global, ops: &[Op], installed: &[Guid]) -> Result<Option<bool>, DepexFault>
     ensures value { IfOk result (λ v. v ≡ evaluate_ops installed.now ops.now []) }
     ensures err { IfErr result (λ f. f ≡ depex_want_of_memory) }
@@ -83,10 +83,10 @@ fn evaluate_ops(alloc: Global, ops: &[Op], installed: &[Guid]) -> Result<Option<
     Ok(top(&mut stack))
 }
 
-/// The truth of an expression where the protocols (in PEI the PPIs) of these GUIDs are installed,
-/// or None for BEFORE and AFTER, which have none; SOR does not change it. Each PUSH looks through
-/// the installed GUIDs, so the time grows with the ops times their number. (PI specification,
-/// volume 1, section 3.4, and volume 2, section 10.7.)
+/// The truth value of an expression when the protocols (in PEI the PPIs) with these GUIDs are
+/// installed, or None for BEFORE and AFTER, which have none. SOR does not change it. Each PUSH
+/// searches the installed GUIDs, so the time grows with the number of ops times their number. (PI
+/// specification, volume 1, section 3.4, and volume 2, section 10.7.)
 ///
 /// # Errors
 ///
@@ -96,14 +96,14 @@ pub fn evaluate(
     depex: &Depex,
     installed: &[Guid],
 ) -> Result<Option<bool>, DepexFault>
-    // It is the truth of the tree whose ops these are.
+    // It is the truth value of the tree whose ops these are.
     ensures truth { IfOk result
         (λ v. (t : Expression) → IsTree depex.now.phase depex.now.ops t → v ≡ Some (truth installed.now t)) }
 
-    // BEFORE and AFTER have none.
+    // BEFORE and AFTER have no truth value.
     ensures order { IfOk result (λ v. IsOrder depex.now.phase depex.now.ops → v ≡ None) }
 
-    // They are the ops of one tree at most.
+    // They are the ops of at most one tree.
     ensures tree { (t u : Expression) → IsTree depex.now.phase depex.now.ops t → IsTree depex.now.phase depex.now.ops u
         → t ≡ u }
     ensures err { IfErr result (λ f. f ≡ depex_want_of_memory) }

@@ -10,7 +10,7 @@ use crate::op::Op;
 use fv_base::ByteList;
 use std::alloc::{AllocError, Global};
 
-// The bytes with those of an op behind them.
+// Appends the bytes of an op.
 fn push_op(bytes: &mut Vec<u8>, op: &Op) -> Result<(), AllocError>
     ensures { OnOk result (bytes.new.items ≡ bytes.old.items ++ (op_code op.now ∷ op_operand op.now)) }
 {
@@ -32,7 +32,7 @@ fn ops_bytes(alloc: Global, ops: &[Op]) -> Result<Vec<u8>, AllocError>
     Ok(bytes)
 }
 
-// The bytes of ops, and others behind them.
+// The bytes of ops, and others after them.
 fn spelled(alloc: Global, ops: &[Op], rest: &[u8]) -> Result<Vec<u8>, AllocError>
     ensures { IfOk result (λ v. v.items ≡ ops_bytes ops.now ++ rest.now) }
 {
@@ -41,15 +41,15 @@ fn spelled(alloc: Global, ops: &[Op], rest: &[u8]) -> Result<Vec<u8>, AllocError
     Ok(bytes)
 }
 
-/// The bytes of an expression: of each op its code, and its GUID where it carries one, and then the
-/// rest behind END. They are the bytes that it was read from. (PI specification, volume 1, section
+/// The bytes of an expression: for each op its code, and its GUID if it carries one, and then the
+/// rest after END. They are the bytes that it was read from. (PI specification, volume 1, section
 /// 3.4, and volume 2, section 10.7.)
 ///
 /// # Errors
 ///
 /// OutOfMemory.
 pub fn depex_bytes(alloc: Global, depex: &Depex) -> Result<ByteList, DepexFault>
-    // They are spelled by the expression.
+    // The expression spells them.
     ensures spells { IfOk result (λ b. Spells depex.now.phase depex.now.ops depex.now.rest b) }
 
     // They are these bytes.

@@ -10,7 +10,7 @@ attribute_bits a = a.0
 abbrev pub attributes_by : ℕ → FileAttributes
 attributes_by bits = record { 0 = bits }
 
--- bit 0x01, FFS_ATTRIB_LARGE_FILE: the header has 32 bytes, and the size stands behind its first 24
+-- bit 0x01, FFS_ATTRIB_LARGE_FILE: the header has 32 bytes, and the size follows its first 24
 abbrev pub is_large : ℕ → Bool
 is_large attributes = attributes % 2 == 1
 
@@ -22,6 +22,6 @@ is_fixed attributes = attributes / 4 % 2 == 1
 abbrev pub is_summed : ℕ → Bool
 is_summed attributes = attributes / 64 % 2 == 1
 
--- the bits with 0x01 clear: it goes with the form of the header, and not with the file
+-- the bits with 0x01 cleared: that bit belongs to the form of the header, not to the file
 abbrev pub without_large : ℕ → ℕ
 without_large attributes = attributes / 2 * 2

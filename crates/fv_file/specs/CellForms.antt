@@ -1,4 +1,4 @@
--- What the cells that are handed out stand for.
+-- What the cells that the calls return mean.
 use Rattle.fv_file.specs.Cells.{CellForm, Valid, Pad, Dead, Stub, Free}
 use Rattle.fv_file.specs.declared.cell.Cell.{Cell}
 use Rattle.fv_file.specs.declared.cell.Cell.TheVariants as cells

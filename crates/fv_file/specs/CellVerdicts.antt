@@ -1,4 +1,4 @@
--- What is answered at one place: a value, or the fault of the first check that does not hold.
+-- The result at one place: a value, or the fault of the first check that does not hold.
 -- Serves private clauses alone: there is nothing to believe here.
 use Rattle.std.specs.Prelude.{ℕ, ◌+◌, ◌==◌, nat_lt, if◌then◌else◌, Option, Some, None, Result, Ok, Err, List, length}
 use Rattle.fv_base.specs.Verdicts.{first_fault, verdict_by}
@@ -21,13 +21,13 @@ use Rattle.fv_file.specs.declared.state.FileState.TheVariants as states
 unfoldable pub file_verdict : FileSystem → FileState → ℕ → List ℕ → Result FileHead Fault
 file_verdict system state p r = verdict_by (first_fault (file_checks system (is_alive state) p r)) (head_in state r)
 
--- the cell of a file at p, by its state, its header, and the bytes from its first on
+-- the cell of a file at p, by its state, its header, and the bytes r from p on
 abbrev pub cell_for : FileState → ℕ → FileHead → List ℕ → CellForm
 cell_for states.HeaderValid p head r = Dead p (up_to_8 head.size)
 cell_for states.Deleted p head r = Dead p (up_to_8 head.size)
 cell_for _ p head r = if head.kind == pad_kind then Pad p head (payload_at r) else Valid p head (payload_at r)
 
--- the same, where its header is known, else the fault
+-- the same if the header is known, else the fault
 abbrev pub cell_with : FileState → ℕ → List ℕ → Result FileHead Fault → Result CellForm Fault
 cell_with state p r (Ok head) = Ok (cell_for state p head r)
 cell_with state p r (Err f) = Err f
@@ -51,13 +51,13 @@ cell_verdict system polarity p r =
     if nat_lt (length r) 24 then Err (outer_fault kinds.FreeSpace (p + leading_count (erased_byte polarity) r))
     else state_verdict (state_of polarity (state_at r)) system polarity p r
 
--- the header of a file, where its state is that of one that stands
+-- the header of a file if its state is that of a valid file, else a fault
 abbrev pub standing_verdict : Option FileState → FileSystem → List ℕ → Result FileHead Fault
 standing_verdict (Some states.DataValid) system b = file_verdict system states.DataValid 0 b
 standing_verdict (Some states.Marked) system b = file_verdict system states.Marked 0 b
 standing_verdict _ system b = Err (outer_fault kinds.FileState 23)
 
--- the header of a file that stands, or of a pad, with which the bytes begin
+-- the header of the valid file, or of the pad, that the bytes begin with
 abbrev pub verify_verdict : FileSystem → Polarity → List ℕ → Result FileHead Fault
 verify_verdict system polarity b =
     if nat_lt (length b) 24 then Err (outer_fault kinds.FileSize 20)

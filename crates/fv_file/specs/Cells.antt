@@ -11,8 +11,7 @@ use Rattle.fv_file.specs.States.{StateOf, is_alive}
 use Rattle.fv_file.specs.declared.head.FileHead.{FileHead}
 use Rattle.fv_file.specs.declared.state.FileState.TheVariants as states
 
--- a cell: where it begins, in bytes from the volume's start, and a file's or pad's header and data,
--- or how many bytes it has
+-- a cell: its offset, in bytes from the volume's start, and either the header and data of a file or pad, or its length
 pub data CellForm : Type 0 where
   Valid : ℕ → FileHead → List ℕ → CellForm
   Pad : ℕ → FileHead → List ℕ → CellForm
@@ -28,7 +27,7 @@ offset_of (Dead at len) = at
 offset_of (Stub at len) = at
 offset_of (Free at len) = at
 
--- how many bytes a cell has, filler counted
+-- how many bytes a cell has, its filler included
 abbrev pub cell_len : CellForm → ℕ
 cell_len (Valid at head payload) = up_to_8 head.size
 cell_len (Pad at head payload) = up_to_8 head.size
@@ -50,8 +49,8 @@ pub record IsFilled (system : FileSystem) (polarity : Polarity) (head : FileHead
   pub short : length filler < 8
   pub multiple : length b % 8 ≡ 0
 
--- the bytes are this cell: a file that stands, a pad, a file that is not there any more or not yet, a header that was
--- never finished, or erased bytes
+-- the bytes are this cell: a valid file, a pad, a file that was deleted or whose data were never finished, a header
+-- that was never finished, or erased bytes
 abbrev pub IsCell : FileSystem → Polarity → CellForm → List ℕ → Type 0
 IsCell system polarity (Valid at head payload) b =
     IsFilled system polarity head payload b × (is_alive head.state ≡ true) × IsSound head payload
@@ -65,7 +64,7 @@ IsCell system polarity (Stub at len) b =
     × (length b ≡ file_header_len (is_large (attributes_at b))) × (len ≡ length b)
 IsCell system polarity (Free at len) b = (0 < len) × AllAre (erased_byte polarity) b × (len ≡ length b)
 
--- the bytes are these cells, joined, the first of them at the place `at`; a free one stands last only
+-- the bytes are these cells, joined, the first of them at the offset `at`; only the last may be a free cell
 abbrev pub Tiles : FileSystem → Polarity → ℕ → List CellForm → List ℕ → Type 0
 Tiles system polarity at [] b = b ≡ []
 Tiles system polarity at (c ∷ cs) b =
@@ -77,13 +76,13 @@ abbrev pub NoneFree : List CellForm → Type 0
 NoneFree [] = Unit {0}
 NoneFree (c ∷ cs) = (is_free c ≡ false) × NoneFree cs
 
--- a file's header and data make up its size
+-- the header and the data of a file or pad have together the bytes that its size says
 abbrev pub IsMadeUp : CellForm → Type 0
 IsMadeUp (Valid at head payload) = head.header_len + length payload ≡ head.size
 IsMadeUp (Pad at head payload) = head.header_len + length payload ≡ head.size
 IsMadeUp _ = Unit {0}
 
--- each cell ends within so many bytes from the volume's start
+-- each cell ends within `end` bytes from the volume's start
 abbrev pub CellsWithin : ℕ → List CellForm → Type 0
 CellsWithin end [] = Unit {0}
 CellsWithin end (c ∷ cs) = (offset_of c + cell_len c ≤ end) × IsMadeUp c × CellsWithin end cs

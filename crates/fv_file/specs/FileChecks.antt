@@ -1,4 +1,4 @@
--- The checks of a file and of a cell in their order, and the first fault of a body.
+-- The checks of a file and of a cell in a fixed order, and the first fault of a body.
 use Rattle.std.specs.Prelude.{ℕ, ◌+◌, ◌-◌, ◌<◌, ◌==◌, nat_le, ◌&&◌, ◌||◌, not, Bool, true, false, if◌then◌else◌, Option}
 use Rattle.std.specs.Prelude.{Some, None, List, [], ◌∷◌, length, take, drop}
 use Rattle.fv_base.specs.Checks.{Check, check, IsFirstFault}
@@ -18,17 +18,17 @@ use Rattle.fv_file.specs.States.{bits_of, state_of, is_alive}
 use Rattle.fv_file.specs.declared.state.FileState.{FileState}
 use Rattle.fv_file.specs.declared.state.FileState.TheVariants as states
 
--- how many bytes at the front are this one
+-- how many bytes at the front have the value e
 abbrev pub leading_count : ℕ → List ℕ → ℕ
 leading_count e [] = 0
 leading_count e (x ∷ xs) = if x == e then 1 + leading_count e xs else 0
 
--- large headers stand in FFS3 alone
+-- only FFS3 has large headers
 abbrev pub allows_large : FileSystem → Bool
 allows_large Ffs2 = false
 allows_large Ffs3 = true
 
--- what the header that begins r says: the bytes of the header, those of the file, and the data
+-- what the header at the start of r says: the length of the header, the size of the file, and the data
 abbrev pub file_header_len_at : List ℕ → ℕ
 file_header_len_at r = file_header_len (is_large (attributes_at r))
 
@@ -38,7 +38,7 @@ file_size_at r = file_size_in (is_large (attributes_at r)) r
 abbrev pub payload_at : List ℕ → List ℕ
 payload_at r = take (file_size_at r - file_header_len_at r) (drop (file_header_len_at r) r)
 
--- the header is short, or the file system has large ones
+-- the header is short, or the file system allows large ones
 abbrev pub may_be_large : FileSystem → List ℕ → Bool
 may_be_large system r = not (is_large (attributes_at r)) || allows_large system
 
@@ -46,13 +46,13 @@ may_be_large system r = not (is_large (attributes_at r)) || allows_large system
 abbrev pub has_header_sum : List ℕ → Bool
 has_header_sum r = header_sum_of (take (file_header_len_at r) r) == 0
 
--- the size is neither below the header nor past the end, and Size of a large header is zero
+-- the size is neither below the header's length nor past the end, and Size of a large header is zero
 abbrev pub has_file_size : List ℕ → Bool
 has_file_size r =
     nat_le (file_header_len_at r) (file_size_at r)
     && (nat_le (file_size_at r) (length r) && (not (is_large (attributes_at r)) || (le_at 20 3 r == 0)))
 
--- a file whose data are not looked at: a pad, or one that does not stand
+-- a file whose data are not checked: a pad, or a file that is not valid
 abbrev pub skips_data : Bool → List ℕ → Bool
 skips_data alive r = not alive || (file_type_at r == pad_kind)
 
@@ -60,7 +60,7 @@ skips_data alive r = not alive || (file_type_at r == pad_kind)
 abbrev pub has_file_sum : List ℕ → Bool
 has_file_sum r = file_sum_right (attributes_at r) (file_sum_at r) (payload_at r)
 
--- the checks of a file at p that stands or does not, from where on the bytes are r
+-- the checks of a file at p, valid (`alive`) or not; r are the bytes from p on
 abbrev pub file_checks : FileSystem → Bool → ℕ → List ℕ → List (Check Fault)
 file_checks system alive p r =
     check (may_be_large system r) kinds.LargeFile (p + 19)
@@ -71,11 +71,11 @@ file_checks system alive p r =
     ∷ check (skips_data alive r || has_file_sum r) kinds.FileSum (p + 17)
     ∷ []
 
--- those of a header that was never finished
+-- the checks of a header that was never finished
 abbrev pub stub_checks : ℕ → List ℕ → List (Check Fault)
 stub_checks p r = check (nat_le (file_header_len_at r) (length r)) kinds.FileSize (p + 20) ∷ []
 
--- those of a cell by its state; one that is free has failed before
+-- the checks of a cell by its state; a free state was rejected before
 abbrev pub state_checks : Option FileState → FileSystem → ℕ → List ℕ → List (Check Fault)
 state_checks None system p r = check false kinds.FileState (p + 23) ∷ []
 state_checks (Some states.Free) system p r = []
@@ -83,27 +83,27 @@ state_checks (Some states.Construction) system p r = stub_checks p r
 state_checks (Some states.HeaderInvalid) system p r = stub_checks p r
 state_checks (Some state) system p r = file_checks system (is_alive state) p r
 
--- the checks of a cell at p, from where on the bytes are r, not all of them erased
+-- the checks of a cell at p; r are the bytes from p on, and not all of them are erased
 abbrev pub cell_checks : FileSystem → Polarity → ℕ → List ℕ → List (Check Fault)
 cell_checks system polarity p r =
     check (nat_le 24 (length r) && not (bits_of polarity (state_at r) == 0)) kinds.FreeSpace
     (p + leading_count (erased_byte polarity) r)
     ∷ state_checks (state_of polarity (state_at r)) system p r
 
--- a state, if there is one, of a file that stands
+-- whether there is a state, and it is that of a valid file
 abbrev pub is_standing : Option FileState → Bool
 is_standing None = false
 is_standing (Some state) = is_alive state
 
--- the checks of bytes that are to begin with a file that stands, or with a pad
+-- the checks of bytes that must begin with a valid file or with a pad
 abbrev pub verify_checks : FileSystem → Polarity → List ℕ → List (Check Fault)
 verify_checks system polarity b =
     check (nat_le 24 (length b)) kinds.FileSize 20
     ∷ check (is_standing (state_of polarity (state_at b))) kinds.FileState 23
     ∷ file_checks system true 0 b
 
--- some cells, none of them free, tile the body up to a place from where on not all is erased; there the fault is that
--- of the first check that does not hold. `first` is where the body begins in its volume
+-- some cells, none of them free, tile the body up to the place `at`, and the bytes from there on are not all erased.
+-- The fault is that of the first check there that does not hold. `first` is where the body begins in its volume
 pub record IsFirstCellFault (system : FileSystem) (polarity : Polarity) (first : ℕ) (body : List ℕ)
     (fault : Fault) : Type 0 where
   pub cells : List CellForm

@@ -15,12 +15,12 @@ use Rattle.fv_file.specs.declared.state.FileState.{FileState}
 abbrev pub pad_kind : ℕ
 pad_kind = 0xf0
 
--- the bytes of a short and of a large header
+-- the length of a short and of a large header
 abbrev pub file_header_len : Bool → ℕ
 file_header_len false = 24
 file_header_len true = 32
 
--- the header sum in the header that begins b (IntegrityCheck.Checksum.Header)
+-- the header sum in the header at the start of b (IntegrityCheck.Checksum.Header)
 abbrev pub header_sum_at : List ℕ → ℕ
 header_sum_at b = slice_index b 16
 
@@ -40,12 +40,12 @@ attributes_at b = slice_index b 19
 abbrev pub state_at : List ℕ → ℕ
 state_at b = slice_index b 23
 
--- the size that a short header says (Size), and a large one (ExtendedSize)
+-- the size in a short header (Size), and in a large one (ExtendedSize)
 abbrev pub file_size_in : Bool → List ℕ → ℕ
 file_size_in false b = le_at 20 3 b
 file_size_in true b = le_at 24 8 b
 
--- the fields of the header that begins b, by their places
+-- the fields of the header at the start of b, by their offsets
 abbrev pub head_in : FileState → List ℕ → FileHead
 head_in state b = record {
   name = guid_of (take 16 b);
@@ -66,12 +66,12 @@ header_sum_of h = (sum (take 17 h) + sum (field 18 5 h) + sum (drop 24 h)) % 256
 abbrev pub fixed_checksum : ℕ
 fixed_checksum = 0xaa
 
--- with the checksum attribute, data and file sum sum to zero; else the file sum is the fixed one
+-- with the checksum attribute, the data and the file sum sum to zero; else the file sum is the fixed one
 abbrev pub file_sum_right : ℕ → ℕ → List ℕ → Bool
 file_sum_right attributes file_sum payload =
     if is_summed attributes then (sum payload + file_sum) % 256 == 0 else file_sum == fixed_checksum
 
--- the bytes h are the header of these fields; a large one stands in FFS3 alone, and its Size is zero
+-- the bytes h are the header with these fields; a large one is allowed in FFS3 only, and its Size is zero
 pub record IsFileHeader (system : FileSystem) (polarity : Polarity) (head : FileHead) (h : List ℕ) : Type 0 where
   pub whole : length h ≡ file_header_len (is_large (attributes_at h))
   pub fields : head ≡ head_in head.state h
@@ -92,7 +92,7 @@ pub record IsSound (head : FileHead) (payload : List ℕ) : Type 0 where
   pub moves : is_fixed (attribute_bits head.attributes) ≡ false
   pub file_sum : file_sum_right (attribute_bits head.attributes) head.file_sum payload ≡ true
 
--- the bytes begin with a file that stands, or with a pad
+-- the bytes begin with a valid file or with a pad
 pub record BeginsFile (system : FileSystem) (polarity : Polarity) (head : FileHead) (b : List ℕ) : Type 0 where
   pub file : List ℕ
   pub payload : List ℕ

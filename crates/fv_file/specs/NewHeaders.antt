@@ -15,15 +15,15 @@ use Rattle.fv_file.specs.declared.attributes.FileAttributes.{FileAttributes}
 use Rattle.fv_file.specs.declared.head.FileHead.{FileHead}
 use Rattle.fv_file.specs.declared.state.FileState.TheVariants as states
 
--- a file of so much data has a large header: with a short one its size would pass 0xFFFFFF
+-- a file with this much data has a large header: with a short one its size would be more than 0xFFFFFF
 abbrev pub needs_large : ℕ → Bool
 needs_large data_len = nat_lt 0xffffff (24 + data_len)
 
--- the attribute bits, of which 0x01 is clear, with 0x01 set for a large header
+-- the attribute bits, with 0x01 set for a large header; it is clear in `attributes`
 abbrev pub with_large : Bool → ℕ → ℕ
 with_large large attributes = if large then attributes + 1 else attributes
 
--- the State byte of a file that stands: the bits 0x01, 0x02 and 0x04 were written
+-- the State byte of a valid file: the bits 0x01, 0x02 and 0x04 were written
 abbrev pub state_byte : Polarity → ℕ
 state_byte Ones = 0xf8
 state_byte Zeros = 0x07
@@ -32,7 +32,7 @@ state_byte Zeros = 0x07
 abbrev pub pad_name : List ℕ
 pad_name = replicate 16 0xff
 
--- the fields of a file with data valid, and of a pad; the header sum is left to be found
+-- the fields of a file with valid data, and of a pad; the header sum is passed in
 abbrev pub fields_of : List ℕ → ℕ → ℕ → ℕ → Bool → ℕ → ℕ → FileHead
 fields_of name kind attributes size large header_sum file_sum = record {
   name = guid_of name;
@@ -53,32 +53,31 @@ file_fields name kind attributes data_len file_sum header_sum =
 abbrev pub pad_fields : ℕ → ℕ → FileHead
 pad_fields size header_sum = fields_of pad_name pad_kind 0 size false header_sum fixed_checksum
 
--- the bytes h are the header of these fields, in each file system that has such headers, with the
--- State byte of a new file
+-- the bytes h are the header with these fields and the State byte of a new file, in each file system that has such
+-- headers
 pub record IsNewHeader (polarity : Polarity) (head : FileHead) (h : List ℕ) : Type 0 where
   pub header : (system : FileSystem) → (is_large (attribute_bits head.attributes) ≡ true → system ≡ Ffs3)
       → IsFileHeader system polarity head h
   pub state : state_at h ≡ state_byte polarity
   pub bytes : IsBytes h
 
--- what makes a number a multiple of 256
+-- what must be added to make a number a multiple of 256
 abbrev pub complement : ℕ → ℕ
 complement n = (256 - n % 256) % 256
 
--- a header with these two sums, by its bytes in their order: Size is zero in a large one, whose
--- size stands behind State
+-- a header with these two sums, its bytes in order; in a large header Size is zero, and the size follows State
 abbrev pub header_with : ℕ → ℕ → List ℕ → ℕ → ℕ → ℕ → Bool → ℕ → List ℕ
 header_with header_sum file_sum name kind attributes size large state =
     name ++ (header_sum ∷ file_sum ∷ kind ∷ attributes ∷ [])
     ++ (if large then le_bytes 3 0 else le_bytes 3 size) ++ (state ∷ []) ++ (if large then le_bytes 8 size else [])
 
--- the header with its right sum, for which file sum and State count as zero
+-- the header with its right sum, in which file sum and State count as zero
 unfoldable pub header_bytes : ℕ → List ℕ → ℕ → ℕ → ℕ → Bool → ℕ → List ℕ
 header_bytes file_sum name kind attributes size large state =
     header_with (complement (sum (header_with 0 0 name kind attributes size large 0))) file_sum name kind
     attributes size large state
 
--- the bytes of the header of a file with data valid, and of that of a pad
+-- the bytes of the header of a file with valid data, and of a pad's header
 abbrev pub file_head_of : Guid → ℕ → FileAttributes → ℕ → ℕ → Polarity → List ℕ
 file_head_of name kind attributes data_len file_sum polarity =
     header_bytes file_sum (bytes_of name) kind (with_large (needs_large data_len) (attribute_bits attributes))
@@ -87,7 +86,7 @@ file_head_of name kind attributes data_len file_sum polarity =
 abbrev pub pad_head_of : ℕ → Polarity → List ℕ
 pad_head_of size polarity = header_bytes fixed_checksum pad_name pad_kind 0 size false (state_byte polarity)
 
--- behind the header, the data and less than 8 bytes to the next multiple of 8 make it a file that stands
+-- the header, then the data and fewer than 8 bytes to the next multiple of 8, is the cell of a valid file
 abbrev pub IsHeadOfFile : Polarity → FileHead → List ℕ → Type 0
 IsHeadOfFile polarity head h =
     (system : FileSystem) (at : ℕ) (payload filler : List ℕ)
@@ -96,7 +95,7 @@ IsHeadOfFile polarity head h =
     → (head.size + length filler) % 8 ≡ 0
     → IsCell system polarity (Valid at head payload) (h ++ (payload ++ filler))
 
--- behind the header, so many bytes and less than 8 to the next multiple of 8 make it a pad
+-- the header, then as many bytes as it says and fewer than 8 to the next multiple of 8, is the cell of a pad
 abbrev pub IsHeadOfPad : Polarity → FileHead → List ℕ → Type 0
 IsHeadOfPad polarity head h =
     (system : FileSystem) (at : ℕ) (payload filler : List ℕ) → head.size ≡ length h + length payload → length filler < 8

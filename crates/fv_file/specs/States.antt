@@ -10,9 +10,9 @@ abbrev pub bits_of : Polarity → ℕ → ℕ
 bits_of Ones byte = 255 - byte
 bits_of Zeros byte = byte
 
--- the highest bit of n that is set is the state's: EFI_FILE_HEADER_CONSTRUCTION (0x01), EFI_FILE_HEADER_VALID (0x02),
--- EFI_FILE_DATA_VALID (0x04), EFI_FILE_MARKED_FOR_UPDATE (0x08), EFI_FILE_DELETED (0x10) or
--- EFI_FILE_HEADER_INVALID (0x20)
+-- the highest set bit of n is that of the state: EFI_FILE_HEADER_CONSTRUCTION (0x01), EFI_FILE_HEADER_VALID (0x02),
+-- EFI_FILE_DATA_VALID (0x04), EFI_FILE_MARKED_FOR_UPDATE (0x08), EFI_FILE_DELETED (0x10) or EFI_FILE_HEADER_INVALID
+-- (0x20)
 abbrev pub IsHighest : FileState → ℕ → Type 0
 IsHighest states.Free n = n ≡ 0
 IsHighest states.Construction n = n ≡ 0x01
@@ -26,7 +26,7 @@ IsHighest states.HeaderInvalid n = (0x20 ≤ n) × (n < 0x40)
 abbrev pub StateOf : ℕ → Polarity → FileState → Type 0
 StateOf byte polarity state = IsHighest state (bits_of polarity byte)
 
--- the state of the highest bit that is set, if there is one of it
+-- the state of the highest set bit, if that bit has a state
 abbrev pub state_in : ℕ → Option FileState
 state_in n =
     if n == 0 then Some states.Free
@@ -37,11 +37,11 @@ state_in n =
     else (if nat_lt n 0x20 then Some states.Deleted
     else (if nat_lt n 0x40 then Some states.HeaderInvalid else None))))))
 
--- the state that a State byte shows, if there is one
+-- the state that a State byte shows, if it shows one
 unfoldable pub state_of : Polarity → ℕ → Option FileState
 state_of polarity byte = state_in (bits_of polarity byte)
 
--- the state of a file that stands: its data are valid, marked for update or not
+-- the state of a valid file: its data are valid, and it is marked for update or not
 abbrev pub is_alive : FileState → Bool
 is_alive states.DataValid = true
 is_alive states.Marked = true

@@ -5,8 +5,8 @@ ghost use Rattle.fv_file.specs.Attributes.{attribute_bits, is_large, is_fixed, i
 
 use bitflags::{Flag, Flags, bitflag_items};
 
-/// A file's attribute bits, all eight of them as they were found. (PI specification, volume 3,
-/// section 3.2.3.1, `FFS_ATTRIB_LARGE_FILE` and the others.)
+/// A file's attribute bits, all eight of them as found. (PI specification, volume 3, section
+/// 3.2.3.1, `FFS_ATTRIB_LARGE_FILE` and the others.)
 #[derive(Clone, Copy, PartialEq, Eq, Debug)]
 pub struct FileAttributes(u8);
 
@@ -78,8 +78,8 @@ impl FileAttributes {
         self.contains(FileAttributes::CHECKSUM)
     }
 
-    /// The bits without 0x01, `FFS_ATTRIB_LARGE_FILE`, which goes with the form of the header: what `file_head_bytes`
-    /// takes of a file that was read.
+    /// The bits without 0x01, `FFS_ATTRIB_LARGE_FILE`, which belongs to the form of the header.
+    /// These are the bits to pass to `file_head_bytes` for a file that was read.
     pub fn without_large(self) -> FileAttributes
         ensures { result.0 ≡ without_large self.0 }
     {

@@ -19,9 +19,9 @@ use fv_base::field::up_to_8;
 use fv_base::{Fault, FaultKind, FileSystem, Polarity, all_are, check};
 use std::alloc::Global;
 
-// Whether a free cell stands here: all that is left is erased. All of it is looked at only where
-// fewer than 24 bytes are left or `State` is erased. If it is not free there, `cell_at`
-// refuses it, so that a body is looked through once at most.
+// Whether a free cell begins here: all remaining bytes are erased. They are all looked at only if
+// fewer than 24 are left or `State` is erased. If there is no free cell then, `cell_at` rejects the
+// bytes, so a body is looked through at most once.
 fn is_free(rest: &[u8], polarity: Polarity) -> bool
     ensures { result ≡ all_are (erased_byte polarity) rest.now }
 {
@@ -41,7 +41,7 @@ fn stray(rest: &[u8], at: u64, polarity: Polarity) -> Fault
     )
 }
 
-// The cell at `at`, which is not a free one, or the first fault there.
+// The cell at the offset `at`, which is not a free one, or the first fault there.
 fn cell_at<'a>(
     rest: &'a [u8],
     at: u64,
@@ -97,7 +97,7 @@ fn cell_at<'a>(
     }
 }
 
-// How many bytes a cell has, filler counted.
+// The number of bytes of a cell, its filler included.
 fn span_of(cell: &Cell) -> u64
     requires { cell_len (cell_form cell.now) < 2 ^ 64 }
     ensures { result ≡ cell_len (cell_form cell.now) }
@@ -108,7 +108,7 @@ fn span_of(cell: &Cell) -> u64
     }
 }
 
-// The cells of a body that begins at `first` of its volume.
+// The cells of a body that begins at the offset `first` of its volume.
 fn cells_in(
     alloc: Global,
     body: &[u8],
@@ -140,15 +140,17 @@ fn cells_in(
     Ok(Cells::from_vec(list))
 }
 
-/// The one tiling by cells of a volume's body, which begins at `first`, in bytes from the volume's start, as all
-/// offsets are. `first` lies in the volume, and it and the volume's bytes are multiples of 8. A file's payload is the
-/// volume's bytes behind its header. (PI specification, volume 3, sections 3.2.2 and 3.2.3.)
+/// The cells of a volume's body, which begins at the offset `first`. There is only one list of
+/// cells that tiles a body. All offsets are in bytes from the volume's start. `first` lies in the
+/// volume; `first` and the volume's length are multiples of 8. A file's payload is the bytes of the
+/// volume after the file's header. (PI specification, volume 3, sections 3.2.2 and 3.2.3.)
 ///
 /// # Errors
 ///
-/// The fault of the first cell that has one; of a cell FreeSpace, FileState, then of a stub
-/// FileSize, of all others LargeFile, FileSize where a large header is cut, FileHeaderSum,
-/// FileSize, and of a file that stands and is no pad Fixed, FileSum. OutOfMemory at 0.
+/// The fault of the first cell that has one. The faults of a cell come in this order: FreeSpace,
+/// FileState; then FileSize for a stub; for all others LargeFile, FileSize if a large header is cut
+/// short, FileHeaderSum, FileSize; and for a valid file that is no pad also Fixed, FileSum.
+/// OutOfMemory at 0.
 pub fn cells(
     alloc: Global,
     volume: &[u8],
@@ -163,24 +165,24 @@ pub fn cells(
     // These cells tile the body.
     ensures found { IfOk result (λ cs. Tiles system polarity first cs (drop first volume.now)) }
 
-    // No others do.
+    // No other cells do.
     ensures only { IfOk result
         (λ cs. (ds : List CellForm) → Tiles system polarity first ds (drop first volume.now) → ds ≡ cs) }
 
-    // Where it refuses, want of memory aside, none do.
+    // If an error other than OutOfMemory is returned, no cells do.
     ensures none { IfErr result
         (λ f. f ≢ want_of_memory → (ds : List CellForm) → Tiles system polarity first ds (drop first volume.now) → ⊥) }
 
-    // A refusal, want of memory aside, names the first check that does not hold at the first place where no cell
-    // stands.
+    // An error other than OutOfMemory names the first check that does not hold at the first offset
+    // where no cell begins.
     ensures first { IfErr result
         (λ f. f ≢ want_of_memory → IsFirstCellFault system polarity first (drop first volume.now) f) }
 
-    // Cells and faults lie within the volume.
+    // Cells and faults are within the volume.
     ensures lies { IfOk result (CellsWithin (length volume.now)) }
     ensures bound { IfErr result (λ f. f.place.offset ≤ length volume.now) }
 
-    // A body of no bytes is not refused, not even for want of memory.
+    // A body of no bytes is not rejected, not even because memory runs out.
     ensures some { IfErr result (λ _. first < length volume.now) }
 {
     cells_in(alloc, &volume[first as usize..], first, system, polarity)

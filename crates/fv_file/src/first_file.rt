@@ -29,14 +29,15 @@ fn verdict(bytes: &[u8], system: FileSystem, polarity: Polarity) -> Result<FileH
     }
 }
 
-/// The header of the file that the bytes begin with: one that stands, or a pad. What stands behind
-/// the file is not looked at. Takes no memory. (PI specification, volume 3, section 3.2.3.1.)
+/// The header of the file at the start of the bytes: a valid file, or a pad. What follows the file
+/// is not looked at. Takes no memory. (PI specification, volume 3, section 3.2.3.1.)
 ///
 /// # Errors
 ///
-/// The first fault, in this order: FileSize where 24 bytes are not there, FileState (bit 0x40 or 0x80, or a file that
-/// does not stand), LargeFile, FileSize where a large header is cut, FileHeaderSum, FileSize, and where it is no pad
-/// Fixed, FileSum. Offsets are in bytes from the first.
+/// The first fault, in this order: FileSize if there are fewer than 24 bytes, FileState (bit 0x40
+/// or 0x80 was written, or the file is not valid), LargeFile, FileSize if a large header is cut
+/// short, FileHeaderSum, FileSize, and if the file is no pad Fixed, FileSum. Offsets are in bytes
+/// from the first.
 pub fn verify_ffs_file(
     bytes: &[u8],
     system: FileSystem,
@@ -45,10 +46,10 @@ pub fn verify_ffs_file(
     // The bytes begin with a file of this header.
     ensures found { IfOk result (λ head. BeginsFile system polarity head bytes.now) }
 
-    // Every file that they begin with is answered.
+    // Every file that they begin with is returned.
     ensures only { (head : FileHead) → BeginsFile system polarity head bytes.now → result ≡ Ok head }
 
-    // A refusal names the first check that does not hold.
+    // An error names the first check that does not hold.
     ensures first { IfErr result (IsFirstFault (verify_checks system polarity bytes.now)) }
 {
     verdict(bytes, system, polarity)

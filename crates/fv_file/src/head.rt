@@ -24,11 +24,11 @@ use fv_base::{Fault, FaultKind, FileSystem, Guid, check, guid_at, sum8};
 /// `Type` of a pad file: `EFI_FV_FILETYPE_FFS_PAD`.
 pub(crate) const PAD: u8 = 0xf0;
 
-/// `IntegrityCheck.Checksum.File` of a file whose data are not summed: `FFS_FIXED_CHECKSUM`. (PI specification, volume
-/// 3, section 3.2.3.1.)
+/// `IntegrityCheck.Checksum.File` of a file whose data are not summed: `FFS_FIXED_CHECKSUM`. (PI
+/// specification, volume 3, section 3.2.3.1.)
 pub const FIXED_CHECKSUM: u8 = 0xaa;
 
-/// The header of a file, as it was found. (PI specification, volume 3, section 3.2.3.1,
+/// The header of a file, as found. (PI specification, volume 3, section 3.2.3.1,
 /// `EFI_FFS_FILE_HEADER` and `EFI_FFS_FILE_HEADER2`.)
 #[derive(Clone, Copy, Debug, PartialEq, Eq)]
 pub struct FileHead {
@@ -38,19 +38,20 @@ pub struct FileHead {
     pub kind: u8,
     /// The attribute bits, `Attributes`.
     pub attributes: FileAttributes,
-    /// The bytes of the file, its header counted: `Size`, or `ExtendedSize` of a large header.
+    /// The size of the file in bytes, its header included: `Size`, or `ExtendedSize` of a large
+    /// header.
     pub size: u64,
-    /// The bytes of the header, 24 or 32.
+    /// The length of the header in bytes, 24 or 32.
     pub header_len: u64,
-    /// What makes the header's bytes sum to zero, `IntegrityCheck.Checksum.Header`.
+    /// The byte that makes the header's bytes sum to zero, `IntegrityCheck.Checksum.Header`.
     pub header_sum: u8,
-    /// What makes the data sum to zero, or 0xAA: `IntegrityCheck.Checksum.File`.
+    /// The byte that makes the data sum to zero, or 0xAA: `IntegrityCheck.Checksum.File`.
     pub file_sum: u8,
-    /// How far the file has come, by `State`.
+    /// The state of the file, by `State`.
     pub state: FileState,
 }
 
-// The attribute bits in the header that the bytes begin with.
+// The attribute bits in the header at the start of the bytes.
 fn attributes_at(rest: &[u8]) -> FileAttributes
     requires least { 24 ≤ length rest.now }
     ensures { attribute_bits result ≡ attributes_at rest.now }
@@ -58,7 +59,7 @@ fn attributes_at(rest: &[u8]) -> FileAttributes
     FileAttributes::from_bits_retain(rest[ATTRIBUTES_OFFSET])
 }
 
-// How many bytes the header has that the bytes begin with.
+// The length of the header at the start of the bytes.
 pub(crate) fn header_len_at(rest: &[u8]) -> usize
     requires least { 24 ≤ length rest.now }
     ensures { result ≡ file_header_len_at rest.now }
@@ -70,7 +71,7 @@ pub(crate) fn header_len_at(rest: &[u8]) -> usize
     }
 }
 
-// `Size`, as it stands in the header that the bytes begin with.
+// `Size` in the header at the start of the bytes.
 fn short_size(rest: &[u8]) -> u64
     requires least { 24 ≤ length rest.now }
     ensures { result ≡ le_at 20 3 rest.now }
@@ -78,7 +79,7 @@ fn short_size(rest: &[u8]) -> u64
     u64::from(LittleEndian::read_u24(field(rest, SIZE_OFFSET, 3)))
 }
 
-// `ExtendedSize`, as it stands there in a large header.
+// `ExtendedSize` in the large header at the start of the bytes.
 fn large_size(rest: &[u8]) -> u64
     requires least { 32 ≤ length rest.now }
     ensures { result ≡ le_at 24 8 rest.now }
@@ -86,7 +87,7 @@ fn large_size(rest: &[u8]) -> u64
     u64_at(rest, EXTENDED_SIZE_OFFSET)
 }
 
-// How many bytes the file has, its header counted, by the field that its header uses.
+// The size of the file, its header included, from the field that its header uses.
 fn size_at(rest: &[u8]) -> u64
     requires least { 24 ≤ length rest.now }
     requires header { file_header_len_at rest.now ≤ length rest.now }
@@ -110,7 +111,7 @@ fn header_sum(header: &[u8]) -> u8
         .wrapping_add(sum8(&header[HEADER_LEN..]))
 }
 
-// Whether the file system has headers of this form: large ones stand in FFS3 alone.
+// Whether the file system allows a header of this form: only FFS3 allows large ones.
 fn may_be_large(rest: &[u8], system: FileSystem) -> bool
     requires least { 24 ≤ length rest.now }
     ensures { result ≡ may_be_large system rest.now }
@@ -127,7 +128,8 @@ fn has_header_sum(rest: &[u8]) -> bool
     header_sum(&rest[..header_len_at(rest)]) == 0
 }
 
-// Whether the size is neither below the header nor past the end, and `Size` of a large header is zero.
+// Whether the size is neither below the header's length nor past the end, and `Size` of a large
+// header is zero.
 fn has_file_size(rest: &[u8]) -> bool
     requires least { 24 ≤ length rest.now }
     requires header { file_header_len_at rest.now ≤ length rest.now }
@@ -139,7 +141,7 @@ fn has_file_size(rest: &[u8]) -> bool
         && (!attributes_at(rest).is_large() || short_size(rest) == 0)
 }
 
-// Whether a file's data are not looked at, as those of a pad.
+// Whether a file's data are not checked: those of a pad, or of a file that is not valid.
 fn skips_data(rest: &[u8], alive: bool) -> bool
     requires least { 24 ≤ length rest.now }
     ensures { result ≡ skips_data alive rest.now }
@@ -147,7 +149,7 @@ fn skips_data(rest: &[u8], alive: bool) -> bool
     !alive || rest[TYPE_OFFSET] == PAD
 }
 
-// Whether the data sum to zero with the file sum.
+// Whether the data and the file sum sum to zero.
 fn is_sum_zero(rest: &[u8]) -> bool
     requires least { 24 ≤ length rest.now }
     requires header { file_header_len_at rest.now ≤ file_size_at rest.now }
@@ -158,7 +160,7 @@ fn is_sum_zero(rest: &[u8]) -> bool
     sum8(payload).wrapping_add(rest[FILE_SUM_OFFSET]) == 0
 }
 
-// Whether the file sum is right: over the data, or the fixed one.
+// Whether the file sum is right: that of the data, or the fixed one.
 fn has_file_sum(rest: &[u8]) -> bool
     requires least { 24 ≤ length rest.now }
     requires header { file_header_len_at rest.now ≤ file_size_at rest.now }
@@ -172,7 +174,7 @@ fn has_file_sum(rest: &[u8]) -> bool
     }
 }
 
-// The fields of the header that the bytes begin with.
+// The fields of the header at the start of the bytes.
 fn head_in(rest: &[u8], state: FileState) -> FileHead
     requires least { 24 ≤ length rest.now }
     requires header { file_header_len_at rest.now ≤ length rest.now }
@@ -190,7 +192,7 @@ fn head_in(rest: &[u8], state: FileState) -> FileHead
     }
 }
 
-// The header of a file at `at`, or the first fault of its checks.
+// The header of a file at the offset `at`, or the first fault of its checks.
 fn checked(rest: &[u8], at: u64, system: FileSystem, state: FileState) -> Result<FileHead, Fault>
     requires least { 24 ≤ length rest.now }
     requires place { at < 2 ^ 63 }
@@ -218,8 +220,7 @@ fn checked(rest: &[u8], at: u64, system: FileSystem, state: FileState) -> Result
     Ok(head_in(rest, state))
 }
 
-// The header of a file at `at`, in bytes from where offsets are counted, or the first fault of
-// its checks.
+// The header of a file at the offset `at`, or the first fault of its checks.
 pub(crate) fn file_at(
     rest: &[u8],
     at: u64,

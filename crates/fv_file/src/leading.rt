@@ -3,7 +3,7 @@
 ghost use Rattle.std.specs.Prelude.{◌≡◌, ◌≤◌, length};
 ghost use Rattle.fv_file.specs.FileChecks.{leading_count};
 
-// How many bytes at the front are this one.
+// How many bytes at the front have the value `byte`.
 pub(crate) fn leading_count(bytes: &[u8], byte: u8) -> usize
     ensures run { result ≡ leading_count byte bytes.now }
     ensures bound { result ≤ length bytes.now }

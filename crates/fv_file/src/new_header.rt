@@ -22,11 +22,11 @@ use byteorder::{ByteOrder, LittleEndian};
 use fv_base::{Guid, Polarity, sum8};
 use std::marker::Model;
 
-/// The most bytes that a file with a short header has: `Size` has 3 bytes.
+/// The greatest size of a file with a short header: `Size` has 3 bytes.
 const SHORT_LIMIT: u64 = 0xff_ffff;
 
-/// The bytes of a header, `EFI_FFS_FILE_HEADER` or `EFI_FFS_FILE_HEADER2`: 24, or 32 of a large one. Contracts see
-/// them as a list. (PI specification, volume 3, section 3.2.3.1.)
+/// The bytes of a header, `EFI_FFS_FILE_HEADER` or `EFI_FFS_FILE_HEADER2`: 24, or 32 for a large
+/// one. Contracts see them as a list. (PI specification, volume 3, section 3.2.3.1.)
 #[derive(Drop)]
 pub struct HeadBytes {
     bytes: [u8; 32],
@@ -44,7 +44,7 @@ impl Model for HeadBytes {
 }
 
 impl HeadBytes {
-    /// The bytes in their order.
+    /// The bytes in order.
     pub fn as_slice(&self) -> &[u8]
         ensures { result.now ≡ self.now }
     {
@@ -52,8 +52,8 @@ impl HeadBytes {
     }
 }
 
-// `State` of a file whose data are valid: the bits `EFI_FILE_HEADER_CONSTRUCTION`, `EFI_FILE_HEADER_VALID` and
-// `EFI_FILE_DATA_VALID`.
+// `State` of a file whose data are valid: the bits `EFI_FILE_HEADER_CONSTRUCTION`,
+// `EFI_FILE_HEADER_VALID` and `EFI_FILE_DATA_VALID`.
 fn state_byte(polarity: Polarity) -> u8
     ensures { result ≡ state_byte polarity }
 {
@@ -63,7 +63,7 @@ fn state_byte(polarity: Polarity) -> u8
     }
 }
 
-// `Size`, `State` and `ExtendedSize`, in their order. The size that the form does not use is zero.
+// `Size`, `State` and `ExtendedSize`, in order. The size that the form does not use is zero.
 fn size_fields(size: u64, large: bool, state: u8) -> [u8; 12]
     requires { large ≡ false → size < 0x1000000 }
     ensures { result ≡ size_fields size large state }
@@ -78,7 +78,7 @@ fn size_fields(size: u64, large: bool, state: u8) -> [u8; 12]
     bytes
 }
 
-// The 32 bytes of a large header, or those of a short one with zeros behind it.
+// The 32 bytes of a large header, or those of a short one with zeros after it.
 fn whole_bytes(head: &FileHead, header_sum: u8, file_sum: u8, state: u8) -> [u8; 32]
     requires { HasPlace head.now }
     ensures { result ≡ whole_bytes head.now header_sum file_sum state }
@@ -126,7 +126,7 @@ fn header_bytes(head: &FileHead, polarity: Polarity) -> HeadBytes
     header_with(head, header_sum, head.file_sum, state_byte(polarity))
 }
 
-// The attribute bits with those of the form of the header.
+// The attribute bits with the one for the form of the header.
 fn with_form(attributes: FileAttributes, large: bool) -> FileAttributes
     requires { is_large (attribute_bits attributes) ≡ false }
     ensures { attribute_bits result ≡ with_large large (attribute_bits attributes) }
@@ -138,7 +138,7 @@ fn with_form(attributes: FileAttributes, large: bool) -> FileAttributes
     bits
 }
 
-// The fields of a file, its header sum not found yet.
+// The fields of a file; its header sum is not computed yet.
 fn file_fields(
     name: Guid,
     kind: u8,
@@ -164,7 +164,7 @@ fn file_fields(
     }
 }
 
-// The fields of a pad, its header sum not found yet.
+// The fields of a pad; its header sum is not computed yet.
 fn pad_fields(size: u64) -> FileHead
     ensures { result ≡ pad_fields size 0 }
 {
@@ -180,10 +180,11 @@ fn pad_fields(size: u64) -> FileHead
     }
 }
 
-/// The header of a file whose data are valid, in the short form where header and data are at most 0xFFFFFF bytes, else
-/// in the large form. `attributes` has neither bit 0x01, which is set with the large form, nor bit 0x04; `kind` is no
-/// pad's; `data_len` is the bytes of the data, at most 268,435,424: a volume's less a large header. Takes no memory.
-/// (PI specification, volume 3, section 3.2.3.1.)
+/// The header of a file whose data are valid, in the short form if header and data are at most
+/// 0xFFFFFF bytes, else in the large form. `attributes` has neither bit 0x01, which is set for the
+/// large form, nor bit 0x04. `kind` is not that of a pad. `data_len` is the number of the data's
+/// bytes, at most 268,435,424 (the limit of a volume less a large header). Takes no memory. (PI
+/// specification, volume 3, section 3.2.3.1.)
 pub fn file_head_bytes(
     name: Guid,
     kind: u8,
@@ -197,7 +198,7 @@ pub fn file_head_bytes(
     requires moves { is_fixed (attribute_bits attributes) ≡ false }
     requires most { data_len ≤ data_limit }
 
-    // It is read again as the fields that were handed in.
+    // It is read back as the fields that were passed in.
     ensures read { IsNewHeader polarity
         (file_fields name kind attributes data_len file_sum (header_sum_at result)) result }
 
@@ -205,7 +206,7 @@ pub fn file_head_bytes(
     ensures only { (header_sum : ℕ) (h : List ℕ)
         → IsNewHeader polarity (file_fields name kind attributes data_len file_sum header_sum) h → h ≡ result }
 
-    // With its data and filler it is a file that stands.
+    // With its data and filler it is a valid file.
     ensures cell { IsHeadOfFile polarity
         (file_fields name kind attributes data_len file_sum (header_sum_at result)) result }
 
@@ -218,13 +219,14 @@ pub fn file_head_bytes(
     )
 }
 
-/// The header of a pad file of so many bytes, the header counted: 24 to 0xFFFFFF. Its name is 16 bytes 0xFF, its type
-/// 0xF0, its attributes are 0 and its file sum is 0xAA. Takes no memory. (PI specification, volume 3, section 3.2.3.1.)
+/// The header of a pad file of `size` bytes, the header included: 24 to 0xFFFFFF. Its name is 16
+/// bytes 0xFF, its type is 0xF0, its attributes are 0 and its file sum is 0xAA. Takes no memory.
+/// (PI specification, volume 3, section 3.2.3.1.)
 pub fn pad_head_bytes(size: u64, polarity: Polarity) -> HeadBytes
     requires least { 24 ≤ size }
     requires most { size ≤ 0xffffff }
 
-    // It is read again as the header of a pad of this size.
+    // It is read back as the header of a pad of this size.
     ensures read { IsNewHeader polarity (pad_fields size (header_sum_at result)) result }
 
     // No other bytes are.

@@ -27,7 +27,7 @@ pub enum FileState {
 }
 
 impl FileState {
-    /// Whether the file stands: its data are valid, marked for update or not.
+    /// Whether the file is valid: its data are valid, and it is marked for update or not.
     pub fn is_alive(self) -> bool
         ensures { result ≡ is_alive self }
     {
@@ -61,13 +61,14 @@ fn state_in(bits: u8) -> Option<FileState>
     }
 }
 
-/// The state that `State`, the byte at 23 of a file's header, shows: that of the highest bit which was written, or
-/// None where bit 0x40 or 0x80 was. Takes no memory. (PI specification, volume 3, section 3.2.3.1.)
+/// The state that `State`, the byte at 23 of a file's header, shows: that of the highest bit that
+/// was written, or None if bit 0x40 or 0x80 was written. Takes no memory. (PI specification, volume
+/// 3, section 3.2.3.1.)
 pub fn file_state(byte: u8, polarity: Polarity) -> Option<FileState>
     // The byte shows this state.
     ensures found { IfSome result (StateOf byte polarity) }
 
-    // It shows no other, and where it shows one it is answered.
+    // It shows no other state, and if it shows one, that state is returned.
     ensures only { (state : FileState) → StateOf byte polarity state → result ≡ Some state }
     ensures is { result ≡ state_of polarity byte }
 {

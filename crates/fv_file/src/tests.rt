@@ -21,13 +21,13 @@ const A: [u8; 16] = [0x0a; 16];
 /// The name of another file.
 const B: [u8; 16] = [0x0b; 16];
 
-/// The name of a third.
+/// The name of a third file.
 const C: [u8; 16] = [0x0c; 16];
 
 /// The name of a pad, and 16 erased bytes.
 const P: [u8; 16] = [0xff; 16];
 
-/// What a cell is.
+/// The kind of a cell.
 #[derive(Clone, Copy, PartialEq, Eq)]
 enum Sort {
     Valid,
@@ -38,11 +38,11 @@ enum Sort {
     Free,
 }
 
-/// What a cell is, where it begins, how many bytes it has (a file or pad without filler), its
+/// The kind of a cell, its offset, how many bytes it has (a file or pad without filler), its
 /// attribute bits and its data.
 type Form<'a> = (Sort, u64, u64, u8, &'a [u8]);
 
-/// What the body holds, how many bytes the volume has, what the body begins with, and its cells.
+/// A name for the case, how many bytes the volume has, what the body begins with, and its cells.
 type Body = (
     &'static str,
     usize,
@@ -90,10 +90,10 @@ fn seen<'a>(cell: &Cell<'a>) -> Form<'a> {
     }
 }
 
-/// The most bytes of a volume that is laid in an array.
+/// The most bytes of a volume that is made in an array.
 const ROOM: usize = 12_448;
 
-// Puts the parts, joined, from 72 on into a volume, and erased bytes behind them.
+// Writes the parts, joined, from 72 on into a volume, and erased bytes after them.
 fn lay(volume: &mut [u8], parts: &[&[u8]], polarity: Polarity) {
     let mut at = 72;
     for part in parts {
@@ -122,7 +122,7 @@ fn cut(
     cells(alloc, bytes, 72, system, polarity)
 }
 
-// Whether these are the cells of a volume whose body begins at 72, or why it has none.
+// Whether these are the cells of a volume whose body begins at 72, or the fault if it has none.
 fn has_cells(
     alloc: Global,
     bytes: &[u8],
@@ -143,7 +143,7 @@ fn has_cells(
     Ok(true)
 }
 
-// Whether a body has its cells, or why it has none.
+// Whether a body has its cells, or the fault if it has none.
 fn is_cut(
     alloc: Global,
     body: &Body,
@@ -157,7 +157,7 @@ fn is_cut(
     has_cells(alloc, volume, system, polarity, forms)
 }
 
-// The first of some bodies that has not its cells in both file systems.
+// The first of some bodies that does not have its cells in both file systems.
 fn not_cut(alloc: Global, bodies: &[Body], polarity: Polarity) -> Option<&'static str> {
     for body in bodies {
         if is_cut(alloc, body, FileSystem::Ffs2, polarity) != Ok(true)
@@ -183,7 +183,7 @@ fn fault_of(
     cut(alloc, volume, system, polarity).err()
 }
 
-// The first of some bodies that is not refused with its fault.
+// The first of some bodies that is not rejected with its fault.
 fn not_refused(
     alloc: Global,
     refusals: &[Refusal],

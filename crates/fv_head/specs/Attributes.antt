@@ -4,6 +4,6 @@ use Rattle.std.specs.Int.RustNames.{bit_and}
 use Rattle.fv_base.specs.declared.flash.Polarity.{Polarity}
 use Rattle.fv_base.specs.declared.flash.Polarity.TheVariants.{Ones, Zeros}
 
--- what an erased byte holds, by bit 0x800
+-- the value of erased bits, by bit 0x800 (EFI_FVB2_ERASE_POLARITY)
 abbrev pub polarity_of : ℕ → Polarity
 polarity_of bits = if bit_and bits 2048 == 2048 then Ones else Zeros

@@ -5,8 +5,8 @@ use Rattle.fv_base.specs.Limits.{ext_limit}
 use Rattle.fv_base.specs.Value.{IsBytes, le, le_at}
 use Rattle.fv_base.specs.declared.guid.Guid.{Guid}
 
--- what an extended header says of its volume: its name, its entries (a type and a payload each),
--- and the bytes behind them
+-- what an extended header says of its volume: the name, the entries (a type and a payload each), and the bytes after
+-- them
 pub record Extension : Type 0 where
   pub name : Guid
   pub entries : List (ℕ × List ℕ)
@@ -24,12 +24,12 @@ is_used_size kind payload = (kind == 3) && (length payload == 4)
 abbrev pub kept_payload : ℕ → List ℕ → List ℕ
 kept_payload kind payload = if is_used_size kind payload then zero_used_size else payload
 
--- the bytes begin no entry: they are shorter than an entry's header, or the size is below that or goes past their end
+-- the bytes begin no entry: they are fewer than an entry's header, or its size is below 4 or goes past their end
 abbrev pub BeginNoEntry : List ℕ → Type 0
 BeginNoEntry b = (length b < 4) ⊎ ((le_at 0 2 b < 4) ⊎ (length b < le_at 0 2 b))
 
--- the bytes are the entries joined, each a header of size and type and a payload, and then the
--- tail, which begins no entry
+-- the bytes are the entries joined, each a header (size and type) and a payload, and then the tail, which begins no
+-- entry
 abbrev pub SplitsEntries : List (ℕ × List ℕ) → List ℕ → List ℕ → Type 0
 SplitsEntries [] tail b = (b ≡ tail) × BeginNoEntry b
 SplitsEntries (e ∷ es) tail b =
@@ -37,7 +37,7 @@ SplitsEntries (e ∷ es) tail b =
     × (le_at 0 2 head ≡ 4 + length payload) × (le_at 2 2 head ≡ e.0) × (e.1 ≡ kept_payload e.0 payload)
     × SplitsEntries es tail rest
 
--- the bytes are an extended header that says this: name, size (their number), entries and tail
+-- the bytes are an extended header with this meaning: name, ExtHeaderSize (the number of the bytes), entries and tail
 pub record IsExt (x : Extension) (b : List ℕ) : Type 0 where
   pub head : List ℕ
   pub rest : List ℕ
@@ -48,6 +48,6 @@ pub record IsExt (x : Extension) (b : List ℕ) : Type 0 where
   pub most : length b ≤ ext_limit
   pub entries : SplitsEntries x.entries x.tail rest
 
--- some bytes are an extended header that says this
+-- some bytes are an extended header with this meaning
 abbrev pub IsReadExt : Extension → Type 0
 IsReadExt x = (b : List ℕ) × IsBytes b × IsExt x b

@@ -1,11 +1,11 @@
--- How an extended header is spelled, and where it stands in the canonical image.
+-- How an extended header is spelled, and its place in the canonical image.
 use Rattle.std.specs.Prelude.{◌≡◌, ℕ, ◌+◌, if◌then◌else◌, List, [], ◌∷◌, ◌++◌, length, Option, None, Some}
 use Rattle.fv_base.specs.Guids.{bytes_of}
 use Rattle.fv_base.specs.Value.{le_bytes, up_to_8}
 use Rattle.fv_head.specs.Ext.{Extension, IsReadExt, is_used_size}
 use Rattle.fv_head.specs.Head.{HeadFields, header_len_of}
 
--- the payload of an entry, with the used size as it is handed
+-- the payload of an entry; a used size has the value `used`
 abbrev pub payload_with : ℕ → ℕ × List ℕ → List ℕ
 payload_with used e = if is_used_size e.0 e.1 then le_bytes 4 used else e.1
 
@@ -13,41 +13,41 @@ payload_with used e = if is_used_size e.0 e.1 then le_bytes 4 used else e.1
 abbrev pub entry_bytes : ℕ → ℕ × List ℕ → List ℕ
 entry_bytes used e = le_bytes 2 (4 + length e.1) ++ le_bytes 2 e.0 ++ payload_with used e
 
--- entries, one behind the other
+-- entries, one after another
 abbrev pub entries_bytes : ℕ → List (ℕ × List ℕ) → List ℕ
 entries_bytes used [] = []
 entries_bytes used (e ∷ es) = entry_bytes used e ++ entries_bytes used es
 
--- how many bytes entries have
+-- the number of bytes of the entries
 abbrev pub entries_len : List (ℕ × List ℕ) → ℕ
 entries_len [] = 0
 entries_len (e ∷ es) = (4 + length e.1) + entries_len es
 
--- how many bytes an extended header has, ExtHeaderSize
+-- the number of bytes of an extended header, ExtHeaderSize
 abbrev pub ext_len : Extension → ℕ
 ext_len x = 20 + entries_len x.entries + length x.tail
 
--- an extended header: its name, its size, its entries with each used size as it is handed, and its tail
+-- an extended header: its name, its size, its entries (each used size has the value `used`), and its tail
 unfoldable pub ext_spelled : Extension → ℕ → List ℕ
 ext_spelled x used = bytes_of x.name ++ le_bytes 4 (ext_len x) ++ entries_bytes used x.entries ++ x.tail
 
--- some bytes are the extended header, if there is one
+-- the extended header, if there is one, is that of some bytes
 abbrev pub IfRead : Option Extension → Type 0
 IfRead None = Unit {0}
 IfRead (Some x) = IsReadExt x
 
--- where the canonical head, with the extended header in a pad file behind it, ends
+-- where the canonical head ends, with the extended header in a pad file after it
 abbrev pub canonical_end : HeadFields → Option Extension → ℕ
 canonical_end h None = header_len_of h
 canonical_end h (Some x) = header_len_of h + 24 + ext_len x
 
--- where the first file of the canonical image may stand
+-- where the first file of the canonical image may begin
 abbrev pub canonical_first : HeadFields → Option Extension → ℕ
 canonical_first h None = header_len_of h
 canonical_first h (Some x) = up_to_8 (canonical_end h (Some x))
 
--- what stands behind the canonical head: the 24 bytes of a pad file's header, and then the
--- extended header, if there is one
+-- what follows the canonical head: if there is an extended header, the 24 bytes of a pad file's header, and then the
+-- extended header
 abbrev pub CanonicalRest : Option Extension → List ℕ → Type 0
 CanonicalRest None rest = Unit {0}
 CanonicalRest (Some x) rest =

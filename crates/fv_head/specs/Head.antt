@@ -16,7 +16,7 @@ use Rattle.fv_head.specs.Pairs.{pairs_of, bytes_in}
 abbrev pub signature_bytes : List ℕ
 signature_bytes = 0x5f ∷ 0x46 ∷ 0x56 ∷ 0x48 ∷ []
 
--- the GUID of a file system, as it stands in a volume (section 3.2.2)
+-- the GUID of a file system, as it is stored in a volume (section 3.2.2)
 abbrev pub system_guid : FileSystem → List ℕ
 system_guid Ffs2 =
     0x78 ∷ 0xe5 ∷ 0x8c ∷ 0x8c ∷ 0x3d ∷ 0x8a ∷ 0x1c ∷ 0x4f ∷ 0x99 ∷ 0x35 ∷ 0x89 ∷ 0x61 ∷ 0x85 ∷ 0xc3 ∷ 0x2d ∷ 0xd3 ∷ []
@@ -33,9 +33,9 @@ pub record HeadFields : Type 0 where
   pub blocks : List (ℕ × ℕ)
   pub ext : Option Extension
 
--- the bytes are a header with these fields: ZeroVector, FileSystemGuid, FvLength, Signature, Attributes,
--- HeaderLength, Checksum (by the sum), ExtHeaderOffset (by HasExt), Reserved, Revision and BlockMap; Checksum and
--- ExtHeaderOffset may be any that fit
+-- the bytes are a header with these fields: ZeroVector, FileSystemGuid, FvLength, Signature, Attributes, HeaderLength,
+-- Checksum (by the sum), ExtHeaderOffset (by HasExt), Reserved, Revision and BlockMap. Checksum and ExtHeaderOffset may
+-- be any that fit
 pub record IsHead (h : HeadFields) (b : List ℕ) : Type 0 where
   pub bytes : IsBytes b
   pub zero_vector : field 0 16 b ≡ h.zero_vector
@@ -61,9 +61,9 @@ pub record IsHead (h : HeadFields) (b : List ℕ) : Type 0 where
 abbrev pub header_len_of : HeadFields → ℕ
 header_len_of h = 56 + 8 * (length h.blocks + 1)
 
--- where the extended header stands, and with it the first file: the part of the bytes at ExtHeaderOffset
--- says what x says, lies behind the header and within the volume, and the first file stands at the next
--- multiple of 8; or there is none
+-- where the extended header and the first file are: the bytes at ExtHeaderOffset are an extended header with the
+-- meaning x, after the volume header and within the volume, and the first file begins at the next multiple of 8. Or
+-- there is no extended header, and the first file begins at HeaderLength
 abbrev pub HasExt : Option Extension → Extent → List ℕ → Type 0
 HasExt None e b = (le_at 52 2 b ≡ 0) × (e.first ≡ e.header_len)
 HasExt (Some x) e b =
@@ -82,11 +82,11 @@ pub record BeginsVolume (h : HeadFields) (e : Extent) (b : List ℕ) : Type 0 wh
   pub file_system : e.file_system ≡ h.file_system
   pub polarity : e.polarity ≡ polarity_of h.attributes
 
--- the fields are those of some header, as those of each head that was read
+-- these are the fields of some header, as those of each head that was read are
 abbrev pub IsReadHead : HeadFields → Type 0
 IsReadHead h = (b : List ℕ) × IsHead h b
 
--- the ExtHeaderOffset of a canonical head: behind the header of a pad file that stands behind the head, or 0
+-- the ExtHeaderOffset of a canonical head: 0, or after the header of a pad file that follows the head
 abbrev pub canonical_offset : HeadFields → Option Extension → ℕ
 canonical_offset h None = 0
 canonical_offset h (Some x) = header_len_of h + 24
@@ -96,7 +96,7 @@ pub record IsCanonicalHead (h : HeadFields) (b : List ℕ) : Type 0 where
   pub head : IsHead h b
   pub offset : le_at 52 2 b ≡ canonical_offset h h.ext
 
--- how far a volume of this head reaches, whose extended header stands at its canonical place
+-- the extent of a volume of this head, whose extended header is at its canonical place
 abbrev pub extent_of : HeadFields → ℕ → Extent
 extent_of h first = record {
   length = h.length;

@@ -1,4 +1,4 @@
--- The checks of a volume's header, in their order.
+-- The checks of a volume's header, in a fixed order.
 use Rattle.std.specs.Prelude.{ℕ, ◌+◌, ◌||◌, ◌-◌, ◌%◌, ◌==◌, nat_le, Bool, ◌&&◌, not, is_some, if◌then◌else◌, List, []}
 use Rattle.std.specs.Prelude.{◌∷◌, ◌++◌, length, take, slice_index, Option, None, Some}
 use Rattle.std.specs.Str.{bytes_eq}
@@ -18,13 +18,13 @@ use Rattle.fv_head.specs.Pairs.{pairs_of, bytes_in}
 abbrev pub has_signature : List ℕ → Bool
 has_signature b = bytes_eq (field 40 4 b) signature_bytes
 
--- the file system whose GUID stands at 16
+-- the file system whose GUID is at 16
 abbrev pub file_system_at : List ℕ → Option FileSystem
 file_system_at b =
     if bytes_eq (field 16 16 b) (system_guid Ffs2) then Some Ffs2
     else (if bytes_eq (field 16 16 b) (system_guid Ffs3) then Some Ffs3 else None)
 
--- HeaderLength and FvLength, as they stand in the header
+-- HeaderLength and FvLength, as read from the header
 abbrev pub header_len_at : List ℕ → ℕ
 header_len_at b = le_at 48 2 b
 
@@ -43,19 +43,19 @@ has_sum n b = sum16_of (take n b) == 0
 abbrev pub is_zero_pair : ℕ × ℕ → Bool
 is_zero_pair p = (p.0 == 0) && (p.1 == 0)
 
--- the bytes say that they are one volume and no more: by the signature, the file system and FvLength alone
+-- the bytes say that they are one volume and no more: only the signature, the file system and FvLength are looked at
 abbrev pub is_one_volume : List ℕ → Bool
 is_one_volume b = nat_le 56 (length b) && has_signature b && is_some (file_system_at b) && (volume_len_at b == length b)
 
--- none of the blocks is a pair of zeros, and they make up so many bytes
+-- none of the blocks is a pair of zeros, and together they have `total` bytes
 abbrev pub makes_up : List (ℕ × ℕ) → ℕ → Bool
 makes_up blocks total = list_all (λ p. not (is_zero_pair p)) blocks && (bytes_in blocks == total)
 
--- the block map's pairs but the last
+-- the block map's pairs except the last
 abbrev pub blocks_at : ℕ → List ℕ → List (ℕ × ℕ)
 blocks_at n b = pairs_of (field 56 (n - 64) b)
 
--- the first pair of zeros stands at the header's end, and the blocks make up the volume
+-- the first pair of zeros is at the header's end, and the blocks make up the volume
 abbrev pub has_block_map : ℕ → List ℕ → Bool
 has_block_map n b =
     makes_up (blocks_at n b) (volume_len_at b) && is_zero_pair (le_at (n - 8) 4 b, le_at (n - 4) 4 b)
@@ -64,14 +64,14 @@ has_block_map n b =
 abbrev pub is_volume_len : ℕ → ℕ → Bool
 is_volume_len n len = (len % 8 == 0) && nat_le n len && nat_le len volume_limit
 
--- ExtHeaderOffset, and ExtHeaderSize of the extended header that stands there
+-- ExtHeaderOffset, and ExtHeaderSize of the extended header at that offset
 abbrev pub ext_offset_at : List ℕ → ℕ
 ext_offset_at b = le_at 52 2 b
 
 abbrev pub ext_size_at : List ℕ → ℕ
 ext_size_at b = le_at (ext_offset_at b + 16) 4 b
 
--- an extended header lies behind the header and within the volume, or there is none
+-- an extended header is after the header and within the volume, or there is none
 abbrev pub has_ext : ℕ → ℕ → List ℕ → Bool
 has_ext n len b =
     (ext_offset_at b == 0)
@@ -89,7 +89,7 @@ front_checks b =
     ∷ check (is_header_len (header_len_at b)) kinds.HeaderLength 48
     ∷ []
 
--- and those of the whole header, of FvLength and of the extended header
+-- the checks of the whole header, of FvLength and of the extended header
 abbrev pub whole_checks : List ℕ → List (Check Fault)
 whole_checks b =
     check (nat_le (header_len_at b) (length b)) kinds.Truncated (length b)

@@ -1,4 +1,4 @@
--- The answer of the checks of a header, as code finds it.
+-- The result of the checks of a header, as the code finds it.
 -- Serves private clauses alone: there is nothing to believe here.
 use Rattle.std.specs.Prelude.{◌≡◌, ◌⊎◌, ◌≤◌, ℕ, ◌+◌, ◌==◌, if◌then◌else◌, List, length, Option, None, Some}
 use Rattle.std.specs.Prelude.{Result, Ok, Err}
@@ -17,11 +17,11 @@ use Rattle.fv_head.specs.HeadChecks.{head_checks}
 abbrev pub ExtHeaderWithin : List ℕ → Type 0
 ExtHeaderWithin b = (ext_offset_at b ≡ 0) ⊎ (ext_offset_at b + 20 ≤ length b)
 
--- where the first file may stand
+-- where the first file may begin
 abbrev pub first_at : List ℕ → ℕ
 first_at b = if ext_offset_at b == 0 then header_len_at b else up_to_8 (ext_offset_at b + ext_size_at b)
 
--- the extent that a header of the file system says
+-- the extent that a header of this file system gives
 abbrev pub extent_at : FileSystem → List ℕ → Extent
 extent_at fs b = record {
   length = volume_len_at b;
@@ -31,7 +31,7 @@ extent_at fs b = record {
   polarity = polarity_of (le_at 44 4 b);
 }
 
--- the extent where the file system is known, else a fault
+-- the extent if the file system is known, else a fault
 abbrev pub extent_or : Option FileSystem → Fault → List ℕ → Result Extent Fault
 extent_or None f b = Err f
 extent_or (Some fs) f b = Ok (extent_at fs b)

@@ -1,4 +1,4 @@
--- What a header that is kept shows.
+-- The fields that a kept header shows.
 use Rattle.fv_head.specs.declared.head.VolumeHead.TheInside.{Inside}
 use Rattle.fv_head.specs.Head.{HeadFields}
 

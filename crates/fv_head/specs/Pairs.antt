@@ -2,7 +2,7 @@
 use Rattle.std.specs.Prelude.{ℕ, ◌*◌, List, [], ◌∷◌, ◌++◌, sum_by}
 use Rattle.fv_base.specs.Value.{le, le_bytes}
 
--- the pairs of numbers of 4 bytes each that bytes spell; fewer than 8 bytes are no pair
+-- the pairs of two 4-byte numbers that bytes spell; a rest of fewer than 8 bytes is no pair
 abbrev pub pairs_of : List ℕ → List (ℕ × ℕ)
 pairs_of (a ∷ b ∷ c ∷ d ∷ e ∷ f ∷ g ∷ h ∷ bs) = (le (a ∷ b ∷ c ∷ d ∷ []), le (e ∷ f ∷ g ∷ h ∷ [])) ∷ pairs_of bs
 pairs_of _ = []
@@ -12,6 +12,6 @@ abbrev pub pairs_bytes : List (ℕ × ℕ) → List ℕ
 pairs_bytes [] = []
 pairs_bytes (p ∷ ps) = (le_bytes 4 p.0 ++ le_bytes 4 p.1) ++ pairs_bytes ps
 
--- the bytes that blocks make up: of each pair, so many blocks of so many bytes
+-- the number of bytes in the blocks: each pair is a number of blocks and the bytes of each
 abbrev pub bytes_in : List (ℕ × ℕ) → ℕ
 bytes_in blocks = sum_by (λ p. p.0 * p.1) blocks

@@ -1,5 +1,5 @@
--- The laws of sums of words in parts. There is nothing to believe here: these are proofs, and stand in specs/ since a
--- ghost member cites the last of them.
+-- The laws of sums of 16-bit words in parts. There is nothing to believe here: these are proofs. They are in specs/
+-- because a ghost member cites the last of them.
 -- Serves private clauses alone: there is nothing to believe here.
 use Rattle.std.proofs.Common.{◌≡◌, ℕ, ◌+◌, ◌%◌, List, [], ◌∷◌, ◌++◌, refl, sym, ◌∙◌, ap, arith, Bool, true, false}
 use Rattle.std.specs.Prelude.{not}

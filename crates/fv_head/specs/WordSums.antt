@@ -1,14 +1,14 @@
--- The sum of the words of bytes that come in parts.
+-- The sum of the 16-bit words of bytes that come in parts.
 -- Serves private clauses alone: there is nothing to believe here.
 use Rattle.std.specs.Prelude.{◌≡◌, ℕ, ◌+◌, ◌*◌, ◌%◌, List, [], ◌∷◌, Bool, true, false, not}
 
--- what bytes add to a sum of words, where the first is the high byte of a word or is not
+-- what bytes add to a sum of 16-bit words; `high` says whether the first byte is the high byte of a word
 abbrev pub word_weight : Bool → List ℕ → ℕ
 word_weight high [] = 0
 word_weight false (x ∷ xs) = x + word_weight true xs
 word_weight true (x ∷ xs) = 256 * x + word_weight false xs
 
--- whether the byte behind them is the high byte of a word
+-- whether the byte after them is the high byte of a word
 abbrev pub is_high_behind : Bool → List ℕ → Bool
 is_high_behind high [] = high
 is_high_behind high (x ∷ xs) = is_high_behind (not high) xs

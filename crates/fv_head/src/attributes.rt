@@ -6,8 +6,8 @@ ghost use Rattle.fv_head.specs.Attributes.{polarity_of};
 use bitflags::{Flag, Flags, bitflag_items};
 use fv_base::Polarity;
 
-/// A volume's attribute bits, all 32 of them as they were found. (PI specification, volume 3,
-/// section 3.2.1.1, `EFI_FVB_ATTRIBUTES_2`.)
+/// A volume's attribute bits, all 32 of them as found. (PI specification, volume 3, section
+/// 3.2.1.1, `EFI_FVB_ATTRIBUTES_2`.)
 #[derive(Clone, Copy, PartialEq, Eq, Debug)]
 pub struct FvAttributes(u32);
 
@@ -78,7 +78,7 @@ impl Flags for FvAttributes {
 }
 
 impl FvAttributes {
-    /// What an erased byte holds, by bit 0x800, `EFI_FVB2_ERASE_POLARITY`.
+    /// The value of erased bits, by bit 0x800, `EFI_FVB2_ERASE_POLARITY`.
     pub fn polarity(self) -> Polarity
         ensures { result ≡ polarity_of self.0 }
     {

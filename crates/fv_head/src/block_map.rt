@@ -7,9 +7,9 @@ use crate::layout::{BLOCK_ENTRY_LEN, BLOCK_LENGTH_OFFSET, NUM_BLOCKS_OFFSET};
 use fv_base::field::u32_at;
 use std::marker::Model;
 
-/// The blocks of a volume: of each entry, how many blocks, `NumBlocks`, and the bytes of each, `Length`. Contracts
-/// see the list of the entries, without the pair of zeros that ends it. (PI specification, volume 3, section 3.2.1.1,
-/// `EFI_FV_BLOCK_MAP_ENTRY`.)
+/// The blocks of a volume. Each entry has a number of blocks, `NumBlocks`, and the bytes of each,
+/// `Length`. Contracts see the list of the entries, without the pair of zeros that ends it. (PI
+/// specification, volume 3, section 3.2.1.1, `EFI_FV_BLOCK_MAP_ENTRY`.)
 #[derive(Drop)]
 pub struct BlockMap {
     blocks: Vec<(u32, u32)>,
@@ -22,14 +22,14 @@ impl Model for BlockMap {
 }
 
 impl BlockMap {
-    /// The blocks of a vector. Takes no memory.
+    /// The block map with the entries of a vector. Takes no memory.
     pub fn from_vec(blocks: Vec<(u32, u32)>) -> BlockMap
         ensures { result ≡ blocks.items }
     {
         BlockMap { blocks }
     }
 
-    /// The entries in their order.
+    /// The entries in order.
     pub fn as_slice(&self) -> &[(u32, u32)]
         ensures { result.now ≡ self.now }
     {
@@ -37,7 +37,7 @@ impl BlockMap {
     }
 }
 
-// The first pair that the bytes spell, and the bytes behind it; None where fewer than 8 are left.
+// The first pair that the bytes spell, and the bytes after it; None if fewer than 8 are left.
 pub(crate) fn first_pair(bytes: &[u8]) -> Option<((u32, u32), &[u8])>
     ensures some { IfSome result
         (λ e. (pairs_of bytes.now ≡ e.0 ∷ pairs_of e.1.now) × (length bytes.now ≡ 8 + length e.1.now)) }

@@ -1,4 +1,4 @@
-//! The extended header of a volume, as it is kept.
+//! The extended header of a volume, as kept in memory.
 
 ghost use Rattle.std.specs.Prelude.{◌≡◌, ◌+◌, ◌≤◌, ℕ, List, drop, length, IfOk, IfErr, IfSome, IfNone};
 ghost use Rattle.fv_base.specs.Faults.{want_of_memory};
@@ -41,8 +41,8 @@ impl ExtEntry {
         self.kind
     }
 
-    /// The bytes behind the entry's header. The value of a used size, which is an entry of type 3
-    /// with 4 bytes, is no part of the meaning: it is four zero bytes here.
+    /// The bytes after the entry's header. The value of a used size (an entry of type 3 with 4
+    /// bytes) is no part of the meaning: it is four zero bytes here.
     pub fn payload(&self) -> &[u8]
         ensures { result.now ≡ self.now.1 }
     {
@@ -50,8 +50,8 @@ impl ExtEntry {
     }
 }
 
-/// The extended header of a volume, made by reading alone. Contracts see what it says, and know
-/// that some bytes say it. (PI specification, volume 3, section 3.2.1.2,
+/// The extended header of a volume; only reading makes one. Contracts see its fields, and know that
+/// they are those of some bytes. (PI specification, volume 3, section 3.2.1.2,
 /// `EFI_FIRMWARE_VOLUME_EXT_HEADER`.)
 #[derive(Drop)]
 pub struct ExtHeader {
@@ -75,20 +75,20 @@ impl ExtHeader {
     pub fn name(&self) -> Guid
         ensures name { result ≡ self.now.name }
 
-        // Some bytes are an extended header that says this.
+        // The fields are those of some bytes.
         ensures read { IsReadExt self.now }
     {
         self.name
     }
 
-    /// The entries in their order.
+    /// The entries in order.
     pub fn entries(&self) -> &[ExtEntry]
         ensures { result.now ≡ self.now.entries }
     {
         self.entries.as_slice()
     }
 
-    /// The bytes behind the entries, which begin no entry.
+    /// The bytes after the entries, which begin no entry.
     pub fn tail(&self) -> &[u8]
         ensures { result.now ≡ self.now.tail }
     {
@@ -96,7 +96,7 @@ impl ExtHeader {
     }
 }
 
-// The size of the entry that the bytes begin with, if they begin one.
+// The size of the entry at the start of the bytes, if they begin one.
 fn entry_len(bytes: &[u8]) -> Option<usize>
     ensures some { IfSome result (λ n. (n ≡ le_at 0 2 bytes.now) × (4 ≤ n) × (n ≤ length bytes.now)) }
     ensures none { IfNone result (BeginNoEntry bytes.now) }
@@ -136,7 +136,7 @@ fn entry_of(alloc: Global, entry: &[u8]) -> Result<ExtEntry, Fault>
     })
 }
 
-// The entries that the bytes begin with, and the tail behind them.
+// The entries at the start of the bytes, and the tail after them.
 fn entries_of(alloc: Global, bytes: &[u8]) -> Result<(Vec<ExtEntry>, ByteList), Fault>
     ensures ok { IfOk result (λ r. SplitsEntries r.0.items r.1 bytes.now) }
     ensures err { IfErr result (λ f. f ≡ want_of_memory) }

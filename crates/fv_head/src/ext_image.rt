@@ -11,7 +11,7 @@ use crate::head_image::{put_u16, put_u32};
 use fv_base::{ByteList, Fault, ListSink, Sink};
 use std::alloc::Global;
 
-// How many bytes the entries have.
+// The number of bytes of the entries.
 fn len_of_entries(entries: &[ExtEntry]) -> u32
     requires { entries_len entries.now ≤ ext_limit }
     ensures { result ≡ entries_len entries.now }
@@ -23,8 +23,8 @@ fn len_of_entries(entries: &[ExtEntry]) -> u32
     len
 }
 
-/// How many bytes an extended header has, `ExtHeaderSize`: 20, the bytes of its entries and those of its tail. Takes
-/// no memory. (PI specification, volume 3, section 3.2.1.2.)
+/// The number of bytes of an extended header, `ExtHeaderSize`: 20, the bytes of its entries and
+/// those of its tail. Takes no memory. (PI specification, volume 3, section 3.2.1.2.)
 pub fn len_of_ext(ext: &ExtHeader) -> u32
     ensures len { result ≡ ext_len ext.now }
     ensures most { ext_len ext.now ≤ ext_limit }
@@ -34,7 +34,7 @@ pub fn len_of_ext(ext: &ExtHeader) -> u32
     20 + len_of_entries(ext.entries()) + ext.tail().len() as u32
 }
 
-// Puts the payload of an entry, with the used size as it is handed.
+// Puts the payload of an entry; a used size has the value `used`.
 fn put_payload<S: Sink>(out: &mut S, entry: &ExtEntry, used: u32)
     ensures { S.takes out.old (payload_with used entry.now) out.new }
 {
@@ -46,7 +46,7 @@ fn put_payload<S: Sink>(out: &mut S, entry: &ExtEntry, used: u32)
     }
 }
 
-// Puts an entry, with the used size as it is handed.
+// Puts an entry; a used size has the value `used`.
 fn put_entry<S: Sink>(out: &mut S, entry: &ExtEntry, used: u32)
     requires { 4 + length entry.now.1 ≤ ext_limit }
     ensures { S.takes out.old (entry_bytes used entry.now) out.new }
@@ -56,7 +56,7 @@ fn put_entry<S: Sink>(out: &mut S, entry: &ExtEntry, used: u32)
     put_payload(out, entry, used);
 }
 
-// Puts entries, one behind the other.
+// Puts entries, one after another.
 fn put_entries<S: Sink>(out: &mut S, entries: &[ExtEntry], used: u32)
     requires { entries_len entries.now ≤ ext_limit }
     ensures { S.takes out.old (entries_bytes used entries.now) out.new }
@@ -66,8 +66,9 @@ fn put_entries<S: Sink>(out: &mut S, entries: &[ExtEntry], used: u32)
     }
 }
 
-/// Puts an extended header: `FvName`, `ExtHeaderSize`, its entries with each used size as it is handed (that of an
-/// entry `EFI_FV_EXT_TYPE_USED_SIZE_TYPE`, in bytes), and its tail. (PI specification, volume 3, section 3.2.1.2.)
+/// Puts an extended header: `FvName`, `ExtHeaderSize`, its entries and its tail. Each used size
+/// (the payload of an entry `EFI_FV_EXT_TYPE_USED_SIZE_TYPE`) has the value `used`, in bytes. (PI
+/// specification, volume 3, section 3.2.1.2.)
 pub fn put_ext<S: Sink>(out: &mut S, ext: &ExtHeader, used: u32)
     ensures bytes { S.takes out.old (ext_spelled ext.now used) out.new }
     ensures len { length (ext_spelled ext.now used) ≡ ext_len ext.now }
@@ -80,8 +81,8 @@ pub fn put_ext<S: Sink>(out: &mut S, ext: &ExtHeader, used: u32)
     out.put(ext.tail());
 }
 
-/// The bytes of an extended header, with each used size as it is handed, as `put_ext` puts them. (PI specification,
-/// volume 3, section 3.2.1.2.)
+/// The bytes of an extended header whose used sizes have the value `used`, as `put_ext` puts them.
+/// (PI specification, volume 3, section 3.2.1.2.)
 ///
 /// # Errors
 ///
@@ -89,7 +90,7 @@ pub fn put_ext<S: Sink>(out: &mut S, ext: &ExtHeader, used: u32)
 pub fn ext_bytes(alloc: Global, ext: &ExtHeader, used: u32) -> Result<ByteList, Fault>
     ensures bytes { IfOk result (λ bytes. bytes ≡ ext_spelled ext.now used) }
 
-    // Read again, they say the same.
+    // Read back, they have the same meaning.
     ensures again { IfOk result (λ bytes. IsExt ext.now bytes) }
     ensures err { IfErr result (λ f. f ≡ want_of_memory) }
 {

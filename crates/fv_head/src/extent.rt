@@ -1,18 +1,19 @@
-//! How far a volume reaches.
+//! The extent of a volume.
 
 use fv_base::{FileSystem, Polarity};
 
-/// How far a volume reaches, and what its header says of the rest. (PI specification, volume 3, section 3.2.1.1.)
+/// The extent of a volume, and what its header says of the rest. (PI specification, volume 3,
+/// section 3.2.1.1.)
 #[derive(Clone, Copy, Debug, PartialEq, Eq)]
 pub struct Extent {
-    /// The bytes of the volume, `FvLength`.
+    /// The length of the volume in bytes, `FvLength`.
     pub length: u64,
-    /// The bytes of its header, `HeaderLength`.
+    /// The length of its header in bytes, `HeaderLength`.
     pub header_len: u64,
-    /// Where its first file may stand, in bytes from the volume's start.
+    /// Where its first file may begin, in bytes from the volume's start.
     pub first: u64,
     /// Its file system.
     pub file_system: FileSystem,
-    /// What its erased bytes hold, by `EFI_FVB2_ERASE_POLARITY`.
+    /// The value of its erased bits, by `EFI_FVB2_ERASE_POLARITY`.
     pub polarity: Polarity,
 }

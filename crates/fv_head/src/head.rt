@@ -1,4 +1,4 @@
-//! The header of a volume, as it is kept.
+//! The header of a volume, as kept in memory.
 
 ghost use Rattle.std.specs.Prelude.{◌≡◌, ◌⊎◌, ◌%◌, ◌≤◌, length, IfOk, IfErr, option_copied};
 ghost use Rattle.fv_base.specs.Checks.{IsFirstFault};
@@ -24,7 +24,7 @@ use fv_base::{Fault, FileSystem};
 use std::alloc::Global;
 use std::marker::Model;
 
-/// A volume's header, made by reading alone. Contracts see its fields, and know that they are
+/// A volume's header; only reading makes one. Contracts see its fields, and know that they are
 /// those of a header. (PI specification, volume 3, section 3.2.1.1, `EFI_FIRMWARE_VOLUME_HEADER`.)
 #[derive(Drop)]
 pub struct VolumeHead {
@@ -50,7 +50,7 @@ impl Model for VolumeHead {
 }
 
 impl VolumeHead {
-    /// `ZeroVector`, the 16 bytes at the volume's start, as they were found.
+    /// `ZeroVector`, the 16 bytes at the volume's start, as found.
     pub fn zero_vector(&self) -> &[u8; 16]
         ensures { result.now ≡ self.now.zero_vector }
     {
@@ -64,7 +64,7 @@ impl VolumeHead {
         self.file_system
     }
 
-    /// The bytes of the volume, `FvLength`.
+    /// The length of the volume in bytes, `FvLength`.
     pub fn length(&self) -> u64
         ensures { result ≡ self.now.length }
     {
@@ -78,7 +78,7 @@ impl VolumeHead {
         self.attributes
     }
 
-    /// The reserved byte, `Reserved`, as it was found.
+    /// The reserved byte, `Reserved`, as found.
     pub fn reserved(&self) -> u8
         ensures { result ≡ self.now.reserved }
     {
@@ -92,7 +92,7 @@ impl VolumeHead {
         &self.blocks
     }
 
-    /// The bytes of the header, `HeaderLength`.
+    /// The length of the header in bytes, `HeaderLength`.
     pub fn header_len(&self) -> u16
         ensures length { result ≡ header_len_of self.now }
         ensures most { header_len_of self.now ≤ header_limit }
@@ -126,7 +126,7 @@ fn blocks_of(alloc: Global, bytes: &[u8]) -> Result<BlockMap, Fault>
     Ok(BlockMap::from_vec(blocks))
 }
 
-// The extended header of the volume that the bytes begin with, if there is one.
+// The extended header of the volume at the start of the bytes, if it has one.
 fn ext_at(alloc: Global, bytes: &[u8], extent: &Extent) -> Result<Option<ExtHeader>, Fault>
     requires front { (h : HeadFields) × BeginsVolume h extent.now bytes.now }
     ensures ok { IfOk result (λ x. HasExt x extent.now bytes.now) }
@@ -138,7 +138,7 @@ fn ext_at(alloc: Global, bytes: &[u8], extent: &Extent) -> Result<Option<ExtHead
     Ok(Some(ext_of(alloc, ext_bytes_at(bytes))?))
 }
 
-// The fields of the header that the bytes begin with.
+// The fields of the header at the start of the bytes.
 fn head_of(alloc: Global, bytes: &[u8], extent: &Extent) -> Result<VolumeHead, Fault>
     requires front { (h : HeadFields) × BeginsVolume h extent.now bytes.now }
     ensures ok { IfOk result (λ h. BeginsVolume h extent.now bytes.now) }
@@ -162,29 +162,29 @@ fn head_of(alloc: Global, bytes: &[u8], extent: &Extent) -> Result<VolumeHead, F
     })
 }
 
-/// The header of the volume that the bytes begin with, and its extent. (PI specification, volume
-/// 3, section 3.2.1.1.)
+/// The header of the volume at the start of the bytes, and its extent. (PI specification, volume 3,
+/// section 3.2.1.1.)
 ///
 /// # Errors
 ///
-/// The first fault of the header, as `verify_fv`; OutOfMemory (at 0), and that only where the bytes
-/// begin with a volume.
+/// The first fault of the header, as for `verify_fv`; or OutOfMemory (at 0), which is returned only
+/// if the bytes begin with a volume.
 pub fn read_head(alloc: Global, bytes: &[u8]) -> Result<(VolumeHead, Extent), Fault>
     // The bytes begin with this volume.
     ensures found { IfOk result (λ r. BeginsVolume r.0 r.1 bytes.now) }
 
-    // Every volume that they begin with is answered, unless memory runs out.
+    // Every volume that they begin with is returned, unless memory runs out.
     ensures only { (h : HeadFields) (e : Extent) → BeginsVolume h e bytes.now
         → (result ≡ Ok (h, e)) ⊎ (result ≡ Err want_of_memory) }
 
-    // A refusal names the first check that does not hold.
+    // An error names the first check that does not hold.
     ensures first { IfErr result (λ f. (f ≡ want_of_memory) ⊎ IsFirstFault (head_checks bytes.now) f) }
 
-    // Memory is wanted only where they begin with a volume.
+    // Memory runs out only if they begin with a volume.
     ensures memory { IfErr result
         (λ f. f ≡ want_of_memory → (h : HeadFields) × (e : Extent) × BeginsVolume h e bytes.now) }
 
-    // A refusal stands within the bytes or at their end.
+    // The offset of an error is within the bytes or at their end.
     ensures bound { IfErr result (λ f. f.place.offset ≤ length bytes.now) }
 {
     let extent = verify_fv(bytes)?;

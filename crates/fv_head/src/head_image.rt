@@ -1,4 +1,4 @@
-//! A header, spelled as the canonical image has it.
+//! A header, spelled as in the canonical image.
 
 ghost use Rattle.std.specs.Prelude.{◌≡◌, ◌+◌, ◌-◌, ◌%◌, ◌≤◌, ◌<◌, ◌++◌, List, [], ◌∷◌, ℕ, length, IfOk, IfErr};
 ghost use Rattle.fv_base.specs.Faults.{want_of_memory};
@@ -20,14 +20,14 @@ use fv_base::field::up_to_8;
 use fv_base::{ByteList, Fault, ListSink, Sink};
 use std::alloc::Global;
 
-/// The sum of the words of the bytes that are put, modulo 65536.
+/// The sum of the 16-bit words of the bytes that are put, modulo 65536.
 #[derive(Drop)]
 struct WordSink {
     total: u16,
     high: bool,
 }
 
-// What a byte adds to a sum of words, as the low or the high byte of a word.
+// What a byte adds to a sum of 16-bit words, as the low or the high byte of a word.
 fn word_weight(byte: u8, high: bool) -> u16
     ensures { result ≡ word_weight high (byte ∷ []) }
 {
@@ -48,7 +48,7 @@ impl Sink for WordSink {
     }
 }
 
-// Puts a number of 2 bytes.
+// Puts a 2-byte number.
 pub(crate) fn put_u16<S: Sink>(out: &mut S, number: u16)
     ensures { S.takes out.old (le_bytes 2 number) out.new }
 {
@@ -57,7 +57,7 @@ pub(crate) fn put_u16<S: Sink>(out: &mut S, number: u16)
     out.put(&bytes);
 }
 
-// Puts a number of 4 bytes.
+// Puts a 4-byte number.
 pub(crate) fn put_u32<S: Sink>(out: &mut S, number: u32)
     ensures { S.takes out.old (le_bytes 4 number) out.new }
 {
@@ -66,7 +66,7 @@ pub(crate) fn put_u32<S: Sink>(out: &mut S, number: u32)
     out.put(&bytes);
 }
 
-// Puts a number of 8 bytes.
+// Puts an 8-byte number.
 fn put_u64<S: Sink>(out: &mut S, number: u64)
     ensures { S.takes out.old (le_bytes 8 number) out.new }
 {
@@ -85,7 +85,7 @@ fn put_pairs<S: Sink>(out: &mut S, pairs: &[(u32, u32)])
     }
 }
 
-// `ExtHeaderOffset` of the canonical head: where the extended header stands, or 0 without one.
+// `ExtHeaderOffset` of the canonical head: the offset of the extended header, or 0 without one.
 fn canonical_offset(head: &VolumeHead) -> u16
     ensures offset { result ≡ canonical_offset head.now head.now.ext }
     ensures read { IfRead head.now.ext }
@@ -99,10 +99,10 @@ fn canonical_offset(head: &VolumeHead) -> u16
     }
 }
 
-/// Where the first file of the canonical image may stand, in bytes from the volume's start: behind
-/// the header; with an extended header at the next multiple of 8 behind the pad file (24 bytes, and
-/// the extended header) that stands behind the header. Takes no memory. (PI specification, volume
-/// 3, sections 3.2.1.1 and 3.2.1.2.)
+/// Where the first file of the canonical image may begin, in bytes from the volume's start: after
+/// the header or, if there is an extended header, at the next multiple of 8 after the pad file that
+/// follows the header. (That pad file is 24 bytes and the extended header.) Takes no memory. (PI
+/// specification, volume 3, sections 3.2.1.1 and 3.2.1.2.)
 pub fn first_edge(head: &VolumeHead) -> u64
     ensures edge { result ≡ canonical_first head.now head.now.ext }
     ensures most { result ≤ up_to_8 (header_limit + 24 + ext_limit) }
@@ -133,7 +133,7 @@ fn put_spelled<S: Sink>(out: &mut S, head: &VolumeHead, checksum: u16)
     put_u64(out, 0);
 }
 
-// What makes a sum of words 0.
+// What must be added to a sum of 16-bit words to make it 0.
 fn complement(sum: u16) -> u16
     ensures value { result ≡ (65536 - sum) % 65536 }
     ensures small { sum < 65536 }
@@ -141,7 +141,7 @@ fn complement(sum: u16) -> u16
     0u16.wrapping_sub(sum)
 }
 
-// `Checksum`, which makes the words of the header sum to 0.
+// `Checksum`, which makes the 16-bit words of the header sum to 0.
 fn checksum_of(head: &VolumeHead) -> u16
     ensures { result ≡ checksum_of head.now (canonical_offset head.now head.now.ext) }
 {
@@ -153,8 +153,8 @@ fn checksum_of(head: &VolumeHead) -> u16
     complement(sum.total)
 }
 
-/// Puts the head of the canonical image: the fields of the header, with ExtHeaderOffset 0, or
-/// HeaderLength + 24 where there is an extended header, and the right sum. (PI specification,
+/// Puts the head of the canonical image: the fields of the header, with the right checksum.
+/// ExtHeaderOffset is HeaderLength + 24 if there is an extended header, else 0. (PI specification,
 /// volume 3, section 3.2.1.1, `EFI_FIRMWARE_VOLUME_HEADER`.)
 pub fn put_head<S: Sink>(out: &mut S, head: &VolumeHead)
     ensures bytes { S.takes out.old (canonical_head head.now) out.new }
@@ -164,8 +164,8 @@ pub fn put_head<S: Sink>(out: &mut S, head: &VolumeHead)
     put_spelled(out, head, checksum_of(head));
 }
 
-/// The head of the canonical image, as `put_head` puts it: HeaderLength bytes. (PI specification, volume 3, section
-/// 3.2.1.1.)
+/// The head of the canonical image, as `put_head` puts it: HeaderLength bytes. (PI specification,
+/// volume 3, section 3.2.1.1.)
 ///
 /// # Errors
 ///
@@ -175,7 +175,8 @@ pub fn head_bytes(alloc: Global, head: &VolumeHead) -> Result<ByteList, Fault>
     ensures head { IfOk result (λ bytes. IsCanonicalHead head.now bytes) }
     ensures only { (other : List ℕ) → IsCanonicalHead head.now other → IfOk result (λ bytes. bytes ≡ other) }
 
-    // Read again, with its extended header in a pad file behind it and the rest of a volume, it gives the head back.
+    // Read back, with its extended header in a pad file after it and the rest of a volume, it gives
+    // the same head.
     ensures again { IfOk result (λ bytes. (rest : List ℕ) → CanonicalRest head.now.ext rest
         → canonical_end head.now head.now.ext ≤ head.now.length
         → head.now.length ≤ length (bytes ++ rest)

@@ -43,7 +43,7 @@ const FFS3: [u8; 16] = [
     0x7a, 0xc0, 0x73, 0x54, 0xcb, 0x3d, 0xca, 0x4d, 0xbd, 0x6f, 0x1e, 0x96, 0x89, 0xe7, 0x34, 0x9a,
 ];
 
-// The GUID of a file system, which stands in `FileSystemGuid`.
+// The GUID of a file system, as in `FileSystemGuid`.
 pub(crate) fn system_guid(file_system: FileSystem) -> Guid
     ensures { bytes_of result ≡ system_guid file_system }
 {
@@ -61,7 +61,7 @@ fn has_signature(bytes: &[u8]) -> bool
     bytes[SIGNATURE_OFFSET..SIGNATURE_OFFSET + 4] == SIGNATURE[..]
 }
 
-// The file system whose GUID stands in `FileSystemGuid`, if it is one of the two.
+// The file system whose GUID is in `FileSystemGuid`, if it is one of the two.
 fn file_system_at(bytes: &[u8]) -> Option<FileSystem>
     requires { 56 ≤ length bytes.now }
     ensures { result ≡ file_system_at bytes.now }
@@ -76,9 +76,10 @@ fn file_system_at(bytes: &[u8]) -> Option<FileSystem>
     }
 }
 
-/// Whether the bytes say that they are one volume and no more: 56 bytes at least, with the `Signature` `_FVH` at 40
-/// and the GUID of a file system, `FileSystemGuid`, at 16, and an `FvLength` that is their number. No other check of
-/// the header is made. Takes no memory. (PI specification, volume 3, section 3.2.1.1.)
+/// Whether the bytes say that they are one volume and no more: at least 56 bytes, with the
+/// `Signature` `_FVH` at 40, the GUID of a file system, `FileSystemGuid`, at 16, and an `FvLength`
+/// that is their number. No other check of the header is made. Takes no memory. (PI specification,
+/// volume 3, section 3.2.1.1.)
 pub fn is_one_volume(bytes: &[u8]) -> bool
     ensures { result ≡ is_one_volume bytes.now }
 {
@@ -88,21 +89,22 @@ pub fn is_one_volume(bytes: &[u8]) -> bool
         && volume_len_at(bytes) == bytes.len() as u64
 }
 
-// Whether `HeaderLength` may be this: a multiple of 8, from 64 to the limit.
+// Whether `HeaderLength` may have this value: a multiple of 8, from 64 to the limit.
 fn is_header_len(len: usize) -> bool
     ensures { result ≡ is_header_len len }
 {
     len % 8 == 0 && HEADER_LEAST <= len && len <= HEADER_LIMIT
 }
 
-// Whether `FvLength` may be this behind a header of so many bytes: a multiple of 8, up to the limit.
+// Whether `FvLength` may have this value if the header has `header_len` bytes: a multiple of 8, at
+// least the header's length and up to the limit.
 fn is_volume_len(header_len: usize, len: u64) -> bool
     ensures { result ≡ is_volume_len header_len len }
 {
     len % 8 == 0 && header_len as u64 <= len && len <= VOLUME_LIMIT
 }
 
-// Whether the words of a header sum to 0.
+// Whether the 16-bit words of a header sum to 0.
 fn has_sum(bytes: &[u8]) -> bool
     requires { length bytes.now % 2 ≡ 0 }
     ensures { result ≡ (sum16_of bytes.now == 0) }
@@ -117,8 +119,8 @@ fn is_zero_pair(count: u32, size: u32) -> bool
     count == 0 && size == 0
 }
 
-// Whether none of the blocks is a pair of zeros, and they make up so many bytes. What is left of the bytes is counted
-// down, so that no sum can wrap.
+// Whether none of the blocks is a pair of zeros, and together they have `total` bytes. The loop
+// counts down what is left of `total`, so that no sum can wrap.
 fn makes_up(blocks: &[u8], total: u64) -> bool
     requires { length blocks.now % 8 ≡ 0 }
     ensures { result ≡ makes_up (pairs_of blocks.now) total }
@@ -139,7 +141,8 @@ fn makes_up(blocks: &[u8], total: u64) -> bool
     left == 0
 }
 
-// Whether the first pair of zeros stands at the header's end, and the blocks before it make up `FvLength`.
+// Whether the first pair of zeros is at the header's end, and the blocks before it make up
+// `FvLength`.
 fn has_block_map(bytes: &[u8], header_len: usize) -> bool
     requires least { 64 ≤ header_len }
     requires multiple { header_len % 8 ≡ 0 }
@@ -153,7 +156,7 @@ fn has_block_map(bytes: &[u8], header_len: usize) -> bool
         && u32_at(bytes, last + BLOCK_LENGTH_OFFSET) == 0
 }
 
-// Whether an extended header lies behind the header and within the volume, or there is none.
+// Whether an extended header is after the header and within the volume, or there is none.
 fn has_ext(bytes: &[u8], header_len: usize, volume_len: u64) -> bool
     requires least { 56 ≤ length bytes.now }
     requires within { volume_len ≤ length bytes.now }
@@ -173,7 +176,7 @@ fn has_ext(bytes: &[u8], header_len: usize, volume_len: u64) -> bool
         && start as u64 + u64::from(size) <= volume_len
 }
 
-// Where the first file may stand.
+// Where the first file may begin.
 fn first_at(bytes: &[u8]) -> u64
     requires least { 56 ≤ length bytes.now }
     requires ext { ExtHeaderWithin bytes.now }
@@ -187,7 +190,7 @@ fn first_at(bytes: &[u8]) -> u64
     up_to_8(u64::from(offset) + u64::from(size))
 }
 
-// What the header says, which has no fault.
+// The extent that a header without a fault gives.
 fn extent_at(bytes: &[u8], file_system: FileSystem) -> Extent
     requires least { 56 ≤ length bytes.now }
     requires ext { ExtHeaderWithin bytes.now }
@@ -235,7 +238,7 @@ fn front_verdict(bytes: &[u8]) -> Result<FileSystem, Fault>
     Ok(file_system)
 }
 
-// Nothing, or the first fault of the whole header, of FvLength or of the extended header.
+// Ok, or the first fault of the whole header, of FvLength or of the extended header.
 fn whole_verdict(bytes: &[u8]) -> Result<(), Fault>
     requires long { 56 ≤ length bytes.now }
     requires header_len { is_header_len (header_len_at bytes.now) ≡ true }
@@ -275,25 +278,27 @@ fn verdict(bytes: &[u8]) -> Result<Extent, Fault>
     Ok(extent_at(bytes, file_system))
 }
 
-/// The extent of the volume that the bytes begin with: `FvLength`, `HeaderLength`, where the first file may stand,
-/// the file system and the polarity. Takes no memory. (PI specification, volume 3, section 3.2.1.1.)
+/// The extent of the volume at the start of the bytes: `FvLength`, `HeaderLength`, where the first
+/// file may begin, the file system and the polarity. Takes no memory. (PI specification, volume 3,
+/// section 3.2.1.1.)
 ///
 /// # Errors
 ///
-/// The first fault of the header, in this order: Truncated where 56 bytes are not there, Signature, FileSystem,
-/// Revision, HeaderLength, Truncated where HeaderLength bytes are not there, HeaderSum, BlockMap, Length, Truncated
-/// where FvLength bytes are not there, ExtHeader. Offsets are in bytes from the first.
+/// The first fault of the header, in this order: Truncated if there are fewer than 56 bytes,
+/// Signature, FileSystem, Revision, HeaderLength, Truncated if there are fewer than HeaderLength
+/// bytes, HeaderSum, BlockMap, Length, Truncated if there are fewer than FvLength bytes, ExtHeader.
+/// Offsets are in bytes from the first.
 pub fn verify_fv(bytes: &[u8]) -> Result<Extent, Fault>
     // The bytes begin with a volume of this extent.
     ensures found { IfOk result (λ e. (h : HeadFields) × BeginsVolume h e bytes.now) }
 
-    // Every volume that they begin with is answered.
+    // Every volume that they begin with is returned.
     ensures only { (h : HeadFields) (e : Extent) → BeginsVolume h e bytes.now → result ≡ Ok e }
 
-    // A refusal names the first check that does not hold.
+    // An error names the first check that does not hold.
     ensures first { IfErr result (IsFirstFault (head_checks bytes.now)) }
 
-    // A refusal stands within the bytes or at their end.
+    // The offset of an error is within the bytes or at their end.
     ensures bound { IfErr result (λ f. f.place.offset ≤ length bytes.now) }
 {
     verdict(bytes)

@@ -1,6 +1,6 @@
-//! Where the fields of a volume's headers stand, in bytes from a header's first, and what stands in those that are
-//! read in several places. (PI specification, volume 3, section 3.2.1.1, `EFI_FIRMWARE_VOLUME_HEADER`, and section
-//! 3.2.1.2, `EFI_FIRMWARE_VOLUME_EXT_HEADER`.)
+//! The offsets of the fields of a volume's headers, in bytes from a header's first, and the fields
+//! that are read in several places. (PI specification, volume 3, section 3.2.1.1,
+//! `EFI_FIRMWARE_VOLUME_HEADER`, and section 3.2.1.2, `EFI_FIRMWARE_VOLUME_EXT_HEADER`.)
 
 ghost use Rattle.std.specs.Prelude.{◌≡◌, ◌+◌, ◌≤◌, length};
 ghost use Rattle.fv_base.specs.Value.{field};
@@ -23,7 +23,7 @@ pub(crate) const SIGNATURE_OFFSET: usize = 40;
 /// `Attributes`, 4 bytes.
 pub(crate) const ATTRIBUTES_OFFSET: usize = 44;
 
-/// `HeaderLength`, 2 bytes; `Checksum`, 2 bytes, stands behind it.
+/// `HeaderLength`, 2 bytes; `Checksum`, 2 bytes, follows it.
 pub(crate) const HEADER_LENGTH_OFFSET: usize = 48;
 
 /// `ExtHeaderOffset`, 2 bytes.
@@ -38,7 +38,7 @@ pub(crate) const REVISION_OFFSET: usize = 55;
 /// `BlockMap`, which ends the header.
 pub(crate) const BLOCK_MAP_OFFSET: usize = 56;
 
-/// The bytes of an entry of `BlockMap`, `EFI_FV_BLOCK_MAP_ENTRY`.
+/// The length of an entry of `BlockMap`, `EFI_FV_BLOCK_MAP_ENTRY`.
 pub(crate) const BLOCK_ENTRY_LEN: usize = 8;
 
 /// `NumBlocks` of an entry of `BlockMap`, 4 bytes.
@@ -47,7 +47,7 @@ pub(crate) const NUM_BLOCKS_OFFSET: usize = 0;
 /// `Length` of an entry of `BlockMap`, 4 bytes.
 pub(crate) const BLOCK_LENGTH_OFFSET: usize = 4;
 
-/// The bytes of a header whose `BlockMap` is the pair of zeros alone.
+/// The length of a header whose `BlockMap` is only the pair of zeros.
 pub(crate) const HEADER_LEAST: usize = 64;
 
 /// `FvName` of an extended header, 16 bytes.
@@ -56,7 +56,7 @@ pub(crate) const FV_NAME_OFFSET: usize = 0;
 /// `ExtHeaderSize` of an extended header, 4 bytes.
 pub(crate) const EXT_HEADER_SIZE_OFFSET: usize = 16;
 
-/// The bytes of an extended header without entries; its entries stand behind them.
+/// The length of an extended header without entries; its entries follow.
 pub(crate) const EXT_HEADER_LEN: usize = 20;
 
 /// `ExtEntrySize` of an entry of an extended header, 2 bytes. (`EFI_FIRMWARE_VOLUME_EXT_ENTRY`.)
@@ -65,7 +65,7 @@ pub(crate) const EXT_ENTRY_SIZE_OFFSET: usize = 0;
 /// `ExtEntryType` of an entry, 2 bytes.
 pub(crate) const EXT_ENTRY_TYPE_OFFSET: usize = 2;
 
-/// The bytes of an entry's header; its payload stands behind them.
+/// The length of an entry's header; its payload follows.
 pub(crate) const EXT_ENTRY_HEADER_LEN: usize = 4;
 
 // `HeaderLength`.
@@ -84,7 +84,7 @@ pub(crate) fn volume_len_at(bytes: &[u8]) -> u64
     u64_at(bytes, FV_LENGTH_OFFSET)
 }
 
-// `ExtHeaderOffset`, which is 0 where there is no extended header.
+// `ExtHeaderOffset`, which is 0 if there is no extended header.
 pub(crate) fn ext_offset_at(bytes: &[u8]) -> u16
     requires { 56 ≤ length bytes.now }
     ensures { result ≡ ext_offset_at bytes.now }

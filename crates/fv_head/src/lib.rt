@@ -1,4 +1,4 @@
-//! The header that a firmware volume begins with: checked, read and written.
+//! The header at the start of a firmware volume: checked, read and written.
 #![tactic(auto)]
 
 mod attributes;

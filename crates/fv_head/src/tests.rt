@@ -24,7 +24,7 @@ const EMPTY: [u8; 128] = [
     0xff, 0xff, 0xff, 0xff, 0xff, 0xff, 0xff, 0xff, 0xff, 0xff, 0xff, 0xff, 0xff, 0xff, 0xff, 0xff,
 ];
 
-// Puts other bytes at a place, as far as there is room.
+// Writes a part over the bytes from an offset on, as far as there is room.
 fn put_at(bytes: &mut [u8], at: usize, part: &[u8]) {
     let room = bytes.len().saturating_sub(at);
     for i in 0..part.len().min(room) {
@@ -32,14 +32,14 @@ fn put_at(bytes: &mut [u8], at: usize, part: &[u8]) {
     }
 }
 
-// Puts other bytes at these places.
+// Writes parts over the bytes at their offsets.
 fn change(bytes: &mut [u8], changes: &[(usize, &[u8])]) {
     for (at, part) in changes {
         put_at(bytes, *at, part);
     }
 }
 
-/// What changes, and then the file system, the attributes and the polarity.
+/// What is changed, and then the file system, the attributes and the polarity.
 const HEADS: [(&[(usize, &[u8])], FileSystem, u32, Polarity); 3] = [
     (&[], FileSystem::Ffs2, 0x0004_feff, Polarity::Ones),
     (
@@ -60,7 +60,7 @@ const HEADS: [(&[(usize, &[u8])], FileSystem, u32, Polarity); 3] = [
     ),
 ];
 
-/// How many bytes are left, what changes, and then the fault.
+/// How many bytes are left, what is changed, and then the fault.
 const FAULTS: [(usize, &[(usize, &[u8])], FaultKind, u64); 13] = [
     (55, &[], FaultKind::Truncated, 55),
     (60, &[], FaultKind::Truncated, 60),
@@ -75,7 +75,7 @@ const FAULTS: [(usize, &[(usize, &[u8])], FaultKind, u64); 13] = [
         FaultKind::BlockMap,
         56,
     ),
-    // 8 bytes more than the most that are read.
+    // 8 bytes more than the limit.
     (
         72,
         &[
@@ -121,7 +121,7 @@ const FAULTS: [(usize, &[(usize, &[u8])], FaultKind, u64); 13] = [
     ),
 ];
 
-// Whether a head has the fields of the empty volume, and these.
+// Whether a head has the fields of the empty volume, and those given.
 fn shows(head: &VolumeHead, file_system: FileSystem, attributes: u32, polarity: Polarity) -> bool {
     let is_named = *head.zero_vector() == [0u8; 16] && head.file_system() == file_system;
     let bits = head.attributes();
@@ -155,7 +155,7 @@ fn heads_are_read(rt: HostRuntime) -> Result<(), Fail> {
     Ok(())
 }
 
-// The head of the canonical image of the volume that the bytes begin with.
+// The head of the canonical image of the volume at the start of the bytes.
 fn canonical(alloc: Global, bytes: &[u8]) -> Result<ByteList, Fault> {
     let (head, _) = read_head(alloc, bytes)?;
     head_bytes(alloc, &head)
@@ -191,7 +191,7 @@ fn heads_are_put(rt: HostRuntime) -> Result<(), Fail> {
     Ok(())
 }
 
-// The fault with which a head is not read.
+// The fault if a head is rejected.
 fn fault_of(alloc: Global, bytes: &[u8]) -> Option<Fault> {
     match read_head(alloc, bytes) {
         Ok((_head, _)) => None,

@@ -14,13 +14,13 @@ use crate::head_image::put_head;
 use fv_base::{Fault, Port, WriteSink};
 use std::io::Write;
 
-/// Writes the head of the canonical image, as `head_bytes` gives it. Takes no memory. (PI specification, volume 3,
-/// section 3.2.1.1.)
+/// Writes the head of the canonical image, as `head_bytes` returns it. Takes no memory. (PI
+/// specification, volume 3, section 3.2.1.1.)
 ///
 /// # Errors
 ///
-/// WriteFault at the bytes written in this call, where a write fails or takes no byte: exactly
-/// these bytes of the head were written then.
+/// WriteFault at the number of bytes written in this call, if a write fails or takes no byte.
+/// Exactly that many bytes of the head were written then.
 pub fn write_head<W: Write>(head: &VolumeHead, writer: &mut Port<W>) -> Result<(), Fault>
     ensures ok { OnOk result ((bytes : List ℕ) × IsCanonicalHead head.now bytes
         × Appends (W.contents (inner_of writer.old)) (W.contents (inner_of writer.new)) bytes) }
@@ -34,12 +34,12 @@ pub fn write_head<W: Write>(head: &VolumeHead, writer: &mut Port<W>) -> Result<(
     out.outcome()
 }
 
-/// Writes an extended header with each used size as it is handed, as `ext_bytes` gives it. Takes no memory. (PI
-/// specification, volume 3, section 3.2.1.2.)
+/// Writes an extended header whose used sizes have the value `used`, as `ext_bytes` returns it.
+/// Takes no memory. (PI specification, volume 3, section 3.2.1.2.)
 ///
 /// # Errors
 ///
-/// WriteFault, as `write_head`.
+/// WriteFault, as for `write_head`.
 pub fn write_ext<W: Write>(ext: &ExtHeader, used: u32, writer: &mut Port<W>) -> Result<(), Fault>
     ensures ok { OnOk result
         (Appends (W.contents (inner_of writer.old)) (W.contents (inner_of writer.new)) (ext_spelled ext.now used)) }

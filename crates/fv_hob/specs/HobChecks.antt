@@ -1,4 +1,4 @@
--- The checks of a block in their order, and the first fault of a list.
+-- The checks of a block in a fixed order, and the first fault of a list.
 use Rattle.std.specs.Prelude.{◌≡◌, ℕ, ◌%◌, ◌==◌, nat_le, ◌&&◌, ◌||◌, not, Bool, true, List, [], ◌∷◌, ◌++◌, length}
 use Rattle.std.specs.List.{AllByRecursion}
 use Rattle.fv_base.specs.Checks.{Check, IsFirstFault}
@@ -8,7 +8,7 @@ use Rattle.fv_hob.specs.declared.fault.HobFault.{HobFault}
 use Rattle.fv_hob.specs.declared.fault.HobFaultKind.{HobFaultKind}
 use Rattle.fv_hob.specs.declared.fault.HobFaultKind.TheVariants as kinds
 
--- a length that counts the header, and is a multiple of 8
+-- a length that includes the header, and is a multiple of 8
 abbrev pub is_hob_len : ℕ → Bool
 is_hob_len n = nat_le 8 n && (n % 8 == 0)
 
@@ -16,7 +16,7 @@ is_hob_len n = nat_le 8 n && (n % 8 == 0)
 abbrev pub hob_check : Bool → HobFaultKind → Check HobFaultKind
 hob_check holds kind = record { holds = holds; fault = kind }
 
--- the checks of the block that begins r, the first of the list or a later one, in their order
+-- the checks of the block at the start of r, in order; `first` says whether it is the first of the list
 abbrev pub hob_checks : Bool → List ℕ → List (Check HobFaultKind)
 hob_checks first r =
     hob_check (nat_le 1 (length r)) kinds.NoEnd
@@ -27,7 +27,7 @@ hob_checks first r =
     ∷ hob_check (has_shape (hob_type_at r) (hob_len_at r)) kinds.Shape
     ∷ []
 
--- r begins with the block c, which may stand there
+-- r begins with the block c, which is allowed there
 pub record BeginsBlock (first : Bool) (c r : List ℕ) : Type 0 where
   pub behind : List ℕ
   pub joined : r ≡ c ++ behind
@@ -38,8 +38,8 @@ pub record BeginsBlock (first : Bool) (c r : List ℕ) : Type 0 where
 abbrev pub BeginsTable : List ℕ → Type 0
 BeginsTable r = (c : List ℕ) × BeginsBlock true c r
 
--- some blocks, none of them an end, are read up to the fault's offset, and there it is that of the first
--- check that does not hold
+-- some blocks, none of them an end block, are read up to the fault's offset, and the fault is that of the first check
+-- there that does not hold
 pub record IsFirstHobFault (b : List ℕ) (fault : HobFault) : Type 0 where
   pub before : List HobForm
   pub c : List ℕ
@@ -51,11 +51,11 @@ pub record IsFirstHobFault (b : List ℕ) (fault : HobFault) : Type 0 where
   pub place : fault.offset ≡ length c
   pub kind_is : IsFirstFault (hob_checks (length before == 0) r) fault.kind
 
--- the fault of every call whose memory was refused
+-- the fault of every call when memory runs out
 abbrev pub hob_want_of_memory : HobFault
 hob_want_of_memory = record { kind = kinds.OutOfMemory; offset = 0 }
 
--- the number by which a kind of fault is known
+-- the number of each kind of fault
 abbrev pub hob_fault_number : HobFaultKind → ℕ
 hob_fault_number kinds.Short = 1
 hob_fault_number kinds.Length = 2

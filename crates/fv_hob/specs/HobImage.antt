@@ -7,7 +7,7 @@ use Rattle.fv_hob.specs.Hobs.{HobForm, hob_type, hob_len}
 use Rattle.fv_hob.specs.declared.hob.HobKind.{HobKind}
 use Rattle.fv_hob.specs.declared.hob.HobKind.TheVariants as kinds
 
--- the fields behind a block's header, in their order; the body of an unused block is zeros
+-- the fields after a block's header, in order; the body of an unused block is zeros
 abbrev pub hob_fields : HobKind → List (List ℕ)
 hob_fields (kinds.Handoff said) =
     le_bytes 4 said.version ∷ le_bytes 4 said.boot_mode ∷ le_bytes 8 said.memory_top ∷ le_bytes 8 said.memory_bottom
@@ -29,11 +29,11 @@ hob_fields (kinds.Unused len) = replicate len 0 ∷ []
 hob_fields kinds.End = []
 hob_fields (kinds.Other code payload) = payload ∷ []
 
--- a block: its type, its length, its reserved word and its body
+-- a block: its type, its length, its reserved field and its body
 abbrev pub hob_spelled : HobForm → List ℕ
 hob_spelled h =
     concat (le_bytes 2 (hob_type h.kind) ∷ le_bytes 2 (hob_len h.kind) ∷ le_bytes 4 h.reserved ∷ hob_fields h.kind)
 
--- the blocks, one behind the other
+-- the blocks, one after another
 abbrev pub list_spelled : List HobForm → List ℕ
 list_spelled hs = concat (map hob_spelled hs)

@@ -10,7 +10,7 @@ use Rattle.fv_hob.specs.declared.hob.Resource.{Resource}
 use Rattle.fv_hob.specs.declared.hob.HobKind.{HobKind}
 use Rattle.fv_hob.specs.declared.hob.HobKind.TheVariants as kinds
 
--- a block: its reserved word, and what it says by its type
+-- a block: its reserved 32-bit field, and its content by its type
 pub record HobForm : Type 0 where
   pub reserved : ℕ
   pub kind : HobKind
@@ -32,7 +32,7 @@ hob_type (kinds.Unused len) = 0xfffe
 hob_type kinds.End = 0xffff
 hob_type (kinds.Other code payload) = code
 
--- how many bytes a block has, its header of 8 among them
+-- how many bytes a block has, its header of 8 bytes included
 abbrev pub hob_len : HobKind → ℕ
 hob_len (kinds.Handoff said) = 56
 hob_len (kinds.MemoryAllocation said) = 48 + length said.rest
@@ -61,7 +61,7 @@ has_shape code n =
     else (if code == 0x000b then n == 24
     else (if code == 0xffff then n == 8 else true)))))))))
 
--- the GUID that stands at a place
+-- the GUID at an offset
 abbrev pub guid_in : ℕ → List ℕ → Guid
 guid_in at b = guid_of (field at 16 b)
 
@@ -77,7 +77,7 @@ handoff_in b = record {
   end_of_list = le_at 48 8 b;
 }
 
--- those of an allocation of memory
+-- the fields of a memory allocation at their offsets
 abbrev pub allocation_in : List ℕ → MemoryAllocation
 allocation_in b = record {
   name = guid_in 8 b;
@@ -88,7 +88,7 @@ allocation_in b = record {
   rest = drop 48 b;
 }
 
--- those of a resource
+-- the fields of a resource at their offsets
 abbrev pub resource_in : List ℕ → Resource
 resource_in b = record {
   owner = guid_in 8 b;
@@ -98,7 +98,7 @@ resource_in b = record {
   length = le_at 40 8 b;
 }
 
--- what a block of this type says: its fields at their offsets
+-- the content of a block of this type: its fields at their offsets
 abbrev pub kind_by : ℕ → List ℕ → HobKind
 kind_by code b =
     if code == 0x0001 then kinds.Handoff (handoff_in b)
@@ -113,7 +113,7 @@ kind_by code b =
     else (if code == 0xfffe then kinds.Unused (length b - 8)
     else (if code == 0xffff then kinds.End else kinds.Other code (drop 8 b)))))))))))
 
--- HobType, the type of the block that begins b
+-- HobType, the type of the block at the start of b
 abbrev pub hob_type_at : List ℕ → ℕ
 hob_type_at b = le_at 0 2 b
 
@@ -121,7 +121,7 @@ hob_type_at b = le_at 0 2 b
 abbrev pub hob_len_at : List ℕ → ℕ
 hob_len_at b = le_at 2 2 b
 
--- what the block b says, with its reserved word, which stands at 4
+-- the content of the block b, with its reserved field, which is at 4
 abbrev pub hob_in : List ℕ → HobForm
 hob_in b = record { reserved = le_at 4 4 b; kind = kind_by (hob_type_at b) b }
 
@@ -133,11 +133,11 @@ pub record IsBlock (b : List ℕ) : Type 0 where
   pub least : 8 ≤ length b
   pub shaped : has_shape (hob_type_at b) (length b) ≡ true
 
--- b is this block
+-- b is a block with this content
 pub record IsHob (h : HobForm) (b : List ℕ) : Type 0 where
   pub block : IsBlock b
   pub said : h ≡ hob_in b
 
--- some bytes are this block
+-- some bytes are a block with this content
 abbrev pub IsReadHob : HobForm → Type 0
 IsReadHob h = (b : List ℕ) × IsHob h b

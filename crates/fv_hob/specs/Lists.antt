@@ -6,7 +6,7 @@ use Rattle.fv_hob.specs.declared.hob.HobKind.{HobKind}
 use Rattle.fv_hob.specs.declared.hob.HobKind.TheVariants as kinds
 use Rattle.fv_hob.specs.declared.span.Span.{Span}
 
--- b is these blocks, one behind the other
+-- b is these blocks, one after another
 abbrev pub JoinsHobs : List HobForm → List ℕ → Type 0
 JoinsHobs [] b = b ≡ []
 JoinsHobs (h ∷ hs) b = (c : List ℕ) × (rest : List ℕ) × (b ≡ c ++ rest) × IsHob h c × JoinsHobs hs rest
@@ -23,7 +23,7 @@ abbrev pub BeginWithTable : List HobForm → Type 0
 BeginWithTable [] = ⊤
 BeginWithTable (h ∷ hs) = hob_type h.kind ≡ 0x0001
 
--- b is the list: its blocks joined, the first a PHIT, the last the one end block
+-- b is the list: its blocks joined, the first a PHIT, the last an end block, and no other end block
 pub record IsHobList (all : List HobForm) (b : List ℕ) : Type 0 where
   pub front : List HobForm
   pub last : HobForm
@@ -37,22 +37,22 @@ pub record IsHobList (all : List HobForm) (b : List ℕ) : Type 0 where
 abbrev pub IsUsedHob : HobForm → Type 0
 IsUsedHob h = hob_type h.kind ≢ 0xfffe
 
--- some bytes are the list
+-- some bytes are this list
 abbrev pub IsReadList : List HobForm → Type 0
 IsReadList all = (b : List ℕ) × IsHobList all b
 
--- the base and the length of the volume that a block names, if it names one
+-- the base and the length of the volume that a block describes, if it describes one
 abbrev pub span_of : HobKind → Option Span
 span_of (kinds.FirmwareVolume base len) = Some (record { base = base; length = len })
 span_of (kinds.FirmwareVolume2 base len volume file) = Some (record { base = base; length = len })
 span_of _ = None
 
--- a span, if there is one, before others
+-- the span, if there is one, in front of the others
 abbrev pub with_span : Option Span → List Span → List Span
 with_span None ss = ss
 with_span (Some s) ss = s ∷ ss
 
--- the base and the length of each volume that the blocks name, in their order
+-- the base and the length of each volume that the blocks describe, in order
 abbrev pub spans_of : List HobForm → List Span
 spans_of [] = []
 spans_of (h ∷ hs) = with_span (span_of h.kind) (spans_of hs)

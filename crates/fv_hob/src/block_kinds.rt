@@ -44,7 +44,7 @@ fn handoff_in(block: &[u8]) -> Handoff
     }
 }
 
-// An allocation of memory.
+// A memory allocation.
 fn allocation_in(alloc: Global, block: &[u8]) -> Result<MemoryAllocation, AllocError>
     requires { 48 ≤ length block.now }
     ensures { IfOk result (λ said. said ≡ allocation_in block.now) }
@@ -89,7 +89,7 @@ fn cpu_in(block: &[u8]) -> HobKind
     }
 }
 
-// A volume that stood in a file of another.
+// A volume that was found in a file of another volume.
 fn volume2_in(block: &[u8]) -> HobKind
     requires { length block.now ≡ 56 }
     ensures { result ≡ kind_by 0x0009 block.now }
@@ -102,7 +102,7 @@ fn volume2_in(block: &[u8]) -> HobKind
     }
 }
 
-// What a block says behind its header.
+// The content of a block after its header.
 fn kind_in(alloc: Global, block: &[u8]) -> Result<HobKind, AllocError>
     requires { IsBlock block.now }
     ensures { IfOk result (λ kind. kind ≡ kind_by (hob_type_at block.now) block.now) }
@@ -138,7 +138,7 @@ fn kind_in(alloc: Global, block: &[u8]) -> Result<HobKind, AllocError>
     })
 }
 
-/// The block of these bytes.
+/// The block with these bytes.
 pub fn hob_in(alloc: Global, block: &[u8]) -> Result<Hob, AllocError>
     requires { IsBlock block.now }
     ensures { IfOk result (λ h. IsHob h block.now) }

@@ -1,4 +1,4 @@
-//! Why a hand-off list was refused.
+//! Why a hand-off list was rejected.
 
 ghost use Rattle.std.specs.Prelude.{◌≡◌};
 ghost use Rattle.fv_hob.specs.HobChecks.{hob_fault_number, hob_want_of_memory};
@@ -6,33 +6,33 @@ ghost use Rattle.fv_hob.specs.HobChecks.{hob_fault_number, hob_want_of_memory};
 use std::alloc::{AllocError, AllocFailed};
 use thiserror::Error;
 
-/// Why a hand-off list was refused, and where the fault lies: an offset in bytes from the first byte
-/// of the list. (PI specification, volume 3, section 5.)
+/// Why a hand-off list was rejected. Each variant also says at which offset, in bytes from the
+/// first byte of the list. (PI specification, volume 3, section 5.)
 #[derive(Clone, Copy, Debug, PartialEq, Eq, Error)]
 pub enum HobFaultKind {
     /// Fewer than the 8 bytes of a header are left, or fewer than HobLength says. At the block's
     /// header.
     #[error("a block is cut")]
     Short,
-    /// HobLength is no multiple of 8, or below 8. At the block's header.
+    /// HobLength is not a multiple of 8, or is below 8. At the block's header.
     #[error("the length of a block is no multiple of 8 from 8 on")]
     Length,
-    /// The first block is no hand-off information table (PHIT). At 0.
+    /// The first block is not a hand-off information table (PHIT). At 0.
     #[error("the first block is no hand-off information table")]
     First,
-    /// HobLength is none that the block's HobType may have. At the block's header.
+    /// HobLength is not one that the block's HobType may have. At the block's header.
     #[error("the length of a block is not that of its type")]
     Shape,
     /// The bytes end before an end block (EFI_HOB_TYPE_END_OF_HOB_LIST). At their end.
     #[error("the list has no end block")]
     NoEnd,
-    /// A growth of memory was refused. At 0.
+    /// Memory ran out. At 0.
     #[error("out of memory")]
     OutOfMemory,
 }
 
 impl HobFaultKind {
-    /// The number by which the kind is known: 1 to 6, in the order above.
+    /// The number of the kind: 1 to 6, in the order above.
     pub fn number(self) -> u8
         ensures { result ≡ hob_fault_number self }
     {
@@ -47,19 +47,19 @@ impl HobFaultKind {
     }
 }
 
-/// What was refused, and where.
+/// Why a list was rejected, and where.
 #[derive(Clone, Copy, Debug, PartialEq, Eq, Error)]
 #[error("{kind} (hob fault {}) at offset {offset}", .kind.number())]
 pub struct HobFault {
-    /// Why.
+    /// The kind of the fault.
     pub kind: HobFaultKind,
-    /// Where, in bytes from the first byte of the list: at the block's header, or where one is
-    /// missing, or 0 for OutOfMemory.
+    /// The offset in bytes from the first byte of the list: that of the block's header, or where
+    /// one is missing, or 0 for OutOfMemory.
     pub offset: u64,
 }
 
 impl HobFault {
-    /// The number by which the fault's kind is known, 1 to 6.
+    /// The number of the fault's kind, 1 to 6.
     pub fn number(self) -> u8
         ensures { result ≡ hob_fault_number self.kind }
     {
@@ -67,7 +67,7 @@ impl HobFault {
     }
 }
 
-/// The fault of every call whose memory was refused.
+/// The fault of every call when memory runs out.
 const WANT_OF_MEMORY: HobFault = HobFault {
     kind: HobFaultKind::OutOfMemory,
     offset: 0,

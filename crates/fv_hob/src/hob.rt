@@ -1,4 +1,4 @@
-//! Hand-off blocks. Addresses and lengths are in bytes; numbers are little-endian in the bytes.
+//! Hand-off blocks. Addresses and lengths are in bytes; numbers are stored little-endian.
 
 ghost use Rattle.std.specs.Prelude.{◌≡◌};
 ghost use Rattle.fv_hob.specs.Hobs.{IsReadHob, hob_type, hob_len};
@@ -8,11 +8,11 @@ use crate::layout::{allocation, cpu, extension, handoff, header, resource, span,
 use fv_base::{ByteList, Guid};
 use std::marker::Model;
 
-/// What the hand-off information table (PHIT), EFI_HOB_HANDOFF_INFO_TABLE, says. (PI specification,
-/// volume 3, section 5.3.)
+/// The fields of the hand-off information table (PHIT), EFI_HOB_HANDOFF_INFO_TABLE. (PI
+/// specification, volume 3, section 5.3.)
 #[derive(Clone, Copy, Debug, PartialEq, Eq)]
 pub struct Handoff {
-    /// Version: that of the table.
+    /// Version: the version of the table.
     pub version: u32,
     /// BootMode.
     pub boot_mode: u32,
@@ -28,7 +28,7 @@ pub struct Handoff {
     pub end_of_list: u64,
 }
 
-/// What an allocation of memory, EFI_HOB_MEMORY_ALLOCATION, says. (PI specification, volume 3,
+/// The fields of a memory allocation, EFI_HOB_MEMORY_ALLOCATION. (PI specification, volume 3,
 /// section 5.4.)
 #[derive(Drop)]
 pub struct MemoryAllocation {
@@ -40,13 +40,14 @@ pub struct MemoryAllocation {
     pub length: u64,
     /// MemoryType.
     pub memory_type: u32,
-    /// Reserved, kept as they stand.
+    /// Reserved, kept as found.
     pub reserved: [u8; 4],
-    /// The bytes of the block from 48 on, kept as they stand.
+    /// The bytes of the block from 48 on, kept as found.
     pub rest: ByteList,
 }
 
-/// What a resource, EFI_HOB_RESOURCE_DESCRIPTOR, says. (PI specification, volume 3, section 5.5.)
+/// The fields of a resource, EFI_HOB_RESOURCE_DESCRIPTOR. (PI specification, volume 3, section
+/// 5.5.)
 #[derive(Clone, Copy, Debug, PartialEq, Eq)]
 pub struct Resource {
     /// Owner.
@@ -61,21 +62,21 @@ pub struct Resource {
     pub length: u64,
 }
 
-/// What a block says, by its type: HobType, and the length in bytes that it has to have, its
-/// header of 8 among them. (PI specification, volume 3, section 5.)
+/// The content of a block, by its type. Each variant says its HobType, and the length in bytes that
+/// it must have, with its header of 8 bytes included. (PI specification, volume 3, section 5.)
 #[derive(Drop)]
 pub enum HobKind {
     /// EFI_HOB_TYPE_HANDOFF, 0x0001: the hand-off information table (PHIT), 56 bytes.
     Handoff(Handoff),
-    /// EFI_HOB_TYPE_MEMORY_ALLOCATION, 0x0002: an allocation of memory, at least 48 bytes.
+    /// EFI_HOB_TYPE_MEMORY_ALLOCATION, 0x0002: a memory allocation, at least 48 bytes.
     MemoryAllocation(MemoryAllocation),
     /// EFI_HOB_TYPE_RESOURCE_DESCRIPTOR, 0x0003: a resource, 48 bytes.
     Resource(Resource),
-    /// EFI_HOB_TYPE_GUID_EXTENSION, 0x0004: data of a name, at least 24 bytes.
+    /// EFI_HOB_TYPE_GUID_EXTENSION, 0x0004: data with a name, at least 24 bytes.
     GuidExtension {
         /// Name.
         name: Guid,
-        /// The data: the bytes of the block from 24 on, kept as they stand.
+        /// The data: the bytes of the block from 24 on, kept as found.
         payload: ByteList,
     },
     /// EFI_HOB_TYPE_FV, 0x0005: a firmware volume, 24 bytes.
@@ -87,16 +88,16 @@ pub enum HobKind {
     },
     /// EFI_HOB_TYPE_CPU, 0x0006: the processor, 16 bytes.
     Cpu {
-        /// SizeOfMemorySpace: the bits of a memory address.
+        /// SizeOfMemorySpace: the number of bits of a memory address.
         memory_bits: u8,
-        /// SizeOfIoSpace: the bits of an I/O address.
+        /// SizeOfIoSpace: the number of bits of an I/O address.
         io_bits: u8,
-        /// Reserved, kept as they stand.
+        /// Reserved, kept as found.
         reserved: [u8; 6],
     },
     /// EFI_HOB_TYPE_MEMORY_POOL, 0x0007: a pool of memory, 8 bytes.
     MemoryPool,
-    /// EFI_HOB_TYPE_FV2, 0x0009: a firmware volume that stood in a file of another, 56 bytes.
+    /// EFI_HOB_TYPE_FV2, 0x0009: a firmware volume that was found in a file of another, 56 bytes.
     FirmwareVolume2 {
         /// BaseAddress.
         base: u64,
@@ -114,24 +115,24 @@ pub enum HobKind {
         /// Length.
         length: u64,
     },
-    /// EFI_HOB_TYPE_UNUSED, 0xFFFE: a block that is not used, at least 8 bytes; its body is not
-    /// read, and is written as zeros.
+    /// EFI_HOB_TYPE_UNUSED, 0xFFFE: an unused block, at least 8 bytes. Its body is not read, and is
+    /// written as zeros.
     Unused {
-        /// How many bytes follow its header.
+        /// The number of bytes after its header.
         body_len: u16,
     },
     /// EFI_HOB_TYPE_END_OF_HOB_LIST, 0xFFFF: the end of the list, 8 bytes.
     End,
-    /// Any other type, EFI_HOB_TYPE_FV3 (0x000C) among them, at least 8 bytes.
+    /// Any other type, including EFI_HOB_TYPE_FV3 (0x000C), at least 8 bytes.
     Other {
         /// HobType.
         code: u16,
-        /// The bytes of the block from 8 on, kept as they stand.
+        /// The bytes of the block from 8 on, kept as found.
         payload: ByteList,
     },
 }
 
-/// A hand-off block, made by `read_hobs` alone. (PI specification, volume 3, section 5.)
+/// A hand-off block; only `read_hobs` makes one. (PI specification, volume 3, section 5.)
 #[derive(Drop)]
 pub struct Hob {
     reserved: u32,
@@ -148,7 +149,7 @@ impl Model for Hob {
     ghost invariant = { λ h. IsReadHob (record { reserved = h.reserved; kind = h.kind }) };
 }
 
-// The length of a block that says this.
+// The length of a block with this content.
 fn len_of(kind: &HobKind) -> usize
     ensures { result ≡ hob_len kind.now }
 {
@@ -167,7 +168,7 @@ fn len_of(kind: &HobKind) -> usize
 }
 
 impl Hob {
-    // The block of these parts.
+    // The block with these parts.
     pub(crate) fn from_parts(reserved: u32, kind: HobKind) -> Hob
         requires { IsReadHob (record { reserved = reserved; kind = kind }) }
         ensures { result ≡ record { reserved = reserved; kind = kind } }
@@ -175,14 +176,14 @@ impl Hob {
         Hob { reserved, kind }
     }
 
-    /// Reserved of the header (EFI_HOB_GENERIC_HEADER, section 5.2), kept as it stands.
+    /// Reserved of the header (EFI_HOB_GENERIC_HEADER, section 5.2), kept as found.
     pub fn reserved(&self) -> u32
         ensures { result ≡ self.now.reserved }
     {
         self.reserved
     }
 
-    /// What the block says, by its type.
+    /// The content of the block, by its type.
     pub fn kind(&self) -> &HobKind
         ensures kind { result.now ≡ self.now.kind }
 
@@ -192,7 +193,8 @@ impl Hob {
         &self.kind
     }
 
-    /// HobType of the header, 0x0001 (EFI_HOB_TYPE_HANDOFF) to 0xFFFF (EFI_HOB_TYPE_END_OF_HOB_LIST).
+    /// HobType of the header, 0x0001 (EFI_HOB_TYPE_HANDOFF) to 0xFFFF
+    /// (EFI_HOB_TYPE_END_OF_HOB_LIST).
     pub fn code(&self) -> u16
         ensures { result ≡ hob_type self.now.kind }
     {
@@ -212,7 +214,7 @@ impl Hob {
         }
     }
 
-    /// HobLength of the header: the length of the block in bytes, its header of 8 among them.
+    /// HobLength of the header: the length of the block in bytes, its header of 8 bytes included.
     pub fn length(&self) -> u16
         ensures { result ≡ hob_len self.now.kind }
     {

@@ -1,5 +1,5 @@
-//! Where the fields of hand-off blocks stand: offsets in bytes from the first byte of a block, and
-//! its length in bytes, its header among them. (PI specification, volume 3, section 5.)
+//! The offsets of the fields of hand-off blocks, in bytes from the first byte of a block, and the
+//! length of each block in bytes, its header included. (PI specification, volume 3, section 5.)
 
 /// The header of every block, EFI_HOB_GENERIC_HEADER (section 5.2).
 pub mod header {
@@ -90,7 +90,7 @@ pub mod extension {
     /// Name, a GUID.
     pub const NAME: usize = 8;
 
-    /// The least length; the data stand from there on.
+    /// The least length; the data begin there.
     pub const LEAST: usize = 24;
 }
 
@@ -107,7 +107,7 @@ pub mod span {
     pub const LEN: usize = 24;
 }
 
-/// EFI_HOB_FIRMWARE_VOLUME2 (section 5.7), behind its base and its length.
+/// EFI_HOB_FIRMWARE_VOLUME2 (section 5.7): the fields after its base and its length.
 pub mod volume2 {
     /// FvName, a GUID.
     pub const VOLUME_NAME: usize = 24;

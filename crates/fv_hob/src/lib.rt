@@ -1,5 +1,5 @@
-//! Hand-off block (HOB) lists: read, written, and asked for the volumes that they name. (PI
-//! specification, volume 3, section 5.)
+//! Hand-off block (HOB) lists: reading them, writing them, and finding the volumes that they
+//! describe. (PI specification, volume 3, section 5.)
 #![tactic(auto)]
 
 mod block_kinds;

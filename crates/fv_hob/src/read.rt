@@ -17,7 +17,7 @@ use crate::layout::header;
 use fv_base::field::u16_at;
 use std::alloc::Global;
 
-// Whether a block may have this length: one that counts the header, and is a multiple of 8.
+// Whether a block may have this length: one that includes the header, and is a multiple of 8.
 fn is_hob_len(len: usize) -> bool
     ensures { result ≡ is_hob_len len }
 {
@@ -61,7 +61,7 @@ fn next_block(rest: &[u8], first: bool) -> Result<&[u8], HobFaultKind>
     Ok(&rest[..len])
 }
 
-// The blocks up to the end block, and how many bytes they have.
+// The blocks up to the end block, and the number of their bytes.
 fn read_blocks(alloc: Global, bytes: &[u8]) -> Result<(Vec<Hob>, usize), HobFault>
     ensures found { IfOk result (λ p. (p.1 ≤ length bytes.now) × IsHobList p.0.items (take p.1 bytes.now)) }
     ensures first { IfErr result (λ f. f ≢ hob_want_of_memory → IsFirstHobFault bytes.now f) }
@@ -87,32 +87,34 @@ fn read_blocks(alloc: Global, bytes: &[u8]) -> Result<(Vec<Hob>, usize), HobFaul
     }
 }
 
-/// Reads the hand-off block list that begins the bytes, up to its first end block
-/// (EFI_HOB_TYPE_END_OF_HOB_LIST), and says how many bytes it has, the end block among them. Bytes
-/// behind it are not read. Any bytes may be handed in. (PI specification, volume 3, section 5.)
+/// Reads the hand-off block list at the start of the bytes, up to its first end block
+/// (EFI_HOB_TYPE_END_OF_HOB_LIST). Returns the list and the number of its bytes, the end block
+/// included. Bytes after it are not read. Any bytes may be passed in. (PI specification, volume 3,
+/// section 5.)
 ///
 /// # Errors
 ///
-/// At the first block that has a fault, in this order: NoEnd where no bytes are left, Short where
-/// fewer than 8 are, Length (HobLength), Short where fewer than HobLength are, First (HobType of
+/// At the first block that has a fault, in this order: NoEnd if no bytes are left, Short if fewer
+/// than 8 are left, Length (HobLength), Short if fewer than HobLength are left, First (HobType of
 /// the first block), Shape (HobLength by HobType). The offset is that of the block's header, in
 /// bytes from the first of `bytes`. OutOfMemory at 0.
 pub fn read_hobs(alloc: Global, bytes: &[u8]) -> Result<(HobList, u64), HobFault>
-    // The bytes begin with this list, and it has so many.
+    // The bytes begin with this list, which has this many bytes.
     ensures found { IfOk result (λ p. (p.1 ≤ length bytes.now) × IsHobList p.0 (take p.1 bytes.now)) }
 
     // They begin with no other list.
     ensures only { IfOk result (λ p. (all : List HobForm) (n : ℕ) → n ≤ length bytes.now
         → IsHobList all (take n bytes.now) → (all ≡ p.0) × (n ≡ p.1)) }
 
-    // Where it refuses, want of memory aside, they begin with none.
+    // If an error other than OutOfMemory is returned, they begin with no list.
     ensures none { IfErr result
         (λ f. f ≢ hob_want_of_memory → (all : List HobForm) (n : ℕ) → IsHobList all (take n bytes.now) → ⊥) }
 
-    // A refusal, want of memory aside, names the first check that does not hold, at the first block that has one.
+    // An error other than OutOfMemory names the first check that does not hold, at the first block
+    // that has one.
     ensures first { IfErr result (λ f. f ≢ hob_want_of_memory → IsFirstHobFault bytes.now f) }
 
-    // Memory is wanting only where the bytes begin with a hand-off information table.
+    // Memory runs out only if the bytes begin with a hand-off information table.
     ensures memory { IfErr result (λ f. f ≡ hob_want_of_memory → BeginsTable bytes.now) }
 {
     let (hobs, at) = read_blocks(alloc, bytes)?;

@@ -1,4 +1,4 @@
-//! The volumes that a hand-off list names.
+//! The volumes that a hand-off list describes.
 
 ghost use Rattle.std.specs.Prelude.{◌≡◌, IfOk, IfErr};
 ghost use Rattle.fv_hob.specs.HobChecks.{hob_want_of_memory};
@@ -10,7 +10,7 @@ use crate::hob_list::HobList;
 use std::alloc::Global;
 use std::marker::Model;
 
-/// Where a firmware volume lies. (PI specification, volume 3, section 5.7.)
+/// Where a firmware volume is in memory. (PI specification, volume 3, section 5.7.)
 #[derive(Clone, Copy, Debug, PartialEq, Eq)]
 pub struct Span {
     /// BaseAddress: the address of its first byte.
@@ -19,7 +19,8 @@ pub struct Span {
     pub length: u64,
 }
 
-/// Where firmware volumes lie, made by `volume_hobs` alone. Contracts see the list of their spans.
+/// Where firmware volumes are in memory; only `volume_hobs` makes such a list. Contracts see the
+/// list of their spans.
 #[derive(Drop)]
 pub struct Spans {
     list: Vec<Span>,
@@ -35,7 +36,7 @@ impl Model for Spans {
 }
 
 impl Spans {
-    /// The spans in the order of the blocks that name them.
+    /// The spans in the order of the blocks that describe them.
     pub fn as_slice(&self) -> &[Span]
         ensures { result.now ≡ self.now }
     {
@@ -44,9 +45,9 @@ impl Spans {
 }
 
 impl Hob {
-    /// Where the volume lies that the block names: that of EFI_HOB_TYPE_FV (0x0005) and
-    /// EFI_HOB_TYPE_FV2 (0x0009), and None for every other type. (PI specification, volume 3,
-    /// section 5.7.)
+    /// Where the volume that the block describes is in memory: for EFI_HOB_TYPE_FV (0x0005) and
+    /// EFI_HOB_TYPE_FV2 (0x0009); None for every other type. (PI specification, volume 3, section
+    /// 5.7.)
     pub fn span(&self) -> Option<Span>
         ensures { result ≡ span_of self.now.kind }
     {
@@ -61,8 +62,9 @@ impl Hob {
     }
 }
 
-/// Where the volumes of the FV and FV2 blocks (EFI_HOB_TYPE_FV, EFI_HOB_TYPE_FV2) lie, in the order
-/// of the blocks, a volume that two blocks name twice. (PI specification, volume 3, section 5.7.)
+/// Where the volumes of the FV and FV2 blocks (EFI_HOB_TYPE_FV, EFI_HOB_TYPE_FV2) are in memory, in
+/// the order of the blocks. A volume that two blocks describe is in the list twice. (PI
+/// specification, volume 3, section 5.7.)
 ///
 /// # Errors
 ///

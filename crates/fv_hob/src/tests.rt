@@ -37,7 +37,7 @@ const LIST: Parts = &[
     &[0x0a; 16],
     // Unused, with no body.
     &[0xfe, 0xff, 0x08, 0x00, 0x00, 0x00, 0x00, 0x00],
-    // Eight bytes of data of a name.
+    // Eight bytes of data with a name.
     &[0x04, 0x00, 0x20, 0x00, 0x00, 0x00, 0x00, 0x00],
     &[0x0c; 16],
     &[0x01, 0x02, 0x03, 0x04, 0x05, 0x06, 0x07, 0x08],
@@ -52,7 +52,7 @@ const A: [u8; 16] = [
     0x10, 0x11, 0x12, 0x13, 0x14, 0x15, 0x16, 0x17, 0x18, 0x19, 0x1a, 0x1b, 0x1c, 0x1d, 0x1e, 0x1f,
 ];
 
-/// The bytes of another.
+/// The bytes of another GUID.
 const B: [u8; 16] = [
     0xb0, 0xb1, 0xb2, 0xb3, 0xb4, 0xb5, 0xb6, 0xb7, 0xb8, 0xb9, 0xba, 0xbb, 0xbc, 0xbd, 0xbe, 0xbf,
 ];
@@ -61,7 +61,7 @@ const B: [u8; 16] = [
 const TYPES: Parts = &[
     // At 0.
     &HANDOFF,
-    // At 56: an allocation, with 8 bytes behind it.
+    // At 56: an allocation, with 8 more bytes.
     &[0x02, 0x00, 0x38, 0x00, 0x04, 0x03, 0x02, 0x01],
     &A,
     &[0x20, 0x21, 0x22, 0x23, 0x24, 0x25, 0x26, 0x27],
@@ -108,17 +108,17 @@ const TYPES: Parts = &[
     &[0xf8, 0xf9, 0xfa, 0xfb, 0xfc, 0xfd, 0xfe, 0xff],
     &A,
     &B,
-    // At 392: data of a name.
+    // At 392: data with a name.
     &[0x04, 0x00, 0x30, 0x00, 0x00, 0x00, 0x00, 0x00],
     &B,
     &[0xa0, 0xa1, 0xa2, 0xa3, 0xa4, 0xa5, 0xa6, 0xa7],
     &[0xa8, 0xa9, 0xaa, 0xab, 0xac, 0xad, 0xae, 0xaf],
     &[0x00, 0x01, 0x02, 0x03, 0x04, 0x05, 0x06, 0x07],
-    // At 440.
+    // At 440: the end.
     &[0xff, 0xff, 0x08, 0x00, 0x01, 0x00, 0x00, 0x00],
 ];
 
-/// Bytes behind a list: a second end block, a volume, and a block that is cut.
+/// Bytes after a list: a second end block, a volume, and a block that is cut short.
 const BEHIND: Parts = &[
     &END,
     &[0x05, 0x00, 0x18, 0x00, 0x00, 0x00, 0x00, 0x00],
@@ -126,7 +126,7 @@ const BEHIND: Parts = &[
     &[0xaa, 0xbb, 0xcc],
 ];
 
-// Puts parts behind the bytes.
+// Appends parts to the bytes.
 fn push_parts(bytes: &mut Vec<u8>, parts: &[&[u8]]) -> Result<(), AllocError> {
     for part in parts {
         bytes.extend_from_slice(part)?;
@@ -134,7 +134,7 @@ fn push_parts(bytes: &mut Vec<u8>, parts: &[&[u8]]) -> Result<(), AllocError> {
     Ok(())
 }
 
-// The parts, and more behind them, joined.
+// The parts, and more after them, joined.
 fn joined(alloc: Global, parts: &[&[u8]], more: &[&[u8]]) -> Result<Vec<u8>, HobFault> {
     let mut bytes = Vec::new(alloc);
     push_parts(&mut bytes, parts)?;
@@ -142,7 +142,7 @@ fn joined(alloc: Global, parts: &[&[u8]], more: &[&[u8]]) -> Result<Vec<u8>, Hob
     Ok(bytes)
 }
 
-// Puts a part over the bytes that stand from a place on.
+// Writes a part over the bytes from an offset on.
 fn put(bytes: &mut [u8], at: usize, part: &[u8]) {
     let mut place = at;
     for byte in part {
@@ -160,7 +160,7 @@ fn header(code: u16, length: u16) -> [u8; 4] {
     [code_low, code_high, length_low, length_high]
 }
 
-// The fault of the list that begins the bytes, if it is refused.
+// The fault of the list at the start of the bytes, if it is rejected.
 fn fault_of(alloc: Global, bytes: &[u8]) -> Option<HobFault> {
     match read_hobs(alloc, bytes) {
         Ok((_list, _)) => None,
@@ -168,13 +168,13 @@ fn fault_of(alloc: Global, bytes: &[u8]) -> Option<HobFault> {
     }
 }
 
-// How many blocks the list has that begins the bytes, and how many bytes.
+// How many blocks the list at the start of the bytes has, and how many bytes.
 fn counts(alloc: Global, bytes: &[u8]) -> Result<(usize, u64), HobFault> {
     let (list, length) = read_hobs(alloc, bytes)?;
     Ok((list.as_slice().len(), length))
 }
 
-// Whether the list that begins the bytes is written as these.
+// Whether the list at the start of the bytes is written as these.
 fn is_written_as(alloc: Global, bytes: &[u8], expected: &[u8]) -> Result<bool, HobFault> {
     let (list, _) = read_hobs(alloc, bytes)?;
     let written = hob_bytes(alloc, &list)?;

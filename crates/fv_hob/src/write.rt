@@ -17,7 +17,7 @@ use fv_base::{ByteList, Guid};
 use std::alloc::{AllocError, Global};
 use std::iter::repeat_n;
 
-// The bytes with those of a number of 16 bits behind them, little-endian.
+// Appends a 16-bit number, little-endian.
 fn push_u16(bytes: &mut Vec<u8>, number: u16) -> Result<(), AllocError>
     ensures { OnOk result (bytes.new.items ≡ bytes.old.items ++ le_bytes 2 number) }
 {
@@ -26,7 +26,7 @@ fn push_u16(bytes: &mut Vec<u8>, number: u16) -> Result<(), AllocError>
     bytes.extend_from_slice(&spelled)
 }
 
-// The same of a number of 32 bits.
+// Appends a 32-bit number, little-endian.
 fn push_u32(bytes: &mut Vec<u8>, number: u32) -> Result<(), AllocError>
     ensures { OnOk result (bytes.new.items ≡ bytes.old.items ++ le_bytes 4 number) }
 {
@@ -35,7 +35,7 @@ fn push_u32(bytes: &mut Vec<u8>, number: u32) -> Result<(), AllocError>
     bytes.extend_from_slice(&spelled)
 }
 
-// The same of a number of 64 bits.
+// Appends a 64-bit number, little-endian.
 fn push_u64(bytes: &mut Vec<u8>, number: u64) -> Result<(), AllocError>
     ensures { OnOk result (bytes.new.items ≡ bytes.old.items ++ le_bytes 8 number) }
 {
@@ -44,28 +44,28 @@ fn push_u64(bytes: &mut Vec<u8>, number: u64) -> Result<(), AllocError>
     bytes.extend_from_slice(&spelled)
 }
 
-// The bytes with others behind them.
+// Appends bytes.
 fn push_bytes(bytes: &mut Vec<u8>, more: &[u8]) -> Result<(), AllocError>
     ensures { OnOk result (bytes.new.items ≡ bytes.old.items ++ more.now) }
 {
     bytes.extend_from_slice(more)
 }
 
-// The bytes with those of a GUID behind them.
+// Appends the bytes of a GUID.
 fn push_guid(bytes: &mut Vec<u8>, guid: &Guid) -> Result<(), AllocError>
     ensures { OnOk result (bytes.new.items ≡ bytes.old.items ++ bytes_of guid.now) }
 {
     push_bytes(bytes, &guid.to_bytes())
 }
 
-// The bytes with so many zeros behind them.
+// Appends `count` zero bytes.
 fn push_zeros(bytes: &mut Vec<u8>, count: u16) -> Result<(), AllocError>
     ensures { OnOk result (bytes.new.items ≡ bytes.old.items ++ replicate count 0) }
 {
     bytes.extend(repeat_n(0, usize::from(count)))
 }
 
-// The bytes with the body of a hand-off information table behind them.
+// Appends the body of a hand-off information table.
 fn push_handoff(bytes: &mut Vec<u8>, said: &Handoff) -> Result<(), AllocError>
     ensures { OnOk result (bytes.new.items ≡ bytes.old.items ++ concat (hob_fields (kinds.Handoff said.now))) }
 {
@@ -78,7 +78,7 @@ fn push_handoff(bytes: &mut Vec<u8>, said: &Handoff) -> Result<(), AllocError>
     push_u64(bytes, said.end_of_list)
 }
 
-// The bytes with the body of an allocation of memory behind them.
+// Appends the body of a memory allocation.
 fn push_allocation(bytes: &mut Vec<u8>, said: &MemoryAllocation) -> Result<(), AllocError>
     ensures { OnOk result (bytes.new.items ≡ bytes.old.items ++ concat (hob_fields (kinds.MemoryAllocation said.now))) }
 {
@@ -90,7 +90,7 @@ fn push_allocation(bytes: &mut Vec<u8>, said: &MemoryAllocation) -> Result<(), A
     push_bytes(bytes, said.rest.as_slice())
 }
 
-// The bytes with the body of a resource behind them.
+// Appends the body of a resource.
 fn push_resource(bytes: &mut Vec<u8>, said: &Resource) -> Result<(), AllocError>
     ensures { OnOk result (bytes.new.items ≡ bytes.old.items ++ concat (hob_fields (kinds.Resource said.now))) }
 {
@@ -101,7 +101,7 @@ fn push_resource(bytes: &mut Vec<u8>, said: &Resource) -> Result<(), AllocError>
     push_u64(bytes, said.length)
 }
 
-// The bytes with a base and a length behind them.
+// Appends a base and a length.
 fn push_span(bytes: &mut Vec<u8>, base: u64, length: u64) -> Result<(), AllocError>
     ensures { OnOk result
         (bytes.new.items ≡ bytes.old.items ++ concat (hob_fields (kinds.FirmwareVolume base length))) }
@@ -110,7 +110,7 @@ fn push_span(bytes: &mut Vec<u8>, base: u64, length: u64) -> Result<(), AllocErr
     push_u64(bytes, length)
 }
 
-// The bytes with the names of a volume and of a file in it behind them.
+// Appends the names of a volume and of a file in it.
 fn push_names(bytes: &mut Vec<u8>, volume: &Guid, file: &Guid) -> Result<(), AllocError>
     ensures { OnOk result (bytes.new.items ≡ bytes.old.items ++ concat (bytes_of volume.now ∷ bytes_of file.now ∷ [])) }
 {
@@ -118,7 +118,7 @@ fn push_names(bytes: &mut Vec<u8>, volume: &Guid, file: &Guid) -> Result<(), All
     push_guid(bytes, file)
 }
 
-// The bytes with a block's body behind them.
+// Appends the body of a block.
 fn push_body(bytes: &mut Vec<u8>, kind: &HobKind) -> Result<(), AllocError>
     ensures { OnOk result (bytes.new.items ≡ bytes.old.items ++ concat (hob_fields kind.now)) }
 {
@@ -155,7 +155,7 @@ fn push_body(bytes: &mut Vec<u8>, kind: &HobKind) -> Result<(), AllocError>
     }
 }
 
-// The bytes with those of a block behind them.
+// Appends the bytes of a block.
 fn push_hob(bytes: &mut Vec<u8>, hob: &Hob) -> Result<(), AllocError>
     ensures { OnOk result (bytes.new.items ≡ bytes.old.items ++ hob_spelled hob.now) }
 {
@@ -165,7 +165,7 @@ fn push_hob(bytes: &mut Vec<u8>, hob: &Hob) -> Result<(), AllocError>
     push_body(bytes, hob.kind())
 }
 
-// The bytes of blocks, one behind the other.
+// The bytes of blocks, one after another.
 fn list_spelled(alloc: Global, hobs: &[Hob]) -> Result<Vec<u8>, AllocError>
     ensures { IfOk result (λ v. v.items ≡ list_spelled hobs.now) }
 {
@@ -176,8 +176,8 @@ fn list_spelled(alloc: Global, hobs: &[Hob]) -> Result<Vec<u8>, AllocError>
     Ok(bytes)
 }
 
-/// The bytes of a list: those that it was read from, but for unused blocks (EFI_HOB_TYPE_UNUSED),
-/// which are zeros behind their headers. (PI specification, volume 3, section 5.)
+/// The bytes of a list: those that it was read from, except that the body of an unused block
+/// (EFI_HOB_TYPE_UNUSED) is zeros. (PI specification, volume 3, section 5.)
 ///
 /// # Errors
 ///
@@ -186,7 +186,7 @@ pub fn hob_bytes(alloc: Global, hobs: &HobList) -> Result<ByteList, HobFault>
     // They are the list.
     ensures list { IfOk result (λ b. IsHobList hobs.now b) }
 
-    // Where no block is unused, they are those that it was read from.
+    // If no block is unused, they are those that it was read from.
     ensures kept { IfOk result (λ b. (c : List ℕ) → IsHobList hobs.now c → AllByRecursion IsUsedHob hobs.now → b ≡ c) }
 
     // They are these bytes.

@@ -1,4 +1,4 @@
--- The checks of a section header in their order, and the first fault of a stream.
+-- The checks of a section header in a fixed order, and the first fault of a stream.
 use Rattle.std.specs.Prelude.{◌≡◌, ℕ, ◌%◌, ◌<◌, ◌==◌, nat_le, ◌&&◌, Bool, true, false, List, [], ◌∷◌, length, take}
 use Rattle.std.specs.Prelude.{drop}
 use Rattle.fv_base.specs.Checks.{Check, check, IsFirstFault}
@@ -7,7 +7,7 @@ use Rattle.fv_base.specs.declared.fault.Fault.{Fault}
 use Rattle.fv_base.specs.declared.fault.FaultKind.TheVariants as kinds
 use Rattle.fv_section.specs.Frames.{FrameForm, section_header_len, Splits}
 
--- what the header that begins r says: its form, its bytes, and those of the section
+-- what the header at the start of r says: whether it is extended, its length, and the size of the section
 abbrev pub has_extended_size : List ℕ → Bool
 has_extended_size r = le_at 0 3 r == 0xffffff
 
@@ -21,20 +21,20 @@ section_size_in true r = le_at 4 4 r
 abbrev pub section_size_at : List ℕ → ℕ
 section_size_at r = section_size_in (has_extended_size r) r
 
--- the header is whole, and the size is neither below it nor past the end
+-- the header is whole, and the size is neither below its length nor past the end
 abbrev pub has_section_size : List ℕ → Bool
 has_section_size r = nat_le (section_header_len_at r) (length r)
     && (nat_le (section_header_len_at r) (section_size_at r) && nat_le (section_size_at r) (length r))
 
--- the checks of a section at the place `at`, from where on the bytes are r
+-- the checks of a section at the offset `at`; r are the bytes from there on
 abbrev pub frame_checks : ℕ → List ℕ → List (Check Fault)
 frame_checks at r =
     check (nat_le 4 (length r)) kinds.SectionTail at
     ∷ check (has_section_size r) kinds.SectionSize at
     ∷ []
 
--- frames and fillers join up to a place within the stream, a multiple of 4; there the fault is that of the first
--- check that does not hold
+-- frames and fillers are joined up to the offset `at` within the stream, a multiple of 4; the fault is that of the
+-- first check there that does not hold
 pub record IsFirstFrameFault (b : List ℕ) (fault : Fault) : Type 0 where
   pub frames : List FrameForm
   pub tail : ℕ

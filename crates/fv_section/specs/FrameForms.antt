@@ -1,4 +1,4 @@
--- What the frames that are handed out stand for.
+-- What the frames that the calls return mean.
 use Rattle.fv_section.specs.Frames.{FrameForm}
 use Rattle.fv_section.specs.declared.frame.Frame.{Frame}
 

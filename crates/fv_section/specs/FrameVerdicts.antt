@@ -1,4 +1,4 @@
--- The answer of the checks of a section header, as code finds it.
+-- The result of the checks of a section header, as the code finds it.
 -- Serves private clauses alone: there is nothing to believe here.
 use Rattle.std.specs.Prelude.{ℕ, ◌-◌, Result, List, take, drop, slice_index}
 use Rattle.fv_base.specs.Verdicts.{first_fault, verdict_by}
@@ -6,7 +6,7 @@ use Rattle.fv_base.specs.declared.fault.Fault.{Fault}
 use Rattle.fv_section.specs.Frames.{FrameForm}
 use Rattle.fv_section.specs.FrameChecks.{has_extended_size, section_header_len_at, section_size_at, frame_checks}
 
--- the frame at the place `at`, from where on the bytes are r
+-- the frame at the offset `at`; r are the bytes from there on
 abbrev pub frame_in : ℕ → List ℕ → FrameForm
 frame_in at r = record {
   offset = at;

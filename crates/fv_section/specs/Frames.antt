@@ -4,29 +4,30 @@ use Rattle.std.specs.Prelude.{◌≡◌, ◌≢◌, ℕ, ◌+◌, ◌*◌, ◌/�
 use Rattle.std.specs.Prelude.{drop, slice_index}
 use Rattle.fv_base.specs.Value.{le_at}
 
--- a frame: a section as it lies in its stream, by where its header begins, its type, its form, and its body
+-- a frame: a section as it is found in its stream: the offset of its header, its type, whether its header is extended,
+-- and its body
 pub record FrameForm : Type 0 where
   pub offset : ℕ
   pub kind : ℕ
   pub extended : Bool
   pub body : List ℕ
 
--- the bytes of a header, short and extended
+-- the length of a short and of an extended header
 abbrev pub section_header_len : Bool → ℕ
 section_header_len false = 4
 section_header_len true = 8
 
--- how many bytes a frame has
+-- how many bytes a frame has, its header included
 abbrev pub frame_len : FrameForm → ℕ
 frame_len f = section_header_len f.extended + length f.body
 
--- a short header says the size in its Size, which is then not 0xFFFFFF; an extended one says it
--- behind (ExtendedSize), and its Size is 0xFFFFFF
+-- a short header has the size in Size, which is then not 0xFFFFFF; an extended one has it in ExtendedSize, and its Size
+-- is 0xFFFFFF
 abbrev pub SaysSize : Bool → ℕ → List ℕ → Type 0
 SaysSize false n h = (le_at 0 3 h ≡ n) × (n ≢ 0xffffff)
 SaysSize true n h = (le_at 0 3 h ≡ 0xffffff) × (le_at 4 4 h ≡ n)
 
--- the bytes h are the header of a section of this form and type, whose body has n bytes; the size counts the header
+-- the bytes h are the header of a section of this form and type, whose body has n bytes; the size includes the header
 pub record IsSectionHeader (extended : Bool) (kind n : ℕ) (h : List ℕ) : Type 0 where
   pub whole : length h ≡ section_header_len extended
   pub kind_is : slice_index h 3 ≡ kind
@@ -42,8 +43,8 @@ pub record BeginsFrame (f : FrameForm) (b rest : List ℕ) : Type 0 where
 abbrev pub up_to_4 : ℕ → ℕ
 up_to_4 n = (n + 3) / 4 * 4
 
--- from the place `at` of the stream on, b is these frames, joined, with filler of any value from each to the next
--- multiple of 4, and `tail` bytes behind the last, at most to the next multiple of 4
+-- from the offset `at` of the stream on, b is these frames, joined, with filler of any value from each to the next
+-- multiple of 4. `tail` bytes follow the last, at most to the next multiple of 4
 abbrev pub SplitsFrom : ℕ → List FrameForm → ℕ → List ℕ → Type 0
 SplitsFrom at [] tail b = (b ≡ []) × (tail ≡ 0)
 SplitsFrom at (f ∷ []) tail b =
@@ -54,18 +55,18 @@ SplitsFrom at (f ∷ g ∷ fs) tail b =
     × (at + frame_len f + length filler ≡ up_to_4 (at + frame_len f))
     × SplitsFrom (up_to_4 (at + frame_len f)) (g ∷ fs) tail rest
 
--- b is a stream of these frames, with `tail` bytes behind the last one
+-- b is a stream of these frames, with `tail` bytes after the last one
 abbrev pub Splits : List FrameForm → ℕ → List ℕ → Type 0
 Splits fs tail b = SplitsFrom 0 fs tail b
 
--- this frame's header stands at the place `at` of b
+-- the header of this frame is at the offset `at` of b
 pub record FrameStandsAt (f : FrameForm) (at : ℕ) (b : List ℕ) : Type 0 where
   pub offset : f.offset ≡ at
   pub inside : at < length b
   pub behind : List ℕ
   pub begins : BeginsFrame f (drop at b) behind
 
--- each frame ends within so many bytes from the stream's start
+-- each frame ends within `end` bytes from the stream's start
 abbrev pub FramesWithin : ℕ → List FrameForm → Type 0
 FramesWithin end [] = Unit {0}
 FramesWithin end (f ∷ fs) = (f.offset + frame_len f ≤ end) × FramesWithin end fs

@@ -3,24 +3,24 @@ use Rattle.std.specs.Prelude.{◌≡◌, ℕ, ◌+◌, ◌-◌, ◌%◌, ◌≤�
 use Rattle.fv_base.specs.Value.{le_bytes}
 use Rattle.fv_section.specs.Frames.{FrameForm, BeginsFrame, SplitsFrom, section_header_len, frame_len, up_to_4}
 
--- a body of n bytes fits a header of this form
+-- a body of n bytes fits in a section with a header of this form
 abbrev pub FitsForm : Bool → ℕ → Type 0
 FitsForm false n = section_header_len false + n ≤ 0xfffffe
 FitsForm true n = section_header_len true + n ≤ 0xffffffff
 
--- the bytes of a section's header in their order
+-- the bytes of a section's header, in order
 abbrev pub section_head_of : ℕ → Bool → ℕ → List ℕ
 section_head_of kind false n = le_bytes 3 (section_header_len false + n) ++ (kind ∷ [])
 section_head_of kind true n = le_bytes 3 0xffffff ++ (kind ∷ le_bytes 4 (section_header_len true + n))
 
--- behind the header a body of n bytes makes it a frame
+-- the header h and any body of n bytes after it are a frame
 abbrev pub IsHeadOfFrame : Bool → ℕ → ℕ → List ℕ → Type 0
 IsHeadOfFrame extended kind n h =
     (at : ℕ) (body rest : List ℕ) → length body ≡ n
     → BeginsFrame (record { offset = at; kind = kind; extended = extended; body = body }) (h ++ (body ++ rest)) rest
 
--- the frames, one after another, each with its header, with zero bytes to the next multiple of 4 between two of them,
--- and `tail` zero bytes behind the last
+-- the frames, one after another, each with its header; zero bytes to the next multiple of 4 between two of them, and
+-- `tail` zero bytes after the last
 abbrev pub stream_of : List FrameForm → ℕ → List ℕ
 stream_of [] tail = []
 stream_of (f ∷ []) tail = section_head_of f.kind f.extended (length f.body) ++ (f.body ++ replicate tail 0)
@@ -28,8 +28,8 @@ stream_of (f ∷ g ∷ fs) tail =
     section_head_of f.kind f.extended (length f.body)
     ++ (f.body ++ (replicate (up_to_4 (frame_len f) - frame_len f) 0 ++ stream_of (g ∷ fs) tail))
 
--- from the place `at` on, each frame's offset is the next multiple of 4 behind the one before, each body fits its
--- header's form, and the tail goes at most to the next multiple of 4
+-- from the offset `at` on, each frame's offset is the next multiple of 4 after the frame before it, each body fits its
+-- header's form, and the tail ends at most at the next multiple of 4
 abbrev pub InPlace : ℕ → List FrameForm → ℕ → Type 0
 InPlace at [] tail = tail ≡ 0
 InPlace at (f ∷ []) tail =
@@ -37,7 +37,7 @@ InPlace at (f ∷ []) tail =
 InPlace at (f ∷ g ∷ fs) tail =
     (f.offset ≡ at) × FitsForm f.extended (length f.body) × InPlace (up_to_4 (at + frame_len f)) (g ∷ fs) tail
 
--- frames that are written one after another are read again as the same frames
+-- frames that are written one after another are read back as the same frames
 abbrev pub StreamsAreRead : Type 0
 StreamsAreRead = (at : ℕ) (fs : List FrameForm) (tail : ℕ) → at % 4 ≡ 0 → InPlace at fs tail
     → SplitsFrom at fs tail (stream_of fs tail)

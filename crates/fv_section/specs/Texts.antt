@@ -7,13 +7,13 @@ use Rattle.fv_base.specs.Sums.{words_of}
 use Rattle.fv_base.specs.Value.{le}
 use Rattle.fv_base.specs.declared.guid.Guid.{Guid}
 
--- b is the 16-bit units of a text, none of them zero, and then a zero unit
+-- b is the 16-bit units of a text, none of them zero, and then one zero unit
 pub record IsText (b text : List ℕ) : Type 0 where
   pub joined : b ≡ text ++ (0 ∷ 0 ∷ [])
   pub whole_units : length text % 2 ≡ 0
   pub none_zero : AllByRecursion (λ unit. unit ≢ 0) (words_of text)
 
--- b is a number of two bytes and then a text with its zero unit
+-- b is a two-byte number, and then a text with its zero unit
 pub record IsVersion (b : List ℕ) (build : ℕ) (text : List ℕ) : Type 0 where
   pub number : List ℕ
   pub units : List ℕ
@@ -27,7 +27,7 @@ pub record IsFreeform (b : List ℕ) (guid : Guid) (rest : List ℕ) : Type 0 wh
   pub joined : b ≡ bytes_of guid ++ rest
   pub whole : length (bytes_of guid) ≡ 16
 
--- the tests for a text
+-- whether none of the units is zero
 abbrev pub none_zero : List ℕ → Bool
 none_zero units = list_all (λ unit. not (unit == 0)) units
 

@@ -1,4 +1,4 @@
-//! A section as it lies in its stream.
+//! A section as it is found in its stream.
 
 ghost use Rattle.std.specs.Prelude.{◌≡◌, ◌==◌, ◌<◌, ◌≤◌, length, drop, Ok, Err, IfOk, IfErr, IfSome, IfNone};
 ghost use Rattle.fv_base.specs.Checks.{IsFirstFault};
@@ -16,24 +16,24 @@ use byteorder::{ByteOrder, LittleEndian};
 use fv_base::field::{field, u32_at};
 use fv_base::{Fault, FaultKind, check};
 
-/// `Size` of an extended header, whose size is its `ExtendedSize`.
+/// `Size` of an extended header, whose size is in `ExtendedSize`.
 const EXTENDED: u32 = 0xff_ffff;
 
-/// A section as it lies in its stream. (PI specification, volume 3, section 3.2.4,
+/// A section as it is found in its stream. (PI specification, volume 3, section 3.2.4,
 /// `EFI_COMMON_SECTION_HEADER` and `EFI_COMMON_SECTION_HEADER2`.)
 #[derive(Clone, Copy)]
 pub struct Frame<'a> {
-    /// Where its header begins, in bytes from the stream's start.
+    /// The offset of its header, in bytes from the stream's start.
     pub offset: u64,
-    /// Its `Type`, as 0x15 for `EFI_SECTION_USER_INTERFACE`.
+    /// Its `Type`, for example 0x15 for `EFI_SECTION_USER_INTERFACE`.
     pub kind: u8,
-    /// Whether its header is `EFI_COMMON_SECTION_HEADER2`, of 8 bytes, and not one of 4.
+    /// Whether its header is `EFI_COMMON_SECTION_HEADER2`, of 8 bytes, rather than the header of 4.
     pub extended: bool,
-    /// Its bytes behind the header.
+    /// The bytes after its header.
     pub body: &'a [u8],
 }
 
-// `Size`, as it stands in the header that the bytes begin with.
+// `Size` in the header at the start of the bytes.
 fn short_size(rest: &[u8]) -> u32
     requires least { 4 ≤ length rest.now }
     ensures { result ≡ le_at 0 3 rest.now }
@@ -49,7 +49,7 @@ fn has_extended_size(rest: &[u8]) -> bool
     short_size(rest) == EXTENDED
 }
 
-// How many bytes the header has.
+// The length of the header.
 fn head_len(rest: &[u8]) -> usize
     requires least { 4 ≤ length rest.now }
     ensures { result ≡ section_header_len_at rest.now }
@@ -61,7 +61,7 @@ fn head_len(rest: &[u8]) -> usize
     }
 }
 
-// How many bytes the section has, its header counted: `Size` or `ExtendedSize`.
+// The size of the section, its header included: `Size` or `ExtendedSize`.
 fn size_of(rest: &[u8]) -> usize
     requires least { 4 ≤ length rest.now }
     requires header { section_header_len_at rest.now ≤ length rest.now }
@@ -74,7 +74,7 @@ fn size_of(rest: &[u8]) -> usize
     }
 }
 
-// Whether the header is whole, and the size is neither below it nor past the end.
+// Whether the header is whole, and the size is neither below its length nor past the end.
 fn has_section_size(rest: &[u8]) -> bool
     requires least { 4 ≤ length rest.now }
     ensures { result ≡ has_section_size rest.now }
@@ -109,28 +109,29 @@ fn front(rest: &[u8], at: u64) -> Result<Frame<'_>, Fault>
     Ok(frame_in(rest, at))
 }
 
-/// The frame whose header stands at `at`, in bytes from the stream's start, or None where that is the stream's end or
-/// past it. Frames stand at multiples of 4. Takes no memory. (PI specification, volume 3, section 3.2.4.)
+/// The frame whose header is at the offset `at`, in bytes from the stream's start, or None if `at`
+/// is at or past the stream's end. Frames begin at multiples of 4. Takes no memory. (PI
+/// specification, volume 3, section 3.2.4.)
 ///
 /// # Errors
 ///
-/// SectionTail at `at` where 1 to 3 bytes are left; SectionSize at `at` where the size is below
-/// the header or past the end, or an extended header is cut.
+/// SectionTail at `at` if 1 to 3 bytes are left; SectionSize at `at` if the size is below the
+/// header's length or past the end, or an extended header is cut short.
 pub fn next_frame(stream: &[u8], at: u64) -> Result<Option<Frame<'_>>, Fault>
-    // This frame stands there.
+    // This frame is there.
     ensures found { IfOk result (λ o. IfSome o (λ f. FrameStandsAt (frame_form f) at stream.now)) }
 
-    // No other does.
+    // No other frame is there.
     ensures only { IfOk result
         (λ o. IfSome o (λ f. (g : FrameForm) → FrameStandsAt g at stream.now → g ≡ frame_form f)) }
 
-    // There is none at the end and past it.
+    // None is returned only at the end or past it.
     ensures past { IfOk result (λ o. IfNone o (length stream.now ≤ at)) }
 
-    // Where it refuses, none stands there.
+    // If an error is returned, no frame is there.
     ensures none { IfErr result (λ _. (g : FrameForm) → FrameStandsAt g at stream.now → ⊥) }
 
-    // A refusal names the first check that does not hold.
+    // An error names the first check that does not hold.
     ensures first { IfErr result (IsFirstFault (frame_checks at (drop at stream.now))) }
     ensures place { IfErr result (λ e. (e.place.offset ≡ at) × (at < length stream.now)) }
 {

@@ -12,7 +12,7 @@ use crate::layout::{EXTENDED_HEADER_LEN, HEADER_LEN};
 use fv_base::Fault;
 use std::alloc::Global;
 
-// How many bytes a frame has.
+// The number of bytes of a frame.
 fn size_of(frame: &Frame) -> u64
     ensures { result ≡ frame_len (frame_form frame.now) }
 {
@@ -24,7 +24,7 @@ fn size_of(frame: &Frame) -> u64
     header as u64 + frame.body.len() as u64
 }
 
-// Where the frame behind this one would stand, and how many bytes lie before it.
+// The offset at which the next frame would begin, and the number of bytes before it.
 fn next_frame_at(stream: &[u8], frame: &Frame) -> (u64, u8)
     requires { frame.now.offset + frame_len (frame_form frame.now) ≤ length stream.now }
     ensures next { result.0 ≡ up_to_4 (frame.now.offset + frame_len (frame_form frame.now)) }
@@ -55,33 +55,34 @@ fn frames_in(alloc: Global, stream: &[u8]) -> Result<Frames<'_>, Fault>
     Ok(Frames::from_parts(list, tail))
 }
 
-/// The one split of a stream into frames, whose offsets count from the stream's start. A stream of no bytes has none.
-/// (PI specification, volume 3, section 3.2.4.)
+/// The frames of a stream, whose offsets count from the stream's start. A stream splits into frames
+/// in only one way. A stream of no bytes has none. (PI specification, volume 3, section 3.2.4.)
 ///
 /// # Errors
 ///
-/// SectionTail or SectionSize, as `next_frame`, at the first place where a section would begin and none does.
-/// OutOfMemory at 0.
+/// SectionTail or SectionSize, as for `next_frame`, at the first offset where a section would begin
+/// and none does. OutOfMemory at 0.
 pub fn frames(alloc: Global, stream: &[u8]) -> Result<Frames<'_>, Fault>
     // The stream is these frames and this tail.
     ensures found { IfOk result (λ s. Splits s.0 s.1 stream.now) }
 
-    // It is no others.
+    // It is no other frames or tail.
     ensures only { IfOk result
         (λ s. (fs : List FrameForm) (tail : ℕ) → Splits fs tail stream.now → (fs ≡ s.0) × (tail ≡ s.1)) }
 
-    // Where it refuses, want of memory aside, it is none.
+    // If an error other than OutOfMemory is returned, it is not a stream of frames.
     ensures none { IfErr result
         (λ f. f ≢ want_of_memory → (fs : List FrameForm) (tail : ℕ) → Splits fs tail stream.now → ⊥) }
 
-    // A refusal, want of memory aside, names the first check that does not hold where no frame stands.
+    // An error other than OutOfMemory names the first check that does not hold, where no frame
+    // begins.
     ensures first { IfErr result (λ f. f ≢ want_of_memory → IsFirstFrameFault stream.now f) }
 
-    // Frames and faults lie within the stream.
+    // Frames and faults are within the stream.
     ensures lies { IfOk result (λ s. FramesWithin (length stream.now) s.0) }
     ensures bound { IfErr result (λ f. f.place.offset ≤ length stream.now) }
 
-    // A stream of no bytes is not refused, not even for want of memory.
+    // A stream of no bytes is not rejected, not even because memory runs out.
     ensures some { IfErr result (λ _. 0 < length stream.now) }
 {
     frames_in(alloc, stream)

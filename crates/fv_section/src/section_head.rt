@@ -9,8 +9,9 @@ use crate::layout::{EXTENDED_HEADER_LEN, EXTENDED_SIZE_OFFSET, HEADER_LEN, TYPE_
 use byteorder::{ByteOrder, LittleEndian};
 use std::marker::Model;
 
-/// The bytes of a section header: 4, or 8 of an extended one. Contracts see them as a list. (PI specification, volume
-/// 3, section 3.2.4, `EFI_COMMON_SECTION_HEADER` and `EFI_COMMON_SECTION_HEADER2`.)
+/// The bytes of a section header: 4, or 8 for an extended one. Contracts see them as a list. (PI
+/// specification, volume 3, section 3.2.4, `EFI_COMMON_SECTION_HEADER` and
+/// `EFI_COMMON_SECTION_HEADER2`.)
 #[derive(Drop)]
 pub struct SectionHead {
     bytes: [u8; EXTENDED_HEADER_LEN],
@@ -28,7 +29,7 @@ impl Model for SectionHead {
 }
 
 impl SectionHead {
-    /// The bytes in their order.
+    /// The bytes in order.
     pub fn as_slice(&self) -> &[u8]
         ensures { result.now ≡ self.now }
     {
@@ -63,13 +64,14 @@ fn extended_head(kind: u8, size: u32) -> SectionHead
     }
 }
 
-/// The header of a section of this `Type` and form whose body has so many bytes: `Size`, or 0xFFFFFF and
-/// `ExtendedSize`. The size, which counts the header, fits the form: at most 0xFFFFFE in a short header, 0xFFFFFFFF in
-/// an extended one. Takes no memory. (PI specification, volume 3, section 3.2.4.)
+/// The header of a section of this `Type` and form whose body has `body_len` bytes: `Size`, or
+/// 0xFFFFFF and `ExtendedSize`. The size, which includes the header, fits in the form: it is at
+/// most 0xFFFFFE for a short header, 0xFFFFFFFF for an extended one. Takes no memory. (PI
+/// specification, volume 3, section 3.2.4.)
 pub fn section_head_bytes(kind: u8, extended: bool, body_len: u64) -> SectionHead
     requires fits { FitsForm extended body_len }
 
-    // It is read again as what was handed in.
+    // It is read back as what was passed in.
     ensures read { IsSectionHeader extended kind body_len result }
 
     // With its body it is a frame.
@@ -78,7 +80,8 @@ pub fn section_head_bytes(kind: u8, extended: bool, body_len: u64) -> SectionHea
     // It is these bytes.
     ensures bytes { result ≡ section_head_of kind extended body_len }
 
-    // Frames that are written one after another, with zero bytes between, are read again as the same frames.
+    // Frames that are written one after another, with zero bytes between them, are read back as the
+    // same frames.
     ensures streams { StreamsAreRead }
 {
     if extended {

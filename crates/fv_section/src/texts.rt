@@ -33,9 +33,10 @@ fn is_text(bytes: &[u8]) -> bool
         && none_zero(&bytes[..len - 2])
 }
 
-/// The text, `FileNameString`, of a user interface section's body (`EFI_SECTION_USER_INTERFACE`, type 0x15): its
-/// 16-bit units before the zero unit that ends it, in bytes. None where the body has an odd number of bytes, or its
-/// last unit is not the only one that is zero. Takes no memory. (PI specification, volume 3, section 3.2.5.14.)
+/// The text, `FileNameString`, of a user interface section's body (`EFI_SECTION_USER_INTERFACE`,
+/// type 0x15): its 16-bit units before the zero unit that ends it, in bytes. None if the body has
+/// an odd number of bytes, or if its last unit is not its only zero unit. Takes no memory. (PI
+/// specification, volume 3, section 3.2.5.14.)
 pub fn ui_text(body: &[u8]) -> Option<&[u8]>
     ensures found { IfSome result (λ text. IsText body.now text.now) }
     ensures none { IfNone result ((text : List ℕ) → IsText body.now text → ⊥) }
@@ -47,9 +48,9 @@ pub fn ui_text(body: &[u8]) -> Option<&[u8]>
     }
 }
 
-/// `BuildNumber` and the text, `VersionString`, of a version section's body (`EFI_SECTION_VERSION`, type 0x14). None
-/// where the body is no number of 2 bytes and a text with its zero unit. Takes no memory. (PI specification, volume
-/// 3, section 3.2.5.15.)
+/// `BuildNumber` and the text, `VersionString`, of a version section's body (`EFI_SECTION_VERSION`,
+/// type 0x14). None if the body is not a 2-byte number followed by a text with its zero unit. Takes
+/// no memory. (PI specification, volume 3, section 3.2.5.15.)
 pub fn version(body: &[u8]) -> Option<(u16, &[u8])>
     ensures found { IfSome result (λ v. IsVersion body.now v.0 v.1.now) }
     ensures none { IfNone result ((build : ℕ) (text : List ℕ) → IsVersion body.now build text → ⊥) }
@@ -62,9 +63,9 @@ pub fn version(body: &[u8]) -> Option<(u16, &[u8])>
     Some((LittleEndian::read_u16(number), text))
 }
 
-/// The GUID, `SubTypeGuid`, and the bytes behind it of a freeform subtype section's body
-/// (`EFI_SECTION_FREEFORM_SUBTYPE_GUID`, type 0x18). None where the body has fewer than 16 bytes. Takes no memory. (PI
-/// specification, volume 3, section 3.2.5.6.)
+/// The GUID, `SubTypeGuid`, of a freeform subtype section's body
+/// (`EFI_SECTION_FREEFORM_SUBTYPE_GUID`, type 0x18), and the bytes after it. None if the body has
+/// fewer than 16 bytes. Takes no memory. (PI specification, volume 3, section 3.2.5.6.)
 pub fn freeform(body: &[u8]) -> Option<(Guid, &[u8])>
     ensures found { IfSome result (λ v. IsFreeform body.now v.0 v.1.now) }
     ensures none { IfNone result ((guid : Guid) (rest : List ℕ) → IsFreeform body.now guid rest → ⊥) }

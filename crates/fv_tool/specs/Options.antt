@@ -1,4 +1,4 @@
--- The options of the commands, as the reader of command lines has them.
+-- The options of the commands, as given to the command-line parser.
 use Rattle.std.specs.Prelude.{ℕ, List, Option, Some, codes}
 use Rattle.clap.specs.Faults.{built_fault}
 use Rattle.clap.specs.Kinds.{Kinds}
@@ -12,7 +12,7 @@ use Rattle.clap.specs.declared.builder.value_parser.ValueParser.TheVariants as p
 abbrev pub flag_rule : List ℕ → Rule
 flag_rule name = record (new_rule name) { long = Some name; action = Some SetTrue }
 
--- the flag that inputs and outputs are text, and the one that all volumes of an image are meant
+-- the flag `--hex`, that inputs and outputs are text; and the flag `--all`, that all volumes of an image are meant
 abbrev pub hex_rule : Rule
 hex_rule = flag_rule (codes "hex")
 
@@ -56,14 +56,14 @@ extract_app =
 abbrev pub compare_app : App
 compare_app = with_rule (with_rule flag_app (new_rule (codes "first"))) (new_rule (codes "second"))
 
--- what the reader finds in the words after the command's name
+-- what the parser finds in the arguments after the command's name
 abbrev pub rows_in : App → List (List ℕ) → List Row
 rows_in app rest = rows_after (built app).top.rules (names_of (built app)) rest
 
--- what the reader finds wrong with them: nothing where it takes them
+-- what the parser finds wrong with them: nothing, if it accepts them
 abbrev pub faults_in : App → List (List ℕ) → Kinds
 faults_in app rest = built_fault (built app) nothing_held rest
 
--- the text of an argument
+-- the text of an option or an operand
 abbrev pub text_in : App → List ℕ → List (List ℕ) → Option (List ℕ)
 text_in app id rest = first_of id (rows_in app rest)

@@ -1,4 +1,4 @@
--- What a line of words asks for.
+-- What a command line asks for.
 use Rattle.std.specs.Prelude.{◌≡◌, ◌<◌, ◌≤◌, ◌^◌, ◌||◌, ℕ, Bool, true, false, List, [], ◌∷◌, length}
 use Rattle.std.specs.Prelude.{Option, Some, None, String, codes, if◌then◌else◌, option_and_then, option_map}
 use Rattle.std.specs.Str.{bytes_eq}
@@ -17,11 +17,11 @@ use Rattle.fv_command.specs.declared.plan.Task.{Task}
 use Rattle.fv_command.specs.declared.plan.Task.TheVariants.{Normalise, NormaliseAll, List as Listing, Extract, Check}
 use Rattle.fv_command.specs.declared.plan.Task.TheVariants.{Scan}
 
--- of no words: hexadecimal text from standard input is normalised
+-- with no arguments: hexadecimal text from standard input is normalised
 abbrev pub plan_without_words : Plan
 plan_without_words = record { hex = true; command = Single Normalise None }
 
--- the word that names a task, and that which names a command
+-- the argument that names a task, and the one that names a command
 abbrev pub task_name : Task → List ℕ
 task_name Normalise = codes "normalise"
 task_name NormaliseAll = codes "normalise"
@@ -49,27 +49,27 @@ command_app (Single task file) = task_app task
 command_app (Hobs file image) = hobs_app
 command_app (Compare first second) = compare_app
 
--- the word stands among the words, before any `--`
+-- the flag is among the arguments, before any `--`
 abbrev pub has_flag : List ℕ → List (List ℕ) → Bool
 has_flag flag [] = false
 has_flag flag (w ∷ ws) = if bytes_eq w (codes "--") then false else (bytes_eq w flag || has_flag flag ws)
 
--- the type of a section is that of one or two hexadecimal digits, where they are given
+-- the type of a section is that of one or two hexadecimal digits, if these are given
 abbrev pub IsSectionTypeWord : Option (List ℕ) → Option ℕ → Type 0
 IsSectionTypeWord None kind = kind ≡ None
 IsSectionTypeWord (Some text) kind = IsNumeral 16 text × (length text ≤ 2) × (kind ≡ Some (digits_value 16 text))
 
--- the text is a decimal numeral, before which a plus may come, and it spells n, a number of so many bits
+-- the text is a decimal number, perhaps with a plus before it, and it spells n, which has at most `bits` bits
 abbrev pub IsNumberWord : ℕ → List ℕ → ℕ → Type 0
 IsNumberWord bits text n =
     IsNumeral 10 (without_leading_plus text) × (n ≡ digits_value 10 (without_leading_plus text)) × (n < 2 ^ bits)
 
--- which section it is, and the first where nothing is given
+-- which of the sections it is; the first if nothing is given
 abbrev pub IsInstanceWord : Option (List ℕ) → ℕ → Type 0
 IsInstanceWord None n = n ≡ 1
 IsInstanceWord (Some text) n = IsNumberWord 32 text n
 
--- the part of a volume: the file of a name that is read as a GUID, the type of a section and which of them it is
+-- a part of a volume: a file whose name is read as a GUID, the type of a section, and which of these sections it is
 pub record IsPartBy (name section which : Option (List ℕ)) (part : Part) : Type 0 where
   pub name_is : option_and_then guid_read name ≡ Some part.name
   pub section_is : IsSectionTypeWord section part.section
@@ -80,17 +80,17 @@ abbrev pub IsBaseWord : Option (List ℕ) → ℕ → Type 0
 IsBaseWord None n = ⊥
 IsBaseWord (Some text) n = IsNumberWord 64 text n
 
--- an image that is named, with its base: neither is given, or both are
+-- a named image with its base: both are given, or neither
 abbrev pub IsImageWords : (path base : Option (List ℕ)) → Option ImageFile → Type 0
 IsImageWords path base None = (path ≡ None) × (base ≡ None)
 IsImageWords path base (Some image) = (path ≡ Some (string_bytes image.path)) × IsBaseWord base image.base
 
--- a file that is named, if one is
+-- a named file, if one is given
 abbrev pub IsFileWord : Option (List ℕ) → Option (String Global) → Type 0
 IsFileWord text file = option_map string_bytes file ≡ text
 
--- the texts of a task, and those of a command, are those that the reader finds; of the two tasks of one name the
--- flag `--all` tells which
+-- the texts of a task, and those of a command, are those that the parser finds; the flag `--all` says which of the two
+-- tasks of one name it is
 abbrev pub HasTaskTexts : List (List ℕ) → Task → Option (String Global) → Type 0
 HasTaskTexts rest Normalise file =
     (has_flag (codes "--all") rest ≡ false) × IsFileWord (text_in normalise_app (codes "file") rest) file
@@ -113,24 +113,24 @@ HasTexts rest (Compare first second) =
     (Some (string_bytes first) ≡ text_in compare_app (codes "first") rest)
     × (Some (string_bytes second) ≡ text_in compare_app (codes "second") rest)
 
--- the plan is that of the command that the first word names; the reader finds no fault in the words after it, and
--- inputs are text where those have the flag
+-- the plan is that of the command that the first argument names; the parser finds no fault in the arguments after it,
+-- and inputs are text if the flag `--hex` is among them
 pub record AsksBy (name : List ℕ) (rest : List (List ℕ)) (plan : Plan) : Type 0 where
   pub command : name ≡ command_name plan.command
   pub taken : faults_in (command_app plan.command) rest ≡ []
   pub hex : plan.hex ≡ has_flag (codes "--hex") rest
   pub texts : HasTexts rest plan.command
 
--- the same of a line of words, of which the first is the program's name
+-- the same for a whole command line, whose first argument is the program's name
 abbrev pub Asks : List (List ℕ) → Plan → Type 0
 Asks [] plan = plan ≡ plan_without_words
 Asks (program ∷ []) plan = plan ≡ plan_without_words
 Asks (program ∷ name ∷ rest) plan = AsksBy name rest plan
 
--- the words of a command are right where there is a plan that they ask for
+-- the arguments of a command are right if there is a plan that they ask for
 abbrev pub AreRightFor : List ℕ → List (List ℕ) → Type 0
 AreRightFor name rest = (plan : Plan) × AsksBy name rest plan
 
--- and so are those of a line
+-- and so are those of a whole command line
 abbrev pub AreRight : List (List ℕ) → Type 0
 AreRight words = (plan : Plan) × Asks words plan

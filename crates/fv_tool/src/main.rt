@@ -1,5 +1,5 @@
-//! The program `fvtool`: does what a command says with firmware volumes and hand-off lists, and tells by its exit
-//! status how it went.
+//! The program `fvtool`: does what a command says with firmware volumes and hand-off lists, and
+//! reports the outcome by its exit status.
 #![tactic(auto)]
 
 ghost use Rattle.fv_command.specs.Files.{first_file, second_file};
@@ -31,7 +31,7 @@ use std::rt::{Env, Files};
 use std::{env, fs, io};
 use words::{WordFault, parse_words};
 
-// The arguments in their order.
+// The arguments in order.
 fn collected(alloc: Global, arguments: Args) -> Result<Vec<String>, WordFault>
     ensures ok { IfOk result (λ words. words.items ≡ into_iter_items arguments) }
     ensures err { IfErr result (λ f. f ≡ WordFault.OutOfMemory) }
@@ -44,7 +44,7 @@ fn arguments<R: Env + AllocGlobal>(rt: &R) -> Result<Vec<String>, WordFault> {
     collected(rt.alloc(), env::args(rt)?)
 }
 
-// The source of the first input: standard input, where no file is named.
+// The source of the first input: standard input if no file is named.
 fn first_source<R: Files + Input>(rt: &R, plan: &Plan) -> Source<R::Reader, R::File>
     ensures { IsFirstSource (first_file plan.now.command) result }
 {
@@ -54,7 +54,7 @@ fn first_source<R: Files + Input>(rt: &R, plan: &Plan) -> Source<R::Reader, R::F
     }
 }
 
-// The source of the second input: there is none, where no file is named.
+// The source of the second input: there is none if no file is named.
 fn second_source<R: Files + Input>(rt: &R, plan: &Plan) -> Source<R::Reader, R::File>
     ensures { IsSecondSource (second_file plan.now.command) result }
 {
@@ -64,7 +64,8 @@ fn second_source<R: Files + Input>(rt: &R, plan: &Plan) -> Source<R::Reader, R::
     }
 }
 
-// Runs a plan over its files, or over standard input. Both files are opened before anything is read.
+// Runs a plan over its files, or over standard input. Both files are opened before anything is
+// read.
 fn run_over_inputs<R: Files + Input + AllocGlobal, W: Write>(
     rt: &R,
     plan: &Plan,
@@ -84,7 +85,7 @@ fn run_over_inputs<R: Files + Input + AllocGlobal, W: Write>(
     )
 }
 
-// Reports that words are wrong, or that memory ran out while they were read.
+// Reports that the command line is wrong, or that memory ran out while it was read.
 fn refuse_words<W: Write>(writer: &mut Port<W>, fault: WordFault) -> Status
     ensures { TellsRefusal fault result (change W.contents writer.old writer.new) }
 {
@@ -94,21 +95,22 @@ fn refuse_words<W: Write>(writer: &mut Port<W>, fault: WordFault) -> Status
     }
 }
 
-// Does what the words ask for, or reports why they are refused.
+// Does what the command line asks for, or reports why it is rejected.
 fn run_given<R: Files + Input + AllocGlobal, W: Write>(
     rt: &R,
     words: Result<Vec<String>, WordFault>,
     writer: &mut Port<W>,
 ) -> Status
-    // Words that were not found are reported.
+    // If the arguments could not be read, that is reported.
     ensures none { (fault : WordFault) → words ≡ Err fault
         → TellsRefusal fault result (change W.contents writer.old writer.new) }
 
-    // What words ask for is run; words that ask for nothing are reported, and so is a lack of memory.
+    // What the arguments ask for is run; arguments that ask for nothing are reported, and so is a
+    // lack of memory.
     ensures given { IfOk words (λ ws. DoesAsked R.Reader.remaining R.File.remaining (map string_bytes ws.items) result
         (change W.contents writer.old writer.new)) }
 
-    // Wrong words are reported, and only they.
+    // If the status is WrongWords, the line of wrong arguments was written.
     ensures wrong { result ≡ Status.WrongWords
         → Writes (shown W.contents writer.old) (shown W.contents writer.new) (line_of WordFault.Words) }
 {
@@ -129,8 +131,9 @@ fn run<R: Files + Input + AllocGlobal, W: Write + Drop>(
     words: Result<Vec<String>, WordFault>,
     output: BufWriter<Output<W>>,
 ) -> (Status, Port<Output<W>>)
-    // What was asked for was done, with some status. It is in the output, and the status is the one returned; or a
-    // write failed, and then a front of it is in the output, and the run is refused.
+    // What was asked for was done, with some status. It is in the output, and the status is the one
+    // returned; or a write failed, only the first bytes of it are in the output, and the status is
+    // Refused.
     ensures { (ran : Status) × (wrote : Shown) × MatchResult words
         (λ ws. DoesAsked R.Reader.remaining R.File.remaining (map string_bytes ws.items) ran
         (record { old = seen (writer_contents (output_contents W.contents) output) false; new = wrote }))
@@ -143,8 +146,9 @@ fn run<R: Files + Input + AllocGlobal, W: Write + Drop>(
     close(port, status)
 }
 
-// Holds the numbers below 3 that are closed, so that no file of the run is taken for a standard
-// stream: a read and a write of a directory fail, as those of a closed number do.
+// Opens the directory `/` three times. So the file descriptors below 3 that are closed are taken,
+// and no file of the run is used as a standard stream: reads and writes of a directory fail, as
+// those of a closed descriptor do.
 fn hold_numbers<R: Files>(rt: &R) -> [Option<R::File>; 3] {
     [
         fs::open(rt, "/").ok(),
@@ -160,7 +164,7 @@ fn exit_with(status: Status) -> ExitCode
     ExitCode::from(status.code())
 }
 
-// Does what the arguments ask for, and ends with the exit code of its status.
+// Does what the arguments ask for, and ends with the exit code of the status.
 fn main(rt: HostRuntime) -> ExitCode {
     let _held = hold_numbers(&rt);
     let status = match BufWriter::new(rt.alloc(), Output::new(io::writer(&rt))) {

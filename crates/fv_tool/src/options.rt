@@ -1,4 +1,4 @@
-//! The commands and their options, as they are given to the reader of command lines.
+//! The commands and their options, as they are given to the command-line parser.
 
 ghost use Rattle.clap.specs.Words.{app_of, first_value, found_of, rule_of};
 ghost use Rattle.fv_tool.specs.Options.{compare_app, extract_app, flag_app, hobs_app, normalise_app, one_input_app};
@@ -60,21 +60,21 @@ fn number_option<'a>(alloc: Global, name: &'static str, most: u64) -> Arg<'a>
     text_option(alloc, name).value_parser(ValueParser::unsigned(0, most))
 }
 
-// The words of a command with the flag that inputs and outputs are text.
+// The rules of a command with the flag that inputs and outputs are text.
 fn flag_words<'a>(alloc: Global) -> Result<clap::Command<'a>, AllocError>
     ensures { IfOk result (λ c. app_of c ≡ flag_app) }
 {
     clap::Command::new(alloc, "fvtool").arg(flag(alloc, "hex"))
 }
 
-// The words of a command with one input.
+// The rules of a command with one input.
 fn one_input_words<'a>(alloc: Global) -> Result<clap::Command<'a>, AllocError>
     ensures { IfOk result (λ c. app_of c ≡ one_input_app) }
 {
     flag_words(alloc)?.arg(Arg::new(alloc, "file"))
 }
 
-// The words of `normalise`, with the flag that all volumes of an image are meant.
+// The rules of `normalise`, with the flag that all volumes of an image are meant.
 fn normalise_words<'a>(alloc: Global) -> Result<clap::Command<'a>, AllocError>
     ensures { IfOk result (λ c. app_of c ≡ normalise_app) }
 {
@@ -83,7 +83,7 @@ fn normalise_words<'a>(alloc: Global) -> Result<clap::Command<'a>, AllocError>
         .arg(Arg::new(alloc, "file"))
 }
 
-// The words of `hobs`. That an image and a base come together is looked at after the reading.
+// The rules of `hobs`. That an image and a base are given together is checked after parsing.
 fn hobs_words<'a>(alloc: Global) -> Result<clap::Command<'a>, AllocError>
     ensures { IfOk result (λ c. app_of c ≡ hobs_app) }
 {
@@ -93,7 +93,7 @@ fn hobs_words<'a>(alloc: Global) -> Result<clap::Command<'a>, AllocError>
         .arg(Arg::new(alloc, "file"))
 }
 
-// The words of `extract`. That a file is named is looked at after the reading.
+// The rules of `extract`. That a file is named is checked after parsing.
 fn extract_words<'a>(alloc: Global) -> Result<clap::Command<'a>, AllocError>
     ensures { IfOk result (λ c. app_of c ≡ extract_app) }
 {
@@ -104,8 +104,7 @@ fn extract_words<'a>(alloc: Global) -> Result<clap::Command<'a>, AllocError>
         .arg(Arg::new(alloc, "file"))
 }
 
-// The words of `compare`, which has two inputs. That both are named is looked at after the
-// reading.
+// The rules of `compare`, which has two inputs. That both are named is checked after parsing.
 fn compare_words<'a>(alloc: Global) -> Result<clap::Command<'a>, AllocError>
     ensures { IfOk result (λ c. app_of c ≡ compare_app) }
 {
@@ -114,7 +113,7 @@ fn compare_words<'a>(alloc: Global) -> Result<clap::Command<'a>, AllocError>
         .arg(Arg::new(alloc, "second"))
 }
 
-// The word of an argument, if it was given.
+// The text of an argument, if it was given.
 fn file_of(
     alloc: Global,
     matches: &ArgMatches<'_>,
@@ -134,7 +133,7 @@ fn one_input(alloc: Global, words: &[String]) -> Result<(bool, Option<String>), 
     ensures file { IfOk result (λ r. IsFileWord (text_in one_input_app (codes "file")
         (drop 1 (map string_bytes words.now))) r.1) }
 
-    // The words are taken where the reader finds no fault in them, and refused as wrong where it
+    // The arguments are accepted if the parser finds no fault in them, and rejected as wrong if it
     // finds one.
     ensures taken { IfOk result (λ _. faults_in one_input_app (drop 1 (map string_bytes words.now)) ≡ []) }
     ensures wrong { IfErr result (λ f. f ≡ WordFault.Words
@@ -144,7 +143,7 @@ fn one_input(alloc: Global, words: &[String]) -> Result<(bool, Option<String>), 
     Ok((matches.get_flag("hex"), file_of(alloc, &matches, "file")?))
 }
 
-// The task of `normalise`: with the flag all volumes of an image are meant.
+// The task of `normalise`: with the flag, all volumes of an image are meant.
 fn normalise_task(all: bool) -> Task
     ensures all { all ≡ true → result ≡ Task.NormaliseAll }
     ensures one { all ≡ false → result ≡ Task.Normalise }
@@ -160,7 +159,7 @@ fn normalise_task(all: bool) -> Task
 fn normalise(alloc: Global, words: &[String]) -> Result<Plan, WordFault>
     ensures asked { IfOk result (AsksBy (codes "normalise") (drop 1 (map string_bytes words.now))) }
 
-    // No words that are right are refused as wrong.
+    // No arguments that are right are rejected as wrong.
     ensures wrong { IfErr result (λ f. f ≡ WordFault.Words
         → AreRightFor (codes "normalise") (drop 1 (map string_bytes words.now)) → ⊥) }
 {
@@ -190,11 +189,11 @@ fn image_of(
     }
 }
 
-// A list, and the image that its volumes are looked for in.
+// A list, and the image in which its volumes are looked for.
 fn hobs(alloc: Global, words: &[String]) -> Result<Plan, WordFault>
     ensures asked { IfOk result (AsksBy (codes "hobs") (drop 1 (map string_bytes words.now))) }
 
-    // No words that are right are refused as wrong.
+    // No arguments that are right are rejected as wrong.
     ensures wrong { IfErr result (λ f. f ≡ WordFault.Words
         → AreRightFor (codes "hobs") (drop 1 (map string_bytes words.now)) → ⊥) }
 {
@@ -209,7 +208,7 @@ fn hobs(alloc: Global, words: &[String]) -> Result<Plan, WordFault>
     })
 }
 
-// The type of a section that a text names: one or two hexadecimal digits, of either case.
+// The type of a section that a text names: one or two hexadecimal digits, in upper or lower case.
 fn section_type(text: &str) -> Option<u8>
     ensures { SomeIff result (IsNumeral 16 text.now × (length text.now ≤ 2)) (digits_value 16 text.now) }
 {
@@ -237,7 +236,7 @@ fn section_of(text: Option<&str>) -> Result<Option<u8>, WordFault>
     }
 }
 
-// The name of the file that a text gives, as a GUID: it has to be given.
+// The name of the file that a text gives, as a GUID: it must be given.
 fn name_of(text: Option<&str>) -> Result<Guid, WordFault>
     ensures named { IfOk result (λ name. option_and_then guid_read (option_map (λ s. s.now) text.entry) ≡ Some name) }
     ensures wrong { IfErr result (λ _. option_and_then guid_read (option_map (λ s. s.now) text.entry) ≡ None) }
@@ -251,12 +250,12 @@ fn name_of(text: Option<&str>) -> Result<Guid, WordFault>
     }
 }
 
-// A volume, and the part of it that is written: the first section of a type where no other is
-// asked for.
+// A volume, and the part of it that is written: the first section of a type if no other is asked
+// for.
 fn extract(alloc: Global, words: &[String]) -> Result<Plan, WordFault>
     ensures asked { IfOk result (AsksBy (codes "extract") (drop 1 (map string_bytes words.now))) }
 
-    // No words that are right are refused as wrong.
+    // No arguments that are right are rejected as wrong.
     ensures wrong { IfErr result (λ f. f ≡ WordFault.Words
         → AreRightFor (codes "extract") (drop 1 (map string_bytes words.now)) → ⊥) }
 {
@@ -275,11 +274,11 @@ fn extract(alloc: Global, words: &[String]) -> Result<Plan, WordFault>
     })
 }
 
-// The two files that are compared: both have to be named.
+// The two files that are compared: both must be named.
 fn compare(alloc: Global, words: &[String]) -> Result<Plan, WordFault>
     ensures asked { IfOk result (AsksBy (codes "compare") (drop 1 (map string_bytes words.now))) }
 
-    // No words that are right are refused as wrong.
+    // No arguments that are right are rejected as wrong.
     ensures wrong { IfErr result (λ f. f ≡ WordFault.Words
         → AreRightFor (codes "compare") (drop 1 (map string_bytes words.now)) → ⊥) }
 {
@@ -308,15 +307,15 @@ fn single(task: Task, given: (bool, Option<String>)) -> Plan
     }
 }
 
-/// Reads the words of the command of this name, of which the first is the name itself.
+/// Reads the arguments of the command with this name. The first of them is the name itself.
 ///
 /// # Errors
 ///
-/// Words, where there is no such command or its words are wrong. OutOfMemory.
+/// Words, if there is no such command or its arguments are wrong. OutOfMemory.
 pub fn parse_command(alloc: Global, name: &str, words: &[String]) -> Result<Plan, WordFault>
     ensures asked { IfOk result (AsksBy name.now (drop 1 (map string_bytes words.now))) }
 
-    // No words that are right are refused as wrong.
+    // No arguments that are right are rejected as wrong.
     ensures wrong { IfErr result (λ f. f ≡ WordFault.Words
         → AreRightFor name.now (drop 1 (map string_bytes words.now)) → ⊥) }
 {

@@ -1,4 +1,4 @@
-//! Lines of words.
+//! Command lines.
 
 use crate::run_given;
 use crate::words::{WordFault, parse_words};
@@ -8,7 +8,7 @@ use std::alloc::{AllocError, Global};
 use std::rt::Files;
 use std::test::Fail;
 
-// The words of a line, which a space parts. An empty line has none.
+// The words of a line, separated by spaces. An empty line has none.
 fn words_of(alloc: Global, line: &str) -> Result<Vec<String>, AllocError> {
     let mut words = Vec::new(alloc);
     if line.is_empty() {
@@ -21,7 +21,7 @@ fn words_of(alloc: Global, line: &str) -> Result<Vec<String>, AllocError> {
     Ok(words)
 }
 
-// Whether the words of the line are a plan that is shown so.
+// Whether the words of the line are parsed to a plan that is shown like this.
 fn is_shown_as(alloc: Global, line: &str, wanted: &str) -> Result<bool, Fail> {
     let words = words_of(alloc, line)?;
     let plan = parse_words(alloc, &words)?;
@@ -93,7 +93,7 @@ fn reads_words(rt: HostRuntime) -> Result<(), Fail> {
 /// A GUID as `--name` takes it.
 const NAME: &str = "0a0a0a0a-0a0a-0a0a-0a0a-0a0a0a0a0a0a";
 
-// How a plan is shown that extracts from the file of that name.
+// How a plan is shown that extracts from the file with that name.
 fn extraction(
     alloc: Global,
     hex: bool,
@@ -190,7 +190,7 @@ fn refuses_parts(rt: HostRuntime) -> Result<(), Fail> {
     Ok(())
 }
 
-// Whether the words of the line are refused, and not for want of memory.
+// Whether the words of the line are rejected, and not because memory ran out.
 fn are_wrong(alloc: Global, line: &str) -> Result<bool, AllocError> {
     let words = words_of(alloc, line)?;
     let read = parse_words(alloc, &words);
@@ -254,7 +254,7 @@ fn refuses_words(rt: HostRuntime) -> Result<(), Fail> {
     Ok(())
 }
 
-// Whether what refuses the words is told by this line and this status.
+// Whether the rejection of the arguments is reported by this line and this status.
 fn is_told<R: Files + Input + AllocGlobal>(
     rt: &R,
     words: Result<Vec<String>, WordFault>,

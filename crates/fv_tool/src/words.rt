@@ -1,4 +1,4 @@
-//! The words of a command line.
+//! The command line.
 
 ghost use Rattle.std.specs.String.{string_bytes};
 ghost use Rattle.std.specs.Prelude.{◌≡◌, ◌≤◌, length, map, IfErr, IfOk, Ok};
@@ -10,12 +10,12 @@ use std::alloc::{AllocError, Global};
 use std::io;
 use std::io::ErrorKind;
 
-/// Why a line of words is refused.
+/// Why a command line is rejected.
 #[derive(Clone, Copy, Debug, PartialEq, Eq)]
 pub enum WordFault {
-    /// The words name no command that there is, or are wrong for the command.
+    /// The arguments name no command that exists, or are wrong for the command.
     Words,
-    /// A growth of memory was refused.
+    /// Memory ran out.
     OutOfMemory,
 }
 
@@ -47,20 +47,20 @@ impl From<io::Error> for WordFault {
     }
 }
 
-/// Reads a line of words, of which the first is the program's name. With no word after it the
+/// Reads a command line, whose first argument is the program's name. With no argument after it, the
 /// plan is to normalise hexadecimal text from standard input.
 ///
 /// # Errors
 ///
-/// Words, where they name no command that there is, or are wrong for the command. OutOfMemory.
+/// Words, if the arguments name no command that exists, or are wrong for the command. OutOfMemory.
 pub fn parse_words(alloc: Global, words: &[String]) -> Result<Plan, WordFault>
     ensures none { length words.now ≤ 1 → result ≡ Ok plan_without_words }
 
-    // A plan comes only of words that are right: it is what they ask for.
+    // A plan is returned only for arguments that are right: it is what they ask for.
     ensures right { IfOk result (Asks (map string_bytes words.now)) }
 
-    // And only words that are not are refused as wrong: right words are refused for OutOfMemory
-    // alone.
+    // Only arguments that are not right are rejected as wrong: for right ones the only error is
+    // OutOfMemory.
     ensures wrong { IfErr result (λ f. f ≡ WordFault.Words → AreRight (map string_bytes words.now) → ⊥) }
 {
     if words.len() <= 1 {

@@ -1,5 +1,5 @@
--- A meaning as a tree of numbers, by which two meanings are told apart. These are proofs, and stand in specs/ since
--- ghost members cite them.
+-- A meaning as a tree of numbers, which is different for different meanings. These are proofs. They are in specs/
+-- because ghost members cite them.
 -- Serves private clauses alone: there is nothing to believe here.
 use Rattle.std.specs.Prelude.{◌≡◌, ℕ, List, Bool, true, false, Option, refl}
 use Rattle.std.specs.Coded.{Coded, code_by, coded×, coded_ℕ, coded_bool, coded_list, coded_option}

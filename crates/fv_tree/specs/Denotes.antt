@@ -1,4 +1,4 @@
--- Which bytes are a volume of a meaning: one recursion on how deep groups and opened volumes nest.
+-- Which bytes are a volume with a given meaning. The definition recurs on how deep groups and opened volumes nest.
 use Rattle.std.specs.Prelude.{◌≡◌, ◌≢◌, ℕ, zero, suc, ◌≤◌, ◌==◌, ◌&&◌, ◌||◌, Bool, true, false, nat_le, List, [], ◌∷◌}
 use Rattle.std.specs.Prelude.{length, drop}
 use Rattle.fv_base.specs.Limits.{volume_limit}
@@ -14,15 +14,15 @@ use Rattle.fv_tree.specs.Files.{FileForm, Alive}
 use Rattle.fv_tree.specs.Meaning.{Meaning, FileMeaning, File, ContentMeaning, Plain, Sectioned, SectionMeaning, Section}
 use Rattle.fv_tree.specs.Meaning.{BodyMeaning, Leaf, Group, Nested, sections_list, head_of, files_of}
 
--- the type of a section that groups others, and that of one which may hold a volume (section 3.2.5,
--- EFI_SECTION_DISPOSABLE and EFI_SECTION_FIRMWARE_VOLUME_IMAGE)
+-- the type of a section that groups others, and of one that may hold a volume (section 3.2.5, EFI_SECTION_DISPOSABLE
+-- and EFI_SECTION_FIRMWARE_VOLUME_IMAGE)
 abbrev pub group_kind : ℕ
 group_kind = 0x03
 
 abbrev pub volume_kind : ℕ
 volume_kind = 0x17
 
--- a body is opened as a volume: it has the signature, a file system, and a volume's length that is its own
+-- a body is opened as a volume: it has the signature, a file system, and an FvLength equal to its own length
 pub record Opens (b : List ℕ) : Type 0 where
   pub least : 56 ≤ length b
   pub signature : field 40 4 b ≡ signature_bytes
@@ -34,16 +34,17 @@ pub record Opens (b : List ℕ) : Type 0 where
 abbrev pub holds_sections : ℕ → Bool
 holds_sections kind = (kind == 0x02) || (nat_le 0x04 kind && nat_le kind 0x0f)
 
--- the two lists agree, item by item
+-- the two lists have the same length, and R holds of each two items at the same position
 abbrev pub Pairs : {A B : Type 0} → (A → B → Type 0) → List A → List B → Type 0
 Pairs R [] [] = Unit {0}
 Pairs R [] (y ∷ ys) = ⊥
 Pairs R (x ∷ xs) [] = ⊥
 Pairs R (x ∷ xs) (y ∷ ys) = R x y × Pairs R xs ys
 
--- ---- what is said of what lies inside
+-- ---- what a thing is, given what the things inside it are: these take predicates, and MeansSection closes the
+-- recursion
 
--- of a frame and a section, of the bytes of a stream, and of those of a volume
+-- a predicate on a frame and a section, one on the bytes of a stream, and one on the bytes of a volume
 abbrev pub Sections : Type 1
 Sections = FrameForm → SectionMeaning → Type 0
 
@@ -53,25 +54,25 @@ Streams = List SectionMeaning → ℕ → List ℕ → Type 0
 abbrev pub Volumes : Type 1
 Volumes = List ℕ → Meaning → Type 0
 
--- the bytes are a stream of these sections, with so many bytes behind the last
+-- the bytes are a stream of these sections, with `tail` bytes after the last
 abbrev pub StreamOver : Sections → Streams
 StreamOver is_section sections tail b =
     (frames : List FrameForm) × Splits frames tail b × Pairs is_section frames sections
 
--- the data of a file of this type are this content
+-- the data of a file of this type have this content
 abbrev pub MeansContent : Streams → ℕ → List ℕ → ContentMeaning → Type 0
 MeansContent is_stream kind payload (Plain b) = (holds_sections kind ≡ false) × (b ≡ payload)
 MeansContent is_stream kind payload (Sectioned sections tail) =
     (holds_sections kind ≡ true) × is_stream (sections_list sections) tail payload
 
--- what lies in the volume is this file
+-- the file of the volume has this meaning
 abbrev pub MeansFile : Streams → FileForm → FileMeaning → Type 0
 MeansFile is_stream f (File name kind attributes content) =
     (name ≡ f.head.name) × (kind ≡ f.head.kind) × (attributes ≡ without_large (attribute_bits f.head.attributes))
     × MeansContent is_stream kind f.payload content
 
--- the bytes are a volume of this meaning: they begin with its header, cells tile the rest from the first file's place
--- on, and the files of these cells are its files
+-- the bytes are a volume with this meaning: they begin with its header, cells tile the rest from the first file's
+-- offset on, and the files of these cells are its files
 pub record VolumeOver (is_stream : Streams) (b : List ℕ) (m : Meaning) : Type 0 where
   pub extent : Extent
   pub front : BeginsVolume (head_of m) extent b
@@ -82,8 +83,8 @@ pub record VolumeOver (is_stream : Streams) (b : List ℕ) (m : Meaning) : Type 
   pub alive : Alive extent.length cells files
   pub meanings : Pairs (MeansFile is_stream) files (files_of m)
 
--- the frame's bytes are this body: those of a group are a stream, those that are opened a volume,
--- and all others are a leaf
+-- the body of the frame has this meaning: the body of a group is a stream, a body that is opened is a volume, and any
+-- other is a leaf
 abbrev pub MeansBody : Streams → Volumes → FrameForm → BodyMeaning → Type 0
 MeansBody is_stream is_volume f (Leaf b) =
     (f.kind ≢ group_kind) × (f.kind ≡ volume_kind → Opens f.body → ⊥) × (b ≡ f.body)
@@ -97,48 +98,47 @@ SectionOver is_stream is_volume f (Section kind extended body) =
 
 -- ---- the recursion
 
--- the frame is this section, which is a leaf where n is 0; groups and opened volumes nest at most n deep
+-- the frame is this section, a leaf if n is 0; groups and opened volumes nest at most n deep
 abbrev pub MeansSection : ℕ → Sections
 MeansSection zero = SectionOver (λ _ _ _. ⊥) (λ _ _. ⊥)
 MeansSection (suc n) = SectionOver (StreamOver (MeansSection n)) (VolumeOver (StreamOver (MeansSection n)))
 
--- the bytes are a stream of these sections, with so many bytes behind the last, in which groups and
--- volumes nest at most n deep
+-- the bytes are a stream of these sections, with `tail` bytes after the last; groups and volumes nest at most n deep
 abbrev pub Stream : ℕ → Streams
 Stream n = StreamOver (MeansSection n)
 
--- the bytes are a volume of this meaning, in which groups and volumes nest at most n deep
+-- the bytes are a volume with this meaning, in which groups and volumes nest at most n deep
 abbrev pub Denotes : ℕ → Volumes
 Denotes n = VolumeOver (Stream n)
 
--- how deep groups and opened volumes nest at most
+-- the most levels that groups and opened volumes may nest
 abbrev pub depth_limit : ℕ
 depth_limit = 8
 
--- the bytes are accepted as a volume of this meaning
+-- the bytes are accepted as a volume with this meaning
 abbrev pub Accepted : Volumes
 Accepted b m = IsBytes b × Denotes depth_limit b m
 
--- ---- what is known of all that was read
+-- ---- what is known of everything that was read
 
--- some bytes are a volume of this meaning
+-- some bytes are a volume with this meaning
 abbrev pub IsMeaning : Meaning → Type 0
 IsMeaning m = (n : ℕ) × (n ≤ depth_limit) × (b : List ℕ) × IsBytes b × Denotes n b m
 
--- some bytes are a file that stands so, and then filler
+-- some bytes are this valid file, and then filler
 abbrev pub IsStoredFile : FileForm → Type 0
 IsStoredFile f =
     (system : FileSystem) × (polarity : Polarity) × (b : List ℕ) × IsBytes b × (length b ≤ volume_limit)
     × IsCell system polarity (Valid f.offset f.head f.payload) b
 
--- a file that stands in some bytes is this one
+-- a valid file in some bytes has this meaning
 abbrev pub IsReadFile : FileMeaning → Type 0
 IsReadFile m = (n : ℕ) × (n ≤ depth_limit) × (f : FileForm) × IsStoredFile f × MeansFile (Stream n) f m
 
--- in some bytes this frame stands
+-- this frame is in some bytes, at its offset
 abbrev pub IsStoredFrame : FrameForm → Type 0
 IsStoredFrame f = (b : List ℕ) × IsBytes b × (length b ≤ volume_limit) × FrameStandsAt f f.offset b
 
--- a frame that stands in some bytes is this section
+-- a frame in some bytes has this meaning
 abbrev pub IsReadSection : SectionMeaning → Type 0
 IsReadSection m = (n : ℕ) × (n ≤ depth_limit) × (f : FrameForm) × IsStoredFrame f × MeansSection n f m

@@ -1,4 +1,4 @@
--- Where two volumes first differ in what they mean, in the order in which they are compared.
+-- Where the meanings of two volumes first differ, in the order in which they are compared.
 use Rattle.std.specs.Prelude.{ℕ, ◌+◌, ◌==◌, ◌&&◌, Bool, true, false}
 use Rattle.std.specs.Prelude.{List, [], ◌∷◌, Option, Some, None}
 use Rattle.std.specs.Bool.{beq}
@@ -15,7 +15,7 @@ use Rattle.fv_tree.specs.declared.difference.Step.TheVariants as steps
 use Rattle.fv_tree.specs.declared.difference.Word.{Word}
 use Rattle.fv_tree.specs.declared.difference.Word.TheVariants as words
 
--- ---- whether two values are one
+-- ---- whether two values are equal
 
 abbrev pub blocks_eq : List (ℕ × ℕ) → List (ℕ × ℕ) → Bool
 blocks_eq [] [] = true
@@ -36,32 +36,32 @@ ext_eq (Some x) None = false
 ext_eq (Some x) (Some y) =
     bytes_eq (bytes_of x.name) (bytes_of y.name) && entries_eq x.entries y.entries && bytes_eq x.tail y.tail
 
--- ---- a place and a word
+-- ---- a path and a kind of difference
 
--- the steps down to where two meanings differ, and in what; or they are one
+-- the steps down to where two meanings differ, and the kind of difference; or None if they are equal
 abbrev pub Differs : Type 0
 Differs = Option (List Step × Word)
 
--- in this, here
+-- a difference of this kind, here
 abbrev pub differ_in : Word → Differs
 differ_in word = Some ([], word)
 
--- in this, unless the two are one there
+-- a difference of this kind here, unless the test is true
 abbrev pub unless_one : Bool → Word → Differs
 unless_one true word = None
 unless_one false word = differ_in word
 
--- the first of two
+-- the first of two differences
 abbrev pub or_else : Differs → Differs → Differs
 or_else None o = o
 or_else (Some d) o = Some d
 
--- one step further out
+-- the same difference, seen from one level further out
 abbrev pub under : Step → Differs → Differs
 under s None = None
 under s (Some d) = Some (s ∷ d.0, d.1)
 
--- ---- the walk
+-- ---- the comparison
 
 abbrev pub head_differs : HeadFields → HeadFields → Differs
 head_differs h g =
@@ -77,7 +77,7 @@ abbrev mutual
   pub difference : Meaning → Meaning → Differs
   difference (Volume h fs) (Volume g gs) = or_else (head_differs h g) (files_differ 0 fs gs)
 
-  -- the files, of which the first have this number
+  -- compares lists of files; i is the number of the first file
   pub files_differ : ℕ → FileMeanings → FileMeanings → Differs
   files_differ i NoFiles NoFiles = None
   files_differ i NoFiles (MoreFiles g gs) = differ_in words.FileCount
@@ -96,7 +96,7 @@ abbrev mutual
   content_differs (Sectioned ss t) (Plain b) = differ_in words.Data
   content_differs (Sectioned ss t) (Sectioned rs u) = or_else (sections_differ 0 ss rs) (unless_one (t == u) words.Tail)
 
-  -- the sections, of which the first have this number
+  -- compares lists of sections; i is the number of the first section
   pub sections_differ : ℕ → SectionMeanings → SectionMeanings → Differs
   sections_differ i NoSections NoSections = None
   sections_differ i NoSections (MoreSections r rs) = differ_in words.SectionCount

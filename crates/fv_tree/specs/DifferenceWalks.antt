@@ -1,4 +1,4 @@
--- What the walks of a comparison answer.
+-- What the walks of a comparison return.
 -- Serves private clauses alone: there is nothing to believe here.
 use Rattle.std.specs.Prelude.{◌≡◌, ◌≢◌, reverse, Option, Some, None, Result, Ok, Err}
 use Rattle.fv_base.specs.Faults.{want_of_memory}
@@ -6,18 +6,18 @@ use Rattle.fv_base.specs.declared.fault.Fault.{Fault}
 use Rattle.fv_tree.specs.declared.difference.Word.{Word}
 use Rattle.fv_tree.specs.Difference.{Differs, differ_in}
 
--- in this word, if there is one
+-- a difference of this kind, if there is one
 abbrev pub in_word : Option Word → Differs
 in_word None = None
 in_word (Some word) = differ_in word
 
--- the steps in the other order
+-- the steps in reverse order
 abbrev pub outermost_first : Differs → Differs
 outermost_first None = None
 outermost_first (Some d) = Some (reverse d.0, d.1)
 
--- what a walk answers: where the two first differ, with the steps from the inmost out; memory is
--- wanted only where they do
+-- what a walk returns: the first difference, with the steps from the innermost out. Memory can run out only if there is
+-- a difference
 abbrev pub AnswersDifference : Result Differs Fault → Differs → Type 0
 AnswersDifference (Ok o) d = outermost_first o ≡ d
 AnswersDifference (Err f) d = (f ≡ want_of_memory) × (d ≢ None)

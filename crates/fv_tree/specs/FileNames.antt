@@ -12,15 +12,15 @@ use Rattle.fv_base.specs.declared.guid.Guid.{Guid}
 use Rattle.fv_tree.specs.Meaning.{FileMeaning, file_name_of}
 use Rattle.fv_tree.specs.declared.name_index.Numbers.{Numbers}
 
--- a file of this name
+-- whether a file has this name
 abbrev pub is_named : Guid → FileMeaning → Bool
 is_named name f = bytes_eq (bytes_of name) (bytes_of (file_name_of f))
 
--- the first file of this name
+-- the first file with this name
 abbrev pub file_named : Guid → List FileMeaning → Option FileMeaning
 file_named name fs = find (is_named name) fs
 
--- sixteen bytes, and a name that has them
+-- a list of sixteen bytes; and a name made of sixteen bytes
 abbrev pub IsSixteenBytes : List ℕ → Type 0
 IsSixteenBytes bytes = (length bytes ≡ 16) × IsBytes bytes
 
@@ -34,31 +34,31 @@ Halves = ℕ × ℕ
 abbrev pub Entry : Type 0
 Entry = Halves × ℕ
 
--- what the first eight of sixteen bytes spell, and what the last eight do; and those of a name
+-- the numbers that the first eight and the last eight of sixteen bytes spell; and the same of a name
 abbrev pub halves_in : List ℕ → Halves
 halves_in bytes = (from_le_bytes w64 (field 0 8 bytes), from_le_bytes w64 (field 8 8 bytes))
 
 abbrev pub halves_of : Guid → Halves
 halves_of name = halves_in (bytes_of name)
 
--- some names, each with its number, where the first has this one
+-- these names, each with its number; the first has the number k
 abbrev pub numbered : ℕ → List Guid → List Entry
 numbered k [] = []
 numbered k (name ∷ names) = (halves_of name, k) ∷ numbered (k + 1) names
 
--- the order of pairs, and then of numbers
+-- the order of such pairs, and of pairs with a number
 abbrev pub halves_cmp : Halves → Halves → Ordering
 halves_cmp a b = ordering_then (nat_cmp a.0 b.0) (nat_cmp a.1 b.1)
 
 abbrev pub entry_cmp : Entry → Entry → Ordering
 entry_cmp a b = ordering_then (halves_cmp a.0 b.0) (nat_cmp a.1 b.1)
 
--- the entries are these names, each with its number, in this order
+-- the entries are these names, each with its number, sorted
 pub record IsIndex (names : List Guid) (entries : List Entry) : Type 0 where
   pub ordered : IsSorted entry_cmp entries
   pub all : IsPermutation (numbered 0 names) entries
   pub whole : AllByRecursion IsName names
 
--- the numbers are those of these files
+-- `numbers` is the index of the names of these files
 abbrev pub HasNumbers : Numbers → List FileMeaning → Type 0
 HasNumbers numbers fs = IsIndex (map file_name_of fs) numbers.sorted.items

@@ -1,4 +1,4 @@
--- Which of the two file systems it is.
+-- Whether a file system is FFS3.
 use Rattle.std.specs.Prelude.{Bool, true, false}
 use Rattle.fv_base.specs.declared.flash.FileSystem.{FileSystem}
 use Rattle.fv_base.specs.declared.flash.FileSystem.TheVariants.{Ffs2, Ffs3}

@@ -1,20 +1,20 @@
--- What a walk over some bytes finds, place after place.
+-- What a walk over some bytes finds, offset after offset.
 -- Serves private clauses alone: there is nothing to believe here.
 use Rattle.std.specs.Prelude.{◌≡◌, ℕ, ◌+◌, ◌%◌, ◌≤◌, ◌<◌, List, [], ◌∷◌}
 use Rattle.fv_tree.specs.FoundVolumes.{VolumeAt}
 
--- no volume begins at the multiples of 8 from one place to before another; nor from a place on
+-- no volume begins at a multiple of 8 from `from` on and before `to`; and none from an offset on
 abbrev pub NoneBetween : List ℕ → ℕ → ℕ → Type 0
 NoneBetween b from to = (k n : ℕ) → from ≤ k → k < to → k % 8 ≡ 0 → VolumeAt b k n → ⊥
 
 abbrev pub NoneFrom : List ℕ → ℕ → Type 0
 NoneFrom b from = (k n : ℕ) → from ≤ k → k % 8 ≡ 0 → VolumeAt b k n → ⊥
 
--- from this place on, `at` is the first multiple of 8 at which a volume begins, and it has n bytes
+-- `at` is the first multiple of 8 from this offset on at which a volume begins, and the volume has n bytes
 abbrev pub IsNext : List ℕ → ℕ → ℕ → ℕ → Type 0
 IsNext b from at n = (from ≤ at) × (at % 8 ≡ 0) × NoneBetween b from at × VolumeAt b at n
 
--- from this place on, the volumes of b begin at these places
+-- from this offset on, the volumes of b begin at these offsets
 abbrev pub FoundFrom : ℕ → List ℕ → List ℕ → Type 0
 FoundFrom from b [] = NoneFrom b from
 FoundFrom from b (o ∷ os) = (n : ℕ) × IsNext b from o n × FoundFrom (o + n) b os

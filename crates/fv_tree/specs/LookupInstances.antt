@@ -1,11 +1,11 @@
--- Looking for files and sections: the next one, and the one of a type that is so many of its type.
+-- Looking for files and sections: the next file, and the n-th file or section of a type.
 use Rattle.std.specs.Prelude.{ℕ, ◌+◌, ◌==◌, ◌++◌, zero, suc, List, [], ◌∷◌, Option, Some, None, option_map, slice_get}
 use Rattle.std.specs.List.{filter}
 use Rattle.fv_section.specs.Frames.{FrameForm}
 use Rattle.fv_tree.specs.Meaning.{FileMeaning, file_kind_of, SectionMeaning, Section, SectionMeanings, NoSections}
 use Rattle.fv_tree.specs.Meaning.{MoreSections, BodyMeaning, Leaf, Group, Nested, section_kind_of}
 
--- the number of the file after the one of this number, or of the first
+-- the number of the file after the one with this number, or of the first file
 abbrev pub number_after : Option ℕ → ℕ
 number_after None = 0
 number_after (Some last) = last + 1
@@ -23,7 +23,7 @@ instance_of (suc k) xs = slice_get xs k
 abbrev pub file_of_type : ℕ → ℕ → List FileMeaning → Option FileMeaning
 file_of_type kind instance fs = instance_of instance (filter (λ f. file_kind_of f == kind) fs)
 
--- sections in preorder: each followed, where it is a group, by those in it; those of a nested volume are not among them
+-- sections in preorder: each group is followed by the sections in it; the sections of a nested volume are not included
 abbrev mutual
   pub preorder : SectionMeanings → List SectionMeaning
   preorder NoSections = []
@@ -45,7 +45,7 @@ of_type kind ss = filter (λ s. section_kind_of s == kind) ss
 abbrev pub section_of_type : ℕ → ℕ → SectionMeanings → Option SectionMeaning
 section_of_type kind instance ss = instance_of instance (of_type kind (preorder ss))
 
--- the type of a file whose data are sections that stay bytes (section 3.2.3, EFI_FV_FILETYPE_SECURITY_CORE)
+-- the type of a file whose data are sections that are kept as bytes (section 3.2.3, EFI_FV_FILETYPE_SECURITY_CORE)
 abbrev pub security_core : ℕ
 security_core = 0x03
 

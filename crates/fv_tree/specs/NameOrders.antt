@@ -1,4 +1,4 @@
--- What the look-ups of names go by: their order, which names some files have, and the number of a file by its name.
+-- What look-ups by name use: the order of names, the names of some files, and the number of a file by its name.
 -- Serves private clauses alone: there is nothing to believe here.
 use Rattle.std.specs.Prelude.{◌≡◌, ℕ, ◌+◌, ◌&&◌, Bool, if◌then◌else◌, List, [], ◌∷◌, map, Option, Some, None}
 use Rattle.std.specs.Bool.{beq}
@@ -14,26 +14,26 @@ use Rattle.fv_tree.specs.Files.{FileForm, is_marked}
 use Rattle.fv_tree.specs.Meaning.{FileMeaning}
 use Rattle.fv_tree.specs.FileNames.{is_named}
 
--- the order of names, and of names with whether the file is marked
+-- the order of names, and of names each with whether the file is marked
 abbrev pub name_cmp : Guid → Guid → Ordering
 name_cmp a b = slice_cmp nat_cmp (bytes_of a) (bytes_of b)
 
 abbrev pub key_cmp : Guid × Bool → Guid × Bool → Ordering
 key_cmp a b = ordering_then (name_cmp a.0 b.0) (bool_cmp a.1 b.1)
 
--- a file of this name, marked or not
+-- whether a file has this name and this mark
 abbrev pub is_keyed : Guid × Bool → FileForm → Bool
 is_keyed key f = bytes_eq (bytes_of key.0) (bytes_of f.head.name) && beq key.1 (is_marked f.head.state)
 
--- the set has the names of the files, each with whether the file is marked
+-- the set has the names of these files, each with whether the file is marked
 abbrev pub HasNames : BTreeSet (Guid × Bool) → List FileForm → Type 0
 HasNames names fs = (key : Guid × Bool) → contains key_cmp names key ≡ list_any (is_keyed key) fs
 
--- the number of the first file of this name, where the first of the files has the number k
+-- the number of the first file with this name; the first of the files has the number k
 abbrev pub number_from : ℕ → Guid → List FileMeaning → Option ℕ
 number_from k name [] = None
 number_from k name (f ∷ fs) = if is_named name f then Some k else number_from (k + 1) name fs
 
--- the names of files, in their order
+-- the names of files, in order
 abbrev pub names_in : List FileForm → List Guid
 names_in fs = map (λ f. f.head.name) fs

@@ -1,8 +1,8 @@
--- What a search among sections answers.
+-- What a search among sections returns.
 -- Serves private clauses alone: there is nothing to believe here.
 use Rattle.std.specs.Prelude.{ℕ, zero, suc, List, [], ◌∷◌, Result, Ok, Err}
 
--- item n of a list, counted from 0; or by how many it lies behind the last
+-- item n of a list, counted from 0; or, if the list is shorter, n less its length
 abbrev pub sought : {A : Type 0} → ℕ → List A → Result A ℕ
 sought n [] = Err n
 sought zero (x ∷ xs) = Ok x

@@ -1,4 +1,4 @@
--- How many values stand in a meaning, for the measures of recursions over it.
+-- How many values a meaning holds, for the measures of recursions over it.
 -- Serves private clauses alone: there is nothing to believe here.
 use Rattle.std.specs.Prelude.{ℕ, ◌+◌}
 use Rattle.fv_tree.specs.Meaning.{Meaning, Volume, FileMeanings, NoFiles, MoreFiles, FileMeaning, File, ContentMeaning}

@@ -1,4 +1,4 @@
--- A file as it lies in its volume (`Standing`), with its data as a list of bytes.
+-- A file as it is stored in its volume (`Standing`), with its data as a list of bytes.
 -- Serves private clauses alone: there is nothing to believe here.
 use Rattle.fv_tree.specs.Files.{FileForm}
 use Rattle.fv_tree.specs.declared.volume_files.Standing.{Standing}

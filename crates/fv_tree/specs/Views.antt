@@ -1,4 +1,4 @@
--- One level of a view, whose parts are seen as what they mean.
+-- One level of a view; its parts are seen as their meanings.
 use Rattle.fv_tree.specs.Meaning.{ContentMeaning, Plain, Sectioned, BodyMeaning, Leaf, Group, Nested}
 use Rattle.fv_tree.specs.Meaning.{sections_from}
 use Rattle.fv_tree.specs.declared.view.Body.{Body}

@@ -1,4 +1,4 @@
-//! Where two volumes first differ in what they mean.
+//! Where the meanings of two volumes first differ.
 
 ghost use Rattle.std.specs.Prelude.{◌≡◌, ◌≢◌, ◌==◌, Some, option_copied, IfOk, IfErr, IfSome, IfNone};
 ghost use Rattle.fv_base.specs.Faults.{want_of_memory};
@@ -20,14 +20,14 @@ use std::marker::Model;
 /// A step from a volume to one of its files, or from a stream to one of its sections.
 #[derive(Clone, Copy, Debug, PartialEq, Eq)]
 pub enum Step {
-    /// The file of this number in its volume, counted from 0 in the order in which the files lie.
+    /// File number n of its volume, counted from 0 in the order of the files.
     File(u64),
-    /// The section of this number in its stream, counted from 0.
+    /// Section number n of its stream, counted from 0.
     Section(u64),
 }
 
-/// In what two volumes differ, at the place that the steps lead to. (PI specification, volume 3,
-/// section 3.2.)
+/// The kind of a difference between two volumes, at the place that the steps lead to. (PI
+/// specification, volume 3, section 3.2.)
 #[derive(Clone, Copy, Debug, PartialEq, Eq)]
 pub enum Word {
     /// The zero vectors of the volumes' headers (section 3.2.1).
@@ -45,7 +45,7 @@ pub enum Word {
     /// The extended headers of the volumes: their names, their entries, or what follows those
     /// (section 3.2.1.2).
     ExtendedHeader,
-    /// How many files there are, where the common ones are the same.
+    /// The number of files; the files that both volumes have are the same.
     FileCount,
     /// The names of the files (section 3.2.3).
     Name,
@@ -53,21 +53,22 @@ pub enum Word {
     Type,
     /// The attributes of the files (section 3.2.3).
     Attributes,
-    /// The data of the files, where they are no sections.
+    /// The data of the files, if they are not sections.
     Data,
-    /// How many sections there are, where the common ones are the same.
+    /// The number of sections; the sections that both streams have are the same.
     SectionCount,
-    /// How many bytes follow the last section.
+    /// The number of bytes after the last section.
     Tail,
-    /// The forms of the sections' headers, of which one is extended (section 3.2.4).
+    /// The forms of the sections' headers: one is extended, the other is not (section 3.2.4).
     Form,
     /// Whether the sections hold bytes, sections or a volume (section 3.2.5).
     Shape,
-    /// The bytes that the sections hold, where they hold no sections and no volume.
+    /// The bytes of the sections, if these hold neither sections nor a volume.
     Body,
 }
 
-/// Where two volumes first differ, and in what. Contracts see the steps and the word.
+/// Where two volumes first differ, and the kind of the difference. Contracts see the steps and the
+/// kind.
 #[derive(Drop)]
 pub struct Difference {
     steps: Vec<Step>,
@@ -92,7 +93,7 @@ impl Difference {
         self.steps.as_slice()
     }
 
-    /// In what they differ there.
+    /// The kind of the difference.
     pub fn word(&self) -> Word
         ensures { result ≡ self.now.1 }
     {
@@ -100,7 +101,7 @@ impl Difference {
     }
 }
 
-// A difference in this word, with no step.
+// A difference of this kind, with no step.
 fn differ_in(alloc: Global, word: Word) -> Difference
     ensures { outermost_first (Some result) ≡ differ_in word }
 {
@@ -110,7 +111,8 @@ fn differ_in(alloc: Global, word: Word) -> Difference
     }
 }
 
-// The difference, one step further out. While it is found, its steps are kept from the inmost out.
+// The difference, seen from one level further out. While it is found, its steps are kept from the
+// innermost out.
 fn under(step: Step, found: Difference) -> Result<Difference, Fault>
     ensures ok { IfOk result (λ d. outermost_first (Some d) ≡ under step (outermost_first (Some found))) }
     ensures err { IfErr result (λ f. f ≡ want_of_memory) }
@@ -120,14 +122,14 @@ fn under(step: Step, found: Difference) -> Result<Difference, Fault>
     Ok(found)
 }
 
-// Whether two block maps are one.
+// Whether two block maps are equal.
 fn same_blocks(a: &[(u32, u32)], b: &[(u32, u32)]) -> bool
     ensures { result ≡ blocks_eq a.now b.now }
 {
     a == b
 }
 
-// Whether the entries of two extended headers are the same.
+// Whether the entries of two extended headers are equal.
 fn same_entries(a: &[ExtEntry], b: &[ExtEntry]) -> bool
     ensures { result ≡ entries_eq a.now b.now }
 {
@@ -142,7 +144,7 @@ fn same_entries(a: &[ExtEntry], b: &[ExtEntry]) -> bool
     true
 }
 
-// Whether two extended headers are one.
+// Whether two extended headers are equal.
 fn same_ext(a: Option<&ExtHeader>, b: Option<&ExtHeader>) -> bool
     ensures { result ≡ ext_eq (option_copied a.entry) (option_copied b.entry) }
 {
@@ -155,7 +157,7 @@ fn same_ext(a: Option<&ExtHeader>, b: Option<&ExtHeader>) -> bool
     }
 }
 
-// In what two headers first differ.
+// The kind of the first difference between two headers.
 fn head_word(head: &VolumeHead, other: &VolumeHead) -> Option<Word>
     ensures { in_word result ≡ head_differs head.now other.now }
 {
@@ -183,7 +185,7 @@ fn head_word(head: &VolumeHead, other: &VolumeHead) -> Option<Word>
     None
 }
 
-// Where two streams first differ, with the steps from the inmost out.
+// Where two streams first differ, with the steps from the innermost out.
 #[cycle(differ)]
 fn stream_difference(
     alloc: Global,
@@ -212,7 +214,7 @@ fn stream_difference(
     Ok(None)
 }
 
-// The same of two sections.
+// The same for two sections.
 #[cycle(differ)]
 fn section_difference(
     alloc: Global,
@@ -230,7 +232,7 @@ fn section_difference(
     body_difference(alloc, section.body(), other.body())
 }
 
-// The same of what two sections hold.
+// The same for the bodies of two sections.
 #[cycle(differ)]
 fn body_difference(alloc: Global, body: &Body, other: &Body) -> Result<Option<Difference>, Fault>
     ensures { AnswersDifference result (body_differs (body_view body.now) (body_view other.now)) }
@@ -257,7 +259,7 @@ fn body_difference(alloc: Global, body: &Body, other: &Body) -> Result<Option<Di
     }
 }
 
-// The same of what two files hold.
+// The same for the contents of two files.
 #[cycle(differ)]
 fn content_difference(
     alloc: Global,
@@ -287,7 +289,7 @@ fn content_difference(
     }
 }
 
-// The same of two files.
+// The same for two files.
 #[cycle(differ)]
 fn file_difference(
     alloc: Global,
@@ -308,7 +310,7 @@ fn file_difference(
     content_difference(alloc, file.content(), other.content())
 }
 
-// The same of the files of two volumes.
+// The same for the files of two volumes.
 #[cycle(differ)]
 fn files_difference(
     alloc: Global,
@@ -331,7 +333,7 @@ fn files_difference(
     Ok(None)
 }
 
-// The same of two volumes.
+// The same for two volumes.
 #[cycle(differ)]
 fn volume_difference(
     alloc: Global,
@@ -346,18 +348,18 @@ fn volume_difference(
     files_difference(alloc, volume.files(), other.files())
 }
 
-/// Where two volumes first differ in what they mean, or None where they mean the same.
+/// Where the meanings of two volumes first differ, or None if the two have the same meaning.
 ///
-/// Their headers are compared first, field by field, then their common files in order, then how
-/// many files there are. Of a file it is the name, the type, the attributes, and then the data, or
-/// the common sections in order, how many sections there are, and how many bytes follow the last.
-/// Of a section it is the type, the form of its header, whether it holds bytes, sections or a
-/// volume, and then what it holds. The work is linear in the two volumes. (PI specification,
-/// volume 3, section 3.2.)
+/// Their headers are compared first, field by field. Then the files that both have are compared in
+/// order, and then the numbers of files. For a file, the name, the type and the attributes are
+/// compared, and then the data; or, if the data are sections, the sections that both have in order,
+/// the numbers of sections, and the numbers of bytes after the last. For a section, the type, the
+/// form of its header, and whether it holds bytes, sections or a volume are compared, and then what
+/// it holds. The work is linear in the two volumes. (PI specification, volume 3, section 3.2.)
 ///
 /// # Errors
 ///
-/// OutOfMemory (at 0), and that only where they differ.
+/// OutOfMemory (at 0); only if they differ.
 pub fn first_difference(
     alloc: Global,
     a: &VolumeView,
@@ -365,13 +367,13 @@ pub fn first_difference(
 ) -> Result<Option<Difference>, Fault>
     ensures first { IfOk result (λ o. o ≡ difference a.now b.now) }
 
-    // None says that the two mean the same.
+    // None says that the two have the same meaning.
     ensures same { IfOk result (λ o. IfNone o (a.now ≡ b.now)) }
 
-    // A difference says that they do not.
+    // A difference says that they have not.
     ensures differ { IfOk result (λ o. IfSome o (λ _. a.now ≢ b.now)) }
 
-    // Memory is wanted only where they differ.
+    // Memory runs out only if they differ.
     ensures memory { IfErr result (λ _. a.now ≢ b.now) }
     ensures err { IfErr result (λ f. f ≡ want_of_memory) }
 {

@@ -17,7 +17,7 @@ fn end_of(stream: &[u8], frame: &Frame) -> u64
     frame.offset + header + frame.body.len() as u64
 }
 
-// Where the frame behind this one would stand.
+// The offset at which the next frame would begin.
 pub(crate) fn next_frame_at(stream: &[u8], frame: &Frame) -> u64
     requires { frame.now.offset + frame_len (frame_form frame.now) ≤ length stream.now }
     ensures { result ≡ up_to_4 (frame.now.offset + frame_len (frame_form frame.now)) }
@@ -25,7 +25,8 @@ pub(crate) fn next_frame_at(stream: &[u8], frame: &Frame) -> u64
     (end_of(stream, frame) + 3) / 4 * 4
 }
 
-// How many frames a stream has, and how many bytes follow the last; or its first fault. Takes no memory.
+// The number of frames of a stream, and the number of bytes after the last; or its first fault.
+// Takes no memory.
 pub(crate) fn stream_size(stream: &[u8]) -> Result<(usize, u8), Fault>
     ensures found { IfOk result (λ r. (fs : List FrameForm) × Splits fs r.1 stream.now × (length fs ≡ r.0)) }
     ensures first { IfErr result (λ f. IsFirstFrameFault stream.now f) }

@@ -1,4 +1,4 @@
-//! What a firmware volume means, read as a view of its bytes.
+//! The meaning of a firmware volume, read as a view of its bytes.
 #![tactic(auto)]
 
 mod difference;

@@ -19,8 +19,8 @@ use crate::view::{Body, Content, FileView, SectionView, VolumeView};
 use fv_base::{Fault, Guid};
 use fv_section::{Frame, next_frame};
 
-/// The type of a security core, whose data are sections that stay bytes. (PI specification, volume
-/// 3, section 3.2.3, EFI_FV_FILETYPE_SECURITY_CORE.)
+/// The type of a security core, whose data are sections that are kept as bytes. (PI specification,
+/// volume 3, section 3.2.3, EFI_FV_FILETYPE_SECURITY_CORE.)
 const SECURITY_CORE: u8 = 0x03;
 
 /// What a look-up of a section found. (PI specification, volume 3, section 3.2.4.)
@@ -28,22 +28,22 @@ const SECURITY_CORE: u8 = 0x03;
 pub enum Item<'v, 'a> {
     /// A section of the tree.
     Section(&'v SectionView<'a>),
-    /// A frame of the data of a security core, with its place in them.
+    /// A frame of the data of a security core, with its offset in them.
     Frame(Frame<'a>),
 }
 
-/// The answer of a look-up of a section.
+/// The result of a look-up of a section.
 #[derive(Clone, Copy)]
 pub enum Lookup<'v, 'a> {
-    /// This is it.
+    /// The section or frame that was found.
     Found(Item<'v, 'a>),
-    /// The file holds sections, and none of this type and instance.
+    /// The file holds sections, and none with this type and instance.
     Absent,
     /// The file holds no sections.
     NotSectioned,
 }
 
-/// The first file of this name, or None. It is looked up in the view's map of names, and takes no
+/// The first file with this name, or None. It is looked up in the view's index of names. Takes no
 /// memory. (PI specification, volume 3, section 3.2.3.)
 pub fn file_by_name<'v, 'a>(volume: &'v VolumeView<'a>, name: &Guid) -> Option<&'v FileView<'a>>
     ensures { option_copied result ≡ file_named name.now (files_of volume.now) }
@@ -52,9 +52,9 @@ pub fn file_by_name<'v, 'a>(volume: &'v VolumeView<'a>, name: &Guid) -> Option<&
     volume.file(number)
 }
 
-/// The file behind the one of this number, with its own number; the first for None. It is None
-/// behind the last. Files are numbered from 0 in the order in which they lie. Takes no memory.
-/// (PI specification, volume 3, section 3.2.3.)
+/// The file after the one with this number, with its own number; for None, the first file. Returns
+/// None after the last file. Files are numbered from 0 in order. Takes no memory. (PI
+/// specification, volume 3, section 3.2.3.)
 pub fn next_file<'v, 'a>(
     volume: &'v VolumeView<'a>,
     after: Option<u32>,
@@ -74,7 +74,7 @@ pub fn next_file<'v, 'a>(
     Some((number, file))
 }
 
-/// The file that is number `instance` of those of this type, counted from 1, or None; instance 0 is
+/// File number `instance` of this type, counted from 1, or None if there are fewer. Instance 0 is
 /// None. Takes no memory. (PI specification, volume 3, section 3.2.3, EFI_FV_FILETYPE.)
 pub fn file_by_type<'v, 'a>(
     volume: &'v VolumeView<'a>,
@@ -99,8 +99,9 @@ pub fn file_by_type<'v, 'a>(
     None
 }
 
-// Among a section and those in it, the one of this type that has `left` others of it before it; or
-// how many of those are left, behind them all.
+// Searches a section and those in it, in preorder, for the section of this type that has `left`
+// others of its type before it. If there are too few, returns how many of `left` remain after them
+// all.
 #[cycle(seek)]
 fn seek_section<'v, 'a>(
     section: &'v SectionView<'a>,
@@ -119,7 +120,7 @@ fn seek_section<'v, 'a>(
     seek_body(section.body(), kind, left - 1)
 }
 
-// The same among the sections in a body.
+// The same for the sections in a body.
 #[cycle(seek)]
 fn seek_body<'v, 'a>(body: &'v Body<'a>, kind: u8, left: u32) -> Result<&'v SectionView<'a>, u32>
     ensures ok { IfOk result (λ s. sought left (of_type kind (inside_body (body_view body.now))) ≡ Ok s.now) }
@@ -131,7 +132,7 @@ fn seek_body<'v, 'a>(body: &'v Body<'a>, kind: u8, left: u32) -> Result<&'v Sect
     }
 }
 
-// The same among some sections and those in them.
+// The same for some sections and those in them.
 #[cycle(seek)]
 fn seek_sections<'v, 'a>(
     sections: &'v [SectionView<'a>],
@@ -151,7 +152,7 @@ fn seek_sections<'v, 'a>(
     Err(left)
 }
 
-// The answer of a look-up among some sections.
+// The result of a look-up among some sections.
 fn section_lookup<'v, 'a>(
     sections: &'v [SectionView<'a>],
     kind: u8,
@@ -168,8 +169,8 @@ fn section_lookup<'v, 'a>(
     }
 }
 
-// The frame of this type and instance. The stream is walked to its end, for only then it is known
-// that the bytes are one.
+// The frame of this type and instance. The stream is walked to its end, because only then is it
+// known that the bytes are a stream.
 fn frame_by_type(bytes: &[u8], kind: u8, instance: u32) -> Result<Option<Frame<'_>>, Fault>
     ensures ok { IfOk result (λ o. (fs : List FrameForm) (t : ℕ) → Splits fs t bytes.now
         → option_map framed.frame_form o ≡ frame_of_type kind instance fs) }
@@ -193,7 +194,7 @@ fn frame_by_type(bytes: &[u8], kind: u8, instance: u32) -> Result<Option<Frame<'
     Ok(found)
 }
 
-// The answer of a look-up among the frames of bytes that may be a stream.
+// The result of a look-up among the frames of bytes that may be a stream.
 fn frame_lookup<'v, 'a>(bytes: &'a [u8], kind: u8, instance: u32) -> Lookup<'v, 'a>
     ensures core { (fs : List FrameForm) (t : ℕ) → Splits fs t bytes.now
         → SeesFrame result (frame_of_type kind instance fs) }
@@ -206,11 +207,11 @@ fn frame_lookup<'v, 'a>(bytes: &'a [u8], kind: u8, instance: u32) -> Lookup<'v, 
     }
 }
 
-/// The section that is number `instance` of those of this type, counted from 1 in preorder: a group
-/// is followed by the sections in it, and those of a nested volume are passed by. Instance 0 is
-/// Absent. Of a security core, the frame so counted among those that its data are; where they are
-/// no stream, as of any other file whose data stay bytes, the answer is NotSectioned. Takes no
-/// memory. (PI specification, volume 3, section 3.2.4, EFI_SECTION_TYPE.)
+/// Section number `instance` of this type, counted from 1 in preorder: a group is followed by the
+/// sections in it, and the sections of a nested volume are not counted. Instance 0 is Absent. For a
+/// security core, the frames of its data are counted instead. If the data of a security core are no
+/// stream, and for any other file whose data are kept as bytes, the result is NotSectioned. Takes
+/// no memory. (PI specification, volume 3, section 3.2.4, EFI_SECTION_TYPE.)
 pub fn section_by_type<'v, 'a>(file: &'v FileView<'a>, kind: u8, instance: u32) -> Lookup<'v, 'a>
     ensures sections { (ss : SectionMeanings) (t : ℕ) → content_of file.now ≡ Sectioned ss t
         → SeesSection result (section_of_type kind instance ss) }

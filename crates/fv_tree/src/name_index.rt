@@ -15,7 +15,7 @@ use crate::volume_files::Standing;
 use fv_base::{Fault, Guid};
 use std::alloc::Global;
 
-/// The names of some files, each as two numbers and with the number of its file, in order.
+/// The names of some files in order, each as two numbers and with the number of its file.
 #[derive(Drop)]
 pub(crate) struct Numbers {
     sorted: Vec<((u64, u64), u32)>,
@@ -41,7 +41,7 @@ fn halves(name: Guid) -> (u64, u64)
     numbers_in(name.to_bytes())
 }
 
-// How many bits there are to number so many files.
+// How many bits are needed to number `count` files.
 fn bits_for(count: usize) -> u32
     requires { count < 2 ^ 32 }
     ensures room { count ≤ 2 ^ result }
@@ -50,8 +50,9 @@ fn bits_for(count: usize) -> u32
     (count + 1).ilog2() + 1
 }
 
-// A key for each file: its number in the low bits, below the high bits of the first half of its name. Keys are quick to
-// sort, and hardly two names have the same high bits, so that the order of the keys is mostly that of the names.
+// A key for each file: its number in the low bits, and the high bits of the first half of its name
+// above them. Keys are quick to sort, and names with the same high bits are rare, so the order of
+// the keys is mostly that of the names.
 fn sorted_keys(alloc: Global, files: &[Standing], bits: u32) -> Result<Vec<u64>, Fault>
     requires room { length files.now ≤ 2 ^ bits }
     requires bits { bits < 64 }
@@ -71,7 +72,7 @@ fn sorted_keys(alloc: Global, files: &[Standing], bits: u32) -> Result<Vec<u64>,
 }
 
 impl Numbers {
-    // Those of these files, of which the first has the number 0.
+    // The index of these files, the first of which has the number 0.
     pub(crate) fn of(alloc: Global, files: &[Standing]) -> Result<Numbers, Fault>
         requires { length files.now < 2 ^ 32 }
         ensures found { IfOk result (λ numbers. IsIndex (names_in (map file_form files.now)) numbers.sorted.items) }
@@ -103,7 +104,7 @@ impl Numbers {
         true
     }
 
-    // The number of the first file of this name.
+    // The number of the first file with this name.
     pub(crate) fn get(&self, name: &Guid) -> Option<u32>
         ensures { (fs : List FileMeaning) → HasNumbers self.now fs → result ≡ number_from 0 name.now fs }
     {

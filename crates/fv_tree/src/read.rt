@@ -32,26 +32,27 @@ use fv_head::{Extent, is_one_volume, read_head};
 use fv_section::{Frame, next_frame};
 use std::alloc::Global;
 
-/// `EFI_SECTION_DISPOSABLE`, the type of a section that groups others. (PI specification, volume 3, section 3.2.5.)
+/// `EFI_SECTION_DISPOSABLE`, the type of a section that groups others. (PI specification, volume 3,
+/// section 3.2.5.)
 const GROUP: u8 = 0x03;
 
 /// `EFI_SECTION_FIRMWARE_VOLUME_IMAGE`, the type of a section that may hold a volume.
 const VOLUME: u8 = 0x17;
 
-/// How many levels deep groups and opened volumes may nest in a volume.
+/// The most levels that groups and opened volumes may nest in a volume.
 const DEPTH_LIMIT: u8 = 8;
 
-/// `EFI_FV_FILETYPE_FREEFORM`, the type of a file that holds sections, as do the types from `PEI_CORE` to
-/// `MM_CORE_STANDALONE`. (PI specification, volume 3, section 3.2.3.)
+/// `EFI_FV_FILETYPE_FREEFORM`, the type of a file that holds sections. The types from `PEI_CORE` to
+/// `MM_CORE_STANDALONE` hold sections too. (PI specification, volume 3, section 3.2.3.)
 const FREEFORM: u8 = 0x02;
 
-/// `EFI_FV_FILETYPE_PEI_CORE`, the least of those types.
+/// `EFI_FV_FILETYPE_PEI_CORE`, the lowest of those types.
 const PEI_CORE: u8 = 0x04;
 
-/// `EFI_FV_FILETYPE_MM_CORE_STANDALONE`, the greatest of them.
+/// `EFI_FV_FILETYPE_MM_CORE_STANDALONE`, the highest of them.
 const MM_CORE_STANDALONE: u8 = 0x0f;
 
-// A fault of bytes that begin at this place.
+// A fault in bytes that begin at this place.
 fn within(fault: Fault, place: Place) -> Fault
     requires { place.offset + fault.place.offset < 2 ^ 64 }
     ensures moved { result ≢ want_of_memory
@@ -77,7 +78,7 @@ fn holds_sections(kind: u8) -> bool
     kind == FREEFORM || (PEI_CORE <= kind && kind <= MM_CORE_STANDALONE)
 }
 
-// How many bytes the header of a section has.
+// The length of a section's header.
 fn head_of(extended: bool) -> u64
     ensures { result ≡ section_header_len extended }
 {
@@ -94,7 +95,8 @@ enum Shape {
     Volume,
 }
 
-// How the body of the section in a frame is read: by its type, and a volume's by what it holds.
+// How the body of the section in a frame is read: by its type and, for a section that may hold a
+// volume, by its content.
 fn shape_of(frame: &Frame) -> Shape
     ensures { result ≡ shape_of (framed.frame_form frame.now) }
 {
@@ -107,8 +109,8 @@ fn shape_of(frame: &Frame) -> Shape
     Shape::Leaf
 }
 
-// Where the body of a frame begins in what was handed in, and how many levels may nest in it; none
-// may where no level is left.
+// Where the body of a frame begins in the bytes that were passed in, and how many levels may nest
+// in it; or the fault Depth if no level is left.
 fn deeper(frame: &Frame, place: Place, left: u8) -> Result<(Place, u8), Fault>
     requires place { place.offset + frame.now.offset + frame_len (framed.frame_form frame.now) < 2 ^ 63 }
     requires depth { place.depth + left ≤ depth_limit }
@@ -134,7 +136,7 @@ fn deeper(frame: &Frame, place: Place, left: u8) -> Result<(Place, u8), Fault>
     Ok((inside, left - 1))
 }
 
-// The files of a volume of this extent, as they lie in it, and their numbers.
+// The files of a volume of this extent, as they are stored in it, and their numbers.
 fn files_in_body<'a>(
     alloc: Global,
     volume: &'a [u8],
@@ -214,7 +216,7 @@ fn read_section<'a>(
     Ok(SectionView::new(frame.kind, frame.extended, body, len))
 }
 
-// The sections of a stream, and how many bytes follow the last.
+// The sections of a stream, and the number of bytes after the last.
 #[cycle(read)]
 fn read_stream<'a>(
     alloc: Global,
@@ -305,7 +307,7 @@ fn read_file<'a>(
     ))
 }
 
-// The files, in their order.
+// The files, in order.
 #[cycle(read)]
 fn read_files<'a>(
     alloc: Global,
@@ -361,7 +363,7 @@ fn read_body<'a>(
     Ok((views, numbers))
 }
 
-// The volume that the bytes begin with, and how many bytes it has.
+// The volume at the start of the bytes, and the number of its bytes.
 #[cycle(read)]
 fn read_at<'a>(
     alloc: Global,
@@ -391,18 +393,19 @@ fn read_at<'a>(
     Ok((VolumeView::new(head, files, numbers), extent.length))
 }
 
-/// The meaning of the volume that the bytes begin with, as a view of them, and the bytes that it
-/// takes, FvLength. Bytes behind it are not read. (PI specification, volume 3, section 3.2.)
+/// The meaning of the volume at the start of the bytes, as a view of them, and the number of bytes
+/// that it takes, FvLength. Bytes after it are not read. (PI specification, volume 3, section 3.2.)
 ///
 /// # Errors
 ///
-/// The first fault: those of the header, as `verify_fv`; of the body, as `cells`; DuplicateName at
-/// the later of two files of one name and state; TopFile at a volume top file that is not at the
-/// end; and then, file by file, those of the sections, as `frames`, Depth at a group or an opened
-/// volume that lies too deep, and those of what it holds. The offset is in bytes from the first of
-/// `bytes`, and the depth is the number of groups and opened volumes round it. OutOfMemory at 0.
+/// The first fault, in this order: those of the header, as for `verify_fv`; those of the body, as
+/// for `cells`; DuplicateName at the later of two files with the same name and state; TopFile at a
+/// volume top file that is not at the end. Then come, file by file, those of the sections, as for
+/// `frames`, Depth at a group or an opened volume that lies too deep, and those of what it holds.
+/// The offset is in bytes from the first of `bytes`, and the depth is the number of groups and
+/// opened volumes around it. OutOfMemory at 0.
 pub fn read_volume(alloc: Global, bytes: &[u8]) -> Result<(VolumeView<'_>, u64), Fault>
-    // These bytes are a volume of this meaning.
+    // These bytes are a volume with this meaning.
     ensures found { IfOk result (λ r. Accepted (take r.1 bytes.now) r.0) }
     ensures length { IfOk result (λ r. (r.1 ≡ length_of r.0) × (r.1 ≤ length bytes.now)) }
 
@@ -411,18 +414,18 @@ pub fn read_volume(alloc: Global, bytes: &[u8]) -> Result<(VolumeView<'_>, u64),
         (λ r. (n : ℕ) (m : Meaning) → n ≤ length bytes.now → Denotes depth_limit (take n bytes.now) m
         → (m ≡ r.0) × (n ≡ r.1)) }
 
-    // Where it refuses, want of memory aside, they begin with none.
+    // If an error other than OutOfMemory is returned, they begin with none.
     ensures none { IfErr result (λ f. f ≢ want_of_memory → (n : ℕ) (m : Meaning) → n ≤ length bytes.now
         → Denotes depth_limit (take n bytes.now) m → ⊥) }
 
-    // A refusal, want of memory aside, is the first fault, and there is no other first fault; its
-    // condition stands in the bytes at its place.
+    // An error other than OutOfMemory is the first fault, and there is no other first fault; its
+    // condition holds in the bytes at its offset.
     ensures first { IfErr result (λ f. f ≢ want_of_memory → IsFirstOfVolume bytes.now f) }
     ensures one { (f : Fault) → IsFirstOfVolume bytes.now f
         → IfOk result (λ r. ⊥) × IfErr result (λ g. g ≢ want_of_memory → g ≡ f) }
     ensures stands { IfErr result (λ f. f ≢ want_of_memory → FaultStands bytes.now f) }
 
-    // Memory is wanted only where they begin with the header of a volume.
+    // Memory runs out only if they begin with the header of a volume.
     ensures memory { IfErr result
         (λ f. f ≡ want_of_memory → (h : HeadFields) × (e : Extent) × BeginsVolume h e bytes.now) }
 {

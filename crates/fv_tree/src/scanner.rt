@@ -14,8 +14,8 @@ use std::marker::Model;
 /// The signature of a volume, `_FVH`.
 const SIGNATURE: [u8; 4] = [0x5f, 0x46, 0x56, 0x48];
 
-/// Where the volumes in some bytes begin, in rising order, in bytes from the first. Contracts see
-/// the list.
+/// The offsets at which the volumes in some bytes begin, in rising order, in bytes from the first.
+/// Contracts see the list.
 #[derive(Drop)]
 pub struct Offsets {
     list: Vec<u64>,
@@ -30,7 +30,7 @@ impl Model for Offsets {
 }
 
 impl Offsets {
-    /// The places in their order.
+    /// The offsets in order.
     pub fn as_slice(&self) -> &[u64]
         ensures { result.now ≡ self.now }
     {
@@ -38,7 +38,7 @@ impl Offsets {
     }
 }
 
-// Whether the bytes from this place on have the signature where a header does.
+// Whether the bytes from this offset on have the signature where a header has it.
 fn is_signed(bytes: &[u8], at: usize) -> bool
     requires { at + 56 ≤ length bytes.now }
     ensures { result ≡ has_signature (drop at bytes.now) }
@@ -46,7 +46,7 @@ fn is_signed(bytes: &[u8], at: usize) -> bool
     bytes[at + 40..at + 44] == SIGNATURE[..]
 }
 
-// The first place from this one on, in steps of 8, at which there are 56 bytes with the signature.
+// The first offset from this one on, in steps of 8, at which there are 56 bytes with the signature.
 fn next_signature(bytes: &[u8], from: usize) -> Option<usize>
     requires multiple { from % 8 ≡ 0 }
     requires within { from ≤ length bytes.now }
@@ -64,7 +64,7 @@ fn next_signature(bytes: &[u8], from: usize) -> Option<usize>
     None
 }
 
-// The first volume from this place on, in steps of 8: where it begins, and how many bytes it has.
+// The first volume from this offset on, in steps of 8: its offset, and the number of its bytes.
 fn next_volume(bytes: &[u8], from: usize) -> Option<(usize, usize)>
     requires multiple { from % 8 ≡ 0 }
     requires within { from ≤ length bytes.now }
@@ -81,19 +81,20 @@ fn next_volume(bytes: &[u8], from: usize) -> Option<(usize, usize)>
     None
 }
 
-/// Where the volumes in the bytes begin: from the first byte on in steps of 8, and behind each
-/// volume that is found. A volume begins where `verify_fv` of the rest answers. It is called only
-/// where the signature stands 40 bytes on, and sums no more than 2112 bytes there, so the time grows
-/// with the length, whatever the bytes are. (PI specification, volume 3, section 3.2.1.1.)
+/// The offsets at which the volumes in the bytes begin. They are sought from the first byte on in
+/// steps of 8, and after each volume that is found from its end on. A volume begins where
+/// `verify_fv` of the rest returns Ok. It is called only if the signature is 40 bytes further on,
+/// and it sums at most 2112 bytes there, so the time is linear in the length, whatever the bytes
+/// are. (PI specification, volume 3, section 3.2.1.1.)
 ///
 /// # Errors
 ///
 /// OutOfMemory.
 pub fn scan(alloc: Global, bytes: &[u8]) -> Result<Offsets, Fault>
-    // The volumes begin at these places.
+    // The volumes begin at these offsets.
     ensures found { IfOk result (λ o. Found bytes.now o) }
 
-    // No other places are these.
+    // No other list of offsets meets this.
     ensures only { IfOk result (λ o. (p : List ℕ) → Found bytes.now p → p ≡ o) }
     ensures err { IfErr result (λ f. f ≡ want_of_memory) }
 {

@@ -1,7 +1,7 @@
-//! What no contract says: volumes from outside, and the fault of each that is none.
+//! What no contract says: volumes from outside, and the faults of bytes that are no volume.
 //!
-//! A table is one text, which one function names. A line is the name of a case, what is wanted of it, and how its bytes
-//! are spelled, with a colon between.
+//! A table is one text, which one function names. A line is the name of a case, what is expected of
+//! it, and how its bytes are spelled, with a colon between.
 
 mod content;
 mod deep;
@@ -22,8 +22,8 @@ fn byte_of(digits: &[u8]) -> Option<u8> {
     u8::from_str_radix(from_utf8(digits).ok()?, 16).ok()
 }
 
-// The bytes that a text spells. Two digits are a byte, a star and a number behind a word repeat
-// it, and spaces part words.
+// The bytes that a text spells. Two digits are a byte, a star and a number after a word repeat it,
+// and spaces separate words.
 fn spell(alloc: Global, text: &str) -> Option<Vec<u8>> {
     let mut bytes = Vec::new(alloc);
     for word in text.split_whitespace() {
@@ -37,14 +37,14 @@ fn spell(alloc: Global, text: &str) -> Option<Vec<u8>> {
     Some(bytes)
 }
 
-// What is wanted of the case of a line, and how its bytes are spelled.
+// What is expected of the case of a line, and how its bytes are spelled.
 fn row_of(line: &str) -> Option<(&str, &str)> {
     let (_, parts) = line.split_once(": ")?;
     parts.split_once(": ")
 }
 
-// What a file shows: the first byte of its name, its type, its attribute bits, how many bytes its data have, and how
-// many sections, if they are sections.
+// A file as text: the first byte of its name, its type, its attribute bits, how many bytes its data
+// have, and how many sections, if they are sections.
 fn listed(alloc: Global, file: &FileView) -> Option<String> {
     let sections = match file.content() {
         Content::Plain(_) => None,
@@ -66,7 +66,7 @@ fn list_of(alloc: Global, view: &VolumeView, length: u64) -> Option<String> {
     Some(list)
 }
 
-// The volume that is read of some bytes, or the kind, offset and depth of the fault that refuses them.
+// The volume that is read from some bytes, or the kind, offset and depth of the fault.
 fn told(alloc: Global, bytes: &[u8]) -> Option<String> {
     match read_volume(alloc, bytes) {
         Ok((view, length)) => list_of(alloc, &view, length),
@@ -77,7 +77,7 @@ fn told(alloc: Global, bytes: &[u8]) -> Option<String> {
     }
 }
 
-// Whether what is told of the bytes of a line is what it wants.
+// Whether reading the bytes of a line gives what the line expects.
 fn is_told(alloc: Global, line: &str) -> Option<bool> {
     let (wanted, text) = row_of(line)?;
     let bytes = spell(alloc, text)?;

@@ -16,9 +16,9 @@ use fv_file::FileAttributes;
 use fv_head::VolumeHead;
 use std::marker::Model;
 
-/// What a volume means, made by reading alone: its header, which is owned, and its files, whose
-/// bytes are slices of what was read. Contracts see its meaning, and know that some bytes are a
-/// volume of it. (PI specification, volume 3, section 3.2.)
+/// The meaning of a volume; only reading makes one. The header is owned, and the bytes of the files
+/// are slices of what was read. Contracts see the meaning, and know that some bytes are a volume
+/// with this meaning. (PI specification, volume 3, section 3.2.)
 #[cycle(tree)]
 #[derive(Drop)]
 pub struct VolumeView<'a> {
@@ -27,8 +27,8 @@ pub struct VolumeView<'a> {
     numbers: Numbers,
 }
 
-/// What a file of a volume means, made by reading alone: its name, its type, its attributes and
-/// its content. (PI specification, volume 3, section 3.2.3.)
+/// The meaning of a file of a volume: its name, its type, its attributes and its content. Only
+/// reading makes one. (PI specification, volume 3, section 3.2.3.)
 #[cycle(tree)]
 #[derive(Drop)]
 pub struct FileView<'a> {
@@ -39,7 +39,7 @@ pub struct FileView<'a> {
     attributes: FileAttributes,
 }
 
-/// What the data of a file are, by the file's type. (PI specification, volume 3, section 3.2.3.)
+/// The content of a file, by the file's type. (PI specification, volume 3, section 3.2.3.)
 #[cycle(tree)]
 #[derive(Drop)]
 pub enum Content<'a> {
@@ -47,15 +47,15 @@ pub enum Content<'a> {
     Plain(&'a [u8]),
     /// Sections.
     Stream {
-        /// The sections in their order.
+        /// The sections in order.
         sections: Vec<SectionView<'a>>,
-        /// How many bytes follow the last section, 0 to 3.
+        /// The number of bytes after the last section, 0 to 3.
         tail: u8,
     },
 }
 
-/// What a section means, made by reading alone: its type, the form of its header, and its body.
-/// (PI specification, volume 3, section 3.2.4.)
+/// The meaning of a section: its type, the form of its header, and its body. Only reading makes
+/// one. (PI specification, volume 3, section 3.2.4.)
 #[cycle(tree)]
 #[derive(Drop)]
 pub struct SectionView<'a> {
@@ -73,12 +73,12 @@ pub enum Body<'a> {
     Leaf(&'a [u8]),
     /// Sections.
     Group {
-        /// The sections in their order.
+        /// The sections in order.
         sections: Vec<SectionView<'a>>,
-        /// How many bytes follow the last section, 0 to 3.
+        /// The number of bytes after the last section, 0 to 3.
         tail: u8,
     },
-    /// A volume. It stands behind a pointer, so that a section without one is small.
+    /// A volume. It is behind a pointer, so that a section without one is small.
     Nested(Box<VolumeView<'a>>),
 }
 
@@ -165,7 +165,7 @@ impl<'a> Model for SectionView<'a> {
 impl<'a> VolumeView<'a> {
     ghost use Rattle.fv_tree.specs.Meaning.{Volume, files_from};
 
-    // The view of a volume of this head and these files, with the number of the first of each name.
+    // The view of a volume with this head and these files, with an index of the files' names.
     pub(crate) fn new(
         head: VolumeHead,
         files: Vec<FileView<'a>>,
@@ -187,21 +187,20 @@ impl<'a> VolumeView<'a> {
     pub fn head(&self) -> &VolumeHead
         ensures head { result.now ≡ head_of self.now }
 
-        // Some bytes are a volume of this meaning.
+        // Some bytes are a volume with this meaning.
         ensures meaning { IsMeaning self.now }
     {
         &self.head
     }
 
-    /// How many files it has.
+    /// The number of files.
     pub fn file_count(&self) -> u32
         ensures { result ≡ length (files_of self.now) }
     {
         self.files.len() as u32
     }
 
-    /// The file of this number, counted from 0 in the order in which they lie, or None past the
-    /// last.
+    /// File number `number`, counted from 0 in the order of the files, or None after the last.
     pub fn file(&self, number: u32) -> Option<&FileView<'a>>
         ensures { option_copied result ≡ slice_get (files_of self.now) number }
     {
@@ -213,14 +212,14 @@ impl<'a> VolumeView<'a> {
         }
     }
 
-    /// The files in the order in which they lie.
+    /// The files in order.
     pub fn files(&self) -> &[FileView<'a>]
         ensures { self.now ≡ Volume (head_of self.now) (files_from result.now) }
     {
         self.files.as_slice()
     }
 
-    // The number of the first file of this name.
+    // The number of the first file with this name.
     pub(crate) fn number_of(&self, name: &Guid) -> Option<u32>
         ensures { result ≡ number_from 0 name.now (files_of self.now) }
     {
@@ -231,7 +230,7 @@ impl<'a> VolumeView<'a> {
 impl<'a> FileView<'a> {
     ghost use Rattle.fv_tree.specs.Meaning.{File, content_len};
 
-    // The view of a file, whose data have so many bytes.
+    // The view of a file whose data have `len` bytes.
     pub(crate) fn new(
         name: Guid,
         kind: u8,
@@ -256,7 +255,7 @@ impl<'a> FileView<'a> {
     pub fn name(&self) -> Guid
         ensures name { result ≡ file_name_of self.now }
 
-        // Some bytes are a file of this meaning.
+        // Some bytes are a file with this meaning.
         ensures read { IsReadFile self.now }
     {
         self.name
@@ -269,7 +268,7 @@ impl<'a> FileView<'a> {
         self.file_type
     }
 
-    /// The attribute bits without 0x01 (FFS_ATTRIB_LARGE_FILE), which goes with the form of the
+    /// The attribute bits without 0x01 (FFS_ATTRIB_LARGE_FILE), which belongs to the form of the
     /// header. (PI specification, volume 3, section 3.2.3.1.)
     pub fn attributes(&self) -> FileAttributes
         ensures { attribute_bits result ≡ attributes_of self.now }
@@ -277,14 +276,14 @@ impl<'a> FileView<'a> {
         self.attributes
     }
 
-    /// What its data are.
+    /// The content.
     pub fn content(&self) -> &Content<'a>
         ensures { content_view result.now ≡ content_of self.now }
     {
         &self.content
     }
 
-    /// Its data where they are no sections: a slice of what was read, which outlives the view.
+    /// Its data if they are not sections: a slice of what was read, which outlives the view.
     pub fn plain(&self) -> Option<&'a [u8]>
         ensures { option_map (λ b. b.now) result ≡ plain_of (content_of self.now) }
     {
@@ -294,7 +293,7 @@ impl<'a> FileView<'a> {
         }
     }
 
-    /// How many bytes its data have.
+    /// The number of bytes of its data.
     pub fn data_len(&self) -> u64
         ensures { result ≡ data_len_of self.now }
     {
@@ -305,7 +304,7 @@ impl<'a> FileView<'a> {
 impl<'a> SectionView<'a> {
     ghost use Rattle.fv_tree.specs.Meaning.{Section, body_len};
 
-    // The view of a section, whose body has so many bytes.
+    // The view of a section whose body has `len` bytes.
     pub(crate) fn new(kind: u8, extended: bool, body: Body<'a>, len: u32) -> SectionView<'a>
         requires read { IsReadSection (Section kind extended (body_view body)) }
         requires len { len ≡ body_len (body_view body) }
@@ -323,13 +322,13 @@ impl<'a> SectionView<'a> {
     pub fn kind(&self) -> u8
         ensures kind { result ≡ section_kind_of self.now }
 
-        // Some bytes are a section of this meaning.
+        // Some bytes are a section with this meaning.
         ensures read { IsReadSection self.now }
     {
         self.kind
     }
 
-    /// Whether its header is extended: 8 bytes, and not 4.
+    /// Whether its header is extended: 8 bytes rather than 4.
     pub fn extended(&self) -> bool
         ensures { result ≡ section_is_extended self.now }
     {
@@ -343,7 +342,8 @@ impl<'a> SectionView<'a> {
         &self.body
     }
 
-    /// The bytes of a leaf: a slice of what was read, which outlives the view.
+    /// The bytes of a leaf: a slice of what was read, which outlives the view. None if the section
+    /// is no leaf.
     pub fn leaf(&self) -> Option<&'a [u8]>
         ensures { option_map (λ b. b.now) result ≡ leaf_of (body_of self.now) }
     {
@@ -353,7 +353,7 @@ impl<'a> SectionView<'a> {
         }
     }
 
-    /// How many bytes its body has.
+    /// The number of bytes of its body.
     pub fn body_len(&self) -> u64
         ensures { result ≡ body_len (body_of self.now) }
     {

@@ -1,4 +1,4 @@
-//! The files of a volume: which of the files that stand in its body are part of it.
+//! The files of a volume: which of the valid files in its body are part of it.
 
 ghost use Rattle.std.specs.Prelude.{◌≡◌, ◌≢◌, ◌≤◌, ◌<◌, ◌^◌, ◌⊎◌, ◌==◌, ◌&&◌, ◌||◌, not, List, [], ◌∷◌, map};
 ghost use Rattle.std.specs.Prelude.{length as length_of, IfOk, IfErr, OnOk, IfSome, IfNone};
@@ -25,10 +25,10 @@ pub const VOLUME_TOP_FILE: [u8; 16] = [
     0x2e, 0x06, 0xa0, 0x1b, 0x79, 0xc7, 0x82, 0x45, 0x85, 0x66, 0x33, 0x6a, 0xe8, 0xf7, 0x8f, 0x09,
 ];
 
-/// A file as it lies in its volume.
+/// A file as it is stored in its volume.
 #[derive(Clone, Copy)]
 pub(crate) struct Standing<'a> {
-    /// Where its header begins, in bytes from the volume's start.
+    /// The offset of its header, in bytes from the volume's start.
     pub(crate) offset: u64,
     /// Its header.
     pub(crate) head: FileHead,
@@ -50,7 +50,7 @@ fn is_top(file: &Standing) -> bool
     file.head.name.to_bytes()[..] == VOLUME_TOP_FILE[..]
 }
 
-// The file that a cell is, if it is one.
+// The file of a cell, if the cell has one.
 fn file_of<'a>(cell: &Cell<'a>) -> Option<Standing<'a>>
     ensures some { IfSome result (λ s. files_in (cellular.cell_form cell.now ∷ []) ≡ file_form s ∷ []) }
     ensures none { IfNone result (files_in (cellular.cell_form cell.now ∷ []) ≡ []) }
@@ -69,7 +69,7 @@ fn file_of<'a>(cell: &Cell<'a>) -> Option<Standing<'a>>
     }
 }
 
-// The files of some cells, in their order.
+// The files of some cells, in order.
 pub(crate) fn files_of<'a>(alloc: Global, cells: &[Cell<'a>]) -> Result<Vec<Standing<'a>>, Fault>
     ensures found { IfOk result (λ fs. map file_form fs.items ≡ files_in (map cellular.cell_form cells.now)) }
     ensures err { IfErr result (λ f. f ≡ want_of_memory) }
@@ -84,7 +84,8 @@ pub(crate) fn files_of<'a>(alloc: Global, cells: &[Cell<'a>]) -> Result<Vec<Stan
     Ok(files)
 }
 
-// The names of the files, each with whether the file is marked, or the first of two twins.
+// The names of the files, each with whether the file is marked; or the fault DuplicateName at the
+// first file that has an earlier twin.
 fn names_of(alloc: Global, files: &[Standing]) -> Result<BTreeSet<(Guid, bool)>, Fault>
     ensures found { IfOk result
         (λ names. NoTwins (map file_form files.now) × HasNames names (map file_form files.now)) }
@@ -99,7 +100,7 @@ fn names_of(alloc: Global, files: &[Standing]) -> Result<BTreeSet<(Guid, bool)>,
     Ok(names)
 }
 
-// Whether none of the files that have these names replaces the file.
+// Whether none of the files with these names replaces the file.
 fn is_kept(file: &Standing, names: &BTreeSet<(Guid, bool)>) -> bool
     ensures { (fs : List FileForm) → HasNames names.now fs
         → result ≡ not (list_any (replaces (file_form file.now)) fs) }
@@ -107,7 +108,7 @@ fn is_kept(file: &Standing, names: &BTreeSet<(Guid, bool)>) -> bool
     !is_marked(file.head.state) || !names.contains(&(file.head.name, false))
 }
 
-// Leaves those of the files that none of them replaces.
+// Keeps only the files that none of them replaces.
 fn keep_alive(files: &mut Vec<Standing>, names: &BTreeSet<(Guid, bool)>)
     requires { HasNames names.now (map file_form files.old.items) }
     ensures { map file_form files.new.items ≡ alive_in (map file_form files.old.items) }
@@ -115,21 +116,22 @@ fn keep_alive(files: &mut Vec<Standing>, names: &BTreeSet<(Guid, bool)>)
     files.retain(|file| is_kept(file, names));
 }
 
-// Whether a file ends at this place.
+// Whether a file ends at this offset.
 fn ends_at(file: &Standing, place: u64) -> bool
     ensures { result ≡ (end_of (file_form file.now) == place) }
 {
     file.head.size <= place && file.offset == place - file.head.size
 }
 
-// Whether a file is no volume top file, or is the last and ends where the volume does.
+// Whether a file is no volume top file, or is the last file and ends where the volume does.
 fn is_placed(file: &Standing, last: bool, length: u64) -> bool
     ensures { result ≡ (not (is_top (file_form file.now)) || (last && (end_of (file_form file.now) == length))) }
 {
     !is_top(file) || (last && ends_at(file, length))
 }
 
-// Done where a volume top file is the last of the files, and ends where the volume does.
+// Ok if a volume top file, if there is one, is the last of the files and ends where the volume
+// does.
 fn check_top(files: &[Standing], length: u64) -> Result<(), Fault>
     ensures found { OnOk result (TopAtEnd length (map file_form files.now)) }
     ensures first { IfErr result (λ e. (f : FileForm) × TopElsewhere length f (map file_form files.now)
@@ -147,7 +149,7 @@ fn check_top(files: &[Standing], length: u64) -> Result<(), Fault>
     Ok(())
 }
 
-// As `alive_files`, where two of the files may have one name.
+// As `alive_files`, if two of the files may have the same name.
 fn apart_files<'a>(
     alloc: Global,
     files: Vec<Standing<'a>>,
@@ -169,8 +171,8 @@ fn apart_files<'a>(
     Ok((alive, numbers))
 }
 
-// Of the files that stand in a volume of this length, those that are part of it, with their numbers,
-// or the first fault.
+// Of the valid files in a volume of this length, those that are part of it, with their numbers; or
+// the first fault.
 pub(crate) fn alive_files<'a>(
     alloc: Global,
     files: Vec<Standing<'a>>,

@@ -1,4 +1,5 @@
-//! Inputs that come in pieces, fail, are too long or never end; how often and for how much a reader is asked.
+//! Inputs that come in pieces, fail, are too long or never end; how often a reader is called, and
+//! for how many bytes.
 
 use super::ports::Trickle;
 use crate::{Fault, FaultKind, Port, read_input};
@@ -6,8 +7,8 @@ use std::io;
 use std::io::{ErrorKind, Read};
 use std::test::Fail;
 
-/// Gives so many bytes, as many as it is asked for, and then nothing, or `Interrupted` for ever. It counts its calls,
-/// and keeps the size of the largest buffer that it was handed.
+/// Gives `left` bytes, as many as it is asked for, and then nothing, or `Interrupted` for ever. It
+/// counts its calls, and keeps the size of the largest buffer that was passed in.
 #[derive(Drop)]
 struct Counted {
     left: usize,
@@ -29,7 +30,7 @@ impl Read for Counted {
     }
 }
 
-// A reader of so many bytes, which counts.
+// A reader of `left` bytes, which counts.
 fn reader_of(left: usize, ends: bool) -> Port<Counted> {
     Port::new(Counted {
         left,
@@ -63,7 +64,7 @@ fn part() -> [u8; 1000] {
     bytes
 }
 
-// One byte more is good than there are: the end is read too.
+// The reader fails only after one more byte than there are, so its end is read too.
 #[test]
 fn an_interrupted_input_is_read_on(rt: HostRuntime) {
     let bytes = part();
@@ -92,7 +93,7 @@ fn a_reader_that_fails_is_told(rt: HostRuntime) {
     }
 }
 
-// Each call asks for 65,536 bytes, and no more calls are made than the bytes and the end need.
+// Each call asks for 65,536 bytes, and there are no more calls than the bytes and the end need.
 #[test]
 fn a_reader_is_asked_in_pieces(rt: HostRuntime) {
     for (bytes, calls) in [(0usize, 1u64), (65_536, 2), (65_537, 3), (200_000, 5)] {
@@ -105,7 +106,7 @@ fn a_reader_is_asked_in_pieces(rt: HostRuntime) {
     }
 }
 
-// A volume's limit is taken, and one byte more is Length at the limit.
+// As many bytes as a volume may have are accepted, and one more is Length at the limit.
 #[test]
 fn an_input_has_a_limit(rt: HostRuntime) {
     let fault = Fault::outer(FaultKind::Length, 268_435_456);
@@ -116,8 +117,8 @@ fn an_input_has_a_limit(rt: HostRuntime) {
     }
 }
 
-// A reader that is interrupted for ever is given up. (So many calls take a second or two when built, and
-// too long under `rt try`.)
+// Reading stops if the reader is interrupted for ever. (So many calls take a second or two when
+// built, and too long under `rt try`.)
 #[test]
 fn a_stalled_reader_is_given_up(rt: HostRuntime) {
     let mut reader = reader_of(10, false);

@@ -4,7 +4,7 @@ use crate::Port;
 use std::io;
 use std::io::{ErrorKind, Read, Write};
 
-/// Gives one byte a call, answers `Interrupted` at each third call, and fails behind `good` bytes.
+/// Gives one byte a call, returns `Interrupted` at every third call, and fails after `good` bytes.
 #[derive(Drop)]
 pub(super) struct Trickle<'a> {
     pub(super) bytes: &'a [u8],
@@ -27,7 +27,7 @@ impl<'a> Read for Trickle<'a> {
     }
 }
 
-/// Takes at most `step` bytes a call and `room` in all, and then none: it fails, or answers 0.
+/// Takes at most `step` bytes a call and `room` in all, and then none: it fails, or returns 0.
 #[derive(Drop)]
 pub(super) struct Narrow {
     pub(super) taken: Vec<u8>,
@@ -52,7 +52,7 @@ impl Write for Narrow {
     }
 }
 
-// What a call answered: a count, or the kind of its error.
+// What a call returned: a count, or the kind of its error.
 fn kind_of(outcome: io::Result<usize>) -> Result<usize, ErrorKind> {
     match outcome {
         Ok(count) => Ok(count),
@@ -70,7 +70,7 @@ fn a_port_reads_what_its_reader_gives(rt: HostRuntime) {
     assert!(rt; !reader.erred());
 }
 
-// The very error is passed on: no contract says which it is.
+// The same error is passed on: no contract says which it is.
 #[test]
 fn a_port_remembers_a_read_that_failed(rt: HostRuntime) {
     let mut buf = [0u8; 4];
@@ -103,7 +103,7 @@ fn a_port_writes_what_it_is_given(rt: HostRuntime) {
     assert_eq!(rt; writer.into_inner().as_slice(), [7u8, 8].as_slice());
 }
 
-// A write that takes no byte of some has failed too; of an error the very one is passed on.
+// A write that takes no byte though some were given has failed too. The same error is passed on.
 #[test]
 fn a_port_remembers_a_write_that_failed(rt: HostRuntime) {
     for (fails, last) in [(false, Ok(0)), (true, Err(ErrorKind::WouldBlock))] {

@@ -5,10 +5,10 @@ use crate::{ByteList, Fault, FaultKind, ListSink, Polarity, Port, Sink, WriteSin
 use std::alloc::Global;
 use std::test::Fail;
 
-/// How long the fills are.
+/// The lengths of the fills.
 const COUNTS: [usize; 4] = [0, 1, 65_536, 200_000];
 
-// So many bytes, and 1 and 2 behind them.
+// The byte `count` times, then 1 and 2.
 fn filled(alloc: Global, byte: u8, count: usize) -> Result<Vec<u8>, Fail> {
     let mut bytes = vec![in alloc; byte; count]?;
     bytes.extend_from_slice(&[1, 2])?;

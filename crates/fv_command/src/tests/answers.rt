@@ -97,7 +97,7 @@ pub fn answers() -> &'static str {
     "
 }
 
-/// Runs of each command whose readers and writers are to fail after each byte.
+/// Runs of each command whose readers and writers fail after each byte in turn.
 pub fn small() -> &'static str {
     "\
     normalise: two-sections -> 0 =two-sections-image\n\

@@ -1,6 +1,6 @@
 //! Two volumes, compared.
 
-/// Runs that compare, one or more for each word of a difference.
+/// Runs that compare, at least one for each kind of difference.
 pub fn compared() -> &'static str {
     "\
     compare: empty & 00*15 0178e58c8c3d8a1c4f9935896185c32dd380 00*7 5f465648fffe04004800cef4000000020100000080 \

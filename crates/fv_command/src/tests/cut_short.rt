@@ -7,7 +7,7 @@ use fv_base::{Fault, FaultKind, Port};
 use fv_canon::run_normalise;
 use std::alloc::Global;
 
-// Whether a run answers so, and writes the bytes and then no more.
+// Whether a run returns this, and writes the bytes and nothing after them.
 fn answers(
     alloc: Global,
     reader: FakeReader<'_>,
@@ -21,7 +21,7 @@ fn answers(
     answered == outcome && writer.into_inner().took(wanted)
 }
 
-// Whether nothing is written where the reader fails behind so many bytes.
+// Whether nothing is written if the reader fails after `count` bytes.
 fn stops_reading(alloc: Global, image: &[u8], step: usize, count: usize) -> bool {
     let reader = FakeReader::failing(image, step, count);
     let writer = FakeWriter::new(alloc, step, usize::MAX, true);
@@ -29,7 +29,8 @@ fn stops_reading(alloc: Global, image: &[u8], step: usize, count: usize) -> bool
     answers(alloc, reader, writer, Err(fault), b"")
 }
 
-// Whether as many bytes are written as the writer has room for, which fails then or takes no byte.
+// Whether as many bytes are written as the writer has room for. When it is full it fails, or takes
+// no byte.
 fn stops_writing(alloc: Global, image: &[u8], step: usize, room: usize) -> bool {
     let fault = Fault::outer(FaultKind::WriteFault, room as u64);
     let wanted = &image[..room.min(image.len())];
@@ -40,7 +41,7 @@ fn stops_writing(alloc: Global, image: &[u8], step: usize, room: usize) -> bool 
     })
 }
 
-// Whether the image is written, and just a front of it where the reader or the writer stops.
+// Whether the image is written, and only its first bytes if the reader or the writer stops.
 fn stops_in_time(alloc: Global, name: &str, step: usize) -> Option<bool> {
     let image = bytes_of(alloc, name)?;
     for is_interrupted in [false, true] {

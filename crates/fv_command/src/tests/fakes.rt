@@ -4,10 +4,10 @@ use std::alloc::Global;
 use std::io;
 use std::io::{ErrorKind, Read, Write};
 
-/// Gives bytes, so many at most a call, and fails after so many in all.
+/// Gives bytes, at most `step` a call, and fails after `until_failure` in all.
 #[derive(Drop)]
 pub struct FakeReader<'a> {
-    /// The bytes that are not yet given.
+    /// The bytes that are still to be given.
     rest: &'a [u8],
     /// How many bytes a call gives at most.
     step: usize,
@@ -31,7 +31,7 @@ impl<'a> FakeReader<'a> {
         }
     }
 
-    /// A reader that fails in the stead of giving the byte at `count`, or of its end.
+    /// A reader that fails instead of giving the byte at `count`, or its end.
     pub fn failing(bytes: &'a [u8], step: usize, count: usize) -> FakeReader<'a> {
         FakeReader {
             rest: bytes,
@@ -62,7 +62,7 @@ impl<'a> Read for FakeReader<'a> {
     }
 }
 
-/// Gives bytes without end, of no kind in particular.
+/// Gives arbitrary bytes without end.
 #[derive(Drop)]
 pub struct EndlessReader;
 
@@ -75,7 +75,7 @@ impl Read for EndlessReader {
 /// Gives spaces without end.
 #[derive(Drop)]
 pub struct SpaceReader {
-    /// How often it was asked.
+    /// How often it was called.
     pub calls: u64,
     /// The most bytes that it was asked for.
     pub most: usize,
@@ -93,7 +93,7 @@ impl Read for SpaceReader {
 /// Gives two digits, and is interrupted from then on.
 #[derive(Drop)]
 pub struct InterruptedReader {
-    /// How often it was asked.
+    /// How often it was called.
     pub calls: u64,
 }
 
@@ -108,7 +108,7 @@ impl Read for InterruptedReader {
     }
 }
 
-/// Takes so many bytes, and then fails.
+/// Takes `room` bytes, and then fails.
 #[derive(Drop)]
 pub struct FakeWriter {
     /// The bytes that it took.
@@ -119,14 +119,14 @@ pub struct FakeWriter {
     step: usize,
     /// How many bytes it still takes in all.
     room: usize,
-    /// Whether a call without room is an error, or takes no byte.
+    /// Whether a call without room is an error, or else takes no byte.
     is_broken: bool,
     /// Whether a call has failed, or took no byte.
     has_failed: bool,
 }
 
 impl FakeWriter {
-    /// A writer with room for so many bytes.
+    /// A writer with room for `room` bytes.
     pub fn new(alloc: Global, step: usize, room: usize, is_broken: bool) -> FakeWriter {
         FakeWriter {
             taken: Vec::new(alloc),
@@ -138,7 +138,7 @@ impl FakeWriter {
         }
     }
 
-    /// Whether it took just these bytes, and no call came after the first that failed.
+    /// Whether it took exactly these bytes, and no call came after the first that failed.
     pub fn took(&self, bytes: &[u8]) -> bool {
         !self.is_late && self.taken.as_slice() == bytes
     }

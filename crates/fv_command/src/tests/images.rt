@@ -8,7 +8,7 @@ use fv_canon::{Layout, canonical, is_canonical, layout, normalise, write_canonic
 use fv_tree::{VolumeView, read_volume};
 use std::alloc::Global;
 
-// Whether the bytes are the image of the volume, which is its own image or another.
+// Whether the bytes are the image of the volume; `is_own` says whether the volume is its own image.
 fn is_image_of(alloc: Global, volume: &[u8], image: &[u8], is_own: bool) -> bool {
     match normalise(alloc, volume) {
         Ok(answer) => {
@@ -20,7 +20,7 @@ fn is_image_of(alloc: Global, volume: &[u8], image: &[u8], is_own: bool) -> bool
     }
 }
 
-// Whether the volume of a line has its image, and is told from it.
+// Whether the volume of a line has its image, and is found to be its own image or not, as expected.
 fn has_image(alloc: Global, line: &str) -> Option<bool> {
     let (_, text, other) = row_of(line)?;
     let volume = bytes_of(alloc, text)?;
@@ -55,7 +55,8 @@ fn volumes_have_their_images(rt: HostRuntime) {
     }
 }
 
-// Whether the volume has no image, by a fault of this number and depth, and is not canonical.
+// Whether the volume has no image, because of a fault with this number and depth, and is not
+// canonical.
 fn does_not_fit(alloc: Global, volume: &[u8], number: u64, depth: u64) -> bool {
     match normalise(alloc, volume) {
         Ok(_) => false,
@@ -68,7 +69,7 @@ fn does_not_fit(alloc: Global, volume: &[u8], number: u64, depth: u64) -> bool {
     }
 }
 
-// Whether the volume of a line does not fit as it tells.
+// Whether the volume of a line does not fit as the line says.
 fn is_unplaced(alloc: Global, line: &str) -> Option<bool> {
     let (name, number, depth) = row_of(line)?;
     let number = number_of(number)?;
@@ -77,7 +78,8 @@ fn is_unplaced(alloc: Global, line: &str) -> Option<bool> {
     Some(does_not_fit(alloc, &volume, number, depth))
 }
 
-// Volumes that have no image, with the number of the fault and the depth of the volume that does not fit.
+// Volumes that have no image, with the number of the fault and the depth of the volume that does
+// not fit.
 fn unfit() -> &'static str {
     "\
     ext-header-without-room: 22 -> 0\n\
@@ -94,7 +96,7 @@ fn what_does_not_fit_has_none(rt: HostRuntime) {
     }
 }
 
-// Whether the file of this number stands where the digits say.
+// Whether file number `index` is at the offset that the digits say.
 fn has_start(places: &Layout, index: u32, digits: &str) -> bool {
     match number_of(digits) {
         Some(start) => places.start(index) == Some(start),
@@ -102,7 +104,7 @@ fn has_start(places: &Layout, index: u32, digits: &str) -> bool {
     }
 }
 
-/// Whether the files stand just there.
+/// Whether the files are at exactly these offsets.
 pub fn has_starts(places: &Layout, starts: &str) -> bool {
     let mut index = 0u32;
     for digits in starts.split_whitespace() {
@@ -139,7 +141,7 @@ fn is_written(alloc: Global, view: &VolumeView<'_>, image: &[u8]) -> bool {
     }
 }
 
-// Whether the view has this image, and its files stand there just so.
+// Whether the view has this image, and its files are at exactly these offsets in it.
 fn is_placed(alloc: Global, view: &VolumeView<'_>, image: &[u8], starts: &str) -> bool {
     match layout(alloc, view) {
         Ok(places) => {
@@ -151,7 +153,7 @@ fn is_placed(alloc: Global, view: &VolumeView<'_>, image: &[u8], starts: &str) -
     }
 }
 
-// Whether the bytes are a volume with this image, whose files stand there just so.
+// Whether the bytes are a volume with this image, and its files are at exactly these offsets in it.
 fn has_placed_image(alloc: Global, volume: &[u8], image: &[u8], starts: &str) -> bool {
     match read_volume(alloc, volume) {
         Ok((view, length)) => {
@@ -163,7 +165,7 @@ fn has_placed_image(alloc: Global, volume: &[u8], image: &[u8], starts: &str) ->
     }
 }
 
-// Volumes with their images, and where the files stand in those.
+// Volumes with their images, and the offsets of the files in these.
 fn laid_out() -> &'static str {
     "\
     empty: empty -> \n\
@@ -175,7 +177,7 @@ fn laid_out() -> &'static str {
     "
 }
 
-// Whether the files of the volume stand in its image where a line tells.
+// Whether the files of the volume are in its image where a line says.
 fn is_laid_out(alloc: Global, line: &str) -> Option<bool> {
     let (name, other, starts) = row_of(line)?;
     let starts = starts?;
@@ -191,7 +193,8 @@ fn files_have_their_starts(rt: HostRuntime) {
     }
 }
 
-// Whether what is told of bytes that have no image is that they do not fit, or the same fault.
+// Whether, for bytes that have no image, the result says that they do not fit, or is the same
+// fault.
 fn is_refused_alike(fault: Fault, told: Result<bool, Fault>) -> bool {
     match told {
         Ok(answer) => {
@@ -201,8 +204,8 @@ fn is_refused_alike(fault: Fault, told: Result<bool, Fault>) -> bool {
     }
 }
 
-// Whether the answers on some bytes are one: true where they are their own image, false where they have another or do
-// not fit, and refused alike elsewhere.
+// Whether two calls agree on some bytes: true if they are their own image, false if they have
+// another image or do not fit, and else the same fault.
 fn is_one_answer(alloc: Global, bytes: &[u8]) -> bool {
     let told = is_canonical(alloc, bytes);
     match normalise(alloc, bytes) {
@@ -211,7 +214,8 @@ fn is_one_answer(alloc: Global, bytes: &[u8]) -> bool {
     }
 }
 
-// The first place of a volume at which another byte gets two answers, or 0 where there is no such volume.
+// The first offset of a volume at which another byte makes the two calls disagree, or 0 if there is
+// no such volume.
 fn two_answers(alloc: Global, name: &str) -> Option<usize> {
     let Some(mut bytes) = bytes_of(alloc, name) else {
         return Some(0);

@@ -29,8 +29,8 @@ fn endless() -> &'static str {
     "
 }
 
-// Whether the plan writes the line and ends as refused, where its first input, or its second behind this volume, does
-// not end.
+// Whether the plan writes the line and ends as Refused, if its first input, or its second after
+// this volume, does not end.
 fn ends_too_long(alloc: Global, plan: &Plan, volume: Option<&[u8]>, line: &str) -> bool {
     let first = match volume {
         Some(bytes) => Input::Standard(FakeReader::new(bytes, 64, false)),
@@ -41,8 +41,8 @@ fn ends_too_long(alloc: Global, plan: &Plan, volume: Option<&[u8]>, line: &str) 
     ends_as(alloc, plan, inputs, writer, (2, line.as_bytes()))
 }
 
-// Whether a command is refused as its line tells. Where the second of its inputs does not end, the first is the empty
-// volume.
+// Whether a command is rejected as its line says. If the second of its inputs does not end, the
+// first is the empty volume.
 fn is_too_long(alloc: Global, hex: bool, line: &str) -> Option<bool> {
     let (command, side, fault) = row_of(line)?;
     let told = format!(in alloc; "{}\n", fault?).ok()?;
@@ -56,7 +56,7 @@ fn is_too_long(alloc: Global, hex: bool, line: &str) -> Option<bool> {
     Some(ends_too_long(alloc, &plan, front, told.as_str()))
 }
 
-// Of hexadecimal text, text that is wrong too.
+// For hexadecimal text, text that is wrong is tried too.
 #[test]
 fn inputs_without_end_are_too_long(rt: HostRuntime) {
     for line in endless().lines() {
@@ -88,7 +88,7 @@ fn interruptions_run_out(rt: HostRuntime) {
     assert!(rt; port.into_inner().calls == 1_073_741_826);
 }
 
-// The bytes `ab`, or their digits as text, from a reader each of whose second calls is interrupted.
+// The bytes `ab`, or their digits as text, from a reader whose every second call is interrupted.
 fn reads_on(alloc: Global, hex: bool, given: &[u8]) -> bool {
     let mut port = Port::new(FakeReader::new(given, 1, true));
     match read_bytes(alloc, hex, &mut port) {

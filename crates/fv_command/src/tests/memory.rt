@@ -1,5 +1,5 @@
-//! Refused memory in the calls of fv_canon, where `.ci/memory` refuses each allocation of the test in turn: no other
-//! answer stands in its place.
+//! Failed allocations in the calls of fv_canon: `.ci/memory` makes each allocation of the test fail
+//! in turn, and no wrong result may be returned.
 
 use super::images::has_starts;
 use super::spelling::bytes_of;
@@ -12,7 +12,7 @@ use fv_canon::{
 use fv_tree::{FileView, Item, Lookup, VolumeView, read_volume, section_by_type};
 use std::alloc::Global;
 
-// The bytes that words spell. Where memory was refused to them, it is there the second time.
+// The bytes that words spell. If memory runs out for them, it is there the second time.
 fn spelled(alloc: Global, words: &str) -> Option<Vec<u8>> {
     match bytes_of(alloc, words) {
         None => bytes_of(alloc, words),
@@ -20,12 +20,12 @@ fn spelled(alloc: Global, words: &str) -> Option<Vec<u8>> {
     }
 }
 
-// What a call answers that was refused memory.
+// What a call returns if memory ran out.
 fn want() -> Fault {
     Fault::outer(FaultKind::OutOfMemory, 0)
 }
 
-// Whether these bytes are made, or memory was refused.
+// Whether these bytes are made, or memory ran out.
 fn is_made(made: Result<ByteList, Fault>, wanted: &[u8]) -> bool {
     match made {
         Ok(bytes) => bytes.as_slice() == wanted,
@@ -33,13 +33,14 @@ fn is_made(made: Result<ByteList, Fault>, wanted: &[u8]) -> bool {
     }
 }
 
-// Whether it is told so of a volume that it is its own image, or memory was refused.
+// Whether the result says that a volume is its own image, or not, as expected, or memory ran out.
 fn is_own(alloc: Global, volume: &[u8], wanted: bool) -> bool {
     let answer = is_canonical(alloc, volume);
     answer == Ok(wanted) || answer == Err(want())
 }
 
-// Whether the files are laid out there, or memory was refused. Then no more is taken to write the image.
+// Whether the files are laid out there, or memory ran out. After that, writing the image takes no
+// more memory.
 fn is_laid_out(alloc: Global, view: &VolumeView, image: &[u8], starts: &str) -> bool {
     let places = match layout(alloc, view) {
         Ok(places) => places,
@@ -52,7 +53,7 @@ fn is_laid_out(alloc: Global, view: &VolumeView, image: &[u8], starts: &str) -> 
     is_done && &taken[..room] == image && has_starts(&places, starts)
 }
 
-// Whether a run writes the image, or nothing where memory was refused.
+// Whether a run writes the image, or nothing if memory ran out.
 fn is_run(alloc: Global, volume: &[u8], image: &[u8]) -> bool {
     let mut taken = [0u8; 392];
     let room = image.len().min(392);
@@ -64,7 +65,7 @@ fn is_run(alloc: Global, volume: &[u8], image: &[u8]) -> bool {
     }
 }
 
-// Whether the image of a view is made, or memory was refused.
+// Whether the image of a view is made, or memory ran out.
 fn is_imaged(alloc: Global, volume: &[u8], image: &[u8], starts: &str) -> bool {
     match read_volume(alloc, volume) {
         Ok((view, _)) => {
@@ -74,7 +75,8 @@ fn is_imaged(alloc: Global, volume: &[u8], image: &[u8], starts: &str) -> bool {
     }
 }
 
-// Whether each call on the volume of a line, its image and the starts of its files answers, or memory was refused.
+// Whether each call on the volume of a line, its image and the starts of its files returns the
+// right result, or memory ran out.
 fn is_answered(alloc: Global, line: &str) -> Option<bool> {
     let (name, other, starts) = row_of(line)?;
     let volume = spelled(alloc, name)?;
@@ -89,7 +91,7 @@ fn is_answered(alloc: Global, line: &str) -> Option<bool> {
     )
 }
 
-// Whether the data of a file and the volume in it are made, or memory was refused.
+// Whether the data of a file and the volume in it are made, or memory ran out.
 fn is_part(alloc: Global, file: &FileView, image: &[u8]) -> bool {
     let Lookup::Found(Item::Section(section)) = section_by_type(file, 0x17, 1) else {
         return false;
@@ -100,7 +102,7 @@ fn is_part(alloc: Global, file: &FileView, image: &[u8]) -> bool {
     is_made(file_bytes(alloc, file), data) && is_made(body_bytes(alloc, section), body)
 }
 
-// Whether the first file of a volume is, or memory was refused.
+// Whether those of the first file of a volume are made, or memory ran out.
 fn has_parts(alloc: Global, volume: &[u8], image: &[u8]) -> bool {
     match read_volume(alloc, volume) {
         Ok((view, _)) => view.file(0).is_some_and(|file| is_part(alloc, file, image)),
@@ -108,7 +110,7 @@ fn has_parts(alloc: Global, volume: &[u8], image: &[u8]) -> bool {
     }
 }
 
-// Whether two volumes are compared, or nothing is written where memory was refused.
+// Whether two volumes are compared, or nothing is written because memory ran out.
 fn is_compared(alloc: Global, first: &[u8], second: &[u8]) -> bool {
     let line = b"different at file 0 attributes\n";
     let mut taken = [0u8; 31];
@@ -124,7 +126,7 @@ fn is_compared(alloc: Global, first: &[u8], second: &[u8]) -> bool {
     }
 }
 
-// Whether the parts of one volume are made, and two others compared, or memory was refused.
+// Whether the parts of one volume are made, and two others compared, or memory ran out.
 fn are_others_answered(alloc: Global) -> Option<bool> {
     let volume = spelled(alloc, "nested-with-deleted-file")?;
     let image = spelled(alloc, "nested-image")?;
@@ -133,7 +135,7 @@ fn are_others_answered(alloc: Global) -> Option<bool> {
     Some(has_parts(alloc, &volume, &image) && is_compared(alloc, &first, &second))
 }
 
-/// Volumes with their images, and where the files stand in those.
+/// Volumes with their images, and the offsets of the files in these.
 const LINES: [&str; 2] = [
     "three-aligned-392: three-aligned-392-image -> 72 136 360",
     "nested-with-deleted-file: nested-image -> 72",

@@ -14,7 +14,7 @@ fn bytes(alloc: Global) -> Option<Vec<u8>> {
     Some(bytes)
 }
 
-// Puts the digits, with another character at a place.
+// Appends the digits, with another character at an offset.
 fn put_text(text: &mut Vec<u8>, digits: &[u8], place: usize, other: u8) -> Option<()> {
     let (front, back) = digits.split_at_checked(place)?;
     text.extend_from_slice(front).ok()?;
@@ -22,7 +22,7 @@ fn put_text(text: &mut Vec<u8>, digits: &[u8], place: usize, other: u8) -> Optio
     text.extend_from_slice(back).ok()
 }
 
-// The 70,000 digits of the bytes, with another character at a place.
+// The 70,000 digits of the bytes, with another character at an offset.
 fn text(alloc: Global, bytes: &[u8], place: usize, other: u8) -> Option<Vec<u8>> {
     let digits = hex::encode(alloc, bytes).ok()?;
     let mut text = Vec::new(alloc);
@@ -30,7 +30,7 @@ fn text(alloc: Global, bytes: &[u8], place: usize, other: u8) -> Option<Vec<u8>>
     Some(text)
 }
 
-// Whether a space at a place is passed over.
+// Whether a space at an offset is skipped.
 fn is_passed(alloc: Global, bytes: &[u8], place: usize) -> bool {
     match text(alloc, bytes, place, b' ') {
         Some(spaced) => is_read_as(alloc, &spaced, bytes),
@@ -38,7 +38,8 @@ fn is_passed(alloc: Global, bytes: &[u8], place: usize) -> bool {
     }
 }
 
-// Whether another character at a place, in the stead of a digit, refuses the first 70,000 bytes of text.
+// Whether another character at an offset, instead of a digit, makes the first 70,000 bytes of text
+// wrong.
 fn is_wrong_at(alloc: Global, bytes: &[u8], place: usize) -> Option<bool> {
     let wrong = text(alloc, bytes, place, b'g')?;
     let reader = FakeReader::new(wrong.get(..70_000)?, 65_536, false);
@@ -46,15 +47,15 @@ fn is_wrong_at(alloc: Global, bytes: &[u8], place: usize) -> Option<bool> {
     Some(stops_with(alloc, reader, fault))
 }
 
-// Whether a space at a place is passed over, and another character refuses the text.
+// Whether a space at an offset is skipped, and another character makes the text wrong.
 fn is_split(alloc: Global, place: usize) -> Option<bool> {
     let bytes = bytes(alloc)?;
     Some(is_passed(alloc, &bytes, place) && is_wrong_at(alloc, &bytes, place) == Some(true))
 }
 
-// A read asks for 65,536 bytes. The character stands in the middle of the first pair, so that the edge of the first
-// piece parts another; in the middle of a pair, at the end of that piece; between two pairs, at the front of the next;
-// or last.
+// A read asks for 65,536 bytes. The character is in the middle of the first pair, so that the end
+// of the first piece splits another pair; in the middle of a pair, at the end of that piece;
+// between two pairs, at the front of the next piece; or last.
 #[test]
 fn text_may_take_two_pieces(rt: HostRuntime) {
     for place in [1, 65_535, 65_536, 69_999] {

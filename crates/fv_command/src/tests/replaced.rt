@@ -14,14 +14,14 @@ fn is_own(alloc: Global, bytes: &[u8]) -> bool {
     }
 }
 
-// Whether two volumes have one meaning.
+// Whether two volumes have the same meaning.
 fn is_alike(alloc: Global, bytes: &[u8], others: &[u8]) -> Option<bool> {
     let (volume, _) = read_volume(alloc, bytes).ok()?;
     let (other, _) = read_volume(alloc, others).ok()?;
     Some(matches!(first_difference(alloc, &volume, &other), Ok(None)))
 }
 
-// Whether the image of some bytes is its own image, and a volume of their meaning.
+// Whether the image of some bytes is its own image, and a volume with their meaning.
 fn is_kept(alloc: Global, bytes: &[u8], image: &[u8]) -> bool {
     is_own(alloc, image) && is_alike(alloc, bytes, image) == Some(true)
 }
@@ -68,7 +68,7 @@ fn whatever_has_an_image_keeps_it(rt: HostRuntime) {
     }
 }
 
-// Puts what stands behind the GUID in the head of a volume of this length, with this checksum.
+// Appends what follows the GUID in the head of a volume of this length, with this checksum.
 fn put_head(bytes: &mut Vec<u8>, length: u32, sum: u16) -> Result<(), AllocError> {
     bytes.extend_from_slice(&u64::from(length).to_le_bytes())?;
     bytes.extend_from_slice(b"_FVH\xff\xfe\x04\x00\x48\x00")?;
@@ -94,7 +94,7 @@ fn file_of(number: u16) -> [u8; 24] {
     ]
 }
 
-// Puts so many such files.
+// Appends `count` such files.
 fn put_files(bytes: &mut Vec<u8>, count: u16) -> Result<(), AllocError> {
     for number in 0..count {
         bytes.extend_from_slice(&file_of(number))?;
@@ -112,7 +112,7 @@ fn sum_of(alloc: Global, length: u32) -> Option<u16> {
     }
 }
 
-// A volume of so many such files, and of nothing else.
+// A volume with `count` such files, and nothing else.
 fn volume_of(alloc: Global, count: u16) -> Option<Vec<u8>> {
     let length = 72 + 24 * u32::from(count);
     let sum = sum_of(alloc, length)?;

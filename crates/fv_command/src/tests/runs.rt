@@ -1,10 +1,11 @@
-//! Runs of a plan over readers and a writer, as lines of a table tell them.
+//! Runs of a plan over readers and a writer, as the lines of a table describe them.
 //!
-//! A line is a command, a colon, its inputs, with an ampersand before the second, and behind an arrow the status and
-//! what is written. An input is words that spell it, or text behind an apostrophe, which is read as hexadecimal text
-//! alone. What is written is lines that end with a bar, or, behind an equals sign, words that spell bytes. Behind
-//! `extract` stand the byte that the file's name is made of, the type of the section or a hyphen, and which one; behind
-//! `hobs` the address of an image, if there is one.
+//! A line is a command, a colon, its inputs, with an ampersand before the second, and after an
+//! arrow the status and what is written. An input is words that spell it, or text after an
+//! apostrophe, which is only read as hexadecimal text. What is written is lines that end with a
+//! bar, or, after an equals sign, words that spell bytes. After `extract` come the byte that the
+//! file's name is made of, the type of the section or a hyphen, and which one; after `hobs` comes
+//! the address of an image, if there is one.
 
 use super::answers::{answers, small};
 use super::checked::checked;
@@ -21,7 +22,7 @@ use fv_base::{Guid, Port};
 use std::alloc::Global;
 use std::io::Read;
 
-/// An input that can be read, or a file that is not there.
+/// An input that can be read, or a file that does not exist.
 type Input<'a> = Source<FakeReader<'a>, FakeReader<'a>>;
 
 /// A run, and how it ends.
@@ -44,7 +45,7 @@ fn byte_of(digits: &str) -> Option<u8> {
     u8::from_str_radix(digits, 16).ok()
 }
 
-// The part that the words behind `extract` name.
+// The part that the words after `extract` name.
 fn part_of(words: &str) -> Option<Part> {
     let (name, rest) = words.split_once(' ')?;
     let (section, instance) = rest.split_once(' ')?;
@@ -55,7 +56,7 @@ fn part_of(words: &str) -> Option<Part> {
     })
 }
 
-// The image at the address that stands behind `hobs`, if one does.
+// The image at the address after `hobs`, if there is one.
 fn image_of(alloc: Global, words: &str) -> Option<ImageFile> {
     let base = number_of(words)?;
     let path = String::new(alloc);
@@ -75,7 +76,7 @@ fn task_of(name: &str, words: &str) -> Option<Task> {
     }
 }
 
-/// The plan that a command is.
+/// The plan of a command.
 pub fn plan_of(alloc: Global, hex: bool, line: &str) -> Option<Plan> {
     let (name, words) = line.split_once(' ').unwrap_or((line, ""));
     let command = match name.as_bytes() {
@@ -95,7 +96,7 @@ pub fn plan_of(alloc: Global, hex: bool, line: &str) -> Option<Plan> {
     Some(Plan { hex, command })
 }
 
-/// The bytes that are read or written where the words spell some, or their digits.
+/// The bytes that are read or written for words that spell some: these bytes, or their digits.
 pub fn shown(alloc: Global, hex: bool, words: &str) -> Option<Vec<u8>> {
     let bytes = bytes_of(alloc, words)?;
     if hex {
@@ -127,7 +128,7 @@ fn output_of(alloc: Global, hex: bool, text: &str) -> Option<Vec<u8>> {
     Some(bytes)
 }
 
-// The run that a line tells, over bytes or hexadecimal text.
+// The run that a line describes, over bytes or hexadecimal text.
 fn run_of(alloc: Global, hex: bool, line: &str) -> Option<Run> {
     let (command, rest) = line.split_once(": ")?;
     let (inputs, told) = rest.split_once(" -> ")?;
@@ -147,7 +148,7 @@ fn run_of(alloc: Global, hex: bool, line: &str) -> Option<Run> {
     })
 }
 
-/// Whether a run of the plan ends with the status, and writes these bytes and then no more.
+/// Whether a run of the plan ends with the status, and writes these bytes and nothing after them.
 pub fn ends_as<First: Read + Drop, Second: Read + Drop>(
     alloc: Global,
     plan: &Plan,
@@ -162,7 +163,7 @@ pub fn ends_as<First: Read + Drop, Second: Read + Drop>(
     u64::from(status.code()) == told.0 && writer.into_inner().took(told.1)
 }
 
-// Whether the run ends so, where its readers give so many bytes at once.
+// Whether the run ends as expected if its readers give `step` bytes at once.
 fn ends_by_steps(alloc: Global, run: &Run, step: usize) -> bool {
     let first = Input::File(FakeReader::new(&run.first, step, true));
     let second = Input::Standard(FakeReader::new(&run.second, step, false));
@@ -176,7 +177,8 @@ fn ends_by_steps(alloc: Global, run: &Run, step: usize) -> bool {
     )
 }
 
-// Whether the run is refused where the writer has no room for more, and writes what there is room for.
+// Whether the run ends as Refused if the writer has no more room, and writes what there is room
+// for.
 fn stops_its_output(alloc: Global, run: &Run, room: usize) -> bool {
     for (step, is_broken) in [(7, false), (7, true), (1000, true)] {
         let first = Input::Standard(FakeReader::new(&run.first, 4096, false));
@@ -190,7 +192,7 @@ fn stops_its_output(alloc: Global, run: &Run, room: usize) -> bool {
     true
 }
 
-// The line of a reader that fails behind so many bytes.
+// The line of a reader that fails after `count` bytes.
 fn line_at(alloc: Global, run: &Run, side: &str, count: usize) -> Option<String> {
     let side = match run.plan.command {
         Command::Compare { .. } => side,
@@ -199,14 +201,14 @@ fn line_at(alloc: Global, run: &Run, side: &str, count: usize) -> Option<String>
     format!(in alloc; "{side}fault 25 at {count}\n").ok()
 }
 
-// Whether the run ends with the line where its first reader is this one. What stands behind is not read.
+// Whether the run ends with the line if its first reader is this one. What follows is not read.
 fn ends_at_first(alloc: Global, plan: &Plan, first: FakeReader<'_>, line: &str) -> bool {
     let writer = FakeWriter::new(alloc, 7, usize::MAX, true);
     let inputs = (Input::File(first), Input::Missing);
     ends_as(alloc, plan, inputs, writer, (2, line.as_bytes()))
 }
 
-// Whether the run is refused where the reader of its first input fails there.
+// Whether the run ends as Refused if the reader of its first input fails there.
 fn stops_at_first(alloc: Global, run: &Run, step: usize, count: usize) -> bool {
     let reader = FakeReader::failing(&run.first, step, count);
     match line_at(alloc, run, "first ", count) {
@@ -215,7 +217,7 @@ fn stops_at_first(alloc: Global, run: &Run, step: usize, count: usize) -> bool {
     }
 }
 
-// Whether the run over the first input ends with the line where its second reader is this one.
+// Whether the run over the first input ends with the line if its second reader is this one.
 fn ends_at_second(alloc: Global, run: &Run, second: FakeReader<'_>, line: &str) -> bool {
     let first = Input::Standard(FakeReader::new(&run.first, 4096, false));
     let writer = FakeWriter::new(alloc, 7, usize::MAX, true);
@@ -223,7 +225,7 @@ fn ends_at_second(alloc: Global, run: &Run, second: FakeReader<'_>, line: &str) 
     ends_as(alloc, &run.plan, inputs, writer, (2, line.as_bytes()))
 }
 
-// Whether the run is refused where the reader of its second input fails there.
+// Whether the run ends as Refused if the reader of its second input fails there.
 fn stops_at_second(alloc: Global, run: &Run, step: usize, count: usize) -> bool {
     let reader = FakeReader::failing(&run.second, step, count);
     match line_at(alloc, run, "second ", count) {
@@ -232,7 +234,8 @@ fn stops_at_second(alloc: Global, run: &Run, step: usize, count: usize) -> bool 
     }
 }
 
-// Whether the line tells how its run over bytes, or over hexadecimal text, ends by steps of this size.
+// Whether the line says how its run over bytes, or over hexadecimal text, ends by steps of this
+// size.
 fn is_told_by_steps(alloc: Global, hex: bool, line: &str, step: usize) -> bool {
     match run_of(alloc, hex, line) {
         Some(run) => ends_by_steps(alloc, &run, step),
@@ -245,7 +248,7 @@ fn has_text(line: &str) -> bool {
     line.split_once('\'').is_some()
 }
 
-/// Whether a line tells how its run ends, over bytes and over hexadecimal text.
+/// Whether a line says how its run ends, over bytes and over hexadecimal text.
 pub fn is_told(alloc: Global, line: &str) -> bool {
     if !has_text(line) && !is_told_by_steps(alloc, false, line, 50) {
         return false;
@@ -253,7 +256,7 @@ pub fn is_told(alloc: Global, line: &str) -> bool {
     is_told_by_steps(alloc, true, line, 50)
 }
 
-// Whether the run stops at each byte of its output, where the writer does.
+// Whether the run stops at each byte of its output if the writer stops there.
 fn stops_in_output(alloc: Global, run: &Run) -> bool {
     for room in 0..run.written.len() {
         if !stops_its_output(alloc, run, room) {
@@ -263,7 +266,7 @@ fn stops_in_output(alloc: Global, run: &Run) -> bool {
     true
 }
 
-// Whether the run stops at each byte of its first input, where the reader does.
+// Whether the run stops at each byte of its first input if the reader stops there.
 fn stops_in_first(alloc: Global, run: &Run, step: usize) -> bool {
     for count in 0..=run.first.len() {
         if !stops_at_first(alloc, run, step, count) {
@@ -273,7 +276,7 @@ fn stops_in_first(alloc: Global, run: &Run, step: usize) -> bool {
     true
 }
 
-// Whether the run stops at each byte of its second input, if there is one, where the reader does.
+// Whether the run stops at each byte of its second input, if it has one, if the reader stops there.
 fn stops_in_second(alloc: Global, run: &Run, step: usize) -> bool {
     if run.second.is_empty() {
         return true;
@@ -286,14 +289,16 @@ fn stops_in_second(alloc: Global, run: &Run, step: usize) -> bool {
     true
 }
 
-// Whether the run ends as it should by steps of this size, and stops at each byte of its inputs where a reader does.
+// Whether the run ends as it should by steps of this size, and stops at each byte of its inputs if
+// a reader stops there.
 fn stops_by_steps(alloc: Global, run: &Run, step: usize) -> bool {
     ends_by_steps(alloc, run, step)
         && stops_in_first(alloc, run, step)
         && stops_in_second(alloc, run, step)
 }
 
-// Whether the run ends as it should, however few bytes are read and written at once, and stops at each byte.
+// Whether the run ends as it should, however few bytes are read and written at once, and stops at
+// each byte.
 fn stops(alloc: Global, run: &Run) -> bool {
     for step in [1, 3, 65_536] {
         if !stops_by_steps(alloc, run, step) {
@@ -303,7 +308,7 @@ fn stops(alloc: Global, run: &Run) -> bool {
     stops_in_output(alloc, run)
 }
 
-// Whether the run of a line over bytes, or over hexadecimal text, stops so.
+// Whether the run of a line, over bytes or over hexadecimal text, stops like this.
 fn stops_over(alloc: Global, hex: bool, line: &str) -> bool {
     match run_of(alloc, hex, line) {
         Some(run) => stops(alloc, &run),
@@ -311,7 +316,7 @@ fn stops_over(alloc: Global, hex: bool, line: &str) -> bool {
     }
 }
 
-// Whether the runs of a line over bytes and over hexadecimal text stop so.
+// Whether the runs of a line over bytes and over hexadecimal text stop like this.
 fn stops_in_time(alloc: Global, line: &str) -> bool {
     if !has_text(line) && !stops_over(alloc, false, line) {
         return false;
@@ -335,7 +340,7 @@ fn runs_stop_with_their_readers_and_writers(rt: HostRuntime) {
     }
 }
 
-// Runs of the commands that read a volume, over one that is refused.
+// Runs of the commands that read a volume, over a volume that is rejected.
 fn refusing() -> &'static str {
     "\
     normalise: VOLUME -> 2 FAULT|\n\
@@ -348,14 +353,14 @@ fn refusing() -> &'static str {
     "
 }
 
-// The line with the volume and the fault put in.
+// The line with the volume and the fault filled in.
 fn filled(alloc: Global, line: &str, words: &str, fault: &str) -> Option<String> {
     let (front, rest) = line.split_once("VOLUME")?;
     let (middle, _) = rest.split_once("FAULT")?;
     format!(in alloc; "{front}{words}{middle}{fault}|").ok()
 }
 
-// Whether the run of the line is told, with the volume and the fault put in.
+// Whether the line, with the volume and the fault filled in, says how its run ends.
 fn is_told_filled(alloc: Global, line: &str, words: &str, fault: &str) -> bool {
     match filled(alloc, line, words, fault) {
         Some(line) => is_told(alloc, line.as_str()),
@@ -363,7 +368,7 @@ fn is_told_filled(alloc: Global, line: &str, words: &str, fault: &str) -> bool {
     }
 }
 
-// Whether each command that reads a volume refuses the one that the words spell, and tells the fault.
+// Whether each command that reads a volume rejects the one that the words spell, with this fault.
 fn is_refused(alloc: Global, words: &str, fault: &str) -> bool {
     for line in refusing().lines() {
         if !is_told_filled(alloc, line, words, fault) {
@@ -373,7 +378,7 @@ fn is_refused(alloc: Global, words: &str, fault: &str) -> bool {
     true
 }
 
-// Whether the volume of a line is refused as it tells.
+// Whether the volume of a line is rejected as the line says.
 fn is_row_refused(alloc: Global, line: &str) -> bool {
     match row_of(line) {
         Some((name, _, Some(fault))) => is_refused(alloc, name, fault),
@@ -381,13 +386,13 @@ fn is_row_refused(alloc: Global, line: &str) -> bool {
     }
 }
 
-// The first bytes of the empty volume, so many, as digits.
+// The first `count` bytes of the empty volume, as digits.
 fn digits_of_front(alloc: Global, count: usize) -> Option<String> {
     let volume = bytes_of(alloc, "empty")?;
     hex::encode(alloc, volume.get(..count)?).ok()
 }
 
-// Whether the first bytes of a volume, so many, are refused at their end.
+// Whether the first `count` bytes of a volume are rejected at their end.
 fn is_cut_short(alloc: Global, count: usize) -> Option<bool> {
     let words = digits_of_front(alloc, count)?;
     let fault = format!(in alloc; "fault 1 at {count}").ok()?;

@@ -1,4 +1,4 @@
-//! What an image holds where a volume should lie.
+//! What an image holds where a volume should be.
 
 use crate::hex_text::read_hex;
 use crate::hob_text::{Standing, standing_of};
@@ -6,7 +6,7 @@ use fv_base::Port;
 use fv_hob::Span;
 use std::test::Fail;
 
-/// An empty volume, and behind it 8 bytes.
+/// An empty volume, and 8 bytes after it.
 const IMAGE: &[u8] = b"\
 0000000000000000000000000000000078e58c8c3d8a1c4f9935896185c32dd3\n\
 80000000000000005f465648fffe04004800cef5000000020100000080000000\n\

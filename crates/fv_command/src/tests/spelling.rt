@@ -10,7 +10,7 @@ pub fn number_of(digits: &str) -> Option<u64> {
     digits.parse().ok()
 }
 
-// The words, with those of a line of the table in the place of its name.
+// The words, with the name of a line of the table replaced by the words of that line.
 fn expanded(alloc: Global, table: &str, text: &str) -> Option<String> {
     let mut words = String::new(alloc);
     for word in text.split_whitespace() {
@@ -22,7 +22,7 @@ fn expanded(alloc: Global, table: &str, text: &str) -> Option<String> {
     Some(words)
 }
 
-// Puts the part behind the bytes, so often.
+// Appends the part `count` times.
 fn repeat(bytes: &mut Vec<u8>, part: &[u8], count: u64) -> Option<()> {
     for _ in 0..count {
         bytes.extend_from_slice(part).ok()?;
@@ -30,7 +30,7 @@ fn repeat(bytes: &mut Vec<u8>, part: &[u8], count: u64) -> Option<()> {
     Some(())
 }
 
-// Puts what a word of digits spells behind the bytes, as often as the number behind its star says.
+// Appends what a word of digits spells, as often as the number after its star says.
 fn spell(alloc: Global, bytes: &mut Vec<u8>, word: &str) -> Option<()> {
     let (digits, number) = word.split_once('*').unwrap_or((word, "1"));
     let count = number_of(number)?;
@@ -56,7 +56,7 @@ pub fn bytes_of(alloc: Global, text: &str) -> Option<Vec<u8>> {
     spelled(alloc, words.as_str())
 }
 
-// Puts the digits as lines of 64, each with a line feed.
+// Appends the digits as lines of 64, each with a line feed.
 fn put_lines(lines: &mut Vec<u8>, digits: &[u8]) -> Result<(), AllocError> {
     for line in digits.chunks(64) {
         lines.extend_from_slice(line)?;

@@ -8,13 +8,13 @@ use fv_canon::{Side, run_compare};
 use std::alloc::Global;
 use std::io::Read;
 
-/// An input that does not end, one that does, or a file that is not there.
+/// An input that does not end, one that does, or a file that does not exist.
 type Input<'a> = Source<EndlessReader, FakeReader<'a>>;
 
 /// What is written of the two volumes.
 const LINE: &[u8; 31] = b"different at file 0 attributes\n";
 
-// Whether a comparison answers so, and writes the bytes and then no more.
+// Whether a comparison returns this, and writes the bytes and nothing after them.
 fn answers<R: Read + Drop, Q: Read + Drop>(
     alloc: Global,
     first: &mut Port<R>,
@@ -27,7 +27,8 @@ fn answers<R: Read + Drop, Q: Read + Drop>(
     answered == told.0 && writer.into_inner().took(told.1)
 }
 
-// Whether nothing is written where the reader of a side stops the run with this fault. What stands behind is not read.
+// Whether nothing is written if the reader of a side stops the run with this fault. What follows is
+// not read.
 fn stops(alloc: Global, side: Side, volume: &[u8], stopping: Input<'_>, fault: Fault) -> bool {
     let writer = FakeWriter::new(alloc, 7, usize::MAX, true);
     let told = (Err((side, fault)), b"".as_slice());
@@ -40,7 +41,7 @@ fn stops(alloc: Global, side: Side, volume: &[u8], stopping: Input<'_>, fault: F
     answers(alloc, &mut first, &mut stopping, writer, told)
 }
 
-// Whether the run stops where the reader of either side fails behind so many bytes.
+// Whether the run stops if the reader of either side fails after `count` bytes.
 fn stops_reading(alloc: Global, first: &[u8], second: &[u8], step: usize, count: usize) -> bool {
     let fault = Fault::outer(FaultKind::ReadFault, count as u64);
     let failing = Input::File(FakeReader::failing(first, step, count));
@@ -49,7 +50,8 @@ fn stops_reading(alloc: Global, first: &[u8], second: &[u8], step: usize, count:
         && stops(alloc, Side::Second, first, other, fault)
 }
 
-// Whether the run ends so where the writer has room for so many bytes, and fails then or takes no byte.
+// Whether the run ends as expected if the writer has room for `room` bytes, and then fails or takes
+// no byte.
 fn ends(alloc: Global, first: &[u8], second: &[u8], step: usize, room: usize) -> bool {
     let fault = Fault::outer(FaultKind::WriteFault, room as u64);
     let wanted = &LINE[..room.min(LINE.len())];
@@ -69,7 +71,7 @@ fn ends(alloc: Global, first: &[u8], second: &[u8], step: usize, room: usize) ->
     true
 }
 
-// Whether a run is given up whose reader of a side is interrupted for ever, behind 2 bytes.
+// Whether a run stops if the reader of a side is interrupted for ever after 2 bytes.
 fn is_given_up(alloc: Global, side: Side, volume: &[u8]) -> bool {
     let fault = Fault::outer(FaultKind::ReadFault, 2);
     let told = (Err((side, fault)), b"".as_slice());
@@ -84,7 +86,8 @@ fn is_given_up(alloc: Global, side: Side, volume: &[u8]) -> bool {
     is_told && stalled.into_inner().calls == 268_435_458
 }
 
-// Whether the run of two volumes stops at each of their bytes, and of the line, where a reader or the writer does.
+// Whether the run over two volumes stops at each of their bytes, and of the line, if a reader or
+// the writer stops there.
 fn stops_in_time(alloc: Global, first: &[u8], second: &[u8], step: usize) -> bool {
     for count in 0..=128 {
         if !stops_reading(alloc, first, second, step, count) {

@@ -1,12 +1,14 @@
-//! Volumes and hand-off lists as text, in tables. A line is a name, a colon and words: digits, which a star and a
-//! number repeat, or the name of a line. Behind an arrow stands what comes of it.
+//! Volumes and hand-off lists as text, in tables. A line is a name, a colon and words: digits,
+//! which a star and a number repeat, or the name of a line. After an arrow comes the expected
+//! result.
 //!
-//! A table is one text, which one function names: one that names many texts is far slower to prove.
+//! A table is one text, which one function names: a function that names many texts is far slower to
+//! prove.
 
-/// The name of a line, its words, and what stands behind the arrow.
+/// The name of a line, its words, and what follows the arrow.
 pub type Row<'a> = (&'a str, &'a str, Option<&'a str>);
 
-// The words of a text, and what stands behind its arrow.
+// The words of a text, and what follows its arrow.
 fn parted(text: &str) -> (&str, Option<&str>) {
     match text.split_once(" -> ") {
         Some((words, told)) => (words, Some(told)),
@@ -21,7 +23,7 @@ pub fn row_of(line: &str) -> Option<Row<'_>> {
     Some((name, text, told))
 }
 
-/// The words of the line of that name.
+/// The words of the line with that name.
 pub fn text_named<'a>(table: &'a str, wanted: &str) -> Option<&'a str> {
     for line in table.lines() {
         let (name, text, _) = row_of(line)?;
@@ -32,8 +34,8 @@ pub fn text_named<'a>(table: &'a str, wanted: &str) -> Option<&'a str> {
     None
 }
 
-/// Heads of volumes by their length, with one block and no extended header; and the block that a hand-off list begins
-/// with.
+/// Heads of volumes by their length, with one block and no extended header; and the block at the
+/// start of a hand-off list.
 pub fn parts() -> &'static str {
     "\
     H72: 00*16 78e58c8c3d8a1c4f9935896185c32dd34800 00*6 5f465648fffe040048003ef600000002010000004800 00*10\n\
@@ -50,7 +52,7 @@ pub fn parts() -> &'static str {
     "
 }
 
-/// Volumes that have an image, and its words where it is another.
+/// Volumes that have an image, and its words if it is another volume.
 pub fn volumes() -> &'static str {
     "\
     depex-fault: H128 0a*16 3baa07001e0000f8060000130308 ff*26\n\
@@ -141,7 +143,8 @@ pub fn long() -> &'static str {
     "
 }
 
-/// Volumes that have none: two where they are at fault themselves, and two where one inside is.
+/// Volumes that have no image: two that do not fit themselves, and two with a volume inside that
+/// does not fit.
 pub fn unplaced() -> &'static str {
     "\
     ext-header-without-room: 00*16 78e58c8c3d8a1c4f9935896185c32dd368 00*7 \
@@ -157,7 +160,7 @@ pub fn unplaced() -> &'static str {
     "
 }
 
-/// Volumes that are refused, whatever stands behind them, with the line of the fault.
+/// Volumes that are rejected, whatever follows them, with the line of the fault.
 pub fn refused() -> &'static str {
     "\
     head-signature: 00*16 78e58c8c3d8a1c4f9935896185c32dd380 00*7 5f465649fffe04004800cef5000000020100000080 00*11 \

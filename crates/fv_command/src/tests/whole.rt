@@ -1,4 +1,4 @@
-//! Images in which volumes stand among other bytes.
+//! Images in which volumes are among other bytes.
 
 use super::spelling::bytes_of;
 use fv_base::Fault;
@@ -14,7 +14,7 @@ fn renewed() -> &'static str {
     "
 }
 
-// Images with the number, the offset and the depth of the fault that refuses them.
+// Images with the number, the offset and the depth of the fault.
 fn refused() -> &'static str {
     "\
     ff*64 file-state-bit -> 10 159 0\n\
@@ -23,14 +23,14 @@ fn refused() -> &'static str {
     "
 }
 
-// Whether the image of a line becomes that behind its arrow.
+// Whether the image of a line becomes the one after its arrow.
 fn becomes(alloc: Global, line: &str) -> Option<bool> {
     let (image, wanted) = line.split_once(" -> ")?;
     let answer = normalise_image(alloc, &bytes_of(alloc, image)?).ok()?;
     Some(answer.as_slice() == bytes_of(alloc, wanted)?.as_slice())
 }
 
-// The fault that refuses an image.
+// The fault with which an image is rejected.
 fn fault_of(alloc: Global, image: &str) -> Option<Fault> {
     let bytes = bytes_of(alloc, image)?;
     normalise_image(alloc, &bytes).err()
@@ -42,7 +42,7 @@ fn numbers_of(alloc: Global, fault: Fault) -> Option<String> {
     format!(in alloc; "{} {} {}", number, place.offset, place.depth).ok()
 }
 
-// Whether the image of a line is refused by the fault behind its arrow.
+// Whether the image of a line is rejected with the fault after its arrow.
 fn is_refused(alloc: Global, line: &str) -> Option<bool> {
     let (image, wanted) = line.split_once(" -> ")?;
     let fault = fault_of(alloc, image)?;

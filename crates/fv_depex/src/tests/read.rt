@@ -1,11 +1,11 @@
-//! Expressions that are read, and those that are refused.
+//! Expressions that are read, and expressions that are rejected.
 
 use super::{A, B, ORDER, Parts, fault_of, joined, long};
 use crate::{DepexFault, DepexFaultKind, Op, Phase, read_depex};
 use std::alloc::Global;
 use std::test::Fail;
 
-/// PUSH A, NOT and END: true where A is not installed.
+/// PUSH A, NOT and END: true if A is not installed.
 pub(super) const NOT_A: [u8; 19] = [
     0x02, 0x0a, 0x0a, 0x0a, 0x0a, 0x0a, 0x0a, 0x0a, 0x0a, 0x0a, 0x0a, 0x0a, 0x0a, 0x0a, 0x0a, 0x0a,
     0x0a, 0x05, 0x08,
@@ -13,11 +13,11 @@ pub(super) const NOT_A: [u8; 19] = [
 
 /// The phase, the body, and then the fault.
 const FAULTS: &[(Phase, Parts, DepexFaultKind, u64)] = &[
-    // No bytes, or none behind an op.
+    // No bytes, or none after an op.
     (Phase::Dxe, &[], DepexFaultKind::NoEnd, 0),
     (Phase::Dxe, &[&[0x06]], DepexFaultKind::NoEnd, 1),
     (Phase::Dxe, &[&[0x00], &A], DepexFaultKind::NoEnd, 17),
-    // Codes that no phase has, and those that PEI has not.
+    // Codes that no phase has, and those that PEI does not have.
     (Phase::Dxe, &[&[0x0a, 0x08]], DepexFaultKind::Opcode, 0),
     (Phase::Dxe, &[&[0xff]], DepexFaultKind::Opcode, 0),
     (
@@ -38,7 +38,7 @@ const FAULTS: &[(Phase, Parts, DepexFaultKind, u64)] = &[
         DepexFaultKind::Opcode,
         0,
     ),
-    // BEFORE, with a GUID or with none, and SOR, where they do not stand first.
+    // BEFORE, with a GUID or with none, and SOR, which are not first.
     (
         Phase::Dxe,
         &[&[0x06, 0x00], &A, &[0x08]],
@@ -52,7 +52,7 @@ const FAULTS: &[(Phase, Parts, DepexFaultKind, u64)] = &[
         DepexFaultKind::Position,
         1,
     ),
-    // Behind BEFORE: TRUE, AND without its values, and a code that no phase has.
+    // After BEFORE: TRUE, AND without its values, and a code that no phase has.
     (
         Phase::Dxe,
         &[&[0x00], &A, &[0x06, 0x08]],
@@ -71,7 +71,7 @@ const FAULTS: &[(Phase, Parts, DepexFaultKind, u64)] = &[
         DepexFaultKind::Opcode,
         17,
     ),
-    // GUIDs that are cut.
+    // GUIDs that are cut short.
     (Phase::Dxe, &[&[0x02, 0x0a]], DepexFaultKind::Short, 0),
     (Phase::Dxe, &[&[0x00, 0x0a, 0x0a]], DepexFaultKind::Short, 0),
     (Phase::Dxe, &[&[0x06, 0x02, 0x0a]], DepexFaultKind::Short, 1),
@@ -88,7 +88,7 @@ const FAULTS: &[(Phase, Parts, DepexFaultKind, u64)] = &[
 /// An op: its code, and the bytes of its GUID if it carries one.
 type Shown = (u8, &'static [u8]);
 
-/// The phase, the body, its ops, and the bytes behind END.
+/// The phase, the body, its ops, and the bytes after END.
 const READ: &[(Phase, Parts, &[Shown], &[u8])] = &[
     (
         Phase::Dxe,
@@ -108,7 +108,7 @@ const READ: &[(Phase, Parts, &[Shown], &[u8])] = &[
         &[(0x06, &[]), (0x08, &[])],
         &[0xff, 0xff],
     ),
-    // SOR first, and a second expression behind END.
+    // SOR first, and a second expression after END.
     (
         Phase::Dxe,
         &[&[0x09, 0x07, 0x08, 0x06, 0x08]],
@@ -148,7 +148,7 @@ const READ: &[(Phase, Parts, &[Shown], &[u8])] = &[
     ),
 ];
 
-// Whether an op carries the GUID of these bytes, or none where there are no bytes.
+// Whether an op carries the GUID with these bytes, or no GUID if there are no bytes.
 fn has_operand(op: &Op, operand: &[u8]) -> bool {
     match op {
         Op::Before(guid) | Op::After(guid) | Op::Push(guid) => {
@@ -159,7 +159,7 @@ fn has_operand(op: &Op, operand: &[u8]) -> bool {
     }
 }
 
-// How many ops from the first on are these, one behind the other.
+// How many ops from the first on are these, in this order.
 fn shown(found: &[Op], ops: &[Shown]) -> usize {
     let mut at = 0;
     for op in found {
@@ -170,7 +170,7 @@ fn shown(found: &[Op], ops: &[Shown]) -> usize {
     at
 }
 
-// How many of the ops a body is read as, if it has so many, and whether this is its rest.
+// How many ops a body is read as, if they are these, and whether this is its rest.
 fn read_as(
     alloc: Global,
     parts: Parts,
@@ -193,7 +193,7 @@ fn expressions_are_read(rt: HostRuntime) -> Result<(), Fail> {
     Ok(())
 }
 
-// How many ops an expression has, and how many bytes behind END.
+// How many ops an expression has, and how many bytes follow END.
 fn counts(alloc: Global, bytes: &[u8], phase: Phase) -> Result<(usize, usize), DepexFault> {
     let depex = read_depex(alloc, bytes, phase)?;
     Ok((depex.ops().len(), depex.rest().len()))
@@ -209,7 +209,7 @@ fn a_long_expression_is_read(rt: HostRuntime) -> Result<(), Fail> {
     Ok(())
 }
 
-// A value more than END takes.
+// One value more than END takes.
 #[test]
 fn a_long_expression_is_refused(rt: HostRuntime) -> Result<(), Fail> {
     let bytes = long(rt.alloc(), 0x07)?;
@@ -224,7 +224,7 @@ fn a_long_expression_is_refused(rt: HostRuntime) -> Result<(), Fail> {
     Ok(())
 }
 
-// The fault of a body, if it is refused.
+// The fault of a body, if it is rejected.
 fn fault_in(alloc: Global, parts: Parts, phase: Phase) -> Result<Option<DepexFault>, DepexFault> {
     let bytes = joined(alloc, parts)?;
     Ok(fault_of(alloc, bytes.as_slice(), phase))
@@ -246,7 +246,8 @@ fn faults_have_their_places(rt: HostRuntime) -> Result<(), Fail> {
     Ok(())
 }
 
-// The fault of so many bytes of NOT_A, fewer than it has: the GUID is cut, or END is missing.
+// The fault of the first `length` bytes of NOT_A, fewer than it has: the GUID is cut short, or END
+// is missing.
 fn fault_of_front(length: usize) -> DepexFault {
     if length == 0 || length >= 17 {
         DepexFault {

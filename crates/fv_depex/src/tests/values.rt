@@ -1,4 +1,4 @@
-//! What expressions say.
+//! The values of expressions.
 
 use super::{A, B, Parts, joined, long};
 use crate::{DepexFault, Phase, evaluate, read_depex};
@@ -6,9 +6,9 @@ use fv_base::Guid;
 use std::alloc::Global;
 use std::test::Fail;
 
-/// The body, and its value where nothing is installed, A alone, B alone, and both.
+/// The body, and its value if nothing is installed, only A, only B, and both.
 pub(super) const VALUES: &[(Parts, [bool; 4])] = &[
-    // Constants, with SOR and with bytes behind END.
+    // Constants, with SOR and with bytes after END.
     (&[&[0x06, 0x08]], [true; 4]),
     (&[&[0x07, 0x08]], [false; 4]),
     (&[&[0x09, 0x06, 0x08]], [true; 4]),
@@ -54,7 +54,7 @@ pub(super) const VALUES: &[(Parts, [bool; 4])] = &[
     ),
 ];
 
-// The value of an expression of the phase, where these GUIDs are installed.
+// The value of an expression of the phase if these GUIDs are installed.
 fn value(
     alloc: Global,
     bytes: &[u8],
@@ -65,7 +65,7 @@ fn value(
     evaluate(alloc, &depex, installed)
 }
 
-// The values of a body where nothing is installed, A alone, B alone, and both.
+// The values of a body if nothing is installed, only A, only B, and both.
 fn values(alloc: Global, parts: &[&[u8]], phase: Phase) -> Result<[Option<bool>; 4], DepexFault> {
     let a = Guid::from_bytes(A);
     let b = Guid::from_bytes(B);

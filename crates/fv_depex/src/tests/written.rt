@@ -11,7 +11,7 @@ const BODIES: &[(Phase, Parts)] = &[
     (Phase::Pei, &[&[0x02], &A, &[0x05, 0x08]]),
     (Phase::Dxe, &[&[0x00], &A, &[0x08]]),
     (Phase::Dxe, &[&[0x01], &A, &[0x08]]),
-    // Behind END: PUSH A, a BEFORE that is cut, and a second expression.
+    // After END: PUSH A, a BEFORE that is cut short, and a second expression.
     (Phase::Pei, &[&[0x02], &B, &[0x06, 0x04, 0x08, 0x02], &A]),
     (Phase::Dxe, &[&[0x09, 0x02], &A, &[0x08, 0x00]]),
     (Phase::Dxe, &[&[0x01], &B, &[0x08, 0x09, 0x06, 0x08]]),
@@ -25,7 +25,7 @@ fn is_kept(alloc: Global, bytes: &[u8], phase: Phase) -> Result<bool, DepexFault
     Ok(written.as_slice() == bytes)
 }
 
-// Whether a body in parts is.
+// Whether a body in parts is written as it was read.
 fn are_kept(alloc: Global, parts: Parts, phase: Phase) -> Result<bool, DepexFault> {
     let bytes = joined(alloc, parts)?;
     is_kept(alloc, bytes.as_slice(), phase)

@@ -5,7 +5,7 @@ use crate::{FileAttributes, FileHead, FileState, verify_ffs_file};
 use bitflags::Flags;
 use fv_base::{Fault, FaultKind, FileSystem, Guid, Polarity};
 
-// A name, so many other bytes behind it, at most 40, and erased ones.
+// A name, at most 40 other bytes after it, and then erased bytes.
 fn named(name: [u8; 16], rest: &[u8]) -> [u8; 56] {
     let mut bytes = [0xff; 56];
     let count = rest.len().min(40);
@@ -14,11 +14,12 @@ fn named(name: [u8; 16], rest: &[u8]) -> [u8; 56] {
     bytes
 }
 
-/// What a header says: the name, the type, the attribute bits, the size, the bytes of the header,
-/// the header sum, the file sum and the state.
+/// The fields of a header: the name, the type, the attribute bits, the size, the length of the
+/// header, the header sum, the file sum and the state.
 type Fields = ([u8; 16], u8, u8, u64, u64, u8, u8, FileState);
 
-/// What the bytes hold, what stands behind the name in them, and what the header says.
+/// A name for the case, what follows the name of the file in the bytes, and the fields of the
+/// header.
 const FILES: [(&str, &[u8], Fields); 7] = [
     (
         "a file without data",
@@ -61,7 +62,7 @@ const FILES: [(&str, &[u8], Fields); 7] = [
     ),
 ];
 
-// Whether a file with this header begins the name and the bytes behind it.
+// Whether a file with this header begins the name and the bytes after it.
 fn begins(rest: &[u8], fields: Fields) -> bool {
     let (name, kind, attributes, size, header_len, header_sum, file_sum, state) = fields;
     let head = FileHead {
@@ -85,7 +86,7 @@ fn files_begin_bytes(rt: HostRuntime) {
     }
 }
 
-/// What stands behind the name in a header, and the fault in FFS2 where 32 erased bytes follow.
+/// What follows the name in a header, and the fault in FFS2 if 32 erased bytes follow.
 const HEADERS: [(&[u8], FaultKind, u64); 13] = [
     // State bit 0x40, and all State bits.
     (
@@ -98,7 +99,7 @@ const HEADERS: [(&[u8], FaultKind, u64); 13] = [
         FaultKind::FileState,
         23,
     ),
-    // Data that were never written, a deleted file, and a State byte that is erased.
+    // Data that were never finished, a deleted file, and a State byte that is erased.
     (
         &[0x47, 0xaa, 0x01, 0x00, 0x18, 0x00, 0x00, 0xfc],
         FaultKind::FileState,
@@ -114,7 +115,7 @@ const HEADERS: [(&[u8], FaultKind, u64); 13] = [
         FaultKind::FileState,
         23,
     ),
-    // A header that was begun, and one that was given up.
+    // A header that was begun, and one that is invalid.
     (
         &[0xff, 0xff, 0xff, 0xff, 0xff, 0xff, 0xff, 0xfe],
         FaultKind::FileState,
@@ -165,7 +166,7 @@ fn other_headers_begin_no_file(rt: HostRuntime) {
     }
 }
 
-/// What stands behind the name of a file of 28 bytes, and of a large one of 32.
+/// What follows the name of a file of 28 bytes, and of a large one of 32.
 const WHOLE: [&[u8]; 2] = [
     &[0x03, 0xf6, 0x01, 0x40, 0x1c, 0x00, 0x00, 0xf8, 1, 2, 3, 4],
     &[
@@ -186,7 +187,7 @@ fn cut_files_are_refused(rt: HostRuntime) {
     }
 }
 
-// Whether the bytes of a file with this State byte begin with one, or what is wrong with them.
+// Whether the bytes of a file with this State byte begin with one, or the fault.
 fn verdict(state: u8, polarity: Polarity) -> Option<Fault> {
     let rest = [0x47, 0xaa, 0x01, 0x00, 0x18, 0x00, 0x00, state];
     verify_ffs_file(&named(A, &rest)[..24], FileSystem::Ffs2, polarity).err()

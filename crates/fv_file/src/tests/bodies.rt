@@ -45,7 +45,7 @@ static FILES: [Body; 9] = [
         ],
         &[(Valid, 72, 25, 0, &[0x5a]), (Free, 104, 24, 0, &[])],
     ),
-    // The sum is over the data, not over the filler behind them.
+    // The sum is over the data, not over the filler after them.
     (
         "4 bytes, and their sum",
         128,
@@ -129,7 +129,7 @@ static PADS: [Body; 5] = [
     ),
 ];
 
-/// Where an erased byte is 0x00.
+/// Erased bytes are 0x00.
 static ZEROS: [Body; 2] = [
     ("erased bytes", 128, &[], &[(Free, 72, 56, 0, &[])]),
     (

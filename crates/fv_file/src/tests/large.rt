@@ -5,7 +5,7 @@ use super::{A, Body, P, Refusal, fault_of, has_cells, is_cut, lay, not_refused};
 use fv_base::{Fault, FaultKind, FileSystem, Polarity};
 use std::alloc::Global;
 
-/// Bodies that are cut in FFS3 alone.
+/// Bodies that are accepted in FFS3 only.
 static ACCEPTED: [Body; 6] = [
     (
         "a file without data",
@@ -72,7 +72,7 @@ static ACCEPTED: [Body; 6] = [
     ),
 ];
 
-/// Bodies that are refused in FFS3.
+/// Bodies that are rejected in FFS3.
 static REFUSED: [Refusal; 9] = [
     (
         "the Size of a short header too",
@@ -197,7 +197,7 @@ fn large_files_are_refused(rt: HostRuntime) {
     assert_eq!(rt; first, None);
 }
 
-// Whether a file of 16 MiB and 8 bytes has its cell, or why it has none.
+// Whether a file of 16 MiB and 8 bytes has its cell, or the fault if it has none.
 fn is_long_cut(alloc: Global) -> Result<bool, Fault> {
     let parts: [&[u8]; 3] = [
         &A,
@@ -210,7 +210,7 @@ fn is_long_cut(alloc: Global) -> Result<bool, Fault> {
     has_cells(alloc, &bytes, FileSystem::Ffs3, Polarity::Ones, &forms)
 }
 
-// No short header can say so many bytes.
+// No short header can give this size.
 #[test]
 fn a_file_may_have_more_than_16_mib(rt: HostRuntime) {
     assert_eq!(rt; is_long_cut(rt.alloc()), Ok(true));

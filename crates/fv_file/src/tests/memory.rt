@@ -1,4 +1,5 @@
-//! Refused memory, where `.ci/memory` refuses each allocation of the test in turn: no other answer stands in its place.
+//! Failed allocations: `.ci/memory` makes each allocation of the test fail in turn, and no wrong
+//! result may be returned.
 
 use super::is_cut;
 use super::remains::STATES;
@@ -6,7 +7,7 @@ use super::written::{FILES, PADS, is_file, is_pad};
 use crate::{FileState, file_state};
 use fv_base::{Fault, FaultKind, FileSystem, Polarity};
 
-// Whether the calls that take no memory answer.
+// Whether the calls that take no memory return the right results.
 fn are_answered() -> bool {
     let (size, polarity, fields) = PADS[0];
     is_file(&FILES[0])

@@ -1,4 +1,4 @@
-//! Bodies that are refused, and where.
+//! Bodies that are rejected, and where.
 
 use super::{A, P, Refusal, not_refused};
 use fv_base::{FaultKind, FileSystem, Polarity};
@@ -135,7 +135,7 @@ static SINGLE: [Refusal; 17] = [
     ),
 ];
 
-/// Files with more faults: the first in the order of the checks is named.
+/// Files with several faults: the first in the order of the checks is returned.
 static SEVERAL: [Refusal; 6] = [
     (
         "State, LargeFile, FileHeaderSum, FileSize",
@@ -217,7 +217,7 @@ static STUBS: [Refusal; 2] = [
     ),
 ];
 
-/// Where an erased byte is 0x00.
+/// Erased bytes are 0x00.
 static ZEROS: [Refusal; 2] = [
     (
         "a State byte that is right where an erased byte is FF",

@@ -1,4 +1,4 @@
-//! Bodies with files that do not stand or are marked, and with headers that were never finished.
+//! Bodies with files that are not valid or are marked, and with headers that were never finished.
 
 use super::Sort::{Dead, Free, Marked, Stub, Valid};
 use super::{A, B, Body, C, P, not_cut};
@@ -87,7 +87,7 @@ pub(super) static STATES: [Body; 7] = [
     ),
 ];
 
-/// Where an erased byte is 0x00.
+/// Erased bytes are 0x00.
 static ZEROS: [Body; 2] = [
     (
         "a marked file and a deleted one",

@@ -4,7 +4,8 @@ use crate::{FileAttributes, FileState, file_state};
 use bitflags::Flags;
 use fv_base::Polarity;
 
-/// The states by the highest bit that was written: from which number of written bits on.
+/// The states by the highest bit that was written: each with the least number of written bits that
+/// has it.
 const STATES: [(u8, Option<FileState>); 8] = [
     (0x00, Some(FileState::Free)),
     (0x01, Some(FileState::Construction)),
@@ -76,7 +77,7 @@ fn files_stand_in_two_states(rt: HostRuntime) {
     }
 }
 
-// Whether the bits are read so, with and without bit 0x01.
+// Whether the bits are read as this, with and without bit 0x01.
 fn is_read(bits: u8, is_large: bool, is_fixed: bool, is_summed: bool, without: u8) -> bool {
     let attributes = FileAttributes::from_bits_retain(bits);
     attributes.bits() == bits

@@ -5,7 +5,7 @@ use super::{A, Body, ROOM, Refusal, cut, lay, not_cut, not_refused};
 use fv_base::{Fault, FaultKind, FileSystem, Polarity};
 use std::alloc::Global;
 
-/// Where the first byte stands that is not erased.
+/// The offset of the first byte that is not erased.
 static ONES: [Refusal; 8] = [
     (
         "the last byte of an erased body",
@@ -76,7 +76,7 @@ static ONES: [Refusal; 8] = [
     ),
 ];
 
-/// Where an erased byte is 0x00.
+/// Erased bytes are 0x00.
 static ZEROS: [Refusal; 1] = [(
     "the last byte where an erased one is 00",
     128,
@@ -96,7 +96,7 @@ fn stray_bytes_are_refused(rt: HostRuntime) {
 /// A file without data.
 const FILE: [&[u8]; 2] = [&A, &[0x47, 0xaa, 0x01, 0x00, 0x18, 0x00, 0x00, 0xf8]];
 
-/// A file and so many erased bytes.
+/// A file and many erased bytes.
 static LONG: [Body; 5] = [
     (
         "4,088 erased bytes",
@@ -156,7 +156,7 @@ fn a_stray_byte_in_a_long_stretch_is_found(rt: HostRuntime) {
         let fault = Fault::outer(FaultKind::FreeSpace, at as u64);
         assert!(rt; fault_with(rt.alloc(), at) == Some(fault), "{at}");
     }
-    // At 119 stands the State byte of what would be a file.
+    // The byte at 119 is the State byte of what would be a file.
     let fault = Fault::outer(FaultKind::FileState, 119);
     assert!(rt; fault_with(rt.alloc(), 119) == Some(fault));
 }

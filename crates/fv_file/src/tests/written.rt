@@ -5,7 +5,7 @@ use crate::{FileAttributes, HeadBytes, file_head_bytes, pad_head_bytes, verify_f
 use bitflags::Flags;
 use fv_base::{FileSystem, Guid, Polarity};
 
-// The header of a file of this type, these attribute bits, data and file sum, if there is one.
+// The header of a file with this type, these attribute bits, data and file sum, if there is one.
 fn file(
     kind: u8,
     attributes: u8,
@@ -34,7 +34,7 @@ fn is_joined(bytes: &[u8], name: [u8; 16], fields: &[u8]) -> bool {
     bytes.len() >= 16 && &bytes[..16] == name.as_slice() && &bytes[16..] == fields
 }
 
-// Whether a file without data, or a pad, of these fields is read from its header.
+// Whether a file without data, or a pad, with these fields is read from its header.
 fn is_read(
     bytes: &[u8],
     name: [u8; 16],
@@ -53,8 +53,8 @@ fn is_read(
         && found.file_sum == file_sum
 }
 
-/// The type, the attribute bits, the bytes of the data, the file sum, the polarity, and what stands
-/// behind the name.
+/// The type, the attribute bits, the number of bytes of the data, the file sum, the polarity, and
+/// what follows the name.
 pub(super) type File = (u8, u8, u64, u8, Polarity, &'static [u8]);
 
 pub(super) const FILES: [File; 10] = [
@@ -106,7 +106,7 @@ pub(super) const FILES: [File; 10] = [
         Polarity::Ones,
         &[0x03, 0xf6, 0x01, 0x40, 0x1c, 0x00, 0x00, 0xf8],
     ),
-    // The most data with a short header, and a byte more.
+    // The most data with a short header, and one byte more.
     (
         0x01,
         0,
@@ -151,7 +151,8 @@ pub(super) const FILES: [File; 10] = [
     ),
 ];
 
-// Whether the header of a file of these fields is written so, and, without data, read again.
+// Whether the header of a file with these fields is written as expected and, if there are no data,
+// read back.
 pub(super) fn is_file(case: &File) -> bool {
     let (kind, attributes, data_len, file_sum, polarity, fields) = *case;
     let Some(head) = file(kind, attributes, data_len, file_sum, polarity) else {
@@ -169,7 +170,7 @@ fn file_headers_are_written(rt: HostRuntime) {
     }
 }
 
-/// The size, the polarity, and what stands behind the name.
+/// The size, the polarity, and what follows the name.
 pub(super) const PADS: [(u64, Polarity, [u8; 8]); 5] = [
     (
         24,
@@ -198,7 +199,8 @@ pub(super) const PADS: [(u64, Polarity, [u8; 8]); 5] = [
     ),
 ];
 
-// Whether the header of a pad of this size is written so, and, without data, read again.
+// Whether the header of a pad of this size is written as expected and, if there are no data, read
+// back.
 pub(super) fn is_pad(size: u64, polarity: Polarity, fields: &[u8]) -> bool {
     let Some(head) = pad(size, polarity) else {
         return false;

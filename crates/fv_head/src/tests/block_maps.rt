@@ -14,8 +14,8 @@ const START: [u8; 32] = [
 /// The signature and the attributes.
 const MIDDLE: [u8; 8] = [0x5f, 0x46, 0x56, 0x48, 0xff, 0xfe, 0x04, 0x00];
 
-// Puts a volume of this length in place of zeros: HeaderLength and Checksum stand in 4 bytes, and
-// behind its header all is erased.
+// Writes a volume of this length over zeros. The 4 bytes are HeaderLength and Checksum. After its
+// header all bytes are erased.
 fn put_volume(bytes: &mut [u8], length: u16, words: [u8; 4], blocks: &[(u8, u8)]) {
     change(
         bytes,
@@ -38,7 +38,7 @@ const READ: [(u16, [u8; 4], &[(u8, u8)]); 3] = [
     (4096, [0x40, 0x08, 0xd7, 0xcd], &[(1, 16); 256]),
 ];
 
-/// The same of volumes that are refused, and then the fault.
+/// The same for volumes that are rejected, and then the fault.
 const REFUSED: [(u16, [u8; 4], &[(u8, u8)], FaultKind, u64); 4] = [
     // A pair of zeros before others, and before the last.
     (
@@ -55,7 +55,7 @@ const REFUSED: [(u16, [u8; 4], &[(u8, u8)], FaultKind, u64); 4] = [
         FaultKind::BlockMap,
         56,
     ),
-    // No block at all.
+    // No block.
     (192, [0x40, 0x00, 0x17, 0xf6], &[], FaultKind::BlockMap, 56),
     // A header of 2,120 bytes.
     (

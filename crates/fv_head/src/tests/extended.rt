@@ -12,7 +12,7 @@ use std::test::Fail;
 /// The name in each of the volumes.
 const NAME: [u8; 16] = [0x0e; 16];
 
-/// A volume whose extended header stands behind the header, and holds a used size of 0.
+/// A volume whose extended header follows the header, and holds a used size of 0.
 pub(super) const BARE: [u8; 192] = [
     0x00, 0x00, 0x00, 0x00, 0x00, 0x00, 0x00, 0x00, 0x00, 0x00, 0x00, 0x00, 0x00, 0x00, 0x00, 0x00,
     0x78, 0xe5, 0x8c, 0x8c, 0x3d, 0x8a, 0x1c, 0x4f, 0x99, 0x35, 0x89, 0x61, 0x85, 0xc3, 0x2d, 0xd3,
@@ -28,7 +28,7 @@ pub(super) const BARE: [u8; 192] = [
     0xff, 0xff, 0xff, 0xff, 0xff, 0xff, 0xff, 0xff, 0xff, 0xff, 0xff, 0xff, 0xff, 0xff, 0xff, 0xff,
 ];
 
-/// Its canonical image: the extended header stands in a pad file, and the used size is 152.
+/// Its canonical image: the extended header is in a pad file, and the used size is 152.
 pub(super) const IMAGE: [u8; 192] = [
     0x00, 0x00, 0x00, 0x00, 0x00, 0x00, 0x00, 0x00, 0x00, 0x00, 0x00, 0x00, 0x00, 0x00, 0x00, 0x00,
     0x78, 0xe5, 0x8c, 0x8c, 0x3d, 0x8a, 0x1c, 0x4f, 0x99, 0x35, 0x89, 0x61, 0x85, 0xc3, 0x2d, 0xd3,
@@ -50,10 +50,10 @@ const AS_IMAGE: &[(usize, &[u8])] = &[(0, &IMAGE)];
 /// The same with a used size of 0, and zeros up to the first file.
 const IN_PAD: &[(usize, &[u8])] = &[(0, &IMAGE), (120, &[0x00; 8])];
 
-/// The bare volume as it is.
+/// The bare volume, unchanged.
 const NONE: &[(usize, &[u8])] = &[];
 
-/// The bare one with no entry, but with a tail of 5 bytes.
+/// The bare volume with no entry, but with a tail of 5 bytes.
 const TAIL_ONLY: &[(usize, &[u8])] = &[
     (88, &[0x19, 0x00, 0x00, 0x00, 0x03, 0x00, 0x01, 0x00, 0xaa]),
     (97, &[0xff; 39]),
@@ -71,7 +71,7 @@ const WITHOUT_ROOM: &[(usize, &[u8])] = &[
     (92, &[0xff; 12]),
 ];
 
-/// An extended header without entries at 77, behind other bytes.
+/// An extended header without entries at 77, after other bytes.
 const AT_77: &[(usize, &[u8])] = &[
     (50, &[0x01, 0xf5, 0x4d]),
     (72, &[0x01, 0x02, 0x03, 0x04, 0x05]),
@@ -87,14 +87,14 @@ const LARGE: &[(usize, &[u8])] = &[
     (60, &[0x00, 0x00, 0x02]),
 ];
 
-/// What changes of a volume.
+/// What is changed in a volume.
 type Changes = &'static [(usize, &'static [u8])];
 
-/// The kind and the payload of each entry.
+/// The type and the payload of each entry.
 type Entries = &'static [(u16, &'static [u8])];
 
-/// What changes of the bare volume; and then how many bytes are the volume, where its first file may
-/// stand, and the entries and the tail of its extended header.
+/// What is changed in the bare volume; then how many bytes are the volume, where its first file may
+/// begin, and the entries and the tail of its extended header.
 const READ: [(Changes, usize, u64, Entries, &[u8]); 12] = [
     (&[], 192, 104, &[(3, &[0; 4])], &[]),
     (IN_PAD, 192, 128, &[(3, &[0; 4])], &[]),
@@ -107,7 +107,7 @@ const READ: [(Changes, usize, u64, Entries, &[u8]); 12] = [
     // A size of 3, and one that goes one byte past the header.
     (&[(92, &[0x03])], 192, 104, &[], &[3, 0, 3, 0, 0, 0, 0, 0]),
     (&[(92, &[0x09])], 192, 104, &[], &[9, 0, 3, 0, 0, 0, 0, 0]),
-    // An entry without a payload, and a tail of 4 bytes.
+    // An entry without a payload, and then a tail of 4 bytes.
     (&[(92, &[0x04])], 192, 104, &[(3, &[])], &[0, 0, 0, 0]),
     // A type 3 entry with 5 bytes, and with 4, and a type 2 entry with 4.
     (
@@ -127,9 +127,9 @@ const READ: [(Changes, usize, u64, Entries, &[u8]); 12] = [
     ),
 ];
 
-/// What changes of the bare volume, where its extended header does not lie in it.
+/// What is changed in the bare volume so that its extended header is not within it.
 const REFUSED: [Changes; 5] = [
-    // 16 bytes are left, and 20 of which the size is too large.
+    // Only 16 bytes are left; and 20, for which the size is too large.
     &[(50, &[0x9e, 0xf4, 0xb0])],
     &[(50, &[0xa2, 0xf4, 0xac])],
     // A size of 19, of one byte too many, and of 2 ^ 32 - 1.
@@ -138,8 +138,8 @@ const REFUSED: [Changes; 5] = [
     &[(88, &[0xff; 4])],
 ];
 
-/// What changes of the bare volume, how many bytes its extended header has, and where the first
-/// file of its canonical image may stand: behind 72 + 24 bytes and these.
+/// What is changed in the bare volume, the length of its extended header, and where the first file
+/// of its canonical image may begin: after 72 + 24 bytes and the extended header.
 const EDGES: [(Changes, u32, u64); 4] = [
     (&[(88, &[0x14])], 20, 120),
     (&[(88, &[0x18])], 24, 120),
@@ -147,7 +147,7 @@ const EDGES: [(Changes, u32, u64); 4] = [
     (&[], 28, 128),
 ];
 
-// Whether a head has an extended header that says this.
+// Whether a head has an extended header with these entries and this tail.
 pub(super) fn says(head: &VolumeHead, entries: &[(u16, &[u8])], tail: &[u8]) -> bool {
     let Some(ext) = head.ext() else {
         return false;
@@ -161,8 +161,8 @@ pub(super) fn says(head: &VolumeHead, entries: &[(u16, &[u8])], tail: &[u8]) -> 
     ext.tail() == tail && is_same && ext.name().to_bytes() == NAME
 }
 
-// The bytes of the extended header of the volume that the bytes begin with, with this used size;
-// none without one.
+// The bytes of the extended header of the volume at the start of the bytes, with this used size;
+// none if there is no extended header.
 fn canonical_ext(alloc: Global, bytes: &[u8], used: u32) -> Result<ByteList, Fault> {
     let (head, _) = read_head(alloc, bytes)?;
     match head.ext() {
@@ -171,8 +171,8 @@ fn canonical_ext(alloc: Global, bytes: &[u8], used: u32) -> Result<ByteList, Fau
     }
 }
 
-// The bytes of the extended header, 0 without one, and where the first file of the canonical image
-// may stand.
+// The length of the extended header, 0 if there is none, and where the first file of the canonical
+// image may begin.
 fn room_of(alloc: Global, bytes: &[u8]) -> Result<(u32, u64), Fault> {
     let (head, _) = read_head(alloc, bytes)?;
     match head.ext() {
@@ -270,7 +270,7 @@ fn an_extended_header_without_entries_is_spelled(rt: HostRuntime) -> Result<(), 
     Ok(())
 }
 
-// Writes the head, or the extended header with a used size of 152, where it is full.
+// Writes the head, or the extended header with a used size of 152, until `full` has no more room.
 pub(super) fn write_to(head: &VolumeHead, is_ext: bool, full: &mut [u8]) -> Result<(), Fault> {
     let mut port = Port::new(full);
     match head.ext() {

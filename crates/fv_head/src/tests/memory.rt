@@ -1,4 +1,5 @@
-//! Refused memory, where `.ci/memory` refuses each allocation of the test in turn: no other answer stands in its place.
+//! Failed allocations: `.ci/memory` makes each allocation of the test fail in turn, and no wrong
+//! result may be returned.
 
 use super::extended::{BARE, IMAGE, says, write_to};
 use crate::{
@@ -7,7 +8,7 @@ use crate::{
 use fv_base::{ByteList, Fault, FaultKind, FileSystem, Polarity};
 use std::alloc::Global;
 
-/// What the bare volume is.
+/// The extent of the bare volume.
 const EXTENT: Extent = Extent {
     length: 192,
     header_len: 72,
@@ -16,7 +17,7 @@ const EXTENT: Extent = Extent {
     polarity: Polarity::Ones,
 };
 
-// Whether these bytes are made, or memory was refused.
+// Whether these bytes are made, or memory ran out.
 fn is_made(made: Result<ByteList, Fault>, wanted: &[u8]) -> bool {
     match made {
         Ok(bytes) => bytes.as_slice() == wanted,
@@ -24,7 +25,7 @@ fn is_made(made: Result<ByteList, Fault>, wanted: &[u8]) -> bool {
     }
 }
 
-// Whether the head and the extended header of the image are made, or memory was refused.
+// Whether the head and the extended header of the image are made, or memory ran out.
 fn is_spelled(alloc: Global, head: &VolumeHead) -> bool {
     let Some(ext) = head.ext() else {
         return false;
@@ -33,14 +34,14 @@ fn is_spelled(alloc: Global, head: &VolumeHead) -> bool {
         && is_made(ext_bytes(alloc, ext, 152), &IMAGE[96..124])
 }
 
-// Whether these bytes are written where there is just room for them.
+// Whether these bytes are written if there is just enough room for them.
 fn is_written(head: &VolumeHead, is_ext: bool, wanted: &[u8]) -> bool {
     let mut taken = [0u8; 72];
     let room = wanted.len().min(72);
     write_to(head, is_ext, &mut taken[..room]) == Ok(()) && &taken[..room] == wanted
 }
 
-// Whether the calls that take no memory answer.
+// Whether the calls that take no memory return the right results.
 fn are_answered(head: &VolumeHead) -> bool {
     verify_fv(&BARE) == Ok(EXTENT)
         && is_one_volume(&BARE)
@@ -49,7 +50,7 @@ fn are_answered(head: &VolumeHead) -> bool {
         && is_written(head, true, &IMAGE[96..124])
 }
 
-// Whether the bare volume is read and made again, or memory was refused.
+// Whether the bare volume is read and made again, or memory ran out.
 fn is_answered(alloc: Global) -> bool {
     match read_head(alloc, &BARE) {
         Ok((head, extent)) => {

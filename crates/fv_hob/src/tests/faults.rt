@@ -1,13 +1,13 @@
-//! Lists that are refused.
+//! Lists that are rejected.
 
 use super::{END, HANDOFF, LIST, Parts, TYPES, fault_of, joined, put};
 use crate::{HobFault, HobFaultKind};
 use std::alloc::Global;
 use std::test::Fail;
 
-/// The parts, a place, the bytes that stand there instead, and then the fault.
+/// The parts, an offset, the bytes that are written there, and then the fault.
 const FAULTS: &[(Parts, usize, &[u8], HobFaultKind, u64)] = &[
-    // No bytes, fewer than 8, and none behind a block.
+    // No bytes, fewer than 8, and none after a block.
     (&[], 0, &[], HobFaultKind::NoEnd, 0),
     (
         &[&[0x01, 0x00, 0x38, 0x00, 0x00, 0x00, 0x00]],
@@ -17,7 +17,7 @@ const FAULTS: &[(Parts, usize, &[u8], HobFaultKind, u64)] = &[
         0,
     ),
     (&[&HANDOFF], 0, &[], HobFaultKind::NoEnd, 56),
-    // Fewer bytes than 8 of a later block, an end block among them.
+    // Fewer than 8 bytes are left for a later block, which may be an end block.
     (&[&HANDOFF, &[0xff; 7]], 0, &[], HobFaultKind::Short, 56),
     (
         &[&HANDOFF, &[0xff, 0xff, 0x08, 0x00, 0x00, 0x00, 0x00]],
@@ -35,12 +35,12 @@ const FAULTS: &[(Parts, usize, &[u8], HobFaultKind, u64)] = &[
     // A table of 64 bytes, and a length of 12.
     (&[&HANDOFF, &[0; 8]], 2, &[0x40], HobFaultKind::Shape, 0),
     (LIST, 58, &[0x0c], HobFaultKind::Length, 56),
-    // The last block of a list goes past its end, or is none.
+    // The last block of a list goes past its end, or is no end block.
     (LIST, 154, &[0x10], HobFaultKind::Short, 152),
     (LIST, 152, &[0xfe], HobFaultKind::NoEnd, 160),
     (TYPES, 440, &[0x07, 0x00], HobFaultKind::NoEnd, 448),
-    // Two checks of one block: its length and its type, its end and its type, its end and its
-    // length for its type, and its type and its length for that.
+    // Two failing checks of one block: its length and its type, its end and its type, its end and
+    // its length for its type, and its type and its length for that.
     (LIST, 0, &[0x09, 0x00, 0x0c], HobFaultKind::Length, 0),
     (LIST, 0, &[0x09, 0x00, 0xa8], HobFaultKind::Short, 0),
     (LIST, 2, &[0xa8], HobFaultKind::Short, 0),
@@ -65,8 +65,8 @@ fn faults_have_their_places(rt: HostRuntime) -> Result<(), Fail> {
     Ok(())
 }
 
-// The fault of so many bytes of the list, fewer than it has: a block is cut, or the end block is
-// missing.
+// The fault of the first `length` bytes of the list, fewer than it has: a block is cut short, or
+// the end block is missing.
 fn fault_of_front(length: usize) -> HobFault {
     let mut last = 0;
     for at in [0, 56, 112, 120, 152] {
@@ -83,7 +83,7 @@ fn fault_of_front(length: usize) -> HobFault {
     HobFault { kind, offset }
 }
 
-// The fault that so many bytes of the list have, if they are refused.
+// The fault of the first `length` bytes of the list, if they are rejected.
 fn fault_of_first(alloc: Global, length: usize) -> Result<Option<HobFault>, HobFault> {
     let bytes = joined(alloc, LIST, &[])?;
     let list = bytes.as_slice();

@@ -27,14 +27,14 @@ const LENGTHS: &[(u16, &[u16], &[u16])] = &[
     (0xfffd, &[8, 48], &[]),
 ];
 
-// A block of this type, of zeros behind its header, with this in its length field.
+// A block of this type, with this length field, and zeros after its header.
 fn block(alloc: Global, code: u16, length: u16) -> Result<Vec<u8>, AllocError> {
     let mut bytes = vec![in alloc; 0; usize::from(length.max(8))]?;
     put(bytes.as_mut_slice(), 0, &header(code, length));
     Ok(bytes)
 }
 
-// A list whose second block is such a one.
+// A list whose second block is such a block.
 fn list_with(alloc: Global, code: u16, length: u16) -> Result<Vec<u8>, AllocError> {
     let end = 56 + usize::from(length.max(8));
     let mut bytes = vec![in alloc; 0; end + 8]?;
@@ -53,13 +53,13 @@ fn second_in(alloc: Global, bytes: &[u8]) -> Result<Option<(u16, u16, u64)>, Hob
     }
 }
 
-// The fault of such a list, if it is refused.
+// The fault of such a list, if it is rejected.
 fn fault_in_list(alloc: Global, code: u16, length: u16) -> Result<Option<HobFault>, AllocError> {
     let bytes = list_with(alloc, code, length)?;
     Ok(fault_of(alloc, bytes.as_slice()))
 }
 
-// The fault of such a block alone, if it is refused.
+// The fault of such a block on its own, if it is rejected.
 fn fault_alone(alloc: Global, code: u16, length: u16) -> Result<Option<HobFault>, AllocError> {
     let bytes = block(alloc, code, length)?;
     Ok(fault_of(alloc, bytes.as_slice()))
@@ -95,7 +95,7 @@ fn each_type_has_no_others(rt: HostRuntime) -> Result<(), Fail> {
     Ok(())
 }
 
-// Whether a length is refused, in a later block and in the first one.
+// Whether a length is rejected, in a later block and in the first one.
 fn is_refused(alloc: Global, code: u16, length: u16) -> Result<bool, AllocError> {
     let kind = HobFaultKind::Length;
     let later = fault_in_list(alloc, code, length)?;

@@ -1,17 +1,18 @@
-//! Refused memory, where `.ci/memory` refuses each allocation of the test in turn: no other answer stands in its place.
+//! Failed allocations: `.ci/memory` makes each allocation of the test fail in turn, and no wrong
+//! result may be returned.
 
 use super::read::{Header, LIST_HEADERS, TYPES_HEADERS, headed};
 use super::{LIST, Parts, TYPES, put};
 use crate::{HobFault, HobFaultKind, HobList, Span, hob_bytes, read_hobs, volume_hobs};
 use std::alloc::Global;
 
-/// What a call answers that was refused memory.
+/// What a call returns if memory ran out.
 const WANT: HobFault = HobFault {
     kind: HobFaultKind::OutOfMemory,
     offset: 0,
 };
 
-// Puts the parts, joined, into the bytes.
+// Writes the parts, joined, over the bytes.
 fn lay(bytes: &mut [u8], parts: Parts) {
     let mut at = 0usize;
     for part in parts {
@@ -20,7 +21,7 @@ fn lay(bytes: &mut [u8], parts: Parts) {
     }
 }
 
-// Whether a list is written as these bytes, or memory was refused.
+// Whether a list is written as these bytes, or memory ran out.
 fn is_written(alloc: Global, list: &HobList, wanted: &[u8]) -> bool {
     match hob_bytes(alloc, list) {
         Ok(bytes) => bytes.as_slice() == wanted,
@@ -28,7 +29,7 @@ fn is_written(alloc: Global, list: &HobList, wanted: &[u8]) -> bool {
     }
 }
 
-// Whether a list names these volumes, or memory was refused.
+// Whether a list describes these volumes, or memory ran out.
 fn is_named(alloc: Global, list: &HobList, wanted: &[Span]) -> bool {
     match volume_hobs(alloc, list) {
         Ok(spans) => spans.as_slice() == wanted,
@@ -36,13 +37,13 @@ fn is_named(alloc: Global, list: &HobList, wanted: &[Span]) -> bool {
     }
 }
 
-/// The volume that the list names.
+/// The volume that the list describes.
 const LIST_SPANS: [Span; 1] = [Span {
     base: 16711680,
     length: 128,
 }];
 
-/// The volumes that the list of all types names.
+/// The volumes that the list of all types describes.
 const TYPES_SPANS: [Span; 2] = [
     Span {
         base: 0x6f6e_6d6c_6b6a_6968,
@@ -54,8 +55,8 @@ const TYPES_SPANS: [Span; 2] = [
     },
 ];
 
-// Whether the bytes are read as a list of these headers that names these volumes and is written as it was, or memory
-// was refused.
+// Whether the bytes are read as a list with these headers that describes these volumes and is
+// written as it was, or memory ran out.
 fn is_answered(alloc: Global, bytes: &[u8], headers: &[Header], spans: &[Span]) -> bool {
     match read_hobs(alloc, bytes) {
         Ok((list, length)) => {
@@ -76,7 +77,7 @@ fn refused_memory_is_told(rt: HostRuntime) {
     lay(&mut list, LIST);
     let mut types = [0u8; 448];
     lay(&mut types, TYPES);
-    // The body of the unused block alone is not kept.
+    // Only the body of the unused block is not kept.
     put(&mut types, 320, &[0; 16]);
     assert!(rt; is_answered(rt.alloc(), &list, LIST_HEADERS, &LIST_SPANS));
     assert!(rt; is_answered(rt.alloc(), &types, TYPES_HEADERS, &TYPES_SPANS));

@@ -6,7 +6,7 @@ use fv_base::Guid;
 use std::alloc::Global;
 use std::test::Fail;
 
-/// What the table says that begins each list here.
+/// The fields of the table at the start of each list here.
 const HANDOFF_SAYS: Handoff = Handoff {
     version: 9,
     boot_mode: 0,
@@ -17,7 +17,7 @@ const HANDOFF_SAYS: Handoff = Handoff {
     end_of_list: 0x0800_0098,
 };
 
-/// What the second one says.
+/// The fields of the second table.
 const SECOND_SAYS: Handoff = Handoff {
     version: 0xc3c2_c1c0,
     boot_mode: 0xc7c6_c5c4,
@@ -28,7 +28,7 @@ const SECOND_SAYS: Handoff = Handoff {
     end_of_list: 0xefee_edec_ebea_e9e8,
 };
 
-// Whether a block is a table that says this.
+// Whether a block is a table with these fields.
 fn is_handoff(hob: &Hob, says: &Handoff) -> bool {
     match hob.kind() {
         HobKind::Handoff(said) => *said == *says,
@@ -36,7 +36,7 @@ fn is_handoff(hob: &Hob, says: &Handoff) -> bool {
     }
 }
 
-/// The bytes behind the allocation.
+/// The bytes at the end of the allocation.
 const REST: &[u8] = &[0x38, 0x39, 0x3a, 0x3b, 0x3c, 0x3d, 0x3e, 0x3f];
 
 // Whether a block is the allocation in the list of all types.
@@ -104,7 +104,7 @@ fn is_capsule(hob: &Hob) -> bool {
     }
 }
 
-// Whether a block is a volume from a file of another, that says this.
+// Whether a block is a volume from a file of another, with these fields.
 fn is_volume2(hob: &Hob, base: u64, length: u64, volume_name: Guid, file_name: Guid) -> bool {
     match hob.kind() {
         HobKind::FirmwareVolume2 {
@@ -122,7 +122,7 @@ fn is_volume2(hob: &Hob, base: u64, length: u64, volume_name: Guid, file_name: G
     }
 }
 
-// Whether a block has this data of this name.
+// Whether a block has this data and this name.
 fn is_extension(hob: &Hob, named: Guid, data: &[u8]) -> bool {
     match hob.kind() {
         HobKind::GuidExtension { name, payload } => *name == named && payload.as_slice() == data,
@@ -138,7 +138,7 @@ fn is_other(hob: &Hob, its: u16, body: &[u8]) -> bool {
     }
 }
 
-// Whether a block is not used, and has a body of so many bytes.
+// Whether a block is unused, and has a body of `length` bytes.
 fn is_unused(hob: &Hob, length: u16) -> bool {
     match hob.kind() {
         HobKind::Unused { body_len } => *body_len == length,
@@ -146,7 +146,7 @@ fn is_unused(hob: &Hob, length: u16) -> bool {
     }
 }
 
-// Whether a block stands in the list at this place, from 0.
+// Whether a block is that at this index of the list, from 0.
 fn stands_in_list(hob: &Hob, at: usize) -> bool {
     match at {
         0 => is_handoff(hob, &HANDOFF_SAYS),
@@ -167,13 +167,13 @@ const OTHER_BODY: &[u8] = &[
     0x90, 0x91, 0x92, 0x93, 0x94, 0x95, 0x96, 0x97, 0x98, 0x99, 0x9a, 0x9b, 0x9c, 0x9d, 0x9e, 0x9f,
 ];
 
-/// The data of the name.
+/// The data with the name.
 const DATA: &[u8] = &[
     0xa0, 0xa1, 0xa2, 0xa3, 0xa4, 0xa5, 0xa6, 0xa7, 0xa8, 0xa9, 0xaa, 0xab, 0xac, 0xad, 0xae, 0xaf,
     0x00, 0x01, 0x02, 0x03, 0x04, 0x05, 0x06, 0x07,
 ];
 
-// Whether a block stands in the list of all types at this place, from 0.
+// Whether a block is that at this index of the list of all types, from 0.
 fn stands_in_types(hob: &Hob, at: usize) -> bool {
     let a = Guid::from_bytes(A);
     let b = Guid::from_bytes(B);
@@ -195,10 +195,10 @@ fn stands_in_types(hob: &Hob, at: usize) -> bool {
     }
 }
 
-/// The reserved word, the type and the length of a block.
+/// The reserved field, the type and the length of a block.
 pub(super) type Header = (u32, u16, u16);
 
-/// Those of the blocks of the list.
+/// The headers of the blocks of the list.
 pub(super) const LIST_HEADERS: &[Header] = &[
     (0, 0x0001, 56),
     (0, 0x0009, 56),
@@ -207,7 +207,7 @@ pub(super) const LIST_HEADERS: &[Header] = &[
     (0, 0xffff, 8),
 ];
 
-/// Those of the blocks of the list of all types.
+/// The headers of the blocks of the list of all types.
 pub(super) const TYPES_HEADERS: &[Header] = &[
     (0, 0x0001, 56),
     (0x0102_0304, 0x0002, 56),
@@ -230,7 +230,7 @@ fn has_header(hob: &Hob, header: &Header) -> bool {
     hob.reserved() == reserved && hob.code() == code && hob.length() == length
 }
 
-// How many blocks from the first on have these headers, one behind the other.
+// How many blocks from the first on have these headers, in this order.
 pub(super) fn headed(hobs: &[Hob], headers: &[Header]) -> usize {
     let mut at = 0;
     for hob in hobs {
@@ -272,8 +272,8 @@ fn each_type_is_read(rt: HostRuntime) -> Result<(), Fail> {
 /// Lists, how many blocks they have, and how many bytes.
 const COUNTS: &[(Parts, usize, u64)] = &[(LIST, 5, 160), (TYPES, 13, 448), (SHORTEST, 2, 64)];
 
-// How many blocks the list has that these parts are, with so many of the others behind it, and how
-// many bytes.
+// How many blocks the list of these parts has, with `more` of the others after it, and how many
+// bytes.
 fn counts_with(alloc: Global, parts: Parts, more: usize) -> Result<(usize, u64), HobFault> {
     let bytes = joined(alloc, parts, &BEHIND[..more.min(BEHIND.len())])?;
     counts(alloc, bytes.as_slice())

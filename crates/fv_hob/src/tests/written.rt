@@ -1,4 +1,4 @@
-//! Lists that are written back, and the volumes that they name.
+//! Lists that are written back, and the volumes that they describe.
 
 use super::{
     BEHIND, END, HANDOFF, LIST, Parts, SHORTEST, TYPES, counts, is_written_as, joined, put,
@@ -7,8 +7,8 @@ use crate::{Hob, HobFault, Span, read_hobs, volume_hobs};
 use std::alloc::Global;
 use std::test::Fail;
 
-// Whether a list is written as it was read. The body of the unused block, which stands at 312,
-// alone is not kept.
+// Whether a list is written as it was read. Only the body of the unused block, which is at 312, is
+// not kept.
 fn is_kept(alloc: Global, parts: Parts) -> Result<bool, HobFault> {
     let bytes = joined(alloc, parts, BEHIND)?;
     let mut expected = joined(alloc, parts, &[])?;
@@ -33,7 +33,7 @@ const WRAPS: Parts = &[
     &END,
 ];
 
-/// Lists, and where the volumes lie that they name.
+/// Lists, and where the volumes that they describe are.
 const VOLUMES: &[(Parts, &[Span])] = &[
     (SHORTEST, &[]),
     (
@@ -65,7 +65,7 @@ const VOLUMES: &[(Parts, &[Span])] = &[
     ),
 ];
 
-// Whether a list names these volumes.
+// Whether a list describes these volumes.
 fn has_volumes(alloc: Global, parts: Parts, expected: &[Span]) -> Result<bool, HobFault> {
     let bytes = joined(alloc, parts, BEHIND)?;
     let (list, _) = read_hobs(alloc, bytes.as_slice())?;
@@ -82,8 +82,8 @@ fn volumes_are_named_in_their_order(rt: HostRuntime) -> Result<(), Fail> {
     Ok(())
 }
 
-// Whether a block of the list of all types names what it is to name: the fourth one a volume, the
-// eleventh one that stood in a file of another, and the others none.
+// Whether a block of the list of all types describes what it should: the fourth one a volume, the
+// eleventh one that was found in a file of another, and the others none.
 fn names_its_volume(hob: &Hob, at: usize) -> bool {
     match hob.span() {
         Some(span) if at == 3 => span.base == 0x6f6e_6d6c_6b6a_6968,
@@ -122,7 +122,7 @@ fn long(alloc: Global) -> Result<Vec<u8>, HobFault> {
     Ok(bytes)
 }
 
-// How many spans from the first on lie at 0, at 1 and so on, and have 16 bytes.
+// How many spans from the first on are at 0, at 1 and so on, and have 16 bytes.
 fn in_order(spans: &[Span]) -> u64 {
     let mut at = 0u64;
     for span in spans {

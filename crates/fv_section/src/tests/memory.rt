@@ -1,4 +1,5 @@
-//! Refused memory, where `.ci/memory` refuses each allocation of the test in turn: no other answer stands in its place.
+//! Failed allocations: `.ci/memory` makes each allocation of the test fail in turn, and no wrong
+//! result may be returned.
 
 use super::streams::{PAIR, PAIR_FRAMES, Seen, is_next, is_split};
 use super::texts::{FREEFORMS, TEXTS, VERSIONS, is_freeform};
@@ -27,13 +28,13 @@ const NINE_FRAMES: [Seen<'static>; 9] = [
     (32, 0x19, false, &[]),
 ];
 
-// Whether a stream without a tail is split into the frames that are seen, or memory was refused.
+// Whether a stream without a tail is split into these frames, or memory ran out.
 fn is_answered(alloc: Global, stream: &[u8], seen: &[Seen]) -> bool {
     let found = is_split(alloc, stream, seen, 0);
     found == Ok(true) || found == Err(Fault::outer(FaultKind::OutOfMemory, 0))
 }
 
-// Whether the calls that take no memory answer.
+// Whether the calls that take no memory return the right results.
 fn are_answered() -> bool {
     let (body, text) = TEXTS[0];
     let (numbered, parts) = VERSIONS[0];

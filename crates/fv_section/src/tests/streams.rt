@@ -1,13 +1,13 @@
-//! Streams with their frames, and the fault of each that is no stream.
+//! Streams with their frames, and the faults of bytes that are no stream.
 
 use crate::{Frame, frames, next_frame};
 use fv_base::{Fault, FaultKind};
 use std::alloc::Global;
 
-/// Where a frame begins, its type, whether its header is extended, and its body.
+/// The offset of a frame, its type, whether its header is extended, and its body.
 pub(super) type Seen<'a> = (u64, u8, bool, &'a [u8]);
 
-/// Two sections with filler of any value between them, and 3 bytes behind the last.
+/// Two sections with filler of any value between them, and 3 bytes after the last.
 pub(super) const PAIR: [u8; 17] = [
     0x05, 0x00, 0x00, 0x19, 0x5a, 0xee, 0xee, 0xee, 0x06, 0x00, 0x00, 0x19, 0x01, 0x02, 0xee, 0xee,
     0xee,
@@ -25,7 +25,8 @@ pub(super) const PAIR_FRAMES: [Seen<'static>; 2] = [
     (8, 0x19, false, &[0x01, 0x02]),
 ];
 
-/// How many bytes of the two sections are a stream, of how many of their frames, and its tail.
+/// How many of the first bytes of the two sections are taken (these are a stream), how many frames
+/// that stream has, and its tail.
 const FRONTS: [(usize, usize, u8); 8] = [
     (0, 0, 0),
     (5, 1, 0),
@@ -37,7 +38,7 @@ const FRONTS: [(usize, usize, u8); 8] = [
     (16, 2, 2),
 ];
 
-/// How many bytes of the two sections are none, and the fault.
+/// How many of the first bytes of the two sections are taken (these are no stream), and the fault.
 const CUT: [(usize, FaultKind, u64); 10] = [
     (1, FaultKind::SectionTail, 0),
     (2, FaultKind::SectionTail, 0),
@@ -67,7 +68,7 @@ const STREAMS: [(&[u8], &[Seen<'static>], u8); 6] = [
         &[(0, 0x19, true, &[0x01, 0x02, 0x03, 0x04])],
         0,
     ),
-    // An extended header and a body of 1 byte, and a section behind it.
+    // An extended header and a body of 1 byte, and a section after it.
     (
         &[
             0xff, 0xff, 0xff, 0x19, 0x09, 0x00, 0x00, 0x00, 0x01, 0xee, 0xee, 0xee, 0x04, 0x00,
@@ -82,7 +83,8 @@ const STREAMS: [(&[u8], &[Seen<'static>], u8); 6] = [
         &[(0, 0x19, false, &[]), (4, 0x19, false, &[0x58])],
         0,
     ),
-    // A group is one frame, whatever its body holds: here a section, and what is none.
+    // A group is one frame, whatever its body holds: here a section, and then bytes that are no
+    // section.
     (
         &[0x08, 0x00, 0x00, 0x03, 0x04, 0x00, 0x00, 0x19],
         &[(0, 0x03, false, &[0x04, 0x00, 0x00, 0x19])],
@@ -106,7 +108,7 @@ const FAULTS: [(&[u8], FaultKind, u64); 14] = [
         FaultKind::SectionTail,
         4,
     ),
-    // A size below the header: 0 and 3, and 7 of an extended one.
+    // A size below the header's length: 0 and 3, and 7 for an extended one.
     (&[0x00, 0x00, 0x00, 0x19], FaultKind::SectionSize, 0),
     (&[0x03, 0x00, 0x00, 0x19], FaultKind::SectionSize, 0),
     (
@@ -131,7 +133,7 @@ const FAULTS: [(&[u8], FaultKind, u64); 14] = [
         FaultKind::SectionSize,
         0,
     ),
-    // An extended header that is cut, where its size would begin, and in it.
+    // An extended header that is cut short: where its size would begin, and within it.
     (&[0xff, 0xff, 0xff, 0x19], FaultKind::SectionSize, 0),
     (
         &[0xff, 0xff, 0xff, 0x19, 0x08, 0x00, 0x00],
@@ -148,7 +150,7 @@ const FAULTS: [(&[u8], FaultKind, u64); 14] = [
     ),
 ];
 
-/// A stream, a place of it, and the frame that stands there, if it has one.
+/// A stream, an offset in it, and the frame there, if there is one.
 const PLACES: [(&[u8], u64, Option<Seen<'static>>); 7] = [
     (&PAIR, 0, Some((0, 0x19, false, &[0x5a]))),
     (&PAIR, 8, Some((8, 0x19, false, &[0x01, 0x02]))),
@@ -157,20 +159,20 @@ const PLACES: [(&[u8], u64, Option<Seen<'static>>); 7] = [
         0,
         Some((0, 0x19, false, &[])),
     ),
-    // The end, and places past it.
+    // The end, and offsets past it.
     (&[0x04, 0x00, 0x00, 0x19, 0x00, 0x00], 6, None),
     (&[0x04, 0x00, 0x00, 0x19, 0x00, 0x00], 8, None),
     (&[0x04, 0x00, 0x00, 0x19, 0x00, 0x00], u64::MAX, None),
     (&[], 0, None),
 ];
 
-// Whether a frame is the one that is seen.
+// Whether a frame is the expected one.
 fn is_frame(frame: &Frame, seen: &Seen) -> bool {
     let (offset, kind, extended, body) = *seen;
     frame.offset == offset && frame.kind == kind && frame.extended == extended && frame.body == body
 }
 
-// Whether a stream is split into the frames that are seen and this tail.
+// Whether a stream is split into the expected frames and this tail.
 pub(super) fn is_split(
     alloc: Global,
     stream: &[u8],
@@ -190,7 +192,7 @@ pub(super) fn is_split(
     Ok(true)
 }
 
-// Whether a stream is refused with this fault.
+// Whether a stream is rejected with this fault.
 fn is_refused(alloc: Global, stream: &[u8], fault: Fault) -> bool {
     frames(alloc, stream).err() == Some(fault)
 }
@@ -239,7 +241,7 @@ fn faults_have_their_places(rt: HostRuntime) {
     }
 }
 
-// Whether this frame, or none, stands at a place of the stream.
+// Whether this frame, or none, is at an offset of the stream.
 pub(super) fn is_next(stream: &[u8], at: u64, seen: &Option<Seen>) -> bool {
     match (next_frame(stream, at), seen) {
         (Ok(Some(frame)), Some(one)) => is_frame(&frame, one),
@@ -272,14 +274,14 @@ fn long_stream(alloc: Global) -> Result<Vec<u8>, Fault> {
     Ok(bytes)
 }
 
-// Whether a frame is the section of this index, as it lies in the stream.
+// Whether a frame is the section with this index, at its offset in the stream.
 fn is_section(frame: &Frame, index: u16) -> bool {
     let bytes = section(index);
     let size = usize::from(bytes[0].min(8));
     size >= 4 && is_frame(frame, &(u64::from(index) * 8, 0x19, false, &bytes[4..size]))
 }
 
-// Whether the long stream is split into its 1000 sections, with 3 bytes behind the last.
+// Whether the long stream is split into its 1000 sections, with 3 bytes after the last.
 fn is_long_split(alloc: Global) -> Result<bool, Fault> {
     let stream = long_stream(alloc)?;
     let found = frames(alloc, &stream)?;

@@ -1,4 +1,4 @@
-//! What leaf sections hold, and bodies that hold none of it.
+//! What leaf sections hold, and bodies that hold none of these.
 
 use crate::{freeform, ui_text, version};
 
@@ -9,13 +9,13 @@ pub(super) const TEXTS: [(&[u8], Option<&[u8]>); 11] = [
         Some(&[0x41, 0x00, 0x42, 0x00]),
     ),
     (&[0x00, 0x00], Some(&[])),
-    // One byte of a unit is zero, and two zero bytes are of two units.
+    // One byte of a unit is zero; and two zero bytes belong to two different units.
     (&[0x00, 0x01, 0x00, 0x00], Some(&[0x00, 0x01])),
     (
         &[0x41, 0x00, 0x00, 0x42, 0x00, 0x00],
         Some(&[0x41, 0x00, 0x00, 0x42]),
     ),
-    // Nothing, and an odd number of bytes.
+    // No bytes, and an odd number of bytes.
     (&[], None),
     (&[0x00], None),
     (&[0x41, 0x00, 0x00, 0x00, 0x00], None),
@@ -36,7 +36,7 @@ pub(super) const VERSIONS: [(&[u8], Option<(u16, &[u8])>); 8] = [
     (&[0x34, 0x12, 0x00, 0x00], Some((0x1234, &[]))),
     (&[], None),
     (&[0x01], None),
-    // The number alone.
+    // Only the number.
     (&[0x01, 0x00], None),
     (&[0x01, 0x00, 0x00], None),
     (&[0x01, 0x00, 0x31, 0x00], None),
@@ -44,7 +44,7 @@ pub(super) const VERSIONS: [(&[u8], Option<(u16, &[u8])>); 8] = [
     (&[0x01, 0x00, 0x00, 0x00, 0x31, 0x00, 0x00, 0x00], None),
 ];
 
-/// The body of a freeform section, and its GUID's bytes and those behind them.
+/// The body of a freeform section, and its GUID's bytes and those after them.
 pub(super) const FREEFORMS: [(&[u8], Option<(&[u8], &[u8])>); 5] = [
     (
         &[
@@ -54,10 +54,10 @@ pub(super) const FREEFORMS: [(&[u8], Option<(&[u8], &[u8])>); 5] = [
         Some((&[0x0a; 16], &[0x01])),
     ),
     (&[0x0a; 16], Some((&[0x0a; 16], &[]))),
-    // A byte is missing, and nothing.
+    // One byte too few, and no bytes.
     (&[0x0a; 15], None),
     (&[], None),
-    // Each byte is another.
+    // All bytes are different.
     (
         &[
             0x10, 0x11, 0x12, 0x13, 0x14, 0x15, 0x16, 0x17, 0x18, 0x19, 0x1a, 0x1b, 0x1c, 0x1d,

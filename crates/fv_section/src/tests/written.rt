@@ -1,4 +1,4 @@
-//! Headers as they are written, and read again.
+//! Headers as they are written, and read back.
 
 use crate::{SectionHead, next_frame, section_head_bytes};
 
@@ -9,7 +9,7 @@ const HEADS: [(u8, bool, u64, &[u8]); 8] = [
     (0x15, false, 0x1234, &[0x38, 0x12, 0x00, 0x15]),
     // The greatest size of a short header.
     (0x19, false, 0xff_fffa, &[0xfe, 0xff, 0xff, 0x19]),
-    // An extended header has its form at any size.
+    // An extended header may have any size.
     (
         0x19,
         true,
@@ -37,7 +37,7 @@ const HEADS: [(u8, bool, u64, &[u8]); 8] = [
     ),
 ];
 
-// The header of a section whose size fits the form; None where it does not.
+// The header of a section whose size fits in the form; None if it does not fit.
 fn head_of(kind: u8, extended: bool, body_len: u64) -> Option<SectionHead> {
     if extended && body_len <= 0xffff_fff7 {
         Some(section_head_bytes(kind, true, body_len))
@@ -63,7 +63,7 @@ fn heads_are_written(rt: HostRuntime) {
     }
 }
 
-/// Whether the header is extended, how long the body is, and the section with 3 other bytes behind
+/// Whether the header is extended, how long the body is, and the section with 3 other bytes after
 /// it.
 const STREAMS: [(bool, u8, &[u8]); 12] = [
     (false, 0, &[0x04, 0x00, 0x00, 0x19, 0xee, 0xee, 0xee]),
@@ -139,7 +139,7 @@ const STREAMS: [(bool, u8, &[u8]); 12] = [
 ];
 
 // Whether the header of a section of this form and length begins the stream, and the section is
-// read from it again.
+// read back from it.
 fn is_read_again(extended: bool, len: u8, stream: &[u8]) -> bool {
     let header: usize = if extended { 8 } else { 4 };
     let end = header + usize::from(len);

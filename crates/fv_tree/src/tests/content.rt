@@ -103,14 +103,14 @@ fn plain() -> &'static str {
     "
 }
 
-// The bytes of the volume between two places.
+// The bytes of the volume between two offsets.
 fn between<'a>(volume: &'a [u8], places: &str) -> Option<&'a [u8]> {
     let (from, to) = places.split_once(' ')?;
     volume.get(from.parse::<usize>().ok()?..to.parse::<usize>().ok()?)
 }
 
-// Whether a section of the volume holds what some words say: the bytes between two places of it, so many sections and
-// a tail, or so many files.
+// Whether a section of the volume holds what some words say: the bytes between two offsets of the
+// volume, a number of sections and a tail, or a number of files.
 fn has_body(alloc: Global, section: &SectionView, volume: &[u8], wanted: &str) -> Option<bool> {
     let found = match section.body() {
         Body::Leaf(_) => {
@@ -128,8 +128,8 @@ fn has_body(alloc: Global, section: &SectionView, volume: &[u8], wanted: &str) -
     Some(found.as_str() == wanted)
 }
 
-// Whether a section of the volume is the wanted one: its type, whether its header is extended, how many bytes its
-// body has, and what it holds.
+// Whether a section of the volume is the expected one: its type, whether its header is extended,
+// how many bytes its body has, and what it holds.
 fn is_framed(alloc: Global, section: &SectionView, volume: &[u8], wanted: &str) -> Option<bool> {
     let (head, holds) = wanted.split_once(", ")?;
     let (kind, extended, len) = (section.kind(), section.extended(), section.body_len());
@@ -137,7 +137,7 @@ fn is_framed(alloc: Global, section: &SectionView, volume: &[u8], wanted: &str) 
     Some(found.as_str() == head && has_body(alloc, section, volume, holds)?)
 }
 
-// Whether a file of the volume holds so many sections and bytes behind them, and these sections.
+// Whether a file of the volume holds this many sections and bytes after them, and these sections.
 fn has_sections(alloc: Global, file: &FileView, volume: &[u8], wanted: &str) -> Option<bool> {
     let Content::Stream { sections, tail } = file.content() else {
         return None;
@@ -163,7 +163,7 @@ fn is_stream(alloc: Global, line: &str) -> Option<bool> {
     has_sections(alloc, view.file(0)?, &volume, wanted)
 }
 
-// Whether the data of a file lie between two places of the volume.
+// Whether the data of a file are between two offsets of the volume.
 fn has_data(view: &VolumeView, volume: &[u8], wanted: &str) -> Option<bool> {
     let (number, places) = wanted.split_once(' ')?;
     let file = view.file(number.parse::<u32>().ok()?)?;

@@ -1,10 +1,10 @@
-//! Groups and volumes that lie in one another, and the order of faults.
+//! Groups and volumes nested in one another, and the order of faults.
 
 use super::spell;
 use crate::{Body, Content, SectionView, VolumeView, read_volume};
 use std::alloc::Global;
 
-// Volumes of which a part is not read, or read apart.
+// Volumes of which a part is not read, or is read separately.
 pub(super) fn accepted() -> &'static str {
     "\
     the stream of a superseded file is not read: 136, 0a 02 00 5 Some(1): \
@@ -137,7 +137,7 @@ pub(super) fn refused() -> &'static str {
     "
 }
 
-// What lies in what, from the outside in, g a group and v a volume, and how it is spelled.
+// How groups (g) and volumes (v) are nested, from the outside in, and how the volume is spelled.
 fn levels() -> &'static str {
     "\
     gggggggg: \
@@ -206,7 +206,7 @@ fn below<'v, 'a>(section: &'v SectionView<'a>) -> Option<(u8, Option<&'v [Sectio
     }
 }
 
-// Whether the first sections hold one another so.
+// Whether the first sections are nested like this.
 fn has_levels(view: &VolumeView, levels: &str) -> Option<bool> {
     let mut sections = first_stream(view);
     for level in levels.bytes() {

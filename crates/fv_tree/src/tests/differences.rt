@@ -1,10 +1,11 @@
-//! Two volumes from outside: where they first differ in what they mean, and where they mean the same.
+//! Pairs of volumes from outside: where their meanings first differ, and pairs with the same
+//! meaning.
 
 use super::{row_of, spell};
 use crate::{VolumeView, first_difference, read_volume};
 use std::alloc::Global;
 
-// Two volumes each.
+// Lines with two volumes each.
 fn compared() -> &'static str {
     "\
     zero vector: [] ZeroVector: \

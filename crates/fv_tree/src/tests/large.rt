@@ -22,7 +22,7 @@ pub(super) fn accepted() -> &'static str {
     "
 }
 
-// Such volumes that are refused.
+// Such volumes that are rejected.
 pub(super) fn refused() -> &'static str {
     "\
     a large header in the second file system: LargeFile 91 0: \
@@ -46,14 +46,14 @@ pub(super) fn refused() -> &'static str {
     "
 }
 
-/// What a volume of 16 MiB and 80 bytes begins with: a header, and that of a file with so many bytes that
-/// no short one can say them.
+/// The start of a volume of 16 MiB and 80 bytes: its header, and that of a file whose size does not
+/// fit in a short header.
 const LONG: &str =
     "00*16 7ac07354cb3dca4dbd6f1e9689e7349a 50000001 00*4 5f465648 fffe0400 48004545 00000002 01000000 50000001 00*8 \
      0a*16 \
      55aa0101000000f8 0800000100000000";
 
-// Whether the long volume is read with its file, whose data are all behind the headers.
+// Whether the long volume is read with its file, whose data are all bytes after the headers.
 fn is_long_read(alloc: Global) -> Option<bool> {
     let front = spell(alloc, LONG)?;
     let mut bytes = vec![in alloc; 0u8; 0x100_0050].ok()?;

@@ -34,7 +34,7 @@ fn sections() -> &'static str {
     "
 }
 
-// Bytes, and where the volumes in them begin.
+// Bytes, and the offsets at which the volumes in them begin.
 fn scanned() -> &'static str {
     "\
     a volume behind 64 bytes: [64]: \
@@ -64,8 +64,8 @@ fn scanned() -> &'static str {
     "
 }
 
-// What a look-up finds: a section with a body of so many bytes, and those of a leaf; or a frame, its place,
-// and the bytes of its body.
+// What a look-up finds: for a section the number of its body's bytes, and the bytes of a leaf; for
+// a frame its offset, and the bytes of its body.
 fn shown(alloc: Global, lookup: &Lookup) -> Option<String> {
     match lookup {
         Lookup::Found(Item::Section(section)) => {
@@ -81,7 +81,7 @@ fn shown(alloc: Global, lookup: &Lookup) -> Option<String> {
     }
 }
 
-// Whether the section of the type and the instance that some words begin with is what the others say.
+// Whether the section whose type and instance come first in the words is what the other words say.
 fn is_shown(alloc: Global, file: &FileView, words: &str) -> Option<bool> {
     let (kind, words) = words.split_once(' ')?;
     let (instance, wanted) = words.split_once(' ')?;
@@ -90,7 +90,7 @@ fn is_shown(alloc: Global, file: &FileView, words: &str) -> Option<bool> {
     Some(shown(alloc, &found)?.as_str() == wanted)
 }
 
-// Whether a file has the wanted sections.
+// Whether a file has the expected sections.
 fn has_sections(alloc: Global, file: &FileView, wanted: &str) -> Option<bool> {
     for words in wanted.split("; ") {
         if !is_shown(alloc, file, words)? {
@@ -115,25 +115,26 @@ fn sections_are_looked_up(rt: HostRuntime) {
     }
 }
 
-// The number of the file behind the one of this number, and the first byte of its name.
+// The number of the file after the one with this number, and the first byte of its name.
 fn behind(view: &VolumeView, after: Option<u32>) -> Option<(u32, u8)> {
     let (number, file) = next_file(view, after)?;
     Some((number, file.name().to_bytes()[0]))
 }
 
-// The first byte of the name of the file of type 0x01 and this instance.
+// The first byte of the name of the file of type 0x01 with this instance.
 fn of_type(view: &VolumeView, instance: u32) -> Option<u8> {
     let file = file_by_type(view, 0x01, instance)?;
     Some(file.name().to_bytes()[0])
 }
 
-// The first byte of the data of the file of a name that is one byte 16 times, or None where there is no such file.
+// The first byte of the data of the file whose name is this byte 16 times, or None if there is no
+// such file.
 fn named(view: &VolumeView, byte: u8) -> Option<u8> {
     let file = file_by_name(view, &Guid::from_bytes([byte; 16]))?;
     Some(file.plain()?.first().copied().unwrap_or(0))
 }
 
-// Whether the files of a volume are those of some names, and there are so many.
+// Whether the files with some names are found in a volume, and no others.
 fn has_names(view: &VolumeView) -> bool {
     let found = [
         named(view, 0x0a),
@@ -145,7 +146,7 @@ fn has_names(view: &VolumeView) -> bool {
     found == [Some(2), Some(0), None, None] && is_last
 }
 
-// Whether the files of a volume are those behind some, and those of some instances.
+// Whether the files after some others, and those with some instances, are found in a volume.
 fn has_files(view: &VolumeView) -> bool {
     let next = [
         behind(view, None),
@@ -163,7 +164,8 @@ fn has_files(view: &VolumeView) -> bool {
     next == wanted && found == [None, Some(0x0b), Some(0x0a), None]
 }
 
-/// A deleted file of name C, a marked one of name A, one of name B, and the one that replaces the marked one.
+/// A deleted file of name C, a marked one of name A, one of name B, and the one that replaces the
+/// marked one.
 const STATES: &str =
     "00*16 78e58c8c3d8a1c4f9935896185c32dd3 0001 00*6 5f465648 fffe0400 4800cef4 00000002 01000000 00010000 00*8 0c*16 \
      1faa0100200000e8 00*8 0a*16 3faa0100200000f0 01*8 0b*16 37aa0100180000f8 0a*16 3faa0100200000f8 02*8 ff*64";

@@ -17,13 +17,14 @@ const HEADS: [(&str, u32); 2] = [
     ),
 ];
 
-// The name of the file of this number: the number, and 12 zeros.
+// The name of file number n: the number, and 12 zeros.
 fn name_of(number: u32) -> [u8; 16] {
     let [a, b, c, d] = number.to_le_bytes();
     [a, b, c, d, 0, 0, 0, 0, 0, 0, 0, 0, 0, 0, 0, 0]
 }
 
-// The header of a file of this name, which has no data: the other bytes sum to 0x19 and those of the name.
+// The header of a file with this name and no data: the other bytes sum to 0x19 and those of the
+// name.
 fn file_of(name: [u8; 16]) -> [u8; 24] {
     let mut sum = 0x19u8;
     for byte in name {
@@ -44,7 +45,7 @@ fn file_of(name: [u8; 16]) -> [u8; 24] {
     bytes
 }
 
-// A volume of so many files, with this header.
+// A volume with `count` files and this header.
 fn volume_of(alloc: Global, head: &str, count: u32) -> Option<Vec<u8>> {
     let mut volume = spell(alloc, head)?;
     for number in 0..count {
@@ -53,12 +54,12 @@ fn volume_of(alloc: Global, head: &str, count: u32) -> Option<Vec<u8>> {
     Some(volume)
 }
 
-// Whether a volume has a file of the name of this number.
+// Whether a volume has a file with the name of this number.
 fn has_file(view: &VolumeView, number: u32) -> bool {
     file_by_name(view, &Guid::from_bytes(name_of(number))).is_some()
 }
 
-// Whether a view has so many files, and no other.
+// Whether a view has `count` files, and no other.
 fn has_all(view: &VolumeView, count: u32) -> Option<bool> {
     let last = count.checked_sub(1)?;
     let is_last = view.file(last)?.name().to_bytes() == name_of(last);
@@ -66,7 +67,7 @@ fn has_all(view: &VolumeView, count: u32) -> Option<bool> {
     Some(is_whole && has_file(view, last / 2) && !has_file(view, count))
 }
 
-// Whether a volume of so many files is read with all of them.
+// Whether a volume with `count` files is read with all of them.
 fn is_many(alloc: Global, head: &str, count: u32) -> Option<bool> {
     let volume = volume_of(alloc, head, count)?;
     let (view, length) = read_volume(alloc, &volume).ok()?;

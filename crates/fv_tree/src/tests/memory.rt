@@ -1,4 +1,5 @@
-//! Refused memory, where `.ci/memory` refuses each allocation of the test in turn: no other answer stands in its place.
+//! Failed allocations: `.ci/memory` makes each allocation of the test fail in turn, and no wrong
+//! result may be returned.
 
 use super::vectors::{accepted, refused};
 use super::{row_of, spell, told};
@@ -9,7 +10,7 @@ use crate::{
 use fv_base::{Fault, FaultKind, Guid};
 use std::alloc::Global;
 
-// The bytes that a text spells. Where memory was refused to them, it is there the second time.
+// The bytes that a text spells. If memory runs out for them, it is there the second time.
 fn spelled(alloc: Global, text: &str) -> Option<Vec<u8>> {
     match spell(alloc, text) {
         None => spell(alloc, text),
@@ -17,8 +18,8 @@ fn spelled(alloc: Global, text: &str) -> Option<Vec<u8>> {
     }
 }
 
-// Whether what is told of the bytes of a line is what it wants, or memory was refused. Where it is refused to the text
-// of the answer, nothing is told.
+// Whether reading the bytes of a line gives what the line expects, or memory ran out. If it ran out
+// for the text of the result, there is no text.
 fn is_answered(alloc: Global, line: &str) -> Option<bool> {
     let (wanted, text) = row_of(line)?;
     let bytes = spelled(alloc, text)?;
@@ -28,14 +29,14 @@ fn is_answered(alloc: Global, line: &str) -> Option<bool> {
     Some(found.as_str() == wanted || found.as_str() == "OutOfMemory 0 0")
 }
 
-/// Two volumes, which differ in the last section of the second file: it stands in a group in a group.
+/// Two volumes, which differ in the last section of the second file: it is in a group in a group.
 const PAIR: &str =
     "00*16 78e58c8c3d8a1c4f9935896185c32dd3 a0 00*7 5f465648 fffe0400 4800 8ef5 00000002 01000000 a0000000 00*8 0a*16 \
      47aa0100180000f8 0b*16 21aa02002d0000f8050000195a0000000d00000309000003050000195a ff*19 00*16 \
      78e58c8c3d8a1c4f9935896185c32dd3 a0 00*7 5f465648 fffe0400 4800 8ef5 00000002 01000000 a0000000 00*8 0a*16 \
      47aa0100180000f8 0b*16 21aa02002d0000f8050000195a0000000d00000309000003050000195b ff*19";
 
-// What a call answers that was refused memory.
+// What a call returns if memory ran out.
 fn want() -> Fault {
     Fault::outer(FaultKind::OutOfMemory, 0)
 }
@@ -48,7 +49,7 @@ fn holds(file: &FileView, byte: u8) -> bool {
     }
 }
 
-// Whether the look-ups, which take no memory, answer.
+// Whether the look-ups, which take no memory, return the right results.
 fn is_looked_up(view: &VolumeView, byte: u8) -> bool {
     let (Some((1, file)), Some(named), Some(first)) = (
         next_file(view, Some(0)),
@@ -60,7 +61,7 @@ fn is_looked_up(view: &VolumeView, byte: u8) -> bool {
     named.kind() == 0x02 && first.name() == Guid::from_bytes([0x0a; 16]) && holds(file, byte)
 }
 
-// Whether the two first differ in that section, or memory was refused.
+// Whether the two first differ in that section, or memory ran out.
 fn is_difference(alloc: Global, view: &VolumeView, other: &VolumeView) -> bool {
     match first_difference(alloc, view, other) {
         Ok(Some(found)) => {
@@ -77,7 +78,7 @@ fn is_difference(alloc: Global, view: &VolumeView, other: &VolumeView) -> bool {
     }
 }
 
-// Whether the two are read and compared, or memory was refused.
+// Whether the two are read and compared, or memory ran out.
 fn is_compared(alloc: Global, bytes: &[u8], other: &[u8]) -> bool {
     match (read_volume(alloc, bytes), read_volume(alloc, other)) {
         (Ok((view, _)), Ok((other, _))) => {
@@ -90,7 +91,7 @@ fn is_compared(alloc: Global, bytes: &[u8], other: &[u8]) -> bool {
     }
 }
 
-// Whether both are found, or memory was refused.
+// Whether both are found, or memory ran out.
 fn are_found(alloc: Global, bytes: &[u8]) -> bool {
     match scan(alloc, bytes) {
         Ok(offsets) => offsets.as_slice() == [0, 160].as_slice(),
@@ -98,7 +99,7 @@ fn are_found(alloc: Global, bytes: &[u8]) -> bool {
     }
 }
 
-// Whether the two volumes are answered, or memory was refused.
+// Whether the right results are returned for the two volumes, or memory ran out.
 fn is_pair_answered(alloc: Global) -> Option<bool> {
     let bytes = spelled(alloc, PAIR)?;
     let (first, second) = bytes.as_slice().split_at_checked(160)?;

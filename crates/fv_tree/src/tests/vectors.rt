@@ -1,4 +1,5 @@
-//! Volumes from outside: the files of each that is read, and the first fault of each that is none.
+//! Volumes from outside: the files of each that is read, and the first fault of bytes that are no
+//! volume.
 
 use super::{row_of, spell};
 use crate::read_volume;
@@ -299,7 +300,7 @@ pub(super) fn refused() -> &'static str {
     "
 }
 
-// Whether each front of the volume of a line is Truncated at its end.
+// Whether the volume of a line, cut short anywhere, is Truncated at its end.
 fn is_cut_short(alloc: Global, line: &str) -> Option<bool> {
     let (_, text) = row_of(line)?;
     let bytes = spell(alloc, text)?;

@@ -1,4 +1,4 @@
-//! Views: the slices that they lend, and how much room they take.
+//! Views: the slices that they lend, and how much memory they take.
 
 use super::spell;
 use crate::{Content, FileView, SectionView, read_volume};
@@ -23,7 +23,7 @@ fn part_of<'a>(file: &FileView<'a>) -> Option<&'a [u8]> {
     }
 }
 
-// A part of the first file of a volume, taken out of a view that is gone when it is used.
+// A part of the first file of a volume, taken from a view that is dropped before the part is used.
 fn first_part(alloc: Global, volume: &[u8]) -> Option<&[u8]> {
     let (view, _) = read_volume(alloc, volume).ok()?;
     let part = part_of(view.file(0)?);
@@ -31,7 +31,7 @@ fn first_part(alloc: Global, volume: &[u8]) -> Option<&[u8]> {
     part
 }
 
-// Whether the part is one byte of the input, which is let go behind it.
+// Whether the part is one byte of the input, which is dropped after it.
 fn is_byte(alloc: Global, text: &str, byte: u8) -> Option<bool> {
     let input = spell(alloc, text)?;
     let part = first_part(alloc, &input)?;
