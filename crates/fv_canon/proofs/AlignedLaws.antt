@@ -11,8 +11,7 @@ use Rattle.fv_head.specs.declared.extent.Extent.{Extent}
 use Rattle.fv_head.proofs.Laws.{one_front}
 use Rattle.fv_tree.specs.Denotes.{IsMeaning, MeansSection, Stream}
 use Rattle.fv_tree.specs.Meaning.{Meaning, Volume, head_of}
-use Rattle.fv_canon.specs.Aligned.{DataAligned}
-use Rattle.fv_canon.specs.Headline.{DataAreAligned}
+use Rattle.fv_canon.specs.Headline.{DataAligned, DataAreAligned}
 use Rattle.fv_canon.specs.Image.{IsImage}
 use Rattle.fv_canon.proofs.StoredTilingLaws.{PadErased}
 use Rattle.fv_canon.proofs.StreamLaws.{stream_again}

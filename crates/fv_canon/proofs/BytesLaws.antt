@@ -1,6 +1,6 @@
 -- What is written for a volume is bytes.
 use Rattle.std.proofs.Common.{◌≡◌, ◌-◌, ◌+◌, ℕ, zero, suc, Bool, true, false, List, [], ◌∷◌, ◌++◌, length, replicate, sym, subst}
-use Rattle.std.specs.Prelude.{if◌then◌else◌, ◌==◌, Option, None, Some}
+use Rattle.std.specs.Prelude.{if◌then◌else◌, ◌==◌, nat_le, Option, None, Some}
 use Rattle.std.specs.List.{AllByRecursion}
 use Rattle.fv_base.specs.Flash.{erased_byte}
 use Rattle.fv_base.specs.Guids.{bytes_of}
@@ -16,7 +16,7 @@ use Rattle.fv_head.specs.HeadImage.{canonical_head}
 use Rattle.fv_head.specs.ExtImage.{IfRead, canonical_end, canonical_first, payload_with, entry_bytes, entries_bytes}
 use Rattle.fv_head.specs.ExtImage.{ext_len, ext_spelled}
 use Rattle.fv_head.proofs.Laws.{canonical_is}
-use Rattle.fv_canon.specs.StoredFiles.{StoredFile, stored_len, stored_bytes, pad_bytes, pads, long_pad, long_pads, gap_bytes}
+use Rattle.fv_canon.specs.StoredFiles.{StoredFile, stored_len, stored_bytes, pad_bytes, pads, long_pad, gap_bytes}
 use Rattle.fv_canon.specs.StoredWalks.{files_bytes, volume_bytes}
 use Rattle.fv_canon.specs.StoredFiles.{ext_pad, used_size}
 use Rattle.fv_canon.proofs.CellLaws.{Storable, bytes_stored, bytes_pad_head, bytes_erased, bytes_pad}
@@ -31,11 +31,12 @@ bytes_either false a b h k = k
 bytes_pads : (p : Polarity) (n gap : ℕ) → IsBytes (pads p n gap)
 bytes_pads p zero gap = bytes_pad p gap
 bytes_pads p (suc n) gap =
-    bytes_append (pad_bytes p long_pad) (pads p n (gap - long_pad)) (bytes_pad p long_pad) (bytes_pads p n (gap - long_pad))
+    bytes_either (nat_le gap 0xfffff8) (pad_bytes p gap) (pad_bytes p long_pad ++ pads p n (gap - long_pad)) (bytes_pad p gap)
+    (bytes_append (pad_bytes p long_pad) (pads p n (gap - long_pad)) (bytes_pad p long_pad) (bytes_pads p n (gap - long_pad)))
 
 bytes_gap : (p : Polarity) (gap : ℕ) → IsBytes (gap_bytes p gap)
 unfolding gap_bytes
-bytes_gap p gap = bytes_either (gap == 0) [] (pads p (long_pads gap) gap) none_at (bytes_pads p (long_pads gap) gap)
+bytes_gap p gap = bytes_either (gap == 0) [] (pads p gap gap) none_at (bytes_pads p gap gap)
 
 bytes_files : (system : FileSystem) (p : Polarity) (total e : ℕ) (fs : List StoredFile) (ss : List ℕ) → AllByRecursion (Storable system) fs
     → IsBytes (files_bytes p total e fs ss)

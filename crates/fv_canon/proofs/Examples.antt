@@ -1,7 +1,8 @@
 -- Images of small volumes, byte by byte.
-use Rattle.std.proofs.Common.{◌≡◌, ℕ, false, List, [], ◌∷◌, ◌++◌, replicate, refl}
+use Rattle.std.proofs.Common.{◌≡◌, ℕ, false, List, [], ◌∷◌, ◌++◌, replicate, refl, ap, ◌∙◌, arith}
 use Rattle.std.specs.Prelude.{None, Some}
 use Rattle.fv_base.specs.declared.flash.FileSystem.TheVariants.{Ffs2}
+use Rattle.fv_base.specs.declared.flash.Polarity.{Polarity}
 use Rattle.fv_base.specs.declared.guid.Guid.{Guid}
 use Rattle.fv_file.specs.NewHeaders.{header_bytes}
 use Rattle.fv_head.specs.Head.{HeadFields}
@@ -9,7 +10,8 @@ use Rattle.fv_head.specs.HeadImage.{canonical_head, head_spelled}
 use Rattle.fv_head.specs.ExtImage.{ext_spelled}
 use Rattle.fv_tree.specs.Meaning.{Volume, NoFiles, MoreFiles, File, Plain, Sectioned, NoSections, MoreSections, Section, Leaf, Nested}
 use Rattle.fv_canon.specs.ImageOf.{image_of}
-use Rattle.fv_canon.specs.StoredFiles.{stored_bytes, pad_bytes, gap_bytes, ext_pad, long_pads}
+use Rattle.fv_canon.specs.StoredFiles.{stored_bytes, pad_bytes, gap_bytes, ext_pad}
+use Rattle.fv_canon.proofs.PadLaws.{pads_rule}
 
 abbrev guid : ℕ → Guid
 guid n = record { bytes = replicate 16 n }
@@ -85,5 +87,7 @@ unfolding canonical_head head_spelled ext_spelled ext_pad header_bytes stored_by
 ext_image = refl
 
 -- a gap of 16 MiB: one long pad, and one of 256 bytes
-long_gap : long_pads 16777216 ≡ 1
-long_gap = refl
+long_gap : (p : Polarity) → gap_bytes p 16777216 ≡ pad_bytes p 0xffff00 ++ pad_bytes p 256
+long_gap p =
+    let first = (pads_rule p 16777216 (omega arith) refl).1 (omega arith) in
+    first.0 ∙ ap (λ xs. pad_bytes p 0xffff00 ++ xs) ((pads_rule p 256 (omega arith) refl).0 (omega arith))

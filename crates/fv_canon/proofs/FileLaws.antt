@@ -1,6 +1,6 @@
 -- What is known of a file that was read and laid out, and how the files of a volume go on.
 use Rattle.std.proofs.Common.{◌≡◌, ◌≤◌, ◌<◌, ◌⊎◌, inl, inr, ◌+◌, ◌-◌, ◌%◌, ℕ, List, ◌∷◌, ◌++◌, length, drop, replicate}
-use Rattle.std.proofs.Common.{get_or, refl, sym, ap, ◌∙◌, subst, arith, append_assoc, drop-drop, length-drop}
+use Rattle.std.proofs.Common.{get_or, refl, sym, ap, ◌∙◌, subst, arith, append_assoc, length-drop}
 use Rattle.std.specs.Prelude.{map}
 use Rattle.std.proofs.lemmas.List.{drop_all, drop_more, length-map}
 use Rattle.fv_base.specs.Flash.{erased_byte}
@@ -12,12 +12,14 @@ use Rattle.fv_canon.specs.Starts.{StandsInVolume}
 use Rattle.fv_tree.specs.Meaning.{FileMeaning, File, files_from, file_name_of, file_kind_of, attributes_of, content_of}
 use Rattle.fv_tree.specs.Meaning.{data_len_of}
 use Rattle.fv_tree.specs.Denotes.{IsReadFile, MeansSection, Stream}
-use Rattle.fv_canon.specs.ImageOf.{stored_of, stored_file, data_of, starts_in_file, starts_in_files, starts_in_content}
-use Rattle.fv_canon.specs.Layouts.{LaysFiles, LaysFile, LaysContent, part_of}
+use Rattle.fv_canon.specs.ImageOf.{stored_of, stored_file, data_of, starts_in}
+use Rattle.fv_canon.specs.Layouts.{part_of}
+use Rattle.fv_canon.specs.Volumes.{volumes_in_files, volumes_in_file, volumes_in_content}
 use Rattle.fv_canon.specs.StoredFiles.{stored_len, size_for, head_len_for, file_sum_for, stored_bytes, gap_bytes}
 use Rattle.fv_canon.specs.StoredWalks.{files_bytes}
-use Rattle.fv_canon.proofs.ItemLaws.{item_at, both_laid}
-use Rattle.fv_canon.proofs.WrittenImageLaws.{data_made, stream_made, sections_made, laid_file}
+use Rattle.fv_canon.proofs.ItemLaws.{item_at}
+use Rattle.fv_canon.proofs.VolumeListLaws.{item_begins, item_left}
+use Rattle.fv_canon.proofs.WrittenImageLaws.{data_made, stream_made, sections_made}
 use Rattle.fv_canon.proofs.OneImageLaws.{follow_length}
 use Rattle.fv_canon.proofs.StreamLaws.{stream_again}
 use Rattle.fv_canon.proofs.VolumeLaws.{data_again, sections_again}
@@ -26,7 +28,7 @@ use Rattle.fv_base.specs.Sinks.{WalkLaws}
 use Rattle.fv_canon.specs.ImageWalks.{BeginsWithStarts, TakesFront}
 
 -- ---- a file
-pub file_long : (m : FileMeaning) (starts : List ℕ) → IsReadFile m → BeginsWithStarts LaysFile m starts
+pub file_long : (m : FileMeaning) (starts : List ℕ) → IsReadFile m → BeginsWithStarts (volumes_in_file m) starts
     → length (data_of (content_of m) starts) ≡ data_len_of m
 file_long (File name kind attributes content) starts (n, l, f, (system, p, b, small, most, cell), (named, kinds, bits, is))
     (laid, more, text, lays) =
@@ -48,11 +50,11 @@ pub size_is : (m : FileMeaning) (starts : List ℕ) → length (data_of (content
     → stored_len (stored_file m starts) ≡ size_for (data_len_of m)
 size_is (File name kind attributes content) starts long = ap size_for long
 
-pub in_content : (m : FileMeaning) → starts_in_file m ≡ starts_in_content (content_of m)
+pub in_content : (m : FileMeaning) → starts_in (volumes_in_file m) ≡ starts_in (volumes_in_content (content_of m))
 in_content (File name kind attributes content) = refl
 
-pub content_laid : (m : FileMeaning) (starts : List ℕ) → BeginsWithStarts LaysFile m starts
-    → BeginsWithStarts LaysContent (content_of m) starts
+pub content_laid : (m : FileMeaning) (starts : List ℕ) → BeginsWithStarts (volumes_in_file m) starts
+    → BeginsWithStarts (volumes_in_content (content_of m)) starts
 content_laid (File name kind attributes content) starts laid = laid
 
 -- ---- the walk over the files
@@ -122,12 +124,12 @@ pub files_go : (p : Polarity) (total e : ℕ) (f : FileMeaning) (fs : List FileM
     → files_bytes p total e (stored_of (files_from (f ∷ fs)) starts) (s ∷ ss)
     ≡ (gap_bytes p (s - e) ++ (stored_bytes p (stored_file f starts)
     ++ replicate (up_to_8 (s + size_for (data_len_of f)) - (s + size_for (data_len_of f))) (erased_byte p)))
-    ++ files_bytes p total (up_to_8 (s + size_for (data_len_of f))) (stored_of (files_from fs) (drop (starts_in_file f) starts)) ss
+    ++ files_bytes p total (up_to_8 (s + size_for (data_len_of f))) (stored_of (files_from fs) (drop (starts_in (volumes_in_file f)) starts)) ss
 files_go p total e f fs s ss starts size =
     let gap : List ℕ = gap_bytes p (s - e) in
     let file : List ℕ = stored_bytes p (stored_file f starts) in
     let rest : ℕ → List ℕ =
-    λ (n : ℕ). files_bytes p total (up_to_8 (s + n)) (stored_of (files_from fs) (drop (starts_in_file f) starts)) ss in
+    λ (n : ℕ). files_bytes p total (up_to_8 (s + n)) (stored_of (files_from fs) (drop (starts_in (volumes_in_file f)) starts)) ss in
     let fill : ℕ → List ℕ = λ (n : ℕ). replicate (up_to_8 (s + n) - (s + n)) (erased_byte p) in
     ap (λ (n : ℕ). gap ++ (file ++ (fill n ++ rest n))) size
     ∙ sym (append_assoc gap (file ++ fill (size_for (data_len_of f))) (rest (size_for (data_len_of f)))
@@ -154,19 +156,17 @@ at_file total e fs own i f l is placed =
       here = here_is total e f (drop (i + 1) fs) (get_or own i 0) (drop (i + 1) own) both;
     }
 
+-- the starts of the file at a place, and of those behind it
 pub file_laid : (fs : List FileMeaning) (i : ℕ) (f : FileMeaning) (starts : List ℕ) → i < length fs → f ≡ get_or fs i f
-    → BeginsWithStarts LaysFiles (files_from (drop i fs)) starts
-    → BeginsWithStarts LaysFile f starts × BeginsWithStarts LaysFiles (files_from (drop (i + 1) fs)) (drop (starts_in_file f) starts)
-file_laid fs i f starts l is laid =
-    both_laid LaysFile LaysFiles f (files_from (drop (i + 1) fs)) (starts_in_file f) starts (laid_file f)
-    (subst (λ (xs : List FileMeaning). BeginsWithStarts LaysFiles (files_from xs) starts) (item_at fs i f l is) laid)
+    → BeginsWithStarts (volumes_in_files (files_from (drop i fs))) starts
+    → BeginsWithStarts (volumes_in_file f) starts
+    × BeginsWithStarts (volumes_in_files (files_from (drop (i + 1) fs))) (drop (starts_in (volumes_in_file f)) starts)
+file_laid = item_begins (λ xs. volumes_in_files (files_from xs)) volumes_in_file refl (λ x xs. refl)
 
 pub files_left : (fs : List FileMeaning) (i : ℕ) (f : FileMeaning) (starts : List ℕ) → i < length fs → f ≡ get_or fs i f
-    → drop (starts_in_files (files_from (drop i fs))) starts
-    ≡ drop (starts_in_files (files_from (drop (i + 1) fs))) (drop (starts_in_file f) starts)
-files_left fs i f starts l is =
-    ap (λ (xs : List FileMeaning). drop (starts_in_files (files_from xs)) starts) (item_at fs i f l is)
-    ∙ sym (drop-drop (starts_in_files (files_from (drop (i + 1) fs))) (starts_in_file f) starts)
+    → drop (starts_in (volumes_in_files (files_from (drop i fs)))) starts
+    ≡ drop (starts_in (volumes_in_files (files_from (drop (i + 1) fs)))) (drop (starts_in (volumes_in_file f)) starts)
+files_left = item_left (λ xs. volumes_in_files (files_from xs)) volumes_in_file refl (λ x xs. refl)
 
 -- the walk at a file: what is left is its gap, itself and its filler, and then the files behind it
 pub walk_goes : (p : Polarity) (total e : ℕ) (fs : List FileMeaning) (own : List ℕ) (i : ℕ) (f : FileMeaning) (starts : List ℕ)
@@ -175,7 +175,7 @@ pub walk_goes : (p : Polarity) (total e : ℕ) (fs : List FileMeaning) (own : Li
     ≡ (gap_bytes p (get_or own i 0 - e) ++ (stored_bytes p (stored_file f starts)
     ++ replicate (up_to_8 (get_or own i 0 + size_for (data_len_of f)) - (get_or own i 0 + size_for (data_len_of f))) (erased_byte p)))
     ++ files_bytes p total (up_to_8 (get_or own i 0 + size_for (data_len_of f)))
-    (stored_of (files_from (drop (i + 1) fs)) (drop (starts_in_file f) starts)) (drop (i + 1) own)
+    (stored_of (files_from (drop (i + 1) fs)) (drop (starts_in (volumes_in_file f)) starts)) (drop (i + 1) own)
 walk_goes p total e fs own i f starts at size =
     ap (λ (xs : List FileMeaning). files_bytes p total e (stored_of (files_from xs) starts) (drop i own)) at.files
     ∙ ap (λ (xs : List ℕ). files_bytes p total e (stored_of (files_from (f ∷ drop (i + 1) fs)) starts) xs) at.starts

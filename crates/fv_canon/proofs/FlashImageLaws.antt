@@ -16,7 +16,7 @@ use Rattle.fv_tree.specs.FirstFault.{moved_fault}
 use Rattle.fv_tree.specs.FoundVolumes.{Found, IsCovered, VolumeAt}
 use Rattle.fv_tree.specs.FoundWalks.{FoundFrom}
 use Rattle.fv_tree.specs.Meaning.{Meaning}
-use Rattle.fv_tree.proofs.Laws.{at_within, found_walk, one_found, one_length, one_of}
+use Rattle.fv_tree.proofs.Laws.{at_within, found_walk, one_found, one_length, one_of, want_known}
 use Rattle.fv_base.proofs.Laws.{first_or_behind, in_middle, one_behind}
 use Rattle.fv_canon.specs.Image.{IsImage}
 use Rattle.fv_canon.specs.Headline.{NormalisesTo}
@@ -24,7 +24,7 @@ use Rattle.fv_canon.specs.Refusals.{Refuses}
 use Rattle.fv_canon.specs.FlashImages.{FirstRefused, HasImageAt, IsRenewed, NormalisesAll, Renewed}
 use Rattle.fv_canon.proofs.FaultPlaces.{refused_within}
 use Rattle.fv_canon.proofs.FitLaws.{unfit_none}
-use Rattle.fv_canon.proofs.InputLaws.{image_fits, want_known}
+use Rattle.fv_canon.proofs.InputLaws.{image_fits}
 use Rattle.fv_canon.proofs.ImageLaws.{image_stays_long}
 use Rattle.fv_canon.proofs.MeaningLaws.{one_meaning}
 use Rattle.fv_canon.proofs.OneImageLaws.{image_one}

@@ -9,13 +9,15 @@ use Rattle.fv_tree.specs.Denotes.{IsReadFile, IsReadSection, MeansSection, Strea
 use Rattle.fv_tree.specs.Meaning.{FileMeaning, File, SectionMeaning, Section, content_of, body_of}
 use Rattle.fv_canon.specs.Image.{IsData, IsBodyImage, IsFrame}
 use Rattle.fv_canon.specs.ImageOf.{data_of, body_image, frame_of}
-use Rattle.fv_canon.specs.Layouts.{LaysContent, LaysBody}
+use Rattle.fv_canon.specs.Layouts.{AreStarts, Laid}
+use Rattle.fv_canon.specs.Volumes.{volumes_in_body, volumes_in_content}
+use Rattle.fv_canon.proofs.VolumeListLaws.{laid_deeper}
 use Rattle.fv_canon.proofs.WrittenImageLaws.{data_made, stream_made, sections_made}
 use Rattle.fv_file.proofs.Laws.{cell_read}
 use Rattle.fv_section.proofs.Laws.{begun_bytes}
 
 -- the data of a file that was read and laid out
-pub data_is : (m : FileMeaning) (starts : List ℕ) → IsReadFile m → LaysContent (content_of m) starts
+pub data_is : (m : FileMeaning) (starts : List ℕ) → IsReadFile m → Laid AreStarts (volumes_in_content (content_of m)) starts
     → IsData (content_of m) (data_of (content_of m) starts)
 data_is (File name kind attributes content) starts (n, l, f, (system, p, b, small, most, cell), (named, kinds, bits, is)) laid =
     let r = cell_read system p f.offset f.head f.payload b small cell in
@@ -23,12 +25,13 @@ data_is (File name kind attributes content) starts (n, l, f, (system, p, b, smal
     (data_made (Stream n) (stream_made (MeansSection n) (sections_made n)) kind content f.payload starts [] r.payload is laid)
 
 -- the body of a section that was read and laid out
-pub body_is : (m : SectionMeaning) (starts : List ℕ) → IsReadSection m → LaysBody (body_of m) starts
+pub body_is : (m : SectionMeaning) (starts : List ℕ) → IsReadSection m → Laid AreStarts (volumes_in_body (body_of m)) starts
     → IsBodyImage (body_of m) (body_image (body_of m) starts)
 body_is (Section kind extended body) starts (n, l, f, (b, small, most, stands), is) laid =
     let inside = begun_bytes f (drop f.offset b) stands.behind (bytes_drop f.offset b small) stands.begins in
     let frame : IsFrame (Section kind extended body) (frame_of 0 (Section kind extended body) (starts ++ [])) =
-    sections_made n (Section kind extended body) f 0 starts [] inside.0 is laid in
+    sections_made n (Section kind extended body) f 0 starts [] inside.0 is
+    (laid_deeper AreStarts (volumes_in_body body) starts laid) in
     subst (λ (xs : List ℕ). IsBodyImage body (body_image body xs)) (append-nil starts) frame.2
 
 -- what a list has that took a text

@@ -1,8 +1,6 @@
--- An item of a list, what is behind it, and the starts of both.
-use Rattle.std.proofs.Common.{◌≡◌, ◌<◌, ◌+◌, ℕ, zero, suc, List, [], ◌∷◌, ◌++◌, length, drop, get_or, sym, ap, ◌∙◌, subst, arith}
+-- An item of a list, and what is behind it.
+use Rattle.std.proofs.Common.{◌≡◌, ◌<◌, ◌+◌, ℕ, zero, suc, List, [], ◌∷◌, length, drop, get_or, sym, ap, ◌∙◌, subst, arith}
 use Rattle.std.proofs.lemmas.List.{drop_more}
-use Rattle.fv_canon.specs.ImageWalks.{BeginsWithStarts}
-use Rattle.fv_canon.proofs.WrittenImageLaws.{moved, behind_is}
 
 -- where P of a list says Q of its first item and P of the rest, it says Q of each item
 pub item_has : {A : Type 0} (P : List A → Type 0) (Q : A → Type 0) → ((x : A) (xs : List A) → P (x ∷ xs) → Q x × P xs)
@@ -14,14 +12,3 @@ item_has P Q step (y ∷ ys) (suc i) x l is h = item_has P Q step ys i x (omega 
 -- the list from a place on
 pub item_at : {A : Type 0} (xs : List A) (i : ℕ) (x : A) → i < length xs → x ≡ get_or xs i x → drop i xs ≡ x ∷ drop (i + 1) xs
 item_at xs i x l is = drop_more xs i x l ∙ ap (λ y. y ∷ drop (i + 1) xs) (sym is)
-
--- starts that begin with those of an item and of what is behind it
-pub both_laid : {A B : Type 0} (One : A → List ℕ → Type 0) (Many : B → List ℕ → Type 0) (x : A) (xs : B) (n : ℕ) (starts : List ℕ)
-    → ((here : List ℕ) → One x here → length here ≡ n)
-    → (whole : List ℕ) × (more : List ℕ) × (starts ≡ whole ++ more)
-    × ((here : List ℕ) × (behind : List ℕ) × (whole ≡ here ++ behind) × One x here × Many xs behind)
-    → BeginsWithStarts One x starts × BeginsWithStarts Many xs (drop n starts)
-both_laid One Many x xs n starts long (whole, more, text, (here, behind, parts, p, q)) = (
-  (here, behind ++ more, text ∙ moved whole here behind more parts, p),
-  (behind, more, ap (drop n) text ∙ behind_is n whole here behind more parts (long here p), q),
-)

@@ -17,8 +17,6 @@ pub use Rattle.fv_canon.proofs.FitLaws.{laid_fits, fits_laid, unfit_none}
 pub use Rattle.fv_canon.proofs.InputLaws.{input_prefix, end_found, end_only, volume_refused, end_refused}
 -- an input that is no volume, or one that does not fit, is refused; one that has an image is neither
 pub use Rattle.fv_canon.proofs.InputLaws.{not_read, not_placed, not_read_never}
--- a fault is a want of memory or it is none
-pub use Rattle.fv_canon.proofs.InputLaws.{want_known}
 -- the data of a file that was read are shorter than a volume may be
 pub use Rattle.fv_canon.proofs.StoredPartLaws.{data_short}
 -- the faults of a layout are none of a reader or a writer

@@ -1,37 +1,37 @@
 -- The walk over a volume that adds the starts of the files in it: what it added, how deep it goes, and the fault that it passes on.
-use Rattle.std.proofs.Common.{◌≡◌, ◌≤◌, ◌<◌, ◌⊎◌, inl, inr, ◌+◌, ℕ, zero, suc, List, [], ◌∷◌, ◌++◌, length}
-use Rattle.std.proofs.Common.{take, get_or, refl, sym, ap, ◌∙◌, subst, arith, append_assoc, append-nil, Result, Ok, Err, IfErr, IsErrAnd}
+use Rattle.std.proofs.Common.{◌≡◌, ◌≤◌, ◌<◌, ◌⊎◌, inl, inr, ◌+◌, ℕ, suc, List, length, take, get_or, refl, sym, ◌∙◌, subst, arith}
+use Rattle.std.proofs.Common.{Result, Ok, Err, IfErr, IsErrAnd}
 use Rattle.fv_base.specs.Faults.{want_of_memory}
 use Rattle.fv_base.specs.declared.fault.Fault.{Fault}
 use Rattle.fv_tree.specs.Denotes.{IsMeaning, IsReadFile, IsReadSection, MeansSection, Stream}
 use Rattle.fv_tree.specs.Meaning.{Meaning, files_from, FileMeaning, File, content_of}
 use Rattle.fv_tree.specs.Meaning.{SectionMeanings, SectionMeaning, Section, sections_from, BodyMeaning, body_of, Group, Nested}
 use Rattle.fv_canon.specs.Depths.{NestsVolume, NestsFiles, NestsFile, NestsContent, NestsSections, NestsSection, NestsBody}
-use Rattle.fv_canon.specs.Layouts.{LaysFiles, LaysContent, LaysSections, LaysBody}
-use Rattle.fv_canon.specs.Layouts.{UnfitFiles, UnfitContent, UnfitSections, UnfitBody}
+use Rattle.fv_canon.specs.Layouts.{AreStarts, Laid, FirstUnfit}
+use Rattle.fv_canon.specs.Volumes.{volumes_in_files, volumes_in_file, volumes_in_content, volumes_in_sections, volumes_in_section}
+use Rattle.fv_canon.specs.Volumes.{volumes_in_body}
 use Rattle.fv_canon.proofs.DepthLaws.{nests, file_in, stream_in, sections_in}
 use Rattle.fv_canon.proofs.ItemLaws.{item_has}
-use Rattle.fv_canon.proofs.FitLaws.{laid_fits_section, laid_fits_file}
+use Rattle.fv_canon.proofs.VolumeListLaws.{in_file, in_section, item_grew, item_unfit, laid_deeper, unfit_deeper}
 use Rattle.fv_canon.specs.LayoutWalks.{Grew, Shallow}
 
 -- ---- sections
 
 -- one section more
-pub lays_push : (ss : List SectionMeaning) (i : ℕ) (d : SectionMeaning) (a b : List ℕ) → i < length ss
-    → LaysSections (sections_from (take i ss)) a → LaysBody (body_of (get_or ss i d)) b
-    → LaysSections (sections_from (take (suc i) ss)) (a ++ b)
-lays_push [] i d a b l p q = absurd (omega arith)
-lays_push (Section k e m ∷ ss) zero d a b l p q = (b, [], ap (λ (xs : List ℕ). xs ++ b) p ∙ sym (append-nil b), q, refl)
-lays_push (s ∷ ss) (suc i) d a b l (here, behind, text, p, r) q =
-    (here, behind ++ b, ap (λ (xs : List ℕ). xs ++ b) text ∙ append_assoc here behind b, p, lays_push ss i d behind b (omega arith) r q)
+pub section_grew : (ss : List SectionMeaning) (i : ℕ) (s : SectionMeaning) (old now next : List ℕ) → i < length ss → s ≡ get_or ss i s
+    → Grew (volumes_in_sections (sections_from (take i ss))) old now → Grew (volumes_in_body (body_of s)) now next
+    → Grew (volumes_in_sections (sections_from (take (i + 1) ss))) old next
+section_grew ss i s old now next l is before (laid, text, lays) =
+    item_grew (λ xs. volumes_in_sections (sections_from xs)) volumes_in_section refl (λ x xs. refl) ss i s old now next l is before
+    (laid, text, subst (λ vs. Laid AreStarts vs laid) (sym (in_section s)) (laid_deeper AreStarts (volumes_in_body (body_of s)) laid lays))
 
 -- the first section that is not laid out
-pub unfit_at : (ss : List SectionMeaning) (i : ℕ) (d : SectionMeaning) (a : List ℕ) (depth : ℕ) (f : Fault) → i < length ss
-    → LaysSections (sections_from (take i ss)) a → UnfitBody (body_of (get_or ss i d)) depth f → UnfitSections (sections_from ss) depth f
-unfit_at [] i d a depth f l p q = absurd (omega arith)
-unfit_at (Section k e m ∷ ss) zero d a depth f l p q = inl q
-unfit_at (s ∷ ss) (suc i) d a depth f l (here, behind, text, p, r) q =
-    inr (laid_fits_section s here p, unfit_at ss i d behind depth f (omega arith) r q)
+pub section_unfit : (ss : List SectionMeaning) (i : ℕ) (s : SectionMeaning) (old now : List ℕ) (depth : ℕ) (f : Fault) → i < length ss
+    → s ≡ get_or ss i s → Grew (volumes_in_sections (sections_from (take i ss))) old now
+    → FirstUnfit (volumes_in_body (body_of s)) (depth + 1) f → FirstUnfit (volumes_in_sections (sections_from ss)) depth f
+section_unfit ss i s old now depth f l is before unfit =
+    item_unfit (λ xs. volumes_in_sections (sections_from xs)) volumes_in_section refl (λ x xs. refl) ss i s old now depth f l is before
+    (subst (λ vs. FirstUnfit vs depth f) (sym (in_section s)) (unfit_deeper (volumes_in_body (body_of s)) depth f unfit))
 
 -- a section nests no deeper than those around it
 pub shallow_at : (ss : List SectionMeaning) (i : ℕ) (s : SectionMeaning) (depth : ℕ) → i < length ss → s ≡ get_or ss i s
@@ -45,20 +45,20 @@ shallow_at ss i s depth l is (k, fits, h) =
 -- ---- files
 
 -- one file more
-pub file_push : (fs : List FileMeaning) (i : ℕ) (d : FileMeaning) (a b : List ℕ) → i < length fs
-    → LaysFiles (files_from (take i fs)) a → LaysContent (content_of (get_or fs i d)) b → LaysFiles (files_from (take (suc i) fs)) (a ++ b)
-file_push [] i d a b l p q = absurd (omega arith)
-file_push (File n k t c ∷ fs) zero d a b l p q = (b, [], ap (λ (xs : List ℕ). xs ++ b) p ∙ sym (append-nil b), q, refl)
-file_push (m ∷ fs) (suc i) d a b l (here, behind, text, p, r) q =
-    (here, behind ++ b, ap (λ (xs : List ℕ). xs ++ b) text ∙ append_assoc here behind b, p, file_push fs i d behind b (omega arith) r q)
+pub file_grew : (fs : List FileMeaning) (i : ℕ) (m : FileMeaning) (old now next : List ℕ) → i < length fs → m ≡ get_or fs i m
+    → Grew (volumes_in_files (files_from (take i fs))) old now → Grew (volumes_in_content (content_of m)) now next
+    → Grew (volumes_in_files (files_from (take (i + 1) fs))) old next
+file_grew fs i m old now next l is before here =
+    item_grew (λ xs. volumes_in_files (files_from xs)) volumes_in_file refl (λ x xs. refl) fs i m old now next l is before
+    (subst (λ vs. Grew vs now next) (sym (in_file m)) here)
 
 -- the first file that is not laid out
-pub unfit_file_at : (fs : List FileMeaning) (i : ℕ) (d : FileMeaning) (a : List ℕ) (depth : ℕ) (f : Fault) → i < length fs
-    → LaysFiles (files_from (take i fs)) a → UnfitContent (content_of (get_or fs i d)) depth f → UnfitFiles (files_from fs) depth f
-unfit_file_at [] i d a depth f l p q = absurd (omega arith)
-unfit_file_at (File n k t c ∷ fs) zero d a depth f l p q = inl q
-unfit_file_at (m ∷ fs) (suc i) d a depth f l (here, behind, text, p, r) q =
-    inr (laid_fits_file m here p, unfit_file_at fs i d behind depth f (omega arith) r q)
+pub file_unfit : (fs : List FileMeaning) (i : ℕ) (m : FileMeaning) (old now : List ℕ) (depth : ℕ) (f : Fault) → i < length fs
+    → m ≡ get_or fs i m → Grew (volumes_in_files (files_from (take i fs))) old now
+    → FirstUnfit (volumes_in_content (content_of m)) depth f → FirstUnfit (volumes_in_files (files_from fs)) depth f
+file_unfit fs i m old now depth f l is before unfit =
+    item_unfit (λ xs. volumes_in_files (files_from xs)) volumes_in_file refl (λ x xs. refl) fs i m old now depth f l is before
+    (subst (λ vs. FirstUnfit vs depth f) (sym (in_file m)) unfit)
 
 -- a file nests no deeper than those around it
 pub shallow_file_at : (fs : List FileMeaning) (i : ℕ) (m : FileMeaning) (depth : ℕ) → i < length fs → m ≡ get_or fs i m
@@ -68,15 +68,6 @@ shallow_file_at fs i m depth l is (k, fits, h) =
   where
     one : (x : FileMeaning) → NestsFile x k → NestsContent (content_of x) k
     one (File name kind attributes content) h = h
-
--- ---- sections and files
-
--- a walk adds the starts of a part behind those that it added before
-pub grew_on : {L M N : Type 0} (first : L → List ℕ → Type 0) (more : M → List ℕ → Type 0) (whole : N → List ℕ → Type 0)
-    (x : L) (y : M) (z : N) (old now next : List ℕ) → ((a b : List ℕ) → first x a → more y b → whole z (a ++ b))
-    → Grew first x old now → Grew more y now next → Grew whole z old next
-grew_on first more whole x y z old now next joined (a, p, q) (b, r, s) =
-    (a ++ b, r ∙ ap (λ (xs : List ℕ). xs ++ b) p ∙ append_assoc old a b, joined a b q s)
 
 -- ---- how deep it is
 

@@ -42,3 +42,7 @@ pub mod UnfitKinds
 pub mod VolumeLaws
 pub mod VolumeWalks
 pub mod WrittenImageLaws
+pub mod VolumeListLaws
+pub mod PadLaws
+pub mod InsideImageLaws
+pub mod InsideMeaningLaws

@@ -108,7 +108,7 @@ mutual
   pub image_one : (m : Meaning) (b c : List ℕ) → IsImage m b → IsImage m c → b ≡ c
   image_one (Volume h files) b c (xs, ss, are, placed, shows) (ys, ts, are', placed', shows') =
       let stored : xs ≡ ys = stored_one files xs ys are are' in
-      let starts : ss ≡ ts = starts_one h.length (first_edge h) (parts_of files) ss ts placed placed' in
+      let starts : ss ≡ ts = starts_one h.length (first_edge h) (parts_of (Volume h files)) ss ts placed placed' in
       shows_one h.length (erased_byte (polarity_of h.attributes)) (volume_spans h ys ts) b c
       (same_spans h b xs ys ss ts stored starts shows) shows'
 

@@ -1,6 +1,6 @@
 -- What is known of a section that was read and laid out, and how a stream goes on.
 use Rattle.std.proofs.Common.{◌≡◌, ◌≤◌, ◌<◌, ◌+◌, ◌-◌, ◌^◌, ℕ, zero, suc, Bool, List, [], ◌∷◌, ◌++◌, length, drop, replicate, get_or, refl}
-use Rattle.std.proofs.Common.{sym, ap, ◌∙◌, subst, arith, append_assoc, append-nil, length-drop, drop-drop}
+use Rattle.std.proofs.Common.{sym, ap, ◌∙◌, subst, arith, append_assoc, append-nil, length-drop}
 use Rattle.std.proofs.lemmas.List.{drop_all}
 use Rattle.fv_base.specs.Value.{IsBytes}
 use Rattle.fv_base.specs.Limits.{volume_limit}
@@ -12,10 +12,12 @@ use Rattle.fv_section.proofs.Laws.{begun_bytes, fits, length_begun}
 use Rattle.fv_tree.specs.Meaning.{SectionMeanings, NoSections, MoreSections, SectionMeaning, Section, sections_from, body_of, body_len}
 use Rattle.fv_tree.specs.Meaning.{section_is_extended, section_kind_of, section_len}
 use Rattle.fv_tree.specs.Denotes.{MeansSection, IsReadSection}
-use Rattle.fv_canon.specs.ImageOf.{frames_of, frame_of, body_image, starts_in_section, starts_in_sections, starts_in_body}
-use Rattle.fv_canon.specs.Layouts.{LaysSections, LaysSection, LaysBody}
-use Rattle.fv_canon.proofs.ItemLaws.{item_at, both_laid}
-use Rattle.fv_canon.proofs.WrittenImageLaws.{sections_made, laid_section}
+use Rattle.fv_canon.specs.ImageOf.{frames_of, frame_of, body_image, starts_in}
+use Rattle.fv_canon.specs.Layouts.{AreStarts}
+use Rattle.fv_canon.specs.Volumes.{volumes_in_section, volumes_in_sections, volumes_in_body}
+use Rattle.fv_canon.proofs.ItemLaws.{item_at}
+use Rattle.fv_canon.proofs.VolumeListLaws.{count_deeper, in_section, item_begins, item_left, laid_higher}
+use Rattle.fv_canon.proofs.WrittenImageLaws.{sections_made}
 use Rattle.fv_canon.proofs.VolumeLaws.{sections_again}
 use Rattle.fv_canon.specs.ImageWalks.{frame_bytes, sections_bytes, BeginsWithStarts, TakesFront}
 
@@ -25,7 +27,7 @@ pub record SectionKnown (m : SectionMeaning) (starts : List ℕ) : Type 0 where
   pub long : length (body_image (body_of m) starts) ≡ body_len (body_of m)
   pub small : section_len m < 2 ^ 32
 
-pub section_known : (m : SectionMeaning) (starts : List ℕ) → IsReadSection m → BeginsWithStarts LaysSection m starts → SectionKnown m starts
+pub section_known : (m : SectionMeaning) (starts : List ℕ) → IsReadSection m → BeginsWithStarts (volumes_in_section m) starts → SectionKnown m starts
 section_known (Section kind extended body) starts (n, l, f, (b, small, most, stands), is) (laid, more, text, lays) =
     let part : List ℕ = drop f.offset b in
     let bytes : IsBytes part = bytes_drop f.offset b small in
@@ -57,17 +59,17 @@ section_known (Section kind extended body) starts (n, l, f, (b, small, most, sta
 stream_goes : (at : ℕ) (s : SectionMeaning) (ss : SectionMeanings) (starts : List ℕ) (tail : ℕ)
     → stream_of (frames_of at (MoreSections s ss) starts) tail
     ≡ frame_bytes (frame_of 0 s starts) ++ (sections_bytes (up_to_4 (frame_len (frame_of 0 s starts)) - frame_len (frame_of 0 s starts)) ss
-    (drop (starts_in_section s) starts) ++ replicate tail 0)
+    (drop (starts_in (volumes_in_section s)) starts) ++ replicate tail 0)
 stream_goes at (Section k e b) NoSections starts tail =
     sym (append_assoc (section_head_of k e (length (body_image b starts))) (body_image b starts) (replicate tail 0))
 stream_goes at (Section k e b) (MoreSections t ss) starts tail =
     let f : FrameForm = frame_of 0 (Section k e b) starts in
     let head : List ℕ = section_head_of k e (length (body_image b starts)) in
     let fill : List ℕ = replicate (up_to_4 (frame_len f) - frame_len f) 0 in
-    let later : List ℕ = drop (starts_in_section (Section k e b)) starts in
+    let later : List ℕ = drop (starts_in (volumes_in_section (Section k e b))) starts in
     let next : List ℕ = frame_bytes (frame_of 0 t later) in
     let rest : List ℕ =
-    sections_bytes (up_to_4 (frame_len (frame_of 0 t later)) - frame_len (frame_of 0 t later)) ss (drop (starts_in_section t) later) in
+    sections_bytes (up_to_4 (frame_len (frame_of 0 t later)) - frame_len (frame_of 0 t later)) ss (drop (starts_in (volumes_in_section t)) later) in
     let goes = stream_goes (up_to_4 (at + frame_len f)) t ss later tail in
     ap (λ (xs : List ℕ). head ++ (f.body ++ (fill ++ xs))) goes
     ∙ sym (append_assoc head f.body (fill ++ (next ++ (rest ++ replicate tail 0))))
@@ -79,34 +81,30 @@ pub stream_whole : (s : SectionMeaning) (ss : SectionMeanings) (starts : List �
     → sections_bytes 0 (MoreSections s ss) starts ++ replicate tail 0 ≡ stream_of (frames_of 0 (MoreSections s ss) starts) tail
 stream_whole s ss starts tail =
     append_assoc (frame_bytes (frame_of 0 s starts)) (sections_bytes
-    (up_to_4 (frame_len (frame_of 0 s starts)) - frame_len (frame_of 0 s starts)) ss (drop (starts_in_section s) starts)) (replicate tail 0)
+    (up_to_4 (frame_len (frame_of 0 s starts)) - frame_len (frame_of 0 s starts)) ss (drop (starts_in (volumes_in_section s)) starts)) (replicate tail 0)
     ∙ sym (stream_goes 0 s ss starts tail)
 
 -- ---- the walk over the sections of a stream
 
--- the item at a place, and what is behind it
+-- the starts of the item at a place, and of what is behind it
 pub item_laid : (ss : List SectionMeaning) (i : ℕ) (s : SectionMeaning) (starts : List ℕ) → i < length ss → s ≡ get_or ss i s
-    → BeginsWithStarts LaysSections (sections_from (drop i ss)) starts
-    → BeginsWithStarts LaysSection s starts
-    × BeginsWithStarts LaysSections (sections_from (drop (i + 1) ss)) (drop (starts_in_section s) starts)
-item_laid ss i s starts l is laid =
-    both_laid LaysSection LaysSections s (sections_from (drop (i + 1) ss)) (starts_in_section s) starts (laid_section s)
-    (subst (λ (xs : List SectionMeaning). BeginsWithStarts LaysSections (sections_from xs) starts) (item_at ss i s l is) laid)
+    → BeginsWithStarts (volumes_in_sections (sections_from (drop i ss))) starts
+    → BeginsWithStarts (volumes_in_section s) starts
+    × BeginsWithStarts (volumes_in_sections (sections_from (drop (i + 1) ss))) (drop (starts_in (volumes_in_section s)) starts)
+item_laid = item_begins (λ xs. volumes_in_sections (sections_from xs)) volumes_in_section refl (λ x xs. refl)
 
-pub in_body : (s : SectionMeaning) → starts_in_section s ≡ starts_in_body (body_of s)
-in_body (Section kind extended body) = refl
-
-pub body_laid : (s : SectionMeaning) (starts : List ℕ) → BeginsWithStarts LaysSection s starts
-    → BeginsWithStarts LaysBody (body_of s) starts
-body_laid (Section kind extended body) starts laid = laid
-
--- sections from a place on are the one there, and then those behind it
 pub left_is : (ss : List SectionMeaning) (i : ℕ) (s : SectionMeaning) (starts : List ℕ) → i < length ss → s ≡ get_or ss i s
-    → drop (starts_in_sections (sections_from (drop i ss))) starts
-    ≡ drop (starts_in_sections (sections_from (drop (i + 1) ss))) (drop (starts_in_section s) starts)
-left_is ss i s starts l is =
-    ap (λ (xs : List SectionMeaning). drop (starts_in_sections (sections_from xs)) starts) (item_at ss i s l is)
-    ∙ sym (drop-drop (starts_in_sections (sections_from (drop (i + 1) ss))) (starts_in_section s) starts)
+    → drop (starts_in (volumes_in_sections (sections_from (drop i ss)))) starts
+    ≡ drop (starts_in (volumes_in_sections (sections_from (drop (i + 1) ss)))) (drop (starts_in (volumes_in_section s)) starts)
+left_is = item_left (λ xs. volumes_in_sections (sections_from xs)) volumes_in_section refl (λ x xs. refl)
+
+pub in_body : (s : SectionMeaning) → starts_in (volumes_in_section s) ≡ starts_in (volumes_in_body (body_of s))
+in_body s = ap starts_in (in_section s) ∙ count_deeper (volumes_in_body (body_of s))
+
+pub body_laid : (s : SectionMeaning) (starts : List ℕ) → BeginsWithStarts (volumes_in_section s) starts
+    → BeginsWithStarts (volumes_in_body (body_of s)) starts
+body_laid (Section kind extended body) starts (laid, more, text, lays) =
+    (laid, more, text, laid_higher AreStarts (volumes_in_body body) laid lays)
 
 framed : (s : SectionMeaning) (starts : List ℕ) → SectionKnown s starts → frame_bytes (frame_of 0 s starts)
     ≡ section_head_of (section_kind_of s) (section_is_extended s) (body_len (body_of s)) ++ body_image (body_of s) starts
@@ -120,14 +118,14 @@ pub goes_on : (ss : List SectionMeaning) (i : ℕ) (s : SectionMeaning) (starts 
     → sections_bytes gap (sections_from (drop i ss)) starts
     ≡ (replicate gap 0
     ++ (section_head_of (section_kind_of s) (section_is_extended s) (body_len (body_of s)) ++ body_image (body_of s) starts))
-    ++ sections_bytes (up_to_4 (section_len s) - section_len s) (sections_from (drop (i + 1) ss)) (drop (starts_in_section s) starts)
+    ++ sections_bytes (up_to_4 (section_len s) - section_len s) (sections_from (drop (i + 1) ss)) (drop (starts_in (volumes_in_section s)) starts)
 goes_on ss i s starts gap l is k =
     ap (λ (xs : List SectionMeaning). sections_bytes gap (sections_from xs) starts) (item_at ss i s l is)
     ∙ ap (λ (xs : List ℕ). (replicate gap 0 ++ xs) ++ sections_bytes (up_to_4 (frame_len (frame_of 0 s starts)) - frame_len
-    (frame_of 0 s starts)) (sections_from (drop (i + 1) ss)) (drop (starts_in_section s) starts)) (framed s starts k)
+    (frame_of 0 s starts)) (sections_from (drop (i + 1) ss)) (drop (starts_in (volumes_in_section s)) starts)) (framed s starts k)
     ∙ ap (λ (n : ℕ). (replicate gap 0
     ++ (section_head_of (section_kind_of s) (section_is_extended s) (body_len (body_of s)) ++ body_image (body_of s) starts))
-    ++ sections_bytes (up_to_4 n - n) (sections_from (drop (i + 1) ss)) (drop (starts_in_section s) starts)) (sized s starts k)
+    ++ sections_bytes (up_to_4 n - n) (sections_from (drop (i + 1) ss)) (drop (starts_in (volumes_in_section s)) starts)) (sized s starts k)
 
 -- a front grows by three pieces
 pub front_more : {S : Type 0} (takes : S → List ℕ → S → Type 0) → WalkLaws takes → (s t u v w : S) (whole rest a b c left : List ℕ)

@@ -1,9 +1,8 @@
 -- The files and pads that are written as the canonical image has them tile the body.
-use Rattle.std.proofs.Common.{◌≡◌, ◌≤◌, ◌<◌, ◌⊎◌, inl, inr, ◌+◌, ◌-◌, ◌*◌, ◌%◌, ℕ, zero, suc, Bool, true, false, List, [], ◌∷◌, ◌++◌}
+use Rattle.std.proofs.Common.{◌≡◌, ◌≤◌, ◌<◌, ◌⊎◌, inl, inr, ◌+◌, ◌-◌, ◌%◌, ℕ, zero, suc, true, false, List, [], ◌∷◌, ◌++◌}
 use Rattle.std.proofs.Common.{length, replicate, refl, sym, ap, ◌∙◌, subst, arith, length-append, append_assoc, append-nil}
-use Rattle.std.specs.Prelude.{map, slice_index, if◌then◌else◌}
+use Rattle.std.specs.Prelude.{map, slice_index}
 use Rattle.std.specs.List.{AllByRecursion}
-use Rattle.std.proofs.lemmas.Bool.{ne_eqb}
 use Rattle.std.proofs.lemmas.List.{length-replicate}
 use Rattle.fv_base.specs.Alignment.{alignment_of}
 use Rattle.fv_base.specs.Erased.{AllAre}
@@ -18,10 +17,10 @@ use Rattle.fv_file.specs.NewHeaders.{needs_large, pad_fields, pad_head_of}
 use Rattle.fv_file.proofs.Laws.{alignment_with}
 use Rattle.fv_canon.specs.Starts.{StartsFollow}
 use Rattle.fv_tree.specs.Files.{FileForm, files_in}
-use Rattle.fv_canon.specs.Aligned.{DataAligned}
-use Rattle.fv_canon.specs.StoredFiles.{StoredFile, head_len_for, stored_len, stored_bytes, pad_bytes, pads, long_pad, long_pads, PadsRule}
-use Rattle.fv_canon.specs.StoredFiles.{gap_bytes}
+use Rattle.fv_canon.specs.Headline.{DataAligned}
+use Rattle.fv_canon.specs.StoredFiles.{StoredFile, head_len_for, stored_len, stored_bytes, pad_bytes, long_pad, gap_bytes}
 use Rattle.fv_canon.specs.StoredWalks.{stored_part, files_bytes}
+use Rattle.fv_canon.proofs.PadLaws.{gap_none, gap_has}
 use Rattle.fv_canon.proofs.CellLaws.{Storable, stored_head, file_cell, length-stored, pad_cell, length-pad}
 
 -- the files as they lie in the image
@@ -69,41 +68,6 @@ pad_tiles system p size at rest forms least most multiple behind =
       erased = (all-of_replicate (erased_byte p) (size - 24), behind.erased);
     }
 
-pads_tile : (system : FileSystem) (p : Polarity) (n gap at : ℕ) (rest : List ℕ) (forms : List FileForm) → n * 0xffff00 + 24 ≤ gap
-    → gap ≤ n * 0xffff00 + 0xfffff8 → gap % 8 ≡ 0
-    → Tiled system p (at + gap) rest forms → Tiled system p at (pads p n gap ++ rest) forms
-pads_tile system p zero gap at rest forms least most multiple behind =
-    pad_tiles system p gap at rest forms (omega (arith, least)) (omega (arith, most)) multiple behind
-pads_tile system p (suc n) gap at rest forms least most multiple behind =
-    let next = pads_tile system p n (gap - long_pad) (at + long_pad) rest forms (low n gap least) (high n gap least most)
-    (eighth gap multiple) (subst (λ (k : ℕ). Tiled system p k rest forms) (moved at gap n least) behind) in
-    subst (λ (xs : List ℕ). Tiled system p at xs forms) (sym (append_assoc (pad_bytes p long_pad) (pads p n (gap - long_pad)) rest))
-    (pad_tiles system p long_pad at (pads p n (gap - long_pad) ++ rest) forms (omega arith) (omega arith) refl next)
-  where
-    low : (n gap : ℕ) → suc n * 0xffff00 + 24 ≤ gap → n * 0xffff00 + 24 ≤ gap - 0xffff00
-    low n gap l = omega (arith, l)
-
-    high : (n gap : ℕ) → suc n * 0xffff00 + 24 ≤ gap → gap ≤ suc n * 0xffff00 + 0xfffff8 → gap - 0xffff00 ≤ n * 0xffff00 + 0xfffff8
-    high n gap l m = omega (arith, l, m)
-
-    eighth : (gap : ℕ) → gap % 8 ≡ 0 → (gap - 0xffff00) % 8 ≡ 0
-    eighth gap e = omega (arith, e)
-
-    moved : (at gap n : ℕ) → suc n * 0xffff00 + 24 ≤ gap → at + gap ≡ (at + 0xffff00) + (gap - 0xffff00)
-    moved at gap n l = omega (arith, l)
-
-long_pads_fit : (gap : ℕ) → 24 ≤ gap → gap % 8 ≡ 0 → (long_pads gap * 0xffff00 + 24 ≤ gap) × (gap ≤ long_pads gap * 0xffff00 + 0xfffff8)
-long_pads_fit gap l e = (omega (arith, l, e), omega (arith, l, e))
-
-pub gap_none : (p : Polarity) (gap : ℕ) → gap ≡ 0 → gap_bytes p gap ≡ []
-unfolding gap_bytes
-gap_none p zero e = refl
-gap_none p (suc n) e = absurd (omega (arith, e))
-
-pub gap_some : (p : Polarity) (gap : ℕ) → 24 ≤ gap → gap_bytes p gap ≡ pads p (long_pads gap) gap
-unfolding gap_bytes
-gap_some p gap l = ap (λ (b : Bool). if b then [] else pads p (long_pads gap) gap) (ne_eqb gap 0 (λ z. omega (arith, l, z)))
-
 gap_tiles : (system : FileSystem) (p : Polarity) (gap at : ℕ) (rest : List ℕ) (forms : List FileForm) → (gap ≡ 0) ⊎ (24 ≤ gap) → gap % 8 ≡ 0
     → Tiled system p (at + gap) rest forms → Tiled system p at (gap_bytes p gap ++ rest) forms
 gap_tiles system p gap at rest forms (inl z) multiple behind =
@@ -113,26 +77,24 @@ gap_tiles system p gap at rest forms (inl z) multiple behind =
     same : (at gap : ℕ) → gap ≡ 0 → at + gap ≡ at
     same at gap z = omega arith
 gap_tiles system p gap at rest forms (inr l) multiple behind =
-    let fits = long_pads_fit gap l multiple in
-    subst (λ (xs : List ℕ). Tiled system p at (xs ++ rest) forms) (sym (gap_some p gap l))
-    (pads_tile system p (long_pads gap) gap at rest forms fits.0 fits.1 multiple behind)
-
-length-pads : (p : Polarity) (n gap : ℕ) → n * 0xffff00 + 24 ≤ gap → length (pads p n gap) ≡ gap
-length-pads p zero gap least = length-pad p gap (omega (arith, least))
-length-pads p (suc n) gap least =
-    length-append (pad_bytes p long_pad) (pads p n (gap - long_pad))
-    ∙ sum_of (length (pad_bytes p long_pad)) (length (pads p n (gap - long_pad))) (length-pad p long_pad (omega arith))
-    (length-pads p n (gap - long_pad) (low n gap least)) n gap least
+    gap_has p (λ n xs. (at : ℕ) (rest : List ℕ) → Tiled system p (at + n) rest forms → Tiled system p at (xs ++ rest) forms)
+    (λ n least most eighth at rest behind. pad_tiles system p n at rest forms least (omega (arith, most)) eighth behind)
+    (λ n xs past next at rest behind. subst (λ ys. Tiled system p at ys forms) (sym (append_assoc (pad_bytes p long_pad) xs rest))
+    (pad_tiles system p long_pad at (xs ++ rest) forms (omega arith) (omega arith) refl
+    (next (at + long_pad) rest (subst (λ (k : ℕ). Tiled system p k rest forms) (moved at n past) behind)))) gap l multiple at rest behind
   where
-    low : (n gap : ℕ) → suc n * 0xffff00 + 24 ≤ gap → n * 0xffff00 + 24 ≤ gap - 0xffff00
-    low n gap l = omega (arith, l)
-
-    sum_of : (a b : ℕ) → a ≡ 0xffff00 → b ≡ gap - 0xffff00 → (n gap' : ℕ) → suc n * 0xffff00 + 24 ≤ gap → a + b ≡ gap
-    sum_of a b e f n gap' l = omega (arith, l, e, f)
+    moved : (at gap : ℕ) → 0xfffff8 < gap → at + gap ≡ (at + 0xffff00) + (gap - 0xffff00)
+    moved at gap l = omega (arith, l)
 
 pub length-gap : (p : Polarity) (gap : ℕ) → (gap ≡ 0) ⊎ (24 ≤ gap) → gap % 8 ≡ 0 → length (gap_bytes p gap) ≡ gap
 length-gap p gap (inl z) multiple = ap length (gap_none p gap z) ∙ sym z
-length-gap p gap (inr l) multiple = ap length (gap_some p gap l) ∙ length-pads p (long_pads gap) gap (long_pads_fit gap l multiple).0
+length-gap p gap (inr l) multiple =
+    gap_has p (λ n xs. length xs ≡ n) (λ n least most eighth. length-pad p n least)
+    (λ n xs past next. length-append (pad_bytes p long_pad) xs
+    ∙ sum_of (length (pad_bytes p long_pad)) (length xs) n (length-pad p long_pad (omega arith)) next past) gap l multiple
+  where
+    sum_of : (a b n : ℕ) → a ≡ 0xffff00 → b ≡ n - 0xffff00 → 0xfffff8 < n → a + b ≡ n
+    sum_of a b n e f l = omega (arith, l, e, f)
 
 -- ---- erased bytes at the end
 
@@ -216,7 +178,3 @@ body_tiles system p total e (f ∷ fs) (s ∷ ss) h m all follow =
 
     ended : (s a b n k u : ℕ) → a ≡ b + k → b ≡ n → (s + n) + k ≡ u → s + a ≡ u
     ended s a b n k u p q r = omega arith
-
--- how a gap is split into pads
-pub pads_rule : PadsRule
-pads_rule gap least eighth = (λ fits. omega (arith, fits), λ past. (omega (arith, past, eighth), omega (arith, past, eighth)))

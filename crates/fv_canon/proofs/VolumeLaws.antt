@@ -34,7 +34,7 @@ use Rattle.fv_tree.specs.Meaning.{Meaning, Volume, FileMeanings, NoFiles, MoreFi
 use Rattle.fv_tree.specs.Meaning.{files_list, content_len}
 use Rattle.fv_tree.specs.Denotes.{Streams, Pairs, MeansContent, MeansFile, StreamOver, VolumeOver, Opens, MeansSection, Stream, Denotes}
 use Rattle.fv_canon.specs.Image.{IsImage, AreStored, IsStored, IsData}
-use Rattle.fv_canon.specs.Layouts.{AreStarts, parts_of, part_of}
+use Rattle.fv_canon.specs.Layouts.{AreStarts, part_of}
 use Rattle.fv_canon.specs.Spans.{ShowsSpans}
 use Rattle.fv_canon.specs.StoredFiles.{StoredFile, size_for, head_len_for, ext_pad, volume_spans, used_size}
 use Rattle.fv_canon.specs.StoredWalks.{stored_part, files_bytes, volume_bytes}
@@ -144,7 +144,7 @@ file_again is_stream streams system limit (File name kind attributes content) f 
 pub record FilesAgain (is_stream : Streams) (system : FileSystem) (files : FileMeanings) (forms : List FileForm)
     (stored : List StoredFile) : Type 0 where
   pub storable : AllByRecursion (Storable system) stored
-  pub parts : map stored_part stored ≡ parts_of files
+  pub parts : map stored_part stored ≡ map part_of (files_list files)
   pub names : names_of stored ≡ names_in forms
   pub are : (p : Polarity) (total e : ℕ) (ss : List ℕ) → StartsFollow total e (map stored_part stored) ss
       → Pairs (MeansFile is_stream) (forms_of p stored ss) (files_list files)
@@ -259,7 +259,7 @@ files_read is_stream h files b small d =
 
 pub known : (is_stream : Streams) → StreamsAgain is_stream → (h : HeadFields) (files : FileMeanings) (b : List ℕ) → IsBytes b
     → (d : VolumeOver is_stream b (Volume h files)) (stored : List StoredFile) (starts : List ℕ)
-    → AreStored files stored → AreStarts h files starts → Known is_stream h files d.files stored starts
+    → AreStored files stored → AreStarts (Volume h files) starts → Known is_stream h files d.files stored starts
 known is_stream streams h files b small d stored starts are placed =
     let e : Extent = d.extent in
     let first : ℕ = canonical_first h h.ext in

@@ -15,9 +15,10 @@ use Rattle.fv_canon.specs.declared.first_placement.Part.{Part}
 use Rattle.fv_base.specs.Value.{up_to_8}
 use Rattle.fv_tree.specs.Meaning.{Meaning, Volume, FileMeanings, FileMeaning, files_from, head_of, data_len_of}
 use Rattle.fv_tree.specs.Denotes.{IsMeaning, MeansSection, Stream}
-use Rattle.fv_canon.specs.ImageOf.{image_of, stored_of, starts_in, starts_in_files}
+use Rattle.fv_canon.specs.ImageOf.{image_of, stored_of, starts_in}
 use Rattle.fv_canon.specs.Image.{AreStored}
-use Rattle.fv_canon.specs.Layouts.{LaysVolume, LaysFiles, parts_of, part_of}
+use Rattle.fv_canon.specs.Layouts.{parts_of, part_of}
+use Rattle.fv_canon.specs.Volumes.{volumes_in, volumes_in_files}
 use Rattle.fv_canon.specs.StoredFiles.{StoredFile, size_for, stored_len, used_size, ext_pad}
 use Rattle.fv_canon.specs.StoredWalks.{stored_part, volume_bytes, files_bytes}
 use Rattle.fv_canon.proofs.WrittenImageLaws.{files_made, stream_made, sections_made, front_is, behind_is}
@@ -63,7 +64,7 @@ used_last total e end (f ∷ g ∷ fs) (s ∷ ss) (suc n) d l follow =
 pub record VolumeLaid (h : HeadFields) (fs : List FileMeaning) (starts : List ℕ) : Type 0 where
   pub enough : length fs ≤ length starts
   pub placed : ArePlaced h.length (canonical_first h h.ext) fs (take (length fs) starts)
-  pub inner : BeginsWithStarts LaysFiles (files_from fs) (drop (length fs) starts)
+  pub inner : BeginsWithStarts (volumes_in_files (files_from fs)) (drop (length fs) starts)
   pub used : used_size (canonical_first h h.ext) (stored_of (files_from fs) (drop (length fs) starts)) (take (length fs) starts)
       ≡ used_by (canonical_first h h.ext) fs (take (length fs) starts)
 
@@ -72,12 +73,12 @@ least_first h None = omega arith
 least_first h (Some x) = omega arith
 
 pub volume_laid : (h : HeadFields) (fs : List FileMeaning) (starts : List ℕ) → IsMeaning (Volume h (files_from fs))
-    → BeginsWithStarts LaysVolume (Volume h (files_from fs)) starts → VolumeLaid h fs starts
+    → BeginsWithStarts (volumes_in (Volume h (files_from fs))) starts → VolumeLaid h fs starts
 volume_laid h fs starts (k, few, b, small, d) (laid, more, whole, (own, inner, text, placed, lays)) =
     let files : FileMeanings = files_from fs in
     let first : ℕ = canonical_first h h.ext in
     let n : ℕ = length fs in
-    let parts : parts_of files ≡ map part_of fs = ap (λ (xs : List FileMeaning). map part_of xs) (files_list_back fs) in
+    let parts : parts_of (Volume h files) ≡ map part_of fs = ap (λ (xs : List FileMeaning). map part_of xs) (files_list_back fs) in
     let follow : StartsFollow h.length first (map part_of fs) own =
     subst (λ (ps : List Part). StartsFollow h.length first ps own) parts placed.placement.follow in
     let count : length own ≡ n = follow_length h.length first (map part_of fs) own follow ∙ length-map fs part_of in
@@ -129,8 +130,8 @@ volume_text h fs starts v =
     ∙ ap (λ (xs : List ℕ). canonical_head h ++ xs) (sym (append_assoc (ext_pad p h.ext (used_by first fs (take n starts))) fill files))
 
 pub volume_left : (h : HeadFields) (fs : List FileMeaning)
-    → starts_in (Volume h (files_from fs)) ≡ length fs + starts_in_files (files_from fs)
-volume_left h fs = ap (λ (k : ℕ). k + starts_in_files (files_from fs)) (ap length (files_list_back fs))
+    → starts_in (volumes_in (Volume h (files_from fs))) ≡ length fs + starts_in (volumes_in_files (files_from fs))
+volume_left h fs = ap (λ (k : ℕ). k + starts_in (volumes_in_files (files_from fs))) (ap length (files_list_back fs))
 
 -- the same, of the view's meaning
 pub volume_is : (m : Meaning) (h : HeadFields) (fs : List FileMeaning) → m ≡ Volume (head_of m) (files_from fs) → h ≡ head_of m
@@ -138,10 +139,10 @@ pub volume_is : (m : Meaning) (h : HeadFields) (fs : List FileMeaning) → m ≡
 volume_is m h fs e f = e ∙ ap (λ (x : HeadFields). Volume x (files_from fs)) (sym f)
 
 pub volume_seen : (m : Meaning) (h : HeadFields) (fs : List FileMeaning) (starts : List ℕ) → m ≡ Volume (head_of m) (files_from fs)
-    → h ≡ head_of m → IsMeaning m → BeginsWithStarts LaysVolume m starts → VolumeLaid h fs starts
+    → h ≡ head_of m → IsMeaning m → BeginsWithStarts (volumes_in m) starts → VolumeLaid h fs starts
 volume_seen m h fs starts e f read laid =
     let is = volume_is m h fs e f in
-    volume_laid h fs starts (subst IsMeaning is read) (subst (λ (x : Meaning). BeginsWithStarts LaysVolume x starts) is laid)
+    volume_laid h fs starts (subst IsMeaning is read) (subst (λ (x : Meaning). BeginsWithStarts (volumes_in x) starts) is laid)
 
 pub files_same : (p q : Polarity) (n k e f : ℕ) (fs : FileMeanings) (xs ys ss ts : List ℕ) → p ≡ q → n ≡ k → e ≡ f → xs ≡ ys → ss ≡ ts
     → files_bytes p n e (stored_of fs xs) ss ≡ files_bytes q k f (stored_of fs ys) ts

@@ -1,17 +1,21 @@
 -- From a volume to its canonical image, and the headline, clause by clause.
-use Rattle.std.specs.Prelude.{◌≡◌, ◌↔◌, ◌⊎◌, ℕ, List, length, drop}
+use Rattle.std.specs.Prelude.{◌≡◌, ◌↔◌, ◌⊎◌, ◌+◌, ◌%◌, ◌++◌, ℕ, List, length, drop}
+use Rattle.std.specs.List.{AllByRecursion}
+use Rattle.fv_base.specs.Alignment.{alignment_of}
 use Rattle.fv_base.specs.declared.fault.Fault.{Fault}
 use Rattle.fv_base.specs.declared.fault.FaultKind.{FaultKind}
 use Rattle.fv_base.specs.declared.fault.FaultKind.TheVariants as kinds
+use Rattle.fv_file.specs.Attributes.{attribute_bits}
 use Rattle.fv_file.specs.Cells.{CellForm, Tiles}
 use Rattle.fv_head.specs.Head.{BeginsVolume}
 use Rattle.fv_head.specs.declared.extent.Extent.{Extent}
 use Rattle.fv_tree.specs.Denotes.{Accepted, IsMeaning}
+use Rattle.fv_tree.specs.Files.{files_in}
 use Rattle.fv_tree.specs.Meaning.{Meaning, head_of}
-use Rattle.fv_canon.specs.Aligned.{DataAligned}
 use Rattle.fv_canon.specs.Image.{IsImage}
 use Rattle.fv_canon.specs.Layouts.{Fits}
 use Rattle.fv_canon.specs.Refusals.{Refuses}
+use Rattle.fv_canon.specs.Volumes.{Inside, volumes_in}
 
 -- the input is a volume, and the bytes are the image of its meaning
 abbrev pub NormalisesTo : List ℕ → List ℕ → Type 0
@@ -49,6 +53,12 @@ ImageKeepsLengthAndMeaning =
 abbrev pub ImageIsItsOwnImage : Type 0
 ImageIsItsOwnImage = (a image : List ℕ) → NormalisesTo a image → NormalisesTo image image
 
+-- each file among these cells has its data on its alignment, counted from the volume's first byte (PI specification,
+-- volume 3, section 3.2.3.1)
+abbrev pub DataAligned : List CellForm → Type 0
+DataAligned cells = AllByRecursion
+    (λ f. (f.offset + f.head.header_len) % alignment_of (attribute_bits f.head.attributes) ≡ 0) (files_in cells)
+
 -- in the image of a volume, whichever cells are read after its header, the data of each file are aligned
 abbrev pub DataAreAligned : Type 0
 DataAreAligned =
@@ -65,6 +75,22 @@ abbrev pub OnlyWhatDoesNotFitIsRefused : Type 0
 OnlyWhatDoesNotFitIsRefused =
     (input : List ℕ) (f : Fault) → Refuses input f
     → (IsOfLayout f.kind → IsUnfit input) × ((IsOfLayout f.kind → ⊥) → IsNoVolume input)
+
+-- ---- at every level
+
+-- the bytes are consecutive bytes of others
+abbrev pub IsWithin : List ℕ → List ℕ → Type 0
+IsWithin part whole = (before : List ℕ) × (after : List ℕ) × (whole ≡ before ++ (part ++ after))
+
+-- the volume's own image is within the bytes
+abbrev pub HasOwnImage : List ℕ → Inside → Type 0
+HasOwnImage whole v = (own : List ℕ) × IsImage v.volume own × IsWithin own whole
+
+-- each volume inside a volume has a meaning of its own, and its own image as consecutive bytes of the volume's
+abbrev pub EachVolumeHasItsImage : Type 0
+EachVolumeHasItsImage =
+    (m : Meaning) (image : List ℕ) → IsMeaning m → IsImage m image
+    → AllByRecursion (λ v. IsMeaning v.volume × HasOwnImage image v) (volumes_in m)
 
 -- ---- one image and one meaning
 

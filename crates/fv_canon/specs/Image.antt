@@ -18,7 +18,7 @@ use Rattle.fv_canon.specs.StoredFiles.{StoredFile, volume_spans}
 abbrev mutual
   pub IsImage : Meaning → List ℕ → Type 0
   IsImage (Volume h files) b =
-      (stored : List StoredFile) × (starts : List ℕ) × AreStored files stored × AreStarts h files starts
+      (stored : List StoredFile) × (starts : List ℕ) × AreStored files stored × AreStarts (Volume h files) starts
       × ShowsSpans h.length (erased_byte (polarity_of h.attributes)) (volume_spans h stored starts) b
 
   pub AreStored : FileMeanings → List StoredFile → Type 0

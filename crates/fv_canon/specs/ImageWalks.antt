@@ -4,7 +4,9 @@ use Rattle.std.specs.Prelude.{◌≡◌, ℕ, ◌-◌, List, [], ◌++◌, lengt
 use Rattle.fv_section.specs.Frames.{FrameForm, frame_len, up_to_4}
 use Rattle.fv_section.specs.SectionImage.{section_head_of}
 use Rattle.fv_tree.specs.Meaning.{SectionMeanings, NoSections, MoreSections}
-use Rattle.fv_canon.specs.ImageOf.{frame_of, starts_in_section}
+use Rattle.fv_canon.specs.ImageOf.{frame_of, starts_in}
+use Rattle.fv_canon.specs.Layouts.{AreStarts, Laid}
+use Rattle.fv_canon.specs.Volumes.{Inside, volumes_in_section}
 
 -- a frame: header and body
 abbrev pub frame_bytes : FrameForm → List ℕ
@@ -16,11 +18,11 @@ sections_bytes gap NoSections starts = []
 sections_bytes gap (MoreSections s ss) starts =
     (replicate gap 0 ++ frame_bytes (frame_of 0 s starts))
     ++ sections_bytes (up_to_4 (frame_len (frame_of 0 s starts)) - frame_len (frame_of 0 s starts)) ss
-    (drop (starts_in_section s) starts)
+    (drop (starts_in (volumes_in_section s)) starts)
 
--- the starts begin with those of m
-abbrev pub BeginsWithStarts : {M : Type 0} → (M → List ℕ → Type 0) → M → List ℕ → Type 0
-BeginsWithStarts lays m starts = (laid : List ℕ) × (more : List ℕ) × (starts ≡ laid ++ more) × lays m laid
+-- the starts begin with those of these volumes
+abbrev pub BeginsWithStarts : List Inside → List ℕ → Type 0
+BeginsWithStarts vs starts = (laid : List ℕ) × (more : List ℕ) × (starts ≡ laid ++ more) × Laid AreStarts vs laid
 
 -- the first bytes of the whole were taken, and `rest` is left
 pub record TakesFront {S : Type 0} (takes : S → List ℕ → S → Type 0) (s t : S) (whole rest : List ℕ) : Type 0 where

@@ -1,4 +1,3 @@
-pub mod Aligned
 pub mod Comparisons
 pub mod Depths
 pub mod LayoutWalks
@@ -21,3 +20,4 @@ pub mod StoredFiles
 pub mod StoredWalks
 pub mod ImageSinks
 pub mod FlashImages
+pub mod Volumes

@@ -4,8 +4,7 @@ use Rattle.fv_base.specs.Faults.{outer_fault}
 use Rattle.fv_base.specs.declared.fault.Fault.{Fault}
 use Rattle.fv_base.specs.declared.fault.FaultKind.TheVariants as kinds
 use Rattle.fv_tree.specs.Denotes.{Accepted}
-use Rattle.fv_tree.specs.FaultStands.{FaultStands}
-use Rattle.fv_tree.specs.FirstFault.{IsFirstOfVolume}
+use Rattle.fv_tree.specs.FirstFault.{FaultStands, IsFirstOfVolume}
 use Rattle.fv_tree.specs.Meaning.{Meaning, length_of}
 use Rattle.fv_canon.specs.Layouts.{Unfit}
 

@@ -1,6 +1,6 @@
 -- A volume whose files' data are known, as it is in the canonical image (PI specification, volume 3, sections 3.2.1 to
 -- 3.2.3).
-use Rattle.std.specs.Prelude.{◌≡◌, ◌≤◌, ◌<◌, ◌%◌, ℕ, ◌+◌, ◌-◌, ◌/◌, ◌==◌, zero, suc, if◌then◌else◌, List, [], ◌∷◌, ◌++◌}
+use Rattle.std.specs.Prelude.{◌≡◌, ◌≤◌, ◌<◌, ◌%◌, ℕ, ◌+◌, ◌-◌, ◌==◌, zero, suc, nat_le, if◌then◌else◌, List, [], ◌∷◌, ◌++◌}
 use Rattle.std.specs.Prelude.{length, replicate, sum, Option, None, Some}
 use Rattle.fv_base.specs.Flash.{erased_byte}
 use Rattle.fv_base.specs.Value.{up_to_8}
@@ -48,22 +48,20 @@ stored_bytes polarity f =
 unfoldable pub pad_bytes : Polarity → ℕ → List ℕ
 pad_bytes polarity size = pad_head_of size polarity ++ replicate (size - 24) (erased_byte polarity)
 
--- the size of the greatest pad that may be followed by another pad in its gap
+-- the greatest pad that another pad may follow
 abbrev pub long_pad : ℕ
 long_pad = 0xffff00
 
--- n of the greatest pads, and one pad of what is left
-abbrev pub pads : Polarity → ℕ → ℕ → List ℕ
+-- the pads of a gap, in n steps at most: one pad where it fits, and else the greatest pad and then the pads of the rest
+abbrev pub pads : Polarity → (n gap : ℕ) → List ℕ
 pads polarity zero gap = pad_bytes polarity gap
-pads polarity (suc n) gap = pad_bytes polarity long_pad ++ pads polarity n (gap - long_pad)
+pads polarity (suc n) gap =
+    if nat_le gap 0xfffff8 then pad_bytes polarity gap
+    else (pad_bytes polarity long_pad ++ pads polarity n (gap - long_pad))
 
--- how many of the greatest pads a gap begins with: the least number that leaves at most 0xFFFFF8 bytes (`PadsRule`)
-abbrev pub long_pads : ℕ → ℕ
-long_pads gap = (gap - 249) / long_pad
-
--- a gap between an edge and the file after it: nothing if it is empty, else pads
+-- a gap between an edge and the file behind it: nothing where it is empty, else its pads, which are fewer than its bytes
 unfoldable pub gap_bytes : Polarity → ℕ → List ℕ
-gap_bytes polarity gap = if gap == 0 then [] else pads polarity (long_pads gap) gap
+gap_bytes polarity gap = if gap == 0 then [] else pads polarity gap gap
 
 -- the pad after the head that holds the extended header, if there is one, with this used size
 unfoldable pub ext_pad : Polarity → Option Extension → ℕ → List ℕ
@@ -97,10 +95,12 @@ volume_spans h files starts =
 
 -- ---- the rule of the pads
 
--- the rule of the pads of a gap: one pad if the gap is small enough; else the greatest pad first, and so on, and the
--- last pad has at least 256 bytes
+-- the rule of the pads of a gap: one pad where it fits, else the greatest pad first, and then the pads of the rest, the
+-- last of at least 256 bytes
 abbrev pub PadsRule : Type 0
 PadsRule =
-    (gap : ℕ) → 24 ≤ gap → gap % 8 ≡ 0
-    → (gap ≤ 0xfffff8 → long_pads gap ≡ 0)
-    × (0xfffff8 < gap → (long_pads gap ≡ suc (long_pads (gap - long_pad))) × (256 ≤ gap - long_pad))
+    (polarity : Polarity) (gap : ℕ) → 24 ≤ gap → gap % 8 ≡ 0
+    → (gap ≤ 0xfffff8 → gap_bytes polarity gap ≡ pad_bytes polarity gap)
+    × (0xfffff8 < gap
+    → (gap_bytes polarity gap ≡ pad_bytes polarity long_pad ++ gap_bytes polarity (gap - long_pad))
+    × (256 ≤ gap - long_pad))

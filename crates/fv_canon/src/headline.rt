@@ -6,7 +6,8 @@
 //!
 //! None of these functions does anything: their contracts are what is proved.
 
-ghost use Rattle.fv_canon.specs.Headline.{DataAreAligned, ImageIsItsOwnImage, ImageKeepsLengthAndMeaning};
+ghost use Rattle.fv_canon.specs.Headline.{DataAreAligned, EachVolumeHasItsImage, ImageIsItsOwnImage};
+ghost use Rattle.fv_canon.specs.Headline.{ImageKeepsLengthAndMeaning};
 ghost use Rattle.fv_canon.specs.Headline.{OnlyWhatDoesNotFitIsRefused, SameMeaningIffSameImage, WhatFitsHasAnImage};
 
 /// Two volumes that have images have the same meaning exactly if the images are equal.
@@ -31,6 +32,12 @@ pub fn image_is_its_own_image()
 /// volume 3, section 3.2.3.1.)
 pub fn data_are_aligned()
     ensures { DataAreAligned }
+{}
+
+/// In the image of a volume each volume inside has its own image, as consecutive bytes. So what holds of an
+/// image holds at every level.
+pub fn each_volume_has_its_image()
+    ensures { EachVolumeHasItsImage }
 {}
 
 /// A volume fits exactly if it has an image.

@@ -7,9 +7,9 @@ ghost use Rattle.fv_section.specs.SectionImage.{stream_of};
 ghost use Rattle.fv_tree.specs.Meaning.{files_from, attributes_of, content_of, data_len_of, sections_from};
 ghost use Rattle.fv_tree.specs.Views.{body_view, content_view};
 ghost use Rattle.fv_canon.specs.ImageOf.{image_of, stored_of, stored_file, data_of, frames_of, body_image};
-ghost use Rattle.fv_canon.specs.ImageOf.{starts_in, starts_in_files, starts_in_file, starts_in_content};
-ghost use Rattle.fv_canon.specs.ImageOf.{starts_in_sections, starts_in_body};
-ghost use Rattle.fv_canon.specs.Layouts.{LaysVolume, LaysFiles, LaysFile, LaysContent, LaysSections, LaysBody};
+ghost use Rattle.fv_canon.specs.ImageOf.{starts_in};
+ghost use Rattle.fv_canon.specs.Volumes.{volumes_in, volumes_in_files, volumes_in_file, volumes_in_content};
+ghost use Rattle.fv_canon.specs.Volumes.{volumes_in_sections, volumes_in_body};
 ghost use Rattle.fv_canon.specs.StoredFiles.{file_sum_for, stored_bytes, size_for};
 ghost use Rattle.fv_canon.specs.StoredWalks.{files_bytes};
 ghost use Rattle.fv_canon.specs.Placed.{ArePlaced};
@@ -44,10 +44,10 @@ fn put_sections<'s, S: Sink>(
     tail: u8,
     starts: &'s [u64],
 ) -> &'s [u64]
-    requires laid { BeginsWithStarts LaysSections (sections_from sections.now) starts.now }
+    requires laid { BeginsWithStarts (volumes_in_sections (sections_from sections.now)) starts.now }
     ensures bytes { ImageTakes S.takes out.old
         (stream_of (frames_of 0 (sections_from sections.now) starts.now) tail) out.new }
-    ensures rest { result.now ≡ drop (starts_in_sections (sections_from sections.now)) starts.now }
+    ensures rest { result.now ≡ drop (starts_in (volumes_in_sections (sections_from sections.now))) starts.now }
 {
     let mut gap = 0;
     let mut rest = starts;
@@ -71,9 +71,9 @@ fn put_body<'s, S: Sink>(
     body: &Body<'_>,
     starts: &'s [u64],
 ) -> &'s [u64]
-    requires laid { BeginsWithStarts LaysBody (body_view body.now) starts.now }
+    requires laid { BeginsWithStarts (volumes_in_body (body_view body.now)) starts.now }
     ensures bytes { ImageTakes S.takes out.old (body_image (body_view body.now) starts.now) out.new }
-    ensures rest { result.now ≡ drop (starts_in_body (body_view body.now)) starts.now }
+    ensures rest { result.now ≡ drop (starts_in (volumes_in_body (body_view body.now))) starts.now }
 {
     match body {
         Body::Leaf(bytes) => {
@@ -92,9 +92,9 @@ fn put_content<'s, S: Sink>(
     content: &Content<'_>,
     starts: &'s [u64],
 ) -> &'s [u64]
-    requires laid { BeginsWithStarts LaysContent (content_view content.now) starts.now }
+    requires laid { BeginsWithStarts (volumes_in_content (content_view content.now)) starts.now }
     ensures bytes { ImageTakes S.takes out.old (data_of (content_view content.now) starts.now) out.new }
-    ensures rest { result.now ≡ drop (starts_in_content (content_view content.now)) starts.now }
+    ensures rest { result.now ≡ drop (starts_in (volumes_in_content (content_view content.now))) starts.now }
 {
     match content {
         Content::Plain(bytes) => {
@@ -109,7 +109,7 @@ fn put_content<'s, S: Sink>(
 // is put meanwhile.
 #[cycle(put)]
 fn file_sum<S: Sink>(out: &mut ImageSink<'_, S>, file: &FileView<'_>, starts: &[u64]) -> u8
-    requires laid { BeginsWithStarts LaysFile file.now starts.now }
+    requires laid { BeginsWithStarts (volumes_in_file file.now) starts.now }
     requires puts { is_summed (attributes_of file.now) ≡ true → out.now.sums ≡ false }
     ensures value { result ≡ file_sum_for (attributes_of file.now) (data_of (content_of file.now) starts.now) }
     ensures none { ImageTakes S.takes out.old [] out.new }
@@ -134,10 +134,10 @@ fn put_file<'s, S: Sink>(
     polarity: Polarity,
     starts: &'s [u64],
 ) -> &'s [u64]
-    requires laid { BeginsWithStarts LaysFile file.now starts.now }
+    requires laid { BeginsWithStarts (volumes_in_file file.now) starts.now }
     requires most { data_len_of file.now ≤ data_limit }
     ensures bytes { ImageTakes S.takes out.old (stored_bytes polarity (stored_file file.now starts.now)) out.new }
-    ensures rest { result.now ≡ drop (starts_in_file file.now) starts.now }
+    ensures rest { result.now ≡ drop (starts_in (volumes_in_file file.now)) starts.now }
 {
     let _name = file.name();
     if out.sums && file.attributes().is_summed() {
@@ -162,10 +162,10 @@ fn put_files<'s, S: Sink>(
     starts: &'s [u64],
 ) -> &'s [u64]
     requires placed { ArePlaced total first files.now own.now }
-    requires laid { BeginsWithStarts LaysFiles (files_from files.now) starts.now }
+    requires laid { BeginsWithStarts (volumes_in_files (files_from files.now)) starts.now }
     ensures bytes { ImageTakes S.takes out.old
         (files_bytes polarity total first (stored_of (files_from files.now) starts.now) own.now) out.new }
-    ensures rest { result.now ≡ drop (starts_in_files (files_from files.now)) starts.now }
+    ensures rest { result.now ≡ drop (starts_in (volumes_in_files (files_from files.now))) starts.now }
 {
     let mut edge = first;
     let mut rest = starts;
@@ -189,9 +189,9 @@ fn put_volume<'s, S: Sink>(
     volume: &VolumeView<'_>,
     starts: &'s [u64],
 ) -> &'s [u64]
-    requires laid { BeginsWithStarts LaysVolume volume.now starts.now }
+    requires laid { BeginsWithStarts (volumes_in volume.now) starts.now }
     ensures bytes { ImageTakes S.takes out.old (image_of volume.now starts.now) out.new }
-    ensures rest { result.now ≡ drop (starts_in volume.now) starts.now }
+    ensures rest { result.now ≡ drop (starts_in (volumes_in volume.now)) starts.now }
 {
     let head = volume.head();
     let files = volume.files();
@@ -206,7 +206,7 @@ fn put_volume<'s, S: Sink>(
 
 // Puts the canonical image of a volume into any sink.
 pub(crate) fn put_image<S: Sink>(out: &mut S, volume: &VolumeView<'_>, starts: &[u64])
-    requires laid { BeginsWithStarts LaysVolume volume.now starts.now }
+    requires laid { BeginsWithStarts (volumes_in volume.now) starts.now }
     ensures { S.takes out.old (image_of volume.now starts.now) out.new }
 {
     put_volume(&mut ImageSink::new(out), volume, starts);
@@ -214,7 +214,7 @@ pub(crate) fn put_image<S: Sink>(out: &mut S, volume: &VolumeView<'_>, starts: &
 
 // Puts the data of a file into any sink.
 pub(crate) fn put_data<S: Sink>(out: &mut S, content: &Content<'_>, starts: &[u64])
-    requires laid { BeginsWithStarts LaysContent (content_view content.now) starts.now }
+    requires laid { BeginsWithStarts (volumes_in_content (content_view content.now)) starts.now }
     ensures { S.takes out.old (data_of (content_view content.now) starts.now) out.new }
 {
     put_content(&mut ImageSink::new(out), content, starts);
@@ -222,7 +222,7 @@ pub(crate) fn put_data<S: Sink>(out: &mut S, content: &Content<'_>, starts: &[u6
 
 // Puts the body of a section into any sink.
 pub(crate) fn put_section_body<S: Sink>(out: &mut S, body: &Body<'_>, starts: &[u64])
-    requires laid { BeginsWithStarts LaysBody (body_view body.now) starts.now }
+    requires laid { BeginsWithStarts (volumes_in_body (body_view body.now)) starts.now }
     ensures { S.takes out.old (body_image (body_view body.now) starts.now) out.new }
 {
     put_body(&mut ImageSink::new(out), body, starts);

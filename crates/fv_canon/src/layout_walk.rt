@@ -1,17 +1,17 @@
 //! The layout of a volume and of the volumes inside it.
 
-ghost use Rattle.std.specs.Prelude.{◌≡◌, ◌≤◌, ◌⊎◌, ◌++◌, ℕ, List, All, map, take, get_or, IfOk, IfErr, OnOk};
+ghost use Rattle.std.specs.Prelude.{◌≡◌, ◌≤◌, ◌⊎◌, ◌+◌, ◌++◌, ℕ, List, All, map, take, get_or, IfOk, IfErr, OnOk};
 ghost use Rattle.fv_base.specs.Faults.{want_of_memory};
 ghost use Rattle.fv_canon.specs.Depths.{NestsVolume, NestsFiles, NestsContent, NestsSections, NestsBody};
-ghost use Rattle.fv_canon.specs.Layouts.{first_edge, layout_fault, part_of};
-ghost use Rattle.fv_canon.specs.Layouts.{LaysVolume, LaysFiles, LaysContent, LaysSections, LaysBody};
-ghost use Rattle.fv_canon.specs.Layouts.{Fits, FitsContent, FitsBody, Unfit, UnfitFiles, UnfitContent, UnfitSections};
-ghost use Rattle.fv_canon.specs.Layouts.{UnfitBody};
+ghost use Rattle.fv_canon.specs.Layouts.{first_edge, layout_fault, part_of, parts_of, AreStarts, Laid, LaysVolume};
+ghost use Rattle.fv_canon.specs.Layouts.{AllFit, Fits, FirstUnfit, Unfit};
+ghost use Rattle.fv_canon.specs.Volumes.{volumes_in, volumes_in_files, volumes_in_content, volumes_in_sections};
+ghost use Rattle.fv_canon.specs.Volumes.{volumes_in_body};
 ghost use Rattle.fv_canon.specs.LayoutWalks.{Grew, Shallow};
-ghost use Rattle.fv_canon.specs.LayoutForms.{IsLayout, UnfitAlone};
-ghost use Rattle.fv_canon.specs.Starts.{IsFirstPlacement, Placement};
+ghost use Rattle.fv_canon.specs.LayoutForms.{IsLayout};
+ghost use Rattle.fv_canon.specs.Starts.{Placement};
 ghost use Rattle.fv_canon.specs.Reaches.{IsLawfulPart};
-ghost use Rattle.fv_tree.specs.Meaning.{head_of, files_of, content_of, body_of, sections_from, files_from};
+ghost use Rattle.fv_tree.specs.Meaning.{head_of, length_of, content_of, body_of, sections_from, files_from};
 ghost use Rattle.fv_tree.specs.Views.{body_view, content_view};
 
 use crate::first_placement::{Part, first_starts, is_top_off};
@@ -39,7 +39,7 @@ pub fn layout(alloc: Global, view: &VolumeView<'_>) -> Result<Layout, Fault>
     // Every other placement of the volume's own files has a larger start at the first file where
     // the two differ.
     ensures least { IfOk result (λ l. (others : List ℕ) (i : ℕ)
-        → Placement (head_of view.now).length (first_edge (head_of view.now)) (map part_of (files_of view.now)) others
+        → Placement (length_of view.now) (first_edge (head_of view.now)) (parts_of view.now) others
         → take i others ≡ take i l.own → get_or l.own i 0 ≤ get_or others i 0) }
 
     // Any error other than OutOfMemory is that of the first volume that does not fit.
@@ -57,9 +57,9 @@ pub fn layout(alloc: Global, view: &VolumeView<'_>) -> Result<Layout, Fault>
 
 // The starts of the volumes in a file's data, which are at depth 0.
 pub(crate) fn layout_of_content(alloc: Global, file: &FileView<'_>) -> Result<Vec<u64>, Fault>
-    ensures ok { IfOk result (λ starts. LaysContent (content_of file.now) starts.items) }
-    ensures err { IfErr result (λ f. (f ≡ want_of_memory) ⊎ UnfitContent (content_of file.now) 0 f) }
-    ensures fits { FitsContent (content_of file.now) → IfErr result (λ f. f ≡ want_of_memory) }
+    ensures ok { IfOk result (λ starts. Laid AreStarts (volumes_in_content (content_of file.now)) starts.items) }
+    ensures err { IfErr result (λ f. (f ≡ want_of_memory) ⊎ FirstUnfit (volumes_in_content (content_of file.now)) 0 f) }
+    ensures fits { AllFit (volumes_in_content (content_of file.now)) → IfErr result (λ f. f ≡ want_of_memory) }
 {
     let _name = file.name();
     let mut starts = Vec::new(alloc);
@@ -69,9 +69,9 @@ pub(crate) fn layout_of_content(alloc: Global, file: &FileView<'_>) -> Result<Ve
 
 // The starts of the volumes in a section's body, which is at depth 0.
 pub(crate) fn layout_of_body(alloc: Global, section: &SectionView<'_>) -> Result<Vec<u64>, Fault>
-    ensures ok { IfOk result (λ starts. LaysBody (body_of section.now) starts.items) }
-    ensures err { IfErr result (λ f. (f ≡ want_of_memory) ⊎ UnfitAlone (body_of section.now) f) }
-    ensures fits { FitsBody (body_of section.now) → IfErr result (λ f. f ≡ want_of_memory) }
+    ensures ok { IfOk result (λ starts. Laid AreStarts (volumes_in_body (body_of section.now)) starts.items) }
+    ensures err { IfErr result (λ f. (f ≡ want_of_memory) ⊎ FirstUnfit (volumes_in_body (body_of section.now)) 0 f) }
+    ensures fits { AllFit (volumes_in_body (body_of section.now)) → IfErr result (λ f. f ≡ want_of_memory) }
 {
     let _kind = section.kind();
     let mut starts = Vec::new(alloc);
@@ -93,7 +93,7 @@ fn lay_volume(
     starts: &mut Vec<u64>,
 ) -> Result<(), Fault>
     requires shallow { Shallow NestsVolume view.now depth }
-    ensures ok { OnOk result (Grew LaysVolume view.now starts.old.items starts.new.items) }
+    ensures ok { OnOk result (Grew (volumes_in view.now) starts.old.items starts.new.items) }
     ensures err { IfErr result (λ f. (f ≡ want_of_memory) ⊎ Unfit view.now depth f) }
 {
     let own = own_starts(alloc, view, depth)?;
@@ -111,8 +111,8 @@ fn lay_files(
     starts: &mut Vec<u64>,
 ) -> Result<(), Fault>
     requires shallow { Shallow NestsFiles (files_from files.now) depth }
-    ensures ok { OnOk result (Grew LaysFiles (files_from files.now) starts.old.items starts.new.items) }
-    ensures err { IfErr result (λ f. (f ≡ want_of_memory) ⊎ UnfitFiles (files_from files.now) depth f) }
+    ensures ok { OnOk result (Grew (volumes_in_files (files_from files.now)) starts.old.items starts.new.items) }
+    ensures err { IfErr result (λ f. (f ≡ want_of_memory) ⊎ FirstUnfit (volumes_in_files (files_from files.now)) depth f) }
 {
     for file in files {
         lay_content(alloc, file.content(), depth, starts)?;
@@ -129,8 +129,8 @@ fn lay_content(
     starts: &mut Vec<u64>,
 ) -> Result<(), Fault>
     requires shallow { Shallow NestsContent (content_view content.now) depth }
-    ensures ok { OnOk result (Grew LaysContent (content_view content.now) starts.old.items starts.new.items) }
-    ensures err { IfErr result (λ f. (f ≡ want_of_memory) ⊎ UnfitContent (content_view content.now) depth f) }
+    ensures ok { OnOk result (Grew (volumes_in_content (content_view content.now)) starts.old.items starts.new.items) }
+    ensures err { IfErr result (λ f. (f ≡ want_of_memory) ⊎ FirstUnfit (volumes_in_content (content_view content.now)) depth f) }
 {
     match content {
         Content::Plain(_) => Ok(()),
@@ -147,8 +147,8 @@ fn lay_sections(
     starts: &mut Vec<u64>,
 ) -> Result<(), Fault>
     requires shallow { Shallow NestsSections (sections_from sections.now) depth }
-    ensures ok { OnOk result (Grew LaysSections (sections_from sections.now) starts.old.items starts.new.items) }
-    ensures err { IfErr result (λ f. (f ≡ want_of_memory) ⊎ UnfitSections (sections_from sections.now) depth f) }
+    ensures ok { OnOk result (Grew (volumes_in_sections (sections_from sections.now)) starts.old.items starts.new.items) }
+    ensures err { IfErr result (λ f. (f ≡ want_of_memory) ⊎ FirstUnfit (volumes_in_sections (sections_from sections.now)) depth f) }
 {
     for section in sections {
         lay_body(alloc, section.body(), depth, starts)?;
@@ -160,8 +160,8 @@ fn lay_sections(
 #[cycle(lay)]
 fn lay_body(alloc: Global, body: &Body<'_>, depth: u8, starts: &mut Vec<u64>) -> Result<(), Fault>
     requires shallow { Shallow NestsBody (body_view body.now) depth }
-    ensures ok { OnOk result (Grew LaysBody (body_view body.now) starts.old.items starts.new.items) }
-    ensures err { IfErr result (λ f. (f ≡ want_of_memory) ⊎ UnfitBody (body_view body.now) depth f) }
+    ensures ok { OnOk result (Grew (volumes_in_body (body_view body.now)) starts.old.items starts.new.items) }
+    ensures err { IfErr result (λ f. (f ≡ want_of_memory) ⊎ FirstUnfit (volumes_in_body (body_view body.now)) (depth + 1) f) }
 {
     match body {
         Body::Leaf(_) => Ok(()),
@@ -172,8 +172,7 @@ fn lay_body(alloc: Global, body: &Body<'_>, depth: u8, starts: &mut Vec<u64>) ->
 
 // The starts of a volume's own files, or the fault if they have none.
 fn own_starts(alloc: Global, view: &VolumeView<'_>, depth: u8) -> Result<Vec<u64>, Fault>
-    ensures ok { IfOk result (λ own. IsFirstPlacement (head_of view.now).length (first_edge (head_of view.now))
-        (map part_of (files_of view.now)) own.items) }
+    ensures ok { IfOk result (λ own. AreStarts view.now own.items) }
     ensures err { IfErr result (λ f. (f ≡ want_of_memory) ⊎ Unfit view.now depth f) }
 {
     let head = view.head();
@@ -191,7 +190,7 @@ fn own_starts(alloc: Global, view: &VolumeView<'_>, depth: u8) -> Result<Vec<u64
 
 // What the layout knows of a volume's files, in order.
 fn parts_of(alloc: Global, view: &VolumeView<'_>) -> Result<Vec<Part>, Fault>
-    ensures ok { IfOk result (λ parts. (parts.items ≡ map part_of (files_of view.now))
+    ensures ok { IfOk result (λ parts. (parts.items ≡ parts_of view.now)
         × All (IsLawfulPart (head_of view.now).length) parts.items) }
     ensures err { IfErr result (λ f. f ≡ want_of_memory) }
 {

@@ -3,18 +3,18 @@
 ghost use Rattle.std.specs.Prelude.{◌≡◌, drop};
 ghost use Rattle.fv_tree.specs.Meaning.{files_from, sections_from};
 ghost use Rattle.fv_tree.specs.Views.{body_view, content_view};
-ghost use Rattle.fv_canon.specs.ImageOf.{starts_in, starts_in_files, starts_in_content, starts_in_sections};
-ghost use Rattle.fv_canon.specs.ImageOf.{starts_in_body};
-ghost use Rattle.fv_canon.specs.Layouts.{LaysVolume, LaysFiles, LaysContent, LaysSections, LaysBody};
+ghost use Rattle.fv_canon.specs.ImageOf.{starts_in};
 ghost use Rattle.fv_canon.specs.ImageWalks.{BeginsWithStarts};
+ghost use Rattle.fv_canon.specs.Volumes.{volumes_in, volumes_in_files, volumes_in_content, volumes_in_sections};
+ghost use Rattle.fv_canon.specs.Volumes.{volumes_in_body};
 
 use fv_tree::{Body, Content, FileView, SectionView, VolumeView};
 
 // The starts after those of the sections.
 #[cycle(skip)]
 fn skip_sections<'s>(sections: &[SectionView<'_>], starts: &'s [u64]) -> &'s [u64]
-    requires laid { BeginsWithStarts LaysSections (sections_from sections.now) starts.now }
-    ensures { result.now ≡ drop (starts_in_sections (sections_from sections.now)) starts.now }
+    requires laid { BeginsWithStarts (volumes_in_sections (sections_from sections.now)) starts.now }
+    ensures { result.now ≡ drop (starts_in (volumes_in_sections (sections_from sections.now))) starts.now }
 {
     let mut rest = starts;
     for section in sections {
@@ -26,8 +26,8 @@ fn skip_sections<'s>(sections: &[SectionView<'_>], starts: &'s [u64]) -> &'s [u6
 // The starts after those of a section's body.
 #[cycle(skip)]
 fn skip_body<'s>(body: &Body<'_>, starts: &'s [u64]) -> &'s [u64]
-    requires laid { BeginsWithStarts LaysBody (body_view body.now) starts.now }
-    ensures { result.now ≡ drop (starts_in_body (body_view body.now)) starts.now }
+    requires laid { BeginsWithStarts (volumes_in_body (body_view body.now)) starts.now }
+    ensures { result.now ≡ drop (starts_in (volumes_in_body (body_view body.now))) starts.now }
 {
     match body {
         Body::Leaf(_) => starts,
@@ -39,8 +39,8 @@ fn skip_body<'s>(body: &Body<'_>, starts: &'s [u64]) -> &'s [u64]
 // The starts after those of a file's data.
 #[cycle(skip)]
 pub(crate) fn skip_content<'s>(content: &Content<'_>, starts: &'s [u64]) -> &'s [u64]
-    requires laid { BeginsWithStarts LaysContent (content_view content.now) starts.now }
-    ensures { result.now ≡ drop (starts_in_content (content_view content.now)) starts.now }
+    requires laid { BeginsWithStarts (volumes_in_content (content_view content.now)) starts.now }
+    ensures { result.now ≡ drop (starts_in (volumes_in_content (content_view content.now))) starts.now }
 {
     match content {
         Content::Plain(_) => starts,
@@ -51,8 +51,8 @@ pub(crate) fn skip_content<'s>(content: &Content<'_>, starts: &'s [u64]) -> &'s 
 // The starts after those of the volumes in the files.
 #[cycle(skip)]
 fn skip_files<'s>(files: &[FileView<'_>], starts: &'s [u64]) -> &'s [u64]
-    requires laid { BeginsWithStarts LaysFiles (files_from files.now) starts.now }
-    ensures { result.now ≡ drop (starts_in_files (files_from files.now)) starts.now }
+    requires laid { BeginsWithStarts (volumes_in_files (files_from files.now)) starts.now }
+    ensures { result.now ≡ drop (starts_in (volumes_in_files (files_from files.now))) starts.now }
 {
     let mut rest = starts;
     for file in files {
@@ -64,8 +64,8 @@ fn skip_files<'s>(files: &[FileView<'_>], starts: &'s [u64]) -> &'s [u64]
 // The starts after those of a volume: of its own files, and of the volumes in them.
 #[cycle(skip)]
 fn skip_volume<'s>(volume: &VolumeView<'_>, starts: &'s [u64]) -> &'s [u64]
-    requires laid { BeginsWithStarts LaysVolume volume.now starts.now }
-    ensures { result.now ≡ drop (starts_in volume.now) starts.now }
+    requires laid { BeginsWithStarts (volumes_in volume.now) starts.now }
+    ensures { result.now ≡ drop (starts_in (volumes_in volume.now)) starts.now }
 {
     let _head = volume.head();
     let files = volume.files();

@@ -3,8 +3,8 @@
 ghost use Rattle.std.specs.Prelude.{◌≡◌, ◌⊎◌, ℕ, List, IfOk, IfErr};
 ghost use Rattle.fv_base.specs.Faults.{want_of_memory};
 ghost use Rattle.fv_canon.specs.Image.{IsData, IsBodyImage};
-ghost use Rattle.fv_canon.specs.Layouts.{FitsContent, UnfitContent, FitsBody};
-ghost use Rattle.fv_canon.specs.LayoutForms.{UnfitAlone};
+ghost use Rattle.fv_canon.specs.Layouts.{AllFit, FirstUnfit};
+ghost use Rattle.fv_canon.specs.Volumes.{volumes_in_body, volumes_in_content};
 ghost use Rattle.fv_tree.specs.Meaning.{content_of, body_of};
 
 use crate::image_walk::{put_data, put_section_body};
@@ -26,8 +26,8 @@ pub fn file_bytes(alloc: Global, file: &FileView<'_>) -> Result<ByteList, Fault>
     ensures only { (other : List ℕ) → IsData (content_of file.now) other → IfOk result (λ o. o ≡ other) }
 
     // Any error other than OutOfMemory is that of the first volume that does not fit.
-    ensures err { IfErr result (λ f. (f ≡ want_of_memory) ⊎ UnfitContent (content_of file.now) 0 f) }
-    ensures fits { FitsContent (content_of file.now) → IfErr result (λ f. f ≡ want_of_memory) }
+    ensures err { IfErr result (λ f. (f ≡ want_of_memory) ⊎ FirstUnfit (volumes_in_content (content_of file.now)) 0 f) }
+    ensures fits { AllFit (volumes_in_content (content_of file.now)) → IfErr result (λ f. f ≡ want_of_memory) }
 {
     let _name = file.name();
     let starts = layout_of_content(alloc, file)?;
@@ -50,8 +50,8 @@ pub fn body_bytes(alloc: Global, section: &SectionView<'_>) -> Result<ByteList, 
     ensures only { (other : List ℕ) → IsBodyImage (body_of section.now) other → IfOk result (λ o. o ≡ other) }
 
     // Any error other than OutOfMemory is that of the first volume that does not fit.
-    ensures err { IfErr result (λ f. (f ≡ want_of_memory) ⊎ UnfitAlone (body_of section.now) f) }
-    ensures fits { FitsBody (body_of section.now) → IfErr result (λ f. f ≡ want_of_memory) }
+    ensures err { IfErr result (λ f. (f ≡ want_of_memory) ⊎ FirstUnfit (volumes_in_body (body_of section.now)) 0 f) }
+    ensures fits { AllFit (volumes_in_body (body_of section.now)) → IfErr result (λ f. f ≡ want_of_memory) }
 {
     let _kind = section.kind();
     let starts = layout_of_body(alloc, section)?;

@@ -2,8 +2,8 @@
 use Rattle.std.specs.Prelude.{◌≡◌, ⊤, ℕ, List, Option, Some, None}
 use Rattle.fv_base.specs.declared.fault.Fault.{Fault}
 use Rattle.fv_canon.specs.Image.{IsData, IsBodyImage}
-use Rattle.fv_canon.specs.Layouts.{UnfitContent}
-use Rattle.fv_canon.specs.LayoutForms.{UnfitAlone}
+use Rattle.fv_canon.specs.Layouts.{FirstUnfit}
+use Rattle.fv_canon.specs.Volumes.{volumes_in_body, volumes_in_content}
 use Rattle.fv_section.specs.Frames.{FrameForm, Splits}
 use Rattle.fv_tree.specs.LookupInstances.{section_of_type, frame_of_type, security_core}
 use Rattle.fv_tree.specs.Meaning.{FileMeaning, SectionMeaning, SectionMeanings, Plain, Sectioned, content_of, body_of}
@@ -51,11 +51,11 @@ IsPart (Some f) part answer = IsFilePart f part.section part.instance answer
 
 -- what does not fit: the data of the file, or the body of the section
 abbrev pub StopsFilePart : FileMeaning → Option ℕ → ℕ → Fault → Type 0
-StopsFilePart f None instance fault = UnfitContent (content_of f) 0 fault
+StopsFilePart f None instance fault = FirstUnfit (volumes_in_content (content_of f)) 0 fault
 StopsFilePart f (Some kind) instance fault =
     (ss : SectionMeanings) × (t : ℕ) × (s : SectionMeaning) × (content_of f ≡ Sectioned ss t)
     × (section_of_type kind instance ss ≡ Some s)
-    × UnfitAlone (body_of s) fault
+    × FirstUnfit (volumes_in_body (body_of s)) 0 fault
 
 abbrev pub StopsPart : Option FileMeaning → Part → Fault → Type 0
 StopsPart None part fault = ⊥

@@ -10,9 +10,9 @@ use Rattle.fv_base.proofs.Laws.{and_join, and_split}
 use Rattle.fv_base.specs.Guids.{bytes_of}
 use Rattle.fv_base.specs.declared.fault.Fault.{Fault}
 use Rattle.fv_file.specs.Cells.{CellForm}
-use Rattle.fv_tree.specs.ReadingParts.{AliveFirst}
 use Rattle.fv_tree.specs.Files.{FileForm, files_in, same_name, is_marked, is_twin, NoTwins, alive_in, is_top, end_of, TopAtEnd, Alive}
-use Rattle.fv_tree.specs.FirstFault.{FirstTwin, TopElsewhere}
+use Rattle.fv_tree.specs.FailingChecks.{First}
+use Rattle.fv_tree.specs.FirstFault.{HasTwin, TopElsewhere, NamesFault}
 
 never : (t : Bool) → t ≡ true → t ≡ false → ⊥
 never t p q = cc
@@ -55,7 +55,7 @@ twin_not (g ∷ gs) f after none h = go (twin_not gs f after none.1) (or_true (i
   go rest (inl t) = never (list_any (is_twin g) (gs ++ (f ∷ after))) (any_behind (is_twin g) gs f after (twin_back f g t)) none.0
   go rest (inr t) = rest t
 
-pub twin_none : (f : FileForm) (fs : List FileForm) → FirstTwin f fs → NoTwins fs → ⊥
+pub twin_none : (f : FileForm) (fs : List FileForm) → HasTwin First f fs → NoTwins fs → ⊥
 twin_none f fs (before, after, is, none, has) all = twin_not before f after (subst NoTwins is all) has
 
 top_not : (n : ℕ) (before : List FileForm) (f : FileForm) (after : List FileForm) → TopAtEnd n (before ++ (f ∷ after))
@@ -69,8 +69,8 @@ pub top_none : (n : ℕ) (f : FileForm) (fs : List FileForm) → TopElsewhere n 
 top_none n f fs (before, after, is, top, off) all = top_not n before f after (subst (TopAtEnd n) is all) top off
 
 -- a volume whose files have a fault has none
-pub alive_none : (n : ℕ) (cells : List CellForm) (f : Fault) (files : List FileForm) → AliveFirst n (files_in cells) f
+pub alive_none : (n : ℕ) (cells : List CellForm) (f : Fault) (files : List FileForm) → NamesFault First n (files_in cells) f
     → Alive n cells files → ⊥
 alive_none n cells f files (inl (x, twin, is)) all = twin_none x (files_in cells) twin all.no_twins
-alive_none n cells f files (inr (none, (x, top, is))) all = top_none n x (alive_in (files_in cells)) top (subst
+alive_none n cells f files (inr (none, x, top, is)) all = top_none n x (alive_in (files_in cells)) top (subst
     (TopAtEnd n) all.files_are all.top)

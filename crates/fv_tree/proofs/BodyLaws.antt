@@ -1,6 +1,6 @@
 -- The files of a volume are those of its cells.
 use Rattle.std.proofs.Common.{◌≡◌, ◌≤◌, ◌<◌, ℕ, ◌+◌, ◌^◌, List, [], ◌∷◌, ◌++◌, length, drop, sym, ap}
-use Rattle.std.proofs.Common.{◌∙◌, subst, arith, inl, inr, length-append}
+use Rattle.std.proofs.Common.{◌∙◌, subst, arith, inr, length-append}
 use Rattle.std.specs.Prelude.{not}
 use Rattle.std.specs.List.{list_any}
 use Rattle.fv_base.specs.Limits.{volume_limit}
@@ -13,10 +13,12 @@ use Rattle.std.proofs.lemmas.List.{length-drop}
 use Rattle.fv_file.specs.Cells.{CellForm, Valid, Pad, Dead, Stub, Free, Tiles, CellsWithin, IsCell, IsMadeUp, offset_of, cell_len}
 use Rattle.fv_file.proofs.Laws.{cell_span}
 use Rattle.fv_head.specs.declared.extent.Extent.{Extent}
-use Rattle.fv_tree.specs.ReadingParts.{HasFiles, AreAlive, StandIn, StandFirst, AliveFirst, IsReadyFile, AllStored}
-use Rattle.fv_tree.specs.Denotes.{Streams, Pairs, MeansFile}
-use Rattle.fv_tree.specs.Files.{FileForm, NoTwins, files_in, alive_in, TopAtEnd, Alive, replaces}
-use Rattle.fv_tree.specs.FirstFault.{moved_fault, Faulty, FileFirst, BodyFirst, FirstOf}
+use Rattle.fv_tree.specs.ReadingParts.{HasFiles, StandIn, IsReadyFile, AllStored}
+use Rattle.fv_tree.specs.Denotes.{Streams, Stream, Pairs, MeansFile}
+use Rattle.fv_tree.specs.Files.{FileForm, files_in, alive_in, TopAtEnd, AreAlive, Alive, replaces}
+use Rattle.fv_base.specs.declared.fault.Place.{Place}
+use Rattle.fv_tree.specs.FailingChecks.{First}
+use Rattle.fv_tree.specs.FirstFault.{Faulty, FileFault, NamesFault, BodyFault, OneOf}
 use Rattle.fv_tree.specs.Meaning.{FileMeaning}
 use Rattle.fv_tree.proofs.AliveLaws.{alive_none}
 
@@ -25,11 +27,7 @@ use Rattle.fv_tree.proofs.AliveLaws.{alive_none}
 -- the files of some cells are those of a volume of them
 pub alive_of : (length : ℕ) (cs : List CellForm) (standing files : List FileForm) → standing ≡ files_in cs → AreAlive length standing files
     → Alive length cs files
-alive_of length cs standing files is h = record {
-  no_twins = subst NoTwins is h.no_twins;
-  files_are = h.files_are ∙ ap alive_in is;
-  top = h.top;
-}
+alive_of length cs standing files is h = subst (λ (fs : List FileForm). AreAlive length fs files) is h
 
 module _ (e : Extent) (volume : List ℕ) (cs : List CellForm) where
   -- the only cells
@@ -42,7 +40,7 @@ module _ (e : Extent) (volume : List ℕ) (cs : List CellForm) where
       h.alive.files_are ∙ ap (λ (ds : List CellForm). alive_in (files_in ds)) (only h.cells h.tiles) ∙ sym alive.files_are
 
   -- where these have a fault, there are none
-  pub stand_none : OnlyCells → (f : Fault) → AliveFirst e.length (files_in cs) f → (gs : List FileForm) → StandIn e volume gs → ⊥
+  pub stand_none : OnlyCells → (f : Fault) → NamesFault First e.length (files_in cs) f → (gs : List FileForm) → StandIn e volume gs → ⊥
   stand_none only f first gs h =
       alive_none e.length cs f gs first (subst (λ (ds : List CellForm). Alive e.length ds gs) (only h.cells h.tiles) h.alive)
 
@@ -74,20 +72,14 @@ module _ (S : Streams) (e : Extent) (volume : List ℕ) where
   pub files_none : ((gs : List FileForm) → StandIn e volume gs → ⊥) → (ts : List FileMeaning) → HasFiles S e volume ts → ⊥
   files_none none ts h = none h.files (standing ts h)
 
-module _ (S : Streams) (I : Faulty) (e : Extent) (volume : List ℕ) (base depth : ℕ) where
-  pub stand_first : (g : Fault) → StandFirst e g volume base depth → BodyFirst S I e g volume base depth
-  stand_first g (inl first) = inl first
-  stand_first g (inr (cs, tiles, f, inl (x, twin, same), is)) = inr (cs, tiles, inl (x, twin, is ∙ ap (moved_fault base depth) same))
-  stand_first g (inr (cs, tiles, f, inr (none, (x, top, same)), is)) =
-      inr (cs, tiles, inr (none, inl (x, top, is ∙ ap (moved_fault base depth) same)))
-
-  pub files_first : (fs : List FileForm) (g : Fault) → StandIn e volume fs → FirstOf (MeansFile S) (λ f. FileFirst I g f base depth) fs
-      → BodyFirst S I e g volume base depth
-  files_first fs g stand first =
-      let alive = stand.alive in
-      let P : List FileForm → Type 0 = λ l. FirstOf (MeansFile S) (λ f. FileFirst I g f base depth) l in
-      let top = subst (TopAtEnd e.length) alive.files_are alive.top in
-      inr (stand.cells, stand.tiles, inr (alive.no_twins, inr (top, subst P alive.files_are first)))
+-- the first file that is refused, of those that are in the volume
+pub files_first : (n : ℕ) (I : Faulty) (e : Extent) (volume : List ℕ) (at : Place) (fs : List FileForm) (g : Fault) → StandIn e volume fs
+    → OneOf First (MeansFile (Stream n)) (λ f. FileFault I g f at) fs → BodyFault First n I e g volume at
+files_first n I e volume at fs g stand first =
+    let alive = stand.alive in
+    let P : List FileForm → Type 0 = λ l. OneOf First (MeansFile (Stream n)) (λ f. FileFault I g f at) l in
+    let top = subst (TopAtEnd e.length) alive.files_are alive.top in
+    inr (stand.cells, stand.tiles, (alive.no_twins, top), subst P alive.files_are first)
 
 -- ---- every file stands in some bytes
 

@@ -5,7 +5,7 @@ use Rattle.std.specs.Prelude.{◌==◌, ◌&&◌}
 use Rattle.std.specs.Str.{bytes_eq}
 use Rattle.std.proofs.lemmas.List.{drop_all}
 use Rattle.fv_head.specs.Head.{HeadFields}
-use Rattle.fv_tree.specs.Difference.{Differs, differ_in, or_else, entries_eq}
+use Rattle.fv_tree.specs.Difference.{Differs, has_steps, differ_in, or_else, entries_eq}
 use Rattle.fv_tree.specs.DifferenceWalks.{in_word, outermost_first}
 use Rattle.fv_tree.specs.Difference.{head_differs, difference, files_differ, sections_differ}
 use Rattle.fv_tree.specs.declared.difference.Step.{Step}
@@ -67,7 +67,7 @@ pub volume_word : (v w : Meaning) (h g : HeadFields) (o : Option Word) (word : W
 volume_word (Volume a fs) (Volume b gs) h g o word x y said is =
     ends_first (head_differs a b) (files_differ 0 fs gs) word (rw (← x, ← y) (sym said ∙ ap in_word is))
 
-pub no_other : (v w : Meaning) → v ≡ w → difference v w ≡ None
+no_other : (v w : Meaning) → v ≡ w → difference v w ≡ None
 no_other v w e = ap (λ x. difference x w) e ∙ no_difference w
 
 none_told : (d : List Step × Word) → outermost_first (Some d) ≡ None → ⊥
@@ -76,3 +76,7 @@ none_told d e = cc
 -- a difference that was told is one
 pub differ_told : (v w : Meaning) (o : Differs) (d : List Step × Word) → outermost_first o ≡ difference v w → o ≡ Some d → v ≡ w → ⊥
 differ_told v w o d told is e = none_told d (sym (ap outermost_first is) ∙ told ∙ no_other v w e)
+
+-- and so do two with steps to where they differ
+pub steps_differ : (v w : Meaning) → has_steps (difference v w) ≡ true → v ≡ w → ⊥
+steps_differ v w some e = let never : true ≡ false = sym some ∙ ap has_steps (no_other v w e) in cc

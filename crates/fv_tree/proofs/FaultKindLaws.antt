@@ -13,12 +13,13 @@ use Rattle.fv_file.specs.States.{state_of}
 use Rattle.fv_file.specs.declared.state.FileState.{FileState}
 use Rattle.fv_file.specs.declared.state.FileState.TheVariants as states
 use Rattle.fv_head.specs.HeadChecks.{head_checks, whole_checks}
+use Rattle.fv_head.specs.declared.extent.Extent.{Extent}
 use Rattle.fv_section.specs.FrameChecks.{frame_checks}
 use Rattle.fv_section.specs.Frames.{FrameForm}
-use Rattle.fv_tree.specs.FaultStands.{Fails, InStream, InFiles, InVolume, InSection, FaultStands}
+use Rattle.fv_base.specs.declared.fault.Place.{Place}
 use Rattle.fv_tree.specs.Denotes.{depth_limit}
-use Rattle.fv_tree.specs.Files.{FileForm}
-use Rattle.fv_tree.specs.FirstFault.{Faulty, FrameFaulty, moved_fault}
+use Rattle.fv_tree.specs.FailingChecks.{Any, Fails}
+use Rattle.fv_tree.specs.FirstFault.{Moved, LayoutFault, InSection, InStream, InVolume, FaultStands, outermost}
 use Rattle.fv_base.proofs.Laws.{in_middle}
 
 -- P holds of each kind of fault that reading may have
@@ -46,8 +47,8 @@ pub record OfReading (P : FaultKind → Type 0) : Type 0 where
   pub depth : P kinds.Depth
 
 -- what is true of the faults of all checks is true of one that fails
-fails_among : (P : Fault → Type 0) (cs : List (Check Fault)) (f : Fault) → AllByRecursion (λ c. P c.fault) cs → Fails cs f → P f
-fails_among P cs f all (before, c, after, is, bad, fault) =
+fails_among : (P : Fault → Type 0) (cs : List (Check Fault)) (f : Fault) → AllByRecursion (λ c. P c.fault) cs → Fails Any cs f → P f
+fails_among P cs f all (before, c, after, is, guards, bad, fault) =
     let Q : Check Fault → Type 0 = λ d. P d.fault in
     subst P (sym fault) (in_middle Q before c after (subst (λ (l : List (Check Fault)). AllByRecursion Q l) is all))
 
@@ -82,48 +83,48 @@ module _ (P : FaultKind → Type 0) (all : OfReading P) where
   cell_kinds : (s : FileSystem) (p : Polarity) (at : ℕ) (r : List ℕ) → AllByRecursion Kind (cell_checks s p at r)
   cell_kinds s p at r = (all.free_space, state_kinds (state_of p (slice_index r 23)) s at r)
 
-  -- of a fault of the same kind
-  same_kind : (e f : Fault) (base depth : ℕ) → e ≡ moved_fault base depth f → P f.kind → P e.kind
-  same_kind e f base depth is h = subst (λ (g : Fault). P g.kind) (sym is) h
+  -- of a fault that is moved
+  moved_kind : (Q : Fault → Type 0) (at : Place) (e : Fault) → ((f : Fault) → Q f → P f.kind) → Moved at Q e → P e.kind
+  moved_kind Q at e kind (f, bad, is) = subst (λ (g : Fault). P g.kind) (sym is) (kind f bad)
+
+  -- of the layout of a body
+  layout_kind : (x : Extent) (volume : List ℕ) (f : Fault) → LayoutFault Any x volume f → P f.kind
+  layout_kind x volume f (inl bad) =
+      let r : List ℕ = drop bad.at (drop x.first volume) in
+      fails_among (λ g. P g.kind) (cell_checks x.file_system x.polarity (x.first + bad.at) r) f
+      (cell_kinds x.file_system x.polarity (x.first + bad.at) r) bad.fails
+  layout_kind x volume f (inr (cells, tiles, inl (g, twin, is))) = subst (λ (h : Fault). P h.kind) (sym is) all.duplicate_name
+  layout_kind x volume f (inr (cells, tiles, inr (none, g, top, is))) = subst (λ (h : Fault). P h.kind) (sym is) all.top_file
+
+  -- of a section, at one level
+  abbrev SectionKind : ℕ → Type 0
+  SectionKind n = (e : Fault) (f : FrameForm) (at : Place) → InSection Any n e f at → P e.kind
 
   -- of a stream, by its sections
-  stream_kind : (J : FrameFaulty) → ((e : Fault) (f : FrameForm) (base depth : ℕ) → J e f base depth → P e.kind)
-      → (e : Fault) (b : List ℕ) (base depth : ℕ) → InStream J e b base depth → P e.kind
-  stream_kind J inside e b base depth (inl (f, bad, is)) =
-      same_kind e f base depth is
-      (fails_among (λ g. P g.kind) (frame_checks bad.at (drop bad.at b)) f (all.section_tail, (all.section_size, tt)) bad.fails)
-  stream_kind J inside e b base depth (inr (frames, tail, split, (before, f, after, is, here))) = inside e f base depth here
-
-  -- of the files of a volume, by the streams that they hold
-  files_kind : (J : Faulty) → ((e : Fault) (b : List ℕ) (base depth : ℕ) → J e b base depth → P e.kind)
-      → (len : ℕ) (e : Fault) (fs : List FileForm) (base depth : ℕ) → InFiles J len e fs base depth → P e.kind
-  files_kind J inside len e fs base depth (inl (f, twin, is)) = subst (λ (g : Fault). P g.kind) (sym is) all.duplicate_name
-  files_kind J inside len e fs base depth (inr (inl (f, top, is))) = subst (λ (g : Fault). P g.kind) (sym is) all.top_file
-  files_kind J inside len e fs base depth (inr (inr (before, f, after, is, (holds, here)))) = inside e f.payload _ depth here
+  stream_kind : (n : ℕ) → SectionKind n → (e : Fault) (b : List ℕ) (at : Place) → InStream Any n e b at → P e.kind
+  stream_kind n inside e b at (inl moved) =
+      moved_kind _ at e
+      (λ f bad. fails_among (λ g. P g.kind) (frame_checks bad.at (drop bad.at b)) f (all.section_tail, (all.section_size, tt)) bad.fails)
+      moved
+  stream_kind n inside e b at (inr (frames, tail, split, (before, f, after, is, read, here))) = inside e f at here
 
   -- of a volume, by the streams in it
-  volume_kind : (J : Faulty) → ((e : Fault) (b : List ℕ) (base depth : ℕ) → J e b base depth → P e.kind)
-      → (e : Fault) (b : List ℕ) (base depth : ℕ) → InVolume J e b base depth → P e.kind
-  volume_kind J inside e b base depth (inl (f, bad, is)) =
-      same_kind e f base depth is (fails_among (λ g. P g.kind) (head_checks b) f (head_kinds b) bad)
-  volume_kind J inside e b base depth (inr (h, x, front, inl (f, bad, is))) =
-      let r : List ℕ = drop bad.at (drop x.first (take x.length b)) in
-      same_kind e f base depth is
-      (fails_among (λ g. P g.kind) (cell_checks x.file_system x.polarity (x.first + bad.at) r) f
-      (cell_kinds x.file_system x.polarity (x.first + bad.at) r) bad.fails)
-  volume_kind J inside e b base depth (inr (h, x, front, inr (cells, tiles, bad))) = files_kind J inside x.length e _ base depth bad
+  volume_kind : (n : ℕ) → SectionKind n → (e : Fault) (b : List ℕ) (at : Place) → InVolume Any n e b at → P e.kind
+  volume_kind n inside e b at (inl moved) =
+      moved_kind _ at e (λ f bad. fails_among (λ g. P g.kind) (head_checks b) f (head_kinds b) bad) moved
+  volume_kind n inside e b at (inr (h, x, front, inl moved)) = moved_kind _ at e (layout_kind x (take x.length b)) moved
+  volume_kind n inside e b at (inr (h, x, front, inr (cells, tiles, right, (before, f, after, is, read, (holds, here))))) =
+      stream_kind n inside e f.payload _ here
 
   -- of a section
-  section_kind : (n : ℕ) (e : Fault) (f : FrameForm) (base depth : ℕ) → InSection n e f base depth → P e.kind
-  section_kind zero e f base depth (which, is) = subst (λ (g : Fault). P g.kind) (sym is) all.depth
-  section_kind (suc n) e f base depth (inl (group, bad)) = stream_kind (InSection n) (section_kind n) e f.body _ (depth + 1) bad
-  section_kind (suc n) e f base depth (inr (kind, opens, bad)) =
-      volume_kind (InStream (InSection n)) (stream_kind (InSection n) (section_kind n)) e f.body _ (depth + 1) bad
+  section_kind : (n : ℕ) → SectionKind n
+  section_kind zero e f at (which, is) = subst (λ (g : Fault). P g.kind) (sym is) all.depth
+  section_kind (suc n) e f at (inl (group, bad)) = stream_kind n (section_kind n) e f.body _ bad
+  section_kind (suc n) e f at (inr (kind, opens, bad)) = volume_kind n (section_kind n) e f.body _ bad
 
   -- what is true of all kinds of reading is true of the kind of a fault that stands
   pub stands_kind : (b : List ℕ) (e : Fault) → FaultStands b e → P e.kind
-  stands_kind b e stands =
-      volume_kind (InStream (InSection depth_limit)) (stream_kind (InSection depth_limit) (section_kind depth_limit)) e b 0 0 stands
+  stands_kind b e stands = volume_kind depth_limit (section_kind depth_limit) e b outermost stands
 
 -- ---- the other kinds
 

@@ -1,30 +1,31 @@
--- The condition of a first fault stands at its place, and its kind is one of those of reading.
-use Rattle.std.proofs.Common.{ℕ, zero, suc, ◌+◌, List, take, drop, inl, inr}
-use Rattle.fv_base.specs.Checks.{Check, IsFirstFault}
+-- The condition of a first fault stands at its place.
+use Rattle.std.proofs.Common.{ℕ, zero, suc, ◌+◌, List, [], ◌∷◌, take, drop, inl, inr}
+use Rattle.fv_base.specs.Checks.{Check, AllHold}
 use Rattle.fv_base.specs.declared.fault.Fault.{Fault}
-use Rattle.fv_file.specs.FileChecks as file
+use Rattle.fv_base.specs.declared.fault.Place.{Place}
+use Rattle.fv_file.specs.FileChecks.{cell_checks}
 use Rattle.fv_head.specs.declared.extent.Extent.{Extent}
-use Rattle.fv_section.specs.FrameChecks as section
+use Rattle.fv_section.specs.FrameChecks.{frame_checks}
 use Rattle.fv_section.specs.Frames.{FrameForm}
-use Rattle.fv_tree.specs.Denotes.{Sections, Streams, MeansFile, MeansSection, Stream, depth_limit}
-use Rattle.fv_tree.specs.FaultStands.{Fails, SomeOf, FrameFails, CellFails, HasTwin, InStream, InFiles, InVolume, InSection, FaultStands}
+use Rattle.fv_tree.specs.Denotes.{depth_limit}
+use Rattle.fv_tree.specs.FailingChecks.{First, Any, GuardsHold, Fails, FrameFault, CellFault}
 use Rattle.fv_tree.specs.Files.{FileForm}
-use Rattle.fv_tree.specs.FirstFault.{Faulty, FrameFaulty, FirstOf, StreamFirst, FirstTwin, FilesFirst, FileFirst, VolumeFirst}
-use Rattle.fv_tree.specs.FirstFault.{SectionFirst, FirstInStream, FirstInVolume, IsFirstOfVolume, data_place}
+use Rattle.fv_tree.specs.FirstFault.{Moved, OneOf, NamesFault, LayoutFault, FileFault, data_at, outermost}
+use Rattle.fv_tree.specs.FirstFault.{InSection, InStream, InVolume, IsFirstOfVolume, FaultStands}
 
--- ---- the order is dropped
+-- ---- one level
+
+-- where all checks hold, the guards do
+guards : (cs : List (Check Fault)) → AllHold cs → GuardsHold cs
+guards [] all = tt
+guards (c ∷ cs) all = (λ guard. all.0, guards cs all.1)
 
 -- of checks in their order
-fails : (cs : List (Check Fault)) (f : Fault) → IsFirstFault cs f → Fails cs f
-fails cs f (before, c, after, is, held, bad, fault) = (before, c, after, is, bad, fault)
-
--- of items
-some_of : {A B : Type 0} (R : A → B → Type 0) (first stands : A → Type 0) (xs : List A) → ((x : A) → first x → stands x)
-    → FirstOf R first xs → SomeOf stands xs
-some_of R first stands xs weak (before, x, after, read, is, pairs, bad) = (before, x, after, is, weak x bad)
+fails : (cs : List (Check Fault)) (f : Fault) → Fails First cs f → Fails Any cs f
+fails cs f (before, c, after, is, held, bad, fault) = (before, c, after, is, guards before held, bad, fault)
 
 -- of the checks of a section header
-frame_fails : (b : List ℕ) (f : Fault) → section.IsFirstFrameFault b f → FrameFails b f
+frame_fails : (b : List ℕ) (f : Fault) → FrameFault First b f → FrameFault Any b f
 frame_fails b f first = record {
   frames = first.frames;
   tail = first.tail;
@@ -32,11 +33,11 @@ frame_fails b f first = record {
   split = first.split;
   multiple = first.multiple;
   inside = first.inside;
-  fails = fails (section.frame_checks first.at (drop first.at b)) f first.fault_is;
+  fails = fails (frame_checks first.at (drop first.at b)) f first.fault_is;
 }
 
 -- of the checks of a cell
-cell_fails : (x : Extent) (body : List ℕ) (f : Fault) → file.IsFirstCellFault x.file_system x.polarity x.first body f → CellFails x body f
+cell_fails : (x : Extent) (body : List ℕ) (f : Fault) → CellFault First x body f → CellFault Any x body f
 cell_fails x body f first = record {
   cells = first.cells;
   at = first.at;
@@ -44,70 +45,56 @@ cell_fails x body f first = record {
   none_free = first.none_free;
   inside = first.inside;
   not_erased = first.not_erased;
-  fails = fails (file.cell_checks x.file_system x.polarity (x.first + first.at) (drop first.at body)) f first.fault_is;
+  fails = fails (cell_checks x.file_system x.polarity (x.first + first.at) (drop first.at body)) f first.fault_is;
 }
 
--- of twins
-has_twin : (f : FileForm) (fs : List FileForm) → FirstTwin f fs → HasTwin f fs
-has_twin f fs (before, after, is, none, has) = (before, after, is, has)
+-- of items
+one_of : {A B : Type 0} (R : A → B → Type 0) (P Q : A → Type 0) (xs : List A) → ((x : A) → P x → Q x) → OneOf First R P xs
+    → OneOf Any R Q xs
+one_of R P Q xs weak (before, x, after, is, read, bad) = (before, x, after, is, tt, weak x bad)
+
+-- of the names of files
+names_stand : (len : ℕ) (fs : List FileForm) (f : Fault) → NamesFault First len fs f → NamesFault Any len fs f
+names_stand len fs f (inl (x, (before, after, is, none, has), fault)) = inl (x, (before, after, is, tt, has), fault)
+names_stand len fs f (inr (none, x, top, fault)) = inr (tt, x, top, fault)
+
+-- of the layout of a body
+layout_stands : (x : Extent) (volume : List ℕ) (f : Fault) → LayoutFault First x volume f → LayoutFault Any x volume f
+layout_stands x volume f (inl first) = inl (cell_fails x (drop x.first volume) f first)
+layout_stands x volume f (inr (cells, tiles, names)) = inr (cells, tiles, names_stand x.length _ f names)
+
+-- of faults that are moved
+moved_stands : (P Q : Fault → Type 0) (at : Place) (e : Fault) → ((f : Fault) → P f → Q f) → Moved at P e → Moved at Q e
+moved_stands P Q at e weak (f, first, is) = (f, weak f first, is)
 
 -- ---- by what stands inside
 
--- of a stream
-stream_by : (R : Sections) (I J : FrameFaulty) → ((e : Fault) (f : FrameForm) (base depth : ℕ) → I e f base depth → J e f base depth)
-    → (e : Fault) (b : List ℕ) (base depth : ℕ) → StreamFirst R I e b base depth → InStream J e b base depth
-stream_by R I J weak e b base depth (inl (f, first, is)) = inl (f, frame_fails b f first, is)
-stream_by R I J weak e b base depth (inr (frames, tail, split, first)) =
-    inr (
-      frames,
-      tail,
-      split,
-      some_of R (λ f. I e f base depth) (λ f. J e f base depth) frames (λ f h. weak e f base depth h) first,
-    )
+-- at one level, the condition of the first fault of a frame stands in it
+abbrev SectionStands : ℕ → Type 0
+SectionStands n = (e : Fault) (f : FrameForm) (at : Place) → InSection First n e f at → InSection Any n e f at
 
-module _ (S : Streams) (I J : Faulty) (weak : (e : Fault) (b : List ℕ) (base depth : ℕ) → I e b base depth → J e b base depth) where
-  -- of a file
-  file_by : (e : Fault) (base depth : ℕ) (f : FileForm) → FileFirst I e f base depth → FileFirst J e f base depth
-  file_by e base depth f (holds, inside) = (holds, weak e f.payload (base + data_place f) depth inside)
+stream_by : (n : ℕ) → SectionStands n → (e : Fault) (b : List ℕ) (at : Place) → InStream First n e b at → InStream Any n e b at
+stream_by n stands e b at (inl moved) = inl (moved_stands _ _ at e (frame_fails b) moved)
+stream_by n stands e b at (inr (frames, tail, split, first)) =
+    inr (frames, tail, split, one_of _ _ _ frames (λ f h. stands e f at h) first)
 
-  -- of the files of a volume
-  files_by : (length : ℕ) (e : Fault) (fs : List FileForm) (base depth : ℕ) → FilesFirst S I length e fs base depth
-      → InFiles J length e fs base depth
-  files_by length e fs base depth (inl (f, twin, is)) = inl (f, has_twin f fs twin, is)
-  files_by length e fs base depth (inr (none, inl (f, top, is))) = inr (inl (f, top, is))
-  files_by length e fs base depth (inr (none, inr (top, first))) =
-      inr (inr (some_of (MeansFile S) (λ f. FileFirst I e f base depth) (λ f. FileFirst J e f base depth) _ (file_by e base depth) first))
-
-  -- of a volume
-  volume_by : (e : Fault) (b : List ℕ) (base depth : ℕ) → VolumeFirst S I e b base depth → InVolume J e b base depth
-  volume_by e b base depth (inl (f, first, is)) = inl (f, fails _ f first, is)
-  volume_by e b base depth (inr (h, x, front, inl (f, first, is))) =
-      inr (h, x, front, inl (f, cell_fails x (drop x.first (take x.length b)) f first, is))
-  volume_by e b base depth (inr (h, x, front, inr (cells, tiles, first))) =
-      inr (h, x, front, inr (cells, tiles, files_by x.length e _ base depth first))
+volume_by : (n : ℕ) → SectionStands n → (e : Fault) (b : List ℕ) (at : Place) → InVolume First n e b at → InVolume Any n e b at
+volume_by n stands e b at (inl moved) = inl (moved_stands _ _ at e (fails _) moved)
+volume_by n stands e b at (inr (h, x, front, inl moved)) =
+    inr (h, x, front, inl (moved_stands _ _ at e (layout_stands x (take x.length b)) moved))
+volume_by n stands e b at (inr (h, x, front, inr (cells, tiles, right, first))) =
+    inr (h, x, front, inr (cells, tiles, tt, one_of _ _ _ _ file first))
+  where
+    file : (f : FileForm) → FileFault (InStream First n) e f at → FileFault (InStream Any n) e f at
+    file f (holds, inside) = (holds, stream_by n stands e f.payload (data_at at f) inside)
 
 -- ---- the recursion
 
--- the condition of the first fault of a section stands in it
-section_stands : (n : ℕ) (e : Fault) (f : FrameForm) (base depth : ℕ) → SectionFirst n e f base depth → InSection n e f base depth
-section_stands zero e f base depth first = first
-section_stands (suc n) e f base depth (inl (group, first)) =
-    inl (group, stream_by (MeansSection n) (SectionFirst n) (InSection n) (section_stands n) e f.body _ (depth + 1) first)
-section_stands (suc n) e f base depth (inr (kind, opens, first)) =
-    inr (
-      kind,
-      opens,
-      volume_by (Stream n) (FirstInStream n) (InStream (InSection n))
-          (stream_by (MeansSection n) (SectionFirst n) (InSection n) (section_stands n)) e f.body _ (depth + 1) first,
-    )
+section_stands : (n : ℕ) → SectionStands n
+section_stands zero e f at first = first
+section_stands (suc n) e f at (inl (group, first)) = inl (group, stream_by n (section_stands n) e f.body _ first)
+section_stands (suc n) e f at (inr (kind, opens, first)) = inr (kind, opens, volume_by n (section_stands n) e f.body _ first)
 
--- that of the first fault of a volume stands in the volume
-pub first_stands : (n : ℕ) (e : Fault) (b : List ℕ) (base depth : ℕ) → FirstInVolume n e b base depth
-    → InVolume (InStream (InSection n)) e b base depth
-first_stands n e b base depth first =
-    volume_by (Stream n) (FirstInStream n) (InStream (InSection n))
-    (stream_by (MeansSection n) (SectionFirst n) (InSection n) (section_stands n)) e b base depth first
-
--- and that of the first fault of bytes that were handed to a call
+-- that of the first fault of bytes that were handed to a call
 pub fault_stands : (b : List ℕ) (e : Fault) → IsFirstOfVolume b e → FaultStands b e
-fault_stands b e first = first_stands depth_limit e b 0 0 first
+fault_stands b e first = volume_by depth_limit (section_stands depth_limit) e b outermost first

@@ -1,10 +1,11 @@
 -- Bytes have one first fault at most.
-use Rattle.std.proofs.Common.{◌≡◌, ◌≢◌, ◌≤◌, ℕ, zero, suc, ◌+◌, List, length, take, drop, sym, ap, ◌∙◌, subst, inl, inr}
+use Rattle.std.proofs.Common.{◌≡◌, ◌≢◌, ◌≤◌, ℕ, zero, suc, List, length, take, drop, refl, sym, ap, ◌∙◌, subst, inl, inr}
 use Rattle.std.specs.Prelude.{Result, Ok, Err, IfOk, IfErr}
 use Rattle.fv_base.proofs.Laws.{none_faulty, not_first}
 use Rattle.fv_base.specs.Faults.{outer_fault, want_of_memory}
 use Rattle.fv_base.specs.declared.fault.Fault.{Fault}
 use Rattle.fv_base.specs.declared.fault.FaultKind.TheVariants as kinds
+use Rattle.fv_base.specs.declared.fault.Place.{Place}
 use Rattle.fv_file.specs.Cells.{CellForm}
 use Rattle.fv_file.proofs.Laws.{only_one}
 use Rattle.fv_file.proofs.Laws as cellular
@@ -14,115 +15,117 @@ use Rattle.fv_head.proofs.Laws.{front_holds, one_front}
 use Rattle.fv_section.specs.Frames.{FrameForm}
 use Rattle.fv_section.proofs.Laws.{one_split}
 use Rattle.fv_section.proofs.Laws as framed
-use Rattle.fv_tree.specs.Denotes.{Sections, MeansFile, MeansSection, Stream, Denotes, depth_limit}
-use Rattle.fv_tree.specs.Files.{FileForm, files_in, alive_in}
-use Rattle.fv_tree.specs.FirstFault.{moved_fault, FrameFaulty, FirstOf, StreamFirst, FilesFirst, FileFirst, BodyFirst, data_place}
-use Rattle.fv_tree.specs.FirstFault.{SectionFirst, FirstInStream, FirstInVolume, IsFirstOfVolume}
-use Rattle.fv_tree.specs.Meaning.{Meaning, SectionMeaning, length_of}
-use Rattle.fv_tree.proofs.AliveLaws.{twin_none, top_none}
+use Rattle.fv_tree.specs.Denotes.{MeansFile, MeansSection, Stream, Denotes, depth_limit}
+use Rattle.fv_tree.specs.FailingChecks.{First}
+use Rattle.fv_tree.specs.Files.{FileForm, Alive, NoTwins, TopAtEnd, files_in, alive_in}
+use Rattle.fv_tree.specs.FirstFault.{moved_fault, Moved, OneOf, NamesFault, LayoutFault, FileFault, BodyFault, data_at, outermost}
+use Rattle.fv_tree.specs.FirstFault.{InSection, InStream, InVolume, IsFirstOfVolume}
+use Rattle.fv_tree.specs.Meaning.{Meaning, length_of}
+use Rattle.fv_tree.proofs.AliveLaws.{twin_none}
 use Rattle.fv_tree.proofs.OneFaultLaws.{one_cell_fault, one_frame_fault}
 use Rattle.fv_tree.proofs.ListCuts.{one_fault, first_of_once}
-use Rattle.fv_tree.proofs.RefusalLaws.{StreamRefuses, file_by, section_refuses, stream_refuses, first_refuses}
+use Rattle.fv_tree.proofs.RefusalLaws.{StreamRefuses, layout_by, file_by, section_refuses, stream_refuses, first_refuses}
 use Rattle.fv_tree.proofs.TwinLaws.{one_twin, one_top}
 use Rattle.fv_tree.proofs.SectionLaws.{group_is_no_volume}
 
+-- ---- one level
+
+-- where bytes have one such fault, they have one when it is moved
+moved_once : (P : Fault → Type 0) → ((f g : Fault) → P f → P g → f ≡ g) → (at : Place) (e g : Fault) → Moved at P e → Moved at P g → e ≡ g
+moved_once P once at e g (f, p, is) (f', p', is') = is ∙ ap (moved_fault at.offset at.depth) (once f f' p p') ∙ sym is'
+
+-- of the names of files
+names_once : (len : ℕ) (fs : List FileForm) (e g : Fault) → NamesFault First len fs e → NamesFault First len fs g → e ≡ g
+names_once len fs e g (inl (f, twin, is)) (inl (f', twin', is')) =
+    is ∙ ap (λ (h : FileForm). outer_fault kinds.DuplicateName h.offset) (one_twin f f' fs twin twin') ∙ sym is'
+names_once len fs e g (inl (f, twin, is)) (inr (none, _, _, _)) = absurd (twin_none f fs twin none)
+names_once len fs e g (inr (none, _, _, _)) (inl (f, twin, is)) = absurd (twin_none f fs twin none)
+names_once len fs e g (inr (none, f, top, is)) (inr (_, f', top', is')) =
+    is ∙ ap (λ (h : FileForm). outer_fault kinds.TopFile h.offset) (one_top len f f' fs none top top') ∙ sym is'
+
+-- of the layout of a body
+layout_once : (x : Extent) (volume : List ℕ) (e g : Fault) → LayoutFault First x volume e → LayoutFault First x volume g → e ≡ g
+layout_once x volume e g (inl first) (inl first') =
+    one_cell_fault x.file_system x.polarity x.first (drop x.first volume) e g first first'
+layout_once x volume e g (inl first) (inr (cells, tiles, _)) =
+    absurd (cellular.none_after x.file_system x.polarity x.first (drop x.first volume) e cells first tiles)
+layout_once x volume e g (inr (cells, tiles, _)) (inl first) =
+    absurd (cellular.none_after x.file_system x.polarity x.first (drop x.first volume) g cells first tiles)
+layout_once x volume e g (inr (cells, tiles, names)) (inr (others, tiles', names')) =
+    let same = only_one x.file_system x.polarity x.first (drop x.first volume) cells others tiles tiles' in
+    let P : List CellForm → Type 0 = λ cs. NamesFault First x.length (files_in cs) g in
+    names_once x.length (files_in cells) e g names (subst P same names')
+
+-- the files of cells that are all right
+alive : (len : ℕ) (cells : List CellForm) → NoTwins (files_in cells) × TopAtEnd len (alive_in (files_in cells))
+    → Alive len cells (alive_in (files_in cells))
+alive len cells right = record { no_twins = right.0; files_are = refl; top = right.1 }
+
 -- ---- by what stands inside
 
--- faults that are moved by as much
-same_moved : (e g a b : Fault) (base depth : ℕ) → e ≡ moved_fault base depth a → g ≡ moved_fault base depth b → a ≡ b → e ≡ g
-same_moved e g a b base depth is is' same = is ∙ ap (moved_fault base depth) same ∙ sym is'
+-- at one level, a frame has one first fault
+abbrev SectionOnce : ℕ → Type 0
+SectionOnce n = (e g : Fault) (f : FrameForm) (at : Place) → InSection First n e f at → InSection First n g f at → e ≡ g
 
--- a stream has one first fault, where each frame has one at most, and then is no section
-stream_once : (R : Sections) (I : FrameFaulty)
-    → ((e : Fault) (f : FrameForm) (base depth : ℕ) (s : SectionMeaning) → I e f base depth → R f s → ⊥)
-    → ((e g : Fault) (f : FrameForm) (base depth : ℕ) → I e f base depth → I g f base depth → e ≡ g)
-    → (e g : Fault) (b : List ℕ) (base depth : ℕ) → StreamFirst R I e b base depth → StreamFirst R I g b base depth → e ≡ g
-stream_once R I refused once e g b base depth (inl (f, first, is)) (inl (f', first', is')) =
-    same_moved e g f f' base depth is is' (one_frame_fault b f f' first first')
-stream_once R I refused once e g b base depth (inl (f, first, is)) (inr (frames, tail, split, _)) =
-    absurd (framed.none_after b f frames tail first split)
-stream_once R I refused once e g b base depth (inr (frames, tail, split, _)) (inl (f, first, is)) =
-    absurd (framed.none_after b f frames tail first split)
-stream_once R I refused once e g b base depth (inr (frames, tail, split, first)) (inr (others, tail', split', first')) =
-    let P : List FrameForm → Type 0 = λ l. FirstOf R (λ f. I g f base depth) l in
+-- and so has a stream
+abbrev StreamOnce : ℕ → Type 0
+StreamOnce n = (e g : Fault) (b : List ℕ) (at : Place) → InStream First n e b at → InStream First n g b at → e ≡ g
+
+stream_once : (n : ℕ) → SectionOnce n → StreamOnce n
+stream_once n once e g b at (inl moved) (inl moved') = moved_once _ (one_frame_fault b) at e g moved moved'
+stream_once n once e g b at (inl (f, first, is)) (inr (frames, tail, split, _)) = absurd (framed.none_after b f frames tail first split)
+stream_once n once e g b at (inr (frames, tail, split, _)) (inl (f, first, is)) = absurd (framed.none_after b f frames tail first split)
+stream_once n once e g b at (inr (frames, tail, split, first)) (inr (others, tail', split', first')) =
+    let P : List FrameForm → Type 0 = λ l. OneOf First (MeansSection n) (λ f. InSection First n g f at) l in
     let here = subst P (one_split 0 others frames tail' tail b split' split).0 first' in
     let one =
-    first_of_once R (λ f. I e f base depth) (λ f. I g f base depth) frames (λ f s. refused e f base depth s)
-    (λ f s. refused g f base depth s) first here in
-    once e g one.0 base depth one.1 one.2
+    first_of_once (MeansSection n) (λ f. InSection First n e f at) (λ f. InSection First n g f at) frames
+    (λ f s. section_refuses n e f at s) (λ f s. section_refuses n g f at s) first here in
+    once e g one.0 at one.1 one.2
 
--- at one level, a stream has one first fault
-abbrev StreamOnce : ℕ → Type 0
-StreamOnce n = (e g : Fault) (b : List ℕ) (base depth : ℕ) → FirstInStream n e b base depth → FirstInStream n g b base depth → e ≡ g
-
-module _ (n : ℕ) (refused : StreamRefuses n) (once : StreamOnce n) (e g : Fault) (base depth : ℕ) where
-  -- of the files of a volume
-  files_once : (len : ℕ) (fs : List FileForm) → FilesFirst (Stream n) (FirstInStream n) len e fs base depth
-      → FilesFirst (Stream n) (FirstInStream n) len g fs base depth → e ≡ g
-  files_once len fs (inl (f, twin, is)) (inl (f', twin', is')) =
-      same_moved e g (outer_fault kinds.DuplicateName f.offset) (outer_fault kinds.DuplicateName f'.offset) base depth is is'
-      (ap (λ (h : FileForm). outer_fault kinds.DuplicateName h.offset) (one_twin f f' fs twin twin'))
-  files_once len fs (inl (f, twin, is)) (inr (none, _)) = absurd (twin_none f fs twin none)
-  files_once len fs (inr (none, _)) (inl (f, twin, is)) = absurd (twin_none f fs twin none)
-  files_once len fs (inr (none, inl (f, top, is))) (inr (_, inl (f', top', is'))) =
-      same_moved e g (outer_fault kinds.TopFile f.offset) (outer_fault kinds.TopFile f'.offset) base depth is is'
-      (ap (λ (h : FileForm). outer_fault kinds.TopFile h.offset) (one_top len f f' fs none top top'))
-  files_once len fs (inr (none, inl (f, top, is))) (inr (_, inr (last, _))) = absurd (top_none len f (alive_in fs) top last)
-  files_once len fs (inr (none, inr (last, _))) (inr (_, inl (f, top, is))) = absurd (top_none len f (alive_in fs) top last)
-  files_once len fs (inr (none, inr (last, first))) (inr (_, inr (_, first'))) =
-      let one =
-      first_of_once (MeansFile (Stream n)) (λ f. FileFirst (FirstInStream n) e f base depth)
-      (λ f. FileFirst (FirstInStream n) g f base depth)
-      (alive_in fs) (file_by n refused e base depth) (file_by n refused g base depth) first first' in
-      once e g (one.0).payload (base + data_place one.0) depth one.1.1 one.2.1
-
+module _ (n : ℕ) (refused : StreamRefuses n) (once : StreamOnce n) (e g : Fault) (at : Place) where
   -- of a body
-  body_once : (x : Extent) (volume : List ℕ) → BodyFirst (Stream n) (FirstInStream n) x e volume base depth
-      → BodyFirst (Stream n) (FirstInStream n) x g volume base depth → e ≡ g
-  body_once x volume (inl (f, first, is)) (inl (f', first', is')) =
-      same_moved e g f f' base depth is is'
-      (one_cell_fault x.file_system x.polarity x.first (drop x.first volume) f f' first first')
-  body_once x volume (inl (f, first, is)) (inr (cells, tiles, _)) =
-      absurd (cellular.none_after x.file_system x.polarity x.first (drop x.first volume) f cells first tiles)
-  body_once x volume (inr (cells, tiles, _)) (inl (f, first, is)) =
-      absurd (cellular.none_after x.file_system x.polarity x.first (drop x.first volume) f cells first tiles)
-  body_once x volume (inr (cells, tiles, first)) (inr (others, tiles', first')) =
+  body_once : (x : Extent) (volume : List ℕ) → BodyFault First n (InStream First n) x e volume at
+      → BodyFault First n (InStream First n) x g volume at → e ≡ g
+  body_once x volume (inl moved) (inl moved') = moved_once _ (layout_once x volume) at e g moved moved'
+  body_once x volume (inl (f, first, is)) (inr (cells, tiles, right, _)) =
+      absurd (layout_by x volume f cells _ first tiles (alive x.length cells right))
+  body_once x volume (inr (cells, tiles, right, _)) (inl (f, first, is)) =
+      absurd (layout_by x volume f cells _ first tiles (alive x.length cells right))
+  body_once x volume (inr (cells, tiles, right, first)) (inr (others, tiles', right', first')) =
       let same : others ≡ cells = only_one x.file_system x.polarity x.first (drop x.first volume) cells others tiles tiles' in
-      let P : List CellForm → Type 0 = λ cs. FilesFirst (Stream n) (FirstInStream n) x.length g (files_in cs) base depth in
-      files_once x.length (files_in cells) first (subst P same first')
+      let Q : List CellForm → Type 0 =
+      λ cs. OneOf First (MeansFile (Stream n)) (λ f. FileFault (InStream First n) g f at) (alive_in (files_in cs)) in
+      let one =
+      first_of_once (MeansFile (Stream n)) (λ f. FileFault (InStream First n) e f at) (λ f. FileFault (InStream First n) g f at)
+      (alive_in (files_in cells)) (file_by n refused e at) (file_by n refused g at) first (subst Q same first') in
+      once e g (one.0).payload (data_at at one.0) one.1.1 one.2.1
 
   -- of bytes that are to begin with a volume
-  volume_once : (b : List ℕ) → FirstInVolume n e b base depth → FirstInVolume n g b base depth → e ≡ g
-  volume_once b (inl (f, first, is)) (inl (f', first', is')) =
-      same_moved e g f f' base depth is is' (one_fault (head_checks b) f f' first first')
+  volume_once : (b : List ℕ) → InVolume First n e b at → InVolume First n g b at → e ≡ g
+  volume_once b (inl moved) (inl moved') = moved_once _ (one_fault (head_checks b)) at e g moved moved'
   volume_once b (inl (f, first, is)) (inr (h, x, front, _)) =
       absurd (not_first (head_checks b) f first (none_faulty (head_checks b) (front_holds b h x front)))
   volume_once b (inr (h, x, front, _)) (inl (f, first, is)) =
       absurd (not_first (head_checks b) f first (none_faulty (head_checks b) (front_holds b h x front)))
   volume_once b (inr (h, x, front, first)) (inr (h', x', front', first')) =
-      let P : Extent → Type 0 = λ y. BodyFirst (Stream n) (FirstInStream n) y g (take y.length b) base depth in
+      let P : Extent → Type 0 = λ y. BodyFault First n (InStream First n) y g (take y.length b) at in
       body_once x (take x.length b) first (subst P (one_front b h' h x' x front' front).1 first')
 
 -- ---- the recursion
 
 -- a section has one first fault
-section_once : (n : ℕ) (e g : Fault) (f : FrameForm) (base depth : ℕ) → SectionFirst n e f base depth
-    → SectionFirst n g f base depth → e ≡ g
-section_once zero e g f base depth (_, is) (_, is') = is ∙ sym is'
-section_once (suc n) e g f base depth (inl (group, first)) (inl (_, first')) =
-    stream_once (MeansSection n) (SectionFirst n) (section_refuses n) (section_once n) e g f.body _ (depth + 1) first first'
-section_once (suc n) e g f base depth (inl (group, _)) (inr (kind, opens, _)) = absurd (group_is_no_volume f group kind)
-section_once (suc n) e g f base depth (inr (kind, opens, _)) (inl (group, _)) = absurd (group_is_no_volume f group kind)
-section_once (suc n) e g f base depth (inr (kind, opens, first)) (inr (_, _, first')) =
-    volume_once n (stream_refuses n) (stream_once (MeansSection n) (SectionFirst n) (section_refuses n) (section_once n)) e g _ (depth + 1)
-    f.body first first'
+section_once : (n : ℕ) → SectionOnce n
+section_once zero e g f at (_, is) (_, is') = is ∙ sym is'
+section_once (suc n) e g f at (inl (group, first)) (inl (_, first')) = stream_once n (section_once n) e g f.body _ first first'
+section_once (suc n) e g f at (inl (group, _)) (inr (kind, opens, _)) = absurd (group_is_no_volume f group kind)
+section_once (suc n) e g f at (inr (kind, opens, _)) (inl (group, _)) = absurd (group_is_no_volume f group kind)
+section_once (suc n) e g f at (inr (kind, opens, first)) (inr (_, _, first')) =
+    volume_once n (stream_refuses n) (stream_once n (section_once n)) e g _ f.body first first'
 
 -- a volume has one first fault
-pub first_once : (n : ℕ) (e g : Fault) (b : List ℕ) (base depth : ℕ) → FirstInVolume n e b base depth → FirstInVolume n g b base depth
-    → e ≡ g
-first_once n e g b base depth first first' =
-    volume_once n (stream_refuses n) (stream_once (MeansSection n) (SectionFirst n) (section_refuses n) (section_once n)) e g base depth b
-    first first'
+pub first_once : (n : ℕ) (e g : Fault) (b : List ℕ) (at : Place) → InVolume First n e b at → InVolume First n g b at → e ≡ g
+first_once n e g b at first first' = volume_once n (stream_refuses n) (stream_once n (section_once n)) e g at b first first'
 
 -- ---- an answer
 
@@ -130,5 +133,5 @@ first_once n e g b base depth first first' =
 pub one_answer : (b : List ℕ) (r : Result (Meaning × ℕ) Fault) → IfOk r (λ v. Denotes depth_limit (take v.1 b) v.0)
     → IfOk r (λ v. (v.1 ≡ length_of v.0) × (v.1 ≤ length b)) → IfErr r (λ g. g ≢ want_of_memory → IsFirstOfVolume b g)
     → (f : Fault) → IsFirstOfVolume b f → IfOk r (λ v. ⊥) × IfErr r (λ g. g ≢ want_of_memory → g ≡ f)
-one_answer b (Ok v) found within first f is = (first_refuses depth_limit v.1 f b 0 0 v.0 within.1 is found, tt)
-one_answer b (Err g) found within first f is = (tt, λ ne. first_once depth_limit g f b 0 0 (first ne) is)
+one_answer b (Ok v) found within first f is = (first_refuses depth_limit v.1 f b outermost v.0 within.1 is found, tt)
+one_answer b (Err g) found within first f is = (tt, λ ne. first_once depth_limit g f b outermost (first ne) is)

@@ -17,7 +17,7 @@ use Rattle.std.proofs.lemmas.List.Elements.{Contains-get_or}
 use Rattle.std.proofs.lemmas.List.MinMax.{ranks_by}
 use Rattle.std.proofs.lemmas.List.Sorted.{Contains-permutation, IsPermutation-map, IsPermutation-sym, searchable_from_sorted, sorted_far}
 use Rattle.std.proofs.lemmas.Nat.{le_bytes_8}
-use Rattle.std.proofs.lemmas.Map.Keys.{IsDistinct-IsPermutation, IsDistinct-from_sorted}
+use Rattle.std.proofs.lemmas.Map.Keys.{IsDistinct-IsPermutation, IsDistinct-from_sorted, IsDistinct-head, IsDistinct-tail}
 use Rattle.std.proofs.lemmas.Slice.Eq.{bytes_eq-Decides}
 use Rattle.fv_base.specs.Guids.{bytes_of}
 use Rattle.fv_base.specs.Value.{IsBytes, field}
@@ -383,6 +383,25 @@ rising (a ∷ b ∷ es) h =
 pub distinct_rising : (es : List Entry) → AllAdjacentBelow (λ a b. halves_cmp a.0 b.0 ≡ Less) es (length es)
     → IsDistinct (eq_by_cmp halves_cmp) (map (λ (e : Entry). e.0) es)
 distinct_rising es h = IsDistinct-from_sorted halves_cmp (map (λ (e : Entry). e.0) es) (rising es h)
+
+-- two entries side by side that are of one name are not distinct
+pub side_by_side : (es : List Entry) (i : ℕ) (d : Entry) → i + 1 < length es → (get_or es i d).0 ≡ (get_or es (i + 1) d).0
+    → IsDistinct (eq_by_cmp halves_cmp) (map (λ (e : Entry). e.0) es) → ⊥
+side_by_side [] i d l same h = omega (arith, l)
+side_by_side (a ∷ []) i d l same h = omega (arith, l)
+side_by_side (a ∷ b ∷ es) zero d l same h =
+    let e : Halves → Halves → Bool = eq_by_cmp halves_cmp in
+    let rest : List Halves = map (λ (x : Entry). x.0) es in
+    let apart : e a.0 b.0 ≡ false = (IsDistinct-head e a.0 (b.0 ∷ rest) h).0 in
+    let met : e a.0 b.0 ≡ true = ap (e a.0) (sym same) ∙ (eq_by_cmp_equiv halves_total).refl a.0 in
+    let never : true ≡ false = sym met ∙ apart in
+    cc
+side_by_side (a ∷ b ∷ es) (suc i) d l same h =
+    let one : suc i + 1 ≡ suc (i + 1) = omega arith in
+    let next : (get_or (b ∷ es) i d).0 ≡ (get_or (b ∷ es) (i + 1) d).0 =
+    same ∙ ap (λ (n : ℕ). (get_or (a ∷ b ∷ es) n d).0) one in
+    side_by_side (b ∷ es) i d (omega (arith, l)) next
+    (IsDistinct-tail (eq_by_cmp halves_cmp) a.0 (map (λ (x : Entry). x.0) (b ∷ es)) h)
 
 distinct_names : (names : List Guid) (es : List Entry) → IsIndex names es
     → IsDistinct (eq_by_cmp halves_cmp) (map (λ (e : Entry). e.0) es) → IsDistinct (eq_by_cmp halves_cmp) (map halves_of names)

@@ -8,8 +8,8 @@ use Rattle.std.proofs.lemmas.List.Elements.{Contains-get_or}
 use Rattle.std.proofs.lemmas.List.FromFn.{length-range_with_len}
 use Rattle.std.proofs.lemmas.List.Sorted.{Contains-permutation, IsPermutation-map, IsPermutation-sym, length_permutation}
 use Rattle.std.proofs.lemmas.Nat.{mod-mul-add, one_shl, or_shifted, shr_split}
-use Rattle.fv_tree.specs.FileNames.{Entry, halves_of, numbered}
-use Rattle.fv_tree.specs.NameOrders.{names_in}
+use Rattle.fv_tree.specs.FileNames.{Entry, Halves, halves_of, numbered}
+use Rattle.fv_tree.specs.NameOrders.{key_of, names_in}
 use Rattle.fv_tree.specs.StandingForms.{file_form}
 use Rattle.fv_tree.specs.declared.volume_files.Standing.{Standing}
 use Rattle.fv_tree.proofs.IndexLaws.{all_taken, more_entries, no_file}
@@ -26,6 +26,15 @@ key_number front bits number small room =
     let same : high % 2 ^ 64 ≡ high = omega (arith, fits) in
     ap (λ (h : ℕ). bit_or h number % 2 ^ bits) same ∙ ap (λ (k : ℕ). k % 2 ^ bits) (or_shifted (front / 2 ^ bits) bits number room)
     ∙ mod-mul-add (front / 2 ^ bits) (2 ^ bits) number room
+
+-- it is the key of the entry
+pub key_made : (halves : Halves) (bits number : ℕ) → halves.0 < 2 ^ 64 → number < 2 ^ bits
+    → bit_or (halves.0 / 2 ^ bits * 2 ^ bits % 2 ^ 64) number ≡ key_of bits (halves, number)
+key_made halves bits number small room =
+    let high : ℕ = halves.0 / 2 ^ bits * 2 ^ bits in
+    let fits : high < 2 ^ 64 = omega (arith, shr_split halves.0 bits, small) in
+    let same : high % 2 ^ 64 ≡ high = omega (arith, fits) in
+    ap (λ (h : ℕ). bit_or h number) same ∙ or_shifted (halves.0 / 2 ^ bits) bits number room
 
 -- ---- numbers from 0 on
 

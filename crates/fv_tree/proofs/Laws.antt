@@ -19,14 +19,16 @@ pub use Rattle.fv_tree.proofs.VolumeLaws.{front_of, has_files}
 -- alive files have different names; two have one name, whichever is first
 pub use Rattle.fv_tree.proofs.TwinLaws.{names_differ}
 pub use Rattle.fv_tree.proofs.AliveLaws.{same_name_back}
--- each file begins within the volume; so does one of two of one name, and a volume top file
-pub use Rattle.fv_tree.proofs.NameLaws.{files_within, twin_within, top_within}
 -- ---- a fault
 
 -- bytes have one first fault at most, and none where they begin with a volume; its condition stands
 pub use Rattle.fv_tree.proofs.FirstLaws.{first_once}
 pub use Rattle.fv_tree.proofs.RefusalLaws.{first_refuses}
-pub use Rattle.fv_tree.proofs.FaultLaws.{first_stands, fault_stands}
+pub use Rattle.fv_tree.proofs.FaultLaws.{fault_stands}
+-- it lies within the bytes, or at their end
+pub use Rattle.fv_tree.proofs.FaultPlaceLaws.{first_within}
+-- a fault is want of memory, or it is not
+pub use Rattle.fv_tree.proofs.WantLaws.{want_known}
 -- the kinds of the faults of reading
 pub use Rattle.fv_tree.proofs.FaultKindLaws.{OfReading, stands_kind, is_reading, stands_reading, stands_other}
 -- ---- two meanings

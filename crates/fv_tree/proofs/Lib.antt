@@ -4,6 +4,7 @@ pub mod DifferenceLaws
 pub mod DifferenceWalkLaws
 pub mod FaultKindLaws
 pub mod FaultLaws
+pub mod FaultPlaceLaws
 pub mod FileCountLaws
 pub mod FileLaws
 pub mod FirstLaws
@@ -25,3 +26,4 @@ pub mod SizeLaws
 pub mod StreamLaws
 pub mod TwinLaws
 pub mod VolumeLaws
+pub mod WantLaws

@@ -3,7 +3,8 @@ use Rattle.std.proofs.Common.{◌≡◌, ◌⊎◌, Bool, true, false, List, [],
 use Rattle.std.specs.List.{AllByRecursion}
 use Rattle.fv_base.specs.Checks.{Check, AllHold, IsFirstFault}
 use Rattle.fv_tree.specs.Denotes.{Pairs}
-use Rattle.fv_tree.specs.FirstFault.{FirstOf}
+use Rattle.fv_tree.specs.FailingChecks.{First}
+use Rattle.fv_tree.specs.FirstFault.{OneOf}
 use Rattle.fv_base.proofs.Laws.{in_middle}
 
 -- the first cut stands before the second: its item is among those before the second's
@@ -75,14 +76,14 @@ not_paired R (z ∷ zs) x after (y ∷ ys) bad p = not_paired R zs x after ys ba
 
 -- where one item is refused, not all are read
 pub first_of_none : {A B : Type 0} (R : A → B → Type 0) (fault : A → Type 0) (xs : List A) (ys : List B)
-    → ((x : A) (y : B) → fault x → R x y → ⊥) → FirstOf R fault xs → Pairs R xs ys → ⊥
-first_of_none {A} R fault xs ys bad (before, x, after, read, is, pairs, here) all =
+    → ((x : A) (y : B) → fault x → R x y → ⊥) → OneOf First R fault xs → Pairs R xs ys → ⊥
+first_of_none {A} R fault xs ys bad (before, x, after, is, (read, pairs), here) all =
     not_paired R before x after ys (λ y r. bad x y here r) (subst (λ (l : List A). Pairs R l ys) is all)
 
 -- two faults of the first item that is refused are faults of one item
 pub first_of_once : {A B : Type 0} (R : A → B → Type 0) (P Q : A → Type 0) (xs : List A) → ((x : A) (y : B) → P x → R x y → ⊥)
-    → ((x : A) (y : B) → Q x → R x y → ⊥) → FirstOf R P xs → FirstOf R Q xs → (x : A) × P x × Q x
-first_of_once {A} R P Q xs no_p no_q (before, x, after, read, is, pairs, p) (before', y, after', read', is', pairs', q) =
+    → ((x : A) (y : B) → Q x → R x y → ⊥) → OneOf First R P xs → OneOf First R Q xs → (x : A) × P x × Q x
+first_of_once {A} R P Q xs no_p no_q (before, x, after, is, (read, pairs), p) (before', y, after', is', (read', pairs'), q) =
     go (two_cuts before x after before' y after' (sym is ∙ is'))
   where
     go : TwoCuts before x after before' y after' → (z : A) × P z × Q z

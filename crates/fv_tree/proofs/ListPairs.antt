@@ -5,7 +5,8 @@ use Rattle.std.proofs.lemmas.List.{take-append-drop, drop_more, take_more, take_
 use Rattle.std.specs.List.{AllByRecursion}
 use Rattle.fv_base.proofs.Laws.{at_index}
 use Rattle.fv_tree.specs.Denotes.{Pairs}
-use Rattle.fv_tree.specs.FirstFault.{FirstOf}
+use Rattle.fv_tree.specs.FailingChecks.{First}
+use Rattle.fv_tree.specs.FirstFault.{OneOf}
 
 -- one pair more
 pub pairs_push : {A B : Type 0} (R : A → B → Type 0) (xs : List A) (ys : List B) (x : A) (y : B) → Pairs R xs ys → R x y
@@ -88,14 +89,13 @@ module _ {A B X : Type 0} (R : A → B → Type 0) (form : X → A) (items : Lis
       (λ y r. bad y (let P : A → Type 0 = λ x. R x y in subst P (item_is l) r)) h
 
   pub first_refused : (fault : A → Type 0) (ys : List B) → i < length items → Pairs R (take i (map form items)) ys
-      → fault (form (get_or items i d)) → FirstOf R fault (map form items)
+      → fault (form (get_or items i d)) → OneOf First R fault (map form items)
   first_refused fault ys l pairs bad = (
     take i (map form items),
     get_or (map form items) i (form d),
     drop (i + 1) (map form items),
-    ys,
     seam (map form items) i (form d) (in_items l),
-    pairs,
+    (ys, pairs),
     subst fault (sym (item_is l)) bad,
   )
 

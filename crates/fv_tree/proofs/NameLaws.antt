@@ -21,7 +21,8 @@ use Rattle.fv_base.specs.Guids.{bytes_of}
 use Rattle.fv_base.specs.declared.guid.Guid.{Guid}
 use Rattle.fv_file.specs.Cells.{CellForm, Valid, Pad, Dead, Stub, Free, CellsWithin}
 use Rattle.fv_tree.specs.Files.{FileForm, files_in, same_name, is_marked, is_twin, NoTwins, replaces, is_top, end_of, TopAtEnd}
-use Rattle.fv_tree.specs.FirstFault.{FirstTwin, TopElsewhere}
+use Rattle.fv_tree.specs.FailingChecks.{Which, First}
+use Rattle.fv_tree.specs.FirstFault.{HasTwin, TopElsewhere}
 use Rattle.fv_tree.specs.NameOrders.{key_cmp, is_keyed, HasNames}
 use Rattle.fv_tree.proofs.AliveLaws.{twin_back}
 use Rattle.fv_base.proofs.Laws.{in_middle, or_both, or_parts}
@@ -133,7 +134,7 @@ twins_more names new fs gs f has is added none e =
 
 pub twin_found : (names : BTreeSet (Guid × Bool)) (new : Bool) (fs all after : List FileForm) (f : FileForm) → HasNames names fs
     → new ≡ not (contains key_cmp names (f.head.name, is_marked f.head.state)) → new ≡ false
-    → NoTwins fs → all ≡ fs ++ f ∷ after → FirstTwin f all
+    → NoTwins fs → all ≡ fs ++ f ∷ after → HasTwin First f all
 twin_found names new fs all after f has is added none e =
     let key : Guid × Bool = (f.head.name, is_marked f.head.state) in
     (fs, after, e, none, sym (has key) ∙ not_false (contains key_cmp names key) (sym added ∙ is))
@@ -212,8 +213,9 @@ files_within end (Dead at len ∷ cs) (lies, made, rest) = files_within end cs r
 files_within end (Stub at len ∷ cs) (lies, made, rest) = files_within end cs rest
 files_within end (Free at len ∷ cs) (lies, made, rest) = files_within end cs rest
 
-pub twin_within : (end : ℕ) (f : FileForm) (fs : List FileForm) → AllByRecursion (λ g. g.offset ≤ end) fs → FirstTwin f fs → f.offset ≤ end
-twin_within end f fs all (before, after, is, none, has) = in_middle (λ g. g.offset ≤ end) before f after (subst (AllByRecursion
+pub twin_within : (which : Which) (end : ℕ) (f : FileForm) (fs : List FileForm) → AllByRecursion (λ g. g.offset ≤ end) fs
+    → HasTwin which f fs → f.offset ≤ end
+twin_within which end f fs all (before, after, is, none, has) = in_middle (λ g. g.offset ≤ end) before f after (subst (AllByRecursion
     (λ g. g.offset ≤ end)) is all)
 
 pub top_within : (end n : ℕ) (f : FileForm) (fs : List FileForm) → AllByRecursion (λ g. g.offset ≤ end) fs → TopElsewhere n f fs
@@ -230,10 +232,10 @@ not_top_yet true last ends p off = absurd (off (placed true last ends p refl).0)
 not_top_yet false last ends p off = refl
 
 pub names_bound : (e : Fault) (end : ℕ) (fs : List FileForm) → AllByRecursion (λ g. g.offset ≤ end) fs → (e ≡ want_of_memory)
-    ⊎ ((f : FileForm) × FirstTwin f fs × (e ≡ outer_fault kinds.DuplicateName f.offset)) → e.place.offset ≤ end
+    ⊎ ((f : FileForm) × HasTwin First f fs × (e ≡ outer_fault kinds.DuplicateName f.offset)) → e.place.offset ≤ end
 names_bound e end fs all (inl want) = let z : e.place.offset ≡ 0 = ap (λ (g : Fault). g.place.offset) want in omega (arith, z)
 names_bound e end fs all (inr (f, twin, is)) = let z : e.place.offset ≡ f.offset = ap (λ (g : Fault). g.place.offset) is in omega
-    (arith, z, twin_within end f fs all twin)
+    (arith, z, twin_within First end f fs all twin)
 
 pub top_bound : (e : Fault) (end n : ℕ) (fs : List FileForm) → AllByRecursion (λ g. g.offset ≤ end) fs → (f : FileForm)
     × TopElsewhere n f fs × (e ≡ outer_fault kinds.TopFile f.offset) → e.place.offset ≤ end

@@ -18,7 +18,9 @@ use Rattle.fv_head.specs.Head.{system_guid}
 use Rattle.fv_head.specs.HeadChecks.{is_one_volume, file_system_at}
 use Rattle.fv_section.specs.Frames.{FrameForm}
 use Rattle.fv_tree.specs.Denotes.{group_kind, volume_kind, Opens, Streams, Volumes, MeansSection, SectionOver, Stream, Denotes}
-use Rattle.fv_tree.specs.FirstFault.{moved_fault, body_place, SectionFirst, FirstInStream, FirstInVolume}
+use Rattle.fv_base.specs.declared.fault.Place.{Place}
+use Rattle.fv_tree.specs.FailingChecks.{First}
+use Rattle.fv_tree.specs.FirstFault.{moved_fault, body_place, body_at, InSection, InStream, InVolume}
 use Rattle.fv_tree.specs.Meaning.{Meaning, SectionMeaning, Section, SectionMeanings, NoSections, MoreSections, Leaf, Group}
 use Rattle.fv_tree.specs.Meaning.{Nested, sections_list, sections_from}
 use Rattle.fv_tree.specs.Shapes.{shape_of}
@@ -200,10 +202,17 @@ too_deep f (inr o) (Section x e (Leaf b)) (p, q, (off, not, h)) = not o.kind o.o
 too_deep f (inr o) (Section x e (Group us u)) (p, q, (g', r)) = r
 too_deep f (inr o) (Section x e (Nested v)) (p, q, (k', o', r)) = r
 
-pub deep_first : (f : FrameForm) (e : Fault) (base depth : ℕ) → (f.kind ≡ group_kind) ⊎ IsOpened f
-    → e ≡ moved_fault base depth (outer_fault kinds.Depth f.offset) → SectionFirst zero e f base depth
-deep_first f e base depth (inl g) is = (inl g, is)
-deep_first f e base depth (inr o) is = (inr (o.kind, o.opens), is)
+pub deep_first : (f : FrameForm) (e : Fault) (at : Place) → (f.kind ≡ group_kind) ⊎ IsOpened f
+    → e ≡ moved_fault at.offset at.depth (outer_fault kinds.Depth f.offset) → InSection First zero e f at
+deep_first f e at (inl g) is = (inl g, is)
+deep_first f e at (inr o) is = (inr (o.kind, o.opens), is)
+
+-- two places are one, where their offsets and their depths are
+pub one_place : (p q : Place) → p.offset ≡ q.offset → p.depth ≡ q.depth → p ≡ q
+one_place p q o d =
+    let A : ℕ → Place = λ k. record { offset = k; depth = p.depth } in
+    let B : ℕ → Place = λ k. record { offset = q.offset; depth = k } in
+    ap A o ∙ ap B d
 
 -- ---- by how many levels are left
 
@@ -224,13 +233,12 @@ pub group_bad : (n k : ℕ) (f : FrameForm) → n ≡ k + 1 → f.kind ≡ group
     → Stream k us u f.body → ⊥) → (s : SectionMeaning) → MeansSection n f s → ⊥
 group_bad n k f e g none s h = group_none k f g none s (subst (λ m. MeansSection m f s) (sym (suc_is n k e)) h)
 
-pub group_first : (n k : ℕ) (f : FrameForm) (x : Fault) (base depth b d : ℕ) → n ≡ k + 1 → f.kind ≡ group_kind
-    → b ≡ base + body_place f → d ≡ depth + 1 → FirstInStream k x f.body b d → SectionFirst n x f base depth
-group_first n k f x base depth b d e g p q h =
-    let here : FirstInStream k x f.body (base + body_place f) (depth + 1) = subst (λ i. FirstInStream k x f.body
-    (base + body_place f) i) q (subst (λ i. FirstInStream k x f.body i d) p h) in
-    let inside : SectionFirst (suc k) x f base depth = inl (g, here) in
-    subst (λ m. SectionFirst m x f base depth) (suc_is n k e) inside
+pub group_first : (n k : ℕ) (f : FrameForm) (x : Fault) (at inside : Place) → n ≡ k + 1 → f.kind ≡ group_kind
+    → inside.offset ≡ at.offset + body_place f → inside.depth ≡ at.depth + 1 → InStream First k x f.body inside → InSection First n x f at
+group_first n k f x at inside e g p q h =
+    let here = subst (λ i. InStream First k x f.body i) (one_place inside (body_at at f) p q) h in
+    let section : InSection First (suc k) x f at = inl (g, here) in
+    subst (λ m. InSection First m x f at) (suc_is n k e) section
 
 pub nested_found : (n k : ℕ) (f : FrameForm) (v : Meaning) → n ≡ k + 1 → IsOpened f → Denotes k f.body v
     → MeansSection n f (Section f.kind f.extended (Nested v))
@@ -245,17 +253,16 @@ pub nested_bad : (n k : ℕ) (f : FrameForm) → n ≡ k + 1 → IsOpened f → 
     → Denotes k (take j f.body) m → ⊥) → (s : SectionMeaning) → MeansSection n f s → ⊥
 nested_bad n k f e o none s h = nested_none k f o none s (subst (λ m. MeansSection m f s) (sym (suc_is n k e)) h)
 
-pub nested_first : (n k : ℕ) (f : FrameForm) (x : Fault) (base depth b d : ℕ) → n ≡ k + 1 → IsOpened f → b ≡ base + body_place f
-    → d ≡ depth + 1 → FirstInVolume k x f.body b d → SectionFirst n x f base depth
-nested_first n k f x base depth b d e o p q h =
-    let here : FirstInVolume k x f.body (base + body_place f) (depth + 1) = subst (λ i. FirstInVolume k x f.body
-    (base + body_place f) i) q (subst (λ i. FirstInVolume k x f.body i d) p h) in
-    let inside : SectionFirst (suc k) x f base depth = inr (o.kind, o.opens, here) in
-    subst (λ m. SectionFirst m x f base depth) (suc_is n k e) inside
+pub nested_first : (n k : ℕ) (f : FrameForm) (x : Fault) (at inside : Place) → n ≡ k + 1 → IsOpened f
+    → inside.offset ≡ at.offset + body_place f → inside.depth ≡ at.depth + 1 → InVolume First k x f.body inside → InSection First n x f at
+nested_first n k f x at inside e o p q h =
+    let here = subst (λ i. InVolume First k x f.body i) (one_place inside (body_at at f) p q) h in
+    let section : InSection First (suc k) x f at = inr (o.kind, o.opens, here) in
+    subst (λ m. InSection First m x f at) (suc_is n k e) section
 
 pub deep_bad : (n : ℕ) (f : FrameForm) → n ≡ 0 → (f.kind ≡ group_kind) ⊎ IsOpened f → (s : SectionMeaning) → MeansSection n f s → ⊥
 deep_bad n f e w s h = too_deep f w s (subst (λ m. MeansSection m f s) e h)
 
-pub deep_fault : (n : ℕ) (f : FrameForm) (x : Fault) (base depth : ℕ) → n ≡ 0 → (f.kind ≡ group_kind) ⊎ IsOpened f
-    → x ≡ moved_fault base depth (outer_fault kinds.Depth f.offset) → SectionFirst n x f base depth
-deep_fault n f x base depth e w is = subst (λ m. SectionFirst m x f base depth) (sym e) (deep_first f x base depth w is)
+pub deep_fault : (n : ℕ) (f : FrameForm) (x : Fault) (at : Place) → n ≡ 0 → (f.kind ≡ group_kind) ⊎ IsOpened f
+    → x ≡ moved_fault at.offset at.depth (outer_fault kinds.Depth f.offset) → InSection First n x f at
+deep_fault n f x at e w is = subst (λ m. InSection First m x f at) (sym e) (deep_first f x at w is)

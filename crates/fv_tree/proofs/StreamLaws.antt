@@ -1,17 +1,18 @@
 -- A stream is walked frame by frame, and its sections are read on the way.
 use Rattle.std.proofs.Common.{◌≡◌, ℕ, ◌+◌, ◌-◌, ◌<◌, ◌≤◌, min, List, [], ◌∷◌, ◌++◌, length, take, drop, refl, sym, ap, ◌∙◌}
-use Rattle.std.proofs.Common.{subst, inl, inr, arith, length-append}
+use Rattle.std.proofs.Common.{subst, inr, arith, length-append}
 use Rattle.std.proofs.lemmas.List.{take-append-drop, length-take, length-drop}
 use Rattle.fv_base.specs.Checks.{IsFirstFault}
 use Rattle.fv_base.specs.Limits.{volume_limit}
 use Rattle.fv_base.specs.Value.{IsBytes}
 use Rattle.fv_base.specs.declared.fault.Fault.{Fault}
-use Rattle.fv_section.specs.FrameChecks as section
 use Rattle.fv_section.specs.FrameChecks.{frame_checks}
 use Rattle.fv_section.specs.Frames.{FrameForm, Splits, SplitsFrom, FrameStandsAt, frame_len, up_to_4}
 use Rattle.fv_section.proofs.Laws.{begins_of, cut, first_here, none_after, one_frame, one_split, stands_within, step, whole_of}
 use Rattle.fv_tree.specs.Denotes.{Pairs, MeansSection, Stream, IsStoredFrame}
-use Rattle.fv_tree.specs.FirstFault.{moved_fault, SectionFirst, FirstInStream}
+use Rattle.fv_base.specs.declared.fault.Place.{Place}
+use Rattle.fv_tree.specs.FailingChecks.{First}
+use Rattle.fv_tree.specs.FirstFault.{InSection, InStream}
 use Rattle.fv_tree.specs.Meaning.{SectionMeaning}
 use Rattle.fv_tree.proofs.ListPairs.{pairs_push, pairs_only, pairs_empty}
 
@@ -65,10 +66,6 @@ stands_ready b at f small short s =
 
 -- ---- the sections
 
-pub uncut_first : (n : ℕ) (b : List ℕ) (f g : Fault) (base depth : ℕ) → section.IsFirstFrameFault b f → g ≡ moved_fault base depth f
-    → FirstInStream n g b base depth
-uncut_first n b f g base depth first is = inl (f, first, is)
-
 -- the frames before a place are read, as these sections and as no others
 abbrev pub Walked : ℕ → List ℕ → ℕ → List SectionMeaning → Type 0
 Walked n b at ss =
@@ -108,12 +105,12 @@ walk_none n b at ss f w in_fours stands bad zs u (gs, split, pairs) =
     bad met.0 met.1
 
 -- it is the first that is refused
-pub walk_first : (n : ℕ) (b : List ℕ) (at : ℕ) (ss : List SectionMeaning) (f : FrameForm) (e : Fault) (base depth : ℕ)
+pub walk_first : (n : ℕ) (b : List ℕ) (at : ℕ) (ss : List SectionMeaning) (f : FrameForm) (e : Fault) (place : Place)
     (gs : List FrameForm) (u : ℕ) → Walked n b at ss → at ≡ up_to_4 at → FrameStandsAt f at b → Splits gs u b
-    → SectionFirst n e f base depth → FirstInStream n e b base depth
-walk_first n b at ss f e base depth gs u w in_fours stands split first =
+    → InSection First n e f place → InStream First n e b place
+walk_first n b at ss f e place gs u w in_fours stands split first =
     let m = next_is b w.0 w.1 at f gs u w.2 in_fours stands split in
-    inr (gs, u, split, (w.0, f, m.0, ss, m.1, w.3, first))
+    inr (gs, u, split, (w.0, f, m.0, m.1, (ss, w.3), first))
 
 -- in bytes that are a stream a frame stands at each place that the walk comes to
 pub walk_goes_on : (n : ℕ) (b : List ℕ) (at : ℕ) (ss : List SectionMeaning) (e : Fault) (gs : List FrameForm) (u : ℕ) → Walked n b at ss

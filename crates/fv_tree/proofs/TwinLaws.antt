@@ -6,7 +6,8 @@ use Rattle.std.specs.List.{AllByRecursion, filter, list_any}
 use Rattle.std.proofs.lemmas.Slice.Eq.{bytes_eq-Decides}
 use Rattle.fv_base.specs.Guids.{bytes_of}
 use Rattle.fv_tree.specs.Files.{FileForm, same_name, is_marked, is_twin, replaces, NoTwins, alive_in, is_top, top_name}
-use Rattle.fv_tree.specs.FirstFault.{FirstTwin, TopElsewhere}
+use Rattle.fv_tree.specs.FailingChecks.{First}
+use Rattle.fv_tree.specs.FirstFault.{HasTwin, TopElsewhere}
 use Rattle.fv_tree.proofs.AliveLaws.{twin_none}
 use Rattle.fv_tree.proofs.ListCuts.{Earlier, TwoCuts, two_cuts, all_behind}
 use Rattle.fv_base.proofs.Laws.{in_middle, or_both, or_parts}
@@ -14,7 +15,7 @@ use Rattle.fv_base.proofs.Laws.{in_middle, or_both, or_parts}
 -- ---- the first twin
 
 -- files have one first twin
-pub one_twin : (f g : FileForm) (fs : List FileForm) → FirstTwin f fs → FirstTwin g fs → f ≡ g
+pub one_twin : (f g : FileForm) (fs : List FileForm) → HasTwin First f fs → HasTwin First g fs → f ≡ g
 one_twin f g fs (before, after, is, none, has) (before', after', is', none', has') =
     go (two_cuts before f after before' g after' (sym is ∙ is'))
   where

@@ -15,7 +15,9 @@ use Rattle.fv_head.specs.declared.extent.Extent.{Extent}
 use Rattle.fv_head.proofs.Laws.{front_extent, front_same, one_front}
 use Rattle.fv_tree.specs.ReadingParts.{HasFiles}
 use Rattle.fv_tree.specs.Denotes.{Stream, Denotes, Opens}
-use Rattle.fv_tree.specs.FirstFault.{moved_fault, BodyFirst, FirstInStream, FirstInVolume}
+use Rattle.fv_base.specs.declared.fault.Place.{Place}
+use Rattle.fv_tree.specs.FailingChecks.{First}
+use Rattle.fv_tree.specs.FirstFault.{moved_fault, BodyFault, InStream, InVolume}
 use Rattle.fv_tree.specs.Meaning.{Meaning, Volume, FileMeaning, FileMeanings, NoFiles, MoreFiles, files_list, files_from, head_of, files_of}
 
 -- a list, there and back
@@ -109,14 +111,14 @@ head_known b f first =
     (λ e. cc, (λ e. cc, (λ e. cc, (λ e. cc, (λ e. cc, (λ e. cc, (λ e. cc, (λ e. cc, (λ e. cc, (λ e. cc, (λ e. cc, tt))))))))))) in
     first_among P (head_checks b) f all first
 
-pub head_first : (n : ℕ) (b : List ℕ) (f g : Fault) (base depth : ℕ) → (f ≡ want_of_memory) ⊎ IsFirstFault (head_checks b) f
-    → f ≢ want_of_memory → g ≡ moved_fault base depth f → FirstInVolume n g b base depth
-head_first n b f g base depth (inl want) ne is = absurd (ne want)
-head_first n b f g base depth (inr first) ne is = inl (f, first, is)
+pub head_first : (n : ℕ) (b : List ℕ) (f g : Fault) (at : Place) → (f ≡ want_of_memory) ⊎ IsFirstFault (head_checks b) f
+    → f ≢ want_of_memory → g ≡ moved_fault at.offset at.depth f → InVolume First n g b at
+head_first n b f g at (inl want) ne is = absurd (ne want)
+head_first n b f g at (inr first) ne is = inl (f, first, is)
 
-pub body_first : (n : ℕ) (b : List ℕ) (h : HeadFields) (e : Extent) (f : Fault) (base depth : ℕ) → BeginsVolume h e b
-    → BodyFirst (Stream n) (FirstInStream n) e f (take e.length b) base depth → FirstInVolume n f b base depth
-body_first n b h e f base depth front first = inr (h, e, front, first)
+pub body_first : (n : ℕ) (b : List ℕ) (h : HeadFields) (e : Extent) (f : Fault) (at : Place) → BeginsVolume h e b
+    → BodyFault First n (InStream First n) e f (take e.length b) at → InVolume First n f b at
+body_first n b h e f at front first = inr (h, e, front, first)
 
 -- ---- an opened body is one volume
 

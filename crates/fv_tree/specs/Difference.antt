@@ -42,6 +42,11 @@ ext_eq (Some x) (Some y) =
 abbrev pub Differs : Type 0
 Differs = Option (List Step × Word)
 
+-- they differ, and steps lead down to where
+abbrev pub has_steps : Differs → Bool
+has_steps (Some (s ∷ ss, word)) = true
+has_steps _ = false
+
 -- a difference of this kind, here
 abbrev pub differ_in : Word → Differs
 differ_in word = Some ([], word)

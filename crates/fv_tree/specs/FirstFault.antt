@@ -1,33 +1,30 @@
--- The first fault of bytes that are no volume: by the recursion of what bytes denote, in the order
--- in which a volume is read.
+-- The faults of bytes that should begin with a volume, by the same recursion as Denotes: the first one, in the order in
+-- which a volume is read; and any fault whose condition holds at its place, whatever else is wrong.
 use Rattle.std.specs.Prelude.{◌≡◌, ℕ, zero, suc, ◌+◌, ◌⊎◌, true, List, [], ◌∷◌, ◌++◌, take, drop}
 use Rattle.std.specs.List.{list_any}
-use Rattle.fv_base.specs.Checks.{IsFirstFault}
 use Rattle.fv_base.specs.Faults.{outer_fault}
 use Rattle.fv_base.specs.declared.fault.Fault.{Fault}
 use Rattle.fv_base.specs.declared.fault.FaultKind.TheVariants as kinds
+use Rattle.fv_base.specs.declared.fault.Place.{Place}
 use Rattle.fv_file.specs.Cells.{CellForm, Tiles}
-use Rattle.fv_file.specs.FileChecks as file
 use Rattle.fv_head.specs.Head.{HeadFields, BeginsVolume}
 use Rattle.fv_head.specs.HeadChecks.{head_checks}
 use Rattle.fv_head.specs.declared.extent.Extent.{Extent}
-use Rattle.fv_section.specs.FrameChecks as section
 use Rattle.fv_section.specs.Frames.{FrameForm, Splits, section_header_len}
+use Rattle.fv_tree.specs.Denotes.{group_kind, volume_kind, Opens, holds_sections, Pairs, MeansFile, MeansSection}
+use Rattle.fv_tree.specs.Denotes.{Stream, depth_limit}
+use Rattle.fv_tree.specs.FailingChecks.{Which, First, Any, IfFirst, Fails, FrameFault, CellFault}
 use Rattle.fv_tree.specs.Files.{FileForm, files_in, is_twin, NoTwins, alive_in, is_top, end_of, TopAtEnd}
-use Rattle.fv_tree.specs.Denotes.{group_kind, volume_kind, Opens, holds_sections, Pairs, Sections, Streams, MeansFile}
-use Rattle.fv_tree.specs.Denotes.{MeansSection, Stream, depth_limit}
 
--- a fault of bytes that begin at a place and lie so deep
+-- ---- places
+
+-- a fault of bytes that begin at this offset and at this depth
 abbrev pub moved_fault : ℕ → ℕ → Fault → Fault
 moved_fault base depth f = record { kind = f.kind; place = record { offset = base + f.place.offset; depth = depth } }
 
--- what is said of a fault and of the bytes that have it, which begin at a place and lie so deep
-abbrev pub Faulty : Type 1
-Faulty = Fault → List ℕ → ℕ → ℕ → Type 0
-
--- of a frame in a stream, and of a file in a volume, by where the stream and the volume begin
-abbrev pub FrameFaulty : Type 1
-FrameFaulty = Fault → FrameForm → ℕ → ℕ → Type 0
+-- e is such a fault, of bytes that begin at this place
+abbrev pub Moved : Place → (Fault → Type 0) → Fault → Type 0
+Moved at P e = (f : Fault) × P f × (e ≡ moved_fault at.offset at.depth f)
 
 -- where a frame's body begins in its stream, and a file's data in their volume
 abbrev pub body_place : FrameForm → ℕ
@@ -36,23 +33,32 @@ body_place f = f.offset + section_header_len f.extended
 abbrev pub data_place : FileForm → ℕ
 data_place f = f.offset + f.head.header_len
 
--- the first item that is refused, behind ones that are read, has a fault
-abbrev pub FirstOf : {A B : Type 0} → (A → B → Type 0) → (A → Type 0) → List A → Type 0
-FirstOf {A} {B} R fault xs =
-    (before : List A) × (x : A) × (after : List A) × (read : List B) × (xs ≡ before ++ (x ∷ after))
-    × Pairs R before read × fault x
+-- the same, of a stream and a volume that begin at a place; a body lies one level deeper
+abbrev pub body_at : Place → FrameForm → Place
+body_at at f = record { offset = at.offset + body_place f; depth = at.depth + 1 }
 
--- the stream is not cut into frames; or it is, and e is the fault of the first section that is refused
-abbrev pub StreamFirst : Sections → FrameFaulty → Faulty
-StreamFirst is_section in_section e b base depth =
-    ((f : Fault) × section.IsFirstFrameFault b f × (e ≡ moved_fault base depth f))
-    ⊎ ((frames : List FrameForm) × (tail : ℕ) × Splits frames tail b
-    × FirstOf is_section (λ f. in_section e f base depth) frames)
+abbrev pub data_at : Place → FileForm → Place
+data_at at f = record { offset = at.offset + data_place f; depth = at.depth }
 
--- f is the first of the files that has a twin among those before it
-abbrev pub FirstTwin : FileForm → List FileForm → Type 0
-FirstTwin f fs =
-    (before : List FileForm) × (after : List FileForm) × (fs ≡ before ++ (f ∷ after)) × NoTwins before
+-- a predicate on a fault and on bytes that begin at a place; and one on a frame in a stream that begins there
+abbrev pub Faulty : Type 1
+Faulty = Fault → List ℕ → Place → Type 0
+
+abbrev pub FrameFaulty : Type 1
+FrameFaulty = Fault → FrameForm → Place → Type 0
+
+-- ---- one level
+
+-- one of the items has a fault; before the first fault, the items are read
+abbrev pub OneOf : {A B : Type 0} → Which → (A → B → Type 0) → (A → Type 0) → List A → Type 0
+OneOf {A} {B} which R fault xs =
+    (before : List A) × (x : A) × (after : List A) × (xs ≡ before ++ (x ∷ after))
+    × IfFirst which ((read : List B) × Pairs R before read) × fault x
+
+-- the file has a twin among those before it; before the first such file, there are no twins
+abbrev pub HasTwin : Which → FileForm → List FileForm → Type 0
+HasTwin which f fs =
+    (before : List FileForm) × (after : List FileForm) × (fs ≡ before ++ (f ∷ after)) × IfFirst which (NoTwins before)
     × (list_any (is_twin f) before ≡ true)
 
 -- f is a volume top file that is not the last of the files, or does not end where the volume does
@@ -61,58 +67,78 @@ TopElsewhere length f fs =
     (before : List FileForm) × (after : List FileForm) × (fs ≡ before ++ (f ∷ after)) × (is_top f ≡ true)
     × (after ≡ [] → end_of f ≡ length → ⊥)
 
--- e is the fault of the data of a file that holds sections
-abbrev pub FileFirst : Faulty → Fault → FileForm → ℕ → ℕ → Type 0
-FileFirst in_stream e f base depth =
-    (holds_sections f.head.kind ≡ true) × in_stream e f.payload (base + data_place f) depth
+-- a fault of the valid files in a volume of this length: the later of two twins; or a volume top file that is not at
+-- the end, which is the first fault only if there are no twins
+abbrev pub NamesFault : Which → ℕ → List FileForm → Fault → Type 0
+NamesFault which length fs e =
+    ((f : FileForm) × HasTwin which f fs × (e ≡ outer_fault kinds.DuplicateName f.offset))
+    ⊎ (IfFirst which (NoTwins fs)
+    × (f : FileForm) × TopElsewhere length f (alive_in fs) × (e ≡ outer_fault kinds.TopFile f.offset))
 
--- of the files that stand in a volume of this length: the later of two twins; a volume top file that is not at the end;
--- or the fault of the first file whose data are no stream
-abbrev pub FilesFirst : Streams → Faulty → ℕ → Fault → List FileForm → ℕ → ℕ → Type 0
-FilesFirst is_stream in_stream length e fs base depth =
-    ((f : FileForm) × FirstTwin f fs × (e ≡ moved_fault base depth (outer_fault kinds.DuplicateName f.offset)))
-    ⊎ (NoTwins fs
-    × (((f : FileForm) × TopElsewhere length f (alive_in fs)
-    × (e ≡ moved_fault base depth (outer_fault kinds.TopFile f.offset)))
-    ⊎ (TopAtEnd length (alive_in fs)
-    × FirstOf (MeansFile is_stream) (λ f. FileFirst in_stream e f base depth) (alive_in fs))))
-
--- no cells tile the volume's body; or some do, and e is the fault of its files
-abbrev pub BodyFirst : Streams → Faulty → Extent → Faulty
-BodyFirst is_stream in_stream x e volume base depth =
-    ((f : Fault) × file.IsFirstCellFault x.file_system x.polarity x.first (drop x.first volume) f
-    × (e ≡ moved_fault base depth f))
+-- a fault of the body of a volume, except of the data of its files: that of a cell; or that of the files of its cells
+abbrev pub LayoutFault : Which → Extent → List ℕ → Fault → Type 0
+LayoutFault which x volume e =
+    CellFault which x (drop x.first volume) e
     ⊎ ((cells : List CellForm) × Tiles x.file_system x.polarity x.first cells (drop x.first volume)
-    × FilesFirst is_stream in_stream x.length e (files_in cells) base depth)
+    × NamesFault which x.length (files_in cells) e)
 
--- the bytes begin with no header of a volume; or they do, and e is the fault of what follows it in the volume
-abbrev pub VolumeFirst : Streams → Faulty → Faulty
-VolumeFirst is_stream in_stream e b base depth =
-    ((f : Fault) × IsFirstFault (head_checks b) f × (e ≡ moved_fault base depth f))
-    ⊎ ((h : HeadFields) × (x : Extent) × BeginsVolume h x b
-    × BodyFirst is_stream in_stream x e (take x.length b) base depth)
+-- a fault of a stream: a check of a section header fails; or the stream splits into frames, and one of them has a fault
+abbrev pub StreamFault : Which → ℕ → FrameFaulty → Faulty
+StreamFault which n in_section e b at =
+    Moved at (FrameFault which b) e
+    ⊎ ((frames : List FrameForm) × (tail : ℕ) × Splits frames tail b
+    × OneOf which (MeansSection n) (λ f. in_section e f at) frames)
+
+-- a fault of the data of a file that holds sections
+abbrev pub FileFault : Faulty → Fault → FileForm → Place → Type 0
+FileFault in_stream e f at = (holds_sections f.head.kind ≡ true) × in_stream e f.payload (data_at at f)
+
+-- a fault of the body of a volume: that of its layout; or that of the data of a file, which is the first fault only if
+-- the layout has none
+abbrev pub BodyFault : Which → ℕ → Faulty → Extent → Faulty
+BodyFault which n in_stream x e volume at =
+    Moved at (LayoutFault which x volume) e
+    ⊎ ((cells : List CellForm) × Tiles x.file_system x.polarity x.first cells (drop x.first volume)
+    × IfFirst which (NoTwins (files_in cells) × TopAtEnd x.length (alive_in (files_in cells)))
+    × OneOf which (MeansFile (Stream n)) (λ f. FileFault in_stream e f at) (alive_in (files_in cells)))
+
+-- a fault of a volume: a check of its header fails; or the bytes begin with a header, and the body has a fault
+abbrev pub VolumeFault : Which → ℕ → Faulty → Faulty
+VolumeFault which n in_stream e b at =
+    Moved at (Fails which (head_checks b)) e
+    ⊎ ((h : HeadFields) × (x : Extent) × BeginsVolume h x b × BodyFault which n in_stream x e (take x.length b) at)
 
 -- ---- the recursion
 
--- e is the first fault of this frame, which is a group or is opened as a volume: it lies too
--- deep, or its body is refused
-abbrev pub SectionFirst : ℕ → FrameFaulty
-SectionFirst zero e f base depth =
+-- a fault of a frame that is a group or is opened as a volume, in which groups and volumes nest at most n deep: it is
+-- nested too deep; or what it holds has a fault
+abbrev pub InSection : Which → ℕ → FrameFaulty
+InSection which zero e f at =
     ((f.kind ≡ group_kind) ⊎ ((f.kind ≡ volume_kind) × Opens f.body))
-    × (e ≡ moved_fault base depth (outer_fault kinds.Depth f.offset))
-SectionFirst (suc n) e f base depth =
-    ((f.kind ≡ group_kind) × StreamFirst (MeansSection n) (SectionFirst n) e f.body (base + body_place f) (depth + 1))
+    × (e ≡ moved_fault at.offset at.depth (outer_fault kinds.Depth f.offset))
+InSection which (suc n) e f at =
+    ((f.kind ≡ group_kind) × StreamFault which n (InSection which n) e f.body (body_at at f))
     ⊎ ((f.kind ≡ volume_kind) × Opens f.body
-    × VolumeFirst (Stream n) (StreamFirst (MeansSection n) (SectionFirst n)) e f.body (base + body_place f) (depth + 1))
+    × VolumeFault which n (StreamFault which n (InSection which n)) e f.body (body_at at f))
 
--- e is the first fault of a stream in which groups and volumes nest at most n deep
-abbrev pub FirstInStream : ℕ → Faulty
-FirstInStream n = StreamFirst (MeansSection n) (SectionFirst n)
+-- a fault of a stream in which groups and volumes nest at most n deep
+abbrev pub InStream : Which → ℕ → Faulty
+InStream which n = StreamFault which n (InSection which n)
 
--- e is the first fault of bytes that are to begin with a volume in which groups and volumes nest at most n deep
-abbrev pub FirstInVolume : ℕ → Faulty
-FirstInVolume n = VolumeFirst (Stream n) (FirstInStream n)
+-- a fault of bytes that should begin with such a volume
+abbrev pub InVolume : Which → ℕ → Faulty
+InVolume which n = VolumeFault which n (InStream which n)
 
--- e is the first fault of bytes that were handed to a call
+-- ---- the faults of bytes that were passed to a call
+
+-- they begin at 0
+abbrev pub outermost : Place
+outermost = record { offset = 0; depth = 0 }
+
+-- e is their first fault
 abbrev pub IsFirstOfVolume : List ℕ → Fault → Type 0
-IsFirstOfVolume b e = FirstInVolume depth_limit e b 0 0
+IsFirstOfVolume b e = InVolume First depth_limit e b outermost
+
+-- the condition of e holds at e's place, whatever else is wrong with them
+abbrev pub FaultStands : List ℕ → Fault → Type 0
+FaultStands b e = InVolume Any depth_limit e b outermost

@@ -4,7 +4,7 @@ pub mod Denotes
 pub mod Difference
 pub mod DifferenceWalks
 pub mod Falls
-pub mod FaultStands
+pub mod FailingChecks
 pub mod FileSystems
 pub mod Files
 pub mod FirstFault

@@ -1,6 +1,7 @@
 -- What look-ups by name use: the order of names, the names of some files, and the number of a file by its name.
 -- Serves private clauses alone: there is nothing to believe here.
-use Rattle.std.specs.Prelude.{◌≡◌, ℕ, ◌+◌, ◌&&◌, Bool, if◌then◌else◌, List, [], ◌∷◌, map, Option, Some, None}
+use Rattle.std.specs.Prelude.{◌≡◌, ℕ, ◌+◌, ◌*◌, ◌/◌, ◌^◌, ◌&&◌, Bool, if◌then◌else◌, List, [], ◌∷◌}
+use Rattle.std.specs.Prelude.{map, Option, Some, None}
 use Rattle.std.specs.Bool.{beq}
 use Rattle.std.specs.BTreeSet.{BTreeSet, contains}
 use Rattle.std.specs.List.{list_any}
@@ -12,7 +13,7 @@ use Rattle.fv_base.specs.Guids.{bytes_of}
 use Rattle.fv_base.specs.declared.guid.Guid.{Guid}
 use Rattle.fv_tree.specs.Files.{FileForm, is_marked}
 use Rattle.fv_tree.specs.Meaning.{FileMeaning}
-use Rattle.fv_tree.specs.FileNames.{is_named}
+use Rattle.fv_tree.specs.FileNames.{Entry, is_named}
 
 -- the order of names, and of names each with whether the file is marked
 abbrev pub name_cmp : Guid → Guid → Ordering
@@ -33,6 +34,10 @@ HasNames names fs = (key : Guid × Bool) → contains key_cmp names key ≡ list
 abbrev pub number_from : ℕ → Guid → List FileMeaning → Option ℕ
 number_from k name [] = None
 number_from k name (f ∷ fs) = if is_named name f then Some k else number_from (k + 1) name fs
+
+-- the key of an entry: the high bits of the first half of its name, above its number, which has this many bits
+abbrev pub key_of : ℕ → Entry → ℕ
+key_of bits e = e.0.0 / 2 ^ bits * 2 ^ bits + e.1
 
 -- the names of files, in order
 abbrev pub names_in : List FileForm → List Guid

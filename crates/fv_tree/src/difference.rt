@@ -1,9 +1,9 @@
 //! Where the meanings of two volumes first differ.
 
-ghost use Rattle.std.specs.Prelude.{◌≡◌, ◌≢◌, ◌==◌, Some, option_copied, IfOk, IfErr, IfSome, IfNone};
+ghost use Rattle.std.specs.Prelude.{◌≡◌, ◌≢◌, ◌==◌, true, Some, option_copied, IfOk, IfErr, IfSome, IfNone};
 ghost use Rattle.fv_base.specs.Faults.{want_of_memory};
 ghost use Rattle.fv_tree.specs.Difference.{blocks_eq, entries_eq, ext_eq};
-ghost use Rattle.fv_tree.specs.Difference.{differ_in, unless_one, or_else, under};
+ghost use Rattle.fv_tree.specs.Difference.{has_steps, differ_in, unless_one, or_else, under};
 ghost use Rattle.fv_tree.specs.DifferenceWalks.{in_word, outermost_first, AnswersDifference};
 ghost use Rattle.fv_tree.specs.Difference.{head_differs, difference, files_differ, file_differs, content_differs};
 ghost use Rattle.fv_tree.specs.Difference.{sections_differ, section_differs, body_differs};
@@ -373,8 +373,8 @@ pub fn first_difference(
     // A difference says that they have not.
     ensures differ { IfOk result (λ o. IfSome o (λ _. a.now ≢ b.now)) }
 
-    // Memory runs out only if they differ.
-    ensures memory { IfErr result (λ _. a.now ≢ b.now) }
+    // Memory is wanted only where they differ, at a place to which steps lead.
+    ensures memory { IfErr result (λ _. (a.now ≢ b.now) × (has_steps (difference a.now b.now) ≡ true)) }
     ensures err { IfErr result (λ f. f ≡ want_of_memory) }
 {
     let Some(mut found) = volume_difference(alloc, a, b)? else {

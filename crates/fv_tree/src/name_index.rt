@@ -3,12 +3,12 @@
 ghost use Rattle.std.specs.Prelude.{◌≡◌, ◌<◌, ◌≤◌, ◌%◌, ◌^◌, List, length, map, IsSorted, IsTrue, IfOk, IfErr};
 ghost use Rattle.std.specs.List.{AllByRecursion, IsDistinct, range_with_len};
 ghost use Rattle.std.specs.List.Sorted.{IsPermutation};
-ghost use Rattle.std.specs.Ordering.{eq_by_cmp};
+ghost use Rattle.std.specs.Ordering.{eq_by_cmp, nat_cmp};
 ghost use Rattle.fv_base.specs.Faults.{want_of_memory};
 ghost use Rattle.fv_tree.specs.Meaning.{FileMeaning};
 ghost use Rattle.fv_tree.specs.FileNames.{HasNumbers, IsIndex, IsName, IsSixteenBytes, entry_cmp, halves_cmp};
-ghost use Rattle.fv_tree.specs.FileNames.{halves_in, halves_of};
-ghost use Rattle.fv_tree.specs.NameOrders.{names_in, number_from};
+ghost use Rattle.fv_tree.specs.FileNames.{halves_in, halves_of, numbered};
+ghost use Rattle.fv_tree.specs.NameOrders.{key_of, names_in, number_from};
 ghost use Rattle.fv_tree.specs.StandingForms.{file_form};
 
 use crate::volume_files::Standing;
@@ -58,6 +58,9 @@ fn sorted_keys(alloc: Global, files: &[Standing], bits: u32) -> Result<Vec<u64>,
     requires bits { bits < 64 }
     ensures numbers { IfOk result
         (λ keys. IsPermutation (range_with_len 0 (length files.now)) (map (λ key. key % 2 ^ bits) keys.items)) }
+    ensures keys { IfOk result
+        (λ keys. IsPermutation (map (key_of bits) (numbered 0 (names_in (map file_form files.now)))) keys.items) }
+    ensures sorted { IfOk result (λ keys. IsSorted nat_cmp keys.items) }
     ensures whole { IfOk result (λ _. AllByRecursion IsName (names_in (map file_form files.now))) }
     ensures err { IfErr result (λ f. f ≡ want_of_memory) }
 {
@@ -94,7 +97,8 @@ impl Numbers {
     // Whether no two of the names are the same.
     pub(crate) fn are_distinct(&self) -> bool
         requires { IsSorted entry_cmp self.now.sorted.items }
-        ensures { IsTrue result → IsDistinct (eq_by_cmp halves_cmp) (map (λ e. e.0) self.now.sorted.items) }
+        ensures distinct { IsTrue result → IsDistinct (eq_by_cmp halves_cmp) (map (λ e. e.0) self.now.sorted.items) }
+        ensures all { IsDistinct (eq_by_cmp halves_cmp) (map (λ e. e.0) self.now.sorted.items) → IsTrue result }
     {
         for next in 1..self.sorted.len() {
             if self.sorted[next - 1].0 == self.sorted[next].0 {

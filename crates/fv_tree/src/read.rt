@@ -12,10 +12,10 @@ ghost use Rattle.fv_tree.specs.Meaning.{Meaning, FileMeaning, SectionMeaning, le
 ghost use Rattle.fv_tree.specs.Files.{FileForm};
 ghost use Rattle.fv_tree.specs.Denotes.{Pairs, MeansFile, MeansSection, Stream, Denotes, Accepted, depth_limit};
 ghost use Rattle.fv_tree.specs.Denotes.{holds_sections, IsStoredFile, IsStoredFrame};
-ghost use Rattle.fv_tree.specs.FirstFault.{moved_fault, FirstInStream, FirstInVolume, SectionFirst, BodyFirst, FirstOf};
-ghost use Rattle.fv_tree.specs.FirstFault.{FileFirst, IsFirstOfVolume, body_place, data_place};
-ghost use Rattle.fv_tree.specs.FaultStands.{FaultStands};
-ghost use Rattle.fv_tree.specs.ReadingParts.{HasFiles, StandIn, StandFirst, AllStored, ReadsContent};
+ghost use Rattle.fv_tree.specs.FailingChecks.{First};
+ghost use Rattle.fv_tree.specs.FirstFault.{moved_fault, Moved, LayoutFault, InSection, InStream, InVolume, BodyFault};
+ghost use Rattle.fv_tree.specs.FirstFault.{OneOf, FileFault, IsFirstOfVolume, FaultStands, body_place, data_place};
+ghost use Rattle.fv_tree.specs.ReadingParts.{HasFiles, StandIn, AllStored, ReadsContent};
 ghost use Rattle.fv_tree.specs.FileNames.{HasNumbers, IsIndex};
 ghost use Rattle.fv_tree.specs.NameOrders.{names_in};
 ghost use Rattle.fv_tree.specs.Views.{content_view};
@@ -155,7 +155,7 @@ fn files_in_body<'a>(
     ensures stored { IfOk result (λ r. AllStored place.offset (map file_form r.0.items)) }
     ensures numbers { IfOk result (λ r. IsIndex (names_in (map file_form r.0.items)) r.1.sorted.items) }
     ensures none { IfErr result (λ f. f ≢ want_of_memory → (gs : List FileForm) → StandIn extent volume.now gs → ⊥) }
-    ensures first { IfErr result (λ e. e ≢ want_of_memory → StandFirst extent e volume.now place.offset place.depth) }
+    ensures first { IfErr result (λ e. e ≢ want_of_memory → Moved place (LayoutFault First extent volume.now) e) }
 {
     let list = match cells(
         alloc,
@@ -191,7 +191,7 @@ fn read_section<'a>(
     ensures none { IfErr result
         (λ f. f ≢ want_of_memory → (t : SectionMeaning) → MeansSection left (framed.frame_form frame.now) t → ⊥) }
     ensures first { IfErr result
-        (λ f. f ≢ want_of_memory → SectionFirst left f (framed.frame_form frame.now) place.offset place.depth) }
+        (λ f. f ≢ want_of_memory → InSection First left f (framed.frame_form frame.now) place) }
 {
     let len = frame.body.len() as u32;
     let body = match shape_of(frame) {
@@ -233,7 +233,7 @@ fn read_stream<'a>(
         × (tail ≡ s.1)) }
     ensures none { IfErr result
         (λ f. f ≢ want_of_memory → (ss : List SectionMeaning) (tail : ℕ) → Stream left ss tail bytes.now → ⊥) }
-    ensures first { IfErr result (λ f. f ≢ want_of_memory → FirstInStream left f bytes.now place.offset place.depth) }
+    ensures first { IfErr result (λ f. f ≢ want_of_memory → InStream First left f bytes.now place) }
 {
     let (count, tail) = match stream_size(bytes) {
         Ok(size) => size,
@@ -264,7 +264,7 @@ fn read_content<'a>(
     ensures none { IfErr result
         (λ f. f ≢ want_of_memory → (m : FileMeaning) → MeansFile (Stream left) (file_form file.now) m → ⊥) }
     ensures first { IfErr result
-        (λ f. f ≢ want_of_memory → FileFirst (FirstInStream left) f (file_form file.now) place.offset place.depth) }
+        (λ f. f ≢ want_of_memory → FileFault (InStream First left) f (file_form file.now) place) }
 {
     if !holds_sections(file.head.kind) {
         return Ok(Content::Plain(file.payload));
@@ -294,7 +294,7 @@ fn read_file<'a>(
     ensures none { IfErr result
         (λ f. f ≢ want_of_memory → (t : FileMeaning) → MeansFile (Stream left) (file_form file.now) t → ⊥) }
     ensures first { IfErr result
-        (λ f. f ≢ want_of_memory → FileFirst (FirstInStream left) f (file_form file.now) place.offset place.depth) }
+        (λ f. f ≢ want_of_memory → FileFault (InStream First left) f (file_form file.now) place) }
 {
     let content = read_content(alloc, file, place, left)?;
     let attributes = file.head.attributes.without_large();
@@ -322,8 +322,8 @@ fn read_files<'a>(
         (λ ms. (ts : List FileMeaning) → Pairs (MeansFile (Stream left)) (map file_form files.now) ts → ts ≡ ms.items) }
     ensures none { IfErr result (λ f. f ≢ want_of_memory → (ts : List FileMeaning)
         → Pairs (MeansFile (Stream left)) (map file_form files.now) ts → ⊥) }
-    ensures first { IfErr result (λ e. e ≢ want_of_memory → FirstOf (MeansFile (Stream left)) (λ f. FileFirst
-        (FirstInStream left) e f place.offset place.depth) (map file_form files.now)) }
+    ensures first { IfErr result (λ e. e ≢ want_of_memory → OneOf First (MeansFile (Stream left)) (λ f. FileFault
+        (InStream First left) e f place) (map file_form files.now)) }
 {
     let mut views = Vec::with_capacity(alloc, files.len())?;
     for file in files {
@@ -355,8 +355,8 @@ fn read_body<'a>(
     ensures numbers { IfOk result (λ r. HasNumbers r.1 r.0.items) }
     ensures none { IfErr result
         (λ f. f ≢ want_of_memory → (ts : List FileMeaning) → HasFiles (Stream left) extent volume.now ts → ⊥) }
-    ensures first { IfErr result (λ e. e ≢ want_of_memory → BodyFirst (Stream left)
-        (FirstInStream left) extent e volume.now place.offset place.depth) }
+    ensures first { IfErr result (λ e. e ≢ want_of_memory → BodyFault First left
+        (InStream First left) extent e volume.now place) }
 {
     let (files, numbers) = files_in_body(alloc, volume, extent, place)?;
     let views = read_files(alloc, files.as_slice(), place, left)?;
@@ -380,7 +380,7 @@ fn read_at<'a>(
         × (n ≡ r.1)) }
     ensures none { IfErr result (λ f. f ≢ want_of_memory → (n : ℕ) (m : Meaning) → n ≤ length bytes.now
         → Denotes left (take n bytes.now) m → ⊥) }
-    ensures first { IfErr result (λ f. f ≢ want_of_memory → FirstInVolume left f bytes.now place.offset place.depth) }
+    ensures first { IfErr result (λ f. f ≢ want_of_memory → InVolume First left f bytes.now place) }
     ensures memory { IfErr result
         (λ f. f ≡ want_of_memory → (h : HeadFields) × (e : Extent) × BeginsVolume h e bytes.now) }
 {
@@ -424,6 +424,10 @@ pub fn read_volume(alloc: Global, bytes: &[u8]) -> Result<(VolumeView<'_>, u64),
     ensures one { (f : Fault) → IsFirstOfVolume bytes.now f
         → IfOk result (λ r. ⊥) × IfErr result (λ g. g ≢ want_of_memory → g ≡ f) }
     ensures stands { IfErr result (λ f. f ≢ want_of_memory → FaultStands bytes.now f) }
+
+    // Its place is within the bytes, or at their end, and no deeper than volumes may nest.
+    ensures bound { IfErr result
+        (λ f. (f.place.offset ≤ length bytes.now) × (f.place.depth ≤ depth_limit)) }
 
     // Memory runs out only if they begin with the header of a volume.
     ensures memory { IfErr result

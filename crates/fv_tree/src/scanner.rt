@@ -1,9 +1,9 @@
 //! Finding volumes.
 
-ghost use Rattle.std.specs.Prelude.{◌≡◌, ◌%◌, ◌≤◌, ◌+◌, ℕ, List, length, drop, IfOk, IfErr, IfSome, IfNone};
+ghost use Rattle.std.specs.Prelude.{◌≡◌, true, ◌%◌, ◌≤◌, ◌+◌, ℕ, List, length, drop, IfOk, IfErr, IfSome, IfNone};
 ghost use Rattle.fv_base.specs.Faults.{want_of_memory};
 ghost use Rattle.fv_head.specs.HeadChecks.{has_signature};
-ghost use Rattle.fv_tree.specs.FoundVolumes.{Found};
+ghost use Rattle.fv_tree.specs.FoundVolumes.{Found, IsPlace};
 ghost use Rattle.fv_tree.specs.FoundWalks.{IsNext, NoneBetween, NoneFrom};
 
 use fv_base::Fault;
@@ -51,7 +51,7 @@ fn next_signature(bytes: &[u8], from: usize) -> Option<usize>
     requires multiple { from % 8 ≡ 0 }
     requires within { from ≤ length bytes.now }
     ensures some { IfSome result (λ at. (from ≤ at) × (at % 8 ≡ 0) × (at + 56 ≤ length bytes.now)
-        × NoneBetween bytes.now from at) }
+        × NoneBetween bytes.now from at × (has_signature (drop at bytes.now) ≡ true)) }
     ensures none { IfNone result (NoneFrom bytes.now from) }
 {
     let mut at = from;
@@ -97,6 +97,9 @@ pub fn scan(alloc: Global, bytes: &[u8]) -> Result<Offsets, Fault>
     // No other list of offsets meets this.
     ensures only { IfOk result (λ o. (p : List ℕ) → Found bytes.now p → p ≡ o) }
     ensures err { IfErr result (λ f. f ≡ want_of_memory) }
+
+    // Memory is wanted only where a volume begins in the bytes.
+    ensures memory { IfErr result (λ _. (place : ℕ) × IsPlace bytes.now place) }
 {
     let mut list = Vec::new(alloc);
     let mut from = 0;

@@ -5,10 +5,10 @@ ghost use Rattle.std.specs.Prelude.{length as length_of, IfOk, IfErr, OnOk, IfSo
 ghost use Rattle.std.specs.List.{list_any, AllByRecursion};
 ghost use Rattle.fv_base.specs.Faults.{outer_fault, want_of_memory};
 ghost use Rattle.fv_file.specs.CellForms as cellular;
-ghost use Rattle.fv_tree.specs.Files.{FileForm, NoTwins, TopAtEnd, files_in, alive_in, is_marked, is_top, end_of};
-ghost use Rattle.fv_tree.specs.Files.{replaces};
-ghost use Rattle.fv_tree.specs.FirstFault.{FirstTwin, TopElsewhere};
-ghost use Rattle.fv_tree.specs.ReadingParts.{AreAlive, AliveFirst};
+ghost use Rattle.fv_tree.specs.Files.{FileForm, NoTwins, TopAtEnd, AreAlive, files_in, alive_in, is_marked, is_top};
+ghost use Rattle.fv_tree.specs.Files.{end_of, replaces};
+ghost use Rattle.fv_tree.specs.FailingChecks.{First};
+ghost use Rattle.fv_tree.specs.FirstFault.{HasTwin, TopElsewhere, NamesFault};
 ghost use Rattle.fv_tree.specs.NameOrders.{HasNames, names_in};
 ghost use Rattle.fv_tree.specs.FileNames.{IsIndex};
 ghost use Rattle.fv_tree.specs.StandingForms.{file_form};
@@ -89,8 +89,8 @@ pub(crate) fn files_of<'a>(alloc: Global, cells: &[Cell<'a>]) -> Result<Vec<Stan
 fn names_of(alloc: Global, files: &[Standing]) -> Result<BTreeSet<(Guid, bool)>, Fault>
     ensures found { IfOk result
         (λ names. NoTwins (map file_form files.now) × HasNames names (map file_form files.now)) }
-    ensures first { IfErr result (λ e. (e ≡ want_of_memory) ⊎ ((f : FileForm) × FirstTwin f (map file_form files.now)
-        × (e ≡ outer_fault FaultKind.DuplicateName f.offset))) }
+    ensures first { IfErr result (λ e. (e ≡ want_of_memory) ⊎ ((f : FileForm)
+        × HasTwin First f (map file_form files.now) × (e ≡ outer_fault FaultKind.DuplicateName f.offset))) }
 {
     let mut names = BTreeSet::new(alloc);
     for file in files {
@@ -159,7 +159,8 @@ fn apart_files<'a>(
     requires few { length_of files.items < 2 ^ 32 }
     ensures found { IfOk result (λ r. AreAlive length (map file_form files.entry.items) (map file_form r.0.items)) }
     ensures numbers { IfOk result (λ r. IsIndex (names_in (map file_form r.0.items)) r.1.sorted.items) }
-    ensures first { IfErr result (λ f. f ≢ want_of_memory → AliveFirst length (map file_form files.entry.items) f) }
+    ensures first { IfErr result
+        (λ f. f ≢ want_of_memory → NamesFault First length (map file_form files.entry.items) f) }
     ensures bound { IfErr result (λ f. f.place.offset ≤ length) }
 {
     let names = names_of(alloc, files.as_slice())?;
@@ -182,7 +183,8 @@ pub(crate) fn alive_files<'a>(
     requires few { length_of files.items < 2 ^ 32 }
     ensures found { IfOk result (λ r. AreAlive length (map file_form files.entry.items) (map file_form r.0.items)) }
     ensures numbers { IfOk result (λ r. IsIndex (names_in (map file_form r.0.items)) r.1.sorted.items) }
-    ensures first { IfErr result (λ f. f ≢ want_of_memory → AliveFirst length (map file_form files.entry.items) f) }
+    ensures first { IfErr result
+        (λ f. f ≢ want_of_memory → NamesFault First length (map file_form files.entry.items) f) }
     ensures bound { IfErr result (λ f. f.place.offset ≤ length) }
 {
     let numbers = Numbers::of(alloc, files.as_slice())?;

@@ -11,4 +11,4 @@ write_line-requires g c =
     record { few = subst (λ (o : Differs). IfSome o (λ d. length d.0 ≤ 18)) (sym (c.as_ref.ensures.value ∙ c.in-Ok.ensures.first)) few }
 
 pub returns-in-Err-clause-err : goal.returns-in-Err-clause-err
-returns-in-Err-clause-err g c = (Keeps-refl _, c.in-Err.ensures.err, c.in-Err.ensures.memory)
+returns-in-Err-clause-err g c = (Keeps-refl _, c.in-Err.ensures.err, c.in-Err.ensures.memory.0)

@@ -1,4 +1,4 @@
-use Rattle.fv_canon.proofs.StoredTilingLaws.{pads_rule}
+use Rattle.fv_canon.proofs.PadLaws.{pads_rule}
 use Rattle.fv_canon.proofs.further_laws.pads.Goals as goal
 
 pub returns : goal.returns

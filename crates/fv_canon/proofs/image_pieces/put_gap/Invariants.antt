@@ -1,5 +1,5 @@
 use Rattle.std.proofs.Common.{◌≡◌, ◌≤◌, ◌%◌}
-use Rattle.fv_canon.specs.StoredFiles.{gap_bytes, pads, long_pads}
+use Rattle.fv_canon.specs.StoredFiles.{gap_bytes}
 use Rattle.fv_canon.specs.ImageWalks.{TakesFront}
 use Rattle.fv_canon.proofs.image_pieces.put_gap.Given as goal
 
@@ -8,7 +8,7 @@ invariant-loop-left g l = record {
   least : 24 ≤ l.left;
   most : l.left ≤ l.gap;
   multiple : l.left % 8 ≡ 0;
-  done : TakesFront g.S.Sink.takes l.initial.out l.out (gap_bytes l.polarity l.gap) (pads l.polarity (long_pads l.left) l.left);
+  done : TakesFront g.S.Sink.takes l.initial.out l.out (gap_bytes l.polarity l.gap) (gap_bytes l.polarity l.left);
 }
 
 abbrev pub decreases-loop-left : goal.decreases-loop-left

@@ -8,15 +8,14 @@ use Rattle.fv_tree.specs.Meaning.{section_kind_of, section_len}
 use Rattle.fv_tree.specs.Sizes.{volume_size, sections_size, body_size}
 use Rattle.fv_tree.specs.Views.{body_view}
 use Rattle.fv_tree.specs.declared.view.Body.{Body}
-use Rattle.fv_canon.specs.ImageOf.{body_image, starts_in_body, starts_in_section, starts_in_sections}
-use Rattle.fv_canon.specs.Layouts.{LaysSections, LaysBody, LaysVolume}
+use Rattle.fv_canon.specs.ImageOf.{body_image, starts_in}
+use Rattle.fv_canon.specs.Volumes.{volumes_in, volumes_in_body, volumes_in_file, volumes_in_files, volumes_in_section, volumes_in_sections}
 use Rattle.fv_base.specs.Flash.{erased_byte}
 use Rattle.fv_base.specs.Value.{up_to_8}
 use Rattle.fv_file.specs.NewHeaders.{file_head_of}
 use Rattle.fv_tree.specs.Meaning.{ContentMeaning, FileMeaning, files_from, file_name_of, file_kind_of, attributes_of, content_of}
 use Rattle.fv_tree.specs.Meaning.{data_len_of}
-use Rattle.fv_canon.specs.ImageOf.{stored_of, stored_file, data_of, starts_in_file, starts_in_files}
-use Rattle.fv_canon.specs.Layouts.{LaysFiles}
+use Rattle.fv_canon.specs.ImageOf.{stored_of, stored_file, data_of}
 use Rattle.fv_canon.specs.StoredWalks.{files_bytes}
 use Rattle.fv_canon.specs.StoredFiles.{stored_bytes, gap_bytes, size_for, file_sum_for}
 use Rattle.fv_canon.specs.Placed.{ArePlaced}
@@ -46,11 +45,11 @@ put_body-put_sections-requires g t c κs within =
     ap (λ (b : Body). body_size (body_view b)) c.in-Group.is in
     let same : sections_size (sections_from c.as_slice.result.now) ≡ sections_size (sections_from c.in-Group.sections.items) =
     ap (λ (xs : List SectionMeaning). sections_size (sections_from xs)) c.as_slice.ensures.value in
-    let laid = subst (λ (b : Body). BeginsWithStarts LaysBody (body_view b) c.args.starts.now) c.in-Group.is c.requires.laid in (
+    let laid = subst (λ (b : Body). BeginsWithStarts (volumes_in_body (body_view b)) c.args.starts.now) c.in-Group.is c.requires.laid in (
       omega (arith, c.decreases, is, same),
       (
         within,
-        subst (λ (xs : List SectionMeaning). BeginsWithStarts LaysSections (sections_from xs) c.args.starts.now)
+        subst (λ (xs : List SectionMeaning). BeginsWithStarts (volumes_in_sections (sections_from xs)) c.args.starts.now)
             (sym c.as_slice.ensures.value) laid,
       ),
     )
@@ -59,11 +58,11 @@ pub put_body-put_volume-requires : goal.put_body-put_volume-requires
 put_body-put_volume-requires g t c κs within =
     let is : body_size (body_view c.args.body.now) ≡ volume_size c.in-Nested.volume.value =
     ap (λ (b : Body). body_size (body_view b)) c.in-Nested.is in
-    let laid = subst (λ (b : Body). BeginsWithStarts LaysBody (body_view b) c.args.starts.now) c.in-Nested.is c.requires.laid in
+    let laid = subst (λ (b : Body). BeginsWithStarts (volumes_in_body (body_view b)) c.args.starts.now) c.in-Nested.is c.requires.laid in
     let size : volume_size c.deref.result.now ≡ volume_size c.in-Nested.volume.value =
     ap (λ (m : Meaning). volume_size m) c.deref.ensures in (
       omega (arith, c.decreases, is, size),
-      (within, subst (λ (m : Meaning). BeginsWithStarts LaysVolume m c.args.starts.now) (sym c.deref.ensures) laid),
+      (within, subst (λ (m : Meaning). BeginsWithStarts (volumes_in m) c.args.starts.now) (sym c.deref.ensures) laid),
     )
 
 pub put_sections-put_section_head-requires : goal.put_sections-put_section_head-requires
@@ -80,7 +79,7 @@ put_sections-put_body-rest-requires g t c κs within =
       omega (arith, c.decreases, less, same),
       (
         within,
-        subst (λ (b : BodyMeaning). BeginsWithStarts LaysBody b c.loop-section.rest.now) (sym c.body.ensures)
+        subst (λ (b : BodyMeaning). BeginsWithStarts (volumes_in_body b) c.loop-section.rest.now) (sym c.body.ensures)
             (body_laid c.section-item.result c.loop-section.rest.now l.0),
       ),
     )
@@ -98,27 +97,27 @@ put_sections-loop-section-preserved g t c =
     let rest : List ℕ = c.loop-section.rest.now in
     let l = item_laid ss i s rest c.loop-section-test.true c.section-item.is c.loop-section.invariant.laid in
     let k = section_known s rest c.kind-kind.ensures.read l.0 in
-    let next : c.put_body-rest.result.now ≡ drop (starts_in_section s) rest = c.put_body-rest.ensures.rest
-    ∙ ap (λ (b : BodyMeaning). drop (starts_in_body b) rest) c.body.ensures ∙ ap (λ (n : ℕ). drop n rest) (sym (in_body s)) in
+    let next : c.put_body-rest.result.now ≡ drop (starts_in (volumes_in_section s)) rest = c.put_body-rest.ensures.rest
+    ∙ ap (λ (b : BodyMeaning). drop (starts_in (volumes_in_body b)) rest) c.body.ensures ∙ ap (λ (n : ℕ). drop n rest) (sym (in_body s)) in
     let body = subst (λ (b : BodyMeaning). ImageTakes g.S.Sink.takes c.put_section_head.new.out (body_image b rest) c.put_body-rest.new.out)
     c.body.ensures c.put_body-rest.ensures.bytes in
     record {
       small = few (section_len s) c.filler_of-gap.result c.filler_of-gap.ensures;
-      laid = subst (λ (xs : List ℕ). BeginsWithStarts LaysSections (sections_from (drop (i + 1) ss)) xs) (sym next) l.1;
-      left = ap (λ (xs : List ℕ). drop (starts_in_sections (sections_from (drop (i + 1) ss))) xs) next
+      laid = subst (λ (xs : List ℕ). BeginsWithStarts (volumes_in_sections (sections_from (drop (i + 1) ss))) xs) (sym next) l.1;
+      left = ap (λ (xs : List ℕ). drop (starts_in (volumes_in_sections (sections_from (drop (i + 1) ss)))) xs) next
           ∙ sym (left_is ss i s rest c.loop-section-test.true c.section-item.is) ∙ c.loop-section.invariant.left;
       done = subst (λ (xs : List ℕ). TakesFront (ImageTakes g.S.Sink.takes) c.args.out.now c.put_body-rest.new.out (sections_bytes 0
           (sections_from ss)
           c.args.starts.now) (sections_bytes c.filler_of-gap.result (sections_from (drop (i + 1) ss)) xs)) (sym next)
           (subst (λ (n : ℕ). TakesFront (ImageTakes g.S.Sink.takes) c.args.out.now c.put_body-rest.new.out (sections_bytes 0 (sections_from
           ss)
-          c.args.starts.now) (sections_bytes n (sections_from (drop (i + 1) ss)) (drop (starts_in_section s) rest)))
+          c.args.starts.now) (sections_bytes n (sections_from (drop (i + 1) ss)) (drop (starts_in (volumes_in_section s)) rest)))
           (sym c.filler_of-gap.ensures) (front_more (ImageTakes g.S.Sink.takes) (image_by g.S.Sink.laws) c.args.out.now c.loop-section.out
           c.fill.new.out
           c.put_section_head.new.out c.put_body-rest.new.out (sections_bytes 0 (sections_from ss) c.args.starts.now)
           (sections_bytes c.loop-section.gap (sections_from (drop i ss)) rest) (replicate c.loop-section.gap 0)
           (section_head_of (section_kind_of s) (section_is_extended s) (body_len (body_of s))) (body_image (body_of s) rest)
-          (sections_bytes (up_to_4 (section_len s) - section_len s) (sections_from (drop (i + 1) ss)) (drop (starts_in_section s) rest))
+          (sections_bytes (up_to_4 (section_len s) - section_len s) (sections_from (drop (i + 1) ss)) (drop (starts_in (volumes_in_section s)) rest))
           c.loop-section.invariant.done (goes_on ss i s rest c.loop-section.gap c.loop-section-test.true c.section-item.is k) c.fill.ensures
           c.put_section_head.ensures body));
     }
@@ -213,7 +212,7 @@ put_files-loop-i-preserved g t c =
     let sz : c.size_for.result ≡ size_for (data_len_of f) = c.size_for.ensures ∙ ap size_for c.data_len.ensures in
     let edge : c.up_to_8-edge.result ≡ up_to_8 (s + size_for (data_len_of f)) =
     c.up_to_8-edge.ensures ∙ ap (λ (n : ℕ). up_to_8 (s + n)) sz in
-    let next : c.put_file-rest.result.now ≡ drop (starts_in_file f) rest = c.put_file-rest.ensures.rest in
+    let next : c.put_file-rest.result.now ≡ drop (starts_in (volumes_in_file f)) rest = c.put_file-rest.ensures.rest in
     let filled = subst (λ (n : ℕ). ImageTakes g.S.Sink.takes c.put_file-rest.new.out
     (replicate (up_to_8 (s + size_for (data_len_of f)) - (s + size_for (data_len_of f))) n) c.fill.new.out) c.erased.ensures.value
     (subst (λ (n : ℕ). ImageTakes g.S.Sink.takes c.put_file-rest.new.out (replicate (up_to_8 (s + size_for (data_len_of f)) - (s + n))
@@ -225,19 +224,19 @@ put_files-loop-i-preserved g t c =
     record {
       placed = subst (λ (n : ℕ). ArePlaced total n (drop (i + 1) fs) (drop (i + 1) own)) (sym edge)
           (placed_on total c.loop-i.edge f (drop (i + 1) fs) s (drop (i + 1) own) at.placed);
-      laid = subst (λ (xs : List ℕ). BeginsWithStarts LaysFiles (files_from (drop (i + 1) fs)) xs) (sym next) l.1;
-      left = ap (λ (xs : List ℕ). drop (starts_in_files (files_from (drop (i + 1) fs))) xs) next
+      laid = subst (λ (xs : List ℕ). BeginsWithStarts (volumes_in_files (files_from (drop (i + 1) fs))) xs) (sym next) l.1;
+      left = ap (λ (xs : List ℕ). drop (starts_in (volumes_in_files (files_from (drop (i + 1) fs)))) xs) next
           ∙ sym (files_left fs i f rest c.loop-i-test.true c.index-files-i.is) ∙ c.loop-i.invariant.left;
       done = subst (λ (xs : List ℕ). TakesFront (ImageTakes g.S.Sink.takes) c.args.out.now c.fill.new.out whole
           (files_bytes p total c.up_to_8-edge.result (stored_of (files_from (drop (i + 1) fs)) xs) (drop (i + 1) own))) (sym next)
           (subst (λ (n : ℕ). TakesFront (ImageTakes g.S.Sink.takes) c.args.out.now c.fill.new.out whole
-          (files_bytes p total n (stored_of (files_from (drop (i + 1) fs)) (drop (starts_in_file f) rest)) (drop (i + 1) own))) (sym edge)
+          (files_bytes p total n (stored_of (files_from (drop (i + 1) fs)) (drop (starts_in (volumes_in_file f)) rest)) (drop (i + 1) own))) (sym edge)
           (front_more (ImageTakes g.S.Sink.takes) (image_by g.S.Sink.laws) c.args.out.now c.loop-i.out c.put_gap.new.out
           c.put_file-rest.new.out c.fill.new.out
           whole (files_bytes p total c.loop-i.edge (stored_of (files_from (drop i fs)) rest) (drop i own)) (gap_bytes p (s - c.loop-i.edge))
           (stored_bytes p (stored_file f rest)) (replicate (up_to_8 (s + size_for (data_len_of f)) - (s + size_for (data_len_of f)))
           (erased_byte p)) (files_bytes p total (up_to_8 (s + size_for (data_len_of f)))
-          (stored_of (files_from (drop (i + 1) fs)) (drop (starts_in_file f) rest)) (drop (i + 1) own)) c.loop-i.invariant.done (walk_goes p
+          (stored_of (files_from (drop (i + 1) fs)) (drop (starts_in (volumes_in_file f)) rest)) (drop (i + 1) own)) c.loop-i.invariant.done (walk_goes p
           total c.loop-i.edge fs own i f rest at (size_is f rest long)) c.put_gap.ensures c.put_file-rest.ensures.bytes filled));
     }
 
@@ -270,7 +269,7 @@ put_volume-put_files-requires g t c κs within =
         within,
         (
           subst (λ (n : ℕ). ArePlaced n c.first_edge-first.result fs c.split_at.result.0.now) (sym c.length.ensures) placed,
-          subst (λ (xs : List ℕ). BeginsWithStarts LaysFiles (files_from fs) xs) (sym c.split_at.ensures.back) v.inner,
+          subst (λ (xs : List ℕ). BeginsWithStarts (volumes_in_files (files_from fs)) xs) (sym c.split_at.ensures.back) v.inner,
         ),
       ),
     )
@@ -310,9 +309,9 @@ put_volume-returns-clause-rest g t c =
     let h : HeadFields = c.head-head.result.now in
     let fs : List FileMeaning = c.files-files.result.now in
     let is = volume_is c.args.volume.now h fs c.files-files.ensures c.head-head.ensures.head in
-    let k : ℕ = starts_in_files (files_from fs) in
+    let k : ℕ = starts_in (volumes_in_files (files_from fs)) in
     c.put_files.ensures.rest ∙ ap (drop k) c.split_at.ensures.back ∙ drop-drop k (length fs) c.args.starts.now
-    ∙ ap (λ (j : ℕ). drop j c.args.starts.now) (sym (volume_left h fs) ∙ ap starts_in (sym is))
+    ∙ ap (λ (j : ℕ). drop j c.args.starts.now) (sym (volume_left h fs) ∙ ap (λ m. starts_in (volumes_in m)) (sym is))
 
 pub put_files-returns-clause-bytes : goal.put_files-returns-clause-bytes
 put_files-returns-clause-bytes g t c =

@@ -2,8 +2,8 @@ use Rattle.std.proofs.Common.{◌≡◌, ◌+◌, ◌-◌, ◌*◌, ◌≤◌, d
 use Rattle.fv_tree.specs.Meaning.{sections_from, files_from}
 use Rattle.fv_tree.specs.Sizes.{volume_size, files_size, file_size, content_size, sections_size, body_size}
 use Rattle.fv_tree.specs.Views.{body_view, content_view}
-use Rattle.fv_canon.specs.Layouts.{LaysSections, LaysFiles}
-use Rattle.fv_canon.specs.ImageOf.{starts_in_sections, starts_in_files, stored_of}
+use Rattle.fv_canon.specs.ImageOf.{stored_of, starts_in}
+use Rattle.fv_canon.specs.Volumes.{volumes_in_sections, volumes_in_files}
 use Rattle.fv_canon.specs.ImageWalks.{sections_bytes, BeginsWithStarts, TakesFront}
 use Rattle.fv_canon.specs.StoredWalks.{files_bytes}
 use Rattle.fv_canon.specs.Placed.{ArePlaced}
@@ -13,9 +13,9 @@ use Rattle.fv_canon.proofs.image_walk.+put.Given as goal
 abbrev pub invariant-put_sections-loop-section : goal.invariant-put_sections-loop-section
 invariant-put_sections-loop-section g l = record {
   small : l.gap ≤ 3;
-  laid : BeginsWithStarts LaysSections (sections_from (drop l.section-index l.sections)) l.rest;
-  left : drop (starts_in_sections (sections_from (drop l.section-index l.sections))) l.rest
-      ≡ drop (starts_in_sections (sections_from l.sections)) l.starts;
+  laid : BeginsWithStarts (volumes_in_sections (sections_from (drop l.section-index l.sections))) l.rest;
+  left : drop (starts_in (volumes_in_sections (sections_from (drop l.section-index l.sections)))) l.rest
+      ≡ drop (starts_in (volumes_in_sections (sections_from l.sections))) l.starts;
   done : TakesFront (ImageTakes g.S.Sink.takes) l.initial.out l.out (sections_bytes 0 (sections_from l.sections) l.starts)
       (sections_bytes l.gap (sections_from (drop l.section-index l.sections)) l.rest);
 }
@@ -44,8 +44,8 @@ decreases-put_files g l = 4 * files_size (files_from l.files.now) + 2
 abbrev pub invariant-put_files-loop-i : goal.invariant-put_files-loop-i
 invariant-put_files-loop-i g l = record {
   placed : ArePlaced l.total l.edge (drop l.i l.files) (drop l.i l.own);
-  laid : BeginsWithStarts LaysFiles (files_from (drop l.i l.files)) l.rest;
-  left : drop (starts_in_files (files_from (drop l.i l.files))) l.rest ≡ drop (starts_in_files (files_from l.files)) l.starts;
+  laid : BeginsWithStarts (volumes_in_files (files_from (drop l.i l.files))) l.rest;
+  left : drop (starts_in (volumes_in_files (files_from (drop l.i l.files)))) l.rest ≡ drop (starts_in (volumes_in_files (files_from l.files))) l.starts;
   done :
       TakesFront (ImageTakes g.S.Sink.takes) l.initial.out l.out
       (files_bytes l.polarity l.total l.first (stored_of (files_from l.files) l.starts) l.own)

@@ -1,8 +1,8 @@
-use Rattle.std.proofs.Common.{ℕ, List, ap, ◌∙◌, arith, add-one}
-use Rattle.fv_tree.specs.Meaning.{SectionMeaning, FileMeaning, body_of, content_of, files_from, sections_from}
-use Rattle.fv_canon.specs.Layouts.{LaysBody, LaysContent, LaysFiles, LaysSections, UnfitFiles, UnfitSections}
-use Rattle.fv_canon.proofs.LayoutWalkLaws.{lays_push, shallow_at, unfit_at, file_push, shallow_file_at, unfit_file_at}
-use Rattle.fv_canon.proofs.LayoutWalkLaws.{grew_on, unfit_passed}
+use Rattle.std.proofs.Common.{ℕ, List, arith}
+use Rattle.fv_tree.specs.Meaning.{SectionMeaning, FileMeaning, files_from, sections_from}
+use Rattle.fv_canon.specs.Layouts.{FirstUnfit}
+use Rattle.fv_canon.specs.Volumes.{volumes_in_files, volumes_in_sections}
+use Rattle.fv_canon.proofs.LayoutWalkLaws.{section_grew, shallow_at, section_unfit, file_grew, shallow_file_at, file_unfit, unfit_passed}
 use Rattle.fv_canon.proofs.layout_walk.+lay.Goals as goal
 use Rattle.fv_tree.proofs.Laws.{file_content_falls, section_body_falls}
 
@@ -18,17 +18,16 @@ lay_sections-lay_body-requires t c =
 
 pub lay_sections-returns-in_err-lay_body-clause-err : goal.lay_sections-returns-in_err-lay_body-clause-err
 lay_sections-returns-in_err-lay_body-clause-err t c =
-    let body = c.body.ensures ∙ ap body_of c.section-item.is in
-    unfit_passed (UnfitSections (sections_from c.args.sections.now) c.args.depth) c.from_residual.result _ c.from_residual.ensures.1
-    c.in_err-lay_body.ensures.err (λ unfit. unfit_at c.args.sections.now c.loop-section.section-index c.section-item.result
-    c.loop-section.invariant.0 c.args.depth _ c.loop-section-test.true c.loop-section.invariant.2 (rw body at unfit))
+    let ss : List SectionMeaning = c.args.sections.now in
+    unfit_passed (FirstUnfit (volumes_in_sections (sections_from ss)) c.args.depth) c.from_residual.result _ c.from_residual.ensures.1
+    c.in_err-lay_body.ensures.err (λ unfit. section_unfit ss c.loop-section.section-index c.section-item.result _ _ c.args.depth _
+    c.loop-section-test.true c.section-item.is c.loop-section.invariant (rw c.body.ensures at unfit))
 
 pub lay_sections-loop-section-preserved : goal.lay_sections-loop-section-preserved
 lay_sections-loop-section-preserved t c =
-    let body = c.body.ensures ∙ ap body_of c.section-item.is in
-    rw add-one (grew_on LaysSections LaysBody LaysSections _ _ _ _ _ _ (λ a b p q. lays_push c.args.sections.now
-    c.loop-section.section-index c.section-item.result a b c.loop-section-test.true p (rw body at q))
-    c.loop-section.invariant c.in_ok-lay_body.ensures.ok)
+    let more = c.in_ok-lay_body.ensures.ok in
+    section_grew c.args.sections.now c.loop-section.section-index c.section-item.result _ _ _ c.loop-section-test.true c.section-item.is
+    c.loop-section.invariant (rw c.body.ensures at more)
 
 pub lay_files-lay_content-requires : goal.lay_files-lay_content-requires
 lay_files-lay_content-requires t c =
@@ -42,14 +41,13 @@ lay_files-lay_content-requires t c =
 
 pub lay_files-returns-in_err-lay_content-clause-err : goal.lay_files-returns-in_err-lay_content-clause-err
 lay_files-returns-in_err-lay_content-clause-err t c =
-    let content = c.content.ensures ∙ ap content_of c.file-item.is in
-    unfit_passed (UnfitFiles (files_from c.args.files.now) c.args.depth) c.from_residual.result _ c.from_residual.ensures.1
-    c.in_err-lay_content.ensures.err (λ unfit. unfit_file_at c.args.files.now c.loop-file.file-index c.file-item.result
-    c.loop-file.invariant.0 c.args.depth _ c.loop-file-test.true c.loop-file.invariant.2 (rw content at unfit))
+    let fs : List FileMeaning = c.args.files.now in
+    unfit_passed (FirstUnfit (volumes_in_files (files_from fs)) c.args.depth) c.from_residual.result _ c.from_residual.ensures.1
+    c.in_err-lay_content.ensures.err (λ unfit. file_unfit fs c.loop-file.file-index c.file-item.result _ _ c.args.depth _
+    c.loop-file-test.true c.file-item.is c.loop-file.invariant (rw c.content.ensures at unfit))
 
 pub lay_files-loop-file-preserved : goal.lay_files-loop-file-preserved
 lay_files-loop-file-preserved t c =
-    let content = c.content.ensures ∙ ap content_of c.file-item.is in
-    rw add-one (grew_on LaysFiles LaysContent LaysFiles _ _ _ _ _ _ (λ a b p q. file_push c.args.files.now
-    c.loop-file.file-index c.file-item.result a b c.loop-file-test.true p (rw content at q))
-    c.loop-file.invariant c.in_ok-lay_content.ensures.ok)
+    let more = c.in_ok-lay_content.ensures.ok in
+    file_grew c.args.files.now c.loop-file.file-index c.file-item.result _ _ _ c.loop-file-test.true c.file-item.is
+    c.loop-file.invariant (rw c.content.ensures at more)

@@ -2,16 +2,16 @@ use Rattle.std.proofs.Common.{◌+◌, ◌*◌, take}
 use Rattle.fv_tree.specs.Meaning.{sections_from, files_from}
 use Rattle.fv_tree.specs.Sizes.{volume_size, files_size, content_size, sections_size, body_size}
 use Rattle.fv_tree.specs.Views.{body_view, content_view}
-use Rattle.fv_canon.specs.Layouts.{LaysSections, LaysFiles}
+use Rattle.fv_canon.specs.Volumes.{volumes_in_sections, volumes_in_files}
 use Rattle.fv_canon.specs.LayoutWalks.{Grew}
 use Rattle.fv_canon.proofs.layout_walk.+lay.Given as goal
 
 abbrev pub invariant-lay_files-loop-file : goal.invariant-lay_files-loop-file
-invariant-lay_files-loop-file l = Grew LaysFiles (files_from (take l.file-index l.files)) l.initial.starts.items l.starts.items
+invariant-lay_files-loop-file l = Grew (volumes_in_files (files_from (take l.file-index l.files))) l.initial.starts.items l.starts.items
 
 abbrev pub invariant-lay_sections-loop-section : goal.invariant-lay_sections-loop-section
 invariant-lay_sections-loop-section l =
-    Grew LaysSections (sections_from (take l.section-index l.sections)) l.initial.starts.items l.starts.items
+    Grew (volumes_in_sections (sections_from (take l.section-index l.sections))) l.initial.starts.items l.starts.items
 
 -- each walk is over something smaller, and a walk over one thing over what it holds
 abbrev pub decreases-lay_volume : goal.decreases-lay_volume

@@ -1,8 +1,9 @@
 use Rattle.std.proofs.Common.{sym, ap, ◌∙◌, subst}
 use Rattle.fv_tree.specs.Meaning.{sections_from}
 use Rattle.fv_tree.specs.Views.{body_view}
-use Rattle.fv_canon.specs.Layouts.{FitsBody}
-use Rattle.fv_canon.proofs.FitLaws.{unfit_none, unfit_sections_none}
+use Rattle.fv_canon.specs.Layouts.{AllFit}
+use Rattle.fv_canon.specs.Volumes.{volumes_in, volumes_in_body, volumes_in_sections}
+use Rattle.fv_canon.proofs.FitLaws.{first_none}
 use Rattle.fv_canon.proofs.LayoutWalkLaws.{only_memory, shallow_group, shallow_nested}
 use Rattle.fv_canon.proofs.layout_walk.layout_of_body.Goals as goal
 
@@ -18,12 +19,12 @@ lay_volume-requires c =
 
 pub returns-in_err-lay_sections-in-Group-clause-fits : goal.returns-in_err-lay_sections-in-Group-clause-fits
 returns-in_err-lay_sections-in-Group-clause-fits c fit =
-    let fits = subst FitsBody (sym c.body.ensures ∙ ap body_view c.in-Group.is) fit in
+    let fits = subst (λ b. AllFit (volumes_in_body b)) (sym c.body.ensures ∙ ap body_view c.in-Group.is) fit in
     only_memory c.from_residual.result _ c.from_residual.ensures.1 c.in_err-lay_sections-in-Group.ensures.err
-    (λ unfit. unfit_sections_none (sections_from c.in-Group.sections.items) 0 _ (rw c.as_slice.ensures.value at unfit) fits)
+    (λ unfit. first_none (volumes_in_sections (sections_from c.in-Group.sections.items)) 0 _ (rw c.as_slice.ensures.value at unfit) fits)
 
 pub returns-in_err-lay_volume-in-Nested-clause-fits : goal.returns-in_err-lay_volume-in-Nested-clause-fits
 returns-in_err-lay_volume-in-Nested-clause-fits c fit =
-    let fits = subst FitsBody (sym c.body.ensures ∙ ap body_view c.in-Nested.is) fit in
+    let fits = subst (λ b. AllFit (volumes_in_body b)) (sym c.body.ensures ∙ ap body_view c.in-Nested.is) fit in
     only_memory c.from_residual-in_err-lay_volume-in-Nested.result _ c.from_residual-in_err-lay_volume-in-Nested.ensures.1
-    c.in_err-lay_volume-in-Nested.ensures.err (λ unfit. unfit_none c.in-Nested.volume.value 0 _ (rw c.deref.ensures at unfit) fits)
+    c.in_err-lay_volume-in-Nested.ensures.err (λ unfit. first_none (volumes_in c.in-Nested.volume.value) 0 _ (rw c.deref.ensures at unfit) fits)

@@ -1,5 +1,6 @@
 use Rattle.fv_tree.specs.Meaning.{content_of}
-use Rattle.fv_canon.proofs.FitLaws.{unfit_content_none}
+use Rattle.fv_canon.specs.Volumes.{volumes_in_content}
+use Rattle.fv_canon.proofs.FitLaws.{first_none}
 use Rattle.fv_canon.proofs.LayoutWalkLaws.{only_memory, shallow_content}
 use Rattle.fv_canon.proofs.layout_walk.layout_of_content.Goals as goal
 
@@ -9,4 +10,4 @@ lay_content-requires c = record { shallow = rw c.content.ensures (shallow_conten
 pub returns-in_err-lay_content-clause-fits : goal.returns-in_err-lay_content-clause-fits
 returns-in_err-lay_content-clause-fits c fit =
     only_memory c.from_residual.result _ c.from_residual.ensures.1 c.in_err-lay_content.ensures.err
-    (λ unfit. unfit_content_none (content_of c.args.file.now) 0 _ (rw c.content.ensures at unfit) fit)
+    (λ unfit. first_none (volumes_in_content (content_of c.args.file.now)) 0 _ (rw c.content.ensures at unfit) fit)

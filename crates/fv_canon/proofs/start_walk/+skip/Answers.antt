@@ -2,7 +2,8 @@ use Rattle.std.proofs.Common.{◌≡◌, ◌+◌, ℕ, List, length, drop, drop-
 use Rattle.fv_head.specs.Head.{HeadFields}
 use Rattle.fv_tree.specs.Meaning.{SectionMeaning, FileMeaning, files_from}
 use Rattle.fv_tree.specs.Sizes.{volume_size, files_size}
-use Rattle.fv_canon.specs.ImageOf.{starts_in, starts_in_files}
+use Rattle.fv_canon.specs.ImageOf.{starts_in}
+use Rattle.fv_canon.specs.Volumes.{volumes_in, volumes_in_files}
 use Rattle.fv_canon.proofs.FileLaws.{file_laid, files_left, in_content, content_laid}
 use Rattle.fv_canon.proofs.SectionLaws.{item_laid, in_body, body_laid, left_is}
 use Rattle.fv_canon.proofs.VolumeWalks.{VolumeLaid, volume_is, volume_seen, volume_left}
@@ -75,6 +76,6 @@ skip_volume-returns t c =
     let h : HeadFields = c.head-head.result.now in
     let fs : List FileMeaning = c.files-files.result.now in
     let is = volume_is c.args.volume.now h fs c.files-files.ensures c.head-head.ensures.head in
-    let k : ℕ = starts_in_files (files_from fs) in
+    let k : ℕ = starts_in (volumes_in_files (files_from fs)) in
     c.skip_files.ensures ∙ ap (drop k) c.split_at.ensures.back ∙ drop-drop k (length fs) c.args.starts.now
-    ∙ ap (λ (j : ℕ). drop j c.args.starts.now) (sym (volume_left h fs) ∙ ap starts_in (sym is))
+    ∙ ap (λ (j : ℕ). drop j c.args.starts.now) (sym (volume_left h fs) ∙ ap (λ m. starts_in (volumes_in m)) (sym is))

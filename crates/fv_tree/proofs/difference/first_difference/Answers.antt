@@ -2,13 +2,13 @@ use Rattle.std.proofs.Common.{sym, ap, ◌∙◌}
 use Rattle.std.proofs.lemmas.Result.{err_from_is_err_and}
 use Rattle.fv_tree.specs.DifferenceWalks.{outermost_first}
 use Rattle.fv_tree.proofs.DifferenceLaws.{one_volume}
-use Rattle.fv_tree.proofs.DifferenceWalkLaws.{no_other, differ_told}
+use Rattle.fv_tree.proofs.DifferenceWalkLaws.{steps_differ, differ_told}
 use Rattle.fv_tree.proofs.difference.first_difference.Goals as goal
 
 pub returns-in_err-found-clause-memory : goal.returns-in_err-found-clause-memory
 returns-in_err-found-clause-memory c =
     let p = err_from_is_err_and c.from_residual.result c.from_residual.ensures.1 in
-    rw p.1 (λ same. c.in_err-found.ensures.1 (no_other c.args.a.now c.args.b.now same))
+    rw p.1 (steps_differ c.args.a.now c.args.b.now c.in_err-found.ensures.1, c.in_err-found.ensures.1)
 
 pub returns-in_default-clause-same : goal.returns-in_default-clause-same
 returns-in_default-clause-same c = one_volume c.args.a.now c.args.b.now (sym c.in_ok-found.ensures ∙ ap outermost_first c.in_default.is)

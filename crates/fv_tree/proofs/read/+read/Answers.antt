@@ -3,6 +3,7 @@ use Rattle.std.specs.Prelude.{◌⊎◌, Result, Ok, Err, IfErr, IsErrAnd}
 use Rattle.fv_base.specs.Faults.{want_of_memory}
 use Rattle.fv_base.specs.Checks.{IsFirstFault}
 use Rattle.fv_base.specs.declared.fault.Fault.{Fault}
+use Rattle.fv_base.specs.declared.fault.Place.{Place}
 use Rattle.fv_base.proofs.Laws.{bytes_take}
 use Rattle.fv_base.specs.Value.{IsBytes}
 use Rattle.fv_head.specs.Head.{HeadFields, BeginsVolume}
@@ -14,17 +15,18 @@ use Rattle.fv_section.proofs.Laws.{grows, none_after, stands_within}
 use Rattle.fv_tree.specs.ReadingParts.{IsReadyFile}
 use Rattle.fv_tree.specs.Denotes.{MeansFile, MeansSection, Stream}
 use Rattle.fv_tree.specs.Files.{FileForm}
-use Rattle.fv_tree.specs.FirstFault.{FileFirst, FirstInStream}
+use Rattle.fv_tree.specs.FailingChecks.{First}
+use Rattle.fv_tree.specs.FirstFault.{FileFault, InStream, data_at}
 use Rattle.fv_tree.specs.Meaning.{Meaning, File, Section, Group, Nested, sections_from}
 use Rattle.fv_tree.specs.StandingForms.{file_form}
 use Rattle.fv_tree.specs.Views.{content_view}
-use Rattle.fv_tree.proofs.BodyLaws.{body_found, body_only, body_none, files_none, stand_first, files_first}
+use Rattle.fv_tree.proofs.BodyLaws.{body_found, body_only, body_none, files_none, files_first}
 use Rattle.fv_tree.proofs.FileLaws.{stream_reads, file_found, file_one, stream_bad}
 use Rattle.fv_tree.proofs.LengthLaws.{body_long, content_long}
 use Rattle.fv_tree.proofs.ListPairs.{pairs_empty, of_item, kept_pairs, kept_only, unread, first_refused, all_pairs, all_only}
 use Rattle.fv_tree.proofs.SectionLaws.{leaf_shape, group_shape, volume_shape, leaf_is, leaf_only, group_found, group_one, group_bad}
-use Rattle.fv_tree.proofs.SectionLaws.{group_first, nested_found, nested_one, nested_bad, nested_first, deep_bad, deep_fault}
-use Rattle.fv_tree.proofs.StreamLaws.{stands_ready, uncut_first, walk_begun, walk_more, walk_none, walk_first, walk_goes_on}
+use Rattle.fv_tree.proofs.SectionLaws.{one_place, group_first, nested_found, nested_one, nested_bad, nested_first, deep_bad, deep_fault}
+use Rattle.fv_tree.proofs.StreamLaws.{stands_ready, walk_begun, walk_more, walk_none, walk_first, walk_goes_on}
 use Rattle.fv_tree.proofs.StreamLaws.{walk_found, walk_only}
 use Rattle.fv_tree.proofs.VolumeLaws.{made, no_other, no_files, head_unread, head_known, head_first, body_first}
 use Rattle.fv_tree.proofs.VolumeLaws.{opened_whole}
@@ -64,7 +66,7 @@ pub read_files-returns-in_err-view-clause-first : goal.read_files-returns-in_err
 read_files-returns-in_err-view-clause-first t c =
     passed _ _ _ c.from_residual-in_err-view.ensures.1
     (λ ne. first_refused (MeansFile (Stream c.args.left)) file_form c.args.files.now c.loop-file.file-index no_file
-    (λ f. FileFirst (FirstInStream c.args.left) c.in_err-view.field-0.0 f c.args.place.offset c.args.place.depth)
+    (λ f. FileFault (InStream First c.args.left) c.in_err-view.field-0.0 f c.args.place)
     c.loop-file.views.items c.loop-file-test.true c.loop-file.invariant.pairs (c.in_err-view.ensures.first ne))
 
 pub read_files-returns-in_err-push-clause-none : goal.read_files-returns-in_err-push-clause-none
@@ -100,9 +102,10 @@ read_content-returns-in_err-sections-clause-none t c =
 
 pub read_content-returns-in_err-sections-clause-first : goal.read_content-returns-in_err-sections-clause-first
 read_content-returns-in_err-sections-clause-first t c =
-    let P : ℕ → Type 0 = λ b. FirstInStream c.args.left c.in_err-sections.field-0.0 c.args.file.now.payload.now b c.args.place.depth in
+    let P : Place → Type 0 = λ i. InStream First c.args.left c.in_err-sections.field-0.0 c.args.file.now.payload.now i in
+    let same = one_place _ (data_at c.args.place (file_form c.args.file.now)) (omega arith) refl in
     passed _ _ _ c.from_residual.ensures.1
-    (λ ne. (sym c.holds_sections.ensures ∙ c.if-not-holds_sections.false, subst P (omega arith) (c.in_err-sections.ensures.first ne)))
+    (λ ne. (sym c.holds_sections.ensures ∙ c.if-not-holds_sections.false, subst P same (c.in_err-sections.ensures.first ne)))
 
 pub read_content-returns-clause-found : goal.read_content-returns-clause-found
 read_content-returns-clause-found t c =
@@ -154,8 +157,7 @@ read_body-returns-in_err-files-clause-none t c =
 pub read_body-returns-in_err-files-clause-first : goal.read_body-returns-in_err-files-clause-first
 read_body-returns-in_err-files-clause-first t c =
     passed _ _ _ c.from_residual.ensures.1
-    (λ ne. stand_first (Stream c.args.left) (FirstInStream c.args.left) c.args.extent c.args.volume.now c.args.place.offset
-    c.args.place.depth c.in_err-files.field-0.0 (c.in_err-files.ensures.first ne))
+    (λ ne. inl (c.in_err-files.ensures.first ne))
 
 pub read_body-read_files-requires : goal.read_body-read_files-requires
 read_body-read_files-requires t c =
@@ -170,8 +172,8 @@ read_body-returns-in_err-views-clause-none t c =
 pub read_body-returns-in_err-views-clause-first : goal.read_body-returns-in_err-views-clause-first
 read_body-returns-in_err-views-clause-first t c =
     passed _ _ _ c.from_residual-in_err-views.ensures.1
-    (λ ne. files_first (Stream c.args.left) (FirstInStream c.args.left) c.args.extent c.args.volume.now c.args.place.offset
-    c.args.place.depth (map file_form c.in_ok-files.files.items) c.in_err-views.field-0.0 c.in_ok-files.ensures.found
+    (λ ne. files_first c.args.left (InStream First c.args.left) c.args.extent c.args.volume.now c.args.place
+    (map file_form c.in_ok-files.files.items) c.in_err-views.field-0.0 c.in_ok-files.ensures.found
     (rw c.as_slice.ensures.value at (c.in_err-views.ensures.first ne)))
 
 pub read_body-returns-clause-found : goal.read_body-returns-clause-found
@@ -202,7 +204,7 @@ read_at-returns-in-Err-clause-none t c = λ ne n m within d.
 
 pub read_at-returns-in-Err-clause-first : goal.read_at-returns-in-Err-clause-first
 read_at-returns-in-Err-clause-first t c = λ ne.
-    head_first c.args.left c.args.bytes.now c.in-Err.fault c.within.result c.args.place.offset c.args.place.depth c.in-Err.ensures.first
+    head_first c.args.left c.args.bytes.now c.in-Err.fault c.within.result c.args.place c.in-Err.ensures.first
     (c.within.ensures.moved ne).0 (c.within.ensures.moved ne).1
 
 pub read_at-returns-in-Err-clause-memory : goal.read_at-returns-in-Err-clause-memory
@@ -223,7 +225,7 @@ pub read_at-returns-in_err-files-clause-first : goal.read_at-returns-in_err-file
 read_at-returns-in_err-files-clause-first t c =
     passed _ _ _ c.from_residual.ensures.1
     (λ ne. body_first c.args.left c.args.bytes.now c.in-Ok.read.0 c.in-Ok.read.1 c.in_err-files.field-0.0
-    c.args.place.offset c.args.place.depth c.in-Ok.ensures.found (c.in_err-files.ensures.first ne))
+    c.args.place c.in-Ok.ensures.found (c.in_err-files.ensures.first ne))
 
 pub read_at-new-requires-clause-meaning : goal.read_at-new-requires-clause-meaning
 read_at-new-requires-clause-meaning t c =
@@ -284,8 +286,7 @@ read_stream-returns-in-Err-clause-none t c = λ ne ss tail h.
 
 pub read_stream-returns-in-Err-clause-first : goal.read_stream-returns-in-Err-clause-first
 read_stream-returns-in-Err-clause-first t c = λ ne.
-    uncut_first c.args.left c.args.bytes.now c.in-Err.fault c.within.result c.args.place.offset c.args.place.depth c.in-Err.ensures.first
-    (c.within.ensures.moved ne).1
+    inl (c.in-Err.fault, c.in-Err.ensures.first, (c.within.ensures.moved ne).1)
 
 pub read_stream-returns-in_err-frame-clause-none : goal.read_stream-returns-in_err-frame-clause-none
 read_stream-returns-in_err-frame-clause-none t c =
@@ -314,7 +315,7 @@ read_stream-returns-in_err-section-clause-first t c =
     let s = c.in-Ok.ensures.found in
     passed _ _ _ c.from_residual-in_err-section.ensures.1
     (λ ne. walk_first c.args.left c.args.bytes.now c.loop-sections.at c.loop-sections.sections.items
-    (framed.frame_form c.in-Some.frame) c.in_err-section.field-0.0 c.args.place.offset c.args.place.depth s.0 _
+    (framed.frame_form c.in-Some.frame) c.in_err-section.field-0.0 c.args.place s.0 _
     c.loop-sections.invariant.walked c.loop-sections.invariant.in_fours (rw c.in-Some.is at c.in_ok-frame.ensures.found) s.1
     (c.in_err-section.ensures.first ne))
 
@@ -344,8 +345,8 @@ read_section-returns-in_err-sections-in-Group-clause-first t c =
     let ok = c.in_ok-inside-in-Group.ensures.ok in
     passed _ _ _ c.from_residual-in_err-sections-in-Group.ensures.1
     (λ ne. group_first c.args.left c.in_ok-inside-in-Group.below (framed.frame_form c.args.frame.now)
-    c.in_err-sections-in-Group.field-0.0 c.args.place.offset c.args.place.depth c.in_ok-inside-in-Group.inside.offset
-    c.in_ok-inside-in-Group.inside.depth ok.0 (group_shape (framed.frame_form c.args.frame.now) (sym c.shape_of.ensures ∙ c.in-Group.is))
+    c.in_err-sections-in-Group.field-0.0 c.args.place c.in_ok-inside-in-Group.inside ok.0
+    (group_shape (framed.frame_form c.args.frame.now) (sym c.shape_of.ensures ∙ c.in-Group.is))
     ok.1 ok.2 (c.in_err-sections-in-Group.ensures.first ne))
 
 -- the group means what is made of it
@@ -392,7 +393,7 @@ pub read_section-returns-in_err-inside-in-Volume-clause-first : goal.read_sectio
 read_section-returns-in_err-inside-in-Volume-clause-first t c =
     let f : FrameForm = framed.frame_form c.args.frame.now in
     passed _ _ _ c.from_residual-in_err-inside-in-Volume.ensures.1
-    (λ ne. deep_fault c.args.left f c.in_err-inside-in-Volume.field-0.0 c.args.place.offset c.args.place.depth
+    (λ ne. deep_fault c.args.left f c.in_err-inside-in-Volume.field-0.0 c.args.place
     c.in_err-inside-in-Volume.ensures.err.0 (inr (volume_shape f (sym c.shape_of.ensures ∙ c.in-Volume.is)))
     c.in_err-inside-in-Volume.ensures.err.1)
 
@@ -408,8 +409,8 @@ read_section-returns-in_err-volume-in-Volume-clause-first t c =
     let ok = c.in_ok-inside-in-Volume.ensures.ok in
     let f : FrameForm = framed.frame_form c.args.frame.now in
     passed _ _ _ c.from_residual-in_err-volume-in-Volume.ensures.1
-    (λ ne. nested_first c.args.left c.in_ok-inside-in-Volume.below f c.in_err-volume-in-Volume.field-0.0 c.args.place.offset
-    c.args.place.depth c.in_ok-inside-in-Volume.inside.offset c.in_ok-inside-in-Volume.inside.depth ok.0
+    (λ ne. nested_first c.args.left c.in_ok-inside-in-Volume.below f c.in_err-volume-in-Volume.field-0.0 c.args.place
+    c.in_ok-inside-in-Volume.inside ok.0
     (volume_shape f (sym c.shape_of.ensures ∙ c.in-Volume.is)) ok.1 ok.2 (c.in_err-volume-in-Volume.ensures.first ne))
 
 -- the opened volume means what is made of it

@@ -48,11 +48,12 @@ returns-in-Err-alive_files-clause-none c = λ ne gs h.
 
 pub returns-in-Err-alive_files-clause-first : goal.returns-in-Err-alive_files-clause-first
 returns-in-Err-alive_files-clause-first c = λ ne.
-    let w = c.within-in-Err-alive_files.ensures.moved ne in
-    inr (
-      c.in-Ok.list,
-      c.in-Ok.ensures.found,
+    let w = c.within-in-Err-alive_files.ensures.moved ne in (
       c.in-Err-alive_files.fault,
-      rw (c.in_ok-files.ensures.found, c.as_slice.ensures) at (c.in-Err-alive_files.ensures.first w.0),
+      inr (
+        c.in-Ok.list,
+        c.in-Ok.ensures.found,
+        rw (c.in_ok-files.ensures.found, c.as_slice.ensures) at (c.in-Err-alive_files.ensures.first w.0),
+      ),
       w.1,
     )

@@ -1,4 +1,5 @@
 use Rattle.std.proofs.Common.{◌++◌, ◌∷◌, [], ℕ, List, sym, ap, ◌∙◌, subst, arith, append_assoc, append-nil}
+use Rattle.std.proofs.lemmas.Result.{err_from_is_err_and}
 use Rattle.fv_tree.specs.FoundWalks.{FoundFrom}
 use Rattle.fv_tree.proofs.ScanLaws.{at_multiple, at_within, walk_found, one_found}
 use Rattle.fv_tree.proofs.scanner.scan.Goals as goal
@@ -15,6 +16,12 @@ loop-at-preserved c =
           (sym (ap (λ l. l ++ os) c.in_ok-push.ensures.items ∙ append_assoc c.loop-at.list.items (at ∷ []) os))
           (c.loop-at.invariant.found (at ∷ os) (c.in-Some.len, s, f));
     }
+
+pub returns-in_err-push-clause-memory : goal.returns-in_err-push-clause-memory
+returns-in_err-push-clause-memory c =
+    let s = c.in-Some.ensures.some in
+    let p = err_from_is_err_and c.from_residual.result c.from_residual.ensures.1 in
+    rw p.1 (c.in-Some.at, (s.1, (c.in-Some.len, s.3)))
 
 pub returns-clause-found : goal.returns-clause-found
 returns-clause-found c =

@@ -20,12 +20,12 @@ returns-in_err-check_top-clause-first c =
     let es : List Entry = c.in_ok-numbers.numbers.sorted.items in
     let index : IsIndex (names_in fs) es =
     subst (λ (l : List Standing). IsIndex (names_in (map file_form l)) es) c.as_slice.ensures.value c.in_ok-numbers.ensures.found in
-    let distinct = c.are_distinct.ensures (subst IsTrue (sym c.if-not-are_distinct.false) refl) in
+    let distinct = c.are_distinct.ensures.distinct (subst IsTrue (sym c.if-not-are_distinct.false) refl) in
     let same = ap (map file_form) c.as_slice-2.ensures.value ∙ sym (alone_alive fs es index distinct) in
     let first =
     subst (λ (l : List FileForm). (f : FileForm) × TopElsewhere c.args.length f l
     × (c.in_err-check_top.field-0.0 ≡ outer_fault kinds.TopFile f.offset)) same c.in_err-check_top.ensures.first in
-    rw (p.1, p.2) (λ ne. inr (alone_twins fs es index distinct, first))
+    rw (p.1, p.2) (λ ne. inr (alone_twins fs es index distinct, first.0, first.1, first.2))
 
 pub returns-in_err-check_top-clause-bound : goal.returns-in_err-check_top-clause-bound
 returns-in_err-check_top-clause-bound c =
@@ -42,7 +42,7 @@ returns-clause-found c =
     let es : List Entry = c.in_ok-numbers.numbers.sorted.items in
     let index : IsIndex (names_in fs) es =
     subst (λ (l : List Standing). IsIndex (names_in (map file_form l)) es) c.as_slice.ensures.value c.in_ok-numbers.ensures.found in
-    let distinct = c.are_distinct.ensures (subst IsTrue (sym c.if-not-are_distinct.false) refl) in
+    let distinct = c.are_distinct.ensures.distinct (subst IsTrue (sym c.if-not-are_distinct.false) refl) in
     record {
       no_twins = alone_twins fs es index distinct;
       files_are = sym (alone_alive fs es index distinct);

@@ -4,7 +4,7 @@ use Rattle.std.specs.declared.cmp.Ordering.TheVariants.{Less}
 use Rattle.std.proofs.lemmas.List.{get_or_default}
 use Rattle.std.proofs.lemmas.List.Sorted.{all_adjacent_more}
 use Rattle.fv_tree.specs.FileNames.{Entry, entry_cmp, halves_cmp}
-use Rattle.fv_tree.proofs.IndexLaws.{distinct_rising, halves_differ, next_less}
+use Rattle.fv_tree.proofs.IndexLaws.{distinct_rising, halves_differ, halves_same, next_less, side_by_side}
 use Rattle.fv_tree.proofs.name_index.Numbers.are_distinct.Goals as goal
 
 pub loop-next-init : goal.loop-next-init
@@ -30,5 +30,18 @@ loop-next-preserved c =
     (λ d. ap (λ (x : Entry). halves_cmp x.0 (get_or es i d).0) (get_or_default es (i - 1) d a before ∙ sym c.index.ensures)
     ∙ ap (λ (x : Entry). halves_cmp a.0 x.0) (get_or_default es i d b at ∙ sym c.index-in-loop-next.ensures) ∙ less)
 
-pub returns : goal.returns
-returns c = λ yes. distinct_rising c.args.self.now.sorted.items (λ k d l. c.loop-next.invariant k d (omega (arith, l)))
+pub returns-clause-distinct : goal.returns-clause-distinct
+returns-clause-distinct c = λ yes. distinct_rising c.args.self.now.sorted.items (λ k d l. c.loop-next.invariant k d (omega (arith, l)))
+
+pub returns-then-eq-clause-all : goal.returns-then-eq-clause-all
+returns-then-eq-clause-all c = λ apart.
+    let es : List Entry = c.args.self.now.sorted.items in
+    let i : ℕ = c.loop-next.next in
+    let one : i - 1 + 1 ≡ i = omega arith in
+    let a : Entry = c.index.result.now in
+    let b : Entry = c.index-in-loop-next.result.now in
+    let at : i < length es = omega arith in
+    let last : b ≡ get_or es (i - 1 + 1) a =
+    c.index-in-loop-next.ensures ∙ get_or_default es i b a at ∙ ap (λ (n : ℕ). get_or es n a) (sym one) in
+    let same = ap (λ (x : Entry). x.0) (sym c.index.ensures) ∙ halves_same a.0 b.0 c.if-eq.ensures ∙ ap (λ (x : Entry). x.0) last in
+    absurd (side_by_side es (i - 1) a (omega (arith, one, at)) same apart)

@@ -1,0 +1,143 @@
+-- In an image each volume inside has its own image, as consecutive bytes.
+use Rattle.std.proofs.Common.{◌≡◌, ◌-◌, ◌+◌, ℕ, List, [], ◌∷◌, ◌++◌, length, take, drop, replicate, refl, sym, ap, ◌∙◌, append_assoc, append-nil}
+use Rattle.std.specs.List.{AllByRecursion}
+use Rattle.std.specs.Prelude.{map}
+use Rattle.std.proofs.lemmas.List.{take-append-drop}
+use Rattle.fv_base.specs.Value.{up_to_8}
+use Rattle.fv_base.specs.declared.flash.Polarity.{Polarity}
+use Rattle.fv_file.specs.Attributes.{attributes_by}
+use Rattle.fv_file.specs.NewHeaders.{file_head_of}
+use Rattle.fv_head.specs.Attributes.{polarity_of}
+use Rattle.fv_section.specs.Frames.{FrameForm, frame_len, up_to_4}
+use Rattle.fv_section.specs.SectionImage.{section_head_of, stream_of}
+use Rattle.fv_tree.specs.Meaning.{Meaning, Volume, FileMeanings, NoFiles, MoreFiles, FileMeaning, File, ContentMeaning, Plain, Sectioned}
+use Rattle.fv_tree.specs.Meaning.{SectionMeanings, NoSections, MoreSections, SectionMeaning, Section, BodyMeaning, Leaf, Group, Nested}
+use Rattle.fv_tree.specs.Meaning.{files_list}
+use Rattle.fv_tree.specs.Denotes.{IsMeaning}
+use Rattle.fv_canon.specs.Headline.{IsWithin, HasOwnImage, EachVolumeHasItsImage}
+use Rattle.fv_canon.specs.Image.{IsImage, AreStored, IsStored, IsData, AreFrames, IsFrame, IsBodyImage}
+use Rattle.fv_canon.specs.Layouts.{part_of, first_edge}
+use Rattle.fv_canon.specs.Spans.{Span, StandsIn, AllStandIn}
+use Rattle.fv_canon.specs.Starts.{StartsFollow}
+use Rattle.fv_canon.specs.StoredFiles.{StoredFile, stored_bytes, stored_len, file_sum_for, file_spans}
+use Rattle.fv_canon.specs.Volumes.{Inside, volumes_in, volumes_in_files, volumes_in_file, volumes_in_content, volumes_in_sections}
+use Rattle.fv_canon.specs.Volumes.{volumes_in_section, volumes_in_body}
+use Rattle.fv_canon.proofs.InsideMeaningLaws.{inside_meant}
+use Rattle.fv_canon.proofs.VolumeListLaws.{each_joined, each_deeper}
+
+-- ---- bytes within others
+
+within_within : (a b c : List ℕ) → IsWithin a b → IsWithin b c → IsWithin a c
+within_within a b c (w, x, p) (y, z, q) = (
+  y ++ w,
+  x ++ z,
+  q ∙ ap (λ (xs : List ℕ). y ++ (xs ++ z)) p ∙ ap (λ (xs : List ℕ). y ++ xs) (append_assoc w (a ++ x) z
+      ∙ ap (λ (xs : List ℕ). w ++ xs) (append_assoc a x z)) ∙ sym (append_assoc y w (a ++ (x ++ z))),
+)
+
+stands_within : (b : List ℕ) (p : Span) → StandsIn b p → IsWithin p.bytes b
+stands_within b p (low, is) = (
+  take p.at b,
+  drop (length p.bytes) (drop p.at b),
+  sym (take-append-drop p.at b) ∙ ap (λ (xs : List ℕ). take p.at b ++ xs) (sym (take-append-drop (length p.bytes) (drop p.at b))
+      ∙ ap (λ (xs : List ℕ). xs ++ drop (length p.bytes) (drop p.at b)) is),
+)
+
+payload_within : (p : Polarity) (x : StoredFile) → IsWithin x.payload (stored_bytes p x)
+unfolding stored_bytes
+payload_within p x = (
+  file_head_of x.name x.kind (attributes_by x.attributes) (length x.payload) (file_sum_for x.attributes x.payload) p,
+  [],
+  ap (λ (xs : List ℕ). file_head_of x.name x.kind (attributes_by x.attributes) (length x.payload) (file_sum_for x.attributes x.payload) p
+      ++ xs) (sym (append-nil x.payload)),
+)
+
+-- the bodies of a stream's frames
+bodies_wider : (b c : List ℕ) → IsWithin b c → (fs : List FrameForm) → AllByRecursion (λ f. IsWithin f.body b) fs
+    → AllByRecursion (λ f. IsWithin f.body c) fs
+bodies_wider b c w [] all = tt
+bodies_wider b c w (f ∷ fs) all = (within_within f.body b c all.0 w, bodies_wider b c w fs all.1)
+
+bodies_within : (fs : List FrameForm) (tail : ℕ) → AllByRecursion (λ f. IsWithin f.body (stream_of fs tail)) fs
+bodies_within [] tail = tt
+bodies_within (f ∷ []) tail = ((section_head_of f.kind f.extended (length f.body), replicate tail 0, refl), tt)
+bodies_within (f ∷ g ∷ fs) tail =
+    let head : List ℕ = section_head_of f.kind f.extended (length f.body) in
+    let fill : List ℕ = replicate (up_to_4 (frame_len f) - frame_len f) 0 in
+    let rest : List ℕ = stream_of (g ∷ fs) tail in (
+      (head, fill ++ rest, refl),
+      bodies_wider rest (stream_of (f ∷ g ∷ fs) tail) (
+        head ++ (f.body ++ fill),
+        [],
+        sym (append_assoc head (f.body ++ fill) (rest ++ [])
+            ∙ ap (λ (xs : List ℕ). head ++ xs) (append_assoc f.body fill (rest ++ [])
+            ∙ ap (λ (xs : List ℕ). f.body ++ (fill ++ xs)) (append-nil rest))),
+      ) (g ∷ fs) (bodies_within (g ∷ fs) tail),
+    )
+
+stream_within : (fs : List FrameForm) (tail : ℕ) (d : List ℕ) → d ≡ stream_of fs tail → AllByRecursion (λ f. IsWithin f.body d) fs
+stream_within fs tail d text =
+    bodies_wider (stream_of fs tail) d ([], [], text ∙ sym (append-nil (stream_of fs tail))) fs (bodies_within fs tail)
+
+-- ---- volumes within
+
+all_wider : (b c : List ℕ) → IsWithin b c → (vs : List Inside) → AllByRecursion (HasOwnImage b) vs → AllByRecursion (HasOwnImage c) vs
+all_wider b c w [] all = tt
+all_wider b c w (v ∷ vs) all = ((all.0.0, all.0.1, within_within all.0.0 b c all.0.2 w), all_wider b c w vs all.1)
+
+mutual
+  volume_inside : (m : Meaning) (b : List ℕ) → IsImage m b → AllByRecursion (HasOwnImage b) (volumes_in m)
+  volume_inside (Volume h files) b (stored, starts, are, placed, shows) = (
+    (b, (stored, starts, are, placed, shows), ([], [], sym (append-nil b))),
+    files_inside files stored starts b (polarity_of h.attributes) h.length (first_edge h) (first_edge h) are placed.placement.follow
+        shows.stand.1.1,
+  )
+
+  files_inside : (files : FileMeanings) (stored : List StoredFile) (starts b : List ℕ) (p : Polarity) (total e k : ℕ)
+      → AreStored files stored → StartsFollow total e (map part_of (files_list files)) starts
+      → AllStandIn b (file_spans p k stored starts) → AllByRecursion (HasOwnImage b) (volumes_in_files files)
+  files_inside NoFiles stored starts b p total e k are follow stand = tt
+  files_inside (MoreFiles f fs) [] starts b p total e k are follow stand = absurd are
+  files_inside (MoreFiles f fs) (x ∷ xs) [] b p total e k are follow stand = absurd follow
+  files_inside (MoreFiles f fs) (x ∷ xs) (s ∷ ss) b p total e k are follow stand =
+      each_joined (HasOwnImage b) (volumes_in_file f) (volumes_in_files fs)
+      (file_inside f x b are.0 (within_within x.payload (stored_bytes p x) b (payload_within p x)
+      (stands_within b (record { at = s; bytes = stored_bytes p x }) stand.1.0)))
+      (files_inside fs xs ss b p total (up_to_8 (s + (part_of f).size)) (up_to_8 (s + stored_len x)) are.1 follow.1 stand.1.1)
+
+  file_inside : (m : FileMeaning) (x : StoredFile) (b : List ℕ) → IsStored m x → IsWithin x.payload b
+      → AllByRecursion (HasOwnImage b) (volumes_in_file m)
+  file_inside (File name kind attributes content) x b (named, kinds, bits, is) within =
+      all_wider x.payload b within (volumes_in_content content) (content_inside content x.payload is)
+
+  content_inside : (content : ContentMeaning) (d : List ℕ) → IsData content d → AllByRecursion (HasOwnImage d) (volumes_in_content content)
+  content_inside (Plain b) d is = tt
+  content_inside (Sectioned sections tail) d (frames, are, text) =
+      frames_inside 0 sections frames d are (stream_within frames tail d text)
+
+  frames_inside : (at : ℕ) (sections : SectionMeanings) (frames : List FrameForm) (d : List ℕ) → AreFrames at sections frames
+      → AllByRecursion (λ f. IsWithin f.body d) frames → AllByRecursion (HasOwnImage d) (volumes_in_sections sections)
+  frames_inside at NoSections frames d are within = tt
+  frames_inside at (MoreSections s ss) [] d are within = absurd are
+  frames_inside at (MoreSections s ss) (f ∷ fs) d (place, is, behind) within =
+      each_joined (HasOwnImage d) (volumes_in_section s) (volumes_in_sections ss) (frame_inside s f d is within.0)
+      (frames_inside (up_to_4 (at + frame_len f)) ss fs d behind within.1)
+
+  frame_inside : (s : SectionMeaning) (f : FrameForm) (d : List ℕ) → IsFrame s f → IsWithin f.body d
+      → AllByRecursion (HasOwnImage d) (volumes_in_section s)
+  frame_inside (Section kind extended body) f d (kinds, form, is) within =
+      each_deeper (λ m. (own : List ℕ) × IsImage m own × IsWithin own d) (volumes_in_body body) (all_wider f.body d within (volumes_in_body body) (body_inside body f.body is))
+
+  body_inside : (body : BodyMeaning) (d : List ℕ) → IsBodyImage body d → AllByRecursion (HasOwnImage d) (volumes_in_body body)
+  body_inside (Leaf b) d is = tt
+  body_inside (Group sections tail) d (frames, are, text) =
+      frames_inside 0 sections frames d are (stream_within frames tail d text)
+  body_inside (Nested volume) d is = volume_inside volume d is
+
+pub each_volume_has_its_image : EachVolumeHasItsImage
+each_volume_has_its_image m image read is = both (volumes_in m) (inside_meant m read) (volume_inside m image is)
+  where
+    both : (vs : List Inside) → AllByRecursion (λ v. IsMeaning v.volume) vs → AllByRecursion (HasOwnImage image) vs
+        → AllByRecursion (λ v. IsMeaning v.volume × HasOwnImage image v) vs
+    both [] p q = tt
+    both (v ∷ vs) p q = ((p.0, q.0), both vs p.1 q.1)

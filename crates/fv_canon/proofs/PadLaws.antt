@@ -1,0 +1,76 @@
+-- How a gap is split into pads.
+use Rattle.std.proofs.Common.{◌≡◌, ◌≤◌, ◌<◌, inl, inr, ◌-◌, ◌%◌, ℕ, zero, suc, Bool, List, [], ◌++◌, refl, sym, ap, ◌∙◌, subst, arith}
+use Rattle.std.specs.Prelude.{nat_le, if◌then◌else◌}
+use Rattle.std.proofs.lemmas.Bool.{cases_lt, le-leb, ne_eqb}
+use Rattle.fv_base.specs.declared.flash.Polarity.{Polarity}
+use Rattle.fv_base.proofs.Laws.{if_true, if_false, not_at_most}
+use Rattle.fv_canon.specs.StoredFiles.{pad_bytes, pads, long_pad, gap_bytes, PadsRule}
+
+pub gap_none : (p : Polarity) (gap : ℕ) → gap ≡ 0 → gap_bytes p gap ≡ []
+unfolding gap_bytes
+gap_none p zero e = refl
+gap_none p (suc n) e = absurd (omega (arith, e))
+
+gap_some : (p : Polarity) (gap : ℕ) → 24 ≤ gap → gap_bytes p gap ≡ pads p gap gap
+unfolding gap_bytes
+gap_some p gap l = ap (λ (b : Bool). if b then [] else pads p gap gap) (ne_eqb gap 0 (λ z. omega (arith, l, z)))
+
+pads_fit : (p : Polarity) (n gap : ℕ) → gap ≤ 0xfffff8 → pads p n gap ≡ pad_bytes p gap
+pads_fit p zero gap l = refl
+pads_fit p (suc n) gap l = if_true (nat_le gap 0xfffff8) _ _ (le-leb gap 0xfffff8 l)
+
+pads_more : (p : Polarity) (n gap : ℕ) → 0xfffff8 < gap → pads p (suc n) gap ≡ pad_bytes p long_pad ++ pads p n (gap - long_pad)
+pads_more p n gap l = if_false (nat_le gap 0xfffff8) _ _ (not_at_most gap 0xfffff8 l)
+
+-- more steps than a gap has bytes change nothing
+pads_enough : (p : Polarity) (n k gap : ℕ) → gap ≤ n → gap ≤ k → pads p n gap ≡ pads p k gap
+pads_enough p zero k gap l m = sym (pads_fit p k gap (omega (arith, l)))
+pads_enough p (suc n) zero gap l m = pads_fit p (suc n) gap (omega (arith, m))
+pads_enough p (suc n) (suc k) gap l m = elim (cases_lt 0xfffff8 gap) [
+  | inl past ↦
+      pads_more p n gap past ∙ ap (λ xs. pad_bytes p long_pad ++ xs)
+      (pads_enough p n k (gap - long_pad) (less n gap past l) (less k gap past m)) ∙ sym (pads_more p k gap past)
+  | inr fits ↦ pads_fit p (suc n) gap fits ∙ sym (pads_fit p (suc k) gap fits)
+]
+  where
+    less : (n gap : ℕ) → 0xfffff8 < gap → gap ≤ suc n → gap - 0xffff00 ≤ n
+    less n gap past l = omega (arith, past, l)
+
+pub pads_rule : PadsRule
+pads_rule p gap least eighth = (
+  λ fits. gap_some p gap least ∙ pads_fit p gap gap fits,
+  λ past. (
+    gap_some p gap least ∙ split gap past
+        ∙ ap (λ xs. pad_bytes p long_pad ++ xs) (sym (gap_some p (gap - long_pad) (omega (arith, past, eighth)))),
+    omega (arith, past, eighth),
+  ),
+)
+  where
+    less : (n : ℕ) → suc n - 0xffff00 ≤ n
+    less n = omega arith
+
+    same : (n : ℕ) → n ≤ n
+    same n = omega arith
+
+    split : (gap : ℕ) → 0xfffff8 < gap → pads p gap gap ≡ pad_bytes p long_pad ++ pads p (gap - long_pad) (gap - long_pad)
+    split zero past = absurd (omega (arith, past))
+    split (suc n) past =
+        pads_more p n (suc n) past ∙ ap (λ xs. pad_bytes p long_pad ++ xs)
+        (pads_enough p n (suc n - long_pad) (suc n - long_pad) (less n) (same (suc n - long_pad)))
+
+-- what is true of a pad, and of the greatest pad before others of which it is true, is true of a gap
+module _ (p : Polarity) (P : ℕ → List ℕ → Type 0)
+    (one : (gap : ℕ) → 24 ≤ gap → gap ≤ 0xfffff8 → gap % 8 ≡ 0 → P gap (pad_bytes p gap))
+    (more : (gap : ℕ) (xs : List ℕ) → 0xfffff8 < gap → P (gap - long_pad) xs → P gap (pad_bytes p long_pad ++ xs)) where
+  by_steps : (n gap : ℕ) → gap ≤ n → 24 ≤ gap → gap % 8 ≡ 0 → P gap (gap_bytes p gap)
+  by_steps zero gap few least eighth = absurd (omega (arith, few, least))
+  by_steps (suc n) gap few least eighth = elim (cases_lt 0xfffff8 gap) [
+    | inl past ↦
+        let rule = (pads_rule p gap least eighth).1 past in
+        subst (P gap) (sym rule.0) (more gap (gap_bytes p (gap - long_pad)) past
+        (by_steps n (gap - long_pad) (omega (arith, few, past)) (omega (arith, rule.1)) (omega (arith, eighth, past))))
+    | inr fits ↦ subst (P gap) (sym ((pads_rule p gap least eighth).0 fits)) (one gap least fits eighth)
+  ]
+
+  pub gap_has : (gap : ℕ) → 24 ≤ gap → gap % 8 ≡ 0 → P gap (gap_bytes p gap)
+  gap_has gap least eighth = by_steps gap gap (omega arith) least eighth

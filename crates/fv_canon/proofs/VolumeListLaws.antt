@@ -1,0 +1,175 @@
+-- What is said of each of some volumes, where they are two lists joined, or lie one deeper.
+use Rattle.std.proofs.Common.{◌≡◌, ◌<◌, inl, inr, ◌+◌, ℕ, List, [], ◌∷◌, ◌++◌, length, take, drop, get_or, refl, sym, ap, ◌∙◌, subst, arith}
+use Rattle.std.proofs.Common.{append_assoc, append-nil, length-append, drop-drop}
+use Rattle.std.specs.List.{AllByRecursion}
+use Rattle.std.proofs.lemmas.List.{length-map, take-append-drop, take_more, drop_at}
+use Rattle.fv_base.specs.declared.fault.Fault.{Fault}
+use Rattle.fv_tree.specs.Meaning.{Meaning, FileMeaning, File, SectionMeaning, Section, body_of, content_of, files_of}
+use Rattle.fv_canon.specs.ImageOf.{starts_in}
+use Rattle.fv_canon.specs.Layouts.{AreStarts, Laid, AllFit, IsPlaced, FirstUnfit, UnfitHere, part_of, parts_of}
+use Rattle.fv_canon.specs.Volumes.{Inside, deeper, volumes_in_section, volumes_in_body, volumes_in_file, volumes_in_content}
+use Rattle.fv_canon.specs.ImageWalks.{BeginsWithStarts}
+use Rattle.fv_canon.specs.LayoutWalks.{Grew}
+use Rattle.fv_canon.proofs.ItemLaws.{item_at}
+use Rattle.fv_canon.proofs.OneImageLaws.{follow_length}
+
+-- ---- their starts
+
+pub laid_joined : (own : Meaning → List ℕ → Type 0) (vs ws : List Inside) (a b : List ℕ) → Laid own vs a → Laid own ws b
+    → Laid own (vs ++ ws) (a ++ b)
+laid_joined own [] ws a b p q = subst (λ (xs : List ℕ). Laid own ws (xs ++ b)) (sym p) q
+laid_joined own (v ∷ vs) ws a b (here, behind, text, p, r) q =
+    (here, behind ++ b, ap (λ (xs : List ℕ). xs ++ b) text ∙ append_assoc here behind b, p, laid_joined own vs ws behind b r q)
+
+pub laid_split : (own : Meaning → List ℕ → Type 0) (vs ws : List Inside) (starts : List ℕ) → Laid own (vs ++ ws) starts
+    → (here : List ℕ) × (behind : List ℕ) × (starts ≡ here ++ behind) × Laid own vs here × Laid own ws behind
+laid_split own [] ws starts laid = ([], starts, refl, refl, laid)
+laid_split own (v ∷ vs) ws starts (first, inner, text, p, r) =
+    let l = laid_split own vs ws inner r in (
+      first ++ l.0,
+      l.1,
+      text ∙ ap (λ (xs : List ℕ). first ++ xs) l.2 ∙ sym (append_assoc first l.0 l.1),
+      (first, l.0, refl, p, l.3),
+      l.4,
+    )
+
+pub laid_deeper : (own : Meaning → List ℕ → Type 0) (vs : List Inside) (starts : List ℕ) → Laid own vs starts → Laid own (deeper vs) starts
+laid_deeper own [] starts laid = laid
+laid_deeper own (v ∷ vs) starts (first, inner, text, p, r) = (first, inner, text, p, laid_deeper own vs inner r)
+
+pub laid_higher : (own : Meaning → List ℕ → Type 0) (vs : List Inside) (starts : List ℕ) → Laid own (deeper vs) starts → Laid own vs starts
+laid_higher own [] starts laid = laid
+laid_higher own (v ∷ vs) starts (first, inner, text, p, r) = (first, inner, text, p, laid_higher own vs inner r)
+
+-- how many there are
+pub own_count : (m : Meaning) (own : List ℕ) → AreStarts m own → length own ≡ length (files_of m)
+own_count m own placed = follow_length _ _ (parts_of m) own placed.placement.follow ∙ length-map (files_of m) part_of
+
+pub laid_count : (vs : List Inside) (starts : List ℕ) → Laid AreStarts vs starts → length starts ≡ starts_in vs
+laid_count [] starts laid = ap length laid
+laid_count (v ∷ vs) starts (own, inner, text, placed, laid) =
+    let here = own_count v.volume own placed in
+    let behind = laid_count vs inner laid in
+    omega (arith, ap length text, length-append own inner, here, behind)
+
+pub count_joined : (vs ws : List Inside) → starts_in (vs ++ ws) ≡ starts_in vs + starts_in ws
+count_joined [] ws = omega arith
+count_joined (v ∷ vs) ws = let r = count_joined vs ws in omega (arith, r)
+
+pub count_deeper : (vs : List Inside) → starts_in (deeper vs) ≡ starts_in vs
+count_deeper [] = refl
+count_deeper (v ∷ vs) = ap (λ n. length (files_of v.volume) + n) (count_deeper vs)
+
+-- ---- which fit
+
+pub each_joined : (P : Inside → Type 0) (vs ws : List Inside) → AllByRecursion P vs → AllByRecursion P ws → AllByRecursion P (vs ++ ws)
+each_joined P [] ws p q = q
+each_joined P (v ∷ vs) ws p q = (p.0, each_joined P vs ws p.1 q)
+
+pub each_deeper : (P : Meaning → Type 0) (vs : List Inside) → AllByRecursion (λ v. P v.volume) vs
+    → AllByRecursion (λ v. P v.volume) (deeper vs)
+each_deeper P [] p = tt
+each_deeper P (v ∷ vs) p = (p.0, each_deeper P vs p.1)
+
+pub fit_joined : (vs ws : List Inside) → AllFit vs → AllFit ws → AllFit (vs ++ ws)
+fit_joined vs ws p q = each_joined IsPlaced vs ws p q
+
+pub fit_deeper : (vs : List Inside) → AllFit vs → AllFit (deeper vs)
+fit_deeper vs p = each_deeper (λ m. (starts : List ℕ) × AreStarts m starts) vs p
+
+pub laid_fit : (vs : List Inside) (starts : List ℕ) → Laid AreStarts vs starts → AllFit vs
+laid_fit [] starts laid = tt
+laid_fit (v ∷ vs) starts (own, inner, text, placed, laid) = ((own, placed), laid_fit vs inner laid)
+
+pub fit_laid : (vs : List Inside) → AllFit vs → (starts : List ℕ) × Laid AreStarts vs starts
+fit_laid [] fit = ([], refl)
+fit_laid (v ∷ vs) (own, fit) = let l = fit_laid vs fit in (own.0 ++ l.0, (own.0, l.0, refl, own.1, l.1))
+
+-- ---- the first that does not fit
+
+pub unfit_front : (vs ws : List Inside) (depth : ℕ) (f : Fault) → FirstUnfit vs depth f → FirstUnfit (vs ++ ws) depth f
+unfit_front [] ws depth f un = absurd un
+unfit_front (v ∷ vs) ws depth f (inl un) = inl un
+unfit_front (v ∷ vs) ws depth f (inr (placed, un)) = inr (placed, unfit_front vs ws depth f un)
+
+pub unfit_behind : (vs ws : List Inside) (depth : ℕ) (f : Fault) → AllFit vs → FirstUnfit ws depth f → FirstUnfit (vs ++ ws) depth f
+unfit_behind [] ws depth f fit un = un
+unfit_behind (v ∷ vs) ws depth f (placed, fit) un = inr (placed, unfit_behind vs ws depth f fit un)
+
+pub unfit_deeper : (vs : List Inside) (depth : ℕ) (f : Fault) → FirstUnfit vs (depth + 1) f → FirstUnfit (deeper vs) depth f
+unfit_deeper [] depth f un = un
+unfit_deeper (v ∷ vs) depth f (inl un) = inl (subst (λ (n : ℕ). UnfitHere v.volume n f) (same depth v.depth) un)
+  where
+    same : (n k : ℕ) → (n + 1) + k ≡ n + (k + 1)
+    same n k = omega arith
+unfit_deeper (v ∷ vs) depth f (inr (placed, un)) = inr (placed, unfit_deeper vs depth f un)
+
+-- ---- those of a list's items
+
+pub in_section : (s : SectionMeaning) → volumes_in_section s ≡ deeper (volumes_in_body (body_of s))
+in_section (Section kind extended body) = refl
+
+pub in_file : (f : FileMeaning) → volumes_in_file f ≡ volumes_in_content (content_of f)
+in_file (File name kind attributes content) = refl
+
+module _ {A : Type 0} (all : List A → List Inside) (one : A → List Inside) (none : all [] ≡ [])
+    (more : (x : A) (xs : List A) → all (x ∷ xs) ≡ one x ++ all xs) where
+  joined : (xs ys : List A) → all (xs ++ ys) ≡ all xs ++ all ys
+  joined [] ys = ap (λ ws. ws ++ all ys) (sym none)
+  joined (x ∷ xs) ys =
+      more x (xs ++ ys) ∙ ap (λ ws. one x ++ ws) (joined xs ys) ∙ sym (append_assoc (one x) (all xs) (all ys))
+      ∙ ap (λ ws. ws ++ all ys) (sym (more x xs))
+
+  -- those of one item more
+  pub pushed : (xs : List A) (i : ℕ) (x : A) → i < length xs → x ≡ get_or xs i x → all (take (i + 1) xs) ≡ all (take i xs) ++ one x
+  pushed xs i x l is =
+      ap all (take_more xs i x l) ∙ joined (take i xs) (get_or xs i x ∷ [])
+      ∙ ap (λ ws. all (take i xs) ++ ws) (more _ [] ∙ ap (λ ws. one (get_or xs i x) ++ ws) none ∙ append-nil _ ∙ ap one (sym is))
+
+  -- those from an item on
+  pub item_first : (xs : List A) (i : ℕ) (x : A) → i < length xs → x ≡ get_or xs i x → all (drop i xs) ≡ one x ++ all (drop (i + 1) xs)
+  item_first xs i x l is = ap all (item_at xs i x l is) ∙ more x (drop (i + 1) xs)
+
+  -- a walk adds the starts of an item behind those that it added before
+  pub item_grew : (xs : List A) (i : ℕ) (x : A) (old now next : List ℕ) → i < length xs → x ≡ get_or xs i x
+      → Grew (all (take i xs)) old now → Grew (one x) now next → Grew (all (take (i + 1) xs)) old next
+  item_grew xs i x old now next l is (a, p, q) (b, r, s) = (
+    a ++ b,
+    r ∙ ap (λ (ys : List ℕ). ys ++ b) p ∙ append_assoc old a b,
+    subst (λ ws. Laid AreStarts ws (a ++ b)) (sym (pushed xs i x l is)) (laid_joined AreStarts (all (take i xs)) (one x) a b q s),
+  )
+
+  -- behind items that are laid out an item does not fit
+  pub item_unfit : (xs : List A) (i : ℕ) (x : A) (old now : List ℕ) (depth : ℕ) (f : Fault) → i < length xs → x ≡ get_or xs i x
+      → Grew (all (take i xs)) old now → FirstUnfit (one x) depth f → FirstUnfit (all xs) depth f
+  item_unfit xs i x old now depth f l is (a, p, q) un =
+      subst (λ ws. FirstUnfit ws depth f) (sym (ap all (sym (take-append-drop i xs)) ∙ joined (take i xs) (drop i xs)
+      ∙ ap (λ ws. all (take i xs) ++ ws) (item_first xs i x l is)))
+      (unfit_behind (all (take i xs)) (one x ++ all (drop (i + 1) xs)) depth f (laid_fit (all (take i xs)) a q)
+      (unfit_front (one x) (all (drop (i + 1) xs)) depth f un))
+
+  -- starts that begin with those of an item and of what is behind it
+  pub item_begins : (xs : List A) (i : ℕ) (x : A) (starts : List ℕ) → i < length xs → x ≡ get_or xs i x
+      → BeginsWithStarts (all (drop i xs)) starts
+      → BeginsWithStarts (one x) starts × BeginsWithStarts (all (drop (i + 1) xs)) (drop (starts_in (one x)) starts)
+  item_begins xs i x starts l is (whole, rest, text, laid) =
+      let parts = laid_split AreStarts (one x) (all (drop (i + 1) xs)) whole
+      (subst (λ ws. Laid AreStarts ws whole) (item_first xs i x l is) laid) in
+      let here : starts ≡ parts.0 ++ (parts.1 ++ rest) =
+      text ∙ ap (λ (ys : List ℕ). ys ++ rest) parts.2 ∙ append_assoc parts.0 parts.1 rest in (
+        (parts.0, parts.1 ++ rest, here, parts.3),
+        (
+          parts.1,
+          rest,
+          ap (drop (starts_in (one x))) here
+              ∙ drop_at parts.0 (parts.1 ++ rest) (starts_in (one x)) (laid_count (one x) parts.0 parts.3),
+          parts.4,
+        ),
+      )
+
+  -- the starts behind those of the items from a place on
+  pub item_left : (xs : List A) (i : ℕ) (x : A) (starts : List ℕ) → i < length xs → x ≡ get_or xs i x
+      → drop (starts_in (all (drop i xs))) starts ≡ drop (starts_in (all (drop (i + 1) xs))) (drop (starts_in (one x)) starts)
+  item_left xs i x starts l is =
+      ap (λ n. drop n starts) (ap starts_in (item_first xs i x l is) ∙ count_joined (one x) (all (drop (i + 1) xs)))
+      ∙ sym (drop-drop (starts_in (all (drop (i + 1) xs))) (starts_in (one x)) starts)

@@ -1,0 +1,215 @@
+-- The first fault of bytes lies within them, or at their end, and no deeper than groups and volumes may nest.
+use Rattle.std.proofs.Common.{◌≡◌, ◌≢◌, ◌≤◌, ◌⊎◌, ℕ, zero, suc, ◌+◌, List, [], ◌∷◌, ◌++◌, length, take, drop, refl, ap, subst, sym, ◌∙◌}
+use Rattle.std.proofs.Common.{arith, not, inl, inr, Bool, true, false}
+use Rattle.std.specs.Prelude.{Option, Some, None, nat_le, ◌&&◌, ◌==◌, slice_index}
+use Rattle.std.specs.List.{AllByRecursion, list_any}
+use Rattle.std.proofs.lemmas.List.{length-drop, length-take-le}
+use Rattle.std.proofs.lemmas.Bool.{leb-true}
+use Rattle.fv_base.proofs.Laws.{all_filter, and_split, first_among, in_middle}
+use Rattle.fv_base.specs.Checks.{Check, check, IsFirstFault}
+use Rattle.fv_base.specs.Faults.{want_of_memory}
+use Rattle.fv_base.specs.Flash.{erased_byte}
+use Rattle.fv_base.specs.declared.fault.Fault.{Fault}
+use Rattle.fv_base.specs.declared.fault.FaultKind.TheVariants as kinds
+use Rattle.fv_base.specs.declared.fault.Place.{Place}
+use Rattle.fv_base.specs.declared.flash.FileSystem.{FileSystem}
+use Rattle.fv_base.specs.declared.flash.Polarity.{Polarity}
+use Rattle.fv_file.specs.Cells.{CellForm, Valid, Pad, Dead, Stub, Free, CellsWithin, Tiles}
+use Rattle.fv_file.specs.FileChecks.{leading_count, state_checks, cell_checks}
+use Rattle.fv_file.specs.FileChecks as file
+use Rattle.fv_file.specs.States.{bits_of, state_of}
+use Rattle.fv_file.specs.declared.state.FileState.{FileState}
+use Rattle.fv_file.specs.declared.state.FileState.TheVariants as states
+use Rattle.fv_file.proofs.Laws.{all_within}
+use Rattle.fv_head.specs.declared.extent.Extent.{Extent}
+use Rattle.fv_head.proofs.Laws.{fault_within, first_lies}
+use Rattle.fv_section.specs.FrameChecks.{frame_checks}
+use Rattle.fv_section.specs.FrameChecks as section
+use Rattle.fv_section.specs.Frames.{FrameForm, frame_len}
+use Rattle.fv_section.specs.Frames as framed
+use Rattle.fv_section.proofs.Laws.{whole_within}
+use Rattle.fv_tree.specs.Denotes.{depth_limit}
+use Rattle.fv_tree.specs.FailingChecks.{First}
+use Rattle.fv_tree.specs.Files.{FileForm, files_in, alive_in, replaces}
+use Rattle.fv_tree.specs.FirstFault.{Moved, NamesFault, LayoutFault, BodyFault, InSection, InStream, InVolume, IsFirstOfVolume}
+use Rattle.fv_tree.specs.FirstFault.{data_at, data_place, outermost}
+use Rattle.fv_tree.proofs.NameLaws.{files_within, top_within, twin_within}
+use Rattle.fv_tree.proofs.WantLaws.{want_known}
+
+-- ---- the checks
+
+-- of the checks of a section header
+frame_within : (b : List ℕ) (f : Fault) → section.IsFirstFrameFault b f → f.place.offset ≤ length b
+frame_within b f first =
+    let low : first.at ≤ length b = omega (arith, first.inside) in
+    first_among (λ (g : Fault). g.place.offset ≤ length b) (frame_checks first.at (drop first.at b)) f (low, (low, tt)) first.fault_is
+
+-- no run is longer than the bytes
+run_within : (e : ℕ) (r : List ℕ) → leading_count e r ≤ length r
+run_within e [] = omega arith
+run_within e (x ∷ xs) = go (x == e) refl (run_within e xs) where
+  go : (t : Bool) → (x == e) ≡ t → leading_count e xs ≤ length xs → leading_count e (x ∷ xs) ≤ suc (length xs)
+  go true is low = rw is (omega (arith, low))
+  go false is low = rw is (omega arith)
+
+module _ (at : ℕ) (r : List ℕ) where
+  -- a check whose fault stands within the bytes from a place on
+  abbrev Low : Check Fault → Type 0
+  Low c = c.fault.place.offset ≤ at + length r
+
+  -- of the checks of a file
+  file_within : (s : FileSystem) (alive : Bool) → 24 ≤ length r → AllByRecursion Low (file.file_checks s alive at r)
+  file_within s alive long =
+      (omega (arith, long), (omega (arith, long), (omega arith, (omega (arith, long), (omega (arith, long), (omega (arith, long), tt))))))
+
+  -- of those that a cell's state asks for
+  state_within : (o : Option FileState) (s : FileSystem) → 24 ≤ length r → AllByRecursion Low (state_checks o s at r)
+  state_within None s long = (omega (arith, long), tt)
+  state_within (Some states.Free) s long = tt
+  state_within (Some states.Construction) s long = (omega (arith, long), tt)
+  state_within (Some states.HeaderInvalid) s long = (omega (arith, long), tt)
+  state_within (Some states.HeaderValid) s long = file_within s false long
+  state_within (Some states.DataValid) s long = file_within s true long
+  state_within (Some states.Marked) s long = file_within s true long
+  state_within (Some states.Deleted) s long = file_within s false long
+
+  -- of those of a cell
+  cell_within : (s : FileSystem) (p : Polarity) (f : Fault) → IsFirstFault (cell_checks s p at r) f → f.place.offset ≤ at + length r
+  cell_within s p f ([], c, after, is, held, fails, fault) =
+      let e : ℕ = erased_byte p in
+      let first : c ≡ check (nat_le 24 (length r) && not (bits_of p (slice_index r 23) == 0)) kinds.FreeSpace (at + leading_count e r) =
+      cc in
+      let place : f.place.offset ≡ at + leading_count e r =
+      ap (λ (g : Fault). g.place.offset) fault ∙ ap (λ (d : Check Fault). d.fault.place.offset) first in
+      omega (arith, place, run_within e r)
+  cell_within s p f (d ∷ ds, c, after, is, held, fails, fault) =
+      let e : ℕ = erased_byte p in
+      let used : Bool = not (bits_of p (slice_index r 23) == 0) in
+      let first : d ≡ check (nat_le 24 (length r) && used) kinds.FreeSpace (at + leading_count e r) = cc in
+      let holds : (nat_le 24 (length r) && used) ≡ true = ap (λ (g : Check Fault). g.holds) (sym first) ∙ held.0 in
+      let long : 24 ≤ length r = leb-true _ _ (and_split (nat_le 24 (length r)) used holds).0 in
+      let low : at + leading_count e r ≤ at + length r = omega (arith, run_within e r) in
+      first_among (λ (g : Fault). g.place.offset ≤ at + length r) (cell_checks s p at r) f
+      (low, state_within (state_of p (slice_index r 23)) s long) (d ∷ ds, c, after, is, held, fails, fault)
+
+-- of the cells of a body, which begins at a place
+body_within : (s : FileSystem) (p : Polarity) (from : ℕ) (body : List ℕ) (f : Fault) → file.IsFirstCellFault s p from body f
+    → f.place.offset ≤ from + length body
+body_within s p from body f first =
+    let low = cell_within (from + first.at) (drop first.at body) s p f first.fault_is in
+    omega (arith, low, first.inside, length-drop first.at body)
+
+-- ---- frames and files
+
+-- a frame of a stream ends within it
+frame_ends : (end : ℕ) (before : List FrameForm) (f : FrameForm) (behind : List FrameForm)
+    → framed.FramesWithin end (before ++ (f ∷ behind)) → f.offset + frame_len f ≤ end
+frame_ends end [] f behind all = all.0
+frame_ends end (g ∷ gs) f behind all = frame_ends end gs f behind all.1
+
+-- the data of a file of a volume end within it
+abbrev EndsBy : ℕ → FileForm → Type 0
+EndsBy end f = data_place f + length f.payload ≤ end
+
+files_end : (end : ℕ) (cs : List CellForm) → CellsWithin end cs → AllByRecursion (EndsBy end) (files_in cs)
+files_end end [] h = tt
+files_end end (Valid at head payload ∷ cs) (lies, made, rest) = (omega (arith, lies, made), files_end end cs rest)
+files_end end (Pad at head payload ∷ cs) (lies, made, rest) = files_end end cs rest
+files_end end (Dead at len ∷ cs) (lies, made, rest) = files_end end cs rest
+files_end end (Stub at len ∷ cs) (lies, made, rest) = files_end end cs rest
+files_end end (Free at len ∷ cs) (lies, made, rest) = files_end end cs rest
+
+-- ---- one level
+
+-- the fault lies within so many bytes that begin at a place, and at most so many levels deeper
+abbrev LiesIn : Place → ℕ → ℕ → Fault → Type 0
+LiesIn at len n e = (e.place.offset ≤ at.offset + len) × (e.place.depth ≤ at.depth + n)
+
+-- a fault that is moved does
+moved_lies : (P : Fault → Type 0) (at : Place) (len n : ℕ) (e : Fault) → ((f : Fault) → P f → f.place.offset ≤ len) → Moved at P e
+    → LiesIn at len n e
+moved_lies P at len n e within (f, first, is) =
+    let low = within f first in subst (LiesIn at len n) (sym is) (omega (arith, low), omega arith)
+
+-- the fault of the names of files lies within the bytes in which they begin
+names_within : (end len : ℕ) (fs : List FileForm) (f : Fault) → AllByRecursion (λ g. g.offset ≤ end) fs → NamesFault First len fs f
+    → f.place.offset ≤ end
+names_within end len fs f starts (inl (x, twin, is)) =
+    subst (λ (g : Fault). g.place.offset ≤ end) (sym is) (twin_within First end x fs starts twin)
+names_within end len fs f starts (inr (none, x, top, is)) =
+    let alive = all_filter (λ f. not (list_any (replaces f) fs)) (λ (f : FileForm). f.offset ≤ end) fs starts in
+    subst (λ (g : Fault). g.place.offset ≤ end) (sym is) (top_within end len x (alive_in fs) alive top)
+
+module _ (x : Extent) (v : List ℕ) (end : x.first + length (drop x.first v) ≡ length v) where
+  -- the cells that tile a body lie within the volume
+  cells_lie : (cells : List CellForm) → Tiles x.file_system x.polarity x.first cells (drop x.first v) → CellsWithin (length v) cells
+  cells_lie cells tiles =
+      subst (λ (n : ℕ). CellsWithin n cells) end (all_within x.file_system x.polarity x.first cells (drop x.first v) tiles)
+
+  -- so does the fault of its layout
+  layout_within : (f : Fault) → LayoutFault First x v f → f.place.offset ≤ length v
+  layout_within f (inl first) =
+      let low = body_within x.file_system x.polarity x.first (drop x.first v) f first in omega (arith, low, end)
+  layout_within f (inr (cells, tiles, names)) =
+      names_within (length v) x.length (files_in cells) f (files_within (length v) cells (cells_lie cells tiles)) names
+
+-- ---- by what stands inside
+
+-- a section has its first fault within its frame
+abbrev SectionLies : ℕ → Type 0
+SectionLies n = (e : Fault) (f : FrameForm) (at : Place) → InSection First n e f at → LiesIn at (f.offset + frame_len f) n e
+
+-- a stream has it within its bytes
+stream_by : (n : ℕ) → SectionLies n → (e : Fault) (b : List ℕ) (at : Place) → InStream First n e b at → LiesIn at (length b) n e
+stream_by n low e b at (inl moved) = moved_lies _ at (length b) n e (frame_within b) moved
+stream_by n low e b at (inr (frames, tail, split, (before, f, behind, is, read, first))) =
+    let ends = frame_ends (length b) before f behind (subst (framed.FramesWithin (length b)) is (whole_within frames tail b split)) in
+    let lies = low e f at first in
+    (omega (arith, lies.0, ends), lies.1)
+
+module _ (n : ℕ) (low : SectionLies n) (e : Fault) (at : Place) where
+  -- so has a body
+  body_by : (x : Extent) (v : List ℕ) → x.first + length (drop x.first v) ≡ length v → BodyFault First n (InStream First n) x e v at
+      → LiesIn at (length v) n e
+  body_by x v end (inl moved) = moved_lies _ at (length v) n e (layout_within x v end) moved
+  body_by x v end (inr (cells, tiles, right, (before, f, behind, is, read, (holds, first)))) =
+      let ends = files_end (length v) cells (cells_lie x v end cells tiles) in
+      let alive = all_filter (λ f. not (list_any (replaces f) (files_in cells))) (EndsBy (length v)) (files_in cells) ends in
+      let fits = in_middle (EndsBy (length v)) before f behind (subst (AllByRecursion (EndsBy (length v))) is alive) in
+      let lies = stream_by n low e f.payload (data_at at f) first in
+      (omega (arith, lies.0, fits), lies.1)
+
+  -- and a volume
+  volume_by : (b : List ℕ) → InVolume First n e b at → LiesIn at (length b) n e
+  volume_by b (inl moved) = moved_lies _ at (length b) n e (fault_within b) moved
+  volume_by b (inr (h, x, front, first)) =
+      let v : List ℕ = take x.length b in
+      let long : length v ≡ x.length = length-take-le x.length b front.whole in
+      let end : x.first + length (drop x.first v) ≡ length v =
+      omega (arith, long, length-drop x.first v, (first_lies b h x front).1) in
+      let lies = body_by x v end first in
+      (omega (arith, lies.0, long, front.whole), lies.1)
+
+-- ---- the recursion
+
+section_lies : (n : ℕ) → SectionLies n
+section_lies zero e f at (which, is) = subst (LiesIn at (f.offset + frame_len f) zero) (sym is) (omega arith, omega arith)
+section_lies (suc n) e f at (inl (group, first)) =
+    let lies = stream_by n (section_lies n) e f.body _ first in (omega (arith, lies.0), omega (arith, lies.1))
+section_lies (suc n) e f at (inr (kind, opens, first)) =
+    let lies = volume_by n (section_lies n) e _ f.body first in (omega (arith, lies.0), omega (arith, lies.1))
+
+-- ---- of bytes that were handed to a call
+
+-- their first fault lies within them, or at their end, and at most 8 levels deep
+pub first_within : (b : List ℕ) (e : Fault) → IsFirstOfVolume b e → (e.place.offset ≤ length b) × (e.place.depth ≤ depth_limit)
+first_within b e first =
+    let lies = volume_by depth_limit (section_lies depth_limit) e outermost b first in (omega (arith, lies.0), omega (arith, lies.1))
+
+-- and so does what an answer refuses, which is their first fault or want of memory
+pub refused_within : (b : List ℕ) (e : Fault) → (e ≢ want_of_memory → IsFirstOfVolume b e)
+    → (e.place.offset ≤ length b) × (e.place.depth ≤ depth_limit)
+refused_within b e first = go (want_known e) where
+  go : (e ≡ want_of_memory) ⊎ (e ≢ want_of_memory) → (e.place.offset ≤ length b) × (e.place.depth ≤ depth_limit)
+  go (inl want) = subst (λ (g : Fault). (g.place.offset ≤ length b) × (g.place.depth ≤ depth_limit)) (sym want) (omega arith, omega arith)
+  go (inr other) = first_within b e (first other)
