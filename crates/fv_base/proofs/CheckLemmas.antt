@@ -3,7 +3,7 @@ use Rattle.std.proofs.Common.{◌≡◌, List, [], ◌∷◌, ◌++◌, refl, ap
 use Rattle.std.specs.Prelude.{◌&&◌, Option, None, Some, Result, Ok, Err, IfErr, if◌then◌else◌}
 use Rattle.std.specs.List.{AllByRecursion}
 use Rattle.fv_base.specs.Checks.{Check, AllHold, IsFirstFault}
-use Rattle.fv_base.specs.Verdicts.{first_fault, verdict_by}
+use Rattle.fv_base.specs.inner.Verdicts.{first_fault, verdict_by}
 
 pub and_split : (a b : Bool) → (a && b) ≡ true → (a ≡ true) × (b ≡ true)
 and_split true b h = (refl, h)

@@ -15,6 +15,10 @@ header_limit = 2112
 abbrev pub ext_limit : ℕ
 ext_limit = 65535
 
+-- how many levels deep groups and opened volumes nest at most in a volume
+abbrev pub depth_limit : ℕ
+depth_limit = 8
+
 -- the most bytes of a file's data: those of a volume less the 32 of a large header
 abbrev pub data_limit : ℕ
 data_limit = 268435424

@@ -1,7 +1,7 @@
 //! Faults: why an input was rejected, and at which offset.
 
 ghost use Rattle.std.specs.Prelude.{◌≡◌, true, false, OnOk, IfErr};
-ghost use Rattle.fv_base.specs.Faults.{fault_number, outer_fault, want_of_memory};
+ghost use Rattle.fv_base.specs.Faults.{fault_number, outer_fault, out_of_memory};
 
 use std::alloc::{AllocError, AllocFailed};
 use thiserror::Error;
@@ -191,7 +191,7 @@ pub fn check(holds: bool, kind: FaultKind, offset: u64) -> Result<(), Fault>
 }
 
 impl From<AllocError> for Fault {
-    ghost from_gives = { λ _ f. f ≡ want_of_memory };
+    ghost from_gives = { λ _ f. f ≡ out_of_memory };
 
     fn from(_error: AllocError) -> Fault {
         Fault::outer(FaultKind::OutOfMemory, 0)
@@ -199,7 +199,7 @@ impl From<AllocError> for Fault {
 }
 
 impl<T: Drop> From<AllocFailed<T>> for Fault {
-    ghost from_gives = { λ _ f. f ≡ want_of_memory };
+    ghost from_gives = { λ _ f. f ≡ out_of_memory };
 
     fn from(_error: AllocFailed<T>) -> Fault {
         Fault::outer(FaultKind::OutOfMemory, 0)

@@ -3,8 +3,8 @@
 ghost use Rattle.std.specs.Prelude.{◌≡◌, ◌<◌, ◌≤◌, length, true, false, IfOk, IfErr, vec_len};
 ghost use Rattle.fv_base.specs.Port.{inner_of, has_erred};
 ghost use Rattle.fv_base.specs.Input.{ReadsWhole, ReadStops};
-ghost use Rattle.fv_base.specs.ReadTurns.{ReadsTurn};
-ghost use Rattle.fv_base.specs.ReadTurns.{read_limit};
+ghost use Rattle.fv_base.specs.inner.ReadTurns.{ReadsTurn};
+ghost use Rattle.fv_base.specs.inner.ReadTurns.{read_limit};
 
 use crate::fault::{Fault, FaultKind};
 use crate::limits::{READ_LIMIT, READ_TURNS, VOLUME_LIMIT};

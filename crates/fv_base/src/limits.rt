@@ -15,6 +15,9 @@ pub const HEADER_LIMIT: usize = 2112;
 /// The most bytes of an extended header.
 pub const EXT_LIMIT: u32 = 65_535;
 
+/// How many levels deep groups and opened volumes nest at most in a volume.
+pub const DEPTH_LIMIT: u8 = 8;
+
 /// The most bytes that a run reads as hexadecimal text: for each byte of a volume, two digits and
 /// as much white space.
 pub const TEXT_LIMIT: u64 = 4 * VOLUME_LIMIT;

@@ -3,13 +3,13 @@
 ghost use Rattle.std.specs.Prelude.{◌≡◌, ℕ, ◌⊎◌, ◌<◌, ◌≤◌, ◌^◌, List, [], length, take, replicate, true, false};
 ghost use Rattle.std.specs.Prelude.{IfOk, IfErr, OnErr, OnOk};
 ghost use Rattle.std.specs.Io.KnownBytes.{Appends};
-ghost use Rattle.fv_base.specs.Faults.{outer_fault, want_of_memory};
+ghost use Rattle.fv_base.specs.Faults.{outer_fault, out_of_memory};
 ghost use Rattle.fv_base.specs.Port.{inner_of, has_erred};
 ghost use Rattle.fv_base.specs.Sinks.{WalkLaws};
 ghost use Rattle.fv_base.specs.ListSinks.{KeptTakes, kept_in, is_on};
-ghost use Rattle.fv_base.specs.ListSinkLaws.{kept_by};
+ghost use Rattle.fv_base.specs.inner.ListSinkLaws.{kept_by};
 ghost use Rattle.fv_base.specs.WriteSinks.{SeenTakes};
-ghost use Rattle.fv_base.specs.WriteSinkLaws.{seen_by};
+ghost use Rattle.fv_base.specs.inner.WriteSinkLaws.{seen_by};
 
 use crate::byte_list::ByteList;
 use crate::fault::{Fault, FaultKind};
@@ -141,7 +141,7 @@ impl ListSink {
     /// OutOfMemory if memory ran out.
     pub fn finish(self) -> Result<ByteList, Fault>
         ensures ok { IfOk result (λ bytes. (is_on self ≡ true) × (bytes ≡ kept_in self)) }
-        ensures err { IfErr result (λ f. f ≡ want_of_memory) }
+        ensures err { IfErr result (λ f. f ≡ out_of_memory) }
         ensures refused { OnErr result (is_on self ≡ false) }
     {
         let ListSink { bytes, on } = self;

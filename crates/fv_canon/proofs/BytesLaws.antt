@@ -17,10 +17,10 @@ use Rattle.fv_head.specs.ExtImage.{IfRead, canonical_end, canonical_first, paylo
 use Rattle.fv_head.specs.ExtImage.{ext_len, ext_spelled}
 use Rattle.fv_head.proofs.Laws.{canonical_is}
 use Rattle.fv_canon.specs.StoredFiles.{StoredFile, stored_len, stored_bytes, pad_bytes, pads, long_pad, gap_bytes}
-use Rattle.fv_canon.specs.StoredWalks.{files_bytes, volume_bytes}
+use Rattle.fv_canon.specs.inner.StoredWalks.{files_bytes, volume_bytes}
 use Rattle.fv_canon.specs.StoredFiles.{ext_pad, used_size}
 use Rattle.fv_canon.proofs.CellLaws.{Storable, bytes_stored, bytes_pad_head, bytes_erased, bytes_pad}
-use Rattle.fv_canon.proofs.SpanLaws.{Writable}
+use Rattle.fv_canon.proofs.PlacedBytesLaws.{Writable}
 
 bytes_either : (q : Bool) (a b : List ℕ) → IsBytes a → IsBytes b → IsBytes (if q then a else b)
 bytes_either true a b h k = h
@@ -75,12 +75,12 @@ bytes_ext : (x : Extension) (used : ℕ) → IsReadExt x → IsBytes (ext_spelle
 unfolding ext_spelled
 bytes_ext x used (b, small, is) =
     let name : List ℕ = bytes_of x.name in
-    let parts : IsBytes (name ++ (is.head ++ is.rest)) = subst IsBytes is.text small in
-    let rest : IsBytes is.rest = bytes_back is.head is.rest (bytes_back name (is.head ++ is.rest) parts) in
+    let items : IsBytes (name ++ (is.head ++ is.rest)) = subst IsBytes is.text small in
+    let rest : IsBytes is.rest = bytes_back is.head is.rest (bytes_back name (is.head ++ is.rest) items) in
     let entries = bytes_entries used x.entries x.tail is.rest rest is.entries in
     bytes_append (name ++ le_bytes 4 (ext_len x) ++ entries_bytes used x.entries) x.tail
     (bytes_append (name ++ le_bytes 4 (ext_len x)) (entries_bytes used x.entries)
-    (bytes_append name (le_bytes 4 (ext_len x)) (bytes_front name (is.head ++ is.rest) parts) (bytes_le_bytes 4 (ext_len x)))
+    (bytes_append name (le_bytes 4 (ext_len x)) (bytes_front name (is.head ++ is.rest) items) (bytes_le_bytes 4 (ext_len x)))
     entries.0) entries.1
 
 bytes_ext_pad : (p : Polarity) (x : Option Extension) (used : ℕ) → IfRead x → IsBytes (ext_pad p x used)

@@ -5,9 +5,9 @@ use Rattle.fv_tree.specs.Files.{FileForm}
 use Rattle.fv_tree.specs.Meaning.{Meaning, Volume, FileMeanings, NoFiles, MoreFiles, FileMeaning, File, ContentMeaning, Plain, Sectioned}
 use Rattle.fv_tree.specs.Meaning.{SectionMeanings, NoSections, MoreSections, SectionMeaning, Section, Leaf, Group, Nested, files_list}
 use Rattle.fv_tree.specs.Meaning.{sections_list}
-use Rattle.fv_tree.specs.Denotes.{Sections, Streams, Volumes, Pairs, StreamOver, SectionOver, VolumeOver, MeansContent, MeansFile}
+use Rattle.fv_tree.specs.Denotes.{Sections, Streams, Volumes, Pairwise, StreamOver, SectionOver, VolumeOver, MeansContent, MeansFile}
 use Rattle.fv_tree.specs.Denotes.{MeansSection, Stream, Denotes}
-use Rattle.fv_canon.specs.Depths.{NestsVolume, NestsFiles, NestsFile, NestsContent, NestsSections, NestsSection}
+use Rattle.fv_canon.specs.inner.Depths.{NestsVolume, NestsFiles, NestsFile, NestsContent, NestsSections, NestsSection}
 
 abbrev SectionsIn : Sections → ℕ → Type 0
 SectionsIn p n = (f : FrameForm) (s : SectionMeaning) → p f s → NestsSection s n
@@ -18,7 +18,7 @@ StreamsIn p n = (ss : SectionMeanings) (t : ℕ) (b : List ℕ) → p (sections_
 abbrev VolumesIn : Volumes → ℕ → Type 0
 VolumesIn p n = (b : List ℕ) (m : Meaning) → p b m → NestsVolume m n
 
-pairs_in : (p : Sections) (n : ℕ) → SectionsIn p n → (fs : List FrameForm) (ss : SectionMeanings) → Pairs p fs (sections_list ss)
+pairs_in : (p : Sections) (n : ℕ) → SectionsIn p n → (fs : List FrameForm) (ss : SectionMeanings) → Pairwise p fs (sections_list ss)
     → NestsSections ss n
 pairs_in p n all [] NoSections h = tt
 pairs_in p n all [] (MoreSections s ss) h = absurd h
@@ -36,7 +36,7 @@ content_in p n all kind payload (Sectioned ss t) h = all ss t payload h.1
 pub file_in : (p : Streams) (n : ℕ) → StreamsIn p n → (f : FileForm) (m : FileMeaning) → MeansFile p f m → NestsFile m n
 file_in p n all f (File name kind attributes content) (a, b, c, d) = content_in p n all kind f.payload content d
 
-files_in : (p : Streams) (n : ℕ) → StreamsIn p n → (fs : List FileForm) (ms : FileMeanings) → Pairs (MeansFile p) fs (files_list ms)
+files_in : (p : Streams) (n : ℕ) → StreamsIn p n → (fs : List FileForm) (ms : FileMeanings) → Pairwise (MeansFile p) fs (files_list ms)
     → NestsFiles ms n
 files_in p n all [] NoFiles h = tt
 files_in p n all [] (MoreFiles m ms) h = absurd h

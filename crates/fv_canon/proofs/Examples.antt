@@ -9,7 +9,7 @@ use Rattle.fv_head.specs.Head.{HeadFields}
 use Rattle.fv_head.specs.HeadImage.{canonical_head, head_spelled}
 use Rattle.fv_head.specs.ExtImage.{ext_spelled}
 use Rattle.fv_tree.specs.Meaning.{Volume, NoFiles, MoreFiles, File, Plain, Sectioned, NoSections, MoreSections, Section, Leaf, Nested}
-use Rattle.fv_canon.specs.ImageOf.{image_of}
+use Rattle.fv_canon.specs.inner.ImageOf.{image_of}
 use Rattle.fv_canon.specs.StoredFiles.{stored_bytes, pad_bytes, gap_bytes, ext_pad}
 use Rattle.fv_canon.proofs.PadLaws.{pads_rule}
 

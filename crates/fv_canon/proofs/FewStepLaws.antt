@@ -15,7 +15,7 @@ use Rattle.fv_tree.specs.declared.difference.Step.{Step}
 use Rattle.fv_tree.specs.declared.difference.Step.TheVariants as steps
 use Rattle.fv_tree.specs.declared.difference.Word.{Word}
 use Rattle.fv_tree.specs.declared.difference.Word.TheVariants as words
-use Rattle.fv_canon.specs.Depths.{NestsVolume, NestsFiles, NestsFile, NestsContent, NestsSections, NestsSection, NestsBody}
+use Rattle.fv_canon.specs.inner.Depths.{NestsVolume, NestsFiles, NestsFile, NestsContent, NestsSections, NestsSection, NestsBody}
 use Rattle.fv_canon.proofs.DepthLaws.{nests}
 
 -- they differ no more than so many steps down, if at all

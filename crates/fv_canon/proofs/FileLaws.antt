@@ -12,20 +12,20 @@ use Rattle.fv_canon.specs.Starts.{StandsInVolume}
 use Rattle.fv_tree.specs.Meaning.{FileMeaning, File, files_from, file_name_of, file_kind_of, attributes_of, content_of}
 use Rattle.fv_tree.specs.Meaning.{data_len_of}
 use Rattle.fv_tree.specs.Denotes.{IsReadFile, MeansSection, Stream}
-use Rattle.fv_canon.specs.ImageOf.{stored_of, stored_file, data_of, starts_in}
-use Rattle.fv_canon.specs.Layouts.{part_of}
+use Rattle.fv_canon.specs.inner.ImageOf.{stored_of, stored_file, data_of, starts_in}
+use Rattle.fv_canon.specs.Layouts.{layout_item}
 use Rattle.fv_canon.specs.Volumes.{volumes_in_files, volumes_in_file, volumes_in_content}
 use Rattle.fv_canon.specs.StoredFiles.{stored_len, size_for, head_len_for, file_sum_for, stored_bytes, gap_bytes}
-use Rattle.fv_canon.specs.StoredWalks.{files_bytes}
+use Rattle.fv_canon.specs.inner.StoredWalks.{files_bytes}
 use Rattle.fv_canon.proofs.ItemLaws.{item_at}
 use Rattle.fv_canon.proofs.VolumeListLaws.{item_begins, item_left}
 use Rattle.fv_canon.proofs.WrittenImageLaws.{data_made, stream_made, sections_made}
 use Rattle.fv_canon.proofs.OneImageLaws.{follow_length}
 use Rattle.fv_canon.proofs.StreamLaws.{stream_again}
 use Rattle.fv_canon.proofs.VolumeLaws.{data_again, sections_again}
-use Rattle.fv_canon.specs.Placed.{ArePlaced}
+use Rattle.fv_canon.specs.inner.Placed.{ArePlaced}
 use Rattle.fv_base.specs.Sinks.{WalkLaws}
-use Rattle.fv_canon.specs.ImageWalks.{BeginsWithStarts, TakesFront}
+use Rattle.fv_canon.specs.inner.ImageWalks.{BeginsWithStarts, TakesFront}
 
 -- ---- a file
 pub file_long : (m : FileMeaning) (starts : List ℕ) → IsReadFile m → BeginsWithStarts (volumes_in_file m) starts
@@ -61,7 +61,7 @@ content_laid (File name kind attributes content) starts laid = laid
 
 -- what is known of the file at a place
 pub record Here (total e : ℕ) (f : FileMeaning) (s : ℕ) : Type 0 where
-  pub stands : StandsInVolume total e (part_of f) s
+  pub stands : StandsInVolume total e (layout_item f) s
   pub low : e ≤ s
   pub apart : (s - e ≡ 0) ⊎ (24 ≤ s - e)
   pub multiple : (s - e) % 8 ≡ 0
@@ -72,9 +72,9 @@ pub record Here (total e : ℕ) (f : FileMeaning) (s : ℕ) : Type 0 where
 pub own_length : (total e : ℕ) (fs : List FileMeaning) (own : List ℕ) (i : ℕ) → i < length fs → ArePlaced total e (drop i fs) (drop i own)
     → i < length own
 own_length total e fs own i l placed =
-    let same = follow_length total e (map part_of (drop i fs)) (drop i own) placed.follow in
-    let parts = length-map (drop i fs) part_of in
-    omega (arith, l, same, parts, length-drop i fs, length-drop i own)
+    let same = follow_length total e (map layout_item (drop i fs)) (drop i own) placed.follow in
+    let items = length-map (drop i fs) layout_item in
+    omega (arith, l, same, items, length-drop i fs, length-drop i own)
 
 pub here_is : (total e : ℕ) (f : FileMeaning) (fs : List FileMeaning) (s : ℕ) (ss : List ℕ) → ArePlaced total e (f ∷ fs) (s ∷ ss)
     → Here total e f s
@@ -124,7 +124,8 @@ pub files_go : (p : Polarity) (total e : ℕ) (f : FileMeaning) (fs : List FileM
     → files_bytes p total e (stored_of (files_from (f ∷ fs)) starts) (s ∷ ss)
     ≡ (gap_bytes p (s - e) ++ (stored_bytes p (stored_file f starts)
     ++ replicate (up_to_8 (s + size_for (data_len_of f)) - (s + size_for (data_len_of f))) (erased_byte p)))
-    ++ files_bytes p total (up_to_8 (s + size_for (data_len_of f))) (stored_of (files_from fs) (drop (starts_in (volumes_in_file f)) starts)) ss
+    ++ files_bytes p total (up_to_8 (s + size_for (data_len_of f))) (stored_of (files_from fs) (drop (starts_in (volumes_in_file f))
+    starts)) ss
 files_go p total e f fs s ss starts size =
     let gap : List ℕ = gap_bytes p (s - e) in
     let file : List ℕ = stored_bytes p (stored_file f starts) in

@@ -4,15 +4,15 @@ use Rattle.fv_base.specs.Value.{up_to_8}
 use Rattle.fv_base.specs.declared.fault.Fault.{Fault}
 use Rattle.fv_tree.specs.Meaning.{Meaning}
 use Rattle.fv_canon.specs.Starts.{StartsFollow, TopOff, IsOff}
-use Rattle.fv_canon.specs.declared.first_placement.Part.{Part}
-use Rattle.fv_canon.specs.Layouts.{parts_of, AreStarts, AreLeast, Laid, LaysVolume, LeastVolume, IsPlaced, AllFit, Fits, UnfitHere}
+use Rattle.fv_canon.specs.declared.first_placement.LayoutItem.{LayoutItem}
+use Rattle.fv_canon.specs.Layouts.{layout_items, AreStarts, AreLeast, Laid, LaysVolume, LeastVolume, IsPlaced, AllFit, Fits, UnfitHere}
 use Rattle.fv_canon.specs.Layouts.{FirstUnfit, Unfit}
 use Rattle.fv_canon.specs.Volumes.{Inside, volumes_in}
 use Rattle.fv_canon.proofs.PlacementLaws.{agree}
 use Rattle.fv_canon.proofs.VolumeListLaws.{laid_fit, fit_laid}
 
 -- a top file that is off cannot stand
-off_none : (total e : ℕ) (f : Part) (s : ℕ) → s + f.size ≡ total → (s + f.header) % f.alignment ≡ 0 → s % 8 ≡ 0 → IsOff total f → ⊥
+off_none : (total e : ℕ) (f : LayoutItem) (s : ℕ) → s + f.size ≡ total → (s + f.header) % f.alignment ≡ 0 → s % 8 ≡ 0 → IsOff total f → ⊥
 off_none total e f s at aligned eighth (inl a) = a (ap (λ (n : ℕ). (n + f.header) % f.alignment) (start total f.size at) ∙ aligned)
   where
     start : (total n : ℕ) → s + n ≡ total → total - n ≡ s
@@ -22,7 +22,7 @@ off_none total e f s at aligned eighth (inr b) = b (ap (λ (n : ℕ). n % 8) (st
     start : (total n : ℕ) → s + n ≡ total → total - n ≡ s
     start total n e = omega (arith, e)
 
-top_none : (total e : ℕ) (fs : List Part) (ss : List ℕ) → TopOff total fs → StartsFollow total e fs ss → ⊥
+top_none : (total e : ℕ) (fs : List LayoutItem) (ss : List ℕ) → TopOff total fs → StartsFollow total e fs ss → ⊥
 top_none total e [] ss off follow = absurd off
 top_none total e (f ∷ fs) [] off follow = absurd follow
 top_none total e (f ∷ fs) (s ∷ ss) (inl (top, off)) follow =
@@ -38,7 +38,7 @@ fits_laid m fit = fit_laid (volumes_in m) fit
 
 -- what is refused cannot be placed
 here_none : (v : Inside) (depth : ℕ) (f : Fault) → UnfitHere v.volume depth f → IsPlaced v → ⊥
-here_none v depth f (inl (off, is)) (own, placed) = top_none _ _ (parts_of v.volume) own off placed.placement.follow
+here_none v depth f (inl (off, is)) (own, placed) = top_none _ _ (layout_items v.volume) own off placed.placement.follow
 here_none v depth f (inr (short, is)) (own, placed) = short.none own placed.placement
 
 pub first_none : (vs : List Inside) (depth : ℕ) (f : Fault) → FirstUnfit vs depth f → AllFit vs → ⊥
@@ -70,7 +70,7 @@ one_fault m depth f g un other = first_fault (volumes_in m) depth f g un other
 least_are : (vs : List Inside) (starts : List ℕ) → Laid AreLeast vs starts → Laid AreStarts vs starts
 least_are [] starts laid = laid
 least_are (v ∷ vs) starts (own, inner, text, (least, placed), laid) =
-    (own, inner, text, agree _ _ (parts_of v.volume) own least placed, least_are vs inner laid)
+    (own, inner, text, agree _ _ (layout_items v.volume) own least placed, least_are vs inner laid)
 
 pub least_laid : (m : Meaning) (starts : List ℕ) → LeastVolume m starts → LaysVolume m starts
 least_laid m starts laid = least_are (volumes_in m) starts laid

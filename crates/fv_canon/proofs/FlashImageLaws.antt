@@ -7,14 +7,14 @@ use Rattle.std.proofs.lemmas.List.{drop_more, ext_get_or, get_or-drop, get_or-ta
 use Rattle.std.proofs.lemmas.List.{take-append-drop}
 use Rattle.std.proofs.Math.ListN.{drop_of_length-le}
 use Rattle.std.proofs.Math.Seq.{drop-append_seam, take-append_seam}
-use Rattle.fv_base.specs.Faults.{want_of_memory}
+use Rattle.fv_base.specs.Faults.{out_of_memory}
 use Rattle.fv_base.specs.Sinks.{WalkLaws}
 use Rattle.fv_base.specs.Value.{field}
 use Rattle.fv_base.specs.declared.fault.Fault.{Fault}
-use Rattle.fv_tree.specs.Denotes.{depth_limit}
+use Rattle.fv_base.specs.Limits.{depth_limit}
 use Rattle.fv_tree.specs.FirstFault.{moved_fault}
 use Rattle.fv_tree.specs.FoundVolumes.{Found, IsCovered, VolumeAt}
-use Rattle.fv_tree.specs.FoundWalks.{FoundFrom}
+use Rattle.fv_tree.specs.inner.FoundWalks.{FoundFrom}
 use Rattle.fv_tree.specs.Meaning.{Meaning}
 use Rattle.fv_tree.proofs.Laws.{at_within, found_walk, one_found, one_length, one_of, want_known}
 use Rattle.fv_base.proofs.Laws.{first_or_behind, in_middle, one_behind}
@@ -120,7 +120,7 @@ renews_more b ps bytes x image rest from p n least v same long gap_long front_lo
 -- ---- one volume
 
 -- its fault has a place in the image
-pub place_fits : (b x : List ℕ) (p : ℕ) (f : Fault) → VolumeAt b p (length x) → length b < 2 ^ 63 → (f ≡ want_of_memory) ⊎ Refuses x f
+pub place_fits : (b x : List ℕ) (p : ℕ) (f : Fault) → VolumeAt b p (length x) → length b < 2 ^ 63 → (f ≡ out_of_memory) ⊎ Refuses x f
     → p + f.place.offset < 2 ^ 64
 place_fits b x p f v small (inl want) =
     let none : f.place.offset ≡ 0 = ap (λ (g : Fault). g.place.offset) want in
@@ -240,12 +240,12 @@ module _ {S : Type 0} (takes : S → List ℕ → S → Type 0) (laws : WalkLaws
   -- the fault of the next volume is told at its place, or memory was wanted
   pub puts_told : {t : S} (i from : ℕ) (x : List ℕ) (own f : Fault) → Puts takes s t b places i from → i < length places
       → VolumeAt b (get_or places i 0) (length x) → x ≡ field (get_or places i 0) (length x) b
-      → (own ≡ want_of_memory) ⊎ Refuses x own
-      → (f ≢ want_of_memory → (own ≢ want_of_memory) × (f ≡ moved_fault (get_or places i 0) own.place.depth own))
-      → (f ≡ want_of_memory) ⊎ FirstRefused b places f
+      → (own ≡ out_of_memory) ⊎ Refuses x own
+      → (f ≢ out_of_memory → (own ≢ out_of_memory) × (f ≡ moved_fault (get_or places i 0) own.place.depth own))
+      → (f ≡ out_of_memory) ⊎ FirstRefused b places f
   puts_told i from x own f puts less volume is why told = go (want_known f) why where
-    go : (f ≡ want_of_memory) ⊎ (f ≢ want_of_memory) → (own ≡ want_of_memory) ⊎ Refuses x own
-        → (f ≡ want_of_memory) ⊎ FirstRefused b places f
+    go : (f ≡ out_of_memory) ⊎ (f ≢ out_of_memory) → (own ≡ out_of_memory) ⊎ Refuses x own
+        → (f ≡ out_of_memory) ⊎ FirstRefused b places f
     go (inl want) why = inl want
     go (inr other) (inl want) = absurd ((told other).0 want)
     go (inr other) (inr refused) =
@@ -331,7 +331,7 @@ renewed_never b places other f found stops (short, places', found', s) =
     (subst (λ (k : ℕ). NormalisesTo (field stops.place k b) (field stops.place k other)) long is.2)
 
 -- so where all volumes have images, only memory can be wanting
-pub only_want : (b places other : List ℕ) (f : Fault) → Found b places → (f ≡ want_of_memory) ⊎ FirstRefused b places f
-    → NormalisesAll b other → f ≡ want_of_memory
+pub only_want : (b places other : List ℕ) (f : Fault) → Found b places → (f ≡ out_of_memory) ⊎ FirstRefused b places f
+    → NormalisesAll b other → f ≡ out_of_memory
 only_want b places other f found (inl want) to = want
 only_want b places other f found (inr stops) to = absurd (renewed_never b places other f found stops to)

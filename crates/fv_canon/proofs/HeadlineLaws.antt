@@ -5,8 +5,9 @@ use Rattle.fv_section.specs.Frames.{FrameForm}
 use Rattle.fv_tree.specs.Files.{FileForm}
 use Rattle.fv_tree.specs.Meaning.{Meaning, FileMeaning, File, ContentMeaning, Plain, Sectioned, SectionMeaning, Section, Leaf, Group}
 use Rattle.fv_tree.specs.Meaning.{Nested, sections_list, files_of}
-use Rattle.fv_tree.specs.Denotes.{Sections, Streams, Volumes, Pairs, StreamOver, SectionOver, VolumeOver, MeansContent, MeansFile}
-use Rattle.fv_tree.specs.Denotes.{MeansSection, Stream, Denotes, Accepted, depth_limit}
+use Rattle.fv_tree.specs.Denotes.{Sections, Streams, Volumes, Pairwise, StreamOver, SectionOver, VolumeOver, MeansContent, MeansFile}
+use Rattle.fv_base.specs.Limits.{depth_limit}
+use Rattle.fv_tree.specs.Denotes.{MeansSection, Stream, Denotes, Accepted}
 use Rattle.fv_canon.specs.Image.{IsImage}
 use Rattle.fv_canon.specs.Headline.{MeanSame, SameMeaningIffSameImage, ImageKeepsLengthAndMeaning, ImageIsItsOwnImage, OneMeaning}
 use Rattle.fv_canon.proofs.MeaningLaws.{one_meaning}
@@ -14,8 +15,8 @@ use Rattle.fv_canon.proofs.OneImageLaws.{image_one}
 use Rattle.fv_canon.proofs.VolumeLaws.{image_bytes, image_denotes, image_long}
 
 -- ---- what nests to a depth at most nests to a greater one at most
-pairs_more : {A B : Type 0} (p q : A → B → Type 0) → ((x : A) (y : B) → p x y → q x y) → (xs : List A) (ys : List B) → Pairs p xs ys
-    → Pairs q xs ys
+pairs_more : {A B : Type 0} (p q : A → B → Type 0) → ((x : A) (y : B) → p x y → q x y) → (xs : List A) (ys : List B) → Pairwise p xs ys
+    → Pairwise q xs ys
 pairs_more p q more [] [] h = tt
 pairs_more p q more [] (y ∷ ys) h = absurd h
 pairs_more p q more (x ∷ xs) [] h = absurd h
@@ -43,7 +44,7 @@ volume_more p q more b m d = record {
   cells = d.cells;
   tiles = d.tiles;
   files = d.files;
-  alive = d.alive;
+  current = d.current;
   meanings = pairs_more (MeansFile p) (MeansFile q) (file_more p q more) d.files (files_of m) d.meanings;
 }
 

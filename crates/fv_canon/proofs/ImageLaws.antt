@@ -5,7 +5,7 @@ use Rattle.fv_head.proofs.Laws.{front_lies}
 use Rattle.fv_tree.specs.Denotes.{Accepted, IsMeaning}
 use Rattle.fv_tree.specs.Meaning.{Meaning, head_of}
 use Rattle.fv_canon.specs.Image.{IsImage}
-use Rattle.fv_canon.specs.ImageOf.{image_of}
+use Rattle.fv_canon.specs.inner.ImageOf.{image_of}
 use Rattle.fv_canon.specs.Layouts.{Fits, LaysVolume}
 use Rattle.fv_canon.specs.Headline.{MeanSame, NormalisesTo, WhatFitsHasAnImage}
 use Rattle.fv_canon.proofs.FitLaws.{fits_laid}

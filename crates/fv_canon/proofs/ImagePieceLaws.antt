@@ -8,7 +8,7 @@ use Rattle.fv_base.specs.declared.fault.Fault.{Fault}
 use Rattle.fv_tree.specs.Denotes.{IsReadFile, IsReadSection, MeansSection, Stream}
 use Rattle.fv_tree.specs.Meaning.{FileMeaning, File, SectionMeaning, Section, content_of, body_of}
 use Rattle.fv_canon.specs.Image.{IsData, IsBodyImage, IsFrame}
-use Rattle.fv_canon.specs.ImageOf.{data_of, body_image, frame_of}
+use Rattle.fv_canon.specs.inner.ImageOf.{data_of, body_image, frame_of}
 use Rattle.fv_canon.specs.Layouts.{AreStarts, Laid}
 use Rattle.fv_canon.specs.Volumes.{volumes_in_body, volumes_in_content}
 use Rattle.fv_canon.proofs.VolumeListLaws.{laid_deeper}

@@ -3,11 +3,12 @@ use Rattle.std.proofs.Common.{◌≡◌, ◌≢◌, ◌≤◌, ◌<◌, ℕ, Lis
 use Rattle.std.specs.Prelude.{◌==◌, Bool, Result, Ok, Err, IfErr, IsErrAnd}
 use Rattle.std.proofs.lemmas.List.{take_all}
 use Rattle.std.proofs.lemmas.Bool.{eqb-true, eq-eqb}
-use Rattle.fv_base.specs.Faults.{outer_fault, want_of_memory}
+use Rattle.fv_base.specs.Faults.{outer_fault, out_of_memory}
 use Rattle.fv_base.specs.declared.fault.Fault.{Fault}
 use Rattle.fv_base.specs.declared.fault.FaultKind.{FaultKind}
 use Rattle.fv_base.specs.declared.fault.FaultKind.TheVariants as kinds
-use Rattle.fv_tree.specs.Denotes.{Accepted, Denotes, depth_limit}
+use Rattle.fv_base.specs.Limits.{depth_limit}
+use Rattle.fv_tree.specs.Denotes.{Accepted, Denotes}
 use Rattle.fv_tree.specs.FirstFault.{FaultStands, IsFirstOfVolume}
 use Rattle.fv_tree.specs.Meaning.{Meaning, length_of}
 use Rattle.fv_tree.proofs.Laws.{fault_stands, stands_other, want_known}
@@ -33,10 +34,10 @@ input_prefix b m d = subst (λ (xs : List ℕ). Denotes depth_limit xs m) (sym (
 
 -- an input that begins with no volume is none
 pub volume_refused : (b : List ℕ) (f : Fault)
-    → (f ≢ want_of_memory → (n : ℕ) (m : Meaning) → n ≤ length b → Denotes depth_limit (take n b) m → ⊥)
-    → (f ≢ want_of_memory → IsFirstOfVolume b f) → (f ≡ want_of_memory) ⊎ NotRead b f
+    → (f ≢ out_of_memory → (n : ℕ) (m : Meaning) → n ≤ length b → Denotes depth_limit (take n b) m → ⊥)
+    → (f ≢ out_of_memory → IsFirstOfVolume b f) → (f ≡ out_of_memory) ⊎ NotRead b f
 volume_refused b f none first = go (want_known f) where
-  go : (f ≡ want_of_memory) ⊎ (f ≢ want_of_memory) → (f ≡ want_of_memory) ⊎ NotRead b f
+  go : (f ≡ out_of_memory) ⊎ (f ≢ out_of_memory) → (f ≡ out_of_memory) ⊎ NotRead b f
   go (inl want) = inl want
   go (inr other) =
       inr (record {
@@ -81,8 +82,8 @@ end_only b v n only m d = (only (length b) m (omega arith) (input_prefix b m d.1
 
 -- ---- a volume that fits
 
--- an input that has an image is refused for want of memory alone
-pub not_read_never : (b image : List ℕ) (f : Fault) → (f ≡ want_of_memory) ⊎ NotRead b f → NormalisesTo b image → f ≡ want_of_memory
+-- an input that has an image is refused for out of memory alone
+pub not_read_never : (b image : List ℕ) (f : Fault) → (f ≡ out_of_memory) ⊎ NotRead b f → NormalisesTo b image → f ≡ out_of_memory
 not_read_never b image f (inl want) to = want
 not_read_never b image f (inr bad) (m, d, is) = absurd (bad.none m d)
 
@@ -91,12 +92,12 @@ pub image_fits : (b image : List ℕ) (v : Meaning) → ((m : Meaning) → Accep
 image_fits b image v only (m, d, is) = subst Fits (only m d) (has_image_fits m image is)
 
 -- what does not fit is refused
-pub not_placed : (b : List ℕ) (v : Meaning) (f : Fault) → Accepted b v → (f ≡ want_of_memory) ⊎ Unfit v 0 f
-    → (f ≡ want_of_memory) ⊎ Refuses b f
+pub not_placed : (b : List ℕ) (v : Meaning) (f : Fault) → Accepted b v → (f ≡ out_of_memory) ⊎ Unfit v 0 f
+    → (f ≡ out_of_memory) ⊎ Refuses b f
 not_placed b v f d (inl want) = inl want
 not_placed b v f d (inr unfit) = inr (inr (v, d, unfit))
 
-pub not_read : (b : List ℕ) (f : Fault) → (f ≡ want_of_memory) ⊎ NotRead b f → (f ≡ want_of_memory) ⊎ Refuses b f
+pub not_read : (b : List ℕ) (f : Fault) → (f ≡ out_of_memory) ⊎ NotRead b f → (f ≡ out_of_memory) ⊎ Refuses b f
 not_read b f (inl want) = inl want
 not_read b f (inr bad) = inr (inl bad)
 
@@ -107,22 +108,22 @@ abbrev pub IsOfInput : FaultKind → Type 0
 IsOfInput kind = (kind ≢ kinds.ReadFault) × (kind ≢ kinds.WriteFault)
 
 -- the fault of a layout is none of a run
-pub unfit_kind : (v : Meaning) (f : Fault) → (f ≡ want_of_memory) ⊎ Unfit v 0 f → IsOfInput f.kind
+pub unfit_kind : (v : Meaning) (f : Fault) → (f ≡ out_of_memory) ⊎ Unfit v 0 f → IsOfInput f.kind
 unfit_kind v f (inl want) = subst (λ (g : Fault). IsOfInput g.kind) (sym want) (λ e. cc, λ e. cc)
 unfit_kind v f (inr unfit) = go (unfit_is v 0 f unfit) where
   go : IsOfLayout f.kind → IsOfInput f.kind
   go (inl is) = subst IsOfInput (sym is) (λ e. cc, λ e. cc)
   go (inr is) = subst IsOfInput (sym is) (λ e. cc, λ e. cc)
 
--- nor is one that is of an input wherever it is no want of memory
-pub input_kind : (f : Fault) → (f ≢ want_of_memory → IsOfInput f.kind) → IsOfInput f.kind
+-- nor is one that is of an input wherever it is no out of memory
+pub input_kind : (f : Fault) → (f ≢ out_of_memory → IsOfInput f.kind) → IsOfInput f.kind
 input_kind f known = go (want_known f) where
-  go : (f ≡ want_of_memory) ⊎ (f ≢ want_of_memory) → IsOfInput f.kind
+  go : (f ≡ out_of_memory) ⊎ (f ≢ out_of_memory) → IsOfInput f.kind
   go (inl want) = subst (λ (g : Fault). IsOfInput g.kind) (sym want) (λ e. cc, λ e. cc)
   go (inr other) = known other
 
 -- so the kind of a fault whose condition stands is none of a run
-pub stood_kind : (b : List ℕ) (f : Fault) → (f ≢ want_of_memory → FaultStands b f) → IsOfInput f.kind
+pub stood_kind : (b : List ℕ) (f : Fault) → (f ≢ out_of_memory → FaultStands b f) → IsOfInput f.kind
 stood_kind b f stands =
     input_kind f (λ other. (stands_other b f kinds.ReadFault refl (stands other), stands_other b f kinds.WriteFault refl (stands other)))
 
@@ -143,11 +144,11 @@ only_what_does_not_fit_is_refused b f (inl bad) = (λ layout. absurd (first_kind
 only_what_does_not_fit_is_refused b f (inr (m, d, unfit)) =
     (λ layout. (m, d, unfit_none m 0 f unfit), λ other. absurd (other (unfit_is m 0 f unfit)))
 
-pub unfit_refused : (b : List ℕ) (f : Fault) → (f ≡ want_of_memory) ⊎ Refuses b f → IsOfLayout f.kind → IsUnfit b
+pub unfit_refused : (b : List ℕ) (f : Fault) → (f ≡ out_of_memory) ⊎ Refuses b f → IsOfLayout f.kind → IsUnfit b
 unfit_refused b f (inl want) layout = absurd (not_layout f.kind layout (ap (λ (g : Fault). g.kind) want))
 unfit_refused b f (inr why) layout = (only_what_does_not_fit_is_refused b f why).0 layout
 
-pub unread_refused : (b : List ℕ) (f : Fault) → (f ≡ want_of_memory) ⊎ Refuses b f → f ≢ want_of_memory → (IsOfLayout f.kind → ⊥)
+pub unread_refused : (b : List ℕ) (f : Fault) → (f ≡ out_of_memory) ⊎ Refuses b f → f ≢ out_of_memory → (IsOfLayout f.kind → ⊥)
     → IsNoVolume b
 unread_refused b f (inl want) memory other = absurd (memory want)
 unread_refused b f (inr why) memory other = (only_what_does_not_fit_is_refused b f why).1 other

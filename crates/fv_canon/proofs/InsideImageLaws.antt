@@ -1,5 +1,6 @@
 -- In an image each volume inside has its own image, as consecutive bytes.
-use Rattle.std.proofs.Common.{◌≡◌, ◌-◌, ◌+◌, ℕ, List, [], ◌∷◌, ◌++◌, length, take, drop, replicate, refl, sym, ap, ◌∙◌, append_assoc, append-nil}
+use Rattle.std.proofs.Common.{◌≡◌, ◌-◌, ◌+◌, ℕ, List, [], ◌∷◌, ◌++◌, length, take, drop, replicate, refl, sym, ap, ◌∙◌, append_assoc}
+use Rattle.std.proofs.Common.{append-nil}
 use Rattle.std.specs.List.{AllByRecursion}
 use Rattle.std.specs.Prelude.{map}
 use Rattle.std.proofs.lemmas.List.{take-append-drop}
@@ -16,10 +17,10 @@ use Rattle.fv_tree.specs.Meaning.{files_list}
 use Rattle.fv_tree.specs.Denotes.{IsMeaning}
 use Rattle.fv_canon.specs.Headline.{IsWithin, HasOwnImage, EachVolumeHasItsImage}
 use Rattle.fv_canon.specs.Image.{IsImage, AreStored, IsStored, IsData, AreFrames, IsFrame, IsBodyImage}
-use Rattle.fv_canon.specs.Layouts.{part_of, first_edge}
-use Rattle.fv_canon.specs.Spans.{Span, StandsIn, AllStandIn}
+use Rattle.fv_canon.specs.Layouts.{layout_item, first_edge}
+use Rattle.fv_canon.specs.PlacedBytes.{PlacedBytes, StandsIn, AllStandIn}
 use Rattle.fv_canon.specs.Starts.{StartsFollow}
-use Rattle.fv_canon.specs.StoredFiles.{StoredFile, stored_bytes, stored_len, file_sum_for, file_spans}
+use Rattle.fv_canon.specs.StoredFiles.{StoredFile, stored_bytes, stored_len, file_sum_for, placed_files}
 use Rattle.fv_canon.specs.Volumes.{Inside, volumes_in, volumes_in_files, volumes_in_file, volumes_in_content, volumes_in_sections}
 use Rattle.fv_canon.specs.Volumes.{volumes_in_section, volumes_in_body}
 use Rattle.fv_canon.proofs.InsideMeaningLaws.{inside_meant}
@@ -35,7 +36,7 @@ within_within a b c (w, x, p) (y, z, q) = (
       ∙ ap (λ (xs : List ℕ). w ++ xs) (append_assoc a x z)) ∙ sym (append_assoc y w (a ++ (x ++ z))),
 )
 
-stands_within : (b : List ℕ) (p : Span) → StandsIn b p → IsWithin p.bytes b
+stands_within : (b : List ℕ) (p : PlacedBytes) → StandsIn b p → IsWithin p.bytes b
 stands_within b p (low, is) = (
   take p.at b,
   drop (length p.bytes) (drop p.at b),
@@ -94,8 +95,8 @@ mutual
   )
 
   files_inside : (files : FileMeanings) (stored : List StoredFile) (starts b : List ℕ) (p : Polarity) (total e k : ℕ)
-      → AreStored files stored → StartsFollow total e (map part_of (files_list files)) starts
-      → AllStandIn b (file_spans p k stored starts) → AllByRecursion (HasOwnImage b) (volumes_in_files files)
+      → AreStored files stored → StartsFollow total e (map layout_item (files_list files)) starts
+      → AllStandIn b (placed_files p k stored starts) → AllByRecursion (HasOwnImage b) (volumes_in_files files)
   files_inside NoFiles stored starts b p total e k are follow stand = tt
   files_inside (MoreFiles f fs) [] starts b p total e k are follow stand = absurd are
   files_inside (MoreFiles f fs) (x ∷ xs) [] b p total e k are follow stand = absurd follow
@@ -103,7 +104,7 @@ mutual
       each_joined (HasOwnImage b) (volumes_in_file f) (volumes_in_files fs)
       (file_inside f x b are.0 (within_within x.payload (stored_bytes p x) b (payload_within p x)
       (stands_within b (record { at = s; bytes = stored_bytes p x }) stand.1.0)))
-      (files_inside fs xs ss b p total (up_to_8 (s + (part_of f).size)) (up_to_8 (s + stored_len x)) are.1 follow.1 stand.1.1)
+      (files_inside fs xs ss b p total (up_to_8 (s + (layout_item f).size)) (up_to_8 (s + stored_len x)) are.1 follow.1 stand.1.1)
 
   file_inside : (m : FileMeaning) (x : StoredFile) (b : List ℕ) → IsStored m x → IsWithin x.payload b
       → AllByRecursion (HasOwnImage b) (volumes_in_file m)
@@ -126,7 +127,8 @@ mutual
   frame_inside : (s : SectionMeaning) (f : FrameForm) (d : List ℕ) → IsFrame s f → IsWithin f.body d
       → AllByRecursion (HasOwnImage d) (volumes_in_section s)
   frame_inside (Section kind extended body) f d (kinds, form, is) within =
-      each_deeper (λ m. (own : List ℕ) × IsImage m own × IsWithin own d) (volumes_in_body body) (all_wider f.body d within (volumes_in_body body) (body_inside body f.body is))
+      each_deeper (λ m. (own : List ℕ) × IsImage m own × IsWithin own d) (volumes_in_body body) (all_wider f.body d within
+      (volumes_in_body body) (body_inside body f.body is))
 
   body_inside : (body : BodyMeaning) (d : List ℕ) → IsBodyImage body d → AllByRecursion (HasOwnImage d) (volumes_in_body body)
   body_inside (Leaf b) d is = tt

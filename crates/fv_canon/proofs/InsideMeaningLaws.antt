@@ -10,7 +10,7 @@ use Rattle.fv_tree.specs.Files.{FileForm}
 use Rattle.fv_tree.specs.Meaning.{Meaning, Volume, FileMeanings, NoFiles, MoreFiles, FileMeaning, File, ContentMeaning, Plain, Sectioned}
 use Rattle.fv_tree.specs.Meaning.{SectionMeanings, NoSections, MoreSections, SectionMeaning, Section, Leaf, Group, Nested, files_list}
 use Rattle.fv_tree.specs.Meaning.{sections_list}
-use Rattle.fv_tree.specs.Denotes.{Sections, Streams, Volumes, Pairs, StreamOver, SectionOver, VolumeOver, MeansContent, MeansFile}
+use Rattle.fv_tree.specs.Denotes.{Sections, Streams, Volumes, Pairwise, StreamOver, SectionOver, VolumeOver, MeansContent, MeansFile}
 use Rattle.fv_tree.specs.Denotes.{MeansSection, Stream, IsMeaning}
 use Rattle.fv_canon.specs.Volumes.{Inside, volumes_in, volumes_in_files, volumes_in_file, volumes_in_content, volumes_in_sections}
 use Rattle.fv_canon.specs.Volumes.{volumes_in_section}
@@ -36,16 +36,16 @@ both vs ws p q = each_joined (λ v. IsMeaning v.volume) vs ws p q
 
 -- ---- part by part
 frames_meant : (p : Sections) → SectionsMeant p → (at : ℕ) (ss : SectionMeanings) (fs : List FrameForm) (tail : ℕ) (b : List ℕ) → IsBytes b
-    → SplitsFrom at fs tail b → Pairs p fs (sections_list ss) → AllMeant (volumes_in_sections ss)
+    → SplitsFrom at fs tail b → Pairwise p fs (sections_list ss) → AllMeant (volumes_in_sections ss)
 frames_meant p meant at NoSections fs tail b small is pairs = tt
 frames_meant p meant at (MoreSections s ss) [] tail b small is pairs = absurd pairs
 frames_meant p meant at (MoreSections s NoSections) (f ∷ []) tail b small (rest, begun, offset, count, most) pairs =
     both (volumes_in_section s) [] (meant f s (begun_bytes f b rest small begun).0 pairs.0) tt
 frames_meant p meant at (MoreSections s (MoreSections t ss)) (f ∷ []) tail b small is pairs = absurd pairs.1
 frames_meant p meant at (MoreSections s ss) (f ∷ g ∷ fs) tail b small (filler, rest, begun, offset, count, later) pairs =
-    let parts = begun_bytes f b (filler ++ rest) small begun in
-    both (volumes_in_section s) (volumes_in_sections ss) (meant f s parts.0 pairs.0)
-    (frames_meant p meant (up_to_4 (at + frame_len f)) ss (g ∷ fs) tail rest (bytes_back filler rest parts.1) later pairs.1)
+    let items = begun_bytes f b (filler ++ rest) small begun in
+    both (volumes_in_section s) (volumes_in_sections ss) (meant f s items.0 pairs.0)
+    (frames_meant p meant (up_to_4 (at + frame_len f)) ss (g ∷ fs) tail rest (bytes_back filler rest items.1) later pairs.1)
 
 stream_meant : (p : Sections) → SectionsMeant p → StreamsMeant (StreamOver p)
 stream_meant p meant ss t b small (fs, split, pairs) = frames_meant p meant 0 ss fs t b small split pairs
@@ -60,7 +60,7 @@ file_meant : (p : Streams) → StreamsMeant p → (f : FileForm) (m : FileMeanin
 file_meant p meant f (File name kind attributes content) small (a, b, c, d) = content_meant p meant kind f.payload content small d
 
 files_meant : (p : Streams) → StreamsMeant p → (system : FileSystem) (limit : ℕ) (fs : List FileForm) (ms : FileMeanings)
-    → AllByRecursion (FileIsAccepted system limit) fs → Pairs (MeansFile p) fs (files_list ms) → AllMeant (volumes_in_files ms)
+    → AllByRecursion (FileIsAccepted system limit) fs → Pairwise (MeansFile p) fs (files_list ms) → AllMeant (volumes_in_files ms)
 files_meant p meant system limit fs NoFiles reads pairs = tt
 files_meant p meant system limit [] (MoreFiles m ms) reads pairs = absurd pairs
 files_meant p meant system limit (f ∷ fs) (MoreFiles m ms) reads pairs =

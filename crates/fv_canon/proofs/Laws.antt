@@ -18,7 +18,7 @@ pub use Rattle.fv_canon.proofs.InputLaws.{input_prefix, end_found, end_only, vol
 -- an input that is no volume, or one that does not fit, is refused; one that has an image is neither
 pub use Rattle.fv_canon.proofs.InputLaws.{not_read, not_placed, not_read_never}
 -- the data of a file that was read are shorter than a volume may be
-pub use Rattle.fv_canon.proofs.StoredPartLaws.{data_short}
+pub use Rattle.fv_canon.proofs.PartBytesLaws.{data_short}
 -- the faults of a layout are none of a reader or a writer
 pub use Rattle.fv_canon.proofs.UnfitKinds.{unfit_is}
 pub use Rattle.fv_canon.proofs.InputLaws.{IsOfInput, unfit_kind, input_kind, stood_kind}

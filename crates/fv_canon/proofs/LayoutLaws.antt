@@ -3,8 +3,8 @@ use Rattle.std.proofs.Common.{◌≡◌, ◌≤◌, ℕ, List, [], ◌∷◌, �
 use Rattle.std.proofs.lemmas.List.{take-append-drop, length-take-le, take_at}
 use Rattle.fv_tree.proofs.Laws.{files_list_back}
 use Rattle.fv_tree.specs.Meaning.{Meaning, Volume, FileMeaning, files_from, files_list, files_of, head_of}
-use Rattle.fv_canon.specs.Layouts.{AreStarts, Laid, LaysVolume, parts_of}
-use Rattle.fv_canon.specs.LayoutWalks.{Grew}
+use Rattle.fv_canon.specs.Layouts.{AreStarts, Laid, LaysVolume, layout_items}
+use Rattle.fv_canon.specs.inner.LayoutWalks.{Grew}
 use Rattle.fv_canon.specs.LayoutForms.{Places, IsLayout}
 use Rattle.fv_canon.specs.Volumes.{Inside, volumes_in}
 use Rattle.fv_canon.proofs.OneImageLaws.{starts_one}
@@ -13,7 +13,7 @@ use Rattle.fv_canon.proofs.VolumeListLaws.{laid_count, own_count}
 starts_same : (vs : List Inside) (a b : List ℕ) → Laid AreStarts vs a → Laid AreStarts vs b → a ≡ b
 starts_same [] a b p q = p ∙ sym q
 starts_same (v ∷ vs) a b (own, inner, p, placed, laid) (own', inner', q, placed', laid') =
-    p ∙ ap (λ (xs : List ℕ). xs ++ inner) (starts_one _ _ (parts_of v.volume) own own' placed placed')
+    p ∙ ap (λ (xs : List ℕ). xs ++ inner) (starts_one _ _ (layout_items v.volume) own own' placed placed')
     ∙ ap (λ (xs : List ℕ). own' ++ xs) (starts_same vs inner inner' laid laid') ∙ sym q
 
 pub one_layout : (m : Meaning) (a b : List ℕ) → LaysVolume m a → LaysVolume m b → a ≡ b

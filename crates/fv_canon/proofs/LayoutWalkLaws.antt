@@ -1,19 +1,19 @@
 -- The walk over a volume that adds the starts of the files in it: what it added, how deep it goes, and the fault that it passes on.
 use Rattle.std.proofs.Common.{◌≡◌, ◌≤◌, ◌<◌, ◌⊎◌, inl, inr, ◌+◌, ℕ, suc, List, length, take, get_or, refl, sym, ◌∙◌, subst, arith}
 use Rattle.std.proofs.Common.{Result, Ok, Err, IfErr, IsErrAnd}
-use Rattle.fv_base.specs.Faults.{want_of_memory}
+use Rattle.fv_base.specs.Faults.{out_of_memory}
 use Rattle.fv_base.specs.declared.fault.Fault.{Fault}
 use Rattle.fv_tree.specs.Denotes.{IsMeaning, IsReadFile, IsReadSection, MeansSection, Stream}
 use Rattle.fv_tree.specs.Meaning.{Meaning, files_from, FileMeaning, File, content_of}
 use Rattle.fv_tree.specs.Meaning.{SectionMeanings, SectionMeaning, Section, sections_from, BodyMeaning, body_of, Group, Nested}
-use Rattle.fv_canon.specs.Depths.{NestsVolume, NestsFiles, NestsFile, NestsContent, NestsSections, NestsSection, NestsBody}
+use Rattle.fv_canon.specs.inner.Depths.{NestsVolume, NestsFiles, NestsFile, NestsContent, NestsSections, NestsSection, NestsBody}
 use Rattle.fv_canon.specs.Layouts.{AreStarts, Laid, FirstUnfit}
 use Rattle.fv_canon.specs.Volumes.{volumes_in_files, volumes_in_file, volumes_in_content, volumes_in_sections, volumes_in_section}
 use Rattle.fv_canon.specs.Volumes.{volumes_in_body}
 use Rattle.fv_canon.proofs.DepthLaws.{nests, file_in, stream_in, sections_in}
 use Rattle.fv_canon.proofs.ItemLaws.{item_has}
 use Rattle.fv_canon.proofs.VolumeListLaws.{in_file, in_section, item_grew, item_unfit, laid_deeper, unfit_deeper}
-use Rattle.fv_canon.specs.LayoutWalks.{Grew, Shallow}
+use Rattle.fv_canon.specs.inner.LayoutWalks.{Grew, Shallow}
 
 -- ---- sections
 
@@ -97,15 +97,15 @@ shallow_nested s m read is = inside (NestsVolume m) (subst (λ (b : BodyMeaning)
 -- ---- a fault that is passed on
 
 -- where nothing is unfit, only memory can be wanting
-pub only_memory : {T U : Type 0} (r : Result T Fault) (f : Fault) → IsErrAnd r (λ g. g ≡ f) → (f ≡ want_of_memory) ⊎ U → (U → ⊥)
-    → IfErr r (λ g. g ≡ want_of_memory)
+pub only_memory : {T U : Type 0} (r : Result T Fault) (f : Fault) → IsErrAnd r (λ g. g ≡ f) → (f ≡ out_of_memory) ⊎ U → (U → ⊥)
+    → IfErr r (λ g. g ≡ out_of_memory)
 only_memory (Ok x) f is err none = absurd is
 only_memory (Err g) f is (inl memory) none = is ∙ memory
 only_memory (Err g) f is (inr unfit) none = absurd (none unfit)
 
 -- what is unfit of a part is unfit of the whole
 pub unfit_passed : {T U : Type 0} (V : Fault → Type 0) (r : Result T Fault) (f : Fault) → IsErrAnd r (λ g. g ≡ f)
-    → (f ≡ want_of_memory) ⊎ U → (U → V f) → IfErr r (λ g. (g ≡ want_of_memory) ⊎ V g)
+    → (f ≡ out_of_memory) ⊎ U → (U → V f) → IfErr r (λ g. (g ≡ out_of_memory) ⊎ V g)
 unfit_passed V (Ok x) f is err whole = absurd is
 unfit_passed V (Err g) f is (inl memory) whole = inl (is ∙ memory)
 unfit_passed V (Err g) f is (inr unfit) whole = inr (subst V (sym is) (whole unfit))

@@ -1,5 +1,5 @@
 pub mod AlignedLaws
-pub mod AliveLaws
+pub mod CurrentLaws
 pub mod BytesLaws
 pub mod CellLaws
 pub mod CompareLaws
@@ -31,9 +31,9 @@ pub mod PlacementLaws
 pub mod PositionLaws
 pub mod ReadLaws
 pub mod SectionLaws
-pub mod SpanLaws
+pub mod PlacedBytesLaws
 pub mod StartSearchLaws
-pub mod StoredPartLaws
+pub mod PartBytesLaws
 pub mod StoredTilingLaws
 pub mod StreamLaws
 pub mod SumLaws

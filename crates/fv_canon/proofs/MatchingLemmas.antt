@@ -3,7 +3,7 @@ use Rattle.std.proofs.Common.{◌≡◌, ℕ, List, [], ◌++◌, length, take, 
 use Rattle.std.proofs.Common.{Bool, true, false}
 use Rattle.std.specs.Prelude.{IsTrue}
 use Rattle.std.proofs.lemmas.List.{take_at}
-use Rattle.fv_canon.specs.Matching.{IsNoFront, MatchLatched}
+use Rattle.fv_canon.specs.inner.Matching.{IsNoFront, MatchLatched}
 
 -- ---- one step
 

@@ -6,11 +6,11 @@ use Rattle.fv_head.specs.declared.extent.Extent.{Extent}
 use Rattle.fv_head.proofs.Laws.{one_front}
 use Rattle.fv_section.specs.Frames.{FrameForm}
 use Rattle.fv_section.proofs.Laws.{one_split}
-use Rattle.fv_tree.specs.Files.{FileForm, files_in, alive_in}
+use Rattle.fv_tree.specs.Files.{FileForm, files_in, current_in}
 use Rattle.fv_tree.specs.Meaning.{Meaning, Volume, FileMeanings, NoFiles, MoreFiles, FileMeaning, File, ContentMeaning, Plain, Sectioned}
 use Rattle.fv_tree.specs.Meaning.{SectionMeanings, NoSections, MoreSections, SectionMeaning, Section, BodyMeaning, Leaf, Group, Nested}
 use Rattle.fv_tree.specs.Meaning.{files_list, sections_list}
-use Rattle.fv_tree.specs.Denotes.{Sections, Streams, Volumes, Pairs, StreamOver, SectionOver, VolumeOver, MeansContent, MeansFile}
+use Rattle.fv_tree.specs.Denotes.{Sections, Streams, Volumes, Pairwise, StreamOver, SectionOver, VolumeOver, MeansContent, MeansFile}
 use Rattle.fv_tree.specs.Denotes.{MeansSection, Stream, Denotes, holds_sections, group_kind, volume_kind}
 
 -- ---- lists and what they are made from
@@ -43,7 +43,7 @@ abbrev pub VolumesOne : Volumes → Volumes → Type 0
 VolumesOne p q = (b : List ℕ) (m k : Meaning) → p b m → q b k → m ≡ k
 
 pairs_one : {A B : Type 0} (p q : A → B → Type 0) → ((x : A) (y z : B) → p x y → q x z → y ≡ z) → (xs : List A) (ys zs : List B)
-    → Pairs p xs ys → Pairs q xs zs → ys ≡ zs
+    → Pairwise p xs ys → Pairwise q xs zs → ys ≡ zs
 pairs_one p q one [] [] [] h k = refl
 pairs_one p q one [] [] (z ∷ zs) h k = absurd k
 pairs_one p q one [] (y ∷ ys) zs h k = absurd h
@@ -57,7 +57,7 @@ pairs_one p q one (x ∷ xs) (y ∷ ys) (z ∷ zs) h k =
 stream_one : (p q : Sections) → SectionsOne p q → StreamsOne (StreamOver p) (StreamOver q)
 stream_one p q one ss ts n k b (fs, split, pairs) (gs, split', pairs') =
     let same = one_split 0 fs gs n k b split split' in
-    (pairs_one p q one fs ss ts pairs (subst (λ (xs : List FrameForm). Pairs q xs ts) (sym same.0) pairs'), same.1)
+    (pairs_one p q one fs ss ts pairs (subst (λ (xs : List FrameForm). Pairwise q xs ts) (sym same.0) pairs'), same.1)
 
 same_section : (k l : ℕ) (x y : Bool) (b c : BodyMeaning) → k ≡ l → x ≡ y → b ≡ c → Section k x b ≡ Section l y c
 same_section k l x y b c p q r = cc
@@ -128,9 +128,9 @@ volume_one s s' streams b (Volume h fs) (Volume k gs) d d' =
     let fronts = one_front b h k d.extent d'.extent d.front d'.front in
     let cells : d.cells ≡ d'.cells = same_tiling d.extent d'.extent b d.cells d'.cells fronts.1 d.tiles d'.tiles in
     let forms : d.files ≡ d'.files =
-    d.alive.files_are ∙ ap (λ (cs : List CellForm). alive_in (files_in cs)) cells ∙ sym d'.alive.files_are in
+    d.current.files_are ∙ ap (λ (cs : List CellForm). current_in (files_in cs)) cells ∙ sym d'.current.files_are in
     let lists : files_list fs ≡ files_list gs = pairs_one (MeansFile s) (MeansFile s') (file_one s s' streams) d.files (files_list fs)
-    (files_list gs) d.meanings (subst (λ (xs : List FileForm). Pairs (MeansFile s') xs (files_list gs)) (sym forms) d'.meanings) in
+    (files_list gs) d.meanings (subst (λ (xs : List FileForm). Pairwise (MeansFile s') xs (files_list gs)) (sym forms) d'.meanings) in
     let files : fs ≡ gs = files_back fs gs lists in
     let heads : h ≡ k = fronts.0 in
     cc

@@ -2,7 +2,7 @@
 use Rattle.fv_base.specs.Value.{up_to_8}
 use Rattle.std.proofs.Common.{◌≡◌, ℕ, ◌+◌, ◌-◌, ◌*◌, ◌/◌, ◌%◌, ◌^◌, ◌<◌, ◌≤◌, inl, inr, refl, sym, ◌∙◌, ap, subst, arith, suc}
 use Rattle.std.specs.Prelude.{bit_and}
-use Rattle.fv_canon.specs.Reaches.{Widens}
+use Rattle.fv_canon.specs.inner.Reaches.{Widens}
 use Rattle.std.proofs.lemmas.Nat.{and-not, and_mask, and_comm, pow_below, pow_pos, div_below, mod_below, mod-pow-add}
 use Rattle.std.proofs.lemmas.Bool.{cases_lt}
 use Rattle.std.proofs.Math.Nat.{mul-le-mul_left, mul-mod_right, mul-mod_left, mul_comm, div-add-mod, add-zero, add_right_cancel}

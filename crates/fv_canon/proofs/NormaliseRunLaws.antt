@@ -4,7 +4,7 @@ use Rattle.std.specs.Prelude.{Option, Result, Ok, Err, IfErr, OnErr, OnOk}
 use Rattle.std.specs.Io.KnownBytes.{Appends}
 use Rattle.std.proofs.KnownBytes.{Keeps-refl}
 use Rattle.std.proofs.lemmas.Result.{on_ok_weaker, IfErr-weaker}
-use Rattle.fv_base.specs.Faults.{want_of_memory}
+use Rattle.fv_base.specs.Faults.{out_of_memory}
 use Rattle.fv_base.specs.Input.{ReadsWhole}
 use Rattle.fv_base.specs.declared.fault.Fault.{Fault}
 use Rattle.fv_base.specs.declared.fault.FaultKind.TheVariants as kinds
@@ -25,8 +25,8 @@ pub writer_stops : (input : List ℕ) (m : Meaning) (held holds : Option (List �
     → IfErr r (λ f. (image : List ℕ) × IsImage m image × WriteStops held holds image f) → IfErr r (InputStops input held holds)
 writer_stops input m held holds r d stops = IfErr-weaker r _ (InputStops input held holds) (λ f p. inr (p.0, (m, d, p.1), p.2)) stops
 
--- nothing was written, since the input is refused or for want of memory
-pub refused_stops : (input : List ℕ) (held : Option (List ℕ)) (f : Fault) → (f ≡ want_of_memory) ⊎ Refuses input f
+-- nothing was written, since the input is refused or for out of memory
+pub refused_stops : (input : List ℕ) (held : Option (List ℕ)) (f : Fault) → (f ≡ out_of_memory) ⊎ Refuses input f
     → InputStops input held held f
 refused_stops input held f why = inl (Keeps-refl held, why)
 

@@ -9,21 +9,22 @@ use Rattle.fv_base.specs.declared.guid.Guid.{Guid}
 use Rattle.fv_head.specs.Attributes.{polarity_of}
 use Rattle.fv_head.specs.Head.{HeadFields}
 use Rattle.fv_canon.specs.Starts.{StartsFollow, IsFirstPlacement}
-use Rattle.fv_canon.specs.declared.first_placement.Part.{Part}
+use Rattle.fv_canon.specs.declared.first_placement.LayoutItem.{LayoutItem}
 use Rattle.fv_canon.proofs.PlacementLaws.{first_same}
 use Rattle.fv_section.specs.Frames.{FrameForm, frame_len, up_to_4}
 use Rattle.fv_section.specs.SectionImage.{stream_of}
 use Rattle.fv_tree.specs.Meaning.{Meaning, Volume, FileMeanings, NoFiles, MoreFiles, FileMeaning, File, ContentMeaning, Plain, Sectioned}
 use Rattle.fv_tree.specs.Meaning.{SectionMeanings, NoSections, MoreSections, SectionMeaning, Section, BodyMeaning, Leaf, Group, Nested}
 use Rattle.fv_canon.specs.Image.{IsImage, AreStored, IsStored, IsData, AreFrames, IsFrame, IsBodyImage}
-use Rattle.fv_canon.specs.Layouts.{parts_of, first_edge}
-use Rattle.fv_canon.specs.Spans.{Span, StandsIn, IsInNone, AllStandIn, ShowsSpans}
-use Rattle.fv_canon.specs.StoredFiles.{StoredFile, volume_spans}
+use Rattle.fv_canon.specs.Layouts.{layout_items, first_edge}
+use Rattle.fv_canon.specs.PlacedBytes.{PlacedBytes, StandsIn, IsInNone, AllStandIn, ShowsPlaced}
+use Rattle.fv_canon.specs.StoredFiles.{StoredFile, placed_in_volume}
 
 -- ---- bytes that show the same are the same
 
 -- a byte within a span is the span's
-byte_in : (b : List ℕ) (p : Span) (k : ℕ) → StandsIn b p → p.at ≤ k → k < p.at + length p.bytes → get_or b k 0 ≡ get_or p.bytes (k - p.at) 0
+byte_in : (b : List ℕ) (p : PlacedBytes) (k : ℕ) → StandsIn b p → p.at ≤ k → k < p.at + length p.bytes
+    → get_or b k 0 ≡ get_or p.bytes (k - p.at) 0
 byte_in b p k stands low high =
     ap (λ (n : ℕ). get_or b n 0) (back p.at k low) ∙ sym (get_or-drop p.at b (k - p.at) 0)
     ∙ sym (get_or-take (length p.bytes) (drop p.at b) (k - p.at) 0 (inside p.at k (length p.bytes) low high))
@@ -35,7 +36,7 @@ byte_in b p k stands low high =
     inside : (a k n : ℕ) → a ≤ k → k < a + n → k - a < n
     inside a k n l h = omega arith
 
-same_byte : (ps : List Span) (b c : List ℕ) (k e : ℕ) → AllStandIn b ps → AllStandIn c ps → (IsInNone k ps → get_or b k 0 ≡ e)
+same_byte : (ps : List PlacedBytes) (b c : List ℕ) (k e : ℕ) → AllStandIn b ps → AllStandIn c ps → (IsInNone k ps → get_or b k 0 ≡ e)
     → (IsInNone k ps → get_or c k 0 ≡ e) → get_or b k 0 ≡ get_or c k 0
 same_byte [] b c k e sb sc rb rc = rb tt ∙ sym (rc tt)
 same_byte (p ∷ ps) b c k e sb sc rb rc = elim (cases_lt k p.at) [
@@ -52,19 +53,21 @@ same_byte (p ∷ ps) b c k e sb sc rb rc = elim (cases_lt k p.at) [
     over : {k m : ℕ} → k < m → m ≤ k → ⊥
     over p q = omega arith
 
-pub shows_one : (total erased : ℕ) (ps : List Span) (b c : List ℕ) → ShowsSpans total erased ps b → ShowsSpans total erased ps c → b ≡ c
+pub shows_one : (total erased : ℕ) (ps : List PlacedBytes) (b c : List ℕ) → ShowsPlaced total erased ps b → ShowsPlaced total erased ps c
+    → b ≡ c
 shows_one total erased ps b c p q =
     ext_get_or 0 b c (p.length_is ∙ sym q.length_is) (λ k l. let within : k < total = subst (λ (n : ℕ). k < n) p.length_is l in
     same_byte ps b c k erased p.stand q.stand (p.rest k within) (q.rest k within))
 
 -- ---- there is one first placement at most
-pub follow_length : (total e : ℕ) (fs : List Part) (ss : List ℕ) → StartsFollow total e fs ss → length ss ≡ length fs
+pub follow_length : (total e : ℕ) (fs : List LayoutItem) (ss : List ℕ) → StartsFollow total e fs ss → length ss ≡ length fs
 follow_length total e [] [] h = refl
 follow_length total e [] (s ∷ ss) h = absurd h
 follow_length total e (f ∷ fs) [] h = absurd h
 follow_length total e (f ∷ fs) (s ∷ ss) h = ap suc (follow_length total (up_to_8 (s + f.size)) fs ss h.1)
 
-fronts_same : (total first : ℕ) (fs : List Part) (ss ts : List ℕ) → IsFirstPlacement total first fs ss → IsFirstPlacement total first fs ts
+fronts_same : (total first : ℕ) (fs : List LayoutItem) (ss ts : List ℕ) → IsFirstPlacement total first fs ss
+    → IsFirstPlacement total first fs ts
     → length ss ≡ length ts → (i : ℕ) → i ≤ length ss → take i ss ≡ take i ts
 fronts_same total first fs ss ts p q same zero l = refl
 fronts_same total first fs ss ts p q same (suc i) l =
@@ -74,7 +77,7 @@ fronts_same total first fs ss ts p q same (suc i) l =
     ∙ ap (λ (xs : List ℕ). xs ++ (get_or ss i 0 ∷ [])) before ∙ ap (λ (n : ℕ). take i ts ++ (n ∷ [])) here
     ∙ sym (take_more ts i 0 (omega (arith, l, same))) ∙ ap (λ (n : ℕ). take n ts) (add-one i)
 
-pub starts_one : (total first : ℕ) (fs : List Part) (ss ts : List ℕ) → IsFirstPlacement total first fs ss
+pub starts_one : (total first : ℕ) (fs : List LayoutItem) (ss ts : List ℕ) → IsFirstPlacement total first fs ss
     → IsFirstPlacement total first fs ts → ss ≡ ts
 starts_one total first fs ss ts p q =
     let n = follow_length total first fs ss p.placement.follow in
@@ -84,32 +87,32 @@ starts_one total first fs ss ts p q =
 
 -- ---- there is one image at most
 same_spans : (h : HeadFields) (b : List ℕ) (xs ys : List StoredFile) (ss ts : List ℕ) → xs ≡ ys → ss ≡ ts
-    → ShowsSpans h.length (erased_byte (polarity_of h.attributes)) (volume_spans h xs ss) b
-    → ShowsSpans h.length (erased_byte (polarity_of h.attributes)) (volume_spans h ys ts) b
+    → ShowsPlaced h.length (erased_byte (polarity_of h.attributes)) (placed_in_volume h xs ss) b
+    → ShowsPlaced h.length (erased_byte (polarity_of h.attributes)) (placed_in_volume h ys ts) b
 same_spans h b xs ys ss ts p q shows =
-    subst (λ (us : List ℕ). ShowsSpans h.length (erased_byte (polarity_of h.attributes)) (volume_spans h ys us) b) q
-    (subst (λ (zs : List StoredFile). ShowsSpans h.length (erased_byte (polarity_of h.attributes)) (volume_spans h zs ss) b) p shows)
+    subst (λ (us : List ℕ). ShowsPlaced h.length (erased_byte (polarity_of h.attributes)) (placed_in_volume h ys us) b) q
+    (subst (λ (zs : List StoredFile). ShowsPlaced h.length (erased_byte (polarity_of h.attributes)) (placed_in_volume h zs ss) b) p shows)
 
 same_file : (x y : StoredFile) → x.name ≡ y.name → x.kind ≡ y.kind → x.attributes ≡ y.attributes → x.payload ≡ y.payload → x ≡ y
-same_file x y p q r s = parts x.name y.name x.kind y.kind x.attributes y.attributes x.payload y.payload p q r s
+same_file x y p q r s = items x.name y.name x.kind y.kind x.attributes y.attributes x.payload y.payload p q r s
   where
-    parts : (a b : Guid) (c d e f : ℕ) (g h : List ℕ) → a ≡ b → c ≡ d → e ≡ f → g ≡ h → let made : StoredFile =
+    items : (a b : Guid) (c d e f : ℕ) (g h : List ℕ) → a ≡ b → c ≡ d → e ≡ f → g ≡ h → let made : StoredFile =
         record { name = a; kind = c; attributes = e; payload = g } in made ≡ record { name = b; kind = d; attributes = f; payload = h }
-    parts a b c d e f g h p q r s = rw (p, q, r, s) refl
+    items a b c d e f g h p q r s = rw (p, q, r, s) refl
 
 same_frame : (f g : FrameForm) → f.offset ≡ g.offset → f.kind ≡ g.kind → f.extended ≡ g.extended → f.body ≡ g.body → f ≡ g
-same_frame f g p q r s = parts f.offset g.offset f.kind g.kind f.extended g.extended f.body g.body p q r s
+same_frame f g p q r s = items f.offset g.offset f.kind g.kind f.extended g.extended f.body g.body p q r s
   where
-    parts : (a b c d : ℕ) (x y : Bool) (v w : List ℕ) → a ≡ b → c ≡ d → x ≡ y → v ≡ w → let made : FrameForm =
+    items : (a b c d : ℕ) (x y : Bool) (v w : List ℕ) → a ≡ b → c ≡ d → x ≡ y → v ≡ w → let made : FrameForm =
         record { offset = a; kind = c; extended = x; body = v } in made ≡ record { offset = b; kind = d; extended = y; body = w }
-    parts a b c d x y v w p q r s = rw (p, q, r, s) refl
+    items a b c d x y v w p q r s = rw (p, q, r, s) refl
 
 mutual
   pub image_one : (m : Meaning) (b c : List ℕ) → IsImage m b → IsImage m c → b ≡ c
   image_one (Volume h files) b c (xs, ss, are, placed, shows) (ys, ts, are', placed', shows') =
       let stored : xs ≡ ys = stored_one files xs ys are are' in
-      let starts : ss ≡ ts = starts_one h.length (first_edge h) (parts_of (Volume h files)) ss ts placed placed' in
-      shows_one h.length (erased_byte (polarity_of h.attributes)) (volume_spans h ys ts) b c
+      let starts : ss ≡ ts = starts_one h.length (first_edge h) (layout_items (Volume h files)) ss ts placed placed' in
+      shows_one h.length (erased_byte (polarity_of h.attributes)) (placed_in_volume h ys ts) b c
       (same_spans h b xs ys ss ts stored starts shows) shows'
 
   stored_one : (files : FileMeanings) (xs ys : List StoredFile) → AreStored files xs → AreStored files ys → xs ≡ ys

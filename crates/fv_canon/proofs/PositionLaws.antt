@@ -4,10 +4,10 @@ use Rattle.std.proofs.Common.{◌∙◌, ap, subst, arith, append_assoc, length-
 use Rattle.std.proofs.lemmas.Bool.{cases_lt}
 use Rattle.std.proofs.lemmas.List.{length-replicate, length-drop, drop-drop, take_at, drop_at, get_or_append_left, get_or-append_right}
 use Rattle.std.proofs.lemmas.List.{get_or-replicate, get_or-take, get_or-drop, ext_get_or, length-take-le}
-use Rattle.fv_canon.specs.Spans.{Span, IsInNone, AllStandIn, ShowsSpans, painted, InOrder}
+use Rattle.fv_canon.specs.PlacedBytes.{PlacedBytes, IsInNone, AllStandIn, ShowsPlaced, painted, InOrder}
 
 -- what is before the spans is in none of them
-pub before_none : (total e k : ℕ) (ps : List Span) → InOrder total e ps → k < e → IsInNone k ps
+pub before_none : (total e k : ℕ) (ps : List PlacedBytes) → InOrder total e ps → k < e → IsInNone k ps
 before_none total e k [] o l = tt
 before_none total e k (p ∷ ps) o l = (λ i. omega (arith, i.0, o.0), before_none total (p.at + length p.bytes) k ps o.1 (omega (arith, o.0)))
 
@@ -16,7 +16,7 @@ get_behind : (front back : List ℕ) (k : ℕ) → length front ≤ k → get_or
 get_behind front back k l = get_or-append_right front back (length front) k 0 refl l
 
 -- ---- from the walk to the positions: front is what stands before e
-pub walk_stands : (erased total e : ℕ) (ps : List Span) (front : List ℕ) → length front ≡ e → InOrder total e ps
+pub walk_stands : (erased total e : ℕ) (ps : List PlacedBytes) (front : List ℕ) → length front ≡ e → InOrder total e ps
     → AllStandIn (front ++ painted erased total e ps) ps
 walk_stands erased total e [] front l o = tt
 walk_stands erased total e (p ∷ ps) front l o =
@@ -45,7 +45,7 @@ walk_stands erased total e (p ∷ ps) front l o =
     long : (n m : ℕ) → n ≡ (p.at + length p.bytes) + m → p.at + length p.bytes ≤ n
     long n m h = omega arith
 
-pub walk_erased : (erased total e : ℕ) (ps : List Span) (front : List ℕ) → length front ≡ e → InOrder total e ps → (k : ℕ) → e ≤ k
+pub walk_erased : (erased total e : ℕ) (ps : List PlacedBytes) (front : List ℕ) → length front ≡ e → InOrder total e ps → (k : ℕ) → e ≤ k
     → k < total → IsInNone k ps → get_or (front ++ painted erased total e ps) k 0 ≡ erased
 walk_erased erased total e [] front l o k a b n =
     get_behind front (replicate (total - e) erased) k (omega arith) ∙ get_or-replicate (total - e) (k - length front) erased 0 (omega arith)
@@ -78,7 +78,7 @@ walk_erased erased total e (p ∷ ps) front l o k a b n =
     in_front : (m : ℕ) → m ≡ p.at → k < p.at → k < m
     in_front m h c = omega arith
 
-pub walk_length : (erased total e : ℕ) (ps : List Span) → InOrder total e ps → e + length (painted erased total e ps) ≡ total
+pub walk_length : (erased total e : ℕ) (ps : List PlacedBytes) → InOrder total e ps → e + length (painted erased total e ps) ≡ total
 walk_length erased total e [] o = let g = length-replicate (total - e) erased in omega arith
 walk_length erased total e (p ∷ ps) o =
     let gap = replicate (p.at - e) erased in
@@ -91,7 +91,7 @@ walk_length erased total e (p ∷ ps) o =
         → e + all ≡ total
     joined g b gp all h i j k = omega (arith, o.0)
 
-pub shows_walk : (erased total : ℕ) (ps : List Span) → InOrder total 0 ps → ShowsSpans total erased ps (painted erased total 0 ps)
+pub shows_walk : (erased total : ℕ) (ps : List PlacedBytes) → InOrder total 0 ps → ShowsPlaced total erased ps (painted erased total 0 ps)
 shows_walk erased total ps o = record {
   length_is = sym (zero-add (length (painted erased total 0 ps))) ∙ walk_length erased total 0 ps o;
   stand = walk_stands erased total 0 ps [] refl o;
@@ -99,7 +99,7 @@ shows_walk erased total ps o = record {
 }
 
 -- ---- from the positions to the walk
-pub walk_from : (erased total e : ℕ) (ps : List Span) (b : List ℕ) → length b ≡ total → InOrder total e ps → AllStandIn b ps
+pub walk_from : (erased total e : ℕ) (ps : List PlacedBytes) (b : List ℕ) → length b ≡ total → InOrder total e ps → AllStandIn b ps
     → ((k : ℕ) → e ≤ k → k < total → IsInNone k ps → get_or b k 0 ≡ erased) → drop e b ≡ painted erased total e ps
 walk_from erased total e [] b l o s r =
     ext_get_or 0 (drop e b) (replicate (total - e) erased)
@@ -154,6 +154,6 @@ walk_from erased total e (p ∷ ps) b l o s r =
     past k h g = omega arith
 
 -- one list shows the spans, and it is what the walk writes
-pub one_image : (erased total : ℕ) (ps : List Span) (b : List ℕ) → InOrder total 0 ps → ShowsSpans total erased ps b
+pub one_image : (erased total : ℕ) (ps : List PlacedBytes) (b : List ℕ) → InOrder total 0 ps → ShowsPlaced total erased ps b
     → b ≡ painted erased total 0 ps
 one_image erased total ps b o h = walk_from erased total 0 ps b h.length_is o h.stand (λ k a c n. h.rest k c n)

@@ -7,7 +7,7 @@ use Rattle.fv_base.specs.declared.flash.FileSystem.{FileSystem}
 use Rattle.fv_base.specs.declared.flash.Polarity.{Polarity}
 use Rattle.fv_file.specs.Cells.{CellForm, Valid, Pad, Dead, Stub, Free, Tiles}
 use Rattle.fv_file.proofs.Laws.{FileRead as HeadRead, IsRead, tiles_read}
-use Rattle.fv_tree.specs.Files.{FileForm, files_in, replaces, alive_in}
+use Rattle.fv_tree.specs.Files.{FileForm, files_in, replaces, current_in}
 use Rattle.fv_base.proofs.Laws.{all_filter}
 
 abbrev pub FileIsAccepted : FileSystem → ℕ → FileForm → Type 0
@@ -29,6 +29,6 @@ pub body_read : (system : FileSystem) (p : Polarity) (limit at : ℕ) (cells : L
 body_read system p limit at cells b small most tiles =
     files_of_cells system limit cells (tiles_read system p limit at cells b small most tiles)
 
-pub alive_read : (system : FileSystem) (limit : ℕ) (fs : List FileForm) → AllByRecursion (FileIsAccepted system limit) fs
-    → AllByRecursion (FileIsAccepted system limit) (alive_in fs)
-alive_read system limit fs reads = all_filter (λ (f : FileForm). not (list_any (replaces f) fs)) (FileIsAccepted system limit) fs reads
+pub current_read : (system : FileSystem) (limit : ℕ) (fs : List FileForm) → AllByRecursion (FileIsAccepted system limit) fs
+    → AllByRecursion (FileIsAccepted system limit) (current_in fs)
+current_read system limit fs reads = all_filter (λ (f : FileForm). not (list_any (replaces f) fs)) (FileIsAccepted system limit) fs reads

@@ -12,14 +12,14 @@ use Rattle.fv_section.proofs.Laws.{begun_bytes, fits, length_begun}
 use Rattle.fv_tree.specs.Meaning.{SectionMeanings, NoSections, MoreSections, SectionMeaning, Section, sections_from, body_of, body_len}
 use Rattle.fv_tree.specs.Meaning.{section_is_extended, section_kind_of, section_len}
 use Rattle.fv_tree.specs.Denotes.{MeansSection, IsReadSection}
-use Rattle.fv_canon.specs.ImageOf.{frames_of, frame_of, body_image, starts_in}
+use Rattle.fv_canon.specs.inner.ImageOf.{frames_of, frame_of, body_image, starts_in}
 use Rattle.fv_canon.specs.Layouts.{AreStarts}
 use Rattle.fv_canon.specs.Volumes.{volumes_in_section, volumes_in_sections, volumes_in_body}
 use Rattle.fv_canon.proofs.ItemLaws.{item_at}
 use Rattle.fv_canon.proofs.VolumeListLaws.{count_deeper, in_section, item_begins, item_left, laid_higher}
 use Rattle.fv_canon.proofs.WrittenImageLaws.{sections_made}
 use Rattle.fv_canon.proofs.VolumeLaws.{sections_again}
-use Rattle.fv_canon.specs.ImageWalks.{frame_bytes, sections_bytes, BeginsWithStarts, TakesFront}
+use Rattle.fv_canon.specs.inner.ImageWalks.{frame_bytes, sections_bytes, BeginsWithStarts, TakesFront}
 
 -- ---- a section
 pub record SectionKnown (m : SectionMeaning) (starts : List ℕ) : Type 0 where
@@ -27,7 +27,8 @@ pub record SectionKnown (m : SectionMeaning) (starts : List ℕ) : Type 0 where
   pub long : length (body_image (body_of m) starts) ≡ body_len (body_of m)
   pub small : section_len m < 2 ^ 32
 
-pub section_known : (m : SectionMeaning) (starts : List ℕ) → IsReadSection m → BeginsWithStarts (volumes_in_section m) starts → SectionKnown m starts
+pub section_known : (m : SectionMeaning) (starts : List ℕ) → IsReadSection m → BeginsWithStarts (volumes_in_section m) starts
+    → SectionKnown m starts
 section_known (Section kind extended body) starts (n, l, f, (b, small, most, stands), is) (laid, more, text, lays) =
     let part : List ℕ = drop f.offset b in
     let bytes : IsBytes part = bytes_drop f.offset b small in
@@ -69,7 +70,8 @@ stream_goes at (Section k e b) (MoreSections t ss) starts tail =
     let later : List ℕ = drop (starts_in (volumes_in_section (Section k e b))) starts in
     let next : List ℕ = frame_bytes (frame_of 0 t later) in
     let rest : List ℕ =
-    sections_bytes (up_to_4 (frame_len (frame_of 0 t later)) - frame_len (frame_of 0 t later)) ss (drop (starts_in (volumes_in_section t)) later) in
+    sections_bytes (up_to_4 (frame_len (frame_of 0 t later)) - frame_len (frame_of 0 t later)) ss (drop (starts_in (volumes_in_section
+    t)) later) in
     let goes = stream_goes (up_to_4 (at + frame_len f)) t ss later tail in
     ap (λ (xs : List ℕ). head ++ (f.body ++ (fill ++ xs))) goes
     ∙ sym (append_assoc head f.body (fill ++ (next ++ (rest ++ replicate tail 0))))
@@ -81,7 +83,8 @@ pub stream_whole : (s : SectionMeaning) (ss : SectionMeanings) (starts : List �
     → sections_bytes 0 (MoreSections s ss) starts ++ replicate tail 0 ≡ stream_of (frames_of 0 (MoreSections s ss) starts) tail
 stream_whole s ss starts tail =
     append_assoc (frame_bytes (frame_of 0 s starts)) (sections_bytes
-    (up_to_4 (frame_len (frame_of 0 s starts)) - frame_len (frame_of 0 s starts)) ss (drop (starts_in (volumes_in_section s)) starts)) (replicate tail 0)
+    (up_to_4 (frame_len (frame_of 0 s starts)) - frame_len (frame_of 0 s starts)) ss (drop (starts_in (volumes_in_section s)) starts))
+    (replicate tail 0)
     ∙ sym (stream_goes 0 s ss starts tail)
 
 -- ---- the walk over the sections of a stream
@@ -118,7 +121,8 @@ pub goes_on : (ss : List SectionMeaning) (i : ℕ) (s : SectionMeaning) (starts 
     → sections_bytes gap (sections_from (drop i ss)) starts
     ≡ (replicate gap 0
     ++ (section_head_of (section_kind_of s) (section_is_extended s) (body_len (body_of s)) ++ body_image (body_of s) starts))
-    ++ sections_bytes (up_to_4 (section_len s) - section_len s) (sections_from (drop (i + 1) ss)) (drop (starts_in (volumes_in_section s)) starts)
+    ++ sections_bytes (up_to_4 (section_len s) - section_len s) (sections_from (drop (i + 1) ss)) (drop (starts_in (volumes_in_section
+    s)) starts)
 goes_on ss i s starts gap l is k =
     ap (λ (xs : List SectionMeaning). sections_bytes gap (sections_from xs) starts) (item_at ss i s l is)
     ∙ ap (λ (xs : List ℕ). (replicate gap 0 ++ xs) ++ sections_bytes (up_to_4 (frame_len (frame_of 0 s starts)) - frame_len

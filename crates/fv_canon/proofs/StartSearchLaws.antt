@@ -5,10 +5,10 @@ use Rattle.std.specs.Prelude.{IsTrue}
 use Rattle.std.proofs.lemmas.Bool.{cases_lt}
 use Rattle.std.proofs.lemmas.Nat.{pow_pos}
 use Rattle.std.proofs.Math.Nat.{mod_self, mod-add-mod, mod-eq-sub-mod}
-use Rattle.fv_canon.specs.declared.first_placement.Part.{Part}
+use Rattle.fv_canon.specs.declared.first_placement.LayoutItem.{LayoutItem}
 use Rattle.fv_canon.specs.declared.first_placement.Reach.{Reach}
 use Rattle.fv_canon.specs.Starts.{Lawful}
-use Rattle.fv_canon.specs.Reaches.{Serves, Widens}
+use Rattle.fv_canon.specs.inner.Reaches.{Serves, Widens}
 use Rattle.fv_canon.proofs.MultipleLaws.{multiples_apart, eighth_sum, eighth_difference}
 use Rattle.fv_canon.proofs.FirstPlacementLaws.{reach_bound}
 
@@ -38,7 +38,7 @@ pub next_eighth : (s a b : ℕ) → Widens a b → s % 8 ≡ 0 → (s + a) % 8 �
 next_eighth s a b w p = eighth_sum s a p (w.apart a (mod_self a)).0
 
 -- where s does not serve, what serves is a step behind it
-pub next_least : (total e : ℕ) (f : Part) (r : Reach) (a s t : ℕ) → Widens a f.alignment → f.header % 8 ≡ 0 → s % 8 ≡ 0
+pub next_least : (total e : ℕ) (f : LayoutItem) (r : Reach) (a s t : ℕ) → Widens a f.alignment → f.header % 8 ≡ 0 → s % 8 ≡ 0
     → (s + f.header) % f.alignment ≡ 0 → (Serves total f r s → ⊥) → Serves total f r t → s ≤ t → s + a ≤ t
 next_least total e f r a s t w h p q not v l = elim (cases_lt s t) [
   | inl less ↦ far (multiples_apart a (s + f.header) (t + f.header) (positive (widens_eight a f.alignment w)) (w.joined (s + f.header)
@@ -59,7 +59,7 @@ next_least total e f r a s t w h p q not v l = elim (cases_lt s t) [
     equal g k = omega arith
 
 -- a start that is lawful and does not serve has its end too near the greatest
-pub missed_at : (total e : ℕ) (f : Part) (r : Reach) (s : ℕ) → (IsTrue f.top → ⊥) → s % 8 ≡ 0 → (s + f.header) % f.alignment ≡ 0
+pub missed_at : (total e : ℕ) (f : LayoutItem) (r : Reach) (s : ℕ) → (IsTrue f.top → ⊥) → s % 8 ≡ 0 → (s + f.header) % f.alignment ≡ 0
     → (Serves total f r s → ⊥) → r.greatest < up_to_8 (s + f.size) + 24
 missed_at total e f r s top p q not = elim (cases_lt r.greatest (up_to_8 (s + f.size) + 24)) [
   | inl g ↦ g
@@ -67,7 +67,8 @@ missed_at total e f r s top p q not = elim (cases_lt r.greatest (up_to_8 (s + f.
 ]
 
 -- after three tries nothing is left
-pub tried_out : (total : ℕ) (f : Part) (r : Reach) (d t : ℕ) → Serves total f r t → d + 24 ≤ t → r.greatest < up_to_8 (d + f.size) + 24 → ⊥
+pub tried_out : (total : ℕ) (f : LayoutItem) (r : Reach) (d t : ℕ) → Serves total f r t → d + 24 ≤ t
+    → r.greatest < up_to_8 (d + f.size) + 24 → ⊥
 tried_out total f r d t v l m = past f.size (reach_bound r (up_to_8 (t + f.size)) v.reaches) m
   where
     past : (n : ℕ) → up_to_8 (t + n) ≤ r.greatest → r.greatest < up_to_8 (d + n) + 24 → ⊥
@@ -83,7 +84,7 @@ not_true true e h = cc
 not_true false e h = cc
 
 -- ---- and down from the greatest
-pub next_most : (total : ℕ) (f : Part) (r : Reach) (a d t : ℕ) → Widens a f.alignment → f.header % 8 ≡ 0 → d % a ≡ 0 → f.header ≤ d
+pub next_most : (total : ℕ) (f : LayoutItem) (r : Reach) (a d t : ℕ) → Widens a f.alignment → f.header % 8 ≡ 0 → d % a ≡ 0 → f.header ≤ d
     → (Serves total f r (d - f.header) → ⊥) → Serves total f r t → t + f.header ≤ d → (t + f.header) + a ≤ d
 next_most total f r a d t w h m b not v l = elim (cases_lt (t + f.header) d) [
   | inl less ↦ multiples_apart a (t + f.header) d (positive (widens_eight a f.alignment w))
@@ -98,7 +99,7 @@ next_most total f r a d t w h m b not v l = elim (cases_lt (t + f.header) d) [
     equal g = omega arith
 
 -- the fourth serves
-pub fourth_serves : (total : ℕ) (f : Part) (r : Reach) (a d : ℕ) → Widens a f.alignment → f.header % 8 ≡ 0 → d % a ≡ 0 → f.header ≤ d
+pub fourth_serves : (total : ℕ) (f : LayoutItem) (r : Reach) (a d : ℕ) → Widens a f.alignment → f.header % 8 ≡ 0 → d % a ≡ 0 → f.header ≤ d
     → (IsTrue f.top → ⊥) → r.greatest % 8 ≡ 0 → up_to_8 f.size ≤ r.greatest → d + 24 ≤ (r.greatest - up_to_8 f.size) + f.header
     → Serves total f r (d - f.header)
 fourth_serves total f r a d w h m b top g x far =
@@ -128,7 +129,7 @@ step_down x a p l = sym (mod-eq-sub-mod l) ∙ p
 -- ---- the least lawful start, where the edge is none
 
 -- the data at the multiple x of the widened alignment
-pub rounded_lawful : (e : ℕ) (f : Part) (a x : ℕ) → Widens a f.alignment → f.header % 8 ≡ 0 → x % a ≡ 0 → e + 24 + f.header ≤ x
+pub rounded_lawful : (e : ℕ) (f : LayoutItem) (a x : ℕ) → Widens a f.alignment → f.header % 8 ≡ 0 → x % a ≡ 0 → e + 24 + f.header ≤ x
     → Lawful e f (x - f.header)
 rounded_lawful e f a x w h m above =
     let both = w.apart x m in
@@ -140,7 +141,7 @@ rounded_lawful e f a x w h m above =
     }
 
 -- each other lawful start has its data at such a multiple too
-pub rounded_least : (e : ℕ) (f : Part) (a x t : ℕ) → Widens a f.alignment → f.header % 8 ≡ 0
+pub rounded_least : (e : ℕ) (f : LayoutItem) (a x t : ℕ) → Widens a f.alignment → f.header % 8 ≡ 0
     → ((y : ℕ) → y % a ≡ 0 → e + 24 + f.header ≤ y → x ≤ y) → (Lawful e f e → ⊥) → Lawful e f t → x - f.header ≤ t
 rounded_least e f a x t w h least not l = elim l.apart [
   | inl same ↦ absurd (not (subst (λ n. Lawful e f n) same l))

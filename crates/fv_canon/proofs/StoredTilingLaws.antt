@@ -5,7 +5,7 @@ use Rattle.std.specs.Prelude.{map, slice_index}
 use Rattle.std.specs.List.{AllByRecursion}
 use Rattle.std.proofs.lemmas.List.{length-replicate}
 use Rattle.fv_base.specs.Alignment.{alignment_of}
-use Rattle.fv_base.specs.Erased.{AllAre}
+use Rattle.fv_base.specs.Flash.{AllAre}
 use Rattle.fv_base.specs.Flash.{erased_byte}
 use Rattle.fv_base.specs.Value.{up_to_8}
 use Rattle.fv_base.specs.declared.flash.FileSystem.{FileSystem}
@@ -19,7 +19,7 @@ use Rattle.fv_canon.specs.Starts.{StartsFollow}
 use Rattle.fv_tree.specs.Files.{FileForm, files_in}
 use Rattle.fv_canon.specs.Headline.{DataAligned}
 use Rattle.fv_canon.specs.StoredFiles.{StoredFile, head_len_for, stored_len, stored_bytes, pad_bytes, long_pad, gap_bytes}
-use Rattle.fv_canon.specs.StoredWalks.{stored_part, files_bytes}
+use Rattle.fv_canon.specs.inner.StoredWalks.{stored_item, files_bytes}
 use Rattle.fv_canon.proofs.PadLaws.{gap_none, gap_has}
 use Rattle.fv_canon.proofs.CellLaws.{Storable, stored_head, file_cell, length-stored, pad_cell, length-pad}
 
@@ -129,14 +129,14 @@ filler_is x = (omega arith, omega arith, omega arith)
 
 -- with the bit of its form set, a file's attributes name the same alignment
 data_aligned : (p : Polarity) (f : StoredFile) (s : ℕ) → is_large f.attributes ≡ false
-    → (s + (stored_part f).header) % (stored_part f).alignment ≡ 0
+    → (s + (stored_item f).header) % (stored_item f).alignment ≡ 0
     → (s + (stored_head p f).header_len) % alignment_of (attribute_bits (stored_head p f).attributes) ≡ 0
 data_aligned p f s short h =
     let n : ℕ = length f.payload in
     subst (λ (a : ℕ). (s + head_len_for n) % a ≡ 0) (sym (alignment_with (needs_large n) f.attributes short)) h
 
 pub body_tiles : (system : FileSystem) (p : Polarity) (total e : ℕ) (fs : List StoredFile) (ss : List ℕ) → total % 8 ≡ 0 → e % 8 ≡ 0
-    → AllByRecursion (Storable system) fs → StartsFollow total e (map stored_part fs) ss
+    → AllByRecursion (Storable system) fs → StartsFollow total e (map stored_item fs) ss
     → Tiled system p e (files_bytes p total e fs ss) (forms_of p fs ss)
 body_tiles system p total e [] [] h m all follow = free_tiles system p e (total - e)
 body_tiles system p total e [] (s ∷ ss) h m all follow = absurd follow

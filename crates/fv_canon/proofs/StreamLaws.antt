@@ -9,7 +9,7 @@ use Rattle.fv_section.specs.SectionImage.{FitsForm, section_head_of, stream_of, 
 use Rattle.fv_section.proofs.Laws.{begun_bytes, fits, length_begun, streams_are_read}
 use Rattle.fv_tree.specs.Meaning.{Meaning, SectionMeanings, NoSections, MoreSections, SectionMeaning, Section, Leaf, Group, Nested}
 use Rattle.fv_tree.specs.Meaning.{sections_list, sections_end, section_len, length_of}
-use Rattle.fv_tree.specs.Denotes.{Sections, Streams, Volumes, Pairs, StreamOver, SectionOver, Opens}
+use Rattle.fv_tree.specs.Denotes.{Sections, Streams, Volumes, Pairwise, StreamOver, SectionOver, Opens}
 use Rattle.fv_canon.specs.Image.{IsImage, AreFrames, IsFrame}
 
 -- the type of a section that was read is a byte, and then a header of this type is bytes
@@ -69,7 +69,7 @@ VolumesAgain is_volume = (m : Meaning) (b o : List ℕ) → IsBytes b → is_vol
 
 record FramesAgain (is_section : Sections) (at end : ℕ) (ss : SectionMeanings) (gs : List FrameForm) (tail : ℕ) (b : List ℕ) : Type 0 where
   pub placed : InPlace at gs tail
-  pub pairs : Pairs is_section gs (sections_list ss)
+  pub pairs : Pairwise is_section gs (sections_list ss)
   pub bytes : IsBytes (stream_of gs tail)
   pub long : length (stream_of gs tail) ≡ length b
   pub len : at + length b ≡ sections_end end ss + tail
@@ -187,7 +187,7 @@ no_cons x xs e = cc
 
 frames_again : (is_section : Sections) → SectionsAgain is_section
     → (at end : ℕ) (ss : SectionMeanings) (fs gs : List FrameForm) (tail : ℕ) (b : List ℕ) → IsBytes b → at % 4 ≡ 0 → up_to_4 end ≡ at
-    → (fs ≡ [] → at ≡ end) → SplitsFrom at fs tail b → Pairs is_section fs (sections_list ss) → AreFrames at ss gs
+    → (fs ≡ [] → at ≡ end) → SplitsFrom at fs tail b → Pairwise is_section fs (sections_list ss) → AreFrames at ss gs
     → FramesAgain is_section at end ss gs tail b
 frames_again is_section again at end NoSections [] [] tail b small m e z is p q = none_again is_section at end tail b m e (z refl) is.0 is.1
 frames_again is_section again at end NoSections [] (g ∷ gs) tail b small m e z is p q = absurd (no_cons g gs q)
@@ -202,11 +202,11 @@ frames_again is_section again at end (MoreSections s (MoreSections t ss)) (f ∷
 frames_again is_section again at end (MoreSections s (MoreSections t ss)) (f ∷ h ∷ fs) (g ∷ []) tail b small m e z is p q = absurd q.2
 frames_again is_section again at end (MoreSections s (MoreSections t ss)) (f ∷ h ∷ fs) (g ∷ k ∷ gs) tail b small m e z
     (filler, rest, begun, offset, count, more) p q =
-    let parts = begun_bytes f b (filler ++ rest) small begun in
-    let a = again s f g parts.0 p.0 q.1 in
+    let items = begun_bytes f b (filler ++ rest) small begun in
+    let a = again s f g items.0 p.0 q.1 in
     more_again is_section again at end s t ss f h fs g k gs tail b filler rest small m e begun offset count p.0 q.0 q.1
     (λ same. frames_again is_section again (up_to_4 (at + frame_len g)) (up_to_4 end + section_len s) (MoreSections t ss) (h ∷ fs) (k ∷ gs)
-    tail rest (bytes_back filler rest parts.1) (up_is (at + frame_len g)) (next_end at end (frame_len f) s (frame_len g) e a.len same)
+    tail rest (bytes_back filler rest items.1) (up_is (at + frame_len g)) (next_end at end (frame_len f) s (frame_len g) e a.len same)
     (λ none. absurd (no_cons h fs none)) (subst (λ (n : ℕ). SplitsFrom (up_to_4 (at + n)) (h ∷ fs) tail rest) (sym same) more) p.1 q.2)
 
 -- a stream is read again

@@ -6,8 +6,8 @@ use Rattle.fv_file.specs.Attributes.{is_summed}
 use Rattle.fv_file.specs.NewHeaders.{state_byte}
 use Rattle.fv_file.specs.Files.{fixed_checksum}
 use Rattle.fv_tree.specs.Meaning.{FileMeaning, File, attributes_of}
-use Rattle.fv_canon.specs.ImageOf.{stored_file, data_of}
-use Rattle.fv_canon.specs.ImageSinks.{AddsOrPuts}
+use Rattle.fv_canon.specs.inner.ImageOf.{stored_file, data_of}
+use Rattle.fv_canon.specs.inner.SummingSinks.{AddsOrPuts}
 use Rattle.fv_canon.specs.StoredFiles.{stored_bytes}
 use Rattle.fv_canon.proofs.SumLaws.{stored_adds}
 

@@ -20,7 +20,7 @@ module _ (P : Fault → Type 0) (top : (depth : ℕ) → P (layout_fault kinds.T
 pub unfit_is : (m : Meaning) (depth : ℕ) (f : Fault) → Unfit m depth f → IsOfLayout f.kind
 unfit_is m depth f unfit = unfit_has (λ g. IsOfLayout g.kind) (λ d. inl refl) (λ d. inr refl) (volumes_in m) depth f unfit
 
--- want of memory is no such fault
+-- out of memory is no such fault
 pub not_layout : (kind : FaultKind) → IsOfLayout kind → kind ≢ kinds.OutOfMemory
 not_layout kind (inl is) same = let never : kinds.TopAlignment ≡ kinds.OutOfMemory = sym is ∙ same in cc
 not_layout kind (inr is) same = let never : kinds.NoRoom ≡ kinds.OutOfMemory = sym is ∙ same in cc

@@ -28,21 +28,22 @@ use Rattle.fv_head.specs.ExtImage.{CanonicalRest, IfRead, canonical_end, canonic
 use Rattle.fv_head.specs.declared.extent.Extent.{Extent}
 use Rattle.fv_head.proofs.Laws.{canonical_front, front_lies, length-canonical}
 use Rattle.fv_canon.specs.Starts.{StartsFollow, IsFirstPlacement}
-use Rattle.fv_canon.specs.declared.first_placement.Part.{Part}
-use Rattle.fv_tree.specs.Files.{FileForm, files_in, NoTwins, alive_in, top_name}
+use Rattle.fv_canon.specs.declared.first_placement.LayoutItem.{LayoutItem}
+use Rattle.fv_tree.specs.Files.{FileForm, files_in, NoTwins, current_in, top_name}
 use Rattle.fv_tree.specs.Meaning.{Meaning, Volume, FileMeanings, NoFiles, MoreFiles, FileMeaning, File, ContentMeaning, Plain, Sectioned}
 use Rattle.fv_tree.specs.Meaning.{files_list, content_len}
-use Rattle.fv_tree.specs.Denotes.{Streams, Pairs, MeansContent, MeansFile, StreamOver, VolumeOver, Opens, MeansSection, Stream, Denotes}
+use Rattle.fv_tree.specs.Denotes.{Streams, Pairwise, MeansContent, MeansFile, StreamOver, VolumeOver, Opens, MeansSection, Stream, Denotes}
 use Rattle.fv_canon.specs.Image.{IsImage, AreStored, IsStored, IsData}
-use Rattle.fv_canon.specs.Layouts.{AreStarts, part_of}
-use Rattle.fv_canon.specs.Spans.{ShowsSpans}
-use Rattle.fv_canon.specs.StoredFiles.{StoredFile, size_for, head_len_for, ext_pad, volume_spans, used_size}
-use Rattle.fv_canon.specs.StoredWalks.{stored_part, files_bytes, volume_bytes}
-use Rattle.fv_canon.proofs.AliveLaws.{names_in, names_of, NamesApart, alive_apart, all_alive, forms_unmarked, no_twins, TopLast, top_last}
-use Rattle.fv_canon.proofs.AliveLaws.{forms_top, form_names}
+use Rattle.fv_canon.specs.Layouts.{AreStarts, layout_item}
+use Rattle.fv_canon.specs.PlacedBytes.{ShowsPlaced}
+use Rattle.fv_canon.specs.StoredFiles.{StoredFile, size_for, head_len_for, ext_pad, placed_in_volume, used_size}
+use Rattle.fv_canon.specs.inner.StoredWalks.{stored_item, files_bytes, volume_bytes}
+use Rattle.fv_canon.proofs.CurrentLaws.{names_in, names_of, NamesApart, current_apart, all_current, forms_unmarked, no_twins, TopLast}
+use Rattle.fv_canon.proofs.CurrentLaws.{top_last}
+use Rattle.fv_canon.proofs.CurrentLaws.{forms_top, form_names}
 use Rattle.fv_canon.proofs.CellLaws.{Storable, stored_head, length-pad_head}
-use Rattle.fv_canon.proofs.ReadLaws.{FileIsAccepted, body_read, alive_read}
-use Rattle.fv_canon.proofs.SpanLaws.{Writable, first_is, volume_shows, length-ext_pad}
+use Rattle.fv_canon.proofs.ReadLaws.{FileIsAccepted, body_read, current_read}
+use Rattle.fv_canon.proofs.PlacedBytesLaws.{Writable, first_is, volume_shows, length-ext_pad}
 use Rattle.fv_canon.proofs.StreamLaws.{SectionsAgain, section_again, stream_again, StreamsAgain, VolumesAgain}
 use Rattle.fv_canon.proofs.BytesLaws.{bytes_volume}
 use Rattle.fv_canon.proofs.StoredTilingLaws.{forms_of, Tiled, body_tiles}
@@ -52,7 +53,7 @@ use Rattle.fv_canon.proofs.StoredTilingLaws.{forms_of, Tiled, body_tiles}
 -- what the canonical image keeps of a file, as it is stored in it
 record FileAgain (is_stream : Streams) (system : FileSystem) (m : FileMeaning) (f : FileForm) (x : StoredFile) : Type 0 where
   pub storable : Storable system x
-  pub part : stored_part x ≡ part_of m
+  pub part : stored_item x ≡ layout_item m
   pub name : bytes_of x.name ≡ bytes_of f.head.name
   pub form : (p : Polarity) (at : ℕ) → MeansFile is_stream (record { offset = at; head = stored_head p x; payload = x.payload }) m
 
@@ -99,7 +100,7 @@ large_system system false n h k needs = absurd (both n needs (k refl))
     both : (n : ℕ) → nat_lt 0xffffff (24 + n) ≡ true → 24 + n < 16777216 → ⊥
     both n e l = grind (arith, nat_tests)
 
-same_part : (n k a b : ℕ) (g h : Guid) → n ≡ k → a ≡ b → g ≡ h → let made : Part =
+same_part : (n k a b : ℕ) (g h : Guid) → n ≡ k → a ≡ b → g ≡ h → let made : LayoutItem =
     record { header = head_len_for n; size = size_for n; alignment = alignment_of a; top = bytes_eq (bytes_of g) top_name } in
     made ≡ record { header = head_len_for k; size = size_for k; alignment = alignment_of b; top = bytes_eq (bytes_of h) top_name }
 same_part n k a b g h p q r = rw (p, q, r) refl
@@ -144,20 +145,20 @@ file_again is_stream streams system limit (File name kind attributes content) f 
 pub record FilesAgain (is_stream : Streams) (system : FileSystem) (files : FileMeanings) (forms : List FileForm)
     (stored : List StoredFile) : Type 0 where
   pub storable : AllByRecursion (Storable system) stored
-  pub parts : map stored_part stored ≡ map part_of (files_list files)
+  pub items : map stored_item stored ≡ map layout_item (files_list files)
   pub names : names_of stored ≡ names_in forms
-  pub are : (p : Polarity) (total e : ℕ) (ss : List ℕ) → StartsFollow total e (map stored_part stored) ss
-      → Pairs (MeansFile is_stream) (forms_of p stored ss) (files_list files)
+  pub are : (p : Polarity) (total e : ℕ) (ss : List ℕ) → StartsFollow total e (map stored_item stored) ss
+      → Pairwise (MeansFile is_stream) (forms_of p stored ss) (files_list files)
 
 no_file : {A : Type 0} (x : A) (xs : List A) → x ∷ xs ≡ [] → ⊥
 no_file x xs e = cc
 
 files_again : (is_stream : Streams) → StreamsAgain is_stream
     → (system : FileSystem) (limit : ℕ) (files : FileMeanings) (forms : List FileForm) (stored : List StoredFile) → limit ≤ 268435448
-    → AllByRecursion (FileIsAccepted system limit) forms → Pairs (MeansFile is_stream) forms (files_list files) → AreStored files stored
+    → AllByRecursion (FileIsAccepted system limit) forms → Pairwise (MeansFile is_stream) forms (files_list files) → AreStored files stored
     → FilesAgain is_stream system files forms stored
 files_again is_stream streams system limit NoFiles [] [] most reads pairs are =
-    record { storable = tt; parts = refl; names = refl; are = λ p total e ss follow. tt }
+    record { storable = tt; items = refl; names = refl; are = λ p total e ss follow. tt }
 files_again is_stream streams system limit NoFiles [] (x ∷ xs) most reads pairs are = absurd (no_file x xs are)
 files_again is_stream streams system limit NoFiles (f ∷ fs) stored most reads pairs are = absurd pairs
 files_again is_stream streams system limit (MoreFiles m ms) [] stored most reads pairs are = absurd pairs
@@ -167,15 +168,15 @@ files_again is_stream streams system limit (MoreFiles m ms) (f ∷ fs) (x ∷ xs
     let behind = files_again is_stream streams system limit ms fs xs most reads.1 pairs.1 are.1 in
     record {
       storable = (here.storable, behind.storable);
-      parts = ap (λ (q : Part). q ∷ map stored_part xs) here.part ∙ ap (λ (qs : List Part). part_of m ∷ qs) behind.parts;
+      items = ap (λ (q : LayoutItem). q ∷ map stored_item xs) here.part ∙ ap (λ (qs : List LayoutItem). layout_item m ∷ qs) behind.items;
       names = ap (λ (n : List ℕ). n ∷ names_of xs) here.name ∙ ap (λ (ns : List (List ℕ)). bytes_of f.head.name ∷ ns) behind.names;
       are = λ p total e ss follow. step p total e ss follow here.form behind.are;
     }
   where
-    step : (p : Polarity) (total e : ℕ) (ss : List ℕ) → StartsFollow total e (map stored_part (x ∷ xs)) ss
+    step : (p : Polarity) (total e : ℕ) (ss : List ℕ) → StartsFollow total e (map stored_item (x ∷ xs)) ss
         → ((q : Polarity) (at : ℕ) → MeansFile is_stream (record { offset = at; head = stored_head q x; payload = x.payload }) m)
-        → ((q : Polarity) (n k : ℕ) (ts : List ℕ) → StartsFollow n k (map stored_part xs) ts → Pairs (MeansFile is_stream)
-        (forms_of q xs ts) (files_list ms)) → Pairs (MeansFile is_stream) (forms_of p (x ∷ xs) ss) (files_list (MoreFiles m ms))
+        → ((q : Polarity) (n k : ℕ) (ts : List ℕ) → StartsFollow n k (map stored_item xs) ts → Pairwise (MeansFile is_stream)
+        (forms_of q xs ts) (files_list ms)) → Pairwise (MeansFile is_stream) (forms_of p (x ∷ xs) ss) (files_list (MoreFiles m ms))
     step p total e [] follow form behind = absurd follow
     step p total e (s ∷ ss) follow form behind = (form p s, behind p total _ ss follow.1)
 
@@ -254,8 +255,8 @@ files_read is_stream h files b small d =
     let body : List ℕ = drop e.first b in
     let reads = body_read e.file_system e.polarity (length body) e.first d.cells body (bytes_drop e.first b small) (omega arith) d.tiles in
     subst (λ (s : FileSystem). AllByRecursion (FileIsAccepted s (length body)) d.files) d.front.file_system
-    (subst (AllByRecursion (FileIsAccepted e.file_system (length body))) (sym d.alive.files_are)
-    (alive_read e.file_system (length body) (files_in d.cells) reads))
+    (subst (AllByRecursion (FileIsAccepted e.file_system (length body))) (sym d.current.files_are)
+    (current_read e.file_system (length body) (files_in d.cells) reads))
 
 pub known : (is_stream : Streams) → StreamsAgain is_stream → (h : HeadFields) (files : FileMeanings) (b : List ℕ) → IsBytes b
     → (d : VolumeOver is_stream b (Volume h files)) (stored : List StoredFile) (starts : List ℕ)
@@ -265,12 +266,12 @@ known is_stream streams h files b small d stored starts are placed =
     let first : ℕ = canonical_first h h.ext in
     let lies = front_lies b h e d.front in
     let body : List ℕ = drop e.first b in
-    let alive = files_read is_stream h files b small d in
+    let current = files_read is_stream h files b small d in
     let limit : length body ≤ 268435448 = most (length body) (length b) e.first e.header_len e.length (length-drop e.first b) d.whole
     lies.limit lies.least (first_behind h.ext e b d.front.ext) in
-    let a = files_again is_stream streams h.file_system (length body) files d.files stored limit alive d.meanings are in
-    let place : IsFirstPlacement h.length first (map stored_part stored) starts =
-    subst (λ (qs : List Part). IsFirstPlacement h.length first qs starts) (sym a.parts) placed in
+    let a = files_again is_stream streams h.file_system (length body) files d.files stored limit current d.meanings are in
+    let place : IsFirstPlacement h.length first (map stored_item stored) starts =
+    subst (λ (qs : List LayoutItem). IsFirstPlacement h.length first qs starts) (sym a.items) placed in
     record {
       writable = record {
         read = (take e.header_len b, d.front.head);
@@ -288,7 +289,7 @@ known is_stream streams h files b small d stored starts are placed =
 
 -- an image begins with its head, and with the extended header in its pad behind it
 pub image_front : (h : HeadFields) (fs : List StoredFile) (ss o : List ℕ) → Writable h fs ss
-    → ShowsSpans h.length (erased_byte (polarity_of h.attributes)) (volume_spans h fs ss) o
+    → ShowsPlaced h.length (erased_byte (polarity_of h.attributes)) (placed_in_volume h fs ss) o
     → BeginsVolume h (extent_of h (canonical_first h h.ext)) o
 image_front h fs ss o k shows =
     let p : Polarity = polarity_of h.attributes in
@@ -310,7 +311,7 @@ image_front h fs ss o k shows =
 
 -- and its files and pads tile the rest
 pub image_tiled : (h : HeadFields) (fs : List StoredFile) (ss o : List ℕ) → Writable h fs ss
-    → ShowsSpans h.length (erased_byte (polarity_of h.attributes)) (volume_spans h fs ss) o
+    → ShowsPlaced h.length (erased_byte (polarity_of h.attributes)) (placed_in_volume h fs ss) o
     → Tiled h.file_system (polarity_of h.attributes) (canonical_first h h.ext) (drop (canonical_first h h.ext) o)
     (forms_of (polarity_of h.attributes) fs ss)
 image_tiled h fs ss o k shows =
@@ -333,8 +334,9 @@ volume_again is_stream streams (Volume h files) b o small d (stored, starts, are
     let tiled = image_tiled h stored starts o k shows in
     let names : names_in (forms_of p stored starts) ≡ names_in d.files = form_names p h.length first stored starts k.follow ∙ a.names in
     let apart : NamesApart (names_in (forms_of p stored starts)) = subst NamesApart (sym names)
-    (subst (λ (xs : List FileForm). NamesApart (names_in xs)) (sym d.alive.files_are) (alive_apart (files_in d.cells) d.alive.no_twins)) in
-    let last : TopLast (names_of stored) = subst TopLast (sym a.names) (top_last d.extent.length d.files d.alive.top) in
+    (subst (λ (xs : List FileForm). NamesApart (names_in xs)) (sym d.current.files_are) (current_apart (files_in d.cells)
+    d.current.no_twins)) in
+    let last : TopLast (names_of stored) = subst TopLast (sym a.names) (top_last d.extent.length d.files d.current.top) in
     let same : length o ≡ length b = shows.length_is ∙ sym (d.whole ∙ d.front.length_is) in
     record {
       is = record {
@@ -344,9 +346,9 @@ volume_again is_stream streams (Volume h files) b o small d (stored, starts, are
         cells = tiled.cells;
         tiles = tiled.tiles;
         files = forms_of p stored starts;
-        alive = record {
+        current = record {
           no_twins = subst NoTwins (sym tiled.files_are) (no_twins (forms_of p stored starts) apart);
-          files_are = sym (all_alive (forms_of p stored starts) (forms_unmarked p stored starts)) ∙ ap alive_in (sym tiled.files_are);
+          files_are = sym (all_current (forms_of p stored starts) (forms_unmarked p stored starts)) ∙ ap current_in (sym tiled.files_are);
           top = forms_top p h.length first stored starts last k.follow;
         };
         meanings = a.are p h.length first starts k.follow;

@@ -5,11 +5,11 @@ use Rattle.std.specs.List.{AllByRecursion}
 use Rattle.std.proofs.lemmas.List.{length-map, take-append-drop, take_more, drop_at}
 use Rattle.fv_base.specs.declared.fault.Fault.{Fault}
 use Rattle.fv_tree.specs.Meaning.{Meaning, FileMeaning, File, SectionMeaning, Section, body_of, content_of, files_of}
-use Rattle.fv_canon.specs.ImageOf.{starts_in}
-use Rattle.fv_canon.specs.Layouts.{AreStarts, Laid, AllFit, IsPlaced, FirstUnfit, UnfitHere, part_of, parts_of}
+use Rattle.fv_canon.specs.inner.ImageOf.{starts_in}
+use Rattle.fv_canon.specs.Layouts.{AreStarts, Laid, AllFit, IsPlaced, FirstUnfit, UnfitHere, layout_item, layout_items}
 use Rattle.fv_canon.specs.Volumes.{Inside, deeper, volumes_in_section, volumes_in_body, volumes_in_file, volumes_in_content}
-use Rattle.fv_canon.specs.ImageWalks.{BeginsWithStarts}
-use Rattle.fv_canon.specs.LayoutWalks.{Grew}
+use Rattle.fv_canon.specs.inner.ImageWalks.{BeginsWithStarts}
+use Rattle.fv_canon.specs.inner.LayoutWalks.{Grew}
 use Rattle.fv_canon.proofs.ItemLaws.{item_at}
 use Rattle.fv_canon.proofs.OneImageLaws.{follow_length}
 
@@ -43,7 +43,7 @@ laid_higher own (v ∷ vs) starts (first, inner, text, p, r) = (first, inner, te
 
 -- how many there are
 pub own_count : (m : Meaning) (own : List ℕ) → AreStarts m own → length own ≡ length (files_of m)
-own_count m own placed = follow_length _ _ (parts_of m) own placed.placement.follow ∙ length-map (files_of m) part_of
+own_count m own placed = follow_length _ _ (layout_items m) own placed.placement.follow ∙ length-map (files_of m) layout_item
 
 pub laid_count : (vs : List Inside) (starts : List ℕ) → Laid AreStarts vs starts → length starts ≡ starts_in vs
 laid_count [] starts laid = ap length laid
@@ -153,17 +153,17 @@ module _ {A : Type 0} (all : List A → List Inside) (one : A → List Inside) (
       → BeginsWithStarts (all (drop i xs)) starts
       → BeginsWithStarts (one x) starts × BeginsWithStarts (all (drop (i + 1) xs)) (drop (starts_in (one x)) starts)
   item_begins xs i x starts l is (whole, rest, text, laid) =
-      let parts = laid_split AreStarts (one x) (all (drop (i + 1) xs)) whole
+      let items = laid_split AreStarts (one x) (all (drop (i + 1) xs)) whole
       (subst (λ ws. Laid AreStarts ws whole) (item_first xs i x l is) laid) in
-      let here : starts ≡ parts.0 ++ (parts.1 ++ rest) =
-      text ∙ ap (λ (ys : List ℕ). ys ++ rest) parts.2 ∙ append_assoc parts.0 parts.1 rest in (
-        (parts.0, parts.1 ++ rest, here, parts.3),
+      let here : starts ≡ items.0 ++ (items.1 ++ rest) =
+      text ∙ ap (λ (ys : List ℕ). ys ++ rest) items.2 ∙ append_assoc items.0 items.1 rest in (
+        (items.0, items.1 ++ rest, here, items.3),
         (
-          parts.1,
+          items.1,
           rest,
           ap (drop (starts_in (one x))) here
-              ∙ drop_at parts.0 (parts.1 ++ rest) (starts_in (one x)) (laid_count (one x) parts.0 parts.3),
-          parts.4,
+              ∙ drop_at items.0 (items.1 ++ rest) (starts_in (one x)) (laid_count (one x) items.0 items.3),
+          items.4,
         ),
       )
 

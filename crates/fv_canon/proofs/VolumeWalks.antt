@@ -11,43 +11,43 @@ use Rattle.fv_head.specs.Head.{HeadFields}
 use Rattle.fv_head.specs.HeadImage.{canonical_head}
 use Rattle.fv_head.specs.ExtImage.{canonical_end, canonical_first}
 use Rattle.fv_canon.specs.Starts.{StartsFollow}
-use Rattle.fv_canon.specs.declared.first_placement.Part.{Part}
+use Rattle.fv_canon.specs.declared.first_placement.LayoutItem.{LayoutItem}
 use Rattle.fv_base.specs.Value.{up_to_8}
 use Rattle.fv_tree.specs.Meaning.{Meaning, Volume, FileMeanings, FileMeaning, files_from, head_of, data_len_of}
 use Rattle.fv_tree.specs.Denotes.{IsMeaning, MeansSection, Stream}
-use Rattle.fv_canon.specs.ImageOf.{image_of, stored_of, starts_in}
+use Rattle.fv_canon.specs.inner.ImageOf.{image_of, stored_of, starts_in}
 use Rattle.fv_canon.specs.Image.{AreStored}
-use Rattle.fv_canon.specs.Layouts.{parts_of, part_of}
+use Rattle.fv_canon.specs.Layouts.{layout_items, layout_item}
 use Rattle.fv_canon.specs.Volumes.{volumes_in, volumes_in_files}
 use Rattle.fv_canon.specs.StoredFiles.{StoredFile, size_for, stored_len, used_size, ext_pad}
-use Rattle.fv_canon.specs.StoredWalks.{stored_part, volume_bytes, files_bytes}
+use Rattle.fv_canon.specs.inner.StoredWalks.{stored_item, volume_bytes, files_bytes}
 use Rattle.fv_canon.proofs.WrittenImageLaws.{files_made, stream_made, sections_made, front_is, behind_is}
 use Rattle.fv_canon.proofs.OneImageLaws.{follow_length}
-use Rattle.fv_canon.proofs.SpanLaws.{first_is}
+use Rattle.fv_canon.proofs.PlacedBytesLaws.{first_is}
 use Rattle.fv_canon.proofs.StreamLaws.{stream_again}
 use Rattle.fv_canon.proofs.VolumeLaws.{known, files_read, sections_again}
-use Rattle.fv_canon.specs.Placed.{ArePlaced, used_by}
-use Rattle.fv_canon.specs.ImageWalks.{BeginsWithStarts}
+use Rattle.fv_canon.specs.inner.Placed.{ArePlaced, used_by}
+use Rattle.fv_canon.specs.inner.ImageWalks.{BeginsWithStarts}
 use Rattle.fv_tree.proofs.Laws.{files_list_back}
 
 -- ---- the used size
-abbrev used_parts : ℕ → List Part → List ℕ → ℕ
+abbrev used_parts : ℕ → List LayoutItem → List ℕ → ℕ
 used_parts end [] starts = end
 used_parts end (f ∷ fs) [] = end
 used_parts end (f ∷ fs) (s ∷ ss) = used_parts (s + f.size) fs ss
 
-used_stored : (end : ℕ) (fs : List StoredFile) (ss : List ℕ) → used_size end fs ss ≡ used_parts end (map stored_part fs) ss
+used_stored : (end : ℕ) (fs : List StoredFile) (ss : List ℕ) → used_size end fs ss ≡ used_parts end (map stored_item fs) ss
 used_stored end [] ss = refl
 used_stored end (f ∷ fs) [] = refl
 used_stored end (f ∷ fs) (s ∷ ss) = used_stored (s + stored_len f) fs ss
 
-used_files : (end : ℕ) (fs : List FileMeaning) (ss : List ℕ) → used_by end fs ss ≡ used_parts end (map part_of fs) ss
+used_files : (end : ℕ) (fs : List FileMeaning) (ss : List ℕ) → used_by end fs ss ≡ used_parts end (map layout_item fs) ss
 used_files end [] ss = refl
 used_files end (f ∷ fs) [] = refl
 used_files end (f ∷ fs) (s ∷ ss) = used_files (s + size_for (data_len_of f)) fs ss
 
 pub used_last : (total e end : ℕ) (fs : List FileMeaning) (ss : List ℕ) (n : ℕ) (d : FileMeaning) → length fs ≡ suc n
-    → StartsFollow total e (map part_of fs) ss
+    → StartsFollow total e (map layout_item fs) ss
     → (used_by end fs ss ≡ get_or ss n 0 + size_for (data_len_of (get_or fs n d)))
     × (get_or ss n 0 + size_for (data_len_of (get_or fs n d)) ≤ total) × (n < length ss)
 used_last total e end [] ss n d l follow = absurd (omega (arith, l))
@@ -78,19 +78,20 @@ volume_laid h fs starts (k, few, b, small, d) (laid, more, whole, (own, inner, t
     let files : FileMeanings = files_from fs in
     let first : ℕ = canonical_first h h.ext in
     let n : ℕ = length fs in
-    let parts : parts_of (Volume h files) ≡ map part_of fs = ap (λ (xs : List FileMeaning). map part_of xs) (files_list_back fs) in
-    let follow : StartsFollow h.length first (map part_of fs) own =
-    subst (λ (ps : List Part). StartsFollow h.length first ps own) parts placed.placement.follow in
-    let count : length own ≡ n = follow_length h.length first (map part_of fs) own follow ∙ length-map fs part_of in
+    let items : layout_items (Volume h files) ≡ map layout_item fs = ap (λ (xs : List FileMeaning). map layout_item xs) (files_list_back
+    fs) in
+    let follow : StartsFollow h.length first (map layout_item fs) own =
+    subst (λ (ps : List LayoutItem). StartsFollow h.length first ps own) items placed.placement.follow in
+    let count : length own ≡ n = follow_length h.length first (map layout_item fs) own follow ∙ length-map fs layout_item in
     let front : take n starts ≡ own = ap (take n) whole ∙ front_is n laid own inner more text count in
     let behind : drop n starts ≡ inner ++ more = ap (drop n) whole ∙ behind_is n laid own inner more text count in
     let reads = files_read (Stream k) h files b small d in
     let again = stream_again (MeansSection k) (sections_again k) in
     let are : AreStored files (stored_of files (inner ++ more)) = files_made (Stream k) (stream_made (MeansSection k) (sections_made k))
     h.file_system (length (drop d.extent.first b)) files d.files inner more reads d.meanings lays in
-    let same = (known (Stream k) again h files b small d (stored_of files (inner ++ more)) own are placed).again.parts in
+    let same = (known (Stream k) again h files b small d (stored_of files (inner ++ more)) own are placed).again.items in
     let used : used_size first (stored_of files (inner ++ more)) own ≡ used_by first fs own =
-    used_stored first (stored_of files (inner ++ more)) own ∙ ap (λ (ps : List Part). used_parts first ps own) (same ∙ parts)
+    used_stored first (stored_of files (inner ++ more)) own ∙ ap (λ (ps : List LayoutItem). used_parts first ps own) (same ∙ items)
     ∙ sym (used_files first fs own) in
     let f = first_is h h.ext in
     record {

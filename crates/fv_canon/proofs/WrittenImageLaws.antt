@@ -10,16 +10,16 @@ use Rattle.fv_tree.specs.Files.{FileForm}
 use Rattle.fv_tree.specs.Meaning.{Meaning, Volume, FileMeanings, NoFiles, MoreFiles, FileMeaning, File, ContentMeaning, Plain, Sectioned}
 use Rattle.fv_tree.specs.Meaning.{SectionMeanings, NoSections, MoreSections, SectionMeaning, Section, Leaf, Group, Nested}
 use Rattle.fv_tree.specs.Meaning.{files_list, sections_list}
-use Rattle.fv_tree.specs.Denotes.{Sections, Streams, Volumes, Pairs, StreamOver, SectionOver, VolumeOver, MeansContent, MeansFile}
+use Rattle.fv_tree.specs.Denotes.{Sections, Streams, Volumes, Pairwise, StreamOver, SectionOver, VolumeOver, MeansContent, MeansFile}
 use Rattle.fv_tree.specs.Denotes.{MeansSection, Stream, Denotes}
 use Rattle.fv_canon.specs.Image.{IsImage, AreStored, IsStored, IsData, AreFrames, IsFrame}
-use Rattle.fv_canon.specs.ImageOf.{starts_in, image_of, stored_of, stored_file, data_of, frames_of, frame_of}
+use Rattle.fv_canon.specs.inner.ImageOf.{starts_in, image_of, stored_of, stored_file, data_of, frames_of, frame_of}
 use Rattle.fv_canon.specs.Layouts.{AreStarts, Laid, LaysVolume}
 use Rattle.fv_canon.specs.Volumes.{volumes_in, volumes_in_files, volumes_in_file, volumes_in_content, volumes_in_sections}
 use Rattle.fv_canon.specs.Volumes.{volumes_in_section}
-use Rattle.fv_canon.specs.StoredWalks.{volume_bytes}
+use Rattle.fv_canon.specs.inner.StoredWalks.{volume_bytes}
 use Rattle.fv_canon.proofs.VolumeListLaws.{laid_split, laid_higher, laid_count, own_count}
-use Rattle.fv_canon.proofs.SpanLaws.{volume_written}
+use Rattle.fv_canon.proofs.PlacedBytesLaws.{volume_written}
 use Rattle.fv_canon.proofs.StreamLaws.{StreamsAgain, stream_again}
 use Rattle.fv_section.proofs.Laws.{begun_bytes}
 use Rattle.fv_base.proofs.Laws.{bytes_back}
@@ -57,7 +57,7 @@ offset_is at (Section kind extended body) starts = refl
 
 -- ---- frame by frame
 frames_made : (is_section : Sections) → SectionsMade is_section → (at place : ℕ) (ss : SectionMeanings) (fs : List FrameForm) (tail : ℕ)
-    (b starts more : List ℕ) → IsBytes b → SplitsFrom at fs tail b → Pairs is_section fs (sections_list ss)
+    (b starts more : List ℕ) → IsBytes b → SplitsFrom at fs tail b → Pairwise is_section fs (sections_list ss)
     → Laid AreStarts (volumes_in_sections ss) starts → AreFrames place ss (frames_of place ss (starts ++ more))
 frames_made is_section made at place NoSections fs tail b starts more small is p laid = refl
 frames_made is_section made at place (MoreSections s ss) [] tail b starts more small is p laid = absurd p
@@ -73,14 +73,15 @@ frames_made is_section made at place (MoreSections s (MoreSections t ss)) (f ∷
 frames_made is_section made at place (MoreSections s ss) (f ∷ g ∷ fs) tail b starts more small (filler, rest, begun, offset, count, later) p
     laid =
     let l = laid_split AreStarts (volumes_in_section s) (volumes_in_sections ss) starts laid in
-    let parts = begun_bytes f b (filler ++ rest) small begun in
+    let items = begun_bytes f b (filler ++ rest) small begun in
     let next : ℕ = up_to_4 (place + frame_len (frame_of place s (starts ++ more))) in (
       offset_is place s (starts ++ more),
       subst (λ (xs : List ℕ). IsFrame s (frame_of place s xs)) (sym (moved starts l.0 l.1 more l.2))
-          (made s f place l.0 (l.1 ++ more) parts.0 p.0 l.3),
+          (made s f place l.0 (l.1 ++ more) items.0 p.0 l.3),
       subst (λ (xs : List ℕ). AreFrames next ss (frames_of next ss xs))
           (sym (behind_is (starts_in (volumes_in_section s)) starts l.0 l.1 more l.2 (laid_count (volumes_in_section s) l.0 l.3)))
-          (frames_made is_section made (up_to_4 (at + frame_len f)) next ss (g ∷ fs) tail rest l.1 more (bytes_back filler rest parts.1) later
+          (frames_made is_section made (up_to_4 (at + frame_len f)) next ss (g ∷ fs) tail rest l.1 more (bytes_back filler rest items.1)
+          later
           p.1 l.4),
     )
 
@@ -114,7 +115,7 @@ file_made is_stream streams (File name kind attributes content) f starts more sm
 
 pub files_made : (is_stream : Streams) → StreamsMade is_stream → (system : FileSystem) (limit : ℕ) (files : FileMeanings)
     (forms : List FileForm) (starts more : List ℕ) → AllByRecursion (FileIsAccepted system limit) forms
-    → Pairs (MeansFile is_stream) forms (files_list files) → Laid AreStarts (volumes_in_files files) starts
+    → Pairwise (MeansFile is_stream) forms (files_list files) → Laid AreStarts (volumes_in_files files) starts
     → AreStored files (stored_of files (starts ++ more))
 files_made is_stream streams system limit NoFiles forms starts more reads pairs laid = refl
 files_made is_stream streams system limit (MoreFiles m ms) [] starts more reads pairs laid = absurd pairs

@@ -1,7 +1,7 @@
 -- What a run over two inputs reads and writes, and what stops it.
 use Rattle.std.specs.Prelude.{◌≡◌, ◌≢◌, ◌↔◌, ◌⊎◌, ℕ, List, Option, Bool, true}
 use Rattle.std.specs.Io.KnownBytes.{Appends, Keeps}
-use Rattle.fv_base.specs.Faults.{want_of_memory}
+use Rattle.fv_base.specs.Faults.{out_of_memory}
 use Rattle.fv_base.specs.Input.{ReadsWhole, ReadStops}
 use Rattle.fv_base.specs.Output.{WriteStops}
 use Rattle.fv_base.specs.declared.fault.Fault.{Fault}
@@ -22,7 +22,7 @@ Compares m k held holds same = ((same ≡ true) ↔ (m ≡ k)) × Appends held h
 -- memory ran out before anything was written, which can happen only if the two differ; or the writer stopped in the
 -- line
 abbrev pub ComparisonStops : Side → Meaning → Meaning → Option (List ℕ) → Option (List ℕ) → Fault → Type 0
-ComparisonStops sides.First m k held holds fault = Keeps held holds × (fault ≡ want_of_memory) × (m ≢ k)
+ComparisonStops sides.First m k held holds fault = Keeps held holds × (fault ≡ out_of_memory) × (m ≢ k)
 ComparisonStops sides.Second m k held holds fault = ⊥
 ComparisonStops sides.Output m k held holds fault = WriteStops held holds (compare_line (difference m k)) fault
 
@@ -34,7 +34,7 @@ ReadsVolume unread left m = (input : List ℕ) × ReadsWhole unread left input �
 
 -- an input that was read to its end is no volume, or memory ran out
 abbrev pub VolumeStops : List ℕ → Fault → Type 0
-VolumeStops input fault = (fault ≡ want_of_memory) ⊎ NotRead input fault
+VolumeStops input fault = (fault ≡ out_of_memory) ⊎ NotRead input fault
 
 -- an input stopped the run: while it was read, or after its end
 abbrev pub InputSideStops : Option (List ℕ) → Option (List ℕ) → Fault → Type 0
@@ -54,7 +54,7 @@ SideStopsRun sides.First unread left unread' left' held holds fault =
     Keeps held holds
     × ((Keeps unread' left' × InputSideStops unread left fault)
     ⊎ ((m : Meaning) × (k : Meaning) × ReadsVolume unread left m × ReadsVolume unread' left' k
-    × (fault ≡ want_of_memory) × (m ≢ k)))
+    × (fault ≡ out_of_memory) × (m ≢ k)))
 SideStopsRun sides.Second unread left unread' left' held holds fault =
     Keeps held holds × ((m : Meaning) × ReadsVolume unread left m) × InputSideStops unread' left' fault
 SideStopsRun sides.Output unread left unread' left' held holds fault =

@@ -46,8 +46,7 @@ SameMeaningIffSameImage =
 
 -- the image of a volume is as long as the volume, and is a volume with the same meaning
 abbrev pub ImageKeepsLengthAndMeaning : Type 0
-ImageKeepsLengthAndMeaning =
-    (a image : List ℕ) → NormalisesTo a image → (length image ≡ length a) × MeanSame a image
+ImageKeepsLengthAndMeaning = (a image : List ℕ) → NormalisesTo a image → (length image ≡ length a) × MeanSame a image
 
 -- the image of a volume is its own image
 abbrev pub ImageIsItsOwnImage : Type 0

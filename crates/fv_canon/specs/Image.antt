@@ -8,8 +8,8 @@ use Rattle.fv_tree.specs.Meaning.{Meaning, Volume, FileMeanings, NoFiles, MoreFi
 use Rattle.fv_tree.specs.Meaning.{Plain, Sectioned, SectionMeanings, NoSections, MoreSections, SectionMeaning, Section}
 use Rattle.fv_tree.specs.Meaning.{BodyMeaning, Leaf, Group, Nested}
 use Rattle.fv_canon.specs.Layouts.{AreStarts}
-use Rattle.fv_canon.specs.Spans.{ShowsSpans}
-use Rattle.fv_canon.specs.StoredFiles.{StoredFile, volume_spans}
+use Rattle.fv_canon.specs.PlacedBytes.{ShowsPlaced}
+use Rattle.fv_canon.specs.StoredFiles.{StoredFile, placed_in_volume}
 
 -- the bytes are the canonical image of a volume with this meaning. Its files are in their first placement. The head,
 -- the extended header's pad, the files and the pads of the gaps are where they must be, and every other byte is erased.
@@ -19,7 +19,7 @@ abbrev mutual
   pub IsImage : Meaning → List ℕ → Type 0
   IsImage (Volume h files) b =
       (stored : List StoredFile) × (starts : List ℕ) × AreStored files stored × AreStarts (Volume h files) starts
-      × ShowsSpans h.length (erased_byte (polarity_of h.attributes)) (volume_spans h stored starts) b
+      × ShowsPlaced h.length (erased_byte (polarity_of h.attributes)) (placed_in_volume h stored starts) b
 
   pub AreStored : FileMeanings → List StoredFile → Type 0
   AreStored NoFiles stored = stored ≡ []

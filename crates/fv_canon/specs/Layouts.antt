@@ -13,21 +13,21 @@ use Rattle.fv_tree.specs.Files.{top_name}
 use Rattle.fv_tree.specs.Meaning.{Meaning, FileMeaning, head_of, files_of, length_of, data_len_of, file_name_of}
 use Rattle.fv_tree.specs.Meaning.{attributes_of}
 use Rattle.fv_canon.specs.Starts.{IsFirstPlacement, Placement, TopOff, HasNoRoom, IsLeast}
-use Rattle.fv_canon.specs.declared.first_placement.Part.{Part}
+use Rattle.fv_canon.specs.declared.first_placement.LayoutItem.{LayoutItem}
 use Rattle.fv_canon.specs.StoredFiles.{head_len_for, size_for}
 use Rattle.fv_canon.specs.Volumes.{Inside, volumes_in}
 
 -- what the layout knows of a file
-abbrev pub part_of : FileMeaning → Part
-part_of f = record {
+abbrev pub layout_item : FileMeaning → LayoutItem
+layout_item f = record {
   header = head_len_for (data_len_of f);
   size = size_for (data_len_of f);
   alignment = alignment_of (attributes_of f);
   top = bytes_eq (bytes_of (file_name_of f)) top_name;
 }
 
-abbrev pub parts_of : Meaning → List Part
-parts_of m = map part_of (files_of m)
+abbrev pub layout_items : Meaning → List LayoutItem
+layout_items m = map layout_item (files_of m)
 
 -- where the first file may begin
 abbrev pub first_edge : HeadFields → ℕ
@@ -35,13 +35,13 @@ first_edge h = canonical_first h h.ext
 
 -- the starts of a volume's own files: the first placement
 abbrev pub AreStarts : Meaning → List ℕ → Type 0
-AreStarts m starts = IsFirstPlacement (length_of m) (first_edge (head_of m)) (parts_of m) starts
+AreStarts m starts = IsFirstPlacement (length_of m) (first_edge (head_of m)) (layout_items m) starts
 
 -- the least starts of its own files, which are also a placement
 abbrev pub AreLeast : Meaning → List ℕ → Type 0
 AreLeast m starts =
-    IsLeast (length_of m) (first_edge (head_of m)) (parts_of m) starts
-    × Placement (length_of m) (first_edge (head_of m)) (parts_of m) starts
+    IsLeast (length_of m) (first_edge (head_of m)) (layout_items m) starts
+    × Placement (length_of m) (first_edge (head_of m)) (layout_items m) starts
 
 -- ---- at every level
 
@@ -80,8 +80,8 @@ layout_fault kind depth = record { kind = kind; place = record { offset = 0; dep
 -- the volume top file is not aligned at its only possible start, or else the files of the volume cannot be placed
 abbrev pub UnfitHere : Meaning → ℕ → Fault → Type 0
 UnfitHere m depth f =
-    (TopOff (length_of m) (parts_of m) × (f ≡ layout_fault kinds.TopAlignment depth))
-    ⊎ (HasNoRoom (length_of m) (first_edge (head_of m)) (parts_of m) × (f ≡ layout_fault kinds.NoRoom depth))
+    (TopOff (length_of m) (layout_items m) × (f ≡ layout_fault kinds.TopAlignment depth))
+    ⊎ (HasNoRoom (length_of m) (first_edge (head_of m)) (layout_items m) × (f ≡ layout_fault kinds.NoRoom depth))
 
 -- the fault of the first of the volumes that does not fit; `depth` is the depth of what they are in
 abbrev pub FirstUnfit : List Inside → ℕ → Fault → Type 0

@@ -1,7 +1,7 @@
 -- What a run reads and writes, and what stops it.
 use Rattle.std.specs.Prelude.{ℕ, ◌≡◌, List, Option, ◌⊎◌}
 use Rattle.std.specs.Io.KnownBytes.{Appends, Keeps}
-use Rattle.fv_base.specs.Faults.{want_of_memory}
+use Rattle.fv_base.specs.Faults.{out_of_memory}
 use Rattle.fv_base.specs.Input.{ReadsWhole, ReadStops}
 use Rattle.fv_base.specs.Output.{WriteStops}
 use Rattle.fv_base.specs.declared.fault.Fault.{Fault}
@@ -15,7 +15,7 @@ InputWrites input held holds = (image : List ℕ) × NormalisesTo input image ×
 -- nothing was written, because memory ran out or the input is rejected; or the writer stopped
 abbrev pub InputStops : List ℕ → Option (List ℕ) → Option (List ℕ) → Fault → Type 0
 InputStops input held holds fault =
-    (Keeps held holds × ((fault ≡ want_of_memory) ⊎ Refuses input fault))
+    (Keeps held holds × ((fault ≡ out_of_memory) ⊎ Refuses input fault))
     ⊎ ((image : List ℕ) × NormalisesTo input image × WriteStops held holds image fault)
 
 -- a run read an input to its end, and wrote its image

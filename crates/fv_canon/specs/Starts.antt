@@ -2,46 +2,46 @@
 -- specification, volume 3, section 3.2.3.1, for the alignment of data and the pads between files).
 use Rattle.std.specs.Prelude.{◌≡◌, ◌≢◌, ℕ, ◌+◌, ◌-◌, ◌%◌, ◌≤◌, ◌⊎◌, List, [], ◌∷◌, take, get_or, IsTrue, MatchBool}
 use Rattle.fv_base.specs.Value.{up_to_8}
-use Rattle.fv_canon.specs.declared.first_placement.Part.{Part}
+use Rattle.fv_canon.specs.declared.first_placement.LayoutItem.{LayoutItem}
 
 -- a start that a file may have after the edge e: a multiple of 8, either at the edge or far enough after it for a pad,
 -- with the file's data aligned
-pub record Lawful (e : ℕ) (f : Part) (s : ℕ) : Type 0 where
+pub record Lawful (e : ℕ) (f : LayoutItem) (s : ℕ) : Type 0 where
   pub eighth : s % 8 ≡ 0
   pub apart : (s ≡ e) ⊎ (e + 24 ≤ s)
   pub aligned : (s + f.header) % f.alignment ≡ 0
 
 -- the start of a file: lawful, with the file inside the volume, and at the volume's end if it is the volume top file
-pub record StandsInVolume (total e : ℕ) (f : Part) (s : ℕ) : Type 0 where
+pub record StandsInVolume (total e : ℕ) (f : LayoutItem) (s : ℕ) : Type 0 where
   pub lawful : Lawful e f s
   pub within : s + f.size ≤ total
   pub at_end : IsTrue f.top → s + f.size ≡ total
 
 -- one start for each file, after the edge of the file before it; that edge is the file's end, rounded up to 8
-abbrev pub StartsFollow : ℕ → ℕ → List Part → List ℕ → Type 0
+abbrev pub StartsFollow : ℕ → ℕ → List LayoutItem → List ℕ → Type 0
 StartsFollow total e [] [] = Unit {0}
 StartsFollow total e [] (s ∷ ss) = ⊥
 StartsFollow total e (f ∷ fs) [] = ⊥
 StartsFollow total e (f ∷ fs) (s ∷ ss) = StandsInVolume total e f s × StartsFollow total (up_to_8 (s + f.size)) fs ss
 
 -- the files can be placed at these starts, in a volume of `total` bytes with the first edge `first`
-pub record Placement (total first : ℕ) (fs : List Part) (starts : List ℕ) : Type 0 where
+pub record Placement (total first : ℕ) (fs : List LayoutItem) (starts : List ℕ) : Type 0 where
   pub room : first ≤ total
   pub follow : StartsFollow total first fs starts
 
 -- the first placement: each start is the least one among all placements with the same starts before it
-pub record IsFirstPlacement (total first : ℕ) (fs : List Part) (starts : List ℕ) : Type 0 where
+pub record IsFirstPlacement (total first : ℕ) (fs : List LayoutItem) (starts : List ℕ) : Type 0 where
   pub placement : Placement total first fs starts
   pub least : (others : List ℕ) (i : ℕ) → Placement total first fs others → take i others ≡ take i starts
       → get_or starts i 0 ≤ get_or others i 0
 
 -- the least start that is lawful after an edge; for the volume top file, the start with which it ends at the volume's
 -- end
-abbrev pub IsLeastStart : ℕ → ℕ → Part → ℕ → Type 0
+abbrev pub IsLeastStart : ℕ → ℕ → LayoutItem → ℕ → Type 0
 IsLeastStart total e f s = MatchBool f.top (s + f.size ≡ total) (Lawful e f s × ((t : ℕ) → Lawful e f t → s ≤ t))
 
 -- each file is at the least start after the edge before it; this need not be a placement
-abbrev pub IsLeast : ℕ → ℕ → List Part → List ℕ → Type 0
+abbrev pub IsLeast : ℕ → ℕ → List LayoutItem → List ℕ → Type 0
 IsLeast total e [] [] = Unit {0}
 IsLeast total e [] (s ∷ ss) = ⊥
 IsLeast total e (f ∷ fs) [] = ⊥
@@ -49,15 +49,15 @@ IsLeast total e (f ∷ fs) (s ∷ ss) = IsLeastStart total e f s × IsLeast tota
 
 -- the volume top file has only one possible start, with which it ends at the volume's end: there its data are not
 -- aligned, or the start is not a multiple of 8
-abbrev pub IsOff : ℕ → Part → Type 0
+abbrev pub IsOff : ℕ → LayoutItem → Type 0
 IsOff total f = ((total - f.size + f.header) % f.alignment ≢ 0) ⊎ ((total - f.size) % 8 ≢ 0)
 
-abbrev pub TopOff : ℕ → List Part → Type 0
+abbrev pub TopOff : ℕ → List LayoutItem → Type 0
 TopOff total [] = ⊥
 TopOff total (f ∷ fs) = (IsTrue f.top × IsOff total f) ⊎ TopOff total fs
 
 -- the volume top file, if there is one, is aligned at the volume's end, and yet the files cannot be placed in their
 -- order at all
-pub record HasNoRoom (total first : ℕ) (fs : List Part) : Type 0 where
+pub record HasNoRoom (total first : ℕ) (fs : List LayoutItem) : Type 0 where
   pub top_stands : TopOff total fs → ⊥
   pub none : (starts : List ℕ) → Placement total first fs starts → ⊥

@@ -1,6 +1,7 @@
 -- A volume whose files' data are known, as it is in the canonical image (PI specification, volume 3, sections 3.2.1 to
 -- 3.2.3).
-use Rattle.std.specs.Prelude.{◌≡◌, ◌≤◌, ◌<◌, ◌%◌, ℕ, ◌+◌, ◌-◌, ◌==◌, zero, suc, nat_le, if◌then◌else◌, List, [], ◌∷◌, ◌++◌}
+use Rattle.std.specs.Prelude.{◌≡◌, ◌≤◌, ◌<◌, ◌%◌, ℕ, ◌+◌, ◌-◌, ◌==◌, zero, suc, nat_le, if◌then◌else◌, List, [], ◌∷◌}
+use Rattle.std.specs.Prelude.{◌++◌}
 use Rattle.std.specs.Prelude.{length, replicate, sum, Option, None, Some}
 use Rattle.fv_base.specs.Flash.{erased_byte}
 use Rattle.fv_base.specs.Value.{up_to_8}
@@ -14,7 +15,7 @@ use Rattle.fv_head.specs.Ext.{Extension}
 use Rattle.fv_head.specs.Head.{HeadFields, header_len_of as head_len_of}
 use Rattle.fv_head.specs.HeadImage.{canonical_head}
 use Rattle.fv_head.specs.ExtImage.{canonical_first, ext_len, ext_spelled}
-use Rattle.fv_canon.specs.Spans.{Span}
+use Rattle.fv_canon.specs.PlacedBytes.{PlacedBytes}
 
 -- a file, with its data as written
 pub record StoredFile : Type 0 where
@@ -59,7 +60,7 @@ pads polarity (suc n) gap =
     if nat_le gap 0xfffff8 then pad_bytes polarity gap
     else (pad_bytes polarity long_pad ++ pads polarity n (gap - long_pad))
 
--- a gap between an edge and the file behind it: nothing where it is empty, else its pads, which are fewer than its bytes
+-- a gap between an edge and the file after it: nothing where it is empty, else its pads, which are fewer than its bytes
 unfoldable pub gap_bytes : Polarity → ℕ → List ℕ
 gap_bytes polarity gap = if gap == 0 then [] else pads polarity gap gap
 
@@ -76,22 +77,22 @@ used_size end (f ∷ fs) (s ∷ ss) = used_size (s + stored_len f) fs ss
 
 -- where the files are, from the edge e on: the pads of each gap, and each file. There are as many starts as files
 -- (`AreStarts`); the other cases do not occur
-abbrev pub file_spans : Polarity → ℕ → List StoredFile → List ℕ → List Span
-file_spans polarity e [] starts = []
-file_spans polarity e (f ∷ fs) [] = []
-file_spans polarity e (f ∷ fs) (s ∷ ss) =
+abbrev pub placed_files : Polarity → ℕ → List StoredFile → List ℕ → List PlacedBytes
+placed_files polarity e [] starts = []
+placed_files polarity e (f ∷ fs) [] = []
+placed_files polarity e (f ∷ fs) (s ∷ ss) =
     record { at = e; bytes = gap_bytes polarity (s - e) } ∷ record { at = s; bytes = stored_bytes polarity f }
-    ∷ file_spans polarity (up_to_8 (s + stored_len f)) fs ss
+    ∷ placed_files polarity (up_to_8 (s + stored_len f)) fs ss
 
 -- where everything is: the head, the extended header's pad, the files
-abbrev pub volume_spans : HeadFields → List StoredFile → List ℕ → List Span
-volume_spans h files starts =
+abbrev pub placed_in_volume : HeadFields → List StoredFile → List ℕ → List PlacedBytes
+placed_in_volume h files starts =
     record { at = 0; bytes = canonical_head h }
     ∷ record {
       at = head_len_of h;
       bytes = ext_pad (polarity_of h.attributes) h.ext (used_size (canonical_first h h.ext) files starts);
     }
-    ∷ file_spans (polarity_of h.attributes) (canonical_first h h.ext) files starts
+    ∷ placed_files (polarity_of h.attributes) (canonical_first h h.ext) files starts
 
 -- ---- the rule of the pads
 

@@ -1,7 +1,7 @@
 //! Whether bytes are a canonical image: that of a view, or their own.
 
 ghost use Rattle.std.specs.Prelude.{◌≡◌, ◌↔◌, ◌⊎◌, IfOk, IfErr, true};
-ghost use Rattle.fv_base.specs.Faults.{want_of_memory};
+ghost use Rattle.fv_base.specs.Faults.{out_of_memory};
 ghost use Rattle.fv_head.specs.Head.{HeadFields, BeginsVolume};
 ghost use Rattle.fv_head.specs.declared.extent.Extent.{Extent};
 ghost use Rattle.fv_canon.specs.Image.{IsImage};
@@ -25,7 +25,7 @@ use std::alloc::Global;
 pub fn is_canonical_image(alloc: Global, view: &VolumeView<'_>, bytes: &[u8]) -> Result<bool, Fault>
     // Whether the bytes are the image of the view's meaning.
     ensures ok { IfOk result (λ t. (t ≡ true) ↔ IsImage view.now bytes.now) }
-    ensures err { IfErr result (λ f. f ≡ want_of_memory) }
+    ensures err { IfErr result (λ f. f ≡ out_of_memory) }
 {
     let _head = view.head();
     match layout(alloc, view) {
@@ -51,11 +51,11 @@ pub fn is_canonical(alloc: Global, input: &[u8]) -> Result<bool, Fault>
     ensures ok { IfOk result (λ t. (m : Meaning) × Accepted input.now m × ((t ≡ true) ↔ IsImage m input.now)) }
 
     // Any error other than OutOfMemory says that the input is no volume.
-    ensures err { IfErr result (λ f. (f ≡ want_of_memory) ⊎ NotRead input.now f) }
+    ensures err { IfErr result (λ f. (f ≡ out_of_memory) ⊎ NotRead input.now f) }
 
     // Memory runs out only if the input begins with the header of a volume.
     ensures memory { IfErr result
-        (λ f. f ≡ want_of_memory → (h : HeadFields) × (e : Extent) × BeginsVolume h e input.now) }
+        (λ f. f ≡ out_of_memory → (h : HeadFields) × (e : Extent) × BeginsVolume h e input.now) }
 {
     let view = whole_volume(alloc, input)?;
     is_canonical_image(alloc, &view, input)

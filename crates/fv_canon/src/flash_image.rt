@@ -1,7 +1,7 @@
 //! From a flash image to the same image with each of its volumes in canonical form.
 
 ghost use Rattle.std.specs.Prelude.{◌≡◌, ◌≢◌, ◌⊎◌, ◌+◌, ◌-◌, ◌<◌, ◌≤◌, ◌^◌, ℕ, List, length, IfOk, IfErr, OnOk};
-ghost use Rattle.fv_base.specs.Faults.{want_of_memory};
+ghost use Rattle.fv_base.specs.Faults.{out_of_memory};
 ghost use Rattle.fv_base.specs.Limits.{volume_limit};
 ghost use Rattle.fv_base.specs.Value.{field};
 ghost use Rattle.fv_canon.specs.Headline.{NormalisesTo};
@@ -10,7 +10,7 @@ ghost use Rattle.fv_canon.specs.FlashImages.{FirstRefused, NormalisesAll, Refuse
 ghost use Rattle.fv_tree.specs.FirstFault.{moved_fault};
 ghost use Rattle.fv_tree.specs.FoundVolumes.{Found, VolumeAt};
 
-use crate::image::put_canonical;
+use crate::canonical_image::put_canonical;
 use crate::layout_walk::layout;
 use crate::normalising::whole_volume;
 use fv_base::field::bytes_from;
@@ -44,8 +44,8 @@ fn volume_at(image: &[u8], start: usize) -> &[u8]
 // stays at 0.
 fn placed(fault: Fault, start: u64) -> Fault
     requires { start + fault.place.offset < 2 ^ 64 }
-    ensures { result ≢ want_of_memory
-        → (fault ≢ want_of_memory) × (result ≡ moved_fault start fault.place.depth fault) }
+    ensures { result ≢ out_of_memory
+        → (fault ≢ out_of_memory) × (result ≡ moved_fault start fault.place.depth fault) }
 {
     if matches!(fault.kind, FaultKind::OutOfMemory) {
         return Fault::outer(FaultKind::OutOfMemory, 0);
@@ -62,7 +62,7 @@ fn placed(fault: Fault, start: u64) -> Fault
 // Puts the canonical image of the volume that the bytes are.
 fn put_normalised<S: Sink>(alloc: Global, volume: &[u8], out: &mut S) -> Result<(), Fault>
     ensures ok { OnOk result ((image : List ℕ) × NormalisesTo volume.now image × S.takes out.old image out.new) }
-    ensures err { IfErr result (λ f. (f ≡ want_of_memory) ⊎ Refuses volume.now f) }
+    ensures err { IfErr result (λ f. (f ≡ out_of_memory) ⊎ Refuses volume.now f) }
 {
     let view = whole_volume(alloc, volume)?;
     let places = layout(alloc, &view)?;
@@ -80,7 +80,7 @@ fn put_renewed<S: Sink>(
 ) -> Result<(), Fault>
     requires { Found image.now offsets.now }
     ensures ok { OnOk result ((bytes : List ℕ) × Renewed image.now offsets.now bytes × S.takes out.old bytes out.new) }
-    ensures err { IfErr result (λ f. (f ≡ want_of_memory) ⊎ FirstRefused image.now offsets.now f) }
+    ensures err { IfErr result (λ f. (f ≡ out_of_memory) ⊎ FirstRefused image.now offsets.now f) }
 {
     let mut from = 0;
     for offset in offsets {
@@ -110,13 +110,13 @@ pub fn normalise_image(alloc: Global, image: &[u8]) -> Result<ByteList, Fault>
 
     // No other bytes are.
     ensures only { (other : List ℕ) → NormalisesAll image.now other → IfOk result (λ bytes. bytes ≡ other) }
-    ensures err { IfErr result (λ f. (f ≡ want_of_memory) ⊎ RefusesAll image.now f) }
+    ensures err { IfErr result (λ f. (f ≡ out_of_memory) ⊎ RefusesAll image.now f) }
 
     // If each volume has an image, the only error is OutOfMemory.
-    ensures fits { (other : List ℕ) → NormalisesAll image.now other → IfErr result (λ f. f ≡ want_of_memory) }
+    ensures fits { (other : List ℕ) → NormalisesAll image.now other → IfErr result (λ f. f ≡ out_of_memory) }
 
     // Memory runs out only if the image is within the limit.
-    ensures memory { IfErr result (λ f. f ≡ want_of_memory → length image.now ≤ volume_limit) }
+    ensures memory { IfErr result (λ f. f ≡ out_of_memory → length image.now ≤ volume_limit) }
 {
     let total = image.len() as u64;
     check(total <= VOLUME_LIMIT, FaultKind::Length, VOLUME_LIMIT)?;

@@ -6,7 +6,7 @@ ghost use Rattle.fv_base.specs.declared.fault.Fault.{Fault};
 ghost use Rattle.fv_tree.specs.Meaning.{Meaning};
 ghost use Rattle.fv_canon.specs.Headline.{OneImage, OneMeaning};
 ghost use Rattle.fv_canon.specs.Layouts.{Fits, LaysVolume, LeastVolume, Unfit};
-ghost use Rattle.fv_canon.specs.Spans.{InOrder, ShowsSpans, Span, painted};
+ghost use Rattle.fv_canon.specs.PlacedBytes.{InOrder, ShowsPlaced, PlacedBytes, painted};
 ghost use Rattle.fv_canon.specs.StoredFiles.{PadsRule};
 
 /// A meaning has at most one image, and an image has one meaning.
@@ -40,6 +40,6 @@ pub fn pads()
 /// Exactly one list of bytes has these spans and is erased elsewhere: the spans and the erased
 /// bytes between them, joined.
 pub fn one_list_shows()
-    ensures { (erased total : ℕ) (spans : List Span) (bytes : List ℕ) → InOrder total 0 spans
-        → ShowsSpans total erased spans bytes ↔ (bytes ≡ painted erased total 0 spans) }
+    ensures { (erased total : ℕ) (placed : List PlacedBytes) (bytes : List ℕ) → InOrder total 0 placed
+        → ShowsPlaced total erased placed bytes ↔ (bytes ≡ painted erased total 0 placed) }
 {}

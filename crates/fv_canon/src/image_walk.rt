@@ -6,21 +6,21 @@ ghost use Rattle.fv_file.specs.Attributes.{is_summed};
 ghost use Rattle.fv_section.specs.SectionImage.{stream_of};
 ghost use Rattle.fv_tree.specs.Meaning.{files_from, attributes_of, content_of, data_len_of, sections_from};
 ghost use Rattle.fv_tree.specs.Views.{body_view, content_view};
-ghost use Rattle.fv_canon.specs.ImageOf.{image_of, stored_of, stored_file, data_of, frames_of, body_image};
-ghost use Rattle.fv_canon.specs.ImageOf.{starts_in};
+ghost use Rattle.fv_canon.specs.inner.ImageOf.{image_of, stored_of, stored_file, data_of, frames_of, body_image};
+ghost use Rattle.fv_canon.specs.inner.ImageOf.{starts_in};
 ghost use Rattle.fv_canon.specs.Volumes.{volumes_in, volumes_in_files, volumes_in_file, volumes_in_content};
 ghost use Rattle.fv_canon.specs.Volumes.{volumes_in_sections, volumes_in_body};
 ghost use Rattle.fv_canon.specs.StoredFiles.{file_sum_for, stored_bytes, size_for};
-ghost use Rattle.fv_canon.specs.StoredWalks.{files_bytes};
-ghost use Rattle.fv_canon.specs.Placed.{ArePlaced};
-ghost use Rattle.fv_canon.specs.ImageSinks.{ImageTakes};
-ghost use Rattle.fv_canon.specs.ImageWalks.{BeginsWithStarts};
+ghost use Rattle.fv_canon.specs.inner.StoredWalks.{files_bytes};
+ghost use Rattle.fv_canon.specs.inner.Placed.{ArePlaced};
+ghost use Rattle.fv_canon.specs.inner.SummingSinks.{ImageTakes};
+ghost use Rattle.fv_canon.specs.inner.ImageWalks.{BeginsWithStarts};
 
-use crate::image_pieces::{
+use crate::pads_and_headers::{
     filler_of, put_ext_pad, put_file_head, put_gap, put_section_head, put_state, size_for, used_end,
 };
-use crate::image_sink::ImageSink;
 use crate::start_walk::skip_content;
+use crate::summing_sink::SummingSink;
 use fv_base::field::up_to_8;
 use fv_base::{Polarity, Sink, fill};
 use fv_file::FIXED_CHECKSUM;
@@ -39,7 +39,7 @@ fn complement(sum: u8) -> u8
 // walks returns the starts that it has not used.
 #[cycle(put)]
 fn put_sections<'s, S: Sink>(
-    out: &mut ImageSink<'_, S>,
+    out: &mut SummingSink<'_, S>,
     sections: &[SectionView<'_>],
     tail: u8,
     starts: &'s [u64],
@@ -67,7 +67,7 @@ fn put_sections<'s, S: Sink>(
 // Puts the body of a section.
 #[cycle(put)]
 fn put_body<'s, S: Sink>(
-    out: &mut ImageSink<'_, S>,
+    out: &mut SummingSink<'_, S>,
     body: &Body<'_>,
     starts: &'s [u64],
 ) -> &'s [u64]
@@ -88,7 +88,7 @@ fn put_body<'s, S: Sink>(
 // Puts the data of a file.
 #[cycle(put)]
 fn put_content<'s, S: Sink>(
-    out: &mut ImageSink<'_, S>,
+    out: &mut SummingSink<'_, S>,
     content: &Content<'_>,
     starts: &'s [u64],
 ) -> &'s [u64]
@@ -108,7 +108,7 @@ fn put_content<'s, S: Sink>(
 // The file sum of a file. If it is a sum of the data, the data are walked for it first, and nothing
 // is put meanwhile.
 #[cycle(put)]
-fn file_sum<S: Sink>(out: &mut ImageSink<'_, S>, file: &FileView<'_>, starts: &[u64]) -> u8
+fn file_sum<S: Sink>(out: &mut SummingSink<'_, S>, file: &FileView<'_>, starts: &[u64]) -> u8
     requires laid { BeginsWithStarts (volumes_in_file file.now) starts.now }
     requires puts { is_summed (attributes_of file.now) ≡ true → out.now.sums ≡ false }
     ensures value { result ≡ file_sum_for (attributes_of file.now) (data_of (content_of file.now) starts.now) }
@@ -129,7 +129,7 @@ fn file_sum<S: Sink>(out: &mut ImageSink<'_, S>, file: &FileView<'_>, starts: &[
 // file sum and data sum to 0.
 #[cycle(put)]
 fn put_file<'s, S: Sink>(
-    out: &mut ImageSink<'_, S>,
+    out: &mut SummingSink<'_, S>,
     file: &FileView<'_>,
     polarity: Polarity,
     starts: &'s [u64],
@@ -153,7 +153,7 @@ fn put_file<'s, S: Sink>(
 // to the end.
 #[cycle(put)]
 fn put_files<'s, S: Sink>(
-    out: &mut ImageSink<'_, S>,
+    out: &mut SummingSink<'_, S>,
     files: &[FileView<'_>],
     own: &[u64],
     polarity: Polarity,
@@ -185,7 +185,7 @@ fn put_files<'s, S: Sink>(
 // Puts the image of a volume: its head, the pad of its extended header, and its files.
 #[cycle(put)]
 fn put_volume<'s, S: Sink>(
-    out: &mut ImageSink<'_, S>,
+    out: &mut SummingSink<'_, S>,
     volume: &VolumeView<'_>,
     starts: &'s [u64],
 ) -> &'s [u64]
@@ -209,7 +209,7 @@ pub(crate) fn put_image<S: Sink>(out: &mut S, volume: &VolumeView<'_>, starts: &
     requires laid { BeginsWithStarts (volumes_in volume.now) starts.now }
     ensures { S.takes out.old (image_of volume.now starts.now) out.new }
 {
-    put_volume(&mut ImageSink::new(out), volume, starts);
+    put_volume(&mut SummingSink::new(out), volume, starts);
 }
 
 // Puts the data of a file into any sink.
@@ -217,7 +217,7 @@ pub(crate) fn put_data<S: Sink>(out: &mut S, content: &Content<'_>, starts: &[u6
     requires laid { BeginsWithStarts (volumes_in_content (content_view content.now)) starts.now }
     ensures { S.takes out.old (data_of (content_view content.now) starts.now) out.new }
 {
-    put_content(&mut ImageSink::new(out), content, starts);
+    put_content(&mut SummingSink::new(out), content, starts);
 }
 
 // Puts the body of a section into any sink.
@@ -225,5 +225,5 @@ pub(crate) fn put_section_body<S: Sink>(out: &mut S, body: &Body<'_>, starts: &[
     requires laid { BeginsWithStarts (volumes_in_body (body_view body.now)) starts.now }
     ensures { S.takes out.old (body_image (body_view body.now) starts.now) out.new }
 {
-    put_body(&mut ImageSink::new(out), body, starts);
+    put_body(&mut SummingSink::new(out), body, starts);
 }

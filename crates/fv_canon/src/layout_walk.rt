@@ -1,21 +1,22 @@
 //! The layout of a volume and of the volumes inside it.
 
 ghost use Rattle.std.specs.Prelude.{◌≡◌, ◌≤◌, ◌⊎◌, ◌+◌, ◌++◌, ℕ, List, All, map, take, get_or, IfOk, IfErr, OnOk};
-ghost use Rattle.fv_base.specs.Faults.{want_of_memory};
-ghost use Rattle.fv_canon.specs.Depths.{NestsVolume, NestsFiles, NestsContent, NestsSections, NestsBody};
-ghost use Rattle.fv_canon.specs.Layouts.{first_edge, layout_fault, part_of, parts_of, AreStarts, Laid, LaysVolume};
+ghost use Rattle.fv_base.specs.Faults.{out_of_memory};
+ghost use Rattle.fv_canon.specs.inner.Depths.{NestsVolume, NestsFiles, NestsContent, NestsSections, NestsBody};
+ghost use Rattle.fv_canon.specs.Layouts.{first_edge, layout_fault, layout_item, layout_items, AreStarts, Laid};
+ghost use Rattle.fv_canon.specs.Layouts.{LaysVolume};
 ghost use Rattle.fv_canon.specs.Layouts.{AllFit, Fits, FirstUnfit, Unfit};
 ghost use Rattle.fv_canon.specs.Volumes.{volumes_in, volumes_in_files, volumes_in_content, volumes_in_sections};
 ghost use Rattle.fv_canon.specs.Volumes.{volumes_in_body};
-ghost use Rattle.fv_canon.specs.LayoutWalks.{Grew, Shallow};
+ghost use Rattle.fv_canon.specs.inner.LayoutWalks.{Grew, Shallow};
 ghost use Rattle.fv_canon.specs.LayoutForms.{IsLayout};
 ghost use Rattle.fv_canon.specs.Starts.{Placement};
-ghost use Rattle.fv_canon.specs.Reaches.{IsLawfulPart};
+ghost use Rattle.fv_canon.specs.inner.Reaches.{IsLawfulItem};
 ghost use Rattle.fv_tree.specs.Meaning.{head_of, length_of, content_of, body_of, sections_from, files_from};
 ghost use Rattle.fv_tree.specs.Views.{body_view, content_view};
 
-use crate::first_placement::{Part, first_starts, is_top_off};
-use crate::starts::Layout;
+use crate::first_placement::{LayoutItem, first_starts, is_top_off};
+use crate::known_layout::Layout;
 use fv_base::{Align, Fault, FaultKind, Place};
 use fv_head::first_edge;
 use fv_tree::{Body, Content, FileView, SectionView, VOLUME_TOP_FILE, VolumeView};
@@ -39,14 +40,14 @@ pub fn layout(alloc: Global, view: &VolumeView<'_>) -> Result<Layout, Fault>
     // Every other placement of the volume's own files has a larger start at the first file where
     // the two differ.
     ensures least { IfOk result (λ l. (others : List ℕ) (i : ℕ)
-        → Placement (length_of view.now) (first_edge (head_of view.now)) (parts_of view.now) others
+        → Placement (length_of view.now) (first_edge (head_of view.now)) (layout_items view.now) others
         → take i others ≡ take i l.own → get_or l.own i 0 ≤ get_or others i 0) }
 
     // Any error other than OutOfMemory is that of the first volume that does not fit.
-    ensures err { IfErr result (λ f. (f ≡ want_of_memory) ⊎ Unfit view.now 0 f) }
+    ensures err { IfErr result (λ f. (f ≡ out_of_memory) ⊎ Unfit view.now 0 f) }
 
     // The layout of a volume that fits is returned, unless memory runs out.
-    ensures fits { Fits view.now → IfErr result (λ f. f ≡ want_of_memory) }
+    ensures fits { Fits view.now → IfErr result (λ f. f ≡ out_of_memory) }
 {
     let _head = view.head();
     let own = view.files().len();
@@ -58,8 +59,8 @@ pub fn layout(alloc: Global, view: &VolumeView<'_>) -> Result<Layout, Fault>
 // The starts of the volumes in a file's data, which are at depth 0.
 pub(crate) fn layout_of_content(alloc: Global, file: &FileView<'_>) -> Result<Vec<u64>, Fault>
     ensures ok { IfOk result (λ starts. Laid AreStarts (volumes_in_content (content_of file.now)) starts.items) }
-    ensures err { IfErr result (λ f. (f ≡ want_of_memory) ⊎ FirstUnfit (volumes_in_content (content_of file.now)) 0 f) }
-    ensures fits { AllFit (volumes_in_content (content_of file.now)) → IfErr result (λ f. f ≡ want_of_memory) }
+    ensures err { IfErr result (λ f. (f ≡ out_of_memory) ⊎ FirstUnfit (volumes_in_content (content_of file.now)) 0 f) }
+    ensures fits { AllFit (volumes_in_content (content_of file.now)) → IfErr result (λ f. f ≡ out_of_memory) }
 {
     let _name = file.name();
     let mut starts = Vec::new(alloc);
@@ -70,8 +71,8 @@ pub(crate) fn layout_of_content(alloc: Global, file: &FileView<'_>) -> Result<Ve
 // The starts of the volumes in a section's body, which is at depth 0.
 pub(crate) fn layout_of_body(alloc: Global, section: &SectionView<'_>) -> Result<Vec<u64>, Fault>
     ensures ok { IfOk result (λ starts. Laid AreStarts (volumes_in_body (body_of section.now)) starts.items) }
-    ensures err { IfErr result (λ f. (f ≡ want_of_memory) ⊎ FirstUnfit (volumes_in_body (body_of section.now)) 0 f) }
-    ensures fits { AllFit (volumes_in_body (body_of section.now)) → IfErr result (λ f. f ≡ want_of_memory) }
+    ensures err { IfErr result (λ f. (f ≡ out_of_memory) ⊎ FirstUnfit (volumes_in_body (body_of section.now)) 0 f) }
+    ensures fits { AllFit (volumes_in_body (body_of section.now)) → IfErr result (λ f. f ≡ out_of_memory) }
 {
     let _kind = section.kind();
     let mut starts = Vec::new(alloc);
@@ -94,7 +95,7 @@ fn lay_volume(
 ) -> Result<(), Fault>
     requires shallow { Shallow NestsVolume view.now depth }
     ensures ok { OnOk result (Grew (volumes_in view.now) starts.old.items starts.new.items) }
-    ensures err { IfErr result (λ f. (f ≡ want_of_memory) ⊎ Unfit view.now depth f) }
+    ensures err { IfErr result (λ f. (f ≡ out_of_memory) ⊎ Unfit view.now depth f) }
 {
     let own = own_starts(alloc, view, depth)?;
     starts.extend_from_slice(own.as_slice())?;
@@ -112,7 +113,8 @@ fn lay_files(
 ) -> Result<(), Fault>
     requires shallow { Shallow NestsFiles (files_from files.now) depth }
     ensures ok { OnOk result (Grew (volumes_in_files (files_from files.now)) starts.old.items starts.new.items) }
-    ensures err { IfErr result (λ f. (f ≡ want_of_memory) ⊎ FirstUnfit (volumes_in_files (files_from files.now)) depth f) }
+    ensures err { IfErr result
+        (λ f. (f ≡ out_of_memory) ⊎ FirstUnfit (volumes_in_files (files_from files.now)) depth f) }
 {
     for file in files {
         lay_content(alloc, file.content(), depth, starts)?;
@@ -130,7 +132,8 @@ fn lay_content(
 ) -> Result<(), Fault>
     requires shallow { Shallow NestsContent (content_view content.now) depth }
     ensures ok { OnOk result (Grew (volumes_in_content (content_view content.now)) starts.old.items starts.new.items) }
-    ensures err { IfErr result (λ f. (f ≡ want_of_memory) ⊎ FirstUnfit (volumes_in_content (content_view content.now)) depth f) }
+    ensures err { IfErr result
+        (λ f. (f ≡ out_of_memory) ⊎ FirstUnfit (volumes_in_content (content_view content.now)) depth f) }
 {
     match content {
         Content::Plain(_) => Ok(()),
@@ -147,8 +150,10 @@ fn lay_sections(
     starts: &mut Vec<u64>,
 ) -> Result<(), Fault>
     requires shallow { Shallow NestsSections (sections_from sections.now) depth }
-    ensures ok { OnOk result (Grew (volumes_in_sections (sections_from sections.now)) starts.old.items starts.new.items) }
-    ensures err { IfErr result (λ f. (f ≡ want_of_memory) ⊎ FirstUnfit (volumes_in_sections (sections_from sections.now)) depth f) }
+    ensures ok { OnOk result
+        (Grew (volumes_in_sections (sections_from sections.now)) starts.old.items starts.new.items) }
+    ensures err { IfErr result
+        (λ f. (f ≡ out_of_memory) ⊎ FirstUnfit (volumes_in_sections (sections_from sections.now)) depth f) }
 {
     for section in sections {
         lay_body(alloc, section.body(), depth, starts)?;
@@ -161,7 +166,8 @@ fn lay_sections(
 fn lay_body(alloc: Global, body: &Body<'_>, depth: u8, starts: &mut Vec<u64>) -> Result<(), Fault>
     requires shallow { Shallow NestsBody (body_view body.now) depth }
     ensures ok { OnOk result (Grew (volumes_in_body (body_view body.now)) starts.old.items starts.new.items) }
-    ensures err { IfErr result (λ f. (f ≡ want_of_memory) ⊎ FirstUnfit (volumes_in_body (body_view body.now)) (depth + 1) f) }
+    ensures err { IfErr result
+        (λ f. (f ≡ out_of_memory) ⊎ FirstUnfit (volumes_in_body (body_view body.now)) (depth + 1) f) }
 {
     match body {
         Body::Leaf(_) => Ok(()),
@@ -173,45 +179,45 @@ fn lay_body(alloc: Global, body: &Body<'_>, depth: u8, starts: &mut Vec<u64>) ->
 // The starts of a volume's own files, or the fault if they have none.
 fn own_starts(alloc: Global, view: &VolumeView<'_>, depth: u8) -> Result<Vec<u64>, Fault>
     ensures ok { IfOk result (λ own. AreStarts view.now own.items) }
-    ensures err { IfErr result (λ f. (f ≡ want_of_memory) ⊎ Unfit view.now depth f) }
+    ensures err { IfErr result (λ f. (f ≡ out_of_memory) ⊎ Unfit view.now depth f) }
 {
     let head = view.head();
     let total = head.length();
     let first = first_edge(head);
-    let parts = parts_of(alloc, view)?;
-    if is_top_off(total, parts.as_slice()) {
+    let items = layout_items(alloc, view)?;
+    if is_top_off(total, items.as_slice()) {
         return Err(layout_fault(FaultKind::TopAlignment, depth));
     }
-    match first_starts(alloc, total, first, parts.as_slice())? {
+    match first_starts(alloc, total, first, items.as_slice())? {
         None => Err(layout_fault(FaultKind::NoRoom, depth)),
         Some(own) => Ok(own),
     }
 }
 
 // What the layout knows of a volume's files, in order.
-fn parts_of(alloc: Global, view: &VolumeView<'_>) -> Result<Vec<Part>, Fault>
-    ensures ok { IfOk result (λ parts. (parts.items ≡ parts_of view.now)
-        × All (IsLawfulPart (head_of view.now).length) parts.items) }
-    ensures err { IfErr result (λ f. f ≡ want_of_memory) }
+fn layout_items(alloc: Global, view: &VolumeView<'_>) -> Result<Vec<LayoutItem>, Fault>
+    ensures ok { IfOk result (λ items. (items.items ≡ layout_items view.now)
+        × All (IsLawfulItem (head_of view.now).length) items.items) }
+    ensures err { IfErr result (λ f. f ≡ out_of_memory) }
 {
     let _head = view.head();
     let files = view.files();
-    let mut parts = Vec::with_capacity(alloc, files.len())?;
+    let mut items = Vec::with_capacity(alloc, files.len())?;
     for file in files {
-        parts.push(part_of(file))?;
+        items.push(layout_item(file))?;
     }
-    Ok(parts)
+    Ok(items)
 }
 
 // What the layout knows of a file: its header is large if with a short one the size would be more
 // than 0xFFFFFF.
-fn part_of(file: &FileView<'_>) -> Part
-    ensures { result ≡ part_of file.now }
+fn layout_item(file: &FileView<'_>) -> LayoutItem
+    ensures { result ≡ layout_item file.now }
 {
     let name = file.name();
     let data_len = file.data_len();
     let header: u64 = if 24 + data_len > 0xff_ffff { 32 } else { 24 };
-    Part {
+    LayoutItem {
         header,
         size: header + data_len,
         alignment: Align::from_attributes(file.attributes().byte()).bytes(),

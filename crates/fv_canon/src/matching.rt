@@ -1,10 +1,10 @@
 //! Bytes that are compared with what a walk writes.
 
 ghost use Rattle.std.specs.Prelude.{◌≡◌, ◌↔◌, IsTrue};
-ghost use Rattle.fv_canon.specs.ImageOf.{image_of};
+ghost use Rattle.fv_canon.specs.inner.ImageOf.{image_of};
 ghost use Rattle.fv_canon.specs.Layouts.{LaysVolume};
-ghost use Rattle.fv_canon.specs.Matching.{MatchTakes};
-ghost use Rattle.fv_canon.specs.MatchingLaws.{matches_by};
+ghost use Rattle.fv_canon.specs.inner.Matching.{MatchTakes};
+ghost use Rattle.fv_canon.specs.inner.MatchingLaws.{matches_by};
 
 use crate::image_walk::put_image;
 use fv_base::Sink;

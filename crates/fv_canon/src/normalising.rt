@@ -1,7 +1,7 @@
 //! From bytes that are a volume to its canonical image.
 
 ghost use Rattle.std.specs.Prelude.{◌≡◌, ◌≢◌, ◌⊎◌, ℕ, List, length, IfOk, IfErr, OnOk, true, false};
-ghost use Rattle.fv_base.specs.Faults.{want_of_memory};
+ghost use Rattle.fv_base.specs.Faults.{out_of_memory};
 ghost use Rattle.fv_base.specs.Port.{inner_of, has_erred};
 ghost use Rattle.fv_head.specs.Head.{HeadFields, BeginsVolume};
 ghost use Rattle.fv_head.specs.declared.extent.Extent.{Extent};
@@ -11,7 +11,7 @@ ghost use Rattle.fv_canon.specs.NormaliseRuns.{InputWrites, InputStops, RunWrite
 ghost use Rattle.fv_tree.specs.Denotes.{Accepted};
 ghost use Rattle.fv_tree.specs.Meaning.{Meaning};
 
-use crate::image::{canonical, write_canonical};
+use crate::canonical_image::{canonical, write_canonical};
 use crate::layout_walk::layout;
 use fv_base::{ByteList, Fault, FaultKind, Port, check, read_input};
 use fv_tree::{VolumeView, read_volume};
@@ -26,14 +26,14 @@ use std::io::{Read, Write};
 pub fn whole_volume(alloc: Global, input: &[u8]) -> Result<VolumeView<'_>, Fault>
     ensures found { IfOk result (λ view. Accepted input.now view) }
     ensures only { IfOk result (λ view. (m : Meaning) → Accepted input.now m → m ≡ view) }
-    ensures refused { IfErr result (λ f. (f ≡ want_of_memory) ⊎ NotRead input.now f) }
+    ensures refused { IfErr result (λ f. (f ≡ out_of_memory) ⊎ NotRead input.now f) }
 
     // The condition of a fault holds in the input at its offset.
-    ensures stands { IfErr result (λ f. f ≢ want_of_memory → FaultStandsInInput input.now f) }
+    ensures stands { IfErr result (λ f. f ≢ out_of_memory → FaultStandsInInput input.now f) }
 
     // Memory runs out only if the input begins with the header of a volume.
     ensures memory { IfErr result
-        (λ f. f ≡ want_of_memory → (h : HeadFields) × (e : Extent) × BeginsVolume h e input.now) }
+        (λ f. f ≡ out_of_memory → (h : HeadFields) × (e : Extent) × BeginsVolume h e input.now) }
     ensures kind { IfErr result (λ f. (f.kind ≢ FaultKind.ReadFault) × (f.kind ≢ FaultKind.WriteFault)) }
 {
     let (view, length) = read_volume(alloc, input)?;
@@ -53,19 +53,19 @@ pub fn normalise(alloc: Global, input: &[u8]) -> Result<ByteList, Fault>
     // The image is a volume with the same meaning, and its own image.
     ensures again { IfOk result (λ bytes. MeanSame input.now bytes × NormalisesTo bytes bytes) }
     ensures length { IfOk result (λ bytes. length bytes ≡ length input.now) }
-    ensures err { IfErr result (λ f. (f ≡ want_of_memory) ⊎ Refuses input.now f) }
+    ensures err { IfErr result (λ f. (f ≡ out_of_memory) ⊎ Refuses input.now f) }
 
     // Only a volume that does not fit is rejected as NoRoom or TopAlignment. Only an input that is
     // no volume is rejected with any other fault.
     ensures unfit { IfErr result (λ f. IsOfLayout f.kind → IsUnfit input.now) }
-    ensures unread { IfErr result (λ f. f ≢ want_of_memory → (IsOfLayout f.kind → ⊥) → IsNoVolume input.now) }
+    ensures unread { IfErr result (λ f. f ≢ out_of_memory → (IsOfLayout f.kind → ⊥) → IsNoVolume input.now) }
 
     // The only error for a volume that has an image is OutOfMemory.
-    ensures fits { (image : List ℕ) → NormalisesTo input.now image → IfErr result (λ f. f ≡ want_of_memory) }
+    ensures fits { (image : List ℕ) → NormalisesTo input.now image → IfErr result (λ f. f ≡ out_of_memory) }
 
     // Memory runs out only if the input begins with the header of a volume.
     ensures memory { IfErr result
-        (λ f. f ≡ want_of_memory → (h : HeadFields) × (e : Extent) × BeginsVolume h e input.now) }
+        (λ f. f ≡ out_of_memory → (h : HeadFields) × (e : Extent) × BeginsVolume h e input.now) }
 {
     let view = whole_volume(alloc, input)?;
     canonical(alloc, &view)
@@ -92,7 +92,7 @@ pub fn write_normalised<W: Write>(
 
     // Memory runs out only if the input begins with the header of a volume.
     ensures memory { IfErr result
-        (λ f. f ≡ want_of_memory → (h : HeadFields) × (e : Extent) × BeginsVolume h e input.now) }
+        (λ f. f ≡ out_of_memory → (h : HeadFields) × (e : Extent) × BeginsVolume h e input.now) }
 
     // The writer's fault is returned exactly if a write failed.
     ensures fine { OnOk result (has_erred writer.new ≡ has_erred writer.old) }

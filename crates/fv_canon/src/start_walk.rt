@@ -3,8 +3,8 @@
 ghost use Rattle.std.specs.Prelude.{◌≡◌, drop};
 ghost use Rattle.fv_tree.specs.Meaning.{files_from, sections_from};
 ghost use Rattle.fv_tree.specs.Views.{body_view, content_view};
-ghost use Rattle.fv_canon.specs.ImageOf.{starts_in};
-ghost use Rattle.fv_canon.specs.ImageWalks.{BeginsWithStarts};
+ghost use Rattle.fv_canon.specs.inner.ImageOf.{starts_in};
+ghost use Rattle.fv_canon.specs.inner.ImageWalks.{BeginsWithStarts};
 ghost use Rattle.fv_canon.specs.Volumes.{volumes_in, volumes_in_files, volumes_in_content, volumes_in_sections};
 ghost use Rattle.fv_canon.specs.Volumes.{volumes_in_body};
 

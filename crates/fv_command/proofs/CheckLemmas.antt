@@ -7,16 +7,17 @@ use Rattle.std.proofs.lemmas.Bool.Decides.{Decides-eqb}
 use Rattle.std.proofs.lemmas.Grind.{flat_map-append}
 use Rattle.std.proofs.lemmas.List.{take_more}
 use Rattle.std.proofs.lemmas.List.Sums.{sum_by-cons}
-use Rattle.fv_base.specs.Erased.{AllAre}
+use Rattle.fv_base.specs.Flash.{AllAre}
 use Rattle.fv_base.specs.Flash.{erased_byte}
 use Rattle.fv_base.specs.declared.flash.Polarity.{Polarity}
 use Rattle.fv_canon.specs.Image.{IsImage}
 use Rattle.fv_canon.proofs.Laws.{PadErased, pads_erased}
 use Rattle.fv_file.specs.Cells.{CellForm, Valid, Pad, Dead, Stub, Free}
 use Rattle.fv_head.specs.declared.extent.Extent.{Extent}
-use Rattle.fv_tree.specs.Denotes.{Accepted, depth_limit}
+use Rattle.fv_base.specs.Limits.{depth_limit}
+use Rattle.fv_tree.specs.Denotes.{Accepted}
 use Rattle.fv_tree.specs.Meaning.{Meaning, files_of}
-use Rattle.fv_command.specs.CheckRuns.{NotedCells, noted_lines}
+use Rattle.fv_command.specs.inner.CheckRuns.{NotedCells, noted_lines}
 use Rattle.fv_command.specs.CheckTexts.{AreNotes, CheckText, depex_lines, depexes_in, pad_line, pad_notes, verdict_line, written_in}
 use Rattle.fv_command.specs.declared.depex_notes.DepexNote.{DepexNote}
 

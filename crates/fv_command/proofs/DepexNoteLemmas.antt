@@ -10,7 +10,7 @@ use Rattle.fv_tree.specs.Meaning.{Meaning, FileMeaning, File, Plain, Sectioned, 
 use Rattle.fv_tree.specs.Meaning.{Leaf, Group, Nested, body_of, content_of, file_name_of, section_kind_of, sections_from}
 use Rattle.fv_command.specs.CheckTexts.{phase_of, read_by, section_depex, sections_depexes, file_depexes}
 use Rattle.fv_command.specs.CheckTexts.{HeldDepex, IsSpelled, IsNoted, AreNotes}
-use Rattle.fv_command.specs.CheckRuns.{Noted}
+use Rattle.fv_command.specs.inner.CheckRuns.{Noted}
 use Rattle.fv_command.specs.declared.depex_notes.DepexNote.{DepexNote}
 use Rattle.fv_command.proofs.CheckLemmas.{texts_next}
 

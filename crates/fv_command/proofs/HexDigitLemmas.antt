@@ -5,7 +5,7 @@ use Rattle.std.specs.Prelude.{if◌then◌else◌}
 use Rattle.std.proofs.Math.ListN.{get_or}
 use Rattle.std.proofs.Math.Seq.{drop-cons}
 use Rattle.std.proofs.lemmas.List.{take_more, get_or-drop, take-append-drop}
-use Rattle.fv_command.specs.HexDecoding.{IsNoPair, IsSpoilt}
+use Rattle.fv_command.specs.inner.HexDecoding.{IsNoPair, IsSpoilt}
 use Rattle.fv_command.specs.HexPairs.{IsPair, DigitsSpell, is_space, squeezed}
 
 pub squeezed_more : (a b : List ℕ) → squeezed (a ++ b) ≡ squeezed a ++ squeezed b

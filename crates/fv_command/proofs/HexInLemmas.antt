@@ -14,10 +14,10 @@ use Rattle.fv_base.specs.Faults.{outer_fault}
 use Rattle.fv_base.specs.Limits.{volume_limit}
 use Rattle.fv_base.proofs.Laws.{up_is_not_down}
 use Rattle.fv_command.specs.declared.hex_text.Decoder.{Decoder}
-use Rattle.fv_command.specs.HexDecoding.{AddsDigits, Decodes, DecodesPairs, HoldsDigits}
+use Rattle.fv_command.specs.inner.HexDecoding.{AddsDigits, Decodes, DecodesPairs, HoldsDigits}
 use Rattle.fv_command.specs.HexIn.{GivesText, IsLongText, IsNoText, TextStops, TextStopsFor, text_limit}
-use Rattle.fv_command.specs.HexDecoding.{RefusedFor, RefusesText}
-use Rattle.fv_command.specs.HexDecoding.{IsSpoilt}
+use Rattle.fv_command.specs.inner.HexDecoding.{RefusedFor, RefusesText}
+use Rattle.fv_command.specs.inner.HexDecoding.{IsSpoilt}
 use Rattle.fv_command.specs.HexPairs.{DigitsSpell, squeezed}
 use Rattle.fv_command.proofs.HexDigitLemmas.{odd_reads_nothing, reads_count, reads_joined, spoilt_behind, spoilt_more, squeezed_more}
 

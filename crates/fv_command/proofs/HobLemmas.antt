@@ -4,12 +4,12 @@ use Rattle.std.proofs.Common.{refl, ◌∙◌, ap, subst}
 use Rattle.std.specs.Prelude.{Option}
 use Rattle.fv_base.specs.Sinks.{WalkLaws}
 use Rattle.fv_hob.specs.Hobs.{HobForm, hob_type, hob_len}
-use Rattle.fv_command.specs.HobLines.{ImageForm, HobLines, HobsText, IsWord, consumed_line, hob_line}
+use Rattle.fv_command.specs.HobLines.{MappedForm, HobLines, HobsText, IsWord, consumed_line, hob_line}
 use Rattle.fv_command.proofs.WriteLemmas.{Tells, tells_more, tells_all}
 
 -- the line of one block more
 pub hobs_more : {S : Type 0} {takes : S → List ℕ → S → Type 0} {hs : List HobForm} {i : ℕ} {s t u : S} → WalkLaws takes
-    → (image : Option ImageForm) (h : HobForm) (code n : ℕ) (word : List ℕ) → i < length hs → h ≡ get_or hs i h
+    → (image : Option MappedForm) (h : HobForm) (code n : ℕ) (word : List ℕ) → i < length hs → h ≡ get_or hs i h
     → code ≡ hob_type h.kind → n ≡ hob_len h.kind → IsWord image h word → Tells takes (λ _. HobLines image) hs i s t
     → takes t (hob_line code n word) u → Tells takes (λ _. HobLines image) hs (i + 1) s u
 hobs_more {hs = hs} {i = i} laws image h code n word l here p q is w line =
@@ -25,7 +25,7 @@ hobs_more {hs = hs} {i = i} laws image h code n word l here p q is w line =
 
 -- those of all, and the last line
 pub hobs_all : {S : Type 0} {takes : S → List ℕ → S → Type 0} {hs : List HobForm} {i : ℕ} {s t u : S} → WalkLaws takes
-    → (image : Option ImageForm) (n : ℕ) → length hs ≤ i → Tells takes (λ _. HobLines image) hs i s t → takes t (consumed_line n) u
+    → (image : Option MappedForm) (n : ℕ) → length hs ≤ i → Tells takes (λ _. HobLines image) hs i s t → takes t (consumed_line n) u
     → (text : List ℕ) × HobsText image hs n text × takes s text u
 hobs_all laws image n l w line =
     let all = tells_all refl l w in

@@ -6,7 +6,7 @@ use Rattle.std.proofs.lemmas.Bool.Decides.{Decides-eqb}
 use Rattle.std.proofs.lemmas.List.{map_more}
 use Rattle.std.proofs.lemmas.List.Sums.{count_by_more_no, count_by_more_yes}
 use Rattle.fv_base.proofs.Laws.{not_equal}
-use Rattle.fv_base.specs.Faults.{want_of_memory}
+use Rattle.fv_base.specs.Faults.{out_of_memory}
 use Rattle.fv_base.specs.Flash.{erased_byte}
 use Rattle.fv_base.specs.declared.fault.Fault.{Fault}
 use Rattle.fv_base.specs.declared.flash.Polarity.{Polarity}
@@ -65,8 +65,8 @@ opened b m e r (bytes, d) only is =
     one : (x y : Extent) → ok x ≡ ok y → x ≡ y
     one x y same = cc
 
-pub want_only : (f : Fault) → ((f ≡ want_of_memory → ⊥) → ⊥) → f ≡ want_of_memory
+pub want_only : (f : Fault) → ((f ≡ out_of_memory → ⊥) → ⊥) → f ≡ out_of_memory
 want_only f none = go (want_known f) where
-  go : (f ≡ want_of_memory) ⊎ (f ≢ want_of_memory) → f ≡ want_of_memory
+  go : (f ≡ out_of_memory) ⊎ (f ≢ out_of_memory) → f ≡ out_of_memory
   go (inl want) = want
   go (inr other) = absurd (none other)

@@ -1,7 +1,7 @@
 -- What stops the extraction of a section.
 use Rattle.std.proofs.Common.{◌≡◌, ℕ, List, Some, refl, inl, inr}
 use Rattle.std.specs.Prelude.{◌⊎◌}
-use Rattle.fv_base.specs.Faults.{want_of_memory}
+use Rattle.fv_base.specs.Faults.{out_of_memory}
 use Rattle.fv_base.specs.declared.fault.Fault.{Fault}
 use Rattle.fv_canon.specs.Layouts.{FirstUnfit}
 use Rattle.fv_canon.specs.Volumes.{volumes_in_body}
@@ -12,8 +12,8 @@ use Rattle.fv_command.specs.Extractions.{StopsFilePart}
 -- a file in which a section was found holds sections, and the section is among them
 pub stops_section : (f : FileMeaning) (kind instance : ℕ) (s : SectionMeaning) (e : Fault)
     → ((ss : SectionMeanings) (t : ℕ) → content_of f ≡ Sectioned ss t → section_of_type kind instance ss ≡ Some s)
-    → ((b : List ℕ) → content_of f ≡ Plain b → ⊥) → (e ≡ want_of_memory) ⊎ FirstUnfit (volumes_in_body (body_of s)) 0 e
-    → (e ≡ want_of_memory) ⊎ StopsFilePart f (Some kind) instance e
+    → ((b : List ℕ) → content_of f ≡ Plain b → ⊥) → (e ≡ out_of_memory) ⊎ FirstUnfit (volumes_in_body (body_of s)) 0 e
+    → (e ≡ out_of_memory) ⊎ StopsFilePart f (Some kind) instance e
 stops_section f kind instance s e found none (inl w) = inl w
 stops_section f kind instance s e found none (inr u) = inr (go (content_of f) refl) where
   go : (x : ContentMeaning) → content_of f ≡ x → StopsFilePart f (Some kind) instance e

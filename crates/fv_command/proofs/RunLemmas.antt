@@ -1,7 +1,7 @@
 -- What the runs come to: from what the calls promise to the words of a run.
 use Rattle.std.proofs.Common.{◌≡◌, ◌≢◌, ◌∙◌, ◌≤◌, ◌⊎◌, ℕ, Bool, true, false, List, length, take, ap, refl, sym, subst, inl, inr}
 use Rattle.std.specs.Prelude.{Result, Ok, Err, IfErr, IfOk, OnOk}
-use Rattle.fv_base.specs.Faults.{want_of_memory}
+use Rattle.fv_base.specs.Faults.{out_of_memory}
 use Rattle.fv_base.specs.Output.{WriteStops}
 use Rattle.fv_base.specs.declared.fault.Fault.{Fault}
 use Rattle.fv_base.specs.declared.fault.FaultKind.TheVariants as kinds
@@ -9,18 +9,19 @@ use Rattle.fv_tree.proofs.Laws.{want_known}
 use Rattle.fv_canon.specs.Comparisons.{ComparisonStops, VolumeStops}
 use Rattle.fv_canon.specs.declared.side.Side.{Side}
 use Rattle.fv_canon.specs.declared.side.Side.TheVariants as sides
-use Rattle.fv_tree.specs.Denotes.{Accepted, Denotes, depth_limit}
+use Rattle.fv_base.specs.Limits.{depth_limit}
+use Rattle.fv_tree.specs.Denotes.{Accepted, Denotes}
 use Rattle.fv_tree.specs.FirstFault.{IsFirstOfVolume}
 use Rattle.fv_tree.specs.Meaning.{Meaning, files_of}
 use Rattle.fv_tree.specs.FileNames.{file_named}
-use Rattle.fv_command.specs.CheckRuns.{CheckStops}
-use Rattle.fv_command.specs.ImageTexts.{StopsImage}
+use Rattle.fv_command.specs.inner.CheckRuns.{CheckStops}
+use Rattle.fv_command.specs.inner.ImageTexts.{StopsImage}
 use Rattle.fv_command.specs.Inputs.{Gives, BeginsNone, BeginsWith}
 use Rattle.fv_command.specs.PortViews.{Change, Shown, WritingStops}
 use Rattle.fv_command.specs.Extractions.{StopsPart}
 use Rattle.fv_command.specs.SideRuns.{GivesVolume, SideStops, VolumeInputStops}
 use Rattle.fv_command.specs.TaskRuns.{SaysInput, StopsInput}
-use Rattle.fv_command.specs.TaskSteps.{Performs}
+use Rattle.fv_command.specs.inner.TaskSteps.{Performs}
 use Rattle.fv_command.specs.declared.extracting.Part.{Part}
 use Rattle.fv_command.specs.declared.plan.Task.{Task}
 use Rattle.fv_command.specs.declared.plan.Task.TheVariants.{Normalise, Extract, Check}
@@ -35,10 +36,10 @@ stopped w v text f s erred = (s.kind, (f.place.offset, s.before_end, s.wrote, er
 -- ---- an input that begins with no volume
 
 pub not_begun : (input : List ℕ) (f : Fault)
-    → (f ≢ want_of_memory → (n : ℕ) (m : Meaning) → n ≤ length input → Denotes depth_limit (take n input) m → ⊥)
-    → (f ≢ want_of_memory → IsFirstOfVolume input f) → (f ≡ want_of_memory) ⊎ BeginsNone input f
+    → (f ≢ out_of_memory → (n : ℕ) (m : Meaning) → n ≤ length input → Denotes depth_limit (take n input) m → ⊥)
+    → (f ≢ out_of_memory → IsFirstOfVolume input f) → (f ≡ out_of_memory) ⊎ BeginsNone input f
 not_begun input f none first = go (want_known f) where
-  go : (f ≡ want_of_memory) ⊎ (f ≢ want_of_memory) → (f ≡ want_of_memory) ⊎ BeginsNone input f
+  go : (f ≡ out_of_memory) ⊎ (f ≢ out_of_memory) → (f ≡ out_of_memory) ⊎ BeginsNone input f
   go (inl is) = inl is
   go (inr other) = inr (record { none = λ m b. none other b.0 m b.1 b.2.1; first = first other })
 
@@ -61,13 +62,13 @@ performed task hex input w v (Ok status) says stops = says
 performed task hex input w v (Err fault) says stops = stops
 
 -- why a part is not extracted: there is no volume; or there is
-pub part_denied : (hex : Bool) (input : List ℕ) (part : Part) (w : Shown) (f : Fault) → (f ≡ want_of_memory) ⊎ BeginsNone input f
+pub part_denied : (hex : Bool) (input : List ℕ) (part : Part) (w : Shown) (f : Fault) → (f ≡ out_of_memory) ⊎ BeginsNone input f
     → StopsInput (Extract part) hex input w w f
 part_denied hex input part w f (inl is) = inl (refl, inl is)
 part_denied hex input part w f (inr none) = inl (refl, inr (inl none))
 
 pub part_stopped : (hex : Bool) (input : List ℕ) (m : Meaning) (part : Part) (w : Shown) (f : Fault) → BeginsWith input m
-    → (f ≡ want_of_memory) ⊎ StopsPart (file_named part.name (files_of m)) part f → StopsInput (Extract part) hex input w w f
+    → (f ≡ out_of_memory) ⊎ StopsPart (file_named part.name (files_of m)) part f → StopsInput (Extract part) hex input w w f
 part_stopped hex input m part w f b (inl is) = inl (refl, inl is)
 part_stopped hex input m part w f b (inr stops) = inl (refl, inr (inr (m, b, stops)))
 

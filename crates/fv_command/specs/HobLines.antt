@@ -10,12 +10,12 @@ use Rattle.fv_command.specs.declared.hob_text.Standing.{Standing}
 use Rattle.fv_command.specs.declared.hob_text.Standing.TheVariants.{Outside, Volume, Absent}
 
 -- the bytes of an image, and the address of the first byte
-pub record ImageForm : Type 0 where
+pub record MappedForm : Type 0 where
   pub bytes : List ℕ
   pub base : ℕ
 
 -- the image with these bytes, if there is a base
-abbrev pub image_form : Option ℕ → List ℕ → Option ImageForm
+abbrev pub image_form : Option ℕ → List ℕ → Option MappedForm
 image_form None bytes = None
 image_form (Some base) bytes = Some (record { bytes = bytes; base = base })
 
@@ -38,23 +38,23 @@ standing_word Volume = codes " volume"
 standing_word Absent = codes " absent"
 
 -- the text for the volume that should be in a span; it is empty if there is no image or no span
-abbrev pub IsSpanWord : Option ImageForm → Option Span → List ℕ → Type 0
+abbrev pub IsSpanWord : Option MappedForm → Option Span → List ℕ → Type 0
 IsSpanWord None span word = word ≡ []
 IsSpanWord (Some image) None word = word ≡ []
 IsSpanWord (Some image) (Some span) word =
     (s : Standing) × IsStanding image.bytes image.base span s × (word ≡ standing_word s)
 
 -- the text for the volume that a block describes
-abbrev pub IsWord : Option ImageForm → HobForm → List ℕ → Type 0
+abbrev pub IsWord : Option MappedForm → HobForm → List ℕ → Type 0
 IsWord image h word = IsSpanWord image (span_of h.kind) word
 
 -- a line for each block, in order
-abbrev pub HobLines : Option ImageForm → List HobForm → List ℕ → Type 0
+abbrev pub HobLines : Option MappedForm → List HobForm → List ℕ → Type 0
 HobLines image [] text = text ≡ []
 HobLines image (h ∷ hs) text = (word : List ℕ) × (rest : List ℕ) × IsWord image h word
     × (text ≡ hob_line (hob_type h.kind) (hob_len h.kind) word ++ rest) × HobLines image hs rest
 
 -- those lines, and how many bytes the list has
-abbrev pub HobsText : Option ImageForm → List HobForm → ℕ → List ℕ → Type 0
+abbrev pub HobsText : Option MappedForm → List HobForm → ℕ → List ℕ → Type 0
 HobsText image hobs consumed text =
     (lines : List ℕ) × HobLines image hobs lines × (text ≡ lines ++ consumed_line consumed)

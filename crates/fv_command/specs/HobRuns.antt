@@ -1,7 +1,7 @@
 -- A run over a hand-off list, and over the image that should hold its volumes.
 use Rattle.std.specs.Prelude.{◌≡◌, ◌≤◌, ◌⊎◌, ℕ, Bool, List, [], Option, Some, None, length, take}
 use Rattle.fv_base.specs.declared.fault.Fault.{Fault}
-use Rattle.fv_hob.specs.HobChecks.{IsFirstHobFault, hob_fault_number, hob_want_of_memory}
+use Rattle.fv_hob.specs.HobChecks.{IsFirstHobFault, hob_fault_number, hob_out_of_memory}
 use Rattle.fv_hob.specs.Hobs.{HobForm}
 use Rattle.fv_hob.specs.Lists.{IsHobList}
 use Rattle.fv_hob.specs.declared.fault.HobFault.{HobFault}
@@ -46,7 +46,7 @@ HobInputStops hex base first second fault =
 abbrev pub RefusesHobs : Bool → Option ℕ → (first second : Change) → HobFault → Type 0
 RefusesHobs hex base first second fault =
     (list : List ℕ) × (image : List ℕ) × Gives hex first.old first.new list × GivesImage hex base second image
-    × ((fault ≡ hob_want_of_memory) ⊎ IsFirstHobFault list fault)
+    × ((fault ≡ hob_out_of_memory) ⊎ IsFirstHobFault list fault)
 
 -- an input stopped the run, and nothing was written; or the writer stopped in the lines
 abbrev pub FaultStopsHobs : Bool → Option ℕ → (first second output : Change) → Fault → Type 0

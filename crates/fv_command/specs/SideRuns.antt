@@ -1,6 +1,6 @@
 -- A run over two volumes that are compared.
 use Rattle.std.specs.Prelude.{◌≡◌, ◌≢◌, ◌⊎◌, ℕ, Bool, true, false, List}
-use Rattle.fv_base.specs.Faults.{want_of_memory}
+use Rattle.fv_base.specs.Faults.{out_of_memory}
 use Rattle.fv_base.specs.declared.fault.Fault.{Fault}
 use Rattle.fv_canon.specs.Comparisons.{Compares, VolumeStops}
 use Rattle.fv_canon.specs.ComparisonLines.{compare_line}
@@ -39,7 +39,7 @@ abbrev pub SideStops : Side → Bool → (first second output : Change) → Faul
 SideStops sides.First hex first second output fault =
     (output.new ≡ output.old)
     × (((second.new ≡ second.old) × VolumeInputStops hex first fault)
-    ⊎ ((m : Meaning) × (k : Meaning) × GivesVolume hex first m × GivesVolume hex second k × (fault ≡ want_of_memory)
+    ⊎ ((m : Meaning) × (k : Meaning) × GivesVolume hex first m × GivesVolume hex second k × (fault ≡ out_of_memory)
     × (m ≢ k)))
 SideStops sides.Second hex first second output fault =
     (output.new ≡ output.old) × ((m : Meaning) × GivesVolume hex first m) × VolumeInputStops hex second fault

@@ -1,6 +1,6 @@
 -- What the tasks over one input say of it.
 use Rattle.std.specs.Prelude.{◌≡◌, ◌⊎◌, ℕ, Bool, true, false, List, codes}
-use Rattle.fv_base.specs.Faults.{want_of_memory}
+use Rattle.fv_base.specs.Faults.{out_of_memory}
 use Rattle.fv_base.specs.declared.fault.Fault.{Fault}
 use Rattle.fv_canon.specs.Headline.{NormalisesTo}
 use Rattle.fv_canon.specs.Refusals.{NotRead, Refuses}
@@ -45,11 +45,11 @@ Says task hex input status text = ⊥
 
 -- why a task writes nothing of its input
 abbrev pub Denies : Task → List ℕ → Fault → Type 0
-Denies Normalise input fault = (fault ≡ want_of_memory) ⊎ Refuses input fault
-Denies NormaliseAll input fault = (fault ≡ want_of_memory) ⊎ RefusesAll input fault
-Denies Listing input fault = (fault ≡ want_of_memory) ⊎ BeginsNone input fault
+Denies Normalise input fault = (fault ≡ out_of_memory) ⊎ Refuses input fault
+Denies NormaliseAll input fault = (fault ≡ out_of_memory) ⊎ RefusesAll input fault
+Denies Listing input fault = (fault ≡ out_of_memory) ⊎ BeginsNone input fault
 Denies (Extract part) input fault =
-    (fault ≡ want_of_memory) ⊎ (BeginsNone input fault
+    (fault ≡ out_of_memory) ⊎ (BeginsNone input fault
     ⊎ ((m : Meaning) × BeginsWith input m × StopsPart (file_named part.name (files_of m)) part fault))
-Denies Check input fault = (fault ≡ want_of_memory) ⊎ NotRead input fault
-Denies Scan input fault = fault ≡ want_of_memory
+Denies Check input fault = (fault ≡ out_of_memory) ⊎ NotRead input fault
+Denies Scan input fault = fault ≡ out_of_memory

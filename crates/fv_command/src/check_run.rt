@@ -1,7 +1,7 @@
 //! Whether a volume is its own canonical image, and what in it deserves a note.
 
 ghost use Rattle.std.specs.Prelude.{IfOk, IfErr};
-ghost use Rattle.fv_command.specs.CheckRuns.{InputChecks, CheckStops};
+ghost use Rattle.fv_command.specs.inner.CheckRuns.{InputChecks, CheckStops};
 ghost use Rattle.fv_command.specs.PortViews.{shown};
 
 use crate::check_text::write_lines;

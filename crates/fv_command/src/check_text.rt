@@ -1,7 +1,7 @@
 //! The lines of a check, put and written.
 
 ghost use Rattle.std.specs.Prelude.{option_copied, IfErr, OnOk};
-ghost use Rattle.fv_command.specs.CheckRuns.{noted_lines};
+ghost use Rattle.fv_command.specs.inner.CheckRuns.{noted_lines};
 ghost use Rattle.fv_command.specs.CheckTexts.{depex_line, depex_lines, verdict_line};
 ghost use Rattle.fv_command.specs.PortViews.{Writes, WritingStops, shown};
 

@@ -1,12 +1,12 @@
 //! What is noted of the dependency expressions in a volume.
 
 ghost use Rattle.std.specs.Prelude.{◌≡◌, ◌≢◌, ◌∷◌, ◌++◌, [], Some, IfOk, IfErr, OnOk};
-ghost use Rattle.fv_base.specs.Faults.{want_of_memory};
+ghost use Rattle.fv_base.specs.Faults.{out_of_memory};
 ghost use Rattle.fv_tree.specs.LookupInstances.{inside_section, preorder};
 ghost use Rattle.fv_tree.specs.Meaning.{files_of, sections_from};
 ghost use Rattle.fv_command.specs.CheckTexts.{phase_of, note_of, read_by};
 ghost use Rattle.fv_command.specs.CheckTexts.{sections_depexes, file_depexes, depexes_in, AreNotes};
-ghost use Rattle.fv_command.specs.CheckRuns.{Noted};
+ghost use Rattle.fv_command.specs.inner.CheckRuns.{Noted};
 
 use fv_base::{Fault, FaultKind, Guid};
 use fv_depex::{DepexFault, DepexFaultKind, Phase, read_depex};
@@ -53,7 +53,7 @@ fn phase_of(kind: u8) -> Option<Phase>
 fn note_fault(notes: &mut Vec<DepexNote>, name: Guid, fault: DepexFault) -> Result<(), Fault>
     ensures ok { OnOk result ((fault.kind ≢ DepexFaultKind.OutOfMemory)
         × (notes.new.items ≡ notes.old.items ++ note_of name fault ∷ [])) }
-    ensures err { IfErr result (λ f. f ≡ want_of_memory) }
+    ensures err { IfErr result (λ f. f ≡ out_of_memory) }
 {
     match fault.kind {
         DepexFaultKind::OutOfMemory => Err(Fault::outer(FaultKind::OutOfMemory, 0)),
@@ -77,7 +77,7 @@ fn note_depex(
     phase: Phase,
 ) -> Result<(), Fault>
     ensures ok { OnOk result (Noted (read_by name bytes.now (Some phase)) notes.old.items notes.new.items) }
-    ensures err { IfErr result (λ f. f ≡ want_of_memory) }
+    ensures err { IfErr result (λ f. f ≡ out_of_memory) }
 {
     let fault = match read_depex(alloc, bytes, phase) {
         Ok(_) => return Ok(()),
@@ -96,7 +96,7 @@ fn note_leaf(
     bytes: &[u8],
 ) -> Result<(), Fault>
     ensures ok { OnOk result (Noted (read_by name bytes.now (phase_of kind)) notes.old.items notes.new.items) }
-    ensures err { IfErr result (λ f. f ≡ want_of_memory) }
+    ensures err { IfErr result (λ f. f ≡ out_of_memory) }
 {
     match phase_of(kind) {
         Some(phase) => note_depex(alloc, notes, name, bytes, phase),
@@ -114,7 +114,7 @@ fn note_section(
 ) -> Result<(), Fault>
     ensures ok { OnOk result (Noted (sections_depexes name (section.now ∷ inside_section section.now))
         notes.old.items notes.new.items) }
-    ensures err { IfErr result (λ f. f ≡ want_of_memory) }
+    ensures err { IfErr result (λ f. f ≡ out_of_memory) }
 {
     match section.body() {
         Body::Leaf(bytes) => note_leaf(alloc, notes, name, section.kind(), bytes),
@@ -133,7 +133,7 @@ fn note_sections(
 ) -> Result<(), Fault>
     ensures ok { OnOk result (Noted (sections_depexes name (preorder (sections_from sections.now)))
         notes.old.items notes.new.items) }
-    ensures err { IfErr result (λ f. f ≡ want_of_memory) }
+    ensures err { IfErr result (λ f. f ≡ out_of_memory) }
 {
     for section in sections {
         note_section(alloc, notes, name, section)?;
@@ -144,7 +144,7 @@ fn note_sections(
 // Notes the expressions of a file.
 fn note_file(alloc: Global, notes: &mut Vec<DepexNote>, file: &FileView<'_>) -> Result<(), Fault>
     ensures ok { OnOk result (Noted (file_depexes file.now) notes.old.items notes.new.items) }
-    ensures err { IfErr result (λ f. f ≡ want_of_memory) }
+    ensures err { IfErr result (λ f. f ≡ out_of_memory) }
 {
     match file.content() {
         Content::Plain(_) => Ok(()),
@@ -161,7 +161,7 @@ fn note_file(alloc: Global, notes: &mut Vec<DepexNote>, file: &FileView<'_>) -> 
 /// OutOfMemory.
 pub fn depex_notes(alloc: Global, volume: &VolumeView<'_>) -> Result<Vec<DepexNote>, Fault>
     ensures ok { IfOk result (λ notes. AreNotes (depexes_in (files_of volume.now)) notes.items) }
-    ensures err { IfErr result (λ f. f ≡ want_of_memory) }
+    ensures err { IfErr result (λ f. f ≡ out_of_memory) }
 {
     let mut notes = Vec::new(alloc);
     let files = volume.files();

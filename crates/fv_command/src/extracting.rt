@@ -1,7 +1,7 @@
 //! The data of a file of a volume, or the body of one of its sections.
 
 ghost use Rattle.std.specs.Prelude.{◌≡◌, ◌⊎◌, Some, IfOk, IfErr};
-ghost use Rattle.fv_base.specs.Faults.{want_of_memory};
+ghost use Rattle.fv_base.specs.Faults.{out_of_memory};
 ghost use Rattle.fv_command.specs.Extractions.{IsPart, IsSectionOf, StopsFilePart, StopsPart};
 ghost use Rattle.fv_tree.specs.Meaning.{files_of};
 ghost use Rattle.fv_tree.specs.FileNames.{file_named};
@@ -43,7 +43,7 @@ fn section_part<'a>(
     instance: u32,
 ) -> Result<Extraction<'a>, Fault>
     ensures ok { IfOk result (IsSectionOf file.now kind instance) }
-    ensures err { IfErr result (λ f. (f ≡ want_of_memory) ⊎ StopsFilePart file.now (Some kind) instance f) }
+    ensures err { IfErr result (λ f. (f ≡ out_of_memory) ⊎ StopsFilePart file.now (Some kind) instance f) }
 {
     match section_by_type(file, kind, instance) {
         Lookup::Found(Item::Section(section)) => Ok(Extraction::Made(body_bytes(alloc, section)?)),
@@ -64,7 +64,7 @@ pub fn extract<'a>(
     part: &Part,
 ) -> Result<Extraction<'a>, Fault>
     ensures ok { IfOk result (IsPart (file_named part.now.name (files_of volume.now)) part.now) }
-    ensures err { IfErr result (λ f. (f ≡ want_of_memory)
+    ensures err { IfErr result (λ f. (f ≡ out_of_memory)
         ⊎ StopsPart (file_named part.now.name (files_of volume.now)) part.now f) }
 {
     let Some(file) = file_by_name(volume, &part.name) else {

@@ -4,7 +4,7 @@ ghost use Rattle.hex.specs.Hex.{hex_digit_value};
 ghost use Rattle.std.specs.Option.{option_to_list, unwrap_or};
 ghost use Rattle.std.specs.Prelude.{◌≡◌, ◌≤◌, ◌+◌, ◌/◌, ◌%◌, ◌++◌, ℕ, List, true, false, length, vec_len};
 ghost use Rattle.std.specs.Prelude.{IfOk, OnOk, MatchOption};
-ghost use Rattle.fv_command.specs.HexDecoding.{IsNoPair, IsSpoilt};
+ghost use Rattle.fv_command.specs.inner.HexDecoding.{IsNoPair, IsSpoilt};
 ghost use Rattle.fv_command.specs.HexPairs.{IsPair, DigitsSpell, is_space, squeezed};
 
 use std::alloc::AllocError;

@@ -2,8 +2,8 @@
 
 ghost use Rattle.std.specs.Prelude.{◌≡◌, ◌≤◌, ◌<◌, ◌+◌, ◌++◌, ℕ, List, length, take};
 ghost use Rattle.std.specs.Prelude.{IfErr, OnOk};
-ghost use Rattle.fv_command.specs.HexLaws.{hex_by};
-ghost use Rattle.fv_command.specs.HexSinks.{HexTakes};
+ghost use Rattle.fv_command.specs.inner.HexLaws.{hex_by};
+ghost use Rattle.fv_command.specs.inner.HexSinks.{HexTakes};
 ghost use Rattle.fv_command.specs.HexText.{IsHexText, ShowsBytes, last_text, line_text};
 ghost use Rattle.fv_command.specs.PortViews.{Writes, WritingStops, shown};
 

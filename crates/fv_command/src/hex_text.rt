@@ -1,10 +1,10 @@
 //! Hexadecimal text as an input: digits in upper or lower case, with white space between them.
 
 ghost use Rattle.std.specs.Prelude.{◌≡◌, ◌<◌, ◌≤◌, ◌++◌, ◌%◌, [], ℕ, List, false, length, IfOk, IfErr, OnOk, vec_len};
-ghost use Rattle.fv_base.specs.ReadTurns.{read_limit};
+ghost use Rattle.fv_base.specs.inner.ReadTurns.{read_limit};
 ghost use Rattle.fv_base.specs.Limits.{volume_limit};
 ghost use Rattle.fv_base.specs.Port.{inner_of, has_erred};
-ghost use Rattle.fv_command.specs.HexDecoding.{Decodes, DecodesPairs, ReadsPiece, RefusesText};
+ghost use Rattle.fv_command.specs.inner.HexDecoding.{Decodes, DecodesPairs, ReadsPiece, RefusesText};
 ghost use Rattle.fv_command.specs.HexIn.{SpellsWhole, TextStops};
 ghost use Rattle.fv_command.specs.HexPairs.{DigitsSpell, squeezed};
 

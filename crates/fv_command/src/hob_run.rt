@@ -2,13 +2,13 @@
 
 ghost use Rattle.std.specs.Prelude.{◌≡◌, ℕ, List, IfOk, IfErr, OnOk};
 ghost use Rattle.fv_command.specs.HobRuns.{GivesImage, HobImageStops, ListsHobs, RunsHobs};
-ghost use Rattle.fv_command.specs.HobRefusals.{RefusalStopsHobs};
-ghost use Rattle.fv_command.specs.HobRefusals.{held_image};
+ghost use Rattle.fv_command.specs.inner.HobRefusals.{RefusalStopsHobs};
+ghost use Rattle.fv_command.specs.inner.HobRefusals.{held_image};
 ghost use Rattle.fv_command.specs.HobLines.{image_form};
 ghost use Rattle.fv_command.specs.PortViews.{Writes, change, shown};
 
 use crate::fault_text::{refuse, refuse_hobs};
-use crate::hob_text::{Image, write_hobs};
+use crate::hob_text::{MappedImage, write_hobs};
 use crate::inputs::read_bytes;
 use crate::status::Status;
 use fv_base::{Fault, Port};
@@ -62,11 +62,11 @@ fn read_image<R: Read>(
 }
 
 // The bytes as an image, if there is a base.
-fn image_of(bytes: &[u8], base: Option<u64>) -> Option<Image<'_>>
+fn image_of(bytes: &[u8], base: Option<u64>) -> Option<MappedImage<'_>>
     ensures { held_image result ≡ image_form base bytes.now }
 {
     match base {
-        Some(base) => Some(Image { bytes, base }),
+        Some(base) => Some(MappedImage { bytes, base }),
         None => None,
     }
 }

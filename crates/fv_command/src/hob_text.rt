@@ -2,7 +2,7 @@
 
 ghost use Rattle.std.specs.Prelude.{◌≡◌, ℕ, List, IfErr, OnOk};
 ghost use Rattle.fv_command.specs.HobLines.{HobsText, IsWord, consumed_line, four_digits, hob_line, standing_word};
-ghost use Rattle.fv_command.specs.HobRefusals.{held_image};
+ghost use Rattle.fv_command.specs.inner.HobRefusals.{held_image};
 ghost use Rattle.fv_command.specs.PortViews.{Writes, WritingStops, shown};
 ghost use Rattle.fv_command.specs.VolumeStandings.{IsStanding};
 
@@ -39,7 +39,7 @@ impl Standing {
 
 /// An image, and the address of its first byte.
 #[derive(Clone, Copy)]
-pub struct Image<'a> {
+pub struct MappedImage<'a> {
     /// Its bytes.
     pub bytes: &'a [u8],
     /// The address.
@@ -63,7 +63,7 @@ pub fn standing_of(image: &[u8], base: u64, span: Span) -> Standing
 }
 
 // What is said of the volume that a block describes, if it describes one and there is an image.
-fn word_of(hob: &Hob, image: Option<Image<'_>>) -> &'static str
+fn word_of(hob: &Hob, image: Option<MappedImage<'_>>) -> &'static str
     ensures { IsWord (held_image image.entry) hob.now result.now }
 {
     match (hob.span(), image) {
@@ -106,7 +106,7 @@ fn put_consumed<S: Sink>(out: &mut S, consumed: u64)
 }
 
 // Puts a line for each block, and how many bytes the list has.
-fn put_hobs<S: Sink>(out: &mut S, hobs: &[Hob], consumed: u64, image: Option<Image<'_>>)
+fn put_hobs<S: Sink>(out: &mut S, hobs: &[Hob], consumed: u64, image: Option<MappedImage<'_>>)
     ensures { (text : List ℕ) × HobsText (held_image image.entry) hobs.now consumed text
         × S.takes out.old text out.new }
 {
@@ -125,7 +125,7 @@ pub fn write_hobs<W: Write>(
     writer: &mut Port<W>,
     hobs: &HobList,
     consumed: u64,
-    image: Option<Image<'_>>,
+    image: Option<MappedImage<'_>>,
 ) -> Result<(), Fault>
     ensures ok { OnOk result ((text : List ℕ) × HobsText (held_image image.entry) hobs.now consumed text
         × Writes (shown W.contents writer.old) (shown W.contents writer.new) text) }

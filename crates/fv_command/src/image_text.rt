@@ -4,7 +4,7 @@ ghost use Rattle.std.specs.Prelude.{ℕ, List, IfErr, OnOk};
 ghost use Rattle.fv_canon.specs.Image.{IsImage};
 ghost use Rattle.fv_canon.specs.LayoutForms.{IsLayout};
 ghost use Rattle.fv_command.specs.HexText.{IsHexText, ShowsBytes};
-ghost use Rattle.fv_command.specs.ImageTexts.{ShowsImage, StopsImage};
+ghost use Rattle.fv_command.specs.inner.ImageTexts.{ShowsImage, StopsImage};
 ghost use Rattle.fv_command.specs.PortViews.{Writes, WritingStops, shown};
 
 use crate::hex_lines::HexSink;

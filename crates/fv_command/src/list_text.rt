@@ -6,7 +6,7 @@ ghost use Rattle.fv_base.specs.Sums.{words_of};
 ghost use Rattle.fv_tree.specs.Meaning.{files_from, sections_from};
 ghost use Rattle.fv_tree.specs.Meaning.{section_kind_of, body_of};
 ghost use Rattle.fv_tree.specs.Views.{body_view, content_view};
-ghost use Rattle.fv_command.specs.Indents.{levels};
+ghost use Rattle.fv_command.specs.inner.Indents.{levels};
 ghost use Rattle.fv_command.specs.ListTexts.{is_plain, unit_text, spaces, two_digits};
 ghost use Rattle.fv_command.specs.ListTexts.{form_text, system_text, name_text};
 ghost use Rattle.fv_command.specs.ListTexts.{volume_text, file_text, section_text};

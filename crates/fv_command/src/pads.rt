@@ -1,11 +1,11 @@
 //! The pads of a volume, and the lines for those that hold bytes which are not erased.
 
 ghost use Rattle.std.specs.Prelude.{◌≡◌, map, option_copied, IfOk, IfErr};
-ghost use Rattle.fv_base.specs.Faults.{want_of_memory};
+ghost use Rattle.fv_base.specs.Faults.{out_of_memory};
 ghost use Rattle.fv_file.specs.CellForms.{cell_form};
 ghost use Rattle.fv_tree.specs.Denotes.{Accepted};
 ghost use Rattle.fv_tree.specs.Meaning.{Meaning};
-ghost use Rattle.fv_command.specs.CheckRuns.{NotedCells, noted_pads};
+ghost use Rattle.fv_command.specs.inner.CheckRuns.{NotedCells, noted_pads};
 ghost use Rattle.fv_command.specs.CheckTexts.{written_in, pad_line, pad_note, pad_notes, AreCells};
 
 use fv_base::{Fault, Polarity, Sink};
@@ -18,7 +18,7 @@ use std::alloc::Global;
 fn outer_cells(alloc: Global, input: &[u8]) -> Result<(Cells<'_>, Polarity), Fault>
     requires { (m : Meaning) × Accepted input.now m }
     ensures ok { IfOk result (λ r. (m : Meaning) → Accepted input.now m → AreCells m input.now r.1 r.0) }
-    ensures err { IfErr result (λ f. f ≡ want_of_memory) }
+    ensures err { IfErr result (λ f. f ≡ out_of_memory) }
 {
     let extent = verify_fv(input)?;
     let list = cells(
@@ -45,7 +45,7 @@ pub fn noted_cells(
 ) -> Result<Option<(Cells<'_>, Polarity)>, Fault>
     requires { (m : Meaning) × Accepted input.now m }
     ensures ok { IfOk result (NotedCells input.now is_same) }
-    ensures err { IfErr result (λ f. f ≡ want_of_memory) }
+    ensures err { IfErr result (λ f. f ≡ out_of_memory) }
 {
     if is_same {
         return Ok(None);

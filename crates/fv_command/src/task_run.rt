@@ -3,7 +3,7 @@
 ghost use Rattle.std.specs.Prelude.{ℕ, Bool, List, IfOk, IfErr};
 ghost use Rattle.fv_command.specs.PortViews.{Writes, WritingStops, change, shown};
 ghost use Rattle.fv_command.specs.TaskRuns.{RunsTask, SaysRead, StopsRead};
-ghost use Rattle.fv_command.specs.TaskSteps.{Performs};
+ghost use Rattle.fv_command.specs.inner.TaskSteps.{Performs};
 ghost use Rattle.fv_command.specs.Tasks.{PartText};
 
 use crate::check_run::write_check;

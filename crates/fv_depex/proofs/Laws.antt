@@ -26,5 +26,5 @@ pub use Rattle.fv_depex.proofs.OpLemmas.{op_stands}
 pub use Rattle.fv_depex.proofs.OpLemmas.{checks_hold}
 -- bytes that have a first fault are spelled by no expression
 pub use Rattle.fv_depex.proofs.ReadLemmas.{none_after}
--- a check that does not hold is no want of memory
+-- a check that does not hold is no out of memory
 pub use Rattle.fv_depex.proofs.ReadLemmas.{no_want}

@@ -5,14 +5,14 @@ use Rattle.std.specs.Prelude.{◌||◌, not, nat_le, slice_index, None, if◌the
 use Rattle.std.proofs.lemmas.Bool.{leb-true, le-leb}
 use Rattle.std.proofs.lemmas.List.{take-append-drop, length-take-le}
 use Rattle.fv_base.specs.Checks.{AllHold}
-use Rattle.fv_base.specs.Verdicts.{first_fault}
+use Rattle.fv_base.specs.inner.Verdicts.{first_fault}
 use Rattle.fv_base.specs.Guids.{bytes_of}
 use Rattle.fv_base.specs.Value.{field}
 use Rattle.fv_base.specs.declared.guid.Guid.{Guid}
 use Rattle.fv_base.proofs.Laws.{all_hold, and_split, same_cut}
 use Rattle.fv_depex.specs.OpChecks.{OpFits, BeginsOp, has_operand, holds_values, in_place, has_code, op_checks}
 use Rattle.fv_depex.specs.Expressions.{carries, op_code, operand_len, op_operand, IsSized}
-use Rattle.fv_depex.specs.Ops.{op_by, op_in}
+use Rattle.fv_depex.specs.inner.Ops.{op_by, op_in}
 use Rattle.fv_depex.specs.declared.op.Op.{Op}
 use Rattle.fv_depex.specs.declared.op.Op.TheVariants as ops
 use Rattle.fv_depex.specs.declared.op.Phase.{Phase}

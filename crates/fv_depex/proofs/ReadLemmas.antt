@@ -144,7 +144,7 @@ spells_first phase b xs s spells =
       },
     )
 
--- the fault of a check is no want of memory
+-- the fault of a check is no out of memory
 pub no_want : (phase : Phase) (stage : Stage) (r : List ℕ) (kind : DepexFaultKind) → IsFirstFault (op_checks phase stage r) kind
     → kind ≢ kinds.OutOfMemory
 no_want phase stage r kind first =

@@ -1,5 +1,5 @@
-pub mod OpChecks
-pub mod DepexView
-pub mod Evaluation
+-- The definitions in the order in which they can be read.
 pub mod Expressions
-pub mod Ops
+pub mod DepexView
+pub mod OpChecks
+pub mod inner

@@ -109,8 +109,8 @@ pub record IsFirstOpFault (phase : Phase) (b : List ℕ) (fault : DepexFault) : 
   pub kind_is : IsFirstFault (op_checks phase stage r) fault.kind
 
 -- the fault of every call when memory runs out
-abbrev pub depex_want_of_memory : DepexFault
-depex_want_of_memory = record { kind = kinds.OutOfMemory; offset = 0 }
+abbrev pub depex_out_of_memory : DepexFault
+depex_out_of_memory = record { kind = kinds.OutOfMemory; offset = 0 }
 
 -- the number of each kind of fault
 abbrev pub depex_fault_number : DepexFaultKind → ℕ

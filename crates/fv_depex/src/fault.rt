@@ -1,7 +1,7 @@
 //! Why an expression was rejected.
 
 ghost use Rattle.std.specs.Prelude.{◌≡◌};
-ghost use Rattle.fv_depex.specs.OpChecks.{depex_fault_number, depex_want_of_memory};
+ghost use Rattle.fv_depex.specs.OpChecks.{depex_fault_number, depex_out_of_memory};
 
 use std::alloc::{AllocError, AllocFailed};
 use thiserror::Error;
@@ -77,7 +77,7 @@ const WANT_OF_MEMORY: DepexFault = DepexFault {
 };
 
 impl From<AllocError> for DepexFault {
-    ghost from_gives = { λ _ f. f ≡ depex_want_of_memory };
+    ghost from_gives = { λ _ f. f ≡ depex_out_of_memory };
 
     fn from(_error: AllocError) -> DepexFault {
         WANT_OF_MEMORY
@@ -85,7 +85,7 @@ impl From<AllocError> for DepexFault {
 }
 
 impl<T: Drop> From<AllocFailed<T>> for DepexFault {
-    ghost from_gives = { λ _ f. f ≡ depex_want_of_memory };
+    ghost from_gives = { λ _ f. f ≡ depex_out_of_memory };
 
     fn from(_error: AllocFailed<T>) -> DepexFault {
         WANT_OF_MEMORY

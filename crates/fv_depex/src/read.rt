@@ -2,11 +2,11 @@
 
 ghost use Rattle.std.specs.Prelude.{◌≡◌, ◌≢◌, ◌≤◌, ◌+◌, ℕ, List, length, drop, true, None, Some, OnOk, IfOk, IfErr};
 ghost use Rattle.fv_base.specs.Checks.{IsFirstFault};
-ghost use Rattle.fv_base.specs.Verdicts.{first_fault};
+ghost use Rattle.fv_base.specs.inner.Verdicts.{first_fault};
 ghost use Rattle.fv_depex.specs.OpChecks.{BeginsFirstOp, IsFirstOpFault, BeginsOp, has_code, in_place, has_values};
-ghost use Rattle.fv_depex.specs.OpChecks.{holds_values, has_operand, op_checks, depex_want_of_memory};
+ghost use Rattle.fv_depex.specs.OpChecks.{holds_values, has_operand, op_checks, depex_out_of_memory};
 ghost use Rattle.fv_depex.specs.Expressions.{Spells, carries, op_code, operand_len};
-ghost use Rattle.fv_depex.specs.Ops.{op_in};
+ghost use Rattle.fv_depex.specs.inner.Ops.{op_in};
 ghost use Rattle.fv_depex.specs.declared.op.Op.{Op};
 
 use crate::depex::Depex;
@@ -152,8 +152,8 @@ fn next_op(rest: &[u8], phase: Phase, stage: Stage) -> Result<Op, DepexFaultKind
 fn read_ops(alloc: Global, bytes: &[u8], phase: Phase) -> Result<(Vec<Op>, usize), DepexFault>
     ensures found { IfOk result
         (λ p. (p.1 ≤ length bytes.now) × Spells phase p.0.items (drop p.1 bytes.now) bytes.now) }
-    ensures first { IfErr result (λ f. f ≢ depex_want_of_memory → IsFirstOpFault phase bytes.now f) }
-    ensures memory { IfErr result (λ f. f ≡ depex_want_of_memory → BeginsFirstOp phase bytes.now) }
+    ensures first { IfErr result (λ f. f ≢ depex_out_of_memory → IsFirstOpFault phase bytes.now f) }
+    ensures memory { IfErr result (λ f. f ≡ depex_out_of_memory → BeginsFirstOp phase bytes.now) }
 {
     let mut ops = Vec::new(alloc);
     let mut at = 0;
@@ -194,14 +194,14 @@ pub fn read_depex(alloc: Global, bytes: &[u8], phase: Phase) -> Result<Depex, De
 
     // If an error other than OutOfMemory is returned, none do.
     ensures none { IfErr result
-        (λ f. f ≢ depex_want_of_memory → (ops : List Op) (rest : List ℕ) → Spells phase ops rest bytes.now → ⊥) }
+        (λ f. f ≢ depex_out_of_memory → (ops : List Op) (rest : List ℕ) → Spells phase ops rest bytes.now → ⊥) }
 
     // An error other than OutOfMemory names the first check that does not hold, at the first op
     // that has one.
-    ensures first { IfErr result (λ f. f ≢ depex_want_of_memory → IsFirstOpFault phase bytes.now f) }
+    ensures first { IfErr result (λ f. f ≢ depex_out_of_memory → IsFirstOpFault phase bytes.now f) }
 
     // Memory runs out only if the bytes begin with an op that may be the first.
-    ensures memory { IfErr result (λ f. f ≡ depex_want_of_memory → BeginsFirstOp phase bytes.now) }
+    ensures memory { IfErr result (λ f. f ≡ depex_out_of_memory → BeginsFirstOp phase bytes.now) }
 {
     let (ops, at) = read_ops(alloc, bytes, phase)?;
     let rest = ByteList::from_slice(alloc, bytes_from(bytes, at))?;

@@ -2,8 +2,8 @@
 
 ghost use Rattle.std.specs.Prelude.{◌≡◌, Bool, true, false, if◌then◌else◌, None, Some, [], ◌∷◌, ◌<◌, length, reverse};
 ghost use Rattle.std.specs.Prelude.{IfSome, IfNone, IfOk, IfErr};
-ghost use Rattle.fv_depex.specs.OpChecks.{depex_want_of_memory};
-ghost use Rattle.fv_depex.specs.Evaluation.{evaluate_op, evaluate_ops, top};
+ghost use Rattle.fv_depex.specs.OpChecks.{depex_out_of_memory};
+ghost use Rattle.fv_depex.specs.inner.Evaluation.{evaluate_op, evaluate_ops, top};
 ghost use Rattle.fv_depex.specs.Expressions.{Expression, IsTree, IsOrder, is_among, truth};
 
 use crate::depex::Depex;
@@ -72,7 +72,7 @@ fn evaluate_op(stack: &mut Vec<bool>, op: &Op, installed: &[Guid]) -> Result<boo
 // The value that the ops leave on top, if they leave one.
 fn evaluate_ops(alloc: Global, ops: &[Op], installed: &[Guid]) -> Result<Option<bool>, DepexFault>
     ensures value { IfOk result (λ v. v ≡ evaluate_ops installed.now ops.now []) }
-    ensures err { IfErr result (λ f. f ≡ depex_want_of_memory) }
+    ensures err { IfErr result (λ f. f ≡ depex_out_of_memory) }
 {
     let mut stack = Vec::new(alloc);
     for op in ops {
@@ -106,7 +106,7 @@ pub fn evaluate(
     // They are the ops of at most one tree.
     ensures tree { (t u : Expression) → IsTree depex.now.phase depex.now.ops t → IsTree depex.now.phase depex.now.ops u
         → t ≡ u }
-    ensures err { IfErr result (λ f. f ≡ depex_want_of_memory) }
+    ensures err { IfErr result (λ f. f ≡ depex_out_of_memory) }
 {
     evaluate_ops(alloc, depex.ops(), installed)
 }

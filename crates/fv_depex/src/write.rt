@@ -1,7 +1,7 @@
 //! Expressions, written.
 
 ghost use Rattle.std.specs.Prelude.{◌≡◌, ◌∷◌, ◌++◌, OnOk, IfOk, IfErr};
-ghost use Rattle.fv_depex.specs.OpChecks.{depex_want_of_memory};
+ghost use Rattle.fv_depex.specs.OpChecks.{depex_out_of_memory};
 ghost use Rattle.fv_depex.specs.Expressions.{Spells, op_code, op_operand, ops_bytes};
 
 use crate::depex::Depex;
@@ -54,7 +54,7 @@ pub fn depex_bytes(alloc: Global, depex: &Depex) -> Result<ByteList, DepexFault>
 
     // They are these bytes.
     ensures bytes { IfOk result (λ b. b ≡ ops_bytes depex.now.ops ++ depex.now.rest) }
-    ensures err { IfErr result (λ f. f ≡ depex_want_of_memory) }
+    ensures err { IfErr result (λ f. f ≡ depex_out_of_memory) }
 {
     let bytes = spelled(alloc, depex.ops(), depex.rest())?;
     Ok(ByteList::from_vec(bytes))

@@ -4,14 +4,14 @@ use Rattle.std.proofs.Common.{true, false, length-drop, length-append}
 use Rattle.std.specs.Prelude.{Ok, Err}
 use Rattle.std.proofs.lemmas.List.{take-append-drop, length-take-le, map_push, take_all, take_rest}
 use Rattle.std.proofs.Math.Seq.{take-add}
-use Rattle.fv_base.specs.Erased.{AllAre, all_are}
+use Rattle.fv_base.specs.Flash.{AllAre, all_are}
 use Rattle.fv_base.specs.Flash.{erased_byte}
 use Rattle.fv_base.specs.declared.fault.Fault.{Fault}
 use Rattle.fv_base.specs.declared.flash.FileSystem.{FileSystem}
 use Rattle.fv_base.specs.declared.flash.Polarity.{Polarity}
 use Rattle.fv_file.specs.Cells.{CellForm, Free, offset_of, cell_len, IsCell, Tiles, NoneFree, CellsWithin}
 use Rattle.fv_file.specs.FileChecks.{IsFirstCellFault}
-use Rattle.fv_file.specs.CellVerdicts.{cell_verdict}
+use Rattle.fv_file.specs.inner.CellVerdicts.{cell_verdict}
 use Rattle.fv_file.specs.CellForms.{cell_form}
 use Rattle.fv_file.specs.declared.cell.Cell.{Cell}
 use Rattle.fv_file.proofs.CellLemmas.{CellStandsAt, verdict_stands, verdict_first, cell_span, made_up, one_cell, not_empty, no_cell}

@@ -6,9 +6,9 @@ use Rattle.std.proofs.lemmas.Bool.{leb-true, le-leb, ltb-true, ltb-false, eqb-tr
 use Rattle.std.proofs.lemmas.List.{length-take-le, get_or-take}
 use Rattle.std.proofs.Math.ListN.{get_or-append}
 use Rattle.std.proofs.Math.Seq.{take-add}
-use Rattle.fv_base.specs.Verdicts.{first_fault}
+use Rattle.fv_base.specs.inner.Verdicts.{first_fault}
 use Rattle.fv_base.specs.Checks.{IsFirstFault}
-use Rattle.fv_base.specs.Erased.{AllAre}
+use Rattle.fv_base.specs.Flash.{AllAre}
 use Rattle.fv_base.specs.Faults.{outer_fault}
 use Rattle.fv_base.specs.Flash.{erased_byte}
 use Rattle.fv_base.specs.Value.{up_to_8}
@@ -24,7 +24,7 @@ use Rattle.fv_file.specs.Cells.{CellForm, Valid, Pad, Dead, Stub, Free, offset_o
 use Rattle.fv_file.specs.FileChecks.{leading_count, file_header_len_at, file_size_at, payload_at, file_checks, stub_checks}
 use Rattle.fv_file.specs.FileChecks.{state_checks, cell_checks}
 use Rattle.fv_file.specs.Files.{pad_kind, file_header_len, head_in, IsSound, attributes_at}
-use Rattle.fv_file.specs.CellVerdicts.{file_verdict, cell_for, cell_with, stub_verdict, state_verdict, cell_verdict}
+use Rattle.fv_file.specs.inner.CellVerdicts.{file_verdict, cell_for, cell_with, stub_verdict, state_verdict, cell_verdict}
 use Rattle.fv_file.specs.States.{StateOf, bits_of, state_of, is_alive}
 use Rattle.fv_file.specs.declared.head.FileHead.{FileHead}
 use Rattle.fv_file.specs.declared.state.FileState.{FileState}

@@ -7,7 +7,7 @@ use Rattle.std.proofs.lemmas.List.{take-append-drop, take_at, drop_at, take-appe
 use Rattle.std.proofs.Math.ListN.{get_or-append}
 use Rattle.std.proofs.Math.Seq.{take-add}
 use Rattle.fv_base.specs.Checks.{AllHold}
-use Rattle.fv_base.specs.Verdicts.{first_fault}
+use Rattle.fv_base.specs.inner.Verdicts.{first_fault}
 use Rattle.fv_base.specs.Value.{le, le_at}
 use Rattle.fv_base.specs.declared.fault.Fault.{Fault}
 use Rattle.fv_base.specs.declared.flash.FileSystem.{FileSystem}
@@ -20,7 +20,7 @@ use Rattle.fv_file.specs.FileChecks.{may_be_large, has_header_sum, skips_data, a
 use Rattle.fv_file.specs.Files.{attributes_at}
 use Rattle.fv_file.specs.FileChecks.{file_size_at, payload_at, has_file_size, has_file_sum, file_checks}
 use Rattle.fv_file.specs.Files.{pad_kind, file_header_len, file_size_in, head_in, header_sum_of, file_sum_right, IsFile, IsSound}
-use Rattle.fv_file.specs.CellVerdicts.{file_verdict}
+use Rattle.fv_file.specs.inner.CellVerdicts.{file_verdict}
 use Rattle.fv_file.specs.States.{StateOf, is_alive}
 use Rattle.fv_file.specs.declared.head.FileHead.{FileHead}
 use Rattle.fv_file.specs.declared.state.FileState.{FileState}

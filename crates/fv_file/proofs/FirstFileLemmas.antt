@@ -3,7 +3,7 @@ use Rattle.std.proofs.Common.{◌≡◌, ◌≤◌, ℕ, List, ◌++◌, length,
 use Rattle.std.specs.Prelude.{◌==◌, ◌⊎◌, nat_lt, slice_index, Option, None, Some, Result, Ok, Err, IfOk, IfErr, if◌then◌else◌}
 use Rattle.std.proofs.lemmas.Bool.{le-leb, ltb-true, ltb-false, eqb-true}
 use Rattle.std.proofs.lemmas.List.{take-append-drop}
-use Rattle.fv_base.specs.Verdicts.{first_fault}
+use Rattle.fv_base.specs.inner.Verdicts.{first_fault}
 use Rattle.fv_base.specs.Checks.{IsFirstFault}
 use Rattle.fv_base.specs.Faults.{outer_fault}
 use Rattle.fv_base.specs.declared.fault.Fault.{Fault}
@@ -12,7 +12,7 @@ use Rattle.fv_base.specs.declared.flash.FileSystem.{FileSystem}
 use Rattle.fv_base.specs.declared.flash.Polarity.{Polarity}
 use Rattle.fv_file.specs.FileChecks.{file_size_at, payload_at, file_checks, is_standing, verify_checks}
 use Rattle.fv_file.specs.Files.{pad_kind, head_in, IsSound, BeginsFile}
-use Rattle.fv_file.specs.CellVerdicts.{file_verdict, standing_verdict, verify_verdict}
+use Rattle.fv_file.specs.inner.CellVerdicts.{file_verdict, standing_verdict, verify_verdict}
 use Rattle.fv_file.specs.States.{state_of, is_alive}
 use Rattle.fv_file.specs.declared.head.FileHead.{FileHead}
 use Rattle.fv_file.specs.declared.state.FileState.{FileState}

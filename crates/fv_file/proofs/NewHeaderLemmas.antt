@@ -22,7 +22,7 @@ use Rattle.fv_file.specs.Attributes.{attribute_bits, is_large}
 use Rattle.fv_file.specs.Cells.{IsFilled}
 use Rattle.fv_file.specs.Files.{file_header_len, head_in, header_sum_of, pad_kind, file_size_in, IsFileHeader}
 use Rattle.fv_file.specs.States.{StateOf, is_alive}
-use Rattle.fv_file.specs.HeadParts.{head_bytes}
+use Rattle.fv_file.specs.inner.HeadParts.{head_bytes}
 use Rattle.fv_file.specs.NewHeaders.{IsNewHeader, IsHeadOfFile, IsHeadOfPad, complement, fields_of, file_fields, file_head_of, header_bytes}
 use Rattle.fv_file.specs.NewHeaders.{header_with, needs_large, pad_fields, pad_head_of, pad_name, state_byte, with_large}
 use Rattle.fv_file.specs.Files.{fixed_checksum}

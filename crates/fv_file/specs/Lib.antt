@@ -1,9 +1,9 @@
+-- The definitions in the order in which they can be read.
 pub mod Attributes
-pub mod Cells
-pub mod FileChecks
-pub mod Files
-pub mod CellVerdicts
-pub mod CellForms
-pub mod HeadParts
 pub mod States
+pub mod Files
+pub mod Cells
 pub mod NewHeaders
+pub mod FileChecks
+pub mod CellForms
+pub mod inner

@@ -1,12 +1,12 @@
 //! The body of a volume, cut into cells.
 
 ghost use Rattle.std.specs.Prelude.{◌≡◌, ◌≢◌, ◌+◌, ◌<◌, ◌≤◌, ◌%◌, ◌^◌, List, length, drop, Ok, Err, IfOk, IfErr};
-ghost use Rattle.fv_base.specs.Erased.{all_are};
-ghost use Rattle.fv_base.specs.Faults.{outer_fault, want_of_memory};
+ghost use Rattle.fv_base.specs.Flash.{all_are};
+ghost use Rattle.fv_base.specs.Faults.{outer_fault, out_of_memory};
 ghost use Rattle.fv_base.specs.Flash.{erased_byte};
 ghost use Rattle.fv_file.specs.Cells.{CellForm, CellsWithin, Tiles, cell_len};
 ghost use Rattle.fv_file.specs.FileChecks.{IsFirstCellFault, leading_count};
-ghost use Rattle.fv_file.specs.CellVerdicts.{cell_verdict};
+ghost use Rattle.fv_file.specs.inner.CellVerdicts.{cell_verdict};
 ghost use Rattle.fv_file.specs.CellForms.{cell_form};
 
 use crate::cell::Cell;
@@ -119,7 +119,7 @@ fn cells_in(
     requires multiple { length body.now % 8 ≡ 0 }
     requires place { first + length body.now < 2 ^ 63 }
     ensures found { IfOk result (λ cs. Tiles system polarity first cs body.now) }
-    ensures first { IfErr result (λ f. f ≢ want_of_memory → IsFirstCellFault system polarity first body.now f) }
+    ensures first { IfErr result (λ f. f ≢ out_of_memory → IsFirstCellFault system polarity first body.now f) }
     ensures bound { IfErr result (λ f. f.place.offset ≤ first + length body.now) }
     ensures some { IfErr result (λ _. 0 < length body.now) }
 {
@@ -171,12 +171,12 @@ pub fn cells(
 
     // If an error other than OutOfMemory is returned, no cells do.
     ensures none { IfErr result
-        (λ f. f ≢ want_of_memory → (ds : List CellForm) → Tiles system polarity first ds (drop first volume.now) → ⊥) }
+        (λ f. f ≢ out_of_memory → (ds : List CellForm) → Tiles system polarity first ds (drop first volume.now) → ⊥) }
 
     // An error other than OutOfMemory names the first check that does not hold at the first offset
     // where no cell begins.
     ensures first { IfErr result
-        (λ f. f ≢ want_of_memory → IsFirstCellFault system polarity first (drop first volume.now) f) }
+        (λ f. f ≢ out_of_memory → IsFirstCellFault system polarity first (drop first volume.now) f) }
 
     // Cells and faults are within the volume.
     ensures lies { IfOk result (CellsWithin (length volume.now)) }

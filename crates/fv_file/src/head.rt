@@ -1,13 +1,13 @@
 //! The header of a file.
 
 ghost use Rattle.std.specs.Prelude.{◌≡◌, ◌==◌, ◌+◌, ◌%◌, ◌≤◌, ◌<◌, ◌^◌, length, sum, take, IfOk, IfErr};
-ghost use Rattle.fv_base.specs.Verdicts.{first_fault, verdict_by};
+ghost use Rattle.fv_base.specs.inner.Verdicts.{first_fault, verdict_by};
 ghost use Rattle.fv_base.specs.Value.{le_at};
 ghost use Rattle.fv_file.specs.Attributes.{attribute_bits};
 ghost use Rattle.fv_file.specs.FileChecks.{file_header_len_at, payload_at, file_size_at, may_be_large};
 ghost use Rattle.fv_file.specs.FileChecks.{has_header_sum, has_file_size, skips_data, has_file_sum, file_checks};
 ghost use Rattle.fv_file.specs.Files.{head_in, header_sum_of, attributes_at, file_sum_at};
-ghost use Rattle.fv_file.specs.CellVerdicts.{file_verdict};
+ghost use Rattle.fv_file.specs.inner.CellVerdicts.{file_verdict};
 ghost use Rattle.fv_file.specs.States.{is_alive};
 
 use crate::attributes::FileAttributes;

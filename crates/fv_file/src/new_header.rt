@@ -6,7 +6,7 @@ ghost use Rattle.fv_base.specs.Limits.{data_limit};
 ghost use Rattle.fv_base.specs.Value.{IsBytes};
 ghost use Rattle.fv_file.specs.Attributes.{attribute_bits, is_large, is_fixed};
 ghost use Rattle.fv_file.specs.Files.{header_sum_at, pad_kind};
-ghost use Rattle.fv_file.specs.HeadParts.{HasPlace, size_fields, whole_bytes, head_with, head_bytes};
+ghost use Rattle.fv_file.specs.inner.HeadParts.{HasPlace, size_fields, whole_bytes, head_with, head_bytes};
 ghost use Rattle.fv_file.specs.NewHeaders.{IsNewHeader, IsHeadOfFile, IsHeadOfPad, file_fields, pad_fields};
 ghost use Rattle.fv_file.specs.NewHeaders.{file_head_of, pad_head_of, with_large, state_byte};
 

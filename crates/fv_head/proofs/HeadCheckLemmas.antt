@@ -9,8 +9,8 @@ use Rattle.std.proofs.lemmas.Slice.Eq.{bytes_eq-Decides}
 use Rattle.std.proofs.Math.Seq.{take-add}
 use Rattle.std.specs.Str.{bytes_eq}
 use Rattle.fv_base.specs.Checks.{AllHold, Check, check, IsFirstFault}
-use Rattle.fv_base.specs.Verdicts.{first_fault}
-use Rattle.fv_base.specs.Faults.{outer_fault, want_of_memory}
+use Rattle.fv_base.specs.inner.Verdicts.{first_fault}
+use Rattle.fv_base.specs.Faults.{outer_fault, out_of_memory}
 use Rattle.fv_base.specs.Limits.{volume_limit, header_limit, ext_limit}
 use Rattle.fv_base.specs.Value.{IsBytes, le, field, le_at, up_to_8}
 use Rattle.fv_base.specs.declared.fault.Fault.{Fault}
@@ -24,7 +24,7 @@ use Rattle.fv_head.specs.Ext.{Extension, IsExt}
 use Rattle.fv_head.specs.Head.{HasExt, HeadFields, IsHead, BeginsVolume, system_guid}
 use Rattle.fv_head.specs.HeadChecks.{has_signature, is_header_len, has_sum, has_block_map, is_volume_len, head_checks, is_zero_pair}
 use Rattle.fv_head.specs.HeadChecks.{blocks_at, makes_up, file_system_at, header_len_at, volume_len_at, ext_offset_at, ext_size_at, has_ext}
-use Rattle.fv_head.specs.HeadVerdicts.{head_verdict, extent_verdict, extent_or, extent_at}
+use Rattle.fv_head.specs.inner.HeadVerdicts.{head_verdict, extent_verdict, extent_or, extent_at}
 use Rattle.fv_head.specs.Pairs.{pairs_of}
 use Rattle.fv_head.specs.declared.extent.Extent.{Extent}
 use Rattle.fv_head.proofs.BlockLemmas.{pairs_of-step}
@@ -386,8 +386,8 @@ fault_within b f (d ∷ ds, c, after, is, held, fails, fault) =
     ) in
     first_among P (head_checks b) f all (d ∷ ds, c, after, is, held, fails, fault)
 
--- and is no want of memory
-pub fault_known : (b : List ℕ) (f : Fault) → IsFirstFault (head_checks b) f → f ≢ want_of_memory
+-- and is no out of memory
+pub fault_known : (b : List ℕ) (f : Fault) → IsFirstFault (head_checks b) f → f ≢ out_of_memory
 fault_known b f first = λ want.
     let P : Fault → Type 0 = λ g. g.kind ≢ kinds.OutOfMemory in
     let all : AllByRecursion (λ g. P g.fault) (head_checks b) =

@@ -16,7 +16,7 @@ use Rattle.fv_head.specs.Head.{header_len_of, signature_bytes, system_guid}
 use Rattle.fv_head.specs.Pairs.{pairs_of, pairs_bytes}
 use Rattle.fv_head.specs.ExtImage.{ext_spelled, IfRead, canonical_end, canonical_first, CanonicalRest}
 use Rattle.fv_head.specs.HeadImage.{head_spelled, checksum_of, canonical_head}
-use Rattle.fv_head.specs.WordSums.{word_weight}
+use Rattle.fv_head.specs.inner.WordSums.{word_weight}
 use Rattle.fv_head.proofs.ExtImageLemmas.{ext_again, ext_len_most}
 
 -- ---- pairs

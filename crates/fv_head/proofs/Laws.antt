@@ -7,7 +7,7 @@ pub use Rattle.fv_head.proofs.HeadCheckLemmas.{one_front, front_holds, front_ext
 pub use Rattle.fv_head.proofs.HeadCheckLemmas.{Lies, front_lies, first_lies}
 -- without an extended header, and only then, ExtHeaderOffset is 0, and the first file stands behind the header
 pub use Rattle.fv_head.proofs.HeadCheckLemmas.{bare_offset, offset_bare, bare_first}
--- a fault of a header stands within the bytes or at their end, and is no want of memory
+-- a fault of a header stands within the bytes or at their end, and is no out of memory
 pub use Rattle.fv_head.proofs.HeadCheckLemmas.{fault_within, fault_known}
 -- bytes are one extended header at most; what is spelled of one is read as the same, and how long it is, at most
 pub use Rattle.fv_head.proofs.ExtLemmas.{one_ext}

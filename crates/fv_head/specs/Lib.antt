@@ -1,11 +1,10 @@
+-- The definitions in the order in which they can be read.
 pub mod Attributes
-pub mod Ext
-pub mod ExtImage
-pub mod Head
-pub mod HeadChecks
-pub mod HeadImage
-pub mod HeadVerdicts
-pub mod HeadView
 pub mod Pairs
-pub mod WordLaws
-pub mod WordSums
+pub mod Ext
+pub mod Head
+pub mod HeadImage
+pub mod ExtImage
+pub mod HeadChecks
+pub mod HeadView
+pub mod inner

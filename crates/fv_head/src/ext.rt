@@ -1,7 +1,7 @@
 //! The extended header of a volume, as kept in memory.
 
 ghost use Rattle.std.specs.Prelude.{◌≡◌, ◌+◌, ◌≤◌, ℕ, List, drop, length, IfOk, IfErr, IfSome, IfNone};
-ghost use Rattle.fv_base.specs.Faults.{want_of_memory};
+ghost use Rattle.fv_base.specs.Faults.{out_of_memory};
 ghost use Rattle.fv_base.specs.Limits.{ext_limit};
 ghost use Rattle.fv_base.specs.Value.{le_at};
 ghost use Rattle.fv_head.specs.Ext.{BeginNoEntry, SplitsEntries, IsExt, IsReadExt, kept_payload, is_used_size};
@@ -123,7 +123,7 @@ fn entry_of(alloc: Global, entry: &[u8]) -> Result<ExtEntry, Fault>
     requires { 4 ≤ length entry.now }
     ensures ok { IfOk result
         (λ e. (e.0 ≡ le_at 2 2 entry.now) × (e.1 ≡ kept_payload (le_at 2 2 entry.now) (drop 4 entry.now))) }
-    ensures err { IfErr result (λ f. f ≡ want_of_memory) }
+    ensures err { IfErr result (λ f. f ≡ out_of_memory) }
 {
     let kind = u16_at(entry, EXT_ENTRY_TYPE_OFFSET);
     let mut payload = entry[EXT_ENTRY_HEADER_LEN..].to_vec(alloc)?;
@@ -139,7 +139,7 @@ fn entry_of(alloc: Global, entry: &[u8]) -> Result<ExtEntry, Fault>
 // The entries at the start of the bytes, and the tail after them.
 fn entries_of(alloc: Global, bytes: &[u8]) -> Result<(Vec<ExtEntry>, ByteList), Fault>
     ensures ok { IfOk result (λ r. SplitsEntries r.0.items r.1 bytes.now) }
-    ensures err { IfErr result (λ f. f ≡ want_of_memory) }
+    ensures err { IfErr result (λ f. f ≡ out_of_memory) }
 {
     let mut entries = Vec::new(alloc);
     let mut rest = bytes;
@@ -157,7 +157,7 @@ pub(crate) fn ext_of(alloc: Global, bytes: &[u8]) -> Result<ExtHeader, Fault>
     requires most { length bytes.now ≤ ext_limit }
     requires size { le_at 16 4 bytes.now ≡ length bytes.now }
     ensures ok { IfOk result (λ x. IsExt x bytes.now) }
-    ensures err { IfErr result (λ f. f ≡ want_of_memory) }
+    ensures err { IfErr result (λ f. f ≡ out_of_memory) }
 {
     let (entries, tail) = entries_of(alloc, &bytes[EXT_HEADER_LEN..])?;
     Ok(ExtHeader {

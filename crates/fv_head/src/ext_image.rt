@@ -1,7 +1,7 @@
 //! An extended header, spelled with a used size.
 
 ghost use Rattle.std.specs.Prelude.{◌≡◌, ◌+◌, ◌<◌, ◌≤◌, ℕ, List, length, IfOk, IfErr};
-ghost use Rattle.fv_base.specs.Faults.{want_of_memory};
+ghost use Rattle.fv_base.specs.Faults.{out_of_memory};
 ghost use Rattle.fv_base.specs.Limits.{ext_limit};
 ghost use Rattle.fv_head.specs.Ext.{IsExt, IsReadExt};
 ghost use Rattle.fv_head.specs.ExtImage.{payload_with, entry_bytes, entries_bytes, entries_len, ext_len, ext_spelled};
@@ -92,7 +92,7 @@ pub fn ext_bytes(alloc: Global, ext: &ExtHeader, used: u32) -> Result<ByteList, 
 
     // Read back, they have the same meaning.
     ensures again { IfOk result (λ bytes. IsExt ext.now bytes) }
-    ensures err { IfErr result (λ f. f ≡ want_of_memory) }
+    ensures err { IfErr result (λ f. f ≡ out_of_memory) }
 {
     let mut out = ListSink::with_room(alloc, len_of_ext(ext) as usize)?;
     put_ext(&mut out, ext, used);

@@ -2,7 +2,7 @@
 
 ghost use Rattle.std.specs.Prelude.{◌≡◌, ◌⊎◌, ◌%◌, ◌≤◌, length, IfOk, IfErr, option_copied};
 ghost use Rattle.fv_base.specs.Checks.{IsFirstFault};
-ghost use Rattle.fv_base.specs.Faults.{want_of_memory};
+ghost use Rattle.fv_base.specs.Faults.{out_of_memory};
 ghost use Rattle.fv_base.specs.Limits.{header_limit};
 ghost use Rattle.fv_head.specs.Head.{HasExt, HeadFields, BeginsVolume, IsReadHead, header_len_of};
 ghost use Rattle.fv_head.specs.HeadChecks.{head_checks};
@@ -115,7 +115,7 @@ impl VolumeHead {
 fn blocks_of(alloc: Global, bytes: &[u8]) -> Result<BlockMap, Fault>
     requires { length bytes.now % 8 ≡ 0 }
     ensures ok { IfOk result (λ m. m ≡ pairs_of bytes.now) }
-    ensures err { IfErr result (λ f. f ≡ want_of_memory) }
+    ensures err { IfErr result (λ f. f ≡ out_of_memory) }
 {
     let mut blocks = Vec::new(alloc);
     let mut rest = bytes;
@@ -130,7 +130,7 @@ fn blocks_of(alloc: Global, bytes: &[u8]) -> Result<BlockMap, Fault>
 fn ext_at(alloc: Global, bytes: &[u8], extent: &Extent) -> Result<Option<ExtHeader>, Fault>
     requires front { (h : HeadFields) × BeginsVolume h extent.now bytes.now }
     ensures ok { IfOk result (λ x. HasExt x extent.now bytes.now) }
-    ensures err { IfErr result (λ f. f ≡ want_of_memory) }
+    ensures err { IfErr result (λ f. f ≡ out_of_memory) }
 {
     if ext_offset_at(bytes) == 0 {
         return Ok(None);
@@ -142,7 +142,7 @@ fn ext_at(alloc: Global, bytes: &[u8], extent: &Extent) -> Result<Option<ExtHead
 fn head_of(alloc: Global, bytes: &[u8], extent: &Extent) -> Result<VolumeHead, Fault>
     requires front { (h : HeadFields) × BeginsVolume h extent.now bytes.now }
     ensures ok { IfOk result (λ h. BeginsVolume h extent.now bytes.now) }
-    ensures err { IfErr result (λ f. f ≡ want_of_memory) }
+    ensures err { IfErr result (λ f. f ≡ out_of_memory) }
 {
     let header_len = extent.header_len as usize;
     let blocks = blocks_of(
@@ -175,14 +175,14 @@ pub fn read_head(alloc: Global, bytes: &[u8]) -> Result<(VolumeHead, Extent), Fa
 
     // Every volume that they begin with is returned, unless memory runs out.
     ensures only { (h : HeadFields) (e : Extent) → BeginsVolume h e bytes.now
-        → (result ≡ Ok (h, e)) ⊎ (result ≡ Err want_of_memory) }
+        → (result ≡ Ok (h, e)) ⊎ (result ≡ Err out_of_memory) }
 
     // An error names the first check that does not hold.
-    ensures first { IfErr result (λ f. (f ≡ want_of_memory) ⊎ IsFirstFault (head_checks bytes.now) f) }
+    ensures first { IfErr result (λ f. (f ≡ out_of_memory) ⊎ IsFirstFault (head_checks bytes.now) f) }
 
     // Memory runs out only if they begin with a volume.
     ensures memory { IfErr result
-        (λ f. f ≡ want_of_memory → (h : HeadFields) × (e : Extent) × BeginsVolume h e bytes.now) }
+        (λ f. f ≡ out_of_memory → (h : HeadFields) × (e : Extent) × BeginsVolume h e bytes.now) }
 
     // The offset of an error is within the bytes or at their end.
     ensures bound { IfErr result (λ f. f.place.offset ≤ length bytes.now) }

@@ -1,15 +1,15 @@
 //! A header, spelled as in the canonical image.
 
 ghost use Rattle.std.specs.Prelude.{◌≡◌, ◌+◌, ◌-◌, ◌%◌, ◌≤◌, ◌<◌, ◌++◌, List, [], ◌∷◌, ℕ, length, IfOk, IfErr};
-ghost use Rattle.fv_base.specs.Faults.{want_of_memory};
+ghost use Rattle.fv_base.specs.Faults.{out_of_memory};
 ghost use Rattle.fv_base.specs.Limits.{header_limit, ext_limit};
 ghost use Rattle.fv_base.specs.Value.{le_bytes, up_to_8};
 ghost use Rattle.fv_head.specs.Head.{IsCanonicalHead, IsReadHead, BeginsVolume, canonical_offset, extent_of};
 ghost use Rattle.fv_head.specs.Pairs.{pairs_bytes};
 ghost use Rattle.fv_head.specs.ExtImage.{CanonicalRest, IfRead, canonical_end, canonical_first};
 ghost use Rattle.fv_head.specs.HeadImage.{head_spelled, canonical_head, checksum_of};
-ghost use Rattle.fv_head.specs.WordLaws.{adds_words_by};
-ghost use Rattle.fv_head.specs.WordSums.{AddsWords, word_weight};
+ghost use Rattle.fv_head.specs.inner.WordLaws.{adds_words_by};
+ghost use Rattle.fv_head.specs.inner.WordSums.{AddsWords, word_weight};
 
 use crate::ext_image::len_of_ext;
 use crate::head::VolumeHead;
@@ -181,7 +181,7 @@ pub fn head_bytes(alloc: Global, head: &VolumeHead) -> Result<ByteList, Fault>
         → canonical_end head.now head.now.ext ≤ head.now.length
         → head.now.length ≤ length (bytes ++ rest)
         → BeginsVolume head.now (extent_of head.now (canonical_first head.now head.now.ext)) (bytes ++ rest)) }
-    ensures err { IfErr result (λ f. f ≡ want_of_memory) }
+    ensures err { IfErr result (λ f. f ≡ out_of_memory) }
 {
     let mut out = ListSink::with_room(alloc, usize::from(head.header_len()))?;
     put_head(&mut out, head);

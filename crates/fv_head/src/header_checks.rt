@@ -2,14 +2,14 @@
 
 ghost use Rattle.std.specs.Prelude.{◌≡◌, ◌⊎◌, ◌+◌, ◌==◌, ◌%◌, ◌≤◌, length, IfOk, IfErr, OnOk, None, Some, true};
 ghost use Rattle.fv_base.specs.Checks.{IsFirstFault};
-ghost use Rattle.fv_base.specs.Verdicts.{first_fault};
+ghost use Rattle.fv_base.specs.inner.Verdicts.{first_fault};
 ghost use Rattle.fv_base.specs.Guids.{bytes_of};
 ghost use Rattle.fv_base.specs.Sums.{sum16_of};
 ghost use Rattle.fv_head.specs.Head.{HeadFields, BeginsVolume, system_guid};
 ghost use Rattle.fv_head.specs.HeadChecks.{has_signature, file_system_at, is_one_volume, header_len_at, is_header_len};
 ghost use Rattle.fv_head.specs.HeadChecks.{is_zero_pair, makes_up, has_block_map, is_volume_len, has_ext, front_checks};
 ghost use Rattle.fv_head.specs.HeadChecks.{whole_checks, head_checks};
-ghost use Rattle.fv_head.specs.HeadVerdicts.{ExtHeaderWithin, first_at, extent_at, head_verdict};
+ghost use Rattle.fv_head.specs.inner.HeadVerdicts.{ExtHeaderWithin, first_at, extent_at, head_verdict};
 ghost use Rattle.fv_head.specs.Pairs.{pairs_of};
 ghost use Rattle.fv_head.specs.declared.extent.Extent.{Extent};
 

@@ -5,7 +5,7 @@ use Rattle.std.specs.Prelude.{◌==◌, ◌%◌, ◌||◌, not, nat_le, None}
 use Rattle.std.proofs.lemmas.Bool.{eqb-true, eq-eqb, leb-true, le-leb}
 use Rattle.std.proofs.lemmas.List.{take-append-drop, length-take-le}
 use Rattle.fv_base.specs.Checks.{AllHold}
-use Rattle.fv_base.specs.Verdicts.{first_fault}
+use Rattle.fv_base.specs.inner.Verdicts.{first_fault}
 use Rattle.fv_base.specs.Value.{IsBytes, le, le_at}
 use Rattle.fv_base.proofs.Laws.{all_hold, and_join, and_split, bytes_take, field-append_front, field-take, same_cut, two_bytes}
 use Rattle.fv_hob.specs.HobChecks.{BeginsBlock, hob_checks, is_hob_len}

@@ -30,5 +30,5 @@ pub use Rattle.fv_hob.proofs.HobImageLemmas.{list_kept}
 pub use Rattle.fv_hob.proofs.HobImageLemmas.{list_len}
 -- bytes that have a first fault begin with no list
 pub use Rattle.fv_hob.proofs.ReadLemmas.{none_after}
--- a check that does not hold is no want of memory
+-- a check that does not hold is no out of memory
 pub use Rattle.fv_hob.proofs.ReadLemmas.{no_want}

@@ -105,7 +105,7 @@ table_stands b (h ∷ hs) c at first first_is k stands = go k.joined k.begins wh
     },
   )
 
--- the fault of a check is no want of memory
+-- the fault of a check is no out of memory
 pub no_want : (begins : Bool) (r : List ℕ) (kind : HobFaultKind) → IsFirstFault (hob_checks begins r) kind → kind ≢ kinds.OutOfMemory
 no_want begins r kind first =
     let P : HobFaultKind → Type 0 = λ k. k ≢ kinds.OutOfMemory in

@@ -52,8 +52,8 @@ pub record IsFirstHobFault (b : List ℕ) (fault : HobFault) : Type 0 where
   pub kind_is : IsFirstFault (hob_checks (length before == 0) r) fault.kind
 
 -- the fault of every call when memory runs out
-abbrev pub hob_want_of_memory : HobFault
-hob_want_of_memory = record { kind = kinds.OutOfMemory; offset = 0 }
+abbrev pub hob_out_of_memory : HobFault
+hob_out_of_memory = record { kind = kinds.OutOfMemory; offset = 0 }
 
 -- the number of each kind of fault
 abbrev pub hob_fault_number : HobFaultKind → ℕ

@@ -1,4 +1,5 @@
-pub mod HobChecks
+-- The definitions in the order in which they can be read.
 pub mod Hobs
-pub mod Lists
 pub mod HobImage
+pub mod Lists
+pub mod HobChecks

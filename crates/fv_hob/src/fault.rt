@@ -1,7 +1,7 @@
 //! Why a hand-off list was rejected.
 
 ghost use Rattle.std.specs.Prelude.{◌≡◌};
-ghost use Rattle.fv_hob.specs.HobChecks.{hob_fault_number, hob_want_of_memory};
+ghost use Rattle.fv_hob.specs.HobChecks.{hob_fault_number, hob_out_of_memory};
 
 use std::alloc::{AllocError, AllocFailed};
 use thiserror::Error;
@@ -74,7 +74,7 @@ const WANT_OF_MEMORY: HobFault = HobFault {
 };
 
 impl From<AllocError> for HobFault {
-    ghost from_gives = { λ _ f. f ≡ hob_want_of_memory };
+    ghost from_gives = { λ _ f. f ≡ hob_out_of_memory };
 
     fn from(_error: AllocError) -> HobFault {
         WANT_OF_MEMORY
@@ -82,7 +82,7 @@ impl From<AllocError> for HobFault {
 }
 
 impl<T: Drop> From<AllocFailed<T>> for HobFault {
-    ghost from_gives = { λ _ f. f ≡ hob_want_of_memory };
+    ghost from_gives = { λ _ f. f ≡ hob_out_of_memory };
 
     fn from(_error: AllocFailed<T>) -> HobFault {
         WANT_OF_MEMORY

@@ -1,10 +1,10 @@
 //! Hand-off lists, read.
 
 ghost use Rattle.std.specs.Prelude.{◌≡◌, ◌≢◌, ◌≤◌, ℕ, List, length, take, None, Some, IfOk, IfErr, OnOk};
-ghost use Rattle.fv_base.specs.Verdicts.{first_fault};
+ghost use Rattle.fv_base.specs.inner.Verdicts.{first_fault};
 ghost use Rattle.fv_base.specs.Checks.{IsFirstFault};
 ghost use Rattle.fv_hob.specs.HobChecks.{BeginsBlock, IsFirstHobFault, BeginsTable, hob_checks, is_hob_len};
-ghost use Rattle.fv_hob.specs.HobChecks.{hob_want_of_memory};
+ghost use Rattle.fv_hob.specs.HobChecks.{hob_out_of_memory};
 ghost use Rattle.fv_hob.specs.Hobs.{HobForm, hob_len_at};
 ghost use Rattle.fv_hob.specs.Lists.{IsHobList};
 
@@ -64,8 +64,8 @@ fn next_block(rest: &[u8], first: bool) -> Result<&[u8], HobFaultKind>
 // The blocks up to the end block, and the number of their bytes.
 fn read_blocks(alloc: Global, bytes: &[u8]) -> Result<(Vec<Hob>, usize), HobFault>
     ensures found { IfOk result (λ p. (p.1 ≤ length bytes.now) × IsHobList p.0.items (take p.1 bytes.now)) }
-    ensures first { IfErr result (λ f. f ≢ hob_want_of_memory → IsFirstHobFault bytes.now f) }
-    ensures memory { IfErr result (λ f. f ≡ hob_want_of_memory → BeginsTable bytes.now) }
+    ensures first { IfErr result (λ f. f ≢ hob_out_of_memory → IsFirstHobFault bytes.now f) }
+    ensures memory { IfErr result (λ f. f ≡ hob_out_of_memory → BeginsTable bytes.now) }
 {
     let mut hobs = Vec::new(alloc);
     let mut at = 0;
@@ -108,14 +108,14 @@ pub fn read_hobs(alloc: Global, bytes: &[u8]) -> Result<(HobList, u64), HobFault
 
     // If an error other than OutOfMemory is returned, they begin with no list.
     ensures none { IfErr result
-        (λ f. f ≢ hob_want_of_memory → (all : List HobForm) (n : ℕ) → IsHobList all (take n bytes.now) → ⊥) }
+        (λ f. f ≢ hob_out_of_memory → (all : List HobForm) (n : ℕ) → IsHobList all (take n bytes.now) → ⊥) }
 
     // An error other than OutOfMemory names the first check that does not hold, at the first block
     // that has one.
-    ensures first { IfErr result (λ f. f ≢ hob_want_of_memory → IsFirstHobFault bytes.now f) }
+    ensures first { IfErr result (λ f. f ≢ hob_out_of_memory → IsFirstHobFault bytes.now f) }
 
     // Memory runs out only if the bytes begin with a hand-off information table.
-    ensures memory { IfErr result (λ f. f ≡ hob_want_of_memory → BeginsTable bytes.now) }
+    ensures memory { IfErr result (λ f. f ≡ hob_out_of_memory → BeginsTable bytes.now) }
 {
     let (hobs, at) = read_blocks(alloc, bytes)?;
     Ok((HobList::from_vec(hobs), at as u64))

@@ -1,7 +1,7 @@
 //! The volumes that a hand-off list describes.
 
 ghost use Rattle.std.specs.Prelude.{◌≡◌, IfOk, IfErr};
-ghost use Rattle.fv_hob.specs.HobChecks.{hob_want_of_memory};
+ghost use Rattle.fv_hob.specs.HobChecks.{hob_out_of_memory};
 ghost use Rattle.fv_hob.specs.Lists.{span_of, spans_of};
 
 use crate::fault::HobFault;
@@ -71,7 +71,7 @@ impl Hob {
 /// OutOfMemory.
 pub fn volume_hobs(alloc: Global, hobs: &HobList) -> Result<Spans, HobFault>
     ensures spans { IfOk result (λ s. s ≡ spans_of hobs.now) }
-    ensures err { IfErr result (λ f. f ≡ hob_want_of_memory) }
+    ensures err { IfErr result (λ f. f ≡ hob_out_of_memory) }
 {
     let mut list = Vec::new(alloc);
     for hob in hobs.as_slice() {

@@ -4,7 +4,7 @@ ghost use Rattle.std.specs.Prelude.{◌≡◌, ℕ, List, [], ◌∷◌, ◌++�
 ghost use Rattle.std.specs.List.{AllByRecursion, concat};
 ghost use Rattle.fv_base.specs.Guids.{bytes_of};
 ghost use Rattle.fv_base.specs.Value.{le_bytes};
-ghost use Rattle.fv_hob.specs.HobChecks.{hob_want_of_memory};
+ghost use Rattle.fv_hob.specs.HobChecks.{hob_out_of_memory};
 ghost use Rattle.fv_hob.specs.declared.hob.HobKind.TheVariants as kinds;
 ghost use Rattle.fv_hob.specs.Lists.{IsHobList, IsUsedHob};
 ghost use Rattle.fv_hob.specs.HobImage.{hob_fields, hob_spelled, list_spelled};
@@ -191,7 +191,7 @@ pub fn hob_bytes(alloc: Global, hobs: &HobList) -> Result<ByteList, HobFault>
 
     // They are these bytes.
     ensures bytes { IfOk result (λ b. b ≡ list_spelled hobs.now) }
-    ensures err { IfErr result (λ f. f ≡ hob_want_of_memory) }
+    ensures err { IfErr result (λ f. f ≡ hob_out_of_memory) }
 {
     let bytes = list_spelled(alloc, hobs.as_slice())?;
     Ok(ByteList::from_vec(bytes))

@@ -1,6 +1,7 @@
-pub mod FrameChecks
-pub mod FrameForms
-pub mod FrameVerdicts
+-- The definitions in the order in which they can be read.
 pub mod Frames
 pub mod SectionImage
+pub mod FrameChecks
+pub mod FrameForms
 pub mod Texts
+pub mod inner

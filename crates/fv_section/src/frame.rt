@@ -5,7 +5,7 @@ ghost use Rattle.fv_base.specs.Checks.{IsFirstFault};
 ghost use Rattle.fv_base.specs.Value.{le_at};
 ghost use Rattle.fv_section.specs.FrameChecks.{has_extended_size, section_header_len_at, section_size_at};
 ghost use Rattle.fv_section.specs.FrameChecks.{has_section_size, frame_checks};
-ghost use Rattle.fv_section.specs.FrameVerdicts.{frame_in, frame_verdict};
+ghost use Rattle.fv_section.specs.inner.FrameVerdicts.{frame_in, frame_verdict};
 ghost use Rattle.fv_section.specs.Frames.{FrameForm, FrameStandsAt};
 ghost use Rattle.fv_section.specs.FrameForms.{frame_form};
 

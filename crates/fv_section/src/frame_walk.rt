@@ -1,7 +1,7 @@
 //! A stream, split into its frames.
 
 ghost use Rattle.std.specs.Prelude.{◌≡◌, ◌≢◌, ◌+◌, ◌-◌, ◌<◌, ◌≤◌, min, ℕ, List, length, IfOk, IfErr};
-ghost use Rattle.fv_base.specs.Faults.{want_of_memory};
+ghost use Rattle.fv_base.specs.Faults.{out_of_memory};
 ghost use Rattle.fv_section.specs.FrameChecks.{IsFirstFrameFault};
 ghost use Rattle.fv_section.specs.Frames.{FrameForm, FramesWithin, Splits, frame_len, up_to_4};
 ghost use Rattle.fv_section.specs.FrameForms.{frame_form};
@@ -39,7 +39,7 @@ fn next_frame_at(stream: &[u8], frame: &Frame) -> (u64, u8)
 // The frames of a stream.
 fn frames_in(alloc: Global, stream: &[u8]) -> Result<Frames<'_>, Fault>
     ensures found { IfOk result (λ s. Splits s.0 s.1 stream.now) }
-    ensures first { IfErr result (λ f. f ≢ want_of_memory → IsFirstFrameFault stream.now f) }
+    ensures first { IfErr result (λ f. f ≢ out_of_memory → IsFirstFrameFault stream.now f) }
     ensures bound { IfErr result (λ f. f.place.offset ≤ length stream.now) }
     ensures some { IfErr result (λ _. 0 < length stream.now) }
 {
@@ -72,11 +72,11 @@ pub fn frames(alloc: Global, stream: &[u8]) -> Result<Frames<'_>, Fault>
 
     // If an error other than OutOfMemory is returned, it is not a stream of frames.
     ensures none { IfErr result
-        (λ f. f ≢ want_of_memory → (fs : List FrameForm) (tail : ℕ) → Splits fs tail stream.now → ⊥) }
+        (λ f. f ≢ out_of_memory → (fs : List FrameForm) (tail : ℕ) → Splits fs tail stream.now → ⊥) }
 
     // An error other than OutOfMemory names the first check that does not hold, where no frame
     // begins.
-    ensures first { IfErr result (λ f. f ≢ want_of_memory → IsFirstFrameFault stream.now f) }
+    ensures first { IfErr result (λ f. f ≢ out_of_memory → IsFirstFrameFault stream.now f) }
 
     // Frames and faults are within the stream.
     ensures lies { IfOk result (λ s. FramesWithin (length stream.now) s.0) }

@@ -1,4 +1,5 @@
-pub mod Does
+-- The definitions in the order in which they can be read.
 pub mod Options
 pub mod Refusals
 pub mod Words
+pub mod Does

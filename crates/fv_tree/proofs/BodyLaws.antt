@@ -13,21 +13,22 @@ use Rattle.std.proofs.lemmas.List.{length-drop}
 use Rattle.fv_file.specs.Cells.{CellForm, Valid, Pad, Dead, Stub, Free, Tiles, CellsWithin, IsCell, IsMadeUp, offset_of, cell_len}
 use Rattle.fv_file.proofs.Laws.{cell_span}
 use Rattle.fv_head.specs.declared.extent.Extent.{Extent}
-use Rattle.fv_tree.specs.ReadingParts.{HasFiles, StandIn, IsReadyFile, AllStored}
-use Rattle.fv_tree.specs.Denotes.{Streams, Stream, Pairs, MeansFile}
-use Rattle.fv_tree.specs.Files.{FileForm, files_in, alive_in, TopAtEnd, AreAlive, Alive, replaces}
+use Rattle.fv_tree.specs.inner.ReadingParts.{HasFiles, StandIn, IsReadyFile, AllStored}
+use Rattle.fv_tree.specs.Denotes.{Streams, Stream, Pairwise, MeansFile}
+use Rattle.fv_tree.specs.Files.{FileForm, files_in, current_in, TopAtEnd, AreCurrent, HasCurrent, replaces}
 use Rattle.fv_base.specs.declared.fault.Place.{Place}
 use Rattle.fv_tree.specs.FailingChecks.{First}
 use Rattle.fv_tree.specs.FirstFault.{Faulty, FileFault, NamesFault, BodyFault, OneOf}
 use Rattle.fv_tree.specs.Meaning.{FileMeaning}
-use Rattle.fv_tree.proofs.AliveLaws.{alive_none}
+use Rattle.fv_tree.proofs.CurrentLaws.{current_none}
 
 -- ---- the files as they lie in a volume
 
 -- the files of some cells are those of a volume of them
-pub alive_of : (length : ℕ) (cs : List CellForm) (standing files : List FileForm) → standing ≡ files_in cs → AreAlive length standing files
-    → Alive length cs files
-alive_of length cs standing files is h = subst (λ (fs : List FileForm). AreAlive length fs files) is h
+pub current_of : (length : ℕ) (cs : List CellForm) (standing files : List FileForm) → standing ≡ files_in cs
+    → AreCurrent length standing files
+    → HasCurrent length cs files
+current_of length cs standing files is h = subst (λ (fs : List FileForm). AreCurrent length fs files) is h
 
 module _ (e : Extent) (volume : List ℕ) (cs : List CellForm) where
   -- the only cells
@@ -35,39 +36,40 @@ module _ (e : Extent) (volume : List ℕ) (cs : List CellForm) where
   OnlyCells = (ds : List CellForm) → Tiles e.file_system e.polarity e.first ds (drop e.first volume) → ds ≡ cs
 
   -- their files are the only ones
-  pub stand_only : OnlyCells → (fs : List FileForm) → Alive e.length cs fs → (gs : List FileForm) → StandIn e volume gs → gs ≡ fs
-  stand_only only fs alive gs h =
-      h.alive.files_are ∙ ap (λ (ds : List CellForm). alive_in (files_in ds)) (only h.cells h.tiles) ∙ sym alive.files_are
+  pub stand_only : OnlyCells → (fs : List FileForm) → HasCurrent e.length cs fs → (gs : List FileForm) → StandIn e volume gs → gs ≡ fs
+  stand_only only fs current gs h =
+      h.current.files_are ∙ ap (λ (ds : List CellForm). current_in (files_in ds)) (only h.cells h.tiles) ∙ sym current.files_are
 
   -- where these have a fault, there are none
   pub stand_none : OnlyCells → (f : Fault) → NamesFault First e.length (files_in cs) f → (gs : List FileForm) → StandIn e volume gs → ⊥
   stand_none only f first gs h =
-      alive_none e.length cs f gs first (subst (λ (ds : List CellForm). Alive e.length ds gs) (only h.cells h.tiles) h.alive)
+      current_none e.length cs f gs first (subst (λ (ds : List CellForm). HasCurrent e.length ds gs) (only h.cells h.tiles) h.current)
 
 -- ---- what the files mean
 
 module _ (S : Streams) (e : Extent) (volume : List ℕ) where
-  pub body_found : (fs : List FileForm) (ms : List FileMeaning) → StandIn e volume fs → Pairs (MeansFile S) fs ms → HasFiles S e volume ms
+  pub body_found : (fs : List FileForm) (ms : List FileMeaning) → StandIn e volume fs → Pairwise (MeansFile S) fs ms
+      → HasFiles S e volume ms
   body_found fs ms stand pairs = record {
     cells = stand.cells;
     tiles = stand.tiles;
     files = fs;
-    alive = stand.alive;
+    current = stand.current;
     meanings = pairs;
   }
 
   standing : (ms : List FileMeaning) → (h : HasFiles S e volume ms) → StandIn e volume h.files
-  standing ms h = record { cells = h.cells; tiles = h.tiles; alive = h.alive }
+  standing ms h = record { cells = h.cells; tiles = h.tiles; current = h.current }
 
   pub body_only : (fs : List FileForm) → ((gs : List FileForm) → StandIn e volume gs → gs ≡ fs) → (ms : List FileMeaning)
-      → ((ts : List FileMeaning) → Pairs (MeansFile S) fs ts → ts ≡ ms) → (ts : List FileMeaning) → HasFiles S e volume ts → ts ≡ ms
+      → ((ts : List FileMeaning) → Pairwise (MeansFile S) fs ts → ts ≡ ms) → (ts : List FileMeaning) → HasFiles S e volume ts → ts ≡ ms
   body_only fs only ms one ts h =
-      one ts (subst (λ (gs : List FileForm). Pairs (MeansFile S) gs ts) (only h.files (standing ts h)) h.meanings)
+      one ts (subst (λ (gs : List FileForm). Pairwise (MeansFile S) gs ts) (only h.files (standing ts h)) h.meanings)
 
   pub body_none : (fs : List FileForm) → ((gs : List FileForm) → StandIn e volume gs → gs ≡ fs)
-      → ((ts : List FileMeaning) → Pairs (MeansFile S) fs ts → ⊥) → (ts : List FileMeaning) → HasFiles S e volume ts → ⊥
+      → ((ts : List FileMeaning) → Pairwise (MeansFile S) fs ts → ⊥) → (ts : List FileMeaning) → HasFiles S e volume ts → ⊥
   body_none fs only none ts h =
-      none ts (subst (λ (gs : List FileForm). Pairs (MeansFile S) gs ts) (only h.files (standing ts h)) h.meanings)
+      none ts (subst (λ (gs : List FileForm). Pairwise (MeansFile S) gs ts) (only h.files (standing ts h)) h.meanings)
 
   pub files_none : ((gs : List FileForm) → StandIn e volume gs → ⊥) → (ts : List FileMeaning) → HasFiles S e volume ts → ⊥
   files_none none ts h = none h.files (standing ts h)
@@ -76,10 +78,10 @@ module _ (S : Streams) (e : Extent) (volume : List ℕ) where
 pub files_first : (n : ℕ) (I : Faulty) (e : Extent) (volume : List ℕ) (at : Place) (fs : List FileForm) (g : Fault) → StandIn e volume fs
     → OneOf First (MeansFile (Stream n)) (λ f. FileFault I g f at) fs → BodyFault First n I e g volume at
 files_first n I e volume at fs g stand first =
-    let alive = stand.alive in
+    let current = stand.current in
     let P : List FileForm → Type 0 = λ l. OneOf First (MeansFile (Stream n)) (λ f. FileFault I g f at) l in
-    let top = subst (TopAtEnd e.length) alive.files_are alive.top in
-    inr (stand.cells, stand.tiles, (alive.no_twins, top), subst P alive.files_are first)
+    let top = subst (TopAtEnd e.length) current.files_are current.top in
+    inr (stand.cells, stand.tiles, (current.no_twins, top), subst P current.files_are first)
 
 -- ---- every file stands in some bytes
 
@@ -112,11 +114,11 @@ stored_in s p at base end (c ∷ cs) b small short fits (x, rest, text, is, o, f
 
 pub files_stored : (e : Extent) (volume : List ℕ) (base : ℕ) (cs : List CellForm) (fs : List FileForm) → IsBytes volume
     → length volume ≤ volume_limit → base + length volume < 2 ^ 63
-    → Tiles e.file_system e.polarity e.first cs (drop e.first volume) → CellsWithin (length volume) cs → Alive e.length cs fs
+    → Tiles e.file_system e.polarity e.first cs (drop e.first volume) → CellsWithin (length volume) cs → HasCurrent e.length cs fs
     → AllStored base fs
-files_stored e volume base cs fs small short fits tiles within alive =
+files_stored e volume base cs fs small short fits tiles within current =
     let short' : length (drop e.first volume) ≤ volume_limit = omega (arith, length-drop e.first volume, short) in
     let all = stored_in e.file_system e.polarity e.first base (length volume) cs (drop e.first volume)
     (bytes_drop e.first volume small) short' fits tiles within in
-    subst (AllStored base) (sym alive.files_are) (all_filter (λ f. not (list_any (replaces f) (files_in cs))) (IsReadyFile base)
+    subst (AllStored base) (sym current.files_are) (all_filter (λ f. not (list_any (replaces f) (files_in cs))) (IsReadyFile base)
     (files_in cs) all)

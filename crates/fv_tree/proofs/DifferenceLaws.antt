@@ -13,7 +13,7 @@ use Rattle.fv_base.specs.declared.flash.FileSystem.{FileSystem}
 use Rattle.fv_head.specs.Ext.{Extension}
 use Rattle.fv_head.specs.Head.{HeadFields}
 use Rattle.fv_tree.specs.FileSystems.{is_ffs3}
-use Rattle.fv_tree.specs.Codes.{system_by, system_back}
+use Rattle.fv_tree.specs.inner.Codes.{system_by, system_back}
 use Rattle.fv_tree.specs.Difference.{Differs, unless_one, or_else, under, blocks_eq, entries_eq, ext_eq}
 use Rattle.fv_tree.specs.Difference.{head_differs, difference, files_differ, file_differs, content_differs}
 use Rattle.fv_tree.specs.Difference.{sections_differ, section_differs, body_differs}

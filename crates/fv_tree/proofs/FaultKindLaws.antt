@@ -17,7 +17,7 @@ use Rattle.fv_head.specs.declared.extent.Extent.{Extent}
 use Rattle.fv_section.specs.FrameChecks.{frame_checks}
 use Rattle.fv_section.specs.Frames.{FrameForm}
 use Rattle.fv_base.specs.declared.fault.Place.{Place}
-use Rattle.fv_tree.specs.Denotes.{depth_limit}
+use Rattle.fv_base.specs.Limits.{depth_limit}
 use Rattle.fv_tree.specs.FailingChecks.{Any, Fails}
 use Rattle.fv_tree.specs.FirstFault.{Moved, LayoutFault, InSection, InStream, InVolume, FaultStands, outermost}
 use Rattle.fv_base.proofs.Laws.{in_middle}

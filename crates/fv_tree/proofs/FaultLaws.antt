@@ -7,7 +7,7 @@ use Rattle.fv_file.specs.FileChecks.{cell_checks}
 use Rattle.fv_head.specs.declared.extent.Extent.{Extent}
 use Rattle.fv_section.specs.FrameChecks.{frame_checks}
 use Rattle.fv_section.specs.Frames.{FrameForm}
-use Rattle.fv_tree.specs.Denotes.{depth_limit}
+use Rattle.fv_base.specs.Limits.{depth_limit}
 use Rattle.fv_tree.specs.FailingChecks.{First, Any, GuardsHold, Fails, FrameFault, CellFault}
 use Rattle.fv_tree.specs.Files.{FileForm}
 use Rattle.fv_tree.specs.FirstFault.{Moved, OneOf, NamesFault, LayoutFault, FileFault, data_at, outermost}

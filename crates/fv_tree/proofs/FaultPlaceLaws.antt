@@ -7,7 +7,7 @@ use Rattle.std.proofs.lemmas.List.{length-drop, length-take-le}
 use Rattle.std.proofs.lemmas.Bool.{leb-true}
 use Rattle.fv_base.proofs.Laws.{all_filter, and_split, first_among, in_middle}
 use Rattle.fv_base.specs.Checks.{Check, check, IsFirstFault}
-use Rattle.fv_base.specs.Faults.{want_of_memory}
+use Rattle.fv_base.specs.Faults.{out_of_memory}
 use Rattle.fv_base.specs.Flash.{erased_byte}
 use Rattle.fv_base.specs.declared.fault.Fault.{Fault}
 use Rattle.fv_base.specs.declared.fault.FaultKind.TheVariants as kinds
@@ -28,9 +28,9 @@ use Rattle.fv_section.specs.FrameChecks as section
 use Rattle.fv_section.specs.Frames.{FrameForm, frame_len}
 use Rattle.fv_section.specs.Frames as framed
 use Rattle.fv_section.proofs.Laws.{whole_within}
-use Rattle.fv_tree.specs.Denotes.{depth_limit}
+use Rattle.fv_base.specs.Limits.{depth_limit}
 use Rattle.fv_tree.specs.FailingChecks.{First}
-use Rattle.fv_tree.specs.Files.{FileForm, files_in, alive_in, replaces}
+use Rattle.fv_tree.specs.Files.{FileForm, files_in, current_in, replaces}
 use Rattle.fv_tree.specs.FirstFault.{Moved, NamesFault, LayoutFault, BodyFault, InSection, InStream, InVolume, IsFirstOfVolume}
 use Rattle.fv_tree.specs.FirstFault.{data_at, data_place, outermost}
 use Rattle.fv_tree.proofs.NameLaws.{files_within, top_within, twin_within}
@@ -58,8 +58,8 @@ module _ (at : ℕ) (r : List ℕ) where
   Low c = c.fault.place.offset ≤ at + length r
 
   -- of the checks of a file
-  file_within : (s : FileSystem) (alive : Bool) → 24 ≤ length r → AllByRecursion Low (file.file_checks s alive at r)
-  file_within s alive long =
+  file_within : (s : FileSystem) (current : Bool) → 24 ≤ length r → AllByRecursion Low (file.file_checks s current at r)
+  file_within s current long =
       (omega (arith, long), (omega (arith, long), (omega arith, (omega (arith, long), (omega (arith, long), (omega (arith, long), tt))))))
 
   -- of those that a cell's state asks for
@@ -137,8 +137,8 @@ names_within : (end len : ℕ) (fs : List FileForm) (f : Fault) → AllByRecursi
 names_within end len fs f starts (inl (x, twin, is)) =
     subst (λ (g : Fault). g.place.offset ≤ end) (sym is) (twin_within First end x fs starts twin)
 names_within end len fs f starts (inr (none, x, top, is)) =
-    let alive = all_filter (λ f. not (list_any (replaces f) fs)) (λ (f : FileForm). f.offset ≤ end) fs starts in
-    subst (λ (g : Fault). g.place.offset ≤ end) (sym is) (top_within end len x (alive_in fs) alive top)
+    let current = all_filter (λ f. not (list_any (replaces f) fs)) (λ (f : FileForm). f.offset ≤ end) fs starts in
+    subst (λ (g : Fault). g.place.offset ≤ end) (sym is) (top_within end len x (current_in fs) current top)
 
 module _ (x : Extent) (v : List ℕ) (end : x.first + length (drop x.first v) ≡ length v) where
   -- the cells that tile a body lie within the volume
@@ -174,8 +174,8 @@ module _ (n : ℕ) (low : SectionLies n) (e : Fault) (at : Place) where
   body_by x v end (inl moved) = moved_lies _ at (length v) n e (layout_within x v end) moved
   body_by x v end (inr (cells, tiles, right, (before, f, behind, is, read, (holds, first)))) =
       let ends = files_end (length v) cells (cells_lie x v end cells tiles) in
-      let alive = all_filter (λ f. not (list_any (replaces f) (files_in cells))) (EndsBy (length v)) (files_in cells) ends in
-      let fits = in_middle (EndsBy (length v)) before f behind (subst (AllByRecursion (EndsBy (length v))) is alive) in
+      let current = all_filter (λ f. not (list_any (replaces f) (files_in cells))) (EndsBy (length v)) (files_in cells) ends in
+      let fits = in_middle (EndsBy (length v)) before f behind (subst (AllByRecursion (EndsBy (length v))) is current) in
       let lies = stream_by n low e f.payload (data_at at f) first in
       (omega (arith, lies.0, fits), lies.1)
 
@@ -206,10 +206,10 @@ pub first_within : (b : List ℕ) (e : Fault) → IsFirstOfVolume b e → (e.pla
 first_within b e first =
     let lies = volume_by depth_limit (section_lies depth_limit) e outermost b first in (omega (arith, lies.0), omega (arith, lies.1))
 
--- and so does what an answer refuses, which is their first fault or want of memory
-pub refused_within : (b : List ℕ) (e : Fault) → (e ≢ want_of_memory → IsFirstOfVolume b e)
+-- and so does what an answer refuses, which is their first fault or out of memory
+pub refused_within : (b : List ℕ) (e : Fault) → (e ≢ out_of_memory → IsFirstOfVolume b e)
     → (e.place.offset ≤ length b) × (e.place.depth ≤ depth_limit)
 refused_within b e first = go (want_known e) where
-  go : (e ≡ want_of_memory) ⊎ (e ≢ want_of_memory) → (e.place.offset ≤ length b) × (e.place.depth ≤ depth_limit)
+  go : (e ≡ out_of_memory) ⊎ (e ≢ out_of_memory) → (e.place.offset ≤ length b) × (e.place.depth ≤ depth_limit)
   go (inl want) = subst (λ (g : Fault). (g.place.offset ≤ length b) × (g.place.depth ≤ depth_limit)) (sym want) (omega arith, omega arith)
   go (inr other) = first_within b e (first other)

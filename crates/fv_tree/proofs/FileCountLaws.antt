@@ -7,7 +7,7 @@ use Rattle.std.proofs.lemmas.List.{length-drop}
 use Rattle.fv_file.specs.Cells.{CellForm, Valid, Pad, Dead, Stub, Free}
 use Rattle.fv_file.proofs.Laws.{cells_few}
 use Rattle.fv_head.proofs.Laws.{front_lies}
-use Rattle.fv_tree.specs.Denotes.{Pairs, Stream, Denotes, MeansFile, IsMeaning}
+use Rattle.fv_tree.specs.Denotes.{Pairwise, Stream, Denotes, MeansFile, IsMeaning}
 use Rattle.fv_tree.specs.Files.{FileForm, files_in, replaces}
 use Rattle.fv_tree.specs.Meaning.{Meaning, files_of, head_of}
 
@@ -26,7 +26,7 @@ filter_few test (f ∷ fs) = go (test f) (filter_few test fs) where
   go true h = omega (arith, h)
   go false h = omega (arith, h)
 
-pairs_length : {A B : Type 0} (R : A → B → Type 0) (xs : List A) (ys : List B) → Pairs R xs ys → length ys ≡ length xs
+pairs_length : {A B : Type 0} (R : A → B → Type 0) (xs : List A) (ys : List B) → Pairwise R xs ys → length ys ≡ length xs
 pairs_length R [] [] p = refl
 pairs_length R [] (y ∷ ys) p = absurd p
 pairs_length R (x ∷ xs) [] p = absurd p
@@ -42,7 +42,7 @@ few_files n b m d =
       length-drop d.extent.first b,
       files_few d.cells,
       all,
-      ap length d.alive.files_are,
+      ap length d.current.files_are,
       pairs_length (MeansFile
           (Stream n)) d.files (files_of m) d.meanings,
     )

@@ -1,7 +1,7 @@
 -- A file is read by its type.
 use Rattle.std.proofs.Common.{◌≡◌, ℕ, List, Bool, true, false, refl, sym, ap, ◌∙◌, subst}
 use Rattle.fv_file.specs.Attributes.{attribute_bits, without_large}
-use Rattle.fv_tree.specs.ReadingParts.{ReadsContent}
+use Rattle.fv_tree.specs.inner.ReadingParts.{ReadsContent}
 use Rattle.fv_tree.specs.Denotes.{holds_sections, Stream, MeansContent, MeansFile}
 use Rattle.fv_tree.specs.Files.{FileForm}
 use Rattle.fv_tree.specs.Meaning.{FileMeaning, File, ContentMeaning, Plain, Sectioned, SectionMeaning, sections_list, sections_from}

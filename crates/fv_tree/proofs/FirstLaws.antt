@@ -2,7 +2,7 @@
 use Rattle.std.proofs.Common.{◌≡◌, ◌≢◌, ◌≤◌, ℕ, zero, suc, List, length, take, drop, refl, sym, ap, ◌∙◌, subst, inl, inr}
 use Rattle.std.specs.Prelude.{Result, Ok, Err, IfOk, IfErr}
 use Rattle.fv_base.proofs.Laws.{none_faulty, not_first}
-use Rattle.fv_base.specs.Faults.{outer_fault, want_of_memory}
+use Rattle.fv_base.specs.Faults.{outer_fault, out_of_memory}
 use Rattle.fv_base.specs.declared.fault.Fault.{Fault}
 use Rattle.fv_base.specs.declared.fault.FaultKind.TheVariants as kinds
 use Rattle.fv_base.specs.declared.fault.Place.{Place}
@@ -15,13 +15,14 @@ use Rattle.fv_head.proofs.Laws.{front_holds, one_front}
 use Rattle.fv_section.specs.Frames.{FrameForm}
 use Rattle.fv_section.proofs.Laws.{one_split}
 use Rattle.fv_section.proofs.Laws as framed
-use Rattle.fv_tree.specs.Denotes.{MeansFile, MeansSection, Stream, Denotes, depth_limit}
+use Rattle.fv_base.specs.Limits.{depth_limit}
+use Rattle.fv_tree.specs.Denotes.{MeansFile, MeansSection, Stream, Denotes}
 use Rattle.fv_tree.specs.FailingChecks.{First}
-use Rattle.fv_tree.specs.Files.{FileForm, Alive, NoTwins, TopAtEnd, files_in, alive_in}
+use Rattle.fv_tree.specs.Files.{FileForm, HasCurrent, NoTwins, TopAtEnd, files_in, current_in}
 use Rattle.fv_tree.specs.FirstFault.{moved_fault, Moved, OneOf, NamesFault, LayoutFault, FileFault, BodyFault, data_at, outermost}
 use Rattle.fv_tree.specs.FirstFault.{InSection, InStream, InVolume, IsFirstOfVolume}
 use Rattle.fv_tree.specs.Meaning.{Meaning, length_of}
-use Rattle.fv_tree.proofs.AliveLaws.{twin_none}
+use Rattle.fv_tree.proofs.CurrentLaws.{twin_none}
 use Rattle.fv_tree.proofs.OneFaultLaws.{one_cell_fault, one_frame_fault}
 use Rattle.fv_tree.proofs.ListCuts.{one_fault, first_of_once}
 use Rattle.fv_tree.proofs.RefusalLaws.{StreamRefuses, layout_by, file_by, section_refuses, stream_refuses, first_refuses}
@@ -57,9 +58,9 @@ layout_once x volume e g (inr (cells, tiles, names)) (inr (others, tiles', names
     names_once x.length (files_in cells) e g names (subst P same names')
 
 -- the files of cells that are all right
-alive : (len : ℕ) (cells : List CellForm) → NoTwins (files_in cells) × TopAtEnd len (alive_in (files_in cells))
-    → Alive len cells (alive_in (files_in cells))
-alive len cells right = record { no_twins = right.0; files_are = refl; top = right.1 }
+current : (len : ℕ) (cells : List CellForm) → NoTwins (files_in cells) × TopAtEnd len (current_in (files_in cells))
+    → HasCurrent len cells (current_in (files_in cells))
+current len cells right = record { no_twins = right.0; files_are = refl; top = right.1 }
 
 -- ---- by what stands inside
 
@@ -89,16 +90,16 @@ module _ (n : ℕ) (refused : StreamRefuses n) (once : StreamOnce n) (e g : Faul
       → BodyFault First n (InStream First n) x g volume at → e ≡ g
   body_once x volume (inl moved) (inl moved') = moved_once _ (layout_once x volume) at e g moved moved'
   body_once x volume (inl (f, first, is)) (inr (cells, tiles, right, _)) =
-      absurd (layout_by x volume f cells _ first tiles (alive x.length cells right))
+      absurd (layout_by x volume f cells _ first tiles (current x.length cells right))
   body_once x volume (inr (cells, tiles, right, _)) (inl (f, first, is)) =
-      absurd (layout_by x volume f cells _ first tiles (alive x.length cells right))
+      absurd (layout_by x volume f cells _ first tiles (current x.length cells right))
   body_once x volume (inr (cells, tiles, right, first)) (inr (others, tiles', right', first')) =
       let same : others ≡ cells = only_one x.file_system x.polarity x.first (drop x.first volume) cells others tiles tiles' in
       let Q : List CellForm → Type 0 =
-      λ cs. OneOf First (MeansFile (Stream n)) (λ f. FileFault (InStream First n) g f at) (alive_in (files_in cs)) in
+      λ cs. OneOf First (MeansFile (Stream n)) (λ f. FileFault (InStream First n) g f at) (current_in (files_in cs)) in
       let one =
       first_of_once (MeansFile (Stream n)) (λ f. FileFault (InStream First n) e f at) (λ f. FileFault (InStream First n) g f at)
-      (alive_in (files_in cells)) (file_by n refused e at) (file_by n refused g at) first (subst Q same first') in
+      (current_in (files_in cells)) (file_by n refused e at) (file_by n refused g at) first (subst Q same first') in
       once e g (one.0).payload (data_at at one.0) one.1.1 one.2.1
 
   -- of bytes that are to begin with a volume
@@ -129,9 +130,9 @@ first_once n e g b at first first' = volume_once n (stream_refuses n) (stream_on
 
 -- ---- an answer
 
--- where bytes have a first fault, an answer is it, or want of memory
+-- where bytes have a first fault, an answer is it, or out of memory
 pub one_answer : (b : List ℕ) (r : Result (Meaning × ℕ) Fault) → IfOk r (λ v. Denotes depth_limit (take v.1 b) v.0)
-    → IfOk r (λ v. (v.1 ≡ length_of v.0) × (v.1 ≤ length b)) → IfErr r (λ g. g ≢ want_of_memory → IsFirstOfVolume b g)
-    → (f : Fault) → IsFirstOfVolume b f → IfOk r (λ v. ⊥) × IfErr r (λ g. g ≢ want_of_memory → g ≡ f)
+    → IfOk r (λ v. (v.1 ≡ length_of v.0) × (v.1 ≤ length b)) → IfErr r (λ g. g ≢ out_of_memory → IsFirstOfVolume b g)
+    → (f : Fault) → IsFirstOfVolume b f → IfOk r (λ v. ⊥) × IfErr r (λ g. g ≢ out_of_memory → g ≡ f)
 one_answer b (Ok v) found within first f is = (first_refuses depth_limit v.1 f b outermost v.0 within.1 is found, tt)
 one_answer b (Err g) found within first f is = (tt, λ ne. first_once depth_limit g f b outermost (first ne) is)

@@ -24,14 +24,14 @@ use Rattle.fv_base.specs.Value.{IsBytes, field}
 use Rattle.fv_base.specs.declared.guid.Guid.{Guid}
 use Rattle.fv_base.proofs.Laws.{bytes_drop, bytes_take, first_or_behind, one_behind, or_both}
 use Rattle.fv_file.specs.declared.state.FileState.TheVariants as states
-use Rattle.fv_tree.specs.Denotes.{MeansFile, Pairs, Streams}
-use Rattle.fv_tree.specs.Files.{FileForm, NoTwins, alive_in, is_marked, is_twin, replaces, same_name}
+use Rattle.fv_tree.specs.Denotes.{MeansFile, Pairwise, Streams}
+use Rattle.fv_tree.specs.Files.{FileForm, NoTwins, current_in, is_marked, is_twin, replaces, same_name}
 use Rattle.fv_tree.specs.Meaning.{FileMeaning, File, file_name_of}
 use Rattle.fv_tree.specs.FileNames.{Entry, Halves, IsIndex, IsName, entry_cmp, halves_cmp, halves_of, is_named, numbered}
-use Rattle.fv_tree.specs.NameOrders.{names_in, number_from}
-use Rattle.fv_tree.specs.StandingForms.{file_form}
-use Rattle.fv_tree.specs.declared.volume_files.Standing.{Standing}
-use Rattle.fv_tree.proofs.AliveLaws.{same_name_back}
+use Rattle.fv_tree.specs.inner.NameOrders.{names_in, number_from}
+use Rattle.fv_tree.specs.inner.LocatedFiles.{file_form}
+use Rattle.fv_tree.specs.declared.volume_files.LocatedFile.{LocatedFile}
+use Rattle.fv_tree.proofs.CurrentLaws.{same_name_back}
 
 -- ---- the order
 
@@ -150,7 +150,7 @@ all_push [] name all whole = (whole, tt)
 all_push (m ∷ names) name all whole = (all.0, all_push names name all.1 whole)
 
 -- what a loop over files reads past their end
-abbrev pub no_file : Standing
+abbrev pub no_file : LocatedFile
 no_file = record {
   offset = 0;
   head = record {
@@ -166,7 +166,7 @@ no_file = record {
   payload = record { ref_ptr = (0, 0); now = [] };
 }
 
-module _ (files : List Standing) (i : ℕ) where
+module _ (files : List LocatedFile) (i : ℕ) where
   abbrev names : List Guid
   names = names_in (map file_form files)
 
@@ -176,7 +176,7 @@ module _ (files : List Standing) (i : ℕ) where
   pub count_taken : i ≤ length files → length (numbered 0 (take i (names_in (map file_form files)))) ≡ i
   count_taken l = numbered_length 0 (take i names) ∙ length-take-le i names (omega (arith, l, names_length))
 
-  pub more_entries : (d : Standing) → i < length files → numbered 0 (take (i + 1) (names_in (map file_form files)))
+  pub more_entries : (d : LocatedFile) → i < length files → numbered 0 (take (i + 1) (names_in (map file_form files)))
       ≡ numbered 0 (take i (names_in (map file_form files))) ++ (halves_of (get_or files i d).head.name, i) ∷ []
   more_entries d l =
       let lt : i < length names = omega (arith, l, names_length) in
@@ -189,7 +189,7 @@ module _ (files : List Standing) (i : ℕ) where
       ∙ ap (λ (n : Guid). numbered 0 (take i names) ++ (halves_of n, 0 + length (take i names)) ∷ []) is
       ∙ ap (λ (k : ℕ). numbered 0 (take i names) ++ (halves_of (get_or files i d).head.name, k) ∷ []) count
 
-  pub more_whole : (d : Standing) → i < length files → AllByRecursion IsName (take i (names_in (map file_form files)))
+  pub more_whole : (d : LocatedFile) → i < length files → AllByRecursion IsName (take i (names_in (map file_form files)))
       → IsName (get_or files i d).head.name → AllByRecursion IsName (take (i + 1) (names_in (map file_form files)))
   more_whole d l all whole =
       let lt : i < length names = omega (arith, l, names_length) in
@@ -346,7 +346,8 @@ module _ (es : List Entry) (name : Guid) (fs : List FileMeaning) (whole : IsName
 -- ---- the names of files
 
 -- what files mean has their names
-pub read_names : (S : Streams) (fs : List FileForm) (ms : List FileMeaning) → Pairs (MeansFile S) fs ms → map file_name_of ms ≡ names_in fs
+pub read_names : (S : Streams) (fs : List FileForm) (ms : List FileMeaning) → Pairwise (MeansFile S) fs ms
+    → map file_name_of ms ≡ names_in fs
 read_names S [] [] p = refl
 read_names S [] (m ∷ ms) p = absurd p
 read_names S (f ∷ fs) [] p = absurd p
@@ -483,6 +484,6 @@ pub alone_twins : (fs : List FileForm) (es : List Entry) → IsIndex (names_in f
     → IsDistinct (eq_by_cmp halves_cmp) (map (λ (e : Entry). e.0) es) → NoTwins fs
 alone_twins fs es index h = distinct_twins fs (distinct_names (names_in fs) es index h)
 
-pub alone_alive : (fs : List FileForm) (es : List Entry) → IsIndex (names_in fs) es
-    → IsDistinct (eq_by_cmp halves_cmp) (map (λ (e : Entry). e.0) es) → alive_in fs ≡ fs
-alone_alive fs es index h = filter_kept (λ f. list_any (replaces f) fs) fs (all_kept fs (distinct_names (names_in fs) es index h))
+pub alone_current : (fs : List FileForm) (es : List Entry) → IsIndex (names_in fs) es
+    → IsDistinct (eq_by_cmp halves_cmp) (map (λ (e : Entry). e.0) es) → current_in fs ≡ fs
+alone_current fs es index h = filter_kept (λ f. list_any (replaces f) fs) fs (all_kept fs (distinct_names (names_in fs) es index h))

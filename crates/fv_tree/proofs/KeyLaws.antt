@@ -9,9 +9,9 @@ use Rattle.std.proofs.lemmas.List.FromFn.{length-range_with_len}
 use Rattle.std.proofs.lemmas.List.Sorted.{Contains-permutation, IsPermutation-map, IsPermutation-sym, length_permutation}
 use Rattle.std.proofs.lemmas.Nat.{mod-mul-add, one_shl, or_shifted, shr_split}
 use Rattle.fv_tree.specs.FileNames.{Entry, Halves, halves_of, numbered}
-use Rattle.fv_tree.specs.NameOrders.{key_of, names_in}
-use Rattle.fv_tree.specs.StandingForms.{file_form}
-use Rattle.fv_tree.specs.declared.volume_files.Standing.{Standing}
+use Rattle.fv_tree.specs.inner.NameOrders.{key_of, names_in}
+use Rattle.fv_tree.specs.inner.LocatedFiles.{file_form}
+use Rattle.fv_tree.specs.declared.volume_files.LocatedFile.{LocatedFile}
 use Rattle.fv_tree.proofs.IndexLaws.{all_taken, more_entries, no_file}
 
 -- ---- a key
@@ -51,7 +51,7 @@ range_below a zero x (k, l, e) = omega (arith, l)
 range_below a (suc n) x (zero, l, e) = let same : a ≡ x = e in omega (arith, same)
 range_below a (suc n) x (suc k, l, e) = omega (arith, range_below (a + 1) n x (k, omega (arith, l), e))
 
-module _ (files : List Standing) where
+module _ (files : List LocatedFile) where
   -- the entry of the file of a number
   abbrev pub entry_at : ℕ → Entry
   entry_at n = (halves_of (get_or files n no_file).head.name, n)
@@ -100,7 +100,7 @@ module _ (files : List Standing) where
         (IsPermutation-map entry_at (range_with_len 0 (length files)) (map f keys) all))
 
 -- the number in a key is that of a file
-pub file_within : (files : List Standing) (bits : ℕ) (keys stored : List ℕ) (i : ℕ) → bits < 64 → keys ≡ stored
+pub file_within : (files : List LocatedFile) (bits : ℕ) (keys stored : List ℕ) (i : ℕ) → bits < 64 → keys ≡ stored
     → IsPermutation (range_with_len 0 (length files)) (map (λ (key : ℕ). key % 2 ^ bits) stored) → i < length keys
     → get_or keys i 0 % (1 * 2 ^ bits % 2 ^ 64) < length files
 file_within files bits keys stored i small same all l =

@@ -16,9 +16,9 @@ pub use Rattle.fv_tree.proofs.SizeLaws.{file_content_falls}
 
 -- a volume that bytes begin with has its front there, and the files of any front that they begin with
 pub use Rattle.fv_tree.proofs.VolumeLaws.{front_of, has_files}
--- alive files have different names; two have one name, whichever is first
+-- current files have different names; two have one name, whichever is first
 pub use Rattle.fv_tree.proofs.TwinLaws.{names_differ}
-pub use Rattle.fv_tree.proofs.AliveLaws.{same_name_back}
+pub use Rattle.fv_tree.proofs.CurrentLaws.{same_name_back}
 -- ---- a fault
 
 -- bytes have one first fault at most, and none where they begin with a volume; its condition stands
@@ -27,7 +27,7 @@ pub use Rattle.fv_tree.proofs.RefusalLaws.{first_refuses}
 pub use Rattle.fv_tree.proofs.FaultLaws.{fault_stands}
 -- it lies within the bytes, or at their end
 pub use Rattle.fv_tree.proofs.FaultPlaceLaws.{first_within}
--- a fault is want of memory, or it is not
+-- a fault is out of memory, or it is not
 pub use Rattle.fv_tree.proofs.WantLaws.{want_known}
 -- the kinds of the faults of reading
 pub use Rattle.fv_tree.proofs.FaultKindLaws.{OfReading, stands_kind, is_reading, stands_reading, stands_other}

@@ -4,7 +4,7 @@ use Rattle.std.proofs.Common.{arith, length-append}
 use Rattle.fv_base.specs.declared.guid.Guid.{Guid}
 use Rattle.fv_section.specs.Frames.{FrameForm, SplitsFrom, frame_len, up_to_4}
 use Rattle.fv_section.proofs.Laws.{length_begun}
-use Rattle.fv_tree.specs.Denotes.{Pairs, Sections, Streams, StreamOver, VolumeOver, SectionOver, MeansSection, Stream}
+use Rattle.fv_tree.specs.Denotes.{Pairwise, Sections, Streams, StreamOver, VolumeOver, SectionOver, MeansSection, Stream}
 use Rattle.fv_tree.specs.Denotes.{MeansFile}
 use Rattle.fv_tree.specs.Files.{FileForm}
 use Rattle.fv_tree.specs.Meaning.{Meaning, Volume, File, ContentMeaning, Plain, Sectioned, SectionMeaning, Section}
@@ -17,7 +17,8 @@ AsLong R = (f : FrameForm) (s : SectionMeaning) → R f s → section_len s ≡ 
 
 from_long : (R : Sections) → AsLong R → (at end : ℕ) (f : FrameForm) (fs : List FrameForm) (s : SectionMeaning) (ss : SectionMeanings)
     (tail : ℕ) (b : List ℕ) → up_to_4 end ≡ at
-    → SplitsFrom at (f ∷ fs) tail b → Pairs R (f ∷ fs) (s ∷ sections_list ss) → sections_end end (MoreSections s ss) + tail ≡ at + length b
+    → SplitsFrom at (f ∷ fs) tail b → Pairwise R (f ∷ fs) (s ∷ sections_list ss) → sections_end end (MoreSections s ss) + tail ≡ at +
+    length b
 from_long R each at end f [] s NoSections tail b e (rest, begun, o, t, most) (r, _) =
     let long = length_begun f b rest begun in
     let same = each f s r in

@@ -1,4 +1,4 @@
-pub mod AliveLaws
+pub mod CurrentLaws
 pub mod BodyLaws
 pub mod DifferenceLaws
 pub mod DifferenceWalkLaws

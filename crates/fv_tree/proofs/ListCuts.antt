@@ -2,7 +2,7 @@
 use Rattle.std.proofs.Common.{◌≡◌, ◌⊎◌, Bool, true, false, List, [], ◌∷◌, ◌++◌, refl, sym, ap, ◌∙◌, subst, inl, inr}
 use Rattle.std.specs.List.{AllByRecursion}
 use Rattle.fv_base.specs.Checks.{Check, AllHold, IsFirstFault}
-use Rattle.fv_tree.specs.Denotes.{Pairs}
+use Rattle.fv_tree.specs.Denotes.{Pairwise}
 use Rattle.fv_tree.specs.FailingChecks.{First}
 use Rattle.fv_tree.specs.FirstFault.{OneOf}
 use Rattle.fv_base.proofs.Laws.{in_middle}
@@ -68,7 +68,7 @@ one_fault {F} cs f g (before, c, after, is, held, fails, fault) (before', d, aft
 
 -- an item that is paired with nothing stands in no list of pairs
 not_paired : {A B : Type 0} (R : A → B → Type 0) (before : List A) (x : A) (after : List A) (ys : List B) → ((y : B) → R x y → ⊥)
-    → Pairs R (before ++ (x ∷ after)) ys → ⊥
+    → Pairwise R (before ++ (x ∷ after)) ys → ⊥
 not_paired R [] x after [] bad p = p
 not_paired R [] x after (y ∷ ys) bad p = bad y p.0
 not_paired R (z ∷ zs) x after [] bad p = p
@@ -76,9 +76,9 @@ not_paired R (z ∷ zs) x after (y ∷ ys) bad p = not_paired R zs x after ys ba
 
 -- where one item is refused, not all are read
 pub first_of_none : {A B : Type 0} (R : A → B → Type 0) (fault : A → Type 0) (xs : List A) (ys : List B)
-    → ((x : A) (y : B) → fault x → R x y → ⊥) → OneOf First R fault xs → Pairs R xs ys → ⊥
+    → ((x : A) (y : B) → fault x → R x y → ⊥) → OneOf First R fault xs → Pairwise R xs ys → ⊥
 first_of_none {A} R fault xs ys bad (before, x, after, is, (read, pairs), here) all =
-    not_paired R before x after ys (λ y r. bad x y here r) (subst (λ (l : List A). Pairs R l ys) is all)
+    not_paired R before x after ys (λ y r. bad x y here r) (subst (λ (l : List A). Pairwise R l ys) is all)
 
 -- two faults of the first item that is refused are faults of one item
 pub first_of_once : {A B : Type 0} (R : A → B → Type 0) (P Q : A → Type 0) (xs : List A) → ((x : A) (y : B) → P x → R x y → ⊥)
@@ -89,6 +89,6 @@ first_of_once {A} R P Q xs no_p no_q (before, x, after, is, (read, pairs), p) (b
     go : TwoCuts before x after before' y after' → (z : A) × P z × Q z
     go (inl (same, item)) = (x, p, subst Q (sym item) q)
     go (inr (inl (mid, late, rest))) =
-        absurd (not_paired R before x mid read' (λ z r. no_p x z p r) (subst (λ (l : List A). Pairs R l read') late pairs'))
+        absurd (not_paired R before x mid read' (λ z r. no_p x z p r) (subst (λ (l : List A). Pairwise R l read') late pairs'))
     go (inr (inr (mid, late, rest))) =
-        absurd (not_paired R before' y mid read (λ z r. no_q y z q r) (subst (λ (l : List A). Pairs R l read) late pairs))
+        absurd (not_paired R before' y mid read (λ z r. no_q y z q r) (subst (λ (l : List A). Pairwise R l read) late pairs))

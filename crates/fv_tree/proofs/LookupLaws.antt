@@ -6,7 +6,7 @@ use Rattle.std.specs.List.{filter}
 use Rattle.std.proofs.lemmas.List.{drop_more}
 use Rattle.std.proofs.lemmas.Bool.Decides.{Decides-eqb}
 use Rattle.fv_tree.specs.LookupInstances.{instance_of, of_type, preorder, inside_section}
-use Rattle.fv_tree.specs.Searches.{sought}
+use Rattle.fv_tree.specs.inner.Searches.{sought}
 use Rattle.fv_tree.specs.Meaning.{SectionMeaning, sections_from, section_kind_of}
 
 pub instance_at : {A : Type 0} (n k : ℕ) (xs : List A) → n ≡ k + 1 → instance_of n xs ≡ slice_get xs k

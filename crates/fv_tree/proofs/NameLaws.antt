@@ -14,7 +14,7 @@ use Rattle.std.proofs.lemmas.List.{take-append-drop, drop_more, take_more, lengt
 use Rattle.std.proofs.lemmas.List.Folds.{list_any-append}
 use Rattle.std.proofs.lemmas.Map.Text.{is_eq-slice_cmp}
 use Rattle.std.proofs.lemmas.Slice.Eq.{bytes_eq-Decides}
-use Rattle.fv_base.specs.Faults.{outer_fault, want_of_memory}
+use Rattle.fv_base.specs.Faults.{outer_fault, out_of_memory}
 use Rattle.fv_base.specs.declared.fault.Fault.{Fault}
 use Rattle.fv_base.specs.declared.fault.FaultKind.TheVariants as kinds
 use Rattle.fv_base.specs.Guids.{bytes_of}
@@ -23,8 +23,8 @@ use Rattle.fv_file.specs.Cells.{CellForm, Valid, Pad, Dead, Stub, Free, CellsWit
 use Rattle.fv_tree.specs.Files.{FileForm, files_in, same_name, is_marked, is_twin, NoTwins, replaces, is_top, end_of, TopAtEnd}
 use Rattle.fv_tree.specs.FailingChecks.{Which, First}
 use Rattle.fv_tree.specs.FirstFault.{HasTwin, TopElsewhere}
-use Rattle.fv_tree.specs.NameOrders.{key_cmp, is_keyed, HasNames}
-use Rattle.fv_tree.proofs.AliveLaws.{twin_back}
+use Rattle.fv_tree.specs.inner.NameOrders.{key_cmp, is_keyed, HasNames}
+use Rattle.fv_tree.proofs.CurrentLaws.{twin_back}
 use Rattle.fv_base.proofs.Laws.{in_middle, or_both, or_parts}
 
 -- ---- tests
@@ -231,7 +231,7 @@ pub not_top_yet : (top last ends : Bool) → (not top || (last && ends)) ≡ tru
 not_top_yet true last ends p off = absurd (off (placed true last ends p refl).0)
 not_top_yet false last ends p off = refl
 
-pub names_bound : (e : Fault) (end : ℕ) (fs : List FileForm) → AllByRecursion (λ g. g.offset ≤ end) fs → (e ≡ want_of_memory)
+pub names_bound : (e : Fault) (end : ℕ) (fs : List FileForm) → AllByRecursion (λ g. g.offset ≤ end) fs → (e ≡ out_of_memory)
     ⊎ ((f : FileForm) × HasTwin First f fs × (e ≡ outer_fault kinds.DuplicateName f.offset)) → e.place.offset ≤ end
 names_bound e end fs all (inl want) = let z : e.place.offset ≡ 0 = ap (λ (g : Fault). g.place.offset) want in omega (arith, z)
 names_bound e end fs all (inr (f, twin, is)) = let z : e.place.offset ≡ f.offset = ap (λ (g : Fault). g.place.offset) is in omega

@@ -5,7 +5,7 @@ use Rattle.std.specs.Prelude.{if◌then◌else◌, Some, None, slice_get}
 use Rattle.fv_base.specs.declared.guid.Guid.{Guid}
 use Rattle.fv_tree.specs.Meaning.{FileMeaning}
 use Rattle.fv_tree.specs.FileNames.{is_named, file_named}
-use Rattle.fv_tree.specs.NameOrders.{number_from}
+use Rattle.fv_tree.specs.inner.NameOrders.{number_from}
 
 -- the file of that number is the first of the name
 found_at : (k : ℕ) (name : Guid) (fs : List FileMeaning) (j : ℕ) → number_from k name fs ≡ Some j → (n : ℕ) × (j ≡ k + n)

@@ -12,14 +12,14 @@ use Rattle.fv_head.proofs.Laws.{front_holds}
 use Rattle.fv_section.specs.Frames.{FrameForm}
 use Rattle.fv_section.proofs.Laws.{one_split}
 use Rattle.fv_section.proofs.Laws as framed
-use Rattle.fv_tree.specs.ReadingParts.{HasFiles}
-use Rattle.fv_tree.specs.Denotes.{Pairs, MeansFile, MeansSection, Stream, Denotes}
+use Rattle.fv_tree.specs.inner.ReadingParts.{HasFiles}
+use Rattle.fv_tree.specs.Denotes.{Pairwise, MeansFile, MeansSection, Stream, Denotes}
 use Rattle.fv_tree.specs.FailingChecks.{First}
-use Rattle.fv_tree.specs.Files.{FileForm, Alive, files_in, alive_in}
+use Rattle.fv_tree.specs.Files.{FileForm, HasCurrent, files_in, current_in}
 use Rattle.fv_tree.specs.FirstFault.{FileFault, LayoutFault, BodyFault, InSection, InStream, InVolume}
 use Rattle.fv_tree.specs.FirstFault.{data_at}
 use Rattle.fv_tree.specs.Meaning.{Meaning, FileMeaning, SectionMeaning, files_of, head_of}
-use Rattle.fv_tree.proofs.AliveLaws.{alive_none}
+use Rattle.fv_tree.proofs.CurrentLaws.{current_none}
 use Rattle.fv_tree.proofs.FileLaws.{stream_bad}
 use Rattle.fv_tree.proofs.ListCuts.{first_of_none}
 use Rattle.fv_tree.proofs.SectionLaws.{group_none, nested_none, too_deep}
@@ -39,16 +39,16 @@ stream_by : (n : ℕ) → SectionRefuses n → StreamRefuses n
 stream_by n refused e b at ss t (inl (f, first, is)) (frames, split, pairs) = framed.none_after b f frames t first split
 stream_by n refused e b at ss t (inr (frames, tail, split, first)) (others, split', pairs) =
     first_of_none (MeansSection n) (λ f. InSection First n e f at) frames ss (λ f s. refused e f at s) first
-    (subst (λ (l : List FrameForm). Pairs (MeansSection n) l ss) (one_split 0 others frames t tail b split' split).0 pairs)
+    (subst (λ (l : List FrameForm). Pairwise (MeansSection n) l ss) (one_split 0 others frames t tail b split' split).0 pairs)
 
 -- a body with a first fault of its layout has no files
 pub layout_by : (x : Extent) (volume : List ℕ) (f : Fault) (cells : List CellForm) (files : List FileForm) → LayoutFault First x volume f
-    → Tiles x.file_system x.polarity x.first cells (drop x.first volume) → Alive x.length cells files → ⊥
-layout_by x volume f cells files (inl first) tiles alive =
+    → Tiles x.file_system x.polarity x.first cells (drop x.first volume) → HasCurrent x.length cells files → ⊥
+layout_by x volume f cells files (inl first) tiles current =
     cellular.none_after x.file_system x.polarity x.first (drop x.first volume) f cells first tiles
-layout_by x volume f cells files (inr (others, tiles', names)) tiles alive =
+layout_by x volume f cells files (inr (others, tiles', names)) tiles current =
     let same = only_one x.file_system x.polarity x.first (drop x.first volume) others cells tiles' tiles in
-    alive_none x.length others f files names (subst (λ (l : List CellForm). Alive x.length l files) same alive)
+    current_none x.length others f files names (subst (λ (l : List CellForm). HasCurrent x.length l files) same current)
 
 module _ (n : ℕ) (refused : StreamRefuses n) where
   -- a file with a first fault is not read
@@ -60,14 +60,14 @@ module _ (n : ℕ) (refused : StreamRefuses n) where
   -- a body with a first fault has no files
   body_by : (x : Extent) (volume : List ℕ) (e : Fault) (at : Place) (ms : List FileMeaning)
       → BodyFault First n (InStream First n) x e volume at → HasFiles (Stream n) x volume ms → ⊥
-  body_by x volume e at ms (inl (f, first, is)) has = layout_by x volume f has.cells has.files first has.tiles has.alive
+  body_by x volume e at ms (inl (f, first, is)) has = layout_by x volume f has.cells has.files first has.tiles has.current
   body_by x volume e at ms (inr (cells, tiles, right, first)) has =
       let same : has.cells ≡ cells =
       only_one x.file_system x.polarity x.first (drop x.first volume) cells has.cells tiles has.tiles in
-      let files : has.files ≡ alive_in (files_in cells) =
-      has.alive.files_are ∙ ap (λ (l : List CellForm). alive_in (files_in l)) same in
-      first_of_none (MeansFile (Stream n)) (λ f. FileFault (InStream First n) e f at) (alive_in (files_in cells)) ms
-      (file_by e at) first (subst (λ (l : List FileForm). Pairs (MeansFile (Stream n)) l ms) files has.meanings)
+      let files : has.files ≡ current_in (files_in cells) =
+      has.current.files_are ∙ ap (λ (l : List CellForm). current_in (files_in l)) same in
+      first_of_none (MeansFile (Stream n)) (λ f. FileFault (InStream First n) e f at) (current_in (files_in cells)) ms
+      (file_by e at) first (subst (λ (l : List FileForm). Pairwise (MeansFile (Stream n)) l ms) files has.meanings)
 
   -- bytes with a first fault begin with no volume
   volume_by : (e : Fault) (b : List ℕ) (at : Place) (k : ℕ) (m : Meaning) → k ≤ length b → InVolume First n e b at

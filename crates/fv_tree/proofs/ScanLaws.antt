@@ -11,7 +11,7 @@ use Rattle.fv_head.specs.HeadChecks.{has_signature}
 use Rattle.fv_head.specs.declared.extent.Extent.{Extent}
 use Rattle.fv_head.proofs.Laws.{front_holds, one_front}
 use Rattle.fv_tree.specs.FoundVolumes.{VolumeAt, IsPlace, LiesBehind, Apart, IsCovered, Found}
-use Rattle.fv_tree.specs.FoundWalks.{NoneBetween, NoneFrom, FoundFrom}
+use Rattle.fv_tree.specs.inner.FoundWalks.{NoneBetween, NoneFrom, FoundFrom}
 
 order : (a k : ℕ) → (a ≤ k) ⊎ (k < a)
 order zero k = inl (omega arith)

@@ -23,7 +23,7 @@ use Rattle.fv_tree.specs.FailingChecks.{First}
 use Rattle.fv_tree.specs.FirstFault.{moved_fault, body_place, body_at, InSection, InStream, InVolume}
 use Rattle.fv_tree.specs.Meaning.{Meaning, SectionMeaning, Section, SectionMeanings, NoSections, MoreSections, Leaf, Group}
 use Rattle.fv_tree.specs.Meaning.{Nested, sections_list, sections_from}
-use Rattle.fv_tree.specs.Shapes.{shape_of}
+use Rattle.fv_tree.specs.inner.Shapes.{shape_of}
 use Rattle.fv_tree.specs.declared.read.Shape.TheVariants as shapes
 
 -- a list, there and back

@@ -1,7 +1,7 @@
 -- What stands in a list is smaller than the list: why the recursions over a meaning end.
 use Rattle.std.proofs.Common.{◌≡◌, ℕ, zero, suc, ◌+◌, ◌<◌, ◌≤◌, List, [], ◌∷◌, length, get_or, refl, ap, arith}
 use Rattle.fv_tree.specs.Meaning.{FileMeaning, File, SectionMeaning, Section, files_from, sections_from, body_of, content_of}
-use Rattle.fv_tree.specs.Sizes.{files_size, file_size, content_size, sections_size, section_size, body_size}
+use Rattle.fv_tree.specs.inner.Sizes.{files_size, file_size, content_size, sections_size, section_size, body_size}
 
 pub section_falls : (ss : List SectionMeaning) (i : ℕ) (s : SectionMeaning) → i < length ss → s ≡ get_or ss i s
     → section_size s + 1 ≤ sections_size (sections_from ss)

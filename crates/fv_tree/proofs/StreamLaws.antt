@@ -9,7 +9,7 @@ use Rattle.fv_base.specs.declared.fault.Fault.{Fault}
 use Rattle.fv_section.specs.FrameChecks.{frame_checks}
 use Rattle.fv_section.specs.Frames.{FrameForm, Splits, SplitsFrom, FrameStandsAt, frame_len, up_to_4}
 use Rattle.fv_section.proofs.Laws.{begins_of, cut, first_here, none_after, one_frame, one_split, stands_within, step, whole_of}
-use Rattle.fv_tree.specs.Denotes.{Pairs, MeansSection, Stream, IsStoredFrame}
+use Rattle.fv_tree.specs.Denotes.{Pairwise, MeansSection, Stream, IsStoredFrame}
 use Rattle.fv_base.specs.declared.fault.Place.{Place}
 use Rattle.fv_tree.specs.FailingChecks.{First}
 use Rattle.fv_tree.specs.FirstFault.{InSection, InStream}
@@ -69,8 +69,8 @@ stands_ready b at f small short s =
 -- the frames before a place are read, as these sections and as no others
 abbrev pub Walked : ℕ → List ℕ → ℕ → List SectionMeaning → Type 0
 Walked n b at ss =
-    (fs : List FrameForm) × (t : ℕ) × Splits fs t (take at b) × Pairs (MeansSection n) fs ss
-    × ((zs : List SectionMeaning) → Pairs (MeansSection n) fs zs → zs ≡ ss)
+    (fs : List FrameForm) × (t : ℕ) × Splits fs t (take at b) × Pairwise (MeansSection n) fs ss
+    × ((zs : List SectionMeaning) → Pairwise (MeansSection n) fs zs → zs ≡ ss)
 
 pub walk_begun : (n : ℕ) (b : List ℕ) (ss : List SectionMeaning) → ss ≡ [] → Walked n b 0 ss
 walk_begun n b ss e = rw e ([], 0, (refl, refl), tt, λ zs h. pairs_empty (MeansSection n) zs h)
@@ -89,7 +89,7 @@ walk_more n b at next ss new f s w in_fours stands place is one e =
     )
 
 -- an item that is paired with one
-pairs_met : {A B : Type 0} (R : A → B → Type 0) (xs : List A) (x : A) (after : List A) (ys : List B) → Pairs R (xs ++ x ∷ after) ys
+pairs_met : {A B : Type 0} (R : A → B → Type 0) (xs : List A) (x : A) (after : List A) (ys : List B) → Pairwise R (xs ++ x ∷ after) ys
     → (y : B) × R x y
 pairs_met R [] x after [] p = absurd p
 pairs_met R [] x after (y ∷ ys) p = (y, p.0)
@@ -101,7 +101,7 @@ pub walk_none : (n : ℕ) (b : List ℕ) (at : ℕ) (ss : List SectionMeaning) (
     → FrameStandsAt f at b → ((s : SectionMeaning) → MeansSection n f s → ⊥) → (zs : List SectionMeaning) (u : ℕ) → Stream n zs u b → ⊥
 walk_none n b at ss f w in_fours stands bad zs u (gs, split, pairs) =
     let m = next_is b w.0 w.1 at f gs u w.2 in_fours stands split in
-    let met = pairs_met (MeansSection n) w.0 f m.0 zs (subst (λ hs. Pairs (MeansSection n) hs zs) m.1 pairs) in
+    let met = pairs_met (MeansSection n) w.0 f m.0 zs (subst (λ hs. Pairwise (MeansSection n) hs zs) m.1 pairs) in
     bad met.0 met.1
 
 -- it is the first that is refused
@@ -131,4 +131,4 @@ pub walk_only : (n : ℕ) (b : List ℕ) (at : ℕ) (ss : List SectionMeaning) (
 walk_only n b at ss gs u w past split zs v (hs, other, pairs) =
     let whole = whole_of b w.0 w.1 at w.2 past in
     let same = one_split 0 hs w.0 v w.1 b other whole in
-    (w.4 zs (subst (λ k. Pairs (MeansSection n) k zs) same.0 pairs), (one_split 0 hs gs v u b other split).1)
+    (w.4 zs (subst (λ k. Pairwise (MeansSection n) k zs) same.0 pairs), (one_split 0 hs gs v u b other split).1)

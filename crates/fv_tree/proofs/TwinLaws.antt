@@ -1,14 +1,14 @@
--- The first twin is one, and so is the volume top file that is not at the end: no two files that are alive have one name.
+-- The first twin is one, and so is the volume top file that is not at the end: no two files that are current have one name.
 use Rattle.std.proofs.Common.{◌≡◌, ℕ, Bool, true, false, List, [], ◌∷◌, ◌++◌, refl, sym, ap, ◌∙◌, subst, inl, inr}
 use Rattle.std.specs.Prelude.{◌&&◌, not}
 use Rattle.std.specs.Bool.{beq}
 use Rattle.std.specs.List.{AllByRecursion, filter, list_any}
 use Rattle.std.proofs.lemmas.Slice.Eq.{bytes_eq-Decides}
 use Rattle.fv_base.specs.Guids.{bytes_of}
-use Rattle.fv_tree.specs.Files.{FileForm, same_name, is_marked, is_twin, replaces, NoTwins, alive_in, is_top, top_name}
+use Rattle.fv_tree.specs.Files.{FileForm, same_name, is_marked, is_twin, replaces, NoTwins, current_in, is_top, top_name}
 use Rattle.fv_tree.specs.FailingChecks.{First}
 use Rattle.fv_tree.specs.FirstFault.{HasTwin, TopElsewhere}
-use Rattle.fv_tree.proofs.AliveLaws.{twin_none}
+use Rattle.fv_tree.proofs.CurrentLaws.{twin_none}
 use Rattle.fv_tree.proofs.ListCuts.{Earlier, TwoCuts, two_cuts, all_behind}
 use Rattle.fv_base.proofs.Laws.{in_middle, or_both, or_parts}
 
@@ -73,7 +73,7 @@ apart : (before : List FileForm) (f : FileForm) (mid : List FileForm) (g : FileF
 apart [] f mid g after none = any_middle (is_twin f) mid g after none.0
 apart (h ∷ hs) f mid g after none = apart hs f mid g after none.1
 
--- ---- two files of one name are not both alive
+-- ---- two files of one name are not both current
 
 -- none of these files replaces it
 abbrev is_alive : List FileForm → FileForm → Bool
@@ -94,9 +94,9 @@ tests_differ true true false false p q twin over under = cc
 tests_differ true false m k p q twin over under = cc
 tests_differ false r m k p q twin over under = cc
 
--- two files that are alive, at different places
+-- two files that are current, at different places
 pub names_differ : (fs before : List FileForm) (f : FileForm) (mid : List FileForm) (g : FileForm) (after : List FileForm) → NoTwins fs
-    → alive_in fs ≡ before ++ (f ∷ (mid ++ (g ∷ after))) → same_name f g ≡ true → same_name g f ≡ true → ⊥
+    → current_in fs ≡ before ++ (f ∷ (mid ++ (g ∷ after))) → same_name f g ≡ true → same_name g f ≡ true → ⊥
 names_differ fs before f mid g after none is forth back =
     tests_differ (same_name f g) (same_name g f) (is_marked f.head.state) (is_marked g.head.state) forth back twin over under
   where
@@ -109,11 +109,11 @@ names_differ fs before f mid g after none is forth back =
     all : AllByRecursion (λ h. is_alive fs h ≡ true) whole
     all = subst (λ (l : List FileForm). AllByRecursion (λ h. is_alive fs h ≡ true) l) is (all_pass (is_alive fs) fs)
 
-    -- a file that is alive is replaced by none that is
+    -- a file that is current is replaced by none that is
     not_replaced : (h : FileForm) → is_alive fs h ≡ true → list_any (replaces h) whole ≡ false
-    not_replaced h alive =
+    not_replaced h current =
         subst (λ (l : List FileForm). list_any (replaces h) l ≡ false) is
-        (none_kept (is_alive fs) (replaces h) fs (true_not (list_any (replaces h) fs) alive))
+        (none_kept (is_alive fs) (replaces h) fs (true_not (list_any (replaces h) fs) current))
 
     over : replaces f g ≡ false
     over =
@@ -135,16 +135,16 @@ top_names f g p q =
     (bytes_eq-Decides (bytes_of f.head.name) (bytes_of g.head.name)).1
     ((bytes_eq-Decides (bytes_of f.head.name) top_name).0 p ∙ sym ((bytes_eq-Decides (bytes_of g.head.name) top_name).0 q))
 
--- two top files at different places are not both alive
+-- two top files at different places are not both current
 two_tops : (fs before : List FileForm) (f : FileForm) (after before' : List FileForm) (g : FileForm) (after' : List FileForm) → NoTwins fs
-    → alive_in fs ≡ before ++ (f ∷ after) → is_top f ≡ true → is_top g ≡ true → Earlier before f after before' g after' → ⊥
+    → current_in fs ≡ before ++ (f ∷ after) → is_top f ≡ true → is_top g ≡ true → Earlier before f after before' g after' → ⊥
 two_tops fs before f after before' g after' none is top top' (mid, late, rest) =
     names_differ fs before f mid g after' none (is ∙ ap (λ (l : List FileForm). before ++ (f ∷ l)) rest) (top_names f g top top')
     (top_names g f top' top)
 
--- one file at most that is alive is a top file, so one at most is at the wrong place
-pub one_top : (len : ℕ) (f g : FileForm) (fs : List FileForm) → NoTwins fs → TopElsewhere len f (alive_in fs)
-    → TopElsewhere len g (alive_in fs) → f ≡ g
+-- one file at most that is current is a top file, so one at most is at the wrong place
+pub one_top : (len : ℕ) (f g : FileForm) (fs : List FileForm) → NoTwins fs → TopElsewhere len f (current_in fs)
+    → TopElsewhere len g (current_in fs) → f ≡ g
 one_top len f g fs none (before, after, is, top, off) (before', after', is', top', off') =
     go (two_cuts before f after before' g after' (sym is ∙ is'))
   where

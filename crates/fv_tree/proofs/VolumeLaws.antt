@@ -5,7 +5,7 @@ use Rattle.std.specs.Prelude.{◌≢◌, Result, Ok, Err}
 use Rattle.std.specs.List.{AllByRecursion}
 use Rattle.std.proofs.lemmas.List.{length-take-le, take_all}
 use Rattle.fv_base.specs.Checks.{IsFirstFault}
-use Rattle.fv_base.specs.Faults.{want_of_memory}
+use Rattle.fv_base.specs.Faults.{out_of_memory}
 use Rattle.fv_base.specs.declared.fault.Fault.{Fault}
 use Rattle.fv_base.specs.declared.fault.FaultKind.TheVariants as kinds
 use Rattle.fv_base.proofs.Laws.{first_among, take-take_le}
@@ -13,7 +13,7 @@ use Rattle.fv_head.specs.Head.{HeadFields, BeginsVolume}
 use Rattle.fv_head.specs.HeadChecks.{head_checks, volume_len_at}
 use Rattle.fv_head.specs.declared.extent.Extent.{Extent}
 use Rattle.fv_head.proofs.Laws.{front_extent, front_same, one_front}
-use Rattle.fv_tree.specs.ReadingParts.{HasFiles}
+use Rattle.fv_tree.specs.inner.ReadingParts.{HasFiles}
 use Rattle.fv_tree.specs.Denotes.{Stream, Denotes, Opens}
 use Rattle.fv_base.specs.declared.fault.Place.{Place}
 use Rattle.fv_tree.specs.FailingChecks.{First}
@@ -45,7 +45,7 @@ made n b h e ms front has =
       cells = all.cells;
       tiles = all.tiles;
       files = all.files;
-      alive = all.alive;
+      current = all.current;
       meanings = all.meanings;
     }
 
@@ -61,7 +61,7 @@ front_of n k b m within d =
     )
 
 has_of : (n k : ℕ) (b : List ℕ) (m : Meaning) → (d : Denotes n (take k b) m) → HasFiles (Stream n) d.extent (take k b) (files_of m)
-has_of n k b (Volume h fs) d = record { cells = d.cells; tiles = d.tiles; files = d.files; alive = d.alive; meanings = d.meanings }
+has_of n k b (Volume h fs) d = record { cells = d.cells; tiles = d.tiles; files = d.files; current = d.current; meanings = d.meanings }
 
 -- the volume's files, by a header that the bytes begin with
 pub has_files : (n k : ℕ) (b : List ℕ) (m : Meaning) (h : HeadFields) (e : Extent) → BeginsVolume h e b → k ≤ length b
@@ -93,17 +93,17 @@ no_files n b h e front none k m within d = none (files_of m) (has_files n k b m 
 -- a header that is refused begins no volume
 pub head_unread : (n : ℕ) (b : List ℕ) (f : Fault) → ((h : HeadFields) (e : Extent) → BeginsVolume h e b
     → (let A : Type 0 = Result (HeadFields × Extent) Fault in (◌≡◌ {A = A} (Err f) (Ok (h, e)))
-    ⊎ (◌≡◌ {A = A} (Err f) (Err want_of_memory))))
-    → f ≢ want_of_memory → (k : ℕ) (m : Meaning) → k ≤ length b → Denotes n (take k b) m → ⊥
+    ⊎ (◌≡◌ {A = A} (Err f) (Err out_of_memory))))
+    → f ≢ out_of_memory → (k : ℕ) (m : Meaning) → k ≤ length b → Denotes n (take k b) m → ⊥
 head_unread n b f only ne k m within d = go (only (head_of m) d.extent (front_of n k b m within d).0) where
   go : (let A : Type 0 = Result (HeadFields × Extent) Fault in (◌≡◌ {A = A} (Err f) (Ok (head_of m, d.extent)))
-      ⊎ (◌≡◌ {A = A} (Err f) (Err want_of_memory))) → ⊥
+      ⊎ (◌≡◌ {A = A} (Err f) (Err out_of_memory))) → ⊥
   go (inl never) = let x : ⊥ = cc in x
   go (inr same) = ne cc
 
 -- ---- faults of the header
 
--- the kind of such a fault is no want of memory
+-- the kind of such a fault is no out of memory
 pub head_known : (b : List ℕ) (f : Fault) → IsFirstFault (head_checks b) f → f.kind ≢ kinds.OutOfMemory
 head_known b f first =
     let P : Fault → Type 0 = λ g. g.kind ≢ kinds.OutOfMemory in
@@ -111,8 +111,8 @@ head_known b f first =
     (λ e. cc, (λ e. cc, (λ e. cc, (λ e. cc, (λ e. cc, (λ e. cc, (λ e. cc, (λ e. cc, (λ e. cc, (λ e. cc, (λ e. cc, tt))))))))))) in
     first_among P (head_checks b) f all first
 
-pub head_first : (n : ℕ) (b : List ℕ) (f g : Fault) (at : Place) → (f ≡ want_of_memory) ⊎ IsFirstFault (head_checks b) f
-    → f ≢ want_of_memory → g ≡ moved_fault at.offset at.depth f → InVolume First n g b at
+pub head_first : (n : ℕ) (b : List ℕ) (f g : Fault) (at : Place) → (f ≡ out_of_memory) ⊎ IsFirstFault (head_checks b) f
+    → f ≢ out_of_memory → g ≡ moved_fault at.offset at.depth f → InVolume First n g b at
 head_first n b f g at (inl want) ne is = absurd (ne want)
 head_first n b f g at (inr first) ne is = inl (f, first, is)
 

@@ -1,8 +1,8 @@
--- A fault is want of memory, or it is not.
+-- A fault is out of memory, or it is not.
 use Rattle.std.proofs.Common.{◌≡◌, ◌≢◌, ◌⊎◌, ℕ, refl, sym, ap, ◌∙◌, inl, inr, true, false}
 use Rattle.std.specs.Prelude.{◌==◌, Bool}
 use Rattle.std.proofs.lemmas.Bool.{eqb-true, eq-eqb}
-use Rattle.fv_base.specs.Faults.{want_of_memory}
+use Rattle.fv_base.specs.Faults.{out_of_memory}
 use Rattle.fv_base.specs.declared.fault.Fault.{Fault}
 use Rattle.fv_base.specs.declared.fault.FaultKind.{FaultKind}
 use Rattle.fv_base.specs.declared.fault.FaultKind.TheVariants as kinds
@@ -41,22 +41,22 @@ number_known n = go (n == 0) refl where
   go true is = inl (eqb-true n 0 is)
   go false is = inr (λ same. let bad : true ≡ false = sym (eq-eqb n 0 same) ∙ is in cc)
 
-pub want_known : (f : Fault) → (f ≡ want_of_memory) ⊎ (f ≢ want_of_memory)
+pub want_known : (f : Fault) → (f ≡ out_of_memory) ⊎ (f ≢ out_of_memory)
 want_known f = by_kind (kind_known f.kind) where
   made : (k : FaultKind) (o d : ℕ) → Fault
   made k o d = record { kind = k; place = record { offset = o; depth = d } }
 
   by_depth : f.kind ≡ kinds.OutOfMemory → f.place.offset ≡ 0 → (f.place.depth ≡ 0) ⊎ (f.place.depth ≢ 0)
-      → (f ≡ want_of_memory) ⊎ (f ≢ want_of_memory)
+      → (f ≡ out_of_memory) ⊎ (f ≢ out_of_memory)
   by_depth kind offset (inl depth) =
       inl (ap (λ (k : FaultKind). made k f.place.offset f.place.depth) kind
       ∙ ap (λ (o : ℕ). made kinds.OutOfMemory o f.place.depth) offset ∙ ap (made kinds.OutOfMemory 0) depth)
   by_depth kind offset (inr off) = inr (λ same. off (ap (λ (g : Fault). g.place.depth) same))
 
-  by_offset : f.kind ≡ kinds.OutOfMemory → (f.place.offset ≡ 0) ⊎ (f.place.offset ≢ 0) → (f ≡ want_of_memory) ⊎ (f ≢ want_of_memory)
+  by_offset : f.kind ≡ kinds.OutOfMemory → (f.place.offset ≡ 0) ⊎ (f.place.offset ≢ 0) → (f ≡ out_of_memory) ⊎ (f ≢ out_of_memory)
   by_offset kind (inl offset) = by_depth kind offset (number_known f.place.depth)
   by_offset kind (inr off) = inr (λ same. off (ap (λ (g : Fault). g.place.offset) same))
 
-  by_kind : (f.kind ≡ kinds.OutOfMemory) ⊎ (f.kind ≢ kinds.OutOfMemory) → (f ≡ want_of_memory) ⊎ (f ≢ want_of_memory)
+  by_kind : (f.kind ≡ kinds.OutOfMemory) ⊎ (f.kind ≢ kinds.OutOfMemory) → (f ≡ out_of_memory) ⊎ (f ≢ out_of_memory)
   by_kind (inl kind) = by_offset kind (number_known f.place.offset)
   by_kind (inr off) = inr (λ same. off (ap (λ (g : Fault). g.kind) same))

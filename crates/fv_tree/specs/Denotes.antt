@@ -1,7 +1,7 @@
 -- Which bytes are a volume with a given meaning. The definition recurs on how deep groups and opened volumes nest.
 use Rattle.std.specs.Prelude.{◌≡◌, ◌≢◌, ℕ, zero, suc, ◌≤◌, ◌==◌, ◌&&◌, ◌||◌, Bool, true, false, nat_le, List, [], ◌∷◌}
 use Rattle.std.specs.Prelude.{length, drop}
-use Rattle.fv_base.specs.Limits.{volume_limit}
+use Rattle.fv_base.specs.Limits.{depth_limit, volume_limit}
 use Rattle.fv_base.specs.Value.{IsBytes, field, le_at}
 use Rattle.fv_base.specs.declared.flash.FileSystem.{FileSystem}
 use Rattle.fv_base.specs.declared.flash.Polarity.{Polarity}
@@ -10,7 +10,7 @@ use Rattle.fv_file.specs.Cells.{CellForm, Valid, IsCell, Tiles}
 use Rattle.fv_head.specs.Head.{BeginsVolume, signature_bytes, system_guid}
 use Rattle.fv_head.specs.declared.extent.Extent.{Extent}
 use Rattle.fv_section.specs.Frames.{FrameForm, Splits, FrameStandsAt}
-use Rattle.fv_tree.specs.Files.{FileForm, Alive}
+use Rattle.fv_tree.specs.Files.{FileForm, HasCurrent}
 use Rattle.fv_tree.specs.Meaning.{Meaning, FileMeaning, File, ContentMeaning, Plain, Sectioned, SectionMeaning, Section}
 use Rattle.fv_tree.specs.Meaning.{BodyMeaning, Leaf, Group, Nested, sections_list, head_of, files_of}
 
@@ -35,11 +35,11 @@ abbrev pub holds_sections : ℕ → Bool
 holds_sections kind = (kind == 0x02) || (nat_le 0x04 kind && nat_le kind 0x0f)
 
 -- the two lists have the same length, and R holds of each two items at the same position
-abbrev pub Pairs : {A B : Type 0} → (A → B → Type 0) → List A → List B → Type 0
-Pairs R [] [] = Unit {0}
-Pairs R [] (y ∷ ys) = ⊥
-Pairs R (x ∷ xs) [] = ⊥
-Pairs R (x ∷ xs) (y ∷ ys) = R x y × Pairs R xs ys
+abbrev pub Pairwise : {A B : Type 0} → (A → B → Type 0) → List A → List B → Type 0
+Pairwise R [] [] = Unit {0}
+Pairwise R [] (y ∷ ys) = ⊥
+Pairwise R (x ∷ xs) [] = ⊥
+Pairwise R (x ∷ xs) (y ∷ ys) = R x y × Pairwise R xs ys
 
 -- ---- what a thing is, given what the things inside it are: these take predicates, and MeansSection closes the
 -- recursion
@@ -57,7 +57,7 @@ Volumes = List ℕ → Meaning → Type 0
 -- the bytes are a stream of these sections, with `tail` bytes after the last
 abbrev pub StreamOver : Sections → Streams
 StreamOver is_section sections tail b =
-    (frames : List FrameForm) × Splits frames tail b × Pairs is_section frames sections
+    (frames : List FrameForm) × Splits frames tail b × Pairwise is_section frames sections
 
 -- the data of a file of this type have this content
 abbrev pub MeansContent : Streams → ℕ → List ℕ → ContentMeaning → Type 0
@@ -80,8 +80,8 @@ pub record VolumeOver (is_stream : Streams) (b : List ℕ) (m : Meaning) : Type 
   pub cells : List CellForm
   pub tiles : Tiles extent.file_system extent.polarity extent.first cells (drop extent.first b)
   pub files : List FileForm
-  pub alive : Alive extent.length cells files
-  pub meanings : Pairs (MeansFile is_stream) files (files_of m)
+  pub current : HasCurrent extent.length cells files
+  pub meanings : Pairwise (MeansFile is_stream) files (files_of m)
 
 -- the body of the frame has this meaning: the body of a group is a stream, a body that is opened is a volume, and any
 -- other is a leaf
@@ -110,10 +110,6 @@ Stream n = StreamOver (MeansSection n)
 -- the bytes are a volume with this meaning, in which groups and volumes nest at most n deep
 abbrev pub Denotes : ℕ → Volumes
 Denotes n = VolumeOver (Stream n)
-
--- the most levels that groups and opened volumes may nest
-abbrev pub depth_limit : ℕ
-depth_limit = 8
 
 -- the bytes are accepted as a volume with this meaning
 abbrev pub Accepted : Volumes

@@ -11,10 +11,11 @@ use Rattle.fv_head.specs.Head.{HeadFields, BeginsVolume}
 use Rattle.fv_head.specs.HeadChecks.{head_checks}
 use Rattle.fv_head.specs.declared.extent.Extent.{Extent}
 use Rattle.fv_section.specs.Frames.{FrameForm, Splits, section_header_len}
-use Rattle.fv_tree.specs.Denotes.{group_kind, volume_kind, Opens, holds_sections, Pairs, MeansFile, MeansSection}
-use Rattle.fv_tree.specs.Denotes.{Stream, depth_limit}
+use Rattle.fv_tree.specs.Denotes.{group_kind, volume_kind, Opens, holds_sections, Pairwise, MeansFile, MeansSection}
+use Rattle.fv_base.specs.Limits.{depth_limit}
+use Rattle.fv_tree.specs.Denotes.{Stream}
 use Rattle.fv_tree.specs.FailingChecks.{Which, First, Any, IfFirst, Fails, FrameFault, CellFault}
-use Rattle.fv_tree.specs.Files.{FileForm, files_in, is_twin, NoTwins, alive_in, is_top, end_of, TopAtEnd}
+use Rattle.fv_tree.specs.Files.{FileForm, files_in, is_twin, NoTwins, current_in, is_top, end_of, TopAtEnd}
 
 -- ---- places
 
@@ -53,7 +54,7 @@ FrameFaulty = Fault → FrameForm → Place → Type 0
 abbrev pub OneOf : {A B : Type 0} → Which → (A → B → Type 0) → (A → Type 0) → List A → Type 0
 OneOf {A} {B} which R fault xs =
     (before : List A) × (x : A) × (after : List A) × (xs ≡ before ++ (x ∷ after))
-    × IfFirst which ((read : List B) × Pairs R before read) × fault x
+    × IfFirst which ((read : List B) × Pairwise R before read) × fault x
 
 -- the file has a twin among those before it; before the first such file, there are no twins
 abbrev pub HasTwin : Which → FileForm → List FileForm → Type 0
@@ -73,7 +74,7 @@ abbrev pub NamesFault : Which → ℕ → List FileForm → Fault → Type 0
 NamesFault which length fs e =
     ((f : FileForm) × HasTwin which f fs × (e ≡ outer_fault kinds.DuplicateName f.offset))
     ⊎ (IfFirst which (NoTwins fs)
-    × (f : FileForm) × TopElsewhere length f (alive_in fs) × (e ≡ outer_fault kinds.TopFile f.offset))
+    × (f : FileForm) × TopElsewhere length f (current_in fs) × (e ≡ outer_fault kinds.TopFile f.offset))
 
 -- a fault of the body of a volume, except of the data of its files: that of a cell; or that of the files of its cells
 abbrev pub LayoutFault : Which → Extent → List ℕ → Fault → Type 0
@@ -99,8 +100,8 @@ abbrev pub BodyFault : Which → ℕ → Faulty → Extent → Faulty
 BodyFault which n in_stream x e volume at =
     Moved at (LayoutFault which x volume) e
     ⊎ ((cells : List CellForm) × Tiles x.file_system x.polarity x.first cells (drop x.first volume)
-    × IfFirst which (NoTwins (files_in cells) × TopAtEnd x.length (alive_in (files_in cells)))
-    × OneOf which (MeansFile (Stream n)) (λ f. FileFault in_stream e f at) (alive_in (files_in cells)))
+    × IfFirst which (NoTwins (files_in cells) × TopAtEnd x.length (current_in (files_in cells)))
+    × OneOf which (MeansFile (Stream n)) (λ f. FileFault in_stream e f at) (current_in (files_in cells)))
 
 -- a fault of a volume: a check of its header fails; or the bytes begin with a header, and the body has a fault
 abbrev pub VolumeFault : Which → ℕ → Faulty → Faulty

@@ -1,10 +1,10 @@
 //! Where the meanings of two volumes first differ.
 
 ghost use Rattle.std.specs.Prelude.{◌≡◌, ◌≢◌, ◌==◌, true, Some, option_copied, IfOk, IfErr, IfSome, IfNone};
-ghost use Rattle.fv_base.specs.Faults.{want_of_memory};
+ghost use Rattle.fv_base.specs.Faults.{out_of_memory};
 ghost use Rattle.fv_tree.specs.Difference.{blocks_eq, entries_eq, ext_eq};
 ghost use Rattle.fv_tree.specs.Difference.{has_steps, differ_in, unless_one, or_else, under};
-ghost use Rattle.fv_tree.specs.DifferenceWalks.{in_word, outermost_first, AnswersDifference};
+ghost use Rattle.fv_tree.specs.inner.DifferenceWalks.{in_word, outermost_first, AnswersDifference};
 ghost use Rattle.fv_tree.specs.Difference.{head_differs, difference, files_differ, file_differs, content_differs};
 ghost use Rattle.fv_tree.specs.Difference.{sections_differ, section_differs, body_differs};
 ghost use Rattle.fv_tree.specs.declared.difference.Word.TheVariants as words;
@@ -115,7 +115,7 @@ fn differ_in(alloc: Global, word: Word) -> Difference
 // innermost out.
 fn under(step: Step, found: Difference) -> Result<Difference, Fault>
     ensures ok { IfOk result (λ d. outermost_first (Some d) ≡ under step (outermost_first (Some found))) }
-    ensures err { IfErr result (λ f. f ≡ want_of_memory) }
+    ensures err { IfErr result (λ f. f ≡ out_of_memory) }
 {
     let mut found = found;
     found.steps.push(step)?;
@@ -375,7 +375,7 @@ pub fn first_difference(
 
     // Memory is wanted only where they differ, at a place to which steps lead.
     ensures memory { IfErr result (λ _. (a.now ≢ b.now) × (has_steps (difference a.now b.now) ≡ true)) }
-    ensures err { IfErr result (λ f. f ≡ want_of_memory) }
+    ensures err { IfErr result (λ f. f ≡ out_of_memory) }
 {
     let Some(mut found) = volume_difference(alloc, a, b)? else {
         return Ok(None);

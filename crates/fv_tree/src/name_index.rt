@@ -4,14 +4,14 @@ ghost use Rattle.std.specs.Prelude.{◌≡◌, ◌<◌, ◌≤◌, ◌%◌, ◌^
 ghost use Rattle.std.specs.List.{AllByRecursion, IsDistinct, range_with_len};
 ghost use Rattle.std.specs.List.Sorted.{IsPermutation};
 ghost use Rattle.std.specs.Ordering.{eq_by_cmp, nat_cmp};
-ghost use Rattle.fv_base.specs.Faults.{want_of_memory};
+ghost use Rattle.fv_base.specs.Faults.{out_of_memory};
 ghost use Rattle.fv_tree.specs.Meaning.{FileMeaning};
 ghost use Rattle.fv_tree.specs.FileNames.{HasNumbers, IsIndex, IsName, IsSixteenBytes, entry_cmp, halves_cmp};
 ghost use Rattle.fv_tree.specs.FileNames.{halves_in, halves_of, numbered};
-ghost use Rattle.fv_tree.specs.NameOrders.{key_of, names_in, number_from};
-ghost use Rattle.fv_tree.specs.StandingForms.{file_form};
+ghost use Rattle.fv_tree.specs.inner.NameOrders.{key_of, names_in, number_from};
+ghost use Rattle.fv_tree.specs.inner.LocatedFiles.{file_form};
 
-use crate::volume_files::Standing;
+use crate::volume_files::LocatedFile;
 use fv_base::{Fault, Guid};
 use std::alloc::Global;
 
@@ -53,7 +53,7 @@ fn bits_for(count: usize) -> u32
 // A key for each file: its number in the low bits, and the high bits of the first half of its name
 // above them. Keys are quick to sort, and names with the same high bits are rare, so the order of
 // the keys is mostly that of the names.
-fn sorted_keys(alloc: Global, files: &[Standing], bits: u32) -> Result<Vec<u64>, Fault>
+fn sorted_keys(alloc: Global, files: &[LocatedFile], bits: u32) -> Result<Vec<u64>, Fault>
     requires room { length files.now ≤ 2 ^ bits }
     requires bits { bits < 64 }
     ensures numbers { IfOk result
@@ -62,7 +62,7 @@ fn sorted_keys(alloc: Global, files: &[Standing], bits: u32) -> Result<Vec<u64>,
         (λ keys. IsPermutation (map (key_of bits) (numbered 0 (names_in (map file_form files.now)))) keys.items) }
     ensures sorted { IfOk result (λ keys. IsSorted nat_cmp keys.items) }
     ensures whole { IfOk result (λ _. AllByRecursion IsName (names_in (map file_form files.now))) }
-    ensures err { IfErr result (λ f. f ≡ want_of_memory) }
+    ensures err { IfErr result (λ f. f ≡ out_of_memory) }
 {
     let mut keys = Vec::with_capacity(alloc, files.len())?;
     for file in files {
@@ -76,10 +76,10 @@ fn sorted_keys(alloc: Global, files: &[Standing], bits: u32) -> Result<Vec<u64>,
 
 impl Numbers {
     // The index of these files, the first of which has the number 0.
-    pub(crate) fn of(alloc: Global, files: &[Standing]) -> Result<Numbers, Fault>
+    pub(crate) fn of(alloc: Global, files: &[LocatedFile]) -> Result<Numbers, Fault>
         requires { length files.now < 2 ^ 32 }
         ensures found { IfOk result (λ numbers. IsIndex (names_in (map file_form files.now)) numbers.sorted.items) }
-        ensures err { IfErr result (λ f. f ≡ want_of_memory) }
+        ensures err { IfErr result (λ f. f ≡ out_of_memory) }
     {
         let bits = bits_for(files.len());
         let room = 1u64 << bits;

@@ -1,7 +1,7 @@
 //! Reading a volume.
 
 ghost use Rattle.std.specs.Prelude.{◌≡◌, ◌≢◌, ◌≤◌, ◌<◌, ◌+◌, ◌%◌, ◌^◌, ℕ, List, length, take, map, IfOk, IfErr};
-ghost use Rattle.fv_base.specs.Faults.{outer_fault, want_of_memory};
+ghost use Rattle.fv_base.specs.Faults.{outer_fault, out_of_memory};
 ghost use Rattle.fv_base.specs.Limits.{volume_limit};
 ghost use Rattle.fv_base.specs.declared.fault.Fault.{Fault};
 ghost use Rattle.fv_head.specs.Head.{HeadFields, BeginsVolume};
@@ -10,22 +10,24 @@ ghost use Rattle.fv_section.specs.Frames.{FrameForm, section_header_len, frame_l
 ghost use Rattle.fv_section.specs.FrameForms as framed;
 ghost use Rattle.fv_tree.specs.Meaning.{Meaning, FileMeaning, SectionMeaning, length_of};
 ghost use Rattle.fv_tree.specs.Files.{FileForm};
-ghost use Rattle.fv_tree.specs.Denotes.{Pairs, MeansFile, MeansSection, Stream, Denotes, Accepted, depth_limit};
+ghost use Rattle.fv_base.specs.Limits.{depth_limit};
+ghost use Rattle.fv_tree.specs.Denotes.{Pairwise, MeansFile, MeansSection, Stream, Denotes, Accepted};
 ghost use Rattle.fv_tree.specs.Denotes.{holds_sections, IsStoredFile, IsStoredFrame};
 ghost use Rattle.fv_tree.specs.FailingChecks.{First};
 ghost use Rattle.fv_tree.specs.FirstFault.{moved_fault, Moved, LayoutFault, InSection, InStream, InVolume, BodyFault};
 ghost use Rattle.fv_tree.specs.FirstFault.{OneOf, FileFault, IsFirstOfVolume, FaultStands, body_place, data_place};
-ghost use Rattle.fv_tree.specs.ReadingParts.{HasFiles, StandIn, AllStored, ReadsContent};
+ghost use Rattle.fv_tree.specs.inner.ReadingParts.{HasFiles, StandIn, AllStored, ReadsContent};
 ghost use Rattle.fv_tree.specs.FileNames.{HasNumbers, IsIndex};
-ghost use Rattle.fv_tree.specs.NameOrders.{names_in};
+ghost use Rattle.fv_tree.specs.inner.NameOrders.{names_in};
 ghost use Rattle.fv_tree.specs.Views.{content_view};
-ghost use Rattle.fv_tree.specs.StandingForms.{file_form};
-ghost use Rattle.fv_tree.specs.Shapes.{shape_of};
+ghost use Rattle.fv_tree.specs.inner.LocatedFiles.{file_form};
+ghost use Rattle.fv_tree.specs.inner.Shapes.{shape_of};
 
 use crate::frame_places::{next_frame_at, stream_size};
 use crate::name_index::Numbers;
 use crate::view::{Body, Content, FileView, SectionView, VolumeView};
-use crate::volume_files::{Standing, alive_files, files_of};
+use crate::volume_files::{LocatedFile, current_files, files_of};
+use fv_base::limits::DEPTH_LIMIT;
 use fv_base::{Fault, FaultKind, Place};
 use fv_file::cells;
 use fv_head::{Extent, is_one_volume, read_head};
@@ -38,9 +40,6 @@ const GROUP: u8 = 0x03;
 
 /// `EFI_SECTION_FIRMWARE_VOLUME_IMAGE`, the type of a section that may hold a volume.
 const VOLUME: u8 = 0x17;
-
-/// The most levels that groups and opened volumes may nest in a volume.
-const DEPTH_LIMIT: u8 = 8;
 
 /// `EFI_FV_FILETYPE_FREEFORM`, the type of a file that holds sections. The types from `PEI_CORE` to
 /// `MM_CORE_STANDALONE` hold sections too. (PI specification, volume 3, section 3.2.3.)
@@ -55,8 +54,8 @@ const MM_CORE_STANDALONE: u8 = 0x0f;
 // A fault in bytes that begin at this place.
 fn within(fault: Fault, place: Place) -> Fault
     requires { place.offset + fault.place.offset < 2 ^ 64 }
-    ensures moved { result ≢ want_of_memory
-        → (fault ≢ want_of_memory) × (result ≡ moved_fault place.offset place.depth fault) }
+    ensures moved { result ≢ out_of_memory
+        → (fault ≢ out_of_memory) × (result ≡ moved_fault place.offset place.depth fault) }
     ensures kind { result.kind ≡ fault.kind }
 {
     if matches!(fault.kind, FaultKind::OutOfMemory) {
@@ -79,7 +78,7 @@ fn holds_sections(kind: u8) -> bool
 }
 
 // The length of a section's header.
-fn head_of(extended: bool) -> u64
+fn section_header_len(extended: bool) -> u64
     ensures { result ≡ section_header_len extended }
 {
     if extended { 8 } else { 4 }
@@ -130,7 +129,7 @@ fn deeper(frame: &Frame, place: Place, left: u8) -> Result<(Place, u8), Fault>
         });
     }
     let inside = Place {
-        offset: place.offset + frame.offset + head_of(frame.extended),
+        offset: place.offset + frame.offset + section_header_len(frame.extended),
         depth: place.depth + 1,
     };
     Ok((inside, left - 1))
@@ -142,7 +141,7 @@ fn files_in_body<'a>(
     volume: &'a [u8],
     extent: Extent,
     place: Place,
-) -> Result<(Vec<Standing<'a>>, Numbers), Fault>
+) -> Result<(Vec<LocatedFile<'a>>, Numbers), Fault>
     requires place { place.offset + length volume.now < 2 ^ 63 }
     requires small { length volume.now ≤ volume_limit }
     requires multiple { length volume.now % 8 ≡ 0 }
@@ -154,8 +153,8 @@ fn files_in_body<'a>(
         (λ r. (gs : List FileForm) → StandIn extent volume.now gs → gs ≡ map file_form r.0.items) }
     ensures stored { IfOk result (λ r. AllStored place.offset (map file_form r.0.items)) }
     ensures numbers { IfOk result (λ r. IsIndex (names_in (map file_form r.0.items)) r.1.sorted.items) }
-    ensures none { IfErr result (λ f. f ≢ want_of_memory → (gs : List FileForm) → StandIn extent volume.now gs → ⊥) }
-    ensures first { IfErr result (λ e. e ≢ want_of_memory → Moved place (LayoutFault First extent volume.now) e) }
+    ensures none { IfErr result (λ f. f ≢ out_of_memory → (gs : List FileForm) → StandIn extent volume.now gs → ⊥) }
+    ensures first { IfErr result (λ e. e ≢ out_of_memory → Moved place (LayoutFault First extent volume.now) e) }
 {
     let list = match cells(
         alloc,
@@ -169,7 +168,7 @@ fn files_in_body<'a>(
     };
     let files = files_of(alloc, list.as_slice())?;
     drop(list);
-    match alive_files(alloc, files, extent.length) {
+    match current_files(alloc, files, extent.length) {
         Ok(read) => Ok(read),
         Err(fault) => Err(within(fault, place)),
     }
@@ -189,9 +188,9 @@ fn read_section<'a>(
     ensures found { IfOk result (λ s. MeansSection left (framed.frame_form frame.now) s) }
     ensures only { IfOk result (λ s. (t : SectionMeaning) → MeansSection left (framed.frame_form frame.now) t → t ≡ s) }
     ensures none { IfErr result
-        (λ f. f ≢ want_of_memory → (t : SectionMeaning) → MeansSection left (framed.frame_form frame.now) t → ⊥) }
+        (λ f. f ≢ out_of_memory → (t : SectionMeaning) → MeansSection left (framed.frame_form frame.now) t → ⊥) }
     ensures first { IfErr result
-        (λ f. f ≢ want_of_memory → InSection First left f (framed.frame_form frame.now) place) }
+        (λ f. f ≢ out_of_memory → InSection First left f (framed.frame_form frame.now) place) }
 {
     let len = frame.body.len() as u32;
     let body = match shape_of(frame) {
@@ -232,8 +231,8 @@ fn read_stream<'a>(
         (λ s. (ss : List SectionMeaning) (tail : ℕ) → Stream left ss tail bytes.now → (ss ≡ s.0.items)
         × (tail ≡ s.1)) }
     ensures none { IfErr result
-        (λ f. f ≢ want_of_memory → (ss : List SectionMeaning) (tail : ℕ) → Stream left ss tail bytes.now → ⊥) }
-    ensures first { IfErr result (λ f. f ≢ want_of_memory → InStream First left f bytes.now place) }
+        (λ f. f ≢ out_of_memory → (ss : List SectionMeaning) (tail : ℕ) → Stream left ss tail bytes.now → ⊥) }
+    ensures first { IfErr result (λ f. f ≢ out_of_memory → InStream First left f bytes.now place) }
 {
     let (count, tail) = match stream_size(bytes) {
         Ok(size) => size,
@@ -253,7 +252,7 @@ fn read_stream<'a>(
 #[cycle(read)]
 fn read_content<'a>(
     alloc: Global,
-    file: &Standing<'a>,
+    file: &LocatedFile<'a>,
     place: Place,
     left: u8,
 ) -> Result<Content<'a>, Fault>
@@ -262,9 +261,9 @@ fn read_content<'a>(
     requires small { length file.now.payload.now ≤ volume_limit }
     ensures found { IfOk result (λ c. ReadsContent left (file_form file.now) (content_view c)) }
     ensures none { IfErr result
-        (λ f. f ≢ want_of_memory → (m : FileMeaning) → MeansFile (Stream left) (file_form file.now) m → ⊥) }
+        (λ f. f ≢ out_of_memory → (m : FileMeaning) → MeansFile (Stream left) (file_form file.now) m → ⊥) }
     ensures first { IfErr result
-        (λ f. f ≢ want_of_memory → FileFault (InStream First left) f (file_form file.now) place) }
+        (λ f. f ≢ out_of_memory → FileFault (InStream First left) f (file_form file.now) place) }
 {
     if !holds_sections(file.head.kind) {
         return Ok(Content::Plain(file.payload));
@@ -281,7 +280,7 @@ fn read_content<'a>(
 #[cycle(read)]
 fn read_file<'a>(
     alloc: Global,
-    file: &Standing<'a>,
+    file: &LocatedFile<'a>,
     place: Place,
     left: u8,
 ) -> Result<FileView<'a>, Fault>
@@ -292,9 +291,9 @@ fn read_file<'a>(
     ensures found { IfOk result (λ m. MeansFile (Stream left) (file_form file.now) m) }
     ensures only { IfOk result (λ m. (t : FileMeaning) → MeansFile (Stream left) (file_form file.now) t → t ≡ m) }
     ensures none { IfErr result
-        (λ f. f ≢ want_of_memory → (t : FileMeaning) → MeansFile (Stream left) (file_form file.now) t → ⊥) }
+        (λ f. f ≢ out_of_memory → (t : FileMeaning) → MeansFile (Stream left) (file_form file.now) t → ⊥) }
     ensures first { IfErr result
-        (λ f. f ≢ want_of_memory → FileFault (InStream First left) f (file_form file.now) place) }
+        (λ f. f ≢ out_of_memory → FileFault (InStream First left) f (file_form file.now) place) }
 {
     let content = read_content(alloc, file, place, left)?;
     let attributes = file.head.attributes.without_large();
@@ -311,18 +310,19 @@ fn read_file<'a>(
 #[cycle(read)]
 fn read_files<'a>(
     alloc: Global,
-    files: &[Standing<'a>],
+    files: &[LocatedFile<'a>],
     place: Place,
     left: u8,
 ) -> Result<Vec<FileView<'a>>, Fault>
     requires depth { place.depth + left ≤ depth_limit }
     requires stored { AllStored place.offset (map file_form files.now) }
-    ensures found { IfOk result (λ ms. Pairs (MeansFile (Stream left)) (map file_form files.now) ms.items) }
+    ensures found { IfOk result (λ ms. Pairwise (MeansFile (Stream left)) (map file_form files.now) ms.items) }
     ensures only { IfOk result
-        (λ ms. (ts : List FileMeaning) → Pairs (MeansFile (Stream left)) (map file_form files.now) ts → ts ≡ ms.items) }
-    ensures none { IfErr result (λ f. f ≢ want_of_memory → (ts : List FileMeaning)
-        → Pairs (MeansFile (Stream left)) (map file_form files.now) ts → ⊥) }
-    ensures first { IfErr result (λ e. e ≢ want_of_memory → OneOf First (MeansFile (Stream left)) (λ f. FileFault
+        (λ ms. (ts : List FileMeaning) → Pairwise (MeansFile (Stream left)) (map file_form files.now) ts
+        → ts ≡ ms.items) }
+    ensures none { IfErr result (λ f. f ≢ out_of_memory → (ts : List FileMeaning)
+        → Pairwise (MeansFile (Stream left)) (map file_form files.now) ts → ⊥) }
+    ensures first { IfErr result (λ e. e ≢ out_of_memory → OneOf First (MeansFile (Stream left)) (λ f. FileFault
         (InStream First left) e f place) (map file_form files.now)) }
 {
     let mut views = Vec::with_capacity(alloc, files.len())?;
@@ -354,8 +354,8 @@ fn read_body<'a>(
         (λ r. (ts : List FileMeaning) → HasFiles (Stream left) extent volume.now ts → ts ≡ r.0.items) }
     ensures numbers { IfOk result (λ r. HasNumbers r.1 r.0.items) }
     ensures none { IfErr result
-        (λ f. f ≢ want_of_memory → (ts : List FileMeaning) → HasFiles (Stream left) extent volume.now ts → ⊥) }
-    ensures first { IfErr result (λ e. e ≢ want_of_memory → BodyFault First left
+        (λ f. f ≢ out_of_memory → (ts : List FileMeaning) → HasFiles (Stream left) extent volume.now ts → ⊥) }
+    ensures first { IfErr result (λ e. e ≢ out_of_memory → BodyFault First left
         (InStream First left) extent e volume.now place) }
 {
     let (files, numbers) = files_in_body(alloc, volume, extent, place)?;
@@ -378,11 +378,11 @@ fn read_at<'a>(
     ensures only { IfOk result
         (λ r. (n : ℕ) (m : Meaning) → n ≤ length bytes.now → Denotes left (take n bytes.now) m → (m ≡ r.0)
         × (n ≡ r.1)) }
-    ensures none { IfErr result (λ f. f ≢ want_of_memory → (n : ℕ) (m : Meaning) → n ≤ length bytes.now
+    ensures none { IfErr result (λ f. f ≢ out_of_memory → (n : ℕ) (m : Meaning) → n ≤ length bytes.now
         → Denotes left (take n bytes.now) m → ⊥) }
-    ensures first { IfErr result (λ f. f ≢ want_of_memory → InVolume First left f bytes.now place) }
+    ensures first { IfErr result (λ f. f ≢ out_of_memory → InVolume First left f bytes.now place) }
     ensures memory { IfErr result
-        (λ f. f ≡ want_of_memory → (h : HeadFields) × (e : Extent) × BeginsVolume h e bytes.now) }
+        (λ f. f ≡ out_of_memory → (h : HeadFields) × (e : Extent) × BeginsVolume h e bytes.now) }
 {
     let (head, extent) = match read_head(alloc, bytes) {
         Ok(read) => read,
@@ -415,15 +415,15 @@ pub fn read_volume(alloc: Global, bytes: &[u8]) -> Result<(VolumeView<'_>, u64),
         → (m ≡ r.0) × (n ≡ r.1)) }
 
     // If an error other than OutOfMemory is returned, they begin with none.
-    ensures none { IfErr result (λ f. f ≢ want_of_memory → (n : ℕ) (m : Meaning) → n ≤ length bytes.now
+    ensures none { IfErr result (λ f. f ≢ out_of_memory → (n : ℕ) (m : Meaning) → n ≤ length bytes.now
         → Denotes depth_limit (take n bytes.now) m → ⊥) }
 
     // An error other than OutOfMemory is the first fault, and there is no other first fault; its
     // condition holds in the bytes at its offset.
-    ensures first { IfErr result (λ f. f ≢ want_of_memory → IsFirstOfVolume bytes.now f) }
+    ensures first { IfErr result (λ f. f ≢ out_of_memory → IsFirstOfVolume bytes.now f) }
     ensures one { (f : Fault) → IsFirstOfVolume bytes.now f
-        → IfOk result (λ r. ⊥) × IfErr result (λ g. g ≢ want_of_memory → g ≡ f) }
-    ensures stands { IfErr result (λ f. f ≢ want_of_memory → FaultStands bytes.now f) }
+        → IfOk result (λ r. ⊥) × IfErr result (λ g. g ≢ out_of_memory → g ≡ f) }
+    ensures stands { IfErr result (λ f. f ≢ out_of_memory → FaultStands bytes.now f) }
 
     // Its place is within the bytes, or at their end, and no deeper than volumes may nest.
     ensures bound { IfErr result
@@ -431,7 +431,7 @@ pub fn read_volume(alloc: Global, bytes: &[u8]) -> Result<(VolumeView<'_>, u64),
 
     // Memory runs out only if they begin with the header of a volume.
     ensures memory { IfErr result
-        (λ f. f ≡ want_of_memory → (h : HeadFields) × (e : Extent) × BeginsVolume h e bytes.now) }
+        (λ f. f ≡ out_of_memory → (h : HeadFields) × (e : Extent) × BeginsVolume h e bytes.now) }
 {
     let place = Place {
         offset: 0,

@@ -1,10 +1,10 @@
 //! Finding volumes.
 
 ghost use Rattle.std.specs.Prelude.{◌≡◌, true, ◌%◌, ◌≤◌, ◌+◌, ℕ, List, length, drop, IfOk, IfErr, IfSome, IfNone};
-ghost use Rattle.fv_base.specs.Faults.{want_of_memory};
+ghost use Rattle.fv_base.specs.Faults.{out_of_memory};
 ghost use Rattle.fv_head.specs.HeadChecks.{has_signature};
 ghost use Rattle.fv_tree.specs.FoundVolumes.{Found, IsPlace};
-ghost use Rattle.fv_tree.specs.FoundWalks.{IsNext, NoneBetween, NoneFrom};
+ghost use Rattle.fv_tree.specs.inner.FoundWalks.{IsNext, NoneBetween, NoneFrom};
 
 use fv_base::Fault;
 use fv_head::verify_fv;
@@ -96,7 +96,7 @@ pub fn scan(alloc: Global, bytes: &[u8]) -> Result<Offsets, Fault>
 
     // No other list of offsets meets this.
     ensures only { IfOk result (λ o. (p : List ℕ) → Found bytes.now p → p ≡ o) }
-    ensures err { IfErr result (λ f. f ≡ want_of_memory) }
+    ensures err { IfErr result (λ f. f ≡ out_of_memory) }
 
     // Memory is wanted only where a volume begins in the bytes.
     ensures memory { IfErr result (λ _. (place : ℕ) × IsPlace bytes.now place) }

@@ -7,7 +7,7 @@ ghost use Rattle.fv_tree.specs.Meaning.{head_of, files_of};
 ghost use Rattle.fv_tree.specs.Meaning.{file_name_of, file_kind_of, attributes_of, content_of, plain_of, data_len_of};
 ghost use Rattle.fv_tree.specs.Meaning.{section_kind_of, section_is_extended, body_of, leaf_of, body_len};
 ghost use Rattle.fv_tree.specs.FileNames.{HasNumbers};
-ghost use Rattle.fv_tree.specs.NameOrders.{number_from};
+ghost use Rattle.fv_tree.specs.inner.NameOrders.{number_from};
 ghost use Rattle.fv_tree.specs.Views.{body_view, content_view};
 
 use crate::name_index::Numbers;
@@ -83,9 +83,9 @@ pub enum Body<'a> {
 }
 
 impl<'a> Model for VolumeView<'a> {
-    ghost use Rattle.fv_tree.specs.Codes.{volume_code};
+    ghost use Rattle.fv_tree.specs.inner.Codes.{volume_code};
     ghost use Rattle.fv_tree.specs.Meaning.{Meaning, Volume, files_from};
-    ghost use Rattle.fv_tree.specs.Sizes.{volume_size};
+    ghost use Rattle.fv_tree.specs.inner.Sizes.{volume_size};
 
     ghost Value = { Meaning };
 
@@ -102,16 +102,16 @@ impl<'a> Model for VolumeView<'a> {
     ghost size = { volume_size };
 
     ghost use Rattle.std.proofs.Common.{arith};
-    ghost use Rattle.fv_tree.specs.ListFalls.{files_fall};
+    ghost use Rattle.fv_tree.specs.inner.ListFalls.{files_fall};
 
     ghost size_decreases = { λ v h. Prim.omega (arith, files_fall v.files.items) };
 }
 
 impl<'a> Model for FileView<'a> {
     ghost use Rattle.std.specs.Prelude.{◌≡◌};
-    ghost use Rattle.fv_tree.specs.Codes.{file_code};
+    ghost use Rattle.fv_tree.specs.inner.Codes.{file_code};
     ghost use Rattle.fv_tree.specs.Meaning.{FileMeaning, File, content_len};
-    ghost use Rattle.fv_tree.specs.Sizes.{file_size};
+    ghost use Rattle.fv_tree.specs.inner.Sizes.{file_size};
 
     ghost Value = { FileMeaning };
 
@@ -130,16 +130,16 @@ impl<'a> Model for FileView<'a> {
     ghost size = { file_size };
 
     ghost use Rattle.std.proofs.Common.{arith};
-    ghost use Rattle.fv_tree.specs.Falls.{content_falls};
+    ghost use Rattle.fv_tree.specs.inner.Falls.{content_falls};
 
     ghost size_decreases = { λ f h. Prim.omega (arith, content_falls f.content) };
 }
 
 impl<'a> Model for SectionView<'a> {
     ghost use Rattle.std.specs.Prelude.{◌≡◌};
-    ghost use Rattle.fv_tree.specs.Codes.{section_code};
+    ghost use Rattle.fv_tree.specs.inner.Codes.{section_code};
     ghost use Rattle.fv_tree.specs.Meaning.{SectionMeaning, Section, body_len};
-    ghost use Rattle.fv_tree.specs.Sizes.{section_size};
+    ghost use Rattle.fv_tree.specs.inner.Sizes.{section_size};
 
     ghost Value = { SectionMeaning };
 
@@ -157,7 +157,7 @@ impl<'a> Model for SectionView<'a> {
     ghost size = { section_size };
 
     ghost use Rattle.std.proofs.Common.{arith};
-    ghost use Rattle.fv_tree.specs.Falls.{body_falls};
+    ghost use Rattle.fv_tree.specs.inner.Falls.{body_falls};
 
     ghost size_decreases = { λ s h. Prim.omega (arith, body_falls s.body) };
 }

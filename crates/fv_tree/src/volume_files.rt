@@ -3,15 +3,15 @@
 ghost use Rattle.std.specs.Prelude.{◌≡◌, ◌≢◌, ◌≤◌, ◌<◌, ◌^◌, ◌⊎◌, ◌==◌, ◌&&◌, ◌||◌, not, List, [], ◌∷◌, map};
 ghost use Rattle.std.specs.Prelude.{length as length_of, IfOk, IfErr, OnOk, IfSome, IfNone};
 ghost use Rattle.std.specs.List.{list_any, AllByRecursion};
-ghost use Rattle.fv_base.specs.Faults.{outer_fault, want_of_memory};
+ghost use Rattle.fv_base.specs.Faults.{outer_fault, out_of_memory};
 ghost use Rattle.fv_file.specs.CellForms as cellular;
-ghost use Rattle.fv_tree.specs.Files.{FileForm, NoTwins, TopAtEnd, AreAlive, files_in, alive_in, is_marked, is_top};
+ghost use Rattle.fv_tree.specs.Files.{FileForm, NoTwins, TopAtEnd, AreCurrent, files_in, current_in, is_marked, is_top};
 ghost use Rattle.fv_tree.specs.Files.{end_of, replaces};
 ghost use Rattle.fv_tree.specs.FailingChecks.{First};
 ghost use Rattle.fv_tree.specs.FirstFault.{HasTwin, TopElsewhere, NamesFault};
-ghost use Rattle.fv_tree.specs.NameOrders.{HasNames, names_in};
+ghost use Rattle.fv_tree.specs.inner.NameOrders.{HasNames, names_in};
 ghost use Rattle.fv_tree.specs.FileNames.{IsIndex};
-ghost use Rattle.fv_tree.specs.StandingForms.{file_form};
+ghost use Rattle.fv_tree.specs.inner.LocatedFiles.{file_form};
 
 use crate::name_index::Numbers;
 use fv_base::{Fault, FaultKind, Guid, check};
@@ -27,7 +27,7 @@ pub const VOLUME_TOP_FILE: [u8; 16] = [
 
 /// A file as it is stored in its volume.
 #[derive(Clone, Copy)]
-pub(crate) struct Standing<'a> {
+pub(crate) struct LocatedFile<'a> {
     /// The offset of its header, in bytes from the volume's start.
     pub(crate) offset: u64,
     /// Its header.
@@ -44,14 +44,14 @@ fn is_marked(state: FileState) -> bool
 }
 
 // Whether a file is a volume top file, by its name.
-fn is_top(file: &Standing) -> bool
+fn is_top(file: &LocatedFile) -> bool
     ensures { result ≡ is_top (file_form file.now) }
 {
     file.head.name.to_bytes()[..] == VOLUME_TOP_FILE[..]
 }
 
 // The file of a cell, if the cell has one.
-fn file_of<'a>(cell: &Cell<'a>) -> Option<Standing<'a>>
+fn file_of<'a>(cell: &Cell<'a>) -> Option<LocatedFile<'a>>
     ensures some { IfSome result (λ s. files_in (cellular.cell_form cell.now ∷ []) ≡ file_form s ∷ []) }
     ensures none { IfNone result (files_in (cellular.cell_form cell.now ∷ []) ≡ []) }
 {
@@ -60,7 +60,7 @@ fn file_of<'a>(cell: &Cell<'a>) -> Option<Standing<'a>>
             offset,
             head,
             payload,
-        } => Some(Standing {
+        } => Some(LocatedFile {
             offset,
             head,
             payload,
@@ -70,9 +70,9 @@ fn file_of<'a>(cell: &Cell<'a>) -> Option<Standing<'a>>
 }
 
 // The files of some cells, in order.
-pub(crate) fn files_of<'a>(alloc: Global, cells: &[Cell<'a>]) -> Result<Vec<Standing<'a>>, Fault>
+pub(crate) fn files_of<'a>(alloc: Global, cells: &[Cell<'a>]) -> Result<Vec<LocatedFile<'a>>, Fault>
     ensures found { IfOk result (λ fs. map file_form fs.items ≡ files_in (map cellular.cell_form cells.now)) }
-    ensures err { IfErr result (λ f. f ≡ want_of_memory) }
+    ensures err { IfErr result (λ f. f ≡ out_of_memory) }
 {
     let mut files = Vec::with_capacity(alloc, cells.len())?;
     for cell in cells {
@@ -86,10 +86,10 @@ pub(crate) fn files_of<'a>(alloc: Global, cells: &[Cell<'a>]) -> Result<Vec<Stan
 
 // The names of the files, each with whether the file is marked; or the fault DuplicateName at the
 // first file that has an earlier twin.
-fn names_of(alloc: Global, files: &[Standing]) -> Result<BTreeSet<(Guid, bool)>, Fault>
+fn names_of(alloc: Global, files: &[LocatedFile]) -> Result<BTreeSet<(Guid, bool)>, Fault>
     ensures found { IfOk result
         (λ names. NoTwins (map file_form files.now) × HasNames names (map file_form files.now)) }
-    ensures first { IfErr result (λ e. (e ≡ want_of_memory) ⊎ ((f : FileForm)
+    ensures first { IfErr result (λ e. (e ≡ out_of_memory) ⊎ ((f : FileForm)
         × HasTwin First f (map file_form files.now) × (e ≡ outer_fault FaultKind.DuplicateName f.offset))) }
 {
     let mut names = BTreeSet::new(alloc);
@@ -101,7 +101,7 @@ fn names_of(alloc: Global, files: &[Standing]) -> Result<BTreeSet<(Guid, bool)>,
 }
 
 // Whether none of the files with these names replaces the file.
-fn is_kept(file: &Standing, names: &BTreeSet<(Guid, bool)>) -> bool
+fn is_kept(file: &LocatedFile, names: &BTreeSet<(Guid, bool)>) -> bool
     ensures { (fs : List FileForm) → HasNames names.now fs
         → result ≡ not (list_any (replaces (file_form file.now)) fs) }
 {
@@ -109,22 +109,22 @@ fn is_kept(file: &Standing, names: &BTreeSet<(Guid, bool)>) -> bool
 }
 
 // Keeps only the files that none of them replaces.
-fn keep_alive(files: &mut Vec<Standing>, names: &BTreeSet<(Guid, bool)>)
+fn keep_current(files: &mut Vec<LocatedFile>, names: &BTreeSet<(Guid, bool)>)
     requires { HasNames names.now (map file_form files.old.items) }
-    ensures { map file_form files.new.items ≡ alive_in (map file_form files.old.items) }
+    ensures { map file_form files.new.items ≡ current_in (map file_form files.old.items) }
 {
     files.retain(|file| is_kept(file, names));
 }
 
 // Whether a file ends at this offset.
-fn ends_at(file: &Standing, place: u64) -> bool
+fn ends_at(file: &LocatedFile, place: u64) -> bool
     ensures { result ≡ (end_of (file_form file.now) == place) }
 {
     file.head.size <= place && file.offset == place - file.head.size
 }
 
 // Whether a file is no volume top file, or is the last file and ends where the volume does.
-fn is_placed(file: &Standing, last: bool, length: u64) -> bool
+fn is_placed(file: &LocatedFile, last: bool, length: u64) -> bool
     ensures { result ≡ (not (is_top (file_form file.now)) || (last && (end_of (file_form file.now) == length))) }
 {
     !is_top(file) || (last && ends_at(file, length))
@@ -132,7 +132,7 @@ fn is_placed(file: &Standing, last: bool, length: u64) -> bool
 
 // Ok if a volume top file, if there is one, is the last of the files and ends where the volume
 // does.
-fn check_top(files: &[Standing], length: u64) -> Result<(), Fault>
+fn check_top(files: &[LocatedFile], length: u64) -> Result<(), Fault>
     ensures found { OnOk result (TopAtEnd length (map file_form files.now)) }
     ensures first { IfErr result (λ e. (f : FileForm) × TopElsewhere length f (map file_form files.now)
         × (e ≡ outer_fault FaultKind.TopFile f.offset)) }
@@ -149,42 +149,42 @@ fn check_top(files: &[Standing], length: u64) -> Result<(), Fault>
     Ok(())
 }
 
-// As `alive_files`, if two of the files may have the same name.
+// As `current_files`, if two of the files may have the same name.
 fn apart_files<'a>(
     alloc: Global,
-    files: Vec<Standing<'a>>,
+    files: Vec<LocatedFile<'a>>,
     length: u64,
-) -> Result<(Vec<Standing<'a>>, Numbers), Fault>
+) -> Result<(Vec<LocatedFile<'a>>, Numbers), Fault>
     requires within { AllByRecursion (λ f. f.offset ≤ length) (map file_form files.items) }
     requires few { length_of files.items < 2 ^ 32 }
-    ensures found { IfOk result (λ r. AreAlive length (map file_form files.entry.items) (map file_form r.0.items)) }
+    ensures found { IfOk result (λ r. AreCurrent length (map file_form files.entry.items) (map file_form r.0.items)) }
     ensures numbers { IfOk result (λ r. IsIndex (names_in (map file_form r.0.items)) r.1.sorted.items) }
     ensures first { IfErr result
-        (λ f. f ≢ want_of_memory → NamesFault First length (map file_form files.entry.items) f) }
+        (λ f. f ≢ out_of_memory → NamesFault First length (map file_form files.entry.items) f) }
     ensures bound { IfErr result (λ f. f.place.offset ≤ length) }
 {
     let names = names_of(alloc, files.as_slice())?;
-    let mut alive = files;
-    keep_alive(&mut alive, &names);
+    let mut current = files;
+    keep_current(&mut current, &names);
     drop(names);
-    check_top(alive.as_slice(), length)?;
-    let numbers = Numbers::of(alloc, alive.as_slice())?;
-    Ok((alive, numbers))
+    check_top(current.as_slice(), length)?;
+    let numbers = Numbers::of(alloc, current.as_slice())?;
+    Ok((current, numbers))
 }
 
 // Of the valid files in a volume of this length, those that are part of it, with their numbers; or
 // the first fault.
-pub(crate) fn alive_files<'a>(
+pub(crate) fn current_files<'a>(
     alloc: Global,
-    files: Vec<Standing<'a>>,
+    files: Vec<LocatedFile<'a>>,
     length: u64,
-) -> Result<(Vec<Standing<'a>>, Numbers), Fault>
+) -> Result<(Vec<LocatedFile<'a>>, Numbers), Fault>
     requires within { AllByRecursion (λ f. f.offset ≤ length) (map file_form files.items) }
     requires few { length_of files.items < 2 ^ 32 }
-    ensures found { IfOk result (λ r. AreAlive length (map file_form files.entry.items) (map file_form r.0.items)) }
+    ensures found { IfOk result (λ r. AreCurrent length (map file_form files.entry.items) (map file_form r.0.items)) }
     ensures numbers { IfOk result (λ r. IsIndex (names_in (map file_form r.0.items)) r.1.sorted.items) }
     ensures first { IfErr result
-        (λ f. f ≢ want_of_memory → NamesFault First length (map file_form files.entry.items) f) }
+        (λ f. f ≢ out_of_memory → NamesFault First length (map file_form files.entry.items) f) }
     ensures bound { IfErr result (λ f. f.place.offset ≤ length) }
 {
     let numbers = Numbers::of(alloc, files.as_slice())?;

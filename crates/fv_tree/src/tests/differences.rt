@@ -1,4 +1,4 @@
-//! Pairs of volumes from outside: where their meanings first differ, and pairs with the same
+//! Pairwise of volumes from outside: where their meanings first differ, and pairs with the same
 //! meaning.
 
 use super::{row_of, spell};

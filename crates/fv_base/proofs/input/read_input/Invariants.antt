@@ -2,7 +2,7 @@ use Rattle.std.proofs.Common.{length, ◌≡◌, ◌≤◌, false}
 use Rattle.std.specs.Prelude.{vec_len}
 use Rattle.std.specs.Io.KnownBytes.{Consumes}
 use Rattle.fv_base.specs.Limits.{volume_limit}
-use Rattle.fv_base.specs.ReadTurns.{read_limit}
+use Rattle.fv_base.specs.inner.ReadTurns.{read_limit}
 use Rattle.fv_base.specs.Port.{inner_of, has_erred}
 use Rattle.fv_base.proofs.input.read_input.Given as goal
 

@@ -1,6 +1,6 @@
 use Rattle.std.proofs.Common.{◌≡◌, inl}
 use Rattle.std.proofs.lemmas.Result.{IfOk-weaker, IfErr-weaker, err_from_is_err_and}
-use Rattle.fv_base.specs.Faults.{want_of_memory}
+use Rattle.fv_base.specs.Faults.{out_of_memory}
 use Rattle.fv_base.specs.declared.fault.Fault.{Fault}
 use Rattle.fv_head.specs.Head.{HeadFields, BeginsVolume}
 use Rattle.fv_head.specs.declared.extent.Extent.{Extent}
@@ -23,6 +23,6 @@ returns-clause-err c = IfErr-weaker c.is_canonical_image.result _ _ (λ f want. 
 pub returns-clause-memory : goal.returns-clause-memory
 returns-clause-memory c =
     let d = c.in_ok-view.ensures.found.1 in
-    IfErr-weaker c.is_canonical_image.result _ (λ (f : Fault). f ≡ want_of_memory → (h : HeadFields) × (e : Extent)
+    IfErr-weaker c.is_canonical_image.result _ (λ (f : Fault). f ≡ out_of_memory → (h : HeadFields) × (e : Extent)
     × BeginsVolume h e c.args.input.now) (λ f why want. (head_of c.in_ok-view.view, d.extent, d.front))
     c.is_canonical_image.ensures.err

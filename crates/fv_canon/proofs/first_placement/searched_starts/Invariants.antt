@@ -6,5 +6,5 @@ abbrev pub invariant-loop-i : goal.invariant-loop-i
 invariant-loop-i l = record {
   eighth : l.edge % 8 ≡ 0;
   within : l.edge ≤ l.total;
-  forward : Forward l.total l.first l.parts l.edge (drop l.i l.parts) l.starts.items;
+  forward : Forward l.total l.first l.items l.edge (drop l.i l.items) l.starts.items;
 }

@@ -2,7 +2,7 @@ use Rattle.std.proofs.Common.{◌≡◌, ◌∙◌, ◌≤◌, ℕ, List, length
 use Rattle.std.proofs.lemmas.Bool.{leb-true}
 use Rattle.std.proofs.lemmas.Result.{err_from_is_err_and, IfOk-weaker, IfErr-weaker}
 use Rattle.fv_base.proofs.Laws.{kept_whole}
-use Rattle.fv_base.specs.Faults.{want_of_memory}
+use Rattle.fv_base.specs.Faults.{out_of_memory}
 use Rattle.fv_base.specs.Limits.{volume_limit}
 use Rattle.fv_base.specs.declared.fault.Fault.{Fault}
 use Rattle.fv_tree.specs.FoundVolumes.{Found}
@@ -29,5 +29,5 @@ returns-clause-only c = λ other to.
 
 pub returns-clause-memory : goal.returns-clause-memory
 returns-clause-memory c =
-    IfErr-weaker c.finish.result _ (λ (f : Fault). f ≡ want_of_memory → length c.args.image.now ≤ volume_limit)
+    IfErr-weaker c.finish.result _ (λ (f : Fault). f ≡ out_of_memory → length c.args.image.now ≤ volume_limit)
     (λ f why want. leb-true _ _ c.in_ok-check.ensures.ok) c.finish.ensures.err

@@ -5,23 +5,23 @@ use Rattle.fv_section.specs.Frames.{up_to_4}
 use Rattle.fv_section.specs.SectionImage.{section_head_of}
 use Rattle.fv_tree.specs.Meaning.{Meaning, SectionMeaning, BodyMeaning, sections_from, body_of, body_len, section_is_extended}
 use Rattle.fv_tree.specs.Meaning.{section_kind_of, section_len}
-use Rattle.fv_tree.specs.Sizes.{volume_size, sections_size, body_size}
+use Rattle.fv_tree.specs.inner.Sizes.{volume_size, sections_size, body_size}
 use Rattle.fv_tree.specs.Views.{body_view}
 use Rattle.fv_tree.specs.declared.view.Body.{Body}
-use Rattle.fv_canon.specs.ImageOf.{body_image, starts_in}
+use Rattle.fv_canon.specs.inner.ImageOf.{body_image, starts_in}
 use Rattle.fv_canon.specs.Volumes.{volumes_in, volumes_in_body, volumes_in_file, volumes_in_files, volumes_in_section, volumes_in_sections}
 use Rattle.fv_base.specs.Flash.{erased_byte}
 use Rattle.fv_base.specs.Value.{up_to_8}
 use Rattle.fv_file.specs.NewHeaders.{file_head_of}
 use Rattle.fv_tree.specs.Meaning.{ContentMeaning, FileMeaning, files_from, file_name_of, file_kind_of, attributes_of, content_of}
 use Rattle.fv_tree.specs.Meaning.{data_len_of}
-use Rattle.fv_canon.specs.ImageOf.{stored_of, stored_file, data_of}
-use Rattle.fv_canon.specs.StoredWalks.{files_bytes}
+use Rattle.fv_canon.specs.inner.ImageOf.{stored_of, stored_file, data_of}
+use Rattle.fv_canon.specs.inner.StoredWalks.{files_bytes}
 use Rattle.fv_canon.specs.StoredFiles.{stored_bytes, gap_bytes, size_for, file_sum_for}
-use Rattle.fv_canon.specs.Placed.{ArePlaced}
+use Rattle.fv_canon.specs.inner.Placed.{ArePlaced}
 use Rattle.fv_canon.proofs.FileLaws.{file_long, stored_is, size_is, at_file, file_laid, files_left, files_end, walk_goes}
 use Rattle.fv_canon.proofs.FileLaws.{placed_on}
-use Rattle.fv_canon.specs.ImageWalks.{BeginsWithStarts, TakesFront, sections_bytes}
+use Rattle.fv_canon.specs.inner.ImageWalks.{BeginsWithStarts, TakesFront, sections_bytes}
 use Rattle.fv_canon.proofs.SectionLaws.{section_known, item_laid, in_body, body_laid, left_is, goes_on, front_more, front_end}
 use Rattle.fv_tree.proofs.Laws.{file_falls, section_body_falls}
 use Rattle.fv_base.specs.declared.flash.Polarity.{Polarity}
@@ -29,13 +29,13 @@ use Rattle.fv_head.specs.Attributes.{polarity_of}
 use Rattle.fv_head.specs.Head.{HeadFields}
 use Rattle.fv_head.specs.HeadImage.{canonical_head}
 use Rattle.fv_head.specs.ExtImage.{canonical_end, canonical_first}
-use Rattle.fv_tree.specs.Sizes.{files_size}
-use Rattle.fv_canon.specs.ImageOf.{image_of, starts_in}
+use Rattle.fv_tree.specs.inner.Sizes.{files_size}
+use Rattle.fv_canon.specs.inner.ImageOf.{image_of, starts_in}
 use Rattle.fv_canon.specs.StoredFiles.{ext_pad}
-use Rattle.fv_canon.specs.Placed.{used_by}
+use Rattle.fv_canon.specs.inner.Placed.{used_by}
 use Rattle.fv_canon.proofs.VolumeWalks.{volume_is, volume_seen, volume_text, volume_left, files_same}
 use Rattle.fv_file.specs.Attributes.{attributes_by, is_summed}
-use Rattle.fv_canon.specs.ImageSinks.{ImageTakes, image_by}
+use Rattle.fv_canon.specs.inner.SummingSinks.{ImageTakes, image_by}
 use Rattle.fv_canon.proofs.SumWalks.{state_adds}
 use Rattle.fv_canon.proofs.image_walk.+put.Goals as goal
 
@@ -117,7 +117,8 @@ put_sections-loop-section-preserved g t c =
           c.put_section_head.new.out c.put_body-rest.new.out (sections_bytes 0 (sections_from ss) c.args.starts.now)
           (sections_bytes c.loop-section.gap (sections_from (drop i ss)) rest) (replicate c.loop-section.gap 0)
           (section_head_of (section_kind_of s) (section_is_extended s) (body_len (body_of s))) (body_image (body_of s) rest)
-          (sections_bytes (up_to_4 (section_len s) - section_len s) (sections_from (drop (i + 1) ss)) (drop (starts_in (volumes_in_section s)) rest))
+          (sections_bytes (up_to_4 (section_len s) - section_len s) (sections_from (drop (i + 1) ss)) (drop (starts_in
+          (volumes_in_section s)) rest))
           c.loop-section.invariant.done (goes_on ss i s rest c.loop-section.gap c.loop-section-test.true c.section-item.is k) c.fill.ensures
           c.put_section_head.ensures body));
     }
@@ -230,13 +231,15 @@ put_files-loop-i-preserved g t c =
       done = subst (λ (xs : List ℕ). TakesFront (ImageTakes g.S.Sink.takes) c.args.out.now c.fill.new.out whole
           (files_bytes p total c.up_to_8-edge.result (stored_of (files_from (drop (i + 1) fs)) xs) (drop (i + 1) own))) (sym next)
           (subst (λ (n : ℕ). TakesFront (ImageTakes g.S.Sink.takes) c.args.out.now c.fill.new.out whole
-          (files_bytes p total n (stored_of (files_from (drop (i + 1) fs)) (drop (starts_in (volumes_in_file f)) rest)) (drop (i + 1) own))) (sym edge)
+          (files_bytes p total n (stored_of (files_from (drop (i + 1) fs)) (drop (starts_in (volumes_in_file f)) rest)) (drop (i + 1)
+          own))) (sym edge)
           (front_more (ImageTakes g.S.Sink.takes) (image_by g.S.Sink.laws) c.args.out.now c.loop-i.out c.put_gap.new.out
           c.put_file-rest.new.out c.fill.new.out
           whole (files_bytes p total c.loop-i.edge (stored_of (files_from (drop i fs)) rest) (drop i own)) (gap_bytes p (s - c.loop-i.edge))
           (stored_bytes p (stored_file f rest)) (replicate (up_to_8 (s + size_for (data_len_of f)) - (s + size_for (data_len_of f)))
           (erased_byte p)) (files_bytes p total (up_to_8 (s + size_for (data_len_of f)))
-          (stored_of (files_from (drop (i + 1) fs)) (drop (starts_in (volumes_in_file f)) rest)) (drop (i + 1) own)) c.loop-i.invariant.done (walk_goes p
+          (stored_of (files_from (drop (i + 1) fs)) (drop (starts_in (volumes_in_file f)) rest)) (drop (i + 1) own))
+          c.loop-i.invariant.done (walk_goes p
           total c.loop-i.edge fs own i f rest at (size_is f rest long)) c.put_gap.ensures c.put_file-rest.ensures.bytes filled));
     }
 

@@ -1,13 +1,13 @@
 use Rattle.std.proofs.Common.{◌≡◌, ◌+◌, ◌-◌, ◌*◌, ◌≤◌, drop}
 use Rattle.fv_tree.specs.Meaning.{sections_from, files_from}
-use Rattle.fv_tree.specs.Sizes.{volume_size, files_size, file_size, content_size, sections_size, body_size}
+use Rattle.fv_tree.specs.inner.Sizes.{volume_size, files_size, file_size, content_size, sections_size, body_size}
 use Rattle.fv_tree.specs.Views.{body_view, content_view}
-use Rattle.fv_canon.specs.ImageOf.{stored_of, starts_in}
+use Rattle.fv_canon.specs.inner.ImageOf.{stored_of, starts_in}
 use Rattle.fv_canon.specs.Volumes.{volumes_in_sections, volumes_in_files}
-use Rattle.fv_canon.specs.ImageWalks.{sections_bytes, BeginsWithStarts, TakesFront}
-use Rattle.fv_canon.specs.StoredWalks.{files_bytes}
-use Rattle.fv_canon.specs.Placed.{ArePlaced}
-use Rattle.fv_canon.specs.ImageSinks.{ImageTakes}
+use Rattle.fv_canon.specs.inner.ImageWalks.{sections_bytes, BeginsWithStarts, TakesFront}
+use Rattle.fv_canon.specs.inner.StoredWalks.{files_bytes}
+use Rattle.fv_canon.specs.inner.Placed.{ArePlaced}
+use Rattle.fv_canon.specs.inner.SummingSinks.{ImageTakes}
 use Rattle.fv_canon.proofs.image_walk.+put.Given as goal
 
 abbrev pub invariant-put_sections-loop-section : goal.invariant-put_sections-loop-section
@@ -45,7 +45,8 @@ abbrev pub invariant-put_files-loop-i : goal.invariant-put_files-loop-i
 invariant-put_files-loop-i g l = record {
   placed : ArePlaced l.total l.edge (drop l.i l.files) (drop l.i l.own);
   laid : BeginsWithStarts (volumes_in_files (files_from (drop l.i l.files))) l.rest;
-  left : drop (starts_in (volumes_in_files (files_from (drop l.i l.files)))) l.rest ≡ drop (starts_in (volumes_in_files (files_from l.files))) l.starts;
+  left : drop (starts_in (volumes_in_files (files_from (drop l.i l.files)))) l.rest ≡ drop (starts_in (volumes_in_files (files_from
+      l.files))) l.starts;
   done :
       TakesFront (ImageTakes g.S.Sink.takes) l.initial.out l.out
       (files_bytes l.polarity l.total l.first (stored_of (files_from l.files) l.starts) l.own)

@@ -27,4 +27,5 @@ pub returns-in_err-lay_volume-in-Nested-clause-fits : goal.returns-in_err-lay_vo
 returns-in_err-lay_volume-in-Nested-clause-fits c fit =
     let fits = subst (λ b. AllFit (volumes_in_body b)) (sym c.body.ensures ∙ ap body_view c.in-Nested.is) fit in
     only_memory c.from_residual-in_err-lay_volume-in-Nested.result _ c.from_residual-in_err-lay_volume-in-Nested.ensures.1
-    c.in_err-lay_volume-in-Nested.ensures.err (λ unfit. first_none (volumes_in c.in-Nested.volume.value) 0 _ (rw c.deref.ensures at unfit) fits)
+    c.in_err-lay_volume-in-Nested.ensures.err (λ unfit. first_none (volumes_in c.in-Nested.volume.value) 0 _ (rw c.deref.ensures at
+    unfit) fits)

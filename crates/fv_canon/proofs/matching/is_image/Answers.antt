@@ -1,4 +1,4 @@
-use Rattle.fv_canon.specs.ImageOf.{image_of}
+use Rattle.fv_canon.specs.inner.ImageOf.{image_of}
 use Rattle.fv_canon.proofs.MatchingLemmas.{match_cut}
 use Rattle.fv_canon.proofs.matching.is_image.Goals as goal
 

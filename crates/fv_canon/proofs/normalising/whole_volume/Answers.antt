@@ -1,9 +1,9 @@
 use Rattle.std.proofs.Common.{◌≢◌, inl, inr}
 use Rattle.std.proofs.lemmas.Result.{err_from_is_err_and}
-use Rattle.fv_base.specs.Faults.{want_of_memory}
+use Rattle.fv_base.specs.Faults.{out_of_memory}
 use Rattle.fv_tree.specs.Meaning.{head_of}
 use Rattle.fv_tree.proofs.Laws.{front_of}
-use Rattle.fv_tree.specs.Denotes.{depth_limit}
+use Rattle.fv_base.specs.Limits.{depth_limit}
 use Rattle.fv_canon.specs.Refusals.{FaultStandsInInput}
 use Rattle.fv_canon.proofs.InputLaws.{fault_passed, volume_refused, goes_on, end_refused, end_found, end_only, stood_kind}
 use Rattle.fv_canon.proofs.normalising.whole_volume.Goals as goal
@@ -15,7 +15,7 @@ returns-in_err-view-clause-refused c =
 
 pub returns-in_err-view-clause-stands : goal.returns-in_err-view-clause-stands
 returns-in_err-view-clause-stands c =
-    fault_passed (λ f. f ≢ want_of_memory → FaultStandsInInput c.args.input.now f) c.from_residual.result _ c.from_residual.ensures.1
+    fault_passed (λ f. f ≢ out_of_memory → FaultStandsInInput c.args.input.now f) c.from_residual.result _ c.from_residual.ensures.1
     (λ other. inl (c.in_err-view.ensures.stands other))
 
 pub returns-in_err-view-clause-kind : goal.returns-in_err-view-clause-kind
@@ -37,7 +37,7 @@ returns-in_err-check-clause-refused c =
 
 pub returns-in_err-check-clause-stands : goal.returns-in_err-check-clause-stands
 returns-in_err-check-clause-stands c =
-    fault_passed (λ f. f ≢ want_of_memory → FaultStandsInInput c.args.input.now f) c.from_residual-in_err-check.result _
+    fault_passed (λ f. f ≢ out_of_memory → FaultStandsInInput c.args.input.now f) c.from_residual-in_err-check.result _
     c.from_residual-in_err-check.ensures.1
     (λ other. inr (goes_on c.args.input.now _ c.in_ok-view.view c.in_ok-view.length c.in_ok-view.ensures.found
     c.in_ok-view.ensures.length c.in_err-check.ensures.err.0 c.in_err-check.ensures.err.1))

@@ -1,6 +1,6 @@
 use Rattle.std.proofs.Common.{◌≡◌, true}
 use Rattle.std.proofs.lemmas.Result.{IfErr-weaker, err_from_is_err_and}
-use Rattle.fv_base.specs.Faults.{want_of_memory}
+use Rattle.fv_base.specs.Faults.{out_of_memory}
 use Rattle.fv_base.specs.Port.{has_erred}
 use Rattle.fv_base.specs.declared.fault.Fault.{Fault}
 use Rattle.fv_base.specs.declared.fault.FaultKind.TheVariants as kinds
@@ -54,7 +54,7 @@ returns-clause-err g c =
 pub returns-clause-memory : goal.returns-clause-memory
 returns-clause-memory g c =
     let d = c.in_ok-view.ensures.found.1 in
-    IfErr-weaker c.write_canonical.result _ (λ (f : Fault). f ≡ want_of_memory → (h : HeadFields) × (e : Extent)
+    IfErr-weaker c.write_canonical.result _ (λ (f : Fault). f ≡ out_of_memory → (h : HeadFields) × (e : Extent)
     × BeginsVolume h e c.args.input.now) (λ f stops want. (head_of c.in_ok-view.view, d.extent, d.front)) c.write_canonical.ensures.err
 
 pub returns-clause-read : goal.returns-clause-read

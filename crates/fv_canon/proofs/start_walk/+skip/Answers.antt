@@ -1,8 +1,8 @@
 use Rattle.std.proofs.Common.{◌≡◌, ◌+◌, ℕ, List, length, drop, drop-drop, sym, ap, ◌∙◌, arith}
 use Rattle.fv_head.specs.Head.{HeadFields}
 use Rattle.fv_tree.specs.Meaning.{SectionMeaning, FileMeaning, files_from}
-use Rattle.fv_tree.specs.Sizes.{volume_size, files_size}
-use Rattle.fv_canon.specs.ImageOf.{starts_in}
+use Rattle.fv_tree.specs.inner.Sizes.{volume_size, files_size}
+use Rattle.fv_canon.specs.inner.ImageOf.{starts_in}
 use Rattle.fv_canon.specs.Volumes.{volumes_in, volumes_in_files}
 use Rattle.fv_canon.proofs.FileLaws.{file_laid, files_left, in_content, content_laid}
 use Rattle.fv_canon.proofs.SectionLaws.{item_laid, in_body, body_laid, left_is}

@@ -1,10 +1,10 @@
 use Rattle.std.proofs.Common.{◌≡◌, ◌+◌, ◌*◌, drop}
 use Rattle.fv_tree.specs.Meaning.{sections_from, files_from}
-use Rattle.fv_tree.specs.Sizes.{volume_size, files_size, content_size, sections_size, body_size}
+use Rattle.fv_tree.specs.inner.Sizes.{volume_size, files_size, content_size, sections_size, body_size}
 use Rattle.fv_tree.specs.Views.{body_view, content_view}
-use Rattle.fv_canon.specs.ImageOf.{starts_in}
+use Rattle.fv_canon.specs.inner.ImageOf.{starts_in}
 use Rattle.fv_canon.specs.Volumes.{volumes_in_sections, volumes_in_files}
-use Rattle.fv_canon.specs.ImageWalks.{BeginsWithStarts}
+use Rattle.fv_canon.specs.inner.ImageWalks.{BeginsWithStarts}
 use Rattle.fv_canon.proofs.start_walk.+skip.Given as goal
 
 abbrev pub invariant-skip_sections-loop-section : goal.invariant-skip_sections-loop-section
@@ -17,7 +17,8 @@ invariant-skip_sections-loop-section l = record {
 abbrev pub invariant-skip_files-loop-file : goal.invariant-skip_files-loop-file
 invariant-skip_files-loop-file l = record {
   laid : BeginsWithStarts (volumes_in_files (files_from (drop l.file-index l.files))) l.rest;
-  left : drop (starts_in (volumes_in_files (files_from (drop l.file-index l.files)))) l.rest ≡ drop (starts_in (volumes_in_files (files_from l.files))) l.starts;
+  left : drop (starts_in (volumes_in_files (files_from (drop l.file-index l.files)))) l.rest ≡ drop (starts_in (volumes_in_files
+      (files_from l.files))) l.starts;
 }
 
 abbrev pub decreases-skip_sections : goal.decreases-skip_sections

@@ -3,11 +3,11 @@ use Rattle.std.specs.Prelude.{OnOk}
 use Rattle.std.proofs.lemmas.List.{take_all}
 use Rattle.fv_tree.specs.LookupInstances.{preorder, inside_section}
 use Rattle.fv_tree.specs.Meaning.{Leaf, Group, Nested, SectionMeaning, body_of, sections_from}
-use Rattle.fv_tree.specs.Sizes.{body_size, sections_size}
+use Rattle.fv_tree.specs.inner.Sizes.{body_size, sections_size}
 use Rattle.fv_tree.specs.Views.{body_view}
 use Rattle.fv_tree.proofs.Laws.{body_falls, section_falls}
 use Rattle.fv_command.specs.CheckTexts.{HeldDepex, sections_depexes}
-use Rattle.fv_command.specs.CheckRuns.{Noted}
+use Rattle.fv_command.specs.inner.CheckRuns.{Noted}
 use Rattle.fv_command.proofs.DepexNoteLemmas.{noted_none, noted_then, leaf_depexes, group_depexes, nested_depexes, sections_next}
 use Rattle.fv_command.proofs.depex_notes.+notes.Goals as goal
 

@@ -1,8 +1,8 @@
 use Rattle.std.proofs.Common.{take}
 use Rattle.fv_tree.specs.LookupInstances.{preorder}
 use Rattle.fv_tree.specs.Meaning.{sections_from}
-use Rattle.fv_tree.specs.Sizes.{section_size, sections_size}
-use Rattle.fv_command.specs.CheckRuns.{Noted}
+use Rattle.fv_tree.specs.inner.Sizes.{section_size, sections_size}
+use Rattle.fv_command.specs.inner.CheckRuns.{Noted}
 use Rattle.fv_command.specs.CheckTexts.{sections_depexes}
 use Rattle.fv_command.proofs.depex_notes.+notes.Given as goal
 

@@ -4,7 +4,7 @@ use Rattle.fv_tree.specs.LookupInstances.{preorder}
 use Rattle.fv_tree.specs.Meaning.{FileMeaning, Plain, Sectioned, SectionMeaning, content_of, sections_from}
 use Rattle.fv_tree.specs.Views.{content_view}
 use Rattle.fv_command.specs.CheckTexts.{HeldDepex, sections_depexes}
-use Rattle.fv_command.specs.CheckRuns.{Noted}
+use Rattle.fv_command.specs.inner.CheckRuns.{Noted}
 use Rattle.fv_command.proofs.DepexNoteLemmas.{noted_none, plain_depexes, stream_depexes}
 use Rattle.fv_command.proofs.depex_notes.note_file.Goals as goal
 

@@ -1,7 +1,7 @@
 use Rattle.std.proofs.Common.{◌≡◌, ◌∙◌, Option, None, Some, sym, subst}
 use Rattle.std.specs.Prelude.{OnOk}
 use Rattle.fv_depex.specs.declared.op.Phase.{Phase}
-use Rattle.fv_command.specs.CheckRuns.{Noted}
+use Rattle.fv_command.specs.inner.CheckRuns.{Noted}
 use Rattle.fv_command.specs.CheckTexts.{phase_of, read_by}
 use Rattle.fv_command.proofs.DepexNoteLemmas.{noted_none}
 use Rattle.fv_command.proofs.depex_notes.note_leaf.Goals as goal

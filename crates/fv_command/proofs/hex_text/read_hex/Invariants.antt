@@ -1,10 +1,10 @@
 use Rattle.std.proofs.Common.{◌≡◌, ◌≤◌, ℕ, List, length, false}
 use Rattle.std.specs.Prelude.{vec_len}
 use Rattle.std.specs.Io.KnownBytes.{Consumes}
-use Rattle.fv_base.specs.ReadTurns.{read_limit}
+use Rattle.fv_base.specs.inner.ReadTurns.{read_limit}
 use Rattle.fv_base.specs.Limits.{volume_limit}
 use Rattle.fv_base.specs.Port.{inner_of, has_erred}
-use Rattle.fv_command.specs.HexDecoding.{Decodes}
+use Rattle.fv_command.specs.inner.HexDecoding.{Decodes}
 use Rattle.fv_command.specs.HexIn.{text_limit}
 use Rattle.fv_command.proofs.hex_text.read_hex.Given as goal
 

@@ -1,5 +1,5 @@
 use Rattle.fv_command.specs.HobLines.{HobLines}
-use Rattle.fv_command.specs.HobRefusals.{held_image}
+use Rattle.fv_command.specs.inner.HobRefusals.{held_image}
 use Rattle.fv_command.proofs.HobLemmas.{hobs_more, hobs_all}
 use Rattle.fv_command.proofs.WriteLemmas.{tells_none}
 use Rattle.fv_command.proofs.hob_text.put_hobs.Goals as goal

@@ -2,7 +2,7 @@ use Rattle.std.proofs.Common.{false, rules, ℕ, List, subst}
 use Rattle.std.proofs.lemmas.Result.{on_ok_weaker, IfErr-weaker}
 use Rattle.fv_hob.specs.Hobs.{HobForm}
 use Rattle.fv_command.specs.HobLines.{HobsText}
-use Rattle.fv_command.specs.HobRefusals.{held_image}
+use Rattle.fv_command.specs.inner.HobRefusals.{held_image}
 use Rattle.fv_command.specs.PortViews.{Writes, WritingStops, seen}
 use Rattle.fv_command.proofs.hob_text.write_hobs.Goals as goal
 

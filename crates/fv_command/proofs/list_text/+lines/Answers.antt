@@ -1,9 +1,9 @@
 use Rattle.std.proofs.Common.{◌≡◌, ◌++◌, refl, ap, arith}
 use Rattle.fv_tree.specs.Meaning.{FileMeaning, SectionMeaning, body_of, content_of}
-use Rattle.fv_tree.specs.Sizes.{content_size, body_size}
+use Rattle.fv_tree.specs.inner.Sizes.{content_size, body_size}
 use Rattle.fv_tree.specs.Views.{body_view, content_view}
 use Rattle.fv_tree.proofs.Laws.{content_falls, file_falls, section_body_falls}
-use Rattle.fv_command.specs.Indents.{levels}
+use Rattle.fv_command.specs.inner.Indents.{levels}
 use Rattle.fv_command.specs.ListTexts.{volume_text}
 use Rattle.fv_command.proofs.ListLemmas.{files_lines, files_more, is_volume, sections_lines, sections_more}
 use Rattle.fv_command.proofs.WriteLemmas.{tells_all, tells_none}

@@ -1,8 +1,8 @@
 use Rattle.std.proofs.Common.{◌+◌, ◌*◌}
 use Rattle.fv_tree.specs.Meaning.{files_from, sections_from}
-use Rattle.fv_tree.specs.Sizes.{volume_size, files_size, content_size, sections_size, body_size}
+use Rattle.fv_tree.specs.inner.Sizes.{volume_size, files_size, content_size, sections_size, body_size}
 use Rattle.fv_tree.specs.Views.{body_view, content_view}
-use Rattle.fv_command.specs.Indents.{levels}
+use Rattle.fv_command.specs.inner.Indents.{levels}
 use Rattle.fv_command.proofs.ListLemmas.{files_lines, sections_lines}
 use Rattle.fv_command.proofs.WriteLemmas.{Tells}
 use Rattle.fv_command.proofs.list_text.+lines.Given as goal

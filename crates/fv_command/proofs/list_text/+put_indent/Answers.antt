@@ -1,5 +1,5 @@
 use Rattle.std.proofs.Common.{◌≡◌, ◌++◌, ℕ, List, codes, ap, sym, subst, ◌∙◌, add-one}
-use Rattle.fv_command.specs.Indents.{levels}
+use Rattle.fv_command.specs.inner.Indents.{levels}
 use Rattle.fv_command.specs.ListTexts.{spaces}
 use Rattle.fv_command.proofs.list_text.+put_indent.Goals as goal
 

@@ -1,7 +1,7 @@
 use Rattle.std.proofs.Common.{◌∙◌, refl, sym, subst}
 use Rattle.std.proofs.lemmas.Result.{err_from_is_err_and}
 use Rattle.fv_base.proofs.Laws.{whatever}
-use Rattle.fv_depex.specs.OpChecks.{BeginsFirstOp, depex_want_of_memory}
+use Rattle.fv_depex.specs.OpChecks.{BeginsFirstOp, depex_out_of_memory}
 use Rattle.fv_depex.specs.Expressions.{Spells}
 use Rattle.fv_depex.proofs.PathLemmas.{one_spelling}
 use Rattle.fv_depex.proofs.ReadLemmas.{none_after, spells_first}
@@ -26,5 +26,5 @@ returns-in_err-ops-clause-none c =
 
 pub returns-in_err-rest-clause-memory : goal.returns-in_err-rest-clause-memory
 returns-in_err-rest-clause-memory c =
-    whatever c.from_residual-in_err-rest.result depex_want_of_memory (BeginsFirstOp c.args.phase c.args.bytes.now)
+    whatever c.from_residual-in_err-rest.result depex_out_of_memory (BeginsFirstOp c.args.phase c.args.bytes.now)
     (spells_first c.args.phase c.args.bytes.now c.in_ok-ops.ops.items _ c.in_ok-ops.ensures.found.1)

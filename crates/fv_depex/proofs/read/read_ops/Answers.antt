@@ -1,7 +1,7 @@
 use Rattle.std.proofs.Common.{◌∙◌, sym, subst, ap, arith, rules}
 use Rattle.std.proofs.lemmas.List.{take_rest}
 use Rattle.fv_base.proofs.Laws.{whatever}
-use Rattle.fv_depex.specs.OpChecks.{BeginsFirstOp, BeginsOp, depex_want_of_memory}
+use Rattle.fv_depex.specs.OpChecks.{BeginsFirstOp, BeginsOp, depex_out_of_memory}
 use Rattle.fv_depex.specs.declared.fault.DepexFault.{DepexFault}
 use Rattle.fv_depex.proofs.ReadLemmas.{kept_none, kept, ended, no_want, one_more, stands_first}
 use Rattle.fv_depex.proofs.read.read_ops.Goals as goal
@@ -36,6 +36,6 @@ returns-in-Err-clause-memory c = λ e.
 
 pub returns-in_err-push-clause-memory : goal.returns-in_err-push-clause-memory
 returns-in_err-push-clause-memory c =
-    whatever c.from_residual.result depex_want_of_memory (BeginsFirstOp c.args.phase c.args.bytes.now)
+    whatever c.from_residual.result depex_out_of_memory (BeginsFirstOp c.args.phase c.args.bytes.now)
     (stands_first c.args.phase c.args.bytes.now c.loop-op.ops.items c.in-Ok.op c.loop-op.at c.loop-op.stage
     c.loop-op.invariant c.in-Ok.ensures.found)

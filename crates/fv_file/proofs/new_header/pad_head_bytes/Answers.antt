@@ -1,5 +1,5 @@
 use Rattle.std.proofs.Common.{◌∙◌, ap, refl, sym}
-use Rattle.fv_file.specs.HeadParts.{head_bytes}
+use Rattle.fv_file.specs.inner.HeadParts.{head_bytes}
 use Rattle.fv_file.specs.declared.head.FileHead.{FileHead}
 use Rattle.fv_file.proofs.NewHeaderLemmas.{pad_written, head_of_pad, only_pad}
 use Rattle.fv_file.proofs.new_header.pad_head_bytes.Goals as goal

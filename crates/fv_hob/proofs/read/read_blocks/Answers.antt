@@ -1,6 +1,6 @@
 use Rattle.std.proofs.Common.{◌∙◌, sym, ap, rules}
 use Rattle.fv_base.proofs.Laws.{whatever}
-use Rattle.fv_hob.specs.HobChecks.{BeginsTable, hob_want_of_memory}
+use Rattle.fv_hob.specs.HobChecks.{BeginsTable, hob_out_of_memory}
 use Rattle.fv_hob.specs.declared.fault.HobFault.{HobFault}
 use Rattle.fv_hob.proofs.ReadLemmas.{kept, ended, no_want, table_stands}
 use Rattle.fv_hob.proofs.read.read_blocks.Goals as goal
@@ -23,12 +23,12 @@ returns-in-Err-clause-memory c = λ e.
 
 pub returns-in_err-hob-clause-memory : goal.returns-in_err-hob-clause-memory
 returns-in_err-hob-clause-memory c =
-    whatever c.from_residual.result hob_want_of_memory (BeginsTable c.args.bytes.now)
+    whatever c.from_residual.result hob_out_of_memory (BeginsTable c.args.bytes.now)
     (table_stands c.args.bytes.now c.loop-block.hobs.items c.in-Ok.block.now c.loop-block.at
     c.is_empty.result (search rules) c.loop-block.invariant c.in-Ok.ensures.found)
 
 pub returns-in_err-push-clause-memory : goal.returns-in_err-push-clause-memory
 returns-in_err-push-clause-memory c =
-    whatever c.from_residual-in_err-push.result hob_want_of_memory (BeginsTable c.args.bytes.now)
+    whatever c.from_residual-in_err-push.result hob_out_of_memory (BeginsTable c.args.bytes.now)
     (table_stands c.args.bytes.now c.loop-block.hobs.items c.in-Ok.block.now c.loop-block.at
     c.is_empty.result (search rules) c.loop-block.invariant c.in-Ok.ensures.found)

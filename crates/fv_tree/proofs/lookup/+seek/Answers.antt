@@ -1,8 +1,8 @@
 use Rattle.std.proofs.Common.{◌∷◌, refl, ap, ◌∙◌, arith}
 use Rattle.fv_tree.specs.LookupInstances.{of_type, preorder, inside_section}
-use Rattle.fv_tree.specs.Searches.{sought}
+use Rattle.fv_tree.specs.inner.Searches.{sought}
 use Rattle.fv_tree.specs.Meaning.{sections_from}
-use Rattle.fv_tree.specs.Sizes.{body_size, sections_size}
+use Rattle.fv_tree.specs.inner.Sizes.{body_size, sections_size}
 use Rattle.fv_tree.specs.Views.{body_view}
 use Rattle.fv_tree.proofs.LookupLaws.{from_one, sought_in, sought_past, past_end}
 use Rattle.fv_tree.proofs.SizeLaws.{section_falls, body_falls}

@@ -7,10 +7,10 @@ use Rattle.std.proofs.lemmas.List.{length-map, map-append}
 use Rattle.std.proofs.lemmas.List.FromFn.{length-range_with_len}
 use Rattle.std.proofs.lemmas.List.Sorted.{IsPermutation-map}
 use Rattle.fv_tree.specs.FileNames.{IsName, Entry, Halves, numbered}
-use Rattle.fv_tree.specs.NameOrders.{key_of, names_in}
-use Rattle.fv_tree.specs.StandingForms.{file_form}
+use Rattle.fv_tree.specs.inner.NameOrders.{key_of, names_in}
+use Rattle.fv_tree.specs.inner.LocatedFiles.{file_form}
 use Rattle.fv_base.specs.declared.guid.Guid.{Guid}
-use Rattle.fv_tree.specs.declared.volume_files.Standing.{Standing}
+use Rattle.fv_tree.specs.declared.volume_files.LocatedFile.{LocatedFile}
 use Rattle.fv_tree.proofs.IndexLaws.{all_taken, more_entries, more_whole, no_file}
 use Rattle.fv_tree.proofs.KeyLaws.{entry_at, key_made, key_number, range_push}
 use Rattle.fv_tree.proofs.name_index.sorted_keys.Goals as goal
@@ -24,7 +24,7 @@ loop-file-init c = record {
 
 pub loop-file-preserved : goal.loop-file-preserved
 loop-file-preserved c =
-    let files : List Standing = c.args.files.now in
+    let files : List LocatedFile = c.args.files.now in
     let i : ℕ = c.loop-file.file-index in
     let old : List ℕ = c.loop-file.keys.items in
     let front : ℕ = c.halves-front.result.0 in

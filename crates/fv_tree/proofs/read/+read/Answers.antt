@@ -1,6 +1,6 @@
 use Rattle.std.proofs.Common.{◌≡◌, ℕ, List, map, [], ◌∷◌, ◌++◌, take, sym, ap, ◌∙◌, subst, arith, rules, inl, inr, refl}
 use Rattle.std.specs.Prelude.{◌⊎◌, Result, Ok, Err, IfErr, IsErrAnd}
-use Rattle.fv_base.specs.Faults.{want_of_memory}
+use Rattle.fv_base.specs.Faults.{out_of_memory}
 use Rattle.fv_base.specs.Checks.{IsFirstFault}
 use Rattle.fv_base.specs.declared.fault.Fault.{Fault}
 use Rattle.fv_base.specs.declared.fault.Place.{Place}
@@ -12,13 +12,13 @@ use Rattle.fv_head.specs.declared.extent.Extent.{Extent}
 use Rattle.fv_section.specs.Frames.{FrameForm}
 use Rattle.fv_section.specs.FrameForms as framed
 use Rattle.fv_section.proofs.Laws.{grows, none_after, stands_within}
-use Rattle.fv_tree.specs.ReadingParts.{IsReadyFile}
+use Rattle.fv_tree.specs.inner.ReadingParts.{IsReadyFile}
 use Rattle.fv_tree.specs.Denotes.{MeansFile, MeansSection, Stream}
 use Rattle.fv_tree.specs.Files.{FileForm}
 use Rattle.fv_tree.specs.FailingChecks.{First}
 use Rattle.fv_tree.specs.FirstFault.{FileFault, InStream, data_at}
 use Rattle.fv_tree.specs.Meaning.{Meaning, File, Section, Group, Nested, sections_from}
-use Rattle.fv_tree.specs.StandingForms.{file_form}
+use Rattle.fv_tree.specs.inner.LocatedFiles.{file_form}
 use Rattle.fv_tree.specs.Views.{content_view}
 use Rattle.fv_tree.proofs.BodyLaws.{body_found, body_only, body_none, files_none, files_first}
 use Rattle.fv_tree.proofs.FileLaws.{stream_reads, file_found, file_one, stream_bad}
@@ -209,8 +209,8 @@ read_at-returns-in-Err-clause-first t c = λ ne.
 
 pub read_at-returns-in-Err-clause-memory : goal.read_at-returns-in-Err-clause-memory
 read_at-returns-in-Err-clause-memory t c = λ want. go c.in-Err.ensures.first want where
-  go : (c.in-Err.fault ≡ want_of_memory) ⊎ IsFirstFault (head_checks c.args.bytes.now) c.in-Err.fault
-      → c.within.result ≡ want_of_memory → (h : HeadFields) × (e : Extent) × BeginsVolume h e c.args.bytes.now
+  go : (c.in-Err.fault ≡ out_of_memory) ⊎ IsFirstFault (head_checks c.args.bytes.now) c.in-Err.fault
+      → c.within.result ≡ out_of_memory → (h : HeadFields) × (e : Extent) × BeginsVolume h e c.args.bytes.now
   go (inl same) want = c.in-Err.ensures.memory same
   go (inr first) want = absurd (head_known c.args.bytes.now c.in-Err.fault first (sym c.within.ensures.kind
       ∙ ap (λ (f : Fault). f.kind) want))

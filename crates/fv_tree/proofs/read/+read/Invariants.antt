@@ -1,8 +1,8 @@
 use Rattle.std.proofs.Common.{◌≡◌, ◌+◌, ◌-◌, ◌*◌, List, length, take, map}
 use Rattle.fv_section.specs.Frames.{up_to_4}
-use Rattle.fv_tree.specs.Denotes.{Pairs, MeansFile, Stream}
+use Rattle.fv_tree.specs.Denotes.{Pairwise, MeansFile, Stream}
 use Rattle.fv_tree.specs.Meaning.{FileMeaning}
-use Rattle.fv_tree.specs.StandingForms.{file_form}
+use Rattle.fv_tree.specs.inner.LocatedFiles.{file_form}
 use Rattle.fv_tree.proofs.StreamLaws.{Walked}
 use Rattle.fv_tree.proofs.read.+read.Given as goal
 
@@ -17,8 +17,8 @@ decreases-read_stream-loop-sections l = length l.bytes - l.at
 
 abbrev pub invariant-read_files-loop-file : goal.invariant-read_files-loop-file
 invariant-read_files-loop-file l = record {
-  pairs : Pairs (MeansFile (Stream l.left)) (take l.file-index (map file_form l.files)) l.views.items;
-  one : (ms : List FileMeaning) → Pairs (MeansFile (Stream l.left)) (take l.file-index (map file_form l.files)) ms → ms ≡ l.views.items;
+  pairs : Pairwise (MeansFile (Stream l.left)) (take l.file-index (map file_form l.files)) l.views.items;
+  one : (ms : List FileMeaning) → Pairwise (MeansFile (Stream l.left)) (take l.file-index (map file_form l.files)) ms → ms ≡ l.views.items;
 }
 
 abbrev pub decreases-read_section : goal.decreases-read_section

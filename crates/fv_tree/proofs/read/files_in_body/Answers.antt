@@ -3,17 +3,17 @@ use Rattle.std.specs.List.{AllByRecursion}
 use Rattle.fv_base.specs.Value.{IsBytes}
 use Rattle.fv_file.specs.Cells.{CellsWithin}
 use Rattle.fv_tree.specs.Files.{FileForm, files_in}
-use Rattle.fv_tree.specs.StandingForms.{file_form}
+use Rattle.fv_tree.specs.inner.LocatedFiles.{file_form}
 use Rattle.std.proofs.lemmas.List.{length-drop, length-map}
 use Rattle.fv_file.proofs.Laws.{cells_few}
 use Rattle.fv_head.specs.declared.extent.Extent.{Extent}
 use Rattle.fv_tree.proofs.FileCountLaws.{files_few}
-use Rattle.fv_tree.proofs.BodyLaws.{alive_of, stand_none, files_stored}
+use Rattle.fv_tree.proofs.BodyLaws.{current_of, stand_none, files_stored}
 use Rattle.fv_tree.proofs.NameLaws.{files_within}
 use Rattle.fv_tree.proofs.read.files_in_body.Goals as goal
 
-pub alive_files-requires : goal.alive_files-requires
-alive_files-requires c =
+pub current_files-requires : goal.current_files-requires
+current_files-requires c =
     let standing : map file_form c.in_ok-files.files.items ≡ files_in c.in-Ok.list =
     c.in_ok-files.ensures.found ∙ ap files_in c.as_slice.ensures in
     let within = subst (λ (n : ℕ). CellsWithin n c.in-Ok.list) (sym c.requires.length_is) c.in-Ok.ensures.lies in
@@ -32,28 +32,29 @@ alive_files-requires c =
       );
     }
 
-pub returns-in-Ok-alive_files-clause-stored : goal.returns-in-Ok-alive_files-clause-stored
-returns-in-Ok-alive_files-clause-stored c =
+pub returns-in-Ok-current_files-clause-stored : goal.returns-in-Ok-current_files-clause-stored
+returns-in-Ok-current_files-clause-stored c =
     let small : IsBytes c.args.volume.now = search rules in
-    files_stored c.args.extent c.args.volume.now c.args.place.offset c.in-Ok.list (map file_form c.in-Ok-alive_files.read.0.items) small
+    files_stored c.args.extent c.args.volume.now c.args.place.offset c.in-Ok.list (map file_form c.in-Ok-current_files.read.0.items) small
     c.requires.small c.requires.place c.in-Ok.ensures.found c.in-Ok.ensures.lies
-    (alive_of c.args.extent.length c.in-Ok.list (map file_form c.in_ok-files.files.items) (map file_form c.in-Ok-alive_files.read.0.items)
-    (c.in_ok-files.ensures.found ∙ ap files_in c.as_slice.ensures) c.in-Ok-alive_files.ensures.found)
+    (current_of c.args.extent.length c.in-Ok.list (map file_form c.in_ok-files.files.items) (map file_form
+    c.in-Ok-current_files.read.0.items)
+    (c.in_ok-files.ensures.found ∙ ap files_in c.as_slice.ensures) c.in-Ok-current_files.ensures.found)
 
-pub returns-in-Err-alive_files-clause-none : goal.returns-in-Err-alive_files-clause-none
-returns-in-Err-alive_files-clause-none c = λ ne gs h.
-    let w = c.within-in-Err-alive_files.ensures.moved ne in
-    stand_none c.args.extent c.args.volume.now c.in-Ok.list c.in-Ok.ensures.only c.in-Err-alive_files.fault
-    (rw (c.in_ok-files.ensures.found, c.as_slice.ensures) at (c.in-Err-alive_files.ensures.first w.0)) gs h
+pub returns-in-Err-current_files-clause-none : goal.returns-in-Err-current_files-clause-none
+returns-in-Err-current_files-clause-none c = λ ne gs h.
+    let w = c.within-in-Err-current_files.ensures.moved ne in
+    stand_none c.args.extent c.args.volume.now c.in-Ok.list c.in-Ok.ensures.only c.in-Err-current_files.fault
+    (rw (c.in_ok-files.ensures.found, c.as_slice.ensures) at (c.in-Err-current_files.ensures.first w.0)) gs h
 
-pub returns-in-Err-alive_files-clause-first : goal.returns-in-Err-alive_files-clause-first
-returns-in-Err-alive_files-clause-first c = λ ne.
-    let w = c.within-in-Err-alive_files.ensures.moved ne in (
-      c.in-Err-alive_files.fault,
+pub returns-in-Err-current_files-clause-first : goal.returns-in-Err-current_files-clause-first
+returns-in-Err-current_files-clause-first c = λ ne.
+    let w = c.within-in-Err-current_files.ensures.moved ne in (
+      c.in-Err-current_files.fault,
       inr (
         c.in-Ok.list,
         c.in-Ok.ensures.found,
-        rw (c.in_ok-files.ensures.found, c.as_slice.ensures) at (c.in-Err-alive_files.ensures.first w.0),
+        rw (c.in_ok-files.ensures.found, c.as_slice.ensures) at (c.in-Err-current_files.ensures.first w.0),
       ),
       w.1,
     )

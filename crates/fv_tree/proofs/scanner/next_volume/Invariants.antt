@@ -1,5 +1,5 @@
 use Rattle.std.proofs.Common.{◌≡◌, ◌+◌, ◌-◌, ◌%◌, ◌≤◌, length}
-use Rattle.fv_tree.specs.FoundWalks.{NoneBetween}
+use Rattle.fv_tree.specs.inner.FoundWalks.{NoneBetween}
 use Rattle.fv_tree.proofs.scanner.next_volume.Given as goal
 
 abbrev pub invariant-loop-at : goal.invariant-loop-at

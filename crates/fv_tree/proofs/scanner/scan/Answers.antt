@@ -1,6 +1,6 @@
 use Rattle.std.proofs.Common.{◌++◌, ◌∷◌, [], ℕ, List, sym, ap, ◌∙◌, subst, arith, append_assoc, append-nil}
 use Rattle.std.proofs.lemmas.Result.{err_from_is_err_and}
-use Rattle.fv_tree.specs.FoundWalks.{FoundFrom}
+use Rattle.fv_tree.specs.inner.FoundWalks.{FoundFrom}
 use Rattle.fv_tree.proofs.ScanLaws.{at_multiple, at_within, walk_found, one_found}
 use Rattle.fv_tree.proofs.scanner.scan.Goals as goal
 

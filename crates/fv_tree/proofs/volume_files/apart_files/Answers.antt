@@ -2,8 +2,8 @@ use Rattle.std.proofs.Common.{◌≡◌, ◌≤◌, ◌∙◌, sym, ap, subst, m
 use Rattle.std.specs.List.{AllByRecursion, list_any}
 use Rattle.std.specs.Prelude.{not}
 use Rattle.std.proofs.lemmas.Result.{err_from_is_err_and}
-use Rattle.fv_tree.specs.Files.{FileForm, alive_in, replaces}
-use Rattle.fv_tree.specs.StandingForms.{file_form}
+use Rattle.fv_tree.specs.Files.{FileForm, current_in, replaces}
+use Rattle.fv_tree.specs.inner.LocatedFiles.{file_form}
 use Rattle.std.proofs.lemmas.List.{length-map}
 use Rattle.fv_tree.proofs.FileCountLaws.{filter_few}
 use Rattle.fv_base.proofs.Laws.{all_filter}
@@ -22,8 +22,8 @@ pub returns-in_err-check_top-clause-bound : goal.returns-in_err-check_top-clause
 returns-in_err-check_top-clause-bound c =
     let p = err_from_is_err_and c.from_residual-in_err-check_top.result c.from_residual-in_err-check_top.ensures.1 in
     let P : FileForm → Type 0 = λ f. f.offset ≤ c.args.length in
-    let kept : map file_form c.as_slice-2.result.now ≡ alive_in (map file_form c.args.files.items) =
-    ap (map file_form) c.as_slice-2.ensures.value ∙ c.keep_alive.ensures in
+    let kept : map file_form c.as_slice-2.result.now ≡ current_in (map file_form c.args.files.items) =
+    ap (map file_form) c.as_slice-2.ensures.value ∙ c.keep_current.ensures in
     let some =
     subst (AllByRecursion P) (sym kept)
     (all_filter (λ f. not (list_any (replaces f) (map file_form c.args.files.items))) P
@@ -37,8 +37,8 @@ of-requires c =
     omega (
       arith,
       ap length c.as_slice-3.ensures.value,
-      ap length c.keep_alive.ensures,
-      length-map c.keep_alive.new.files.items file_form,
+      ap length c.keep_current.ensures,
+      length-map c.keep_current.new.files.items file_form,
       length-map c.args.files.items file_form,
       filter_few (λ f. not (list_any (replaces f) (map file_form c.args.files.items))) (map file_form c.args.files.items),
       c.requires.few,

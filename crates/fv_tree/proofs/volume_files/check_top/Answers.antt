@@ -4,7 +4,7 @@ use Rattle.std.proofs.lemmas.Bool.Decides.{Decides-eqb}
 use Rattle.std.proofs.lemmas.List.{length-map, take_all}
 use Rattle.std.proofs.lemmas.Result.{err_from_is_err_and}
 use Rattle.fv_tree.specs.Files.{FileForm, is_top, end_of}
-use Rattle.fv_tree.specs.StandingForms.{file_form}
+use Rattle.fv_tree.specs.inner.LocatedFiles.{file_form}
 use Rattle.fv_tree.proofs.IndexLaws.{no_file}
 use Rattle.fv_tree.proofs.NameLaws.{more_items, seam_items, none_push, top_last, placed, misplaced, not_top_yet, after_none}
 use Rattle.fv_tree.proofs.volume_files.check_top.Goals as goal

@@ -5,7 +5,7 @@ use Rattle.fv_file.specs.declared.cell.Cell.{Cell}
 use Rattle.fv_file.specs.declared.cell.Cell.TheVariants as cells
 use Rattle.fv_file.specs.declared.state.FileState.TheVariants as states
 use Rattle.fv_tree.specs.Files.{files_in}
-use Rattle.fv_tree.specs.StandingForms.{file_form}
+use Rattle.fv_tree.specs.inner.LocatedFiles.{file_form}
 use Rattle.fv_tree.proofs.NameLaws.{files_in_items}
 use Rattle.fv_tree.proofs.volume_files.files_of.Goals as goal
 

@@ -3,9 +3,9 @@ use Rattle.std.proofs.lemmas.Result.{err_from_is_err_and}
 use Rattle.std.specs.Prelude.{not, cond, true}
 use Rattle.std.specs.BTreeMap.{is_at}
 use Rattle.std.specs.BTreeSet.{contains}
-use Rattle.fv_tree.specs.NameOrders.{key_cmp}
+use Rattle.fv_tree.specs.inner.NameOrders.{key_cmp}
 use Rattle.fv_tree.specs.Files.{FileForm}
-use Rattle.fv_tree.specs.StandingForms.{file_form}
+use Rattle.fv_tree.specs.inner.LocatedFiles.{file_form}
 use Rattle.fv_tree.proofs.IndexLaws.{no_file}
 use Rattle.fv_tree.proofs.NameLaws.{more_items, seam_items, names_more, twins_more, twin_found}
 use Rattle.fv_tree.proofs.volume_files.names_of.Goals as goal

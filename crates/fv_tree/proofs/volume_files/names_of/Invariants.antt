@@ -1,7 +1,7 @@
 use Rattle.std.proofs.Common.{map, take}
 use Rattle.fv_tree.specs.Files.{NoTwins}
-use Rattle.fv_tree.specs.NameOrders.{HasNames}
-use Rattle.fv_tree.specs.StandingForms.{file_form}
+use Rattle.fv_tree.specs.inner.NameOrders.{HasNames}
+use Rattle.fv_tree.specs.inner.LocatedFiles.{file_form}
 use Rattle.fv_tree.proofs.volume_files.names_of.Given as goal
 
 abbrev pub invariant-loop-file : goal.invariant-loop-file

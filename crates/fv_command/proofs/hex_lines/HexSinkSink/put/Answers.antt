@@ -1,7 +1,7 @@
 use Rattle.std.proofs.Common.{ℕ, List, length, take, drop, ◌≤◌, arith, subst, sym, length-drop}
 use Rattle.std.proofs.Math.Seq.{take-add}
-use Rattle.fv_command.specs.HexSinks.{Lined}
-use Rattle.fv_command.specs.HexLaws.{lined_joined}
+use Rattle.fv_command.specs.inner.HexSinks.{Lined}
+use Rattle.fv_command.specs.inner.HexLaws.{lined_joined}
 use Rattle.fv_command.proofs.hex_lines.HexSinkSink.put.Goals as goal
 
 pub loop-at-preserved : goal.loop-at-preserved

@@ -1,5 +1,5 @@
 use Rattle.std.proofs.Common.{length, ◌-◌, ◌≤◌, take}
-use Rattle.fv_command.specs.HexSinks.{HexTakes}
+use Rattle.fv_command.specs.inner.HexSinks.{HexTakes}
 use Rattle.fv_command.proofs.hex_lines.HexSinkSink.put.Given as goal
 
 abbrev pub invariant-loop-at : goal.invariant-loop-at

@@ -1,5 +1,5 @@
 use Rattle.std.proofs.Common.{◌≡◌, ◌+◌, ◌%◌, take}
-use Rattle.fv_head.specs.WordSums.{word_weight, is_high_behind}
+use Rattle.fv_head.specs.inner.WordSums.{word_weight, is_high_behind}
 use Rattle.fv_head.proofs.head_image.WordSinkSink.put.Given as goal
 
 -- the bytes so far are added

@@ -5,9 +5,9 @@ use Rattle.std.proofs.lemmas.List.{map_more, take_all}
 use Rattle.std.proofs.lemmas.List.Sorted.{IsPermutation-trans}
 use Rattle.std.proofs.lemmas.Nat.{one_shl}
 use Rattle.fv_tree.specs.FileNames.{Entry, Halves, numbered}
-use Rattle.fv_tree.specs.NameOrders.{names_in}
-use Rattle.fv_tree.specs.StandingForms.{file_form}
-use Rattle.fv_tree.specs.declared.volume_files.Standing.{Standing}
+use Rattle.fv_tree.specs.inner.NameOrders.{names_in}
+use Rattle.fv_tree.specs.inner.LocatedFiles.{file_form}
+use Rattle.fv_tree.specs.declared.volume_files.LocatedFile.{LocatedFile}
 use Rattle.fv_tree.proofs.KeyLaws.{entry_at, file_within, keyed_all}
 use Rattle.fv_tree.proofs.name_index.Numbers.of.Goals as goal
 
@@ -28,7 +28,7 @@ bounds-files-number c =
 
 pub loop-key-preserved : goal.loop-key-preserved
 loop-key-preserved c =
-    let files : List Standing = c.args.files.now in
+    let files : List LocatedFile = c.args.files.now in
     let bits : ℕ = c.bits_for-bits.result in
     let keys : List ℕ = c.deref-key-items.result.now in
     let i : ℕ = c.loop-key.key-index in
@@ -43,7 +43,7 @@ loop-key-preserved c =
 
 pub returns-clause-found : goal.returns-clause-found
 returns-clause-found c =
-    let files : List Standing = c.args.files.now in
+    let files : List LocatedFile = c.args.files.now in
     let bits : ℕ = c.bits_for-bits.result in
     let keys : List ℕ = c.deref-key-items.result.now in
     let number : ℕ → ℕ = λ key. key % 2 ^ bits in

@@ -1,0 +1,197 @@
+-- The image by positions is what a walk over the files writes.
+use Rattle.std.proofs.Common.{◌≡◌, ◌≤◌, ◌+◌, ◌-◌, ◌*◌, ◌%◌, ℕ, List, [], ◌∷◌, ◌++◌, length, replicate, refl, sym, ap, ◌∙◌, subst, arith}
+use Rattle.std.proofs.Common.{length-append, append_assoc}
+use Rattle.std.specs.Prelude.{map, Option, None, Some}
+use Rattle.std.specs.List.{AllByRecursion}
+use Rattle.std.proofs.lemmas.List.{replicate-append-replicate}
+use Rattle.fv_base.specs.Flash.{erased_byte}
+use Rattle.fv_base.specs.Value.{up_to_8}
+use Rattle.fv_base.specs.declared.flash.FileSystem.{FileSystem}
+use Rattle.fv_base.specs.declared.flash.Polarity.{Polarity}
+use Rattle.fv_file.specs.NewHeaders.{pad_head_of}
+use Rattle.fv_head.specs.Attributes.{polarity_of}
+use Rattle.fv_head.specs.Ext.{Extension}
+use Rattle.fv_head.specs.Head.{HeadFields, IsReadHead, header_len_of}
+use Rattle.fv_head.specs.HeadImage.{canonical_head}
+use Rattle.fv_head.specs.ExtImage.{IfRead, canonical_end, canonical_first, ext_len, ext_spelled}
+use Rattle.fv_head.proofs.Laws.{ext_again, length-canonical}
+use Rattle.fv_canon.specs.Starts.{StartsFollow}
+use Rattle.fv_canon.specs.PlacedBytes.{PlacedBytes, ShowsPlaced, painted, InOrder}
+use Rattle.fv_canon.specs.StoredFiles.{StoredFile, stored_len, stored_bytes, gap_bytes, placed_files, ext_pad, placed_in_volume, used_size}
+use Rattle.fv_canon.specs.inner.StoredWalks.{stored_item, files_bytes, volume_bytes}
+use Rattle.fv_canon.proofs.CellLaws.{Storable, length-stored, length-pad_head}
+use Rattle.fv_canon.proofs.PositionLaws.{shows_walk, one_image}
+use Rattle.fv_canon.proofs.StoredTilingLaws.{apart, filler_is, length-gap}
+
+edges : (x total : ℕ) → total % 8 ≡ 0 → x ≤ total → (x ≤ up_to_8 x) × (up_to_8 x ≤ total)
+edges x total h l = (omega arith, omega arith)
+
+-- spans from an edge on are spans from each place before it on
+lower : (total x y : ℕ) (ps : List PlacedBytes) → x ≤ y → InOrder total y ps → InOrder total x ps
+lower total x y [] l o = omega (arith, l, o)
+lower total x y (q ∷ qs) l o = (omega (arith, l, o.0), o.1)
+
+-- ---- the files
+pub files_in_order : (system : FileSystem) (p : Polarity) (total e : ℕ) (fs : List StoredFile) (ss : List ℕ) → total % 8 ≡ 0 → e % 8 ≡ 0
+    → e ≤ total → AllByRecursion (Storable system) fs
+    → StartsFollow total e (map stored_item fs) ss → InOrder total e (placed_files p e fs ss)
+files_in_order system p total e [] [] h m r all follow = r
+files_in_order system p total e [] (s ∷ ss) h m r all follow = absurd follow
+files_in_order system p total e (f ∷ fs) [] h m r all follow = absurd follow
+files_in_order system p total e (f ∷ fs) (s ∷ ss) h m r all follow =
+    let a = apart e s m follow.0.lawful.eighth follow.0.lawful.apart in
+    let x : ℕ = s + stored_len f in
+    let b = edges x total h follow.0.within in
+    let later = files_in_order system p total (up_to_8 x) fs ss h (filler_is x).2 b.1 all.1 follow.1 in (
+      omega arith,
+      (
+        before (length (gap_bytes p (s - e))) (length-gap p (s - e) a.0 a.1) a.2,
+        lower total (s + length (stored_bytes p f)) (up_to_8 x) (placed_files p (up_to_8 x) fs ss)
+            (near (length (stored_bytes p f)) (stored_len f) (up_to_8 x) (length-stored system p f all.0) b.0) later,
+      ),
+    )
+  where
+    before : (g : ℕ) → g ≡ s - e → e + (s - e) ≡ s → e + g ≤ s
+    before g p q = omega (arith, p, q)
+
+    near : (k n u : ℕ) → k ≡ n → s + n ≤ u → s + k ≤ u
+    near k n u p q = omega (arith, p, q)
+
+-- erased bytes before the first span are written in one piece or in two
+painted_later : (erased total x y : ℕ) (ps : List PlacedBytes) → x ≤ y → InOrder total y ps
+    → painted erased total x ps ≡ replicate (y - x) erased ++ painted erased total y ps
+painted_later erased total x y [] l o =
+    sym (replicate-append-replicate (y - x) (total - y) erased ∙ ap (λ (n : ℕ). replicate n erased) (sum_of total o))
+  where
+    sum_of : (t : ℕ) → y ≤ t → (y - x) + (t - y) ≡ t - x
+    sum_of t g = omega (arith, l)
+painted_later erased total x y (p ∷ ps) l o =
+    ap (λ (xs : List ℕ). (xs ++ p.bytes) ++ painted erased total (p.at + length p.bytes) ps)
+    (sym (replicate-append-replicate (y - x) (p.at - y) erased ∙ ap (λ (n : ℕ). replicate n erased) (sum_of p.at o.0)))
+    ∙ (ap (λ (xs : List ℕ). xs ++ painted erased total (p.at + length p.bytes) ps)
+    (append_assoc (replicate (y - x) erased) (replicate (p.at - y) erased) p.bytes)
+    ∙ append_assoc (replicate (y - x) erased) (replicate (p.at - y) erased ++ p.bytes) (painted erased total (p.at + length p.bytes) ps))
+  where
+    sum_of : (t : ℕ) → y ≤ t → (y - x) + (t - y) ≡ t - x
+    sum_of t g = omega (arith, l)
+
+-- a span that begins where the walk stands
+painted_here : (erased total e at : ℕ) (bytes : List ℕ) (ps : List PlacedBytes) → at ≡ e
+    → painted erased total e (record { at = at; bytes = bytes } ∷ ps) ≡ bytes ++ painted erased total (e + length bytes) ps
+painted_here erased total e at bytes ps same =
+    ap (λ (n : ℕ). (replicate n erased ++ bytes) ++ painted erased total (at + length bytes) ps) (zero_is at e same)
+    ∙ ap (λ (n : ℕ). bytes ++ painted erased total (n + length bytes) ps) same
+  where
+    zero_is : (a e : ℕ) → a ≡ e → a - e ≡ 0
+    zero_is a e s = omega arith
+
+pub files_painted : (system : FileSystem) (p : Polarity) (total e : ℕ) (fs : List StoredFile) (ss : List ℕ) → total % 8 ≡ 0 → e % 8 ≡ 0
+    → e ≤ total → AllByRecursion (Storable system) fs
+    → StartsFollow total e (map stored_item fs) ss → painted (erased_byte p) total e (placed_files p e fs ss) ≡ files_bytes p total e fs ss
+files_painted system p total e [] [] h m r all follow = refl
+files_painted system p total e [] (s ∷ ss) h m r all follow = absurd follow
+files_painted system p total e (f ∷ fs) [] h m r all follow = absurd follow
+files_painted system p total e (f ∷ fs) (s ∷ ss) h m r all follow =
+    let a = apart e s m follow.0.lawful.eighth follow.0.lawful.apart in
+    let x : ℕ = s + stored_len f in
+    let b = edges x total h follow.0.within in
+    let erased : ℕ = erased_byte p in
+    let gap : List ℕ = gap_bytes p (s - e) in
+    let file : List ℕ = stored_bytes p f in
+    let later : List PlacedBytes = placed_files p (up_to_8 x) fs ss in
+    let filler : List ℕ = replicate (up_to_8 x - x) erased in
+    let order = files_in_order system p total (up_to_8 x) fs ss h (filler_is x).2 b.1 all.1 follow.1 in
+    let rest = files_painted system p total (up_to_8 x) fs ss h (filler_is x).2 b.1 all.1 follow.1 in
+    let place : s ≡ e + length gap = sym (ap (λ (n : ℕ). e + n) (length-gap p (s - e) a.0 a.1) ∙ a.2) in
+    let ended : (e + length gap) + length file ≡ x =
+    ap (λ (n : ℕ). n + length file) (sym place) ∙ ap (λ (n : ℕ). s + n) (length-stored system p f all.0) in
+    painted_here erased total e e gap (record { at = s; bytes = file } ∷ later) refl
+    ∙ ap (λ (xs : List ℕ). gap ++ xs) (painted_here erased total (e + length gap) s file later place
+    ∙ ap (λ (xs : List ℕ). file ++ xs) (ap (λ (n : ℕ). painted erased total n later) ended
+    ∙ painted_later erased total x (up_to_8 x) later b.0 order ∙ ap (λ (xs : List ℕ). filler ++ xs) rest))
+
+-- ---- the whole volume
+
+-- what is known of a volume that can be written
+pub record Writable (h : HeadFields) (fs : List StoredFile) (ss : List ℕ) : Type 0 where
+  pub read : IsReadHead h
+  pub ext : IfRead h.ext
+  pub multiple : h.length % 8 ≡ 0
+  pub room : canonical_first h h.ext ≤ h.length
+  pub files : AllByRecursion (Storable h.file_system) fs
+  pub follow : StartsFollow h.length (canonical_first h h.ext) (map stored_item fs) ss
+
+pub length-ext_pad : (p : Polarity) (h : HeadFields) (x : Option Extension) (used : ℕ) → IfRead x
+    → header_len_of h + length (ext_pad p x used) ≡ canonical_end h x
+unfolding ext_pad
+length-ext_pad p h None used k = omega arith
+length-ext_pad p h (Some x) used k =
+    joined (header_len_of h) (length (pad_head_of (24 + ext_len x) p ++ ext_spelled x used)) (length (pad_head_of (24 + ext_len x) p))
+    (length (ext_spelled x used)) (ext_len x)
+    (length-append (pad_head_of (24 + ext_len x) p) (ext_spelled x used)) (length-pad_head (24 + ext_len x) p) (ext_again x used k).1
+  where
+    joined : (n a b c l : ℕ) → a ≡ b + c → b ≡ 24 → c ≡ l → n + a ≡ n + 24 + l
+    joined n a b c l p q r = omega arith
+
+pub first_is : (h : HeadFields) (x : Option Extension) → (canonical_end h x ≤ canonical_first h x) × (canonical_first h x % 8 ≡ 0)
+first_is h None = (omega arith, len_even h.blocks)
+  where
+    len_even : (bs : List (ℕ × ℕ)) → (56 + 8 * (length bs + 1)) % 8 ≡ 0
+    len_even bs = omega arith
+first_is h (Some x) = (omega arith, omega arith)
+
+volume_in_order : (h : HeadFields) (fs : List StoredFile) (ss : List ℕ) → Writable h fs ss → InOrder h.length 0 (placed_in_volume h fs ss)
+volume_in_order h fs ss k =
+    let p : Polarity = polarity_of h.attributes in
+    let first : ℕ = canonical_first h h.ext in
+    let used : ℕ = used_size first fs ss in
+    let f = first_is h h.ext in
+    let pad : List ℕ = ext_pad p h.ext used in (
+      omega arith,
+      (
+        before (length (canonical_head h)) (header_len_of h) (length-canonical h k.read),
+        lower h.length (header_len_of h + length pad) first (placed_files p first fs ss)
+            (subst (λ (n : ℕ). n ≤ first) (sym (length-ext_pad p h h.ext used k.ext)) f.0)
+            (files_in_order h.file_system p h.length first fs ss k.multiple f.1 k.room k.files k.follow),
+      ),
+    )
+  where
+    before : (a b : ℕ) → a ≡ b → 0 + a ≤ b
+    before a b e = omega (arith, e)
+
+pub volume_painted : (h : HeadFields) (fs : List StoredFile) (ss : List ℕ) → Writable h fs ss
+    → painted (erased_byte (polarity_of h.attributes)) h.length 0 (placed_in_volume h fs ss) ≡ volume_bytes h fs ss
+volume_painted h fs ss k =
+    let p : Polarity = polarity_of h.attributes in
+    let erased : ℕ = erased_byte p in
+    let first : ℕ = canonical_first h h.ext in
+    let used : ℕ = used_size first fs ss in
+    let pad : List ℕ = ext_pad p h.ext used in
+    let head : List ℕ = canonical_head h in
+    let later : List PlacedBytes = placed_files p first fs ss in
+    let f = first_is h h.ext in
+    let order = files_in_order h.file_system p h.length first fs ss k.multiple f.1 k.room k.files k.follow in
+    let rest = files_painted h.file_system p h.length first fs ss k.multiple f.1 k.room k.files k.follow in
+    let place : header_len_of h ≡ 0 + length head = own (header_len_of h) (length head) (length-canonical h k.read) in
+    let ended : (0 + length head) + length pad ≡ canonical_end h h.ext =
+    ap (λ (n : ℕ). n + length pad) (sym place) ∙ length-ext_pad p h h.ext used k.ext in
+    painted_here erased h.length 0 0 head (record { at = header_len_of h; bytes = pad } ∷ later) refl
+    ∙ ap (λ (xs : List ℕ). head ++ xs) (painted_here erased h.length (0 + length head) (header_len_of h) pad later place
+    ∙ ap (λ (xs : List ℕ). pad ++ xs)
+    (ap (λ (n : ℕ). painted erased h.length n later) ended ∙ painted_later erased h.length (canonical_end h h.ext) first later f.0 order
+    ∙ ap (λ (xs : List ℕ). replicate (first - canonical_end h h.ext) erased ++ xs) rest))
+  where
+    own : (a b : ℕ) → b ≡ a → a ≡ 0 + b
+    own a b e = omega (arith, e)
+
+-- one list of bytes shows the volume, and it is what a walk writes
+pub volume_shows : (h : HeadFields) (fs : List StoredFile) (ss b : List ℕ) → Writable h fs ss
+    → ShowsPlaced h.length (erased_byte (polarity_of h.attributes)) (placed_in_volume h fs ss) b → b ≡ volume_bytes h fs ss
+volume_shows h fs ss b k shows = one_image (erased_byte (polarity_of h.attributes)) h.length (placed_in_volume h fs ss) b
+    (volume_in_order h fs ss k) shows ∙ volume_painted h fs ss k
+
+pub volume_written : (h : HeadFields) (fs : List StoredFile) (ss : List ℕ) → Writable h fs ss
+    → ShowsPlaced h.length (erased_byte (polarity_of h.attributes)) (placed_in_volume h fs ss) (volume_bytes h fs ss)
+volume_written h fs ss k =
+    subst (ShowsPlaced h.length (erased_byte (polarity_of h.attributes)) (placed_in_volume h fs ss)) (volume_painted h fs ss k)
+    (shows_walk (erased_byte (polarity_of h.attributes)) h.length (placed_in_volume h fs ss) (volume_in_order h fs ss k))

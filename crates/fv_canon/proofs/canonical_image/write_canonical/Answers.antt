@@ -1,0 +1,19 @@
+use Rattle.std.proofs.Common.{rules, length, ◌<◌, ◌^◌, arith}
+use Rattle.std.specs.Io.KnownBytes.{Appends}
+use Rattle.std.proofs.lemmas.Result.{on_ok_weaker, IfErr-weaker}
+use Rattle.fv_base.specs.Output.{WriteStops}
+use Rattle.fv_canon.proofs.ImageLaws.{image_length, length_limit}
+use Rattle.fv_canon.proofs.canonical_image.write_canonical.Goals as goal
+
+pub returns-clause-ok : goal.returns-clause-ok
+returns-clause-ok g c =
+    let put = c.put_canonical.ensures in
+    on_ok_weaker {P = Appends _ _ put.0} c.outcome.result (λ wrote. (put.0, put.1, wrote)) (search rules)
+
+pub returns-clause-err : goal.returns-clause-err
+returns-clause-err g c =
+    let m = c.args.view.now in
+    let k = c.head-head.ensures.meaning in
+    let put = c.put_canonical.ensures in
+    let short : length put.0 < 2 ^ 64 = omega (arith, image_length m put.0 k put.1, length_limit m k) in
+    IfErr-weaker c.outcome.result (WriteStops _ _ put.0) _ (λ f stops. (put.0, put.1, stops)) (search rules)

@@ -1,0 +1,66 @@
+use Rattle.std.proofs.Common.{◌≡◌, ◌+◌, ◌-◌, ℕ, List, [], ◌++◌, replicate, sym, ap, ◌∙◌, subst, arith, append_assoc}
+use Rattle.std.specs.Prelude.{Option, None, Some, option_copied}
+use Rattle.fv_base.specs.Flash.{erased_byte}
+use Rattle.fv_base.specs.Value.{up_to_8}
+use Rattle.fv_base.specs.declared.flash.Polarity.{Polarity}
+use Rattle.fv_file.specs.NewHeaders.{pad_head_of}
+use Rattle.fv_head.specs.Attributes.{polarity_of}
+use Rattle.fv_head.specs.Ext.{Extension}
+use Rattle.fv_head.specs.Head.{HeadFields, header_len_of}
+use Rattle.fv_head.specs.ExtImage.{canonical_end, canonical_first, ext_len, ext_spelled}
+use Rattle.fv_canon.specs.StoredFiles.{ext_pad}
+use Rattle.fv_canon.proofs.pads_and_headers.put_ext_pad.Goals as goal
+
+none_text : (p : Polarity) (h : HeadFields) (x : Option Extension) (used n : ℕ) → x ≡ None
+    → ext_pad p x used ++ replicate (canonical_first h x - canonical_end h x) n ≡ []
+unfolding ext_pad
+none_text p h x used n e = subst (λ (y : Option Extension). ext_pad p y used ++ replicate (canonical_first h y - canonical_end h y) n ≡ [])
+    (sym e) (ap (λ (m : ℕ). replicate m n) (nothing (header_len_of h)))
+  where
+    nothing : (k : ℕ) → k - k ≡ 0
+    nothing k = omega arith
+
+some_text : (p : Polarity) (h : HeadFields) (x : Option Extension) (y : Extension) (used n : ℕ) → x ≡ Some y
+    → ext_pad p x used ++ replicate (canonical_first h x - canonical_end h x) n
+    ≡ pad_head_of (24 + ext_len y) p
+    ++ (ext_spelled y used ++ replicate (up_to_8 (header_len_of h + 24 + ext_len y) - (header_len_of h + 24 + ext_len y)) n)
+unfolding ext_pad
+some_text p h x y used n e =
+    subst
+    (λ (z : Option Extension). ext_pad p z used ++ replicate (canonical_first h z - canonical_end h z) n ≡ pad_head_of (24 + ext_len y) p
+    ++ (ext_spelled y used ++ replicate (up_to_8 (header_len_of h + 24 + ext_len y) - (header_len_of h + 24 + ext_len y)) n)) (sym e)
+    (append_assoc (pad_head_of (24 + ext_len y) p) (ext_spelled y used)
+    (replicate (up_to_8 (header_len_of h + 24 + ext_len y) - (header_len_of h + 24 + ext_len y)) n))
+
+pub returns-in-None : goal.returns-in-None
+returns-in-None g c =
+    let none : c.args.head.now.ext ≡ None = sym c.ext.ensures ∙ ap option_copied c.in-None.is in
+    subst (λ (xs : List ℕ). g.S.Sink.takes c.args.out.now xs c.args.out.now) (sym (none_text (polarity_of c.args.head.now.attributes)
+    c.args.head.now c.args.head.now.ext c.args.used (erased_byte (polarity_of c.args.head.now.attributes)) none))
+    (g.S.Sink.laws.none c.args.out.now)
+
+pub returns-in-Some : goal.returns-in-Some
+returns-in-Some g c =
+    let h : HeadFields = c.args.head.now in
+    let x : Extension = c.in-Some.ext.now in
+    let p : Polarity = polarity_of h.attributes in
+    let some : c.args.head.now.ext ≡ Some c.in-Some.ext.now = sym c.ext.ensures ∙ ap option_copied c.in-Some.is in
+    let polar : c.polarity-polarity.result ≡ polarity_of h.attributes = c.polarity-polarity.ensures ∙ ap polarity_of c.attributes.ensures in
+    let len : c.from-len.result ≡ ext_len x = c.from-len.ensures ∙ c.len_of_ext.ensures.len in
+    let header : c.from-header.result ≡ header_len_of h = c.from-header.ensures ∙ c.header_len.ensures.length in
+    let end : (c.from-header.result + 24) + c.from-len.result ≡ header_len_of h + 24 + ext_len x =
+    ap (λ (n : ℕ). (n + 24) + c.from-len.result) header ∙ ap (λ (n : ℕ). (header_len_of h + 24) + n) len in
+    let erased : c.erased.result ≡ erased_byte p = c.erased.ensures.value ∙ ap erased_byte polar in
+    let bytes : c.as_slice.result.now ≡ pad_head_of (24 + ext_len x) p = c.as_slice.ensures ∙ c.pad_head_bytes.ensures.bytes
+    ∙ ap (λ (n : ℕ). pad_head_of (24 + n) c.polarity-polarity.result) len ∙ ap (λ (q : Polarity). pad_head_of (24 + ext_len x) q) polar in
+    let filler : replicate (c.up_to_8.result - ((c.from-header.result + 24) + c.from-len.result)) c.erased.result
+    ≡ replicate (up_to_8 (header_len_of h + 24 + ext_len x) - (header_len_of h + 24 + ext_len x)) (erased_byte p) =
+    ap (λ (n : ℕ). replicate (n - ((c.from-header.result + 24) + c.from-len.result)) c.erased.result) c.up_to_8.ensures
+    ∙ ap (λ (n : ℕ). replicate (up_to_8 n - n) c.erased.result) end
+    ∙ ap (λ (n : ℕ). replicate (up_to_8 (header_len_of h + 24 + ext_len x) - (header_len_of h + 24 + ext_len x)) n) erased in
+    let rest : List ℕ = replicate (up_to_8 (header_len_of h + 24 + ext_len x) - (header_len_of h + 24 + ext_len x)) (erased_byte p) in
+    subst (λ (xs : List ℕ). g.S.Sink.takes c.args.out.now xs c.fill.new.out) (sym (some_text p h h.ext x c.args.used (erased_byte p) some))
+    (g.S.Sink.laws.joined c.args.out.now c.put.new.self c.fill.new.out (pad_head_of (24 + ext_len x) p) (ext_spelled x c.args.used ++ rest)
+    (subst (λ (xs : List ℕ). g.S.Sink.takes c.args.out.now xs c.put.new.self) bytes c.put.ensures)
+    (g.S.Sink.laws.joined c.put.new.self c.put_ext.new.out c.fill.new.out (ext_spelled x c.args.used) rest c.put_ext.ensures.bytes
+    (subst (λ (xs : List ℕ). g.S.Sink.takes c.put_ext.new.out xs c.fill.new.out) filler c.fill.ensures)))

@@ -1,0 +1,49 @@
+use Rattle.std.proofs.Common.{◌≡◌, ◌≤◌, ◌⊎◌, inl, inr, ◌-◌, ℕ, List, [], ◌++◌, refl, sym, ap, ◌∙◌, subst, arith, append_assoc}
+use Rattle.fv_canon.specs.StoredFiles.{pad_bytes, long_pad, gap_bytes}
+use Rattle.fv_canon.proofs.PadLaws.{gap_none, pads_rule}
+use Rattle.fv_canon.proofs.pads_and_headers.put_gap.Goals as goal
+
+least_of : (n : ℕ) → (n ≡ 0) ⊎ (24 ≤ n) → (n ≡ 0 → ⊥) → 24 ≤ n
+least_of n (inl z) h = absurd (h z)
+least_of n (inr l) h = l
+
+pub returns-then-gap-eq0 : goal.returns-then-gap-eq0
+returns-then-gap-eq0 g c = subst (λ (xs : List ℕ). g.S.Sink.takes c.args.out.now xs c.args.out.now)
+    (sym (gap_none c.args.polarity c.args.gap c.if-gap-eq0.true)) (g.S.Sink.laws.none c.args.out.now)
+
+pub loop-left-init : goal.loop-left-init
+loop-left-init g c =
+    let least = least_of c.args.gap c.requires.fits (λ z. c.if-gap-eq0.false z) in
+    record {
+      least = least;
+      most = omega arith;
+      multiple = c.requires.multiple;
+      done = record { front = []; taken = g.S.Sink.laws.none c.args.out.now; whole_is = refl };
+    }
+
+pub loop-left-preserved : goal.loop-left-preserved
+loop-left-preserved g c =
+    let inv = c.loop-left.invariant in
+    let rule = (pads_rule c.args.polarity c.loop-left.left inv.least inv.multiple).1 c.loop-left-test.true in
+    let pad = pad_bytes c.args.polarity long_pad in
+    let f = inv.done in
+    record {
+      least = omega (arith, rule.1);
+      most = omega (arith, inv.most);
+      multiple = omega (arith, inv.multiple, c.loop-left-test.true);
+      done = record {
+        front = f.front ++ pad;
+        taken = g.S.Sink.laws.joined c.args.out.now c.loop-left.out c.put_pad.new.out f.front pad f.taken c.put_pad.ensures;
+        whole_is = append_assoc f.front pad (gap_bytes c.args.polarity (c.loop-left.left - long_pad))
+            ∙ ap (λ (xs : List ℕ). f.front ++ xs) (sym rule.0) ∙ f.whole_is;
+      };
+    }
+
+pub returns : goal.returns
+returns g c =
+    let inv = c.loop-left.invariant in
+    let one = (pads_rule c.args.polarity c.loop-left.left inv.least inv.multiple).0 c.loop-left-test.false in
+    let f = inv.done in
+    subst (λ (xs : List ℕ). g.S.Sink.takes c.args.out.now xs c.put_pad-2.new.out)
+    (ap (λ (xs : List ℕ). f.front ++ xs) (sym one) ∙ f.whole_is) (g.S.Sink.laws.joined c.args.out.now
+    c.loop-left.out c.put_pad-2.new.out f.front (pad_bytes c.args.polarity c.loop-left.left) f.taken c.put_pad-2.ensures)

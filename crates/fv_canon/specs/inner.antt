@@ -1,0 +1,11 @@
+-- Definitions that serve private clauses alone: there is nothing to believe here.
+pub mod Depths
+pub mod ImageOf
+pub mod ImageWalks
+pub mod LayoutWalks
+pub mod Matching
+pub mod MatchingLaws
+pub mod Placed
+pub mod Reaches
+pub mod StoredWalks
+pub mod SummingSinks

@@ -1,0 +1,30 @@
+-- What a walk over a volume writes, piece by piece.
+use Rattle.std.specs.Prelude.{◌≡◌, ℕ, ◌-◌, List, [], ◌++◌, length, replicate, drop}
+use Rattle.fv_section.specs.Frames.{FrameForm, frame_len, up_to_4}
+use Rattle.fv_section.specs.SectionImage.{section_head_of}
+use Rattle.fv_tree.specs.Meaning.{SectionMeanings, NoSections, MoreSections}
+use Rattle.fv_canon.specs.inner.ImageOf.{frame_of, starts_in}
+use Rattle.fv_canon.specs.Layouts.{AreStarts, Laid}
+use Rattle.fv_canon.specs.Volumes.{Inside, volumes_in_section}
+
+-- a frame: header and body
+abbrev pub frame_bytes : FrameForm → List ℕ
+frame_bytes f = section_head_of f.kind f.extended (length f.body) ++ f.body
+
+-- sections with the zero bytes between them; `gap` zero bytes come before the first
+abbrev pub sections_bytes : ℕ → SectionMeanings → List ℕ → List ℕ
+sections_bytes gap NoSections starts = []
+sections_bytes gap (MoreSections s ss) starts =
+    (replicate gap 0 ++ frame_bytes (frame_of 0 s starts))
+    ++ sections_bytes (up_to_4 (frame_len (frame_of 0 s starts)) - frame_len (frame_of 0 s starts)) ss
+    (drop (starts_in (volumes_in_section s)) starts)
+
+-- the starts begin with those of these volumes
+abbrev pub BeginsWithStarts : List Inside → List ℕ → Type 0
+BeginsWithStarts vs starts = (laid : List ℕ) × (more : List ℕ) × (starts ≡ laid ++ more) × Laid AreStarts vs laid
+
+-- the first bytes of the whole were taken, and `rest` is left
+pub record TakesFront {S : Type 0} (takes : S → List ℕ → S → Type 0) (s t : S) (whole rest : List ℕ) : Type 0 where
+  pub front : List ℕ
+  pub taken : takes s front t
+  pub whole_is : front ++ rest ≡ whole

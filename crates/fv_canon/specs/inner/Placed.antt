@@ -1,0 +1,22 @@
+-- What a walk over the files of a volume requires.
+use Rattle.std.specs.Prelude.{◌≡◌, ◌≤◌, ◌+◌, ◌%◌, ℕ, List, [], ◌∷◌, map}
+use Rattle.fv_base.specs.Limits.{volume_limit}
+use Rattle.fv_tree.specs.Meaning.{FileMeaning, data_len_of}
+use Rattle.fv_canon.specs.Layouts.{layout_item}
+use Rattle.fv_canon.specs.StoredFiles.{size_for}
+use Rattle.fv_canon.specs.Starts.{StartsFollow}
+
+-- the files can be placed at these starts, from the edge e on, in a volume of `total` bytes
+pub record ArePlaced (total e : ℕ) (files : List FileMeaning) (starts : List ℕ) : Type 0 where
+  pub follow : StartsFollow total e (map layout_item files) starts
+  pub eighth : e % 8 ≡ 0
+  pub behind : 64 ≤ e
+  pub within : e ≤ total
+  pub multiple : total % 8 ≡ 0
+  pub limit : total ≤ volume_limit
+
+-- the end of the last file, or `end` if there is none
+abbrev pub used_by : ℕ → List FileMeaning → List ℕ → ℕ
+used_by end [] starts = end
+used_by end (f ∷ fs) [] = end
+used_by end (f ∷ fs) (s ∷ ss) = used_by (s + size_for (data_len_of f)) fs ss

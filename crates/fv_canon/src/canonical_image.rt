@@ -1,0 +1,87 @@
+//! The canonical image of a volume.
+
+ghost use Rattle.std.specs.Prelude.{◌≡◌, ◌⊎◌, ℕ, List, IfOk, IfErr, OnOk, OnErr, true};
+ghost use Rattle.std.specs.Io.KnownBytes.{Appends};
+ghost use Rattle.fv_base.specs.Faults.{out_of_memory};
+ghost use Rattle.fv_base.specs.Port.{inner_of, has_erred};
+ghost use Rattle.fv_canon.specs.Image.{IsImage};
+ghost use Rattle.fv_canon.specs.Layouts.{Fits, Unfit};
+ghost use Rattle.fv_canon.specs.LayoutForms.{IsLayout};
+ghost use Rattle.fv_base.specs.Output.{WriteStops};
+ghost use Rattle.fv_tree.specs.Denotes.{Accepted, IsMeaning};
+ghost use Rattle.fv_tree.specs.Meaning.{Meaning};
+
+use crate::image_walk::put_image;
+use crate::known_layout::Layout;
+use crate::layout_walk::layout;
+use fv_base::{ByteList, Fault, ListSink, Port, Sink, WriteSink};
+use fv_tree::VolumeView;
+use std::alloc::Global;
+use std::io::Write;
+
+/// Puts the canonical image of the view into a sink, in one walk that takes no memory. The layout
+/// must be that of the view. (PI specification, volume 3, section 3.2.)
+pub fn put_canonical<S: Sink>(view: &VolumeView<'_>, layout: &Layout, out: &mut S)
+    requires { IsLayout view.now layout.now }
+    ensures { (image : List ℕ) × IsImage view.now image × S.takes out.old image out.new }
+{
+    let _head = view.head();
+    put_image(out, view, layout.all());
+}
+
+/// Writes the canonical image of the view to a port, in one walk that takes no memory. The layout
+/// must be that of the view. (PI specification, volume 3, section 3.2.)
+///
+/// # Errors
+///
+/// WriteFault at the number of bytes written in this call, if a write fails or takes no byte.
+/// Exactly that many bytes of the image were written then.
+pub fn write_canonical<W: Write>(
+    view: &VolumeView<'_>,
+    layout: &Layout,
+    writer: &mut Port<W>,
+) -> Result<(), Fault>
+    requires { IsLayout view.now layout.now }
+
+    // The image was written.
+    ensures ok { OnOk result ((image : List ℕ) × IsImage view.now image
+        × Appends (W.contents (inner_of writer.old)) (W.contents (inner_of writer.new)) image) }
+
+    // The first bytes of it were written, as many as the fault's offset says.
+    ensures err { IfErr result (λ f. (image : List ℕ) × IsImage view.now image
+        × WriteStops (W.contents (inner_of writer.old)) (W.contents (inner_of writer.new)) image f) }
+
+    // The writer's fault is returned exactly if a write failed.
+    ensures fine { OnOk result (has_erred writer.new ≡ has_erred writer.old) }
+    ensures erred { OnErr result (has_erred writer.new ≡ true) }
+{
+    let mut out = WriteSink::new(writer);
+    let _head = view.head();
+    put_canonical(view, layout, &mut out);
+    out.outcome()
+}
+
+/// The canonical image of the view. Memory for the whole length is reserved first. (PI
+/// specification, volume 3, section 3.2.)
+///
+/// # Errors
+///
+/// Those of `layout`. OutOfMemory.
+pub fn canonical(alloc: Global, view: &VolumeView<'_>) -> Result<ByteList, Fault>
+    // It is the image of the meaning, and nothing else is.
+    ensures image { IfOk result (λ bytes. IsImage view.now bytes) }
+    ensures only { (other : List ℕ) → IsImage view.now other → IfOk result (λ bytes. bytes ≡ other) }
+
+    // It is a volume with this meaning, and the image of no other meaning that some bytes have.
+    ensures denotes { IfOk result (λ bytes. Accepted bytes view.now) }
+    ensures meaning { IfOk result (λ bytes. (m : Meaning) → IsMeaning m → IsImage m bytes → m ≡ view.now) }
+
+    // Any error other than OutOfMemory is that of a volume that does not fit.
+    ensures err { IfErr result (λ f. (f ≡ out_of_memory) ⊎ Unfit view.now 0 f) }
+    ensures fits { Fits view.now → IfErr result (λ f. f ≡ out_of_memory) }
+{
+    let places = layout(alloc, view)?;
+    let mut out = ListSink::with_room(alloc, view.head().length() as usize)?;
+    put_canonical(view, &places, &mut out);
+    out.finish()
+}

@@ -1,0 +1,146 @@
+//! The pieces of a canonical image: pads, gaps, and the headers of files and sections.
+
+ghost use Rattle.std.specs.Prelude.{◌⊎◌, ◌≡◌, ◌≤◌, ◌<◌, ◌+◌, ◌-◌, ◌%◌, ◌*◌, ◌^◌, ℕ, [], ◌∷◌, ◌++◌, replicate};
+ghost use Rattle.fv_file.specs.Attributes.{attributes_by};
+ghost use Rattle.fv_section.specs.Frames.{up_to_4};
+ghost use Rattle.fv_section.specs.SectionImage.{FitsForm, section_head_of};
+ghost use Rattle.fv_tree.specs.Meaning.{file_name_of, file_kind_of, attributes_of, data_len_of};
+ghost use Rattle.fv_tree.specs.Meaning.{body_of, body_len, section_is_extended, section_kind_of, section_len};
+ghost use Rattle.fv_file.specs.NewHeaders.{file_head_of, state_byte};
+ghost use Rattle.fv_canon.specs.StoredFiles.{ext_pad, gap_bytes, pad_bytes, size_for};
+ghost use Rattle.fv_canon.specs.inner.Placed.{ArePlaced, used_by};
+ghost use Rattle.fv_base.specs.Flash.{erased_byte};
+ghost use Rattle.fv_base.specs.Limits.{data_limit, volume_limit};
+ghost use Rattle.fv_head.specs.Attributes.{polarity_of};
+ghost use Rattle.fv_head.specs.ExtImage.{canonical_end, canonical_first};
+
+use fv_base::field::up_to_8;
+use fv_base::{Polarity, Sink, fill};
+use fv_file::{file_head_bytes, pad_head_bytes};
+use fv_head::{VolumeHead, len_of_ext, put_ext};
+use fv_section::section_head_bytes;
+use fv_tree::{FileView, SectionView};
+
+// The number of zero bytes between a section and the next.
+pub(crate) fn filler_of(section: &SectionView<'_>) -> u64
+    requires { section_len section.now < 2 ^ 32 }
+    ensures { result ≡ up_to_4 (section_len section.now) - section_len section.now }
+{
+    let header: u64 = if section.extended() { 8 } else { 4 };
+    let size = header + section.body_len();
+    (size + 3) / 4 * 4 - size
+}
+
+// Puts the header of a section.
+pub(crate) fn put_section_head<S: Sink>(out: &mut S, section: &SectionView<'_>)
+    requires { FitsForm (section_is_extended section.now) (body_len (body_of section.now)) }
+    ensures { S.takes out.old (section_head_of (section_kind_of section.now) (section_is_extended section.now)
+        (body_len (body_of section.now))) out.new }
+{
+    out.put(section_head_bytes(section.kind(), section.extended(), section.body_len()).as_slice());
+}
+
+// Puts a pad.
+pub(crate) fn put_pad<S: Sink>(out: &mut S, size: u64, polarity: Polarity)
+    requires least { 24 ≤ size }
+    requires most { size ≤ 0xffffff }
+    ensures { S.takes out.old (pad_bytes polarity size) out.new }
+{
+    out.put(pad_head_bytes(size, polarity).as_slice());
+    fill(out, polarity.erased(), size - 24);
+}
+
+/// The most bytes of a pad in a gap: the greatest multiple of 8 that fits in `Size`.
+const PAD_MOST: u64 = 0xff_fff8;
+
+/// The size of every pad of a longer gap except its last.
+const LONG_PAD: u64 = 0xff_ff00;
+
+// Puts the pads of a gap.
+pub(crate) fn put_gap<S: Sink>(out: &mut S, gap: u64, polarity: Polarity)
+    requires fits { (gap ≡ 0) ⊎ (24 ≤ gap) }
+    requires multiple { gap % 8 ≡ 0 }
+    ensures { S.takes out.old (gap_bytes polarity gap) out.new }
+{
+    if gap == 0 {
+        return;
+    }
+    let mut left = gap;
+    while left > PAD_MOST {
+        put_pad(out, LONG_PAD, polarity);
+        left -= LONG_PAD;
+    }
+    put_pad(out, left, polarity);
+}
+
+// The size of a file with `data_len` bytes of data, its header included.
+pub(crate) fn size_for(data_len: u64) -> u64
+    requires { data_len < 2 ^ 62 }
+    ensures { result ≡ size_for data_len }
+{
+    let header: u64 = if 24 + data_len > 0xff_ffff { 32 } else { 24 };
+    header + data_len
+}
+
+// Puts the header of a file with this file sum.
+pub(crate) fn put_file_head<S: Sink>(out: &mut S, file: &FileView<'_>, sum: u8, polarity: Polarity)
+    requires most { data_len_of file.now ≤ data_limit }
+    ensures { S.takes out.old (file_head_of (file_name_of file.now) (file_kind_of file.now)
+        (attributes_by (attributes_of file.now)) (data_len_of file.now) sum polarity) out.new }
+{
+    let name = file.name();
+    let head = file_head_bytes(
+        name,
+        file.kind(),
+        file.attributes(),
+        file.data_len(),
+        sum,
+        polarity,
+    );
+    out.put(head.as_slice());
+}
+
+// Puts the pad after the head that holds the extended header, if there is one, and erased bytes to
+// the first edge.
+pub(crate) fn put_ext_pad<S: Sink>(out: &mut S, head: &VolumeHead, used: u32)
+    ensures { S.takes out.old (ext_pad (polarity_of head.now.attributes) head.now.ext used
+        ++ replicate (canonical_first head.now head.now.ext - canonical_end head.now head.now.ext)
+        (erased_byte (polarity_of head.now.attributes))) out.new }
+{
+    let polarity = head.attributes().polarity();
+    let header = u64::from(head.header_len());
+    match head.ext() {
+        None => {}
+        Some(ext) => {
+            let len = u64::from(len_of_ext(ext));
+            out.put(pad_head_bytes(24 + len, polarity).as_slice());
+            put_ext(out, ext, used);
+            let end = header + 24 + len;
+            fill(out, polarity.erased(), up_to_8(end) - end);
+        }
+    }
+}
+
+// The end of the last file, or the first edge if there is none.
+pub(crate) fn used_end(files: &[FileView<'_>], own: &[u64], first: u64) -> u64
+    requires { (total : ℕ) × ArePlaced total first files.now own.now }
+    ensures used { result ≡ used_by first files.now own.now }
+    ensures most { result ≤ volume_limit }
+{
+    if files.is_empty() {
+        return first;
+    }
+    let last = files.len() - 1;
+    own[last] + size_for(files[last].data_len())
+}
+
+// Puts the State byte of a file.
+pub(crate) fn put_state<S: Sink>(out: &mut S, polarity: Polarity)
+    ensures { S.takes out.old (state_byte polarity ∷ []) out.new }
+{
+    let state = match polarity {
+        Polarity::Ones => 0xf8,
+        Polarity::Zeros => 0x07,
+    };
+    out.put(&[state]);
+}

@@ -1,0 +1,61 @@
+//! The canonical bytes of a part of a volume.
+
+ghost use Rattle.std.specs.Prelude.{◌≡◌, ◌⊎◌, ℕ, List, IfOk, IfErr};
+ghost use Rattle.fv_base.specs.Faults.{out_of_memory};
+ghost use Rattle.fv_canon.specs.Image.{IsData, IsBodyImage};
+ghost use Rattle.fv_canon.specs.Layouts.{AllFit, FirstUnfit};
+ghost use Rattle.fv_canon.specs.Volumes.{volumes_in_body, volumes_in_content};
+ghost use Rattle.fv_tree.specs.Meaning.{content_of, body_of};
+
+use crate::image_walk::{put_data, put_section_body};
+use crate::layout_walk::{layout_of_body, layout_of_content};
+use fv_base::{ByteList, Fault, ListSink};
+use fv_tree::{FileView, SectionView};
+use std::alloc::Global;
+
+/// The data of a file as they are in its volume's canonical image. Memory for the whole length is
+/// reserved first. (PI specification, volume 3, section 3.2.3.)
+///
+/// # Errors
+///
+/// The fault of the first volume in the data that does not fit. OutOfMemory.
+pub fn file_bytes(alloc: Global, file: &FileView<'_>) -> Result<ByteList, Fault>
+    ensures data { IfOk result (λ o. IsData (content_of file.now) o) }
+
+    // No other bytes are.
+    ensures only { (other : List ℕ) → IsData (content_of file.now) other → IfOk result (λ o. o ≡ other) }
+
+    // Any error other than OutOfMemory is that of the first volume that does not fit.
+    ensures err { IfErr result (λ f. (f ≡ out_of_memory) ⊎ FirstUnfit (volumes_in_content (content_of file.now)) 0 f) }
+    ensures fits { AllFit (volumes_in_content (content_of file.now)) → IfErr result (λ f. f ≡ out_of_memory) }
+{
+    let _name = file.name();
+    let starts = layout_of_content(alloc, file)?;
+    let mut out = ListSink::with_room(alloc, file.data_len() as usize)?;
+    put_data(&mut out, file.content(), starts.as_slice());
+    out.finish()
+}
+
+/// The body of a section as it is in its volume's canonical image. Memory for the whole length is
+/// reserved first. (PI specification, volume 3, section 3.2.4.)
+///
+/// # Errors
+///
+/// The fault of the first volume in the body that does not fit; a volume that is the body itself is
+/// at depth 0. OutOfMemory.
+pub fn body_bytes(alloc: Global, section: &SectionView<'_>) -> Result<ByteList, Fault>
+    ensures body { IfOk result (λ o. IsBodyImage (body_of section.now) o) }
+
+    // No other bytes are.
+    ensures only { (other : List ℕ) → IsBodyImage (body_of section.now) other → IfOk result (λ o. o ≡ other) }
+
+    // Any error other than OutOfMemory is that of the first volume that does not fit.
+    ensures err { IfErr result (λ f. (f ≡ out_of_memory) ⊎ FirstUnfit (volumes_in_body (body_of section.now)) 0 f) }
+    ensures fits { AllFit (volumes_in_body (body_of section.now)) → IfErr result (λ f. f ≡ out_of_memory) }
+{
+    let _kind = section.kind();
+    let starts = layout_of_body(alloc, section)?;
+    let mut out = ListSink::with_room(alloc, section.body_len() as usize)?;
+    put_section_body(&mut out, section.body(), starts.as_slice());
+    out.finish()
+}

@@ -1,9 +1,0 @@
--- How far a line is indented, as the code holds it.
--- Serves private clauses alone: there is nothing to believe here.
-use Rattle.std.specs.Prelude.{ℕ, ◌+◌}
-use Rattle.fv_command.specs.declared.list_text.Indent.{Indent}
-use Rattle.fv_command.specs.declared.list_text.Indent.TheVariants.{Margin, Inside'}
-
-abbrev pub levels : Indent → ℕ
-levels Margin = 0
-levels (Inside' p outer) = levels outer + 1

@@ -1,0 +1,9 @@
+-- Definitions that serve private clauses alone: there is nothing to believe here.
+pub mod CheckRuns
+pub mod HexDecoding
+pub mod HexLaws
+pub mod HexSinks
+pub mod HobRefusals
+pub mod ImageTexts
+pub mod Indents
+pub mod TaskSteps

@@ -1,0 +1,40 @@
+-- What a check has noted so far, what it wrote, and why it stopped.
+use Rattle.std.specs.Prelude.{◌≡◌, ◌⊎◌, ℕ, Bool, true, List, [], ◌++◌, Option, Some, None}
+use Rattle.fv_base.specs.Faults.{out_of_memory}
+use Rattle.fv_base.specs.declared.fault.Fault.{Fault}
+use Rattle.fv_base.specs.declared.flash.Polarity.{Polarity}
+use Rattle.fv_canon.specs.Refusals.{NotRead}
+use Rattle.fv_file.specs.Cells.{CellForm}
+use Rattle.fv_tree.specs.Denotes.{Accepted}
+use Rattle.fv_tree.specs.Meaning.{Meaning}
+use Rattle.fv_command.specs.declared.depex_notes.DepexNote.{DepexNote}
+use Rattle.fv_command.specs.CheckTexts.{HeldDepex, AreCells, AreNotes, CheckText, depex_lines, pad_notes, verdict_line}
+use Rattle.fv_command.specs.PortViews.{Shown, Writes, WritingStops}
+
+-- the new notes are the old ones, followed by those of these expressions
+abbrev pub Noted : List HeldDepex → List DepexNote → List DepexNote → Type 0
+Noted xs old new = (more : List DepexNote) × (new ≡ old ++ more) × AreNotes xs more
+
+-- the cells of the input, and the polarity of its erased bytes; None if it is its own canonical image
+abbrev pub NotedCells : List ℕ → Bool → Option (List CellForm × Polarity) → Type 0
+NotedCells input same None = same ≡ true
+NotedCells input same (Some (cells, polarity)) = (m : Meaning) → Accepted input m → AreCells m input polarity cells
+
+-- what is noted of the cells, if there are any to look at
+abbrev pub noted_pads : Option (List CellForm × Polarity) → List ℕ
+noted_pads None = []
+noted_pads (Some (cells, polarity)) = pad_notes polarity cells
+
+-- the lines of a check
+abbrev pub noted_lines : Option (List CellForm × Polarity) → List DepexNote → Bool → List ℕ
+noted_lines tiled notes same = noted_pads tiled ++ (depex_lines notes ++ verdict_line same)
+
+-- the text of a check was written
+abbrev pub InputChecks : List ℕ → Shown → Shown → Bool → Type 0
+InputChecks input w v same = (text : List ℕ) × CheckText input same text × Writes w v text
+
+-- nothing was written, because memory ran out or the input is no volume; or a write failed in the text of the check
+abbrev pub CheckStops : List ℕ → Shown → Shown → Fault → Type 0
+CheckStops input w v fault =
+    ((v ≡ w) × ((fault ≡ out_of_memory) ⊎ NotRead input fault))
+    ⊎ ((same : Bool) × (text : List ℕ) × CheckText input same text × WritingStops w v text fault)

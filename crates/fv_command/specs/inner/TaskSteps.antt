@@ -1,0 +1,12 @@
+-- What a task does with its input.
+use Rattle.std.specs.Prelude.{ℕ, Bool, List, Result, Ok, Err}
+use Rattle.fv_base.specs.declared.fault.Fault.{Fault}
+use Rattle.fv_command.specs.PortViews.{Shown}
+use Rattle.fv_command.specs.TaskRuns.{SaysInput, StopsInput}
+use Rattle.fv_command.specs.declared.plan.Task.{Task}
+use Rattle.fv_command.specs.declared.status.Status.{Status}
+
+-- what a task did, by its status or its fault
+abbrev pub Performs : Task → Bool → List ℕ → Shown → Shown → Result Status Fault → Type 0
+Performs task hex input w v (Ok status) = SaysInput task hex input w v status
+Performs task hex input w v (Err fault) = StopsInput task hex input w v fault

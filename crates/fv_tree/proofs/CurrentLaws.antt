@@ -1,0 +1,77 @@
+-- Files with a twin, or with a volume top file that is not at the end, are those of no volume.
+use Rattle.std.proofs.Common.{◌≡◌, ◌⊎◌, ℕ, List, [], ◌∷◌, ◌++◌, Bool, true, false, refl, sym, subst}
+use Rattle.std.proofs.Common.{inl, inr}
+use Rattle.std.specs.Prelude.{◌||◌}
+use Rattle.std.specs.Bool.{beq}
+use Rattle.std.specs.Cmp.{booleans_Decides}
+use Rattle.std.specs.List.{list_any}
+use Rattle.std.proofs.lemmas.Slice.Eq.{bytes_eq-Decides}
+use Rattle.fv_base.proofs.Laws.{and_join, and_split}
+use Rattle.fv_base.specs.Guids.{bytes_of}
+use Rattle.fv_base.specs.declared.fault.Fault.{Fault}
+use Rattle.fv_file.specs.Cells.{CellForm}
+use Rattle.fv_tree.specs.Files.{FileForm, files_in, same_name, is_marked, is_twin, NoTwins, current_in, is_top, end_of, TopAtEnd}
+use Rattle.fv_tree.specs.Files.{HasCurrent}
+use Rattle.fv_tree.specs.FailingChecks.{First}
+use Rattle.fv_tree.specs.FirstFault.{HasTwin, TopElsewhere, NamesFault}
+
+never : (t : Bool) → t ≡ true → t ≡ false → ⊥
+never t p q = cc
+
+pub same_name_back : (f g : FileForm) → same_name f g ≡ true → same_name g f ≡ true
+same_name_back f g h =
+    let a : List ℕ = bytes_of f.head.name in
+    let b : List ℕ = bytes_of g.head.name in
+    (bytes_eq-Decides b a).1 (sym ((bytes_eq-Decides a b).0 h))
+
+pub twin_back : (f g : FileForm) → is_twin f g ≡ true → is_twin g f ≡ true
+twin_back f g h =
+    let p = and_split (same_name f g) (beq (is_marked f.head.state) (is_marked g.head.state)) h in
+    and_join (same_name g f) (beq (is_marked g.head.state) (is_marked f.head.state)) (same_name_back f g p.0)
+    ((booleans_Decides (is_marked g.head.state) (is_marked f.head.state)).1 (sym ((booleans_Decides (is_marked f.head.state)
+    (is_marked g.head.state)).0 p.1)))
+
+or_true : (a b : Bool) → (a || b) ≡ true → (a ≡ true) ⊎ (b ≡ true)
+or_true true b h = inl refl
+or_true false b h = inr h
+
+or_right : (a b : Bool) → b ≡ true → (a || b) ≡ true
+or_right true b h = refl
+or_right false b h = h
+
+or_left : (a b : Bool) → a ≡ true → (a || b) ≡ true
+or_left true b h = refl
+or_left false b h = cc
+
+any_behind : (p : FileForm → Bool) (xs : List FileForm) (f : FileForm) (ys : List FileForm) → p f ≡ true
+    → list_any p (xs ++ (f ∷ ys)) ≡ true
+any_behind p [] f ys h = or_left (p f) (list_any p ys) h
+any_behind p (x ∷ xs) f ys h = or_right (p x) (list_any p (xs ++ (f ∷ ys))) (any_behind p xs f ys h)
+
+twin_not : (before : List FileForm) (f : FileForm) (after : List FileForm) → NoTwins (before ++ (f ∷ after))
+    → list_any (is_twin f) before ≡ true → ⊥
+twin_not [] f after none h = let x : ⊥ = cc in x
+twin_not (g ∷ gs) f after none h = go (twin_not gs f after none.1) (or_true (is_twin f g) (list_any (is_twin f) gs) h) where
+  go : (list_any (is_twin f) gs ≡ true → ⊥) → (is_twin f g ≡ true) ⊎ (list_any (is_twin f) gs ≡ true) → ⊥
+  go rest (inl t) = never (list_any (is_twin g) (gs ++ (f ∷ after))) (any_behind (is_twin g) gs f after (twin_back f g t)) none.0
+  go rest (inr t) = rest t
+
+pub twin_none : (f : FileForm) (fs : List FileForm) → HasTwin First f fs → NoTwins fs → ⊥
+twin_none f fs (before, after, is, none, has) all = twin_not before f after (subst NoTwins is all) has
+
+top_not : (n : ℕ) (before : List FileForm) (f : FileForm) (after : List FileForm) → TopAtEnd n (before ++ (f ∷ after))
+    → is_top f ≡ true → (after ≡ [] → end_of f ≡ n → ⊥) → ⊥
+top_not n [] f [] all top off = off refl (all top)
+top_not n [] f (g ∷ gs) all top off = never (is_top f) top all.0
+top_not n (x ∷ []) f after all top off = top_not n [] f after all.1 top off
+top_not n (x ∷ y ∷ xs) f after all top off = top_not n (y ∷ xs) f after all.1 top off
+
+pub top_none : (n : ℕ) (f : FileForm) (fs : List FileForm) → TopElsewhere n f fs → TopAtEnd n fs → ⊥
+top_none n f fs (before, after, is, top, off) all = top_not n before f after (subst (TopAtEnd n) is all) top off
+
+-- a volume whose files have a fault has none
+pub current_none : (n : ℕ) (cells : List CellForm) (f : Fault) (files : List FileForm) → NamesFault First n (files_in cells) f
+    → HasCurrent n cells files → ⊥
+current_none n cells f files (inl (x, twin, is)) all = twin_none x (files_in cells) twin all.no_twins
+current_none n cells f files (inr (none, x, top, is)) all = top_none n x (current_in (files_in cells)) top (subst
+    (TopAtEnd n) all.files_are all.top)

@@ -1,0 +1,12 @@
+-- Definitions that serve private clauses alone: there is nothing to believe here.
+pub mod Codes
+pub mod DifferenceWalks
+pub mod Falls
+pub mod FoundWalks
+pub mod ListFalls
+pub mod LocatedFiles
+pub mod NameOrders
+pub mod ReadingParts
+pub mod Searches
+pub mod Shapes
+pub mod Sizes

@@ -1,0 +1,22 @@
+-- What the walks of a comparison return.
+use Rattle.std.specs.Prelude.{◌≡◌, reverse, true, Option, Some, None, Result, Ok, Err}
+use Rattle.fv_base.specs.Faults.{out_of_memory}
+use Rattle.fv_base.specs.declared.fault.Fault.{Fault}
+use Rattle.fv_tree.specs.declared.difference.Word.{Word}
+use Rattle.fv_tree.specs.Difference.{Differs, differ_in, has_steps}
+
+-- a difference of this kind, if there is one
+abbrev pub in_word : Option Word → Differs
+in_word None = None
+in_word (Some word) = differ_in word
+
+-- the steps in reverse order
+abbrev pub outermost_first : Differs → Differs
+outermost_first None = None
+outermost_first (Some d) = Some (reverse d.0, d.1)
+
+-- what a walk answers: where the two first differ, with the steps from the inmost out; memory is
+-- wanted only where there are steps
+abbrev pub AnswersDifference : Result Differs Fault → Differs → Type 0
+AnswersDifference (Ok o) d = outermost_first o ≡ d
+AnswersDifference (Err f) d = (f ≡ out_of_memory) × (has_steps d ≡ true)

@@ -1,0 +1,19 @@
+-- What a walk over some bytes finds, offset after offset.
+use Rattle.std.specs.Prelude.{◌≡◌, ℕ, ◌+◌, ◌%◌, ◌≤◌, ◌<◌, List, [], ◌∷◌}
+use Rattle.fv_tree.specs.FoundVolumes.{VolumeAt}
+
+-- no volume begins at a multiple of 8 from `from` on and before `to`; and none from an offset on
+abbrev pub NoneBetween : List ℕ → ℕ → ℕ → Type 0
+NoneBetween b from to = (k n : ℕ) → from ≤ k → k < to → k % 8 ≡ 0 → VolumeAt b k n → ⊥
+
+abbrev pub NoneFrom : List ℕ → ℕ → Type 0
+NoneFrom b from = (k n : ℕ) → from ≤ k → k % 8 ≡ 0 → VolumeAt b k n → ⊥
+
+-- `at` is the first multiple of 8 from this offset on at which a volume begins, and the volume has n bytes
+abbrev pub IsNext : List ℕ → ℕ → ℕ → ℕ → Type 0
+IsNext b from at n = (from ≤ at) × (at % 8 ≡ 0) × NoneBetween b from at × VolumeAt b at n
+
+-- from this offset on, the volumes of b begin at these offsets
+abbrev pub FoundFrom : ℕ → List ℕ → List ℕ → Type 0
+FoundFrom from b [] = NoneFrom b from
+FoundFrom from b (o ∷ os) = (n : ℕ) × IsNext b from o n × FoundFrom (o + n) b os
