@@ -6,7 +6,7 @@ use Rattle.fv_file.specs.Cells.{CellForm, Tiles}
 use Rattle.fv_file.proofs.Laws.{only_one}
 use Rattle.fv_head.specs.Attributes.{polarity_of}
 use Rattle.fv_head.specs.Head.{BeginsVolume, extent_of}
-use Rattle.fv_head.specs.ExtImage.{canonical_first}
+use Rattle.fv_head.specs.ExtImage.{first_edge}
 use Rattle.fv_head.specs.declared.extent.Extent.{Extent}
 use Rattle.fv_head.proofs.Laws.{one_front}
 use Rattle.fv_tree.specs.Denotes.{IsMeaning, MeansSection, Stream}
@@ -22,7 +22,7 @@ cells_are : (m : Meaning) (image : List ℕ) (e : Extent) (cells : List CellForm
     → BeginsVolume (head_of m) e image → Tiles e.file_system e.polarity e.first cells (drop e.first image)
     → DataAligned cells × AllByRecursion (PadErased e.polarity) cells
 cells_are (Volume h files) image e cells (n, most, b, small, d) (stored, starts, are, placed, shows) front tiles =
-    let first : ℕ = canonical_first h h.ext in
+    let first : ℕ = first_edge h h.ext in
     let again = stream_again (MeansSection n) (sections_again n) in
     let k = (known (Stream n) again h files b small d stored starts are placed).writable in
     let own : BeginsVolume h (extent_of h first) image = image_front h stored starts image k shows in

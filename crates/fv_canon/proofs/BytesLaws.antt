@@ -13,7 +13,7 @@ use Rattle.fv_head.specs.Attributes.{polarity_of}
 use Rattle.fv_head.specs.Ext.{Extension, SplitsEntries, IsReadExt, kept_payload, is_used_size, zero_used_size}
 use Rattle.fv_head.specs.Head.{HeadFields}
 use Rattle.fv_head.specs.HeadImage.{canonical_head}
-use Rattle.fv_head.specs.ExtImage.{IfRead, canonical_end, canonical_first, payload_with, entry_bytes, entries_bytes}
+use Rattle.fv_head.specs.ExtImage.{IfRead, canonical_end, first_edge, payload_with, entry_bytes, entries_bytes}
 use Rattle.fv_head.specs.ExtImage.{ext_len, ext_spelled}
 use Rattle.fv_head.proofs.Laws.{canonical_is}
 use Rattle.fv_canon.specs.StoredFiles.{StoredFile, stored_len, stored_bytes, pad_bytes, pads, long_pad, gap_bytes}
@@ -94,7 +94,7 @@ bytes_ext_pad p (Some x) used read =
 pub bytes_volume : (h : HeadFields) (fs : List StoredFile) (ss : List ℕ) → Writable h fs ss → IsBytes (volume_bytes h fs ss)
 bytes_volume h fs ss k =
     let p : Polarity = polarity_of h.attributes in
-    let first : ℕ = canonical_first h h.ext in
+    let first : ℕ = first_edge h h.ext in
     let pad : List ℕ = ext_pad p h.ext (used_size first fs ss) in
     let fill : List ℕ = replicate (first - canonical_end h h.ext) (erased_byte p) in
     let files : List ℕ = files_bytes p h.length first fs ss in

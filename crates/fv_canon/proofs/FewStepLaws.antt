@@ -9,14 +9,15 @@ use Rattle.fv_tree.specs.FileSystems.{is_ffs3}
 use Rattle.fv_tree.specs.Denotes.{IsMeaning}
 use Rattle.fv_tree.specs.Difference.{Differs, unless_one, or_else, under, blocks_eq, ext_eq, head_differs, difference, files_differ}
 use Rattle.fv_tree.specs.Difference.{file_differs, content_differs, sections_differ, section_differs, body_differs}
-use Rattle.fv_tree.specs.Meaning.{Meaning, Volume, FileMeanings, NoFiles, MoreFiles, FileMeaning, File, ContentMeaning, Plain, Sectioned}
-use Rattle.fv_tree.specs.Meaning.{SectionMeanings, NoSections, MoreSections, SectionMeaning, Section, BodyMeaning, Leaf, Group, Nested}
+use Rattle.fv_tree.specs.Meaning.{Meaning, Volume, FileMeanings, NoFiles, MoreFiles, FileMeaning, File, content_of, ContentMeaning}
+use Rattle.fv_tree.specs.Meaning.{Plain, Sectioned, SectionMeanings, NoSections, MoreSections, SectionMeaning, Section, body_of}
+use Rattle.fv_tree.specs.Meaning.{BodyMeaning, Leaf, Group, Nested}
 use Rattle.fv_tree.specs.declared.difference.Step.{Step}
 use Rattle.fv_tree.specs.declared.difference.Step.TheVariants as steps
 use Rattle.fv_tree.specs.declared.difference.Word.{Word}
 use Rattle.fv_tree.specs.declared.difference.Word.TheVariants as words
-use Rattle.fv_canon.specs.inner.Depths.{NestsVolume, NestsFiles, NestsFile, NestsContent, NestsSections, NestsSection, NestsBody}
-use Rattle.fv_canon.proofs.DepthLaws.{nests}
+use Rattle.fv_canon.specs.inner.Depths.{NestsVolume, NestsFiles, NestsContent, NestsSections, NestsBody}
+use Rattle.fv_canon.proofs.DepthLaws.{nests_files, nests_content, nests_sections, nests_body, nests_group, nests_nested}
 
 -- they differ no more than so many steps down, if at all
 abbrev Within : Differs → ℕ → Type 0
@@ -52,19 +53,20 @@ head_few h g n =
 mutual
   volume_few : (v w : Meaning) (n : ℕ) → NestsVolume v n → Within (difference v w) (2 * n + 2)
   volume_few (Volume h fs) (Volume g gs) n deep =
-      within_or (head_differs h g) (files_differ 0 fs gs) (2 * n + 2) (head_few h g (2 * n + 2)) (files_few 0 fs gs n deep)
+      within_or (head_differs h g) (files_differ 0 fs gs) (2 * n + 2) (head_few h g (2 * n + 2))
+      (files_few 0 fs gs n (nests_files h fs n deep))
 
   files_few : (i : ℕ) (fs gs : FileMeanings) (n : ℕ) → NestsFiles fs n → Within (files_differ i fs gs) (2 * n + 2)
   files_few i NoFiles NoFiles n deep = tt
   files_few i NoFiles (MoreFiles g gs) n deep = omega arith
   files_few i (MoreFiles f fs) NoFiles n deep = omega arith
-  files_few i (MoreFiles f fs) (MoreFiles g gs) n (here, behind) =
+  files_few i (MoreFiles f fs) (MoreFiles g gs) n ((form, here), behind) =
       within_or (under (steps.File i) (file_differs f g)) (files_differ (i + 1) fs gs) (2 * n + 2)
       (within_more (under (steps.File i) (file_differs f g)) (2 * n + 1 + 1) (2 * n + 2) (omega arith)
-      (within_under (steps.File i) (file_differs f g) (2 * n + 1) (file_few f g n here)))
+      (within_under (steps.File i) (file_differs f g) (2 * n + 1) (file_few f g n (nests_content f n form here))))
       (files_few (i + 1) fs gs n behind)
 
-  file_few : (f g : FileMeaning) (n : ℕ) → NestsFile f n → Within (file_differs f g) (2 * n + 1)
+  file_few : (f g : FileMeaning) (n : ℕ) → NestsContent (content_of f) n → Within (file_differs f g) (2 * n + 1)
   file_few (File x k a c) (File y l b d) n deep =
       within_or _ _ (2 * n + 1) (within_unless (bytes_eq (bytes_of x) (bytes_of y)) words.Name (2 * n + 1))
       (within_or _ _ (2 * n + 1) (within_unless (k == l) words.Type (2 * n + 1))
@@ -75,18 +77,19 @@ mutual
   content_few (Plain b) (Sectioned ss t) n deep = omega arith
   content_few (Sectioned ss t) (Plain b) n deep = omega arith
   content_few (Sectioned ss t) (Sectioned rs u) n deep =
-      within_or (sections_differ 0 ss rs) _ (2 * n + 1) (sections_few 0 ss rs n deep) (within_unless (t == u) words.Tail (2 * n + 1))
+      within_or (sections_differ 0 ss rs) _ (2 * n + 1) (sections_few 0 ss rs n (nests_sections ss t n deep))
+      (within_unless (t == u) words.Tail (2 * n + 1))
 
   sections_few : (i : ℕ) (ss rs : SectionMeanings) (n : ℕ) → NestsSections ss n → Within (sections_differ i ss rs) (2 * n + 1)
   sections_few i NoSections NoSections n deep = tt
   sections_few i NoSections (MoreSections r rs) n deep = omega arith
   sections_few i (MoreSections s ss) NoSections n deep = omega arith
-  sections_few i (MoreSections s ss) (MoreSections r rs) n (here, behind) =
+  sections_few i (MoreSections s ss) (MoreSections r rs) n ((frame, here), behind) =
       within_or (under (steps.Section i) (section_differs s r)) (sections_differ (i + 1) ss rs) (2 * n + 1)
-      (within_under (steps.Section i) (section_differs s r) (2 * n) (section_few s r n here))
+      (within_under (steps.Section i) (section_differs s r) (2 * n) (section_few s r n (nests_body s n frame here)))
       (sections_few (i + 1) ss rs n behind)
 
-  section_few : (s r : SectionMeaning) (n : ℕ) → NestsSection s n → Within (section_differs s r) (2 * n)
+  section_few : (s r : SectionMeaning) (n : ℕ) → NestsBody (body_of s) n → Within (section_differs s r) (2 * n)
   section_few (Section k e b) (Section l f c) n deep =
       within_or _ _ (2 * n) (within_unless (k == l) words.Type (2 * n))
       (within_or _ _ (2 * n) (within_unless (beq e f) words.Form (2 * n)) (body_few b c n deep))
@@ -96,20 +99,20 @@ mutual
   body_few (Leaf b) (Group rs u) n deep = omega arith
   body_few (Leaf b) (Nested w) n deep = omega arith
   body_few (Group ss t) (Leaf c) n deep = omega arith
-  body_few (Group ss t) (Group rs u) n (k, is, deep) =
+  body_few (Group ss t) (Group rs u) n deep = let (k, is, inside) = nests_group ss t n deep in
       within_or (sections_differ 0 ss rs) _ (2 * n)
-      (within_more (sections_differ 0 ss rs) (2 * k + 1) (2 * n) (omega (arith, is)) (sections_few 0 ss rs k deep))
+      (within_more (sections_differ 0 ss rs) (2 * k + 1) (2 * n) (omega (arith, is)) (sections_few 0 ss rs k inside))
       (within_unless (t == u) words.Tail (2 * n))
   body_few (Group ss t) (Nested w) n deep = omega arith
   body_few (Nested v) (Leaf c) n deep = omega arith
   body_few (Nested v) (Group rs u) n deep = omega arith
-  body_few (Nested v) (Nested w) n (k, is, deep) =
-      within_more (difference v w) (2 * k + 2) (2 * n) (omega (arith, is)) (volume_few v w k deep)
+  body_few (Nested v) (Nested w) n deep = let (k, is, inside) = nests_nested v n deep in
+      within_more (difference v w) (2 * k + 2) (2 * n) (omega (arith, is)) (volume_few v w k inside)
 
 -- so the steps down to where two volumes first differ are few
 pub few_steps : (v w : Meaning) → IsMeaning v → IfSome (difference v w) (λ d. length d.0 ≤ 18)
 few_steps v w (n, deep, b, bytes, d) =
-    go (difference v w) (within_more (difference v w) (2 * n + 2) 18 (omega (arith, deep)) (volume_few v w n (nests n b v d)))
+    go (difference v w) (within_more (difference v w) (2 * n + 2) 18 (omega (arith, deep)) (volume_few v w n (b, d)))
   where
     go : (o : Differs) → Within o 18 → IfSome o (λ d. length d.0 ≤ 18)
     go None p = tt

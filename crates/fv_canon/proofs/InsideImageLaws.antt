@@ -9,6 +9,7 @@ use Rattle.fv_base.specs.declared.flash.Polarity.{Polarity}
 use Rattle.fv_file.specs.Attributes.{attributes_by}
 use Rattle.fv_file.specs.NewHeaders.{file_head_of}
 use Rattle.fv_head.specs.Attributes.{polarity_of}
+use Rattle.fv_head.specs.ExtImage.{first_edge}
 use Rattle.fv_section.specs.Frames.{FrameForm, frame_len, up_to_4}
 use Rattle.fv_section.specs.SectionImage.{section_head_of, stream_of}
 use Rattle.fv_tree.specs.Meaning.{Meaning, Volume, FileMeanings, NoFiles, MoreFiles, FileMeaning, File, ContentMeaning, Plain, Sectioned}
@@ -17,8 +18,8 @@ use Rattle.fv_tree.specs.Meaning.{files_list}
 use Rattle.fv_tree.specs.Denotes.{IsMeaning}
 use Rattle.fv_canon.specs.Headline.{IsWithin, HasOwnImage, EachVolumeHasItsImage}
 use Rattle.fv_canon.specs.Image.{IsImage, AreStored, IsStored, IsData, AreFrames, IsFrame, IsBodyImage}
-use Rattle.fv_canon.specs.Layouts.{layout_item, first_edge}
-use Rattle.fv_canon.specs.PlacedBytes.{PlacedBytes, StandsIn, AllStandIn}
+use Rattle.fv_canon.specs.Layouts.{layout_item}
+use Rattle.fv_canon.specs.PlacedBytes.{PlacedBytes, StandsIn}
 use Rattle.fv_canon.specs.Starts.{StartsFollow}
 use Rattle.fv_canon.specs.StoredFiles.{StoredFile, stored_bytes, stored_len, file_sum_for, placed_files}
 use Rattle.fv_canon.specs.Volumes.{Inside, volumes_in, volumes_in_files, volumes_in_file, volumes_in_content, volumes_in_sections}
@@ -90,13 +91,13 @@ mutual
   volume_inside : (m : Meaning) (b : List ℕ) → IsImage m b → AllByRecursion (HasOwnImage b) (volumes_in m)
   volume_inside (Volume h files) b (stored, starts, are, placed, shows) = (
     (b, (stored, starts, are, placed, shows), ([], [], sym (append-nil b))),
-    files_inside files stored starts b (polarity_of h.attributes) h.length (first_edge h) (first_edge h) are placed.placement.follow
+    files_inside files stored starts b (polarity_of h.attributes) h.length (first_edge h h.ext) (first_edge h h.ext) are placed.placement.follow
         shows.stand.1.1,
   )
 
   files_inside : (files : FileMeanings) (stored : List StoredFile) (starts b : List ℕ) (p : Polarity) (total e k : ℕ)
       → AreStored files stored → StartsFollow total e (map layout_item (files_list files)) starts
-      → AllStandIn b (placed_files p k stored starts) → AllByRecursion (HasOwnImage b) (volumes_in_files files)
+      → AllByRecursion (StandsIn b) (placed_files p k stored starts) → AllByRecursion (HasOwnImage b) (volumes_in_files files)
   files_inside NoFiles stored starts b p total e k are follow stand = tt
   files_inside (MoreFiles f fs) [] starts b p total e k are follow stand = absurd are
   files_inside (MoreFiles f fs) (x ∷ xs) [] b p total e k are follow stand = absurd follow

@@ -1,16 +1,19 @@
 -- The walk over a volume that adds the starts of the files in it: what it added, how deep it goes, and the fault that it passes on.
-use Rattle.std.proofs.Common.{◌≡◌, ◌≤◌, ◌<◌, ◌⊎◌, inl, inr, ◌+◌, ℕ, suc, List, length, take, get_or, refl, sym, ◌∙◌, subst, arith}
+use Rattle.std.proofs.Common.{◌≡◌, ◌≤◌, ◌<◌, ◌⊎◌, inl, inr, ◌+◌, ℕ, List, length, take, get_or, refl, sym, ◌∙◌, subst, arith}
 use Rattle.std.proofs.Common.{Result, Ok, Err, IfErr, IsErrAnd}
 use Rattle.fv_base.specs.Faults.{out_of_memory}
 use Rattle.fv_base.specs.declared.fault.Fault.{Fault}
-use Rattle.fv_tree.specs.Denotes.{IsMeaning, IsReadFile, IsReadSection, MeansSection, Stream}
-use Rattle.fv_tree.specs.Meaning.{Meaning, files_from, FileMeaning, File, content_of}
-use Rattle.fv_tree.specs.Meaning.{SectionMeanings, SectionMeaning, Section, sections_from, BodyMeaning, body_of, Group, Nested}
-use Rattle.fv_canon.specs.inner.Depths.{NestsVolume, NestsFiles, NestsFile, NestsContent, NestsSections, NestsSection, NestsBody}
+use Rattle.fv_head.specs.Head.{HeadFields}
+use Rattle.fv_section.specs.Frames.{FrameForm}
+use Rattle.fv_tree.specs.Denotes.{IsMeaning, IsReadFile, IsReadSection, MeansFile, MeansSection, Stream}
+use Rattle.fv_tree.specs.Files.{FileForm}
+use Rattle.fv_tree.specs.Meaning.{Meaning, Volume, FileMeanings, files_from, FileMeaning, content_of, Sectioned}
+use Rattle.fv_tree.specs.Meaning.{SectionMeanings, SectionMeaning, sections_from, body_of, Group, Nested}
+use Rattle.fv_canon.specs.inner.Depths.{NestsVolume, NestsFiles, NestsContent, NestsSections, NestsBody}
 use Rattle.fv_canon.specs.Layouts.{AreStarts, Laid, FirstUnfit}
 use Rattle.fv_canon.specs.Volumes.{volumes_in_files, volumes_in_file, volumes_in_content, volumes_in_sections, volumes_in_section}
 use Rattle.fv_canon.specs.Volumes.{volumes_in_body}
-use Rattle.fv_canon.proofs.DepthLaws.{nests, file_in, stream_in, sections_in}
+use Rattle.fv_canon.proofs.DepthLaws.{nests_files, nests_content, nests_sections, nests_body, nests_group, nests_nested}
 use Rattle.fv_canon.proofs.ItemLaws.{item_has}
 use Rattle.fv_canon.proofs.VolumeListLaws.{in_file, in_section, item_grew, item_unfit, laid_deeper, unfit_deeper}
 use Rattle.fv_canon.specs.inner.LayoutWalks.{Grew, Shallow}
@@ -39,8 +42,8 @@ pub shallow_at : (ss : List SectionMeaning) (i : ℕ) (s : SectionMeaning) (dept
 shallow_at ss i s depth l is (k, fits, h) =
     (k, fits, item_has (λ xs. NestsSections (sections_from xs) k) (λ x. NestsBody (body_of x) k) (λ x xs h. (one x h.0, h.1)) ss i s l is h)
   where
-    one : (x : SectionMeaning) → NestsSection x k → NestsBody (body_of x) k
-    one (Section kind extended body) h = h
+    one : (x : SectionMeaning) → (f : FrameForm) × MeansSection k f x → NestsBody (body_of x) k
+    one x (f, means) = nests_body x k f means
 
 -- ---- files
 
@@ -66,33 +69,51 @@ pub shallow_file_at : (fs : List FileMeaning) (i : ℕ) (m : FileMeaning) (depth
 shallow_file_at fs i m depth l is (k, fits, h) =
     (k, fits, item_has (λ xs. NestsFiles (files_from xs) k) (λ x. NestsContent (content_of x) k) (λ x xs h. (one x h.0, h.1)) fs i m l is h)
   where
-    one : (x : FileMeaning) → NestsFile x k → NestsContent (content_of x) k
-    one (File name kind attributes content) h = h
+    one : (x : FileMeaning) → (f : FileForm) × MeansFile (Stream k) f x → NestsContent (content_of x) k
+    one x (f, means) = nests_content x k f means
 
 -- ---- how deep it is
 
 -- a volume, a file's data and a section's body that were read nest little
 pub shallow_volume : (m : Meaning) → IsMeaning m → Shallow NestsVolume m 0
-shallow_volume m (n, few, b, small, d) = (n, omega (arith, few), nests n b m d)
+shallow_volume m (n, few, b, small, d) = (n, omega (arith, few), (b, d))
 
 pub shallow_content : (m : FileMeaning) → IsReadFile m → Shallow NestsContent (content_of m) 0
-shallow_content (File name kind attributes content) (n, few, f, stored, is) =
-    (n, omega (arith, few), file_in (Stream n) n (stream_in (MeansSection n) n (sections_in n)) f (File name kind attributes content) is)
+shallow_content m (n, few, f, stored, is) = (n, omega (arith, few), nests_content m n f is)
 
 shallow_body : (s : SectionMeaning) → IsReadSection s → Shallow NestsBody (body_of s) 0
-shallow_body (Section kind extended body) (n, few, f, stored, is) = (n, omega (arith, few), sections_in n f (Section kind extended body) is)
+shallow_body s (n, few, f, stored, is) = (n, omega (arith, few), nests_body s n f is)
 
--- what lies in a section's body, a group or a volume
-inside : (P : ℕ → Type 0) → (n : ℕ) × (0 + n ≤ 255) × ((k : ℕ) × (n ≡ suc k) × P k) → (k : ℕ) × (0 + k ≤ 255) × P k
-inside P (n, fits, (k, is, nests)) = (k, omega (arith, fits, is), nests)
+-- the files of a volume
+pub shallow_files : (h : HeadFields) (files : FileMeanings) (depth : ℕ) → Shallow NestsVolume (Volume h files) depth
+    → Shallow NestsFiles files depth
+shallow_files h files depth (k, fits, read) = (k, fits, nests_files h files k read)
 
-pub shallow_group : (s : SectionMeaning) (ss : SectionMeanings) (tail : ℕ) → IsReadSection s → body_of s ≡ Group ss tail
+-- the sections in a file's data
+pub shallow_sections : (ss : SectionMeanings) (tail depth : ℕ) → Shallow NestsContent (Sectioned ss tail) depth
+    → Shallow NestsSections ss depth
+shallow_sections ss tail depth (k, fits, read) = (k, fits, nests_sections ss tail k read)
+
+-- the sections of a group, and the volume in a section: one level deeper
+pub shallow_group : (ss : SectionMeanings) (tail depth : ℕ) → Shallow NestsBody (Group ss tail) depth
+    → Shallow NestsSections ss (depth + 1)
+shallow_group ss tail depth (n, fits, read) =
+    let (k, is, inside) = nests_group ss tail n read in (k, omega (arith, fits, is), inside)
+
+pub shallow_nested : (m : Meaning) (depth : ℕ) → Shallow NestsBody (Nested m) depth → Shallow NestsVolume m (depth + 1)
+shallow_nested m depth (n, fits, read) = let (k, is, inside) = nests_nested m n read in (k, omega (arith, fits, is), inside)
+
+-- those of a section that was read
+pub group_read : (s : SectionMeaning) (ss : SectionMeanings) (tail : ℕ) → IsReadSection s → body_of s ≡ Group ss tail
     → Shallow NestsSections ss 0
-shallow_group s ss tail read is =
-    inside (NestsSections ss) (subst (λ (b : BodyMeaning). Shallow NestsBody b 0) is (shallow_body s read))
+group_read s ss tail read is =
+    let (k, fits, inside) = shallow_group ss tail 0 (subst (λ b. Shallow NestsBody b 0) is (shallow_body s read)) in
+    (k, omega (arith, fits), inside)
 
-pub shallow_nested : (s : SectionMeaning) (m : Meaning) → IsReadSection s → body_of s ≡ Nested m → Shallow NestsVolume m 0
-shallow_nested s m read is = inside (NestsVolume m) (subst (λ (b : BodyMeaning). Shallow NestsBody b 0) is (shallow_body s read))
+pub nested_read : (s : SectionMeaning) (m : Meaning) → IsReadSection s → body_of s ≡ Nested m → Shallow NestsVolume m 0
+nested_read s m read is =
+    let (k, fits, inside) = shallow_nested m 0 (subst (λ b. Shallow NestsBody b 0) is (shallow_body s read)) in
+    (k, omega (arith, fits), inside)
 
 -- ---- a fault that is passed on
 

@@ -36,6 +36,7 @@ pub mod StartSearchLaws
 pub mod PartBytesLaws
 pub mod StoredTilingLaws
 pub mod StreamLaws
+pub mod SumRightLaws
 pub mod SumLaws
 pub mod SumWalks
 pub mod UnfitKinds

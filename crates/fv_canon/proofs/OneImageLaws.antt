@@ -1,12 +1,14 @@
 -- A meaning has one image at most.
 use Rattle.std.proofs.Common.{◌≡◌, ◌≤◌, ◌<◌, inl, inr, ◌+◌, ◌-◌, ℕ, zero, suc, Bool, List, [], ◌∷◌, ◌++◌, length, take, drop, get_or, refl}
 use Rattle.std.proofs.Common.{sym, ap, ◌∙◌, subst, arith, add-one}
+use Rattle.std.specs.List.{AllByRecursion}
 use Rattle.std.proofs.lemmas.Bool.{cases_lt}
 use Rattle.std.proofs.lemmas.List.{ext_get_or, get_or-take, get_or-drop, take_more, take_all}
 use Rattle.fv_base.specs.Flash.{erased_byte}
 use Rattle.fv_base.specs.Value.{up_to_8}
 use Rattle.fv_base.specs.declared.guid.Guid.{Guid}
 use Rattle.fv_head.specs.Attributes.{polarity_of}
+use Rattle.fv_head.specs.ExtImage.{first_edge}
 use Rattle.fv_head.specs.Head.{HeadFields}
 use Rattle.fv_canon.specs.Starts.{StartsFollow, IsFirstPlacement}
 use Rattle.fv_canon.specs.declared.first_placement.LayoutItem.{LayoutItem}
@@ -16,8 +18,8 @@ use Rattle.fv_section.specs.SectionImage.{stream_of}
 use Rattle.fv_tree.specs.Meaning.{Meaning, Volume, FileMeanings, NoFiles, MoreFiles, FileMeaning, File, ContentMeaning, Plain, Sectioned}
 use Rattle.fv_tree.specs.Meaning.{SectionMeanings, NoSections, MoreSections, SectionMeaning, Section, BodyMeaning, Leaf, Group, Nested}
 use Rattle.fv_canon.specs.Image.{IsImage, AreStored, IsStored, IsData, AreFrames, IsFrame, IsBodyImage}
-use Rattle.fv_canon.specs.Layouts.{layout_items, first_edge}
-use Rattle.fv_canon.specs.PlacedBytes.{PlacedBytes, StandsIn, IsInNone, AllStandIn, ShowsPlaced}
+use Rattle.fv_canon.specs.Layouts.{layout_items}
+use Rattle.fv_canon.specs.PlacedBytes.{PlacedBytes, StandsIn, IsIn, ShowsPlaced}
 use Rattle.fv_canon.specs.StoredFiles.{StoredFile, placed_in_volume}
 
 -- ---- bytes that show the same are the same
@@ -36,8 +38,9 @@ byte_in b p k stands low high =
     inside : (a k n : ℕ) → a ≤ k → k < a + n → k - a < n
     inside a k n l h = omega arith
 
-same_byte : (ps : List PlacedBytes) (b c : List ℕ) (k e : ℕ) → AllStandIn b ps → AllStandIn c ps → (IsInNone k ps → get_or b k 0 ≡ e)
-    → (IsInNone k ps → get_or c k 0 ≡ e) → get_or b k 0 ≡ get_or c k 0
+same_byte : (ps : List PlacedBytes) (b c : List ℕ) (k e : ℕ) → AllByRecursion (StandsIn b) ps
+    → AllByRecursion (StandsIn c) ps → (AllByRecursion (λ p. IsIn k p → ⊥) ps → get_or b k 0 ≡ e)
+    → (AllByRecursion (λ p. IsIn k p → ⊥) ps → get_or c k 0 ≡ e) → get_or b k 0 ≡ get_or c k 0
 same_byte [] b c k e sb sc rb rc = rb tt ∙ sym (rc tt)
 same_byte (p ∷ ps) b c k e sb sc rb rc = elim (cases_lt k p.at) [
   | inl before ↦ same_byte ps b c k e sb.1 sc.1 (λ n. rb (λ i. under i.0 before, n)) (λ n. rc (λ i. under i.0 before, n))
@@ -111,7 +114,7 @@ mutual
   pub image_one : (m : Meaning) (b c : List ℕ) → IsImage m b → IsImage m c → b ≡ c
   image_one (Volume h files) b c (xs, ss, are, placed, shows) (ys, ts, are', placed', shows') =
       let stored : xs ≡ ys = stored_one files xs ys are are' in
-      let starts : ss ≡ ts = starts_one h.length (first_edge h) (layout_items (Volume h files)) ss ts placed placed' in
+      let starts : ss ≡ ts = starts_one h.length (first_edge h h.ext) (layout_items (Volume h files)) ss ts placed placed' in
       shows_one h.length (erased_byte (polarity_of h.attributes)) (placed_in_volume h ys ts) b c
       (same_spans h b xs ys ss ts stored starts shows) shows'
 

@@ -13,7 +13,7 @@ use Rattle.fv_head.specs.Attributes.{polarity_of}
 use Rattle.fv_head.specs.Ext.{Extension}
 use Rattle.fv_head.specs.Head.{HeadFields, IsReadHead, header_len_of}
 use Rattle.fv_head.specs.HeadImage.{canonical_head}
-use Rattle.fv_head.specs.ExtImage.{IfRead, canonical_end, canonical_first, ext_len, ext_spelled}
+use Rattle.fv_head.specs.ExtImage.{IfRead, canonical_end, first_edge, ext_len, ext_spelled}
 use Rattle.fv_head.proofs.Laws.{ext_again, length-canonical}
 use Rattle.fv_canon.specs.Starts.{StartsFollow}
 use Rattle.fv_canon.specs.PlacedBytes.{PlacedBytes, ShowsPlaced, painted, InOrder}
@@ -117,9 +117,9 @@ pub record Writable (h : HeadFields) (fs : List StoredFile) (ss : List ℕ) : Ty
   pub read : IsReadHead h
   pub ext : IfRead h.ext
   pub multiple : h.length % 8 ≡ 0
-  pub room : canonical_first h h.ext ≤ h.length
+  pub room : first_edge h h.ext ≤ h.length
   pub files : AllByRecursion (Storable h.file_system) fs
-  pub follow : StartsFollow h.length (canonical_first h h.ext) (map stored_item fs) ss
+  pub follow : StartsFollow h.length (first_edge h h.ext) (map stored_item fs) ss
 
 pub length-ext_pad : (p : Polarity) (h : HeadFields) (x : Option Extension) (used : ℕ) → IfRead x
     → header_len_of h + length (ext_pad p x used) ≡ canonical_end h x
@@ -133,7 +133,7 @@ length-ext_pad p h (Some x) used k =
     joined : (n a b c l : ℕ) → a ≡ b + c → b ≡ 24 → c ≡ l → n + a ≡ n + 24 + l
     joined n a b c l p q r = omega arith
 
-pub first_is : (h : HeadFields) (x : Option Extension) → (canonical_end h x ≤ canonical_first h x) × (canonical_first h x % 8 ≡ 0)
+pub first_is : (h : HeadFields) (x : Option Extension) → (canonical_end h x ≤ first_edge h x) × (first_edge h x % 8 ≡ 0)
 first_is h None = (omega arith, len_even h.blocks)
   where
     len_even : (bs : List (ℕ × ℕ)) → (56 + 8 * (length bs + 1)) % 8 ≡ 0
@@ -143,7 +143,7 @@ first_is h (Some x) = (omega arith, omega arith)
 volume_in_order : (h : HeadFields) (fs : List StoredFile) (ss : List ℕ) → Writable h fs ss → InOrder h.length 0 (placed_in_volume h fs ss)
 volume_in_order h fs ss k =
     let p : Polarity = polarity_of h.attributes in
-    let first : ℕ = canonical_first h h.ext in
+    let first : ℕ = first_edge h h.ext in
     let used : ℕ = used_size first fs ss in
     let f = first_is h h.ext in
     let pad : List ℕ = ext_pad p h.ext used in (
@@ -164,7 +164,7 @@ pub volume_painted : (h : HeadFields) (fs : List StoredFile) (ss : List ℕ) →
 volume_painted h fs ss k =
     let p : Polarity = polarity_of h.attributes in
     let erased : ℕ = erased_byte p in
-    let first : ℕ = canonical_first h h.ext in
+    let first : ℕ = first_edge h h.ext in
     let used : ℕ = used_size first fs ss in
     let pad : List ℕ = ext_pad p h.ext used in
     let head : List ℕ = canonical_head h in

@@ -1,13 +1,14 @@
 -- What a walk writes shows each span at its position and erased bytes elsewhere, and no other bytes do.
 use Rattle.std.proofs.Common.{◌≡◌, ℕ, ◌+◌, ◌-◌, ◌<◌, ◌≤◌, inl, inr, List, [], ◌∷◌, ◌++◌, length, take, drop, get_or, replicate, refl, sym}
 use Rattle.std.proofs.Common.{◌∙◌, ap, subst, arith, append_assoc, length-append, take-append-drop, zero-add}
+use Rattle.std.specs.List.{AllByRecursion}
 use Rattle.std.proofs.lemmas.Bool.{cases_lt}
 use Rattle.std.proofs.lemmas.List.{length-replicate, length-drop, drop-drop, take_at, drop_at, get_or_append_left, get_or-append_right}
 use Rattle.std.proofs.lemmas.List.{get_or-replicate, get_or-take, get_or-drop, ext_get_or, length-take-le}
-use Rattle.fv_canon.specs.PlacedBytes.{PlacedBytes, IsInNone, AllStandIn, ShowsPlaced, painted, InOrder}
+use Rattle.fv_canon.specs.PlacedBytes.{PlacedBytes, IsIn, StandsIn, ShowsPlaced, painted, InOrder}
 
 -- what is before the spans is in none of them
-pub before_none : (total e k : ℕ) (ps : List PlacedBytes) → InOrder total e ps → k < e → IsInNone k ps
+pub before_none : (total e k : ℕ) (ps : List PlacedBytes) → InOrder total e ps → k < e → AllByRecursion (λ p. IsIn k p → ⊥) ps
 before_none total e k [] o l = tt
 before_none total e k (p ∷ ps) o l = (λ i. omega (arith, i.0, o.0), before_none total (p.at + length p.bytes) k ps o.1 (omega (arith, o.0)))
 
@@ -17,7 +18,7 @@ get_behind front back k l = get_or-append_right front back (length front) k 0 re
 
 -- ---- from the walk to the positions: front is what stands before e
 pub walk_stands : (erased total e : ℕ) (ps : List PlacedBytes) (front : List ℕ) → length front ≡ e → InOrder total e ps
-    → AllStandIn (front ++ painted erased total e ps) ps
+    → AllByRecursion (StandsIn (front ++ painted erased total e ps)) ps
 walk_stands erased total e [] front l o = tt
 walk_stands erased total e (p ∷ ps) front l o =
     let gap = replicate (p.at - e) erased in
@@ -36,7 +37,7 @@ walk_stands erased total e (p ∷ ps) front l o =
         ap (λ xs. take (length p.bytes) (drop p.at xs)) apart ∙ (ap (λ xs. take (length p.bytes) xs)
             (drop_at (front ++ gap) (p.bytes ++ behind) p.at there) ∙ take_at p.bytes behind (length p.bytes) refl),
       ),
-      subst (λ xs. AllStandIn xs ps) (sym moved) later,
+      subst (λ xs. AllByRecursion (StandsIn xs) ps) (sym moved) later,
     )
   where
     there_is : (g : ℕ) → g ≡ p.at - e → length front + g ≡ p.at
@@ -46,7 +47,7 @@ walk_stands erased total e (p ∷ ps) front l o =
     long n m h = omega arith
 
 pub walk_erased : (erased total e : ℕ) (ps : List PlacedBytes) (front : List ℕ) → length front ≡ e → InOrder total e ps → (k : ℕ) → e ≤ k
-    → k < total → IsInNone k ps → get_or (front ++ painted erased total e ps) k 0 ≡ erased
+    → k < total → AllByRecursion (λ p. IsIn k p → ⊥) ps → get_or (front ++ painted erased total e ps) k 0 ≡ erased
 walk_erased erased total e [] front l o k a b n =
     get_behind front (replicate (total - e) erased) k (omega arith) ∙ get_or-replicate (total - e) (k - length front) erased 0 (omega arith)
 walk_erased erased total e (p ∷ ps) front l o k a b n =
@@ -99,8 +100,8 @@ shows_walk erased total ps o = record {
 }
 
 -- ---- from the positions to the walk
-pub walk_from : (erased total e : ℕ) (ps : List PlacedBytes) (b : List ℕ) → length b ≡ total → InOrder total e ps → AllStandIn b ps
-    → ((k : ℕ) → e ≤ k → k < total → IsInNone k ps → get_or b k 0 ≡ erased) → drop e b ≡ painted erased total e ps
+pub walk_from : (erased total e : ℕ) (ps : List PlacedBytes) (b : List ℕ) → length b ≡ total → InOrder total e ps → AllByRecursion (StandsIn b) ps
+    → ((k : ℕ) → e ≤ k → k < total → AllByRecursion (λ p. IsIn k p → ⊥) ps → get_or b k 0 ≡ erased) → drop e b ≡ painted erased total e ps
 walk_from erased total e [] b l o s r =
     ext_get_or 0 (drop e b) (replicate (total - e) erased)
     (length-drop e b ∙ (ap (λ n. n - e) l ∙ sym (length-replicate (total - e) erased)))

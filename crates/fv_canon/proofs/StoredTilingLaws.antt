@@ -5,14 +5,14 @@ use Rattle.std.specs.Prelude.{map, slice_index}
 use Rattle.std.specs.List.{AllByRecursion}
 use Rattle.std.proofs.lemmas.List.{length-replicate}
 use Rattle.fv_base.specs.Alignment.{alignment_of}
-use Rattle.fv_base.specs.Flash.{AllAre}
-use Rattle.fv_base.specs.Flash.{erased_byte}
+use Rattle.fv_base.specs.Flash.{AllAre, erased_byte}
 use Rattle.fv_base.specs.Value.{up_to_8}
 use Rattle.fv_base.specs.declared.flash.FileSystem.{FileSystem}
 use Rattle.fv_base.specs.declared.flash.Polarity.{Polarity}
 use Rattle.fv_base.proofs.Laws.{all-of_replicate}
 use Rattle.fv_file.specs.Attributes.{attribute_bits, is_large}
 use Rattle.fv_file.specs.Cells.{CellForm, Valid, Pad, Free, Tiles}
+use Rattle.fv_file.specs.Files.{fixed_checksum}
 use Rattle.fv_file.specs.NewHeaders.{needs_large, pad_fields, pad_head_of}
 use Rattle.fv_file.proofs.Laws.{alignment_with}
 use Rattle.fv_canon.specs.Starts.{StartsFollow}
@@ -34,6 +34,11 @@ abbrev pub PadErased : Polarity → CellForm → Type 0
 PadErased p (Pad at head payload) = AllAre (erased_byte p) payload
 PadErased p _ = Unit {0}
 
+-- a pad has the fixed file sum
+abbrev pub PadFixed : CellForm → Type 0
+PadFixed (Pad at head payload) = head.file_sum ≡ fixed_checksum
+PadFixed _ = Unit {0}
+
 -- some cells tile the bytes, and these are the files among them
 pub record Tiled (system : FileSystem) (p : Polarity) (at : ℕ) (b : List ℕ) (forms : List FileForm) : Type 0 where
   pub cells : List CellForm
@@ -41,6 +46,7 @@ pub record Tiled (system : FileSystem) (p : Polarity) (at : ℕ) (b : List ℕ) 
   pub files_are : files_in cells ≡ forms
   pub aligned : DataAligned cells
   pub erased : AllByRecursion (PadErased p) cells
+  pub fixed : AllByRecursion PadFixed cells
 
 never : {A : Type 0} → false ≡ true → A
 never e = absurd cc
@@ -66,6 +72,7 @@ pad_tiles system p size at rest forms least most multiple behind =
       files_are = behind.files_are;
       aligned = behind.aligned;
       erased = (all-of_replicate (erased_byte p) (size - 24), behind.erased);
+      fixed = (refl, behind.fixed);
     }
 
 gap_tiles : (system : FileSystem) (p : Polarity) (gap at : ℕ) (rest : List ℕ) (forms : List FileForm) → (gap ≡ 0) ⊎ (24 ≤ gap) → gap % 8 ≡ 0
@@ -99,7 +106,7 @@ length-gap p gap (inr l) multiple =
 -- ---- erased bytes at the end
 
 free_tiles : (system : FileSystem) (p : Polarity) (at n : ℕ) → Tiled system p at (replicate n (erased_byte p)) []
-free_tiles system p at zero = record { cells = []; tiles = refl; files_are = refl; aligned = tt; erased = tt }
+free_tiles system p at zero = record { cells = []; tiles = refl; files_are = refl; aligned = tt; erased = tt; fixed = tt }
 free_tiles system p at (suc n) = record {
   cells = Free at (suc n) ∷ [];
   tiles = (
@@ -114,6 +121,7 @@ free_tiles system p at (suc n) = record {
   files_are = refl;
   aligned = tt;
   erased = (tt, tt);
+  fixed = (tt, tt);
 }
 
 -- ---- file by file
@@ -171,6 +179,7 @@ body_tiles system p total e (f ∷ fs) (s ∷ ss) h m all follow =
       files_are = ap (λ (xs : List FileForm). record { offset = s; head = stored_head p f; payload = f.payload } ∷ xs) behind.files_are;
       aligned = (data_aligned p f s all.0.short follow.0.lawful.aligned, behind.aligned);
       erased = (tt, behind.erased);
+      fixed = (tt, behind.fixed);
     }))
   where
     whole : (s n k u : ℕ) → s % 8 ≡ 0 → u % 8 ≡ 0 → (s + n) + k ≡ u → (n + k) % 8 ≡ 0

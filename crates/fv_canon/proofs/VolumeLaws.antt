@@ -24,7 +24,7 @@ use Rattle.fv_head.specs.Attributes.{polarity_of}
 use Rattle.fv_head.specs.Ext.{Extension}
 use Rattle.fv_head.specs.Head.{HeadFields, HasExt, BeginsVolume, extent_of, IsReadHead, header_len_of}
 use Rattle.fv_head.specs.HeadImage.{canonical_head}
-use Rattle.fv_head.specs.ExtImage.{CanonicalRest, IfRead, canonical_end, canonical_first, ext_len, ext_spelled}
+use Rattle.fv_head.specs.ExtImage.{CanonicalRest, IfRead, canonical_end, first_edge, ext_len, ext_spelled}
 use Rattle.fv_head.specs.declared.extent.Extent.{Extent}
 use Rattle.fv_head.proofs.Laws.{canonical_front, front_lies, length-canonical}
 use Rattle.fv_canon.specs.Starts.{StartsFollow, IsFirstPlacement}
@@ -207,11 +207,11 @@ rest_is p h (Some x) used behind = (
 
 -- the body of an image
 body_is : (h : HeadFields) (fs : List StoredFile) (ss : List ℕ) → IsReadHead h → IfRead h.ext
-    → drop (canonical_first h h.ext) (volume_bytes h fs ss)
-    ≡ files_bytes (polarity_of h.attributes) h.length (canonical_first h h.ext) fs ss
+    → drop (first_edge h h.ext) (volume_bytes h fs ss)
+    ≡ files_bytes (polarity_of h.attributes) h.length (first_edge h h.ext) fs ss
 body_is h fs ss read ext =
     let p : Polarity = polarity_of h.attributes in
-    let first : ℕ = canonical_first h h.ext in
+    let first : ℕ = first_edge h h.ext in
     let used : ℕ = used_size first fs ss in
     let head : List ℕ = canonical_head h in
     let pad : List ℕ = ext_pad p h.ext used in
@@ -263,7 +263,7 @@ pub known : (is_stream : Streams) → StreamsAgain is_stream → (h : HeadFields
     → AreStored files stored → AreStarts (Volume h files) starts → Known is_stream h files d.files stored starts
 known is_stream streams h files b small d stored starts are placed =
     let e : Extent = d.extent in
-    let first : ℕ = canonical_first h h.ext in
+    let first : ℕ = first_edge h h.ext in
     let lies = front_lies b h e d.front in
     let body : List ℕ = drop e.first b in
     let current = files_read is_stream h files b small d in
@@ -290,10 +290,10 @@ known is_stream streams h files b small d stored starts are placed =
 -- an image begins with its head, and with the extended header in its pad behind it
 pub image_front : (h : HeadFields) (fs : List StoredFile) (ss o : List ℕ) → Writable h fs ss
     → ShowsPlaced h.length (erased_byte (polarity_of h.attributes)) (placed_in_volume h fs ss) o
-    → BeginsVolume h (extent_of h (canonical_first h h.ext)) o
+    → BeginsVolume h (extent_of h (first_edge h h.ext)) o
 image_front h fs ss o k shows =
     let p : Polarity = polarity_of h.attributes in
-    let first : ℕ = canonical_first h h.ext in
+    let first : ℕ = first_edge h h.ext in
     let text : o ≡ volume_bytes h fs ss = volume_shows h fs ss o k shows in
     let fill : List ℕ = replicate (first - canonical_end h h.ext) (erased_byte p) ++ files_bytes p h.length first fs ss in
     let rest : List ℕ = ext_pad p h.ext (used_size first fs ss) ++ fill in
@@ -312,11 +312,11 @@ image_front h fs ss o k shows =
 -- and its files and pads tile the rest
 pub image_tiled : (h : HeadFields) (fs : List StoredFile) (ss o : List ℕ) → Writable h fs ss
     → ShowsPlaced h.length (erased_byte (polarity_of h.attributes)) (placed_in_volume h fs ss) o
-    → Tiled h.file_system (polarity_of h.attributes) (canonical_first h h.ext) (drop (canonical_first h h.ext) o)
+    → Tiled h.file_system (polarity_of h.attributes) (first_edge h h.ext) (drop (first_edge h h.ext) o)
     (forms_of (polarity_of h.attributes) fs ss)
 image_tiled h fs ss o k shows =
     let p : Polarity = polarity_of h.attributes in
-    let first : ℕ = canonical_first h h.ext in
+    let first : ℕ = first_edge h h.ext in
     let text : o ≡ volume_bytes h fs ss = volume_shows h fs ss o k shows in
     let body : drop first o ≡ files_bytes p h.length first fs ss = ap (drop first) text ∙ body_is h fs ss k.read k.ext in
     subst (λ (xs : List ℕ). Tiled h.file_system p first xs (forms_of p fs ss)) (sym body)
@@ -326,7 +326,7 @@ image_tiled h fs ss o k shows =
 pub volume_again : (is_stream : Streams) → StreamsAgain is_stream → VolumesAgain (VolumeOver is_stream)
 volume_again is_stream streams (Volume h files) b o small d (stored, starts, are, placed, shows) =
     let p : Polarity = polarity_of h.attributes in
-    let first : ℕ = canonical_first h h.ext in
+    let first : ℕ = first_edge h h.ext in
     let known_of = known is_stream streams h files b small d stored starts are placed in
     let k = known_of.writable in
     let a = known_of.again in

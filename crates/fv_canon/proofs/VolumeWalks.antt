@@ -9,7 +9,7 @@ use Rattle.fv_head.specs.Attributes.{polarity_of}
 use Rattle.fv_head.specs.Ext.{Extension}
 use Rattle.fv_head.specs.Head.{HeadFields}
 use Rattle.fv_head.specs.HeadImage.{canonical_head}
-use Rattle.fv_head.specs.ExtImage.{canonical_end, canonical_first}
+use Rattle.fv_head.specs.ExtImage.{canonical_end, first_edge}
 use Rattle.fv_canon.specs.Starts.{StartsFollow}
 use Rattle.fv_canon.specs.declared.first_placement.LayoutItem.{LayoutItem}
 use Rattle.fv_base.specs.Value.{up_to_8}
@@ -63,10 +63,10 @@ used_last total e end (f ∷ g ∷ fs) (s ∷ ss) (suc n) d l follow =
 -- ---- the volume
 pub record VolumeLaid (h : HeadFields) (fs : List FileMeaning) (starts : List ℕ) : Type 0 where
   pub enough : length fs ≤ length starts
-  pub placed : ArePlaced h.length (canonical_first h h.ext) fs (take (length fs) starts)
+  pub placed : ArePlaced h.length (first_edge h h.ext) fs (take (length fs) starts)
   pub inner : BeginsWithStarts (volumes_in_files (files_from fs)) (drop (length fs) starts)
-  pub used : used_size (canonical_first h h.ext) (stored_of (files_from fs) (drop (length fs) starts)) (take (length fs) starts)
-      ≡ used_by (canonical_first h h.ext) fs (take (length fs) starts)
+  pub used : used_size (first_edge h h.ext) (stored_of (files_from fs) (drop (length fs) starts)) (take (length fs) starts)
+      ≡ used_by (first_edge h h.ext) fs (take (length fs) starts)
 
 least_first : (h : HeadFields) (x : Option Extension) → 64 ≤ canonical_end h x
 least_first h None = omega arith
@@ -76,7 +76,7 @@ pub volume_laid : (h : HeadFields) (fs : List FileMeaning) (starts : List ℕ) �
     → BeginsWithStarts (volumes_in (Volume h (files_from fs))) starts → VolumeLaid h fs starts
 volume_laid h fs starts (k, few, b, small, d) (laid, more, whole, (own, inner, text, placed, lays)) =
     let files : FileMeanings = files_from fs in
-    let first : ℕ = canonical_first h h.ext in
+    let first : ℕ = first_edge h h.ext in
     let n : ℕ = length fs in
     let items : layout_items (Volume h files) ≡ map layout_item fs = ap (λ (xs : List FileMeaning). map layout_item xs) (files_list_back
     fs) in
@@ -116,14 +116,14 @@ volume_laid h fs starts (k, few, b, small, d) (laid, more, whole, (own, inner, t
 -- what is written
 pub volume_text : (h : HeadFields) (fs : List FileMeaning) (starts : List ℕ) → VolumeLaid h fs starts
     → image_of (Volume h (files_from fs)) starts
-    ≡ canonical_head h ++ ((ext_pad (polarity_of h.attributes) h.ext (used_by (canonical_first h h.ext) fs (take (length fs) starts))
-    ++ replicate (canonical_first h h.ext - canonical_end h h.ext) (erased_byte (polarity_of h.attributes)))
-    ++ files_bytes (polarity_of h.attributes) h.length (canonical_first h h.ext) (stored_of (files_from fs) (drop (length fs) starts))
+    ≡ canonical_head h ++ ((ext_pad (polarity_of h.attributes) h.ext (used_by (first_edge h h.ext) fs (take (length fs) starts))
+    ++ replicate (first_edge h h.ext - canonical_end h h.ext) (erased_byte (polarity_of h.attributes)))
+    ++ files_bytes (polarity_of h.attributes) h.length (first_edge h h.ext) (stored_of (files_from fs) (drop (length fs) starts))
     (take (length fs) starts))
 volume_text h fs starts v =
     let n : ℕ = length fs in
     let p : Polarity = polarity_of h.attributes in
-    let first : ℕ = canonical_first h h.ext in
+    let first : ℕ = first_edge h h.ext in
     let fill : List ℕ = replicate (first - canonical_end h h.ext) (erased_byte p) in
     let files : List ℕ = files_bytes p h.length first (stored_of (files_from fs) (drop n starts)) (take n starts) in
     ap (λ (k : ℕ). volume_bytes h (stored_of (files_from fs) (drop k starts)) (take k starts)) (ap length (files_list_back fs))

@@ -1,12 +1,14 @@
 -- From a volume to its canonical image, and the headline, clause by clause.
-use Rattle.std.specs.Prelude.{◌≡◌, ◌↔◌, ◌⊎◌, ◌+◌, ◌%◌, ◌++◌, ℕ, List, length, drop}
+use Rattle.std.specs.Prelude.{◌≡◌, ◌↔◌, ◌⊎◌, ◌+◌, ◌%◌, ◌++◌, true, ℕ, List, length, take, drop}
 use Rattle.std.specs.List.{AllByRecursion}
 use Rattle.fv_base.specs.Alignment.{alignment_of}
+use Rattle.fv_base.specs.Sums.{sum16_of}
 use Rattle.fv_base.specs.declared.fault.Fault.{Fault}
 use Rattle.fv_base.specs.declared.fault.FaultKind.{FaultKind}
 use Rattle.fv_base.specs.declared.fault.FaultKind.TheVariants as kinds
 use Rattle.fv_file.specs.Attributes.{attribute_bits}
-use Rattle.fv_file.specs.Cells.{CellForm, Tiles}
+use Rattle.fv_file.specs.Cells.{CellForm, Valid, Pad, Tiles}
+use Rattle.fv_file.specs.Files.{file_sum_right, fixed_checksum, header_sum_of}
 use Rattle.fv_head.specs.Head.{BeginsVolume}
 use Rattle.fv_head.specs.declared.extent.Extent.{Extent}
 use Rattle.fv_tree.specs.Denotes.{Accepted, IsMeaning}
@@ -64,6 +66,24 @@ DataAreAligned =
     (m : Meaning) (image : List ℕ) (e : Extent) (cells : List CellForm) → IsMeaning m → IsImage m image
     → BeginsVolume (head_of m) e image
     → Tiles e.file_system e.polarity e.first cells (drop e.first image) → DataAligned cells
+
+-- the sums of a file or pad at its offset in the bytes: its header sums to zero, the file sum of a file is right, and
+-- that of a pad is the fixed one (PI specification, volume 3, section 3.2.3.1)
+abbrev pub CellSums : List ℕ → CellForm → Type 0
+CellSums b (Valid at head payload) =
+    (header_sum_of (take head.header_len (drop at b)) ≡ 0)
+    × (file_sum_right (attribute_bits head.attributes) head.file_sum payload ≡ true)
+CellSums b (Pad at head _) = (header_sum_of (take head.header_len (drop at b)) ≡ 0) × (head.file_sum ≡ fixed_checksum)
+CellSums b _ = Unit {0}
+
+-- the image of a volume begins with its header, whose words sum to zero, and cells whose sums are right tile the rest;
+-- the pad that holds the extended header is one of them
+abbrev pub SumsAreRight : Type 0
+SumsAreRight =
+    (m : Meaning) (image : List ℕ) → IsMeaning m → IsImage m image
+    → (e : Extent) × BeginsVolume (head_of m) e image × (sum16_of (take e.header_len image) ≡ 0)
+    × ((cells : List CellForm) × Tiles e.file_system e.polarity e.header_len cells (drop e.header_len image)
+    × AllByRecursion (CellSums image) cells)
 
 -- a volume fits exactly if it has an image
 abbrev pub WhatFitsHasAnImage : Type 0

@@ -7,8 +7,7 @@ use Rattle.fv_base.specs.Guids.{bytes_of}
 use Rattle.fv_base.specs.declared.fault.Fault.{Fault}
 use Rattle.fv_base.specs.declared.fault.FaultKind.{FaultKind}
 use Rattle.fv_base.specs.declared.fault.FaultKind.TheVariants as kinds
-use Rattle.fv_head.specs.Head.{HeadFields}
-use Rattle.fv_head.specs.ExtImage.{canonical_first}
+use Rattle.fv_head.specs.ExtImage.{first_edge}
 use Rattle.fv_tree.specs.Files.{top_name}
 use Rattle.fv_tree.specs.Meaning.{Meaning, FileMeaning, head_of, files_of, length_of, data_len_of, file_name_of}
 use Rattle.fv_tree.specs.Meaning.{attributes_of}
@@ -29,19 +28,15 @@ layout_item f = record {
 abbrev pub layout_items : Meaning → List LayoutItem
 layout_items m = map layout_item (files_of m)
 
--- where the first file may begin
-abbrev pub first_edge : HeadFields → ℕ
-first_edge h = canonical_first h h.ext
-
 -- the starts of a volume's own files: the first placement
 abbrev pub AreStarts : Meaning → List ℕ → Type 0
-AreStarts m starts = IsFirstPlacement (length_of m) (first_edge (head_of m)) (layout_items m) starts
+AreStarts m starts = IsFirstPlacement (length_of m) (first_edge (head_of m) (head_of m).ext) (layout_items m) starts
 
 -- the least starts of its own files, which are also a placement
 abbrev pub AreLeast : Meaning → List ℕ → Type 0
 AreLeast m starts =
-    IsLeast (length_of m) (first_edge (head_of m)) (layout_items m) starts
-    × Placement (length_of m) (first_edge (head_of m)) (layout_items m) starts
+    IsLeast (length_of m) (first_edge (head_of m) (head_of m).ext) (layout_items m) starts
+    × Placement (length_of m) (first_edge (head_of m) (head_of m).ext) (layout_items m) starts
 
 -- ---- at every level
 
@@ -69,7 +64,7 @@ AllFit vs = AllByRecursion IsPlaced vs
 
 -- a volume fits: its files and those of each volume inside can be placed
 abbrev pub Fits : Meaning → Type 0
-Fits m = AllFit (volumes_in m)
+Fits m = AllByRecursion IsPlaced (volumes_in m)
 
 -- ---- what does not fit
 
@@ -81,7 +76,7 @@ layout_fault kind depth = record { kind = kind; place = record { offset = 0; dep
 abbrev pub UnfitHere : Meaning → ℕ → Fault → Type 0
 UnfitHere m depth f =
     (TopOff (length_of m) (layout_items m) × (f ≡ layout_fault kinds.TopAlignment depth))
-    ⊎ (HasNoRoom (length_of m) (first_edge (head_of m)) (layout_items m) × (f ≡ layout_fault kinds.NoRoom depth))
+    ⊎ (HasNoRoom (length_of m) (first_edge (head_of m) (head_of m).ext) (layout_items m) × (f ≡ layout_fault kinds.NoRoom depth))
 
 -- the fault of the first of the volumes that does not fit; `depth` is the depth of what they are in
 abbrev pub FirstUnfit : List Inside → ℕ → Fault → Type 0

@@ -1,5 +1,6 @@
 -- Which bytes are where in a list of bytes that is erased elsewhere.
 use Rattle.std.specs.Prelude.{◌≡◌, ℕ, ◌+◌, ◌-◌, ◌<◌, ◌≤◌, List, [], ◌∷◌, ◌++◌, length, take, drop, get_or, replicate}
+use Rattle.std.specs.List.{AllByRecursion}
 
 -- bytes and their offset
 pub record PlacedBytes : Type 0 where
@@ -10,22 +11,15 @@ pub record PlacedBytes : Type 0 where
 abbrev pub StandsIn : List ℕ → PlacedBytes → Type 0
 StandsIn b p = (p.at + length p.bytes ≤ length b) × (take (length p.bytes) (drop p.at b) ≡ p.bytes)
 
+-- the offset k is one of these bytes
 abbrev pub IsIn : ℕ → PlacedBytes → Type 0
 IsIn k p = (p.at ≤ k) × (k < p.at + length p.bytes)
-
-abbrev pub IsInNone : ℕ → List PlacedBytes → Type 0
-IsInNone k [] = Unit {0}
-IsInNone k (p ∷ ps) = (IsIn k p → ⊥) × IsInNone k ps
-
-abbrev pub AllStandIn : List ℕ → List PlacedBytes → Type 0
-AllStandIn b [] = Unit {0}
-AllStandIn b (p ∷ ps) = StandsIn b p × AllStandIn b ps
 
 -- b has this length and each of the spans, and every byte outside them is erased
 pub record ShowsPlaced (total erased : ℕ) (placed : List PlacedBytes) (b : List ℕ) : Type 0 where
   pub length_is : length b ≡ total
-  pub stand : AllStandIn b placed
-  pub rest : (k : ℕ) → k < total → IsInNone k placed → get_or b k 0 ≡ erased
+  pub stand : AllByRecursion (StandsIn b) placed
+  pub rest : (k : ℕ) → k < total → AllByRecursion (λ p. IsIn k p → ⊥) placed → get_or b k 0 ≡ erased
 
 -- what a walk from the offset e on writes
 abbrev pub painted : ℕ → ℕ → ℕ → List PlacedBytes → List ℕ

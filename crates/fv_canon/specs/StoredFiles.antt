@@ -14,7 +14,7 @@ use Rattle.fv_head.specs.Attributes.{polarity_of}
 use Rattle.fv_head.specs.Ext.{Extension}
 use Rattle.fv_head.specs.Head.{HeadFields, header_len_of as head_len_of}
 use Rattle.fv_head.specs.HeadImage.{canonical_head}
-use Rattle.fv_head.specs.ExtImage.{canonical_first, ext_len, ext_spelled}
+use Rattle.fv_head.specs.ExtImage.{first_edge, ext_len, ext_spelled}
 use Rattle.fv_canon.specs.PlacedBytes.{PlacedBytes}
 
 -- a file, with its data as written
@@ -90,9 +90,9 @@ placed_in_volume h files starts =
     record { at = 0; bytes = canonical_head h }
     ∷ record {
       at = head_len_of h;
-      bytes = ext_pad (polarity_of h.attributes) h.ext (used_size (canonical_first h h.ext) files starts);
+      bytes = ext_pad (polarity_of h.attributes) h.ext (used_size (first_edge h h.ext) files starts);
     }
-    ∷ placed_files (polarity_of h.attributes) (canonical_first h h.ext) files starts
+    ∷ placed_files (polarity_of h.attributes) (first_edge h h.ext) files starts
 
 -- ---- the rule of the pads
 

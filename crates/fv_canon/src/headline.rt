@@ -8,7 +8,8 @@
 
 ghost use Rattle.fv_canon.specs.Headline.{DataAreAligned, EachVolumeHasItsImage, ImageIsItsOwnImage};
 ghost use Rattle.fv_canon.specs.Headline.{ImageKeepsLengthAndMeaning};
-ghost use Rattle.fv_canon.specs.Headline.{OnlyWhatDoesNotFitIsRefused, SameMeaningIffSameImage, WhatFitsHasAnImage};
+ghost use Rattle.fv_canon.specs.Headline.{OnlyWhatDoesNotFitIsRefused, SameMeaningIffSameImage, SumsAreRight};
+ghost use Rattle.fv_canon.specs.Headline.{WhatFitsHasAnImage};
 
 /// Two volumes that have images have the same meaning exactly if the images are equal.
 pub fn same_meaning_iff_same_image()
@@ -16,8 +17,7 @@ pub fn same_meaning_iff_same_image()
 {}
 
 /// The image of a volume is as long as the volume, and is accepted as a volume with the same
-/// meaning. So all its sums are right, at every level, because a header or a file is read only if
-/// its sums are right.
+/// meaning.
 pub fn image_keeps_length_and_meaning()
     ensures { ImageKeepsLengthAndMeaning }
 {}
@@ -32,6 +32,15 @@ pub fn image_is_its_own_image()
 /// volume 3, section 3.2.3.1.)
 pub fn data_are_aligned()
     ensures { DataAreAligned }
+{}
+
+/// The image of a volume begins with its header, whose 16-bit words sum to zero, and files and pads
+/// with right sums tile the rest: the header of each sums to zero, the file sum of a file is right,
+/// and that of a pad is 0xAA. The pad that holds the extended header is one of them. Each volume
+/// inside is its own image, so this holds at every level. (PI specification, volume 3, sections
+/// 3.2.1.1 and 3.2.3.1.)
+pub fn sums_are_right()
+    ensures { SumsAreRight }
 {}
 
 /// In the image of a volume each volume inside has its own image, as consecutive bytes. So what holds of an

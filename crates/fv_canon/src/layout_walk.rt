@@ -2,8 +2,9 @@
 
 ghost use Rattle.std.specs.Prelude.{◌≡◌, ◌≤◌, ◌⊎◌, ◌+◌, ◌++◌, ℕ, List, All, map, take, get_or, IfOk, IfErr, OnOk};
 ghost use Rattle.fv_base.specs.Faults.{out_of_memory};
+ghost use Rattle.fv_head.specs.ExtImage.{first_edge};
 ghost use Rattle.fv_canon.specs.inner.Depths.{NestsVolume, NestsFiles, NestsContent, NestsSections, NestsBody};
-ghost use Rattle.fv_canon.specs.Layouts.{first_edge, layout_fault, layout_item, layout_items, AreStarts, Laid};
+ghost use Rattle.fv_canon.specs.Layouts.{layout_fault, layout_item, layout_items, AreStarts, Laid};
 ghost use Rattle.fv_canon.specs.Layouts.{LaysVolume};
 ghost use Rattle.fv_canon.specs.Layouts.{AllFit, Fits, FirstUnfit, Unfit};
 ghost use Rattle.fv_canon.specs.Volumes.{volumes_in, volumes_in_files, volumes_in_content, volumes_in_sections};
@@ -40,7 +41,7 @@ pub fn layout(alloc: Global, view: &VolumeView<'_>) -> Result<Layout, Fault>
     // Every other placement of the volume's own files has a larger start at the first file where
     // the two differ.
     ensures least { IfOk result (λ l. (others : List ℕ) (i : ℕ)
-        → Placement (length_of view.now) (first_edge (head_of view.now)) (layout_items view.now) others
+        → Placement (length_of view.now) (first_edge (head_of view.now) (head_of view.now).ext) (layout_items view.now) others
         → take i others ≡ take i l.own → get_or l.own i 0 ≤ get_or others i 0) }
 
     // Any error other than OutOfMemory is that of the first volume that does not fit.

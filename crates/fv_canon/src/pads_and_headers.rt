@@ -12,7 +12,7 @@ ghost use Rattle.fv_canon.specs.inner.Placed.{ArePlaced, used_by};
 ghost use Rattle.fv_base.specs.Flash.{erased_byte};
 ghost use Rattle.fv_base.specs.Limits.{data_limit, volume_limit};
 ghost use Rattle.fv_head.specs.Attributes.{polarity_of};
-ghost use Rattle.fv_head.specs.ExtImage.{canonical_end, canonical_first};
+ghost use Rattle.fv_head.specs.ExtImage.{canonical_end, first_edge};
 
 use fv_base::field::up_to_8;
 use fv_base::{Polarity, Sink, fill};
@@ -104,7 +104,7 @@ pub(crate) fn put_file_head<S: Sink>(out: &mut S, file: &FileView<'_>, sum: u8, 
 // the first edge.
 pub(crate) fn put_ext_pad<S: Sink>(out: &mut S, head: &VolumeHead, used: u32)
     ensures { S.takes out.old (ext_pad (polarity_of head.now.attributes) head.now.ext used
-        ++ replicate (canonical_first head.now head.now.ext - canonical_end head.now head.now.ext)
+        ++ replicate (first_edge head.now head.now.ext - canonical_end head.now head.now.ext)
         (erased_byte (polarity_of head.now.attributes))) out.new }
 {
     let polarity = head.attributes().polarity();

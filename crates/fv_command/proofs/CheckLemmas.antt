@@ -7,8 +7,7 @@ use Rattle.std.proofs.lemmas.Bool.Decides.{Decides-eqb}
 use Rattle.std.proofs.lemmas.Grind.{flat_map-append}
 use Rattle.std.proofs.lemmas.List.{take_more}
 use Rattle.std.proofs.lemmas.List.Sums.{sum_by-cons}
-use Rattle.fv_base.specs.Flash.{AllAre}
-use Rattle.fv_base.specs.Flash.{erased_byte}
+use Rattle.fv_base.specs.Flash.{AllAre, erased_byte}
 use Rattle.fv_base.specs.declared.flash.Polarity.{Polarity}
 use Rattle.fv_canon.specs.Image.{IsImage}
 use Rattle.fv_canon.proofs.Laws.{PadErased, pads_erased}

@@ -7,7 +7,7 @@ use Rattle.fv_base.specs.declared.fault.Fault.{Fault}
 use Rattle.fv_head.specs.Head.{HeadFields, BeginsVolume}
 use Rattle.fv_head.specs.declared.extent.Extent.{Extent}
 use Rattle.fv_hob.specs.declared.span.Span.{Span}
-use Rattle.fv_command.specs.VolumeStandings.{IsWithin, IsStanding, bytes_in_span}
+use Rattle.fv_command.specs.VolumeStandings.{IsMapped, IsStanding, bytes_in_span}
 use Rattle.fv_command.specs.declared.hob_text.Standing.TheVariants.{Volume, Absent}
 
 -- the tests of a place within an image of n bytes
@@ -16,7 +16,7 @@ pub record Fits (base n : ℕ) (s : Span) : Type 0 where
   pub long : s.length ≤ n
   pub behind : s.base - base ≤ n - s.length
 
-within : (base n : ℕ) (s : Span) → Fits base n s → IsWithin base n s
+within : (base n : ℕ) (s : Span) → Fits base n s → IsMapped base n s
 within base n s f = (f.above, omega (arith, f.above, f.long, f.behind))
 
 part_len : (image : List ℕ) (base : ℕ) (s : Span) → Fits base (length image) s → length (bytes_in_span image base s) ≡ s.length

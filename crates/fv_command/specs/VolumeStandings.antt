@@ -6,9 +6,9 @@ use Rattle.fv_hob.specs.declared.span.Span.{Span}
 use Rattle.fv_command.specs.declared.hob_text.Standing.{Standing}
 use Rattle.fv_command.specs.declared.hob_text.Standing.TheVariants.{Outside, Volume, Absent}
 
--- the span is within n bytes, the first of which has the address `base`
-abbrev pub IsWithin : ℕ → ℕ → Span → Type 0
-IsWithin base n s = (base ≤ s.base) × (s.base + s.length ≤ base + n)
+-- the span is in an image of n bytes, the first of which has the address `base`
+abbrev pub IsMapped : ℕ → ℕ → Span → Type 0
+IsMapped base n s = (base ≤ s.base) × (s.base + s.length ≤ base + n)
 
 -- the bytes of an image in a span
 abbrev pub bytes_in_span : List ℕ → ℕ → Span → List ℕ
@@ -20,6 +20,6 @@ IsWholeVolume b = (h : HeadFields) × (e : Extent) × BeginsVolume h e b × (e.l
 
 -- the span is not within the image; or it is, and its bytes are a whole volume, or they are not
 abbrev pub IsStanding : List ℕ → ℕ → Span → Standing → Type 0
-IsStanding image base s Outside = IsWithin base (length image) s → ⊥
-IsStanding image base s Volume = IsWithin base (length image) s × IsWholeVolume (bytes_in_span image base s)
-IsStanding image base s Absent = IsWithin base (length image) s × (IsWholeVolume (bytes_in_span image base s) → ⊥)
+IsStanding image base s Outside = IsMapped base (length image) s → ⊥
+IsStanding image base s Volume = IsMapped base (length image) s × IsWholeVolume (bytes_in_span image base s)
+IsStanding image base s Absent = IsMapped base (length image) s × (IsWholeVolume (bytes_in_span image base s) → ⊥)

@@ -4,8 +4,7 @@ use Rattle.std.proofs.Common.{true, false, length-drop, length-append}
 use Rattle.std.specs.Prelude.{Ok, Err}
 use Rattle.std.proofs.lemmas.List.{take-append-drop, length-take-le, map_push, take_all, take_rest}
 use Rattle.std.proofs.Math.Seq.{take-add}
-use Rattle.fv_base.specs.Flash.{AllAre, all_are}
-use Rattle.fv_base.specs.Flash.{erased_byte}
+use Rattle.fv_base.specs.Flash.{AllAre, all_are, erased_byte}
 use Rattle.fv_base.specs.declared.fault.Fault.{Fault}
 use Rattle.fv_base.specs.declared.flash.FileSystem.{FileSystem}
 use Rattle.fv_base.specs.declared.flash.Polarity.{Polarity}

@@ -1,7 +1,6 @@
 -- The cells of a volume's body (PI specification, volume 3, sections 3.2.2 and 3.2.3).
 use Rattle.std.specs.Prelude.{◌≡◌, ℕ, ◌+◌, ◌%◌, ◌<◌, ◌≤◌, ◌⊎◌, Bool, true, false, List, [], ◌∷◌, ◌++◌, length}
-use Rattle.fv_base.specs.Flash.{AllAre}
-use Rattle.fv_base.specs.Flash.{erased_byte}
+use Rattle.fv_base.specs.Flash.{AllAre, erased_byte}
 use Rattle.fv_base.specs.Value.{up_to_8}
 use Rattle.fv_base.specs.declared.flash.FileSystem.{FileSystem}
 use Rattle.fv_base.specs.declared.flash.Polarity.{Polarity}

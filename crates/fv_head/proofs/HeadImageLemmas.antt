@@ -14,7 +14,7 @@ use Rattle.fv_head.specs.Ext.{Extension}
 use Rattle.fv_head.specs.Head.{HasExt, HeadFields, IsHead, IsReadHead, BeginsVolume, IsCanonicalHead, canonical_offset, extent_of}
 use Rattle.fv_head.specs.Head.{header_len_of, signature_bytes, system_guid}
 use Rattle.fv_head.specs.Pairs.{pairs_of, pairs_bytes}
-use Rattle.fv_head.specs.ExtImage.{ext_spelled, IfRead, canonical_end, canonical_first, CanonicalRest}
+use Rattle.fv_head.specs.ExtImage.{ext_spelled, IfRead, canonical_end, first_edge, CanonicalRest}
 use Rattle.fv_head.specs.HeadImage.{head_spelled, checksum_of, canonical_head}
 use Rattle.fv_head.specs.inner.WordSums.{word_weight}
 use Rattle.fv_head.proofs.ExtImageLemmas.{ext_again, ext_len_most}
@@ -331,7 +331,7 @@ length-canonical h read = sym (header_len_is h (canonical_head h) (canonical_is 
 -- where the extended header stands, behind the canonical head
 canonical_ext : (h : HeadFields) (rest : List ℕ) (x : Option Extension) → IsReadHead h → h.ext ≡ x → IfRead x → CanonicalRest x rest
     → canonical_end h x ≤ h.length
-    → le_at 52 2 (canonical_head h ++ rest) ≡ canonical_offset h x → HasExt x (extent_of h (canonical_first h x)) (canonical_head h ++ rest)
+    → le_at 52 2 (canonical_head h ++ rest) ≡ canonical_offset h x → HasExt x (extent_of h (first_edge h x)) (canonical_head h ++ rest)
 canonical_ext h rest None read is known there fits offset = (offset, refl)
 canonical_ext h rest (Some x) read is known (pad, used, behind, text, long) fits offset =
     let b : List ℕ = canonical_head h in
@@ -347,7 +347,7 @@ canonical_ext h rest (Some x) read is known (pad, used, behind, text, long) fits
 -- read again, with its extended header in a pad file behind it, it gives its fields
 pub canonical_front : (h : HeadFields) (rest : List ℕ) → IsReadHead h → IfRead h.ext → CanonicalRest h.ext rest
     → canonical_end h h.ext ≤ h.length → h.length ≤ length (canonical_head h ++ rest)
-    → BeginsVolume h (extent_of h (canonical_first h h.ext)) (canonical_head h ++ rest)
+    → BeginsVolume h (extent_of h (first_edge h h.ext)) (canonical_head h ++ rest)
 canonical_front h rest read known there fits long =
     let b : List ℕ = canonical_head h in
     let canonical = canonical_is h read in
@@ -369,7 +369,7 @@ pub canonical_bare : (h : HeadFields) (rest : List ℕ) → IsReadHead h → h.e
     → h.length ≤ length (canonical_head h ++ rest)
     → BeginsVolume h (extent_of h (header_len_of h)) (canonical_head h ++ rest)
 canonical_bare h rest read bare fits long =
-    subst (λ (x : Option Extension). BeginsVolume h (extent_of h (canonical_first h x)) (canonical_head h ++ rest)) bare
+    subst (λ (x : Option Extension). BeginsVolume h (extent_of h (first_edge h x)) (canonical_head h ++ rest)) bare
     (canonical_front h rest read (subst IfRead (sym bare) tt) (subst (λ (x : Option Extension). CanonicalRest x rest) (sym bare) tt)
     (subst (λ (x : Option Extension). canonical_end h x ≤ h.length) (sym bare) fits) long)
 
@@ -395,15 +395,15 @@ pub header_len_most : (h : HeadFields) → IsReadHead h → header_len_of h ≤ 
 header_len_most h (b, head) = omega (arith, header_len_is h b head, head.most)
 
 -- where the first file of the canonical image may stand, at most
-pub canonical_first_most : (h : HeadFields) (x : Option Extension) → IsReadHead h → IfRead x
-    → canonical_first h x ≤ up_to_8 (header_limit + 24 + ext_limit)
-canonical_first_most h None read known = omega (arith, header_len_most h read)
-canonical_first_most h (Some x) read known = omega (arith, header_len_most h read, ext_len_most x known)
+pub first_edge_most : (h : HeadFields) (x : Option Extension) → IsReadHead h → IfRead x
+    → first_edge h x ≤ up_to_8 (header_limit + 24 + ext_limit)
+first_edge_most h None read known = omega (arith, header_len_most h read)
+first_edge_most h (Some x) read known = omega (arith, header_len_most h read, ext_len_most x known)
 
 -- and at a multiple of 8
-pub canonical_first_multiple : (h : HeadFields) (x : Option Extension) → canonical_first h x % 8 ≡ 0
-canonical_first_multiple h None = omega arith
-canonical_first_multiple h (Some x) = omega arith
+pub first_edge_multiple : (h : HeadFields) (x : Option Extension) → first_edge h x % 8 ≡ 0
+first_edge_multiple h None = omega arith
+first_edge_multiple h (Some x) = omega arith
 
 -- the checksum that a sum of words comes to
 pub checksum_from : (h : HeadFields) (offset total : ℕ) → IsReadHead h → total < 65536

@@ -17,4 +17,4 @@ pub use Rattle.fv_head.proofs.HeadImageLemmas.{canonical_is, canonical_only, len
 -- with its extended header in a pad file behind it, or with anything behind it where there is none, it begins a volume of its fields
 pub use Rattle.fv_head.proofs.HeadImageLemmas.{canonical_front, canonical_bare}
 -- where the first file of the canonical image may stand: at most, and at a multiple of 8
-pub use Rattle.fv_head.proofs.HeadImageLemmas.{canonical_first_most, canonical_first_multiple}
+pub use Rattle.fv_head.proofs.HeadImageLemmas.{first_edge_most, first_edge_multiple}

@@ -42,9 +42,9 @@ canonical_end h None = header_len_of h
 canonical_end h (Some x) = header_len_of h + 24 + ext_len x
 
 -- where the first file of the canonical image may begin
-abbrev pub canonical_first : HeadFields → Option Extension → ℕ
-canonical_first h None = header_len_of h
-canonical_first h (Some x) = up_to_8 (canonical_end h (Some x))
+abbrev pub first_edge : HeadFields → Option Extension → ℕ
+first_edge h None = header_len_of h
+first_edge h (Some x) = up_to_8 (canonical_end h (Some x))
 
 -- what follows the canonical head: if there is an extended header, the 24 bytes of a pad file's header, and then the
 -- extended header

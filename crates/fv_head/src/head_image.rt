@@ -6,7 +6,7 @@ ghost use Rattle.fv_base.specs.Limits.{header_limit, ext_limit};
 ghost use Rattle.fv_base.specs.Value.{le_bytes, up_to_8};
 ghost use Rattle.fv_head.specs.Head.{IsCanonicalHead, IsReadHead, BeginsVolume, canonical_offset, extent_of};
 ghost use Rattle.fv_head.specs.Pairs.{pairs_bytes};
-ghost use Rattle.fv_head.specs.ExtImage.{CanonicalRest, IfRead, canonical_end, canonical_first};
+ghost use Rattle.fv_head.specs.ExtImage.{CanonicalRest, IfRead, canonical_end, first_edge};
 ghost use Rattle.fv_head.specs.HeadImage.{head_spelled, canonical_head, checksum_of};
 ghost use Rattle.fv_head.specs.inner.WordLaws.{adds_words_by};
 ghost use Rattle.fv_head.specs.inner.WordSums.{AddsWords, word_weight};
@@ -104,7 +104,7 @@ fn canonical_offset(head: &VolumeHead) -> u16
 /// follows the header. (That pad file is 24 bytes and the extended header.) Takes no memory. (PI
 /// specification, volume 3, sections 3.2.1.1 and 3.2.1.2.)
 pub fn first_edge(head: &VolumeHead) -> u64
-    ensures edge { result ≡ canonical_first head.now head.now.ext }
+    ensures edge { result ≡ first_edge head.now head.now.ext }
     ensures most { result ≤ up_to_8 (header_limit + 24 + ext_limit) }
 {
     let header_len = u64::from(head.header_len());
@@ -180,7 +180,7 @@ pub fn head_bytes(alloc: Global, head: &VolumeHead) -> Result<ByteList, Fault>
     ensures again { IfOk result (λ bytes. (rest : List ℕ) → CanonicalRest head.now.ext rest
         → canonical_end head.now head.now.ext ≤ head.now.length
         → head.now.length ≤ length (bytes ++ rest)
-        → BeginsVolume head.now (extent_of head.now (canonical_first head.now head.now.ext)) (bytes ++ rest)) }
+        → BeginsVolume head.now (extent_of head.now (first_edge head.now head.now.ext)) (bytes ++ rest)) }
     ensures err { IfErr result (λ f. f ≡ out_of_memory) }
 {
     let mut out = ListSink::with_room(alloc, usize::from(head.header_len()))?;

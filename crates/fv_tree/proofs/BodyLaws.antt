@@ -15,7 +15,7 @@ use Rattle.fv_file.proofs.Laws.{cell_span}
 use Rattle.fv_head.specs.declared.extent.Extent.{Extent}
 use Rattle.fv_tree.specs.inner.ReadingParts.{HasFiles, StandIn, IsReadyFile, AllStored}
 use Rattle.fv_tree.specs.Denotes.{Streams, Stream, Pairwise, MeansFile}
-use Rattle.fv_tree.specs.Files.{FileForm, files_in, current_in, TopAtEnd, AreCurrent, HasCurrent, replaces}
+use Rattle.fv_tree.specs.Files.{FileForm, files_in, current_in, TopAtEnd, AreCurrent, replaces}
 use Rattle.fv_base.specs.declared.fault.Place.{Place}
 use Rattle.fv_tree.specs.FailingChecks.{First}
 use Rattle.fv_tree.specs.FirstFault.{Faulty, FileFault, NamesFault, BodyFault, OneOf}
@@ -27,7 +27,7 @@ use Rattle.fv_tree.proofs.CurrentLaws.{current_none}
 -- the files of some cells are those of a volume of them
 pub current_of : (length : ℕ) (cs : List CellForm) (standing files : List FileForm) → standing ≡ files_in cs
     → AreCurrent length standing files
-    → HasCurrent length cs files
+    → AreCurrent length (files_in cs) files
 current_of length cs standing files is h = subst (λ (fs : List FileForm). AreCurrent length fs files) is h
 
 module _ (e : Extent) (volume : List ℕ) (cs : List CellForm) where
@@ -36,14 +36,14 @@ module _ (e : Extent) (volume : List ℕ) (cs : List CellForm) where
   OnlyCells = (ds : List CellForm) → Tiles e.file_system e.polarity e.first ds (drop e.first volume) → ds ≡ cs
 
   -- their files are the only ones
-  pub stand_only : OnlyCells → (fs : List FileForm) → HasCurrent e.length cs fs → (gs : List FileForm) → StandIn e volume gs → gs ≡ fs
+  pub stand_only : OnlyCells → (fs : List FileForm) → AreCurrent e.length (files_in cs) fs → (gs : List FileForm) → StandIn e volume gs → gs ≡ fs
   stand_only only fs current gs h =
       h.current.files_are ∙ ap (λ (ds : List CellForm). current_in (files_in ds)) (only h.cells h.tiles) ∙ sym current.files_are
 
   -- where these have a fault, there are none
   pub stand_none : OnlyCells → (f : Fault) → NamesFault First e.length (files_in cs) f → (gs : List FileForm) → StandIn e volume gs → ⊥
   stand_none only f first gs h =
-      current_none e.length cs f gs first (subst (λ (ds : List CellForm). HasCurrent e.length ds gs) (only h.cells h.tiles) h.current)
+      current_none e.length cs f gs first (subst (λ (ds : List CellForm). AreCurrent e.length (files_in ds) gs) (only h.cells h.tiles) h.current)
 
 -- ---- what the files mean
 
@@ -114,7 +114,7 @@ stored_in s p at base end (c ∷ cs) b small short fits (x, rest, text, is, o, f
 
 pub files_stored : (e : Extent) (volume : List ℕ) (base : ℕ) (cs : List CellForm) (fs : List FileForm) → IsBytes volume
     → length volume ≤ volume_limit → base + length volume < 2 ^ 63
-    → Tiles e.file_system e.polarity e.first cs (drop e.first volume) → CellsWithin (length volume) cs → HasCurrent e.length cs fs
+    → Tiles e.file_system e.polarity e.first cs (drop e.first volume) → CellsWithin (length volume) cs → AreCurrent e.length (files_in cs) fs
     → AllStored base fs
 files_stored e volume base cs fs small short fits tiles within current =
     let short' : length (drop e.first volume) ≤ volume_limit = omega (arith, length-drop e.first volume, short) in

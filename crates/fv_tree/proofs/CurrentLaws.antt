@@ -11,7 +11,7 @@ use Rattle.fv_base.specs.Guids.{bytes_of}
 use Rattle.fv_base.specs.declared.fault.Fault.{Fault}
 use Rattle.fv_file.specs.Cells.{CellForm}
 use Rattle.fv_tree.specs.Files.{FileForm, files_in, same_name, is_marked, is_twin, NoTwins, current_in, is_top, end_of, TopAtEnd}
-use Rattle.fv_tree.specs.Files.{HasCurrent}
+use Rattle.fv_tree.specs.Files.{AreCurrent}
 use Rattle.fv_tree.specs.FailingChecks.{First}
 use Rattle.fv_tree.specs.FirstFault.{HasTwin, TopElsewhere, NamesFault}
 
@@ -71,7 +71,7 @@ top_none n f fs (before, after, is, top, off) all = top_not n before f after (su
 
 -- a volume whose files have a fault has none
 pub current_none : (n : ℕ) (cells : List CellForm) (f : Fault) (files : List FileForm) → NamesFault First n (files_in cells) f
-    → HasCurrent n cells files → ⊥
+    → AreCurrent n (files_in cells) files → ⊥
 current_none n cells f files (inl (x, twin, is)) all = twin_none x (files_in cells) twin all.no_twins
 current_none n cells f files (inr (none, x, top, is)) all = top_none n x (current_in (files_in cells)) top (subst
     (TopAtEnd n) all.files_are all.top)

@@ -18,7 +18,7 @@ use Rattle.fv_section.proofs.Laws as framed
 use Rattle.fv_base.specs.Limits.{depth_limit}
 use Rattle.fv_tree.specs.Denotes.{MeansFile, MeansSection, Stream, Denotes}
 use Rattle.fv_tree.specs.FailingChecks.{First}
-use Rattle.fv_tree.specs.Files.{FileForm, HasCurrent, NoTwins, TopAtEnd, files_in, current_in}
+use Rattle.fv_tree.specs.Files.{FileForm, AreCurrent, NoTwins, TopAtEnd, files_in, current_in}
 use Rattle.fv_tree.specs.FirstFault.{moved_fault, Moved, OneOf, NamesFault, LayoutFault, FileFault, BodyFault, data_at, outermost}
 use Rattle.fv_tree.specs.FirstFault.{InSection, InStream, InVolume, IsFirstOfVolume}
 use Rattle.fv_tree.specs.Meaning.{Meaning, length_of}
@@ -59,7 +59,7 @@ layout_once x volume e g (inr (cells, tiles, names)) (inr (others, tiles', names
 
 -- the files of cells that are all right
 current : (len : ℕ) (cells : List CellForm) → NoTwins (files_in cells) × TopAtEnd len (current_in (files_in cells))
-    → HasCurrent len cells (current_in (files_in cells))
+    → AreCurrent len (files_in cells) (current_in (files_in cells))
 current len cells right = record { no_twins = right.0; files_are = refl; top = right.1 }
 
 -- ---- by what stands inside

@@ -15,7 +15,7 @@ use Rattle.fv_section.proofs.Laws as framed
 use Rattle.fv_tree.specs.inner.ReadingParts.{HasFiles}
 use Rattle.fv_tree.specs.Denotes.{Pairwise, MeansFile, MeansSection, Stream, Denotes}
 use Rattle.fv_tree.specs.FailingChecks.{First}
-use Rattle.fv_tree.specs.Files.{FileForm, HasCurrent, files_in, current_in}
+use Rattle.fv_tree.specs.Files.{FileForm, AreCurrent, files_in, current_in}
 use Rattle.fv_tree.specs.FirstFault.{FileFault, LayoutFault, BodyFault, InSection, InStream, InVolume}
 use Rattle.fv_tree.specs.FirstFault.{data_at}
 use Rattle.fv_tree.specs.Meaning.{Meaning, FileMeaning, SectionMeaning, files_of, head_of}
@@ -43,12 +43,12 @@ stream_by n refused e b at ss t (inr (frames, tail, split, first)) (others, spli
 
 -- a body with a first fault of its layout has no files
 pub layout_by : (x : Extent) (volume : List ℕ) (f : Fault) (cells : List CellForm) (files : List FileForm) → LayoutFault First x volume f
-    → Tiles x.file_system x.polarity x.first cells (drop x.first volume) → HasCurrent x.length cells files → ⊥
+    → Tiles x.file_system x.polarity x.first cells (drop x.first volume) → AreCurrent x.length (files_in cells) files → ⊥
 layout_by x volume f cells files (inl first) tiles current =
     cellular.none_after x.file_system x.polarity x.first (drop x.first volume) f cells first tiles
 layout_by x volume f cells files (inr (others, tiles', names)) tiles current =
     let same = only_one x.file_system x.polarity x.first (drop x.first volume) others cells tiles' tiles in
-    current_none x.length others f files names (subst (λ (l : List CellForm). HasCurrent x.length l files) same current)
+    current_none x.length others f files names (subst (λ (l : List CellForm). AreCurrent x.length (files_in l) files) same current)
 
 module _ (n : ℕ) (refused : StreamRefuses n) where
   -- a file with a first fault is not read

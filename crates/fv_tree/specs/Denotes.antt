@@ -10,7 +10,7 @@ use Rattle.fv_file.specs.Cells.{CellForm, Valid, IsCell, Tiles}
 use Rattle.fv_head.specs.Head.{BeginsVolume, signature_bytes, system_guid}
 use Rattle.fv_head.specs.declared.extent.Extent.{Extent}
 use Rattle.fv_section.specs.Frames.{FrameForm, Splits, FrameStandsAt}
-use Rattle.fv_tree.specs.Files.{FileForm, HasCurrent}
+use Rattle.fv_tree.specs.Files.{FileForm, AreCurrent, files_in}
 use Rattle.fv_tree.specs.Meaning.{Meaning, FileMeaning, File, ContentMeaning, Plain, Sectioned, SectionMeaning, Section}
 use Rattle.fv_tree.specs.Meaning.{BodyMeaning, Leaf, Group, Nested, sections_list, head_of, files_of}
 
@@ -80,7 +80,7 @@ pub record VolumeOver (is_stream : Streams) (b : List ℕ) (m : Meaning) : Type 
   pub cells : List CellForm
   pub tiles : Tiles extent.file_system extent.polarity extent.first cells (drop extent.first b)
   pub files : List FileForm
-  pub current : HasCurrent extent.length cells files
+  pub current : AreCurrent extent.length (files_in cells) files
   pub meanings : Pairwise (MeansFile is_stream) files (files_of m)
 
 -- the body of the frame has this meaning: the body of a group is a stream, a body that is opened is a volume, and any

@@ -1,33 +1,28 @@
--- How deep groups and volumes nest in a meaning.
-use Rattle.std.specs.Prelude.{◌≡◌, ℕ, suc}
-use Rattle.fv_tree.specs.Meaning.{Meaning, Volume, FileMeanings, NoFiles, MoreFiles, FileMeaning, File, ContentMeaning}
-use Rattle.fv_tree.specs.Meaning.{Plain, Sectioned, SectionMeanings, NoSections, MoreSections, SectionMeaning, Section}
-use Rattle.fv_tree.specs.Meaning.{BodyMeaning, Leaf, Group, Nested}
+-- How deep groups and volumes nest in what was read, as the relation says by which it was read.
+use Rattle.std.specs.Prelude.{Bool, ℕ, List}
+use Rattle.std.specs.List.{AllByRecursion}
+use Rattle.fv_section.specs.Frames.{FrameForm}
+use Rattle.fv_tree.specs.Denotes.{Denotes, MeansContent, MeansFile, MeansSection, Stream}
+use Rattle.fv_tree.specs.Files.{FileForm}
+use Rattle.fv_tree.specs.Meaning.{Meaning, FileMeanings, files_list, ContentMeaning, SectionMeanings, sections_list}
+use Rattle.fv_tree.specs.Meaning.{Section, BodyMeaning}
 
--- groups and opened volumes nest at most n deep inside
-abbrev mutual
-  pub NestsVolume : Meaning → ℕ → Type 0
-  NestsVolume (Volume h files) n = NestsFiles files n
+-- some bytes were read as this volume, in which groups and opened volumes nest at most n deep
+abbrev pub NestsVolume : Meaning → ℕ → Type 0
+NestsVolume m n = (b : List ℕ) × Denotes n b m
 
-  pub NestsFiles : FileMeanings → ℕ → Type 0
-  NestsFiles NoFiles n = Unit {0}
-  NestsFiles (MoreFiles f fs) n = NestsFile f n × NestsFiles fs n
+-- the same of each of some files
+abbrev pub NestsFiles : FileMeanings → ℕ → Type 0
+NestsFiles files n = AllByRecursion (λ m. (f : FileForm) × MeansFile (Stream n) f m) (files_list files)
 
-  pub NestsFile : FileMeaning → ℕ → Type 0
-  NestsFile (File name kind attributes content) n = NestsContent content n
+-- of the data of a file
+abbrev pub NestsContent : ContentMeaning → ℕ → Type 0
+NestsContent content n = (kind : ℕ) × (payload : List ℕ) × MeansContent (Stream n) kind payload content
 
-  pub NestsContent : ContentMeaning → ℕ → Type 0
-  NestsContent (Plain b) n = Unit {0}
-  NestsContent (Sectioned sections tail) n = NestsSections sections n
+-- of each of some sections
+abbrev pub NestsSections : SectionMeanings → ℕ → Type 0
+NestsSections sections n = AllByRecursion (λ s. (f : FrameForm) × MeansSection n f s) (sections_list sections)
 
-  pub NestsSections : SectionMeanings → ℕ → Type 0
-  NestsSections NoSections n = Unit {0}
-  NestsSections (MoreSections s ss) n = NestsSection s n × NestsSections ss n
-
-  pub NestsSection : SectionMeaning → ℕ → Type 0
-  NestsSection (Section kind extended body) n = NestsBody body n
-
-  pub NestsBody : BodyMeaning → ℕ → Type 0
-  NestsBody (Leaf b) n = Unit {0}
-  NestsBody (Group sections tail) n = (k : ℕ) × (n ≡ suc k) × NestsSections sections k
-  NestsBody (Nested volume) n = (k : ℕ) × (n ≡ suc k) × NestsVolume volume k
+-- of the body of a section
+abbrev pub NestsBody : BodyMeaning → ℕ → Type 0
+NestsBody body n = (f : FrameForm) × (kind : ℕ) × (extended : Bool) × MeansSection n f (Section kind extended body)

@@ -12,7 +12,7 @@ use Rattle.fv_file.specs.Files.{fixed_checksum}
 use Rattle.fv_head.specs.Attributes.{polarity_of}
 use Rattle.fv_head.specs.Head.{HeadFields}
 use Rattle.fv_head.specs.HeadImage.{canonical_head}
-use Rattle.fv_head.specs.ExtImage.{canonical_end, canonical_first}
+use Rattle.fv_head.specs.ExtImage.{canonical_end, first_edge}
 use Rattle.fv_tree.specs.Files.{top_name}
 use Rattle.fv_canon.specs.declared.first_placement.LayoutItem.{LayoutItem}
 use Rattle.fv_canon.specs.StoredFiles.{StoredFile, head_len_for, stored_len, stored_bytes, gap_bytes, ext_pad}
@@ -46,6 +46,6 @@ files_bytes polarity total e (f ∷ fs) (s ∷ ss) =
 abbrev pub volume_bytes : HeadFields → List StoredFile → List ℕ → List ℕ
 volume_bytes h files starts =
     canonical_head h
-    ++ (ext_pad (polarity_of h.attributes) h.ext (used_size (canonical_first h h.ext) files starts)
-    ++ (replicate (canonical_first h h.ext - canonical_end h h.ext) (erased_byte (polarity_of h.attributes))
-    ++ files_bytes (polarity_of h.attributes) h.length (canonical_first h h.ext) files starts))
+    ++ (ext_pad (polarity_of h.attributes) h.ext (used_size (first_edge h h.ext) files starts)
+    ++ (replicate (first_edge h h.ext - canonical_end h h.ext) (erased_byte (polarity_of h.attributes))
+    ++ files_bytes (polarity_of h.attributes) h.length (first_edge h h.ext) files starts))

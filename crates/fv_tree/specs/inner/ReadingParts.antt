@@ -5,7 +5,7 @@ use Rattle.fv_base.specs.Limits.{volume_limit}
 use Rattle.fv_file.specs.Cells.{CellForm, Tiles}
 use Rattle.fv_head.specs.declared.extent.Extent.{Extent}
 use Rattle.fv_tree.specs.Denotes.{Streams, Stream, Pairwise, MeansContent, MeansFile, IsStoredFile}
-use Rattle.fv_tree.specs.Files.{FileForm, HasCurrent}
+use Rattle.fv_tree.specs.Files.{FileForm, AreCurrent, files_in}
 use Rattle.fv_tree.specs.FirstFault.{data_place}
 use Rattle.fv_tree.specs.Meaning.{FileMeaning, ContentMeaning}
 
@@ -14,14 +14,14 @@ pub record HasFiles (is_stream : Streams) (e : Extent) (volume : List ℕ) (ms :
   pub cells : List CellForm
   pub tiles : Tiles e.file_system e.polarity e.first cells (drop e.first volume)
   pub files : List FileForm
-  pub current : HasCurrent e.length cells files
+  pub current : AreCurrent e.length (files_in cells) files
   pub meanings : Pairwise (MeansFile is_stream) files ms
 
 -- cells tile the volume from the first file's offset on, and the files of these cells are these, as they are stored
 pub record StandIn (e : Extent) (volume : List ℕ) (files : List FileForm) : Type 0 where
   pub cells : List CellForm
   pub tiles : Tiles e.file_system e.polarity e.first cells (drop e.first volume)
-  pub current : HasCurrent e.length cells files
+  pub current : AreCurrent e.length (files_in cells) files
 
 -- a valid file in some bytes: its data are at most the limit, and end below 2 ^ 63 if the volume begins at this place
 abbrev pub IsReadyFile : ℕ → FileForm → Type 0

@@ -28,7 +28,7 @@ use Rattle.fv_base.specs.declared.flash.Polarity.{Polarity}
 use Rattle.fv_head.specs.Attributes.{polarity_of}
 use Rattle.fv_head.specs.Head.{HeadFields}
 use Rattle.fv_head.specs.HeadImage.{canonical_head}
-use Rattle.fv_head.specs.ExtImage.{canonical_end, canonical_first}
+use Rattle.fv_head.specs.ExtImage.{canonical_end, first_edge}
 use Rattle.fv_tree.specs.inner.Sizes.{files_size}
 use Rattle.fv_canon.specs.inner.ImageOf.{image_of, starts_in}
 use Rattle.fv_canon.specs.StoredFiles.{ext_pad}
@@ -255,7 +255,7 @@ put_volume-used_end-used-requires g t c =
     c.head-head.ensures.head c.head-head.ensures.meaning c.requires.laid in (
       h.length,
       subst (λ (n : ℕ). ArePlaced h.length n fs c.split_at.result.0.now) (sym c.first_edge-first.ensures.edge)
-          (subst (λ (ss : List ℕ). ArePlaced h.length (canonical_first h h.ext) fs ss) (sym c.split_at.ensures.front) v.placed),
+          (subst (λ (ss : List ℕ). ArePlaced h.length (first_edge h h.ext) fs ss) (sym c.split_at.ensures.front) v.placed),
     )
 
 pub put_volume-put_files-requires : goal.put_volume-put_files-requires
@@ -266,7 +266,7 @@ put_volume-put_files-requires g t c κs within =
     c.head-head.ensures.head c.head-head.ensures.meaning c.requires.laid in
     let falls : volume_size c.args.volume.now ≡ files_size (files_from fs) + 1 = ap volume_size c.files-files.ensures in
     let placed = subst (λ (n : ℕ). ArePlaced h.length n fs c.split_at.result.0.now) (sym c.first_edge-first.ensures.edge)
-    (subst (λ (ss : List ℕ). ArePlaced h.length (canonical_first h h.ext) fs ss) (sym c.split_at.ensures.front) v.placed) in (
+    (subst (λ (ss : List ℕ). ArePlaced h.length (first_edge h h.ext) fs ss) (sym c.split_at.ensures.front) v.placed) in (
       omega (arith, c.decreases, falls),
       (
         within,
@@ -283,7 +283,7 @@ put_volume-returns-clause-bytes g t c =
     let fs : List FileMeaning = c.files-files.result.now in
     let starts : List ℕ = c.args.starts.now in
     let n : ℕ = length fs in
-    let first : ℕ = canonical_first h h.ext in
+    let first : ℕ = first_edge h h.ext in
     let p : Polarity = polarity_of h.attributes in
     let v = volume_seen c.args.volume.now c.head-head.result.now c.files-files.result.now c.args.starts.now c.files-files.ensures
     c.head-head.ensures.head c.head-head.ensures.meaning c.requires.laid in

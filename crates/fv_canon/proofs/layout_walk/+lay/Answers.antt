@@ -1,10 +1,48 @@
-use Rattle.std.proofs.Common.{ℕ, List, arith}
+use Rattle.std.proofs.Common.{ℕ, List, ap, arith, subst}
+use Rattle.fv_tree.specs.inner.Sizes.{volume_size, content_size, body_size}
 use Rattle.fv_tree.specs.Meaning.{SectionMeaning, FileMeaning, files_from, sections_from}
+use Rattle.fv_tree.specs.Views.{body_view, content_view}
+use Rattle.fv_canon.specs.inner.Depths.{NestsVolume, NestsContent, NestsBody}
+use Rattle.fv_canon.specs.inner.LayoutWalks.{Shallow}
 use Rattle.fv_canon.specs.Layouts.{FirstUnfit}
 use Rattle.fv_canon.specs.Volumes.{volumes_in_files, volumes_in_sections}
 use Rattle.fv_canon.proofs.LayoutWalkLaws.{section_grew, shallow_at, section_unfit, file_grew, shallow_file_at, file_unfit, unfit_passed}
+use Rattle.fv_canon.proofs.LayoutWalkLaws.{shallow_files, shallow_sections, shallow_group, shallow_nested}
 use Rattle.fv_canon.proofs.layout_walk.+lay.Goals as goal
 use Rattle.fv_tree.proofs.Laws.{file_content_falls, section_body_falls}
+
+pub lay_volume-lay_files-requires : goal.lay_volume-lay_files-requires
+lay_volume-lay_files-requires t c = (
+  omega (arith, c.decreases, ap volume_size c.files.ensures),
+  shallow_files _ (files_from c.files.result.now) c.args.depth
+      (subst (λ m. Shallow NestsVolume m c.args.depth) c.files.ensures c.requires.shallow),
+)
+
+pub lay_content-lay_sections-requires : goal.lay_content-lay_sections-requires
+lay_content-lay_sections-requires t c =
+    let is = ap content_view c.in-Stream.is in
+    rw c.as_slice.ensures.value (
+      omega (arith, c.decreases, ap content_size is),
+      shallow_sections (sections_from c.in-Stream.sections.items) c.in-Stream.tail c.args.depth
+          (subst (λ x. Shallow NestsContent x c.args.depth) is c.requires.shallow),
+    )
+
+pub lay_body-lay_sections-requires : goal.lay_body-lay_sections-requires
+lay_body-lay_sections-requires t c =
+    let is = ap body_view c.in-Group.is in
+    rw c.as_slice.ensures.value (
+      omega (arith, c.decreases, ap body_size is),
+      shallow_group (sections_from c.in-Group.sections.items) c.in-Group.tail c.args.depth
+          (subst (λ x. Shallow NestsBody x c.args.depth) is c.requires.shallow),
+    )
+
+pub lay_body-lay_volume-requires : goal.lay_body-lay_volume-requires
+lay_body-lay_volume-requires t c =
+    let is = ap body_view c.in-Nested.is in
+    rw c.deref.ensures (
+      omega (arith, c.decreases, ap body_size is),
+      shallow_nested c.in-Nested.volume.value c.args.depth (subst (λ x. Shallow NestsBody x c.args.depth) is c.requires.shallow),
+    )
 
 pub lay_sections-lay_body-requires : goal.lay_sections-lay_body-requires
 lay_sections-lay_body-requires t c =

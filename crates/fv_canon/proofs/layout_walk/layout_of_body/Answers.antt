@@ -4,18 +4,18 @@ use Rattle.fv_tree.specs.Views.{body_view}
 use Rattle.fv_canon.specs.Layouts.{AllFit}
 use Rattle.fv_canon.specs.Volumes.{volumes_in, volumes_in_body, volumes_in_sections}
 use Rattle.fv_canon.proofs.FitLaws.{first_none}
-use Rattle.fv_canon.proofs.LayoutWalkLaws.{only_memory, shallow_group, shallow_nested}
+use Rattle.fv_canon.proofs.LayoutWalkLaws.{group_read, nested_read, only_memory}
 use Rattle.fv_canon.proofs.layout_walk.layout_of_body.Goals as goal
 
 pub lay_sections-requires : goal.lay_sections-requires
 lay_sections-requires c =
     let is = sym c.body.ensures ∙ ap body_view c.in-Group.is in
-    record { shallow = rw c.as_slice.ensures.value (shallow_group c.args.section.now _ c.in-Group.tail c.kind-kind.ensures.read is) }
+    record { shallow = rw c.as_slice.ensures.value (group_read c.args.section.now _ c.in-Group.tail c.kind-kind.ensures.read is) }
 
 pub lay_volume-requires : goal.lay_volume-requires
 lay_volume-requires c =
     let is = sym c.body.ensures ∙ ap body_view c.in-Nested.is in
-    record { shallow = rw c.deref.ensures (shallow_nested c.args.section.now _ c.kind-kind.ensures.read is) }
+    record { shallow = rw c.deref.ensures (nested_read c.args.section.now _ c.kind-kind.ensures.read is) }
 
 pub returns-in_err-lay_sections-in-Group-clause-fits : goal.returns-in_err-lay_sections-in-Group-clause-fits
 returns-in_err-lay_sections-in-Group-clause-fits c fit =

@@ -7,27 +7,27 @@ use Rattle.fv_file.specs.NewHeaders.{pad_head_of}
 use Rattle.fv_head.specs.Attributes.{polarity_of}
 use Rattle.fv_head.specs.Ext.{Extension}
 use Rattle.fv_head.specs.Head.{HeadFields, header_len_of}
-use Rattle.fv_head.specs.ExtImage.{canonical_end, canonical_first, ext_len, ext_spelled}
+use Rattle.fv_head.specs.ExtImage.{canonical_end, first_edge, ext_len, ext_spelled}
 use Rattle.fv_canon.specs.StoredFiles.{ext_pad}
 use Rattle.fv_canon.proofs.pads_and_headers.put_ext_pad.Goals as goal
 
 none_text : (p : Polarity) (h : HeadFields) (x : Option Extension) (used n : ℕ) → x ≡ None
-    → ext_pad p x used ++ replicate (canonical_first h x - canonical_end h x) n ≡ []
+    → ext_pad p x used ++ replicate (first_edge h x - canonical_end h x) n ≡ []
 unfolding ext_pad
-none_text p h x used n e = subst (λ (y : Option Extension). ext_pad p y used ++ replicate (canonical_first h y - canonical_end h y) n ≡ [])
+none_text p h x used n e = subst (λ (y : Option Extension). ext_pad p y used ++ replicate (first_edge h y - canonical_end h y) n ≡ [])
     (sym e) (ap (λ (m : ℕ). replicate m n) (nothing (header_len_of h)))
   where
     nothing : (k : ℕ) → k - k ≡ 0
     nothing k = omega arith
 
 some_text : (p : Polarity) (h : HeadFields) (x : Option Extension) (y : Extension) (used n : ℕ) → x ≡ Some y
-    → ext_pad p x used ++ replicate (canonical_first h x - canonical_end h x) n
+    → ext_pad p x used ++ replicate (first_edge h x - canonical_end h x) n
     ≡ pad_head_of (24 + ext_len y) p
     ++ (ext_spelled y used ++ replicate (up_to_8 (header_len_of h + 24 + ext_len y) - (header_len_of h + 24 + ext_len y)) n)
 unfolding ext_pad
 some_text p h x y used n e =
     subst
-    (λ (z : Option Extension). ext_pad p z used ++ replicate (canonical_first h z - canonical_end h z) n ≡ pad_head_of (24 + ext_len y) p
+    (λ (z : Option Extension). ext_pad p z used ++ replicate (first_edge h z - canonical_end h z) n ≡ pad_head_of (24 + ext_len y) p
     ++ (ext_spelled y used ++ replicate (up_to_8 (header_len_of h + 24 + ext_len y) - (header_len_of h + 24 + ext_len y)) n)) (sym e)
     (append_assoc (pad_head_of (24 + ext_len y) p) (ext_spelled y used)
     (replicate (up_to_8 (header_len_of h + 24 + ext_len y) - (header_len_of h + 24 + ext_len y)) n))

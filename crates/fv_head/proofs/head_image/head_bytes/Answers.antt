@@ -4,7 +4,7 @@ use Rattle.std.proofs.lemmas.Result.{IfOk-weaker}
 use Rattle.fv_base.proofs.Laws.{kept_whole}
 use Rattle.fv_head.specs.Head.{IsCanonicalHead, BeginsVolume, extent_of}
 use Rattle.fv_head.specs.HeadImage.{canonical_head}
-use Rattle.fv_head.specs.ExtImage.{CanonicalRest, canonical_end, canonical_first}
+use Rattle.fv_head.specs.ExtImage.{CanonicalRest, canonical_end, first_edge}
 use Rattle.fv_head.proofs.HeadImageLemmas.{canonical_is, canonical_only, canonical_front}
 use Rattle.fv_head.proofs.head_image.head_bytes.Goals.{After-finish}
 use Rattle.fv_head.proofs.head_image.head_bytes.Goals as goal
@@ -28,6 +28,6 @@ returns-clause-again c =
     let h = c.args.head.now in
     let again : List ℕ → Type 0 = λ bytes.
     (rest : List ℕ) → CanonicalRest h.ext rest → canonical_end h h.ext ≤ h.length → h.length ≤ length (bytes ++ rest)
-    → BeginsVolume h (extent_of h (canonical_first h h.ext)) (bytes ++ rest) in
+    → BeginsVolume h (extent_of h (first_edge h h.ext)) (bytes ++ rest) in
     IfOk-weaker _ _ again (λ bytes same. subst again (sym same)
     (λ rest there fits long. canonical_front h rest c.header_len.ensures.read c.put_head.ensures.ext there fits long)) (is_head c)

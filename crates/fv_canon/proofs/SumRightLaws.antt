@@ -1,0 +1,170 @@
+-- The sums of an image are right: that of its header, and those of each file and pad after it.
+use Rattle.std.proofs.Common.{◌≡◌, ◌≤◌, ◌<◌, ◌+◌, ◌-◌, ◌%◌, ℕ, true, false, List, [], ◌∷◌, ◌++◌, length, take, drop, replicate, refl, sym, ap}
+use Rattle.std.proofs.Common.{◌∙◌, subst, arith, length-append, append_assoc}
+use Rattle.std.specs.Prelude.{slice_index, Option, None, Some}
+use Rattle.std.specs.List.{AllByRecursion}
+use Rattle.std.proofs.lemmas.List.{drop-drop, drop_at, take_at, length-replicate}
+use Rattle.fv_base.specs.Flash.{erased_byte}
+use Rattle.fv_base.specs.Value.{up_to_8}
+use Rattle.fv_base.specs.declared.flash.FileSystem.{FileSystem}
+use Rattle.fv_base.specs.declared.flash.Polarity.{Polarity}
+use Rattle.fv_file.specs.Cells.{CellForm, Valid, Pad, Dead, Stub, Free, IsCell, IsFilled, Tiles, offset_of}
+use Rattle.fv_file.specs.Files.{header_sum_of}
+use Rattle.fv_file.specs.NewHeaders.{pad_fields, pad_head_of}
+use Rattle.fv_file.specs.declared.head.FileHead.{FileHead}
+use Rattle.fv_file.proofs.Laws.{head_of_pad, pad_written}
+use Rattle.fv_head.specs.Attributes.{polarity_of}
+use Rattle.fv_head.specs.Ext.{Extension}
+use Rattle.fv_head.specs.ExtImage.{IfRead, canonical_end, first_edge, ext_len, ext_spelled}
+use Rattle.fv_head.specs.Head.{HeadFields, BeginsVolume, extent_of, header_len_of}
+use Rattle.fv_head.specs.HeadImage.{canonical_head}
+use Rattle.fv_head.proofs.Laws.{ext_again, ext_len_most, length-canonical}
+use Rattle.fv_tree.specs.Denotes.{IsMeaning, MeansSection, Stream}
+use Rattle.fv_tree.specs.Meaning.{Meaning, Volume}
+use Rattle.fv_canon.specs.Headline.{CellSums, SumsAreRight}
+use Rattle.fv_canon.specs.Image.{IsImage}
+use Rattle.fv_canon.specs.StoredFiles.{ext_pad, used_size}
+use Rattle.fv_canon.specs.inner.StoredWalks.{files_bytes, volume_bytes}
+use Rattle.fv_canon.proofs.CellLaws.{bytes_pad_head, length-pad_head}
+use Rattle.fv_canon.proofs.PlacedBytesLaws.{first_is, volume_shows}
+use Rattle.fv_canon.proofs.StoredTilingLaws.{PadFixed, body_tiles}
+use Rattle.fv_canon.proofs.StreamLaws.{stream_again}
+use Rattle.fv_canon.proofs.VolumeLaws.{known, image_front, sections_again}
+
+-- ---- cells that tile bytes
+
+header_sum : (system : FileSystem) (p : Polarity) (head : FileHead) (payload x b rest : List ℕ) → IsFilled system p head payload x
+    → b ≡ x ++ rest → header_sum_of (take head.header_len b) ≡ 0
+header_sum system p head payload x b rest filled is =
+    let file = filled.is_file in
+    let h : List ℕ = file.header in
+    let len : head.header_len ≡ length h = ap (λ (f : FileHead). f.header_len) file.is_header.fields ∙ sym file.is_header.whole in
+    let text : b ≡ h ++ (payload ++ (filled.filler ++ rest)) =
+    is ∙ ap (λ (xs : List ℕ). xs ++ rest) (filled.text ∙ ap (λ (xs : List ℕ). xs ++ filled.filler) file.text)
+    ∙ append_assoc (h ++ payload) filled.filler rest ∙ append_assoc h payload (filled.filler ++ rest) in
+    ap header_sum_of (ap (λ (n : ℕ). take n b) len ∙ ap (take (length h)) text ∙ take_at h (payload ++ (filled.filler ++ rest)) (length h) refl)
+    ∙ file.is_header.sum
+
+cell_sums : (system : FileSystem) (p : Polarity) (c : CellForm) (x rest image : List ℕ) → IsCell system p c x → PadFixed c
+    → drop (offset_of c) image ≡ x ++ rest → CellSums image c
+cell_sums system p (Valid at head payload) x rest image (filled, alive, sound) fixed is =
+    (header_sum system p head payload x (drop at image) rest filled is, sound.file_sum)
+cell_sums system p (Pad at head payload) x rest image (filled, alive, kind) fixed is =
+    (header_sum system p head payload x (drop at image) rest filled is, fixed)
+cell_sums system p (Dead at len) x rest image cell fixed is = tt
+cell_sums system p (Stub at len) x rest image cell fixed is = tt
+cell_sums system p (Free at len) x rest image cell fixed is = tt
+
+tiles_sums : (system : FileSystem) (p : Polarity) (at : ℕ) (cells : List CellForm) (b image : List ℕ) → Tiles system p at cells b
+    → AllByRecursion PadFixed cells → drop at image ≡ b → AllByRecursion (CellSums image) cells
+tiles_sums system p at [] b image tiles fixed is = tt
+tiles_sums system p at (c ∷ cs) b image (x, rest, text, cell, place, last, more) fixed is = (
+  cell_sums system p c x rest image cell fixed.0 (ap (λ (n : ℕ). drop n image) place ∙ is ∙ text),
+  tiles_sums system p (at + length x) cs rest image more fixed.1 (sym (drop-drop (length x) at image)
+      ∙ ap (drop (length x)) (is ∙ text) ∙ drop_at x rest (length x) refl),
+)
+
+-- ---- the pad that holds the extended header
+
+-- cells tile the bytes, and each pad has the fixed file sum
+record Summed (system : FileSystem) (p : Polarity) (at : ℕ) (b : List ℕ) : Type 0 where
+  pub cells : List CellForm
+  pub tiles : Tiles system p at cells b
+  pub fixed : AllByRecursion PadFixed cells
+
+ext_cell : (system : FileSystem) (p : Polarity) (x : Extension) (used : ℕ) (filler : List ℕ) → IfRead (Some x) → length filler < 8
+    → (24 + ext_len x + length filler) % 8 ≡ 0 → (at : ℕ)
+    → IsCell system p (Pad at (pad_fields (24 + ext_len x) (slice_index (pad_head_of (24 + ext_len x) p) 16)) (ext_spelled x used))
+    (ext_pad p (Some x) used ++ filler)
+unfolding ext_pad
+ext_cell system p x used filler read few multiple at =
+    let size : ℕ = 24 + ext_len x in
+    let h : List ℕ = pad_head_of size p in
+    let payload : List ℕ = ext_spelled x used in
+    let head : FileHead = pad_fields size (slice_index h 16) in
+    let written = pad_written p size h (most (ext_len x) (ext_len_most x read)) (bytes_pad_head size p) refl in
+    let cell = head_of_pad p head h written refl refl refl in
+    subst (λ (y : List ℕ). IsCell system p (Pad at head payload) y) (sym (append_assoc h payload filler))
+    (cell system at payload filler (sized (length h) (length payload) (ext_len x) (length-pad_head size p) (ext_again x used read).1) few
+    multiple)
+  where
+    most : (n : ℕ) → n ≤ 65535 → 24 + n ≤ 0xffffff
+    most n l = omega (arith, l)
+
+    sized : (a b n : ℕ) → a ≡ 24 → b ≡ n → 24 + n ≡ a + b
+    sized a b n e f = omega (arith, e, f)
+
+-- what is after the header: the pad with the extended header, if there is one, and then the files
+rest_summed : (system : FileSystem) (p : Polarity) (h : HeadFields) (x : Option Extension) (used : ℕ) (files : List ℕ) → IfRead x
+    → Summed system p (first_edge h x) files
+    → Summed system p (header_len_of h) (ext_pad p x used ++ (replicate (first_edge h x - canonical_end h x) (erased_byte p) ++ files))
+unfolding ext_pad
+rest_summed system p h None used files read behind =
+    subst (λ (n : ℕ). Summed system p (header_len_of h) (replicate n (erased_byte p) ++ files)) (none (header_len_of h)) behind
+  where
+    none : (n : ℕ) → 0 ≡ n - n
+    none n = omega arith
+rest_summed system p h (Some x) used files read behind =
+    let size : ℕ = 24 + ext_len x in
+    let end : ℕ = canonical_end h (Some x) in
+    let filler : List ℕ = replicate (up_to_8 end - end) (erased_byte p) in
+    let short : length filler ≡ up_to_8 end - end = length-replicate (up_to_8 end - end) (erased_byte p) in
+    let pad : List ℕ = ext_pad p (Some x) used in
+    let long : length pad ≡ size = length-append (pad_head_of size p) (ext_spelled x used)
+    ∙ sum_of (length (pad_head_of size p)) (length (ext_spelled x used)) (ext_len x) (length-pad_head size p) (ext_again x used read).1 in
+    let fill = filled (header_len_of h) (ext_len x) (length filler) (first_is h None).1 short in
+    let cell = ext_cell system p x used filler read fill.0 fill.1 (header_len_of h) in
+    let place : header_len_of h + length (pad ++ filler) ≡ up_to_8 end = ended (header_len_of h) (ext_len x) (length (pad ++ filler))
+    (length pad) (length filler) (length-append pad filler) long short in
+    record {
+      cells = Pad (header_len_of h) (pad_fields size (slice_index (pad_head_of size p) 16)) (ext_spelled x used) ∷ behind.cells;
+      tiles = (
+        pad ++ filler,
+        files,
+        sym (append_assoc pad filler files),
+        cell,
+        refl,
+        λ e. absurd (no e),
+        subst (λ (n : ℕ). Tiles system p n behind.cells files) (sym place) behind.tiles,
+      );
+      fixed = (refl, behind.fixed);
+    }
+  where
+    no : false ≡ true → ⊥
+    no e = cc
+
+    sum_of : (a b n : ℕ) → a ≡ 24 → b ≡ n → a + b ≡ 24 + n
+    sum_of a b n e f = omega (arith, e, f)
+
+    filled : (l n k : ℕ) → l % 8 ≡ 0 → k ≡ up_to_8 (l + 24 + n) - (l + 24 + n) → (k < 8) × ((24 + n + k) % 8 ≡ 0)
+    filled l n k m e = (omega (arith, e), omega (arith, e, m))
+
+    ended : (l n t a k : ℕ) → t ≡ a + k → a ≡ 24 + n → k ≡ up_to_8 (l + 24 + n) - (l + 24 + n) → l + t ≡ up_to_8 (l + 24 + n)
+    ended l n t a k e f g = omega (arith, e, f, g)
+
+-- ---- the image
+
+pub sums_are_right : SumsAreRight
+sums_are_right (Volume h files) image (n, most, b, small, d) (stored, starts, are, placed, shows) =
+    let p : Polarity = polarity_of h.attributes in
+    let first : ℕ = first_edge h h.ext in
+    let used : ℕ = used_size first stored starts in
+    let k = (known (Stream n) (stream_again (MeansSection n) (sections_again n)) h files b small d stored starts are placed).writable in
+    let front : BeginsVolume h (extent_of h first) image = image_front h stored starts image k shows in
+    let body : List ℕ = files_bytes p h.length first stored starts in
+    let rest : List ℕ = ext_pad p h.ext used ++ (replicate (first - canonical_end h h.ext) (erased_byte p) ++ body) in
+    let text : drop (header_len_of h) image ≡ rest =
+    ap (drop (header_len_of h)) (volume_shows h stored starts image k shows)
+    ∙ drop_at (canonical_head h) rest (header_len_of h) (length-canonical h k.read) in
+    let tiled = body_tiles h.file_system p h.length first stored starts k.multiple (first_is h h.ext).1 k.files k.follow in
+    let summed = rest_summed h.file_system p h h.ext used body k.ext
+    (record { cells = tiled.cells; tiles = tiled.tiles; fixed = tiled.fixed }) in (
+      extent_of h first,
+      front,
+      front.head.sum,
+      (
+        summed.cells,
+        subst (Tiles h.file_system p (header_len_of h) summed.cells) (sym text) summed.tiles,
+        tiles_sums h.file_system p (header_len_of h) summed.cells rest image summed.tiles summed.fixed text,
+      ),
+    )
