@@ -768,6 +768,20 @@ def check_behind(tool, case, image):
     require(tool.ask("compare", image, more) == (2, line("second " + refusal)), f"compare: not second {refusal}")
 
 
+def check_placed(tool, case, image):
+    """With `--at` the volume may be anywhere in the input."""
+    front, other = bytes_of(tool.pick, tool.pick.randrange(80)), bytes_of(tool.pick, tool.pick.randrange(80))
+    more = front + case.data + bytes_of(tool.pick, tool.pick.randrange(40))
+    at = ["--at", str(len(front))]
+    command = tool.pick.choice(("normalise", "list", "check"))
+    require(tool.ask(command, more, options=at) == tool.ask(command, case.data), f"{command}: {at} is another answer")
+    at += ["--other-at", str(len(other))]
+    require(tool.ask("compare", more, other + image, options=at) == (0, b"same\n"), f"compare: {at} is another answer")
+    past = len(more) + tool.pick.choice((0, 1, 1 << 20, (1 << 64) - 1 - len(more)))
+    answer = tool.ask(command, more, options=["--at", str(past)])
+    require(answer == (2, line("fault 1 at 0")), f"{command}: --at {past} is past the end", answer)
+
+
 def check_prefix(tool, case, _image):
     """No proper prefix of a volume is one."""
     count = tool.pick.randrange(len(case.data))
@@ -830,7 +844,7 @@ def check_accepted(tool, case, image):
         require(tool.ask("list", case.data) == (0, joined(case.lines)), "list: other lines", *case.lines)
     if case.twin and tool.pick.randrange(4) == 0:
         require(tool.ask("normalise", case.twin) == (0, image), "normalise: another image of the same meaning")
-    ways = (check_own, check_listed, check_scanned, check_behind, check_prefix, check_parts)
+    ways = (check_own, check_listed, check_scanned, check_behind, check_placed, check_prefix, check_parts)
     if tool.pick.randrange(2):
         tool.pick.choice(ways)(tool, case, image)
 
@@ -853,6 +867,10 @@ def check_refused(tool, case, refusal):
     else:
         prefix = b"first " if command == "compare" else b""
         require((status, text) == (2, prefix + refusal), f"{command}: another refusal", text, refusal)
+        if number != 8:
+            front = bytes_of(tool.pick, tool.pick.randrange(80))
+            placed = tool.ask("check", front + case.data, options=["--at", str(len(front))])
+            require(placed == (2, refusal), f"check: --at {len(front)} is another refusal", placed, refusal)
 
 
 def check_volume(tool, case):
@@ -877,6 +895,8 @@ def check_places(tool, case, text):
         offset, length = tool.pick.choice(places)
         alone = tool.ask("scan", case.data[offset : offset + length])
         require(alone == (0, line(f"volume at 0 length {length}")), f"scan: not alone what is at {offset}", alone)
+        placed = tool.ask("list", case.data, options=["--at", str(offset)])
+        require(placed == tool.ask("list", case.data[offset : offset + length]), f"list: --at {offset}", placed)
 
 
 def check_image(tool, case):
@@ -912,6 +932,8 @@ compare a b c|check --hex=1|scan a b|extract|extract a|extract --name|extract --
 extract --name NAME --section 100 a|extract --name NAME --section 0x1 a|extract --name NAME --section +1 a|
 extract --name NAME --section g a|extract --name NAME --instance -1 a|extract --name NAME --instance 4294967296 a|
 extract --name NAME --instance x a|hobs --image a b|hobs --base 1 b|hobs --image a --base -1 b|list -x|hobs a b|
+list --at|list --at x a|list --at=-1 a|list --at 0x40 a|list --at 18446744073709551616 a|scan --at 8 a|
+hobs --at 8 a|normalise --all --at 8 a|list --other-at 8 a|compare a b --other-at x|
 hobs --image a --base 0x10 b|hobs --image a --base 18446744073709551616 b|list --name NAME a"""
 
 

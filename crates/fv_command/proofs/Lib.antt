@@ -4,6 +4,7 @@ pub mod HexDigitLemmas
 pub mod HexInLemmas
 pub mod HexTextLemmas
 pub mod HobLemmas
+pub mod InputLemmas
 pub mod ListLemmas
 pub mod PadLemmas
 pub mod PartLemmas

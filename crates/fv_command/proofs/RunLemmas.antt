@@ -1,6 +1,6 @@
 -- What the runs come to: from what the calls promise to the words of a run.
 use Rattle.std.proofs.Common.{◌≡◌, ◌≢◌, ◌∙◌, ◌≤◌, ◌⊎◌, ℕ, Bool, true, false, List, length, take, ap, refl, sym, subst, inl, inr}
-use Rattle.std.specs.Prelude.{Result, Ok, Err, IfErr, IfOk, OnOk}
+use Rattle.std.specs.Prelude.{Option, Result, Ok, Err, IfErr, IfOk, OnOk}
 use Rattle.fv_base.specs.Faults.{out_of_memory}
 use Rattle.fv_base.specs.Output.{WriteStops}
 use Rattle.fv_base.specs.declared.fault.Fault.{Fault}
@@ -16,7 +16,7 @@ use Rattle.fv_tree.specs.Meaning.{Meaning, files_of}
 use Rattle.fv_tree.specs.FileNames.{file_named}
 use Rattle.fv_command.specs.inner.CheckRuns.{CheckStops}
 use Rattle.fv_command.specs.inner.ImageTexts.{StopsImage}
-use Rattle.fv_command.specs.Inputs.{Gives, BeginsNone, BeginsWith}
+use Rattle.fv_command.specs.Inputs.{Gives, GivesAt, TakenAt, BeginsNone, BeginsWith}
 use Rattle.fv_command.specs.PortViews.{Change, Shown, WritingStops}
 use Rattle.fv_command.specs.Extractions.{StopsPart}
 use Rattle.fv_command.specs.SideRuns.{GivesVolume, SideStops, VolumeInputStops}
@@ -77,29 +77,30 @@ part_stopped hex input m part w f b (inr stops) = inl (refl, inr (inr (m, b, sto
 abbrev turn : Shown → Shown → Change
 turn old new = record { old = old; new = new }
 
-pub given : (hex : Bool) (r s : Shown) (items bytes : List ℕ) (m : Meaning) → bytes ≡ items → Gives hex r s items → Accepted bytes m
-    → GivesVolume hex (turn r s) m
-given hex r s items bytes m is gives accepted = (items, gives, subst (λ (b : List ℕ). Accepted b m) is accepted)
+-- what is taken of an input
+pub given_at : (hex : Bool) (at : Option ℕ) (r s : Shown) (items bytes taken : List ℕ) → bytes ≡ items → Gives hex r s items
+    → TakenAt at bytes taken → GivesAt hex at r s taken
+given_at hex at r s items bytes taken is gives takes = (items, gives, subst (λ (b : List ℕ). TakenAt at b taken) is takes)
 
-pub not_given : (hex : Bool) (r s : Shown) (items bytes : List ℕ) (f : Fault) → bytes ≡ items → Gives hex r s items → VolumeStops bytes f
-    → VolumeInputStops hex (turn r s) f
-not_given hex r s items bytes f is gives stops = inr (items, gives, subst (λ (b : List ℕ). VolumeStops b f) is stops)
+pub given : (hex : Bool) (at : Option ℕ) (r s : Shown) (taken : List ℕ) (m : Meaning) → GivesAt hex at r s taken → Accepted taken m
+    → GivesVolume hex at (turn r s) m
+given hex at r s taken m gives accepted = (taken, gives, accepted)
 
-pub second_stopped : (side : Side) (hex : Bool) (r s r' s' w : Shown) (m : Meaning) (f : Fault) → side ≡ sides.Second
-    → GivesVolume hex (turn r s) m → VolumeInputStops hex (turn r' s') f → SideStops side hex (turn r s) (turn r' s') (turn w w) f
-second_stopped side hex r s r' s' w m f is first stops =
-    subst (λ (x : Side). SideStops x hex (turn r s) (turn r' s') (turn w w) f) (sym is) (refl, (m, first), stops)
+pub second_stopped : (side : Side) (hex : Bool) (at other : Option ℕ) (r s r' s' w : Shown) (m : Meaning) (f : Fault) → side ≡ sides.Second
+    → GivesVolume hex at (turn r s) m → VolumeInputStops hex other (turn r' s') f → SideStops side hex at other (turn r s) (turn r' s') (turn w w) f
+second_stopped side hex at other r s r' s' w m f is first stops =
+    subst (λ (x : Side). SideStops x hex at other (turn r s) (turn r' s') (turn w w) f) (sym is) (refl, (m, first), stops)
 
-pub comparison_stopped : (side : Side) (hex : Bool) (r s r' s' w v : Shown) (m k : Meaning) (f : Fault) → GivesVolume hex (turn r s) m
-    → GivesVolume hex (turn r' s') k → ComparisonStops side m k w.bytes v.bytes f
+pub comparison_stopped : (side : Side) (hex : Bool) (at place : Option ℕ) (r s r' s' w v : Shown) (m k : Meaning) (f : Fault)
+    → GivesVolume hex at (turn r s) m → GivesVolume hex place (turn r' s') k → ComparisonStops side m k w.bytes v.bytes f
     → (f.kind ≡ kinds.WriteFault → (side ≡ sides.Output) × (v.erred ≡ true)) → (f.kind ≢ kinds.WriteFault → v ≡ w)
-    → SideStops side hex (turn r s) (turn r' s') (turn w v) f
-comparison_stopped sides.First hex r s r' s' w v m k f a b (keeps, want, other) erred same =
+    → SideStops side hex at place (turn r s) (turn r' s') (turn w v) f
+comparison_stopped sides.First hex at place r s r' s' w v m k f a b (keeps, want, other) erred same =
     let none : f.kind ≡ kinds.WriteFault → ⊥ =
     λ e. let bad : kinds.OutOfMemory ≡ kinds.WriteFault = sym (ap (λ (x : Fault). x.kind) want) ∙ e in cc in
     (same none, inr (m, k, a, b, want, other))
-comparison_stopped sides.Second hex r s r' s' w v m k f a b stops erred same = absurd stops
-comparison_stopped sides.Output hex r s r' s' w v m k f a b stops erred same =
+comparison_stopped sides.Second hex at place r s r' s' w v m k f a b stops erred same = absurd stops
+comparison_stopped sides.Output hex at place r s r' s' w v m k f a b stops erred same =
     (m, k, a, b, stopped w v _ f stops (erred stops.kind).1)
 
 -- three facts of one error

@@ -12,12 +12,12 @@ path_of (Some image) = Some image.path
 
 -- the file of a command's first input; None is standard input
 abbrev pub first_file : Command → Option (String Global)
-first_file (Single task file) = file
+first_file (Single task at file) = file
 first_file (Hobs file image) = file
-first_file (Compare first second) = Some first
+first_file (Compare first second) = Some first.path
 
 -- the file of a command's second input, if it has one: the image of a hand-off list, or the second of two volumes
 abbrev pub second_file : Command → Option (String Global)
-second_file (Single task file) = None
+second_file (Single task at file) = None
 second_file (Hobs file image) = path_of image
-second_file (Compare first second) = Some second
+second_file (Compare first second) = Some second.path

@@ -1,9 +1,11 @@
 -- What a run reads, and how it reports what stopped it.
-use Rattle.std.specs.Prelude.{◌≡◌, ◌≤◌, ℕ, Bool, true, false, List, length, take}
+use Rattle.std.specs.Prelude.{◌≡◌, ◌≤◌, ◌⊎◌, ℕ, Bool, true, false, List, length, take, drop, Option, None, Some}
 use Rattle.fv_base.specs.Faults.{fault_number}
 use Rattle.fv_base.specs.Input.{ReadsWhole, ReadStops}
 use Rattle.fv_base.specs.declared.fault.Fault.{Fault}
 use Rattle.fv_base.specs.declared.fault.FaultKind.TheVariants as kinds
+use Rattle.fv_head.specs.Head.{HeadFields, BeginsVolume}
+use Rattle.fv_head.specs.declared.extent.Extent.{Extent}
 use Rattle.fv_tree.specs.Denotes.{Accepted}
 use Rattle.fv_tree.specs.FirstFault.{IsFirstOfVolume}
 use Rattle.fv_tree.specs.Meaning.{Meaning}
@@ -15,6 +17,22 @@ use Rattle.fv_command.specs.PortViews.{Change, Shown}
 abbrev pub Gives : Bool → Shown → Shown → List ℕ → Type 0
 Gives false old new input = ReadsWhole old.bytes new.bytes input
 Gives true old new input = SpellsWhole old.bytes new.bytes input
+
+-- the volume at byte n of an input: as many bytes from there on as its header says, or all bytes from there on if no
+-- volume begins there (PI specification, volume 3, section 3.2.1)
+abbrev pub At : ℕ → List ℕ → List ℕ → Type 0
+At n input volume =
+    ((h : HeadFields) × (e : Extent) × BeginsVolume h e (drop n input) × (volume ≡ take e.length (drop n input)))
+    ⊎ (((h : HeadFields) (e : Extent) → BeginsVolume h e (drop n input) → ⊥) × (volume ≡ drop n input))
+
+-- what a command takes of an input: all of it, or the volume at byte n
+abbrev pub TakenAt : Option ℕ → List ℕ → List ℕ → Type 0
+TakenAt None input taken = taken ≡ input
+TakenAt (Some n) input taken = At n input taken
+
+-- an input was read to its end, and this is what is taken of it
+abbrev pub GivesAt : Bool → Option ℕ → Shown → Shown → List ℕ → Type 0
+GivesAt hex at old new taken = (input : List ℕ) × Gives hex old new input × TakenAt at input taken
 
 -- the reading of an input stopped; if the reader is to blame, one of its calls has failed
 abbrev pub GivingStops : Bool → Shown → Shown → Fault → Type 0

@@ -1,11 +1,12 @@
 //! The bytes of an input.
 
 ghost use Rattle.std.specs.Prelude.{IfOk, IfErr};
-ghost use Rattle.fv_command.specs.Inputs.{Gives, GivingStops};
+ghost use Rattle.fv_command.specs.Inputs.{Gives, GivingStops, TakenAt};
 ghost use Rattle.fv_command.specs.PortViews.{shown};
 
 use crate::hex_text::read_hex;
 use fv_base::{Fault, Port, read_input};
+use fv_head::verify_fv;
 use std::alloc::Global;
 use std::io::Read;
 
@@ -26,5 +27,21 @@ pub fn read_bytes<R: Read>(alloc: Global, hex: bool, reader: &mut Port<R>) -> Re
         read_hex(alloc, reader)
     } else {
         read_input(alloc, reader)
+    }
+}
+
+/// The volume at byte `at` of an input: as many bytes from there on as its header says, or all bytes
+/// from there on if no volume begins there; past the end of the input there are none. The whole input if `at` is None.
+/// (PI specification, volume 3, section 3.2.1.)
+pub fn taken_at(input: &[u8], at: Option<u64>) -> &[u8]
+    ensures { TakenAt at input.now result.now }
+{
+    let Some(at) = at else {
+        return input;
+    };
+    let rest = &input[at.min(input.len() as u64) as usize..];
+    match verify_fv(rest) {
+        Ok(extent) => &rest[..extent.length as usize],
+        Err(_) => rest,
     }
 }

@@ -34,7 +34,7 @@ mod whole_write;
 pub use extracting::Part;
 pub use fault_text::{refuse, say};
 pub use output::Output;
-pub use plan::{Command, ImageFile, Plan, Task};
+pub use plan::{Command, ImageFile, Plan, Task, VolumeFile};
 pub use plan_run::run_plan;
 pub use run_end::close;
 pub use source::{Source, open};

@@ -21,6 +21,8 @@ pub enum Command {
     Single {
         /// What is done with the input.
         task: Task,
+        /// The byte of the input at which the volume begins, or None if the input is the volume.
+        at: Option<u64>,
         /// The file of the input, or standard input.
         file: Option<String>,
     },
@@ -33,10 +35,10 @@ pub enum Command {
     },
     /// Say whether two volumes have the same meaning.
     Compare {
-        /// The file of the first volume.
-        first: String,
-        /// The file of the second volume.
-        second: String,
+        /// The first volume.
+        first: VolumeFile,
+        /// The second volume.
+        second: VolumeFile,
     },
 }
 
@@ -57,6 +59,16 @@ pub enum Task {
     Scan,
 }
 
+/// A volume in a file.
+#[derive(Debug, Drop)]
+pub struct VolumeFile {
+    /// The file.
+    pub path: String,
+    /// The byte of the file at which the volume begins, or None if the file is the volume. Of text,
+    /// decoded bytes are counted.
+    pub at: Option<u64>,
+}
+
 /// An image in a file.
 #[derive(Debug, Drop)]
 pub struct ImageFile {
@@ -73,7 +85,7 @@ impl Plan {
     {
         match &self.command {
             Command::Single { file, .. } | Command::Hobs { file, .. } => file.as_ref(),
-            Command::Compare { first, .. } => Some(first),
+            Command::Compare { first, .. } => Some(&first.path),
         }
     }
 
@@ -84,7 +96,7 @@ impl Plan {
         match &self.command {
             Command::Single { .. } => None,
             Command::Hobs { image, .. } => image.as_ref().map(|image| &image.path),
-            Command::Compare { second, .. } => Some(second),
+            Command::Compare { second, .. } => Some(&second.path),
         }
     }
 }

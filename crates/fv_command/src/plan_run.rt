@@ -33,11 +33,14 @@ pub fn run_plan<First: Read, Second: Read, W: Write>(
     }) }
 {
     match &plan.command {
-        Command::Single { task, .. } => run_task(alloc, task, plan.hex, first, writer),
+        Command::Single { task, at, .. } => run_task(alloc, task, plan.hex, *at, first, writer),
         Command::Hobs { image, .. } => {
             let base = image.as_ref().map(|image| image.base);
             run_hobs(alloc, plan.hex, base, first, second, writer)
         }
-        Command::Compare { .. } => run_comparison(alloc, plan.hex, first, second, writer),
+        Command::Compare {
+            first: volume,
+            second: other,
+        } => run_comparison(alloc, plan.hex, volume.at, other.at, first, second, writer),
     }
 }

@@ -11,7 +11,7 @@ use crate::extracting::{Extraction, Part, extract};
 use crate::fault_text::refuse;
 use crate::hex_lines::write_shown;
 use crate::image_text::write_image;
-use crate::inputs::read_bytes;
+use crate::inputs::{read_bytes, taken_at};
 use crate::list_text::write_list;
 use crate::plan::Task;
 use crate::scan_text::write_volumes;
@@ -151,36 +151,38 @@ fn perform<W: Write>(
     }
 }
 
-// Reads an input to its end, and writes the result of the task for it.
+// Reads an input to its end, and writes the result of the task for it, or for the volume at byte `at`.
 fn read_and_perform<R: Read, W: Write>(
     alloc: Global,
     task: &Task,
     hex: bool,
+    at: Option<u64>,
     reader: &mut Port<R>,
     writer: &mut Port<W>,
 ) -> Result<Status, Fault>
-    ensures ok { IfOk result (SaysRead task.now hex (change R.remaining reader.old reader.new)
+    ensures ok { IfOk result (SaysRead task.now hex at (change R.remaining reader.old reader.new)
         (change W.contents writer.old writer.new)) }
-    ensures err { IfErr result (StopsRead task.now hex (change R.remaining reader.old reader.new)
+    ensures err { IfErr result (StopsRead task.now hex at (change R.remaining reader.old reader.new)
         (change W.contents writer.old writer.new)) }
 {
     let input = read_bytes(alloc, hex, reader)?;
-    perform(alloc, task, hex, &input, writer)
+    perform(alloc, task, hex, taken_at(&input, at), writer)
 }
 
 /// Reads an input to its end, and writes the result of the task for it, or the line of the fault
-/// that stops the run.
+/// that stops the run. If `at` is a number, the volume at this byte of the input is taken for the input.
 pub fn run_task<R: Read, W: Write>(
     alloc: Global,
     task: &Task,
     hex: bool,
+    at: Option<u64>,
     reader: &mut Port<R>,
     writer: &mut Port<W>,
 ) -> Status
-    ensures { RunsTask task.now hex result (change R.remaining reader.old reader.new)
+    ensures { RunsTask task.now hex at result (change R.remaining reader.old reader.new)
         (change W.contents writer.old writer.new) }
 {
-    match read_and_perform(alloc, task, hex, reader, writer) {
+    match read_and_perform(alloc, task, hex, at, reader, writer) {
         Ok(status) => status,
         Err(fault) => refuse(writer, fault),
     }

@@ -10,6 +10,7 @@ mod limits;
 mod listed;
 mod memory;
 mod pieces;
+mod placed;
 mod replaced;
 mod runs;
 mod spans;

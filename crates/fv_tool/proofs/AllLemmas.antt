@@ -1,20 +1,21 @@
 -- The two tasks of `normalise`.
-use Rattle.std.proofs.Common.{◌≡◌, ◌∙◌, ℕ, Bool, true, false, List, [], Option, ap, codes, refl, subst, sym}
+use Rattle.std.proofs.Common.{◌≡◌, ◌∙◌, ℕ, Bool, true, false, List, [], Option, None, ap, codes, refl, subst, sym}
 use Rattle.std.specs.Global.{Global}
 use Rattle.std.specs.Prelude.{String}
 use Rattle.fv_command.specs.declared.plan.Command.TheVariants.{Single}
 use Rattle.fv_command.specs.declared.plan.Plan.{Plan}
 use Rattle.fv_command.specs.declared.plan.Task.{Task}
 use Rattle.fv_command.specs.declared.plan.Task.TheVariants.{Normalise, NormaliseAll}
-use Rattle.fv_tool.specs.Options.{faults_in, normalise_app, text_in}
-use Rattle.fv_tool.specs.Words.{AsksBy, HasTexts, IsFileWord, command_app, command_name, has_flag, task_app, task_name}
+use Rattle.fv_tool.specs.Options.{faults_in, normalise_app}
+use Rattle.fv_tool.specs.Words.{AsksBy, HasInput, HasTexts, command_app, command_name, has_flag, task_app, task_name}
 
 -- the plan is that of the words, where its task is this one
-asked : (rest : List (List ℕ)) (task other : Task) (file : Option (String Global)) (plan : Plan) → plan.command ≡ Single task file
+asked : (rest : List (List ℕ)) (task other : Task) (at : Option ℕ) (file : Option (String Global)) (plan : Plan)
+    → plan.command ≡ Single task at file
     → task ≡ other → codes "normalise" ≡ task_name other → faults_in (task_app other) rest ≡ [] → plan.hex ≡ has_flag (codes "--hex") rest
-    → HasTexts rest (Single other file) → AsksBy (codes "normalise") rest plan
-asked rest task other file plan command same name taken hex texts =
-    let is : plan.command ≡ Single other file = command ∙ ap (λ (t : Task). Single t file) same in
+    → HasTexts rest (Single other at file) → AsksBy (codes "normalise") rest plan
+asked rest task other at file plan command same name taken hex texts =
+    let is : plan.command ≡ Single other at file = command ∙ ap (λ (t : Task). Single t at file) same in
     record {
       command = name ∙ sym (ap command_name is);
       taken = ap (λ c. faults_in (command_app c) rest) is ∙ taken;
@@ -23,11 +24,12 @@ asked rest task other file plan command same name taken hex texts =
     }
 
 -- the flag tells the task
-pub normalise_asked : (rest : List (List ℕ)) (all : Bool) (task : Task) (file : Option (String Global)) (plan : Plan)
+pub normalise_asked : (rest : List (List ℕ)) (all : Bool) (task : Task) (at : Option ℕ) (file : Option (String Global)) (plan : Plan)
     → (all ≡ true → task ≡ NormaliseAll) → (all ≡ false → task ≡ Normalise) → all ≡ has_flag (codes "--all") rest
-    → faults_in normalise_app rest ≡ [] → plan.hex ≡ has_flag (codes "--hex") rest → plan.command ≡ Single task file
-    → IsFileWord (text_in normalise_app (codes "file") rest) file → AsksBy (codes "normalise") rest plan
-normalise_asked rest true task file plan each one is taken hex command texts =
-    asked rest task NormaliseAll file plan command (each refl) refl taken hex (sym is, texts)
-normalise_asked rest false task file plan each one is taken hex command texts =
-    asked rest task Normalise file plan command (one refl) refl taken hex (sym is, texts)
+    → (all ≡ true → at ≡ None)
+    → faults_in normalise_app rest ≡ [] → plan.hex ≡ has_flag (codes "--hex") rest → plan.command ≡ Single task at file
+    → HasInput normalise_app rest at file → AsksBy (codes "normalise") rest plan
+normalise_asked rest true task at file plan each one is bare taken hex command input =
+    asked rest task NormaliseAll at file plan command (each refl) refl taken hex (sym is, bare refl, input)
+normalise_asked rest false task at file plan each one is bare taken hex command input =
+    asked rest task Normalise at file plan command (one refl) refl taken hex (sym is, input)

@@ -33,7 +33,7 @@ use Rattle.clap.specs.declared.parser.matches.MatchedArg.{MatchedArg}
 use Rattle.fv_command.specs.declared.plan.ImageFile.{ImageFile}
 use Rattle.fv_tool.proofs.ReadLemmas.{IsRead, text_answer}
 use Rattle.fv_tool.specs.Options.{text_in}
-use Rattle.fv_tool.specs.Words.{IsImageWords, IsInstanceWord, IsNumberWord}
+use Rattle.fv_tool.specs.Words.{IsAtWord, IsImageWords, IsInstanceWord, IsNumberWord}
 
 -- a parser of numbers up to `most`
 abbrev takes_number : ℕ → Option ValueParser → Bool
@@ -191,6 +191,12 @@ instance_read None r h = ap (λ (o : Option ℕ). unwrap_or o 1) h
 instance_read (Some t) None h = absurd h
 instance_read (Some t) (Some n) h = h
 
+-- the byte at which a volume begins
+pub at_read : (text : Option (List ℕ)) (r : Option ℕ) → IsNumberOf 64 text r → IsAtWord text r
+at_read None r h = h
+at_read (Some t) None h = h
+at_read (Some t) (Some n) h = h
+
 -- an image, by its path and its base
 pub image_read : (path base : Option (List ℕ)) (r : Option ℕ) (image : Option ImageFile) → IsNumberOf 64 base r
     → option_map (λ f. string_bytes f.path) image ≡ path → option_map (λ f. f.base) image ≡ r → IsImageWords path base image
@@ -202,6 +208,10 @@ image_read path (Some text) (Some n) (Some image) h e f = (
   sym e,
   subst (IsNumberWord 64 text) (ap (λ (o : Option ℕ). unwrap_or o 0) (sym f)) h,
 )
+
+pub none_is : (o : Option ℕ) → is_some o ≡ false → o ≡ None
+none_is None e = refl
+none_is (Some n) e = absurd (true≢false e)
 
 -- a number is read exactly where a text is given
 pub number_given : (bits : ℕ) (text : Option (List ℕ)) (r : Option ℕ) → IsNumberOf bits text r → is_some r ≡ is_some text

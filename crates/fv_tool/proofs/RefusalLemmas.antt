@@ -1,5 +1,5 @@
 -- Words that are refused as wrong are not right: the reader finds a fault in them (refused_right), or what it reads is no plan
--- (no_name, no_type, no_pair, no_files).
+-- (no_place, no_name, no_type, no_pair, no_files).
 use Rattle.std.proofs.Common.{◌≡◌, ◌≢◌, ◌∙◌, ◌⊎◌, ℕ, List, [], ◌∷◌, IfErr, Result, Ok, Err, Option, Some, None, ap, codes, inl, inr}
 use Rattle.std.proofs.Common.{drop, refl, subst, sym, true, false, true≢false}
 use Rattle.std.proofs.lemmas.Result.{IfErr-weaker}
@@ -15,8 +15,8 @@ use Rattle.fv_command.specs.declared.plan.Command.{Command}
 use Rattle.fv_command.specs.declared.plan.Command.TheVariants.{Single, Hobs, Compare}
 use Rattle.fv_command.specs.declared.plan.Task.TheVariants.{Normalise, NormaliseAll, List as Listing, Extract, Check, Scan}
 use Rattle.fv_tool.proofs.ReadLemmas.{IsGiven, by_app, faults_read}
-use Rattle.fv_tool.specs.Options.{compare_app, extract_app, faults_in, hobs_app, normalise_app, one_input_app, text_in}
-use Rattle.fv_tool.specs.Words.{AreRightFor, HasTexts, IsBaseWord, IsSectionTypeWord, command_app, command_name}
+use Rattle.fv_tool.specs.Options.{compare_app, extract_app, faults_in, hobs_app, normalise_app, one_input_app, text_in, volume_app}
+use Rattle.fv_tool.specs.Words.{AreRightFor, HasTexts, IsAtWord, IsBaseWord, IsSectionTypeWord, has_flag, command_app, command_name}
 use Rattle.fv_tool.specs.declared.words.WordFault.{WordFault}
 use Rattle.fv_tool.specs.declared.words.WordFault.TheVariants.{Words, OutOfMemory}
 
@@ -26,15 +26,16 @@ app_named name =
     if bytes_eq name (codes "normalise") then normalise_app
     else (if bytes_eq name (codes "hobs") then hobs_app
     else (if bytes_eq name (codes "extract") then extract_app
-    else (if bytes_eq name (codes "compare") then compare_app else one_input_app)))
+    else (if bytes_eq name (codes "compare") then compare_app
+    else (if bytes_eq name (codes "scan") then one_input_app else volume_app))))
 
 named_app : (c : Command) → app_named (command_name c) ≡ command_app c
-named_app (Single Normalise file) = refl
-named_app (Single NormaliseAll file) = refl
-named_app (Single Listing file) = refl
-named_app (Single (Extract part) file) = refl
-named_app (Single Check file) = refl
-named_app (Single Scan file) = refl
+named_app (Single Normalise at file) = refl
+named_app (Single NormaliseAll at file) = refl
+named_app (Single Listing at file) = refl
+named_app (Single (Extract part) at file) = refl
+named_app (Single Check at file) = refl
+named_app (Single Scan at file) = refl
 named_app (Hobs file image) = refl
 named_app (Compare first second) = refl
 
@@ -76,13 +77,28 @@ refused_right name given g words e kinds r h =
 other : (a b : List ℕ) → bytes_eq a b ≡ false → a ≡ b → ⊥
 other a b e is = true≢false (sym ((bytes_eq-Decides a b).1 is) ∙ e)
 
+-- a byte of an input is not given where each volume of it is meant
+pub no_place : (rest : List (List ℕ)) → has_flag (codes "--all") rest ≡ true
+    → is_some (text_in normalise_app (codes "at") rest) ≡ true → AreRightFor (codes "normalise") rest → ⊥
+no_place rest all given right = go right.0.command right.1.command right.1.texts
+  where
+    placed : (text : Option (List ℕ)) (at : Option ℕ) → at ≡ None → IsAtWord text at → is_some text ≡ true → ⊥
+    placed None at none h some = cc
+    placed (Some t) None none h some = h
+    placed (Some t) (Some n) none h some = cc
+
+    go : (c : Command) → codes "normalise" ≡ command_name c → HasTexts rest c → ⊥
+    go (Single Normalise at file) is texts = true≢false (sym all ∙ texts.0)
+    go (Single NormaliseAll at file) is texts = placed _ at texts.1 texts.2.0 given
+    go c is texts = absurd (other _ _ refl is)
+
 -- a part needs a name that is read, and a type, if one is given
 pub no_name : (rest : List (List ℕ)) → option_and_then guid_read (text_in extract_app (codes "name") rest) ≡ None
     → AreRightFor (codes "extract") rest → ⊥
 no_name rest none right = go right.0.command right.1.command right.1.texts
   where
     go : (c : Command) → codes "extract" ≡ command_name c → HasTexts rest c → ⊥
-    go (Single (Extract part) file) is texts = let same : None ≡ Some part.name = sym none ∙ texts.1.name_is in cc
+    go (Single (Extract part) at file) is texts = let same : None ≡ Some part.name = sym none ∙ texts.1.name_is in cc
     go c is texts = absurd (other _ _ refl is)
 
 pub no_type : (rest : List (List ℕ)) → ((kind : Option ℕ) → IsSectionTypeWord (text_in extract_app (codes "section") rest) kind → ⊥)
@@ -90,7 +106,7 @@ pub no_type : (rest : List (List ℕ)) → ((kind : Option ℕ) → IsSectionTyp
 no_type rest none right = go right.0.command right.1.command right.1.texts
   where
     go : (c : Command) → codes "extract" ≡ command_name c → HasTexts rest c → ⊥
-    go (Single (Extract part) file) is texts = none part.section texts.1.section_is
+    go (Single (Extract part) at file) is texts = none part.section texts.1.section_is
     go c is texts = absurd (other _ _ refl is)
 
 -- an image and its base come together
@@ -105,7 +121,7 @@ no_pair rest differ right = go right.0.command right.1.command right.1.texts
     go : (c : Command) → codes "hobs" ≡ command_name c → HasTexts rest c → ⊥
     go (Hobs file None) is texts = differ (ap is_some texts.1.0 ∙ sym (ap is_some texts.1.1))
     go (Hobs file (Some image)) is texts = differ (ap is_some texts.1.0 ∙ sym (based _ _ texts.1.1))
-    go (Single Normalise file) is texts = absurd (other _ _ refl is)
+    go (Single Normalise at file) is texts = absurd (other _ _ refl is)
     go c is texts = absurd (other _ _ refl is)
 
 -- and two files are compared
@@ -119,8 +135,8 @@ no_files rest none right = go right.0.command right.1.command right.1.texts
 
     go : (c : Command) → codes "compare" ≡ command_name c → HasTexts rest c → ⊥
     go (Compare first second) is texts = elim none [
-      | inl e ↦ missing _ _ texts.0 e
-      | inr e ↦ missing _ _ texts.1 e
+      | inl e ↦ missing _ _ texts.0.0 e
+      | inr e ↦ missing _ _ texts.1.0 e
     ]
-    go (Single Normalise file) is texts = absurd (other _ _ refl is)
+    go (Single Normalise at file) is texts = absurd (other _ _ refl is)
     go c is texts = absurd (other _ _ refl is)

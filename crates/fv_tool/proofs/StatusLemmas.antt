@@ -22,7 +22,7 @@ ports_of r s r' s' output =
     record { first = record { old = r; new = s }; second = record { old = r'; new = s' }; output = output }
 
 command_not_wrong : (c : Command) (hex : Bool) (ports : Ports) → RunsCommand c hex WrongWords ports → ⊥
-command_not_wrong (Single task file) hex ports (same, ran) = ran
+command_not_wrong (Single task at file) hex ports (same, ran) = ran
 command_not_wrong (Hobs file image) hex ports ran = ran
 command_not_wrong (Compare first second) hex ports ran = ran
 

@@ -34,27 +34,39 @@ base_rule = number_rule (codes "base") 18446744073709551615
 abbrev pub instance_rule : Rule
 instance_rule = number_rule (codes "instance") 4294967295
 
+-- the options `--at` and `--other-at`: the byte of an input at which the volume begins, and that of a second input
+abbrev pub at_rule : Rule
+at_rule = number_rule (codes "at") 18446744073709551615
+
+abbrev pub other_at_rule : Rule
+other_at_rule = number_rule (codes "other-at") 18446744073709551615
+
 -- a command with the flag `--hex`
 abbrev pub flag_app : App
 flag_app = with_rule (new_app (codes "fvtool")) hex_rule
 
--- a command with one input, and the others
+-- a command with one input, one with a volume in an input, and the others
 abbrev pub one_input_app : App
 one_input_app = with_rule flag_app (new_rule (codes "file"))
 
+abbrev pub volume_app : App
+volume_app = with_rule (with_rule flag_app at_rule) (new_rule (codes "file"))
+
 abbrev pub normalise_app : App
-normalise_app = with_rule (with_rule flag_app all_rule) (new_rule (codes "file"))
+normalise_app = with_rule (with_rule (with_rule flag_app all_rule) at_rule) (new_rule (codes "file"))
 
 abbrev pub hobs_app : App
 hobs_app = with_rule (with_rule (with_rule flag_app (option_rule (codes "image"))) base_rule) (new_rule (codes "file"))
 
 abbrev pub extract_app : App
 extract_app =
-    with_rule (with_rule (with_rule (with_rule flag_app (option_rule (codes "name"))) (option_rule (codes "section")))
-    instance_rule) (new_rule (codes "file"))
+    with_rule (with_rule (with_rule (with_rule (with_rule flag_app (option_rule (codes "name"))) (option_rule (codes "section")))
+    instance_rule) at_rule) (new_rule (codes "file"))
 
 abbrev pub compare_app : App
-compare_app = with_rule (with_rule flag_app (new_rule (codes "first"))) (new_rule (codes "second"))
+compare_app =
+    with_rule (with_rule (with_rule (with_rule flag_app at_rule) other_at_rule) (new_rule (codes "first")))
+    (new_rule (codes "second"))
 
 -- what the parser finds in the arguments after the command's name
 abbrev pub rows_in : App → List (List ℕ) → List Row

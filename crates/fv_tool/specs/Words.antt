@@ -8,18 +8,19 @@ use Rattle.std.specs.String.{string_bytes}
 use Rattle.clap.specs.Words.{App}
 use Rattle.fv_base.specs.Guids.{guid_read}
 use Rattle.fv_command.specs.declared.extracting.Part.{Part}
-use Rattle.fv_tool.specs.Options.{compare_app, extract_app, faults_in, hobs_app, normalise_app, one_input_app, text_in}
+use Rattle.fv_tool.specs.Options.{compare_app, extract_app, faults_in, hobs_app, normalise_app, one_input_app, text_in, volume_app}
 use Rattle.fv_command.specs.declared.plan.Command.{Command}
 use Rattle.fv_command.specs.declared.plan.Command.TheVariants.{Single, Hobs, Compare}
 use Rattle.fv_command.specs.declared.plan.ImageFile.{ImageFile}
 use Rattle.fv_command.specs.declared.plan.Plan.{Plan}
+use Rattle.fv_command.specs.declared.plan.VolumeFile.{VolumeFile}
 use Rattle.fv_command.specs.declared.plan.Task.{Task}
 use Rattle.fv_command.specs.declared.plan.Task.TheVariants.{Normalise, NormaliseAll, List as Listing, Extract, Check}
 use Rattle.fv_command.specs.declared.plan.Task.TheVariants.{Scan}
 
 -- with no arguments: hexadecimal text from standard input is normalised
 abbrev pub plan_without_words : Plan
-plan_without_words = record { hex = true; command = Single Normalise None }
+plan_without_words = record { hex = true; command = Single Normalise None None }
 
 -- the argument that names a task, and the one that names a command
 abbrev pub task_name : Task → List ℕ
@@ -31,7 +32,7 @@ task_name Check = codes "check"
 task_name Scan = codes "scan"
 
 abbrev pub command_name : Command → List ℕ
-command_name (Single task file) = task_name task
+command_name (Single task at file) = task_name task
 command_name (Hobs file image) = codes "hobs"
 command_name (Compare first second) = codes "compare"
 
@@ -39,13 +40,13 @@ command_name (Compare first second) = codes "compare"
 abbrev pub task_app : Task → App
 task_app Normalise = normalise_app
 task_app NormaliseAll = normalise_app
-task_app Listing = one_input_app
+task_app Listing = volume_app
 task_app (Extract part) = extract_app
-task_app Check = one_input_app
+task_app Check = volume_app
 task_app Scan = one_input_app
 
 abbrev pub command_app : Command → App
-command_app (Single task file) = task_app task
+command_app (Single task at file) = task_app task
 command_app (Hobs file image) = hobs_app
 command_app (Compare first second) = compare_app
 
@@ -85,33 +86,47 @@ abbrev pub IsImageWords : (path base : Option (List ℕ)) → Option ImageFile �
 IsImageWords path base None = (path ≡ None) × (base ≡ None)
 IsImageWords path base (Some image) = (path ≡ Some (string_bytes image.path)) × IsBaseWord base image.base
 
+-- the byte at which a volume begins, if it is given
+abbrev pub IsAtWord : Option (List ℕ) → Option ℕ → Type 0
+IsAtWord None at = at ≡ None
+IsAtWord (Some text) None = ⊥
+IsAtWord (Some text) (Some n) = IsNumberWord 64 text n
+
+-- a named file and the byte at which the volume begins in it
+abbrev pub IsVolumeWords : (path at : Option (List ℕ)) → VolumeFile → Type 0
+IsVolumeWords path at volume = (Some (string_bytes volume.path) ≡ path) × IsAtWord at volume.at
+
 -- a named file, if one is given
 abbrev pub IsFileWord : Option (List ℕ) → Option (String Global) → Type 0
 IsFileWord text file = option_map string_bytes file ≡ text
 
+-- the input of a command: the file, and the byte at which the volume begins
+abbrev pub HasInput : App → List (List ℕ) → Option ℕ → Option (String Global) → Type 0
+HasInput app rest at file = IsAtWord (text_in app (codes "at") rest) at × IsFileWord (text_in app (codes "file") rest) file
+
 -- the texts of a task, and those of a command, are those that the parser finds; the flag `--all` says which of the two
--- tasks of one name it is
-abbrev pub HasTaskTexts : List (List ℕ) → Task → Option (String Global) → Type 0
-HasTaskTexts rest Normalise file =
-    (has_flag (codes "--all") rest ≡ false) × IsFileWord (text_in normalise_app (codes "file") rest) file
-HasTaskTexts rest NormaliseAll file =
-    (has_flag (codes "--all") rest ≡ true) × IsFileWord (text_in normalise_app (codes "file") rest) file
-HasTaskTexts rest Listing file = IsFileWord (text_in one_input_app (codes "file") rest) file
-HasTaskTexts rest (Extract part) file =
-    IsFileWord (text_in extract_app (codes "file") rest) file
+-- tasks of one name it is, and with it no byte is given
+abbrev pub HasTaskTexts : List (List ℕ) → Task → Option ℕ → Option (String Global) → Type 0
+HasTaskTexts rest Normalise at file =
+    (has_flag (codes "--all") rest ≡ false) × HasInput normalise_app rest at file
+HasTaskTexts rest NormaliseAll at file =
+    (has_flag (codes "--all") rest ≡ true) × (at ≡ None) × HasInput normalise_app rest at file
+HasTaskTexts rest Listing at file = HasInput volume_app rest at file
+HasTaskTexts rest (Extract part) at file =
+    HasInput extract_app rest at file
     × IsPartBy (text_in extract_app (codes "name") rest) (text_in extract_app (codes "section") rest)
     (text_in extract_app (codes "instance") rest) part
-HasTaskTexts rest Check file = IsFileWord (text_in one_input_app (codes "file") rest) file
-HasTaskTexts rest Scan file = IsFileWord (text_in one_input_app (codes "file") rest) file
+HasTaskTexts rest Check at file = HasInput volume_app rest at file
+HasTaskTexts rest Scan at file = (at ≡ None) × IsFileWord (text_in one_input_app (codes "file") rest) file
 
 abbrev pub HasTexts : List (List ℕ) → Command → Type 0
-HasTexts rest (Single task file) = HasTaskTexts rest task file
+HasTexts rest (Single task at file) = HasTaskTexts rest task at file
 HasTexts rest (Hobs file image) =
     IsFileWord (text_in hobs_app (codes "file") rest) file
     × IsImageWords (text_in hobs_app (codes "image") rest) (text_in hobs_app (codes "base") rest) image
 HasTexts rest (Compare first second) =
-    (Some (string_bytes first) ≡ text_in compare_app (codes "first") rest)
-    × (Some (string_bytes second) ≡ text_in compare_app (codes "second") rest)
+    IsVolumeWords (text_in compare_app (codes "first") rest) (text_in compare_app (codes "at") rest) first
+    × IsVolumeWords (text_in compare_app (codes "second") rest) (text_in compare_app (codes "other-at") rest) second
 
 -- the plan is that of the command that the first argument names; the parser finds no fault in the arguments after it,
 -- and inputs are text if the flag `--hex` is among them

@@ -2,8 +2,9 @@
 
 ghost use Rattle.clap.specs.Words.{app_of, first_value, found_of, rule_of};
 ghost use Rattle.fv_tool.specs.Options.{compare_app, extract_app, flag_app, hobs_app, normalise_app, one_input_app};
+ghost use Rattle.fv_tool.specs.Options.{volume_app};
 ghost use Rattle.fv_tool.specs.Options.{faults_in, flag_rule, number_rule, option_rule, text_in};
-ghost use Rattle.fv_tool.specs.Words.{AreRightFor, AsksBy, IsFileWord, IsSectionTypeWord, has_flag};
+ghost use Rattle.fv_tool.specs.Words.{AreRightFor, AsksBy, HasInput, IsFileWord, IsSectionTypeWord, has_flag};
 ghost use Rattle.fv_base.specs.Guids.{guid_read};
 ghost use Rattle.std.specs.String.{string_bytes};
 ghost use Rattle.std.specs.Prelude.{◌≡◌, ◌≢◌, ◌≤◌, ℕ, None, Option, Some, [], false, codes, drop, is_some, length, map};
@@ -15,7 +16,7 @@ use clap::builder::ValueParser;
 use clap::error::ErrorKind;
 use clap::{Arg, ArgAction, ArgMatches};
 use fv_base::Guid;
-use fv_command::{Command, ImageFile, Part, Plan, Task};
+use fv_command::{Command, ImageFile, Part, Plan, Task, VolumeFile};
 use std::alloc::{AllocError, Global};
 
 impl From<clap::Error> for WordFault {
@@ -74,12 +75,30 @@ fn one_input_words<'a>(alloc: Global) -> Result<clap::Command<'a>, AllocError>
     flag_words(alloc)?.arg(Arg::new(alloc, "file"))
 }
 
+// An option of this name, with the byte of an input as its value.
+fn at_option<'a>(alloc: Global, name: &'static str) -> Arg<'a>
+    ensures rule { rule_of result ≡ number_rule name.now 18446744073709551615 }
+    ensures local { result.global ≡ false }
+{
+    number_option(alloc, name, u64::MAX)
+}
+
+// The rules of a command with a volume in an input.
+fn volume_words<'a>(alloc: Global) -> Result<clap::Command<'a>, AllocError>
+    ensures { IfOk result (λ c. app_of c ≡ volume_app) }
+{
+    flag_words(alloc)?
+        .arg(at_option(alloc, "at"))?
+        .arg(Arg::new(alloc, "file"))
+}
+
 // The rules of `normalise`, with the flag that all volumes of an image are meant.
 fn normalise_words<'a>(alloc: Global) -> Result<clap::Command<'a>, AllocError>
     ensures { IfOk result (λ c. app_of c ≡ normalise_app) }
 {
     flag_words(alloc)?
         .arg(flag(alloc, "all"))?
+        .arg(at_option(alloc, "at"))?
         .arg(Arg::new(alloc, "file"))
 }
 
@@ -101,6 +120,7 @@ fn extract_words<'a>(alloc: Global) -> Result<clap::Command<'a>, AllocError>
         .arg(text_option(alloc, "name"))?
         .arg(text_option(alloc, "section"))?
         .arg(number_option(alloc, "instance", u64::from(u32::MAX)))?
+        .arg(at_option(alloc, "at"))?
         .arg(Arg::new(alloc, "file"))
 }
 
@@ -109,6 +129,8 @@ fn compare_words<'a>(alloc: Global) -> Result<clap::Command<'a>, AllocError>
     ensures { IfOk result (λ c. app_of c ≡ compare_app) }
 {
     flag_words(alloc)?
+        .arg(at_option(alloc, "at"))?
+        .arg(at_option(alloc, "other-at"))?
         .arg(Arg::new(alloc, "first"))?
         .arg(Arg::new(alloc, "second"))
 }
@@ -143,6 +165,29 @@ fn one_input(alloc: Global, words: &[String]) -> Result<(bool, Option<String>), 
     Ok((matches.get_flag("hex"), file_of(alloc, &matches, "file")?))
 }
 
+// The flag, the byte at which the volume begins, and the file of a command with a volume in an input.
+fn volume_input(
+    alloc: Global,
+    words: &[String],
+) -> Result<(bool, Option<u64>, Option<String>), WordFault>
+    ensures hex { IfOk result (λ r. r.0 ≡ has_flag (codes "--hex") (drop 1 (map string_bytes words.now))) }
+    ensures input { IfOk result (λ r. HasInput volume_app (drop 1 (map string_bytes words.now)) r.1 r.2) }
+
+    // The arguments are accepted if the parser finds no fault in them, and rejected as wrong if it
+    // finds one.
+    ensures taken { IfOk result (λ _. faults_in volume_app (drop 1 (map string_bytes words.now)) ≡ []) }
+    ensures wrong { IfErr result (λ f. f ≡ WordFault.Words
+        → faults_in volume_app (drop 1 (map string_bytes words.now)) ≢ []) }
+{
+    let matches = volume_words(alloc)?.try_get_matches_from(words)?;
+    let at = matches.get_one::<u64>("at");
+    Ok((
+        matches.get_flag("hex"),
+        at,
+        file_of(alloc, &matches, "file")?,
+    ))
+}
+
 // The task of `normalise`: with the flag, all volumes of an image are meant.
 fn normalise_task(all: bool) -> Task
     ensures all { all ≡ true → result ≡ Task.NormaliseAll }
@@ -164,9 +209,13 @@ fn normalise(alloc: Global, words: &[String]) -> Result<Plan, WordFault>
         → AreRightFor (codes "normalise") (drop 1 (map string_bytes words.now)) → ⊥) }
 {
     let matches = normalise_words(alloc)?.try_get_matches_from(words)?;
-    let task = normalise_task(matches.get_flag("all"));
+    let all = matches.get_flag("all");
+    let at = matches.get_one::<u64>("at");
+    if all && at.is_some() {
+        return Err(WordFault::Words);
+    }
     let file = file_of(alloc, &matches, "file")?;
-    Ok(single(task, (matches.get_flag("hex"), file)))
+    Ok(single(normalise_task(all), (matches.get_flag("hex"), at, file)))
 }
 
 // The image of this path and this base, if they are given: one without the other is wrong.
@@ -269,6 +318,7 @@ fn extract(alloc: Global, words: &[String]) -> Result<Plan, WordFault>
         hex: matches.get_flag("hex"),
         command: Command::Single {
             task: Task::Extract(part),
+            at: matches.get_one::<u64>("at"),
             file: file_of(alloc, &matches, "file")?,
         },
     })
@@ -287,8 +337,14 @@ fn compare(alloc: Global, words: &[String]) -> Result<Plan, WordFault>
         (Some(first), Some(second)) => Ok(Plan {
             hex: matches.get_flag("hex"),
             command: Command::Compare {
-                first: String::from_str(alloc, first)?,
-                second: String::from_str(alloc, second)?,
+                first: VolumeFile {
+                    path: String::from_str(alloc, first)?,
+                    at: matches.get_one::<u64>("at"),
+                },
+                second: VolumeFile {
+                    path: String::from_str(alloc, second)?,
+                    at: matches.get_one::<u64>("other-at"),
+                },
             },
         }),
         _ => Err(WordFault::Words),
@@ -296,15 +352,27 @@ fn compare(alloc: Global, words: &[String]) -> Result<Plan, WordFault>
 }
 
 // The plan of a task over one input.
-fn single(task: Task, given: (bool, Option<String>)) -> Plan
+fn single(task: Task, given: (bool, Option<u64>, Option<String>)) -> Plan
     ensures hex { result.hex ≡ given.0 }
-    ensures command { result.command ≡ Command.Single task given.1 }
+    ensures command { result.command ≡ Command.Single task given.1 given.2 }
 {
-    let (hex, file) = given;
+    let (hex, at, file) = given;
     Plan {
         hex,
-        command: Command::Single { task, file },
+        command: Command::Single { task, at, file },
     }
+}
+
+// Bytes in which volumes are looked for.
+fn scan(alloc: Global, words: &[String]) -> Result<Plan, WordFault>
+    ensures asked { IfOk result (AsksBy (codes "scan") (drop 1 (map string_bytes words.now))) }
+
+    // No arguments that are right are rejected as wrong.
+    ensures wrong { IfErr result (λ f. f ≡ WordFault.Words
+        → AreRightFor (codes "scan") (drop 1 (map string_bytes words.now)) → ⊥) }
+{
+    let (hex, file) = one_input(alloc, words)?;
+    Ok(single(Task::Scan, (hex, None, file)))
 }
 
 /// Reads the arguments of the command with this name. The first of them is the name itself.
@@ -322,10 +390,10 @@ pub fn parse_command(alloc: Global, name: &str, words: &[String]) -> Result<Plan
     match name {
         "normalise" => normalise(alloc, words),
         "hobs" => hobs(alloc, words),
-        "list" => Ok(single(Task::List, one_input(alloc, words)?)),
+        "list" => Ok(single(Task::List, volume_input(alloc, words)?)),
         "extract" => extract(alloc, words),
-        "check" => Ok(single(Task::Check, one_input(alloc, words)?)),
-        "scan" => Ok(single(Task::Scan, one_input(alloc, words)?)),
+        "check" => Ok(single(Task::Check, volume_input(alloc, words)?)),
+        "scan" => scan(alloc, words),
         "compare" => compare(alloc, words),
         _ => Err(WordFault::Words),
     }

@@ -31,13 +31,16 @@ fn is_shown_as(alloc: Global, line: &str, wanted: &str) -> Result<bool, Fail> {
 
 #[test]
 fn reads_words(rt: HostRuntime) -> Result<(), Fail> {
-    let hex_input = "Plan { hex: true, command: Single { task: Normalise, file: None } }";
-    let hex_file = "Plan { hex: true, command: Single { task: Normalise, file: Some(\"a.txt\") } }";
-    let input = "Plan { hex: false, command: Single { task: Normalise, file: None } }";
-    let file = "Plan { hex: false, command: Single { task: Normalise, file: Some(\"a.fv\") } }";
+    let hex_input = "Plan { hex: true, command: Single { task: Normalise, at: None, file: None } }";
+    let hex_file =
+        "Plan { hex: true, command: Single { task: Normalise, at: None, file: Some(\"a.txt\") } }";
+    let input = "Plan { hex: false, command: Single { task: Normalise, at: None, file: None } }";
+    let file =
+        "Plan { hex: false, command: Single { task: Normalise, at: None, file: Some(\"a.fv\") } }";
     let image =
-        "Plan { hex: false, command: Single { task: NormaliseAll, file: Some(\"a.bin\") } }";
-    let image_text = "Plan { hex: true, command: Single { task: NormaliseAll, file: None } }";
+        "Plan { hex: false, command: Single { task: NormaliseAll, at: None, file: Some(\"a.bin\") } }";
+    let image_text =
+        "Plan { hex: true, command: Single { task: NormaliseAll, at: None, file: None } }";
     let list_input = "Plan { hex: false, command: Hobs { file: None, image: None } }";
     let list_hex_file = "Plan { hex: true, command: Hobs { file: Some(\"a.hob\"), image: None } }";
     let list_and_image =
@@ -46,16 +49,36 @@ fn reads_words(rt: HostRuntime) -> Result<(), Fail> {
     let list_and_top =
         "Plan { hex: false, command: Hobs { file: None, image: Some(ImageFile { path: \"a.fv\", \
          base: 18446744073709551615 }) } }";
-    let volume = "Plan { hex: false, command: Single { task: List, file: None } }";
-    let volume_text = "Plan { hex: true, command: Single { task: List, file: Some(\"a.txt\") } }";
-    let bytes = "Plan { hex: false, command: Single { task: Scan, file: Some(\"a.bin\") } }";
-    let bytes_text = "Plan { hex: true, command: Single { task: Scan, file: None } }";
-    let check = "Plan { hex: false, command: Single { task: Check, file: None } }";
-    let check_text = "Plan { hex: true, command: Single { task: Check, file: Some(\"a.txt\") } }";
-    let behind = "Plan { hex: false, command: Single { task: List, file: Some(\"--hex\") } }";
-    let hyphen = "Plan { hex: false, command: Single { task: List, file: Some(\"-\") } }";
-    let two = "Plan { hex: false, command: Compare { first: \"a.fv\", second: \"b.fv\" } }";
-    let two_texts = "Plan { hex: true, command: Compare { first: \"a.txt\", second: \"b.txt\" } }";
+    let volume = "Plan { hex: false, command: Single { task: List, at: None, file: None } }";
+    let volume_text =
+        "Plan { hex: true, command: Single { task: List, at: None, file: Some(\"a.txt\") } }";
+    let bytes =
+        "Plan { hex: false, command: Single { task: Scan, at: None, file: Some(\"a.bin\") } }";
+    let bytes_text = "Plan { hex: true, command: Single { task: Scan, at: None, file: None } }";
+    let check = "Plan { hex: false, command: Single { task: Check, at: None, file: None } }";
+    let check_text =
+        "Plan { hex: true, command: Single { task: Check, at: None, file: Some(\"a.txt\") } }";
+    let behind =
+        "Plan { hex: false, command: Single { task: List, at: None, file: Some(\"--hex\") } }";
+    let hyphen = "Plan { hex: false, command: Single { task: List, at: None, file: Some(\"-\") } }";
+    let two =
+        "Plan { hex: false, command: Compare { first: VolumeFile { path: \"a.fv\", at: None }, \
+         second: VolumeFile { path: \"b.fv\", at: None } } }";
+    let two_texts =
+        "Plan { hex: true, command: Compare { first: VolumeFile { path: \"a.txt\", at: None }, \
+         second: VolumeFile { path: \"b.txt\", at: None } } }";
+    let volume_at =
+        "Plan { hex: false, command: Single { task: List, at: Some(540672), file: Some(\"a.fd\") } }";
+    let check_at = "Plan { hex: false, command: Single { task: Check, at: Some(0), file: None } }";
+    let image_at =
+        "Plan { hex: false, command: Single { task: Normalise, at: Some(18446744073709551615), \
+         file: Some(\"a.fd\") } }";
+    let two_at =
+        "Plan { hex: false, command: Compare { first: VolumeFile { path: \"a.fd\", at: Some(64) }, \
+         second: VolumeFile { path: \"b.fv\", at: Some(0) } } }";
+    let other_at =
+        "Plan { hex: false, command: Compare { first: VolumeFile { path: \"a.fd\", at: None }, \
+         second: VolumeFile { path: \"b.fv\", at: Some(8) } } }";
     let cases = [
         ("", hex_input),
         ("fv", hex_input),
@@ -83,6 +106,12 @@ fn reads_words(rt: HostRuntime) -> Result<(), Fail> {
         ("fv check --hex a.txt", check_text),
         ("fv list -- --hex", behind),
         ("fv list -", hyphen),
+        ("fv list --at 540672 a.fd", volume_at),
+        ("fv list a.fd --at=+540672", volume_at),
+        ("fv check --at 0", check_at),
+        ("fv normalise --at 18446744073709551615 a.fd", image_at),
+        ("fv compare --at 64 a.fd --other-at 0 b.fv", two_at),
+        ("fv compare a.fd b.fv --other-at 8", other_at),
     ];
     for (line, wanted) in cases {
         assert!(rt; is_shown_as(rt.alloc(), line, wanted)?, "{line}");
@@ -106,7 +135,7 @@ fn extraction(
         "Part {{ name: {name:?}, section: {section}, instance: {instance} }}"
     )?;
     format!(in alloc;
-        "Plan {{ hex: {hex}, command: Single {{ task: Extract({part}), file: {file} }} }}"
+        "Plan {{ hex: {hex}, command: Single {{ task: Extract({part}), at: None, file: {file} }} }}"
     )
 }
 
@@ -202,6 +231,19 @@ fn refuses_words(rt: HostRuntime) -> Result<(), Fail> {
     let lines = [
         "fv list --all",
         "fv normalise --all --all",
+        "fv normalise --all --at 8",
+        "fv normalise --at 0 a.bin --all",
+        "fv list --at",
+        "fv list --at x",
+        "fv list --at=-1",
+        "fv list --at=-0",
+        "fv list --at 0x40",
+        "fv list --at 18446744073709551616",
+        "fv list --other-at 8",
+        "fv scan --at 8",
+        "fv hobs --at 8",
+        "fv compare --at a.fv b.fv",
+        "fv compare a.fv b.fv --other-at",
         "fv hobs --image a.fv",
         "fv hobs --base",
         "fv hobs --base 1",

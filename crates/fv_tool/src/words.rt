@@ -68,6 +68,7 @@ pub fn parse_words(alloc: Global, words: &[String]) -> Result<Plan, WordFault>
             hex: true,
             command: Command::Single {
                 task: Task::Normalise,
+                at: None,
                 file: None,
             },
         });

@@ -5,17 +5,19 @@
 //! apostrophe, which is only read as hexadecimal text. What is written is lines that end with a
 //! bar, or, after an equals sign, words that spell bytes. After `extract` come the byte that the
 //! file's name is made of, the type of the section or a hyphen, and which one; after `hobs` comes
-//! the address of an image, if there is one.
+//! the address of an image, if there is one. After any other command may come `at` and the byte at
+//! which its volume begins, and after `compare` the same of its second volume.
 
 use super::answers::{answers, small};
 use super::checked::checked;
 use super::compared::compared;
 use super::fakes::{FakeReader, FakeWriter};
 use super::listed::listed;
+use super::placed::placed;
 use super::spelling::{bytes_of, lines_of, number_of};
 use super::volumes::{refused, row_of};
 use crate::extracting::Part;
-use crate::plan::{Command, ImageFile, Plan, Task};
+use crate::plan::{Command, ImageFile, Plan, Task, VolumeFile};
 use crate::plan_run::run_plan;
 use crate::source::Source;
 use fv_base::{Guid, Port};
@@ -56,6 +58,16 @@ fn part_of(words: &str) -> Option<Part> {
     })
 }
 
+// The byte at which a volume begins, if the words begin with `at`, and the words after it.
+fn at_of(words: &str) -> (Option<u64>, &str) {
+    let (word, rest) = words.split_once(' ').unwrap_or(("", ""));
+    if word != "at" {
+        return (None, words);
+    }
+    let (number, rest) = rest.split_once(' ').unwrap_or((rest, ""));
+    (number_of(number), rest)
+}
+
 // The image at the address after `hobs`, if there is one.
 fn image_of(alloc: Global, words: &str) -> Option<ImageFile> {
     let base = number_of(words)?;
@@ -79,10 +91,17 @@ fn task_of(name: &str, words: &str) -> Option<Task> {
 /// The plan of a command.
 pub fn plan_of(alloc: Global, hex: bool, line: &str) -> Option<Plan> {
     let (name, words) = line.split_once(' ').unwrap_or((line, ""));
+    let (at, words) = at_of(words);
     let command = match name.as_bytes() {
         b"compare" => Command::Compare {
-            first: String::new(alloc),
-            second: String::new(alloc),
+            first: VolumeFile {
+                path: String::new(alloc),
+                at,
+            },
+            second: VolumeFile {
+                path: String::new(alloc),
+                at: at_of(words).0,
+            },
         },
         b"hobs" => Command::Hobs {
             file: None,
@@ -90,6 +109,7 @@ pub fn plan_of(alloc: Global, hex: bool, line: &str) -> Option<Plan> {
         },
         _ => Command::Single {
             task: task_of(name, words)?,
+            at,
             file: None,
         },
     };
@@ -326,7 +346,7 @@ fn stops_in_time(alloc: Global, line: &str) -> bool {
 
 #[test]
 fn runs_end_as_they_should(rt: HostRuntime) {
-    for table in [answers(), listed(), checked(), compared()] {
+    for table in [answers(), listed(), checked(), compared(), placed()] {
         for line in table.lines() {
             assert!(rt; is_told(rt.alloc(), line), "{line}");
         }

@@ -4,7 +4,7 @@ use Rattle.std.specs.String.{string_bytes}
 use Rattle.clap.proofs.TakesLemmas.{passed_up}
 use Rattle.fv_base.specs.Guids.{guid_read}
 use Rattle.fv_tool.proofs.FlagLemmas.{flag_answer}
-use Rattle.fv_tool.proofs.NumberLemmas.{instance_read, number_answer}
+use Rattle.fv_tool.proofs.NumberLemmas.{at_read, instance_read, number_answer}
 use Rattle.fv_tool.proofs.ReadLemmas.{read, text_answer}
 use Rattle.fv_tool.proofs.RefusalLemmas.{no_name, no_type, refused_right}
 use Rattle.fv_tool.specs.Options.{extract_app, text_in}
@@ -38,12 +38,14 @@ returns-clause-asked c =
     let r = read extract_app _ (refl, refl, c.in_ok-extract_words.ensures) found.matches found.kinds in
     let number = number_answer 4294967295 (codes "instance") refl refl refl _ _ found.parsed extract_app c.in_ok-extract_words.ensures
     refl refl refl r 32 (omega arith) c.get_one.result c.get_one.ensures.none c.get_one.ensures.value in
+    let place = number_answer 18446744073709551615 (codes "at") refl refl refl _ _ found.parsed extract_app c.in_ok-extract_words.ensures
+    refl refl refl r 64 (omega arith) c.get_one-2.result c.get_one-2.ensures.none c.get_one-2.ensures.value in
     record {
       command = refl;
       taken = r.taken;
       hex = flag_answer (codes "hex") r refl (refl, refl, inl (refl, refl)) _ c.get_flag.ensures.value c.get_flag.ensures.other;
       texts = (
-        c.in_ok-file_of.ensures ∙ text_answer r (codes "file"),
+        (at_read _ _ place, c.in_ok-file_of.ensures ∙ text_answer r (codes "file")),
         record {
           name_is = ap (option_and_then guid_read) (sym (c.get_str.ensures ∙ text_answer r (codes "name"))) ∙ c.in_ok-name_of.ensures.named;
           section_is = subst (λ t. IsSectionTypeWord t c.in_ok-section_of.field-0)
