@@ -5,6 +5,7 @@ them, and looks from outside whether it keeps what docs/PROGRAM.md promises. REA
 import argparse
 import collections
 import concurrent.futures
+import hashlib
 import itertools
 import os
 import random
@@ -782,6 +783,61 @@ def check_placed(tool, case, image):
     require(answer == (2, line("fault 1 at 0")), f"{command}: --at {past} is past the end", answer)
 
 
+def is_large(data, at):
+    """Whether the header of the file there is large."""
+    return bool(data[at + 19] & LARGE)
+
+
+CELL = re.compile(
+    rb"(?:file at \d+ length \d+ " + GUID + rb" type [0-9a-f]{2} attributes [0-9a-f]{2} data at \d+ length \d+"
+    rb"|(?:pad|deleted|unfinished|free) at \d+ length \d+)"
+)
+
+
+def check_cells(tool, case, _image):
+    """The lines of `cells` come one after the other, and hold the files that `list` shows, and their data."""
+    status, text = tool.ask("cells", case.data + bytes_of(tool.pick, tool.pick.choice((0, 0, 5))))
+    head, *cells, last = text.splitlines()
+    require(status == 0 and re.fullmatch(rb"header at 0 length \d+", head), "cells: another first line", text)
+    require(all(map(CELL.fullmatch, cells)), "cells: another line", text)
+    end, sums = int(head.split()[-1]), collections.Counter()
+    for it in cells:
+        words = it.split()
+        kind, at, length = words[0].decode(), int(words[2]), int(words[4])
+        require(at == end and length > 0, f"cells: {at} is not {end}", text)
+        end = at + length
+        size = length
+        if kind == "file":
+            size = int(words[12]) - at + int(words[14])
+            require(int(words[12]) - at in (24, 32) and 0 <= length - size < 8, "cells: other data", text)
+        elif kind == "pad":
+            large = is_large(case.data, at)
+            size = int.from_bytes(case.data[at + 24 : at + 32] if large else case.data[at + 20 : at + 23], "little")
+        sums[{"file": "files", "pad": "pads", "free": "free"}.get(kind, "deleted")] += size
+        sums["filler"] += length - size
+    require(end == len(case.data), f"cells: {end} is not the end", text)
+    told = " ".join(f"{it} {sums[it]}" for it in ("files", "pads", "deleted", "filler", "free"))
+    require(last == f"sums {told}".encode(), f"cells: not {told}", text)
+    names = [it.split()[5] for it in cells if it.startswith(b"file ")]
+    listed = re.findall(rb"(?m)^  file \d+ (\S+)", tool.ask("list", case.data)[1])
+    require(set(listed) <= set(names), "cells: a file that is listed is missing", text, *listed)
+
+
+def check_sums(tool, case, image):
+    """`list --sums` has the lines of `list`, and the digests of the image and of the parts that `extract` writes."""
+    status, text = tool.ask("list", case.data, options=["--sums"])
+    plain = re.sub(rb"(?m)( sha256 [0-9a-f]{64})$", b"", text)
+    require((status, plain) == tool.ask("list", case.data), "list --sums: other lines", text)
+    require(text.count(b" sha256 ") == len(re.findall(rb"(?m)^ *(?:volume|file) ", text)), "list --sums: no sum", text)
+    require(text.splitlines()[0].endswith(hashlib.sha256(image).hexdigest().encode()), "list --sums: the image", text)
+    require(tool.ask("list", image, options=["--sums"]) == (0, text), "list --sums: another text of the image", text)
+    files = re.findall(rb"(?m)^  file \d+ (\S+) .* sha256 (\S+)$", text)
+    if files:
+        name, digest = tool.pick.choice(files)
+        part = tool.ask("extract", case.data, options=["--name", name.decode()])[1]
+        require(hashlib.sha256(part).hexdigest().encode() == digest, f"list --sums: {name}", text)
+
+
 def check_prefix(tool, case, _image):
     """No proper prefix of a volume is one."""
     count = tool.pick.randrange(len(case.data))
@@ -844,7 +900,7 @@ def check_accepted(tool, case, image):
         require(tool.ask("list", case.data) == (0, joined(case.lines)), "list: other lines", *case.lines)
     if case.twin and tool.pick.randrange(4) == 0:
         require(tool.ask("normalise", case.twin) == (0, image), "normalise: another image of the same meaning")
-    ways = (check_own, check_listed, check_scanned, check_behind, check_placed, check_prefix, check_parts)
+    ways = (check_own, check_listed, check_scanned, check_behind, check_placed, check_cells, check_sums, check_prefix, check_parts)
     if tool.pick.randrange(2):
         tool.pick.choice(ways)(tool, case, image)
 
@@ -862,6 +918,8 @@ def check_refused(tool, case, refusal):
         is_told = {"check": text.endswith(b"not canonical\n"), "compare": text == b"same\n"}.get(command, True)
         require(status == wanted and is_told, f"{command}: what has no layout", text)
         require(command != "list" or not case.lines or text == joined(case.lines), "list: other lines", text)
+        sums = tool.ask("list", case.data, options=["--sums"])
+        require(sums == (2, refusal), "list --sums: what has no layout", sums)
     elif command == "list" and number == 8 and offset != 32:
         require(status == 0, "list: bytes behind the volume", text)
     else:
@@ -932,7 +990,7 @@ compare a b c|check --hex=1|scan a b|extract|extract a|extract --name|extract --
 extract --name NAME --section 100 a|extract --name NAME --section 0x1 a|extract --name NAME --section +1 a|
 extract --name NAME --section g a|extract --name NAME --instance -1 a|extract --name NAME --instance 4294967296 a|
 extract --name NAME --instance x a|hobs --image a b|hobs --base 1 b|hobs --image a --base -1 b|list -x|hobs a b|
-list --at|list --at x a|list --at=-1 a|list --at 0x40 a|list --at 18446744073709551616 a|scan --at 8 a|
+list --at|list --sums --sums|check --sums a|cells a b|cells --all a|list --at x a|list --at=-1 a|list --at 0x40 a|list --at 18446744073709551616 a|scan --at 8 a|
 hobs --at 8 a|normalise --all --at 8 a|list --other-at 8 a|compare a b --other-at x|
 hobs --image a --base 0x10 b|hobs --image a --base 18446744073709551616 b|list --name NAME a"""
 

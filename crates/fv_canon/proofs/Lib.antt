@@ -34,6 +34,7 @@ pub mod SectionLaws
 pub mod PlacedBytesLaws
 pub mod StartSearchLaws
 pub mod PartBytesLaws
+pub mod PartFits
 pub mod StoredTilingLaws
 pub mod StreamLaws
 pub mod SumRightLaws

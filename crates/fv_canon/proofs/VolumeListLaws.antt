@@ -77,6 +77,22 @@ fit_joined vs ws p q = each_joined IsPlaced vs ws p q
 pub fit_deeper : (vs : List Inside) → AllFit vs → AllFit (deeper vs)
 fit_deeper vs p = each_deeper (λ m. (starts : List ℕ) × AreStarts m starts) vs p
 
+-- each of two lists that fit together, and the same volumes one level higher
+pub each_apart : (P : Inside → Type 0) (vs ws : List Inside) → AllByRecursion P (vs ++ ws) → AllByRecursion P vs × AllByRecursion P ws
+each_apart P [] ws p = (tt, p)
+each_apart P (v ∷ vs) ws p = let r = each_apart P vs ws p.1 in ((p.0, r.0), r.1)
+
+pub each_higher : (P : Meaning → Type 0) (vs : List Inside) → AllByRecursion (λ v. P v.volume) (deeper vs)
+    → AllByRecursion (λ v. P v.volume) vs
+each_higher P [] p = tt
+each_higher P (v ∷ vs) p = (p.0, each_higher P vs p.1)
+
+pub fit_apart : (vs ws : List Inside) → AllFit (vs ++ ws) → AllFit vs × AllFit ws
+fit_apart vs ws p = each_apart IsPlaced vs ws p
+
+pub fit_higher : (vs : List Inside) → AllFit (deeper vs) → AllFit vs
+fit_higher vs p = each_higher (λ m. (starts : List ℕ) × AreStarts m starts) vs p
+
 pub laid_fit : (vs : List Inside) (starts : List ℕ) → Laid AreStarts vs starts → AllFit vs
 laid_fit [] starts laid = tt
 laid_fit (v ∷ vs) starts (own, inner, text, placed, laid) = ((own, placed), laid_fit vs inner laid)
@@ -173,3 +189,10 @@ module _ {A : Type 0} (all : List A → List Inside) (one : A → List Inside) (
   item_left xs i x starts l is =
       ap (λ n. drop n starts) (ap starts_in (item_first xs i x l is) ∙ count_joined (one x) (all (drop (i + 1) xs)))
       ∙ sym (drop-drop (starts_in (all (drop (i + 1) xs))) (starts_in (one x)) starts)
+
+  -- where the volumes in all items fit, those in each do
+  pub item_fits : (xs : List A) (i : ℕ) (x : A) → i < length xs → x ≡ get_or xs i x → AllFit (all xs) → AllFit (one x)
+  item_fits xs i x l is fit =
+      let halves = fit_apart (all (take i xs)) (all (drop i xs))
+      (subst AllFit (ap all (sym (take-append-drop i xs)) ∙ joined (take i xs) (drop i xs)) fit) in
+      (fit_apart (one x) (all (drop (i + 1) xs)) (subst AllFit (item_first xs i x l is) halves.1)).0

@@ -29,5 +29,5 @@ pub use flash_image::normalise_image;
 pub use known_layout::Layout;
 pub use layout_walk::layout;
 pub use normalising::{normalise, run_normalise, whole_volume, write_normalised};
-pub use part_bytes::{body_bytes, file_bytes};
+pub use part_bytes::{body_bytes, file_bytes, put_file_data};
 pub use side::Side;

@@ -1,6 +1,6 @@
 //! The canonical bytes of a part of a volume.
 
-ghost use Rattle.std.specs.Prelude.{◌≡◌, ◌⊎◌, ℕ, List, IfOk, IfErr};
+ghost use Rattle.std.specs.Prelude.{◌≡◌, ◌⊎◌, ℕ, List, IfOk, IfErr, OnOk};
 ghost use Rattle.fv_base.specs.Faults.{out_of_memory};
 ghost use Rattle.fv_canon.specs.Image.{IsData, IsBodyImage};
 ghost use Rattle.fv_canon.specs.Layouts.{AllFit, FirstUnfit};
@@ -9,9 +9,29 @@ ghost use Rattle.fv_tree.specs.Meaning.{content_of, body_of};
 
 use crate::image_walk::{put_data, put_section_body};
 use crate::layout_walk::{layout_of_body, layout_of_content};
-use fv_base::{ByteList, Fault, ListSink};
+use fv_base::{ByteList, Fault, ListSink, Sink};
 use fv_tree::{FileView, SectionView};
 use std::alloc::Global;
+
+/// Puts the data of a file, as they are in its volume's canonical image, into a sink. (PI
+/// specification, volume 3, section 3.2.3.)
+///
+/// # Errors
+///
+/// The fault of the first volume in the data that does not fit. OutOfMemory. Nothing was put then.
+pub fn put_file_data<S: Sink>(alloc: Global, file: &FileView<'_>, out: &mut S) -> Result<(), Fault>
+    ensures data { OnOk result ((bytes : List ℕ) × IsData (content_of file.now) bytes × S.takes out.old bytes out.new) }
+
+    // Any error other than OutOfMemory is that of the first volume that does not fit, and nothing was put.
+    ensures err { IfErr result (λ f. ((f ≡ out_of_memory) ⊎ FirstUnfit (volumes_in_content (content_of file.now)) 0 f)
+        × (out.new ≡ out.old)) }
+    ensures fits { AllFit (volumes_in_content (content_of file.now)) → IfErr result (λ f. f ≡ out_of_memory) }
+{
+    let _name = file.name();
+    let starts = layout_of_content(alloc, file)?;
+    put_data(out, file.content(), starts.as_slice());
+    Ok(())
+}
 
 /// The data of a file as they are in its volume's canonical image. Memory for the whole length is
 /// reserved first. (PI specification, volume 3, section 3.2.3.)

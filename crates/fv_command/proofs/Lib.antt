@@ -1,3 +1,4 @@
+pub mod CellLemmas
 pub mod CheckLemmas
 pub mod DepexNoteLemmas
 pub mod HexDigitLemmas

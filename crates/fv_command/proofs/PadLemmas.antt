@@ -1,5 +1,5 @@
 -- The cells of an input, and what is put for its pads.
-use Rattle.std.proofs.Common.{◌≡◌, ◌∙◌, ◌<◌, ◌+◌, ℕ, List, ◌++◌, length, take, get_or, true, refl, sym, ap, subst, inl, inr}
+use Rattle.std.proofs.Common.{◌≡◌, ◌∙◌, ◌<◌, ◌+◌, ℕ, List, [], ◌++◌, length, take, get_or, true, refl, sym, ap, subst, inl, inr}
 use Rattle.std.specs.Prelude.{◌==◌, ◌≢◌, ◌⊎◌, not, drop, map, Result, Ok}
 use Rattle.std.specs.List.{flat_map}
 use Rattle.std.proofs.lemmas.Bool.Decides.{Decides-eqb}
@@ -12,6 +12,9 @@ use Rattle.fv_base.specs.declared.fault.Fault.{Fault}
 use Rattle.fv_base.specs.declared.flash.Polarity.{Polarity}
 use Rattle.fv_tree.proofs.Laws.{want_known}
 use Rattle.fv_file.specs.Cells.{CellForm, Tiles}
+use Rattle.fv_file.specs.declared.cell.Cell.{Cell}
+use Rattle.fv_file.specs.declared.cell.Cell.TheVariants as cells
+use Rattle.fv_file.specs.declared.state.FileState.TheVariants as states
 use Rattle.fv_head.specs.Head.{HeadFields, BeginsVolume}
 use Rattle.fv_head.specs.declared.extent.Extent.{Extent}
 use Rattle.fv_tree.specs.Denotes.{Accepted}
@@ -19,12 +22,27 @@ use Rattle.fv_tree.specs.Meaning.{Meaning, head_of}
 use Rattle.fv_command.specs.CheckTexts.{written_in, pad_line, pad_text}
 use Rattle.fv_command.proofs.CheckLemmas.{flat_next}
 
--- ---- pads
+-- ---- walks
+
+-- a cell, where there is none
+abbrev pub no_cell : Cell
+no_cell = cells.Valid 0 (record {
+  name = record { bytes = [] };
+  kind = 0;
+  attributes = record { 0 = 0 };
+  size = 0;
+  header_len = 0;
+  header_sum = 0;
+  file_sum = 0;
+  state = states.Free;
+}) (record { ref_ptr = (0, 0); now = [] })
 
 -- the texts of one item more, where the items are seen as others
 pub seen_next : {X Y A : Type 0} (f : Y → List A) (see : X → Y) (xs : List X) (i : ℕ) (d : X) → i < length xs
     → flat_map f (map see (take (i + 1) xs)) ≡ flat_map f (map see (take i xs)) ++ f (see (get_or xs i d))
 seen_next f see xs i d l = ap (flat_map f) (map_more see xs i d l) ∙ flat_next f (map see (take i xs)) (see (get_or xs i d))
+
+-- ---- pads
 
 same_test : (a b : ℕ) → a ≡ b → (a == b) ≡ true
 same_test a b h = (Decides-eqb a b).1 h

@@ -14,8 +14,10 @@ use Rattle.fv_tree.specs.Denotes.{Accepted, Denotes}
 use Rattle.fv_tree.specs.FirstFault.{IsFirstOfVolume}
 use Rattle.fv_tree.specs.Meaning.{Meaning, files_of}
 use Rattle.fv_tree.specs.FileNames.{file_named}
+use Rattle.fv_command.specs.inner.CellRuns.{CellsStop}
 use Rattle.fv_command.specs.inner.CheckRuns.{CheckStops}
 use Rattle.fv_command.specs.inner.ImageTexts.{StopsImage}
+use Rattle.fv_command.specs.inner.SumRuns.{SumsStop}
 use Rattle.fv_command.specs.Inputs.{Gives, GivesAt, TakenAt, BeginsNone, BeginsWith}
 use Rattle.fv_command.specs.PortViews.{Change, Shown, WritingStops}
 use Rattle.fv_command.specs.Extractions.{StopsPart}
@@ -24,7 +26,7 @@ use Rattle.fv_command.specs.TaskRuns.{SaysInput, StopsInput}
 use Rattle.fv_command.specs.inner.TaskSteps.{Performs}
 use Rattle.fv_command.specs.declared.extracting.Part.{Part}
 use Rattle.fv_command.specs.declared.plan.Task.{Task}
-use Rattle.fv_command.specs.declared.plan.Task.TheVariants.{Normalise, Extract, Check}
+use Rattle.fv_command.specs.declared.plan.Task.TheVariants.{Normalise, ListSums, Extract, Check, Cells}
 use Rattle.fv_command.specs.declared.status.Status.{Status}
 use Rattle.fv_command.specs.declared.status.Status.TheVariants.{Done, Different}
 
@@ -54,6 +56,21 @@ pub check_stopped : (hex : Bool) (input : List ℕ) (w v : Shown) (f : Fault) �
 check_stopped hex input w v f (inl why) = inl why
 check_stopped hex input w v f (inr (true, text, is, stops)) = inr (Done, text, is, stops)
 check_stopped hex input w v f (inr (false, text, is, stops)) = inr (Different, text, is, stops)
+
+pub cells_stopped : (hex : Bool) (input : List ℕ) (w v : Shown) (f : Fault) → CellsStop input w v f → StopsInput Cells hex input w v f
+cells_stopped hex input w v f (inl why) = inl why
+cells_stopped hex input w v f (inr (text, is, stops)) = inr (Done, text, is, stops)
+
+pub sums_denied : (hex : Bool) (input : List ℕ) (w : Shown) (f : Fault) → (f ≡ out_of_memory) ⊎ BeginsNone input f
+    → StopsInput ListSums hex input w w f
+sums_denied hex input w f (inl want) = inl (refl, inl want)
+sums_denied hex input w f (inr none) = inl (refl, inr (inl none))
+
+pub sums_stopped : (hex : Bool) (input : List ℕ) (m : Meaning) (w v : Shown) (f : Fault) → BeginsWith input m → SumsStop m w v f
+    → StopsInput ListSums hex input w v f
+sums_stopped hex input m w v f begins (inl (same, inl want)) = inl (same, inl want)
+sums_stopped hex input m w v f begins (inl (same, inr unfit)) = inl (same, inr (inr (m, begins, unfit)))
+sums_stopped hex input m w v f begins (inr (text, is, stops)) = inr (Done, text, (m, begins, is), stops)
 
 -- a task by its status, and by its fault
 pub performed : (task : Task) (hex : Bool) (input : List ℕ) (w v : Shown) (r : Result Status Fault)

@@ -18,6 +18,7 @@ pub mod VolumeStandings
 pub mod HobLines
 pub mod HobRuns
 pub mod ListTexts
+pub mod CellTexts
 pub mod Tasks
 pub mod TaskRuns
 pub mod Runs

@@ -1,21 +1,23 @@
 -- The text of `list`: a line for a volume, for each of its files and for each section of these, in order. What a part
--- holds follows its line, indented by two more spaces.
+-- holds follows its line, indented by two more spaces. With sums, the line of a volume and that of a file end with a digest.
 use Rattle.std.specs.Prelude.{◌≡◌, ◌≢◌, ◌⊎◌, ℕ, zero, suc, ◌+◌, ◌==◌, ◌&&◌, nat_le, not, Bool, true, false}
 use Rattle.std.specs.Prelude.{if◌then◌else◌, List, [], ◌∷◌, ◌++◌, length, Option, Some, None, codes, decimal}
 use Rattle.std.specs.List.{flat_map}
 use Rattle.hex.specs.Hex.{encode_lower}
+use Rattle.sha2.specs.Sha256.{sha256}
 use Rattle.fv_base.specs.Guids.{bytes_of, guid_text}
 use Rattle.fv_base.specs.Sums.{words_of}
 use Rattle.fv_base.specs.declared.flash.FileSystem.{FileSystem}
 use Rattle.fv_base.specs.declared.flash.FileSystem.TheVariants.{Ffs2, Ffs3}
 use Rattle.fv_base.specs.declared.guid.Guid.{Guid}
 use Rattle.fv_canon.specs.ComparisonLines.{line_feed}
+use Rattle.fv_canon.specs.Image.{IsData, IsImage}
 use Rattle.fv_head.specs.Ext.{Extension}
 use Rattle.fv_section.specs.Texts.{IsText, IsVersion, IsFreeform}
 use Rattle.fv_tree.specs.Meaning.{Meaning, Volume, FileMeanings, NoFiles, MoreFiles, FileMeaning, File, ContentMeaning}
 use Rattle.fv_tree.specs.Meaning.{Plain, Sectioned, SectionMeanings, NoSections, MoreSections, SectionMeaning, Section}
 use Rattle.fv_tree.specs.Meaning.{BodyMeaning, Leaf, Group, Nested}
-use Rattle.fv_tree.specs.Meaning.{head_of, files_of, file_name_of, file_kind_of, attributes_of, data_len_of}
+use Rattle.fv_tree.specs.Meaning.{head_of, files_of, file_name_of, file_kind_of, attributes_of, content_of, data_len_of}
 use Rattle.fv_tree.specs.Meaning.{section_kind_of, section_is_extended, body_of, body_len}
 use Rattle.fv_command.specs.HobLines.{four_digits}
 
@@ -72,7 +74,22 @@ spaces (suc k) = codes "  " ++ spaces k
 abbrev pub two_digits : ℕ → List ℕ
 two_digits n = encode_lower (n ∷ [])
 
--- the line of a volume, indented by k levels; it has the volume's name if there is an extended header
+-- what a line shows of a digest: the SHA-256 of some bytes, in 64 lower-case hexadecimal digits
+abbrev pub sum_text : List ℕ → List ℕ
+sum_text b = codes " sha256 " ++ encode_lower (sha256 b)
+
+-- what the line of a volume shows with sums, the digest of its canonical image, and without them, nothing
+abbrev pub VolumeSum : Bool → Meaning → List ℕ → Type 0
+VolumeSum false m sum = sum ≡ []
+VolumeSum true m sum = (image : List ℕ) × IsImage m image × (sum ≡ sum_text image)
+
+-- what the line of a file shows with sums, the digest of its data in the canonical image, and without them, nothing
+abbrev pub FileSum : Bool → FileMeaning → List ℕ → Type 0
+FileSum false f sum = sum ≡ []
+FileSum true f sum = (bytes : List ℕ) × IsData (content_of f) bytes × (sum ≡ sum_text bytes)
+
+-- the line of a volume, indented by k levels; it has the volume's name if there is an extended header. `sum` is what is
+-- shown of its digest
 abbrev pub system_text : FileSystem → List ℕ
 system_text Ffs2 = codes "volume ffs2 length "
 system_text Ffs3 = codes "volume ffs3 length "
@@ -81,18 +98,18 @@ abbrev pub name_text : Option Extension → List ℕ
 name_text None = []
 name_text (Some ext) = codes " name " ++ guid_text (bytes_of ext.name)
 
-abbrev pub volume_text : ℕ → Meaning → List ℕ
-volume_text k m =
+abbrev pub volume_text : ℕ → Meaning → List ℕ → List ℕ
+volume_text k m sum =
     spaces k ++ (system_text (head_of m).file_system ++ (decimal (head_of m).length ++ (codes " files "
-    ++ (decimal (length (files_of m)) ++ (name_text (head_of m).ext ++ line_feed)))))
+    ++ (decimal (length (files_of m)) ++ (name_text (head_of m).ext ++ (sum ++ line_feed))))))
 
--- the line of a file, which is number i in its volume
-abbrev pub file_text : ℕ → ℕ → FileMeaning → List ℕ
-file_text k i f =
+-- the line of a file, which is number i in its volume; `sum` is what is shown of its digest
+abbrev pub file_text : ℕ → ℕ → FileMeaning → List ℕ → List ℕ
+file_text k i f sum =
     spaces k ++ (codes "file " ++ (decimal i ++ (codes " " ++ (guid_text (bytes_of (file_name_of f))
     ++ (codes " type " ++ (two_digits (file_kind_of f)
     ++ (codes " attributes " ++ (two_digits (attributes_of f)
-    ++ (codes " data " ++ (decimal (data_len_of f) ++ line_feed))))))))))
+    ++ (codes " data " ++ (decimal (data_len_of f) ++ (sum ++ line_feed)))))))))))
 
 -- the line of a section, which is number j in its stream; `shown` is what is shown of its body
 abbrev pub form_text : Bool → List ℕ
@@ -108,44 +125,50 @@ section_text k j s shown =
 
 abbrev mutual
   -- the line of a volume, indented by k levels, and the lines of its files
-  pub VolumeLines : ℕ → Meaning → List ℕ → Type 0
-  VolumeLines k (Volume head files) text =
-      (rest : List ℕ) × (text ≡ volume_text k (Volume head files) ++ rest) × FilesLines (k + 1) 0 files rest
+  pub VolumeLines : Bool → ℕ → Meaning → List ℕ → Type 0
+  VolumeLines sums k (Volume head files) text =
+      (sum : List ℕ) × (rest : List ℕ) × VolumeSum sums (Volume head files) sum
+      × (text ≡ volume_text k (Volume head files) sum ++ rest) × FilesLines sums (k + 1) 0 files rest
 
   -- the lines of files, the first of which is number i
-  pub FilesLines : ℕ → ℕ → FileMeanings → List ℕ → Type 0
-  FilesLines k i NoFiles text = text ≡ []
-  FilesLines k i (MoreFiles f files) text =
-      (here : List ℕ) × (rest : List ℕ) × (text ≡ here ++ rest) × FileLines k i f here × FilesLines k (i + 1) files rest
+  pub FilesLines : Bool → ℕ → ℕ → FileMeanings → List ℕ → Type 0
+  FilesLines sums k i NoFiles text = text ≡ []
+  FilesLines sums k i (MoreFiles f files) text =
+      (here : List ℕ) × (rest : List ℕ) × (text ≡ here ++ rest) × FileLines sums k i f here
+      × FilesLines sums k (i + 1) files rest
 
   -- the line of a file, and those of its sections, if it holds any
-  pub FileLines : ℕ → ℕ → FileMeaning → List ℕ → Type 0
-  FileLines k i (File name kind attributes content) text =
-      (rest : List ℕ) × (text ≡ file_text k i (File name kind attributes content) ++ rest)
-      × ContentLines (k + 1) content rest
+  pub FileLines : Bool → ℕ → ℕ → FileMeaning → List ℕ → Type 0
+  FileLines sums k i (File name kind attributes content) text =
+      (sum : List ℕ) × (rest : List ℕ) × FileSum sums (File name kind attributes content) sum
+      × (text ≡ file_text k i (File name kind attributes content) sum ++ rest) × ContentLines sums (k + 1) content rest
 
-  pub ContentLines : ℕ → ContentMeaning → List ℕ → Type 0
-  ContentLines k (Plain b) text = text ≡ []
-  ContentLines k (Sectioned sections tail) text = SectionsLines k 0 sections text
+  pub ContentLines : Bool → ℕ → ContentMeaning → List ℕ → Type 0
+  ContentLines sums k (Plain b) text = text ≡ []
+  ContentLines sums k (Sectioned sections tail) text = SectionsLines sums k 0 sections text
 
   -- the lines of sections, the first of which is number j
-  pub SectionsLines : ℕ → ℕ → SectionMeanings → List ℕ → Type 0
-  SectionsLines k j NoSections text = text ≡ []
-  SectionsLines k j (MoreSections s sections) text =
-      (here : List ℕ) × (rest : List ℕ) × (text ≡ here ++ rest) × SectionLines k j s here
-      × SectionsLines k (j + 1) sections rest
+  pub SectionsLines : Bool → ℕ → ℕ → SectionMeanings → List ℕ → Type 0
+  SectionsLines sums k j NoSections text = text ≡ []
+  SectionsLines sums k j (MoreSections s sections) text =
+      (here : List ℕ) × (rest : List ℕ) × (text ≡ here ++ rest) × SectionLines sums k j s here
+      × SectionsLines sums k (j + 1) sections rest
 
   -- the line of a section, and those of what it holds, if it is no leaf
-  pub SectionLines : ℕ → ℕ → SectionMeaning → List ℕ → Type 0
-  SectionLines k j (Section kind extended body) text =
+  pub SectionLines : Bool → ℕ → ℕ → SectionMeaning → List ℕ → Type 0
+  SectionLines sums k j (Section kind extended body) text =
       (shown : List ℕ) × (rest : List ℕ) × BodyShown kind body shown
-      × (text ≡ section_text k j (Section kind extended body) shown ++ rest) × BodyLines (k + 1) body rest
+      × (text ≡ section_text k j (Section kind extended body) shown ++ rest) × BodyLines sums (k + 1) body rest
 
-  pub BodyLines : ℕ → BodyMeaning → List ℕ → Type 0
-  BodyLines k (Leaf b) text = text ≡ []
-  BodyLines k (Group sections tail) text = SectionsLines k 0 sections text
-  BodyLines k (Nested volume) text = VolumeLines k volume text
+  pub BodyLines : Bool → ℕ → BodyMeaning → List ℕ → Type 0
+  BodyLines sums k (Leaf b) text = text ≡ []
+  BodyLines sums k (Group sections tail) text = SectionsLines sums k 0 sections text
+  BodyLines sums k (Nested volume) text = VolumeLines sums k volume text
 
 -- the text of `list` for a volume with this meaning
 abbrev pub ListText : Meaning → List ℕ → Type 0
-ListText m text = VolumeLines 0 m text
+ListText m text = VolumeLines false 0 m text
+
+-- its text with sums
+abbrev pub SumsText : Meaning → List ℕ → Type 0
+SumsText m text = VolumeLines true 0 m text

@@ -3,24 +3,26 @@ use Rattle.std.specs.Prelude.{◌≡◌, ◌⊎◌, ℕ, Bool, true, false, List
 use Rattle.fv_base.specs.Faults.{out_of_memory}
 use Rattle.fv_base.specs.declared.fault.Fault.{Fault}
 use Rattle.fv_canon.specs.Headline.{NormalisesTo}
+use Rattle.fv_canon.specs.Layouts.{Unfit}
 use Rattle.fv_canon.specs.Refusals.{NotRead, Refuses}
 use Rattle.fv_canon.specs.FlashImages.{NormalisesAll, RefusesAll}
 use Rattle.fv_tree.specs.FoundVolumes.{Found}
 use Rattle.fv_tree.specs.Meaning.{Meaning, files_of}
 use Rattle.fv_tree.specs.FileNames.{file_named}
+use Rattle.fv_command.specs.CellTexts.{CellsText, NotTiled}
 use Rattle.fv_command.specs.CheckTexts.{CheckText}
 use Rattle.fv_command.specs.HexText.{ShowsBytes}
 use Rattle.fv_command.specs.Inputs.{BeginsWith, BeginsNone}
 use Rattle.fv_command.specs.Lines.{ScanText}
-use Rattle.fv_command.specs.ListTexts.{ListText}
+use Rattle.fv_command.specs.ListTexts.{ListText, SumsText}
 use Rattle.fv_command.specs.Extractions.{IsPart, StopsPart}
 use Rattle.fv_command.specs.declared.status.Status.{Status}
 use Rattle.fv_command.specs.declared.status.Status.TheVariants.{Done, Different}
 use Rattle.fv_command.specs.declared.extracting.Extraction.{Extraction}
 use Rattle.fv_command.specs.declared.extracting.Extraction.TheVariants.{Made, Stored, NotFound, NotSectioned}
 use Rattle.fv_command.specs.declared.plan.Task.{Task}
-use Rattle.fv_command.specs.declared.plan.Task.TheVariants.{Normalise, NormaliseAll, List as Listing, Extract, Check}
-use Rattle.fv_command.specs.declared.plan.Task.TheVariants.{Scan}
+use Rattle.fv_command.specs.declared.plan.Task.TheVariants.{Normalise, NormaliseAll, List as Listing, ListSums, Extract, Check}
+use Rattle.fv_command.specs.declared.plan.Task.TheVariants.{Cells, Scan}
 
 -- what is written of a part, and with which status: its bytes, or that there is no such part
 abbrev pub PartText : Bool → Extraction → Status → List ℕ → Type 0
@@ -35,11 +37,13 @@ abbrev pub Says : Task → Bool → List ℕ → Status → List ℕ → Type 0
 Says Normalise hex input Done text = (image : List ℕ) × NormalisesTo input image × ShowsBytes hex image text
 Says NormaliseAll hex input Done text = (image : List ℕ) × NormalisesAll input image × ShowsBytes hex image text
 Says Listing hex input Done text = (m : Meaning) × BeginsWith input m × ListText m text
+Says ListSums hex input Done text = (m : Meaning) × BeginsWith input m × SumsText m text
 Says (Extract part) hex input status text =
     (m : Meaning) × (x : Extraction) × BeginsWith input m × IsPart (file_named part.name (files_of m)) part x
     × PartText hex x status text
 Says Check hex input Done text = CheckText input true text
 Says Check hex input Different text = CheckText input false text
+Says Cells hex input Done text = CellsText input text
 Says Scan hex input Done text = (offsets : List ℕ) × Found input offsets × ScanText input offsets text
 Says task hex input status text = ⊥
 
@@ -48,8 +52,11 @@ abbrev pub Denies : Task → List ℕ → Fault → Type 0
 Denies Normalise input fault = (fault ≡ out_of_memory) ⊎ Refuses input fault
 Denies NormaliseAll input fault = (fault ≡ out_of_memory) ⊎ RefusesAll input fault
 Denies Listing input fault = (fault ≡ out_of_memory) ⊎ BeginsNone input fault
+Denies ListSums input fault =
+    (fault ≡ out_of_memory) ⊎ (BeginsNone input fault ⊎ ((m : Meaning) × BeginsWith input m × Unfit m 0 fault))
 Denies (Extract part) input fault =
     (fault ≡ out_of_memory) ⊎ (BeginsNone input fault
     ⊎ ((m : Meaning) × BeginsWith input m × StopsPart (file_named part.name (files_of m)) part fault))
 Denies Check input fault = (fault ≡ out_of_memory) ⊎ NotRead input fault
+Denies Cells input fault = (fault ≡ out_of_memory) ⊎ NotTiled input fault
 Denies Scan input fault = fault ≡ out_of_memory

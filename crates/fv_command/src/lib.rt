@@ -4,10 +4,13 @@
 //! `.._run` reads inputs, and writes these lines or the line of a fault.
 #![tactic(auto)]
 
+mod cell_run;
+mod cell_text;
 mod check_run;
 mod check_text;
 mod comparison_run;
 mod depex_notes;
+mod digest_sink;
 mod extracting;
 mod fault_text;
 mod hex_digits;
@@ -26,6 +29,7 @@ mod run_end;
 mod scan_text;
 mod source;
 mod status;
+mod sums;
 mod task_run;
 #[cfg(test)]
 mod tests;

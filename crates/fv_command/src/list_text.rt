@@ -1,26 +1,34 @@
 //! The files and the sections of a volume, one line each.
 
-ghost use Rattle.std.specs.Prelude.{◌≡◌, ℕ, List, IfErr, OnOk};
+ghost use Rattle.std.specs.Prelude.{◌≡◌, ◌⊎◌, ℕ, List, IfErr, IfOk, OnOk, true};
 ghost use Rattle.std.specs.List.{flat_map};
+ghost use Rattle.fv_base.specs.Faults.{out_of_memory};
 ghost use Rattle.fv_base.specs.Sums.{words_of};
+ghost use Rattle.fv_canon.specs.Layouts.{AllFit, Fits, Unfit};
+ghost use Rattle.fv_canon.specs.Volumes.{volumes_in_body, volumes_in_content, volumes_in_files, volumes_in_sections};
 ghost use Rattle.fv_tree.specs.Meaning.{files_from, sections_from};
-ghost use Rattle.fv_tree.specs.Meaning.{section_kind_of, body_of};
+ghost use Rattle.fv_tree.specs.Meaning.{section_kind_of, body_of, content_of};
 ghost use Rattle.fv_tree.specs.Views.{body_view, content_view};
 ghost use Rattle.fv_command.specs.inner.Indents.{levels};
+ghost use Rattle.fv_command.specs.inner.SumRuns.{SumsStop};
 ghost use Rattle.fv_command.specs.ListTexts.{is_plain, unit_text, spaces, two_digits};
 ghost use Rattle.fv_command.specs.ListTexts.{form_text, system_text, name_text};
 ghost use Rattle.fv_command.specs.ListTexts.{volume_text, file_text, section_text};
 ghost use Rattle.fv_command.specs.ListTexts.{VersionText, InterfaceText, SubtypeText, LeafText, BodyShown};
-ghost use Rattle.fv_command.specs.ListTexts.{VolumeLines, FilesLines, ContentLines, SectionsLines, BodyLines, ListText};
+ghost use Rattle.fv_command.specs.ListTexts.{FileSum, VolumeSum, ListText, SumsText};
+ghost use Rattle.fv_command.specs.ListTexts.{VolumeLines, FilesLines, ContentLines, SectionsLines, BodyLines};
 ghost use Rattle.fv_command.specs.PortViews.{Writes, WritingStops, shown};
 
 use crate::hob_text::put_four_digits;
+use crate::sums::{put_file_sum, put_volume_sum};
+use crate::whole_write::write_bytes;
 use fv_base::field::u16_at;
-use fv_base::{Fault, FileSystem, Port, Sink, WriteSink};
-use fv_canon::put_decimal;
+use fv_base::{ByteList, Fault, FileSystem, ListSink, Port, Sink, WriteSink};
+use fv_canon::{layout, put_decimal};
 use fv_head::VolumeHead;
 use fv_section::{freeform, ui_text, version};
 use fv_tree::{Body, Content, FileView, SectionView, VolumeView};
+use std::alloc::Global;
 use std::io::Write;
 
 /// `EFI_SECTION_VERSION`, the type 0x14 of a section whose build number is shown. (PI
@@ -57,8 +65,8 @@ fn put_indent<S: Sink>(out: &mut S, indent: &Indent<'_>)
     }
 }
 
-// Puts a byte in two digits.
-fn put_two_digits<S: Sink>(out: &mut S, byte: u8)
+/// Puts a byte in two lower-case hexadecimal digits.
+pub fn put_two_digits<S: Sink>(out: &mut S, byte: u8)
     ensures { S.takes out.old (two_digits byte) out.new }
 {
     let mut text = [0u8; 2];
@@ -196,8 +204,18 @@ fn put_section_line<S: Sink>(
 }
 
 // Puts the line of a file, which has this number in its volume.
-fn put_file_line<S: Sink>(out: &mut S, file: &FileView<'_>, number: u64, indent: &Indent<'_>)
-    ensures { S.takes out.old (file_text (levels indent.now) number file.now) out.new }
+fn put_file_line<S: Sink>(
+    alloc: Global,
+    out: &mut S,
+    sums: bool,
+    file: &FileView<'_>,
+    number: u64,
+    indent: &Indent<'_>,
+) -> Result<(), Fault>
+    requires { sums ≡ true → AllFit (volumes_in_content (content_of file.now)) }
+    ensures ok { OnOk result ((sum : List ℕ) × FileSum sums file.now sum
+        × S.takes out.old (file_text (levels indent.now) number file.now sum) out.new) }
+    ensures err { IfErr result (λ f. (f ≡ out_of_memory) × (sums ≡ true)) }
 {
     put_indent(out, indent);
     out.put(b"file ");
@@ -210,7 +228,9 @@ fn put_file_line<S: Sink>(out: &mut S, file: &FileView<'_>, number: u64, indent:
     put_two_digits(out, file.attributes().byte());
     out.put(b" data ");
     put_decimal(out, file.data_len());
+    put_file_sum(alloc, out, sums, file)?;
     out.put(b"\n");
+    Ok(())
 }
 
 // Puts the name of a volume, if its header has one.
@@ -237,8 +257,17 @@ fn system_words(system: FileSystem) -> &'static [u8]
 }
 
 // Puts the line of a volume.
-fn put_volume_line<S: Sink>(out: &mut S, volume: &VolumeView<'_>, indent: &Indent<'_>)
-    ensures { S.takes out.old (volume_text (levels indent.now) volume.now) out.new }
+fn put_volume_line<S: Sink>(
+    alloc: Global,
+    out: &mut S,
+    sums: bool,
+    volume: &VolumeView<'_>,
+    indent: &Indent<'_>,
+) -> Result<(), Fault>
+    requires { sums ≡ true → Fits volume.now }
+    ensures ok { OnOk result ((sum : List ℕ) × VolumeSum sums volume.now sum
+        × S.takes out.old (volume_text (levels indent.now) volume.now sum) out.new) }
+    ensures err { IfErr result (λ f. (f ≡ out_of_memory) × (sums ≡ true)) }
 {
     let head = volume.head();
     put_indent(out, indent);
@@ -247,66 +276,116 @@ fn put_volume_line<S: Sink>(out: &mut S, volume: &VolumeView<'_>, indent: &Inden
     out.put(b" files ");
     put_decimal(out, u64::from(volume.file_count()));
     put_name(out, head);
+    put_volume_sum(alloc, out, sums, volume)?;
     out.put(b"\n");
+    Ok(())
 }
 
-// Puts the lines of some sections, and of all that they hold.
+// Puts the lines of some sections, and of all that they hold. With sums, all volumes in what is
+// listed must fit. Each of these walks stops only if it puts sums and memory runs out.
 #[cycle(lines)]
-fn put_sections<S: Sink>(out: &mut S, sections: &[SectionView<'_>], indent: &Indent<'_>)
-    ensures { (text : List ℕ) × SectionsLines (levels indent.now) 0 (sections_from sections.now) text
-        × S.takes out.old text out.new }
+fn put_sections<S: Sink>(
+    alloc: Global,
+    out: &mut S,
+    sums: bool,
+    sections: &[SectionView<'_>],
+    indent: &Indent<'_>,
+) -> Result<(), Fault>
+    requires fit { sums ≡ true → AllFit (volumes_in_sections (sections_from sections.now)) }
+    ensures ok { OnOk result ((text : List ℕ)
+        × SectionsLines sums (levels indent.now) 0 (sections_from sections.now) text × S.takes out.old text out.new) }
+    ensures err { IfErr result (λ f. (f ≡ out_of_memory) × (sums ≡ true)) }
 {
     let inside = Indent::Inside(&*indent);
     for (number, section) in sections.iter().enumerate() {
         put_section_line(out, section, number as u64, indent);
-        put_body(out, section.body(), &inside);
+        put_body(alloc, out, sums, section.body(), &inside)?;
     }
+    Ok(())
 }
 
 // Puts the lines of what the body of a section holds: nothing, if it is a leaf.
 #[cycle(lines)]
-fn put_body<S: Sink>(out: &mut S, body: &Body<'_>, indent: &Indent<'_>)
-    ensures { (text : List ℕ) × BodyLines (levels indent.now) (body_view body.now) text × S.takes out.old text out.new }
+fn put_body<S: Sink>(
+    alloc: Global,
+    out: &mut S,
+    sums: bool,
+    body: &Body<'_>,
+    indent: &Indent<'_>,
+) -> Result<(), Fault>
+    requires fit { sums ≡ true → AllFit (volumes_in_body (body_view body.now)) }
+    ensures ok { OnOk result ((text : List ℕ) × BodyLines sums (levels indent.now) (body_view body.now) text
+        × S.takes out.old text out.new) }
+    ensures err { IfErr result (λ f. (f ≡ out_of_memory) × (sums ≡ true)) }
 {
     match body {
-        Body::Leaf(_) => {}
-        Body::Group { sections, .. } => put_sections(out, sections.as_slice(), indent),
-        Body::Nested(volume) => put_volume(out, volume, indent),
+        Body::Leaf(_) => Ok(()),
+        Body::Group { sections, .. } => put_sections(alloc, out, sums, sections.as_slice(), indent),
+        Body::Nested(volume) => put_volume(alloc, out, sums, volume, indent),
     }
 }
 
 // Puts the lines of the sections of a file, if it holds any.
 #[cycle(lines)]
-fn put_content<S: Sink>(out: &mut S, content: &Content<'_>, indent: &Indent<'_>)
-    ensures { (text : List ℕ) × ContentLines (levels indent.now) (content_view content.now) text
-        × S.takes out.old text out.new }
+fn put_content<S: Sink>(
+    alloc: Global,
+    out: &mut S,
+    sums: bool,
+    content: &Content<'_>,
+    indent: &Indent<'_>,
+) -> Result<(), Fault>
+    requires fit { sums ≡ true → AllFit (volumes_in_content (content_view content.now)) }
+    ensures ok { OnOk result ((text : List ℕ) × ContentLines sums (levels indent.now) (content_view content.now) text
+        × S.takes out.old text out.new) }
+    ensures err { IfErr result (λ f. (f ≡ out_of_memory) × (sums ≡ true)) }
 {
     match content {
-        Content::Plain(_) => {}
-        Content::Stream { sections, .. } => put_sections(out, sections.as_slice(), indent),
+        Content::Plain(_) => Ok(()),
+        Content::Stream { sections, .. } => {
+            put_sections(alloc, out, sums, sections.as_slice(), indent)
+        }
     }
 }
 
 // Puts the lines of some files, and of all that they hold.
 #[cycle(lines)]
-fn put_files<S: Sink>(out: &mut S, files: &[FileView<'_>], indent: &Indent<'_>)
-    ensures { (text : List ℕ) × FilesLines (levels indent.now) 0 (files_from files.now) text
-        × S.takes out.old text out.new }
+fn put_files<S: Sink>(
+    alloc: Global,
+    out: &mut S,
+    sums: bool,
+    files: &[FileView<'_>],
+    indent: &Indent<'_>,
+) -> Result<(), Fault>
+    requires fit { sums ≡ true → AllFit (volumes_in_files (files_from files.now)) }
+    ensures ok { OnOk result ((text : List ℕ) × FilesLines sums (levels indent.now) 0 (files_from files.now) text
+        × S.takes out.old text out.new) }
+    ensures err { IfErr result (λ f. (f ≡ out_of_memory) × (sums ≡ true)) }
 {
     let inside = Indent::Inside(&*indent);
     for (number, file) in files.iter().enumerate() {
-        put_file_line(out, file, number as u64, indent);
-        put_content(out, file.content(), &inside);
+        put_file_line(alloc, out, sums, file, number as u64, indent)?;
+        put_content(alloc, out, sums, file.content(), &inside)?;
     }
+    Ok(())
 }
 
 // Puts the lines of a volume, and of all that it holds.
 #[cycle(lines)]
-fn put_volume<S: Sink>(out: &mut S, volume: &VolumeView<'_>, indent: &Indent<'_>)
-    ensures { (text : List ℕ) × VolumeLines (levels indent.now) volume.now text × S.takes out.old text out.new }
+fn put_volume<S: Sink>(
+    alloc: Global,
+    out: &mut S,
+    sums: bool,
+    volume: &VolumeView<'_>,
+    indent: &Indent<'_>,
+) -> Result<(), Fault>
+    requires fit { sums ≡ true → Fits volume.now }
+    ensures ok { OnOk result ((text : List ℕ) × VolumeLines sums (levels indent.now) volume.now text
+        × S.takes out.old text out.new) }
+    ensures err { IfErr result (λ f. (f ≡ out_of_memory) × (sums ≡ true)) }
 {
-    put_volume_line(out, volume, indent);
-    put_files(out, volume.files(), &Indent::Inside(&*indent));
+    put_volume_line(alloc, out, sums, volume, indent)?;
+    let inside = Indent::Inside(&*indent);
+    put_files(alloc, out, sums, volume.files(), &inside)
 }
 
 /// Writes a line for the volume, for each of its files and for each section in these, and likewise
@@ -315,13 +394,53 @@ fn put_volume<S: Sink>(out: &mut S, volume: &VolumeView<'_>, indent: &Indent<'_>
 /// # Errors
 ///
 /// WriteFault if a write fails or takes no byte.
-pub fn write_list<W: Write>(writer: &mut Port<W>, volume: &VolumeView<'_>) -> Result<(), Fault>
+pub fn write_list<W: Write>(
+    alloc: Global,
+    writer: &mut Port<W>,
+    volume: &VolumeView<'_>,
+) -> Result<(), Fault>
     ensures ok { OnOk result ((text : List ℕ) × ListText volume.now text
         × Writes (shown W.contents writer.old) (shown W.contents writer.new) text) }
     ensures err { IfErr result (λ f. (text : List ℕ) × ListText volume.now text
         × WritingStops (shown W.contents writer.old) (shown W.contents writer.new) text f) }
 {
     let mut out = WriteSink::new(writer);
-    put_volume(&mut out, volume, &Indent::Margin);
+    let Ok(()) = put_volume(alloc, &mut out, false, volume, &Indent::Margin) else {
+        unreachable!()
+    };
     out.outcome()
+}
+
+// The lines of the volume and of all that it holds, with sums.
+fn sums_text(alloc: Global, volume: &VolumeView<'_>) -> Result<ByteList, Fault>
+    ensures ok { IfOk result (λ text. SumsText volume.now text) }
+    ensures err { IfErr result (λ f. (f ≡ out_of_memory) ⊎ Unfit volume.now 0 f) }
+{
+    let _places = layout(alloc, volume)?;
+    let mut out = ListSink::with_room(alloc, 0)?;
+    put_volume(alloc, &mut out, true, volume, &Indent::Margin)?;
+    out.finish()
+}
+
+/// Writes the lines of `write_list`, with the SHA-256 of each volume's canonical image and of each
+/// file's data in it. Nothing is written before all sums are known. (PI specification, volume 3,
+/// section 3.2.)
+///
+/// # Errors
+///
+/// The fault of the first volume that does not fit, or OutOfMemory; nothing was written then.
+/// WriteFault if a write fails or takes no byte.
+pub fn write_sums<W: Write>(
+    alloc: Global,
+    writer: &mut Port<W>,
+    volume: &VolumeView<'_>,
+) -> Result<(), Fault>
+    ensures ok { OnOk result ((text : List ℕ) × SumsText volume.now text
+        × Writes (shown W.contents writer.old) (shown W.contents writer.new) text) }
+
+    // Nothing was written, or a write failed in the text.
+    ensures err { IfErr result (SumsStop volume.now (shown W.contents writer.old) (shown W.contents writer.new)) }
+{
+    let text = sums_text(alloc, volume)?;
+    write_bytes(writer, text.as_slice())
 }

@@ -51,10 +51,14 @@ pub enum Task {
     NormaliseAll,
     /// List the files and the sections of a volume.
     List,
+    /// List them with the SHA-256 of each volume's canonical image, and of each file's data in it.
+    ListSums,
     /// Write the data of a file of a volume, or the body of one of its sections.
     Extract(Part),
     /// Say whether a volume is its own canonical image, and what in it deserves a note.
     Check,
+    /// List the cells of a volume, and where they lie.
+    Cells,
     /// Find the volumes in some bytes.
     Scan,
 }

@@ -6,13 +6,14 @@ ghost use Rattle.fv_command.specs.TaskRuns.{RunsTask, SaysRead, StopsRead};
 ghost use Rattle.fv_command.specs.inner.TaskSteps.{Performs};
 ghost use Rattle.fv_command.specs.Tasks.{PartText};
 
+use crate::cell_run::write_cells;
 use crate::check_run::write_check;
 use crate::extracting::{Extraction, Part, extract};
 use crate::fault_text::refuse;
 use crate::hex_lines::write_shown;
 use crate::image_text::write_image;
 use crate::inputs::{read_bytes, taken_at};
-use crate::list_text::write_list;
+use crate::list_text::{write_list, write_sums};
 use crate::plan::Task;
 use crate::scan_text::write_volumes;
 use crate::status::Status;
@@ -58,7 +59,17 @@ fn list<W: Write>(alloc: Global, input: &[u8], writer: &mut Port<W>) -> Result<S
         → Performs Task.List hex input.now (shown W.contents writer.old) (shown W.contents writer.new) result }
 {
     let (volume, _length) = read_volume(alloc, input)?;
-    write_list(writer, &volume)?;
+    write_list(alloc, writer, &volume)?;
+    Ok(Status::Done)
+}
+
+// Writes what the volume at the start of the input holds, with sums.
+fn list_sums<W: Write>(alloc: Global, input: &[u8], writer: &mut Port<W>) -> Result<Status, Fault>
+    ensures { (hex : Bool)
+        → Performs Task.ListSums hex input.now (shown W.contents writer.old) (shown W.contents writer.new) result }
+{
+    let (volume, _length) = read_volume(alloc, input)?;
+    write_sums(alloc, writer, &volume)?;
     Ok(Status::Done)
 }
 
@@ -121,6 +132,15 @@ fn check<W: Write>(alloc: Global, input: &[u8], writer: &mut Port<W>) -> Result<
     }
 }
 
+// Writes where the cells of the volume at the start of the input lie.
+fn cells<W: Write>(alloc: Global, input: &[u8], writer: &mut Port<W>) -> Result<Status, Fault>
+    ensures { (hex : Bool)
+        → Performs Task.Cells hex input.now (shown W.contents writer.old) (shown W.contents writer.new) result }
+{
+    write_cells(alloc, input, writer)?;
+    Ok(Status::Done)
+}
+
 // Writes where volumes begin in the input.
 fn scan<W: Write>(alloc: Global, input: &[u8], writer: &mut Port<W>) -> Result<Status, Fault>
     ensures { (hex : Bool)
@@ -145,8 +165,10 @@ fn perform<W: Write>(
         Task::Normalise => normalise(alloc, hex, input, writer),
         Task::NormaliseAll => normalise_all(alloc, hex, input, writer),
         Task::List => list(alloc, input, writer),
+        Task::ListSums => list_sums(alloc, input, writer),
         Task::Extract(part) => extract_part(alloc, hex, input, part, writer),
         Task::Check => check(alloc, input, writer),
+        Task::Cells => cells(alloc, input, writer),
         Task::Scan => scan(alloc, input, writer),
     }
 }

@@ -16,6 +16,8 @@ mod runs;
 mod spans;
 mod spelling;
 mod stopped;
+mod summed;
+mod tiled;
 mod volumes;
 mod whole;
 

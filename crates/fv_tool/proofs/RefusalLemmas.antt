@@ -13,9 +13,11 @@ use Rattle.clap.specs.declared.error.kind.ErrorKind.TheVariants as error_kinds
 use Rattle.fv_base.specs.Guids.{guid_read}
 use Rattle.fv_command.specs.declared.plan.Command.{Command}
 use Rattle.fv_command.specs.declared.plan.Command.TheVariants.{Single, Hobs, Compare}
-use Rattle.fv_command.specs.declared.plan.Task.TheVariants.{Normalise, NormaliseAll, List as Listing, Extract, Check, Scan}
+use Rattle.fv_command.specs.declared.plan.Task.TheVariants.{Normalise, NormaliseAll, List as Listing, ListSums, Extract, Check}
+use Rattle.fv_command.specs.declared.plan.Task.TheVariants.{Cells, Scan}
 use Rattle.fv_tool.proofs.ReadLemmas.{IsGiven, by_app, faults_read}
-use Rattle.fv_tool.specs.Options.{compare_app, extract_app, faults_in, hobs_app, normalise_app, one_input_app, text_in, volume_app}
+use Rattle.fv_tool.specs.Options.{compare_app, extract_app, faults_in, hobs_app, list_app, normalise_app, one_input_app, text_in}
+use Rattle.fv_tool.specs.Options.{volume_app}
 use Rattle.fv_tool.specs.Words.{AreRightFor, HasTexts, IsAtWord, IsBaseWord, IsSectionTypeWord, has_flag, command_app, command_name}
 use Rattle.fv_tool.specs.declared.words.WordFault.{WordFault}
 use Rattle.fv_tool.specs.declared.words.WordFault.TheVariants.{Words, OutOfMemory}
@@ -27,14 +29,17 @@ app_named name =
     else (if bytes_eq name (codes "hobs") then hobs_app
     else (if bytes_eq name (codes "extract") then extract_app
     else (if bytes_eq name (codes "compare") then compare_app
-    else (if bytes_eq name (codes "scan") then one_input_app else volume_app))))
+    else (if bytes_eq name (codes "list") then list_app
+    else (if bytes_eq name (codes "scan") then one_input_app else volume_app)))))
 
 named_app : (c : Command) → app_named (command_name c) ≡ command_app c
 named_app (Single Normalise at file) = refl
 named_app (Single NormaliseAll at file) = refl
 named_app (Single Listing at file) = refl
+named_app (Single ListSums at file) = refl
 named_app (Single (Extract part) at file) = refl
 named_app (Single Check at file) = refl
+named_app (Single Cells at file) = refl
 named_app (Single Scan at file) = refl
 named_app (Hobs file image) = refl
 named_app (Compare first second) = refl

@@ -12,12 +12,16 @@ use Rattle.clap.specs.declared.builder.value_parser.ValueParser.TheVariants as p
 abbrev pub flag_rule : List ℕ → Rule
 flag_rule name = record (new_rule name) { long = Some name; action = Some SetTrue }
 
--- the flag `--hex`, that inputs and outputs are text; and the flag `--all`, that all volumes of an image are meant
+-- the flag `--hex`, that inputs and outputs are text; the flag `--all`, that all volumes of an image are meant; and the
+-- flag `--sums`, that a list shows digests
 abbrev pub hex_rule : Rule
 hex_rule = flag_rule (codes "hex")
 
 abbrev pub all_rule : Rule
 all_rule = flag_rule (codes "all")
+
+abbrev pub sums_rule : Rule
+sums_rule = flag_rule (codes "sums")
 
 -- an option of this name, with one value
 abbrev pub option_rule : List ℕ → Rule
@@ -54,6 +58,9 @@ volume_app = with_rule (with_rule flag_app at_rule) (new_rule (codes "file"))
 
 abbrev pub normalise_app : App
 normalise_app = with_rule (with_rule (with_rule flag_app all_rule) at_rule) (new_rule (codes "file"))
+
+abbrev pub list_app : App
+list_app = with_rule (with_rule (with_rule flag_app sums_rule) at_rule) (new_rule (codes "file"))
 
 abbrev pub hobs_app : App
 hobs_app = with_rule (with_rule (with_rule flag_app (option_rule (codes "image"))) base_rule) (new_rule (codes "file"))

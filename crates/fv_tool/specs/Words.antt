@@ -8,15 +8,16 @@ use Rattle.std.specs.String.{string_bytes}
 use Rattle.clap.specs.Words.{App}
 use Rattle.fv_base.specs.Guids.{guid_read}
 use Rattle.fv_command.specs.declared.extracting.Part.{Part}
-use Rattle.fv_tool.specs.Options.{compare_app, extract_app, faults_in, hobs_app, normalise_app, one_input_app, text_in, volume_app}
+use Rattle.fv_tool.specs.Options.{compare_app, extract_app, faults_in, hobs_app, list_app, normalise_app, one_input_app, text_in}
+use Rattle.fv_tool.specs.Options.{volume_app}
 use Rattle.fv_command.specs.declared.plan.Command.{Command}
 use Rattle.fv_command.specs.declared.plan.Command.TheVariants.{Single, Hobs, Compare}
 use Rattle.fv_command.specs.declared.plan.ImageFile.{ImageFile}
 use Rattle.fv_command.specs.declared.plan.Plan.{Plan}
 use Rattle.fv_command.specs.declared.plan.VolumeFile.{VolumeFile}
 use Rattle.fv_command.specs.declared.plan.Task.{Task}
-use Rattle.fv_command.specs.declared.plan.Task.TheVariants.{Normalise, NormaliseAll, List as Listing, Extract, Check}
-use Rattle.fv_command.specs.declared.plan.Task.TheVariants.{Scan}
+use Rattle.fv_command.specs.declared.plan.Task.TheVariants.{Normalise, NormaliseAll, List as Listing, ListSums, Extract, Check}
+use Rattle.fv_command.specs.declared.plan.Task.TheVariants.{Cells, Scan}
 
 -- with no arguments: hexadecimal text from standard input is normalised
 abbrev pub plan_without_words : Plan
@@ -27,8 +28,10 @@ abbrev pub task_name : Task → List ℕ
 task_name Normalise = codes "normalise"
 task_name NormaliseAll = codes "normalise"
 task_name Listing = codes "list"
+task_name ListSums = codes "list"
 task_name (Extract part) = codes "extract"
 task_name Check = codes "check"
+task_name Cells = codes "cells"
 task_name Scan = codes "scan"
 
 abbrev pub command_name : Command → List ℕ
@@ -40,9 +43,11 @@ command_name (Compare first second) = codes "compare"
 abbrev pub task_app : Task → App
 task_app Normalise = normalise_app
 task_app NormaliseAll = normalise_app
-task_app Listing = volume_app
+task_app Listing = list_app
+task_app ListSums = list_app
 task_app (Extract part) = extract_app
 task_app Check = volume_app
+task_app Cells = volume_app
 task_app Scan = one_input_app
 
 abbrev pub command_app : Command → App
@@ -104,19 +109,23 @@ IsFileWord text file = option_map string_bytes file ≡ text
 abbrev pub HasInput : App → List (List ℕ) → Option ℕ → Option (String Global) → Type 0
 HasInput app rest at file = IsAtWord (text_in app (codes "at") rest) at × IsFileWord (text_in app (codes "file") rest) file
 
--- the texts of a task, and those of a command, are those that the parser finds; the flag `--all` says which of the two
--- tasks of one name it is, and with it no byte is given
+-- the texts of a task, and those of a command, are those that the parser finds; a flag says which of two tasks of one
+-- name it is, `--all` or `--sums`; with `--all` no byte is given
 abbrev pub HasTaskTexts : List (List ℕ) → Task → Option ℕ → Option (String Global) → Type 0
 HasTaskTexts rest Normalise at file =
     (has_flag (codes "--all") rest ≡ false) × HasInput normalise_app rest at file
 HasTaskTexts rest NormaliseAll at file =
     (has_flag (codes "--all") rest ≡ true) × (at ≡ None) × HasInput normalise_app rest at file
-HasTaskTexts rest Listing at file = HasInput volume_app rest at file
+HasTaskTexts rest Listing at file =
+    (has_flag (codes "--sums") rest ≡ false) × HasInput list_app rest at file
+HasTaskTexts rest ListSums at file =
+    (has_flag (codes "--sums") rest ≡ true) × HasInput list_app rest at file
 HasTaskTexts rest (Extract part) at file =
     HasInput extract_app rest at file
     × IsPartBy (text_in extract_app (codes "name") rest) (text_in extract_app (codes "section") rest)
     (text_in extract_app (codes "instance") rest) part
 HasTaskTexts rest Check at file = HasInput volume_app rest at file
+HasTaskTexts rest Cells at file = HasInput volume_app rest at file
 HasTaskTexts rest Scan at file = (at ≡ None) × IsFileWord (text_in one_input_app (codes "file") rest) file
 
 abbrev pub HasTexts : List (List ℕ) → Command → Type 0

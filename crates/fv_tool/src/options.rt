@@ -1,8 +1,8 @@
 //! The commands and their options, as they are given to the command-line parser.
 
 ghost use Rattle.clap.specs.Words.{app_of, first_value, found_of, rule_of};
-ghost use Rattle.fv_tool.specs.Options.{compare_app, extract_app, flag_app, hobs_app, normalise_app, one_input_app};
-ghost use Rattle.fv_tool.specs.Options.{volume_app};
+ghost use Rattle.fv_tool.specs.Options.{compare_app, extract_app, flag_app, hobs_app, list_app, normalise_app};
+ghost use Rattle.fv_tool.specs.Options.{one_input_app, volume_app};
 ghost use Rattle.fv_tool.specs.Options.{faults_in, flag_rule, number_rule, option_rule, text_in};
 ghost use Rattle.fv_tool.specs.Words.{AreRightFor, AsksBy, HasInput, IsFileWord, IsSectionTypeWord, has_flag};
 ghost use Rattle.fv_base.specs.Guids.{guid_read};
@@ -98,6 +98,16 @@ fn normalise_words<'a>(alloc: Global) -> Result<clap::Command<'a>, AllocError>
 {
     flag_words(alloc)?
         .arg(flag(alloc, "all"))?
+        .arg(at_option(alloc, "at"))?
+        .arg(Arg::new(alloc, "file"))
+}
+
+// The rules of `list`, with the flag that digests are shown.
+fn list_words<'a>(alloc: Global) -> Result<clap::Command<'a>, AllocError>
+    ensures { IfOk result (λ c. app_of c ≡ list_app) }
+{
+    flag_words(alloc)?
+        .arg(flag(alloc, "sums"))?
         .arg(at_option(alloc, "at"))?
         .arg(Arg::new(alloc, "file"))
 }
@@ -216,6 +226,29 @@ fn normalise(alloc: Global, words: &[String]) -> Result<Plan, WordFault>
     }
     let file = file_of(alloc, &matches, "file")?;
     Ok(single(normalise_task(all), (matches.get_flag("hex"), at, file)))
+}
+
+// The task of `list`: with the flag, digests are shown.
+fn list_task(sums: bool) -> Task
+    ensures sums { sums ≡ true → result ≡ Task.ListSums }
+    ensures plain { sums ≡ false → result ≡ Task.List }
+{
+    if sums { Task::ListSums } else { Task::List }
+}
+
+// A volume, and whether its list shows digests.
+fn list(alloc: Global, words: &[String]) -> Result<Plan, WordFault>
+    ensures asked { IfOk result (AsksBy (codes "list") (drop 1 (map string_bytes words.now))) }
+
+    // No arguments that are right are rejected as wrong.
+    ensures wrong { IfErr result (λ f. f ≡ WordFault.Words
+        → AreRightFor (codes "list") (drop 1 (map string_bytes words.now)) → ⊥) }
+{
+    let matches = list_words(alloc)?.try_get_matches_from(words)?;
+    let sums = matches.get_flag("sums");
+    let at = matches.get_one::<u64>("at");
+    let file = file_of(alloc, &matches, "file")?;
+    Ok(single(list_task(sums), (matches.get_flag("hex"), at, file)))
 }
 
 // The image of this path and this base, if they are given: one without the other is wrong.
@@ -390,9 +423,10 @@ pub fn parse_command(alloc: Global, name: &str, words: &[String]) -> Result<Plan
     match name {
         "normalise" => normalise(alloc, words),
         "hobs" => hobs(alloc, words),
-        "list" => Ok(single(Task::List, volume_input(alloc, words)?)),
+        "list" => list(alloc, words),
         "extract" => extract(alloc, words),
         "check" => Ok(single(Task::Check, volume_input(alloc, words)?)),
+        "cells" => Ok(single(Task::Cells, volume_input(alloc, words)?)),
         "scan" => scan(alloc, words),
         "compare" => compare(alloc, words),
         _ => Err(WordFault::Words),

@@ -52,6 +52,10 @@ fn reads_words(rt: HostRuntime) -> Result<(), Fail> {
     let volume = "Plan { hex: false, command: Single { task: List, at: None, file: None } }";
     let volume_text =
         "Plan { hex: true, command: Single { task: List, at: None, file: Some(\"a.txt\") } }";
+    let volume_sums =
+        "Plan { hex: false, command: Single { task: ListSums, at: None, file: None } }";
+    let text_sums =
+        "Plan { hex: true, command: Single { task: ListSums, at: Some(64), file: Some(\"a.txt\") } }";
     let bytes =
         "Plan { hex: false, command: Single { task: Scan, at: None, file: Some(\"a.bin\") } }";
     let bytes_text = "Plan { hex: true, command: Single { task: Scan, at: None, file: None } }";
@@ -69,6 +73,9 @@ fn reads_words(rt: HostRuntime) -> Result<(), Fail> {
          second: VolumeFile { path: \"b.txt\", at: None } } }";
     let volume_at =
         "Plan { hex: false, command: Single { task: List, at: Some(540672), file: Some(\"a.fd\") } }";
+    let cells = "Plan { hex: false, command: Single { task: Cells, at: None, file: None } }";
+    let cells_at =
+        "Plan { hex: true, command: Single { task: Cells, at: Some(64), file: Some(\"a.txt\") } }";
     let check_at = "Plan { hex: false, command: Single { task: Check, at: Some(0), file: None } }";
     let image_at =
         "Plan { hex: false, command: Single { task: Normalise, at: Some(18446744073709551615), \
@@ -98,6 +105,10 @@ fn reads_words(rt: HostRuntime) -> Result<(), Fail> {
         ),
         ("fv list", volume),
         ("fv list a.txt --hex", volume_text),
+        ("fv list --sums", volume_sums),
+        ("fv list --at 64 --sums a.txt --hex", text_sums),
+        ("fv cells", cells),
+        ("fv cells --at 64 --hex a.txt", cells_at),
         ("fv scan a.bin", bytes),
         ("fv scan --hex", bytes_text),
         ("fv compare a.fv b.fv", two),
@@ -230,6 +241,10 @@ fn are_wrong(alloc: Global, line: &str) -> Result<bool, AllocError> {
 fn refuses_words(rt: HostRuntime) -> Result<(), Fail> {
     let lines = [
         "fv list --all",
+        "fv cells --sums",
+        "fv normalise --sums",
+        "fv list --sums --sums",
+        "fv list --sums=true",
         "fv normalise --all --all",
         "fv normalise --all --at 8",
         "fv normalise --at 0 a.bin --all",
@@ -240,6 +255,8 @@ fn refuses_words(rt: HostRuntime) -> Result<(), Fail> {
         "fv list --at 0x40",
         "fv list --at 18446744073709551616",
         "fv list --other-at 8",
+        "fv cells --all",
+        "fv cells a.fv b.fv",
         "fv scan --at 8",
         "fv hobs --at 8",
         "fv compare --at a.fv b.fv",

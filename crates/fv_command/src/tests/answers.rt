@@ -46,6 +46,8 @@ pub fn answers() -> &'static str {
     scan: head-sum-off-by-one -> 0 \n\
     scan: ff*64 empty -> 0 volume at 64 length 128|\n\
     scan: 30*256 -> 0 \n\
+    cells: deleted-file -> 0 header at 0 length 72|deleted at 72 length 32|free at 104 length 24|sums files 0 pads 0 \
+        deleted 32 filler 0 free 24|\n\
     scan: 11*8 empty 22*16 H72 33*8 -> 0 volume at 8 length 128|volume at 152 length 72|\n\
     scan: '0 -> 2 fault 25 at 0|\n\
     hobs: hand-off-list & empty -> 0 hob 0001 length 56|hob 0009 length 56|hob fffe length 8|hob 0004 length 32|\
@@ -109,6 +111,8 @@ pub fn small() -> &'static str {
     normalise: '0g -> 2 fault 25 at 0|\n\
     list: two-sections -> 0 volume ffs2 length 128 files 1|  file 0 0a0a0a0a-0a0a-0a0a-0a0a-0a0a0a0a0a0a type 02 \
         attributes 40 data 14|    section 0 type 19 short body 1|    section 1 type 19 short body 2|\n\
+    list-sums: empty -> 0 volume ffs2 length 128 files 0 sha256 \
+        fa2372b57e3223fafe321ef347cb77d4373819ad5abdea2446fff51d258ed758|\n\
     extract 0a - 1: two-sections -> 0 =050000195a000000060000190102\n\
     extract 0a 19 3: two-sections -> 1 not found|\n\
     extract 0a 19 1: filler-zero -> 1 not sectioned|\n\

@@ -1,9 +1,10 @@
-//! Failed allocations in the calls of fv_canon: `.ci/memory` makes each allocation of the test fail
-//! in turn, and no wrong result may be returned.
+//! Failed allocations in the calls of fv_canon, and in a list with digests: `.ci/memory` makes each
+//! allocation of the test fail in turn, and no wrong result may be returned.
 
 use super::images::has_starts;
 use super::spelling::bytes_of;
 use super::volumes::row_of;
+use crate::list_text::write_sums;
 use fv_base::{ByteList, Fault, FaultKind, Port};
 use fv_canon::{
     Side, body_bytes, canonical, file_bytes, is_canonical, layout, normalise, normalise_image,
@@ -126,13 +127,36 @@ fn is_compared(alloc: Global, first: &[u8], second: &[u8]) -> bool {
     }
 }
 
-// Whether the parts of one volume are made, and two others compared, or memory ran out.
+// Whether the volume without data is listed with digests, or nothing is written because memory ran
+// out.
+fn is_summed(alloc: Global, volume: &[u8]) -> bool {
+    let line = b"volume ffs2 length 128 files 1 sha256 \
+        c4320b7d8ea9cb83edddabed532647edab75feecddf5ae6253dcfab9438b3f71\n\
+        \x20 file 0 0a0a0a0a-0a0a-0a0a-0a0a-0a0a0a0a0a0a type 01 attributes 00 data 0 \
+        sha256 e3b0c44298fc1c149afbf4c8996fb92427ae41e4649b934ca495991b7852b855\n";
+    let mut taken = [0u8; 250];
+    let mut writer = Port::new(taken.as_mut_slice());
+    let result = match read_volume(alloc, volume) {
+        Ok((view, _)) => write_sums(alloc, &mut writer, &view),
+        Err(fault) => Err(fault),
+    };
+    match result {
+        Ok(()) => taken == *line,
+        Err(fault) => fault == want() && taken == [0; 250],
+    }
+}
+
+// Whether the parts of one volume are made, two others compared and one listed, or memory ran out.
 fn are_others_answered(alloc: Global) -> Option<bool> {
     let volume = spelled(alloc, "nested-with-deleted-file")?;
     let image = spelled(alloc, "nested-image")?;
     let first = spelled(alloc, "file-sum-zero-data")?;
     let second = spelled(alloc, "file-without-data")?;
-    Some(has_parts(alloc, &volume, &image) && is_compared(alloc, &first, &second))
+    Some(
+        has_parts(alloc, &volume, &image)
+            && is_compared(alloc, &first, &second)
+            && is_summed(alloc, &second),
+    )
 }
 
 /// Volumes with their images, and the offsets of the files in these.

@@ -15,6 +15,8 @@ use super::fakes::{FakeReader, FakeWriter};
 use super::listed::listed;
 use super::placed::placed;
 use super::spelling::{bytes_of, lines_of, number_of};
+use super::summed::summed;
+use super::tiled::tiled;
 use super::volumes::{refused, row_of};
 use crate::extracting::Part;
 use crate::plan::{Command, ImageFile, Plan, Task, VolumeFile};
@@ -81,7 +83,9 @@ fn task_of(name: &str, words: &str) -> Option<Task> {
         b"normalise" => Some(Task::Normalise),
         b"normalise-all" => Some(Task::NormaliseAll),
         b"list" => Some(Task::List),
+        b"list-sums" => Some(Task::ListSums),
         b"check" => Some(Task::Check),
+        b"cells" => Some(Task::Cells),
         b"scan" => Some(Task::Scan),
         b"extract" => part_of(words).map(Task::Extract),
         _ => None,
@@ -346,7 +350,15 @@ fn stops_in_time(alloc: Global, line: &str) -> bool {
 
 #[test]
 fn runs_end_as_they_should(rt: HostRuntime) {
-    for table in [answers(), listed(), checked(), compared(), placed()] {
+    for table in [
+        answers(),
+        listed(),
+        summed(),
+        checked(),
+        compared(),
+        placed(),
+        tiled(),
+    ] {
         for line in table.lines() {
             assert!(rt; is_told(rt.alloc(), line), "{line}");
         }
@@ -365,6 +377,7 @@ fn refusing() -> &'static str {
     "\
     normalise: VOLUME -> 2 FAULT|\n\
     list: VOLUME -> 2 FAULT|\n\
+    list-sums: VOLUME -> 2 FAULT|\n\
     extract 0a - 1: VOLUME -> 2 FAULT|\n\
     extract 0a 19 1: VOLUME -> 2 FAULT|\n\
     check: VOLUME -> 2 FAULT|\n\

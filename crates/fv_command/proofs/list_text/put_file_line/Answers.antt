@@ -4,8 +4,8 @@ use Rattle.fv_base.specs.declared.guid.Guid.{Guid}
 use Rattle.fv_command.specs.ListTexts.{two_digits}
 use Rattle.fv_command.proofs.list_text.put_file_line.Goals as goal
 
-pub returns : goal.returns
-returns g c =
+pub returns-clause-ok : goal.returns-clause-ok
+returns-clause-ok g c =
     let join = g.S.Sink.laws.joined in
     let takes = g.S.Sink.takes in
     let name = subst (λ (u : Guid). takes c.put-2.new.self (guid_text (bytes_of u)) c.put-3.new.self) c.name.ensures.name
@@ -16,12 +16,17 @@ returns g c =
     (c.byte.ensures ∙ c.attributes.ensures) c.put_two_digits-2.ensures in
     let size = subst (λ (n : ℕ). takes c.put-6.new.self (decimal n) c.put_decimal-2.new.out) c.data_len.ensures
     c.put_decimal-2.ensures.text in
-    join _ _ _ _ _ c.put_indent.ensures
-    (join _ _ _ _ _ c.put.ensures
-    (join _ _ _ _ _ c.put_decimal.ensures.text
-    (join _ _ _ _ _ c.put-2.ensures
-    (join _ _ _ _ _ name
-    (join _ _ _ _ _ c.put-4.ensures
-    (join _ _ _ _ _ kind
-    (join _ _ _ _ _ c.put-5.ensures
-    (join _ _ _ _ _ bits (join _ _ _ _ _ c.put-6.ensures (join _ _ _ _ _ size c.put-7.ensures))))))))))
+    let sum = c.in_ok-put_file_sum.ensures.ok in (
+      sum.0,
+      sum.1,
+      join _ _ _ _ _ c.put_indent.ensures
+          (join _ _ _ _ _ c.put.ensures
+          (join _ _ _ _ _ c.put_decimal.ensures.text
+          (join _ _ _ _ _ c.put-2.ensures
+          (join _ _ _ _ _ name
+          (join _ _ _ _ _ c.put-4.ensures
+          (join _ _ _ _ _ kind
+          (join _ _ _ _ _ c.put-5.ensures
+          (join _ _ _ _ _ bits
+          (join _ _ _ _ _ c.put-6.ensures (join _ _ _ _ _ size (join _ _ _ _ _ sum.2 c.put-7.ensures))))))))))),
+    )

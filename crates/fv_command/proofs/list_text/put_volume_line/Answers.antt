@@ -3,8 +3,8 @@ use Rattle.fv_head.specs.Head.{HeadFields}
 use Rattle.fv_command.specs.ListTexts.{system_text, name_text}
 use Rattle.fv_command.proofs.list_text.put_volume_line.Goals as goal
 
-pub returns : goal.returns
-returns g c =
+pub returns-clause-ok : goal.returns-clause-ok
+returns-clause-ok g c =
     let join = g.S.Sink.laws.joined in
     let takes = g.S.Sink.takes in
     let head = c.head-head.ensures.head in
@@ -16,7 +16,12 @@ returns g c =
     let count = subst (λ (n : ℕ). takes c.put-2.new.self (decimal n) c.put_decimal-2.new.out) (c.from.ensures ∙ c.file_count.ensures)
     c.put_decimal-2.ensures.text in
     let name = subst (λ (h : HeadFields). takes c.put_decimal-2.new.out (name_text h.ext) c.put_name.new.out) head c.put_name.ensures in
-    join _ _ _ _ _ c.put_indent.ensures
-    (join _ _ _ _ _ system
-    (join _ _ _ _ _ size
-    (join _ _ _ _ _ c.put-2.ensures (join _ _ _ _ _ count (join _ _ _ _ _ name c.put-3.ensures)))))
+    let sum = c.in_ok-put_volume_sum.ensures.ok in (
+      sum.0,
+      sum.1,
+      join _ _ _ _ _ c.put_indent.ensures
+          (join _ _ _ _ _ system
+          (join _ _ _ _ _ size
+          (join _ _ _ _ _ c.put-2.ensures
+          (join _ _ _ _ _ count (join _ _ _ _ _ name (join _ _ _ _ _ sum.2 c.put-3.ensures)))))),
+    )

@@ -1,24 +1,10 @@
-use Rattle.std.proofs.Common.{ℕ, List, [], map, subst, sym}
+use Rattle.std.proofs.Common.{ℕ, List, map, subst, sym}
 use Rattle.std.proofs.lemmas.List.{take_all}
 use Rattle.fv_file.specs.CellForms.{cell_form}
 use Rattle.fv_file.specs.declared.cell.Cell.{Cell}
-use Rattle.fv_file.specs.declared.cell.Cell.TheVariants as cells
-use Rattle.fv_file.specs.declared.state.FileState.TheVariants as states
 use Rattle.fv_command.specs.CheckTexts.{pad_note, pad_notes}
-use Rattle.fv_command.proofs.PadLemmas.{seen_next}
+use Rattle.fv_command.proofs.PadLemmas.{no_cell, seen_next}
 use Rattle.fv_command.proofs.pads.put_cells.Goals as goal
-
-abbrev no_cell : Cell
-no_cell = cells.Valid 0 (record {
-  name = record { bytes = [] };
-  kind = 0;
-  attributes = record { 0 = 0 };
-  size = 0;
-  header_len = 0;
-  header_sum = 0;
-  file_sum = 0;
-  state = states.Free;
-}) (record { ref_ptr = (0, 0); now = [] })
 
 pub loop-cell-init : goal.loop-cell-init
 loop-cell-init g c = g.S.Sink.laws.none c.args.out.now
