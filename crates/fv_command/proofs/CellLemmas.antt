@@ -1,5 +1,5 @@
 -- The cells of a volume fit into it, their bytes are counted one after the other, and why an input has none.
-use Rattle.std.proofs.Common.{◌≡◌, ◌∙◌, ◌<◌, ◌≤◌, ◌+◌, ◌^◌, ℕ, zero, suc, List, [], ◌∷◌, ◌++◌, length, take, drop, get_or}
+use Rattle.std.proofs.Common.{◌≡◌, ◌∙◌, ◌<◌, ◌+◌, ◌^◌, ℕ, zero, suc, List, [], ◌∷◌, ◌++◌, length, take, drop, get_or}
 use Rattle.std.proofs.Common.{refl, sym, ap, subst, arith, length-append, length-drop, inl, inr}
 use Rattle.std.specs.Prelude.{◌⊎◌, ◌≢◌, map, slice_index, Result, Ok, Err}
 use Rattle.std.specs.List.{AllByRecursion, sum_by}

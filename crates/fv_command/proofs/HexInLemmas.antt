@@ -19,7 +19,8 @@ use Rattle.fv_command.specs.HexIn.{GivesText, IsLongText, IsNoText, TextStops, T
 use Rattle.fv_command.specs.inner.HexDecoding.{RefusedFor, RefusesText}
 use Rattle.fv_command.specs.inner.HexDecoding.{IsSpoilt}
 use Rattle.fv_command.specs.HexPairs.{DigitsSpell, squeezed}
-use Rattle.fv_command.proofs.HexDigitLemmas.{odd_reads_nothing, reads_count, reads_joined, spoilt_behind, spoilt_more, squeezed_more}
+use Rattle.fv_command.proofs.HexDigitLemmas.{odd_reads_nothing, reads_count, reads_joined, spoilt_behind, spoilt_more}
+use Rattle.fv_command.proofs.WhiteSpaceLemmas.{squeezed_more}
 
 -- the digits of a text and of the next piece: those that are read, those of the pairs now, and what waits
 joins : (before text waiting all digits kept front : List ℕ) → squeezed before ≡ front ++ waiting → all ≡ waiting ++ squeezed text

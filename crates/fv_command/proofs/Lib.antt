@@ -12,4 +12,5 @@ pub mod PartLemmas
 pub mod RunLemmas
 pub mod ScanLemmas
 pub mod StandingLemmas
+pub mod WhiteSpaceLemmas
 pub mod WriteLemmas

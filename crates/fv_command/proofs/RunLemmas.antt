@@ -6,7 +6,7 @@ use Rattle.fv_base.specs.Output.{WriteStops}
 use Rattle.fv_base.specs.declared.fault.Fault.{Fault}
 use Rattle.fv_base.specs.declared.fault.FaultKind.TheVariants as kinds
 use Rattle.fv_tree.proofs.Laws.{want_known}
-use Rattle.fv_canon.specs.Comparisons.{ComparisonStops, VolumeStops}
+use Rattle.fv_canon.specs.Comparisons.{ComparisonStops}
 use Rattle.fv_canon.specs.declared.side.Side.{Side}
 use Rattle.fv_canon.specs.declared.side.Side.TheVariants as sides
 use Rattle.fv_base.specs.Limits.{depth_limit}

@@ -1,38 +1,13 @@
-//! Hexadecimal digits: found between white space, and decoded in pairs.
+//! Hexadecimal digits, decoded in pairs.
 
-ghost use Rattle.hex.specs.Hex.{hex_digit_value};
-ghost use Rattle.std.specs.Option.{option_to_list, unwrap_or};
-ghost use Rattle.std.specs.Prelude.{◌≡◌, ◌≤◌, ◌+◌, ◌/◌, ◌%◌, ◌++◌, ℕ, List, true, false, length, vec_len};
-ghost use Rattle.std.specs.Prelude.{IfOk, OnOk, MatchOption};
-ghost use Rattle.fv_command.specs.inner.HexDecoding.{IsNoPair, IsSpoilt};
-ghost use Rattle.fv_command.specs.HexPairs.{IsPair, DigitsSpell, is_space, squeezed};
+ghost use Rattle.std.specs.Option.{option_to_list};
+ghost use Rattle.std.specs.List.{All};
+ghost use Rattle.std.specs.Prelude.{◌≡◌, ◌≤◌, ◌+◌, ◌/◌, ◌%◌, ◌++◌, ℕ, List, true, false, length, map, take, vec_len};
+ghost use Rattle.std.specs.Prelude.{IfOk, OnOk};
+ghost use Rattle.fv_command.specs.inner.HexDecoding.{IsNibble, IsSpoilt, joined_pairs, value_or_16};
+ghost use Rattle.fv_command.specs.HexPairs.{DigitsSpell};
 
 use std::alloc::AllocError;
-
-// Whether a byte is a tab, a line feed, a carriage return or a space.
-fn is_space(byte: u8) -> bool
-    ensures { result ≡ is_space byte }
-{
-    byte == b'\t' || byte == b'\n' || byte == b'\r' || byte == b' '
-}
-
-/// Appends the text to the digits, without its white space.
-///
-/// # Errors
-///
-/// AllocError if memory runs out.
-pub fn squeeze(text: &[u8], digits: &mut Vec<u8>) -> Result<(), AllocError>
-    ensures { OnOk result (digits.new.items ≡ digits.old.items ++ squeezed text.now) }
-{
-    let mut start = 0;
-    for at in 0..text.len() {
-        if is_space(text[at]) {
-            digits.extend_from_slice(&text[start..at])?;
-            start = at + 1;
-        }
-    }
-    digits.extend_from_slice(&text[start..])
-}
 
 /// Takes the last digit off if their number is odd.
 pub fn take_odd(digits: &mut Vec<u8>) -> Option<u8>
@@ -50,7 +25,7 @@ pub fn take_odd(digits: &mut Vec<u8>) -> Option<u8>
 // The value of a digit, in upper or lower case, or 16 if the byte is no digit. It has no branch
 // that random digits would mispredict.
 fn digit_value(byte: u8) -> u8
-    ensures { result ≡ unwrap_or (hex_digit_value byte) 16 }
+    ensures { result ≡ value_or_16 byte }
 {
     let mut value = 16;
     if b'0' <= byte && byte <= b'9' {
@@ -65,37 +40,54 @@ fn digit_value(byte: u8) -> u8
     value
 }
 
-// The byte of two digits, the high one first, or None if one of them is no digit.
-fn pair_value(high_digit: u8, low_digit: u8) -> Option<u8>
-    ensures { MatchOption result (IsNoPair high_digit low_digit) (IsPair high_digit low_digit) }
+// Replaces each digit by its value, and returns whether all of them are digits.
+fn take_values(digits: &mut [u8]) -> bool
+    ensures values { digits.new ≡ map value_or_16 digits.old }
+    ensures right { result ≡ true → All IsNibble digits.new }
+    ensures wrong { result ≡ false → IsSpoilt digits.old }
 {
-    let high = digit_value(high_digit);
-    let low = digit_value(low_digit);
-    if high < 16 && low < 16 {
-        Some(high * 16 + low)
-    } else {
-        None
+    let mut most = 0;
+    for i in 0..digits.len() {
+        let value = digit_value(digits[i]);
+        most = value.max(most);
+        digits[i] = value;
+    }
+    most < 16
+}
+
+// Puts the bytes of pairs of values at a place of the room, up to its end. The high value of a pair
+// is the first.
+fn join_pairs(values: &[u8], room: &mut [u8], start: usize)
+    requires even { length values.now % 2 ≡ 0 }
+    requires small { All IsNibble values.now }
+    requires fits { start + length values.now / 2 ≡ length room.old }
+    ensures { room.new ≡ take start room.old ++ joined_pairs values.now }
+{
+    let (pairs, _) = values.as_chunks::<2>();
+    for i in 0..values.len() / 2 {
+        let pair = pairs[i];
+        room[start + i] = pair[0] * 16 + pair[1];
     }
 }
 
-/// Appends the bytes of pairs of digits, up to a pair that is not of digits: then false is
-/// returned.
+/// Appends the bytes of pairs of digits, unless one of the pairs is not of digits: then false is
+/// returned, and nothing is appended. The digits are replaced by their values.
 ///
 /// # Errors
 ///
 /// AllocError if memory runs out.
-pub fn push_pairs(digits: &[u8], bytes: &mut Vec<u8>) -> Result<bool, AllocError>
-    requires even { length digits.now % 2 ≡ 0 }
-    ensures read { IfOk result (λ all. all ≡ true → (more : List ℕ) × DigitsSpell digits.now more
+pub fn push_pairs(digits: &mut [u8], bytes: &mut Vec<u8>) -> Result<bool, AllocError>
+    requires even { length digits.old % 2 ≡ 0 }
+    ensures read { IfOk result (λ all. all ≡ true → (more : List ℕ) × DigitsSpell digits.old more
         × (bytes.new.items ≡ bytes.old.items ++ more)) }
-    ensures wrong { IfOk result (λ all. all ≡ false → IsSpoilt digits.now) }
-    ensures room { OnOk result (vec_len bytes.new ≤ vec_len bytes.old + length digits.now / 2) }
+    ensures wrong { IfOk result (λ all. all ≡ false → IsSpoilt digits.old) }
+    ensures room { OnOk result (vec_len bytes.new ≤ vec_len bytes.old + length digits.old / 2) }
 {
-    for i in 0..digits.len() / 2 {
-        let Some(byte) = pair_value(digits[2 * i], digits[2 * i + 1]) else {
-            return Ok(false);
-        };
-        bytes.push(byte)?;
+    if !take_values(digits) {
+        return Ok(false);
     }
+    let start = bytes.len();
+    bytes.resize(start + digits.len() / 2, 0)?;
+    join_pairs(digits, bytes, start);
     Ok(true)
 }

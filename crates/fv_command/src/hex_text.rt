@@ -8,7 +8,8 @@ ghost use Rattle.fv_command.specs.inner.HexDecoding.{Decodes, DecodesPairs, Read
 ghost use Rattle.fv_command.specs.HexIn.{SpellsWhole, TextStops};
 ghost use Rattle.fv_command.specs.HexPairs.{DigitsSpell, squeezed};
 
-use crate::hex_digits::{push_pairs, squeeze, take_odd};
+use crate::hex_digits::{push_pairs, take_odd};
+use crate::white_space::squeeze;
 use fv_base::limits::{READ_LIMIT, TEXT_LIMIT, TEXT_TURNS, VOLUME_LIMIT};
 use fv_base::{Fault, FaultKind, Port};
 use std::alloc::{AllocError, Global};
@@ -60,7 +61,7 @@ impl Decoder {
             self.is_long = true;
             self.bytes.clear();
         }
-        self.is_wrong = !push_pairs(&self.digits, &mut self.bytes)?;
+        self.is_wrong = !push_pairs(&mut self.digits, &mut self.bytes)?;
         self.digits.clear();
         Ok(())
     }

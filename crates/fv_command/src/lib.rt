@@ -33,6 +33,7 @@ mod sums;
 mod task_run;
 #[cfg(test)]
 mod tests;
+mod white_space;
 mod whole_write;
 
 pub use extracting::Part;

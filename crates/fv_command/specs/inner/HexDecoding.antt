@@ -1,6 +1,8 @@
 -- The decoding of hexadecimal text, piece after piece.
-use Rattle.std.specs.Prelude.{◌≡◌, ℕ, Bool, List, [], ◌++◌, ◌<◌, ◌≤◌, true, false, Option, take, length}
-use Rattle.fv_command.specs.HexPairs.{squeezed, IsPair, DigitsSpell}
+use Rattle.std.specs.Prelude.{◌≡◌, ℕ, ◌+◌, ◌*◌, Bool, List, [], ◌∷◌, ◌++◌, ◌<◌, ◌≤◌, true, false, Option, take, length}
+use Rattle.std.specs.Option.{unwrap_or}
+use Rattle.hex.specs.Hex.{hex_digit_value}
+use Rattle.fv_command.specs.HexPairs.{squeezed, DigitsSpell}
 use Rattle.std.specs.Io.KnownBytes.{Consumes, IsAtEnd, Keeps}
 use Rattle.fv_base.specs.declared.fault.Fault.{Fault}
 use Rattle.fv_base.specs.declared.fault.FaultKind.{FaultKind}
@@ -11,9 +13,19 @@ use Rattle.fv_command.specs.declared.hex_text.Piece.{Piece}
 use Rattle.fv_command.specs.declared.hex_text.Piece.TheVariants as pieces
 use Rattle.fv_command.specs.HexIn.{IsNoText, IsLongText}
 
--- two characters are no byte: at least one of them is no digit
-abbrev pub IsNoPair : ℕ → ℕ → Type 0
-IsNoPair h l = (byte : ℕ) → IsPair h l byte → ⊥
+-- the value of a digit, in upper or lower case; 16 of what is no digit
+abbrev pub value_or_16 : ℕ → ℕ
+value_or_16 d = unwrap_or (hex_digit_value d) 16
+
+-- the value of a digit
+abbrev pub IsNibble : ℕ → Type 0
+IsNibble v = v < 16
+
+-- the bytes of pairs of values, the high one first
+abbrev pub joined_pairs : List ℕ → List ℕ
+joined_pairs [] = []
+joined_pairs (h ∷ []) = []
+joined_pairs (h ∷ l ∷ vs) = (h * 16 + l) ∷ joined_pairs vs
 
 -- characters that spell no bytes, whatever follows them
 abbrev pub IsSpoilt : List ℕ → Type 0

@@ -1,19 +1,20 @@
-use Rattle.std.proofs.Common.{rules, arith, ◌∷◌, ◌++◌, [], append_assoc, ap, ◌∙◌, List, ℕ}
-use Rattle.fv_command.proofs.HexDigitLemmas.{pair_more, spoilt_at}
+use Rattle.std.proofs.Common.{arith, refl, ap, ap₂, ◌∙◌, ◌+◌, ◌/◌, ◌++◌, List, ℕ, length, subst, map}
+use Rattle.std.specs.List.{All}
+use Rattle.fv_command.specs.inner.HexDecoding.{IsNibble, joined_pairs, value_or_16}
+use Rattle.fv_command.proofs.HexDigitLemmas.{joined_spell, kept_front, whole_room}
 use Rattle.fv_command.proofs.hex_digits.push_pairs.Goals as goal
 
-pub loop-i-preserved : goal.loop-i-preserved
-loop-i-preserved c =
-    let (more, reads, so_far) = c.loop-i.invariant.1 in (
-      omega (arith, c.loop-i.invariant.0, c.in_ok-push.ensures.len),
-      (
-        more ++ c.in-Some.byte ∷ [],
-        pair_more c.args.digits.now more c.loop-i.i c.in-Some.byte _ _ (search rules) reads c.in-Some.ensures,
-        c.in_ok-push.ensures.items ∙ ap (λ (l : List ℕ). l ++ c.in-Some.byte ∷ []) so_far ∙ append_assoc _ more (c.in-Some.byte ∷ []),
-      ),
+pub returns-clause-read : goal.returns-clause-read
+returns-clause-read c = λ _.
+    let values = c.if-not-take_values.ensures.values in
+    let long = ap length c.deref_mut.ensures.value in (
+      joined_pairs (map value_or_16 c.args.digits.now),
+      joined_spell c.args.digits.now c.requires.even (subst (All IsNibble) values (c.if-not-take_values.ensures.right refl)),
+      whole_room c.resize.new.self.items c.join_pairs.new.room c.resize.new.self.len
+          (omega (arith, c.resize.new.self.ok.0)) (omega (arith, c.join_pairs.auto.room, long))
+          ∙ c.join_pairs.ensures
+          ∙ ap₂ (λ (l k : List ℕ). l ++ k)
+          (kept_front c.args.bytes.now.items _ c.deref_mut.result.now c.len-start.result (c.len-start.result + length c.take_values.new.digits / 2)
+          (omega (arith, c.len-start.ensures, c.args.bytes.now.ok.0)) (omega arith) (c.deref_mut.ensures.value ∙ c.in_ok-resize.ensures.items))
+          (ap joined_pairs values),
     )
-
-pub returns-in_default-clause-wrong : goal.returns-in_default-clause-wrong
-returns-in_default-clause-wrong c = λ _.
-    let (more, reads, so_far) = c.loop-i.invariant.1 in
-    spoilt_at c.args.digits.now more c.loop-i.i _ _ (search rules) reads c.in_default.ensures

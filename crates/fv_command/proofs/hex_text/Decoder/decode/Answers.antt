@@ -13,5 +13,5 @@ returns-clause-read c =
       )
       | else-len w ↦ rw w.self-is (refl, inl (refl, refl))
     ] in
-    pairs_decoded c.args.self.now c.if-len.self _ c.deref.result.now c.in_ok-self.field-0 room (search rules)
+    pairs_decoded c.args.self.now c.if-len.self _ c.deref_mut.result.now c.in_ok-self.field-0 room (search rules)
     c.in_ok-self.ensures.read c.in_ok-self.ensures.wrong refl refl

@@ -1,6 +1,6 @@
 use Rattle.std.proofs.Common.{arith, ap, ◌∙◌, ◌++◌, ◌∷◌, [], List, ℕ, length, length-append}
 use Rattle.fv_command.specs.HexPairs.{squeezed}
-use Rattle.fv_command.proofs.HexDigitLemmas.{squeezed_short}
+use Rattle.fv_command.proofs.WhiteSpaceLemmas.{squeezed_short}
 use Rattle.fv_command.proofs.HexInLemmas.{stays_wrong, taken, taken_wrong}
 use Rattle.fv_command.proofs.hex_text.Decoder.take.Goals as goal
 
