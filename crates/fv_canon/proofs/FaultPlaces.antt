@@ -1,5 +1,5 @@
 -- The fault of an input stands within it, or at its end.
-use Rattle.std.proofs.Common.{◌≡◌, ◌≤◌, ℕ, List, length, subst, sym, arith, inl, inr}
+use Rattle.std.proofs.Common.{◌≤◌, ℕ, List, length, subst, sym, arith, inl, inr}
 use Rattle.fv_base.specs.declared.fault.Fault.{Fault}
 use Rattle.fv_tree.proofs.Laws.{first_within}
 use Rattle.fv_canon.specs.Refusals.{Refuses, IsFirstOfInput}

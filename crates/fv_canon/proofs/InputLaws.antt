@@ -1,6 +1,6 @@
 -- The laws of inputs that are refused.
 use Rattle.std.proofs.Common.{◌≡◌, ◌≢◌, ◌≤◌, ◌<◌, ℕ, List, length, take, refl, sym, ap, ◌∙◌, subst, arith, inl, inr, ◌⊎◌, true, false}
-use Rattle.std.specs.Prelude.{◌==◌, Bool, Result, Ok, Err, IfErr, IsErrAnd}
+use Rattle.std.specs.Prelude.{◌==◌, Result, Ok, Err, IfErr, IsErrAnd}
 use Rattle.std.proofs.lemmas.List.{take_all}
 use Rattle.std.proofs.lemmas.Bool.{eqb-true, eq-eqb}
 use Rattle.fv_base.specs.Faults.{outer_fault, out_of_memory}

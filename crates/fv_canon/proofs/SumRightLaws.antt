@@ -19,12 +19,11 @@ use Rattle.fv_head.specs.ExtImage.{IfRead, canonical_end, first_edge, ext_len, e
 use Rattle.fv_head.specs.Head.{HeadFields, BeginsVolume, extent_of, header_len_of}
 use Rattle.fv_head.specs.HeadImage.{canonical_head}
 use Rattle.fv_head.proofs.Laws.{ext_again, ext_len_most, length-canonical}
-use Rattle.fv_tree.specs.Denotes.{IsMeaning, MeansSection, Stream}
-use Rattle.fv_tree.specs.Meaning.{Meaning, Volume}
+use Rattle.fv_tree.specs.Denotes.{MeansSection, Stream}
+use Rattle.fv_tree.specs.Meaning.{Volume}
 use Rattle.fv_canon.specs.Headline.{CellSums, SumsAreRight}
-use Rattle.fv_canon.specs.Image.{IsImage}
 use Rattle.fv_canon.specs.StoredFiles.{ext_pad, used_size}
-use Rattle.fv_canon.specs.inner.StoredWalks.{files_bytes, volume_bytes}
+use Rattle.fv_canon.specs.inner.StoredWalks.{files_bytes}
 use Rattle.fv_canon.proofs.CellLaws.{bytes_pad_head, length-pad_head}
 use Rattle.fv_canon.proofs.PlacedBytesLaws.{first_is, volume_shows}
 use Rattle.fv_canon.proofs.StoredTilingLaws.{PadFixed, body_tiles}

@@ -39,8 +39,7 @@ use Rattle.fv_canon.specs.PlacedBytes.{ShowsPlaced}
 use Rattle.fv_canon.specs.StoredFiles.{StoredFile, size_for, head_len_for, ext_pad, placed_in_volume, used_size}
 use Rattle.fv_canon.specs.inner.StoredWalks.{stored_item, files_bytes, volume_bytes}
 use Rattle.fv_canon.proofs.CurrentLaws.{names_in, names_of, NamesApart, current_apart, all_current, forms_unmarked, no_twins, TopLast}
-use Rattle.fv_canon.proofs.CurrentLaws.{top_last}
-use Rattle.fv_canon.proofs.CurrentLaws.{forms_top, form_names}
+use Rattle.fv_canon.proofs.CurrentLaws.{top_last, forms_top, form_names}
 use Rattle.fv_canon.proofs.CellLaws.{Storable, stored_head, length-pad_head}
 use Rattle.fv_canon.proofs.ReadLaws.{FileIsAccepted, body_read, current_read}
 use Rattle.fv_canon.proofs.PlacedBytesLaws.{Writable, first_is, volume_shows, length-ext_pad}

@@ -1,14 +1,11 @@
 -- The line of a comparison.
 use Rattle.std.specs.Prelude.{List, [], ◌∷◌, ◌++◌, ℕ, codes, decimal, Some, None}
+use Rattle.fv_text.specs.Characters.{line_feed}
 use Rattle.fv_tree.specs.Difference.{Differs}
 use Rattle.fv_tree.specs.declared.difference.Step.{Step}
 use Rattle.fv_tree.specs.declared.difference.Step.TheVariants as steps
 use Rattle.fv_tree.specs.declared.difference.Word.{Word}
 use Rattle.fv_tree.specs.declared.difference.Word.TheVariants as words
-
--- a line feed
-abbrev pub line_feed : List ℕ
-line_feed = 10 ∷ []
 
 -- a step, followed by a space
 abbrev pub step_text : Step → List ℕ

@@ -4,17 +4,8 @@ ghost use Rattle.std.specs.Prelude.{◌≤◌, ◌+◌, ◌*◌, ◌≡◌, deci
 ghost use Rattle.fv_canon.specs.ComparisonLines.{compare_line, path_text, step_text, difference_word};
 
 use fv_base::Sink;
+use fv_text::put_decimal;
 use fv_tree::{Difference, Step, Word};
-use itoa::Buffer;
-
-/// Puts a number in decimal digits, at most 20 of them. Takes no memory.
-pub fn put_decimal<S: Sink>(out: &mut S, number: u64)
-    ensures text { S.takes out.old (decimal number) out.new }
-    ensures short { length (decimal number) ≤ 20 }
-{
-    let mut buffer = Buffer::new();
-    out.put(buffer.format(number).as_bytes());
-}
 
 // Puts a step: whether it goes to a file or to a section, its number, and a space.
 fn put_step<S: Sink>(out: &mut S, step: Step)

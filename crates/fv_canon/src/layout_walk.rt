@@ -4,8 +4,7 @@ ghost use Rattle.std.specs.Prelude.{◌≡◌, ◌≤◌, ◌⊎◌, ◌+◌, �
 ghost use Rattle.fv_base.specs.Faults.{out_of_memory};
 ghost use Rattle.fv_head.specs.ExtImage.{first_edge};
 ghost use Rattle.fv_canon.specs.inner.Depths.{NestsVolume, NestsFiles, NestsContent, NestsSections, NestsBody};
-ghost use Rattle.fv_canon.specs.Layouts.{layout_fault, layout_item, layout_items, AreStarts, Laid};
-ghost use Rattle.fv_canon.specs.Layouts.{LaysVolume};
+ghost use Rattle.fv_canon.specs.Layouts.{layout_fault, layout_item, layout_items, AreStarts, Laid, LaysVolume};
 ghost use Rattle.fv_canon.specs.Layouts.{AllFit, Fits, FirstUnfit, Unfit};
 ghost use Rattle.fv_canon.specs.Volumes.{volumes_in, volumes_in_files, volumes_in_content, volumes_in_sections};
 ghost use Rattle.fv_canon.specs.Volumes.{volumes_in_body};

@@ -24,7 +24,6 @@ mod summing_sink;
 pub use canonical_image::{canonical, put_canonical, write_canonical};
 pub use canonical_input::{is_canonical, is_canonical_image};
 pub use compare::{run_compare, write_comparison};
-pub use comparison_line::put_decimal;
 pub use flash_image::normalise_image;
 pub use known_layout::Layout;
 pub use layout_walk::layout;

@@ -1,11 +1,9 @@
 -- The texts of some items, one behind the other, and the text of a check.
-use Rattle.std.proofs.Common.{◌≡◌, ◌∙◌, ◌<◌, ◌+◌, ℕ, List, [], ◌∷◌, ◌++◌, length, take, get_or}
-use Rattle.std.proofs.Common.{refl, sym, ap, subst, append-nil, cond, arith, Bool, true}
+use Rattle.std.proofs.Common.{◌≡◌, ◌∙◌, ◌+◌, ℕ, List, [], ◌∷◌, ◌++◌}
+use Rattle.std.proofs.Common.{refl, sym, ap, subst, cond, arith, Bool, true}
 use Rattle.std.specs.Prelude.{◌↔◌, ◌==◌, not, Option, Some, None}
-use Rattle.std.specs.List.{AllByRecursion, flat_map}
+use Rattle.std.specs.List.{AllByRecursion}
 use Rattle.std.proofs.lemmas.Bool.Decides.{Decides-eqb}
-use Rattle.std.proofs.lemmas.Grind.{flat_map-append}
-use Rattle.std.proofs.lemmas.List.{take_more}
 use Rattle.std.proofs.lemmas.List.Sums.{sum_by-cons}
 use Rattle.fv_base.specs.Flash.{AllAre, erased_byte}
 use Rattle.fv_base.specs.declared.flash.Polarity.{Polarity}
@@ -17,18 +15,9 @@ use Rattle.fv_base.specs.Limits.{depth_limit}
 use Rattle.fv_tree.specs.Denotes.{Accepted}
 use Rattle.fv_tree.specs.Meaning.{Meaning, files_of}
 use Rattle.fv_command.specs.inner.CheckRuns.{NotedCells, noted_lines}
-use Rattle.fv_command.specs.CheckTexts.{AreNotes, CheckText, depex_lines, depexes_in, pad_line, pad_notes, verdict_line, written_in}
-use Rattle.fv_command.specs.declared.depex_notes.DepexNote.{DepexNote}
-
--- ---- a walk over a list
-
-pub flat_next : {X A : Type 0} (f : X → List A) (xs : List X) (x : X) → flat_map f (xs ++ x ∷ []) ≡ flat_map f xs ++ f x
-flat_next f xs x = flat_map-append f xs (x ∷ []) ∙ ap (λ l. flat_map f xs ++ l) (append-nil (f x))
-
--- the texts of one item more
-pub texts_next : {X A : Type 0} (f : X → List A) (xs : List X) (i : ℕ) (d : X) → i < length xs
-    → flat_map f (take (i + 1) xs) ≡ flat_map f (take i xs) ++ f (get_or xs i d)
-texts_next f xs i d l = ap (flat_map f) (take_more xs i d l) ∙ flat_next f (take i xs) (get_or xs i d)
+use Rattle.fv_command.specs.CheckTexts.{CheckText, verdict_line}
+use Rattle.fv_lines.specs.Notes.{AreNotes, depex_lines, depexes_in, pad_line, pad_notes, written_in}
+use Rattle.fv_lines.specs.declared.depex_walk.DepexNote.{DepexNote}
 
 -- ---- pads that are erased
 

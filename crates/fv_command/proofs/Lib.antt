@@ -1,16 +1,6 @@
-pub mod CellLemmas
 pub mod CheckLemmas
-pub mod DepexNoteLemmas
-pub mod HexDigitLemmas
-pub mod HexInLemmas
-pub mod HexTextLemmas
-pub mod HobLemmas
 pub mod InputLemmas
 pub mod ListLemmas
 pub mod PadLemmas
 pub mod PartLemmas
 pub mod RunLemmas
-pub mod ScanLemmas
-pub mod StandingLemmas
-pub mod WhiteSpaceLemmas
-pub mod WriteLemmas

@@ -11,7 +11,7 @@ use Rattle.fv_tree.specs.Meaning.{Leaf, Group, Nested}
 use Rattle.fv_tree.specs.Meaning.{files_from, sections_from, content_of, section_kind_of, body_of, leaf_of}
 use Rattle.fv_command.specs.ListTexts.{unit_text, volume_text, file_text, section_text, LeafText, BodyShown, FileSum, VolumeSum}
 use Rattle.fv_command.specs.ListTexts.{VolumeLines, FilesLines, FileLines, ContentLines, SectionsLines, SectionLines, BodyLines}
-use Rattle.fv_command.proofs.WriteLemmas.{Tells, tells_more}
+use Rattle.fv_text.proofs.Laws.{Tells, tells_more}
 
 -- ---- units
 

@@ -14,19 +14,19 @@ use Rattle.fv_tree.specs.Denotes.{Accepted, Denotes}
 use Rattle.fv_tree.specs.FirstFault.{IsFirstOfVolume}
 use Rattle.fv_tree.specs.Meaning.{Meaning, files_of}
 use Rattle.fv_tree.specs.FileNames.{file_named}
-use Rattle.fv_command.specs.inner.CellRuns.{CellsStop}
+use Rattle.fv_lines.specs.CellTexts.{CellsStop}
 use Rattle.fv_command.specs.inner.CheckRuns.{CheckStops}
 use Rattle.fv_command.specs.inner.ImageTexts.{StopsImage}
 use Rattle.fv_command.specs.inner.SumRuns.{SumsStop}
 use Rattle.fv_command.specs.Inputs.{Gives, GivesAt, TakenAt, BeginsNone, BeginsWith}
-use Rattle.fv_command.specs.PortViews.{Change, Shown, WritingStops}
+use Rattle.fv_text.specs.PortViews.{Change, Shown, WritingStops}
 use Rattle.fv_command.specs.Extractions.{StopsPart}
 use Rattle.fv_command.specs.SideRuns.{GivesVolume, SideStops, VolumeInputStops}
 use Rattle.fv_command.specs.TaskRuns.{SaysInput, StopsInput}
 use Rattle.fv_command.specs.inner.TaskSteps.{Performs}
-use Rattle.fv_command.specs.declared.extracting.Part.{Part}
-use Rattle.fv_command.specs.declared.plan.Task.{Task}
-use Rattle.fv_command.specs.declared.plan.Task.TheVariants.{Normalise, ListSums, Extract, Check, Cells}
+use Rattle.fv_plan.specs.declared.plan.Part.{Part}
+use Rattle.fv_plan.specs.declared.plan.Task.{Task}
+use Rattle.fv_plan.specs.declared.plan.Task.TheVariants.{Normalise, ListSums, Extract, Check, Cells}
 use Rattle.fv_command.specs.declared.status.Status.{Status}
 use Rattle.fv_command.specs.declared.status.Status.TheVariants.{Done, Different}
 

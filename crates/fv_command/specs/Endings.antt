@@ -1,6 +1,6 @@
 -- The end of a run: what is left in the buffer of its output is written.
 use Rattle.std.specs.Prelude.{◌≡◌, ◌⊎◌, ℕ, Bool, List, if◌then◌else◌}
-use Rattle.fv_command.specs.PortViews.{Shown, StopsIn, Writes}
+use Rattle.fv_text.specs.PortViews.{Shown, StopsIn, Writes}
 use Rattle.fv_command.specs.declared.status.Status.{Status}
 use Rattle.fv_command.specs.declared.status.Status.TheVariants.{Refused}
 

@@ -10,7 +10,7 @@ use Rattle.fv_tree.specs.Meaning.{FileMeaning, SectionMeaning, SectionMeanings, 
 use Rattle.fv_tree.specs.Meaning.{file_kind_of}
 use Rattle.fv_command.specs.declared.extracting.Extraction.{Extraction}
 use Rattle.fv_command.specs.declared.extracting.Extraction.TheVariants.{Made, Stored, NotFound, NotSectioned}
-use Rattle.fv_command.specs.declared.extracting.Part.{Part}
+use Rattle.fv_plan.specs.declared.plan.Part.{Part}
 
 -- the body of this section, as the image has it; or there is none
 abbrev pub IsSectionPart : Option SectionMeaning → Extraction → Type 0

@@ -5,10 +5,10 @@ use Rattle.fv_hob.specs.HobChecks.{IsFirstHobFault, hob_fault_number, hob_out_of
 use Rattle.fv_hob.specs.Hobs.{HobForm}
 use Rattle.fv_hob.specs.Lists.{IsHobList}
 use Rattle.fv_hob.specs.declared.fault.HobFault.{HobFault}
-use Rattle.fv_command.specs.HobLines.{HobsText, image_form}
+use Rattle.fv_lines.specs.HobLines.{HobsText, image_form}
 use Rattle.fv_command.specs.Inputs.{Gives, GivingStops, TellsStop}
 use Rattle.fv_command.specs.Lines.{hob_fault_line}
-use Rattle.fv_command.specs.PortViews.{Change, Ports, Writes, WritesOrStops, WritingStops}
+use Rattle.fv_text.specs.PortViews.{Change, Ports, Writes, WritesOrStops, WritingStops}
 use Rattle.fv_command.specs.declared.status.Status.{Status}
 use Rattle.fv_command.specs.declared.status.Status.TheVariants.{Done, Refused}
 

@@ -9,9 +9,9 @@ use Rattle.fv_head.specs.declared.extent.Extent.{Extent}
 use Rattle.fv_tree.specs.Denotes.{Accepted}
 use Rattle.fv_tree.specs.FirstFault.{IsFirstOfVolume}
 use Rattle.fv_tree.specs.Meaning.{Meaning}
-use Rattle.fv_command.specs.HexIn.{SpellsWhole, TextStops}
+use Rattle.fv_text.specs.HexIn.{SpellsWhole, TextStops}
 use Rattle.fv_command.specs.Lines.{TellsFault, fault_line}
-use Rattle.fv_command.specs.PortViews.{Change, Shown}
+use Rattle.fv_text.specs.PortViews.{Change, Shown}
 
 -- an input was read to its end: as bytes, or as hexadecimal text that spells them
 abbrev pub Gives : Bool → Shown → Shown → List ℕ → Type 0

@@ -1,24 +1,15 @@
 -- The definitions in the order in which they can be read.
 pub mod CheckTexts
 pub mod Extractions
-pub mod Files
-pub mod HexPairs
-pub mod HexIn
-pub mod HexText
 pub mod Outputs
-pub mod Plans
-pub mod PortViews
 pub mod Endings
 pub mod Lines
 pub mod Inputs
 pub mod SideRuns
 pub mod Sources
 pub mod Statuses
-pub mod VolumeStandings
-pub mod HobLines
 pub mod HobRuns
 pub mod ListTexts
-pub mod CellTexts
 pub mod Tasks
 pub mod TaskRuns
 pub mod Runs

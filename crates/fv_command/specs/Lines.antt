@@ -1,13 +1,12 @@
 -- The lines that the program writes.
-use Rattle.std.specs.Prelude.{◌≡◌, ◌≢◌, ℕ, List, [], ◌∷◌, ◌++◌, codes, decimal}
+use Rattle.std.specs.Prelude.{◌≡◌, ◌≢◌, ℕ, List, [], ◌++◌, codes, decimal}
 use Rattle.fv_base.specs.Faults.{fault_number}
 use Rattle.fv_base.specs.declared.fault.Fault.{Fault}
 use Rattle.fv_base.specs.declared.fault.FaultKind.TheVariants as kinds
-use Rattle.fv_canon.specs.ComparisonLines.{line_feed}
+use Rattle.fv_text.specs.Characters.{line_feed}
 use Rattle.fv_canon.specs.declared.side.Side.{Side}
 use Rattle.fv_canon.specs.declared.side.Side.TheVariants as sides
-use Rattle.fv_tree.specs.FoundVolumes.{VolumeAt}
-use Rattle.fv_command.specs.PortViews.{Shown, WritesOrStops}
+use Rattle.fv_text.specs.PortViews.{Shown, WritesOrStops}
 
 -- the line of a fault, that of a fault of a hand-off list, and that of a fault of one of two inputs
 abbrev pub fault_line : ℕ → ℕ → List ℕ
@@ -31,13 +30,3 @@ abbrev pub TellsSideFault : Side → Fault → Shown → Shown → Type 0
 TellsSideFault sides.Output fault old new = new ≡ old
 TellsSideFault side fault old new =
     WritesOrStops old new (side_fault_line side (fault_number fault.kind) fault.place.offset)
-
--- the line of a volume of n bytes that begins at an offset
-abbrev pub volume_line : ℕ → ℕ → List ℕ
-volume_line at n = codes "volume at " ++ (decimal at ++ (codes " length " ++ (decimal n ++ line_feed)))
-
--- the text of the volumes that begin at these offsets of b: a line for each, in order
-abbrev pub ScanText : List ℕ → List ℕ → List ℕ → Type 0
-ScanText b [] text = text ≡ []
-ScanText b (o ∷ os) text =
-    (n : ℕ) × (rest : List ℕ) × VolumeAt b o n × (text ≡ volume_line o n ++ rest) × ScanText b os rest

@@ -10,7 +10,7 @@ use Rattle.fv_base.specs.Sums.{words_of}
 use Rattle.fv_base.specs.declared.flash.FileSystem.{FileSystem}
 use Rattle.fv_base.specs.declared.flash.FileSystem.TheVariants.{Ffs2, Ffs3}
 use Rattle.fv_base.specs.declared.guid.Guid.{Guid}
-use Rattle.fv_canon.specs.ComparisonLines.{line_feed}
+use Rattle.fv_text.specs.Characters.{four_digits, line_feed, two_digits}
 use Rattle.fv_canon.specs.Image.{IsData, IsImage}
 use Rattle.fv_head.specs.Ext.{Extension}
 use Rattle.fv_section.specs.Texts.{IsText, IsVersion, IsFreeform}
@@ -19,7 +19,6 @@ use Rattle.fv_tree.specs.Meaning.{Plain, Sectioned, SectionMeanings, NoSections,
 use Rattle.fv_tree.specs.Meaning.{BodyMeaning, Leaf, Group, Nested}
 use Rattle.fv_tree.specs.Meaning.{head_of, files_of, file_name_of, file_kind_of, attributes_of, content_of, data_len_of}
 use Rattle.fv_tree.specs.Meaning.{section_kind_of, section_is_extended, body_of, body_len}
-use Rattle.fv_command.specs.HobLines.{four_digits}
 
 -- ---- what a leaf shows
 
@@ -69,10 +68,6 @@ BodyShown kind (Nested _) text = text ≡ []
 abbrev pub spaces : ℕ → List ℕ
 spaces zero = []
 spaces (suc k) = codes "  " ++ spaces k
-
--- a byte by two lower-case hexadecimal digits
-abbrev pub two_digits : ℕ → List ℕ
-two_digits n = encode_lower (n ∷ [])
 
 -- what a line shows of a digest: the SHA-256 of some bytes, in 64 lower-case hexadecimal digits
 abbrev pub sum_text : List ℕ → List ℕ

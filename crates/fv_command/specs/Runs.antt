@@ -1,13 +1,13 @@
 -- What a run of a plan does to its inputs and its output.
 use Rattle.std.specs.Prelude.{◌≡◌, Bool}
 use Rattle.fv_command.specs.HobRuns.{RunsHobs}
-use Rattle.fv_command.specs.Plans.{base_of}
-use Rattle.fv_command.specs.PortViews.{Ports}
+use Rattle.fv_plan.specs.Images.{base_of}
+use Rattle.fv_text.specs.PortViews.{Ports}
 use Rattle.fv_command.specs.SideRuns.{RunsComparison}
 use Rattle.fv_command.specs.TaskRuns.{RunsTask}
-use Rattle.fv_command.specs.declared.plan.Command.{Command}
-use Rattle.fv_command.specs.declared.plan.Command.TheVariants.{Single, Hobs, Compare}
-use Rattle.fv_command.specs.declared.plan.Plan.{Plan}
+use Rattle.fv_plan.specs.declared.plan.Command.{Command}
+use Rattle.fv_plan.specs.declared.plan.Command.TheVariants.{Single, Hobs, Compare}
+use Rattle.fv_plan.specs.declared.plan.Plan.{Plan}
 use Rattle.fv_command.specs.declared.status.Status.{Status}
 
 -- a run of a command, by its status: what was read of the first input and of the second, and what was written. A task

@@ -11,7 +11,7 @@ use Rattle.fv_tree.specs.Difference.{difference}
 use Rattle.fv_tree.specs.Meaning.{Meaning}
 use Rattle.fv_command.specs.Inputs.{GivesAt, GivingStops}
 use Rattle.fv_command.specs.Lines.{TellsSideFault}
-use Rattle.fv_command.specs.PortViews.{Change, Ports, Shown, WritingStops}
+use Rattle.fv_text.specs.PortViews.{Change, Ports, Shown, WritingStops}
 use Rattle.fv_command.specs.declared.status.Status.{Status}
 use Rattle.fv_command.specs.declared.status.Status.TheVariants.{Done, Different, Refused, WrongWords}
 

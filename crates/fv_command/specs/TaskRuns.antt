@@ -2,9 +2,9 @@
 use Rattle.std.specs.Prelude.{◌≡◌, ◌⊎◌, ℕ, Bool, List, Option}
 use Rattle.fv_base.specs.declared.fault.Fault.{Fault}
 use Rattle.fv_command.specs.Inputs.{GivesAt, GivingStops, TellsStop}
-use Rattle.fv_command.specs.PortViews.{Change, Shown, Writes, WritingStops}
+use Rattle.fv_text.specs.PortViews.{Change, Shown, Writes, WritingStops}
 use Rattle.fv_command.specs.Tasks.{Says, Denies}
-use Rattle.fv_command.specs.declared.plan.Task.{Task}
+use Rattle.fv_plan.specs.declared.plan.Task.{Task}
 use Rattle.fv_command.specs.declared.status.Status.{Status}
 use Rattle.fv_command.specs.declared.status.Status.TheVariants.{Done, Different, Refused, WrongWords}
 

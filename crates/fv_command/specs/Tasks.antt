@@ -9,20 +9,20 @@ use Rattle.fv_canon.specs.FlashImages.{NormalisesAll, RefusesAll}
 use Rattle.fv_tree.specs.FoundVolumes.{Found}
 use Rattle.fv_tree.specs.Meaning.{Meaning, files_of}
 use Rattle.fv_tree.specs.FileNames.{file_named}
-use Rattle.fv_command.specs.CellTexts.{CellsText, NotTiled}
+use Rattle.fv_lines.specs.CellTexts.{CellsText, NotTiled}
 use Rattle.fv_command.specs.CheckTexts.{CheckText}
-use Rattle.fv_command.specs.HexText.{ShowsBytes}
+use Rattle.fv_text.specs.HexText.{ShowsBytes}
 use Rattle.fv_command.specs.Inputs.{BeginsWith, BeginsNone}
-use Rattle.fv_command.specs.Lines.{ScanText}
+use Rattle.fv_lines.specs.ScanLines.{ScanText}
 use Rattle.fv_command.specs.ListTexts.{ListText, SumsText}
 use Rattle.fv_command.specs.Extractions.{IsPart, StopsPart}
 use Rattle.fv_command.specs.declared.status.Status.{Status}
 use Rattle.fv_command.specs.declared.status.Status.TheVariants.{Done, Different}
 use Rattle.fv_command.specs.declared.extracting.Extraction.{Extraction}
 use Rattle.fv_command.specs.declared.extracting.Extraction.TheVariants.{Made, Stored, NotFound, NotSectioned}
-use Rattle.fv_command.specs.declared.plan.Task.{Task}
-use Rattle.fv_command.specs.declared.plan.Task.TheVariants.{Normalise, NormaliseAll, List as Listing, ListSums, Extract, Check}
-use Rattle.fv_command.specs.declared.plan.Task.TheVariants.{Cells, Scan}
+use Rattle.fv_plan.specs.declared.plan.Task.{Task}
+use Rattle.fv_plan.specs.declared.plan.Task.TheVariants.{Normalise, NormaliseAll, List as Listing, ListSums, Extract, Check}
+use Rattle.fv_plan.specs.declared.plan.Task.TheVariants.{Cells, Scan}
 
 -- what is written of a part, and with which status: its bytes, or that there is no such part
 abbrev pub PartText : Bool → Extraction → Status → List ℕ → Type 0

@@ -2,13 +2,13 @@
 
 ghost use Rattle.std.specs.Prelude.{IfOk, IfErr};
 ghost use Rattle.fv_command.specs.inner.CheckRuns.{InputChecks, CheckStops};
-ghost use Rattle.fv_command.specs.PortViews.{shown};
+ghost use Rattle.fv_text.specs.PortViews.{shown};
 
 use crate::check_text::write_lines;
-use crate::depex_notes::depex_notes;
 use crate::pads::noted_cells;
 use fv_base::{Fault, Port};
 use fv_canon::{is_canonical_image, whole_volume};
+use fv_lines::depex_notes;
 use std::alloc::Global;
 use std::io::Write;
 

@@ -2,37 +2,14 @@
 
 ghost use Rattle.std.specs.Prelude.{option_copied, IfErr, OnOk};
 ghost use Rattle.fv_command.specs.inner.CheckRuns.{noted_lines};
-ghost use Rattle.fv_command.specs.CheckTexts.{depex_line, depex_lines, verdict_line};
-ghost use Rattle.fv_command.specs.PortViews.{Writes, WritingStops, shown};
+ghost use Rattle.fv_command.specs.CheckTexts.{verdict_line};
+ghost use Rattle.fv_text.specs.PortViews.{Writes, WritingStops, shown};
 
-use crate::depex_notes::DepexNote;
 use crate::pads::put_pads;
 use fv_base::{Fault, Polarity, Port, Sink, WriteSink};
-use fv_canon::put_decimal;
 use fv_file::Cells;
+use fv_lines::{DepexNote, put_depex_notes};
 use std::io::Write;
-
-// Puts the line of a dependency expression that is rejected.
-fn put_note<S: Sink>(out: &mut S, note: &DepexNote)
-    ensures { S.takes out.old (depex_line note.now) out.new }
-{
-    out.put(b"note depex in ");
-    out.put(&note.name.text());
-    out.put(b" fault ");
-    put_decimal(out, u64::from(note.number));
-    out.put(b" at ");
-    put_decimal(out, note.offset);
-    out.put(b"\n");
-}
-
-// Puts the lines of the dependency expressions that are rejected.
-fn put_notes<S: Sink>(out: &mut S, notes: &[DepexNote])
-    ensures { S.takes out.old (depex_lines notes.now) out.new }
-{
-    for note in notes {
-        put_note(out, note);
-    }
-}
 
 // Puts whether a volume is its own canonical image.
 fn put_verdict<S: Sink>(out: &mut S, is_same: bool)
@@ -55,7 +32,7 @@ fn put_check<S: Sink>(
     ensures { S.takes out.old (noted_lines (option_copied tiled.entry) notes.now is_same) out.new }
 {
     put_pads(out, tiled);
-    put_notes(out, notes);
+    put_depex_notes(out, notes);
     put_verdict(out, is_same);
 }
 

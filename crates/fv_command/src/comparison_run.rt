@@ -1,10 +1,10 @@
 //! Two volumes, compared.
 
-ghost use Rattle.std.specs.Prelude.{◌≡◌, ◌⊎◌, IfOk, IfErr};
+ghost use Rattle.std.specs.Prelude.{◌≡◌, IfOk, IfErr};
 ghost use Rattle.fv_canon.specs.Comparisons.{VolumeStops};
 ghost use Rattle.fv_tree.specs.Denotes.{Accepted};
 ghost use Rattle.fv_command.specs.Inputs.{Gives, GivingStops};
-ghost use Rattle.fv_command.specs.PortViews.{change, shown};
+ghost use Rattle.fv_text.specs.PortViews.{change, shown};
 ghost use Rattle.fv_command.specs.SideRuns.{ComparesRead, RunsComparison, SideStops};
 
 use crate::fault_text::refuse_side;

@@ -6,21 +6,11 @@ ghost use Rattle.fv_command.specs.Extractions.{IsPart, IsSectionOf, StopsFilePar
 ghost use Rattle.fv_tree.specs.Meaning.{files_of};
 ghost use Rattle.fv_tree.specs.FileNames.{file_named};
 
-use fv_base::{ByteList, Fault, Guid};
+use fv_base::{ByteList, Fault};
 use fv_canon::{body_bytes, file_bytes};
+use fv_plan::Part;
 use fv_tree::{FileView, Item, Lookup, VolumeView, file_by_name, section_by_type};
 use std::alloc::Global;
-
-/// What is to be extracted from a volume.
-#[derive(Clone, Copy, Debug, PartialEq, Eq)]
-pub struct Part {
-    /// The name of the file.
-    pub name: Guid,
-    /// The type of the section, or None for the data of the file.
-    pub section: Option<u8>,
-    /// Which of the sections of this type, counted from 1.
-    pub instance: u32,
-}
 
 /// The result of an extraction.
 #[derive(Drop)]

@@ -5,13 +5,13 @@ ghost use Rattle.std.specs.Prelude.{◌≡◌, ◌⊎◌, ◌++◌, IfErr, OnOk}
 ghost use Rattle.fv_base.specs.Faults.{fault_number};
 ghost use Rattle.fv_hob.specs.HobChecks.{hob_fault_number as hob_number_of};
 ghost use Rattle.fv_command.specs.Lines.{fault_line, hob_fault_line, TellsFault, TellsSideFault};
-ghost use Rattle.fv_command.specs.PortViews.{StopsIn, Writes, WritesOrStops, WritingStops, shown};
+ghost use Rattle.fv_text.specs.PortViews.{StopsIn, Writes, WritesOrStops, WritingStops, shown};
 
 use crate::status::Status;
-use crate::whole_write::write_bytes;
 use fv_base::{Fault, FaultKind, Port, Sink, WriteSink};
-use fv_canon::{Side, put_decimal};
+use fv_canon::Side;
 use fv_hob::HobFault;
+use fv_text::{put_decimal, write_bytes};
 use std::io::Write;
 
 // Puts the line of a fault, which begins with `words`.

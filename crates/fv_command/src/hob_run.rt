@@ -1,18 +1,17 @@
 //! A run over a hand-off list, and the image in which its volumes are looked for.
 
-ghost use Rattle.std.specs.Prelude.{◌≡◌, ℕ, List, IfOk, IfErr, OnOk};
+ghost use Rattle.std.specs.Prelude.{◌≡◌, IfOk, IfErr, OnOk};
 ghost use Rattle.fv_command.specs.HobRuns.{GivesImage, HobImageStops, ListsHobs, RunsHobs};
 ghost use Rattle.fv_command.specs.inner.HobRefusals.{RefusalStopsHobs};
-ghost use Rattle.fv_command.specs.inner.HobRefusals.{held_image};
-ghost use Rattle.fv_command.specs.HobLines.{image_form};
-ghost use Rattle.fv_command.specs.PortViews.{Writes, change, shown};
+ghost use Rattle.fv_lines.specs.HobLines.{held_image, image_form};
+ghost use Rattle.fv_text.specs.PortViews.{Writes, change, shown};
 
 use crate::fault_text::{refuse, refuse_hobs};
-use crate::hob_text::{MappedImage, write_hobs};
 use crate::inputs::read_bytes;
 use crate::status::Status;
 use fv_base::{Fault, Port};
 use fv_hob::{HobFault, read_hobs};
+use fv_lines::{MappedImage, write_hobs};
 use std::alloc::Global;
 use std::io::{Read, Write};
 

@@ -3,13 +3,13 @@
 ghost use Rattle.std.specs.Prelude.{ℕ, List, IfErr, OnOk};
 ghost use Rattle.fv_canon.specs.Image.{IsImage};
 ghost use Rattle.fv_canon.specs.LayoutForms.{IsLayout};
-ghost use Rattle.fv_command.specs.HexText.{IsHexText, ShowsBytes};
+ghost use Rattle.fv_text.specs.HexText.{IsHexText, ShowsBytes};
 ghost use Rattle.fv_command.specs.inner.ImageTexts.{ShowsImage, StopsImage};
-ghost use Rattle.fv_command.specs.PortViews.{Writes, WritingStops, shown};
+ghost use Rattle.fv_text.specs.PortViews.{Writes, WritingStops, shown};
 
-use crate::hex_lines::HexSink;
 use fv_base::{Fault, Port, Sink, WriteSink};
 use fv_canon::{Layout, layout, put_canonical, whole_volume};
+use fv_text::HexSink;
 use fv_tree::VolumeView;
 use std::alloc::Global;
 use std::io::Write;

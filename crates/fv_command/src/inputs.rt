@@ -2,11 +2,11 @@
 
 ghost use Rattle.std.specs.Prelude.{IfOk, IfErr};
 ghost use Rattle.fv_command.specs.Inputs.{Gives, GivingStops, TakenAt};
-ghost use Rattle.fv_command.specs.PortViews.{shown};
+ghost use Rattle.fv_text.specs.PortViews.{shown};
 
-use crate::hex_text::read_hex;
 use fv_base::{Fault, Port, read_input};
 use fv_head::verify_fv;
+use fv_text::read_hex;
 use std::alloc::Global;
 use std::io::Read;
 

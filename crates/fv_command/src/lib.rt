@@ -4,42 +4,29 @@
 //! `.._run` reads inputs, and writes these lines or the line of a fault.
 #![tactic(auto)]
 
-mod cell_run;
-mod cell_text;
 mod check_run;
 mod check_text;
 mod comparison_run;
-mod depex_notes;
 mod digest_sink;
 mod extracting;
 mod fault_text;
-mod hex_digits;
-mod hex_lines;
-mod hex_text;
 mod hob_run;
-mod hob_text;
 mod image_text;
 mod inputs;
 mod list_text;
 mod output;
 mod pads;
-mod plan;
 mod plan_run;
 mod run_end;
-mod scan_text;
 mod source;
 mod status;
 mod sums;
 mod task_run;
 #[cfg(test)]
 mod tests;
-mod white_space;
-mod whole_write;
 
-pub use extracting::Part;
 pub use fault_text::{refuse, say};
 pub use output::Output;
-pub use plan::{Command, ImageFile, Plan, Task, VolumeFile};
 pub use plan_run::run_plan;
 pub use run_end::close;
 pub use source::{Source, open};

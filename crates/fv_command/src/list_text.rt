@@ -6,27 +6,24 @@ ghost use Rattle.fv_base.specs.Faults.{out_of_memory};
 ghost use Rattle.fv_base.specs.Sums.{words_of};
 ghost use Rattle.fv_canon.specs.Layouts.{AllFit, Fits, Unfit};
 ghost use Rattle.fv_canon.specs.Volumes.{volumes_in_body, volumes_in_content, volumes_in_files, volumes_in_sections};
-ghost use Rattle.fv_tree.specs.Meaning.{files_from, sections_from};
-ghost use Rattle.fv_tree.specs.Meaning.{section_kind_of, body_of, content_of};
+ghost use Rattle.fv_tree.specs.Meaning.{files_from, sections_from, section_kind_of, body_of, content_of};
 ghost use Rattle.fv_tree.specs.Views.{body_view, content_view};
 ghost use Rattle.fv_command.specs.inner.Indents.{levels};
 ghost use Rattle.fv_command.specs.inner.SumRuns.{SumsStop};
-ghost use Rattle.fv_command.specs.ListTexts.{is_plain, unit_text, spaces, two_digits};
-ghost use Rattle.fv_command.specs.ListTexts.{form_text, system_text, name_text};
+ghost use Rattle.fv_command.specs.ListTexts.{is_plain, unit_text, spaces, form_text, system_text, name_text};
 ghost use Rattle.fv_command.specs.ListTexts.{volume_text, file_text, section_text};
 ghost use Rattle.fv_command.specs.ListTexts.{VersionText, InterfaceText, SubtypeText, LeafText, BodyShown};
 ghost use Rattle.fv_command.specs.ListTexts.{FileSum, VolumeSum, ListText, SumsText};
 ghost use Rattle.fv_command.specs.ListTexts.{VolumeLines, FilesLines, ContentLines, SectionsLines, BodyLines};
-ghost use Rattle.fv_command.specs.PortViews.{Writes, WritingStops, shown};
+ghost use Rattle.fv_text.specs.PortViews.{Writes, WritingStops, shown};
 
-use crate::hob_text::put_four_digits;
 use crate::sums::{put_file_sum, put_volume_sum};
-use crate::whole_write::write_bytes;
 use fv_base::field::u16_at;
 use fv_base::{ByteList, Fault, FileSystem, ListSink, Port, Sink, WriteSink};
-use fv_canon::{layout, put_decimal};
+use fv_canon::layout;
 use fv_head::VolumeHead;
 use fv_section::{freeform, ui_text, version};
+use fv_text::{GatheringSink, put_decimal, put_four_digits, put_two_digits, write_bytes};
 use fv_tree::{Body, Content, FileView, SectionView, VolumeView};
 use std::alloc::Global;
 use std::io::Write;
@@ -63,18 +60,6 @@ fn put_indent<S: Sink>(out: &mut S, indent: &Indent<'_>)
             put_indent(out, outer);
         }
     }
-}
-
-/// Puts a byte in two lower-case hexadecimal digits.
-pub fn put_two_digits<S: Sink>(out: &mut S, byte: u8)
-    ensures { S.takes out.old (two_digits byte) out.new }
-{
-    let mut text = [0u8; 2];
-    let bytes = [byte];
-    let Ok(()) = hex::encode_to_slice(&bytes[..], &mut text) else {
-        unreachable!()
-    };
-    out.put(&text);
 }
 
 // Whether a 16-bit unit is shown as it is: a printable ASCII character except the quote and the
@@ -388,6 +373,18 @@ fn put_volume<S: Sink>(
     put_files(alloc, out, sums, volume.files(), &inside)
 }
 
+// Puts the lines of the volume and of all that it holds, and returns the sink. Each piece of a line
+// is small, so they are gathered.
+fn put_list<S: Sink>(alloc: Global, below: S, volume: &VolumeView<'_>) -> S
+    ensures { (text : List ℕ) × ListText volume.now text × S.takes below text result }
+{
+    let mut out = GatheringSink::new(below);
+    let Ok(()) = put_volume(alloc, &mut out, false, volume, &Indent::Margin) else {
+        unreachable!()
+    };
+    out.finish()
+}
+
 /// Writes a line for the volume, for each of its files and for each section in these, and likewise
 /// for what groups and nested volumes hold.
 ///
@@ -404,10 +401,7 @@ pub fn write_list<W: Write>(
     ensures err { IfErr result (λ f. (text : List ℕ) × ListText volume.now text
         × WritingStops (shown W.contents writer.old) (shown W.contents writer.new) text f) }
 {
-    let mut out = WriteSink::new(writer);
-    let Ok(()) = put_volume(alloc, &mut out, false, volume, &Indent::Margin) else {
-        unreachable!()
-    };
+    let out = put_list(alloc, WriteSink::new(writer), volume);
     out.outcome()
 }
 

@@ -1,14 +1,14 @@
 //! The commands, run over readers and a writer.
 
-ghost use Rattle.fv_command.specs.PortViews.{change};
+ghost use Rattle.fv_text.specs.PortViews.{change};
 ghost use Rattle.fv_command.specs.Runs.{Runs};
 
 use crate::comparison_run::run_comparison;
 use crate::hob_run::run_hobs;
-use crate::plan::{Command, Plan};
 use crate::status::Status;
 use crate::task_run::run_task;
 use fv_base::Port;
+use fv_plan::{Command, Plan};
 use std::alloc::Global;
 use std::io::{Read, Write};
 

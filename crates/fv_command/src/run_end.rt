@@ -6,12 +6,12 @@ ghost use Rattle.std.specs.Io.KnownBytes.{Keeps};
 ghost use Rattle.fv_base.specs.Port.{has_erred, inner_of};
 ghost use Rattle.fv_command.specs.Endings.{WritesRest};
 ghost use Rattle.fv_command.specs.Outputs.{has_failed, output_contents};
-ghost use Rattle.fv_command.specs.PortViews.{seen, shown};
+ghost use Rattle.fv_text.specs.PortViews.{seen, shown};
 
 use crate::output::Output;
 use crate::status::Status;
-use crate::whole_write::write_bytes;
 use fv_base::Port;
+use fv_text::write_bytes;
 use std::io::{BufWriter, Write};
 
 // Flushes an output to which everything was written, and returns how the run ended.

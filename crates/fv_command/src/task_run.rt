@@ -1,25 +1,23 @@
 //! The tasks over one input.
 
 ghost use Rattle.std.specs.Prelude.{ℕ, Bool, List, IfOk, IfErr};
-ghost use Rattle.fv_command.specs.PortViews.{Writes, WritingStops, change, shown};
+ghost use Rattle.fv_text.specs.PortViews.{Writes, WritingStops, change, shown};
 ghost use Rattle.fv_command.specs.TaskRuns.{RunsTask, SaysRead, StopsRead};
 ghost use Rattle.fv_command.specs.inner.TaskSteps.{Performs};
 ghost use Rattle.fv_command.specs.Tasks.{PartText};
 
-use crate::cell_run::write_cells;
 use crate::check_run::write_check;
-use crate::extracting::{Extraction, Part, extract};
+use crate::extracting::{Extraction, extract};
 use crate::fault_text::refuse;
-use crate::hex_lines::write_shown;
 use crate::image_text::write_image;
 use crate::inputs::{read_bytes, taken_at};
 use crate::list_text::{write_list, write_sums};
-use crate::plan::Task;
-use crate::scan_text::write_volumes;
 use crate::status::Status;
-use crate::whole_write::write_bytes;
 use fv_base::{Fault, Port};
 use fv_canon::normalise_image;
+use fv_lines::{write_cells, write_volumes};
+use fv_plan::{Part, Task};
+use fv_text::{write_bytes, write_shown};
 use fv_tree::read_volume;
 use std::alloc::Global;
 use std::io::{Read, Write};

@@ -22,13 +22,12 @@ mod volumes;
 mod whole;
 
 use crate::fault_text::say;
-use crate::hex_lines::HexSink;
-use crate::hex_text::read_hex;
 use crate::output::Output;
 use crate::run_end::close;
 use crate::status::Status;
 use fakes::{FakeReader, FakeWriter};
 use fv_base::{Fault, FaultKind, Port, Sink, WriteSink};
+use fv_text::{HexSink, read_hex};
 use std::alloc::Global;
 use std::io::{BufWriter, Read, Write};
 use std::test::Fail;

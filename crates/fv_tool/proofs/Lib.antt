@@ -1,11 +1,2 @@
-pub mod AllLemmas
 pub mod EndLemmas
-pub mod FlagLemmas
-pub mod FlagRows
-pub mod FlagWalk
-pub mod FlagWords
-pub mod NumberLemmas
-pub mod ReadLemmas
-pub mod RefusalLemmas
 pub mod StatusLemmas
-pub mod TypeLemmas

@@ -1,21 +1,19 @@
 -- How the run of a plan does not end, and how a rejection of arguments is reported.
-use Rattle.std.proofs.Common.{◌≡◌, ◌∙◌, ◌⊎◌, ℕ, List, ap, inl, inr, Bool, false, sym, subst}
+use Rattle.std.proofs.Common.{◌≡◌, ◌∙◌, ℕ, List, ap, inl, inr, Bool, false, sym, subst}
 use Rattle.std.specs.Prelude.{Option}
 use Rattle.fv_base.specs.Port.{has_erred, inner_of}
 use Rattle.fv_base.specs.declared.port.Port.{Port}
-use Rattle.fv_command.specs.PortViews.{Change, Ports, Shown, Writes, seen, shown}
+use Rattle.fv_text.specs.PortViews.{Change, Ports, Shown, Writes, seen, shown}
 use Rattle.fv_command.specs.Runs.{Runs, RunsCommand}
-use Rattle.fv_command.specs.Sources.{unread}
-use Rattle.fv_command.specs.declared.source.Source.{Source}
-use Rattle.fv_command.specs.declared.plan.Command.{Command}
-use Rattle.fv_command.specs.declared.plan.Command.TheVariants.{Single, Hobs, Compare}
-use Rattle.fv_command.specs.declared.plan.Plan.{Plan}
+use Rattle.fv_plan.specs.declared.plan.Command.{Command}
+use Rattle.fv_plan.specs.declared.plan.Command.TheVariants.{Single, Hobs, Compare}
+use Rattle.fv_plan.specs.declared.plan.Plan.{Plan}
 use Rattle.fv_command.specs.declared.status.Status.{Status}
 use Rattle.fv_command.specs.declared.status.Status.TheVariants.{Refused, WrongWords}
 use Rattle.fv_tool.specs.Does.{RunsOver, fresh}
 use Rattle.fv_tool.specs.Refusals.{TellsRefusal, line_of}
-use Rattle.fv_tool.specs.declared.words.WordFault.{WordFault}
-use Rattle.fv_tool.specs.declared.words.WordFault.TheVariants.{Words, OutOfMemory}
+use Rattle.fv_arguments.specs.declared.words.WordFault.{WordFault}
+use Rattle.fv_arguments.specs.declared.words.WordFault.TheVariants.{Words, OutOfMemory}
 
 abbrev ports_of : (r s r' s' : Shown) → Change → Ports
 ports_of r s r' s' output =

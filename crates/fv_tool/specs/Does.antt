@@ -1,18 +1,18 @@
 -- What the program does with its arguments.
 use Rattle.std.specs.Io.KnownBytes.{Keeps, append_known}
 use Rattle.std.specs.Prelude.{◌≡◌, ◌<◌, ◌⊎◌, ℕ, Bool, true, false, List, Option, length}
-use Rattle.fv_command.specs.Files.{first_file, second_file}
-use Rattle.fv_command.specs.PortViews.{Change, Shown, seen}
+use Rattle.fv_plan.specs.Files.{first_file, second_file}
+use Rattle.fv_text.specs.PortViews.{Change, Shown, seen}
 use Rattle.fv_command.specs.Runs.{Runs}
 use Rattle.fv_command.specs.Sources.{IsFirstSource, IsSecondSource, unread}
-use Rattle.fv_command.specs.declared.plan.Plan.{Plan}
+use Rattle.fv_plan.specs.declared.plan.Plan.{Plan}
 use Rattle.fv_command.specs.declared.source.Source.{Source}
 use Rattle.fv_command.specs.declared.status.Status.{Status}
 use Rattle.fv_command.specs.declared.status.Status.TheVariants.{Refused}
 use Rattle.fv_tool.specs.Refusals.{TellsRefusal}
-use Rattle.fv_tool.specs.Words.{AreRight, Asks}
-use Rattle.fv_tool.specs.declared.words.WordFault.{WordFault}
-use Rattle.fv_tool.specs.declared.words.WordFault.TheVariants.{Words}
+use Rattle.fv_arguments.specs.Words.{AreRight, Asks}
+use Rattle.fv_arguments.specs.declared.words.WordFault.{WordFault}
+use Rattle.fv_arguments.specs.declared.words.WordFault.TheVariants.{Words}
 
 -- what a source shows before anything is read from it
 abbrev pub fresh : {S F : Type 0} → (S → Option (List ℕ)) → (F → Option (List ℕ)) → Source S F → Shown

@@ -1,5 +1,3 @@
 -- The definitions in the order in which they can be read.
-pub mod Options
 pub mod Refusals
-pub mod Words
 pub mod Does

@@ -1,11 +1,11 @@
 -- Why the command line is rejected, and how the program reports it.
 use Rattle.std.specs.Prelude.{◌≡◌, ◌⊎◌, ℕ, List, [], ◌∷◌, ◌++◌, codes}
 use Rattle.fv_command.specs.Lines.{fault_line}
-use Rattle.fv_command.specs.PortViews.{Change, StopsIn, Writes}
+use Rattle.fv_text.specs.PortViews.{Change, StopsIn, Writes}
 use Rattle.fv_command.specs.declared.status.Status.{Status}
 use Rattle.fv_command.specs.declared.status.Status.TheVariants as statuses
-use Rattle.fv_tool.specs.declared.words.WordFault.{WordFault}
-use Rattle.fv_tool.specs.declared.words.WordFault.TheVariants.{Words, OutOfMemory}
+use Rattle.fv_arguments.specs.declared.words.WordFault.{WordFault}
+use Rattle.fv_arguments.specs.declared.words.WordFault.TheVariants.{Words, OutOfMemory}
 
 -- the status that a rejection of the command line ends with, and the line that reports it
 abbrev pub status_of : WordFault → Status

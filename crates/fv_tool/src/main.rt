@@ -2,10 +2,10 @@
 //! reports the outcome by its exit status.
 #![tactic(auto)]
 
-ghost use Rattle.fv_command.specs.Files.{first_file, second_file};
+ghost use Rattle.fv_plan.specs.Files.{first_file, second_file};
 ghost use Rattle.fv_base.specs.Port.{inner_of};
 ghost use Rattle.fv_command.specs.Outputs.{has_failed, output_contents};
-ghost use Rattle.fv_command.specs.PortViews.{Shown, Writes, change, seen, shown};
+ghost use Rattle.fv_text.specs.PortViews.{Shown, Writes, change, seen, shown};
 ghost use Rattle.fv_command.specs.Sources.{IsFirstSource, IsSecondSource};
 ghost use Rattle.fv_command.specs.Statuses.{exit_code};
 ghost use Rattle.fv_tool.specs.Does.{DoesAsked, Ends, RunsOver};
@@ -16,20 +16,19 @@ ghost use Rattle.std.specs.Process.{exit_status};
 ghost use Rattle.std.specs.String.{string_bytes};
 ghost use Rattle.std.specs.Vec.Iter.{into_iter_items};
 
-mod options;
 #[cfg(test)]
 mod tests;
-mod words;
 
+use fv_arguments::{WordFault, parse_words};
 use fv_base::{Fault, FaultKind, Port};
-use fv_command::{Output, Plan, Source, Status, close, open, refuse, run_plan, say};
+use fv_command::{Output, Source, Status, close, open, refuse, run_plan, say};
+use fv_plan::Plan;
 use std::alloc::Global;
 use std::env::Args;
 use std::io::{BufWriter, Write};
 use std::process::ExitCode;
 use std::rt::{Env, Files};
 use std::{env, fs, io};
-use words::{WordFault, parse_words};
 
 // The arguments in order.
 fn collected(alloc: Global, arguments: Args) -> Result<Vec<String>, WordFault>

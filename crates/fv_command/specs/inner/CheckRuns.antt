@@ -7,13 +7,10 @@ use Rattle.fv_canon.specs.Refusals.{NotRead}
 use Rattle.fv_file.specs.Cells.{CellForm}
 use Rattle.fv_tree.specs.Denotes.{Accepted}
 use Rattle.fv_tree.specs.Meaning.{Meaning}
-use Rattle.fv_command.specs.declared.depex_notes.DepexNote.{DepexNote}
-use Rattle.fv_command.specs.CheckTexts.{HeldDepex, AreCells, AreNotes, CheckText, depex_lines, pad_notes, verdict_line}
-use Rattle.fv_command.specs.PortViews.{Shown, Writes, WritingStops}
-
--- the new notes are the old ones, followed by those of these expressions
-abbrev pub Noted : List HeldDepex → List DepexNote → List DepexNote → Type 0
-Noted xs old new = (more : List DepexNote) × (new ≡ old ++ more) × AreNotes xs more
+use Rattle.fv_lines.specs.declared.depex_walk.DepexNote.{DepexNote}
+use Rattle.fv_command.specs.CheckTexts.{AreCells, CheckText, verdict_line}
+use Rattle.fv_lines.specs.Notes.{depex_lines, pad_notes}
+use Rattle.fv_text.specs.PortViews.{Shown, Writes, WritingStops}
 
 -- the cells of the input, and the polarity of its erased bytes; None if it is its own canonical image
 abbrev pub NotedCells : List ℕ → Bool → Option (List CellForm × Polarity) → Type 0

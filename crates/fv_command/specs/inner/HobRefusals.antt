@@ -1,16 +1,9 @@
 -- Definitions for a run over a hand-off list: the image that it holds, and why it stopped.
-use Rattle.std.specs.Prelude.{◌≡◌, ℕ, Option, None, Some, Bool}
-use Rattle.fv_command.specs.declared.hob_text.MappedImage.{MappedImage}
-use Rattle.fv_command.specs.HobLines.{MappedForm}
-use Rattle.fv_command.specs.PortViews.{Change}
+use Rattle.std.specs.Prelude.{◌≡◌, ℕ, Option, Bool}
+use Rattle.fv_text.specs.PortViews.{Change}
 use Rattle.fv_command.specs.declared.hob_run.Refusal.{Refusal}
 use Rattle.fv_command.specs.declared.hob_run.Refusal.TheVariants as refusals
 use Rattle.fv_command.specs.HobRuns.{RefusesHobs, FaultStopsHobs}
-
--- the bytes and the address of an image in memory
-abbrev pub held_image : Option MappedImage → Option MappedForm
-held_image None = None
-held_image (Some i) = Some (record { bytes = i.bytes.now; base = i.base })
 
 -- why nothing, or not all, was written
 abbrev pub RefusalStopsHobs : Bool → Option ℕ → (first second output : Change) → Refusal → Type 0

@@ -4,8 +4,8 @@ use Rattle.fv_base.specs.Faults.{out_of_memory}
 use Rattle.fv_base.specs.declared.fault.Fault.{Fault}
 use Rattle.fv_canon.specs.Headline.{NormalisesTo}
 use Rattle.fv_canon.specs.Refusals.{Refuses}
-use Rattle.fv_command.specs.HexText.{ShowsBytes}
-use Rattle.fv_command.specs.PortViews.{Shown, Writes, WritingStops}
+use Rattle.fv_text.specs.HexText.{ShowsBytes}
+use Rattle.fv_text.specs.PortViews.{Shown, Writes, WritingStops}
 
 -- the image of the input was written, as it is or as lines of digits
 abbrev pub ShowsImage : Bool → List ℕ → Shown → Shown → Type 0

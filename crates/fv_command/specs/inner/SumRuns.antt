@@ -5,7 +5,7 @@ use Rattle.fv_base.specs.declared.fault.Fault.{Fault}
 use Rattle.fv_canon.specs.Layouts.{Unfit}
 use Rattle.fv_tree.specs.Meaning.{Meaning}
 use Rattle.fv_command.specs.ListTexts.{SumsText}
-use Rattle.fv_command.specs.PortViews.{Shown, WritingStops}
+use Rattle.fv_text.specs.PortViews.{Shown, WritingStops}
 
 -- nothing was written, because memory ran out or the volume does not fit; or a write failed in the text
 abbrev pub SumsStop : Meaning → Shown → Shown → Fault → Type 0

@@ -1,9 +1,9 @@
 -- What a task does with its input.
 use Rattle.std.specs.Prelude.{ℕ, Bool, List, Result, Ok, Err}
 use Rattle.fv_base.specs.declared.fault.Fault.{Fault}
-use Rattle.fv_command.specs.PortViews.{Shown}
+use Rattle.fv_text.specs.PortViews.{Shown}
 use Rattle.fv_command.specs.TaskRuns.{SaysInput, StopsInput}
-use Rattle.fv_command.specs.declared.plan.Task.{Task}
+use Rattle.fv_plan.specs.declared.plan.Task.{Task}
 use Rattle.fv_command.specs.declared.status.Status.{Status}
 
 -- what a task did, by its status or its fault

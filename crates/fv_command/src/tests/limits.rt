@@ -3,11 +3,11 @@
 use super::fakes::{EndlessReader, FakeReader, FakeWriter, InterruptedReader, SpaceReader};
 use super::runs::{ends_as, plan_of, shown};
 use super::volumes::row_of;
-use crate::hex_text::read_hex;
 use crate::inputs::read_bytes;
-use crate::plan::Plan;
 use crate::source::Source;
 use fv_base::{Fault, FaultKind, Port};
+use fv_plan::Plan;
+use fv_text::read_hex;
 use std::alloc::Global;
 
 /// An input, or one that does not end.

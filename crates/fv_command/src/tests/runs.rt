@@ -18,11 +18,10 @@ use super::spelling::{bytes_of, lines_of, number_of};
 use super::summed::summed;
 use super::tiled::tiled;
 use super::volumes::{refused, row_of};
-use crate::extracting::Part;
-use crate::plan::{Command, ImageFile, Plan, Task, VolumeFile};
 use crate::plan_run::run_plan;
 use crate::source::Source;
 use fv_base::{Guid, Port};
+use fv_plan::{Command, ImageFile, Part, Plan, Task, VolumeFile};
 use std::alloc::Global;
 use std::io::Read;
 

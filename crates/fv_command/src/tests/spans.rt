@@ -1,9 +1,9 @@
 //! What an image holds where a volume should be.
 
-use crate::hex_text::read_hex;
-use crate::hob_text::{Standing, standing_of};
 use fv_base::Port;
 use fv_hob::Span;
+use fv_lines::{Standing, standing_of};
+use fv_text::read_hex;
 use std::test::Fail;
 
 /// An empty volume, and 8 bytes after it.

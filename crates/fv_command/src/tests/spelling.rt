@@ -1,8 +1,8 @@
 //! The bytes that words spell.
 
 use super::volumes::{lists, parts, refused, text_named, unplaced, volumes};
-use crate::hex_text::read_hex;
 use fv_base::Port;
+use fv_text::read_hex;
 use std::alloc::{AllocError, Global};
 
 /// The number that decimal digits spell.

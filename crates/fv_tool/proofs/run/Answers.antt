@@ -1,7 +1,7 @@
 use Rattle.std.proofs.Common.{ap, map, subst, MatchResult}
 use Rattle.fv_base.specs.Port.{has_erred, inner_of}
 use Rattle.fv_command.specs.Outputs.{has_failed, output_contents}
-use Rattle.fv_command.specs.PortViews.{Shown, shown}
+use Rattle.fv_text.specs.PortViews.{Shown, shown}
 use Rattle.fv_tool.proofs.EndLemmas.{by_words, ends}
 use Rattle.fv_tool.proofs.StatusLemmas.{shown_new}
 use Rattle.fv_tool.specs.Does.{DoesAsked}

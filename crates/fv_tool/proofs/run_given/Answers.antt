@@ -1,4 +1,4 @@
-use Rattle.fv_tool.proofs.StatusLemmas.{never_wrong, wrong_said}
+use Rattle.fv_tool.proofs.StatusLemmas.{never_wrong}
 use Rattle.fv_tool.proofs.run_given.Goals as goal
 
 pub returns-in-Ok-plan-clause-wrong : goal.returns-in-Ok-plan-clause-wrong

@@ -5,20 +5,19 @@ use Rattle.fv_section.specs.Frames.{up_to_4}
 use Rattle.fv_section.specs.SectionImage.{section_head_of}
 use Rattle.fv_tree.specs.Meaning.{Meaning, SectionMeaning, BodyMeaning, sections_from, body_of, body_len, section_is_extended}
 use Rattle.fv_tree.specs.Meaning.{section_kind_of, section_len}
-use Rattle.fv_tree.specs.inner.Sizes.{volume_size, sections_size, body_size}
+use Rattle.fv_tree.specs.inner.Sizes.{volume_size, sections_size, body_size, files_size}
 use Rattle.fv_tree.specs.Views.{body_view}
 use Rattle.fv_tree.specs.declared.view.Body.{Body}
-use Rattle.fv_canon.specs.inner.ImageOf.{body_image, starts_in}
+use Rattle.fv_canon.specs.inner.ImageOf.{body_image, starts_in, stored_of, stored_file, data_of, image_of}
 use Rattle.fv_canon.specs.Volumes.{volumes_in, volumes_in_body, volumes_in_file, volumes_in_files, volumes_in_section, volumes_in_sections}
 use Rattle.fv_base.specs.Flash.{erased_byte}
 use Rattle.fv_base.specs.Value.{up_to_8}
 use Rattle.fv_file.specs.NewHeaders.{file_head_of}
 use Rattle.fv_tree.specs.Meaning.{ContentMeaning, FileMeaning, files_from, file_name_of, file_kind_of, attributes_of, content_of}
 use Rattle.fv_tree.specs.Meaning.{data_len_of}
-use Rattle.fv_canon.specs.inner.ImageOf.{stored_of, stored_file, data_of}
 use Rattle.fv_canon.specs.inner.StoredWalks.{files_bytes}
-use Rattle.fv_canon.specs.StoredFiles.{stored_bytes, gap_bytes, size_for, file_sum_for}
-use Rattle.fv_canon.specs.inner.Placed.{ArePlaced}
+use Rattle.fv_canon.specs.StoredFiles.{stored_bytes, gap_bytes, size_for, file_sum_for, ext_pad}
+use Rattle.fv_canon.specs.inner.Placed.{ArePlaced, used_by}
 use Rattle.fv_canon.proofs.FileLaws.{file_long, stored_is, size_is, at_file, file_laid, files_left, files_end, walk_goes}
 use Rattle.fv_canon.proofs.FileLaws.{placed_on}
 use Rattle.fv_canon.specs.inner.ImageWalks.{BeginsWithStarts, TakesFront, sections_bytes}
@@ -29,10 +28,6 @@ use Rattle.fv_head.specs.Attributes.{polarity_of}
 use Rattle.fv_head.specs.Head.{HeadFields}
 use Rattle.fv_head.specs.HeadImage.{canonical_head}
 use Rattle.fv_head.specs.ExtImage.{canonical_end, first_edge}
-use Rattle.fv_tree.specs.inner.Sizes.{files_size}
-use Rattle.fv_canon.specs.inner.ImageOf.{image_of, starts_in}
-use Rattle.fv_canon.specs.StoredFiles.{ext_pad}
-use Rattle.fv_canon.specs.inner.Placed.{used_by}
 use Rattle.fv_canon.proofs.VolumeWalks.{volume_is, volume_seen, volume_text, volume_left, files_same}
 use Rattle.fv_file.specs.Attributes.{attributes_by, is_summed}
 use Rattle.fv_canon.specs.inner.SummingSinks.{ImageTakes, image_by}

@@ -1,6 +1,6 @@
 use Rattle.std.proofs.Common.{ap, inl, inr, refl}
 use Rattle.std.proofs.lemmas.Result.{err_from_is_err_and}
-use Rattle.fv_command.specs.PortViews.{shown}
+use Rattle.fv_text.specs.PortViews.{shown}
 use Rattle.fv_command.proofs.RunLemmas.{both, comparison_stopped, given, given_at, okay, second_stopped}
 use Rattle.fv_command.proofs.comparison_run.compare.Goals as goal
 

@@ -1,6 +1,6 @@
 use Rattle.std.proofs.Common.{ℕ, List, take, length, ◌<◌, arith, ap, subst}
 use Rattle.std.proofs.lemmas.List.{length-take}
-use Rattle.fv_command.proofs.HexTextLemmas.{text_put}
+use Rattle.fv_text.proofs.Laws.{text_put}
 use Rattle.fv_command.proofs.image_text.put_digits.Goals as goal
 
 pub returns : goal.returns

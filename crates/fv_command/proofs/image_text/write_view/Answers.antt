@@ -1,6 +1,6 @@
 use Rattle.std.proofs.Common.{false, rules}
 use Rattle.std.proofs.lemmas.Result.{on_ok_weaker, IfErr-weaker}
-use Rattle.fv_command.specs.PortViews.{Writes, WritingStops, seen}
+use Rattle.fv_text.specs.PortViews.{Writes, WritingStops, seen}
 use Rattle.fv_command.proofs.image_text.write_view.Goals as goal
 
 pub returns-clause-ok : goal.returns-clause-ok

@@ -13,7 +13,7 @@ use Rattle.fv_tree.proofs.Laws.{content_falls, file_falls, section_body_falls}
 use Rattle.fv_command.specs.inner.Indents.{levels}
 use Rattle.fv_command.specs.ListTexts.{volume_text}
 use Rattle.fv_command.proofs.ListLemmas.{files_lines, files_more, is_volume, sections_lines, sections_more}
-use Rattle.fv_command.proofs.WriteLemmas.{tells_all, tells_none}
+use Rattle.fv_text.proofs.Laws.{tells_all, tells_none}
 use Rattle.fv_command.proofs.list_text.+lines.Goals as goal
 
 -- ---- sections

@@ -4,7 +4,7 @@ use Rattle.fv_tree.specs.inner.Sizes.{volume_size, files_size, content_size, sec
 use Rattle.fv_tree.specs.Views.{body_view, content_view}
 use Rattle.fv_command.specs.inner.Indents.{levels}
 use Rattle.fv_command.proofs.ListLemmas.{files_lines, sections_lines}
-use Rattle.fv_command.proofs.WriteLemmas.{Tells}
+use Rattle.fv_text.proofs.Laws.{Tells}
 use Rattle.fv_command.proofs.list_text.+lines.Given as goal
 
 abbrev pub invariant-put_sections-loop-number : goal.invariant-put_sections-loop-number

@@ -1,7 +1,7 @@
 use Rattle.std.proofs.Common.{◌∙◌, ℕ, List, decimal, subst}
 use Rattle.fv_base.specs.Guids.{bytes_of, guid_text}
 use Rattle.fv_base.specs.declared.guid.Guid.{Guid}
-use Rattle.fv_command.specs.ListTexts.{two_digits}
+use Rattle.fv_text.specs.Characters.{two_digits}
 use Rattle.fv_command.proofs.list_text.put_file_line.Goals as goal
 
 pub returns-clause-ok : goal.returns-clause-ok

@@ -1,7 +1,7 @@
 use Rattle.std.proofs.Common.{inr}
 use Rattle.std.proofs.lemmas.Result.{err_from_is_err_and, IfErr-weaker, IfOk-weaker}
 use Rattle.fv_command.specs.Inputs.{BeginsWith}
-use Rattle.fv_command.specs.declared.plan.Task.TheVariants.{Extract}
+use Rattle.fv_plan.specs.declared.plan.Task.TheVariants.{Extract}
 use Rattle.fv_command.proofs.RunLemmas.{not_begun, part_denied, part_stopped, performed}
 use Rattle.fv_command.proofs.task_run.extract_part.Goals as goal
 

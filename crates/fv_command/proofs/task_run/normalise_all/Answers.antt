@@ -1,6 +1,6 @@
 use Rattle.std.proofs.Common.{List, ℕ, inl, inr, refl, subst}
 use Rattle.std.proofs.lemmas.Result.{err_from_is_err_and}
-use Rattle.fv_command.specs.HexText.{ShowsBytes}
+use Rattle.fv_text.specs.HexText.{ShowsBytes}
 use Rattle.fv_command.specs.declared.status.Status.TheVariants.{Done}
 use Rattle.fv_command.proofs.task_run.normalise_all.Goals as goal
 

@@ -1,0 +1,9 @@
+pub mod AllLemmas
+pub mod FlagLemmas
+pub mod FlagRows
+pub mod FlagWalk
+pub mod FlagWords
+pub mod NumberLemmas
+pub mod ReadLemmas
+pub mod RefusalLemmas
+pub mod TypeLemmas

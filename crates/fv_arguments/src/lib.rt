@@ -1,0 +1,9 @@
+//! The command line: what its arguments ask for.
+#![tactic(auto)]
+
+mod options;
+#[cfg(test)]
+mod tests;
+mod words;
+
+pub use words::{WordFault, parse_words};

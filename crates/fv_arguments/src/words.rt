@@ -1,0 +1,77 @@
+//! The command line.
+
+ghost use Rattle.std.specs.String.{string_bytes};
+ghost use Rattle.std.specs.Prelude.{◌≡◌, ◌≤◌, length, map, IfErr, IfOk, Ok};
+ghost use Rattle.fv_arguments.specs.Words.{AreRight, Asks, plan_without_words};
+
+use crate::options::parse_command;
+use fv_plan::{Command, Plan, Task};
+use std::alloc::{AllocError, Global};
+use std::io;
+use std::io::ErrorKind;
+
+/// Why a command line is rejected.
+#[derive(Clone, Copy, Debug, PartialEq, Eq)]
+pub enum WordFault {
+    /// The arguments name no command that exists, or are wrong for the command.
+    Words,
+    /// Memory ran out.
+    OutOfMemory,
+}
+
+impl From<AllocError> for WordFault {
+    ghost use Rattle.fv_arguments.specs.declared.words.WordFault.TheVariants.{OutOfMemory};
+
+    ghost from_gives = { λ _ f. f ≡ OutOfMemory };
+
+    fn from(_error: AllocError) -> WordFault {
+        WordFault::OutOfMemory
+    }
+}
+
+impl From<io::Error> for WordFault {
+    ghost use Rattle.std.specs.IoError.{error_kind};
+    ghost use Rattle.std.specs.Prelude.{◌≡◌, ◌≢◌};
+    ghost use Rattle.std.specs.declared.io.ErrorKind.TheVariants as error_kinds;
+    ghost use Rattle.fv_arguments.specs.declared.words.WordFault.TheVariants.{Words, OutOfMemory};
+
+    ghost from_gives = { λ e f. (error_kind e ≡ error_kinds.OutOfMemory → f ≡ OutOfMemory)
+        × (error_kind e ≢ error_kinds.OutOfMemory → f ≡ Words) };
+
+    fn from(error: io::Error) -> WordFault {
+        if error.kind() == ErrorKind::OutOfMemory {
+            WordFault::OutOfMemory
+        } else {
+            WordFault::Words
+        }
+    }
+}
+
+/// Reads a command line, whose first argument is the program's name. With no argument after it, the
+/// plan is to normalise hexadecimal text from standard input.
+///
+/// # Errors
+///
+/// Words, if the arguments name no command that exists, or are wrong for the command. OutOfMemory.
+pub fn parse_words(alloc: Global, words: &[String]) -> Result<Plan, WordFault>
+    ensures none { length words.now ≤ 1 → result ≡ Ok plan_without_words }
+
+    // A plan is returned only for arguments that are right: it is what they ask for.
+    ensures right { IfOk result (Asks (map string_bytes words.now)) }
+
+    // Only arguments that are not right are rejected as wrong: for right ones the only error is
+    // OutOfMemory.
+    ensures wrong { IfErr result (λ f. f ≡ WordFault.Words → AreRight (map string_bytes words.now) → ⊥) }
+{
+    if words.len() <= 1 {
+        return Ok(Plan {
+            hex: true,
+            command: Command::Single {
+                task: Task::Normalise,
+                at: None,
+                file: None,
+            },
+        });
+    }
+    parse_command(alloc, words[1].as_str(), &words[1..])
+}

@@ -1,7 +1,0 @@
-use Rattle.fv_command.specs.HobLines.{HobLines}
-use Rattle.fv_command.specs.inner.HobRefusals.{held_image}
-use Rattle.fv_command.proofs.WriteLemmas.{Tells}
-use Rattle.fv_command.proofs.hob_text.put_hobs.Given as goal
-
-abbrev pub invariant-loop-hob : goal.invariant-loop-hob
-invariant-loop-hob g l = Tells g.S.Sink.takes (λ _. HobLines (held_image l.image)) l.hobs l.hob-index l.initial.out l.out

@@ -1,8 +1,0 @@
-use Rattle.std.proofs.Common.{ℕ, subst}
-use Rattle.fv_command.specs.CheckTexts.{pad_line}
-use Rattle.fv_command.proofs.pads.put_cell.Goals as goal
-
-pub returns-in-Pad : goal.returns-in-Pad
-returns-in-Pad g c =
-    rw c.in-Pad.is (subst (λ (n : ℕ). g.S.Sink.takes c.args.out.now (pad_line c.in-Pad.offset n) c.put_pad.new.out) c.written_in.ensures
-    c.put_pad.ensures)

@@ -1,7 +1,0 @@
-use Rattle.std.proofs.Common.{map, take}
-use Rattle.fv_file.specs.CellForms.{cell_form}
-use Rattle.fv_command.specs.CheckTexts.{pad_notes}
-use Rattle.fv_command.proofs.pads.put_cells.Given as goal
-
-abbrev pub invariant-loop-cell : goal.invariant-loop-cell
-invariant-loop-cell g l = g.S.Sink.takes l.initial.out (pad_notes l.polarity (map cell_form (take l.cell-index l.list))) l.out

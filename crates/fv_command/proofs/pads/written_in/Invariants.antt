@@ -1,6 +1,0 @@
-use Rattle.std.proofs.Common.{◌≡◌, take}
-use Rattle.fv_command.specs.CheckTexts.{written_in}
-use Rattle.fv_command.proofs.pads.written_in.Given as goal
-
-abbrev pub invariant-loop-byte : goal.invariant-loop-byte
-invariant-loop-byte l = l.count ≡ written_in l.fn.polarity (take l.byte-index l.bytes)

@@ -1,0 +1,103 @@
+-- What is noted of the expressions of a volume.
+use Rattle.std.proofs.Common.{◌≡◌, ◌∙◌, ◌<◌, ◌+◌, inl, inr, ℕ, List, [], ◌∷◌, ◌++◌, length, take, get_or}
+use Rattle.std.proofs.Common.{refl, sym, ap, subst, append-nil, append_assoc}
+use Rattle.std.specs.List.{flat_map}
+use Rattle.std.proofs.lemmas.Grind.{flat_map-append}
+use Rattle.std.proofs.lemmas.List.{take_more}
+use Rattle.fv_base.specs.declared.guid.Guid.{Guid}
+use Rattle.fv_tree.specs.LookupInstances.{preorder, inside_section}
+use Rattle.fv_tree.specs.Meaning.{Meaning, FileMeaning, File, Plain, Sectioned, SectionMeaning, Section, SectionMeanings}
+use Rattle.fv_tree.specs.Meaning.{Leaf, Group, Nested, body_of, content_of, file_name_of, section_kind_of, sections_from}
+use Rattle.fv_lines.specs.Notes.{phase_of, read_by, section_depex, sections_depexes, file_depexes}
+use Rattle.fv_lines.specs.Notes.{HeldDepex, IsSpelled, IsNoted, AreNotes}
+use Rattle.fv_lines.specs.inner.NoteRuns.{Noted}
+use Rattle.fv_lines.specs.declared.depex_walk.DepexNote.{DepexNote}
+use Rattle.fv_text.proofs.Laws.{texts_next}
+
+-- ---- notes
+
+pub notes_join : (xs ys : List HeldDepex) (ms ns : List DepexNote) → AreNotes xs ms → AreNotes ys ns → AreNotes (xs ++ ys) (ms ++ ns)
+notes_join [] ys ms ns p q = subst (λ (l : List DepexNote). AreNotes ys (l ++ ns)) (sym p) q
+notes_join (x ∷ xs) ys ms ns (inl (s, p)) q = inl (s, notes_join xs ys ms ns p q)
+notes_join (x ∷ xs) ys ms ns (inr (note, rest, is, e, p)) q =
+    inr (note, rest ++ ns, is, ap (λ (l : List DepexNote). l ++ ns) e, notes_join xs ys rest ns p q)
+
+pub noted_none : (old : List DepexNote) → Noted [] old old
+noted_none old = ([], sym (append-nil old), refl)
+
+pub noted_spelled : (x : HeldDepex) (old : List DepexNote) → IsSpelled x → Noted (x ∷ []) old old
+noted_spelled x old s = ([], sym (append-nil old), inl (s, refl))
+
+pub noted_one : (x : HeldDepex) (note : DepexNote) (old new : List DepexNote) → IsNoted x note → new ≡ old ++ note ∷ []
+    → Noted (x ∷ []) old new
+noted_one x note old new is e = (note ∷ [], e, inr (note, [], is, refl, refl))
+
+pub noted_then : (xs ys : List HeldDepex) (a b c : List DepexNote) → Noted xs a b → Noted ys b c → Noted (xs ++ ys) a c
+noted_then xs ys a b c (ms, e, p) (ns, f, q) =
+    (ms ++ ns, f ∙ ap (λ (l : List DepexNote). l ++ ns) e ∙ append_assoc a ms ns, notes_join xs ys ms ns p q)
+
+pub notes_then : (xs ys : List HeldDepex) (b c : List DepexNote) → AreNotes xs b → Noted ys b c → AreNotes (xs ++ ys) c
+notes_then xs ys b c p (ns, f, q) = subst (AreNotes (xs ++ ys)) (sym f) (notes_join xs ys b ns p q)
+
+-- ---- the expressions of sections
+
+pub leaf_depexes : (name : Guid) (s : SectionMeaning) (kind : ℕ) (b : List ℕ) → body_of s ≡ Leaf b → kind ≡ section_kind_of s
+    → read_by name b (phase_of kind) ≡ sections_depexes name (s ∷ inside_section s)
+leaf_depexes name (Section k e (Leaf c)) kind b is same =
+    let bytes : b ≡ c = cc in
+    ap (λ (x : List ℕ). read_by name x (phase_of kind)) bytes ∙ ap (λ (n : ℕ). read_by name c (phase_of n)) same
+    ∙ sym (append-nil (read_by name c (phase_of k)))
+leaf_depexes name (Section k e (Group ss t)) kind b is same = cc
+leaf_depexes name (Section k e (Nested v)) kind b is same = cc
+
+pub group_depexes : (name : Guid) (s : SectionMeaning) (ss : SectionMeanings) (t : ℕ) → body_of s ≡ Group ss t
+    → sections_depexes name (preorder ss) ≡ sections_depexes name (s ∷ inside_section s)
+group_depexes name (Section k e (Leaf b)) ss t is = cc
+group_depexes name (Section k e (Group us u)) ss t is =
+    let same : ss ≡ us = cc in ap (λ (x : SectionMeanings). sections_depexes name (preorder x)) same
+group_depexes name (Section k e (Nested v)) ss t is = cc
+
+pub nested_depexes : (name : Guid) (s : SectionMeaning) (v : Meaning) → body_of s ≡ Nested v
+    → [] ≡ sections_depexes name (s ∷ inside_section s)
+nested_depexes name (Section k e (Leaf b)) v is = cc
+nested_depexes name (Section k e (Group ss t)) v is = cc
+nested_depexes name (Section k e (Nested w)) v is = refl
+
+preorder_join : (xs ys : List SectionMeaning)
+    → preorder (sections_from (xs ++ ys)) ≡ preorder (sections_from xs) ++ preorder (sections_from ys)
+preorder_join [] ys = refl
+preorder_join (s ∷ xs) ys =
+    ap (λ (l : List SectionMeaning). s ∷ (inside_section s ++ l)) (preorder_join xs ys)
+    ∙ ap (λ (l : List SectionMeaning). s ∷ l)
+    (sym (append_assoc (inside_section s) (preorder (sections_from xs)) (preorder (sections_from ys))))
+
+pub sections_next : (name : Guid) (ss : List SectionMeaning) (i : ℕ) (s : SectionMeaning) → i < length ss → s ≡ get_or ss i s
+    → sections_depexes name (preorder (sections_from (take i ss))) ++ sections_depexes name (s ∷ inside_section s)
+    ≡ sections_depexes name (preorder (sections_from (take (i + 1) ss)))
+sections_next name ss i s l is =
+    let here : take (i + 1) ss ≡ take i ss ++ s ∷ [] =
+    take_more ss i s l ∙ ap (λ (x : SectionMeaning). take i ss ++ x ∷ []) (sym is) in
+    let one : preorder (sections_from (s ∷ [])) ≡ s ∷ inside_section s =
+    ap (λ (x : List SectionMeaning). s ∷ x) (append-nil (inside_section s)) in
+    sym (ap (λ (x : List SectionMeaning). sections_depexes name (preorder (sections_from x))) here
+    ∙ ap (sections_depexes name) (preorder_join (take i ss) (s ∷ [])
+    ∙ ap (λ (x : List SectionMeaning). preorder (sections_from (take i ss)) ++ x) one)
+    ∙ flat_map-append (section_depex name) (preorder (sections_from (take i ss))) (s ∷ inside_section s))
+
+-- ---- the expressions of files
+
+pub plain_depexes : (f : FileMeaning) (b : List ℕ) → content_of f ≡ Plain b → [] ≡ file_depexes f
+plain_depexes (File name k a (Plain c)) b is = refl
+plain_depexes (File name k a (Sectioned ss t)) b is = cc
+
+pub stream_depexes : (f : FileMeaning) (name : Guid) (ss : SectionMeanings) (t : ℕ) → name ≡ file_name_of f → content_of f ≡ Sectioned ss t
+    → sections_depexes name (preorder ss) ≡ file_depexes f
+stream_depexes (File own k a (Plain c)) name ss t e is = cc
+stream_depexes (File own k a (Sectioned us u)) name ss t e is =
+    let same : ss ≡ us = cc in
+    ap (λ (n : Guid). sections_depexes n (preorder ss)) e ∙ ap (λ (x : SectionMeanings). sections_depexes own (preorder x)) same
+
+pub files_next : (fs : List FileMeaning) (i : ℕ) (f : FileMeaning) → i < length fs → f ≡ get_or fs i f
+    → flat_map file_depexes (take i fs) ++ file_depexes f ≡ flat_map file_depexes (take (i + 1) fs)
+files_next fs i f l is =
+    sym (texts_next file_depexes fs i f l ∙ ap (λ (x : FileMeaning). flat_map file_depexes (take i fs) ++ file_depexes x) (sym is))

@@ -1,0 +1,32 @@
+-- The text of a hand-off list: the word of a block is short, and so is the text; and the lines are put in order.
+use Rattle.std.proofs.Common.{◌≡◌, ℕ, ◌+◌, ◌<◌, ◌≤◌, List, ◌∷◌, ◌++◌, length, get_or, drop}
+use Rattle.std.proofs.Common.{refl, ◌∙◌, ap, subst}
+use Rattle.std.specs.Prelude.{Option}
+use Rattle.fv_base.specs.Sinks.{WalkLaws}
+use Rattle.fv_hob.specs.Hobs.{HobForm, hob_type, hob_len}
+use Rattle.fv_lines.specs.HobLines.{MappedForm, HobLines, HobsText, IsWord, consumed_line, hob_line}
+use Rattle.fv_text.proofs.Laws.{Tells, tells_more, tells_all}
+
+-- the line of one block more
+pub hobs_more : {S : Type 0} {takes : S → List ℕ → S → Type 0} {hs : List HobForm} {i : ℕ} {s t u : S} → WalkLaws takes
+    → (image : Option MappedForm) (h : HobForm) (code n : ℕ) (word : List ℕ) → i < length hs → h ≡ get_or hs i h
+    → code ≡ hob_type h.kind → n ≡ hob_len h.kind → IsWord image h word → Tells takes (λ _. HobLines image) hs i s t
+    → takes t (hob_line code n word) u → Tells takes (λ _. HobLines image) hs (i + 1) s u
+hobs_more {hs = hs} {i = i} laws image h code n word l here p q is w line =
+    let same : hob_line code n word ≡ hob_line (hob_type h.kind) (hob_len h.kind) word =
+    ap (λ (k : ℕ). hob_line k n word) p ∙ ap (λ (k : ℕ). hob_line (hob_type h.kind) k word) q in
+    let own : (rest : List ℕ) → HobLines image (drop (i + 1) hs) rest
+    → HobLines image (h ∷ drop (i + 1) hs) (hob_line code n word ++ rest) =
+    λ rest more. (word, rest, is, ap (λ (m : List ℕ). m ++ rest) same, more) in
+    let first : (rest : List ℕ) → HobLines image (drop (i + 1) hs) rest
+    → HobLines image (get_or hs i h ∷ drop (i + 1) hs) (hob_line code n word ++ rest) =
+    λ rest more. subst (λ (g : HobForm). HobLines image (g ∷ drop (i + 1) hs) (hob_line code n word ++ rest)) here (own rest more) in
+    tells_more laws h (hob_line code n word) l first w line
+
+-- those of all, and the last line
+pub hobs_all : {S : Type 0} {takes : S → List ℕ → S → Type 0} {hs : List HobForm} {i : ℕ} {s t u : S} → WalkLaws takes
+    → (image : Option MappedForm) (n : ℕ) → length hs ≤ i → Tells takes (λ _. HobLines image) hs i s t → takes t (consumed_line n) u
+    → (text : List ℕ) × HobsText image hs n text × takes s text u
+hobs_all laws image n l w line =
+    let all = tells_all refl l w in
+    (all.0 ++ consumed_line n, (all.0, all.1, refl), laws.joined _ _ _ _ _ all.2 line)

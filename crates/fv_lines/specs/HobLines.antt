@@ -1,0 +1,61 @@
+-- The text of a hand-off list.
+use Rattle.std.specs.Prelude.{◌≡◌, ℕ, List, [], ◌∷◌, ◌++◌, Option, None, Some, codes, decimal}
+use Rattle.fv_text.specs.Characters.{four_digits, line_feed}
+use Rattle.fv_hob.specs.Hobs.{HobForm, hob_type, hob_len}
+use Rattle.fv_hob.specs.Lists.{span_of}
+use Rattle.fv_hob.specs.declared.span.Span.{Span}
+use Rattle.fv_lines.specs.VolumeStandings.{IsStanding}
+use Rattle.fv_lines.specs.declared.hob_text.MappedImage.{MappedImage}
+use Rattle.fv_lines.specs.declared.hob_text.Standing.{Standing}
+use Rattle.fv_lines.specs.declared.hob_text.Standing.TheVariants.{Outside, Volume, Absent}
+
+-- the bytes of an image, and the address of the first byte
+pub record MappedForm : Type 0 where
+  pub bytes : List ℕ
+  pub base : ℕ
+
+-- the bytes and the address of an image in memory
+abbrev pub held_image : Option MappedImage → Option MappedForm
+held_image None = None
+held_image (Some i) = Some (record { bytes = i.bytes.now; base = i.base })
+
+-- the image with these bytes, if there is a base
+abbrev pub image_form : Option ℕ → List ℕ → Option MappedForm
+image_form None bytes = None
+image_form (Some base) bytes = Some (record { bytes = bytes; base = base })
+
+-- the line of a block of this type and length, with a text after it
+abbrev pub hob_line : ℕ → ℕ → List ℕ → List ℕ
+hob_line code n word = codes "hob " ++ (four_digits code ++ (codes " length " ++ (decimal n ++ (word ++ line_feed))))
+
+-- the line of how many bytes a list has
+abbrev pub consumed_line : ℕ → List ℕ
+consumed_line n = codes "consumed " ++ (decimal n ++ line_feed)
+
+-- what is said of a volume, after a space
+abbrev pub standing_word : Standing → List ℕ
+standing_word Outside = codes " outside"
+standing_word Volume = codes " volume"
+standing_word Absent = codes " absent"
+
+-- the text for the volume that should be in a span; it is empty if there is no image or no span
+abbrev pub IsSpanWord : Option MappedForm → Option Span → List ℕ → Type 0
+IsSpanWord None span word = word ≡ []
+IsSpanWord (Some image) None word = word ≡ []
+IsSpanWord (Some image) (Some span) word =
+    (s : Standing) × IsStanding image.bytes image.base span s × (word ≡ standing_word s)
+
+-- the text for the volume that a block describes
+abbrev pub IsWord : Option MappedForm → HobForm → List ℕ → Type 0
+IsWord image h word = IsSpanWord image (span_of h.kind) word
+
+-- a line for each block, in order
+abbrev pub HobLines : Option MappedForm → List HobForm → List ℕ → Type 0
+HobLines image [] text = text ≡ []
+HobLines image (h ∷ hs) text = (word : List ℕ) × (rest : List ℕ) × IsWord image h word
+    × (text ≡ hob_line (hob_type h.kind) (hob_len h.kind) word ++ rest) × HobLines image hs rest
+
+-- those lines, and how many bytes the list has
+abbrev pub HobsText : Option MappedForm → List HobForm → ℕ → List ℕ → Type 0
+HobsText image hobs consumed text =
+    (lines : List ℕ) × HobLines image hobs lines × (text ≡ lines ++ consumed_line consumed)

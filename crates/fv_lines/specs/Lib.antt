@@ -1,0 +1,7 @@
+-- The definitions in the order in which they can be read.
+pub mod ScanLines
+pub mod VolumeStandings
+pub mod HobLines
+pub mod CellTexts
+pub mod Notes
+pub mod inner

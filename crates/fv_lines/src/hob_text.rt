@@ -1,0 +1,125 @@
+//! The blocks of a hand-off list, and what an image holds where their volumes should be.
+
+ghost use Rattle.std.specs.Prelude.{◌≡◌, ℕ, List, IfErr, OnOk};
+ghost use Rattle.fv_lines.specs.HobLines.{HobsText, IsWord, consumed_line, hob_line, standing_word, held_image};
+ghost use Rattle.fv_text.specs.PortViews.{Writes, WritingStops, shown};
+ghost use Rattle.fv_lines.specs.VolumeStandings.{IsStanding};
+
+use fv_base::field::field;
+use fv_base::{Fault, Port, Sink, WriteSink};
+use fv_head::verify_fv;
+use fv_hob::{Hob, HobList, Span};
+use fv_text::{put_decimal, put_four_digits};
+use std::io::Write;
+
+/// What an image holds where a volume should be.
+#[derive(Clone, Copy, Debug, PartialEq, Eq)]
+pub enum Standing {
+    /// The place is not within the image.
+    Outside,
+    /// The volume.
+    Volume,
+    /// Something else.
+    Absent,
+}
+
+impl Standing {
+    /// Its text, after a space.
+    pub fn word(self) -> &'static str
+        ensures { result.now ≡ standing_word self }
+    {
+        match self {
+            Standing::Outside => " outside",
+            Standing::Volume => " volume",
+            Standing::Absent => " absent",
+        }
+    }
+}
+
+/// An image, and the address of its first byte.
+#[derive(Clone, Copy)]
+pub struct MappedImage<'a> {
+    /// Its bytes.
+    pub bytes: &'a [u8],
+    /// The address.
+    pub base: u64,
+}
+
+/// What an image holds where a volume should be. Addresses are whole numbers: nothing wraps.
+pub fn standing_of(image: &[u8], base: u64, span: Span) -> Standing
+    ensures { IsStanding image.now base span result }
+{
+    let size = image.len() as u64;
+    if span.base < base || span.length > size || span.base - base > size - span.length {
+        return Standing::Outside;
+    }
+    let start = (span.base - base) as usize;
+    let bytes = field(image, start, span.length as usize);
+    match verify_fv(bytes) {
+        Ok(extent) if extent.length == span.length => Standing::Volume,
+        _ => Standing::Absent,
+    }
+}
+
+// What is said of the volume that a block describes, if it describes one and there is an image.
+fn word_of(hob: &Hob, image: Option<MappedImage<'_>>) -> &'static str
+    ensures { IsWord (held_image image.entry) hob.now result.now }
+{
+    match (hob.span(), image) {
+        (Some(span), Some(image)) => standing_of(image.bytes, image.base, span).word(),
+        _ => "",
+    }
+}
+
+// Puts the line of a block, with a text after it.
+fn put_hob<S: Sink>(out: &mut S, code: u16, length: u16, word: &str)
+    ensures { S.takes out.old (hob_line code length word.now) out.new }
+{
+    out.put(b"hob ");
+    put_four_digits(out, code);
+    out.put(b" length ");
+    put_decimal(out, u64::from(length));
+    out.put(word.as_bytes());
+    out.put(b"\n");
+}
+
+// Puts the line of how many bytes a list has.
+fn put_consumed<S: Sink>(out: &mut S, consumed: u64)
+    ensures { S.takes out.old (consumed_line consumed) out.new }
+{
+    out.put(b"consumed ");
+    put_decimal(out, consumed);
+    out.put(b"\n");
+}
+
+// Puts a line for each block, and how many bytes the list has.
+fn put_hobs<S: Sink>(out: &mut S, hobs: &[Hob], consumed: u64, image: Option<MappedImage<'_>>)
+    ensures { (text : List ℕ) × HobsText (held_image image.entry) hobs.now consumed text
+        × S.takes out.old text out.new }
+{
+    for hob in hobs {
+        put_hob(out, hob.code(), hob.length(), word_of(hob, image));
+    }
+    put_consumed(out, consumed);
+}
+
+/// Writes a line for each block, and how many bytes the list has.
+///
+/// # Errors
+///
+/// WriteFault if a write fails or takes no byte.
+pub fn write_hobs<W: Write>(
+    writer: &mut Port<W>,
+    hobs: &HobList,
+    consumed: u64,
+    image: Option<MappedImage<'_>>,
+) -> Result<(), Fault>
+    ensures ok { OnOk result ((text : List ℕ) × HobsText (held_image image.entry) hobs.now consumed text
+        × Writes (shown W.contents writer.old) (shown W.contents writer.new) text) }
+    ensures err { IfErr result (λ f. (text : List ℕ) × HobsText (held_image image.entry) hobs.now consumed text
+        × WritingStops (shown W.contents writer.old) (shown W.contents writer.new) text f) }
+{
+    let mut out = WriteSink::new(writer);
+    put_hobs(&mut out, hobs.as_slice(), consumed, image);
+    out.outcome()
+}

@@ -1,0 +1,3 @@
+-- The definitions in the order in which they can be read.
+pub mod Files
+pub mod Images

@@ -1,0 +1,204 @@
+-- What a decoder has come to, a piece of text later, and at its end.
+use Rattle.std.proofs.Common.{◌≡◌, ◌<◌, ◌≤◌, ◌⊎◌, inl, inr, List, [], ◌∷◌, ℕ, ◌+◌, ◌/◌, ◌++◌, Bool, true, false, not, Option}
+use Rattle.std.proofs.Common.{refl, sym, ap, subst, ◌∙◌, append_assoc, append-nil, length-append, arith}
+use Rattle.std.specs.Prelude.{◌==◌, take, length, IfOk, Result, Ok, Err}
+use Rattle.std.specs.Io.KnownBytes.{Consumes}
+use Rattle.std.proofs.KnownBytes.{Consumes-trans}
+use Rattle.std.proofs.Math.Seq.{take-append_seam}
+use Rattle.std.proofs.lemmas.Bool.Decides.{Decides-eqb, nat_tests}
+use Rattle.std.proofs.lemmas.List.{length-take-le}
+use Rattle.fv_base.specs.declared.fault.Fault.{Fault}
+use Rattle.fv_base.specs.declared.fault.FaultKind.{FaultKind}
+use Rattle.fv_base.specs.declared.fault.FaultKind.TheVariants as kinds
+use Rattle.fv_base.specs.Faults.{outer_fault}
+use Rattle.fv_base.specs.Limits.{volume_limit}
+use Rattle.fv_base.proofs.Laws.{up_is_not_down}
+use Rattle.fv_text.specs.declared.hex_text.Decoder.{Decoder}
+use Rattle.fv_text.specs.inner.HexDecoding.{AddsDigits, Decodes, DecodesPairs, HoldsDigits, RefusedFor, RefusesText}
+use Rattle.fv_text.specs.HexIn.{GivesText, IsLongText, IsNoText, TextStops, TextStopsFor, text_limit}
+use Rattle.fv_text.specs.inner.HexDecoding.{IsSpoilt}
+use Rattle.fv_text.specs.HexPairs.{DigitsSpell, squeezed}
+use Rattle.fv_text.proofs.HexDigitLemmas.{odd_reads_nothing, reads_count, reads_joined, spoilt_behind, spoilt_more}
+use Rattle.fv_text.proofs.WhiteSpaceLemmas.{squeezed_more}
+
+-- the digits of a text and of the next piece: those that are read, those of the pairs now, and what waits
+joins : (before text waiting all digits kept front : List ℕ) → squeezed before ≡ front ++ waiting → all ≡ waiting ++ squeezed text
+    → all ≡ digits ++ kept → squeezed (before ++ text) ≡ front ++ (digits ++ kept)
+joins before text waiting all digits kept front was joined split =
+    squeezed_more before text
+    ∙ ap (λ (l : List ℕ). l ++ squeezed text) was
+    ∙ append_assoc front waiting (squeezed text)
+    ∙ ap (λ (l : List ℕ). front ++ l) (sym joined ∙ split)
+
+-- the digits that waited and those of the next piece are pairs, which are decoded, and what waits now
+pub taken : (before text waiting all digits kept left held holds : List ℕ) (was_long is_long : Bool)
+    → HoldsDigits was_long held waiting (squeezed before) → AddsDigits was_long is_long held holds digits → all ≡ waiting ++ squeezed text
+    → all ≡ digits ++ kept → left ≡ kept → HoldsDigits is_long holds left (squeezed (before ++ text))
+taken before text waiting all digits kept left held holds was_long is_long h adds joined split left_is = record {
+  front = h.front ++ digits;
+  bytes = h.bytes ++ adds.more;
+  joined =
+      joins before text waiting all digits kept h.front h.joined joined split
+      ∙ sym (append_assoc h.front digits kept)
+      ∙ ap (λ (l : List ℕ). (h.front ++ digits) ++ l) (sym left_is);
+  reads = reads_joined h.front digits h.bytes adds.more h.reads adds.reads;
+  kept = λ short. let (was_short, same) = adds.kept short in same ∙ ap (λ (l : List ℕ). l ++ adds.more) (h.kept was_short);
+  many = λ long. many_more was_long h.bytes adds.more (h.many)
+      (λ was_short. subst (λ (l : List ℕ). volume_limit < length (l ++ adds.more)) (h.kept was_short) (adds.many long was_short));
+} where
+  many_more : (flag : Bool) (bytes more : List ℕ) → (flag ≡ true → volume_limit < length bytes)
+      → (flag ≡ false → volume_limit < length (bytes ++ more)) → volume_limit < length (bytes ++ more)
+  many_more true bytes more were are = let lt = were refl in let long = length-append bytes more in omega (arith, lt, long)
+  many_more false bytes more were are = are refl
+
+-- the pairs of the digits that waited and of the next piece are spoilt
+pub taken_wrong : (before text waiting all digits kept held : List ℕ) (was_long : Bool)
+    → HoldsDigits was_long held waiting (squeezed before)
+    → IsSpoilt digits → all ≡ waiting ++ squeezed text → all ≡ digits ++ kept → IsSpoilt (squeezed (before ++ text))
+taken_wrong before text waiting all digits kept held was_long h spoilt joined split =
+    subst IsSpoilt (sym (joins before text waiting all digits kept h.front h.joined joined split))
+    (spoilt_behind h.front (digits ++ kept) h.bytes h.reads (spoilt_more digits kept spoilt))
+
+-- the bytes are kept, or they are too many with those of the digits
+abbrev pub MakesRoom : Decoder → Decoder → Type 0
+MakesRoom old room =
+    (room.digits.items ≡ old.digits.items)
+    × (((room.is_long ≡ old.is_long) × (room.bytes.items ≡ old.bytes.items))
+    ⊎ ((room.is_long ≡ true) × (volume_limit < length old.bytes.items + length old.digits.items / 2)))
+
+-- the bytes of the pairs, put behind those that were kept
+adds_pairs : (old room : Decoder) (holds more : List ℕ) → MakesRoom old room → DigitsSpell old.digits.items more
+    → holds ≡ room.bytes.items ++ more → AddsDigits old.is_long room.is_long old.bytes.items holds old.digits.items
+adds_pairs old room holds more (digits, inl (flag, same)) reads is = record {
+  more = more;
+  reads = reads;
+  kept = λ down. (sym flag ∙ down, is ∙ ap (λ (l : List ℕ). l ++ more) same);
+  many = λ up was. absurd (up_is_not_down room.is_long up (flag ∙ was));
+}
+adds_pairs old room holds more (digits, inr (flag, much)) reads is = record {
+  more = more;
+  reads = reads;
+  kept = λ down. absurd (up_is_not_down room.is_long flag down);
+  many = λ up was.
+      let count = reads_count old.digits.items more reads in
+      let long : length (old.bytes.items ++ more) ≡ length old.bytes.items + length more = length-append old.bytes.items more in
+      omega (arith, count, long, much);
+}
+
+-- a flag and its contrary
+turned : (flag all : Bool) → flag ≡ not all → (flag ≡ true → all ≡ false) × (flag ≡ false → all ≡ true)
+turned flag true is = (λ up. absurd (up_is_not_down flag up is), λ down. refl)
+turned flag false is = (λ up. refl, λ down. absurd (up_is_not_down flag is down))
+
+-- the pairs were all decoded, or one of them is no byte
+pub pairs_decoded : (old room new : Decoder) (seen : List ℕ) (all : Bool) → MakesRoom old room → seen ≡ room.digits.items
+    → (all ≡ true → (more : List ℕ) × DigitsSpell seen more × (new.bytes.items ≡ room.bytes.items ++ more))
+    → (all ≡ false → IsSpoilt seen) → new.is_wrong ≡ not all → new.is_long ≡ room.is_long → DecodesPairs old new
+pairs_decoded old room new seen all made seen_is read wrong flag long =
+    let digits : seen ≡ old.digits.items = seen_is ∙ made.0 in
+    record {
+      wrong = λ up. subst IsSpoilt digits (wrong ((turned new.is_wrong all flag).0 up));
+      right = λ down.
+          let (more, reads, is) = read ((turned new.is_wrong all flag).1 down) in
+          subst (λ (b : Bool). AddsDigits old.is_long b old.bytes.items new.bytes.items old.digits.items) (sym long)
+          (adds_pairs old room new.bytes.items more made (subst (λ (l : List ℕ). DigitsSpell l more) digits reads) is);
+    }
+
+-- not empty, and no more than one
+pub one_waits : (value empty : Bool) (n len : ℕ) → value ≡ true → value ≡ not empty → empty ≡ (n == 0) → n ≡ len → n ≤ 1 → len ≡ 1
+one_waits value empty n len up is empty_is count few =
+    let some : (n == 0) ≡ false = sym empty_is ∙ (turned value empty is).0 up in
+    grind (arith, nat_tests)
+
+-- empty
+pub none_waits : (value empty : Bool) (n : ℕ) (l : List ℕ) → value ≡ false → value ≡ not empty → empty ≡ (n == 0) → n ≡ length l → l ≡ []
+none_waits value empty n [] down is empty_is count = refl
+none_waits value empty n (x ∷ l) down is empty_is count =
+    let none : n ≡ 0 = (Decides-eqb n 0).0 (sym empty_is ∙ (turned value empty is).1 down) in
+    absurd (omega (arith, none, count))
+
+-- text that was wrong stays so
+pub stays_wrong : (d : Decoder) (before text : List ℕ) → d.is_wrong ≡ true → Decodes d before → Decodes d (before ++ text)
+stays_wrong d before text wrong so_far = record {
+  wrong = λ up. subst IsSpoilt (sym (squeezed_more before text)) (spoilt_more (squeezed before) (squeezed text) (so_far.wrong up));
+  right = λ down. absurd (up_is_not_down d.is_wrong wrong down);
+}
+
+-- no text is spelled where it is wrong
+pub spoilt_is_no_text : (text : List ℕ) → IsSpoilt (squeezed text) → IsNoText text
+spoilt_is_no_text text spoilt = λ bytes reads.
+    spoilt [] bytes (subst (λ (l : List ℕ). DigitsSpell l bytes) (sym (append-nil (squeezed text))) reads)
+
+-- nor where a digit waits
+pub odd_is_no_text : (text waiting held : List ℕ) (is_long : Bool) → length waiting ≡ 1 → HoldsDigits is_long held waiting (squeezed text)
+    → IsNoText text
+odd_is_no_text text waiting held is_long one h = λ bytes reads.
+    odd_reads_nothing h.front waiting h.bytes bytes one h.reads (subst (λ (l : List ℕ). DigitsSpell l bytes) h.joined reads)
+
+-- the bytes are those of the text where none waits
+pub whole_reads : (text waiting held : List ℕ) (is_long : Bool) → waiting ≡ [] → (h : HoldsDigits is_long held waiting (squeezed text))
+    → DigitsSpell (squeezed text) h.bytes
+whole_reads text waiting held is_long none h =
+    subst (λ (l : List ℕ). DigitsSpell l h.bytes) (sym (h.joined ∙ ap (λ (l : List ℕ). h.front ++ l) none ∙ append-nil h.front)) h.reads
+
+-- a fault of a whole text stops its reading
+pub refused_stops : (old new : Option (List ℕ)) (erred : Bool) (text : List ℕ) → GivesText old new text → length text ≤ text_limit
+    → (fault : Fault) → RefusesText text fault → TextStops old new erred fault
+refused_stops old new erred text gives short fault refuses = record {
+  depth = refuses.depth;
+  cause = go fault.kind fault.place.offset refuses.cause;
+} where
+  go : (kind : FaultKind) (n : ℕ) → RefusedFor kind text n → TextStopsFor kind old new erred n
+  go kinds.ReadFault n (at, none) = inr (at, (text, gives, short, none))
+  go kinds.Length n (at, long) = (at, inr (text, gives, short, long))
+  go _ n r = absurd r
+
+-- a whole text is no even number of digits
+pub refuses_no_text : (text : List ℕ) (f : Fault) → f ≡ outer_fault kinds.ReadFault 0 → IsNoText text → RefusesText text f
+refuses_no_text text f is none = subst (RefusesText text) (sym is) (record { depth = refl; cause = (refl, none) })
+
+-- a whole text spells more bytes than a volume has
+pub refuses_long_text : (text : List ℕ) (f : Fault) → f ≡ outer_fault kinds.Length volume_limit → IsLongText text → RefusesText text f
+refuses_long_text text f is long = subst (RefusesText text) (sym is) (record { depth = refl; cause = (refl, long) })
+
+-- two facts of what is done
+pub both_ok : {T E : Type 0} (r : Result T E) (P Q S : T → Type 0) → ((x : T) → P x → Q x → S x) → IfOk r P → IfOk r Q → IfOk r S
+both_ok (Ok x) P Q S f p q = f x p q
+both_ok (Err e) P Q S f p q = tt
+
+-- turns run out only where a reader has erred
+pub ran_out : (flag : Bool) (turn len : ℕ) → (flag ≡ false → turn ≤ len) → len < turn → flag ≡ true
+ran_out true turn len gave more = refl
+ran_out false turn len gave more = let few = gave refl in absurd (omega (arith, few, more))
+
+-- the reader failed behind a text
+pub stops_by_reader : (old new : Option (List ℕ)) (erred : Bool) (text : List ℕ) (n : ℕ) (f : Fault) → Consumes old new text
+    → n ≡ length text → erred ≡ true → f ≡ outer_fault kinds.ReadFault n → TextStops old new erred f
+stops_by_reader old new erred text n f gave count up is =
+    subst (TextStops old new erred) (sym is) (record { depth = refl; cause = inl ((text, gave, sym count), up) })
+
+-- the reader gave more text than a run takes
+pub stops_by_long_text : (old new : Option (List ℕ)) (erred : Bool) (text : List ℕ) (f : Fault) → Consumes old new text
+    → text_limit < length text → f ≡ outer_fault kinds.Length volume_limit → TextStops old new erred f
+stops_by_long_text old new erred text f gave more is =
+    subst (TextStops old new erred) (sym is) (record { depth = refl; cause = (refl, inl (text, gave, more)) })
+
+-- a chunk, which is seen in its place
+seen_is_chunk : (chunk behind seen : List ℕ) (len : ℕ) → length chunk ≡ len → seen ≡ take len (chunk ++ behind) → seen ≡ chunk
+seen_is_chunk chunk behind seen len long is = is ∙ ap (λ (k : ℕ). take k (chunk ++ behind)) (sym long) ∙ take-append_seam chunk behind
+
+-- how long a text is with the front of a chunk behind it
+pub piece_count : (text chunk behind seen : List ℕ) (n len : ℕ) → length chunk ≡ len → seen ≡ take len (chunk ++ behind) → n ≤ length chunk
+    → length (text ++ take n seen) ≡ length text + n
+piece_count text chunk behind seen n len long is within =
+    let front : length (take n chunk) ≡ n = length-take-le n chunk within in
+    length-append text (take n seen)
+    ∙ ap (λ (l : List ℕ). length text + length (take n l)) (seen_is_chunk chunk behind seen len long is)
+    ∙ ap (λ (k : ℕ). length text + k) front
+
+-- a reader gave a text, and then the front of a chunk
+pub piece_read : (a b c : Option (List ℕ)) (text chunk behind seen : List ℕ) (n len : ℕ) → Consumes a b text → Consumes b c (take n chunk)
+    → length chunk ≡ len → seen ≡ take len (chunk ++ behind) → Consumes a c (text ++ take n seen)
+piece_read a b c text chunk behind seen n len gave next long is =
+    Consumes-trans a b c text (take n seen) gave
+    (subst (λ (l : List ℕ). Consumes b c (take n l)) (sym (seen_is_chunk chunk behind seen len long is)) next)

@@ -1,0 +1,22 @@
+-- The text of some bytes, put by a sink of lines.
+use Rattle.std.proofs.Common.{◌≡◌, ◌∙◌, ◌<◌, ℕ, List, [], ◌++◌, length}
+use Rattle.std.proofs.Common.{refl, ap, sym}
+use Rattle.fv_base.specs.Sinks.{WalkLaws}
+use Rattle.fv_text.specs.HexText.{IsHexText, last_text, lines_text}
+use Rattle.fv_text.specs.HexSinks.{Lined}
+
+-- a sink of lines with nothing waiting took the bytes, and then its last line was put
+pub text_put : {S : Type 0} {takes : S → List ℕ → S → Type 0} → WalkLaws takes → (s t u : S) (p bytes q : List ℕ) → p ≡ [] → length q < 32
+    → Lined takes s p bytes t q → takes t (last_text q) u → (text : List ℕ) × IsHexText bytes text × takes s text u
+text_put laws s t u p bytes q none short took last = (
+  lines_text took.lines ++ last_text q,
+  record {
+    lines = took.lines;
+    last = q;
+    joined = sym (ap (λ (l : List ℕ). l ++ bytes) none) ∙ took.joined;
+    whole = took.whole;
+    short = short;
+    text_is = refl;
+  },
+  laws.joined s t u (lines_text took.lines) (last_text q) took.taken last,
+)

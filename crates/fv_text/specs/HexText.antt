@@ -1,0 +1,35 @@
+-- The text in which bytes are written: as they are, or as lines of hexadecimal digits.
+use Rattle.std.specs.Prelude.{◌≡◌, ◌<◌, ℕ, List, [], ◌∷◌, ◌++◌, Bool, true, false, length}
+use Rattle.std.specs.List.{AllByRecursion, concat, flat_map}
+use Rattle.hex.specs.Hex.{encode_lower}
+use Rattle.fv_text.specs.Characters.{line_feed}
+
+-- the lower-case digits of some bytes, and a line feed
+abbrev pub line_text : List ℕ → List ℕ
+line_text b = encode_lower b ++ line_feed
+
+abbrev pub lines_text : List (List ℕ) → List ℕ
+lines_text lines = flat_map line_text lines
+
+-- a last line, unless it is empty
+abbrev pub last_text : List ℕ → List ℕ
+last_text [] = []
+last_text (x ∷ b) = line_text (x ∷ b)
+
+-- a whole line has 32 bytes
+abbrev pub IsWholeLine : List ℕ → Type 0
+IsWholeLine b = length b ≡ 32
+
+-- the text has a line for every 32 of the bytes, and one for what is left
+pub record IsHexText (bytes text : List ℕ) : Type 0 where
+  pub lines : List (List ℕ)
+  pub last : List ℕ
+  pub joined : bytes ≡ concat lines ++ last
+  pub whole : AllByRecursion IsWholeLine lines
+  pub short : length last < 32
+  pub text_is : text ≡ lines_text lines ++ last_text last
+
+-- the text in which the bytes are written: themselves, or as lines of digits
+abbrev pub ShowsBytes : Bool → List ℕ → List ℕ → Type 0
+ShowsBytes false bytes text = text ≡ bytes
+ShowsBytes true bytes text = IsHexText bytes text

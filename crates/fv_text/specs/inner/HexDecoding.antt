@@ -1,0 +1,76 @@
+-- The decoding of hexadecimal text, piece after piece.
+use Rattle.std.specs.Prelude.{◌≡◌, ℕ, ◌+◌, ◌*◌, Bool, List, [], ◌∷◌, ◌++◌, ◌<◌, ◌≤◌, true, false, Option, take, length}
+use Rattle.std.specs.Option.{unwrap_or}
+use Rattle.hex.specs.Hex.{hex_digit_value}
+use Rattle.fv_text.specs.HexPairs.{squeezed, DigitsSpell}
+use Rattle.std.specs.Io.KnownBytes.{Consumes, IsAtEnd, Keeps}
+use Rattle.fv_base.specs.declared.fault.Fault.{Fault}
+use Rattle.fv_base.specs.declared.fault.FaultKind.{FaultKind}
+use Rattle.fv_base.specs.declared.fault.FaultKind.TheVariants as kinds
+use Rattle.fv_base.specs.Limits.{volume_limit}
+use Rattle.fv_text.specs.declared.hex_text.Decoder.{Decoder}
+use Rattle.fv_text.specs.declared.hex_text.Piece.{Piece}
+use Rattle.fv_text.specs.declared.hex_text.Piece.TheVariants as pieces
+use Rattle.fv_text.specs.HexIn.{IsNoText, IsLongText}
+
+-- the value of a digit, in upper or lower case; 16 of what is no digit
+abbrev pub value_or_16 : ℕ → ℕ
+value_or_16 d = unwrap_or (hex_digit_value d) 16
+
+-- the value of a digit
+abbrev pub IsNibble : ℕ → Type 0
+IsNibble v = v < 16
+
+-- the bytes of pairs of values, the high one first
+abbrev pub joined_pairs : List ℕ → List ℕ
+joined_pairs [] = []
+joined_pairs (h ∷ []) = []
+joined_pairs (h ∷ l ∷ vs) = (h * 16 + l) ∷ joined_pairs vs
+
+-- characters that spell no bytes, whatever follows them
+abbrev pub IsSpoilt : List ℕ → Type 0
+IsSpoilt digits = (behind bytes : List ℕ) → DigitsSpell (digits ++ behind) bytes → ⊥
+
+-- why a whole text spells no input, by the kind of the fault and its offset
+abbrev pub RefusedFor : FaultKind → List ℕ → ℕ → Type 0
+RefusedFor kinds.ReadFault text n = (n ≡ 0) × IsNoText text
+RefusedFor kinds.Length text n = (n ≡ volume_limit) × IsLongText text
+RefusedFor _ text n = ⊥
+
+-- a whole text spells no input
+pub record RefusesText (text : List ℕ) (fault : Fault) : Type 0 where
+  pub depth : fault.place.depth ≡ 0
+  pub cause : RefusedFor fault.kind text fault.place.offset
+
+-- what one read did to the reader, and what it left at the front of the chunk; and whether the port has erred now
+abbrev pub ReadsPiece : Piece → Option (List ℕ) → Option (List ℕ) → List ℕ → Bool → Type 0
+ReadsPiece (pieces.Text n) old new chunk erred = (0 < n) × (n ≤ length chunk) × Consumes old new (take n chunk)
+ReadsPiece pieces.Interrupted old new chunk erred = Keeps old new × (erred ≡ true)
+ReadsPiece pieces.End old new chunk erred = Consumes old new [] × IsAtEnd new
+ReadsPiece pieces.Failed old new chunk erred = Keeps old new × (erred ≡ true)
+
+-- some digits spell bytes, except those that wait; the bytes are held, or they are more than a volume has
+pub record HoldsDigits (is_long : Bool) (held waiting digits : List ℕ) : Type 0 where
+  pub front : List ℕ
+  pub bytes : List ℕ
+  pub joined : digits ≡ front ++ waiting
+  pub reads : DigitsSpell front bytes
+  pub kept : is_long ≡ false → held ≡ bytes
+  pub many : is_long ≡ true → volume_limit < length bytes
+
+-- what the text so far amounts to: it is wrong whatever follows, or its digits spell what is held
+pub record Decodes (d : Decoder) (text : List ℕ) : Type 0 where
+  pub wrong : d.is_wrong ≡ true → IsSpoilt (squeezed text)
+  pub right : d.is_wrong ≡ false → HoldsDigits d.is_long d.bytes.items d.digits.items (squeezed text)
+
+-- digits spell bytes, which are added after those that were held, unless they are too many together
+pub record AddsDigits (was_long is_long : Bool) (held holds digits : List ℕ) : Type 0 where
+  pub more : List ℕ
+  pub reads : DigitsSpell digits more
+  pub kept : is_long ≡ false → (was_long ≡ false) × (holds ≡ held ++ more)
+  pub many : is_long ≡ true → was_long ≡ false → volume_limit < length (held ++ more)
+
+-- the digits of a decoder are found wrong, or they are decoded
+pub record DecodesPairs (old new : Decoder) : Type 0 where
+  pub wrong : new.is_wrong ≡ true → IsSpoilt old.digits.items
+  pub right : new.is_wrong ≡ false → AddsDigits old.is_long new.is_long old.bytes.items new.bytes.items old.digits.items

@@ -1,0 +1,38 @@
+-- The laws of a sink that writes lines of digits. They are proofs. They are in specs/ because a ghost member cites the
+-- last of them.
+use Rattle.std.proofs.Common.{ℕ, List, [], ◌∷◌, ◌++◌, sym, ◌∙◌, ap, subst, append_assoc, append-nil}
+use Rattle.std.specs.List.{AllByRecursion, concat}
+use Rattle.std.proofs.lemmas.List.Concat.{flat_map-append}
+use Rattle.std.proofs.lemmas.List.Folds.{concat-append}
+use Rattle.fv_base.specs.Sinks.{WalkLaws}
+use Rattle.fv_text.specs.HexSinks.{HexTakes, Lined}
+use Rattle.fv_text.specs.HexText.{IsWholeLine, line_text, lines_text}
+
+whole_more : (xs ys : List (List ℕ)) → AllByRecursion IsWholeLine xs → AllByRecursion IsWholeLine ys
+    → AllByRecursion IsWholeLine (xs ++ ys)
+whole_more [] ys a b = b
+whole_more (x ∷ xs) ys a b = (a.0, whole_more xs ys a.1 b)
+
+lined_none : {S : Type 0} (takes : S → List ℕ → S → Type 0) → WalkLaws takes → (s : S) (p : List ℕ)
+    → Lined takes s p [] s p
+lined_none takes laws s p = record { lines = []; joined = append-nil p; whole = tt; taken = laws.none s }
+
+pub lined_joined : {S : Type 0} (takes : S → List ℕ → S → Type 0) → WalkLaws takes → (s t u : S) (p q r a b : List ℕ)
+    → Lined takes s p a t q → Lined takes t q b u r → Lined takes s p (a ++ b) u r
+lined_joined takes laws s t u p q r a b x y = record {
+  lines = x.lines ++ y.lines;
+  joined = sym (append_assoc p a b) ∙ ap (λ (l : List ℕ). l ++ b) x.joined ∙ append_assoc (concat x.lines) q b
+      ∙ ap (λ (l : List ℕ). concat x.lines ++ l) y.joined ∙ sym (append_assoc (concat x.lines) (concat y.lines) r)
+      ∙ ap (λ (l : List ℕ). l ++ r) (sym (concat-append x.lines y.lines));
+  whole = whole_more x.lines y.lines x.whole y.whole;
+  taken = subst (λ (l : List ℕ). takes s l u) (sym (flat_map-append line_text x.lines y.lines))
+      (laws.joined s t u (lines_text x.lines) (lines_text y.lines) x.taken y.taken);
+}
+
+pub hex_by : {S H : Type 0} (takes : S → List ℕ → S → Type 0) (below : H → S) (waiting : H → List ℕ) → WalkLaws takes
+    → WalkLaws (HexTakes takes below waiting)
+hex_by takes below waiting laws = record {
+  none = λ s. lined_none takes laws (below s) (waiting s);
+  joined = λ s t u a b p q.
+      lined_joined takes laws (below s) (below t) (below u) (waiting s) (waiting t) (waiting u) a b p q;
+}

@@ -1,0 +1,104 @@
+//! A sink that gathers small pieces.
+
+ghost use Rattle.std.specs.Prelude.{◌≡◌, ◌≤◌, ◌+◌, [], length, take};
+ghost use Rattle.fv_text.specs.GatheringSinks.{GatheringTakes};
+ghost use Rattle.fv_text.specs.inner.GatheringLaws.{gathered_by};
+
+use crate::placing::place;
+use fv_base::Sink;
+
+/// How many bytes wait at most.
+const ROOM: usize = 512;
+
+/// A sink that gathers small pieces, and puts them into a sink below as one. `finish` puts what
+/// still waits.
+#[derive(Drop)]
+pub struct GatheringSink<S: Sink> {
+    /// The sink into which the pieces are put.
+    below: S,
+    /// The bytes that wait, and what was there before.
+    room: [u8; ROOM],
+    /// How many bytes wait.
+    filled: usize,
+    ghost fits: { filled ≤ 512 },
+}
+
+impl<S: Sink> GatheringSink<S> {
+    /// A sink in which nothing waits.
+    pub fn new(below: S) -> GatheringSink<S>
+        ensures below { result.below ≡ below }
+        ensures filled { result.filled ≡ 0 }
+    {
+        GatheringSink {
+            below,
+            room: [0; ROOM],
+            filled: 0,
+        }
+    }
+
+    // Puts what waits.
+    fn pass(&mut self)
+        ensures takes { GatheringTakes S.takes (λ s. s.below) (λ s. take s.filled s.room) self.old [] self.new }
+        ensures filled { self.new.filled ≡ 0 }
+    {
+        self.below.put(&self.room[..self.filled]);
+        self.filled = 0;
+    }
+
+    // Puts what waits, if there is else no room for so many bytes.
+    fn make_room(&mut self, count: usize)
+        requires { count ≤ 512 }
+        ensures takes { GatheringTakes S.takes (λ s. s.below) (λ s. take s.filled s.room) self.old [] self.new }
+        ensures room { self.new.filled + count ≤ 512 }
+    {
+        if count > ROOM - self.filled {
+            self.pass();
+        }
+    }
+
+    // Puts what waits, and the bytes after it.
+    fn pass_on(&mut self, bytes: &[u8])
+        ensures { GatheringTakes S.takes (λ s. s.below) (λ s. take s.filled s.room) self.old bytes.now self.new }
+    {
+        self.pass();
+        self.below.put(bytes);
+    }
+
+    // Keeps the bytes, for which there is room.
+    fn keep(&mut self, bytes: &[u8])
+        requires { self.old.filled + length bytes.now ≤ 512 }
+        ensures { GatheringTakes S.takes (λ s. s.below) (λ s. take s.filled s.room) self.old bytes.now self.new }
+    {
+        place(&mut self.room, self.filled, bytes);
+        self.filled += bytes.len();
+    }
+
+    /// Puts what still waits, and returns the sink below.
+    pub fn finish(self) -> S
+        ensures { S.takes self.below (take self.filled self.room) result }
+    {
+        let GatheringSink {
+            below,
+            room,
+            filled,
+        } = self;
+        let mut out = below;
+        out.put(&room[..filled]);
+        out
+    }
+}
+
+impl<S: Sink> Sink for GatheringSink<S> {
+    ghost takes = { GatheringTakes S.takes (λ s. s.below) (λ s. take s.filled s.room) };
+
+    ghost laws = { gathered_by S.takes (λ s. s.below) (λ s. take s.filled s.room) S.laws };
+
+    fn put(&mut self, bytes: &[u8]) {
+        if bytes.len() <= ROOM {
+            self.make_room(bytes.len());
+            self.keep(bytes);
+        } else {
+            self.pass_on(bytes);
+        }
+    }
+}

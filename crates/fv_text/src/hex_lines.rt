@@ -1,0 +1,152 @@
+//! Bytes, put and written as lines of hexadecimal digits.
+
+ghost use Rattle.std.specs.Prelude.{◌≡◌, ◌≤◌, ◌<◌, ℕ, List, length, take};
+ghost use Rattle.std.specs.Prelude.{IfErr, OnOk};
+ghost use Rattle.fv_text.specs.inner.HexLaws.{hex_by};
+ghost use Rattle.fv_text.specs.HexSinks.{HexTakes};
+ghost use Rattle.fv_text.specs.HexText.{IsHexText, ShowsBytes, last_text, line_text};
+ghost use Rattle.fv_text.specs.PortViews.{Writes, WritingStops, shown};
+
+use crate::placing::place;
+use fv_base::field::bytes_from;
+use fv_base::{Fault, Port, Sink, WriteSink};
+use std::io::Write;
+
+/// The number of bytes of a line.
+const LINE: usize = 32;
+
+// Puts one line: the digits of the bytes and a line feed.
+fn put_line<S: Sink>(out: &mut S, bytes: &[u8])
+    requires { length bytes.now ≤ 32 }
+    ensures { S.takes out.old (line_text bytes.now) out.new }
+{
+    let mut line = [0u8; 2 * LINE];
+    let end = 2 * bytes.len();
+    let Ok(()) = hex::encode_to_slice(bytes, &mut line[..end]) else {
+        unreachable!()
+    };
+    out.put(&line[..end]);
+    out.put(b"\n");
+}
+
+// Puts the last line, unless it is empty.
+fn put_last<S: Sink>(out: &mut S, bytes: &[u8])
+    requires { length bytes.now ≤ 32 }
+    ensures { S.takes out.old (last_text bytes.now) out.new }
+{
+    if !bytes.is_empty() {
+        put_line(out, bytes);
+    }
+}
+
+/// A sink that turns bytes into lines of 64 lower-case digits, and puts them into a sink below.
+/// `finish` puts the last line if it is a short one.
+#[derive(Drop)]
+pub struct HexSink<S: Sink> {
+    /// The sink into which the lines are put.
+    below: S,
+    /// The bytes of the line that is not yet put.
+    line: [u8; LINE],
+    /// How many bytes wait.
+    filled: usize,
+    ghost room: { filled < 32 },
+}
+
+impl<S: Sink> HexSink<S> {
+    /// Lines that go into the sink.
+    pub fn new(below: S) -> HexSink<S>
+        ensures below { result.below ≡ below }
+        ensures filled { result.filled ≡ 0 }
+    {
+        HexSink {
+            below,
+            line: [0; LINE],
+            filled: 0,
+        }
+    }
+
+    // Takes the first of the bytes, at most up to the end of the line.
+    fn take_some(&mut self, bytes: &[u8]) -> usize
+        requires { 0 < length bytes.now }
+        ensures some { 0 < result }
+        ensures bound { result ≤ length bytes.now }
+        ensures takes { HexTakes S.takes (λ s. s.below) (λ s. take s.filled s.line)
+            self.old (take result bytes.now) self.new }
+    {
+        let count = bytes.len().min(LINE - self.filled);
+        let end = self.filled + count;
+        place(&mut self.line, self.filled, &bytes[..count]);
+        if end < LINE {
+            self.filled = end;
+            return count;
+        }
+        self.filled = 0;
+        put_line(&mut self.below, &self.line);
+        count
+    }
+
+    /// Puts the last line if it is a short one, and returns the sink below.
+    pub fn finish(self) -> S
+        ensures { S.takes self.below (last_text (take self.filled self.line)) result }
+    {
+        let HexSink {
+            below,
+            line,
+            filled,
+        } = self;
+        let mut out = below;
+        put_last(&mut out, &line[..filled]);
+        out
+    }
+}
+
+impl<S: Sink> Sink for HexSink<S> {
+    ghost takes = { HexTakes S.takes (λ s. s.below) (λ s. take s.filled s.line) };
+
+    ghost laws = { hex_by S.takes (λ s. s.below) (λ s. take s.filled s.line) S.laws };
+
+    fn put(&mut self, bytes: &[u8]) {
+        let mut at = 0;
+        while at < bytes.len() {
+            at += self.take_some(bytes_from(bytes, at));
+        }
+    }
+}
+
+// Puts the bytes as lines of digits, and returns the sink.
+fn put_hex<S: Sink>(below: S, bytes: &[u8]) -> S
+    ensures { (text : List ℕ) × IsHexText bytes.now text × S.takes below text result }
+{
+    let mut lines = HexSink::new(below);
+    lines.put(bytes);
+    lines.finish()
+}
+
+// Puts the bytes as they are or as lines of digits, and returns the sink.
+fn put_shown<S: Sink>(below: S, hex: bool, bytes: &[u8]) -> S
+    ensures { (text : List ℕ) × ShowsBytes hex bytes.now text × S.takes below text result }
+{
+    if hex {
+        put_hex(below, bytes)
+    } else {
+        let mut out = below;
+        out.put(bytes);
+        out
+    }
+}
+
+/// Writes the bytes as they are, or as lines of digits.
+///
+/// # Errors
+///
+/// WriteFault at the number of bytes of text written in this call, if a write fails or takes no
+/// byte. Exactly that many bytes of the text were written then.
+pub fn write_shown<W: Write>(writer: &mut Port<W>, hex: bool, bytes: &[u8]) -> Result<(), Fault>
+    ensures ok { OnOk result ((text : List ℕ) × ShowsBytes hex bytes.now text
+        × Writes (shown W.contents writer.old) (shown W.contents writer.new) text) }
+    ensures err { IfErr result (λ f. (text : List ℕ) × ShowsBytes hex bytes.now text
+        × WritingStops (shown W.contents writer.old) (shown W.contents writer.new) text f) }
+{
+    let out = put_shown(WriteSink::new(writer), hex, bytes);
+    out.outcome()
+}

@@ -1,0 +1,12 @@
+//! Bytes that are copied to a place in a buffer.
+
+ghost use Rattle.std.specs.Prelude.{◌≡◌, ◌≤◌, ◌+◌, ◌++◌, length, take};
+
+/// Copies the bytes to an offset of the buffer, in bytes.
+pub fn place(buffer: &mut [u8], at: usize, bytes: &[u8])
+    requires { at + length bytes.now ≤ length buffer.old }
+    ensures placed { take (at + length bytes.now) buffer.new ≡ take at buffer.old ++ bytes.now }
+    ensures len { length buffer.new ≡ length buffer.old }
+{
+    buffer[at..at + bytes.len()].copy_from_slice(bytes);
+}

@@ -1,0 +1,101 @@
+//! White space in hexadecimal text, and the text without it.
+
+ghost use Rattle.fv_text.specs.HexPairs.{is_space, squeezed};
+ghost use Rattle.std.specs.Prelude.{◌≡◌, ◌≤◌, ◌+◌, ◌++◌, if◌then◌else◌, length, take, true, OnOk};
+
+use fv_base::field::bytes_from;
+use std::alloc::AllocError;
+
+/// How many bytes are looked at together.
+const WINDOW: usize = 16;
+
+// 0 for each byte that is white space, 1 for each other one.
+const KEPT: [u8; 256] = [
+    1, 1, 1, 1, 1, 1, 1, 1, 1, 0, 0, 1, 1, 0, 1, 1, 1, 1, 1, 1, 1, 1, 1, 1, 1, 1, 1, 1, 1, 1, 1, 1,
+    0, 1, 1, 1, 1, 1, 1, 1, 1, 1, 1, 1, 1, 1, 1, 1, 1, 1, 1, 1, 1, 1, 1, 1, 1, 1, 1, 1, 1, 1, 1, 1,
+    1, 1, 1, 1, 1, 1, 1, 1, 1, 1, 1, 1, 1, 1, 1, 1, 1, 1, 1, 1, 1, 1, 1, 1, 1, 1, 1, 1, 1, 1, 1, 1,
+    1, 1, 1, 1, 1, 1, 1, 1, 1, 1, 1, 1, 1, 1, 1, 1, 1, 1, 1, 1, 1, 1, 1, 1, 1, 1, 1, 1, 1, 1, 1, 1,
+    1, 1, 1, 1, 1, 1, 1, 1, 1, 1, 1, 1, 1, 1, 1, 1, 1, 1, 1, 1, 1, 1, 1, 1, 1, 1, 1, 1, 1, 1, 1, 1,
+    1, 1, 1, 1, 1, 1, 1, 1, 1, 1, 1, 1, 1, 1, 1, 1, 1, 1, 1, 1, 1, 1, 1, 1, 1, 1, 1, 1, 1, 1, 1, 1,
+    1, 1, 1, 1, 1, 1, 1, 1, 1, 1, 1, 1, 1, 1, 1, 1, 1, 1, 1, 1, 1, 1, 1, 1, 1, 1, 1, 1, 1, 1, 1, 1,
+    1, 1, 1, 1, 1, 1, 1, 1, 1, 1, 1, 1, 1, 1, 1, 1, 1, 1, 1, 1, 1, 1, 1, 1, 1, 1, 1, 1, 1, 1, 1, 1,
+];
+
+// How many bytes of the text without white space the byte is: none if it is a tab, a line feed, a
+// carriage return or a space.
+fn kept(byte: u8) -> usize
+    ensures { result ≡ (if is_space byte then 0 else 1) }
+{
+    usize::from(KEPT[usize::from(byte)])
+}
+
+// Whether all bytes are greater than a space, so that none of them is white space.
+fn is_dense(window: &[u8]) -> bool
+    ensures { result ≡ true → squeezed window.now ≡ window.now }
+{
+    let mut least = u8::MAX;
+    for byte in window {
+        least = least.min(*byte);
+    }
+    least > b' '
+}
+
+// Puts bytes at a place of the room.
+fn put_all(text: &[u8], room: &mut [u8], start: usize)
+    requires fits { start + length text.now ≤ length room.old }
+    ensures put { take (start + length text.now) room.new ≡ take start room.old ++ text.now }
+    ensures len { length room.new ≡ length room.old }
+{
+    room[start..start + text.len()].copy_from_slice(text);
+}
+
+// Puts the bytes of a text that are no white space at a place of the room, one after the other.
+// Returns the place after them.
+fn put_kept(text: &[u8], room: &mut [u8], start: usize) -> usize
+    requires fits { start + length text.now ≤ length room.old }
+    ensures put { take result room.new ≡ take start room.old ++ squeezed text.now }
+    ensures end { result ≤ start + length text.now }
+    ensures len { length room.new ≡ length room.old }
+{
+    let mut end = start;
+    for i in 0..text.len() {
+        room[end] = text[i];
+        end += kept(text[i]);
+    }
+    end
+}
+
+// The same, for a text that seldom has white space: where a window has none it is copied at once.
+fn put_windows(text: &[u8], room: &mut [u8], start: usize) -> usize
+    requires fits { start + length text.now ≤ length room.old }
+    ensures put { take result room.new ≡ take start room.old ++ squeezed text.now }
+    ensures end { result ≤ start + length text.now }
+    ensures len { length room.new ≡ length room.old }
+{
+    let mut end = start;
+    for i in 0..text.len() / WINDOW {
+        let window = &text[WINDOW * i..WINDOW * i + WINDOW];
+        if is_dense(window) {
+            put_all(window, room, end);
+            end += WINDOW;
+        } else {
+            end = put_kept(window, room, end);
+        }
+    }
+    put_kept(bytes_from(text, text.len() / WINDOW * WINDOW), room, end)
+}
+
+/// Appends the text to the digits, without its white space.
+///
+/// # Errors
+///
+/// AllocError if memory runs out.
+pub fn squeeze(text: &[u8], digits: &mut Vec<u8>) -> Result<(), AllocError>
+    ensures { OnOk result (digits.new.items ≡ digits.old.items ++ squeezed text.now) }
+{
+    let start = digits.len();
+    digits.resize(start + text.len(), 0)?;
+    let end = put_windows(text, digits, start);
+    digits.truncate(end);
+    Ok(())
+}
