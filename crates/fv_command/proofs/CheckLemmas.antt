@@ -14,10 +14,10 @@ use Rattle.fv_head.specs.declared.extent.Extent.{Extent}
 use Rattle.fv_base.specs.Limits.{depth_limit}
 use Rattle.fv_tree.specs.Denotes.{Accepted}
 use Rattle.fv_tree.specs.Meaning.{Meaning, files_of}
-use Rattle.fv_command.specs.inner.CheckRuns.{NotedCells, noted_lines}
+use Rattle.fv_command.specs.inner.CheckRuns.{NotedCells, NotedText, noted_lines}
 use Rattle.fv_command.specs.CheckTexts.{CheckText, verdict_line}
 use Rattle.fv_lines.specs.Notes.{AreNotes, depex_lines, depexes_in, pad_line, pad_notes, written_in}
-use Rattle.fv_lines.specs.declared.depex_walk.DepexNote.{DepexNote}
+use Rattle.fv_lines.specs.declared.depex_notes.DepexNote.{DepexNote}
 
 -- ---- pads that are erased
 
@@ -72,9 +72,9 @@ text_of b same view (Some (cells, p)) notes accepted image are noted = record {
   same_is = image;
 }
 
-pub check_text : (b : List ℕ) (same : Bool) (view : Meaning) (found seen : Option (List CellForm × Polarity)) (notes ns : List DepexNote)
+pub check_text : (b : List ℕ) (same : Bool) (view : Meaning) (found seen : Option (List CellForm × Polarity)) (text : List ℕ)
     → Accepted b view → ((same ≡ true) ↔ IsImage view b) → NotedCells b same found → seen ≡ found
-    → AreNotes (depexes_in (files_of view)) notes → ns ≡ notes → CheckText b same (noted_lines seen ns same)
-check_text b same view found seen notes ns accepted image are same_cells noted same_notes =
-    text_of b same view seen ns accepted image (subst (NotedCells b same) (sym same_cells) are)
-    (subst (AreNotes (depexes_in (files_of view))) (sym same_notes) noted)
+    → NotedText seen view same text → CheckText b same text
+check_text b same view found seen text accepted image are same_cells (notes, noted, is) =
+    subst (CheckText b same) (sym is)
+    (text_of b same view seen notes accepted image (subst (NotedCells b same) (sym same_cells) are) noted)

@@ -10,7 +10,7 @@ use Rattle.fv_head.specs.declared.extent.Extent.{Extent}
 use Rattle.fv_tree.specs.Denotes.{Accepted}
 use Rattle.fv_tree.specs.Meaning.{Meaning, files_of, head_of}
 use Rattle.fv_lines.specs.Notes.{AreNotes, depex_lines, depexes_in, pad_notes}
-use Rattle.fv_lines.specs.declared.depex_walk.DepexNote.{DepexNote}
+use Rattle.fv_lines.specs.declared.depex_notes.DepexNote.{DepexNote}
 
 -- whether a volume is its own canonical image
 abbrev pub verdict_line : Bool → List ℕ

@@ -8,14 +8,13 @@ use crate::check_text::write_lines;
 use crate::pads::noted_cells;
 use fv_base::{Fault, Port};
 use fv_canon::{is_canonical_image, whole_volume};
-use fv_lines::depex_notes;
 use std::alloc::Global;
 use std::io::Write;
 
 /// Writes the lines of a check: one for each pad of the input's volume that holds bytes which are
 /// not erased, one for each dependency expression of its files that is rejected, and last whether
 /// the input is its own canonical image. Returns whether it is. Nothing is written before the whole
-/// input and every expression have been read.
+/// input has been accepted.
 ///
 /// # Errors
 ///
@@ -37,7 +36,6 @@ pub fn write_check<W: Write>(
     let view = whole_volume(alloc, input)?;
     let is_same = is_canonical_image(alloc, &view, input)?;
     let tiled = noted_cells(alloc, input, is_same)?;
-    let notes = depex_notes(alloc, &view)?;
-    write_lines(writer, tiled.as_ref(), notes.as_slice(), is_same)?;
+    write_lines(writer, tiled.as_ref(), &view, is_same)?;
     Ok(is_same)
 }

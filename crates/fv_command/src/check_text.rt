@@ -1,14 +1,15 @@
 //! The lines of a check, put and written.
 
-ghost use Rattle.std.specs.Prelude.{option_copied, IfErr, OnOk};
-ghost use Rattle.fv_command.specs.inner.CheckRuns.{noted_lines};
+ghost use Rattle.std.specs.Prelude.{ℕ, List, option_copied, IfErr, OnOk};
+ghost use Rattle.fv_command.specs.inner.CheckRuns.{NotedText};
 ghost use Rattle.fv_command.specs.CheckTexts.{verdict_line};
 ghost use Rattle.fv_text.specs.PortViews.{Writes, WritingStops, shown};
 
 use crate::pads::put_pads;
 use fv_base::{Fault, Polarity, Port, Sink, WriteSink};
 use fv_file::Cells;
-use fv_lines::{DepexNote, put_depex_notes};
+use fv_lines::put_depex_notes;
+use fv_tree::VolumeView;
 use std::io::Write;
 
 // Puts whether a volume is its own canonical image.
@@ -26,18 +27,19 @@ fn put_verdict<S: Sink>(out: &mut S, is_same: bool)
 fn put_check<S: Sink>(
     out: &mut S,
     tiled: Option<&(Cells<'_>, Polarity)>,
-    notes: &[DepexNote],
+    volume: &VolumeView<'_>,
     is_same: bool,
 )
-    ensures { S.takes out.old (noted_lines (option_copied tiled.entry) notes.now is_same) out.new }
+    ensures { (text : List ℕ) × NotedText (option_copied tiled.entry) volume.now is_same text
+        × S.takes out.old text out.new }
 {
     put_pads(out, tiled);
-    put_depex_notes(out, notes);
+    put_depex_notes(out, volume);
     put_verdict(out, is_same);
 }
 
-/// Writes the lines of a check. If `tiled` is None, no pad is noted: the volume is its own
-/// canonical image.
+/// Writes the lines of a check of the volume. If `tiled` is None, no pad is noted: the volume is its
+/// own canonical image.
 ///
 /// # Errors
 ///
@@ -45,15 +47,15 @@ fn put_check<S: Sink>(
 pub fn write_lines<W: Write>(
     writer: &mut Port<W>,
     tiled: Option<&(Cells<'_>, Polarity)>,
-    notes: &[DepexNote],
+    volume: &VolumeView<'_>,
     is_same: bool,
 ) -> Result<(), Fault>
-    ensures ok { OnOk result (Writes (shown W.contents writer.old) (shown W.contents writer.new)
-        (noted_lines (option_copied tiled.entry) notes.now is_same)) }
-    ensures err { IfErr result (WritingStops (shown W.contents writer.old) (shown W.contents writer.new)
-        (noted_lines (option_copied tiled.entry) notes.now is_same)) }
+    ensures ok { OnOk result ((text : List ℕ) × NotedText (option_copied tiled.entry) volume.now is_same text
+        × Writes (shown W.contents writer.old) (shown W.contents writer.new) text) }
+    ensures err { IfErr result (λ f. (text : List ℕ) × NotedText (option_copied tiled.entry) volume.now is_same text
+        × WritingStops (shown W.contents writer.old) (shown W.contents writer.new) text f) }
 {
     let mut out = WriteSink::new(writer);
-    put_check(&mut out, tiled, notes, is_same);
+    put_check(&mut out, tiled, volume, is_same);
     out.outcome()
 }

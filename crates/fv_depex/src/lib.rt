@@ -16,6 +16,6 @@ mod write;
 pub use depex::Depex;
 pub use fault::{DepexFault, DepexFaultKind};
 pub use op::{Op, Phase};
-pub use read::read_depex;
+pub use read::{depex_fault, read_depex};
 pub use truth::evaluate;
 pub use write::depex_bytes;

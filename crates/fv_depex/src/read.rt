@@ -1,6 +1,6 @@
 //! Expressions, read.
 
-ghost use Rattle.std.specs.Prelude.{◌≡◌, ◌≢◌, ◌≤◌, ◌+◌, ℕ, List, length, drop, true, None, Some, OnOk, IfOk, IfErr};
+ghost use Rattle.std.specs.Prelude.{◌≡◌, ◌≢◌, ◌≤◌, ◌+◌, ℕ, List, length, drop, true, None, Some, OnOk, IfOk, IfErr, IfSome};
 ghost use Rattle.fv_base.specs.Checks.{IsFirstFault};
 ghost use Rattle.fv_base.specs.inner.Verdicts.{first_fault};
 ghost use Rattle.fv_depex.specs.OpChecks.{BeginsFirstOp, IsFirstOpFault, BeginsOp, has_code, in_place, has_values};
@@ -206,4 +206,32 @@ pub fn read_depex(alloc: Global, bytes: &[u8], phase: Phase) -> Result<Depex, De
     let (ops, at) = read_ops(alloc, bytes, phase)?;
     let rest = ByteList::from_slice(alloc, bytes_from(bytes, at))?;
     Ok(Depex::from_parts(phase, ops, rest))
+}
+
+/// The fault with which `read_depex` rejects the body of a dependency section, or None if the bytes
+/// begin with a complete expression. It takes no memory. (PI specification, volume 1, section 3.4,
+/// and volume 2, section 10.7.)
+pub fn depex_fault(bytes: &[u8], phase: Phase) -> Option<DepexFault>
+    // Without a fault, the bytes spell an expression and a rest.
+    ensures none { result ≡ None → (ops : List Op) × (rest : List ℕ) × Spells phase ops rest bytes.now }
+
+    // A fault is the first check that does not hold, at the first op that has one.
+    ensures first { IfSome result (IsFirstOpFault phase bytes.now) }
+{
+    let mut at = 0;
+    let mut stage = Stage::Start;
+    loop {
+        let op = match next_op(&bytes[at..], phase, stage) {
+            Ok(op) => op,
+            Err(kind) => {
+                let offset = at as u64;
+                return Some(DepexFault { kind, offset });
+            }
+        };
+        at += op_len(&op);
+        if op.code() == opcode::END {
+            return None;
+        }
+        stage = stage_after(stage, &op);
+    }
 }

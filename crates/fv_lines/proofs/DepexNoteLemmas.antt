@@ -9,9 +9,10 @@ use Rattle.fv_tree.specs.LookupInstances.{preorder, inside_section}
 use Rattle.fv_tree.specs.Meaning.{Meaning, FileMeaning, File, Plain, Sectioned, SectionMeaning, Section, SectionMeanings}
 use Rattle.fv_tree.specs.Meaning.{Leaf, Group, Nested, body_of, content_of, file_name_of, section_kind_of, sections_from}
 use Rattle.fv_lines.specs.Notes.{phase_of, read_by, section_depex, sections_depexes, file_depexes}
-use Rattle.fv_lines.specs.Notes.{HeldDepex, IsSpelled, IsNoted, AreNotes}
-use Rattle.fv_lines.specs.inner.NoteRuns.{Noted}
-use Rattle.fv_lines.specs.declared.depex_walk.DepexNote.{DepexNote}
+use Rattle.fv_lines.specs.Notes.{HeldDepex, IsSpelled, IsNoted, AreNotes, depex_line}
+use Rattle.fv_base.specs.Sinks.{WalkLaws}
+use Rattle.fv_lines.specs.inner.NoteRuns.{PutsNotes}
+use Rattle.fv_lines.specs.declared.depex_notes.DepexNote.{DepexNote}
 use Rattle.fv_text.proofs.Laws.{texts_next}
 
 -- ---- notes
@@ -22,22 +23,28 @@ notes_join (x ∷ xs) ys ms ns (inl (s, p)) q = inl (s, notes_join xs ys ms ns p
 notes_join (x ∷ xs) ys ms ns (inr (note, rest, is, e, p)) q =
     inr (note, rest ++ ns, is, ap (λ (l : List DepexNote). l ++ ns) e, notes_join xs ys rest ns p q)
 
-pub noted_none : (old : List DepexNote) → Noted [] old old
-noted_none old = ([], sym (append-nil old), refl)
+pub puts_none : {S : Type 0} {takes : S → List ℕ → S → Type 0} → WalkLaws takes → (s : S) → PutsNotes takes [] s s
+puts_none laws s = ([], refl, laws.none s)
 
-pub noted_spelled : (x : HeldDepex) (old : List DepexNote) → IsSpelled x → Noted (x ∷ []) old old
-noted_spelled x old s = ([], sym (append-nil old), inl (s, refl))
+pub puts_spelled : {S : Type 0} {takes : S → List ℕ → S → Type 0} → WalkLaws takes → (x : HeldDepex) (s : S) → IsSpelled x
+    → PutsNotes takes (x ∷ []) s s
+puts_spelled laws x s spelled = ([], inl (spelled, refl), laws.none s)
 
-pub noted_one : (x : HeldDepex) (note : DepexNote) (old new : List DepexNote) → IsNoted x note → new ≡ old ++ note ∷ []
-    → Noted (x ∷ []) old new
-noted_one x note old new is e = (note ∷ [], e, inr (note, [], is, refl, refl))
+pub puts_one : {S : Type 0} (takes : S → List ℕ → S → Type 0) (x : HeldDepex) (note : DepexNote) (s t : S) → IsNoted x note
+    → takes s (depex_line note) t → PutsNotes takes (x ∷ []) s t
+puts_one takes x note s t is line = (
+  note ∷ [],
+  inr (note, [], is, refl, refl),
+  subst (λ (l : List ℕ). takes s l t) (sym (append-nil (depex_line note))) line,
+)
 
-pub noted_then : (xs ys : List HeldDepex) (a b c : List DepexNote) → Noted xs a b → Noted ys b c → Noted (xs ++ ys) a c
-noted_then xs ys a b c (ms, e, p) (ns, f, q) =
-    (ms ++ ns, f ∙ ap (λ (l : List DepexNote). l ++ ns) e ∙ append_assoc a ms ns, notes_join xs ys ms ns p q)
-
-pub notes_then : (xs ys : List HeldDepex) (b c : List DepexNote) → AreNotes xs b → Noted ys b c → AreNotes (xs ++ ys) c
-notes_then xs ys b c p (ns, f, q) = subst (AreNotes (xs ++ ys)) (sym f) (notes_join xs ys b ns p q)
+pub puts_then : {S : Type 0} {takes : S → List ℕ → S → Type 0} → WalkLaws takes → (xs ys : List HeldDepex) (s t u : S)
+    → PutsNotes takes xs s t → PutsNotes takes ys t u → PutsNotes takes (xs ++ ys) s u
+puts_then {takes = takes} laws xs ys s t u (ms, p, a) (ns, q, b) = (
+  ms ++ ns,
+  notes_join xs ys ms ns p q,
+  subst (λ (l : List ℕ). takes s l u) (sym (flat_map-append depex_line ms ns)) (laws.joined s t u _ _ a b),
+)
 
 -- ---- the expressions of sections
 

@@ -3,15 +3,13 @@
 
 mod cell_run;
 mod cell_text;
-mod depex_lines;
-mod depex_walk;
+mod depex_notes;
 mod hob_text;
 mod pad_notes;
 mod scan_text;
 
 pub use cell_run::write_cells;
-pub use depex_lines::put_depex_notes;
-pub use depex_walk::{DepexNote, depex_notes};
+pub use depex_notes::{DepexNote, put_depex_notes};
 pub use hob_text::{MappedImage, Standing, standing_of, write_hobs};
 pub use pad_notes::put_pad_notes;
 pub use scan_text::write_volumes;

@@ -6,10 +6,10 @@ use Rattle.fv_base.specs.declared.flash.Polarity.{Polarity}
 use Rattle.fv_canon.specs.Refusals.{NotRead}
 use Rattle.fv_file.specs.Cells.{CellForm}
 use Rattle.fv_tree.specs.Denotes.{Accepted}
-use Rattle.fv_tree.specs.Meaning.{Meaning}
-use Rattle.fv_lines.specs.declared.depex_walk.DepexNote.{DepexNote}
+use Rattle.fv_tree.specs.Meaning.{Meaning, files_of}
+use Rattle.fv_lines.specs.declared.depex_notes.DepexNote.{DepexNote}
 use Rattle.fv_command.specs.CheckTexts.{AreCells, CheckText, verdict_line}
-use Rattle.fv_lines.specs.Notes.{depex_lines, pad_notes}
+use Rattle.fv_lines.specs.Notes.{AreNotes, depex_lines, depexes_in, pad_notes}
 use Rattle.fv_text.specs.PortViews.{Shown, Writes, WritingStops}
 
 -- the cells of the input, and the polarity of its erased bytes; None if it is its own canonical image
@@ -25,6 +25,11 @@ noted_pads (Some (cells, polarity)) = pad_notes polarity cells
 -- the lines of a check
 abbrev pub noted_lines : Option (List CellForm × Polarity) → List DepexNote → Bool → List ℕ
 noted_lines tiled notes same = noted_pads tiled ++ (depex_lines notes ++ verdict_line same)
+
+-- the text has the lines of a check of a volume of this meaning
+abbrev pub NotedText : Option (List CellForm × Polarity) → Meaning → Bool → List ℕ → Type 0
+NotedText tiled m same text =
+    (notes : List DepexNote) × AreNotes (depexes_in (files_of m)) notes × (text ≡ noted_lines tiled notes same)
 
 -- the text of a check was written
 abbrev pub InputChecks : List ℕ → Shown → Shown → Bool → Type 0

@@ -1,7 +1,7 @@
 //! Expressions that are read, and expressions that are rejected.
 
 use super::{A, B, ORDER, Parts, fault_of, joined, long};
-use crate::{DepexFault, DepexFaultKind, Op, Phase, read_depex};
+use crate::{DepexFault, DepexFaultKind, Op, Phase, depex_fault, read_depex};
 use std::alloc::Global;
 use std::test::Fail;
 
@@ -270,4 +270,18 @@ fn no_front_of_an_expression_is_read(rt: HostRuntime) {
         assert_eq!(rt; fault_of(rt.alloc(), front, Phase::Pei), fault, "{length}");
         assert_eq!(rt; fault_of(rt.alloc(), front, Phase::Dxe), fault, "{length}");
     }
+}
+
+#[test]
+fn faults_are_found_without_memory(rt: HostRuntime) -> Result<(), Fail> {
+    for (phase, parts, kind, offset) in FAULTS {
+        let bytes = joined(rt.alloc(), parts)?;
+        let fault = DepexFault {
+            kind: *kind,
+            offset: *offset,
+        };
+        assert_eq!(rt; depex_fault(bytes.as_slice(), *phase), Some(fault));
+    }
+    assert_eq!(rt; depex_fault(&NOT_A, Phase::Pei), None);
+    Ok(())
 }

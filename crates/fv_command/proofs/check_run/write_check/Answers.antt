@@ -21,22 +21,19 @@ returns-in_err-tiled-clause-err g c =
     let p = err_from_is_err_and c.from_residual-in_err-tiled.result c.from_residual-in_err-tiled.ensures.1 in
     rw (p.1, p.2) (inl (refl, inl c.in_err-tiled.ensures.err))
 
-pub returns-in_err-notes-clause-err : goal.returns-in_err-notes-clause-err
-returns-in_err-notes-clause-err g c =
-    let p = err_from_is_err_and c.from_residual-in_err-notes.result c.from_residual-in_err-notes.ensures.1 in
-    rw (p.1, p.2) (inl (refl, inl c.in_err-notes.ensures.err))
-
 pub returns-in_err-write_lines-clause-err : goal.returns-in_err-write_lines-clause-err
 returns-in_err-write_lines-clause-err g c =
     let p = err_from_is_err_and c.from_residual-in_err-write_lines.result c.from_residual-in_err-write_lines.ensures.1 in
+    let wrote = c.in_err-write_lines.ensures.err in
     let told = check_text c.args.input.now c.in_ok-is_same.is_same c.in_ok-view.view c.in_ok-tiled.tiled
-    (option_copied c.as_ref.result) c.in_ok-notes.notes.items c.as_slice.result.now c.in_ok-view.ensures.found
-    c.in_ok-is_same.ensures.ok c.in_ok-tiled.ensures.ok c.as_ref.ensures.value c.in_ok-notes.ensures.ok c.as_slice.ensures.value in
-    rw (p.1, p.2) (inr (c.in_ok-is_same.is_same, _, told, c.in_err-write_lines.ensures.err))
+    (option_copied c.as_ref.result) wrote.0 c.in_ok-view.ensures.found c.in_ok-is_same.ensures.ok c.in_ok-tiled.ensures.ok
+    c.as_ref.ensures.value wrote.1 in
+    rw (p.1, p.2) (inr (c.in_ok-is_same.is_same, wrote.0, told, wrote.2))
 
 pub returns-clause-ok : goal.returns-clause-ok
 returns-clause-ok g c =
+    let wrote = c.in_ok-write_lines.ensures.ok in
     let told = check_text c.args.input.now c.in_ok-is_same.is_same c.in_ok-view.view c.in_ok-tiled.tiled
-    (option_copied c.as_ref.result) c.in_ok-notes.notes.items c.as_slice.result.now c.in_ok-view.ensures.found
-    c.in_ok-is_same.ensures.ok c.in_ok-tiled.ensures.ok c.as_ref.ensures.value c.in_ok-notes.ensures.ok c.as_slice.ensures.value in
-    (_, told, c.in_ok-write_lines.ensures.ok)
+    (option_copied c.as_ref.result) wrote.0 c.in_ok-view.ensures.found c.in_ok-is_same.ensures.ok c.in_ok-tiled.ensures.ok
+    c.as_ref.ensures.value wrote.1 in
+    (wrote.0, told, wrote.2)

@@ -1,5 +1,5 @@
 use Rattle.std.proofs.Common.{ℕ, List, decimal, subst}
-use Rattle.fv_lines.proofs.depex_lines.put_note.Goals as goal
+use Rattle.fv_lines.proofs.depex_notes.put_note.Goals as goal
 
 pub returns : goal.returns
 returns g c =

@@ -1,0 +1,37 @@
+use Rattle.std.proofs.Common.{List, [], ◌∷◌, ◌++◌, refl, sym, subst, ◌∙◌, arith}
+use Rattle.std.proofs.lemmas.List.{take_rest}
+use Rattle.fv_depex.specs.OpChecks.{BeginsOp}
+use Rattle.fv_depex.specs.declared.op.Op.{Op}
+use Rattle.fv_depex.proofs.ReadLemmas.{kept_none, kept, ended, one_more}
+use Rattle.fv_depex.proofs.read.depex_fault.Goals as goal
+
+pub loop-op-init : goal.loop-op-init
+loop-op-init c = ([], kept_none c.args.phase c.args.bytes.now [] refl)
+
+pub loop-op-preserved : goal.loop-op-preserved
+loop-op-preserved c =
+    let ops : List Op = c.loop-op.invariant.0 in
+    let more : List Op = ops ++ c.in-Ok.op ∷ [] in (
+      more,
+      kept c.args.phase c.args.bytes.now ops more c.in-Ok.op c.loop-op.at c.op_len-at.result c.loop-op.stage
+          c.stage_after-stage.result c.loop-op.invariant.1 c.in-Ok.ensures.found c.op_len-at.ensures
+          (λ e. c.if-code-eq-END.false (c.code.ensures ∙ e)) refl c.stage_after-stage.ensures,
+    )
+
+pub loop-op-smaller : goal.loop-op-smaller
+loop-op-smaller c =
+    let b = c.args.bytes.now in
+    let at = c.loop-op.at in
+    let stands = subst (λ l. BeginsOp c.args.phase c.loop-op.stage c.in-Ok.op l) (take_rest b at) c.in-Ok.ensures.found in
+    let more = one_more c.args.phase b c.loop-op.invariant.0 c.in-Ok.op at c.op_len-at.result c.loop-op.stage
+    c.loop-op.invariant.1 stands c.op_len-at.ensures in
+    omega (arith, more.inside, c.op_len-at.ensures)
+
+pub returns-then-code-eq-END-clause-none : goal.returns-then-code-eq-END-clause-none
+returns-then-code-eq-END-clause-none c = λ none.
+    let ops : List Op = c.loop-op.invariant.0 in
+    let more : List Op = ops ++ c.in-Ok.op ∷ [] in
+    let spelled = ended c.args.phase c.args.bytes.now ops more c.in-Ok.op c.loop-op.at c.op_len-at.result
+    c.loop-op.stage c.loop-op.invariant.1 c.in-Ok.ensures.found c.op_len-at.ensures (sym c.code.ensures ∙ c.if-code-eq-END.true)
+    refl in
+    (more, _, spelled.1)
