@@ -1,9 +1,11 @@
 #!/usr/bin/env python3
 """Writes inputs that aim at cost, runs the built program over each, and prints what each run took: it is to end within
-3 seconds of processor time, in a peak of memory of at most twice its input and 64 MiB. README.md says more."""
+3 seconds of processor time, in a peak of memory of at most twice its input, or the multiple in RATIOS, and 64 MiB.
+README.md says more."""
 
 import argparse
 import os
+import random
 import struct
 import subprocess
 import sys
@@ -17,13 +19,15 @@ MIB = 1 << 20
 COMMANDS = ("normalise", "list", "check", "scan", "compare")
 MOST_SECONDS = 3
 EMPTY_SECTION = b"\x04\0\0\x19"
+EXPRESSION = 0x13
 NAME = bytes([0x0A]) * 16
 
 
-def head_of(length, entries=1):
-    """A volume header with so many entries in its block map, of which the last has what is left of the length."""
+def head_of(length, entries=1, ext=0):
+    """A volume header with so many entries in its block map, of which the last has what is left of the length, and the
+    offset of its extended header, or 0."""
     size = 64 + 8 * entries
-    head = struct.pack("<16s16sQ4sIHHHBB", bytes(16), FFS3, length, b"_FVH", 0x800, size, 0, 0, 0, 2)
+    head = struct.pack("<16s16sQ4sIHHHBB", bytes(16), FFS3, length, b"_FVH", 0x800, size, 0, ext, 0, 2)
     head += struct.pack("<II", 1, 8) * (entries - 1) + struct.pack("<IIQ", 1, length - 8 * (entries - 1), 0)
     return head[:50] + struct.pack("<H", sum16(head)) + head[52:]
 
@@ -149,8 +153,51 @@ def empty_sections(size):
     return volume(file(EMPTY_SECTION * ((size - 200) // 4)))
 
 
+def empty_expressions(size):
+    """Empty sections that are dependency expressions, each without an END, in one file."""
+    return volume(file(b"\x04\0\0\x13" * ((size - 200) // 4)))
+
+
+def one_expression(size):
+    """One dependency expression of as many ops as fit."""
+    return volume(file(section(EXPRESSION, b"\x06" + b"\x06\x03" * ((size - 200) // 2) + b"\x08")))
+
+
+def small_groups(size):
+    """Groups nested eight deep, many of them side by side, each with an empty section."""
+    block = EMPTY_SECTION
+    for _ in range(8):
+        block = section(GROUP, block)
+    return volume(file(block * ((size - 200) // len(block))))
+
+
+def entries(size):
+    """Volumes in sections, each with an extended header of as many entries of 5 bytes as fit."""
+    count = (65535 - 20) // 5
+    ext = NAME + struct.pack("<I", 20 + 5 * count) + (struct.pack("<HH", 5, 1) + b"\0") * count
+    inner = head_of(72 + len(ext) + -len(ext) % 8, ext=72) + ext + b"\xff" * (-len(ext) % 8)
+    return volume(file(section(VOLUME, inner) * ((size - 200) // (len(inner) + 4))))
+
+
+def small_volumes(size):
+    """Volumes of 72 bytes, each with a header and nothing else."""
+    return head_of(72) * (size // 72)
+
+
+def mixed_names(size):
+    """Each name twice, marked and valid, in no order."""
+    count = (size - 72) // 48
+    heads = [head[at : at + 24] for state in (MARKED, DATA_VALID) for head in named_files(count, state)
+             for at in range(0, len(head), 24)]
+    random.Random(7).shuffle(heads)
+    return volume(b"".join(heads))
+
+
 INPUTS = (signatures, summed_heads, stubs, pads, levels, level_groups, deep_data, maps, nested_maps)
-INPUTS += (names, replaced_names, twin_names, empty_sections)
+INPUTS += (names, replaced_names, mixed_names, twin_names, empty_sections, empty_expressions, one_expression)
+INPUTS += (small_groups, entries, small_volumes)
+# How many times its input a run may hold where it is not twice.
+RATIOS = {names: 10, replaced_names: 12, mixed_names: 14, empty_sections: 14, empty_expressions: 14, small_groups: 20}
 
 
 def write(make, size, path):
@@ -190,7 +237,7 @@ def main():
             size = os.path.getsize(path)
             for command in COMMANDS:
                 status, seconds, peak = measure(options.program, command, path)
-                most = 2 * size * (2 if command == "compare" else 1) + 64 * MIB
+                most = RATIOS.get(make, 2) * size * (2 if command == "compare" else 1) + 64 * MIB
                 holds = 0 <= status <= 2 and seconds <= MOST_SECONDS and peak <= most
                 over += not holds
                 figures = f"{status:6} {seconds:8.2f} {peak / MIB:9.1f} {most / MIB:9.1f}"
