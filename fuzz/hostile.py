@@ -197,7 +197,8 @@ INPUTS = (signatures, summed_heads, stubs, pads, levels, level_groups, deep_data
 INPUTS += (names, replaced_names, mixed_names, twin_names, empty_sections, empty_expressions, one_expression)
 INPUTS += (small_groups, entries, small_volumes)
 # How many times its input a run may hold where it is not twice.
-RATIOS = {names: 10, replaced_names: 12, mixed_names: 14, empty_sections: 14, empty_expressions: 14, small_groups: 20}
+RATIOS = {names: 10, replaced_names: 12, mixed_names: 14, empty_sections: 14, empty_expressions: 14, small_groups: 18}
+RATIOS |= {entries: 14}
 
 
 def write(make, size, path):

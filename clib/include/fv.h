@@ -1,0 +1,205 @@
+/* fv.h - reads, checks, compares and rebuilds UEFI firmware volumes (PI specification 1.8, volume 3).
+ *
+ * The calls are written in Rattle. Each is proved to do what its comment here says, except for two bounds:
+ * which faults a call can return, and that 553 bytes are enough for a line. Not proved are also this header,
+ * src/heap.c, and that the caller keeps the rules below. Link with `pkg-config --libs fv`.
+ *
+ * Rules for the caller
+ *   1. No pointer is NULL, not even if the length after it is 0. Then pass the address of any byte.
+ *   2. A buffer or a result (what is not const) overlaps no other argument of the same call.
+ *   3. While a call runs, no other thread writes to an argument, and none reads a buffer or a result.
+ *   4. No call is made in a signal handler.
+ * The library keeps no state. Any number of threads may call it at once, also with the same input.
+ *
+ * Results: 0 is success. 1 to 24 is the number of the first fault of the input, as docs/FAULTS.md has
+ * them. 24 is out of memory. 27 is a buffer that is too small. Calls for dependency expressions and
+ * hand-off lists have numbers of their own. All lengths and offsets are in bytes. A volume has at most
+ * 268,435,456 bytes, and so has an image for fv_normalise_image. */
+#ifndef FV_H
+#define FV_H
+
+#include <stddef.h>
+#include <stdint.h>
+
+#ifdef __cplusplus
+#define FV_RESTRICT
+#define FV_ASSERT static_assert
+extern "C" {
+#else
+#define FV_RESTRICT restrict
+#define FV_ASSERT _Static_assert
+#endif
+
+#define FV_VERSION "0.1"
+
+enum {
+    FV_DONE = 0,
+    FV_TRUNCATED = 1,
+    FV_SIGNATURE = 2,
+    FV_FILE_SYSTEM = 3,
+    FV_REVISION = 4,
+    FV_HEADER_LENGTH = 5,
+    FV_HEADER_SUM = 6,
+    FV_BLOCK_MAP = 7,
+    FV_LENGTH = 8,
+    FV_EXT_HEADER = 9,
+    FV_FILE_STATE = 10,
+    FV_FILE_HEADER_SUM = 11,
+    FV_FILE_SIZE = 12,
+    FV_LARGE_FILE = 13,
+    FV_FILE_SUM = 14,
+    FV_FIXED = 15,
+    FV_FREE_SPACE = 16,
+    FV_DUPLICATE_NAME = 17,
+    FV_TOP_FILE = 18,
+    FV_SECTION_SIZE = 19,
+    FV_SECTION_TAIL = 20,
+    FV_DEPTH = 21,
+    FV_NO_ROOM = 22,
+    FV_TOP_ALIGNMENT = 23,
+    FV_OUT_OF_MEMORY = 24,
+    FV_BUFFER_TOO_SMALL = 27
+};
+
+/* A fault and its place. All fields are 0 if there is none. */
+typedef struct fv_fault {
+    uint64_t offset; /* in bytes, from the first byte of the input */
+    uint32_t number; /* FV_TRUNCATED to FV_OUT_OF_MEMORY */
+    uint32_t depth;  /* the number of groups and opened volumes around it, 0 to 8 */
+} fv_fault;
+FV_ASSERT(sizeof(fv_fault) == 16 && offsetof(fv_fault, number) == 8 && offsetof(fv_fault, depth) == 12,
+          "the layout of fv_fault");
+
+/* The extent of a volume. */
+typedef struct fv_extent {
+    uint64_t length;      /* FvLength */
+    uint64_t header_len;  /* HeaderLength */
+    uint64_t first;       /* the offset at which its first file may begin */
+    uint32_t file_system; /* 2: FFS2, 3: FFS3 */
+    uint32_t erased;      /* the value of an erased byte, 0 or 255 */
+} fv_extent;
+FV_ASSERT(sizeof(fv_extent) == 32 && offsetof(fv_extent, header_len) == 8 && offsetof(fv_extent, first) == 16 &&
+              offsetof(fv_extent, file_system) == 24 && offsetof(fv_extent, erased) == 28,
+          "the layout of fv_extent");
+
+/* What a comparison found. */
+typedef struct fv_comparison {
+    uint64_t line_len; /* the number of bytes of the line with its line feed, at most 553 */
+    uint32_t same;     /* 1: the two volumes have the same meaning; else 0 */
+    uint32_t side;     /* the input that was rejected, 1 or 2; 0 if none was */
+    fv_fault fault;    /* the fault of that input */
+} fv_comparison;
+FV_ASSERT(sizeof(fv_comparison) == 32 && offsetof(fv_comparison, same) == 8 && offsetof(fv_comparison, side) == 12 &&
+              offsetof(fv_comparison, fault) == 16,
+          "the layout of fv_comparison");
+
+/* A SHA-256 digest. */
+typedef struct fv_sha256 {
+    uint8_t bytes[32];
+} fv_sha256;
+FV_ASSERT(sizeof(fv_sha256) == 32, "the layout of fv_sha256");
+
+/* Whether the bytes begin with a volume. Only its header is read. Returns 0 and the extent if they do.
+ * Else returns the first fault, 1 to 9, and *extent is unchanged. Takes no memory. */
+uint32_t fv_verify(const uint8_t *bytes, size_t len, fv_extent *FV_RESTRICT extent,
+                   fv_fault *FV_RESTRICT fault);
+
+/* Writes the canonical image of the volume that the input is to the first `len` bytes of the buffer; the
+ * image is as long as the input. Returns 0. Returns 27 if buffer_len < len. Else returns the first fault,
+ * 1 to 24. The buffer is unchanged then. */
+uint32_t fv_normalise(const uint8_t *input, size_t len, uint8_t *FV_RESTRICT buffer, size_t buffer_len,
+                      fv_fault *FV_RESTRICT fault);
+
+/* The same for a flash image. Each volume that fv_scan finds in it is replaced by its canonical image,
+ * and all other bytes are kept. The fault is that of the first volume that has no image, at its offset in
+ * the flash image. */
+uint32_t fv_normalise_image(const uint8_t *image, size_t len, uint8_t *FV_RESTRICT buffer, size_t buffer_len,
+                            fv_fault *FV_RESTRICT fault);
+
+/* Whether the input is a volume that is its own canonical image. Returns 0 if the input is a volume, and
+ * *canonical is 1 if it is its own image; else, also if it has none, *canonical is 0. Returns the first
+ * fault if the input is no volume, 1 to 21, or 24, and *canonical is unchanged. */
+uint32_t fv_is_canonical(const uint8_t *input, size_t len, uint32_t *FV_RESTRICT canonical,
+                         fv_fault *FV_RESTRICT fault);
+
+/* The SHA-256 digest of the canonical image of the volume that the input is. Returns 0. Else returns the
+ * first fault, 1 to 24, and *digest is unchanged. */
+uint32_t fv_digest(const uint8_t *input, size_t len, fv_sha256 *FV_RESTRICT digest,
+                   fv_fault *FV_RESTRICT fault);
+
+/* Writes the offsets of the volumes in the bytes, in rising order, to the start of the buffer. *count is
+ * their number. Returns 0. Returns 27 if *count > buffer_count; so an empty buffer asks for the number.
+ * Returns 24 if memory runs out, and *count is unchanged. */
+uint32_t fv_scan(const uint8_t *bytes, size_t len, uint64_t *FV_RESTRICT buffer, size_t buffer_count,
+                 uint64_t *FV_RESTRICT count);
+
+/* Compares the meanings of two inputs that are volumes. found->same says whether they are the same. The
+ * line `same`, or `different at` with the steps down to the first difference and its kind, is written to
+ * the start of the buffer. It ends with a line feed, not with a NUL. Returns 0. Returns 27 if
+ * buffer_len < found->line_len; 553 bytes are always enough. Else returns the first fault of the input
+ * found->side. */
+uint32_t fv_compare(const uint8_t *first, size_t first_len, const uint8_t *second, size_t second_len,
+                    char *FV_RESTRICT buffer, size_t buffer_len, fv_comparison *FV_RESTRICT found);
+
+/* What a cell of a volume's body is: a valid file; a pad file; a file that was deleted, or whose data were
+ * never finished; a file header that was never finished; erased bytes up to the volume's end. */
+enum { FV_CELL_FILE = 1, FV_CELL_PAD = 2, FV_CELL_DELETED = 3, FV_CELL_UNFINISHED = 4, FV_CELL_FREE = 5 };
+
+/* A cell of a volume's body. A field that the cell does not have is 0. */
+typedef struct fv_cell {
+    uint64_t offset;     /* from the volume's first byte */
+    uint64_t len;        /* the number of its bytes; of a file or a pad without the filler after it */
+    uint64_t header_len; /* of a file or a pad; its data are at offset + header_len */
+    uint32_t what;       /* FV_CELL_FILE to FV_CELL_FREE */
+    uint32_t kind;       /* Type of a file or a pad */
+    uint32_t attributes; /* Attributes of a file or a pad */
+    uint32_t reserved;   /* 0 */
+    uint8_t name[16];    /* Name of a file or a pad, by its bytes in the volume */
+} fv_cell;
+FV_ASSERT(sizeof(fv_cell) == 56 && offsetof(fv_cell, len) == 8 && offsetof(fv_cell, header_len) == 16 &&
+              offsetof(fv_cell, what) == 24 && offsetof(fv_cell, kind) == 28 && offsetof(fv_cell, attributes) == 32 &&
+              offsetof(fv_cell, reserved) == 36 && offsetof(fv_cell, name) == 40,
+          "the layout of fv_cell");
+
+/* Writes the cells of the volume with which the bytes begin, in order, to the start of the buffer. *count
+ * is their number. Returns 0. Returns 27 if *count > buffer_count. Else returns the first fault of the
+ * header or of the cells, 1 to 16, or 24, and *count is unchanged. Duplicate names, the volume top file
+ * and sections are not checked. */
+uint32_t fv_cells(const uint8_t *bytes, size_t len, fv_cell *FV_RESTRICT buffer, size_t buffer_count,
+                  uint64_t *FV_RESTRICT count, fv_fault *FV_RESTRICT fault);
+
+/* A GUID by its bytes in a volume. The first three fields have their least significant byte first. */
+typedef struct fv_guid {
+    uint8_t bytes[16];
+} fv_guid;
+FV_ASSERT(sizeof(fv_guid) == 16, "the layout of fv_guid");
+
+/* Evaluates a dependency expression (phase 0: PEI; any other number: DXE and MM). *value is its truth value
+ * when these GUIDs are installed, 1 or 0, or 2 for BEFORE and AFTER, which have none. Returns 0. Else
+ * returns the first fault by the numbers of dependency expressions: 1 to 5, or 6 if memory runs out.
+ * *value is unchanged then. */
+uint32_t fv_depex(const uint8_t *bytes, size_t len, uint32_t phase, const fv_guid *installed,
+                  size_t installed_count, uint32_t *FV_RESTRICT value, fv_fault *FV_RESTRICT fault);
+
+/* A block of a hand-off list. */
+typedef struct fv_hob {
+    uint64_t base;       /* the base address of the volume that an FV or FV2 block describes, else 0 */
+    uint64_t length;     /* the number of bytes of that volume, else 0 */
+    uint32_t code;       /* HobType */
+    uint32_t hob_length; /* HobLength */
+} fv_hob;
+FV_ASSERT(sizeof(fv_hob) == 24 && offsetof(fv_hob, length) == 8 && offsetof(fv_hob, code) == 16 &&
+              offsetof(fv_hob, hob_length) == 20,
+          "the layout of fv_hob");
+
+/* Writes the blocks of the hand-off list with which the bytes begin, in order, to the start of the buffer.
+ * *count is their number, and *consumed the number of bytes of the list. Returns 0. Returns 27 if
+ * *count > buffer_count. Else returns the first fault by the numbers of hand-off lists: 1 to 5, or 6 if
+ * memory runs out. *count and *consumed are unchanged then. */
+uint32_t fv_hobs(const uint8_t *bytes, size_t len, fv_hob *FV_RESTRICT buffer, size_t buffer_count,
+                 uint64_t *FV_RESTRICT count, uint64_t *FV_RESTRICT consumed, fv_fault *FV_RESTRICT fault);
+
+#ifdef __cplusplus
+}
+#endif
+#endif

@@ -1,0 +1,39 @@
+/* The heap of libfv: the three functions with which the proved code gets and returns memory, by malloc,
+ * realloc and free. They are not proved. To link libfv.a where there is no malloc, write these three anew.
+ *
+ * `a` is the alignment, 1 to 16. malloc aligns to 16 on x86-64 Linux. For a request of no bytes these ask
+ * for `a` bytes, since malloc may return NULL for none. If there is no memory, `p` is the address of a byte
+ * that is never used, since the proved code takes no null pointer. */
+#include <stdbool.h>
+#include <stddef.h>
+#include <stdint.h>
+#include <stdlib.h>
+
+struct tried {
+    bool ok;
+    uint8_t *p;
+};
+_Static_assert(sizeof(struct tried) == 16 && offsetof(struct tried, p) == 8, "the layout of a result");
+
+static uint8_t nothing;
+
+static struct tried tried(void *p)
+{
+    return (struct tried){.ok = p != NULL, .p = p ? p : &nothing};
+}
+
+struct tried rattle_alloc(size_t n, size_t a)
+{
+    return tried(malloc(n ? n : a));
+}
+
+struct tried rattle_realloc(uint8_t *p, size_t kept, size_t n, size_t a)
+{
+    (void)kept;
+    return tried(realloc(p, n ? n : a));
+}
+
+void rattle_dealloc(uint8_t *p)
+{
+    free(p);
+}

@@ -1,0 +1,242 @@
+/* The commands of the program by the library, so that a script can compare their output; and runs for a sanitizer.
+ *   fvc normalise|all|check|scan|cells|hobs|digest|flips|prefixes FILE      fvc compare FIRST SECOND
+ * The status is that of the program. */
+#include <fv.h>
+#include <inttypes.h>
+#include <stdio.h>
+#include <stdlib.h>
+#include <string.h>
+
+struct bytes {
+    uint8_t *p;
+    size_t n;
+};
+
+/* The bytes of a file, in a block of exactly their number: then a sanitizer sees a read past the end. */
+static struct bytes read_file(const char *path)
+{
+    FILE *f = fopen(path, "rb");
+    struct bytes b = {malloc(1), 0};
+    size_t got, held = 1;
+    static uint8_t chunk[65536];
+    if (!f) {
+        printf("fault 25 at 0\n");
+        exit(2);
+    }
+    while ((got = fread(chunk, 1, sizeof chunk, f)) > 0) {
+        if (b.n + got > held) b.p = realloc(b.p, held = 2 * (b.n + got));
+        memcpy(b.p + b.n, chunk, got);
+        b.n += got;
+    }
+    fclose(f);
+    uint8_t *exact = malloc(b.n ? b.n : 1);
+    memcpy(exact, b.p, b.n);
+    free(b.p);
+    b.p = exact;
+    return b;
+}
+
+static int refuse(const char *before, fv_fault f)
+{
+    printf("%sfault %" PRIu32 " at %" PRIu64 "\n", before, f.number, f.offset);
+    return 2;
+}
+
+static int normalise(const char *command, struct bytes in)
+{
+    fv_fault fault;
+    uint8_t *buffer = malloc(in.n ? in.n : 1);
+    uint32_t status = command[0] == 'n' ? fv_normalise(in.p, in.n, buffer, in.n, &fault)
+                                        : fv_normalise_image(in.p, in.n, buffer, in.n, &fault);
+    if (!status) fwrite(buffer, 1, in.n, stdout);
+    free(buffer);
+    return status ? refuse("", fault) : 0;
+}
+
+static int check(struct bytes in)
+{
+    fv_fault fault;
+    uint32_t canonical;
+    if (fv_is_canonical(in.p, in.n, &canonical, &fault)) return refuse("", fault);
+    puts(canonical ? "canonical" : "not canonical");
+    return !canonical;
+}
+
+static int digest(struct bytes in)
+{
+    fv_fault fault;
+    fv_sha256 sum;
+    if (fv_digest(in.p, in.n, &sum, &fault)) return refuse("", fault);
+    for (int i = 0; i < 32; i++) printf("%02x", sum.bytes[i]);
+    puts("");
+    return 0;
+}
+
+static int scan(struct bytes in)
+{
+    uint64_t none, count = 0, *offsets = &none;
+    fv_fault fault;
+    fv_extent extent;
+    if (fv_scan(in.p, in.n, offsets, 0, &count) == FV_BUFFER_TOO_SMALL) {
+        offsets = malloc(count * sizeof *offsets);
+        if (fv_scan(in.p, in.n, offsets, count, &count)) abort();
+    }
+    for (uint64_t i = 0; i < count; i++) {
+        if (fv_verify(in.p + offsets[i], in.n - offsets[i], &extent, &fault)) abort();
+        printf("volume at %" PRIu64 " length %" PRIu64 "\n", offsets[i], extent.length);
+    }
+    if (offsets != &none) free(offsets);
+    return 0;
+}
+
+static uint64_t up_to_8(uint64_t n)
+{
+    return (n + 7) / 8 * 8;
+}
+
+static void print_guid(const uint8_t *g)
+{
+    printf("%02x%02x%02x%02x-%02x%02x-%02x%02x-", g[3], g[2], g[1], g[0], g[5], g[4], g[7], g[6]);
+    printf("%02x%02x-", g[8], g[9]);
+    for (int i = 10; i < 16; i++) printf("%02x", g[i]);
+}
+
+static int cells(struct bytes in)
+{
+    static const char *const names[] = {"", "file", "pad", "unfinished", "unfinished", "free"};
+    uint64_t count = 0, filler = 0, sums[6] = {0};
+    fv_cell none, *cells = &none;
+    fv_fault fault;
+    fv_extent extent;
+    uint32_t status = fv_cells(in.p, in.n, cells, 0, &count, &fault);
+    if (status == FV_BUFFER_TOO_SMALL) {
+        cells = malloc(count * sizeof *cells);
+        status = fv_cells(in.p, in.n, cells, count, &count, &fault);
+    }
+    if (status) return refuse("", fault);
+    if (fv_verify(in.p, in.n, &extent, &fault)) abort();
+    printf("header at 0 length %" PRIu64 "\n", extent.first);
+    for (uint64_t i = 0; i < count; i++) {
+        fv_cell c = cells[i];
+        int is_deleted = c.what == FV_CELL_DELETED && ((in.p[c.offset + 23] ^ extent.erased) & 0x10);
+        const char *what = is_deleted ? "deleted" : names[c.what];
+        int has_filler = c.what == FV_CELL_FILE || c.what == FV_CELL_PAD;
+        printf("%s at %" PRIu64 " length %" PRIu64, what, c.offset, has_filler ? up_to_8(c.len) : c.len);
+        if (c.what == FV_CELL_FILE) {
+            putchar(' ');
+            print_guid(c.name);
+            printf(" type %02x attributes %02x data at %" PRIu64 " length %" PRIu64, c.kind, c.attributes,
+                   c.offset + c.header_len, c.len - c.header_len);
+        }
+        puts("");
+        if (has_filler) filler += up_to_8(c.len) - c.len;
+        sums[c.what] += c.len;
+    }
+    printf("sums files %" PRIu64 " pads %" PRIu64, sums[FV_CELL_FILE], sums[FV_CELL_PAD]);
+    printf(" deleted %" PRIu64, sums[FV_CELL_DELETED] + sums[FV_CELL_UNFINISHED]);
+    printf(" filler %" PRIu64 " free %" PRIu64 "\n", filler, sums[FV_CELL_FREE]);
+    if (cells != &none) free(cells);
+    return 0;
+}
+
+static int hobs(struct bytes in)
+{
+    uint64_t count = 0, consumed;
+    fv_hob none, *list = &none;
+    fv_fault fault;
+    uint32_t status = fv_hobs(in.p, in.n, list, 0, &count, &consumed, &fault);
+    if (status == FV_BUFFER_TOO_SMALL) {
+        list = malloc(count * sizeof *list);
+        status = fv_hobs(in.p, in.n, list, count, &count, &consumed, &fault);
+    }
+    if (status) return refuse("hob ", fault);
+    for (uint64_t i = 0; i < count; i++)
+        printf("hob %04" PRIx32 " length %" PRIu32 "\n", list[i].code, list[i].hob_length);
+    printf("consumed %" PRIu64 "\n", consumed);
+    if (list != &none) free(list);
+    return 0;
+}
+
+static int compare(struct bytes in, struct bytes other)
+{
+    fv_comparison found;
+    char line[553];
+    if (fv_compare(in.p, in.n, other.p, other.n, line, sizeof line, &found))
+        return refuse(found.side == 1 ? "first " : "second ", found.fault);
+    fwrite(line, 1, found.line_len, stdout);
+    return !found.same;
+}
+
+/* Each bit of the input turned, or each proper prefix of it, through all calls. Prints how often each result came. */
+static int vary(const char *command, struct bytes in)
+{
+    unsigned long seen[32] = {0};
+    size_t turns = command[0] == 'f' ? 8 * in.n : in.n;
+    uint8_t *buffer = malloc(in.n ? in.n : 1);
+    static uint64_t offsets[64];
+    static fv_cell cells[512];
+    static fv_hob list[512];
+    fv_fault fault;
+    fv_extent extent;
+    fv_comparison found;
+    fv_sha256 sum;
+    fv_guid guid = {{0}};
+    uint32_t canonical, value;
+    uint64_t count, consumed;
+    char line[553];
+    for (size_t k = 0; k < turns; k++) {
+        uint8_t *p = in.p;
+        size_t n = in.n;
+        if (command[0] == 'f') {
+            p[k / 8] ^= 1 << k % 8;
+        } else {
+            n = k;
+            p = malloc(n ? n : 1);
+            memcpy(p, in.p, n);
+        }
+        uint32_t status = fv_normalise(p, n, buffer, n, &fault);
+        if (status != fault.number || fv_digest(p, n, &sum, &fault) != status) abort();
+        seen[status]++;
+        if (!status && (fv_compare(p, n, buffer, n, line, sizeof line, &found) || !found.same)) abort();
+        if (!status && (fv_is_canonical(buffer, n, &canonical, &fault) || canonical != 1)) abort();
+        fv_verify(p, n, &extent, &fault);
+        fv_is_canonical(p, n, &canonical, &fault);
+        fv_normalise_image(p, n, buffer, n, &fault);
+        fv_scan(p, n, offsets, 64, &count);
+        fv_cells(p, n, cells, 512, &count, &fault);
+        fv_hobs(p, n, list, 512, &count, &consumed, &fault);
+        fv_depex(p, n, 0, &guid, 1, &value, &fault);
+        fv_depex(p, n, 1, &guid, 1, &value, &fault);
+        if (command[0] == 'f')
+            p[k / 8] ^= 1 << k % 8;
+        else
+            free(p);
+    }
+    free(buffer);
+    for (int i = 0; i < 32; i++)
+        if (seen[i]) printf("%d:%lu ", i, seen[i]);
+    puts("");
+    return 0;
+}
+
+int main(int argc, char **argv)
+{
+    if (argc < 3) return 3;
+    const char *command = argv[1];
+    struct bytes in = read_file(argv[2]);
+    int status = 3;
+    if (!strcmp(command, "normalise") || !strcmp(command, "all")) status = normalise(command, in);
+    if (!strcmp(command, "check")) status = check(in);
+    if (!strcmp(command, "digest")) status = digest(in);
+    if (!strcmp(command, "scan")) status = scan(in);
+    if (!strcmp(command, "cells")) status = cells(in);
+    if (!strcmp(command, "hobs")) status = hobs(in);
+    if (!strcmp(command, "flips") || !strcmp(command, "prefixes")) status = vary(command, in);
+    if (!strcmp(command, "compare") && argc == 4) {
+        struct bytes other = read_file(argv[3]);
+        status = compare(in, other);
+        free(other.p);
+    }
+    free(in.p);
+    return status;
+}

@@ -1,0 +1,106 @@
+/* Each allocation of each call is refused in turn, by three functions in place of those of src/heap.c. A call must then
+ * return that memory ran out, or what it returns without that. It must keep no block, and leave the buffer as it was. */
+#include <fv.h>
+#include <stdbool.h>
+#include <stdio.h>
+#include <stdlib.h>
+#include <string.h>
+
+struct tried {
+    bool ok;
+    uint8_t *p;
+};
+
+static uint8_t nothing;
+static long left = -1, blocks;
+
+static bool is_refused(void)
+{
+    return left >= 0 && left-- == 0;
+}
+
+struct tried rattle_alloc(size_t n, size_t a)
+{
+    if (is_refused()) return (struct tried){false, &nothing};
+    blocks++;
+    return (struct tried){true, malloc(n ? n : a)};
+}
+
+struct tried rattle_realloc(uint8_t *p, size_t kept, size_t n, size_t a)
+{
+    (void)kept;
+    if (is_refused()) return (struct tried){false, &nothing};
+    return (struct tried){true, realloc(p, n ? n : a)};
+}
+
+void rattle_dealloc(uint8_t *p)
+{
+    blocks--;
+    free(p);
+}
+
+enum { CALLS = 9 };
+static const char *const names[CALLS] = {"normalise", "normalise_image", "is_canonical", "digest", "scan",
+                                         "compare",   "cells",           "hobs",         "depex"};
+static uint8_t in[1 << 24], buffer[1 << 24];
+
+static uint32_t call(int which, size_t n)
+{
+    static fv_cell cells[4096];
+    static fv_hob list[4096];
+    static char line[553];
+    static uint64_t offsets[64];
+    static const uint8_t expression[18] = {2, 1, 2, 3, 4, 5, 6, 7, 8, 9, 10, 11, 12, 13, 14, 15, 16, 8};
+    fv_guid guid = {{1}};
+    fv_fault fault;
+    fv_comparison found;
+    fv_sha256 sum;
+    uint32_t value;
+    uint64_t count, consumed;
+    switch (which) {
+    case 0: return fv_normalise(in, n, buffer, n, &fault);
+    case 1: return fv_normalise_image(in, n, buffer, n, &fault);
+    case 2: return fv_is_canonical(in, n, &value, &fault);
+    case 3: return fv_digest(in, n, &sum, &fault);
+    case 4: return fv_scan(in, n, offsets, 64, &count);
+    case 5: return fv_compare(in, n, in, n, line, sizeof line, &found);
+    case 6: return fv_cells(in, n, cells, 4096, &count, &fault);
+    case 7: return fv_hobs(in, n, list, 4096, &count, &consumed, &fault);
+    default: return fv_depex(expression, sizeof expression, 0, &guid, 1, &value, &fault);
+    }
+}
+
+int main(int argc, char **argv)
+{
+    FILE *f = argc == 2 ? fopen(argv[1], "rb") : NULL;
+    if (!f) return 3;
+    size_t n = fread(in, 1, sizeof in, f);
+    fclose(f);
+    for (int which = 0; which < CALLS; which++) {
+        uint32_t want = 0, memory = which < 7 ? 24 : 6;
+        long k, refused = 0;
+        for (k = -1;; k++) {
+            left = k;
+            memset(buffer, 7, n);
+            uint32_t status = call(which, n);
+            if (blocks) {
+                printf("%s, allocation %ld: %ld blocks are left\n", names[which], k, blocks);
+                return 1;
+            }
+            if (k < 0) {
+                want = status;
+                continue;
+            }
+            if (left >= 0) break; /* there are no more allocations */
+            refused += status == memory;
+            if (status != memory && status != want) {
+                printf("%s, allocation %ld: %u, not %u\n", names[which], k, status, want);
+                return 1;
+            }
+            for (size_t i = 0; status && i < n; i++)
+                if (buffer[i] != 7) return 1;
+        }
+        printf("%s returns %u; of %ld allocations %ld end in %u\n", names[which], want, k, refused, memory);
+    }
+    return 0;
+}

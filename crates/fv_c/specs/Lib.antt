@@ -1,0 +1,7 @@
+-- The definitions in the order in which they can be read.
+pub mod Reports
+pub mod ReportedCells
+pub mod ReportedComparisons
+pub mod ReportedTruths
+pub mod ReportedHobs
+pub mod inner

@@ -1,0 +1,27 @@
+-- The blocks of a hand-off list, as they are reported to C.
+use Rattle.std.specs.Prelude.{ℕ, List, Some, None, Option, take}
+use Rattle.fv_hob.specs.HobChecks.{IsFirstHobFault, hob_fault_number}
+use Rattle.fv_hob.specs.Hobs.{HobForm, hob_len, hob_type}
+use Rattle.fv_hob.specs.Lists.{IsHobList, span_of}
+use Rattle.fv_hob.specs.declared.fault.HobFault.{HobFault}
+use Rattle.fv_hob.specs.declared.span.Span.{Span}
+use Rattle.fv_c.specs.declared.hobs.FvHob.{FvHob}
+use Rattle.fv_c.specs.declared.reports.FvFault.{FvFault}
+
+-- a block, with the span of the volume that it describes, if it describes one
+abbrev pub with_span : Option Span → HobForm → FvHob
+with_span None h = record { base = 0; length = 0; code = hob_type h.kind; hob_length = hob_len h.kind }
+with_span (Some s) h = record { base = s.base; length = s.length; code = hob_type h.kind; hob_length = hob_len h.kind }
+
+-- a block
+abbrev pub reported_hob : HobForm → FvHob
+reported_hob h = with_span (span_of h.kind) h
+
+-- a fault of a list
+abbrev pub reported_hob_fault : HobFault → FvFault
+reported_hob_fault f = record { offset = f.offset; number = hob_fault_number f.kind; depth = 0 }
+
+-- the bytes begin with no hand-off list, and this is the first fault
+pub record NoHobs (b : List ℕ) (f : HobFault) : Type 0 where
+  pub none : (all : List HobForm) (n : ℕ) → IsHobList all (take n b) → ⊥
+  pub first : IsFirstHobFault b f

@@ -1,0 +1,35 @@
+-- What C passes of a dependency expression, and what is reported to it.
+use Rattle.std.specs.Prelude.{ℕ, zero, suc, List, Option, Some, None, Bool, true, false}
+use Rattle.fv_base.specs.declared.guid.Guid.{Guid}
+use Rattle.fv_depex.specs.Expressions.{Spells}
+use Rattle.fv_depex.specs.OpChecks.{IsFirstOpFault, depex_fault_number}
+use Rattle.fv_depex.specs.declared.fault.DepexFault.{DepexFault}
+use Rattle.fv_depex.specs.declared.op.Op.{Op}
+use Rattle.fv_depex.specs.declared.op.Phase.{Phase}
+use Rattle.fv_depex.specs.declared.op.Phase.TheVariants as phases
+use Rattle.fv_c.specs.declared.depex.FvGuid.{FvGuid}
+use Rattle.fv_c.specs.declared.reports.FvFault.{FvFault}
+
+-- the GUID that C has passed
+abbrev pub passed_guid : FvGuid → Guid
+passed_guid g = record { bytes = g.bytes }
+
+-- a truth value; 2 says that there is none
+abbrev pub reported_truth : Option Bool → ℕ
+reported_truth (Some true) = 1
+reported_truth (Some false) = 0
+reported_truth None = 2
+
+-- a phase by its number: 0 is PEI, any other is DXE and MM
+abbrev pub phase_of : ℕ → Phase
+phase_of zero = phases.Pei
+phase_of (suc n) = phases.Dxe
+
+-- a fault of an expression
+abbrev pub reported_depex_fault : DepexFault → FvFault
+reported_depex_fault f = record { offset = f.offset; number = depex_fault_number f.kind; depth = 0 }
+
+-- the bytes are no expression of the phase, and this is the first fault
+pub record NoExpression (phase : Phase) (b : List ℕ) (f : DepexFault) : Type 0 where
+  pub none : (ops : List Op) (rest : List ℕ) → Spells phase ops rest b → ⊥
+  pub first : IsFirstOpFault phase b f

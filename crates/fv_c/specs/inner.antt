@@ -1,0 +1,2 @@
+-- Definitions that serve private clauses alone: there is nothing to believe here.
+pub mod ReturnedCells

@@ -1,0 +1,188 @@
+//! The cells of a volume's body: its files, pads, deleted files and free bytes, with their offsets.
+
+ghost use Rattle.std.specs.Prelude.{◌≡◌, ◌≢◌, ◌<◌, ◌++◌, ◌∷◌, [], List, length, drop, map, IfErr, IfOk};
+ghost use Rattle.fv_base.specs.Faults.{fault_number, out_of_memory};
+ghost use Rattle.fv_base.specs.Guids.{bytes_of};
+ghost use Rattle.fv_base.specs.declared.fault.Fault.{Fault};
+ghost use Rattle.fv_file.specs.Attributes.{attribute_bits};
+ghost use Rattle.fv_file.specs.CellForms.{cell_form};
+ghost use Rattle.fv_file.specs.Cells.{CellForm};
+ghost use Rattle.fv_c.specs.ReportedCells.{reported_cell, HasCells, NoCells};
+ghost use Rattle.fv_c.specs.inner.ReturnedCells.{reported_of};
+ghost use Rattle.fv_c.specs.Reports.{reported_fault, no_fault};
+
+use crate::reports::{BUFFER_TOO_SMALL, FvFault, NO_FAULT, reported_fault};
+use fv_base::Fault;
+use fv_file::{Cell, Cells, FileHead, cells};
+use fv_head::verify_fv;
+use std::alloc::{AllocError, Global};
+
+/// A cell of a volume's body. A field that the cell does not have is 0. (PI specification, volume
+/// 3, sections 3.2.2 and 3.2.3.)
+#[repr(C)]
+#[derive(Clone, Copy, Debug, PartialEq, Eq)]
+pub struct FvCell {
+    /// Its offset in bytes from the volume's start.
+    pub offset: u64,
+    /// The number of its bytes, of a file or a pad without the filler after it.
+    pub len: u64,
+    /// The number of bytes of the header of a file or a pad. Its data follow the header.
+    pub header_len: u64,
+    /// 1: a valid file; 2: a pad; 3: a file that was deleted or whose data were never finished; 4:
+    /// a header that was never finished; 5: free bytes.
+    pub what: u32,
+    /// `Type` of a file or a pad.
+    pub kind: u32,
+    /// `Attributes` of a file or a pad.
+    pub attributes: u32,
+    /// Always 0.
+    pub reserved: u32,
+    /// `Name` of a file or a pad, by its bytes in the volume.
+    pub name: [u8; 16],
+}
+
+// A file or a pad, for C.
+fn of_file(offset: u64, what: u32, head: FileHead) -> FvCell
+    ensures { result ≡ record {
+      offset = offset;
+      len = head.size;
+      header_len = head.header_len;
+      what = what;
+      kind = head.kind;
+      attributes = attribute_bits head.attributes;
+      reserved = 0;
+      name = bytes_of head.name;
+    } }
+{
+    FvCell {
+        offset,
+        len: head.size,
+        header_len: head.header_len,
+        what,
+        kind: u32::from(head.kind),
+        attributes: u32::from(head.attributes.byte()),
+        reserved: 0,
+        name: head.name.to_bytes(),
+    }
+}
+
+// Bytes of no valid file, for C.
+fn of_bytes(offset: u64, what: u32, len: u64) -> FvCell
+    ensures { result ≡ record {
+      offset = offset;
+      len = len;
+      header_len = 0;
+      what = what;
+      kind = 0;
+      attributes = 0;
+      reserved = 0;
+      name = 0 ∷ 0 ∷ 0 ∷ 0 ∷ 0 ∷ 0 ∷ 0 ∷ 0 ∷ 0 ∷ 0 ∷ 0 ∷ 0 ∷ 0 ∷ 0 ∷ 0 ∷ 0 ∷ [];
+    } }
+{
+    FvCell {
+        offset,
+        len,
+        header_len: 0,
+        what,
+        kind: 0,
+        attributes: 0,
+        reserved: 0,
+        name: [0, 0, 0, 0, 0, 0, 0, 0, 0, 0, 0, 0, 0, 0, 0, 0],
+    }
+}
+
+// A cell, for C.
+fn reported_cell(cell: &Cell<'_>) -> FvCell
+    ensures { result ≡ reported_cell (cell_form cell.now) }
+{
+    match *cell {
+        Cell::Valid { offset, head, .. } => of_file(offset, 1, head),
+        Cell::Pad { offset, head, .. } => of_file(offset, 2, head),
+        Cell::Dead { offset, len } => of_bytes(offset, 3, len),
+        Cell::Stub { offset, len } => of_bytes(offset, 4, len),
+        Cell::Free { offset, len } => of_bytes(offset, 5, len),
+    }
+}
+
+// The cells of the volume with which the bytes begin.
+fn first_cells(alloc: Global, bytes: &[u8]) -> Result<Cells<'_>, Fault>
+    ensures ok { IfOk result (HasCells bytes.now) }
+    ensures err { IfErr result (λ f. f ≢ out_of_memory → NoCells bytes.now f) }
+{
+    let extent = verify_fv(bytes)?;
+    let volume = &bytes[..extent.length as usize];
+    cells(
+        alloc,
+        volume,
+        extent.first,
+        extent.file_system,
+        extent.polarity,
+    )
+}
+
+// Cells, for C.
+fn reported_cells(alloc: Global, list: &[Cell<'_>]) -> Result<Vec<FvCell>, AllocError>
+    ensures { IfOk result (λ v. v.items ≡ map reported_of list.now) }
+{
+    let mut reported = Vec::new(alloc);
+    for cell in list {
+        reported.push(reported_cell(cell))?;
+    }
+    Ok(reported)
+}
+
+// The cells of a volume, for C.
+fn reported_list(alloc: Global, list: &Cells<'_>) -> Result<Vec<FvCell>, AllocError>
+    ensures { IfOk result (λ v. v.items ≡ map reported_cell list.now) }
+{
+    reported_cells(alloc, list.as_slice())
+}
+
+/// Writes the cells of the volume with which the bytes begin, in order, at the start of the buffer.
+/// `count` is their number. Returns 0. Sections, duplicate names and the volume top file are not
+/// checked. (PI specification, volume 3, sections 3.2.2 and 3.2.3.)
+///
+/// # Errors
+///
+/// 27 if the buffer has fewer elements than `count`. The number of the first fault, which is in
+/// `fault`: those of `verify_fv`, then those of `cells`; 24 if memory runs out. `count` is unchanged
+/// then. The buffer is unchanged in both cases.
+#[unsafe(no_mangle)]
+pub extern "C" fn fv_cells(
+    alloc: Global,
+    bytes: &[u8],
+    buffer: &mut [FvCell],
+    count: &mut u64,
+    fault: &mut FvFault,
+) -> u32
+    // The buffer begins with the cells, and holds what it held after them.
+    ensures ok { result ≡ 0 → (cs : List CellForm) × HasCells bytes.now cs × (count.new ≡ length cs)
+        × (buffer.new ≡ map reported_cell cs ++ drop (length cs) buffer.old) × (fault.new ≡ no_fault) }
+    ensures kept { result ≢ 0 → buffer.new ≡ buffer.old }
+    ensures small { result ≡ 27 → (cs : List CellForm) × HasCells bytes.now cs × (count.new ≡ length cs)
+        × (length buffer.old < length cs) × (fault.new ≡ no_fault) }
+
+    // Any other fault is out of memory or the first of the header or of the cells.
+    ensures err { result ≢ 0 → result ≢ 27 → (f : Fault) × (f ≢ out_of_memory → NoCells bytes.now f)
+        × (result ≡ fault_number f.kind) × (fault.new ≡ reported_fault f) × (count.new ≡ count.old) }
+{
+    let list = match first_cells(alloc, bytes) {
+        Ok(list) => list,
+        Err(f) => {
+            *fault = reported_fault(f);
+            return u32::from(f.kind.number());
+        }
+    };
+    let Ok(reported) = reported_list(alloc, &list) else {
+        *fault = reported_fault(Fault::outer(fv_base::FaultKind::OutOfMemory, 0));
+        return 24;
+    };
+    *count = reported.len() as u64;
+    *fault = NO_FAULT;
+    if buffer.len() < reported.len() {
+        return BUFFER_TOO_SMALL;
+    }
+    let (front, _) = buffer.split_at_mut(reported.len());
+    front.copy_from_slice(reported.as_slice());
+    0
+}

@@ -1,0 +1,144 @@
+//! Where the meanings of two volumes first differ.
+
+ghost use Rattle.std.specs.Prelude.{◌≡◌, ◌≢◌, ◌⊎◌, ◌↔◌, ◌<◌, ◌++◌, length, drop, true, IfOk, IfErr};
+ghost use Rattle.fv_base.specs.Faults.{fault_number, out_of_memory};
+ghost use Rattle.fv_base.specs.declared.fault.Fault.{Fault};
+ghost use Rattle.fv_canon.specs.ComparisonLines.{compare_line};
+ghost use Rattle.fv_canon.specs.Refusals.{NotRead};
+ghost use Rattle.fv_tree.specs.Denotes.{Accepted};
+ghost use Rattle.fv_tree.specs.Difference.{difference};
+ghost use Rattle.fv_tree.specs.Meaning.{Meaning};
+ghost use Rattle.fv_c.specs.ReportedComparisons.{IsReported, reported_stop};
+
+use crate::buffer::put_first;
+use crate::reports::{BUFFER_TOO_SMALL, FvFault, NO_FAULT, flag, reported_fault};
+use fv_base::{Fault, FaultKind, Port};
+use fv_canon::{whole_volume, write_comparison};
+use fv_tree::VolumeView;
+use std::alloc::Global;
+
+/// What a comparison found.
+#[repr(C)]
+#[derive(Clone, Copy, Debug, PartialEq, Eq)]
+pub struct FvComparison {
+    /// The number of bytes of the line, its line feed included.
+    pub line_len: u64,
+    /// 1 if the two volumes have the same meaning, else 0.
+    pub same: u32,
+    /// The input that was rejected, 1 or 2; 0 if none was.
+    pub side: u32,
+    /// The fault of that input.
+    pub fault: FvFault,
+}
+
+// That the input of this side was rejected, for C.
+fn stopped(side: u32, f: Fault) -> FvComparison
+    ensures { result ≡ reported_stop side f }
+{
+    FvComparison {
+        line_len: 0,
+        same: 0,
+        side,
+        fault: reported_fault(f),
+    }
+}
+
+// Whether two volumes have the same meaning, and the line that says where they first differ.
+fn line_of(alloc: Global, a: &VolumeView<'_>, b: &VolumeView<'_>) -> Result<(bool, Vec<u8>), Fault>
+    ensures ok { IfOk result (λ r. ((r.0 ≡ true) ↔ (a.now ≡ b.now))
+        × (r.1.items ≡ compare_line (difference a.now b.now))) }
+    ensures err { IfErr result (λ f. f ≡ out_of_memory) }
+{
+    let mut port = Port::new(Vec::new(alloc));
+    match write_comparison(alloc, a, b, &mut port) {
+        Ok(same) => Ok((same, port.into_inner())),
+        Err(_) => Err(Fault::outer(FaultKind::OutOfMemory, 0)),
+    }
+}
+
+// Reports the comparison of two volumes to C.
+fn report(
+    alloc: Global,
+    a: &VolumeView<'_>,
+    b: &VolumeView<'_>,
+    buffer: &mut [u8],
+    found: &mut FvComparison,
+) -> u32
+    ensures ok { result ≡ 0 → IsReported a.now b.now found.new
+        × (buffer.new ≡ compare_line (difference a.now b.now) ++ drop found.new.line_len buffer.old) }
+    ensures kept { result ≢ 0 → buffer.new ≡ buffer.old }
+    ensures small { result ≡ 27 → IsReported a.now b.now found.new × (length buffer.old < found.new.line_len) }
+    ensures first { found.new.side ≡ 1 → (result ≡ 24) × (found.new ≡ reported_stop 1 out_of_memory) }
+    ensures second { found.new.side ≢ 2 }
+    ensures side { result ≢ 0 → result ≢ 27 → found.new.side ≡ 1 }
+{
+    let (same, line) = match line_of(alloc, a, b) {
+        Ok(pair) => pair,
+        Err(f) => {
+            *found = stopped(1, f);
+            return 24;
+        }
+    };
+    *found = FvComparison {
+        line_len: line.len() as u64,
+        same: flag(same),
+        side: 0,
+        fault: NO_FAULT,
+    };
+    if buffer.len() < line.len() {
+        return BUFFER_TOO_SMALL;
+    }
+    put_first(line.as_slice(), buffer);
+    0
+}
+
+/// Compares the meanings of two inputs that are volumes. Writes a line at the start of the buffer:
+/// `same`, or `different at` with the steps down to the first difference and its kind. `found` says
+/// whether they have the same meaning. Returns 0. (PI specification, volume 3, section 3.2.)
+///
+/// # Errors
+///
+/// 27 if the buffer is shorter than the line. The number of the first fault of the input
+/// `found.side`, which is in `found.fault`: those of `whole_volume`; 24 if memory runs out, with
+/// the first side if the two are being compared. The buffer is unchanged then.
+#[unsafe(no_mangle)]
+pub extern "C" fn fv_compare(
+    alloc: Global,
+    first: &[u8],
+    second: &[u8],
+    buffer: &mut [u8],
+    found: &mut FvComparison,
+) -> u32
+    // The buffer begins with the line, and holds what it held after that.
+    ensures ok { result ≡ 0 → (m : Meaning) × (k : Meaning) × Accepted first.now m × Accepted second.now k
+        × IsReported m k found.new
+        × (buffer.new ≡ compare_line (difference m k) ++ drop found.new.line_len buffer.old) }
+    ensures kept { result ≢ 0 → buffer.new ≡ buffer.old }
+    ensures small { result ≡ 27 → (m : Meaning) × (k : Meaning) × Accepted first.now m × Accepted second.now k
+        × IsReported m k found.new × (length buffer.old < found.new.line_len) }
+
+    // A fault is out of memory or the first of the input of its side.
+    ensures first { found.new.side ≡ 1 → (f : Fault) × ((f ≡ out_of_memory) ⊎ NotRead first.now f)
+        × (result ≡ fault_number f.kind) × (found.new ≡ reported_stop 1 f) }
+    ensures second { found.new.side ≡ 2 → (f : Fault) × ((f ≡ out_of_memory) ⊎ NotRead second.now f)
+        × (result ≡ fault_number f.kind) × (found.new ≡ reported_stop 2 f) }
+
+    // Any other result is that of one of the two inputs.
+    ensures side { result ≢ 0 → result ≢ 27 → (found.new.side ≡ 1) ⊎ (found.new.side ≡ 2) }
+{
+    let a = match whole_volume(alloc, first) {
+        Ok(view) => view,
+        Err(f) => {
+            *found = stopped(1, f);
+            return u32::from(f.kind.number());
+        }
+    };
+    let b = match whole_volume(alloc, second) {
+        Ok(view) => view,
+        Err(f) => {
+            *found = stopped(2, f);
+            return u32::from(f.kind.number());
+        }
+    };
+    report(alloc, &a, &b, buffer, found)
+}

@@ -1,0 +1,124 @@
+//! The truth value of a dependency expression.
+
+ghost use Rattle.std.specs.Prelude.{◌≡◌, ◌≢◌, ℕ, List, Some, map, IfOk};
+ghost use Rattle.fv_base.specs.declared.guid.Guid.{Guid};
+ghost use Rattle.fv_depex.specs.Expressions.{Expression, IsOrder, IsTree, Spells, truth};
+ghost use Rattle.fv_depex.specs.OpChecks.{depex_fault_number, depex_out_of_memory};
+ghost use Rattle.fv_depex.specs.declared.fault.DepexFault.{DepexFault};
+ghost use Rattle.fv_depex.specs.declared.op.Op.{Op};
+ghost use Rattle.fv_c.specs.ReportedTruths.{NoExpression, passed_guid, phase_of, reported_depex_fault, reported_truth};
+ghost use Rattle.fv_c.specs.Reports.{no_fault};
+
+use crate::reports::{FvFault, NO_FAULT};
+use fv_base::Guid;
+use fv_depex::{DepexFault, Phase, evaluate, read_depex};
+use std::alloc::{AllocError, Global};
+
+/// A GUID, by its bytes in a volume.
+#[repr(C)]
+#[derive(Clone, Copy, Debug, PartialEq, Eq)]
+pub struct FvGuid {
+    /// Its 16 bytes. The first three fields have their least significant byte first.
+    pub bytes: [u8; 16],
+}
+
+// GUIDs that C has passed.
+fn guids_of(alloc: Global, list: &[FvGuid]) -> Result<Vec<Guid>, AllocError>
+    ensures { IfOk result (λ v. v.items ≡ map passed_guid list.now) }
+{
+    let mut guids = Vec::new(alloc);
+    for it in list {
+        guids.push(Guid::from_bytes(it.bytes))?;
+    }
+    Ok(guids)
+}
+
+// A phase by its number: 0 is PEI, any other is DXE and MM.
+fn phase_of(number: u32) -> Phase
+    ensures { result ≡ phase_of number }
+{
+    match number {
+        0 => Phase::Pei,
+        _ => Phase::Dxe,
+    }
+}
+
+// A truth value, for C. 2 says that there is none.
+fn reported_truth(value: Option<bool>) -> u32
+    ensures { result ≡ reported_truth value }
+{
+    match value {
+        Some(true) => 1,
+        Some(false) => 0,
+        None => 2,
+    }
+}
+
+// A fault of an expression, for C.
+fn reported_depex_fault(f: DepexFault) -> FvFault
+    ensures { result ≡ reported_depex_fault f }
+{
+    FvFault {
+        offset: f.offset,
+        number: u32::from(f.number()),
+        depth: 0,
+    }
+}
+
+/// Evaluates a dependency expression of a phase: 0 is PEI, any other number DXE and MM. `value` is
+/// its truth value when these GUIDs are installed, 1 or 0, or 2 for BEFORE and AFTER, which have
+/// none. Bytes after the END op are not looked at. Returns 0. (PI specification, volume 2, section
+/// 10.7.)
+///
+/// # Errors
+///
+/// The number of the first fault, which is in `fault`, by the numbers of `DepexFaultKind`: those of
+/// `read_depex`; 6 if memory runs out. `value` is unchanged then.
+#[unsafe(no_mangle)]
+pub extern "C" fn fv_depex(
+    alloc: Global,
+    bytes: &[u8],
+    phase: u32,
+    installed: &[FvGuid],
+    value: &mut u32,
+    fault: &mut FvFault,
+) -> u32
+    // The bytes spell these ops and this rest. The value is that of the tree whose ops they are.
+    ensures ok { result ≡ 0 → (ops : List Op) × (rest : List ℕ) × Spells (phase_of phase) ops rest bytes.now
+        × ((t : Expression) → IsTree (phase_of phase) ops t
+        → value.new ≡ reported_truth (Some (truth (map passed_guid installed.now) t)))
+        × (IsOrder (phase_of phase) ops → value.new ≡ 2) × (fault.new ≡ no_fault) }
+    ensures kept { result ≢ 0 → value.new ≡ value.old }
+
+    // A fault is out of memory or the first of the expression.
+    ensures err { result ≢ 0 → (f : DepexFault)
+        × (f ≢ depex_out_of_memory → NoExpression (phase_of phase) bytes.now f)
+        × (result ≡ depex_fault_number f.kind) × (fault.new ≡ reported_depex_fault f) }
+{
+    let depex = match read_depex(alloc, bytes, phase_of(phase)) {
+        Ok(depex) => depex,
+        Err(f) => {
+            *fault = reported_depex_fault(f);
+            return u32::from(f.number());
+        }
+    };
+    let Ok(guids) = guids_of(alloc, installed) else {
+        *fault = FvFault {
+            offset: 0,
+            number: 6,
+            depth: 0,
+        };
+        return 6;
+    };
+    match evaluate(alloc, &depex, guids.as_slice()) {
+        Ok(found) => {
+            *value = reported_truth(found);
+            *fault = NO_FAULT;
+            0
+        }
+        Err(f) => {
+            *fault = reported_depex_fault(f);
+            u32::from(f.number())
+        }
+    }
+}

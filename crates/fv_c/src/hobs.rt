@@ -1,0 +1,127 @@
+//! The blocks of a hand-off list.
+
+ghost use Rattle.std.specs.Prelude.{◌≡◌, ◌≢◌, ◌<◌, ◌≤◌, ◌++◌, List, length, take, drop, map, IfOk};
+ghost use Rattle.fv_hob.specs.HobChecks.{hob_fault_number, hob_out_of_memory};
+ghost use Rattle.fv_hob.specs.Hobs.{HobForm};
+ghost use Rattle.fv_hob.specs.Lists.{IsHobList};
+ghost use Rattle.fv_hob.specs.declared.fault.HobFault.{HobFault};
+ghost use Rattle.fv_c.specs.ReportedHobs.{NoHobs, reported_hob, reported_hob_fault};
+ghost use Rattle.fv_c.specs.Reports.{no_fault};
+
+use crate::reports::{BUFFER_TOO_SMALL, FvFault, NO_FAULT};
+use fv_hob::{Hob, HobFault, read_hobs};
+use std::alloc::{AllocError, Global};
+
+/// A block of a hand-off list. (PI specification, volume 3, section 5.)
+#[repr(C)]
+#[derive(Clone, Copy, Debug, PartialEq, Eq)]
+pub struct FvHob {
+    /// The base address of the volume that an FV or FV2 block describes, else 0.
+    pub base: u64,
+    /// The number of bytes of that volume, else 0.
+    pub length: u64,
+    /// `HobType`.
+    pub code: u32,
+    /// `HobLength`, the number of bytes of the block.
+    pub hob_length: u32,
+}
+
+// A block, for C.
+fn reported_hob(hob: &Hob) -> FvHob
+    ensures { result ≡ reported_hob hob.now }
+{
+    match hob.span() {
+        Some(span) => FvHob {
+            base: span.base,
+            length: span.length,
+            code: u32::from(hob.code()),
+            hob_length: u32::from(hob.length()),
+        },
+        None => FvHob {
+            base: 0,
+            length: 0,
+            code: u32::from(hob.code()),
+            hob_length: u32::from(hob.length()),
+        },
+    }
+}
+
+// A fault of a list, for C.
+fn reported_hob_fault(f: HobFault) -> FvFault
+    ensures { result ≡ reported_hob_fault f }
+{
+    FvFault {
+        offset: f.offset,
+        number: u32::from(f.number()),
+        depth: 0,
+    }
+}
+
+// Blocks, for C.
+fn reported_hobs(alloc: Global, list: &[Hob]) -> Result<Vec<FvHob>, AllocError>
+    ensures { IfOk result (λ v. v.items ≡ map reported_hob list.now) }
+{
+    let mut reported = Vec::new(alloc);
+    for hob in list {
+        reported.push(reported_hob(hob))?;
+    }
+    Ok(reported)
+}
+
+/// Writes the blocks of the hand-off list with which the bytes begin, in order, at the start of the
+/// buffer. `count` is their number, and `consumed` the number of bytes of the list. Returns 0. (PI
+/// specification, volume 3, section 5.)
+///
+/// # Errors
+///
+/// 27 if the buffer has fewer elements than `count`. The number of the first fault, which is in
+/// `fault`, by the numbers of `HobFaultKind`: those of `read_hobs`; 6 if memory runs out. `count`
+/// and `consumed` are unchanged then. The buffer is unchanged in both cases.
+#[unsafe(no_mangle)]
+pub extern "C" fn fv_hobs(
+    alloc: Global,
+    bytes: &[u8],
+    buffer: &mut [FvHob],
+    count: &mut u64,
+    consumed: &mut u64,
+    fault: &mut FvFault,
+) -> u32
+    // The buffer begins with the blocks, and holds what it held after them.
+    ensures ok { result ≡ 0 → (all : List HobForm) × (consumed.new ≤ length bytes.now)
+        × IsHobList all (take consumed.new bytes.now) × (count.new ≡ length all)
+        × (buffer.new ≡ map reported_hob all ++ drop (length all) buffer.old) × (fault.new ≡ no_fault) }
+    ensures kept { result ≢ 0 → buffer.new ≡ buffer.old }
+    ensures small { result ≡ 27 → (all : List HobForm) × (consumed.new ≤ length bytes.now)
+        × IsHobList all (take consumed.new bytes.now) × (count.new ≡ length all)
+        × (length buffer.old < length all) × (fault.new ≡ no_fault) }
+
+    // Any other fault is out of memory or the first of the list.
+    ensures err { result ≢ 0 → result ≢ 27 → (f : HobFault) × (f ≢ hob_out_of_memory → NoHobs bytes.now f)
+        × (result ≡ hob_fault_number f.kind) × (fault.new ≡ reported_hob_fault f) × (count.new ≡ count.old)
+        × (consumed.new ≡ consumed.old) }
+{
+    let (list, n) = match read_hobs(alloc, bytes) {
+        Ok(pair) => pair,
+        Err(f) => {
+            *fault = reported_hob_fault(f);
+            return u32::from(f.number());
+        }
+    };
+    let Ok(reported) = reported_hobs(alloc, list.as_slice()) else {
+        *fault = FvFault {
+            offset: 0,
+            number: 6,
+            depth: 0,
+        };
+        return 6;
+    };
+    *count = reported.len() as u64;
+    *consumed = n;
+    *fault = NO_FAULT;
+    if buffer.len() < reported.len() {
+        return BUFFER_TOO_SMALL;
+    }
+    let (front, _) = buffer.split_at_mut(reported.len());
+    front.copy_from_slice(reported.as_slice());
+    0
+}

@@ -1,0 +1,16 @@
+//! The reader, the checker, the rebuilder and the comparer for programs written in C. The header
+//! `clib/include/fv.h` declares what is exported here.
+#![tactic(auto)]
+
+mod buffer;
+mod canonical;
+pub mod cells;
+pub mod compare;
+pub mod depex;
+pub mod digest;
+pub mod hobs;
+mod image;
+mod normalise;
+pub mod reports;
+mod scan;
+mod verify;
