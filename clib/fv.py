@@ -1,31 +1,48 @@
-"""libfv for Python, by ctypes.
+"""libfv for Python, by ctypes: UEFI firmware volumes read, checked, compared and rebuilt.
 
     import fv
-    fv.verify(data) -> Extent                   fv.scan(data) -> [offset, ..]
-    fv.normalise(data) -> bytes                 fv.normalise_image(data) -> bytes
-    fv.is_canonical(data) -> bool               fv.digest(data) -> bytes, the SHA-256 of the canonical image
-    fv.compare(a, b) -> 'same' or 'different at ..'
-    fv.cells(data) -> [Cell, ..]                fv.hobs(data) -> ([Hob, ..], the bytes of the list)
-    fv.depex(data, phase, guids) -> True, False, or None if the expression has no truth value
+    fv.verify(data)             the extent of the volume with which the data begin
+    fv.scan(data)               the offsets of the volumes in the data
+    fv.normalise(data)          the canonical image of a volume
+    fv.normalise_image(data)    a flash image with each volume in it replaced by its canonical image
+    fv.is_canonical(data)       whether a volume is its own canonical image
+    fv.digest(data)             the SHA-256 digest of its canonical image
+    fv.compare(a, b)            "same", or where the meanings of two volumes first differ
+    fv.cells(data)              the files, pads and free bytes of a volume, and where they lie
+    fv.depex(data, phase, ..)   the truth value of a dependency expression
+    fv.hobs(data)               the blocks of a hand-off list
 
-`data` is bytes. A rejected input raises Fault, with number, offset, depth and, for compare, side. Out of memory raises MemoryError. The
-environment variable LIBFV names the shared object. ctypes lets other threads run during a call.
+Data are anything that has the buffer protocol: bytes, bytearray, memoryview, mmap. Bytes and what can be written to
+are not copied; other buffers are. An input that is rejected raises Fault. Out of memory raises MemoryError. The
+environment variable LIBFV names the shared object. Other threads of Python run during a call.
 """
+
+from __future__ import annotations
+
 import ctypes as c
 import os
 import uuid
+from collections.abc import Callable, Iterable
+from typing import Any
 
 PEI, DXE = 0, 1
+FILE, PAD, DELETED, UNFINISHED, FREE = 1, 2, 3, 4, 5
 BUFFER_TOO_SMALL, OUT_OF_MEMORY = 27, 24
 
 _lib = c.CDLL(os.environ.get("LIBFV", "libfv.so.0"))
+_lib.fv_fault_text.argtypes, _lib.fv_fault_text.restype = [c.c_uint32], c.c_char_p
 
 
 class FaultPlace(c.Structure):
+    """A fault and its place, as a call reports it."""
+
     _fields_ = [("offset", c.c_uint64), ("number", c.c_uint32), ("depth", c.c_uint32)]
 
 
 class Extent(c.Structure):
+    """The extent of a volume: its lengths in bytes, the offset of its first file, its file system (2 or 3), and the
+    value of an erased byte."""
+
     _fields_ = [
         ("length", c.c_uint64),
         ("header_len", c.c_uint64),
@@ -36,10 +53,15 @@ class Extent(c.Structure):
 
 
 class Comparison(c.Structure):
+    """What a comparison found, as the call reports it."""
+
     _fields_ = [("line_len", c.c_uint64), ("same", c.c_uint32), ("side", c.c_uint32), ("fault", FaultPlace)]
 
 
 class Cell(c.Structure):
+    """A cell of a volume's body: its offset and length in bytes, the length of its header, what it is (FILE to FREE), and
+    of a file or a pad its type, attributes and name."""
+
     _fields_ = [
         ("offset", c.c_uint64),
         ("len", c.c_uint64),
@@ -52,50 +74,76 @@ class Cell(c.Structure):
     ]
 
     @property
-    def name(self):
+    def name(self) -> uuid.UUID:
+        """The name of a file or a pad."""
         return uuid.UUID(bytes_le=bytes(self._name))
 
 
 class Hob(c.Structure):
+    """A block of a hand-off list: its type and length, and the span of the volume that it describes, or zeros."""
+
     _fields_ = [("base", c.c_uint64), ("length", c.c_uint64), ("code", c.c_uint32), ("hob_length", c.c_uint32)]
 
 
 class Fault(Exception):
-    def __init__(self, place, side=0):
+    """Why an input was rejected: the number of the fault, its offset in bytes, its depth in groups and volumes, the side
+    of a comparison (1 or 2, else 0), and a text that says what it means (None for expressions and hand-off lists)."""
+
+    def __init__(self, place: FaultPlace, side: int = 0, has_text: bool = True) -> None:
         super().__init__(f"{('', 'first ', 'second ')[side]}fault {place.number} at {place.offset}")
-        self.number, self.offset, self.depth, self.side = place.number, place.offset, place.depth, side
+        self.number: int = place.number
+        self.offset: int = place.offset
+        self.depth: int = place.depth
+        self.side: int = side
+        self.text: str | None = fault_text(place.number) if has_text else None
 
 
-_size, _bytes, _out = c.c_size_t, c.c_char_p, c.c_void_p
+def fault_text(number: int) -> str:
+    """What a fault means, in a sentence."""
+    return _lib.fv_fault_text(number).decode()
+
+
+_size, _in, _out = c.c_size_t, c.c_void_p, c.c_void_p
 for _name, _arguments in {
-    "fv_verify": [_bytes, _size, _out, _out],
-    "fv_normalise": [_bytes, _size, _out, _size, _out],
-    "fv_normalise_image": [_bytes, _size, _out, _size, _out],
-    "fv_is_canonical": [_bytes, _size, _out, _out],
-    "fv_digest": [_bytes, _size, _out, _out],
-    "fv_scan": [_bytes, _size, _out, _size, _out],
-    "fv_compare": [_bytes, _size, _bytes, _size, _out, _size, _out],
-    "fv_cells": [_bytes, _size, _out, _size, _out, _out],
-    "fv_hobs": [_bytes, _size, _out, _size, _out, _out, _out],
-    "fv_depex": [_bytes, _size, c.c_uint32, _bytes, _size, _out, _out],
+    "fv_verify": [_in, _size, _out, _out],
+    "fv_normalise": [_in, _size, _out, _size, _out],
+    "fv_normalise_image": [_in, _size, _out, _size, _out],
+    "fv_is_canonical": [_in, _size, _out, _out],
+    "fv_digest": [_in, _size, _out, _out],
+    "fv_scan": [_in, _size, _out, _size, _out],
+    "fv_compare": [_in, _size, _in, _size, _out, _size, _out],
+    "fv_cells": [_in, _size, _out, _size, _out, _out],
+    "fv_hobs": [_in, _size, _out, _size, _out, _out, _out],
+    "fv_depex": [_in, _size, c.c_uint32, _in, _size, _out, _out],
 }.items():
     getattr(_lib, _name).argtypes, getattr(_lib, _name).restype = _arguments, c.c_uint32
 
 
-def _check(status, place, side=0, memory=OUT_OF_MEMORY):
+def _given(data: Any) -> tuple[Any, int]:
+    """What is passed for some data, and their length in bytes."""
+    if isinstance(data, bytes):
+        return data, len(data)
+    view = memoryview(data).cast("B")
+    if view.readonly or not view.nbytes:
+        return view.tobytes(), view.nbytes
+    return (c.c_char * view.nbytes).from_buffer(view), view.nbytes
+
+
+def _check(status: int, place: FaultPlace, side: int = 0, memory: int = OUT_OF_MEMORY) -> None:
     if status == memory:
         raise MemoryError
     if status:
-        raise Fault(place, side)
+        raise Fault(place, side, memory == OUT_OF_MEMORY)
 
 
-def _image(call, data):
-    buffer, place = c.create_string_buffer(max(len(data), 1)), FaultPlace()
-    _check(call(data, len(data), buffer, len(data), c.byref(place)), place)
-    return buffer.raw[: len(data)]
+def _image(call: Callable[..., int], data: Any) -> bytes:
+    given, length = _given(data)
+    buffer, place = c.create_string_buffer(max(length, 1)), FaultPlace()
+    _check(call(given, length, buffer, length, c.byref(place)), place)
+    return buffer.raw[:length]
 
 
-def _list(item, call):
+def _list(item: Any, call: Callable[..., int]) -> tuple[int, Any, c.c_uint64]:
     """What a call writes to a buffer of items; it is called again if they are more than the buffer has."""
     count, buffer = c.c_uint64(), (item * 64)()
     while (status := call(buffer, len(buffer), c.byref(count))) == BUFFER_TOO_SMALL:
@@ -103,65 +151,86 @@ def _list(item, call):
     return status, buffer, count
 
 
-def normalise(data):
+def normalise(data: Any) -> bytes:
+    """The canonical image of the volume that the data are. It is as long as they are."""
     return _image(_lib.fv_normalise, data)
 
 
-def normalise_image(data):
+def normalise_image(data: Any) -> bytes:
+    """The flash image with each volume that scan finds in it replaced by its canonical image."""
     return _image(_lib.fv_normalise_image, data)
 
 
-def verify(data):
+def verify(data: Any) -> Extent:
+    """The extent of the volume with which the data begin. Only its header is read."""
+    given, length = _given(data)
     extent, place = Extent(), FaultPlace()
-    _check(_lib.fv_verify(data, len(data), c.byref(extent), c.byref(place)), place)
+    _check(_lib.fv_verify(given, length, c.byref(extent), c.byref(place)), place)
     return extent
 
 
-def is_canonical(data):
+def is_canonical(data: Any) -> bool:
+    """Whether the volume that the data are is its own canonical image."""
+    given, length = _given(data)
     canonical, place = c.c_uint32(), FaultPlace()
-    _check(_lib.fv_is_canonical(data, len(data), c.byref(canonical), c.byref(place)), place)
+    _check(_lib.fv_is_canonical(given, length, c.byref(canonical), c.byref(place)), place)
     return canonical.value == 1
 
 
-def digest(data):
+def digest(data: Any) -> bytes:
+    """The SHA-256 digest of the canonical image of the volume that the data are."""
+    given, length = _given(data)
     found, place = (c.c_uint8 * 32)(), FaultPlace()
-    _check(_lib.fv_digest(data, len(data), c.byref(found), c.byref(place)), place)
+    _check(_lib.fv_digest(given, length, c.byref(found), c.byref(place)), place)
     return bytes(found)
 
 
-def scan(data):
-    status, buffer, count = _list(c.c_uint64, lambda *rest: _lib.fv_scan(data, len(data), *rest))
+def scan(data: Any) -> list[int]:
+    """The offsets at which the volumes in the data begin, in rising order."""
+    given, length = _given(data)
+    status, buffer, count = _list(c.c_uint64, lambda *rest: _lib.fv_scan(given, length, *rest))
     _check(status, FaultPlace())
     return list(buffer[: count.value])
 
 
-def cells(data):
+def cells(data: Any) -> list[Cell]:
+    """The cells of the volume with which the data begin, in order."""
+    given, length = _given(data)
     place = FaultPlace()
-    status, buffer, count = _list(Cell, lambda *rest: _lib.fv_cells(data, len(data), *rest, c.byref(place)))
+    status, buffer, count = _list(Cell, lambda *rest: _lib.fv_cells(given, length, *rest, c.byref(place)))
     _check(status, place)
     return list(buffer[: count.value])
 
 
-def hobs(data):
+def hobs(data: Any) -> tuple[list[Hob], int]:
+    """The blocks of the hand-off list with which the data begin, and how many bytes it has."""
+    given, length = _given(data)
     place, consumed = FaultPlace(), c.c_uint64()
     status, buffer, count = _list(
-        Hob, lambda *rest: _lib.fv_hobs(data, len(data), *rest, c.byref(consumed), c.byref(place))
+        Hob, lambda *rest: _lib.fv_hobs(given, length, *rest, c.byref(consumed), c.byref(place))
     )
     _check(status, place, memory=6)
     return list(buffer[: count.value]), consumed.value
 
 
-def depex(data, phase=DXE, guids=()):
+def depex(data: Any, phase: int = DXE, guids: Iterable[uuid.UUID] = ()) -> bool | None:
+    """The truth value of a dependency expression of a phase (PEI or DXE) if these GUIDs are installed. None if it has
+    none: BEFORE and AFTER."""
+    given, length = _given(data)
     value, place, installed = c.c_uint32(), FaultPlace(), b"".join(it.bytes_le for it in guids)
     _check(
-        _lib.fv_depex(data, len(data), phase, installed, len(installed) // 16, c.byref(value), c.byref(place)),
+        _lib.fv_depex(given, length, phase, installed, len(installed) // 16, c.byref(value), c.byref(place)),
         place,
         memory=6,
     )
     return {0: False, 1: True, 2: None}[value.value]
 
 
-def compare(a, b):
+def compare(a: Any, b: Any) -> str:
+    """Returns "same" if two volumes have the same meaning, else "different at", the steps down to the first difference, and its
+    kind. The side of a Fault is the volume that was rejected."""
+    (first, first_length), (second, second_length) = _given(a), _given(b)
     found, buffer = Comparison(), c.create_string_buffer(553)
-    _check(_lib.fv_compare(a, len(a), b, len(b), buffer, 553, c.byref(found)), found.fault, found.side)
+    status = _lib.fv_compare(first, first_length, second, second_length, buffer, 553, c.byref(found))
+    _check(status, found.fault, found.side)
     return buffer.raw[: found.line_len - 1].decode()

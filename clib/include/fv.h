@@ -99,6 +99,10 @@ typedef struct fv_sha256 {
 } fv_sha256;
 FV_ASSERT(sizeof(fv_sha256) == 32, "the layout of fv_sha256");
 
+/* What a result of a call means, in a sentence that ends with a NUL: of 0 to 27; of fv_depex and fv_hobs, which
+ * have numbers of their own, of 0 and 27 alone. Not proved, and it cannot fail. */
+const char *fv_fault_text(uint32_t number);
+
 /* Whether the bytes begin with a volume. Only its header is read. Returns 0 and the extent if they do.
  * Else returns the first fault, 1 to 9, and *extent is unchanged. Takes no memory. */
 uint32_t fv_verify(const uint8_t *bytes, size_t len, fv_extent *FV_RESTRICT extent,

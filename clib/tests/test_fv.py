@@ -45,6 +45,14 @@ def main(paths):
     assert fv.depex(both, fv.PEI, [a, b]) is True and fv.depex(both, fv.PEI, [b]) is False
     assert fv.depex(b"\0" + a.bytes_le + b"\10") is None
     assert outcome(fv.depex, both[:30]) == "fault 1 at 17"
+    for kind in (bytearray, memoryview):
+        assert fv.depex(kind(both), fv.PEI, [a, b]) is True
+        assert outcome(fv.normalise, kind(b"")) == "fault 1 at 0"
+    page = (Path(__file__).resolve().parents[2] / "docs/FAULTS.md").read_text(encoding="utf-8")
+    page = page.split("## What each fault means for you")[1].split("\n## ")[0]
+    rows = [line.strip("| ").split(" | ") for line in page.splitlines() if line.startswith("| ")][1:]
+    assert [int(row[0]) for row in rows] == list(range(1, 27)), rows
+    assert all(fv.fault_text(int(row[0])) == row[1] for row in rows), rows
     print(f"Python: {len(paths)} files, {images} of them have an image")
 
 

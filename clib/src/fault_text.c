@@ -1,0 +1,37 @@
+/* What a result of a call means, in a sentence. docs/FAULTS.md has the same texts. */
+#include "fv.h"
+
+static const char *const texts[] = {
+    "done",
+    "the bytes end before the volume does",
+    "no volume begins here: its signature is missing",
+    "no volume of files begins here: its file system is neither FFS2 nor FFS3",
+    "the header of a volume is damaged, or its revision is not 2",
+    "the header of a volume is damaged: its length is wrong",
+    "the header of a volume is damaged: its sum is wrong",
+    "the header of a volume is damaged: its block map is wrong",
+    "the length in the header is wrong, or bytes follow the volume, or there are more than 256 MiB",
+    "the extended header of a volume is damaged",
+    "the state of a file is none that a file has",
+    "the header of a file is damaged: its sum is wrong",
+    "the size of a file is wrong",
+    "a file has the large attribute in FFS2",
+    "the data of a file are damaged: their sum is wrong",
+    "a file may not be moved, so the volume cannot be rebuilt",
+    "the free space of a volume is not erased",
+    "two files of a volume have one name",
+    "the volume top file is not at the end of its volume",
+    "the size of a section is wrong",
+    "one to three bytes are left where a section would begin",
+    "groups and volumes nest deeper than eight levels",
+    "the files do not fit where the canonical image has them",
+    "the volume top file does not fit where the canonical image has it",
+    "memory ran out",
+    "the input cannot be read, or is no hexadecimal text",
+    "the output cannot be written",
+    "the buffer is too small",
+};
+
+const char *fv_fault_text(uint32_t number) {
+    return number < sizeof texts / sizeof *texts ? texts[number] : "no result has this number";
+}
