@@ -59,8 +59,8 @@ class Comparison(c.Structure):
 
 
 class Cell(c.Structure):
-    """A cell of a volume's body: its offset and length in bytes, the length of its header, what it is (FILE to FREE), and
-    of a file or a pad its type, attributes and name."""
+    """A cell of a volume's body: its offset and length in bytes, the length of its header, what it is (FILE to FREE),
+    and of a file or a pad its type, attributes and name."""
 
     _fields_ = [
         ("offset", c.c_uint64),
@@ -86,8 +86,9 @@ class Hob(c.Structure):
 
 
 class Fault(Exception):
-    """Why an input was rejected: the number of the fault, its offset in bytes, its depth in groups and volumes, the side
-    of a comparison (1 or 2, else 0), and a text that says what it means (None for expressions and hand-off lists)."""
+    """Why an input was rejected: the number of the fault, its offset in bytes, its depth in groups and volumes, the
+    side of a comparison (1 or 2, else 0), and a text that says what it means (None for expressions and hand-off
+    lists)."""
 
     def __init__(self, place: FaultPlace, side: int = 0, has_text: bool = True) -> None:
         super().__init__(f"{('', 'first ', 'second ')[side]}fault {place.number} at {place.offset}")
@@ -227,8 +228,8 @@ def depex(data: Any, phase: int = DXE, guids: Iterable[uuid.UUID] = ()) -> bool 
 
 
 def compare(a: Any, b: Any) -> str:
-    """Returns "same" if two volumes have the same meaning, else "different at", the steps down to the first difference, and its
-    kind. The side of a Fault is the volume that was rejected."""
+    """Returns "same" if two volumes have the same meaning, else "different at", the steps down to the first difference,
+    and its kind. The side of a Fault is the volume that was rejected."""
     (first, first_length), (second, second_length) = _given(a), _given(b)
     found, buffer = Comparison(), c.create_string_buffer(553)
     status = _lib.fv_compare(first, first_length, second, second_length, buffer, 553, c.byref(found))

@@ -1,5 +1,5 @@
 /* Each allocation of each call is refused in turn, by three functions in place of those of src/heap.c. A call must then
- * return that memory ran out, or what it returns without that. It must keep no block, and leave the buffer as it was. */
+ * return that memory ran out, or what it returns without that. It must keep no block, and leave the buffer unchanged. */
 #include <fv.h>
 #include <stdbool.h>
 #include <stdio.h>
