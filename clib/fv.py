@@ -9,12 +9,16 @@
     fv.digest(data)             the SHA-256 digest of its canonical image
     fv.compare(a, b)            "same", or where the meanings of two volumes first differ
     fv.cells(data)              the files, pads and free bytes of a volume, and where they lie
+    fv.files(data)              the files of a volume
+    fv.sections(data, number)   the sections of one of them
+    fv.extract(data, number)    the data of a file, or the body of a section: fv.extract(data, number, section)
     fv.depex(data, phase, ..)   the truth value of a dependency expression
     fv.hobs(data)               the blocks of a hand-off list
 
 Data are anything that has the buffer protocol: bytes, bytearray, memoryview, mmap. Bytes and what can be written to
-are not copied; other buffers are. An input that is rejected raises Fault. Out of memory raises MemoryError. The
-environment variable LIBFV names the shared object. Other threads of Python run during a call.
+are not copied; other buffers are. An input that is rejected raises Fault. Out of memory raises MemoryError. A number of
+no file or section raises IndexError. The environment variable LIBFV names the shared object. Other threads of Python
+run during a call.
 """
 
 from __future__ import annotations
@@ -25,9 +29,13 @@ import uuid
 from collections.abc import Callable, Iterable
 from typing import Any
 
+__version__ = "1.0.0"
+
 PEI, DXE = 0, 1
 FILE, PAD, DELETED, UNFINISHED, FREE = 1, 2, 3, 4, 5
-BUFFER_TOO_SMALL, OUT_OF_MEMORY = 27, 24
+BUFFER_TOO_SMALL, OUT_OF_MEMORY, NOT_FOUND = 27, 24, 28
+BYTES, SECTIONS, VOLUME = 1, 2, 3
+NO_PARENT = WHOLE_FILE = 2**64 - 1
 
 _lib = c.CDLL(os.environ.get("LIBFV", "libfv.so.0"))
 _lib.fv_fault_text.argtypes, _lib.fv_fault_text.restype = [c.c_uint32], c.c_char_p
@@ -79,6 +87,40 @@ class Cell(c.Structure):
         return uuid.UUID(bytes_le=bytes(self._name))
 
 
+class File(c.Structure):
+    """A file of a volume: where its data are in the input, and how many bytes they have; how many sections it has, its
+    type, its attributes and its name."""
+
+    _fields_ = [
+        ("data_offset", c.c_uint64),
+        ("data_len", c.c_uint64),
+        ("sections", c.c_uint64),
+        ("kind", c.c_uint32),
+        ("attributes", c.c_uint32),
+        ("_name", c.c_uint8 * 16),
+    ]
+
+    @property
+    def name(self) -> uuid.UUID:
+        """The name."""
+        return uuid.UUID(bytes_le=bytes(self._name))
+
+
+class Section(c.Structure):
+    """A section of a file: how many bytes its body has, the number of the group that it is in (or NO_PARENT), how many
+    groups are around it, its type, the length of its header, and what it holds (BYTES to VOLUME)."""
+
+    _fields_ = [
+        ("len", c.c_uint64),
+        ("parent", c.c_uint64),
+        ("depth", c.c_uint64),
+        ("kind", c.c_uint32),
+        ("header_len", c.c_uint32),
+        ("holds", c.c_uint32),
+        ("reserved", c.c_uint32),
+    ]
+
+
 class Hob(c.Structure):
     """A block of a hand-off list: its type and length, and the span of the volume that it describes, or zeros."""
 
@@ -114,6 +156,9 @@ for _name, _arguments in {
     "fv_scan": [_in, _size, _out, _size, _out],
     "fv_compare": [_in, _size, _in, _size, _out, _size, _out],
     "fv_cells": [_in, _size, _out, _size, _out, _out],
+    "fv_files": [_in, _size, _out, _size, _out, _out],
+    "fv_sections": [_in, _size, c.c_uint64, _out, _size, _out, _out],
+    "fv_extract": [_in, _size, c.c_uint64, c.c_uint64, _out, _size, _out, _out],
     "fv_hobs": [_in, _size, _out, _size, _out, _out, _out],
     "fv_depex": [_in, _size, c.c_uint32, _in, _size, _out, _out],
 }.items():
@@ -133,8 +178,17 @@ def _given(data: Any) -> tuple[Any, int]:
 def _check(status: int, place: FaultPlace, side: int = 0, memory: int = OUT_OF_MEMORY) -> None:
     if status == memory:
         raise MemoryError
+    if status == NOT_FOUND:
+        raise IndexError(fault_text(status))
     if status:
         raise Fault(place, side, memory == OUT_OF_MEMORY)
+
+
+def _number(number: int) -> int:
+    """The number of a file or a section; ctypes would cut others to 64 bits."""
+    if not 0 <= number < NO_PARENT:
+        raise IndexError(fault_text(NOT_FOUND))
+    return number
 
 
 def _image(call: Callable[..., int], data: Any) -> bytes:
@@ -201,6 +255,41 @@ def cells(data: Any) -> list[Cell]:
     status, buffer, count = _list(Cell, lambda *rest: _lib.fv_cells(given, length, *rest, c.byref(place)))
     _check(status, place)
     return list(buffer[: count.value])
+
+
+def files(data: Any) -> list[File]:
+    """The files of the volume that the data are, in order."""
+    given, length = _given(data)
+    place = FaultPlace()
+    status, buffer, count = _list(File, lambda *rest: _lib.fv_files(given, length, *rest, c.byref(place)))
+    _check(status, place)
+    return list(buffer[: count.value])
+
+
+def sections(data: Any, number: int) -> list[Section]:
+    """The sections of a file of the volume that the data are, in preorder; none if its data are not sections. `number`
+    is the place of the file in files(data). IndexError if there is no such file."""
+    given, length = _given(data)
+    place, file = FaultPlace(), _number(number)
+    status, buffer, count = _list(Section, lambda *rest: _lib.fv_sections(given, length, file, *rest, c.byref(place)))
+    _check(status, place)
+    return list(buffer[: count.value])
+
+
+def extract(data: Any, number: int, section: int | None = None) -> bytes:
+    """The data of a file of the volume that the data are, or the body of one of its sections. The bytes are those of
+    the canonical image. `number` is the place of the file in files(data), and `section` that of the section in
+    sections(data, number). IndexError if there is no such file or section."""
+    given, length = _given(data)
+    numbers = _number(number), WHOLE_FILE if section is None else _number(section)
+    place, part_len, buffer = FaultPlace(), c.c_uint64(), c.create_string_buffer(1 << 16)
+    while True:
+        status = _lib.fv_extract(given, length, *numbers, buffer, len(buffer), c.byref(part_len), c.byref(place))
+        if status != BUFFER_TOO_SMALL:
+            break
+        buffer = c.create_string_buffer(part_len.value)
+    _check(status, place)
+    return buffer.raw[: part_len.value]
 
 
 def hobs(data: Any) -> tuple[list[Hob], int]:

@@ -1,5 +1,5 @@
 #!/usr/bin/env python3
-"""Lists the volumes of a flash image and how many files each has, and whether the image is as it would be rebuilt.
+"""Lists the volumes of a flash image and the data of their files, and whether the image is as it would be rebuilt.
 LIBFV=clib/out/libfv.so.0 PYTHONPATH=clib examples/volumes.py IMAGE"""
 
 import sys
@@ -9,9 +9,10 @@ import fv
 with open(sys.argv[1], "rb") as file:
     image = file.read()
 for at in fv.scan(image):
+    volume = memoryview(image)[at : at + fv.verify(memoryview(image)[at:]).length]
     try:
-        files = sum(cell.what == fv.FILE for cell in fv.cells(memoryview(image)[at:]))
-        print(f"volume at {at}: {files} files")
+        files = fv.files(volume)
+        print(f"volume at {at}: {len(files)} files, {sum(file.data_len for file in files)} bytes of data")
     except fv.Fault as fault:
         print(f"volume at {at}: {fault.text}")
 try:

@@ -193,12 +193,19 @@ def mixed_names(size):
     return volume(b"".join(heads))
 
 
+def late_pair(size):
+    """Names that differ, and at the very end the last of them again, marked for update."""
+    count = (size - 72) // 24 - 1
+    last = b"".join(named_files(count, MARKED))[-24:]
+    return volume(b"".join(named_files(count)) + last)
+
+
 INPUTS = (signatures, summed_heads, stubs, pads, levels, level_groups, deep_data, maps, nested_maps)
-INPUTS += (names, replaced_names, mixed_names, twin_names, empty_sections, empty_expressions, one_expression)
+INPUTS += (names, replaced_names, mixed_names, late_pair, twin_names, empty_sections, empty_expressions, one_expression)
 INPUTS += (small_groups, entries, small_volumes)
 # How many times its input a run may hold where it is not twice.
-RATIOS = {names: 10, replaced_names: 12, mixed_names: 14, empty_sections: 14, empty_expressions: 14, small_groups: 18}
-RATIOS |= {entries: 14}
+RATIOS = {names: 10, replaced_names: 8, mixed_names: 8, late_pair: 10, empty_sections: 8, empty_expressions: 8}
+RATIOS |= {small_groups: 10, entries: 14}
 
 
 def write(make, size, path):

@@ -12,9 +12,10 @@
  * The library keeps no state. Any number of threads may call it at once, also with the same input.
  *
  * Results: 0 is success. 1 to 24 is the number of the first fault of the input, as docs/FAULTS.md has
- * them. 24 is out of memory. 27 is a buffer that is too small. Calls for dependency expressions and
- * hand-off lists have numbers of their own. All lengths and offsets are in bytes. A volume has at most
- * 268,435,456 bytes, and so has an image for fv_normalise_image. */
+ * them. 24 is out of memory. 27 is a buffer that is too small. 28 says that there is no file or section of
+ * the number that was passed. Calls for dependency expressions and hand-off lists have numbers of their
+ * own. All lengths and offsets are in bytes. A volume has at most 268,435,456 bytes, and so has an image
+ * for fv_normalise_image. */
 #ifndef FV_H
 #define FV_H
 
@@ -30,7 +31,7 @@ extern "C" {
 #define FV_ASSERT _Static_assert
 #endif
 
-#define FV_VERSION "0.1"
+#define FV_VERSION "1.0.0"
 
 enum {
     FV_DONE = 0,
@@ -58,7 +59,8 @@ enum {
     FV_NO_ROOM = 22,
     FV_TOP_ALIGNMENT = 23,
     FV_OUT_OF_MEMORY = 24,
-    FV_BUFFER_TOO_SMALL = 27
+    FV_BUFFER_TOO_SMALL = 27,
+    FV_NOT_FOUND = 28
 };
 
 /* A fault and its place. All fields are 0 if there is none. */
@@ -99,7 +101,7 @@ typedef struct fv_sha256 {
 } fv_sha256;
 FV_ASSERT(sizeof(fv_sha256) == 32, "the layout of fv_sha256");
 
-/* What a result of a call means, in a sentence that ends with a NUL: of 0 to 27; of fv_depex and fv_hobs, which
+/* What a result of a call means, in a sentence that ends with a NUL: of 0 to 28; of fv_depex and fv_hobs, which
  * have numbers of their own, of 0 and 27 alone. Not proved, and it cannot fail. */
 const char *fv_fault_text(uint32_t number);
 
@@ -171,6 +173,71 @@ FV_ASSERT(sizeof(fv_cell) == 56 && offsetof(fv_cell, len) == 8 && offsetof(fv_ce
  * and sections are not checked. */
 uint32_t fv_cells(const uint8_t *bytes, size_t len, fv_cell *FV_RESTRICT buffer, size_t buffer_count,
                   uint64_t *FV_RESTRICT count, fv_fault *FV_RESTRICT fault);
+
+/* A file of a volume. */
+typedef struct fv_file {
+    uint64_t data_offset; /* its data are at this offset of the input */
+    uint64_t data_len;    /* the number of bytes of its data */
+    uint64_t sections;    /* the number of its sections, those in groups included; 0 if its data are not sections */
+    uint32_t kind;        /* Type */
+    uint32_t attributes;  /* Attributes */
+    uint8_t name[16];     /* Name, by its bytes in the volume */
+} fv_file;
+FV_ASSERT(sizeof(fv_file) == 48 && offsetof(fv_file, data_len) == 8 && offsetof(fv_file, sections) == 16 &&
+              offsetof(fv_file, kind) == 24 && offsetof(fv_file, attributes) == 28 && offsetof(fv_file, name) == 32,
+          "the layout of fv_file");
+
+/* Writes the files of the volume that the input is, in order, to the start of the buffer. *count is their
+ * number. Returns 0. Returns 27 if *count > buffer_count. Else returns the first fault of the input, 1 to
+ * 21, or 24, and *count is unchanged. Pads are no files. A file that is marked for update is none either if
+ * its update is in the volume. */
+uint32_t fv_files(const uint8_t *input, size_t len, fv_file *FV_RESTRICT buffer, size_t buffer_count,
+                  uint64_t *FV_RESTRICT count, fv_fault *FV_RESTRICT fault);
+
+/* What a section holds: bytes, sections (it is a group), a volume. */
+enum { FV_HOLDS_BYTES = 1, FV_HOLDS_SECTIONS = 2, FV_HOLDS_VOLUME = 3 };
+
+/* The parent of a section that is in no group. */
+#define FV_NO_PARENT UINT64_MAX
+
+/* A section of a file. */
+typedef struct fv_section {
+    uint64_t len;        /* the number of bytes of its body */
+    uint64_t parent;     /* the number of the group that it is in, or FV_NO_PARENT */
+    uint64_t depth;      /* the number of groups around it */
+    uint32_t kind;       /* Type */
+    uint32_t header_len; /* 4, or 8 if its header is extended */
+    uint32_t holds;      /* FV_HOLDS_BYTES to FV_HOLDS_VOLUME */
+    uint32_t reserved;   /* 0 */
+} fv_section;
+FV_ASSERT(sizeof(fv_section) == 40 && offsetof(fv_section, parent) == 8 && offsetof(fv_section, depth) == 16 &&
+              offsetof(fv_section, kind) == 24 && offsetof(fv_section, header_len) == 28 &&
+              offsetof(fv_section, holds) == 32 && offsetof(fv_section, reserved) == 36,
+          "the layout of fv_section");
+
+/* Writes the sections of a file of the volume that the input is, in preorder, to the start of the buffer:
+ * each group is followed by the sections in it. The number of a section is its place there, from 0. `file`
+ * is the place of the file in what fv_files writes. *count is the number of sections, 0 if the data of the
+ * file are not sections (those of a security core are not, for this call). Returns 0. Returns 27 if
+ * *count > buffer_count, and 28 if the volume has no such file. Else returns the first fault of the input,
+ * 1 to 21, or 24. *count is unchanged then, and if it returns 28.
+ * The sections of a nested volume are not included. To see its files, get its bytes by fv_extract. */
+uint32_t fv_sections(const uint8_t *input, size_t len, uint64_t file, fv_section *FV_RESTRICT buffer,
+                     size_t buffer_count, uint64_t *FV_RESTRICT count, fv_fault *FV_RESTRICT fault);
+
+/* The section number that asks for all data of a file. */
+#define FV_WHOLE_FILE UINT64_MAX
+
+/* Writes the body of a section of a file, or all data of the file (FV_WHOLE_FILE), to the start of the
+ * buffer. *part_len is the number of bytes. Returns 0. Returns 27 if buffer_len < *part_len; so an empty
+ * buffer asks for the number. Returns 28 if the volume has no such file or section. Else returns the first
+ * fault of the input, 1 to 21; or that of a volume in the part that does not fit in its canonical form, 22
+ * or 23; or 24. *part_len is unchanged then, and if it returns 28.
+ * The bytes are those that the canonical image has: a volume in the part is its own canonical image, and the
+ * bytes between sections are 0. Plain data, and a section that holds bytes, are as they are in the input. */
+uint32_t fv_extract(const uint8_t *input, size_t len, uint64_t file, uint64_t section,
+                    uint8_t *FV_RESTRICT buffer, size_t buffer_len, uint64_t *FV_RESTRICT part_len,
+                    fv_fault *FV_RESTRICT fault);
 
 /* A GUID by its bytes in a volume. The first three fields have their least significant byte first. */
 typedef struct fv_guid {

@@ -30,6 +30,7 @@ static const char *const texts[] = {
     "the input cannot be read, or is no hexadecimal text",
     "the output cannot be written",
     "the buffer is too small",
+    "the volume has no file of this number, or the file no section of this number",
 };
 
 const char *fv_fault_text(uint32_t number) {

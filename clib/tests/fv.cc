@@ -1,5 +1,7 @@
-// The library from C++, with a vector for each buffer: the image of a volume, and that it is its own image.
+// The library from C++, with a vector for each buffer: the image of a volume, that it is its own image, and its files
+// with their data.
 #include <fv.h>
+#include <algorithm>
 #include <cstdio>
 #include <fstream>
 #include <iterator>
@@ -16,6 +18,14 @@ int main(int, char **argv)
         return 2;
     }
     if (fv_is_canonical(image.data(), in.size(), &canonical, &fault) || canonical != 1) return 1;
-    std::puts("C++: the image is its own image");
+    std::vector<fv_file> files(in.size() / 24 + 1);
+    std::vector<uint8_t> data(in.size() + 1);
+    uint64_t count = 0, len = 0;
+    if (fv_files(image.data(), in.size(), files.data(), files.size(), &count, &fault)) return 1;
+    for (uint64_t i = 0; i < count; i++) {
+        if (fv_extract(image.data(), in.size(), i, FV_WHOLE_FILE, data.data(), data.size(), &len, &fault)) return 1;
+        if (len != files[i].data_len || !std::equal(&data[0], &data[len], &image[files[i].data_offset])) return 1;
+    }
+    std::printf("C++: the image is its own image, and has the data of its %d files\n", static_cast<int>(count));
     return 0;
 }

@@ -1,5 +1,5 @@
 /* The commands of the program by the library, so that a script can compare their output; and runs for a sanitizer.
- *   fvc normalise|all|check|scan|cells|hobs|digest|flips|prefixes FILE      fvc compare FIRST SECOND
+ *   fvc normalise|all|check|scan|cells|list|hobs|digest|flips|prefixes FILE      fvc compare FIRST SECOND
  * The status is that of the program. */
 #include <fv.h>
 #include <inttypes.h>
@@ -139,6 +139,55 @@ static int cells(struct bytes in)
     return 0;
 }
 
+/* The number of a section among those of its group, or of its file. */
+static uint64_t place_of(const fv_section *sections, uint64_t number)
+{
+    uint64_t place = 0;
+    for (uint64_t i = 0; i < number; i++) place += sections[i].parent == sections[number].parent;
+    return place;
+}
+
+static void list_sections(struct bytes in, uint64_t file, uint64_t wanted)
+{
+    uint64_t count = 0;
+    fv_section *sections = malloc((wanted + 1) * sizeof *sections);
+    fv_fault fault;
+    if (fv_sections(in.p, in.n, file, sections, wanted, &count, &fault) || count != wanted) abort();
+    for (uint64_t i = 0; i < count; i++) {
+        fv_section s = sections[i];
+        if (s.parent != FV_NO_PARENT && sections[s.parent].holds != FV_HOLDS_SECTIONS) abort();
+        printf("%*s", 4 + 2 * (int)s.depth, "");
+        printf("section %" PRIu64 " type %02" PRIx32 " %s", place_of(sections, i), s.kind,
+               s.header_len == 8 ? "extended" : "short");
+        printf(" body %" PRIu64 "\n", s.len);
+    }
+    free(sections);
+}
+
+/* The lines of the program's `list` for files and sections, without those of nested volumes. */
+static int list(struct bytes in)
+{
+    uint64_t count = 0;
+    fv_file none, *files = &none;
+    fv_fault fault;
+    uint32_t status = fv_files(in.p, in.n, files, 0, &count, &fault);
+    if (status == FV_BUFFER_TOO_SMALL) {
+        files = malloc(count * sizeof *files);
+        status = fv_files(in.p, in.n, files, count, &count, &fault);
+    }
+    if (status) return refuse("", fault);
+    for (uint64_t i = 0; i < count; i++) {
+        if (files[i].data_offset + files[i].data_len > in.n) abort();
+        printf("  file %" PRIu64 " ", i);
+        print_guid(files[i].name);
+        printf(" type %02" PRIx32 " attributes %02" PRIx32, files[i].kind, files[i].attributes & ~1u);
+        printf(" data %" PRIu64 "\n", files[i].data_len);
+        list_sections(in, i, files[i].sections);
+    }
+    if (files != &none) free(files);
+    return 0;
+}
+
 static int hobs(struct bytes in)
 {
     uint64_t count = 0, consumed;
@@ -167,6 +216,31 @@ static int compare(struct bytes in, struct bytes other)
     return !found.same;
 }
 
+/* The files of an input, the sections of the first two and their parts, through all calls for them. */
+static void vary_parts(const uint8_t *p, size_t n, uint32_t status)
+{
+    static fv_file files[512];
+    static fv_section sections[512];
+    static uint8_t part[1 << 16];
+    uint64_t count = 0, inside, len;
+    fv_fault fault;
+    uint32_t read = fv_files(p, n, files, 512, &count, &fault);
+    if (read != fault.number || (read && read != status)) abort();
+    for (uint64_t i = 0; i < 2; i++) {
+        uint32_t told = fv_sections(p, n, i, sections, 512, &inside, &fault);
+        if (told != (read ? read : i < count ? 0 : FV_NOT_FOUND)) abort();
+        if (!told && inside != files[i].sections) abort();
+        for (uint64_t j = 0; !told && j <= inside; j++) {
+            uint32_t made = fv_extract(p, n, i, j, part, sizeof part, &len, &fault);
+            if (!made && len != sections[j].len) abort();
+            if ((made == FV_NOT_FOUND) != (j == inside)) abort();
+        }
+        uint32_t whole = fv_extract(p, n, i, FV_WHOLE_FILE, part, sizeof part, &len, &fault);
+        if (!whole && len != files[i].data_len) abort();
+        if ((whole == FV_NOT_FOUND) != (told == FV_NOT_FOUND)) abort();
+    }
+}
+
 /* Each bit of the input turned, or each proper prefix of it, through all calls. Prints how often each result came. */
 static int vary(const char *command, struct bytes in)
 {
@@ -175,7 +249,7 @@ static int vary(const char *command, struct bytes in)
     uint8_t *buffer = malloc(in.n ? in.n : 1);
     static uint64_t offsets[64];
     static fv_cell cells[512];
-    static fv_hob list[512];
+    static fv_hob blocks[512];
     fv_fault fault;
     fv_extent extent;
     fv_comparison found;
@@ -204,7 +278,8 @@ static int vary(const char *command, struct bytes in)
         fv_normalise_image(p, n, buffer, n, &fault);
         fv_scan(p, n, offsets, 64, &count);
         fv_cells(p, n, cells, 512, &count, &fault);
-        fv_hobs(p, n, list, 512, &count, &consumed, &fault);
+        fv_hobs(p, n, blocks, 512, &count, &consumed, &fault);
+        vary_parts(p, n, status);
         fv_depex(p, n, 0, &guid, 1, &value, &fault);
         fv_depex(p, n, 1, &guid, 1, &value, &fault);
         if (command[0] == 'f')
@@ -230,6 +305,7 @@ int main(int argc, char **argv)
     if (!strcmp(command, "digest")) status = digest(in);
     if (!strcmp(command, "scan")) status = scan(in);
     if (!strcmp(command, "cells")) status = cells(in);
+    if (!strcmp(command, "list")) status = list(in);
     if (!strcmp(command, "hobs")) status = hobs(in);
     if (!strcmp(command, "flips") || !strcmp(command, "prefixes")) status = vary(command, in);
     if (!strcmp(command, "compare") && argc == 4) {

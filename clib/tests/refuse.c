@@ -1,5 +1,5 @@
 /* Each allocation of each call is refused in turn, by three functions in place of those of src/heap.c. A call must then
- * return that memory ran out, or what it returns without that. It must keep no block, and leave the buffer unchanged. */
+ * return that memory ran out, or what it returns without that. It keeps no block, and leaves the buffer unchanged. */
 #include <fv.h>
 #include <stdbool.h>
 #include <stdio.h>
@@ -39,14 +39,17 @@ void rattle_dealloc(uint8_t *p)
     free(p);
 }
 
-enum { CALLS = 9 };
+enum { CALLS = 13 };
 static const char *const names[CALLS] = {"normalise", "normalise_image", "is_canonical", "digest", "scan",
-                                         "compare",   "cells",           "hobs",         "depex"};
+                                         "compare",   "cells",           "files",        "sections", "extract",
+                                         "extract_section", "hobs",      "depex"};
 static uint8_t in[1 << 24], buffer[1 << 24];
 
 static uint32_t call(int which, size_t n)
 {
     static fv_cell cells[4096];
+    static fv_file files[4096];
+    static fv_section sections[4096];
     static fv_hob list[4096];
     static char line[553];
     static uint64_t offsets[64];
@@ -65,7 +68,11 @@ static uint32_t call(int which, size_t n)
     case 4: return fv_scan(in, n, offsets, 64, &count);
     case 5: return fv_compare(in, n, in, n, line, sizeof line, &found);
     case 6: return fv_cells(in, n, cells, 4096, &count, &fault);
-    case 7: return fv_hobs(in, n, list, 4096, &count, &consumed, &fault);
+    case 7: return fv_files(in, n, files, 4096, &count, &fault);
+    case 8: return fv_sections(in, n, 0, sections, 4096, &count, &fault);
+    case 9: return fv_extract(in, n, 0, FV_WHOLE_FILE, buffer, n, &count, &fault);
+    case 10: return fv_extract(in, n, 0, 0, buffer, n, &count, &fault);
+    case 11: return fv_hobs(in, n, list, 4096, &count, &consumed, &fault);
     default: return fv_depex(expression, sizeof expression, 0, &guid, 1, &value, &fault);
     }
 }
@@ -77,7 +84,7 @@ int main(int argc, char **argv)
     size_t n = fread(in, 1, sizeof in, f);
     fclose(f);
     for (int which = 0; which < CALLS; which++) {
-        uint32_t want = 0, memory = which < 7 ? 24 : 6;
+        uint32_t want = 0, memory = which < 11 ? 24 : 6;
         long k, refused = 0;
         for (k = -1;; k++) {
             left = k;

@@ -1,4 +1,5 @@
-/* Threads that call at once, with one canonical volume as the input of all. Also built with -fsanitize=thread. */
+/* Threads that call at once, with one canonical volume as the input of all. Also built with -fsanitize=thread. It sees
+ * this file, and of the library its copies and its blocks of memory. */
 #include <fv.h>
 #include <pthread.h>
 #include <stdio.h>
@@ -12,7 +13,10 @@ static int turns;
 
 static void *work(void *unused)
 {
-    uint8_t *buffer = malloc(n);
+    uint8_t *buffer = malloc(n), *part = malloc(n);
+    fv_file *files = malloc((n / 24 + 1) * sizeof *files);
+    fv_section *sections = malloc((n / 4 + 1) * sizeof *sections);
+    uint64_t count, inside, len;
     fv_fault fault;
     uint32_t canonical;
     long bad = 0;
@@ -20,8 +24,17 @@ static void *work(void *unused)
     for (int i = 0; i < turns; i++) {
         bad += fv_normalise(in, n, buffer, n, &fault) != 0 || memcmp(buffer, in, n) != 0;
         bad += fv_is_canonical(in, n, &canonical, &fault) != 0 || canonical != 1;
+        bad += fv_files(in, n, files, n / 24 + 1, &count, &fault) != 0;
+        for (uint64_t j = 0; j < count && j < 4; j++) {
+            bad += fv_sections(in, n, j, sections, n / 4 + 1, &inside, &fault) != 0 || inside != files[j].sections;
+            bad += fv_extract(in, n, j, FV_WHOLE_FILE, part, n, &len, &fault) != 0;
+            bad += len != files[j].data_len || memcmp(part, in + files[j].data_offset, len) != 0;
+        }
     }
     free(buffer);
+    free(part);
+    free(files);
+    free(sections);
     return (void *)bad;
 }
 

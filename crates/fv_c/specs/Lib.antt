@@ -4,4 +4,7 @@ pub mod ReportedCells
 pub mod ReportedComparisons
 pub mod ReportedTruths
 pub mod ReportedHobs
+pub mod ReportedSections
+pub mod ReportedFiles
+pub mod ExtractedParts
 pub mod inner

@@ -1,2 +1,3 @@
 -- Definitions that serve private clauses alone: there is nothing to believe here.
 pub mod ReturnedCells
+pub mod PlacedSections

@@ -1,13 +1,18 @@
 //! What is reported to C.
 
 ghost use Rattle.std.specs.Prelude.{◌≡◌, ◌↔◌, ◌≤◌, true};
+ghost use Rattle.fv_base.specs.Faults.{out_of_memory};
 ghost use Rattle.fv_c.specs.Reports.{reported_extent, reported_fault, no_fault};
 
-use fv_base::{Fault, FileSystem};
+use fv_base::{Fault, FaultKind, FileSystem};
 use fv_head::Extent;
 
 /// What a call returns if the caller's buffer is too small. It is the number of no fault.
 pub const BUFFER_TOO_SMALL: u32 = 27;
+
+/// What a call returns if the volume has no file of the number that was passed, or the file no
+/// section of that number. It is the number of no fault.
+pub const NOT_FOUND: u32 = 28;
 
 /// A fault and its place. All fields are 0 if there is none.
 #[repr(C)]
@@ -77,4 +82,11 @@ pub(crate) fn reported_fault(f: Fault) -> FvFault
         number: u32::from(f.kind.number()),
         depth: u32::from(f.place.depth),
     }
+}
+
+// Out of memory, for C.
+pub(crate) fn out_of_memory() -> FvFault
+    ensures { result ≡ reported_fault out_of_memory }
+{
+    reported_fault(Fault::outer(FaultKind::OutOfMemory, 0))
 }

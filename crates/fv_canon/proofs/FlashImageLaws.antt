@@ -1,10 +1,9 @@
 -- A flash image whose volumes are renewed, one after another.
-use Rattle.std.proofs.Common.{◌≡◌, ◌≢◌, ◌⊎◌, ◌≤◌, ◌<◌, ◌+◌, ◌-◌, ◌^◌, ℕ, List, [], ◌∷◌, ◌++◌, length, take, drop, get_or, refl}
+use Rattle.std.proofs.Common.{◌≡◌, ◌⊎◌, ◌≤◌, ◌<◌, ◌+◌, ◌-◌, ◌^◌, ℕ, List, [], ◌∷◌, ◌++◌, length, take, drop, get_or, refl}
 use Rattle.std.proofs.Common.{sym, ap, ◌∙◌, subst, arith, inl, inr, append_assoc, length-append}
 use Rattle.std.specs.List.{AllByRecursion, Contains}
 use Rattle.std.proofs.lemmas.Bool.{cases_lt}
-use Rattle.std.proofs.lemmas.List.{drop_more, ext_get_or, get_or-drop, get_or-take, length-drop, length-take-le, take_more}
-use Rattle.std.proofs.lemmas.List.{take-append-drop}
+use Rattle.std.proofs.lemmas.List.{drop_more, ext_get_or, get_or-drop, get_or-take, length-drop, length-take-le}
 use Rattle.std.proofs.Math.ListN.{drop_of_length-le}
 use Rattle.std.proofs.Math.Seq.{drop-append_seam, take-append_seam}
 use Rattle.fv_base.specs.Faults.{out_of_memory}
@@ -12,16 +11,15 @@ use Rattle.fv_base.specs.Sinks.{WalkLaws}
 use Rattle.fv_base.specs.Value.{field}
 use Rattle.fv_base.specs.declared.fault.Fault.{Fault}
 use Rattle.fv_base.specs.Limits.{depth_limit}
-use Rattle.fv_tree.specs.FirstFault.{moved_fault}
 use Rattle.fv_tree.specs.FoundVolumes.{Found, IsCovered, VolumeAt}
 use Rattle.fv_tree.specs.inner.FoundWalks.{FoundFrom}
 use Rattle.fv_tree.specs.Meaning.{Meaning}
-use Rattle.fv_tree.proofs.Laws.{at_within, found_walk, one_found, one_length, one_of, want_known}
+use Rattle.fv_tree.proofs.Laws.{at_within, found_walk, one_found, one_length, one_of}
 use Rattle.fv_base.proofs.Laws.{first_or_behind, in_middle, one_behind}
 use Rattle.fv_canon.specs.Image.{IsImage}
 use Rattle.fv_canon.specs.Headline.{NormalisesTo}
 use Rattle.fv_canon.specs.Refusals.{Refuses}
-use Rattle.fv_canon.specs.FlashImages.{FirstRefused, HasImageAt, IsRenewed, NormalisesAll, Renewed}
+use Rattle.fv_canon.specs.FlashImages.{FirstRefused, IsRenewed, NormalisesAll, Renewed}
 use Rattle.fv_canon.proofs.FaultPlaces.{refused_within}
 use Rattle.fv_canon.proofs.FitLaws.{unfit_none}
 use Rattle.fv_canon.proofs.InputLaws.{image_fits}
@@ -137,12 +135,6 @@ pub record Puts {S : Type 0} (takes : S → List ℕ → S → Type 0) (s t : S)
   pub inside : from ≤ length b
   pub left : FoundFrom from b (drop i places)
   pub whole : (rest : List ℕ) → RenewsFrom from b (drop i places) (bytes ++ rest) → RenewsFrom 0 b places (bytes ++ rest)
-  pub images : AllByRecursion (HasImageAt b) (take i places)
-
--- one item more
-all_push : (P : ℕ → Type 0) (xs : List ℕ) (x : ℕ) → AllByRecursion P xs → P x → AllByRecursion P (xs ++ x ∷ [])
-all_push P [] x all h = (h, tt)
-all_push P (y ∷ ys) x all h = (all.0, all_push P ys x all.1 h)
 
 module _ {S : Type 0} (takes : S → List ℕ → S → Type 0) (laws : WalkLaws takes) (s : S) (b places : List ℕ) where
   -- nothing is put
@@ -154,7 +146,6 @@ module _ {S : Type 0} (takes : S → List ℕ → S → Type 0) (laws : WalkLaws
     inside = omega arith;
     left = found_walk b places found;
     whole = λ rest all. all;
-    images = tt;
   }
 
   -- the next place, and what is left behind the volume that begins there
@@ -215,41 +206,7 @@ module _ {S : Type 0} (takes : S → List ℕ → S → Type 0) (laws : WalkLaws
         left = subst (λ (k : ℕ). FoundFrom (p + k) b ps) same next.1.2;
         whole = λ rest more. puts_whole i from n x image rest puts less next.0 volume refl gap_long front_long image_long
             to more;
-        images = subst (λ (l : List ℕ). AllByRecursion (HasImageAt b) l) (sym (take_more places i 0 less))
-            (all_push (HasImageAt b) (take i places) p puts.images (n, image, volume, to));
       }
-
-  -- the volume that begins at the next place is refused
-  pub puts_stops : {t : S} (i from n : ℕ) (own f : Fault) → Puts takes s t b places i from → i < length places
-      → VolumeAt b (get_or places i 0) n → Refuses (field (get_or places i 0) n b) own
-      → f ≡ moved_fault (get_or places i 0) own.place.depth own
-      → FirstRefused b places f
-  puts_stops i from n own f puts less volume refused is = record {
-    before = take i places;
-    place = get_or places i 0;
-    behind = drop (i + 1) places;
-    split = sym (take-append-drop i places) ∙ ap (λ (l : List ℕ). take i places ++ l) (drop_more places i 0 less);
-    images = puts.images;
-    size = n;
-    volume = volume;
-    own = own;
-    refused = refused;
-    moved_is = is;
-  }
-
-  -- the fault of the next volume is told at its place, or memory was wanted
-  pub puts_told : {t : S} (i from : ℕ) (x : List ℕ) (own f : Fault) → Puts takes s t b places i from → i < length places
-      → VolumeAt b (get_or places i 0) (length x) → x ≡ field (get_or places i 0) (length x) b
-      → (own ≡ out_of_memory) ⊎ Refuses x own
-      → (f ≢ out_of_memory → (own ≢ out_of_memory) × (f ≡ moved_fault (get_or places i 0) own.place.depth own))
-      → (f ≡ out_of_memory) ⊎ FirstRefused b places f
-  puts_told i from x own f puts less volume is why told = go (want_known f) why where
-    go : (f ≡ out_of_memory) ⊎ (f ≢ out_of_memory) → (own ≡ out_of_memory) ⊎ Refuses x own
-        → (f ≡ out_of_memory) ⊎ FirstRefused b places f
-    go (inl want) why = inl want
-    go (inr other) (inl want) = absurd ((told other).0 want)
-    go (inr other) (inr refused) =
-        inr (puts_stops i from (length x) own f puts less volume (subst (λ (l : List ℕ). Refuses l own) is refused) (told other).1)
 
   -- all volumes are put, and the bytes behind the last
   pub puts_all : {t u : S} (i from : ℕ) (rest : List ℕ) → Found b places → Puts takes s t b places i from → length places ≤ i
@@ -320,7 +277,7 @@ normalised_one b o other (short, places, found, r) (short', places', found', s) 
     renewed_one b places o other r (subst (λ (l : List ℕ). Renewed b l other) (sym same) s)
 
 -- and then no volume is refused
-pub renewed_never : (b places other : List ℕ) (f : Fault) → Found b places → FirstRefused b places f → NormalisesAll b other → ⊥
+renewed_never : (b places other : List ℕ) (f : Fault) → Found b places → FirstRefused b places f → NormalisesAll b other → ⊥
 renewed_never b places other f found stops (short, places', found', s) =
     let same : places ≡ places' = one_found b places places' found found' in
     let split : places' ≡ stops.before ++ (stops.place ∷ stops.behind) = sym same ∙ stops.split in

@@ -18,6 +18,7 @@ pub mod ImageLaws
 pub mod ImagePieceLaws
 pub mod InputLaws
 pub mod ItemLaws
+pub mod LaidVolumeLaws
 pub mod Laws
 pub mod LayoutLaws
 pub mod LayoutWalkLaws

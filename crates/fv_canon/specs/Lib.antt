@@ -11,5 +11,6 @@ pub mod ComparisonLines
 pub mod Comparisons
 pub mod FlashImages
 pub mod LayoutForms
+pub mod LaidVolumes
 pub mod NormaliseRuns
 pub mod inner

@@ -5,6 +5,7 @@ use Rattle.fv_base.specs.Faults.{out_of_memory}
 use Rattle.fv_base.specs.Input.{ReadsWhole, ReadStops}
 use Rattle.fv_base.specs.Output.{WriteStops}
 use Rattle.fv_base.specs.declared.fault.Fault.{Fault}
+use Rattle.fv_canon.specs.FlashImages.{NormalisesAll, RefusesAll}
 use Rattle.fv_canon.specs.Headline.{NormalisesTo}
 use Rattle.fv_canon.specs.Refusals.{Refuses}
 
@@ -17,6 +18,16 @@ abbrev pub InputStops : List ℕ → Option (List ℕ) → Option (List ℕ) →
 InputStops input held holds fault =
     (Keeps held holds × ((fault ≡ out_of_memory) ⊎ Refuses input fault))
     ⊎ ((image : List ℕ) × NormalisesTo input image × WriteStops held holds image fault)
+
+-- the flash image b was written with each of its volumes renewed
+abbrev pub ImageWrites : List ℕ → Option (List ℕ) → Option (List ℕ) → Type 0
+ImageWrites b held holds = (bytes : List ℕ) × NormalisesAll b bytes × Appends held holds bytes
+
+-- nothing was written, because memory ran out or the flash image b is rejected; or the writer stopped
+abbrev pub ImageStops : List ℕ → Option (List ℕ) → Option (List ℕ) → Fault → Type 0
+ImageStops b held holds fault =
+    (Keeps held holds × ((fault ≡ out_of_memory) ⊎ RefusesAll b fault))
+    ⊎ ((bytes : List ℕ) × NormalisesAll b bytes × WriteStops held holds bytes fault)
 
 -- a run read an input to its end, and wrote its image
 abbrev pub RunWrites : Option (List ℕ) → Option (List ℕ) → Option (List ℕ) → Option (List ℕ) → Type 0

@@ -7,5 +7,6 @@ pub mod Matching
 pub mod MatchingLaws
 pub mod Placed
 pub mod Reaches
+pub mod RefusedVolumes
 pub mod StoredWalks
 pub mod SummingSinks

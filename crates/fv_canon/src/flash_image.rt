@@ -1,24 +1,33 @@
 //! From a flash image to the same image with each of its volumes in canonical form.
 
-ghost use Rattle.std.specs.Prelude.{◌≡◌, ◌≢◌, ◌⊎◌, ◌+◌, ◌-◌, ◌<◌, ◌≤◌, ◌^◌, ℕ, List, length, IfOk, IfErr, OnOk};
+ghost use Rattle.std.specs.Prelude.{◌≡◌, ◌≢◌, ◌⊎◌, ◌+◌, ◌-◌, ◌<◌, ◌≤◌, ◌^◌, ℕ, List, length, true};
+ghost use Rattle.std.specs.Prelude.{IfOk, IfErr, OnOk};
 ghost use Rattle.fv_base.specs.Faults.{out_of_memory};
 ghost use Rattle.fv_base.specs.Limits.{volume_limit};
+ghost use Rattle.fv_base.specs.Port.{inner_of, has_erred};
 ghost use Rattle.fv_base.specs.Value.{field};
-ghost use Rattle.fv_canon.specs.Headline.{NormalisesTo};
+ghost use Rattle.fv_canon.specs.FlashImages.{FirstRefused, NormalisesAll, RefusesAll};
+ghost use Rattle.fv_canon.specs.LaidVolumes.{AreLaid, IsLaid, IsLaidOut};
+ghost use Rattle.fv_canon.specs.LayoutForms.{IsLayout};
+ghost use Rattle.fv_canon.specs.NormaliseRuns.{ImageWrites, ImageStops};
 ghost use Rattle.fv_canon.specs.Refusals.{Refuses};
-ghost use Rattle.fv_canon.specs.FlashImages.{FirstRefused, NormalisesAll, RefusesAll, Renewed};
+ghost use Rattle.fv_canon.specs.inner.RefusedVolumes.{RefusedAt};
+ghost use Rattle.fv_tree.specs.Denotes.{Accepted};
 ghost use Rattle.fv_tree.specs.FirstFault.{moved_fault};
 ghost use Rattle.fv_tree.specs.FoundVolumes.{Found, VolumeAt};
 
 use crate::canonical_image::put_canonical;
+use crate::known_layout::Layout;
 use crate::layout_walk::layout;
 use crate::normalising::whole_volume;
 use fv_base::field::bytes_from;
 use fv_base::limits::VOLUME_LIMIT;
-use fv_base::{ByteList, Fault, FaultKind, ListSink, Place, Sink, check};
+use fv_base::{ByteList, Fault, FaultKind, ListSink, Place, Port, Sink, WriteSink, check};
 use fv_head::verify_fv;
-use fv_tree::scan;
+use fv_tree::{VolumeView, scan};
 use std::alloc::Global;
+use std::io::Write;
+use std::marker::Model;
 
 // The bytes from one offset to another.
 fn between(image: &[u8], from: usize, to: usize) -> &[u8]
@@ -44,8 +53,9 @@ fn volume_at(image: &[u8], start: usize) -> &[u8]
 // stays at 0.
 fn placed(fault: Fault, start: u64) -> Fault
     requires { start + fault.place.offset < 2 ^ 64 }
-    ensures { result ≢ out_of_memory
+    ensures moved { result ≢ out_of_memory
         → (fault ≢ out_of_memory) × (result ≡ moved_fault start fault.place.depth fault) }
+    ensures kind { result.kind ≡ fault.kind }
 {
     if matches!(fault.kind, FaultKind::OutOfMemory) {
         return Fault::outer(FaultKind::OutOfMemory, 0);
@@ -59,41 +69,130 @@ fn placed(fault: Fault, start: u64) -> Fault
     }
 }
 
-// Puts the canonical image of the volume that the bytes are.
-fn put_normalised<S: Sink>(alloc: Global, volume: &[u8], out: &mut S) -> Result<(), Fault>
-    ensures ok { OnOk result ((image : List ℕ) × NormalisesTo volume.now image × S.takes out.old image out.new) }
+// A volume of an image: where it begins, what it means, and where its files are placed.
+#[derive(Drop)]
+struct LaidVolume<'a> {
+    start: u64,
+    view: VolumeView<'a>,
+    places: Layout,
+}
+
+// The volume that the bytes are, which begin at this offset of an image.
+fn laid_volume(alloc: Global, start: u64, volume: &[u8]) -> Result<LaidVolume<'_>, Fault>
+    ensures start { IfOk result (λ v. v.start ≡ start) }
+    ensures ok { IfOk result (λ v. Accepted volume.now v.view × IsLayout v.view v.places) }
     ensures err { IfErr result (λ f. (f ≡ out_of_memory) ⊎ Refuses volume.now f) }
+    ensures kind { IfErr result (λ f. (f.kind ≢ FaultKind.ReadFault) × (f.kind ≢ FaultKind.WriteFault)) }
 {
     let view = whole_volume(alloc, volume)?;
     let places = layout(alloc, &view)?;
-    put_canonical(&view, &places, out);
-    Ok(())
+    Ok(LaidVolume {
+        start,
+        view,
+        places,
+    })
 }
 
-// Puts the image with its volumes in canonical form. `places` are the offsets at which they begin,
-// of all of them.
-fn put_renewed<S: Sink>(
+// The volume that begins at this offset of the image.
+fn laid_at(alloc: Global, image: &[u8], start: u64) -> Result<LaidVolume<'_>, Fault>
+    requires { (n : ℕ) × VolumeAt image.now start n }
+    ensures start { IfOk result (λ v. v.start ≡ start) }
+    ensures ok { IfOk result (IsLaid image.now) }
+    ensures err { IfErr result (λ f. (f ≡ out_of_memory) ⊎ RefusedAt image.now start f) }
+    ensures kind { IfErr result (λ f. (f.kind ≢ FaultKind.ReadFault) × (f.kind ≢ FaultKind.WriteFault)) }
+{
+    match laid_volume(alloc, start, volume_at(image, start as usize)) {
+        Ok(volume) => Ok(volume),
+        Err(fault) => Err(placed(fault, start)),
+    }
+}
+
+// The volumes that begin at these offsets of the image, which are all of them.
+fn laid_at_each<'a>(
     alloc: Global,
-    image: &[u8],
+    image: &'a [u8],
     offsets: &[u64],
-    out: &mut S,
-) -> Result<(), Fault>
+) -> Result<Vec<LaidVolume<'a>>, Fault>
     requires { Found image.now offsets.now }
-    ensures ok { OnOk result ((bytes : List ℕ) × Renewed image.now offsets.now bytes × S.takes out.old bytes out.new) }
+    ensures ok { IfOk result (λ volumes. AreLaid image.now offsets.now volumes.items) }
     ensures err { IfErr result (λ f. (f ≡ out_of_memory) ⊎ FirstRefused image.now offsets.now f) }
+    ensures kind { IfErr result (λ f. (f.kind ≢ FaultKind.ReadFault) × (f.kind ≢ FaultKind.WriteFault)) }
+{
+    let mut volumes = Vec::with_capacity(alloc, offsets.len())?;
+    for offset in offsets {
+        volumes.push(laid_at(alloc, image, *offset)?)?;
+    }
+    Ok(volumes)
+}
+
+// Puts the image with its volumes in canonical form. `volumes` are all of them.
+fn put_renewed<S: Sink>(image: &[u8], volumes: &[LaidVolume<'_>], out: &mut S)
+    requires { IsLaidOut image.now volumes.now }
+    ensures { (bytes : List ℕ) × NormalisesAll image.now bytes × S.takes out.old bytes out.new }
 {
     let mut from = 0;
-    for offset in offsets {
-        let start = *offset as usize;
-        let volume = volume_at(image, start);
+    for volume in volumes {
+        let start = volume.start as usize;
         out.put(between(image, from, start));
-        if let Err(fault) = put_normalised(alloc, volume, out) {
-            return Err(placed(fault, *offset));
-        }
-        from = start + volume.len();
+        put_canonical(&volume.view, &volume.places, out);
+        from = start + volume.view.head().length() as usize;
     }
     out.put(bytes_from(image, from));
-    Ok(())
+}
+
+/// A flash image, each volume of which is accepted and laid out. The image is a slice of what was
+/// given. Contracts see its bytes, and know that each volume that is found in them has a canonical
+/// image. (PI specification, volume 3, section 3.2.)
+#[derive(Drop)]
+pub struct LaidImage<'a> {
+    image: &'a [u8],
+    volumes: Vec<LaidVolume<'a>>,
+}
+
+impl<'a> Model for LaidImage<'a> {
+    ghost use Rattle.std.specs.Prelude.{ℕ, List};
+    ghost use Rattle.fv_canon.specs.LaidVolumes.{IsLaidOut};
+
+    ghost Value = { List ℕ };
+
+    ghost view = { λ l. l.image.now };
+
+    ghost invariant = { λ l. IsLaidOut l.image.now l.volumes.items };
+}
+
+/// The image with each volume that `scan` finds in it accepted and laid out. (PI specification,
+/// volume 3, section 3.2.)
+///
+/// # Errors
+///
+/// Length at the limit of 268,435,456 bytes, if the image is longer. Else the fault of the first
+/// volume that `normalise` rejects, at its offset in the image; NoRoom and TopAlignment are at the
+/// volume's start. OutOfMemory.
+pub fn lay_out_image(alloc: Global, image: &[u8]) -> Result<LaidImage<'_>, Fault>
+    ensures ok { IfOk result (λ laid. laid ≡ image.now) }
+    ensures err { IfErr result (λ f. (f ≡ out_of_memory) ⊎ RefusesAll image.now f) }
+
+    // If each volume has an image, the only error is OutOfMemory.
+    ensures fits { (other : List ℕ) → NormalisesAll image.now other → IfErr result (λ f. f ≡ out_of_memory) }
+
+    // Memory runs out only if the image is within the limit.
+    ensures memory { IfErr result (λ f. f ≡ out_of_memory → length image.now ≤ volume_limit) }
+    ensures kind { IfErr result (λ f. (f.kind ≢ FaultKind.ReadFault) × (f.kind ≢ FaultKind.WriteFault)) }
+{
+    let total = image.len() as u64;
+    check(total <= VOLUME_LIMIT, FaultKind::Length, VOLUME_LIMIT)?;
+    let offsets = scan(alloc, image)?;
+    let volumes = laid_at_each(alloc, image, offsets.as_slice())?;
+    Ok(LaidImage { image, volumes })
+}
+
+/// Puts the image into a sink, with each volume that `scan` finds in it replaced by its canonical
+/// image, in one walk that takes no memory. Every other byte is kept. (PI specification, volume 3,
+/// section 3.2.)
+pub fn put_laid_image<S: Sink>(laid: &LaidImage<'_>, out: &mut S)
+    ensures { (bytes : List ℕ) × NormalisesAll laid.now bytes × S.takes out.old bytes out.new }
+{
+    put_renewed(laid.image, laid.volumes.as_slice(), out);
 }
 
 /// The image with each volume that `scan` finds in it replaced by its canonical image. Every other
@@ -118,10 +217,40 @@ pub fn normalise_image(alloc: Global, image: &[u8]) -> Result<ByteList, Fault>
     // Memory runs out only if the image is within the limit.
     ensures memory { IfErr result (λ f. f ≡ out_of_memory → length image.now ≤ volume_limit) }
 {
-    let total = image.len() as u64;
-    check(total <= VOLUME_LIMIT, FaultKind::Length, VOLUME_LIMIT)?;
-    let offsets = scan(alloc, image)?;
+    let laid = lay_out_image(alloc, image)?;
     let mut out = ListSink::with_room(alloc, image.len())?;
-    put_renewed(alloc, image, offsets.as_slice(), &mut out)?;
+    put_laid_image(&laid, &mut out);
     out.finish()
+}
+
+/// Writes the image with each volume that `scan` finds in it replaced by its canonical image. Every
+/// other byte is kept. Nothing is written before each volume is accepted and laid out. The image is
+/// not kept in memory. (PI specification, volume 3, section 3.2.)
+///
+/// # Errors
+///
+/// Those of `normalise_image`; nothing was written then. WriteFault at the number of bytes written;
+/// exactly that many bytes of the image were written then.
+pub fn write_normalised_image<W: Write>(
+    alloc: Global,
+    image: &[u8],
+    writer: &mut Port<W>,
+) -> Result<(), Fault>
+    ensures ok { OnOk result
+        (ImageWrites image.now (W.contents (inner_of writer.old)) (W.contents (inner_of writer.new))) }
+    ensures err { IfErr result
+        (ImageStops image.now (W.contents (inner_of writer.old)) (W.contents (inner_of writer.new))) }
+    ensures read { IfErr result (λ f. f.kind ≢ FaultKind.ReadFault) }
+
+    // Memory runs out only if the image is within the limit.
+    ensures memory { IfErr result (λ f. f ≡ out_of_memory → length image.now ≤ volume_limit) }
+
+    // The writer's fault is returned exactly if a write failed.
+    ensures fine { OnOk result (has_erred writer.new ≡ has_erred writer.old) }
+    ensures erred { IfErr result (λ f. f.kind ≡ FaultKind.WriteFault → has_erred writer.new ≡ true) }
+{
+    let laid = lay_out_image(alloc, image)?;
+    let mut out = WriteSink::new(writer);
+    put_laid_image(&laid, &mut out);
+    out.outcome()
 }

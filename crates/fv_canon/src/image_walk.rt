@@ -68,19 +68,19 @@ fn put_sections<'s, S: Sink>(
 #[cycle(put)]
 fn put_body<'s, S: Sink>(
     out: &mut SummingSink<'_, S>,
-    body: &Body<'_>,
+    body: Body<'_, '_>,
     starts: &'s [u64],
 ) -> &'s [u64]
-    requires laid { BeginsWithStarts (volumes_in_body (body_view body.now)) starts.now }
-    ensures bytes { ImageTakes S.takes out.old (body_image (body_view body.now) starts.now) out.new }
-    ensures rest { result.now ≡ drop (starts_in (volumes_in_body (body_view body.now))) starts.now }
+    requires laid { BeginsWithStarts (volumes_in_body (body_view body)) starts.now }
+    ensures bytes { ImageTakes S.takes out.old (body_image (body_view body.entry) starts.now) out.new }
+    ensures rest { result.now ≡ drop (starts_in (volumes_in_body (body_view body.entry))) starts.now }
 {
     match body {
         Body::Leaf(bytes) => {
             out.put(bytes);
             starts
         }
-        Body::Group { sections, tail } => put_sections(out, sections.as_slice(), *tail, starts),
+        Body::Group { sections, tail } => put_sections(out, sections, tail, starts),
         Body::Nested(volume) => put_volume(out, volume, starts),
     }
 }
@@ -221,9 +221,9 @@ pub(crate) fn put_data<S: Sink>(out: &mut S, content: &Content<'_>, starts: &[u6
 }
 
 // Puts the body of a section into any sink.
-pub(crate) fn put_section_body<S: Sink>(out: &mut S, body: &Body<'_>, starts: &[u64])
-    requires laid { BeginsWithStarts (volumes_in_body (body_view body.now)) starts.now }
-    ensures { S.takes out.old (body_image (body_view body.now) starts.now) out.new }
+pub(crate) fn put_section_body<S: Sink>(out: &mut S, body: Body<'_, '_>, starts: &[u64])
+    requires laid { BeginsWithStarts (volumes_in_body (body_view body)) starts.now }
+    ensures { S.takes out.old (body_image (body_view body.entry) starts.now) out.new }
 {
     put_body(&mut SummingSink::new(out), body, starts);
 }

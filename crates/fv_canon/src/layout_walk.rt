@@ -78,7 +78,7 @@ pub(crate) fn layout_of_body(alloc: Global, section: &SectionView<'_>) -> Result
     let mut starts = Vec::new(alloc);
     match section.body() {
         Body::Leaf(_) => {}
-        Body::Group { sections, .. } => lay_sections(alloc, sections.as_slice(), 0, &mut starts)?,
+        Body::Group { sections, .. } => lay_sections(alloc, sections, 0, &mut starts)?,
         Body::Nested(volume) => lay_volume(alloc, volume, 0, &mut starts)?,
     }
     Ok(starts)
@@ -163,15 +163,20 @@ fn lay_sections(
 
 // Adds the starts of the volumes in a section's body: a group and a volume are one level deeper.
 #[cycle(lay)]
-fn lay_body(alloc: Global, body: &Body<'_>, depth: u8, starts: &mut Vec<u64>) -> Result<(), Fault>
-    requires shallow { Shallow NestsBody (body_view body.now) depth }
-    ensures ok { OnOk result (Grew (volumes_in_body (body_view body.now)) starts.old.items starts.new.items) }
+fn lay_body(
+    alloc: Global,
+    body: Body<'_, '_>,
+    depth: u8,
+    starts: &mut Vec<u64>,
+) -> Result<(), Fault>
+    requires shallow { Shallow NestsBody (body_view body) depth }
+    ensures ok { OnOk result (Grew (volumes_in_body (body_view body.entry)) starts.old.items starts.new.items) }
     ensures err { IfErr result
-        (λ f. (f ≡ out_of_memory) ⊎ FirstUnfit (volumes_in_body (body_view body.now)) (depth + 1) f) }
+        (λ f. (f ≡ out_of_memory) ⊎ FirstUnfit (volumes_in_body (body_view body.entry)) (depth + 1) f) }
 {
     match body {
         Body::Leaf(_) => Ok(()),
-        Body::Group { sections, .. } => lay_sections(alloc, sections.as_slice(), depth + 1, starts),
+        Body::Group { sections, .. } => lay_sections(alloc, sections, depth + 1, starts),
         Body::Nested(volume) => lay_volume(alloc, volume, depth + 1, starts),
     }
 }

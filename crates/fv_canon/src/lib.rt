@@ -24,7 +24,9 @@ mod summing_sink;
 pub use canonical_image::{canonical, put_canonical, write_canonical};
 pub use canonical_input::{is_canonical, is_canonical_image};
 pub use compare::{run_compare, write_comparison};
-pub use flash_image::normalise_image;
+pub use flash_image::{
+    LaidImage, lay_out_image, normalise_image, put_laid_image, write_normalised_image,
+};
 pub use known_layout::Layout;
 pub use layout_walk::layout;
 pub use normalising::{normalise, run_normalise, whole_volume, write_normalised};

@@ -25,13 +25,13 @@ fn skip_sections<'s>(sections: &[SectionView<'_>], starts: &'s [u64]) -> &'s [u6
 
 // The starts after those of a section's body.
 #[cycle(skip)]
-fn skip_body<'s>(body: &Body<'_>, starts: &'s [u64]) -> &'s [u64]
-    requires laid { BeginsWithStarts (volumes_in_body (body_view body.now)) starts.now }
-    ensures { result.now ≡ drop (starts_in (volumes_in_body (body_view body.now))) starts.now }
+fn skip_body<'s>(body: Body<'_, '_>, starts: &'s [u64]) -> &'s [u64]
+    requires laid { BeginsWithStarts (volumes_in_body (body_view body)) starts.now }
+    ensures { result.now ≡ drop (starts_in (volumes_in_body (body_view body.entry))) starts.now }
 {
     match body {
         Body::Leaf(_) => starts,
-        Body::Group { sections, .. } => skip_sections(sections.as_slice(), starts),
+        Body::Group { sections, .. } => skip_sections(sections, starts),
         Body::Nested(volume) => skip_volume(volume, starts),
     }
 }

@@ -16,7 +16,7 @@ use Rattle.fv_tree.specs.Meaning.{Meaning, files_of}
 use Rattle.fv_tree.specs.FileNames.{file_named}
 use Rattle.fv_lines.specs.CellTexts.{CellsStop}
 use Rattle.fv_command.specs.inner.CheckRuns.{CheckStops}
-use Rattle.fv_command.specs.inner.ImageTexts.{StopsImage}
+use Rattle.fv_command.specs.inner.ImageTexts.{StopsFlash, StopsImage}
 use Rattle.fv_command.specs.inner.SumRuns.{SumsStop}
 use Rattle.fv_command.specs.Inputs.{Gives, GivesAt, TakenAt, BeginsNone, BeginsWith}
 use Rattle.fv_text.specs.PortViews.{Change, Shown, WritingStops}
@@ -26,7 +26,7 @@ use Rattle.fv_command.specs.TaskRuns.{SaysInput, StopsInput}
 use Rattle.fv_command.specs.inner.TaskSteps.{Performs}
 use Rattle.fv_plan.specs.declared.plan.Part.{Part}
 use Rattle.fv_plan.specs.declared.plan.Task.{Task}
-use Rattle.fv_plan.specs.declared.plan.Task.TheVariants.{Normalise, ListSums, Extract, Check, Cells}
+use Rattle.fv_plan.specs.declared.plan.Task.TheVariants.{Normalise, NormaliseAll, ListSums, Extract, Check, Cells}
 use Rattle.fv_command.specs.declared.status.Status.{Status}
 use Rattle.fv_command.specs.declared.status.Status.TheVariants.{Done, Different}
 
@@ -51,6 +51,11 @@ pub image_stopped : (hex : Bool) (input : List ℕ) (w v : Shown) (f : Fault) �
     → StopsInput Normalise hex input w v f
 image_stopped hex input w v f (inl why) = inl why
 image_stopped hex input w v f (inr (image, text, is, shows, stops)) = inr (Done, text, (image, is, shows), stops)
+
+pub flash_stopped : (hex : Bool) (input : List ℕ) (w v : Shown) (f : Fault) → StopsFlash hex input w v f
+    → StopsInput NormaliseAll hex input w v f
+flash_stopped hex input w v f (inl why) = inl why
+flash_stopped hex input w v f (inr (image, text, is, shows, stops)) = inr (Done, text, (image, is, shows), stops)
 
 pub check_stopped : (hex : Bool) (input : List ℕ) (w v : Shown) (f : Fault) → CheckStops input w v f → StopsInput Check hex input w v f
 check_stopped hex input w v f (inl why) = inl why

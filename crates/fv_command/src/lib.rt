@@ -10,6 +10,7 @@ mod comparison_run;
 mod digest_sink;
 mod extracting;
 mod fault_text;
+mod flash_text;
 mod hob_run;
 mod image_text;
 mod inputs;

@@ -295,17 +295,17 @@ fn put_body<S: Sink>(
     alloc: Global,
     out: &mut S,
     sums: bool,
-    body: &Body<'_>,
+    body: Body<'_, '_>,
     indent: &Indent<'_>,
 ) -> Result<(), Fault>
-    requires fit { sums ≡ true → AllFit (volumes_in_body (body_view body.now)) }
-    ensures ok { OnOk result ((text : List ℕ) × BodyLines sums (levels indent.now) (body_view body.now) text
+    requires fit { sums ≡ true → AllFit (volumes_in_body (body_view body)) }
+    ensures ok { OnOk result ((text : List ℕ) × BodyLines sums (levels indent.now) (body_view body.entry) text
         × S.takes out.old text out.new) }
     ensures err { IfErr result (λ f. (f ≡ out_of_memory) × (sums ≡ true)) }
 {
     match body {
         Body::Leaf(_) => Ok(()),
-        Body::Group { sections, .. } => put_sections(alloc, out, sums, sections.as_slice(), indent),
+        Body::Group { sections, .. } => put_sections(alloc, out, sums, sections, indent),
         Body::Nested(volume) => put_volume(alloc, out, sums, volume, indent),
     }
 }

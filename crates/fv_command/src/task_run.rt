@@ -9,12 +9,12 @@ ghost use Rattle.fv_command.specs.Tasks.{PartText};
 use crate::check_run::write_check;
 use crate::extracting::{Extraction, extract};
 use crate::fault_text::refuse;
+use crate::flash_text::write_flash_image;
 use crate::image_text::write_image;
 use crate::inputs::{read_bytes, taken_at};
 use crate::list_text::{write_list, write_sums};
 use crate::status::Status;
 use fv_base::{Fault, Port};
-use fv_canon::normalise_image;
 use fv_lines::{write_cells, write_volumes};
 use fv_plan::{Part, Task};
 use fv_text::{write_bytes, write_shown};
@@ -35,8 +35,7 @@ fn normalise<W: Write>(
     Ok(Status::Done)
 }
 
-// Writes the input with each volume in it replaced by its canonical image. Nothing is written
-// before the whole result is made.
+// Writes the input with each volume in it replaced by its canonical image.
 fn normalise_all<W: Write>(
     alloc: Global,
     hex: bool,
@@ -46,8 +45,7 @@ fn normalise_all<W: Write>(
     ensures { Performs Task.NormaliseAll hex input.now
         (shown W.contents writer.old) (shown W.contents writer.new) result }
 {
-    let image = normalise_image(alloc, input)?;
-    write_shown(writer, hex, image.as_slice())?;
+    write_flash_image(alloc, hex, input, writer)?;
     Ok(Status::Done)
 }
 

@@ -11,7 +11,7 @@ ghost use Rattle.fv_file.specs.CellForms.{cell_form};
 
 use crate::cell::Cell;
 use crate::cell_list::Cells;
-use crate::head::{PAD, file_at, header_len_at};
+use crate::head::{PAD, file_at, header_len_at, size_at};
 use crate::layout::{HEADER_LEN, SIZE_OFFSET, STATE_OFFSET};
 use crate::leading::leading_count;
 use crate::state::{FileState, file_state};
@@ -108,6 +108,40 @@ fn span_of(cell: &Cell) -> u64
     }
 }
 
+// The number of bytes from the header here to the next one, if a cell begins here: as `cell_at`
+// has it, without its checks.
+fn stride_at(rest: &[u8], polarity: Polarity) -> usize
+    requires { 24 ≤ length rest.now }
+    ensures some { 0 < result }
+    ensures within { result ≤ length rest.now }
+{
+    let header = header_len_at(rest);
+    if rest.len() < header {
+        return rest.len();
+    }
+    match file_state(rest[STATE_OFFSET], polarity) {
+        Some(FileState::Construction | FileState::HeaderInvalid) => header,
+        _ => {
+            let size = size_at(rest).min(rest.len() as u64);
+            (up_to_8(size) as usize).clamp(header, rest.len())
+        }
+    }
+}
+
+// About how many cells a body has: the list of cells gets its room at once. Where the body has no
+// fault, it is their number. It is never more than there are bytes.
+fn cell_count(body: &[u8], polarity: Polarity) -> usize
+    ensures { result ≤ length body.now }
+{
+    let mut rest = body;
+    let mut count = 0;
+    while rest.len() >= HEADER_LEN && rest[STATE_OFFSET] != polarity.erased() {
+        rest = &rest[stride_at(rest, polarity)..];
+        count += 1;
+    }
+    count + usize::from(!rest.is_empty())
+}
+
 // The cells of a body that begins at the offset `first` of its volume.
 fn cells_in(
     alloc: Global,
@@ -123,7 +157,7 @@ fn cells_in(
     ensures bound { IfErr result (λ f. f.place.offset ≤ first + length body.now) }
     ensures some { IfErr result (λ _. 0 < length body.now) }
 {
-    let mut list = Vec::new(alloc);
+    let mut list = Vec::with_capacity(alloc, cell_count(body, polarity))?;
     let mut at = 0;
     while !is_free(&body[at..], polarity) {
         let cell = cell_at(&body[at..], first + at as u64, system, polarity)?;

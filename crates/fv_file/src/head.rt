@@ -88,7 +88,7 @@ fn large_size(rest: &[u8]) -> u64
 }
 
 // The size of the file, its header included, from the field that its header uses.
-fn size_at(rest: &[u8]) -> u64
+pub(crate) fn size_at(rest: &[u8]) -> u64
     requires least { 24 ≤ length rest.now }
     requires header { file_header_len_at rest.now ≤ length rest.now }
     ensures { result ≡ file_size_at rest.now }

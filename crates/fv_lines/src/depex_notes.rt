@@ -95,7 +95,7 @@ fn put_section<S: Sink>(out: &mut S, name: Guid, section: &SectionView<'_>)
 {
     match section.body() {
         Body::Leaf(bytes) => put_leaf(out, name, section.kind(), bytes),
-        Body::Group { sections, .. } => put_sections(out, name, sections.as_slice()),
+        Body::Group { sections, .. } => put_sections(out, name, sections),
         Body::Nested(_) => {}
     }
 }

@@ -13,7 +13,8 @@ use Rattle.std.proofs.lemmas.List.{length-drop}
 use Rattle.fv_file.specs.Cells.{CellForm, Valid, Pad, Dead, Stub, Free, Tiles, CellsWithin, IsCell, IsMadeUp, offset_of, cell_len}
 use Rattle.fv_file.proofs.Laws.{cell_span}
 use Rattle.fv_head.specs.declared.extent.Extent.{Extent}
-use Rattle.fv_tree.specs.inner.ReadingParts.{HasFiles, StandIn, IsReadyFile, AllStored}
+use Rattle.fv_tree.specs.inner.ReadingParts.{HasFiles, IsReadyFile, AllStored}
+use Rattle.fv_tree.specs.LocatedFiles.{StandIn}
 use Rattle.fv_tree.specs.Denotes.{Streams, Stream, Pairwise, MeansFile}
 use Rattle.fv_tree.specs.Files.{FileForm, files_in, current_in, TopAtEnd, AreCurrent, replaces}
 use Rattle.fv_base.specs.declared.fault.Place.{Place}

@@ -23,14 +23,14 @@ use Rattle.fv_base.specs.Guids.{bytes_of}
 use Rattle.fv_base.specs.Value.{IsBytes, field}
 use Rattle.fv_base.specs.declared.guid.Guid.{Guid}
 use Rattle.fv_base.proofs.Laws.{bytes_drop, bytes_take, first_or_behind, one_behind, or_both}
-use Rattle.fv_file.specs.declared.state.FileState.TheVariants as states
 use Rattle.fv_tree.specs.Denotes.{MeansFile, Pairwise, Streams}
 use Rattle.fv_tree.specs.Files.{FileForm, NoTwins, current_in, is_marked, is_twin, replaces, same_name}
 use Rattle.fv_tree.specs.Meaning.{FileMeaning, File, file_name_of}
 use Rattle.fv_tree.specs.FileNames.{Entry, Halves, IsIndex, IsName, entry_cmp, halves_cmp, halves_of, is_named, numbered}
 use Rattle.fv_tree.specs.inner.NameOrders.{names_in, number_from}
-use Rattle.fv_tree.specs.inner.LocatedFiles.{file_form}
+use Rattle.fv_tree.specs.LocatedFiles.{file_form}
 use Rattle.fv_tree.specs.declared.volume_files.LocatedFile.{LocatedFile}
+use Rattle.fv_tree.specs.declared.volume_files.Mark.TheVariants as marks
 use Rattle.fv_tree.proofs.CurrentLaws.{same_name_back}
 
 -- ---- the order
@@ -44,7 +44,7 @@ front_total = on_total (λ (h : Halves). h.0) nat_cmp_total
 back_total : IsTotalOrder (λ (a b : Halves). nat_cmp a.1 b.1)
 back_total = on_total (λ (h : Halves). h.1) nat_cmp_total
 
-halves_total : IsTotalOrder halves_cmp
+pub halves_total : IsTotalOrder halves_cmp
 halves_total = then_total front_total back_total
 
 number_total : IsTotalOrder (λ (a b : Entry). nat_cmp a.1 b.1)
@@ -56,7 +56,7 @@ first_total = on_total (λ (e : Entry). e.0) halves_total
 entry_total : IsTotalOrder entry_cmp
 entry_total = then_total first_total number_total
 
-less_orders : IsStrictWeakOrder (λ (a b : Entry). is_lt (entry_cmp a b))
+pub less_orders : IsStrictWeakOrder (λ (a b : Entry). is_lt (entry_cmp a b))
 less_orders = ranks_by entry_total (λ (e : Entry). e)
 
 then_equal : (p q : Ordering) → ordering_then p q ≡ Equal → (p ≡ Equal) × (q ≡ Equal)
@@ -70,7 +70,7 @@ same_entry a b p q = ap (λ (n : Halves). (n, a.1)) p ∙ ap (λ (k : ℕ). (b.0
 pub same_halves : (a b : Halves) → a.0 ≡ b.0 → a.1 ≡ b.1 → a ≡ b
 same_halves a b p q = ap (λ (n : ℕ). (n, a.1)) p ∙ ap (λ (k : ℕ). (b.0, k)) q
 
-exact_halves : (a b : Halves) → halves_cmp a b ≡ Equal → a ≡ b
+pub exact_halves : (a b : Halves) → halves_cmp a b ≡ Equal → a ≡ b
 exact_halves a b h =
     let parts = then_equal (nat_cmp a.0 b.0) (nat_cmp a.1 b.1) h in
     same_halves a b (ranked a.0 b.0 Equal (sym parts.0)) (ranked a.1 b.1 Equal (sym parts.1))
@@ -95,10 +95,10 @@ halves_differ a b h e =
     let both : false ≡ true = h ∙ ap (λ t. t && (a.1 == b.1)) p ∙ q in
     absurd (let x : ⊥ = cc in x)
 
-of_one_name : (n : Halves) (i j : ℕ) → entry_cmp (n, i) (n, j) ≡ nat_cmp i j
+pub of_one_name : (n : Halves) (i j : ℕ) → entry_cmp (n, i) (n, j) ≡ nat_cmp i j
 of_one_name n i j = ap (λ o. ordering_then o (nat_cmp i j)) (tied_itself halves_total n)
 
-not_less : (i j : ℕ) → is_lt (nat_cmp i j) ≡ false → j ≤ i
+pub not_less : (i j : ℕ) → is_lt (nat_cmp i j) ≡ false → j ≤ i
 not_less i j h = go (cases_lt i j) where
   less : (o : Ordering) → o ≡ nat_cmp i j → is_lt o ≡ false → i < j → j ≤ i
   less Less e h l = cc
@@ -140,7 +140,7 @@ numbered_names : (k : ℕ) (names : List Guid) → map (λ (e : Entry). e.0) (nu
 numbered_names k [] = refl
 numbered_names k (m ∷ names) = ap (λ (hs : List Halves). halves_of m ∷ hs) (numbered_names (k + 1) names)
 
-numbered_length : (k : ℕ) (names : List Guid) → length (numbered k names) ≡ length names
+pub numbered_length : (k : ℕ) (names : List Guid) → length (numbered k names) ≡ length names
 numbered_length k [] = refl
 numbered_length k (m ∷ names) = ap suc (numbered_length (k + 1) names)
 
@@ -152,18 +152,13 @@ all_push (m ∷ names) name all whole = (all.0, all_push names name all.1 whole)
 -- what a loop over files reads past their end
 abbrev pub no_file : LocatedFile
 no_file = record {
-  offset = 0;
-  head = record {
-    name = record { bytes = [] };
-    kind = 0;
-    attributes = record { 0 = 0 };
-    size = 0;
-    header_len = 0;
-    header_sum = 0;
-    file_sum = 0;
-    state = states.Free;
-  };
   payload = record { ref_ptr = (0, 0); now = [] };
+  name = record { bytes = [] };
+  offset = 0;
+  kind = 0;
+  attributes = record { 0 = 0 };
+  header_sum = 0;
+  mark = marks.Unmarked;
 }
 
 module _ (files : List LocatedFile) (i : ℕ) where
@@ -177,27 +172,27 @@ module _ (files : List LocatedFile) (i : ℕ) where
   count_taken l = numbered_length 0 (take i names) ∙ length-take-le i names (omega (arith, l, names_length))
 
   pub more_entries : (d : LocatedFile) → i < length files → numbered 0 (take (i + 1) (names_in (map file_form files)))
-      ≡ numbered 0 (take i (names_in (map file_form files))) ++ (halves_of (get_or files i d).head.name, i) ∷ []
+      ≡ numbered 0 (take i (names_in (map file_form files))) ++ (halves_of (get_or files i d).name, i) ∷ []
   more_entries d l =
       let lt : i < length names = omega (arith, l, names_length) in
       let mid : i < length (map file_form files) = omega (arith, l, length-map files file_form) in
-      let is : get_or names i d.head.name ≡ (get_or files i d).head.name =
-      get_or-map (λ (f : FileForm). f.head.name) (map file_form files) i (file_form d) d.head.name mid
+      let is : get_or names i d.name ≡ (get_or files i d).name =
+      get_or-map (λ (f : FileForm). f.head.name) (map file_form files) i (file_form d) d.name mid
       ∙ ap (λ (f : FileForm). f.head.name) (get_or-map file_form files i d (file_form d) l) in
       let count : 0 + length (take i names) ≡ i = omega (arith, length-take-le i names (omega (arith, lt))) in
-      ap (numbered 0) (take_more names i d.head.name lt) ∙ numbered_push 0 (take i names) (get_or names i d.head.name)
+      ap (numbered 0) (take_more names i d.name lt) ∙ numbered_push 0 (take i names) (get_or names i d.name)
       ∙ ap (λ (n : Guid). numbered 0 (take i names) ++ (halves_of n, 0 + length (take i names)) ∷ []) is
-      ∙ ap (λ (k : ℕ). numbered 0 (take i names) ++ (halves_of (get_or files i d).head.name, k) ∷ []) count
+      ∙ ap (λ (k : ℕ). numbered 0 (take i names) ++ (halves_of (get_or files i d).name, k) ∷ []) count
 
   pub more_whole : (d : LocatedFile) → i < length files → AllByRecursion IsName (take i (names_in (map file_form files)))
-      → IsName (get_or files i d).head.name → AllByRecursion IsName (take (i + 1) (names_in (map file_form files)))
+      → IsName (get_or files i d).name → AllByRecursion IsName (take (i + 1) (names_in (map file_form files)))
   more_whole d l all whole =
       let lt : i < length names = omega (arith, l, names_length) in
       let mid : i < length (map file_form files) = omega (arith, l, length-map files file_form) in
-      let is : get_or names i d.head.name ≡ (get_or files i d).head.name =
-      get_or-map (λ (f : FileForm). f.head.name) (map file_form files) i (file_form d) d.head.name mid
+      let is : get_or names i d.name ≡ (get_or files i d).name =
+      get_or-map (λ (f : FileForm). f.head.name) (map file_form files) i (file_form d) d.name mid
       ∙ ap (λ (f : FileForm). f.head.name) (get_or-map file_form files i d (file_form d) l) in
-      subst (AllByRecursion IsName) (sym (take_more names i d.head.name lt)) (all_push (take i names) (get_or names i d.head.name) all
+      subst (AllByRecursion IsName) (sym (take_more names i d.name lt)) (all_push (take i names) (get_or names i d.name) all
       (subst IsName (sym is) whole))
 
   pub all_taken : length files ≤ i → take i (names_in (map file_form files)) ≡ names_in (map file_form files)

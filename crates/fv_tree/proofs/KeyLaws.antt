@@ -10,7 +10,7 @@ use Rattle.std.proofs.lemmas.List.Sorted.{Contains-permutation, IsPermutation-ma
 use Rattle.std.proofs.lemmas.Nat.{mod-mul-add, one_shl, or_shifted, shr_split}
 use Rattle.fv_tree.specs.FileNames.{Entry, Halves, halves_of, numbered}
 use Rattle.fv_tree.specs.inner.NameOrders.{key_of, names_in}
-use Rattle.fv_tree.specs.inner.LocatedFiles.{file_form}
+use Rattle.fv_tree.specs.LocatedFiles.{file_form}
 use Rattle.fv_tree.specs.declared.volume_files.LocatedFile.{LocatedFile}
 use Rattle.fv_tree.proofs.IndexLaws.{all_taken, more_entries, no_file}
 
@@ -54,7 +54,7 @@ range_below a (suc n) x (suc k, l, e) = omega (arith, range_below (a + 1) n x (k
 module _ (files : List LocatedFile) where
   -- the entry of the file of a number
   abbrev pub entry_at : ℕ → Entry
-  entry_at n = (halves_of (get_or files n no_file).head.name, n)
+  entry_at n = (halves_of (get_or files n no_file).name, n)
 
   taken : (i : ℕ) → i ≤ length files → map entry_at (range_with_len 0 i) ≡ numbered 0 (take i (names_in (map file_form files)))
   taken zero l = refl

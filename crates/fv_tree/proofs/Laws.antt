@@ -41,3 +41,7 @@ pub use Rattle.fv_tree.proofs.DifferenceLaws.{one_volume, no_difference}
 pub use Rattle.fv_tree.proofs.ScanLaws.{one_found, found_within, found_walk, one_of}
 -- a volume at a place has one length, 64 at least and a multiple of 8, and lies within the bytes
 pub use Rattle.fv_tree.proofs.ScanLaws.{one_length, at_least, at_multiple, at_within}
+-- ---- the files as they are stored
+
+-- bytes that are a volume begin with its files
+pub use Rattle.fv_tree.proofs.LocatedLaws.{volume_files}

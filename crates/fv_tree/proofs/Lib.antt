@@ -15,14 +15,17 @@ pub mod Laws
 pub mod LengthLaws
 pub mod ListCuts
 pub mod ListPairs
+pub mod LocatedLaws
 pub mod LookupLaws
 pub mod NameLaws
+pub mod NeighbourLaws
 pub mod NumberLaws
 pub mod OneFaultLaws
 pub mod RefusalLaws
 pub mod ScanLaws
 pub mod SectionLaws
 pub mod SizeLaws
+pub mod SmallCellLaws
 pub mod StreamLaws
 pub mod TwinLaws
 pub mod VolumeLaws

@@ -4,6 +4,7 @@ pub mod Files
 pub mod Denotes
 pub mod FailingChecks
 pub mod FirstFault
+pub mod LocatedFiles
 pub mod FileNames
 pub mod FileSystems
 pub mod Difference
@@ -11,4 +12,5 @@ pub mod FoundVolumes
 pub mod LookupAnswers
 pub mod LookupInstances
 pub mod Views
+pub mod SectionParts
 pub mod inner

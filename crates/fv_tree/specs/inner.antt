@@ -4,9 +4,10 @@ pub mod DifferenceWalks
 pub mod Falls
 pub mod FoundWalks
 pub mod ListFalls
-pub mod LocatedFiles
 pub mod NameOrders
+pub mod Neighbours
 pub mod ReadingParts
 pub mod Searches
 pub mod Shapes
 pub mod Sizes
+pub mod SmallFiles

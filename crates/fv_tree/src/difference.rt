@@ -234,8 +234,8 @@ fn section_difference(
 
 // The same for the bodies of two sections.
 #[cycle(differ)]
-fn body_difference(alloc: Global, body: &Body, other: &Body) -> Result<Option<Difference>, Fault>
-    ensures { AnswersDifference result (body_differs (body_view body.now) (body_view other.now)) }
+fn body_difference(alloc: Global, body: Body, other: Body) -> Result<Option<Difference>, Fault>
+    ensures { AnswersDifference result (body_differs (body_view body.entry) (body_view other.entry)) }
 {
     match (body, other) {
         (Body::Leaf(x), Body::Leaf(y)) => {
@@ -253,7 +253,7 @@ fn body_difference(alloc: Global, body: &Body, other: &Body) -> Result<Option<Di
                 sections: y,
                 tail: u,
             },
-        ) => stream_difference(alloc, x.as_slice(), *t, y.as_slice(), *u),
+        ) => stream_difference(alloc, x, t, y, u),
         (Body::Nested(x), Body::Nested(y)) => volume_difference(alloc, x, y),
         _ => Ok(Some(differ_in(alloc, Word::Shape))),
     }

@@ -14,7 +14,7 @@ mod volume_files;
 
 pub use difference::{Difference, Step, Word, first_difference};
 pub use lookup::{Item, Lookup, file_by_name, file_by_type, next_file, section_by_type};
-pub use read::read_volume;
+pub use read::{located_files, read_volume};
 pub use scanner::{Offsets, scan};
 pub use view::{Body, Content, FileView, SectionView, VolumeView};
-pub use volume_files::VOLUME_TOP_FILE;
+pub use volume_files::{LocatedFile, VOLUME_TOP_FILE};

@@ -122,12 +122,12 @@ fn seek_section<'v, 'a>(
 
 // The same for the sections in a body.
 #[cycle(seek)]
-fn seek_body<'v, 'a>(body: &'v Body<'a>, kind: u8, left: u32) -> Result<&'v SectionView<'a>, u32>
-    ensures ok { IfOk result (λ s. sought left (of_type kind (inside_body (body_view body.now))) ≡ Ok s.now) }
-    ensures err { IfErr result (λ n. sought left (of_type kind (inside_body (body_view body.now))) ≡ Err n) }
+fn seek_body<'v, 'a>(body: Body<'v, 'a>, kind: u8, left: u32) -> Result<&'v SectionView<'a>, u32>
+    ensures ok { IfOk result (λ s. sought left (of_type kind (inside_body (body_view body.entry))) ≡ Ok s.now) }
+    ensures err { IfErr result (λ n. sought left (of_type kind (inside_body (body_view body.entry))) ≡ Err n) }
 {
     match body {
-        Body::Group { sections, .. } => seek_sections(sections.as_slice(), kind, left),
+        Body::Group { sections, .. } => seek_sections(sections, kind, left),
         _ => Err(left),
     }
 }

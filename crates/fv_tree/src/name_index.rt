@@ -1,15 +1,19 @@
 //! The numbers of files by their names.
 
-ghost use Rattle.std.specs.Prelude.{◌≡◌, ◌<◌, ◌≤◌, ◌%◌, ◌^◌, List, length, map, IsSorted, IsTrue, IfOk, IfErr};
-ghost use Rattle.std.specs.List.{AllByRecursion, IsDistinct, range_with_len};
+ghost use Rattle.std.specs.Prelude.{◌≡◌, ◌<◌, ◌≤◌, ◌-◌, ◌%◌, ◌^◌, List, length, map, take, get_or, true};
+ghost use Rattle.std.specs.Prelude.{IsSorted, IsTrue, IfOk, IfErr};
+ghost use Rattle.std.specs.List.{All, AllByRecursion, IsDistinct, list_any, range_with_len};
 ghost use Rattle.std.specs.List.Sorted.{IsPermutation};
 ghost use Rattle.std.specs.Ordering.{eq_by_cmp, nat_cmp};
 ghost use Rattle.fv_base.specs.Faults.{out_of_memory};
 ghost use Rattle.fv_tree.specs.Meaning.{FileMeaning};
-ghost use Rattle.fv_tree.specs.FileNames.{HasNumbers, IsIndex, IsName, IsSixteenBytes, entry_cmp, halves_cmp};
+ghost use Rattle.fv_tree.specs.Files.{FileForm, NoTwins, is_twin, replaces};
+ghost use Rattle.fv_tree.specs.FileNames.{Entry, HasNumbers, IsIndex, IsName, IsSixteenBytes, entry_cmp, halves_cmp};
 ghost use Rattle.fv_tree.specs.FileNames.{halves_in, halves_of, numbered};
 ghost use Rattle.fv_tree.specs.inner.NameOrders.{key_of, names_in, number_from};
-ghost use Rattle.fv_tree.specs.inner.LocatedFiles.{file_form};
+ghost use Rattle.fv_tree.specs.LocatedFiles.{file_form};
+ghost use Rattle.fv_tree.specs.inner.SmallFiles.{is_noted};
+ghost use Rattle.fv_tree.specs.inner.Neighbours.{AreTwins, HasNeighbour, IsTwinAt, mark_at};
 
 use crate::volume_files::LocatedFile;
 use fv_base::{Fault, Guid};
@@ -67,11 +71,29 @@ fn sorted_keys(alloc: Global, files: &[LocatedFile], bits: u32) -> Result<Vec<u6
     let mut keys = Vec::with_capacity(alloc, files.len())?;
     for file in files {
         let number = keys.len() as u64;
-        let front = halves(file.head.name).0;
+        let front = halves(file.name).0;
         keys.push(front >> bits << bits | number)?;
     }
     keys.sort_unstable();
     Ok(keys)
+}
+
+// Whether the file with this number is marked for update.
+fn is_marked_at(files: &[LocatedFile], number: u32) -> bool
+    requires { number < length files.now }
+    ensures { (d : FileForm) → result ≡ mark_at (map file_form files.now) d number }
+{
+    files[number as usize].mark.is_marked()
+}
+
+// Whether two entries are of files with the same name and the same mark.
+fn are_twins(files: &[LocatedFile], one: ((u64, u64), u32), other: ((u64, u64), u32)) -> bool
+    requires one { one.1 < length files.now }
+    requires other { other.1 < length files.now }
+    ensures yes { IsTrue result → (d : FileForm) → AreTwins (map file_form files.now) d one other }
+    ensures all { (d : FileForm) → AreTwins (map file_form files.now) d one other → IsTrue result }
+{
+    one.0 == other.0 && is_marked_at(files, one.1) == is_marked_at(files, other.1)
 }
 
 impl Numbers {
@@ -87,7 +109,7 @@ impl Numbers {
         let keys = sorted_keys(alloc, files, bits)?;
         for key in &keys {
             let number = *key % room;
-            let name = files[number as usize].head.name;
+            let name = files[number as usize].name;
             sorted.push((halves(name), number as u32))?;
         }
         sorted.sort_unstable();
@@ -106,6 +128,81 @@ impl Numbers {
             }
         }
         true
+    }
+
+    // Whether the entry at a place has a twin among the two before it: with a third entry of its
+    // name there, two of the three are twins.
+    fn has_twin(&self, files: &[LocatedFile], place: usize) -> bool
+        requires index { IsIndex (names_in (map file_form files.now)) self.now.sorted.items }
+        requires first { 0 < place }
+        requires last { place < length self.now.sorted.items }
+        ensures yes { IsTrue result
+            → (d : FileForm) (e : Entry) → IsTwinAt (map file_form files.now) d self.now.sorted.items e place }
+        ensures all { (d : FileForm) (e : Entry) → IsTwinAt (map file_form files.now) d self.now.sorted.items e place
+            → IsTrue result }
+    {
+        let entry = self.sorted[place];
+        are_twins(files, self.sorted[place - 1], entry)
+            || are_twins(files, self.sorted[place.saturating_sub(2)], entry)
+    }
+
+    // The number of the first of the files that has an earlier twin; or the number of files if none
+    // has.
+    pub(crate) fn first_twin(&self, files: &[LocatedFile]) -> usize
+        requires { IsIndex (names_in (map file_form files.now)) self.now.sorted.items }
+        ensures most { result ≤ length files.now }
+        ensures none { NoTwins (take result (map file_form files.now)) }
+        ensures first { result < length files.now → (d : FileForm)
+            → list_any (is_twin (get_or (map file_form files.now) result d)) (take result (map file_form files.now))
+            ≡ true }
+    {
+        let mut first = files.len();
+        for place in 1..self.sorted.len() {
+            let number = self.sorted[place].1 as usize;
+            if number < first && self.has_twin(files, place) {
+                first = number;
+            }
+        }
+        first
+    }
+
+    // Whether an entry beside the one at a place has the same name.
+    fn has_neighbour(&self, place: usize) -> bool
+        requires { place < length self.now.sorted.items }
+        ensures yes { IsTrue result → (e : Entry) → HasNeighbour self.now.sorted.items e place }
+        ensures all { (e : Entry) → HasNeighbour self.now.sorted.items e place → IsTrue result }
+    {
+        let name = self.sorted[place].0;
+        (place > 0 && self.sorted[place - 1].0 == name)
+            || (place + 1 < self.sorted.len() && self.sorted[place + 1].0 == name)
+    }
+
+    // Whether one of the files replaces the one of the entry at a place. No two are twins, so that
+    // is the entry beside it if that has the same name.
+    fn is_replaced(&self, files: &[LocatedFile], place: usize) -> bool
+        requires index { IsIndex (names_in (map file_form files.now)) self.now.sorted.items }
+        requires apart { NoTwins (map file_form files.now) }
+        requires last { place < length self.now.sorted.items }
+        ensures { (d : FileForm) (e : Entry) → result
+            ≡ list_any (replaces (get_or (map file_form files.now) (get_or self.now.sorted.items place e).1 d))
+            (map file_form files.now) }
+    {
+        self.has_neighbour(place) && is_marked_at(files, self.sorted[place].1)
+    }
+
+    // Notes of each file whether one of the files replaces it.
+    pub(crate) fn set_replaced(&self, files: &mut [LocatedFile])
+        requires index { IsIndex (names_in (map file_form files.old)) self.now.sorted.items }
+        requires apart { NoTwins (map file_form files.old) }
+        ensures same { map file_form files.new ≡ map file_form files.old }
+        ensures replaced { All (λ s. is_noted s.mark ≡ list_any (replaces (file_form s)) (map file_form files.new))
+            files.new }
+    {
+        for place in 0..self.sorted.len() {
+            let number = self.sorted[place].1 as usize;
+            let replaced = self.is_replaced(files, place);
+            files[number].mark = files[number].mark.with_replaced(replaced);
+        }
     }
 
     // The number of the first file with this name.

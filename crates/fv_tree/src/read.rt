@@ -1,6 +1,7 @@
 //! Reading a volume.
 
 ghost use Rattle.std.specs.Prelude.{◌≡◌, ◌≢◌, ◌≤◌, ◌<◌, ◌+◌, ◌%◌, ◌^◌, ℕ, List, length, take, map, IfOk, IfErr};
+ghost use Rattle.std.specs.List.{AllByRecursion};
 ghost use Rattle.fv_base.specs.Faults.{outer_fault, out_of_memory};
 ghost use Rattle.fv_base.specs.Limits.{volume_limit};
 ghost use Rattle.fv_base.specs.declared.fault.Fault.{Fault};
@@ -16,21 +17,22 @@ ghost use Rattle.fv_tree.specs.Denotes.{holds_sections, IsStoredFile, IsStoredFr
 ghost use Rattle.fv_tree.specs.FailingChecks.{First};
 ghost use Rattle.fv_tree.specs.FirstFault.{moved_fault, Moved, LayoutFault, InSection, InStream, InVolume, BodyFault};
 ghost use Rattle.fv_tree.specs.FirstFault.{OneOf, FileFault, IsFirstOfVolume, FaultStands, body_place, data_place};
-ghost use Rattle.fv_tree.specs.inner.ReadingParts.{HasFiles, StandIn, AllStored, ReadsContent};
+ghost use Rattle.fv_tree.specs.inner.ReadingParts.{HasFiles, AllStored, ReadsContent};
+ghost use Rattle.fv_tree.specs.LocatedFiles.{StandIn};
 ghost use Rattle.fv_tree.specs.FileNames.{HasNumbers, IsIndex};
 ghost use Rattle.fv_tree.specs.inner.NameOrders.{names_in};
 ghost use Rattle.fv_tree.specs.Views.{content_view};
-ghost use Rattle.fv_tree.specs.inner.LocatedFiles.{file_form};
+ghost use Rattle.fv_tree.specs.LocatedFiles.{file_form, BeginWithFiles, HasDataIn, IsFirstOfFiles};
 ghost use Rattle.fv_tree.specs.inner.Shapes.{shape_of};
 
 use crate::frame_places::{next_frame_at, stream_size};
 use crate::name_index::Numbers;
-use crate::view::{Body, Content, FileView, SectionView, VolumeView};
+use crate::view::{Content, FileView, SectionView, VolumeView};
 use crate::volume_files::{LocatedFile, current_files, files_of};
 use fv_base::limits::DEPTH_LIMIT;
 use fv_base::{Fault, FaultKind, Place};
 use fv_file::cells;
-use fv_head::{Extent, is_one_volume, read_head};
+use fv_head::{Extent, is_one_volume, read_head, verify_fv};
 use fv_section::{Frame, next_frame};
 use std::alloc::Global;
 
@@ -174,6 +176,44 @@ fn files_in_body<'a>(
     }
 }
 
+/// The files of the volume at the start of the bytes, in the order of `VolumeView::files`, as they
+/// are stored in it: with the offset of the header, the header and the data. The data are not read.
+/// (PI specification, volume 3, sections 3.2.2 and 3.2.3.)
+///
+/// # Errors
+///
+/// The first fault, in this order: those of the header, as for `verify_fv`; those of the body, as
+/// for `cells`; DuplicateName at the later of two files with the same name and state; TopFile at a
+/// volume top file that is not at the end. The offset is in bytes from the first of `bytes`.
+/// OutOfMemory at 0.
+pub fn located_files(alloc: Global, bytes: &[u8]) -> Result<Vec<LocatedFile<'_>>, Fault>
+    // The bytes begin with a volume, and these are its files.
+    ensures found { IfOk result (λ fs. BeginWithFiles bytes.now (map file_form fs.items)) }
+
+    // The data of each file are in the bytes, at their offset.
+    ensures data { IfOk result (λ fs. AllByRecursion (HasDataIn bytes.now) (map file_form fs.items)) }
+
+    // The volume that they begin with has no other files.
+    ensures only { IfOk result
+        (λ fs. (gs : List FileForm) → BeginWithFiles bytes.now gs → gs ≡ map file_form fs.items) }
+
+    // If an error other than OutOfMemory is returned, they begin with none.
+    ensures none { IfErr result
+        (λ f. f ≢ out_of_memory → (gs : List FileForm) → BeginWithFiles bytes.now gs → ⊥) }
+
+    // An error other than OutOfMemory is the first fault.
+    ensures first { IfErr result (λ f. f ≢ out_of_memory → IsFirstOfFiles bytes.now f) }
+{
+    let extent = verify_fv(bytes)?;
+    let volume = &bytes[..extent.length as usize];
+    let place = Place {
+        offset: 0,
+        depth: 0,
+    };
+    let (files, _) = files_in_body(alloc, volume, extent, place)?;
+    Ok(files)
+}
+
 // One section.
 #[cycle(read)]
 fn read_section<'a>(
@@ -192,27 +232,21 @@ fn read_section<'a>(
     ensures first { IfErr result
         (λ f. f ≢ out_of_memory → InSection First left f (framed.frame_form frame.now) place) }
 {
-    let len = frame.body.len() as u32;
-    let body = match shape_of(frame) {
-        Shape::Leaf => Body::Leaf(frame.body),
+    match shape_of(frame) {
+        Shape::Leaf => Ok(SectionView::of_leaf(frame)),
         Shape::Group => {
             let (inside, below) = deeper(frame, place, left)?;
             let (sections, tail) = read_stream(alloc, frame.body, inside, below)?;
-            return Ok(SectionView::new(
-                frame.kind,
-                frame.extended,
-                Body::Group { sections, tail },
-                len,
-            ));
+            let len = frame.body.len() as u32;
+            SectionView::of_group(alloc, frame, sections, tail, len)
         }
         Shape::Volume => {
             let (inside, below) = deeper(frame, place, left)?;
             let (volume, _) = read_at(alloc, frame.body, inside, below)?;
             let nested = Box::new(alloc, volume)?;
-            return Ok(SectionView::new(frame.kind, frame.extended, Body::Nested(nested), len));
+            Ok(SectionView::of_volume(frame, nested))
         }
-    };
-    Ok(SectionView::new(frame.kind, frame.extended, body, len))
+    }
 }
 
 // The sections of a stream, and the number of bytes after the last.
@@ -265,11 +299,11 @@ fn read_content<'a>(
     ensures first { IfErr result
         (λ f. f ≢ out_of_memory → FileFault (InStream First left) f (file_form file.now) place) }
 {
-    if !holds_sections(file.head.kind) {
+    if !holds_sections(file.kind) {
         return Ok(Content::Plain(file.payload));
     }
     let inside = Place {
-        offset: place.offset + file.offset + file.head.header_len,
+        offset: place.offset + u64::from(file.offset) + file.header_len(),
         depth: place.depth,
     };
     let (sections, tail) = read_stream(alloc, file.payload, inside, left)?;
@@ -296,10 +330,10 @@ fn read_file<'a>(
         (λ f. f ≢ out_of_memory → FileFault (InStream First left) f (file_form file.now) place) }
 {
     let content = read_content(alloc, file, place, left)?;
-    let attributes = file.head.attributes.without_large();
+    let attributes = file.attributes.without_large();
     Ok(FileView::new(
-        file.head.name,
-        file.head.kind,
+        file.name,
+        file.kind,
         attributes,
         content,
         file.payload.len() as u32,

@@ -1,6 +1,7 @@
 //! A volume, as a view of the bytes that it was read from.
 
-ghost use Rattle.std.specs.Prelude.{◌≡◌, length, option_map, option_copied, slice_get};
+ghost use Rattle.std.specs.Prelude.{◌≡◌, ◌+◌, length, option_map, option_copied, slice_get, IfOk, IfErr};
+ghost use Rattle.fv_base.specs.Faults.{out_of_memory};
 ghost use Rattle.fv_file.specs.Attributes.{attribute_bits};
 ghost use Rattle.fv_tree.specs.Denotes.{IsMeaning, IsReadFile, IsReadSection};
 ghost use Rattle.fv_tree.specs.Meaning.{head_of, files_of};
@@ -9,12 +10,17 @@ ghost use Rattle.fv_tree.specs.Meaning.{section_kind_of, section_is_extended, bo
 ghost use Rattle.fv_tree.specs.FileNames.{HasNumbers};
 ghost use Rattle.fv_tree.specs.inner.NameOrders.{number_from};
 ghost use Rattle.fv_tree.specs.Views.{body_view, content_view};
+ghost use Rattle.fv_tree.specs.SectionParts.{sections_of};
 
 use crate::name_index::Numbers;
-use fv_base::Guid;
+use fv_base::{Fault, Guid};
 use fv_file::FileAttributes;
 use fv_head::VolumeHead;
+use fv_section::Frame;
+use std::alloc::Global;
 use std::marker::Model;
+use std::mem::size_of;
+use std::slice::from_ref;
 
 /// The meaning of a volume; only reading makes one. The header is owned, and the bytes of the files
 /// are slices of what was read. Contracts see the meaning, and know that some bytes are a volume
@@ -47,10 +53,10 @@ pub enum Content<'a> {
     Plain(&'a [u8]),
     /// Sections.
     Stream {
-        /// The sections in order.
-        sections: Vec<SectionView<'a>>,
         /// The number of bytes after the last section, 0 to 3.
         tail: u8,
+        /// The sections in order.
+        sections: Vec<SectionView<'a>>,
     },
 }
 
@@ -59,28 +65,74 @@ pub enum Content<'a> {
 #[cycle(tree)]
 #[derive(Drop)]
 pub struct SectionView<'a> {
-    body: Body<'a>,
-    len: u32,
-    kind: u8,
-    extended: bool,
+    parts: Parts<'a>,
 }
 
-/// What a section holds. (PI specification, volume 3, section 3.2.5.)
+/// What a section is made of. The type and the form of the header lie in each case, because a case
+/// of its own has room for them beside the tag: a section takes 24 bytes.
 #[cycle(tree)]
 #[derive(Drop)]
-pub enum Body<'a> {
+enum Parts<'a> {
     /// Bytes of no further meaning.
+    Leaf {
+        kind: u8,
+        extended: bool,
+        bytes: &'a [u8],
+    },
+    /// Sections.
+    Group {
+        kind: u8,
+        extended: bool,
+        /// The number of bytes after the last section, 0 to 3.
+        tail: u8,
+        /// The number of bytes of the body.
+        len: u32,
+        sections: Sections<'a>,
+    },
+    /// A volume. It is behind a pointer, so that a section without one is small.
+    Nested {
+        kind: u8,
+        extended: bool,
+        volume: Box<VolumeView<'a>>,
+    },
+}
+
+/// The sections of a group, in order. One or two have no vector of their own, because it would take
+/// more memory than they do.
+#[cycle(tree)]
+#[derive(Drop)]
+enum Sections<'a> {
+    /// No section.
+    Empty,
+    /// One section.
+    One(Box<SectionView<'a>>),
+    /// Two sections.
+    Two(Box<[SectionView<'a>; 2]>),
+    /// More sections.
+    Many(Box<Vec<SectionView<'a>>>),
+}
+
+/// What a section holds, as a borrow of it. (PI specification, volume 3, section 3.2.5.)
+#[derive(Clone, Copy)]
+pub enum Body<'v, 'a> {
+    /// Bytes of no further meaning: a slice of what was read, which outlives the view.
     Leaf(&'a [u8]),
     /// Sections.
     Group {
         /// The sections in order.
-        sections: Vec<SectionView<'a>>,
+        sections: &'v [SectionView<'a>],
         /// The number of bytes after the last section, 0 to 3.
         tail: u8,
     },
-    /// A volume. It is behind a pointer, so that a section without one is small.
-    Nested(Box<VolumeView<'a>>),
+    /// A volume.
+    Nested(&'v VolumeView<'a>),
 }
+
+// A section takes at least 4 bytes of a volume, so its view takes at most 6 times its length.
+const _: () = prove!(size_of::<SectionView<'static>>() == 24);
+
+// A file takes at least 24 bytes of a volume.
+const _: () = prove!(size_of::<FileView<'static>>() <= 56);
 
 impl<'a> Model for VolumeView<'a> {
     ghost use Rattle.fv_tree.specs.inner.Codes.{volume_code};
@@ -138,28 +190,27 @@ impl<'a> Model for FileView<'a> {
 impl<'a> Model for SectionView<'a> {
     ghost use Rattle.std.specs.Prelude.{◌≡◌};
     ghost use Rattle.fv_tree.specs.inner.Codes.{section_code};
-    ghost use Rattle.fv_tree.specs.Meaning.{SectionMeaning, Section, body_len};
+    ghost use Rattle.fv_tree.specs.Meaning.{SectionMeaning};
     ghost use Rattle.fv_tree.specs.inner.Sizes.{section_size};
 
     ghost Value = { SectionMeaning };
 
     ghost coded = { section_code };
 
-    ghost use Rattle.fv_tree.specs.Views.{body_view};
+    ghost use Rattle.fv_tree.specs.SectionParts.{parts_view, HasLength};
 
-    ghost view = { λ s. Section s.kind s.extended (body_view s.body) };
+    ghost view = { λ s. parts_view s.parts };
 
     ghost use Rattle.fv_tree.specs.Denotes.{IsReadSection};
 
-    ghost invariant = { λ s. IsReadSection (Section s.kind s.extended (body_view s.body))
-        × (s.len ≡ body_len (body_view s.body)) };
+    ghost invariant = { λ s. IsReadSection (parts_view s.parts) × HasLength s.parts };
 
     ghost size = { section_size };
 
     ghost use Rattle.std.proofs.Common.{arith};
-    ghost use Rattle.fv_tree.specs.inner.Falls.{body_falls};
+    ghost use Rattle.fv_tree.specs.inner.Falls.{parts_fall};
 
-    ghost size_decreases = { λ s h. Prim.omega (arith, body_falls s.body) };
+    ghost size_decreases = { λ s h. Prim.omega (arith, parts_fall s.parts) };
 }
 
 impl<'a> VolumeView<'a> {
@@ -301,20 +352,93 @@ impl<'a> FileView<'a> {
     }
 }
 
-impl<'a> SectionView<'a> {
-    ghost use Rattle.fv_tree.specs.Meaning.{Section, body_len};
+impl<'a> Sections<'a> {
+    // The sections of a vector.
+    fn from_vec(alloc: Global, sections: Vec<SectionView<'a>>) -> Result<Sections<'a>, Fault>
+        ensures ok { IfOk result (λ s. sections_of s ≡ sections.entry.items) }
+        ensures err { IfErr result (λ f. f ≡ out_of_memory) }
+    {
+        if sections.len() > 2 {
+            return Ok(Sections::Many(Box::new(alloc, sections)?));
+        }
+        let mut rest = sections;
+        let Some(last) = rest.pop() else {
+            return Ok(Sections::Empty);
+        };
+        let Some(first) = rest.pop() else {
+            return Ok(Sections::One(Box::new(alloc, last)?));
+        };
+        Ok(Sections::Two(Box::new(alloc, [first, last])?))
+    }
 
-    // The view of a section whose body has `len` bytes.
-    pub(crate) fn new(kind: u8, extended: bool, body: Body<'a>, len: u32) -> SectionView<'a>
-        requires read { IsReadSection (Section kind extended (body_view body)) }
-        requires len { len ≡ body_len (body_view body) }
-        ensures { result ≡ Section kind extended (body_view body.entry) }
+    // The sections in order.
+    fn as_slice(&self) -> &[SectionView<'a>]
+        ensures { result.now ≡ sections_of self.now }
+    {
+        match self {
+            Sections::Empty => &[],
+            Sections::One(section) => from_ref(section),
+            Sections::Two(pair) => pair.as_slice(),
+            Sections::Many(sections) => sections.as_slice(),
+        }
+    }
+}
+
+impl<'a> SectionView<'a> {
+    ghost use Rattle.fv_tree.specs.Meaning.{Section, Leaf, Group, Nested, sections_from, sections_end};
+
+    // The view of the section in a frame, as bytes.
+    pub(crate) fn of_leaf(frame: &Frame<'a>) -> SectionView<'a>
+        requires { IsReadSection (Section frame.now.kind frame.now.extended (Leaf frame.now.body.now)) }
+        ensures { result ≡ Section frame.now.kind frame.now.extended (Leaf frame.now.body.now) }
     {
         SectionView {
-            kind,
-            extended,
-            body,
-            len,
+            parts: Parts::Leaf {
+                kind: frame.kind,
+                extended: frame.extended,
+                bytes: frame.body,
+            },
+        }
+    }
+
+    // The view of the section in a frame, as sections in a body of `len` bytes.
+    pub(crate) fn of_group(
+        alloc: Global,
+        frame: &Frame<'a>,
+        sections: Vec<SectionView<'a>>,
+        tail: u8,
+        len: u32,
+    ) -> Result<SectionView<'a>, Fault>
+        requires read { IsReadSection
+            (Section frame.now.kind frame.now.extended (Group (sections_from sections.items) tail)) }
+        requires len { len ≡ sections_end 0 (sections_from sections.items) + tail }
+        ensures ok { IfOk result
+            (λ s. s ≡ Section frame.now.kind frame.now.extended (Group (sections_from sections.entry.items) tail)) }
+        ensures err { IfErr result (λ f. f ≡ out_of_memory) }
+    {
+        let sections = Sections::from_vec(alloc, sections)?;
+        Ok(SectionView {
+            parts: Parts::Group {
+                kind: frame.kind,
+                extended: frame.extended,
+                tail,
+                len,
+                sections,
+            },
+        })
+    }
+
+    // The view of the section in a frame, as a volume.
+    pub(crate) fn of_volume(frame: &Frame<'a>, volume: Box<VolumeView<'a>>) -> SectionView<'a>
+        requires { IsReadSection (Section frame.now.kind frame.now.extended (Nested volume.value)) }
+        ensures { result ≡ Section frame.now.kind frame.now.extended (Nested volume.entry.value) }
+    {
+        SectionView {
+            parts: Parts::Nested {
+                kind: frame.kind,
+                extended: frame.extended,
+                volume,
+            },
         }
     }
 
@@ -325,21 +449,35 @@ impl<'a> SectionView<'a> {
         // Some bytes are a section with this meaning.
         ensures read { IsReadSection self.now }
     {
-        self.kind
+        match &self.parts {
+            Parts::Leaf { kind, .. } | Parts::Group { kind, .. } | Parts::Nested { kind, .. } =>
+                *kind,
+        }
     }
 
     /// Whether its header is extended: 8 bytes rather than 4.
     pub fn extended(&self) -> bool
         ensures { result ≡ section_is_extended self.now }
     {
-        self.extended
+        match &self.parts {
+            Parts::Leaf { extended, .. }
+            | Parts::Group { extended, .. }
+            | Parts::Nested { extended, .. } => *extended,
+        }
     }
 
     /// What it holds.
-    pub fn body(&self) -> &Body<'a>
-        ensures { body_view result.now ≡ body_of self.now }
+    pub fn body(&self) -> Body<'_, 'a>
+        ensures { body_view result ≡ body_of self.now }
     {
-        &self.body
+        match &self.parts {
+            Parts::Leaf { bytes, .. } => Body::Leaf(*bytes),
+            Parts::Group { sections, tail, .. } => Body::Group {
+                sections: sections.as_slice(),
+                tail: *tail,
+            },
+            Parts::Nested { volume, .. } => Body::Nested(volume),
+        }
     }
 
     /// The bytes of a leaf: a slice of what was read, which outlives the view. None if the section
@@ -347,8 +485,8 @@ impl<'a> SectionView<'a> {
     pub fn leaf(&self) -> Option<&'a [u8]>
         ensures { option_map (λ b. b.now) result ≡ leaf_of (body_of self.now) }
     {
-        match &self.body {
-            Body::Leaf(bytes) => Some(*bytes),
+        match &self.parts {
+            Parts::Leaf { bytes, .. } => Some(*bytes),
             _ => None,
         }
     }
@@ -357,6 +495,10 @@ impl<'a> SectionView<'a> {
     pub fn body_len(&self) -> u64
         ensures { result ≡ body_len (body_of self.now) }
     {
-        u64::from(self.len)
+        match &self.parts {
+            Parts::Leaf { bytes, .. } => bytes.len() as u64,
+            Parts::Group { len, .. } => u64::from(*len),
+            Parts::Nested { volume, .. } => volume.head().length(),
+        }
     }
 }

@@ -1,23 +1,23 @@
 //! The files of a volume: which of the valid files in its body are part of it.
 
 ghost use Rattle.std.specs.Prelude.{◌≡◌, ◌≢◌, ◌≤◌, ◌<◌, ◌^◌, ◌⊎◌, ◌==◌, ◌&&◌, ◌||◌, not, List, [], ◌∷◌, map};
-ghost use Rattle.std.specs.Prelude.{length as length_of, IfOk, IfErr, OnOk, IfSome, IfNone};
-ghost use Rattle.std.specs.List.{list_any, AllByRecursion};
+ghost use Rattle.std.specs.Prelude.{length as length_of, IsTrue, IfOk, IfErr, OnOk, IfSome, IfNone, true};
+ghost use Rattle.std.specs.List.{AllByRecursion};
 ghost use Rattle.fv_base.specs.Faults.{outer_fault, out_of_memory};
 ghost use Rattle.fv_file.specs.CellForms as cellular;
 ghost use Rattle.fv_tree.specs.Files.{FileForm, NoTwins, TopAtEnd, AreCurrent, files_in, current_in, is_marked, is_top};
-ghost use Rattle.fv_tree.specs.Files.{end_of, replaces};
+ghost use Rattle.fv_tree.specs.Files.{end_of};
 ghost use Rattle.fv_tree.specs.FailingChecks.{First};
 ghost use Rattle.fv_tree.specs.FirstFault.{HasTwin, TopElsewhere, NamesFault};
-ghost use Rattle.fv_tree.specs.inner.NameOrders.{HasNames, names_in};
+ghost use Rattle.fv_tree.specs.inner.NameOrders.{names_in};
 ghost use Rattle.fv_tree.specs.FileNames.{IsIndex};
-ghost use Rattle.fv_tree.specs.inner.LocatedFiles.{file_form};
+ghost use Rattle.fv_tree.specs.LocatedFiles.{file_form, state_by};
+ghost use Rattle.fv_tree.specs.inner.SmallFiles.{IsSmallCell, is_noted, mark_of};
 
 use crate::name_index::Numbers;
 use fv_base::{Fault, FaultKind, Guid, check};
-use fv_file::{Cell, FileHead, FileState};
+use fv_file::{Cell, FileAttributes, FileState};
 use std::alloc::Global;
-use std::collections::BTreeSet;
 
 /// The bytes of the name of the volume top file, `EFI_FFS_VOLUME_TOP_FILE_GUID`,
 /// 1ba0062e-c779-4582-8566-336ae8f78f09. (PI specification, volume 3, section 3.2.1.3.)
@@ -25,33 +25,102 @@ pub const VOLUME_TOP_FILE: [u8; 16] = [
     0x2e, 0x06, 0xa0, 0x1b, 0x79, 0xc7, 0x82, 0x45, 0x85, 0x66, 0x33, 0x6a, 0xe8, 0xf7, 0x8f, 0x09,
 ];
 
-/// A file as it is stored in its volume.
+/// Whether a file is marked for update (`EFI_FILE_MARKED_FOR_UPDATE`).
 #[derive(Clone, Copy)]
-pub(crate) struct LocatedFile<'a> {
-    /// The offset of its header, in bytes from the volume's start.
-    pub(crate) offset: u64,
-    /// Its header.
-    pub(crate) head: FileHead,
-    /// Its data.
-    pub(crate) payload: &'a [u8],
+pub(crate) enum Mark {
+    /// It is not.
+    Unmarked,
+    /// It is.
+    Marked,
+    /// It is, and one of the files replaces it.
+    Replaced,
 }
 
-// Whether a file is marked for update.
-fn is_marked(state: FileState) -> bool
-    ensures { result ≡ is_marked state }
-{
-    matches!(state, FileState::Marked)
+impl Mark {
+    // The mark of a valid file of this state.
+    fn of(state: FileState) -> Mark
+        ensures { result ≡ mark_of state }
+    {
+        match state {
+            FileState::Marked => Mark::Marked,
+            _ => Mark::Unmarked,
+        }
+    }
+
+    /// Whether the file is marked for update.
+    pub(crate) fn is_marked(self) -> bool
+        ensures { result ≡ is_marked (state_by self) }
+    {
+        matches!(self, Mark::Marked | Mark::Replaced)
+    }
+
+    /// Whether one of the files replaces it.
+    pub(crate) fn is_replaced(self) -> bool
+        ensures { result ≡ is_noted self }
+    {
+        matches!(self, Mark::Replaced)
+    }
+
+    /// The mark of the same file, with whether one of the files replaces it.
+    pub(crate) fn with_replaced(self, replaced: bool) -> Mark
+        requires { IsTrue replaced → is_marked (state_by self) ≡ true }
+        ensures same { state_by result ≡ state_by self }
+        ensures noted { is_noted result ≡ replaced }
+    {
+        match self {
+            Mark::Unmarked => Mark::Unmarked,
+            Mark::Marked | Mark::Replaced => {
+                if replaced {
+                    Mark::Replaced
+                } else {
+                    Mark::Marked
+                }
+            }
+        }
+    }
+}
+
+/// A valid file as it is stored in its volume. There may be as many as the volume has room for
+/// headers, so what follows from the other fields is not kept: the length of the header, the size
+/// and the file sum. (PI specification, volume 3, section 3.2.3.)
+#[derive(Clone, Copy)]
+pub struct LocatedFile<'a> {
+    /// Its data, which follow the header.
+    pub payload: &'a [u8],
+    /// Its name, `Name`.
+    pub name: Guid,
+    /// The offset of its header, in bytes from the volume's start.
+    pub offset: u32,
+    /// Its type, `Type`.
+    pub kind: u8,
+    /// Its attribute bits, `Attributes`.
+    pub attributes: FileAttributes,
+    /// The sum of its header. No call reads it; the clauses speak of it.
+    pub(crate) header_sum: u8,
+    /// Whether it is marked for update.
+    pub(crate) mark: Mark,
+}
+
+impl<'a> LocatedFile<'a> {
+    /// The length of its header in bytes, 24 or 32. (PI specification, volume 3, section 3.2.3.1.)
+    pub fn header_len(&self) -> u64
+        ensures is { result ≡ (file_form self.now).head.header_len }
+        ensures most { result ≤ 32 }
+    {
+        if self.attributes.is_large() { 32 } else { 24 }
+    }
 }
 
 // Whether a file is a volume top file, by its name.
 fn is_top(file: &LocatedFile) -> bool
     ensures { result ≡ is_top (file_form file.now) }
 {
-    file.head.name.to_bytes()[..] == VOLUME_TOP_FILE[..]
+    file.name.to_bytes()[..] == VOLUME_TOP_FILE[..]
 }
 
 // The file of a cell, if the cell has one.
 fn file_of<'a>(cell: &Cell<'a>) -> Option<LocatedFile<'a>>
+    requires { IsSmallCell (cellular.cell_form cell.now) }
     ensures some { IfSome result (λ s. files_in (cellular.cell_form cell.now ∷ []) ≡ file_form s ∷ []) }
     ensures none { IfNone result (files_in (cellular.cell_form cell.now ∷ []) ≡ []) }
 {
@@ -61,9 +130,13 @@ fn file_of<'a>(cell: &Cell<'a>) -> Option<LocatedFile<'a>>
             head,
             payload,
         } => Some(LocatedFile {
-            offset,
-            head,
             payload,
+            name: head.name,
+            offset: offset as u32,
+            kind: head.kind,
+            attributes: head.attributes,
+            header_sum: head.header_sum,
+            mark: Mark::of(head.state),
         }),
         _ => None,
     }
@@ -71,6 +144,7 @@ fn file_of<'a>(cell: &Cell<'a>) -> Option<LocatedFile<'a>>
 
 // The files of some cells, in order.
 pub(crate) fn files_of<'a>(alloc: Global, cells: &[Cell<'a>]) -> Result<Vec<LocatedFile<'a>>, Fault>
+    requires { AllByRecursion IsSmallCell (map cellular.cell_form cells.now) }
     ensures found { IfOk result (λ fs. map file_form fs.items ≡ files_in (map cellular.cell_form cells.now)) }
     ensures err { IfErr result (λ f. f ≡ out_of_memory) }
 {
@@ -84,43 +158,38 @@ pub(crate) fn files_of<'a>(alloc: Global, cells: &[Cell<'a>]) -> Result<Vec<Loca
     Ok(files)
 }
 
-// The names of the files, each with whether the file is marked; or the fault DuplicateName at the
-// first file that has an earlier twin.
-fn names_of(alloc: Global, files: &[LocatedFile]) -> Result<BTreeSet<(Guid, bool)>, Fault>
-    ensures found { IfOk result
-        (λ names. NoTwins (map file_form files.now) × HasNames names (map file_form files.now)) }
-    ensures first { IfErr result (λ e. (e ≡ out_of_memory) ⊎ ((f : FileForm)
-        × HasTwin First f (map file_form files.now) × (e ≡ outer_fault FaultKind.DuplicateName f.offset))) }
+// Ok if no two of the files are twins; or the fault DuplicateName at the first file that has an
+// earlier twin.
+fn check_twins(files: &[LocatedFile], numbers: &Numbers) -> Result<(), Fault>
+    requires { IsIndex (names_in (map file_form files.now)) numbers.now.sorted.items }
+    ensures found { OnOk result (NoTwins (map file_form files.now)) }
+    ensures first { IfErr result (λ e. (f : FileForm) × HasTwin First f (map file_form files.now)
+        × (e ≡ outer_fault FaultKind.DuplicateName f.offset)) }
 {
-    let mut names = BTreeSet::new(alloc);
-    for file in files {
-        let new = names.insert((file.head.name, is_marked(file.head.state)))?;
-        check(new, FaultKind::DuplicateName, file.offset)?;
+    let first = numbers.first_twin(files);
+    if first < files.len() {
+        let offset = u64::from(files[first].offset);
+        return Err(Fault::outer(FaultKind::DuplicateName, offset));
     }
-    Ok(names)
-}
-
-// Whether none of the files with these names replaces the file.
-fn is_kept(file: &LocatedFile, names: &BTreeSet<(Guid, bool)>) -> bool
-    ensures { (fs : List FileForm) → HasNames names.now fs
-        → result ≡ not (list_any (replaces (file_form file.now)) fs) }
-{
-    !is_marked(file.head.state) || !names.contains(&(file.head.name, false))
+    Ok(())
 }
 
 // Keeps only the files that none of them replaces.
-fn keep_current(files: &mut Vec<LocatedFile>, names: &BTreeSet<(Guid, bool)>)
-    requires { HasNames names.now (map file_form files.old.items) }
+fn keep_current(files: &mut Vec<LocatedFile>, numbers: &Numbers)
+    requires index { IsIndex (names_in (map file_form files.old.items)) numbers.now.sorted.items }
+    requires apart { NoTwins (map file_form files.old.items) }
     ensures { map file_form files.new.items ≡ current_in (map file_form files.old.items) }
 {
-    files.retain(|file| is_kept(file, names));
+    numbers.set_replaced(files.as_mut_slice());
+    files.retain(|file| !file.mark.is_replaced());
 }
 
 // Whether a file ends at this offset.
 fn ends_at(file: &LocatedFile, place: u64) -> bool
     ensures { result ≡ (end_of (file_form file.now) == place) }
 {
-    file.head.size <= place && file.offset == place - file.head.size
+    let start = u64::from(file.offset) + file.header_len();
+    start <= place && file.payload.len() as u64 == place - start
 }
 
 // Whether a file is no volume top file, or is the last file and ends where the volume does.
@@ -143,7 +212,7 @@ fn check_top(files: &[LocatedFile], length: u64) -> Result<(), Fault>
         check(
             is_placed(file, left == 0, length),
             FaultKind::TopFile,
-            file.offset,
+            u64::from(file.offset),
         )?;
     }
     Ok(())
@@ -153,20 +222,22 @@ fn check_top(files: &[LocatedFile], length: u64) -> Result<(), Fault>
 fn apart_files<'a>(
     alloc: Global,
     files: Vec<LocatedFile<'a>>,
+    numbers: Numbers,
     length: u64,
 ) -> Result<(Vec<LocatedFile<'a>>, Numbers), Fault>
     requires within { AllByRecursion (λ f. f.offset ≤ length) (map file_form files.items) }
     requires few { length_of files.items < 2 ^ 32 }
+    requires index { IsIndex (names_in (map file_form files.items)) numbers.sorted.items }
     ensures found { IfOk result (λ r. AreCurrent length (map file_form files.entry.items) (map file_form r.0.items)) }
     ensures numbers { IfOk result (λ r. IsIndex (names_in (map file_form r.0.items)) r.1.sorted.items) }
     ensures first { IfErr result
         (λ f. f ≢ out_of_memory → NamesFault First length (map file_form files.entry.items) f) }
     ensures bound { IfErr result (λ f. f.place.offset ≤ length) }
 {
-    let names = names_of(alloc, files.as_slice())?;
+    check_twins(files.as_slice(), &numbers)?;
     let mut current = files;
-    keep_current(&mut current, &names);
-    drop(names);
+    keep_current(&mut current, &numbers);
+    drop(numbers);
     check_top(current.as_slice(), length)?;
     let numbers = Numbers::of(alloc, current.as_slice())?;
     Ok((current, numbers))
@@ -189,8 +260,7 @@ pub(crate) fn current_files<'a>(
 {
     let numbers = Numbers::of(alloc, files.as_slice())?;
     if !numbers.are_distinct() {
-        drop(numbers);
-        return apart_files(alloc, files, length);
+        return apart_files(alloc, files, numbers, length);
     }
     check_top(files.as_slice(), length)?;
     Ok((files, numbers))

@@ -8,7 +8,7 @@ use crate::list_text::write_sums;
 use fv_base::{ByteList, Fault, FaultKind, Port};
 use fv_canon::{
     Side, body_bytes, canonical, file_bytes, is_canonical, layout, normalise, normalise_image,
-    run_compare, run_normalise, write_canonical,
+    run_compare, run_normalise, write_canonical, write_normalised_image,
 };
 use fv_tree::{FileView, Item, Lookup, VolumeView, read_volume, section_by_type};
 use std::alloc::Global;
@@ -66,6 +66,17 @@ fn is_run(alloc: Global, volume: &[u8], image: &[u8]) -> bool {
     }
 }
 
+// Whether the image is written, or nothing if memory ran out.
+fn is_written(alloc: Global, volume: &[u8], image: &[u8]) -> bool {
+    let mut taken = [0u8; 392];
+    let room = image.len().min(392);
+    let mut writer = Port::new(&mut taken[..room]);
+    match write_normalised_image(alloc, volume, &mut writer) {
+        Ok(()) => &taken[..room] == image,
+        Err(fault) => fault == want() && taken == [0; 392],
+    }
+}
+
 // Whether the image of a view is made, or memory ran out.
 fn is_imaged(alloc: Global, volume: &[u8], image: &[u8], starts: &str) -> bool {
     match read_volume(alloc, volume) {
@@ -86,6 +97,7 @@ fn is_answered(alloc: Global, line: &str) -> Option<bool> {
         is_imaged(alloc, &volume, &image, starts?)
             && is_made(normalise(alloc, &volume), &image)
             && is_made(normalise_image(alloc, &volume), &image)
+            && is_written(alloc, &volume, &image)
             && is_own(alloc, &volume, false)
             && is_own(alloc, &image, true)
             && is_run(alloc, &volume, &image),

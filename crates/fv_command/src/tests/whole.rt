@@ -1,8 +1,9 @@
 //! Images in which volumes are among other bytes.
 
+use super::fakes::FakeWriter;
 use super::spelling::bytes_of;
-use fv_base::Fault;
-use fv_canon::normalise_image;
+use fv_base::{Fault, FaultKind, Port};
+use fv_canon::{normalise_image, write_normalised_image};
 use std::alloc::Global;
 
 // Images, each with what it becomes.
@@ -30,6 +31,34 @@ fn becomes(alloc: Global, line: &str) -> Option<bool> {
     Some(answer.as_slice() == bytes_of(alloc, wanted)?.as_slice())
 }
 
+// Whether the writing of an image ends with this, and writes the bytes and nothing after them, if
+// the writer has room for `room` bytes.
+fn writes(alloc: Global, image: &[u8], room: usize, told: (Result<(), Fault>, &[u8])) -> bool {
+    let mut writer = Port::new(FakeWriter::new(alloc, 7, room, true));
+    let answered = write_normalised_image(alloc, image, &mut writer);
+    answered == told.0 && writer.into_inner().took(told.1)
+}
+
+// Whether the image of a line is written as it is after its arrow, and as far as there is room.
+fn is_written(alloc: Global, line: &str) -> Option<bool> {
+    let (image, wanted) = line.split_once(" -> ")?;
+    let image = bytes_of(alloc, image)?;
+    let wanted = bytes_of(alloc, wanted)?;
+    for room in 0..wanted.len() {
+        let fault = Fault::outer(FaultKind::WriteFault, room as u64);
+        if !writes(alloc, &image, room, (Err(fault), &wanted[..room])) {
+            return Some(false);
+        }
+    }
+    Some(writes(alloc, &image, wanted.len(), (Ok(()), &wanted)))
+}
+
+// Whether nothing is written of the image of a line, since it is rejected with this fault.
+fn is_unwritten(alloc: Global, image: &str, fault: Fault) -> Option<bool> {
+    let image = bytes_of(alloc, image)?;
+    Some(writes(alloc, &image, usize::MAX, (Err(fault), b"")))
+}
+
 // The fault with which an image is rejected.
 fn fault_of(alloc: Global, image: &str) -> Option<Fault> {
     let bytes = bytes_of(alloc, image)?;
@@ -46,13 +75,14 @@ fn numbers_of(alloc: Global, fault: Fault) -> Option<String> {
 fn is_refused(alloc: Global, line: &str) -> Option<bool> {
     let (image, wanted) = line.split_once(" -> ")?;
     let fault = fault_of(alloc, image)?;
-    Some(numbers_of(alloc, fault)?.as_str() == wanted)
+    Some(numbers_of(alloc, fault)?.as_str() == wanted && is_unwritten(alloc, image, fault)?)
 }
 
 #[test]
 fn each_volume_of_an_image_is_renewed(rt: HostRuntime) {
     for line in renewed().lines() {
         assert!(rt; becomes(rt.alloc(), line) == Some(true), "{line}");
+        assert!(rt; is_written(rt.alloc(), line) == Some(true), "{line}");
     }
     for line in refused().lines() {
         assert!(rt; is_refused(rt.alloc(), line) == Some(true), "{line}");

@@ -17,12 +17,6 @@ pub record HasFiles (is_stream : Streams) (e : Extent) (volume : List ℕ) (ms :
   pub current : AreCurrent e.length (files_in cells) files
   pub meanings : Pairwise (MeansFile is_stream) files ms
 
--- cells tile the volume from the first file's offset on, and the files of these cells are these, as they are stored
-pub record StandIn (e : Extent) (volume : List ℕ) (files : List FileForm) : Type 0 where
-  pub cells : List CellForm
-  pub tiles : Tiles e.file_system e.polarity e.first cells (drop e.first volume)
-  pub current : AreCurrent e.length (files_in cells) files
-
 -- a valid file in some bytes: its data are at most the limit, and end below 2 ^ 63 if the volume begins at this place
 abbrev pub IsReadyFile : ℕ → FileForm → Type 0
 IsReadyFile base f =

@@ -201,7 +201,7 @@ fn first_stream<'v, 'a>(view: &'v VolumeView<'a>) -> Option<&'v [SectionView<'a>
 fn below<'v, 'a>(section: &'v SectionView<'a>) -> Option<(u8, Option<&'v [SectionView<'a>]>)> {
     match section.body() {
         Body::Leaf(_) => None,
-        Body::Group { sections, .. } => Some((b'g', Some(sections.as_slice()))),
+        Body::Group { sections, .. } => Some((b'g', Some(sections))),
         Body::Nested(volume) => Some((b'v', first_stream(volume))),
     }
 }

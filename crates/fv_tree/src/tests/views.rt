@@ -44,5 +44,5 @@ fn is_byte(alloc: Global, text: &str, byte: u8) -> Option<bool> {
 fn slices_outlive_the_view(rt: HostRuntime) {
     assert!(rt; is_byte(rt.alloc(), BYTE, 0x5a) == Some(true));
     assert!(rt; is_byte(rt.alloc(), SECTION, 0x5a) == Some(true));
-    assert!(rt; size_of::<SectionView>() <= 64);
+    assert!(rt; size_of::<SectionView>() <= 24);
 }

@@ -36,29 +36,17 @@ use Rattle.fv_canon.proofs.image_walk.+put.Goals as goal
 
 pub put_body-put_sections-requires : goal.put_body-put_sections-requires
 put_body-put_sections-requires g t c κs within =
-    let is : body_size (body_view c.args.body.now) ≡ sections_size (sections_from c.in-Group.sections.items) =
+    let is : body_size (body_view c.args.body) ≡ sections_size (sections_from c.in-Group.sections.now) =
     ap (λ (b : Body). body_size (body_view b)) c.in-Group.is in
-    let same : sections_size (sections_from c.as_slice.result.now) ≡ sections_size (sections_from c.in-Group.sections.items) =
-    ap (λ (xs : List SectionMeaning). sections_size (sections_from xs)) c.as_slice.ensures.value in
-    let laid = subst (λ (b : Body). BeginsWithStarts (volumes_in_body (body_view b)) c.args.starts.now) c.in-Group.is c.requires.laid in (
-      omega (arith, c.decreases, is, same),
-      (
-        within,
-        subst (λ (xs : List SectionMeaning). BeginsWithStarts (volumes_in_sections (sections_from xs)) c.args.starts.now)
-            (sym c.as_slice.ensures.value) laid,
-      ),
-    )
+    let laid = subst (λ (b : Body). BeginsWithStarts (volumes_in_body (body_view b)) c.args.starts.now) c.in-Group.is c.requires.laid in
+    (omega (arith, c.decreases, is), (within, laid))
 
 pub put_body-put_volume-requires : goal.put_body-put_volume-requires
 put_body-put_volume-requires g t c κs within =
-    let is : body_size (body_view c.args.body.now) ≡ volume_size c.in-Nested.volume.value =
+    let is : body_size (body_view c.args.body) ≡ volume_size c.in-Nested.volume.now =
     ap (λ (b : Body). body_size (body_view b)) c.in-Nested.is in
     let laid = subst (λ (b : Body). BeginsWithStarts (volumes_in_body (body_view b)) c.args.starts.now) c.in-Nested.is c.requires.laid in
-    let size : volume_size c.deref.result.now ≡ volume_size c.in-Nested.volume.value =
-    ap (λ (m : Meaning). volume_size m) c.deref.ensures in (
-      omega (arith, c.decreases, is, size),
-      (within, subst (λ (m : Meaning). BeginsWithStarts (volumes_in m) c.args.starts.now) (sym c.deref.ensures) laid),
-    )
+    (omega (arith, c.decreases, is), (within, laid))
 
 pub put_sections-put_section_head-requires : goal.put_sections-put_section_head-requires
 put_sections-put_section_head-requires g t c =
@@ -70,7 +58,7 @@ put_sections-put_body-rest-requires g t c κs within =
     let l = item_laid _ _ _ _ c.loop-section-test.true c.section-item.is c.loop-section.invariant.laid in
     let less =
     section_body_falls c.args.sections.now c.loop-section.section-index c.section-item.result c.loop-section-test.true c.section-item.is in
-    let same : body_size (body_view c.body.result.now) ≡ body_size (body_of c.section-item.result) = ap body_size c.body.ensures in (
+    let same : body_size (body_view c.body.result) ≡ body_size (body_of c.section-item.result) = ap body_size c.body.ensures in (
       omega (arith, c.decreases, less, same),
       (
         within,

@@ -24,7 +24,7 @@ abbrev pub decreases-put_sections : goal.decreases-put_sections
 decreases-put_sections g l = 4 * sections_size (sections_from l.sections.now)
 
 abbrev pub decreases-put_body : goal.decreases-put_body
-decreases-put_body g l = 4 * body_size (body_view l.body.now) + 2
+decreases-put_body g l = 4 * body_size (body_view l.body) + 2
 
 abbrev pub decreases-put_volume : goal.decreases-put_volume
 decreases-put_volume g l = 4 * volume_size l.volume.now

@@ -29,19 +29,17 @@ lay_content-lay_sections-requires t c =
 
 pub lay_body-lay_sections-requires : goal.lay_body-lay_sections-requires
 lay_body-lay_sections-requires t c =
-    let is = ap body_view c.in-Group.is in
-    rw c.as_slice.ensures.value (
+    let is = ap body_view c.in-Group.is in (
       omega (arith, c.decreases, ap body_size is),
-      shallow_group (sections_from c.in-Group.sections.items) c.in-Group.tail c.args.depth
+      shallow_group (sections_from c.in-Group.sections.now) c.in-Group.tail c.args.depth
           (subst (λ x. Shallow NestsBody x c.args.depth) is c.requires.shallow),
     )
 
 pub lay_body-lay_volume-requires : goal.lay_body-lay_volume-requires
 lay_body-lay_volume-requires t c =
-    let is = ap body_view c.in-Nested.is in
-    rw c.deref.ensures (
+    let is = ap body_view c.in-Nested.is in (
       omega (arith, c.decreases, ap body_size is),
-      shallow_nested c.in-Nested.volume.value c.args.depth (subst (λ x. Shallow NestsBody x c.args.depth) is c.requires.shallow),
+      shallow_nested c.in-Nested.volume.now c.args.depth (subst (λ x. Shallow NestsBody x c.args.depth) is c.requires.shallow),
     )
 
 pub lay_sections-lay_body-requires : goal.lay_sections-lay_body-requires

@@ -27,4 +27,4 @@ abbrev pub decreases-lay_sections : goal.decreases-lay_sections
 decreases-lay_sections l = 2 * sections_size (sections_from l.sections.now)
 
 abbrev pub decreases-lay_body : goal.decreases-lay_body
-decreases-lay_body l = 2 * body_size (body_view l.body.now) + 1
+decreases-lay_body l = 2 * body_size (body_view l.body) + 1

@@ -10,22 +10,21 @@ use Rattle.fv_canon.proofs.layout_walk.layout_of_body.Goals as goal
 pub lay_sections-requires : goal.lay_sections-requires
 lay_sections-requires c =
     let is = sym c.body.ensures ∙ ap body_view c.in-Group.is in
-    record { shallow = rw c.as_slice.ensures.value (group_read c.args.section.now _ c.in-Group.tail c.kind-kind.ensures.read is) }
+    record { shallow = group_read c.args.section.now _ c.in-Group.tail c.kind-kind.ensures.read is }
 
 pub lay_volume-requires : goal.lay_volume-requires
 lay_volume-requires c =
     let is = sym c.body.ensures ∙ ap body_view c.in-Nested.is in
-    record { shallow = rw c.deref.ensures (nested_read c.args.section.now _ c.kind-kind.ensures.read is) }
+    record { shallow = nested_read c.args.section.now _ c.kind-kind.ensures.read is }
 
 pub returns-in_err-lay_sections-in-Group-clause-fits : goal.returns-in_err-lay_sections-in-Group-clause-fits
 returns-in_err-lay_sections-in-Group-clause-fits c fit =
     let fits = subst (λ b. AllFit (volumes_in_body b)) (sym c.body.ensures ∙ ap body_view c.in-Group.is) fit in
     only_memory c.from_residual.result _ c.from_residual.ensures.1 c.in_err-lay_sections-in-Group.ensures.err
-    (λ unfit. first_none (volumes_in_sections (sections_from c.in-Group.sections.items)) 0 _ (rw c.as_slice.ensures.value at unfit) fits)
+    (λ unfit. first_none (volumes_in_sections (sections_from c.in-Group.sections.now)) 0 _ unfit fits)
 
 pub returns-in_err-lay_volume-in-Nested-clause-fits : goal.returns-in_err-lay_volume-in-Nested-clause-fits
 returns-in_err-lay_volume-in-Nested-clause-fits c fit =
     let fits = subst (λ b. AllFit (volumes_in_body b)) (sym c.body.ensures ∙ ap body_view c.in-Nested.is) fit in
     only_memory c.from_residual-in_err-lay_volume-in-Nested.result _ c.from_residual-in_err-lay_volume-in-Nested.ensures.1
-    c.in_err-lay_volume-in-Nested.ensures.err (λ unfit. first_none (volumes_in c.in-Nested.volume.value) 0 _ (rw c.deref.ensures at
-    unfit) fits)
+    c.in_err-lay_volume-in-Nested.ensures.err (λ unfit. first_none (volumes_in c.in-Nested.volume.now) 0 _ unfit fits)

@@ -25,7 +25,7 @@ abbrev pub decreases-skip_sections : goal.decreases-skip_sections
 decreases-skip_sections l = 2 * sections_size (sections_from l.sections.now)
 
 abbrev pub decreases-skip_body : goal.decreases-skip_body
-decreases-skip_body l = 2 * body_size (body_view l.body.now) + 1
+decreases-skip_body l = 2 * body_size (body_view l.body) + 1
 
 abbrev pub decreases-skip_volume : goal.decreases-skip_volume
 decreases-skip_volume l = 2 * volume_size l.volume.now

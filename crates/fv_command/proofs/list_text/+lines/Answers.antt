@@ -3,7 +3,7 @@ use Rattle.std.proofs.lemmas.Result.{on_ok_weaker}
 use Rattle.fv_canon.proofs.Laws.{file_fits, files_fit, section_fits}
 use Rattle.fv_canon.specs.Layouts.{AllFit, Fits}
 use Rattle.fv_canon.specs.Volumes.{volumes_in_body, volumes_in_content, volumes_in_files, volumes_in_sections}
-use Rattle.fv_tree.specs.Meaning.{BodyMeaning, ContentMeaning, FileMeaning, Meaning, SectionMeaning, body_of, content_of}
+use Rattle.fv_tree.specs.Meaning.{BodyMeaning, ContentMeaning, FileMeaning, SectionMeaning, body_of, content_of}
 use Rattle.fv_tree.specs.Meaning.{files_from, sections_from}
 use Rattle.fv_tree.specs.inner.Sizes.{volume_size, content_size, sections_size, body_size}
 use Rattle.fv_tree.specs.Views.{body_view, content_view}
@@ -24,9 +24,9 @@ put_sections-put_body-requires g t c κs within =
     let i : ℕ = c.loop-number.number in
     let s : SectionMeaning = c.index-sections-number.result in
     let less = section_body_falls ss i s c.loop-number-test.true c.index-sections-number.is in
-    let same : body_size (body_view c.body.result.now) ≡ body_size (body_of s) =
+    let same : body_size (body_view c.body.result) ≡ body_size (body_of s) =
     ap body_size c.body.ensures in
-    let fit : c.args.sums ≡ true → AllFit (volumes_in_body (body_view c.body.result.now)) =
+    let fit : c.args.sums ≡ true → AllFit (volumes_in_body (body_view c.body.result)) =
     λ on. subst (λ (x : BodyMeaning). AllFit (volumes_in_body x)) (sym c.body.ensures)
     (section_fits ss i s c.loop-number-test.true c.index-sections-number.is (c.requires.fit on)) in
     (omega (arith, c.decreases, less, same), (within, fit))
@@ -47,25 +47,19 @@ put_sections-returns-clause-ok g t c = tells_all refl c.loop-number-test.false c
 
 pub put_body-put_sections-requires : goal.put_body-put_sections-requires
 put_body-put_sections-requires g t c κs within =
-    let is : body_size (body_view c.args.body.now) ≡ sections_size (sections_from c.in-Group.sections.items) =
+    let is : body_size (body_view c.args.body) ≡ sections_size (sections_from c.in-Group.sections.now) =
     ap (λ (b : Body). body_size (body_view b)) c.in-Group.is in
-    let same : sections_size (sections_from c.as_slice.result.now) ≡ sections_size (sections_from c.in-Group.sections.items) =
-    ap (λ (xs : List SectionMeaning). sections_size (sections_from xs)) c.as_slice.ensures.value in
-    let fit : c.args.sums ≡ true → AllFit (volumes_in_sections (sections_from c.as_slice.result.now)) =
-    λ on. subst (λ (xs : List SectionMeaning). AllFit (volumes_in_sections (sections_from xs))) (sym c.as_slice.ensures.value)
-    (subst (λ (b : Body). AllFit (volumes_in_body (body_view b))) c.in-Group.is (c.requires.fit on)) in
-    (omega (arith, c.decreases, is, same), (within, fit))
+    let fit : c.args.sums ≡ true → AllFit (volumes_in_sections (sections_from c.in-Group.sections.now)) =
+    λ on. subst (λ (b : Body). AllFit (volumes_in_body (body_view b))) c.in-Group.is (c.requires.fit on) in
+    (omega (arith, c.decreases, is), (within, fit))
 
 pub put_body-put_volume-requires : goal.put_body-put_volume-requires
 put_body-put_volume-requires g t c κs within =
-    let is : body_size (body_view c.args.body.now) ≡ volume_size c.in-Nested.volume.value =
+    let is : body_size (body_view c.args.body) ≡ volume_size c.in-Nested.volume.now =
     ap (λ (b : Body). body_size (body_view b)) c.in-Nested.is in
-    let size : volume_size c.deref.result.now ≡ volume_size c.in-Nested.volume.value =
-    ap (λ (m : Meaning). volume_size m) c.deref.ensures in
-    let fit : c.args.sums ≡ true → Fits c.deref.result.now =
-    λ on. subst (λ (m : Meaning). Fits m) (sym c.deref.ensures)
-    (subst (λ (b : Body). AllFit (volumes_in_body (body_view b))) c.in-Nested.is (c.requires.fit on)) in
-    (omega (arith, c.decreases, is, size), (within, fit))
+    let fit : c.args.sums ≡ true → Fits c.in-Nested.volume.now =
+    λ on. subst (λ (b : Body). AllFit (volumes_in_body (body_view b))) c.in-Nested.is (c.requires.fit on) in
+    (omega (arith, c.decreases, is), (within, fit))
 
 -- ---- contents
 

@@ -19,7 +19,7 @@ abbrev pub decreases-put_sections : goal.decreases-put_sections
 decreases-put_sections g l = 2 * sections_size (sections_from l.sections.now)
 
 abbrev pub decreases-put_body : goal.decreases-put_body
-decreases-put_body g l = 2 * body_size (body_view l.body.now) + 1
+decreases-put_body g l = 2 * body_size (body_view l.body) + 1
 
 abbrev pub decreases-put_content : goal.decreases-put_content
 decreases-put_content g l = 2 * content_size (content_view l.content.now) + 1

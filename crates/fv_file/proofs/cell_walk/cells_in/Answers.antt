@@ -21,13 +21,13 @@ returns-clause-found c =
 
 pub returns-in_err-cell-clause-first : goal.returns-in_err-cell-clause-first
 returns-in_err-cell-clause-first c =
-    let p = err_from_is_err_and c.from_residual.result c.from_residual.ensures.1 in
+    let p = err_from_is_err_and c.from_residual-in_err-cell.result c.from_residual-in_err-cell.ensures.1 in
     let used = rest_used _ c.args.body.now c.loop-system.at (sym c.is_free.ensures ∙ c.loop-system-test.true) in
     rw (p.1, p.2) (λ memory. first_here _ _ _ _ _ _ _ c.loop-system.invariant used c.in_err-cell.ensures.refused)
 
 pub returns-in_err-cell-clause-some : goal.returns-in_err-cell-clause-some
 returns-in_err-cell-clause-some c =
-    rw (err_from_is_err_and c.from_residual.result c.from_residual.ensures.1).1
+    rw (err_from_is_err_and c.from_residual-in_err-cell.result c.from_residual-in_err-cell.ensures.1).1
     (omega (arith, (rest_used _ c.args.body.now c.loop-system.at (sym c.is_free.ensures ∙ c.loop-system-test.true)).0))
 
 pub span_of-len-requires : goal.span_of-len-requires
@@ -51,7 +51,7 @@ overflow_add-at c =
     )
 
 pub loop-system-init : goal.loop-system-init
-loop-system-init c = rw c.new-list.ensures.items (record { tiled = refl; none_free = tt; multiple = refl; inside = omega arith })
+loop-system-init c = rw c.in_ok-list.ensures.items (record { tiled = refl; none_free = tt; multiple = refl; inside = omega arith })
 
 pub loop-system-smaller : goal.loop-system-smaller
 loop-system-smaller c =

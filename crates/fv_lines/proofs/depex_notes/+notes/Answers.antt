@@ -2,7 +2,7 @@ use Rattle.std.proofs.Common.{◌≡◌, ◌∙◌, ◌∷◌, ℕ, List, take, 
 use Rattle.std.proofs.lemmas.List.{take_all}
 use Rattle.fv_tree.specs.LookupInstances.{preorder, inside_section}
 use Rattle.fv_tree.specs.Meaning.{Leaf, Group, Nested, SectionMeaning, body_of, sections_from}
-use Rattle.fv_tree.specs.inner.Sizes.{body_size, sections_size}
+use Rattle.fv_tree.specs.inner.Sizes.{body_size}
 use Rattle.fv_tree.specs.Views.{body_view}
 use Rattle.fv_tree.proofs.Laws.{body_falls, section_falls}
 use Rattle.fv_lines.specs.Notes.{HeldDepex, sections_depexes}
@@ -18,7 +18,6 @@ put_section-put_sections-requires g t c κs within = (
     body_falls c.args.section.now,
     ap body_size c.body.ensures,
     ap (λ b. body_size (body_view b)) c.in-Group.is,
-    ap (λ l. sections_size (sections_from l)) c.as_slice.ensures.value,
   ),
   within,
 )
@@ -34,20 +33,18 @@ put_section-returns-in-Leaf g t c =
 pub put_section-returns-in-Group : goal.put_section-returns-in-Group
 put_section-returns-in-Group g t c =
     let s : SectionMeaning = c.args.section.now in
-    let is : body_of s ≡ Group (sections_from c.in-Group.sections.items) c.in-Group.tail =
+    let is : body_of s ≡ Group (sections_from c.in-Group.sections.now) c.in-Group.tail =
     sym c.body.ensures ∙ ap body_view c.in-Group.is in
-    let e =
-    ap (λ (l : List SectionMeaning). sections_depexes c.args.name (preorder (sections_from l))) c.as_slice.ensures.value
-    ∙ group_depexes c.args.name s (sections_from c.in-Group.sections.items) c.in-Group.tail is in
+    let e = group_depexes c.args.name s (sections_from c.in-Group.sections.now) c.in-Group.tail is in
     subst (λ (xs : List HeldDepex). PutsNotes g.S.Sink.takes xs c.args.out.now c.put_sections.new.out) e
     c.put_sections.ensures
 
 pub put_section-returns-in-Nested : goal.put_section-returns-in-Nested
 put_section-returns-in-Nested g t c =
     let s : SectionMeaning = c.args.section.now in
-    let is : body_of s ≡ Nested c.in-Nested.field-0.value = sym c.body.ensures ∙ ap body_view c.in-Nested.is in
+    let is : body_of s ≡ Nested c.in-Nested.field-0.now = sym c.body.ensures ∙ ap body_view c.in-Nested.is in
     subst (λ (xs : List HeldDepex). PutsNotes g.S.Sink.takes xs c.args.out.now c.args.out.now)
-    (nested_depexes c.args.name s c.in-Nested.field-0.value is) (puts_none g.S.Sink.laws c.args.out.now)
+    (nested_depexes c.args.name s c.in-Nested.field-0.now is) (puts_none g.S.Sink.laws c.args.out.now)
 
 pub put_sections-put_section-requires : goal.put_sections-put_section-requires
 put_sections-put_section-requires g t c κs within = (

@@ -12,8 +12,7 @@ use Rattle.fv_tree.proofs.difference.+differ.Goals as goal
 
 pub body_difference-stream_difference-requires : goal.body_difference-stream_difference-requires
 body_difference-stream_difference-requires t c =
-    let is = ap (λ b. body_size (body_view b)) c.in-Group-Group.is-0 in
-    let same = ap (λ l. sections_size (sections_from l)) c.as_slice.ensures.value in (omega (arith, c.decreases, is, same), tt)
+    let is = ap (λ b. body_size (body_view b)) c.in-Group-Group.is-0 in (omega (arith, c.decreases, is), tt)
 
 pub content_difference-stream_difference-requires : goal.content_difference-stream_difference-requires
 content_difference-stream_difference-requires t c =

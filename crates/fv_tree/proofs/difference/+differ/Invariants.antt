@@ -22,7 +22,7 @@ abbrev pub decreases-section_difference : goal.decreases-section_difference
 decreases-section_difference l = 2 * section_size l.section.now
 
 abbrev pub decreases-body_difference : goal.decreases-body_difference
-decreases-body_difference l = 2 * body_size (body_view l.body.now) + 1
+decreases-body_difference l = 2 * body_size (body_view l.body) + 1
 
 abbrev pub decreases-content_difference : goal.decreases-content_difference
 decreases-content_difference l = 2 * content_size (content_view l.content.now) + 1

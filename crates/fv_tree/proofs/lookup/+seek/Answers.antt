@@ -2,22 +2,14 @@ use Rattle.std.proofs.Common.{◌∷◌, refl, ap, ◌∙◌, arith}
 use Rattle.fv_tree.specs.LookupInstances.{of_type, preorder, inside_section}
 use Rattle.fv_tree.specs.inner.Searches.{sought}
 use Rattle.fv_tree.specs.Meaning.{sections_from}
-use Rattle.fv_tree.specs.inner.Sizes.{body_size, sections_size}
+use Rattle.fv_tree.specs.inner.Sizes.{body_size}
 use Rattle.fv_tree.specs.Views.{body_view}
 use Rattle.fv_tree.proofs.LookupLaws.{from_one, sought_in, sought_past, past_end}
 use Rattle.fv_tree.proofs.SizeLaws.{section_falls, body_falls}
 use Rattle.fv_tree.proofs.lookup.+seek.Goals as goal
 
 pub seek_body-seek_sections-requires : goal.seek_body-seek_sections-requires
-seek_body-seek_sections-requires t c = (
-  omega (
-    arith,
-    c.decreases,
-    ap (λ b. body_size (body_view b)) c.in-Group.is,
-    ap (λ l. sections_size (sections_from l)) c.as_slice.ensures.value,
-  ),
-  tt,
-)
+seek_body-seek_sections-requires t c = (omega (arith, c.decreases, ap (λ b. body_size (body_view b)) c.in-Group.is), tt)
 
 pub seek_section-seek_body-requires : goal.seek_section-seek_body-requires
 seek_section-seek_body-requires t c = (omega (arith, c.decreases, body_falls c.args.section.now, ap body_size c.body.ensures), tt)

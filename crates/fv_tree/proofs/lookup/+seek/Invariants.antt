@@ -15,7 +15,7 @@ abbrev pub decreases-seek_section : goal.decreases-seek_section
 decreases-seek_section l = 2 * section_size l.section.now
 
 abbrev pub decreases-seek_body : goal.decreases-seek_body
-decreases-seek_body l = 2 * body_size (body_view l.body.now) + 1
+decreases-seek_body l = 2 * body_size (body_view l.body) + 1
 
 abbrev pub decreases-seek_sections : goal.decreases-seek_sections
 decreases-seek_sections l = 2 * sections_size (sections_from l.sections.now)

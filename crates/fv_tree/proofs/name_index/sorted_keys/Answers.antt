@@ -8,7 +8,7 @@ use Rattle.std.proofs.lemmas.List.FromFn.{length-range_with_len}
 use Rattle.std.proofs.lemmas.List.Sorted.{IsPermutation-map}
 use Rattle.fv_tree.specs.FileNames.{IsName, Entry, Halves, numbered}
 use Rattle.fv_tree.specs.inner.NameOrders.{key_of, names_in}
-use Rattle.fv_tree.specs.inner.LocatedFiles.{file_form}
+use Rattle.fv_tree.specs.LocatedFiles.{file_form}
 use Rattle.fv_base.specs.declared.guid.Guid.{Guid}
 use Rattle.fv_tree.specs.declared.volume_files.LocatedFile.{LocatedFile}
 use Rattle.fv_tree.proofs.IndexLaws.{all_taken, more_entries, more_whole, no_file}

@@ -2,7 +2,7 @@ use Rattle.std.proofs.Common.{◌≡◌, ◌%◌, ◌^◌, ℕ, map, take}
 use Rattle.std.specs.List.{AllByRecursion, range_with_len}
 use Rattle.fv_tree.specs.FileNames.{IsName, numbered}
 use Rattle.fv_tree.specs.inner.NameOrders.{key_of, names_in}
-use Rattle.fv_tree.specs.inner.LocatedFiles.{file_form}
+use Rattle.fv_tree.specs.LocatedFiles.{file_form}
 use Rattle.fv_tree.proofs.name_index.sorted_keys.Given as goal
 
 abbrev pub invariant-loop-file : goal.invariant-loop-file

@@ -1,5 +1,6 @@
 use Rattle.std.proofs.Common.{◌≡◌, ℕ, List, map, [], ◌∷◌, ◌++◌, take, sym, ap, ◌∙◌, subst, arith, rules, inl, inr, refl}
 use Rattle.std.specs.Prelude.{◌⊎◌, Result, Ok, Err, IfErr, IsErrAnd}
+use Rattle.std.proofs.lemmas.Result.{IfOk-weaker}
 use Rattle.fv_base.specs.Faults.{out_of_memory}
 use Rattle.fv_base.specs.Checks.{IsFirstFault}
 use Rattle.fv_base.specs.declared.fault.Fault.{Fault}
@@ -17,8 +18,8 @@ use Rattle.fv_tree.specs.Denotes.{MeansFile, MeansSection, Stream}
 use Rattle.fv_tree.specs.Files.{FileForm}
 use Rattle.fv_tree.specs.FailingChecks.{First}
 use Rattle.fv_tree.specs.FirstFault.{FileFault, InStream, data_at}
-use Rattle.fv_tree.specs.Meaning.{Meaning, File, Section, Group, Nested, sections_from}
-use Rattle.fv_tree.specs.inner.LocatedFiles.{file_form}
+use Rattle.fv_tree.specs.Meaning.{Meaning, File, SectionMeaning, Section, Group, Nested, sections_from}
+use Rattle.fv_tree.specs.LocatedFiles.{file_form}
 use Rattle.fv_tree.specs.Views.{content_view}
 use Rattle.fv_tree.proofs.BodyLaws.{body_found, body_only, body_none, files_none, files_first}
 use Rattle.fv_tree.proofs.FileLaws.{stream_reads, file_found, file_one, stream_bad}
@@ -122,7 +123,7 @@ read_file-returns-in_err-content-clause-first t c =
 
 -- the file means what is made of it
 file_means : (t : ℕ) (c : read_file-After-without_large-attributes t) → MeansFile (Stream c.args.left) (file_form c.args.file.now)
-    (File c.args.file.now.head.name c.args.file.now.head.kind c.without_large-attributes.result.0 (content_view c.in_ok-content.content))
+    (File c.args.file.now.name c.args.file.now.kind c.without_large-attributes.result.0 (content_view c.in_ok-content.content))
 file_means t c =
     file_found c.args.left (file_form c.args.file.now) c.without_large-attributes.result.0 (content_view c.in_ok-content.content)
     c.without_large-attributes.ensures c.in_ok-content.ensures.found
@@ -358,27 +359,31 @@ group_means t c =
     group_found c.args.left c.in_ok-inside-in-Group.below f c.in_ok-sections-in-Group.sections.items c.in_ok-sections-in-Group.tail
     c.in_ok-inside-in-Group.ensures.ok.0 (group_shape f (sym c.shape_of.ensures ∙ c.in-Group.is)) c.in_ok-sections-in-Group.ensures.found
 
-pub read_section-new-requires-clause-read : goal.read_section-new-requires-clause-read
-read_section-new-requires-clause-read t c =
-    let means = group_means t (goal.at.read_section-new-requires-clause-read t c).In_ok-sections-in-Group in
+pub read_section-of_group-requires-clause-read : goal.read_section-of_group-requires-clause-read
+read_section-of_group-requires-clause-read t c =
+    let means = group_means t (goal.at.read_section-of_group-requires-clause-read t c).In_ok-sections-in-Group in
     (c.args.left, omega arith, framed.frame_form c.args.frame.now, c.requires.stored, means)
 
-pub read_section-new-requires-clause-len : goal.read_section-new-requires-clause-len
-read_section-new-requires-clause-len t c =
+pub read_section-of_group-requires-clause-len : goal.read_section-of_group-requires-clause-len
+read_section-of_group-requires-clause-len t c =
     body_long c.args.left (framed.frame_form c.args.frame.now) c.args.frame.now.kind
     (Group (sections_from c.in_ok-sections-in-Group.sections.items) c.in_ok-sections-in-Group.tail)
-    (group_means t (goal.at.read_section-new-requires-clause-len t c).In_ok-sections-in-Group)
+    (group_means t (goal.at.read_section-of_group-requires-clause-len t c).In_ok-sections-in-Group)
 
-pub read_section-returns-in-Group-clause-found : goal.read_section-returns-in-Group-clause-found
-read_section-returns-in-Group-clause-found t c =
-    rw c.new.ensures (group_means t (goal.at.read_section-returns-in-Group-clause-found t c).In_ok-sections-in-Group)
-
-pub read_section-returns-in-Group-clause-only : goal.read_section-returns-in-Group-clause-only
-read_section-returns-in-Group-clause-only t c = λ s h.
+pub read_section-returns-in_ok-sections-in-Group-clause-found : goal.read_section-returns-in_ok-sections-in-Group-clause-found
+read_section-returns-in_ok-sections-in-Group-clause-found t c =
     let f : FrameForm = framed.frame_form c.args.frame.now in
+    let means = group_means t (goal.at.read_section-returns-in_ok-sections-in-Group-clause-found t c).In_ok-sections-in-Group in
+    IfOk-weaker c.of_group.result _ _ (λ s is. subst (λ (x : SectionMeaning). MeansSection c.args.left f x) (sym is) means)
+    c.of_group.ensures.ok
+
+pub read_section-returns-in_ok-sections-in-Group-clause-only : goal.read_section-returns-in_ok-sections-in-Group-clause-only
+read_section-returns-in_ok-sections-in-Group-clause-only t c =
+    let f : FrameForm = framed.frame_form c.args.frame.now in
+    IfOk-weaker c.of_group.result _ _ (λ s is u h.
     group_one c.args.left c.in_ok-inside-in-Group.below f c.in_ok-sections-in-Group.sections.items c.in_ok-sections-in-Group.tail
-    c.in_ok-inside-in-Group.ensures.ok.0 (group_shape f (sym c.shape_of.ensures ∙ c.in-Group.is)) c.in_ok-sections-in-Group.ensures.only s h
-    ∙ sym c.new.ensures
+    c.in_ok-inside-in-Group.ensures.ok.0 (group_shape f (sym c.shape_of.ensures ∙ c.in-Group.is)) c.in_ok-sections-in-Group.ensures.only u h
+    ∙ sym is) c.of_group.ensures.ok
 
 -- ---- a section that is opened as a volume
 
@@ -424,43 +429,38 @@ nested_means t c =
     c.in_ok-inside-in-Volume.ensures.ok.0 opened (opened_whole c.in_ok-inside-in-Volume.below c.in_ok-volume-in-Volume.field-0-1 f.body
     c.in_ok-volume-in-Volume.volume opened.opens read.length.1 read.found))
 
-pub read_section-new-requires-in-Volume-2-clause-read : goal.read_section-new-requires-in-Volume-2-clause-read
-read_section-new-requires-in-Volume-2-clause-read t c =
-    let means = nested_means t (goal.at.read_section-new-requires-in-Volume-2-clause-read t c).In_ok-nested-in-Volume in
+pub read_section-of_volume-requires : goal.read_section-of_volume-requires
+read_section-of_volume-requires t c =
+    let means = nested_means t (goal.at.read_section-of_volume-requires t c).In_ok-nested-in-Volume in
     (c.args.left, omega arith, framed.frame_form c.args.frame.now, c.requires.stored, means)
 
-pub read_section-new-requires-in-Volume-2-clause-len : goal.read_section-new-requires-in-Volume-2-clause-len
-read_section-new-requires-in-Volume-2-clause-len t c =
-    body_long c.args.left (framed.frame_form c.args.frame.now) c.args.frame.now.kind (Nested c.in_ok-nested-in-Volume.nested.value)
-    (nested_means t (goal.at.read_section-new-requires-in-Volume-2-clause-len t c).In_ok-nested-in-Volume)
+pub read_section-returns-in_ok-nested-in-Volume-clause-found : goal.read_section-returns-in_ok-nested-in-Volume-clause-found
+read_section-returns-in_ok-nested-in-Volume-clause-found t c =
+    rw c.of_volume.ensures
+    (nested_means t (goal.at.read_section-returns-in_ok-nested-in-Volume-clause-found t c).In_ok-nested-in-Volume)
 
-pub read_section-returns-in-Volume-clause-found : goal.read_section-returns-in-Volume-clause-found
-read_section-returns-in-Volume-clause-found t c =
-    rw c.new-in-Volume-2.ensures
-    (nested_means t (goal.at.read_section-returns-in-Volume-clause-found t c).In_ok-nested-in-Volume)
-
-pub read_section-returns-in-Volume-clause-only : goal.read_section-returns-in-Volume-clause-only
-read_section-returns-in-Volume-clause-only t c = λ s h.
+pub read_section-returns-in_ok-nested-in-Volume-clause-only : goal.read_section-returns-in_ok-nested-in-Volume-clause-only
+read_section-returns-in_ok-nested-in-Volume-clause-only t c = λ s h.
     let f : FrameForm = framed.frame_form c.args.frame.now in
     nested_one c.args.left c.in_ok-inside-in-Volume.below f c.in_ok-volume-in-Volume.volume c.in_ok-volume-in-Volume.field-0-1
     c.in_ok-inside-in-Volume.ensures.ok.0 (volume_shape f (sym c.shape_of.ensures ∙ c.in-Volume.is))
     c.in_ok-volume-in-Volume.ensures.only s h
     ∙ ap (λ (m : Meaning). Section f.kind f.extended (Nested m)) (sym c.in_ok-nested-in-Volume.ensures.ok)
-    ∙ sym c.new-in-Volume-2.ensures
+    ∙ sym c.of_volume.ensures
 
 -- ---- a leaf
 
-pub read_section-new-requires-2-clause-read : goal.read_section-new-requires-2-clause-read
-read_section-new-requires-2-clause-read t c =
+pub read_section-of_leaf-requires : goal.read_section-of_leaf-requires
+read_section-of_leaf-requires t c =
     let f : FrameForm = framed.frame_form c.args.frame.now in
     (c.args.left, omega arith, f, c.requires.stored, leaf_is c.args.left f (leaf_shape f (sym c.shape_of.ensures ∙ c.in-Leaf.is)))
 
-pub read_section-returns-clause-found : goal.read_section-returns-clause-found
-read_section-returns-clause-found t c =
+pub read_section-returns-in-Leaf-clause-found : goal.read_section-returns-in-Leaf-clause-found
+read_section-returns-in-Leaf-clause-found t c =
     let f : FrameForm = framed.frame_form c.args.frame.now in
-    rw c.new-2.ensures (leaf_is c.args.left f (leaf_shape f (sym c.shape_of.ensures ∙ c.in-Leaf.is)))
+    rw c.of_leaf.ensures (leaf_is c.args.left f (leaf_shape f (sym c.shape_of.ensures ∙ c.in-Leaf.is)))
 
-pub read_section-returns-clause-only : goal.read_section-returns-clause-only
-read_section-returns-clause-only t c =
+pub read_section-returns-in-Leaf-clause-only : goal.read_section-returns-in-Leaf-clause-only
+read_section-returns-in-Leaf-clause-only t c =
     let f : FrameForm = framed.frame_form c.args.frame.now in
-    λ s h. leaf_only c.args.left f (leaf_shape f (sym c.shape_of.ensures ∙ c.in-Leaf.is)) s h ∙ sym c.new-2.ensures
+    λ s h. leaf_only c.args.left f (leaf_shape f (sym c.shape_of.ensures ∙ c.in-Leaf.is)) s h ∙ sym c.of_leaf.ensures

@@ -2,7 +2,7 @@ use Rattle.std.proofs.Common.{◌≡◌, ◌+◌, ◌-◌, ◌*◌, List, length
 use Rattle.fv_section.specs.Frames.{up_to_4}
 use Rattle.fv_tree.specs.Denotes.{Pairwise, MeansFile, Stream}
 use Rattle.fv_tree.specs.Meaning.{FileMeaning}
-use Rattle.fv_tree.specs.inner.LocatedFiles.{file_form}
+use Rattle.fv_tree.specs.LocatedFiles.{file_form}
 use Rattle.fv_tree.proofs.StreamLaws.{Walked}
 use Rattle.fv_tree.proofs.read.+read.Given as goal
 

@@ -3,14 +3,25 @@ use Rattle.std.specs.List.{AllByRecursion}
 use Rattle.fv_base.specs.Value.{IsBytes}
 use Rattle.fv_file.specs.Cells.{CellsWithin}
 use Rattle.fv_tree.specs.Files.{FileForm, files_in}
-use Rattle.fv_tree.specs.inner.LocatedFiles.{file_form}
+use Rattle.fv_tree.specs.LocatedFiles.{file_form}
+use Rattle.fv_tree.specs.inner.SmallFiles.{IsSmallCell}
 use Rattle.std.proofs.lemmas.List.{length-drop, length-map}
 use Rattle.fv_file.proofs.Laws.{cells_few}
 use Rattle.fv_head.specs.declared.extent.Extent.{Extent}
 use Rattle.fv_tree.proofs.FileCountLaws.{files_few}
 use Rattle.fv_tree.proofs.BodyLaws.{current_of, stand_none, files_stored}
 use Rattle.fv_tree.proofs.NameLaws.{files_within}
+use Rattle.fv_base.proofs.Laws.{bytes_drop}
+use Rattle.fv_tree.proofs.SmallCellLaws.{small_cells}
 use Rattle.fv_tree.proofs.read.files_in_body.Goals as goal
+
+pub files_of-requires : goal.files_of-requires
+files_of-requires c =
+    let e : Extent = c.args.extent in
+    let small : IsBytes c.args.volume.now = search rules in
+    subst (AllByRecursion IsSmallCell) (sym c.as_slice.ensures)
+    (small_cells e.file_system e.polarity e.first (length c.args.volume.now) c.in-Ok.list (drop e.first c.args.volume.now)
+    c.in-Ok.ensures.found c.in-Ok.ensures.lies (bytes_drop e.first c.args.volume.now small) (omega (arith, c.requires.small)))
 
 pub current_files-requires : goal.current_files-requires
 current_files-requires c =

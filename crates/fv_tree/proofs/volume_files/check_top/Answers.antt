@@ -1,10 +1,12 @@
-use Rattle.std.proofs.Common.{◌≡◌, ◌∙◌, ℕ, ◌+◌, ◌-◌, sym, arith, [], take, drop, get_or, map, List, true}
+use Rattle.std.proofs.Common.{◌≡◌, ◌∙◌, ℕ, ◌+◌, ◌-◌, sym, ap, arith, [], take, drop, get_or, map, List, true}
 use Rattle.std.specs.Prelude.{◌==◌, ◌&&◌, ◌||◌, not}
 use Rattle.std.proofs.lemmas.Bool.Decides.{Decides-eqb}
 use Rattle.std.proofs.lemmas.List.{length-map, take_all}
 use Rattle.std.proofs.lemmas.Result.{err_from_is_err_and}
+use Rattle.fv_base.specs.Faults.{outer_fault}
+use Rattle.fv_base.specs.declared.fault.FaultKind.TheVariants as kinds
 use Rattle.fv_tree.specs.Files.{FileForm, is_top, end_of}
-use Rattle.fv_tree.specs.inner.LocatedFiles.{file_form}
+use Rattle.fv_tree.specs.LocatedFiles.{file_form}
 use Rattle.fv_tree.proofs.IndexLaws.{no_file}
 use Rattle.fv_tree.proofs.NameLaws.{more_items, seam_items, none_push, top_last, placed, misplaced, not_top_yet, after_none}
 use Rattle.fv_tree.proofs.volume_files.check_top.Goals as goal
@@ -24,7 +26,7 @@ returns-in_err-check-clause-first c =
     rw (p.1, p.2) (
       f,
       (take i all, drop (i + 1) all, seam_items file_form c.args.files.now i no_file c.loop-file-test.true, bad.0, off),
-      c.in_err-check.ensures.err.1,
+      c.in_err-check.ensures.err.1 ∙ ap (outer_fault kinds.TopFile) c.from.ensures,
     )
 
 pub loop-file-preserved : goal.loop-file-preserved

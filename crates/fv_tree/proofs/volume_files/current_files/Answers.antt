@@ -7,7 +7,7 @@ use Rattle.fv_tree.specs.Files.{FileForm, TopAtEnd}
 use Rattle.fv_tree.specs.FirstFault.{TopElsewhere}
 use Rattle.fv_tree.specs.FileNames.{Entry, IsIndex}
 use Rattle.fv_tree.specs.inner.NameOrders.{names_in}
-use Rattle.fv_tree.specs.inner.LocatedFiles.{file_form}
+use Rattle.fv_tree.specs.LocatedFiles.{file_form}
 use Rattle.fv_tree.specs.declared.volume_files.LocatedFile.{LocatedFile}
 use Rattle.fv_tree.proofs.IndexLaws.{alone_current, alone_twins}
 use Rattle.fv_tree.proofs.NameLaws.{top_bound}

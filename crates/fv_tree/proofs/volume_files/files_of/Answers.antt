@@ -1,11 +1,13 @@
-use Rattle.std.proofs.Common.{◌≡◌, ◌∙◌, sym, ap, [], ◌∷◌, ◌++◌, take, map, append-nil, rules}
-use Rattle.std.proofs.lemmas.List.{map_push}
+use Rattle.std.proofs.Common.{◌≡◌, ◌∙◌, sym, ap, [], ◌∷◌, ◌++◌, take, map, append-nil, rules, ℕ, List, subst, arith}
+use Rattle.std.proofs.lemmas.List.{get_or-map, length-map, map_push}
+use Rattle.fv_base.proofs.Laws.{at_index}
 use Rattle.fv_file.specs.CellForms as cellular
 use Rattle.fv_file.specs.declared.cell.Cell.{Cell}
 use Rattle.fv_file.specs.declared.cell.Cell.TheVariants as cells
 use Rattle.fv_file.specs.declared.state.FileState.TheVariants as states
 use Rattle.fv_tree.specs.Files.{files_in}
-use Rattle.fv_tree.specs.inner.LocatedFiles.{file_form}
+use Rattle.fv_tree.specs.LocatedFiles.{file_form}
+use Rattle.fv_tree.specs.inner.SmallFiles.{IsSmallCell}
 use Rattle.fv_tree.proofs.NameLaws.{files_in_items}
 use Rattle.fv_tree.proofs.volume_files.files_of.Goals as goal
 
@@ -20,6 +22,14 @@ no_cell = cells.Valid 0 (record {
   file_sum = 0;
   state = states.Free;
 }) (record { ref_ptr = (0, 0); now = [] })
+
+pub file_of-requires : goal.file_of-requires
+file_of-requires c =
+    let cells : List Cell = c.args.cells.now in
+    let i : ℕ = c.loop-cell.cell-index in
+    subst IsSmallCell (get_or-map cellular.cell_form cells i no_cell (cellular.cell_form no_cell) c.loop-cell-test.true)
+    (at_index IsSmallCell (map cellular.cell_form cells) i (cellular.cell_form no_cell) c.requires
+    (omega (arith, c.loop-cell-test.true, length-map cells cellular.cell_form)))
 
 pub loop-cell-preserved-in_default : goal.loop-cell-preserved-in_default
 loop-cell-preserved-in_default c =

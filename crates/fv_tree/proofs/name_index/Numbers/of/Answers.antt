@@ -6,7 +6,7 @@ use Rattle.std.proofs.lemmas.List.Sorted.{IsPermutation-trans}
 use Rattle.std.proofs.lemmas.Nat.{one_shl}
 use Rattle.fv_tree.specs.FileNames.{Entry, Halves, numbered}
 use Rattle.fv_tree.specs.inner.NameOrders.{names_in}
-use Rattle.fv_tree.specs.inner.LocatedFiles.{file_form}
+use Rattle.fv_tree.specs.LocatedFiles.{file_form}
 use Rattle.fv_tree.specs.declared.volume_files.LocatedFile.{LocatedFile}
 use Rattle.fv_tree.proofs.KeyLaws.{entry_at, file_within, keyed_all}
 use Rattle.fv_tree.proofs.name_index.Numbers.of.Goals as goal

@@ -1,0 +1,182 @@
+#!/usr/bin/env python3
+"""parts.py [--program PROGRAM] FILE..: files, sections and extract of fv.py.
+
+First over the volumes of crates/fv_tree/src/tests, whose files and faults were worked out by hand. Then over each FILE:
+the places of the data against the input itself, and, with the program, the lines of `list` and the output of `extract`
+for each file and section."""
+
+import argparse
+import collections
+import re
+import subprocess
+import sys
+from pathlib import Path
+
+ROOT = Path(__file__).resolve().parents[2]
+sys.path.insert(0, str(ROOT / "clib"))
+import fv
+
+PAGE = (ROOT / "docs/FAULTS.md").read_text(encoding="utf-8").split("## What each fault means for you")[0]
+FAULTS = {name: int(number) for number, name in re.findall(r"(?m)^\| (\d+) \| ([A-Z]\w+) \|", PAGE)}
+
+
+def outcome(call, *arguments):
+    try:
+        return call(*arguments)
+    except fv.Fault as fault:
+        return fault
+
+
+def is_missing(call, *arguments):
+    try:
+        call(*arguments)
+    except IndexError:
+        return True
+    return False
+
+
+def is_stream(file):
+    """Whether the data of a file are sections, by its type."""
+    return file.kind == 2 or 4 <= file.kind <= 15
+
+
+def spelled(text):
+    """The bytes that a text spells: hexadecimal digits, with a star and a number to repeat a word."""
+    words = (word.partition("*") for word in text.split())
+    return b"".join(bytes.fromhex(digits) * int(count or 1) for digits, _, count in words)
+
+
+def tables():
+    """The rows of the tables: whether the volume is read, what is expected, and its bytes."""
+    for module in ("vectors", "deep", "large"):
+        source = (ROOT / f"crates/fv_tree/src/tests/{module}.rt").read_text(encoding="utf-8")
+        for name, text in re.findall(r'fn (accepted|refused)\(\).*?\{\s*"\\\n(.*?)"\n\}', source, re.S):
+            for row in text.replace("\\\n", "").split("\\n"):
+                if row.strip():
+                    _, wanted, digits = (part.strip() for part in row.split(": "))
+                    yield name == "accepted", wanted, spelled(digits)
+
+
+def listed(data):
+    """What the tables say of a volume: its length, and of each file the first byte of the name, the type, the
+    attributes without bit 01, the number of bytes of its data, and that of its outer sections."""
+    parts = [str(len(data))]
+    for number, file in enumerate(fv.files(data)):
+        outer = sum(section.depth == 0 for section in fv.sections(data, number))
+        sections = f"Some({outer})" if is_stream(file) else "None"
+        parts.append(f"{file._name[0]:02x} {file.kind:02x} {file.attributes & ~1:02x} {file.data_len} {sections}")
+    return ", ".join(parts)
+
+
+def check_tables():
+    seen = [0, 0]
+    for is_read, wanted, data in tables():
+        seen[is_read] += 1
+        if is_read:
+            whole = data[: int(wanted.split(",")[0])]
+            assert listed(whole) == wanted, wanted
+            check_places(whole)
+        else:
+            kind, offset, depth = wanted.split()
+            for call in (fv.files, lambda it: fv.sections(it, 0), lambda it: fv.extract(it, 0)):
+                fault = outcome(call, data)
+                assert isinstance(fault, fv.Fault) and fault.number == FAULTS[kind], (wanted, fault)
+                assert (fault.offset, fault.depth) == (int(offset), int(depth)), (wanted, fault)
+    print(f"parts: {seen[1]} volumes of the tables have the files that they should, {seen[0]} the faults")
+
+
+def check_places(data):
+    """The data of each file are in the input where its row says, and the sections where their sizes put them."""
+    for number, file in enumerate(fv.files(data)):
+        stored = data[file.data_offset : file.data_offset + file.data_len]
+        sections = fv.sections(data, number)
+        assert len(stored) == file.data_len and len(sections) == file.sections
+        if not is_stream(file):
+            assert not sections and fv.extract(data, number) == stored
+        starts, ends = {fv.NO_PARENT: 0}, {fv.NO_PARENT: 0}
+        for place, section in enumerate(sections):
+            at = (ends[section.parent] + 3) // 4 * 4
+            body = starts[section.parent] + at + section.header_len
+            ends[section.parent] = at + section.header_len + section.len
+            assert section.depth == (0 if section.parent == fv.NO_PARENT else sections[section.parent].depth + 1)
+            assert stored[body - section.header_len + 3] == section.kind
+            if section.holds == fv.BYTES:
+                assert fv.extract(data, number, place) == stored[body : body + section.len]
+            if section.holds == fv.SECTIONS:
+                starts[place], ends[place] = body, 0
+        for call, bad in ((fv.extract, len(sections)), (fv.extract, -1)):
+            assert is_missing(call, data, number, bad)
+    assert is_missing(fv.sections, data, len(fv.files(data))) and is_missing(fv.extract, data, len(fv.files(data)))
+
+
+def lines(data):
+    """The lines of `list` for the files and the sections that are in no nested volume, without what a leaf says."""
+    for number, file in enumerate(fv.files(data)):
+        form = f"type {file.kind:02x} attributes {file.attributes & ~1:02x} data {file.data_len}"
+        yield f"  file {number} {file.name} {form}"
+        counts = collections.Counter()
+        for section in fv.sections(data, number):
+            form = "extended" if section.header_len == 8 else "short"
+            text = f"section {counts[section.parent]} type {section.kind:02x} {form} body {section.len}"
+            yield " " * (4 + 2 * section.depth) + text
+            counts[section.parent] += 1
+
+
+def outer_lines(text):
+    """The same lines of what the program has written."""
+    limit = None
+    for line in text.splitlines()[1:]:
+        indent = len(line) - len(line.lstrip())
+        if limit is not None and indent >= limit:
+            continue
+        limit = indent if line.lstrip().startswith("volume ") else None
+        if limit is None:
+            yield re.sub(r"(section \d+ type .. \w+ body \d+) .*", r"\1", line)
+
+
+def check_program(program, path, data):
+    """Holds what is read of a volume against the program. Returns the number of outputs."""
+
+    def run(*arguments):
+        return subprocess.run([program, *arguments, path], capture_output=True, check=False).stdout
+
+    def check_part(number, section, *arguments):
+        part = outcome(fv.extract, data, number, section)
+        wanted = f"{part}\n".encode() if isinstance(part, fv.Fault) else part
+        assert run("extract", "--name", str(files[number].name), *arguments) == wanted, (path, number, section)
+
+    assert list(lines(data)) == list(outer_lines(run("list").decode())), path
+    files, names, count = fv.files(data), set(), 1
+    for number, file in enumerate(files):
+        if file.name in names:
+            continue
+        names.add(file.name)
+        check_part(number, None)
+        instances = collections.Counter()
+        for place, section in enumerate(fv.sections(data, number)[:40]):
+            instances[section.kind] += 1
+            check_part(number, place, "--section", f"{section.kind:02x}", "--instance", str(instances[section.kind]))
+        count += 1 + sum(instances.values())
+    return count
+
+
+def main():
+    parser = argparse.ArgumentParser()
+    parser.add_argument("--program")
+    parser.add_argument("files", nargs="*")
+    given = parser.parse_args()
+    check_tables()
+    volumes = compared = 0
+    for path in given.files:
+        data = Path(path).read_bytes()
+        if isinstance(outcome(fv.files, data), fv.Fault):
+            assert str(outcome(fv.files, data)) == str(outcome(fv.is_canonical, data)), path
+            continue
+        volumes += 1
+        check_places(data)
+        if given.program:
+            compared += check_program(given.program, path, data)
+    print(f"parts: {volumes} volumes; {compared} outputs of the program are the same")
+
+
+main()

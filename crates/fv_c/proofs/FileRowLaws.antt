@@ -1,0 +1,109 @@
+-- The files of a volume, row by row.
+use Rattle.std.proofs.Common.{◌≡◌, ◌∙◌, ◌⊎◌, ℕ, ◌+◌, ◌<◌, ◌≤◌, ◌^◌, List, [], ◌∷◌, ◌++◌, length, drop, get_or, map, refl, sym, ap, subst, arith, zero, suc}
+use Rattle.std.proofs.Common.{append-nil, inl, inr, slice_index_or}
+use Rattle.std.specs.List.{AllByRecursion}
+use Rattle.std.specs.Prelude.{◌≢◌}
+use Rattle.std.proofs.lemmas.List.{append_assoc, drop_more, drop_all}
+use Rattle.fv_base.specs.Faults.{out_of_memory}
+use Rattle.fv_base.specs.declared.fault.Fault.{Fault}
+use Rattle.fv_tree.specs.Denotes.{Accepted, Pairwise, MeansFile, Stream}
+use Rattle.fv_tree.specs.Files.{FileForm}
+use Rattle.fv_tree.specs.FirstFault.{data_place}
+use Rattle.fv_tree.specs.LocatedFiles.{file_form, BeginWithFiles, HasDataIn}
+use Rattle.fv_tree.specs.Meaning.{Meaning, FileMeaning, files_of, head_of}
+use Rattle.fv_tree.specs.declared.volume_files.LocatedFile.{LocatedFile}
+use Rattle.fv_tree.proofs.Laws.{volume_files, want_known}
+use Rattle.fv_base.specs.Limits.{depth_limit}
+use Rattle.fv_head.proofs.Laws.{front_lies}
+use Rattle.fv_c.specs.ReportedFiles.{HasFileRows, reported_file, reported_files}
+use Rattle.fv_c.specs.declared.files.FvFile.{FvFile}
+
+-- ---- the loop
+
+-- the rows so far, and those of the files from i on, are those of all
+abbrev pub Rows : List FvFile → ℕ → List LocatedFile → List FileMeaning → Type 0
+Rows rows i stored files =
+    rows ++ reported_files (map file_form (drop i stored)) (drop i files) ≡ reported_files (map file_form stored) files
+
+pub rows_more : (rows news : List FvFile) (i : ℕ) (stored : List LocatedFile) (files : List FileMeaning) (x : LocatedFile) (m : FileMeaning)
+    → i < length stored → i < length files → x ≡ get_or stored i x → m ≡ get_or files i m
+    → news ≡ rows ++ reported_file (file_form x) m ∷ [] → Rows rows i stored files → Rows news (i + 1) stored files
+rows_more rows news i stored files x m l k is means pushed have =
+    let rest : List FvFile = reported_files (map file_form (drop (i + 1) stored)) (drop (i + 1) files) in
+    let a : drop i stored ≡ x ∷ drop (i + 1) stored = drop_more stored i x l ∙ ap (λ y. y ∷ drop (i + 1) stored) (sym is) in
+    let b : drop i files ≡ m ∷ drop (i + 1) files = drop_more files i m k ∙ ap (λ y. y ∷ drop (i + 1) files) (sym means) in
+    let front : reported_files (map file_form (drop i stored)) (drop i files) ≡ reported_file (file_form x) m ∷ rest =
+    ap (λ (xs : List LocatedFile). reported_files (map file_form xs) (drop i files)) a
+    ∙ ap (reported_files (map file_form (x ∷ drop (i + 1) stored))) b in
+    ap (λ (l : List FvFile). l ++ rest) pushed ∙ append_assoc rows (reported_file (file_form x) m ∷ []) rest
+    ∙ ap (λ (l : List FvFile). rows ++ l) (sym front) ∙ have
+
+no_meanings : (fs : List FileForm) → reported_files fs [] ≡ []
+no_meanings [] = refl
+no_meanings (f ∷ fs) = refl
+
+-- the files have ended
+pub rows_done : (rows : List FvFile) (i : ℕ) (stored : List LocatedFile) (files : List FileMeaning) → length files ≤ i
+    → Rows rows i stored files → rows ≡ reported_files (map file_form stored) files
+rows_done rows i stored files l have =
+    sym (ap (λ (ms : List FileMeaning). rows ++ reported_files (map file_form (drop i stored)) ms) (drop_all i files l)
+    ∙ ap (λ (rs : List FvFile). rows ++ rs) (no_meanings (map file_form (drop i stored))) ∙ append-nil rows) ∙ have
+
+-- the places have ended
+pub rows_over : (rows : List FvFile) (i : ℕ) (stored : List LocatedFile) (files : List FileMeaning) → length stored ≤ i
+    → Rows rows i stored files → rows ≡ reported_files (map file_form stored) files
+rows_over rows i stored files l have =
+    sym (ap (λ (xs : List LocatedFile). rows ++ reported_files (map file_form xs) (drop i files)) (drop_all i stored l) ∙ append-nil rows)
+    ∙ have
+
+-- ---- the places
+
+pub place_at : (stored : List LocatedFile) (i : ℕ) (d : LocatedFile) → i < length stored
+    → AllByRecursion (λ f. data_place f < 2 ^ 63) (map file_form stored) → data_place (file_form (slice_index_or stored i d)) < 2 ^ 63
+place_at [] i d l all = absurd (omega (arith, l))
+place_at (y ∷ ys) zero d l all = all.0
+place_at (y ∷ ys) (suc i) d l all = place_at ys i d (omega (arith, l)) all.1
+
+pub places_small : (input : List ℕ) (fs : List FileForm) → length input < 2 ^ 63 → AllByRecursion (HasDataIn input) fs
+    → AllByRecursion (λ f. data_place f < 2 ^ 63) fs
+places_small input [] l all = tt
+places_small input (f ∷ fs) l all = (omega (arith, l, all.0.0), places_small input fs l all.1)
+
+-- a volume is short
+pub volume_short : (input : List ℕ) (m : Meaning) → Accepted input m → length input < 2 ^ 63
+volume_short input m accepted =
+    let v = accepted.1 in
+    omega (arith, v.whole, (front_lies input (head_of m) v.extent v.front).limit)
+
+-- ---- the rows of a volume
+
+as_many : (fs : List FileForm) (ms : List FileMeaning) → Pairwise (MeansFile (Stream depth_limit)) fs ms
+    → length (reported_files fs ms) ≡ length ms
+as_many [] [] p = refl
+as_many [] (m ∷ ms) p = absurd p
+as_many (f ∷ fs) [] p = absurd p
+as_many (f ∷ fs) (m ∷ ms) p = ap suc (as_many fs ms p.1)
+
+pub have_rows : (input : List ℕ) (m : Meaning) (fs : List FileForm) (ms : List FileMeaning) (rows : List FvFile) → Accepted input m
+    → ((gs : List FileForm) → BeginWithFiles input gs → gs ≡ fs) → AllByRecursion (HasDataIn input) fs → files_of m ≡ ms
+    → rows ≡ reported_files fs ms → HasFileRows input rows
+have_rows input m fs ms rows accepted only lie are is =
+    let v = accepted.1 in
+    let same : v.files ≡ fs = only v.files (volume_files depth_limit input m v) in
+    let all : rows ≡ reported_files v.files (files_of m) =
+    is ∙ ap (λ (gs : List FileForm). reported_files gs ms) (sym same) ∙ ap (reported_files v.files) (sym are) in
+    record {
+      meaning = m;
+      volume = accepted;
+      rows_are = all;
+      count = ap length all ∙ as_many v.files (files_of m) v.meanings;
+      in_input = subst (AllByRecursion (HasDataIn input)) (sym same) lie;
+    }
+
+-- only memory can run out
+pub only_memory : (input : List ℕ) (m : Meaning) (f : Fault) → Accepted input m
+    → (f ≢ out_of_memory → (gs : List FileForm) → BeginWithFiles input gs → ⊥) → f ≡ out_of_memory
+only_memory input m f accepted none = go (want_known f) where
+  go : (f ≡ out_of_memory) ⊎ (f ≢ out_of_memory) → f ≡ out_of_memory
+  go (inl is) = is
+  go (inr ne) = absurd (none ne accepted.1.files (volume_files depth_limit input m accepted.1))

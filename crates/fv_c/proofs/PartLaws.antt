@@ -1,0 +1,101 @@
+-- The part of a volume that two numbers ask for.
+use Rattle.std.proofs.Common.{◌≡◌, ◌∙◌, ◌⊎◌, ℕ, List, Bool, true, false, Some, None, map, refl, sym, ap, subst, inl, inr}
+use Rattle.std.specs.Prelude.{◌==◌, ◌≢◌, Option, option_map, slice_get}
+use Rattle.std.proofs.lemmas.Bool.Decides.{Decides-eqb}
+use Rattle.std.proofs.lemmas.Option.{slice_get-map}
+use Rattle.fv_base.specs.Faults.{out_of_memory}
+use Rattle.fv_base.specs.declared.fault.Fault.{Fault}
+use Rattle.fv_canon.specs.Layouts.{FirstUnfit}
+use Rattle.fv_canon.specs.Refusals.{NotRead}
+use Rattle.fv_tree.specs.Denotes.{Accepted}
+use Rattle.fv_head.specs.Head.{HeadFields}
+use Rattle.fv_tree.specs.Meaning.{Meaning, Volume, FileMeaning, files_from, files_of, content_of}
+use Rattle.fv_tree.proofs.Laws.{files_list_back}
+use Rattle.fv_c.specs.ExtractedParts.{PartMeaning, Data, whole_file, row_part, part_of_file, part_of, part_in, IsPartImage}
+use Rattle.fv_c.specs.ExtractedParts.{volumes_in_part, ExtractsTo, HasNoPart, HasUnfitPart}
+use Rattle.fv_c.specs.ReportedSections.{SectionRow, section_rows}
+use Rattle.fv_c.specs.declared.parts.PlacedSection.{PlacedSection}
+use Rattle.fv_c.specs.inner.PlacedSections.{row_form, ShowsPart, StopsPart}
+
+-- ---- the file
+
+-- the files of a volume are those that it was made of
+pub files_are : (m : Meaning) (h : HeadFields) (fs : List FileMeaning) → m ≡ Volume h (files_from fs) → files_of m ≡ fs
+files_are m h fs is = ap files_of is ∙ files_list_back fs
+
+pub file_at : (m : Meaning) (h : HeadFields) (fs : List FileMeaning) (file : ℕ) (o : Option FileMeaning) → m ≡ Volume h (files_from fs)
+    → o ≡ slice_get fs file → slice_get (files_of m) file ≡ o
+file_at m h fs file o is found = ap (λ (l : List FileMeaning). slice_get l file) (files_are m h fs is) ∙ sym found
+
+pub part_at : (m : Meaning) (h : HeadFields) (fs : List FileMeaning) (file section : ℕ) (o : Option FileMeaning)
+    → m ≡ Volume h (files_from fs) → o ≡ slice_get fs file → part_in file section m ≡ part_of section o
+part_at m h fs file section o is found = ap (part_of section) (file_at m h fs file o is found)
+
+-- ---- its part
+
+is_not : (a b : ℕ) → a ≢ b → (a == b) ≡ false
+is_not a b ne = go (a == b) (Decides-eqb a b).0 where
+  go : (t : Bool) → (t ≡ true → a ≡ b) → t ≡ false
+  go true h = absurd (ne (h refl))
+  go false h = refl
+
+pub whole_part : (section : ℕ) (f : FileMeaning) → section ≡ whole_file → part_of_file section f ≡ Some (Data (content_of f))
+whole_part section f is = let test : (section == whole_file) ≡ true = (Decides-eqb section whole_file).1 is in rw test refl
+
+pub row_at : (section : ℕ) (f : FileMeaning) (rows : List PlacedSection) (o : Option PlacedSection) → section ≢ whole_file
+    → map row_form rows ≡ section_rows (content_of f) → o ≡ slice_get rows section
+    → part_of_file section f ≡ option_map row_part (option_map row_form o)
+row_at section f rows o ne are found =
+    let test : (section == whole_file) ≡ false = is_not section whole_file ne in
+    let row : slice_get (section_rows (content_of f)) section ≡ option_map row_form o =
+    ap (λ (l : List SectionRow). slice_get l section) (sym are) ∙ slice_get-map row_form rows section ∙ ap (option_map row_form) (sym found) in
+    rw test (ap (option_map row_part) row)
+
+-- ---- what is told of it
+
+pub shows_none : (p : Option PartMeaning) → p ≡ None → ShowsPart p None
+shows_none p is = subst (λ (o : Option PartMeaning). ShowsPart o None) (sym is) tt
+
+pub shows_part : (p : Option PartMeaning) (q : PartMeaning) (bytes : List ℕ) → p ≡ Some q → IsPartImage q bytes → ShowsPart p (Some bytes)
+shows_part p q bytes is image = subst (λ (o : Option PartMeaning). ShowsPart o (Some bytes)) (sym is) image
+
+pub stops_part : (p : Option PartMeaning) (q : PartMeaning) (f : Fault) → p ≡ Some q
+    → (f ≡ out_of_memory) ⊎ FirstUnfit (volumes_in_part q) 0 f → StopsPart p f
+stops_part p q f is stop = subst (λ (o : Option PartMeaning). StopsPart o f) (sym is) stop
+
+-- ---- what was told of it
+
+pub shown_part : (p : Option PartMeaning) (bytes : List ℕ) → ShowsPart p (Some bytes) → (q : PartMeaning) × (p ≡ Some q) × IsPartImage q bytes
+shown_part None bytes never = absurd never
+shown_part (Some q) bytes image = (q, refl, image)
+
+pub shown_none : (p : Option PartMeaning) → ShowsPart p None → p ≡ None
+shown_none None shown = refl
+shown_none (Some q) never = absurd never
+
+pub stopped_part : (p : Option PartMeaning) (f : Fault) → StopsPart p f
+    → (f ≡ out_of_memory) ⊎ ((q : PartMeaning) × (p ≡ Some q) × FirstUnfit (volumes_in_part q) 0 f)
+stopped_part None f memory = inl memory
+stopped_part (Some q) f (inl memory) = inl memory
+stopped_part (Some q) f (inr unfit) = inr (q, refl, unfit)
+
+-- an error of a part, by the volume that the input is
+pub extract_stops : (file section : ℕ) (input : List ℕ) (m : Meaning) (f : Fault) → Accepted input m → StopsPart (part_in file section m) f
+    → (f ≡ out_of_memory) ⊎ (NotRead input f ⊎ HasUnfitPart file section input f)
+extract_stops file section input m f accepted stops = go (stopped_part (part_in file section m) f stops) where
+  go : (f ≡ out_of_memory) ⊎ ((q : PartMeaning) × (part_in file section m ≡ Some q) × FirstUnfit (volumes_in_part q) 0 f)
+      → (f ≡ out_of_memory) ⊎ (NotRead input f ⊎ HasUnfitPart file section input f)
+  go (inl memory) = inl memory
+  go (inr (q, is, unfit)) = inr (inr (m, q, accepted, is, unfit))
+
+-- the bytes of a part, by the volume that the input is
+pub extracts_to : (file section : ℕ) (input : List ℕ) (m : Meaning) (found : Option (List ℕ)) (bytes : List ℕ) → Accepted input m
+    → ShowsPart (part_in file section m) found → found ≡ Some bytes → ExtractsTo file section input bytes
+extracts_to file section input m found bytes accepted shown is =
+    let part = shown_part (part_in file section m) bytes (subst (λ (o : Option (List ℕ)). ShowsPart (part_in file section m) o) is shown) in
+    (m, part.0, accepted, part.1, part.2)
+
+pub extracts_none : (file section : ℕ) (input : List ℕ) (m : Meaning) (found : Option (List ℕ)) → Accepted input m
+    → ShowsPart (part_in file section m) found → found ≡ None → HasNoPart file section input
+extracts_none file section input m found accepted shown is =
+    (m, accepted, shown_none (part_in file section m) (subst (λ (o : Option (List ℕ)). ShowsPart (part_in file section m) o) is shown))

@@ -1,0 +1,77 @@
+//! The bytes of a part of a volume.
+
+ghost use Rattle.std.specs.Prelude.{◌≡◌, ◌≢◌, ◌⊎◌, ◌<◌, ◌++◌, ℕ, List, length, drop};
+ghost use Rattle.fv_base.specs.Faults.{fault_number, out_of_memory};
+ghost use Rattle.fv_base.specs.declared.fault.Fault.{Fault};
+ghost use Rattle.fv_canon.specs.Refusals.{NotRead};
+ghost use Rattle.fv_c.specs.ExtractedParts.{ExtractsTo, HasNoPart, HasUnfitPart};
+ghost use Rattle.fv_c.specs.Reports.{reported_fault, no_fault};
+
+use crate::buffer::put_first;
+use crate::parts::part_bytes;
+use crate::reports::{BUFFER_TOO_SMALL, FvFault, NO_FAULT, NOT_FOUND, reported_fault};
+use fv_canon::whole_volume;
+use std::alloc::Global;
+
+/// Writes a part of the volume that the input is at the start of the buffer, as the canonical image
+/// of the volume has it: the body of section number `section` of file number `file`, or the data of
+/// that file if `section` is 2^64 - 1. `len` is the number of its bytes. Returns 0. Files are
+/// numbered as by `fv_files`, and sections as by `fv_sections`. (PI specification, volume 3,
+/// sections 3.2.3 and 3.2.4.)
+///
+/// # Errors
+///
+/// 27 if the buffer is shorter than `len`. 28 if the volume has no file of this number, or the file
+/// no section of this number. The number of the first fault, which is in `fault`: those of
+/// `whole_volume`; then that of the first volume in the part that does not fit; 24 if memory runs
+/// out. `len` is unchanged then. The buffer is unchanged in all cases.
+#[unsafe(no_mangle)]
+pub extern "C" fn fv_extract(
+    alloc: Global,
+    input: &[u8],
+    file: u64,
+    section: u64,
+    buffer: &mut [u8],
+    len: &mut u64,
+    fault: &mut FvFault,
+) -> u32
+    // The buffer begins with the part, and holds what it held after that.
+    ensures ok { result ≡ 0 → (bytes : List ℕ) × ExtractsTo file section input.now bytes × (len.new ≡ length bytes)
+        × (buffer.new ≡ bytes ++ drop (length bytes) buffer.old) × (fault.new ≡ no_fault) }
+    ensures kept { result ≢ 0 → buffer.new ≡ buffer.old }
+    ensures small { result ≡ 27 → (bytes : List ℕ) × ExtractsTo file section input.now bytes
+        × (len.new ≡ length bytes) × (length buffer.old < length bytes) × (fault.new ≡ no_fault) }
+
+    // There is no such part.
+    ensures absent { result ≡ 28 → HasNoPart file section input.now × (len.new ≡ len.old) × (fault.new ≡ no_fault) }
+
+    // Any other fault is out of memory, the first of the input, or that of a volume in the part.
+    ensures err { result ≢ 0 → result ≢ 27 → result ≢ 28 → (f : Fault)
+        × ((f ≡ out_of_memory) ⊎ (NotRead input.now f ⊎ HasUnfitPart file section input.now f))
+        × (result ≡ fault_number f.kind) × (fault.new ≡ reported_fault f) × (len.new ≡ len.old) }
+{
+    let volume = match whole_volume(alloc, input) {
+        Ok(volume) => volume,
+        Err(f) => {
+            *fault = reported_fault(f);
+            return u32::from(f.kind.number());
+        }
+    };
+    let found = match part_bytes(alloc, &volume, file, section) {
+        Ok(found) => found,
+        Err(f) => {
+            *fault = reported_fault(f);
+            return u32::from(f.kind.number());
+        }
+    };
+    *fault = NO_FAULT;
+    let Some(bytes) = found else {
+        return NOT_FOUND;
+    };
+    *len = bytes.as_slice().len() as u64;
+    if buffer.len() < bytes.as_slice().len() {
+        return BUFFER_TOO_SMALL;
+    }
+    put_first(bytes.as_slice(), buffer);
+    0
+}

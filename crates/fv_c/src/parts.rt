@@ -1,0 +1,138 @@
+//! The sections of a file, and the parts of a volume that can be extracted.
+
+ghost use Rattle.std.specs.Prelude.{◌≡◌, ◌≤◌, ◌++◌, length, map, IfOk, IfErr, OnOk};
+ghost use Rattle.fv_tree.specs.Meaning.{body_of, content_of, sections_from};
+ghost use Rattle.fv_tree.specs.Views.{body_view};
+ghost use Rattle.fv_c.specs.ExtractedParts.{part_in};
+ghost use Rattle.fv_c.specs.ReportedSections.{held_number, rows_of_section, rows_of_sections, section_rows};
+ghost use Rattle.fv_c.specs.inner.PlacedSections.{row_form, sections_in, ShowsPart, StopsPart};
+
+use fv_base::{ByteList, Fault};
+use fv_canon::{body_bytes, file_bytes};
+use fv_tree::{Body, Content, FileView, SectionView, VolumeView};
+use std::alloc::{AllocError, Global};
+
+/// That a section is in no group.
+pub(crate) const NO_PARENT: u64 = 0xffff_ffff_ffff_ffff;
+
+/// The number that asks for the data of a file, and not for a section of it.
+pub(crate) const WHOLE_FILE: u64 = 0xffff_ffff_ffff_ffff;
+
+// A section in its file.
+#[derive(Clone, Copy)]
+pub(crate) struct PlacedSection<'v, 'a> {
+    // The number of the group that it is in, or NO_PARENT.
+    pub(crate) parent: u64,
+    // The number of groups around it.
+    pub(crate) depth: u64,
+    // The section.
+    pub(crate) section: &'v SectionView<'a>,
+}
+
+// The sections in a body: those of a group; none in any other.
+fn sections_in_body<'v, 'a>(body: Body<'v, 'a>) -> &'v [SectionView<'a>]
+    ensures { sections_from result.now ≡ sections_in (body_view body.entry) }
+{
+    let mut inside: &'v [SectionView<'a>] = &[];
+    if let Body::Group { sections, .. } = body {
+        inside = sections;
+    }
+    inside
+}
+
+// The sections in a section.
+fn sections_in<'v, 'a>(section: &'v SectionView<'a>) -> &'v [SectionView<'a>]
+    ensures { sections_from result.now ≡ sections_in (body_of section.now) }
+{
+    sections_in_body(section.body())
+}
+
+// What a section holds, for C: 1 bytes, 2 sections, 3 a volume.
+pub(crate) fn held_number(section: &SectionView<'_>) -> u32
+    ensures { result ≡ held_number (body_of section.now) }
+{
+    match section.body() {
+        Body::Leaf(_) => 1,
+        Body::Group { .. } => 2,
+        Body::Nested(_) => 3,
+    }
+}
+
+// Adds some sections in preorder: each group is followed by the sections in it.
+#[cycle(add)]
+fn add_sections<'v, 'a>(
+    sections: &'v [SectionView<'a>],
+    parent: u64,
+    depth: u64,
+    rows: &mut Vec<PlacedSection<'v, 'a>>,
+) -> Result<(), AllocError>
+    requires { depth ≤ length rows.old.items }
+    ensures { OnOk result (map row_form rows.new.items ≡ map row_form rows.old.items
+        ++ rows_of_sections (length rows.old.items) parent depth (sections_from sections.now)) }
+{
+    for section in sections {
+        add_section(section, parent, depth, rows)?;
+    }
+    Ok(())
+}
+
+// Adds a section and those in it.
+#[cycle(add)]
+fn add_section<'v, 'a>(
+    section: &'v SectionView<'a>,
+    parent: u64,
+    depth: u64,
+    rows: &mut Vec<PlacedSection<'v, 'a>>,
+) -> Result<(), AllocError>
+    requires { depth ≤ length rows.old.items }
+    ensures { OnOk result (map row_form rows.new.items ≡ map row_form rows.old.items
+        ++ rows_of_section (length rows.old.items) parent depth section.now) }
+{
+    let number = rows.len() as u64;
+    rows.push(PlacedSection {
+        parent,
+        depth,
+        section,
+    })?;
+    add_sections(sections_in(section), number, depth + 1, rows)
+}
+
+// The sections of a file in preorder.
+pub(crate) fn sections_of<'v, 'a>(
+    alloc: Global,
+    file: &'v FileView<'a>,
+) -> Result<Vec<PlacedSection<'v, 'a>>, AllocError>
+    ensures { IfOk result (λ v. map row_form v.items ≡ section_rows (content_of file.now)) }
+{
+    let mut rows = Vec::new(alloc);
+    match file.content() {
+        Content::Plain(_) => {}
+        Content::Stream { sections, .. } => {
+            add_sections(sections.as_slice(), NO_PARENT, 0, &mut rows)?;
+        }
+    }
+    Ok(rows)
+}
+
+// The bytes of the part that the number of a file and that of a section ask for, if there is one.
+pub(crate) fn part_bytes(
+    alloc: Global,
+    volume: &VolumeView<'_>,
+    file: u64,
+    section: u64,
+) -> Result<Option<ByteList>, Fault>
+    ensures ok { IfOk result (ShowsPart (part_in file section volume.now)) }
+    ensures err { IfErr result (StopsPart (part_in file section volume.now)) }
+{
+    let Some(file) = volume.files().get(file as usize) else {
+        return Ok(None);
+    };
+    if section == WHOLE_FILE {
+        return Ok(Some(file_bytes(alloc, file)?));
+    }
+    let rows = sections_of(alloc, file)?;
+    let Some(row) = rows.as_slice().get(section as usize) else {
+        return Ok(None);
+    };
+    Ok(Some(body_bytes(alloc, row.section)?))
+}

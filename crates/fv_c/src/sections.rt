@@ -1,0 +1,140 @@
+//! The sections of a file of a volume.
+
+ghost use Rattle.std.specs.Prelude.{◌≡◌, ◌≢◌, ◌⊎◌, ◌<◌, ◌++◌, length, drop, map, slice_get, Some, None, IfOk};
+ghost use Rattle.fv_base.specs.Faults.{fault_number, out_of_memory};
+ghost use Rattle.fv_base.specs.declared.fault.Fault.{Fault};
+ghost use Rattle.fv_canon.specs.Refusals.{NotRead};
+ghost use Rattle.fv_tree.specs.Denotes.{Accepted};
+ghost use Rattle.fv_tree.specs.Meaning.{Meaning, FileMeaning, content_of, files_of};
+ghost use Rattle.fv_c.specs.ReportedSections.{reported_section, section_rows};
+ghost use Rattle.fv_c.specs.Reports.{reported_fault, no_fault};
+ghost use Rattle.fv_c.specs.inner.PlacedSections.{reported_row};
+
+use crate::parts::{PlacedSection, held_number, sections_of};
+use crate::reports::{
+    BUFFER_TOO_SMALL, FvFault, NO_FAULT, NOT_FOUND, out_of_memory, reported_fault,
+};
+use fv_canon::whole_volume;
+use fv_tree::FileView;
+use std::alloc::{AllocError, Global};
+
+/// A section of a file. (PI specification, volume 3, section 3.2.4.)
+#[repr(C)]
+#[derive(Clone, Copy, Debug, PartialEq, Eq)]
+pub struct FvSection {
+    /// The number of bytes of its body, which follows its header.
+    pub len: u64,
+    /// The number of the group that it is in, or 2^64 - 1 if it is in none.
+    pub parent: u64,
+    /// The number of groups around it.
+    pub depth: u64,
+    /// `Type`.
+    pub kind: u32,
+    /// The number of bytes of its header: 4, or 8 if it is extended.
+    pub header_len: u32,
+    /// What it holds: 1 bytes, 2 sections, 3 a volume.
+    pub holds: u32,
+    /// Always 0.
+    pub reserved: u32,
+}
+
+// A section, for C.
+fn reported_section(row: &PlacedSection<'_, '_>) -> FvSection
+    ensures { result ≡ reported_row row.now }
+{
+    let section = row.section;
+    FvSection {
+        len: section.body_len(),
+        parent: row.parent,
+        depth: row.depth,
+        kind: u32::from(section.kind()),
+        header_len: if section.extended() { 8 } else { 4 },
+        holds: held_number(section),
+        reserved: 0,
+    }
+}
+
+// Sections, for C.
+fn reported_rows(
+    alloc: Global,
+    list: &[PlacedSection<'_, '_>],
+) -> Result<Vec<FvSection>, AllocError>
+    ensures { IfOk result (λ v. v.items ≡ map reported_row list.now) }
+{
+    let mut reported = Vec::new(alloc);
+    for row in list {
+        reported.push(reported_section(row))?;
+    }
+    Ok(reported)
+}
+
+// The sections of a file, for C.
+fn reported_sections(alloc: Global, file: &FileView<'_>) -> Result<Vec<FvSection>, AllocError>
+    ensures { IfOk result (λ v. v.items ≡ map reported_section (section_rows (content_of file.now))) }
+{
+    let rows = sections_of(alloc, file)?;
+    reported_rows(alloc, rows.as_slice())
+}
+
+/// Writes the sections of file number `number` of the volume that the input is, in preorder, at the
+/// start of the buffer: each group is followed by the sections in it. The sections of a nested
+/// volume are not included. `count` is their number, 0 if the data of the file are not sections.
+/// Returns 0. Files are numbered from 0 in the order of `fv_files`. (PI specification, volume 3,
+/// section 3.2.4.)
+///
+/// # Errors
+///
+/// 27 if the buffer has fewer elements than `count`. 28 if the volume has no file of this number.
+/// The number of the first fault, which is in `fault`: those of `whole_volume`; 24 if memory runs
+/// out. `count` is unchanged then. The buffer is unchanged in all cases.
+#[unsafe(no_mangle)]
+pub extern "C" fn fv_sections(
+    alloc: Global,
+    input: &[u8],
+    number: u64,
+    buffer: &mut [FvSection],
+    count: &mut u64,
+    fault: &mut FvFault,
+) -> u32
+    // The buffer begins with the sections, and holds what it held after them.
+    ensures ok { result ≡ 0 → (m : Meaning) × (f : FileMeaning) × Accepted input.now m
+        × (slice_get (files_of m) number ≡ Some f) × (count.new ≡ length (section_rows (content_of f)))
+        × (buffer.new ≡ map reported_section (section_rows (content_of f)) ++ drop count.new buffer.old)
+        × (fault.new ≡ no_fault) }
+    ensures kept { result ≢ 0 → buffer.new ≡ buffer.old }
+    ensures small { result ≡ 27 → (m : Meaning) × (f : FileMeaning) × Accepted input.now m
+        × (slice_get (files_of m) number ≡ Some f) × (count.new ≡ length (section_rows (content_of f)))
+        × (length buffer.old < count.new) × (fault.new ≡ no_fault) }
+
+    // The volume has no file of this number.
+    ensures absent { result ≡ 28 → (m : Meaning) × Accepted input.now m × (slice_get (files_of m) number ≡ None)
+        × (count.new ≡ count.old) × (fault.new ≡ no_fault) }
+
+    // Any other fault is out of memory or the first of the input.
+    ensures err { result ≢ 0 → result ≢ 27 → result ≢ 28 → (f : Fault)
+        × ((f ≡ out_of_memory) ⊎ NotRead input.now f)
+        × (result ≡ fault_number f.kind) × (fault.new ≡ reported_fault f) × (count.new ≡ count.old) }
+{
+    let volume = match whole_volume(alloc, input) {
+        Ok(volume) => volume,
+        Err(f) => {
+            *fault = reported_fault(f);
+            return u32::from(f.kind.number());
+        }
+    };
+    *fault = NO_FAULT;
+    let Some(file) = volume.files().get(number as usize) else {
+        return NOT_FOUND;
+    };
+    let Ok(reported) = reported_sections(alloc, file) else {
+        *fault = out_of_memory();
+        return 24;
+    };
+    *count = reported.len() as u64;
+    if buffer.len() < reported.len() {
+        return BUFFER_TOO_SMALL;
+    }
+    let (front, _) = buffer.split_at_mut(reported.len());
+    front.copy_from_slice(reported.as_slice());
+    0
+}

@@ -1,0 +1,26 @@
+-- What a boot reads.
+use Rattle.std.specs.Prelude.{◌≡◌, ◌⊎◌, ◌≤◌, ℕ, List, length, take}
+use Rattle.fv_caller.specs.declared.fault.CallerFault.{CallerFault}
+use Rattle.fv_caller.specs.declared.fault.CallerFault.TheVariants as faults
+use Rattle.fv_base.specs.Faults.{out_of_memory}
+use Rattle.fv_depex.specs.Expressions.{Spells}
+use Rattle.fv_depex.specs.OpChecks.{depex_out_of_memory}
+use Rattle.fv_depex.specs.declared.op.Op.{Op}
+use Rattle.fv_depex.specs.declared.op.Phase.TheVariants as phases
+use Rattle.fv_hob.specs.HobChecks.{hob_out_of_memory}
+use Rattle.fv_hob.specs.Hobs.{HobForm}
+use Rattle.fv_hob.specs.Lists.{IsHobList}
+use Rattle.fv_tree.specs.Denotes.{Accepted}
+use Rattle.fv_tree.specs.Meaning.{Meaning}
+
+-- the first bytes are a volume (PI specification, volume 3, section 3.2), the second begin with an expression of DXE
+-- (volume 2, section 10.7), and the third begin with a hand-off list (volume 3, section 5)
+pub record IsBoot (volume expression hand_off : List ℕ) : Type 0 where
+  pub read : (m : Meaning) × Accepted volume m
+  pub spelled : (ops : List Op) × (rest : List ℕ) × Spells phases.Dxe ops rest expression
+  pub listed : (all : List HobForm) × (n : ℕ) × (n ≤ length hand_off) × IsHobList all (take n hand_off)
+
+-- memory ran out in one of the three readers
+abbrev pub IsOutOfMemory : CallerFault → Type 0
+IsOutOfMemory e =
+    (e ≡ faults.Volume out_of_memory) ⊎ (e ≡ faults.Expression depex_out_of_memory) ⊎ (e ≡ faults.HandOff hob_out_of_memory)

@@ -1,0 +1,46 @@
+//! An archive that keeps volumes in canonical form.
+
+ghost use Rattle.std.specs.Prelude.{◌≡◌, ◌⊎◌, length, IfOk, IfErr};
+ghost use Rattle.fv_caller.specs.declared.fault.CallerFault.TheVariants.{Volume};
+ghost use Rattle.fv_base.specs.Faults.{out_of_memory};
+ghost use Rattle.fv_base.specs.declared.fault.Fault.{Fault};
+ghost use Rattle.fv_canon.specs.Image.{IsImage};
+ghost use Rattle.fv_canon.specs.Refusals.{Refuses};
+ghost use Rattle.fv_tree.specs.Denotes.{Accepted};
+ghost use Rattle.fv_tree.specs.Meaning.{Meaning, files_of};
+
+use crate::fault::CallerFault;
+use fv_base::ByteList;
+use fv_canon::{canonical, whole_volume};
+use std::alloc::Global;
+
+/// A volume in the archive.
+#[derive(Drop)]
+pub struct Archived {
+    /// Its canonical image.
+    pub image: ByteList,
+    /// The number of its files.
+    pub files: u32,
+}
+
+/// What the archive keeps of the volume that the input is. (PI specification, volume 3, section 3.2.)
+///
+/// # Errors
+///
+/// `CallerFault::Volume`: the fault with which `normalise` rejects the input, or OutOfMemory.
+pub fn archive_volume(alloc: Global, input: &[u8]) -> Result<Archived, CallerFault>
+    // The input is a volume. The image is that of its meaning, and the number is that of its files.
+    ensures ok { IfOk result
+        (λ a. (m : Meaning) × Accepted input.now m × IsImage m a.image × (a.files ≡ length (files_of m))) }
+
+    // Memory ran out, or the input has no image.
+    ensures err { IfErr result
+        (λ e. (f : Fault) × (e ≡ Volume f) × ((f ≡ out_of_memory) ⊎ Refuses input.now f)) }
+{
+    let volume = whole_volume(alloc, input)?;
+    let image = canonical(alloc, &volume)?;
+    Ok(Archived {
+        image,
+        files: volume.file_count(),
+    })
+}

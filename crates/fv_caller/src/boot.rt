@@ -1,0 +1,33 @@
+//! A check of what a boot reads.
+
+ghost use Rattle.std.specs.Prelude.{IfErr, OnOk};
+ghost use Rattle.fv_caller.specs.Boots.{IsBoot, IsOutOfMemory};
+
+use crate::fault::CallerFault;
+use fv_canon::whole_volume;
+use fv_depex::{Phase, read_depex};
+use fv_hob::read_hobs;
+use std::alloc::Global;
+
+/// Ok if a boot can read its three inputs: a volume and nothing after it, the body of a dependency section of DXE, and a
+/// hand-off list, after which anything may follow. (PI specification, volume 2, section 10.7, and volume 3, sections 3.2
+/// and 5.)
+///
+/// # Errors
+///
+/// The fault of the first of the three that is rejected, or that of the first for which memory runs out.
+pub fn check_boot(
+    alloc: Global,
+    volume: &[u8],
+    expression: &[u8],
+    hand_off: &[u8],
+) -> Result<(), CallerFault>
+    ensures ok { OnOk result (IsBoot volume.now expression.now hand_off.now) }
+    ensures none { IfErr result
+        (λ e. (IsOutOfMemory e → ⊥) → IsBoot volume.now expression.now hand_off.now → ⊥) }
+{
+    whole_volume(alloc, volume)?;
+    read_depex(alloc, expression, Phase::Dxe)?;
+    read_hobs(alloc, hand_off)?;
+    Ok(())
+}

@@ -1,0 +1,13 @@
+//! An example of a library on top of the crates, which `docs/LIBRARY.md` goes through: an archive that keeps volumes in
+//! canonical form, and a check of what a boot reads. Nothing in this repository uses it.
+#![tactic(auto)]
+
+mod archive;
+mod boot;
+mod fault;
+#[cfg(test)]
+mod tests;
+
+pub use archive::{Archived, archive_volume};
+pub use boot::check_boot;
+pub use fault::CallerFault;

@@ -1,0 +1,161 @@
+-- The volumes of a flash image that are laid out, and then put one after another.
+use Rattle.std.proofs.Common.{◌≡◌, ◌≢◌, ◌⊎◌, ◌≤◌, ◌<◌, ◌+◌, ◌-◌, ℕ, List, [], ◌∷◌, ◌++◌, length, take, drop, get_or}
+use Rattle.std.proofs.Common.{sym, ap, ◌∙◌, subst, arith, inl, inr}
+use Rattle.std.specs.List.{AllByRecursion}
+use Rattle.std.proofs.lemmas.List.{drop_more, get_or-map, length-drop, length-map, length-take-le, map-append, take-append-drop}
+use Rattle.std.proofs.lemmas.List.{take_all, take_more}
+use Rattle.fv_base.specs.Faults.{out_of_memory}
+use Rattle.fv_base.specs.Limits.{depth_limit}
+use Rattle.fv_base.specs.Sinks.{WalkLaws}
+use Rattle.fv_base.specs.Value.{field}
+use Rattle.fv_base.specs.declared.fault.Fault.{Fault}
+use Rattle.fv_base.proofs.Laws.{at_index}
+use Rattle.fv_tree.specs.Denotes.{Accepted, IsMeaning}
+use Rattle.fv_tree.specs.FirstFault.{moved_fault}
+use Rattle.fv_tree.specs.FoundVolumes.{Found, VolumeAt}
+use Rattle.fv_tree.specs.Meaning.{Meaning, head_of}
+use Rattle.fv_tree.proofs.Laws.{at_within, want_known}
+use Rattle.fv_canon.specs.Image.{IsImage}
+use Rattle.fv_canon.specs.Headline.{NormalisesTo}
+use Rattle.fv_canon.specs.Refusals.{Refuses}
+use Rattle.fv_canon.specs.FlashImages.{FirstRefused, HasImageAt, NormalisesAll}
+use Rattle.fv_canon.specs.inner.ImageOf.{image_of}
+use Rattle.fv_canon.specs.inner.RefusedVolumes.{RefusedAt}
+use Rattle.fv_canon.specs.LaidVolumes.{AreLaid, IsLaid, IsLaidOut, starts_of}
+use Rattle.fv_canon.specs.declared.flash_image.LaidVolume.{LaidVolume}
+use Rattle.fv_canon.proofs.FlashImageLaws.{Puts, next_of, puts_all, puts_more, puts_none}
+use Rattle.fv_canon.proofs.ImageLaws.{image_is}
+
+-- ---- one volume
+
+-- its fault is told at its place, or memory was wanted
+pub told_at : (b x : List ℕ) (p : ℕ) (own f : Fault) → VolumeAt b p (length x) → x ≡ field p (length x) b
+    → (own ≡ out_of_memory) ⊎ Refuses x own
+    → (f ≢ out_of_memory → (own ≢ out_of_memory) × (f ≡ moved_fault p own.place.depth own))
+    → (f ≡ out_of_memory) ⊎ RefusedAt b p f
+told_at b x p own f v is why told = go (want_known f) why where
+  go : (f ≡ out_of_memory) ⊎ (f ≢ out_of_memory) → (own ≡ out_of_memory) ⊎ Refuses x own → (f ≡ out_of_memory) ⊎ RefusedAt b p f
+  go (inl want) why = inl want
+  go (inr other) (inl want) = absurd ((told other).0 want)
+  go (inr other) (inr refused) =
+      inr (length x, v, own, subst (λ (l : List ℕ). Refuses l own) is refused, (told other).1)
+
+-- one that is laid out has an image
+has_image : (b : List ℕ) (v : LaidVolume) → IsLaid b v → HasImageAt b v.start
+has_image b v (n, at, accepted, laid) =
+    let starts : List ℕ = v.places.own ++ v.places.inner in
+    let is : IsMeaning v.view = (depth_limit, omega arith, field v.start n b, accepted.0, accepted.1) in
+    (n, image_of v.view starts, at, (v.view, accepted, image_is v.view starts is laid.0))
+
+-- and as many bytes as its header says
+laid_long : (b : List ℕ) (p n : ℕ) (m : Meaning) → VolumeAt b p n → Accepted (field p n b) m → n ≡ (head_of m).length
+laid_long b p n m v accepted =
+    let long : length (field p n b) ≡ n = length-take-le n (drop p b) (omega (arith, length-drop p b, at_within b p n v)) in
+    sym long ∙ accepted.1.whole ∙ accepted.1.front.length_is
+
+-- ---- the volumes, laid out one after another
+
+-- those at the first i of the places are laid out
+abbrev pub LaysFirst : List ℕ → List ℕ → ℕ → List LaidVolume → Type 0
+LaysFirst b places i volumes = AreLaid b (take i places) volumes
+
+-- one item more
+all_push : {X : Type 0} (P : X → Type 0) (xs : List X) (x : X) → AllByRecursion P xs → P x → AllByRecursion P (xs ++ x ∷ [])
+all_push P [] x all h = (h, tt)
+all_push P (y ∷ ys) x all h = (all.0, all_push P ys x all.1 h)
+
+-- the next is laid out too
+pub lays_more : (b places : List ℕ) (i : ℕ) (volumes : List LaidVolume) (v : LaidVolume) → LaysFirst b places i volumes
+    → i < length places → v.start ≡ get_or places i 0 → IsLaid b v → LaysFirst b places (i + 1) (volumes ++ v ∷ [])
+lays_more b places i volumes v (same, all) less at laid = (
+  map-append (λ (w : LaidVolume). w.start) volumes (v ∷ [])
+      ∙ ap (λ (l : List ℕ). l ++ v.start ∷ []) same
+      ∙ ap (λ (k : ℕ). take i places ++ k ∷ []) at ∙ sym (take_more places i 0 less),
+  all_push (IsLaid b) volumes v all laid,
+)
+
+-- those that are laid out have images
+laid_images : (b : List ℕ) (volumes : List LaidVolume) → AllByRecursion (IsLaid b) volumes
+    → AllByRecursion (HasImageAt b) (starts_of volumes)
+laid_images b [] all = tt
+laid_images b (v ∷ vs) (h, all) = (has_image b v h, laid_images b vs all)
+
+-- the next is refused
+pub lays_stop : (b places : List ℕ) (i : ℕ) (volumes : List LaidVolume) (f : Fault) → LaysFirst b places i volumes → i < length places
+    → (f ≡ out_of_memory) ⊎ RefusedAt b (get_or places i 0) f → (f ≡ out_of_memory) ⊎ FirstRefused b places f
+lays_stop b places i volumes f lays less (inl want) = inl want
+lays_stop b places i volumes f (same, all) less (inr (n, volume, own, refused, is)) = inr (record {
+  before = take i places;
+  place = get_or places i 0;
+  behind = drop (i + 1) places;
+  split = sym (take-append-drop i places) ∙ ap (λ (l : List ℕ). take i places ++ l) (drop_more places i 0 less);
+  images = subst (AllByRecursion (HasImageAt b)) same (laid_images b volumes all);
+  size = n;
+  volume = volume;
+  own = own;
+  refused = refused;
+  moved_is = is;
+})
+
+-- all are laid out
+pub lays_all : (b places : List ℕ) (i : ℕ) (volumes : List LaidVolume) → LaysFirst b places i volumes → length places ≤ i
+    → AreLaid b places volumes
+lays_all b places i volumes lays past = subst (λ (l : List ℕ). AreLaid b l volumes) (take_all i places past) lays
+
+-- ---- the loop over the volumes that are laid out
+
+-- the i-th of them
+laid_item : (b : List ℕ) (volumes : List LaidVolume) (i : ℕ) (v : LaidVolume) → AllByRecursion (IsLaid b) volumes → i < length volumes
+    → v ≡ get_or volumes i v → (get_or (starts_of volumes) i 0 ≡ v.start) × IsLaid b v
+laid_item b volumes i v all less is = (
+  get_or-map (λ (w : LaidVolume). w.start) volumes i v 0 less ∙ ap (λ (w : LaidVolume). w.start) (sym is),
+  subst (IsLaid b) (sym is) (at_index (IsLaid b) volumes i v all less),
+)
+
+module _ {S : Type 0} (takes : S → List ℕ → S → Type 0) (laws : WalkLaws takes) (s : S) (b : List ℕ) (volumes : List LaidVolume) where
+  -- nothing is put
+  pub laid_none : IsLaidOut b volumes → Puts takes s s b (starts_of volumes) 0 0
+  laid_none (short, places, found, (same, all)) =
+      puts_none takes laws s b (starts_of volumes) (subst (Found b) (sym same) found)
+
+  -- the next volume begins behind what is put, and lies within the bytes
+  pub laid_next : {t : S} (i from : ℕ) (v : LaidVolume) → IsLaidOut b volumes → Puts takes s t b (starts_of volumes) i from
+      → i < length volumes → v ≡ get_or volumes i v
+      → (from ≤ v.start) × (v.start ≤ length b)
+  laid_next i from v (short, places, found, (same, all)) puts less is =
+      let item = laid_item b volumes i v all less is in
+      let at = item.1 in
+      let counted : i < length (starts_of volumes) = omega (arith, length-map volumes (λ (w : LaidVolume). w.start), less) in
+      let next = next_of takes laws s b (starts_of volumes) i from puts counted in (
+        omega (arith, next.0, item.0),
+        omega (arith, at_within b v.start at.0 at.1),
+      )
+
+  -- the bytes up to it are put, and its image
+  pub laid_more : {t u w : S} (i from : ℕ) (v : LaidVolume) (gap image : List ℕ) → IsLaidOut b volumes
+      → Puts takes s t b (starts_of volumes) i from → i < length volumes → v ≡ get_or volumes i v
+      → gap ≡ field from (v.start - from) b → takes t gap u → IsImage v.view image → takes u image w
+      → Puts takes s w b (starts_of volumes) (i + 1) (v.start + (head_of v.view).length)
+  laid_more {t} {u} {w} i from v gap image (short, places, found, (same, all)) puts less is gap_is put is_image put' =
+      let item = laid_item b volumes i v all less is in
+      let at = item.1 in
+      let n : ℕ = at.0 in
+      let counted : i < length (starts_of volumes) = omega (arith, length-map volumes (λ (w : LaidVolume). w.start), less) in
+      let long : n ≡ (head_of v.view).length = laid_long b v.start n v.view at.1 at.2 in
+      let volume : VolumeAt b (get_or (starts_of volumes) i 0) n = subst (λ (k : ℕ). VolumeAt b k n) (sym item.0) at.1 in
+      let to : NormalisesTo (field (get_or (starts_of volumes) i 0) n b) image =
+      subst (λ (k : ℕ). NormalisesTo (field k n b) image) (sym item.0) (v.view, at.2, is_image) in
+      let gap_at : gap ≡ field from (get_or (starts_of volumes) i 0 - from) b =
+      gap_is ∙ ap (λ (k : ℕ). field from (k - from) b) (sym item.0) in
+      let more = puts_more takes laws s b (starts_of volumes) i from n gap image puts counted volume gap_at put to put' in
+      subst (λ (k : ℕ). Puts takes s w b (starts_of volumes) (i + 1) k) (omega (arith, item.0, long)) more
+
+  -- all are put, and the bytes behind the last
+  pub laid_all : {t u : S} (i from : ℕ) (rest : List ℕ) → IsLaidOut b volumes → Puts takes s t b (starts_of volumes) i from
+      → length volumes ≤ i → rest ≡ drop from b → takes t rest u
+      → (bytes : List ℕ) × NormalisesAll b bytes × takes s bytes u
+  laid_all i from rest (short, places, found, (same, all)) puts past is put =
+      let found' : Found b (starts_of volumes) = subst (Found b) (sym same) found in
+      let counted : length (starts_of volumes) ≤ i = omega (arith, length-map volumes (λ (w : LaidVolume). w.start), past) in
+      let done = puts_all takes laws s b (starts_of volumes) i from rest found' puts counted is put in
+      (done.0, (short, starts_of volumes, found', done.1), done.2)

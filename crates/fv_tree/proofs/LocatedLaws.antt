@@ -1,0 +1,73 @@
+-- The files of a volume as they are stored in it: their data are in it, at their offsets, and there are no others.
+use Rattle.std.proofs.Common.{◌≡◌, ◌≤◌, ◌∙◌, ℕ, ◌+◌, ◌-◌, List, [], ◌∷◌, length, take, drop, sym, ap, subst, arith}
+use Rattle.std.specs.List.{AllByRecursion, list_any}
+use Rattle.std.specs.Prelude.{not}
+use Rattle.std.proofs.lemmas.List.{length-take-le, length-drop, take_all}
+use Rattle.fv_base.proofs.Laws.{all_filter, field-take}
+use Rattle.fv_base.specs.Value.{up_to_8}
+use Rattle.fv_file.specs.Cells.{CellForm, Valid, Pad, Dead, Stub, Free, CellsWithin}
+use Rattle.fv_file.specs.declared.head.FileHead.{FileHead}
+use Rattle.fv_file.proofs.Laws.{IsPayloadIn, body_payloads, all_within}
+use Rattle.fv_head.specs.Head.{HeadFields, BeginsVolume}
+use Rattle.fv_head.specs.declared.extent.Extent.{Extent}
+use Rattle.fv_head.proofs.Laws.{first_lies, one_front}
+use Rattle.fv_tree.specs.Files.{FileForm, files_in, replaces}
+use Rattle.fv_tree.specs.Denotes.{Denotes}
+use Rattle.fv_tree.specs.FirstFault.{data_place}
+use Rattle.fv_tree.specs.LocatedFiles.{StandIn, BeginWithFiles, HasDataIn}
+use Rattle.fv_tree.specs.Meaning.{Meaning, head_of}
+
+-- ---- where the data are
+
+one_file : (volume : List ℕ) (at : ℕ) (head : FileHead) (payload : List ℕ)
+    → payload ≡ take (head.size - head.header_len) (drop (at + head.header_len) volume) → at + up_to_8 head.size ≤ length volume
+    → head.header_len + length payload ≡ head.size → HasDataIn volume (record { offset = at; head = head; payload = payload })
+one_file volume at head payload is lies made =
+    let n : length payload ≡ head.size - head.header_len = omega (arith, made) in
+    (omega (arith, lies, made), ap (λ k. take k (drop (at + head.header_len) volume)) n ∙ sym is)
+
+all_files : (volume : List ℕ) (cs : List CellForm) → AllByRecursion (IsPayloadIn volume) cs → CellsWithin (length volume) cs
+    → AllByRecursion (HasDataIn volume) (files_in cs)
+all_files volume [] p l = tt
+all_files volume (Valid at head payload ∷ cs) p l = (one_file volume at head payload p.0 l.0 l.1, all_files volume cs p.1 l.2)
+all_files volume (Pad at head payload ∷ cs) p l = all_files volume cs p.1 l.2
+all_files volume (Dead at len ∷ cs) p l = all_files volume cs p.1 l.2
+all_files volume (Stub at len ∷ cs) p l = all_files volume cs p.1 l.2
+all_files volume (Free at len ∷ cs) p l = all_files volume cs p.1 l.2
+
+-- what is in the first n bytes is in all of them
+in_front : (n : ℕ) (b : List ℕ) (fs : List FileForm) → n ≤ length b → AllByRecursion (HasDataIn (take n b)) fs
+    → AllByRecursion (HasDataIn b) fs
+in_front n b [] w h = tt
+in_front n b (f ∷ fs) w h =
+    let within : data_place f + length f.payload ≤ n = omega (arith, h.0.0, length-take-le n b w) in (
+      (omega (arith, within, w), sym (field-take (data_place f) (length f.payload) n b within) ∙ h.0.1),
+      in_front n b fs w h.1,
+    )
+
+pub located_data : (b : List ℕ) (h : HeadFields) (e : Extent) (fs : List FileForm) → BeginsVolume h e b → StandIn e (take e.length b) fs
+    → AllByRecursion (HasDataIn b) fs
+located_data b h e fs front stand =
+    let v : List ℕ = take e.length b in
+    let long : length v ≡ e.length = length-take-le e.length b front.whole in
+    let all : e.first + length (drop e.first v) ≡ length v = omega (arith, length-drop e.first v, long, (first_lies b h e front).1) in
+    let within = subst (λ n. CellsWithin n stand.cells) all
+    (all_within e.file_system e.polarity e.first stand.cells (drop e.first v) stand.tiles) in
+    let files = all_files v stand.cells (body_payloads e.file_system e.polarity e.first stand.cells v stand.tiles) within in
+    let kept = all_filter (λ f. not (list_any (replaces f) (files_in stand.cells))) (HasDataIn v) (files_in stand.cells) files in
+    in_front e.length b fs front.whole (subst (AllByRecursion (HasDataIn v)) (sym stand.current.files_are) kept)
+
+-- ---- that they are the only ones
+
+module _ (b : List ℕ) (h : HeadFields) (e : Extent) (front : BeginsVolume h e b) where
+  pub located_stand : (gs : List FileForm) → BeginWithFiles b gs → StandIn e (take e.length b) gs
+  located_stand gs (k, x, other, stand) =
+      subst (λ (y : Extent). StandIn y (take y.length b) gs) (one_front b k h x e other front).1 stand
+
+-- ---- the files of bytes that are a volume
+
+pub volume_files : (n : ℕ) (b : List ℕ) (m : Meaning) → (v : Denotes n b m) → BeginWithFiles b v.files
+volume_files n b m v =
+    let whole : take v.extent.length b ≡ b = take_all v.extent.length b (omega (arith, v.whole)) in
+    let stand : StandIn v.extent b v.files = record { cells = v.cells; tiles = v.tiles; current = v.current } in
+    (head_of m, v.extent, v.front, subst (λ (l : List ℕ). StandIn v.extent l v.files) (sym whole) stand)

@@ -1,0 +1,125 @@
+-- Of a valid file in a volume, the length of the header, the size and the file sum follow from the other fields.
+use Rattle.std.proofs.Common.{◌≡◌, ◌≤◌, ◌<◌, ℕ, ◌+◌, ◌-◌, ◌%◌, ◌^◌, List, [], ◌∷◌, ◌++◌, length, Bool, true, false, refl, sym, ap, ◌∙◌, subst}
+use Rattle.std.proofs.Common.{arith, length-append}
+use Rattle.std.specs.Prelude.{◌==◌, if◌then◌else◌, sum}
+use Rattle.std.specs.Cmp.{unsigned_Decides}
+use Rattle.std.specs.List.{AllByRecursion}
+use Rattle.fv_base.specs.Value.{IsBytes}
+use Rattle.fv_base.specs.declared.flash.FileSystem.{FileSystem}
+use Rattle.fv_base.specs.declared.flash.Polarity.{Polarity}
+use Rattle.fv_base.proofs.Laws.{bytes_back, bytes_front}
+use Rattle.fv_file.specs.Attributes.{attribute_bits, is_large, is_summed}
+use Rattle.fv_file.specs.Cells.{CellForm, Valid, Pad, Dead, Stub, Free, Tiles, CellsWithin, IsCell, IsFilled, offset_of, cell_len}
+use Rattle.fv_file.specs.Files.{IsFile, IsSound, attributes_at, file_header_len, file_sum_right, fixed_checksum}
+use Rattle.fv_file.specs.States.{is_alive}
+use Rattle.fv_file.specs.declared.head.FileHead.{FileHead}
+use Rattle.fv_file.specs.declared.state.FileState.{FileState}
+use Rattle.fv_file.specs.declared.state.FileState.TheVariants as states
+use Rattle.fv_tree.specs.Files.{FileForm, files_in}
+use Rattle.fv_tree.specs.LocatedFiles.{file_sum_by, header_len_by, state_by}
+use Rattle.fv_tree.specs.inner.SmallFiles.{FollowsFrom, IsSmallCell, mark_of}
+
+-- the file sum that is right is the one that follows
+sum_follows : (attributes file_sum : ℕ) (payload : List ℕ) → file_sum < 256 → file_sum_right attributes file_sum payload ≡ true
+    → file_sum ≡ file_sum_by attributes payload
+sum_follows attributes file_sum payload small h = go (is_summed attributes) h where
+  go : (t : Bool) → (if t then (sum payload + file_sum) % 256 == 0 else file_sum == fixed_checksum) ≡ true
+      → file_sum ≡ (if t then (256 - sum payload % 256) % 256 else fixed_checksum)
+  go true e =
+      let zero : (sum payload + file_sum) % 256 ≡ 0 = (unsigned_Decides ((sum payload + file_sum) % 256) 0).0 e in
+      omega (arith, zero, small)
+  go false e = (unsigned_Decides file_sum fixed_checksum).0 e
+
+state_follows : (state : FileState) → is_alive state ≡ true → state ≡ state_by (mark_of state)
+state_follows states.DataValid h = refl
+state_follows states.Marked h = refl
+state_follows states.Free h = cc
+state_follows states.Construction h = cc
+state_follows states.HeaderValid h = cc
+state_follows states.Deleted h = cc
+state_follows states.HeaderInvalid h = cc
+
+header_follows : (system : FileSystem) (polarity : Polarity) (head : FileHead) (payload b : List ℕ) → IsBytes b
+    → IsFilled system polarity head payload b → is_alive head.state ≡ true → IsSound head payload → FollowsFrom head payload
+header_follows system polarity head payload b small filled alive sound =
+    let file : IsFile system polarity head payload filled.file = filled.is_file in
+    let h : List ℕ = file.header in
+    let bits : attribute_bits head.attributes ≡ attributes_at h =
+    ap (λ (k : FileHead). attribute_bits k.attributes) file.is_header.fields in
+    let long : length h ≡ header_len_by (attribute_bits head.attributes) =
+    file.is_header.whole ∙ ap (λ (n : ℕ). file_header_len (is_large n)) (sym bits) in
+    let in_file : IsBytes filled.file = bytes_front filled.file filled.filler (subst IsBytes filled.text small) in
+    let in_header : IsBytes h = bytes_front h payload (subst IsBytes file.text in_file) in
+    let below : head.file_sum < 256 =
+    subst (λ (n : ℕ). n < 256) (sym (ap (λ (k : FileHead). k.file_sum) file.is_header.fields)) (in_header 17) in
+    record {
+      size = file.size ∙ ap length file.text ∙ length-append h payload ∙ ap (λ (n : ℕ). n + length payload) long;
+      header_len = ap (λ (k : FileHead). k.header_len) file.is_header.fields
+          ∙ ap (λ (n : ℕ). file_header_len (is_large n)) (sym bits);
+      file_sum = sum_follows (attribute_bits head.attributes) head.file_sum payload below sound.file_sum;
+      state = state_follows head.state alive;
+    }
+
+-- so each cell of a volume is small
+pub small_cells : (system : FileSystem) (polarity : Polarity) (at end : ℕ) (cs : List CellForm) (b : List ℕ) → Tiles system polarity at cs b
+    → CellsWithin end cs → IsBytes b → end < 2 ^ 32 → AllByRecursion IsSmallCell cs
+small_cells system polarity at end [] b tiles within small room = tt
+small_cells system polarity at end (c ∷ cs) b (x, rest, text, is, starts, last, tiles) within small room =
+    let whole : IsBytes (x ++ rest) = subst IsBytes text small in (
+      one c is within.0 (bytes_front x rest whole),
+      small_cells system polarity (at + length x) end cs rest tiles within.2 (bytes_back x rest whole) room,
+    )
+  where
+    one : (c : CellForm) → IsCell system polarity c x → offset_of c + cell_len c ≤ end → IsBytes x → IsSmallCell c
+    one (Valid o head payload) (filled, alive, sound) lies bytes =
+        (omega (arith, lies, room), header_follows system polarity head payload x bytes filled alive sound)
+    one (Pad o head payload) is lies bytes = tt
+    one (Dead o len) is lies bytes = tt
+    one (Stub o len) is lies bytes = tt
+    one (Free o len) is lies bytes = tt
+
+-- what is kept of a valid file, with what follows, is all of it
+pub file_kept : (at : ℕ) (head : FileHead) (payload : List ℕ) → FollowsFrom head payload
+    → files_in (Valid at head payload ∷ [])
+    ≡ record {
+      offset = at;
+      head = record {
+        name = head.name;
+        kind = head.kind;
+        attributes = head.attributes;
+        size = header_len_by (attribute_bits head.attributes) + length payload;
+        header_len = header_len_by (attribute_bits head.attributes);
+        header_sum = head.header_sum;
+        file_sum = file_sum_by (attribute_bits head.attributes) payload;
+        state = state_by (mark_of head.state);
+      };
+      payload = payload;
+    } ∷ []
+file_kept at head payload f =
+    ap (λ (n : ℕ). made n head.header_len head.file_sum head.state) f.size
+    ∙ ap (λ (n : ℕ). made size n head.file_sum head.state) f.header_len
+    ∙ ap (λ (n : ℕ). made size len n head.state) f.file_sum
+    ∙ ap (λ (s : FileState). made size len (file_sum_by (attribute_bits head.attributes) payload) s) f.state
+  where
+    len : ℕ
+    len = header_len_by (attribute_bits head.attributes)
+
+    size : ℕ
+    size = header_len_by (attribute_bits head.attributes) + length payload
+
+    made : ℕ → ℕ → ℕ → FileState → List FileForm
+    made n l s state =
+        record {
+          offset = at;
+          head = record {
+            name = head.name;
+            kind = head.kind;
+            attributes = head.attributes;
+            size = n;
+            header_len = l;
+            header_sum = head.header_sum;
+            file_sum = s;
+            state = state;
+          };
+          payload = payload;
+        } ∷ []

@@ -1,0 +1,71 @@
+-- The files of a volume as they are stored in it, each with its place.
+use Rattle.std.specs.Prelude.{◌≡◌, ◌≤◌, ◌+◌, ◌-◌, ◌%◌, ◌⊎◌, if◌then◌else◌, ℕ, List, length, sum, take, drop}
+use Rattle.fv_base.specs.Checks.{IsFirstFault}
+use Rattle.fv_base.specs.Value.{field}
+use Rattle.fv_base.specs.declared.fault.Fault.{Fault}
+use Rattle.fv_file.specs.Attributes.{attribute_bits, is_large, is_summed}
+use Rattle.fv_file.specs.Cells.{CellForm, Tiles}
+use Rattle.fv_file.specs.Files.{file_header_len, fixed_checksum}
+use Rattle.fv_file.specs.declared.state.FileState.{FileState}
+use Rattle.fv_file.specs.declared.state.FileState.TheVariants as states
+use Rattle.fv_head.specs.Head.{HeadFields, BeginsVolume}
+use Rattle.fv_head.specs.HeadChecks.{head_checks}
+use Rattle.fv_head.specs.declared.extent.Extent.{Extent}
+use Rattle.fv_tree.specs.FailingChecks.{First}
+use Rattle.fv_tree.specs.Files.{FileForm, AreCurrent, files_in}
+use Rattle.fv_tree.specs.FirstFault.{Moved, LayoutFault, data_place, outermost}
+use Rattle.fv_tree.specs.declared.volume_files.LocatedFile.{LocatedFile}
+use Rattle.fv_tree.specs.declared.volume_files.Mark.{Mark}
+use Rattle.fv_tree.specs.declared.volume_files.Mark.TheVariants as marks
+
+-- the state of a valid file that is marked so (section 3.2.3.1, EFI_FFS_FILE_STATE)
+abbrev pub state_by : Mark → FileState
+state_by marks.Unmarked = states.DataValid
+state_by marks.Marked = states.Marked
+state_by marks.Replaced = states.Marked
+
+-- the length of a header with these attributes, and the file sum of a file with these attributes and data (section
+-- 3.2.3.1, FFS_ATTRIB_LARGE_FILE and FFS_ATTRIB_CHECKSUM)
+abbrev pub header_len_by : ℕ → ℕ
+header_len_by attributes = file_header_len (is_large attributes)
+
+abbrev pub file_sum_by : ℕ → List ℕ → ℕ
+file_sum_by attributes payload = if is_summed attributes then (256 - sum payload % 256) % 256 else fixed_checksum
+
+-- a file that a call has returned, with what follows from its fields and with its data as a list of bytes
+abbrev pub file_form : LocatedFile → FileForm
+file_form s = record {
+  offset = s.offset;
+  head = record {
+    name = s.name;
+    kind = s.kind;
+    attributes = s.attributes;
+    size = header_len_by (attribute_bits s.attributes) + length s.payload.now;
+    header_len = header_len_by (attribute_bits s.attributes);
+    header_sum = s.header_sum;
+    file_sum = file_sum_by (attribute_bits s.attributes) s.payload.now;
+    state = state_by s.mark;
+  };
+  payload = s.payload.now;
+}
+
+-- cells tile the volume from the first file's offset on, and the files of these cells are these, as they are stored
+pub record StandIn (e : Extent) (volume : List ℕ) (files : List FileForm) : Type 0 where
+  pub cells : List CellForm
+  pub tiles : Tiles e.file_system e.polarity e.first cells (drop e.first volume)
+  pub current : AreCurrent e.length (files_in cells) files
+
+-- the bytes begin with a volume, and its files are these, as they are stored
+abbrev pub BeginWithFiles : List ℕ → List FileForm → Type 0
+BeginWithFiles b files = (h : HeadFields) × (e : Extent) × BeginsVolume h e b × StandIn e (take e.length b) files
+
+-- the data of the file are in the bytes, at their offset
+abbrev pub HasDataIn : List ℕ → FileForm → Type 0
+HasDataIn b f = (data_place f + length f.payload ≤ length b) × (field (data_place f) (length f.payload) b ≡ f.payload)
+
+-- the first fault of bytes that should begin with a volume, if the data of its files are not read: that of the header,
+-- or that of the cells and the files
+abbrev pub IsFirstOfFiles : List ℕ → Fault → Type 0
+IsFirstOfFiles b f =
+    IsFirstFault (head_checks b) f
+    ⊎ ((h : HeadFields) × (e : Extent) × BeginsVolume h e b × Moved outermost (LayoutFault First e (take e.length b)) f)

@@ -1,0 +1,26 @@
+-- What the parts of a section view mean, and how long they are. (PI specification, volume 3, section 3.2.4)
+use Rattle.std.specs.Prelude.{◌≡◌, ◌+◌, List, [], ◌∷◌}
+use Rattle.fv_tree.specs.Meaning.{SectionMeaning, Section, Leaf, Group, Nested, sections_from, sections_end}
+use Rattle.fv_tree.specs.declared.view.Parts.{Parts}
+use Rattle.fv_tree.specs.declared.view.Parts.TheVariants as parts
+use Rattle.fv_tree.specs.declared.view.Sections.{Sections}
+use Rattle.fv_tree.specs.declared.view.Sections.TheVariants as several
+
+-- the sections of a group, as a list
+abbrev pub sections_of : Sections → List SectionMeaning
+sections_of several.Empty = []
+sections_of (several.One s) = s.value ∷ []
+sections_of (several.Two ss) = ss.value
+sections_of (several.Many ss) = ss.value.items
+
+-- the section
+abbrev pub parts_view : Parts → SectionMeaning
+parts_view (parts.Leaf kind extended b) = Section kind extended (Leaf b.now)
+parts_view (parts.Group kind extended tail len ss) = Section kind extended (Group (sections_from (sections_of ss)) tail)
+parts_view (parts.Nested kind extended v) = Section kind extended (Nested v.value)
+
+-- the length that a group keeps is that of its body
+abbrev pub HasLength : Parts → Type 0
+HasLength (parts.Leaf kind extended b) = Unit {0}
+HasLength (parts.Group kind extended tail len ss) = len ≡ sections_end 0 (sections_from (sections_of ss)) + tail
+HasLength (parts.Nested kind extended v) = Unit {0}

@@ -1,0 +1,68 @@
+# Completion of fvtool(1) for bash. It needs no other package, and calls the fvtool of PATH for offsets and names.
+
+# The Nth file among the other arguments.
+_fvtool_file() { # N
+    local word found=0
+    for word in "${COMP_WORDS[@]:2:COMP_CWORD-2}" "${COMP_WORDS[@]:COMP_CWORD+1}"; do
+        if [[ $word != -* && -f $word ]] && ((++found == $1)); then
+            printf '%s\n' "$word"
+            return
+        fi
+    done
+}
+
+# The offsets of the volumes in the Nth file.
+_fvtool_offsets() { # N
+    local file
+    file=$(_fvtool_file "$1")
+    if [[ -n $file ]]; then
+        command fvtool scan "${hex[@]}" -- "$file" 2> /dev/null | sed -n 's/^volume at \([0-9]*\) .*/\1/p'
+    fi
+}
+
+# The names of the files of the volume, which is that at --at if there is one.
+_fvtool_names() {
+    local file index at=()
+    file=$(_fvtool_file 1)
+    for ((index = 2; index < COMP_CWORD - 1; index++)); do
+        if [[ ${COMP_WORDS[index]} == --at ]]; then at=(--at "${COMP_WORDS[index + 1]}"); fi
+    done
+    if [[ -n $file ]]; then
+        command fvtool list "${at[@]}" "${hex[@]}" -- "$file" 2> /dev/null |
+            sed -n 's/^  file [0-9]* \([0-9a-f-]*\) .*/\1/p'
+    fi
+}
+
+_fvtool() {
+    local current=${COMP_WORDS[COMP_CWORD]} previous=${COMP_WORDS[COMP_CWORD - 1]} choices hex=()
+    if [[ " ${COMP_WORDS[*]} " == *' --hex '* ]]; then hex=(--hex); fi
+    COMPREPLY=()
+    if ((COMP_CWORD == 1)); then
+        choices='normalise list cells extract check scan compare hobs'
+    else
+        case $previous in
+            --at) choices=$(_fvtool_offsets 1) ;;
+            --other-at) choices=$(_fvtool_offsets 2) ;;
+            --name) choices=$(_fvtool_names) ;;
+            --section) choices='01 02 03 10 11 12 13 14 15 16 17 18 19 1b 1c' ;;
+            --instance | --base) choices= ;;
+            --image) return ;;
+            *)
+                # With no answer the shell completes names of files.
+                if [[ $current != -* ]]; then return; fi
+                case ${COMP_WORDS[1]} in
+                    normalise) choices='--all --at --hex' ;;
+                    list) choices='--sums --at --hex' ;;
+                    cells | check) choices='--at --hex' ;;
+                    extract) choices='--name --section --instance --at --hex' ;;
+                    scan) choices='--hex' ;;
+                    compare) choices='--at --other-at --hex' ;;
+                    hobs) choices='--image --base --hex' ;;
+                    *) return ;;
+                esac
+                ;;
+        esac
+    fi
+    compopt +o default 2> /dev/null
+    mapfile -t COMPREPLY < <(compgen -W "$choices" -- "$current")
+} && complete -o default -F _fvtool fvtool

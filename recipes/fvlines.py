@@ -1,0 +1,134 @@
+"""What fvtool says, for the recipes in Python: the volumes of an image, and the files and sections of a volume.
+
+The environment variable FVTOOL names the program. Otherwise it is `fvtool` in the PATH, else the script of the
+repository."""
+
+from __future__ import annotations
+
+import dataclasses
+import os
+import re
+import shutil
+import signal
+import subprocess
+import sys
+from pathlib import Path
+from typing import NoReturn
+
+
+class Refused(Exception):
+    """The program refused an input. The text is its line, and may be empty if a write failed."""
+
+
+@dataclasses.dataclass(frozen=True)
+class Place:
+    """Where a volume lies in an image, in bytes."""
+
+    offset: int
+    length: int
+
+
+@dataclasses.dataclass
+class Section:
+    """A section: its type, the bytes of its header, the text of a user interface section, and whether it holds a
+    volume that the program reads."""
+
+    kind: int
+    header: int
+    text: str | None = None
+    has_volume: bool = False
+
+
+@dataclasses.dataclass
+class File:
+    """A file: its name, the names of the files around it (in a nested volume), its type and attributes, the bytes of
+    its data and their SHA-256 (with --sums), and its sections in the order in which `extract` counts them."""
+
+    name: str
+    around: tuple[str, ...]
+    kind: int
+    attributes: int
+    size: int
+    digest: str = ""
+    sections: list[Section] = dataclasses.field(default_factory=list)
+
+    @property
+    def path(self) -> tuple[str, ...]:
+        return (*self.around, self.name)
+
+    @property
+    def text(self) -> str | None:
+        """The name for people, if the file has one."""
+        return next((it.text for it in self.sections if it.text is not None), None)
+
+
+def end_with_reader() -> None:
+    """Lets a recipe end without a word if what reads its output has ended, as other tools do."""
+    signal.signal(signal.SIGPIPE, signal.SIG_DFL)
+
+
+def program() -> str:
+    """The program that is run."""
+    own = Path(__file__).resolve().parent.parent / "fvtool"
+    return os.environ.get("FVTOOL") or shutil.which("fvtool") or str(own)
+
+
+def stop(what: str) -> NoReturn:
+    """Ends the recipe with status 4: the program, or a file that the recipe itself reads or writes, cannot be used."""
+    print(f"{os.path.basename(sys.argv[0])}: {what}", file=sys.stderr)
+    sys.exit(4)
+
+
+def run(*arguments: str | Path) -> tuple[int, bytes]:
+    """The status of a run, and what it wrote. Its standard input is empty."""
+    words = [program(), *map(str, arguments)]
+    try:
+        done = subprocess.run(words, stdin=subprocess.DEVNULL, stdout=subprocess.PIPE, check=False)
+    except OSError as error:
+        stop(str(error))
+    if done.returncode not in (0, 1, 2):
+        stop(f"{' '.join(words)}: status {done.returncode}")
+    return done.returncode, done.stdout
+
+
+def output(*arguments: str | Path) -> bytes:
+    """What a run wrote that is not refused."""
+    status, written = run(*arguments)
+    if status == 2:
+        raise Refused(written[:80].decode("ascii", "replace").strip())
+    return written
+
+
+def scan(image: str | Path) -> list[Place]:
+    """The volumes of an image."""
+    lines = output("scan", image).decode("ascii").splitlines()
+    return [Place(int(line.split()[2]), int(line.split()[4])) for line in lines]
+
+
+def list_text(image: str | Path, offset: int, sums: bool = False) -> str:
+    """The lines of `list` of the volume that begins at an offset."""
+    return output("list", *(["--sums"] if sums else []), "--at", str(offset), image).decode("ascii")
+
+
+def files_of(text: str) -> list[File]:
+    """The files in the lines of `list`, at every level, each before those inside it."""
+    files: list[File] = []
+    open_parts: list[tuple[int, File | Section]] = []  # the parts around a line, each with its indentation
+    for line in text.splitlines():
+        indentation = len(line) - len(line.lstrip())
+        open_parts = [it for it in open_parts if it[0] < indentation]
+        words = line.split()
+        around = [part for _, part in open_parts if isinstance(part, File)]
+        if words[0] == "volume" and open_parts and isinstance(open_parts[-1][1], Section):
+            open_parts[-1][1].has_volume = True
+        elif words[0] == "file":
+            file = File(words[2], tuple(it.name for it in around), int(words[4], 16), int(words[6], 16), int(words[8]))
+            file.digest = words[10] if len(words) > 10 else ""
+            files.append(file)
+            open_parts.append((indentation, file))
+        elif words[0] == "section":
+            shown = re.search(r' ui "(.*)"$', line)
+            section = Section(int(words[3], 16), 8 if words[4] == "extended" else 4, shown[1] if shown else None)
+            around[-1].sections.append(section)
+            open_parts.append((indentation, section))
+    return files

@@ -1,0 +1,51 @@
+# shellcheck shell=bash
+# What the tests of the recipes share: the made images in $room/images, and how a run is looked at. A test sources it
+# and ends with `tried`. It works in a scratch folder, and writes nothing beside the sources.
+set -euo pipefail
+recipes=$(cd "$(dirname "${BASH_SOURCE[0]}")" && pwd)
+export FVTOOL=${FVTOOL:-$recipes/../crates/fv_tool/out/fv_tool} PYTHONDONTWRITEBYTECODE=1 LC_ALL=C
+if ! command -v "$FVTOOL" > /dev/null; then
+    echo "$FVTOOL is not there: ./fvtool < crates/fv_tool/stdin builds it" >&2
+    exit 1
+fi
+if [[ -n ${EDK2_BIN-} ]]; then EDK2_BIN=$(readlink -f "$EDK2_BIN"); fi
+room=$(mktemp -d)
+trap 'rm -rf "$room"' EXIT
+cd "$room"
+python3 "$recipes/images.py" images
+tries=0
+failures=0
+
+failed() { # WHAT
+    failures=$((failures + 1))
+    printf 'FAILED: %.200s\n' "$1"
+}
+
+# Runs a command, and looks whether it ends with the status and writes the text.
+expect() { # STATUS TEXT COMMAND..
+    local said status=0
+    said=$("${@:3}" 2>&1) || status=$?
+    tries=$((tries + 1))
+    if [[ $status != "$1" || $said != "$2" ]]; then
+        failed "${*:3}"
+        diff <(printf 'status %s\n%s\n' "$1" "$2") <(printf 'status %s\n%s\n' "$status" "$said") || true
+    fi
+}
+
+# Looks whether a text has a line.
+has() { # TEXT LINE
+    tries=$((tries + 1))
+    if ! grep -qxF -- "$2" <<< "$1"; then
+        failed "no line: $2"
+        head -n 40 <<< "$1" | cut -c 1-150
+    fi
+}
+
+skipped() { # WHAT IS MISSING
+    echo "skipped: $1"
+}
+
+tried() {
+    echo "$tries tries, $failures failed"
+    ((failures == 0))
+}
