@@ -81,7 +81,7 @@ def main():
             inputs.append((path, shutil.copyfile(path, os.path.join(folder, os.path.basename(path)))))
         for make in () if options.volumes else MADE:
             path = os.path.join(folder, make.__name__)
-            child = os.fork()  # a process of its own: the peak that is told of a run begins at what its parent holds
+            child = os.fork()  # a process of its own: the peak that the system reports of a run begins at what its parent holds
             if child == 0:
                 with open(path, "wb") as out:
                     out.write(make(options.mib * MIB))

@@ -66,7 +66,7 @@ def is_text(body):
 
 
 def leaf_note(kind, body):
-    """What `list` writes behind the line of a leaf."""
+    """What `list` writes after the line of a leaf."""
     if kind == VERSION and is_text(body[2:]):
         return f" version {int.from_bytes(body[:2], 'little')}"
     if kind == TEXT and is_text(body):
@@ -84,7 +84,7 @@ def file_line(number, name, kind, attributes, data):
 
 
 class Maker:
-    """Writes inputs by docs/FORMAT.md. `pick` chooses what they mean and where it stands, `dust` the bytes that are no
+    """Writes inputs by docs/FORMAT.md. `pick` chooses what they mean and where it is, `dust` the bytes that are no
     part of a meaning: two makers of one seed and of different dust write two volumes of one meaning. `slips` is at how
     many places at most the format is left, and `made` at how many it was."""
 
@@ -218,7 +218,7 @@ class Maker:
         return self.pick.choice((0, byte | 0x40, byte | 0x80)) if self.slips_here(40) else byte
 
     def file(self, form, name, kind, attributes, data, bit):
-        """A file with right sums, its header large where attribute 01 stands."""
+        """A file with right sums, its header large if it has attribute 01."""
         size = len(data) + (32 if attributes & LARGE else 24)
         file_sum = sum8(data) if attributes & SUMMED else 0xAA
         short_size = 0 if attributes & LARGE else size
@@ -306,7 +306,7 @@ class Maker:
         return self.file(form, name, kind, attributes, bytes_of(self.dust, self.pick.randrange(40)), MARKED)
 
     def replaced_file(self, form, first, body, name, files, depth):
-        """A superseded file before or behind the one that replaces it."""
+        """A superseded file before or after the one that replaces it."""
         is_before = self.happens(0.5) or name == TOP_FILE
         old = self.superseded(form, name)
         body += old if is_before else b""
@@ -398,7 +398,7 @@ class Maker:
         return self.name() + struct.pack("<I", size) + rest
 
     def front(self, header_length):
-        """What stands between the volume header and the first cell: the bytes, the place of the extended header, or 0,
+        """What is between the volume header and the first cell: the bytes, the place of the extended header, or 0,
         and its name."""
         if self.happens(0.6):
             return b"", 0, None
@@ -503,7 +503,7 @@ class Maker:
         return struct.pack("<HHI", kind, length, self.pick.choice((0, self.pick.getrandbits(32)))) + payload
 
     def other_block(self):
-        """A block that names no volume: its type and what stands behind its header."""
+        """A block that names no volume: its type and what follows its header."""
         pick = self.pick
         more = 8 * pick.choice((0, 1, 2, pick.randrange(40), 8190 if self.happens(0.01) else 3))
         lengths = {0x1: 48, 0x2: 40 + more % 4096, 0x3: 40, 0x4: 16 + more % 4096, 0x6: 8, 0x7: 0, 0xB: 16}
@@ -708,7 +708,7 @@ class Tool:
             require(found, f"{command}: a refusal with other text", out)
             number, offset = map(int, found.groups())
             require(1 <= number <= (5 if command == "hobs" else 23), f"{command}: a fault out of place", out)
-            require(offset <= max(map(len, inputs)), f"{command}: a fault behind the input", out)
+            require(offset <= max(map(len, inputs)), f"{command}: a fault past the input", out)
         if self.pick.randrange(10) == 0:
             again = self.once(command, inputs, options, image, base, True)
             require(again == (status, out), f"{command}: with --hex another answer", again, (status, out))
@@ -759,10 +759,10 @@ def check_scanned(tool, case, _image):
     require(tool.ask("scan", case.data) == (0, line(f"volume at 0 length {len(case.data)}")), "scan: another place")
 
 
-def check_behind(tool, case, image):
-    """Bytes behind the volume are passed over, or refused."""
+def check_after(tool, case, image):
+    """Bytes after the volume are passed over, or refused."""
     more = case.data + bytes_of(tool.pick, 1 + tool.pick.randrange(40))
-    require(tool.ask("list", more) == tool.ask("list", case.data), "list: another text with bytes behind")
+    require(tool.ask("list", more) == tool.ask("list", case.data), "list: another text with bytes after it")
     refusal = f"fault 8 at {len(case.data)}"
     require(tool.ask("normalise", more) == (2, line(refusal)), f"normalise: not {refusal}")
     require(tool.ask("check", more) == (2, line(refusal)), f"check: not {refusal}")
@@ -900,13 +900,13 @@ def check_accepted(tool, case, image):
         require(tool.ask("list", case.data) == (0, joined(case.lines)), "list: other lines", *case.lines)
     if case.twin and tool.pick.randrange(4) == 0:
         require(tool.ask("normalise", case.twin) == (0, image), "normalise: another image of the same meaning")
-    ways = (check_own, check_listed, check_scanned, check_behind, check_placed, check_cells, check_sums, check_prefix, check_parts)
+    ways = (check_own, check_listed, check_scanned, check_after, check_placed, check_cells, check_sums, check_prefix, check_parts)
     if tool.pick.randrange(2):
         tool.pick.choice(ways)(tool, case, image)
 
 
 def check_refused(tool, case, refusal):
-    """Other commands answer the same refusal; what has no layout has a meaning all the same."""
+    """Other commands write the same refusal; what has no layout has a meaning all the same."""
     number, offset = map(int, re.findall(rb"\d+", refusal))
     require(case.lines is None or number in (22, 23), "a volume of the format is refused", refusal)
     command = tool.pick.choice(("check", "list", "compare", "scan"))
@@ -921,7 +921,7 @@ def check_refused(tool, case, refusal):
         sums = tool.ask("list", case.data, options=["--sums"])
         require(sums == (2, refusal), "list --sums: what has no layout", sums)
     elif command == "list" and number == 8 and offset != 32:
-        require(status == 0, "list: bytes behind the volume", text)
+        require(status == 0, "list: bytes after the volume", text)
     else:
         prefix = b"first " if command == "compare" else b""
         require((status, text) == (2, prefix + refusal), f"{command}: another refusal", text, refusal)
@@ -941,7 +941,7 @@ def check_volume(tool, case):
 
 
 def check_places(tool, case, text):
-    """What `scan` writes: volumes at multiples of 8, one behind the other, each found alone too."""
+    """What `scan` writes: volumes at multiples of 8, one after another, each found on its own too."""
     require(re.fullmatch(rb"(?:volume at \d+ length \d+\n)*", text), "scan: other text", text)
     places = [tuple(map(int, it)) for it in re.findall(rb"at (\d+) length (\d+)", text)]
     end = 0

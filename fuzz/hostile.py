@@ -209,7 +209,7 @@ RATIOS |= {small_groups: 10, entries: 14}
 
 
 def write(make, size, path):
-    """Writes an input, in a process of its own: the peak that is told of a run begins at what its parent holds."""
+    """Writes an input, in a process of its own: the peak that the system reports of a run begins at what its parent holds."""
     child = os.fork()
     if child == 0:
         with open(path, "wb") as out:

@@ -2,6 +2,7 @@
 #![tactic(auto)]
 
 mod options;
+mod rules;
 #[cfg(test)]
 mod tests;
 mod words;

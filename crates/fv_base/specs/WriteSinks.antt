@@ -1,7 +1,24 @@
 -- A lent port that takes bytes: what it holds, and how many bytes it took.
 use Rattle.std.specs.Prelude.{◌≡◌, ℕ, ◌+◌, ◌%◌, ◌^◌, ◌<◌, List, length, take, Bool, true, Option}
+use Rattle.std.specs.Borrow.{GName}
 use Rattle.std.specs.Io.KnownBytes.{Appends}
 use Rattle.fv_base.specs.Sinks.{Latched}
+use Rattle.fv_base.specs.declared.port.Port.{Port}
+use Rattle.fv_base.specs.declared.sink.WriteSink.{WriteSink}
+
+-- the port that a sink has borrowed, and the name of its reference to it
+abbrev pub port_of : {W : Type 0} → WriteSink W → Port W
+port_of s = s.port.now
+
+abbrev pub port_name : {W : Type 0} → WriteSink W → GName
+port_name s = s.port.ghost_name
+
+-- whether no write has failed, and how many bytes were written, modulo 2 ^ 64
+abbrev pub is_writing : {W : Type 0} → WriteSink W → Bool
+is_writing s = s.on
+
+abbrev pub written_count : {W : Type 0} → WriteSink W → ℕ
+written_count s = s.count
 
 -- what the writer says of its bytes, whether the port has erred, and how many bytes were taken, modulo 2 ^ 64
 pub record PortShows : Type 0 where

@@ -8,7 +8,7 @@ ghost use Rattle.fv_base.specs.Port.{inner_of, has_erred};
 ghost use Rattle.fv_base.specs.Sinks.{WalkLaws};
 ghost use Rattle.fv_base.specs.ListSinks.{KeptTakes, kept_in, is_on};
 ghost use Rattle.fv_base.specs.inner.ListSinkLaws.{kept_by};
-ghost use Rattle.fv_base.specs.WriteSinks.{SeenTakes};
+ghost use Rattle.fv_base.specs.WriteSinks.{SeenTakes, is_writing, port_name, port_of, written_count};
 ghost use Rattle.fv_base.specs.inner.WriteSinkLaws.{seen_by};
 
 use crate::byte_list::ByteList;
@@ -52,12 +52,11 @@ fn write_front<W: Write>(port: &mut Port<W>, bytes: &[u8]) -> usize
 /// A borrowed port that is written to until a write fails.
 #[derive(Drop)]
 pub struct WriteSink<'a, W: Write> {
-    /// The port.
-    pub port: &'a mut Port<W>,
+    port: &'a mut Port<W>,
     /// True while no write has failed.
-    pub on: bool,
+    on: bool,
     /// How many bytes were written, modulo 2 ^ 64.
-    pub count: u64,
+    count: u64,
 }
 
 impl<'a, W: Write> Sink for WriteSink<'a, W> {
@@ -81,10 +80,10 @@ impl<'a, W: Write> Sink for WriteSink<'a, W> {
 impl<'a, W: Write> WriteSink<'a, W> {
     /// A sink that has written nothing to the port.
     pub fn new(port: &'a mut Port<W>) -> WriteSink<'a, W>
-        ensures same_port { result.port.ghost_name ≡ port.entry.ghost_name }
-        ensures now { result.port.now ≡ port.old }
-        ensures on { result.on ≡ true }
-        ensures none { result.count ≡ 0 }
+        ensures same_port { port_name result ≡ port.entry.ghost_name }
+        ensures now { port_of result ≡ port.old }
+        ensures on { is_writing result ≡ true }
+        ensures none { written_count result ≡ 0 }
     {
         WriteSink {
             port,
@@ -99,10 +98,10 @@ impl<'a, W: Write> WriteSink<'a, W> {
     ///
     /// WriteFault at the number of bytes written, modulo 2 ^ 64, if a write failed.
     pub fn outcome(&self) -> Result<(), Fault>
-        ensures ok { OnOk result (self.now.on ≡ true) }
-        ensures err { IfErr result (λ f. f ≡ outer_fault FaultKind.WriteFault self.now.count) }
-        ensures off { OnErr result (self.now.on ≡ false) }
-        ensures small { OnErr result (self.now.count < 2 ^ 64) }
+        ensures ok { OnOk result (is_writing self.now ≡ true) }
+        ensures err { IfErr result (λ f. f ≡ outer_fault FaultKind.WriteFault (written_count self.now)) }
+        ensures off { OnErr result (is_writing self.now ≡ false) }
+        ensures small { OnErr result (written_count self.now < 2 ^ 64) }
     {
         if self.on {
             Ok(())
@@ -171,29 +170,13 @@ static ZEROS: [u8; 65536] = [0; 65536];
 /// The bytes 0xFF from which fills are written.
 static ONES: [u8; 65536] = [0xff; 65536];
 
-// Zero bytes, at least one.
-fn zeros() -> &'static [u8]
-    ensures some { 0 < length result.now }
-    ensures same { result.now ≡ replicate (length result.now) 0 }
-{
-    &ZEROS
-}
-
-// Bytes 0xFF, at least one.
-fn ones() -> &'static [u8]
-    ensures some { 0 < length result.now }
-    ensures same { result.now ≡ replicate (length result.now) 255 }
-{
-    &ONES
-}
-
 // Copies of the byte, at least one.
 fn fill_block(byte: u8) -> &'static [u8]
     requires { (byte ≡ 0) ⊎ (byte ≡ 255) }
     ensures some { 0 < length result.now }
     ensures same { result.now ≡ replicate (length result.now) byte }
 {
-    if byte == 0 { zeros() } else { ones() }
+    if byte == 0 { &ZEROS } else { &ONES }
 }
 
 // The first `count` bytes of the chunk.

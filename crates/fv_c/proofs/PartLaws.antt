@@ -1,6 +1,6 @@
 -- The part of a volume that two numbers ask for.
 use Rattle.std.proofs.Common.{◌≡◌, ◌∙◌, ◌⊎◌, ℕ, List, Bool, true, false, Some, None, map, refl, sym, ap, subst, inl, inr}
-use Rattle.std.specs.Prelude.{◌==◌, ◌≢◌, Option, option_map, slice_get}
+use Rattle.std.specs.Prelude.{◌==◌, ◌≢◌, Option, option_map, slice_get, IfSome, IfNone}
 use Rattle.std.proofs.lemmas.Bool.Decides.{Decides-eqb}
 use Rattle.std.proofs.lemmas.Option.{slice_get-map}
 use Rattle.fv_base.specs.Faults.{out_of_memory}
@@ -99,3 +99,14 @@ pub extracts_none : (file section : ℕ) (input : List ℕ) (m : Meaning) (found
     → ShowsPart (part_in file section m) found → found ≡ None → HasNoPart file section input
 extracts_none file section input m found accepted shown is =
     (m, accepted, shown_none (part_in file section m) (subst (λ (o : Option (List ℕ)). ShowsPart (part_in file section m) o) is shown))
+
+-- what was found of it, by the volume that the input is
+pub part_some : (file section : ℕ) (input : List ℕ) (m : Meaning) (found : Option (List ℕ)) → Accepted input m
+    → ShowsPart (part_in file section m) found → IfSome found (ExtractsTo file section input)
+part_some file section input m None accepted shown = tt
+part_some file section input m (Some bytes) accepted shown = extracts_to file section input m (Some bytes) bytes accepted shown refl
+
+pub part_none : (file section : ℕ) (input : List ℕ) (m : Meaning) (found : Option (List ℕ)) → Accepted input m
+    → ShowsPart (part_in file section m) found → IfNone found (HasNoPart file section input)
+part_none file section input m None accepted shown = extracts_none file section input m None accepted shown refl
+part_none file section input m (Some bytes) accepted shown = tt

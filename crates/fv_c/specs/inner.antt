@@ -1,3 +1,3 @@
--- Definitions that serve private clauses alone: there is nothing to believe here.
+-- Definitions that serve only private clauses: there is nothing to believe here.
 pub mod ReturnedCells
 pub mod PlacedSections

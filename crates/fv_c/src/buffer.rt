@@ -1,12 +1,31 @@
 //! The caller's buffer.
 
-ghost use Rattle.std.specs.Prelude.{◌≡◌, ◌≤◌, ◌++◌, length, drop};
+ghost use Rattle.std.specs.Prelude.{◌≡◌, ◌≢◌, ◌<◌, ◌≤◌, ◌⊎◌, ◌++◌, length, drop};
 
-// Writes the bytes at the start of the buffer, and keeps what the buffer holds after them.
-pub(crate) fn put_first(bytes: &[u8], buffer: &mut [u8])
-    requires { length bytes.now ≤ length buffer.old }
-    ensures { buffer.new ≡ bytes.now ++ drop (length bytes.now) buffer.old }
+use crate::reports::BUFFER_TOO_SMALL;
+
+// Writes the elements at the start of the buffer, and keeps what the buffer holds after them.
+pub(crate) fn put_first<T: Copy>(rows: &[T], buffer: &mut [T])
+    requires { length rows.now ≤ length buffer.old }
+    ensures { buffer.new ≡ rows.now ++ drop (length rows.now) buffer.old }
 {
-    let (front, _) = buffer.split_at_mut(bytes.len());
-    front.copy_from_slice(bytes);
+    let (front, _) = buffer.split_at_mut(rows.len());
+    front.copy_from_slice(rows);
+}
+
+// Writes the elements at the start of the buffer and returns 0, or keeps the buffer and returns 27
+// if it has fewer elements. `count` is their number.
+pub(crate) fn put_rows<T: Copy>(rows: &[T], buffer: &mut [T], count: &mut u64) -> u32
+    ensures ok { result ≡ 0 → buffer.new ≡ rows.now ++ drop (length rows.now) buffer.old }
+    ensures kept { result ≢ 0 → buffer.new ≡ buffer.old }
+    ensures small { result ≡ 27 → length buffer.old < length rows.now }
+    ensures only { (result ≡ 0) ⊎ (result ≡ 27) }
+    ensures count { count.new ≡ length rows.now }
+{
+    *count = rows.len() as u64;
+    if buffer.len() < rows.len() {
+        return BUFFER_TOO_SMALL;
+    }
+    put_first(rows, buffer);
+    0
 }

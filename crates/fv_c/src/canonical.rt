@@ -9,7 +9,7 @@ ghost use Rattle.fv_tree.specs.Denotes.{Accepted};
 ghost use Rattle.fv_tree.specs.Meaning.{Meaning};
 ghost use Rattle.fv_c.specs.Reports.{reported_fault, no_fault};
 
-use crate::reports::{FvFault, NO_FAULT, reported_fault};
+use crate::reports::{FvFault, NO_FAULT, refused};
 use fv_canon::is_canonical;
 use std::alloc::Global;
 
@@ -43,9 +43,6 @@ pub extern "C" fn fv_is_canonical(
             *fault = NO_FAULT;
             0
         }
-        Err(f) => {
-            *fault = reported_fault(f);
-            u32::from(f.kind.number())
-        }
+        Err(f) => refused(f, fault),
     }
 }

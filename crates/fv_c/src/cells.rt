@@ -11,7 +11,8 @@ ghost use Rattle.fv_c.specs.ReportedCells.{reported_cell, HasCells, NoCells};
 ghost use Rattle.fv_c.specs.inner.ReturnedCells.{reported_of};
 ghost use Rattle.fv_c.specs.Reports.{reported_fault, no_fault};
 
-use crate::reports::{BUFFER_TOO_SMALL, FvFault, NO_FAULT, reported_fault};
+use crate::buffer::put_rows;
+use crate::reports::{FvFault, NO_FAULT, refused};
 use fv_base::Fault;
 use fv_file::{Cell, Cells, FileHead, cells};
 use fv_head::verify_fv;
@@ -138,6 +139,15 @@ fn reported_list(alloc: Global, list: &Cells<'_>) -> Result<Vec<FvCell>, AllocEr
     reported_cells(alloc, list.as_slice())
 }
 
+// The cells of the volume with which the bytes begin, for C.
+fn cell_rows(alloc: Global, bytes: &[u8]) -> Result<Vec<FvCell>, Fault>
+    ensures ok { IfOk result (λ v. (cs : List CellForm) × HasCells bytes.now cs × (v.items ≡ map reported_cell cs)) }
+    ensures err { IfErr result (λ f. f ≢ out_of_memory → NoCells bytes.now f) }
+{
+    let list = first_cells(alloc, bytes)?;
+    Ok(reported_list(alloc, &list)?)
+}
+
 /// Writes the cells of the volume with which the bytes begin, in order, at the start of the buffer.
 /// `count` is their number. Returns 0. Sections, duplicate names and the volume top file are not
 /// checked. (PI specification, volume 3, sections 3.2.2 and 3.2.3.)
@@ -145,8 +155,8 @@ fn reported_list(alloc: Global, list: &Cells<'_>) -> Result<Vec<FvCell>, AllocEr
 /// # Errors
 ///
 /// 27 if the buffer has fewer elements than `count`. The number of the first fault, which is in
-/// `fault`: those of `verify_fv`, then those of `cells`; 24 if memory runs out. `count` is unchanged
-/// then. The buffer is unchanged in both cases.
+/// `fault`: those of `verify_fv`, then those of `cells`; 24 if memory runs out. `count` is
+/// unchanged then. The buffer is unchanged in both cases.
 #[unsafe(no_mangle)]
 pub extern "C" fn fv_cells(
     alloc: Global,
@@ -166,23 +176,11 @@ pub extern "C" fn fv_cells(
     ensures err { result ≢ 0 → result ≢ 27 → (f : Fault) × (f ≢ out_of_memory → NoCells bytes.now f)
         × (result ≡ fault_number f.kind) × (fault.new ≡ reported_fault f) × (count.new ≡ count.old) }
 {
-    let list = match first_cells(alloc, bytes) {
-        Ok(list) => list,
-        Err(f) => {
-            *fault = reported_fault(f);
-            return u32::from(f.kind.number());
+    match cell_rows(alloc, bytes) {
+        Ok(rows) => {
+            *fault = NO_FAULT;
+            put_rows(rows.as_slice(), buffer, count)
         }
-    };
-    let Ok(reported) = reported_list(alloc, &list) else {
-        *fault = reported_fault(Fault::outer(fv_base::FaultKind::OutOfMemory, 0));
-        return 24;
-    };
-    *count = reported.len() as u64;
-    *fault = NO_FAULT;
-    if buffer.len() < reported.len() {
-        return BUFFER_TOO_SMALL;
+        Err(f) => refused(f, fault),
     }
-    let (front, _) = buffer.split_at_mut(reported.len());
-    front.copy_from_slice(reported.as_slice());
-    0
 }

@@ -1,6 +1,6 @@
 //! The truth value of a dependency expression.
 
-ghost use Rattle.std.specs.Prelude.{◌≡◌, ◌≢◌, ℕ, List, Some, map, IfOk};
+ghost use Rattle.std.specs.Prelude.{◌≡◌, ◌≢◌, ℕ, List, Some, None, map, IfOk, IfErr};
 ghost use Rattle.fv_base.specs.declared.guid.Guid.{Guid};
 ghost use Rattle.fv_depex.specs.Expressions.{Expression, IsOrder, IsTree, Spells, truth};
 ghost use Rattle.fv_depex.specs.OpChecks.{depex_fault_number, depex_out_of_memory};
@@ -65,6 +65,23 @@ fn reported_depex_fault(f: DepexFault) -> FvFault
     }
 }
 
+// The truth value of a dependency expression when these GUIDs are installed; None if it has none.
+fn evaluated(
+    alloc: Global,
+    bytes: &[u8],
+    phase: Phase,
+    installed: &[FvGuid],
+) -> Result<Option<bool>, DepexFault>
+    ensures ok { IfOk result (λ found. (ops : List Op) × (rest : List ℕ) × Spells phase ops rest bytes.now
+        × ((t : Expression) → IsTree phase ops t → found ≡ Some (truth (map passed_guid installed.now) t))
+        × (IsOrder phase ops → found ≡ None)) }
+    ensures err { IfErr result (λ f. f ≢ depex_out_of_memory → NoExpression phase bytes.now f) }
+{
+    let depex = read_depex(alloc, bytes, phase)?;
+    let guids = guids_of(alloc, installed)?;
+    evaluate(alloc, &depex, guids.as_slice())
+}
+
 /// Evaluates a dependency expression of a phase: 0 is PEI, any other number DXE and MM. `value` is
 /// its truth value when these GUIDs are installed, 1 or 0, or 2 for BEFORE and AFTER, which have
 /// none. Bytes after the END op are not looked at. Returns 0. (PI specification, volume 2, section
@@ -95,22 +112,7 @@ pub extern "C" fn fv_depex(
         × (f ≢ depex_out_of_memory → NoExpression (phase_of phase) bytes.now f)
         × (result ≡ depex_fault_number f.kind) × (fault.new ≡ reported_depex_fault f) }
 {
-    let depex = match read_depex(alloc, bytes, phase_of(phase)) {
-        Ok(depex) => depex,
-        Err(f) => {
-            *fault = reported_depex_fault(f);
-            return u32::from(f.number());
-        }
-    };
-    let Ok(guids) = guids_of(alloc, installed) else {
-        *fault = FvFault {
-            offset: 0,
-            number: 6,
-            depth: 0,
-        };
-        return 6;
-    };
-    match evaluate(alloc, &depex, guids.as_slice()) {
+    match evaluated(alloc, bytes, phase_of(phase), installed) {
         Ok(found) => {
             *value = reported_truth(found);
             *fault = NO_FAULT;

@@ -8,7 +8,7 @@ ghost use Rattle.fv_canon.specs.Headline.{NormalisesTo};
 ghost use Rattle.fv_canon.specs.Refusals.{Refuses};
 ghost use Rattle.fv_c.specs.Reports.{reported_fault, no_fault};
 
-use crate::reports::{FvFault, NO_FAULT, reported_fault};
+use crate::reports::{FvFault, NO_FAULT, refused};
 use fv_base::Fault;
 use fv_canon::normalise;
 use sha2::{Digest, Sha256};
@@ -66,9 +66,6 @@ pub extern "C" fn fv_digest(
             *fault = NO_FAULT;
             0
         }
-        Err(f) => {
-            *fault = reported_fault(f);
-            u32::from(f.kind.number())
-        }
+        Err(f) => refused(f, fault),
     }
 }

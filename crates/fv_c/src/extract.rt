@@ -1,17 +1,35 @@
 //! The bytes of a part of a volume.
 
 ghost use Rattle.std.specs.Prelude.{◌≡◌, ◌≢◌, ◌⊎◌, ◌<◌, ◌++◌, ℕ, List, length, drop};
+ghost use Rattle.std.specs.Prelude.{IfOk, IfErr, IfSome, IfNone};
 ghost use Rattle.fv_base.specs.Faults.{fault_number, out_of_memory};
 ghost use Rattle.fv_base.specs.declared.fault.Fault.{Fault};
 ghost use Rattle.fv_canon.specs.Refusals.{NotRead};
 ghost use Rattle.fv_c.specs.ExtractedParts.{ExtractsTo, HasNoPart, HasUnfitPart};
 ghost use Rattle.fv_c.specs.Reports.{reported_fault, no_fault};
 
-use crate::buffer::put_first;
+use crate::buffer::put_rows;
 use crate::parts::part_bytes;
-use crate::reports::{BUFFER_TOO_SMALL, FvFault, NO_FAULT, NOT_FOUND, reported_fault};
+use crate::reports::{FvFault, NO_FAULT, NOT_FOUND, refused};
+use fv_base::{ByteList, Fault};
 use fv_canon::whole_volume;
 use std::alloc::Global;
+
+// A part of the volume that the input is; None if it has no such part.
+fn extracted(
+    alloc: Global,
+    input: &[u8],
+    file: u64,
+    section: u64,
+) -> Result<Option<ByteList>, Fault>
+    ensures some { IfOk result (λ o. IfSome o (λ bytes. ExtractsTo file section input.now bytes)) }
+    ensures none { IfOk result (λ o. IfNone o (HasNoPart file section input.now)) }
+    ensures err { IfErr result
+        (λ f. (f ≡ out_of_memory) ⊎ (NotRead input.now f ⊎ HasUnfitPart file section input.now f)) }
+{
+    let volume = whole_volume(alloc, input)?;
+    part_bytes(alloc, &volume, file, section)
+}
 
 /// Writes a part of the volume that the input is at the start of the buffer, as the canonical image
 /// of the volume has it: the body of section number `section` of file number `file`, or the data of
@@ -50,28 +68,13 @@ pub extern "C" fn fv_extract(
         × ((f ≡ out_of_memory) ⊎ (NotRead input.now f ⊎ HasUnfitPart file section input.now f))
         × (result ≡ fault_number f.kind) × (fault.new ≡ reported_fault f) × (len.new ≡ len.old) }
 {
-    let volume = match whole_volume(alloc, input) {
-        Ok(volume) => volume,
-        Err(f) => {
-            *fault = reported_fault(f);
-            return u32::from(f.kind.number());
-        }
-    };
-    let found = match part_bytes(alloc, &volume, file, section) {
+    let found = match extracted(alloc, input, file, section) {
         Ok(found) => found,
-        Err(f) => {
-            *fault = reported_fault(f);
-            return u32::from(f.kind.number());
-        }
+        Err(f) => return refused(f, fault),
     };
     *fault = NO_FAULT;
-    let Some(bytes) = found else {
-        return NOT_FOUND;
-    };
-    *len = bytes.as_slice().len() as u64;
-    if buffer.len() < bytes.as_slice().len() {
-        return BUFFER_TOO_SMALL;
+    match found {
+        Some(bytes) => put_rows(bytes.as_slice(), buffer, len),
+        None => NOT_FOUND,
     }
-    put_first(bytes.as_slice(), buffer);
-    0
 }

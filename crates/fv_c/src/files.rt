@@ -12,8 +12,9 @@ ghost use Rattle.fv_c.specs.ReportedFiles.{HasFileRows, reported_file, reported_
 ghost use Rattle.fv_c.specs.Reports.{reported_fault, no_fault};
 ghost use Rattle.fv_c.specs.declared.files.FvFile.{FvFile};
 
+use crate::buffer::put_rows;
 use crate::parts::sections_of;
-use crate::reports::{BUFFER_TOO_SMALL, FvFault, NO_FAULT, reported_fault};
+use crate::reports::{FvFault, NO_FAULT, refused};
 use fv_base::Fault;
 use fv_canon::whole_volume;
 use fv_tree::{FileView, LocatedFile, VolumeView, located_files};
@@ -86,15 +87,24 @@ fn file_rows(alloc: Global, input: &[u8], volume: &VolumeView<'_>) -> Result<Vec
     Ok(reported_files(alloc, stored.as_slice(), volume.files())?)
 }
 
+// The files of the volume that the input is, for C, or the fault of the input.
+fn rows_in(alloc: Global, input: &[u8]) -> Result<Vec<FvFile>, Fault>
+    ensures ok { IfOk result (λ v. HasFileRows input.now v.items) }
+    ensures err { IfErr result (λ f. (f ≡ out_of_memory) ⊎ NotRead input.now f) }
+{
+    let volume = whole_volume(alloc, input)?;
+    file_rows(alloc, input, &volume)
+}
+
 /// Writes the files of the volume that the input is, in order, at the start of the buffer. `count`
-/// is their number. Returns 0. A file that is marked for update and whose update is in the volume is
-/// none of them. (PI specification, volume 3, section 3.2.3.)
+/// is their number. Returns 0. A file that is marked for update and whose update is in the volume
+/// is none of them. (PI specification, volume 3, section 3.2.3.)
 ///
 /// # Errors
 ///
 /// 27 if the buffer has fewer elements than `count`. The number of the first fault, which is in
-/// `fault`: those of `whole_volume`; 24 if memory runs out. `count` is unchanged then. The buffer is
-/// unchanged in both cases.
+/// `fault`: those of `whole_volume`; 24 if memory runs out. `count` is unchanged then. The buffer
+/// is unchanged in both cases.
 #[unsafe(no_mangle)]
 pub extern "C" fn fv_files(
     alloc: Global,
@@ -114,26 +124,11 @@ pub extern "C" fn fv_files(
     ensures err { result ≢ 0 → result ≢ 27 → (f : Fault) × ((f ≡ out_of_memory) ⊎ NotRead input.now f)
         × (result ≡ fault_number f.kind) × (fault.new ≡ reported_fault f) × (count.new ≡ count.old) }
 {
-    let volume = match whole_volume(alloc, input) {
-        Ok(volume) => volume,
-        Err(f) => {
-            *fault = reported_fault(f);
-            return u32::from(f.kind.number());
+    match rows_in(alloc, input) {
+        Ok(rows) => {
+            *fault = NO_FAULT;
+            put_rows(rows.as_slice(), buffer, count)
         }
-    };
-    let rows = match file_rows(alloc, input, &volume) {
-        Ok(rows) => rows,
-        Err(f) => {
-            *fault = reported_fault(f);
-            return u32::from(f.kind.number());
-        }
-    };
-    *count = rows.len() as u64;
-    *fault = NO_FAULT;
-    if buffer.len() < rows.len() {
-        return BUFFER_TOO_SMALL;
+        Err(f) => refused(f, fault),
     }
-    let (front, _) = buffer.split_at_mut(rows.len());
-    front.copy_from_slice(rows.as_slice());
-    0
 }

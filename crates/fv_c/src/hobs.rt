@@ -1,6 +1,6 @@
 //! The blocks of a hand-off list.
 
-ghost use Rattle.std.specs.Prelude.{◌≡◌, ◌≢◌, ◌<◌, ◌≤◌, ◌++◌, List, length, take, drop, map, IfOk};
+ghost use Rattle.std.specs.Prelude.{◌≡◌, ◌≢◌, ◌<◌, ◌≤◌, ◌++◌, List, length, take, drop, map, IfOk, IfErr};
 ghost use Rattle.fv_hob.specs.HobChecks.{hob_fault_number, hob_out_of_memory};
 ghost use Rattle.fv_hob.specs.Hobs.{HobForm};
 ghost use Rattle.fv_hob.specs.Lists.{IsHobList};
@@ -8,7 +8,8 @@ ghost use Rattle.fv_hob.specs.declared.fault.HobFault.{HobFault};
 ghost use Rattle.fv_c.specs.ReportedHobs.{NoHobs, reported_hob, reported_hob_fault};
 ghost use Rattle.fv_c.specs.Reports.{no_fault};
 
-use crate::reports::{BUFFER_TOO_SMALL, FvFault, NO_FAULT};
+use crate::buffer::put_rows;
+use crate::reports::{FvFault, NO_FAULT};
 use fv_hob::{Hob, HobFault, read_hobs};
 use std::alloc::{AllocError, Global};
 
@@ -68,6 +69,17 @@ fn reported_hobs(alloc: Global, list: &[Hob]) -> Result<Vec<FvHob>, AllocError>
     Ok(reported)
 }
 
+// The blocks of the hand-off list with which the bytes begin, for C, and the number of its bytes.
+fn hob_rows(alloc: Global, bytes: &[u8]) -> Result<(Vec<FvHob>, u64), HobFault>
+    ensures ok { IfOk result (λ r. (all : List HobForm) × (r.1 ≤ length bytes.now)
+        × IsHobList all (take r.1 bytes.now) × (r.0.items ≡ map reported_hob all)) }
+    ensures err { IfErr result (λ f. f ≢ hob_out_of_memory → NoHobs bytes.now f) }
+{
+    let (list, len) = read_hobs(alloc, bytes)?;
+    let rows = reported_hobs(alloc, list.as_slice())?;
+    Ok((rows, len))
+}
+
 /// Writes the blocks of the hand-off list with which the bytes begin, in order, at the start of the
 /// buffer. `count` is their number, and `consumed` the number of bytes of the list. Returns 0. (PI
 /// specification, volume 3, section 5.)
@@ -100,28 +112,15 @@ pub extern "C" fn fv_hobs(
         × (result ≡ hob_fault_number f.kind) × (fault.new ≡ reported_hob_fault f) × (count.new ≡ count.old)
         × (consumed.new ≡ consumed.old) }
 {
-    let (list, n) = match read_hobs(alloc, bytes) {
-        Ok(pair) => pair,
+    match hob_rows(alloc, bytes) {
+        Ok((rows, len)) => {
+            *consumed = len;
+            *fault = NO_FAULT;
+            put_rows(rows.as_slice(), buffer, count)
+        }
         Err(f) => {
             *fault = reported_hob_fault(f);
-            return u32::from(f.number());
+            u32::from(f.number())
         }
-    };
-    let Ok(reported) = reported_hobs(alloc, list.as_slice()) else {
-        *fault = FvFault {
-            offset: 0,
-            number: 6,
-            depth: 0,
-        };
-        return 6;
-    };
-    *count = reported.len() as u64;
-    *consumed = n;
-    *fault = NO_FAULT;
-    if buffer.len() < reported.len() {
-        return BUFFER_TOO_SMALL;
     }
-    let (front, _) = buffer.split_at_mut(reported.len());
-    front.copy_from_slice(reported.as_slice());
-    0
 }

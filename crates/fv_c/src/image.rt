@@ -7,7 +7,7 @@ ghost use Rattle.fv_canon.specs.FlashImages.{NormalisesAll, RefusesAll};
 ghost use Rattle.fv_c.specs.Reports.{reported_fault, no_fault};
 
 use crate::buffer::put_first;
-use crate::reports::{BUFFER_TOO_SMALL, FvFault, NO_FAULT, reported_fault};
+use crate::reports::{BUFFER_TOO_SMALL, FvFault, NO_FAULT, refused};
 use fv_canon::normalise_image;
 use std::alloc::Global;
 
@@ -49,9 +49,6 @@ pub extern "C" fn fv_normalise_image(
             put_first(bytes.as_slice(), buffer);
             0
         }
-        Err(f) => {
-            *fault = reported_fault(f);
-            u32::from(f.kind.number())
-        }
+        Err(f) => refused(f, fault),
     }
 }

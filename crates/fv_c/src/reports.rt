@@ -1,10 +1,10 @@
 //! What is reported to C.
 
-ghost use Rattle.std.specs.Prelude.{◌≡◌, ◌↔◌, ◌≤◌, true};
-ghost use Rattle.fv_base.specs.Faults.{out_of_memory};
+ghost use Rattle.std.specs.Prelude.{◌≡◌, ◌↔◌, ◌<◌, ◌≤◌, true};
+ghost use Rattle.fv_base.specs.Faults.{fault_number};
 ghost use Rattle.fv_c.specs.Reports.{reported_extent, reported_fault, no_fault};
 
-use fv_base::{Fault, FaultKind, FileSystem};
+use fv_base::{Fault, FileSystem};
 use fv_head::Extent;
 
 /// What a call returns if the caller's buffer is too small. It is the number of no fault.
@@ -84,9 +84,13 @@ pub(crate) fn reported_fault(f: Fault) -> FvFault
     }
 }
 
-// Out of memory, for C.
-pub(crate) fn out_of_memory() -> FvFault
-    ensures { result ≡ reported_fault out_of_memory }
+// Reports a fault to C, and returns its number.
+pub(crate) fn refused(f: Fault, fault: &mut FvFault) -> u32
+    ensures number { result ≡ fault_number f.kind }
+    ensures fault { fault.new ≡ reported_fault f }
+    ensures some { 0 < result }
+    ensures most { result < 27 }
 {
-    reported_fault(Fault::outer(FaultKind::OutOfMemory, 0))
+    *fault = reported_fault(f);
+    u32::from(f.kind.number())
 }

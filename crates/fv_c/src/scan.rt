@@ -3,7 +3,7 @@
 ghost use Rattle.std.specs.Prelude.{◌≡◌, ◌≢◌, ◌<◌, ◌++◌, ℕ, List, length, drop};
 ghost use Rattle.fv_tree.specs.FoundVolumes.{Found};
 
-use crate::reports::BUFFER_TOO_SMALL;
+use crate::buffer::put_rows;
 use fv_tree::scan;
 use std::alloc::Global;
 
@@ -29,12 +29,5 @@ pub extern "C" fn fv_scan(alloc: Global, bytes: &[u8], buffer: &mut [u64], count
     let Ok(offsets) = scan(alloc, bytes) else {
         return 24;
     };
-    let places = offsets.as_slice();
-    *count = places.len() as u64;
-    if buffer.len() < places.len() {
-        return BUFFER_TOO_SMALL;
-    }
-    let (front, _) = buffer.split_at_mut(places.len());
-    front.copy_from_slice(places);
-    0
+    put_rows(offsets.as_slice(), buffer, count)
 }

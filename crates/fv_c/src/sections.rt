@@ -1,6 +1,7 @@
 //! The sections of a file of a volume.
 
-ghost use Rattle.std.specs.Prelude.{◌≡◌, ◌≢◌, ◌⊎◌, ◌<◌, ◌++◌, length, drop, map, slice_get, Some, None, IfOk};
+ghost use Rattle.std.specs.Prelude.{◌≡◌, ◌≢◌, ◌⊎◌, ◌<◌, ◌++◌, length, drop, map, slice_get, Some, None};
+ghost use Rattle.std.specs.Prelude.{IfOk, IfErr, IfSome, IfNone};
 ghost use Rattle.fv_base.specs.Faults.{fault_number, out_of_memory};
 ghost use Rattle.fv_base.specs.declared.fault.Fault.{Fault};
 ghost use Rattle.fv_canon.specs.Refusals.{NotRead};
@@ -10,11 +11,12 @@ ghost use Rattle.fv_c.specs.ReportedSections.{reported_section, section_rows};
 ghost use Rattle.fv_c.specs.Reports.{reported_fault, no_fault};
 ghost use Rattle.fv_c.specs.inner.PlacedSections.{reported_row};
 
+use crate::buffer::put_rows;
 use crate::parts::{PlacedSection, held_number, sections_of};
-use crate::reports::{
-    BUFFER_TOO_SMALL, FvFault, NO_FAULT, NOT_FOUND, out_of_memory, reported_fault,
-};
+use crate::reports::{FvFault, NO_FAULT, NOT_FOUND, refused};
+use fv_base::Fault;
 use fv_canon::whole_volume;
+use fv_section::section_header_len;
 use fv_tree::FileView;
 use std::alloc::{AllocError, Global};
 
@@ -48,7 +50,7 @@ fn reported_section(row: &PlacedSection<'_, '_>) -> FvSection
         parent: row.parent,
         depth: row.depth,
         kind: u32::from(section.kind()),
-        header_len: if section.extended() { 8 } else { 4 },
+        header_len: section_header_len(section.extended()) as u32,
         holds: held_number(section),
         reserved: 0,
     }
@@ -74,6 +76,23 @@ fn reported_sections(alloc: Global, file: &FileView<'_>) -> Result<Vec<FvSection
 {
     let rows = sections_of(alloc, file)?;
     reported_rows(alloc, rows.as_slice())
+}
+
+// The sections of a file of the volume that the input is, for C; None if it has no file of this
+// number.
+fn section_rows(alloc: Global, input: &[u8], number: u64) -> Result<Option<Vec<FvSection>>, Fault>
+    ensures some { IfOk result (λ o. IfSome o (λ v. (m : Meaning) × (f : FileMeaning) × Accepted input.now m
+        × (slice_get (files_of m) number ≡ Some f)
+        × (v.items ≡ map reported_section (section_rows (content_of f))))) }
+    ensures none { IfOk result (λ o. IfNone o ((m : Meaning) × Accepted input.now m
+        × (slice_get (files_of m) number ≡ None))) }
+    ensures err { IfErr result (λ f. (f ≡ out_of_memory) ⊎ NotRead input.now f) }
+{
+    let volume = whole_volume(alloc, input)?;
+    let Some(file) = volume.files().get(number as usize) else {
+        return Ok(None);
+    };
+    Ok(Some(reported_sections(alloc, file)?))
 }
 
 /// Writes the sections of file number `number` of the volume that the input is, in preorder, at the
@@ -115,26 +134,13 @@ pub extern "C" fn fv_sections(
         × ((f ≡ out_of_memory) ⊎ NotRead input.now f)
         × (result ≡ fault_number f.kind) × (fault.new ≡ reported_fault f) × (count.new ≡ count.old) }
 {
-    let volume = match whole_volume(alloc, input) {
-        Ok(volume) => volume,
-        Err(f) => {
-            *fault = reported_fault(f);
-            return u32::from(f.kind.number());
-        }
+    let found = match section_rows(alloc, input, number) {
+        Ok(found) => found,
+        Err(f) => return refused(f, fault),
     };
     *fault = NO_FAULT;
-    let Some(file) = volume.files().get(number as usize) else {
-        return NOT_FOUND;
-    };
-    let Ok(reported) = reported_sections(alloc, file) else {
-        *fault = out_of_memory();
-        return 24;
-    };
-    *count = reported.len() as u64;
-    if buffer.len() < reported.len() {
-        return BUFFER_TOO_SMALL;
+    match found {
+        Some(rows) => put_rows(rows.as_slice(), buffer, count),
+        None => NOT_FOUND,
     }
-    let (front, _) = buffer.split_at_mut(reported.len());
-    front.copy_from_slice(reported.as_slice());
-    0
 }

@@ -9,7 +9,7 @@ ghost use Rattle.fv_head.specs.HeadChecks.{head_checks};
 ghost use Rattle.fv_head.specs.declared.extent.Extent.{Extent};
 ghost use Rattle.fv_c.specs.Reports.{reported_extent, reported_fault, no_fault};
 
-use crate::reports::{FvExtent, FvFault, NO_FAULT, reported_extent, reported_fault};
+use crate::reports::{FvExtent, FvFault, NO_FAULT, refused, reported_extent};
 use fv_head::verify_fv;
 
 /// Whether the bytes begin with a volume. Only its header is read. If they do, returns 0, and
@@ -40,9 +40,6 @@ pub extern "C" fn fv_verify(bytes: &[u8], extent: &mut FvExtent, fault: &mut FvF
             *fault = NO_FAULT;
             0
         }
-        Err(f) => {
-            *fault = reported_fault(f);
-            u32::from(f.kind.number())
-        }
+        Err(f) => refused(f, fault),
     }
 }

@@ -23,7 +23,8 @@ pub struct Archived {
     pub files: u32,
 }
 
-/// What the archive keeps of the volume that the input is. (PI specification, volume 3, section 3.2.)
+/// What the archive keeps of the volume that the input is. (PI specification, volume 3, section
+/// 3.2.)
 ///
 /// # Errors
 ///

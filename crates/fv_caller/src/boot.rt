@@ -9,13 +9,14 @@ use fv_depex::{Phase, read_depex};
 use fv_hob::read_hobs;
 use std::alloc::Global;
 
-/// Ok if a boot can read its three inputs: a volume and nothing after it, the body of a dependency section of DXE, and a
-/// hand-off list, after which anything may follow. (PI specification, volume 2, section 10.7, and volume 3, sections 3.2
-/// and 5.)
+/// Ok if a boot can read its three inputs: a volume and nothing after it, the body of a dependency
+/// section of DXE, and a hand-off list, after which anything may follow. (PI specification, volume
+/// 2, section 10.7, and volume 3, sections 3.2 and 5.)
 ///
 /// # Errors
 ///
-/// The fault of the first of the three that is rejected, or that of the first for which memory runs out.
+/// The fault of the first of the three that is rejected, or that of the first for which memory runs
+/// out.
 pub fn check_boot(
     alloc: Global,
     volume: &[u8],

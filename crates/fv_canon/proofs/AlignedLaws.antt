@@ -1,4 +1,6 @@
--- The data of each file of an image stand on their alignment, and its pads have only erased data.
+-- In an image the data of each file are aligned, and the pads have only erased data.
+-- 1. The bytes of an image have one front and one tiling by cells, so the cells that are read are those that were written.
+-- 2. What was written has its data aligned and its pads erased.
 use Rattle.std.proofs.Common.{◌≡◌, ℕ, List, drop, subst, sym}
 use Rattle.std.specs.List.{AllByRecursion}
 use Rattle.fv_base.specs.declared.flash.Polarity.{Polarity}
@@ -17,7 +19,8 @@ use Rattle.fv_canon.proofs.StoredTilingLaws.{PadErased}
 use Rattle.fv_canon.proofs.StreamLaws.{stream_again}
 use Rattle.fv_canon.proofs.VolumeLaws.{known, image_front, image_tiled, sections_again}
 
--- the cells that are read are those that were written: each file has a lawful start, and each pad only erased data
+-- ---- 1. one tiling
+
 cells_are : (m : Meaning) (image : List ℕ) (e : Extent) (cells : List CellForm) → IsMeaning m → IsImage m image
     → BeginsVolume (head_of m) e image → Tiles e.file_system e.polarity e.first cells (drop e.first image)
     → DataAligned cells × AllByRecursion (PadErased e.polarity) cells
@@ -38,10 +41,12 @@ cells_are (Volume h files) image e cells (n, most, b, small, d) (stored, starts,
           (subst (AllByRecursion (PadErased p)) same tiled.erased),
     )
 
+-- ---- 2. what was written
+
 pub data_are_aligned : DataAreAligned
 data_are_aligned m image e cells is own front tiles = (cells_are m image e cells is own front tiles).0
 
--- the pads of an image that stand from its first file's place on have only erased data
+-- the pads from the first file's place on
 pub pads_erased : (m : Meaning) (image : List ℕ) (e : Extent) (cells : List CellForm) → IsMeaning m → IsImage m image
     → BeginsVolume (head_of m) e image → Tiles e.file_system e.polarity e.first cells (drop e.first image)
     → AllByRecursion (PadErased e.polarity) cells

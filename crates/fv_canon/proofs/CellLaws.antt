@@ -6,6 +6,7 @@ use Rattle.std.proofs.lemmas.Bool.{eq-eqb}
 use Rattle.std.proofs.lemmas.List.{length-replicate}
 use Rattle.fv_base.specs.Flash.{erased_byte}
 use Rattle.fv_base.specs.Guids.{bytes_of}
+use Rattle.fv_base.specs.Limits.{data_limit}
 use Rattle.fv_base.specs.Value.{IsBytes}
 use Rattle.fv_base.specs.declared.flash.FileSystem.{FileSystem}
 use Rattle.fv_base.specs.declared.flash.FileSystem.TheVariants.{Ffs3}
@@ -34,7 +35,7 @@ pub record Storable (system : FileSystem) (f : StoredFile) : Type 0 where
   pub short : is_large f.attributes ≡ false
   pub moves : is_fixed f.attributes ≡ false
   pub large : needs_large (length f.payload) ≡ true → system ≡ Ffs3
-  pub most : length f.payload ≤ 268435424
+  pub most : length f.payload ≤ data_limit
   pub payload : IsBytes f.payload
 
 abbrev pub stored_header : Polarity → StoredFile → List ℕ

@@ -1,4 +1,7 @@
 -- Where two volumes first differ is few steps down.
+-- 1. What the tests of a difference are made of keeps a bound on its steps; a step into a file or a section adds one.
+-- 2. A level of nesting has two steps at most, into a file and into a section: n levels down there are 2 * n + 2.
+-- 3. A meaning nests few levels deep.
 use Rattle.std.proofs.Common.{◌≤◌, ◌+◌, ◌*◌, ℕ, length, arith, Bool, true, false}
 use Rattle.std.specs.Prelude.{◌==◌, Some, None, IfSome}
 use Rattle.std.specs.Bool.{beq}
@@ -19,6 +22,8 @@ use Rattle.fv_tree.specs.declared.difference.Word.TheVariants as words
 use Rattle.fv_canon.specs.inner.Depths.{NestsVolume, NestsFiles, NestsContent, NestsSections, NestsBody}
 use Rattle.fv_canon.proofs.DepthLaws.{nests_files, nests_content, nests_sections, nests_body, nests_group, nests_nested}
 
+-- ---- 1. bounds on the steps
+
 -- they differ no more than so many steps down, if at all
 abbrev Within : Differs → ℕ → Type 0
 Within None n = Unit {0}
@@ -32,13 +37,14 @@ within_or : (d e : Differs) (n : ℕ) → Within d n → Within e n → Within (
 within_or None e n p q = q
 within_or (Some d) e n p q = p
 
-within_under : (s : Step) (d : Differs) (n : ℕ) → Within d n → Within (under s d) (n + 1)
-within_under s None n p = tt
-within_under s (Some d) n p = omega (arith, p)
-
 within_more : (d : Differs) (n k : ℕ) → n ≤ k → Within d n → Within d k
 within_more None n k less p = tt
 within_more (Some d) n k less p = omega (arith, less, p)
+
+-- one item after another, a step down to each
+within_item : (s : Step) (d e : Differs) (n k : ℕ) → n + 1 ≤ k → Within d n → Within e k → Within (or_else (under s d) e) k
+within_item s None e n k less p q = q
+within_item s (Some d) e n k less p q = omega (arith, p, less)
 
 head_few : (h g : HeadFields) (n : ℕ) → Within (head_differs h g) n
 head_few h g n =
@@ -49,6 +55,8 @@ head_few h g n =
     (within_or _ _ n (within_unless (h.reserved == g.reserved) words.Reserved n)
     (within_or _ _ n (within_unless (blocks_eq h.blocks g.blocks) words.BlockMap n)
     (within_unless (ext_eq h.ext g.ext) words.ExtendedHeader n))))))
+
+-- ---- 2. two steps a level
 
 mutual
   volume_few : (v w : Meaning) (n : ℕ) → NestsVolume v n → Within (difference v w) (2 * n + 2)
@@ -61,10 +69,8 @@ mutual
   files_few i NoFiles (MoreFiles g gs) n deep = omega arith
   files_few i (MoreFiles f fs) NoFiles n deep = omega arith
   files_few i (MoreFiles f fs) (MoreFiles g gs) n ((form, here), behind) =
-      within_or (under (steps.File i) (file_differs f g)) (files_differ (i + 1) fs gs) (2 * n + 2)
-      (within_more (under (steps.File i) (file_differs f g)) (2 * n + 1 + 1) (2 * n + 2) (omega arith)
-      (within_under (steps.File i) (file_differs f g) (2 * n + 1) (file_few f g n (nests_content f n form here))))
-      (files_few (i + 1) fs gs n behind)
+      within_item (steps.File i) (file_differs f g) (files_differ (i + 1) fs gs) (2 * n + 1) (2 * n + 2) (omega arith)
+      (file_few f g n (nests_content f n form here)) (files_few (i + 1) fs gs n behind)
 
   file_few : (f g : FileMeaning) (n : ℕ) → NestsContent (content_of f) n → Within (file_differs f g) (2 * n + 1)
   file_few (File x k a c) (File y l b d) n deep =
@@ -85,9 +91,8 @@ mutual
   sections_few i NoSections (MoreSections r rs) n deep = omega arith
   sections_few i (MoreSections s ss) NoSections n deep = omega arith
   sections_few i (MoreSections s ss) (MoreSections r rs) n ((frame, here), behind) =
-      within_or (under (steps.Section i) (section_differs s r)) (sections_differ (i + 1) ss rs) (2 * n + 1)
-      (within_under (steps.Section i) (section_differs s r) (2 * n) (section_few s r n (nests_body s n frame here)))
-      (sections_few (i + 1) ss rs n behind)
+      within_item (steps.Section i) (section_differs s r) (sections_differ (i + 1) ss rs) (2 * n) (2 * n + 1) (omega arith)
+      (section_few s r n (nests_body s n frame here)) (sections_few (i + 1) ss rs n behind)
 
   section_few : (s r : SectionMeaning) (n : ℕ) → NestsBody (body_of s) n → Within (section_differs s r) (2 * n)
   section_few (Section k e b) (Section l f c) n deep =
@@ -109,7 +114,8 @@ mutual
   body_few (Nested v) (Nested w) n deep = let (k, is, inside) = nests_nested v n deep in
       within_more (difference v w) (2 * k + 2) (2 * n) (omega (arith, is)) (volume_few v w k inside)
 
--- so the steps down to where two volumes first differ are few
+-- ---- 3. few levels
+
 pub few_steps : (v w : Meaning) → IsMeaning v → IfSome (difference v w) (λ d. length d.0 ≤ 18)
 few_steps v w (n, deep, b, bytes, d) =
     go (difference v w) (within_more (difference v w) (2 * n + 2) 18 (omega (arith, deep)) (volume_few v w n (b, d)))

@@ -4,6 +4,7 @@ use Rattle.std.proofs.Common.{get_or, refl, sym, ap, ◌∙◌, subst, arith, ap
 use Rattle.std.specs.Prelude.{map}
 use Rattle.std.proofs.lemmas.List.{drop_all, drop_more, length-map}
 use Rattle.fv_base.specs.Flash.{erased_byte}
+use Rattle.fv_base.specs.Limits.{data_limit}
 use Rattle.fv_base.specs.Value.{up_to_8}
 use Rattle.fv_base.specs.declared.flash.Polarity.{Polarity}
 use Rattle.fv_file.specs.NewHeaders.{file_head_of, needs_large}
@@ -65,7 +66,7 @@ pub record Here (total e : ℕ) (f : FileMeaning) (s : ℕ) : Type 0 where
   pub low : e ≤ s
   pub apart : (s - e ≡ 0) ⊎ (24 ≤ s - e)
   pub multiple : (s - e) % 8 ≡ 0
-  pub most : data_len_of f ≤ 268435424
+  pub most : data_len_of f ≤ data_limit
   pub ends : s + size_for (data_len_of f) ≤ total
   pub next : up_to_8 (s + size_for (data_len_of f)) ≤ total
 
@@ -102,7 +103,7 @@ here_is total e f fs s ss placed =
     eighth : (s ≡ e) ⊎ (e + 24 ≤ s) → (s - e) % 8 ≡ 0
     eighth a = omega (arith, placed.eighth, placed.follow.0.lawful.eighth)
 
-    small : (n k : ℕ) → 24 ≤ k → e ≤ s → s + (k + n) ≤ total → n ≤ 268435424
+    small : (n k : ℕ) → 24 ≤ k → e ≤ s → s + (k + n) ≤ total → n ≤ data_limit
     small n k l o w = omega (arith, l, o, w, placed.behind, placed.limit)
 
 pub placed_on : (total e : ℕ) (f : FileMeaning) (fs : List FileMeaning) (s : ℕ) (ss : List ℕ) → ArePlaced total e (f ∷ fs) (s ∷ ss)

@@ -1,4 +1,10 @@
--- A flash image whose volumes are renewed, one after another.
+-- A flash image whose volumes are renewed, one after another. The steps:
+-- 1. `RenewsFrom` says place by place what the walk writes. Then each volume has its image, and every other byte is as
+--    it was (`renewed_is`).
+-- 2. The loop keeps `Puts`: what was put so far, with anything that is renewed behind it, makes a whole. It holds at
+--    first (`puts_none`), after each volume (`puts_more`), and at the end it gives the whole (`puts_all`).
+-- 3. Each byte is in a volume or in none (`covered_known`), so no other bytes are the image (`normalised_one`).
+-- 4. A volume that has an image is not rejected. So if all have images, the only error is OutOfMemory (`only_want`).
 use Rattle.std.proofs.Common.{◌≡◌, ◌⊎◌, ◌≤◌, ◌<◌, ◌+◌, ◌-◌, ◌^◌, ℕ, List, [], ◌∷◌, ◌++◌, length, take, drop, get_or, refl}
 use Rattle.std.proofs.Common.{sym, ap, ◌∙◌, subst, arith, inl, inr, append_assoc, length-append}
 use Rattle.std.specs.List.{AllByRecursion, Contains}
@@ -14,7 +20,7 @@ use Rattle.fv_base.specs.Limits.{depth_limit}
 use Rattle.fv_tree.specs.FoundVolumes.{Found, IsCovered, VolumeAt}
 use Rattle.fv_tree.specs.inner.FoundWalks.{FoundFrom}
 use Rattle.fv_tree.specs.Meaning.{Meaning}
-use Rattle.fv_tree.proofs.Laws.{at_within, found_walk, one_found, one_length, one_of}
+use Rattle.fv_tree.proofs.Laws.{at_within, found_walk, one_found, one_length, one_meaning, one_of}
 use Rattle.fv_base.proofs.Laws.{first_or_behind, in_middle, one_behind}
 use Rattle.fv_canon.specs.Image.{IsImage}
 use Rattle.fv_canon.specs.Headline.{NormalisesTo}
@@ -24,7 +30,6 @@ use Rattle.fv_canon.proofs.FaultPlaces.{refused_within}
 use Rattle.fv_canon.proofs.FitLaws.{unfit_none}
 use Rattle.fv_canon.proofs.InputLaws.{image_fits}
 use Rattle.fv_canon.proofs.ImageLaws.{image_stays_long}
-use Rattle.fv_canon.proofs.MeaningLaws.{one_meaning}
 use Rattle.fv_canon.proofs.OneImageLaws.{image_one}
 
 -- ---- bytes
@@ -60,7 +65,17 @@ refused_never b image f (inl bad) (m, a, is) = bad.none m a
 refused_never b image f (inr (v, a, unfit)) to =
     unfit_none v 0 f unfit (image_fits b image v (λ m c. one_meaning depth_limit depth_limit b m v c.1 a.1) to)
 
--- ---- the walk
+-- ---- one volume
+
+-- its fault has a place in the image
+pub place_fits : (b x : List ℕ) (p : ℕ) (f : Fault) → VolumeAt b p (length x) → length b < 2 ^ 63 → (f ≡ out_of_memory) ⊎ Refuses x f
+    → p + f.place.offset < 2 ^ 64
+place_fits b x p f v small (inl want) =
+    let none : f.place.offset ≡ 0 = ap (λ (g : Fault). g.place.offset) want in
+    omega (arith, none, at_within b p (length x) v, small)
+place_fits b x p f v small (inr refused) = omega (arith, refused_within x f refused, at_within b p (length x) v, small)
+
+-- ---- 1. the walk
 
 -- from one place on, o is b but for the volumes that begin at these places: there their canonical images stand in it
 abbrev pub RenewsFrom : ℕ → List ℕ → List ℕ → List ℕ → Type 0
@@ -68,8 +83,6 @@ RenewsFrom from b [] o = drop from o ≡ drop from b
 RenewsFrom from b (p ∷ ps) o =
     (n : ℕ) × (from ≤ p) × VolumeAt b p n × (field from (p - from) o ≡ field from (p - from) b)
     × NormalisesTo (field p n b) (field p n o) × RenewsFrom (p + n) b ps o
-
--- ---- what was walked
 
 -- at each of the places the image stands
 renewed_each : (from : ℕ) (b ps o : List ℕ) → RenewsFrom from b ps o → AllByRecursion (IsRenewed b o) ps
@@ -100,7 +113,7 @@ renewed_is b places o walk long = record {
   others = λ k inside none. renewed_others 0 b places o walk k (omega arith) none;
 }
 
--- ---- one step of the walk
+-- ---- 2. the loop: one step of the walk
 
 -- the bytes up to a volume, its image, and what is renewed behind it
 renews_more : (b ps bytes x image rest : List ℕ) (from p n : ℕ) → from ≤ p → VolumeAt b p n → x ≡ field from (p - from) b
@@ -114,18 +127,6 @@ renews_more b ps bytes x image rest from p n least v same long gap_long front_lo
     let there : field p n o ≡ image =
     ap (λ (l : List ℕ). field p n l) flat ∙ field_joined (bytes ++ x) image rest p n front_long image_long in
     (n, least, v, gap, subst (NormalisesTo (field p n b)) (sym there) to, more)
-
--- ---- one volume
-
--- its fault has a place in the image
-pub place_fits : (b x : List ℕ) (p : ℕ) (f : Fault) → VolumeAt b p (length x) → length b < 2 ^ 63 → (f ≡ out_of_memory) ⊎ Refuses x f
-    → p + f.place.offset < 2 ^ 64
-place_fits b x p f v small (inl want) =
-    let none : f.place.offset ≡ 0 = ap (λ (g : Fault). g.place.offset) want in
-    omega (arith, none, at_within b p (length x) v, small)
-place_fits b x p f v small (inr refused) = omega (arith, refused_within x f refused, at_within b p (length x) v, small)
-
--- ---- the loop
 
 -- what lies up to the place `from`, of the volumes before the i-th, is put: bytes behind which anything makes a whole
 pub record Puts {S : Type 0} (takes : S → List ℕ → S → Type 0) (s t : S) (b places : List ℕ) (i from : ℕ) : Type 0 where
@@ -223,7 +224,7 @@ module _ {S : Type 0} (takes : S → List ℕ → S → Type 0) (laws : WalkLaws
       omega (arith, length-append puts.bytes (drop from b), puts.long, length-drop from b, puts.inside) in
       (o, renewed_is b places o walk long, laws.joined s t u puts.bytes (drop from b) puts.taken put)
 
--- ---- no other bytes
+-- ---- 3. no other bytes
 
 -- a byte is in one of the volumes, or in none
 covered_known : (b o ps : List ℕ) (k : ℕ) → AllByRecursion (IsRenewed b o) ps → IsCovered b ps k ⊎ (IsCovered b ps k → ⊥)
@@ -276,7 +277,8 @@ normalised_one b o other (short, places, found, r) (short', places', found', s) 
     let same : places ≡ places' = one_found b places places' found found' in
     renewed_one b places o other r (subst (λ (l : List ℕ). Renewed b l other) (sym same) s)
 
--- and then no volume is refused
+-- ---- 4. where all volumes have images, none is refused
+
 renewed_never : (b places other : List ℕ) (f : Fault) → Found b places → FirstRefused b places f → NormalisesAll b other → ⊥
 renewed_never b places other f found stops (short, places', found', s) =
     let same : places ≡ places' = one_found b places places' found found' in

@@ -10,7 +10,7 @@ use Rattle.fv_base.specs.Limits.{depth_limit}
 use Rattle.fv_tree.specs.Denotes.{MeansSection, Stream, Denotes, Accepted}
 use Rattle.fv_canon.specs.Image.{IsImage}
 use Rattle.fv_canon.specs.Headline.{MeanSame, SameMeaningIffSameImage, ImageKeepsLengthAndMeaning, ImageIsItsOwnImage, OneMeaning}
-use Rattle.fv_canon.proofs.MeaningLaws.{one_meaning}
+use Rattle.fv_tree.proofs.Laws.{one_meaning}
 use Rattle.fv_canon.proofs.OneImageLaws.{image_one}
 use Rattle.fv_canon.proofs.VolumeLaws.{image_bytes, image_denotes, image_long}
 

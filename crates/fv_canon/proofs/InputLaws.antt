@@ -21,8 +21,8 @@ use Rattle.fv_canon.proofs.UnfitKinds.{not_layout, unfit_is}
 
 -- ---- answers
 
--- what is true of a fault is true of it where a `?` passes it on
-pub fault_passed : {T : Type 0} (P : Fault → Type 0) (r : Result T Fault) (f : Fault) → IsErrAnd r (λ g. g ≡ f) → P f → IfErr r P
+-- what is true of an error is true of it where a `?` passes it on
+pub fault_passed : {T E : Type 0} (P : E → Type 0) (r : Result T E) (f : E) → IsErrAnd r (λ g. g ≡ f) → P f → IfErr r P
 fault_passed P (Ok x) f same holds = tt
 fault_passed P (Err g) f same holds = subst P (sym same) holds
 

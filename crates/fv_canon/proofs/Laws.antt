@@ -7,8 +7,7 @@ pub use Rattle.fv_canon.proofs.ImageLaws.{image_again, image_stays_long}
 -- in an image the pads from the first file's place on have only erased data
 pub use Rattle.fv_canon.proofs.AlignedLaws.{pads_erased}
 pub use Rattle.fv_canon.proofs.StoredTilingLaws.{PadErased}
--- one meaning of some bytes, and of an image; bytes that are a volume within the limit are accepted
-pub use Rattle.fv_canon.proofs.MeaningLaws.{one_meaning}
+-- an image has one meaning; bytes that are a volume within the limit are accepted
 pub use Rattle.fv_canon.proofs.HeadlineLaws.{accepted, one_meaning_of}
 -- what has an image fits; what is laid out fits, and what is refused does not
 pub use Rattle.fv_canon.proofs.ImageFits.{image_fits, data_fits, body_fits}

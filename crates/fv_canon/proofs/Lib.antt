@@ -9,7 +9,7 @@ pub mod Examples
 pub mod FaultPlaces
 pub mod FewStepLaws
 pub mod FileLaws
-pub mod FirstPlacementLaws
+pub mod ReachLaws
 pub mod FitLaws
 pub mod FlashImageLaws
 pub mod HeadlineLaws
@@ -23,7 +23,6 @@ pub mod Laws
 pub mod LayoutLaws
 pub mod LayoutWalkLaws
 pub mod MatchingLemmas
-pub mod MeaningLaws
 pub mod MultipleLaws
 pub mod NormaliseRunLaws
 pub mod OneImageLaws
@@ -33,7 +32,7 @@ pub mod PositionLaws
 pub mod ReadLaws
 pub mod SectionLaws
 pub mod PlacedBytesLaws
-pub mod StartSearchLaws
+pub mod UsableStartLaws
 pub mod PartBytesLaws
 pub mod PartFits
 pub mod StoredTilingLaws

@@ -93,7 +93,7 @@ head_eighth : (large : Bool) → file_header_len large % 8 ≡ 0
 head_eighth true = refl
 head_eighth false = refl
 
-head_most : (large : Bool) → file_header_len large ≤ 32
+pub head_most : (large : Bool) → file_header_len large ≤ 32
 head_most true = omega arith
 head_most false = omega arith
 

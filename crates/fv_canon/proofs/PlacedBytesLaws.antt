@@ -31,32 +31,6 @@ lower : (total x y : ℕ) (ps : List PlacedBytes) → x ≤ y → InOrder total 
 lower total x y [] l o = omega (arith, l, o)
 lower total x y (q ∷ qs) l o = (omega (arith, l, o.0), o.1)
 
--- ---- the files
-pub files_in_order : (system : FileSystem) (p : Polarity) (total e : ℕ) (fs : List StoredFile) (ss : List ℕ) → total % 8 ≡ 0 → e % 8 ≡ 0
-    → e ≤ total → AllByRecursion (Storable system) fs
-    → StartsFollow total e (map stored_item fs) ss → InOrder total e (placed_files p e fs ss)
-files_in_order system p total e [] [] h m r all follow = r
-files_in_order system p total e [] (s ∷ ss) h m r all follow = absurd follow
-files_in_order system p total e (f ∷ fs) [] h m r all follow = absurd follow
-files_in_order system p total e (f ∷ fs) (s ∷ ss) h m r all follow =
-    let a = apart e s m follow.0.lawful.eighth follow.0.lawful.apart in
-    let x : ℕ = s + stored_len f in
-    let b = edges x total h follow.0.within in
-    let later = files_in_order system p total (up_to_8 x) fs ss h (filler_is x).2 b.1 all.1 follow.1 in (
-      omega arith,
-      (
-        before (length (gap_bytes p (s - e))) (length-gap p (s - e) a.0 a.1) a.2,
-        lower total (s + length (stored_bytes p f)) (up_to_8 x) (placed_files p (up_to_8 x) fs ss)
-            (near (length (stored_bytes p f)) (stored_len f) (up_to_8 x) (length-stored system p f all.0) b.0) later,
-      ),
-    )
-  where
-    before : (g : ℕ) → g ≡ s - e → e + (s - e) ≡ s → e + g ≤ s
-    before g p q = omega (arith, p, q)
-
-    near : (k n u : ℕ) → k ≡ n → s + n ≤ u → s + k ≤ u
-    near k n u p q = omega (arith, p, q)
-
 -- erased bytes before the first span are written in one piece or in two
 painted_later : (erased total x y : ℕ) (ps : List PlacedBytes) → x ≤ y → InOrder total y ps
     → painted erased total x ps ≡ replicate (y - x) erased ++ painted erased total y ps
@@ -85,13 +59,17 @@ painted_here erased total e at bytes ps same =
     zero_is : (a e : ℕ) → a ≡ e → a - e ≡ 0
     zero_is a e s = omega arith
 
-pub files_painted : (system : FileSystem) (p : Polarity) (total e : ℕ) (fs : List StoredFile) (ss : List ℕ) → total % 8 ≡ 0 → e % 8 ≡ 0
-    → e ≤ total → AllByRecursion (Storable system) fs
-    → StartsFollow total e (map stored_item fs) ss → painted (erased_byte p) total e (placed_files p e fs ss) ≡ files_bytes p total e fs ss
-files_painted system p total e [] [] h m r all follow = refl
-files_painted system p total e [] (s ∷ ss) h m r all follow = absurd follow
-files_painted system p total e (f ∷ fs) [] h m r all follow = absurd follow
-files_painted system p total e (f ∷ fs) (s ∷ ss) h m r all follow =
+-- ---- the files
+
+-- they are in order, and the walk writes them
+pub files_placed : (system : FileSystem) (p : Polarity) (total e : ℕ) (fs : List StoredFile) (ss : List ℕ) → total % 8 ≡ 0 → e % 8 ≡ 0
+    → e ≤ total → AllByRecursion (Storable system) fs → StartsFollow total e (map stored_item fs) ss
+    → InOrder total e (placed_files p e fs ss)
+    × (painted (erased_byte p) total e (placed_files p e fs ss) ≡ files_bytes p total e fs ss)
+files_placed system p total e [] [] h m r all follow = (r, refl)
+files_placed system p total e [] (s ∷ ss) h m r all follow = absurd follow
+files_placed system p total e (f ∷ fs) [] h m r all follow = absurd follow
+files_placed system p total e (f ∷ fs) (s ∷ ss) h m r all follow =
     let a = apart e s m follow.0.lawful.eighth follow.0.lawful.apart in
     let x : ℕ = s + stored_len f in
     let b = edges x total h follow.0.within in
@@ -100,15 +78,22 @@ files_painted system p total e (f ∷ fs) (s ∷ ss) h m r all follow =
     let file : List ℕ = stored_bytes p f in
     let later : List PlacedBytes = placed_files p (up_to_8 x) fs ss in
     let filler : List ℕ = replicate (up_to_8 x - x) erased in
-    let order = files_in_order system p total (up_to_8 x) fs ss h (filler_is x).2 b.1 all.1 follow.1 in
-    let rest = files_painted system p total (up_to_8 x) fs ss h (filler_is x).2 b.1 all.1 follow.1 in
+    let rest = files_placed system p total (up_to_8 x) fs ss h (filler_is x).2 b.1 all.1 follow.1 in
     let place : s ≡ e + length gap = sym (ap (λ (n : ℕ). e + n) (length-gap p (s - e) a.0 a.1) ∙ a.2) in
     let ended : (e + length gap) + length file ≡ x =
-    ap (λ (n : ℕ). n + length file) (sym place) ∙ ap (λ (n : ℕ). s + n) (length-stored system p f all.0) in
-    painted_here erased total e e gap (record { at = s; bytes = file } ∷ later) refl
-    ∙ ap (λ (xs : List ℕ). gap ++ xs) (painted_here erased total (e + length gap) s file later place
-    ∙ ap (λ (xs : List ℕ). file ++ xs) (ap (λ (n : ℕ). painted erased total n later) ended
-    ∙ painted_later erased total x (up_to_8 x) later b.0 order ∙ ap (λ (xs : List ℕ). filler ++ xs) rest))
+    ap (λ (n : ℕ). n + length file) (sym place) ∙ ap (λ (n : ℕ). s + n) (length-stored system p f all.0) in (
+      (
+        omega arith,
+        (
+          omega (arith, place),
+          lower total (s + length file) (up_to_8 x) later (omega (arith, length-stored system p f all.0, b.0)) rest.0,
+        ),
+      ),
+      painted_here erased total e e gap (record { at = s; bytes = file } ∷ later) refl
+          ∙ ap (λ (xs : List ℕ). gap ++ xs) (painted_here erased total (e + length gap) s file later place
+          ∙ ap (λ (xs : List ℕ). file ++ xs) (ap (λ (n : ℕ). painted erased total n later) ended
+          ∙ painted_later erased total x (up_to_8 x) later b.0 rest.0 ∙ ap (λ (xs : List ℕ). filler ++ xs) rest.1)),
+    )
 
 -- ---- the whole volume
 
@@ -152,7 +137,7 @@ volume_in_order h fs ss k =
         before (length (canonical_head h)) (header_len_of h) (length-canonical h k.read),
         lower h.length (header_len_of h + length pad) first (placed_files p first fs ss)
             (subst (λ (n : ℕ). n ≤ first) (sym (length-ext_pad p h h.ext used k.ext)) f.0)
-            (files_in_order h.file_system p h.length first fs ss k.multiple f.1 k.room k.files k.follow),
+            (files_placed h.file_system p h.length first fs ss k.multiple f.1 k.room k.files k.follow).0,
       ),
     )
   where
@@ -170,16 +155,15 @@ volume_painted h fs ss k =
     let head : List ℕ = canonical_head h in
     let later : List PlacedBytes = placed_files p first fs ss in
     let f = first_is h h.ext in
-    let order = files_in_order h.file_system p h.length first fs ss k.multiple f.1 k.room k.files k.follow in
-    let rest = files_painted h.file_system p h.length first fs ss k.multiple f.1 k.room k.files k.follow in
+    let files = files_placed h.file_system p h.length first fs ss k.multiple f.1 k.room k.files k.follow in
     let place : header_len_of h ≡ 0 + length head = own (header_len_of h) (length head) (length-canonical h k.read) in
     let ended : (0 + length head) + length pad ≡ canonical_end h h.ext =
     ap (λ (n : ℕ). n + length pad) (sym place) ∙ length-ext_pad p h h.ext used k.ext in
     painted_here erased h.length 0 0 head (record { at = header_len_of h; bytes = pad } ∷ later) refl
     ∙ ap (λ (xs : List ℕ). head ++ xs) (painted_here erased h.length (0 + length head) (header_len_of h) pad later place
     ∙ ap (λ (xs : List ℕ). pad ++ xs)
-    (ap (λ (n : ℕ). painted erased h.length n later) ended ∙ painted_later erased h.length (canonical_end h h.ext) first later f.0 order
-    ∙ ap (λ (xs : List ℕ). replicate (first - canonical_end h h.ext) erased ++ xs) rest))
+    (ap (λ (n : ℕ). painted erased h.length n later) ended ∙ painted_later erased h.length (canonical_end h h.ext) first later f.0 files.0
+    ∙ ap (λ (xs : List ℕ). replicate (first - canonical_end h h.ext) erased ++ xs) files.1))
   where
     own : (a b : ℕ) → b ≡ a → a ≡ 0 + b
     own a b e = omega (arith, e)

@@ -17,10 +17,20 @@ get_behind : (front back : List ℕ) (k : ℕ) → length front ≤ k → get_or
 get_behind front back k l = get_or-append_right front back (length front) k 0 refl l
 
 -- ---- from the walk to the positions: front is what stands before e
-pub walk_stands : (erased total e : ℕ) (ps : List PlacedBytes) (front : List ℕ) → length front ≡ e → InOrder total e ps
-    → AllByRecursion (StandsIn (front ++ painted erased total e ps)) ps
-walk_stands erased total e [] front l o = tt
-walk_stands erased total e (p ∷ ps) front l o =
+
+-- b shows the spans behind e, and erased bytes elsewhere behind it
+record ShowsFrom (erased total e : ℕ) (ps : List PlacedBytes) (b : List ℕ) : Type 0 where
+  stand : AllByRecursion (StandsIn b) ps
+  rest : (k : ℕ) → e ≤ k → k < total → AllByRecursion (λ p. IsIn k p → ⊥) ps → get_or b k 0 ≡ erased
+
+walk_shows : (erased total e : ℕ) (ps : List PlacedBytes) (front : List ℕ) → length front ≡ e → InOrder total e ps
+    → ShowsFrom erased total e ps (front ++ painted erased total e ps)
+walk_shows erased total e [] front l o = record {
+  stand = tt;
+  rest = λ k a b n. get_behind front (replicate (total - e) erased) k (omega arith)
+      ∙ get_or-replicate (total - e) (k - length front) erased 0 (omega arith);
+}
+walk_shows erased total e (p ∷ ps) front l o =
     let gap = replicate (p.at - e) erased in
     let behind = painted erased total (p.at + length p.bytes) ps in
     let there : length (front ++ gap) ≡ p.at = length-append front gap ∙ there_is (length gap) (length-replicate (p.at - e) erased) in
@@ -30,15 +40,29 @@ walk_stands erased total e (p ∷ ps) front l o =
     moved ∙ append_assoc (front ++ gap) p.bytes behind in
     let far : length ((front ++ gap) ++ p.bytes) ≡ p.at + length p.bytes =
     length-append (front ++ gap) p.bytes ∙ ap (λ n. n + length p.bytes) there in
-    let later = walk_stands erased total (p.at + length p.bytes) ps ((front ++ gap) ++ p.bytes) far o.1 in (
-      (
-        subst (λ xs. p.at + length p.bytes ≤ length xs) (sym moved) (long (length (((front ++ gap) ++ p.bytes) ++ behind)) (length behind)
-            (length-append ((front ++ gap) ++ p.bytes) behind ∙ ap (λ n. n + length behind) far)),
-        ap (λ xs. take (length p.bytes) (drop p.at xs)) apart ∙ (ap (λ xs. take (length p.bytes) xs)
-            (drop_at (front ++ gap) (p.bytes ++ behind) p.at there) ∙ take_at p.bytes behind (length p.bytes) refl),
-      ),
-      subst (λ xs. AllByRecursion (StandsIn xs) ps) (sym moved) later,
-    )
+    let later = walk_shows erased total (p.at + length p.bytes) ps ((front ++ gap) ++ p.bytes) far o.1 in
+    record {
+      stand = (
+        (
+          subst (λ xs. p.at + length p.bytes ≤ length xs) (sym moved) (long (length (((front ++ gap) ++ p.bytes) ++ behind)) (length behind)
+              (length-append ((front ++ gap) ++ p.bytes) behind ∙ ap (λ n. n + length behind) far)),
+          ap (λ xs. take (length p.bytes) (drop p.at xs)) apart ∙ (ap (λ xs. take (length p.bytes) xs)
+              (drop_at (front ++ gap) (p.bytes ++ behind) p.at there) ∙ take_at p.bytes behind (length p.bytes) refl),
+        ),
+        subst (λ xs. AllByRecursion (StandsIn xs) ps) (sym moved) later.stand,
+      );
+      rest = λ k a b n. elim (cases_lt k p.at) [
+        | inl c ↦
+            ap (λ xs. get_or xs k 0) apart
+            ∙ (get_or_append_left (front ++ gap) (p.bytes ++ behind) 0 k (in_front (length (front ++ gap)) k there c)
+            ∙ (get_behind front gap k (omega arith)
+            ∙ get_or-replicate (p.at - e) (k - length front) erased 0 (omega (arith, o.0))))
+        | inr c ↦ elim (cases_lt k (p.at + length p.bytes)) [
+          | inl d ↦ absurd (n.0 (c, d))
+          | inr d ↦ ap (λ xs. get_or xs k 0) moved ∙ later.rest k d b n.1
+        ]
+      ];
+    }
   where
     there_is : (g : ℕ) → g ≡ p.at - e → length front + g ≡ p.at
     there_is g h = omega (arith, o.0)
@@ -46,38 +70,8 @@ walk_stands erased total e (p ∷ ps) front l o =
     long : (n m : ℕ) → n ≡ (p.at + length p.bytes) + m → p.at + length p.bytes ≤ n
     long n m h = omega arith
 
-pub walk_erased : (erased total e : ℕ) (ps : List PlacedBytes) (front : List ℕ) → length front ≡ e → InOrder total e ps → (k : ℕ) → e ≤ k
-    → k < total → AllByRecursion (λ p. IsIn k p → ⊥) ps → get_or (front ++ painted erased total e ps) k 0 ≡ erased
-walk_erased erased total e [] front l o k a b n =
-    get_behind front (replicate (total - e) erased) k (omega arith) ∙ get_or-replicate (total - e) (k - length front) erased 0 (omega arith)
-walk_erased erased total e (p ∷ ps) front l o k a b n =
-    let gap = replicate (p.at - e) erased in
-    let behind = painted erased total (p.at + length p.bytes) ps in
-    let there : length (front ++ gap) ≡ p.at = length-append front gap ∙ there_is (length gap) (length-replicate (p.at - e) erased) in
-    let moved : front ++ ((gap ++ p.bytes) ++ behind) ≡ ((front ++ gap) ++ p.bytes) ++ behind =
-    sym (append_assoc front (gap ++ p.bytes) behind) ∙ ap (λ xs. xs ++ behind) (sym (append_assoc front gap p.bytes)) in
-    let apart : front ++ ((gap ++ p.bytes) ++ behind) ≡ (front ++ gap) ++ (p.bytes ++ behind) =
-    moved ∙ append_assoc (front ++ gap) p.bytes behind in
-    let far : length ((front ++ gap) ++ p.bytes) ≡ p.at + length p.bytes =
-    length-append (front ++ gap) p.bytes ∙ ap (λ n. n + length p.bytes) there in
-    elim (cases_lt k p.at) [
-      | inl c ↦
-          ap (λ xs. get_or xs k 0) apart
-          ∙ (get_or_append_left (front ++ gap) (p.bytes ++ behind) 0 k (in_front (length (front ++ gap)) there c)
-          ∙ (get_behind front gap k (omega arith)
-          ∙ get_or-replicate (p.at - e) (k - length front) erased 0 (omega (arith, o.0))))
-      | inr c ↦ elim (cases_lt k (p.at + length p.bytes)) [
-        | inl d ↦ absurd (n.0 (c, d))
-        | inr d ↦ ap (λ xs. get_or xs k 0) moved
-            ∙ walk_erased erased total (p.at + length p.bytes) ps ((front ++ gap) ++ p.bytes) far o.1 k d b n.1
-      ]
-    ]
-  where
-    there_is : (g : ℕ) → g ≡ p.at - e → length front + g ≡ p.at
-    there_is g h = omega (arith, o.0)
-
-    in_front : (m : ℕ) → m ≡ p.at → k < p.at → k < m
-    in_front m h c = omega arith
+    in_front : (m k : ℕ) → m ≡ p.at → k < p.at → k < m
+    in_front m k h c = omega arith
 
 pub walk_length : (erased total e : ℕ) (ps : List PlacedBytes) → InOrder total e ps → e + length (painted erased total e ps) ≡ total
 walk_length erased total e [] o = let g = length-replicate (total - e) erased in omega arith
@@ -93,11 +87,13 @@ walk_length erased total e (p ∷ ps) o =
     joined g b gp all h i j k = omega (arith, o.0)
 
 pub shows_walk : (erased total : ℕ) (ps : List PlacedBytes) → InOrder total 0 ps → ShowsPlaced total erased ps (painted erased total 0 ps)
-shows_walk erased total ps o = record {
-  length_is = sym (zero-add (length (painted erased total 0 ps))) ∙ walk_length erased total 0 ps o;
-  stand = walk_stands erased total 0 ps [] refl o;
-  rest = λ k l n. walk_erased erased total 0 ps [] refl o k (omega arith) l n;
-}
+shows_walk erased total ps o =
+    let shows = walk_shows erased total 0 ps [] refl o in
+    record {
+      length_is = sym (zero-add (length (painted erased total 0 ps))) ∙ walk_length erased total 0 ps o;
+      stand = shows.stand;
+      rest = λ k l n. shows.rest k (omega arith) l n;
+    }
 
 -- ---- from the positions to the walk
 pub walk_from : (erased total e : ℕ) (ps : List PlacedBytes) (b : List ℕ) → length b ≡ total → InOrder total e ps → AllByRecursion (StandsIn b) ps

@@ -1,4 +1,9 @@
--- The image of a volume is read again as a volume of its meaning.
+-- The image of a volume is read again as a volume of its meaning. The steps:
+-- 1. A file that was read can be stored with the data of the image, and is then read as the same file (`file_again`).
+-- 2. So can all files of a volume, and the layout knows the same of them (`files_again`).
+-- 3. The image begins with the volume's head (`image_front`), and its files and pads tile the rest (`image_tiled`).
+-- 4. So the image of a volume is read as its meaning, if this holds of what is in its files (`volume_again`).
+-- 5. By the depth of the nesting it holds at every level (`sections_again`), and so of each image (`image_denotes`).
 use Rattle.std.proofs.Common.{◌≡◌, ◌≢◌, ◌≤◌, ◌<◌, ◌+◌, ◌-◌, ◌*◌, ◌/◌, ◌%◌, ℕ, zero, suc, Bool, true, false, List, [], ◌∷◌, ◌++◌, length}
 use Rattle.std.proofs.Common.{take, drop, replicate, refl, sym, ap, ◌∙◌, subst, arith, append_assoc, length-append, length-drop}
 use Rattle.std.specs.Prelude.{map, nat_lt, ◌==◌, Option, None, Some}
@@ -10,7 +15,7 @@ use Rattle.std.proofs.lemmas.List.{drop_at, length-replicate}
 use Rattle.fv_base.specs.Alignment.{alignment_of}
 use Rattle.fv_base.specs.Flash.{erased_byte}
 use Rattle.fv_base.specs.Guids.{bytes_of}
-use Rattle.fv_base.specs.Limits.{volume_limit}
+use Rattle.fv_base.specs.Limits.{data_limit, volume_limit}
 use Rattle.fv_base.specs.Value.{IsBytes, le}
 use Rattle.fv_base.specs.declared.flash.FileSystem.{FileSystem}
 use Rattle.fv_base.specs.declared.flash.FileSystem.TheVariants.{Ffs3}
@@ -47,7 +52,7 @@ use Rattle.fv_canon.proofs.StreamLaws.{SectionsAgain, section_again, stream_agai
 use Rattle.fv_canon.proofs.BytesLaws.{bytes_volume}
 use Rattle.fv_canon.proofs.StoredTilingLaws.{forms_of, Tiled, body_tiles}
 
--- ---- a file
+-- ---- 1. a file
 
 -- what the canonical image keeps of a file, as it is stored in it
 record FileAgain (is_stream : Streams) (system : FileSystem) (m : FileMeaning) (f : FileForm) (x : StoredFile) : Type 0 where
@@ -105,7 +110,7 @@ same_part : (n k a b : ℕ) (g h : Guid) → n ≡ k → a ≡ b → g ≡ h →
 same_part n k a b g h p q r = rw (p, q, r) refl
 
 file_again : (is_stream : Streams) → StreamsAgain is_stream → (system : FileSystem) (limit : ℕ) (m : FileMeaning) (f : FileForm)
-    (x : StoredFile) → limit ≤ 268435448 → FileIsAccepted system limit f → MeansFile is_stream f m → IsStored m x
+    (x : StoredFile) → limit ≤ 24 + data_limit → FileIsAccepted system limit f → MeansFile is_stream f m → IsStored m x
     → FileAgain is_stream system m f x
 file_again is_stream streams system limit (File name kind attributes content) f x most r (named, kinds, bits, is) (xn, xk, xa, image) =
     let d = data_again is_stream streams kind content f.payload x.payload r.payload is image in
@@ -133,13 +138,13 @@ file_again is_stream streams system limit (File name kind attributes content) f 
           (ap (λ (g : Guid). g) (sym xn) ∙ refl, sym xk, sym xa ∙ back (needs_large (length x.payload)) a x.attributes bits_are, d.is);
     }
   where
-    inside : (n k : ℕ) → n ≡ k → 24 + k ≤ limit → limit ≤ 268435448 → n ≤ 268435424
+    inside : (n k : ℕ) → n ≡ k → 24 + k ≤ limit → limit ≤ 24 + data_limit → n ≤ data_limit
     inside n k e l m = omega (arith, e, l, m)
 
     back : (l : Bool) (a y : ℕ) → y ≡ a / 2 * 2 → y ≡ without_large (with_large l y)
     back l a y e = rw e (half_back l a)
 
--- ---- file by file
+-- ---- 2. file by file
 
 pub record FilesAgain (is_stream : Streams) (system : FileSystem) (files : FileMeanings) (forms : List FileForm)
     (stored : List StoredFile) : Type 0 where
@@ -153,7 +158,7 @@ no_file : {A : Type 0} (x : A) (xs : List A) → x ∷ xs ≡ [] → ⊥
 no_file x xs e = cc
 
 files_again : (is_stream : Streams) → StreamsAgain is_stream
-    → (system : FileSystem) (limit : ℕ) (files : FileMeanings) (forms : List FileForm) (stored : List StoredFile) → limit ≤ 268435448
+    → (system : FileSystem) (limit : ℕ) (files : FileMeanings) (forms : List FileForm) (stored : List StoredFile) → limit ≤ 24 + data_limit
     → AllByRecursion (FileIsAccepted system limit) forms → Pairwise (MeansFile is_stream) forms (files_list files) → AreStored files stored
     → FilesAgain is_stream system files forms stored
 files_again is_stream streams system limit NoFiles [] [] most reads pairs are =
@@ -179,7 +184,7 @@ files_again is_stream streams system limit (MoreFiles m ms) (f ∷ fs) (x ∷ xs
     step p total e [] follow form behind = absurd follow
     step p total e (s ∷ ss) follow form behind = (form p s, behind p total _ ss follow.1)
 
--- ---- the volume
+-- ---- 3. the head, the files and the pads of a volume
 
 -- an extended header that was read is that of some bytes
 ext_read : (x : Option Extension) (e : Extent) (b : List ℕ) → IsBytes b → HasExt x e b → IfRead x
@@ -266,7 +271,7 @@ known is_stream streams h files b small d stored starts are placed =
     let lies = front_lies b h e d.front in
     let body : List ℕ = drop e.first b in
     let current = files_read is_stream h files b small d in
-    let limit : length body ≤ 268435448 = most (length body) (length b) e.first e.header_len e.length (length-drop e.first b) d.whole
+    let limit : length body ≤ 24 + data_limit = most (length body) (length b) e.first e.header_len e.length (length-drop e.first b) d.whole
     lies.limit lies.least (first_behind h.ext e b d.front.ext) in
     let a = files_again is_stream streams h.file_system (length body) files d.files stored limit current d.meanings are in
     let place : IsFirstPlacement h.length first (map stored_item stored) starts =
@@ -283,7 +288,7 @@ known is_stream streams h files b small d stored starts are placed =
       again = a;
     }
   where
-    most : (n b f l len : ℕ) → n ≡ b - f → b ≡ len → len ≤ volume_limit → 64 ≤ l → l ≤ f → n ≤ 268435448
+    most : (n b f l len : ℕ) → n ≡ b - f → b ≡ len → len ≤ volume_limit → 64 ≤ l → l ≤ f → n ≤ 24 + data_limit
     most n b f l len p q r s t = omega (arith, p, q, r, s, t)
 
 -- an image begins with its head, and with the extended header in its pad behind it
@@ -321,7 +326,8 @@ image_tiled h fs ss o k shows =
     subst (λ (xs : List ℕ). Tiled h.file_system p first xs (forms_of p fs ss)) (sym body)
     (body_tiles h.file_system p h.length first fs ss k.multiple (first_is h h.ext).1 k.files k.follow)
 
--- one volume is read again, where the streams in it are
+-- ---- 4. the volume: it is read again, where the streams in it are
+
 pub volume_again : (is_stream : Streams) → StreamsAgain is_stream → VolumesAgain (VolumeOver is_stream)
 volume_again is_stream streams (Volume h files) b o small d (stored, starts, are, placed, shows) =
     let p : Polarity = polarity_of h.attributes in
@@ -358,7 +364,7 @@ volume_again is_stream streams (Volume h files) b o small d (stored, starts, are
       opens = opened h (extent_of h first) o front shows.length_is;
     }
 
--- ---- all volumes, by how deep groups and volumes nest
+-- ---- 5. all volumes, by how deep groups and volumes nest
 
 no_stream : StreamsAgain (λ _ _ _. ⊥)
 no_stream ss tail b o small none image = absurd none

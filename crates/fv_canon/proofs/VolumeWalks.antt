@@ -1,6 +1,6 @@
 -- What is known of a volume that was read and laid out, and what the walk over it writes.
 use Rattle.std.proofs.Common.{◌≡◌, ◌≤◌, ◌<◌, ◌+◌, ◌-◌, ℕ, zero, suc, List, [], ◌∷◌, ◌++◌, length, take, drop, replicate, get_or, refl, sym}
-use Rattle.std.proofs.Common.{ap, ◌∙◌, subst, arith, append_assoc, length-append}
+use Rattle.std.proofs.Common.{ap, ◌∙◌, subst, arith, append_assoc, drop-drop, length-append}
 use Rattle.std.specs.Prelude.{map, Option, None, Some}
 use Rattle.std.proofs.lemmas.List.{length-map}
 use Rattle.fv_base.specs.Flash.{erased_byte}
@@ -130,7 +130,7 @@ volume_text h fs starts v =
     ∙ ap (λ (u : ℕ). canonical_head h ++ (ext_pad p h.ext u ++ (fill ++ files))) v.used
     ∙ ap (λ (xs : List ℕ). canonical_head h ++ xs) (sym (append_assoc (ext_pad p h.ext (used_by first fs (take n starts))) fill files))
 
-pub volume_left : (h : HeadFields) (fs : List FileMeaning)
+volume_left : (h : HeadFields) (fs : List FileMeaning)
     → starts_in (volumes_in (Volume h (files_from fs))) ≡ length fs + starts_in (volumes_in_files (files_from fs))
 volume_left h fs = ap (λ (k : ℕ). k + starts_in (volumes_in_files (files_from fs))) (ap length (files_list_back fs))
 
@@ -145,6 +145,11 @@ volume_seen m h fs starts e f read laid =
     let is = volume_is m h fs e f in
     volume_laid h fs starts (subst IsMeaning is read) (subst (λ (x : Meaning). BeginsWithStarts (volumes_in x) starts) is laid)
 
-pub files_same : (p q : Polarity) (n k e f : ℕ) (fs : FileMeanings) (xs ys ss ts : List ℕ) → p ≡ q → n ≡ k → e ≡ f → xs ≡ ys → ss ≡ ts
-    → files_bytes p n e (stored_of fs xs) ss ≡ files_bytes q k f (stored_of fs ys) ts
-files_same p q n k e f fs xs ys ss ts a b c d g = rw (a, b, c, d, g) refl
+-- the starts behind those of a volume are those behind the ones in its files
+pub volume_rest : (m : Meaning) (fs : List FileMeaning) (starts inner rest : List ℕ) → m ≡ Volume (head_of m) (files_from fs)
+    → inner ≡ drop (length fs) starts → rest ≡ drop (starts_in (volumes_in_files (files_from fs))) inner
+    → rest ≡ drop (starts_in (volumes_in m)) starts
+volume_rest m fs starts inner rest is behind left =
+    let k : ℕ = starts_in (volumes_in_files (files_from fs)) in
+    left ∙ ap (drop k) behind ∙ drop-drop k (length fs) starts
+    ∙ ap (λ (j : ℕ). drop j starts) (sym (volume_left (head_of m) fs) ∙ ap (λ x. starts_in (volumes_in x)) (sym is))

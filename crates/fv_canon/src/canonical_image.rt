@@ -25,7 +25,8 @@ pub fn put_canonical<S: Sink>(view: &VolumeView<'_>, layout: &Layout, out: &mut 
     requires { IsLayout view.now layout.now }
     ensures { (image : List ℕ) × IsImage view.now image × S.takes out.old image out.new }
 {
-    let _head = view.head();
+    // For what was read, the bytes of the walk are its image.
+    view.known();
     put_image(out, view, layout.all());
 }
 
@@ -56,7 +57,8 @@ pub fn write_canonical<W: Write>(
     ensures erred { OnErr result (has_erred writer.new ≡ true) }
 {
     let mut out = WriteSink::new(writer);
-    let _head = view.head();
+    // The image of what was read is as long as the volume, so a fault's offset counts its bytes.
+    view.known();
     put_canonical(view, layout, &mut out);
     out.outcome()
 }

@@ -27,7 +27,8 @@ pub fn is_canonical_image(alloc: Global, view: &VolumeView<'_>, bytes: &[u8]) ->
     ensures ok { IfOk result (λ t. (t ≡ true) ↔ IsImage view.now bytes.now) }
     ensures err { IfErr result (λ f. f ≡ out_of_memory) }
 {
-    let _head = view.head();
+    // For what was read, the bytes of the walk are its image; if it does not fit, it has none.
+    view.known();
     match layout(alloc, view) {
         Ok(places) => Ok(is_image(view, places.all(), bytes)),
         Err(fault) => {

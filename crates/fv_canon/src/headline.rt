@@ -43,8 +43,8 @@ pub fn sums_are_right()
     ensures { SumsAreRight }
 {}
 
-/// In the image of a volume each volume inside has its own image, as consecutive bytes. So what holds of an
-/// image holds at every level.
+/// In the image of a volume each volume inside has its own image, as consecutive bytes. So what
+/// holds of an image holds at every level.
 pub fn each_volume_has_its_image()
     ensures { EachVolumeHasItsImage }
 {}

@@ -13,7 +13,7 @@ ghost use Rattle.fv_canon.specs.Volumes.{volumes_in_sections, volumes_in_body};
 ghost use Rattle.fv_canon.specs.StoredFiles.{file_sum_for, stored_bytes, size_for};
 ghost use Rattle.fv_canon.specs.inner.StoredWalks.{files_bytes};
 ghost use Rattle.fv_canon.specs.inner.Placed.{ArePlaced};
-ghost use Rattle.fv_canon.specs.inner.SummingSinks.{ImageTakes};
+ghost use Rattle.fv_canon.specs.inner.SummingSinks.{ImageTakes, sums};
 ghost use Rattle.fv_canon.specs.inner.ImageWalks.{BeginsWithStarts};
 
 use crate::pads_and_headers::{
@@ -52,7 +52,8 @@ fn put_sections<'s, S: Sink>(
     let mut gap = 0;
     let mut rest = starts;
     for section in sections {
-        let _kind = section.kind();
+        // A section that was read is shorter than 4 GiB, and its body fits the form of its header.
+        section.known();
         fill(out, 0, gap);
         put_section_head(out, section);
         rest = put_body(out, section.body(), rest);
@@ -105,28 +106,24 @@ fn put_content<'s, S: Sink>(
     }
 }
 
-// The file sum of a file. If it is a sum of the data, the data are walked for it first, and nothing
-// is put meanwhile.
+// The file sum of a file. If it is a sum of the data, they are walked for it, and nothing is put.
 #[cycle(put)]
 fn file_sum<S: Sink>(out: &mut SummingSink<'_, S>, file: &FileView<'_>, starts: &[u64]) -> u8
     requires laid { BeginsWithStarts (volumes_in_file file.now) starts.now }
-    requires puts { is_summed (attributes_of file.now) ≡ true → out.now.sums ≡ false }
+    requires puts { is_summed (attributes_of file.now) ≡ true → sums out.now.mode ≡ false }
     ensures value { result ≡ file_sum_for (attributes_of file.now) (data_of (content_of file.now) starts.now) }
     ensures none { ImageTakes S.takes out.old [] out.new }
 {
     if !file.attributes().is_summed() {
         return FIXED_CHECKSUM;
     }
-    out.sums = true;
-    out.total = 0;
+    out.begin_sum();
     put_content(out, file.content(), starts);
-    out.sums = false;
-    complement(out.total)
+    complement(out.end_sum())
 }
 
 // Puts a file. While the data of another file are summed, a file with the checksum attribute adds
-// only its State, whatever its data are: its header sums to 0 without State and file sum, and its
-// file sum and data sum to 0.
+// only its State (`summing_sink` says why).
 #[cycle(put)]
 fn put_file<'s, S: Sink>(
     out: &mut SummingSink<'_, S>,
@@ -139,11 +136,12 @@ fn put_file<'s, S: Sink>(
     ensures bytes { ImageTakes S.takes out.old (stored_bytes polarity (stored_file file.now starts.now)) out.new }
     ensures rest { result.now ≡ drop (starts_in (volumes_in_file file.now)) starts.now }
 {
-    let _name = file.name();
-    if out.sums && file.attributes().is_summed() {
+    if out.is_summing() && file.attributes().is_summed() {
         put_state(out, polarity);
         return skip_content(file.content(), starts);
     }
+    // In a file that was read, the data that the walk puts are as long as those that were read.
+    file.known();
     let sum = file_sum(out, file, starts);
     put_file_head(out, file, sum, polarity);
     put_content(out, file.content(), starts)
@@ -170,7 +168,8 @@ fn put_files<'s, S: Sink>(
     let mut edge = first;
     let mut rest = starts;
     for (i, file) in files.iter().enumerate() {
-        let _name = file.name();
+        // In a file that was read, the data that the walk puts are as long as those that were read.
+        file.known();
         let start = own[i];
         put_gap(out, start - edge, polarity);
         rest = put_file(out, file, polarity, rest);

@@ -17,6 +17,7 @@ ghost use Rattle.fv_tree.specs.Views.{body_view, content_view};
 
 use crate::first_placement::{LayoutItem, first_starts, is_top_off};
 use crate::known_layout::Layout;
+use crate::pads_and_headers::header_len_for;
 use fv_base::{Align, Fault, FaultKind, Place};
 use fv_head::first_edge;
 use fv_tree::{Body, Content, FileView, SectionView, VOLUME_TOP_FILE, VolumeView};
@@ -49,7 +50,8 @@ pub fn layout(alloc: Global, view: &VolumeView<'_>) -> Result<Layout, Fault>
     // The layout of a volume that fits is returned, unless memory runs out.
     ensures fits { Fits view.now → IfErr result (λ f. f ≡ out_of_memory) }
 {
-    let _head = view.head();
+    // In a volume that was read, groups and volumes nest so little that a byte counts them.
+    view.known();
     let own = view.files().len();
     let mut starts = Vec::new(alloc);
     lay_volume(alloc, view, 0, &mut starts)?;
@@ -62,7 +64,8 @@ pub(crate) fn layout_of_content(alloc: Global, file: &FileView<'_>) -> Result<Ve
     ensures err { IfErr result (λ f. (f ≡ out_of_memory) ⊎ FirstUnfit (volumes_in_content (content_of file.now)) 0 f) }
     ensures fits { AllFit (volumes_in_content (content_of file.now)) → IfErr result (λ f. f ≡ out_of_memory) }
 {
-    let _name = file.name();
+    // In a file that was read, groups and volumes nest so little that a byte counts them.
+    file.known();
     let mut starts = Vec::new(alloc);
     lay_content(alloc, file.content(), 0, &mut starts)?;
     Ok(starts)
@@ -74,7 +77,8 @@ pub(crate) fn layout_of_body(alloc: Global, section: &SectionView<'_>) -> Result
     ensures err { IfErr result (λ f. (f ≡ out_of_memory) ⊎ FirstUnfit (volumes_in_body (body_of section.now)) 0 f) }
     ensures fits { AllFit (volumes_in_body (body_of section.now)) → IfErr result (λ f. f ≡ out_of_memory) }
 {
-    let _kind = section.kind();
+    // In a section that was read, groups and volumes nest so little that a byte counts them.
+    section.known();
     let mut starts = Vec::new(alloc);
     match section.body() {
         Body::Leaf(_) => {}
@@ -205,7 +209,8 @@ fn layout_items(alloc: Global, view: &VolumeView<'_>) -> Result<Vec<LayoutItem>,
         × All (IsLawfulItem (head_of view.now).length) items.items) }
     ensures err { IfErr result (λ f. f ≡ out_of_memory) }
 {
-    let _head = view.head();
+    // In a volume that was read, no file is longer than the volume.
+    view.known();
     let files = view.files();
     let mut items = Vec::with_capacity(alloc, files.len())?;
     for file in files {
@@ -214,14 +219,13 @@ fn layout_items(alloc: Global, view: &VolumeView<'_>) -> Result<Vec<LayoutItem>,
     Ok(items)
 }
 
-// What the layout knows of a file: its header is large if with a short one the size would be more
-// than 0xFFFFFF.
+// What the layout knows of a file.
 fn layout_item(file: &FileView<'_>) -> LayoutItem
     ensures { result ≡ layout_item file.now }
 {
     let name = file.name();
     let data_len = file.data_len();
-    let header: u64 = if 24 + data_len > 0xff_ffff { 32 } else { 24 };
+    let header = header_len_for(data_len);
     LayoutItem {
         header,
         size: header + data_len,

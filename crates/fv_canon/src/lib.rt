@@ -17,9 +17,13 @@ mod matching;
 mod normalising;
 mod pads_and_headers;
 mod part_bytes;
+mod reach;
 mod side;
 mod start_walk;
 mod summing_sink;
+#[cfg(test)]
+mod tests;
+mod usable_start;
 
 pub use canonical_image::{canonical, put_canonical, write_canonical};
 pub use canonical_input::{is_canonical, is_canonical_image};

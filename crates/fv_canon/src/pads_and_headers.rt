@@ -7,7 +7,7 @@ ghost use Rattle.fv_section.specs.SectionImage.{FitsForm, section_head_of};
 ghost use Rattle.fv_tree.specs.Meaning.{file_name_of, file_kind_of, attributes_of, data_len_of};
 ghost use Rattle.fv_tree.specs.Meaning.{body_of, body_len, section_is_extended, section_kind_of, section_len};
 ghost use Rattle.fv_file.specs.NewHeaders.{file_head_of, state_byte};
-ghost use Rattle.fv_canon.specs.StoredFiles.{ext_pad, gap_bytes, pad_bytes, size_for};
+ghost use Rattle.fv_canon.specs.StoredFiles.{ext_pad, gap_bytes, head_len_for, pad_bytes, size_for};
 ghost use Rattle.fv_canon.specs.inner.Placed.{ArePlaced, used_by};
 ghost use Rattle.fv_base.specs.Flash.{erased_byte};
 ghost use Rattle.fv_base.specs.Limits.{data_limit, volume_limit};
@@ -16,9 +16,10 @@ ghost use Rattle.fv_head.specs.ExtImage.{canonical_end, first_edge};
 
 use fv_base::field::up_to_8;
 use fv_base::{Polarity, Sink, fill};
-use fv_file::{file_head_bytes, pad_head_bytes};
+use fv_file::layout::{HEADER_LEN, LARGE_HEADER_LEN, SHORT_SIZE_LIMIT};
+use fv_file::{NEW_STATE_ON_ONES, NEW_STATE_ON_ZEROS, file_head_bytes, pad_head_bytes};
 use fv_head::{VolumeHead, len_of_ext, put_ext};
-use fv_section::section_head_bytes;
+use fv_section::{section_head_bytes, section_header_len};
 use fv_tree::{FileView, SectionView};
 
 // The number of zero bytes between a section and the next.
@@ -26,8 +27,7 @@ pub(crate) fn filler_of(section: &SectionView<'_>) -> u64
     requires { section_len section.now < 2 ^ 32 }
     ensures { result ≡ up_to_4 (section_len section.now) - section_len section.now }
 {
-    let header: u64 = if section.extended() { 8 } else { 4 };
-    let size = header + section.body_len();
+    let size = section_header_len(section.extended()) + section.body_len();
     (size + 3) / 4 * 4 - size
 }
 
@@ -73,13 +73,25 @@ pub(crate) fn put_gap<S: Sink>(out: &mut S, gap: u64, polarity: Polarity)
     put_pad(out, left, polarity);
 }
 
+// The length of the header of a file with `data_len` bytes of data: it is large if the size would
+// not fit in a short one.
+pub(crate) fn header_len_for(data_len: u64) -> u64
+    requires { data_len < 2 ^ 62 }
+    ensures { result ≡ head_len_for data_len }
+{
+    if HEADER_LEN as u64 + data_len > SHORT_SIZE_LIMIT {
+        LARGE_HEADER_LEN as u64
+    } else {
+        HEADER_LEN as u64
+    }
+}
+
 // The size of a file with `data_len` bytes of data, its header included.
 pub(crate) fn size_for(data_len: u64) -> u64
     requires { data_len < 2 ^ 62 }
     ensures { result ≡ size_for data_len }
 {
-    let header: u64 = if 24 + data_len > 0xff_ffff { 32 } else { 24 };
-    header + data_len
+    header_len_for(data_len) + data_len
 }
 
 // Puts the header of a file with this file sum.
@@ -139,8 +151,8 @@ pub(crate) fn put_state<S: Sink>(out: &mut S, polarity: Polarity)
     ensures { S.takes out.old (state_byte polarity ∷ []) out.new }
 {
     let state = match polarity {
-        Polarity::Ones => 0xf8,
-        Polarity::Zeros => 0x07,
+        Polarity::Ones => NEW_STATE_ON_ONES,
+        Polarity::Zeros => NEW_STATE_ON_ZEROS,
     };
     out.put(&[state]);
 }

@@ -22,12 +22,14 @@ use std::alloc::Global;
 pub fn put_file_data<S: Sink>(alloc: Global, file: &FileView<'_>, out: &mut S) -> Result<(), Fault>
     ensures data { OnOk result ((bytes : List ℕ) × IsData (content_of file.now) bytes × S.takes out.old bytes out.new) }
 
-    // Any error other than OutOfMemory is that of the first volume that does not fit, and nothing was put.
+    // Any error other than OutOfMemory is that of the first volume that does not fit, and nothing
+    // was put.
     ensures err { IfErr result (λ f. ((f ≡ out_of_memory) ⊎ FirstUnfit (volumes_in_content (content_of file.now)) 0 f)
         × (out.new ≡ out.old)) }
     ensures fits { AllFit (volumes_in_content (content_of file.now)) → IfErr result (λ f. f ≡ out_of_memory) }
 {
-    let _name = file.name();
+    // For what was read, the bytes of the walk are its data.
+    file.known();
     let starts = layout_of_content(alloc, file)?;
     put_data(out, file.content(), starts.as_slice());
     Ok(())
@@ -49,10 +51,8 @@ pub fn file_bytes(alloc: Global, file: &FileView<'_>) -> Result<ByteList, Fault>
     ensures err { IfErr result (λ f. (f ≡ out_of_memory) ⊎ FirstUnfit (volumes_in_content (content_of file.now)) 0 f) }
     ensures fits { AllFit (volumes_in_content (content_of file.now)) → IfErr result (λ f. f ≡ out_of_memory) }
 {
-    let _name = file.name();
-    let starts = layout_of_content(alloc, file)?;
     let mut out = ListSink::with_room(alloc, file.data_len() as usize)?;
-    put_data(&mut out, file.content(), starts.as_slice());
+    put_file_data(alloc, file, &mut out)?;
     out.finish()
 }
 
@@ -73,7 +73,8 @@ pub fn body_bytes(alloc: Global, section: &SectionView<'_>) -> Result<ByteList, 
     ensures err { IfErr result (λ f. (f ≡ out_of_memory) ⊎ FirstUnfit (volumes_in_body (body_of section.now)) 0 f) }
     ensures fits { AllFit (volumes_in_body (body_of section.now)) → IfErr result (λ f. f ≡ out_of_memory) }
 {
-    let _kind = section.kind();
+    // For what was read, the bytes of the walk are its body.
+    section.known();
     let starts = layout_of_body(alloc, section)?;
     let mut out = ListSink::with_room(alloc, section.body_len() as usize)?;
     put_section_body(&mut out, section.body(), starts.as_slice());

@@ -67,7 +67,8 @@ fn skip_volume<'s>(volume: &VolumeView<'_>, starts: &'s [u64]) -> &'s [u64]
     requires laid { BeginsWithStarts (volumes_in volume.now) starts.now }
     ensures { result.now ≡ drop (starts_in (volumes_in volume.now)) starts.now }
 {
-    let _head = volume.head();
+    // A volume that was read has a start for each file.
+    volume.known();
     let files = volume.files();
     let (_own, inner) = starts.split_at(files.len());
     skip_files(files, inner)

@@ -1,20 +1,32 @@
-//! The sink of a walk over a volume. It sums the data of a file before it puts them.
+//! The sink of a walk over a volume: it puts what it is given into the sink below it, or sums it.
+//!
+//! The header of a file with the checksum attribute has the sum of the file's data, and comes
+//! before them. So a walk goes over the data of such a file twice: it sums them, and then it puts
+//! them. The data may hold a volume, which may have such files too. While the data of the outer
+//! file are summed, such an inner file adds only its State: its header sums to 0 without its file
+//! sum and its State, and its file sum and its data sum to 0. So its data are skipped, and no byte
+//! is summed more than once, however deep such files nest.
 
-ghost use Rattle.std.specs.Prelude.{◌≡◌, false};
-ghost use Rattle.fv_canon.specs.inner.SummingSinks.{ImageTakes, image_by};
+ghost use Rattle.std.specs.Prelude.{◌≡◌, false, true};
+ghost use Rattle.fv_canon.specs.inner.SummingSinks.{ImageTakes, image_by, sums, total_of};
 
 use fv_base::{Sink, sum8};
 
-/// A sink over another one, into which an image is put; while the data of a file are summed,
-/// nothing is put.
+/// What a `SummingSink` does with the bytes that it is given.
+#[derive(Clone, Copy, Drop)]
+pub(crate) enum Mode {
+    /// It puts them into the sink below.
+    Putting,
+    /// It sums them, and puts nothing. This is their sum so far, modulo 256.
+    Summing(u8),
+}
+
+/// A sink that puts what it is given into the sink below it, except between `begin_sum` and
+/// `end_sum`: then it sums what it is given, and puts nothing.
 #[derive(Drop)]
 pub(crate) struct SummingSink<'a, S: Sink> {
-    /// The sink into which the image is put.
-    pub(crate) below: &'a mut S,
-    /// Whether bytes are summed instead of put.
-    pub(crate) sums: bool,
-    /// Their sum, modulo 256.
-    pub(crate) total: u8,
+    below: &'a mut S,
+    mode: Mode,
 }
 
 impl<'a, S: Sink> Sink for SummingSink<'a, S> {
@@ -23,10 +35,9 @@ impl<'a, S: Sink> Sink for SummingSink<'a, S> {
     ghost laws = { image_by S.laws };
 
     fn put(&mut self, bytes: &[u8]) {
-        if self.sums {
-            self.total = self.total.wrapping_add(sum8(bytes));
-        } else {
-            self.below.put(bytes);
+        match self.mode {
+            Mode::Putting => self.below.put(bytes),
+            Mode::Summing(total) => self.mode = Mode::Summing(total.wrapping_add(sum8(bytes))),
         }
     }
 }
@@ -36,12 +47,46 @@ impl<'a, S: Sink> SummingSink<'a, S> {
     pub(crate) fn new(below: &'a mut S) -> SummingSink<'a, S>
         ensures same_sink { result.below.ghost_name ≡ below.entry.ghost_name }
         ensures now { result.below.now ≡ below.old }
-        ensures puts { result.sums ≡ false }
+        ensures puts { sums result.mode ≡ false }
     {
         SummingSink {
             below,
-            sums: false,
-            total: 0,
+            mode: Mode::Putting,
         }
+    }
+
+    // Whether it sums what it is given.
+    pub(crate) fn is_summing(&self) -> bool
+        ensures { result ≡ sums self.now.mode }
+    {
+        match self.mode {
+            Mode::Putting => false,
+            Mode::Summing(_) => true,
+        }
+    }
+
+    // Begins a sum.
+    pub(crate) fn begin_sum(&mut self)
+        ensures same_sink { self.new.below.ghost_name ≡ self.old.below.ghost_name }
+        ensures now { self.new.below.now ≡ self.old.below.now }
+        ensures sums { sums self.new.mode ≡ true }
+        ensures total { total_of self.new.mode ≡ 0 }
+    {
+        self.mode = Mode::Summing(0);
+    }
+
+    // Ends a sum, and returns it.
+    pub(crate) fn end_sum(&mut self) -> u8
+        ensures same_sink { self.new.below.ghost_name ≡ self.old.below.ghost_name }
+        ensures now { self.new.below.now ≡ self.old.below.now }
+        ensures puts { sums self.new.mode ≡ false }
+        ensures total { result ≡ total_of self.old.mode }
+    {
+        let total = match self.mode {
+            Mode::Putting => 0,
+            Mode::Summing(total) => total,
+        };
+        self.mode = Mode::Putting;
+        total
     }
 }

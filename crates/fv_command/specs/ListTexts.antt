@@ -1,5 +1,6 @@
 -- The text of `list`: a line for a volume, for each of its files and for each section of these, in order. What a part
--- holds follows its line, indented by two more spaces. With sums, the line of a volume and that of a file end with a digest.
+-- holds follows its line, indented by two more spaces. With sums, the line of a volume and that of a file end with a
+-- digest.
 use Rattle.std.specs.Prelude.{◌≡◌, ◌≢◌, ◌⊎◌, ℕ, zero, suc, ◌+◌, ◌==◌, ◌&&◌, nat_le, not, Bool, true, false}
 use Rattle.std.specs.Prelude.{if◌then◌else◌, List, [], ◌∷◌, ◌++◌, length, Option, Some, None, codes, decimal}
 use Rattle.std.specs.List.{flat_map}

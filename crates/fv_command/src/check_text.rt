@@ -38,8 +38,8 @@ fn put_check<S: Sink>(
     put_verdict(out, is_same);
 }
 
-/// Writes the lines of a check of the volume. If `tiled` is None, no pad is noted: the volume is its
-/// own canonical image.
+/// Writes the lines of a check of the volume. If `tiled` is None, no pad is noted: the volume is
+/// its own canonical image.
 ///
 /// # Errors
 ///

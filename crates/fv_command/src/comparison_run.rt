@@ -73,8 +73,9 @@ fn compare<First: Read, Second: Read, W: Write>(
     write_comparison(alloc, &first_volume, &second_volume, writer)
 }
 
-/// Writes whether two volumes have the same meaning, or the line of the fault that stopped the run. If `at` is a number,
-/// the first is the volume at this byte of its input. `other_at` says the same of the second.
+/// Writes whether two volumes have the same meaning, or the line of the fault that stopped the run.
+/// If `at` is a number, the first is the volume at this byte of its input. `other_at` says the same
+/// of the second.
 pub fn run_comparison<First: Read, Second: Read, W: Write>(
     alloc: Global,
     hex: bool,

@@ -30,9 +30,9 @@ pub fn read_bytes<R: Read>(alloc: Global, hex: bool, reader: &mut Port<R>) -> Re
     }
 }
 
-/// The volume at byte `at` of an input: as many bytes from there on as its header says, or all bytes
-/// from there on if no volume begins there; past the end of the input there are none. The whole input if `at` is None.
-/// (PI specification, volume 3, section 3.2.1.)
+/// The volume at byte `at` of an input: as many bytes from there on as its header says, or all
+/// bytes from there on if no volume begins there. Past the end of the input there are none. If `at`
+/// is None, the whole input. (PI specification, volume 3, section 3.2.1.)
 pub fn taken_at(input: &[u8], at: Option<u64>) -> &[u8]
     ensures { TakenAt at input.now result.now }
 {

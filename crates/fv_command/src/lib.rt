@@ -14,6 +14,7 @@ mod flash_text;
 mod hob_run;
 mod image_text;
 mod inputs;
+mod leaf_text;
 mod list_text;
 mod output;
 mod pads;

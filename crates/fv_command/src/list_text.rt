@@ -1,44 +1,28 @@
 //! The files and the sections of a volume, one line each.
 
 ghost use Rattle.std.specs.Prelude.{◌≡◌, ◌⊎◌, ℕ, List, IfErr, IfOk, OnOk, true};
-ghost use Rattle.std.specs.List.{flat_map};
 ghost use Rattle.fv_base.specs.Faults.{out_of_memory};
-ghost use Rattle.fv_base.specs.Sums.{words_of};
 ghost use Rattle.fv_canon.specs.Layouts.{AllFit, Fits, Unfit};
 ghost use Rattle.fv_canon.specs.Volumes.{volumes_in_body, volumes_in_content, volumes_in_files, volumes_in_sections};
 ghost use Rattle.fv_tree.specs.Meaning.{files_from, sections_from, section_kind_of, body_of, content_of};
 ghost use Rattle.fv_tree.specs.Views.{body_view, content_view};
 ghost use Rattle.fv_command.specs.inner.Indents.{levels};
 ghost use Rattle.fv_command.specs.inner.SumRuns.{SumsStop};
-ghost use Rattle.fv_command.specs.ListTexts.{is_plain, unit_text, spaces, form_text, system_text, name_text};
-ghost use Rattle.fv_command.specs.ListTexts.{volume_text, file_text, section_text};
-ghost use Rattle.fv_command.specs.ListTexts.{VersionText, InterfaceText, SubtypeText, LeafText, BodyShown};
+ghost use Rattle.fv_command.specs.ListTexts.{spaces, form_text, system_text, name_text};
+ghost use Rattle.fv_command.specs.ListTexts.{volume_text, file_text, section_text, BodyShown};
 ghost use Rattle.fv_command.specs.ListTexts.{FileSum, VolumeSum, ListText, SumsText};
 ghost use Rattle.fv_command.specs.ListTexts.{VolumeLines, FilesLines, ContentLines, SectionsLines, BodyLines};
 ghost use Rattle.fv_text.specs.PortViews.{Writes, WritingStops, shown};
 
+use crate::leaf_text::put_shown;
 use crate::sums::{put_file_sum, put_volume_sum};
-use fv_base::field::u16_at;
 use fv_base::{ByteList, Fault, FileSystem, ListSink, Port, Sink, WriteSink};
 use fv_canon::layout;
 use fv_head::VolumeHead;
-use fv_section::{freeform, ui_text, version};
-use fv_text::{GatheringSink, put_decimal, put_four_digits, put_two_digits, write_bytes};
+use fv_text::{GatheringSink, put_decimal, put_two_digits, write_bytes};
 use fv_tree::{Body, Content, FileView, SectionView, VolumeView};
 use std::alloc::Global;
 use std::io::Write;
-
-/// `EFI_SECTION_VERSION`, the type 0x14 of a section whose build number is shown. (PI
-/// specification, volume 3, section 3.2.5.15.)
-const VERSION: u8 = 0x14;
-
-/// `EFI_SECTION_USER_INTERFACE`, the type 0x15 of a section whose text is shown. (PI specification,
-/// volume 3, section 3.2.5.14.)
-const USER_INTERFACE: u8 = 0x15;
-
-/// `EFI_SECTION_FREEFORM_SUBTYPE_GUID`, the type 0x18 of a section whose GUID is shown. (PI
-/// specification, volume 3, section 3.2.5.6.)
-const FREEFORM_SUBTYPE: u8 = 0x18;
 
 /// How far a line is indented.
 #[derive(Drop)]
@@ -59,100 +43,6 @@ fn put_indent<S: Sink>(out: &mut S, indent: &Indent<'_>)
             out.put(b"  ");
             put_indent(out, outer);
         }
-    }
-}
-
-// Whether a 16-bit unit is shown as it is: a printable ASCII character except the quote and the
-// backslash.
-fn is_plain(unit: u16) -> bool
-    ensures { result ≡ is_plain unit }
-{
-    0x20 <= unit && unit <= 0x7e && unit != 0x22 && unit != 0x5c
-}
-
-// Puts a 16-bit unit of a text, as it is or as its number.
-fn put_unit<S: Sink>(out: &mut S, unit: u16)
-    ensures { S.takes out.old (unit_text unit) out.new }
-{
-    if is_plain(unit) {
-        out.put(&[unit as u8]);
-    } else {
-        out.put(b"\\u");
-        put_four_digits(out, unit);
-    }
-}
-
-// Puts the 16-bit units of a text.
-fn put_units<S: Sink>(out: &mut S, units: &[u8])
-    ensures { S.takes out.old (flat_map unit_text (words_of units.now)) out.new }
-{
-    let mut rest = units;
-    while rest.len() >= 2 {
-        put_unit(out, u16_at(rest, 0));
-        rest = &rest[2..];
-    }
-}
-
-// Puts the build number of a version section, if the body has the form of one.
-fn put_version<S: Sink>(out: &mut S, body: &[u8])
-    ensures { (text : List ℕ) × VersionText body.now text × S.takes out.old text out.new }
-{
-    match version(body) {
-        Some((build, _)) => {
-            out.put(b" version ");
-            put_decimal(out, u64::from(build));
-        }
-        None => {}
-    }
-}
-
-// Puts the text of a user interface section, if the body has the form of one.
-fn put_interface<S: Sink>(out: &mut S, body: &[u8])
-    ensures { (text : List ℕ) × InterfaceText body.now text × S.takes out.old text out.new }
-{
-    match ui_text(body) {
-        Some(units) => {
-            out.put(b" ui \"");
-            put_units(out, units);
-            out.put(b"\"");
-        }
-        None => {}
-    }
-}
-
-// Puts the GUID of a freeform subtype section, if the body has the form of one.
-fn put_subtype<S: Sink>(out: &mut S, body: &[u8])
-    ensures { (text : List ℕ) × SubtypeText body.now text × S.takes out.old text out.new }
-{
-    match freeform(body) {
-        Some((guid, _)) => {
-            out.put(b" subtype ");
-            out.put(&guid.text());
-        }
-        None => {}
-    }
-}
-
-// Puts what is shown of a leaf of this type.
-fn put_leaf<S: Sink>(out: &mut S, kind: u8, body: &[u8])
-    ensures { (text : List ℕ) × LeafText kind body.now text × S.takes out.old text out.new }
-{
-    match kind {
-        VERSION => put_version(out, body),
-        USER_INTERFACE => put_interface(out, body),
-        FREEFORM_SUBTYPE => put_subtype(out, body),
-        _ => {}
-    }
-}
-
-// Puts what is shown of the body of a section: nothing, if it is no leaf.
-fn put_shown<S: Sink>(out: &mut S, section: &SectionView<'_>)
-    ensures { (text : List ℕ) × BodyShown (section_kind_of section.now) (body_of section.now) text
-        × S.takes out.old text out.new }
-{
-    match section.leaf() {
-        Some(body) => put_leaf(out, section.kind(), body),
-        None => {}
     }
 }
 

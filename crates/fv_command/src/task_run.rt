@@ -169,7 +169,8 @@ fn perform<W: Write>(
     }
 }
 
-// Reads an input to its end, and writes the result of the task for it, or for the volume at byte `at`.
+// Reads an input to its end, and writes the result of the task for it, or for the volume at byte
+// `at`.
 fn read_and_perform<R: Read, W: Write>(
     alloc: Global,
     task: &Task,
@@ -188,7 +189,8 @@ fn read_and_perform<R: Read, W: Write>(
 }
 
 /// Reads an input to its end, and writes the result of the task for it, or the line of the fault
-/// that stops the run. If `at` is a number, the volume at this byte of the input is taken for the input.
+/// that stops the run. If `at` is a number, the volume at this byte of the input is taken for the
+/// input.
 pub fn run_task<R: Read, W: Write>(
     alloc: Global,
     task: &Task,

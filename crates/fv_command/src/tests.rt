@@ -3,23 +3,19 @@
 mod answers;
 mod checked;
 mod compared;
-mod cut_short;
 mod fakes;
-mod images;
 mod limits;
 mod listed;
 mod memory;
 mod pieces;
 mod placed;
-mod replaced;
+mod rows;
 mod runs;
 mod spans;
 mod spelling;
-mod stopped;
 mod summed;
 mod tiled;
 mod volumes;
-mod whole;
 
 use crate::fault_text::say;
 use crate::output::Output;
@@ -122,15 +118,10 @@ const THREE_LINES_AND_2_BYTES: &[u8] = b"\
 
 // Whether two pieces of bytes are written as lines of digits.
 fn writes_pieces(port: &mut Port<FakeWriter>, pieces: (&[u8], &[u8])) -> bool {
-    let sink = WriteSink {
-        port,
-        on: true,
-        count: 0,
-    };
-    let mut lines = HexSink::new(sink);
+    let mut lines = HexSink::new(WriteSink::new(port));
     lines.put(pieces.0);
     lines.put(pieces.1);
-    lines.finish().on
+    lines.finish().outcome().is_ok()
 }
 
 #[test]

@@ -1,8 +1,8 @@
--- A body is tiled in one way, or there is a first place where no cell stands.
+-- A body is tiled in one way, or there is a first place that has no cell.
 use Rattle.std.proofs.Common.{◌≡◌, ◌≤◌, ◌<◌, ℕ, ◌+◌, ◌-◌, ◌%◌, List, [], ◌∷◌, ◌++◌, length, take, drop, map, sym, ap, ◌∙◌, subst, arith}
 use Rattle.std.proofs.Common.{true, false, length-drop, length-append}
 use Rattle.std.specs.Prelude.{Ok, Err}
-use Rattle.std.proofs.lemmas.List.{take-append-drop, length-take-le, map_push, take_all, take_rest}
+use Rattle.std.proofs.lemmas.List.{take-append-drop, length-take-le, map_push, take_all}
 use Rattle.std.proofs.Math.Seq.{take-add}
 use Rattle.fv_base.specs.Flash.{AllAre, all_are, erased_byte}
 use Rattle.fv_base.specs.declared.fault.Fault.{Fault}
@@ -13,8 +13,10 @@ use Rattle.fv_file.specs.FileChecks.{IsFirstCellFault}
 use Rattle.fv_file.specs.inner.CellVerdicts.{cell_verdict}
 use Rattle.fv_file.specs.CellForms.{cell_form}
 use Rattle.fv_file.specs.declared.cell.Cell.{Cell}
-use Rattle.fv_file.proofs.CellLemmas.{CellStandsAt, verdict_stands, verdict_first, cell_span, made_up, one_cell, not_empty, no_cell}
 use Rattle.fv_base.proofs.Laws.{all_are-true}
+use Rattle.fv_file.proofs.CellFoundLemmas.{CellStandsAt}
+use Rattle.fv_file.proofs.CellLemmas.{verdict_stands, verdict_first, one_cell, no_cell}
+use Rattle.fv_file.proofs.CellPartLemmas.{cell_span, made_up, not_empty}
 use Rattle.fv_file.proofs.ErasedLemmas.{not_erased, some_left}
 use Rattle.fv_file.proofs.TilingLemmas.{no_rest, one_tiling, cut, one_more, none_more}
 
@@ -52,13 +54,13 @@ kept s p first body items new cell at len before stands l n =
     eighth a b c h k l = omega arith
 
 -- the cell that the loop reads
-pub stands_in : {s : FileSystem} {p : Polarity} {first : ℕ} {body : List ℕ} {items : List Cell} {at : ℕ} {c : CellForm}
-    → CellsKept s p first body items at → length body % 8 ≡ 0
-    → cell_verdict s p (first + at) (take (length body - at) (drop at body)) ≡ Ok c → CellStandsAt s p (first + at) c (drop at body)
-stands_in {s} {p} {first} {body} {items} {at} {c} k in_eights is =
-    let same : take (length body - at) (drop at body) ≡ drop at body = take_rest body at in
-    verdict_stands s p (first + at) (drop at body) c (ap (λ (n : ℕ). n % 8) (length-drop at body)
-    ∙ eighth (length body) at in_eights k.multiple k.inside) (subst (λ r. cell_verdict s p (first + at) r ≡ Ok c) same is)
+pub stands_in : {s : FileSystem} {p : Polarity} {first : ℕ} {body rest : List ℕ} {items : List Cell} {at : ℕ} {c : CellForm}
+    → CellsKept s p first body items at → length body % 8 ≡ 0 → rest ≡ drop at body → cell_verdict s p (first + at) rest ≡ Ok c
+    → CellStandsAt s p (first + at) c (drop at body)
+stands_in {s} {p} {first} {body} {rest} {items} {at} {c} k in_eights behind is =
+    verdict_stands s p (first + at) (drop at body) c
+    (ap (λ (n : ℕ). n % 8) (length-drop at body) ∙ eighth (length body) at in_eights k.multiple k.inside)
+    (ap (cell_verdict s p (first + at)) (sym behind) ∙ is)
   where
     eighth : (a b : ℕ) → a % 8 ≡ 0 → b % 8 ≡ 0 → b ≤ a → (a - b) % 8 ≡ 0
     eighth a b h k l = omega arith
@@ -85,31 +87,28 @@ free_kept s p first body items new cell at before some clean is n =
     (subst (λ b. Tiles s p first (map cell_form items ++ Free (first + at) (length body - at) ∷ []) b) (take-append-drop at body) more)
 
 -- what the test at a place says of all that is left
-pub rest_free : (e : ℕ) (body : List ℕ) (at : ℕ) → all_are e (take (length body - at) (drop at body)) ≡ true → AllAre e (drop at body)
-rest_free e body at is = all_are-true e (drop at body) (subst (λ r. all_are e r ≡ true) (take_rest body at) is)
+pub rest_free : (e : ℕ) (rest body : List ℕ) (at : ℕ) → rest ≡ drop at body → all_are e rest ≡ true → AllAre e (drop at body)
+rest_free e rest body at behind is = all_are-true e (drop at body) (ap (all_are e) (sym behind) ∙ is)
 
-pub rest_used : (e : ℕ) (body : List ℕ) (at : ℕ) → all_are e (take (length body - at) (drop at body)) ≡ false
+pub rest_used : (e : ℕ) (rest body : List ℕ) (at : ℕ) → rest ≡ drop at body → all_are e rest ≡ false
     → (at < length body) × (AllAre e (drop at body) → ⊥)
-rest_used e body at is =
-    let used : all_are e (drop at body) ≡ false = subst (λ r. all_are e r ≡ false) (take_rest body at) is in
+rest_used e rest body at behind is =
+    let used : all_are e (drop at body) ≡ false = ap (all_are e) (sym behind) ∙ is in
     (omega (arith, some_left e (drop at body) used, length-drop at body), not_erased e (drop at body) used)
 
 -- the place at which the loop stops
-pub first_here : (s : FileSystem) (p : Polarity) (first : ℕ) (body : List ℕ) (items : List Cell) (at : ℕ) (f : Fault)
-    → CellsKept s p first body items at
-    → (at < length body) × (AllAre (erased_byte p) (drop at body) → ⊥)
-    → cell_verdict s p (first + at) (take (length body - at) (drop at body)) ≡ Err f → IsFirstCellFault s p first body f
-first_here s p first body items at f k used is =
-    let same : take (length body - at) (drop at body) ≡ drop at body = take_rest body at in
-    record {
-      cells = map cell_form items;
-      at = at;
-      tiled = k.tiled;
-      none_free = k.none_free;
-      inside = used.0;
-      not_erased = used.1;
-      fault_is = verdict_first s p (first + at) (drop at body) f (subst (λ r. cell_verdict s p (first + at) r ≡ Err f) same is);
-    }
+pub first_here : (s : FileSystem) (p : Polarity) (first : ℕ) (rest body : List ℕ) (items : List Cell) (at : ℕ) (f : Fault)
+    → CellsKept s p first body items at → (at < length body) × (AllAre (erased_byte p) (drop at body) → ⊥) → rest ≡ drop at body
+    → cell_verdict s p (first + at) rest ≡ Err f → IsFirstCellFault s p first body f
+first_here s p first rest body items at f k used behind is = record {
+  cells = map cell_form items;
+  at = at;
+  tiled = k.tiled;
+  none_free = k.none_free;
+  inside = used.0;
+  not_erased = used.1;
+  fault_is = verdict_first s p (first + at) (drop at body) f (ap (cell_verdict s p (first + at)) (sym behind) ∙ is);
+}
 
 -- ---- all tilings
 

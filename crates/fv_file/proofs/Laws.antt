@@ -4,14 +4,15 @@
 
 -- a body is tiled in one way; where there is a first fault there is no tiling; each cell lies within the volume
 pub use Rattle.fv_file.proofs.BodyLemmas.{only_one, none_after, all_within}
--- at one place stands one cell, and none where a check of a cell fails; it has bytes, as many as its span says; a file's header and
--- data make up its size
-pub use Rattle.fv_file.proofs.CellLemmas.{one_cell, no_cell, not_empty, cell_span, made_up}
--- one tiling at most; cells that are not free begin every tiling that goes on; one more cell behind cells that are not free
+-- at one place there is one cell, and none where a check of a cell fails
+pub use Rattle.fv_file.proofs.CellLemmas.{one_cell, no_cell}
+-- a cell has bytes, as many as its span says; a file has 24 at least; a file's header and data make up its size
+pub use Rattle.fv_file.proofs.CellPartLemmas.{not_empty, cell_span, file_least, made_up}
+-- one tiling at most; cells that are not free begin every tiling that goes on; one more cell after cells that are not free
 pub use Rattle.fv_file.proofs.TilingLemmas.{OneCell, NotEmpty, one_tiling, cut, one_more, none_more}
 -- tilings are joined; there are no more cells than bytes
 pub use Rattle.fv_file.proofs.TilingLaws.{joined, cells_few}
--- a cell's data are the part of the volume behind its header
+-- a cell's data are the part of the volume after its header
 pub use Rattle.fv_file.proofs.TilingLaws.{IsPayloadIn, tiled_payloads, body_payloads}
 -- what is known of each file of a tiling of bytes
 pub use Rattle.fv_file.proofs.TilingLaws.{IsRead, tiles_read}
@@ -19,7 +20,7 @@ pub use Rattle.fv_file.proofs.TilingLaws.{IsRead, tiles_read}
 pub use Rattle.fv_file.proofs.TilingLaws.{within_index}
 -- ---- a file
 
--- the data stand behind the header; a short header says a short size; what is known of a file that stands in bytes
+-- the data are after the header; a short header says a short size; what is known of a file in bytes
 pub use Rattle.fv_file.proofs.FileLaws.{payload_behind, short_limit, FileRead, cell_read}
 -- a header has at least 24 bytes
 pub use Rattle.fv_file.proofs.FileLemmas.{header_least}

@@ -1,7 +1,10 @@
 pub mod AttributeLaws
 pub mod AttributeLemmas
 pub mod BodyLemmas
+pub mod CellFoundLemmas
 pub mod CellLemmas
+pub mod CellPartLemmas
+pub mod CellReadLemmas
 pub mod ErasedLemmas
 pub mod FileLaws
 pub mod FileLemmas
@@ -9,6 +12,7 @@ pub mod FirstFileLemmas
 pub mod Laws
 pub mod NewHeaderLaws
 pub mod NewHeaderLemmas
+pub mod SortLemmas
 pub mod StateLemmas
 pub mod TilingLaws
 pub mod TilingLemmas

@@ -22,12 +22,13 @@ use Rattle.fv_file.specs.Attributes.{attribute_bits, is_large}
 use Rattle.fv_file.specs.Cells.{IsFilled}
 use Rattle.fv_file.specs.Files.{file_header_len, head_in, header_sum_of, pad_kind, file_size_in, IsFileHeader}
 use Rattle.fv_file.specs.States.{StateOf, is_alive}
-use Rattle.fv_file.specs.inner.HeadParts.{head_bytes}
+use Rattle.fv_file.specs.inner.NewHeaderParts.{file_header, new_header_bytes}
 use Rattle.fv_file.specs.NewHeaders.{IsNewHeader, IsHeadOfFile, IsHeadOfPad, complement, fields_of, file_fields, file_head_of, header_bytes}
 use Rattle.fv_file.specs.NewHeaders.{header_with, needs_large, pad_fields, pad_head_of, pad_name, state_byte, with_large}
 use Rattle.fv_file.specs.Files.{fixed_checksum}
 use Rattle.fv_file.specs.declared.attributes.FileAttributes.{FileAttributes}
 use Rattle.fv_file.specs.declared.head.FileHead.{FileHead}
+use Rattle.fv_file.specs.declared.new_header.NewHeader.{NewHeader}
 use Rattle.fv_file.specs.declared.state.FileState.TheVariants as states
 use Rattle.fv_file.proofs.AttributeLemmas.{set_large}
 use Rattle.fv_file.proofs.FileLemmas.{header_least}
@@ -291,15 +292,15 @@ size_small data_len most = by_form (needs_large data_len) data_len refl most whe
   by_form true n is most = omega arith
   by_form false n is most = grind (arith, nat_tests)
 
--- the bytes that the fields of a file give are its header's
-pub file_head_is : (polarity : Polarity) (name : Guid) (kind : ℕ) (attributes : FileAttributes) (data_len file_sum : ℕ) (head : FileHead)
+-- the bytes of the header of a file
+pub file_head_is : (polarity : Polarity) (name : Guid) (kind : ℕ) (attributes : FileAttributes) (data_len file_sum : ℕ) (header : NewHeader)
     → is_large (attribute_bits attributes) ≡ false
-    → head ≡ file_fields name kind attributes data_len file_sum 0
-    → head_bytes head polarity ≡ file_head_of name kind attributes data_len file_sum polarity
-file_head_is polarity name kind attributes data_len file_sum head short is =
+    → header ≡ file_header name kind attributes data_len file_sum
+    → new_header_bytes header polarity ≡ file_head_of name kind attributes data_len file_sum polarity
+file_head_is polarity name kind attributes data_len file_sum header short is =
     let large : Bool = needs_large data_len in
     let bits : ℕ = with_large large (attribute_bits attributes) in
-    ap (λ (x : FileHead). head_bytes x polarity) is
+    ap (λ (x : NewHeader). new_header_bytes x polarity) is
     ∙ ap (λ (l : Bool). header_bytes file_sum (bytes_of name) kind bits (file_header_len large + data_len) l (state_byte polarity))
     (with_large_is large (attribute_bits attributes) short)
 

@@ -9,8 +9,8 @@ use Rattle.fv_base.specs.declared.flash.Polarity.{Polarity}
 use Rattle.fv_base.proofs.Laws.{bytes_back, bytes_front, field-append_front}
 use Rattle.fv_file.specs.Cells.{CellForm, Valid, Pad, Dead, Stub, Free, IsCell, IsFilled, Tiles, NoneFree, CellsWithin, offset_of, cell_len}
 use Rattle.fv_file.specs.declared.head.FileHead.{FileHead}
-use Rattle.fv_file.proofs.CellLemmas.{cell_span, made_up, not_empty}
-use Rattle.fv_file.proofs.FileLaws.{FileRead, cell_read, payload_behind}
+use Rattle.fv_file.proofs.CellPartLemmas.{cell_span, made_up, not_empty}
+use Rattle.fv_file.proofs.FileLaws.{FileRead, cell_read_in, payload_behind}
 
 -- cells, none of them free, and then more cells
 pub joined : (s : FileSystem) (p : Polarity) (at : ℕ) (cs ds : List CellForm) (x y : List ℕ) → Tiles s p at cs x → NoneFree cs
@@ -38,9 +38,9 @@ cells_few s p at [] b tiles = omega arith
 cells_few s p at (c ∷ cs) b (x, rest, text, is, o, free, more) =
     omega (arith, ap length text, length-append x rest, not_empty s p c x is, cells_few s p (at + length x) cs rest more)
 
--- ---- the data of a cell are the part of the volume behind its header
+-- ---- the data of a cell are the part of the volume after its header
 
--- of a file or a pad, so many bytes of the volume at the place behind the header
+-- of a file or a pad, so many bytes of the volume from the end of the header on
 abbrev pub IsPayloadIn : List ℕ → CellForm → Type 0
 IsPayloadIn volume (Valid at head payload) = payload ≡ take (head.size - head.header_len) (drop (at + head.header_len) volume)
 IsPayloadIn volume (Pad at head payload) = payload ≡ take (head.size - head.header_len) (drop (at + head.header_len) volume)
@@ -97,25 +97,10 @@ abbrev pub IsRead : FileSystem → ℕ → CellForm → Type 0
 IsRead system limit (Valid at head payload) = FileRead system limit head payload
 IsRead system limit _ = Unit {0}
 
-file_within : (system : FileSystem) (a b : ℕ) (head : FileHead) (payload : List ℕ) → a ≤ b → FileRead system a head payload
-    → FileRead system b head payload
-file_within system a b head payload l r = record {
-  name = r.name;
-  name_bytes = r.name_bytes;
-  kind_small = r.kind_small;
-  attributes_small = r.attributes_small;
-  kind = r.kind;
-  moves = r.moves;
-  large = r.large;
-  short = r.short;
-  within = omega (arith, r.within, l);
-  payload = r.payload;
-}
-
 one_read : (system : FileSystem) (p : Polarity) (limit : ℕ) (c : CellForm) (x : List ℕ) → IsBytes x → length x ≤ limit
     → IsCell system p c x → IsRead system limit c
 one_read system p limit (Valid at head payload) x small most is =
-    file_within system (length x) limit head payload most (cell_read system p at head payload x small is)
+    cell_read_in system p limit at head payload x small most is
 one_read system p limit (Pad at head payload) x small most is = tt
 one_read system p limit (Dead at len) x small most is = tt
 one_read system p limit (Stub at len) x small most is = tt

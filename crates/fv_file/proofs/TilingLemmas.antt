@@ -6,7 +6,7 @@ use Rattle.fv_base.specs.declared.flash.FileSystem.{FileSystem}
 use Rattle.fv_base.proofs.Laws.{same_cut}
 use Rattle.fv_file.specs.Cells.{CellForm, offset_of, is_free, IsCell, Tiles, NoneFree}
 
--- at one place stands one cell, a free one only where it is all the rest
+-- at one place there is one cell, a free one only where it is all the rest
 abbrev pub OneCell : FileSystem → Polarity → Type 0
 OneCell s p = (c d : CellForm) (u v w z : List ℕ) → IsCell s p c u → IsCell s p d v → offset_of c ≡ offset_of d
     → (is_free c ≡ true → w ≡ []) → (is_free d ≡ true → z ≡ []) → u ++ w ≡ v ++ z → (c ≡ d) × (length u ≡ length v)
@@ -61,7 +61,7 @@ cut s p one some at (c ∷ cs) (d ∷ ds) x y (u, w, e, is, o, last, more) free 
     never : {A : Type 0} → (f : Bool) → f ≡ true → f ≡ false → A
     never f t n = absurd cc
 
--- one more cell behind cells that are not free
+-- one more cell after cells that are not free
 pub one_more : (s : FileSystem) (p : Polarity) (at : ℕ) (cs : List CellForm) (c : CellForm) (x y : List ℕ) → Tiles s p at cs x → NoneFree cs
     → IsCell s p c y → offset_of c ≡ at + length x → Tiles s p at (cs ++ c ∷ []) (x ++ y)
 one_more s p at [] c x y t free is o =

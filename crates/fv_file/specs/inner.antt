@@ -1,3 +1,4 @@
--- Definitions that serve private clauses alone: there is nothing to believe here.
+-- Definitions that serve only private clauses: there is nothing to believe here.
 pub mod CellVerdicts
-pub mod HeadParts
+pub mod NewHeaderParts
+pub mod StateSorts

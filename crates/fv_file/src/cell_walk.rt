@@ -11,11 +11,12 @@ ghost use Rattle.fv_file.specs.CellForms.{cell_form};
 
 use crate::cell::Cell;
 use crate::cell_list::Cells;
-use crate::head::{PAD, file_at, header_len_at, size_at};
+use crate::file_type::FFS_PAD;
+use crate::head::{file_at, header_len_at, size_at};
 use crate::layout::{HEADER_LEN, SIZE_OFFSET, STATE_OFFSET};
 use crate::leading::leading_count;
 use crate::state::{FileState, file_state};
-use fv_base::field::up_to_8;
+use fv_base::field::{bytes_from, up_to_8};
 use fv_base::{Fault, FaultKind, FileSystem, Polarity, all_are, check};
 use std::alloc::Global;
 
@@ -80,7 +81,7 @@ fn cell_at<'a>(
         FileState::DataValid | FileState::Marked => {
             let head = file_at(rest, at, system, state)?;
             let payload = &rest[head.header_len as usize..head.size as usize];
-            if head.kind == PAD {
+            if head.kind == FFS_PAD {
                 Ok(Cell::Pad {
                     offset: at,
                     head,
@@ -136,7 +137,7 @@ fn cell_count(body: &[u8], polarity: Polarity) -> usize
     let mut rest = body;
     let mut count = 0;
     while rest.len() >= HEADER_LEN && rest[STATE_OFFSET] != polarity.erased() {
-        rest = &rest[stride_at(rest, polarity)..];
+        rest = bytes_from(rest, stride_at(rest, polarity));
         count += 1;
     }
     count + usize::from(!rest.is_empty())
@@ -159,8 +160,9 @@ fn cells_in(
 {
     let mut list = Vec::with_capacity(alloc, cell_count(body, polarity))?;
     let mut at = 0;
-    while !is_free(&body[at..], polarity) {
-        let cell = cell_at(&body[at..], first + at as u64, system, polarity)?;
+    while !is_free(bytes_from(body, at), polarity) {
+        let rest = bytes_from(body, at);
+        let cell = cell_at(rest, first + at as u64, system, polarity)?;
         let len = span_of(&cell);
         list.push(cell)?;
         at += len as usize;
@@ -219,5 +221,6 @@ pub fn cells(
     // A body of no bytes is not rejected, not even because memory runs out.
     ensures some { IfErr result (λ _. first < length volume.now) }
 {
-    cells_in(alloc, &volume[first as usize..], first, system, polarity)
+    let body = bytes_from(volume, first as usize);
+    cells_in(alloc, body, first, system, polarity)
 }

@@ -9,7 +9,7 @@ ghost use Rattle.fv_file.specs.declared.head.FileHead.{FileHead};
 
 use crate::head::{FileHead, file_at};
 use crate::layout::{HEADER_LEN, SIZE_OFFSET, STATE_OFFSET};
-use crate::state::{FileState, file_state};
+use crate::state::file_state;
 use fv_base::{Fault, FaultKind, FileSystem, Polarity, check};
 
 // The header, or the first fault.
@@ -22,9 +22,7 @@ fn verdict(bytes: &[u8], system: FileSystem, polarity: Polarity) -> Result<FileH
         SIZE_OFFSET as u64,
     )?;
     match file_state(bytes[STATE_OFFSET], polarity) {
-        Some(state @ (FileState::DataValid | FileState::Marked)) => file_at(
-            bytes, 0, system, state,
-        ),
+        Some(state) if state.is_alive() => file_at(bytes, 0, system, state),
         _ => Err(Fault::outer(FaultKind::FileState, STATE_OFFSET as u64)),
     }
 }

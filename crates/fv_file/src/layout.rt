@@ -21,13 +21,16 @@ pub(crate) const ATTRIBUTES_OFFSET: usize = 19;
 pub(crate) const SIZE_OFFSET: usize = 20;
 
 /// `State`, 1 byte.
-pub(crate) const STATE_OFFSET: usize = 23;
+pub const STATE_OFFSET: usize = 23;
 
 /// `ExtendedSize`, 8 bytes, in a large header only: the size of the file, its header included.
 pub(crate) const EXTENDED_SIZE_OFFSET: usize = 24;
 
 /// The length of `EFI_FFS_FILE_HEADER`.
-pub(crate) const HEADER_LEN: usize = 24;
+pub const HEADER_LEN: usize = 24;
 
 /// The length of `EFI_FFS_FILE_HEADER2`.
-pub(crate) const LARGE_HEADER_LEN: usize = 32;
+pub const LARGE_HEADER_LEN: usize = 32;
+
+/// The greatest size of a file with a short header, the header included: `Size` has 3 bytes.
+pub const SHORT_SIZE_LIMIT: u64 = 0xff_ffff;

@@ -5,9 +5,10 @@ mod attributes;
 mod cell;
 mod cell_list;
 mod cell_walk;
+pub mod file_type;
 mod first_file;
 mod head;
-mod layout;
+pub mod layout;
 mod leading;
 mod new_header;
 mod state;
@@ -20,5 +21,7 @@ pub use cell_list::Cells;
 pub use cell_walk::cells;
 pub use first_file::verify_ffs_file;
 pub use head::{FIXED_CHECKSUM, FileHead};
-pub use new_header::{HeadBytes, file_head_bytes, pad_head_bytes};
+pub use new_header::{
+    HeadBytes, NEW_STATE_ON_ONES, NEW_STATE_ON_ZEROS, file_head_bytes, pad_head_bytes,
+};
 pub use state::{FileState, file_state};

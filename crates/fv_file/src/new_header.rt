@@ -5,31 +5,37 @@ ghost use Rattle.fv_base.specs.Guids.{bytes_of};
 ghost use Rattle.fv_base.specs.Limits.{data_limit};
 ghost use Rattle.fv_base.specs.Value.{IsBytes};
 ghost use Rattle.fv_file.specs.Attributes.{attribute_bits, is_large, is_fixed};
-ghost use Rattle.fv_file.specs.Files.{header_sum_at, pad_kind};
-ghost use Rattle.fv_file.specs.inner.HeadParts.{HasPlace, size_fields, whole_bytes, head_with, head_bytes};
+ghost use Rattle.fv_file.specs.Files.{file_header_len, header_sum_at, pad_kind};
+ghost use Rattle.fv_file.specs.inner.NewHeaderParts.{HasPlace, size_fields, whole_bytes, header_of, new_header_bytes};
+ghost use Rattle.fv_file.specs.inner.NewHeaderParts.{file_header, pad_header};
 ghost use Rattle.fv_file.specs.NewHeaders.{IsNewHeader, IsHeadOfFile, IsHeadOfPad, file_fields, pad_fields};
 ghost use Rattle.fv_file.specs.NewHeaders.{file_head_of, pad_head_of, with_large, state_byte};
 
 use crate::attributes::FileAttributes;
-use crate::head::{FIXED_CHECKSUM, FileHead, PAD};
+use crate::file_type::FFS_PAD;
+use crate::head::FIXED_CHECKSUM;
 use crate::layout::{
     ATTRIBUTES_OFFSET, EXTENDED_SIZE_OFFSET, FILE_SUM_OFFSET, HEADER_LEN, HEADER_SUM_OFFSET,
-    LARGE_HEADER_LEN, SIZE_OFFSET, STATE_OFFSET, TYPE_OFFSET,
+    LARGE_HEADER_LEN, SHORT_SIZE_LIMIT, SIZE_OFFSET, STATE_OFFSET, TYPE_OFFSET,
 };
-use crate::state::FileState;
 use bitflags::Flags;
 use byteorder::{ByteOrder, LittleEndian};
 use fv_base::{Guid, Polarity, sum8};
 use std::marker::Model;
 
-/// The greatest size of a file with a short header: `Size` has 3 bytes.
-const SHORT_LIMIT: u64 = 0xff_ffff;
+/// `State` of a new file, whose data are valid, if erased bits are zeros: the bits
+/// `EFI_FILE_HEADER_CONSTRUCTION`, `EFI_FILE_HEADER_VALID` and `EFI_FILE_DATA_VALID`. (PI
+/// specification, volume 3, section 3.2.3.1, `EFI_FFS_FILE_STATE`.)
+pub const NEW_STATE_ON_ZEROS: u8 = 0x07;
+
+/// `State` of a new file if erased bits are ones: the same bits, written as zeros.
+pub const NEW_STATE_ON_ONES: u8 = 0xf8;
 
 /// The bytes of a header, `EFI_FFS_FILE_HEADER` or `EFI_FFS_FILE_HEADER2`: 24, or 32 for a large
 /// one. Contracts see them as a list. (PI specification, volume 3, section 3.2.3.1.)
 #[derive(Drop)]
 pub struct HeadBytes {
-    bytes: [u8; 32],
+    bytes: [u8; LARGE_HEADER_LEN],
     count: usize,
 }
 
@@ -52,14 +58,28 @@ impl HeadBytes {
     }
 }
 
-// `State` of a file whose data are valid: the bits `EFI_FILE_HEADER_CONSTRUCTION`,
-// `EFI_FILE_HEADER_VALID` and `EFI_FILE_DATA_VALID`.
+/// What a new header says. Its header sum follows from this, and `State` from the polarity.
+#[derive(Clone, Copy)]
+struct NewHeader {
+    /// The name, `Name`.
+    name: Guid,
+    /// The type, `Type`.
+    kind: u8,
+    /// The attribute bits, `Attributes`. Bit 0x01, `FFS_ATTRIB_LARGE_FILE`, says the form.
+    attributes: FileAttributes,
+    /// The size of the file in bytes, its header included.
+    size: u64,
+    /// `IntegrityCheck.Checksum.File`.
+    file_sum: u8,
+}
+
+// `State` of a new file.
 fn state_byte(polarity: Polarity) -> u8
     ensures { result ≡ state_byte polarity }
 {
     match polarity {
-        Polarity::Ones => 0xf8,
-        Polarity::Zeros => 0x07,
+        Polarity::Ones => NEW_STATE_ON_ONES,
+        Polarity::Zeros => NEW_STATE_ON_ZEROS,
     }
 }
 
@@ -78,52 +98,60 @@ fn size_fields(size: u64, large: bool, state: u8) -> [u8; 12]
     bytes
 }
 
-// The 32 bytes of a large header, or those of a short one with zeros after it.
-fn whole_bytes(head: &FileHead, header_sum: u8, file_sum: u8, state: u8) -> [u8; 32]
-    requires { HasPlace head.now }
-    ensures { result ≡ whole_bytes head.now header_sum file_sum state }
+// The length of a header of this form.
+fn header_len(large: bool) -> usize
+    ensures { result ≡ file_header_len large }
 {
-    let mut bytes = [0u8; 32];
+    if large { LARGE_HEADER_LEN } else { HEADER_LEN }
+}
+
+// The 32 bytes of a large header, or those of a short one with zeros after it.
+fn whole_bytes(
+    header: &NewHeader,
+    header_sum: u8,
+    file_sum: u8,
+    state: u8,
+) -> [u8; LARGE_HEADER_LEN]
+    requires { HasPlace header.now }
+    ensures { result ≡ whole_bytes header.now header_sum file_sum state }
+{
+    let mut bytes = [0u8; LARGE_HEADER_LEN];
     bytes[HEADER_SUM_OFFSET] = header_sum;
     bytes[FILE_SUM_OFFSET] = file_sum;
-    bytes[TYPE_OFFSET] = head.kind;
-    bytes[ATTRIBUTES_OFFSET] = head.attributes.bits();
+    bytes[TYPE_OFFSET] = header.kind;
+    bytes[ATTRIBUTES_OFFSET] = header.attributes.bits();
     bytes[SIZE_OFFSET..].copy_from_slice(&size_fields(
-        head.size,
-        head.attributes.is_large(),
+        header.size,
+        header.attributes.is_large(),
         state,
     ));
-    bytes[..HEADER_SUM_OFFSET].copy_from_slice(&head.name.to_bytes());
+    bytes[..HEADER_SUM_OFFSET].copy_from_slice(&header.name.to_bytes());
     bytes
 }
 
 // The bytes of a header with these two sums and this State.
-fn header_with(head: &FileHead, header_sum: u8, file_sum: u8, state: u8) -> HeadBytes
-    requires { HasPlace head.now }
-    ensures is { result ≡ head_with head.now header_sum file_sum state }
+fn header_with(header: &NewHeader, header_sum: u8, file_sum: u8, state: u8) -> HeadBytes
+    requires { HasPlace header.now }
+    ensures is { result ≡ header_of header.now header_sum file_sum state }
     ensures bytes { IsBytes result }
-    ensures name { length (bytes_of head.now.name) ≡ 16 }
+    ensures name { length (bytes_of header.now.name) ≡ 16 }
 {
     HeadBytes {
-        bytes: whole_bytes(head, header_sum, file_sum, state),
-        count: if head.attributes.is_large() {
-            LARGE_HEADER_LEN
-        } else {
-            HEADER_LEN
-        },
+        bytes: whole_bytes(header, header_sum, file_sum, state),
+        count: header_len(header.attributes.is_large()),
     }
 }
 
 // The bytes of a header with its right sum.
-fn header_bytes(head: &FileHead, polarity: Polarity) -> HeadBytes
-    requires { HasPlace head.now }
-    ensures is { result ≡ head_bytes head.now polarity }
+fn header_bytes(header: &NewHeader, polarity: Polarity) -> HeadBytes
+    requires { HasPlace header.now }
+    ensures is { result ≡ new_header_bytes header.now polarity }
     ensures bytes { IsBytes result }
-    ensures name { length (bytes_of head.now.name) ≡ 16 }
+    ensures name { length (bytes_of header.now.name) ≡ 16 }
 {
-    let sum = sum8(header_with(head, 0, 0, 0).as_slice());
+    let sum = sum8(header_with(header, 0, 0, 0).as_slice());
     let header_sum = 0u8.wrapping_sub(sum);
-    header_with(head, header_sum, head.file_sum, state_byte(polarity))
+    header_with(header, header_sum, header.file_sum, state_byte(polarity))
 }
 
 // The attribute bits with the one for the form of the header.
@@ -138,45 +166,38 @@ fn with_form(attributes: FileAttributes, large: bool) -> FileAttributes
     bits
 }
 
-// The fields of a file; its header sum is not computed yet.
-fn file_fields(
+// The header of a file.
+fn file_header(
     name: Guid,
     kind: u8,
     attributes: FileAttributes,
     data_len: u64,
     file_sum: u8,
-) -> FileHead
+) -> NewHeader
     requires short { is_large (attribute_bits attributes) ≡ false }
     requires most { data_len ≤ data_limit }
-    ensures { result ≡ file_fields name kind attributes data_len file_sum 0 }
+    ensures { result ≡ file_header name kind attributes data_len file_sum }
 {
-    let large = 24 + data_len > SHORT_LIMIT;
-    let header_len = if large { 32 } else { 24 };
-    FileHead {
+    let large = HEADER_LEN as u64 + data_len > SHORT_SIZE_LIMIT;
+    NewHeader {
         name,
         kind,
         attributes: with_form(attributes, large),
-        size: header_len + data_len,
-        header_len,
-        header_sum: 0,
+        size: header_len(large) as u64 + data_len,
         file_sum,
-        state: FileState::DataValid,
     }
 }
 
-// The fields of a pad; its header sum is not computed yet.
-fn pad_fields(size: u64) -> FileHead
-    ensures { result ≡ pad_fields size 0 }
+// The header of a pad.
+fn pad_header(size: u64) -> NewHeader
+    ensures { result ≡ pad_header size }
 {
-    FileHead {
+    NewHeader {
         name: Guid::from_bytes([0xff; 16]),
-        kind: PAD,
+        kind: FFS_PAD,
         attributes: FileAttributes::from_bits_retain(0),
         size,
-        header_len: 24,
-        header_sum: 0,
         file_sum: FIXED_CHECKSUM,
-        state: FileState::DataValid,
     }
 }
 
@@ -214,7 +235,7 @@ pub fn file_head_bytes(
     ensures bytes { result ≡ file_head_of name kind attributes data_len file_sum polarity }
 {
     header_bytes(
-        &file_fields(name, kind, attributes, data_len, file_sum),
+        &file_header(name, kind, attributes, data_len, file_sum),
         polarity,
     )
 }
@@ -238,5 +259,5 @@ pub fn pad_head_bytes(size: u64, polarity: Polarity) -> HeadBytes
     // It is these bytes.
     ensures bytes { result ≡ pad_head_of size polarity }
 {
-    header_bytes(&pad_fields(size), polarity)
+    header_bytes(&pad_header(size), polarity)
 }

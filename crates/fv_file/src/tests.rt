@@ -1,4 +1,7 @@
 //! What no contract says: bodies from outside, and the fault of each change of one.
+//!
+//! A table is one text, which one function returns. A line is the name of a case, what is expected
+//! of it, and how its bytes are spelled, with a colon between.
 
 mod begins;
 mod bodies;
@@ -10,57 +13,70 @@ mod states;
 mod stray;
 mod written;
 
-use crate::{Cell, Cells, FileState, cells};
+use crate::{Cell, Cells, FileHead, FileState, cells};
 use bitflags::Flags;
 use fv_base::{Fault, FaultKind, FileSystem, Polarity};
 use std::alloc::Global;
+use std::str::from_utf8;
 
 /// The name of most files.
 const A: [u8; 16] = [0x0a; 16];
 
-/// The name of another file.
-const B: [u8; 16] = [0x0b; 16];
-
-/// The name of a third file.
-const C: [u8; 16] = [0x0c; 16];
-
 /// The name of a pad, and 16 erased bytes.
 const P: [u8; 16] = [0xff; 16];
 
-/// The kind of a cell.
-#[derive(Clone, Copy, PartialEq, Eq)]
-enum Sort {
-    Valid,
-    Marked,
-    Pad,
-    Dead,
-    Stub,
-    Free,
+// The byte that two hexadecimal digits are.
+fn byte_of(digits: &[u8]) -> Option<u8> {
+    u8::from_str_radix(from_utf8(digits).ok()?, 16).ok()
 }
 
-/// The kind of a cell, its offset, how many bytes it has (a file or pad without filler), its
-/// attribute bits and its data.
-type Form<'a> = (Sort, u64, u64, u8, &'a [u8]);
+// `front` zeros and the bytes that a text spells. Two digits are a byte, a star and a number after
+// a word repeat it, and spaces separate words.
+fn spell(alloc: Global, front: usize, text: &str) -> Option<Vec<u8>> {
+    let mut bytes = vec![in alloc; 0u8; front].ok()?;
+    for word in text.split_whitespace() {
+        let (digits, count) = word.split_once('*').unwrap_or((word, "1"));
+        for _ in 0..count.parse::<usize>().ok()? {
+            for pair in digits.as_bytes().chunks(2) {
+                bytes.push(byte_of(pair)?).ok()?;
+            }
+        }
+    }
+    Some(bytes)
+}
 
-/// A name for the case, how many bytes the volume has, what the body begins with, and its cells.
-type Body = (
-    &'static str,
-    usize,
-    &'static [&'static [u8]],
-    &'static [Form<'static>],
-);
+// What is expected of the case of a line, and how its bytes are spelled.
+fn row_of(line: &str) -> Option<(&str, &str)> {
+    let (_, parts) = line.split_once(": ")?;
+    parts.split_once(": ")
+}
 
-/// What is wrong, how many bytes the volume has, what the body begins with, and the fault.
-type Refusal = (
-    &'static str,
-    usize,
-    &'static [&'static [u8]],
-    FaultKind,
-    u64,
-);
+// A fault as text: its kind, offset and depth.
+fn fault_text(alloc: Global, fault: Fault) -> Option<String> {
+    let (kind, offset, depth) = (fault.kind, fault.place.offset, fault.place.depth);
+    format!(in alloc; "{kind:?} {offset} {depth}").ok()
+}
 
-// What a cell shows.
-fn seen<'a>(cell: &Cell<'a>) -> Form<'a> {
+// A cell that is no file as text: its kind, its offset, and how many bytes it has.
+fn span_text(alloc: Global, kind: &str, offset: u64, len: u64) -> Option<String> {
+    format!(in alloc; "{kind} {offset} {len}").ok()
+}
+
+// A file or a pad as text: its kind, its offset, how many bytes it has without filler, its
+// attribute bits and its data.
+fn file_text(
+    alloc: Global,
+    kind: &str,
+    offset: u64,
+    head: &FileHead,
+    payload: &[u8],
+) -> Option<String> {
+    let (size, bits) = (head.size, head.attributes.bits());
+    format!(in alloc; "{kind} {offset} {size} {bits:02x} {payload:?}").ok()
+}
+
+// A cell as text.
+fn cell_text(alloc: Global, cell: &Cell) -> Option<String> {
     match *cell {
         Cell::Valid {
             offset,
@@ -68,44 +84,17 @@ fn seen<'a>(cell: &Cell<'a>) -> Form<'a> {
             payload,
         } => {
             let is_marked = head.state == FileState::Marked;
-            let sort = if is_marked { Sort::Marked } else { Sort::Valid };
-            (sort, offset, head.size, head.attributes.bits(), payload)
+            let kind = if is_marked { "marked" } else { "valid" };
+            file_text(alloc, kind, offset, &head, payload)
         }
         Cell::Pad {
             offset,
             head,
             payload,
-        } => {
-            (
-                Sort::Pad,
-                offset,
-                head.size,
-                head.attributes.bits(),
-                payload,
-            )
-        }
-        Cell::Dead { offset, len } => (Sort::Dead, offset, len, 0, &[]),
-        Cell::Stub { offset, len } => (Sort::Stub, offset, len, 0, &[]),
-        Cell::Free { offset, len } => (Sort::Free, offset, len, 0, &[]),
-    }
-}
-
-/// The most bytes of a volume that is made in an array.
-const ROOM: usize = 12_448;
-
-// Writes the parts, joined, from 72 on into a volume, and erased bytes after them.
-fn lay(volume: &mut [u8], parts: &[&[u8]], polarity: Polarity) {
-    let mut at = 72;
-    for part in parts {
-        for byte in *part {
-            if at < volume.len() {
-                volume[at] = *byte;
-                at += 1;
-            }
-        }
-    }
-    for place in at..volume.len() {
-        volume[place] = polarity.erased();
+        } => file_text(alloc, "pad", offset, &head, payload),
+        Cell::Dead { offset, len } => span_text(alloc, "dead", offset, len),
+        Cell::Stub { offset, len } => span_text(alloc, "stub", offset, len),
+        Cell::Free { offset, len } => span_text(alloc, "free", offset, len),
     }
 }
 
@@ -122,79 +111,64 @@ fn cut(
     cells(alloc, bytes, 72, system, polarity)
 }
 
-// Whether these are the cells of a volume whose body begins at 72, or the fault if it has none.
-fn has_cells(
+// Cells as text, with commas between.
+fn cells_text(alloc: Global, list: &[Cell]) -> Option<String> {
+    let mut text = String::new(alloc);
+    for cell in list {
+        if !text.is_empty() {
+            text.push_str(", ").ok()?;
+        }
+        text.push_str(&cell_text(alloc, cell)?).ok()?;
+    }
+    Some(text)
+}
+
+// The cells of a volume whose body begins at 72, or its fault, as text.
+fn outcome_text(
     alloc: Global,
     bytes: &[u8],
     system: FileSystem,
     polarity: Polarity,
-    forms: &[Form],
-) -> Result<bool, Fault> {
-    let found = cut(alloc, bytes, system, polarity)?;
-    let list = found.as_slice();
-    if list.len() != forms.len() {
-        return Ok(false);
+) -> Option<String> {
+    match cut(alloc, bytes, system, polarity) {
+        Ok(found) => cells_text(alloc, found.as_slice()),
+        Err(fault) => fault_text(alloc, fault),
     }
-    for index in 0..forms.len() {
-        if seen(&list[index]) != forms[index] {
-            return Ok(false);
+}
+
+// Whether the body of a line gives what the line expects.
+fn has_outcome(alloc: Global, line: &str, system: FileSystem, polarity: Polarity) -> Option<bool> {
+    let (wanted, text) = row_of(line)?;
+    let bytes = spell(alloc, 72, text)?;
+    Some(outcome_text(alloc, &bytes, system, polarity)?.as_str() == wanted)
+}
+
+#[test]
+fn bodies_are_cut_or_refused(rt: HostRuntime) {
+    let tables = [
+        (bodies::ones(), FileSystem::Ffs2, Polarity::Ones),
+        (bodies::ones(), FileSystem::Ffs3, Polarity::Ones),
+        (bodies::zeros(), FileSystem::Ffs2, Polarity::Zeros),
+        (bodies::zeros(), FileSystem::Ffs3, Polarity::Zeros),
+        (remains::ones(), FileSystem::Ffs2, Polarity::Ones),
+        (remains::ones(), FileSystem::Ffs3, Polarity::Ones),
+        (remains::zeros(), FileSystem::Ffs2, Polarity::Zeros),
+        (remains::zeros(), FileSystem::Ffs3, Polarity::Zeros),
+        (stray::long(), FileSystem::Ffs2, Polarity::Ones),
+        (stray::long(), FileSystem::Ffs3, Polarity::Ones),
+        (stray::ones(), FileSystem::Ffs2, Polarity::Ones),
+        (stray::zeros(), FileSystem::Ffs2, Polarity::Zeros),
+        (refusals::single(), FileSystem::Ffs2, Polarity::Ones),
+        (refusals::several(), FileSystem::Ffs2, Polarity::Ones),
+        (refusals::stubs(), FileSystem::Ffs2, Polarity::Ones),
+        (refusals::zeros(), FileSystem::Ffs2, Polarity::Zeros),
+        (large::accepted(), FileSystem::Ffs3, Polarity::Ones),
+        (large::refused(), FileSystem::Ffs3, Polarity::Ones),
+    ];
+    for (table, system, polarity) in tables {
+        for line in table.lines() {
+            let is_right = has_outcome(rt.alloc(), line, system, polarity);
+            assert!(rt; is_right == Some(true), "{line}");
         }
     }
-    Ok(true)
-}
-
-// Whether a body has its cells, or the fault if it has none.
-fn is_cut(
-    alloc: Global,
-    body: &Body,
-    system: FileSystem,
-    polarity: Polarity,
-) -> Result<bool, Fault> {
-    let (_, length, parts, forms) = *body;
-    let mut bytes = [0u8; ROOM];
-    let volume = &mut bytes[..length.min(ROOM)];
-    lay(volume, parts, polarity);
-    has_cells(alloc, volume, system, polarity, forms)
-}
-
-// The first of some bodies that does not have its cells in both file systems.
-fn not_cut(alloc: Global, bodies: &[Body], polarity: Polarity) -> Option<&'static str> {
-    for body in bodies {
-        if is_cut(alloc, body, FileSystem::Ffs2, polarity) != Ok(true)
-            || is_cut(alloc, body, FileSystem::Ffs3, polarity) != Ok(true)
-        {
-            return Some(body.0);
-        }
-    }
-    None
-}
-
-// The fault of a volume whose body begins at 72 with the parts, if it has one.
-fn fault_of(
-    alloc: Global,
-    parts: &[&[u8]],
-    length: usize,
-    system: FileSystem,
-    polarity: Polarity,
-) -> Option<Fault> {
-    let mut bytes = [0u8; ROOM];
-    let volume = &mut bytes[..length.min(ROOM)];
-    lay(volume, parts, polarity);
-    cut(alloc, volume, system, polarity).err()
-}
-
-// The first of some bodies that is not rejected with its fault.
-fn not_refused(
-    alloc: Global,
-    refusals: &[Refusal],
-    system: FileSystem,
-    polarity: Polarity,
-) -> Option<&'static str> {
-    for (name, length, parts, kind, offset) in refusals {
-        let fault = fault_of(alloc, parts, *length, system, polarity);
-        if fault != Some(Fault::outer(*kind, *offset)) {
-            return Some(*name);
-        }
-    }
-    None
 }

@@ -1,6 +1,18 @@
--- Lemmas on the block map.
-use Rattle.std.proofs.Common.{◌≡◌, ℕ, ◌≤◌, List, [], ◌∷◌, length, take, drop, refl, arith}
-use Rattle.fv_base.specs.Value.{le}
+-- The block map of a header, as pairs of numbers.
+-- 1. Eight bytes are a pair (pairs_of-step), and pairs may be read in parts (pairs_of-append).
+-- 2. So the block map of a header is its blocks and then one pair more (block_map_is), which can be taken off again (last-injective).
+-- 3. A test of a pair says whether it is the pair of zeros (zero_pair_is, zero_pair_not, none_zero, all_not_zero).
+use Rattle.std.proofs.Common.{◌≡◌, ◌≢◌, ◌≤◌, ℕ, ◌+◌, ◌-◌, ◌%◌, List, [], ◌∷◌, ◌++◌, length, take, drop, refl, sym, ap, ◌∙◌, subst, arith}
+use Rattle.std.proofs.Common.{Bool, true, false, length-take, length-drop, drop-drop}
+use Rattle.std.specs.Prelude.{not}
+use Rattle.std.specs.List.{AllByRecursion, list_all}
+use Rattle.std.proofs.lemmas.List.{drop-take, length-take-le}
+use Rattle.std.proofs.lemmas.Bool.{eqb-true}
+use Rattle.std.proofs.Math.Seq.{take-add}
+use Rattle.fv_base.specs.Value.{le, le_at}
+use Rattle.fv_base.proofs.Laws.{and_split, take-take_le}
+use Rattle.fv_head.specs.HeadChecks.{is_zero_pair}
+use Rattle.fv_head.specs.HeadChecks.{blocks_at}
 use Rattle.fv_head.specs.Pairs.{pairs_of}
 
 -- the first eight bytes are the first pair
@@ -14,3 +26,78 @@ pairs_of-step (a ∷ b ∷ c ∷ d ∷ e ∷ []) h = absurd (omega arith)
 pairs_of-step (a ∷ b ∷ c ∷ d ∷ e ∷ f ∷ []) h = absurd (omega arith)
 pairs_of-step (a ∷ b ∷ c ∷ d ∷ e ∷ f ∷ g ∷ []) h = absurd (omega arith)
 pairs_of-step (a ∷ b ∷ c ∷ d ∷ e ∷ f ∷ g ∷ i ∷ bs) h = refl
+
+pub pairs_of-append : (xs ys : List ℕ) → length xs % 8 ≡ 0 → pairs_of (xs ++ ys) ≡ pairs_of xs ++ pairs_of ys
+pairs_of-append [] ys h = refl
+pairs_of-append (a ∷ []) ys h = absurd (omega arith)
+pairs_of-append (a ∷ b ∷ []) ys h = absurd (omega arith)
+pairs_of-append (a ∷ b ∷ c ∷ []) ys h = absurd (omega arith)
+pairs_of-append (a ∷ b ∷ c ∷ d ∷ []) ys h = absurd (omega arith)
+pairs_of-append (a ∷ b ∷ c ∷ d ∷ e ∷ []) ys h = absurd (omega arith)
+pairs_of-append (a ∷ b ∷ c ∷ d ∷ e ∷ f ∷ []) ys h = absurd (omega arith)
+pairs_of-append (a ∷ b ∷ c ∷ d ∷ e ∷ f ∷ g ∷ []) ys h = absurd (omega arith)
+pairs_of-append (a ∷ b ∷ c ∷ d ∷ e ∷ f ∷ g ∷ i ∷ xs) ys h =
+    ap (λ (ps : List (ℕ × ℕ)). (le (a ∷ b ∷ c ∷ d ∷ []), le (e ∷ f ∷ g ∷ i ∷ [])) ∷ ps) (pairs_of-append xs ys (omega arith))
+
+pub last-injective : (xs ys : List (ℕ × ℕ)) (p q : ℕ × ℕ) → xs ++ (p ∷ []) ≡ ys ++ (q ∷ []) → (xs ≡ ys) × (p ≡ q)
+last-injective [] [] p q h = (refl, cc)
+last-injective [] (y ∷ []) p q h = cc
+last-injective [] (y ∷ z ∷ ys) p q h = cc
+last-injective (x ∷ []) [] p q h = cc
+last-injective (x ∷ z ∷ xs) [] p q h = cc
+last-injective (x ∷ xs) (y ∷ ys) p q h =
+    let rest : xs ++ (p ∷ []) ≡ ys ++ (q ∷ []) = cc in
+    let head : x ≡ y = cc in
+    let ih = last-injective xs ys p q rest in
+    (rw (head, ih.0) refl, ih.1)
+
+-- the last pair of a header
+pub last_pair : (at : ℕ) (b : List ℕ) → at + 8 ≤ length b → pairs_of (take 8 (drop at b)) ≡ (le_at at 4 b, le_at (at + 4) 4 b) ∷ []
+last_pair at b h =
+    let d : List ℕ = drop at b in
+    let long : 8 ≤ length (take 8 d) = simp (length-take, length-drop) (omega arith) in
+    let first : take 4 (take 8 d) ≡ take 4 d = take-take_le 4 8 d (omega arith) in
+    let second : take 4 (drop 4 (take 8 d)) ≡ take 4 (drop (at + 4) b) =
+    ap (take 4) (drop-take 4 4 d) ∙ take-take_le 4 4 (drop 4 d) (omega arith) ∙ ap (take 4) (drop-drop 4 at b) in
+    let behind : drop 8 (take 8 d) ≡ [] = drop-take 8 0 d in
+    pairs_of-step (take 8 d) long ∙ rw (first, second, behind) refl
+
+-- a header's block map is its blocks and then the last pair
+pub block_map_is : (n : ℕ) (b : List ℕ) → 64 ≤ n → n % 8 ≡ 0 → n ≤ length b
+    → pairs_of (drop 56 (take n b)) ≡ blocks_at n b ++ ((le_at (n - 8) 4 b, le_at (n - 4) 4 b) ∷ [])
+block_map_is n b least multiple within =
+    let split : n ≡ 56 + ((n - 64) + 8) = omega arith in
+    let x : List ℕ = drop 56 b in
+    let cut : drop 56 (take n b) ≡ take ((n - 64) + 8) x =
+    subst (λ (k : ℕ). drop 56 (take k b) ≡ take ((n - 64) + 8) x) (sym split) (drop-take 56 ((n - 64) + 8) b) in
+    let moved : drop (n - 64) x ≡ drop (n - 8) b = drop-drop (n - 64) 56 b ∙ ap (λ (k : ℕ). drop k b) (omega arith) in
+    let parts : drop 56 (take n b) ≡ take (n - 64) x ++ take 8 (drop (n - 8) b) =
+    cut ∙ take-add (n - 64) 8 x ∙ ap (λ (ys : List ℕ). take (n - 64) x ++ take 8 ys) moved in
+    let len : length (take (n - 64) x) ≡ n - 64 = length-take-le (n - 64) x (simp length-drop (omega arith)) in
+    let last : pairs_of (take 8 (drop (n - 8) b)) ≡ (le_at (n - 8) 4 b, le_at (n - 4) 4 b) ∷ [] =
+    last_pair (n - 8) b (omega arith) ∙ ap (λ (k : ℕ). (le_at (n - 8) 4 b, le_at k 4 b) ∷ []) (omega arith) in
+    ap pairs_of parts ∙ pairs_of-append (take (n - 64) x) (take 8 (drop (n - 8) b)) (omega (arith, len))
+    ∙ ap (λ (ps : List (ℕ × ℕ)). pairs_of (take (n - 64) x) ++ ps) last
+
+pub zero_pair_is : (p : ℕ × ℕ) → is_zero_pair p ≡ true → p ≡ (0, 0)
+zero_pair_is p h =
+    let both = and_split _ _ h in
+    let a : p.0 ≡ 0 = eqb-true p.0 0 both.0 in
+    let b : p.1 ≡ 0 = eqb-true p.1 0 both.1 in
+    rw (a, b) refl
+
+pub zero_pair_not : (p : ℕ × ℕ) → p ≢ (0, 0) → is_zero_pair p ≡ false
+zero_pair_not p h = go (is_zero_pair p) refl where
+  go : (t : Bool) → is_zero_pair p ≡ t → t ≡ false
+  go true is = absurd (h (zero_pair_is p is))
+  go false is = refl
+
+pub none_zero : (ps : List (ℕ × ℕ)) → list_all (λ p. not (is_zero_pair p)) ps ≡ true → AllByRecursion (λ p. p ≢ (0, 0)) ps
+none_zero [] h = tt
+none_zero (p ∷ ps) h =
+    let both = and_split (not (is_zero_pair p)) (list_all (λ q. not (is_zero_pair q)) ps) h in
+    (λ e. let t : not (is_zero_pair (0, 0)) ≡ true = subst (λ (q : ℕ × ℕ). not (is_zero_pair q) ≡ true) e both.0 in cc, none_zero ps both.1)
+
+pub all_not_zero : (ps : List (ℕ × ℕ)) → AllByRecursion (λ p. p ≢ (0, 0)) ps → list_all (λ p. not (is_zero_pair p)) ps ≡ true
+all_not_zero [] h = refl
+all_not_zero (p ∷ ps) h = rw (zero_pair_not p h.0) (all_not_zero ps h.1)

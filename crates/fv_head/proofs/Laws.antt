@@ -2,13 +2,13 @@
 
 -- of a volume that bytes begin with: its header and extent are the only ones, the checks of the header hold, and the extent is what the
 -- header says; it is a matter of its own bytes
-pub use Rattle.fv_head.proofs.HeadCheckLemmas.{one_front, front_holds, front_extent, front_same}
+pub use Rattle.fv_head.proofs.HeadPlaceLemmas.{one_front, front_holds, front_extent, front_same}
 -- its header lies in it, and it is within the limit; its first file may stand at a multiple of 8 in it, and its length is one
-pub use Rattle.fv_head.proofs.HeadCheckLemmas.{Lies, front_lies, first_lies}
+pub use Rattle.fv_head.proofs.HeadPlaceLemmas.{Lies, front_lies, first_lies}
 -- without an extended header, and only then, ExtHeaderOffset is 0, and the first file stands behind the header
-pub use Rattle.fv_head.proofs.HeadCheckLemmas.{bare_offset, offset_bare, bare_first}
+pub use Rattle.fv_head.proofs.HeadPlaceLemmas.{bare_offset, offset_bare, bare_first}
 -- a fault of a header stands within the bytes or at their end, and is no out of memory
-pub use Rattle.fv_head.proofs.HeadCheckLemmas.{fault_within, fault_known}
+pub use Rattle.fv_head.proofs.HeadFaultLemmas.{fault_within, fault_known}
 -- bytes are one extended header at most; what is spelled of one is read as the same, and how long it is, at most
 pub use Rattle.fv_head.proofs.ExtLemmas.{one_ext}
 pub use Rattle.fv_head.proofs.ExtImageLemmas.{ext_again, ext_len_most}

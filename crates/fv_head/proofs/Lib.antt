@@ -2,6 +2,8 @@ pub mod BlockLemmas
 pub mod ExtImageLemmas
 pub mod ExtLemmas
 pub mod HeadCheckLemmas
+pub mod HeadFaultLemmas
 pub mod HeadImageLemmas
+pub mod HeadPlaceLemmas
 pub mod HeadWalkLemmas
 pub mod Laws

@@ -1,4 +1,4 @@
--- Definitions that serve private clauses alone: there is nothing to believe here.
+-- Definitions that serve only private clauses: there is nothing to believe here.
 pub mod HeadVerdicts
 pub mod WordLaws
 pub mod WordSums

@@ -27,8 +27,8 @@ use fv_base::field::{field, u32_at, up_to_8};
 use fv_base::limits::{EXT_LIMIT, HEADER_LIMIT, VOLUME_LIMIT};
 use fv_base::{Fault, FaultKind, FileSystem, Guid, check, guid_at, sum16};
 
-/// `Signature`, `_FVH`: `EFI_FVH_SIGNATURE`.
-pub(crate) const SIGNATURE: [u8; 4] = [0x5f, 0x46, 0x56, 0x48];
+/// `Signature`, `_FVH`: `EFI_FVH_SIGNATURE`. (PI specification, volume 3, section 3.2.1.1.)
+pub const SIGNATURE: [u8; 4] = [0x5f, 0x46, 0x56, 0x48];
 
 /// `Revision`: `EFI_FVH_REVISION`.
 pub(crate) const REVISION: u8 = 2;

@@ -1,7 +1,7 @@
 -- The cells of a volume fit into it, their bytes are counted one after the other, and why an input has none.
 use Rattle.std.proofs.Common.{◌≡◌, ◌∙◌, ◌<◌, ◌+◌, ◌^◌, ℕ, zero, suc, List, [], ◌∷◌, ◌++◌, length, take, drop, get_or}
 use Rattle.std.proofs.Common.{refl, sym, ap, subst, arith, length-append, length-drop, inl, inr}
-use Rattle.std.specs.Prelude.{◌⊎◌, ◌≢◌, map, slice_index, Result, Ok, Err}
+use Rattle.std.specs.Prelude.{◌⊎◌, ◌≢◌, map, Result, Ok, Err}
 use Rattle.std.specs.List.{AllByRecursion, sum_by}
 use Rattle.std.proofs.lemmas.List.{length-take-le, map-append, map_more, take-append-drop}
 use Rattle.std.proofs.lemmas.List.Sums.{sum_by-append, sum_by-cons, sum_by_push}
@@ -10,8 +10,7 @@ use Rattle.fv_base.specs.Faults.{out_of_memory}
 use Rattle.fv_base.specs.declared.fault.Fault.{Fault}
 use Rattle.fv_base.specs.declared.flash.FileSystem.{FileSystem}
 use Rattle.fv_base.specs.declared.flash.Polarity.{Polarity}
-use Rattle.fv_file.proofs.Laws.{cell_span, header_least}
-use Rattle.fv_file.specs.Attributes.{is_large}
+use Rattle.fv_file.proofs.Laws.{cell_span, file_least}
 use Rattle.fv_file.specs.Cells.{CellForm, Valid, Pad, Dead, Stub, Free, CellsWithin, IsCell, Tiles, cell_len}
 use Rattle.fv_file.specs.FileChecks.{IsFirstCellFault}
 use Rattle.fv_head.specs.Head.{HeadFields, BeginsVolume}
@@ -86,18 +85,7 @@ fits_at see end (x ∷ xs) (suc i) d l all = fits_at see end xs i d (omega (arit
 dead_header : (s : FileSystem) (p : Polarity) (c : CellForm) (x : List ℕ) → IsCell s p c x → HasHeader c
 dead_header s p (Valid at head payload) x is = tt
 dead_header s p (Pad at head payload) x is = tt
-dead_header s p (Dead at n) x (head, payload, filled, state, len) =
-    let file = filled.is_file in
-    omega (
-      arith,
-      len,
-      ap length filled.text,
-      length-append filled.file filled.filler,
-      ap length file.text,
-      length-append file.header payload,
-      file.is_header.whole,
-      header_least (is_large (slice_index file.header 19)),
-    )
+dead_header s p (Dead at n) x (head, payload, filled, state, len) = omega (arith, len, file_least s p head payload x filled)
 dead_header s p (Stub at n) x is = tt
 dead_header s p (Free at n) x is = tt
 

@@ -14,13 +14,11 @@ ghost use Rattle.fv_text.specs.PortViews.{Writes, WritingStops, shown};
 
 use fv_base::field::{bytes_from, up_to_8};
 use fv_base::{Fault, Polarity, Port, Sink, WriteSink};
+use fv_file::layout::STATE_OFFSET;
 use fv_file::{Cell, FileHead, FileState, file_state};
 use fv_head::Extent;
 use fv_text::{put_decimal, put_two_digits};
 use std::io::Write;
-
-/// Where `State` is in the header of a file. (PI specification, volume 3, section 3.2.3.1.)
-const STATE_OFFSET: usize = 23;
 
 /// How many bytes the cells of a volume have.
 #[derive(Clone, Copy)]

@@ -10,20 +10,9 @@ ghost use Rattle.fv_lines.specs.declared.depex_notes.DepexNote.{DepexNote};
 
 use fv_base::{Guid, Sink};
 use fv_depex::{Phase, depex_fault};
+use fv_section::section_type::{DXE_DEPEX, MM_DEPEX, PEI_DEPEX};
 use fv_text::put_decimal;
 use fv_tree::{Body, Content, FileView, SectionView, VolumeView};
-
-/// `EFI_SECTION_DXE_DEPEX`, the type 0x13 of a section that is a dependency expression of a DXE
-/// driver. (PI specification, volume 3, section 3.2.5.)
-const DXE_DEPEX: u8 = 0x13;
-
-/// `EFI_SECTION_PEI_DEPEX`, the type 0x1B of a section that is a dependency expression of a PEIM.
-/// (PI specification, volume 3, section 3.2.5.)
-const PEI_DEPEX: u8 = 0x1b;
-
-/// `EFI_SECTION_MM_DEPEX`, the type 0x1C of a section that is a dependency expression of an MM
-/// driver. (PI specification, volume 3, section 3.2.5.)
-const MM_DEPEX: u8 = 0x1c;
 
 /// What is noted of a dependency expression that is rejected.
 #[derive(Clone, Copy, Debug, PartialEq, Eq)]

@@ -1,4 +1,4 @@
-//! The lines that commands write of volumes and hand-off lists, but for those of `list`.
+//! The lines that commands write of volumes and hand-off lists, except those of `list`.
 #![tactic(auto)]
 
 mod cell_run;

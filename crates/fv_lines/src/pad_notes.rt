@@ -51,8 +51,8 @@ fn put_cell<S: Sink>(out: &mut S, cell: &Cell<'_>, polarity: Polarity)
     }
 }
 
-/// Puts a line for each pad among the cells that holds bytes which are not erased, in order: its offset
-/// in the volume and how many of its data bytes are not erased.
+/// Puts a line for each pad among the cells that holds bytes which are not erased, in order: its
+/// offset in the volume and how many of its data bytes are not erased.
 pub fn put_pad_notes<S: Sink>(out: &mut S, list: &[Cell<'_>], polarity: Polarity)
     ensures { S.takes out.old (pad_notes polarity (map cell_form list.now)) out.new }
 {

@@ -12,7 +12,8 @@ use Rattle.fv_base.specs.declared.fault.Fault.{Fault}
 use Rattle.fv_base.proofs.Laws.{all_hold, and_join, and_split, field-append_front, field-take, first_is, none_faulty, not_equal}
 use Rattle.fv_base.proofs.Laws.{not_first, verdict_err, verdict_none, verdict_ok}
 use Rattle.fv_section.specs.FrameChecks.{has_extended_size, section_header_len_at, section_size_in, section_size_at, frame_checks}
-use Rattle.fv_section.specs.inner.FrameVerdicts.{frame_in, frame_verdict}
+use Rattle.fv_section.specs.FrameWalks.{frame_in}
+use Rattle.fv_section.specs.inner.FrameVerdicts.{frame_verdict}
 use Rattle.fv_section.specs.Frames.{FrameForm, BeginsFrame, SaysSize, FrameStandsAt, section_header_len, frame_len}
 
 pub head_least : (extended : Bool) → 4 ≤ section_header_len extended

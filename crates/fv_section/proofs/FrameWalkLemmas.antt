@@ -1,16 +1,16 @@
 -- What the loop over a stream keeps, and what its ends say.
-use Rattle.std.proofs.Common.{◌≡◌, ℕ, ◌+◌, ◌-◌, ◌<◌, ◌≤◌, min, List, [], ◌∷◌, ◌++◌, length, take, drop, map, sym, ap, ◌∙◌, subst, arith}
-use Rattle.std.proofs.Common.{length-append, length-take, length-drop, append_assoc}
-use Rattle.std.proofs.lemmas.List.{take-append-drop, take_all, map_push}
+use Rattle.std.proofs.Common.{◌≡◌, ℕ, zero, suc, ◌+◌, ◌-◌, ◌<◌, ◌≤◌, min, List, [], ◌∷◌, ◌++◌, length, take, drop, refl, sym, ap, ◌∙◌}
+use Rattle.std.proofs.Common.{subst, arith, length-append, length-take, length-drop, append_assoc, drop-drop}
+use Rattle.std.specs.List.{AllByRecursion}
+use Rattle.std.proofs.lemmas.List.{take-append-drop, take_all, drop_at}
 use Rattle.std.proofs.Math.Seq.{take-add, take-append-add}
 use Rattle.fv_base.specs.Checks.{IsFirstFault}
 use Rattle.fv_base.specs.declared.fault.Fault.{Fault}
 use Rattle.fv_section.specs.Frames.{FrameForm, BeginsFrame, Splits, FrameStandsAt, SplitsFrom, FramesWithin, frame_len, up_to_4}
 use Rattle.fv_section.specs.FrameChecks.{frame_checks, IsFirstFrameFault}
-use Rattle.fv_section.specs.FrameForms.{frame_form}
-use Rattle.fv_section.specs.declared.frame.Frame.{Frame}
-use Rattle.fv_section.proofs.FrameLemmas.{length_begun, size_least, none_stands}
-use Rattle.fv_section.proofs.StreamLemmas.{cut, one_more}
+use Rattle.fv_section.specs.FrameWalks.{frame_in, frames_from, offset_after, HasFrames}
+use Rattle.fv_section.proofs.FrameLemmas.{length_begun, frame_reads, none_stands}
+use Rattle.fv_section.proofs.StreamLemmas.{cut, from_least, one_more}
 
 -- fewer bytes behind
 begins_less : (f : FrameForm) (b r : List ℕ) (k : ℕ) → BeginsFrame f b r → BeginsFrame f (take (frame_len f + k) b) (take k r)
@@ -31,59 +31,54 @@ begins_less f b r k h =
           ∙ take-append-add (h.head ++ f.body) r k ∙ append_assoc h.head f.body (take k r);
     }
 
--- the frames so far, and one more
-pub step : (b : List ℕ) (fs : List FrameForm) (f : FrameForm) (t at : ℕ) (r : List ℕ) → Splits fs t (take at b) → at ≡ up_to_4 at
-    → at < length b → f.offset ≡ at → BeginsFrame f (drop at b) r
-    → Splits (fs ++ f ∷ []) (min (up_to_4 (at + frame_len f)) (length b) - (at + frame_len f)) (take (up_to_4 (at + frame_len f)) b)
-step b fs f t at r split in_fours inside offset begun =
-    let end : ℕ = at + frame_len f in
-    let k : ℕ = up_to_4 end - end in
+-- the frames up to an offset, and the one after it
+pub step : (b : List ℕ) (fs : List FrameForm) (f : FrameForm) (t end at next : ℕ) → Splits fs t (take (up_to_4 end) b) → at ≡ up_to_4 end
+    → FrameStandsAt f at b → next ≡ f.offset + frame_len f
+    → Splits (fs ++ f ∷ []) (min (up_to_4 next) (length b) - next) (take (up_to_4 next) b)
+step b fs f t end at next split here s e =
+    let k : ℕ = up_to_4 next - next in
+    let r : List ℕ = s.behind in
     let x : List ℕ = take at b in
     let y : List ℕ = take (frame_len f + k) (drop at b) in
-    let lx : length x ≡ at = omega (arith, length-take at b) in
-    let whole : length (drop at b) ≡ frame_len f + length r = length_begun f (drop at b) r begun in
-    let rest : length b ≡ at + length (drop at b) = omega (arith, length-drop at b) in
-    let lr : length (take k r) ≡ min (up_to_4 end) (length b) - end = omega (arith, length-take k r) in
-    let e : take (at + (frame_len f + k)) b ≡ x ++ y = take-add at (frame_len f + k) b in
-    let n : up_to_4 end ≡ at + (frame_len f + k) = omega arith in
+    let before : Splits fs t x = subst (λ n. Splits fs t (take n b)) (sym here) split in
+    let lx : length x ≡ at = omega (arith, length-take at b, s.inside) in
+    let whole : length (drop at b) ≡ frame_len f + length r = length_begun f (drop at b) r s.begins in
+    let rest : length b ≡ at + length (drop at b) = omega (arith, length-drop at b, s.inside) in
+    let end_is : next ≡ at + frame_len f = omega (arith, e, s.offset) in
+    let lr : length (take k r) ≡ min (up_to_4 next) (length b) - next = omega (arith, length-take k r) in
+    let joined : take (at + (frame_len f + k)) b ≡ x ++ y = take-add at (frame_len f + k) b in
+    let n : up_to_4 next ≡ at + (frame_len f + k) = omega arith in
     let m : 0 + length x ≡ up_to_4 (0 + length x) = omega arith in
-    let o : f.offset ≡ 0 + length x = omega arith in
+    let o : f.offset ≡ 0 + length x = omega (arith, s.offset) in
     let fit : 0 + length x + frame_len f + length (take k r) ≤ up_to_4 (0 + length x + frame_len f) = omega (arith, length-take k r) in
-    let h = one_more 0 fs f t x y (take k r) split m (begins_less f (drop at b) r k begun) o fit in
+    let h = one_more 0 fs f t x y (take k r) before m (begins_less f (drop at b) r k s.begins) o fit in
     let P : List ℕ → Type 0 = λ l. Splits (fs ++ f ∷ []) (length (take k r)) l in
-    let Q : ℕ → Type 0 = λ j. Splits (fs ++ f ∷ []) j (take (up_to_4 end) b) in
-    subst Q lr (subst P (sym (ap (λ j. take j b) n ∙ e)) h)
+    let Q : ℕ → Type 0 = λ j. Splits (fs ++ f ∷ []) j (take (up_to_4 next) b) in
+    subst Q lr (subst P (sym (ap (λ j. take j b) n ∙ joined)) h)
 
 -- a frame that stands at a place ends within the stream
 pub stands_within : (f : FrameForm) (b : List ℕ) (at : ℕ) → FrameStandsAt f at b → f.offset + frame_len f ≤ length b
 stands_within f b at s = omega (arith, s.offset, s.inside, length_begun f (drop at b) s.behind s.begins, length-drop at b)
 
--- the frames so far, and the one that was read
-pub kept : (b : List ℕ) (items new : List Frame) (f : Frame) (t at next left : ℕ) → Splits (map frame_form items) t (take at b)
-    → at ≡ up_to_4 at → FrameStandsAt (frame_form f) at b
-    → new ≡ items ++ f ∷ [] → next ≡ up_to_4 (f.offset + frame_len (frame_form f))
-    → left ≡ min next (length b) - (f.offset + frame_len (frame_form f)) → Splits (map frame_form new) left (take next b)
-kept b items new f t at next left split in_fours s e n l =
-    let h = step b (map frame_form items) (frame_form f) t at s.behind split in_fours s.inside s.offset s.begins in
-    let n' : next ≡ up_to_4 (at + frame_len (frame_form f)) = n ∙ ap (λ k. up_to_4 (k + frame_len (frame_form f))) s.offset in
-    let l' : left ≡ min (up_to_4 (at + frame_len (frame_form f))) (length b) - (at + frame_len (frame_form f)) = l ∙ ap (λ k.
-    min next (length b) - (k + frame_len (frame_form f))) s.offset ∙ ap (λ k. min k (length b) - (at + frame_len (frame_form f))) n' in
-    let fs : map frame_form new ≡ map frame_form items ++ frame_form f ∷ [] = ap (λ x. map frame_form x) e ∙ map_push frame_form items f in
-    rw (fs, l', n') h
-
-pub grows : (b : List ℕ) (f : Frame) (at next : ℕ) → FrameStandsAt (frame_form f) at b
-    → next ≡ up_to_4 (f.offset + frame_len (frame_form f)) → length b - next < length b - at
-grows b f at next s n = omega (arith, s.offset, s.inside, n, size_least (frame_form f))
-
 -- the place at which the loop stops is the first fault
-pub first_here : (b : List ℕ) (fs : List FrameForm) (t at : ℕ) (e : Fault) → Splits fs t (take at b) → at ≡ up_to_4 at → at < length b
-    → IsFirstFault (frame_checks at (drop at b)) e → IsFirstFrameFault b e
-first_here b fs t at e split in_fours inside fault =
-    record { frames = fs; tail = t; at = at; split = split; multiple = omega (arith, in_fours); inside = inside; fault_is = fault }
+pub first_here : (b : List ℕ) (fs : List FrameForm) (t end at : ℕ) (e : Fault) → Splits fs t (take (up_to_4 end) b) → at ≡ up_to_4 end
+    → at < length b → IsFirstFault (frame_checks at (drop at b)) e → IsFirstFrameFault b e
+first_here b fs t end at e split here inside fault = record {
+  frames = fs;
+  tail = t;
+  at = at;
+  split = subst (λ n. Splits fs t (take n b)) (sym here) split;
+  multiple = omega (arith, here);
+  inside = inside;
+  fault_is = fault;
+}
 
 -- past the end the stream is split
-pub whole_of : (b : List ℕ) (fs : List FrameForm) (t at : ℕ) → Splits fs t (take at b) → length b ≤ at → Splits fs t b
-whole_of b fs t at split past = subst (λ l. Splits fs t l) (take_all at b past) split
+pub whole_of : (b : List ℕ) (fs : List FrameForm) (end : ℕ) → Splits fs (min (up_to_4 end) (length b) - end) (take (up_to_4 end) b)
+    → length b ≤ up_to_4 end → Splits fs (length b - end) b
+whole_of b fs end split past =
+    let tail : min (up_to_4 end) (length b) - end ≡ length b - end = omega (arith, past) in
+    rw (tail, take_all (up_to_4 end) b past) at split
 
 -- ---- all splits
 
@@ -91,6 +86,14 @@ pub begins_of : (at : ℕ) (f : FrameForm) (fs : List FrameForm) (t : ℕ) (b : 
     → (f.offset ≡ at) × (rest : List ℕ) × BeginsFrame f b rest
 begins_of at f [] t b (rest, begun, o, l, fit) = (o, rest, begun)
 begins_of at f (g ∷ fs) t b (filler, rest, begun, o, fill, more) = (o, filler ++ rest, begun)
+
+-- the first frame of a split stands where the split begins
+first_stands : (at : ℕ) (f : FrameForm) (fs : List FrameForm) (t : ℕ) (b : List ℕ) → SplitsFrom at (f ∷ fs) t (drop at b)
+    → FrameStandsAt f at b
+first_stands at f fs t b split =
+    let begun = begins_of at f fs t (drop at b) split in
+    let some : at < length b = omega (arith, from_least at f fs t (drop at b) split, length-drop at b) in
+    record { offset = begun.0; inside = some; behind = begun.1; begins = begun.2 }
 
 -- where there is a first fault there is no split
 pub none_after : (b : List ℕ) (e : Fault) (fs : List FrameForm) (t : ℕ) → IsFirstFrameFault b e → Splits fs t b → ⊥
@@ -104,9 +107,7 @@ none_after b e fs t here split =
   where
     go : (more : List FrameForm) → SplitsFrom here.at more t (drop here.at b) → 0 < length (drop here.at b) → ⊥
     go [] (z, n) l = omega (arith, ap length z, l)
-    go (f ∷ more) h l =
-        let begun = begins_of here.at f more t (drop here.at b) h in
-        none_stands here.at b e f here.fault_is (record { offset = begun.0; inside = here.inside; behind = begun.1; begins = begun.2 })
+    go (f ∷ more) h l = none_stands here.at b e f here.fault_is (first_stands here.at f more t b h)
 
 -- each frame of a stream ends within it
 all_within : (at : ℕ) (fs : List FrameForm) (t : ℕ) (b : List ℕ) → SplitsFrom at fs t b → FramesWithin (at + length b) fs
@@ -122,3 +123,72 @@ pub whole_within : (fs : List FrameForm) (t : ℕ) (b : List ℕ) → Splits fs 
 whole_within fs t b h = subst (λ (n : ℕ). FramesWithin n fs) (none (length b)) (all_within 0 fs t b h) where
   none : (n : ℕ) → 0 + n ≡ n
   none n = omega arith
+
+-- after the first frame the others follow
+behind_first : (at : ℕ) (f : FrameForm) (fs : List FrameForm) (t : ℕ) (b : List ℕ) → SplitsFrom at (f ∷ fs) t (drop at b)
+    → (u : ℕ) × SplitsFrom (up_to_4 (at + frame_len f)) fs u (drop (up_to_4 (at + frame_len f)) b)
+behind_first at f [] t b (rest, begun, o, l, fit) =
+    let next : ℕ = up_to_4 (at + frame_len f) in
+    let past : length (drop next b) ≡ 0 =
+    omega (arith, length_begun f (drop at b) rest begun, length-drop at b, fit, l, length-drop next b) in
+    (0, (none (drop next b) past, refl))
+  where
+    none : (l : List ℕ) → length l ≡ 0 → l ≡ []
+    none [] e = refl
+    none (x ∷ xs) e = absurd (omega (arith, e))
+behind_first at f (g ∷ fs) t b (filler, rest, begun, o, fill, more) =
+    let x : List ℕ = begun.head ++ (f.body ++ filler) in
+    let text : drop at b ≡ x ++ rest =
+    begun.text ∙ ap (λ l. begun.head ++ l) (sym (append_assoc f.body filler rest))
+    ∙ sym (append_assoc begun.head (f.body ++ filler) rest) in
+    let long : at + length x ≡ up_to_4 (at + frame_len f) =
+    omega (arith, length-append begun.head (f.body ++ filler), length-append f.body filler, begun.is_header.whole, fill) in
+    let next : rest ≡ drop (up_to_4 (at + frame_len f)) b =
+    sym (drop_at x rest (length x) refl) ∙ ap (drop (length x)) (sym text) ∙ drop-drop (length x) at b ∙ ap (λ n. drop n b) long in
+    (t, subst (λ l. SplitsFrom (up_to_4 (at + frame_len f)) (g ∷ fs) t l) next more)
+
+-- each frame of a stream stands in it
+from_stands : (at : ℕ) (fs : List FrameForm) (t : ℕ) (b : List ℕ) → SplitsFrom at fs t (drop at b)
+    → AllByRecursion (λ f. FrameStandsAt f f.offset b) fs
+from_stands at [] t b split = tt
+from_stands at (f ∷ fs) t b split =
+    let stands = first_stands at f fs t b split in
+    let rest = behind_first at f fs t b split in
+    (subst (λ n. FrameStandsAt f n b) (sym stands.offset) stands, from_stands (up_to_4 (at + frame_len f)) fs rest.0 b rest.1)
+
+pub split_stands : (fs : List FrameForm) (t : ℕ) (b : List ℕ) → Splits fs t b → AllByRecursion (λ f. FrameStandsAt f f.offset b) fs
+split_stands fs t b split = from_stands 0 fs t b split
+
+-- ---- the frames that a walk reads
+
+-- the frames of a stream are those that a walk over as many frames reads
+pub walk_meets : (at : ℕ) (fs : List FrameForm) (t : ℕ) (b : List ℕ) → SplitsFrom at fs t (drop at b)
+    → (frames_from (length fs) at b ≡ fs) × HasFrames (length fs) at b
+walk_meets at [] t b split = (refl, tt)
+walk_meets at (f ∷ fs) t b split =
+    let stands = first_stands at f fs t b split in
+    let is : frame_in at (drop at b) ≡ f =
+    ap (λ n. frame_in n (drop at b)) (sym stands.offset) ∙ (frame_reads f (drop at b) stands.behind stands.begins).frame_is in
+    let next : offset_after at b ≡ up_to_4 (at + frame_len f) = ap (λ g. up_to_4 (at + frame_len g)) is in
+    let rest = behind_first at f fs t b split in
+    let more = walk_meets (up_to_4 (at + frame_len f)) fs rest.0 b rest.1 in
+    rw (next, is) (ap (λ l. f ∷ l) more.0, (stands, more.1))
+
+-- the first of them, and the others
+pub walk_first : (n at : ℕ) (b : List ℕ) → (n ≡ 0 → ⊥) → HasFrames n at b
+    → (frames_from n at b ≡ frame_in at (drop at b) ∷ frames_from (n - 1) (offset_after at b) b)
+    × FrameStandsAt (frame_in at (drop at b)) at b × HasFrames (n - 1) (offset_after at b) b
+walk_first zero at b some has = absurd (some refl)
+walk_first (suc n) at b some has = let e : suc n - 1 ≡ n = omega arith in rw e (refl, has.0, has.1)
+
+-- a walk begins with all frames of the stream
+pub walk_begins : (b : List ℕ) (n t : ℕ) → (fs : List FrameForm) × Splits fs t b × (length fs ≡ n)
+    → Splits (frames_from n 0 b) t b × HasFrames n 0 b
+walk_begins b n t (fs, split, count) =
+    let met = walk_meets 0 fs t b split in
+    subst (λ k. Splits (frames_from k 0 b) t b × HasFrames k 0 b) count (subst (λ l. Splits l t b) (sym met.0) split, met.1)
+
+-- it reads as many frames as are left
+pub walk_count : (n at : ℕ) (b : List ℕ) → length (frames_from n at b) ≡ n
+walk_count zero at b = refl
+walk_count (suc n) at b = ap suc (walk_count n (offset_after at b) b)

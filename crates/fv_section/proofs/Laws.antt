@@ -8,26 +8,19 @@ pub use Rattle.fv_section.proofs.FrameLemmas.{size_least, length_begun, one_fram
 pub use Rattle.fv_section.proofs.StreamLaws.{begun_bytes, form_fits, fits_form, fits}
 -- where a frame's check fails no frame stands
 pub use Rattle.fv_section.proofs.FrameLemmas.{none_stands}
--- a body is the part behind the header
-pub use Rattle.fv_section.proofs.PlaceLaws.{begun_body, body_behind}
 -- a header that is written is that of its form, type and size
 pub use Rattle.fv_section.proofs.SectionImageLemmas.{head_is}
 -- ---- a stream
 
 -- a stream is split in one way; frames up to a multiple of 4 begin every split; one more frame behind such frames
 pub use Rattle.fv_section.proofs.StreamLemmas.{from_least, one_split, cut, one_more}
--- a stream begins with its first frame; where no frame stands there is no split; each frame ends within the stream; one more frame of
--- a loop, and where it ends
-pub use Rattle.fv_section.proofs.FrameWalkLemmas.{begins_of, none_after, whole_within, stands_within, step, grows, first_here, whole_of}
--- how long a stream is; its tail has at most 3 bytes
-pub use Rattle.fv_section.proofs.StreamLaws.{end_of, split_length, tail_small}
--- the frames of a stream stand in it, and their bodies are parts of it
-pub use Rattle.fv_section.proofs.PlaceLaws.{from_stands, split_stands, IsBodyIn, split_bodies}
--- the same of the frame at an index
-pub use Rattle.fv_section.proofs.PlaceLaws.{within_index, stands_index, body_index}
+-- a stream begins with its first frame; where no frame stands there is no split; each frame ends within the stream
+pub use Rattle.fv_section.proofs.FrameWalkLemmas.{begins_of, none_after, whole_within, stands_within}
+-- its tail has at most 3 bytes
+pub use Rattle.fv_section.proofs.StreamLaws.{tail_small}
+-- the frames of a stream stand in it
+pub use Rattle.fv_section.proofs.FrameWalkLemmas.{split_stands}
 -- ---- streams that are written
 
 -- frames that are written one after another are read again as the same frames
 pub use Rattle.fv_section.proofs.SectionImageLemmas.{streams_are_read}
--- frames of bytes may be written again; so may others at the same places, with bodies as long
-pub use Rattle.fv_section.proofs.StreamLaws.{split_in_place, SamePlaces, replaced_in_place}

@@ -3,5 +3,6 @@ pub mod Frames
 pub mod SectionImage
 pub mod FrameChecks
 pub mod FrameForms
+pub mod FrameWalks
 pub mod Texts
 pub mod inner

@@ -1,2 +1,2 @@
--- Definitions that serve private clauses alone: there is nothing to believe here.
+-- Definitions that serve only private clauses: there is nothing to believe here.
 pub mod FrameVerdicts

@@ -5,9 +5,10 @@ ghost use Rattle.fv_base.specs.Checks.{IsFirstFault};
 ghost use Rattle.fv_base.specs.Value.{le_at};
 ghost use Rattle.fv_section.specs.FrameChecks.{has_extended_size, section_header_len_at, section_size_at};
 ghost use Rattle.fv_section.specs.FrameChecks.{has_section_size, frame_checks};
-ghost use Rattle.fv_section.specs.inner.FrameVerdicts.{frame_in, frame_verdict};
-ghost use Rattle.fv_section.specs.Frames.{FrameForm, FrameStandsAt};
+ghost use Rattle.fv_section.specs.inner.FrameVerdicts.{frame_verdict};
+ghost use Rattle.fv_section.specs.Frames.{FrameForm, FrameStandsAt, section_header_len};
 ghost use Rattle.fv_section.specs.FrameForms.{frame_form};
+ghost use Rattle.fv_section.specs.FrameWalks.{frame_in};
 
 use crate::layout::{
     EXTENDED_HEADER_LEN, EXTENDED_SIZE_OFFSET, HEADER_LEN, SIZE_OFFSET, TYPE_OFFSET,
@@ -33,6 +34,18 @@ pub struct Frame<'a> {
     pub body: &'a [u8],
 }
 
+/// The length of a section's header in bytes: 4, or 8 if it is extended. (PI specification, volume
+/// 3, section 3.2.4, `EFI_COMMON_SECTION_HEADER` and `EFI_COMMON_SECTION_HEADER2`.)
+pub fn section_header_len(extended: bool) -> u64
+    ensures { result ≡ section_header_len extended }
+{
+    if extended {
+        EXTENDED_HEADER_LEN as u64
+    } else {
+        HEADER_LEN as u64
+    }
+}
+
 // `Size` in the header at the start of the bytes.
 fn short_size(rest: &[u8]) -> u32
     requires least { 4 ≤ length rest.now }
@@ -54,11 +67,7 @@ fn head_len(rest: &[u8]) -> usize
     requires least { 4 ≤ length rest.now }
     ensures { result ≡ section_header_len_at rest.now }
 {
-    if has_extended_size(rest) {
-        EXTENDED_HEADER_LEN
-    } else {
-        HEADER_LEN
-    }
+    section_header_len(has_extended_size(rest)) as usize
 }
 
 // The size of the section, its header included: `Size` or `ExtendedSize`.
@@ -84,7 +93,7 @@ fn has_section_size(rest: &[u8]) -> bool
 }
 
 // The frame at the front.
-fn frame_in(rest: &[u8], at: u64) -> Frame<'_>
+pub(crate) fn frame_in(rest: &[u8], at: u64) -> Frame<'_>
     requires least { 4 ≤ length rest.now }
     requires header { section_header_len_at rest.now ≤ section_size_at rest.now }
     requires within { section_size_at rest.now ≤ length rest.now }

@@ -1,58 +1,146 @@
-//! A stream, split into its frames.
+//! A stream, walked from frame to frame, and split into its frames.
 
-ghost use Rattle.std.specs.Prelude.{◌≡◌, ◌≢◌, ◌+◌, ◌-◌, ◌<◌, ◌≤◌, min, ℕ, List, length, IfOk, IfErr};
+ghost use Rattle.std.specs.Prelude.{◌≡◌, ◌≢◌, ◌+◌, ◌<◌, ◌≤◌, ◌^◌, ◌∷◌, [], ℕ, List, length, drop};
+ghost use Rattle.std.specs.Prelude.{IfOk, IfErr, IfSome, IfNone};
 ghost use Rattle.fv_base.specs.Faults.{out_of_memory};
 ghost use Rattle.fv_section.specs.FrameChecks.{IsFirstFrameFault};
-ghost use Rattle.fv_section.specs.Frames.{FrameForm, FramesWithin, Splits, frame_len, up_to_4};
+ghost use Rattle.fv_section.specs.Frames.{FrameForm, FrameStandsAt, FramesWithin, Splits, frame_len, up_to_4};
 ghost use Rattle.fv_section.specs.FrameForms.{frame_form};
+ghost use Rattle.fv_section.specs.FrameWalks.{frame_in};
 
-use crate::frame::{Frame, next_frame};
+use crate::frame::{Frame, frame_in, next_frame, section_header_len};
 use crate::frame_list::Frames;
-use crate::layout::{EXTENDED_HEADER_LEN, HEADER_LEN};
 use fv_base::Fault;
 use std::alloc::Global;
+use std::marker::Model;
 
-// The number of bytes of a frame.
-fn size_of(frame: &Frame) -> u64
-    ensures { result ≡ frame_len (frame_form frame.now) }
+// The offset after a frame.
+fn end_of(frame: &Frame) -> u64
+    requires { frame.now.offset + frame_len (frame_form frame.now) < 2 ^ 63 }
+    ensures { result ≡ frame.now.offset + frame_len (frame_form frame.now) }
 {
-    let header = if frame.extended {
-        EXTENDED_HEADER_LEN
-    } else {
-        HEADER_LEN
-    };
-    header as u64 + frame.body.len() as u64
+    frame.offset + section_header_len(frame.extended) + frame.body.len() as u64
 }
 
-// The offset at which the next frame would begin, and the number of bytes before it.
-fn next_frame_at(stream: &[u8], frame: &Frame) -> (u64, u8)
-    requires { frame.now.offset + frame_len (frame_form frame.now) ≤ length stream.now }
-    ensures next { result.0 ≡ up_to_4 (frame.now.offset + frame_len (frame_form frame.now)) }
-    ensures left { result.1 ≡ min result.0 (length stream.now) - (frame.now.offset + frame_len (frame_form frame.now)) }
+// The offset at which the next frame begins, if a frame ends at this offset.
+fn up_to_4(end: u64) -> u64
+    requires { end < 2 ^ 63 }
+    ensures { result ≡ up_to_4 end }
 {
-    let end = frame.offset + size_of(frame);
-    let next = (end + 3) / 4 * 4;
-    let left = next.min(stream.len() as u64) - end;
-    (next, left as u8)
+    (end + 3) / 4 * 4
 }
 
-// The frames of a stream.
-fn frames_in(alloc: Global, stream: &[u8]) -> Result<Frames<'_>, Fault>
-    ensures found { IfOk result (λ s. Splits s.0 s.1 stream.now) }
-    ensures first { IfErr result (λ f. f ≢ out_of_memory → IsFirstFrameFault stream.now f) }
+// The number of frames of a stream, and the number of bytes after the last; or its first fault.
+fn stream_size(stream: &[u8]) -> Result<(u64, u8), Fault>
+    ensures found { IfOk result (λ r. (fs : List FrameForm) × Splits fs r.1 stream.now × (length fs ≡ r.0)) }
+    ensures first { IfErr result (λ f. IsFirstFrameFault stream.now f) }
     ensures bound { IfErr result (λ f. f.place.offset ≤ length stream.now) }
-    ensures some { IfErr result (λ _. 0 < length stream.now) }
 {
-    let mut list = Vec::new(alloc);
-    let mut tail = 0;
-    let mut at = 0;
-    while let Some(frame) = next_frame(stream, at)? {
-        let (next, left) = next_frame_at(stream, &frame);
-        list.push(frame)?;
-        tail = left;
-        at = next;
+    let mut count = 0;
+    let mut end = 0;
+    while let Some(frame) = next_frame(stream, up_to_4(end))? {
+        end = end_of(&frame);
+        count += 1;
     }
-    Ok(Frames::from_parts(list, tail))
+    let tail = stream.len() as u64 - end;
+    Ok((count, tail as u8))
+}
+
+// The frame at an offset at which one begins, and the offset at which the next would begin.
+fn frame_at(stream: &[u8], at: u64) -> (Frame<'_>, u64)
+    requires { FrameStandsAt (frame_in at (drop at stream.now)) at stream.now }
+    ensures frame { frame_form result.0 ≡ frame_in at (drop at stream.now) }
+    ensures next { result.1 ≡ up_to_4 (at + frame_len (frame_form result.0)) }
+{
+    let frame = frame_in(&stream[at as usize..], at);
+    let next = up_to_4(end_of(&frame));
+    (frame, next)
+}
+
+/// The frames of a stream, which are read one after another. Contracts see the list of the frames
+/// that are left, and the number of bytes after the last. (PI specification, volume 3, section
+/// 3.2.4.)
+#[derive(Drop)]
+pub struct FrameWalk<'a> {
+    stream: &'a [u8],
+    at: u64,
+    left: u64,
+    tail: u8,
+}
+
+impl<'a> Model for FrameWalk<'a> {
+    ghost use Rattle.std.specs.Prelude.{ℕ, List};
+    ghost use Rattle.fv_section.specs.Frames.{FrameForm};
+    ghost use Rattle.fv_section.specs.FrameWalks.{frames_from, HasFrames};
+
+    ghost Value = { List FrameForm × ℕ };
+
+    ghost view = { λ w. (frames_from w.left w.at w.stream.now, w.tail) };
+
+    ghost invariant = { λ w. HasFrames w.left w.at w.stream.now };
+}
+
+impl<'a> FrameWalk<'a> {
+    /// A walk over all frames of a stream, each of which is checked here. The offsets of the frames
+    /// count from the stream's start. Takes no memory. (PI specification, volume 3, section 3.2.4.)
+    ///
+    /// # Errors
+    ///
+    /// SectionTail or SectionSize, as for `next_frame`, at the first offset where a section would
+    /// begin and none does.
+    pub fn of(stream: &'a [u8]) -> Result<FrameWalk<'a>, Fault>
+        // The stream is these frames and this tail.
+        ensures found { IfOk result (λ w. Splits w.0 w.1 stream.now) }
+
+        // It is no other frames or tail.
+        ensures only { IfOk result
+            (λ w. (fs : List FrameForm) (tail : ℕ) → Splits fs tail stream.now → (fs ≡ w.0) × (tail ≡ w.1)) }
+
+        // If an error is returned, it is not a stream of frames.
+        ensures none { IfErr result (λ _. (fs : List FrameForm) (tail : ℕ) → Splits fs tail stream.now → ⊥) }
+
+        // An error names the first check that does not hold, where no frame begins.
+        ensures first { IfErr result (IsFirstFrameFault stream.now) }
+        ensures bound { IfErr result (λ f. f.place.offset ≤ length stream.now) }
+    {
+        let (left, tail) = stream_size(stream)?;
+        Ok(FrameWalk {
+            stream,
+            at: 0,
+            left,
+            tail,
+        })
+    }
+
+    /// The next frame, or None after the last. It was checked when the walk began, so this cannot
+    /// fail. Takes no memory. (PI specification, volume 3, section 3.2.4.)
+    pub fn next_frame(&mut self) -> Option<Frame<'a>>
+        ensures some { IfSome result (λ f. self.old.0 ≡ frame_form f ∷ self.new.0) }
+        ensures none { IfNone result ((self.old.0 ≡ []) × (self.new.0 ≡ [])) }
+        ensures tail { self.new.1 ≡ self.old.1 }
+    {
+        if self.left == 0 {
+            return None;
+        }
+        let (frame, next) = frame_at(self.stream, self.at);
+        self.at = next;
+        self.left -= 1;
+        Some(frame)
+    }
+
+    /// The number of frames that are left.
+    pub fn frames_left(&self) -> usize
+        ensures { result ≡ length self.now.0 }
+    {
+        self.left as usize
+    }
+
+    /// The number of bytes after the last frame, 0 to 3.
+    pub fn tail(&self) -> u8
+        ensures { result ≡ self.now.1 }
+    {
+        self.tail
+    }
 }
 
 /// The frames of a stream, whose offsets count from the stream's start. A stream splits into frames
@@ -85,5 +173,10 @@ pub fn frames(alloc: Global, stream: &[u8]) -> Result<Frames<'_>, Fault>
     // A stream of no bytes is not rejected, not even because memory runs out.
     ensures some { IfErr result (λ _. 0 < length stream.now) }
 {
-    frames_in(alloc, stream)
+    let mut walk = FrameWalk::of(stream)?;
+    let mut list = Vec::new(alloc);
+    while let Some(frame) = walk.next_frame() {
+        list.push(frame)?;
+    }
+    Ok(Frames::from_parts(list, walk.tail()))
 }

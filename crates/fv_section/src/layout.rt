@@ -14,10 +14,10 @@ pub(crate) const TYPE_OFFSET: usize = 3;
 pub(crate) const EXTENDED_SIZE_OFFSET: usize = 4;
 
 /// The length of `EFI_COMMON_SECTION_HEADER`.
-pub(crate) const HEADER_LEN: usize = 4;
+pub const HEADER_LEN: usize = 4;
 
 /// The length of `EFI_COMMON_SECTION_HEADER2`.
-pub(crate) const EXTENDED_HEADER_LEN: usize = 8;
+pub const EXTENDED_HEADER_LEN: usize = 8;
 
 /// `VersionString`, in the body of a version section, after `BuildNumber`, which has 2 bytes.
 /// (Section 3.2.5.15, `EFI_VERSION_SECTION`.)

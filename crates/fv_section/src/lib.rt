@@ -4,14 +4,15 @@
 mod frame;
 mod frame_list;
 mod frame_walk;
-mod layout;
+pub mod layout;
 mod section_head;
+pub mod section_type;
 #[cfg(test)]
 mod tests;
 mod texts;
 
-pub use frame::{Frame, next_frame};
+pub use frame::{Frame, next_frame, section_header_len};
 pub use frame_list::Frames;
-pub use frame_walk::frames;
+pub use frame_walk::{FrameWalk, frames};
 pub use section_head::{SectionHead, section_head_bytes};
 pub use texts::{freeform, ui_text, version};

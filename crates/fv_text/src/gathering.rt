@@ -45,7 +45,7 @@ impl<S: Sink> GatheringSink<S> {
         self.filled = 0;
     }
 
-    // Puts what waits, if there is else no room for so many bytes.
+    // Puts the gathered bytes into the sink below, unless there is room for `count` more.
     fn make_room(&mut self, count: usize)
         requires { count ≤ 512 }
         ensures takes { GatheringTakes S.takes (λ s. s.below) (λ s. take s.filled s.room) self.old [] self.new }

@@ -1,5 +1,5 @@
-//! Text: numbers in decimal and in hexadecimal digits, bytes as lines of digits, and the bytes that such
-//! text spells.
+//! Numbers as decimal or hexadecimal digits, bytes as lines of hexadecimal digits, and the bytes
+//! that such lines spell.
 #![tactic(auto)]
 
 mod gathering;

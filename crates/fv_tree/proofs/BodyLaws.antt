@@ -13,15 +13,13 @@ use Rattle.std.proofs.lemmas.List.{length-drop}
 use Rattle.fv_file.specs.Cells.{CellForm, Valid, Pad, Dead, Stub, Free, Tiles, CellsWithin, IsCell, IsMadeUp, offset_of, cell_len}
 use Rattle.fv_file.proofs.Laws.{cell_span}
 use Rattle.fv_head.specs.declared.extent.Extent.{Extent}
-use Rattle.fv_tree.specs.inner.ReadingParts.{HasFiles, IsReadyFile, AllStored}
+use Rattle.fv_tree.specs.inner.ReadingParts.{IsReadyFile, AllStored}
 use Rattle.fv_tree.specs.LocatedFiles.{StandIn}
-use Rattle.fv_tree.specs.Denotes.{Streams, Stream, Pairwise, MeansFile}
-use Rattle.fv_tree.specs.Files.{FileForm, files_in, current_in, TopAtEnd, AreCurrent, replaces}
+use Rattle.fv_tree.specs.Denotes.{Stream, MeansFile}
+use Rattle.fv_tree.specs.Files.{FileForm, files_in, TopAtEnd, AreCurrent, replaces}
 use Rattle.fv_base.specs.declared.fault.Place.{Place}
 use Rattle.fv_tree.specs.FailingChecks.{First}
-use Rattle.fv_tree.specs.FirstFault.{Faulty, FileFault, NamesFault, BodyFault, OneOf}
-use Rattle.fv_tree.specs.Meaning.{FileMeaning}
-use Rattle.fv_tree.proofs.CurrentLaws.{current_none}
+use Rattle.fv_tree.specs.FirstFault.{Faulty, FileFault, BodyFault, OneOf}
 
 -- ---- the files as they lie in a volume
 
@@ -31,49 +29,7 @@ pub current_of : (length : ℕ) (cs : List CellForm) (standing files : List File
     → AreCurrent length (files_in cs) files
 current_of length cs standing files is h = subst (λ (fs : List FileForm). AreCurrent length fs files) is h
 
-module _ (e : Extent) (volume : List ℕ) (cs : List CellForm) where
-  -- the only cells
-  abbrev pub OnlyCells : Type 0
-  OnlyCells = (ds : List CellForm) → Tiles e.file_system e.polarity e.first ds (drop e.first volume) → ds ≡ cs
-
-  -- their files are the only ones
-  pub stand_only : OnlyCells → (fs : List FileForm) → AreCurrent e.length (files_in cs) fs → (gs : List FileForm) → StandIn e volume gs → gs ≡ fs
-  stand_only only fs current gs h =
-      h.current.files_are ∙ ap (λ (ds : List CellForm). current_in (files_in ds)) (only h.cells h.tiles) ∙ sym current.files_are
-
-  -- where these have a fault, there are none
-  pub stand_none : OnlyCells → (f : Fault) → NamesFault First e.length (files_in cs) f → (gs : List FileForm) → StandIn e volume gs → ⊥
-  stand_none only f first gs h =
-      current_none e.length cs f gs first (subst (λ (ds : List CellForm). AreCurrent e.length (files_in ds) gs) (only h.cells h.tiles) h.current)
-
 -- ---- what the files mean
-
-module _ (S : Streams) (e : Extent) (volume : List ℕ) where
-  pub body_found : (fs : List FileForm) (ms : List FileMeaning) → StandIn e volume fs → Pairwise (MeansFile S) fs ms
-      → HasFiles S e volume ms
-  body_found fs ms stand pairs = record {
-    cells = stand.cells;
-    tiles = stand.tiles;
-    files = fs;
-    current = stand.current;
-    meanings = pairs;
-  }
-
-  standing : (ms : List FileMeaning) → (h : HasFiles S e volume ms) → StandIn e volume h.files
-  standing ms h = record { cells = h.cells; tiles = h.tiles; current = h.current }
-
-  pub body_only : (fs : List FileForm) → ((gs : List FileForm) → StandIn e volume gs → gs ≡ fs) → (ms : List FileMeaning)
-      → ((ts : List FileMeaning) → Pairwise (MeansFile S) fs ts → ts ≡ ms) → (ts : List FileMeaning) → HasFiles S e volume ts → ts ≡ ms
-  body_only fs only ms one ts h =
-      one ts (subst (λ (gs : List FileForm). Pairwise (MeansFile S) gs ts) (only h.files (standing ts h)) h.meanings)
-
-  pub body_none : (fs : List FileForm) → ((gs : List FileForm) → StandIn e volume gs → gs ≡ fs)
-      → ((ts : List FileMeaning) → Pairwise (MeansFile S) fs ts → ⊥) → (ts : List FileMeaning) → HasFiles S e volume ts → ⊥
-  body_none fs only none ts h =
-      none ts (subst (λ (gs : List FileForm). Pairwise (MeansFile S) gs ts) (only h.files (standing ts h)) h.meanings)
-
-  pub files_none : ((gs : List FileForm) → StandIn e volume gs → ⊥) → (ts : List FileMeaning) → HasFiles S e volume ts → ⊥
-  files_none none ts h = none h.files (standing ts h)
 
 -- the first file that is refused, of those that are in the volume
 pub files_first : (n : ℕ) (I : Faulty) (e : Extent) (volume : List ℕ) (at : Place) (fs : List FileForm) (g : Fault) → StandIn e volume fs

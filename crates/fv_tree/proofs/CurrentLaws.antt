@@ -1,10 +1,12 @@
 -- Files with a twin, or with a volume top file that is not at the end, are those of no volume.
-use Rattle.std.proofs.Common.{◌≡◌, ◌⊎◌, ℕ, List, [], ◌∷◌, ◌++◌, Bool, true, false, refl, sym, subst}
+use Rattle.std.proofs.Common.{◌≡◌, ◌⊎◌, ℕ, List, [], ◌∷◌, ◌++◌, length, length-append, Bool, true, false, refl, sym, ap, ◌∙◌, subst, arith}
 use Rattle.std.proofs.Common.{inl, inr}
 use Rattle.std.specs.Prelude.{◌||◌}
 use Rattle.std.specs.Bool.{beq}
 use Rattle.std.specs.Cmp.{booleans_Decides}
 use Rattle.std.specs.List.{list_any}
+use Rattle.std.proofs.lemmas.List.{get_or_at}
+use Rattle.std.proofs.lemmas.List.Folds.{list_any_at}
 use Rattle.std.proofs.lemmas.Slice.Eq.{bytes_eq-Decides}
 use Rattle.fv_base.proofs.Laws.{and_join, and_split}
 use Rattle.fv_base.specs.Guids.{bytes_of}
@@ -35,18 +37,11 @@ or_true : (a b : Bool) → (a || b) ≡ true → (a ≡ true) ⊎ (b ≡ true)
 or_true true b h = inl refl
 or_true false b h = inr h
 
-or_right : (a b : Bool) → b ≡ true → (a || b) ≡ true
-or_right true b h = refl
-or_right false b h = h
-
-or_left : (a b : Bool) → a ≡ true → (a || b) ≡ true
-or_left true b h = refl
-or_left false b h = cc
-
 any_behind : (p : FileForm → Bool) (xs : List FileForm) (f : FileForm) (ys : List FileForm) → p f ≡ true
     → list_any p (xs ++ (f ∷ ys)) ≡ true
-any_behind p [] f ys h = or_left (p f) (list_any p ys) h
-any_behind p (x ∷ xs) f ys h = or_right (p x) (list_any p (xs ++ (f ∷ ys))) (any_behind p xs f ys h)
+any_behind p xs f ys h =
+    list_any_at p (xs ++ (f ∷ ys)) (length xs) f (omega (arith, length-append xs (f ∷ ys)))
+    (ap p (get_or_at xs f ys f (length xs) refl) ∙ h)
 
 twin_not : (before : List FileForm) (f : FileForm) (after : List FileForm) → NoTwins (before ++ (f ∷ after))
     → list_any (is_twin f) before ≡ true → ⊥

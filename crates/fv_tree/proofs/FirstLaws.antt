@@ -22,9 +22,11 @@ use Rattle.fv_tree.specs.Files.{FileForm, AreCurrent, NoTwins, TopAtEnd, files_i
 use Rattle.fv_tree.specs.FirstFault.{moved_fault, Moved, OneOf, NamesFault, LayoutFault, FileFault, BodyFault, data_at, outermost}
 use Rattle.fv_tree.specs.FirstFault.{InSection, InStream, InVolume, IsFirstOfVolume}
 use Rattle.fv_tree.specs.Meaning.{Meaning, length_of}
+use Rattle.fv_tree.specs.inner.ReadingParts.{Reads}
 use Rattle.fv_tree.proofs.CurrentLaws.{twin_none}
 use Rattle.fv_tree.proofs.OneFaultLaws.{one_cell_fault, one_frame_fault}
 use Rattle.fv_tree.proofs.ListCuts.{one_fault, first_of_once}
+use Rattle.fv_tree.proofs.MeaningLaws.{one_beginning}
 use Rattle.fv_tree.proofs.RefusalLaws.{StreamRefuses, layout_by, file_by, section_refuses, stream_refuses, first_refuses}
 use Rattle.fv_tree.proofs.TwinLaws.{one_twin, one_top}
 use Rattle.fv_tree.proofs.SectionLaws.{group_is_no_volume}
@@ -128,11 +130,19 @@ section_once (suc n) e g f at (inr (kind, opens, first)) (inr (_, _, first')) =
 pub first_once : (n : ℕ) (e g : Fault) (b : List ℕ) (at : Place) → InVolume First n e b at → InVolume First n g b at → e ≡ g
 first_once n e g b at first first' = volume_once n (stream_refuses n) (stream_once n (section_once n)) e g at b first first'
 
--- ---- an answer
+-- ---- what is read of bytes that should begin with a volume
 
--- where bytes have a first fault, an answer is it, or out of memory
-pub one_answer : (b : List ℕ) (r : Result (Meaning × ℕ) Fault) → IfOk r (λ v. Denotes depth_limit (take v.1 b) v.0)
-    → IfOk r (λ v. (v.1 ≡ length_of v.0) × (v.1 ≤ length b)) → IfErr r (λ g. g ≢ out_of_memory → IsFirstOfVolume b g)
+abbrev ReadsVolume : List ℕ → Result (Meaning × ℕ) Fault → Type 0
+ReadsVolume b r = Reads (λ v. Denotes depth_limit (take v.1 b) v.0) (IsFirstOfVolume b) r
+
+-- they begin with no other
+pub only_answer : (b : List ℕ) (r : Result (Meaning × ℕ) Fault) → ReadsVolume b r → IfOk r (λ v. (v.1 ≡ length_of v.0) × (v.1 ≤ length b))
+    → IfOk r (λ v. (n : ℕ) (m : Meaning) → n ≤ length b → Denotes depth_limit (take n b) m → (m ≡ v.0) × (n ≡ v.1))
+only_answer b (Ok v) read within = λ n m in_bytes d. one_beginning depth_limit n v.1 b m v.0 in_bytes d within.1 read
+only_answer b (Err g) read within = tt
+
+-- where they have a first fault, it is this fault, or memory ran out
+pub one_answer : (b : List ℕ) (r : Result (Meaning × ℕ) Fault) → ReadsVolume b r → IfOk r (λ v. (v.1 ≡ length_of v.0) × (v.1 ≤ length b))
     → (f : Fault) → IsFirstOfVolume b f → IfOk r (λ v. ⊥) × IfErr r (λ g. g ≢ out_of_memory → g ≡ f)
-one_answer b (Ok v) found within first f is = (first_refuses depth_limit v.1 f b outermost v.0 within.1 is found, tt)
-one_answer b (Err g) found within first f is = (tt, λ ne. first_once depth_limit g f b outermost (first ne) is)
+one_answer b (Ok v) read within f is = (first_refuses depth_limit v.1 f b outermost v.0 within.1 is read, tt)
+one_answer b (Err g) read within f is = (tt, λ ne. first_once depth_limit g f b outermost (read ne) is)

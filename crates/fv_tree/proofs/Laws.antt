@@ -14,8 +14,10 @@ pub use Rattle.fv_tree.proofs.SizeLaws.{section_falls, body_falls, section_body_
 pub use Rattle.fv_tree.proofs.SizeLaws.{file_content_falls}
 -- ---- a volume
 
--- a volume that bytes begin with has its front there, and the files of any front that they begin with
-pub use Rattle.fv_tree.proofs.VolumeLaws.{front_of, has_files}
+-- a volume that bytes begin with has its front there
+pub use Rattle.fv_tree.proofs.VolumeLaws.{front_of}
+-- bytes are a volume of one meaning
+pub use Rattle.fv_tree.proofs.MeaningLaws.{one_meaning}
 -- current files have different names; two have one name, whichever is first
 pub use Rattle.fv_tree.proofs.TwinLaws.{names_differ}
 pub use Rattle.fv_tree.proofs.CurrentLaws.{same_name_back}

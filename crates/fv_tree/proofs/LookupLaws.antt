@@ -20,10 +20,10 @@ past_end (x ∷ xs) zero l = absurd (omega (arith, l))
 past_end (x ∷ xs) (suc i) l = past_end xs i (omega (arith, l))
 
 module _ {A : Type 0} (test : A → Bool) where
-  passed_head : (x : A) (xs : List A) → test x ≡ false → filter test (x ∷ xs) ≡ filter test xs
+  pub passed_head : (x : A) (xs : List A) → test x ≡ false → filter test (x ∷ xs) ≡ filter test xs
   passed_head x xs f = rw f refl
 
-  met_head : (x : A) (xs : List A) → test x ≡ true → filter test (x ∷ xs) ≡ x ∷ filter test xs
+  pub met_head : (x : A) (xs : List A) → test x ≡ true → filter test (x ∷ xs) ≡ x ∷ filter test xs
   met_head x xs f = rw f refl
 
   -- the item at i is none of those that are looked for

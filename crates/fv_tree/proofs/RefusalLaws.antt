@@ -12,11 +12,12 @@ use Rattle.fv_head.proofs.Laws.{front_holds}
 use Rattle.fv_section.specs.Frames.{FrameForm}
 use Rattle.fv_section.proofs.Laws.{one_split}
 use Rattle.fv_section.proofs.Laws as framed
+use Rattle.fv_tree.specs.LocatedFiles.{StandIn}
 use Rattle.fv_tree.specs.inner.ReadingParts.{HasFiles}
 use Rattle.fv_tree.specs.Denotes.{Pairwise, MeansFile, MeansSection, Stream, Denotes}
 use Rattle.fv_tree.specs.FailingChecks.{First}
 use Rattle.fv_tree.specs.Files.{FileForm, AreCurrent, files_in, current_in}
-use Rattle.fv_tree.specs.FirstFault.{FileFault, LayoutFault, BodyFault, InSection, InStream, InVolume}
+use Rattle.fv_tree.specs.FirstFault.{FileFault, LayoutFault, Moved, BodyFault, InSection, InStream, InVolume}
 use Rattle.fv_tree.specs.FirstFault.{data_at}
 use Rattle.fv_tree.specs.Meaning.{Meaning, FileMeaning, SectionMeaning, files_of, head_of}
 use Rattle.fv_tree.proofs.CurrentLaws.{current_none}
@@ -50,6 +51,11 @@ layout_by x volume f cells files (inr (others, tiles', names)) tiles current =
     let same = only_one x.file_system x.polarity x.first (drop x.first volume) others cells tiles' tiles in
     current_none x.length others f files names (subst (λ (l : List CellForm). AreCurrent x.length (files_in l) files) same current)
 
+-- and so with the fault moved to where the volume begins
+pub files_refused : (x : Extent) (volume : List ℕ) (at : Place) (e : Fault) (files : List FileForm) → Moved at (LayoutFault First x volume) e
+    → StandIn x volume files → ⊥
+files_refused x volume at e files (f, first, is) stand = layout_by x volume f stand.cells files first stand.tiles stand.current
+
 module _ (n : ℕ) (refused : StreamRefuses n) where
   -- a file with a first fault is not read
   pub file_by : (e : Fault) (at : Place) (f : FileForm) (m : FileMeaning) → FileFault (InStream First n) e f at → MeansFile (Stream n) f m
@@ -60,14 +66,14 @@ module _ (n : ℕ) (refused : StreamRefuses n) where
   -- a body with a first fault has no files
   body_by : (x : Extent) (volume : List ℕ) (e : Fault) (at : Place) (ms : List FileMeaning)
       → BodyFault First n (InStream First n) x e volume at → HasFiles (Stream n) x volume ms → ⊥
-  body_by x volume e at ms (inl (f, first, is)) has = layout_by x volume f has.cells has.files first has.tiles has.current
-  body_by x volume e at ms (inr (cells, tiles, right, first)) has =
-      let same : has.cells ≡ cells =
-      only_one x.file_system x.polarity x.first (drop x.first volume) cells has.cells tiles has.tiles in
-      let files : has.files ≡ current_in (files_in cells) =
-      has.current.files_are ∙ ap (λ (l : List CellForm). current_in (files_in l)) same in
+  body_by x volume e at ms (inl moved) (files, stand, pairs) = files_refused x volume at e files moved stand
+  body_by x volume e at ms (inr (cells, tiles, right, first)) (files, stand, pairs) =
+      let same : stand.cells ≡ cells =
+      only_one x.file_system x.polarity x.first (drop x.first volume) cells stand.cells tiles stand.tiles in
+      let current : files ≡ current_in (files_in cells) =
+      stand.current.files_are ∙ ap (λ (l : List CellForm). current_in (files_in l)) same in
       first_of_none (MeansFile (Stream n)) (λ f. FileFault (InStream First n) e f at) (current_in (files_in cells)) ms
-      (file_by e at) first (subst (λ (l : List FileForm). Pairwise (MeansFile (Stream n)) l ms) files has.meanings)
+      (file_by e at) first (subst (λ (l : List FileForm). Pairwise (MeansFile (Stream n)) l ms) current pairs)
 
   -- bytes with a first fault begin with no volume
   volume_by : (e : Fault) (b : List ℕ) (at : Place) (k : ℕ) (m : Meaning) → k ≤ length b → InVolume First n e b at

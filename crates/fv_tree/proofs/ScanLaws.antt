@@ -11,7 +11,7 @@ use Rattle.fv_head.specs.HeadChecks.{has_signature}
 use Rattle.fv_head.specs.declared.extent.Extent.{Extent}
 use Rattle.fv_head.proofs.Laws.{front_holds, one_front}
 use Rattle.fv_tree.specs.FoundVolumes.{VolumeAt, IsPlace, LiesBehind, Apart, IsCovered, Found}
-use Rattle.fv_tree.specs.inner.FoundWalks.{NoneBetween, NoneFrom, FoundFrom}
+use Rattle.fv_tree.specs.inner.FoundWalks.{NoneBetween, NoneFrom, IsReached, FoundFrom}
 
 order : (a k : ℕ) → (a ≤ k) ⊎ (k < a)
 order zero k = inl (omega arith)
@@ -43,11 +43,8 @@ one_length b k n m v w = v.3 ∙ ap (λ (e : Extent). e.length) (one_front (drop
 
 -- ---- the walk
 
-pub between_nothing : (b : List ℕ) (k : ℕ) → NoneBetween b k k
-between_nothing b k = λ j n l u m v. absurd (omega (arith, l, u))
-
 -- none up to a place, and none from there on, or up to another
-pub between_joined : (b : List ℕ) (from at to : ℕ) → NoneBetween b from at → NoneBetween b at to → NoneBetween b from to
+between_joined : (b : List ℕ) (from at to : ℕ) → NoneBetween b from at → NoneBetween b at to → NoneBetween b from to
 between_joined b from at to f g = λ k n l u m v. go k n l u m v (order at k) where
   go : (k n : ℕ) → from ≤ k → k < to → k % 8 ≡ 0 → VolumeAt b k n → (at ≤ k) ⊎ (k < at) → ⊥
   go k n l u m v (inl p) = g k n p u m v
@@ -59,9 +56,27 @@ from_joined b from at f g = λ k n l m v. go k n l m v (order at k) where
   go k n l m v (inl p) = g k n p m v
   go k n l m v (inr p) = f k n l p m v
 
--- none at a place, and so none up to the next
-pub between_one : (b : List ℕ) (at : ℕ) → at % 8 ≡ 0 → ((n : ℕ) → VolumeAt b at n → ⊥) → NoneBetween b at (at + 8)
-between_one b at e none = λ k n l u m v. none n (subst (λ j. VolumeAt b j n) (omega (arith, e, l, u, m)) v)
+-- a search begins where it is; it goes on to where another search comes, and by 8 where none begins
+pub reached_first : (b : List ℕ) (from : ℕ) → from % 8 ≡ 0 → from ≤ length b → IsReached b from from
+reached_first b from multiple within =
+    record { multiple = multiple; within = within; least = omega arith; none = λ k n l u m v. absurd (omega (arith, l, u)) }
+
+pub reached_joined : (b : List ℕ) (from at to : ℕ) → IsReached b from at → IsReached b at to → IsReached b from to
+reached_joined b from at to r s = record {
+  multiple = s.multiple;
+  within = s.within;
+  least = omega (arith, r.least, s.least);
+  none = between_joined b from at to r.none s.none;
+}
+
+pub reached_more : (b : List ℕ) (from at : ℕ) → IsReached b from at → at + 56 ≤ length b → ((n : ℕ) → VolumeAt b at n → ⊥)
+    → IsReached b from (at + 8)
+reached_more b from at r long none = reached_joined b from at (at + 8) r (record {
+  multiple = omega (arith, r.multiple);
+  within = omega (arith, long);
+  least = omega arith;
+  none = λ k n l u m v. none n (subst (λ j. VolumeAt b j n) (omega (arith, r.multiple, l, u, m)) v);
+})
 
 -- too few bytes for a header
 pub none_past : (b : List ℕ) (at : ℕ) → length b < at + 56 → NoneFrom b at

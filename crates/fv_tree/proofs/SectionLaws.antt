@@ -24,7 +24,7 @@ use Rattle.fv_tree.specs.FirstFault.{moved_fault, body_place, body_at, InSection
 use Rattle.fv_tree.specs.Meaning.{Meaning, SectionMeaning, Section, SectionMeanings, NoSections, MoreSections, Leaf, Group}
 use Rattle.fv_tree.specs.Meaning.{Nested, sections_list, sections_from}
 use Rattle.fv_tree.specs.inner.Shapes.{shape_of}
-use Rattle.fv_tree.specs.declared.read.Shape.TheVariants as shapes
+use Rattle.fv_tree.specs.declared.shape.Shape.TheVariants as shapes
 
 -- a list, there and back
 pub list_back : (ss : List SectionMeaning) → sections_list (sections_from ss) ≡ ss
@@ -128,36 +128,11 @@ group_is_no_volume f a b = omega (arith, a, b)
 leaf_over : (S : Streams) (V : Volumes) (f : FrameForm) → IsLeaf f → SectionOver S V f (Section f.kind f.extended (Leaf f.body))
 leaf_over S V f l = (refl, refl, (l.no_group, l.not_opened, refl))
 
-leaf_only_over : (S : Streams) (V : Volumes) (f : FrameForm) → IsLeaf f → (s : SectionMeaning) → SectionOver S V f s
-    → s ≡ Section f.kind f.extended (Leaf f.body)
-leaf_only_over S V f l (Section k e (Leaf b)) (p, q, (_, _, r)) = cc
-leaf_only_over S V f l (Section k e (Group ss t)) (p, q, (g, r)) = absurd (l.no_group g)
-leaf_only_over S V f l (Section k e (Nested v)) (p, q, (k', o, r)) = absurd (l.not_opened k' o)
-
 pub leaf_is : (n : ℕ) (f : FrameForm) → IsLeaf f → MeansSection n f (Section f.kind f.extended (Leaf f.body))
 leaf_is zero f l = leaf_over (λ _ _ _. ⊥) (λ _ _. ⊥) f l
 leaf_is (suc n) f l = leaf_over (Stream n) (Denotes n) f l
 
-pub leaf_only : (n : ℕ) (f : FrameForm) → IsLeaf f → (s : SectionMeaning) → MeansSection n f s → s ≡ Section f.kind f.extended (Leaf f.body)
-leaf_only zero f l s h = leaf_only_over (λ _ _ _. ⊥) (λ _ _. ⊥) f l s h
-leaf_only (suc n) f l s h = leaf_only_over (Stream n) (Denotes n) f l s h
-
 -- ---- a group
-
-pub group_is : (k : ℕ) (f : FrameForm) (ss : List SectionMeaning) (t : ℕ) → f.kind ≡ group_kind → Stream k ss t f.body
-    → MeansSection (suc k) f (Section f.kind f.extended (Group (sections_from ss) t))
-group_is k f ss t g h = let P : List SectionMeaning → Type 0 = λ l. Stream k l t f.body in (refl, refl, (g, subst P (sym (list_back ss)) h))
-
-pub group_only : (k : ℕ) (f : FrameForm) (ss : List SectionMeaning) (t : ℕ) → f.kind ≡ group_kind
-    → ((us : List SectionMeaning) (u : ℕ) → Stream k us u f.body → (us ≡ ss) × (u ≡ t))
-    → (s : SectionMeaning) → MeansSection (suc k) f s → s ≡ Section f.kind f.extended (Group (sections_from ss) t)
-group_only k f ss t g one (Section x e (Leaf b)) (p, q, (off, _, r)) = absurd (off g)
-group_only k f ss t g one (Section x e (Group us u)) (p, q, (g', r)) =
-    let same = one (sections_list us) u r in
-    let list : us ≡ sections_from ss = sym (sections_back us) ∙ ap sections_from same.0 in
-    let tail : u ≡ t = same.1 in
-    cc
-group_only k f ss t g one (Section x e (Nested v)) (p, q, (k', o, r)) = absurd (group_is_no_volume f g k')
 
 pub group_none : (k : ℕ) (f : FrameForm) → f.kind ≡ group_kind → ((us : List SectionMeaning) (u : ℕ) → Stream k us u f.body → ⊥)
     → (s : SectionMeaning) → MeansSection (suc k) f s → ⊥
@@ -169,20 +144,6 @@ group_none k f g none (Section x e (Nested v)) (p, q, (k', o, r)) = group_is_no_
 
 whole_take : (b : List ℕ) → take (length b) b ≡ b
 whole_take b = take_all (length b) b (omega arith)
-
-pub nested_is : (k : ℕ) (f : FrameForm) (v : Meaning) → IsOpened f → Denotes k f.body v
-    → MeansSection (suc k) f (Section f.kind f.extended (Nested v))
-nested_is k f v o d = (refl, refl, (o.kind, o.opens, d))
-
-pub nested_only : (k : ℕ) (f : FrameForm) (v : Meaning) (r : ℕ) → IsOpened f → ((n : ℕ) (m : Meaning) → n ≤ length f.body
-    → Denotes k (take n f.body) m → (m ≡ v) × (n ≡ r))
-    → (s : SectionMeaning) → MeansSection (suc k) f s → s ≡ Section f.kind f.extended (Nested v)
-nested_only k f v r o one (Section x e (Leaf b)) (p, q, (off, not, h)) = absurd (not o.kind o.opens)
-nested_only k f v r o one (Section x e (Group us u)) (p, q, (g, h)) = absurd (group_is_no_volume f g o.kind)
-nested_only k f v r o one (Section x e (Nested w)) (p, q, (k', o', d)) =
-    let P : List ℕ → Type 0 = λ b. Denotes k b w in
-    let same : w ≡ v = (one (length f.body) w (omega arith) (subst P (sym (whole_take f.body)) d)).0 in
-    cc
 
 pub nested_none : (k : ℕ) (f : FrameForm) → IsOpened f → ((n : ℕ) (m : Meaning) → n ≤ length f.body → Denotes k (take n f.body) m
     → ⊥) → (s : SectionMeaning) → MeansSection (suc k) f s → ⊥
@@ -202,11 +163,6 @@ too_deep f (inr o) (Section x e (Leaf b)) (p, q, (off, not, h)) = not o.kind o.o
 too_deep f (inr o) (Section x e (Group us u)) (p, q, (g', r)) = r
 too_deep f (inr o) (Section x e (Nested v)) (p, q, (k', o', r)) = r
 
-pub deep_first : (f : FrameForm) (e : Fault) (at : Place) → (f.kind ≡ group_kind) ⊎ IsOpened f
-    → e ≡ moved_fault at.offset at.depth (outer_fault kinds.Depth f.offset) → InSection First zero e f at
-deep_first f e at (inl g) is = (inl g, is)
-deep_first f e at (inr o) is = (inr (o.kind, o.opens), is)
-
 -- two places are one, where their offsets and their depths are
 pub one_place : (p q : Place) → p.offset ≡ q.offset → p.depth ≡ q.depth → p ≡ q
 one_place p q o d =
@@ -221,17 +177,10 @@ suc_is n k e = omega (arith, e)
 
 pub group_found : (n k : ℕ) (f : FrameForm) (ss : List SectionMeaning) (t : ℕ) → n ≡ k + 1 → f.kind ≡ group_kind
     → Stream k ss t f.body → MeansSection n f (Section f.kind f.extended (Group (sections_from ss) t))
-group_found n k f ss t e g h = subst (λ m. MeansSection m f (Section f.kind f.extended (Group (sections_from ss) t))) (suc_is n k e)
-    (group_is k f ss t g h)
-
-pub group_one : (n k : ℕ) (f : FrameForm) (ss : List SectionMeaning) (t : ℕ) → n ≡ k + 1 → f.kind ≡ group_kind
-    → ((us : List SectionMeaning) (u : ℕ) → Stream k us u f.body → (us ≡ ss) × (u ≡ t))
-    → (s : SectionMeaning) → MeansSection n f s → s ≡ Section f.kind f.extended (Group (sections_from ss) t)
-group_one n k f ss t e g one s h = group_only k f ss t g one s (subst (λ m. MeansSection m f s) (sym (suc_is n k e)) h)
-
-pub group_bad : (n k : ℕ) (f : FrameForm) → n ≡ k + 1 → f.kind ≡ group_kind → ((us : List SectionMeaning) (u : ℕ)
-    → Stream k us u f.body → ⊥) → (s : SectionMeaning) → MeansSection n f s → ⊥
-group_bad n k f e g none s h = group_none k f g none s (subst (λ m. MeansSection m f s) (sym (suc_is n k e)) h)
+group_found n k f ss t e g h =
+    let P : List SectionMeaning → Type 0 = λ l. Stream k l t f.body in
+    subst (λ m. MeansSection m f (Section f.kind f.extended (Group (sections_from ss) t))) (suc_is n k e)
+    (refl, refl, (g, subst P (sym (list_back ss)) h))
 
 pub group_first : (n k : ℕ) (f : FrameForm) (x : Fault) (at inside : Place) → n ≡ k + 1 → f.kind ≡ group_kind
     → inside.offset ≡ at.offset + body_place f → inside.depth ≡ at.depth + 1 → InStream First k x f.body inside → InSection First n x f at
@@ -242,16 +191,8 @@ group_first n k f x at inside e g p q h =
 
 pub nested_found : (n k : ℕ) (f : FrameForm) (v : Meaning) → n ≡ k + 1 → IsOpened f → Denotes k f.body v
     → MeansSection n f (Section f.kind f.extended (Nested v))
-nested_found n k f v e o d = subst (λ m. MeansSection m f (Section f.kind f.extended (Nested v))) (suc_is n k e) (nested_is k f v o d)
-
-pub nested_one : (n k : ℕ) (f : FrameForm) (v : Meaning) (r : ℕ) → n ≡ k + 1 → IsOpened f → ((j : ℕ) (m : Meaning)
-    → j ≤ length f.body → Denotes k (take j f.body) m → (m ≡ v) × (j ≡ r))
-    → (s : SectionMeaning) → MeansSection n f s → s ≡ Section f.kind f.extended (Nested v)
-nested_one n k f v r e o one s h = nested_only k f v r o one s (subst (λ m. MeansSection m f s) (sym (suc_is n k e)) h)
-
-pub nested_bad : (n k : ℕ) (f : FrameForm) → n ≡ k + 1 → IsOpened f → ((j : ℕ) (m : Meaning) → j ≤ length f.body
-    → Denotes k (take j f.body) m → ⊥) → (s : SectionMeaning) → MeansSection n f s → ⊥
-nested_bad n k f e o none s h = nested_none k f o none s (subst (λ m. MeansSection m f s) (sym (suc_is n k e)) h)
+nested_found n k f v e o d = subst (λ m. MeansSection m f (Section f.kind f.extended (Nested v))) (suc_is n k e)
+    (refl, refl, (o.kind, o.opens, d))
 
 pub nested_first : (n k : ℕ) (f : FrameForm) (x : Fault) (at inside : Place) → n ≡ k + 1 → IsOpened f
     → inside.offset ≡ at.offset + body_place f → inside.depth ≡ at.depth + 1 → InVolume First k x f.body inside → InSection First n x f at
@@ -260,9 +201,7 @@ nested_first n k f x at inside e o p q h =
     let section : InSection First (suc k) x f at = inr (o.kind, o.opens, here) in
     subst (λ m. InSection First m x f at) (suc_is n k e) section
 
-pub deep_bad : (n : ℕ) (f : FrameForm) → n ≡ 0 → (f.kind ≡ group_kind) ⊎ IsOpened f → (s : SectionMeaning) → MeansSection n f s → ⊥
-deep_bad n f e w s h = too_deep f w s (subst (λ m. MeansSection m f s) e h)
-
 pub deep_fault : (n : ℕ) (f : FrameForm) (x : Fault) (at : Place) → n ≡ 0 → (f.kind ≡ group_kind) ⊎ IsOpened f
     → x ≡ moved_fault at.offset at.depth (outer_fault kinds.Depth f.offset) → InSection First n x f at
-deep_fault n f x at e w is = subst (λ m. InSection First m x f at) (sym e) (deep_first f x at w is)
+deep_fault n f x at e (inl g) is = subst (λ m. InSection First m x f at) (sym e) (inl g, is)
+deep_fault n f x at e (inr o) is = subst (λ m. InSection First m x f at) (sym e) (inr (o.kind, o.opens), is)

@@ -15,7 +15,6 @@ use Rattle.fv_file.specs.States.{is_alive}
 use Rattle.fv_file.specs.declared.head.FileHead.{FileHead}
 use Rattle.fv_file.specs.declared.state.FileState.{FileState}
 use Rattle.fv_file.specs.declared.state.FileState.TheVariants as states
-use Rattle.fv_tree.specs.Files.{FileForm, files_in}
 use Rattle.fv_tree.specs.LocatedFiles.{file_sum_by, header_len_by, state_by}
 use Rattle.fv_tree.specs.inner.SmallFiles.{FollowsFrom, IsSmallCell, mark_of}
 
@@ -77,49 +76,3 @@ small_cells system polarity at end (c ∷ cs) b (x, rest, text, is, starts, last
     one (Dead o len) is lies bytes = tt
     one (Stub o len) is lies bytes = tt
     one (Free o len) is lies bytes = tt
-
--- what is kept of a valid file, with what follows, is all of it
-pub file_kept : (at : ℕ) (head : FileHead) (payload : List ℕ) → FollowsFrom head payload
-    → files_in (Valid at head payload ∷ [])
-    ≡ record {
-      offset = at;
-      head = record {
-        name = head.name;
-        kind = head.kind;
-        attributes = head.attributes;
-        size = header_len_by (attribute_bits head.attributes) + length payload;
-        header_len = header_len_by (attribute_bits head.attributes);
-        header_sum = head.header_sum;
-        file_sum = file_sum_by (attribute_bits head.attributes) payload;
-        state = state_by (mark_of head.state);
-      };
-      payload = payload;
-    } ∷ []
-file_kept at head payload f =
-    ap (λ (n : ℕ). made n head.header_len head.file_sum head.state) f.size
-    ∙ ap (λ (n : ℕ). made size n head.file_sum head.state) f.header_len
-    ∙ ap (λ (n : ℕ). made size len n head.state) f.file_sum
-    ∙ ap (λ (s : FileState). made size len (file_sum_by (attribute_bits head.attributes) payload) s) f.state
-  where
-    len : ℕ
-    len = header_len_by (attribute_bits head.attributes)
-
-    size : ℕ
-    size = header_len_by (attribute_bits head.attributes) + length payload
-
-    made : ℕ → ℕ → ℕ → FileState → List FileForm
-    made n l s state =
-        record {
-          offset = at;
-          head = record {
-            name = head.name;
-            kind = head.kind;
-            attributes = head.attributes;
-            size = n;
-            header_len = l;
-            header_sum = head.header_sum;
-            file_sum = s;
-            state = state;
-          };
-          payload = payload;
-        } ∷ []

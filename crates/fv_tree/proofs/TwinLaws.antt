@@ -3,6 +3,8 @@ use Rattle.std.proofs.Common.{◌≡◌, ℕ, Bool, true, false, List, [], ◌�
 use Rattle.std.specs.Prelude.{◌&&◌, not}
 use Rattle.std.specs.Bool.{beq}
 use Rattle.std.specs.List.{AllByRecursion, filter, list_any}
+use Rattle.std.proofs.lemmas.List.Elements.{filter_passes, recursion_from_All}
+use Rattle.std.proofs.lemmas.List.Folds.{list_any-append}
 use Rattle.std.proofs.lemmas.Slice.Eq.{bytes_eq-Decides}
 use Rattle.fv_base.specs.Guids.{bytes_of}
 use Rattle.fv_tree.specs.Files.{FileForm, same_name, is_marked, is_twin, replaces, NoTwins, current_in, is_top, top_name}
@@ -46,31 +48,17 @@ no_twins_kept p (f ∷ fs) h = go (p f) refl (no_twins_kept p fs h.1)
     go true e rest = rw e (none_kept p (is_twin f) fs h.0, rest)
     go false e rest = rw e rest
 
--- what a test keeps passes it
-all_pass : (p : FileForm → Bool) (fs : List FileForm) → AllByRecursion (λ f. p f ≡ true) (filter p fs)
-all_pass p [] = tt
-all_pass p (f ∷ fs) = go (p f) refl (all_pass p fs)
-  where
-    go : (t : Bool) → p f ≡ t → AllByRecursion (λ g. p g ≡ true) (filter p fs) → AllByRecursion (λ g. p g ≡ true) (filter p (f ∷ fs))
-    go true e rest = rw e (e, rest)
-    go false e rest = rw e rest
-
--- a test that finds nothing fails at each item
-any_middle : (q : FileForm → Bool) (before : List FileForm) (f : FileForm) (after : List FileForm)
-    → list_any q (before ++ (f ∷ after)) ≡ false → q f ≡ false
-any_middle q [] f after h = (or_parts (q f) (list_any q after) h).0
-any_middle q (g ∷ gs) f after h = any_middle q gs f after (or_parts (q g) (list_any q (gs ++ (f ∷ after))) h).1
-
--- and finds nothing behind it
-any_behind : (q : FileForm → Bool) (before : List FileForm) (f : FileForm) (after : List FileForm)
-    → list_any q (before ++ (f ∷ after)) ≡ false → list_any q after ≡ false
-any_behind q [] f after h = (or_parts (q f) (list_any q after) h).1
-any_behind q (g ∷ gs) f after h = any_behind q gs f after (or_parts (q g) (list_any q (gs ++ (f ∷ after))) h).1
+-- a test that finds nothing fails at each item, and finds nothing behind it
+any_cut : (q : FileForm → Bool) (before : List FileForm) (f : FileForm) (after : List FileForm)
+    → list_any q (before ++ (f ∷ after)) ≡ false → (q f ≡ false) × (list_any q after ≡ false)
+any_cut q before f after h =
+    or_parts (q f) (list_any q after)
+    (or_parts (list_any q before) (list_any q (f ∷ after)) (sym (list_any-append q before (f ∷ after)) ∙ h)).1
 
 -- of files without twins, two at different places are none
 apart : (before : List FileForm) (f : FileForm) (mid : List FileForm) (g : FileForm) (after : List FileForm)
     → NoTwins (before ++ (f ∷ (mid ++ (g ∷ after)))) → is_twin f g ≡ false
-apart [] f mid g after none = any_middle (is_twin f) mid g after none.0
+apart [] f mid g after none = (any_cut (is_twin f) mid g after none.0).0
 apart (h ∷ hs) f mid g after none = apart hs f mid g after none.1
 
 -- ---- two files of one name are not both current
@@ -107,7 +95,8 @@ names_differ fs before f mid g after none is forth back =
     twin = apart before f mid g after (subst NoTwins is (no_twins_kept (is_alive fs) fs none))
 
     all : AllByRecursion (λ h. is_alive fs h ≡ true) whole
-    all = subst (λ (l : List FileForm). AllByRecursion (λ h. is_alive fs h ≡ true) l) is (all_pass (is_alive fs) fs)
+    all = subst (λ (l : List FileForm). AllByRecursion (λ h. is_alive fs h ≡ true) l) is
+        (recursion_from_All (λ h. is_alive fs h ≡ true) (filter (is_alive fs) fs) (filter_passes (is_alive fs) fs))
 
     -- a file that is current is replaced by none that is
     not_replaced : (h : FileForm) → is_alive fs h ≡ true → list_any (replaces h) whole ≡ false
@@ -117,15 +106,15 @@ names_differ fs before f mid g after none is forth back =
 
     over : replaces f g ≡ false
     over =
-        any_middle (replaces f) mid g after
-        (any_behind (replaces f) before f (mid ++ (g ∷ after))
-        (not_replaced f (in_middle (λ h. is_alive fs h ≡ true) before f (mid ++ (g ∷ after)) all)))
+        let rest = any_cut (replaces f) before f (mid ++ (g ∷ after))
+        (not_replaced f (in_middle (λ h. is_alive fs h ≡ true) before f (mid ++ (g ∷ after)) all)) in
+        (any_cut (replaces f) mid g after rest.1).0
 
     under : replaces g f ≡ false
     under =
-        any_middle (replaces g) before f (mid ++ (g ∷ after))
+        (any_cut (replaces g) before f (mid ++ (g ∷ after))
         (not_replaced g (in_middle (λ h. is_alive fs h ≡ true) mid g after
-        (all_behind (λ h. is_alive fs h ≡ true) before f (mid ++ (g ∷ after)) all)))
+        (all_behind (λ h. is_alive fs h ≡ true) before f (mid ++ (g ∷ after)) all)))).0
 
 -- ---- the volume top file
 

@@ -1,7 +1,7 @@
 -- A volume that bytes begin with is its header and its files.
 use Rattle.std.proofs.Common.{◌≡◌, ◌≤◌, ◌⊎◌, ℕ, List, [], ◌∷◌, length, take, refl, sym, ap, ◌∙◌, subst}
 use Rattle.std.proofs.Common.{arith, inl, inr}
-use Rattle.std.specs.Prelude.{◌≢◌, Result, Ok, Err}
+use Rattle.std.specs.Prelude.{◌≢◌}
 use Rattle.std.specs.List.{AllByRecursion}
 use Rattle.std.proofs.lemmas.List.{length-take-le, take_all}
 use Rattle.fv_base.specs.Checks.{IsFirstFault}
@@ -13,6 +13,7 @@ use Rattle.fv_head.specs.Head.{HeadFields, BeginsVolume}
 use Rattle.fv_head.specs.HeadChecks.{head_checks, volume_len_at}
 use Rattle.fv_head.specs.declared.extent.Extent.{Extent}
 use Rattle.fv_head.proofs.Laws.{front_extent, front_same, one_front}
+use Rattle.fv_tree.specs.LocatedFiles.{StandIn}
 use Rattle.fv_tree.specs.inner.ReadingParts.{HasFiles}
 use Rattle.fv_tree.specs.Denotes.{Stream, Denotes, Opens}
 use Rattle.fv_base.specs.declared.fault.Place.{Place}
@@ -38,15 +39,16 @@ made n b h e ms front has =
     let long : length (take e.length b) ≡ e.length = length-take-le e.length b front.whole in
     let P : List FileMeaning → Type 0 = λ l. HasFiles (Stream n) e (take e.length b) l in
     let all : HasFiles (Stream n) e (take e.length b) (files_list (files_from ms)) = subst P (sym (files_list_back ms)) has in
+    let stand : StandIn e (take e.length b) all.0 = all.1 in
     record {
       extent = e;
       front = front_same b (take e.length b) h e front (omega (arith, long)) (take-take_le e.length e.length b (omega arith));
       whole = long;
-      cells = all.cells;
-      tiles = all.tiles;
-      files = all.files;
-      current = all.current;
-      meanings = all.meanings;
+      cells = stand.cells;
+      tiles = stand.tiles;
+      files = all.0;
+      current = stand.current;
+      meanings = all.2;
     }
 
 -- ---- a volume has a header and files
@@ -61,7 +63,7 @@ front_of n k b m within d =
     )
 
 has_of : (n k : ℕ) (b : List ℕ) (m : Meaning) → (d : Denotes n (take k b) m) → HasFiles (Stream n) d.extent (take k b) (files_of m)
-has_of n k b (Volume h fs) d = record { cells = d.cells; tiles = d.tiles; files = d.files; current = d.current; meanings = d.meanings }
+has_of n k b (Volume h fs) d = (d.files, record { cells = d.cells; tiles = d.tiles; current = d.current }, d.meanings)
 
 -- the volume's files, by a header that the bytes begin with
 pub has_files : (n k : ℕ) (b : List ℕ) (m : Meaning) (h : HeadFields) (e : Extent) → BeginsVolume h e b → k ≤ length b
@@ -74,32 +76,6 @@ has_files n k b m h e front within d =
     let P : Extent → Type 0 = λ x. HasFiles (Stream n) x (take k b) (files_of m) in
     let Q : ℕ → Type 0 = λ j. HasFiles (Stream n) e (take j b) (files_of m) in
     (same.0, len, subst Q len (subst P same.1 (has_of n k b m d)))
-
-volume_is : (m : Meaning) (h : HeadFields) (ms : List FileMeaning) → head_of m ≡ h → files_of m ≡ ms → m ≡ Volume h (files_from ms)
-volume_is (Volume k fs) h ms p q = let r : fs ≡ files_from ms = sym (files_back fs) ∙ ap files_from q in cc
-
-pub no_other : (n : ℕ) (b : List ℕ) (h : HeadFields) (e : Extent) (ms : List FileMeaning) → BeginsVolume h e b → ((ts : List FileMeaning)
-    → HasFiles (Stream n) e (take e.length b) ts → ts ≡ ms)
-    → (k : ℕ) (m : Meaning) → k ≤ length b → Denotes n (take k b) m → (m ≡ Volume h (files_from ms)) × (k ≡ e.length)
-no_other n b h e ms front one k m within d =
-    let x = has_files n k b m h e front within d in
-    (volume_is m h ms x.0 (one (files_of m) x.2), x.1)
-
-pub no_files : (n : ℕ) (b : List ℕ) (h : HeadFields) (e : Extent) → BeginsVolume h e b → ((ts : List FileMeaning)
-    → HasFiles (Stream n) e (take e.length b) ts → ⊥)
-    → (k : ℕ) (m : Meaning) → k ≤ length b → Denotes n (take k b) m → ⊥
-no_files n b h e front none k m within d = none (files_of m) (has_files n k b m h e front within d).2
-
--- a header that is refused begins no volume
-pub head_unread : (n : ℕ) (b : List ℕ) (f : Fault) → ((h : HeadFields) (e : Extent) → BeginsVolume h e b
-    → (let A : Type 0 = Result (HeadFields × Extent) Fault in (◌≡◌ {A = A} (Err f) (Ok (h, e)))
-    ⊎ (◌≡◌ {A = A} (Err f) (Err out_of_memory))))
-    → f ≢ out_of_memory → (k : ℕ) (m : Meaning) → k ≤ length b → Denotes n (take k b) m → ⊥
-head_unread n b f only ne k m within d = go (only (head_of m) d.extent (front_of n k b m within d).0) where
-  go : (let A : Type 0 = Result (HeadFields × Extent) Fault in (◌≡◌ {A = A} (Err f) (Ok (head_of m, d.extent)))
-      ⊎ (◌≡◌ {A = A} (Err f) (Err out_of_memory))) → ⊥
-  go (inl never) = let x : ⊥ = cc in x
-  go (inr same) = ne cc
 
 -- ---- faults of the header
 

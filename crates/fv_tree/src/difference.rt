@@ -1,19 +1,18 @@
 //! Where the meanings of two volumes first differ.
 
-ghost use Rattle.std.specs.Prelude.{◌≡◌, ◌≢◌, ◌==◌, true, Some, option_copied, IfOk, IfErr, IfSome, IfNone};
+ghost use Rattle.std.specs.Prelude.{◌≡◌, ◌≢◌, ◌==◌, true, Some, IfOk, IfErr, IfSome, IfNone};
 ghost use Rattle.fv_base.specs.Faults.{out_of_memory};
-ghost use Rattle.fv_tree.specs.Difference.{blocks_eq, entries_eq, ext_eq};
 ghost use Rattle.fv_tree.specs.Difference.{has_steps, differ_in, unless_one, or_else, under};
-ghost use Rattle.fv_tree.specs.inner.DifferenceWalks.{in_word, outermost_first, AnswersDifference};
-ghost use Rattle.fv_tree.specs.Difference.{head_differs, difference, files_differ, file_differs, content_differs};
+ghost use Rattle.fv_tree.specs.inner.DifferenceWalks.{outermost_first, AnswersDifference};
+ghost use Rattle.fv_tree.specs.Difference.{difference, files_differ, file_differs, content_differs};
 ghost use Rattle.fv_tree.specs.Difference.{sections_differ, section_differs, body_differs};
 ghost use Rattle.fv_tree.specs.declared.difference.Word.TheVariants as words;
 ghost use Rattle.fv_tree.specs.Meaning.{files_from, sections_from};
 ghost use Rattle.fv_tree.specs.Views.{content_view, body_view};
 
+use crate::head_difference::head_word;
 use crate::view::{Body, Content, FileView, SectionView, VolumeView};
 use fv_base::Fault;
-use fv_head::{ExtEntry, ExtHeader, VolumeHead};
 use std::alloc::Global;
 use std::marker::Model;
 
@@ -120,69 +119,6 @@ fn under(step: Step, found: Difference) -> Result<Difference, Fault>
     let mut found = found;
     found.steps.push(step)?;
     Ok(found)
-}
-
-// Whether two block maps are equal.
-fn same_blocks(a: &[(u32, u32)], b: &[(u32, u32)]) -> bool
-    ensures { result ≡ blocks_eq a.now b.now }
-{
-    a == b
-}
-
-// Whether the entries of two extended headers are equal.
-fn same_entries(a: &[ExtEntry], b: &[ExtEntry]) -> bool
-    ensures { result ≡ entries_eq a.now b.now }
-{
-    if a.len() != b.len() {
-        return false;
-    }
-    for (i, entry) in a.iter().enumerate() {
-        if entry.kind() != b[i].kind() || entry.payload() != b[i].payload() {
-            return false;
-        }
-    }
-    true
-}
-
-// Whether two extended headers are equal.
-fn same_ext(a: Option<&ExtHeader>, b: Option<&ExtHeader>) -> bool
-    ensures { result ≡ ext_eq (option_copied a.entry) (option_copied b.entry) }
-{
-    match (a, b) {
-        (None, None) => true,
-        (Some(x), Some(y)) => {
-            x.name() == y.name() && same_entries(x.entries(), y.entries()) && x.tail() == y.tail()
-        }
-        _ => false,
-    }
-}
-
-// The kind of the first difference between two headers.
-fn head_word(head: &VolumeHead, other: &VolumeHead) -> Option<Word>
-    ensures { in_word result ≡ head_differs head.now other.now }
-{
-    if head.zero_vector() != other.zero_vector() {
-        return Some(Word::ZeroVector);
-    }
-    if head.file_system() != other.file_system() {
-        return Some(Word::FileSystem);
-    }
-    if head.length() != other.length() {
-        return Some(Word::Length);
-    }
-    if head.attributes() != other.attributes() {
-        return Some(Word::VolumeAttributes);
-    }
-    if head.reserved() != other.reserved() {
-        return Some(Word::Reserved);
-    }
-    if !same_blocks(head.blocks().as_slice(), other.blocks().as_slice()) {
-        return Some(Word::BlockMap);
-    }
-    if !same_ext(head.ext(), other.ext()) {
-        return Some(Word::ExtendedHeader);
-    }
-    None
 }
 
 // Where two streams first differ, with the steps from the innermost out.

@@ -2,11 +2,14 @@
 #![tactic(auto)]
 
 mod difference;
-mod frame_places;
+mod fault_place;
+mod head_difference;
 mod lookup;
 mod name_index;
 mod read;
 mod scanner;
+mod shape;
+mod stored_files;
 #[cfg(test)]
 mod tests;
 mod view;
@@ -14,7 +17,8 @@ mod volume_files;
 
 pub use difference::{Difference, Step, Word, first_difference};
 pub use lookup::{Item, Lookup, file_by_name, file_by_type, next_file, section_by_type};
-pub use read::{located_files, read_volume};
+pub use read::read_volume;
 pub use scanner::{Offsets, scan};
+pub use stored_files::located_files;
 pub use view::{Body, Content, FileView, SectionView, VolumeView};
 pub use volume_files::{LocatedFile, VOLUME_TOP_FILE};

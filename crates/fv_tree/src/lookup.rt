@@ -2,7 +2,6 @@
 
 ghost use Rattle.std.specs.Prelude.{◌≡◌, ◌∷◌, ℕ, Ok, Err, IfOk, IfErr, List, option_map};
 ghost use Rattle.std.specs.Prelude.{option_copied};
-ghost use Rattle.fv_section.specs.FrameChecks.{IsFirstFrameFault};
 ghost use Rattle.fv_section.specs.Frames.{FrameForm, Splits};
 ghost use Rattle.fv_section.specs.FrameForms as framed;
 ghost use Rattle.fv_tree.specs.LookupAnswers.{SeesSection, SeesFrame, IsNotSectioned};
@@ -14,14 +13,10 @@ ghost use Rattle.fv_tree.specs.Meaning.{SectionMeanings, sections_from};
 ghost use Rattle.fv_tree.specs.FileNames.{file_named};
 ghost use Rattle.fv_tree.specs.Views.{body_view};
 
-use crate::frame_places::next_frame_at;
 use crate::view::{Body, Content, FileView, SectionView, VolumeView};
 use fv_base::{Fault, Guid};
-use fv_section::{Frame, next_frame};
-
-/// The type of a security core, whose data are sections that are kept as bytes. (PI specification,
-/// volume 3, section 3.2.3, EFI_FV_FILETYPE_SECURITY_CORE.)
-const SECURITY_CORE: u8 = 0x03;
+use fv_file::file_type::SECURITY_CORE;
+use fv_section::{Frame, FrameWalk};
 
 /// What a look-up of a section found. (PI specification, volume 3, section 3.2.4.)
 #[derive(Clone, Copy)]
@@ -169,29 +164,28 @@ fn section_lookup<'v, 'a>(
     }
 }
 
-// The frame of this type and instance. The stream is walked to its end, because only then is it
-// known that the bytes are a stream.
+// The frame of this type and instance, if the bytes are a stream.
 fn frame_by_type(bytes: &[u8], kind: u8, instance: u32) -> Result<Option<Frame<'_>>, Fault>
     ensures ok { IfOk result (λ o. (fs : List FrameForm) (t : ℕ) → Splits fs t bytes.now
         → option_map framed.frame_form o ≡ frame_of_type kind instance fs) }
     ensures split { IfOk result (λ _. (fs : List FrameForm) × (t : ℕ) × Splits fs t bytes.now) }
     ensures err { IfErr result (λ _. (fs : List FrameForm) (t : ℕ) → Splits fs t bytes.now → ⊥) }
-    ensures first { IfErr result (IsFirstFrameFault bytes.now) }
 {
-    let mut found = None;
-    let mut left = instance;
-    let mut at = 0;
-    while let Some(frame) = next_frame(bytes, at)? {
-        at = next_frame_at(bytes, &frame);
-        if frame.kind != kind || left == 0 {
+    let mut walk = FrameWalk::of(bytes)?;
+    if instance == 0 {
+        return Ok(None);
+    }
+    let mut left = instance - 1;
+    while let Some(frame) = walk.next_frame() {
+        if frame.kind != kind {
             continue;
         }
-        left -= 1;
         if left == 0 {
-            found = Some(frame);
+            return Ok(Some(frame));
         }
+        left -= 1;
     }
-    Ok(found)
+    Ok(None)
 }
 
 // The result of a look-up among the frames of bytes that may be a stream.

@@ -1,28 +1,32 @@
 //! The numbers of files by their names.
 
-ghost use Rattle.std.specs.Prelude.{◌≡◌, ◌<◌, ◌≤◌, ◌-◌, ◌%◌, ◌^◌, List, length, map, take, get_or, true};
+ghost use Rattle.std.specs.Prelude.{◌≡◌, ◌<◌, ◌≤◌, ◌+◌, ◌-◌, ◌*◌, ◌/◌, ◌%◌, ◌^◌, List, length, map, take, get_or, true};
 ghost use Rattle.std.specs.Prelude.{IsSorted, IsTrue, IfOk, IfErr};
-ghost use Rattle.std.specs.List.{All, AllByRecursion, IsDistinct, list_any, range_with_len};
+ghost use Rattle.std.specs.List.{All, AllByRecursion, list_any, position_or_len};
 ghost use Rattle.std.specs.List.Sorted.{IsPermutation};
-ghost use Rattle.std.specs.Ordering.{eq_by_cmp, nat_cmp};
+ghost use Rattle.std.specs.Option.{unwrap_or};
+ghost use Rattle.std.specs.Ordering.{nat_cmp};
 ghost use Rattle.fv_base.specs.Faults.{out_of_memory};
 ghost use Rattle.fv_tree.specs.Meaning.{FileMeaning};
 ghost use Rattle.fv_tree.specs.Files.{FileForm, NoTwins, is_twin, replaces};
-ghost use Rattle.fv_tree.specs.FileNames.{Entry, HasNumbers, IsIndex, IsName, IsSixteenBytes, entry_cmp, halves_cmp};
-ghost use Rattle.fv_tree.specs.FileNames.{halves_in, halves_of, numbered};
-ghost use Rattle.fv_tree.specs.inner.NameOrders.{key_of, names_in, number_from};
+ghost use Rattle.fv_tree.specs.FileNames.{Entry, HasNumbers, IsIndex, IsName, IsSixteenBytes, entry_cmp};
+ghost use Rattle.fv_tree.specs.FileNames.{halves_in, halves_of, is_named, numbered};
+ghost use Rattle.fv_tree.specs.inner.NameOrders.{key_of, names_in};
 ghost use Rattle.fv_tree.specs.LocatedFiles.{file_form};
 ghost use Rattle.fv_tree.specs.inner.SmallFiles.{is_noted};
-ghost use Rattle.fv_tree.specs.inner.Neighbours.{AreTwins, HasNeighbour, IsTwinAt, mark_at};
+ghost use Rattle.fv_tree.specs.inner.Neighbours.{AllApart, AreTwins, IsTwinAt, SharesItsName, mark_at};
 
 use crate::volume_files::LocatedFile;
 use fv_base::{Fault, Guid};
 use std::alloc::Global;
 
-/// The names of some files in order, each as two numbers and with the number of its file.
+// A name as two numbers, with the number of its file.
+type NumberedName = ((u64, u64), u32);
+
+/// The names of some files with their numbers, in order.
 #[derive(Drop)]
 pub(crate) struct Numbers {
-    sorted: Vec<((u64, u64), u32)>,
+    sorted: Vec<NumberedName>,
 }
 
 // Sixteen bytes as two numbers.
@@ -45,25 +49,50 @@ fn halves(name: Guid) -> (u64, u64)
     numbers_in(name.to_bytes())
 }
 
-// How many bits are needed to number `count` files.
-fn bits_for(count: usize) -> u32
-    requires { count < 2 ^ 32 }
-    ensures room { count ≤ 2 ^ result }
-    ensures bound { result < 64 }
-{
-    (count + 1).ilog2() + 1
+// How a key is packed: the number of a file in this many low bits, and the high bits of the first
+// half of its name above them. Keys are quick to sort, and names with the same high bits are rare,
+// so the order of the keys is mostly that of the names.
+#[derive(Clone, Copy)]
+struct Packing {
+    bits: u32,
 }
 
-// A key for each file: its number in the low bits, and the high bits of the first half of its name
-// above them. Keys are quick to sort, and names with the same high bits are rare, so the order of
-// the keys is mostly that of the names.
-fn sorted_keys(alloc: Global, files: &[LocatedFile], bits: u32) -> Result<Vec<u64>, Fault>
-    requires room { length files.now ≤ 2 ^ bits }
-    requires bits { bits < 64 }
-    ensures numbers { IfOk result
-        (λ keys. IsPermutation (range_with_len 0 (length files.now)) (map (λ key. key % 2 ^ bits) keys.items)) }
+impl Packing {
+    // The packing that has room for the numbers of `count` files.
+    fn of(count: usize) -> Packing
+        requires { count < 2 ^ 32 }
+        ensures room { count ≤ 2 ^ result.bits }
+        ensures bits { result.bits < 64 }
+    {
+        Packing {
+            bits: (count + 1).ilog2() + 1,
+        }
+    }
+
+    // The key of the file with this number, whose name has this first half.
+    fn pack(self, front: u64, number: u64) -> u64
+        requires room { number < 2 ^ self.bits }
+        requires bits { self.bits < 64 }
+        ensures { result ≡ front / 2 ^ self.bits * 2 ^ self.bits + number }
+    {
+        front >> self.bits << self.bits | number
+    }
+
+    // The number in a key.
+    fn number(self, key: u64) -> u64
+        requires { self.bits < 64 }
+        ensures { result ≡ key % 2 ^ self.bits }
+    {
+        key % (1u64 << self.bits)
+    }
+}
+
+// The keys of some files, sorted.
+fn sorted_keys(alloc: Global, files: &[LocatedFile], packing: Packing) -> Result<Vec<u64>, Fault>
+    requires room { length files.now ≤ 2 ^ packing.bits }
+    requires bits { packing.bits < 64 }
     ensures keys { IfOk result
-        (λ keys. IsPermutation (map (key_of bits) (numbered 0 (names_in (map file_form files.now)))) keys.items) }
+        (λ keys. IsPermutation (map (key_of packing.bits) (numbered 0 (names_in (map file_form files.now)))) keys.items) }
     ensures sorted { IfOk result (λ keys. IsSorted nat_cmp keys.items) }
     ensures whole { IfOk result (λ _. AllByRecursion IsName (names_in (map file_form files.now))) }
     ensures err { IfErr result (λ f. f ≡ out_of_memory) }
@@ -71,8 +100,7 @@ fn sorted_keys(alloc: Global, files: &[LocatedFile], bits: u32) -> Result<Vec<u6
     let mut keys = Vec::with_capacity(alloc, files.len())?;
     for file in files {
         let number = keys.len() as u64;
-        let front = halves(file.name).0;
-        keys.push(front >> bits << bits | number)?;
+        keys.push(packing.pack(halves(file.name).0, number))?;
     }
     keys.sort_unstable();
     Ok(keys)
@@ -87,7 +115,7 @@ fn is_marked_at(files: &[LocatedFile], number: u32) -> bool
 }
 
 // Whether two entries are of files with the same name and the same mark.
-fn are_twins(files: &[LocatedFile], one: ((u64, u64), u32), other: ((u64, u64), u32)) -> bool
+fn are_twins(files: &[LocatedFile], one: NumberedName, other: NumberedName) -> bool
     requires one { one.1 < length files.now }
     requires other { other.1 < length files.now }
     ensures yes { IsTrue result → (d : FileForm) → AreTwins (map file_form files.now) d one other }
@@ -103,12 +131,11 @@ impl Numbers {
         ensures found { IfOk result (λ numbers. IsIndex (names_in (map file_form files.now)) numbers.sorted.items) }
         ensures err { IfErr result (λ f. f ≡ out_of_memory) }
     {
-        let bits = bits_for(files.len());
-        let room = 1u64 << bits;
+        let packing = Packing::of(files.len());
         let mut sorted = Vec::with_capacity(alloc, files.len())?;
-        let keys = sorted_keys(alloc, files, bits)?;
+        let keys = sorted_keys(alloc, files, packing)?;
         for key in &keys {
-            let number = *key % room;
+            let number = packing.number(*key);
             let name = files[number as usize].name;
             sorted.push((halves(name), number as u32))?;
         }
@@ -119,8 +146,8 @@ impl Numbers {
     // Whether no two of the names are the same.
     pub(crate) fn are_distinct(&self) -> bool
         requires { IsSorted entry_cmp self.now.sorted.items }
-        ensures distinct { IsTrue result → IsDistinct (eq_by_cmp halves_cmp) (map (λ e. e.0) self.now.sorted.items) }
-        ensures all { IsDistinct (eq_by_cmp halves_cmp) (map (λ e. e.0) self.now.sorted.items) → IsTrue result }
+        ensures distinct { IsTrue result → AllApart self.now.sorted.items }
+        ensures all { AllApart self.now.sorted.items → IsTrue result }
     {
         for next in 1..self.sorted.len() {
             if self.sorted[next - 1].0 == self.sorted[next].0 {
@@ -167,10 +194,10 @@ impl Numbers {
     }
 
     // Whether an entry beside the one at a place has the same name.
-    fn has_neighbour(&self, place: usize) -> bool
+    fn shares_its_name(&self, place: usize) -> bool
         requires { place < length self.now.sorted.items }
-        ensures yes { IsTrue result → (e : Entry) → HasNeighbour self.now.sorted.items e place }
-        ensures all { (e : Entry) → HasNeighbour self.now.sorted.items e place → IsTrue result }
+        ensures yes { IsTrue result → (e : Entry) → SharesItsName self.now.sorted.items e place }
+        ensures all { (e : Entry) → SharesItsName self.now.sorted.items e place → IsTrue result }
     {
         let name = self.sorted[place].0;
         (place > 0 && self.sorted[place - 1].0 == name)
@@ -187,7 +214,7 @@ impl Numbers {
             ≡ list_any (replaces (get_or (map file_form files.now) (get_or self.now.sorted.items place e).1 d))
             (map file_form files.now) }
     {
-        self.has_neighbour(place) && is_marked_at(files, self.sorted[place].1)
+        self.shares_its_name(place) && is_marked_at(files, self.sorted[place].1)
     }
 
     // Notes of each file whether one of the files replaces it.
@@ -205,9 +232,10 @@ impl Numbers {
         }
     }
 
-    // The number of the first file with this name.
+    // The number of the first file with this name, or None.
     pub(crate) fn get(&self, name: &Guid) -> Option<u32>
-        ensures { (fs : List FileMeaning) → HasNumbers self.now fs → result ≡ number_from 0 name.now fs }
+        ensures { (fs : List FileMeaning) → HasNumbers self.now fs
+            → unwrap_or result (length fs) ≡ position_or_len (is_named name.now) fs }
     {
         let key = halves(*name);
         let Err(place) = self.sorted.binary_search(&(key, 0)) else {

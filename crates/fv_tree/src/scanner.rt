@@ -4,15 +4,12 @@ ghost use Rattle.std.specs.Prelude.{◌≡◌, true, ◌%◌, ◌≤◌, ◌+◌
 ghost use Rattle.fv_base.specs.Faults.{out_of_memory};
 ghost use Rattle.fv_head.specs.HeadChecks.{has_signature};
 ghost use Rattle.fv_tree.specs.FoundVolumes.{Found, IsPlace};
-ghost use Rattle.fv_tree.specs.inner.FoundWalks.{IsNext, NoneBetween, NoneFrom};
+ghost use Rattle.fv_tree.specs.inner.FoundWalks.{IsNext, IsReached, NoneFrom};
 
 use fv_base::Fault;
-use fv_head::verify_fv;
+use fv_head::{SIGNATURE, verify_fv};
 use std::alloc::Global;
 use std::marker::Model;
-
-/// The signature of a volume, `_FVH`.
-const SIGNATURE: [u8; 4] = [0x5f, 0x46, 0x56, 0x48];
 
 /// The offsets at which the volumes in some bytes begin, in rising order, in bytes from the first.
 /// Contracts see the list.
@@ -50,8 +47,8 @@ fn is_signed(bytes: &[u8], at: usize) -> bool
 fn next_signature(bytes: &[u8], from: usize) -> Option<usize>
     requires multiple { from % 8 ≡ 0 }
     requires within { from ≤ length bytes.now }
-    ensures some { IfSome result (λ at. (from ≤ at) × (at % 8 ≡ 0) × (at + 56 ≤ length bytes.now)
-        × NoneBetween bytes.now from at × (has_signature (drop at bytes.now) ≡ true)) }
+    ensures some { IfSome result (λ at. IsReached bytes.now from at × (at + 56 ≤ length bytes.now)
+        × (has_signature (drop at bytes.now) ≡ true)) }
     ensures none { IfNone result (NoneFrom bytes.now from) }
 {
     let mut at = from;

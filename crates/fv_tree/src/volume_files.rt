@@ -16,6 +16,7 @@ ghost use Rattle.fv_tree.specs.inner.SmallFiles.{IsSmallCell, is_noted, mark_of}
 
 use crate::name_index::Numbers;
 use fv_base::{Fault, FaultKind, Guid, check};
+use fv_file::layout::{HEADER_LEN, LARGE_HEADER_LEN};
 use fv_file::{Cell, FileAttributes, FileState};
 use std::alloc::Global;
 
@@ -107,7 +108,11 @@ impl<'a> LocatedFile<'a> {
         ensures is { result ≡ (file_form self.now).head.header_len }
         ensures most { result ≤ 32 }
     {
-        if self.attributes.is_large() { 32 } else { 24 }
+        if self.attributes.is_large() {
+            LARGE_HEADER_LEN as u64
+        } else {
+            HEADER_LEN as u64
+        }
     }
 }
 
@@ -262,6 +267,8 @@ pub(crate) fn current_files<'a>(
     if !numbers.are_distinct() {
         return apart_files(alloc, files, numbers, length);
     }
+    // A twin and an update have the name of another file. So if all names differ, there is no twin,
+    // no file is dropped, and the numbers are those of the files that are kept.
     check_top(files.as_slice(), length)?;
     Ok((files, numbers))
 }

@@ -34,14 +34,26 @@ fn lists_keep_fills(rt: HostRuntime) -> Result<(), Fail> {
 fn ports_are_written_fills(rt: HostRuntime) -> Result<(), Fail> {
     for byte in [0xff, 0] {
         for count in COUNTS {
-            let mut port = Port::new(Vec::new(rt.alloc()));
+            let mut port = Port::new(Narrow {
+                taken: Vec::new(rt.alloc()),
+                step: usize::MAX,
+                room: count + 2,
+                fails: false,
+            });
             let mut sink = WriteSink::new(&mut port);
             fill(&mut sink, byte, count as u64);
             sink.put(&[1, 2]);
             assert_eq!(rt; sink.outcome(), Ok(()));
-            assert_eq!(rt; sink.count, count as u64 + 2);
+            // The fault of a byte for which there is no room says how many were written.
+            sink.put(&[3]);
+            let stopped = Err(Fault::outer(FaultKind::WriteFault, count as u64 + 2));
+            assert_eq!(rt; sink.outcome(), stopped);
             let want = filled(rt.alloc(), byte, count)?;
-            assert_eq!(rt; port.into_inner().as_slice(), want.as_slice(), "{count}");
+            assert_eq!(rt;
+                port.into_inner().taken.as_slice(),
+                want.as_slice(),
+                "{count}"
+            );
         }
     }
     Ok(())

@@ -5,7 +5,19 @@ use Rattle.std.specs.Prelude.{sum}
 use Rattle.std.proofs.lemmas.List.Sums.{sum_by-append}
 use Rattle.fv_base.specs.Sinks.{WalkLaws}
 use Rattle.fv_base.specs.inner.WriteSinkLaws.{sums_joined}
+use Rattle.fv_canon.specs.declared.summing_sink.Mode.{Mode}
+use Rattle.fv_canon.specs.declared.summing_sink.Mode.TheVariants.{Putting, Summing}
 use Rattle.fv_canon.specs.declared.summing_sink.SummingSink.{SummingSink}
+
+-- whether bytes are summed
+abbrev pub sums : Mode → Bool
+sums Putting = false
+sums (Summing total) = true
+
+-- their sum so far
+abbrev pub total_of : Mode → ℕ
+total_of Putting = 0
+total_of (Summing total) = total
 
 -- the sum grew by the bytes, modulo 256, and nothing was put into the sink below; or they were put into it
 abbrev pub AddsOrPuts : {T : Type 0} (takes : T → List ℕ → T → Type 0) → Bool → T → ℕ → List ℕ → T → ℕ → Type 0
@@ -15,17 +27,17 @@ AddsOrPuts takes false s m bytes t n = takes s bytes t
 -- it puts or adds as before, into the same sink
 abbrev pub ImageTakes : {S : Type 0} (takes : S → List ℕ → S → Type 0) → SummingSink S → List ℕ → SummingSink S → Type 0
 ImageTakes takes s bytes t =
-    (t.below.ghost_name ≡ s.below.ghost_name) × (t.sums ≡ s.sums)
-    × AddsOrPuts takes s.sums s.below.now s.total bytes t.below.now t.total
+    (t.below.ghost_name ≡ s.below.ghost_name) × (sums t.mode ≡ sums s.mode)
+    × AddsOrPuts takes (sums s.mode) s.below.now (total_of s.mode) bytes t.below.now (total_of t.mode)
 
-nothing_put : {T : Type 0} {takes : T → List ℕ → T → Type 0} (laws : WalkLaws takes) (sums : Bool) (s : T) (n : ℕ)
-    → AddsOrPuts takes sums s n [] s n
+nothing_put : {T : Type 0} {takes : T → List ℕ → T → Type 0} (laws : WalkLaws takes) (adds : Bool) (s : T) (n : ℕ)
+    → AddsOrPuts takes adds s n [] s n
 nothing_put laws true s n = (refl, ap (λ k. k % 256) (sym (add-zero n)))
 nothing_put laws false s n = laws.none s
 
-both_put : {T : Type 0} {takes : T → List ℕ → T → Type 0} (laws : WalkLaws takes) (sums : Bool) (s t u : T) (k m n : ℕ)
-    (a b : List ℕ) → AddsOrPuts takes sums s k a t m → AddsOrPuts takes sums t m b u n
-    → AddsOrPuts takes sums s k (a ++ b) u n
+both_put : {T : Type 0} {takes : T → List ℕ → T → Type 0} (laws : WalkLaws takes) (adds : Bool) (s t u : T) (k m n : ℕ)
+    (a b : List ℕ) → AddsOrPuts takes adds s k a t m → AddsOrPuts takes adds t m b u n
+    → AddsOrPuts takes adds s k (a ++ b) u n
 both_put laws true s t u k m n a b p q = (
   q.0 ∙ p.0,
   sums_joined 256 k m n (sum a) (sum b) p.1 q.1 ∙ ap (λ i. (k + i) % 256) (sym (sum_by-append (λ x. x) a b)),
@@ -34,11 +46,11 @@ both_put laws false s t u k m n a b p q = laws.joined s t u a b p q
 
 pub image_by : {S : Type 0} {takes : S → List ℕ → S → Type 0} (laws : WalkLaws takes) → WalkLaws (ImageTakes takes)
 image_by {S} {takes} laws = record {
-  none = λ s. (refl, refl, nothing_put laws s.sums s.below.now s.total);
+  none = λ s. (refl, refl, nothing_put laws (sums s.mode) s.below.now (total_of s.mode));
   joined = λ s t u a b p q. (
     q.0 ∙ p.0,
     q.1 ∙ p.1,
-    both_put laws s.sums s.below.now t.below.now u.below.now s.total t.total u.total a b p.2
-        (subst (λ (c : Bool). AddsOrPuts takes c t.below.now t.total b u.below.now u.total) p.1 q.2),
+    both_put laws (sums s.mode) s.below.now t.below.now u.below.now (total_of s.mode) (total_of t.mode) (total_of u.mode) a b p.2
+        (subst (λ (c : Bool). AddsOrPuts takes c t.below.now (total_of t.mode) b u.below.now (total_of u.mode)) p.1 q.2),
   );
 }

@@ -1,7 +1,8 @@
 //! Inputs that do not end.
 
 use super::fakes::{EndlessReader, FakeReader, FakeWriter, InterruptedReader, SpaceReader};
-use super::runs::{ends_as, plan_of, shown};
+use super::rows::{plan_of, shown};
+use super::runs::ends_as;
 use super::volumes::row_of;
 use crate::inputs::read_bytes;
 use crate::source::Source;

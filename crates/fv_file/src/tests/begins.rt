@@ -1,9 +1,86 @@
 //! Bytes that begin with a file.
 
-use super::{A, P};
-use crate::{FileAttributes, FileHead, FileState, verify_ffs_file};
+use super::{A, fault_text, row_of, spell};
+use crate::{FileHead, verify_ffs_file};
 use bitflags::Flags;
-use fv_base::{Fault, FaultKind, FileSystem, Guid, Polarity};
+use fv_base::{Fault, FaultKind, FileSystem, Polarity};
+use std::alloc::Global;
+
+// Files and pads in FFS3. What is expected of a header is the byte of its name, the type, the
+// attribute bits, the size, the length of the header, the header sum, the file sum and the state.
+fn files() -> &'static str {
+    "\
+    a file without data: 0a 01 00 24 24 47 aa DataValid: 0a*16 47aa0100180000f8\n\
+    a marked file without data: 0a 01 00 24 24 47 aa Marked: 0a*16 47aa0100180000f0\n\
+    a file with its sum, and no filler: 0a 01 40 28 24 03 f6 DataValid: \
+        0a*16 03f601401c0000f8 01020304\n\
+    a byte of data, and other bytes after the file: 0a 01 00 25 24 46 aa DataValid: \
+        0a*16 46aa0100190000f8 5a010203040506070809\n\
+    a pad: ff f0 00 24 24 08 aa DataValid: ff*16 08aaf000180000f8\n\
+    a pad that may not be moved, and a wrong file sum: ff f0 04 24 24 04 55 DataValid: \
+        ff*16 0455f004180000f8\n\
+    a large file: 0a 01 01 32 32 3e aa DataValid: 0a*16 3eaa0101000000f8 2000000000000000"
+}
+
+// Headers with 32 erased bytes after them, in FFS2.
+fn headers() -> &'static str {
+    "\
+    State has bit 40: FileState 23 0: 0a*16 47aa0100180000b8 ff*32\n\
+    all State bits: FileState 23 0: 0a*16 47aa010018000000 ff*32\n\
+    data that were never finished: FileState 23 0: 0a*16 47aa0100180000fc ff*32\n\
+    a deleted file: FileState 23 0: 0a*16 47aa0100180000e8 ff*32\n\
+    a State byte that is erased: FileState 23 0: 0a*16 47aa0100180000ff ff*32\n\
+    a header that was begun: FileState 23 0: 0a*16 fffffffffffffffe ff*32\n\
+    a header that is invalid: FileState 23 0: 0a*16 ffffffffffffffde ff*32\n\
+    a large file: LargeFile 19 0: 0a*16 47aa0101180000f8 ff*32\n\
+    the header sum is off by one: FileHeaderSum 0 0: 0a*16 48aa0100180000f8 ff*32\n\
+    a size of 23: FileSize 20 0: 0a*16 48aa0100170000f8 ff*32\n\
+    a size of 64: FileSize 20 0: 0a*16 1faa0100400000f8 ff*32\n\
+    a file that may not be moved: Fixed 19 0: 0a*16 43aa0104180000f8 ff*32\n\
+    the file sum is not AA: FileSum 17 0: 0a*16 47ab0100180000f8 ff*32"
+}
+
+// A header as text, if all bytes of the name are the same.
+fn head_text(alloc: Global, head: FileHead) -> Option<String> {
+    let FileHead {
+        name,
+        kind,
+        attributes,
+        size,
+        header_len,
+        header_sum,
+        file_sum,
+        state,
+    } = head;
+    let (name, bits) = (name.to_bytes(), attributes.bits());
+    let first = name[0];
+    if name != [first; 16] {
+        return None;
+    }
+    format!(in alloc;
+        "{first:02x} {kind:02x} {bits:02x} {size} {header_len} {header_sum:02x} {file_sum:02x} {state:?}"
+    ).ok()
+}
+
+// Whether the bytes of a line begin as the line expects.
+fn begins(alloc: Global, line: &str, system: FileSystem) -> Option<bool> {
+    let (wanted, text) = row_of(line)?;
+    let bytes = spell(alloc, 0, text)?;
+    let found = match verify_ffs_file(&bytes, system, Polarity::Ones) {
+        Ok(head) => head_text(alloc, head)?,
+        Err(fault) => fault_text(alloc, fault)?,
+    };
+    Some(found.as_str() == wanted)
+}
+
+#[test]
+fn bytes_begin_with_a_file(rt: HostRuntime) {
+    for (table, system) in [(files(), FileSystem::Ffs3), (headers(), FileSystem::Ffs2)] {
+        for line in table.lines() {
+            assert!(rt; begins(rt.alloc(), line, system) == Some(true), "{line}");
+        }
+    }
+}
 
 // A name, at most 40 other bytes after it, and then erased bytes.
 fn named(name: [u8; 16], rest: &[u8]) -> [u8; 56] {
@@ -12,158 +89,6 @@ fn named(name: [u8; 16], rest: &[u8]) -> [u8; 56] {
     bytes[16..16 + count].copy_from_slice(&rest[..count]);
     bytes[..16].copy_from_slice(&name);
     bytes
-}
-
-/// The fields of a header: the name, the type, the attribute bits, the size, the length of the
-/// header, the header sum, the file sum and the state.
-type Fields = ([u8; 16], u8, u8, u64, u64, u8, u8, FileState);
-
-/// A name for the case, what follows the name of the file in the bytes, and the fields of the
-/// header.
-const FILES: [(&str, &[u8], Fields); 7] = [
-    (
-        "a file without data",
-        &[0x47, 0xaa, 0x01, 0x00, 0x18, 0x00, 0x00, 0xf8],
-        (A, 0x01, 0, 24, 24, 0x47, 0xaa, FileState::DataValid),
-    ),
-    (
-        "a marked file without data",
-        &[0x47, 0xaa, 0x01, 0x00, 0x18, 0x00, 0x00, 0xf0],
-        (A, 0x01, 0, 24, 24, 0x47, 0xaa, FileState::Marked),
-    ),
-    (
-        "a file with its sum, and no filler",
-        &[0x03, 0xf6, 0x01, 0x40, 0x1c, 0x00, 0x00, 0xf8, 1, 2, 3, 4],
-        (A, 0x01, 0x40, 28, 24, 0x03, 0xf6, FileState::DataValid),
-    ),
-    (
-        "a byte of data, and other bytes behind the file",
-        &[
-            0x46, 0xaa, 0x01, 0x00, 0x19, 0x00, 0x00, 0xf8, 0x5a, 1, 2, 3, 4, 5, 6, 7, 8, 9,
-        ],
-        (A, 0x01, 0, 25, 24, 0x46, 0xaa, FileState::DataValid),
-    ),
-    (
-        "a pad",
-        &[0x08, 0xaa, 0xf0, 0x00, 0x18, 0x00, 0x00, 0xf8],
-        (P, 0xf0, 0, 24, 24, 0x08, 0xaa, FileState::DataValid),
-    ),
-    (
-        "a pad that may not be moved, and a wrong file sum",
-        &[0x04, 0x55, 0xf0, 0x04, 0x18, 0x00, 0x00, 0xf8],
-        (P, 0xf0, 0x04, 24, 24, 0x04, 0x55, FileState::DataValid),
-    ),
-    (
-        "a large file",
-        &[
-            0x3e, 0xaa, 0x01, 0x01, 0x00, 0x00, 0x00, 0xf8, 32, 0, 0, 0, 0, 0, 0, 0,
-        ],
-        (A, 0x01, 0x01, 32, 32, 0x3e, 0xaa, FileState::DataValid),
-    ),
-];
-
-// Whether a file with this header begins the name and the bytes after it.
-fn begins(rest: &[u8], fields: Fields) -> bool {
-    let (name, kind, attributes, size, header_len, header_sum, file_sum, state) = fields;
-    let head = FileHead {
-        name: Guid::from_bytes(name),
-        kind,
-        attributes: FileAttributes::from_bits_retain(attributes),
-        size,
-        header_len,
-        header_sum,
-        file_sum,
-        state,
-    };
-    let bytes = &named(name, rest)[..16 + rest.len().min(40)];
-    verify_ffs_file(bytes, FileSystem::Ffs3, Polarity::Ones) == Ok(head)
-}
-
-#[test]
-fn files_begin_bytes(rt: HostRuntime) {
-    for (text, rest, fields) in FILES {
-        assert!(rt; begins(rest, fields), "{text}");
-    }
-}
-
-/// What follows the name in a header, and the fault in FFS2 if 32 erased bytes follow.
-const HEADERS: [(&[u8], FaultKind, u64); 13] = [
-    // State bit 0x40, and all State bits.
-    (
-        &[0x47, 0xaa, 0x01, 0x00, 0x18, 0x00, 0x00, 0xb8],
-        FaultKind::FileState,
-        23,
-    ),
-    (
-        &[0x47, 0xaa, 0x01, 0x00, 0x18, 0x00, 0x00, 0x00],
-        FaultKind::FileState,
-        23,
-    ),
-    // Data that were never finished, a deleted file, and a State byte that is erased.
-    (
-        &[0x47, 0xaa, 0x01, 0x00, 0x18, 0x00, 0x00, 0xfc],
-        FaultKind::FileState,
-        23,
-    ),
-    (
-        &[0x47, 0xaa, 0x01, 0x00, 0x18, 0x00, 0x00, 0xe8],
-        FaultKind::FileState,
-        23,
-    ),
-    (
-        &[0x47, 0xaa, 0x01, 0x00, 0x18, 0x00, 0x00, 0xff],
-        FaultKind::FileState,
-        23,
-    ),
-    // A header that was begun, and one that is invalid.
-    (
-        &[0xff, 0xff, 0xff, 0xff, 0xff, 0xff, 0xff, 0xfe],
-        FaultKind::FileState,
-        23,
-    ),
-    (
-        &[0xff, 0xff, 0xff, 0xff, 0xff, 0xff, 0xff, 0xde],
-        FaultKind::FileState,
-        23,
-    ),
-    (
-        &[0x47, 0xaa, 0x01, 0x01, 0x18, 0x00, 0x00, 0xf8],
-        FaultKind::LargeFile,
-        19,
-    ),
-    (
-        &[0x48, 0xaa, 0x01, 0x00, 0x18, 0x00, 0x00, 0xf8],
-        FaultKind::FileHeaderSum,
-        0,
-    ),
-    (
-        &[0x48, 0xaa, 0x01, 0x00, 0x17, 0x00, 0x00, 0xf8],
-        FaultKind::FileSize,
-        20,
-    ),
-    (
-        &[0x1f, 0xaa, 0x01, 0x00, 0x40, 0x00, 0x00, 0xf8],
-        FaultKind::FileSize,
-        20,
-    ),
-    (
-        &[0x43, 0xaa, 0x01, 0x04, 0x18, 0x00, 0x00, 0xf8],
-        FaultKind::Fixed,
-        19,
-    ),
-    (
-        &[0x47, 0xab, 0x01, 0x00, 0x18, 0x00, 0x00, 0xf8],
-        FaultKind::FileSum,
-        17,
-    ),
-];
-
-#[test]
-fn other_headers_begin_no_file(rt: HostRuntime) {
-    for (header, kind, offset) in HEADERS {
-        let found = verify_ffs_file(&named(A, header), FileSystem::Ffs2, Polarity::Ones);
-        assert!(rt; found == Err(Fault::outer(kind, offset)), "{header:?}");
-    }
 }
 
 /// What follows the name of a file of 28 bytes, and of a large one of 32.

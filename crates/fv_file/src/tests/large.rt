@@ -1,213 +1,87 @@
 //! Files whose header has 32 bytes.
 
-use super::Sort::{Dead, Free, Pad, Valid};
-use super::{A, Body, P, Refusal, fault_of, has_cells, is_cut, lay, not_refused};
-use fv_base::{Fault, FaultKind, FileSystem, Polarity};
+use super::{A, cut, outcome_text, row_of, spell};
+use crate::{Cell, FileState};
+use bitflags::Flags;
+use fv_base::{Fault, FileSystem, Polarity};
 use std::alloc::Global;
 
-/// Bodies that are accepted in FFS3 only.
-static ACCEPTED: [Body; 6] = [
-    (
-        "a file without data",
-        128,
-        &[
-            &A,
-            &[0x3e, 0xaa, 0x01, 0x01, 0x00, 0x00, 0x00, 0xf8],
-            &[32, 0, 0, 0, 0, 0, 0, 0],
-        ],
-        &[(Valid, 72, 32, 0x01, &[]), (Free, 104, 24, 0, &[])],
-    ),
-    (
-        "3 bytes of data",
-        128,
-        &[
-            &A,
-            &[0x3b, 0xaa, 0x01, 0x01, 0x00, 0x00, 0x00, 0xf8],
-            &[35, 0, 0, 0, 0, 0, 0, 0],
-            &[1, 2, 3],
-        ],
-        &[(Valid, 72, 35, 0x01, &[1, 2, 3]), (Free, 112, 16, 0, &[])],
-    ),
-    (
-        "3 bytes of data, and their sum",
-        128,
-        &[
-            &A,
-            &[0xfb, 0xfa, 0x01, 0x41, 0x00, 0x00, 0x00, 0xf8],
-            &[35, 0, 0, 0, 0, 0, 0, 0],
-            &[1, 2, 3],
-        ],
-        &[(Valid, 72, 35, 0x41, &[1, 2, 3]), (Free, 112, 16, 0, &[])],
-    ),
-    (
-        "a deleted file",
-        128,
-        &[
-            &A,
-            &[0x3d, 0xaa, 0x01, 0x01, 0x00, 0x00, 0x00, 0xe8],
-            &[33, 0, 0, 0, 0, 0, 0, 0],
-        ],
-        &[(Dead, 72, 40, 0, &[]), (Free, 112, 16, 0, &[])],
-    ),
-    (
-        "a pad",
-        128,
-        &[
-            &P,
-            &[0xff, 0xaa, 0xf0, 0x01, 0x00, 0x00, 0x00, 0xf8],
-            &[32, 0, 0, 0, 0, 0, 0, 0],
-        ],
-        &[(Pad, 72, 32, 0x01, &[]), (Free, 104, 24, 0, &[])],
-    ),
-    (
-        "a file to the end",
-        128,
-        &[
-            &A,
-            &[0x26, 0xaa, 0x01, 0x01, 0x00, 0x00, 0x00, 0xf8],
-            &[56, 0, 0, 0, 0, 0, 0, 0],
-            &[9; 24],
-        ],
-        &[(Valid, 72, 56, 0x01, &[9; 24])],
-    ),
-];
+// Bodies that are accepted in FFS3 only.
+pub(super) fn accepted() -> &'static str {
+    "\
+    a file without data: valid 72 32 01 [], free 104 24: \
+        0a*16 3eaa0101000000f8 2000000000000000 ff*24\n\
+    3 bytes of data: valid 72 35 01 [1, 2, 3], free 112 16: \
+        0a*16 3baa0101000000f8 2300000000000000 010203 ff*21\n\
+    3 bytes of data, and their sum: valid 72 35 41 [1, 2, 3], free 112 16: \
+        0a*16 fbfa0141000000f8 2300000000000000 010203 ff*21\n\
+    a deleted file: dead 72 40, free 112 16: 0a*16 3daa0101000000e8 2100000000000000 ff*24\n\
+    a pad: pad 72 32 01 [], free 104 24: ff*16 ffaaf001000000f8 2000000000000000 ff*24\n\
+    a file to the end: \
+        valid 72 56 01 [9, 9, 9, 9, 9, 9, 9, 9, 9, 9, 9, 9, 9, 9, 9, 9, 9, 9, 9, 9, 9, 9, 9, 9]: \
+        0a*16 26aa0101000000f8 3800000000000000 09*24"
+}
 
-/// Bodies that are rejected in FFS3.
-static REFUSED: [Refusal; 9] = [
-    (
-        "the Size of a short header too",
-        128,
-        &[
-            &A,
-            &[0x26, 0xaa, 0x01, 0x01, 0x18, 0x00, 0x00, 0xf8],
-            &[32, 0, 0, 0, 0, 0, 0, 0],
-        ],
-        FaultKind::FileSize,
-        92,
-    ),
-    (
-        "a size of 31",
-        128,
-        &[
-            &A,
-            &[0x3f, 0xaa, 0x01, 0x01, 0x00, 0x00, 0x00, 0xf8],
-            &[31, 0, 0, 0, 0, 0, 0, 0],
-        ],
-        FaultKind::FileSize,
-        92,
-    ),
-    (
-        "a size of one byte too many",
-        128,
-        &[
-            &A,
-            &[0x25, 0xaa, 0x01, 0x01, 0x00, 0x00, 0x00, 0xf8],
-            &[57, 0, 0, 0, 0, 0, 0, 0],
-        ],
-        FaultKind::FileSize,
-        92,
-    ),
-    (
-        "a size of 2 ^ 32 + 32",
-        128,
-        &[
-            &A,
-            &[0x3d, 0xaa, 0x01, 0x01, 0x00, 0x00, 0x00, 0xf8],
-            &[32, 0, 0, 0, 1, 0, 0, 0],
-        ],
-        FaultKind::FileSize,
-        92,
-    ),
-    (
-        "the greatest size",
-        128,
-        &[
-            &A,
-            &[0x66, 0xaa, 0x01, 0x01, 0x00, 0x00, 0x00, 0xf8],
-            &[0xff; 8],
-        ],
-        FaultKind::FileSize,
-        92,
-    ),
-    (
-        "24 bytes are left of a second header",
-        128,
-        &[
-            &A,
-            &[0x3e, 0xaa, 0x01, 0x01, 0x00, 0x00, 0x00, 0xf8],
-            &[32, 0, 0, 0, 0, 0, 0, 0],
-            &A,
-            &[0x5e, 0xaa, 0x01, 0x01, 0x00, 0x00, 0x00, 0xf8],
-        ],
-        FaultKind::FileSize,
-        124,
-    ),
-    (
-        "a second file has a size of 0",
-        136,
-        &[
-            &A,
-            &[0x3e, 0xaa, 0x01, 0x01, 0x00, 0x00, 0x00, 0xf8],
-            &[32, 0, 0, 0, 0, 0, 0, 0],
-            &A,
-            &[0x5e, 0xaa, 0x01, 0x01, 0x00, 0x00, 0x00, 0xf8],
-            &[0; 8],
-        ],
-        FaultKind::FileSize,
-        124,
-    ),
-    (
-        "the header sum is right over 24 bytes alone",
-        128,
-        &[
-            &A,
-            &[0x5e, 0xaa, 0x01, 0x01, 0x00, 0x00, 0x00, 0xf8],
-            &[32, 0, 0, 0, 0, 0, 0, 0],
-        ],
-        FaultKind::FileHeaderSum,
-        72,
-    ),
-    (
-        "the header sum of a deleted file is right over 24 bytes alone",
-        128,
-        &[
-            &A,
-            &[0x5e, 0xaa, 0x01, 0x01, 0x00, 0x00, 0x00, 0xe8],
-            &[32, 0, 0, 0, 0, 0, 0, 0],
-        ],
-        FaultKind::FileHeaderSum,
-        72,
-    ),
-];
+// Bodies that are rejected in FFS3.
+pub(super) fn refused() -> &'static str {
+    "\
+    the Size of a short header too: FileSize 92 0: 0a*16 26aa0101180000f8 2000000000000000 ff*24\n\
+    a size of 31: FileSize 92 0: 0a*16 3faa0101000000f8 1f00000000000000 ff*24\n\
+    a size of one byte too many: FileSize 92 0: 0a*16 25aa0101000000f8 3900000000000000 ff*24\n\
+    a size of 2 ^ 32 + 32: FileSize 92 0: 0a*16 3daa0101000000f8 2000000001000000 ff*24\n\
+    the greatest size: FileSize 92 0: 0a*16 66aa0101000000f8 ff*8 ff*24\n\
+    24 bytes are left of a second header: FileSize 124 0: \
+        0a*16 3eaa0101000000f8 2000000000000000 0a*16 5eaa0101000000f8\n\
+    a second file has a size of 0: FileSize 124 0: \
+        0a*16 3eaa0101000000f8 2000000000000000 0a*16 5eaa0101000000f8 00*8\n\
+    the header sum is right over 24 bytes alone: FileHeaderSum 72 0: \
+        0a*16 5eaa0101000000f8 2000000000000000 ff*24\n\
+    the header sum of a deleted file is right over 24 bytes alone: FileHeaderSum 72 0: \
+        0a*16 5eaa0101000000e8 2000000000000000 ff*24"
+}
+
+// The outcome of the body of a line in FFS2, as text.
+fn text_in_ffs2(alloc: Global, line: &str) -> Option<String> {
+    let (_, text) = row_of(line)?;
+    let bytes = spell(alloc, 72, text)?;
+    outcome_text(alloc, &bytes, FileSystem::Ffs2, Polarity::Ones)
+}
 
 #[test]
-fn large_files_are_cut(rt: HostRuntime) {
-    let fault = Some(Fault::outer(FaultKind::LargeFile, 91));
-    for body in &ACCEPTED {
-        let (name, length, parts, _) = *body;
-        let is_same = is_cut(rt.alloc(), body, FileSystem::Ffs3, Polarity::Ones);
-        let refusal = fault_of(rt.alloc(), parts, length, FileSystem::Ffs2, Polarity::Ones);
-        assert!(rt; is_same == Ok(true) && refusal == fault, "{name}");
+fn ffs2_has_no_large_files(rt: HostRuntime) {
+    for line in accepted().lines() {
+        let is_refused = match text_in_ffs2(rt.alloc(), line) {
+            Some(text) => text.as_str() == "LargeFile 91 0",
+            None => false,
+        };
+        assert!(rt; is_refused, "{line}");
     }
 }
 
-#[test]
-fn large_files_are_refused(rt: HostRuntime) {
-    let first = not_refused(rt.alloc(), &REFUSED, FileSystem::Ffs3, Polarity::Ones);
-    assert_eq!(rt; first, None);
-}
-
-// Whether a file of 16 MiB and 8 bytes has its cell, or the fault if it has none.
+// Whether a file of 16 MiB and 8 bytes is the only cell of its volume, or the fault if there is
+// one.
 fn is_long_cut(alloc: Global) -> Result<bool, Fault> {
-    let parts: [&[u8]; 3] = [
-        &A,
-        &[0x55, 0xaa, 0x01, 0x01, 0x00, 0x00, 0x00, 0xf8],
-        &[0x08, 0, 0, 1, 0, 0, 0, 0],
-    ];
-    let mut bytes = vec![in alloc; 0u8; 0x100_0050]?;
-    lay(&mut bytes, &parts, Polarity::Ones);
-    let forms = [(Valid, 72, 0x100_0008, 0x01, &bytes[bytes.len().min(104)..])];
-    has_cells(alloc, &bytes, FileSystem::Ffs3, Polarity::Ones, &forms)
+    let mut bytes = vec![in alloc; 0xffu8; 0x100_0050]?;
+    bytes[72..88].copy_from_slice(&A);
+    bytes[88..104].copy_from_slice(&[
+        0x55, 0xaa, 0x01, 0x01, 0x00, 0x00, 0x00, 0xf8, 0x08, 0, 0, 1, 0, 0, 0, 0,
+    ]);
+    let found = cut(alloc, &bytes, FileSystem::Ffs3, Polarity::Ones)?;
+    match found.as_slice() {
+        [
+            Cell::Valid {
+                offset: 72,
+                head,
+                payload,
+            },
+        ] => Ok(
+            head.size == 0x100_0008
+                && head.attributes.bits() == 0x01
+                && head.state == FileState::DataValid
+                && *payload == &bytes[104..],
+        ),
+        _ => Ok(false),
+    }
 }
 
 // No short header can give this size.

@@ -1,126 +1,28 @@
 //! Bodies with files that are not valid or are marked, and with headers that were never finished.
 
-use super::Sort::{Dead, Free, Marked, Stub, Valid};
-use super::{A, B, Body, C, P, not_cut};
-use fv_base::Polarity;
+// In the header of 32 bytes that was begun, bit 0x01 of the attributes is set.
+pub(super) fn ones() -> &'static str {
+    "\
+    a deleted file, a marked one and two that are valid: \
+        dead 72 32, marked 104 32 00 [1, 1, 1, 1, 1, 1, 1, 1], valid 136 24 00 [], valid 160 32 00 [2, 2, 2, 2, 2, 2, 2, 2], free 192 64: \
+        0c*16 1faa0100200000e8 00*8 0a*16 3faa0100200000f0 01*8 0b*16 37aa0100180000f8 0a*16 3faa0100200000f8 02*8 ff*64\n\
+    a file whose data were never written: dead 72 24, free 96 32: 0a*16 47aa0100180000fc ff*32\n\
+    a deleted file that may not be moved, whose file sum is wrong, and filler: dead 72 32, free 104 24: \
+        0a*16 42ab0104190000e8 ff*32\n\
+    a deleted pad: dead 72 24, free 96 32: ff*16 08aaf000180000e8 ff*32\n\
+    a file, and a header of 32 bytes that was begun: valid 72 24 00 [], stub 96 32: \
+        0a*16 47aa0100180000f8 ff*16 fffffffffffffffe ff*8\n\
+    a file, and a header of 24 bytes that was begun: valid 72 24 00 [], stub 96 24, free 120 8: \
+        0a*16 47aa0100180000f8 ff*16 fffffffefffffffe ff*8\n\
+    a header that was given up, and a file: stub 72 24, valid 96 24 00 []: \
+        0a*16 00000104000000de 0b*16 37aa0100180000f8"
+}
 
-pub(super) static STATES: [Body; 7] = [
-    (
-        "a deleted file, a marked one and two that are valid",
-        256,
-        &[
-            &C,
-            &[0x1f, 0xaa, 0x01, 0x00, 0x20, 0x00, 0x00, 0xe8],
-            &[0; 8],
-            &A,
-            &[0x3f, 0xaa, 0x01, 0x00, 0x20, 0x00, 0x00, 0xf0],
-            &[1; 8],
-            &B,
-            &[0x37, 0xaa, 0x01, 0x00, 0x18, 0x00, 0x00, 0xf8],
-            &A,
-            &[0x3f, 0xaa, 0x01, 0x00, 0x20, 0x00, 0x00, 0xf8],
-            &[2; 8],
-        ],
-        &[
-            (Dead, 72, 32, 0, &[]),
-            (Marked, 104, 32, 0, &[1; 8]),
-            (Valid, 136, 24, 0, &[]),
-            (Valid, 160, 32, 0, &[2; 8]),
-            (Free, 192, 64, 0, &[]),
-        ],
-    ),
-    (
-        "a file whose data were never written",
-        128,
-        &[&A, &[0x47, 0xaa, 0x01, 0x00, 0x18, 0x00, 0x00, 0xfc]],
-        &[(Dead, 72, 24, 0, &[]), (Free, 96, 32, 0, &[])],
-    ),
-    (
-        "a deleted file that may not be moved, whose file sum is wrong, and filler",
-        128,
-        &[&A, &[0x42, 0xab, 0x01, 0x04, 0x19, 0x00, 0x00, 0xe8]],
-        &[(Dead, 72, 32, 0, &[]), (Free, 104, 24, 0, &[])],
-    ),
-    (
-        "a deleted pad",
-        128,
-        &[&P, &[0x08, 0xaa, 0xf0, 0x00, 0x18, 0x00, 0x00, 0xe8]],
-        &[(Dead, 72, 24, 0, &[]), (Free, 96, 32, 0, &[])],
-    ),
-    // Bit 0x01 of its attributes is set, so the header would have had 32 bytes.
-    (
-        "a file, and a header of 32 bytes that was begun",
-        128,
-        &[
-            &A,
-            &[0x47, 0xaa, 0x01, 0x00, 0x18, 0x00, 0x00, 0xf8],
-            &P,
-            &[0xff, 0xff, 0xff, 0xff, 0xff, 0xff, 0xff, 0xfe],
-        ],
-        &[(Valid, 72, 24, 0, &[]), (Stub, 96, 32, 0, &[])],
-    ),
-    (
-        "a file, and a header of 24 bytes that was begun",
-        128,
-        &[
-            &A,
-            &[0x47, 0xaa, 0x01, 0x00, 0x18, 0x00, 0x00, 0xf8],
-            &P,
-            &[0xff, 0xff, 0xff, 0xfe, 0xff, 0xff, 0xff, 0xfe],
-        ],
-        &[
-            (Valid, 72, 24, 0, &[]),
-            (Stub, 96, 24, 0, &[]),
-            (Free, 120, 8, 0, &[]),
-        ],
-    ),
-    (
-        "a header that was given up, and a file",
-        120,
-        &[
-            &A,
-            &[0x00, 0x00, 0x01, 0x04, 0x00, 0x00, 0x00, 0xde],
-            &B,
-            &[0x37, 0xaa, 0x01, 0x00, 0x18, 0x00, 0x00, 0xf8],
-        ],
-        &[(Stub, 72, 24, 0, &[]), (Valid, 96, 24, 0, &[])],
-    ),
-];
-
-/// Erased bytes are 0x00.
-static ZEROS: [Body; 2] = [
-    (
-        "a marked file and a deleted one",
-        128,
-        &[
-            &A,
-            &[0x47, 0xaa, 0x01, 0x00, 0x18, 0x00, 0x00, 0x0f],
-            &B,
-            &[0x37, 0xaa, 0x01, 0x00, 0x18, 0x00, 0x00, 0x17],
-        ],
-        &[
-            (Marked, 72, 24, 0, &[]),
-            (Dead, 96, 24, 0, &[]),
-            (Free, 120, 8, 0, &[]),
-        ],
-    ),
-    (
-        "headers of 24 and of 32 bytes that were begun",
-        128,
-        &[
-            &[0; 16],
-            &[0x00, 0x00, 0x00, 0x00, 0x00, 0x00, 0x00, 0x01],
-            &[0; 16],
-            &[0x00, 0x00, 0x00, 0x01, 0x00, 0x00, 0x00, 0x01],
-        ],
-        &[(Stub, 72, 24, 0, &[]), (Stub, 96, 32, 0, &[])],
-    ),
-];
-
-#[test]
-fn remains_are_cut(rt: HostRuntime) {
-    let states = not_cut(rt.alloc(), &STATES, Polarity::Ones);
-    let zeros = not_cut(rt.alloc(), &ZEROS, Polarity::Zeros);
-    assert_eq!(rt; states, None);
-    assert_eq!(rt; zeros, None);
+// Erased bytes are 0x00.
+pub(super) fn zeros() -> &'static str {
+    "\
+    a marked file and a deleted one: marked 72 24 00 [], dead 96 24, free 120 8: \
+        0a*16 47aa01001800000f 0b*16 37aa010018000017 00*8\n\
+    headers of 24 and of 32 bytes that were begun: stub 72 24, stub 96 32: \
+        00*16 0000000000000001 00*16 0000000100000001 00*8"
 }

@@ -1,12 +1,41 @@
 //! Headers that are written.
 
-use super::{A, P};
+use super::{A, P, spell};
 use crate::{FileAttributes, HeadBytes, file_head_bytes, pad_head_bytes, verify_ffs_file};
 use bitflags::Flags;
 use fv_base::{FileSystem, Guid, Polarity};
+use std::alloc::Global;
+
+// Files: the type, the attribute bits, the number of bytes of the data, the file sum, the polarity
+// and what follows the name. Two have the most data with a short header, and one byte more. The
+// last two have the most data, which make a file of 256 MiB; the second has all other attribute
+// bits.
+fn files() -> &'static str {
+    "\
+    01 00 0 aa ones: 47aa0100180000f8\n\
+    01 00 0 aa zeros: 47aa010018000007\n\
+    ff 00 0 aa ones: 49aaff00180000f8\n\
+    01 00 1 aa ones: 46aa0100190000f8\n\
+    01 40 0 00 ones: 07000140180000f8\n\
+    01 40 4 f6 ones: 03f601401c0000f8\n\
+    01 00 16777191 aa ones: 62aa0100fffffff8\n\
+    01 00 16777192 aa ones: 55aa0101000000f8 0800000100000000\n\
+    01 00 268435424 aa ones: 4eaa0101000000f8 0000001000000000\n\
+    01 fa 268435424 55 zeros: 545501fb00000007 0000001000000000"
+}
+
+// Pads: the size, the polarity and what follows the name.
+fn pads() -> &'static str {
+    "\
+    24 ones: 08aaf000180000f8\n\
+    24 zeros: 08aaf00018000007\n\
+    40 ones: f8aaf000280000f8\n\
+    144 ones: 90aaf000900000f8\n\
+    16777215 ones: 23aaf000fffffff8"
+}
 
 // The header of a file with this type, these attribute bits, data and file sum, if there is one.
-fn file(
+pub(super) fn file(
     kind: u8,
     attributes: u8,
     data_len: u64,
@@ -22,7 +51,7 @@ fn file(
 }
 
 // The header of a pad of this size, if there is one.
-fn pad(size: u64, polarity: Polarity) -> Option<HeadBytes> {
+pub(super) fn pad(size: u64, polarity: Polarity) -> Option<HeadBytes> {
     if size < 24 || size > 0xff_ffff {
         return None;
     }
@@ -30,7 +59,7 @@ fn pad(size: u64, polarity: Polarity) -> Option<HeadBytes> {
 }
 
 // Whether the bytes are these parts, joined.
-fn is_joined(bytes: &[u8], name: [u8; 16], fields: &[u8]) -> bool {
+pub(super) fn is_joined(bytes: &[u8], name: [u8; 16], fields: &[u8]) -> bool {
     bytes.len() >= 16 && &bytes[..16] == name.as_slice() && &bytes[16..] == fields
 }
 
@@ -53,165 +82,55 @@ fn is_read(
         && found.file_sum == file_sum
 }
 
-/// The type, the attribute bits, the number of bytes of the data, the file sum, the polarity, and
-/// what follows the name.
-pub(super) type File = (u8, u8, u64, u8, Polarity, &'static [u8]);
-
-pub(super) const FILES: [File; 10] = [
-    (
-        0x01,
-        0,
-        0,
-        0xaa,
-        Polarity::Ones,
-        &[0x47, 0xaa, 0x01, 0x00, 0x18, 0x00, 0x00, 0xf8],
-    ),
-    (
-        0x01,
-        0,
-        0,
-        0xaa,
-        Polarity::Zeros,
-        &[0x47, 0xaa, 0x01, 0x00, 0x18, 0x00, 0x00, 0x07],
-    ),
-    (
-        0xff,
-        0,
-        0,
-        0xaa,
-        Polarity::Ones,
-        &[0x49, 0xaa, 0xff, 0x00, 0x18, 0x00, 0x00, 0xf8],
-    ),
-    (
-        0x01,
-        0,
-        1,
-        0xaa,
-        Polarity::Ones,
-        &[0x46, 0xaa, 0x01, 0x00, 0x19, 0x00, 0x00, 0xf8],
-    ),
-    (
-        0x01,
-        0x40,
-        0,
-        0x00,
-        Polarity::Ones,
-        &[0x07, 0x00, 0x01, 0x40, 0x18, 0x00, 0x00, 0xf8],
-    ),
-    (
-        0x01,
-        0x40,
-        4,
-        0xf6,
-        Polarity::Ones,
-        &[0x03, 0xf6, 0x01, 0x40, 0x1c, 0x00, 0x00, 0xf8],
-    ),
-    // The most data with a short header, and one byte more.
-    (
-        0x01,
-        0,
-        0xff_ffe7,
-        0xaa,
-        Polarity::Ones,
-        &[0x62, 0xaa, 0x01, 0x00, 0xff, 0xff, 0xff, 0xf8],
-    ),
-    (
-        0x01,
-        0,
-        0xff_ffe8,
-        0xaa,
-        Polarity::Ones,
-        &[
-            0x55, 0xaa, 0x01, 0x01, 0x00, 0x00, 0x00, 0xf8, 0x08, 0x00, 0x00, 0x01, 0x00, 0x00,
-            0x00, 0x00,
-        ],
-    ),
-    // The most data, which make a file of 256 MiB; the second with all other attribute bits.
-    (
-        0x01,
-        0,
-        268_435_424,
-        0xaa,
-        Polarity::Ones,
-        &[
-            0x4e, 0xaa, 0x01, 0x01, 0x00, 0x00, 0x00, 0xf8, 0x00, 0x00, 0x00, 0x10, 0x00, 0x00,
-            0x00, 0x00,
-        ],
-    ),
-    (
-        0x01,
-        0xfa,
-        268_435_424,
-        0x55,
-        Polarity::Zeros,
-        &[
-            0x54, 0x55, 0x01, 0xfb, 0x00, 0x00, 0x00, 0x07, 0x00, 0x00, 0x00, 0x10, 0x00, 0x00,
-            0x00, 0x00,
-        ],
-    ),
-];
-
-// Whether the header of a file with these fields is written as expected and, if there are no data,
-// read back.
-pub(super) fn is_file(case: &File) -> bool {
-    let (kind, attributes, data_len, file_sum, polarity, fields) = *case;
-    let Some(head) = file(kind, attributes, data_len, file_sum, polarity) else {
-        return false;
-    };
-    let bytes = head.as_slice();
-    is_joined(bytes, A, fields)
-        && (data_len != 0 || is_read(bytes, A, kind, attributes, file_sum, polarity))
+// The byte that a word is, in hexadecimal.
+fn byte_in(word: Option<&str>) -> Option<u8> {
+    u8::from_str_radix(word?, 16).ok()
 }
 
-#[test]
-fn file_headers_are_written(rt: HostRuntime) {
-    for case in FILES {
-        assert!(rt; is_file(&case), "{}", case.2);
+// The polarity that a word names.
+fn polarity_in(word: Option<&str>) -> Option<Polarity> {
+    match word? {
+        "ones" => Some(Polarity::Ones),
+        "zeros" => Some(Polarity::Zeros),
+        _ => None,
     }
 }
 
-/// The size, the polarity, and what follows the name.
-pub(super) const PADS: [(u64, Polarity, [u8; 8]); 5] = [
-    (
-        24,
-        Polarity::Ones,
-        [0x08, 0xaa, 0xf0, 0x00, 0x18, 0x00, 0x00, 0xf8],
-    ),
-    (
-        24,
-        Polarity::Zeros,
-        [0x08, 0xaa, 0xf0, 0x00, 0x18, 0x00, 0x00, 0x07],
-    ),
-    (
-        40,
-        Polarity::Ones,
-        [0xf8, 0xaa, 0xf0, 0x00, 0x28, 0x00, 0x00, 0xf8],
-    ),
-    (
-        144,
-        Polarity::Ones,
-        [0x90, 0xaa, 0xf0, 0x00, 0x90, 0x00, 0x00, 0xf8],
-    ),
-    (
-        0xff_ffff,
-        Polarity::Ones,
-        [0x23, 0xaa, 0xf0, 0x00, 0xff, 0xff, 0xff, 0xf8],
-    ),
-];
-
-// Whether the header of a pad of this size is written as expected and, if there are no data, read
+// Whether the header of the file of a line is written as expected and, if there are no data, read
 // back.
-pub(super) fn is_pad(size: u64, polarity: Polarity, fields: &[u8]) -> bool {
-    let Some(head) = pad(size, polarity) else {
-        return false;
-    };
+fn is_file(alloc: Global, line: &str) -> Option<bool> {
+    let (fields, text) = line.split_once(": ")?;
+    let mut words = fields.split_whitespace();
+    let (kind, attributes) = (byte_in(words.next())?, byte_in(words.next())?);
+    let data_len = words.next()?.parse().ok()?;
+    let (file_sum, polarity) = (byte_in(words.next())?, polarity_in(words.next())?);
+    let head = file(kind, attributes, data_len, file_sum, polarity)?;
     let bytes = head.as_slice();
-    is_joined(bytes, P, fields) && (size != 24 || is_read(bytes, P, 0xf0, 0, 0xaa, polarity))
+    let is_written = is_joined(bytes, A, &spell(alloc, 0, text)?);
+    let is_read = data_len != 0 || is_read(bytes, A, kind, attributes, file_sum, polarity);
+    Some(is_written && is_read)
+}
+
+// Whether the header of the pad of a line is written as expected and, if there are no data, read
+// back.
+fn is_pad(alloc: Global, line: &str) -> Option<bool> {
+    let (fields, text) = line.split_once(": ")?;
+    let mut words = fields.split_whitespace();
+    let size = words.next()?.parse().ok()?;
+    let polarity = polarity_in(words.next())?;
+    let head = pad(size, polarity)?;
+    let bytes = head.as_slice();
+    let is_written = is_joined(bytes, P, &spell(alloc, 0, text)?);
+    let is_read = size != 24 || is_read(bytes, P, 0xf0, 0, 0xaa, polarity);
+    Some(is_written && is_read)
 }
 
 #[test]
-fn pad_headers_are_written(rt: HostRuntime) {
-    for (size, polarity, fields) in PADS {
-        assert!(rt; is_pad(size, polarity, &fields), "{size}");
+fn headers_are_written(rt: HostRuntime) {
+    for line in files().lines() {
+        assert!(rt; is_file(rt.alloc(), line) == Some(true), "{line}");
+    }
+    for line in pads().lines() {
+        assert!(rt; is_pad(rt.alloc(), line) == Some(true), "{line}");
     }
 }

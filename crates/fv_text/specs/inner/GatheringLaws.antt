@@ -1,5 +1,5 @@
--- The laws of a sink that gathers small pieces. They are proofs. They are in specs/ because a ghost member cites the last
--- of them.
+-- The laws of a sink that gathers small pieces. They are proofs. They are in specs/ because a ghost member cites the
+-- last of them.
 use Rattle.std.proofs.Common.{ℕ, List, [], ◌++◌, sym, ◌∙◌, ap, append_assoc, append-nil}
 use Rattle.fv_base.specs.Sinks.{WalkLaws}
 use Rattle.fv_text.specs.GatheringSinks.{Gathered, GatheringTakes}

@@ -1,5 +1,5 @@
 -- What a walk over some bytes finds, offset after offset.
-use Rattle.std.specs.Prelude.{◌≡◌, ℕ, ◌+◌, ◌%◌, ◌≤◌, ◌<◌, List, [], ◌∷◌}
+use Rattle.std.specs.Prelude.{◌≡◌, ℕ, ◌+◌, ◌%◌, ◌≤◌, ◌<◌, List, [], ◌∷◌, length}
 use Rattle.fv_tree.specs.FoundVolumes.{VolumeAt}
 
 -- no volume begins at a multiple of 8 from `from` on and before `to`; and none from an offset on
@@ -8,6 +8,13 @@ NoneBetween b from to = (k n : ℕ) → from ≤ k → k < to → k % 8 ≡ 0 �
 
 abbrev pub NoneFrom : List ℕ → ℕ → Type 0
 NoneFrom b from = (k n : ℕ) → from ≤ k → k % 8 ≡ 0 → VolumeAt b k n → ⊥
+
+-- a search for volumes that began at `from` is at `at`, a multiple of 8 within b: none begins between them
+pub record IsReached (b : List ℕ) (from at : ℕ) : Type 0 where
+  pub multiple : at % 8 ≡ 0
+  pub within : at ≤ length b
+  pub least : from ≤ at
+  pub none : NoneBetween b from at
 
 -- `at` is the first multiple of 8 from this offset on at which a volume begins, and the volume has n bytes
 abbrev pub IsNext : List ℕ → ℕ → ℕ → ℕ → Type 0

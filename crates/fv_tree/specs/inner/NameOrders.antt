@@ -1,16 +1,8 @@
--- What look-ups by name use: the names of some files, the keys by which they are sorted, and the number of a file by its
--- name.
-use Rattle.std.specs.Prelude.{ℕ, ◌+◌, ◌*◌, ◌/◌, ◌^◌, if◌then◌else◌, List, [], ◌∷◌}
-use Rattle.std.specs.Prelude.{map, Option, Some, None}
+-- What look-ups by name use: the names of some files, and the keys by which they are first sorted.
+use Rattle.std.specs.Prelude.{ℕ, ◌+◌, ◌*◌, ◌/◌, ◌^◌, List, map}
 use Rattle.fv_base.specs.declared.guid.Guid.{Guid}
 use Rattle.fv_tree.specs.Files.{FileForm}
-use Rattle.fv_tree.specs.Meaning.{FileMeaning}
-use Rattle.fv_tree.specs.FileNames.{Entry, is_named}
-
--- the number of the first file with this name; the first of the files has the number k
-abbrev pub number_from : ℕ → Guid → List FileMeaning → Option ℕ
-number_from k name [] = None
-number_from k name (f ∷ fs) = if is_named name f then Some k else number_from (k + 1) name fs
+use Rattle.fv_tree.specs.FileNames.{Entry}
 
 -- the key of an entry: the high bits of the first half of its name, above its number, which has this many bits
 abbrev pub key_of : ℕ → Entry → ℕ

@@ -1,6 +1,6 @@
 -- What entries side by side, in the order of names and numbers, say of the files that they are of. `d` and `e` are what
 -- is read past the files and past the entries.
-use Rattle.std.specs.Prelude.{◌≡◌, ℕ, ◌+◌, ◌-◌, ◌<◌, ◌⊎◌, Bool, List, length, get_or}
+use Rattle.std.specs.Prelude.{◌≡◌, ◌≢◌, ℕ, ◌+◌, ◌-◌, ◌<◌, ◌⊎◌, Bool, List, length, get_or}
 use Rattle.fv_tree.specs.Files.{FileForm, is_marked}
 use Rattle.fv_tree.specs.FileNames.{Entry}
 
@@ -17,8 +17,12 @@ abbrev pub IsTwinAt : List FileForm → FileForm → List Entry → Entry → �
 IsTwinAt fs d es e place =
     AreTwins fs d (get_or es (place - 1) e) (get_or es place e) ⊎ AreTwins fs d (get_or es (place - 2) e) (get_or es place e)
 
+-- no two entries side by side have the same name
+abbrev pub AllApart : List Entry → Type 0
+AllApart es = (e : Entry) (place : ℕ) → 0 < place → place < length es → (get_or es (place - 1) e).0 ≢ (get_or es place e).0
+
 -- an entry beside the one at a place has the same name
-abbrev pub HasNeighbour : List Entry → Entry → ℕ → Type 0
-HasNeighbour es e place =
+abbrev pub SharesItsName : List Entry → Entry → ℕ → Type 0
+SharesItsName es e place =
     ((0 < place) × ((get_or es (place - 1) e).0 ≡ (get_or es place e).0))
     ⊎ ((place + 1 < length es) × ((get_or es (place + 1) e).0 ≡ (get_or es place e).0))

@@ -5,4 +5,4 @@ use Rattle.fv_c.proofs.digest.fv_digest.Goals as goal
 
 pub returns-in-Err-clause-fits : goal.returns-in-Err-clause-fits
 returns-in-Err-clause-fits c = λ image to _.
-    c.from.ensures ∙ c.number.ensures ∙ ap (λ (f : Fault). fault_number f.kind) (c.in-Err.ensures.fits image to)
+    c.refused.ensures.number ∙ ap (λ (f : Fault). fault_number f.kind) (c.in-Err.ensures.fits image to)

@@ -14,4 +14,4 @@ returns-in-Ok-clause-ok c = λ _. (
 
 pub returns-in-Err-clause-fits : goal.returns-in-Err-clause-fits
 returns-in-Err-clause-fits c = λ image to _ _.
-    c.from.ensures ∙ c.number.ensures ∙ ap (λ (f : Fault). fault_number f.kind) (c.in-Err.ensures.fits image to)
+    c.refused.ensures.number ∙ ap (λ (f : Fault). fault_number f.kind) (c.in-Err.ensures.fits image to)

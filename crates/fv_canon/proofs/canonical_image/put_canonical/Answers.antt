@@ -15,4 +15,4 @@ returns g c =
     let m = c.args.view.now in
     let starts = c.all.result.now in
     let laid = subst (LaysVolume m) (sym c.all.ensures) c.requires.0 in
-    (image_of m starts, image_is m starts c.head-head.ensures.meaning laid, c.put_image.ensures)
+    (image_of m starts, image_is m starts c.known.ensures laid, c.put_image.ensures)

@@ -13,7 +13,7 @@ returns-clause-ok g c =
 pub returns-clause-err : goal.returns-clause-err
 returns-clause-err g c =
     let m = c.args.view.now in
-    let k = c.head-head.ensures.meaning in
+    let k = c.known.ensures in
     let put = c.put_canonical.ensures in
     let short : length put.0 < 2 ^ 64 = omega (arith, image_length m put.0 k put.1, length_limit m k) in
     IfErr-weaker c.outcome.result (WriteStops _ _ put.0) _ (λ f stops. (put.0, put.1, stops)) (search rules)

@@ -1,94 +1,78 @@
 use Rattle.std.proofs.Common.{◌≡◌, ◌∙◌, sym}
-use Rattle.std.proofs.lemmas.Result.{err_from_is_err_and}
 use Rattle.fv_canon.specs.declared.side.Side.{Side}
 use Rattle.fv_canon.specs.declared.side.Side.TheVariants as sides
 use Rattle.fv_canon.proofs.CompareLaws.{first_unread, first_refused, second_unread, second_refused, run_compares, run_stops}
 use Rattle.fv_canon.proofs.CompareLaws.{unread_kind, never_read}
+use Rattle.fv_canon.proofs.InputLaws.{fault_passed}
 use Rattle.fv_canon.proofs.compare.run_compare.Goals as goal
 
 pub returns-in_err-input-clause-err : goal.returns-in_err-input-clause-err
 returns-in_err-input-clause-err g c =
-    let p = err_from_is_err_and c.from_residual.result c.from_residual.ensures.1 in
-    rw (p.1, p.2) (first_unread _ _ _ _ _ _ c.in_err-input.ensures.err.0 c.in_err-input.ensures.err.1)
+    fault_passed _ _ _ c.from_residual.ensures.1 (first_unread _ _ _ _ _ _ c.in_err-input.ensures.err.0 c.in_err-input.ensures.err.1)
 
 pub returns-in_err-input-clause-first_erred : goal.returns-in_err-input-clause-first_erred
 returns-in_err-input-clause-first_erred g c =
-    let p = err_from_is_err_and c.from_residual.result c.from_residual.ensures.1 in
-    rw (p.1, p.2) (λ off side kind. c.in_err-input.ensures.erred off kind)
+    λ off. fault_passed _ _ _ c.from_residual.ensures.1 (λ side kind. c.in_err-input.ensures.erred off kind)
 
 pub returns-in_err-input-clause-second_erred : goal.returns-in_err-input-clause-second_erred
 returns-in_err-input-clause-second_erred g c =
-    let p = err_from_is_err_and c.from_residual.result c.from_residual.ensures.1 in
-    rw (p.1, p.2) (λ off side kind. let bad : sides.First ≡ sides.Second = sym c.in_err-input.ensures.err.0 ∙ side in cc)
+    λ off. fault_passed _ _ _ c.from_residual.ensures.1 (λ side kind. let bad : sides.First ≡ sides.Second = sym c.in_err-input.ensures.err.0 ∙ side in cc)
 
 pub returns-in_err-input-clause-writer_erred : goal.returns-in_err-input-clause-writer_erred
 returns-in_err-input-clause-writer_erred g c =
-    let p = err_from_is_err_and c.from_residual.result c.from_residual.ensures.1 in
-    rw (p.1, p.2) (λ kind. absurd (unread_kind _ _ _ c.in_err-input.ensures.err.1 kind))
+    fault_passed _ _ _ c.from_residual.ensures.1 (λ kind. absurd (unread_kind _ _ _ c.in_err-input.ensures.err.1 kind))
 
 pub returns-in_err-view-clause-err : goal.returns-in_err-view-clause-err
 returns-in_err-view-clause-err g c =
-    let p = err_from_is_err_and c.from_residual-in_err-view.result c.from_residual-in_err-view.ensures.1 in
-    rw (p.1, p.2) (first_refused _ _ _ _ _ _ _ c.in_err-view.ensures.err.0 c.in_ok-input.ensures.ok
+    fault_passed _ _ _ c.from_residual-in_err-view.ensures.1 (first_refused _ _ _ _ _ _ _ c.in_err-view.ensures.err.0 c.in_ok-input.ensures.ok
     (rw c.deref.ensures.value at c.in_err-view.ensures.err.1))
 
 pub returns-in_err-view-clause-first_erred : goal.returns-in_err-view-clause-first_erred
 returns-in_err-view-clause-first_erred g c =
-    let p = err_from_is_err_and c.from_residual-in_err-view.result c.from_residual-in_err-view.ensures.1 in
-    rw (p.1, p.2) (λ off side kind. absurd (c.in_err-view.ensures.kind.0 kind))
+    λ off. fault_passed _ _ _ c.from_residual-in_err-view.ensures.1 (λ side kind. absurd (c.in_err-view.ensures.kind.0 kind))
 
 pub returns-in_err-view-clause-second_erred : goal.returns-in_err-view-clause-second_erred
 returns-in_err-view-clause-second_erred g c =
-    let p = err_from_is_err_and c.from_residual-in_err-view.result c.from_residual-in_err-view.ensures.1 in
-    rw (p.1, p.2) (λ off side kind. absurd (c.in_err-view.ensures.kind.0 kind))
+    λ off. fault_passed _ _ _ c.from_residual-in_err-view.ensures.1 (λ side kind. absurd (c.in_err-view.ensures.kind.0 kind))
 
 pub returns-in_err-view-clause-writer_erred : goal.returns-in_err-view-clause-writer_erred
 returns-in_err-view-clause-writer_erred g c =
-    let p = err_from_is_err_and c.from_residual-in_err-view.result c.from_residual-in_err-view.ensures.1 in
-    rw (p.1, p.2) (λ kind. absurd (c.in_err-view.ensures.kind.1 kind))
+    fault_passed _ _ _ c.from_residual-in_err-view.ensures.1 (λ kind. absurd (c.in_err-view.ensures.kind.1 kind))
 
 pub returns-in_err-other_input-clause-err : goal.returns-in_err-other_input-clause-err
 returns-in_err-other_input-clause-err g c =
-    let p = err_from_is_err_and c.from_residual-in_err-other_input.result c.from_residual-in_err-other_input.ensures.1 in
-    rw (p.1, p.2) (second_unread _ _ _ _ _ _ _ _ _ c.in_err-other_input.ensures.err.0 c.in_ok-input.ensures.ok
+    fault_passed _ _ _ c.from_residual-in_err-other_input.ensures.1 (second_unread _ _ _ _ _ _ _ _ _ c.in_err-other_input.ensures.err.0 c.in_ok-input.ensures.ok
     (rw c.deref.ensures.value at c.in_ok-view.ensures.ok) c.in_err-other_input.ensures.err.1)
 
 pub returns-in_err-other_input-clause-first_erred : goal.returns-in_err-other_input-clause-first_erred
 returns-in_err-other_input-clause-first_erred g c =
-    let p = err_from_is_err_and c.from_residual-in_err-other_input.result c.from_residual-in_err-other_input.ensures.1 in
-    rw (p.1, p.2) (λ off side kind. let bad : sides.Second ≡ sides.First = sym c.in_err-other_input.ensures.err.0 ∙ side in cc)
+    λ off. fault_passed _ _ _ c.from_residual-in_err-other_input.ensures.1 (λ side kind. let bad : sides.Second ≡ sides.First = sym c.in_err-other_input.ensures.err.0 ∙ side in cc)
 
 pub returns-in_err-other_input-clause-second_erred : goal.returns-in_err-other_input-clause-second_erred
 returns-in_err-other_input-clause-second_erred g c =
-    let p = err_from_is_err_and c.from_residual-in_err-other_input.result c.from_residual-in_err-other_input.ensures.1 in
-    rw (p.1, p.2) (λ off side kind. c.in_err-other_input.ensures.erred off kind)
+    λ off. fault_passed _ _ _ c.from_residual-in_err-other_input.ensures.1 (λ side kind. c.in_err-other_input.ensures.erred off kind)
 
 pub returns-in_err-other_input-clause-writer_erred : goal.returns-in_err-other_input-clause-writer_erred
 returns-in_err-other_input-clause-writer_erred g c =
-    let p = err_from_is_err_and c.from_residual-in_err-other_input.result c.from_residual-in_err-other_input.ensures.1 in
-    rw (p.1, p.2) (λ kind. absurd (unread_kind _ _ _ c.in_err-other_input.ensures.err.1 kind))
+    fault_passed _ _ _ c.from_residual-in_err-other_input.ensures.1 (λ kind. absurd (unread_kind _ _ _ c.in_err-other_input.ensures.err.1 kind))
 
 pub returns-in_err-other-clause-err : goal.returns-in_err-other-clause-err
 returns-in_err-other-clause-err g c =
-    let p = err_from_is_err_and c.from_residual-in_err-other.result c.from_residual-in_err-other.ensures.1 in
-    rw (p.1, p.2) (second_refused _ _ _ _ _ _ _ _ _ _ c.in_err-other.ensures.err.0 c.in_ok-input.ensures.ok
+    fault_passed _ _ _ c.from_residual-in_err-other.ensures.1 (second_refused _ _ _ _ _ _ _ _ _ _ c.in_err-other.ensures.err.0 c.in_ok-input.ensures.ok
     (rw c.deref.ensures.value at c.in_ok-view.ensures.ok) c.in_ok-other_input.ensures.ok
     (rw c.deref-2.ensures.value at c.in_err-other.ensures.err.1))
 
 pub returns-in_err-other-clause-first_erred : goal.returns-in_err-other-clause-first_erred
 returns-in_err-other-clause-first_erred g c =
-    let p = err_from_is_err_and c.from_residual-in_err-other.result c.from_residual-in_err-other.ensures.1 in
-    rw (p.1, p.2) (λ off side kind. absurd (c.in_err-other.ensures.kind.0 kind))
+    λ off. fault_passed _ _ _ c.from_residual-in_err-other.ensures.1 (λ side kind. absurd (c.in_err-other.ensures.kind.0 kind))
 
 pub returns-in_err-other-clause-second_erred : goal.returns-in_err-other-clause-second_erred
 returns-in_err-other-clause-second_erred g c =
-    let p = err_from_is_err_and c.from_residual-in_err-other.result c.from_residual-in_err-other.ensures.1 in
-    rw (p.1, p.2) (λ off side kind. absurd (c.in_err-other.ensures.kind.0 kind))
+    λ off. fault_passed _ _ _ c.from_residual-in_err-other.ensures.1 (λ side kind. absurd (c.in_err-other.ensures.kind.0 kind))
 
 pub returns-in_err-other-clause-writer_erred : goal.returns-in_err-other-clause-writer_erred
 returns-in_err-other-clause-writer_erred g c =
-    let p = err_from_is_err_and c.from_residual-in_err-other.result c.from_residual-in_err-other.ensures.1 in
-    rw (p.1, p.2) (λ kind. absurd (c.in_err-other.ensures.kind.1 kind))
+    fault_passed _ _ _ c.from_residual-in_err-other.ensures.1 (λ kind. absurd (c.in_err-other.ensures.kind.1 kind))
 
 pub returns-clause-ok : goal.returns-clause-ok
 returns-clause-ok g c =

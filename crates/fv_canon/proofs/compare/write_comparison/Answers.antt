@@ -7,7 +7,7 @@ use Rattle.fv_canon.proofs.compare.write_comparison.Goals as goal
 
 pub write_line-requires : goal.write_line-requires
 write_line-requires g c =
-    let few = few_steps c.args.first.now c.args.second.now c.head-head.ensures.meaning in
+    let few = few_steps c.args.first.now c.args.second.now c.known.ensures in
     record { few = subst (λ (o : Differs). IfSome o (λ d. length d.0 ≤ 18)) (sym (c.as_ref.ensures.value ∙ c.in-Ok.ensures.first)) few }
 
 pub returns-in-Err-clause-err : goal.returns-in-Err-clause-err

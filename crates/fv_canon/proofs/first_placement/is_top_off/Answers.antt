@@ -5,7 +5,7 @@ use Rattle.fv_canon.specs.Starts.{TopOff, IsOff}
 use Rattle.fv_canon.specs.declared.first_placement.LayoutItem.{LayoutItem}
 use Rattle.fv_canon.proofs.first_placement.is_top_off.Goals as goal
 use Rattle.fv_canon.proofs.first_placement.is_top_off.Goals.{else-item-via-then-item+else-is_off, else-item-via-else-item}
-use Rattle.fv_canon.proofs.StartSearchLaws.{not_true}
+use Rattle.fv_canon.proofs.UsableStartLaws.{not_true}
 
 -- an item that is off is found, and one that is not is passed over
 found : (total : ℕ) (fs : List LayoutItem) (i : ℕ) (d : LayoutItem) → i < length fs → (TopOff total (drop i fs) → TopOff total fs)

@@ -1,11 +1,9 @@
-use Rattle.std.proofs.Common.{ℕ, List, ap, arith, subst}
+use Rattle.std.proofs.Common.{ap, arith, subst}
 use Rattle.fv_tree.specs.inner.Sizes.{volume_size, content_size, body_size}
-use Rattle.fv_tree.specs.Meaning.{SectionMeaning, FileMeaning, files_from, sections_from}
+use Rattle.fv_tree.specs.Meaning.{files_from, sections_from}
 use Rattle.fv_tree.specs.Views.{body_view, content_view}
 use Rattle.fv_canon.specs.inner.Depths.{NestsVolume, NestsContent, NestsBody}
 use Rattle.fv_canon.specs.inner.LayoutWalks.{Shallow}
-use Rattle.fv_canon.specs.Layouts.{FirstUnfit}
-use Rattle.fv_canon.specs.Volumes.{volumes_in_files, volumes_in_sections}
 use Rattle.fv_canon.proofs.LayoutWalkLaws.{section_grew, shallow_at, section_unfit, file_grew, shallow_file_at, file_unfit, unfit_passed}
 use Rattle.fv_canon.proofs.LayoutWalkLaws.{shallow_files, shallow_sections, shallow_group, shallow_nested}
 use Rattle.fv_canon.proofs.layout_walk.+lay.Goals as goal
@@ -44,46 +42,33 @@ lay_body-lay_volume-requires t c =
 
 pub lay_sections-lay_body-requires : goal.lay_sections-lay_body-requires
 lay_sections-lay_body-requires t c =
-    let ss : List SectionMeaning = c.args.sections.now in
-    let i : ℕ = c.loop-section.section-index in
-    let s : SectionMeaning = c.section-item.result in
-    rw c.body.ensures (
-      omega (arith, c.decreases, section_body_falls ss i s c.loop-section-test.true c.section-item.is),
-      shallow_at ss i s c.args.depth c.loop-section-test.true c.section-item.is c.requires.shallow,
-    )
+    let less = section_body_falls _ _ _ c.loop-section-test.true c.section-item.is in
+    let shallow = shallow_at _ _ _ _ c.loop-section-test.true c.section-item.is c.requires.shallow in
+    rw c.body.ensures (omega (arith, c.decreases, less), shallow)
 
 pub lay_sections-returns-in_err-lay_body-clause-err : goal.lay_sections-returns-in_err-lay_body-clause-err
 lay_sections-returns-in_err-lay_body-clause-err t c =
-    let ss : List SectionMeaning = c.args.sections.now in
-    unfit_passed (FirstUnfit (volumes_in_sections (sections_from ss)) c.args.depth) c.from_residual.result _ c.from_residual.ensures.1
-    c.in_err-lay_body.ensures.err (λ unfit. section_unfit ss c.loop-section.section-index c.section-item.result _ _ c.args.depth _
-    c.loop-section-test.true c.section-item.is c.loop-section.invariant (rw c.body.ensures at unfit))
+    unfit_passed _ _ _ c.from_residual.ensures.1 c.in_err-lay_body.ensures.err
+    (λ unfit. section_unfit _ _ _ _ _ _ _ c.loop-section-test.true c.section-item.is c.loop-section.invariant
+    (rw c.body.ensures at unfit))
 
 pub lay_sections-loop-section-preserved : goal.lay_sections-loop-section-preserved
 lay_sections-loop-section-preserved t c =
     let more = c.in_ok-lay_body.ensures.ok in
-    section_grew c.args.sections.now c.loop-section.section-index c.section-item.result _ _ _ c.loop-section-test.true c.section-item.is
-    c.loop-section.invariant (rw c.body.ensures at more)
+    section_grew _ _ _ _ _ _ c.loop-section-test.true c.section-item.is c.loop-section.invariant (rw c.body.ensures at more)
 
 pub lay_files-lay_content-requires : goal.lay_files-lay_content-requires
 lay_files-lay_content-requires t c =
-    let fs : List FileMeaning = c.args.files.now in
-    let i : ℕ = c.loop-file.file-index in
-    let m : FileMeaning = c.file-item.result in
-    rw c.content.ensures (
-      omega (arith, c.decreases, file_content_falls fs i m c.loop-file-test.true c.file-item.is),
-      shallow_file_at fs i m c.args.depth c.loop-file-test.true c.file-item.is c.requires.shallow,
-    )
+    let less = file_content_falls _ _ _ c.loop-file-test.true c.file-item.is in
+    let shallow = shallow_file_at _ _ _ _ c.loop-file-test.true c.file-item.is c.requires.shallow in
+    rw c.content.ensures (omega (arith, c.decreases, less), shallow)
 
 pub lay_files-returns-in_err-lay_content-clause-err : goal.lay_files-returns-in_err-lay_content-clause-err
 lay_files-returns-in_err-lay_content-clause-err t c =
-    let fs : List FileMeaning = c.args.files.now in
-    unfit_passed (FirstUnfit (volumes_in_files (files_from fs)) c.args.depth) c.from_residual.result _ c.from_residual.ensures.1
-    c.in_err-lay_content.ensures.err (λ unfit. file_unfit fs c.loop-file.file-index c.file-item.result _ _ c.args.depth _
-    c.loop-file-test.true c.file-item.is c.loop-file.invariant (rw c.content.ensures at unfit))
+    unfit_passed _ _ _ c.from_residual.ensures.1 c.in_err-lay_content.ensures.err
+    (λ unfit. file_unfit _ _ _ _ _ _ _ c.loop-file-test.true c.file-item.is c.loop-file.invariant (rw c.content.ensures at unfit))
 
 pub lay_files-loop-file-preserved : goal.lay_files-loop-file-preserved
 lay_files-loop-file-preserved t c =
     let more = c.in_ok-lay_content.ensures.ok in
-    file_grew c.args.files.now c.loop-file.file-index c.file-item.result _ _ _ c.loop-file-test.true c.file-item.is
-    c.loop-file.invariant (rw c.content.ensures at more)
+    file_grew _ _ _ _ _ _ c.loop-file-test.true c.file-item.is c.loop-file.invariant (rw c.content.ensures at more)

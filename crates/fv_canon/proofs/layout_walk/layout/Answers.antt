@@ -4,7 +4,7 @@ use Rattle.fv_canon.proofs.LayoutLaws.{layout_is, one_layout, own_first}
 use Rattle.fv_canon.proofs.layout_walk.layout.Goals as goal
 
 pub lay_volume-requires : goal.lay_volume-requires
-lay_volume-requires c = record { shallow = shallow_volume c.args.view.now c.head-head.ensures.meaning }
+lay_volume-requires c = record { shallow = shallow_volume c.args.view.now c.known.ensures }
 
 pub returns-clause-layout : goal.returns-clause-layout
 returns-clause-layout c =

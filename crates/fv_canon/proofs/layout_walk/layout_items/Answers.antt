@@ -17,5 +17,5 @@ returns-clause-ok c =
     c.loop-file.invariant ∙ ap (map layout_item) (take_all c.loop-file.file-index fs c.loop-file-test.false ∙ sym are) in (
       is,
       subst (λ (ps : List LayoutItem). All (IsLawfulItem (head_of c.args.view.now).length) ps) (sym is)
-          (parts_fit c.args.view.now c.head-head.ensures.meaning),
+          (parts_fit c.args.view.now c.known.ensures),
     )

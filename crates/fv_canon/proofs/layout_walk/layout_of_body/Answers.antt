@@ -10,12 +10,12 @@ use Rattle.fv_canon.proofs.layout_walk.layout_of_body.Goals as goal
 pub lay_sections-requires : goal.lay_sections-requires
 lay_sections-requires c =
     let is = sym c.body.ensures ∙ ap body_view c.in-Group.is in
-    record { shallow = group_read c.args.section.now _ c.in-Group.tail c.kind-kind.ensures.read is }
+    record { shallow = group_read c.args.section.now _ c.in-Group.tail c.known.ensures is }
 
 pub lay_volume-requires : goal.lay_volume-requires
 lay_volume-requires c =
     let is = sym c.body.ensures ∙ ap body_view c.in-Nested.is in
-    record { shallow = nested_read c.args.section.now _ c.kind-kind.ensures.read is }
+    record { shallow = nested_read c.args.section.now _ c.known.ensures is }
 
 pub returns-in_err-lay_sections-in-Group-clause-fits : goal.returns-in_err-lay_sections-in-Group-clause-fits
 returns-in_err-lay_sections-in-Group-clause-fits c fit =

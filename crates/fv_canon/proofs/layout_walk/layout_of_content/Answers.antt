@@ -5,7 +5,7 @@ use Rattle.fv_canon.proofs.LayoutWalkLaws.{only_memory, shallow_content}
 use Rattle.fv_canon.proofs.layout_walk.layout_of_content.Goals as goal
 
 pub lay_content-requires : goal.lay_content-requires
-lay_content-requires c = record { shallow = rw c.content.ensures (shallow_content c.args.file.now c.name-name.ensures.read) }
+lay_content-requires c = record { shallow = rw c.content.ensures (shallow_content c.args.file.now c.known.ensures) }
 
 pub returns-in_err-lay_content-clause-fits : goal.returns-in_err-lay_content-clause-fits
 returns-in_err-lay_content-clause-fits c fit =

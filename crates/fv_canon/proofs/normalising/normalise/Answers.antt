@@ -1,5 +1,5 @@
 use Rattle.std.proofs.Common.{◌≡◌, List, ℕ, length}
-use Rattle.std.proofs.lemmas.Result.{IfOk-weaker, IfErr-weaker, err_from_is_err_and}
+use Rattle.std.proofs.lemmas.Result.{IfOk-weaker, IfErr-weaker}
 use Rattle.fv_base.specs.Faults.{out_of_memory}
 use Rattle.fv_base.specs.declared.fault.Fault.{Fault}
 use Rattle.fv_head.specs.Head.{HeadFields, BeginsVolume}
@@ -7,28 +7,23 @@ use Rattle.fv_head.specs.declared.extent.Extent.{Extent}
 use Rattle.fv_tree.specs.Meaning.{head_of}
 use Rattle.fv_canon.specs.Headline.{MeanSame, NormalisesTo}
 use Rattle.fv_canon.proofs.ImageLaws.{image_again, image_stays_long}
-use Rattle.fv_canon.proofs.InputLaws.{image_fits, not_placed, not_read, not_read_never, unfit_refused, unread_refused}
+use Rattle.fv_canon.proofs.InputLaws.{fault_passed, image_fits, not_placed, not_read, not_read_never, unfit_refused, unread_refused}
 use Rattle.fv_canon.proofs.normalising.normalise.Goals as goal
 
 pub returns-in_err-view-clause-err : goal.returns-in_err-view-clause-err
-returns-in_err-view-clause-err c =
-    let p = err_from_is_err_and c.from_residual.result c.from_residual.ensures.1 in
-    rw (p.1, p.2) (not_read c.args.input.now _ c.in_err-view.ensures.refused)
+returns-in_err-view-clause-err c = fault_passed _ _ _ c.from_residual.ensures.1 (not_read c.args.input.now _ c.in_err-view.ensures.refused)
 
 pub returns-in_err-view-clause-fits : goal.returns-in_err-view-clause-fits
 returns-in_err-view-clause-fits c =
-    let p = err_from_is_err_and c.from_residual.result c.from_residual.ensures.1 in
-    rw (p.1, p.2) (λ image to. not_read_never c.args.input.now image _ c.in_err-view.ensures.refused to)
+    λ image to. fault_passed _ _ _ c.from_residual.ensures.1 (not_read_never c.args.input.now image _ c.in_err-view.ensures.refused to)
 
 pub returns-in_err-view-clause-unfit : goal.returns-in_err-view-clause-unfit
 returns-in_err-view-clause-unfit c =
-    let p = err_from_is_err_and c.from_residual.result c.from_residual.ensures.1 in
-    rw (p.1, p.2) (unfit_refused c.args.input.now _ (not_read c.args.input.now _ c.in_err-view.ensures.refused))
+    fault_passed _ _ _ c.from_residual.ensures.1 (unfit_refused c.args.input.now _ (not_read c.args.input.now _ c.in_err-view.ensures.refused))
 
 pub returns-in_err-view-clause-unread : goal.returns-in_err-view-clause-unread
 returns-in_err-view-clause-unread c =
-    let p = err_from_is_err_and c.from_residual.result c.from_residual.ensures.1 in
-    rw (p.1, p.2) (unread_refused c.args.input.now _ (not_read c.args.input.now _ c.in_err-view.ensures.refused))
+    fault_passed _ _ _ c.from_residual.ensures.1 (unread_refused c.args.input.now _ (not_read c.args.input.now _ c.in_err-view.ensures.refused))
 
 pub returns-clause-ok : goal.returns-clause-ok
 returns-clause-ok c =

@@ -10,8 +10,7 @@ use Rattle.fv_canon.proofs.normalising.whole_volume.Goals as goal
 
 pub returns-in_err-view-clause-refused : goal.returns-in_err-view-clause-refused
 returns-in_err-view-clause-refused c =
-    let p = err_from_is_err_and c.from_residual.result c.from_residual.ensures.1 in
-    rw (p.1, p.2) (volume_refused c.args.input.now _ c.in_err-view.ensures.none c.in_err-view.ensures.first)
+    fault_passed _ _ _ c.from_residual.ensures.1 (volume_refused c.args.input.now _ c.in_err-view.ensures.none c.in_err-view.ensures.first)
 
 pub returns-in_err-view-clause-stands : goal.returns-in_err-view-clause-stands
 returns-in_err-view-clause-stands c =
@@ -20,18 +19,14 @@ returns-in_err-view-clause-stands c =
 
 pub returns-in_err-view-clause-kind : goal.returns-in_err-view-clause-kind
 returns-in_err-view-clause-kind c =
-    let p = err_from_is_err_and c.from_residual.result c.from_residual.ensures.1 in
-    rw (p.1, p.2) (stood_kind c.args.input.now c.in_err-view.field-0.0 c.in_err-view.ensures.stands)
+    fault_passed _ _ _ c.from_residual.ensures.1 (stood_kind c.args.input.now c.in_err-view.field-0.0 c.in_err-view.ensures.stands)
 
 pub returns-in_err-view-clause-memory : goal.returns-in_err-view-clause-memory
-returns-in_err-view-clause-memory c =
-    let p = err_from_is_err_and c.from_residual.result c.from_residual.ensures.1 in
-    rw (p.1, p.2) c.in_err-view.ensures.memory
+returns-in_err-view-clause-memory c = fault_passed _ _ _ c.from_residual.ensures.1 c.in_err-view.ensures.memory
 
 pub returns-in_err-check-clause-refused : goal.returns-in_err-check-clause-refused
 returns-in_err-check-clause-refused c =
-    let p = err_from_is_err_and c.from_residual-in_err-check.result c.from_residual-in_err-check.ensures.1 in
-    rw (p.1, p.2) (inr (end_refused c.args.input.now _ c.in_ok-view.view c.in_ok-view.length c.in_ok-view.ensures.found
+    fault_passed _ _ _ c.from_residual-in_err-check.ensures.1 (inr (end_refused c.args.input.now _ c.in_ok-view.view c.in_ok-view.length c.in_ok-view.ensures.found
     c.in_ok-view.ensures.length
     c.in_err-check.ensures.err.0 c.in_err-check.ensures.err.1 c.in_ok-view.ensures.only))
 
@@ -49,10 +44,9 @@ returns-in_err-check-clause-kind c =
 
 pub returns-in_err-check-clause-memory : goal.returns-in_err-check-clause-memory
 returns-in_err-check-clause-memory c =
-    let p = err_from_is_err_and c.from_residual-in_err-check.result c.from_residual-in_err-check.ensures.1 in
     let d = c.in_ok-view.ensures.found.1 in
     let front = front_of depth_limit c.in_ok-view.length c.args.input.now c.in_ok-view.view c.in_ok-view.ensures.length.1 d in
-    rw (p.1, p.2) (λ want. (head_of c.in_ok-view.view, d.extent, front.0))
+    fault_passed _ _ _ c.from_residual-in_err-check.ensures.1 (λ want. (head_of c.in_ok-view.view, d.extent, front.0))
 
 pub returns-clause-found : goal.returns-clause-found
 returns-clause-found c =

@@ -42,25 +42,16 @@ returns-in-None g c =
 pub returns-in-Some : goal.returns-in-Some
 returns-in-Some g c =
     let h : HeadFields = c.args.head.now in
-    let x : Extension = c.in-Some.ext.now in
     let p : Polarity = polarity_of h.attributes in
-    let some : c.args.head.now.ext ≡ Some c.in-Some.ext.now = sym c.ext.ensures ∙ ap option_copied c.in-Some.is in
-    let polar : c.polarity-polarity.result ≡ polarity_of h.attributes = c.polarity-polarity.ensures ∙ ap polarity_of c.attributes.ensures in
-    let len : c.from-len.result ≡ ext_len x = c.from-len.ensures ∙ c.len_of_ext.ensures.len in
-    let header : c.from-header.result ≡ header_len_of h = c.from-header.ensures ∙ c.header_len.ensures.length in
-    let end : (c.from-header.result + 24) + c.from-len.result ≡ header_len_of h + 24 + ext_len x =
-    ap (λ (n : ℕ). (n + 24) + c.from-len.result) header ∙ ap (λ (n : ℕ). (header_len_of h + 24) + n) len in
-    let erased : c.erased.result ≡ erased_byte p = c.erased.ensures.value ∙ ap erased_byte polar in
-    let bytes : c.as_slice.result.now ≡ pad_head_of (24 + ext_len x) p = c.as_slice.ensures ∙ c.pad_head_bytes.ensures.bytes
-    ∙ ap (λ (n : ℕ). pad_head_of (24 + n) c.polarity-polarity.result) len ∙ ap (λ (q : Polarity). pad_head_of (24 + ext_len x) q) polar in
-    let filler : replicate (c.up_to_8.result - ((c.from-header.result + 24) + c.from-len.result)) c.erased.result
-    ≡ replicate (up_to_8 (header_len_of h + 24 + ext_len x) - (header_len_of h + 24 + ext_len x)) (erased_byte p) =
-    ap (λ (n : ℕ). replicate (n - ((c.from-header.result + 24) + c.from-len.result)) c.erased.result) c.up_to_8.ensures
-    ∙ ap (λ (n : ℕ). replicate (up_to_8 n - n) c.erased.result) end
-    ∙ ap (λ (n : ℕ). replicate (up_to_8 (header_len_of h + 24 + ext_len x) - (header_len_of h + 24 + ext_len x)) n) erased in
-    let rest : List ℕ = replicate (up_to_8 (header_len_of h + 24 + ext_len x) - (header_len_of h + 24 + ext_len x)) (erased_byte p) in
-    subst (λ (xs : List ℕ). g.S.Sink.takes c.args.out.now xs c.fill.new.out) (sym (some_text p h h.ext x c.args.used (erased_byte p) some))
-    (g.S.Sink.laws.joined c.args.out.now c.put.new.self c.fill.new.out (pad_head_of (24 + ext_len x) p) (ext_spelled x c.args.used ++ rest)
-    (subst (λ (xs : List ℕ). g.S.Sink.takes c.args.out.now xs c.put.new.self) bytes c.put.ensures)
-    (g.S.Sink.laws.joined c.put.new.self c.put_ext.new.out c.fill.new.out (ext_spelled x c.args.used) rest c.put_ext.ensures.bytes
-    (subst (λ (xs : List ℕ). g.S.Sink.takes c.put_ext.new.out xs c.fill.new.out) filler c.fill.ensures)))
+    let some : h.ext ≡ Some c.in-Some.ext.now = sym c.ext.ensures ∙ ap option_copied c.in-Some.is in
+    let polar = c.polarity-polarity.ensures ∙ ap polarity_of c.attributes.ensures in
+    let len = c.from-len.ensures ∙ c.len_of_ext.ensures.len in
+    let top = c.from-header.ensures ∙ c.header_len.ensures.length in
+    let head = c.put.ensures in
+    let filler = c.fill.ensures in
+    let laws = g.S.Sink.laws in
+    rw (some_text p h h.ext c.in-Some.ext.now c.args.used (erased_byte p) some)
+    (laws.joined c.args.out.now c.put.new.self c.fill.new.out _ _
+    (rw (c.as_slice.ensures, c.pad_head_bytes.ensures.bytes, len, polar) at head)
+    (laws.joined c.put.new.self c.put_ext.new.out c.fill.new.out _ _ c.put_ext.ensures.bytes
+    (rw (c.up_to_8.ensures, top, len, c.erased.ensures.value, polar) at filler)))

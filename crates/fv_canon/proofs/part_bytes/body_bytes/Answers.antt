@@ -11,7 +11,7 @@ returns-clause-body c =
     let m = body_of c.args.section.now in
     let starts = c.in_ok-starts.starts.items in
     kept_text (IsBodyImage m) body_image _ m _ starts _ _ _ _ c.finish.result
-    (body_is c.args.section.now starts c.kind-kind.ensures.read c.in_ok-starts.ensures.ok) c.body.ensures c.as_slice.ensures.value
+    (body_is c.args.section.now starts c.known.ensures c.in_ok-starts.ensures.ok) c.body.ensures c.as_slice.ensures.value
     c.in_ok-out.ensures c.put_section_body.ensures c.finish.ensures.ok
 
 pub returns-clause-only : goal.returns-clause-only

@@ -7,7 +7,7 @@ use Rattle.fv_file.proofs.cell_walk.cells_in.Goals.{then-at-body+in_ok-push-2, e
 
 pub returns-clause-found : goal.returns-clause-found
 returns-clause-found c =
-    let free = rest_free _ c.args.body.now c.loop-system.at (sym c.is_free.ensures ∙ c.loop-system-test.false) in
+    let free = rest_free _ _ c.args.body.now c.loop-system.at c.bytes_from.ensures (sym c.is_free.ensures ∙ c.loop-system-test.false) in
     elim c.if-at-body.branch [
       | then-at-body+in_ok-push-2 w ↦
           let items : w.push-then-at-body.new.self.items ≡ c.loop-system.list.items
@@ -22,19 +22,19 @@ returns-clause-found c =
 pub returns-in_err-cell-clause-first : goal.returns-in_err-cell-clause-first
 returns-in_err-cell-clause-first c =
     let p = err_from_is_err_and c.from_residual-in_err-cell.result c.from_residual-in_err-cell.ensures.1 in
-    let used = rest_used _ c.args.body.now c.loop-system.at (sym c.is_free.ensures ∙ c.loop-system-test.true) in
-    rw (p.1, p.2) (λ memory. first_here _ _ _ _ _ _ _ c.loop-system.invariant used c.in_err-cell.ensures.refused)
+    let used = rest_used _ _ c.args.body.now c.loop-system.at c.bytes_from.ensures (sym c.is_free.ensures ∙ c.loop-system-test.true) in
+    rw (p.1, p.2) (λ memory. first_here _ _ _ _ _ _ _ _ c.loop-system.invariant used c.bytes_from-rest.ensures c.in_err-cell.ensures.refused)
 
 pub returns-in_err-cell-clause-some : goal.returns-in_err-cell-clause-some
 returns-in_err-cell-clause-some c =
     rw (err_from_is_err_and c.from_residual-in_err-cell.result c.from_residual-in_err-cell.ensures.1).1
-    (omega (arith, (rest_used _ c.args.body.now c.loop-system.at (sym c.is_free.ensures ∙ c.loop-system-test.true)).0))
+    (omega (arith, (rest_used _ _ c.args.body.now c.loop-system.at c.bytes_from.ensures (sym c.is_free.ensures ∙ c.loop-system-test.true)).0))
 
 pub span_of-len-requires : goal.span_of-len-requires
 span_of-len-requires c =
     omega (
       arith,
-      (stands_in c.loop-system.invariant c.requires.multiple c.in_ok-cell.ensures.found).within,
+      (stands_in c.loop-system.invariant c.requires.multiple c.bytes_from-rest.ensures c.in_ok-cell.ensures.found).within,
       length-drop c.loop-system.at c.args.body.now,
       c.requires.place,
     )
@@ -43,7 +43,7 @@ pub overflow_add-at : goal.overflow_add-at
 overflow_add-at c =
     omega (
       arith,
-      (stands_in c.loop-system.invariant c.requires.multiple c.in_ok-cell.ensures.found).within,
+      (stands_in c.loop-system.invariant c.requires.multiple c.bytes_from-rest.ensures c.in_ok-cell.ensures.found).within,
       length-drop c.loop-system.at c.args.body.now,
       c.requires.place,
       c.span_of-len.ensures,
@@ -55,14 +55,14 @@ loop-system-init c = rw c.in_ok-list.ensures.items (record { tiled = refl; none_
 
 pub loop-system-smaller : goal.loop-system-smaller
 loop-system-smaller c =
-    let stands = stands_in c.loop-system.invariant c.requires.multiple c.in_ok-cell.ensures.found in
+    let stands = stands_in c.loop-system.invariant c.requires.multiple c.bytes_from-rest.ensures c.in_ok-cell.ensures.found in
     omega (
       arith,
       stands.some,
       stands.within,
       length-drop c.loop-system.at c.args.body.now,
       c.span_of-len.ensures,
-      (rest_used _ c.args.body.now c.loop-system.at (sym c.is_free.ensures ∙ c.loop-system-test.true)).0,
+      (rest_used _ _ c.args.body.now c.loop-system.at c.bytes_from.ensures (sym c.is_free.ensures ∙ c.loop-system-test.true)).0,
     )
 
 pub loop-system-preserved : goal.loop-system-preserved
@@ -70,4 +70,4 @@ loop-system-preserved c =
     let items : c.push.new.self.items ≡ c.loop-system.list.items ++ c.in_ok-cell.cell ∷ [] = search rules in
     kept c.args.system c.args.polarity c.args.first c.args.body.now c.loop-system.list.items c.push.new.self.items c.in_ok-cell.cell
     c.loop-system.at c.span_of-len.result c.loop-system.invariant
-    (stands_in c.loop-system.invariant c.requires.multiple c.in_ok-cell.ensures.found) c.span_of-len.ensures items
+    (stands_in c.loop-system.invariant c.requires.multiple c.bytes_from-rest.ensures c.in_ok-cell.ensures.found) c.span_of-len.ensures items

@@ -1,6 +1,6 @@
 use Rattle.std.proofs.Common.{◌≡◌, ◌∙◌, ap, length, refl, sym}
 use Rattle.fv_base.specs.Guids.{bytes_of}
-use Rattle.fv_file.specs.declared.head.FileHead.{FileHead}
+use Rattle.fv_file.specs.declared.new_header.NewHeader.{NewHeader}
 use Rattle.fv_file.proofs.NewHeaderLemmas.{file_head_is, file_written, head_of_file, only_file}
 use Rattle.fv_file.proofs.new_header.file_head_bytes.Goals as goal
 
@@ -8,13 +8,13 @@ pub returns-clause-bytes : goal.returns-clause-bytes
 returns-clause-bytes c =
     let a = c.args in
     c.header_bytes.ensures.is
-    ∙ file_head_is a.polarity a.name a.kind a.attributes a.data_len a.file_sum c.file_fields.result c.requires.short c.file_fields.ensures
+    ∙ file_head_is a.polarity a.name a.kind a.attributes a.data_len a.file_sum c.file_header.result c.requires.short c.file_header.ensures
 
 pub returns-clause-read : goal.returns-clause-read
 returns-clause-read c =
     let a = c.args in
     let long : length (bytes_of a.name) ≡ 16 =
-    ap (λ (x : FileHead). length (bytes_of x.name)) (sym c.file_fields.ensures) ∙ c.header_bytes.ensures.name in
+    ap (λ (x : NewHeader). length (bytes_of x.name)) (sym c.file_header.ensures) ∙ c.header_bytes.ensures.name in
     file_written a.polarity a.name a.kind a.attributes a.data_len a.file_sum c.header_bytes.result long c.requires.short c.requires.most
     c.header_bytes.ensures.bytes (returns-clause-bytes c)
 

@@ -3,4 +3,4 @@ use Rattle.fv_base.proofs.Laws.{bytes_take}
 use Rattle.fv_file.proofs.new_header.header_with.Goals as goal
 
 pub returns-clause-bytes : goal.returns-clause-bytes
-returns-clause-bytes c = bytes_take c.if-is_large.result c.whole_bytes.result (search rules)
+returns-clause-bytes c = bytes_take c.header_len.result c.whole_bytes.result (search rules)

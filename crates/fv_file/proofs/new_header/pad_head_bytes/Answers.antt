@@ -1,11 +1,11 @@
 use Rattle.std.proofs.Common.{◌∙◌, ap, refl, sym}
-use Rattle.fv_file.specs.inner.HeadParts.{head_bytes}
-use Rattle.fv_file.specs.declared.head.FileHead.{FileHead}
+use Rattle.fv_file.specs.inner.NewHeaderParts.{new_header_bytes}
+use Rattle.fv_file.specs.declared.new_header.NewHeader.{NewHeader}
 use Rattle.fv_file.proofs.NewHeaderLemmas.{pad_written, head_of_pad, only_pad}
 use Rattle.fv_file.proofs.new_header.pad_head_bytes.Goals as goal
 
 pub returns-clause-bytes : goal.returns-clause-bytes
-returns-clause-bytes c = c.header_bytes.ensures.is ∙ ap (λ (x : FileHead). head_bytes x c.args.polarity) c.pad_fields.ensures
+returns-clause-bytes c = c.header_bytes.ensures.is ∙ ap (λ (x : NewHeader). new_header_bytes x c.args.polarity) c.pad_header.ensures
 
 pub returns-clause-read : goal.returns-clause-read
 returns-clause-read c =

@@ -1,6 +1,6 @@
 use Rattle.std.proofs.Common.{◌∙◌, ap, arith, sym, refl}
 use Rattle.fv_head.specs.Pairs.{pairs_of}
-use Rattle.fv_head.proofs.HeadCheckLemmas.{front_within, kept_fields}
+use Rattle.fv_head.proofs.HeadPlaceLemmas.{front_within, kept_fields}
 use Rattle.fv_head.proofs.head.head_of.Goals as goal
 
 pub blocks_of-requires : goal.blocks_of-requires

@@ -1,6 +1,7 @@
 use Rattle.std.proofs.Common.{◌∙◌, sym, inl, refl}
 use Rattle.std.proofs.lemmas.Result.{err_from_is_err_and}
-use Rattle.fv_head.proofs.HeadCheckLemmas.{one_front, fault_known}
+use Rattle.fv_head.proofs.HeadPlaceLemmas.{one_front}
+use Rattle.fv_head.proofs.HeadFaultLemmas.{fault_known}
 use Rattle.fv_head.proofs.head.read_head.Goals as goal
 
 pub returns-clause-only : goal.returns-clause-only

@@ -1,5 +1,6 @@
 use Rattle.std.proofs.Common.{rules, ◌∙◌}
-use Rattle.fv_head.proofs.HeadCheckLemmas.{ok_found, front_only, err_first, err_within}
+use Rattle.fv_head.proofs.HeadFaultLemmas.{ok_found, err_first, err_within}
+use Rattle.fv_head.proofs.HeadCheckLemmas.{front_only}
 use Rattle.fv_head.proofs.header_checks.verify_fv.Goals as goal
 
 pub returns-clause-found : goal.returns-clause-found

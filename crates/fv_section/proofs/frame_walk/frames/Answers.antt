@@ -1,16 +1,25 @@
-use Rattle.std.proofs.lemmas.Result.{IfOk-weaker, IfErr-weaker}
-use Rattle.fv_section.proofs.FrameWalkLemmas.{none_after, whole_within}
-use Rattle.fv_section.proofs.StreamLemmas.{one_split}
+use Rattle.std.proofs.Common.{◌<◌, ◌∷◌, ◌++◌, [], ℕ, List, length, map, subst, arith, rules}
+use Rattle.std.proofs.lemmas.Result.{err_from_is_err_and}
+use Rattle.fv_section.specs.Frames.{FrameForm, Splits}
+use Rattle.fv_section.specs.FrameForms.{frame_form}
+use Rattle.fv_section.proofs.FrameWalkLemmas.{whole_within}
+use Rattle.fv_section.proofs.StreamLemmas.{from_least}
 use Rattle.fv_section.proofs.frame_walk.frames.Goals as goal
 
-pub returns-clause-only : goal.returns-clause-only
-returns-clause-only c =
-    IfOk-weaker c.frames_in.result _ _ (λ s h fs t g. one_split 0 fs s.0 t s.1 c.args.stream.now g h) c.frames_in.ensures.found
+-- a stream with a frame has bytes
+some_bytes : (fs : List FrameForm) (f : FrameForm) (more : List FrameForm) (t : ℕ) (b : List ℕ) → Splits (fs ++ f ∷ more) t b → 0 < length b
+some_bytes [] f more t b split = omega (arith, from_least 0 f more t b split)
+some_bytes (g ∷ fs) f more t b split = omega (arith, from_least 0 g (fs ++ f ∷ more) t b split)
 
-pub returns-clause-none : goal.returns-clause-none
-returns-clause-none c =
-    IfErr-weaker c.frames_in.result _ _ (λ e h ne fs t g. none_after c.args.stream.now e fs t (h ne) g) c.frames_in.ensures.first
+pub returns-in_err-push-clause-some : goal.returns-in_err-push-clause-some
+returns-in_err-push-clause-some c =
+    let p = err_from_is_err_and c.from_residual-in_err-push.result c.from_residual-in_err-push.ensures.1 in
+    let front : List FrameForm = map frame_form c.loop-frame.list.items in
+    let left = rw c.in-Some.is at c.next_frame.ensures.some in
+    let split = subst (λ fs. Splits (front ++ fs) c.loop-frame.walk.1 c.args.stream.now) left c.loop-frame.invariant.split in
+    rw p.1 (some_bytes front (frame_form c.in-Some.frame) _ c.loop-frame.walk.1 c.args.stream.now split)
 
 pub returns-clause-lies : goal.returns-clause-lies
 returns-clause-lies c =
-    IfOk-weaker c.frames_in.result _ _ (λ s h. whole_within s.0 s.1 c.args.stream.now h) c.frames_in.ensures.found
+    let split : Splits c.from_parts.result.0 c.from_parts.result.1 c.args.stream.now = search rules in
+    whole_within c.from_parts.result.0 c.from_parts.result.1 c.args.stream.now split

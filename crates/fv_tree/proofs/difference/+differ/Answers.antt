@@ -1,4 +1,4 @@
-use Rattle.std.proofs.Common.{◌≡◌, ◌≤◌, ◌<◌, ◌+◌, ◌==◌, length, sym, ap, ◌∙◌, arith}
+use Rattle.std.proofs.Common.{◌≡◌, ◌+◌, ◌==◌, sym, ap, ◌∙◌, arith}
 use Rattle.fv_tree.specs.Difference.{unless_one}
 use Rattle.fv_tree.specs.declared.difference.Word.TheVariants as words
 use Rattle.fv_tree.specs.Meaning.{files_from, sections_from}
@@ -49,11 +49,9 @@ stream_difference-section_difference-requires t c =
 
 pub stream_difference-returns-then-sections-others : goal.stream_difference-returns-then-sections-others
 stream_difference-returns-then-sections-others t c =
-    let past : length c.args.sections.now ≤ c.loop-i.i = omega arith in
-    let within : c.loop-i.i ≤ length c.args.sections.now = omega arith in
     c.differ_in-then-sections-others.ensures
     ∙ sym (sections_more c.args.sections.now c.args.others.now c.loop-i.i (unless_one (c.args.tail == c.args.other_tail) words.Tail)
-    past within c.if-sections-others.true c.loop-i.invariant)
+    (omega arith) (omega arith) c.if-sections-others.true c.loop-i.invariant)
 
 -- ---- files
 
@@ -64,8 +62,5 @@ files_difference-file_difference-requires t c =
 
 pub files_difference-returns-then-files-others : goal.files_difference-returns-then-files-others
 files_difference-returns-then-files-others t c =
-    let past : length c.args.files.now ≤ c.loop-i.i = omega arith in
-    let within : c.loop-i.i ≤ length c.args.files.now = omega arith in
-    let more : length c.args.files.now < length c.args.others.now = omega (arith, c.if-files-others.true) in
     c.differ_in-then-files-others.ensures
-    ∙ sym (files_more c.args.files.now c.args.others.now c.loop-i.i past within more c.loop-i.invariant)
+    ∙ sym (files_more c.args.files.now c.args.others.now c.loop-i.i (omega arith) (omega arith) c.if-files-others.true c.loop-i.invariant)

@@ -1,25 +1,18 @@
-use Rattle.std.proofs.Common.{◌≡◌, ◌+◌, ◌-◌, ◌*◌, List, length, take, map}
-use Rattle.fv_section.specs.Frames.{up_to_4}
+use Rattle.std.proofs.Common.{◌≡◌, ◌+◌, ◌*◌, length, take, map}
 use Rattle.fv_tree.specs.Denotes.{Pairwise, MeansFile, Stream}
-use Rattle.fv_tree.specs.Meaning.{FileMeaning}
 use Rattle.fv_tree.specs.LocatedFiles.{file_form}
 use Rattle.fv_tree.proofs.StreamLaws.{Walked}
 use Rattle.fv_tree.proofs.read.+read.Given as goal
 
-abbrev pub invariant-read_stream-loop-sections : goal.invariant-read_stream-loop-sections
-invariant-read_stream-loop-sections l = record {
-  in_fours : l.at ≡ up_to_4 l.at;
-  walked : Walked l.left l.bytes l.at l.sections.items;
-}
+abbrev pub invariant-read_stream-loop-frame : goal.invariant-read_stream-loop-frame
+invariant-read_stream-loop-frame l = Walked l.left l.bytes l.walk.1 l.walk.0 l.sections.items
 
-abbrev pub decreases-read_stream-loop-sections : goal.decreases-read_stream-loop-sections
-decreases-read_stream-loop-sections l = length l.bytes - l.at
+abbrev pub decreases-read_stream-loop-frame : goal.decreases-read_stream-loop-frame
+decreases-read_stream-loop-frame l = length l.walk.0
 
 abbrev pub invariant-read_files-loop-file : goal.invariant-read_files-loop-file
-invariant-read_files-loop-file l = record {
-  pairs : Pairwise (MeansFile (Stream l.left)) (take l.file-index (map file_form l.files)) l.views.items;
-  one : (ms : List FileMeaning) → Pairwise (MeansFile (Stream l.left)) (take l.file-index (map file_form l.files)) ms → ms ≡ l.views.items;
-}
+invariant-read_files-loop-file l =
+    Pairwise (MeansFile (Stream l.left)) (take l.file-index (map file_form l.files)) l.views.items
 
 abbrev pub decreases-read_section : goal.decreases-read_section
 decreases-read_section l = 7 * l.left

@@ -9,7 +9,8 @@ use Rattle.fv_tree.specs.FileNames.{Entry, IsIndex}
 use Rattle.fv_tree.specs.inner.NameOrders.{names_in}
 use Rattle.fv_tree.specs.LocatedFiles.{file_form}
 use Rattle.fv_tree.specs.declared.volume_files.LocatedFile.{LocatedFile}
-use Rattle.fv_tree.proofs.IndexLaws.{alone_current, alone_twins}
+use Rattle.fv_tree.proofs.IndexLaws.{no_file}
+use Rattle.fv_tree.proofs.NeighbourLaws.{apart_current, apart_twins}
 use Rattle.fv_tree.proofs.NameLaws.{top_bound}
 use Rattle.fv_tree.proofs.volume_files.current_files.Goals as goal
 
@@ -21,11 +22,11 @@ returns-in_err-check_top-clause-first c =
     let index : IsIndex (names_in fs) es =
     subst (λ (l : List LocatedFile). IsIndex (names_in (map file_form l)) es) c.as_slice.ensures.value c.in_ok-numbers.ensures.found in
     let distinct = c.are_distinct.ensures.distinct (subst IsTrue (sym c.if-not-are_distinct.false) refl) in
-    let same = ap (map file_form) c.as_slice-2.ensures.value ∙ sym (alone_current fs es index distinct) in
+    let same = ap (map file_form) c.as_slice-2.ensures.value ∙ sym (apart_current fs es index (file_form no_file) ((0, 0), 0) distinct) in
     let first =
     subst (λ (l : List FileForm). (f : FileForm) × TopElsewhere c.args.length f l
     × (c.in_err-check_top.field-0.0 ≡ outer_fault kinds.TopFile f.offset)) same c.in_err-check_top.ensures.first in
-    rw (p.1, p.2) (λ ne. inr (alone_twins fs es index distinct, first.0, first.1, first.2))
+    rw (p.1, p.2) (λ ne. inr (apart_twins fs es index (file_form no_file) ((0, 0), 0) distinct, first.0, first.1, first.2))
 
 pub returns-in_err-check_top-clause-bound : goal.returns-in_err-check_top-clause-bound
 returns-in_err-check_top-clause-bound c =
@@ -44,7 +45,7 @@ returns-clause-found c =
     subst (λ (l : List LocatedFile). IsIndex (names_in (map file_form l)) es) c.as_slice.ensures.value c.in_ok-numbers.ensures.found in
     let distinct = c.are_distinct.ensures.distinct (subst IsTrue (sym c.if-not-are_distinct.false) refl) in
     record {
-      no_twins = alone_twins fs es index distinct;
-      files_are = sym (alone_current fs es index distinct);
+      no_twins = apart_twins fs es index (file_form no_file) ((0, 0), 0) distinct;
+      files_are = sym (apart_current fs es index (file_form no_file) ((0, 0), 0) distinct);
       top = subst (TopAtEnd c.args.length) (ap (map file_form) c.as_slice-2.ensures.value) c.in_ok-check_top.ensures.found;
     }

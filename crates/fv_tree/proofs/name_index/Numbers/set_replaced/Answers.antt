@@ -1,20 +1,18 @@
-use Rattle.std.proofs.Common.{◌≡◌, ◌<◌, ◌≤◌, ◌⊎◌, ◌+◌, ℕ, Bool, List, length, map, get_or, sym, ap, ◌∙◌, arith, inl, inr, rules, true}
+use Rattle.std.proofs.Common.{◌≡◌, ◌<◌, ◌≤◌, ◌⊎◌, ◌+◌, ℕ, Bool, List, length, map, get_or, refl, sym, ap, ◌∙◌, arith, inl, inr, rules, true}
 use Rattle.std.specs.Prelude.{◌≢◌, slice_set}
 use Rattle.std.specs.List.{list_any}
 use Rattle.std.proofs.lemmas.Bool.{cases_eq, cases_lt}
 use Rattle.std.proofs.lemmas.List.{get_or_default, get_or-map, get_or-set_same, get_or-set_other, length-map, map-set, set-get_or}
-use Rattle.fv_file.specs.Attributes.{attribute_bits}
-use Rattle.fv_file.specs.declared.state.FileState.{FileState}
 use Rattle.fv_tree.specs.Files.{FileForm, is_marked, replaces}
 use Rattle.fv_tree.specs.FileNames.{Entry, IsIndex}
 use Rattle.fv_tree.specs.inner.NameOrders.{names_in}
 use Rattle.fv_tree.specs.inner.Neighbours.{mark_at}
-use Rattle.fv_tree.specs.LocatedFiles.{file_form, file_sum_by, header_len_by, state_by}
+use Rattle.fv_tree.specs.LocatedFiles.{file_form, state_by}
 use Rattle.fv_tree.specs.inner.SmallFiles.{is_noted}
 use Rattle.fv_tree.specs.declared.volume_files.LocatedFile.{LocatedFile}
 use Rattle.fv_tree.specs.declared.volume_files.Mark.{Mark}
 use Rattle.fv_tree.proofs.IndexLaws.{no_file}
-use Rattle.fv_tree.proofs.NeighbourLaws.{number_within, place_of, replaced_back}
+use Rattle.fv_tree.proofs.NeighbourLaws.{entry_of, file_within, replaced_back}
 use Rattle.fv_tree.proofs.name_index.Numbers.set_replaced.Goals as goal
 
 -- one of the files replaces the file of that number
@@ -41,22 +39,7 @@ with_mark s m = record {
 
 -- the form of a file whose mark is m, where the mark of the file s has the state of m
 marked_form : (s : LocatedFile) (m : Mark) → state_by m ≡ state_by s.mark → file_form (with_mark s m) ≡ file_form s
-marked_form s m same = ap (λ (state : FileState). with_state state) same where
-  with_state : FileState → FileForm
-  with_state state = record {
-    offset = s.offset;
-    head = record {
-      name = s.name;
-      kind = s.kind;
-      attributes = s.attributes;
-      size = header_len_by (attribute_bits s.attributes) + length s.payload.now;
-      header_len = header_len_by (attribute_bits s.attributes);
-      header_sum = s.header_sum;
-      file_sum = file_sum_by (attribute_bits s.attributes) s.payload.now;
-      state = state;
-    };
-    payload = s.payload.now;
-  }
+marked_form s m same = rw same refl
 
 noted_same : (files : List LocatedFile) (n : ℕ) (m : Mark) → n < length files → state_by m ≡ state_by (get_or files n no_file).mark
     → map file_form (slice_set files n (with_mark (get_or files n no_file) m)) ≡ map file_form files
@@ -92,31 +75,13 @@ noted_more fs es files place n m inside l number is old s d e p below = go (case
 
 pub bounds-files-number : goal.bounds-files-number
 bounds-files-number c =
-    let fs : List FileForm = map file_form c.args.files.now in
-    let within = number_within fs c.args.self.now.sorted.items c.requires.index (file_form no_file) c.index.result.now
-    c.loop-place.place (omega arith) in
-    omega (
-      arith,
-      within,
-      ap (λ (x : Entry). x.1) c.index.ensures,
-      ap length c.loop-place.invariant.same,
-      length-map c.loop-place.files file_form,
-      length-map c.args.files.now file_form,
-    )
+    file_within (map file_form c.args.files.now) c.args.self.now.sorted.items c.requires.index c.loop-place.files c.loop-place.invariant.same
+    c.index.result.now c.loop-place.place (omega arith) c.index.ensures
 
 pub bounds-files-number-in-loop-place : goal.bounds-files-number-in-loop-place
 bounds-files-number-in-loop-place c =
-    let fs : List FileForm = map file_form c.args.files.now in
-    let within = number_within fs c.args.self.now.sorted.items c.requires.index (file_form no_file) c.index.result.now
-    c.loop-place.place (omega arith) in
-    omega (
-      arith,
-      within,
-      ap (λ (x : Entry). x.1) c.index.ensures,
-      ap length c.loop-place.invariant.same,
-      length-map c.loop-place.files file_form,
-      length-map c.args.files.now file_form,
-    )
+    file_within (map file_form c.args.files.now) c.args.self.now.sorted.items c.requires.index c.loop-place.files c.loop-place.invariant.same
+    c.index.result.now c.loop-place.place (omega arith) c.index.ensures
 
 -- only a marked file is replaced
 marked_so : (fs : List FileForm) (es : List Entry) → IsIndex (names_in fs) es → (files : List LocatedFile) (place n : ℕ) (e : Entry)
@@ -136,17 +101,8 @@ with_replaced-requires c = λ yes.
     let es : List Entry = c.args.self.now.sorted.items in
     let e : Entry = c.index.result.now in
     let inside : c.loop-place.place < length es = omega arith in
-    let within = number_within fs es c.requires.index (file_form no_file) e c.loop-place.place inside in
     let number : c.index.result.now.1 ≡ (get_or es c.loop-place.place e).1 = ap (λ (x : Entry). x.1) c.index.ensures in
-    let l : c.index.result.now.1 < length c.loop-place.files =
-    omega (
-      arith,
-      within,
-      number,
-      ap length c.loop-place.invariant.same,
-      length-map c.loop-place.files file_form,
-      length-map c.args.files.now file_form,
-    ) in
+    let l = file_within fs es c.requires.index c.loop-place.files c.loop-place.invariant.same e c.loop-place.place inside c.index.ensures in
     marked_so fs es c.requires.index c.loop-place.files c.loop-place.place c.index.result.now.1 e c.is_replaced-replaced.result
     c.loop-place.invariant.same inside l number
     (c.is_replaced-replaced.ensures (file_form no_file) e
@@ -164,16 +120,7 @@ loop-place-preserved c =
     let inside : place < length es = omega arith in
     let number : (e : Entry) → n ≡ (get_or es place e).1 = λ e.
     ap (λ (x : Entry). x.1) (c.index.ensures ∙ get_or_default es place c.index.result.now e inside) in
-    let within = number_within fs es c.requires.index (file_form no_file) c.index.result.now place inside in
-    let l : n < length files =
-    omega (
-      arith,
-      within,
-      number c.index.result.now,
-      ap length c.loop-place.invariant.same,
-      length-map files file_form,
-      length-map c.args.files.now file_form,
-    ) in
+    let l = file_within fs es c.requires.index files c.loop-place.invariant.same c.index.result.now place inside c.index.ensures in
     record {
       same = noted_same files n m l c.with_replaced.ensures.same ∙ c.loop-place.invariant.same;
       noted = noted_more fs es files place n m inside l number
@@ -191,8 +138,8 @@ returns-clause-replaced c = λ k s l.
     let e : Entry = ((0, 0), 0) in
     let same : map file_form files ≡ fs = c.loop-place.invariant.same in
     let inside : k < length fs = omega (arith, l, ap length same, length-map files file_form) in
-    let r = place_of fs es c.requires.index d e k inside in
-    let number : (get_or es r.0 e).1 ≡ k = ap (λ (x : Entry). x.1) r.2 in
+    let r = entry_of fs es c.requires.index d e k inside in
+    let number : (get_or es r.0 e).1 ≡ k = r.2 in
     let at : get_or fs k d ≡ file_form (get_or files k s) =
     ap (λ (gs : List FileForm). get_or gs k d) (sym same) ∙ get_or-map file_form files k s d l in
     let noted = c.loop-place.invariant.noted s d e r.0 (omega (arith, r.1)) in

@@ -1,0 +1,142 @@
+-- Where the checks of a cell hold, the bytes begin with the cell that State and the header name. A file lies within them with its filler,
+-- since their number is a multiple of 8. A header that was never finished lies within them by its one check.
+use Rattle.std.proofs.Common.{◌≡◌, ◌≤◌, ◌<◌, ℕ, ◌+◌, ◌-◌, ◌*◌, ◌/◌, ◌%◌, List, length, take, drop, inl, inr, refl, sym, ap, ◌∙◌}
+use Rattle.std.proofs.Common.{subst, arith, Bool, true, false, length-drop}
+use Rattle.std.specs.Prelude.{◌==◌, ◌⊎◌, not, nat_le, slice_index, Option, None, Some, if◌then◌else◌}
+use Rattle.std.proofs.lemmas.Bool.{leb-true, eqb-true, eq-eqb}
+use Rattle.std.proofs.lemmas.List.{length-take-le, get_or-take}
+use Rattle.std.proofs.Math.Seq.{take-add}
+use Rattle.fv_base.specs.Checks.{AllHold, Check}
+use Rattle.fv_base.specs.Value.{up_to_8}
+use Rattle.fv_base.specs.inner.Verdicts.{first_fault}
+use Rattle.fv_base.specs.declared.fault.Fault.{Fault}
+use Rattle.fv_base.specs.declared.flash.FileSystem.{FileSystem}
+use Rattle.fv_base.specs.declared.flash.Polarity.{Polarity}
+use Rattle.fv_base.proofs.Laws.{all_hold, and_split}
+use Rattle.fv_file.specs.Attributes.{is_large}
+use Rattle.fv_file.specs.Cells.{CellForm, Valid, Pad, Dead, Stub, offset_of, cell_len, is_free, IsFilled, IsCell}
+use Rattle.fv_file.specs.FileChecks.{file_header_len_at, file_size_at, payload_at, state_checks, cell_checks}
+use Rattle.fv_file.specs.Files.{attributes_at, file_header_len, head_in, pad_kind}
+use Rattle.fv_file.specs.inner.CellVerdicts.{cell_in, cell_of}
+use Rattle.fv_file.specs.inner.StateSorts as sorts
+use Rattle.fv_file.specs.inner.StateSorts.{StateSort, sort_of, sort_checks}
+use Rattle.fv_file.specs.States.{StateOf, bits_of, state_of, is_alive}
+use Rattle.fv_file.specs.declared.state.FileState.{FileState}
+use Rattle.fv_file.specs.declared.state.FileState.TheVariants as states
+use Rattle.fv_file.proofs.FileLemmas.{header_least, FileAt, file_at}
+use Rattle.fv_file.proofs.SortLemmas.{StatesOf, sorted}
+use Rattle.fv_file.proofs.StateLemmas.{state_read}
+
+-- the bytes begin with a cell that is not free
+pub record CellStandsAt (system : FileSystem) (polarity : Polarity) (at : ℕ) (c : CellForm) (r : List ℕ) : Type 0 where
+  pub not_free : is_free c ≡ false
+  pub place : offset_of c ≡ at
+  pub within : cell_len c ≤ length r
+  pub some : 0 < cell_len c
+  pub multiple : cell_len c % 8 ≡ 0
+  pub cell : IsCell system polarity c (take (cell_len c) r)
+
+-- where the bytes begin with a file, they begin with a cell that has the bytes of the file and its filler
+filled_stands : (s : FileSystem) (p : Polarity) (st : FileState) (at : ℕ) (r : List ℕ) (c : CellForm) → length r % 8 ≡ 0 → FileAt s p st r
+    → is_free c ≡ false → offset_of c ≡ at → cell_len c ≡ up_to_8 (file_size_at r)
+    → (IsFilled s p (head_in st r) (payload_at r) (take (cell_len c) r) → cell_len c ≡ length (take (cell_len c) r)
+    → IsCell s p c (take (cell_len c) r)) → CellStandsAt s p at c r
+filled_stands s p st at r c in_eights f used place span cell =
+    let n : ℕ = file_size_at r in
+    let m : ℕ = cell_len c in
+    let above : n ≤ m = omega (arith, span) in
+    let multiple : m % 8 ≡ 0 = ap (λ (k : ℕ). k % 8) span ∙ eighth n in
+    let within : m ≤ length r = subst (λ (k : ℕ). k ≤ length r) (sym span) (fits n (length r) f.within in_eights) in
+    let long : length (take m r) ≡ m = length-take-le m r within in
+    let behind : length (take (m - n) (drop n r)) ≡ m - n = length-take-le (m - n) (drop n r) (omega (arith, length-drop n r, within)) in
+    let filled : IsFilled s p (head_in st r) (payload_at r) (take m r) = record {
+      file = take n r;
+      filler = take (m - n) (drop n r);
+      text = ap (λ (k : ℕ). take k r) (parts m n above) ∙ take-add n (m - n) r;
+      is_file = f.is_file;
+      short = omega (arith, behind, span);
+      multiple = ap (λ (k : ℕ). k % 8) long ∙ multiple;
+    } in
+    record {
+      not_free = used;
+      place = place;
+      within = within;
+      some = omega (arith, f.least, header_least (is_large (attributes_at r)), above);
+      multiple = multiple;
+      cell = cell filled (sym long);
+    }
+  where
+    parts : (m k : ℕ) → k ≤ m → m ≡ k + (m - k)
+    parts m k l = omega arith
+
+    eighth : (n : ℕ) → (n + 7) / 8 * 8 % 8 ≡ 0
+    eighth n = omega arith
+
+    fits : (n m : ℕ) → n ≤ m → m % 8 ≡ 0 → (n + 7) / 8 * 8 ≤ m
+    fits n m l e = omega arith
+
+stub_stands : (s : FileSystem) (p : Polarity) (at : ℕ) (r : List ℕ) → file_header_len_at r ≤ length r
+    → (StateOf (slice_index r 23) p states.Construction ⊎ StateOf (slice_index r 23) p states.HeaderInvalid)
+    → CellStandsAt s p at (Stub at (file_header_len_at r)) r
+stub_stands s p at r within state =
+    let n : ℕ = file_header_len_at r in
+    let low : 24 ≤ n = header_least (is_large (attributes_at r)) in
+    let long : length (take n r) ≡ n = length-take-le n r within in
+    let e19 : slice_index (take n r) 19 ≡ slice_index r 19 = get_or-take n r 19 0 (omega (arith, low)) in
+    let e23 : slice_index (take n r) 23 ≡ slice_index r 23 = get_or-take n r 23 0 (omega (arith, low)) in
+    let shown : StateOf (slice_index (take n r) 23) p states.Construction ⊎ StateOf (slice_index (take n r) 23) p states.HeaderInvalid =
+    subst (λ (k : ℕ). StateOf k p states.Construction ⊎ StateOf k p states.HeaderInvalid) (sym e23) state in
+    record {
+      not_free = refl;
+      place = refl;
+      within = within;
+      some = omega (arith, low);
+      multiple = eighth (is_large (attributes_at r));
+      cell = (shown, long ∙ ap (λ (k : ℕ). file_header_len (is_large k)) (sym e19), sym long);
+    }
+  where
+    eighth : (large : Bool) → file_header_len large % 8 ≡ 0
+    eighth false = refl
+    eighth true = refl
+
+-- the cell of a state that the bytes show, by its sort
+sort_stands : (s : FileSystem) (p : Polarity) (st : FileState) (at : ℕ) (r : List ℕ) → length r % 8 ≡ 0 → 24 ≤ length r
+    → StateOf (slice_index r 23) p st → not (bits_of p (slice_index r 23) == 0) ≡ true
+    → (k : StateSort) → StatesOf k st → AllHold (sort_checks k s (is_alive st) at r)
+    → CellStandsAt s p at (cell_of k at (head_in st r) (payload_at r)) r
+sort_stands s p st at r in_eights long state used sorts.Erased is all =
+    let none : bits_of p (slice_index r 23) ≡ 0 = subst (λ (t : FileState). StateOf (slice_index r 23) p t) is state in
+    cc (used, eq-eqb _ 0 none)
+sort_stands s p st at r in_eights long state used sorts.Unfinished (inl is) all =
+    stub_stands s p at r (leb-true _ _ all.0) (inl (subst (λ (t : FileState). StateOf (slice_index r 23) p t) is state))
+sort_stands s p st at r in_eights long state used sorts.Unfinished (inr is) all =
+    stub_stands s p at r (leb-true _ _ all.0) (inr (subst (λ (t : FileState). StateOf (slice_index r 23) p t) is state))
+sort_stands s p st at r in_eights long state used sorts.Dead is all =
+    filled_stands s p st at r (Dead at (up_to_8 (file_size_at r))) in_eights (file_at s p st at r long state all) refl refl refl
+    (λ filled len. (head_in st r, payload_at r, filled, is, len))
+sort_stands s p st at r in_eights long state used sorts.Valid alive all = kind (slice_index r 18 == pad_kind) refl where
+  file : FileAt s p st r
+  file = file_at s p st at r long state all
+
+  kind : (t : Bool) → (slice_index r 18 == pad_kind) ≡ t
+      → CellStandsAt s p at (if t then Pad at (head_in st r) (payload_at r) else Valid at (head_in st r) (payload_at r)) r
+  kind true e =
+      filled_stands s p st at r (Pad at (head_in st r) (payload_at r)) in_eights file refl refl refl
+      (λ filled len. (filled, alive, eqb-true _ _ e))
+  kind false e =
+      filled_stands s p st at r (Valid at (head_in st r) (payload_at r)) in_eights file refl refl refl
+      (λ filled len. (filled, alive, file.sound alive e))
+
+pub cell_stands : (s : FileSystem) (p : Polarity) (at : ℕ) (r : List ℕ) → length r % 8 ≡ 0 → first_fault (cell_checks s p at r) ≡ None
+    → CellStandsAt s p at (cell_in (state_of p (slice_index r 23)) at r) r
+cell_stands s p at r in_eights none =
+    let all = all_hold (cell_checks s p at r) none in
+    let front = and_split (nat_le 24 (length r)) (not (bits_of p (slice_index r 23) == 0)) all.0 in
+    by_state (state_of p (slice_index r 23)) refl (leb-true 24 (length r) front.0) front.1 all.1
+  where
+    by_state : (o : Option FileState) → state_of p (slice_index r 23) ≡ o → 24 ≤ length r
+        → not (bits_of p (slice_index r 23) == 0) ≡ true → AllHold (state_checks o s at r) → CellStandsAt s p at (cell_in o at r) r
+    by_state None e long used all = let failed = all.0 in cc
+    by_state (Some st) e long used all =
+        sort_stands s p st at r in_eights long (state_read p (slice_index r 23) st e) used (sort_of st) (sorted st).states
+        (subst (λ (cs : List (Check Fault)). AllHold cs) ((sorted st).checks s at r) all)

@@ -1,0 +1,77 @@
+-- What a cell is made of: a file with its filler ends at a multiple of 8, its header and data make up its size, and no cell is empty.
+use Rattle.std.proofs.Common.{◌≡◌, ◌≤◌, ◌<◌, ◌+◌, ◌*◌, ◌/◌, ◌%◌, ℕ, List, length, sym, ap, ◌∙◌, arith, true, length-append}
+use Rattle.std.specs.Prelude.{slice_index}
+use Rattle.fv_base.specs.Flash.{AllAre, erased_byte}
+use Rattle.fv_base.specs.Value.{up_to_8}
+use Rattle.fv_base.specs.declared.flash.FileSystem.{FileSystem}
+use Rattle.fv_base.specs.declared.flash.Polarity.{Polarity}
+use Rattle.fv_file.specs.Attributes.{is_large}
+use Rattle.fv_file.specs.Cells.{CellForm, Valid, Pad, Dead, Stub, Free, offset_of, cell_len, is_free, IsFilled, IsCell, IsMadeUp}
+use Rattle.fv_file.specs.declared.head.FileHead.{FileHead}
+use Rattle.fv_file.proofs.FileLemmas.{header_least}
+use Rattle.fv_file.proofs.TilingLemmas.{NotEmpty}
+
+-- ---- the number of a cell's bytes
+
+pub filled_span : (s : FileSystem) (p : Polarity) (head : FileHead) (payload b : List ℕ) → IsFilled s p head payload b
+    → up_to_8 head.size ≡ length b
+filled_span s p head payload b filled =
+    let n : length b ≡ length filled.file + length filled.filler = ap length filled.text ∙ length-append filled.file filled.filler in
+    rounded head.size (length filled.filler) (length b) (n ∙ ap (λ (k : ℕ). k + length filled.filler) (sym filled.is_file.size))
+    filled.short filled.multiple
+  where
+    rounded : (n k m : ℕ) → m ≡ n + k → k < 8 → m % 8 ≡ 0 → (n + 7) / 8 * 8 ≡ m
+    rounded n k m e l z = omega arith
+
+pub cell_span : (s : FileSystem) (p : Polarity) (c : CellForm) (u : List ℕ) → IsCell s p c u → cell_len c ≡ length u
+cell_span s p (Valid at head payload) u is = filled_span s p head payload u is.0
+cell_span s p (Pad at head payload) u is = filled_span s p head payload u is.0
+cell_span s p (Dead at len) u is = is.4
+cell_span s p (Stub at len) u is = is.2
+cell_span s p (Free at len) u is = is.2
+
+-- a file has the bytes of its header at least
+pub file_least : (s : FileSystem) (p : Polarity) (head : FileHead) (payload b : List ℕ) → IsFilled s p head payload b → 24 ≤ length b
+file_least s p head payload b filled =
+    let is = filled.is_file in
+    omega (
+      arith,
+      ap length filled.text,
+      length-append filled.file filled.filler,
+      ap length is.text,
+      length-append is.header payload,
+      is.is_header.whole,
+      header_least (is_large (slice_index is.header 19)),
+    )
+
+pub not_empty : (s : FileSystem) (p : Polarity) → NotEmpty s p
+not_empty s p (Valid at head payload) u is = omega (arith, file_least s p head payload u is.0)
+not_empty s p (Pad at head payload) u is = omega (arith, file_least s p head payload u is.0)
+not_empty s p (Dead at len) u is = omega (arith, file_least s p is.0 is.1 u is.2)
+not_empty s p (Stub at len) u is = omega (arith, header_least (is_large (slice_index u 19)), is.1)
+not_empty s p (Free at len) u is = omega (arith, is.0, is.2)
+
+-- ---- the parts of a cell
+
+file_made_up : (s : FileSystem) (p : Polarity) (head : FileHead) (payload b : List ℕ) → IsFilled s p head payload b
+    → head.header_len + length payload ≡ head.size
+file_made_up s p head payload b filled =
+    let is = filled.is_file in
+    let len : head.header_len ≡ length is.header = ap (λ (h : FileHead). h.header_len) is.is_header.fields ∙ sym is.is_header.whole in
+    omega (arith, len, is.size, ap length is.text, length-append is.header payload)
+
+pub made_up : (s : FileSystem) (p : Polarity) (c : CellForm) (u : List ℕ) → IsCell s p c u → IsMadeUp c
+made_up s p (Valid at head payload) u is = file_made_up s p head payload u is.0
+made_up s p (Pad at head payload) u is = file_made_up s p head payload u is.0
+made_up s p (Dead at len) u is = tt
+made_up s p (Stub at len) u is = tt
+made_up s p (Free at len) u is = tt
+
+-- a free cell
+pub free_all : (s : FileSystem) (p : Polarity) (c : CellForm) (u : List ℕ) → IsCell s p c u → is_free c ≡ true
+    → (c ≡ Free (offset_of c) (length u)) × AllAre (erased_byte p) u
+free_all s p (Valid at head payload) u is f = cc
+free_all s p (Pad at head payload) u is f = cc
+free_all s p (Dead at len) u is f = cc
+free_all s p (Stub at len) u is f = cc
+free_all s p (Free at len) u is f = (ap (λ (k : ℕ). Free at k) is.2, is.1)

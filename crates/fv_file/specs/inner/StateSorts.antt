@@ -1,0 +1,31 @@
+-- The four sorts of states: what a cell is by the state of its header.
+use Rattle.std.specs.Prelude.{ℕ, Bool, List, []}
+use Rattle.fv_base.specs.Checks.{Check}
+use Rattle.fv_base.specs.declared.fault.Fault.{Fault}
+use Rattle.fv_base.specs.declared.flash.FileSystem.{FileSystem}
+use Rattle.fv_file.specs.FileChecks.{file_checks, stub_checks}
+use Rattle.fv_file.specs.declared.state.FileState.{FileState}
+use Rattle.fv_file.specs.declared.state.FileState.TheVariants as states
+
+-- nothing was written; the header was never finished; the file was deleted, or its data were never finished; the file
+-- is valid
+pub data StateSort : Type 0 where
+  Erased : StateSort
+  Unfinished : StateSort
+  Dead : StateSort
+  Valid : StateSort
+
+abbrev pub sort_of : FileState → StateSort
+sort_of states.Free = Erased
+sort_of states.Construction = Unfinished
+sort_of states.HeaderInvalid = Unfinished
+sort_of states.HeaderValid = Dead
+sort_of states.Deleted = Dead
+sort_of states.DataValid = Valid
+sort_of states.Marked = Valid
+
+-- the checks of a cell by the sort of its state; a file of it is valid or not
+abbrev pub sort_checks : StateSort → FileSystem → Bool → ℕ → List ℕ → List (Check Fault)
+sort_checks Erased system alive p r = []
+sort_checks Unfinished system alive p r = stub_checks p r
+sort_checks _ system alive p r = file_checks system alive p r

@@ -1,0 +1,178 @@
+-- Where the header of a volume is, and that it is the only one.
+-- 1. Its length and its fields are read at their offsets (front_within, kept_fields, ext_there).
+-- 2. So bytes begin with one volume at most (one_front), and which one depends on the volume's own bytes (front_same).
+-- 3. The header and the first file are in the volume (front_lies, first_lies).
+-- 4. There is no extended header exactly if ExtHeaderOffset is 0 (bare_offset, offset_bare, bare_first).
+use Rattle.std.proofs.Common.{◌≡◌, ◌≤◌, ℕ, ◌+◌, ◌-◌, ◌%◌, List, length, take, refl, sym, ap, ◌∙◌, subst, arith}
+use Rattle.std.proofs.Common.{true}
+use Rattle.std.specs.Prelude.{◌==◌, Option, None, Some, Result, Ok, slice_index}
+use Rattle.std.proofs.lemmas.List.{length-take-le}
+use Rattle.std.proofs.lemmas.Bool.{eqb-true, eq-eqb}
+use Rattle.fv_base.specs.Checks.{AllHold}
+use Rattle.fv_base.specs.inner.Verdicts.{first_fault}
+use Rattle.fv_base.specs.Limits.{volume_limit, header_limit, ext_limit}
+use Rattle.fv_base.specs.Value.{le, field, le_at}
+use Rattle.fv_base.specs.declared.fault.Fault.{Fault}
+use Rattle.fv_base.specs.declared.flash.FileSystem.{FileSystem}
+use Rattle.fv_base.proofs.Laws.{all_hold, field-take, take-take_le}
+use Rattle.fv_head.specs.Ext.{Extension, IsExt}
+use Rattle.fv_head.specs.Head.{HasExt, HeadFields, IsHead, BeginsVolume}
+use Rattle.fv_head.specs.HeadChecks.{head_checks}
+use Rattle.fv_head.specs.HeadChecks.{blocks_at, file_system_at, header_len_at, volume_len_at, ext_offset_at, ext_size_at}
+use Rattle.fv_head.specs.inner.HeadVerdicts.{extent_at}
+use Rattle.fv_head.specs.Pairs.{pairs_of}
+use Rattle.fv_head.specs.declared.extent.Extent.{Extent}
+use Rattle.fv_head.proofs.ExtLemmas.{stands, read_there, placed, one_has_ext, ext_same}
+use Rattle.fv_head.proofs.HeadCheckLemmas.{extent_ok, fields_are, fields_of, front_fields, front_only, verdict_ok}
+
+-- where the header of a volume lies
+pub record Within (b : List ℕ) (e : Extent) : Type 0 where
+  pub at : e.header_len ≡ header_len_at b
+  pub least : 64 ≤ e.header_len
+  pub multiple : e.header_len % 8 ≡ 0
+  pub within : e.header_len ≤ length b
+
+pub front_within : (b : List ℕ) (h : HeadFields) (e : Extent) → BeginsVolume h e b → Within b e
+front_within b h e f =
+    let len : length (take e.header_len b) ≡ e.header_len = length-take-le e.header_len b f.long_enough in
+    let least : 64 ≤ e.header_len = rw (← len) f.head.least in
+    record {
+      at = sym (ap le (sym (field-take 48 2 e.header_len b (omega arith))) ∙ f.head.header_length ∙ len);
+      least = least;
+      multiple = rw len at f.head.multiple;
+      within = f.long_enough;
+    }
+
+-- what is kept of a header, with the extended header that is there, are its fields
+pub kept_fields : (b : List ℕ) (e : Extent) (z : List ℕ) (l a r : ℕ) (bs : List (ℕ × ℕ)) (x : Option Extension)
+    → (h : HeadFields) × BeginsVolume h e b → z ≡ field 0 16 b
+    → l ≡ volume_len_at b → a ≡ le_at 44 4 b → r ≡ slice_index b 54 → bs ≡ pairs_of (field 56 (e.header_len - 64) b) → HasExt x e b
+    → (let made : HeadFields =
+    record { zero_vector = z; file_system = e.file_system; length = l; attributes = a; reserved = r; blocks = bs; ext = x } in
+    BeginsVolume made e b)
+kept_fields b e z l a r bs x found p q s t u ext =
+    let front = found.1 in
+    let within = front_within b found.0 e front in
+    let made : HeadFields =
+    record { zero_vector = z; file_system = e.file_system; length = l; attributes = a; reserved = r; blocks = bs; ext = x } in
+    let exts : found.0.ext ≡ x = one_has_ext found.0.ext x e b within.least front.ext ext in
+    let same : fields_of e.file_system found.0.ext b ≡ made =
+    fields_are _ _ _ _ _ _ _ (fields_of e.file_system found.0.ext b) (sym p) refl (sym q) (sym s) (sym t)
+    (ap (λ (n : ℕ). blocks_at n b) (sym within.at) ∙ sym u) exts in
+    subst (λ (h : HeadFields). BeginsVolume h e b) (front_fields b found.0 e front ∙ same) front
+
+-- the extended header that ExtHeaderOffset names
+pub record ExtThere (e : Extent) (b : List ℕ) : Type 0 where
+  pub header : ext_offset_at b + 20 ≤ length b
+  pub within : ext_offset_at b + ext_size_at b ≤ length b
+  pub least : 20 ≤ ext_size_at b
+  pub most : ext_size_at b ≤ ext_limit
+  pub size : le_at 16 4 (field (ext_offset_at b) (ext_size_at b) b) ≡ ext_size_at b
+  pub read : (x : Extension) → IsExt x (field (ext_offset_at b) (ext_size_at b) b) → HasExt (Some x) e b
+
+pub ext_there : {b : List ℕ} {e : Extent} {offset : ℕ} → ((h : HeadFields) × BeginsVolume h e b) → offset ≡ ext_offset_at b
+    → (offset ≡ 0 → ⊥)
+    → ExtThere e b
+ext_there {b} {e} {offset} found at some =
+    let front = found.1 in
+    let s = stands found.0.ext e b front.ext (λ none. some (at ∙ none)) in
+    record {
+      header = omega (arith, s.least, s.within, front.whole);
+      within = omega (arith, s.within, front.whole);
+      least = s.least;
+      most = s.most;
+      size = s.size;
+      read = λ x is. read_there x e b _ s front.whole refl is;
+    }
+
+-- bytes begin with one volume at most
+pub one_front : (b : List ℕ) (h k : HeadFields) (e x : Extent) → BeginsVolume h e b → BeginsVolume k x b → (h ≡ k) × (e ≡ x)
+one_front b h k e x front other =
+    let both : (let A : Type 0 = Result Extent Fault in ◌≡◌ {A = A} (Ok e) (Ok x)) =
+    sym (front_only b h e front) ∙ front_only b k x other in
+    let extents : e ≡ x = cc in
+    let here : BeginsVolume k e b = subst (λ (y : Extent). BeginsVolume k y b) (sym extents) other in
+    let exts : h.ext ≡ k.ext = one_has_ext h.ext k.ext e b (front_within b h e front).least front.ext here.ext in
+    (front_fields b h e front ∙ ap (λ (y : Option Extension). fields_of e.file_system y b) exts ∙ sym (front_fields b k e here), extents)
+
+-- ---- laws for the crates above
+
+-- the checks of the header of a volume hold
+pub front_holds : (b : List ℕ) (h : HeadFields) (e : Extent) → BeginsVolume h e b → AllHold (head_checks b)
+front_holds b h e front = all_hold (head_checks b) (verdict_ok (first_fault (head_checks b)) b e (front_only b h e front)).0
+
+-- its extent is what the header says
+pub front_extent : (b : List ℕ) (h : HeadFields) (e : Extent) → BeginsVolume h e b → (fs : FileSystem) × (extent_at fs b ≡ e)
+front_extent b h e front =
+    let v = verdict_ok (first_fault (head_checks b)) b e (front_only b h e front) in
+    let x = extent_ok (file_system_at b) _ b e v.1 in
+    (x.0, x.2)
+
+-- the header lies in the volume, and the volume is within the limit
+pub record Lies (e : Extent) : Type 0 where
+  pub least : 64 ≤ e.header_len
+  pub most : e.header_len ≤ header_limit
+  pub within : e.header_len ≤ e.length
+  pub limit : e.length ≤ volume_limit
+
+pub front_lies : (b : List ℕ) (h : HeadFields) (e : Extent) → BeginsVolume h e b → Lies e
+front_lies b h e f =
+    let len : length (take e.header_len b) ≡ e.header_len = length-take-le e.header_len b f.long_enough in
+    record {
+      least = rw (← len) f.head.least;
+      most = rw (← len) f.head.most;
+      within = rw (f.length_is, ← len) f.head.volume_least;
+      limit = rw f.length_is f.head.volume_most;
+    }
+
+-- the first file begins at a multiple of 8 in the volume, whose length is a multiple of 8
+pub first_lies : (b : List ℕ) (h : HeadFields) (e : Extent) → BeginsVolume h e b
+    → (e.first % 8 ≡ 0) × (e.first ≤ e.length) × (e.length % 8 ≡ 0)
+first_lies b h e f =
+    by h.ext f.ext (front_within b h e f).multiple (front_lies b h e f).within (ap (λ (n : ℕ). n % 8) f.length_is ∙ f.head.volume_multiple)
+  where
+    by : (x : Option Extension) → HasExt x e b → e.header_len % 8 ≡ 0 → e.header_len ≤ e.length → e.length % 8 ≡ 0
+        → (e.first % 8 ≡ 0) × (e.first ≤ e.length) × (e.length % 8 ≡ 0)
+    by None (offset, is) multiple within whole = (omega (arith, is, multiple), omega (arith, is, within), whole)
+    by (Some x) (before, part, behind, text, at, low, high, ext, is) multiple within whole =
+        (omega (arith, is), omega (arith, is, high, whole), whole)
+
+-- a volume is a matter of its own bytes
+pub front_same : (b c : List ℕ) (h : HeadFields) (e : Extent) → BeginsVolume h e b → e.length ≤ length c → take e.length c ≡ take e.length b
+    → BeginsVolume h e c
+front_same b c h e f long same =
+    let lies = front_lies b h e f in
+    let first : take e.header_len c ≡ take e.header_len b =
+    sym (take-take_le e.header_len e.length c lies.within) ∙ ap (take e.header_len) same
+    ∙ take-take_le e.header_len e.length b lies.within in
+    record {
+      head = subst (IsHead h) (sym first) f.head;
+      long_enough = omega (arith, lies.within, long);
+      whole = long;
+      ext = ext_same h.ext e b c lies.least lies.within f.ext long same;
+      length_is = f.length_is;
+      file_system = f.file_system;
+      polarity = f.polarity;
+    }
+
+-- ---- whether there is an extended header
+
+none_offset : (x : Option Extension) (e : Extent) (b : List ℕ) → HasExt x e b → x ≡ None → (ext_offset_at b ≡ 0) × (e.first ≡ e.header_len)
+none_offset None e b has is = has
+none_offset (Some x) e b has is = cc
+
+offset_none : (x : Option Extension) (e : Extent) (b : List ℕ) → 64 ≤ e.header_len → HasExt x e b → ext_offset_at b ≡ 0 → x ≡ None
+offset_none None e b least has zero = refl
+offset_none (Some x) e b least has zero = absurd (omega (arith, least, zero, (placed x e b has).behind_header))
+
+-- ExtHeaderOffset is 0 where there is none
+pub bare_offset : (b : List ℕ) (h : HeadFields) (e : Extent) → BeginsVolume h e b → h.ext ≡ None → (ext_offset_at b == 0) ≡ true
+bare_offset b h e front bare = eq-eqb _ _ (none_offset h.ext e b front.ext bare).0
+
+-- and there is none where it is 0
+pub offset_bare : (b : List ℕ) (h : HeadFields) (e : Extent) → BeginsVolume h e b → (ext_offset_at b == 0) ≡ true → h.ext ≡ None
+offset_bare b h e front zero = offset_none h.ext e b (front_within b h e front).least front.ext (eqb-true _ _ zero)
+
+-- without one, the first file is after the header
+pub bare_first : (b : List ℕ) (h : HeadFields) (e : Extent) → BeginsVolume h e b → h.ext ≡ None → e.first ≡ e.header_len
+bare_first b h e front bare = (none_offset h.ext e b front.ext bare).1

@@ -1,0 +1,62 @@
+use Rattle.std.proofs.Common.{◌++◌, ◌∷◌, ◌-◌, [], length, length-append, refl, arith}
+use Rattle.std.proofs.lemmas.Result.{err_from_is_err_and}
+use Rattle.fv_section.proofs.FrameLemmas.{size_least}
+use Rattle.fv_section.proofs.FrameWalkLemmas.{first_here, stands_within, step, whole_of}
+use Rattle.fv_section.proofs.StreamLaws.{tail_small}
+use Rattle.fv_section.specs.Frames.{FrameForm}
+use Rattle.fv_section.specs.FrameForms.{frame_form}
+use Rattle.fv_section.proofs.frame_walk.stream_size.Goals as goal
+
+pub loop-frame-init : goal.loop-frame-init
+loop-frame-init c = record { frames = ([], (refl, omega arith), refl); within = omega arith; few = omega arith }
+
+pub end_of-end-requires : goal.end_of-end-requires
+end_of-end-requires c =
+    omega (arith, stands_within (frame_form c.in-Some.frame) c.args.stream.now _ (rw c.in-Some.is at c.in_ok-frame.ensures.found))
+
+pub loop-frame-preserved : goal.loop-frame-preserved
+loop-frame-preserved c =
+    let f : FrameForm = frame_form c.in-Some.frame in
+    let stands = rw c.in-Some.is at c.in_ok-frame.ensures.found in
+    let w = c.loop-frame.invariant.frames in
+    let next = c.end_of-end.ensures in
+    record {
+      frames = (
+        w.0 ++ f ∷ [],
+        step c.args.stream.now w.0 f _ c.loop-frame.end c.up_to_4.result c.end_of-end.result w.1 c.up_to_4.ensures stands next,
+        omega (arith, length-append w.0 (f ∷ []), w.2),
+      );
+      within = omega (arith, next, stands_within f c.args.stream.now c.up_to_4.result stands);
+      few = omega (arith, c.loop-frame.invariant.few, next, stands.offset, c.up_to_4.ensures, size_least f);
+    }
+
+pub loop-frame-smaller : goal.loop-frame-smaller
+loop-frame-smaller c =
+    let f : FrameForm = frame_form c.in-Some.frame in
+    let stands = rw c.in-Some.is at c.in_ok-frame.ensures.found in
+    omega (arith, c.end_of-end.ensures, stands.offset, stands.inside, c.up_to_4.ensures, size_least f)
+
+pub returns-clause-found : goal.returns-clause-found
+returns-clause-found c =
+    let w = c.loop-frame.invariant.frames in
+    let past = rw c.in_default.is at c.in_ok-frame.ensures.past in
+    (w.0, whole_of c.args.stream.now w.0 c.loop-frame.end w.1 (omega (arith, past, c.up_to_4.ensures)), w.2)
+
+pub overflow_cast-result : goal.overflow_cast-result
+overflow_cast-result c =
+    let w = c.loop-frame.invariant.frames in
+    let past = rw c.in_default.is at c.in_ok-frame.ensures.past in
+    let whole = whole_of c.args.stream.now w.0 c.loop-frame.end w.1 (omega (arith, past, c.up_to_4.ensures)) in
+    omega (arith, tail_small 0 w.0 (length c.args.stream.now - c.loop-frame.end) c.args.stream.now whole)
+
+pub returns-in_err-frame-clause-first : goal.returns-in_err-frame-clause-first
+returns-in_err-frame-clause-first c =
+    let p = err_from_is_err_and c.from_residual.result c.from_residual.ensures.1 in
+    let w = c.loop-frame.invariant.frames in
+    rw (p.1, p.2) (first_here c.args.stream.now w.0 _ c.loop-frame.end c.up_to_4.result _ w.1 c.up_to_4.ensures
+    c.in_err-frame.ensures.place.1 c.in_err-frame.ensures.first)
+
+pub returns-in_err-frame-clause-bound : goal.returns-in_err-frame-clause-bound
+returns-in_err-frame-clause-bound c =
+    let p = err_from_is_err_and c.from_residual.result c.from_residual.ensures.1 in
+    rw (p.1, p.2) (omega (arith, c.in_err-frame.ensures.place))

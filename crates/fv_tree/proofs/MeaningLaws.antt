@@ -1,0 +1,134 @@
+-- Bytes have one meaning at most.
+use Rattle.std.proofs.Common.{◌≡◌, ◌≤◌, ℕ, zero, suc, true, false, List, [], ◌∷◌, length, take, drop, refl, sym, ap, ◌∙◌, subst}
+use Rattle.fv_file.specs.Cells.{CellForm}
+use Rattle.fv_file.proofs.Laws.{only_one}
+use Rattle.fv_head.specs.declared.extent.Extent.{Extent}
+use Rattle.fv_head.proofs.Laws.{one_front}
+use Rattle.fv_section.specs.Frames.{FrameForm}
+use Rattle.fv_section.proofs.Laws.{one_split}
+use Rattle.fv_tree.specs.LocatedFiles.{StandIn}
+use Rattle.fv_tree.specs.Files.{FileForm, files_in, current_in}
+use Rattle.fv_tree.specs.Meaning.{Meaning, Volume, FileMeaning, File, ContentMeaning, Plain, Sectioned, files_from, files_list}
+use Rattle.fv_tree.specs.Meaning.{SectionMeanings, SectionMeaning, Section, BodyMeaning, Leaf, Group, Nested, sections_from, sections_list}
+use Rattle.fv_tree.specs.Denotes.{Sections, Streams, Volumes, Pairwise, StreamOver, SectionOver, VolumeOver, MeansBody, MeansContent, MeansFile}
+use Rattle.fv_tree.specs.Denotes.{MeansSection, Stream, Denotes}
+use Rattle.fv_tree.proofs.SectionLaws.{sections_back, group_is_no_volume}
+use Rattle.fv_tree.proofs.VolumeLaws.{files_back, front_of, has_files}
+
+-- the files of a volume, as they are stored in it, are one list
+pub one_stand : (e : Extent) (volume : List ℕ) (fs gs : List FileForm) → StandIn e volume fs → StandIn e volume gs → gs ≡ fs
+one_stand e volume fs gs h k =
+    let cells = only_one e.file_system e.polarity e.first (drop e.first volume) h.cells k.cells h.tiles k.tiles in
+    k.current.files_are ∙ ap (λ (cs : List CellForm). current_in (files_in cs)) cells ∙ sym h.current.files_are
+
+-- ---- what is to be shown of what lies inside
+
+abbrev SectionsOne : Sections → Sections → Type 0
+SectionsOne p q = (f : FrameForm) (s t : SectionMeaning) → p f s → q f t → s ≡ t
+
+abbrev StreamsOne : Streams → Streams → Type 0
+StreamsOne p q = (ss ts : List SectionMeaning) (n k : ℕ) (b : List ℕ) → p ss n b → q ts k b → (ss ≡ ts) × (n ≡ k)
+
+abbrev VolumesOne : Volumes → Volumes → Type 0
+VolumesOne p q = (b : List ℕ) (m k : Meaning) → p b m → q b k → m ≡ k
+
+same_sections : (xs ys : SectionMeanings) → sections_list xs ≡ sections_list ys → xs ≡ ys
+same_sections xs ys e = sym (sections_back xs) ∙ ap sections_from e ∙ sections_back ys
+
+pairs_one : {A B : Type 0} (p q : A → B → Type 0) → ((x : A) (y z : B) → p x y → q x z → y ≡ z) → (xs : List A) (ys zs : List B)
+    → Pairwise p xs ys → Pairwise q xs zs → ys ≡ zs
+pairs_one p q one [] [] [] h k = refl
+pairs_one p q one [] [] (z ∷ zs) h k = absurd k
+pairs_one p q one [] (y ∷ ys) zs h k = absurd h
+pairs_one p q one (x ∷ xs) [] zs h k = absurd h
+pairs_one p q one (x ∷ xs) (y ∷ ys) [] h k = absurd k
+pairs_one p q one (x ∷ xs) (y ∷ ys) (z ∷ zs) h k =
+    let a : y ≡ z = one x y z h.0 k.0 in
+    let b : ys ≡ zs = pairs_one p q one xs ys zs h.1 k.1 in
+    cc
+
+stream_one : (p q : Sections) → SectionsOne p q → StreamsOne (StreamOver p) (StreamOver q)
+stream_one p q one ss ts n k b (fs, split, pairs) (gs, split', pairs') =
+    let same = one_split 0 fs gs n k b split split' in
+    (pairs_one p q one fs ss ts pairs (subst (λ (xs : List FrameForm). Pairwise q xs ts) (sym same.0) pairs'), same.1)
+
+-- ---- by what lies inside
+
+module _ (s s' : Streams) (streams : StreamsOne s s') where
+  content_one : (kind : ℕ) (payload : List ℕ) (c d : ContentMeaning) → MeansContent s kind payload c → MeansContent s' kind payload d → c ≡ d
+  content_one kind payload (Plain b) (Plain c) (p, is) (p', is') = ap Plain (is ∙ sym is')
+  content_one kind payload (Plain b) (Sectioned ts k) (none, is) (some, inside) = let t : false ≡ true = sym none ∙ some in cc
+  content_one kind payload (Sectioned ss n) (Plain c) (some, inside) (none, is) = let t : false ≡ true = sym none ∙ some in cc
+  content_one kind payload (Sectioned ss n) (Sectioned ts k) (p, inside) (p', inside') =
+      let same = streams (sections_list ss) (sections_list ts) n k payload inside inside' in
+      let list : ss ≡ ts = same_sections ss ts same.0 in
+      let tail : n ≡ k = same.1 in
+      cc
+
+  file_one : (f : FileForm) (m k : FileMeaning) → MeansFile s f m → MeansFile s' f k → m ≡ k
+  file_one f (File n k a c) (File n' k' a' c') (p, q, r, t) (p', q', r', t') =
+      let names : n ≡ n' = p ∙ sym p' in
+      let kinds : k ≡ k' = q ∙ sym q' in
+      let bits : a ≡ a' = r ∙ sym r' in
+      let contents : c ≡ c' =
+      content_one k f.payload c c' t (subst (λ (i : ℕ). MeansContent s' i f.payload c') (sym kinds) t') in
+      cc
+
+  volume_one : VolumesOne (VolumeOver s) (VolumeOver s')
+  volume_one b (Volume h fs) (Volume k gs) d d' =
+      let heads = one_front b h k d.extent d'.extent d.front d'.front in
+      let stand : StandIn d.extent b d.files = record { cells = d.cells; tiles = d.tiles; current = d.current } in
+      let stand' : StandIn d'.extent b d'.files = record { cells = d'.cells; tiles = d'.tiles; current = d'.current } in
+      let forms = one_stand d.extent b d.files d'.files stand (subst (λ (x : Extent). StandIn x b d'.files) (sym heads.1) stand') in
+      let lists = pairs_one (MeansFile s) (MeansFile s') file_one d.files (files_list fs) (files_list gs) d.meanings
+      (subst (λ (xs : List FileForm). Pairwise (MeansFile s') xs (files_list gs)) forms d'.meanings) in
+      let files : fs ≡ gs = sym (files_back fs) ∙ ap files_from lists ∙ files_back gs in
+      let same : h ≡ k = heads.0 in
+      cc
+
+  module _ (v v' : Volumes) (volumes : VolumesOne v v') where
+    body_one : (f : FrameForm) (b c : BodyMeaning) → MeansBody s v f b → MeansBody s' v' f c → b ≡ c
+    body_one f (Leaf b) (Leaf c) (_, _, is) (_, _, is') = ap Leaf (is ∙ sym is')
+    body_one f (Leaf b) (Group ts k) (off, _, _) (group, _) = absurd (off group)
+    body_one f (Leaf b) (Nested k) (_, shut, _) (kind, opens, _) = absurd (shut kind opens)
+    body_one f (Group ss n) (Leaf c) (group, _) (off, _, _) = absurd (off group)
+    body_one f (Group ss n) (Group ts k) (_, inside) (_, inside') =
+        let same = streams (sections_list ss) (sections_list ts) n k f.body inside inside' in
+        let list : ss ≡ ts = same_sections ss ts same.0 in
+        let tail : n ≡ k = same.1 in
+        cc
+    body_one f (Group ss n) (Nested k) (group, _) (kind, _, _) = absurd (group_is_no_volume f group kind)
+    body_one f (Nested m) (Leaf c) (kind, opens, _) (_, shut, _) = absurd (shut kind opens)
+    body_one f (Nested m) (Group ts k) (kind, _, _) (group, _) = absurd (group_is_no_volume f group kind)
+    body_one f (Nested m) (Nested k) (_, _, d) (_, _, d') = ap Nested (volumes f.body m k d d')
+
+    section_one : SectionsOne (SectionOver s v) (SectionOver s' v')
+    section_one f (Section n x b) (Section k y c) (p, q, inside) (p', q', inside') =
+        let kinds : n ≡ k = p ∙ sym p' in
+        let forms : x ≡ y = q ∙ sym q' in
+        let bodies : b ≡ c = body_one f b c inside inside' in
+        cc
+
+-- ---- the recursion
+
+sections_one : (n k : ℕ) → SectionsOne (MeansSection n) (MeansSection k)
+sections_one zero zero = section_one (λ _ _ _. ⊥) (λ _ _ _. ⊥) (λ _ _ _ _ _ h _. absurd h) (λ _ _. ⊥) (λ _ _. ⊥) (λ _ _ _ h _. absurd h)
+sections_one zero (suc k) =
+    section_one (λ _ _ _. ⊥) (Stream k) (λ _ _ _ _ _ h _. absurd h) (λ _ _. ⊥) (Denotes k) (λ _ _ _ h _. absurd h)
+sections_one (suc n) zero =
+    section_one (Stream n) (λ _ _ _. ⊥) (λ _ _ _ _ _ _ h. absurd h) (Denotes n) (λ _ _. ⊥) (λ _ _ _ _ h. absurd h)
+sections_one (suc n) (suc k) =
+    let streams = stream_one (MeansSection n) (MeansSection k) (sections_one n k) in
+    section_one (Stream n) (Stream k) streams (Denotes n) (Denotes k) (volume_one (Stream n) (Stream k) streams)
+
+-- bytes are a volume of one meaning
+pub one_meaning : (n k : ℕ) (b : List ℕ) (m j : Meaning) → Denotes n b m → Denotes k b j → m ≡ j
+one_meaning n k = volume_one (Stream n) (Stream k) (stream_one (MeansSection n) (MeansSection k) (sections_one n k))
+
+-- and they begin with one volume
+pub one_beginning : (n k j : ℕ) (b : List ℕ) (m v : Meaning) → k ≤ length b → Denotes n (take k b) m → j ≤ length b → Denotes n (take j b) v
+    → (m ≡ v) × (k ≡ j)
+one_beginning n k j b m v within d within' d' =
+    let front = front_of n j b v within' d' in
+    let len : k ≡ j = (has_files n k b m _ d'.extent front.0 within d).1 ∙ front.1 in
+    (one_meaning n n (take j b) m v (subst (λ (i : ℕ). Denotes n (take i b) m) len d) d', len)

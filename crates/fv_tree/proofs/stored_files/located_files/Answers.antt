@@ -1,0 +1,26 @@
+use Rattle.std.proofs.lemmas.Result.{err_from_is_err_and}
+use Rattle.std.proofs.Common.{map}
+use Rattle.fv_tree.specs.LocatedFiles.{file_form}
+use Rattle.fv_tree.proofs.LocatedLaws.{located_data, located_stand}
+use Rattle.fv_tree.proofs.MeaningLaws.{one_stand}
+use Rattle.fv_tree.proofs.RefusalLaws.{files_refused}
+use Rattle.fv_tree.proofs.stored_files.located_files.Goals as goal
+
+pub returns-in_err-files-clause-none : goal.returns-in_err-files-clause-none
+returns-in_err-files-clause-none c =
+    let p = err_from_is_err_and c.from_residual-in_err-files.result c.from_residual-in_err-files.ensures.1 in
+    let front = c.in_ok-extent.ensures.found in
+    rw (p.1, p.2) (λ ne gs begins. files_refused c.in_ok-extent.extent _ _ _ gs (c.in_err-files.ensures.read ne)
+    (located_stand c.args.bytes.now front.0 c.in_ok-extent.extent front.1 gs begins))
+
+pub returns-clause-data : goal.returns-clause-data
+returns-clause-data c =
+    let front = c.in_ok-extent.ensures.found in
+    located_data c.args.bytes.now front.0 c.in_ok-extent.extent (map file_form c.in_ok-files.files.items) front.1
+    c.in_ok-files.ensures.read
+
+pub returns-clause-only : goal.returns-clause-only
+returns-clause-only c = λ gs begins.
+    let front = c.in_ok-extent.ensures.found in
+    one_stand c.in_ok-extent.extent _ (map file_form c.in_ok-files.files.items) gs c.in_ok-files.ensures.read
+    (located_stand c.args.bytes.now front.0 c.in_ok-extent.extent front.1 gs begins)

@@ -1,0 +1,26 @@
+//! Faults in bytes that begin at a place.
+
+ghost use Rattle.std.specs.Prelude.{◌≡◌, ◌≢◌, ◌<◌, ◌+◌, ◌^◌};
+ghost use Rattle.fv_base.specs.Faults.{out_of_memory};
+ghost use Rattle.fv_tree.specs.FirstFault.{moved_fault};
+
+use fv_base::{Fault, FaultKind, Place};
+
+// A fault in bytes that begin at this place.
+pub(crate) fn within(fault: Fault, place: Place) -> Fault
+    requires { place.offset + fault.place.offset < 2 ^ 64 }
+    ensures moved { result ≢ out_of_memory
+        → (fault ≢ out_of_memory) × (result ≡ moved_fault place.offset place.depth fault) }
+    ensures kind { result.kind ≡ fault.kind }
+{
+    if matches!(fault.kind, FaultKind::OutOfMemory) {
+        return Fault::outer(FaultKind::OutOfMemory, 0);
+    }
+    Fault {
+        kind: fault.kind,
+        place: Place {
+            offset: place.offset + fault.place.offset,
+            depth: place.depth,
+        },
+    }
+}

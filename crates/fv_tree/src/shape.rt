@@ -1,0 +1,42 @@
+//! How the body of a section and the data of a file are read, by their types.
+
+ghost use Rattle.std.specs.Prelude.{◌≡◌};
+ghost use Rattle.fv_section.specs.FrameForms as framed;
+ghost use Rattle.fv_tree.specs.Denotes.{holds_sections};
+ghost use Rattle.fv_tree.specs.inner.Shapes.{shape_of};
+
+use fv_file::file_type::{FREEFORM, MM_CORE_STANDALONE, PEI_CORE};
+use fv_head::is_one_volume;
+use fv_section::Frame;
+use fv_section::section_type::{DISPOSABLE, FIRMWARE_VOLUME_IMAGE};
+
+// Whether a file of this type holds sections.
+pub(crate) fn holds_sections(kind: u8) -> bool
+    ensures { result ≡ holds_sections kind }
+{
+    kind == FREEFORM || (PEI_CORE <= kind && kind <= MM_CORE_STANDALONE)
+}
+
+/// How the body of a section is read.
+pub(crate) enum Shape {
+    /// As bytes of no further meaning.
+    Leaf,
+    /// As sections.
+    Group,
+    /// As a volume.
+    Volume,
+}
+
+// How the body of the section in a frame is read: by its type and, for a section that may hold a
+// volume, by its content.
+pub(crate) fn shape_of(frame: &Frame) -> Shape
+    ensures { result ≡ shape_of (framed.frame_form frame.now) }
+{
+    if frame.kind == DISPOSABLE {
+        return Shape::Group;
+    }
+    if frame.kind == FIRMWARE_VOLUME_IMAGE && is_one_volume(frame.body) {
+        return Shape::Volume;
+    }
+    Shape::Leaf
+}

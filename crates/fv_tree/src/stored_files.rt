@@ -1,0 +1,95 @@
+//! The files of a volume, as they are stored in it.
+
+ghost use Rattle.std.specs.Prelude.{◌≡◌, ◌≢◌, ◌≤◌, ◌<◌, ◌+◌, ◌%◌, ◌^◌, List, length, map, IfOk, IfErr};
+ghost use Rattle.std.specs.List.{AllByRecursion};
+ghost use Rattle.fv_base.specs.Faults.{out_of_memory};
+ghost use Rattle.fv_base.specs.Limits.{volume_limit};
+ghost use Rattle.fv_tree.specs.FailingChecks.{First};
+ghost use Rattle.fv_tree.specs.FileNames.{IsIndex};
+ghost use Rattle.fv_tree.specs.Files.{FileForm};
+ghost use Rattle.fv_tree.specs.FirstFault.{Moved, LayoutFault};
+ghost use Rattle.fv_tree.specs.LocatedFiles.{StandIn, file_form, BeginWithFiles, HasDataIn, IsFirstOfFiles};
+ghost use Rattle.fv_tree.specs.inner.NameOrders.{names_in};
+ghost use Rattle.fv_tree.specs.inner.ReadingParts.{Reads, AllStored};
+
+use crate::fault_place::within;
+use crate::name_index::Numbers;
+use crate::volume_files::{LocatedFile, current_files, files_of};
+use fv_base::{Fault, Place};
+use fv_file::cells;
+use fv_head::{Extent, verify_fv};
+use std::alloc::Global;
+
+// The files of a volume of this extent, as they are stored in it, and their numbers.
+pub(crate) fn files_in_body<'a>(
+    alloc: Global,
+    volume: &'a [u8],
+    extent: Extent,
+    place: Place,
+) -> Result<(Vec<LocatedFile<'a>>, Numbers), Fault>
+    requires place { place.offset + length volume.now < 2 ^ 63 }
+    requires small { length volume.now ≤ volume_limit }
+    requires multiple { length volume.now % 8 ≡ 0 }
+    requires first_multiple { extent.first % 8 ≡ 0 }
+    requires first_within { extent.first ≤ length volume.now }
+    requires length_is { extent.length ≡ length volume.now }
+    ensures read { Reads (λ r. StandIn extent volume.now (map file_form r.0.items))
+        (Moved place (LayoutFault First extent volume.now)) result }
+    ensures stored { IfOk result (λ r. AllStored place.offset (map file_form r.0.items)) }
+    ensures numbers { IfOk result (λ r. IsIndex (names_in (map file_form r.0.items)) r.1.sorted.items) }
+{
+    let list = match cells(
+        alloc,
+        volume,
+        extent.first,
+        extent.file_system,
+        extent.polarity,
+    ) {
+        Ok(list) => list,
+        Err(fault) => return Err(within(fault, place)),
+    };
+    let files = files_of(alloc, list.as_slice())?;
+    drop(list);
+    match current_files(alloc, files, extent.length) {
+        Ok(read) => Ok(read),
+        Err(fault) => Err(within(fault, place)),
+    }
+}
+
+/// The files of the volume at the start of the bytes, in the order of `VolumeView::files`, as they
+/// are stored in it: with the offset of the header, the header and the data. The data are not read.
+/// (PI specification, volume 3, sections 3.2.2 and 3.2.3.)
+///
+/// # Errors
+///
+/// The first fault, in this order: those of the header, as for `verify_fv`; those of the body, as
+/// for `cells`; DuplicateName at the later of two files with the same name and state; TopFile at a
+/// volume top file that is not at the end. The offset is in bytes from the first of `bytes`.
+/// OutOfMemory at 0.
+pub fn located_files(alloc: Global, bytes: &[u8]) -> Result<Vec<LocatedFile<'_>>, Fault>
+    // The bytes begin with a volume, and these are its files.
+    ensures found { IfOk result (λ fs. BeginWithFiles bytes.now (map file_form fs.items)) }
+
+    // The data of each file are in the bytes, at their offset.
+    ensures data { IfOk result (λ fs. AllByRecursion (HasDataIn bytes.now) (map file_form fs.items)) }
+
+    // The volume that they begin with has no other files.
+    ensures only { IfOk result
+        (λ fs. (gs : List FileForm) → BeginWithFiles bytes.now gs → gs ≡ map file_form fs.items) }
+
+    // If an error other than OutOfMemory is returned, they begin with none.
+    ensures none { IfErr result
+        (λ f. f ≢ out_of_memory → (gs : List FileForm) → BeginWithFiles bytes.now gs → ⊥) }
+
+    // An error other than OutOfMemory is the first fault.
+    ensures first { IfErr result (λ f. f ≢ out_of_memory → IsFirstOfFiles bytes.now f) }
+{
+    let extent = verify_fv(bytes)?;
+    let volume = &bytes[..extent.length as usize];
+    let place = Place {
+        offset: 0,
+        depth: 0,
+    };
+    let (files, _) = files_in_body(alloc, volume, extent, place)?;
+    Ok(files)
+}

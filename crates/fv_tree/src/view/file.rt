@@ -1,0 +1,91 @@
+//! The calls of a `FileView`.
+
+ghost use Rattle.std.specs.Prelude.{◌≡◌, option_map};
+ghost use Rattle.fv_file.specs.Attributes.{attribute_bits};
+ghost use Rattle.fv_tree.specs.Denotes.{IsReadFile};
+ghost use Rattle.fv_tree.specs.Meaning.{File, file_name_of, file_kind_of, attributes_of, content_of, content_len};
+ghost use Rattle.fv_tree.specs.Meaning.{plain_of, data_len_of};
+ghost use Rattle.fv_tree.specs.Views.{content_view};
+
+use super::{Content, FileView};
+use fv_base::Guid;
+use fv_file::FileAttributes;
+
+impl<'a> FileView<'a> {
+    // The view of a file whose data have `len` bytes.
+    pub(crate) fn new(
+        name: Guid,
+        kind: u8,
+        attributes: FileAttributes,
+        content: Content<'a>,
+        len: u32,
+    ) -> FileView<'a>
+        requires read { IsReadFile (File name kind (attribute_bits attributes) (content_view content)) }
+        requires len { len ≡ content_len (content_view content) }
+        ensures { result ≡ File name kind (attribute_bits attributes) (content_view content.entry) }
+    {
+        FileView {
+            name,
+            file_type: kind,
+            attributes,
+            content,
+            data_len: len,
+        }
+    }
+
+    /// The name.
+    pub fn name(&self) -> Guid
+        ensures name { result ≡ file_name_of self.now }
+
+        // Some bytes are a file with this meaning.
+        ensures read { IsReadFile self.now }
+    {
+        self.name
+    }
+
+    /// Computes nothing. A proof that calls it knows that some bytes are a file with this meaning.
+    pub fn known(&self)
+        ensures { IsReadFile self.now }
+    {
+        let _name = self.name;
+    }
+
+    /// The type (PI specification, volume 3, section 3.2.3, EFI_FV_FILETYPE).
+    pub fn kind(&self) -> u8
+        ensures { result ≡ file_kind_of self.now }
+    {
+        self.file_type
+    }
+
+    /// The attribute bits without 0x01 (FFS_ATTRIB_LARGE_FILE), which belongs to the form of the
+    /// header. (PI specification, volume 3, section 3.2.3.1.)
+    pub fn attributes(&self) -> FileAttributes
+        ensures { attribute_bits result ≡ attributes_of self.now }
+    {
+        self.attributes
+    }
+
+    /// The content.
+    pub fn content(&self) -> &Content<'a>
+        ensures { content_view result.now ≡ content_of self.now }
+    {
+        &self.content
+    }
+
+    /// Its data if they are not sections: a slice of what was read, which outlives the view.
+    pub fn plain(&self) -> Option<&'a [u8]>
+        ensures { option_map (λ b. b.now) result ≡ plain_of (content_of self.now) }
+    {
+        match &self.content {
+            Content::Plain(bytes) => Some(*bytes),
+            _ => None,
+        }
+    }
+
+    /// The number of bytes of its data.
+    pub fn data_len(&self) -> u64
+        ensures { result ≡ data_len_of self.now }
+    {
+        u64::from(self.data_len)
+    }
+}

@@ -1,0 +1,84 @@
+//! The calls of a `VolumeView`.
+
+ghost use Rattle.std.specs.Prelude.{◌≡◌, length, option_copied, slice_get};
+ghost use Rattle.std.specs.List.{position_or_len};
+ghost use Rattle.std.specs.Option.{unwrap_or};
+ghost use Rattle.fv_tree.specs.Denotes.{IsMeaning};
+ghost use Rattle.fv_tree.specs.Meaning.{Volume, head_of, files_of, files_from};
+ghost use Rattle.fv_tree.specs.FileNames.{HasNumbers, is_named};
+
+use super::{FileView, VolumeView};
+use crate::name_index::Numbers;
+use fv_base::Guid;
+use fv_head::VolumeHead;
+
+impl<'a> VolumeView<'a> {
+    // The view of a volume with this head and these files, with an index of the files' names.
+    pub(crate) fn new(
+        head: VolumeHead,
+        files: Vec<FileView<'a>>,
+        numbers: Numbers,
+    ) -> VolumeView<'a>
+        requires meaning { IsMeaning (Volume head (files_from files.items)) }
+        requires numbers { HasNumbers numbers files.items }
+        ensures { result ≡ Volume head (files_from files.entry.items) }
+    {
+        VolumeView {
+            head,
+            files,
+            numbers,
+        }
+    }
+
+    /// The header, with its extended header, if there is one. (PI specification, volume 3, section
+    /// 3.2.1.)
+    pub fn head(&self) -> &VolumeHead
+        ensures head { result.now ≡ head_of self.now }
+
+        // Some bytes are a volume with this meaning.
+        ensures meaning { IsMeaning self.now }
+    {
+        &self.head
+    }
+
+    /// Computes nothing. A proof that calls it knows that some bytes are a volume with this
+    /// meaning.
+    pub fn known(&self)
+        ensures { IsMeaning self.now }
+    {
+        let _head = &self.head;
+    }
+
+    /// The number of files.
+    pub fn file_count(&self) -> u32
+        ensures { result ≡ length (files_of self.now) }
+    {
+        self.files.len() as u32
+    }
+
+    /// File number `number`, counted from 0 in the order of the files, or None after the last.
+    pub fn file(&self, number: u32) -> Option<&FileView<'a>>
+        ensures { option_copied result ≡ slice_get (files_of self.now) number }
+    {
+        let at = number as usize;
+        if at < self.files.len() {
+            Some(&self.files[at])
+        } else {
+            None
+        }
+    }
+
+    /// The files in order.
+    pub fn files(&self) -> &[FileView<'a>]
+        ensures { self.now ≡ Volume (head_of self.now) (files_from result.now) }
+    {
+        self.files.as_slice()
+    }
+
+    // The number of the first file with this name, or None.
+    pub(crate) fn number_of(&self, name: &Guid) -> Option<u32>
+        ensures { unwrap_or result (length (files_of self.now)) ≡ position_or_len (is_named name.now) (files_of self.now) }
+    {
+        self.numbers.get(name)
+    }
+}
