@@ -40,10 +40,19 @@ def is_stream(file):
     return file.kind == 2 or 4 <= file.kind <= 15
 
 
+def header(name):
+    """The header with a name: `80`, of a volume of 0x80 bytes; `c0+48`, with an extended header at 0x48."""
+    length, extended = (int(part or "0", 16) for part in name.partition("+")[::2])
+    total = (0xF6CE - 2 * length - extended) % 0x10000
+    words = "00*16 78e58c8c3d8a1c4f9935896185c32dd3 {0} 5f465648 fffe0400 4800{1} {3:02x}000002 01000000 {2} 00*8"
+    numbers = [number.to_bytes(size, "little").hex() for number, size in ((length, 8), (total, 2), (length, 4))]
+    return spelled(words.format(*numbers, extended))
+
+
 def spelled(text):
-    """The bytes that a text spells: hexadecimal digits, with a star and a number to repeat a word."""
+    """The bytes that a text spells: hexadecimal digits, a star and a number to repeat a word, and headers as `<80>`."""
     words = (word.partition("*") for word in text.split())
-    return b"".join(bytes.fromhex(digits) * int(count or 1) for digits, _, count in words)
+    return b"".join(header(word[1:-1]) if word[0] == "<" else bytes.fromhex(word) * int(n or 1) for word, _, n in words)
 
 
 def tables():

@@ -9,7 +9,7 @@
 -- 5. A default adds the row `false` where there is none (all_defaults). The matches have these rows, and get_flag reads the
 --    first (flag_found, flag_answer).
 -- That the reader finds no fault says nothing of the rows, so it makes none of these steps shorter.
-use Rattle.std.proofs.Common.{◌≡◌, ◌∙◌, Bool, true, false, List, [], ◌∷◌, Some, ap, codes, drop, inl, inr, refl}
+use Rattle.std.proofs.Common.{◌≡◌, ◌∙◌, Bool, true, false, List, [], ◌∷◌, Some, ap, codes, inl, inr, refl}
 use Rattle.std.specs.List.{fold, list_all}
 use Rattle.std.specs.Prelude.{option_and_then, slice_get}
 use Rattle.clap.proofs.WalkLemmas.{both, one_text-rows}
@@ -21,8 +21,9 @@ use Rattle.clap.specs.declared.parser.matches.ArgMatches.{ArgMatches}
 use Rattle.fv_arguments.proofs.FlagRows.{IsAmong, default_flag, default_other, find_flag, flags, is_other, last_rows, other_is, seen_rows}
 use Rattle.fv_arguments.proofs.FlagWalk.{seen_by_walk}
 use Rattle.fv_arguments.proofs.FlagWords.{HasFlag, dashed}
-use Rattle.fv_arguments.proofs.ReadLemmas.{IsRead}
+use Rattle.fv_arguments.proofs.ReadLemmas.{each_app}
 use Rattle.fv_arguments.specs.Words.{has_flag}
+use Rattle.fv_arguments.specs.inner.CommandWords.{IsRead, app_named}
 
 module _ (flag : Text) where
   others_default : (c : List Rule) (rows : List Row) → list_all (is_other flag) c ≡ true
@@ -52,14 +53,24 @@ module _ (flag : Text) where
       ap (option_and_then row_text) (find_flag flag (finished c h) ∙ ap (λ xs. slice_get xs 0) last) ∙ shown (has_flag (dashed flag) words)
 
   -- the flag, as it is read of the matches
-  pub flag_answer : {app : App} {words : List Text} {m : ArgMatches} → IsRead app words m → names_of (built app) ≡ []
+  pub flag_answer : {app : App} {rest : List Text} {m : ArgMatches} → IsRead app rest m → names_of (built app) ≡ []
       → HasFlag flag (built app).top.rules → (answer : Bool) → (one_text (found_of m) flag ≡ Some (codes "true") → answer ≡ true)
-      → (one_text (found_of m) flag ≡ Some (codes "false") → answer ≡ false) → answer ≡ has_flag (dashed flag) (drop 1 words)
-  flag_answer {app} {words} {m} r none has answer on_true on_false =
-      go (has_flag (dashed flag) (drop 1 words))
-      (one_text-rows (found_of m) flag ∙ ap (one_of flag) (r.rows ∙ ap (λ ns. rows_after (built app).top.rules ns (drop 1 words)) none)
-      ∙ flag_found (built app).top.rules (drop 1 words) has)
+      → (one_text (found_of m) flag ≡ Some (codes "false") → answer ≡ false) → answer ≡ has_flag (dashed flag) rest
+  flag_answer {app} {rest} {m} r none has answer on_true on_false =
+      go (has_flag (dashed flag) rest)
+      (one_text-rows (found_of m) flag ∙ ap (one_of flag) (r.rows ∙ ap (λ ns. rows_after (built app).top.rules ns rest) none)
+      ∙ flag_found (built app).top.rules rest has)
     where
       go : (b : Bool) → one_text (found_of m) flag ≡ Some (bool_text b) → answer ≡ b
       go true e = on_true e
       go false e = on_false e
+
+-- which each command has that inputs are text
+pub hex_answer : (name : Text) {rest : List Text} {m : ArgMatches} → IsRead (app_named name) rest m → (answer : Bool)
+    → (one_text (found_of m) (codes "hex") ≡ Some (codes "true") → answer ≡ true)
+    → (one_text (found_of m) (codes "hex") ≡ Some (codes "false") → answer ≡ false) → answer ≡ has_flag (codes "--hex") rest
+hex_answer name r answer on_true on_false =
+    let has = each_app (λ a. (names_of (built a) ≡ []) × HasFlag (codes "hex") (built a).top.rules) (refl, (refl, refl, inl (refl, refl)))
+    (refl, (refl, refl, inl (refl, refl))) (refl, (refl, refl, inl (refl, refl))) (refl, (refl, refl, inl (refl, refl)))
+    (refl, (refl, refl, inl (refl, refl))) (refl, (refl, refl, inl (refl, refl))) (refl, (refl, refl, inl (refl, refl))) name in
+    flag_answer (codes "hex") r has.0 has.1 answer on_true on_false

@@ -1,4 +1,3 @@
-pub mod AllLemmas
 pub mod FlagLemmas
 pub mod FlagRows
 pub mod FlagWalk
@@ -6,4 +5,5 @@ pub mod FlagWords
 pub mod NumberLemmas
 pub mod ReadLemmas
 pub mod RefusalLemmas
+pub mod TaskLemmas
 pub mod TypeLemmas

@@ -4,10 +4,10 @@
 -- the bound, and reading it as written gives the number.
 use Rattle.std.proofs.Common.{◌≡◌, ◌∙◌, ◌^◌, ◌<◌, ◌≤◌, ◌||◌, ℕ, Bool, true, false, true≢false, not, List, [], ◌∷◌, length}
 use Rattle.std.proofs.Common.{Option, Some, None}
-use Rattle.std.proofs.Common.{drop, ap, arith, codes, inl, inr, is_some, refl, subst, sym}
+use Rattle.std.proofs.Common.{ap, arith, codes, inl, inr, is_some, refl, subst, sym}
 use Rattle.std.specs.Borrow.{Bor}
 use Rattle.std.specs.List.{All, list_all, slice_index_or}
-use Rattle.std.specs.Prelude.{nat_le, option_map, slice_get}
+use Rattle.std.specs.Prelude.{option_map, slice_get}
 use Rattle.std.specs.Option.{unwrap_or}
 use Rattle.std.specs.Str.{bytes_eq}
 use Rattle.std.specs.String.{string_bytes}
@@ -15,14 +15,14 @@ use Rattle.std.specs.Str.Parse.{ExplainsUnsignedError, HasUnsignedDigitsIfOk, Is
 use Rattle.std.proofs.lemmas.Bool.{cases_lt, leb-true}
 use Rattle.std.proofs.lemmas.Slice.Eq.{bytes_eq-Decides}
 use Rattle.clap.proofs.CallerLemmas.{entry_by_id}
-use Rattle.clap.proofs.SimpleLemmas.{all_simple, plain_fields, simple_groups}
+use Rattle.clap.proofs.SimpleLemmas.{all_simple, is_false, plain_fields, simple_groups}
 use Rattle.clap.proofs.TakesLemmas.{each_rule}
+use Rattle.clap.proofs.WalkLemmas.{both}
 use Rattle.clap.specs.Facts.{Entry, EntryPasses, PassesArg, args_of, groups_of, parser_of_value}
 use Rattle.clap.specs.Built.{IsAuto, IsParsedFrom, SameRules}
 use Rattle.clap.specs.Matches.{ReadsOne, first_value, found_of, matched_of, one_text}
 use Rattle.clap.specs.Simple.{App, app_of}
 use Rattle.clap.specs.Values.{Accepts, read_as, reading_of}
-use Rattle.clap.specs.Walk.{Rule}
 use Rattle.clap.specs.declared.builder.arg.Arg.{Arg}
 use Rattle.clap.specs.declared.builder.command.Command.{Command}
 use Rattle.clap.specs.declared.builder.value_parser.Reading.TheVariants.{AsWritten}
@@ -31,18 +31,10 @@ use Rattle.clap.specs.declared.builder.value_parser.ValueParser.TheVariants as p
 use Rattle.clap.specs.declared.parser.matches.ArgMatches.{ArgMatches}
 use Rattle.clap.specs.declared.parser.matches.MatchedArg.{MatchedArg}
 use Rattle.fv_plan.specs.declared.plan.ImageFile.{ImageFile}
-use Rattle.fv_arguments.proofs.ReadLemmas.{IsRead, text_answer}
+use Rattle.fv_arguments.proofs.ReadLemmas.{text_answer}
 use Rattle.fv_arguments.specs.Options.{text_in}
 use Rattle.fv_arguments.specs.Words.{IsAtWord, IsImageWords, IsInstanceWord, IsNumberWord}
-
--- a parser of numbers up to `most`
-abbrev takes_number : ℕ → Option ValueParser → Bool
-takes_number most (Some (parsers.Unsigned low high)) = nat_le high most
-takes_number most _ = false
-
--- a rule of this id has such a parser
-abbrev pub is_number_if : ℕ → List ℕ → Rule → Bool
-is_number_if most id a = not (bytes_eq a.id id) || takes_number most a.parser
+use Rattle.fv_arguments.specs.inner.CommandWords.{IsRead, has_number, is_number_if, takes_number}
 
 -- a decimal numeral up to `most`
 abbrev pub IsUpTo : ℕ → List ℕ → Type 0
@@ -178,12 +170,19 @@ module _ (most : ℕ) (id : List ℕ) (given : bytes_eq [] id ≡ false) (help :
           let got = entry_by_id (EntryPasses p.built) (found_of m).entries.items id x (p.parsed globals).values e in
           rw e (taken_of got.0 x got.1 (read_as_written got.0 got.2 got.3) (values_up_to got.0 got.2 got.3))
 
-  -- so it is read as the number that its text spells
-  pub number_answer : {words : List (List ℕ)} → IsRead app words m → (bits : ℕ) → most < 2 ^ bits → (r : Option ℕ)
-      → (one_text (found_of m) id ≡ None → r ≡ None) → ((t : List ℕ) → one_text (found_of m) id ≡ Some t → ReadsNumber bits t r)
-      → IsNumberOf bits (text_in app id (drop 1 words)) r
-  number_answer has bits fits r none some =
-      subst (λ (t : Option (List ℕ)). IsNumberOf bits t r) (text_answer has id) (number_read bits most fits _ _ r number_taken none some)
+-- so it is read as the number that its text spells
+pub number_answer : {app : App} {rest : List (List ℕ)} {m : ArgMatches} (most : ℕ) (id : List ℕ) → has_number most id app ≡ true
+    → IsRead app rest m → (bits : ℕ) → most < 2 ^ bits → (r : Option ℕ) → (one_text (found_of m) id ≡ None → r ≡ None)
+    → ((t : List ℕ) → one_text (found_of m) id ≡ Some t → ReadsNumber bits t r) → IsNumberOf bits (text_in app id rest) r
+number_answer {app} {rest} {m} most id has read bits fits r none some =
+    let given = both _ _ has in
+    let help = both _ _ given.1 in
+    let version = both _ _ help.1 in
+    let plain = both _ _ version.1 in
+    let simple = both _ _ plain.1 in
+    let taken = number_taken most id (is_false _ given.0) (is_false _ help.0) (is_false _ version.0) read.rules m read.parsed app
+    read.given plain.0 simple.0 simple.1 in
+    subst (λ (t : Option (List ℕ)). IsNumberOf bits t r) (text_answer read id) (number_read bits most fits _ _ r taken none some)
 
 -- which section it is, the first where nothing is given
 pub instance_read : (text : Option (List ℕ)) (r : Option ℕ) → IsNumberOf 32 text r → IsInstanceWord text (unwrap_or r 1)
@@ -192,10 +191,16 @@ instance_read (Some t) None h = absurd h
 instance_read (Some t) (Some n) h = h
 
 -- the byte at which a volume begins
-pub at_read : (text : Option (List ℕ)) (r : Option ℕ) → IsNumberOf 64 text r → IsAtWord text r
-at_read None r h = h
-at_read (Some t) None h = h
-at_read (Some t) (Some n) h = h
+pub at_answer : {app : App} {rest : List (List ℕ)} {m : ArgMatches} (id : List ℕ) → has_number 18446744073709551615 id app ≡ true
+    → IsRead app rest m → (r : Option ℕ) → (one_text (found_of m) id ≡ None → r ≡ None)
+    → ((t : List ℕ) → one_text (found_of m) id ≡ Some t → ReadsNumber 64 t r) → IsAtWord (text_in app id rest) r
+at_answer id has read r none some =
+    at_read _ r (number_answer 18446744073709551615 id has read 64 (omega arith) r none some)
+  where
+    at_read : (text : Option (List ℕ)) (r : Option ℕ) → IsNumberOf 64 text r → IsAtWord text r
+    at_read None r h = h
+    at_read (Some t) None h = h
+    at_read (Some t) (Some n) h = h
 
 -- an image, by its path and its base
 pub image_read : (path base : Option (List ℕ)) (r : Option ℕ) (image : Option ImageFile) → IsNumberOf 64 base r

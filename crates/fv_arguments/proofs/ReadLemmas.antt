@@ -1,41 +1,78 @@
 -- What the reader of command lines says of the words of a command: the rows that it makes of them, and that it finds no fault in
--- them (IsRead). A text is read of these rows (text_answer).
-use Rattle.std.proofs.Common.{◌≡◌, ◌∙◌, List, [], ap, cond, drop, false, sym, true, subst}
+-- them (read). A text is read of these rows (text_answer).
+use Rattle.std.proofs.Common.{◌≡◌, ◌≢◌, ◌∙◌, Bool, List, [], ap, codes, cond, drop, false, refl, sym, true, subst}
+use Rattle.std.specs.Str.{bytes_eq}
 use Rattle.clap.proofs.WalkLemmas.{both, first_value-rows}
+use Rattle.clap.specs.Built.{IsParsedFrom}
 use Rattle.clap.specs.Faults.{built_fault}
 use Rattle.clap.specs.Matches.{first_value, found_of}
-use Rattle.clap.specs.Simple.{built, names_of}
-use Rattle.clap.specs.Walk.{Text, first_of, nothing_held, rows_after, rows_of}
+use Rattle.clap.specs.Simple.{app_of, built, names_of}
+use Rattle.clap.specs.Walk.{Text, first_of, nothing_held, rows_after}
 use Rattle.clap.specs.Words.{App, HasMatchesOf, fault_of, is_simple_and_free}
+use Rattle.clap.specs.declared.builder.command.Command.{Command as Rules}
 use Rattle.clap.specs.declared.parser.matches.ArgMatches.{ArgMatches}
-use Rattle.fv_arguments.specs.Options.{faults_in, rows_in, text_in}
+use Rattle.fv_arguments.proofs.FlagRows.{differ}
+use Rattle.fv_arguments.specs.Options.{compare_app, extract_app, faults_in, hobs_app, list_app, normalise_app, one_input_app, text_in}
+use Rattle.fv_arguments.specs.Options.{volume_app}
+use Rattle.fv_arguments.specs.inner.CommandWords.{IsRead, app_named}
 
--- the reader was given the options of the command, and takes the first word for the program's name
-abbrev pub IsGiven : App → App → Type 0
-IsGiven app given = (is_simple_and_free app ≡ true) × (app.top.no_binary_name ≡ false) × (given ≡ app)
+-- a name that is no other's has the options of a volume
+pub no_other : (name : Text) → name ≢ codes "normalise" → name ≢ codes "hobs" → name ≢ codes "extract" → name ≢ codes "compare"
+    → name ≢ codes "list" → name ≢ codes "scan" → app_named name ≡ volume_app
+no_other name normalise hobs extract compare list scan =
+    rw (differ _ _ normalise, differ _ _ hobs, differ _ _ extract, differ _ _ compare, differ _ _ list, differ _ _ scan) refl
 
--- what it says of them, it says of the command's
-pub by_app : (P : App → Type 0) (app given : App) → IsGiven app given → (is_simple_and_free given ≡ true → P given) → P app
-by_app P app given g h = subst P g.2 (h (ap is_simple_and_free g.2 ∙ g.0))
+-- what holds of the options of each command
+pub each_app : (P : App → Type 0) → P normalise_app → P hobs_app → P extract_app → P compare_app → P list_app → P one_input_app
+    → P volume_app → (name : Text) → P (app_named name)
+each_app P normalise hobs extract compare list scan volume name =
+    go (bytes_eq name (codes "normalise")) (bytes_eq name (codes "hobs")) (bytes_eq name (codes "extract"))
+    (bytes_eq name (codes "compare")) (bytes_eq name (codes "list")) (bytes_eq name (codes "scan"))
+  where
+    go : (a b c d e f : Bool)
+        → P (cond a normalise_app (cond b hobs_app (cond c extract_app (cond d compare_app (cond e list_app (cond f one_input_app volume_app))))))
+    go true b c d e f = normalise
+    go false true c d e f = hobs
+    go false false true d e f = extract
+    go false false false true e f = compare
+    go false false false false true f = list
+    go false false false false false true = scan
+    go false false false false false false = volume
+
+-- none of them changes how words are read, or has a rule on another
+simple : (name : Text) → is_simple_and_free (app_named name) ≡ true
+simple name = each_app (λ a. is_simple_and_free a ≡ true) refl refl refl refl refl refl refl name
+
+-- so what the reader says of the options that it was given, it says of the command's
+pub by_name : (P : App → Type 0) (name : Text) (given : App) → given ≡ app_named name → (is_simple_and_free given ≡ true → P given)
+    → P (app_named name)
+by_name P name given e h = subst P e (h (ap is_simple_and_free e ∙ simple name))
+
+-- it takes the first word for the program's name
+program_first : (name : Text) → (app_named name).top.no_binary_name ≡ false
+program_first name = each_app (λ a. a.top.no_binary_name ≡ false) refl refl refl refl refl refl refl name
 
 -- its faults are those in the words after the first
-pub faults_read : (app given : App) → IsGiven app given → (words : List Text) → fault_of app words ≡ faults_in app (drop 1 words)
-faults_read app given g words = ap (λ b. built_fault (built app) nothing_held (cond b words (drop 1 words))) g.1
+pub faults_read : (name : Text) (words : List Text) → fault_of (app_named name) words ≡ faults_in (app_named name) (drop 1 words)
+faults_read name words =
+    ap (λ b. built_fault (built (app_named name)) nothing_held (cond b words (drop 1 words))) (program_first name)
 
--- the words were read
-pub record IsRead (app : App) (words : List Text) (m : ArgMatches) : Type 0 where
-  pub rows : rows_of (found_of m) ≡ rows_in app (drop 1 words)
-  pub taken : faults_in app (drop 1 words) ≡ []
-
-pub read : {words : List Text} {m : ArgMatches} (app given : App) → IsGiven app given → HasMatchesOf given words m
-    → (is_simple_and_free given ≡ true → fault_of given words ≡ []) → IsRead app words m
-read {words} {m} app given g matches kinds = record {
-  rows = (by_app (λ a. HasMatchesOf a words m) app given g (λ _. matches) (both _ _ g.0).0).0
-      ∙ ap (λ b. rows_after (built app).top.rules (names_of (built app)) (cond b words (drop 1 words))) g.1;
-  taken = sym (faults_read app given g words) ∙ by_app (λ a. fault_of a words ≡ []) app given g kinds;
-}
+-- so the words were read
+pub read : {m : ArgMatches} (words : List Text) (name : Text) (rules : Rules) → app_of rules ≡ app_named name
+    → HasMatchesOf (app_of rules) words m → (is_simple_and_free (app_of rules) ≡ true → fault_of (app_of rules) words ≡ [])
+    → IsParsedFrom rules m → IsRead (app_named name) (drop 1 words) m
+read {m} words name rules e matches kinds parsed =
+    let app = app_named name in
+    record {
+      rows = (by_name (λ a. HasMatchesOf a words m) name (app_of rules) e (λ _. matches) (both _ _ (simple name)).0).0
+          ∙ ap (λ b. rows_after (built app).top.rules (names_of (built app)) (cond b words (drop 1 words))) (program_first name);
+      taken = sym (faults_read name words) ∙ by_name (λ a. fault_of a words ≡ []) name (app_of rules) e kinds;
+      rules = rules;
+      given = e;
+      parsed = parsed;
+    }
 
 -- a text, as it is read of the matches
-pub text_answer : {app : App} {words : List Text} {m : ArgMatches} → IsRead app words m → (id : Text)
-    → first_value (found_of m) id ≡ text_in app id (drop 1 words)
-text_answer {app} {words} {m} r id = first_value-rows (found_of m) id ∙ ap (first_of id) r.rows
+pub text_answer : {app : App} {rest : List Text} {m : ArgMatches} → IsRead app rest m → (id : Text)
+    → first_value (found_of m) id ≡ text_in app id rest
+text_answer {app} {rest} {m} r id = first_value-rows (found_of m) id ∙ ap (first_of id) r.rows

@@ -1,10 +1,10 @@
--- Words that are refused as wrong are not right: the reader finds a fault in them (refused_right), or what it reads is no plan
+-- Words that are refused as wrong are not right: the reader finds a fault in them (refused), or what it reads is no plan
 -- (no_place, no_name, no_type, no_pair, no_files).
 use Rattle.std.proofs.Common.{◌≡◌, ◌≢◌, ◌∙◌, ◌⊎◌, ℕ, List, [], ◌∷◌, IfErr, Result, Ok, Err, Option, Some, None, ap, codes, inl, inr}
 use Rattle.std.proofs.Common.{drop, refl, subst, sym, true, false, true≢false}
 use Rattle.std.proofs.lemmas.Result.{IfErr-weaker}
 use Rattle.std.proofs.lemmas.Slice.Eq.{bytes_eq-Decides}
-use Rattle.std.specs.Prelude.{IsErrAnd, if◌then◌else◌, is_some, option_and_then}
+use Rattle.std.specs.Prelude.{IsErrAnd, is_some, option_and_then}
 use Rattle.std.specs.Str.{bytes_eq}
 use Rattle.clap.specs.Values.{kind_of}
 use Rattle.clap.specs.Words.{App, HasKind, Kinds, fault_of, is_simple_and_free}
@@ -15,24 +15,14 @@ use Rattle.fv_plan.specs.declared.plan.Command.{Command}
 use Rattle.fv_plan.specs.declared.plan.Command.TheVariants.{Single, Hobs, Compare}
 use Rattle.fv_plan.specs.declared.plan.Task.TheVariants.{Normalise, NormaliseAll, List as Listing, ListSums, Extract, Check}
 use Rattle.fv_plan.specs.declared.plan.Task.TheVariants.{Cells, Scan}
-use Rattle.fv_arguments.proofs.ReadLemmas.{IsGiven, by_app, faults_read}
-use Rattle.fv_arguments.specs.Options.{compare_app, extract_app, faults_in, hobs_app, list_app, normalise_app, one_input_app, text_in}
-use Rattle.fv_arguments.specs.Options.{volume_app}
-use Rattle.fv_arguments.specs.inner.CommandWords.{AreRightFor}
+use Rattle.fv_arguments.proofs.ReadLemmas.{by_name, faults_read}
+use Rattle.fv_arguments.specs.Options.{compare_app, extract_app, faults_in, hobs_app, normalise_app, text_in}
+use Rattle.fv_arguments.specs.inner.CommandWords.{AreRightFor, app_named}
 use Rattle.fv_arguments.specs.Words.{HasTexts, IsAtWord, IsBaseWord, IsSectionTypeWord, has_flag, command_app, command_name}
 use Rattle.fv_arguments.specs.declared.words.WordFault.{WordFault}
 use Rattle.fv_arguments.specs.declared.words.WordFault.TheVariants.{Words, OutOfMemory}
 
--- the options of the command that a word names
-abbrev pub app_named : List ℕ → App
-app_named name =
-    if bytes_eq name (codes "normalise") then normalise_app
-    else (if bytes_eq name (codes "hobs") then hobs_app
-    else (if bytes_eq name (codes "extract") then extract_app
-    else (if bytes_eq name (codes "compare") then compare_app
-    else (if bytes_eq name (codes "list") then list_app
-    else (if bytes_eq name (codes "scan") then one_input_app else volume_app)))))
-
+-- the options that a command has are those of its name
 named_app : (c : Command) → app_named (command_name c) ≡ command_app c
 named_app (Single Normalise at file) = refl
 named_app (Single NormaliseAll at file) = refl
@@ -45,10 +35,9 @@ named_app (Single Scan at file) = refl
 named_app (Hobs file image) = refl
 named_app (Compare first second) = refl
 
--- the reader finds no fault in right words
-right_taken : (name : List ℕ) (rest : List (List ℕ)) → AreRightFor name rest → faults_in (app_named name) rest ≡ []
-right_taken name rest right =
-    ap (λ (a : App). faults_in a rest) (ap app_named right.1.command ∙ named_app right.0.command) ∙ right.1.taken
+pub same_faults : (name : List ℕ) (c : Command) → name ≡ command_name c → (rest : List (List ℕ))
+    → faults_in (app_named name) rest ≡ faults_in (command_app c) rest
+same_faults name c is rest = ap (λ (a : App). faults_in a rest) (ap app_named is ∙ named_app c)
 
 -- a fault of the reader, as it is handed on
 abbrev pub IsHandedOn : Error → WordFault → Type 0
@@ -65,37 +54,31 @@ handed_on (Err f) e [] h (inr among) = absurd among
 handed_on (Err f) e (k ∷ ks) h (inr among) = λ is none. cc
 
 -- words in which the reader finds a fault
-pub refused : {T : Type 0} (app given : App) → IsGiven app given → (words : List (List ℕ)) (e : Error)
-    → (is_simple_and_free given ≡ true → HasKind (fault_of given words) e) → (r : Result T WordFault) → IsErrAnd r (IsHandedOn e)
-    → IfErr r (λ f. f ≡ Words → faults_in app (drop 1 words) ≢ [])
-refused app given g words e kinds r h =
-    handed_on r e _ h
-    (subst (λ ks. HasKind ks e) (faults_read app given g words) (by_app (λ a. HasKind (fault_of a words) e) app given g kinds))
-
-pub refused_right : {T : Type 0} (name : List ℕ) (given : App) → IsGiven (app_named name) given → (words : List (List ℕ)) (e : Error)
+pub refused : {T : Type 0} (name : List ℕ) (given : App) → given ≡ app_named name → (words : List (List ℕ)) (e : Error)
     → (is_simple_and_free given ≡ true → HasKind (fault_of given words) e) → (r : Result T WordFault) → IsErrAnd r (IsHandedOn e)
     → IfErr r (λ f. f ≡ Words → AreRightFor name (drop 1 words) → ⊥)
-refused_right name given g words e kinds r h =
-    IfErr-weaker r _ _ (λ f wrong is right. wrong is (right_taken name (drop 1 words) right))
-    (refused (app_named name) given g words e kinds r h)
+refused name given same words e kinds r h =
+    let among = subst (λ ks. HasKind ks e) (faults_read name words) (by_name (λ a. HasKind (fault_of a words) e) name given same kinds) in
+    IfErr-weaker r _ _ (λ f wrong is right. wrong is (same_faults name right.0.command right.1.command (drop 1 words) ∙ right.1.taken))
+    (handed_on r e _ h among)
 
 -- two words that differ
 other : (a b : List ℕ) → bytes_eq a b ≡ false → a ≡ b → ⊥
 other a b e is = true≢false (sym ((bytes_eq-Decides a b).1 is) ∙ e)
 
 -- a byte of an input is not given where each volume of it is meant
-pub no_place : (rest : List (List ℕ)) → has_flag (codes "--all") rest ≡ true
-    → is_some (text_in normalise_app (codes "at") rest) ≡ true → AreRightFor (codes "normalise") rest → ⊥
-no_place rest all given right = go right.0.command right.1.command right.1.texts
+pub no_place : (rest : List (List ℕ)) (given : Option ℕ) → has_flag (codes "--all") rest ≡ true
+    → IsAtWord (text_in normalise_app (codes "at") rest) given → is_some given ≡ true → AreRightFor (codes "normalise") rest → ⊥
+no_place rest given all word some right = go right.0.command right.1.command right.1.texts
   where
-    placed : (text : Option (List ℕ)) (at : Option ℕ) → at ≡ None → IsAtWord text at → is_some text ≡ true → ⊥
-    placed None at none h some = cc
-    placed (Some t) None none h some = h
-    placed (Some t) (Some n) none h some = cc
+    placed : (text : Option (List ℕ)) (given at : Option ℕ) → IsAtWord text given → is_some given ≡ true → at ≡ None → IsAtWord text at → ⊥
+    placed None given at h some none is = true≢false (sym some ∙ ap is_some h)
+    placed (Some t) given None h some none is = is
+    placed (Some t) given (Some n) h some none is = cc
 
     go : (c : Command) → codes "normalise" ≡ command_name c → HasTexts rest c → ⊥
     go (Single Normalise at file) is texts = true≢false (sym all ∙ texts.0)
-    go (Single NormaliseAll at file) is texts = placed _ at texts.1 texts.2.0 given
+    go (Single NormaliseAll at file) is texts = placed _ given at word some texts.1 texts.2.0
     go c is texts = absurd (other _ _ refl is)
 
 -- a part needs a name that is read, and a type, if one is given

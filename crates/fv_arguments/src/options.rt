@@ -1,19 +1,15 @@
 //! The commands: their arguments as a plan.
 
-ghost use Rattle.clap.specs.Words.{first_value, found_of};
-ghost use Rattle.fv_arguments.specs.Options.{faults_in, one_input_app, text_in, volume_app};
-ghost use Rattle.fv_arguments.specs.inner.CommandWords.{AreRightFor};
-ghost use Rattle.fv_arguments.specs.Words.{AsksBy, HasInput, IsFileWord, IsSectionTypeWord, has_flag};
+ghost use Rattle.clap.specs.Words.{App, first_value, found_of};
+ghost use Rattle.fv_arguments.specs.inner.CommandWords.{AreRightFor, AsksFor, IsRead, has_number};
+ghost use Rattle.fv_arguments.specs.Words.{AsksBy, HasInput, IsSectionTypeWord};
 ghost use Rattle.fv_base.specs.Guids.{guid_read};
 ghost use Rattle.std.specs.String.{string_bytes};
-ghost use Rattle.std.specs.Prelude.{◌≡◌, ◌≢◌, ◌≤◌, ℕ, None, Option, Some, [], false, codes, drop, is_some, length, map};
-ghost use Rattle.std.specs.Prelude.{option_and_then, option_map, true, IfErr, IfOk, SomeIff};
+ghost use Rattle.std.specs.Prelude.{◌≡◌, ◌≢◌, ◌≤◌, ℕ, List, None, Option, Some, codes, drop, is_some, length, map};
+ghost use Rattle.std.specs.Prelude.{if◌then◌else◌, option_and_then, option_map, true, IfErr, IfOk, SomeIff};
 ghost use Rattle.std.specs.Str.Parse.{IsNumeral, digits_value};
 
-use crate::rules::{
-    compare_words, extract_words, hobs_words, list_words, normalise_words, one_input_words,
-    volume_words,
-};
+use crate::rules::rules_of;
 use crate::words::WordFault;
 use clap::ArgMatches;
 use clap::error::ErrorKind;
@@ -31,11 +27,7 @@ impl From<clap::Error> for WordFault {
         × (kind_of e ≢ error_kinds.OutOfMemory → f ≡ Words) };
 
     fn from(error: clap::Error) -> WordFault {
-        if error.kind() == ErrorKind::OutOfMemory {
-            WordFault::OutOfMemory
-        } else {
-            WordFault::Words
-        }
+        WordFault::by_memory(error.kind() == ErrorKind::OutOfMemory)
     }
 }
 
@@ -53,97 +45,45 @@ fn file_of(
     }
 }
 
-// The flag and the file of a command with one input.
-fn one_input(alloc: Global, words: &[String]) -> Result<(bool, Option<String>), WordFault>
-    ensures hex { IfOk result (λ r. r.0 ≡ has_flag (codes "--hex") (drop 1 (map string_bytes words.now))) }
-    ensures file { IfOk result (λ r. IsFileWord (text_in one_input_app (codes "file")
-        (drop 1 (map string_bytes words.now))) r.1) }
-
-    // The arguments are accepted if the parser finds no fault in them, and rejected as wrong if it
-    // finds one.
-    ensures taken { IfOk result (λ _. faults_in one_input_app (drop 1 (map string_bytes words.now)) ≡ []) }
-    ensures wrong { IfErr result (λ f. f ≡ WordFault.Words
-        → faults_in one_input_app (drop 1 (map string_bytes words.now)) ≢ []) }
-{
-    let matches = one_input_words(alloc)?.try_get_matches_from(words)?;
-    Ok((matches.get_flag("hex"), file_of(alloc, &matches, "file")?))
-}
-
-// The flag, the byte at which the volume begins, and the file of a command with a volume in an
-// input.
-fn volume_input(
+// The input of a command: the byte at which the volume begins, and the file, if they were given.
+fn input_of(
     alloc: Global,
-    words: &[String],
-) -> Result<(bool, Option<u64>, Option<String>), WordFault>
-    ensures hex { IfOk result (λ r. r.0 ≡ has_flag (codes "--hex") (drop 1 (map string_bytes words.now))) }
-    ensures input { IfOk result (λ r. HasInput volume_app (drop 1 (map string_bytes words.now)) r.1 r.2) }
-
-    // The arguments are accepted if the parser finds no fault in them, and rejected as wrong if it
-    // finds one.
-    ensures taken { IfOk result (λ _. faults_in volume_app (drop 1 (map string_bytes words.now)) ≡ []) }
-    ensures wrong { IfErr result (λ f. f ≡ WordFault.Words
-        → faults_in volume_app (drop 1 (map string_bytes words.now)) ≢ []) }
+    matches: &ArgMatches<'_>,
+) -> Result<(Option<u64>, Option<String>), AllocError>
+    ensures { IfOk result (λ i. (app : App) (rest : List (List ℕ)) → IsRead app rest matches.now
+        → has_number 18446744073709551615 (codes "at") app ≡ true → HasInput app rest i.0 i.1) }
 {
-    let matches = volume_words(alloc)?.try_get_matches_from(words)?;
     let at = matches.get_one::<u64>("at");
-    Ok((
-        matches.get_flag("hex"),
-        at,
-        file_of(alloc, &matches, "file")?,
-    ))
+    Ok((at, file_of(alloc, matches, "file")?))
 }
 
-// The task of `normalise`: with the flag, all volumes of an image are meant.
-fn normalise_task(all: bool) -> Task
-    ensures all { all ≡ true → result ≡ Task.NormaliseAll }
-    ensures one { all ≡ false → result ≡ Task.Normalise }
+// One task if a flag is given, and another if it is not.
+fn task_by(given: bool, task: Task, other: Task) -> Task
+    ensures { result ≡ if given then task else other }
 {
-    if all {
-        Task::NormaliseAll
-    } else {
-        Task::Normalise
-    }
+    if given { task } else { other }
 }
 
-// A volume, or an image with all its volumes.
-fn normalise(alloc: Global, words: &[String]) -> Result<Plan, WordFault>
-    ensures asked { IfOk result (AsksBy (codes "normalise") (drop 1 (map string_bytes words.now))) }
-
-    // No arguments that are right are rejected as wrong.
-    ensures wrong { IfErr result (λ f. f ≡ WordFault.Words
-        → AreRightFor (codes "normalise") (drop 1 (map string_bytes words.now)) → ⊥) }
+// A volume, or with the flag an image with all its volumes. Then no byte is given.
+fn normalise(alloc: Global, matches: &ArgMatches<'_>) -> Result<Command, WordFault>
+    ensures { AsksFor (codes "normalise") matches.now result }
 {
-    let matches = normalise_words(alloc)?.try_get_matches_from(words)?;
     let all = matches.get_flag("all");
-    let at = matches.get_one::<u64>("at");
+    let (at, file) = input_of(alloc, matches)?;
     if all && at.is_some() {
         return Err(WordFault::Words);
     }
-    let file = file_of(alloc, &matches, "file")?;
-    Ok(single(normalise_task(all), (matches.get_flag("hex"), at, file)))
-}
-
-// The task of `list`: with the flag, digests are shown.
-fn list_task(sums: bool) -> Task
-    ensures sums { sums ≡ true → result ≡ Task.ListSums }
-    ensures plain { sums ≡ false → result ≡ Task.List }
-{
-    if sums { Task::ListSums } else { Task::List }
+    let task = task_by(all, Task::NormaliseAll, Task::Normalise);
+    Ok(Command::Single { task, at, file })
 }
 
 // A volume, and whether its list shows digests.
-fn list(alloc: Global, words: &[String]) -> Result<Plan, WordFault>
-    ensures asked { IfOk result (AsksBy (codes "list") (drop 1 (map string_bytes words.now))) }
-
-    // No arguments that are right are rejected as wrong.
-    ensures wrong { IfErr result (λ f. f ≡ WordFault.Words
-        → AreRightFor (codes "list") (drop 1 (map string_bytes words.now)) → ⊥) }
+fn list(alloc: Global, matches: &ArgMatches<'_>) -> Result<Command, WordFault>
+    ensures { AsksFor (codes "list") matches.now result }
 {
-    let matches = list_words(alloc)?.try_get_matches_from(words)?;
-    let sums = matches.get_flag("sums");
-    let at = matches.get_one::<u64>("at");
-    let file = file_of(alloc, &matches, "file")?;
-    Ok(single(list_task(sums), (matches.get_flag("hex"), at, file)))
+    let task = task_by(matches.get_flag("sums"), Task::ListSums, Task::List);
+    let (at, file) = input_of(alloc, matches)?;
+    Ok(Command::Single { task, at, file })
 }
 
 // The image of this path and this base, if they are given: one without the other is wrong.
@@ -167,21 +107,13 @@ fn image_of(
 }
 
 // A list, and the image in which its volumes are looked for.
-fn hobs(alloc: Global, words: &[String]) -> Result<Plan, WordFault>
-    ensures asked { IfOk result (AsksBy (codes "hobs") (drop 1 (map string_bytes words.now))) }
-
-    // No arguments that are right are rejected as wrong.
-    ensures wrong { IfErr result (λ f. f ≡ WordFault.Words
-        → AreRightFor (codes "hobs") (drop 1 (map string_bytes words.now)) → ⊥) }
+fn hobs(alloc: Global, matches: &ArgMatches<'_>) -> Result<Command, WordFault>
+    ensures { AsksFor (codes "hobs") matches.now result }
 {
-    let matches = hobs_words(alloc)?.try_get_matches_from(words)?;
     let (path, base) = (matches.get_str("image"), matches.get_one::<u64>("base"));
-    Ok(Plan {
-        hex: matches.get_flag("hex"),
-        command: Command::Hobs {
-            file: file_of(alloc, &matches, "file")?,
-            image: image_of(alloc, path, base)?,
-        },
+    Ok(Command::Hobs {
+        file: file_of(alloc, matches, "file")?,
+        image: image_of(alloc, path, base)?,
     })
 }
 
@@ -229,78 +161,61 @@ fn name_of(text: Option<&str>) -> Result<Guid, WordFault>
 
 // A volume, and the part of it that is written: the first section of a type if no other is asked
 // for.
-fn extract(alloc: Global, words: &[String]) -> Result<Plan, WordFault>
-    ensures asked { IfOk result (AsksBy (codes "extract") (drop 1 (map string_bytes words.now))) }
-
-    // No arguments that are right are rejected as wrong.
-    ensures wrong { IfErr result (λ f. f ≡ WordFault.Words
-        → AreRightFor (codes "extract") (drop 1 (map string_bytes words.now)) → ⊥) }
+fn extract(alloc: Global, matches: &ArgMatches<'_>) -> Result<Command, WordFault>
+    ensures { AsksFor (codes "extract") matches.now result }
 {
-    let matches = extract_words(alloc)?.try_get_matches_from(words)?;
     let part = Part {
         name: name_of(matches.get_str("name"))?,
         section: section_of(matches.get_str("section"))?,
         instance: matches.get_one::<u32>("instance").unwrap_or(1),
     };
-    Ok(Plan {
-        hex: matches.get_flag("hex"),
-        command: Command::Single {
-            task: Task::Extract(part),
-            at: matches.get_one::<u64>("at"),
-            file: file_of(alloc, &matches, "file")?,
-        },
-    })
+    let (at, file) = input_of(alloc, matches)?;
+    let task = Task::Extract(part);
+    Ok(Command::Single { task, at, file })
 }
 
 // The two files that are compared: both must be named.
-fn compare(alloc: Global, words: &[String]) -> Result<Plan, WordFault>
-    ensures asked { IfOk result (AsksBy (codes "compare") (drop 1 (map string_bytes words.now))) }
-
-    // No arguments that are right are rejected as wrong.
-    ensures wrong { IfErr result (λ f. f ≡ WordFault.Words
-        → AreRightFor (codes "compare") (drop 1 (map string_bytes words.now)) → ⊥) }
+fn compare(alloc: Global, matches: &ArgMatches<'_>) -> Result<Command, WordFault>
+    ensures { AsksFor (codes "compare") matches.now result }
 {
-    let matches = compare_words(alloc)?.try_get_matches_from(words)?;
     match (matches.get_str("first"), matches.get_str("second")) {
-        (Some(first), Some(second)) => Ok(Plan {
-            hex: matches.get_flag("hex"),
-            command: Command::Compare {
-                first: VolumeFile {
-                    path: String::from_str(alloc, first)?,
-                    at: matches.get_one::<u64>("at"),
-                },
-                second: VolumeFile {
-                    path: String::from_str(alloc, second)?,
-                    at: matches.get_one::<u64>("other-at"),
-                },
+        (Some(first), Some(second)) => Ok(Command::Compare {
+            first: VolumeFile {
+                path: String::from_str(alloc, first)?,
+                at: matches.get_one::<u64>("at"),
+            },
+            second: VolumeFile {
+                path: String::from_str(alloc, second)?,
+                at: matches.get_one::<u64>("other-at"),
             },
         }),
         _ => Err(WordFault::Words),
     }
 }
 
-// The plan of a task over one input.
-fn single(task: Task, given: (bool, Option<u64>, Option<String>)) -> Plan
-    ensures hex { result.hex ≡ given.0 }
-    ensures command { result.command ≡ Command.Single task given.1 given.2 }
+// A task over an input.
+fn single(task: Task, input: (Option<u64>, Option<String>)) -> Command
+    ensures { result ≡ Command.Single task input.0 input.1 }
 {
-    let (hex, at, file) = given;
-    Plan {
-        hex,
-        command: Command::Single { task, at, file },
-    }
+    let (at, file) = input;
+    Command::Single { task, at, file }
 }
 
-// Bytes in which volumes are looked for.
-fn scan(alloc: Global, words: &[String]) -> Result<Plan, WordFault>
-    ensures asked { IfOk result (AsksBy (codes "scan") (drop 1 (map string_bytes words.now))) }
-
-    // No arguments that are right are rejected as wrong.
-    ensures wrong { IfErr result (λ f. f ≡ WordFault.Words
-        → AreRightFor (codes "scan") (drop 1 (map string_bytes words.now)) → ⊥) }
+// The command of this name, with what was found in its arguments.
+fn command_of(alloc: Global, name: &str, matches: &ArgMatches<'_>) -> Result<Command, WordFault>
+    ensures { AsksFor name.now matches.now result }
 {
-    let (hex, file) = one_input(alloc, words)?;
-    Ok(single(Task::Scan, (hex, None, file)))
+    match name {
+        "normalise" => normalise(alloc, matches),
+        "hobs" => hobs(alloc, matches),
+        "list" => list(alloc, matches),
+        "extract" => extract(alloc, matches),
+        "check" => Ok(single(Task::Check, input_of(alloc, matches)?)),
+        "cells" => Ok(single(Task::Cells, input_of(alloc, matches)?)),
+        "scan" => Ok(single(Task::Scan, (None, file_of(alloc, matches, "file")?))),
+        "compare" => compare(alloc, matches),
+        _ => Err(WordFault::Words),
+    }
 }
 
 /// Reads the arguments of the command with this name. The first of them is the name itself.
@@ -315,15 +230,8 @@ pub fn parse_command(alloc: Global, name: &str, words: &[String]) -> Result<Plan
     ensures wrong { IfErr result (λ f. f ≡ WordFault.Words
         → AreRightFor name.now (drop 1 (map string_bytes words.now)) → ⊥) }
 {
-    match name {
-        "normalise" => normalise(alloc, words),
-        "hobs" => hobs(alloc, words),
-        "list" => list(alloc, words),
-        "extract" => extract(alloc, words),
-        "check" => Ok(single(Task::Check, volume_input(alloc, words)?)),
-        "cells" => Ok(single(Task::Cells, volume_input(alloc, words)?)),
-        "scan" => scan(alloc, words),
-        "compare" => compare(alloc, words),
-        _ => Err(WordFault::Words),
-    }
+    let matches = rules_of(alloc, name)?.try_get_matches_from(words)?;
+    let hex = matches.get_flag("hex");
+    let command = command_of(alloc, name, &matches)?;
+    Ok(Plan { hex, command })
 }

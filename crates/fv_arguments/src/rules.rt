@@ -1,13 +1,13 @@
 //! The rules of the commands: the flags, options and files that each of them takes.
 
-ghost use Rattle.clap.specs.Words.{app_of, rule_of};
-ghost use Rattle.fv_arguments.specs.Options.{compare_app, extract_app, flag_app, hobs_app, list_app, normalise_app};
-ghost use Rattle.fv_arguments.specs.Options.{one_input_app, volume_app};
+ghost use Rattle.clap.specs.Words.{app_of, new_rule, rule_of, with_rule};
+ghost use Rattle.fv_arguments.specs.Options.{at_rule, compare_app, extract_app, flag_app, hobs_app};
 ghost use Rattle.fv_arguments.specs.Options.{flag_rule, number_rule, option_rule};
-ghost use Rattle.std.specs.Prelude.{◌≡◌, false, IfOk};
+ghost use Rattle.fv_arguments.specs.inner.CommandWords.{app_named};
+ghost use Rattle.std.specs.Prelude.{◌≡◌, codes, false, IfOk};
 
 use clap::builder::ValueParser;
-use clap::{Arg, ArgAction};
+use clap::{Arg, ArgAction, Command};
 use std::alloc::{AllocError, Global};
 
 // A flag of this name.
@@ -34,59 +34,24 @@ fn number_option<'a>(alloc: Global, name: &'static str, most: u64) -> Arg<'a>
     text_option(alloc, name).value_parser(ValueParser::unsigned(0, most))
 }
 
+// These rules, and a volume in an input: the byte at which it begins, and the file.
+fn with_volume<'a>(alloc: Global, rules: Command<'a>) -> Result<Command<'a>, AllocError>
+    ensures { IfOk result (λ c. app_of c ≡ with_rule (with_rule (app_of rules.entry) at_rule) (new_rule (codes "file"))) }
+{
+    rules
+        .arg(number_option(alloc, "at", u64::MAX))?
+        .arg(Arg::new(alloc, "file"))
+}
+
 // The rules of a command with the flag that inputs and outputs are text.
-pub(crate) fn flag_words<'a>(alloc: Global) -> Result<clap::Command<'a>, AllocError>
+fn flag_words<'a>(alloc: Global) -> Result<Command<'a>, AllocError>
     ensures { IfOk result (λ c. app_of c ≡ flag_app) }
 {
-    clap::Command::new(alloc, "fvtool").arg(flag(alloc, "hex"))
-}
-
-// The rules of a command with one input.
-pub(crate) fn one_input_words<'a>(alloc: Global) -> Result<clap::Command<'a>, AllocError>
-    ensures { IfOk result (λ c. app_of c ≡ one_input_app) }
-{
-    flag_words(alloc)?.arg(Arg::new(alloc, "file"))
-}
-
-// An option of this name, with the byte of an input as its value.
-fn at_option<'a>(alloc: Global, name: &'static str) -> Arg<'a>
-    ensures rule { rule_of result ≡ number_rule name.now 18446744073709551615 }
-    ensures local { result.global ≡ false }
-{
-    number_option(alloc, name, u64::MAX)
-}
-
-// The rules of a command with a volume in an input.
-pub(crate) fn volume_words<'a>(alloc: Global) -> Result<clap::Command<'a>, AllocError>
-    ensures { IfOk result (λ c. app_of c ≡ volume_app) }
-{
-    flag_words(alloc)?
-        .arg(at_option(alloc, "at"))?
-        .arg(Arg::new(alloc, "file"))
-}
-
-// The rules of `normalise`, with the flag that all volumes of an image are meant.
-pub(crate) fn normalise_words<'a>(alloc: Global) -> Result<clap::Command<'a>, AllocError>
-    ensures { IfOk result (λ c. app_of c ≡ normalise_app) }
-{
-    flag_words(alloc)?
-        .arg(flag(alloc, "all"))?
-        .arg(at_option(alloc, "at"))?
-        .arg(Arg::new(alloc, "file"))
-}
-
-// The rules of `list`, with the flag that digests are shown.
-pub(crate) fn list_words<'a>(alloc: Global) -> Result<clap::Command<'a>, AllocError>
-    ensures { IfOk result (λ c. app_of c ≡ list_app) }
-{
-    flag_words(alloc)?
-        .arg(flag(alloc, "sums"))?
-        .arg(at_option(alloc, "at"))?
-        .arg(Arg::new(alloc, "file"))
+    Command::new(alloc, "fvtool").arg(flag(alloc, "hex"))
 }
 
 // The rules of `hobs`. That an image and a base are given together is checked after parsing.
-pub(crate) fn hobs_words<'a>(alloc: Global) -> Result<clap::Command<'a>, AllocError>
+fn hobs_words<'a>(alloc: Global) -> Result<Command<'a>, AllocError>
     ensures { IfOk result (λ c. app_of c ≡ hobs_app) }
 {
     flag_words(alloc)?
@@ -96,24 +61,39 @@ pub(crate) fn hobs_words<'a>(alloc: Global) -> Result<clap::Command<'a>, AllocEr
 }
 
 // The rules of `extract`. That a file is named is checked after parsing.
-pub(crate) fn extract_words<'a>(alloc: Global) -> Result<clap::Command<'a>, AllocError>
+fn extract_words<'a>(alloc: Global) -> Result<Command<'a>, AllocError>
     ensures { IfOk result (λ c. app_of c ≡ extract_app) }
 {
-    flag_words(alloc)?
-        .arg(text_option(alloc, "name"))?
+    let named = flag_words(alloc)?.arg(text_option(alloc, "name"))?;
+    let parts = named
         .arg(text_option(alloc, "section"))?
-        .arg(number_option(alloc, "instance", u64::from(u32::MAX)))?
-        .arg(at_option(alloc, "at"))?
-        .arg(Arg::new(alloc, "file"))
+        .arg(number_option(alloc, "instance", u64::from(u32::MAX)))?;
+    with_volume(alloc, parts)
 }
 
 // The rules of `compare`, which has two inputs. That both are named is checked after parsing.
-pub(crate) fn compare_words<'a>(alloc: Global) -> Result<clap::Command<'a>, AllocError>
+fn compare_words<'a>(alloc: Global) -> Result<Command<'a>, AllocError>
     ensures { IfOk result (λ c. app_of c ≡ compare_app) }
 {
     flag_words(alloc)?
-        .arg(at_option(alloc, "at"))?
-        .arg(at_option(alloc, "other-at"))?
+        .arg(number_option(alloc, "at", u64::MAX))?
+        .arg(number_option(alloc, "other-at", u64::MAX))?
         .arg(Arg::new(alloc, "first"))?
         .arg(Arg::new(alloc, "second"))
+}
+
+// The rules of the command of this name. `check` and `cells` have those of a volume, and so does a
+// name that is no command. It is rejected after parsing.
+pub(crate) fn rules_of<'a>(alloc: Global, name: &str) -> Result<Command<'a>, AllocError>
+    ensures { IfOk result (λ c. app_of c ≡ app_named name.now) }
+{
+    match name {
+        "normalise" => with_volume(alloc, flag_words(alloc)?.arg(flag(alloc, "all"))?),
+        "list" => with_volume(alloc, flag_words(alloc)?.arg(flag(alloc, "sums"))?),
+        "hobs" => hobs_words(alloc),
+        "extract" => extract_words(alloc),
+        "compare" => compare_words(alloc),
+        "scan" => flag_words(alloc)?.arg(Arg::new(alloc, "file")),
+        _ => with_volume(alloc, flag_words(alloc)?),
+    }
 }

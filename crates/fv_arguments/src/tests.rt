@@ -5,13 +5,17 @@ use fv_base::Guid;
 use std::alloc::{AllocError, Global};
 use std::test::Fail;
 
-// The words of a line, separated by spaces. An empty line has none.
+/// A GUID as `--name` takes it.
+const NAME: &str = "0a0a0a0a-0a0a-0a0a-0a0a-0a0a0a0a0a0a";
+
+// The words of a line, separated by spaces, with that GUID for NAME. An empty line has none.
 fn words_of(alloc: Global, line: &str) -> Result<Vec<String>, AllocError> {
     let mut words = Vec::new(alloc);
     if line.is_empty() {
         return Ok(words);
     }
     for word in line.split(' ') {
+        let word = if word == "NAME" { NAME } else { word };
         let word = String::from_str(alloc, word)?;
         words.push(word)?;
     }
@@ -127,9 +131,6 @@ fn reads_words(rt: HostRuntime) -> Result<(), Fail> {
     Ok(())
 }
 
-/// A GUID as `--name` takes it.
-const NAME: &str = "0a0a0a0a-0a0a-0a0a-0a0a-0a0a0a0a0a0a";
-
 // How a plan is shown that extracts from the file with that name.
 fn extraction(
     alloc: Global,
@@ -150,79 +151,81 @@ fn extraction(
 #[test]
 fn reads_parts(rt: HostRuntime) -> Result<(), Fail> {
     let cases = [
-        ("", false, "None", 1, "None"),
-        ("--hex a.txt", true, "None", 1, "Some(\"a.txt\")"),
+        ("fv extract --name NAME", false, "None", 1, "None"),
         (
-            "--section 19 --instance 2 --hex",
+            "fv extract --name NAME --hex a.txt",
+            true,
+            "None",
+            1,
+            "Some(\"a.txt\")",
+        ),
+        (
+            "fv extract --name NAME --section 19 --instance 2 --hex",
             true,
             "Some(25)",
             2,
             "None",
         ),
-        ("--section 1 a.fv", false, "Some(1)", 1, "Some(\"a.fv\")"),
-        ("--section=1B", false, "Some(27)", 1, "None"),
-        ("--section 1b", false, "Some(27)", 1, "None"),
-        ("--section ff", false, "Some(255)", 1, "None"),
-        ("--section 00", false, "Some(0)", 1, "None"),
-        ("--instance 0", false, "None", 0, "None"),
-        ("--instance +3", false, "None", 3, "None"),
-        ("--instance 4294967295", false, "None", 4294967295, "None"),
+        (
+            "fv extract --name NAME --section 1 a.fv",
+            false,
+            "Some(1)",
+            1,
+            "Some(\"a.fv\")",
+        ),
+        (
+            "fv extract --name NAME --section=1B",
+            false,
+            "Some(27)",
+            1,
+            "None",
+        ),
+        (
+            "fv extract --name NAME --section 1b",
+            false,
+            "Some(27)",
+            1,
+            "None",
+        ),
+        (
+            "fv extract --name NAME --section ff",
+            false,
+            "Some(255)",
+            1,
+            "None",
+        ),
+        (
+            "fv extract --name NAME --section 00",
+            false,
+            "Some(0)",
+            1,
+            "None",
+        ),
+        (
+            "fv extract --name NAME --instance 0",
+            false,
+            "None",
+            0,
+            "None",
+        ),
+        (
+            "fv extract --name NAME --instance +3",
+            false,
+            "None",
+            3,
+            "None",
+        ),
+        (
+            "fv extract --name NAME --instance 4294967295",
+            false,
+            "None",
+            4294967295,
+            "None",
+        ),
     ];
-    for (words, hex, section, instance, file) in cases {
-        let line = if words.is_empty() {
-            format!(in rt.alloc(); "fv extract --name {NAME}")?
-        } else {
-            format!(in rt.alloc(); "fv extract --name {NAME} {words}")?
-        };
+    for (line, hex, section, instance, file) in cases {
         let wanted = extraction(rt.alloc(), hex, section, instance, file)?;
-        assert!(rt;
-            is_shown_as(rt.alloc(), line.as_str(), wanted.as_str())?,
-            "{line}"
-        );
-    }
-    Ok(())
-}
-
-#[test]
-fn refuses_parts(rt: HostRuntime) -> Result<(), Fail> {
-    let lines = [
-        "fv extract",
-        "fv extract a.fv",
-        "fv extract --section 19",
-        "fv extract --name",
-        "fv extract --name ",
-        "fv extract --name 0a0a",
-        "fv extract --name 0a0a0a0a-0a0a-0a0a-0a0a-0a0a0a0a0a0g",
-        "fv extract --name 0a0a0a0a-0a0a-0a0a-0a0a-0a0a0a0a0a0a0",
-    ];
-    for line in lines {
-        assert!(rt; are_wrong(rt.alloc(), line)?, "{line}");
-    }
-    let rests = [
-        "--section +1",
-        "--section ",
-        "--section=",
-        "--section 100",
-        "--section 1g",
-        "--section 0x1",
-        "--section -1",
-        "--section=-1",
-        "--section",
-        "--instance -1",
-        "--instance=-1",
-        "--instance=-0",
-        "--instance=0x1",
-        "--instance 4294967296",
-        "--instance x",
-        "--instance ",
-        "--instance",
-        "--name 0a0a0a0a-0a0a-0a0a-0a0a-0a0a0a0a0a0a",
-        "--image a.fv",
-        "a.fv b.fv",
-    ];
-    for rest in rests {
-        let line = format!(in rt.alloc(); "fv extract --name {NAME} {rest}")?;
-        assert!(rt; are_wrong(rt.alloc(), line.as_str())?, "{line}");
+        assert!(rt; is_shown_as(rt.alloc(), line, wanted.as_str())?, "{line}");
     }
     Ok(())
 }
@@ -290,6 +293,34 @@ fn refuses_words(rt: HostRuntime) -> Result<(), Fail> {
         "fv list --version",
         "fv check a.fv b.fv",
         "fv check --name 0a0a0a0a-0a0a-0a0a-0a0a-0a0a0a0a0a0a",
+        "fv extract",
+        "fv extract a.fv",
+        "fv extract --section 19",
+        "fv extract --name",
+        "fv extract --name ",
+        "fv extract --name 0a0a",
+        "fv extract --name 0a0a0a0a-0a0a-0a0a-0a0a-0a0a0a0a0a0g",
+        "fv extract --name 0a0a0a0a-0a0a-0a0a-0a0a-0a0a0a0a0a0a0",
+        "fv extract --name NAME --section +1",
+        "fv extract --name NAME --section ",
+        "fv extract --name NAME --section=",
+        "fv extract --name NAME --section 100",
+        "fv extract --name NAME --section 1g",
+        "fv extract --name NAME --section 0x1",
+        "fv extract --name NAME --section -1",
+        "fv extract --name NAME --section=-1",
+        "fv extract --name NAME --section",
+        "fv extract --name NAME --instance -1",
+        "fv extract --name NAME --instance=-1",
+        "fv extract --name NAME --instance=-0",
+        "fv extract --name NAME --instance=0x1",
+        "fv extract --name NAME --instance 4294967296",
+        "fv extract --name NAME --instance x",
+        "fv extract --name NAME --instance ",
+        "fv extract --name NAME --instance",
+        "fv extract --name NAME --name NAME",
+        "fv extract --name NAME --image a.fv",
+        "fv extract --name NAME a.fv b.fv",
         "fv help",
         "fv help list",
         "fv --help",

@@ -1,7 +1,7 @@
 //! The command line.
 
 ghost use Rattle.std.specs.String.{string_bytes};
-ghost use Rattle.std.specs.Prelude.{◌≡◌, ◌≤◌, length, map, IfErr, IfOk, Ok};
+ghost use Rattle.std.specs.Prelude.{◌≡◌, ◌≤◌, false, length, map, true, IfErr, IfOk, Ok};
 ghost use Rattle.fv_arguments.specs.Words.{AreRight, Asks, plan_without_words};
 
 use crate::options::parse_command;
@@ -17,6 +17,20 @@ pub enum WordFault {
     Words,
     /// Memory ran out.
     OutOfMemory,
+}
+
+impl WordFault {
+    // The fault that an error is: memory ran out, or anything else.
+    pub(crate) fn by_memory(ran_out: bool) -> WordFault
+        ensures memory { ran_out ≡ true → result ≡ WordFault.OutOfMemory }
+        ensures other { ran_out ≡ false → result ≡ WordFault.Words }
+    {
+        if ran_out {
+            WordFault::OutOfMemory
+        } else {
+            WordFault::Words
+        }
+    }
 }
 
 impl From<AllocError> for WordFault {
@@ -39,11 +53,7 @@ impl From<io::Error> for WordFault {
         × (error_kind e ≢ error_kinds.OutOfMemory → f ≡ Words) };
 
     fn from(error: io::Error) -> WordFault {
-        if error.kind() == ErrorKind::OutOfMemory {
-            WordFault::OutOfMemory
-        } else {
-            WordFault::Words
-        }
+        WordFault::by_memory(error.kind() == ErrorKind::OutOfMemory)
     }
 }
 

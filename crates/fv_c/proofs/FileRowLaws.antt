@@ -1,6 +1,6 @@
 -- The files of a volume, row by row.
-use Rattle.std.proofs.Common.{◌≡◌, ◌∙◌, ◌⊎◌, ℕ, ◌+◌, ◌<◌, ◌≤◌, ◌^◌, List, [], ◌∷◌, ◌++◌, length, drop, get_or, map, refl, sym, ap, subst, arith, zero, suc}
-use Rattle.std.proofs.Common.{append-nil, inl, inr, slice_index_or}
+use Rattle.std.proofs.Common.{◌≡◌, ◌∙◌, ◌⊎◌, ℕ, ◌+◌, ◌<◌, ◌≤◌, List, [], ◌∷◌, ◌++◌, length, drop, get_or, map, refl, sym, ap, subst, suc}
+use Rattle.std.proofs.Common.{append-nil, inl, inr}
 use Rattle.std.specs.List.{AllByRecursion}
 use Rattle.std.specs.Prelude.{◌≢◌}
 use Rattle.std.proofs.lemmas.List.{append_assoc, drop_more, drop_all}
@@ -8,13 +8,11 @@ use Rattle.fv_base.specs.Faults.{out_of_memory}
 use Rattle.fv_base.specs.declared.fault.Fault.{Fault}
 use Rattle.fv_tree.specs.Denotes.{Accepted, Pairwise, MeansFile, Stream}
 use Rattle.fv_tree.specs.Files.{FileForm}
-use Rattle.fv_tree.specs.FirstFault.{data_place}
 use Rattle.fv_tree.specs.LocatedFiles.{file_form, BeginWithFiles, HasDataIn}
-use Rattle.fv_tree.specs.Meaning.{Meaning, FileMeaning, files_of, head_of}
+use Rattle.fv_tree.specs.Meaning.{Meaning, FileMeaning, files_of}
 use Rattle.fv_tree.specs.declared.volume_files.LocatedFile.{LocatedFile}
 use Rattle.fv_tree.proofs.Laws.{volume_files, want_known}
 use Rattle.fv_base.specs.Limits.{depth_limit}
-use Rattle.fv_head.proofs.Laws.{front_lies}
 use Rattle.fv_c.specs.ReportedFiles.{HasFileRows, reported_file, reported_files}
 use Rattle.fv_c.specs.declared.files.FvFile.{FvFile}
 
@@ -55,25 +53,6 @@ pub rows_over : (rows : List FvFile) (i : ℕ) (stored : List LocatedFile) (file
 rows_over rows i stored files l have =
     sym (ap (λ (xs : List LocatedFile). rows ++ reported_files (map file_form xs) (drop i files)) (drop_all i stored l) ∙ append-nil rows)
     ∙ have
-
--- ---- the places
-
-pub place_at : (stored : List LocatedFile) (i : ℕ) (d : LocatedFile) → i < length stored
-    → AllByRecursion (λ f. data_place f < 2 ^ 63) (map file_form stored) → data_place (file_form (slice_index_or stored i d)) < 2 ^ 63
-place_at [] i d l all = absurd (omega (arith, l))
-place_at (y ∷ ys) zero d l all = all.0
-place_at (y ∷ ys) (suc i) d l all = place_at ys i d (omega (arith, l)) all.1
-
-pub places_small : (input : List ℕ) (fs : List FileForm) → length input < 2 ^ 63 → AllByRecursion (HasDataIn input) fs
-    → AllByRecursion (λ f. data_place f < 2 ^ 63) fs
-places_small input [] l all = tt
-places_small input (f ∷ fs) l all = (omega (arith, l, all.0.0), places_small input fs l all.1)
-
--- a volume is short
-pub volume_short : (input : List ℕ) (m : Meaning) → Accepted input m → length input < 2 ^ 63
-volume_short input m accepted =
-    let v = accepted.1 in
-    omega (arith, v.whole, (front_lies input (head_of m) v.extent v.front).limit)
 
 -- ---- the rows of a volume
 

@@ -31,15 +31,16 @@ abbrev pub Added : (ys zs : List PlacedSection) (parent depth : ℕ) → Section
 Added ys zs parent depth sections = map row_form zs ≡ map row_form ys ++ rows_of_sections (length ys) parent depth sections
 
 -- first the section itself, and then those in it
-pub section_added : (xs ys zs : List PlacedSection) (p : PlacedSection) (inside : SectionMeanings) → ys ≡ xs ++ p ∷ []
-    → inside ≡ sections_in (body_of p.section.now) → Added ys zs (length xs) (p.depth + 1) inside
+pub section_added : (xs ys zs : List PlacedSection) (p : PlacedSection) (number : ℕ) (inside : SectionMeanings) → ys ≡ xs ++ p ∷ []
+    → inside ≡ sections_in (body_of p.section.now) → Added ys zs number (p.depth + 1) inside → number ≡ length xs
     → map row_form zs ≡ map row_form xs ++ rows_of_section (length xs) p.parent p.depth p.section.now
-section_added xs ys zs p inside pushed is added =
+section_added xs ys zs p number inside pushed is added numbered =
     let n : ℕ = length xs in
     let rest : List SectionRow = rows_of_sections (n + 1) n (p.depth + 1) (sections_in (body_of p.section.now)) in
     let more : length ys ≡ n + 1 = ap length pushed ∙ length-append xs (p ∷ []) in
     let front : map row_form ys ≡ map row_form xs ++ row_form p ∷ [] = ap (map row_form) pushed ∙ map_push row_form xs p in
     added
+    ∙ ap (λ k. map row_form ys ++ rows_of_sections (length ys) k (p.depth + 1) inside) numbered
     ∙ ap (λ l. l ++ rows_of_sections (length ys) n (p.depth + 1) inside) front
     ∙ ap (λ k. (map row_form xs ++ row_form p ∷ []) ++ rows_of_sections k n (p.depth + 1) inside) more
     ∙ ap (λ ss. (map row_form xs ++ row_form p ∷ []) ++ rows_of_sections (n + 1) n (p.depth + 1) ss) is

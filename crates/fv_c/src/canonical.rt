@@ -1,16 +1,22 @@
-//! Whether an input is the canonical image of the volume that it is.
+//! The canonical image of a volume, and of each volume of a flash image.
 
-ghost use Rattle.std.specs.Prelude.{◌≡◌, ◌≢◌, ◌⊎◌, ◌↔◌, ◌≤◌};
+ghost use Rattle.std.specs.Prelude.{◌≡◌, ◌≢◌, ◌⊎◌, ◌↔◌, ◌<◌, ◌≤◌, ◌++◌, ℕ, List, length, drop, IfOk, IfErr};
+ghost use Rattle.sha2.specs.Sha256.{sha256};
 ghost use Rattle.fv_base.specs.Faults.{fault_number, out_of_memory};
 ghost use Rattle.fv_base.specs.declared.fault.Fault.{Fault};
+ghost use Rattle.fv_canon.specs.FlashImages.{NormalisesAll, RefusesAll};
+ghost use Rattle.fv_canon.specs.Headline.{NormalisesTo};
 ghost use Rattle.fv_canon.specs.Image.{IsImage};
-ghost use Rattle.fv_canon.specs.Refusals.{NotRead};
+ghost use Rattle.fv_canon.specs.Refusals.{NotRead, Refuses};
 ghost use Rattle.fv_tree.specs.Denotes.{Accepted};
 ghost use Rattle.fv_tree.specs.Meaning.{Meaning};
 ghost use Rattle.fv_c.specs.Reports.{reported_fault, no_fault};
 
-use crate::reports::{FvFault, NO_FAULT, refused};
-use fv_canon::is_canonical;
+use crate::buffer::put_first;
+use crate::reports::{BUFFER_TOO_SMALL, FvFault, NO_FAULT, refused};
+use fv_base::Fault;
+use fv_canon::{is_canonical, normalise, normalise_image};
+use sha2::{Digest, Sha256};
 use std::alloc::Global;
 
 /// Whether the input is a volume that is its own canonical image. If the input is a volume, returns
@@ -41,6 +47,148 @@ pub extern "C" fn fv_is_canonical(
         Ok(is_own) => {
             *canonical = if is_own { 1 } else { 0 };
             *fault = NO_FAULT;
+            0
+        }
+        Err(f) => refused(f, fault),
+    }
+}
+
+/// A SHA-256 digest.
+#[repr(C)]
+#[derive(Clone, Copy, Debug, PartialEq, Eq)]
+pub struct FvDigest {
+    /// Its 32 bytes.
+    pub bytes: [u8; 32],
+}
+
+// The SHA-256 of the canonical image of the volume that the input is.
+fn digest_of(alloc: Global, input: &[u8]) -> Result<FvDigest, Fault>
+    ensures ok { IfOk result (λ d. (image : List ℕ) × NormalisesTo input.now image × (d.bytes ≡ sha256 image)) }
+    ensures err { IfErr result (λ f. (f ≡ out_of_memory) ⊎ Refuses input.now f) }
+    ensures fits { (image : List ℕ) → NormalisesTo input.now image → IfErr result (λ f. f ≡ out_of_memory) }
+{
+    let image = normalise(alloc, input)?;
+    Ok(FvDigest {
+        bytes: Sha256::digest(image.as_slice()),
+    })
+}
+
+/// The SHA-256 digest of the canonical image of the volume that the input is. If it has an image,
+/// returns 0, and `digest` is that of the image. (PI specification, volume 3, section 3.2.)
+///
+/// # Errors
+///
+/// The number of the first fault, which is in `fault`: those of `normalise`; 24 if memory runs out.
+/// `digest` is unchanged then.
+#[unsafe(no_mangle)]
+pub extern "C" fn fv_digest(
+    alloc: Global,
+    input: &[u8],
+    digest: &mut FvDigest,
+    fault: &mut FvFault,
+) -> u32
+    // The digest is that of the canonical image.
+    ensures ok { result ≡ 0 → (image : List ℕ) × NormalisesTo input.now image
+        × (digest.new.bytes ≡ sha256 image) × (fault.new ≡ no_fault) }
+    ensures kept { result ≢ 0 → digest.new ≡ digest.old }
+
+    // A fault is out of memory or the first of the input.
+    ensures err { result ≢ 0 → (f : Fault) × ((f ≡ out_of_memory) ⊎ Refuses input.now f)
+        × (result ≡ fault_number f.kind) × (fault.new ≡ reported_fault f) }
+
+    // If the input has an image, only memory can run out.
+    ensures fits { (image : List ℕ) → NormalisesTo input.now image → result ≢ 0 → result ≡ 24 }
+{
+    match digest_of(alloc, input) {
+        Ok(d) => {
+            *digest = d;
+            *fault = NO_FAULT;
+            0
+        }
+        Err(f) => refused(f, fault),
+    }
+}
+
+/// Writes the canonical image of the volume that the input is. The image is as long as the input,
+/// and is at the start of the buffer. Returns 0. (PI specification, volume 3, section 3.2.)
+///
+/// # Errors
+///
+/// 27 if the buffer is shorter than the input, which is checked first. The number of the first
+/// fault, which is in `fault`: those of `normalise`; 24 if memory runs out. The buffer is unchanged
+/// then.
+#[unsafe(no_mangle)]
+pub extern "C" fn fv_normalise(
+    alloc: Global,
+    input: &[u8],
+    buffer: &mut [u8],
+    fault: &mut FvFault,
+) -> u32
+    // The buffer begins with the image, and holds what it held after that.
+    ensures ok { result ≡ 0 → (image : List ℕ) × NormalisesTo input.now image × (length image ≡ length input.now)
+        × (buffer.new ≡ image ++ drop (length image) buffer.old) × (fault.new ≡ no_fault) }
+    ensures kept { result ≢ 0 → buffer.new ≡ buffer.old }
+
+    // Exactly a buffer shorter than the input is too small.
+    ensures small { length buffer.old < length input.now → (result ≡ 27) × (fault.new ≡ no_fault) }
+    ensures buffer { result ≡ 27 → length buffer.old < length input.now }
+
+    // Any other fault is out of memory or the first of the input.
+    ensures err { result ≢ 0 → result ≢ 27 → (f : Fault) × ((f ≡ out_of_memory) ⊎ Refuses input.now f)
+        × (result ≡ fault_number f.kind) × (fault.new ≡ reported_fault f) }
+
+    // If the input has an image, only memory or the buffer can be too small.
+    ensures fits { (image : List ℕ) → NormalisesTo input.now image → result ≢ 0 → result ≢ 27 → result ≡ 24 }
+{
+    *fault = NO_FAULT;
+    if buffer.len() < input.len() {
+        return BUFFER_TOO_SMALL;
+    }
+    match normalise(alloc, input) {
+        Ok(image) => {
+            put_first(image.as_slice(), buffer);
+            0
+        }
+        Err(f) => refused(f, fault),
+    }
+}
+
+/// Writes a flash image with each volume that `fv_scan` finds replaced by its canonical image. The
+/// result is as long as the image, and is at the start of the buffer. Returns 0. (PI specification,
+/// volume 3, section 3.2.)
+///
+/// # Errors
+///
+/// 27 if the buffer is shorter than the image, which is checked first. The number of the first
+/// fault, which is in `fault`, at its offset in the image: those of `normalise_image`; 24 if memory
+/// runs out. The buffer is unchanged then.
+#[unsafe(no_mangle)]
+pub extern "C" fn fv_normalise_image(
+    alloc: Global,
+    image: &[u8],
+    buffer: &mut [u8],
+    fault: &mut FvFault,
+) -> u32
+    // The buffer begins with the image, and holds what it held after that.
+    ensures ok { result ≡ 0 → (bytes : List ℕ) × NormalisesAll image.now bytes × (length bytes ≡ length image.now)
+        × (buffer.new ≡ bytes ++ drop (length bytes) buffer.old) × (fault.new ≡ no_fault) }
+    ensures kept { result ≢ 0 → buffer.new ≡ buffer.old }
+
+    // Exactly a buffer shorter than the image is too small.
+    ensures small { length buffer.old < length image.now → (result ≡ 27) × (fault.new ≡ no_fault) }
+    ensures buffer { result ≡ 27 → length buffer.old < length image.now }
+
+    // Any other fault is out of memory or that of the first volume that has no image.
+    ensures err { result ≢ 0 → result ≢ 27 → (f : Fault) × ((f ≡ out_of_memory) ⊎ RefusesAll image.now f)
+        × (result ≡ fault_number f.kind) × (fault.new ≡ reported_fault f) }
+{
+    *fault = NO_FAULT;
+    if buffer.len() < image.len() {
+        return BUFFER_TOO_SMALL;
+    }
+    match normalise_image(alloc, image) {
+        Ok(bytes) => {
+            put_first(bytes.as_slice(), buffer);
             0
         }
         Err(f) => refused(f, fault),

@@ -1,13 +1,11 @@
 //! The cells of a volume's body: its files, pads, deleted files and free bytes, with their offsets.
 
-ghost use Rattle.std.specs.Prelude.{◌≡◌, ◌≢◌, ◌<◌, ◌++◌, ◌∷◌, [], List, length, drop, map, IfErr, IfOk};
+ghost use Rattle.std.specs.Prelude.{◌≡◌, ◌≢◌, ◌<◌, ◌++◌, List, length, drop, map, IfErr, IfOk};
 ghost use Rattle.fv_base.specs.Faults.{fault_number, out_of_memory};
-ghost use Rattle.fv_base.specs.Guids.{bytes_of};
 ghost use Rattle.fv_base.specs.declared.fault.Fault.{Fault};
-ghost use Rattle.fv_file.specs.Attributes.{attribute_bits};
 ghost use Rattle.fv_file.specs.CellForms.{cell_form};
 ghost use Rattle.fv_file.specs.Cells.{CellForm};
-ghost use Rattle.fv_c.specs.ReportedCells.{reported_cell, HasCells, NoCells};
+ghost use Rattle.fv_c.specs.ReportedCells.{HasCells, NoCells, of_bytes, of_file, reported_cell};
 ghost use Rattle.fv_c.specs.inner.ReturnedCells.{reported_of};
 ghost use Rattle.fv_c.specs.Reports.{reported_fault, no_fault};
 
@@ -44,16 +42,7 @@ pub struct FvCell {
 
 // A file or a pad, for C.
 fn of_file(offset: u64, what: u32, head: FileHead) -> FvCell
-    ensures { result ≡ record {
-      offset = offset;
-      len = head.size;
-      header_len = head.header_len;
-      what = what;
-      kind = head.kind;
-      attributes = attribute_bits head.attributes;
-      reserved = 0;
-      name = bytes_of head.name;
-    } }
+    ensures { result ≡ of_file offset what head }
 {
     FvCell {
         offset,
@@ -69,16 +58,7 @@ fn of_file(offset: u64, what: u32, head: FileHead) -> FvCell
 
 // Bytes of no valid file, for C.
 fn of_bytes(offset: u64, what: u32, len: u64) -> FvCell
-    ensures { result ≡ record {
-      offset = offset;
-      len = len;
-      header_len = 0;
-      what = what;
-      kind = 0;
-      attributes = 0;
-      reserved = 0;
-      name = 0 ∷ 0 ∷ 0 ∷ 0 ∷ 0 ∷ 0 ∷ 0 ∷ 0 ∷ 0 ∷ 0 ∷ 0 ∷ 0 ∷ 0 ∷ 0 ∷ 0 ∷ 0 ∷ [];
-    } }
+    ensures { result ≡ of_bytes offset what len }
 {
     FvCell {
         offset,
@@ -125,11 +105,7 @@ fn first_cells(alloc: Global, bytes: &[u8]) -> Result<Cells<'_>, Fault>
 fn reported_cells(alloc: Global, list: &[Cell<'_>]) -> Result<Vec<FvCell>, AllocError>
     ensures { IfOk result (λ v. v.items ≡ map reported_of list.now) }
 {
-    let mut reported = Vec::new(alloc);
-    for cell in list {
-        reported.push(reported_cell(cell))?;
-    }
-    Ok(reported)
+    list.iter().map(reported_cell).collect(alloc)
 }
 
 // The cells of a volume, for C.

@@ -9,7 +9,7 @@ ghost use Rattle.fv_depex.specs.declared.op.Op.{Op};
 ghost use Rattle.fv_c.specs.ReportedTruths.{NoExpression, passed_guid, phase_of, reported_depex_fault, reported_truth};
 ghost use Rattle.fv_c.specs.Reports.{no_fault};
 
-use crate::reports::{FvFault, NO_FAULT};
+use crate::reports::{FvFault, NO_FAULT, refused_at};
 use fv_base::Guid;
 use fv_depex::{DepexFault, Phase, evaluate, read_depex};
 use std::alloc::{AllocError, Global};
@@ -26,11 +26,9 @@ pub struct FvGuid {
 fn guids_of(alloc: Global, list: &[FvGuid]) -> Result<Vec<Guid>, AllocError>
     ensures { IfOk result (λ v. v.items ≡ map passed_guid list.now) }
 {
-    let mut guids = Vec::new(alloc);
-    for it in list {
-        guids.push(Guid::from_bytes(it.bytes))?;
-    }
-    Ok(guids)
+    list.iter()
+        .map(|it| Guid::from_bytes(it.bytes))
+        .collect(alloc)
 }
 
 // A phase by its number: 0 is PEI, any other is DXE and MM.
@@ -51,17 +49,6 @@ fn reported_truth(value: Option<bool>) -> u32
         Some(true) => 1,
         Some(false) => 0,
         None => 2,
-    }
-}
-
-// A fault of an expression, for C.
-fn reported_depex_fault(f: DepexFault) -> FvFault
-    ensures { result ≡ reported_depex_fault f }
-{
-    FvFault {
-        offset: f.offset,
-        number: u32::from(f.number()),
-        depth: 0,
     }
 }
 
@@ -118,9 +105,6 @@ pub extern "C" fn fv_depex(
             *fault = NO_FAULT;
             0
         }
-        Err(f) => {
-            *fault = reported_depex_fault(f);
-            u32::from(f.number())
-        }
+        Err(f) => refused_at(f.offset, f.number(), fault),
     }
 }

@@ -1,12 +1,10 @@
 //! The files of a volume.
 
-ghost use Rattle.std.specs.Prelude.{◌≡◌, ◌≢◌, ◌⊎◌, ◌<◌, ◌++◌, ◌^◌, List, length, drop, map, IfOk, IfErr};
-ghost use Rattle.std.specs.List.{AllByRecursion};
+ghost use Rattle.std.specs.Prelude.{◌≡◌, ◌≢◌, ◌⊎◌, ◌<◌, ◌++◌, List, length, drop, map, IfOk, IfErr};
 ghost use Rattle.fv_base.specs.Faults.{fault_number, out_of_memory};
 ghost use Rattle.fv_base.specs.declared.fault.Fault.{Fault};
 ghost use Rattle.fv_canon.specs.Refusals.{NotRead};
 ghost use Rattle.fv_tree.specs.Denotes.{Accepted};
-ghost use Rattle.fv_tree.specs.FirstFault.{data_place};
 ghost use Rattle.fv_tree.specs.LocatedFiles.{file_form};
 ghost use Rattle.fv_c.specs.ReportedFiles.{HasFileRows, reported_file, reported_files};
 ghost use Rattle.fv_c.specs.Reports.{reported_fault, no_fault};
@@ -44,7 +42,6 @@ fn reported_file(
     stored: &LocatedFile<'_>,
     file: &FileView<'_>,
 ) -> Result<FvFile, AllocError>
-    requires { data_place (file_form stored.now) < 2 ^ 63 }
     ensures { IfOk result (λ r. r ≡ reported_file (file_form stored.now) file.now) }
 {
     let rows = sections_of(alloc, file)?;
@@ -64,7 +61,6 @@ fn reported_files(
     stored: &[LocatedFile<'_>],
     files: &[FileView<'_>],
 ) -> Result<Vec<FvFile>, AllocError>
-    requires { AllByRecursion (λ f. data_place f < 2 ^ 63) (map file_form stored.now) }
     ensures { IfOk result (λ v. v.items ≡ reported_files (map file_form stored.now) files.now) }
 {
     let mut reported = Vec::new(alloc);
@@ -77,7 +73,7 @@ fn reported_files(
     Ok(reported)
 }
 
-// The files of the volume that the input is, for C.
+// The files of a volume that has been read from the input, for C. The input gives their places.
 fn file_rows(alloc: Global, input: &[u8], volume: &VolumeView<'_>) -> Result<Vec<FvFile>, Fault>
     requires { Accepted input.now volume.now }
     ensures ok { IfOk result (λ v. HasFileRows input.now v.items) }
@@ -87,7 +83,7 @@ fn file_rows(alloc: Global, input: &[u8], volume: &VolumeView<'_>) -> Result<Vec
     Ok(reported_files(alloc, stored.as_slice(), volume.files())?)
 }
 
-// The files of the volume that the input is, for C, or the fault of the input.
+// Reads the input as a volume, and returns its files, for C.
 fn rows_in(alloc: Global, input: &[u8]) -> Result<Vec<FvFile>, Fault>
     ensures ok { IfOk result (λ v. HasFileRows input.now v.items) }
     ensures err { IfErr result (λ f. (f ≡ out_of_memory) ⊎ NotRead input.now f) }

@@ -9,7 +9,7 @@ ghost use Rattle.fv_c.specs.ReportedHobs.{NoHobs, reported_hob, reported_hob_fau
 ghost use Rattle.fv_c.specs.Reports.{no_fault};
 
 use crate::buffer::put_rows;
-use crate::reports::{FvFault, NO_FAULT};
+use crate::reports::{FvFault, NO_FAULT, refused_at};
 use fv_hob::{Hob, HobFault, read_hobs};
 use std::alloc::{AllocError, Global};
 
@@ -47,26 +47,11 @@ fn reported_hob(hob: &Hob) -> FvHob
     }
 }
 
-// A fault of a list, for C.
-fn reported_hob_fault(f: HobFault) -> FvFault
-    ensures { result ≡ reported_hob_fault f }
-{
-    FvFault {
-        offset: f.offset,
-        number: u32::from(f.number()),
-        depth: 0,
-    }
-}
-
 // Blocks, for C.
 fn reported_hobs(alloc: Global, list: &[Hob]) -> Result<Vec<FvHob>, AllocError>
     ensures { IfOk result (λ v. v.items ≡ map reported_hob list.now) }
 {
-    let mut reported = Vec::new(alloc);
-    for hob in list {
-        reported.push(reported_hob(hob))?;
-    }
-    Ok(reported)
+    list.iter().map(reported_hob).collect(alloc)
 }
 
 // The blocks of the hand-off list with which the bytes begin, for C, and the number of its bytes.
@@ -118,9 +103,6 @@ pub extern "C" fn fv_hobs(
             *fault = NO_FAULT;
             put_rows(rows.as_slice(), buffer, count)
         }
-        Err(f) => {
-            *fault = reported_hob_fault(f);
-            u32::from(f.number())
-        }
+        Err(f) => refused_at(f.offset, f.number(), fault),
     }
 }

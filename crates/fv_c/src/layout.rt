@@ -1,9 +1,9 @@
 //! The sizes in bytes of the structures that C shares. `clib/include/fv.h` asserts the same.
 
+use crate::canonical::FvDigest;
 use crate::cells::FvCell;
 use crate::compare::FvComparison;
 use crate::depex::FvGuid;
-use crate::digest::FvDigest;
 use crate::files::FvFile;
 use crate::hobs::FvHob;
 use crate::reports::{FvExtent, FvFault};

@@ -3,18 +3,15 @@
 #![tactic(auto)]
 
 mod buffer;
-mod canonical;
+pub mod canonical;
 pub mod cells;
 pub mod compare;
 pub mod depex;
-pub mod digest;
 mod extract;
 pub mod files;
 pub mod hobs;
-mod image;
 pub mod laws;
 mod layout;
-mod normalise;
 mod parts;
 pub mod reports;
 mod scan;

@@ -3,8 +3,8 @@
 ghost use Rattle.std.specs.Prelude.{◌≡◌, ◌≤◌, ◌++◌, length, map, IfOk, IfErr, OnOk};
 ghost use Rattle.fv_tree.specs.Meaning.{body_of, content_of, sections_from};
 ghost use Rattle.fv_tree.specs.Views.{body_view};
-ghost use Rattle.fv_c.specs.ExtractedParts.{part_in};
-ghost use Rattle.fv_c.specs.ReportedSections.{held_number, rows_of_section, rows_of_sections, section_rows};
+ghost use Rattle.fv_c.specs.ExtractedParts.{part_in, part_of_file};
+ghost use Rattle.fv_c.specs.ReportedSections.{held_number, rows_of_sections, section_rows};
 ghost use Rattle.fv_c.specs.inner.PlacedSections.{row_form, sections_in, ShowsPart, StopsPart};
 
 use fv_base::{ByteList, Fault};
@@ -59,7 +59,6 @@ pub(crate) fn held_number(section: &SectionView<'_>) -> u32
 }
 
 // Adds some sections in preorder: each group is followed by the sections in it.
-#[cycle(add)]
 fn add_sections<'v, 'a>(
     sections: &'v [SectionView<'a>],
     parent: u64,
@@ -71,30 +70,15 @@ fn add_sections<'v, 'a>(
         ++ rows_of_sections (length rows.old.items) parent depth (sections_from sections.now)) }
 {
     for section in sections {
-        add_section(section, parent, depth, rows)?;
+        let number = rows.len() as u64;
+        rows.push(PlacedSection {
+            parent,
+            depth,
+            section,
+        })?;
+        add_sections(sections_in(section), number, depth + 1, rows)?;
     }
     Ok(())
-}
-
-// Adds a section and those in it.
-#[cycle(add)]
-fn add_section<'v, 'a>(
-    section: &'v SectionView<'a>,
-    parent: u64,
-    depth: u64,
-    rows: &mut Vec<PlacedSection<'v, 'a>>,
-) -> Result<(), AllocError>
-    requires { depth ≤ length rows.old.items }
-    ensures { OnOk result (map row_form rows.new.items ≡ map row_form rows.old.items
-        ++ rows_of_section (length rows.old.items) parent depth section.now) }
-{
-    let number = rows.len() as u64;
-    rows.push(PlacedSection {
-        parent,
-        depth,
-        section,
-    })?;
-    add_sections(sections_in(section), number, depth + 1, rows)
 }
 
 // The sections of a file in preorder.
@@ -114,6 +98,21 @@ pub(crate) fn sections_of<'v, 'a>(
     Ok(rows)
 }
 
+// The bytes of the part of a file that a number asks for, if there is one.
+fn file_part(alloc: Global, file: &FileView<'_>, section: u64) -> Result<Option<ByteList>, Fault>
+    ensures ok { IfOk result (ShowsPart (part_of_file section file.now)) }
+    ensures err { IfErr result (StopsPart (part_of_file section file.now)) }
+{
+    if section == WHOLE_FILE {
+        return Ok(Some(file_bytes(alloc, file)?));
+    }
+    let rows = sections_of(alloc, file)?;
+    let Some(row) = rows.as_slice().get(section as usize) else {
+        return Ok(None);
+    };
+    Ok(Some(body_bytes(alloc, row.section)?))
+}
+
 // The bytes of the part that the number of a file and that of a section ask for, if there is one.
 pub(crate) fn part_bytes(
     alloc: Global,
@@ -127,12 +126,5 @@ pub(crate) fn part_bytes(
     let Some(file) = volume.files().get(file as usize) else {
         return Ok(None);
     };
-    if section == WHOLE_FILE {
-        return Ok(Some(file_bytes(alloc, file)?));
-    }
-    let rows = sections_of(alloc, file)?;
-    let Some(row) = rows.as_slice().get(section as usize) else {
-        return Ok(None);
-    };
-    Ok(Some(body_bytes(alloc, row.section)?))
+    file_part(alloc, file, section)
 }

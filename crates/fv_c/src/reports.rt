@@ -94,3 +94,16 @@ pub(crate) fn refused(f: Fault, fault: &mut FvFault) -> u32
     *fault = reported_fault(f);
     u32::from(f.kind.number())
 }
+
+// Reports a fault that has no depth to C, and returns its number.
+pub(crate) fn refused_at(offset: u64, number: u8, fault: &mut FvFault) -> u32
+    ensures number { result ≡ number }
+    ensures fault { fault.new ≡ record { offset = offset; number = number; depth = 0 } }
+{
+    *fault = FvFault {
+        offset,
+        number: u32::from(number),
+        depth: 0,
+    };
+    u32::from(number)
+}

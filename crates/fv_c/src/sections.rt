@@ -63,11 +63,7 @@ fn reported_rows(
 ) -> Result<Vec<FvSection>, AllocError>
     ensures { IfOk result (λ v. v.items ≡ map reported_row list.now) }
 {
-    let mut reported = Vec::new(alloc);
-    for row in list {
-        reported.push(reported_section(row))?;
-    }
-    Ok(reported)
+    list.iter().map(reported_section).collect(alloc)
 }
 
 // The sections of a file, for C.

@@ -15,18 +15,18 @@ use Rattle.fv_tree.specs.Meaning.{data_len_of}
 use Rattle.fv_tree.specs.Denotes.{IsReadFile, MeansSection, Stream}
 use Rattle.fv_canon.specs.inner.ImageOf.{stored_of, stored_file, data_of, starts_in}
 use Rattle.fv_canon.specs.Layouts.{layout_item}
-use Rattle.fv_canon.specs.Volumes.{volumes_in_files, volumes_in_file, volumes_in_content}
+use Rattle.fv_canon.specs.Volumes.{volumes_in_files, volumes_in_file}
 use Rattle.fv_canon.specs.StoredFiles.{stored_len, size_for, head_len_for, file_sum_for, stored_bytes, gap_bytes}
 use Rattle.fv_canon.specs.inner.StoredWalks.{files_bytes}
 use Rattle.fv_canon.proofs.ItemLaws.{item_at}
-use Rattle.fv_canon.proofs.VolumeListLaws.{item_begins, item_left}
+use Rattle.fv_canon.proofs.VolumeListLaws.{item_last, item_passed}
 use Rattle.fv_canon.proofs.WrittenImageLaws.{data_made, stream_made, sections_made}
 use Rattle.fv_canon.proofs.OneImageLaws.{follow_length}
 use Rattle.fv_canon.proofs.StreamLaws.{stream_again}
 use Rattle.fv_canon.proofs.VolumeLaws.{data_again, sections_again}
 use Rattle.fv_canon.specs.inner.Placed.{ArePlaced}
 use Rattle.fv_base.specs.Sinks.{WalkLaws}
-use Rattle.fv_canon.specs.inner.ImageWalks.{BeginsWithStarts, TakesFront}
+use Rattle.fv_canon.specs.inner.ImageWalks.{BeginsWithStarts, ComesTo, TakesFront}
 
 -- ---- a file
 pub file_long : (m : FileMeaning) (starts : List ℕ) → IsReadFile m → BeginsWithStarts (volumes_in_file m) starts
@@ -50,13 +50,6 @@ stored_is p (File name kind attributes content) starts long =
 pub size_is : (m : FileMeaning) (starts : List ℕ) → length (data_of (content_of m) starts) ≡ data_len_of m
     → stored_len (stored_file m starts) ≡ size_for (data_len_of m)
 size_is (File name kind attributes content) starts long = ap size_for long
-
-pub in_content : (m : FileMeaning) → starts_in (volumes_in_file m) ≡ starts_in (volumes_in_content (content_of m))
-in_content (File name kind attributes content) = refl
-
-pub content_laid : (m : FileMeaning) (starts : List ℕ) → BeginsWithStarts (volumes_in_file m) starts
-    → BeginsWithStarts (volumes_in_content (content_of m)) starts
-content_laid (File name kind attributes content) starts laid = laid
 
 -- ---- the walk over the files
 
@@ -159,16 +152,15 @@ at_file total e fs own i f l is placed =
     }
 
 -- the starts of the file at a place, and of those behind it
-pub file_laid : (fs : List FileMeaning) (i : ℕ) (f : FileMeaning) (starts : List ℕ) → i < length fs → f ≡ get_or fs i f
-    → BeginsWithStarts (volumes_in_files (files_from (drop i fs))) starts
+pub file_passed : (fs : List FileMeaning) (i : ℕ) (f : FileMeaning) (starts last : List ℕ) → i < length fs → f ≡ get_or fs i f
+    → ComesTo (volumes_in_files (files_from (drop i fs))) starts last
     → BeginsWithStarts (volumes_in_file f) starts
-    × BeginsWithStarts (volumes_in_files (files_from (drop (i + 1) fs))) (drop (starts_in (volumes_in_file f)) starts)
-file_laid = item_begins (λ xs. volumes_in_files (files_from xs)) volumes_in_file refl (λ x xs. refl)
+    × ComesTo (volumes_in_files (files_from (drop (i + 1) fs))) (drop (starts_in (volumes_in_file f)) starts) last
+file_passed = item_passed (λ xs. volumes_in_files (files_from xs)) volumes_in_file refl (λ x xs. refl)
 
-pub files_left : (fs : List FileMeaning) (i : ℕ) (f : FileMeaning) (starts : List ℕ) → i < length fs → f ≡ get_or fs i f
-    → drop (starts_in (volumes_in_files (files_from (drop i fs)))) starts
-    ≡ drop (starts_in (volumes_in_files (files_from (drop (i + 1) fs)))) (drop (starts_in (volumes_in_file f)) starts)
-files_left = item_left (λ xs. volumes_in_files (files_from xs)) volumes_in_file refl (λ x xs. refl)
+pub files_last : (fs : List FileMeaning) (i : ℕ) (starts last : List ℕ) → length fs ≤ i
+    → ComesTo (volumes_in_files (files_from (drop i fs))) starts last → starts ≡ last
+files_last = item_last (λ xs. volumes_in_files (files_from xs)) volumes_in_file refl (λ x xs. refl)
 
 -- the walk at a file: what is left is its gap, itself and its filler, and then the files behind it
 pub walk_goes : (p : Polarity) (total e : ℕ) (fs : List FileMeaning) (own : List ℕ) (i : ℕ) (f : FileMeaning) (starts : List ℕ)

@@ -12,7 +12,7 @@ use Rattle.fv_canon.specs.Image.{IsImage}
 use Rattle.fv_canon.specs.Headline.{MeanSame, SameMeaningIffSameImage, ImageKeepsLengthAndMeaning, ImageIsItsOwnImage, OneMeaning}
 use Rattle.fv_tree.proofs.Laws.{one_meaning}
 use Rattle.fv_canon.proofs.OneImageLaws.{image_one}
-use Rattle.fv_canon.proofs.VolumeLaws.{image_bytes, image_denotes, image_long}
+use Rattle.fv_canon.proofs.VolumeLaws.{image_bytes, image_denotes, image_long, volume_of}
 
 -- ---- what nests to a depth at most nests to a greater one at most
 pairs_more : {A B : Type 0} (p q : A → B → Type 0) → ((x : A) (y : B) → p x y → q x y) → (xs : List A) (ys : List B) → Pairwise p xs ys
@@ -37,16 +37,9 @@ file_more p q more f (File name kind attributes content) (a, b, c, d) = (a, b, c
 
 volume_more : (p q : Streams) → ((ss : List SectionMeaning) (n : ℕ) (b : List ℕ) → p ss n b → q ss n b) → (b : List ℕ) (m : Meaning)
     → VolumeOver p b m → VolumeOver q b m
-volume_more p q more b m d = record {
-  extent = d.extent;
-  front = d.front;
-  whole = d.whole;
-  cells = d.cells;
-  tiles = d.tiles;
-  files = d.files;
-  current = d.current;
-  meanings = pairs_more (MeansFile p) (MeansFile q) (file_more p q more) d.files (files_of m) d.meanings;
-}
+volume_more p q more b m d =
+    volume_of q b m d.extent d.files d.front d.whole (record { cells = d.cells; tiles = d.tiles; current = d.current })
+    (pairs_more (MeansFile p) (MeansFile q) (file_more p q more) d.files (files_of m) d.meanings)
 
 section_more : (p q : Streams) (v w : Volumes) → ((ss : List SectionMeaning) (n : ℕ) (b : List ℕ) → p ss n b → q ss n b)
     → ((b : List ℕ) (m : Meaning) → v b m → w b m) → (f : FrameForm) (s : SectionMeaning)

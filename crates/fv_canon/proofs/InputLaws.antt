@@ -26,6 +26,13 @@ pub fault_passed : {T E : Type 0} (P : E → Type 0) (r : Result T E) (f : E) �
 fault_passed P (Ok x) f same holds = tt
 fault_passed P (Err g) f same holds = subst P (sym same) holds
 
+-- what holds of a fault wherever it is no out of memory
+or_other : {P : Type 0} (f : Fault) → (f ≢ out_of_memory → P) → (f ≡ out_of_memory) ⊎ P
+or_other {P = P} f holds = go (want_known f) where
+  go : (f ≡ out_of_memory) ⊎ (f ≢ out_of_memory) → (f ≡ out_of_memory) ⊎ P
+  go (inl want) = inl want
+  go (inr other) = inr (holds other)
+
 -- ---- an input and the volume that it begins with
 
 -- an input that is a volume begins with it
@@ -36,14 +43,11 @@ input_prefix b m d = subst (λ (xs : List ℕ). Denotes depth_limit xs m) (sym (
 pub volume_refused : (b : List ℕ) (f : Fault)
     → (f ≢ out_of_memory → (n : ℕ) (m : Meaning) → n ≤ length b → Denotes depth_limit (take n b) m → ⊥)
     → (f ≢ out_of_memory → IsFirstOfVolume b f) → (f ≡ out_of_memory) ⊎ NotRead b f
-volume_refused b f none first = go (want_known f) where
-  go : (f ≡ out_of_memory) ⊎ (f ≢ out_of_memory) → (f ≡ out_of_memory) ⊎ NotRead b f
-  go (inl want) = inl want
-  go (inr other) =
-      inr (record {
-        none = λ m d. none other (length b) m (omega arith) (input_prefix b m d.1);
-        first = inl (first other);
-      })
+volume_refused b f none first =
+    or_other f (λ other. record {
+      none = λ m d. none other (length b) m (omega arith) (input_prefix b m d.1);
+      first = inl (first other);
+    })
 
 -- one that goes on after its volume is none
 not_the_end : (b : List ℕ) (n : ℕ) → (n == length b) ≡ false → n ≢ length b
@@ -117,10 +121,10 @@ unfit_kind v f (inr unfit) = go (unfit_is v 0 f unfit) where
 
 -- nor is one that is of an input wherever it is no out of memory
 pub input_kind : (f : Fault) → (f ≢ out_of_memory → IsOfInput f.kind) → IsOfInput f.kind
-input_kind f known = go (want_known f) where
-  go : (f ≡ out_of_memory) ⊎ (f ≢ out_of_memory) → IsOfInput f.kind
+input_kind f known = go (or_other f known) where
+  go : (f ≡ out_of_memory) ⊎ IsOfInput f.kind → IsOfInput f.kind
   go (inl want) = subst (λ (g : Fault). IsOfInput g.kind) (sym want) (λ e. cc, λ e. cc)
-  go (inr other) = known other
+  go (inr kind) = kind
 
 -- so the kind of a fault whose condition stands is none of a run
 pub stood_kind : (b : List ℕ) (f : Fault) → (f ≢ out_of_memory → FaultStands b f) → IsOfInput f.kind

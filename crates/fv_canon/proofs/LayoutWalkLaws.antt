@@ -1,5 +1,5 @@
 -- The walk over a volume that adds the starts of the files in it: what it added, how deep it goes, and the fault that it passes on.
-use Rattle.std.proofs.Common.{◌≡◌, ◌<◌, ◌⊎◌, inl, inr, ◌+◌, ℕ, List, length, take, get_or, refl, sym, ◌∙◌, subst, arith}
+use Rattle.std.proofs.Common.{◌≡◌, ◌<◌, ◌⊎◌, inl, inr, ◌+◌, ℕ, suc, List, length, take, get_or, refl, sym, ◌∙◌, subst, arith}
 use Rattle.std.proofs.Common.{Result, Ok, Err, IfErr, IsErrAnd}
 use Rattle.fv_base.specs.Faults.{out_of_memory}
 use Rattle.fv_base.specs.declared.fault.Fault.{Fault}
@@ -7,15 +7,17 @@ use Rattle.fv_head.specs.Head.{HeadFields}
 use Rattle.fv_section.specs.Frames.{FrameForm}
 use Rattle.fv_tree.specs.Denotes.{IsMeaning, IsReadFile, IsReadSection, MeansFile, MeansSection, Stream}
 use Rattle.fv_tree.specs.Files.{FileForm}
-use Rattle.fv_tree.specs.Meaning.{Meaning, Volume, FileMeanings, files_from, FileMeaning, content_of, Sectioned}
+use Rattle.fv_tree.specs.Meaning.{Meaning, Volume, FileMeanings, files_from, FileMeaning}
 use Rattle.fv_tree.specs.Meaning.{SectionMeanings, SectionMeaning, sections_from, body_of, Group, Nested}
-use Rattle.fv_canon.specs.inner.Depths.{NestsVolume, NestsFiles, NestsContent, NestsSections, NestsBody}
+use Rattle.fv_canon.specs.inner.DataBodies.{data_body}
+use Rattle.fv_canon.specs.inner.Depths.{NestsVolume, NestsFiles, NestsSections, NestsBody}
 use Rattle.fv_canon.specs.Layouts.{AreStarts, Laid, FirstUnfit}
-use Rattle.fv_canon.specs.Volumes.{volumes_in_files, volumes_in_file, volumes_in_content, volumes_in_sections, volumes_in_section}
+use Rattle.fv_canon.specs.Volumes.{volumes_in_files, volumes_in_file, volumes_in_sections, volumes_in_section}
 use Rattle.fv_canon.specs.Volumes.{volumes_in_body}
-use Rattle.fv_canon.proofs.DepthLaws.{nests_files, nests_content, nests_sections, nests_body, nests_group, nests_nested}
+use Rattle.fv_canon.proofs.DataBodyLaws.{data_nests, data_volumes}
+use Rattle.fv_canon.proofs.DepthLaws.{nests_files, nests_body, nests_group, nests_nested}
 use Rattle.fv_canon.proofs.ItemLaws.{item_has}
-use Rattle.fv_canon.proofs.VolumeListLaws.{in_file, in_section, item_grew, item_unfit, laid_deeper, unfit_deeper}
+use Rattle.fv_canon.proofs.VolumeListLaws.{in_section, item_grew, item_unfit, laid_deeper, unfit_deeper}
 use Rattle.fv_canon.specs.inner.LayoutWalks.{Grew, Shallow}
 
 -- ---- sections
@@ -49,50 +51,48 @@ shallow_at ss i s depth l is (k, fits, h) =
 
 -- one file more
 pub file_grew : (fs : List FileMeaning) (i : ℕ) (m : FileMeaning) (old now next : List ℕ) → i < length fs → m ≡ get_or fs i m
-    → Grew (volumes_in_files (files_from (take i fs))) old now → Grew (volumes_in_content (content_of m)) now next
+    → Grew (volumes_in_files (files_from (take i fs))) old now → Grew (volumes_in_body (data_body m)) now next
     → Grew (volumes_in_files (files_from (take (i + 1) fs))) old next
 file_grew fs i m old now next l is before here =
     item_grew (λ xs. volumes_in_files (files_from xs)) volumes_in_file refl (λ x xs. refl) fs i m old now next l is before
-    (subst (λ vs. Grew vs now next) (sym (in_file m)) here)
+    (subst (λ vs. Grew vs now next) (data_volumes m) here)
 
 -- the first file that is not laid out
 pub file_unfit : (fs : List FileMeaning) (i : ℕ) (m : FileMeaning) (old now : List ℕ) (depth : ℕ) (f : Fault) → i < length fs
     → m ≡ get_or fs i m → Grew (volumes_in_files (files_from (take i fs))) old now
-    → FirstUnfit (volumes_in_content (content_of m)) depth f → FirstUnfit (volumes_in_files (files_from fs)) depth f
+    → FirstUnfit (volumes_in_body (data_body m)) depth f → FirstUnfit (volumes_in_files (files_from fs)) depth f
 file_unfit fs i m old now depth f l is before unfit =
     item_unfit (λ xs. volumes_in_files (files_from xs)) volumes_in_file refl (λ x xs. refl) fs i m old now depth f l is before
-    (subst (λ vs. FirstUnfit vs depth f) (sym (in_file m)) unfit)
+    (subst (λ vs. FirstUnfit vs depth f) (data_volumes m) unfit)
 
--- a file nests no deeper than those around it
+-- the data of a file nest no deeper than the files around it
 pub shallow_file_at : (fs : List FileMeaning) (i : ℕ) (m : FileMeaning) (depth : ℕ) → i < length fs → m ≡ get_or fs i m
-    → Shallow NestsFiles (files_from fs) depth → Shallow NestsContent (content_of m) depth
-shallow_file_at fs i m depth l is (k, fits, h) =
-    (k, fits, item_has (λ xs. NestsFiles (files_from xs) k) (λ x. NestsContent (content_of x) k) (λ x xs h. (one x h.0, h.1)) fs i m l is h)
+    → Shallow NestsFiles (files_from fs) (depth + 1) → Shallow NestsBody (data_body m) depth
+shallow_file_at fs i m depth l is (k, fits, h) = (
+  suc k,
+  omega (arith, fits),
+  item_has (λ xs. NestsFiles (files_from xs) k) (λ x. NestsBody (data_body x) (suc k)) (λ x xs h. (one x h.0, h.1)) fs i m l is h,
+)
   where
-    one : (x : FileMeaning) → (f : FileForm) × MeansFile (Stream k) f x → NestsContent (content_of x) k
-    one x (f, means) = nests_content x k f means
+    one : (x : FileMeaning) → (f : FileForm) × MeansFile (Stream k) f x → NestsBody (data_body x) (suc k)
+    one x (f, means) = data_nests x k f means
 
 -- ---- how deep it is
 
 -- a volume, a file's data and a section's body that were read nest little
-pub shallow_volume : (m : Meaning) → IsMeaning m → Shallow NestsVolume m 0
+pub shallow_volume : (m : Meaning) → IsMeaning m → Shallow NestsVolume m 1
 shallow_volume m (n, few, b, small, d) = (n, omega (arith, few), (b, d))
 
-pub shallow_content : (m : FileMeaning) → IsReadFile m → Shallow NestsContent (content_of m) 0
-shallow_content m (n, few, f, stored, is) = (n, omega (arith, few), nests_content m n f is)
+pub shallow_data : (m : FileMeaning) → IsReadFile m → Shallow NestsBody (data_body m) 0
+shallow_data m (n, few, f, stored, is) = (suc n, omega (arith, few), data_nests m n f is)
 
-shallow_body : (s : SectionMeaning) → IsReadSection s → Shallow NestsBody (body_of s) 0
+pub shallow_body : (s : SectionMeaning) → IsReadSection s → Shallow NestsBody (body_of s) 0
 shallow_body s (n, few, f, stored, is) = (n, omega (arith, few), nests_body s n f is)
 
 -- the files of a volume
 pub shallow_files : (h : HeadFields) (files : FileMeanings) (depth : ℕ) → Shallow NestsVolume (Volume h files) depth
     → Shallow NestsFiles files depth
 shallow_files h files depth (k, fits, read) = (k, fits, nests_files h files k read)
-
--- the sections in a file's data
-pub shallow_sections : (ss : SectionMeanings) (tail depth : ℕ) → Shallow NestsContent (Sectioned ss tail) depth
-    → Shallow NestsSections ss depth
-shallow_sections ss tail depth (k, fits, read) = (k, fits, nests_sections ss tail k read)
 
 -- the sections of a group, and the volume in a section: one level deeper
 pub shallow_group : (ss : SectionMeanings) (tail depth : ℕ) → Shallow NestsBody (Group ss tail) depth
@@ -102,18 +102,6 @@ shallow_group ss tail depth (n, fits, read) =
 
 pub shallow_nested : (m : Meaning) (depth : ℕ) → Shallow NestsBody (Nested m) depth → Shallow NestsVolume m (depth + 1)
 shallow_nested m depth (n, fits, read) = let (k, is, inside) = nests_nested m n read in (k, omega (arith, fits, is), inside)
-
--- those of a section that was read
-pub group_read : (s : SectionMeaning) (ss : SectionMeanings) (tail : ℕ) → IsReadSection s → body_of s ≡ Group ss tail
-    → Shallow NestsSections ss 0
-group_read s ss tail read is =
-    let (k, fits, inside) = shallow_group ss tail 0 (subst (λ b. Shallow NestsBody b 0) is (shallow_body s read)) in
-    (k, omega (arith, fits), inside)
-
-pub nested_read : (s : SectionMeaning) (m : Meaning) → IsReadSection s → body_of s ≡ Nested m → Shallow NestsVolume m 0
-nested_read s m read is =
-    let (k, fits, inside) = shallow_nested m 0 (subst (λ b. Shallow NestsBody b 0) is (shallow_body s read)) in
-    (k, omega (arith, fits), inside)
 
 -- ---- a fault that is passed on
 

@@ -3,6 +3,7 @@ pub mod CurrentLaws
 pub mod BytesLaws
 pub mod CellLaws
 pub mod CompareLaws
+pub mod DataBodyLaws
 pub mod ComparisonLineLaws
 pub mod DepthLaws
 pub mod Examples

@@ -16,10 +16,10 @@ use Rattle.fv_canon.specs.inner.ImageOf.{frames_of, frame_of, body_image, starts
 use Rattle.fv_canon.specs.Layouts.{AreStarts}
 use Rattle.fv_canon.specs.Volumes.{volumes_in_section, volumes_in_sections, volumes_in_body}
 use Rattle.fv_canon.proofs.ItemLaws.{item_at}
-use Rattle.fv_canon.proofs.VolumeListLaws.{count_deeper, in_section, item_begins, item_left, laid_higher}
+use Rattle.fv_canon.proofs.VolumeListLaws.{count_deeper, in_section, item_passed, laid_higher}
 use Rattle.fv_canon.proofs.WrittenImageLaws.{sections_made}
 use Rattle.fv_canon.proofs.VolumeLaws.{sections_again}
-use Rattle.fv_canon.specs.inner.ImageWalks.{frame_bytes, sections_bytes, BeginsWithStarts, TakesFront}
+use Rattle.fv_canon.specs.inner.ImageWalks.{frame_bytes, sections_bytes, BeginsWithStarts, ComesTo, TakesFront}
 
 -- ---- a section
 pub record SectionKnown (m : SectionMeaning) (starts : List ℕ) : Type 0 where
@@ -89,17 +89,12 @@ stream_whole s ss starts tail =
 
 -- ---- the walk over the sections of a stream
 
--- the starts of the item at a place, and of what is behind it
-pub item_laid : (ss : List SectionMeaning) (i : ℕ) (s : SectionMeaning) (starts : List ℕ) → i < length ss → s ≡ get_or ss i s
-    → BeginsWithStarts (volumes_in_sections (sections_from (drop i ss))) starts
+-- the starts of the section at a place, and of those behind it
+pub section_passed : (ss : List SectionMeaning) (i : ℕ) (s : SectionMeaning) (starts last : List ℕ) → i < length ss → s ≡ get_or ss i s
+    → ComesTo (volumes_in_sections (sections_from (drop i ss))) starts last
     → BeginsWithStarts (volumes_in_section s) starts
-    × BeginsWithStarts (volumes_in_sections (sections_from (drop (i + 1) ss))) (drop (starts_in (volumes_in_section s)) starts)
-item_laid = item_begins (λ xs. volumes_in_sections (sections_from xs)) volumes_in_section refl (λ x xs. refl)
-
-pub left_is : (ss : List SectionMeaning) (i : ℕ) (s : SectionMeaning) (starts : List ℕ) → i < length ss → s ≡ get_or ss i s
-    → drop (starts_in (volumes_in_sections (sections_from (drop i ss)))) starts
-    ≡ drop (starts_in (volumes_in_sections (sections_from (drop (i + 1) ss)))) (drop (starts_in (volumes_in_section s)) starts)
-left_is = item_left (λ xs. volumes_in_sections (sections_from xs)) volumes_in_section refl (λ x xs. refl)
+    × ComesTo (volumes_in_sections (sections_from (drop (i + 1) ss))) (drop (starts_in (volumes_in_section s)) starts) last
+section_passed = item_passed (λ xs. volumes_in_sections (sections_from xs)) volumes_in_section refl (λ x xs. refl)
 
 pub in_body : (s : SectionMeaning) → starts_in (volumes_in_section s) ≡ starts_in (volumes_in_body (body_of s))
 in_body s = ap starts_in (in_section s) ∙ count_deeper (volumes_in_body (body_of s))

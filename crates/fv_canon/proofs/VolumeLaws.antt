@@ -36,7 +36,8 @@ use Rattle.fv_canon.specs.Starts.{StartsFollow, IsFirstPlacement}
 use Rattle.fv_canon.specs.declared.first_placement.LayoutItem.{LayoutItem}
 use Rattle.fv_tree.specs.Files.{FileForm, files_in, NoTwins, current_in, top_name}
 use Rattle.fv_tree.specs.Meaning.{Meaning, Volume, FileMeanings, NoFiles, MoreFiles, FileMeaning, File, ContentMeaning, Plain, Sectioned}
-use Rattle.fv_tree.specs.Meaning.{files_list, content_len}
+use Rattle.fv_tree.specs.LocatedFiles.{StandIn}
+use Rattle.fv_tree.specs.Meaning.{files_list, files_of, head_of, content_len}
 use Rattle.fv_tree.specs.Denotes.{Streams, Pairwise, MeansContent, MeansFile, StreamOver, VolumeOver, Opens, MeansSection, Stream, Denotes}
 use Rattle.fv_canon.specs.Image.{IsImage, AreStored, IsStored, IsData}
 use Rattle.fv_canon.specs.Layouts.{AreStarts, layout_item}
@@ -328,6 +329,20 @@ image_tiled h fs ss o k shows =
 
 -- ---- 4. the volume: it is read again, where the streams in it are
 
+-- a header and files make a volume
+pub volume_of : (is_stream : Streams) (b : List ℕ) (m : Meaning) (e : Extent) (files : List FileForm) → BeginsVolume (head_of m) e b
+    → length b ≡ e.length → StandIn e b files → Pairwise (MeansFile is_stream) files (files_of m) → VolumeOver is_stream b m
+volume_of is_stream b m e files front whole stand meanings = record {
+  extent = e;
+  front = front;
+  whole = whole;
+  cells = stand.cells;
+  tiles = stand.tiles;
+  files = files;
+  current = stand.current;
+  meanings = meanings;
+}
+
 pub volume_again : (is_stream : Streams) → StreamsAgain is_stream → VolumesAgain (VolumeOver is_stream)
 volume_again is_stream streams (Volume h files) b o small d (stored, starts, are, placed, shows) =
     let p : Polarity = polarity_of h.attributes in
@@ -344,20 +359,15 @@ volume_again is_stream streams (Volume h files) b o small d (stored, starts, are
     let last : TopLast (names_of stored) = subst TopLast (sym a.names) (top_last d.extent.length d.files d.current.top) in
     let same : length o ≡ length b = shows.length_is ∙ sym (d.whole ∙ d.front.length_is) in
     record {
-      is = record {
-        extent = extent_of h first;
-        front = front;
-        whole = shows.length_is;
+      is = volume_of is_stream o (Volume h files) (extent_of h first) (forms_of p stored starts) front shows.length_is (record {
         cells = tiled.cells;
         tiles = tiled.tiles;
-        files = forms_of p stored starts;
         current = record {
           no_twins = subst NoTwins (sym tiled.files_are) (no_twins (forms_of p stored starts) apart);
           files_are = sym (all_current (forms_of p stored starts) (forms_unmarked p stored starts)) ∙ ap current_in (sym tiled.files_are);
           top = forms_top p h.length first stored starts last k.follow;
         };
-        meanings = a.are p h.length first starts k.follow;
-      };
+      }) (a.are p h.length first starts k.follow);
       bytes = subst IsBytes (sym (volume_shows h stored starts o k shows)) (bytes_volume h stored starts k);
       long = same;
       len = d.whole ∙ d.front.length_is;

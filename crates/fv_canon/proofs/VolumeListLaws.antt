@@ -1,14 +1,14 @@
 -- What is said of each of some volumes, where they are two lists joined, or lie one deeper.
-use Rattle.std.proofs.Common.{◌≡◌, ◌<◌, inl, inr, ◌+◌, ℕ, List, [], ◌∷◌, ◌++◌, length, take, drop, get_or, refl, sym, ap, ◌∙◌, subst, arith}
+use Rattle.std.proofs.Common.{◌≡◌, ◌≤◌, ◌<◌, inl, inr, ◌+◌, ℕ, List, [], ◌∷◌, ◌++◌, length, take, drop, get_or, refl, sym, ap, ◌∙◌, subst, arith}
 use Rattle.std.proofs.Common.{append_assoc, append-nil, length-append, drop-drop}
 use Rattle.std.specs.List.{AllByRecursion}
-use Rattle.std.proofs.lemmas.List.{length-map, take-append-drop, take_more, drop_at}
+use Rattle.std.proofs.lemmas.List.{length-map, take-append-drop, take_more, drop_all, drop_at}
 use Rattle.fv_base.specs.declared.fault.Fault.{Fault}
 use Rattle.fv_tree.specs.Meaning.{Meaning, FileMeaning, File, SectionMeaning, Section, body_of, content_of, files_of}
 use Rattle.fv_canon.specs.inner.ImageOf.{starts_in}
 use Rattle.fv_canon.specs.Layouts.{AreStarts, Laid, AllFit, IsPlaced, FirstUnfit, UnfitHere, layout_item, layout_items}
 use Rattle.fv_canon.specs.Volumes.{Inside, deeper, volumes_in_section, volumes_in_body, volumes_in_file, volumes_in_content}
-use Rattle.fv_canon.specs.inner.ImageWalks.{BeginsWithStarts}
+use Rattle.fv_canon.specs.inner.ImageWalks.{BeginsWithStarts, ComesTo}
 use Rattle.fv_canon.specs.inner.LayoutWalks.{Grew}
 use Rattle.fv_canon.proofs.ItemLaws.{item_at}
 use Rattle.fv_canon.proofs.OneImageLaws.{follow_length}
@@ -165,7 +165,7 @@ module _ {A : Type 0} (all : List A → List Inside) (one : A → List Inside) (
       (unfit_front (one x) (all (drop (i + 1) xs)) depth f un))
 
   -- starts that begin with those of an item and of what is behind it
-  pub item_begins : (xs : List A) (i : ℕ) (x : A) (starts : List ℕ) → i < length xs → x ≡ get_or xs i x
+  item_begins : (xs : List A) (i : ℕ) (x : A) (starts : List ℕ) → i < length xs → x ≡ get_or xs i x
       → BeginsWithStarts (all (drop i xs)) starts
       → BeginsWithStarts (one x) starts × BeginsWithStarts (all (drop (i + 1) xs)) (drop (starts_in (one x)) starts)
   item_begins xs i x starts l is (whole, rest, text, laid) =
@@ -184,11 +184,24 @@ module _ {A : Type 0} (all : List A → List Inside) (one : A → List Inside) (
       )
 
   -- the starts behind those of the items from a place on
-  pub item_left : (xs : List A) (i : ℕ) (x : A) (starts : List ℕ) → i < length xs → x ≡ get_or xs i x
+  item_left : (xs : List A) (i : ℕ) (x : A) (starts : List ℕ) → i < length xs → x ≡ get_or xs i x
       → drop (starts_in (all (drop i xs))) starts ≡ drop (starts_in (all (drop (i + 1) xs))) (drop (starts_in (one x)) starts)
   item_left xs i x starts l is =
       ap (λ n. drop n starts) (ap starts_in (item_first xs i x l is) ∙ count_joined (one x) (all (drop (i + 1) xs)))
       ∙ sym (drop-drop (starts_in (all (drop (i + 1) xs))) (starts_in (one x)) starts)
+
+  -- a walk that comes to an item comes to those behind it next
+  pub item_passed : (xs : List A) (i : ℕ) (x : A) (starts last : List ℕ) → i < length xs → x ≡ get_or xs i x
+      → ComesTo (all (drop i xs)) starts last
+      → BeginsWithStarts (one x) starts × ComesTo (all (drop (i + 1) xs)) (drop (starts_in (one x)) starts) last
+  item_passed xs i x starts last l is at =
+      let begins = item_begins xs i x starts l is at.laid in
+      (begins.0, record { laid = begins.1; left = sym (item_left xs i x starts l is) ∙ at.left })
+
+  -- behind the last item it has left what it had to leave
+  pub item_last : (xs : List A) (i : ℕ) (starts last : List ℕ) → length xs ≤ i → ComesTo (all (drop i xs)) starts last → starts ≡ last
+  item_last xs i starts last end at =
+      ap (λ vs. drop (starts_in vs) starts) (sym (ap all (drop_all i xs end) ∙ none)) ∙ at.left
 
   -- where the volumes in all items fit, those in each do
   pub item_fits : (xs : List A) (i : ℕ) (x : A) → i < length xs → x ≡ get_or xs i x → AllFit (all xs) → AllFit (one x)

@@ -1,4 +1,5 @@
 -- Definitions that serve only private clauses: there is nothing to believe here.
+pub mod DataBodies
 pub mod Depths
 pub mod ImageOf
 pub mod ImageWalks

@@ -1,20 +1,64 @@
-//! Whether bytes are a canonical image: that of a view, or their own.
+//! Whether bytes are a canonical image: that of a view, or their own. They are compared with what a
+//! walk writes.
 
-ghost use Rattle.std.specs.Prelude.{◌≡◌, ◌↔◌, ◌⊎◌, IfOk, IfErr, true};
+ghost use Rattle.std.specs.Prelude.{◌≡◌, ◌↔◌, ◌⊎◌, IfOk, IfErr, IsTrue, true};
 ghost use Rattle.fv_base.specs.Faults.{out_of_memory};
+ghost use Rattle.fv_canon.specs.Image.{IsImage};
+ghost use Rattle.fv_canon.specs.Layouts.{LaysVolume};
+ghost use Rattle.fv_canon.specs.Refusals.{NotRead};
+ghost use Rattle.fv_canon.specs.inner.ImageOf.{image_of};
+ghost use Rattle.fv_canon.specs.inner.Matching.{MatchTakes};
+ghost use Rattle.fv_canon.specs.inner.MatchingLaws.{matches_by};
 ghost use Rattle.fv_head.specs.Head.{HeadFields, BeginsVolume};
 ghost use Rattle.fv_head.specs.declared.extent.Extent.{Extent};
-ghost use Rattle.fv_canon.specs.Image.{IsImage};
-ghost use Rattle.fv_canon.specs.Refusals.{NotRead};
 ghost use Rattle.fv_tree.specs.Denotes.{Accepted};
 ghost use Rattle.fv_tree.specs.Meaning.{Meaning};
 
+use crate::image_walk::put_image;
 use crate::layout_walk::layout;
-use crate::matching::is_image;
 use crate::normalising::whole_volume;
-use fv_base::{Fault, FaultKind};
+use fv_base::{Fault, FaultKind, Sink};
 use fv_tree::VolumeView;
 use std::alloc::Global;
+
+// Bytes that are compared with those that are put. What was put is taken off their front, until the
+// two differ.
+#[derive(Drop)]
+struct MatchSink<'a> {
+    // The bytes after all that were put.
+    rest: &'a [u8],
+    // Whether the bytes began with all that were put.
+    same: bool,
+}
+
+impl<'a> Sink for MatchSink<'a> {
+    ghost takes = { MatchTakes (λ s. s.rest.now) (λ s. s.same) };
+
+    ghost laws = { matches_by (λ s. s.rest.now) (λ s. s.same) };
+
+    fn put(&mut self, bytes: &[u8]) {
+        if self.same {
+            match self.rest.strip_prefix(bytes) {
+                Some(rest) => self.rest = rest,
+                None => self.same = false,
+            }
+        }
+    }
+}
+
+// Whether the bytes are the canonical image of the view, given that its files have these starts. No
+// image is made.
+fn is_image(view: &VolumeView<'_>, starts: &[u64], bytes: &[u8]) -> bool
+    requires { LaysVolume view.now starts.now }
+    ensures { IsTrue result ↔ (bytes.now ≡ image_of view.now starts.now) }
+{
+    let mut out = MatchSink {
+        rest: bytes,
+        same: true,
+    };
+    put_image(&mut out, view, starts);
+    out.same && out.rest.is_empty()
+}
 
 /// Whether the bytes are the canonical image of the view. False if the view does not fit. No image
 /// is made. (PI specification, volume 3, section 3.2.)

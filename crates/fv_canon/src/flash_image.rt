@@ -1,6 +1,6 @@
 //! From a flash image to the same image with each of its volumes in canonical form.
 
-ghost use Rattle.std.specs.Prelude.{◌≡◌, ◌≢◌, ◌⊎◌, ◌+◌, ◌-◌, ◌<◌, ◌≤◌, ◌^◌, ℕ, List, length, true};
+ghost use Rattle.std.specs.Prelude.{◌≡◌, ◌≢◌, ◌⊎◌, ◌-◌, ◌≤◌, ℕ, List, length, true};
 ghost use Rattle.std.specs.Prelude.{IfOk, IfErr, OnOk};
 ghost use Rattle.fv_base.specs.Faults.{out_of_memory};
 ghost use Rattle.fv_base.specs.Limits.{volume_limit};
@@ -13,7 +13,6 @@ ghost use Rattle.fv_canon.specs.NormaliseRuns.{ImageWrites, ImageStops};
 ghost use Rattle.fv_canon.specs.Refusals.{Refuses};
 ghost use Rattle.fv_canon.specs.inner.RefusedVolumes.{RefusedAt};
 ghost use Rattle.fv_tree.specs.Denotes.{Accepted};
-ghost use Rattle.fv_tree.specs.FirstFault.{moved_fault};
 ghost use Rattle.fv_tree.specs.FoundVolumes.{Found, VolumeAt};
 
 use crate::canonical_image::put_canonical;
@@ -24,7 +23,7 @@ use fv_base::field::bytes_from;
 use fv_base::limits::VOLUME_LIMIT;
 use fv_base::{ByteList, Fault, FaultKind, ListSink, Place, Port, Sink, WriteSink, check};
 use fv_head::verify_fv;
-use fv_tree::{VolumeView, scan};
+use fv_tree::{VolumeView, fault_within, scan};
 use std::alloc::Global;
 use std::io::Write;
 use std::marker::Model;
@@ -47,26 +46,6 @@ fn volume_at(image: &[u8], start: usize) -> &[u8]
         unreachable!()
     };
     between(image, start, start + extent.length as usize)
-}
-
-// A fault of a volume that begins at this offset of an image, as a fault of the image. OutOfMemory
-// stays at 0.
-fn placed(fault: Fault, start: u64) -> Fault
-    requires { start + fault.place.offset < 2 ^ 64 }
-    ensures moved { result ≢ out_of_memory
-        → (fault ≢ out_of_memory) × (result ≡ moved_fault start fault.place.depth fault) }
-    ensures kind { result.kind ≡ fault.kind }
-{
-    if matches!(fault.kind, FaultKind::OutOfMemory) {
-        return Fault::outer(FaultKind::OutOfMemory, 0);
-    }
-    Fault {
-        kind: fault.kind,
-        place: Place {
-            offset: start + fault.place.offset,
-            depth: fault.place.depth,
-        },
-    }
 }
 
 // A volume of an image: where it begins, what it means, and where its files are placed.
@@ -103,7 +82,13 @@ fn laid_at(alloc: Global, image: &[u8], start: u64) -> Result<LaidVolume<'_>, Fa
 {
     match laid_volume(alloc, start, volume_at(image, start as usize)) {
         Ok(volume) => Ok(volume),
-        Err(fault) => Err(placed(fault, start)),
+        Err(fault) => {
+            let place = Place {
+                offset: start,
+                depth: fault.place.depth,
+            };
+            Err(fault_within(fault, place))
+        }
     }
 }
 

@@ -5,27 +5,28 @@ ghost use Rattle.fv_base.specs.Limits.{data_limit};
 ghost use Rattle.fv_file.specs.Attributes.{is_summed};
 ghost use Rattle.fv_section.specs.SectionImage.{stream_of};
 ghost use Rattle.fv_tree.specs.Meaning.{files_from, attributes_of, content_of, data_len_of, sections_from};
-ghost use Rattle.fv_tree.specs.Views.{body_view, content_view};
+ghost use Rattle.fv_tree.specs.Views.{body_view};
 ghost use Rattle.fv_canon.specs.inner.ImageOf.{image_of, stored_of, stored_file, data_of, frames_of, body_image};
 ghost use Rattle.fv_canon.specs.inner.ImageOf.{starts_in};
-ghost use Rattle.fv_canon.specs.Volumes.{volumes_in, volumes_in_files, volumes_in_file, volumes_in_content};
-ghost use Rattle.fv_canon.specs.Volumes.{volumes_in_sections, volumes_in_body};
+ghost use Rattle.fv_canon.specs.Volumes.{volumes_in, volumes_in_files, volumes_in_file, volumes_in_sections};
+ghost use Rattle.fv_canon.specs.Volumes.{volumes_in_body};
 ghost use Rattle.fv_canon.specs.StoredFiles.{file_sum_for, stored_bytes, size_for};
 ghost use Rattle.fv_canon.specs.inner.StoredWalks.{files_bytes};
 ghost use Rattle.fv_canon.specs.inner.Placed.{ArePlaced};
 ghost use Rattle.fv_canon.specs.inner.SummingSinks.{ImageTakes, sums};
 ghost use Rattle.fv_canon.specs.inner.ImageWalks.{BeginsWithStarts};
 
+use crate::data_body::data_body;
 use crate::pads_and_headers::{
     filler_of, put_ext_pad, put_file_head, put_gap, put_section_head, put_state, size_for, used_end,
 };
-use crate::start_walk::skip_content;
+use crate::start_walk::skip_body;
 use crate::summing_sink::SummingSink;
 use fv_base::field::up_to_8;
 use fv_base::{Polarity, Sink, fill};
 use fv_file::FIXED_CHECKSUM;
 use fv_head::{first_edge, put_head};
-use fv_tree::{Body, Content, FileView, SectionView, VolumeView};
+use fv_tree::{Body, FileView, SectionView, VolumeView};
 
 // What must be added to make a sum of bytes 0.
 fn complement(sum: u8) -> u8
@@ -65,7 +66,7 @@ fn put_sections<'s, S: Sink>(
     rest
 }
 
-// Puts the body of a section.
+// Puts the body of a section, or the data of a file.
 #[cycle(put)]
 fn put_body<'s, S: Sink>(
     out: &mut SummingSink<'_, S>,
@@ -86,26 +87,6 @@ fn put_body<'s, S: Sink>(
     }
 }
 
-// Puts the data of a file.
-#[cycle(put)]
-fn put_content<'s, S: Sink>(
-    out: &mut SummingSink<'_, S>,
-    content: &Content<'_>,
-    starts: &'s [u64],
-) -> &'s [u64]
-    requires laid { BeginsWithStarts (volumes_in_content (content_view content.now)) starts.now }
-    ensures bytes { ImageTakes S.takes out.old (data_of (content_view content.now) starts.now) out.new }
-    ensures rest { result.now ≡ drop (starts_in (volumes_in_content (content_view content.now))) starts.now }
-{
-    match content {
-        Content::Plain(bytes) => {
-            out.put(bytes);
-            starts
-        }
-        Content::Stream { sections, tail } => put_sections(out, sections.as_slice(), *tail, starts),
-    }
-}
-
 // The file sum of a file. If it is a sum of the data, they are walked for it, and nothing is put.
 #[cycle(put)]
 fn file_sum<S: Sink>(out: &mut SummingSink<'_, S>, file: &FileView<'_>, starts: &[u64]) -> u8
@@ -118,7 +99,7 @@ fn file_sum<S: Sink>(out: &mut SummingSink<'_, S>, file: &FileView<'_>, starts: 
         return FIXED_CHECKSUM;
     }
     out.begin_sum();
-    put_content(out, file.content(), starts);
+    put_body(out, data_body(file), starts);
     complement(out.end_sum())
 }
 
@@ -138,13 +119,13 @@ fn put_file<'s, S: Sink>(
 {
     if out.is_summing() && file.attributes().is_summed() {
         put_state(out, polarity);
-        return skip_content(file.content(), starts);
+        return skip_body(data_body(file), starts);
     }
     // In a file that was read, the data that the walk puts are as long as those that were read.
     file.known();
     let sum = file_sum(out, file, starts);
     put_file_head(out, file, sum, polarity);
-    put_content(out, file.content(), starts)
+    put_body(out, data_body(file), starts)
 }
 
 // Puts the files of a volume from the edge `first` on, with the pads of the gaps, and erased bytes
@@ -211,16 +192,8 @@ pub(crate) fn put_image<S: Sink>(out: &mut S, volume: &VolumeView<'_>, starts: &
     put_volume(&mut SummingSink::new(out), volume, starts);
 }
 
-// Puts the data of a file into any sink.
-pub(crate) fn put_data<S: Sink>(out: &mut S, content: &Content<'_>, starts: &[u64])
-    requires laid { BeginsWithStarts (volumes_in_content (content_view content.now)) starts.now }
-    ensures { S.takes out.old (data_of (content_view content.now) starts.now) out.new }
-{
-    put_content(&mut SummingSink::new(out), content, starts);
-}
-
-// Puts the body of a section into any sink.
-pub(crate) fn put_section_body<S: Sink>(out: &mut S, body: Body<'_, '_>, starts: &[u64])
+// Puts a body into any sink.
+pub(crate) fn put_parts<S: Sink>(out: &mut S, body: Body<'_, '_>, starts: &[u64])
     requires laid { BeginsWithStarts (volumes_in_body (body_view body)) starts.now }
     ensures { S.takes out.old (body_image (body_view body.entry) starts.now) out.new }
 {

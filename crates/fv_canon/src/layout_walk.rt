@@ -3,24 +3,24 @@
 ghost use Rattle.std.specs.Prelude.{◌≡◌, ◌≤◌, ◌⊎◌, ◌+◌, ◌++◌, ℕ, List, All, map, take, get_or, IfOk, IfErr, OnOk};
 ghost use Rattle.fv_base.specs.Faults.{out_of_memory};
 ghost use Rattle.fv_head.specs.ExtImage.{first_edge};
-ghost use Rattle.fv_canon.specs.inner.Depths.{NestsVolume, NestsFiles, NestsContent, NestsSections, NestsBody};
+ghost use Rattle.fv_canon.specs.inner.Depths.{NestsVolume, NestsFiles, NestsSections, NestsBody};
 ghost use Rattle.fv_canon.specs.Layouts.{layout_fault, layout_item, layout_items, AreStarts, Laid, LaysVolume};
 ghost use Rattle.fv_canon.specs.Layouts.{AllFit, Fits, FirstUnfit, Unfit};
-ghost use Rattle.fv_canon.specs.Volumes.{volumes_in, volumes_in_files, volumes_in_content, volumes_in_sections};
-ghost use Rattle.fv_canon.specs.Volumes.{volumes_in_body};
+ghost use Rattle.fv_canon.specs.Volumes.{volumes_in, volumes_in_files, volumes_in_sections, volumes_in_body};
 ghost use Rattle.fv_canon.specs.inner.LayoutWalks.{Grew, Shallow};
 ghost use Rattle.fv_canon.specs.LayoutForms.{IsLayout};
 ghost use Rattle.fv_canon.specs.Starts.{Placement};
 ghost use Rattle.fv_canon.specs.inner.Reaches.{IsLawfulItem};
-ghost use Rattle.fv_tree.specs.Meaning.{head_of, length_of, content_of, body_of, sections_from, files_from};
-ghost use Rattle.fv_tree.specs.Views.{body_view, content_view};
+ghost use Rattle.fv_tree.specs.Meaning.{head_of, length_of, sections_from, files_from};
+ghost use Rattle.fv_tree.specs.Views.{body_view};
 
+use crate::data_body::data_body;
 use crate::first_placement::{LayoutItem, first_starts, is_top_off};
 use crate::known_layout::Layout;
 use crate::pads_and_headers::header_len_for;
 use fv_base::{Align, Fault, FaultKind, Place};
 use fv_head::first_edge;
-use fv_tree::{Body, Content, FileView, SectionView, VOLUME_TOP_FILE, VolumeView};
+use fv_tree::{Body, FileView, SectionView, VOLUME_TOP_FILE, VolumeView};
 use std::alloc::Global;
 
 /// Where the files of the view's canonical image are placed, and those of the volumes inside it.
@@ -54,134 +54,77 @@ pub fn layout(alloc: Global, view: &VolumeView<'_>) -> Result<Layout, Fault>
     view.known();
     let own = view.files().len();
     let mut starts = Vec::new(alloc);
-    lay_volume(alloc, view, 0, &mut starts)?;
+    lay_volume(view, 0, &mut starts)?;
     Ok(Layout::new(starts, own))
 }
 
-// The starts of the volumes in a file's data, which are at depth 0.
-pub(crate) fn layout_of_content(alloc: Global, file: &FileView<'_>) -> Result<Vec<u64>, Fault>
-    ensures ok { IfOk result (λ starts. Laid AreStarts (volumes_in_content (content_of file.now)) starts.items) }
-    ensures err { IfErr result (λ f. (f ≡ out_of_memory) ⊎ FirstUnfit (volumes_in_content (content_of file.now)) 0 f) }
-    ensures fits { AllFit (volumes_in_content (content_of file.now)) → IfErr result (λ f. f ≡ out_of_memory) }
+// The starts of the volumes in a body, which are at depth 0.
+pub(crate) fn layout_of_body(alloc: Global, body: Body<'_, '_>) -> Result<Vec<u64>, Fault>
+    requires shallow { Shallow NestsBody (body_view body) 0 }
+    ensures ok { IfOk result (λ starts. Laid AreStarts (volumes_in_body (body_view body.entry)) starts.items) }
+    ensures err { IfErr result (λ f. (f ≡ out_of_memory) ⊎ FirstUnfit (volumes_in_body (body_view body.entry)) 0 f) }
+    ensures fits { AllFit (volumes_in_body (body_view body.entry)) → IfErr result (λ f. f ≡ out_of_memory) }
 {
-    // In a file that was read, groups and volumes nest so little that a byte counts them.
-    file.known();
     let mut starts = Vec::new(alloc);
-    lay_content(alloc, file.content(), 0, &mut starts)?;
-    Ok(starts)
-}
-
-// The starts of the volumes in a section's body, which is at depth 0.
-pub(crate) fn layout_of_body(alloc: Global, section: &SectionView<'_>) -> Result<Vec<u64>, Fault>
-    ensures ok { IfOk result (λ starts. Laid AreStarts (volumes_in_body (body_of section.now)) starts.items) }
-    ensures err { IfErr result (λ f. (f ≡ out_of_memory) ⊎ FirstUnfit (volumes_in_body (body_of section.now)) 0 f) }
-    ensures fits { AllFit (volumes_in_body (body_of section.now)) → IfErr result (λ f. f ≡ out_of_memory) }
-{
-    // In a section that was read, groups and volumes nest so little that a byte counts them.
-    section.known();
-    let mut starts = Vec::new(alloc);
-    match section.body() {
-        Body::Leaf(_) => {}
-        Body::Group { sections, .. } => lay_sections(alloc, sections, 0, &mut starts)?,
-        Body::Nested(volume) => lay_volume(alloc, volume, 0, &mut starts)?,
-    }
+    lay_body(body, 0, &mut starts)?;
     Ok(starts)
 }
 
 // Adds the starts of a volume at this depth: those of its own files, and then those of the volumes
 // in them.
 #[cycle(lay)]
-fn lay_volume(
-    alloc: Global,
-    view: &VolumeView<'_>,
-    depth: u8,
-    starts: &mut Vec<u64>,
-) -> Result<(), Fault>
-    requires shallow { Shallow NestsVolume view.now depth }
+fn lay_volume(view: &VolumeView<'_>, depth: u8, starts: &mut Vec<u64>) -> Result<(), Fault>
+    requires shallow { Shallow NestsVolume view.now (depth + 1) }
     ensures ok { OnOk result (Grew (volumes_in view.now) starts.old.items starts.new.items) }
     ensures err { IfErr result (λ f. (f ≡ out_of_memory) ⊎ Unfit view.now depth f) }
 {
-    let own = own_starts(alloc, view, depth)?;
+    let own = own_starts(*starts.allocator(), view, depth)?;
     starts.extend_from_slice(own.as_slice())?;
     drop(own);
-    lay_files(alloc, view.files(), depth, starts)
+    lay_files(view.files(), depth, starts)
 }
 
 // Adds the starts of the volumes in some files of a volume at this depth.
 #[cycle(lay)]
-fn lay_files(
-    alloc: Global,
-    files: &[FileView<'_>],
-    depth: u8,
-    starts: &mut Vec<u64>,
-) -> Result<(), Fault>
-    requires shallow { Shallow NestsFiles (files_from files.now) depth }
+fn lay_files(files: &[FileView<'_>], depth: u8, starts: &mut Vec<u64>) -> Result<(), Fault>
+    requires shallow { Shallow NestsFiles (files_from files.now) (depth + 1) }
     ensures ok { OnOk result (Grew (volumes_in_files (files_from files.now)) starts.old.items starts.new.items) }
     ensures err { IfErr result
         (λ f. (f ≡ out_of_memory) ⊎ FirstUnfit (volumes_in_files (files_from files.now)) depth f) }
 {
     for file in files {
-        lay_content(alloc, file.content(), depth, starts)?;
+        lay_body(data_body(file), depth, starts)?;
     }
     Ok(())
 }
 
-// Adds the starts of the volumes in a file's data.
+// Adds the starts of the volumes in some sections: their bodies are one level deeper.
 #[cycle(lay)]
-fn lay_content(
-    alloc: Global,
-    content: &Content<'_>,
-    depth: u8,
-    starts: &mut Vec<u64>,
-) -> Result<(), Fault>
-    requires shallow { Shallow NestsContent (content_view content.now) depth }
-    ensures ok { OnOk result (Grew (volumes_in_content (content_view content.now)) starts.old.items starts.new.items) }
-    ensures err { IfErr result
-        (λ f. (f ≡ out_of_memory) ⊎ FirstUnfit (volumes_in_content (content_view content.now)) depth f) }
-{
-    match content {
-        Content::Plain(_) => Ok(()),
-        Content::Stream { sections, .. } => lay_sections(alloc, sections.as_slice(), depth, starts),
-    }
-}
-
-// Adds the starts of the volumes in some sections.
-#[cycle(lay)]
-fn lay_sections(
-    alloc: Global,
-    sections: &[SectionView<'_>],
-    depth: u8,
-    starts: &mut Vec<u64>,
-) -> Result<(), Fault>
-    requires shallow { Shallow NestsSections (sections_from sections.now) depth }
+fn lay_sections(sections: &[SectionView<'_>], depth: u8, starts: &mut Vec<u64>) -> Result<(), Fault>
+    requires shallow { Shallow NestsSections (sections_from sections.now) (depth + 1) }
     ensures ok { OnOk result
         (Grew (volumes_in_sections (sections_from sections.now)) starts.old.items starts.new.items) }
     ensures err { IfErr result
         (λ f. (f ≡ out_of_memory) ⊎ FirstUnfit (volumes_in_sections (sections_from sections.now)) depth f) }
 {
     for section in sections {
-        lay_body(alloc, section.body(), depth, starts)?;
+        lay_body(section.body(), depth + 1, starts)?;
     }
     Ok(())
 }
 
-// Adds the starts of the volumes in a section's body: a group and a volume are one level deeper.
+// Adds the starts of the volumes in a body whose volumes and groups are at this depth.
 #[cycle(lay)]
-fn lay_body(
-    alloc: Global,
-    body: Body<'_, '_>,
-    depth: u8,
-    starts: &mut Vec<u64>,
-) -> Result<(), Fault>
+fn lay_body(body: Body<'_, '_>, depth: u8, starts: &mut Vec<u64>) -> Result<(), Fault>
     requires shallow { Shallow NestsBody (body_view body) depth }
     ensures ok { OnOk result (Grew (volumes_in_body (body_view body.entry)) starts.old.items starts.new.items) }
     ensures err { IfErr result
-        (λ f. (f ≡ out_of_memory) ⊎ FirstUnfit (volumes_in_body (body_view body.entry)) (depth + 1) f) }
+        (λ f. (f ≡ out_of_memory) ⊎ FirstUnfit (volumes_in_body (body_view body.entry)) depth f) }
 {
     match body {
         Body::Leaf(_) => Ok(()),
-        Body::Group { sections, .. } => lay_sections(alloc, sections, depth + 1, starts),
-        Body::Nested(volume) => lay_volume(alloc, volume, depth + 1, starts),
+        Body::Group { sections, .. } => lay_sections(sections, depth, starts),
+        Body::Nested(volume) => lay_volume(volume, depth, starts),
     }
 }
 

@@ -7,8 +7,9 @@ ghost use Rattle.fv_canon.specs.Layouts.{AllFit, FirstUnfit};
 ghost use Rattle.fv_canon.specs.Volumes.{volumes_in_body, volumes_in_content};
 ghost use Rattle.fv_tree.specs.Meaning.{content_of, body_of};
 
-use crate::image_walk::{put_data, put_section_body};
-use crate::layout_walk::{layout_of_body, layout_of_content};
+use crate::data_body::data_body;
+use crate::image_walk::put_parts;
+use crate::layout_walk::layout_of_body;
 use fv_base::{ByteList, Fault, ListSink, Sink};
 use fv_tree::{FileView, SectionView};
 use std::alloc::Global;
@@ -30,8 +31,9 @@ pub fn put_file_data<S: Sink>(alloc: Global, file: &FileView<'_>, out: &mut S) -
 {
     // For what was read, the bytes of the walk are its data.
     file.known();
-    let starts = layout_of_content(alloc, file)?;
-    put_data(out, file.content(), starts.as_slice());
+    let data = data_body(file);
+    let starts = layout_of_body(alloc, data)?;
+    put_parts(out, data, starts.as_slice());
     Ok(())
 }
 
@@ -75,8 +77,9 @@ pub fn body_bytes(alloc: Global, section: &SectionView<'_>) -> Result<ByteList, 
 {
     // For what was read, the bytes of the walk are its body.
     section.known();
-    let starts = layout_of_body(alloc, section)?;
+    let body = section.body();
+    let starts = layout_of_body(alloc, body)?;
     let mut out = ListSink::with_room(alloc, section.body_len() as usize)?;
-    put_section_body(&mut out, section.body(), starts.as_slice());
+    put_parts(&mut out, body, starts.as_slice());
     out.finish()
 }

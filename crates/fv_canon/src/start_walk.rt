@@ -1,14 +1,14 @@
 //! The starts of a layout that follow those of some part of a volume.
 
 ghost use Rattle.std.specs.Prelude.{◌≡◌, drop};
-ghost use Rattle.fv_tree.specs.Meaning.{files_from, sections_from};
-ghost use Rattle.fv_tree.specs.Views.{body_view, content_view};
+ghost use Rattle.fv_tree.specs.Meaning.{sections_from};
+ghost use Rattle.fv_tree.specs.Views.{body_view};
 ghost use Rattle.fv_canon.specs.inner.ImageOf.{starts_in};
 ghost use Rattle.fv_canon.specs.inner.ImageWalks.{BeginsWithStarts};
-ghost use Rattle.fv_canon.specs.Volumes.{volumes_in, volumes_in_files, volumes_in_content, volumes_in_sections};
-ghost use Rattle.fv_canon.specs.Volumes.{volumes_in_body};
+ghost use Rattle.fv_canon.specs.Volumes.{volumes_in, volumes_in_body, volumes_in_sections};
 
-use fv_tree::{Body, Content, FileView, SectionView, VolumeView};
+use crate::data_body::data_body;
+use fv_tree::{Body, SectionView, VolumeView};
 
 // The starts after those of the sections.
 #[cycle(skip)]
@@ -23,9 +23,9 @@ fn skip_sections<'s>(sections: &[SectionView<'_>], starts: &'s [u64]) -> &'s [u6
     rest
 }
 
-// The starts after those of a section's body.
+// The starts after those of a body.
 #[cycle(skip)]
-fn skip_body<'s>(body: Body<'_, '_>, starts: &'s [u64]) -> &'s [u64]
+pub(crate) fn skip_body<'s>(body: Body<'_, '_>, starts: &'s [u64]) -> &'s [u64]
     requires laid { BeginsWithStarts (volumes_in_body (body_view body)) starts.now }
     ensures { result.now ≡ drop (starts_in (volumes_in_body (body_view body.entry))) starts.now }
 {
@@ -34,31 +34,6 @@ fn skip_body<'s>(body: Body<'_, '_>, starts: &'s [u64]) -> &'s [u64]
         Body::Group { sections, .. } => skip_sections(sections, starts),
         Body::Nested(volume) => skip_volume(volume, starts),
     }
-}
-
-// The starts after those of a file's data.
-#[cycle(skip)]
-pub(crate) fn skip_content<'s>(content: &Content<'_>, starts: &'s [u64]) -> &'s [u64]
-    requires laid { BeginsWithStarts (volumes_in_content (content_view content.now)) starts.now }
-    ensures { result.now ≡ drop (starts_in (volumes_in_content (content_view content.now))) starts.now }
-{
-    match content {
-        Content::Plain(_) => starts,
-        Content::Stream { sections, .. } => skip_sections(sections.as_slice(), starts),
-    }
-}
-
-// The starts after those of the volumes in the files.
-#[cycle(skip)]
-fn skip_files<'s>(files: &[FileView<'_>], starts: &'s [u64]) -> &'s [u64]
-    requires laid { BeginsWithStarts (volumes_in_files (files_from files.now)) starts.now }
-    ensures { result.now ≡ drop (starts_in (volumes_in_files (files_from files.now))) starts.now }
-{
-    let mut rest = starts;
-    for file in files {
-        rest = skip_content(file.content(), rest);
-    }
-    rest
 }
 
 // The starts after those of a volume: of its own files, and of the volumes in them.
@@ -71,5 +46,9 @@ fn skip_volume<'s>(volume: &VolumeView<'_>, starts: &'s [u64]) -> &'s [u64]
     volume.known();
     let files = volume.files();
     let (_own, inner) = starts.split_at(files.len());
-    skip_files(files, inner)
+    let mut rest = inner;
+    for file in files {
+        rest = skip_body(data_body(file), rest);
+    }
+    rest
 }

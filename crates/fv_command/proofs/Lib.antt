@@ -4,3 +4,4 @@ pub mod ListLemmas
 pub mod PadLemmas
 pub mod PartLemmas
 pub mod RunLemmas
+pub mod WriteLemmas

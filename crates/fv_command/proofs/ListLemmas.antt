@@ -59,6 +59,13 @@ is_volume sums k m head fs sum rest is a h =
     subst (λ (x : Meaning). VolumeLines sums k x (volume_text k x sum ++ rest)) (sym is)
     (sum, rest, subst (λ (x : Meaning). VolumeSum sums x sum) is a, refl, h)
 
+-- ---- the pieces of a line
+
+-- the first three of them, and then the others
+pub begun : {S : Type 0} {takes : S → List ℕ → S → Type 0} {s t u v w : S} {a b c rest : List ℕ} → WalkLaws takes → takes s a t
+    → takes t b u → takes u c v → takes v rest w → takes s (a ++ (b ++ (c ++ rest))) w
+begun laws p q r more = laws.joined _ _ _ _ _ p (laws.joined _ _ _ _ _ q (laws.joined _ _ _ _ _ r more))
+
 -- ---- one part more
 
 abbrev pub sections_lines : Bool → ℕ → ℕ → List SectionMeaning → List ℕ → Type 0
@@ -67,29 +74,33 @@ sections_lines sums k j ss text = SectionsLines sums k j (sections_from ss) text
 abbrev pub files_lines : Bool → ℕ → ℕ → List FileMeaning → List ℕ → Type 0
 files_lines sums k i fs text = FilesLines sums k i (files_from fs) text
 
+-- the text is one of the first kind, and then one of the second
+abbrev Followed : (List ℕ → Type 0) → (List ℕ → Type 0) → List ℕ → Type 0
+Followed First Second text = (here : List ℕ) × (rest : List ℕ) × (text ≡ here ++ rest) × First here × Second rest
+
+-- the lines of one item more: its own, and those of what it holds
+one_more : {S X : Type 0} {takes : S → List ℕ → S → Type 0} {Lines : ℕ → List X → List ℕ → Type 0} {xs : List X} {i : ℕ} {s t u v : S}
+    → WalkLaws takes → (Own : X → List ℕ → Type 0)
+    → ((y : X) (text : List ℕ) → Followed (Own y) (Lines (i + 1) (drop (i + 1) xs)) text → Lines i (y ∷ drop (i + 1) xs) text)
+    → (x : X) (line inside : List ℕ) → i < length xs → x ≡ get_or xs i x → Own x (line ++ inside)
+    → Tells takes Lines xs i s t → takes t line u → takes u inside v → Tells takes Lines xs (i + 1) s v
+one_more {X = X} {Lines = Lines} {xs = xs} {i = i} laws Own on x line inside l here own w p q =
+    let text : List ℕ = line ++ inside in
+    let first : (rest : List ℕ) → Lines (i + 1) (drop (i + 1) xs) rest → Lines i (get_or xs i x ∷ drop (i + 1) xs) (text ++ rest) =
+    λ rest h. subst (λ (y : X). Lines i (y ∷ drop (i + 1) xs) (text ++ rest)) here (on x (text ++ rest) (text, rest, refl, own, h)) in
+    tells_more laws x text l first w (laws.joined _ _ _ _ _ p q)
+
 pub sections_more : {S : Type 0} {takes : S → List ℕ → S → Type 0} {ss : List SectionMeaning} {i : ℕ} {s t u v : S} → WalkLaws takes
     → (sums : Bool) (k : ℕ) (x : SectionMeaning) (body : BodyMeaning) → i < length ss → x ≡ get_or ss i x → body ≡ body_of x
     → Tells takes (sections_lines sums k) ss i s t
     → (shown : List ℕ) × BodyShown (section_kind_of x) (body_of x) shown × takes t (section_text k i x shown) u
     → (rest : List ℕ) × BodyLines sums (k + 1) body rest × takes u rest v → Tells takes (sections_lines sums k) ss (i + 1) s v
-sections_more {ss = ss} {i = i} laws sums k x body l here is w (shown, a, line) (rest, b, inside) =
-    let text : List ℕ = section_text k i x shown ++ rest in
-    let own : SectionLines sums k i x text = is_section sums k i x body shown rest is a b in
-    let first : (more : List ℕ) → SectionsLines sums k (i + 1) (sections_from (drop (i + 1) ss)) more
-    → SectionsLines sums k i (sections_from (get_or ss i x ∷ drop (i + 1) ss)) (text ++ more) =
-    λ more h. subst (λ (y : SectionMeaning). SectionsLines sums k i (sections_from (y ∷ drop (i + 1) ss)) (text ++ more)) here
-    (text, more, refl, own, h) in
-    tells_more laws x text l first w (laws.joined _ _ _ _ _ line inside)
+sections_more {i = i} laws sums k x body l here is w (shown, a, line) (rest, b, inside) =
+    one_more laws (SectionLines sums k i) (λ y text h. h) x _ rest l here (is_section sums k i x body shown rest is a b) w line inside
 
 pub files_more : {S : Type 0} {takes : S → List ℕ → S → Type 0} {fs : List FileMeaning} {i : ℕ} {s t u v : S} → WalkLaws takes
     → (sums : Bool) (k : ℕ) (x : FileMeaning) (content : ContentMeaning) → i < length fs → x ≡ get_or fs i x → content ≡ content_of x
     → Tells takes (files_lines sums k) fs i s t → (sum : List ℕ) × FileSum sums x sum × takes t (file_text k i x sum) u
     → (rest : List ℕ) × ContentLines sums (k + 1) content rest × takes u rest v → Tells takes (files_lines sums k) fs (i + 1) s v
-files_more {fs = fs} {i = i} laws sums k x content l here is w (sum, a, line) (rest, b, inside) =
-    let text : List ℕ = file_text k i x sum ++ rest in
-    let own : FileLines sums k i x text = is_file sums k i x content sum rest is a b in
-    let first : (more : List ℕ) → FilesLines sums k (i + 1) (files_from (drop (i + 1) fs)) more
-    → FilesLines sums k i (files_from (get_or fs i x ∷ drop (i + 1) fs)) (text ++ more) =
-    λ more h. subst (λ (y : FileMeaning). FilesLines sums k i (files_from (y ∷ drop (i + 1) fs)) (text ++ more)) here
-    (text, more, refl, own, h) in
-    tells_more laws x text l first w (laws.joined _ _ _ _ _ line inside)
+files_more {i = i} laws sums k x content l here is w (sum, a, line) (rest, b, inside) =
+    one_more laws (FileLines sums k i) (λ y text h. h) x _ rest l here (is_file sums k i x content sum rest is a b) w line inside

@@ -1,7 +1,6 @@
 -- Definitions that serve only private clauses: there is nothing to believe here.
 pub mod CheckRuns
 pub mod DigestSinks
-pub mod HobRefusals
 pub mod ImageTexts
 pub mod Indents
 pub mod SumRuns

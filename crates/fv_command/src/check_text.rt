@@ -23,19 +23,21 @@ fn put_verdict<S: Sink>(out: &mut S, is_same: bool)
     }
 }
 
-// Puts the lines of a check.
+// Puts the lines of a check, and returns the sink.
 fn put_check<S: Sink>(
-    out: &mut S,
+    below: S,
     tiled: Option<&(Cells<'_>, Polarity)>,
     volume: &VolumeView<'_>,
     is_same: bool,
-)
+) -> S
     ensures { (text : List ℕ) × NotedText (option_copied tiled.entry) volume.now is_same text
-        × S.takes out.old text out.new }
+        × S.takes below text result }
 {
-    put_pads(out, tiled);
-    put_depex_notes(out, volume);
-    put_verdict(out, is_same);
+    let mut out = below;
+    put_pads(&mut out, tiled);
+    put_depex_notes(&mut out, volume);
+    put_verdict(&mut out, is_same);
+    out
 }
 
 /// Writes the lines of a check of the volume. If `tiled` is None, no pad is noted: the volume is
@@ -55,7 +57,6 @@ pub fn write_lines<W: Write>(
     ensures err { IfErr result (λ f. (text : List ℕ) × NotedText (option_copied tiled.entry) volume.now is_same text
         × WritingStops (shown W.contents writer.old) (shown W.contents writer.new) text f) }
 {
-    let mut out = WriteSink::new(writer);
-    put_check(&mut out, tiled, volume, is_same);
+    let out = put_check(WriteSink::new(writer), tiled, volume, is_same);
     out.outcome()
 }

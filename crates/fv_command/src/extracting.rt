@@ -1,8 +1,8 @@
 //! The data of a file of a volume, or the body of one of its sections.
 
-ghost use Rattle.std.specs.Prelude.{◌≡◌, ◌⊎◌, Some, IfOk, IfErr};
+ghost use Rattle.std.specs.Prelude.{◌≡◌, ◌⊎◌, IfOk, IfErr};
 ghost use Rattle.fv_base.specs.Faults.{out_of_memory};
-ghost use Rattle.fv_command.specs.Extractions.{IsPart, IsSectionOf, StopsFilePart, StopsPart};
+ghost use Rattle.fv_command.specs.Extractions.{IsFilePart, IsPart, StopsFilePart, StopsPart};
 ghost use Rattle.fv_tree.specs.Meaning.{files_of};
 ghost use Rattle.fv_tree.specs.FileNames.{file_named};
 
@@ -25,17 +25,16 @@ pub enum Extraction<'a> {
     NotSectioned,
 }
 
-// The body of the section of this type and instance.
-fn section_part<'a>(
-    alloc: Global,
-    file: &FileView<'a>,
-    kind: u8,
-    instance: u32,
-) -> Result<Extraction<'a>, Fault>
-    ensures ok { IfOk result (IsSectionOf file.now kind instance) }
-    ensures err { IfErr result (λ f. (f ≡ out_of_memory) ⊎ StopsFilePart file.now (Some kind) instance f) }
+// The part of the file: its data, or the body of one of its sections.
+fn file_part<'a>(alloc: Global, file: &FileView<'a>, part: &Part) -> Result<Extraction<'a>, Fault>
+    ensures ok { IfOk result (IsFilePart file.now part.now.section part.now.instance) }
+    ensures err { IfErr result (λ f. (f ≡ out_of_memory)
+        ⊎ StopsFilePart file.now part.now.section part.now.instance f) }
 {
-    match section_by_type(file, kind, instance) {
+    let Some(kind) = part.section else {
+        return Ok(Extraction::Made(file_bytes(alloc, file)?));
+    };
+    match section_by_type(file, kind, part.instance) {
         Lookup::Found(Item::Section(section)) => Ok(Extraction::Made(body_bytes(alloc, section)?)),
         Lookup::Found(Item::Frame(frame)) => Ok(Extraction::Stored(frame.body)),
         Lookup::Absent => Ok(Extraction::NotFound),
@@ -57,11 +56,8 @@ pub fn extract<'a>(
     ensures err { IfErr result (λ f. (f ≡ out_of_memory)
         ⊎ StopsPart (file_named part.now.name (files_of volume.now)) part.now f) }
 {
-    let Some(file) = file_by_name(volume, &part.name) else {
-        return Ok(Extraction::NotFound);
-    };
-    match part.section {
-        None => Ok(Extraction::Made(file_bytes(alloc, file)?)),
-        Some(kind) => section_part(alloc, file, kind, part.instance),
+    match file_by_name(volume, &part.name) {
+        Some(file) => file_part(alloc, file, part),
+        None => Ok(Extraction::NotFound),
     }
 }

@@ -1,47 +1,19 @@
 //! A run over a hand-off list, and the image in which its volumes are looked for.
 
-ghost use Rattle.std.specs.Prelude.{◌≡◌, IfOk, IfErr, OnOk};
-ghost use Rattle.fv_command.specs.HobRuns.{GivesImage, HobImageStops, ListsHobs, RunsHobs};
-ghost use Rattle.fv_command.specs.inner.HobRefusals.{RefusalStopsHobs};
+ghost use Rattle.std.specs.Prelude.{◌≡◌, IfOk, IfErr};
+ghost use Rattle.fv_command.specs.HobRuns.{GivesImage, HobImageStops, HobInputStops, RunsHobs};
+ghost use Rattle.fv_command.specs.Inputs.{Gives};
 ghost use Rattle.fv_lines.specs.HobLines.{held_image, image_form};
-ghost use Rattle.fv_text.specs.PortViews.{Writes, change, shown};
+ghost use Rattle.fv_text.specs.PortViews.{change, shown};
 
 use crate::fault_text::{refuse, refuse_hobs};
 use crate::inputs::read_bytes;
 use crate::status::Status;
 use fv_base::{Fault, Port};
-use fv_hob::{HobFault, read_hobs};
+use fv_hob::read_hobs;
 use fv_lines::{MappedImage, write_hobs};
 use std::alloc::Global;
 use std::io::{Read, Write};
-
-/// Why a hand-off list was not listed.
-enum Refusal {
-    /// An input cannot be read, or a write failed.
-    Input(Fault),
-    /// The list is rejected.
-    Hobs(HobFault),
-}
-
-impl From<Fault> for Refusal {
-    ghost use Rattle.fv_command.specs.declared.hob_run.Refusal.TheVariants.{Input};
-
-    ghost from_gives = { λ f r. r ≡ Input f };
-
-    fn from(fault: Fault) -> Refusal {
-        Refusal::Input(fault)
-    }
-}
-
-impl From<HobFault> for Refusal {
-    ghost use Rattle.fv_command.specs.declared.hob_run.Refusal.TheVariants.{Hobs};
-
-    ghost from_gives = { λ f r. r ≡ Hobs f };
-
-    fn from(fault: HobFault) -> Refusal {
-        Refusal::Hobs(fault)
-    }
-}
 
 // The bytes of the image that the reader gives, if there is a base. Without a base nothing is read,
 // and there are no bytes.
@@ -70,29 +42,28 @@ fn image_of(bytes: &[u8], base: Option<u64>) -> Option<MappedImage<'_>>
     }
 }
 
-// Writes the blocks of the hand-off list that the first reader gives. With a base the second
-// reader gives an image whose first byte has that address.
-fn list_hobs<First: Read, Second: Read, W: Write>(
+// The bytes of the hand-off list that the first reader gives and, with a base, those of the image
+// that the second gives.
+fn read_inputs<First: Read, Second: Read>(
     alloc: Global,
     hex: bool,
     base: Option<u64>,
     first: &mut Port<First>,
     second: &mut Port<Second>,
-    writer: &mut Port<W>,
-) -> Result<(), Refusal>
-    ensures ok { OnOk result (ListsHobs hex base (change First.remaining first.old first.new)
-        (change Second.remaining second.old second.new)
-        (λ text. Writes (shown W.contents writer.old) (shown W.contents writer.new) text)) }
-    ensures err { IfErr result (RefusalStopsHobs hex base (change First.remaining first.old first.new)
-        (change Second.remaining second.old second.new) (change W.contents writer.old writer.new)) }
+) -> Result<(Vec<u8>, Vec<u8>), Fault>
+    ensures ok { IfOk result (λ r. Gives hex (shown First.remaining first.old) (shown First.remaining first.new) r.0.items
+        × GivesImage hex base (change Second.remaining second.old second.new) r.1.items) }
+    ensures err { IfErr result (HobInputStops hex base (change First.remaining first.old first.new)
+        (change Second.remaining second.old second.new)) }
 {
     let list = read_bytes(alloc, hex, first)?;
-    let bytes = read_image(alloc, hex, base, second)?;
-    let (hobs, consumed) = read_hobs(alloc, &list)?;
-    Ok(write_hobs(writer, &hobs, consumed, image_of(&bytes, base))?)
+    let image = read_image(alloc, hex, base, second)?;
+    Ok((list, image))
 }
 
-/// Writes the blocks of a hand-off list, or the line of the fault that stopped the run.
+/// Writes the blocks of the hand-off list that the first reader gives, or the line of the fault
+/// that stopped the run. With a base the second reader gives an image whose first byte has that
+/// address.
 pub fn run_hobs<First: Read, Second: Read, W: Write>(
     alloc: Global,
     hex: bool,
@@ -107,9 +78,16 @@ pub fn run_hobs<First: Read, Second: Read, W: Write>(
       output = change W.contents writer.old writer.new;
     }) }
 {
-    match list_hobs(alloc, hex, base, first, second, writer) {
+    let (list, image) = match read_inputs(alloc, hex, base, first, second) {
+        Ok(inputs) => inputs,
+        Err(fault) => return refuse(writer, fault),
+    };
+    let (hobs, consumed) = match read_hobs(alloc, &list) {
+        Ok(read) => read,
+        Err(fault) => return refuse_hobs(writer, fault),
+    };
+    match write_hobs(writer, &hobs, consumed, image_of(&image, base)) {
         Ok(()) => Status::Done,
-        Err(Refusal::Input(fault)) => refuse(writer, fault),
-        Err(Refusal::Hobs(fault)) => refuse_hobs(writer, fault),
+        Err(fault) => refuse(writer, fault),
     }
 }

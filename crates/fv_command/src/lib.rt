@@ -20,8 +20,10 @@ mod output;
 mod pads;
 mod plan_run;
 mod run_end;
+mod shown_image;
 mod source;
 mod status;
+mod style;
 mod sums;
 mod task_run;
 #[cfg(test)]

@@ -8,13 +8,14 @@ ghost use Rattle.fv_tree.specs.Meaning.{files_from, sections_from, section_kind_
 ghost use Rattle.fv_tree.specs.Views.{body_view, content_view};
 ghost use Rattle.fv_command.specs.inner.Indents.{levels};
 ghost use Rattle.fv_command.specs.inner.SumRuns.{SumsStop};
-ghost use Rattle.fv_command.specs.ListTexts.{spaces, form_text, system_text, name_text};
+ghost use Rattle.fv_command.specs.ListTexts.{form_text, system_text, name_text};
 ghost use Rattle.fv_command.specs.ListTexts.{volume_text, file_text, section_text, BodyShown};
 ghost use Rattle.fv_command.specs.ListTexts.{FileSum, VolumeSum, ListText, SumsText};
 ghost use Rattle.fv_command.specs.ListTexts.{VolumeLines, FilesLines, ContentLines, SectionsLines, BodyLines};
 ghost use Rattle.fv_text.specs.PortViews.{Writes, WritingStops, shown};
 
 use crate::leaf_text::put_shown;
+use crate::style::{Indent, Style, put_indent};
 use crate::sums::{put_file_sum, put_volume_sum};
 use fv_base::{ByteList, Fault, FileSystem, ListSink, Port, Sink, WriteSink};
 use fv_canon::layout;
@@ -23,28 +24,6 @@ use fv_text::{GatheringSink, put_decimal, put_two_digits, write_bytes};
 use fv_tree::{Body, Content, FileView, SectionView, VolumeView};
 use std::alloc::Global;
 use std::io::Write;
-
-/// How far a line is indented.
-#[derive(Drop)]
-enum Indent<'a> {
-    /// Not at all.
-    Margin,
-    /// Two spaces further than the line of the part that holds this one.
-    Inside(&'a Indent<'a>),
-}
-
-// Puts two spaces for each level.
-fn put_indent<S: Sink>(out: &mut S, indent: &Indent<'_>)
-    ensures { S.takes out.old (spaces (levels indent.now)) out.new }
-{
-    match indent {
-        Indent::Margin => {}
-        Indent::Inside(outer) => {
-            out.put(b"  ");
-            put_indent(out, outer);
-        }
-    }
-}
 
 // The text for the form of a section's header, which comes before the length of its body.
 fn form_words(is_extended: bool) -> &'static [u8]
@@ -58,16 +37,11 @@ fn form_words(is_extended: bool) -> &'static [u8]
 }
 
 // Puts the line of a section, which has this number in its stream.
-fn put_section_line<S: Sink>(
-    out: &mut S,
-    section: &SectionView<'_>,
-    number: u64,
-    indent: &Indent<'_>,
-)
+fn put_section_line<S: Sink>(out: &mut S, section: &SectionView<'_>, number: u64, style: &Style<'_>)
     ensures { (shown : List ℕ) × BodyShown (section_kind_of section.now) (body_of section.now) shown
-        × S.takes out.old (section_text (levels indent.now) number section.now shown) out.new }
+        × S.takes out.old (section_text (levels style.now.indent) number section.now shown) out.new }
 {
-    put_indent(out, indent);
+    put_indent(out, &style.indent);
     out.put(b"section ");
     put_decimal(out, number);
     out.put(b" type ");
@@ -80,19 +54,17 @@ fn put_section_line<S: Sink>(
 
 // Puts the line of a file, which has this number in its volume.
 fn put_file_line<S: Sink>(
-    alloc: Global,
     out: &mut S,
-    sums: bool,
     file: &FileView<'_>,
     number: u64,
-    indent: &Indent<'_>,
+    style: &Style<'_>,
 ) -> Result<(), Fault>
-    requires { sums ≡ true → AllFit (volumes_in_content (content_of file.now)) }
-    ensures ok { OnOk result ((sum : List ℕ) × FileSum sums file.now sum
-        × S.takes out.old (file_text (levels indent.now) number file.now sum) out.new) }
-    ensures err { IfErr result (λ f. (f ≡ out_of_memory) × (sums ≡ true)) }
+    requires { style.now.sums ≡ true → AllFit (volumes_in_content (content_of file.now)) }
+    ensures ok { OnOk result ((sum : List ℕ) × FileSum style.now.sums file.now sum
+        × S.takes out.old (file_text (levels style.now.indent) number file.now sum) out.new) }
+    ensures err { IfErr result (λ f. (f ≡ out_of_memory) × (style.now.sums ≡ true)) }
 {
-    put_indent(out, indent);
+    put_indent(out, &style.indent);
     out.put(b"file ");
     put_decimal(out, number);
     out.put(b" ");
@@ -103,7 +75,7 @@ fn put_file_line<S: Sink>(
     put_two_digits(out, file.attributes().byte());
     out.put(b" data ");
     put_decimal(out, file.data_len());
-    put_file_sum(alloc, out, sums, file)?;
+    put_file_sum(out, file, style)?;
     out.put(b"\n");
     Ok(())
 }
@@ -133,25 +105,23 @@ fn system_words(system: FileSystem) -> &'static [u8]
 
 // Puts the line of a volume.
 fn put_volume_line<S: Sink>(
-    alloc: Global,
     out: &mut S,
-    sums: bool,
     volume: &VolumeView<'_>,
-    indent: &Indent<'_>,
+    style: &Style<'_>,
 ) -> Result<(), Fault>
-    requires { sums ≡ true → Fits volume.now }
-    ensures ok { OnOk result ((sum : List ℕ) × VolumeSum sums volume.now sum
-        × S.takes out.old (volume_text (levels indent.now) volume.now sum) out.new) }
-    ensures err { IfErr result (λ f. (f ≡ out_of_memory) × (sums ≡ true)) }
+    requires { style.now.sums ≡ true → Fits volume.now }
+    ensures ok { OnOk result ((sum : List ℕ) × VolumeSum style.now.sums volume.now sum
+        × S.takes out.old (volume_text (levels style.now.indent) volume.now sum) out.new) }
+    ensures err { IfErr result (λ f. (f ≡ out_of_memory) × (style.now.sums ≡ true)) }
 {
     let head = volume.head();
-    put_indent(out, indent);
+    put_indent(out, &style.indent);
     out.put(system_words(head.file_system()));
     put_decimal(out, head.length());
     out.put(b" files ");
     put_decimal(out, u64::from(volume.file_count()));
     put_name(out, head);
-    put_volume_sum(alloc, out, sums, volume)?;
+    put_volume_sum(out, volume, style)?;
     out.put(b"\n");
     Ok(())
 }
@@ -160,107 +130,92 @@ fn put_volume_line<S: Sink>(
 // listed must fit. Each of these walks stops only if it puts sums and memory runs out.
 #[cycle(lines)]
 fn put_sections<S: Sink>(
-    alloc: Global,
     out: &mut S,
-    sums: bool,
     sections: &[SectionView<'_>],
-    indent: &Indent<'_>,
+    style: &Style<'_>,
 ) -> Result<(), Fault>
-    requires fit { sums ≡ true → AllFit (volumes_in_sections (sections_from sections.now)) }
+    requires fit { style.now.sums ≡ true → AllFit (volumes_in_sections (sections_from sections.now)) }
     ensures ok { OnOk result ((text : List ℕ)
-        × SectionsLines sums (levels indent.now) 0 (sections_from sections.now) text × S.takes out.old text out.new) }
-    ensures err { IfErr result (λ f. (f ≡ out_of_memory) × (sums ≡ true)) }
+        × SectionsLines style.now.sums (levels style.now.indent) 0 (sections_from sections.now) text
+        × S.takes out.old text out.new) }
+    ensures err { IfErr result (λ f. (f ≡ out_of_memory) × (style.now.sums ≡ true)) }
 {
-    let inside = Indent::Inside(&*indent);
+    let inside = Style {
+        indent: Indent::Inside(&style.indent),
+        ..*style
+    };
     for (number, section) in sections.iter().enumerate() {
-        put_section_line(out, section, number as u64, indent);
-        put_body(alloc, out, sums, section.body(), &inside)?;
+        put_section_line(out, section, number as u64, style);
+        put_body(out, section.body(), &inside)?;
     }
     Ok(())
 }
 
 // Puts the lines of what the body of a section holds: nothing, if it is a leaf.
 #[cycle(lines)]
-fn put_body<S: Sink>(
-    alloc: Global,
-    out: &mut S,
-    sums: bool,
-    body: Body<'_, '_>,
-    indent: &Indent<'_>,
-) -> Result<(), Fault>
-    requires fit { sums ≡ true → AllFit (volumes_in_body (body_view body)) }
-    ensures ok { OnOk result ((text : List ℕ) × BodyLines sums (levels indent.now) (body_view body.entry) text
+fn put_body<S: Sink>(out: &mut S, body: Body<'_, '_>, style: &Style<'_>) -> Result<(), Fault>
+    requires fit { style.now.sums ≡ true → AllFit (volumes_in_body (body_view body)) }
+    ensures ok { OnOk result ((text : List ℕ)
+        × BodyLines style.now.sums (levels style.now.indent) (body_view body.entry) text
         × S.takes out.old text out.new) }
-    ensures err { IfErr result (λ f. (f ≡ out_of_memory) × (sums ≡ true)) }
+    ensures err { IfErr result (λ f. (f ≡ out_of_memory) × (style.now.sums ≡ true)) }
 {
     match body {
         Body::Leaf(_) => Ok(()),
-        Body::Group { sections, .. } => put_sections(alloc, out, sums, sections, indent),
-        Body::Nested(volume) => put_volume(alloc, out, sums, volume, indent),
+        Body::Group { sections, .. } => put_sections(out, sections, style),
+        Body::Nested(volume) => put_volume(out, volume, style),
     }
 }
 
 // Puts the lines of the sections of a file, if it holds any.
 #[cycle(lines)]
-fn put_content<S: Sink>(
-    alloc: Global,
-    out: &mut S,
-    sums: bool,
-    content: &Content<'_>,
-    indent: &Indent<'_>,
-) -> Result<(), Fault>
-    requires fit { sums ≡ true → AllFit (volumes_in_content (content_view content.now)) }
-    ensures ok { OnOk result ((text : List ℕ) × ContentLines sums (levels indent.now) (content_view content.now) text
+fn put_content<S: Sink>(out: &mut S, content: &Content<'_>, style: &Style<'_>) -> Result<(), Fault>
+    requires fit { style.now.sums ≡ true → AllFit (volumes_in_content (content_view content.now)) }
+    ensures ok { OnOk result ((text : List ℕ)
+        × ContentLines style.now.sums (levels style.now.indent) (content_view content.now) text
         × S.takes out.old text out.new) }
-    ensures err { IfErr result (λ f. (f ≡ out_of_memory) × (sums ≡ true)) }
+    ensures err { IfErr result (λ f. (f ≡ out_of_memory) × (style.now.sums ≡ true)) }
 {
     match content {
         Content::Plain(_) => Ok(()),
-        Content::Stream { sections, .. } => {
-            put_sections(alloc, out, sums, sections.as_slice(), indent)
-        }
+        Content::Stream { sections, .. } => put_sections(out, sections.as_slice(), style),
     }
 }
 
 // Puts the lines of some files, and of all that they hold.
 #[cycle(lines)]
-fn put_files<S: Sink>(
-    alloc: Global,
-    out: &mut S,
-    sums: bool,
-    files: &[FileView<'_>],
-    indent: &Indent<'_>,
-) -> Result<(), Fault>
-    requires fit { sums ≡ true → AllFit (volumes_in_files (files_from files.now)) }
-    ensures ok { OnOk result ((text : List ℕ) × FilesLines sums (levels indent.now) 0 (files_from files.now) text
+fn put_files<S: Sink>(out: &mut S, files: &[FileView<'_>], style: &Style<'_>) -> Result<(), Fault>
+    requires fit { style.now.sums ≡ true → AllFit (volumes_in_files (files_from files.now)) }
+    ensures ok { OnOk result ((text : List ℕ)
+        × FilesLines style.now.sums (levels style.now.indent) 0 (files_from files.now) text
         × S.takes out.old text out.new) }
-    ensures err { IfErr result (λ f. (f ≡ out_of_memory) × (sums ≡ true)) }
+    ensures err { IfErr result (λ f. (f ≡ out_of_memory) × (style.now.sums ≡ true)) }
 {
-    let inside = Indent::Inside(&*indent);
+    let inside = Style {
+        indent: Indent::Inside(&style.indent),
+        ..*style
+    };
     for (number, file) in files.iter().enumerate() {
-        put_file_line(alloc, out, sums, file, number as u64, indent)?;
-        put_content(alloc, out, sums, file.content(), &inside)?;
+        put_file_line(out, file, number as u64, style)?;
+        put_content(out, file.content(), &inside)?;
     }
     Ok(())
 }
 
 // Puts the lines of a volume, and of all that it holds.
 #[cycle(lines)]
-fn put_volume<S: Sink>(
-    alloc: Global,
-    out: &mut S,
-    sums: bool,
-    volume: &VolumeView<'_>,
-    indent: &Indent<'_>,
-) -> Result<(), Fault>
-    requires fit { sums ≡ true → Fits volume.now }
-    ensures ok { OnOk result ((text : List ℕ) × VolumeLines sums (levels indent.now) volume.now text
+fn put_volume<S: Sink>(out: &mut S, volume: &VolumeView<'_>, style: &Style<'_>) -> Result<(), Fault>
+    requires fit { style.now.sums ≡ true → Fits volume.now }
+    ensures ok { OnOk result ((text : List ℕ) × VolumeLines style.now.sums (levels style.now.indent) volume.now text
         × S.takes out.old text out.new) }
-    ensures err { IfErr result (λ f. (f ≡ out_of_memory) × (sums ≡ true)) }
+    ensures err { IfErr result (λ f. (f ≡ out_of_memory) × (style.now.sums ≡ true)) }
 {
-    put_volume_line(alloc, out, sums, volume, indent)?;
-    let inside = Indent::Inside(&*indent);
-    put_files(alloc, out, sums, volume.files(), &inside)
+    put_volume_line(out, volume, style)?;
+    let inside = Style {
+        indent: Indent::Inside(&style.indent),
+        ..*style
+    };
+    put_files(out, volume.files(), &inside)
 }
 
 // Puts the lines of the volume and of all that it holds, and returns the sink. Each piece of a line
@@ -269,7 +224,12 @@ fn put_list<S: Sink>(alloc: Global, below: S, volume: &VolumeView<'_>) -> S
     ensures { (text : List ℕ) × ListText volume.now text × S.takes below text result }
 {
     let mut out = GatheringSink::new(below);
-    let Ok(()) = put_volume(alloc, &mut out, false, volume, &Indent::Margin) else {
+    let style = Style {
+        alloc,
+        sums: false,
+        indent: Indent::Margin,
+    };
+    let Ok(()) = put_volume(&mut out, volume, &style) else {
         unreachable!()
     };
     out.finish()
@@ -302,7 +262,12 @@ fn sums_text(alloc: Global, volume: &VolumeView<'_>) -> Result<ByteList, Fault>
 {
     let _places = layout(alloc, volume)?;
     let mut out = ListSink::with_room(alloc, 0)?;
-    put_volume(alloc, &mut out, true, volume, &Indent::Margin)?;
+    let style = Style {
+        alloc,
+        sums: true,
+        indent: Indent::Margin,
+    };
+    put_volume(&mut out, volume, &style)?;
     out.finish()
 }
 

@@ -11,6 +11,7 @@ ghost use Rattle.fv_tree.specs.Meaning.{content_of};
 ghost use Rattle.fv_command.specs.ListTexts.{FileSum, VolumeSum};
 
 use crate::digest_sink::DigestSink;
+use crate::style::Style;
 use fv_base::{Fault, Sink};
 use fv_canon::{layout, put_canonical, put_file_data};
 use fv_tree::{FileView, VolumeView};
@@ -63,17 +64,16 @@ fn put_sum<S: Sink>(out: &mut S, sum: &[u8; 32])
 ///
 /// OutOfMemory.
 pub fn put_volume_sum<S: Sink>(
-    alloc: Global,
     out: &mut S,
-    sums: bool,
     volume: &VolumeView<'_>,
+    style: &Style<'_>,
 ) -> Result<(), Fault>
-    requires { sums ≡ true → Fits volume.now }
-    ensures ok { OnOk result ((sum : List ℕ) × VolumeSum sums volume.now sum × S.takes out.old sum out.new) }
-    ensures err { IfErr result (λ f. (f ≡ out_of_memory) × (sums ≡ true)) }
+    requires { style.now.sums ≡ true → Fits volume.now }
+    ensures ok { OnOk result ((sum : List ℕ) × VolumeSum style.now.sums volume.now sum × S.takes out.old sum out.new) }
+    ensures err { IfErr result (λ f. (f ≡ out_of_memory) × (style.now.sums ≡ true)) }
 {
-    if sums {
-        put_sum(out, &volume_sum(alloc, volume)?);
+    if style.sums {
+        put_sum(out, &volume_sum(style.alloc, volume)?);
     }
     Ok(())
 }
@@ -84,17 +84,16 @@ pub fn put_volume_sum<S: Sink>(
 ///
 /// OutOfMemory.
 pub fn put_file_sum<S: Sink>(
-    alloc: Global,
     out: &mut S,
-    sums: bool,
     file: &FileView<'_>,
+    style: &Style<'_>,
 ) -> Result<(), Fault>
-    requires { sums ≡ true → AllFit (volumes_in_content (content_of file.now)) }
-    ensures ok { OnOk result ((sum : List ℕ) × FileSum sums file.now sum × S.takes out.old sum out.new) }
-    ensures err { IfErr result (λ f. (f ≡ out_of_memory) × (sums ≡ true)) }
+    requires { style.now.sums ≡ true → AllFit (volumes_in_content (content_of file.now)) }
+    ensures ok { OnOk result ((sum : List ℕ) × FileSum style.now.sums file.now sum × S.takes out.old sum out.new) }
+    ensures err { IfErr result (λ f. (f ≡ out_of_memory) × (style.now.sums ≡ true)) }
 {
-    if sums {
-        put_sum(out, &file_sum(alloc, file)?);
+    if style.sums {
+        put_sum(out, &file_sum(style.alloc, file)?);
     }
     Ok(())
 }

@@ -1,9 +1,11 @@
 //! The tasks over one input.
 
-ghost use Rattle.std.specs.Prelude.{ℕ, Bool, List, IfOk, IfErr};
+ghost use Rattle.std.specs.Prelude.{◌≡◌, ◌⊎◌, ℕ, Bool, List, IfOk, IfErr};
+ghost use Rattle.fv_base.specs.Faults.{out_of_memory};
 ghost use Rattle.fv_text.specs.PortViews.{Writes, WritingStops, change, shown};
-ghost use Rattle.fv_command.specs.TaskRuns.{RunsTask, SaysRead, StopsRead};
-ghost use Rattle.fv_command.specs.inner.TaskSteps.{Performs};
+ghost use Rattle.fv_command.specs.Inputs.{BeginsNone, BeginsWith};
+ghost use Rattle.fv_command.specs.TaskRuns.{RunsTask};
+ghost use Rattle.fv_command.specs.inner.TaskSteps.{Performs, done_if};
 ghost use Rattle.fv_command.specs.Tasks.{PartText};
 
 use crate::check_run::write_check;
@@ -18,55 +20,25 @@ use fv_base::{Fault, Port};
 use fv_lines::{write_cells, write_volumes};
 use fv_plan::{Part, Task};
 use fv_text::{write_bytes, write_shown};
-use fv_tree::read_volume;
+use fv_tree::{VolumeView, read_volume};
 use std::alloc::Global;
 use std::io::{Read, Write};
 
-// Writes the canonical image of the volume that the input is.
-fn normalise<W: Write>(
-    alloc: Global,
-    hex: bool,
-    input: &[u8],
-    writer: &mut Port<W>,
-) -> Result<Status, Fault>
-    ensures { Performs Task.Normalise hex input.now (shown W.contents writer.old) (shown W.contents writer.new) result }
+// What a task returns that ends in Done, by the result of the call that writes.
+fn done(wrote: Result<(), Fault>) -> Result<Status, Fault>
+    ensures { result ≡ done_if wrote }
 {
-    write_image(alloc, hex, input, writer)?;
+    wrote?;
     Ok(Status::Done)
 }
 
-// Writes the input with each volume in it replaced by its canonical image.
-fn normalise_all<W: Write>(
-    alloc: Global,
-    hex: bool,
-    input: &[u8],
-    writer: &mut Port<W>,
-) -> Result<Status, Fault>
-    ensures { Performs Task.NormaliseAll hex input.now
-        (shown W.contents writer.old) (shown W.contents writer.new) result }
-{
-    write_flash_image(alloc, hex, input, writer)?;
-    Ok(Status::Done)
-}
-
-// Writes what the volume at the start of the input holds.
-fn list<W: Write>(alloc: Global, input: &[u8], writer: &mut Port<W>) -> Result<Status, Fault>
-    ensures { (hex : Bool)
-        → Performs Task.List hex input.now (shown W.contents writer.old) (shown W.contents writer.new) result }
+// The volume at the start of the input.
+fn volume_at_start(alloc: Global, input: &[u8]) -> Result<VolumeView<'_>, Fault>
+    ensures ok { IfOk result (λ view. BeginsWith input.now view) }
+    ensures err { IfErr result (λ f. (f ≡ out_of_memory) ⊎ BeginsNone input.now f) }
 {
     let (volume, _length) = read_volume(alloc, input)?;
-    write_list(alloc, writer, &volume)?;
-    Ok(Status::Done)
-}
-
-// Writes what the volume at the start of the input holds, with sums.
-fn list_sums<W: Write>(alloc: Global, input: &[u8], writer: &mut Port<W>) -> Result<Status, Fault>
-    ensures { (hex : Bool)
-        → Performs Task.ListSums hex input.now (shown W.contents writer.old) (shown W.contents writer.new) result }
-{
-    let (volume, _length) = read_volume(alloc, input)?;
-    write_sums(alloc, writer, &volume)?;
-    Ok(Status::Done)
+    Ok(volume)
 }
 
 // Writes the result of an extraction: the bytes, or that there is no such part.
@@ -111,7 +83,7 @@ fn extract_part<W: Write>(
     ensures { Performs (Task.Extract part.now) hex input.now
         (shown W.contents writer.old) (shown W.contents writer.new) result }
 {
-    let (volume, _length) = read_volume(alloc, input)?;
+    let volume = volume_at_start(alloc, input)?;
     let extraction = extract(alloc, &volume, part)?;
     write_part(writer, hex, &extraction)
 }
@@ -128,23 +100,13 @@ fn check<W: Write>(alloc: Global, input: &[u8], writer: &mut Port<W>) -> Result<
     }
 }
 
-// Writes where the cells of the volume at the start of the input lie.
-fn cells<W: Write>(alloc: Global, input: &[u8], writer: &mut Port<W>) -> Result<Status, Fault>
-    ensures { (hex : Bool)
-        → Performs Task.Cells hex input.now (shown W.contents writer.old) (shown W.contents writer.new) result }
-{
-    write_cells(alloc, input, writer)?;
-    Ok(Status::Done)
-}
-
 // Writes where volumes begin in the input.
 fn scan<W: Write>(alloc: Global, input: &[u8], writer: &mut Port<W>) -> Result<Status, Fault>
     ensures { (hex : Bool)
         → Performs Task.Scan hex input.now (shown W.contents writer.old) (shown W.contents writer.new) result }
 {
     let offsets = fv_tree::scan(alloc, input)?;
-    write_volumes(writer, input, offsets.as_slice())?;
-    Ok(Status::Done)
+    done(write_volumes(writer, input, offsets.as_slice()))
 }
 
 // Writes the result of the task for the input.
@@ -158,34 +120,21 @@ fn perform<W: Write>(
     ensures { Performs task.now hex input.now (shown W.contents writer.old) (shown W.contents writer.new) result }
 {
     match task {
-        Task::Normalise => normalise(alloc, hex, input, writer),
-        Task::NormaliseAll => normalise_all(alloc, hex, input, writer),
-        Task::List => list(alloc, input, writer),
-        Task::ListSums => list_sums(alloc, input, writer),
+        Task::Normalise => done(write_image(alloc, hex, input, writer)),
+        Task::NormaliseAll => done(write_flash_image(alloc, hex, input, writer)),
+        Task::List => {
+            let volume = volume_at_start(alloc, input)?;
+            done(write_list(alloc, writer, &volume))
+        }
+        Task::ListSums => {
+            let volume = volume_at_start(alloc, input)?;
+            done(write_sums(alloc, writer, &volume))
+        }
         Task::Extract(part) => extract_part(alloc, hex, input, part, writer),
         Task::Check => check(alloc, input, writer),
-        Task::Cells => cells(alloc, input, writer),
+        Task::Cells => done(write_cells(alloc, input, writer)),
         Task::Scan => scan(alloc, input, writer),
     }
-}
-
-// Reads an input to its end, and writes the result of the task for it, or for the volume at byte
-// `at`.
-fn read_and_perform<R: Read, W: Write>(
-    alloc: Global,
-    task: &Task,
-    hex: bool,
-    at: Option<u64>,
-    reader: &mut Port<R>,
-    writer: &mut Port<W>,
-) -> Result<Status, Fault>
-    ensures ok { IfOk result (SaysRead task.now hex at (change R.remaining reader.old reader.new)
-        (change W.contents writer.old writer.new)) }
-    ensures err { IfErr result (StopsRead task.now hex at (change R.remaining reader.old reader.new)
-        (change W.contents writer.old writer.new)) }
-{
-    let input = read_bytes(alloc, hex, reader)?;
-    perform(alloc, task, hex, taken_at(&input, at), writer)
 }
 
 /// Reads an input to its end, and writes the result of the task for it, or the line of the fault
@@ -202,7 +151,11 @@ pub fn run_task<R: Read, W: Write>(
     ensures { RunsTask task.now hex at result (change R.remaining reader.old reader.new)
         (change W.contents writer.old writer.new) }
 {
-    match read_and_perform(alloc, task, hex, at, reader, writer) {
+    let input = match read_bytes(alloc, hex, reader) {
+        Ok(input) => input,
+        Err(fault) => return refuse(writer, fault),
+    };
+    match perform(alloc, task, hex, taken_at(&input, at), writer) {
         Ok(status) => status,
         Err(fault) => refuse(writer, fault),
     }

@@ -47,18 +47,24 @@ op_of_code g =
     (record { code_is = refl; operand_is = refl }) (record { code_is = refl; operand_is = refl })
     (record { code_is = refl; operand_is = refl }) (record { code_is = refl; operand_is = refl })
 
+-- what is true of each op is true of all
+pub each_op : (P : Op → Type 0) → ((g : Guid) → P (ops.Before g)) → ((g : Guid) → P (ops.After g)) → ((g : Guid) → P (ops.Push g))
+    → P ops.And → P ops.Or → P ops.Not → P ops.True → P ops.False → P ops.End → P ops.Sor → (o : Op) → P o
+each_op P a b c d e f g h i j (ops.Before x) = a x
+each_op P a b c d e f g h i j (ops.After x) = b x
+each_op P a b c d e f g h i j (ops.Push x) = c x
+each_op P a b c d e f g h i j ops.And = d
+each_op P a b c d e f g h i j ops.Or = e
+each_op P a b c d e f g h i j ops.Not = f
+each_op P a b c d e f g h i j ops.True = g
+each_op P a b c d e f g h i j ops.False = h
+each_op P a b c d e f g h i j ops.End = i
+each_op P a b c d e f g h i j ops.Sor = j
+
 -- an op is that of its code and its GUID
 op_back : (o : Op) → op_by (op_code o) (record { bytes = op_operand o }) ≡ o
-op_back (ops.Before g) = refl
-op_back (ops.After g) = refl
-op_back (ops.Push g) = refl
-op_back ops.And = refl
-op_back ops.Or = refl
-op_back ops.Not = refl
-op_back ops.True = refl
-op_back ops.False = refl
-op_back ops.End = refl
-op_back ops.Sor = refl
+op_back = each_op (λ o. op_by (op_code o) (record { bytes = op_operand o }) ≡ o) (λ g. refl) (λ g. refl) (λ g. refl)
+    refl refl refl refl refl refl refl
 
 known_least : (phase : Phase) (code : ℕ) → has_code phase code ≡ true → code ≤ 9
 known_least Pei code h = omega (arith, leb-true code 8 (and_split (nat_le 2 code) (nat_le code 8) h).1)
@@ -153,13 +159,4 @@ same_op o p x y so sp e =
 
 -- the code of END is END's
 pub end_code : (o : Op) → op_code o ≡ 8 → o ≡ ops.End
-end_code (ops.Before g) e = absurd (omega (arith, e))
-end_code (ops.After g) e = absurd (omega (arith, e))
-end_code (ops.Push g) e = absurd (omega (arith, e))
-end_code ops.And e = absurd (omega (arith, e))
-end_code ops.Or e = absurd (omega (arith, e))
-end_code ops.Not e = absurd (omega (arith, e))
-end_code ops.True e = absurd (omega (arith, e))
-end_code ops.False e = absurd (omega (arith, e))
-end_code ops.End e = refl
-end_code ops.Sor e = absurd (omega (arith, e))
+end_code o e = sym (op_back o) ∙ ap (λ (k : ℕ). op_by k (record { bytes = op_operand o })) e

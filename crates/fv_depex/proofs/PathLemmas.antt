@@ -15,7 +15,7 @@ use Rattle.fv_depex.specs.declared.op.Phase.{Phase}
 use Rattle.fv_depex.specs.declared.op.Phase.TheVariants.{Pei, Dxe}
 use Rattle.fv_depex.specs.declared.op_stage.Stage.{Stage}
 use Rattle.fv_depex.specs.declared.op_stage.Stage.TheVariants as stages
-use Rattle.fv_depex.proofs.OpLemmas.{same_op, end_code}
+use Rattle.fv_depex.proofs.OpLemmas.{each_op, end_code, same_op}
 
 -- ---- paths, joined
 
@@ -162,16 +162,10 @@ value_code o low high ne = go (op_code o) refl where
 
 -- the values of an op that has some
 after_values : (stage : Stage) (o : Op) → 2 ≤ op_code o → stage_after stage o ≡ stages.Values (values_after (values_of stage) o)
-after_values stage (ops.Before g) l = absurd (omega (arith, l))
-after_values stage (ops.After g) l = absurd (omega (arith, l))
-after_values stage (ops.Push g) l = refl
-after_values stage ops.And l = refl
-after_values stage ops.Or l = refl
-after_values stage ops.Not l = refl
-after_values stage ops.True l = refl
-after_values stage ops.False l = refl
-after_values stage ops.End l = refl
-after_values stage ops.Sor l = refl
+after_values stage =
+    each_op (λ o. 2 ≤ op_code o → stage_after stage o ≡ stages.Values (values_after (values_of stage) o))
+    (λ g l. absurd (omega (arith, l))) (λ g l. absurd (omega (arith, l))) (λ g l. refl) (λ l. refl) (λ l. refl) (λ l. refl) (λ l. refl)
+    (λ l. refl) (λ l. refl) (λ l. refl)
 
 placed_values : (phase : Phase) (n : ℕ) (os : List Op) (o : Op) → LeavesStage phase (stages.Values n) os → OpFits phase (stages.Values n) o
     → o ≢ ops.End

@@ -1,9 +1,9 @@
 -- What the loop over the ops keeps, and what its ends say.
-use Rattle.std.proofs.Common.{◌≡◌, ◌≢◌, ◌≤◌, ℕ, suc, ◌+◌, ◌-◌, List, [], ◌∷◌, ◌++◌, length, take, drop, refl, sym, ap, ◌∙◌, subst, arith}
+use Rattle.std.proofs.Common.{◌≡◌, ◌≢◌, ◌≤◌, ℕ, suc, ◌+◌, List, [], ◌∷◌, ◌++◌, length, take, drop, refl, sym, ap, ◌∙◌, subst, arith}
 use Rattle.std.proofs.Common.{length-append, length-drop, append_assoc, append-nil}
 use Rattle.std.specs.Prelude.{◌⊎◌}
 use Rattle.std.specs.List.{AllByRecursion}
-use Rattle.std.proofs.lemmas.List.{take-append-drop, take_at, take_rest}
+use Rattle.std.proofs.lemmas.List.{take-append-drop, take_at}
 use Rattle.std.proofs.Math.Seq.{take-add}
 use Rattle.fv_base.specs.Checks.{IsFirstFault}
 use Rattle.fv_base.proofs.Laws.{first_among, none_faulty, not_first}
@@ -17,7 +17,7 @@ use Rattle.fv_depex.specs.declared.op.Op.TheVariants as ops
 use Rattle.fv_depex.specs.declared.op.Phase.{Phase}
 use Rattle.fv_depex.specs.declared.op_stage.Stage.{Stage}
 use Rattle.fv_depex.specs.declared.op_stage.Stage.TheVariants as stages
-use Rattle.fv_depex.proofs.OpLemmas.{checks_hold, end_code}
+use Rattle.fv_depex.proofs.OpLemmas.{checks_hold, each_op, end_code}
 use Rattle.fv_depex.proofs.PathLemmas.{LeavesStage, all_join, bytes_join, ended_bytes, leaves_more, leaves_whole, path_more, path_sized}
 use Rattle.fv_depex.proofs.PathLemmas.{same_front, whole_ended}
 
@@ -34,16 +34,9 @@ kept_none phase b items e = subst (λ (l : List Op). OpsKept phase b l 0 stages.
     (record { path = refl; leaves = refl; bytes = refl; inside = omega arith; few = omega arith })
 
 few_more : (stage : Stage) (o : Op) → values_of (stage_after stage o) ≤ values_of stage + 1
-few_more stage (ops.Before g) = omega arith
-few_more stage (ops.After g) = omega arith
-few_more stage (ops.Push g) = omega arith
-few_more stage ops.And = omega arith
-few_more stage ops.Or = omega arith
-few_more stage ops.Not = omega arith
-few_more stage ops.True = omega arith
-few_more stage ops.False = omega arith
-few_more stage ops.End = omega arith
-few_more stage ops.Sor = omega arith
+few_more stage =
+    each_op (λ o. values_of (stage_after stage o) ≤ values_of stage + 1) (λ g. omega arith) (λ g. omega arith) (λ g. omega arith)
+    (omega arith) (omega arith) (omega arith) (omega arith) (omega arith) (omega arith) (omega arith)
 
 -- the bytes of one more op
 pub record OneMoreOp (b : List ℕ) (items : List Op) (o : Op) (at n : ℕ) : Type 0 where
@@ -71,11 +64,10 @@ one_more phase b items o at n stage k stands len =
     next m = omega arith
 
 pub kept : (phase : Phase) (b : List ℕ) (items new : List Op) (o : Op) (at n : ℕ) (stage after : Stage) → OpsKept phase b items at stage
-    → BeginsOp phase stage o (take (length b - at) (drop at b))
+    → BeginsOp phase stage o (drop at b)
     → n ≡ 1 + operand_len (carries (op_code o)) → op_code o ≢ 8 → new ≡ items ++ o ∷ [] → after ≡ stage_after stage o
     → OpsKept phase b new (at + n) after
-kept phase b items new o at n stage after k stands' len ne new_is after_is =
-    let stands : BeginsOp phase stage o (drop at b) = subst (λ (l : List ℕ). BeginsOp phase stage o l) (take_rest b at) stands' in
+kept phase b items new o at n stage after k stands len ne new_is after_is =
     let more = one_more phase b items o at n stage k stands len in
     let other : o ≢ ops.End = λ e. ne (ap op_code e) in
     subst (λ (l : List Op). OpsKept phase b l (at + n) after) (sym new_is)
@@ -88,11 +80,10 @@ kept phase b items new o at n stage after k stands' len ne new_is after_is =
     }))
 
 pub ended : (phase : Phase) (b : List ℕ) (items new : List Op) (o : Op) (at n : ℕ) (stage : Stage) → OpsKept phase b items at stage
-    → BeginsOp phase stage o (take (length b - at) (drop at b))
+    → BeginsOp phase stage o (drop at b)
     → n ≡ 1 + operand_len (carries (op_code o)) → op_code o ≡ 8 → new ≡ items ++ o ∷ []
     → (at + n ≤ length b) × Spells phase new (drop (at + n) b) b
-ended phase b items new o at n stage k stands' len is new_is =
-    let stands : BeginsOp phase stage o (drop at b) = subst (λ (l : List ℕ). BeginsOp phase stage o l) (take_rest b at) stands' in
+ended phase b items new o at n stage k stands len is new_is =
     let more = one_more phase b items o at n stage k stands len in
     let end : o ≡ ops.End = end_code o is in
     let fits : OpFits phase stage ops.End = subst (λ (p : Op). OpFits phase stage p) end stands.fits in
@@ -109,11 +100,11 @@ ended phase b items new o at n stage k stands' len is new_is =
 
 -- where an op was read, or is there to be read, one stands first
 pub stands_first : (phase : Phase) (b : List ℕ) (items : List Op) (o : Op) (at : ℕ) (stage : Stage) → OpsKept phase b items at stage
-    → BeginsOp phase stage o (take (length b - at) (drop at b)) → BeginsFirstOp phase b
+    → BeginsOp phase stage o (drop at b) → BeginsFirstOp phase b
 stands_first phase b [] o at stage k stands = (
   o,
   subst (λ (s : Stage). BeginsOp phase s o b) (sym k.path)
-      (subst (λ (l : List ℕ). BeginsOp phase stage o l) (take_rest b at ∙ whole k.bytes) stands),
+      (subst (λ (l : List ℕ). BeginsOp phase stage o l) (whole k.bytes) stands),
 ) where
   whole : take at b ≡ [] → drop at b ≡ b
   whole e = ap (λ (l : List ℕ). l ++ drop at b) (sym e) ∙ take-append-drop at b

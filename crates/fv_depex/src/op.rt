@@ -1,9 +1,5 @@
 //! The ops of dependency expressions.
 
-ghost use Rattle.std.specs.Prelude.{◌≡◌};
-ghost use Rattle.fv_depex.specs.Expressions.{op_code};
-
-use crate::opcode;
 use fv_base::Guid;
 
 /// The phase that evaluates an expression. Those of the MM phase are read as DXE ones. (PI
@@ -44,24 +40,4 @@ pub enum Op {
     /// EFI_DEP_SOR, 0x09: schedule on request, which does not change the value. It is the first op,
     /// and an expression follows it. DXE only.
     Sor,
-}
-
-impl Op {
-    /// The op code, 0x00 (EFI_DEP_BEFORE) to 0x09 (EFI_DEP_SOR): the first byte of the op.
-    pub fn code(&self) -> u8
-        ensures { result ≡ op_code self.now }
-    {
-        match self {
-            Op::Before(_) => opcode::BEFORE,
-            Op::After(_) => opcode::AFTER,
-            Op::Push(_) => opcode::PUSH,
-            Op::And => opcode::AND,
-            Op::Or => opcode::OR,
-            Op::Not => opcode::NOT,
-            Op::True => opcode::TRUE,
-            Op::False => opcode::FALSE,
-            Op::End => opcode::END,
-            Op::Sor => opcode::SOR,
-        }
-    }
 }

@@ -1,6 +1,11 @@
 //! The codes of ops (PI specification, volume 2, section 10.7): an op's first byte. Both reading
 //! and writing use them.
 
+ghost use Rattle.std.specs.Prelude.{◌≡◌};
+ghost use Rattle.fv_depex.specs.Expressions.{op_code};
+
+use crate::op::Op;
+
 /// EFI_DEP_BEFORE, followed by a GUID.
 pub const BEFORE: u8 = 0x00;
 
@@ -30,3 +35,23 @@ pub const END: u8 = 0x08;
 
 /// EFI_DEP_SOR, DXE's highest code.
 pub const SOR: u8 = 0x09;
+
+impl Op {
+    /// The op code, 0x00 (EFI_DEP_BEFORE) to 0x09 (EFI_DEP_SOR): the first byte of the op.
+    pub fn code(&self) -> u8
+        ensures { result ≡ op_code self.now }
+    {
+        match self {
+            Op::Before(_) => BEFORE,
+            Op::After(_) => AFTER,
+            Op::Push(_) => PUSH,
+            Op::And => AND,
+            Op::Or => OR,
+            Op::Not => NOT,
+            Op::True => TRUE,
+            Op::False => FALSE,
+            Op::End => END,
+            Op::Sor => SOR,
+        }
+    }
+}

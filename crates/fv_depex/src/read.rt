@@ -139,13 +139,21 @@ fn op_len(op: &Op) -> usize
     if carries(op.code()) { WITH_GUID } else { 1 }
 }
 
-// The op at the front, or the kind of the first fault there.
-fn next_op(rest: &[u8], phase: Phase, stage: Stage) -> Result<Op, DepexFaultKind>
-    ensures found { IfOk result (λ o. BeginsOp phase stage o rest.now) }
-    ensures first { IfErr result (IsFirstFault (op_checks phase stage rest.now)) }
+// The op at an offset, or the first fault there.
+fn op_at(bytes: &[u8], at: usize, phase: Phase, stage: Stage) -> Result<Op, DepexFault>
+    requires { at ≤ length bytes.now }
+    ensures found { IfOk result (λ o. BeginsOp phase stage o (drop at bytes.now)) }
+    ensures place { IfErr result (λ f. f.offset ≡ at) }
+    ensures first { IfErr result (λ f. IsFirstFault (op_checks phase stage (drop at bytes.now)) f.kind) }
 {
-    check_op(rest, phase, stage)?;
-    Ok(op_in(rest))
+    let rest = bytes_from(bytes, at);
+    match check_op(rest, phase, stage) {
+        Ok(()) => Ok(op_in(rest)),
+        Err(kind) => {
+            let offset = at as u64;
+            Err(DepexFault { kind, offset })
+        }
+    }
 }
 
 // The ops up to END, and the number of their bytes.
@@ -159,13 +167,7 @@ fn read_ops(alloc: Global, bytes: &[u8], phase: Phase) -> Result<(Vec<Op>, usize
     let mut at = 0;
     let mut stage = Stage::Start;
     loop {
-        let op = match next_op(&bytes[at..], phase, stage) {
-            Ok(op) => op,
-            Err(kind) => {
-                let offset = at as u64;
-                return Err(DepexFault { kind, offset });
-            }
-        };
+        let op = op_at(bytes, at, phase, stage)?;
         at += op_len(&op);
         ops.push(op)?;
         if op.code() == opcode::END {
@@ -221,12 +223,9 @@ pub fn depex_fault(bytes: &[u8], phase: Phase) -> Option<DepexFault>
     let mut at = 0;
     let mut stage = Stage::Start;
     loop {
-        let op = match next_op(&bytes[at..], phase, stage) {
+        let op = match op_at(bytes, at, phase, stage) {
             Ok(op) => op,
-            Err(kind) => {
-                let offset = at as u64;
-                return Some(DepexFault { kind, offset });
-            }
+            Err(fault) => return Some(fault),
         };
         at += op_len(&op);
         if op.code() == opcode::END {

@@ -21,22 +21,14 @@ fn push_op(bytes: &mut Vec<u8>, op: &Op) -> Result<(), AllocError>
     Ok(())
 }
 
-// The bytes of ops.
-fn ops_bytes(alloc: Global, ops: &[Op]) -> Result<Vec<u8>, AllocError>
-    ensures { IfOk result (λ v. v.items ≡ ops_bytes ops.now) }
+// The bytes of ops, and others after them.
+fn spelled(alloc: Global, ops: &[Op], rest: &[u8]) -> Result<Vec<u8>, AllocError>
+    ensures { IfOk result (λ v. v.items ≡ ops_bytes ops.now ++ rest.now) }
 {
     let mut bytes = Vec::new(alloc);
     for op in ops {
         push_op(&mut bytes, op)?;
     }
-    Ok(bytes)
-}
-
-// The bytes of ops, and others after them.
-fn spelled(alloc: Global, ops: &[Op], rest: &[u8]) -> Result<Vec<u8>, AllocError>
-    ensures { IfOk result (λ v. v.items ≡ ops_bytes ops.now ++ rest.now) }
-{
-    let mut bytes = ops_bytes(alloc, ops)?;
     bytes.extend_from_slice(rest)?;
     Ok(bytes)
 }

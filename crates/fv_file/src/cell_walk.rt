@@ -6,13 +6,14 @@ ghost use Rattle.fv_base.specs.Faults.{outer_fault, out_of_memory};
 ghost use Rattle.fv_base.specs.Flash.{erased_byte};
 ghost use Rattle.fv_file.specs.Cells.{CellForm, CellsWithin, Tiles, cell_len};
 ghost use Rattle.fv_file.specs.FileChecks.{IsFirstCellFault, leading_count};
-ghost use Rattle.fv_file.specs.inner.CellVerdicts.{cell_verdict};
+ghost use Rattle.fv_file.specs.inner.CellVerdicts.{cell_of, cell_verdict};
+ghost use Rattle.fv_file.specs.inner.StateSorts as sorts;
 ghost use Rattle.fv_file.specs.CellForms.{cell_form};
 
 use crate::cell::Cell;
 use crate::cell_list::Cells;
 use crate::file_type::FFS_PAD;
-use crate::head::{file_at, header_len_at, size_at};
+use crate::head::{FileHead, file_at, header_len_at, size_at};
 use crate::layout::{HEADER_LEN, SIZE_OFFSET, STATE_OFFSET};
 use crate::leading::leading_count;
 use crate::state::{FileState, file_state};
@@ -40,6 +41,25 @@ fn stray(rest: &[u8], at: u64, polarity: Polarity) -> Fault
         FaultKind::FreeSpace,
         at + leading_count(rest, polarity.erased()) as u64,
     )
+}
+
+// The cell of a file that is present: a pad, or a valid file.
+fn file_cell(offset: u64, head: FileHead, payload: &[u8]) -> Cell<'_>
+    ensures { cell_form result ≡ cell_of sorts.Valid offset head payload.now }
+{
+    if head.kind == FFS_PAD {
+        Cell::Pad {
+            offset,
+            head,
+            payload,
+        }
+    } else {
+        Cell::Valid {
+            offset,
+            head,
+            payload,
+        }
+    }
 }
 
 // The cell at the offset `at`, which is not a free one, or the first fault there.
@@ -81,19 +101,7 @@ fn cell_at<'a>(
         FileState::DataValid | FileState::Marked => {
             let head = file_at(rest, at, system, state)?;
             let payload = &rest[head.header_len as usize..head.size as usize];
-            if head.kind == FFS_PAD {
-                Ok(Cell::Pad {
-                    offset: at,
-                    head,
-                    payload,
-                })
-            } else {
-                Ok(Cell::Valid {
-                    offset: at,
-                    head,
-                    payload,
-                })
-            }
+            Ok(file_cell(at, head, payload))
         }
     }
 }

@@ -27,17 +27,24 @@ pairs_of-step (a ∷ b ∷ c ∷ d ∷ e ∷ f ∷ []) h = absurd (omega arith)
 pairs_of-step (a ∷ b ∷ c ∷ d ∷ e ∷ f ∷ g ∷ []) h = absurd (omega arith)
 pairs_of-step (a ∷ b ∷ c ∷ d ∷ e ∷ f ∷ g ∷ i ∷ bs) h = refl
 
+-- what is true of no bytes, and of eight bytes more, is true of bytes whose number is a multiple of 8
+pub by_eights : (P : List ℕ → Type 0) → P []
+    → ((a b c d e f g i : ℕ) (xs : List ℕ) → P xs → P (a ∷ b ∷ c ∷ d ∷ e ∷ f ∷ g ∷ i ∷ xs))
+    → (xs : List ℕ) → length xs % 8 ≡ 0 → P xs
+by_eights P none more [] h = none
+by_eights P none more (a ∷ []) h = absurd (omega arith)
+by_eights P none more (a ∷ b ∷ []) h = absurd (omega arith)
+by_eights P none more (a ∷ b ∷ c ∷ []) h = absurd (omega arith)
+by_eights P none more (a ∷ b ∷ c ∷ d ∷ []) h = absurd (omega arith)
+by_eights P none more (a ∷ b ∷ c ∷ d ∷ e ∷ []) h = absurd (omega arith)
+by_eights P none more (a ∷ b ∷ c ∷ d ∷ e ∷ f ∷ []) h = absurd (omega arith)
+by_eights P none more (a ∷ b ∷ c ∷ d ∷ e ∷ f ∷ g ∷ []) h = absurd (omega arith)
+by_eights P none more (a ∷ b ∷ c ∷ d ∷ e ∷ f ∷ g ∷ i ∷ xs) h = more a b c d e f g i xs (by_eights P none more xs (omega arith))
+
 pub pairs_of-append : (xs ys : List ℕ) → length xs % 8 ≡ 0 → pairs_of (xs ++ ys) ≡ pairs_of xs ++ pairs_of ys
-pairs_of-append [] ys h = refl
-pairs_of-append (a ∷ []) ys h = absurd (omega arith)
-pairs_of-append (a ∷ b ∷ []) ys h = absurd (omega arith)
-pairs_of-append (a ∷ b ∷ c ∷ []) ys h = absurd (omega arith)
-pairs_of-append (a ∷ b ∷ c ∷ d ∷ []) ys h = absurd (omega arith)
-pairs_of-append (a ∷ b ∷ c ∷ d ∷ e ∷ []) ys h = absurd (omega arith)
-pairs_of-append (a ∷ b ∷ c ∷ d ∷ e ∷ f ∷ []) ys h = absurd (omega arith)
-pairs_of-append (a ∷ b ∷ c ∷ d ∷ e ∷ f ∷ g ∷ []) ys h = absurd (omega arith)
-pairs_of-append (a ∷ b ∷ c ∷ d ∷ e ∷ f ∷ g ∷ i ∷ xs) ys h =
-    ap (λ (ps : List (ℕ × ℕ)). (le (a ∷ b ∷ c ∷ d ∷ []), le (e ∷ f ∷ g ∷ i ∷ [])) ∷ ps) (pairs_of-append xs ys (omega arith))
+pairs_of-append xs ys =
+    by_eights (λ zs. pairs_of (zs ++ ys) ≡ pairs_of zs ++ pairs_of ys) refl
+    (λ a b c d e f g i zs rest. ap (λ (ps : List (ℕ × ℕ)). (le (a ∷ b ∷ c ∷ d ∷ []), le (e ∷ f ∷ g ∷ i ∷ [])) ∷ ps) rest) xs
 
 pub last-injective : (xs ys : List (ℕ × ℕ)) (p q : ℕ × ℕ) → xs ++ (p ∷ []) ≡ ys ++ (q ∷ []) → (xs ≡ ys) × (p ≡ q)
 last-injective [] [] p q h = (refl, cc)

@@ -10,7 +10,7 @@ use Rattle.fv_base.specs.Value.{IsBytes, le, le_bytes, le_at}
 use Rattle.fv_base.proofs.Laws.{bytes_drop, le-le_bytes, two_bytes}
 use Rattle.fv_head.specs.Ext.{Extension, kept_payload, zero_used_size, is_used_size, BeginNoEntry, SplitsEntries, IsExt, IsReadExt}
 use Rattle.fv_head.specs.ExtImage.{payload_with, entry_bytes, entries_bytes, entries_len, ext_len, ext_spelled}
-use Rattle.fv_head.proofs.ExtLemmas.{begins}
+use Rattle.fv_head.proofs.ExtLemmas.{begins, length-ext}
 
 -- a number of four bytes
 four_bytes : (n : ℕ) → n < 65536 → le (le_bytes 4 n) ≡ n
@@ -175,14 +175,5 @@ entries_end used front es i past is =
 -- the most bytes of an extended header
 pub ext_len_most : (x : Extension) → IsReadExt x → ext_len x ≤ ext_limit
 ext_len_most x (b, small, is) =
-    let parts : length b ≡ 20 + length is.rest =
-    omega (
-      arith,
-      ap length is.text,
-      length-append (bytes_of x.name) (is.head ++ is.rest),
-      length-append is.head is.rest,
-      is.name_length,
-      is.head_length,
-    ) in
     let source : entries_len x.entries + length x.tail ≡ length is.rest = length-entries x.entries x.tail is.rest is.entries in
-    omega (arith, parts, source, is.most)
+    omega (arith, length-ext x b is, source, is.most)

@@ -190,6 +190,17 @@ some_ext b least most size =
     let found = some_entries (length (drop 20 b)) (drop 20 b) (omega arith) in
     (_, ext_of b g found.0 found.1 least most size refl found.2)
 
+-- an extended header is 20 bytes and the rest
+pub length-ext : (x : Extension) (b : List ℕ) → (is : IsExt x b) → length b ≡ 20 + length is.rest
+length-ext x b is = omega (
+  arith,
+  ap length is.text,
+  length-append (bytes_of x.name) (is.head ++ is.rest),
+  length-append is.head is.rest,
+  is.name_length,
+  is.head_length,
+)
+
 -- ---- where it stands
 
 -- an extended header by its place
@@ -205,14 +216,7 @@ pub record Placed (x : Extension) (e : Extent) (b part : List ℕ) : Type 0 wher
 
 pub placed : (x : Extension) (e : Extent) (b : List ℕ) → (h : HasExt (Some x) e b) → Placed x e b h.1
 placed x e b (before, part, behind, text, at, low, high, is, first) =
-    let least : 20 ≤ length part = omega (
-      arith,
-      ap length is.text,
-      length-append (bytes_of x.name) (is.head ++ is.rest),
-      length-append is.head is.rest,
-      is.name_length,
-      is.head_length,
-    ) in
+    let least : 20 ≤ length part = omega (arith, length-ext x part is) in
     let moved : drop (length before) b ≡ part ++ behind =
     ap (drop (length before)) text ∙ drop_at before (part ++ behind) (length before) refl in
     let head : field 16 4 part ≡ is.head =

@@ -17,42 +17,31 @@ use Rattle.fv_head.specs.Pairs.{pairs_of, pairs_bytes}
 use Rattle.fv_head.specs.ExtImage.{ext_spelled, IfRead, canonical_end, first_edge, CanonicalRest}
 use Rattle.fv_head.specs.HeadImage.{head_spelled, checksum_of, canonical_head}
 use Rattle.fv_head.specs.inner.WordSums.{word_weight}
+use Rattle.fv_head.proofs.BlockLemmas.{by_eights}
 use Rattle.fv_head.proofs.ExtImageLemmas.{ext_again, ext_len_most}
 
 -- ---- pairs
 
 length-pairs_of : (xs : List ℕ) → length xs % 8 ≡ 0 → 8 * length (pairs_of xs) ≡ length xs
-length-pairs_of [] h = refl
-length-pairs_of (a ∷ []) h = absurd (omega arith)
-length-pairs_of (a ∷ b ∷ []) h = absurd (omega arith)
-length-pairs_of (a ∷ b ∷ c ∷ []) h = absurd (omega arith)
-length-pairs_of (a ∷ b ∷ c ∷ d ∷ []) h = absurd (omega arith)
-length-pairs_of (a ∷ b ∷ c ∷ d ∷ e ∷ []) h = absurd (omega arith)
-length-pairs_of (a ∷ b ∷ c ∷ d ∷ e ∷ f ∷ []) h = absurd (omega arith)
-length-pairs_of (a ∷ b ∷ c ∷ d ∷ e ∷ f ∷ g ∷ []) h = absurd (omega arith)
-length-pairs_of (a ∷ b ∷ c ∷ d ∷ e ∷ f ∷ g ∷ i ∷ xs) h = let rest = length-pairs_of xs (omega arith) in omega (arith, rest)
+length-pairs_of = by_eights (λ xs. 8 * length (pairs_of xs) ≡ length xs) refl (λ a b c d e f g i xs rest. omega (arith, rest))
 
 four_bytes : (a b c d : ℕ) → IsBytes (a ∷ b ∷ c ∷ d ∷ []) → le_bytes 4 (le (a ∷ b ∷ c ∷ d ∷ [])) ≡ a ∷ b ∷ c ∷ d ∷ []
 four_bytes a b c d h = le_bytes-le (a ∷ b ∷ c ∷ d ∷ []) h
 
 -- pairs that bytes spell, spelled again
 pairs_bytes-pairs_of : (xs : List ℕ) → IsBytes xs → length xs % 8 ≡ 0 → pairs_bytes (pairs_of xs) ≡ xs
-pairs_bytes-pairs_of [] small h = refl
-pairs_bytes-pairs_of (a ∷ []) small h = absurd (omega arith)
-pairs_bytes-pairs_of (a ∷ b ∷ []) small h = absurd (omega arith)
-pairs_bytes-pairs_of (a ∷ b ∷ c ∷ []) small h = absurd (omega arith)
-pairs_bytes-pairs_of (a ∷ b ∷ c ∷ d ∷ []) small h = absurd (omega arith)
-pairs_bytes-pairs_of (a ∷ b ∷ c ∷ d ∷ e ∷ []) small h = absurd (omega arith)
-pairs_bytes-pairs_of (a ∷ b ∷ c ∷ d ∷ e ∷ f ∷ []) small h = absurd (omega arith)
-pairs_bytes-pairs_of (a ∷ b ∷ c ∷ d ∷ e ∷ f ∷ g ∷ []) small h = absurd (omega arith)
-pairs_bytes-pairs_of (a ∷ b ∷ c ∷ d ∷ e ∷ f ∷ g ∷ i ∷ xs) small h =
-    let whole : List ℕ = a ∷ b ∷ c ∷ d ∷ e ∷ f ∷ g ∷ i ∷ xs in
-    let first = four_bytes a b c d (bytes_take 4 whole small) in
-    let second = four_bytes e f g i (bytes_take 4 (drop 4 whole) (bytes_drop 4 whole small)) in
-    let rest = pairs_bytes-pairs_of xs (bytes_drop 8 whole small) (omega arith) in
-    ap (λ (ys : List ℕ). (ys ++ le_bytes 4 (le (e ∷ f ∷ g ∷ i ∷ []))) ++ pairs_bytes (pairs_of xs)) first
-    ∙ ap (λ (ys : List ℕ). ((a ∷ b ∷ c ∷ d ∷ []) ++ ys) ++ pairs_bytes (pairs_of xs)) second
-    ∙ ap (λ (ys : List ℕ). a ∷ b ∷ c ∷ d ∷ e ∷ f ∷ g ∷ i ∷ ys) rest
+pairs_bytes-pairs_of xs small h = by_eights (λ ys. IsBytes ys → pairs_bytes (pairs_of ys) ≡ ys) (λ none. refl) step xs h small where
+  step : (a b c d e f g i : ℕ) (xs : List ℕ) → (IsBytes xs → pairs_bytes (pairs_of xs) ≡ xs)
+      → IsBytes (a ∷ b ∷ c ∷ d ∷ e ∷ f ∷ g ∷ i ∷ xs)
+      → pairs_bytes (pairs_of (a ∷ b ∷ c ∷ d ∷ e ∷ f ∷ g ∷ i ∷ xs)) ≡ a ∷ b ∷ c ∷ d ∷ e ∷ f ∷ g ∷ i ∷ xs
+  step a b c d e f g i xs more small =
+      let whole : List ℕ = a ∷ b ∷ c ∷ d ∷ e ∷ f ∷ g ∷ i ∷ xs in
+      let first = four_bytes a b c d (bytes_take 4 whole small) in
+      let second = four_bytes e f g i (bytes_take 4 (drop 4 whole) (bytes_drop 4 whole small)) in
+      let rest = more (bytes_drop 8 whole small) in
+      ap (λ (ys : List ℕ). (ys ++ le_bytes 4 (le (e ∷ f ∷ g ∷ i ∷ []))) ++ pairs_bytes (pairs_of xs)) first
+      ∙ ap (λ (ys : List ℕ). ((a ∷ b ∷ c ∷ d ∷ []) ++ ys) ++ pairs_bytes (pairs_of xs)) second
+      ∙ ap (λ (ys : List ℕ). a ∷ b ∷ c ∷ d ∷ e ∷ f ∷ g ∷ i ∷ ys) rest
 
 pairs_bytes-append : (ps qs : List (ℕ × ℕ)) → pairs_bytes (ps ++ qs) ≡ pairs_bytes ps ++ pairs_bytes qs
 pairs_bytes-append [] qs = refl

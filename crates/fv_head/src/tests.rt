@@ -61,7 +61,7 @@ const HEADS: [(&[(usize, &[u8])], FileSystem, u32, Polarity); 3] = [
 ];
 
 /// How many bytes are left, what is changed, and then the fault.
-const FAULTS: [(usize, &[(usize, &[u8])], FaultKind, u64); 13] = [
+const FAULTS: [(usize, &[(usize, &[u8])], FaultKind, u64); 11] = [
     (55, &[], FaultKind::Truncated, 55),
     (60, &[], FaultKind::Truncated, 60),
     (128, &[(43, &[0x49])], FaultKind::Signature, 40),
@@ -74,27 +74,6 @@ const FAULTS: [(usize, &[(usize, &[u8])], FaultKind, u64); 13] = [
         &[(50, &[0xcd]), (56, &[0x02])],
         FaultKind::BlockMap,
         56,
-    ),
-    // 8 bytes more than the limit.
-    (
-        72,
-        &[
-            (32, &[0x08, 0x00, 0x00, 0x10]),
-            (50, &[0xbe, 0xd6]),
-            (60, &[0x08, 0x00, 0x00, 0x10]),
-        ],
-        FaultKind::Length,
-        32,
-    ),
-    (
-        72,
-        &[
-            (32, &[0x08, 0x00, 0x00, 0x01]),
-            (50, &[0xbe, 0xf4]),
-            (60, &[0x08, 0x00, 0x00, 0x01]),
-        ],
-        FaultKind::Truncated,
-        72,
     ),
     (128, &[(50, &[0x8e, 0xf5, 0x40])], FaultKind::ExtHeader, 52),
     // Blocks of 2 ^ 64 + 128 bytes.
@@ -119,6 +98,13 @@ const FAULTS: [(usize, &[(usize, &[u8])], FaultKind, u64); 13] = [
         FaultKind::BlockMap,
         56,
     ),
+];
+
+/// The length of a volume of which 72 bytes are left, the sum of its header, and then the fault.
+const LENGTHS: [(u32, [u8; 2], FaultKind, u64); 2] = [
+    // 8 bytes more than the limit.
+    (0x1000_0008, [0xbe, 0xd6], FaultKind::Length, 32),
+    (0x0100_0008, [0xbe, 0xf4], FaultKind::Truncated, 72),
 ];
 
 // Whether a head has the fields of the empty volume, and those given.
@@ -175,18 +161,9 @@ fn heads_are_spelled(rt: HostRuntime) -> Result<(), Fail> {
         let mut bytes = EMPTY;
         change(&mut bytes, changes);
         let spelled = canonical(rt.alloc(), &bytes)?;
-        assert_eq!(rt; Some(spelled.as_slice()), bytes.get(..72));
-    }
-    Ok(())
-}
-
-#[test]
-fn heads_are_put(rt: HostRuntime) -> Result<(), Fail> {
-    for (changes, _, _, _) in HEADS {
-        let mut bytes = EMPTY;
-        change(&mut bytes, changes);
         let put = canonical_put(rt.alloc(), &bytes)?;
-        assert_eq!(rt; Some(put.as_slice()), bytes.get(..72));
+        assert_eq!(rt; Some(spelled.as_slice()), bytes.get(..72));
+        assert_eq!(rt; put.as_slice(), spelled.as_slice());
     }
     Ok(())
 }
@@ -199,15 +176,25 @@ fn fault_of(alloc: Global, bytes: &[u8]) -> Option<Fault> {
     }
 }
 
+// Whether the first bytes of the empty volume, after these changes, are rejected with this fault.
+fn is_refused(alloc: Global, length: usize, changes: &[(usize, &[u8])], fault: Fault) -> bool {
+    let mut bytes = EMPTY;
+    change(&mut bytes, changes);
+    let part = &bytes[..length.min(128)];
+    verify_fv(part).err() == Some(fault) && fault_of(alloc, part) == Some(fault)
+}
+
 #[test]
 fn faults_have_their_places(rt: HostRuntime) {
     for (length, changes, kind, offset) in FAULTS {
-        let mut bytes = EMPTY;
-        change(&mut bytes, changes);
-        let part = &bytes[..length.min(128)];
-        let fault = Some(Fault::outer(kind, offset));
-        assert_eq!(rt; verify_fv(part).err(), fault, "{kind}");
-        assert_eq!(rt; fault_of(rt.alloc(), part), fault, "{kind}");
+        let fault = Fault::outer(kind, offset);
+        assert!(rt; is_refused(rt.alloc(), length, changes, fault), "{kind}");
+    }
+    for (length, sum, kind, offset) in LENGTHS {
+        let len = length.to_le_bytes();
+        let changes: [(usize, &[u8]); 3] = [(32, &len), (50, &sum), (60, &len)];
+        let fault = Fault::outer(kind, offset);
+        assert!(rt; is_refused(rt.alloc(), 72, &changes, fault), "{kind}");
     }
 }
 

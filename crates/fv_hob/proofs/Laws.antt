@@ -1,34 +1,13 @@
--- What a crate above may cite of hand-off blocks and their lists.
+-- What a crate above may cite of hand-off blocks and their lists. Each line passes some of it on from where it is proved.
 
--- the type of a block stands at 0 of its bytes
-pub use Rattle.fv_hob.proofs.BlockLemmas.{code_is}
--- a block has as many bytes as its kind says
-pub use Rattle.fv_hob.proofs.BlockLemmas.{len_is}
--- they fit a field of 16 bits
-pub use Rattle.fv_hob.proofs.BlockLemmas.{len_small}
--- bytes begin with one block at most
-pub use Rattle.fv_hob.proofs.BlockLemmas.{SameBlock, one_block}
--- where a block stands its checks hold
-pub use Rattle.fv_hob.proofs.BlockLemmas.{checks_hold}
--- where the checks hold a block stands
-pub use Rattle.fv_hob.proofs.BlockLemmas.{stands}
--- the bytes that a block is written as are the block
-pub use Rattle.fv_hob.proofs.HobImageLemmas.{written_again}
--- those of a block that is used are the ones that it was read from
-pub use Rattle.fv_hob.proofs.HobImageLemmas.{block_kept}
--- a block is written in as many bytes as its kind says
-pub use Rattle.fv_hob.proofs.HobImageLemmas.{spelled_len}
--- bytes begin with one list at most
-pub use Rattle.fv_hob.proofs.ListLemmas.{only_list}
--- blocks that are joined have 8 bytes each at least
-pub use Rattle.fv_hob.proofs.ListLemmas.{blocks_fit}
--- the bytes that a list is written as are the list
-pub use Rattle.fv_hob.proofs.HobImageLemmas.{list_again}
--- where every block is used they are those that it was read from
-pub use Rattle.fv_hob.proofs.HobImageLemmas.{list_kept}
--- a list is written in as many bytes as it was read from
-pub use Rattle.fv_hob.proofs.HobImageLemmas.{list_len}
--- bytes that have a first fault begin with no list
-pub use Rattle.fv_hob.proofs.ReadLemmas.{none_after}
--- a check that does not hold is no out of memory
-pub use Rattle.fv_hob.proofs.ReadLemmas.{no_want}
+-- of a block: its type stands at 0 of its bytes, and it has as many bytes as its kind says, which fit a field of 16 bits; bytes begin
+-- with one block at most; it stands there where its checks hold, and its checks hold where it stands
+pub use Rattle.fv_hob.proofs.BlockLemmas.{code_is, len_is, len_small, SameBlock, one_block, checks_hold, stands}
+-- what is written of a block is the block, in as many bytes as its kind says, and the bytes that it was read from if it is used
+pub use Rattle.fv_hob.proofs.HobImageLemmas.{written_again, block_kept, spelled_len}
+-- what is written of a list is the list, in as many bytes as it was read from, and those bytes if every block is used
+pub use Rattle.fv_hob.proofs.HobImageLemmas.{list_again, list_kept, list_len}
+-- bytes begin with one list at most; blocks that are joined have 8 bytes each at least
+pub use Rattle.fv_hob.proofs.ListLemmas.{only_list, blocks_fit}
+-- bytes that have a first fault begin with no list; a check that does not hold is no out of memory
+pub use Rattle.fv_hob.proofs.ReadLemmas.{none_after, no_want}

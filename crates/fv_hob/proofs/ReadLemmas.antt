@@ -1,10 +1,10 @@
 -- What the loop over the blocks keeps, and what its ends say.
-use Rattle.std.proofs.Common.{◌≡◌, ◌≤◌, ℕ, ◌+◌, ◌-◌, List, [], ◌∷◌, ◌++◌, length, take, drop, refl, sym, ap, ◌∙◌, subst, arith, true}
+use Rattle.std.proofs.Common.{◌≡◌, ◌≤◌, ℕ, ◌+◌, List, [], ◌∷◌, ◌++◌, length, take, drop, refl, sym, ap, ◌∙◌, subst, arith, true}
 use Rattle.std.proofs.Common.{length-append, length-drop, append_assoc}
 use Rattle.std.specs.Prelude.{◌==◌, ◌≢◌, Bool}
 use Rattle.std.specs.List.{AllByRecursion}
 use Rattle.std.proofs.lemmas.Bool.{eqb-true}
-use Rattle.std.proofs.lemmas.List.{take-append-drop, take_at, take_rest}
+use Rattle.std.proofs.lemmas.List.{length-take-le, take-append-drop, take_at}
 use Rattle.std.proofs.Math.Seq.{take-add}
 use Rattle.fv_base.specs.Checks.{IsFirstFault}
 use Rattle.fv_base.proofs.Laws.{first_among, none_faulty, not_first}
@@ -29,12 +29,6 @@ begins_more : (items : List HobForm) (h : HobForm) → BeginWithTable items → 
 begins_more [] h begins first = first refl
 begins_more (g ∷ gs) h begins first = begins
 
--- the block at the front of the bytes behind a place
-stands_at : (b : List ℕ) (items : List HobForm) (c : List ℕ) (at : ℕ) (first : Bool) → first ≡ (length items == 0)
-    → BeginsBlock first c (take (length b - at) (drop at b)) → BeginsBlock (length items == 0) c (drop at b)
-stands_at b items c at first e stands =
-    subst (λ (t : Bool). BeginsBlock t c (drop at b)) e (subst (λ (l : List ℕ). BeginsBlock first c l) (take_rest b at) stands)
-
 -- one more block
 pub record OneMoreHob (b : List ℕ) (items : List HobForm) (h : HobForm) (at n : ℕ) : Type 0 where
   pub joined : JoinsHobs (items ++ h ∷ []) (take (at + n) b)
@@ -42,25 +36,25 @@ pub record OneMoreHob (b : List ℕ) (items : List HobForm) (h : HobForm) (at n 
   pub inside : at + n ≤ length b
   pub some : 8 ≤ n
 
-pub one_more : (b : List ℕ) (items : List HobForm) (h : HobForm) (c : List ℕ) (at : ℕ) → HobsKept b items at
-    → BeginsBlock (length items == 0) c (drop at b) → IsHob h c → OneMoreHob b items h at (length c)
-one_more b items h c at k stands is =
+pub one_more : (b : List ℕ) (items : List HobForm) (h : HobForm) (c : List ℕ) (at : ℕ) (first : Bool) → first ≡ (length items == 0)
+    → HobsKept b items at → BeginsBlock first c (drop at b) → IsHob h c → OneMoreHob b items h at (length c)
+one_more b items h c at first first_is k stands is =
     let whole : drop at b ≡ c ++ stands.behind = stands.joined in
     let part : take (length c) (drop at b) ≡ c = ap (take (length c)) whole ∙ take_at c stands.behind (length c) refl in
     let long : length (drop at b) ≡ length c + length stands.behind = ap length whole ∙ length-append c stands.behind in
     record {
       joined = subst (λ (l : List ℕ). JoinsHobs (items ++ h ∷ []) l)
           (sym (take-add at (length c) b ∙ ap (λ (l : List ℕ). take at b ++ l) part)) (joins_more items h (take at b) c k.joined is);
-      begins = begins_more items h k.begins (λ first. code_is h c is ∙ stands.begins first);
+      begins = begins_more items h k.begins (λ none. code_is h c is ∙ stands.begins (first_is ∙ none));
       inside = omega (arith, long, length-drop at b, k.inside);
       some = (stands.block).least;
     }
 
 pub kept : (b : List ℕ) (items new : List HobForm) (h : HobForm) (c : List ℕ) (at : ℕ) (first : Bool) → first ≡ (length items == 0)
-    → HobsKept b items at → BeginsBlock first c (take (length b - at) (drop at b)) → IsHob h c → IsNoEndHob h → new ≡ items ++ h ∷ []
+    → HobsKept b items at → BeginsBlock first c (drop at b) → IsHob h c → IsNoEndHob h → new ≡ items ++ h ∷ []
     → HobsKept b new (at + length c)
 kept b items new h c at first first_is k stands is other new_is =
-    let more = one_more b items h c at k (stands_at b items c at first first_is stands) is in
+    let more = one_more b items h c at first first_is k stands is in
     subst (λ (l : List HobForm). HobsKept b l (at + length c)) (sym new_is) (record {
       joined = more.joined;
       begins = more.begins;
@@ -69,10 +63,10 @@ kept b items new h c at first first_is k stands is other new_is =
     })
 
 pub ended : (b : List ℕ) (items new : List HobForm) (h : HobForm) (c : List ℕ) (at : ℕ) (first : Bool) → first ≡ (length items == 0)
-    → HobsKept b items at → BeginsBlock first c (take (length b - at) (drop at b)) → IsHob h c → IsEndHob h → new ≡ items ++ h ∷ []
+    → HobsKept b items at → BeginsBlock first c (drop at b) → IsHob h c → IsEndHob h → new ≡ items ++ h ∷ []
     → (at + length c ≤ length b) × IsHobList new (take (at + length c) b)
 ended b items new h c at first first_is k stands is end new_is =
-    let more = one_more b items h c at k (stands_at b items c at first first_is stands) is in (
+    let more = one_more b items h c at first first_is k stands is in (
       more.inside,
       subst (λ (l : List HobForm). IsHobList l (take (at + length c) b)) (sym new_is) (record {
         front = items;
@@ -87,9 +81,9 @@ ended b items new h c at first first_is k stands is end new_is =
 
 -- where a block was read, or is there to be read, the bytes begin with a table
 pub table_stands : (b : List ℕ) (items : List HobForm) (c : List ℕ) (at : ℕ) (first : Bool) → first ≡ (length items == 0)
-    → HobsKept b items at → BeginsBlock first c (take (length b - at) (drop at b)) → BeginsTable b
+    → HobsKept b items at → BeginsBlock first c (drop at b) → BeginsTable b
 table_stands b [] c at first first_is k stands =
-    (c, subst (λ (l : List ℕ). BeginsBlock true c l) (whole k.joined) (stands_at b [] c at first first_is stands))
+    (c, subst (λ (l : List ℕ). BeginsBlock true c l) (whole k.joined) (subst (λ (t : Bool). BeginsBlock t c (drop at b)) first_is stands))
   where
     whole : take at b ≡ [] → drop at b ≡ b
     whole e = ap (λ (l : List ℕ). l ++ drop at b) (sym e) ∙ take-append-drop at b
@@ -104,6 +98,21 @@ table_stands b (h ∷ hs) c at first first_is k stands = go k.joined k.begins wh
       begins = λ t. sym (code_is h d is) ∙ begins;
     },
   )
+
+-- the fault of the next block is the first of the list
+pub first_here : (b : List ℕ) (items : List HobForm) (at : ℕ) (first : Bool) (f : HobFault) → first ≡ (length items == 0)
+    → HobsKept b items at → f.offset ≡ at → IsFirstFault (hob_checks first (drop at b)) f.kind → IsFirstHobFault b f
+first_here b items at first f first_is k place kind = record {
+  before = items;
+  c = take at b;
+  r = drop at b;
+  joined = sym (take-append-drop at b);
+  read = k.joined;
+  begins = k.begins;
+  others = k.others;
+  place = place ∙ sym (length-take-le at b k.inside);
+  kind_is = subst (λ (t : Bool). IsFirstFault (hob_checks t (drop at b)) f.kind) first_is kind;
+}
 
 -- the fault of a check is no out of memory
 pub no_want : (begins : Bool) (r : List ℕ) (kind : HobFaultKind) → IsFirstFault (hob_checks begins r) kind → kind ≢ kinds.OutOfMemory

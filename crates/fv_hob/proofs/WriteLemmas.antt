@@ -1,8 +1,9 @@
 -- One more field, one more block, one more span.
 use Rattle.std.proofs.Common.{◌≡◌, ◌<◌, ℕ, ◌+◌, List, [], ◌∷◌, ◌++◌, length, take, get_or, refl, sym, ap, ◌∙◌, append_assoc, append-nil}
-use Rattle.std.specs.Prelude.{Option, None, Some}
+use Rattle.std.specs.Prelude.{Option, None, Some, map}
 use Rattle.std.specs.List.{concat}
-use Rattle.std.proofs.lemmas.List.{take_more}
+use Rattle.std.proofs.lemmas.List.{map-append, take_more}
+use Rattle.std.proofs.lemmas.List.Folds.{concat-append}
 use Rattle.fv_hob.specs.Hobs.{HobForm}
 use Rattle.fv_hob.specs.Lists.{with_span, span_of, spans_of}
 use Rattle.fv_hob.specs.HobImage.{hob_spelled, list_spelled}
@@ -15,20 +16,20 @@ pub record Grown (a : List ℕ) (xs : List (List ℕ)) (b : List ℕ) : Type 0 w
 pub no_field : (a : List ℕ) → Grown a [] a
 no_field a = record { is = sym (append-nil a) }
 
-concat_more : (xs : List (List ℕ)) (x : List ℕ) → concat (xs ++ x ∷ []) ≡ concat xs ++ x
-concat_more [] x = append-nil x
-concat_more (y ∷ ys) x = ap (λ (l : List ℕ). y ++ l) (concat_more ys x) ∙ sym (append_assoc y (concat ys) x)
-
--- and one more
-pub one_field : {a b c : List ℕ} {xs : List (List ℕ)} → (x : List ℕ) → Grown a xs b → c ≡ b ++ x → Grown a (xs ++ x ∷ []) c
-one_field {a} {b} {c} {xs} x old new = record {
-  is = new ∙ ap (λ (l : List ℕ). l ++ x) old.is ∙ append_assoc a (concat xs) x ∙ ap (λ (l : List ℕ). a ++ l) (sym (concat_more xs x));
+-- and some more
+pub more_fields : {a b c : List ℕ} {xs : List (List ℕ)} → (ys : List (List ℕ)) → Grown a xs b → c ≡ b ++ concat ys → Grown a (xs ++ ys) c
+more_fields {a} {b} {c} {xs} ys old new = record {
+  is = new ∙ ap (λ (l : List ℕ). l ++ concat ys) old.is ∙ append_assoc a (concat xs) (concat ys)
+      ∙ ap (λ (l : List ℕ). a ++ l) (sym (concat-append xs ys));
 }
 
+pub one_field : {a b c : List ℕ} {xs : List (List ℕ)} → (x : List ℕ) → Grown a xs b → c ≡ b ++ x → Grown a (xs ++ x ∷ []) c
+one_field {a} {b} {c} {xs} x old new = more_fields (x ∷ []) old (new ∙ ap (λ (l : List ℕ). b ++ l) (sym (append-nil x)))
+
 spelled_join : (hs : List HobForm) (h : HobForm) → list_spelled (hs ++ h ∷ []) ≡ list_spelled hs ++ hob_spelled h
-spelled_join [] h = append-nil (hob_spelled h)
-spelled_join (g ∷ gs) h =
-    ap (λ (l : List ℕ). hob_spelled g ++ l) (spelled_join gs h) ∙ sym (append_assoc (hob_spelled g) (list_spelled gs) (hob_spelled h))
+spelled_join hs h =
+    ap concat (map-append hob_spelled hs (h ∷ [])) ∙ concat-append (map hob_spelled hs) (hob_spelled h ∷ [])
+    ∙ ap (λ (l : List ℕ). list_spelled hs ++ l) (append-nil (hob_spelled h))
 
 pub spelled_more : (hs : List HobForm) (i : ℕ) (h : HobForm) (old new : List ℕ) → i < length hs → h ≡ get_or hs i h
     → old ≡ list_spelled (take i hs) → new ≡ old ++ hob_spelled h

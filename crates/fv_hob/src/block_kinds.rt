@@ -1,6 +1,7 @@
 //! One block, read by its type. (PI specification, volume 3, section 5.)
 
-ghost use Rattle.std.specs.Prelude.{◌≡◌, ◌≤◌, length, IfOk};
+ghost use Rattle.std.specs.Prelude.{◌≡◌, ◌≤◌, ◌+◌, length, IfOk};
+ghost use Rattle.fv_base.specs.Value.{le_at};
 ghost use Rattle.fv_hob.specs.Hobs.{IsBlock, IsHob, allocation_in, handoff_in, has_shape, hob_type_at, kind_by};
 ghost use Rattle.fv_hob.specs.Hobs.{resource_in};
 
@@ -44,6 +45,14 @@ fn handoff_in(block: &[u8]) -> Handoff
     }
 }
 
+// The base that is at this offset, and the length after it.
+fn span_at(block: &[u8], at: usize) -> (u64, u64)
+    requires { at + 16 ≤ length block.now }
+    ensures { (result.0 ≡ le_at at 8 block.now) × (result.1 ≡ le_at (at + 8) 8 block.now) }
+{
+    (u64_at(block, at), u64_at(block, at + 8))
+}
+
 // A memory allocation.
 fn allocation_in(alloc: Global, block: &[u8]) -> Result<MemoryAllocation, AllocError>
     requires { 48 ≤ length block.now }
@@ -51,10 +60,11 @@ fn allocation_in(alloc: Global, block: &[u8]) -> Result<MemoryAllocation, AllocE
 {
     let mut reserved = [0u8; 4];
     reserved.copy_from_slice(field(block, allocation::RESERVED, 4));
+    let (base, length) = span_at(block, allocation::BASE);
     Ok(MemoryAllocation {
         name: guid_at(block, allocation::NAME),
-        base: u64_at(block, allocation::BASE),
-        length: u64_at(block, allocation::LENGTH),
+        base,
+        length,
         memory_type: u32_at(block, allocation::MEMORY_TYPE),
         reserved,
         rest: ByteList::from_slice(alloc, bytes_from(block, allocation::LEAST))?,
@@ -66,12 +76,13 @@ fn resource_in(block: &[u8]) -> Resource
     requires { length block.now ≡ 48 }
     ensures { result ≡ resource_in block.now }
 {
+    let (start, length) = span_at(block, resource::START);
     Resource {
         owner: guid_at(block, resource::OWNER),
         resource_type: u32_at(block, resource::RESOURCE_TYPE),
         attribute: u32_at(block, resource::ATTRIBUTE),
-        start: u64_at(block, resource::START),
-        length: u64_at(block, resource::LENGTH),
+        start,
+        length,
     }
 }
 
@@ -94,9 +105,10 @@ fn volume2_in(block: &[u8]) -> HobKind
     requires { length block.now ≡ 56 }
     ensures { result ≡ kind_by 0x0009 block.now }
 {
+    let (base, length) = span_at(block, span::BASE);
     HobKind::FirmwareVolume2 {
-        base: u64_at(block, span::BASE),
-        length: u64_at(block, span::LENGTH),
+        base,
+        length,
         volume_name: guid_at(block, volume2::VOLUME_NAME),
         file_name: guid_at(block, volume2::FILE_NAME),
     }
@@ -116,17 +128,17 @@ fn kind_in(alloc: Global, block: &[u8]) -> Result<HobKind, AllocError>
             name: guid_at(block, extension::NAME),
             payload: ByteList::from_slice(alloc, bytes_from(block, extension::LEAST))?,
         },
-        hob_type::FIRMWARE_VOLUME => HobKind::FirmwareVolume {
-            base: u64_at(block, span::BASE),
-            length: u64_at(block, span::LENGTH),
-        },
+        hob_type::FIRMWARE_VOLUME => {
+            let (base, length) = span_at(block, span::BASE);
+            HobKind::FirmwareVolume { base, length }
+        }
         hob_type::CPU => cpu_in(block),
         hob_type::MEMORY_POOL => HobKind::MemoryPool,
         hob_type::FIRMWARE_VOLUME2 => volume2_in(block),
-        hob_type::CAPSULE => HobKind::Capsule {
-            base: u64_at(block, span::BASE),
-            length: u64_at(block, span::LENGTH),
-        },
+        hob_type::CAPSULE => {
+            let (base, length) = span_at(block, span::BASE);
+            HobKind::Capsule { base, length }
+        }
         hob_type::UNUSED => HobKind::Unused {
             body_len: u16_at(block, header::HOB_LENGTH) - header::LEN as u16,
         },

@@ -48,11 +48,8 @@ pub mod allocation {
     /// AllocDescriptor.Name, a GUID.
     pub const NAME: usize = 8;
 
-    /// AllocDescriptor.MemoryBaseAddress, u64.
+    /// AllocDescriptor.MemoryBaseAddress, u64, and then MemoryLength, u64.
     pub const BASE: usize = 24;
-
-    /// AllocDescriptor.MemoryLength, u64.
-    pub const LENGTH: usize = 32;
 
     /// AllocDescriptor.MemoryType, u32.
     pub const MEMORY_TYPE: usize = 40;
@@ -75,11 +72,8 @@ pub mod resource {
     /// ResourceAttribute, u32.
     pub const ATTRIBUTE: usize = 28;
 
-    /// PhysicalStart, u64.
+    /// PhysicalStart, u64, and then ResourceLength, u64.
     pub const START: usize = 32;
-
-    /// ResourceLength, u64.
-    pub const LENGTH: usize = 40;
 
     /// The block's length.
     pub const LEN: usize = 48;
@@ -97,11 +91,8 @@ pub mod extension {
 /// EFI_HOB_FIRMWARE_VOLUME (section 5.7), EFI_HOB_UEFI_CAPSULE (section 5.10), and the first fields
 /// of EFI_HOB_FIRMWARE_VOLUME2 (section 5.7).
 pub mod span {
-    /// BaseAddress, u64.
+    /// BaseAddress, u64, and then Length, u64.
     pub const BASE: usize = 8;
-
-    /// Length, u64.
-    pub const LENGTH: usize = 16;
 
     /// The length of the blocks FV and UEFI capsule.
     pub const LEN: usize = 24;

@@ -1,6 +1,6 @@
 //! Hand-off lists, read.
 
-ghost use Rattle.std.specs.Prelude.{◌≡◌, ◌≢◌, ◌≤◌, ℕ, List, length, take, None, Some, IfOk, IfErr, OnOk};
+ghost use Rattle.std.specs.Prelude.{◌≡◌, ◌≢◌, ◌≤◌, ℕ, List, drop, length, take, None, Some, IfOk, IfErr, OnOk};
 ghost use Rattle.fv_base.specs.inner.Verdicts.{first_fault};
 ghost use Rattle.fv_base.specs.Checks.{IsFirstFault};
 ghost use Rattle.fv_hob.specs.HobChecks.{BeginsBlock, IsFirstHobFault, BeginsTable, hob_checks, is_hob_len};
@@ -14,7 +14,7 @@ use crate::hob::Hob;
 use crate::hob_list::HobList;
 use crate::hob_type;
 use crate::layout::header;
-use fv_base::field::u16_at;
+use fv_base::field::{bytes_from, u16_at};
 use std::alloc::Global;
 
 // Whether a block may have this length: one that includes the header, and is a multiple of 8.
@@ -52,13 +52,21 @@ fn check_block(rest: &[u8], first: bool) -> Result<usize, HobFaultKind>
     Ok(len)
 }
 
-// The block at the front, or the kind of the first fault there.
-fn next_block(rest: &[u8], first: bool) -> Result<&[u8], HobFaultKind>
-    ensures found { IfOk result (λ block. BeginsBlock first block.now rest.now) }
-    ensures first { IfErr result (λ kind. IsFirstFault (hob_checks first rest.now) kind) }
+// The block at an offset, or the first fault there.
+fn block_at(bytes: &[u8], at: usize, first: bool) -> Result<&[u8], HobFault>
+    requires { at ≤ length bytes.now }
+    ensures found { IfOk result (λ block. BeginsBlock first block.now (drop at bytes.now)) }
+    ensures place { IfErr result (λ f. f.offset ≡ at) }
+    ensures first { IfErr result (λ f. IsFirstFault (hob_checks first (drop at bytes.now)) f.kind) }
 {
-    let len = check_block(rest, first)?;
-    Ok(&rest[..len])
+    let rest = bytes_from(bytes, at);
+    match check_block(rest, first) {
+        Ok(len) => Ok(&rest[..len]),
+        Err(kind) => {
+            let offset = at as u64;
+            Err(HobFault { kind, offset })
+        }
+    }
 }
 
 // The blocks up to the end block, and the number of their bytes.
@@ -70,13 +78,7 @@ fn read_blocks(alloc: Global, bytes: &[u8]) -> Result<(Vec<Hob>, usize), HobFaul
     let mut hobs = Vec::new(alloc);
     let mut at = 0;
     loop {
-        let block = match next_block(&bytes[at..], hobs.is_empty()) {
-            Ok(block) => block,
-            Err(kind) => {
-                let offset = at as u64;
-                return Err(HobFault { kind, offset });
-            }
-        };
+        let block = block_at(bytes, at, hobs.is_empty())?;
         let hob = hob_in(alloc, block)?;
         at += block.len();
         let ends = hob.code() == hob_type::END;

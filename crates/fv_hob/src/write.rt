@@ -65,6 +65,15 @@ fn push_zeros(bytes: &mut Vec<u8>, count: u16) -> Result<(), AllocError>
     bytes.extend(repeat_n(0, usize::from(count)))
 }
 
+// Appends a base and a length.
+fn push_span(bytes: &mut Vec<u8>, base: u64, length: u64) -> Result<(), AllocError>
+    ensures { OnOk result
+        (bytes.new.items ≡ bytes.old.items ++ concat (hob_fields (kinds.FirmwareVolume base length))) }
+{
+    push_u64(bytes, base)?;
+    push_u64(bytes, length)
+}
+
 // Appends the body of a hand-off information table.
 fn push_handoff(bytes: &mut Vec<u8>, said: &Handoff) -> Result<(), AllocError>
     ensures { OnOk result (bytes.new.items ≡ bytes.old.items ++ concat (hob_fields (kinds.Handoff said.now))) }
@@ -83,8 +92,7 @@ fn push_allocation(bytes: &mut Vec<u8>, said: &MemoryAllocation) -> Result<(), A
     ensures { OnOk result (bytes.new.items ≡ bytes.old.items ++ concat (hob_fields (kinds.MemoryAllocation said.now))) }
 {
     push_guid(bytes, &said.name)?;
-    push_u64(bytes, said.base)?;
-    push_u64(bytes, said.length)?;
+    push_span(bytes, said.base, said.length)?;
     push_u32(bytes, said.memory_type)?;
     push_bytes(bytes, &said.reserved)?;
     push_bytes(bytes, said.rest.as_slice())
@@ -97,17 +105,7 @@ fn push_resource(bytes: &mut Vec<u8>, said: &Resource) -> Result<(), AllocError>
     push_guid(bytes, &said.owner)?;
     push_u32(bytes, said.resource_type)?;
     push_u32(bytes, said.attribute)?;
-    push_u64(bytes, said.start)?;
-    push_u64(bytes, said.length)
-}
-
-// Appends a base and a length.
-fn push_span(bytes: &mut Vec<u8>, base: u64, length: u64) -> Result<(), AllocError>
-    ensures { OnOk result
-        (bytes.new.items ≡ bytes.old.items ++ concat (hob_fields (kinds.FirmwareVolume base length))) }
-{
-    push_u64(bytes, base)?;
-    push_u64(bytes, length)
+    push_span(bytes, said.start, said.length)
 }
 
 // Appends the names of a volume and of a file in it.

@@ -1,30 +1,12 @@
 -- How many bytes of a pad are not erased.
-use Rattle.std.proofs.Common.{◌≡◌, ◌∙◌, ◌<◌, ◌+◌, ℕ, List, [], length, take, get_or, true, refl, sym, ap}
+use Rattle.std.proofs.Common.{◌≡◌, ◌∙◌, ◌<◌, ◌+◌, ℕ, List, length, take, get_or, true, refl, sym, ap}
 use Rattle.std.specs.Prelude.{◌==◌, not}
 use Rattle.std.proofs.lemmas.Bool.Decides.{Decides-eqb}
 use Rattle.std.proofs.lemmas.List.Sums.{count_by_more_no, count_by_more_yes}
 use Rattle.fv_base.proofs.Laws.{not_equal}
 use Rattle.fv_base.specs.Flash.{erased_byte}
 use Rattle.fv_base.specs.declared.flash.Polarity.{Polarity}
-use Rattle.fv_file.specs.declared.cell.Cell.{Cell}
-use Rattle.fv_file.specs.declared.cell.Cell.TheVariants as cells
-use Rattle.fv_file.specs.declared.state.FileState.TheVariants as states
 use Rattle.fv_lines.specs.Notes.{written_in, pad_line, pad_text}
-
--- a cell, where there is none
-abbrev pub no_cell : Cell
-no_cell = cells.Valid 0 (record {
-  name = record { bytes = [] };
-  kind = 0;
-  attributes = record { 0 = 0 };
-  size = 0;
-  header_len = 0;
-  header_sum = 0;
-  file_sum = 0;
-  state = states.Free;
-}) (record { ref_ptr = (0, 0); now = [] })
-
--- ---- pads
 
 same_test : (a b : ℕ) → a ≡ b → (a == b) ≡ true
 same_test a b h = (Decides-eqb a b).1 h

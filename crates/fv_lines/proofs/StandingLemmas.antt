@@ -1,8 +1,7 @@
 -- What stands in a span of an image.
-use Rattle.std.proofs.Common.{◌≡◌, ◌≢◌, ◌≤◌, ℕ, ◌-◌, List, length, drop, sym, ap, ◌∙◌, subst, arith, length-drop}
+use Rattle.std.proofs.Common.{◌≡◌, ◌≢◌, ℕ, ◌-◌, List, length, drop, sym, ap, ◌∙◌, subst, arith, length-drop}
 use Rattle.std.specs.Prelude.{Result, Ok, Err}
 use Rattle.std.proofs.lemmas.List.{length-take-le}
-use Rattle.fv_base.specs.Value.{field}
 use Rattle.fv_base.specs.declared.fault.Fault.{Fault}
 use Rattle.fv_head.specs.Head.{HeadFields, BeginsVolume}
 use Rattle.fv_head.specs.declared.extent.Extent.{Extent}
@@ -10,33 +9,24 @@ use Rattle.fv_hob.specs.declared.span.Span.{Span}
 use Rattle.fv_lines.specs.VolumeStandings.{IsMapped, IsStanding, bytes_in_span}
 use Rattle.fv_lines.specs.declared.hob_text.Standing.TheVariants.{Volume, Absent}
 
--- the tests of a place within an image of n bytes
-pub record Fits (base n : ℕ) (s : Span) : Type 0 where
-  pub above : base ≤ s.base
-  pub long : s.length ≤ n
-  pub behind : s.base - base ≤ n - s.length
+part_len : (image : List ℕ) (base : ℕ) (s : Span) → IsMapped base (length image) s → length (bytes_in_span image base s) ≡ s.length
+part_len image base s within =
+    length-take-le s.length (drop (s.base - base) image) (omega (arith, within, length-drop (s.base - base) image))
 
-within : (base n : ℕ) (s : Span) → Fits base n s → IsMapped base n s
-within base n s f = (f.above, omega (arith, f.above, f.long, f.behind))
-
-part_len : (image : List ℕ) (base : ℕ) (s : Span) → Fits base (length image) s → length (bytes_in_span image base s) ≡ s.length
-part_len image base s f =
-    length-take-le s.length (drop (s.base - base) image) (omega (arith, f.above, f.long, f.behind, length-drop (s.base - base) image))
-
-pub volume_here : (image : List ℕ) (base : ℕ) (s : Span) (b : List ℕ) (h : HeadFields) (e : Extent) → Fits base (length image) s
-    → b ≡ field (s.base - base) s.length image
+pub volume_here : (image : List ℕ) (base : ℕ) (s : Span) (b : List ℕ) (h : HeadFields) (e : Extent)
+    → IsMapped base (length image) s × (b ≡ bytes_in_span image base s)
     → BeginsVolume h e b → e.length ≡ s.length → IsStanding image base s Volume
-volume_here image base s b h e f is front len =
-    (within base (length image) s f, (h, e, subst (λ (l : List ℕ). BeginsVolume h e l) is front, len ∙ sym (part_len image base s f)))
+volume_here image base s b h e (within, is) front len =
+    (within, (h, e, subst (λ (l : List ℕ). BeginsVolume h e l) is front, len ∙ sym (part_len image base s within)))
 
 -- no volume has the length
-pub absent_here : (image : List ℕ) (base : ℕ) (s : Span) (b : List ℕ) (r : Result Extent Fault) → Fits base (length image) s
-    → b ≡ field (s.base - base) s.length image
+pub absent_here : (image : List ℕ) (base : ℕ) (s : Span) (b : List ℕ) (r : Result Extent Fault)
+    → IsMapped base (length image) s × (b ≡ bytes_in_span image base s)
     → ((h : HeadFields) (e : Extent) → BeginsVolume h e b → r ≡ Ok e) → ((e : Extent) → r ≡ Ok e → e.length ≢ s.length)
     → IsStanding image base s Absent
-absent_here image base s b r f is only other = (
-  within base (length image) s f,
-  λ v. other v.1 (only v.0 v.1 (subst (λ (l : List ℕ). BeginsVolume v.0 v.1 l) (sym is) v.2)) (v.3 ∙ part_len image base s f),
+absent_here image base s b r (within, is) only other = (
+  within,
+  λ v. other v.1 (only v.0 v.1 (subst (λ (l : List ℕ). BeginsVolume v.0 v.1 l) (sym is) v.2)) (v.3 ∙ part_len image base s within),
 )
 
 pub other_len : (r : Result Extent Fault) (x e : Extent) (n : ℕ) → r ≡ Ok x → x.length ≢ n → r ≡ Ok e → e.length ≢ n

@@ -1,9 +1,9 @@
 //! The blocks of a hand-off list, and what an image holds where their volumes should be.
 
-ghost use Rattle.std.specs.Prelude.{◌≡◌, ℕ, List, IfErr, OnOk};
+ghost use Rattle.std.specs.Prelude.{◌≡◌, ℕ, List, IfErr, MatchOption, OnOk, length};
 ghost use Rattle.fv_lines.specs.HobLines.{HobsText, IsWord, consumed_line, hob_line, standing_word, held_image};
 ghost use Rattle.fv_text.specs.PortViews.{Writes, WritingStops, shown};
-ghost use Rattle.fv_lines.specs.VolumeStandings.{IsStanding};
+ghost use Rattle.fv_lines.specs.VolumeStandings.{IsMapped, IsStanding, bytes_in_span};
 
 use fv_base::field::field;
 use fv_base::{Fault, Port, Sink, WriteSink};
@@ -45,16 +45,26 @@ pub struct MappedImage<'a> {
     pub base: u64,
 }
 
+// The bytes of an image in a span, if the span is within the image.
+fn span_bytes(image: &[u8], base: u64, span: Span) -> Option<&[u8]>
+    ensures { MatchOption result (IsMapped base (length image.now) span → ⊥)
+        (λ b. IsMapped base (length image.now) span × (b.now ≡ bytes_in_span image.now base span)) }
+{
+    let size = image.len() as u64;
+    if span.base < base || span.length > size || span.base - base > size - span.length {
+        return None;
+    }
+    let start = (span.base - base) as usize;
+    Some(field(image, start, span.length as usize))
+}
+
 /// What an image holds where a volume should be. Addresses are whole numbers: nothing wraps.
 pub fn standing_of(image: &[u8], base: u64, span: Span) -> Standing
     ensures { IsStanding image.now base span result }
 {
-    let size = image.len() as u64;
-    if span.base < base || span.length > size || span.base - base > size - span.length {
+    let Some(bytes) = span_bytes(image, base, span) else {
         return Standing::Outside;
-    }
-    let start = (span.base - base) as usize;
-    let bytes = field(image, start, span.length as usize);
+    };
     match verify_fv(bytes) {
         Ok(extent) if extent.length == span.length => Standing::Volume,
         _ => Standing::Absent,

@@ -2,3 +2,5 @@
 pub mod GatheringLaws
 pub mod HexDecoding
 pub mod HexLaws
+pub mod Squeezing
+pub mod WaitingLaws

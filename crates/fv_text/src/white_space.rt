@@ -1,8 +1,10 @@
 //! White space in hexadecimal text, and the text without it.
 
 ghost use Rattle.fv_text.specs.HexPairs.{is_space, squeezed};
+ghost use Rattle.fv_text.specs.inner.Squeezing.{IsPutKept};
 ghost use Rattle.std.specs.Prelude.{◌≡◌, ◌≤◌, ◌+◌, ◌++◌, if◌then◌else◌, length, take, true, OnOk};
 
+use crate::placing::place;
 use fv_base::field::bytes_from;
 use std::alloc::AllocError;
 
@@ -40,22 +42,11 @@ fn is_dense(window: &[u8]) -> bool
     least > b' '
 }
 
-// Puts bytes at a place of the room.
-fn put_all(text: &[u8], room: &mut [u8], start: usize)
-    requires fits { start + length text.now ≤ length room.old }
-    ensures put { take (start + length text.now) room.new ≡ take start room.old ++ text.now }
-    ensures len { length room.new ≡ length room.old }
-{
-    room[start..start + text.len()].copy_from_slice(text);
-}
-
 // Puts the bytes of a text that are no white space at a place of the room, one after the other.
 // Returns the place after them.
 fn put_kept(text: &[u8], room: &mut [u8], start: usize) -> usize
-    requires fits { start + length text.now ≤ length room.old }
-    ensures put { take result room.new ≡ take start room.old ++ squeezed text.now }
-    ensures end { result ≤ start + length text.now }
-    ensures len { length room.new ≡ length room.old }
+    requires { start + length text.now ≤ length room.old }
+    ensures { IsPutKept text.now start room.old room.new result }
 {
     let mut end = start;
     for i in 0..text.len() {
@@ -67,16 +58,14 @@ fn put_kept(text: &[u8], room: &mut [u8], start: usize) -> usize
 
 // The same, for a text that seldom has white space: where a window has none it is copied at once.
 fn put_windows(text: &[u8], room: &mut [u8], start: usize) -> usize
-    requires fits { start + length text.now ≤ length room.old }
-    ensures put { take result room.new ≡ take start room.old ++ squeezed text.now }
-    ensures end { result ≤ start + length text.now }
-    ensures len { length room.new ≡ length room.old }
+    requires { start + length text.now ≤ length room.old }
+    ensures { IsPutKept text.now start room.old room.new result }
 {
     let mut end = start;
     for i in 0..text.len() / WINDOW {
         let window = &text[WINDOW * i..WINDOW * i + WINDOW];
         if is_dense(window) {
-            put_all(window, room, end);
+            place(room, end, window);
             end += WINDOW;
         } else {
             end = put_kept(window, room, end);

@@ -29,9 +29,10 @@ both_none (Some d) b e = cc
 none_both : (a b : Differs) → a ≡ None → b ≡ None → or_else a b ≡ None
 none_both a b p q = rw p q
 
-out_none : (s : Step) (a : Differs) → under s a ≡ None → a ≡ None
-out_none s None e = refl
-out_none s (Some d) e = cc
+-- nothing differs in the first items of two lists, and nothing in the others
+item_none : (s : Step) (a b : Differs) → or_else (under s a) b ≡ None → (a ≡ None) × (b ≡ None)
+item_none s None b e = (refl, e)
+item_none s (Some d) b e = cc
 
 in_none : (s : Step) (a : Differs) → a ≡ None → under s a ≡ None
 in_none s a p = rw p refl
@@ -131,12 +132,8 @@ mutual
 
   one_files : (i : ℕ) (fs gs : FileMeanings) → files_differ i fs gs ≡ None → fs ≡ gs
   one_files i NoFiles NoFiles e = refl
-  one_files i NoFiles (MoreFiles g gs) e = cc
-  one_files i (MoreFiles f fs) NoFiles e = cc
-  one_files i (MoreFiles f fs) (MoreFiles g gs) e =
-      let a = both_none _ (files_differ (i + 1) fs gs) e in
-      let p : f ≡ g = one_file f g (out_none _ (file_differs f g) a.0) in
-      let q : fs ≡ gs = one_files (i + 1) fs gs a.1 in cc
+  one_files i (MoreFiles f fs) (MoreFiles g gs) e = let a = item_none _ _ _ e in let p = one_file f g a.0 in cc (one_files (i + 1) fs gs a.1)
+  one_files i _ _ e = cc
 
   one_file : (f g : FileMeaning) → file_differs f g ≡ None → f ≡ g
   one_file (File n k a c) (File m l b d) e =
@@ -145,48 +142,30 @@ mutual
       let z = both_none _ (content_differs c d) y.1 in
       let p : n ≡ m = guid_one n m (bytes_one (bytes_of n) (bytes_of m) _ x.0) in
       let q : k ≡ l = nat_one k l _ y.0 in
-      let r : a ≡ b = nat_one a b _ z.0 in
-      let s : c ≡ d = one_content c d z.1 in cc
+      let r : a ≡ b = nat_one a b _ z.0 in cc (one_content c d z.1)
 
   one_content : (c d : ContentMeaning) → content_differs c d ≡ None → c ≡ d
   one_content (Plain b) (Plain c) e = let p : b ≡ c = bytes_one b c _ e in cc
-  one_content (Plain b) (Sectioned ss t) e = cc
-  one_content (Sectioned ss t) (Plain b) e = cc
-  one_content (Sectioned ss t) (Sectioned rs u) e =
-      let a = both_none (sections_differ 0 ss rs) _ e in
-      let p : ss ≡ rs = one_sections 0 ss rs a.0 in
-      let q : t ≡ u = nat_one t u _ a.1 in cc
+  one_content (Sectioned ss t) (Sectioned rs u) e = let a = both_none (sections_differ 0 ss rs) _ e in cc (one_sections 0 ss rs a.0, nat_one t u _ a.1)
+  one_content _ _ e = cc
 
   one_sections : (i : ℕ) (ss rs : SectionMeanings) → sections_differ i ss rs ≡ None → ss ≡ rs
   one_sections i NoSections NoSections e = refl
-  one_sections i NoSections (MoreSections r rs) e = cc
-  one_sections i (MoreSections s ss) NoSections e = cc
-  one_sections i (MoreSections s ss) (MoreSections r rs) e =
-      let a = both_none _ (sections_differ (i + 1) ss rs) e in
-      let p : s ≡ r = one_section s r (out_none _ (section_differs s r) a.0) in
-      let q : ss ≡ rs = one_sections (i + 1) ss rs a.1 in cc
+  one_sections i (MoreSections s ss) (MoreSections r rs) e = let a = item_none _ _ _ e in let p = one_section s r a.0 in cc (one_sections (i + 1) ss rs a.1)
+  one_sections i _ _ e = cc
 
   one_section : (s r : SectionMeaning) → section_differs s r ≡ None → s ≡ r
   one_section (Section k e b) (Section l f c) h =
       let x = both_none _ _ h in
       let y = both_none _ (body_differs b c) x.1 in
       let p : k ≡ l = nat_one k l _ x.0 in
-      let q : e ≡ f = bool_one e f _ y.0 in
-      let r : b ≡ c = one_body b c y.1 in cc
+      let q : e ≡ f = bool_one e f _ y.0 in cc (one_body b c y.1)
 
   one_body : (b c : BodyMeaning) → body_differs b c ≡ None → b ≡ c
   one_body (Leaf b) (Leaf c) e = let p : b ≡ c = bytes_one b c _ e in cc
-  one_body (Leaf b) (Group rs u) e = cc
-  one_body (Leaf b) (Nested w) e = cc
-  one_body (Group ss t) (Leaf c) e = cc
-  one_body (Group ss t) (Group rs u) e =
-      let a = both_none (sections_differ 0 ss rs) _ e in
-      let p : ss ≡ rs = one_sections 0 ss rs a.0 in
-      let q : t ≡ u = nat_one t u _ a.1 in cc
-  one_body (Group ss t) (Nested w) e = cc
-  one_body (Nested v) (Leaf c) e = cc
-  one_body (Nested v) (Group rs u) e = cc
+  one_body (Group ss t) (Group rs u) e = let a = both_none (sections_differ 0 ss rs) _ e in cc (one_sections 0 ss rs a.0, nat_one t u _ a.1)
   one_body (Nested v) (Nested w) e = let p : v ≡ w = one_volume v w e in cc
+  one_body _ _ e = cc
 
 -- ---- and back
 

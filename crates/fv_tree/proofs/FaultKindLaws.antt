@@ -1,8 +1,9 @@
 -- The kinds of the faults of reading.
 use Rattle.std.proofs.Common.{◌≡◌, ◌≢◌, ℕ, zero, suc, ◌+◌, Bool, true, false, List, take, drop, refl, sym, ap, ◌∙◌, subst, inl, inr}
-use Rattle.std.specs.Prelude.{slice_index, Option, Some, None}
+use Rattle.std.specs.Prelude.{nat_le, slice_index, Option, Some, None}
 use Rattle.std.specs.List.{AllByRecursion}
 use Rattle.fv_base.specs.Checks.{Check}
+use Rattle.fv_base.specs.Faults.{fault_number}
 use Rattle.fv_base.specs.declared.fault.Fault.{Fault}
 use Rattle.fv_base.specs.declared.fault.FaultKind.{FaultKind}
 use Rattle.fv_base.specs.declared.fault.FaultKind.TheVariants as kinds
@@ -128,14 +129,9 @@ module _ (P : FaultKind → Type 0) (all : OfReading P) where
 
 -- ---- the other kinds
 
--- a fault that is found in bytes, and none of memory, of input and output, or of writing
+-- a fault that is found in bytes, and none of memory, of input and output, or of writing: the first 21 kinds
 abbrev pub is_reading : FaultKind → Bool
-is_reading kinds.NoRoom = false
-is_reading kinds.TopAlignment = false
-is_reading kinds.OutOfMemory = false
-is_reading kinds.ReadFault = false
-is_reading kinds.WriteFault = false
-is_reading _ = true
+is_reading kind = nat_le (fault_number kind) 21
 
 -- a fault that stands in bytes is found there
 pub stands_reading : (b : List ℕ) (e : Fault) → FaultStands b e → is_reading e.kind ≡ true

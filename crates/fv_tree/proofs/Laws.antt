@@ -2,9 +2,8 @@
 
 -- ---- a meaning
 
--- files and sections as lists, there and back
-pub use Rattle.fv_tree.proofs.VolumeLaws.{files_list_back, files_back}
-pub use Rattle.fv_tree.proofs.SectionLaws.{list_back, sections_back}
+-- the list of files from a list is that list
+pub use Rattle.fv_tree.proofs.VolumeLaws.{files_list_back}
 -- a stream, a section, a body and a content have as many bytes as those that they were read from
 pub use Rattle.fv_tree.proofs.LengthLaws.{AsLong, stream_long, section_long, body_long, content_long}
 -- a volume has fewer files than bytes

@@ -8,12 +8,12 @@ use Rattle.fv_section.specs.Frames.{FrameForm}
 use Rattle.fv_section.proofs.Laws.{one_split}
 use Rattle.fv_tree.specs.LocatedFiles.{StandIn}
 use Rattle.fv_tree.specs.Files.{FileForm, files_in, current_in}
-use Rattle.fv_tree.specs.Meaning.{Meaning, Volume, FileMeaning, File, ContentMeaning, Plain, Sectioned, files_from, files_list}
-use Rattle.fv_tree.specs.Meaning.{SectionMeanings, SectionMeaning, Section, BodyMeaning, Leaf, Group, Nested, sections_from, sections_list}
+use Rattle.fv_tree.specs.Meaning.{Meaning, Volume, FileMeanings, NoFiles, MoreFiles, FileMeaning, File, ContentMeaning, Plain, Sectioned}
+use Rattle.fv_tree.specs.Meaning.{files_from, files_list, SectionMeanings, NoSections, MoreSections, SectionMeaning, Section, BodyMeaning, Leaf, Group, Nested, sections_from, sections_list}
 use Rattle.fv_tree.specs.Denotes.{Sections, Streams, Volumes, Pairwise, StreamOver, SectionOver, VolumeOver, MeansBody, MeansContent, MeansFile}
 use Rattle.fv_tree.specs.Denotes.{MeansSection, Stream, Denotes}
-use Rattle.fv_tree.proofs.SectionLaws.{sections_back, group_is_no_volume}
-use Rattle.fv_tree.proofs.VolumeLaws.{files_back, front_of, has_files}
+use Rattle.fv_tree.proofs.SectionLaws.{group_is_no_volume}
+use Rattle.fv_tree.proofs.VolumeLaws.{front_of, has_files}
 
 -- the files of a volume, as they are stored in it, are one list
 pub one_stand : (e : Extent) (volume : List ℕ) (fs gs : List FileForm) → StandIn e volume fs → StandIn e volume gs → gs ≡ fs
@@ -31,6 +31,14 @@ StreamsOne p q = (ss ts : List SectionMeaning) (n k : ℕ) (b : List ℕ) → p 
 
 abbrev VolumesOne : Volumes → Volumes → Type 0
 VolumesOne p q = (b : List ℕ) (m k : Meaning) → p b m → q b k → m ≡ k
+
+files_back : (fs : FileMeanings) → files_from (files_list fs) ≡ fs
+files_back NoFiles = refl
+files_back (MoreFiles f fs) = ap (λ l. MoreFiles f l) (files_back fs)
+
+sections_back : (ss : SectionMeanings) → sections_from (sections_list ss) ≡ ss
+sections_back NoSections = refl
+sections_back (MoreSections s ss) = ap (λ l. MoreSections s l) (sections_back ss)
 
 same_sections : (xs ys : SectionMeanings) → sections_list xs ≡ sections_list ys → xs ≡ ys
 same_sections xs ys e = sym (sections_back xs) ∙ ap sections_from e ∙ sections_back ys

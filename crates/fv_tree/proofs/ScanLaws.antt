@@ -1,10 +1,10 @@
 -- Which volumes begin in some bytes.
-use Rattle.std.proofs.Common.{◌≡◌, ℕ, zero, suc, ◌+◌, ◌%◌, ◌-◌, ◌<◌, ◌≤◌, List, [], ◌∷◌, length, drop, take, refl, sym, ap, ◌∙◌}
+use Rattle.std.proofs.Common.{◌≡◌, ℕ, zero, suc, ◌+◌, ◌%◌, ◌<◌, ◌≤◌, List, [], ◌∷◌, length, drop, take, refl, sym, ap, ◌∙◌}
 use Rattle.std.proofs.Common.{subst, drop-drop, arith, true, false, inl, inr}
 use Rattle.std.specs.Prelude.{◌⊎◌}
 use Rattle.std.specs.List.{AllByRecursion, Contains}
 use Rattle.std.specs.Str.{bytes_eq}
-use Rattle.std.proofs.lemmas.List.{take_all, length-drop}
+use Rattle.std.proofs.lemmas.List.{length-drop}
 use Rattle.fv_base.proofs.Laws.{first_or_behind, one_behind}
 use Rattle.fv_head.specs.Head.{HeadFields, BeginsVolume, signature_bytes}
 use Rattle.fv_head.specs.HeadChecks.{has_signature}
@@ -94,18 +94,6 @@ pub signature_at : (b : List ℕ) (at n : ℕ) → n ≡ 4 → bytes_eq (take n 
 signature_at b at n e =
     ap (λ k. bytes_eq (take k (drop (at + 40) b)) signature_bytes) e
     ∙ ap (λ l. bytes_eq (take 4 l) signature_bytes) (sym (drop-drop 40 at b))
-
--- the rest of the bytes, as a slice
-rest_is : (at : ℕ) (b : List ℕ) → take (length b - at) (drop at b) ≡ drop at b
-rest_is at b = take_all (length b - at) (drop at b) (omega (arith, length-drop at b))
-
-pub none_rest : (b : List ℕ) (at : ℕ) → ((h : HeadFields) (e : Extent) → BeginsVolume h e (take (length b - at) (drop at b)) → ⊥)
-    → (n : ℕ) → VolumeAt b at n → ⊥
-none_rest b at f n v = f v.0 v.1 (subst (λ l. BeginsVolume v.0 v.1 l) (sym (rest_is at b)) v.2)
-
-pub front_rest : (b : List ℕ) (at : ℕ) (h : HeadFields) (e : Extent) → BeginsVolume h e (take (length b - at) (drop at b))
-    → VolumeAt b at e.length
-front_rest b at h e f = (h, e, subst (λ l. BeginsVolume h e l) (rest_is at b) f, refl)
 
 -- one list of places at most
 pub one_walk : (from : ℕ) (b xs ys : List ℕ) → FoundFrom from b xs → FoundFrom from b ys → xs ≡ ys

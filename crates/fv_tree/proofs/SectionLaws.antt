@@ -21,19 +21,15 @@ use Rattle.fv_tree.specs.Denotes.{group_kind, volume_kind, Opens, Streams, Volum
 use Rattle.fv_base.specs.declared.fault.Place.{Place}
 use Rattle.fv_tree.specs.FailingChecks.{First}
 use Rattle.fv_tree.specs.FirstFault.{moved_fault, body_place, body_at, InSection, InStream, InVolume}
-use Rattle.fv_tree.specs.Meaning.{Meaning, SectionMeaning, Section, SectionMeanings, NoSections, MoreSections, Leaf, Group}
+use Rattle.fv_tree.specs.Meaning.{Meaning, SectionMeaning, Section, Leaf, Group}
 use Rattle.fv_tree.specs.Meaning.{Nested, sections_list, sections_from}
 use Rattle.fv_tree.specs.inner.Shapes.{shape_of}
 use Rattle.fv_tree.specs.declared.shape.Shape.TheVariants as shapes
 
--- a list, there and back
+-- the list of sections from a list is that list
 pub list_back : (ss : List SectionMeaning) → sections_list (sections_from ss) ≡ ss
 list_back [] = refl
 list_back (s ∷ ss) = ap (λ l. s ∷ l) (list_back ss)
-
-pub sections_back : (ss : SectionMeanings) → sections_from (sections_list ss) ≡ ss
-sections_back NoSections = refl
-sections_back (MoreSections s ss) = ap (λ l. MoreSections s l) (sections_back ss)
 
 -- ---- the tests
 

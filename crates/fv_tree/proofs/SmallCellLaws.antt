@@ -12,11 +12,26 @@ use Rattle.fv_file.specs.Attributes.{attribute_bits, is_large, is_summed}
 use Rattle.fv_file.specs.Cells.{CellForm, Valid, Pad, Dead, Stub, Free, Tiles, CellsWithin, IsCell, IsFilled, offset_of, cell_len}
 use Rattle.fv_file.specs.Files.{IsFile, IsSound, attributes_at, file_header_len, file_sum_right, fixed_checksum}
 use Rattle.fv_file.specs.States.{is_alive}
+use Rattle.fv_file.specs.declared.cell.Cell.{Cell}
+use Rattle.fv_file.specs.declared.cell.Cell.TheVariants as cells
 use Rattle.fv_file.specs.declared.head.FileHead.{FileHead}
 use Rattle.fv_file.specs.declared.state.FileState.{FileState}
 use Rattle.fv_file.specs.declared.state.FileState.TheVariants as states
 use Rattle.fv_tree.specs.LocatedFiles.{file_sum_by, header_len_by, state_by}
 use Rattle.fv_tree.specs.inner.SmallFiles.{FollowsFrom, IsSmallCell, mark_of}
+
+-- a cell, where there is none
+abbrev pub no_cell : Cell
+no_cell = cells.Valid 0 (record {
+  name = record { bytes = [] };
+  kind = 0;
+  attributes = record { 0 = 0 };
+  size = 0;
+  header_len = 0;
+  header_sum = 0;
+  file_sum = 0;
+  state = states.Free;
+}) (record { ref_ptr = (0, 0); now = [] })
 
 -- the file sum that is right is the one that follows
 sum_follows : (attributes file_sum : ℕ) (payload : List ℕ) → file_sum < 256 → file_sum_right attributes file_sum payload ≡ true

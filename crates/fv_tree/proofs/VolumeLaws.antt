@@ -19,16 +19,12 @@ use Rattle.fv_tree.specs.Denotes.{Stream, Denotes, Opens}
 use Rattle.fv_base.specs.declared.fault.Place.{Place}
 use Rattle.fv_tree.specs.FailingChecks.{First}
 use Rattle.fv_tree.specs.FirstFault.{moved_fault, BodyFault, InStream, InVolume}
-use Rattle.fv_tree.specs.Meaning.{Meaning, Volume, FileMeaning, FileMeanings, NoFiles, MoreFiles, files_list, files_from, head_of, files_of}
+use Rattle.fv_tree.specs.Meaning.{Meaning, Volume, FileMeaning, files_list, files_from, head_of, files_of}
 
--- a list, there and back
+-- the list of files from a list is that list
 pub files_list_back : (fs : List FileMeaning) → files_list (files_from fs) ≡ fs
 files_list_back [] = refl
 files_list_back (f ∷ fs) = ap (λ l. f ∷ l) (files_list_back fs)
-
-pub files_back : (fs : FileMeanings) → files_from (files_list fs) ≡ fs
-files_back NoFiles = refl
-files_back (MoreFiles f fs) = ap (λ l. MoreFiles f l) (files_back fs)
 
 -- ---- a header and files make a volume
 

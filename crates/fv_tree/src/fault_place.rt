@@ -6,8 +6,10 @@ ghost use Rattle.fv_tree.specs.FirstFault.{moved_fault};
 
 use fv_base::{Fault, FaultKind, Place};
 
-// A fault in bytes that begin at this place.
-pub(crate) fn within(fault: Fault, place: Place) -> Fault
+/// A fault of bytes that begin at this place, as a fault of the bytes that the place is in: its
+/// offset, in bytes, is counted from the start of those, and its depth is that of the place. The
+/// sum of the two offsets is below 2 ^ 64. OutOfMemory stays at 0.
+pub fn fault_within(fault: Fault, place: Place) -> Fault
     requires { place.offset + fault.place.offset < 2 ^ 64 }
     ensures moved { result ≢ out_of_memory
         → (fault ≢ out_of_memory) × (result ≡ moved_fault place.offset place.depth fault) }

@@ -16,6 +16,7 @@ mod view;
 mod volume_files;
 
 pub use difference::{Difference, Step, Word, first_difference};
+pub use fault_place::fault_within;
 pub use lookup::{Item, Lookup, file_by_name, file_by_type, next_file, section_by_type};
 pub use read::read_volume;
 pub use scanner::{Offsets, scan};

@@ -15,6 +15,7 @@ ghost use Rattle.fv_tree.specs.inner.NameOrders.{key_of, names_in};
 ghost use Rattle.fv_tree.specs.LocatedFiles.{file_form};
 ghost use Rattle.fv_tree.specs.inner.SmallFiles.{is_noted};
 ghost use Rattle.fv_tree.specs.inner.Neighbours.{AllApart, AreTwins, IsTwinAt, SharesItsName, mark_at};
+ghost use Rattle.fv_tree.specs.declared.volume_files.LocatedFile.{LocatedFile};
 
 use crate::volume_files::LocatedFile;
 use fv_base::{Fault, Guid};
@@ -106,6 +107,15 @@ fn sorted_keys(alloc: Global, files: &[LocatedFile], packing: Packing) -> Result
     Ok(keys)
 }
 
+// The entry of the file with this number.
+fn entry_at(files: &[LocatedFile], number: u64) -> NumberedName
+    requires small { length files.now < 2 ^ 32 }
+    requires within { number < length files.now }
+    ensures { (s : LocatedFile) → result ≡ (halves_of (get_or files.now number s).name, number) }
+{
+    (halves(files[number as usize].name), number as u32)
+}
+
 // Whether the file with this number is marked for update.
 fn is_marked_at(files: &[LocatedFile], number: u32) -> bool
     requires { number < length files.now }
@@ -136,8 +146,7 @@ impl Numbers {
         let keys = sorted_keys(alloc, files, packing)?;
         for key in &keys {
             let number = packing.number(*key);
-            let name = files[number as usize].name;
-            sorted.push((halves(name), number as u32))?;
+            sorted.push(entry_at(files, number))?;
         }
         sorted.sort_unstable();
         Ok(Numbers { sorted })

@@ -1,6 +1,6 @@
 //! Reading a volume.
 
-ghost use Rattle.std.specs.Prelude.{◌≡◌, ◌≢◌, ◌≤◌, ◌<◌, ◌+◌, ◌%◌, ◌^◌, ℕ, length, take, map, IfOk, IfErr};
+ghost use Rattle.std.specs.Prelude.{◌≡◌, ◌≢◌, ◌≤◌, ◌<◌, ◌+◌, ◌^◌, ℕ, length, take, map, IfOk, IfErr};
 ghost use Rattle.fv_base.specs.Faults.{outer_fault, out_of_memory};
 ghost use Rattle.fv_base.specs.Limits.{depth_limit, volume_limit};
 ghost use Rattle.fv_base.specs.declared.fault.Fault.{Fault};
@@ -12,36 +12,42 @@ ghost use Rattle.fv_tree.specs.Meaning.{Meaning, length_of};
 ghost use Rattle.fv_tree.specs.Denotes.{Pairwise, MeansContent, MeansFile, MeansSection, Stream, Denotes, Accepted};
 ghost use Rattle.fv_tree.specs.Denotes.{IsStoredFile, IsStoredFrame};
 ghost use Rattle.fv_tree.specs.FailingChecks.{First};
-ghost use Rattle.fv_tree.specs.FirstFault.{moved_fault, InSection, InStream, InVolume, BodyFault};
+ghost use Rattle.fv_tree.specs.FirstFault.{moved_fault, InSection, InStream, InVolume};
 ghost use Rattle.fv_tree.specs.FirstFault.{OneOf, FileFault, IsFirstOfVolume, FaultStands, body_place, data_place};
-ghost use Rattle.fv_tree.specs.inner.ReadingParts.{Reads, HasFiles, AllStored};
-ghost use Rattle.fv_tree.specs.FileNames.{HasNumbers};
+ghost use Rattle.fv_tree.specs.inner.ReadingParts.{Reads, AllStored};
 ghost use Rattle.fv_tree.specs.Views.{content_view};
 ghost use Rattle.fv_tree.specs.LocatedFiles.{file_form};
 
-use crate::fault_place::within;
-use crate::name_index::Numbers;
+use crate::fault_place::fault_within;
 use crate::shape::{Shape, holds_sections, shape_of};
 use crate::stored_files::files_in_body;
 use crate::view::{Content, FileView, SectionView, VolumeView};
 use crate::volume_files::LocatedFile;
 use fv_base::limits::DEPTH_LIMIT;
 use fv_base::{Fault, FaultKind, Place};
-use fv_head::{Extent, read_head};
+use fv_head::read_head;
 use fv_section::{Frame, FrameWalk, section_header_len};
 use std::alloc::Global;
 
-// Where the body of a frame begins in the bytes that were passed in, and how many levels may nest
-// in it; or the fault Depth if no level is left.
-fn deeper(frame: &Frame, place: Place, left: u8) -> Result<(Place, u8), Fault>
-    requires place { place.offset + frame.now.offset + frame_len (framed.frame_form frame.now) < 2 ^ 63 }
-    requires depth { place.depth + left ≤ depth_limit }
+// Where some bytes begin in those that were passed in, and how many levels may nest in them.
+#[derive(Clone, Copy)]
+struct Level {
+    place: Place,
+    left: u8,
+}
+
+// The level of the body of a frame; or the fault Depth if no level is left.
+fn deeper(frame: &Frame, at: Level) -> Result<Level, Fault>
+    requires place { at.place.offset + frame.now.offset + frame_len (framed.frame_form frame.now) < 2 ^ 63 }
+    requires depth { at.place.depth + at.left ≤ depth_limit }
     ensures ok { IfOk result
-        (λ r. (left ≡ r.1 + 1) × (r.0.offset ≡ place.offset + body_place (framed.frame_form frame.now))
-        × (r.0.depth ≡ place.depth + 1)) }
+        (λ r. (at.left ≡ r.left + 1) × (r.place.offset ≡ at.place.offset + body_place (framed.frame_form frame.now))
+        × (r.place.depth ≡ at.place.depth + 1)) }
     ensures err { IfErr result
-        (λ f. (left ≡ 0) × (f ≡ moved_fault place.offset place.depth (outer_fault FaultKind.Depth frame.now.offset))) }
+        (λ f. (at.left ≡ 0)
+        × (f ≡ moved_fault at.place.offset at.place.depth (outer_fault FaultKind.Depth frame.now.offset))) }
 {
+    let Level { place, left } = at;
     if left == 0 {
         return Err(Fault {
             kind: FaultKind::Depth,
@@ -55,34 +61,32 @@ fn deeper(frame: &Frame, place: Place, left: u8) -> Result<(Place, u8), Fault>
         offset: place.offset + frame.offset + section_header_len(frame.extended),
         depth: place.depth + 1,
     };
-    Ok((inside, left - 1))
+    Ok(Level {
+        place: inside,
+        left: left - 1,
+    })
 }
 
 // One section.
 #[cycle(read)]
-fn read_section<'a>(
-    alloc: Global,
-    frame: &Frame<'a>,
-    place: Place,
-    left: u8,
-) -> Result<SectionView<'a>, Fault>
-    requires place { place.offset + frame.now.offset + frame_len (framed.frame_form frame.now) < 2 ^ 63 }
-    requires depth { place.depth + left ≤ depth_limit }
+fn read_section<'a>(alloc: Global, frame: &Frame<'a>, at: Level) -> Result<SectionView<'a>, Fault>
+    requires place { at.place.offset + frame.now.offset + frame_len (framed.frame_form frame.now) < 2 ^ 63 }
+    requires depth { at.place.depth + at.left ≤ depth_limit }
     requires stored { IsStoredFrame (framed.frame_form frame.now) }
-    ensures { Reads (MeansSection left (framed.frame_form frame.now))
-        (λ f. InSection First left f (framed.frame_form frame.now) place) result }
+    ensures { Reads (MeansSection at.left (framed.frame_form frame.now))
+        (λ f. InSection First at.left f (framed.frame_form frame.now) at.place) result }
 {
     match shape_of(frame) {
         Shape::Leaf => Ok(SectionView::of_leaf(frame)),
         Shape::Group => {
-            let (inside, below) = deeper(frame, place, left)?;
-            let (sections, tail) = read_stream(alloc, frame.body, inside, below)?;
+            let inside = deeper(frame, at)?;
+            let (sections, tail) = read_stream(alloc, frame.body, inside)?;
             let len = frame.body.len() as u32;
             SectionView::of_group(alloc, frame, sections, tail, len)
         }
         Shape::Volume => {
-            let (inside, below) = deeper(frame, place, left)?;
-            let (volume, _) = read_at(alloc, frame.body, inside, below)?;
+            let inside = deeper(frame, at)?;
+            let (volume, _) = read_at(alloc, frame.body, inside)?;
             let nested = Box::new(alloc, volume)?;
             Ok(SectionView::of_volume(frame, nested))
         }
@@ -91,24 +95,20 @@ fn read_section<'a>(
 
 // The sections of a stream, and the number of bytes after the last.
 #[cycle(read)]
-fn read_stream<'a>(
-    alloc: Global,
-    bytes: &'a [u8],
-    place: Place,
-    left: u8,
-) -> Result<(Vec<SectionView<'a>>, u8), Fault>
-    requires place { place.offset + length bytes.now < 2 ^ 63 }
-    requires depth { place.depth + left ≤ depth_limit }
+fn read_stream(alloc: Global, bytes: &[u8], at: Level) -> Result<(Vec<SectionView<'_>>, u8), Fault>
+    requires place { at.place.offset + length bytes.now < 2 ^ 63 }
+    requires depth { at.place.depth + at.left ≤ depth_limit }
     requires small { length bytes.now ≤ volume_limit }
-    ensures { Reads (λ s. Stream left s.0.items s.1 bytes.now) (λ f. InStream First left f bytes.now place) result }
+    ensures { Reads (λ s. Stream at.left s.0.items s.1 bytes.now)
+        (λ f. InStream First at.left f bytes.now at.place) result }
 {
     let mut walk = match FrameWalk::of(bytes) {
         Ok(walk) => walk,
-        Err(fault) => return Err(within(fault, place)),
+        Err(fault) => return Err(fault_within(fault, at.place)),
     };
     let mut sections = Vec::with_capacity(alloc, walk.frames_left())?;
     while let Some(frame) = walk.next_frame() {
-        let section = read_section(alloc, &frame, place, left)?;
+        let section = read_section(alloc, &frame, at)?;
         sections.push(section)?;
     }
     Ok((sections, walk.tail()))
@@ -116,45 +116,39 @@ fn read_stream<'a>(
 
 // The content of a file.
 #[cycle(read)]
-fn read_content<'a>(
-    alloc: Global,
-    file: &LocatedFile<'a>,
-    place: Place,
-    left: u8,
-) -> Result<Content<'a>, Fault>
-    requires place { place.offset + data_place (file_form file.now) + length file.now.payload.now < 2 ^ 63 }
-    requires depth { place.depth + left ≤ depth_limit }
+fn read_content<'a>(alloc: Global, file: &LocatedFile<'a>, at: Level) -> Result<Content<'a>, Fault>
+    requires place { at.place.offset + data_place (file_form file.now) + length file.now.payload.now < 2 ^ 63 }
+    requires depth { at.place.depth + at.left ≤ depth_limit }
     requires small { length file.now.payload.now ≤ volume_limit }
-    ensures { Reads (λ c. MeansContent (Stream left) file.now.kind file.now.payload.now (content_view c))
-        (λ f. FileFault (InStream First left) f (file_form file.now) place) result }
+    ensures { Reads (λ c. MeansContent (Stream at.left) file.now.kind file.now.payload.now (content_view c))
+        (λ f. FileFault (InStream First at.left) f (file_form file.now) at.place) result }
 {
     if !holds_sections(file.kind) {
         return Ok(Content::Plain(file.payload));
     }
-    let inside = Place {
-        offset: place.offset + u64::from(file.offset) + file.header_len(),
-        depth: place.depth,
+    let place = Place {
+        offset: at.place.offset + u64::from(file.offset) + file.header_len(),
+        depth: at.place.depth,
     };
-    let (sections, tail) = read_stream(alloc, file.payload, inside, left)?;
+    let inside = Level {
+        place,
+        left: at.left,
+    };
+    let (sections, tail) = read_stream(alloc, file.payload, inside)?;
     Ok(Content::Stream { sections, tail })
 }
 
 // One file.
 #[cycle(read)]
-fn read_file<'a>(
-    alloc: Global,
-    file: &LocatedFile<'a>,
-    place: Place,
-    left: u8,
-) -> Result<FileView<'a>, Fault>
-    requires place { place.offset + data_place (file_form file.now) + length file.now.payload.now < 2 ^ 63 }
-    requires depth { place.depth + left ≤ depth_limit }
+fn read_file<'a>(alloc: Global, file: &LocatedFile<'a>, at: Level) -> Result<FileView<'a>, Fault>
+    requires place { at.place.offset + data_place (file_form file.now) + length file.now.payload.now < 2 ^ 63 }
+    requires depth { at.place.depth + at.left ≤ depth_limit }
     requires stored { IsStoredFile (file_form file.now) }
     requires small { length file.now.payload.now ≤ volume_limit }
-    ensures { Reads (MeansFile (Stream left) (file_form file.now))
-        (λ f. FileFault (InStream First left) f (file_form file.now) place) result }
+    ensures { Reads (MeansFile (Stream at.left) (file_form file.now))
+        (λ f. FileFault (InStream First at.left) f (file_form file.now) at.place) result }
 {
-    let content = read_content(alloc, file, place, left)?;
+    let content = read_content(alloc, file, at)?;
     let attributes = file.attributes.without_large();
     Ok(FileView::new(
         file.name,
@@ -170,71 +164,41 @@ fn read_file<'a>(
 fn read_files<'a>(
     alloc: Global,
     files: &[LocatedFile<'a>],
-    place: Place,
-    left: u8,
+    at: Level,
 ) -> Result<Vec<FileView<'a>>, Fault>
-    requires depth { place.depth + left ≤ depth_limit }
-    requires stored { AllStored place.offset (map file_form files.now) }
-    ensures { Reads (λ ms. Pairwise (MeansFile (Stream left)) (map file_form files.now) ms.items)
-        (λ e. OneOf First (MeansFile (Stream left)) (λ f. FileFault (InStream First left) e f place)
+    requires depth { at.place.depth + at.left ≤ depth_limit }
+    requires stored { AllStored at.place.offset (map file_form files.now) }
+    ensures { Reads (λ ms. Pairwise (MeansFile (Stream at.left)) (map file_form files.now) ms.items)
+        (λ e. OneOf First (MeansFile (Stream at.left)) (λ f. FileFault (InStream First at.left) e f at.place)
         (map file_form files.now)) result }
 {
     let mut views = Vec::with_capacity(alloc, files.len())?;
     for file in files {
-        let view = read_file(alloc, file, place, left)?;
+        let view = read_file(alloc, file, at)?;
         views.push(view)?;
     }
     Ok(views)
 }
 
-// The files of a volume of this extent, and their numbers.
-#[cycle(read)]
-fn read_body<'a>(
-    alloc: Global,
-    volume: &'a [u8],
-    extent: Extent,
-    place: Place,
-    left: u8,
-) -> Result<(Vec<FileView<'a>>, Numbers), Fault>
-    requires place { place.offset + length volume.now < 2 ^ 63 }
-    requires depth { place.depth + left ≤ depth_limit }
-    requires small { length volume.now ≤ volume_limit }
-    requires multiple { length volume.now % 8 ≡ 0 }
-    requires first_multiple { extent.first % 8 ≡ 0 }
-    requires first_within { extent.first ≤ length volume.now }
-    requires length_is { extent.length ≡ length volume.now }
-    ensures read { Reads (λ r. HasFiles (Stream left) extent volume.now r.0.items)
-        (λ e. BodyFault First left (InStream First left) extent e volume.now place) result }
-    ensures numbers { IfOk result (λ r. HasNumbers r.1 r.0.items) }
-{
-    let (files, numbers) = files_in_body(alloc, volume, extent, place)?;
-    let views = read_files(alloc, files.as_slice(), place, left)?;
-    Ok((views, numbers))
-}
-
 // The volume at the start of the bytes, and the number of its bytes.
 #[cycle(read)]
-fn read_at<'a>(
-    alloc: Global,
-    bytes: &'a [u8],
-    place: Place,
-    left: u8,
-) -> Result<(VolumeView<'a>, u64), Fault>
-    requires place { place.offset + length bytes.now < 2 ^ 63 }
-    requires depth { place.depth + left ≤ depth_limit }
-    ensures read { Reads (λ r. Denotes left (take r.1 bytes.now) r.0)
-        (λ f. InVolume First left f bytes.now place) result }
+fn read_at(alloc: Global, bytes: &[u8], at: Level) -> Result<(VolumeView<'_>, u64), Fault>
+    requires place { at.place.offset + length bytes.now < 2 ^ 63 }
+    requires depth { at.place.depth + at.left ≤ depth_limit }
+    ensures read { Reads (λ r. Denotes at.left (take r.1 bytes.now) r.0)
+        (λ f. InVolume First at.left f bytes.now at.place) result }
     ensures length { IfOk result (λ r. (r.1 ≡ length_of r.0) × (r.1 ≤ length bytes.now)) }
     ensures memory { IfErr result
         (λ f. f ≡ out_of_memory → (h : HeadFields) × (e : Extent) × BeginsVolume h e bytes.now) }
 {
     let (head, extent) = match read_head(alloc, bytes) {
         Ok(read) => read,
-        Err(fault) => return Err(within(fault, place)),
+        Err(fault) => return Err(fault_within(fault, at.place)),
     };
     let volume = &bytes[..extent.length as usize];
-    let (files, numbers) = read_body(alloc, volume, extent, place, left)?;
-    Ok((VolumeView::new(head, files, numbers), extent.length))
+    let (files, numbers) = files_in_body(alloc, volume, extent, at.place)?;
+    let views = read_files(alloc, files.as_slice(), at)?;
+    Ok((VolumeView::new(head, views, numbers), extent.length))
 }
 
 /// The meaning of the volume at the start of the bytes, as a view of them, and the number of bytes
@@ -281,5 +245,9 @@ pub fn read_volume(alloc: Global, bytes: &[u8]) -> Result<(VolumeView<'_>, u64),
         offset: 0,
         depth: 0,
     };
-    read_at(alloc, bytes, place, DEPTH_LIMIT)
+    let at = Level {
+        place,
+        left: DEPTH_LIMIT,
+    };
+    read_at(alloc, bytes, at)
 }

@@ -7,6 +7,7 @@ ghost use Rattle.fv_tree.specs.FoundVolumes.{Found, IsPlace};
 ghost use Rattle.fv_tree.specs.inner.FoundWalks.{IsNext, IsReached, NoneFrom};
 
 use fv_base::Fault;
+use fv_base::field::bytes_from;
 use fv_head::{SIGNATURE, verify_fv};
 use std::alloc::Global;
 use std::marker::Model;
@@ -70,7 +71,7 @@ fn next_volume(bytes: &[u8], from: usize) -> Option<(usize, usize)>
 {
     let mut place = from;
     while let Some(at) = next_signature(bytes, place) {
-        if let Ok(extent) = verify_fv(&bytes[at..]) {
+        if let Ok(extent) = verify_fv(bytes_from(bytes, at)) {
             return Some((at, extent.length as usize));
         }
         place = at + 8;

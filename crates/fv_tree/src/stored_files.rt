@@ -12,7 +12,7 @@ ghost use Rattle.fv_tree.specs.LocatedFiles.{StandIn, file_form, BeginWithFiles,
 ghost use Rattle.fv_tree.specs.inner.NameOrders.{names_in};
 ghost use Rattle.fv_tree.specs.inner.ReadingParts.{Reads, AllStored};
 
-use crate::fault_place::within;
+use crate::fault_place::fault_within;
 use crate::name_index::Numbers;
 use crate::volume_files::{LocatedFile, current_files, files_of};
 use fv_base::{Fault, Place};
@@ -46,13 +46,13 @@ pub(crate) fn files_in_body<'a>(
         extent.polarity,
     ) {
         Ok(list) => list,
-        Err(fault) => return Err(within(fault, place)),
+        Err(fault) => return Err(fault_within(fault, place)),
     };
     let files = files_of(alloc, list.as_slice())?;
     drop(list);
     match current_files(alloc, files, extent.length) {
         Ok(read) => Ok(read),
-        Err(fault) => Err(within(fault, place)),
+        Err(fault) => Err(fault_within(fault, place)),
     }
 }
 

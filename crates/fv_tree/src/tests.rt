@@ -1,7 +1,7 @@
 //! What no contract says: volumes from outside, and the faults of bytes that are no volume.
 //!
 //! A table is one text, which one function names. A line is the name of a case, what is expected of
-//! it, and how its bytes are spelled, with a colon between.
+//! it, and how its bytes are spelled, with a colon between. The tests of libfv read some of them.
 
 mod content;
 mod deep;
@@ -35,6 +35,36 @@ fn spell(alloc: Global, text: &str) -> Option<Vec<u8>> {
         }
     }
     Some(bytes)
+}
+
+// How the header with a name is spelled: `80` is that of a volume of 0x80 bytes, below 64 KiB, in
+// the second file system, with one block; `c0+48` has an extended header at 0x48.
+fn header(alloc: Global, name: &str) -> Option<String> {
+    let (length, extended) = name.split_once('+').unwrap_or((name, "0"));
+    let length = u16::from_str_radix(length, 16).ok()?;
+    let extended = u8::from_str_radix(extended, 16).ok()?;
+    let rest = 0xf6ceu16.wrapping_sub(length).wrapping_sub(length);
+    let [sum, sum_high] = rest.wrapping_sub(u16::from(extended)).to_le_bytes();
+    let [low, high] = length.to_le_bytes();
+    format!(in alloc;
+        "00*16 78e58c8c3d8a1c4f9935896185c32dd3 {low:02x}{high:02x} 00*6 5f465648 fffe0400 4800 \
+            {sum:02x}{sum_high:02x} {extended:02x}000002 01000000 {low:02x}{high:02x}0000 00*8"
+    )
+    .ok()
+}
+
+// The bytes that a text spells in which words such as `<80>` and `<c0+48>` are headers.
+fn spell_volume(alloc: Global, text: &str) -> Option<Vec<u8>> {
+    let mut plain = String::new(alloc);
+    for word in text.split_whitespace() {
+        match word.strip_prefix('<') {
+            Some(name) => plain.push_str(&header(alloc, name.strip_suffix('>')?)?),
+            None => plain.push_str(word),
+        }
+        .ok()?;
+        plain.push(' ').ok()?;
+    }
+    spell(alloc, &plain)
 }
 
 // What is expected of the case of a line, and how its bytes are spelled.
@@ -80,7 +110,7 @@ fn told(alloc: Global, bytes: &[u8]) -> Option<String> {
 // Whether reading the bytes of a line gives what the line expects.
 fn is_told(alloc: Global, line: &str) -> Option<bool> {
     let (wanted, text) = row_of(line)?;
-    let bytes = spell(alloc, text)?;
+    let bytes = spell_volume(alloc, text)?;
     Some(told(alloc, &bytes)?.as_str() == wanted)
 }
 

@@ -1,8 +1,57 @@
 -- The arguments of one command.
-use Rattle.std.specs.Prelude.{ℕ, List}
-use Rattle.fv_arguments.specs.Words.{AsksBy}
+use Rattle.std.specs.Prelude.{◌≡◌, ◌||◌, ◌&&◌, ℕ, Bool, false, not, List, [], Option, Some, Result, Ok, Err, codes, if◌then◌else◌, nat_le}
+use Rattle.std.specs.List.{list_all}
+use Rattle.std.specs.Str.{bytes_eq}
+use Rattle.clap.specs.Words.{App, IsParsedFrom, Rule, app_of, found_of, rows_of}
+use Rattle.clap.specs.declared.builder.command.Command.{Command as Rules}
+use Rattle.clap.specs.declared.builder.value_parser.ValueParser.{ValueParser}
+use Rattle.clap.specs.declared.builder.value_parser.ValueParser.TheVariants as parsers
+use Rattle.clap.specs.declared.parser.matches.ArgMatches.{ArgMatches}
+use Rattle.fv_arguments.specs.Options.{compare_app, extract_app, faults_in, hobs_app, list_app, normalise_app, one_input_app, rows_in}
+use Rattle.fv_arguments.specs.Options.{volume_app}
+use Rattle.fv_arguments.specs.Words.{AsksBy, HasTexts, command_name}
+use Rattle.fv_plan.specs.declared.plan.Command.{Command}
 use Rattle.fv_plan.specs.declared.plan.Plan.{Plan}
+use Rattle.fv_arguments.specs.declared.words.WordFault.{WordFault}
+use Rattle.fv_arguments.specs.declared.words.WordFault.TheVariants.{Words}
 
 -- the arguments of a command are right if there is a plan that they ask for
 abbrev pub AreRightFor : List ℕ → List (List ℕ) → Type 0
 AreRightFor name rest = (plan : Plan) × AsksBy name rest plan
+
+-- the options of the command that a name names
+abbrev pub app_named : List ℕ → App
+app_named name =
+    if bytes_eq name (codes "normalise") then normalise_app
+    else (if bytes_eq name (codes "hobs") then hobs_app
+    else (if bytes_eq name (codes "extract") then extract_app
+    else (if bytes_eq name (codes "compare") then compare_app
+    else (if bytes_eq name (codes "list") then list_app
+    else (if bytes_eq name (codes "scan") then one_input_app else volume_app)))))
+
+-- the parser has accepted the arguments of a command with these options, and found this in them
+pub record IsRead (app : App) (rest : List (List ℕ)) (m : ArgMatches) : Type 0 where
+  pub rows : rows_of (found_of m) ≡ rows_in app rest
+  pub taken : faults_in app rest ≡ []
+  pub rules : Rules
+  pub given : app_of rules ≡ app
+  pub parsed : IsParsedFrom rules m
+
+-- the command is what the arguments ask for in which this was found, or they are rejected: as wrong only if they are not right
+abbrev pub AsksFor : List ℕ → ArgMatches → Result Command WordFault → Type 0
+AsksFor name m (Ok command) =
+    (rest : List (List ℕ)) → IsRead (app_named name) rest m → (name ≡ command_name command) × HasTexts rest command
+AsksFor name m (Err f) = f ≡ Words → (rest : List (List ℕ)) → IsRead (app_named name) rest m → AreRightFor name rest → ⊥
+
+-- an option of this name has a number up to `most`, if the command has it
+abbrev pub takes_number : ℕ → Option ValueParser → Bool
+takes_number most (Some (parsers.Unsigned low high)) = nat_le high most
+takes_number most _ = false
+
+abbrev pub is_number_if : ℕ → List ℕ → Rule → Bool
+is_number_if most id a = not (bytes_eq a.id id) || takes_number most a.parser
+
+abbrev pub has_number : ℕ → List ℕ → App → Bool
+has_number most id app =
+    not (bytes_eq [] id) && (not (bytes_eq (codes "help") id) && (not (bytes_eq (codes "version") id)
+    && (app.top.is_plain && (list_all (λ a. a.is_simple) app.top.rules && list_all (is_number_if most id) app.top.rules))))

@@ -11,12 +11,10 @@ kept_none s false = tt
 kept_joined : (s t u : List ℕ) (a b c : Bool) (xs ys : List ℕ) → KeptLatched s a xs t b → KeptLatched t b ys u c
     → KeptLatched s a (xs ++ ys) u c
 kept_joined s t u true true true xs ys p q = q ∙ (ap (λ ws. ws ++ ys) p ∙ append_assoc s xs ys)
-kept_joined s t u true true false xs ys p q = tt
-kept_joined s t u true false true xs ys p q = absurd q
-kept_joined s t u true false false xs ys p q = tt
-kept_joined s t u false true c xs ys p q = absurd p
-kept_joined s t u false false true xs ys p q = absurd q
-kept_joined s t u false false false xs ys p q = tt
+kept_joined s t u true b false xs ys p q = tt
+kept_joined s t u false b false xs ys p q = tt
+kept_joined s t u a false true xs ys p q = absurd q
+kept_joined s t u false true true xs ys p q = absurd p
 
 pub kept_by : {S : Type 0} (kept : S → List ℕ) (on : S → Bool) → WalkLaws (KeptTakes kept on)
 kept_by kept on = record {

@@ -23,6 +23,10 @@ sections_bytes gap (MoreSections s ss) starts =
 abbrev pub BeginsWithStarts : List Inside → List ℕ → Type 0
 BeginsWithStarts vs starts = (laid : List ℕ) × (more : List ℕ) × (starts ≡ laid ++ more) × Laid AreStarts vs laid
 
+-- a walk comes to these volumes: the starts that are left begin with theirs, and `last` are those after them
+abbrev pub ComesTo : List Inside → List ℕ → List ℕ → Type 0
+ComesTo vs starts last = record { laid : BeginsWithStarts vs starts; left : drop (starts_in vs) starts ≡ last }
+
 -- the first bytes of the whole were taken, and `rest` is left
 pub record TakesFront {S : Type 0} (takes : S → List ℕ → S → Type 0) (s t : S) (whole rest : List ℕ) : Type 0 where
   pub front : List ℕ

@@ -14,14 +14,13 @@ match_joined : (s t u : List ℕ) (a b c : Bool) (xs ys : List ℕ) → MatchLat
 match_joined s t u true true true xs ys p q = p ∙ (ap (λ zs. xs ++ zs) q ∙ sym (append_assoc xs ys u))
 match_joined s t u true true false xs ys p q =
     λ more e. q more (append_cancel_left xs t (ys ++ more) (sym p ∙ (e ∙ append_assoc xs ys more)))
-match_joined s t u true false true xs ys p q = absurd q
 match_joined s t u true false false xs ys p q = λ more e. p (ys ++ more) (e ∙ append_assoc xs ys more)
-match_joined s t u false true c xs ys p q = absurd p
-match_joined s t u false false true xs ys p q = absurd q
 match_joined s t u false false false xs ys p q = tt
+match_joined s t u false true c xs ys p q = absurd p
+match_joined s t u a false true xs ys p q = absurd q
 
 pub matches_by : {S : Type 0} (rest : S → List ℕ) (same : S → Bool) → WalkLaws (MatchTakes rest same)
 matches_by rest same = record {
   none = λ s. match_none (rest s) (same s);
-  joined = λ s t u a b p q. match_joined (rest s) (rest t) (rest u) (same s) (same t) (same u) a b p q;
+  joined = λ s t u. match_joined (rest s) (rest t) (rest u) (same s) (same t) (same u);
 }

@@ -8,26 +8,26 @@ use Rattle.fv_canon.specs.Refusals.{Refuses}
 use Rattle.fv_text.specs.HexText.{ShowsBytes}
 use Rattle.fv_text.specs.PortViews.{Shown, Writes, WritingStops}
 
--- the image of the input was written, as it is or as lines of digits
+-- an image was written, as it is or as lines of digits
+abbrev pub ShowsOne : (List ℕ → Type 0) → Bool → Shown → Shown → Type 0
+ShowsOne Is hex old new = (image : List ℕ) × (text : List ℕ) × Is image × ShowsBytes hex image text × Writes old new text
+
+-- nothing was written: memory ran out, or the input is rejected; or a write failed in the text of an image
+abbrev pub StopsOne : (List ℕ → Type 0) → (Fault → Type 0) → Bool → Shown → Shown → Fault → Type 0
+StopsOne Is Rejected hex old new fault =
+    ((new ≡ old) × ((fault ≡ out_of_memory) ⊎ Rejected fault))
+    ⊎ ((image : List ℕ) × (text : List ℕ) × Is image × ShowsBytes hex image text × WritingStops old new text fault)
+
+-- for the canonical image of the volume that the input is
 abbrev pub ShowsImage : Bool → List ℕ → Shown → Shown → Type 0
-ShowsImage hex input old new =
-    (image : List ℕ) × (text : List ℕ) × NormalisesTo input image × ShowsBytes hex image text × Writes old new text
+ShowsImage hex input old new = ShowsOne (NormalisesTo input) hex old new
 
--- nothing was written: memory ran out, or the input is rejected; or a write failed in the text of the image
 abbrev pub StopsImage : Bool → List ℕ → Shown → Shown → Fault → Type 0
-StopsImage hex input old new fault =
-    ((new ≡ old) × ((fault ≡ out_of_memory) ⊎ Refuses input fault))
-    ⊎ ((image : List ℕ) × (text : List ℕ) × NormalisesTo input image × ShowsBytes hex image text
-    × WritingStops old new text fault)
+StopsImage hex input old new fault = StopsOne (NormalisesTo input) (Refuses input) hex old new fault
 
--- the flash image was written with each of its volumes renewed, as it is or as lines of digits
+-- for the input with each of its volumes renewed
 abbrev pub ShowsFlash : Bool → List ℕ → Shown → Shown → Type 0
-ShowsFlash hex input old new =
-    (image : List ℕ) × (text : List ℕ) × NormalisesAll input image × ShowsBytes hex image text × Writes old new text
+ShowsFlash hex input old new = ShowsOne (NormalisesAll input) hex old new
 
--- nothing was written: memory ran out, or the flash image is rejected; or a write failed in its text
 abbrev pub StopsFlash : Bool → List ℕ → Shown → Shown → Fault → Type 0
-StopsFlash hex input old new fault =
-    ((new ≡ old) × ((fault ≡ out_of_memory) ⊎ RefusesAll input fault))
-    ⊎ ((image : List ℕ) × (text : List ℕ) × NormalisesAll input image × ShowsBytes hex image text
-    × WritingStops old new text fault)
+StopsFlash hex input old new fault = StopsOne (NormalisesAll input) (RefusesAll input) hex old new fault

@@ -1,7 +1,7 @@
 -- How far a line is indented, as the code holds it.
 use Rattle.std.specs.Prelude.{ℕ, ◌+◌}
-use Rattle.fv_command.specs.declared.list_text.Indent.{Indent}
-use Rattle.fv_command.specs.declared.list_text.Indent.TheVariants.{Margin, Inside'}
+use Rattle.fv_command.specs.declared.style.Indent.{Indent}
+use Rattle.fv_command.specs.declared.style.Indent.TheVariants.{Margin, Inside'}
 
 abbrev pub levels : Indent → ℕ
 levels Margin = 0

@@ -5,8 +5,14 @@ use Rattle.fv_text.specs.PortViews.{Shown}
 use Rattle.fv_command.specs.TaskRuns.{SaysInput, StopsInput}
 use Rattle.fv_plan.specs.declared.plan.Task.{Task}
 use Rattle.fv_command.specs.declared.status.Status.{Status}
+use Rattle.fv_command.specs.declared.status.Status.TheVariants.{Done}
 
 -- what a task did, by its status or its fault
 abbrev pub Performs : Task → Bool → List ℕ → Shown → Shown → Result Status Fault → Type 0
 Performs task hex input w v (Ok status) = SaysInput task hex input w v status
 Performs task hex input w v (Err fault) = StopsInput task hex input w v fault
+
+-- Done, unless a fault stopped the writing
+abbrev pub done_if : {A : Type 0} → Result A Fault → Result Status Fault
+done_if (Ok _) = Ok Done
+done_if (Err fault) = Err fault

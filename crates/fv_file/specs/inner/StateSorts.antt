@@ -1,9 +1,10 @@
 -- The four sorts of states: what a cell is by the state of its header.
-use Rattle.std.specs.Prelude.{ℕ, Bool, List, []}
+use Rattle.std.specs.Prelude.{ℕ, Bool, List, [], if◌then◌else◌}
 use Rattle.fv_base.specs.Checks.{Check}
 use Rattle.fv_base.specs.declared.fault.Fault.{Fault}
 use Rattle.fv_base.specs.declared.flash.FileSystem.{FileSystem}
 use Rattle.fv_file.specs.FileChecks.{file_checks, stub_checks}
+use Rattle.fv_file.specs.States.{is_alive}
 use Rattle.fv_file.specs.declared.state.FileState.{FileState}
 use Rattle.fv_file.specs.declared.state.FileState.TheVariants as states
 
@@ -19,10 +20,7 @@ abbrev pub sort_of : FileState → StateSort
 sort_of states.Free = Erased
 sort_of states.Construction = Unfinished
 sort_of states.HeaderInvalid = Unfinished
-sort_of states.HeaderValid = Dead
-sort_of states.Deleted = Dead
-sort_of states.DataValid = Valid
-sort_of states.Marked = Valid
+sort_of st = if is_alive st then Valid else Dead
 
 -- the checks of a cell by the sort of its state; a file of it is valid or not
 abbrev pub sort_checks : StateSort → FileSystem → Bool → ℕ → List ℕ → List (Check Fault)

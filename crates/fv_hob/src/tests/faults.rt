@@ -1,66 +1,80 @@
 //! Lists that are rejected.
 
 use super::{END, HANDOFF, LIST, Parts, TYPES, fault_of, joined, put};
-use crate::{HobFault, HobFaultKind};
-use std::alloc::Global;
+use crate::{HobFault, HobFaultKind, read_hobs};
+use std::alloc::{AllocError, Global};
 use std::test::Fail;
 
-/// The parts, an offset, the bytes that are written there, and then the fault.
-const FAULTS: &[(Parts, usize, &[u8], HobFaultKind, u64)] = &[
+/// The texts of the kinds of faults, with their numbers.
+const SHORT: &str = "a block is cut (hob fault 1)";
+
+const LENGTH: &str = "the length of a block is no multiple of 8 from 8 on (hob fault 2)";
+
+const FIRST: &str = "the first block is no hand-off information table (hob fault 3)";
+
+const SHAPE: &str = "the length of a block is not that of its type (hob fault 4)";
+
+const NO_END: &str = "the list has no end block (hob fault 5)";
+
+/// The parts, an offset, the bytes that are written there, and then the text of the fault and its
+/// offset.
+const FAULTS: &[(Parts, usize, &[u8], &str, u64)] = &[
     // No bytes, fewer than 8, and none after a block.
-    (&[], 0, &[], HobFaultKind::NoEnd, 0),
+    (&[], 0, &[], NO_END, 0),
     (
         &[&[0x01, 0x00, 0x38, 0x00, 0x00, 0x00, 0x00]],
         0,
         &[],
-        HobFaultKind::Short,
+        SHORT,
         0,
     ),
-    (&[&HANDOFF], 0, &[], HobFaultKind::NoEnd, 56),
+    (&[&HANDOFF], 0, &[], NO_END, 56),
     // Fewer than 8 bytes are left for a later block, which may be an end block.
-    (&[&HANDOFF, &[0xff; 7]], 0, &[], HobFaultKind::Short, 56),
+    (&[&HANDOFF, &[0xff; 7]], 0, &[], SHORT, 56),
     (
         &[&HANDOFF, &[0xff, 0xff, 0x08, 0x00, 0x00, 0x00, 0x00]],
         0,
         &[],
-        HobFaultKind::Short,
+        SHORT,
         56,
     ),
     // Another block first.
-    (&[&END], 0, &[], HobFaultKind::First, 0),
-    (&[&END, &HANDOFF, &END], 0, &[], HobFaultKind::First, 0),
-    (LIST, 0, &[0x02], HobFaultKind::First, 0),
-    (LIST, 0, &[0x01, 0x01], HobFaultKind::First, 0),
-    (LIST, 0, &[0xfe, 0xff], HobFaultKind::First, 0),
+    (&[&END], 0, &[], FIRST, 0),
+    (&[&END, &HANDOFF, &END], 0, &[], FIRST, 0),
+    (LIST, 0, &[0x02], FIRST, 0),
+    (LIST, 0, &[0x01, 0x01], FIRST, 0),
+    (LIST, 0, &[0xfe, 0xff], FIRST, 0),
     // A table of 64 bytes, and a length of 12.
-    (&[&HANDOFF, &[0; 8]], 2, &[0x40], HobFaultKind::Shape, 0),
-    (LIST, 58, &[0x0c], HobFaultKind::Length, 56),
+    (&[&HANDOFF, &[0; 8]], 2, &[0x40], SHAPE, 0),
+    (LIST, 58, &[0x0c], LENGTH, 56),
     // The last block of a list goes past its end, or is no end block.
-    (LIST, 154, &[0x10], HobFaultKind::Short, 152),
-    (LIST, 152, &[0xfe], HobFaultKind::NoEnd, 160),
-    (TYPES, 440, &[0x07, 0x00], HobFaultKind::NoEnd, 448),
+    (LIST, 154, &[0x10], SHORT, 152),
+    (LIST, 152, &[0xfe], NO_END, 160),
+    (TYPES, 440, &[0x07, 0x00], NO_END, 448),
     // Two failing checks of one block: its length and its type, its end and its type, its end and
     // its length for its type, and its type and its length for that.
-    (LIST, 0, &[0x09, 0x00, 0x0c], HobFaultKind::Length, 0),
-    (LIST, 0, &[0x09, 0x00, 0xa8], HobFaultKind::Short, 0),
-    (LIST, 2, &[0xa8], HobFaultKind::Short, 0),
-    (LIST, 0, &[0x09, 0x00, 0x30], HobFaultKind::First, 0),
+    (LIST, 0, &[0x09, 0x00, 0x0c], LENGTH, 0),
+    (LIST, 0, &[0x09, 0x00, 0xa8], SHORT, 0),
+    (LIST, 2, &[0xa8], SHORT, 0),
+    (LIST, 0, &[0x09, 0x00, 0x30], FIRST, 0),
 ];
+
+// The line of the fault with which the bytes are rejected.
+fn printed(alloc: Global, bytes: &[u8]) -> Result<String, AllocError> {
+    match read_hobs(alloc, bytes) {
+        Ok((_list, _)) => format!(in alloc; "none"),
+        Err(fault) => format!(in alloc; "{fault}"),
+    }
+}
 
 #[test]
 fn faults_have_their_places(rt: HostRuntime) -> Result<(), Fail> {
-    for (parts, at, part, kind, offset) in FAULTS {
+    for (parts, at, part, text, offset) in FAULTS {
         let mut bytes = joined(rt.alloc(), parts, &[])?;
         put(bytes.as_mut_slice(), *at, part);
-        let fault = HobFault {
-            kind: *kind,
-            offset: *offset,
-        };
-        assert_eq!(rt;
-            fault_of(rt.alloc(), bytes.as_slice()),
-            Some(fault),
-            "{bytes:?}"
-        );
+        let line = printed(rt.alloc(), bytes.as_slice())?;
+        let expected = format!(in rt.alloc(); "{text} at offset {offset}")?;
+        assert_eq!(rt; line.as_str(), expected.as_str(), "{bytes:?}");
     }
     Ok(())
 }

@@ -1,9 +1,8 @@
 //! Lists that are written back, and the volumes that they describe.
 
-use super::{
-    BEHIND, END, HANDOFF, LIST, Parts, SHORTEST, TYPES, counts, is_written_as, joined, put,
-};
-use crate::{Hob, HobFault, Span, read_hobs, volume_hobs};
+use super::known::{Known, LISTS, are_described};
+use super::{BEHIND, END, HANDOFF, Parts, counts, is_written_as, joined, put};
+use crate::{HobFault, Span, read_hobs, volume_hobs};
 use std::alloc::Global;
 use std::test::Fail;
 
@@ -18,89 +17,26 @@ fn is_kept(alloc: Global, parts: Parts) -> Result<bool, HobFault> {
 
 #[test]
 fn lists_are_written_as_they_were(rt: HostRuntime) -> Result<(), Fail> {
-    assert!(rt; is_kept(rt.alloc(), LIST)?);
-    assert!(rt; is_kept(rt.alloc(), TYPES)?);
-    assert!(rt; is_kept(rt.alloc(), SHORTEST)?);
+    for known in LISTS {
+        let length = known.length;
+        assert!(rt; is_kept(rt.alloc(), known.parts)?, "{length}");
+    }
     Ok(())
 }
 
-/// A volume of 16 bytes, whose address is 8 below 2 ^ 64.
-const WRAPS: Parts = &[
-    &HANDOFF,
-    &[0x05, 0x00, 0x18, 0x00, 0x00, 0x00, 0x00, 0x00],
-    &[0xf8, 0xff, 0xff, 0xff, 0xff, 0xff, 0xff, 0xff],
-    &[0x10, 0x00, 0x00, 0x00, 0x00, 0x00, 0x00, 0x00],
-    &END,
-];
-
-/// Lists, and where the volumes that they describe are.
-const VOLUMES: &[(Parts, &[Span])] = &[
-    (SHORTEST, &[]),
-    (
-        LIST,
-        &[Span {
-            base: 16711680,
-            length: 128,
-        }],
-    ),
-    (
-        TYPES,
-        &[
-            Span {
-                base: 0x6f6e_6d6c_6b6a_6968,
-                length: 0x7776_7574_7372_7170,
-            },
-            Span {
-                base: 0xf7f6_f5f4_f3f2_f1f0,
-                length: 0xfffe_fdfc_fbfa_f9f8,
-            },
-        ],
-    ),
-    (
-        WRAPS,
-        &[Span {
-            base: 0xffff_ffff_ffff_fff8,
-            length: 16,
-        }],
-    ),
-];
-
-// Whether a list describes these volumes.
-fn has_volumes(alloc: Global, parts: Parts, expected: &[Span]) -> Result<bool, HobFault> {
-    let bytes = joined(alloc, parts, BEHIND)?;
+// Whether a list describes the volumes that it should.
+fn has_volumes(alloc: Global, known: &Known) -> Result<bool, HobFault> {
+    let bytes = joined(alloc, known.parts, BEHIND)?;
     let (list, _) = read_hobs(alloc, bytes.as_slice())?;
     let spans = volume_hobs(alloc, &list)?;
-    Ok(spans.as_slice() == expected)
+    Ok(are_described(spans.as_slice(), known.blocks))
 }
 
 #[test]
 fn volumes_are_named_in_their_order(rt: HostRuntime) -> Result<(), Fail> {
-    for (parts, expected) in VOLUMES {
-        let length = parts.len();
-        assert!(rt; has_volumes(rt.alloc(), parts, expected)?, "{length}");
-    }
-    Ok(())
-}
-
-// Whether a block of the list of all types describes what it should: the fourth one a volume, the
-// eleventh one that was found in a file of another, and the others none.
-fn names_its_volume(hob: &Hob, at: usize) -> bool {
-    match hob.span() {
-        Some(span) if at == 3 => span.base == 0x6f6e_6d6c_6b6a_6968,
-        Some(span) if at == 10 => span.base == 0xf7f6_f5f4_f3f2_f1f0,
-        Some(_) => false,
-        None => at != 3 && at != 10,
-    }
-}
-
-#[test]
-fn other_blocks_name_no_volume(rt: HostRuntime) -> Result<(), Fail> {
-    let bytes = joined(rt.alloc(), TYPES, &[])?;
-    let (list, _) = read_hobs(rt.alloc(), bytes.as_slice())?;
-    let mut at = 0usize;
-    for hob in list.as_slice() {
-        assert!(rt; names_its_volume(hob, at), "{at}");
-        at = at.wrapping_add(1);
+    for known in LISTS {
+        let length = known.length;
+        assert!(rt; has_volumes(rt.alloc(), known)?, "{length}");
     }
     Ok(())
 }

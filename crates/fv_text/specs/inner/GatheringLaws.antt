@@ -3,6 +3,7 @@
 use Rattle.std.proofs.Common.{ℕ, List, [], ◌++◌, sym, ◌∙◌, ap, append_assoc, append-nil}
 use Rattle.fv_base.specs.Sinks.{WalkLaws}
 use Rattle.fv_text.specs.GatheringSinks.{Gathered, GatheringTakes}
+use Rattle.fv_text.specs.inner.WaitingLaws.{waiting_by}
 
 pub gathered_none : {S : Type 0} (takes : S → List ℕ → S → Type 0) → WalkLaws takes → (s : S) (p : List ℕ)
     → Gathered takes s p [] s p
@@ -19,8 +20,5 @@ gathered_joined takes laws s t u p q r a b x y = record {
 
 pub gathered_by : {S H : Type 0} (takes : S → List ℕ → S → Type 0) (below : H → S) (waiting : H → List ℕ) → WalkLaws takes
     → WalkLaws (GatheringTakes takes below waiting)
-gathered_by takes below waiting laws = record {
-  none = λ s. gathered_none takes laws (below s) (waiting s);
-  joined = λ s t u a b p q.
-      gathered_joined takes laws (below s) (below t) (below u) (waiting s) (waiting t) (waiting u) a b p q;
-}
+gathered_by takes below waiting laws =
+    waiting_by (Gathered takes) below waiting (gathered_none takes laws) (gathered_joined takes laws)

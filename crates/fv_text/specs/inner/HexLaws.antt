@@ -7,6 +7,7 @@ use Rattle.std.proofs.lemmas.List.Folds.{concat-append}
 use Rattle.fv_base.specs.Sinks.{WalkLaws}
 use Rattle.fv_text.specs.HexSinks.{HexTakes, Lined}
 use Rattle.fv_text.specs.HexText.{IsWholeLine, line_text, lines_text}
+use Rattle.fv_text.specs.inner.WaitingLaws.{waiting_by}
 
 whole_more : (xs ys : List (List ℕ)) → AllByRecursion IsWholeLine xs → AllByRecursion IsWholeLine ys
     → AllByRecursion IsWholeLine (xs ++ ys)
@@ -31,8 +32,5 @@ lined_joined takes laws s t u p q r a b x y = record {
 
 pub hex_by : {S H : Type 0} (takes : S → List ℕ → S → Type 0) (below : H → S) (waiting : H → List ℕ) → WalkLaws takes
     → WalkLaws (HexTakes takes below waiting)
-hex_by takes below waiting laws = record {
-  none = λ s. lined_none takes laws (below s) (waiting s);
-  joined = λ s t u a b p q.
-      lined_joined takes laws (below s) (below t) (below u) (waiting s) (waiting t) (waiting u) a b p q;
-}
+hex_by takes below waiting laws =
+    waiting_by (Lined takes) below waiting (lined_none takes laws) (lined_joined takes laws)

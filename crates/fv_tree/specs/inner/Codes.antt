@@ -100,11 +100,8 @@ mutual
 
   pub files_inj : (x y : FileMeanings) → files_to x ≡ files_to y → x ≡ y
   files_inj NoFiles NoFiles e = refl
-  files_inj NoFiles (MoreFiles f fs) e = cc
-  files_inj (MoreFiles f fs) NoFiles e = cc
-  files_inj (MoreFiles f fs) (MoreFiles g gs) e =
-      let a : f ≡ g = file_inj f g cc in
-      let b : fs ≡ gs = files_inj fs gs cc in cc
+  files_inj (MoreFiles f fs) (MoreFiles g gs) e = cc (file_inj f g cc, files_inj fs gs cc)
+  files_inj _ _ e = cc
 
   pub file_inj : (x y : FileMeaning) → file_to x ≡ file_to y → x ≡ y
   file_inj (File n k a c) (File n' k' a' c') e =
@@ -113,9 +110,8 @@ mutual
 
   pub content_inj : (x y : ContentMeaning) → content_to x ≡ content_to y → x ≡ y
   content_inj (Plain b) (Plain c) e = let p : b ≡ c = bytes_code.inj b c cc in cc
-  content_inj (Plain b) (Sectioned ss t) e = cc
-  content_inj (Sectioned ss t) (Plain b) e = cc
   content_inj (Sectioned ss t) (Sectioned ss' t') e = let p : ss ≡ ss' = sections_inj ss ss' cc in cc
+  content_inj _ _ e = cc
 
   pub section_inj : (x y : SectionMeaning) → section_to x ≡ section_to y → x ≡ y
   section_inj (Section k e b) (Section k' e' b') h =
@@ -124,22 +120,14 @@ mutual
 
   pub body_inj : (x y : BodyMeaning) → body_to x ≡ body_to y → x ≡ y
   body_inj (Leaf b) (Leaf c) e = let p : b ≡ c = bytes_code.inj b c cc in cc
-  body_inj (Leaf b) (Group ss t) e = cc
-  body_inj (Leaf b) (Nested v) e = cc
-  body_inj (Group ss t) (Leaf b) e = cc
   body_inj (Group ss t) (Group ss' t') e = let p : ss ≡ ss' = sections_inj ss ss' cc in cc
-  body_inj (Group ss t) (Nested v) e = cc
-  body_inj (Nested v) (Leaf b) e = cc
-  body_inj (Nested v) (Group ss t) e = cc
   body_inj (Nested v) (Nested w) e = let p : v ≡ w = volume_inj v w cc in cc
+  body_inj _ _ e = cc
 
   pub sections_inj : (x y : SectionMeanings) → sections_to x ≡ sections_to y → x ≡ y
   sections_inj NoSections NoSections e = refl
-  sections_inj NoSections (MoreSections s ss) e = cc
-  sections_inj (MoreSections s ss) NoSections e = cc
-  sections_inj (MoreSections s ss) (MoreSections t ts) e =
-      let p : s ≡ t = section_inj s t cc in
-      let q : ss ≡ ts = sections_inj ss ts cc in cc
+  sections_inj (MoreSections s ss) (MoreSections t ts) e = cc (section_inj s t cc, sections_inj ss ts cc)
+  sections_inj _ _ e = cc
 
 abbrev pub volume_code : Coded Meaning
 volume_code = record { code = volume_to; inj = volume_inj }

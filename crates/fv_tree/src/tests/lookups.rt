@@ -1,6 +1,6 @@
 //! Look-ups of files and sections, and the scan for volumes.
 
-use super::{row_of, spell};
+use super::{row_of, spell_volume};
 use crate::{
     FileView, Item, Lookup, VolumeView, file_by_name, file_by_type, next_file, read_volume, scan,
     section_by_type,
@@ -11,56 +11,33 @@ use std::alloc::Global;
 // Sections.
 fn sections() -> &'static str {
     "\
-    eight groups: 03 1 section 28 None; 03 8 section 0 None; 03 9 absent: \
-        00*16 78e58c8c3d8a1c4f9935896185c32dd3 88 00*7 5f465648 fffe0400 4800bef5 00000002 01000000 88000000 00*8 \
-        0a*16 26aa0200380000f8 200000031c0000031800000314000003100000030c0000030800000304000003 ff*8\n\
-    a section in a group, and one behind it: \
-        03 1 section 5 None; 19 0 absent; 19 1 section 1 Some([1]); 19 2 section 1 Some([2]); 19 3 absent: \
-        00*16 78e58c8c3d8a1c4f9935896185c32dd3 80 00*7 5f465648 fffe0400 4800cef5 00000002 01000000 80000000 00*8 \
-        0a*16 30aa0700290000f8 09000003 0500001901 000000 0500001902 ff*15\n\
-    a section in a volume, and one behind it: 17 1 section 128 None; 19 1 section 1 Some([165]); 19 2 absent: \
-        00*16 78e58c8c3d8a1c4f9935896185c32dd3 0001 00*6 5f465648 fffe0400 4800cef4 00000002 01000000 00010000 00*8 \
-        0a*16 b4aa0b00a10000f8 84000017 00*16 78e58c8c3d8a1c4f9935896185c32dd3 80 00*7 5f465648 fffe0400 4800cef5 \
-        00000002 01000000 80000000 00*8 0b*16 31aa02001d0000f8 050000195a ff*27 05000019a5 ff*23\n\
-    a security core of two frames: 19 0 absent; 19 1 frame 0 []; 19 2 frame 4 [88]; 19 3 absent; 15 1 absent: \
-        00*16 78e58c8c3d8a1c4f9935896185c32dd3 80 00*7 5f465648 fffe0400 4800cef5 00000002 01000000 80000000 00*8 \
+    eight groups: 03 1 section 28 None; 03 8 section 0 None; 03 9 absent: <88> 0a*16 26aa0200380000f8 \
+        200000031c0000031800000314000003100000030c0000030800000304000003 ff*8\n\
+    a section in a group, and one behind it: 03 1 section 5 None; 19 0 absent; 19 1 section 1 Some([1]); 19 2 \
+        section 1 Some([2]); 19 3 absent: <80> 0a*16 30aa0700290000f8 09000003 0500001901 000000 0500001902 ff*15\n\
+    a section in a volume, and one behind it: 17 1 section 128 None; 19 1 section 1 Some([165]); 19 2 absent: <100> \
+        0a*16 b4aa0b00a10000f8 84000017 <80> 0b*16 31aa02001d0000f8 050000195a ff*27 05000019a5 ff*23\n\
+    a security core of two frames: 19 0 absent; 19 1 frame 0 []; 19 2 frame 4 [88]; 19 3 absent; 15 1 absent: <80> \
         0a*16 3caa0300210000f8 040000190500001958 ff*23\n\
-    a security core with a byte behind its frame: 19 1 not sectioned; 19 0 not sectioned: \
-        00*16 78e58c8c3d8a1c4f9935896185c32dd3 80 00*7 5f465648 fffe0400 4800cef5 00000002 01000000 80000000 00*8 \
-        0a*16 40aa03001d0000f8 0400001958 ff*27\n\
-    a raw file, whose bytes would be a section: 19 1 not sectioned: \
-        00*16 78e58c8c3d8a1c4f9935896185c32dd3 80 00*7 5f465648 fffe0400 4800cef5 00000002 01000000 80000000 00*8 \
-        0a*16 42aa01001d0000f8 050000195a ff*27\n\
+    a security core with a byte behind its frame: 19 1 not sectioned; 19 0 not sectioned: <80> 0a*16 \
+        40aa03001d0000f8 0400001958 ff*27\n\
+    a raw file, whose bytes would be a section: 19 1 not sectioned: <80> 0a*16 42aa01001d0000f8 050000195a ff*27\n\
     "
 }
 
 // Bytes, and the offsets at which the volumes in them begin.
 fn scanned() -> &'static str {
     "\
-    a volume behind 64 bytes: [64]: \
-        ff*64 00*16 78e58c8c3d8a1c4f9935896185c32dd3 80 00*7 5f465648 fffe0400 4800cef5 00000002 01000000 80000000 \
-        00*8 ff*56\n\
+    a volume behind 64 bytes: [64]: ff*64 <80> ff*56\n\
     no bytes: []: \n\
-    signatures alone: []: \
-        5f465648*50\n\
-    two volumes with bytes between and behind: [0, 144]: \
-        00*16 78e58c8c3d8a1c4f9935896185c32dd3 80 00*7 5f465648 fffe0400 4800cef5 00000002 01000000 80000000 00*8 \
-        ff*56 5a*16 00*16 78e58c8c3d8a1c4f9935896185c32dd3 80 00*7 5f465648 fffe0400 4800cef5 00000002 01000000 \
-        80000000 00*8 ff*56 5a*9\n\
-    two volumes with none between: [0, 128]: \
-        00*16 78e58c8c3d8a1c4f9935896185c32dd3 80 00*7 5f465648 fffe0400 4800cef5 00000002 01000000 80000000 00*8 \
-        ff*56 00*16 78e58c8c3d8a1c4f9935896185c32dd3 80 00*7 5f465648 fffe0400 4800cef5 00000002 01000000 80000000 \
-        00*8 ff*56\n\
-    a volume with one in it, at 104: [0]: \
-        00*16 78e58c8c3d8a1c4f9935896185c32dd3 e0 00*7 5f465648 fffe0400 48000ef5 00000002 01000000 e0000000 00*8 \
-        0a*16 bdaa0b00980000f8 ffffff1780000000 00*16 7ac07354cb3dca4dbd6f1e9689e7349a 78 00*7 5f465648 fffe0400 \
-        4800f546 00000002 01000000 78000000 00*8 0a*16 47aa0100180000f8 0b*16 37aa0100180000f8\n\
-    a volume behind 68 bytes: []: \
-        ff*68 00*16 78e58c8c3d8a1c4f9935896185c32dd3 80 00*7 5f465648 fffe0400 4800cef5 00000002 01000000 80000000 \
-        00*8 ff*60\n\
-    a volume without its last byte: []: \
-        00*16 78e58c8c3d8a1c4f9935896185c32dd3 80 00*7 5f465648 fffe0400 4800cef5 00000002 01000000 80000000 00*8 \
-        ff*55\n\
+    signatures alone: []: 5f465648*50\n\
+    two volumes with bytes between and behind: [0, 144]: <80> ff*56 5a*16 <80> ff*56 5a*9\n\
+    two volumes with none between: [0, 128]: <80> ff*56 <80> ff*56\n\
+    a volume with one in it, at 104: [0]: <e0> 0a*16 bdaa0b00980000f8 ffffff1780000000 00*16 \
+        7ac07354cb3dca4dbd6f1e9689e7349a 78 00*7 5f465648 fffe0400 4800f546 00000002 01000000 78000000 00*8 0a*16 \
+        47aa0100180000f8 0b*16 37aa0100180000f8\n\
+    a volume behind 68 bytes: []: ff*68 <80> ff*60\n\
+    a volume without its last byte: []: <80> ff*55\n\
     "
 }
 
@@ -103,7 +80,7 @@ fn has_sections(alloc: Global, file: &FileView, wanted: &str) -> Option<bool> {
 // Whether the first file of the volume of a line has its sections.
 fn is_sectioned(alloc: Global, line: &str) -> Option<bool> {
     let (wanted, text) = row_of(line)?;
-    let bytes = spell(alloc, text)?;
+    let bytes = spell_volume(alloc, text)?;
     let (view, _) = read_volume(alloc, &bytes).ok()?;
     has_sections(alloc, view.file(0)?, wanted)
 }
@@ -167,12 +144,12 @@ fn has_files(view: &VolumeView) -> bool {
 /// A deleted file of name C, a marked one of name A, one of name B, and the one that replaces the
 /// marked one.
 const STATES: &str =
-    "00*16 78e58c8c3d8a1c4f9935896185c32dd3 0001 00*6 5f465648 fffe0400 4800cef4 00000002 01000000 00010000 00*8 0c*16 \
-     1faa0100200000e8 00*8 0a*16 3faa0100200000f0 01*8 0b*16 37aa0100180000f8 0a*16 3faa0100200000f8 02*8 ff*64";
+    "<100> 0c*16 1faa0100200000e8 00*8 0a*16 3faa0100200000f0 01*8 0b*16 37aa0100180000f8 0a*16 3faa0100200000f8 02*8 \
+     ff*64";
 
 // Whether the files of that volume are looked up.
 fn is_looked_up(alloc: Global) -> Option<bool> {
-    let bytes = spell(alloc, STATES)?;
+    let bytes = spell_volume(alloc, STATES)?;
     let (view, _) = read_volume(alloc, &bytes).ok()?;
     Some(has_files(&view) && has_names(&view))
 }
@@ -185,7 +162,7 @@ fn files_are_looked_up(rt: HostRuntime) {
 // Whether the volumes in the bytes of a line begin where it says.
 fn is_scanned(alloc: Global, line: &str) -> Option<bool> {
     let (wanted, text) = row_of(line)?;
-    let bytes = spell(alloc, text)?;
+    let bytes = spell_volume(alloc, text)?;
     let offsets = scan(alloc, &bytes).ok()?;
     let found = offsets.as_slice();
     Some(format!(in alloc; "{found:?}").ok()?.as_str() == wanted)

@@ -1,16 +1,13 @@
 //! Volumes with many files.
 
-use super::spell;
+use super::spell_volume;
 use crate::{VolumeView, file_by_name, read_volume};
 use fv_base::Guid;
 use std::alloc::Global;
 
 /// The header of a volume, and how many files follow it.
 const HEADS: [(&str, u32); 2] = [
-    (
-        "00*16 78e58c8c3d8a1c4f9935896185c32dd3 085e 00*6 5f465648 fffe0400 4800be3a 00000002 01000000 085e0000 00*8",
-        1000,
-    ),
+    ("<5e08>", 1000),
     (
         "00*16 78e58c8c3d8a1c4f9935896185c32dd3 483e49 00*5 5f465648 fffe0400 4800ac79 00000002 01000000 483e4900 00*8",
         200_000,
@@ -47,7 +44,7 @@ fn file_of(name: [u8; 16]) -> [u8; 24] {
 
 // A volume with `count` files and this header.
 fn volume_of(alloc: Global, head: &str, count: u32) -> Option<Vec<u8>> {
-    let mut volume = spell(alloc, head)?;
+    let mut volume = spell_volume(alloc, head)?;
     for number in 0..count {
         volume.extend_from_slice(&file_of(name_of(number))).ok()?;
     }

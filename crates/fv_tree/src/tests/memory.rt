@@ -2,7 +2,7 @@
 //! result may be returned.
 
 use super::vectors::{accepted, refused};
-use super::{row_of, spell, told};
+use super::{row_of, spell_volume, told};
 use crate::{
     FileView, Item, Lookup, Step, VolumeView, Word, file_by_name, file_by_type, first_difference,
     next_file, read_volume, scan, section_by_type,
@@ -12,8 +12,8 @@ use std::alloc::Global;
 
 // The bytes that a text spells. If memory runs out for them, it is there the second time.
 fn spelled(alloc: Global, text: &str) -> Option<Vec<u8>> {
-    match spell(alloc, text) {
-        None => spell(alloc, text),
+    match spell_volume(alloc, text) {
+        None => spell_volume(alloc, text),
         bytes => bytes,
     }
 }
@@ -31,10 +31,8 @@ fn is_answered(alloc: Global, line: &str) -> Option<bool> {
 
 /// Two volumes, which differ in the last section of the second file: it is in a group in a group.
 const PAIR: &str =
-    "00*16 78e58c8c3d8a1c4f9935896185c32dd3 a0 00*7 5f465648 fffe0400 4800 8ef5 00000002 01000000 a0000000 00*8 0a*16 \
-     47aa0100180000f8 0b*16 21aa02002d0000f8050000195a0000000d00000309000003050000195a ff*19 00*16 \
-     78e58c8c3d8a1c4f9935896185c32dd3 a0 00*7 5f465648 fffe0400 4800 8ef5 00000002 01000000 a0000000 00*8 0a*16 \
-     47aa0100180000f8 0b*16 21aa02002d0000f8050000195a0000000d00000309000003050000195b ff*19";
+    "<a0> 0a*16 47aa0100180000f8 0b*16 21aa02002d0000f8050000195a0000000d00000309000003050000195a ff*19 \
+     <a0> 0a*16 47aa0100180000f8 0b*16 21aa02002d0000f8050000195a0000000d00000309000003050000195b ff*19";
 
 // What a call returns if memory ran out.
 fn want() -> Fault {

@@ -1,19 +1,15 @@
 //! Views: the slices that they lend, and how much memory they take.
 
-use super::spell;
+use super::spell_volume;
 use crate::{Content, FileView, SectionView, read_volume};
 use std::alloc::Global;
 use std::mem::size_of;
 
 /// A file whose data are the byte 0x5a.
-const BYTE: &str =
-    "00*16 78e58c8c3d8a1c4f9935896185c32dd3 80 00*7 5f465648 fffe0400 4800cef5 00000002 01000000 80000000 00*8 0a*16 \
-     46aa0100190000f8 5a ff*31";
+const BYTE: &str = "<80> 0a*16 46aa0100190000f8 5a ff*31";
 
 /// A file with one section, whose body is the byte 0x5a.
-const SECTION: &str =
-    "00*16 78e58c8c3d8a1c4f9935896185c32dd3 68 00*7 5f465648 fffe0400 4800fef5 00000002 01000000 68000000 00*8 0a*16 \
-     41aa02001d0000f8 050000195affffff";
+const SECTION: &str = "<68> 0a*16 41aa02001d0000f8 050000195affffff";
 
 // The data of a file, or the body of its first section.
 fn part_of<'a>(file: &FileView<'a>) -> Option<&'a [u8]> {
@@ -33,7 +29,7 @@ fn first_part(alloc: Global, volume: &[u8]) -> Option<&[u8]> {
 
 // Whether the part is one byte of the input, which is dropped after it.
 fn is_byte(alloc: Global, text: &str, byte: u8) -> Option<bool> {
-    let input = spell(alloc, text)?;
+    let input = spell_volume(alloc, text)?;
     let part = first_part(alloc, &input)?;
     let is_same = part == [byte].as_slice();
     drop(input);

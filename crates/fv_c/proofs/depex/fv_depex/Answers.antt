@@ -7,6 +7,6 @@ pub returns-in-Err-clause-err : goal.returns-in-Err-clause-err
 returns-in-Err-clause-err c = λ _. (
   c.in-Err.f,
   λ other. subst (λ (phase : Phase). NoExpression phase c.args.bytes.now c.in-Err.f) c.phase_of.ensures (c.in-Err.ensures.err other),
-  c.from.ensures ∙ c.number.ensures,
-  c.reported_depex_fault.ensures,
+  c.refused_at.ensures.number ∙ c.number.ensures,
+  rw (← c.number.ensures) c.refused_at.ensures.fault,
 )

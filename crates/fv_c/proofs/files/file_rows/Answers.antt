@@ -1,10 +1,9 @@
-use Rattle.std.proofs.Common.{◌∙◌, List, ap, map, subst, sym}
-use Rattle.std.specs.List.{AllByRecursion}
+use Rattle.std.proofs.Common.{◌∙◌, List, ap, map}
 use Rattle.std.proofs.lemmas.Result.{err_from_is_err_and}
-use Rattle.fv_tree.specs.LocatedFiles.{file_form, HasDataIn}
+use Rattle.fv_tree.specs.LocatedFiles.{file_form}
 use Rattle.fv_tree.specs.declared.volume_files.LocatedFile.{LocatedFile}
 use Rattle.fv_c.specs.ReportedFiles.{reported_files}
-use Rattle.fv_c.proofs.FileRowLaws.{have_rows, only_memory, places_small, volume_short}
+use Rattle.fv_c.proofs.FileRowLaws.{have_rows, only_memory}
 use Rattle.fv_c.proofs.PartLaws.{files_are}
 use Rattle.fv_c.proofs.files.file_rows.Goals as goal
 
@@ -12,12 +11,6 @@ pub returns-in_err-stored-clause-err : goal.returns-in_err-stored-clause-err
 returns-in_err-stored-clause-err c =
     let p = err_from_is_err_and c.from_residual.result c.from_residual.ensures.1 in
     rw (p.1, p.2) (only_memory c.args.input.now c.args.volume.now c.in_err-stored.field-0.0 c.requires c.in_err-stored.ensures.none)
-
-pub reported_files-requires : goal.reported_files-requires
-reported_files-requires c =
-    places_small c.args.input.now (map file_form c.as_slice.result.now) (volume_short c.args.input.now c.args.volume.now c.requires)
-    (subst (λ (l : List LocatedFile). AllByRecursion (HasDataIn c.args.input.now) (map file_form l)) (sym c.as_slice.ensures.value)
-    c.in_ok-stored.ensures.data)
 
 pub returns-clause-ok : goal.returns-clause-ok
 returns-clause-ok c =

@@ -1,10 +1,7 @@
 use Rattle.std.proofs.Common.{arith}
-use Rattle.fv_c.proofs.FileRowLaws.{place_at, rows_done, rows_over}
+use Rattle.fv_c.proofs.FileRowLaws.{rows_done, rows_over}
 use Rattle.fv_c.proofs.files.reported_files.Goals.{else-loop-i-test, then-loop-i-test+then-i-stored}
 use Rattle.fv_c.proofs.files.reported_files.Goals as goal
-
-pub reported_file-requires : goal.reported_file-requires
-reported_file-requires c = place_at c.args.stored.now c.loop-i.i _ (omega (arith, c.if-i-stored.false)) c.requires
 
 pub returns : goal.returns
 returns c = elim c.loop-i-test.branch [

@@ -1,4 +1,4 @@
-use Rattle.std.proofs.Common.{◌∙◌, None, Some, refl, sym}
+use Rattle.std.proofs.Common.{None, Some, refl, sym}
 use Rattle.std.proofs.lemmas.Option.{slice_get_past, slice_get_read}
 use Rattle.std.specs.Prelude.{length}
 use Rattle.fv_c.proofs.PartLaws.{file_at}

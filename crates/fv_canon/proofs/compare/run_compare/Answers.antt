@@ -27,18 +27,6 @@ returns-in_err-view-clause-err g c =
     fault_passed _ _ _ c.from_residual-in_err-view.ensures.1 (first_refused _ _ _ _ _ _ _ c.in_err-view.ensures.err.0 c.in_ok-input.ensures.ok
     (rw c.deref.ensures.value at c.in_err-view.ensures.err.1))
 
-pub returns-in_err-view-clause-first_erred : goal.returns-in_err-view-clause-first_erred
-returns-in_err-view-clause-first_erred g c =
-    λ off. fault_passed _ _ _ c.from_residual-in_err-view.ensures.1 (λ side kind. absurd (c.in_err-view.ensures.kind.0 kind))
-
-pub returns-in_err-view-clause-second_erred : goal.returns-in_err-view-clause-second_erred
-returns-in_err-view-clause-second_erred g c =
-    λ off. fault_passed _ _ _ c.from_residual-in_err-view.ensures.1 (λ side kind. absurd (c.in_err-view.ensures.kind.0 kind))
-
-pub returns-in_err-view-clause-writer_erred : goal.returns-in_err-view-clause-writer_erred
-returns-in_err-view-clause-writer_erred g c =
-    fault_passed _ _ _ c.from_residual-in_err-view.ensures.1 (λ kind. absurd (c.in_err-view.ensures.kind.1 kind))
-
 pub returns-in_err-other_input-clause-err : goal.returns-in_err-other_input-clause-err
 returns-in_err-other_input-clause-err g c =
     fault_passed _ _ _ c.from_residual-in_err-other_input.ensures.1 (second_unread _ _ _ _ _ _ _ _ _ c.in_err-other_input.ensures.err.0 c.in_ok-input.ensures.ok

@@ -3,17 +3,18 @@ use Rattle.std.proofs.lemmas.Grind.{common_steps}
 use Rattle.fv_file.specs.Attributes.{is_summed}
 use Rattle.fv_head.specs.Attributes.{polarity_of}
 use Rattle.fv_head.specs.Head.{HeadFields}
-use Rattle.fv_tree.specs.Meaning.{Meaning, SectionMeaning, BodyMeaning, body_of, FileMeaning, files_from, attributes_of}
+use Rattle.fv_tree.specs.Meaning.{Meaning, SectionMeaning, BodyMeaning, body_of, FileMeaning, files_from, attributes_of, content_of}
 use Rattle.fv_tree.specs.Views.{body_view}
 use Rattle.fv_tree.specs.inner.Sizes.{volume_size, body_size, files_size}
 use Rattle.fv_tree.proofs.Laws.{file_falls, section_body_falls}
 use Rattle.fv_canon.specs.StoredFiles.{size_for}
 use Rattle.fv_canon.specs.Volumes.{volumes_in_body}
-use Rattle.fv_canon.specs.inner.ImageOf.{image_of}
+use Rattle.fv_canon.specs.inner.ImageOf.{image_of, data_of}
 use Rattle.fv_canon.specs.inner.ImageWalks.{BeginsWithStarts}
 use Rattle.fv_canon.specs.inner.SummingSinks.{ImageTakes, image_by}
-use Rattle.fv_canon.proofs.FileLaws.{file_long, stored_is, size_is, at_file, file_laid, files_left, files_end, walk_goes, placed_on}
-use Rattle.fv_canon.proofs.SectionLaws.{section_known, item_laid, in_body, body_laid, left_is, goes_on, front_more, front_end}
+use Rattle.fv_canon.proofs.DataBodyLaws.{data_image}
+use Rattle.fv_canon.proofs.FileLaws.{file_long, stored_is, size_is, at_file, file_passed, files_end, walk_goes, placed_on}
+use Rattle.fv_canon.proofs.SectionLaws.{section_known, section_passed, in_body, body_laid, goes_on, front_more, front_end}
 use Rattle.fv_canon.proofs.SumWalks.{state_adds}
 use Rattle.fv_canon.proofs.VolumeWalks.{volume_is, volume_seen, volume_text, volume_rest}
 use Rattle.fv_canon.proofs.image_walk.+put.Goals as goal
@@ -32,12 +33,12 @@ put_body-put_volume-requires g t c κs within =
 
 pub put_sections-put_section_head-requires : goal.put_sections-put_section_head-requires
 put_sections-put_section_head-requires g t c =
-    let l = item_laid _ _ _ _ c.loop-section-test.true c.section-item.is c.loop-section.invariant.laid in
-    (section_known c.section-item.result c.loop-section.rest.now c.known.ensures l.0).fits
+    let at = section_passed _ _ _ _ _ c.loop-section-test.true c.section-item.is c.loop-section.invariant.walk in
+    (section_known c.section-item.result c.loop-section.rest.now c.known.ensures at.0).fits
 
 pub put_sections-put_body-rest-requires : goal.put_sections-put_body-rest-requires
 put_sections-put_body-rest-requires g t c κs within =
-    let l = item_laid _ _ _ _ c.loop-section-test.true c.section-item.is c.loop-section.invariant.laid in
+    let at = section_passed _ _ _ _ _ c.loop-section-test.true c.section-item.is c.loop-section.invariant.walk in
     let less =
     section_body_falls c.args.sections.now c.loop-section.section-index c.section-item.result c.loop-section-test.true c.section-item.is in
     let same : body_size (body_view c.body.result) ≡ body_size (body_of c.section-item.result) = ap body_size c.body.ensures in (
@@ -45,14 +46,14 @@ put_sections-put_body-rest-requires g t c κs within =
       (
         within,
         subst (λ (b : BodyMeaning). BeginsWithStarts (volumes_in_body b) c.loop-section.rest.now) (sym c.body.ensures)
-            (body_laid c.section-item.result c.loop-section.rest.now l.0),
+            (body_laid c.section-item.result c.loop-section.rest.now at.0),
       ),
     )
 
 pub put_sections-filler_of-gap-requires : goal.put_sections-filler_of-gap-requires
 put_sections-filler_of-gap-requires g t c =
-    let l = item_laid _ _ _ _ c.loop-section-test.true c.section-item.is c.loop-section.invariant.laid in
-    (section_known c.section-item.result c.loop-section.rest.now c.known.ensures l.0).small
+    let at = section_passed _ _ _ _ _ c.loop-section-test.true c.section-item.is c.loop-section.invariant.walk in
+    (section_known c.section-item.result c.loop-section.rest.now c.known.ensures at.0).small
 
 pub put_sections-loop-section-preserved : goal.put_sections-loop-section-preserved
 put_sections-loop-section-preserved g t c =
@@ -60,13 +61,12 @@ put_sections-loop-section-preserved g t c =
     let ss : List SectionMeaning = c.args.sections.now in
     let s : SectionMeaning = c.section-item.result in
     let rest : List ℕ = c.loop-section.rest.now in
-    let l = item_laid ss i s rest c.loop-section-test.true c.section-item.is c.loop-section.invariant.laid in
-    let k = section_known s rest c.known.ensures l.0 in
+    let at = section_passed ss i s rest _ c.loop-section-test.true c.section-item.is c.loop-section.invariant.walk in
+    let k = section_known s rest c.known.ensures at.0 in
     let body = c.put_body-rest.ensures.bytes in
     rw (c.put_body-rest.ensures.rest, c.body.ensures, ← in_body s, c.filler_of-gap.ensures) (record {
       small = omega arith;
-      laid = l.1;
-      left = sym (left_is ss i s rest c.loop-section-test.true c.section-item.is) ∙ c.loop-section.invariant.left;
+      walk = at.1;
       done = front_more (ImageTakes g.S.Sink.takes) (image_by g.S.Sink.laws) c.args.out.now c.loop-section.out c.fill.new.out
           c.put_section_head.new.out c.put_body-rest.new.out _ _ _ _ _ _ c.loop-section.invariant.done
           (goes_on ss i s rest c.loop-section.gap c.loop-section-test.true c.section-item.is k) c.fill.ensures
@@ -99,11 +99,11 @@ put_file-returns-clause-bytes g t c =
     let long = file_long c.args.file.now c.args.starts.now c.known.ensures c.requires.laid in
     let laws = image_by g.S.Sink.laws in
     let head = c.put_file_head.ensures in
-    let payload = c.put_content.ensures.bytes in
+    let payload = c.put_body.ensures.bytes in
     rw (stored_is c.args.polarity c.args.file.now c.args.starts.now long)
-    (laws.joined c.args.out.now c.put_file_head.new.out c.put_content.new.out _ _
+    (laws.joined c.args.out.now c.put_file_head.new.out c.put_body.new.out _ (data_of (content_of c.args.file.now) c.args.starts.now)
     (laws.joined c.args.out.now c.file_sum-sum.new.out c.put_file_head.new.out _ _ c.file_sum-sum.ensures.none
-    (rw c.file_sum-sum.ensures.value at head)) (rw c.content-2.ensures at payload))
+    (rw c.file_sum-sum.ensures.value at head)) (rw (c.data_body-2.ensures, data_image c.args.file.now c.args.starts.now) at payload))
 
 pub put_files-overflow_sub-start : goal.put_files-overflow_sub-start
 put_files-overflow_sub-start g t c = (at_file _ _ _ _ _ _ c.loop-i-test.true c.index-files-i.is c.loop-i.invariant.placed).here.low
@@ -119,10 +119,9 @@ put_files-put_gap-requires-clause-multiple g t c =
 pub put_files-put_file-rest-requires : goal.put_files-put_file-rest-requires
 put_files-put_file-rest-requires g t c κs within =
     let at = at_file _ _ _ _ _ _ c.loop-i-test.true c.index-files-i.is c.loop-i.invariant.placed in
-    let l = file_laid c.args.files.now c.loop-i.i c.index-files-i.result c.loop-i.rest.now c.loop-i-test.true c.index-files-i.is
-    c.loop-i.invariant.laid in
+    let walk = file_passed _ _ _ _ _ c.loop-i-test.true c.index-files-i.is c.loop-i.invariant.walk in
     let less = file_falls c.args.files.now c.loop-i.i c.index-files-i.result c.loop-i-test.true c.index-files-i.is in
-    (omega (arith, c.decreases, less), (within, (l.0, at.here.most)))
+    (omega (arith, c.decreases, less), (within, (walk.0, at.here.most)))
 
 pub put_files-size_for-requires : goal.put_files-size_for-requires
 put_files-size_for-requires g t c =
@@ -149,13 +148,12 @@ put_files-loop-i-preserved g t c =
     let p = c.args.polarity in
     let total : ℕ = c.args.total in
     let at = at_file _ _ _ _ _ _ c.loop-i-test.true c.index-files-i.is c.loop-i.invariant.placed in
-    let l = file_laid fs i f rest c.loop-i-test.true c.index-files-i.is c.loop-i.invariant.laid in
-    let long = file_long f rest c.known.ensures l.0 in
+    let walk = file_passed fs i f rest _ c.loop-i-test.true c.index-files-i.is c.loop-i.invariant.walk in
+    let long = file_long f rest c.known.ensures walk.0 in
     let filled = c.fill.ensures in
     rw (c.up_to_8-edge.ensures, c.size_for.ensures, c.data_len.ensures, c.put_file-rest.ensures.rest) (record {
       placed = placed_on total c.loop-i.edge f (drop (i + 1) fs) (get_or own i 0) (drop (i + 1) own) at.placed;
-      laid = l.1;
-      left = sym (files_left fs i f rest c.loop-i-test.true c.index-files-i.is) ∙ c.loop-i.invariant.left;
+      walk = walk.1;
       done = front_more (ImageTakes g.S.Sink.takes) (image_by g.S.Sink.laws) c.args.out.now c.loop-i.out c.put_gap.new.out
           c.put_file-rest.new.out c.fill.new.out _ _ _ _ _ _ c.loop-i.invariant.done
           (walk_goes p total c.loop-i.edge fs own i f rest at (size_is f rest long)) c.put_gap.ensures c.put_file-rest.ensures.bytes

@@ -1,10 +1,10 @@
-use Rattle.std.proofs.Common.{◌≡◌, ◌+◌, ◌-◌, ◌*◌, ◌≤◌, drop}
+use Rattle.std.proofs.Common.{◌+◌, ◌-◌, ◌*◌, ◌≤◌, drop}
 use Rattle.fv_tree.specs.Meaning.{sections_from, files_from}
-use Rattle.fv_tree.specs.inner.Sizes.{volume_size, files_size, file_size, content_size, sections_size, body_size}
-use Rattle.fv_tree.specs.Views.{body_view, content_view}
+use Rattle.fv_tree.specs.inner.Sizes.{volume_size, files_size, file_size, sections_size, body_size}
+use Rattle.fv_tree.specs.Views.{body_view}
 use Rattle.fv_canon.specs.inner.ImageOf.{stored_of, starts_in}
 use Rattle.fv_canon.specs.Volumes.{volumes_in_sections, volumes_in_files}
-use Rattle.fv_canon.specs.inner.ImageWalks.{sections_bytes, BeginsWithStarts, TakesFront}
+use Rattle.fv_canon.specs.inner.ImageWalks.{sections_bytes, ComesTo, TakesFront}
 use Rattle.fv_canon.specs.inner.StoredWalks.{files_bytes}
 use Rattle.fv_canon.specs.inner.Placed.{ArePlaced}
 use Rattle.fv_canon.specs.inner.SummingSinks.{ImageTakes}
@@ -13,9 +13,8 @@ use Rattle.fv_canon.proofs.image_walk.+put.Given as goal
 abbrev pub invariant-put_sections-loop-section : goal.invariant-put_sections-loop-section
 invariant-put_sections-loop-section g l = record {
   small : l.gap ≤ 3;
-  laid : BeginsWithStarts (volumes_in_sections (sections_from (drop l.section-index l.sections))) l.rest;
-  left : drop (starts_in (volumes_in_sections (sections_from (drop l.section-index l.sections)))) l.rest
-      ≡ drop (starts_in (volumes_in_sections (sections_from l.sections))) l.starts;
+  walk : ComesTo (volumes_in_sections (sections_from (drop l.section-index l.sections))) l.rest
+      (drop (starts_in (volumes_in_sections (sections_from l.sections))) l.starts);
   done : TakesFront (ImageTakes g.S.Sink.takes) l.initial.out l.out (sections_bytes 0 (sections_from l.sections) l.starts)
       (sections_bytes l.gap (sections_from (drop l.section-index l.sections)) l.rest);
 }
@@ -29,9 +28,6 @@ decreases-put_body g l = 4 * body_size (body_view l.body) + 2
 abbrev pub decreases-put_volume : goal.decreases-put_volume
 decreases-put_volume g l = 4 * volume_size l.volume.now
 
-abbrev pub decreases-put_content : goal.decreases-put_content
-decreases-put_content g l = 4 * content_size (content_view l.content.now) + 2
-
 abbrev pub decreases-file_sum : goal.decreases-file_sum
 decreases-file_sum g l = 4 * file_size l.file.now - 1
 
@@ -44,9 +40,8 @@ decreases-put_files g l = 4 * files_size (files_from l.files.now) + 2
 abbrev pub invariant-put_files-loop-i : goal.invariant-put_files-loop-i
 invariant-put_files-loop-i g l = record {
   placed : ArePlaced l.total l.edge (drop l.i l.files) (drop l.i l.own);
-  laid : BeginsWithStarts (volumes_in_files (files_from (drop l.i l.files))) l.rest;
-  left : drop (starts_in (volumes_in_files (files_from (drop l.i l.files)))) l.rest ≡ drop (starts_in (volumes_in_files (files_from
-      l.files))) l.starts;
+  walk : ComesTo (volumes_in_files (files_from (drop l.i l.files))) l.rest
+      (drop (starts_in (volumes_in_files (files_from l.files))) l.starts);
   done :
       TakesFront (ImageTakes g.S.Sink.takes) l.initial.out l.out
       (files_bytes l.polarity l.total l.first (stored_of (files_from l.files) l.starts) l.own)

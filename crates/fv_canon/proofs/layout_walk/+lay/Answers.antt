@@ -1,29 +1,21 @@
-use Rattle.std.proofs.Common.{ap, arith, subst}
-use Rattle.fv_tree.specs.inner.Sizes.{volume_size, content_size, body_size}
-use Rattle.fv_tree.specs.Meaning.{files_from, sections_from}
-use Rattle.fv_tree.specs.Views.{body_view, content_view}
-use Rattle.fv_canon.specs.inner.Depths.{NestsVolume, NestsContent, NestsBody}
+use Rattle.std.proofs.Common.{◌+◌, ap, arith, subst}
+use Rattle.fv_tree.specs.inner.Sizes.{volume_size, body_size}
+use Rattle.fv_tree.specs.Meaning.{FileMeaning, files_from, sections_from}
+use Rattle.fv_tree.specs.Views.{body_view}
+use Rattle.fv_canon.specs.inner.Depths.{NestsVolume, NestsBody}
 use Rattle.fv_canon.specs.inner.LayoutWalks.{Shallow}
+use Rattle.fv_canon.proofs.DataBodyLaws.{data_falls}
 use Rattle.fv_canon.proofs.LayoutWalkLaws.{section_grew, shallow_at, section_unfit, file_grew, shallow_file_at, file_unfit, unfit_passed}
-use Rattle.fv_canon.proofs.LayoutWalkLaws.{shallow_files, shallow_sections, shallow_group, shallow_nested}
+use Rattle.fv_canon.proofs.LayoutWalkLaws.{shallow_files, shallow_group, shallow_nested}
 use Rattle.fv_canon.proofs.layout_walk.+lay.Goals as goal
-use Rattle.fv_tree.proofs.Laws.{file_content_falls, section_body_falls}
+use Rattle.fv_tree.proofs.Laws.{section_body_falls}
 
 pub lay_volume-lay_files-requires : goal.lay_volume-lay_files-requires
 lay_volume-lay_files-requires t c = (
   omega (arith, c.decreases, ap volume_size c.files.ensures),
-  shallow_files _ (files_from c.files.result.now) c.args.depth
-      (subst (λ m. Shallow NestsVolume m c.args.depth) c.files.ensures c.requires.shallow),
+  shallow_files _ (files_from c.files.result.now) (c.args.depth + 1)
+      (subst (λ m. Shallow NestsVolume m (c.args.depth + 1)) c.files.ensures c.requires.shallow),
 )
-
-pub lay_content-lay_sections-requires : goal.lay_content-lay_sections-requires
-lay_content-lay_sections-requires t c =
-    let is = ap content_view c.in-Stream.is in
-    rw c.as_slice.ensures.value (
-      omega (arith, c.decreases, ap content_size is),
-      shallow_sections (sections_from c.in-Stream.sections.items) c.in-Stream.tail c.args.depth
-          (subst (λ x. Shallow NestsContent x c.args.depth) is c.requires.shallow),
-    )
 
 pub lay_body-lay_sections-requires : goal.lay_body-lay_sections-requires
 lay_body-lay_sections-requires t c =
@@ -57,18 +49,19 @@ lay_sections-loop-section-preserved t c =
     let more = c.in_ok-lay_body.ensures.ok in
     section_grew _ _ _ _ _ _ c.loop-section-test.true c.section-item.is c.loop-section.invariant (rw c.body.ensures at more)
 
-pub lay_files-lay_content-requires : goal.lay_files-lay_content-requires
-lay_files-lay_content-requires t c =
-    let less = file_content_falls _ _ _ c.loop-file-test.true c.file-item.is in
-    let shallow = shallow_file_at _ _ _ _ c.loop-file-test.true c.file-item.is c.requires.shallow in
-    rw c.content.ensures (omega (arith, c.decreases, less), shallow)
+pub lay_files-lay_body-requires : goal.lay_files-lay_body-requires
+lay_files-lay_body-requires t c =
+    let m : FileMeaning = c.file-item.result in
+    let less = data_falls _ _ m c.loop-file-test.true c.file-item.is in
+    rw c.data_body.ensures
+    (omega (arith, c.decreases, less), shallow_file_at _ _ m _ c.loop-file-test.true c.file-item.is c.requires.shallow)
 
-pub lay_files-returns-in_err-lay_content-clause-err : goal.lay_files-returns-in_err-lay_content-clause-err
-lay_files-returns-in_err-lay_content-clause-err t c =
-    unfit_passed _ _ _ c.from_residual.ensures.1 c.in_err-lay_content.ensures.err
-    (λ unfit. file_unfit _ _ _ _ _ _ _ c.loop-file-test.true c.file-item.is c.loop-file.invariant (rw c.content.ensures at unfit))
+pub lay_files-returns-in_err-lay_body-clause-err : goal.lay_files-returns-in_err-lay_body-clause-err
+lay_files-returns-in_err-lay_body-clause-err t c =
+    unfit_passed _ _ _ c.from_residual.ensures.1 c.in_err-lay_body.ensures.err (λ unfit. file_unfit _ _ _ _ _ _ _ c.loop-file-test.true
+    c.file-item.is c.loop-file.invariant (rw c.data_body.ensures at unfit))
 
 pub lay_files-loop-file-preserved : goal.lay_files-loop-file-preserved
 lay_files-loop-file-preserved t c =
-    let more = c.in_ok-lay_content.ensures.ok in
-    file_grew _ _ _ _ _ _ c.loop-file-test.true c.file-item.is c.loop-file.invariant (rw c.content.ensures at more)
+    let more = c.in_ok-lay_body.ensures.ok in
+    file_grew _ _ _ _ _ _ c.loop-file-test.true c.file-item.is c.loop-file.invariant (rw c.data_body.ensures at more)

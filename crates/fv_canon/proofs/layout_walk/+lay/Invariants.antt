@@ -1,7 +1,7 @@
 use Rattle.std.proofs.Common.{◌+◌, ◌*◌, take}
 use Rattle.fv_tree.specs.Meaning.{sections_from, files_from}
-use Rattle.fv_tree.specs.inner.Sizes.{volume_size, files_size, content_size, sections_size, body_size}
-use Rattle.fv_tree.specs.Views.{body_view, content_view}
+use Rattle.fv_tree.specs.inner.Sizes.{volume_size, files_size, sections_size, body_size}
+use Rattle.fv_tree.specs.Views.{body_view}
 use Rattle.fv_canon.specs.Volumes.{volumes_in_sections, volumes_in_files}
 use Rattle.fv_canon.specs.inner.LayoutWalks.{Grew}
 use Rattle.fv_canon.proofs.layout_walk.+lay.Given as goal
@@ -19,9 +19,6 @@ decreases-lay_volume l = 2 * volume_size l.view.now
 
 abbrev pub decreases-lay_files : goal.decreases-lay_files
 decreases-lay_files l = 2 * files_size (files_from l.files.now) + 1
-
-abbrev pub decreases-lay_content : goal.decreases-lay_content
-decreases-lay_content l = 2 * content_size (content_view l.content.now) + 1
 
 abbrev pub decreases-lay_sections : goal.decreases-lay_sections
 decreases-lay_sections l = 2 * sections_size (sections_from l.sections.now)

@@ -1,8 +1,30 @@
+use Rattle.std.proofs.Common.{refl}
+use Rattle.fv_canon.proofs.DataBodyLaws.{data_held, data_image}
 use Rattle.fv_canon.proofs.ImagePieceLaws.{data_is}
+use Rattle.fv_canon.proofs.InputLaws.{fault_passed}
+use Rattle.fv_canon.proofs.LayoutWalkLaws.{shallow_data}
 use Rattle.fv_canon.proofs.part_bytes.put_file_data.Goals as goal
+
+pub layout_of_body-requires : goal.layout_of_body-requires
+layout_of_body-requires g c = record { shallow = rw c.data_body-data.ensures (shallow_data c.args.file.now c.known.ensures) }
+
+pub returns-in_err-starts-clause-err : goal.returns-in_err-starts-clause-err
+returns-in_err-starts-clause-err g c =
+    let err = c.in_err-starts.ensures.err in
+    fault_passed _ _ _ c.from_residual.ensures.1 (rw (c.data_body-data.ensures, data_held c.args.file.now) at err, refl)
+
+pub returns-in_err-starts-clause-fits : goal.returns-in_err-starts-clause-fits
+returns-in_err-starts-clause-fits g c fit =
+    let fits = c.in_err-starts.ensures.fits in
+    fault_passed _ _ _ c.from_residual.ensures.1 ((rw (c.data_body-data.ensures, data_held c.args.file.now) at fits) fit)
 
 pub returns-clause-data : goal.returns-clause-data
 returns-clause-data g c =
-    let put = c.put_data.ensures in
-    let image = data_is c.args.file.now c.in_ok-starts.starts.items c.known.ensures c.in_ok-starts.ensures.ok in
-    (_, image, rw (c.as_slice.ensures.value, c.content.ensures) at put)
+    let m = c.args.file.now in
+    let starts = c.in_ok-starts.starts.items in
+    let laid = c.in_ok-starts.ensures.ok in
+    let put = c.put_parts.ensures in (
+      _,
+      data_is m starts c.known.ensures (rw (c.data_body-data.ensures, data_held m) at laid),
+      rw (c.as_slice.ensures.value, c.data_body-data.ensures, data_image m starts) at put,
+    )

@@ -1,25 +1,21 @@
-use Rattle.std.proofs.Common.{◌≡◌, ◌+◌, ◌*◌, drop}
+use Rattle.std.proofs.Common.{◌+◌, ◌*◌, drop}
 use Rattle.fv_tree.specs.Meaning.{sections_from, files_from}
-use Rattle.fv_tree.specs.inner.Sizes.{volume_size, files_size, content_size, sections_size, body_size}
-use Rattle.fv_tree.specs.Views.{body_view, content_view}
+use Rattle.fv_tree.specs.inner.Sizes.{volume_size, sections_size, body_size}
+use Rattle.fv_tree.specs.Views.{body_view}
 use Rattle.fv_canon.specs.inner.ImageOf.{starts_in}
 use Rattle.fv_canon.specs.Volumes.{volumes_in_sections, volumes_in_files}
-use Rattle.fv_canon.specs.inner.ImageWalks.{BeginsWithStarts}
+use Rattle.fv_canon.specs.inner.ImageWalks.{ComesTo}
 use Rattle.fv_canon.proofs.start_walk.+skip.Given as goal
 
 abbrev pub invariant-skip_sections-loop-section : goal.invariant-skip_sections-loop-section
-invariant-skip_sections-loop-section l = record {
-  laid : BeginsWithStarts (volumes_in_sections (sections_from (drop l.section-index l.sections))) l.rest;
-  left : drop (starts_in (volumes_in_sections (sections_from (drop l.section-index l.sections)))) l.rest
-      ≡ drop (starts_in (volumes_in_sections (sections_from l.sections))) l.starts;
-}
+invariant-skip_sections-loop-section l =
+    ComesTo (volumes_in_sections (sections_from (drop l.section-index l.sections))) l.rest
+    (drop (starts_in (volumes_in_sections (sections_from l.sections))) l.starts)
 
-abbrev pub invariant-skip_files-loop-file : goal.invariant-skip_files-loop-file
-invariant-skip_files-loop-file l = record {
-  laid : BeginsWithStarts (volumes_in_files (files_from (drop l.file-index l.files))) l.rest;
-  left : drop (starts_in (volumes_in_files (files_from (drop l.file-index l.files)))) l.rest ≡ drop (starts_in (volumes_in_files
-      (files_from l.files))) l.starts;
-}
+abbrev pub invariant-skip_volume-loop-file : goal.invariant-skip_volume-loop-file
+invariant-skip_volume-loop-file l =
+    ComesTo (volumes_in_files (files_from (drop l.file-index l.files))) l.rest
+    (drop (starts_in (volumes_in_files (files_from l.files))) l.initial.rest)
 
 abbrev pub decreases-skip_sections : goal.decreases-skip_sections
 decreases-skip_sections l = 2 * sections_size (sections_from l.sections.now)
@@ -29,9 +25,3 @@ decreases-skip_body l = 2 * body_size (body_view l.body) + 1
 
 abbrev pub decreases-skip_volume : goal.decreases-skip_volume
 decreases-skip_volume l = 2 * volume_size l.volume.now
-
-abbrev pub decreases-skip_content : goal.decreases-skip_content
-decreases-skip_content l = 2 * content_size (content_view l.content.now) + 1
-
-abbrev pub decreases-skip_files : goal.decreases-skip_files
-decreases-skip_files l = 2 * files_size (files_from l.files.now) + 1

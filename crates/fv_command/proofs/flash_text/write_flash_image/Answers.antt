@@ -9,12 +9,12 @@ returns-in_err-laid-clause-err g c =
 
 pub returns-clause-ok : goal.returns-clause-ok
 returns-clause-ok g c =
-    on_ok_weaker c.write_laid.result
+    on_ok_weaker c.write_shown_image.result
     (λ p. (p.0, p.1, rw c.in_ok-laid.ensures.ok at p.2, p.3, p.4))
-    c.write_laid.ensures.ok
+    c.write_shown_image.ensures.ok
 
 pub returns-clause-err : goal.returns-clause-err
 returns-clause-err g c =
-    IfErr-weaker c.write_laid.result _ _
+    IfErr-weaker c.write_shown_image.result _ _
     (λ f p. inr (p.0, p.1, rw c.in_ok-laid.ensures.ok at p.2, p.3, p.4))
-    c.write_laid.ensures.err
+    c.write_shown_image.ensures.err

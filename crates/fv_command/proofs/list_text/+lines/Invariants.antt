@@ -9,11 +9,11 @@ use Rattle.fv_command.proofs.list_text.+lines.Given as goal
 
 abbrev pub invariant-put_sections-loop-number : goal.invariant-put_sections-loop-number
 invariant-put_sections-loop-number g l =
-    Tells g.S.Sink.takes (sections_lines l.sums (levels l.indent)) l.sections l.number l.initial.out l.out
+    Tells g.S.Sink.takes (sections_lines l.style.sums (levels l.style.indent)) l.sections l.number l.initial.out l.out
 
 abbrev pub invariant-put_files-loop-number : goal.invariant-put_files-loop-number
 invariant-put_files-loop-number g l =
-    Tells g.S.Sink.takes (files_lines l.sums (levels l.indent)) l.files l.number l.initial.out l.out
+    Tells g.S.Sink.takes (files_lines l.style.sums (levels l.style.indent)) l.files l.number l.initial.out l.out
 
 abbrev pub decreases-put_sections : goal.decreases-put_sections
 decreases-put_sections g l = 2 * sections_size (sections_from l.sections.now)

@@ -2,6 +2,7 @@ use Rattle.std.proofs.Common.{◌∙◌, ℕ, List, decimal, subst}
 use Rattle.fv_base.specs.Guids.{bytes_of, guid_text}
 use Rattle.fv_base.specs.declared.guid.Guid.{Guid}
 use Rattle.fv_text.specs.Characters.{two_digits}
+use Rattle.fv_command.proofs.ListLemmas.{begun}
 use Rattle.fv_command.proofs.list_text.put_file_line.Goals as goal
 
 pub returns-clause-ok : goal.returns-clause-ok
@@ -19,14 +20,12 @@ returns-clause-ok g c =
     let sum = c.in_ok-put_file_sum.ensures.ok in (
       sum.0,
       sum.1,
-      join _ _ _ _ _ c.put_indent.ensures
-          (join _ _ _ _ _ c.put.ensures
-          (join _ _ _ _ _ c.put_decimal.ensures.text
+      begun g.S.Sink.laws c.put_indent.ensures c.put.ensures c.put_decimal.ensures.text
           (join _ _ _ _ _ c.put-2.ensures
           (join _ _ _ _ _ name
           (join _ _ _ _ _ c.put-4.ensures
           (join _ _ _ _ _ kind
           (join _ _ _ _ _ c.put-5.ensures
           (join _ _ _ _ _ bits
-          (join _ _ _ _ _ c.put-6.ensures (join _ _ _ _ _ size (join _ _ _ _ _ sum.2 c.put-7.ensures))))))))))),
+          (join _ _ _ _ _ c.put-6.ensures (join _ _ _ _ _ size (join _ _ _ _ _ sum.2 c.put-7.ensures))))))))),
     )

@@ -1,6 +1,7 @@
 use Rattle.std.proofs.Common.{◌∙◌, ℕ, List, ap, decimal, subst}
 use Rattle.fv_command.specs.ListTexts.{form_text}
 use Rattle.fv_text.specs.Characters.{two_digits}
+use Rattle.fv_command.proofs.ListLemmas.{begun}
 use Rattle.fv_command.proofs.list_text.put_section_line.Goals as goal
 
 pub returns : goal.returns
@@ -16,9 +17,7 @@ returns g c =
     let shown = c.put_shown.ensures in (
       shown.0,
       shown.1,
-      join _ _ _ _ _ c.put_indent.ensures
-          (join _ _ _ _ _ c.put.ensures
-          (join _ _ _ _ _ c.put_decimal.ensures.text
+      begun g.S.Sink.laws c.put_indent.ensures c.put.ensures c.put_decimal.ensures.text
           (join _ _ _ _ _ c.put-2.ensures
-          (join _ _ _ _ _ kind (join _ _ _ _ _ form (join _ _ _ _ _ size (join _ _ _ _ _ shown.2 c.put-4.ensures))))))),
+          (join _ _ _ _ _ kind (join _ _ _ _ _ form (join _ _ _ _ _ size (join _ _ _ _ _ shown.2 c.put-4.ensures))))),
     )

@@ -1,6 +1,7 @@
 use Rattle.std.proofs.Common.{◌∙◌, ℕ, List, ap, decimal, subst}
 use Rattle.fv_head.specs.Head.{HeadFields}
 use Rattle.fv_command.specs.ListTexts.{system_text, name_text}
+use Rattle.fv_command.proofs.ListLemmas.{begun}
 use Rattle.fv_command.proofs.list_text.put_volume_line.Goals as goal
 
 pub returns-clause-ok : goal.returns-clause-ok
@@ -19,9 +20,7 @@ returns-clause-ok g c =
     let sum = c.in_ok-put_volume_sum.ensures.ok in (
       sum.0,
       sum.1,
-      join _ _ _ _ _ c.put_indent.ensures
-          (join _ _ _ _ _ system
-          (join _ _ _ _ _ size
+      begun g.S.Sink.laws c.put_indent.ensures system size
           (join _ _ _ _ _ c.put-2.ensures
-          (join _ _ _ _ _ count (join _ _ _ _ _ name (join _ _ _ _ _ sum.2 c.put-3.ensures)))))),
+          (join _ _ _ _ _ count (join _ _ _ _ _ name (join _ _ _ _ _ sum.2 c.put-3.ensures)))),
     )

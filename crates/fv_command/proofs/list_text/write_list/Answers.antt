@@ -1,14 +1,9 @@
-use Rattle.std.proofs.Common.{false, rules}
-use Rattle.std.proofs.lemmas.Result.{on_ok_weaker, IfErr-weaker}
-use Rattle.fv_text.specs.PortViews.{Writes, WritingStops, seen}
+use Rattle.std.proofs.Common.{rules}
+use Rattle.fv_command.proofs.WriteLemmas.{text_stopped, text_written}
 use Rattle.fv_command.proofs.list_text.write_list.Goals as goal
 
 pub returns-clause-ok : goal.returns-clause-ok
-returns-clause-ok g c =
-    let put = c.put_list-out.ensures in
-    on_ok_weaker {P = Writes (seen _ _) (seen _ _) put.0} c.outcome.result (λ wrote. (put.0, put.1, wrote)) (search rules)
+returns-clause-ok g c = text_written _ c.outcome.result c.put_list-out.ensures (search rules)
 
 pub returns-clause-err : goal.returns-clause-err
-returns-clause-err g c =
-    let put = c.put_list-out.ensures in
-    IfErr-weaker c.outcome.result (WritingStops (seen _ false) (seen _ _) put.0) _ (λ f stops. (put.0, put.1, stops)) (search rules)
+returns-clause-err g c = text_stopped _ c.outcome.result c.put_list-out.ensures (search rules)

@@ -1,6 +1,4 @@
-use Rattle.std.proofs.Common.{List, [], ◌∷◌, ◌++◌, refl, sym, subst, ◌∙◌, arith}
-use Rattle.std.proofs.lemmas.List.{take_rest}
-use Rattle.fv_depex.specs.OpChecks.{BeginsOp}
+use Rattle.std.proofs.Common.{List, [], ◌∷◌, ◌++◌, refl, sym, ◌∙◌, arith}
 use Rattle.fv_depex.specs.declared.op.Op.{Op}
 use Rattle.fv_depex.proofs.ReadLemmas.{kept_none, kept, ended, one_more}
 use Rattle.fv_depex.proofs.read.depex_fault.Goals as goal
@@ -20,11 +18,8 @@ loop-op-preserved c =
 
 pub loop-op-smaller : goal.loop-op-smaller
 loop-op-smaller c =
-    let b = c.args.bytes.now in
-    let at = c.loop-op.at in
-    let stands = subst (λ l. BeginsOp c.args.phase c.loop-op.stage c.in-Ok.op l) (take_rest b at) c.in-Ok.ensures.found in
-    let more = one_more c.args.phase b c.loop-op.invariant.0 c.in-Ok.op at c.op_len-at.result c.loop-op.stage
-    c.loop-op.invariant.1 stands c.op_len-at.ensures in
+    let more = one_more c.args.phase c.args.bytes.now c.loop-op.invariant.0 c.in-Ok.op c.loop-op.at c.op_len-at.result
+    c.loop-op.stage c.loop-op.invariant.1 c.in-Ok.ensures.found c.op_len-at.ensures in
     omega (arith, more.inside, c.op_len-at.ensures)
 
 pub returns-then-code-eq-END-clause-none : goal.returns-then-code-eq-END-clause-none

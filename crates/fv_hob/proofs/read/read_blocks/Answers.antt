@@ -1,34 +1,48 @@
-use Rattle.std.proofs.Common.{◌∙◌, sym, ap, rules}
+use Rattle.std.proofs.Common.{◌∙◌, sym, ap, arith, rules}
+use Rattle.std.proofs.lemmas.Result.{err_from_is_err_and}
 use Rattle.fv_base.proofs.Laws.{whatever}
 use Rattle.fv_hob.specs.HobChecks.{BeginsTable, hob_out_of_memory}
 use Rattle.fv_hob.specs.declared.fault.HobFault.{HobFault}
-use Rattle.fv_hob.proofs.ReadLemmas.{kept, ended, no_want, table_stands}
+use Rattle.fv_hob.proofs.ReadLemmas.{kept, ended, first_here, no_want, one_more, table_stands}
 use Rattle.fv_hob.proofs.read.read_blocks.Goals as goal
 
-pub loop-block-preserved : goal.loop-block-preserved
-loop-block-preserved c =
-    kept c.args.bytes.now c.loop-block.hobs.items c.push.new.self.items c.in_ok-hob.hob c.in-Ok.block.now c.loop-block.at
-    c.is_empty.result (search rules) c.loop-block.invariant c.in-Ok.ensures.found c.in_ok-hob.ensures
+pub loop-hobs-preserved : goal.loop-hobs-preserved
+loop-hobs-preserved c =
+    kept c.args.bytes.now c.loop-hobs.hobs.items c.push.new.self.items c.in_ok-hob.hob c.in_ok-block.block.now c.loop-hobs.at
+    c.is_empty.result (search rules) c.loop-hobs.invariant c.in_ok-block.ensures.found c.in_ok-hob.ensures
     (λ e. c.if-ends.false (c.code-ends.ensures ∙ e)) (search rules)
+
+pub loop-hobs-smaller : goal.loop-hobs-smaller
+loop-hobs-smaller c =
+    let more = one_more c.args.bytes.now c.loop-hobs.hobs.items c.in_ok-hob.hob c.in_ok-block.block.now c.loop-hobs.at
+    c.is_empty.result (search rules) c.loop-hobs.invariant c.in_ok-block.ensures.found c.in_ok-hob.ensures in
+    omega (arith, more.inside, more.some)
 
 pub returns-then-ends-clause-found : goal.returns-then-ends-clause-found
 returns-then-ends-clause-found c =
-    ended c.args.bytes.now c.loop-block.hobs.items c.push.new.self.items c.in_ok-hob.hob c.in-Ok.block.now c.loop-block.at
-    c.is_empty.result (search rules) c.loop-block.invariant c.in-Ok.ensures.found c.in_ok-hob.ensures
+    ended c.args.bytes.now c.loop-hobs.hobs.items c.push.new.self.items c.in_ok-hob.hob c.in_ok-block.block.now c.loop-hobs.at
+    c.is_empty.result (search rules) c.loop-hobs.invariant c.in_ok-block.ensures.found c.in_ok-hob.ensures
     (sym c.code-ends.ensures ∙ c.if-ends.true) (search rules)
 
-pub returns-in-Err-clause-memory : goal.returns-in-Err-clause-memory
-returns-in-Err-clause-memory c = λ e.
-    absurd (no_want c.is_empty.result _ c.in-Err.kind c.in-Err.ensures.first (ap (λ (f : HobFault). f.kind) e))
+pub returns-in_err-block-clause-first : goal.returns-in_err-block-clause-first
+returns-in_err-block-clause-first c =
+    let p = err_from_is_err_and c.from_residual.result c.from_residual.ensures.1 in
+    rw (p.1, p.2) (λ e. first_here c.args.bytes.now c.loop-hobs.hobs.items c.loop-hobs.at c.is_empty.result _ (search rules)
+    c.loop-hobs.invariant c.in_err-block.ensures.place c.in_err-block.ensures.first)
+
+pub returns-in_err-block-clause-memory : goal.returns-in_err-block-clause-memory
+returns-in_err-block-clause-memory c =
+    let p = err_from_is_err_and c.from_residual.result c.from_residual.ensures.1 in
+    rw (p.1, p.2) (λ e. absurd (no_want c.is_empty.result _ _ c.in_err-block.ensures.first (ap (λ (f : HobFault). f.kind) e)))
 
 pub returns-in_err-hob-clause-memory : goal.returns-in_err-hob-clause-memory
 returns-in_err-hob-clause-memory c =
-    whatever c.from_residual.result hob_out_of_memory (BeginsTable c.args.bytes.now)
-    (table_stands c.args.bytes.now c.loop-block.hobs.items c.in-Ok.block.now c.loop-block.at
-    c.is_empty.result (search rules) c.loop-block.invariant c.in-Ok.ensures.found)
+    whatever c.from_residual-in_err-hob.result hob_out_of_memory (BeginsTable c.args.bytes.now)
+    (table_stands c.args.bytes.now c.loop-hobs.hobs.items c.in_ok-block.block.now c.loop-hobs.at
+    c.is_empty.result (search rules) c.loop-hobs.invariant c.in_ok-block.ensures.found)
 
 pub returns-in_err-push-clause-memory : goal.returns-in_err-push-clause-memory
 returns-in_err-push-clause-memory c =
     whatever c.from_residual-in_err-push.result hob_out_of_memory (BeginsTable c.args.bytes.now)
-    (table_stands c.args.bytes.now c.loop-block.hobs.items c.in-Ok.block.now c.loop-block.at
-    c.is_empty.result (search rules) c.loop-block.invariant c.in-Ok.ensures.found)
+    (table_stands c.args.bytes.now c.loop-hobs.hobs.items c.in_ok-block.block.now c.loop-hobs.at
+    c.is_empty.result (search rules) c.loop-hobs.invariant c.in_ok-block.ensures.found)

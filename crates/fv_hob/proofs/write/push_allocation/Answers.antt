@@ -1,18 +1,16 @@
-use Rattle.std.proofs.Common.{◌++◌, ◌∙◌, ap}
+use Rattle.std.proofs.Common.{◌++◌, ◌∷◌, ◌∙◌, [], ap}
 use Rattle.std.proofs.lemmas.Result.{on_ok_weaker}
 use Rattle.fv_base.specs.Guids.{bytes_of}
 use Rattle.fv_base.specs.Value.{le_bytes}
-use Rattle.fv_hob.proofs.WriteLemmas.{no_field, one_field}
+use Rattle.fv_hob.proofs.WriteLemmas.{more_fields, no_field, one_field}
 use Rattle.fv_hob.proofs.write.push_allocation.Goals as goal
 
 pub returns : goal.returns
 returns c =
     let said = c.args.said.now in
-    let before = no_field c.args.bytes.now.items in
-    let name = one_field (bytes_of said.name) before c.in_ok-push_guid.ensures in
-    let base = one_field (le_bytes 8 said.base) name c.in_ok-push_u64.ensures in
-    let size = one_field (le_bytes 8 said.length) base c.in_ok-push_u64-2.ensures in
-    let kind = one_field (le_bytes 4 said.memory_type) size c.in_ok-push_u32.ensures in
+    let name = one_field (bytes_of said.name) (no_field c.args.bytes.now.items) c.in_ok-push_guid.ensures in
+    let span = more_fields (le_bytes 8 said.base ∷ le_bytes 8 said.length ∷ []) name c.in_ok-push_span.ensures in
+    let kind = one_field (le_bytes 4 said.memory_type) span c.in_ok-push_u32.ensures in
     let reserved = one_field said.reserved kind c.in_ok-push_bytes.ensures in
     on_ok_weaker c.push_bytes-2.result
     (λ rest. (one_field said.rest reserved (rest ∙ ap (λ l. c.push_bytes.new.bytes.items ++ l) c.as_slice.ensures)).is)

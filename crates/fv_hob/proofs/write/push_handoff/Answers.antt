@@ -6,8 +6,7 @@ use Rattle.fv_hob.proofs.write.push_handoff.Goals as goal
 pub returns : goal.returns
 returns c =
     let said = c.args.said.now in
-    let before = no_field c.args.bytes.now.items in
-    let version = one_field (le_bytes 4 said.version) before c.in_ok-push_u32.ensures in
+    let version = one_field (le_bytes 4 said.version) (no_field c.args.bytes.now.items) c.in_ok-push_u32.ensures in
     let mode = one_field (le_bytes 4 said.boot_mode) version c.in_ok-push_u32-2.ensures in
     let top = one_field (le_bytes 8 said.memory_top) mode c.in_ok-push_u64.ensures in
     let bottom = one_field (le_bytes 8 said.memory_bottom) top c.in_ok-push_u64-2.ensures in

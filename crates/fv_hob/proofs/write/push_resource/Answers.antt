@@ -1,15 +1,15 @@
+use Rattle.std.proofs.Common.{◌∷◌, []}
 use Rattle.std.proofs.lemmas.Result.{on_ok_weaker}
 use Rattle.fv_base.specs.Guids.{bytes_of}
 use Rattle.fv_base.specs.Value.{le_bytes}
-use Rattle.fv_hob.proofs.WriteLemmas.{no_field, one_field}
+use Rattle.fv_hob.proofs.WriteLemmas.{more_fields, no_field, one_field}
 use Rattle.fv_hob.proofs.write.push_resource.Goals as goal
 
 pub returns : goal.returns
 returns c =
     let said = c.args.said.now in
-    let before = no_field c.args.bytes.now.items in
-    let owner = one_field (bytes_of said.owner) before c.in_ok-push_guid.ensures in
+    let owner = one_field (bytes_of said.owner) (no_field c.args.bytes.now.items) c.in_ok-push_guid.ensures in
     let kind = one_field (le_bytes 4 said.resource_type) owner c.in_ok-push_u32.ensures in
     let attribute = one_field (le_bytes 4 said.attribute) kind c.in_ok-push_u32-2.ensures in
-    let start = one_field (le_bytes 8 said.start) attribute c.in_ok-push_u64.ensures in
-    on_ok_weaker c.push_u64-2.result (λ size. (one_field (le_bytes 8 said.length) start size).is) c.push_u64-2.ensures
+    on_ok_weaker c.push_span.result
+    (λ end. (more_fields (le_bytes 8 said.start ∷ le_bytes 8 said.length ∷ []) attribute end).is) c.push_span.ensures

@@ -5,7 +5,6 @@ use Rattle.fv_file.specs.CellForms.{cell_form}
 use Rattle.fv_file.specs.declared.cell.Cell.{Cell}
 use Rattle.fv_lines.specs.CellTexts.{cell_line}
 use Rattle.fv_lines.proofs.CellLemmas.{fits_at}
-use Rattle.fv_lines.proofs.PadNoteLemmas.{no_cell}
 use Rattle.fv_text.proofs.Laws.{seen_next}
 use Rattle.fv_lines.proofs.cell_text.put_cells.Goals as goal
 
@@ -14,15 +13,15 @@ loop-cell-init g c = g.S.Sink.laws.none c.args.out.now
 
 pub put_cell-requires : goal.put_cell-requires
 put_cell-requires g c = record {
-  fits = fits_at cell_form _ c.args.list.now c.loop-cell.cell-index no_cell c.loop-cell-test.true c.requires.each;
+  fits = fits_at cell_form _ c.args.list.now c.loop-cell.cell-index _ c.loop-cell-test.true c.requires.each;
   small = omega (arith, c.requires.small);
 }
 
 pub loop-cell-preserved : goal.loop-cell-preserved
 loop-cell-preserved g c =
     let list : List Cell = c.args.list.now in
-    let e = seen_next (cell_line c.args.polarity c.args.volume.now) cell_form list c.loop-cell.cell-index no_cell c.loop-cell-test.true in
-    subst (λ (t : List ℕ). g.S.Sink.takes c.args.out.now t c.put_cell.new.out) (sym e)
+    subst (λ (t : List ℕ). g.S.Sink.takes c.args.out.now t c.put_cell.new.out)
+    (sym (seen_next (cell_line c.args.polarity c.args.volume.now) cell_form list c.loop-cell.cell-index _ c.loop-cell-test.true))
     (g.S.Sink.laws.joined _ _ _ _ _ c.loop-cell.invariant c.put_cell.ensures)
 
 pub returns : goal.returns

@@ -1,24 +1,19 @@
-use Rattle.std.proofs.Common.{◌∙◌, ◌+◌, ◌<◌, ◌^◌, List, ap, get_or, map, subst, sym}
+use Rattle.std.proofs.Common.{◌∙◌, List, ap, map, sym}
 use Rattle.std.proofs.lemmas.List.{take_all}
 use Rattle.fv_file.specs.CellForms.{cell_form}
-use Rattle.fv_file.specs.Cells.{cell_len}
 use Rattle.fv_file.specs.declared.cell.Cell.{Cell}
 use Rattle.fv_lines.specs.CellTexts.{sums_of}
-use Rattle.fv_lines.specs.declared.cell_text.CellSums.{CellSums}
-use Rattle.fv_lines.specs.inner.CellRuns.{counted, sums_with}
 use Rattle.fv_lines.proofs.CellLemmas.{counted_next, sums_next}
-use Rattle.fv_lines.proofs.PadNoteLemmas.{no_cell}
 use Rattle.fv_lines.proofs.cell_text.sums_of.Goals as goal
 
 pub with_cell-sums-requires : goal.with_cell-sums-requires
 with_cell-sums-requires c =
-    subst (λ (s : CellSums). counted s + cell_len (cell_form (get_or c.args.list.now c.loop-cell.cell-index no_cell)) < 2 ^ 63) (sym c.loop-cell.invariant)
-    (counted_next cell_form c.args.list.now c.loop-cell.cell-index no_cell c.loop-cell-test.true c.requires)
+    rw c.loop-cell.invariant (counted_next cell_form c.args.list.now c.loop-cell.cell-index _ c.loop-cell-test.true c.requires)
 
 pub loop-cell-preserved : goal.loop-cell-preserved
 loop-cell-preserved c =
-    c.with_cell-sums.ensures ∙ ap (λ (s : CellSums). sums_with s (cell_form (get_or c.args.list.now c.loop-cell.cell-index no_cell))) c.loop-cell.invariant
-    ∙ sym (sums_next cell_form c.args.list.now c.loop-cell.cell-index no_cell c.loop-cell-test.true)
+    (rw c.loop-cell.invariant at c.with_cell-sums.ensures)
+    ∙ sym (sums_next cell_form c.args.list.now c.loop-cell.cell-index _ c.loop-cell-test.true)
 
 pub returns : goal.returns
 returns c =

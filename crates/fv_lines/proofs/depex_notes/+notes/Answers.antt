@@ -47,14 +47,10 @@ put_section-returns-in-Nested g t c =
     (nested_depexes c.args.name s c.in-Nested.field-0.now is) (puts_none g.S.Sink.laws c.args.out.now)
 
 pub put_sections-put_section-requires : goal.put_sections-put_section-requires
-put_sections-put_section-requires g t c κs within = (
-  omega (
-    arith,
-    c.decreases,
-    section_falls c.args.sections.now c.loop-section.section-index c.section-item.result c.loop-section-test.true c.section-item.is,
-  ),
-  within,
-)
+put_sections-put_section-requires g t c κs within =
+    let i = c.loop-section.section-index in
+    let falls = section_falls c.args.sections.now i c.section-item.result c.loop-section-test.true c.section-item.is in
+    (omega (arith, c.decreases), within)
 
 pub put_sections-loop-section-init : goal.put_sections-loop-section-init
 put_sections-loop-section-init g t c = puts_none g.S.Sink.laws c.args.out.now

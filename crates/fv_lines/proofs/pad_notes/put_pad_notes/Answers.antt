@@ -3,7 +3,6 @@ use Rattle.std.proofs.lemmas.List.{take_all}
 use Rattle.fv_file.specs.CellForms.{cell_form}
 use Rattle.fv_file.specs.declared.cell.Cell.{Cell}
 use Rattle.fv_lines.specs.Notes.{pad_note, pad_notes}
-use Rattle.fv_lines.proofs.PadNoteLemmas.{no_cell}
 use Rattle.fv_text.proofs.Laws.{seen_next}
 use Rattle.fv_lines.proofs.pad_notes.put_pad_notes.Goals as goal
 
@@ -13,8 +12,8 @@ loop-cell-init g c = g.S.Sink.laws.none c.args.out.now
 pub loop-cell-preserved : goal.loop-cell-preserved
 loop-cell-preserved g c =
     let list : List Cell = c.args.list.now in
-    let e = seen_next (pad_note c.args.polarity) cell_form list c.loop-cell.cell-index no_cell c.loop-cell-test.true in
-    subst (λ (t : List ℕ). g.S.Sink.takes c.args.out.now t c.put_cell.new.out) (sym e)
+    subst (λ (t : List ℕ). g.S.Sink.takes c.args.out.now t c.put_cell.new.out)
+    (sym (seen_next (pad_note c.args.polarity) cell_form list c.loop-cell.cell-index _ c.loop-cell-test.true))
     (g.S.Sink.laws.joined _ _ _ _ _ c.loop-cell.invariant c.put_cell.ensures)
 
 pub returns : goal.returns

@@ -1,4 +1,4 @@
-use Rattle.std.proofs.Common.{rules, arith, ap, ◌∙◌, ℕ, take, drop, ◌+◌, ◌-◌, ◌*◌}
+use Rattle.std.proofs.Common.{rules, arith, ap, ◌∙◌, ℕ, take, drop, ◌+◌, ◌-◌, ◌*◌, length, length-drop}
 use Rattle.fv_text.proofs.WhiteSpaceLemmas.{dense_put, rest_put, window_put}
 use Rattle.fv_text.proofs.white_space.put_windows.Goals as goal
 use Rattle.fv_text.proofs.white_space.put_windows.Goals.{then-is_dense, else-is_dense}
@@ -12,9 +12,9 @@ loop-i-preserved c =
       | then-is_dense w ↦ rw (w.room-is, w.end-is) (
         omega (arith, below),
         search rules,
-        window_put (take c.args.start c.args.room.now) c.loop-i.room w.put_all.new.room c.args.text.now c.loop-i.end _ c.loop-i.i so_far
-            (dense_put c.loop-i.room w.put_all.new.room window c.loop-i.end (search rules) (c.is_dense.ensures w.if-is_dense.true)
-            w.put_all.ensures.put),
+        window_put (take c.args.start c.args.room.now) c.loop-i.room w.place.new.buffer c.args.text.now c.loop-i.end _ c.loop-i.i so_far
+            (dense_put c.loop-i.room w.place.new.buffer window c.loop-i.end (search rules) (c.is_dense.ensures w.if-is_dense.true)
+            w.place.ensures.placed),
       )
       | else-is_dense w ↦ rw (w.room-is, w.end-is) (
         search rules,
@@ -24,8 +24,11 @@ loop-i-preserved c =
       )
     ]
 
-pub returns-clause-put : goal.returns-clause-put
-returns-clause-put c =
-    let (below, long, so_far) = c.loop-i.invariant in
-    rest_put (take c.args.start c.args.room.now) c.loop-i.room c.put_kept.new.room c.args.text.now _ c.loop-i.end c.put_kept.result (16 * c.loop-i.i)
-    so_far (c.bytes_from.ensures ∙ ap (λ (n : ℕ). drop n c.args.text.now) (omega arith)) c.put_kept.ensures.put
+pub returns : goal.returns
+returns c =
+    let (below, long, so_far) = c.loop-i.invariant in record {
+      put = rest_put (take c.args.start c.args.room.now) c.loop-i.room c.put_kept.new.room c.args.text.now _ c.loop-i.end c.put_kept.result
+          (16 * c.loop-i.i) so_far (c.bytes_from.ensures ∙ ap (λ (n : ℕ). drop n c.args.text.now) (omega arith)) c.put_kept.ensures.put;
+      within = omega (arith, below, simp length-drop at (ap length c.bytes_from.ensures));
+      len = search rules;
+    }

@@ -19,6 +19,10 @@ content_difference-stream_difference-requires t c =
     let is = ap (λ b. content_size (content_view b)) c.in-Stream-Stream.is-0 in
     let same = ap (λ l. sections_size (sections_from l)) c.as_slice.ensures.value in (omega (arith, c.decreases, is, same), tt)
 
+pub stream_difference-section_difference-requires : goal.stream_difference-section_difference-requires
+stream_difference-section_difference-requires t c =
+    (omega (arith, c.decreases, section_falls c.args.sections.now c.loop-i.i c.index-sections-i.result c.loop-i-test.true c.index-sections-i.is), tt)
+
 pub file_difference-content_difference-requires : goal.file_difference-content_difference-requires
 file_difference-content_difference-requires t c =
     (omega (arith, c.decreases, content_falls c.args.file.now, ap content_size c.content.ensures), tt)
@@ -32,6 +36,10 @@ volume_difference-files_difference-requires t c =
     let falls : volume_size c.args.volume.now ≡ files_size (files_from c.files.result.now) + 1 = ap volume_size c.files.ensures in
     (omega (arith, c.decreases, falls), tt)
 
+pub files_difference-file_difference-requires : goal.files_difference-file_difference-requires
+files_difference-file_difference-requires t c =
+    (omega (arith, c.decreases, file_falls c.args.files.now c.loop-i.i c.index-files-i.result c.loop-i-test.true c.index-files-i.is), tt)
+
 -- ---- volumes
 
 pub volume_difference-returns-in-Some : goal.volume_difference-returns-in-Some
@@ -42,11 +50,6 @@ volume_difference-returns-in-Some t c =
 
 -- ---- streams
 
-pub stream_difference-section_difference-requires : goal.stream_difference-section_difference-requires
-stream_difference-section_difference-requires t c =
-    let falls = section_falls c.args.sections.now c.loop-i.i c.index-sections-i.result c.loop-i-test.true c.index-sections-i.is in
-    (omega (arith, c.decreases, falls), tt)
-
 pub stream_difference-returns-then-sections-others : goal.stream_difference-returns-then-sections-others
 stream_difference-returns-then-sections-others t c =
     c.differ_in-then-sections-others.ensures
@@ -54,11 +57,6 @@ stream_difference-returns-then-sections-others t c =
     (omega arith) (omega arith) c.if-sections-others.true c.loop-i.invariant)
 
 -- ---- files
-
-pub files_difference-file_difference-requires : goal.files_difference-file_difference-requires
-files_difference-file_difference-requires t c =
-    let falls = file_falls c.args.files.now c.loop-i.i c.index-files-i.result c.loop-i-test.true c.index-files-i.is in
-    (omega (arith, c.decreases, falls), tt)
 
 pub files_difference-returns-then-files-others : goal.files_difference-returns-then-files-others
 files_difference-returns-then-files-others t c =

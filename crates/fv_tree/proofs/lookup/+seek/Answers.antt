@@ -18,14 +18,9 @@ pub seek_section-seek_body-requires-2 : goal.seek_section-seek_body-requires-2
 seek_section-seek_body-requires-2 t c = (omega (arith, c.decreases, body_falls c.args.section.now, ap body_size c.body-2.ensures), tt)
 
 pub seek_sections-seek_section-requires : goal.seek_sections-seek_section-requires
-seek_sections-seek_section-requires t c = (
-  omega (
-    arith,
-    c.decreases,
-    section_falls c.args.sections.now c.loop-section.section-index c.section-item.result c.loop-section-test.true c.section-item.is,
-  ),
-  tt,
-)
+seek_sections-seek_section-requires t c =
+    let falls = section_falls c.args.sections.now c.loop-section.section-index c.section-item.result c.loop-section-test.true
+    c.section-item.is in (omega (arith, c.decreases, falls), tt)
 
 pub seek_sections-loop-section-init : goal.seek_sections-loop-section-init
 seek_sections-loop-section-init t c = refl

@@ -14,12 +14,12 @@ use Rattle.fv_head.specs.declared.extent.Extent.{Extent}
 use Rattle.fv_section.specs.Frames.{FrameForm}
 use Rattle.fv_section.specs.FrameForms as framed
 use Rattle.fv_tree.specs.inner.ReadingParts.{IsReadyFile}
-use Rattle.fv_tree.specs.Denotes.{MeansFile, MeansSection, Stream}
+use Rattle.fv_tree.specs.Denotes.{Denotes, MeansFile, MeansSection, Stream}
 use Rattle.fv_tree.specs.FileNames.{IsIndex}
 use Rattle.fv_tree.specs.Files.{FileForm}
 use Rattle.fv_tree.specs.FailingChecks.{First}
 use Rattle.fv_tree.specs.FirstFault.{FileFault, InStream, data_at}
-use Rattle.fv_tree.specs.Meaning.{File, SectionMeaning, Section, Group, Nested, sections_from}
+use Rattle.fv_tree.specs.Meaning.{Volume, File, SectionMeaning, Section, Group, Nested, files_from, sections_from}
 use Rattle.fv_tree.specs.LocatedFiles.{file_form}
 use Rattle.fv_tree.specs.Views.{content_view}
 use Rattle.fv_tree.proofs.BodyLaws.{files_first}
@@ -33,7 +33,7 @@ use Rattle.fv_tree.proofs.SectionLaws.{one_place, nested_found, nested_first, de
 use Rattle.fv_tree.proofs.StreamLaws.{walk_ready, walk_begun, walk_more, walk_first, walk_found}
 use Rattle.fv_tree.proofs.VolumeLaws.{made, head_known, head_first, opened_whole}
 use Rattle.fv_tree.proofs.read.+read.Goals.{read_file-After-without_large-attributes, read_section-In_ok-sections-in-Group}
-use Rattle.fv_tree.proofs.read.+read.Goals.{read_section-In_ok-nested-in-Volume}
+use Rattle.fv_tree.proofs.read.+read.Goals.{read_section-In_ok-nested-in-Volume, read_at-In_ok-views}
 use Rattle.fv_tree.proofs.read.+read.Goals as goal
 
 -- ---- files
@@ -43,139 +43,138 @@ read_files-loop-file-init t c = rw c.in_ok-views.ensures.items tt
 
 pub read_files-read_file-requires : goal.read_files-read_file-requires
 read_files-read_file-requires t c =
-    let all = of_item (MeansFile (Stream c.args.left)) file_form c.args.files.now c.loop-file.file-index no_file
-    (IsReadyFile c.args.place.offset) c.requires.stored c.loop-file-test.true in
+    let all = of_item (MeansFile (Stream c.args.at.left)) file_form c.args.files.now c.loop-file.file-index no_file
+    (IsReadyFile c.args.at.place.offset) c.requires.stored c.loop-file-test.true in
     (omega arith, (all.1, (c.requires.depth, (all.0, all.2))))
 
 pub read_files-returns-in_err-view : goal.read_files-returns-in_err-view
 read_files-returns-in_err-view t c =
     passed_on _ _ _ c.from_residual-in_err-view.ensures.1 c.in_err-view.ensures
-    (first_refused (MeansFile (Stream c.args.left)) file_form c.args.files.now c.loop-file.file-index no_file
-    (λ f. FileFault (InStream First c.args.left) c.in_err-view.field-0.0 f c.args.place)
+    (first_refused (MeansFile (Stream c.args.at.left)) file_form c.args.files.now c.loop-file.file-index no_file
+    (λ f. FileFault (InStream First c.args.at.left) c.in_err-view.field-0.0 f c.args.at.place)
     c.loop-file.views.items c.loop-file-test.true c.loop-file.invariant)
 
 pub read_files-loop-file-preserved : goal.read_files-loop-file-preserved
 read_files-loop-file-preserved t c =
     let items : c.push.new.self.items ≡ c.loop-file.views.items ++ c.in_ok-view.view ∷ [] = search rules in
-    kept_pairs (MeansFile (Stream c.args.left)) file_form c.args.files.now c.loop-file.file-index no_file c.loop-file.views.items
+    kept_pairs (MeansFile (Stream c.args.at.left)) file_form c.args.files.now c.loop-file.file-index no_file c.loop-file.views.items
     c.push.new.self.items c.in_ok-view.view c.loop-file-test.true c.loop-file.invariant c.in_ok-view.ensures items
 
 pub read_files-returns : goal.read_files-returns
 read_files-returns t c =
-    all_pairs (MeansFile (Stream c.args.left)) file_form c.args.files.now c.loop-file.file-index no_file c.loop-file.views.items
+    all_pairs (MeansFile (Stream c.args.at.left)) file_form c.args.files.now c.loop-file.file-index no_file c.loop-file.views.items
     (omega arith) c.loop-file.invariant
 
 -- ---- one file
 
 pub read_content-returns-in_err-sections : goal.read_content-returns-in_err-sections
 read_content-returns-in_err-sections t c =
-    let P : Place → Type 0 = λ i. InStream First c.args.left c.in_err-sections.field-0.0 c.args.file.now.payload.now i in
-    let same = one_place _ (data_at c.args.place (file_form c.args.file.now)) (omega arith) refl in
+    let P : Place → Type 0 = λ i. InStream First c.args.at.left c.in_err-sections.field-0.0 c.args.file.now.payload.now i in
+    let same = one_place _ (data_at c.args.at.place (file_form c.args.file.now)) (omega arith) refl in
     passed_on _ _ _ c.from_residual.ensures.1 c.in_err-sections.ensures
     (λ first. (sym c.holds_sections.ensures ∙ c.if-not-holds_sections.false, subst P same first))
 
 pub read_content-returns : goal.read_content-returns
 read_content-returns t c =
-    stream_reads c.args.left c.args.file.now.kind c.args.file.now.payload.now c.in_ok-sections.sections.items c.in_ok-sections.tail
+    stream_reads c.args.at.left c.args.file.now.kind c.args.file.now.payload.now c.in_ok-sections.sections.items c.in_ok-sections.tail
     (sym c.holds_sections.ensures ∙ c.if-not-holds_sections.false) c.in_ok-sections.ensures
 
 pub read_file-returns-in_err-content : goal.read_file-returns-in_err-content
 read_file-returns-in_err-content t c = passed_on _ _ _ c.from_residual.ensures.1 c.in_err-content.ensures (λ first. first)
 
 -- the file means what is made of it
-file_means : (t : ℕ) (c : read_file-After-without_large-attributes t) → MeansFile (Stream c.args.left) (file_form c.args.file.now)
+file_means : (t : ℕ) (c : read_file-After-without_large-attributes t) → MeansFile (Stream c.args.at.left) (file_form c.args.file.now)
     (File c.args.file.now.name c.args.file.now.kind c.without_large-attributes.result.0 (content_view c.in_ok-content.content))
 file_means t c = (refl, refl, c.without_large-attributes.ensures, c.in_ok-content.ensures)
 
 pub read_file-new-requires-clause-read : goal.read_file-new-requires-clause-read
 read_file-new-requires-clause-read t c =
     let means = file_means t (goal.at.read_file-new-requires-clause-read t c).After-without_large-attributes in
-    (c.args.left, omega arith, file_form c.args.file.now, c.requires.stored, means)
+    (c.args.at.left, omega arith, file_form c.args.file.now, c.requires.stored, means)
 
 pub read_file-new-requires-clause-len : goal.read_file-new-requires-clause-len
 read_file-new-requires-clause-len t c =
     let f : FileForm = file_form c.args.file.now in
-    content_long c.args.left f f.head.name f.head.kind c.without_large-attributes.result.0 (content_view c.in_ok-content.content)
+    content_long c.args.at.left f f.head.name f.head.kind c.without_large-attributes.result.0 (content_view c.in_ok-content.content)
     (file_means t (goal.at.read_file-new-requires-clause-len t c).After-without_large-attributes)
 
 pub read_file-returns : goal.read_file-returns
 read_file-returns t c = rw c.new.ensures (file_means t (goal.at.read_file-returns t c).After-without_large-attributes)
 
--- ---- the body of a volume
-
-pub read_body-returns-in_err-files-clause-read : goal.read_body-returns-in_err-files-clause-read
-read_body-returns-in_err-files-clause-read t c = passed_on _ _ _ c.from_residual.ensures.1 c.in_err-files.ensures.read inl
-
-pub read_body-read_files-requires : goal.read_body-read_files-requires
-read_body-read_files-requires t c =
-    (omega arith, (c.requires.depth, rw c.as_slice.ensures.value c.in_ok-files.ensures.stored))
-
-pub read_body-returns-in_err-views-clause-read : goal.read_body-returns-in_err-views-clause-read
-read_body-returns-in_err-views-clause-read t c =
-    passed_on _ _ _ c.from_residual-in_err-views.ensures.1 (rw c.as_slice.ensures.value at c.in_err-views.ensures)
-    (files_first c.args.left (InStream First c.args.left) c.args.extent c.args.volume.now c.args.place
-    (map file_form c.in_ok-files.files.items) c.in_err-views.field-0.0 c.in_ok-files.ensures.read)
-
-pub read_body-returns-clause-read : goal.read_body-returns-clause-read
-read_body-returns-clause-read t c =
-    (map file_form c.in_ok-files.files.items, c.in_ok-files.ensures.read, rw c.as_slice.ensures.value at c.in_ok-views.ensures)
-
-pub read_body-returns-clause-numbers : goal.read_body-returns-clause-numbers
-read_body-returns-clause-numbers t c =
-    let pairs = rw c.as_slice.ensures.value at c.in_ok-views.ensures in
-    subst (λ (ns : List Guid). IsIndex ns c.in_ok-files.numbers.sorted.items)
-    (sym (read_names (Stream c.args.left) (map file_form c.in_ok-files.files.items) c.in_ok-views.views.items pairs))
-    c.in_ok-files.ensures.numbers
-
 -- ---- a volume
 
-pub read_at-within-requires : goal.read_at-within-requires
-read_at-within-requires t c = omega (arith, c.in-Err.ensures.bound, c.requires.place)
+pub read_at-fault_within-requires : goal.read_at-fault_within-requires
+read_at-fault_within-requires t c = omega (arith, c.in-Err.ensures.bound, c.requires.place)
 
 pub read_at-returns-in-Err-clause-read : goal.read_at-returns-in-Err-clause-read
 read_at-returns-in-Err-clause-read t c = λ ne.
-    head_first c.args.left c.args.bytes.now c.in-Err.fault c.within.result c.args.place c.in-Err.ensures.first
-    (c.within.ensures.moved ne).0 (c.within.ensures.moved ne).1
+    head_first c.args.at.left c.args.bytes.now c.in-Err.fault c.fault_within.result c.args.at.place c.in-Err.ensures.first
+    (c.fault_within.ensures.moved ne).0 (c.fault_within.ensures.moved ne).1
 
 pub read_at-returns-in-Err-clause-memory : goal.read_at-returns-in-Err-clause-memory
 read_at-returns-in-Err-clause-memory t c = λ want. go c.in-Err.ensures.first want where
   go : (c.in-Err.fault ≡ out_of_memory) ⊎ IsFirstFault (head_checks c.args.bytes.now) c.in-Err.fault
-      → c.within.result ≡ out_of_memory → (h : HeadFields) × (e : Extent) × BeginsVolume h e c.args.bytes.now
+      → c.fault_within.result ≡ out_of_memory → (h : HeadFields) × (e : Extent) × BeginsVolume h e c.args.bytes.now
   go (inl same) want = c.in-Err.ensures.memory same
-  go (inr first) want = absurd (head_known c.args.bytes.now c.in-Err.fault first (sym c.within.ensures.kind
+  go (inr first) want = absurd (head_known c.args.bytes.now c.in-Err.fault first (sym c.fault_within.ensures.kind
       ∙ ap (λ (f : Fault). f.kind) want))
+
+pub read_at-read_files-requires : goal.read_at-read_files-requires
+read_at-read_files-requires t c =
+    (omega arith, (c.requires.depth, rw c.as_slice.ensures.value c.in_ok-files.ensures.stored))
 
 pub read_at-returns-in_err-files-clause-read : goal.read_at-returns-in_err-files-clause-read
 read_at-returns-in_err-files-clause-read t c =
     passed_on _ _ _ c.from_residual.ensures.1 c.in_err-files.ensures.read
-    (λ first. inr (c.in-Ok.read.0, c.in-Ok.read.1, c.in-Ok.ensures.found, first))
+    (λ first. inr (c.in-Ok.read.0, c.in-Ok.read.1, c.in-Ok.ensures.found, inl first))
+
+pub read_at-returns-in_err-views-clause-read : goal.read_at-returns-in_err-views-clause-read
+read_at-returns-in_err-views-clause-read t c =
+    let read = c.in-Ok.read in
+    passed_on _ _ _ c.from_residual-in_err-views.ensures.1 (rw c.as_slice.ensures.value at c.in_err-views.ensures)
+    (λ first. inr (
+      read.0,
+      read.1,
+      c.in-Ok.ensures.found,
+      files_first c.args.at.left (InStream First c.args.at.left) read.1
+          (take read.1.length c.args.bytes.now) c.args.at.place (map file_form c.in_ok-files.files.items) c.in_err-views.field-0.0
+          c.in_ok-files.ensures.read first,
+    ))
+
+-- the volume that is read has this meaning
+volume_made : (t : ℕ) (c : read_at-In_ok-views t) → Denotes c.args.at.left (take c.in-Ok.read.1.length c.args.bytes.now)
+    (Volume c.in-Ok.read.0 (files_from c.in_ok-views.views.items))
+volume_made t c =
+    made c.args.at.left c.args.bytes.now c.in-Ok.read.0 c.in-Ok.read.1 c.in_ok-views.views.items c.in-Ok.ensures.found
+    (map file_form c.in_ok-files.files.items, c.in_ok-files.ensures.read, rw c.as_slice.ensures.value at c.in_ok-views.ensures)
 
 pub read_at-new-requires-clause-meaning : goal.read_at-new-requires-clause-meaning
 read_at-new-requires-clause-meaning t c =
-    let small : IsBytes c.args.bytes.now = search rules in (
-      c.args.left,
-      omega arith,
-      take c.in-Ok.read.1.length c.args.bytes.now,
-      bytes_take c.in-Ok.read.1.length c.args.bytes.now small,
-      made c.args.left c.args.bytes.now c.in-Ok.read.0 c.in-Ok.read.1 c.in_ok-files.files.items c.in-Ok.ensures.found
-          c.in_ok-files.ensures.read,
-    )
+    let small : IsBytes c.args.bytes.now = search rules in
+    let bytes : List ℕ = take c.in-Ok.read.1.length c.args.bytes.now in
+    let made = volume_made t (goal.at.read_at-new-requires-clause-meaning t c).In_ok-views in
+    (c.args.at.left, omega arith, bytes, bytes_take c.in-Ok.read.1.length c.args.bytes.now small, made)
+
+pub read_at-new-requires-clause-numbers : goal.read_at-new-requires-clause-numbers
+read_at-new-requires-clause-numbers t c =
+    let pairs = rw c.as_slice.ensures.value at c.in_ok-views.ensures in
+    subst (λ (ns : List Guid). IsIndex ns c.in_ok-files.numbers.sorted.items)
+    (sym (read_names (Stream c.args.at.left) (map file_form c.in_ok-files.files.items) c.in_ok-views.views.items pairs))
+    c.in_ok-files.ensures.numbers
 
 pub read_at-returns-clause-read : goal.read_at-returns-clause-read
-read_at-returns-clause-read t c =
-    rw c.new.ensures (made c.args.left c.args.bytes.now c.in-Ok.read.0 c.in-Ok.read.1 c.in_ok-files.files.items c.in-Ok.ensures.found
-    c.in_ok-files.ensures.read)
+read_at-returns-clause-read t c = rw c.new.ensures (volume_made t (goal.at.read_at-returns-clause-read t c).In_ok-views)
 
 -- ---- a stream
 
 pub read_stream-loop-frame-init : goal.read_stream-loop-frame-init
 read_stream-loop-frame-init t c =
-    walk_begun c.args.left c.args.bytes.now c.in-Ok.walk.1 c.in-Ok.walk.0 _ c.in-Ok.ensures.found c.in_ok-sections.ensures.items
+    walk_begun c.args.at.left c.args.bytes.now c.in-Ok.walk.1 c.in-Ok.walk.0 _ c.in-Ok.ensures.found c.in_ok-sections.ensures.items
 
 pub read_stream-read_section-requires : goal.read_stream-read_section-requires
 read_stream-read_section-requires t c =
     let small : IsBytes c.args.bytes.now = search rules in
-    let ready = walk_ready c.args.left c.args.bytes.now c.loop-frame.walk.1 c.loop-frame.walk.0 c.next_frame.new.self.0
+    let ready = walk_ready c.args.at.left c.args.bytes.now c.loop-frame.walk.1 c.loop-frame.walk.0 c.next_frame.new.self.0
     (framed.frame_form c.in-Some.frame) c.loop-frame.sections.items c.loop-frame.invariant (rw c.in-Some.is at c.next_frame.ensures.some)
     small c.requires.small in
     (omega arith, (omega (arith, ready.0, c.requires.place), (c.requires.depth, ready.1)))
@@ -183,23 +182,23 @@ read_stream-read_section-requires t c =
 pub read_stream-loop-frame-preserved : goal.read_stream-loop-frame-preserved
 read_stream-loop-frame-preserved t c =
     let items : c.push.new.self.items ≡ c.loop-frame.sections.items ++ c.in_ok-section.section ∷ [] = search rules in
-    rw c.next_frame.ensures.tail (walk_more c.args.left c.args.bytes.now c.loop-frame.walk.1 c.loop-frame.walk.0 c.next_frame.new.self.0
+    rw c.next_frame.ensures.tail (walk_more c.args.at.left c.args.bytes.now c.loop-frame.walk.1 c.loop-frame.walk.0 c.next_frame.new.self.0
     (framed.frame_form c.in-Some.frame) c.loop-frame.sections.items c.loop-frame.invariant (rw c.in-Some.is at c.next_frame.ensures.some)
     c.in_ok-section.section c.push.new.self.items c.in_ok-section.ensures items)
 
 pub read_stream-returns-in-Err : goal.read_stream-returns-in-Err
-read_stream-returns-in-Err t c = λ ne. inl (c.in-Err.fault, c.in-Err.ensures.first, (c.within.ensures.moved ne).1)
+read_stream-returns-in-Err t c = λ ne. inl (c.in-Err.fault, c.in-Err.ensures.first, (c.fault_within.ensures.moved ne).1)
 
 pub read_stream-returns-in_err-section : goal.read_stream-returns-in_err-section
 read_stream-returns-in_err-section t c =
     passed_on _ _ _ c.from_residual-in_err-section.ensures.1 c.in_err-section.ensures
-    (walk_first c.args.left c.args.bytes.now c.loop-frame.walk.1 c.loop-frame.walk.0 c.next_frame.new.self.0
+    (walk_first c.args.at.left c.args.bytes.now c.loop-frame.walk.1 c.loop-frame.walk.0 c.next_frame.new.self.0
     (framed.frame_form c.in-Some.frame) c.loop-frame.sections.items c.loop-frame.invariant (rw c.in-Some.is at c.next_frame.ensures.some)
-    c.in_err-section.field-0.0 c.args.place)
+    c.in_err-section.field-0.0 c.args.at.place)
 
 pub read_stream-returns : goal.read_stream-returns
 read_stream-returns t c =
-    rw (c.tail.ensures, c.next_frame.ensures.tail) (walk_found c.args.left c.args.bytes.now c.loop-frame.walk.1 c.loop-frame.walk.0
+    rw (c.tail.ensures, c.next_frame.ensures.tail) (walk_found c.args.at.left c.args.bytes.now c.loop-frame.walk.1 c.loop-frame.walk.0
     c.loop-frame.sections.items c.loop-frame.invariant (rw c.in_default.is at c.next_frame.ensures.none).0)
 
 -- ---- a section that is a group
@@ -208,27 +207,27 @@ pub read_section-returns-in_err-sections-in-Group : goal.read_section-returns-in
 read_section-returns-in_err-sections-in-Group t c =
     let ok = c.in_ok-inside-in-Group.ensures.ok in
     passed_on _ _ _ c.from_residual-in_err-sections-in-Group.ensures.1 c.in_err-sections-in-Group.ensures
-    (group_first c.args.left c.in_ok-inside-in-Group.below (framed.frame_form c.args.frame.now)
-    c.in_err-sections-in-Group.field-0.0 c.args.place c.in_ok-inside-in-Group.inside ok.0
+    (group_first c.args.at.left c.in_ok-inside-in-Group.inside.left (framed.frame_form c.args.frame.now)
+    c.in_err-sections-in-Group.field-0.0 c.args.at.place c.in_ok-inside-in-Group.inside.place ok.0
     (group_shape (framed.frame_form c.args.frame.now) (sym c.shape_of.ensures ∙ c.in-Group.is)) ok.1 ok.2)
 
 -- the group means what is made of it
-group_means : (t : ℕ) (c : read_section-In_ok-sections-in-Group t) → MeansSection c.args.left (framed.frame_form c.args.frame.now)
+group_means : (t : ℕ) (c : read_section-In_ok-sections-in-Group t) → MeansSection c.args.at.left (framed.frame_form c.args.frame.now)
     (Section c.args.frame.now.kind c.args.frame.now.extended
     (Group (sections_from c.in_ok-sections-in-Group.sections.items) c.in_ok-sections-in-Group.tail))
 group_means t c =
     let f : FrameForm = framed.frame_form c.args.frame.now in
-    group_found c.args.left c.in_ok-inside-in-Group.below f c.in_ok-sections-in-Group.sections.items c.in_ok-sections-in-Group.tail
+    group_found c.args.at.left c.in_ok-inside-in-Group.inside.left f c.in_ok-sections-in-Group.sections.items c.in_ok-sections-in-Group.tail
     c.in_ok-inside-in-Group.ensures.ok.0 (group_shape f (sym c.shape_of.ensures ∙ c.in-Group.is)) c.in_ok-sections-in-Group.ensures
 
 pub read_section-of_group-requires-clause-read : goal.read_section-of_group-requires-clause-read
 read_section-of_group-requires-clause-read t c =
     let means = group_means t (goal.at.read_section-of_group-requires-clause-read t c).In_ok-sections-in-Group in
-    (c.args.left, omega arith, framed.frame_form c.args.frame.now, c.requires.stored, means)
+    (c.args.at.left, omega arith, framed.frame_form c.args.frame.now, c.requires.stored, means)
 
 pub read_section-of_group-requires-clause-len : goal.read_section-of_group-requires-clause-len
 read_section-of_group-requires-clause-len t c =
-    body_long c.args.left (framed.frame_form c.args.frame.now) c.args.frame.now.kind
+    body_long c.args.at.left (framed.frame_form c.args.frame.now) c.args.frame.now.kind
     (Group (sections_from c.in_ok-sections-in-Group.sections.items) c.in_ok-sections-in-Group.tail)
     (group_means t (goal.at.read_section-of_group-requires-clause-len t c).In_ok-sections-in-Group)
 
@@ -237,7 +236,7 @@ read_section-returns-in_ok-sections-in-Group t c =
     let f : FrameForm = framed.frame_form c.args.frame.now in
     let means = group_means t (goal.at.read_section-returns-in_ok-sections-in-Group t c).In_ok-sections-in-Group in
     MatchResult-from_both c.of_group.result _ _
-    (IfOk-weaker c.of_group.result _ _ (λ s is. subst (λ (x : SectionMeaning). MeansSection c.args.left f x) (sym is) means)
+    (IfOk-weaker c.of_group.result _ _ (λ s is. subst (λ (x : SectionMeaning). MeansSection c.args.at.left f x) (sym is) means)
     c.of_group.ensures.ok)
     (IfErr-weaker c.of_group.result _ _ (λ e is ne. absurd (ne is)) c.of_group.ensures.err)
 
@@ -247,7 +246,7 @@ pub read_section-returns-in_err-inside-in-Volume : goal.read_section-returns-in_
 read_section-returns-in_err-inside-in-Volume t c =
     let f : FrameForm = framed.frame_form c.args.frame.now in
     passed_on _ _ _ c.from_residual-in_err-inside-in-Volume.ensures.1 (λ ne. c.in_err-inside-in-Volume.ensures.err.1)
-    (deep_fault c.args.left f c.in_err-inside-in-Volume.field-0.0 c.args.place
+    (deep_fault c.args.at.left f c.in_err-inside-in-Volume.field-0.0 c.args.at.place
     c.in_err-inside-in-Volume.ensures.err.0 (inr (volume_shape f (sym c.shape_of.ensures ∙ c.in-Volume.is))))
 
 pub read_section-returns-in_err-volume-in-Volume : goal.read_section-returns-in_err-volume-in-Volume
@@ -255,24 +254,24 @@ read_section-returns-in_err-volume-in-Volume t c =
     let ok = c.in_ok-inside-in-Volume.ensures.ok in
     let f : FrameForm = framed.frame_form c.args.frame.now in
     passed_on _ _ _ c.from_residual-in_err-volume-in-Volume.ensures.1 c.in_err-volume-in-Volume.ensures.read
-    (nested_first c.args.left c.in_ok-inside-in-Volume.below f c.in_err-volume-in-Volume.field-0.0 c.args.place
-    c.in_ok-inside-in-Volume.inside ok.0 (volume_shape f (sym c.shape_of.ensures ∙ c.in-Volume.is)) ok.1 ok.2)
+    (nested_first c.args.at.left c.in_ok-inside-in-Volume.inside.left f c.in_err-volume-in-Volume.field-0.0 c.args.at.place
+    c.in_ok-inside-in-Volume.inside.place ok.0 (volume_shape f (sym c.shape_of.ensures ∙ c.in-Volume.is)) ok.1 ok.2)
 
 -- the opened volume means what is made of it
-nested_means : (t : ℕ) (c : read_section-In_ok-nested-in-Volume t) → MeansSection c.args.left (framed.frame_form c.args.frame.now)
+nested_means : (t : ℕ) (c : read_section-In_ok-nested-in-Volume t) → MeansSection c.args.at.left (framed.frame_form c.args.frame.now)
     (Section c.args.frame.now.kind c.args.frame.now.extended (Nested c.in_ok-nested-in-Volume.nested.value))
 nested_means t c =
     let f : FrameForm = framed.frame_form c.args.frame.now in
     let opened = volume_shape f (sym c.shape_of.ensures ∙ c.in-Volume.is) in
     let read = c.in_ok-volume-in-Volume.ensures in
-    rw c.in_ok-nested-in-Volume.ensures.ok (nested_found c.args.left c.in_ok-inside-in-Volume.below f c.in_ok-volume-in-Volume.volume
-    c.in_ok-inside-in-Volume.ensures.ok.0 opened (opened_whole c.in_ok-inside-in-Volume.below c.in_ok-volume-in-Volume.field-0-1 f.body
+    rw c.in_ok-nested-in-Volume.ensures.ok (nested_found c.args.at.left c.in_ok-inside-in-Volume.inside.left f c.in_ok-volume-in-Volume.volume
+    c.in_ok-inside-in-Volume.ensures.ok.0 opened (opened_whole c.in_ok-inside-in-Volume.inside.left c.in_ok-volume-in-Volume.field-0-1 f.body
     c.in_ok-volume-in-Volume.volume opened.opens read.length.1 read.read))
 
 pub read_section-of_volume-requires : goal.read_section-of_volume-requires
 read_section-of_volume-requires t c =
     let means = nested_means t (goal.at.read_section-of_volume-requires t c).In_ok-nested-in-Volume in
-    (c.args.left, omega arith, framed.frame_form c.args.frame.now, c.requires.stored, means)
+    (c.args.at.left, omega arith, framed.frame_form c.args.frame.now, c.requires.stored, means)
 
 pub read_section-returns-in_ok-nested-in-Volume : goal.read_section-returns-in_ok-nested-in-Volume
 read_section-returns-in_ok-nested-in-Volume t c =
@@ -284,9 +283,9 @@ read_section-returns-in_ok-nested-in-Volume t c =
 pub read_section-of_leaf-requires : goal.read_section-of_leaf-requires
 read_section-of_leaf-requires t c =
     let f : FrameForm = framed.frame_form c.args.frame.now in
-    (c.args.left, omega arith, f, c.requires.stored, leaf_is c.args.left f (leaf_shape f (sym c.shape_of.ensures ∙ c.in-Leaf.is)))
+    (c.args.at.left, omega arith, f, c.requires.stored, leaf_is c.args.at.left f (leaf_shape f (sym c.shape_of.ensures ∙ c.in-Leaf.is)))
 
 pub read_section-returns-in-Leaf : goal.read_section-returns-in-Leaf
 read_section-returns-in-Leaf t c =
     let f : FrameForm = framed.frame_form c.args.frame.now in
-    rw c.of_leaf.ensures (leaf_is c.args.left f (leaf_shape f (sym c.shape_of.ensures ∙ c.in-Leaf.is)))
+    rw c.of_leaf.ensures (leaf_is c.args.at.left f (leaf_shape f (sym c.shape_of.ensures ∙ c.in-Leaf.is)))

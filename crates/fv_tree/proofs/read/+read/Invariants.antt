@@ -1,36 +1,33 @@
-use Rattle.std.proofs.Common.{◌≡◌, ◌+◌, ◌*◌, length, take, map}
+use Rattle.std.proofs.Common.{◌+◌, ◌*◌, length, take, map}
 use Rattle.fv_tree.specs.Denotes.{Pairwise, MeansFile, Stream}
 use Rattle.fv_tree.specs.LocatedFiles.{file_form}
 use Rattle.fv_tree.proofs.StreamLaws.{Walked}
 use Rattle.fv_tree.proofs.read.+read.Given as goal
 
 abbrev pub invariant-read_stream-loop-frame : goal.invariant-read_stream-loop-frame
-invariant-read_stream-loop-frame l = Walked l.left l.bytes l.walk.1 l.walk.0 l.sections.items
+invariant-read_stream-loop-frame l = Walked l.at.left l.bytes l.walk.1 l.walk.0 l.sections.items
 
 abbrev pub decreases-read_stream-loop-frame : goal.decreases-read_stream-loop-frame
 decreases-read_stream-loop-frame l = length l.walk.0
 
 abbrev pub invariant-read_files-loop-file : goal.invariant-read_files-loop-file
 invariant-read_files-loop-file l =
-    Pairwise (MeansFile (Stream l.left)) (take l.file-index (map file_form l.files)) l.views.items
+    Pairwise (MeansFile (Stream l.at.left)) (take l.file-index (map file_form l.files)) l.views.items
 
 abbrev pub decreases-read_section : goal.decreases-read_section
-decreases-read_section l = 7 * l.left
+decreases-read_section l = 6 * l.at.left
 
 abbrev pub decreases-read_stream : goal.decreases-read_stream
-decreases-read_stream l = 7 * l.left + 1
+decreases-read_stream l = 6 * l.at.left + 1
 
 abbrev pub decreases-read_content : goal.decreases-read_content
-decreases-read_content l = 7 * l.left + 2
-
-abbrev pub decreases-read_files : goal.decreases-read_files
-decreases-read_files l = 7 * l.left + 4
-
-abbrev pub decreases-read_body : goal.decreases-read_body
-decreases-read_body l = 7 * l.left + 5
-
-abbrev pub decreases-read_at : goal.decreases-read_at
-decreases-read_at l = 7 * l.left + 6
+decreases-read_content l = 6 * l.at.left + 2
 
 abbrev pub decreases-read_file : goal.decreases-read_file
-decreases-read_file l = 7 * l.left + 3
+decreases-read_file l = 6 * l.at.left + 3
+
+abbrev pub decreases-read_files : goal.decreases-read_files
+decreases-read_files l = 6 * l.at.left + 4
+
+abbrev pub decreases-read_at : goal.decreases-read_at
+decreases-read_at l = 6 * l.at.left + 5

@@ -54,7 +54,7 @@ returns-in-Ok-current_files-clause-stored c =
 
 pub returns-in-Err-current_files-clause-read : goal.returns-in-Err-current_files-clause-read
 returns-in-Err-current_files-clause-read c = λ ne.
-    let w = c.within-in-Err-current_files.ensures.moved ne in (
+    let w = c.fault_within-in-Err-current_files.ensures.moved ne in (
       c.in-Err-current_files.fault,
       inr (
         c.in-Ok.list,

@@ -3,25 +3,12 @@ use Rattle.std.proofs.lemmas.List.{get_or-map, length-map, map_push}
 use Rattle.fv_base.proofs.Laws.{at_index}
 use Rattle.fv_file.specs.CellForms as cellular
 use Rattle.fv_file.specs.declared.cell.Cell.{Cell}
-use Rattle.fv_file.specs.declared.cell.Cell.TheVariants as cells
-use Rattle.fv_file.specs.declared.state.FileState.TheVariants as states
 use Rattle.fv_tree.specs.Files.{files_in}
 use Rattle.fv_tree.specs.LocatedFiles.{file_form}
 use Rattle.fv_tree.specs.inner.SmallFiles.{IsSmallCell}
 use Rattle.fv_tree.proofs.NameLaws.{files_in_items}
+use Rattle.fv_tree.proofs.SmallCellLaws.{no_cell}
 use Rattle.fv_tree.proofs.volume_files.files_of.Goals as goal
-
-abbrev no_cell : Cell
-no_cell = cells.Valid 0 (record {
-  name = record { bytes = [] };
-  kind = 0;
-  attributes = record { 0 = 0 };
-  size = 0;
-  header_len = 0;
-  header_sum = 0;
-  file_sum = 0;
-  state = states.Free;
-}) (record { ref_ptr = (0, 0); now = [] })
 
 pub file_of-requires : goal.file_of-requires
 file_of-requires c =

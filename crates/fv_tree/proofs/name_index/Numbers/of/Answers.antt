@@ -2,10 +2,11 @@ use Rattle.std.proofs.Common.{◌≡◌, ◌<◌, ◌≤◌, ◌%◌, ◌^◌, �
 use Rattle.std.specs.List.Sorted.{IsPermutation}
 use Rattle.std.proofs.lemmas.List.{map_more, take_all}
 use Rattle.std.proofs.lemmas.List.Sorted.{IsPermutation-trans}
-use Rattle.fv_tree.specs.FileNames.{Entry, Halves, numbered}
+use Rattle.fv_tree.specs.FileNames.{Entry, numbered}
 use Rattle.fv_tree.specs.inner.NameOrders.{key_of, names_in}
 use Rattle.fv_tree.specs.LocatedFiles.{file_form}
 use Rattle.fv_tree.specs.declared.volume_files.LocatedFile.{LocatedFile}
+use Rattle.fv_tree.proofs.IndexLaws.{no_file}
 use Rattle.fv_tree.proofs.KeyLaws.{entry_at, key_within, keyed_all}
 use Rattle.fv_tree.proofs.name_index.Numbers.of.Goals as goal
 
@@ -18,24 +19,12 @@ within : (files : List LocatedFile) (bits : ℕ) → length files ≤ 2 ^ bits �
 within files bits room keys stored same all i l =
     key_within files bits room keys (subst (IsPermutation (map (key_of bits) (numbered 0 (names_in (map file_form files))))) (sym same) all) i l
 
-pub offset_bounds-files-number : goal.offset_bounds-files-number
-offset_bounds-files-number c =
-    omega (
-      arith,
-      within c.args.files.now c.of-packing.result.bits c.of-packing.ensures.room c.deref-key-items.result.now
-          c.in_ok-keys.keys.items c.deref-key-items.ensures.value c.in_ok-keys.ensures.keys c.loop-key.key-index c.loop-key-test.true,
-      c.number-number.ensures,
-      c.requires,
-    )
-
-pub bounds-files-number : goal.bounds-files-number
-bounds-files-number c =
-    omega (
-      arith,
-      within c.args.files.now c.of-packing.result.bits c.of-packing.ensures.room c.deref-key-items.result.now
-          c.in_ok-keys.keys.items c.deref-key-items.ensures.value c.in_ok-keys.ensures.keys c.loop-key.key-index c.loop-key-test.true,
-      c.number-number.ensures,
-    )
+pub entry_at-requires-clause-within : goal.entry_at-requires-clause-within
+entry_at-requires-clause-within c =
+    let keys : List ℕ = c.deref-key-items.result.now in
+    let of_files = within c.args.files.now c.of-packing.result.bits c.of-packing.ensures.room keys c.in_ok-keys.keys.items
+    c.deref-key-items.ensures.value c.in_ok-keys.ensures.keys c.loop-key.key-index c.loop-key-test.true in
+    omega (arith, of_files, c.number-number.ensures)
 
 pub loop-key-preserved : goal.loop-key-preserved
 loop-key-preserved c =
@@ -45,7 +34,7 @@ loop-key-preserved c =
     let i : ℕ = c.loop-key.key-index in
     let old : List Entry = c.loop-key.sorted.items in
     let f : ℕ → Entry = λ key. entry_at files (key % 2 ^ bits) in
-    c.in_ok-push.ensures.items ∙ ap (λ (h : Halves). old ++ (h, c.number-number.result) ∷ []) c.halves.ensures.is
+    c.in_ok-push.ensures.items ∙ ap (λ (e : Entry). old ++ e ∷ []) (c.entry_at.ensures no_file)
     ∙ ap (λ (n : ℕ). old ++ entry_at files n ∷ []) c.number-number.ensures
     ∙ ap (λ (es : List Entry). es ++ f (get_or keys i 0) ∷ []) c.loop-key.invariant ∙ sym (map_more f keys i 0 c.loop-key-test.true)
 

@@ -27,15 +27,7 @@ Noted fs es files place =
 
 -- the file with another mark
 abbrev with_mark : LocatedFile → Mark → LocatedFile
-with_mark s m = record {
-  payload = s.payload;
-  name = s.name;
-  offset = s.offset;
-  kind = s.kind;
-  attributes = s.attributes;
-  header_sum = s.header_sum;
-  mark = m;
-}
+with_mark s m = record s { mark = m }
 
 -- the form of a file whose mark is m, where the mark of the file s has the state of m
 marked_form : (s : LocatedFile) (m : Mark) → state_by m ≡ state_by s.mark → file_form (with_mark s m) ≡ file_form s

@@ -1,0 +1,7 @@
+use Rattle.std.proofs.lemmas.Result.{err_from_is_err_and}
+use Rattle.fv_c.proofs.canonical.digest_of.Goals as goal
+
+pub returns-in_err-image-clause-fits : goal.returns-in_err-image-clause-fits
+returns-in_err-image-clause-fits c =
+    let p = err_from_is_err_and c.from_residual.result c.from_residual.ensures.1 in
+    rw (p.1, p.2) (λ image to. c.in_err-image.ensures.fits image to)

@@ -1,0 +1,38 @@
+-- The data of a file, as a body: the same volumes, the same bytes, as many values, and as deep.
+use Rattle.std.proofs.Common.{◌≡◌, ◌<◌, ◌≤◌, ◌+◌, ℕ, suc, false, List, length, get_or, refl, arith}
+use Rattle.fv_tree.specs.Denotes.{MeansFile, Stream, group_kind}
+use Rattle.fv_tree.specs.Files.{FileForm}
+use Rattle.fv_tree.specs.Meaning.{FileMeaning, File, Plain, Sectioned, content_of, files_from}
+use Rattle.fv_tree.specs.inner.Sizes.{body_size, file_size, files_size}
+use Rattle.fv_tree.proofs.Laws.{file_falls}
+use Rattle.fv_canon.specs.Volumes.{volumes_in_body, volumes_in_content, volumes_in_file}
+use Rattle.fv_canon.specs.inner.DataBodies.{data_body}
+use Rattle.fv_canon.specs.inner.Depths.{NestsBody}
+use Rattle.fv_canon.specs.inner.ImageOf.{body_image, data_of}
+
+pub data_volumes : (m : FileMeaning) → volumes_in_body (data_body m) ≡ volumes_in_file m
+data_volumes (File name kind attributes (Plain b)) = refl
+data_volumes (File name kind attributes (Sectioned ss tail)) = refl
+
+pub data_held : (m : FileMeaning) → volumes_in_body (data_body m) ≡ volumes_in_content (content_of m)
+data_held (File name kind attributes (Plain b)) = refl
+data_held (File name kind attributes (Sectioned ss tail)) = refl
+
+pub data_image : (m : FileMeaning) (starts : List ℕ) → body_image (data_body m) starts ≡ data_of (content_of m) starts
+data_image (File name kind attributes (Plain b)) starts = refl
+data_image (File name kind attributes (Sectioned ss tail)) starts = refl
+
+pub data_size : (m : FileMeaning) → file_size m ≡ body_size (data_body m) + 1
+data_size (File name kind attributes (Plain b)) = refl
+data_size (File name kind attributes (Sectioned ss tail)) = refl
+
+pub data_falls : (fs : List FileMeaning) (i : ℕ) (m : FileMeaning) → i < length fs → m ≡ get_or fs i m
+    → body_size (data_body m) + 2 ≤ files_size (files_from fs)
+data_falls fs i m l is = omega (arith, file_falls fs i m l is, data_size m)
+
+-- sections in a file nest as deep as those of a group around them would, less one
+pub data_nests : (m : FileMeaning) (n : ℕ) (f : FileForm) → MeansFile (Stream n) f m → NestsBody (data_body m) (suc n)
+data_nests (File name kind attributes (Plain b)) n f is =
+    (record { offset = 0; kind = 0; extended = false; body = b }, 0, false, (refl, refl, (λ e. cc, λ e. cc, refl)))
+data_nests (File name kind attributes (Sectioned ss tail)) n f (a, b, c, (held, stream)) =
+    (record { offset = 0; kind = group_kind; extended = false; body = f.payload }, group_kind, false, (refl, refl, (refl, stream)))

@@ -1,0 +1,51 @@
+use Rattle.std.proofs.Common.{◌≡◌, ℕ, List, Option, Some, refl, sym, subst}
+use Rattle.std.proofs.lemmas.Result.{err_from_is_err_and}
+use Rattle.fv_section.specs.Frames.{FrameForm}
+use Rattle.fv_section.specs.FrameForms.{frame_form}
+use Rattle.fv_tree.specs.LookupInstances.{section_of_type, frame_of_type}
+use Rattle.fv_tree.specs.Meaning.{Plain, Sectioned, SectionMeaning, SectionMeanings, content_of}
+use Rattle.fv_command.specs.Extractions.{IsSectionPart, IsFramePart}
+use Rattle.fv_command.specs.declared.extracting.Extraction.TheVariants.{Made, Stored}
+use Rattle.fv_command.proofs.PartLemmas.{stops_section}
+use Rattle.fv_command.proofs.extracting.file_part.Goals as goal
+
+pub returns-in_ok-body_bytes-in-Found-Section-clause-ok : goal.returns-in_ok-body_bytes-in-Found-Section-clause-ok
+returns-in_ok-body_bytes-in-Found-Section-clause-ok c =
+    let w = c.in-Found-Section.ensures in
+    let item = c.in-Found-Section.field-0-is in
+    let s : SectionMeaning = c.in-Found-Section.section.now in
+    let bytes = c.in_ok-body_bytes-in-Found-Section.field-0 in
+    rw c.in-Some.is (record {
+      sections = λ ss t e.
+          let p : section_of_type c.in-Some.kind c.args.part.now.instance ss ≡ Some s = rw item at (w.sections ss t e) in
+          subst (λ (o : Option SectionMeaning). IsSectionPart o (Made bytes)) (sym p) c.in_ok-body_bytes-in-Found-Section.ensures.body;
+      core = λ b fs t e k h. absurd (rw item at (w.core b fs t e k h));
+      plain = λ b e n. let same = w.plain b e n in cc;
+    })
+
+pub returns-in-Found-Frame-clause-ok : goal.returns-in-Found-Frame-clause-ok
+returns-in-Found-Frame-clause-ok c =
+    let w = c.in-Found-Frame.ensures in
+    let item = c.in-Found-Frame.field-0-is in
+    rw c.in-Some.is (record {
+      sections = λ ss t e. absurd (rw item at (w.sections ss t e));
+      core = λ b fs t e k h.
+          let p : frame_of_type c.in-Some.kind c.args.part.now.instance fs ≡ Some (frame_form c.in-Found-Frame.frame) =
+          rw item at (w.core b fs t e k h) in
+          subst (λ (o : Option FrameForm). IsFramePart o (Stored c.in-Found-Frame.frame.body)) (sym p) refl;
+      plain = λ b e n. let same = w.plain b e n in cc;
+    })
+
+pub returns-in_err-body_bytes-in-Found-Section-clause-err : goal.returns-in_err-body_bytes-in-Found-Section-clause-err
+returns-in_err-body_bytes-in-Found-Section-clause-err c =
+    let residual = c.from_residual-in_err-body_bytes-in-Found-Section in
+    let p = err_from_is_err_and residual.result residual.ensures.1 in
+    let w = c.in-Found-Section.ensures in
+    let item = c.in-Found-Section.field-0-is in
+    let f = c.args.file.now in
+    let found : (ss : SectionMeanings) (t : ℕ) → content_of f ≡ Sectioned ss t
+    → section_of_type c.in-Some.kind c.args.part.now.instance ss ≡ Some c.in-Found-Section.section.now = λ ss t e. rw item at (w.sections ss t e) in
+    let none : (b : List ℕ) → content_of f ≡ Plain b → ⊥ = λ b e.
+    let same = w.plain b e (λ k fs t h. absurd (rw item at (w.core b fs t e k h))) in cc in
+    rw (c.in-Some.is, p.1, p.2) (stops_section f c.in-Some.kind c.args.part.now.instance c.in-Found-Section.section.now _ found none
+    c.in_err-body_bytes-in-Found-Section.ensures.err)

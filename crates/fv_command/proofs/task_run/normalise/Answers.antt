@@ -1,8 +1,0 @@
-use Rattle.std.proofs.lemmas.Result.{err_from_is_err_and}
-use Rattle.fv_command.proofs.RunLemmas.{image_stopped}
-use Rattle.fv_command.proofs.task_run.normalise.Goals as goal
-
-pub returns-in_err-write_image : goal.returns-in_err-write_image
-returns-in_err-write_image g c =
-    let p = err_from_is_err_and c.from_residual.result c.from_residual.ensures.1 in
-    rw (p.1, p.2) (image_stopped _ _ _ _ _ c.in_err-write_image.ensures.err)

@@ -1,6 +1,0 @@
-use Rattle.std.proofs.Common.{◌≡◌, take}
-use Rattle.fv_depex.specs.Expressions.{ops_bytes}
-use Rattle.fv_depex.proofs.write.ops_bytes.Given as goal
-
-abbrev pub invariant-loop-op : goal.invariant-loop-op
-invariant-loop-op l = l.bytes.items ≡ ops_bytes (take l.op-index l.fn.ops)
