@@ -66,7 +66,7 @@ enum {
 /* A fault and its place. All fields are 0 if there is none. */
 typedef struct fv_fault {
     uint64_t offset; /* in bytes, from the first byte of the input */
-    uint32_t number; /* FV_TRUNCATED to FV_OUT_OF_MEMORY */
+    uint32_t number; /* FV_TRUNCATED to FV_OUT_OF_MEMORY; fv_depex and fv_hobs have numbers of their own */
     uint32_t depth;  /* the number of groups and opened volumes around it, 0 to 8 */
 } fv_fault;
 FV_ASSERT(sizeof(fv_fault) == 16 && offsetof(fv_fault, number) == 8 && offsetof(fv_fault, depth) == 12,
@@ -143,7 +143,7 @@ uint32_t fv_scan(const uint8_t *bytes, size_t len, uint64_t *FV_RESTRICT buffer,
  * line `same`, or `different at` with the steps down to the first difference and its kind, is written to
  * the start of the buffer. It ends with a line feed, not with a NUL. Returns 0. Returns 27 if
  * buffer_len < found->line_len; 553 bytes are always enough. Else returns the first fault of the input
- * found->side. */
+ * found->side; 24 has side 1 if memory runs out while the two are compared. */
 uint32_t fv_compare(const uint8_t *first, size_t first_len, const uint8_t *second, size_t second_len,
                     char *FV_RESTRICT buffer, size_t buffer_len, fv_comparison *FV_RESTRICT found);
 

@@ -22,7 +22,7 @@ use Rattle.fv_arguments.proofs.FlagRows.{IsOther, built_flag, differ, find_past,
 use Rattle.fv_arguments.proofs.FlagWords.{HasFlag, dashed, is_named, word_names}
 use Rattle.fv_arguments.specs.Words.{has_flag}
 
--- the walk between two words of a command with no subcommand; behind `--` it trails
+-- the walk between two words of a command with no subcommand; after `--` it trails
 abbrev at : Bool → Held → Waiting → ℕ → Walk
 at trails h w n = record { held = h; waiting = w; position = n; is_trailing = trails; stopped = None }
 
@@ -64,7 +64,7 @@ module _ (flag : Text) where
   KeepsBundle seen step = (flagged : Text) (skip : ℕ) (so_far : Outcome) (h : Held) → Holds seen h → EndsOther so_far
       → Met seen (step flagged skip so_far h)
 
-  -- P holds wherever the walk may stand
+  -- P holds wherever the walk may be
   abbrev Anywhere : Bool → Bool → (Walk → Type 0) → Type 0
   Anywhere seen trails P = (h : Held) (w : Waiting) (n : ℕ) → Holds seen h → WaitsOther w → P (at trails h w n)
 

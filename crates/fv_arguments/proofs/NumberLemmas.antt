@@ -1,6 +1,6 @@
 -- Numbers that the reader has taken: each is a decimal numeral, and is read as such. The reader says that each value
 -- passed the parser of an argument with its id (IsParsedFrom). Each argument with that id has a parser of numbers,
--- since building keeps those of the command and adds `help` and `version` alone. So the first value is a numeral below
+-- since building keeps those of the command and adds only `help` and `version`. So the first value is a numeral below
 -- the bound, and reading it as written gives the number.
 use Rattle.std.proofs.Common.{◌≡◌, ◌∙◌, ◌^◌, ◌<◌, ◌≤◌, ◌||◌, ℕ, Bool, true, false, true≢false, not, List, [], ◌∷◌, length}
 use Rattle.std.proofs.Common.{Option, Some, None}

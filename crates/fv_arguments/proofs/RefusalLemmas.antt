@@ -1,4 +1,4 @@
--- Words that are refused as wrong are not right: the reader finds a fault in them (refused), or what it reads is no plan
+-- Arguments that are rejected as wrong are not right: the reader finds a fault in them (refused), or what it reads is no plan
 -- (no_place, no_name, no_type, no_pair, no_files).
 use Rattle.std.proofs.Common.{◌≡◌, ◌≢◌, ◌∙◌, ◌⊎◌, ℕ, List, [], ◌∷◌, IfErr, Result, Ok, Err, Option, Some, None, ap, codes, inl, inr}
 use Rattle.std.proofs.Common.{drop, refl, subst, sym, true, false, true≢false}
@@ -39,7 +39,7 @@ pub same_faults : (name : List ℕ) (c : Command) → name ≡ command_name c �
     → faults_in (app_named name) rest ≡ faults_in (command_app c) rest
 same_faults name c is rest = ap (λ (a : App). faults_in a rest) (ap app_named is ∙ named_app c)
 
--- a fault of the reader, as it is handed on
+-- a fault of the reader, as it is passed on
 abbrev pub IsHandedOn : Error → WordFault → Type 0
 IsHandedOn e f = (kind_of e ≡ error_kinds.OutOfMemory → f ≡ OutOfMemory) × (kind_of e ≢ error_kinds.OutOfMemory → f ≡ Words)
 

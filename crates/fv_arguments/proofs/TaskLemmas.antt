@@ -30,7 +30,7 @@ pub by_flag : (name : List ℕ) (rest : List (List ℕ)) (at : Option ℕ) (file
 by_flag name rest at file given one other task is on off =
     subst (IsAsked name rest at file) (sym is) (cond_both given one other (IsAsked name rest at file) on off)
 
--- a fault that is handed on
+-- a fault that is passed on
 pub handed : (name : List ℕ) (m : ArgMatches) (r : Result Command WordFault) (f : WordFault) → IsErrAnd r (λ g. g ≡ f)
     → AsksFor name m (Err f) → AsksFor name m r
 handed name m (Ok c) f is h = absurd is

@@ -31,7 +31,7 @@ impl From<clap::Error> for WordFault {
     }
 }
 
-// The text of an argument, if it was given.
+// The file that the argument with this name gives, if it was given.
 fn file_of(
     alloc: Global,
     matches: &ArgMatches<'_>,

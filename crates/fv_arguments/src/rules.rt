@@ -44,27 +44,27 @@ fn with_volume<'a>(alloc: Global, rules: Command<'a>) -> Result<Command<'a>, All
 }
 
 // The rules of a command with the flag that inputs and outputs are text.
-fn flag_words<'a>(alloc: Global) -> Result<Command<'a>, AllocError>
+fn flag_rules<'a>(alloc: Global) -> Result<Command<'a>, AllocError>
     ensures { IfOk result (λ c. app_of c ≡ flag_app) }
 {
     Command::new(alloc, "fvtool").arg(flag(alloc, "hex"))
 }
 
 // The rules of `hobs`. That an image and a base are given together is checked after parsing.
-fn hobs_words<'a>(alloc: Global) -> Result<Command<'a>, AllocError>
+fn hobs_rules<'a>(alloc: Global) -> Result<Command<'a>, AllocError>
     ensures { IfOk result (λ c. app_of c ≡ hobs_app) }
 {
-    flag_words(alloc)?
+    flag_rules(alloc)?
         .arg(text_option(alloc, "image"))?
         .arg(number_option(alloc, "base", u64::MAX))?
         .arg(Arg::new(alloc, "file"))
 }
 
 // The rules of `extract`. That a file is named is checked after parsing.
-fn extract_words<'a>(alloc: Global) -> Result<Command<'a>, AllocError>
+fn extract_rules<'a>(alloc: Global) -> Result<Command<'a>, AllocError>
     ensures { IfOk result (λ c. app_of c ≡ extract_app) }
 {
-    let named = flag_words(alloc)?.arg(text_option(alloc, "name"))?;
+    let named = flag_rules(alloc)?.arg(text_option(alloc, "name"))?;
     let parts = named
         .arg(text_option(alloc, "section"))?
         .arg(number_option(alloc, "instance", u64::from(u32::MAX)))?;
@@ -72,10 +72,10 @@ fn extract_words<'a>(alloc: Global) -> Result<Command<'a>, AllocError>
 }
 
 // The rules of `compare`, which has two inputs. That both are named is checked after parsing.
-fn compare_words<'a>(alloc: Global) -> Result<Command<'a>, AllocError>
+fn compare_rules<'a>(alloc: Global) -> Result<Command<'a>, AllocError>
     ensures { IfOk result (λ c. app_of c ≡ compare_app) }
 {
-    flag_words(alloc)?
+    flag_rules(alloc)?
         .arg(number_option(alloc, "at", u64::MAX))?
         .arg(number_option(alloc, "other-at", u64::MAX))?
         .arg(Arg::new(alloc, "first"))?
@@ -88,12 +88,12 @@ pub(crate) fn rules_of<'a>(alloc: Global, name: &str) -> Result<Command<'a>, All
     ensures { IfOk result (λ c. app_of c ≡ app_named name.now) }
 {
     match name {
-        "normalise" => with_volume(alloc, flag_words(alloc)?.arg(flag(alloc, "all"))?),
-        "list" => with_volume(alloc, flag_words(alloc)?.arg(flag(alloc, "sums"))?),
-        "hobs" => hobs_words(alloc),
-        "extract" => extract_words(alloc),
-        "compare" => compare_words(alloc),
-        "scan" => flag_words(alloc)?.arg(Arg::new(alloc, "file")),
-        _ => with_volume(alloc, flag_words(alloc)?),
+        "normalise" => with_volume(alloc, flag_rules(alloc)?.arg(flag(alloc, "all"))?),
+        "list" => with_volume(alloc, flag_rules(alloc)?.arg(flag(alloc, "sums"))?),
+        "hobs" => hobs_rules(alloc),
+        "extract" => extract_rules(alloc),
+        "compare" => compare_rules(alloc),
+        "scan" => flag_rules(alloc)?.arg(Arg::new(alloc, "file")),
+        _ => with_volume(alloc, flag_rules(alloc)?),
     }
 }

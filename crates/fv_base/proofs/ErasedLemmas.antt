@@ -97,7 +97,7 @@ pub all-of_replicate : (byte n : ℕ) → AllAre byte (replicate n byte)
 all-of_replicate byte zero = tt
 all-of_replicate byte (suc n) = (refl, all-of_replicate byte n)
 
--- a piece and what is behind it
+-- a piece and what is after it
 pub all_pieces : (byte : ℕ) (whole piece behind rest : List ℕ) → rest ≡ piece ++ behind → (AllAre byte rest ↔ AllAre byte whole)
     → AllAre byte piece → (AllAre byte behind ↔ AllAre byte whole)
 all_pieces byte whole piece behind rest is says held = (

@@ -21,7 +21,7 @@ field-take i n m b h =
     subst (λ (k : ℕ). drop i (take k b) ≡ take (m - i) (drop i b)) (sym split) (drop-take i (m - i) b) in
     ap (take n) cut ∙ take-take_le n (m - i) (drop i b) (omega arith)
 
--- the bytes behind the first are bytes
+-- the bytes after the first are bytes
 pub bytes_behind : (b : ℕ) (bs : List ℕ) → IsBytes (b ∷ bs) → IsBytes bs
 bytes_behind b bs h = λ i. h (suc i)
 
@@ -42,11 +42,11 @@ pub length-le_bytes : (k n : ℕ) → length (le_bytes k n) ≡ k
 length-le_bytes zero n = refl
 length-le_bytes (suc k) n = ap suc (length-le_bytes k (n / 256))
 
--- no byte stands behind the end
+-- no byte is after the end
 pub none_at : (i : ℕ) → slice_index [] i < 256
 none_at i = omega arith
 
--- the first n bytes are bytes, and so are those behind them
+-- the first n bytes are bytes, and so are those after them
 pub bytes_take : (n : ℕ) (b : List ℕ) → IsBytes b → IsBytes (take n b)
 bytes_take zero b h i = none_at i
 bytes_take (suc n) [] h i = none_at i
@@ -70,7 +70,7 @@ pub bytes_cons : (x : ℕ) (b : List ℕ) → x < 256 → IsBytes b → IsBytes 
 bytes_cons x b h k zero = h
 bytes_cons x b h k (suc i) = k i
 
--- bytes behind bytes are bytes
+-- bytes after bytes are bytes
 pub bytes_append : (a b : List ℕ) → IsBytes a → IsBytes b → IsBytes (a ++ b)
 bytes_append [] b h k = k
 bytes_append (x ∷ a) b h k = bytes_cons x (a ++ b) (h 0) (bytes_append a b (bytes_behind x a h) k)
@@ -101,7 +101,7 @@ pub field-append_front : (i n : ℕ) (p q : List ℕ) → i + n ≤ length p →
 field-append_front i n p q within =
     ap (take n) (drop-append-le i p q (omega arith)) ∙ take-append-le n (drop i p) q (simp length-drop (omega arith))
 
--- a place behind the first part of a join
+-- a place after the first part of a join
 pub drop-append_behind : (i : ℕ) (p q : List ℕ) → length p ≤ i → drop i (p ++ q) ≡ drop (i - length p) q
 drop-append_behind i p q past = ap (λ (k : ℕ). drop k (p ++ q)) (split i (length p) past) ∙ drop-append-add p q (i - length p) where
   split : (i n : ℕ) → n ≤ i → i ≡ n + (i - n)

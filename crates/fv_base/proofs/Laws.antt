@@ -15,10 +15,10 @@ pub use Rattle.fv_base.proofs.TestLemmas.{if_true, if_false, not_less, not_at_mo
 pub use Rattle.fv_base.proofs.ErasedLemmas.{all_append, all_front, all_behind, all-replicate, all-of_replicate, all_are-true, all-all_are}
 -- sums of the words of joined bytes
 pub use Rattle.fv_base.proofs.SumLemmas.{words_of-append, sum-words_of-append}
--- what a list sink and a written port hold behind a walk
+-- what a list sink and a written port hold after a walk
 pub use Rattle.fv_base.proofs.SinkLemmas.{kept_whole, front_is}
--- what was read from a reader behind a turn that met its end, or that failed; a flag is not both up and down
+-- what was read from a reader after a turn that met its end, or that failed; a flag is not both up and down
 pub use Rattle.fv_base.proofs.ReadLemmas.{end_read, none_read, up_is_not_down}
 -- what holds of every item of a list holds of the one at a place, of the one where it is cut, and of those that are kept of it; an item of
--- a list is its first or one behind it
+-- a list is its first or one after it
 pub use Rattle.fv_base.proofs.ListLaws.{at_index, in_middle, all_filter, first_or_behind, one_behind}

@@ -1,4 +1,4 @@
--- What holds of every item of a list, of one item and of some, and where an item stands.
+-- What holds of every item of a list, of one item and of some, and where an item is.
 use Rattle.std.proofs.Common.{◌≡◌, ◌⊎◌, ℕ, zero, suc, ◌<◌, Bool, true, false, List, [], ◌∷◌, ◌++◌, length, get_or, refl, inl, inr, arith}
 use Rattle.std.specs.List.{AllByRecursion, Contains, filter}
 
@@ -23,7 +23,7 @@ all_filter {X} test P (x ∷ xs) h = go (test x) refl (all_filter test P xs h.1)
   go true e rest = rw e (h.0, rest)
   go false e rest = rw e rest
 
--- an item of a list is its first or one behind it
+-- an item of a list is its first or one after it
 pub first_or_behind : {X : Type 0} (x : X) (xs : List X) (y : X) → Contains (x ∷ xs) y → (x ≡ y) ⊎ Contains xs y
 first_or_behind x xs y (zero, l, e) = inl e
 first_or_behind x xs y (suc k, l, e) = inr (k, omega (arith, l), e)

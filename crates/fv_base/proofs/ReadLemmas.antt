@@ -10,7 +10,7 @@ use Rattle.fv_base.specs.Faults.{outer_fault}
 use Rattle.fv_base.specs.Input.{ReadStops}
 use Rattle.fv_base.specs.Limits.{volume_limit}
 
--- the reader failed behind these bytes
+-- the reader failed after these bytes
 pub stops_by_error : (old new : Option (List ℕ)) (bytes : List ℕ) (n : ℕ) (f : Fault) → Consumes old new bytes → n ≡ length bytes
     → f ≡ outer_fault kinds.ReadFault n → ReadStops old new f
 stops_by_error old new bytes n f gave count is =

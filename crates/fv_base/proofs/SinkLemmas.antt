@@ -1,4 +1,4 @@
--- What a sink holds behind a walk, or behind several.
+-- What a sink holds after a walk, or after several.
 use Rattle.std.proofs.Common.{◌≡◌, ℕ, ◌+◌, ◌<◌, ◌%◌, ◌^◌, List, [], ◌++◌, take, drop, length, replicate, refl, sym, ◌∙◌, ap, subst, arith}
 use Rattle.std.proofs.Common.{◌||◌, ◌&&◌, ◌==◌, not, eqb-true, Bool, true, false}
 use Rattle.std.proofs.lemmas.List.{length-take-le, replicate-append-replicate}

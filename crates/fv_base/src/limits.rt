@@ -1,6 +1,6 @@
 //! The limits of what is read, each defined once in code. The limits in bytes have definitions with
 //! numbers of their own: those of a volume and of its headers in `specs/Limits.antt`, that of one
-//! read in `specs/ReadTurns.antt`, that of hexadecimal text in `specs/HexIn.antt` of `fv_command`.
+//! read in `specs/inner/ReadTurns.antt`, that of hexadecimal text in `specs/HexIn.antt` of `fv_text`.
 //! Contracts tie the two: such a limit has to be changed in both, or nothing is proved. The limits
 //! on the number of calls of `read` have no definition. Contracts say that they suffice if no call
 //! fails, and tests show how many calls they are.

@@ -51,7 +51,7 @@ row_at section f rows o ne are found =
     ap (λ (l : List SectionRow). slice_get l section) (sym are) ∙ slice_get-map row_form rows section ∙ ap (option_map row_form) (sym found) in
     rw test (ap (option_map row_part) row)
 
--- ---- what is told of it
+-- ---- what is promised of it
 
 pub shows_none : (p : Option PartMeaning) → p ≡ None → ShowsPart p None
 shows_none p is = subst (λ (o : Option PartMeaning). ShowsPart o None) (sym is) tt
@@ -63,7 +63,7 @@ pub stops_part : (p : Option PartMeaning) (q : PartMeaning) (f : Fault) → p �
     → (f ≡ out_of_memory) ⊎ FirstUnfit (volumes_in_part q) 0 f → StopsPart p f
 stops_part p q f is stop = subst (λ (o : Option PartMeaning). StopsPart o f) (sym is) stop
 
--- ---- what was told of it
+-- ---- what was promised of it
 
 pub shown_part : (p : Option PartMeaning) (bytes : List ℕ) → ShowsPart p (Some bytes) → (q : PartMeaning) × (p ≡ Some q) × IsPartImage q bytes
 shown_part None bytes never = absurd never

@@ -1,4 +1,5 @@
-//! The canonical image of a volume, and of each volume of a flash image.
+//! The canonical image of a volume, whether a volume is its own image, its digest, and a flash
+//! image of canonical volumes.
 
 ghost use Rattle.std.specs.Prelude.{◌≡◌, ◌≢◌, ◌⊎◌, ◌↔◌, ◌<◌, ◌≤◌, ◌++◌, ℕ, List, length, drop, IfOk, IfErr};
 ghost use Rattle.sha2.specs.Sha256.{sha256};
@@ -13,7 +14,7 @@ ghost use Rattle.fv_tree.specs.Meaning.{Meaning};
 ghost use Rattle.fv_c.specs.Reports.{reported_fault, no_fault};
 
 use crate::buffer::put_first;
-use crate::reports::{BUFFER_TOO_SMALL, FvFault, NO_FAULT, refused};
+use crate::reports::{BUFFER_TOO_SMALL, FvFault, NO_FAULT, flag, refused};
 use fv_base::Fault;
 use fv_canon::{is_canonical, normalise, normalise_image};
 use sha2::{Digest, Sha256};
@@ -45,7 +46,7 @@ pub extern "C" fn fv_is_canonical(
 {
     match is_canonical(alloc, input) {
         Ok(is_own) => {
-            *canonical = if is_own { 1 } else { 0 };
+            *canonical = flag(is_own);
             *fault = NO_FAULT;
             0
         }

@@ -11,7 +11,7 @@ ghost use Rattle.fv_tree.specs.Meaning.{Meaning};
 ghost use Rattle.fv_c.specs.ReportedComparisons.{IsReported, reported_stop};
 
 use crate::buffer::put_first;
-use crate::reports::{BUFFER_TOO_SMALL, FvFault, NO_FAULT, flag, reported_fault};
+use crate::reports::{BUFFER_TOO_SMALL, FvFault, NO_FAULT, OUT_OF_MEMORY, flag, reported_fault};
 use fv_base::{Fault, FaultKind, Port};
 use fv_canon::{whole_volume, write_comparison};
 use fv_tree::VolumeView;
@@ -76,7 +76,7 @@ fn report(
         Ok(pair) => pair,
         Err(f) => {
             *found = stopped(1, f);
-            return 24;
+            return OUT_OF_MEMORY;
         }
     };
     *found = FvComparison {
@@ -98,9 +98,10 @@ fn report(
 ///
 /// # Errors
 ///
-/// 27 if the buffer is shorter than the line. The number of the first fault of the input
-/// `found.side`, which is in `found.fault`: those of `whole_volume`; 24 if memory runs out, with
-/// the first side if the two are being compared. The buffer is unchanged then.
+/// 27 if the buffer is shorter than the line; `found` has its length then. The number of the first
+/// fault of the input `found.side`, which is in `found.fault`: those of `whole_volume`; 24 if memory
+/// runs out, with the first side if the two are being compared. The buffer is unchanged in all
+/// cases.
 #[unsafe(no_mangle)]
 pub extern "C" fn fv_compare(
     alloc: Global,

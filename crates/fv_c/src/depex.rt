@@ -1,7 +1,6 @@
 //! The truth value of a dependency expression.
 
 ghost use Rattle.std.specs.Prelude.{◌≡◌, ◌≢◌, ℕ, List, Some, None, map, IfOk, IfErr};
-ghost use Rattle.fv_base.specs.declared.guid.Guid.{Guid};
 ghost use Rattle.fv_depex.specs.Expressions.{Expression, IsOrder, IsTree, Spells, truth};
 ghost use Rattle.fv_depex.specs.OpChecks.{depex_fault_number, depex_out_of_memory};
 ghost use Rattle.fv_depex.specs.declared.fault.DepexFault.{DepexFault};

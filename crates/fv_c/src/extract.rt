@@ -42,7 +42,7 @@ fn extracted(
 /// 27 if the buffer is shorter than `len`. 28 if the volume has no file of this number, or the file
 /// no section of this number. The number of the first fault, which is in `fault`: those of
 /// `whole_volume`; then that of the first volume in the part that does not fit; 24 if memory runs
-/// out. `len` is unchanged then. The buffer is unchanged in all cases.
+/// out. `len` is unchanged then, and if it returns 28. The buffer is unchanged in all cases.
 #[unsafe(no_mangle)]
 pub extern "C" fn fv_extract(
     alloc: Global,

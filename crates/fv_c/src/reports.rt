@@ -2,13 +2,16 @@
 
 ghost use Rattle.std.specs.Prelude.{◌≡◌, ◌↔◌, ◌<◌, ◌≤◌, true};
 ghost use Rattle.fv_base.specs.Faults.{fault_number};
-ghost use Rattle.fv_c.specs.Reports.{reported_extent, reported_fault, no_fault};
+ghost use Rattle.fv_c.specs.Reports.{reported_extent, reported_fault};
 
 use fv_base::{Fault, FileSystem};
 use fv_head::Extent;
 
 /// What a call returns if the caller's buffer is too small. It is the number of no fault.
 pub const BUFFER_TOO_SMALL: u32 = 27;
+
+/// What a call returns if memory runs out: the number of that fault.
+pub const OUT_OF_MEMORY: u32 = 24;
 
 /// What a call returns if the volume has no file of the number that was passed, or the file no
 /// section of that number. It is the number of no fault.
@@ -20,9 +23,10 @@ pub const NOT_FOUND: u32 = 28;
 pub struct FvFault {
     /// The offset in bytes from the first byte that was passed to the call.
     pub offset: u64,
-    /// The number of its kind.
+    /// The number of its kind: of `FaultKind`, and from `fv_depex` and `fv_hobs` of `DepexFaultKind`
+    /// and `HobFaultKind`.
     pub number: u32,
-    /// The number of groups and opened volumes around it.
+    /// The number of groups and opened volumes around it; 0 from `fv_depex` and `fv_hobs`.
     pub depth: u32,
 }
 

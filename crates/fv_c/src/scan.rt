@@ -4,6 +4,7 @@ ghost use Rattle.std.specs.Prelude.{◌≡◌, ◌≢◌, ◌<◌, ◌++◌, ℕ
 ghost use Rattle.fv_tree.specs.FoundVolumes.{Found};
 
 use crate::buffer::put_rows;
+use crate::reports::OUT_OF_MEMORY;
 use fv_tree::scan;
 use std::alloc::Global;
 
@@ -27,7 +28,7 @@ pub extern "C" fn fv_scan(alloc: Global, bytes: &[u8], buffer: &mut [u64], count
     ensures memory { result ≢ 0 → result ≢ 27 → (result ≡ 24) × (count.new ≡ count.old) }
 {
     let Ok(offsets) = scan(alloc, bytes) else {
-        return 24;
+        return OUT_OF_MEMORY;
     };
     put_rows(offsets.as_slice(), buffer, count)
 }

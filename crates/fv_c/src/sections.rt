@@ -101,7 +101,7 @@ fn section_rows(alloc: Global, input: &[u8], number: u64) -> Result<Option<Vec<F
 ///
 /// 27 if the buffer has fewer elements than `count`. 28 if the volume has no file of this number.
 /// The number of the first fault, which is in `fault`: those of `whole_volume`; 24 if memory runs
-/// out. `count` is unchanged then. The buffer is unchanged in all cases.
+/// out. `count` is unchanged then, and if it returns 28. The buffer is unchanged in all cases.
 #[unsafe(no_mangle)]
 pub extern "C" fn fv_sections(
     alloc: Global,

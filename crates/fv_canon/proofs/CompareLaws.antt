@@ -41,7 +41,7 @@ second_refused side f unread left unread' left' held input other m is reads d re
     subst (λ (s : Side). SideStopsRun s unread left unread' left' held held f) (sym is)
     (Keeps-refl held, (m, (input, reads, d)), inr (other, read, stops))
 
--- ---- behind both inputs
+-- ---- after both inputs
 
 pub run_compares : (r : Result Bool (Side × Fault)) (m k : Meaning) (unread left unread' left' held holds : Option (List ℕ))
     → ReadsVolume unread left m → ReadsVolume unread' left' k → IfOk r (Compares m k held holds)

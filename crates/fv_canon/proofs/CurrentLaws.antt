@@ -1,4 +1,4 @@
--- Of the files that stand in a body no two have one name, once those that are replaced are taken out; and files that are written are
+-- Of the files that are in a body no two have one name, once those that are replaced are taken out; and files that are written are
 -- all of them current.
 use Rattle.std.proofs.Common.{◌≡◌, ◌⊎◌, inl, inr, ◌+◌, ℕ, Bool, true, false, List, [], ◌∷◌, refl, sym, ap, ◌∙◌, subst}
 use Rattle.std.specs.Prelude.{map, not, ◌&&◌}

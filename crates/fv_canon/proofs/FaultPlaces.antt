@@ -1,11 +1,11 @@
--- The fault of an input stands within it, or at its end.
+-- The fault of an input is within it, or at its end.
 use Rattle.std.proofs.Common.{◌≤◌, ℕ, List, length, subst, sym, arith, inl, inr}
 use Rattle.fv_base.specs.declared.fault.Fault.{Fault}
 use Rattle.fv_tree.proofs.Laws.{first_within}
 use Rattle.fv_canon.specs.Refusals.{Refuses, IsFirstOfInput}
 use Rattle.fv_canon.proofs.UnfitKinds.{unfit_place}
 
--- that of an input which is refused
+-- that of an input which is rejected
 pub refused_within : (b : List ℕ) (e : Fault) → Refuses b e → e.place.offset ≤ length b
 refused_within b e (inl bad) = go bad.first where
   go : IsFirstOfInput b e → e.place.offset ≤ length b

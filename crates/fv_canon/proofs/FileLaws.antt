@@ -112,7 +112,7 @@ placed_on total e f fs s ss placed =
       limit = placed.limit;
     }
 
--- the files from a place on are the one there, and then those behind it
+-- the files from a place on are the one there, and then those after it
 pub files_go : (p : Polarity) (total e : ℕ) (f : FileMeaning) (fs : List FileMeaning) (s : ℕ) (ss starts : List ℕ)
     → stored_len (stored_file f starts) ≡ size_for (data_len_of f)
     → files_bytes p total e (stored_of (files_from (f ∷ fs)) starts) (s ∷ ss)
@@ -151,7 +151,7 @@ at_file total e fs own i f l is placed =
       here = here_is total e f (drop (i + 1) fs) (get_or own i 0) (drop (i + 1) own) both;
     }
 
--- the starts of the file at a place, and of those behind it
+-- the starts of the file at a place, and of those after it
 pub file_passed : (fs : List FileMeaning) (i : ℕ) (f : FileMeaning) (starts last : List ℕ) → i < length fs → f ≡ get_or fs i f
     → ComesTo (volumes_in_files (files_from (drop i fs))) starts last
     → BeginsWithStarts (volumes_in_file f) starts
@@ -162,7 +162,7 @@ pub files_last : (fs : List FileMeaning) (i : ℕ) (starts last : List ℕ) → 
     → ComesTo (volumes_in_files (files_from (drop i fs))) starts last → starts ≡ last
 files_last = item_last (λ xs. volumes_in_files (files_from xs)) volumes_in_file refl (λ x xs. refl)
 
--- the walk at a file: what is left is its gap, itself and its filler, and then the files behind it
+-- the walk at a file: what is left is its gap, itself and its filler, and then the files after it
 pub walk_goes : (p : Polarity) (total e : ℕ) (fs : List FileMeaning) (own : List ℕ) (i : ℕ) (f : FileMeaning) (starts : List ℕ)
     → AtFile total e fs own i f → stored_len (stored_file f starts) ≡ size_for (data_len_of f)
     → files_bytes p total e (stored_of (files_from (drop i fs)) starts) (drop i own)

@@ -1,4 +1,4 @@
--- A volume fits exactly where its files, and those of each volume inside, are laid out; and one that is refused does not fit.
+-- A volume fits exactly where its files, and those of each volume inside, are laid out; and one that is rejected does not fit.
 use Rattle.std.proofs.Common.{◌≡◌, inl, inr, ◌+◌, ◌-◌, ◌%◌, ℕ, List, [], ◌∷◌, sym, ap, ◌∙◌, arith}
 use Rattle.fv_base.specs.Value.{up_to_8}
 use Rattle.fv_base.specs.declared.fault.Fault.{Fault}
@@ -11,7 +11,7 @@ use Rattle.fv_canon.specs.Volumes.{Inside, volumes_in}
 use Rattle.fv_canon.proofs.PlacementLaws.{agree}
 use Rattle.fv_canon.proofs.VolumeListLaws.{laid_fit, fit_laid}
 
--- a top file that is off cannot stand
+-- a top file that is off cannot be placed
 off_none : (total e : ℕ) (f : LayoutItem) (s : ℕ) → s + f.size ≡ total → (s + f.header) % f.alignment ≡ 0 → s % 8 ≡ 0 → IsOff total f → ⊥
 off_none total e f s at aligned eighth (inl a) = a (ap (λ (n : ℕ). (n + f.header) % f.alignment) (start total f.size at) ∙ aligned)
   where
@@ -36,7 +36,7 @@ laid_fits m starts laid = laid_fit (volumes_in m) starts laid
 pub fits_laid : (m : Meaning) → Fits m → (starts : List ℕ) × LaysVolume m starts
 fits_laid m fit = fit_laid (volumes_in m) fit
 
--- what is refused cannot be placed
+-- what is rejected cannot be placed
 here_none : (v : Inside) (depth : ℕ) (f : Fault) → UnfitHere v.volume depth f → IsPlaced v → ⊥
 here_none v depth f (inl (off, is)) (own, placed) = top_none _ _ (layout_items v.volume) own off placed.placement.follow
 here_none v depth f (inr (short, is)) (own, placed) = short.none own placed.placement

@@ -1,7 +1,7 @@
 -- A flash image whose volumes are renewed, one after another. The steps:
 -- 1. `RenewsFrom` says place by place what the walk writes. Then each volume has its image, and every other byte is as
 --    it was (`renewed_is`).
--- 2. The loop keeps `Puts`: what was put so far, with anything that is renewed behind it, makes a whole. It holds at
+-- 2. The loop keeps `Puts`: what was put so far, with anything that is renewed after it, makes a whole. It holds at
 --    first (`puts_none`), after each volume (`puts_more`), and at the end it gives the whole (`puts_all`).
 -- 3. Each byte is in a volume or in none (`covered_known`), so no other bytes are the image (`normalised_one`).
 -- 4. A volume that has an image is not rejected. So if all have images, the only error is OutOfMemory (`only_want`).
@@ -43,7 +43,7 @@ rest_at b from k low = get_or-drop from b (k - from) 0 ∙ ap (λ (i : ℕ). get
 field_at : (b : List ℕ) (from n k : ℕ) → from ≤ k → k < from + n → get_or (field from n b) (k - from) 0 ≡ get_or b k 0
 field_at b from n k low high = get_or-take n (drop from b) (k - from) 0 (omega (arith, low, high)) ∙ rest_at b from k low
 
--- of bytes that are joined, those behind the first, and the part in the middle
+-- of bytes that are joined, those after the first, and the part in the middle
 drop_joined : (xs ys : List ℕ) (n : ℕ) → length xs ≡ n → drop n (xs ++ ys) ≡ ys
 drop_joined xs ys n long = ap (λ (i : ℕ). drop i (xs ++ ys)) (sym long) ∙ drop-append_seam xs ys
 
@@ -54,7 +54,7 @@ field_joined xs ys zs at n long size =
 
 -- ---- images
 
--- a volume has one image, and then it is not refused
+-- a volume has one image, and then it is not rejected
 one_image_of : (b image other : List ℕ) → NormalisesTo b image → NormalisesTo b other → image ≡ other
 one_image_of b image other (m, a, is) (k, c, is') =
     let same : m ≡ k = one_meaning depth_limit depth_limit b m k a.1 c.1 in
@@ -77,14 +77,14 @@ place_fits b x p f v small (inr refused) = omega (arith, refused_within x f refu
 
 -- ---- 1. the walk
 
--- from one place on, o is b but for the volumes that begin at these places: there their canonical images stand in it
+-- from one place on, o is b but for the volumes that begin at these places: there it has their canonical images
 abbrev pub RenewsFrom : ℕ → List ℕ → List ℕ → List ℕ → Type 0
 RenewsFrom from b [] o = drop from o ≡ drop from b
 RenewsFrom from b (p ∷ ps) o =
     (n : ℕ) × (from ≤ p) × VolumeAt b p n × (field from (p - from) o ≡ field from (p - from) b)
     × NormalisesTo (field p n b) (field p n o) × RenewsFrom (p + n) b ps o
 
--- at each of the places the image stands
+-- at each of the places is the image
 renewed_each : (from : ℕ) (b ps o : List ℕ) → RenewsFrom from b ps o → AllByRecursion (IsRenewed b o) ps
 renewed_each from b [] o same = tt
 renewed_each from b (p ∷ ps) o (n, low, v, same, to, more) = ((n, v, to), renewed_each (p + n) b ps o more)
@@ -115,7 +115,7 @@ renewed_is b places o walk long = record {
 
 -- ---- 2. the loop: one step of the walk
 
--- the bytes up to a volume, its image, and what is renewed behind it
+-- the bytes up to a volume, its image, and what is renewed after it
 renews_more : (b ps bytes x image rest : List ℕ) (from p n : ℕ) → from ≤ p → VolumeAt b p n → x ≡ field from (p - from) b
     → length bytes ≡ from → length x ≡ p - from → length (bytes ++ x) ≡ p → length image ≡ n → NormalisesTo (field p n b) image
     → RenewsFrom (p + n) b ps (bytes ++ (x ++ (image ++ rest))) → RenewsFrom from b (p ∷ ps) (bytes ++ (x ++ (image ++ rest)))
@@ -128,7 +128,7 @@ renews_more b ps bytes x image rest from p n least v same long gap_long front_lo
     ap (λ (l : List ℕ). field p n l) flat ∙ field_joined (bytes ++ x) image rest p n front_long image_long in
     (n, least, v, gap, subst (NormalisesTo (field p n b)) (sym there) to, more)
 
--- what lies up to the place `from`, of the volumes before the i-th, is put: bytes behind which anything makes a whole
+-- what lies up to the place `from`, of the volumes before the i-th, is put: bytes after which anything makes a whole
 pub record Puts {S : Type 0} (takes : S → List ℕ → S → Type 0) (s t : S) (b places : List ℕ) (i from : ℕ) : Type 0 where
   pub bytes : List ℕ
   pub taken : takes s bytes t
@@ -149,7 +149,7 @@ module _ {S : Type 0} (takes : S → List ℕ → S → Type 0) (laws : WalkLaws
     whole = λ rest all. all;
   }
 
-  -- the next place, and what is left behind the volume that begins there
+  -- the next place, and what is left after the volume that begins there
   pub next_of : {t : S} (i from : ℕ) → Puts takes s t b places i from → i < length places
       → (from ≤ get_or places i 0)
       × ((n : ℕ) × VolumeAt b (get_or places i 0) n × FoundFrom (get_or places i 0 + n) b (drop (i + 1) places))
@@ -159,7 +159,7 @@ module _ {S : Type 0} (takes : S → List ℕ → S → Type 0) (laws : WalkLaws
       subst (λ (l : List ℕ). FoundFrom from b l) (drop_more places i 0 less) puts.left in
       (left.1.0, (left.0, left.1.3, left.2))
 
-  -- what is renewed behind the next volume makes a whole
+  -- what is renewed after the next volume makes a whole
   puts_whole : {t : S} (i from n : ℕ) (x image rest : List ℕ) → (puts : Puts takes s t b places i from) → i < length places
       → from ≤ get_or places i 0 → VolumeAt b (get_or places i 0) n → x ≡ field from (get_or places i 0 - from) b
       → length x ≡ get_or places i 0 - from → length (puts.bytes ++ x) ≡ get_or places i 0 → length image ≡ n
@@ -209,7 +209,7 @@ module _ {S : Type 0} (takes : S → List ℕ → S → Type 0) (laws : WalkLaws
             to more;
       }
 
-  -- all volumes are put, and the bytes behind the last
+  -- all volumes are put, and the bytes after the last
   pub puts_all : {t u : S} (i from : ℕ) (rest : List ℕ) → Found b places → Puts takes s t b places i from → length places ≤ i
       → rest ≡ drop from b → takes t rest u
       → (bytes : List ℕ) × Renewed b places bytes × takes s bytes u
@@ -277,7 +277,7 @@ normalised_one b o other (short, places, found, r) (short', places', found', s) 
     let same : places ≡ places' = one_found b places places' found found' in
     renewed_one b places o other r (subst (λ (l : List ℕ). Renewed b l other) (sym same) s)
 
--- ---- 4. where all volumes have images, none is refused
+-- ---- 4. where all volumes have images, none is rejected
 
 renewed_never : (b places other : List ℕ) (f : Fault) → Found b places → FirstRefused b places f → NormalisesAll b other → ⊥
 renewed_never b places other f found stops (short, places', found', s) =
@@ -289,7 +289,7 @@ renewed_never b places other f found stops (short, places', found', s) =
     refused_never (field stops.place stops.size b) (field stops.place stops.size other) stops.own stops.refused
     (subst (λ (k : ℕ). NormalisesTo (field stops.place k b) (field stops.place k other)) long is.2)
 
--- so where all volumes have images, only memory can be wanting
+-- so where all volumes have images, the only error is out of memory
 pub only_want : (b places other : List ℕ) (f : Fault) → Found b places → (f ≡ out_of_memory) ⊎ FirstRefused b places f
     → NormalisesAll b other → f ≡ out_of_memory
 only_want b places other f found (inl want) to = want

@@ -1,4 +1,4 @@
--- The headline: equal images tell equal meanings, and an image is its own image; and an image has one meaning.
+-- The headline: equal images have equal meanings, and an image is its own image; and an image has one meaning.
 use Rattle.std.proofs.Common.{◌≡◌, ◌≤◌, ◌+◌, ◌-◌, ℕ, zero, suc, List, [], ◌∷◌, sym, ◌∙◌, subst, arith}
 use Rattle.fv_base.specs.Value.{IsBytes}
 use Rattle.fv_section.specs.Frames.{FrameForm}

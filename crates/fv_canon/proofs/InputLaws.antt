@@ -1,4 +1,4 @@
--- The laws of inputs that are refused.
+-- The laws of inputs that are rejected.
 use Rattle.std.proofs.Common.{◌≡◌, ◌≢◌, ◌≤◌, ◌<◌, ℕ, List, length, take, refl, sym, ap, ◌∙◌, subst, arith, inl, inr, ◌⊎◌, true, false}
 use Rattle.std.specs.Prelude.{◌==◌, Result, Ok, Err, IfErr, IsErrAnd}
 use Rattle.std.proofs.lemmas.List.{take_all}
@@ -19,7 +19,7 @@ use Rattle.fv_canon.proofs.FitLaws.{unfit_none}
 use Rattle.fv_canon.proofs.ImageFits.{image_fits as has_image_fits}
 use Rattle.fv_canon.proofs.UnfitKinds.{not_layout, unfit_is}
 
--- ---- answers
+-- ---- results
 
 -- what is true of an error is true of it where a `?` passes it on
 pub fault_passed : {T E : Type 0} (P : E → Type 0) (r : Result T E) (f : E) → IsErrAnd r (λ g. g ≡ f) → P f → IfErr r P
@@ -86,7 +86,7 @@ end_only b v n only m d = (only (length b) m (omega arith) (input_prefix b m d.1
 
 -- ---- a volume that fits
 
--- an input that has an image is refused for out of memory alone
+-- an input that has an image is rejected only because memory ran out
 pub not_read_never : (b image : List ℕ) (f : Fault) → (f ≡ out_of_memory) ⊎ NotRead b f → NormalisesTo b image → f ≡ out_of_memory
 not_read_never b image f (inl want) to = want
 not_read_never b image f (inr bad) (m, d, is) = absurd (bad.none m d)
@@ -95,7 +95,7 @@ not_read_never b image f (inr bad) (m, d, is) = absurd (bad.none m d)
 pub image_fits : (b image : List ℕ) (v : Meaning) → ((m : Meaning) → Accepted b m → m ≡ v) → NormalisesTo b image → Fits v
 image_fits b image v only (m, d, is) = subst Fits (only m d) (has_image_fits m image is)
 
--- what does not fit is refused
+-- what does not fit is rejected
 pub not_placed : (b : List ℕ) (v : Meaning) (f : Fault) → Accepted b v → (f ≡ out_of_memory) ⊎ Unfit v 0 f
     → (f ≡ out_of_memory) ⊎ Refuses b f
 not_placed b v f d (inl want) = inl want
@@ -126,12 +126,12 @@ input_kind f known = go (or_other f known) where
   go (inl want) = subst (λ (g : Fault). IsOfInput g.kind) (sym want) (λ e. cc, λ e. cc)
   go (inr kind) = kind
 
--- so the kind of a fault whose condition stands is none of a run
+-- so the kind of a fault whose condition holds is none of a run
 pub stood_kind : (b : List ℕ) (f : Fault) → (f ≢ out_of_memory → FaultStands b f) → IsOfInput f.kind
 stood_kind b f stands =
     input_kind f (λ other. (stands_other b f kinds.ReadFault refl (stands other), stands_other b f kinds.WriteFault refl (stands other)))
 
--- ---- what is refused as what
+-- ---- what is rejected as what
 
 -- the first fault of an input is none of a layout
 first_kind : (b : List ℕ) (f : Fault) → IsFirstOfInput b f → IsOfLayout f.kind → ⊥
@@ -142,7 +142,7 @@ first_kind b f (inr (m, d, less, is)) layout = go (subst (λ (g : Fault). IsOfLa
   go (inl top) = cc
   go (inr room) = cc
 
--- only what does not fit is refused as what does not fit, and nothing else is but what is no volume
+-- only what does not fit is rejected as what does not fit, and nothing else is but what is no volume
 pub only_what_does_not_fit_is_refused : OnlyWhatDoesNotFitIsRefused
 only_what_does_not_fit_is_refused b f (inl bad) = (λ layout. absurd (first_kind b f bad.first layout), λ other. bad.none)
 only_what_does_not_fit_is_refused b f (inr (m, d, unfit)) =

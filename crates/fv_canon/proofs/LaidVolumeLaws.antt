@@ -28,7 +28,7 @@ use Rattle.fv_canon.proofs.ImageLaws.{image_is}
 
 -- ---- one volume
 
--- its fault is told at its place, or memory was wanted
+-- its fault is at its place, or memory ran out
 pub told_at : (b x : List ℕ) (p : ℕ) (own f : Fault) → VolumeAt b p (length x) → x ≡ field p (length x) b
     → (own ≡ out_of_memory) ⊎ Refuses x own
     → (f ≢ out_of_memory → (own ≢ out_of_memory) × (f ≡ moved_fault p own.place.depth own))
@@ -80,7 +80,7 @@ laid_images : (b : List ℕ) (volumes : List LaidVolume) → AllByRecursion (IsL
 laid_images b [] all = tt
 laid_images b (v ∷ vs) (h, all) = (has_image b v h, laid_images b vs all)
 
--- the next is refused
+-- the next is rejected
 pub lays_stop : (b places : List ℕ) (i : ℕ) (volumes : List LaidVolume) (f : Fault) → LaysFirst b places i volumes → i < length places
     → (f ≡ out_of_memory) ⊎ RefusedAt b (get_or places i 0) f → (f ≡ out_of_memory) ⊎ FirstRefused b places f
 lays_stop b places i volumes f lays less (inl want) = inl want
@@ -118,7 +118,7 @@ module _ {S : Type 0} (takes : S → List ℕ → S → Type 0) (laws : WalkLaws
   laid_none (short, places, found, (same, all)) =
       puts_none takes laws s b (starts_of volumes) (subst (Found b) (sym same) found)
 
-  -- the next volume begins behind what is put, and lies within the bytes
+  -- the next volume begins after what is put, and lies within the bytes
   pub laid_next : {t : S} (i from : ℕ) (v : LaidVolume) → IsLaidOut b volumes → Puts takes s t b (starts_of volumes) i from
       → i < length volumes → v ≡ get_or volumes i v
       → (from ≤ v.start) × (v.start ≤ length b)
@@ -150,7 +150,7 @@ module _ {S : Type 0} (takes : S → List ℕ → S → Type 0) (laws : WalkLaws
       let more = puts_more takes laws s b (starts_of volumes) i from n gap image puts counted volume gap_at put to put' in
       subst (λ (k : ℕ). Puts takes s w b (starts_of volumes) (i + 1) k) (omega (arith, item.0, long)) more
 
-  -- all are put, and the bytes behind the last
+  -- all are put, and the bytes after the last
   pub laid_all : {t u : S} (i from : ℕ) (rest : List ℕ) → IsLaidOut b volumes → Puts takes s t b (starts_of volumes) i from
       → length volumes ≤ i → rest ≡ drop from b → takes t rest u
       → (bytes : List ℕ) × NormalisesAll b bytes × takes s bytes u

@@ -9,14 +9,14 @@ pub use Rattle.fv_canon.proofs.AlignedLaws.{pads_erased}
 pub use Rattle.fv_canon.proofs.StoredTilingLaws.{PadErased}
 -- an image has one meaning; bytes that are a volume within the limit are accepted
 pub use Rattle.fv_canon.proofs.HeadlineLaws.{accepted, one_meaning_of}
--- what has an image fits; what is laid out fits, and what is refused does not
+-- what has an image fits; what is laid out fits, and what is rejected does not
 pub use Rattle.fv_canon.proofs.ImageFits.{image_fits, data_fits, body_fits}
 pub use Rattle.fv_canon.proofs.FitLaws.{laid_fits, fits_laid, unfit_none}
 -- the volumes in the files of a volume that fits, in the data of a file and in the body of a section
 pub use Rattle.fv_canon.proofs.PartFits.{files_fit, file_fits, section_fits}
 -- an input is the volume that it begins with where it ends there, and is none where it begins with none or goes on
 pub use Rattle.fv_canon.proofs.InputLaws.{input_prefix, end_found, end_only, volume_refused, end_refused}
--- an input that is no volume, or one that does not fit, is refused; one that has an image is neither
+-- an input that is no volume, or one that does not fit, is rejected; one that has an image is neither
 pub use Rattle.fv_canon.proofs.InputLaws.{not_read, not_placed, not_read_never}
 -- the data of a file that was read are shorter than a volume may be
 pub use Rattle.fv_canon.proofs.PartBytesLaws.{data_short}

@@ -105,7 +105,7 @@ shallow_nested m depth (n, fits, read) = let (k, is, inside) = nests_nested m n 
 
 -- ---- a fault that is passed on
 
--- where nothing is unfit, only memory can be wanting
+-- where nothing is unfit, the only error is out of memory
 pub only_memory : {T U : Type 0} (r : Result T Fault) (f : Fault) → IsErrAnd r (λ g. g ≡ f) → (f ≡ out_of_memory) ⊎ U → (U → ⊥)
     → IfErr r (λ g. g ≡ out_of_memory)
 only_memory (Ok x) f is err none = absurd is

@@ -1,4 +1,4 @@
--- Bytes that are compared with what a walk writes: one step, and what is told in the end.
+-- Bytes that are compared with what a walk writes: one step, and what is returned in the end.
 use Rattle.std.proofs.Common.{◌≡◌, ℕ, List, [], ◌++◌, length, take, drop, refl, ap, sym, ◌∙◌, append-nil, take-append-drop}
 use Rattle.std.proofs.Common.{Bool, true, false}
 use Rattle.std.specs.Prelude.{IsTrue}

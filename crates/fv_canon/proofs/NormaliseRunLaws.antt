@@ -25,12 +25,12 @@ pub writer_stops : (input : List ℕ) (m : Meaning) (held holds : Option (List �
     → IfErr r (λ f. (image : List ℕ) × IsImage m image × WriteStops held holds image f) → IfErr r (InputStops input held holds)
 writer_stops input m held holds r d stops = IfErr-weaker r _ (InputStops input held holds) (λ f p. inr (p.0, (m, d, p.1), p.2)) stops
 
--- nothing was written, since the input is refused or for out of memory
+-- nothing was written, since the input is rejected or memory ran out
 pub refused_stops : (input : List ℕ) (held : Option (List ℕ)) (f : Fault) → (f ≡ out_of_memory) ⊎ Refuses input f
     → InputStops input held held f
 refused_stops input held f why = inl (Keeps-refl held, why)
 
--- a run stopped behind its input
+-- a run stopped after its input
 pub behind_stops : (unread left held holds : Option (List ℕ)) (input : List ℕ) (r : Result (Unit {0}) Fault) → ReadsWhole unread left input
     → IfErr r (InputStops input held holds) → IfErr r (RunStops unread left held holds)
 behind_stops unread left held holds input r reads stops =

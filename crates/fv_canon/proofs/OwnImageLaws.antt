@@ -1,4 +1,4 @@
--- Whether bytes are the image of a volume: they are exactly where a walk over it writes them, and never where its layout is refused.
+-- Whether bytes are the image of a volume: they are exactly where a walk over it writes them, and never where its layout is rejected.
 use Rattle.std.proofs.Common.{◌≡◌, ◌≢◌, ◌⊎◌, inl, inr, ℕ, List, sym, ap, subst, Bool, true}
 use Rattle.std.specs.Prelude.{IsTrue}
 use Rattle.fv_base.specs.Faults.{out_of_memory}
@@ -20,13 +20,13 @@ pub image_told : (m : Meaning) (b starts : List ℕ) (t : Bool) → IsMeaning m 
 image_told m b starts t is laid (there, back) =
     (λ e. subst (IsImage m) (sym (there e)) (image_is m starts is laid), λ image. back (image_only m starts b is laid image))
 
--- a volume whose layout is refused, and not for out of memory, has no image
+-- a volume whose layout is rejected, and not because memory ran out, has no image
 pub none_refused : (m : Meaning) (b : List ℕ) (f : Fault) → (f ≡ out_of_memory) ⊎ Unfit m 0 f → f.kind ≢ kinds.OutOfMemory
     → IsImage m b → ⊥
 none_refused m b f (inl want) other is = other (ap (λ (g : Fault). g.kind) want)
 none_refused m b f (inr unfit) other is = unfit_none m 0 f unfit (image_fits m b is)
 
--- a layout that is refused with this kind is for out of memory
+-- a layout that fails with this kind fails because memory ran out
 pub want_refused : (m : Meaning) (f : Fault) → (f ≡ out_of_memory) ⊎ Unfit m 0 f → f.kind ≡ kinds.OutOfMemory → f ≡ out_of_memory
 want_refused m f (inl want) kind = want
 want_refused m f (inr unfit) kind = absurd (not_layout f.kind (unfit_is m 0 f unfit) kind)

@@ -1,4 +1,4 @@
--- What the layout is told of the files of a volume that was read.
+-- What the layout knows of the files of a volume that was read.
 use Rattle.std.proofs.Common.{◌≡◌, ◌≤◌, ◌<◌, ◌+◌, ◌-◌, ◌*◌, ◌/◌, ◌%◌, ℕ, zero, suc, Bool, true, false, List, [], ◌∷◌, length}
 use Rattle.std.proofs.Common.{drop, refl, ◌∙◌, arith, length-drop}
 use Rattle.std.specs.Prelude.{All, map, slice_index}

@@ -49,7 +49,7 @@ painted_later erased total x y (p ∷ ps) l o =
     sum_of : (t : ℕ) → y ≤ t → (y - x) + (t - y) ≡ t - x
     sum_of t g = omega (arith, l)
 
--- a span that begins where the walk stands
+-- a span that begins where the walk is
 painted_here : (erased total e at : ℕ) (bytes : List ℕ) (ps : List PlacedBytes) → at ≡ e
     → painted erased total e (record { at = at; bytes = bytes } ∷ ps) ≡ bytes ++ painted erased total (e + length bytes) ps
 painted_here erased total e at bytes ps same =

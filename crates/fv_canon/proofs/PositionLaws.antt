@@ -12,13 +12,13 @@ pub before_none : (total e k : ℕ) (ps : List PlacedBytes) → InOrder total e 
 before_none total e k [] o l = tt
 before_none total e k (p ∷ ps) o l = (λ i. omega (arith, i.0, o.0), before_none total (p.at + length p.bytes) k ps o.1 (omega (arith, o.0)))
 
--- a byte behind a front
+-- a byte after a front
 get_behind : (front back : List ℕ) (k : ℕ) → length front ≤ k → get_or (front ++ back) k 0 ≡ get_or back (k - length front) 0
 get_behind front back k l = get_or-append_right front back (length front) k 0 refl l
 
--- ---- from the walk to the positions: front is what stands before e
+-- ---- from the walk to the positions: front is what is before e
 
--- b shows the spans behind e, and erased bytes elsewhere behind it
+-- b shows the spans after e, and erased bytes elsewhere after it
 record ShowsFrom (erased total e : ℕ) (ps : List PlacedBytes) (b : List ℕ) : Type 0 where
   stand : AllByRecursion (StandsIn b) ps
   rest : (k : ℕ) → e ≤ k → k < total → AllByRecursion (λ p. IsIn k p → ⊥) ps → get_or b k 0 ≡ erased

@@ -89,7 +89,7 @@ stream_whole s ss starts tail =
 
 -- ---- the walk over the sections of a stream
 
--- the starts of the section at a place, and of those behind it
+-- the starts of the section at a place, and of those after it
 pub section_passed : (ss : List SectionMeaning) (i : ℕ) (s : SectionMeaning) (starts last : List ℕ) → i < length ss → s ≡ get_or ss i s
     → ComesTo (volumes_in_sections (sections_from (drop i ss))) starts last
     → BeginsWithStarts (volumes_in_section s) starts
@@ -136,7 +136,7 @@ front_more takes laws s t u v w whole rest a b c left f e p q r = record {
   whole_is = append_assoc f.front (a ++ (b ++ c)) left ∙ ap (λ (xs : List ℕ). f.front ++ xs) (sym e) ∙ f.whole_is;
 }
 
--- behind the last section come the tail's bytes
+-- after the last section come the tail's bytes
 pub front_end : {S : Type 0} (takes : S → List ℕ → S → Type 0) → WalkLaws takes
     → (ss : List SectionMeaning) (i : ℕ) (s t u : S) (gap : ℕ) (starts rest : List ℕ) (tail : ℕ) → length ss ≤ i → 0 < length ss
     → TakesFront takes s t (sections_bytes 0 (sections_from ss) starts) (sections_bytes gap (sections_from (drop i ss)) rest)

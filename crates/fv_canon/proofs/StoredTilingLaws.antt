@@ -131,7 +131,7 @@ pub apart : (e s : ℕ) → e % 8 ≡ 0 → s % 8 ≡ 0 → (s ≡ e) ⊎ (e + 2
 apart e s m k (inl a) = (inl (omega arith), omega arith, omega arith)
 apart e s m k (inr a) = (inr (omega arith), omega arith, omega arith)
 
--- the filler behind a file
+-- the filler after a file
 pub filler_is : (x : ℕ) → (up_to_8 x - x < 8) × ((x + (up_to_8 x - x)) ≡ up_to_8 x) × (up_to_8 x % 8 ≡ 0)
 filler_is x = (omega arith, omega arith, omega arith)
 

@@ -23,7 +23,7 @@ bytes_section_head kind true n l =
     bytes_append (le_bytes 3 0xffffff) (kind ∷ le_bytes 4 (8 + n)) (bytes_le_bytes 3 0xffffff)
     (bytes_cons kind (le_bytes 4 (8 + n)) l (bytes_le_bytes 4 (8 + n)))
 
--- a header, a body and what stands behind them
+-- a header, a body and what is after them
 bytes_begun : (g : FrameForm) (kind : ℕ) (rest : List ℕ) → g.kind ≡ kind → kind < 256 → IsBytes g.body → IsBytes rest
     → IsBytes (section_head_of g.kind g.extended (length g.body) ++ (g.body ++ rest))
 bytes_begun g kind rest same l body behind =

@@ -11,7 +11,7 @@ use Rattle.fv_canon.specs.inner.SummingSinks.{AddsOrPuts}
 use Rattle.fv_canon.specs.StoredFiles.{stored_bytes}
 use Rattle.fv_canon.proofs.SumLaws.{stored_adds}
 
--- a file with the checksum attribute adds its State alone
+-- a file with the checksum attribute adds only its State
 pub summed_adds : (p : Polarity) (m : FileMeaning) (starts : List ℕ) (t u : ℕ) → is_summed (attributes_of m) ≡ true
     → u % 256 ≡ (t + sum (state_byte p ∷ [])) % 256 → u % 256 ≡ (t + sum (stored_bytes p (stored_file m starts))) % 256
 summed_adds p (File name kind attributes content) starts t u is e =

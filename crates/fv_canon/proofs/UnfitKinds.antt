@@ -1,4 +1,4 @@
--- The fault of what does not fit is one of a layout, and stands at 0.
+-- The fault of what does not fit is one of a layout, and is at 0.
 use Rattle.std.proofs.Common.{◌≡◌, ◌≢◌, inl, inr, ◌+◌, ◌∙◌, ℕ, List, [], ◌∷◌, refl, subst, sym}
 use Rattle.fv_base.specs.declared.fault.Fault.{Fault}
 use Rattle.fv_base.specs.declared.fault.FaultKind.{FaultKind}

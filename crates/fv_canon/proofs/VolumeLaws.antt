@@ -193,12 +193,12 @@ ext_read None e b small has = tt
 ext_read (Some x) e b small (before, part, behind, text, at, least, within, is, first) =
     (part, bytes_front part behind (bytes_back before (part ++ behind) (subst IsBytes text small)), is)
 
--- the first file stands behind the header
+-- the first file is after the header
 pub first_behind : (x : Option Extension) (e : Extent) (b : List ℕ) → HasExt x e b → e.header_len ≤ e.first
 first_behind None e b (none, first) = omega (arith, first)
 first_behind (Some x) e b (before, part, behind, text, at, least, within, is, first) = omega (arith, least, first)
 
--- what stands behind the head of an image
+-- what is after the head of an image
 rest_is : (p : Polarity) (h : HeadFields) (x : Option Extension) (used : ℕ) (behind : List ℕ) → CanonicalRest x (ext_pad p x used ++ behind)
 unfolding ext_pad
 rest_is p h None used behind = tt
@@ -292,7 +292,7 @@ known is_stream streams h files b small d stored starts are placed =
     most : (n b f l len : ℕ) → n ≡ b - f → b ≡ len → len ≤ volume_limit → 64 ≤ l → l ≤ f → n ≤ 24 + data_limit
     most n b f l len p q r s t = omega (arith, p, q, r, s, t)
 
--- an image begins with its head, and with the extended header in its pad behind it
+-- an image begins with its head, and with the extended header in its pad after it
 pub image_front : (h : HeadFields) (fs : List StoredFile) (ss o : List ℕ) → Writable h fs ss
     → ShowsPlaced h.length (erased_byte (polarity_of h.attributes)) (placed_in_volume h fs ss) o
     → BeginsVolume h (extent_of h (first_edge h h.ext)) o

@@ -146,7 +146,7 @@ module _ {A : Type 0} (all : List A → List Inside) (one : A → List Inside) (
   pub item_first : (xs : List A) (i : ℕ) (x : A) → i < length xs → x ≡ get_or xs i x → all (drop i xs) ≡ one x ++ all (drop (i + 1) xs)
   item_first xs i x l is = ap all (item_at xs i x l is) ∙ more x (drop (i + 1) xs)
 
-  -- a walk adds the starts of an item behind those that it added before
+  -- a walk adds the starts of an item after those that it added before
   pub item_grew : (xs : List A) (i : ℕ) (x : A) (old now next : List ℕ) → i < length xs → x ≡ get_or xs i x
       → Grew (all (take i xs)) old now → Grew (one x) now next → Grew (all (take (i + 1) xs)) old next
   item_grew xs i x old now next l is (a, p, q) (b, r, s) = (
@@ -155,7 +155,7 @@ module _ {A : Type 0} (all : List A → List Inside) (one : A → List Inside) (
     subst (λ ws. Laid AreStarts ws (a ++ b)) (sym (pushed xs i x l is)) (laid_joined AreStarts (all (take i xs)) (one x) a b q s),
   )
 
-  -- behind items that are laid out an item does not fit
+  -- after items that are laid out an item does not fit
   pub item_unfit : (xs : List A) (i : ℕ) (x : A) (old now : List ℕ) (depth : ℕ) (f : Fault) → i < length xs → x ≡ get_or xs i x
       → Grew (all (take i xs)) old now → FirstUnfit (one x) depth f → FirstUnfit (all xs) depth f
   item_unfit xs i x old now depth f l is (a, p, q) un =
@@ -164,7 +164,7 @@ module _ {A : Type 0} (all : List A → List Inside) (one : A → List Inside) (
       (unfit_behind (all (take i xs)) (one x ++ all (drop (i + 1) xs)) depth f (laid_fit (all (take i xs)) a q)
       (unfit_front (one x) (all (drop (i + 1) xs)) depth f un))
 
-  -- starts that begin with those of an item and of what is behind it
+  -- starts that begin with those of an item and of what is after it
   item_begins : (xs : List A) (i : ℕ) (x : A) (starts : List ℕ) → i < length xs → x ≡ get_or xs i x
       → BeginsWithStarts (all (drop i xs)) starts
       → BeginsWithStarts (one x) starts × BeginsWithStarts (all (drop (i + 1) xs)) (drop (starts_in (one x)) starts)
@@ -183,14 +183,14 @@ module _ {A : Type 0} (all : List A → List Inside) (one : A → List Inside) (
         ),
       )
 
-  -- the starts behind those of the items from a place on
+  -- the starts after those of the items from a place on
   item_left : (xs : List A) (i : ℕ) (x : A) (starts : List ℕ) → i < length xs → x ≡ get_or xs i x
       → drop (starts_in (all (drop i xs))) starts ≡ drop (starts_in (all (drop (i + 1) xs))) (drop (starts_in (one x)) starts)
   item_left xs i x starts l is =
       ap (λ n. drop n starts) (ap starts_in (item_first xs i x l is) ∙ count_joined (one x) (all (drop (i + 1) xs)))
       ∙ sym (drop-drop (starts_in (all (drop (i + 1) xs))) (starts_in (one x)) starts)
 
-  -- a walk that comes to an item comes to those behind it next
+  -- a walk that comes to an item comes to those after it next
   pub item_passed : (xs : List A) (i : ℕ) (x : A) (starts last : List ℕ) → i < length xs → x ≡ get_or xs i x
       → ComesTo (all (drop i xs)) starts last
       → BeginsWithStarts (one x) starts × ComesTo (all (drop (i + 1) xs)) (drop (starts_in (one x)) starts) last
@@ -198,7 +198,7 @@ module _ {A : Type 0} (all : List A → List Inside) (one : A → List Inside) (
       let begins = item_begins xs i x starts l is at.laid in
       (begins.0, record { laid = begins.1; left = sym (item_left xs i x starts l is) ∙ at.left })
 
-  -- behind the last item it has left what it had to leave
+  -- after the last item it has left what it had to leave
   pub item_last : (xs : List A) (i : ℕ) (starts last : List ℕ) → length xs ≤ i → ComesTo (all (drop i xs)) starts last → starts ≡ last
   item_last xs i starts last end at =
       ap (λ vs. drop (starts_in vs) starts) (sym (ap all (drop_all i xs end) ∙ none)) ∙ at.left

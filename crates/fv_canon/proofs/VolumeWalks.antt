@@ -145,7 +145,7 @@ volume_seen m h fs starts e f read laid =
     let is = volume_is m h fs e f in
     volume_laid h fs starts (subst IsMeaning is read) (subst (λ (x : Meaning). BeginsWithStarts (volumes_in x) starts) is laid)
 
--- the starts behind those of a volume are those behind the ones in its files
+-- the starts after those of a volume are those after the ones in its files
 pub volume_rest : (m : Meaning) (fs : List FileMeaning) (starts inner rest : List ℕ) → m ≡ Volume (head_of m) (files_from fs)
     → inner ≡ drop (length fs) starts → rest ≡ drop (starts_in (volumes_in_files (files_from fs))) inner
     → rest ≡ drop (starts_in (volumes_in m)) starts

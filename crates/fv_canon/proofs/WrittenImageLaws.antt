@@ -39,7 +39,7 @@ abbrev pub VolumesMade : Volumes → Type 0
 VolumesMade is_volume = (m : Meaning) (b starts more : List ℕ) → IsBytes b → is_volume b m → LaysVolume m starts
     → IsImage m (image_of m (starts ++ more))
 
--- the starts behind those of the first item
+-- the starts after those of the first item
 pub behind_is : (n : ℕ) (starts here behind more : List ℕ) → starts ≡ here ++ behind → length here ≡ n
     → drop n (starts ++ more) ≡ behind ++ more
 behind_is n starts here behind more e l =

@@ -63,7 +63,7 @@ pub fn write_canonical<W: Write>(
     out.outcome()
 }
 
-/// The canonical image of the view. Memory for the whole length is reserved first. (PI
+/// The canonical image of the view. Memory for the whole length is reserved once. (PI
 /// specification, volume 3, section 3.2.)
 ///
 /// # Errors

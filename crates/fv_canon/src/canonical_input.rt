@@ -1,5 +1,5 @@
 //! Whether bytes are a canonical image: that of a view, or their own. They are compared with what a
-//! walk writes.
+//! walk puts.
 
 ghost use Rattle.std.specs.Prelude.{◌≡◌, ◌↔◌, ◌⊎◌, IfOk, IfErr, IsTrue, true};
 ghost use Rattle.fv_base.specs.Faults.{out_of_memory};

@@ -1,6 +1,6 @@
 //! The line of a comparison, put into a sink.
 
-ghost use Rattle.std.specs.Prelude.{◌≤◌, ◌+◌, ◌*◌, ◌≡◌, decimal, length, option_copied, Some, IfSome};
+ghost use Rattle.std.specs.Prelude.{◌≤◌, ◌+◌, ◌*◌, ◌≡◌, length, option_copied, Some, IfSome};
 ghost use Rattle.fv_canon.specs.ComparisonLines.{compare_line, path_text, step_text, difference_word};
 
 use fv_base::Sink;

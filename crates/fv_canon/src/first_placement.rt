@@ -171,7 +171,8 @@ fn serves_below(total: u64, item: &LayoutItem, after: Reach, greatest: u64, by: 
     by <= greatest && serves(total, item, after, greatest - by)
 }
 
-// Whether the volume top file, at its only possible start, is not aligned.
+// Whether the only possible start of the volume top file is no multiple of 8, or its data are not
+// aligned there.
 fn is_off(total: u64, item: &LayoutItem) -> bool
     requires total { total ≤ volume_limit }
     requires item { IsLawfulItem total item.now }
@@ -181,8 +182,8 @@ fn is_off(total: u64, item: &LayoutItem) -> bool
     (start + item.header) % item.alignment != 0 || start % 8 != 0
 }
 
-// Whether there is a volume top file that is not aligned at its only possible start, with which it
-// ends at the volume's end.
+// Whether there is a volume top file that is off at its only possible start, with which it ends at
+// the volume's end.
 pub(crate) fn is_top_off(total: u64, items: &[LayoutItem]) -> bool
     requires total { total ≤ volume_limit }
     requires items { All (IsLawfulItem total) items.now }

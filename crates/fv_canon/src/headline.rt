@@ -2,7 +2,7 @@
 //! fit have the same meaning exactly if their canonical images are byte-equal. An accepted volume
 //! whose layout fits normalises to an accepted volume of the same length and meaning that
 //! normalises to itself, with each data start on its alignment and each sum right. One whose layout
-//! does not fit is refused as NoRoom or TopAlignment, and no other volume is.
+//! does not fit is rejected as NoRoom or TopAlignment, and no other volume is.
 //!
 //! None of these functions does anything: their contracts are what is proved.
 
@@ -43,8 +43,8 @@ pub fn sums_are_right()
     ensures { SumsAreRight }
 {}
 
-/// In the image of a volume each volume inside has its own image, as consecutive bytes. So what
-/// holds of an image holds at every level.
+/// In the image of a volume each volume inside has a meaning that some bytes have, and its own
+/// image, as consecutive bytes. So what holds of an image holds at every level.
 pub fn each_volume_has_its_image()
     ensures { EachVolumeHasItsImage }
 {}

@@ -1,6 +1,6 @@
 //! One walk over a volume, which puts its canonical image into any sink.
 
-ghost use Rattle.std.specs.Prelude.{◌≡◌, ◌≤◌, ◌<◌, ◌+◌, ◌-◌, ◌%◌, [], drop, true, false};
+ghost use Rattle.std.specs.Prelude.{◌≡◌, ◌≤◌, ◌<◌, ◌-◌, ◌%◌, [], drop, true, false};
 ghost use Rattle.fv_base.specs.Limits.{data_limit};
 ghost use Rattle.fv_file.specs.Attributes.{is_summed};
 ghost use Rattle.fv_section.specs.SectionImage.{stream_of};
@@ -10,7 +10,7 @@ ghost use Rattle.fv_canon.specs.inner.ImageOf.{image_of, stored_of, stored_file,
 ghost use Rattle.fv_canon.specs.inner.ImageOf.{starts_in};
 ghost use Rattle.fv_canon.specs.Volumes.{volumes_in, volumes_in_files, volumes_in_file, volumes_in_sections};
 ghost use Rattle.fv_canon.specs.Volumes.{volumes_in_body};
-ghost use Rattle.fv_canon.specs.StoredFiles.{file_sum_for, stored_bytes, size_for};
+ghost use Rattle.fv_canon.specs.StoredFiles.{file_sum_for, stored_bytes};
 ghost use Rattle.fv_canon.specs.inner.StoredWalks.{files_bytes};
 ghost use Rattle.fv_canon.specs.inner.Placed.{ArePlaced};
 ghost use Rattle.fv_canon.specs.inner.SummingSinks.{ImageTakes, sums};
@@ -193,7 +193,7 @@ pub(crate) fn put_image<S: Sink>(out: &mut S, volume: &VolumeView<'_>, starts: &
 }
 
 // Puts a body into any sink.
-pub(crate) fn put_parts<S: Sink>(out: &mut S, body: Body<'_, '_>, starts: &[u64])
+pub(crate) fn put_body_image<S: Sink>(out: &mut S, body: Body<'_, '_>, starts: &[u64])
     requires laid { BeginsWithStarts (volumes_in_body (body_view body)) starts.now }
     ensures { S.takes out.old (body_image (body_view body.entry) starts.now) out.new }
 {

@@ -1,6 +1,6 @@
 //! The layout of a volume and of the volumes inside it.
 
-ghost use Rattle.std.specs.Prelude.{◌≡◌, ◌≤◌, ◌⊎◌, ◌+◌, ◌++◌, ℕ, List, All, map, take, get_or, IfOk, IfErr, OnOk};
+ghost use Rattle.std.specs.Prelude.{◌≡◌, ◌≤◌, ◌⊎◌, ◌+◌, ◌++◌, ℕ, List, All, take, get_or, IfOk, IfErr, OnOk};
 ghost use Rattle.fv_base.specs.Faults.{out_of_memory};
 ghost use Rattle.fv_head.specs.ExtImage.{first_edge};
 ghost use Rattle.fv_canon.specs.inner.Depths.{NestsVolume, NestsFiles, NestsSections, NestsBody};
@@ -29,8 +29,9 @@ use std::alloc::Global;
 /// # Errors
 ///
 /// The fault of the first volume that does not fit (the outer volume comes before those inside it),
-/// at 0 and with the depth of that volume: TopAlignment if its volume top file is not aligned at
-/// its only possible start, else NoRoom if its files cannot be placed in their order. OutOfMemory.
+/// at 0 and with the depth of that volume: TopAlignment if the only possible start of its volume top
+/// file is no multiple of 8, or its data are not aligned there; else NoRoom if its files cannot be
+/// placed in their order. OutOfMemory.
 pub fn layout(alloc: Global, view: &VolumeView<'_>) -> Result<Layout, Fault>
     // At every level the files are in their first placement.
     ensures layout { IfOk result (IsLayout view.now) }
@@ -58,7 +59,7 @@ pub fn layout(alloc: Global, view: &VolumeView<'_>) -> Result<Layout, Fault>
     Ok(Layout::new(starts, own))
 }
 
-// The starts of the volumes in a body, which are at depth 0.
+// The starts of the volumes in a body. A volume that is the body itself is at depth 0.
 pub(crate) fn layout_of_body(alloc: Global, body: Body<'_, '_>) -> Result<Vec<u64>, Fault>
     requires shallow { Shallow NestsBody (body_view body) 0 }
     ensures ok { IfOk result (λ starts. Laid AreStarts (volumes_in_body (body_view body.entry)) starts.items) }

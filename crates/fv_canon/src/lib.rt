@@ -1,5 +1,5 @@
-//! The canonical image of a firmware volume, runs that write it, and a run that compares two
-//! volumes.
+//! The canonical image of a firmware volume and its layout, the same for each volume of a flash
+//! image, runs that write them, and a run that compares two volumes.
 #![tactic(auto)]
 
 mod canonical_image;

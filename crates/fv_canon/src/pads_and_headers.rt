@@ -1,6 +1,6 @@
 //! The pieces of a canonical image: pads, gaps, and the headers of files and sections.
 
-ghost use Rattle.std.specs.Prelude.{◌⊎◌, ◌≡◌, ◌≤◌, ◌<◌, ◌+◌, ◌-◌, ◌%◌, ◌*◌, ◌^◌, ℕ, [], ◌∷◌, ◌++◌, replicate};
+ghost use Rattle.std.specs.Prelude.{◌⊎◌, ◌≡◌, ◌≤◌, ◌<◌, ◌+◌, ◌-◌, ◌%◌, ◌^◌, ℕ, [], ◌∷◌, ◌++◌, replicate};
 ghost use Rattle.fv_file.specs.Attributes.{attributes_by};
 ghost use Rattle.fv_section.specs.Frames.{up_to_4};
 ghost use Rattle.fv_section.specs.SectionImage.{FitsForm, section_head_of};
@@ -41,7 +41,7 @@ pub(crate) fn put_section_head<S: Sink>(out: &mut S, section: &SectionView<'_>)
 }
 
 // Puts a pad.
-pub(crate) fn put_pad<S: Sink>(out: &mut S, size: u64, polarity: Polarity)
+fn put_pad<S: Sink>(out: &mut S, size: u64, polarity: Polarity)
     requires least { 24 ≤ size }
     requires most { size ≤ 0xffffff }
     ensures { S.takes out.old (pad_bytes polarity size) out.new }
@@ -120,16 +120,13 @@ pub(crate) fn put_ext_pad<S: Sink>(out: &mut S, head: &VolumeHead, used: u32)
         (erased_byte (polarity_of head.now.attributes))) out.new }
 {
     let polarity = head.attributes().polarity();
-    let header = u64::from(head.header_len());
-    match head.ext() {
-        None => {}
-        Some(ext) => {
-            let len = u64::from(len_of_ext(ext));
-            out.put(pad_head_bytes(24 + len, polarity).as_slice());
-            put_ext(out, ext, used);
-            let end = header + 24 + len;
-            fill(out, polarity.erased(), up_to_8(end) - end);
-        }
+    if let Some(ext) = head.ext() {
+        let header = u64::from(head.header_len());
+        let len = u64::from(len_of_ext(ext));
+        out.put(pad_head_bytes(24 + len, polarity).as_slice());
+        put_ext(out, ext, used);
+        let end = header + 24 + len;
+        fill(out, polarity.erased(), up_to_8(end) - end);
     }
 }
 

@@ -8,7 +8,7 @@ ghost use Rattle.fv_canon.specs.Volumes.{volumes_in_body, volumes_in_content};
 ghost use Rattle.fv_tree.specs.Meaning.{content_of, body_of};
 
 use crate::data_body::data_body;
-use crate::image_walk::put_parts;
+use crate::image_walk::put_body_image;
 use crate::layout_walk::layout_of_body;
 use fv_base::{ByteList, Fault, ListSink, Sink};
 use fv_tree::{FileView, SectionView};
@@ -19,7 +19,8 @@ use std::alloc::Global;
 ///
 /// # Errors
 ///
-/// The fault of the first volume in the data that does not fit. OutOfMemory. Nothing was put then.
+/// The fault of the first volume in the data that does not fit, at 0 and with its depth: 1 if it is
+/// the body of one of the file's own sections. OutOfMemory. Nothing was put then.
 pub fn put_file_data<S: Sink>(alloc: Global, file: &FileView<'_>, out: &mut S) -> Result<(), Fault>
     ensures data { OnOk result ((bytes : List ℕ) × IsData (content_of file.now) bytes × S.takes out.old bytes out.new) }
 
@@ -33,7 +34,7 @@ pub fn put_file_data<S: Sink>(alloc: Global, file: &FileView<'_>, out: &mut S) -
     file.known();
     let data = data_body(file);
     let starts = layout_of_body(alloc, data)?;
-    put_parts(out, data, starts.as_slice());
+    put_body_image(out, data, starts.as_slice());
     Ok(())
 }
 
@@ -42,7 +43,8 @@ pub fn put_file_data<S: Sink>(alloc: Global, file: &FileView<'_>, out: &mut S) -
 ///
 /// # Errors
 ///
-/// The fault of the first volume in the data that does not fit. OutOfMemory.
+/// The fault of the first volume in the data that does not fit, at 0 and with its depth: 1 if it is
+/// the body of one of the file's own sections. OutOfMemory.
 pub fn file_bytes(alloc: Global, file: &FileView<'_>) -> Result<ByteList, Fault>
     ensures data { IfOk result (λ o. IsData (content_of file.now) o) }
 
@@ -59,12 +61,12 @@ pub fn file_bytes(alloc: Global, file: &FileView<'_>) -> Result<ByteList, Fault>
 }
 
 /// The body of a section as it is in its volume's canonical image. Memory for the whole length is
-/// reserved first. (PI specification, volume 3, section 3.2.4.)
+/// reserved once. (PI specification, volume 3, section 3.2.4.)
 ///
 /// # Errors
 ///
-/// The fault of the first volume in the body that does not fit; a volume that is the body itself is
-/// at depth 0. OutOfMemory.
+/// The fault of the first volume in the body that does not fit, at 0; a volume that is the body
+/// itself is at depth 0. OutOfMemory.
 pub fn body_bytes(alloc: Global, section: &SectionView<'_>) -> Result<ByteList, Fault>
     ensures body { IfOk result (λ o. IsBodyImage (body_of section.now) o) }
 
@@ -80,6 +82,6 @@ pub fn body_bytes(alloc: Global, section: &SectionView<'_>) -> Result<ByteList, 
     let body = section.body();
     let starts = layout_of_body(alloc, body)?;
     let mut out = ListSink::with_room(alloc, section.body_len() as usize)?;
-    put_parts(&mut out, body, starts.as_slice());
+    put_body_image(&mut out, body, starts.as_slice());
     out.finish()
 }

@@ -6,9 +6,8 @@
 //! and 16 bytes below `greatest`. No pad fits there: each of them is usable only if the first of
 //! the files may begin right there. So one number and two truth values say which edges are usable.
 
-ghost use Rattle.std.specs.Prelude.{◌≡◌, ℕ, ◌+◌, ◌%◌, ◌^◌, ◌<◌, ◌≤◌, ◌↔◌, IsTrue, List, []};
+ghost use Rattle.std.specs.Prelude.{◌≡◌, ◌%◌, ◌^◌, ◌<◌, ◌≤◌, ◌↔◌, IsTrue, List, []};
 ghost use Rattle.fv_base.specs.Limits.{volume_limit};
-ghost use Rattle.fv_base.specs.Value.{up_to_8};
 ghost use Rattle.fv_canon.specs.declared.first_placement.LayoutItem.{LayoutItem};
 ghost use Rattle.fv_canon.specs.inner.Reaches.{IsBound, IsLawfulItem, IsReach, IsUsable, Serves};
 

@@ -1,4 +1,4 @@
-//! Volumes and their canonical images, and runs that write them.
+//! Volumes and their canonical images, runs that write them, and runs that compare two volumes.
 
 mod cut_short;
 mod fakes;

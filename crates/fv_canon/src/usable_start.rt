@@ -4,7 +4,7 @@
 //! one possible start, with which it ends at the volume's end. The usable starts of any other file
 //! are found from one lawful start to the next, a step of the alignment, which is at least 8.
 
-ghost use Rattle.std.specs.Prelude.{◌≡◌, ℕ, ◌+◌, ◌-◌, ◌%◌, ◌^◌, ◌<◌, ◌≤◌, IfSome, IfNone};
+ghost use Rattle.std.specs.Prelude.{◌≡◌, ℕ, ◌+◌, ◌%◌, ◌^◌, ◌<◌, ◌≤◌, IfSome, IfNone};
 ghost use Rattle.fv_base.specs.Alignment.{IsAlignment};
 ghost use Rattle.fv_base.specs.Limits.{volume_limit};
 ghost use Rattle.fv_canon.specs.Starts.{Lawful};

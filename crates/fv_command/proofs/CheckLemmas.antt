@@ -1,4 +1,4 @@
--- The texts of some items, one behind the other, and the text of a check.
+-- Pads that are erased, and the text of a check.
 use Rattle.std.proofs.Common.{◌≡◌, ◌∙◌, ◌+◌, ℕ, List, [], ◌∷◌, ◌++◌}
 use Rattle.std.proofs.Common.{refl, sym, ap, subst, cond, arith, Bool, true}
 use Rattle.std.specs.Prelude.{◌↔◌, ◌==◌, not, Option, Some, None}

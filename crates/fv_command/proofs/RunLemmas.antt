@@ -1,4 +1,4 @@
--- What the runs come to: from what the calls promise to the words of a run.
+-- What the runs come to: from what the calls promise to the definitions of a run.
 use Rattle.std.proofs.Common.{◌≡◌, ◌≢◌, ◌∙◌, ◌≤◌, ◌⊎◌, ℕ, Bool, true, false, List, length, take, ap, arith, rules, refl, sym, subst, inl, inr}
 use Rattle.std.proofs.lemmas.Grind.{common_steps}
 use Rattle.std.specs.Prelude.{MatchResult, Option, Result, Ok, Err, IfErr, IfOk, OnOk}

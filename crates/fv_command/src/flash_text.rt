@@ -20,8 +20,8 @@ impl<'a> Image for LaidImage<'a> {
     }
 }
 
-/// Writes the input with each volume in it replaced by its canonical image, as it is or as lines of
-/// digits. Nothing is written before each volume is accepted and laid out. The image is not kept in
+/// Writes the input with each volume in it replaced by its canonical image: as lines of digits if
+/// `hex`, otherwise as it is. Nothing is written before each volume is accepted and laid out. The image is not kept in
 /// memory.
 ///
 /// # Errors

@@ -42,8 +42,8 @@ impl<'a> Image for LaidVolume<'a> {
     }
 }
 
-/// Writes the canonical image of the volume that the input is, as it is or as lines of digits.
-/// Nothing is written before the whole input is accepted and laid out. The image is not kept in
+/// Writes the canonical image of the volume that the input is: as lines of digits if `hex`,
+/// otherwise as it is. Nothing is written before the whole input is accepted and laid out. The image is not kept in
 /// memory.
 ///
 /// # Errors

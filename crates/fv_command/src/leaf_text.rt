@@ -97,8 +97,8 @@ fn put_leaf<S: Sink>(out: &mut S, kind: u8, body: &[u8])
     }
 }
 
-// Puts what is shown of the body of a section: nothing, if it is no leaf.
-pub(crate) fn put_shown<S: Sink>(out: &mut S, section: &SectionView<'_>)
+/// Puts what is shown of the body of a section: nothing, if it is no leaf.
+pub fn put_section_body<S: Sink>(out: &mut S, section: &SectionView<'_>)
     ensures { (text : List ℕ) × BodyShown (section_kind_of section.now) (body_of section.now) text
         × S.takes out.old text out.new }
 {

@@ -1,7 +1,7 @@
 //! The commands of the program, over readers and a writer.
 //!
-//! A module `.._text` holds the lines that a command writes, and puts them into a sink. A module
-//! `.._run` reads inputs, and writes these lines or the line of a fault.
+//! A module `.._text` has the lines that a command writes. A module `.._run` makes a command of
+//! them: it reads or takes the inputs, and writes the lines.
 #![tactic(auto)]
 
 mod check_run;

@@ -14,7 +14,7 @@ ghost use Rattle.fv_command.specs.ListTexts.{FileSum, VolumeSum, ListText, SumsT
 ghost use Rattle.fv_command.specs.ListTexts.{VolumeLines, FilesLines, ContentLines, SectionsLines, BodyLines};
 ghost use Rattle.fv_text.specs.PortViews.{Writes, WritingStops, shown};
 
-use crate::leaf_text::put_shown;
+use crate::leaf_text::put_section_body;
 use crate::style::{Indent, Style, put_indent};
 use crate::sums::{put_file_sum, put_volume_sum};
 use fv_base::{ByteList, Fault, FileSystem, ListSink, Port, Sink, WriteSink};
@@ -48,7 +48,7 @@ fn put_section_line<S: Sink>(out: &mut S, section: &SectionView<'_>, number: u64
     put_two_digits(out, section.kind());
     out.put(form_words(section.extended()));
     put_decimal(out, section.body_len());
-    put_shown(out, section);
+    put_section_body(out, section);
     out.put(b"\n");
 }
 

@@ -42,7 +42,7 @@ fn put_shown<S: Sink, I: Image>(below: S, hex: bool, image: &I) -> S
     }
 }
 
-/// Writes the image, as it is or as lines of digits.
+/// Writes the image: as lines of digits if `hex`, otherwise as it is.
 ///
 /// # Errors
 ///

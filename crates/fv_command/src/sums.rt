@@ -17,12 +17,8 @@ use fv_canon::{layout, put_canonical, put_file_data};
 use fv_tree::{FileView, VolumeView};
 use std::alloc::Global;
 
-/// The SHA-256 of the canonical image of a volume.
-///
-/// # Errors
-///
-/// The fault of the first volume that does not fit. OutOfMemory.
-pub fn volume_sum(alloc: Global, volume: &VolumeView<'_>) -> Result<[u8; 32], Fault>
+// The SHA-256 of the canonical image of a volume.
+fn volume_sum(alloc: Global, volume: &VolumeView<'_>) -> Result<[u8; 32], Fault>
     ensures ok { IfOk result (λ sum. (image : List ℕ) × IsImage volume.now image × (sum ≡ sha256 image)) }
     ensures fits { Fits volume.now → IfErr result (λ f. f ≡ out_of_memory) }
 {
@@ -32,12 +28,8 @@ pub fn volume_sum(alloc: Global, volume: &VolumeView<'_>) -> Result<[u8; 32], Fa
     Ok(out.finish())
 }
 
-/// The SHA-256 of the data of a file, as the canonical image of its volume has them.
-///
-/// # Errors
-///
-/// The fault of the first volume in the data that does not fit. OutOfMemory.
-pub fn file_sum(alloc: Global, file: &FileView<'_>) -> Result<[u8; 32], Fault>
+// The SHA-256 of the data of a file, as the canonical image of its volume has them.
+fn file_sum(alloc: Global, file: &FileView<'_>) -> Result<[u8; 32], Fault>
     ensures ok { IfOk result (λ sum. (bytes : List ℕ) × IsData (content_of file.now) bytes × (sum ≡ sha256 bytes)) }
     ensures fits { AllFit (volumes_in_content (content_of file.now)) → IfErr result (λ f. f ≡ out_of_memory) }
 {

@@ -1,4 +1,4 @@
-//! Hexadecimal text, command lines, and what a run writes.
+//! Hexadecimal text, the end of a run, and what runs write.
 
 mod answers;
 mod checked;

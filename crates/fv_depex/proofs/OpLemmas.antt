@@ -1,4 +1,4 @@
--- An op stands where its checks hold.
+-- An op is there where its checks hold.
 use Rattle.std.proofs.Common.{◌≡◌, ◌≤◌, ℕ, zero, suc, List, [], ◌∷◌, ◌++◌, length, drop, refl, sym, ap, ◌∙◌, arith, Bool, true, false}
 use Rattle.std.proofs.Common.{length-append, length-drop}
 use Rattle.std.specs.Prelude.{◌||◌, not, nat_le, slice_index, None, if◌then◌else◌}
@@ -88,7 +88,7 @@ checks_of_op : (phase : Phase) (stage : Stage) (r : List ℕ) → AllHold (op_ch
 checks_of_op phase stage r (some, (known, (placed, (whole, (valued, end))))) =
     record { some = some; known = known; placed = placed; whole = whole; valued = valued }
 
--- where the checks hold, the op stands there
+-- where the checks hold, the op is there
 pub op_stands : (phase : Phase) (stage : Stage) (r : List ℕ) → first_fault (op_checks phase stage r) ≡ None
     → BeginsOp phase stage (op_in r) r
 op_stands phase stage r none =
@@ -131,7 +131,7 @@ op_stands phase stage r none =
               ∙ ap (λ (l : List ℕ). op_code (op_in r) ∷ (l ++ drop 1 r)) (sym operand);
         }
 
--- where an op stands the checks hold
+-- where an op is, the checks hold
 pub checks_hold : (phase : Phase) (stage : Stage) (o : Op) (x : List ℕ) → OpFits phase stage o
     → AllHold (op_checks phase stage (op_code o ∷ (op_operand o ++ x)))
 checks_hold phase stage o x fits = (

@@ -1,4 +1,4 @@
--- Ops that may stand one after another are those of whole expressions.
+-- Ops that may follow one another are those of whole expressions.
 use Rattle.std.proofs.Common.{◌≡◌, ◌≢◌, ◌≤◌, ◌<◌, ℕ, ◌+◌, ◌-◌, List, [], ◌∷◌, ◌++◌, length, drop, inl, inr, refl, sym, ap, ◌∙◌, subst}
 use Rattle.std.proofs.Common.{arith, true, false, length-append, append_assoc, append-nil}
 use Rattle.std.specs.Prelude.{◌⊎◌, ◌&&◌, nat_le, slice_index}
@@ -56,7 +56,7 @@ ops_fit (o ∷ os) = omega (arith, ops_fit os, length-append (op_operand o) (ops
 
 -- ---- a path leads to trees
 
--- the ops of trees, one behind another
+-- the ops of trees, one after another
 abbrev pub trees_ops : List Expression → List Op
 trees_ops [] = []
 trees_ops (t ∷ ts) = postfix t ++ trees_ops ts
@@ -366,7 +366,7 @@ whole_ended phase all rest b spells = go spells.whole where
 
 -- ---- bytes have one path at most
 
--- the rest of a path, behind the first ops
+-- the rest of a path, after the first ops
 pub record ContinuesPath (phase : Phase) (os xs : List Op) (f g : Stage) (r y : List ℕ) : Type 0 where
   pub more : List Op
   pub ops_are : xs ≡ os ++ more

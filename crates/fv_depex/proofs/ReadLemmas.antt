@@ -98,7 +98,7 @@ ended phase b items new o at n stage k stands len is new_is =
       },
     )
 
--- where an op was read, or is there to be read, one stands first
+-- where an op was read, or is there to be read, one is first
 pub stands_first : (phase : Phase) (b : List ℕ) (items : List Op) (o : Op) (at : ℕ) (stage : Stage) → OpsKept phase b items at stage
     → BeginsOp phase stage o (drop at b) → BeginsFirstOp phase b
 stands_first phase b [] o at stage k stands = (

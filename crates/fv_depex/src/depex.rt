@@ -1,7 +1,6 @@
 //! A dependency expression.
 
 ghost use Rattle.std.specs.Prelude.{◌≡◌};
-ghost use Rattle.fv_depex.specs.Expressions.{Spells};
 ghost use Rattle.fv_depex.specs.DepexView.{IsReadDepex};
 
 use crate::op::{Op, Phase};

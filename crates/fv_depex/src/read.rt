@@ -16,7 +16,7 @@ use crate::op_stage::{Stage, stage_after};
 use crate::opcode;
 use fv_base::field::bytes_from;
 use fv_base::{ByteList, guid_at};
-use std::alloc::{AllocError, Global};
+use std::alloc::Global;
 
 /// The offset of the GUID of an op: right after its code.
 const OPERAND: usize = 1;

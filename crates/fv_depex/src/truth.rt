@@ -1,6 +1,6 @@
 //! Expressions, evaluated.
 
-ghost use Rattle.std.specs.Prelude.{◌≡◌, Bool, true, false, if◌then◌else◌, None, Some, [], ◌∷◌, ◌<◌, length, reverse};
+ghost use Rattle.std.specs.Prelude.{◌≡◌, if◌then◌else◌, None, Some, [], ◌∷◌, ◌<◌, length, reverse};
 ghost use Rattle.std.specs.Prelude.{IfSome, IfNone, IfOk, IfErr};
 ghost use Rattle.fv_depex.specs.OpChecks.{depex_out_of_memory};
 ghost use Rattle.fv_depex.specs.inner.Evaluation.{evaluate_op, evaluate_ops, top};

@@ -1,4 +1,4 @@
--- A file's checks hold exactly where its bytes are a file. The bytes of the header alone show its fields. Where the checks hold, the header
+-- A file's checks hold exactly where its bytes are a file. Only the bytes of the header show its fields. Where the checks hold, the header
 -- and the data are cut from the bytes by the sizes. Where a file begins the bytes, its header is read again, and each check of it holds.
 use Rattle.std.proofs.Common.{◌≡◌, ◌≤◌, ◌<◌, ℕ, ◌+◌, ◌-◌, List, ◌++◌, length, take, drop, inl, inr, refl, sym, ap, ◌∙◌, subst, arith, Bool}
 use Rattle.std.proofs.Common.{true, false, length-append, append_assoc}
@@ -31,7 +31,7 @@ front_size : (large : Bool) (h y : List ℕ) → length h ≡ file_header_len la
 front_size false h y l = ap le (field-append_front 20 3 h y (omega arith))
 front_size true h y l = ap le (field-append_front 24 8 h y (omega arith))
 
--- the header alone shows the fields
+-- only the header shows the fields
 pub front_head : (st : FileState) (h y : List ℕ) → length h ≡ file_header_len_at h → head_in st (h ++ y) ≡ head_in st h
 front_head st h y l =
     let n = header_least (is_large (slice_index h 19)) in

@@ -39,7 +39,7 @@ le_bytes_8-low_first n = rw (shr-shr n 8 8, shr-shr n 16 8, shr-shr n 24 8, shr-
 
 -- ---- a header in parts
 
--- the number in the field for a short size, and the bytes behind State
+-- the number in the field for a short size, and the bytes after State
 abbrev short_size : Bool → ℕ → ℕ
 short_size true size = 0
 short_size false size = size
@@ -53,7 +53,7 @@ abbrev size_limit : Bool → ℕ
 size_limit true = 2 ^ 64
 size_limit false = 2 ^ 24
 
--- the bytes behind the name
+-- the bytes after the name
 abbrev behind_name : ℕ → ℕ → ℕ → ℕ → ℕ → ℕ → List ℕ → List ℕ
 behind_name header_sum file_sum kind attributes short state long =
     header_sum ∷ file_sum ∷ kind ∷ attributes ∷ (le_bytes 3 short ++ (state ∷ long))
@@ -69,7 +69,7 @@ header_parts header_sum file_sum name kind attributes size true state =
 header_parts header_sum file_sum name kind attributes size false state =
     rejoined name (header_sum ∷ file_sum ∷ kind ∷ attributes ∷ []) (le_bytes 3 size) (state ∷ []) []
 
--- places behind a name
+-- places after a name
 at_behind : (k : ℕ) (name rest : List ℕ) → length name ≡ 16 → slice_index (name ++ rest) (16 + k) ≡ slice_index rest k
 at_behind k name rest long =
     subst (λ (n : ℕ). slice_index (name ++ rest) (n + k) ≡ slice_index rest k) long (get_or-append-add name rest k 0)

@@ -1,5 +1,5 @@
 -- What the sort of a state decides: which states have it, whether a file of it is valid, and the checks of its cell. The seven states are
--- looked at here alone; all else goes by the four sorts.
+-- looked at only here; all else goes by the four sorts.
 use Rattle.std.proofs.Common.{◌≡◌, ℕ, List, inl, inr, refl, true}
 use Rattle.std.specs.Prelude.{◌⊎◌, Some}
 use Rattle.fv_base.specs.declared.flash.FileSystem.{FileSystem}

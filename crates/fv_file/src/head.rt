@@ -4,7 +4,7 @@ ghost use Rattle.std.specs.Prelude.{◌≡◌, ◌==◌, ◌+◌, ◌≤◌, ◌
 ghost use Rattle.fv_base.specs.Value.{le_at};
 ghost use Rattle.fv_file.specs.Attributes.{attribute_bits, is_large};
 ghost use Rattle.fv_file.specs.FileChecks.{file_header_len_at, file_size_at};
-ghost use Rattle.fv_file.specs.Files.{head_in, header_sum_of, attributes_at, file_sum_right};
+ghost use Rattle.fv_file.specs.Files.{head_in, header_sum_of, attributes_at, file_header_len, file_sum_right};
 ghost use Rattle.fv_file.specs.inner.CellVerdicts.{file_verdict};
 
 use crate::attributes::FileAttributes;
@@ -54,16 +54,19 @@ fn attributes_at(rest: &[u8]) -> FileAttributes
     FileAttributes::from_bits_retain(rest[ATTRIBUTES_OFFSET])
 }
 
+// The length of a header of this form.
+pub(crate) fn header_len(large: bool) -> usize
+    ensures { result ≡ file_header_len large }
+{
+    if large { LARGE_HEADER_LEN } else { HEADER_LEN }
+}
+
 // The length of the header at the start of the bytes.
 pub(crate) fn header_len_at(rest: &[u8]) -> usize
     requires { 24 ≤ length rest.now }
     ensures { result ≡ file_header_len_at rest.now }
 {
-    if attributes_at(rest).is_large() {
-        LARGE_HEADER_LEN
-    } else {
-        HEADER_LEN
-    }
+    header_len(attributes_at(rest).is_large())
 }
 
 // `Size` in the header at the start of the bytes.

@@ -1,5 +1,5 @@
-//! The offsets of the fields of a file's header, in bytes from its first, and the lengths of the
-//! two forms. (PI specification, volume 3, section 3.2.3.1, `EFI_FFS_FILE_HEADER` and
+//! The offsets of the fields of a file's header, in bytes from its first, the lengths of the two
+//! forms, and the greatest size with the short one. (PI specification, volume 3, section 3.2.3.1, `EFI_FFS_FILE_HEADER` and
 //! `EFI_FFS_FILE_HEADER2`.)
 
 /// `Name`, 16 bytes.
@@ -26,11 +26,11 @@ pub const STATE_OFFSET: usize = 23;
 /// `ExtendedSize`, 8 bytes, in a large header only: the size of the file, its header included.
 pub(crate) const EXTENDED_SIZE_OFFSET: usize = 24;
 
-/// The length of `EFI_FFS_FILE_HEADER`.
+/// The length of `EFI_FFS_FILE_HEADER` in bytes.
 pub const HEADER_LEN: usize = 24;
 
-/// The length of `EFI_FFS_FILE_HEADER2`.
+/// The length of `EFI_FFS_FILE_HEADER2` in bytes.
 pub const LARGE_HEADER_LEN: usize = 32;
 
-/// The greatest size of a file with a short header, the header included: `Size` has 3 bytes.
+/// The greatest size in bytes of a file with a short header, the header included: `Size` has 3 bytes.
 pub const SHORT_SIZE_LIMIT: u64 = 0xff_ffff;

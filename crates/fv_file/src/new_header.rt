@@ -5,7 +5,7 @@ ghost use Rattle.fv_base.specs.Guids.{bytes_of};
 ghost use Rattle.fv_base.specs.Limits.{data_limit};
 ghost use Rattle.fv_base.specs.Value.{IsBytes};
 ghost use Rattle.fv_file.specs.Attributes.{attribute_bits, is_large, is_fixed};
-ghost use Rattle.fv_file.specs.Files.{file_header_len, header_sum_at, pad_kind};
+ghost use Rattle.fv_file.specs.Files.{header_sum_at, pad_kind};
 ghost use Rattle.fv_file.specs.inner.NewHeaderParts.{HasPlace, size_fields, whole_bytes, header_of, new_header_bytes};
 ghost use Rattle.fv_file.specs.inner.NewHeaderParts.{file_header, pad_header};
 ghost use Rattle.fv_file.specs.NewHeaders.{IsNewHeader, IsHeadOfFile, IsHeadOfPad, file_fields, pad_fields};
@@ -13,7 +13,7 @@ ghost use Rattle.fv_file.specs.NewHeaders.{file_head_of, pad_head_of, with_large
 
 use crate::attributes::FileAttributes;
 use crate::file_type::FFS_PAD;
-use crate::head::FIXED_CHECKSUM;
+use crate::head::{FIXED_CHECKSUM, header_len};
 use crate::layout::{
     ATTRIBUTES_OFFSET, EXTENDED_SIZE_OFFSET, FILE_SUM_OFFSET, HEADER_LEN, HEADER_SUM_OFFSET,
     LARGE_HEADER_LEN, SHORT_SIZE_LIMIT, SIZE_OFFSET, STATE_OFFSET, TYPE_OFFSET,
@@ -98,13 +98,6 @@ fn size_fields(size: u64, large: bool, state: u8) -> [u8; 12]
     bytes
 }
 
-// The length of a header of this form.
-fn header_len(large: bool) -> usize
-    ensures { result ≡ file_header_len large }
-{
-    if large { LARGE_HEADER_LEN } else { HEADER_LEN }
-}
-
 // The 32 bytes of a large header, or those of a short one with zeros after it.
 fn whole_bytes(
     header: &NewHeader,
@@ -130,7 +123,7 @@ fn whole_bytes(
 }
 
 // The bytes of a header with these two sums and this State.
-fn header_with(header: &NewHeader, header_sum: u8, file_sum: u8, state: u8) -> HeadBytes
+fn header_of(header: &NewHeader, header_sum: u8, file_sum: u8, state: u8) -> HeadBytes
     requires { HasPlace header.now }
     ensures is { result ≡ header_of header.now header_sum file_sum state }
     ensures bytes { IsBytes result }
@@ -143,15 +136,15 @@ fn header_with(header: &NewHeader, header_sum: u8, file_sum: u8, state: u8) -> H
 }
 
 // The bytes of a header with its right sum.
-fn header_bytes(header: &NewHeader, polarity: Polarity) -> HeadBytes
+fn new_header_bytes(header: &NewHeader, polarity: Polarity) -> HeadBytes
     requires { HasPlace header.now }
     ensures is { result ≡ new_header_bytes header.now polarity }
     ensures bytes { IsBytes result }
     ensures name { length (bytes_of header.now.name) ≡ 16 }
 {
-    let sum = sum8(header_with(header, 0, 0, 0).as_slice());
+    let sum = sum8(header_of(header, 0, 0, 0).as_slice());
     let header_sum = 0u8.wrapping_sub(sum);
-    header_with(header, header_sum, header.file_sum, state_byte(polarity))
+    header_of(header, header_sum, header.file_sum, state_byte(polarity))
 }
 
 // The attribute bits with the one for the form of the header.
@@ -234,7 +227,7 @@ pub fn file_head_bytes(
     // It is these bytes.
     ensures bytes { result ≡ file_head_of name kind attributes data_len file_sum polarity }
 {
-    header_bytes(
+    new_header_bytes(
         &file_header(name, kind, attributes, data_len, file_sum),
         polarity,
     )
@@ -259,5 +252,5 @@ pub fn pad_head_bytes(size: u64, polarity: Polarity) -> HeadBytes
     // It is these bytes.
     ensures bytes { result ≡ pad_head_of size polarity }
 {
-    header_bytes(&pad_header(size), polarity)
+    new_header_bytes(&pad_header(size), polarity)
 }

@@ -1,7 +1,8 @@
 //! What no contract says: bodies from outside, and the fault of each change of one.
 //!
 //! A table is one text, which one function returns. A line is the name of a case, what is expected
-//! of it, and how its bytes are spelled, with a colon between.
+//! of it, and how its bytes are spelled, with a colon between. (Lines of `written` have the
+//! arguments, and then the bytes.)
 
 mod begins;
 mod bodies;
@@ -22,7 +23,7 @@ use std::str::from_utf8;
 /// The name of most files.
 const A: [u8; 16] = [0x0a; 16];
 
-/// The name of a pad, and 16 erased bytes.
+/// The name of a pad.
 const P: [u8; 16] = [0xff; 16];
 
 // The byte that two hexadecimal digits are.

@@ -147,7 +147,7 @@ extension_is x y p q r =
     ∙ ap (λ (es : List (ℕ × List ℕ)). let made : Extension = record { name = y.name; entries = es; tail = x.tail } in made) q
     ∙ ap (λ (bs : List ℕ). let made : Extension = record { name = y.name; entries = y.entries; tail = bs } in made) r
 
--- what stands behind the name and the size
+-- what is after the name and the size
 rest_of : (x : Extension) (b : List ℕ) (is : IsExt x b) → (bytes_of x.name ≡ take 16 b) × (is.rest ≡ drop 20 b)
 rest_of x b is =
     let name : List ℕ = bytes_of x.name in
@@ -166,7 +166,7 @@ one_ext x y b is other =
     (subst (SplitsEntries y.entries y.tail) second.1 other.entries) in
     extension_is x y names entries.0 entries.1
 
--- a name, a size and what stands behind them
+-- a name, a size and what is after them
 pub ext_of : (b : List ℕ) (g : Guid) (es : List (ℕ × List ℕ)) (tail : List ℕ) → 20 ≤ length b → length b ≤ ext_limit
     → le_at 16 4 b ≡ length b → bytes_of g ≡ take 16 b
     → SplitsEntries es tail (drop 20 b) → IsExt (record { name = g; entries = es; tail = tail }) b
@@ -201,7 +201,7 @@ length-ext x b is = omega (
   is.head_length,
 )
 
--- ---- where it stands
+-- ---- where it is
 
 -- an extended header by its place
 pub record Placed (x : Extension) (e : Extent) (b part : List ℕ) : Type 0 where
@@ -270,7 +270,7 @@ make_has_ext x e b n whole low high first is =
       first ∙ sym (ap (λ (k : ℕ). up_to_8 (k + length (field o n b))) before ∙ ap (λ (k : ℕ). up_to_8 (o + k)) long),
     )
 
--- the check of an extended header of s bytes at o, behind a header of n bytes, in a volume of len bytes
+-- the check of an extended header of s bytes at o, after a header of n bytes, in a volume of len bytes
 record Tests (o n s len : ℕ) : Type 0 where
   pub behind_header : n ≤ o
   pub header_within : o + 20 ≤ len
@@ -298,7 +298,7 @@ tests_hold : (o n s len : ℕ) → n ≤ o → o + 20 ≤ len → 20 ≤ s → s
 tests_hold o n s len a b c d e =
     and_join _ _ (and_join _ _ (and_join _ _ (and_join _ _ (le-leb _ _ a) (le-leb _ _ b)) (le-leb _ _ c)) (le-leb _ _ d)) (le-leb _ _ e)
 
--- where the check holds, an extended header stands there, or there is none
+-- where the check holds, an extended header is there, or there is none
 pub some_has_ext : (e : Extent) (b : List ℕ) → e.length ≤ length b → has_ext e.header_len e.length b ≡ true
     → e.first ≡ (if ext_offset_at b == 0 then e.header_len else up_to_8 (ext_offset_at b + ext_size_at b))
     → (x : Option Extension) × HasExt x e b
@@ -322,7 +322,7 @@ some_has_ext e b whole holds first = go (ext_offset_at b == 0) refl holds first 
       inner : (o n : ℕ) (b : List ℕ) → 20 ≤ n → le_at 16 4 (field o n b) ≡ le_at (o + 16) 4 b
       inner o n b least = ap le (field-take 16 4 n (drop o b) (omega (arith, least)) ∙ ap (take 4) (drop-drop 16 o b))
 
--- and where one stands, or none does, the check holds
+-- and where one is, or none is, the check holds
 pub has_ext_holds : (x : Option Extension) (e : Extent) (b : List ℕ) → HasExt x e b → has_ext e.header_len e.length b ≡ true
 has_ext_holds None e b h = rw h.0 refl
 has_ext_holds (Some x) e b h =
@@ -334,7 +334,7 @@ has_ext_holds (Some x) e b h =
     or_right true t is = refl
     or_right false t is = is
 
--- the first file stands where the header says
+-- the first file is where the header says
 pub has_ext_first : (x : Option Extension) (e : Extent) (b : List ℕ) → 64 ≤ e.header_len → HasExt x e b
     → (if ext_offset_at b == 0 then e.header_len else up_to_8 (ext_offset_at b + ext_size_at b)) ≡ e.first
 has_ext_first None e b least h = rw h.0 (sym h.1)
@@ -395,7 +395,7 @@ pub end_entries : (items : List (ℕ × List ℕ)) (bytes rest tail : List ℕ)
 end_entries items bytes rest tail sofar ended same =
     subst (λ (xs : List (ℕ × List ℕ)). SplitsEntries xs tail bytes) (append-nil items) (sofar [] tail (sym same, ended))
 
--- what is read behind the name and the size
+-- what is read after the name and the size
 pub ext_from : (b : List ℕ) (g : Guid) (es : List (ℕ × List ℕ)) (tail : List ℕ) → 20 ≤ length b → length b ≤ ext_limit
     → le_at 16 4 b ≡ length b → bytes_of g ≡ take 16 b
     → SplitsEntries es tail (take (length b - 20) (drop 20 b)) → IsExt (record { name = g; entries = es; tail = tail }) b

@@ -2,7 +2,7 @@
 -- 1. A verdict that is a fault is the first fault of the checks (fault_first).
 -- 2. Such a fault is at an offset within the bytes, or at their end (fault_within), and is not OutOfMemory (fault_known).
 -- 3. So a result that is the verdict has what each clause says (ok_found, err_first, err_within).
-use Rattle.std.proofs.Common.{◌≡◌, ◌≢◌, ◌≤◌, ℕ, ◌-◌, List, [], ◌∷◌, length, refl, sym, ap, ◌∙◌, arith}
+use Rattle.std.proofs.Common.{◌≡◌, ◌≢◌, ◌≤◌, ℕ, List, [], ◌∷◌, length, refl, sym, ap, ◌∙◌, arith}
 use Rattle.std.proofs.Common.{true}
 use Rattle.std.specs.Prelude.{nat_le, is_some, Option, None, Some, Result, Ok, Err, IfOk, IfErr}
 use Rattle.std.specs.List.{AllByRecursion}

@@ -60,7 +60,7 @@ header_len_is h b head =
     let more : length (pairs_of (drop 56 b)) ≡ length h.blocks + 1 = ap length head.block_map ∙ length-append h.blocks ((0, 0) ∷ []) in
     omega (arith, behind, count, more, head.least)
 
--- the first n + k bytes behind a place, and then more
+-- the first n + k bytes after a place, and then more
 cut : (at n k : ℕ) (b r : List ℕ) → take (n + k) (drop at b) ++ r ≡ field at n b ++ (take k (drop (at + n) b) ++ r)
 cut at n k b r =
     ap (λ (xs : List ℕ). xs ++ r) (take-add n k (drop at b)) ∙ append_assoc (take n (drop at b)) (take k (drop n (drop at b))) r
@@ -95,7 +95,7 @@ before_is h b r head =
         → a ++ (b ++ (c ++ (d ++ (e ++ (f ++ r))))) ≡ a' ++ (b' ++ (c' ++ (d' ++ (e' ++ (f' ++ r)))))
     six a b c d e f a' b' c' d' e' f' r p q s t u v = rw (p, q, s, t, u, v) refl
 
--- the fields behind ExtHeaderOffset
+-- the fields after ExtHeaderOffset
 behind_is : (h : HeadFields) (b : List ℕ) → IsHead h b → drop 54 b ≡ (h.reserved ∷ 2 ∷ []) ++ (pairs_bytes h.blocks ++ le_bytes 8 0)
 behind_is h b head =
     let behind : length (drop 56 b) ≡ length b - 56 = length-drop 56 b in
@@ -154,7 +154,7 @@ patched_front i n b checksum offset within long =
     field-append_front i n (take 50 b) (le_bytes 2 checksum ++ (le_bytes 2 offset ++ drop 54 b)) (omega (arith, fifty, within))
     ∙ field-take i n 50 b within
 
--- places behind ExtHeaderOffset
+-- places after ExtHeaderOffset
 patched_behind : (i : ℕ) (b : List ℕ) (checksum offset : ℕ) → 54 ≤ i → 54 ≤ length b → drop i (patched b checksum offset) ≡ drop i b
 unfolding patched
 patched_behind i b checksum offset past long =
@@ -317,7 +317,7 @@ canonical_only h b canonical =
 pub length-canonical : (h : HeadFields) → IsReadHead h → length (canonical_head h) ≡ header_len_of h
 length-canonical h read = sym (header_len_is h (canonical_head h) (canonical_is h read).head)
 
--- where the extended header stands, behind the canonical head
+-- where the extended header is, after the canonical head
 canonical_ext : (h : HeadFields) (rest : List ℕ) (x : Option Extension) → IsReadHead h → h.ext ≡ x → IfRead x → CanonicalRest x rest
     → canonical_end h x ≤ h.length
     → le_at 52 2 (canonical_head h ++ rest) ≡ canonical_offset h x → HasExt x (extent_of h (first_edge h x)) (canonical_head h ++ rest)
@@ -333,7 +333,7 @@ canonical_ext h rest (Some x) read is known (pad, used, behind, text, long) fits
     let sum : length (b ++ pad) + length part ≡ canonical_end h (Some x) = omega (arith, before, again.1) in
     (b ++ pad, part, behind, joined, before ∙ sym offset, omega (arith, before), omega (arith, sum, fits), again.0, ap up_to_8 (sym sum))
 
--- read again, with its extended header in a pad file behind it, it gives its fields
+-- read again, with its extended header in a pad file after it, it gives its fields
 pub canonical_front : (h : HeadFields) (rest : List ℕ) → IsReadHead h → IfRead h.ext → CanonicalRest h.ext rest
     → canonical_end h h.ext ≤ h.length → h.length ≤ length (canonical_head h ++ rest)
     → BeginsVolume h (extent_of h (first_edge h h.ext)) (canonical_head h ++ rest)
@@ -353,7 +353,7 @@ canonical_front h rest read known there fits long =
       polarity = refl;
     }
 
--- without an extended header, it gives its fields with any bytes behind it
+-- without an extended header, it gives its fields with any bytes after it
 pub canonical_bare : (h : HeadFields) (rest : List ℕ) → IsReadHead h → h.ext ≡ None → header_len_of h ≤ h.length
     → h.length ≤ length (canonical_head h ++ rest)
     → BeginsVolume h (extent_of h (header_len_of h)) (canonical_head h ++ rest)
@@ -372,7 +372,7 @@ weight-words (x ∷ y ∷ xs) h =
     let first = sum_by-cons (λ (n : ℕ). n) (le (x ∷ y ∷ [])) (words_of xs) in
     omega (arith, rest, first)
 
--- a header has words alone
+-- a header has only whole words
 pub spelled_even : (h : HeadFields) (checksum offset : ℕ) → IsReadHead h → length (head_spelled h checksum offset) % 2 ≡ 0
 spelled_even h checksum offset (b, head) =
     let same : length (head_spelled h checksum offset) ≡ length b =
@@ -383,7 +383,7 @@ spelled_even h checksum offset (b, head) =
 pub header_len_most : (h : HeadFields) → IsReadHead h → header_len_of h ≤ header_limit
 header_len_most h (b, head) = omega (arith, header_len_is h b head, head.most)
 
--- where the first file of the canonical image may stand, at most
+-- where the first file of the canonical image may begin, at most
 pub first_edge_most : (h : HeadFields) (x : Option Extension) → IsReadHead h → IfRead x
     → first_edge h x ≤ up_to_8 (header_limit + 24 + ext_limit)
 first_edge_most h None read known = omega (arith, header_len_most h read)

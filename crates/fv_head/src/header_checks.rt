@@ -1,6 +1,6 @@
 //! Whether bytes begin with a volume, and which.
 
-ghost use Rattle.std.specs.Prelude.{◌≡◌, ◌⊎◌, ◌+◌, ◌==◌, ◌%◌, ◌≤◌, length, IfOk, IfErr, OnOk, None, Some, true};
+ghost use Rattle.std.specs.Prelude.{◌≡◌, ◌==◌, ◌%◌, ◌≤◌, length, IfOk, IfErr, OnOk, None, Some, true};
 ghost use Rattle.fv_base.specs.Checks.{IsFirstFault};
 ghost use Rattle.fv_base.specs.inner.Verdicts.{first_fault};
 ghost use Rattle.fv_base.specs.Guids.{bytes_of};

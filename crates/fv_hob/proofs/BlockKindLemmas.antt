@@ -69,7 +69,7 @@ len_by b least = rows (HasLen b)
 
 -- ---- the body
 
--- a field before the bytes behind it
+-- a field before the bytes after it
 pub then : (i n : ℕ) (b x : List ℕ) → x ≡ drop (i + n) b → field i n b ++ x ≡ drop i b
 then i n b x e = ap (λ (l : List ℕ). field i n b ++ l) (e ∙ sym (drop-drop n i b)) ∙ take-append-drop n (drop i b)
 

@@ -1,7 +1,7 @@
 -- What a crate above may cite of hand-off blocks and their lists. Each line passes some of it on from where it is proved.
 
--- of a block: its type stands at 0 of its bytes, and it has as many bytes as its kind says, which fit a field of 16 bits; bytes begin
--- with one block at most; it stands there where its checks hold, and its checks hold where it stands
+-- of a block: its type is at 0 of its bytes, and it has as many bytes as its kind says, which fit a field of 16 bits; bytes begin
+-- with one block at most; it is there where its checks hold, and its checks hold where it is
 pub use Rattle.fv_hob.proofs.BlockLemmas.{code_is, len_is, len_small, SameBlock, one_block, checks_hold, stands}
 -- what is written of a block is the block, in as many bytes as its kind says, and the bytes that it was read from if it is used
 pub use Rattle.fv_hob.proofs.HobImageLemmas.{written_again, block_kept, spelled_len}

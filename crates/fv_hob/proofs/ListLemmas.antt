@@ -24,11 +24,11 @@ pub others_more : (hs : List HobForm) (h : HobForm) → AllByRecursion IsNoEndHo
 others_more [] h all other = (other, tt)
 others_more (g ∷ gs) h all other = (all.0, others_more gs h all.1 other)
 
--- bytes behind a first part
+-- bytes after a first part
 whole : (c c' rest x : List ℕ) → c ≡ c' ++ rest → c' ++ (rest ++ x) ≡ c ++ x
 whole c c' rest x e = sym (append_assoc c' rest x) ∙ ap (λ (l : List ℕ). l ++ x) (sym e)
 
--- what of a list is behind blocks none of which is an end
+-- what of a list is after blocks none of which is an end
 pub record SameFront (hs front : List HobForm) (last : HobForm) (x y : List ℕ) : Type 0 where
   pub more : List HobForm
   pub e : List ℕ

@@ -129,7 +129,7 @@ none_after b f all d y here is whole =
     (subst (λ (l : List HobForm). JoinsHobs l d) is.ends is.joined) is.last_is (sym here.joined ∙ whole) in
     go s.more s.e s.joined s.bytes_are (is.ends ∙ ap (λ (l : List HobForm). l ++ (is.last ∷ [])) s.front_is)
   where
-    -- the block that stands at the fault
+    -- the block that is at the fault
     head : (before more : List HobForm) (last h : HobForm) (behind : List HobForm) → more ++ last ∷ [] ≡ h ∷ behind
         → all ≡ (before ++ more) ++ last ∷ [] → (length before == 0) ≡ true → hob_type h.kind ≡ 0x0001
     head [] more last h behind e same first = subst BeginWithTable (same ∙ e) is.begins

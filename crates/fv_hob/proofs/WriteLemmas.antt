@@ -9,7 +9,7 @@ use Rattle.fv_hob.specs.Lists.{with_span, span_of, spans_of}
 use Rattle.fv_hob.specs.HobImage.{hob_spelled, list_spelled}
 use Rattle.fv_hob.specs.declared.span.Span.{Span}
 
--- behind some bytes these fields were written
+-- after some bytes these fields were written
 pub record Grown (a : List ℕ) (xs : List (List ℕ)) (b : List ℕ) : Type 0 where
   pub is : b ≡ a ++ concat xs
 

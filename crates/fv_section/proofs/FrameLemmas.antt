@@ -137,7 +137,7 @@ one_frame f g b r s o hf hg =
     let same : f ≡ g = sym rf.frame_is ∙ ap (λ (k : ℕ). frame_in k b) o ∙ rg.frame_is in
     (same, rf.rest_is ∙ ap (λ (k : FrameForm). drop (frame_len k) b) same ∙ sym rg.rest_is)
 
--- more bytes behind
+-- more bytes after
 pub begins_more : (f : FrameForm) (b r y : List ℕ) → BeginsFrame f b r → BeginsFrame f (b ++ y) (r ++ y)
 begins_more f b r y h = record {
   head = h.head;
@@ -168,11 +168,11 @@ stands_verdict at b g stands =
 pub verdict_first : (at : ℕ) (r : List ℕ) (e : Fault) → frame_verdict at r ≡ Err e → IsFirstFault (frame_checks at r) e
 verdict_first at r e is = first_is (frame_checks at r) e (verdict_err (first_fault (frame_checks at r)) (frame_in at r) e is)
 
--- the verdict on all that is left of a stream is that on what stands from the place on
+-- the verdict on all that is left of a stream is that on what is from the place on
 pub verdict_rest : (at : ℕ) (b : List ℕ) → frame_verdict at (take (length b - at) (drop at b)) ≡ frame_verdict at (drop at b)
 verdict_rest at b = ap (frame_verdict at) (take_rest b at)
 
--- where a check does not hold no frame stands
+-- where a check does not hold there is no frame
 pub none_stands : (at : ℕ) (b : List ℕ) (e : Fault) (g : FrameForm) → IsFirstFault (frame_checks at (drop at b)) e → FrameStandsAt g at b
     → ⊥
 none_stands at b e g first stands =

@@ -1,4 +1,4 @@
--- What the loop over a stream keeps, and what its ends say.
+-- What the loop over a stream keeps, what its ends say, and what a walk over the stream then reads.
 use Rattle.std.proofs.Common.{◌≡◌, ℕ, zero, suc, ◌+◌, ◌-◌, ◌<◌, ◌≤◌, min, List, [], ◌∷◌, ◌++◌, length, take, drop, refl, sym, ap, ◌∙◌}
 use Rattle.std.proofs.Common.{subst, arith, length-append, length-take, length-drop, append_assoc, drop-drop}
 use Rattle.std.specs.List.{AllByRecursion}
@@ -12,7 +12,7 @@ use Rattle.fv_section.specs.FrameWalks.{frame_in, frames_from, offset_after, Has
 use Rattle.fv_section.proofs.FrameLemmas.{length_begun, frame_reads, none_stands}
 use Rattle.fv_section.proofs.StreamLemmas.{cut, from_least, one_more}
 
--- fewer bytes behind
+-- fewer bytes after
 begins_less : (f : FrameForm) (b r : List ℕ) (k : ℕ) → BeginsFrame f b r → BeginsFrame f (take (frame_len f + k) b) (take k r)
 begins_less f b r k h =
     let e : frame_len f ≡ length (h.head ++ f.body) = omega (
@@ -56,7 +56,7 @@ step b fs f t end at next split here s e =
     let Q : ℕ → Type 0 = λ j. Splits (fs ++ f ∷ []) j (take (up_to_4 next) b) in
     subst Q lr (subst P (sym (ap (λ j. take j b) n ∙ joined)) h)
 
--- a frame that stands at a place ends within the stream
+-- a frame that is at a place ends within the stream
 pub stands_within : (f : FrameForm) (b : List ℕ) (at : ℕ) → FrameStandsAt f at b → f.offset + frame_len f ≤ length b
 stands_within f b at s = omega (arith, s.offset, s.inside, length_begun f (drop at b) s.behind s.begins, length-drop at b)
 
@@ -87,7 +87,7 @@ pub begins_of : (at : ℕ) (f : FrameForm) (fs : List FrameForm) (t : ℕ) (b : 
 begins_of at f [] t b (rest, begun, o, l, fit) = (o, rest, begun)
 begins_of at f (g ∷ fs) t b (filler, rest, begun, o, fill, more) = (o, filler ++ rest, begun)
 
--- the first frame of a split stands where the split begins
+-- the first frame of a split is where the split begins
 first_stands : (at : ℕ) (f : FrameForm) (fs : List FrameForm) (t : ℕ) (b : List ℕ) → SplitsFrom at (f ∷ fs) t (drop at b)
     → FrameStandsAt f at b
 first_stands at f fs t b split =
@@ -147,7 +147,7 @@ behind_first at f (g ∷ fs) t b (filler, rest, begun, o, fill, more) =
     sym (drop_at x rest (length x) refl) ∙ ap (drop (length x)) (sym text) ∙ drop-drop (length x) at b ∙ ap (λ n. drop n b) long in
     (t, subst (λ l. SplitsFrom (up_to_4 (at + frame_len f)) (g ∷ fs) t l) next more)
 
--- each frame of a stream stands in it
+-- each frame of a stream is in it
 from_stands : (at : ℕ) (fs : List FrameForm) (t : ℕ) (b : List ℕ) → SplitsFrom at fs t (drop at b)
     → AllByRecursion (λ f. FrameStandsAt f f.offset b) fs
 from_stands at [] t b split = tt

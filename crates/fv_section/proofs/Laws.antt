@@ -6,19 +6,19 @@
 pub use Rattle.fv_section.proofs.FrameLemmas.{size_least, length_begun, one_frame, begins_more}
 -- of a frame in bytes, body and rest are bytes, and the body fits the form of its header
 pub use Rattle.fv_section.proofs.StreamLaws.{begun_bytes, form_fits, fits_form, fits}
--- where a frame's check fails no frame stands
+-- where a frame's check fails there is no frame
 pub use Rattle.fv_section.proofs.FrameLemmas.{none_stands}
 -- a header that is written is that of its form, type and size
 pub use Rattle.fv_section.proofs.SectionImageLemmas.{head_is}
 -- ---- a stream
 
--- a stream is split in one way; frames up to a multiple of 4 begin every split; one more frame behind such frames
+-- a stream is split in one way; frames up to a multiple of 4 begin every split; one more frame after such frames
 pub use Rattle.fv_section.proofs.StreamLemmas.{from_least, one_split, cut, one_more}
--- a stream begins with its first frame; where no frame stands there is no split; each frame ends within the stream
+-- a stream begins with its first frame; where there is no frame there is no split; each frame ends within the stream
 pub use Rattle.fv_section.proofs.FrameWalkLemmas.{begins_of, none_after, whole_within, stands_within}
 -- its tail has at most 3 bytes
 pub use Rattle.fv_section.proofs.StreamLaws.{tail_small}
--- the frames of a stream stand in it
+-- the frames of a stream are in it
 pub use Rattle.fv_section.proofs.FrameWalkLemmas.{split_stands}
 -- ---- streams that are written
 

@@ -15,7 +15,7 @@ tail_small at (f ∷ g ∷ fs) tail b (filler, rest, begun, o, fill, more) = tai
 
 -- ---- its bytes
 
--- a frame's body and what lies behind it are bytes where the whole is
+-- a frame's body and what is after it are bytes where the whole is
 pub begun_bytes : (f : FrameForm) (b rest : List ℕ) → IsBytes b → BeginsFrame f b rest → IsBytes f.body × IsBytes rest
 begun_bytes f b rest bytes begun =
     let behind = bytes_back begun.head (f.body ++ rest) (subst IsBytes begun.text bytes) in

@@ -1,4 +1,4 @@
--- Bytes are a stream in one way at most, and one more frame behind a stream makes a stream.
+-- Bytes are a stream in one way at most, and one more frame after a stream makes a stream.
 use Rattle.std.proofs.Common.{◌≡◌, ℕ, ◌+◌, ◌<◌, ◌≤◌, List, [], ◌∷◌, ◌++◌, length, refl, sym, ap, ◌∙◌, subst, arith, length-append}
 use Rattle.std.proofs.Common.{append_assoc}
 use Rattle.fv_base.proofs.Laws.{same_cut}
@@ -88,7 +88,7 @@ one_split at (f ∷ f' ∷ fs) (g ∷ g' ∷ gs) t u b (filler, rest, begun, o, 
     let q : f' ∷ fs ≡ g' ∷ gs = r.0 in
     (cc, r.1)
 
--- one more frame behind frames up to a multiple of 4
+-- one more frame after frames up to a multiple of 4
 pub one_more : (at : ℕ) (fs : List FrameForm) (f : FrameForm) (t : ℕ) (x y r : List ℕ) → SplitsFrom at fs t x
     → at + length x ≡ up_to_4 (at + length x) → BeginsFrame f y r → f.offset ≡ at + length x
     → at + length x + frame_len f + length r ≤ up_to_4 (at + length x + frame_len f) → SplitsFrom at (fs ++ f ∷ []) (length r) (x ++ y)

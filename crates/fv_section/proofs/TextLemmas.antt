@@ -70,7 +70,7 @@ text_none b text h is = never (is_text b) (text_holds b text is) h where
   never : (t : Bool) → t ≡ true → t ≡ false → ⊥
   never t a b = cc
 
--- a version is a number of two bytes and the text behind it
+-- a version is a number of two bytes and the text after it
 pub version_none : (b : List ℕ) (build : ℕ) (text : List ℕ) → ((t : List ℕ) → IsText (drop 2 b) t → ⊥) → IsVersion b build text → ⊥
 version_none b build text none is =
     let behind : drop 2 b ≡ is.units = ap (drop 2) is.joined ∙ drop_at is.number is.units 2 is.two in

@@ -174,7 +174,7 @@ pub fn frames(alloc: Global, stream: &[u8]) -> Result<Frames<'_>, Fault>
     ensures some { IfErr result (λ _. 0 < length stream.now) }
 {
     let mut walk = FrameWalk::of(stream)?;
-    let mut list = Vec::new(alloc);
+    let mut list = Vec::with_capacity(alloc, walk.frames_left())?;
     while let Some(frame) = walk.next_frame() {
         list.push(frame)?;
     }

@@ -29,7 +29,7 @@ reads_count (h ∷ l ∷ digits) bytes (byte, rest, pair, is, more) =
     let long = ap length is in
     omega (arith, count, long)
 
--- behind pairs of digits the rest of what is read is read
+-- after pairs of digits the rest of what is read is read
 pub reads_rest : (a b x y : List ℕ) → DigitsSpell a x → DigitsSpell (a ++ b) y → (z : List ℕ) × DigitsSpell b z
 reads_rest [] b x y p q = (y, q)
 reads_rest (h ∷ []) b x y p q = absurd p
@@ -40,7 +40,7 @@ pub spoilt_more : (a b : List ℕ) → IsSpoilt a → IsSpoilt (a ++ b)
 spoilt_more a b spoilt = λ behind bytes all.
     spoilt (b ++ behind) bytes (subst (λ (l : List ℕ). DigitsSpell l bytes) (append_assoc a b behind) all)
 
--- and whatever stands before it that is read
+-- and whatever is before it that is read
 pub spoilt_behind : (a b x : List ℕ) → DigitsSpell a x → IsSpoilt b → IsSpoilt (a ++ b)
 spoilt_behind a b x reads spoilt = λ behind bytes all.
     let joined = subst (λ (l : List ℕ). DigitsSpell l bytes) (append_assoc a b behind) all in
@@ -61,7 +61,7 @@ value_small d v is = grind arith
 nibble : (d v : ℕ) → hex_digit_value d ≡ Some v → value_or_16 d < 16
 nibble d v is = subst (λ (o : Option ℕ). unwrap_or o 16 < 16) (sym is) (value_small d v is)
 
--- what spells bytes begins with digits alone
+-- what spells bytes begins with nothing but digits
 pub all_digits : (a b bytes : List ℕ) → DigitsSpell (a ++ b) bytes → All IsNibble (map value_or_16 a)
 all_digits [] b bytes all = All-nil IsNibble
 all_digits (h ∷ []) [] bytes all = absurd all
@@ -71,7 +71,7 @@ all_digits (h ∷ l ∷ a) b bytes (byte, rest, pair, is, more) =
     All-cons IsNibble (value_or_16 h) (value_or_16 l ∷ map value_or_16 a) (nibble h pair.high pair.high_is)
     (All-cons IsNibble (value_or_16 l) (map value_or_16 a) (nibble l pair.low pair.low_is) (all_digits a b rest more))
 
--- the greatest value so far tells whether there was anything but digits
+-- the greatest value so far shows whether there was anything but digits
 abbrev pub Judges : ℕ → List ℕ → Type 0
 Judges most digits = (most < 16 → All IsNibble (map value_or_16 digits)) × (16 ≤ most → IsSpoilt digits)
 
@@ -199,7 +199,7 @@ kept_front old fill items start n is le filled =
     ∙ ap (λ (k : ℕ). take k (old ++ fill)) is
     ∙ take-append_seam old fill
 
--- a digit behind pairs spells nothing
+-- a digit after pairs spells nothing
 pub odd_reads_nothing : (front waiting x y : List ℕ) → length waiting ≡ 1 → DigitsSpell front x → DigitsSpell (front ++ waiting) y → ⊥
 odd_reads_nothing front waiting x y one reads all =
     let even = reads_count front x reads in

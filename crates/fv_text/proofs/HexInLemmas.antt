@@ -66,7 +66,7 @@ MakesRoom old room =
     × (((room.is_long ≡ old.is_long) × (room.bytes.items ≡ old.bytes.items))
     ⊎ ((room.is_long ≡ true) × (volume_limit < length old.bytes.items + length old.digits.items / 2)))
 
--- the bytes of the pairs, put behind those that were kept
+-- the bytes of the pairs, put after those that were kept
 adds_pairs : (old room : Decoder) (holds more : List ℕ) → MakesRoom old room → DigitsSpell old.digits.items more
     → holds ≡ room.bytes.items ++ more → AddsDigits old.is_long room.is_long old.bytes.items holds old.digits.items
 adds_pairs old room holds more (digits, inl (flag, same)) reads is = record {
@@ -171,7 +171,7 @@ pub ran_out : (flag : Bool) (turn len : ℕ) → (flag ≡ false → turn ≤ le
 ran_out true turn len gave more = refl
 ran_out false turn len gave more = let few = gave refl in absurd (omega (arith, few, more))
 
--- the reader failed behind a text
+-- the reader failed after a text
 pub stops_by_reader : (old new : Option (List ℕ)) (erred : Bool) (text : List ℕ) (n : ℕ) (f : Fault) → Consumes old new text
     → n ≡ length text → erred ≡ true → f ≡ outer_fault kinds.ReadFault n → TextStops old new erred f
 stops_by_reader old new erred text n f gave count up is =
@@ -187,7 +187,7 @@ stops_by_long_text old new erred text f gave more is =
 seen_is_chunk : (chunk behind seen : List ℕ) (len : ℕ) → length chunk ≡ len → seen ≡ take len (chunk ++ behind) → seen ≡ chunk
 seen_is_chunk chunk behind seen len long is = is ∙ ap (λ (k : ℕ). take k (chunk ++ behind)) (sym long) ∙ take-append_seam chunk behind
 
--- how long a text is with the front of a chunk behind it
+-- how long a text is with the front of a chunk after it
 pub piece_count : (text chunk behind seen : List ℕ) (n len : ℕ) → length chunk ≡ len → seen ≡ take len (chunk ++ behind) → n ≤ length chunk
     → length (text ++ take n seen) ≡ length text + n
 piece_count text chunk behind seen n len long is within =

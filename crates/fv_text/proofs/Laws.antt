@@ -1,6 +1,6 @@
 -- The laws of texts that crates above may cite. Each line passes some of them on from where they are proved.
 
--- texts that are put one behind the other, one for each of some things
+-- texts that are put one after the other, one for each of some things
 pub use Rattle.fv_text.proofs.TextLemmas.{Tells, tells_none, tells_more, tells_all}
 -- the texts of one item more
 pub use Rattle.fv_text.proofs.TextLemmas.{flat_next, texts_next, seen_next}

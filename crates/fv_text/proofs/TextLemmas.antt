@@ -1,4 +1,4 @@
--- Texts that are put one behind the other.
+-- Texts that are put one after the other.
 use Rattle.std.proofs.Common.{ℕ, ◌+◌, ◌<◌, ◌≤◌, List, [], ◌∷◌, ◌++◌, length, drop, get_or}
 use Rattle.std.proofs.Common.{◌≡◌, ◌∙◌, sym, ap, subst, take, append_assoc, append-nil}
 use Rattle.std.specs.Prelude.{map}

@@ -9,8 +9,8 @@ ghost use Rattle.fv_text.specs.HexPairs.{DigitsSpell};
 
 use std::alloc::AllocError;
 
-/// Takes the last digit off if their number is odd.
-pub fn take_odd(digits: &mut Vec<u8>) -> Option<u8>
+/// Takes the last digit off and returns it, if their number is odd.
+pub(crate) fn take_odd(digits: &mut Vec<u8>) -> Option<u8>
     ensures items { digits.old.items ≡ digits.new.items ++ option_to_list result }
     ensures even { vec_len digits.new % 2 ≡ 0 }
     ensures room { vec_len digits.new ≤ vec_len digits.old }
@@ -76,7 +76,7 @@ fn join_pairs(values: &[u8], room: &mut [u8], start: usize)
 /// # Errors
 ///
 /// AllocError if memory runs out.
-pub fn push_pairs(digits: &mut [u8], bytes: &mut Vec<u8>) -> Result<bool, AllocError>
+pub(crate) fn push_pairs(digits: &mut [u8], bytes: &mut Vec<u8>) -> Result<bool, AllocError>
     requires even { length digits.old % 2 ≡ 0 }
     ensures read { IfOk result (λ all. all ≡ true → (more : List ℕ) × DigitsSpell digits.old more
         × (bytes.new.items ≡ bytes.old.items ++ more)) }

@@ -53,7 +53,7 @@ pub struct HexSink<S: Sink> {
 }
 
 impl<S: Sink> HexSink<S> {
-    /// Lines that go into the sink.
+    /// A sink of lines in which no byte waits.
     pub fn new(below: S) -> HexSink<S>
         ensures below { result.below ≡ below }
         ensures filled { result.filled ≡ 0 }
@@ -65,7 +65,7 @@ impl<S: Sink> HexSink<S> {
         }
     }
 
-    // Takes the first of the bytes, at most up to the end of the line.
+    // Takes the first of the bytes, at most up to the end of the line. Returns how many.
     fn take_some(&mut self, bytes: &[u8]) -> usize
         requires { 0 < length bytes.now }
         ensures some { 0 < result }
@@ -139,8 +139,7 @@ fn put_shown<S: Sink>(below: S, hex: bool, bytes: &[u8]) -> S
 ///
 /// # Errors
 ///
-/// WriteFault at the number of bytes of text written in this call, if a write fails or takes no
-/// byte. Exactly that many bytes of the text were written then.
+/// WriteFault if a write fails or takes no byte. Only a first part of the text was written then.
 pub fn write_shown<W: Write>(writer: &mut Port<W>, hex: bool, bytes: &[u8]) -> Result<(), Fault>
     ensures ok { OnOk result ((text : List ℕ) × ShowsBytes hex bytes.now text
         × Writes (shown W.contents writer.old) (shown W.contents writer.new) text) }

@@ -153,8 +153,8 @@ fn read_piece<R: Read>(reader: &mut Port<R>, chunk: &mut [u8]) -> Piece
 /// # Errors
 ///
 /// ReadFault at the number of bytes of text read so far, if the reader fails or the turns run out.
-/// Length at the limit of a volume, if the text is too long; else ReadFault at 0, if it is not an
-/// even number of digits; else Length at the limit of a volume, if it spells more bytes.
+/// Length at 268,435,456, if the text has more than 1,073,741,824 bytes; else ReadFault at 0, if it
+/// is not an even number of digits; else Length at 268,435,456, if it spells more bytes.
 /// OutOfMemory.
 pub fn read_hex<R: Read>(alloc: Global, reader: &mut Port<R>) -> Result<Vec<u8>, Fault>
     ensures read { IfOk result (λ v. SpellsWhole (R.remaining (inner_of reader.old)) (R.remaining (inner_of reader.new))

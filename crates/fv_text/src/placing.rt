@@ -3,7 +3,7 @@
 ghost use Rattle.std.specs.Prelude.{◌≡◌, ◌≤◌, ◌+◌, ◌++◌, length, take};
 
 /// Copies the bytes to an offset of the buffer, in bytes.
-pub fn place(buffer: &mut [u8], at: usize, bytes: &[u8])
+pub(crate) fn place(buffer: &mut [u8], at: usize, bytes: &[u8])
     requires { at + length bytes.now ≤ length buffer.old }
     ensures placed { take (at + length bytes.now) buffer.new ≡ take at buffer.old ++ bytes.now }
     ensures len { length buffer.new ≡ length buffer.old }

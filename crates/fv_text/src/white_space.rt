@@ -2,7 +2,7 @@
 
 ghost use Rattle.fv_text.specs.HexPairs.{is_space, squeezed};
 ghost use Rattle.fv_text.specs.inner.Squeezing.{IsPutKept};
-ghost use Rattle.std.specs.Prelude.{◌≡◌, ◌≤◌, ◌+◌, ◌++◌, if◌then◌else◌, length, take, true, OnOk};
+ghost use Rattle.std.specs.Prelude.{◌≡◌, ◌≤◌, ◌+◌, ◌++◌, if◌then◌else◌, length, true, OnOk};
 
 use crate::placing::place;
 use fv_base::field::bytes_from;
@@ -79,7 +79,7 @@ fn put_windows(text: &[u8], room: &mut [u8], start: usize) -> usize
 /// # Errors
 ///
 /// AllocError if memory runs out.
-pub fn squeeze(text: &[u8], digits: &mut Vec<u8>) -> Result<(), AllocError>
+pub(crate) fn squeeze(text: &[u8], digits: &mut Vec<u8>) -> Result<(), AllocError>
     ensures { OnOk result (digits.new.items ≡ digits.old.items ++ squeezed text.now) }
 {
     let start = digits.len();

@@ -10,7 +10,7 @@ use std::io::Write;
 ///
 /// # Errors
 ///
-/// WriteFault if a write fails or takes no byte.
+/// WriteFault if a write fails or takes no byte. Only a first part of the bytes was written then.
 pub fn write_bytes<W: Write>(writer: &mut Port<W>, bytes: &[u8]) -> Result<(), Fault>
     ensures ok { OnOk result (Writes (shown W.contents writer.old) (shown W.contents writer.new) bytes.now) }
     ensures err { IfErr result (WritingStops (shown W.contents writer.old) (shown W.contents writer.new) bytes.now) }

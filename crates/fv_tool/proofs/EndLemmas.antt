@@ -10,7 +10,7 @@ use Rattle.fv_command.specs.declared.status.Status.{Status}
 use Rattle.fv_command.specs.declared.status.Status.TheVariants.{Refused}
 use Rattle.fv_tool.specs.Does.{Ends}
 
--- bytes that grew by a front of some bytes are a front of them all
+-- bytes that grew by a first part of some bytes are a first part of them all
 front_held : (below held : Option (List ℕ)) (part rest all : List ℕ) → Appends below held part → part ++ rest ≡ all
     → Keeps (append_known below all) (append_known held rest)
 front_held None held part rest all grew e = tt
@@ -27,7 +27,7 @@ same_held : (below : Option (List ℕ)) (rest : List ℕ) → Keeps (append_know
 same_held None rest = tt
 same_held (Some xs) rest = refl
 
--- what the buffer held was let go, or written, or a write failed in it
+-- what the buffer held was dropped, or written, or a write failed in it
 pub ends : (ran status : Status) (below : Option (List ℕ)) (rest : List ℕ) (erred failed : Bool) (held : Shown)
     → (erred ≡ true → (status ≡ Refused) × (held.bytes ≡ below))
     → (erred ≡ false → WritesRest ran rest (seen below false) held failed status)

@@ -31,7 +31,7 @@ current_of length cs standing files is h = subst (λ (fs : List FileForm). AreCu
 
 -- ---- what the files mean
 
--- the first file that is refused, of those that are in the volume
+-- the first file that is rejected, of those that are in the volume
 pub files_first : (n : ℕ) (I : Faulty) (e : Extent) (volume : List ℕ) (at : Place) (fs : List FileForm) (g : Fault) → StandIn e volume fs
     → OneOf First (MeansFile (Stream n)) (λ f. FileFault I g f at) fs → BodyFault First n I e g volume at
 files_first n I e volume at fs g stand first =
@@ -40,7 +40,7 @@ files_first n I e volume at fs g stand first =
     let top = subst (TopAtEnd e.length) current.files_are current.top in
     inr (stand.cells, stand.tiles, (current.no_twins, top), subst P current.files_are first)
 
--- ---- every file stands in some bytes
+-- ---- every file is in some bytes
 
 stored_here : (s : FileSystem) (p : Polarity) (c : CellForm) (x : List ℕ) (base end : ℕ) (cs : List CellForm) → IsBytes x
     → length x ≤ volume_limit → base + end < 2 ^ 63 → IsCell s p c x

@@ -1,4 +1,4 @@
--- What the turns of a walk through two meanings tell.
+-- What the turns of a walk through two meanings return.
 use Rattle.std.proofs.Common.{◌≡◌, ℕ, zero, suc, ◌<◌, ◌≤◌, List, [], ◌∷◌, length, drop, refl, sym, ap, ◌∙◌, arith}
 use Rattle.std.proofs.Common.{Bool, true, false, Option, Some, None}
 use Rattle.std.specs.Prelude.{◌==◌, ◌&&◌}
@@ -73,7 +73,7 @@ no_other v w e = ap (λ x. difference x w) e ∙ no_difference w
 none_told : (d : List Step × Word) → outermost_first (Some d) ≡ None → ⊥
 none_told d e = cc
 
--- a difference that was told is one
+-- a difference that was returned is one
 pub differ_told : (v w : Meaning) (o : Differs) (d : List Step × Word) → outermost_first o ≡ difference v w → o ≡ Some d → v ≡ w → ⊥
 differ_told v w o d told is e = none_told d (sym (ap outermost_first is) ∙ told ∙ no_other v w e)
 

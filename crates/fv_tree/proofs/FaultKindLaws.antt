@@ -123,7 +123,7 @@ module _ (P : FaultKind → Type 0) (all : OfReading P) where
   section_kind (suc n) e f at (inl (group, bad)) = stream_kind n (section_kind n) e f.body _ bad
   section_kind (suc n) e f at (inr (kind, opens, bad)) = volume_kind n (section_kind n) e f.body _ bad
 
-  -- what is true of all kinds of reading is true of the kind of a fault that stands
+  -- what is true of all kinds of reading is true of the kind of a fault whose condition holds
   pub stands_kind : (b : List ℕ) (e : Fault) → FaultStands b e → P e.kind
   stands_kind b e stands = volume_kind depth_limit (section_kind depth_limit) e b outermost stands
 
@@ -133,7 +133,7 @@ module _ (P : FaultKind → Type 0) (all : OfReading P) where
 abbrev pub is_reading : FaultKind → Bool
 is_reading kind = nat_le (fault_number kind) 21
 
--- a fault that stands in bytes is found there
+-- a fault whose condition holds in bytes is found there
 pub stands_reading : (b : List ℕ) (e : Fault) → FaultStands b e → is_reading e.kind ≡ true
 stands_reading b e stands = stands_kind (λ k. is_reading k ≡ true) all b e stands
   where

@@ -1,4 +1,4 @@
--- The condition of a first fault stands at its place.
+-- The condition of a first fault holds at its place.
 use Rattle.std.proofs.Common.{ℕ, zero, suc, ◌+◌, List, [], ◌∷◌, take, drop, inl, inr}
 use Rattle.fv_base.specs.Checks.{Check, AllHold}
 use Rattle.fv_base.specs.declared.fault.Fault.{Fault}
@@ -67,9 +67,9 @@ layout_stands x volume f (inr (cells, tiles, names)) = inr (cells, tiles, names_
 moved_stands : (P Q : Fault → Type 0) (at : Place) (e : Fault) → ((f : Fault) → P f → Q f) → Moved at P e → Moved at Q e
 moved_stands P Q at e weak (f, first, is) = (f, weak f first, is)
 
--- ---- by what stands inside
+-- ---- by what is inside
 
--- at one level, the condition of the first fault of a frame stands in it
+-- at one level, the condition of the first fault of a frame holds in it
 abbrev SectionStands : ℕ → Type 0
 SectionStands n = (e : Fault) (f : FrameForm) (at : Place) → InSection First n e f at → InSection Any n e f at
 

@@ -1,4 +1,4 @@
--- The first fault of bytes lies within them, or at their end, and no deeper than groups and volumes may nest.
+-- The first fault of bytes is within them, or at their end, and no deeper than groups and volumes may nest.
 use Rattle.std.proofs.Common.{◌≡◌, ◌≢◌, ◌≤◌, ◌⊎◌, ℕ, zero, suc, ◌+◌, List, [], ◌∷◌, ◌++◌, length, take, drop, refl, ap, subst, sym, ◌∙◌}
 use Rattle.std.proofs.Common.{arith, not, inl, inr, Bool, true, false}
 use Rattle.std.specs.Prelude.{Option, Some, None, nat_le, ◌&&◌, ◌==◌, slice_index}
@@ -53,7 +53,7 @@ run_within e (x ∷ xs) = go (x == e) refl (run_within e xs) where
   go false is low = rw is (omega arith)
 
 module _ (at : ℕ) (r : List ℕ) where
-  -- a check whose fault stands within the bytes from a place on
+  -- a check whose fault is within the bytes from a place on
   abbrev Low : Check Fault → Type 0
   Low c = c.fault.place.offset ≤ at + length r
 
@@ -153,7 +153,7 @@ module _ (x : Extent) (v : List ℕ) (end : x.first + length (drop x.first v) �
   layout_within f (inr (cells, tiles, names)) =
       names_within (length v) x.length (files_in cells) f (files_within (length v) cells (cells_lie cells tiles)) names
 
--- ---- by what stands inside
+-- ---- by what is inside
 
 -- a section has its first fault within its frame
 abbrev SectionLies : ℕ → Type 0
@@ -206,7 +206,7 @@ pub first_within : (b : List ℕ) (e : Fault) → IsFirstOfVolume b e → (e.pla
 first_within b e first =
     let lies = volume_by depth_limit (section_lies depth_limit) e outermost b first in (omega (arith, lies.0), omega (arith, lies.1))
 
--- and so does what an answer refuses, which is their first fault or out of memory
+-- and so is the fault that is returned, which is their first fault or out of memory
 pub refused_within : (b : List ℕ) (e : Fault) → (e ≢ out_of_memory → IsFirstOfVolume b e)
     → (e.place.offset ≤ length b) × (e.place.depth ≤ depth_limit)
 refused_within b e first = go (want_known e) where

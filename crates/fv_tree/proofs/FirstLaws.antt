@@ -64,7 +64,7 @@ current : (len : ℕ) (cells : List CellForm) → NoTwins (files_in cells) × To
     → AreCurrent len (files_in cells) (current_in (files_in cells))
 current len cells right = record { no_twins = right.0; files_are = refl; top = right.1 }
 
--- ---- by what stands inside
+-- ---- by what is inside
 
 -- at one level, a frame has one first fault
 abbrev SectionOnce : ℕ → Type 0

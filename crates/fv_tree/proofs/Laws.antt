@@ -8,12 +8,12 @@ pub use Rattle.fv_tree.proofs.VolumeLaws.{files_list_back}
 pub use Rattle.fv_tree.proofs.LengthLaws.{AsLong, stream_long, section_long, body_long, content_long}
 -- a volume has fewer files than bytes
 pub use Rattle.fv_tree.proofs.FileCountLaws.{few_files, few_of}
--- what stands in a list is smaller than the list
+-- what is in a list is smaller than the list
 pub use Rattle.fv_tree.proofs.SizeLaws.{section_falls, body_falls, section_body_falls, file_falls, content_falls}
 pub use Rattle.fv_tree.proofs.SizeLaws.{file_content_falls}
 -- ---- a volume
 
--- a volume that bytes begin with has its front there
+-- a volume that bytes begin with has its header there
 pub use Rattle.fv_tree.proofs.VolumeLaws.{front_of}
 -- bytes are a volume of one meaning
 pub use Rattle.fv_tree.proofs.MeaningLaws.{one_meaning}
@@ -22,11 +22,11 @@ pub use Rattle.fv_tree.proofs.TwinLaws.{names_differ}
 pub use Rattle.fv_tree.proofs.CurrentLaws.{same_name_back}
 -- ---- a fault
 
--- bytes have one first fault at most, and none where they begin with a volume; its condition stands
+-- bytes have one first fault at most, and none where they begin with a volume; its condition holds
 pub use Rattle.fv_tree.proofs.FirstLaws.{first_once}
 pub use Rattle.fv_tree.proofs.RefusalLaws.{first_refuses}
 pub use Rattle.fv_tree.proofs.FaultLaws.{fault_stands}
--- it lies within the bytes, or at their end
+-- it is within the bytes, or at their end
 pub use Rattle.fv_tree.proofs.FaultPlaceLaws.{first_within}
 -- a fault is out of memory, or it is not
 pub use Rattle.fv_tree.proofs.WantLaws.{want_known}
@@ -38,9 +38,9 @@ pub use Rattle.fv_tree.proofs.FaultKindLaws.{OfReading, stands_kind, is_reading,
 pub use Rattle.fv_tree.proofs.DifferenceLaws.{one_volume, no_difference}
 -- ---- the volumes in some bytes
 
--- they begin at one list of places, and each of them lies within the bytes
+-- they begin at one list of places, and each of them is within the bytes
 pub use Rattle.fv_tree.proofs.ScanLaws.{one_found, found_within, found_walk, one_of}
--- a volume at a place has one length, 64 at least and a multiple of 8, and lies within the bytes
+-- a volume at a place has one length, 64 at least and a multiple of 8, and is within the bytes
 pub use Rattle.fv_tree.proofs.ScanLaws.{one_length, at_least, at_multiple, at_within}
 -- ---- the files as they are stored
 

@@ -1,4 +1,4 @@
--- One list cut at two of its items, and the first item or check that is refused.
+-- One list cut at two of its items, and the first item or check that is rejected.
 use Rattle.std.proofs.Common.{◌≡◌, ◌⊎◌, Bool, true, false, List, [], ◌∷◌, ◌++◌, refl, sym, ap, ◌∙◌, subst, inl, inr}
 use Rattle.std.specs.List.{AllByRecursion}
 use Rattle.fv_base.specs.Checks.{Check, AllHold, IsFirstFault}
@@ -7,11 +7,11 @@ use Rattle.fv_tree.specs.FailingChecks.{First}
 use Rattle.fv_tree.specs.FirstFault.{OneOf}
 use Rattle.fv_base.proofs.Laws.{in_middle}
 
--- the first cut stands before the second: its item is among those before the second's
+-- the first cut is before the second: its item is among those before the second's
 abbrev pub Earlier : {A : Type 0} → List A → A → List A → List A → A → List A → Type 0
 Earlier {A} before x after before' y after' = (mid : List A) × (before' ≡ before ++ (x ∷ mid)) × (after ≡ mid ++ (y ∷ after'))
 
--- two cuts of one list are at one item, or one stands before the other
+-- two cuts of one list are at one item, or one is before the other
 abbrev pub TwoCuts : {A : Type 0} → List A → A → List A → List A → A → List A → Type 0
 TwoCuts before x after before' y after' =
     ((before ≡ before') × (x ≡ y)) ⊎ (Earlier before x after before' y after' ⊎ Earlier before' y after' before x after)
@@ -37,7 +37,7 @@ two_cuts {A} (z ∷ zs) x after (w ∷ ws) y after' e =
     go h (inr (inl (mid, is, rest))) = inr (inl (mid, ap (λ l. w ∷ l) is ∙ ap (λ v. v ∷ (zs ++ (x ∷ mid))) (sym h), rest))
     go h (inr (inr (mid, is, rest))) = inr (inr (mid, ap (λ l. z ∷ l) is ∙ ap (λ v. v ∷ (ws ++ (y ∷ mid))) h, rest))
 
--- what holds of all items of a list holds of those behind the one where it is cut
+-- what holds of all items of a list holds of those after the one where it is cut
 pub all_behind : {A : Type 0} (P : A → Type 0) (before : List A) (x : A) (after : List A) → AllByRecursion P (before ++ (x ∷ after))
     → AllByRecursion P after
 all_behind P [] x after all = all.1
@@ -45,7 +45,7 @@ all_behind P (z ∷ zs) x after all = all_behind P zs x after all.1
 
 -- ---- checks
 
--- a check before which all hold does not stand behind one that fails
+-- a check before which all hold is not after one that fails
 not_behind : {F : Type 0} (before : List (Check F)) (c : Check F) (mid late : List (Check F)) → late ≡ before ++ (c ∷ mid) → AllHold late
     → c.holds ≡ false → ⊥
 not_behind {F} before c mid late is held fails =
@@ -66,7 +66,7 @@ one_fault {F} cs f g (before, c, after, is, held, fails, fault) (before', d, aft
 
 -- ---- items that are read
 
--- an item that is paired with nothing stands in no list of pairs
+-- an item that is paired with nothing is in no list of pairs
 not_paired : {A B : Type 0} (R : A → B → Type 0) (before : List A) (x : A) (after : List A) (ys : List B) → ((y : B) → R x y → ⊥)
     → Pairwise R (before ++ (x ∷ after)) ys → ⊥
 not_paired R [] x after [] bad p = p
@@ -74,13 +74,13 @@ not_paired R [] x after (y ∷ ys) bad p = bad y p.0
 not_paired R (z ∷ zs) x after [] bad p = p
 not_paired R (z ∷ zs) x after (y ∷ ys) bad p = not_paired R zs x after ys bad p.1
 
--- where one item is refused, not all are read
+-- where one item is rejected, not all are read
 pub first_of_none : {A B : Type 0} (R : A → B → Type 0) (fault : A → Type 0) (xs : List A) (ys : List B)
     → ((x : A) (y : B) → fault x → R x y → ⊥) → OneOf First R fault xs → Pairwise R xs ys → ⊥
 first_of_none {A} R fault xs ys bad (before, x, after, is, (read, pairs), here) all =
     not_paired R before x after ys (λ y r. bad x y here r) (subst (λ (l : List A). Pairwise R l ys) is all)
 
--- two faults of the first item that is refused are faults of one item
+-- two faults of the first item that is rejected are faults of one item
 pub first_of_once : {A B : Type 0} (R : A → B → Type 0) (P Q : A → Type 0) (xs : List A) → ((x : A) (y : B) → P x → R x y → ⊥)
     → ((x : A) (y : B) → Q x → R x y → ⊥) → OneOf First R P xs → OneOf First R Q xs → (x : A) × P x × Q x
 first_of_once {A} R P Q xs no_p no_q (before, x, after, is, (read, pairs), p) (before', y, after', is', (read', pairs'), q) =

@@ -1,5 +1,5 @@
--- Lists that agree item by item, and the first item that is refused.
-use Rattle.std.proofs.Common.{◌≡◌, ℕ, ◌+◌, ◌<◌, ◌≤◌, List, [], ◌∷◌, ◌++◌, length, take, drop, get_or, map, sym, ap, ◌∙◌}
+-- Lists that agree item by item, and the first item that is rejected.
+use Rattle.std.proofs.Common.{◌≡◌, ℕ, ◌+◌, ◌<◌, ◌≤◌, List, [], ◌∷◌, ◌++◌, length, take, drop, get_or, map, sym}
 use Rattle.std.proofs.Common.{subst, arith}
 use Rattle.std.proofs.lemmas.List.{take_all, length-map, get_or-map}
 use Rattle.std.specs.List.{AllByRecursion}
@@ -39,7 +39,7 @@ module _ {A B X : Type 0} (R : A → B → Type 0) (form : X → A) (items : Lis
       let Q : List B → Type 0 = λ zs. Pairwise R (take i (map form items) ++ form (get_or items i d) ∷ []) zs in
       subst P (sym (more_items form items i d l)) (subst Q (sym e) (pairs_push R (take i (map form items)) ys (form (get_or items i d)) y pairs r))
 
-  -- it is refused
+  -- it is rejected
   pub first_refused : (fault : A → Type 0) (ys : List B) → i < length items → Pairwise R (take i (map form items)) ys
       → fault (form (get_or items i d)) → OneOf First R fault (map form items)
   first_refused fault ys l pairs bad = (

@@ -77,7 +77,7 @@ filter_append {A = A} test (x ∷ xs) ys = go (test x) refl (filter_append test 
   go true is h = rw is (ap (λ l. x ∷ l) h)
   go false is h = rw is h
 
--- the sections from i on, cut behind the one at i and those in it
+-- the sections from i on, cut after the one at i and those in it
 pub from_one : (kind : ℕ) (ss : List SectionMeaning) (i : ℕ) (s : SectionMeaning) → i < length ss → s ≡ get_or ss i s
     → of_type kind (preorder (sections_from (drop i ss)))
     ≡ of_type kind (s ∷ inside_section s) ++ of_type kind (preorder (sections_from (drop (i + 1) ss)))

@@ -1,4 +1,4 @@
--- What the walks over the files of a volume know: their names in a set, files that are replaced, the volume top file, where files begin.
+-- What the walks over the files of a volume know: the files of some cells one by one, the volume top file, where files begin.
 use Rattle.std.proofs.Common.{◌≡◌, ◌≤◌, ◌<◌, ℕ, ◌+◌, List, [], ◌∷◌, ◌++◌, length, take, drop, get_or, map, Bool, true}
 use Rattle.std.proofs.Common.{false, refl, sym, ap, ◌∙◌, subst, arith}
 use Rattle.std.specs.Prelude.{◌&&◌, ◌||◌, not}

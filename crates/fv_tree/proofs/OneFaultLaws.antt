@@ -41,7 +41,7 @@ between b m n l within = omega (arith, length-take-le (n - m) (drop m b) (omega 
 
 -- ---- frames
 
--- a fault of a section header does not stand before the end of frames that join
+-- a fault of a section header is not before the end of frames that join
 frame_later : (b : List ℕ) (f g : Fault) → (x : section.IsFirstFrameFault b f) → (y : section.IsFirstFrameFault b g) → x.at < y.at → ⊥
 frame_later b f g x y l =
     let r = framed.cut 0 x.frames y.frames x.tail y.tail (take x.at b) part x.split in_fours whole (between b x.at y.at l y.inside) in
@@ -90,7 +90,7 @@ none_free_behind [] ds h = h
 none_free_behind (c ∷ cs) ds h = none_free_behind cs ds h.1
 
 module _ (s : FileSystem) (p : Polarity) (first : ℕ) (body : List ℕ) where
-  -- a fault of a cell does not stand before the end of cells that tile
+  -- a fault of a cell is not before the end of cells that tile
   cell_later : (f g : Fault) → (x : file.IsFirstCellFault s p first body f) → (y : file.IsFirstCellFault s p first body g) → x.at < y.at → ⊥
   cell_later f g x y l =
       let r = cellular.cut s p (one_cell s p) (not_empty s p) first x.cells y.cells (take x.at body) part x.tiled x.none_free whole in

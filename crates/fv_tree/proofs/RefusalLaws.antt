@@ -13,7 +13,6 @@ use Rattle.fv_section.specs.Frames.{FrameForm}
 use Rattle.fv_section.proofs.Laws.{one_split}
 use Rattle.fv_section.proofs.Laws as framed
 use Rattle.fv_tree.specs.LocatedFiles.{StandIn}
-use Rattle.fv_tree.specs.inner.ReadingParts.{HasFiles}
 use Rattle.fv_tree.specs.Denotes.{Pairwise, MeansFile, MeansSection, Stream, Denotes}
 use Rattle.fv_tree.specs.FailingChecks.{First}
 use Rattle.fv_tree.specs.Files.{FileForm, AreCurrent, files_in, current_in}
@@ -24,9 +23,9 @@ use Rattle.fv_tree.proofs.CurrentLaws.{current_none}
 use Rattle.fv_tree.proofs.FileLaws.{stream_bad}
 use Rattle.fv_tree.proofs.ListCuts.{first_of_none}
 use Rattle.fv_tree.proofs.SectionLaws.{group_none, nested_none, too_deep}
-use Rattle.fv_tree.proofs.VolumeLaws.{front_of, has_files}
+use Rattle.fv_tree.proofs.VolumeLaws.{HasFiles, front_of, has_files}
 
--- ---- by what stands inside
+-- ---- by what is inside
 
 -- at one level, a frame with a first fault is no section
 abbrev pub SectionRefuses : ℕ → Type 0

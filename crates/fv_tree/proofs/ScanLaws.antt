@@ -165,7 +165,7 @@ AllFrom from b os = (k n : ℕ) → from ≤ k → k % 8 ≡ 0 → VolumeAt b k 
 covered_none : (b : List ℕ) (k : ℕ) → IsCovered b [] k → ⊥
 covered_none b k (o, n, (j, l, e), w, s, u) = omega (arith, l)
 
--- none between where all that there are lie behind
+-- none between where all that there are come after
 covered_between : (from : ℕ) (b : List ℕ) (o : ℕ) (os : List ℕ) → AllByRecursion (LiesBehind b o) os → AllFrom from b (o ∷ os)
     → NoneBetween b from o
 covered_between from b o os clear all = λ k n l u m v. go k u (all k n l m v) where
@@ -175,7 +175,7 @@ covered_between from b o os clear all = λ k n l u m v. go k u (all k n l m v) w
     at (inl e) = omega (arith, e, u, s)
     at (inr h) = omega (arith, (one_of (LiesBehind b o) os p clear h).0, u, s)
 
--- behind the first volume those behind it cover the rest
+-- after the first volume, those after it cover the rest
 covered_rest : (from : ℕ) (b : List ℕ) (o n : ℕ) (os : List ℕ) → from ≤ o → VolumeAt b o n → AllFrom from b (o ∷ os) → AllFrom (o + n) b os
 covered_rest from b o n os low v all = λ k m l e w. go k l (all k m (omega (arith, low, l)) e w) where
   go : (k : ℕ) → o + n ≤ k → IsCovered b (o ∷ os) k → IsCovered b os k

@@ -42,7 +42,7 @@ module _ (n : ℕ) (b : List ℕ) (tail : ℕ) where
       pairs_push (MeansSection n) w.0 ss f s w.2 is,
     )
 
-    -- it is the first that is refused
+    -- it is the first that is rejected
     pub walk_first : (x : Fault) (place : Place) → InSection First n x f place → InStream First n x b place
     walk_first x place first = inr (w.0 ++ f ∷ more, tail, whole, (w.0, f, more, refl, (ss, w.2), first))
 

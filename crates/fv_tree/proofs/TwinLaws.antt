@@ -48,7 +48,7 @@ no_twins_kept p (f ∷ fs) h = go (p f) refl (no_twins_kept p fs h.1)
     go true e rest = rw e (none_kept p (is_twin f) fs h.0, rest)
     go false e rest = rw e rest
 
--- a test that finds nothing fails at each item, and finds nothing behind it
+-- a test that finds nothing fails at each item, and finds nothing after it
 any_cut : (q : FileForm → Bool) (before : List FileForm) (f : FileForm) (after : List FileForm)
     → list_any q (before ++ (f ∷ after)) ≡ false → (q f ≡ false) × (list_any q after ≡ false)
 any_cut q before f after h =

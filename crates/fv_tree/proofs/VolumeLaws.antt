@@ -14,12 +14,16 @@ use Rattle.fv_head.specs.HeadChecks.{head_checks, volume_len_at}
 use Rattle.fv_head.specs.declared.extent.Extent.{Extent}
 use Rattle.fv_head.proofs.Laws.{front_extent, front_same, one_front}
 use Rattle.fv_tree.specs.LocatedFiles.{StandIn}
-use Rattle.fv_tree.specs.inner.ReadingParts.{HasFiles}
-use Rattle.fv_tree.specs.Denotes.{Stream, Denotes, Opens}
+use Rattle.fv_tree.specs.Denotes.{Stream, Streams, Denotes, MeansFile, Opens, Pairwise}
+use Rattle.fv_tree.specs.Files.{FileForm}
 use Rattle.fv_base.specs.declared.fault.Place.{Place}
 use Rattle.fv_tree.specs.FailingChecks.{First}
-use Rattle.fv_tree.specs.FirstFault.{moved_fault, BodyFault, InStream, InVolume}
+use Rattle.fv_tree.specs.FirstFault.{moved_fault, InVolume}
 use Rattle.fv_tree.specs.Meaning.{Meaning, Volume, FileMeaning, files_list, files_from, head_of, files_of}
+
+-- the volume has some files, and these are their meanings
+abbrev pub HasFiles : Streams → Extent → List ℕ → List FileMeaning → Type 0
+HasFiles is_stream e volume ms = (files : List FileForm) × StandIn e volume files × Pairwise (MeansFile is_stream) files ms
 
 -- the list of files from a list is that list
 pub files_list_back : (fs : List FileMeaning) → files_list (files_from fs) ≡ fs
@@ -87,10 +91,6 @@ pub head_first : (n : ℕ) (b : List ℕ) (f g : Fault) (at : Place) → (f ≡ 
     → f ≢ out_of_memory → g ≡ moved_fault at.offset at.depth f → InVolume First n g b at
 head_first n b f g at (inl want) ne is = absurd (ne want)
 head_first n b f g at (inr first) ne is = inl (f, first, is)
-
-pub body_first : (n : ℕ) (b : List ℕ) (h : HeadFields) (e : Extent) (f : Fault) (at : Place) → BeginsVolume h e b
-    → BodyFault First n (InStream First n) e f (take e.length b) at → InVolume First n f b at
-body_first n b h e f at front first = inr (h, e, front, first)
 
 -- ---- an opened body is one volume
 

@@ -3,7 +3,7 @@
 ghost use Rattle.std.specs.Prelude.{◌≡◌, ◌≢◌, ◌==◌, true, Some, IfOk, IfErr, IfSome, IfNone};
 ghost use Rattle.fv_base.specs.Faults.{out_of_memory};
 ghost use Rattle.fv_tree.specs.Difference.{has_steps, differ_in, unless_one, or_else, under};
-ghost use Rattle.fv_tree.specs.inner.DifferenceWalks.{outermost_first, AnswersDifference};
+ghost use Rattle.fv_tree.specs.inner.DifferenceWalks.{outermost_first, ReturnsDifference};
 ghost use Rattle.fv_tree.specs.Difference.{difference, files_differ, file_differs, content_differs};
 ghost use Rattle.fv_tree.specs.Difference.{sections_differ, section_differs, body_differs};
 ghost use Rattle.fv_tree.specs.declared.difference.Word.TheVariants as words;
@@ -130,7 +130,7 @@ fn stream_difference(
     others: &[SectionView],
     other_tail: u8,
 ) -> Result<Option<Difference>, Fault>
-    ensures { AnswersDifference result (or_else (sections_differ 0 (sections_from sections.now)
+    ensures { ReturnsDifference result (or_else (sections_differ 0 (sections_from sections.now)
         (sections_from others.now)) (unless_one (tail == other_tail) words.Tail)) }
 {
     for (i, section) in sections.iter().enumerate() {
@@ -157,7 +157,7 @@ fn section_difference(
     section: &SectionView,
     other: &SectionView,
 ) -> Result<Option<Difference>, Fault>
-    ensures { AnswersDifference result (section_differs section.now other.now) }
+    ensures { ReturnsDifference result (section_differs section.now other.now) }
 {
     if section.kind() != other.kind() {
         return Ok(Some(differ_in(alloc, Word::Type)));
@@ -171,7 +171,7 @@ fn section_difference(
 // The same for the bodies of two sections.
 #[cycle(differ)]
 fn body_difference(alloc: Global, body: Body, other: Body) -> Result<Option<Difference>, Fault>
-    ensures { AnswersDifference result (body_differs (body_view body.entry) (body_view other.entry)) }
+    ensures { ReturnsDifference result (body_differs (body_view body.entry) (body_view other.entry)) }
 {
     match (body, other) {
         (Body::Leaf(x), Body::Leaf(y)) => {
@@ -202,7 +202,7 @@ fn content_difference(
     content: &Content,
     other: &Content,
 ) -> Result<Option<Difference>, Fault>
-    ensures { AnswersDifference result (content_differs (content_view content.now) (content_view other.now)) }
+    ensures { ReturnsDifference result (content_differs (content_view content.now) (content_view other.now)) }
 {
     match (content, other) {
         (Content::Plain(x), Content::Plain(y)) => {
@@ -232,7 +232,7 @@ fn file_difference(
     file: &FileView,
     other: &FileView,
 ) -> Result<Option<Difference>, Fault>
-    ensures { AnswersDifference result (file_differs file.now other.now) }
+    ensures { ReturnsDifference result (file_differs file.now other.now) }
 {
     if file.name() != other.name() {
         return Ok(Some(differ_in(alloc, Word::Name)));
@@ -253,7 +253,7 @@ fn files_difference(
     files: &[FileView],
     others: &[FileView],
 ) -> Result<Option<Difference>, Fault>
-    ensures { AnswersDifference result (files_differ 0 (files_from files.now) (files_from others.now)) }
+    ensures { ReturnsDifference result (files_differ 0 (files_from files.now) (files_from others.now)) }
 {
     for (i, file) in files.iter().enumerate() {
         let Some(other) = others.get(i) else {
@@ -276,7 +276,7 @@ fn volume_difference(
     volume: &VolumeView,
     other: &VolumeView,
 ) -> Result<Option<Difference>, Fault>
-    ensures { AnswersDifference result (difference volume.now other.now) }
+    ensures { ReturnsDifference result (difference volume.now other.now) }
 {
     if let Some(word) = head_word(volume.head(), other.head()) {
         return Ok(Some(differ_in(alloc, word)));
@@ -295,7 +295,7 @@ fn volume_difference(
 ///
 /// # Errors
 ///
-/// OutOfMemory (at 0); only if they differ.
+/// OutOfMemory at 0, only if they differ at a place to which steps lead.
 pub fn first_difference(
     alloc: Global,
     a: &VolumeView,
@@ -309,7 +309,7 @@ pub fn first_difference(
     // A difference says that they have not.
     ensures differ { IfOk result (λ o. IfSome o (λ _. a.now ≢ b.now)) }
 
-    // Memory is wanted only where they differ, at a place to which steps lead.
+    // Memory runs out only if they differ at a place to which steps lead.
     ensures memory { IfErr result (λ _. (a.now ≢ b.now) × (has_steps (difference a.now b.now) ≡ true)) }
     ensures err { IfErr result (λ f. f ≡ out_of_memory) }
 {

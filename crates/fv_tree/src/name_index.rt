@@ -1,6 +1,6 @@
 //! The numbers of files by their names.
 
-ghost use Rattle.std.specs.Prelude.{◌≡◌, ◌<◌, ◌≤◌, ◌+◌, ◌-◌, ◌*◌, ◌/◌, ◌%◌, ◌^◌, List, length, map, take, get_or, true};
+ghost use Rattle.std.specs.Prelude.{◌≡◌, ◌<◌, ◌≤◌, ◌+◌, ◌*◌, ◌/◌, ◌%◌, ◌^◌, List, length, map, take, get_or, true};
 ghost use Rattle.std.specs.Prelude.{IsSorted, IsTrue, IfOk, IfErr};
 ghost use Rattle.std.specs.List.{All, AllByRecursion, list_any, position_or_len};
 ghost use Rattle.std.specs.List.Sorted.{IsPermutation};
@@ -247,6 +247,7 @@ impl Numbers {
             → unwrap_or result (length fs) ≡ position_or_len (is_named name.now) fs }
     {
         let key = halves(*name);
+        // The numbers of one name rise. So it is at this place, or it is the first file.
         let Err(place) = self.sorted.binary_search(&(key, 0)) else {
             return Some(0);
         };

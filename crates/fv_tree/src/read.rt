@@ -209,9 +209,9 @@ fn read_at(alloc: Global, bytes: &[u8], at: Level) -> Result<(VolumeView<'_>, u6
 /// The first fault, in this order: those of the header, as for `verify_fv`; those of the body, as
 /// for `cells`; DuplicateName at the later of two files with the same name and state; TopFile at a
 /// volume top file that is not at the end. Then come, file by file, those of the sections, as for
-/// `frames`, Depth at a group or an opened volume that lies too deep, and those of what it holds.
+/// `frames`, Depth at a group or an opened volume that is too deep, and those of what it holds.
 /// The offset is in bytes from the first of `bytes`, and the depth is the number of groups and
-/// opened volumes around it. OutOfMemory at 0.
+/// opened volumes around it. OutOfMemory at 0, only if they begin with the header of a volume.
 pub fn read_volume(alloc: Global, bytes: &[u8]) -> Result<(VolumeView<'_>, u64), Fault>
     // These bytes are a volume with this meaning.
     ensures found { IfOk result (λ r. Accepted (take r.1 bytes.now) r.0) }

@@ -87,7 +87,7 @@ fn next_volume(bytes: &[u8], from: usize) -> Option<(usize, usize)>
 ///
 /// # Errors
 ///
-/// OutOfMemory.
+/// OutOfMemory at 0, only if a volume begins in the bytes.
 pub fn scan(alloc: Global, bytes: &[u8]) -> Result<Offsets, Fault>
     // The volumes begin at these offsets.
     ensures found { IfOk result (λ o. Found bytes.now o) }
@@ -96,7 +96,7 @@ pub fn scan(alloc: Global, bytes: &[u8]) -> Result<Offsets, Fault>
     ensures only { IfOk result (λ o. (p : List ℕ) → Found bytes.now p → p ≡ o) }
     ensures err { IfErr result (λ f. f ≡ out_of_memory) }
 
-    // Memory is wanted only where a volume begins in the bytes.
+    // Memory runs out only if a volume begins in the bytes.
     ensures memory { IfErr result (λ _. (place : ℕ) × IsPlace bytes.now place) }
 {
     let mut list = Vec::new(alloc);

@@ -64,8 +64,8 @@ pub(crate) fn files_in_body<'a>(
 ///
 /// The first fault, in this order: those of the header, as for `verify_fv`; those of the body, as
 /// for `cells`; DuplicateName at the later of two files with the same name and state; TopFile at a
-/// volume top file that is not at the end. The offset is in bytes from the first of `bytes`.
-/// OutOfMemory at 0.
+/// volume top file that is not at the end. The offset is in bytes from the first of `bytes`, and
+/// the depth is 0. OutOfMemory at 0.
 pub fn located_files(alloc: Global, bytes: &[u8]) -> Result<Vec<LocatedFile<'_>>, Fault>
     // The bytes begin with a volume, and these are its files.
     ensures found { IfOk result (λ fs. BeginWithFiles bytes.now (map file_form fs.items)) }

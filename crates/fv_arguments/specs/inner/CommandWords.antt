@@ -37,7 +37,8 @@ pub record IsRead (app : App) (rest : List (List ℕ)) (m : ArgMatches) : Type 0
   pub given : app_of rules ≡ app
   pub parsed : IsParsedFrom rules m
 
--- the command is what the arguments ask for in which this was found, or they are rejected: as wrong only if they are not right
+-- the command is what the arguments ask for in which this was found; or they are rejected, as wrong only if they are
+-- not right
 abbrev pub AsksFor : List ℕ → ArgMatches → Result Command WordFault → Type 0
 AsksFor name m (Ok command) =
     (rest : List (List ℕ)) → IsRead (app_named name) rest m → (name ≡ command_name command) × HasTexts rest command

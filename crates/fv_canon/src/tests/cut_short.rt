@@ -1,4 +1,4 @@
-//! Binary runs over readers and writers that stop early.
+//! Runs that normalise, over readers and writers that stop early.
 
 use super::fakes::{FakeReader, FakeWriter};
 use super::images::IMAGES;

@@ -72,7 +72,7 @@ impl Read for EndlessReader {
     }
 }
 
-/// Gives two digits, and is interrupted from then on.
+/// Gives two bytes, and is interrupted from then on.
 #[derive(Drop)]
 pub struct InterruptedReader {
     /// How often it was called.

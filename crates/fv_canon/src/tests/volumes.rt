@@ -36,7 +36,6 @@ pub fn text_named<'a>(table: &'a str, wanted: &str) -> Option<&'a str> {
 /// Heads of volumes by their length, with one block and no extended header.
 pub fn parts() -> &'static str {
     "\
-    H72: 00*16 78e58c8c3d8a1c4f9935896185c32dd34800 00*6 5f465648fffe040048003ef600000002010000004800 00*10\n\
     H128: 00*16 78e58c8c3d8a1c4f9935896185c32dd38000 00*6 5f465648fffe04004800cef500000002010000008000 00*10\n\
     H136: 00*16 78e58c8c3d8a1c4f9935896185c32dd38800 00*6 5f465648fffe04004800bef500000002010000008800 00*10\n\
     H160: 00*16 78e58c8c3d8a1c4f9935896185c32dd3a000 00*6 5f465648fffe040048008ef50000000201000000a000 00*10\n\
@@ -86,12 +85,9 @@ pub fn volumes() -> &'static str {
         3faa0100200000f8 02*8 ff*64 -> states-image\n\
     states-image: H256 0b*16 37aa0100180000f8 0a*16 3faa0100200000f8 02*8 ff*128\n\
     stream-of-no-bytes: H128 0a*16 46aa0200180000f8 ff*32\n\
-    stub-image: H128 0a*16 47aa0100180000f8 ff*32\n\
     stub-to-the-end: H128 0a*16 47aa0100180000f8 ff*23 fe ff*8 -> file-without-data\n\
     three-aligned-272: H272 0a*16 37aa0100280000f8 00*16 ff*16 f8aaf000280000f8 ff*16 0b*16 f7aa0108500000f8 00*56 \
         0c*16 0faa0110200000f8 00*8 ff*8\n\
-    three-aligned-272-image-first-placement: H272 0a*16 37aa0100280000f8 00*16 ff*16 f8aaf000280000f8 ff*16 0b*16 \
-        f7aa0108500000f8 00*56 0c*16 0faa0110200000f8 00*8 ff*8\n\
     three-aligned-392: H392 0a*16 37aa0100280000f8 00*16 ff*16 f8aaf000280000f8 ff*16 0b*16 f7aa0108500000f8 00*56 \
         0c*16 0faa0110200000f8 00*8 ff*128 -> three-aligned-392-image\n\
     three-aligned-392-image: H392 0a*16 37aa0100280000f8 00*16 ff*16 08aaf000180000f8 0b*16 f7aa0108500000f8 00*56 \

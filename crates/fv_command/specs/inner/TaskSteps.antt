@@ -12,7 +12,7 @@ abbrev pub Performs : Task → Bool → List ℕ → Shown → Shown → Result 
 Performs task hex input w v (Ok status) = SaysInput task hex input w v status
 Performs task hex input w v (Err fault) = StopsInput task hex input w v fault
 
--- Done, unless a fault stopped the writing
+-- Done, or the fault that the call returned
 abbrev pub done_if : {A : Type 0} → Result A Fault → Result Status Fault
 done_if (Ok _) = Ok Done
 done_if (Err fault) = Err fault

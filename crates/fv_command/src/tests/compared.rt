@@ -27,7 +27,7 @@ pub fn compared() -> &'static str {
     compare: H160 0a*16 47aa0100180000f8 0b*16 37aa0100180000f8 ff*40 & H160 0a*16 47aa0100180000f8 0c*16 \
         27aa0100180000f8 ff*40 -> 1 different at file 1 name|\n\
     compare: stream-of-no-bytes & H128 0a*16 41aa0700180000f8 ff*32 -> 1 different at file 0 type|\n\
-    compare: file-sum-zero-data & stub-image -> 1 different at file 0 attributes|\n\
+    compare: file-sum-zero-data & file-without-data -> 1 different at file 0 attributes|\n\
     compare: filler-erased & H128 0a*16 46aa0100190000f85b ff*31 -> 1 different at file 0 data|\n\
     compare: H136 0a*16 41aa02001d0000f8050000195a ff*35 & H136 0a*16 39aa0200250000f8050000195a000000050000195b \
         ff*27 -> 1 different at file 0 section count|\n\

@@ -168,7 +168,7 @@ fn stops_by_steps(alloc: Global, run: &Run, step: usize) -> bool {
 // Whether the run ends as it should, however few bytes are read and written at once, and stops at
 // each byte.
 fn stops(alloc: Global, run: &Run) -> bool {
-    for step in [1, 3, 65_536] {
+    for step in super::STEPS {
         if !stops_by_steps(alloc, run, step) {
             return false;
         }

@@ -84,7 +84,6 @@ pub fn volumes() -> &'static str {
         3faa0100200000f8 02*8 ff*64 -> states-image\n\
     states-image: H256 0b*16 37aa0100180000f8 0a*16 3faa0100200000f8 02*8 ff*128\n\
     stream-of-no-bytes: H128 0a*16 46aa0200180000f8 ff*32\n\
-    stub-image: H128 0a*16 47aa0100180000f8 ff*32\n\
     stub-to-the-end: H128 0a*16 47aa0100180000f8 ff*23 fe ff*8 -> file-without-data\n\
     three-aligned-272: H272 0a*16 37aa0100280000f8 00*16 ff*16 f8aaf000280000f8 ff*16 0b*16 f7aa0108500000f8 00*56 \
         0c*16 0faa0110200000f8 00*8 ff*8\n\

@@ -27,7 +27,7 @@ cell_of sorts.Unfinished p head payload = Stub p head.header_len
 cell_of sorts.Dead p head payload = Dead p (up_to_8 head.size)
 cell_of _ p head payload = if head.kind == pad_kind then Pad p head payload else Valid p head payload
 
--- the cell at p, by the state that its State byte shows; r are the bytes from p on
+-- the cell at p, by the state that its State byte shows (the case without one is not used); r are the bytes from p on
 abbrev pub cell_in : Option FileState → ℕ → List ℕ → CellForm
 cell_in None p r = Free p 0
 cell_in (Some state) p r = cell_of (sort_of state) p (head_in state r) (payload_at r)
@@ -36,7 +36,7 @@ cell_in (Some state) p r = cell_of (sort_of state) p (head_in state r) (payload_
 abbrev pub stray : Polarity → ℕ → List ℕ → Fault
 stray polarity p r = outer_fault kinds.FreeSpace (p + leading_count (erased_byte polarity) r)
 
--- the same if the header is known, else the fault
+-- the cell at p by the sort of its state if the header is known, else the fault
 abbrev pub cell_with : StateSort → ℕ → List ℕ → Result FileHead Fault → Result CellForm Fault
 cell_with sort p r (Ok head) = Ok (cell_of sort p head (payload_at r))
 cell_with sort p r (Err f) = Err f
@@ -48,6 +48,7 @@ sort_verdict sorts.Unfinished state system polarity p r =
     verdict_by (first_fault (stub_checks p r)) (cell_of sorts.Unfinished p (head_in state r) (payload_at r))
 sort_verdict sort state system polarity p r = cell_with sort p r (file_verdict system state p r)
 
+-- the cell at p by the state that its State byte shows, or the fault
 abbrev pub state_verdict : Option FileState → FileSystem → Polarity → ℕ → List ℕ → Result CellForm Fault
 state_verdict None system polarity p r = Err (outer_fault kinds.FileState (p + 23))
 state_verdict (Some state) system polarity p r = sort_verdict (sort_of state) state system polarity p r

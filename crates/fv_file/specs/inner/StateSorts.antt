@@ -16,6 +16,7 @@ pub data StateSort : Type 0 where
   Dead : StateSort
   Valid : StateSort
 
+-- the sort of a state
 abbrev pub sort_of : FileState → StateSort
 sort_of states.Free = Erased
 sort_of states.Construction = Unfinished

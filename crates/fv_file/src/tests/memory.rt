@@ -3,7 +3,7 @@
 
 use super::written::{file, is_joined, pad};
 use super::{A, P, outcome_text, remains, row_of, spell};
-use crate::{FileState, file_state};
+use crate::{FileState, file_state, verify_ffs_file};
 use fv_base::{FileSystem, Polarity};
 use std::alloc::Global;
 
@@ -17,6 +17,8 @@ fn are_answered() -> bool {
     let pad_fields = [0x08, 0xaa, 0xf0, 0x00, 0x18, 0x00, 0x00, 0xf8];
     is_joined(file.as_slice(), A, &file_fields)
         && is_joined(pad.as_slice(), P, &pad_fields)
+        && verify_ffs_file(file.as_slice(), FileSystem::Ffs2, polarity).is_ok()
+        && verify_ffs_file(pad.as_slice(), FileSystem::Ffs2, polarity).is_ok()
         && file_state(0xf8, polarity) == Some(FileState::DataValid)
 }
 

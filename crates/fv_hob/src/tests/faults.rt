@@ -112,3 +112,10 @@ fn no_front_of_a_list_is_read(rt: HostRuntime) -> Result<(), Fail> {
     }
     Ok(())
 }
+
+#[test]
+fn out_of_memory_has_a_number(rt: HostRuntime) {
+    let kind = HobFaultKind::OutOfMemory;
+    assert_eq!(rt; kind.number(), 6);
+    assert_eq!(rt; HobFault { kind, offset: 0 }.number(), 6);
+}

@@ -233,7 +233,7 @@ fn is_block(hob: &Hob, block: &Block) -> bool {
         && is_said(hob.kind(), said)
 }
 
-// How many blocks from the first on are these, in this order.
+// How many of these blocks are found, in this order.
 pub(super) fn found(hobs: &[Hob], blocks: &[Block]) -> usize {
     let mut at = 0;
     for hob in hobs {

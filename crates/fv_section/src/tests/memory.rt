@@ -4,7 +4,7 @@
 use super::streams::{PAIR, PAIR_FRAMES, Seen, is_next, is_split};
 use super::texts::{FREEFORMS, TEXTS, VERSIONS, is_freeform};
 use super::written::is_written;
-use crate::{ui_text, version};
+use crate::{FrameWalk, ui_text, version};
 use fv_base::{Fault, FaultKind};
 use std::alloc::Global;
 
@@ -34,6 +34,16 @@ fn is_answered(alloc: Global, stream: &[u8], seen: &[Seen]) -> bool {
     found == Ok(true) || found == Err(Fault::outer(FaultKind::OutOfMemory, 0))
 }
 
+// Whether a walk over the two sections counts the frames that are left.
+fn is_counted() -> bool {
+    let Ok(mut walk) = FrameWalk::of(&PAIR[..15]) else {
+        return false;
+    };
+    let all = walk.frames_left();
+    let first = walk.next_frame();
+    first.is_some() && all == 2 && walk.frames_left() == 1 && walk.tail() == 1
+}
+
 // Whether the calls that take no memory return the right results.
 fn are_answered() -> bool {
     let (body, text) = TEXTS[0];
@@ -43,6 +53,7 @@ fn are_answered() -> bool {
         && version(numbered) == parts
         && is_freeform(named, rest)
         && is_next(&PAIR, 8, &Some(PAIR_FRAMES[1]))
+        && is_counted()
         && is_written(0x19, false, 1, &[0x05, 0x00, 0x00, 0x19])
 }
 

@@ -15,8 +15,8 @@ abbrev pub outermost_first : Differs → Differs
 outermost_first None = None
 outermost_first (Some d) = Some (reverse d.0, d.1)
 
--- what a walk answers: where the two first differ, with the steps from the inmost out; memory is
--- wanted only where there are steps
-abbrev pub AnswersDifference : Result Differs Fault → Differs → Type 0
-AnswersDifference (Ok o) d = outermost_first o ≡ d
-AnswersDifference (Err f) d = (f ≡ out_of_memory) × (has_steps d ≡ true)
+-- what a walk returns: where the two first differ, with the steps from the innermost out; memory runs
+-- out only where there are steps
+abbrev pub ReturnsDifference : Result Differs Fault → Differs → Type 0
+ReturnsDifference (Ok o) d = outermost_first o ≡ d
+ReturnsDifference (Err f) d = (f ≡ out_of_memory) × (has_steps d ≡ true)

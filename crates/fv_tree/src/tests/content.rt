@@ -23,7 +23,7 @@ fn streams() -> &'static str {
     a volume: 1 0; 17 false 128, nested 0: <100> 0a*16 b9aa0b009c0000f8 84000017 <80> ff*84\n\
     a volume with a file: 1 0; 17 false 128, nested 1: <100> 0a*16 b9aa0b009c0000f8 84000017 <80> 0b*16 \
         2faa0108180000f8 ff*60\n\
-    a volume of the third file system, behind an extended header: 1 0; 17 true 120, nested 2: <e0> 0a*16 \
+    a volume of the third file system, after an extended header: 1 0; 17 true 120, nested 2: <e0> 0a*16 \
         bdaa0b00980000f8 ffffff1780000000 00*16 7ac07354cb3dca4dbd6f1e9689e7349a 78 00*7 5f465648 fffe0400 4800f546 \
         00000002 01000000 78000000 00*8 0a*16 47aa0100180000f8 0b*16 37aa0100180000f8\n\
     a volume and one byte more: 1 0; 17 false 129, leaf 100 229: <100> 0a*16 b8aa0b009d0000f8 85000017 <80> 0b*16 \
@@ -54,7 +54,7 @@ fn plain() -> &'static str {
         37aa0100180000f8 0a*16 3faa0100200000f8 02*8 ff*64\n\
     a top file, which replaces one: 0 120 128: <80> 2e06a01b79c782458566336ae8f78f09 f2aa0100180000f0 \
         2e06a01b79c782458566336ae8f78f09 eaaa0100200000f8 00*8\n\
-    data behind a large header: 0 104 107: 00*16 7ac07354cb3dca4dbd6f1e9689e7349a 70 00*7 5f465648 fffe0400 48000547 \
+    data after a large header: 0 104 107: 00*16 7ac07354cb3dca4dbd6f1e9689e7349a 70 00*7 5f465648 fffe0400 48000547 \
         00000002 01000000 70000000 00*8 0a*16 3baa0101000000f8 23 00*7 010203 ff*5\n\
     a volume in a file of another type: 0 96 228: <e8> 0a*16 c3aa01009c0000f8 84000017 <80> ff*60\n\
     "

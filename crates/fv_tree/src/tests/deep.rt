@@ -11,7 +11,7 @@ pub(super) fn accepted() -> &'static str {
         0a*16 41aa02001d0000f8 050000195affffff\n\
     the stream of a deleted file is not read: 136, 0b 02 00 5 Some(1): <88> 0a*16 42aa02001c0000e8 03000019 ff*4 \
         0b*16 31aa02001d0000f8 050000195affffff\n\
-    a superseded file behind the one that replaces it: 136, 0a 01 00 8 None: <88> 0a*16 3faa0100200000f8 01*8 0a*16 \
+    a superseded file after the one that replaces it: 136, 0a 01 00 8 None: <88> 0a*16 3faa0100200000f8 01*8 0a*16 \
         46aa0100190000f0 02 ff*7\n\
     a marked file without another: 104, 0a 01 00 8 None: <68> 0a*16 3faa0100200000f0 01*8\n\
     a name of the outer volume in a nested one: 200, 0a 0b 00 100 Some(1): <c8> 0a*16 d9aa0b007c0000f8 64000017 <60> \
@@ -31,10 +31,10 @@ pub(super) fn refused() -> &'static str {
         0a*16 7faa0b00d40200f8 bc020017 <2b8> 0a*16 e7aa0b006c0200f8 54020017 <250> 0a*16 4faa0b00040200f8 ec010017 \
         <1e8> 0a*16 b8aa0b009c0100f8 84010017 <180> 0a*16 20aa0b00340100f8 1c010017 <118> 0a*16 89aa0b00cc0000f8 \
         b4000017 <b0> 0a*16 f1aa0b00640000f8 4c000017 <48> ff*36\n\
-    a ninth level, a group, behind four groups and four volumes: Depth 512 8: <208> 0a*16 94aa0b00c00100f8 \
+    a ninth level, a group, after four groups and four volumes: Depth 512 8: <208> 0a*16 94aa0b00c00100f8 \
         a8010003a4010017 <1a0> 0a*16 fcaa0b00580100f8 400100033c010017 <138> 0a*16 65aa0b00f00000f8 d8000003d4000017 \
         <d0> 0a*16 cdaa0b00880000f8 700000036c000017 <68> 0a*16 39aa0b001c0000f8 04000003 ff*4\n\
-    a ninth level, a volume, behind four volumes and four groups: Depth 512 8: <250> 0a*16 4faa0b00040200f8 ec010017 \
+    a ninth level, a volume, after four volumes and four groups: Depth 512 8: <250> 0a*16 4faa0b00040200f8 ec010017 \
         <1e8> 0a*16 b4aa0b00a00100f8 8801000384010017 <180> 0a*16 1caa0b00380100f8 200100031c010017 <118> 0a*16 \
         85aa0b00d00000f8 b8000003b4000017 <b0> 0a*16 edaa0b00680000f8 500000034c000017 <48> ff*4\n\
     a fixed file in a volume in a group: Fixed 195 2: <c8> 0a*16 d5aa0b00800000f8 6800000364000017 <60> 0a*16 \

@@ -1,4 +1,4 @@
-//! Pairwise of volumes from outside: where their meanings first differ, and pairs with the same
+//! Pairs of volumes from outside: where their meanings first differ, and pairs with the same
 //! meaning.
 
 use super::{row_of, spell_volume};

@@ -13,13 +13,13 @@ fn sections() -> &'static str {
     "\
     eight groups: 03 1 section 28 None; 03 8 section 0 None; 03 9 absent: <88> 0a*16 26aa0200380000f8 \
         200000031c0000031800000314000003100000030c0000030800000304000003 ff*8\n\
-    a section in a group, and one behind it: 03 1 section 5 None; 19 0 absent; 19 1 section 1 Some([1]); 19 2 \
+    a section in a group, and one after it: 03 1 section 5 None; 19 0 absent; 19 1 section 1 Some([1]); 19 2 \
         section 1 Some([2]); 19 3 absent: <80> 0a*16 30aa0700290000f8 09000003 0500001901 000000 0500001902 ff*15\n\
-    a section in a volume, and one behind it: 17 1 section 128 None; 19 1 section 1 Some([165]); 19 2 absent: <100> \
+    a section in a volume, and one after it: 17 1 section 128 None; 19 1 section 1 Some([165]); 19 2 absent: <100> \
         0a*16 b4aa0b00a10000f8 84000017 <80> 0b*16 31aa02001d0000f8 050000195a ff*27 05000019a5 ff*23\n\
     a security core of two frames: 19 0 absent; 19 1 frame 0 []; 19 2 frame 4 [88]; 19 3 absent; 15 1 absent: <80> \
         0a*16 3caa0300210000f8 040000190500001958 ff*23\n\
-    a security core with a byte behind its frame: 19 1 not sectioned; 19 0 not sectioned: <80> 0a*16 \
+    a security core with a byte after its frame: 19 1 not sectioned; 19 0 not sectioned: <80> 0a*16 \
         40aa03001d0000f8 0400001958 ff*27\n\
     a raw file, whose bytes would be a section: 19 1 not sectioned: <80> 0a*16 42aa01001d0000f8 050000195a ff*27\n\
     "
@@ -28,15 +28,15 @@ fn sections() -> &'static str {
 // Bytes, and the offsets at which the volumes in them begin.
 fn scanned() -> &'static str {
     "\
-    a volume behind 64 bytes: [64]: ff*64 <80> ff*56\n\
+    a volume after 64 bytes: [64]: ff*64 <80> ff*56\n\
     no bytes: []: \n\
     signatures alone: []: 5f465648*50\n\
-    two volumes with bytes between and behind: [0, 144]: <80> ff*56 5a*16 <80> ff*56 5a*9\n\
+    two volumes with bytes between and after: [0, 144]: <80> ff*56 5a*16 <80> ff*56 5a*9\n\
     two volumes with none between: [0, 128]: <80> ff*56 <80> ff*56\n\
     a volume with one in it, at 104: [0]: <e0> 0a*16 bdaa0b00980000f8 ffffff1780000000 00*16 \
         7ac07354cb3dca4dbd6f1e9689e7349a 78 00*7 5f465648 fffe0400 4800f546 00000002 01000000 78000000 00*8 0a*16 \
         47aa0100180000f8 0b*16 37aa0100180000f8\n\
-    a volume behind 68 bytes: []: ff*68 <80> ff*60\n\
+    a volume after 68 bytes: []: ff*68 <80> ff*60\n\
     a volume without its last byte: []: <80> ff*55\n\
     "
 }
@@ -93,8 +93,8 @@ fn sections_are_looked_up(rt: HostRuntime) {
 }
 
 // The number of the file after the one with this number, and the first byte of its name.
-fn behind(view: &VolumeView, after: Option<u32>) -> Option<(u32, u8)> {
-    let (number, file) = next_file(view, after)?;
+fn file_after(view: &VolumeView, number: Option<u32>) -> Option<(u32, u8)> {
+    let (number, file) = next_file(view, number)?;
     Some((number, file.name().to_bytes()[0]))
 }
 
@@ -126,10 +126,10 @@ fn has_names(view: &VolumeView) -> bool {
 // Whether the files after some others, and those with some instances, are found in a volume.
 fn has_files(view: &VolumeView) -> bool {
     let next = [
-        behind(view, None),
-        behind(view, Some(0)),
-        behind(view, Some(1)),
-        behind(view, Some(u32::MAX)),
+        file_after(view, None),
+        file_after(view, Some(0)),
+        file_after(view, Some(1)),
+        file_after(view, Some(u32::MAX)),
     ];
     let found = [
         of_type(view, 0),

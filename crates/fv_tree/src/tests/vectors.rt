@@ -37,7 +37,7 @@ pub(super) fn accepted() -> &'static str {
         2faa0108180000f8 ff*60\n\
     nested with deleted file: 256, 0a 0b 00 132 Some(1): <100> 0a*16 b9aa0b009c0000f8 84000017 <80> 0b*16 \
         37aa0100180000e8 ff*60\n\
-    one byte behind: 128: <80> ff*57\n\
+    one byte after: 128: <80> ff*57\n\
     pad with data: 128: <80> ff*16 00aaf000200000f8 01 ff*31\n\
     polarity zero: 128, 0a 01 00 0 None: 00*16 78e58c8c3d8a1c4f9935896185c32dd3 80 00*7 5f465648 fff60400 4800cefd \
         00000002 01000000 80000000 00*8 0a*16 47aa010018000007 00*32\n\

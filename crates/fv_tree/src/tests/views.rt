@@ -1,9 +1,8 @@
-//! Views: the slices that they lend, and how much memory they take.
+//! Views: the slices that they lend.
 
 use super::spell_volume;
-use crate::{Content, FileView, SectionView, read_volume};
+use crate::{Content, FileView, read_volume};
 use std::alloc::Global;
-use std::mem::size_of;
 
 /// A file whose data are the byte 0x5a.
 const BYTE: &str = "<80> 0a*16 46aa0100190000f8 5a ff*31";
@@ -40,5 +39,4 @@ fn is_byte(alloc: Global, text: &str, byte: u8) -> Option<bool> {
 fn slices_outlive_the_view(rt: HostRuntime) {
     assert!(rt; is_byte(rt.alloc(), BYTE, 0x5a) == Some(true));
     assert!(rt; is_byte(rt.alloc(), SECTION, 0x5a) == Some(true));
-    assert!(rt; size_of::<SectionView>() <= 24);
 }

@@ -72,7 +72,7 @@ impl<'a> FileView<'a> {
         &self.content
     }
 
-    /// Its data if they are not sections: a slice of what was read, which outlives the view.
+    /// Its data, or None if they are sections: a slice of what was read, which outlives the view.
     pub fn plain(&self) -> Option<&'a [u8]>
         ensures { option_map (λ b. b.now) result ≡ plain_of (content_of self.now) }
     {

@@ -3,7 +3,7 @@ use Rattle.std.specs.Prelude.{◌↔◌}
 use Rattle.fv_base.specs.Flash.{AllAre}
 use Rattle.fv_base.proofs.erased.all_are.Given as goal
 
--- what is left answers for all
+-- what is left decides for all
 abbrev pub invariant-loop-rest : goal.invariant-loop-rest
 invariant-loop-rest l = AllAre l.fn.byte l.rest ↔ AllAre l.fn.byte l.fn.bytes
 

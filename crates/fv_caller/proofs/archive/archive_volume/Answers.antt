@@ -1,4 +1,4 @@
-use Rattle.std.proofs.Common.{◌≡◌, refl}
+use Rattle.std.proofs.Common.{refl}
 use Rattle.std.proofs.lemmas.Result.{err_from_is_err_and}
 use Rattle.fv_canon.proofs.Laws.{not_placed}
 use Rattle.fv_caller.proofs.archive.archive_volume.Goals as goal

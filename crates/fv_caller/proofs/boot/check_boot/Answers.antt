@@ -1,4 +1,4 @@
-use Rattle.std.proofs.Common.{◌≡◌, ap, inl, inr}
+use Rattle.std.proofs.Common.{ap, inl, inr}
 use Rattle.std.proofs.lemmas.Result.{err_from_is_err_and}
 use Rattle.fv_caller.proofs.boot.check_boot.Goals as goal
 use Rattle.fv_caller.specs.declared.fault.CallerFault.TheVariants as faults

@@ -32,9 +32,9 @@ some_text p h x y used n e =
     (append_assoc (pad_head_of (24 + ext_len y) p) (ext_spelled y used)
     (replicate (up_to_8 (header_len_of h + 24 + ext_len y) - (header_len_of h + 24 + ext_len y)) n))
 
-pub returns-in-None : goal.returns-in-None
-returns-in-None g c =
-    let none : c.args.head.now.ext ≡ None = sym c.ext.ensures ∙ ap option_copied c.in-None.is in
+pub returns-in_default : goal.returns-in_default
+returns-in_default g c =
+    let none : c.args.head.now.ext ≡ None = sym c.ext.ensures ∙ ap option_copied c.in_default.is in
     subst (λ (xs : List ℕ). g.S.Sink.takes c.args.out.now xs c.args.out.now) (sym (none_text (polarity_of c.args.head.now.attributes)
     c.args.head.now c.args.head.now.ext c.args.used (erased_byte (polarity_of c.args.head.now.attributes)) none))
     (g.S.Sink.laws.none c.args.out.now)

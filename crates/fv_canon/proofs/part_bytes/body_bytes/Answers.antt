@@ -26,7 +26,7 @@ returns-clause-body c =
     let laid = c.in_ok-starts.ensures.ok in
     kept_text (IsBodyImage m) body_image _ m _ starts _ _ _ _ c.finish.result
     (body_is c.args.section.now starts c.known.ensures (rw c.body-body.ensures at laid)) c.body-body.ensures c.as_slice.ensures.value
-    c.in_ok-out.ensures c.put_parts.ensures c.finish.ensures.ok
+    c.in_ok-out.ensures c.put_body_image.ensures c.finish.ensures.ok
 
 pub returns-clause-only : goal.returns-clause-only
 returns-clause-only c other image =

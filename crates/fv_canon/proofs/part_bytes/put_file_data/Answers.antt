@@ -23,7 +23,7 @@ returns-clause-data g c =
     let m = c.args.file.now in
     let starts = c.in_ok-starts.starts.items in
     let laid = c.in_ok-starts.ensures.ok in
-    let put = c.put_parts.ensures in (
+    let put = c.put_body_image.ensures in (
       _,
       data_is m starts c.known.ensures (rw (c.data_body-data.ensures, data_held m) at laid),
       rw (c.as_slice.ensures.value, c.data_body-data.ensures, data_image m starts) at put,

@@ -14,7 +14,7 @@ returns g c =
     (c.form_words.ensures ∙ ap form_text c.extended.ensures) c.put-3.ensures in
     let size = subst (λ (n : ℕ). takes c.put-3.new.self (decimal n) c.put_decimal-2.new.out) c.body_len.ensures
     c.put_decimal-2.ensures.text in
-    let shown = c.put_shown.ensures in (
+    let shown = c.put_section_body.ensures in (
       shown.0,
       shown.1,
       begun g.S.Sink.laws c.put_indent.ensures c.put.ensures c.put_decimal.ensures.text

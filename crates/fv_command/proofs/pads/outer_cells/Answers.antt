@@ -5,7 +5,7 @@ use Rattle.fv_tree.specs.Meaning.{head_of}
 use Rattle.fv_command.proofs.PadLemmas.{opened, want_only}
 use Rattle.fv_command.proofs.pads.outer_cells.Goals as goal
 
--- the header of a volume is not refused
+-- the header of a volume is not rejected
 pub returns-in_err-extent-clause-err : goal.returns-in_err-extent-clause-err
 returns-in_err-extent-clause-err c =
     let d = c.requires.1.1 in

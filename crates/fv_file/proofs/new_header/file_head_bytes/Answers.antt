@@ -7,19 +7,19 @@ use Rattle.fv_file.proofs.new_header.file_head_bytes.Goals as goal
 pub returns-clause-bytes : goal.returns-clause-bytes
 returns-clause-bytes c =
     let a = c.args in
-    c.header_bytes.ensures.is
+    c.new_header_bytes.ensures.is
     ∙ file_head_is a.polarity a.name a.kind a.attributes a.data_len a.file_sum c.file_header.result c.requires.short c.file_header.ensures
 
 pub returns-clause-read : goal.returns-clause-read
 returns-clause-read c =
     let a = c.args in
     let long : length (bytes_of a.name) ≡ 16 =
-    ap (λ (x : NewHeader). length (bytes_of x.name)) (sym c.file_header.ensures) ∙ c.header_bytes.ensures.name in
-    file_written a.polarity a.name a.kind a.attributes a.data_len a.file_sum c.header_bytes.result long c.requires.short c.requires.most
-    c.header_bytes.ensures.bytes (returns-clause-bytes c)
+    ap (λ (x : NewHeader). length (bytes_of x.name)) (sym c.file_header.ensures) ∙ c.new_header_bytes.ensures.name in
+    file_written a.polarity a.name a.kind a.attributes a.data_len a.file_sum c.new_header_bytes.result long c.requires.short c.requires.most
+    c.new_header_bytes.ensures.bytes (returns-clause-bytes c)
 
 pub returns-clause-cell : goal.returns-clause-cell
-returns-clause-cell c = head_of_file c.args.polarity _ c.header_bytes.result (returns-clause-read c) refl
+returns-clause-cell c = head_of_file c.args.polarity _ c.new_header_bytes.result (returns-clause-read c) refl
 
 pub returns-clause-only : goal.returns-clause-only
 returns-clause-only c = λ header_sum h written.

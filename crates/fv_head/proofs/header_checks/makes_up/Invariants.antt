@@ -3,7 +3,7 @@ use Rattle.fv_head.specs.Pairs.{pairs_of}
 use Rattle.fv_head.specs.HeadChecks.{makes_up}
 use Rattle.fv_head.proofs.header_checks.makes_up.Given as goal
 
--- what is left of the blocks answers for all of them
+-- what is left of the blocks decides for all of them
 abbrev pub invariant-loop-count : goal.invariant-loop-count
 invariant-loop-count l =
     (length l.rest % 8 ≡ 0) × (makes_up (pairs_of l.rest) l.left ≡ makes_up (pairs_of l.fn.blocks) l.fn.total)

@@ -1,4 +1,4 @@
-use Rattle.std.proofs.Common.{◌<◌, ◌∷◌, ◌++◌, [], ℕ, List, length, map, subst, arith, rules}
+use Rattle.std.proofs.Common.{◌≡◌, ◌<◌, ◌∷◌, ◌++◌, [], ℕ, List, length, map, subst, sym, true≢false, arith, rules}
 use Rattle.std.proofs.lemmas.Result.{err_from_is_err_and}
 use Rattle.fv_section.specs.Frames.{FrameForm, Splits}
 use Rattle.fv_section.specs.FrameForms.{frame_form}
@@ -10,6 +10,18 @@ use Rattle.fv_section.proofs.frame_walk.frames.Goals as goal
 some_bytes : (fs : List FrameForm) (f : FrameForm) (more : List FrameForm) (t : ℕ) (b : List ℕ) → Splits (fs ++ f ∷ more) t b → 0 < length b
 some_bytes [] f more t b split = omega (arith, from_least 0 f more t b split)
 some_bytes (g ∷ fs) f more t b split = omega (arith, from_least 0 g (fs ++ f ∷ more) t b split)
+
+-- and so has one of which some frames are left
+some_left : (fs : List FrameForm) (count t : ℕ) (b : List ℕ) → Splits fs t b → count ≡ length fs → (count ≡ 0 → ⊥) → 0 < length b
+some_left [] count t b split is some = absurd (some is)
+some_left (f ∷ fs) count t b split is some = omega (arith, from_least 0 f fs t b split)
+
+pub returns-in_err-list-clause-some : goal.returns-in_err-list-clause-some
+returns-in_err-list-clause-some c =
+    let p = err_from_is_err_and c.from_residual-in_err-list.result c.from_residual-in_err-list.ensures.1 in
+    let walk = c.in_ok-walk.walk in
+    rw p.1 (some_left walk.0 c.frames_left.result walk.1 c.args.stream.now c.in_ok-walk.ensures.found c.frames_left.ensures
+    (λ none. true≢false (sym (c.in_err-list.ensures.succeeds none))))
 
 pub returns-in_err-push-clause-some : goal.returns-in_err-push-clause-some
 returns-in_err-push-clause-some c =

@@ -3,7 +3,7 @@ use Rattle.std.specs.Prelude.{option_map}
 use Rattle.fv_tree.specs.Meaning.{body_of}
 use Rattle.fv_command.specs.ListTexts.{BodyShown}
 use Rattle.fv_command.proofs.ListLemmas.{shown_leaf, shown_none}
-use Rattle.fv_command.proofs.leaf_text.put_shown.Goals as goal
+use Rattle.fv_command.proofs.leaf_text.put_section_body.Goals as goal
 
 pub returns-in-Some : goal.returns-in-Some
 returns-in-Some g c =

@@ -1,6 +1,6 @@
 use Rattle.std.proofs.Common.{rules}
 use Rattle.fv_base.proofs.Laws.{bytes_take}
-use Rattle.fv_file.proofs.new_header.header_with.Goals as goal
+use Rattle.fv_file.proofs.new_header.header_of.Goals as goal
 
 pub returns-clause-bytes : goal.returns-clause-bytes
 returns-clause-bytes c = bytes_take c.header_len.result c.whole_bytes.result (search rules)

@@ -1,9 +1,0 @@
-use Rattle.std.proofs.Common.{◌∙◌, zero-add}
-use Rattle.fv_file.specs.NewHeaders.{header_bytes}
-use Rattle.fv_file.proofs.new_header.header_bytes.Goals as goal
-
-pub returns-clause-is : goal.returns-clause-is
-unfolding header_bytes
-returns-clause-is c =
-    c.header_with-2.ensures.is
-    ∙ rw (zero-add, c.state_byte.ensures, c.sum8-sum.ensures, c.as_slice.ensures, c.header_with.ensures.is)
