@@ -1,4 +1,5 @@
 /* Lists the volumes of a flash image and the data of their files, and whether the image is as it would be rebuilt.
+ * It takes images of at most 32 MiB and 64 volumes.
  *   cc -std=c11 volumes.c $(pkg-config --cflags --libs fv)        ./a.out IMAGE */
 #include <fv.h>
 #include <stdio.h>

@@ -1,8 +1,9 @@
 /* fv.h - reads, checks, compares and rebuilds UEFI firmware volumes (PI specification 1.8, volume 3).
  *
- * The calls are written in Rattle. Each is proved to do what its comment here says, except for two bounds:
- * which faults a call can return, and that 553 bytes are enough for a line. Not proved are also this header,
- * src/heap.c, and that the caller keeps the rules below. Link with `pkg-config --libs fv`.
+ * The calls are written in Rattle. Each is proved to do what its comment here says, except for three statements:
+ * which faults a call can return, that 553 bytes are enough for a line, and the side of a comparison that runs
+ * out of memory. Not proved are also this header, src/heap.c, and that the caller keeps the rules below. Link with
+ * `pkg-config --libs fv`.
  *
  * Rules for the caller
  *   1. No pointer is NULL, not even if the length after it is 0. Then pass the address of any byte.
@@ -14,8 +15,8 @@
  * Results: 0 is success. 1 to 24 is the number of the first fault of the input, as docs/FAULTS.md has
  * them. 24 is out of memory. 27 is a buffer that is too small. 28 says that there is no file or section of
  * the number that was passed. Calls for dependency expressions and hand-off lists have numbers of their
- * own. All lengths and offsets are in bytes. A volume has at most 268,435,456 bytes, and so has an image
- * for fv_normalise_image. */
+ * own. After any result except 0 the buffer is as it was. All lengths and offsets are in bytes. A volume has
+ * at most 268,435,456 bytes, and so has an image for fv_normalise_image. */
 #ifndef FV_H
 #define FV_H
 
@@ -101,8 +102,8 @@ typedef struct fv_sha256 {
 } fv_sha256;
 FV_ASSERT(sizeof(fv_sha256) == 32, "the layout of fv_sha256");
 
-/* What a result of a call means, in a sentence that ends with a NUL: of 0 to 28; of fv_depex and fv_hobs, which
- * have numbers of their own, of 0 and 27 alone. Not proved, and it cannot fail. */
+/* What a result of a call means, in a sentence that ends with a NUL. It knows the results 0 to 28; of fv_depex and
+ * fv_hobs, which have numbers of their own, only 0 and 27. Not proved, and it cannot fail. */
 const char *fv_fault_text(uint32_t number);
 
 /* Whether the bytes begin with a volume. Only its header is read. Returns 0 and the extent if they do.
@@ -112,7 +113,7 @@ uint32_t fv_verify(const uint8_t *bytes, size_t len, fv_extent *FV_RESTRICT exte
 
 /* Writes the canonical image of the volume that the input is to the first `len` bytes of the buffer; the
  * image is as long as the input. Returns 0. Returns 27 if buffer_len < len. Else returns the first fault,
- * 1 to 24. The buffer is unchanged then. */
+ * 1 to 24. */
 uint32_t fv_normalise(const uint8_t *input, size_t len, uint8_t *FV_RESTRICT buffer, size_t buffer_len,
                       fv_fault *FV_RESTRICT fault);
 
@@ -147,8 +148,9 @@ uint32_t fv_scan(const uint8_t *bytes, size_t len, uint64_t *FV_RESTRICT buffer,
 uint32_t fv_compare(const uint8_t *first, size_t first_len, const uint8_t *second, size_t second_len,
                     char *FV_RESTRICT buffer, size_t buffer_len, fv_comparison *FV_RESTRICT found);
 
-/* What a cell of a volume's body is: a valid file; a pad file; a file that was deleted, or whose data were
- * never finished; a file header that was never finished; erased bytes up to the volume's end. */
+/* What a cell of a volume's body is: a valid file, also one that is superseded; a pad file; a file that was
+ * deleted, or whose data were never finished; a file header that was never finished; erased bytes up to the
+ * volume's end. */
 enum { FV_CELL_FILE = 1, FV_CELL_PAD = 2, FV_CELL_DELETED = 3, FV_CELL_UNFINISHED = 4, FV_CELL_FREE = 5 };
 
 /* A cell of a volume's body. A field that the cell does not have is 0. */
@@ -246,7 +248,8 @@ typedef struct fv_guid {
 FV_ASSERT(sizeof(fv_guid) == 16, "the layout of fv_guid");
 
 /* Evaluates a dependency expression (phase 0: PEI; any other number: DXE and MM). *value is its truth value
- * when these GUIDs are installed, 1 or 0, or 2 for BEFORE and AFTER, which have none. Returns 0. Else
+ * when these GUIDs are installed, 1 or 0, or 2 for BEFORE and AFTER, which have none. Bytes after the END op
+ * are not looked at. Returns 0. Else
  * returns the first fault by the numbers of dependency expressions: 1 to 5, or 6 if memory runs out.
  * *value is unchanged then. */
 uint32_t fv_depex(const uint8_t *bytes, size_t len, uint32_t phase, const fv_guid *installed,

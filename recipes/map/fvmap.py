@@ -818,7 +818,7 @@ def main() -> int:
         "--fvtool", default=os.environ.get("FVTOOL", "fvtool"), help="the program; FVTOOL, or fvtool in the PATH"
     )
     given = words.parse_args()
-    given.guids = os.path.join(os.path.dirname(os.path.abspath(__file__)), "guids.txt")
+    given.guids = os.path.join(os.path.dirname(os.path.realpath(__file__)), "guids.txt")
     try:
         page = make_page(given)
     except (Failed, OSError) as error:
