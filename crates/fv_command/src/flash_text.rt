@@ -21,8 +21,8 @@ impl<'a> Image for LaidImage<'a> {
 }
 
 /// Writes the input with each volume in it replaced by its canonical image: as lines of digits if
-/// `hex`, otherwise as it is. Nothing is written before each volume is accepted and laid out. The image is not kept in
-/// memory.
+/// `hex`, otherwise as it is. Nothing is written before each volume is accepted and laid out. The
+/// image is not kept in memory.
 ///
 /// # Errors
 ///

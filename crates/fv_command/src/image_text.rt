@@ -43,8 +43,8 @@ impl<'a> Image for LaidVolume<'a> {
 }
 
 /// Writes the canonical image of the volume that the input is: as lines of digits if `hex`,
-/// otherwise as it is. Nothing is written before the whole input is accepted and laid out. The image is not kept in
-/// memory.
+/// otherwise as it is. Nothing is written before the whole input is accepted and laid out. The
+/// image is not kept in memory.
 ///
 /// # Errors
 ///

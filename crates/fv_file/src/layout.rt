@@ -1,6 +1,6 @@
 //! The offsets of the fields of a file's header, in bytes from its first, the lengths of the two
-//! forms, and the greatest size with the short one. (PI specification, volume 3, section 3.2.3.1, `EFI_FFS_FILE_HEADER` and
-//! `EFI_FFS_FILE_HEADER2`.)
+//! forms, and the greatest size with the short one. (PI specification, volume 3, section 3.2.3.1,
+//! `EFI_FFS_FILE_HEADER` and `EFI_FFS_FILE_HEADER2`.)
 
 /// `Name`, 16 bytes.
 pub(crate) const NAME_OFFSET: usize = 0;
@@ -32,5 +32,6 @@ pub const HEADER_LEN: usize = 24;
 /// The length of `EFI_FFS_FILE_HEADER2` in bytes.
 pub const LARGE_HEADER_LEN: usize = 32;
 
-/// The greatest size in bytes of a file with a short header, the header included: `Size` has 3 bytes.
+/// The greatest size in bytes of a file with a short header, the header included: `Size` has 3
+/// bytes.
 pub const SHORT_SIZE_LIMIT: u64 = 0xff_ffff;

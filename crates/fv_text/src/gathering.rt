@@ -10,8 +10,8 @@ use fv_base::Sink;
 /// How many bytes wait at most.
 const ROOM: usize = 512;
 
-/// A sink that gathers pieces of at most 512 bytes, and puts them into a sink below as one. `finish` puts what
-/// still waits.
+/// A sink that gathers pieces of at most 512 bytes, and puts them into a sink below as one.
+/// `finish` puts what still waits.
 #[derive(Drop)]
 pub struct GatheringSink<S: Sink> {
     /// The sink into which the pieces are put.

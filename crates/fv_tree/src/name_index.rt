@@ -247,7 +247,7 @@ impl Numbers {
             → unwrap_or result (length fs) ≡ position_or_len (is_named name.now) fs }
     {
         let key = halves(*name);
-        // The numbers of one name rise. So it is at this place, or it is the first file.
+        // Numbers of one name rise: Ok is file 0, and Err where the first of the name would be.
         let Err(place) = self.sorted.binary_search(&(key, 0)) else {
             return Some(0);
         };
