@@ -1,7 +1,8 @@
 # Builds, installs and packs the program fvtool and the library libfv. docs/INSTALL.md says what goes where.
 #
 #   make                  the program, proved and built where its sources have changed, and put into out/
-#   make check            runs it over a volume. The gate is .ci/run
+#   make try              runs it over a volume
+#   make check            that, and all checks that prove nothing (.ci/quick). The gate is .ci/run
 #   make install          the program, manual page, completion for bash and zsh, documents
 #   make install-lib      the library: fv.h, libfv.a, libfv.so, fv.pc, fv.py
 #   make uninstall        removes both
@@ -26,20 +27,21 @@ INSTALL ?= install
 BUILT := crates/fv_tool/out/fv_tool
 PROGRAM ?= $(BUILT)
 ARCHIVE := crates/fv_c/out/libfv_c.a
-SOURCES := crates.txt $(shell find crates/fv_*/src crates/fv_*/specs crates/fv_*/proofs -type f)
+# With the folders, so that a file that is removed counts too.
+SOURCES := crates.txt $(shell find crates/fv_*/src crates/fv_*/specs crates/fv_*/proofs)
 DOCUMENTS := README.md CHANGELOG.md SECURITY.md docs/PROGRAM.md docs/FAULTS.md packaging/copyright
 # clib/Makefile with the variables of this run. It has PREFIX, INCLUDEDIR, LIBDIR and PYTHONDIR.
 CLIB := $(MAKE) --no-print-directory -f clib/Makefile OUT="$(OUT)/lib" PREFIX="$(PREFIX)" DESTDIR="$(DESTDIR)"
 
-.PHONY: all check install install-lib uninstall dist version clean FORCE
+.PHONY: all try check install install-lib uninstall dist version clean FORCE
 all: $(OUT)/fvtool
 
+# Both prove nothing where a source is newer but has not changed. What they leave is newer than its sources.
 $(BUILT): $(SOURCES)
-	./fvtool < crates/fv_tool/stdin > /dev/null
+	packaging/prove fv_tool
 
 $(ARCHIVE): $(SOURCES)
-	MAKEFLAGS= clib/build
-	touch $@
+	packaging/prove fv_c
 
 # The program without its symbols, and with a section that names the version. The section is not loaded: the bytes that
 # run are those that were proved and built. `strings` shows it.
@@ -51,9 +53,12 @@ $(OUT)/fvtool: $(PROGRAM) VERSION FORCE
 	$(OBJCOPY) --strip-unneeded --remove-section=.comment --add-section=.fvtool.version="$(OUT)/version" \
 	    "$(PROGRAM)" "$@"
 
-check: all
+try: all
 	"$(OUT)/fvtool" < crates/fv_tool/stdin | cmp - crates/fv_tool/stdout
 	test "$$("$(OUT)/fvtool" check --hex crates/fv_tool/stdin)" = canonical
+
+check: try
+	MAKEFLAGS= .ci/quick
 
 install: all
 	$(INSTALL) -d "$(DESTDIR)$(BINDIR)" "$(DESTDIR)$(MANDIR)/man1" "$(DESTDIR)$(DOCDIR)"

@@ -1,7 +1,7 @@
 #!/usr/bin/env python3
 """parts.py [--program PROGRAM] FILE..: files, sections and extract of fv.py.
 
-First over the volumes of crates/fv_tree/src/tests, whose files and faults were worked out by hand. Then over each FILE:
+First over the volumes of crates/fv_tests/src/tree, whose files and faults were worked out by hand. Then over each FILE:
 the places of the data against the input itself, and, with the program, the lines of `list` and the output of `extract`
 for each file and section."""
 
@@ -58,8 +58,8 @@ def spelled(text):
 def tables():
     """The rows of the tables: whether the volume is read, what is expected, and its bytes."""
     for module in ("vectors", "deep", "large"):
-        source = (ROOT / f"crates/fv_tree/src/tests/{module}.rt").read_text(encoding="utf-8")
-        for name, text in re.findall(r'fn (accepted|refused)\(\).*?\{\s*"\\\n(.*?)"\n\}', source, re.S):
+        source = (ROOT / f"crates/fv_tests/src/tree/{module}.rt").read_text(encoding="utf-8")
+        for name, text in re.findall(r'fn (accepted|rejected)\(\).*?\{\s*"\\\n(.*?)"\n\}', source, re.S):
             for row in text.replace("\\\n", "").split("\\n"):
                 if row.strip():
                     _, wanted, digits = (part.strip() for part in row.split(": "))

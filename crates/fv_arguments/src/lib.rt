@@ -3,8 +3,6 @@
 
 mod options;
 mod rules;
-#[cfg(test)]
-mod tests;
 mod words;
 
 pub use words::{WordFault, parse_words};

@@ -13,8 +13,6 @@ pub mod limits;
 mod port;
 mod sink;
 mod sums;
-#[cfg(test)]
-mod tests;
 
 pub use align::Align;
 pub use byte_list::ByteList;

@@ -1,9 +1,9 @@
 -- The files of a volume, row by row.
-use Rattle.std.proofs.Common.{◌≡◌, ◌∙◌, ◌⊎◌, ℕ, ◌+◌, ◌<◌, ◌≤◌, List, [], ◌∷◌, ◌++◌, length, drop, get_or, map, refl, sym, ap, subst, suc}
+use Rattle.std.proofs.Common.{◌≡◌, ◌∙◌, ◌⊎◌, ℕ, ◌≤◌, List, [], ◌∷◌, ◌++◌, length, drop, map, refl, sym, ap, subst, suc}
 use Rattle.std.proofs.Common.{append-nil, inl, inr}
 use Rattle.std.specs.List.{AllByRecursion}
 use Rattle.std.specs.Prelude.{◌≢◌}
-use Rattle.std.proofs.lemmas.List.{append_assoc, drop_more, drop_all}
+use Rattle.std.proofs.lemmas.List.{drop_all}
 use Rattle.fv_base.specs.Faults.{out_of_memory}
 use Rattle.fv_base.specs.declared.fault.Fault.{Fault}
 use Rattle.fv_tree.specs.Denotes.{Accepted, Pairwise, MeansFile, Stream}
@@ -13,7 +13,7 @@ use Rattle.fv_tree.specs.Meaning.{Meaning, FileMeaning, files_of}
 use Rattle.fv_tree.specs.declared.volume_files.LocatedFile.{LocatedFile}
 use Rattle.fv_tree.proofs.Laws.{volume_files, want_known}
 use Rattle.fv_base.specs.Limits.{depth_limit}
-use Rattle.fv_c.specs.ReportedFiles.{HasFileRows, reported_file, reported_files}
+use Rattle.fv_c.specs.ReportedFiles.{HasFileRows, reported_files}
 use Rattle.fv_c.specs.declared.files.FvFile.{FvFile}
 
 -- ---- the loop
@@ -22,19 +22,6 @@ use Rattle.fv_c.specs.declared.files.FvFile.{FvFile}
 abbrev pub Rows : List FvFile → ℕ → List LocatedFile → List FileMeaning → Type 0
 Rows rows i stored files =
     rows ++ reported_files (map file_form (drop i stored)) (drop i files) ≡ reported_files (map file_form stored) files
-
-pub rows_more : (rows news : List FvFile) (i : ℕ) (stored : List LocatedFile) (files : List FileMeaning) (x : LocatedFile) (m : FileMeaning)
-    → i < length stored → i < length files → x ≡ get_or stored i x → m ≡ get_or files i m
-    → news ≡ rows ++ reported_file (file_form x) m ∷ [] → Rows rows i stored files → Rows news (i + 1) stored files
-rows_more rows news i stored files x m l k is means pushed have =
-    let rest : List FvFile = reported_files (map file_form (drop (i + 1) stored)) (drop (i + 1) files) in
-    let a : drop i stored ≡ x ∷ drop (i + 1) stored = drop_more stored i x l ∙ ap (λ y. y ∷ drop (i + 1) stored) (sym is) in
-    let b : drop i files ≡ m ∷ drop (i + 1) files = drop_more files i m k ∙ ap (λ y. y ∷ drop (i + 1) files) (sym means) in
-    let front : reported_files (map file_form (drop i stored)) (drop i files) ≡ reported_file (file_form x) m ∷ rest =
-    ap (λ (xs : List LocatedFile). reported_files (map file_form xs) (drop i files)) a
-    ∙ ap (reported_files (map file_form (x ∷ drop (i + 1) stored))) b in
-    ap (λ (l : List FvFile). l ++ rest) pushed ∙ append_assoc rows (reported_file (file_form x) m ∷ []) rest
-    ∙ ap (λ (l : List FvFile). rows ++ l) (sym front) ∙ have
 
 no_meanings : (fs : List FileForm) → reported_files fs [] ≡ []
 no_meanings [] = refl

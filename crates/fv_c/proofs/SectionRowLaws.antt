@@ -1,7 +1,7 @@
 -- The walk over the sections of a file, row by row.
 use Rattle.std.proofs.Common.{◌≡◌, ◌∙◌, ℕ, ◌+◌, ◌<◌, ◌≤◌, List, [], ◌∷◌, ◌++◌, length, drop, get_or, map, refl, sym, ap}
-use Rattle.std.proofs.Common.{arith, append-nil, length-append}
-use Rattle.std.proofs.lemmas.List.{append_assoc, drop_more, drop_all, length-map, map_push}
+use Rattle.std.proofs.Common.{arith, length-append}
+use Rattle.std.proofs.lemmas.List.{append_assoc, drop_more, length-map, map_push}
 use Rattle.fv_tree.specs.Meaning.{SectionMeaning, Section, SectionMeanings, Leaf, Group, Nested, body_of}
 use Rattle.fv_tree.specs.Meaning.{sections_from}
 use Rattle.fv_tree.specs.inner.Sizes.{sections_size, section_size}
@@ -70,13 +70,6 @@ walk_more olds rows news parent depth i ss s l is added walked =
     ∙ ap (λ k. (map row_form rows ++ a) ++ rows_of_sections k parent depth rest) more
     ∙ append_assoc (map row_form rows) a (rows_of_sections (length rows + length a) parent depth rest)
     ∙ ap (λ r. map row_form rows ++ rows_of_sections (length rows) parent depth r) (sym front)
-    ∙ walked
-
-pub walk_done : (olds rows : List PlacedSection) (parent depth i : ℕ) (ss : List SectionMeaning) → length ss ≤ i
-    → Walks olds rows parent depth i ss → Added olds rows parent depth (sections_from ss)
-walk_done olds rows parent depth i ss l walked =
-    sym (append-nil (map row_form rows))
-    ∙ ap (λ r. map row_form rows ++ rows_of_sections (length rows) parent depth (sections_from r)) (sym (drop_all i ss l))
     ∙ walked
 
 -- the list has grown

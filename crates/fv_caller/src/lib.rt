@@ -6,8 +6,6 @@
 mod archive;
 mod boot;
 mod fault;
-#[cfg(test)]
-mod tests;
 
 pub use archive::{Archived, archive_volume};
 pub use boot::check_boot;

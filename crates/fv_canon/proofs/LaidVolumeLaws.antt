@@ -5,7 +5,7 @@ use Rattle.std.specs.List.{AllByRecursion}
 use Rattle.std.proofs.lemmas.List.{drop_more, get_or-map, length-drop, length-map, length-take-le, map-append, take-append-drop}
 use Rattle.std.proofs.lemmas.List.{take_all, take_more}
 use Rattle.fv_base.specs.Faults.{out_of_memory}
-use Rattle.fv_base.specs.Limits.{depth_limit}
+use Rattle.fv_base.specs.Limits.{depth_limit, volume_limit}
 use Rattle.fv_base.specs.Sinks.{WalkLaws}
 use Rattle.fv_base.specs.Value.{field}
 use Rattle.fv_base.specs.declared.fault.Fault.{Fault}
@@ -111,6 +111,14 @@ laid_item b volumes i v all less is = (
   get_or-map (λ (w : LaidVolume). w.start) volumes i v 0 less ∙ ap (λ (w : LaidVolume). w.start) (sym is),
   subst (IsLaid b) (sym is) (at_index (IsLaid b) volumes i v all less),
 )
+
+-- it ends within the limit
+pub laid_ends : (b : List ℕ) (volumes : List LaidVolume) (i : ℕ) (v : LaidVolume) → IsLaidOut b volumes → i < length volumes
+    → v ≡ get_or volumes i v → v.start + (head_of v.view).length ≤ volume_limit
+laid_ends b volumes i v (short, places, found, (same, all)) less is =
+    let at = (laid_item b volumes i v all less is).1 in
+    let long : at.0 ≡ (head_of v.view).length = laid_long b v.start at.0 v.view at.1 at.2 in
+    omega (arith, short, at_within b v.start at.0 at.1, long)
 
 module _ {S : Type 0} (takes : S → List ℕ → S → Type 0) (laws : WalkLaws takes) (s : S) (b : List ℕ) (volumes : List LaidVolume) where
   -- nothing is put

@@ -1,5 +1,5 @@
 -- The walk over a volume that adds the starts of the files in it: what it added, how deep it goes, and the fault that it passes on.
-use Rattle.std.proofs.Common.{◌≡◌, ◌<◌, ◌⊎◌, inl, inr, ◌+◌, ℕ, suc, List, length, take, get_or, refl, sym, ◌∙◌, subst, arith}
+use Rattle.std.proofs.Common.{◌≡◌, ◌<◌, ◌⊎◌, inl, inr, ◌+◌, ℕ, suc, List, length, take, get_or, ◌++◌, append_assoc, refl, sym, ap, ◌∙◌, subst, arith}
 use Rattle.std.proofs.Common.{Result, Ok, Err, IfErr, IsErrAnd}
 use Rattle.fv_base.specs.Faults.{out_of_memory}
 use Rattle.fv_base.specs.declared.fault.Fault.{Fault}
@@ -7,12 +7,12 @@ use Rattle.fv_head.specs.Head.{HeadFields}
 use Rattle.fv_section.specs.Frames.{FrameForm}
 use Rattle.fv_tree.specs.Denotes.{IsMeaning, IsReadFile, IsReadSection, MeansFile, MeansSection, Stream}
 use Rattle.fv_tree.specs.Files.{FileForm}
-use Rattle.fv_tree.specs.Meaning.{Meaning, Volume, FileMeanings, files_from, FileMeaning}
+use Rattle.fv_tree.specs.Meaning.{Meaning, Volume, head_of, FileMeanings, files_from, FileMeaning}
 use Rattle.fv_tree.specs.Meaning.{SectionMeanings, SectionMeaning, sections_from, body_of, Group, Nested}
 use Rattle.fv_canon.specs.inner.DataBodies.{data_body}
 use Rattle.fv_canon.specs.inner.Depths.{NestsVolume, NestsFiles, NestsSections, NestsBody}
-use Rattle.fv_canon.specs.Layouts.{AreStarts, Laid, FirstUnfit}
-use Rattle.fv_canon.specs.Volumes.{volumes_in_files, volumes_in_file, volumes_in_sections, volumes_in_section}
+use Rattle.fv_canon.specs.Layouts.{AreStarts, Laid, FirstUnfit, Unfit}
+use Rattle.fv_canon.specs.Volumes.{volumes_in, volumes_in_files, volumes_in_file, volumes_in_sections, volumes_in_section}
 use Rattle.fv_canon.specs.Volumes.{volumes_in_body}
 use Rattle.fv_canon.proofs.DataBodyLaws.{data_nests, data_volumes}
 use Rattle.fv_canon.proofs.DepthLaws.{nests_files, nests_body, nests_group, nests_nested}
@@ -76,6 +76,26 @@ shallow_file_at fs i m depth l is (k, fits, h) = (
   where
     one : (x : FileMeaning) → (f : FileForm) × MeansFile (Stream k) f x → NestsBody (data_body x) (suc k)
     one x (f, means) = data_nests x k f means
+
+-- ---- a volume
+
+-- its own files, and then those of the volumes in them
+pub volume_grew : (m : Meaning) (fs : List FileMeaning) (old own between new : List ℕ) → m ≡ Volume (head_of m) (files_from fs)
+    → AreStarts m own → between ≡ old ++ own → Grew (volumes_in_files (files_from fs)) between new → Grew (volumes_in m) old new
+volume_grew m fs old own between new is placed joined (laid, text, lays) =
+    subst (λ (x : Meaning). Grew (volumes_in x) old new) (sym is) (
+      own ++ laid,
+      text ∙ ap (λ (xs : List ℕ). xs ++ laid) joined ∙ append_assoc old own laid,
+      (own, laid, refl, subst (λ (x : Meaning). AreStarts x own) is placed, lays),
+    )
+
+-- a volume in its files is the first that is not laid out
+pub volume_unfit : (m : Meaning) (fs : List FileMeaning) (own : List ℕ) (depth : ℕ) (f : Fault) → m ≡ Volume (head_of m) (files_from fs)
+    → AreStarts m own → (f ≡ out_of_memory) ⊎ FirstUnfit (volumes_in_files (files_from fs)) depth f
+    → (f ≡ out_of_memory) ⊎ Unfit m depth f
+volume_unfit m fs own depth f is placed (inl memory) = inl memory
+volume_unfit m fs own depth f is placed (inr unfit) =
+    inr (subst (λ (x : Meaning). Unfit x depth f) (sym is) (inr ((own, subst (λ (x : Meaning). AreStarts x own) is placed), unfit)))
 
 -- ---- how deep it is
 

@@ -149,3 +149,21 @@ front_end takes laws (x ∷ xs) i s t u gap starts rest tail l some f p =
     sym (append-nil f.front) ∙ ap (λ (ys : List ℕ). f.front ++ ys) (sym ended) ∙ f.whole_is in
     subst (λ (ys : List ℕ). takes s ys u) (ap (λ (ys : List ℕ). ys ++ replicate tail 0) whole
     ∙ stream_whole x (sections_from xs) starts tail) (laws.joined s t u f.front (replicate tail 0) f.taken p)
+
+-- where there is no section, nothing is put
+pub front_none : {S : Type 0} (takes : S → List ℕ → S → Type 0) (ss : List SectionMeaning) (i : ℕ) (s t : S) (gap : ℕ)
+    (starts rest : List ℕ) (tail : ℕ) → length ss ≡ 0
+    → TakesFront takes s t (sections_bytes 0 (sections_from ss) starts) (sections_bytes gap (sections_from (drop i ss)) rest)
+    → takes s (stream_of (frames_of 0 (sections_from ss) starts) tail) t
+front_none takes [] i s t gap starts rest tail none f =
+    let ended : sections_bytes gap (sections_from (drop i [])) rest ≡ [] =
+    ap (λ (ys : List SectionMeaning). sections_bytes gap (sections_from ys) rest) (drop_all i [] (omega arith)) in
+    let front : f.front ≡ [] = sym (append-nil f.front) ∙ ap (λ (ys : List ℕ). f.front ++ ys) (sym ended) ∙ f.whole_is in
+    subst (λ (ys : List ℕ). takes s ys t) front f.taken
+front_none takes (x ∷ xs) i s t gap starts rest tail none f = absurd (omega (arith, none))
+
+-- after the last section are the starts after theirs
+pub walk_ended : (ss : List SectionMeaning) (i : ℕ) (rest last : List ℕ) → length ss ≤ i
+    → ComesTo (volumes_in_sections (sections_from (drop i ss))) rest last → rest ≡ last
+walk_ended ss i rest last past walk =
+    sym (ap (λ (ys : List SectionMeaning). drop (starts_in (volumes_in_sections (sections_from ys))) rest) (drop_all i ss past)) ∙ walk.left

@@ -9,6 +9,7 @@ use Rattle.std.proofs.lemmas.Bool.{cases_lt}
 use Rattle.std.proofs.Math.Nat.{mod_self, mod-eq-sub-mod}
 use Rattle.fv_canon.specs.declared.first_placement.LayoutItem.{LayoutItem}
 use Rattle.fv_canon.specs.declared.reach.Reach.{Reach}
+use Rattle.fv_canon.specs.Starts.{Lawful}
 use Rattle.fv_canon.specs.inner.Reaches.{IsUsable, Serves, Widens}
 use Rattle.fv_canon.proofs.MultipleLaws.{multiples_apart, eighth_sum, eighth_difference}
 use Rattle.fv_canon.proofs.ReachLaws.{usable_most}
@@ -60,6 +61,16 @@ before_missed total f r a s t w h m not v l = elim (cases_lt t s) [
 
 -- ---- 2. up
 
+-- d is the least place of the data at which there is room for a pad after the edge e. Where the file cannot begin at
+-- the edge, what is lawful and serves is not before.
+pub from_pad : (total e : ℕ) (f : LayoutItem) (r : Reach) (a d t : ℕ) → Widens a f.alignment → f.header % 8 ≡ 0
+    → ((y : ℕ) → y % a ≡ 0 → e + 24 + f.header ≤ y → d ≤ y) → (Serves total f r e → ⊥) → Lawful e f t → Serves total f r t
+    → d - f.header ≤ t
+from_pad total e f r a d t w h least not l v = elim l.apart [
+  | inl is ↦ absurd (not (subst (λ n. Serves total f r n) is v))
+  | inr far ↦ let most : d ≤ t + f.header = least (t + f.header) (data_at total f r a t w h v) (omega arith) in omega arith
+]
+
 pub multiple_next : (s h a : ℕ) → (s + h) % a ≡ 0 → ((s + a) + h) % a ≡ 0
 multiple_next s h a p = mod-eq-sub-mod (reached s h a) ∙ (ap (λ n. n % a) (turned s h a) ∙ p)
   where
@@ -86,18 +97,23 @@ data_back d h a l p = ap (λ n. n % a) (back d h l) ∙ p
     back : (d h : ℕ) → h ≤ d → (d - h) + h ≡ d
     back d h l = omega arith
 
--- d is the greatest multiple of the step at which the file ends at most at the greatest usable edge. Where the start with
--- its data there does not serve, what serves is a step before it.
+-- d is the greatest multiple of the step at which the file ends at most at the greatest usable edge: no file that serves
+-- has its data above it
+pub data_most : (total : ℕ) (f : LayoutItem) (r : Reach) (a d t : ℕ) → Widens a f.alignment → f.header % 8 ≡ 0
+    → ((y : ℕ) → y % a ≡ 0 → y ≤ r.greatest - up_to_8 f.size + f.header → y ≤ d) → Serves total f r t → t + f.header ≤ d
+data_most total f r a d t w h most v =
+    most (t + f.header) (data_at total f r a t w h v) (ends f.size f.header v.eighth (usable_most r (up_to_8 (t + f.size)) v.edge))
+  where
+    ends : (n k : ℕ) → t % 8 ≡ 0 → up_to_8 (t + n) ≤ r.greatest → t + k ≤ r.greatest - up_to_8 n + k
+    ends n k p q = omega arith
+
+-- where the start with its data there does not serve, what serves is a step before it
 pub below_missed : (total : ℕ) (f : LayoutItem) (r : Reach) (a d t : ℕ) → Widens a f.alignment → f.header % 8 ≡ 0 → d % a ≡ 0
     → f.header ≤ d → ((y : ℕ) → y % a ≡ 0 → y ≤ r.greatest - up_to_8 f.size + f.header → y ≤ d)
     → (Serves total f r (d - f.header) → ⊥) → Serves total f r t → t + a ≤ d - f.header
 below_missed total f r a d t w h m l most not v =
-    let most_data : t + f.header ≤ d =
-    most (t + f.header) (data_at total f r a t w h v) (ends f.size f.header v.eighth (usable_most r (up_to_8 (t + f.size)) v.edge)) in
+    let most_data : t + f.header ≤ d = data_most total f r a d t w h most v in
     before_missed total f r a (d - f.header) t w h (data_back d f.header a l m) not v (omega (arith, most_data))
-  where
-    ends : (n k : ℕ) → t % 8 ≡ 0 → up_to_8 (t + n) ≤ r.greatest → t + k ≤ r.greatest - up_to_8 n + k
-    ends n k p q = omega arith
 
 -- s is the greatest lawful start with which the file ends at most at the greatest usable edge. Where it does not serve,
 -- it leaves that edge 8 or 16 away; so the step is not 8, and the start before it is at least 24 away.

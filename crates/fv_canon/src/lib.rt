@@ -21,8 +21,6 @@ mod reach;
 mod side;
 mod start_walk;
 mod summing_sink;
-#[cfg(test)]
-mod tests;
 mod usable_start;
 
 pub use canonical_image::{canonical, put_canonical, write_canonical};

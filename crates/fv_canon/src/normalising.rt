@@ -99,8 +99,25 @@ pub fn write_normalised<W: Write>(
     ensures erred { IfErr result (λ f. f.kind ≡ FaultKind.WriteFault → has_erred writer.new ≡ true) }
 {
     let view = whole_volume(alloc, input)?;
-    let places = layout(alloc, &view)?;
-    write_canonical(&view, &places, writer)
+    write_laid_out(alloc, &view, writer)
+}
+
+// Lays out a volume, and writes its canonical image. Nothing is written before it is laid out.
+fn write_laid_out<W: Write>(
+    alloc: Global,
+    view: &VolumeView<'_>,
+    writer: &mut Port<W>,
+) -> Result<(), Fault>
+    ensures ok { (input : List ℕ) → Accepted input view.now → OnOk result
+        (InputWrites input (W.contents (inner_of writer.old)) (W.contents (inner_of writer.new))) }
+    ensures err { (input : List ℕ) → Accepted input view.now → IfErr result
+        (InputStops input (W.contents (inner_of writer.old)) (W.contents (inner_of writer.new))) }
+    ensures read { IfErr result (λ f. f.kind ≢ FaultKind.ReadFault) }
+    ensures fine { OnOk result (has_erred writer.new ≡ has_erred writer.old) }
+    ensures erred { IfErr result (λ f. f.kind ≡ FaultKind.WriteFault → has_erred writer.new ≡ true) }
+{
+    let places = layout(alloc, view)?;
+    write_canonical(view, &places, writer)
 }
 
 /// Reads an input to its end, and then writes the canonical image of the volume that it is. The

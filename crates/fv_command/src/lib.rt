@@ -26,8 +26,6 @@ mod status;
 mod style;
 mod sums;
 mod task_run;
-#[cfg(test)]
-mod tests;
 
 pub use fault_text::{refuse, say};
 pub use output::Output;

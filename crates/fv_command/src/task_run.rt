@@ -28,8 +28,10 @@ use std::io::{Read, Write};
 fn done(wrote: Result<(), Fault>) -> Result<Status, Fault>
     ensures { result ≡ done_if wrote }
 {
-    wrote?;
-    Ok(Status::Done)
+    match wrote {
+        Ok(()) => Ok(Status::Done),
+        Err(fault) => Err(fault),
+    }
 }
 
 // The volume at the start of the input.

@@ -8,8 +8,6 @@ mod op;
 mod op_stage;
 mod opcode;
 mod read;
-#[cfg(test)]
-mod tests;
 mod truth;
 mod write;
 

@@ -1,7 +1,7 @@
 -- The bytes begin with a file exactly where one is read. The verdict on them is that of their checks: where all hold, the header at their
 -- start is that of a file, and where a file begins them, all hold.
 use Rattle.std.proofs.Common.{◌≡◌, ℕ, List, ◌∷◌, ◌++◌, length, take, drop, inl, inr, refl, sym, ap, ◌∙◌, subst, Bool, true, false}
-use Rattle.std.specs.Prelude.{◌==◌, ◌⊎◌, nat_lt, slice_index, Option, None, Some, Result, Ok, Err, IfOk, IfErr, if◌then◌else◌}
+use Rattle.std.specs.Prelude.{◌==◌, ◌⊎◌, nat_le, nat_lt, slice_index, Option, None, Some, Result, Ok, Err, IfOk, IfErr, if◌then◌else◌}
 use Rattle.std.proofs.lemmas.Bool.{leb-true, le-leb, ltb-true, ltb-false, eqb-true}
 use Rattle.std.proofs.lemmas.List.{take-append-drop}
 use Rattle.fv_base.specs.inner.Verdicts.{first_fault, verdict_by}
@@ -18,7 +18,7 @@ use Rattle.fv_file.specs.States.{state_of, is_alive}
 use Rattle.fv_file.specs.declared.head.FileHead.{FileHead}
 use Rattle.fv_file.specs.declared.state.FileState.{FileState}
 use Rattle.fv_file.specs.declared.state.FileState.TheVariants as states
-use Rattle.fv_base.proofs.Laws.{all_hold, first_is, none_faulty, not_at_most, verdict_err, verdict_none, verdict_ok}
+use Rattle.fv_base.proofs.Laws.{all_hold, first_is, none_faulty, not_at_most, not_less, verdict_err, verdict_none, verdict_ok}
 use Rattle.fv_file.proofs.FileLemmas.{FileAt, file_at, file_reads}
 use Rattle.fv_file.proofs.StateLemmas.{state_read, state_shown}
 
@@ -48,6 +48,11 @@ verify_is s p b = go (nat_lt (length b) 24) refl where
       → verify_verdict s p b ≡ verdict_by (first_fault (verify_checks s p b)) (head_of (state_of p (slice_index b 23)) b)
   go true l = rw (l, not_at_most 24 (length b) (ltb-true (length b) 24 l)) refl
   go false l = rw (l, le-leb 24 (length b) (ltb-false (length b) 24 l)) (standing_is s (state_of p (slice_index b 23)) b)
+
+-- that of bytes that show the state of a valid file
+pub alive_read : (s : FileSystem) (p : Polarity) (b : List ℕ) (st : FileState) → nat_le 24 (length b) ≡ true
+    → state_of p (slice_index b 23) ≡ Some st → is_alive st ≡ true → verify_verdict s p b ≡ file_verdict s st 0 b
+alive_read s p b st long is alive = rw (not_less (length b) 24 (leb-true 24 (length b) long), is, alive) refl
 
 -- ---- from the checks to the file and back
 

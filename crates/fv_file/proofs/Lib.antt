@@ -8,6 +8,7 @@ pub mod CellReadLemmas
 pub mod ErasedLemmas
 pub mod FileLaws
 pub mod FileLemmas
+pub mod FileVerdictLemmas
 pub mod FirstFileLemmas
 pub mod Laws
 pub mod NewHeaderLaws

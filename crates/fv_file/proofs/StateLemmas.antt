@@ -9,7 +9,7 @@ use Rattle.fv_file.specs.States.{IsHighest, StateOf, bits_of, state_in, state_of
 use Rattle.fv_file.specs.declared.state.FileState.{FileState}
 use Rattle.fv_file.specs.declared.state.FileState.TheVariants as states
 
-highest_read : (s : FileState) (n : ℕ) → IsHighest s n → state_in n ≡ Some s
+pub highest_read : (s : FileState) (n : ℕ) → IsHighest s n → state_in n ≡ Some s
 highest_read states.Free n h = rw h refl
 highest_read states.Construction n h = rw h refl
 highest_read states.HeaderValid n h = grind (arith, nat_tests, h.0, h.1)
@@ -18,7 +18,7 @@ highest_read states.Marked n h = grind (arith, nat_tests, h.0, h.1)
 highest_read states.Deleted n h = grind (arith, nat_tests, h.0, h.1)
 highest_read states.HeaderInvalid n h = grind (arith, nat_tests, h.0, h.1)
 
-none_read : (n : ℕ) → 64 ≤ n → state_in n ≡ None
+pub none_read : (n : ℕ) → 64 ≤ n → state_in n ≡ None
 none_read n h = grind (arith, nat_tests, h)
 
 -- the state of a number below 64

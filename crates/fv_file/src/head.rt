@@ -3,8 +3,9 @@
 ghost use Rattle.std.specs.Prelude.{◌≡◌, ◌==◌, ◌+◌, ◌≤◌, ◌<◌, ◌^◌, ◌&&◌, ◌||◌, not, nat_le, length, IfOk, IfErr};
 ghost use Rattle.fv_base.specs.Value.{le_at};
 ghost use Rattle.fv_file.specs.Attributes.{attribute_bits, is_large};
-ghost use Rattle.fv_file.specs.FileChecks.{file_header_len_at, file_size_at};
-ghost use Rattle.fv_file.specs.Files.{head_in, header_sum_of, attributes_at, file_header_len, file_sum_right};
+ghost use Rattle.fv_file.specs.FileChecks.{file_header_len_at, file_size_at, has_header_sum, may_be_large};
+ghost use Rattle.fv_file.specs.Files.{head_in, header_sum_of, attributes_at, file_header_len, file_sum_right, pad_kind};
+ghost use Rattle.fv_file.specs.States.{is_alive};
 ghost use Rattle.fv_file.specs.inner.CellVerdicts.{file_verdict};
 
 use crate::attributes::FileAttributes;
@@ -108,6 +109,14 @@ fn head_in(rest: &[u8], state: FileState) -> FileHead
     }
 }
 
+// Whether the header is short, or the file system has large ones.
+fn may_be_large(rest: &[u8], system: FileSystem) -> bool
+    requires { 24 ≤ length rest.now }
+    ensures { result ≡ may_be_large system rest.now }
+{
+    !attributes_at(rest).is_large() || system == FileSystem::Ffs3
+}
+
 // The sum of a header, with the file sum and State taken as zero.
 fn header_sum(header: &[u8]) -> u8
     requires { 24 ≤ length header.now }
@@ -117,6 +126,15 @@ fn header_sum(header: &[u8]) -> u8
     sum8(&header[..FILE_SUM_OFFSET])
         .wrapping_add(sum8(between))
         .wrapping_add(sum8(bytes_from(header, HEADER_LEN)))
+}
+
+// Whether the header sums to zero.
+fn has_header_sum(rest: &[u8]) -> bool
+    requires least { 24 ≤ length rest.now }
+    requires header { file_header_len_at rest.now ≤ length rest.now }
+    ensures { result ≡ has_header_sum rest.now }
+{
+    header_sum(&rest[..header_len_at(rest)]) == 0
 }
 
 // Whether the size is neither below the header's length nor past the end, and `Size` of a large
@@ -142,8 +160,14 @@ fn has_file_sum(head: &FileHead, payload: &[u8]) -> bool
     }
 }
 
-// The header of a file at the offset `at`, or the first fault of its checks. The data of a pad, and
-// of a file that is not valid, are not checked.
+// Whether the data are checked: those of a pad, and of a file that is not valid, are not.
+fn checks_data(head: &FileHead) -> bool
+    ensures { result ≡ (is_alive head.now.state && not (head.now.kind == pad_kind)) }
+{
+    head.state.is_alive() && head.kind != FFS_PAD
+}
+
+// The header of a file at the offset `at`, or the first fault of its checks.
 #[tactic(auto, unfolding(crate::specs::inner::CellVerdicts::file_verdict))]
 pub(crate) fn file_at(
     rest: &[u8],
@@ -162,14 +186,12 @@ pub(crate) fn file_at(
     let size = at + SIZE_OFFSET as u64;
     let file_sum = at + FILE_SUM_OFFSET as u64;
     let header_len = header_len_at(rest);
-    let may_be_large = !attributes_at(rest).is_large() || system == FileSystem::Ffs3;
-    check(may_be_large, FaultKind::LargeFile, attributes)?;
+    check(may_be_large(rest, system), FaultKind::LargeFile, attributes)?;
     check(header_len <= rest.len(), FaultKind::FileSize, size)?;
     let head = head_in(rest, state);
-    let header = &rest[..header_len];
-    check(header_sum(header) == 0, FaultKind::FileHeaderSum, at)?;
+    check(has_header_sum(rest), FaultKind::FileHeaderSum, at)?;
     check(has_file_size(&head, rest), FaultKind::FileSize, size)?;
-    if state.is_alive() && head.kind != FFS_PAD {
+    if checks_data(&head) {
         let payload = &rest[header_len..head.size as usize];
         check(!head.attributes.is_fixed(), FaultKind::Fixed, attributes)?;
         check(has_file_sum(&head, payload), FaultKind::FileSum, file_sum)?;

@@ -12,8 +12,6 @@ pub mod layout;
 mod leading;
 mod new_header;
 mod state;
-#[cfg(test)]
-mod tests;
 
 pub use attributes::FileAttributes;
 pub use cell::Cell;

@@ -1,31 +1,24 @@
 -- An extended header is spelled as it is read.
-use Rattle.std.proofs.Common.{◌≡◌, ◌≤◌, ◌<◌, ℕ, ◌+◌, ◌*◌, ◌/◌, ◌%◌, List, [], ◌∷◌, ◌++◌, length, drop, refl, sym, ap, ◌∙◌, subst, arith}
+use Rattle.std.proofs.lemmas.Grind.{common_steps}
+use Rattle.std.proofs.Common.{◌≡◌, ◌≤◌, ◌<◌, ℕ, ◌+◌, List, [], ◌∷◌, ◌++◌, length, drop, refl, sym, ap, ◌∙◌, subst, arith}
 use Rattle.std.proofs.Common.{Bool, true, false, get_or, length-append, append_assoc, append-nil}
-use Rattle.std.specs.Prelude.{◌==◌, ◌&&◌, if◌then◌else◌}
 use Rattle.std.proofs.lemmas.List.{drop_at, drop_more, drop_all}
 use Rattle.std.proofs.lemmas.Bool.{eqb-true}
 use Rattle.fv_base.specs.Guids.{bytes_of}
 use Rattle.fv_base.specs.Limits.{ext_limit}
 use Rattle.fv_base.specs.Value.{IsBytes, le, le_bytes, le_at}
 use Rattle.fv_base.proofs.Laws.{bytes_drop, le-le_bytes, two_bytes}
-use Rattle.fv_head.specs.Ext.{Extension, kept_payload, zero_used_size, is_used_size, BeginNoEntry, SplitsEntries, IsExt, IsReadExt}
+use Rattle.fv_head.specs.Ext.{Extension, kept_payload, is_used_size, BeginNoEntry, SplitsEntries, IsExt, IsReadExt}
 use Rattle.fv_head.specs.ExtImage.{payload_with, entry_bytes, entries_bytes, entries_len, ext_len, ext_spelled}
 use Rattle.fv_head.proofs.ExtLemmas.{begins, length-ext}
 
 -- a number of four bytes
 four_bytes : (n : ℕ) → n < 65536 → le (le_bytes 4 n) ≡ n
-four_bytes n small = four n small where
-  four : (n : ℕ) → n < 65536
-      → n % 256 + 256 * (n / 256 % 256 + 256 * (n / 256 / 256 % 256 + 256 * (n / 256 / 256 / 256 % 256 + 256 * 0))) ≡ n
-  four n small = omega arith
+four_bytes n small = grind (arith, common_steps)
 
 -- what is kept of a payload has its length
 length-held : (kind : ℕ) (payload : List ℕ) → length (kept_payload kind payload) ≡ length payload
-length-held kind payload = go (kind == 3) (length payload == 4) refl where
-  go : (p q : Bool) → (length payload == 4) ≡ q → length (if p && q then zero_used_size else payload) ≡ length payload
-  go true true is = sym (eqb-true (length payload) 4 is)
-  go true false is = refl
-  go false q is = refl
+length-held kind payload = grind (arith, common_steps, eqb-true)
 
 -- entries have so many bytes before their tail
 pub length-entries : (es : List (ℕ × List ℕ)) (tail b : List ℕ) → SplitsEntries es tail b → entries_len es + length tail ≡ length b
@@ -37,27 +30,12 @@ length-entries (e ∷ es) tail b (head, payload, rest, text, four, size, kind, k
 
 -- a payload with a used size has the length of what is kept
 length-payload_with : (used : ℕ) (e : ℕ × List ℕ) → length (payload_with used e) ≡ length e.1
-length-payload_with used e = go (e.0 == 3) (length e.1 == 4) refl where
-  go : (p q : Bool) → (length e.1 == 4) ≡ q → length (if p && q then le_bytes 4 used else e.1) ≡ length e.1
-  go true true is = sym (eqb-true (length e.1) 4 is)
-  go true false is = refl
-  go false q is = refl
+length-payload_with used e = grind (arith, common_steps, eqb-true)
 
 -- and the same is kept of it
 held-payload_with : (used : ℕ) (e : ℕ × List ℕ) (payload : List ℕ) → e.1 ≡ kept_payload e.0 payload
     → e.1 ≡ kept_payload e.0 (payload_with used e)
-held-payload_with used e payload kept = go (e.0 == 3) (length e.1 == 4) (length payload == 4) refl refl kept where
-  same : (length e.1 == 4) ≡ (length payload == 4)
-  same = ap (λ (n : ℕ). n == 4) (ap length kept ∙ length-held e.0 payload)
-
-  go : (p q r : Bool) → (length e.1 == 4) ≡ q → (length payload == 4) ≡ r → e.1 ≡ (if p && r then zero_used_size else payload)
-      → e.1
-      ≡ (if p && (length (if p && q then le_bytes 4 used else e.1) == 4) then zero_used_size else (if p && q then le_bytes 4 used else e.1))
-  go true true true one two kept = kept
-  go true true false one two kept = let never : true ≡ false = sym one ∙ same ∙ two in cc
-  go true false true one two kept = let never : false ≡ true = sym one ∙ same ∙ two in cc
-  go true false false one two kept = rw one refl
-  go false q r one two kept = refl
+held-payload_with used e payload kept = grind (arith, common_steps, length-held)
 
 -- the entries as they are spelled are these entries
 pub entries_again : (es : List (ℕ × List ℕ)) (tail b : List ℕ) (used : ℕ) → IsBytes b → length b ≤ ext_limit → SplitsEntries es tail b
@@ -133,25 +111,11 @@ ext_again x used (b, small, is) =
 -- the payload that is put
 pub used_put : (used : ℕ) (e : ℕ × List ℕ) (kind : ℕ) (payload : List ℕ) (t : Bool) → t ≡ is_used_size kind payload → kind ≡ e.0
     → payload ≡ e.1 → t ≡ true → le_bytes 4 used ≡ payload_with used e
-used_put used e kind payload t test kinds payloads on =
-    let here : is_used_size e.0 e.1 ≡ true =
-    ap (λ (k : ℕ). is_used_size k e.1) (sym kinds) ∙ ap (is_used_size kind) (sym payloads) ∙ sym test ∙ on in
-    go (is_used_size e.0 e.1) here
-  where
-    go : (q : Bool) → q ≡ true → le_bytes 4 used ≡ (if q then le_bytes 4 used else e.1)
-    go true is = refl
-    go false is = cc
+used_put used e kind payload t test kinds payloads on = grind (arith, common_steps)
 
 pub payload_put : (used : ℕ) (e : ℕ × List ℕ) (kind : ℕ) (payload : List ℕ) (t : Bool) → t ≡ is_used_size kind payload → kind ≡ e.0
     → payload ≡ e.1 → t ≡ false → payload ≡ payload_with used e
-payload_put used e kind payload t test kinds payloads off =
-    let here : is_used_size e.0 e.1 ≡ false =
-    ap (λ (k : ℕ). is_used_size k e.1) (sym kinds) ∙ ap (is_used_size kind) (sym payloads) ∙ sym test ∙ off in
-    payloads ∙ go (is_used_size e.0 e.1) here
-  where
-    go : (q : Bool) → q ≡ false → e.1 ≡ (if q then le_bytes 4 used else e.1)
-    go true is = cc
-    go false is = refl
+payload_put used e kind payload t test kinds payloads off = grind (arith, common_steps)
 
 -- one entry more
 pub entries_len_step : (es : List (ℕ × List ℕ)) (i : ℕ) (e : ℕ × List ℕ) → i < length es → e ≡ get_or es i e

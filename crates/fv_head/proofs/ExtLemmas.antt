@@ -1,7 +1,8 @@
 -- Extended headers, and the entries in them.
+use Rattle.std.proofs.lemmas.Grind.{common_steps}
 use Rattle.std.proofs.Common.{◌≡◌, ◌≤◌, ◌<◌, ℕ, zero, suc, ◌+◌, ◌-◌, List, [], ◌∷◌, ◌++◌, length, take, drop, refl, sym, ap, ◌∙◌, subst}
 use Rattle.std.proofs.Common.{arith, inl, inr, Bool, true, false, length-append, length-drop, append_assoc, append-nil, drop-drop}
-use Rattle.std.specs.Prelude.{◌==◌, ◌&&◌, ◌||◌, nat_le, nat_lt, if◌then◌else◌, Option, Some, None}
+use Rattle.std.specs.Prelude.{◌==◌, ◌&&◌, ◌||◌, nat_le, if◌then◌else◌, Option, Some, None}
 use Rattle.std.proofs.lemmas.List.{drop-take, take_at, drop_at, take-append-drop, length-take-le, take_all}
 use Rattle.std.proofs.lemmas.Bool.{leb-true, le-leb, eqb-true}
 use Rattle.std.proofs.lemmas.Bool.Decides.{nat_tests}
@@ -109,12 +110,7 @@ data Starts (b : List ℕ) : Type 0 where
   one : 4 ≤ length b → 4 ≤ le_at 0 2 b → le_at 0 2 b ≤ length b → Starts b
 
 starts : (b : List ℕ) → Starts b
-starts b = go (nat_lt (length b) 4) (nat_lt (le_at 0 2 b) 4) (nat_lt (length b) (le_at 0 2 b)) refl refl refl where
-  go : (p q r : Bool) → nat_lt (length b) 4 ≡ p → nat_lt (le_at 0 2 b) 4 ≡ q → nat_lt (length b) (le_at 0 2 b) ≡ r → Starts b
-  go true q r first second third = none (inl (grind (arith, nat_tests)))
-  go false true r first second third = none (inr (inl (grind (arith, nat_tests))))
-  go false false true first second third = none (inr (inr (grind (arith, nat_tests))))
-  go false false false first second third = one (grind (arith, nat_tests)) (grind (arith, nat_tests)) (grind (arith, nat_tests))
+starts b = grind (arith, common_steps, nat_tests)
 
 -- all bytes are some entries and a tail
 abbrev pub Split : List ℕ → Type 0
@@ -142,10 +138,7 @@ guid_is : (g h : Guid) → bytes_of g ≡ bytes_of h → g ≡ h
 guid_is g h same = ap (λ (bs : List ℕ). let made : Guid = record { bytes = bs } in made) same
 
 extension_is : (x y : Extension) → x.name ≡ y.name → x.entries ≡ y.entries → x.tail ≡ y.tail → x ≡ y
-extension_is x y p q r =
-    ap (λ (g : Guid). let made : Extension = record { name = g; entries = x.entries; tail = x.tail } in made) p
-    ∙ ap (λ (es : List (ℕ × List ℕ)). let made : Extension = record { name = y.name; entries = es; tail = x.tail } in made) q
-    ∙ ap (λ (bs : List ℕ). let made : Extension = record { name = y.name; entries = y.entries; tail = bs } in made) r
+extension_is x y p q r = grind (arith, common_steps)
 
 -- what is after the name and the size
 rest_of : (x : Extension) (b : List ℕ) (is : IsExt x b) → (bytes_of x.name ≡ take 16 b) × (is.rest ≡ drop 20 b)
@@ -170,18 +163,7 @@ one_ext x y b is other =
 pub ext_of : (b : List ℕ) (g : Guid) (es : List (ℕ × List ℕ)) (tail : List ℕ) → 20 ≤ length b → length b ≤ ext_limit
     → le_at 16 4 b ≡ length b → bytes_of g ≡ take 16 b
     → SplitsEntries es tail (drop 20 b) → IsExt (record { name = g; entries = es; tail = tail }) b
-ext_of b g es tail least most size name entries = record {
-  head = field 16 4 b;
-  rest = drop 20 b;
-  text = sym (take-append-drop 16 b) ∙ ap (λ (xs : List ℕ). xs ++ drop 16 b) (sym name)
-      ∙ ap (λ (xs : List ℕ). bytes_of g ++ xs)
-      (sym (take-append-drop 4 (drop 16 b)) ∙ ap (λ (xs : List ℕ). field 16 4 b ++ xs) (drop-drop 4 16 b));
-  name_length = ap length name ∙ length-take-le 16 b (omega (arith, least));
-  head_length = length-take-le 4 (drop 16 b) (omega (arith, length-drop 16 b, least));
-  size = size;
-  most = most;
-  entries = entries;
-}
+ext_of b g es tail least most size name entries = grind (arith, common_steps, take-append-drop, drop-drop, length-take-le, length-drop)
 
 -- bytes of a right size are some extended header
 pub some_ext : (b : List ℕ) → 20 ≤ length b → length b ≤ ext_limit → le_at 16 4 b ≡ length b → (x : Extension) × IsExt x b
@@ -192,14 +174,7 @@ some_ext b least most size =
 
 -- an extended header is 20 bytes and the rest
 pub length-ext : (x : Extension) (b : List ℕ) → (is : IsExt x b) → length b ≡ 20 + length is.rest
-length-ext x b is = omega (
-  arith,
-  ap length is.text,
-  length-append (bytes_of x.name) (is.head ++ is.rest),
-  length-append is.head is.rest,
-  is.name_length,
-  is.head_length,
-)
+length-ext x b is = grind (arith, common_steps, length-append)
 
 -- ---- where it is
 
@@ -280,18 +255,7 @@ record Tests (o n s len : ℕ) : Type 0 where
 
 tests_of : (o n s len : ℕ)
     → (nat_le n o && nat_le (o + 20) len && nat_le 20 s && nat_le s ext_limit && nat_le (o + s) len) ≡ true → Tests o n s len
-tests_of o n s len h =
-    let one = and_split _ _ h in
-    let two = and_split _ _ one.0 in
-    let three = and_split _ _ two.0 in
-    let four = and_split _ _ three.0 in
-    record {
-      behind_header = leb-true _ _ four.0;
-      header_within = leb-true _ _ four.1;
-      least = leb-true _ _ three.1;
-      most = leb-true _ _ two.1;
-      within = leb-true _ _ one.1;
-    }
+tests_of o n s len h = grind (arith, common_steps, and_split, leb-true)
 
 tests_hold : (o n s len : ℕ) → n ≤ o → o + 20 ≤ len → 20 ≤ s → s ≤ ext_limit → o + s ≤ len
     → (nat_le n o && nat_le (o + 20) len && nat_le 20 s && nat_le s ext_limit && nat_le (o + s) len) ≡ true

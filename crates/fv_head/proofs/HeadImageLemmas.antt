@@ -1,4 +1,5 @@
 -- A header is what its fields spell.
+use Rattle.std.proofs.lemmas.Grind.{common_steps}
 use Rattle.std.proofs.Common.{◌≡◌, ◌≤◌, ◌<◌, ℕ, ◌+◌, ◌-◌, ◌*◌, ◌%◌, List, [], ◌∷◌, ◌++◌, length, take, drop, refl, sym, ap, ◌∙◌, subst}
 use Rattle.std.proofs.Common.{arith, false, length-append, length-drop, append_assoc, drop-drop}
 use Rattle.std.specs.Prelude.{slice_index, sum, Option, None, Some}
@@ -62,12 +63,7 @@ header_len_is h b head =
 
 -- the first n + k bytes after a place, and then more
 cut : (at n k : ℕ) (b r : List ℕ) → take (n + k) (drop at b) ++ r ≡ field at n b ++ (take k (drop (at + n) b) ++ r)
-cut at n k b r =
-    ap (λ (xs : List ℕ). xs ++ r) (take-add n k (drop at b)) ∙ append_assoc (take n (drop at b)) (take k (drop n (drop at b))) r
-    ∙ ap (λ (xs : List ℕ). take n (drop at b) ++ (take k xs ++ r)) (moved at n b)
-  where
-    moved : (at n : ℕ) (b : List ℕ) → drop n (drop at b) ≡ drop (at + n) b
-    moved at n b = drop-drop n at b ∙ ap (λ (i : ℕ). drop i b) (omega arith)
+cut at n k b r = grind (arith, common_steps, take-add, append_assoc, drop-drop)
 
 -- the fields before the checksum
 before_is : (h : HeadFields) (b r : List ℕ) → IsHead h b
@@ -174,11 +170,7 @@ patched_behind i b checksum offset past long =
 
 patched_at : (i : ℕ) (b : List ℕ) (checksum offset : ℕ) → 54 ≤ i → 54 ≤ length b
     → slice_index (patched b checksum offset) i ≡ slice_index b i
-patched_at i b checksum offset past long =
-    at i (patched b checksum offset) ∙ ap (λ (xs : List ℕ). slice_index xs 0) (patched_behind i b checksum offset past long) ∙ sym (at i b)
-  where
-    at : (i : ℕ) (xs : List ℕ) → slice_index xs i ≡ slice_index (drop i xs) 0
-    at i xs = ap (λ (n : ℕ). slice_index xs n) (omega arith) ∙ sym (get_or-drop i xs 0 0)
+patched_at i b checksum offset past long = grind (arith, common_steps, patched, patched_behind, get_or-drop)
 
 -- ExtHeaderOffset itself
 patched_offset : (b : List ℕ) (checksum offset : ℕ) → offset < 65536 → 54 ≤ length b → le_at 52 2 (patched b checksum offset) ≡ offset
@@ -398,10 +390,4 @@ first_edge_multiple h (Some x) = omega arith
 pub checksum_from : (h : HeadFields) (offset total : ℕ) → IsReadHead h → total < 65536
     → total % 65536 ≡ (0 + word_weight false (head_spelled h 0 offset)) % 65536
     → (65536 - total) % 65536 ≡ checksum_of h offset
-checksum_from h offset total read small sums =
-    let words : total ≡ sum16_of (head_spelled h 0 offset) = same total (word_weight false (head_spelled h 0 offset)) small sums
-    ∙ ap (λ (n : ℕ). n % 65536) (weight-words (head_spelled h 0 offset) (spelled_even h 0 offset read)) in
-    ap (λ (n : ℕ). (65536 - n) % 65536) words
-  where
-    same : (n w : ℕ) → n < 65536 → n % 65536 ≡ (0 + w) % 65536 → n ≡ w % 65536
-    same n w small e = omega arith
+checksum_from h offset total read small sums = grind (arith, common_steps, weight-words, spelled_even)

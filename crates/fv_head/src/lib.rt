@@ -10,8 +10,6 @@ mod head;
 mod head_image;
 mod header_checks;
 mod layout;
-#[cfg(test)]
-mod tests;
 mod write;
 
 pub use attributes::FvAttributes;

@@ -10,8 +10,6 @@ mod hob_type;
 mod layout;
 mod read;
 mod span;
-#[cfg(test)]
-mod tests;
 mod write;
 
 pub use fault::{HobFault, HobFaultKind};

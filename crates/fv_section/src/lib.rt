@@ -7,8 +7,6 @@ mod frame_walk;
 pub mod layout;
 mod section_head;
 pub mod section_type;
-#[cfg(test)]
-mod tests;
 mod texts;
 
 pub use frame::{Frame, next_frame, section_header_len};

@@ -1,19 +1,19 @@
--- How the run of a plan does not end, and how a rejection of arguments is reported.
-use Rattle.std.proofs.Common.{◌≡◌, ◌∙◌, ℕ, List, ap, inl, inr, Bool, false, sym, subst}
+-- How the run of a plan does not end, and what it runs over.
+use Rattle.std.proofs.Common.{◌≡◌, ◌∙◌, ℕ, List, ap, Bool, false, subst}
 use Rattle.std.specs.Prelude.{Option}
 use Rattle.fv_base.specs.Port.{has_erred, inner_of}
 use Rattle.fv_base.specs.declared.port.Port.{Port}
-use Rattle.fv_text.specs.PortViews.{Change, Ports, Shown, Writes, seen, shown}
+use Rattle.fv_text.specs.PortViews.{Change, Ports, Shown, change, seen, shown}
 use Rattle.fv_command.specs.Runs.{Runs, RunsCommand}
+use Rattle.fv_command.specs.Sources.{IsFirstSource, IsSecondSource, unread}
+use Rattle.fv_plan.specs.Files.{first_file, second_file}
 use Rattle.fv_plan.specs.declared.plan.Command.{Command}
 use Rattle.fv_plan.specs.declared.plan.Command.TheVariants.{Single, Hobs, Compare}
 use Rattle.fv_plan.specs.declared.plan.Plan.{Plan}
+use Rattle.fv_command.specs.declared.source.Source.{Source}
 use Rattle.fv_command.specs.declared.status.Status.{Status}
-use Rattle.fv_command.specs.declared.status.Status.TheVariants.{Refused, WrongWords}
+use Rattle.fv_command.specs.declared.status.Status.TheVariants.{WrongWords}
 use Rattle.fv_tool.specs.Does.{RunsOver, fresh}
-use Rattle.fv_tool.specs.Refusals.{TellsRefusal, line_of}
-use Rattle.fv_arguments.specs.declared.words.WordFault.{WordFault}
-use Rattle.fv_arguments.specs.declared.words.WordFault.TheVariants.{Words, OutOfMemory}
 
 abbrev ports_of : (r s r' s' : Shown) → Change → Ports
 ports_of r s r' s' output =
@@ -31,22 +31,37 @@ never_wrong of_input of_file p status output (first, second, is_first, is_second
     let ports = ports_of (fresh of_input of_file first) s (fresh of_input of_file second) s' output in
     command_not_wrong p.command p.hex ports (subst (λ (x : Status). RunsCommand p.command p.hex x ports) is ran)
 
--- where arguments were rejected with the status of wrong words, that line was written
-pub wrong_said : (fault : WordFault) (status : Status) (output : Change) → TellsRefusal fault status output → status ≡ WrongWords
-    → Writes output.old output.new (line_of Words)
-wrong_said Words status output (inl said) is = said.1
-wrong_said Words status output (inr failed) is = let bad : Refused ≡ WrongWords = sym failed.0 ∙ is in cc
-wrong_said OutOfMemory status output (inl said) is = let bad : Refused ≡ WrongWords = sym said.0 ∙ is in cc
-wrong_said OutOfMemory status output (inr failed) is = let bad : Refused ≡ WrongWords = sym failed.0 ∙ is in cc
-
 -- what a new port shows
 pub shown_new : {T : Type 0} (told : T → Option (List ℕ)) (port : Port T) (inner : T) → inner_of port ≡ inner → has_erred port ≡ false
     → shown told port ≡ seen (told inner) false
 shown_new told port inner is fine = ap (λ e. seen (told (inner_of port)) e) fine ∙ ap (λ x. seen (told x) false) is
 
 -- a run over what is shown is one over the same
-pub runs_over : (p : Plan) (status : Status) (r a s r' b s' : Shown) (output : Change) → r ≡ a → r' ≡ b
+runs_over : (p : Plan) (status : Status) (r a s r' b s' : Shown) (output : Change) → r ≡ a → r' ≡ b
     → Runs p status (ports_of r s r' s' output) → Runs p status (ports_of a s b s' output)
 runs_over p status r a s r' b s' output e f ran =
     subst (λ (x : Shown). Runs p status (ports_of x s b s' output)) e
     (subst (λ (x : Shown). Runs p status (ports_of r s x s' output)) f ran)
+
+-- a run over new ports is one over the sources inside them
+pub runs_new : {S F : Type 0} (of_input : S → Option (List ℕ)) (of_file : F → Option (List ℕ)) (p : Plan) (status : Status)
+    (first second : Source S F) (r s r' s' : Port (Source S F)) (output : Change) → inner_of r ≡ first → has_erred r ≡ false
+    → inner_of r' ≡ second → has_erred r' ≡ false → IsFirstSource (first_file p.command) first
+    → IsSecondSource (second_file p.command) second
+    → Runs p status (record {
+      first = change (unread of_input of_file) r s;
+      second = change (unread of_input of_file) r' s';
+      output = output;
+    })
+    → RunsOver of_input of_file p status output
+runs_new of_input of_file p status first second r s r' s' output is fine is' fine' is_first is_second ran =
+    let told = unread of_input of_file in (
+      first,
+      second,
+      is_first,
+      is_second,
+      shown told s,
+      shown told s',
+      runs_over p status (shown told r) (seen (told first) false) (shown told s) (shown told r') (seen (told second) false) (shown told s')
+          output (shown_new told r first is fine) (shown_new told r' second is' fine') ran,
+    )

@@ -16,9 +16,6 @@ ghost use Rattle.std.specs.Process.{exit_status};
 ghost use Rattle.std.specs.String.{string_bytes};
 ghost use Rattle.std.specs.Vec.Iter.{into_iter_items};
 
-#[cfg(test)]
-mod tests;
-
 use fv_arguments::{WordFault, parse_words};
 use fv_base::{Fault, FaultKind, Port};
 use fv_command::{Output, Source, Status, close, open, refuse, run_plan, say};

@@ -1,5 +1,5 @@
 -- A stream is walked frame by frame, and its sections are read on the way.
-use Rattle.std.proofs.Common.{◌≡◌, ℕ, ◌+◌, ◌≤◌, List, [], ◌∷◌, ◌++◌, length, refl, sym, ap, ◌∙◌, subst, inr, append_assoc}
+use Rattle.std.proofs.Common.{◌≡◌, ℕ, ◌+◌, ◌≤◌, List, [], ◌∷◌, ◌++◌, length, refl, sym, ap, ◌∙◌, subst, inr, append_assoc, arith}
 use Rattle.std.proofs.lemmas.List.{append-nil}
 use Rattle.fv_base.specs.Limits.{volume_limit}
 use Rattle.fv_base.specs.Value.{IsBytes}
@@ -13,6 +13,10 @@ use Rattle.fv_tree.specs.FailingChecks.{First}
 use Rattle.fv_tree.specs.FirstFault.{InSection, InStream}
 use Rattle.fv_tree.specs.Meaning.{SectionMeaning}
 use Rattle.fv_tree.proofs.ListPairs.{pairs_push}
+
+-- the body of a stored frame is within the limit
+pub frame_small : (f : FrameForm) → IsStoredFrame f → length f.body ≤ volume_limit
+frame_small f (b, small, short, stands) = omega (arith, short, stands_within f b f.offset stands)
 
 module _ (n : ℕ) (b : List ℕ) (tail : ℕ) where
   -- these frames of the stream are left; those before them are read, as these sections

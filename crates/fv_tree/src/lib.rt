@@ -10,8 +10,6 @@ mod read;
 mod scanner;
 mod shape;
 mod stored_files;
-#[cfg(test)]
-mod tests;
 mod view;
 mod volume_files;
 

@@ -17,3 +17,6 @@ returns-clause-err g c =
     let put = c.put_canonical.ensures in
     let short : length put.0 < 2 ^ 64 = omega (arith, image_length m put.0 k put.1, length_limit m k) in
     IfErr-weaker c.outcome.result (WriteStops _ _ put.0) _ (λ f stops. (put.0, put.1, stops)) (search rules)
+
+pub returns-clause-fine : goal.returns-clause-fine
+returns-clause-fine g c = search rules

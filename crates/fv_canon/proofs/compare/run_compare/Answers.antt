@@ -1,8 +1,7 @@
 use Rattle.std.proofs.Common.{◌≡◌, ◌∙◌, sym}
-use Rattle.fv_canon.specs.declared.side.Side.{Side}
+use Rattle.std.proofs.lemmas.Result.{IfErr-weaker}
 use Rattle.fv_canon.specs.declared.side.Side.TheVariants as sides
-use Rattle.fv_canon.proofs.CompareLaws.{first_unread, first_refused, second_unread, second_refused, run_compares, run_stops}
-use Rattle.fv_canon.proofs.CompareLaws.{unread_kind, never_read}
+use Rattle.fv_canon.proofs.CompareLaws.{first_unread, first_refused, unread_kind}
 use Rattle.fv_canon.proofs.InputLaws.{fault_passed}
 use Rattle.fv_canon.proofs.compare.run_compare.Goals as goal
 
@@ -27,57 +26,14 @@ returns-in_err-view-clause-err g c =
     fault_passed _ _ _ c.from_residual-in_err-view.ensures.1 (first_refused _ _ _ _ _ _ _ c.in_err-view.ensures.err.0 c.in_ok-input.ensures.ok
     (rw c.deref.ensures.value at c.in_err-view.ensures.err.1))
 
-pub returns-in_err-other_input-clause-err : goal.returns-in_err-other_input-clause-err
-returns-in_err-other_input-clause-err g c =
-    fault_passed _ _ _ c.from_residual-in_err-other_input.ensures.1 (second_unread _ _ _ _ _ _ _ _ _ c.in_err-other_input.ensures.err.0 c.in_ok-input.ensures.ok
-    (rw c.deref.ensures.value at c.in_ok-view.ensures.ok) c.in_err-other_input.ensures.err.1)
-
-pub returns-in_err-other_input-clause-first_erred : goal.returns-in_err-other_input-clause-first_erred
-returns-in_err-other_input-clause-first_erred g c =
-    λ off. fault_passed _ _ _ c.from_residual-in_err-other_input.ensures.1 (λ side kind. let bad : sides.Second ≡ sides.First = sym c.in_err-other_input.ensures.err.0 ∙ side in cc)
-
-pub returns-in_err-other_input-clause-second_erred : goal.returns-in_err-other_input-clause-second_erred
-returns-in_err-other_input-clause-second_erred g c =
-    λ off. fault_passed _ _ _ c.from_residual-in_err-other_input.ensures.1 (λ side kind. c.in_err-other_input.ensures.erred off kind)
-
-pub returns-in_err-other_input-clause-writer_erred : goal.returns-in_err-other_input-clause-writer_erred
-returns-in_err-other_input-clause-writer_erred g c =
-    fault_passed _ _ _ c.from_residual-in_err-other_input.ensures.1 (λ kind. absurd (unread_kind _ _ _ c.in_err-other_input.ensures.err.1 kind))
-
-pub returns-in_err-other-clause-err : goal.returns-in_err-other-clause-err
-returns-in_err-other-clause-err g c =
-    fault_passed _ _ _ c.from_residual-in_err-other.ensures.1 (second_refused _ _ _ _ _ _ _ _ _ _ c.in_err-other.ensures.err.0 c.in_ok-input.ensures.ok
-    (rw c.deref.ensures.value at c.in_ok-view.ensures.ok) c.in_ok-other_input.ensures.ok
-    (rw c.deref-2.ensures.value at c.in_err-other.ensures.err.1))
-
-pub returns-in_err-other-clause-first_erred : goal.returns-in_err-other-clause-first_erred
-returns-in_err-other-clause-first_erred g c =
-    λ off. fault_passed _ _ _ c.from_residual-in_err-other.ensures.1 (λ side kind. absurd (c.in_err-other.ensures.kind.0 kind))
-
-pub returns-in_err-other-clause-second_erred : goal.returns-in_err-other-clause-second_erred
-returns-in_err-other-clause-second_erred g c =
-    λ off. fault_passed _ _ _ c.from_residual-in_err-other.ensures.1 (λ side kind. absurd (c.in_err-other.ensures.kind.0 kind))
-
-pub returns-in_err-other-clause-writer_erred : goal.returns-in_err-other-clause-writer_erred
-returns-in_err-other-clause-writer_erred g c =
-    fault_passed _ _ _ c.from_residual-in_err-other.ensures.1 (λ kind. absurd (c.in_err-other.ensures.kind.1 kind))
-
 pub returns-clause-ok : goal.returns-clause-ok
 returns-clause-ok g c =
-    run_compares c.write_comparison.result _ _ _ _ _ _ _ _
-    (_, c.in_ok-input.ensures.ok, rw c.deref.ensures.value at c.in_ok-view.ensures.ok)
-    (_, c.in_ok-other_input.ensures.ok, rw c.deref-2.ensures.value at c.in_ok-other.ensures.ok) c.write_comparison.ensures.ok
+    c.compare_second.ensures.ok _ _ (_, c.in_ok-input.ensures.ok, rw c.deref.ensures.value at c.in_ok-view.ensures.ok)
 
 pub returns-clause-err : goal.returns-clause-err
 returns-clause-err g c =
-    run_stops c.write_comparison.result _ _ _ _ _ _ _ _
-    (_, c.in_ok-input.ensures.ok, rw c.deref.ensures.value at c.in_ok-view.ensures.ok)
-    (_, c.in_ok-other_input.ensures.ok, rw c.deref-2.ensures.value at c.in_ok-other.ensures.ok) c.write_comparison.ensures.err
+    c.compare_second.ensures.err _ _ (_, c.in_ok-input.ensures.ok, rw c.deref.ensures.value at c.in_ok-view.ensures.ok)
 
 pub returns-clause-first_erred : goal.returns-clause-first_erred
 returns-clause-first_erred g c =
-    λ off. never_read (λ (s : Side). s ≡ sides.First) _ c.write_comparison.result _ _ _ _ c.write_comparison.ensures.err
-
-pub returns-clause-second_erred : goal.returns-clause-second_erred
-returns-clause-second_erred g c =
-    λ off. never_read (λ (s : Side). s ≡ sides.Second) _ c.write_comparison.result _ _ _ _ c.write_comparison.ensures.err
+    λ off. IfErr-weaker c.compare_second.result _ _ (λ e read side kind. absurd (read side kind)) c.compare_second.ensures.first_read

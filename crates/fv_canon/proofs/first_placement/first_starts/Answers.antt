@@ -15,3 +15,6 @@ returns-clause-none c =
     rw whole (take-append_seam _ _) in
     c.place_each-2.ensures.none (rw (c.as_slice.ensures.value, written) c.find_reaches.ensures.len)
     (rw (c.as_slice.ensures.value, written) (c.find_reaches.ensures.found c.if-not-find_reaches.false))
+
+pub returns-in-Some-clause-found : goal.returns-in-Some-clause-found
+returns-in-Some-clause-found c = let found = c.in_ok-starts.ensures.found in rw c.in-Some.is at found

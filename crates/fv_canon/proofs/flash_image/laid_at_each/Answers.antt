@@ -1,4 +1,4 @@
-use Rattle.fv_canon.proofs.LaidVolumeLaws.{lays_stop}
+use Rattle.fv_canon.proofs.LaidVolumeLaws.{lays_all, lays_more, lays_stop}
 use Rattle.fv_canon.proofs.InputLaws.{fault_passed}
 use Rattle.fv_canon.proofs.flash_image.laid_at_each.Goals as goal
 
@@ -6,3 +6,13 @@ pub returns-in_err-laid_at-clause-err : goal.returns-in_err-laid_at-clause-err
 returns-in_err-laid_at-clause-err c =
     fault_passed _ _ _ c.from_residual-in_err-laid_at.ensures.1 (lays_stop c.args.image.now c.args.offsets.now c.loop-offset.offset-index c.loop-offset.volumes.items _
     c.loop-offset.invariant c.loop-offset-test.true c.in_err-laid_at.ensures.err)
+
+pub loop-offset-preserved : goal.loop-offset-preserved
+loop-offset-preserved c =
+    rw c.in_ok-push.ensures.items (lays_more c.args.image.now c.args.offsets.now c.loop-offset.offset-index c.loop-offset.volumes.items
+    c.in_ok-laid_at.field-0 c.loop-offset.invariant c.loop-offset-test.true c.in_ok-laid_at.ensures.start c.in_ok-laid_at.ensures.ok)
+
+pub returns-clause-ok : goal.returns-clause-ok
+returns-clause-ok c =
+    lays_all c.args.image.now c.args.offsets.now c.loop-offset.offset-index c.loop-offset.volumes.items c.loop-offset.invariant
+    c.loop-offset-test.false

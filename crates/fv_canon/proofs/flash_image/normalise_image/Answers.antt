@@ -1,4 +1,4 @@
-use Rattle.std.proofs.Common.{◌≡◌, ◌∙◌, ℕ, List, subst}
+use Rattle.std.proofs.Common.{◌≡◌, ◌∙◌, ℕ, List, subst, sym}
 use Rattle.std.proofs.lemmas.Result.{err_from_is_err_and, IfOk-weaker}
 use Rattle.fv_base.proofs.Laws.{kept_whole}
 use Rattle.fv_canon.specs.FlashImages.{NormalisesAll}
@@ -16,4 +16,12 @@ returns-clause-only c = λ other to.
     let all = subst (λ (b : List ℕ). NormalisesAll b put.0) c.in_ok-laid.ensures.ok put.1 in
     IfOk-weaker c.finish.result _ (λ (bytes : List ℕ). bytes ≡ other)
     (λ bytes same. same ∙ normalised_one c.args.image.now put.0 other all to)
+    (kept_whole _ _ put.0 _ _ c.finish.result c.in_ok-out.ensures.0 c.in_ok-out.ensures.1 put.2 c.finish.ensures.ok)
+
+pub returns-clause-ok : goal.returns-clause-ok
+returns-clause-ok c =
+    let put = c.put_laid_image.ensures in
+    let all = subst (λ (b : List ℕ). NormalisesAll b put.0) c.in_ok-laid.ensures.ok put.1 in
+    IfOk-weaker c.finish.result _ (NormalisesAll c.args.image.now)
+    (λ bytes same. subst (NormalisesAll c.args.image.now) (sym same) all)
     (kept_whole _ _ put.0 _ _ c.finish.result c.in_ok-out.ensures.0 c.in_ok-out.ensures.1 put.2 c.finish.ensures.ok)

@@ -1,4 +1,6 @@
-use Rattle.fv_canon.proofs.LaidVolumeLaws.{laid_all, laid_more, laid_next, laid_none}
+use Rattle.std.proofs.Common.{ap, arith}
+use Rattle.fv_head.specs.Head.{HeadFields}
+use Rattle.fv_canon.proofs.LaidVolumeLaws.{laid_all, laid_ends, laid_more, laid_next, laid_none}
 use Rattle.fv_canon.proofs.flash_image.put_renewed.Goals as goal
 
 pub loop-volume-init : goal.loop-volume-init
@@ -20,3 +22,13 @@ pub returns : goal.returns
 returns g c =
     laid_all g.S.Sink.takes g.S.Sink.laws _ c.args.image.now c.args.volumes.now c.loop-volume.volume-index c.loop-volume.from
     c.bytes_from.result.now c.requires c.loop-volume.invariant c.loop-volume-test.false c.bytes_from.ensures c.put-2.ensures
+
+pub overflow_add-from : goal.overflow_add-from
+overflow_add-from g c =
+    omega (
+      arith,
+      c.length.ensures,
+      ap (λ (h : HeadFields). h.length) c.head.ensures.head,
+      laid_ends c.args.image.now c.args.volumes.now c.loop-volume.volume-index c.volume-item.result c.requires c.loop-volume-test.true
+          c.volume-item.is,
+    )

@@ -1,22 +1,26 @@
-use Rattle.std.proofs.Common.{◌≡◌, ◌<◌, ◌+◌, ◌-◌, ℕ, true, List, length, drop, replicate, get_or, sym, ap, ◌∙◌, subst, arith}
+use Rattle.std.proofs.Common.{◌≡◌, ◌<◌, ◌+◌, ◌-◌, ℕ, true, List, [], false, length, drop, replicate, get_or, sym, ap, ◌∙◌, subst, arith}
 use Rattle.std.proofs.lemmas.Grind.{common_steps}
 use Rattle.fv_file.specs.Attributes.{is_summed}
 use Rattle.fv_head.specs.Attributes.{polarity_of}
 use Rattle.fv_head.specs.Head.{HeadFields}
 use Rattle.fv_tree.specs.Meaning.{Meaning, SectionMeaning, BodyMeaning, body_of, FileMeaning, files_from, attributes_of, content_of}
+use Rattle.fv_tree.specs.Meaning.{file_name_of, file_kind_of, data_len_of}
+use Rattle.fv_file.specs.NewHeaders.{file_head_of}
 use Rattle.fv_tree.specs.Views.{body_view}
 use Rattle.fv_tree.specs.inner.Sizes.{volume_size, body_size, files_size}
 use Rattle.fv_tree.proofs.Laws.{file_falls, section_body_falls}
-use Rattle.fv_canon.specs.StoredFiles.{size_for}
-use Rattle.fv_canon.specs.Volumes.{volumes_in_body}
-use Rattle.fv_canon.specs.inner.ImageOf.{image_of, data_of}
+use Rattle.fv_canon.specs.StoredFiles.{file_sum_for, size_for}
+use Rattle.fv_canon.specs.Volumes.{Inside, volumes_in_body}
+use Rattle.fv_canon.specs.inner.ImageOf.{body_image, image_of, data_of, starts_in}
 use Rattle.fv_canon.specs.inner.ImageWalks.{BeginsWithStarts}
-use Rattle.fv_canon.specs.inner.SummingSinks.{ImageTakes, image_by}
-use Rattle.fv_canon.proofs.DataBodyLaws.{data_image}
+use Rattle.fv_canon.specs.inner.SummingSinks.{ImageTakes, image_by, sums}
+use Rattle.fv_canon.proofs.DataBodyLaws.{data_image, data_size, data_volumes}
 use Rattle.fv_canon.proofs.FileLaws.{file_long, stored_is, size_is, at_file, file_passed, files_end, walk_goes, placed_on}
-use Rattle.fv_canon.proofs.SectionLaws.{section_known, section_passed, in_body, body_laid, goes_on, front_more, front_end}
+use Rattle.fv_canon.proofs.SectionLaws.{section_known, section_passed, in_body, body_laid, goes_on, front_more, front_end, front_none, walk_ended}
 use Rattle.fv_canon.proofs.SumWalks.{state_adds}
 use Rattle.fv_canon.proofs.VolumeWalks.{volume_is, volume_seen, volume_text, volume_rest}
+use Rattle.fv_canon.proofs.image_walk.+put.Goals.{put_file-else-is_summing-via-else-is_summing}
+use Rattle.fv_canon.proofs.image_walk.+put.Goals.{put_file-else-is_summing-via-then-is_summing+else-is_summed}
 use Rattle.fv_canon.proofs.image_walk.+put.Goals as goal
 
 pub put_body-put_sections-requires : goal.put_body-put_sections-requires
@@ -101,8 +105,15 @@ put_file-returns-clause-bytes g t c =
     let head = c.put_file_head.ensures in
     let payload = c.put_body.ensures.bytes in
     rw (stored_is c.args.polarity c.args.file.now c.args.starts.now long)
-    (laws.joined c.args.out.now c.put_file_head.new.out c.put_body.new.out _ (data_of (content_of c.args.file.now) c.args.starts.now)
-    (laws.joined c.args.out.now c.file_sum-sum.new.out c.put_file_head.new.out _ _ c.file_sum-sum.ensures.none
+    (laws.joined c.args.out.now c.put_file_head.new.out c.put_body.new.out
+    (file_head_of (file_name_of c.args.file.now) (file_kind_of c.args.file.now) (record { 0 = attributes_of c.args.file.now })
+    (data_len_of c.args.file.now) (file_sum_for (attributes_of c.args.file.now) (data_of (content_of c.args.file.now) c.args.starts.now))
+    c.args.polarity)
+    (data_of (content_of c.args.file.now) c.args.starts.now)
+    (laws.joined c.args.out.now c.file_sum-sum.new.out c.put_file_head.new.out []
+    (file_head_of (file_name_of c.args.file.now) (file_kind_of c.args.file.now) (record { 0 = attributes_of c.args.file.now })
+    (data_len_of c.args.file.now) (file_sum_for (attributes_of c.args.file.now) (data_of (content_of c.args.file.now) c.args.starts.now))
+    c.args.polarity) c.file_sum-sum.ensures.none
     (rw c.file_sum-sum.ensures.value at head)) (rw (c.data_body-2.ensures, data_image c.args.file.now c.args.starts.now) at payload))
 
 pub put_files-overflow_sub-start : goal.put_files-overflow_sub-start
@@ -209,3 +220,59 @@ put_files-returns-clause-bytes g t c =
     c.loop-i.rest.now c.loop-i.i c.args.out.now c.loop-i.out c.fill-2.new.out _ c.loop-i-test.false c.loop-i.invariant.done
     (subst (λ (n : ℕ). ImageTakes g.S.Sink.takes c.loop-i.out (replicate (c.args.total - c.loop-i.edge) n) c.fill-2.new.out)
     c.erased-2.ensures.value c.fill-2.ensures)
+
+pub put_body-returns-in-Group-clause-bytes : goal.put_body-returns-in-Group-clause-bytes
+put_body-returns-in-Group-clause-bytes g t c =
+    subst (λ (b : BodyMeaning). ImageTakes g.S.Sink.takes c.args.out.now (body_image b c.args.starts.now) c.put_sections.new.out)
+    (sym (ap body_view c.in-Group.is)) c.put_sections.ensures.bytes
+
+pub put_body-returns-in-Group-clause-rest : goal.put_body-returns-in-Group-clause-rest
+put_body-returns-in-Group-clause-rest g t c =
+    subst (λ (b : BodyMeaning). c.put_sections.result.now ≡ drop (starts_in (volumes_in_body b)) c.args.starts.now)
+    (sym (ap body_view c.in-Group.is)) c.put_sections.ensures.rest
+
+pub put_body-returns-in-Nested-clause-bytes : goal.put_body-returns-in-Nested-clause-bytes
+put_body-returns-in-Nested-clause-bytes g t c =
+    subst (λ (b : BodyMeaning). ImageTakes g.S.Sink.takes c.args.out.now (body_image b c.args.starts.now) c.put_volume.new.out)
+    (sym (ap body_view c.in-Nested.is)) c.put_volume.ensures.bytes
+
+pub put_body-returns-in-Nested-clause-rest : goal.put_body-returns-in-Nested-clause-rest
+put_body-returns-in-Nested-clause-rest g t c =
+    subst (λ (b : BodyMeaning). c.put_volume.result.now ≡ drop (starts_in (volumes_in_body b)) c.args.starts.now)
+    (sym (ap body_view c.in-Nested.is)) c.put_volume.ensures.rest
+
+pub put_file-returns-clause-rest : goal.put_file-returns-clause-rest
+put_file-returns-clause-rest g t c =
+    c.put_body.ensures.rest ∙ ap (λ (b : BodyMeaning). drop (starts_in (volumes_in_body b)) c.args.starts.now) c.data_body-2.ensures
+    ∙ ap (λ (vs : List Inside). drop (starts_in vs) c.args.starts.now) (data_volumes c.args.file.now)
+
+pub put_file-returns-then-is_summed-clause-rest : goal.put_file-returns-then-is_summed-clause-rest
+put_file-returns-then-is_summed-clause-rest g t c =
+    c.skip_body.ensures ∙ ap (λ (b : BodyMeaning). drop (starts_in (volumes_in_body b)) c.args.starts.now) c.data_body.ensures
+    ∙ ap (λ (vs : List Inside). drop (starts_in vs) c.args.starts.now) (data_volumes c.args.file.now)
+
+pub put_sections-returns-else-not-is_empty-clause-bytes : goal.put_sections-returns-else-not-is_empty-clause-bytes
+put_sections-returns-else-not-is_empty-clause-bytes g t c =
+    let none : length c.args.sections.now ≡ 0 = grind (arith, common_steps, c.is_empty.ensures, c.if-not-is_empty.false) in
+    front_none (ImageTakes g.S.Sink.takes) c.args.sections.now c.loop-section.section-index c.args.out.now c.loop-section.out
+    c.loop-section.gap c.args.starts.now c.loop-section.rest.now c.args.tail none c.loop-section.invariant.done
+
+pub put_sections-returns-else-not-is_empty-clause-rest : goal.put_sections-returns-else-not-is_empty-clause-rest
+put_sections-returns-else-not-is_empty-clause-rest g t c =
+    walk_ended c.args.sections.now c.loop-section.section-index _ _ c.loop-section-test.false c.loop-section.invariant.walk
+
+pub put_sections-returns-then-not-is_empty-clause-rest : goal.put_sections-returns-then-not-is_empty-clause-rest
+put_sections-returns-then-not-is_empty-clause-rest g t c =
+    walk_ended c.args.sections.now c.loop-section.section-index _ _ c.loop-section-test.false c.loop-section.invariant.walk
+
+pub put_file-file_sum-sum-requires : goal.put_file-file_sum-sum-requires
+put_file-file_sum-sum-requires g t c κs within =
+    let puts : is_summed (attributes_of c.args.file.now) ≡ true → sums c.args.out.now.mode ≡ false = λ summed.
+    elim c.else-is_summing.branch [
+      | put_file-else-is_summing-via-then-is_summing+else-is_summed w ↦
+          let bad : true ≡ false =
+          sym summed ∙ (sym (ap is_summed w.attributes.ensures) ∙ sym w.is_summed.ensures ∙ w.if-is_summed.false) in
+          cc
+      | put_file-else-is_summing-via-else-is_summing w ↦ sym c.is_summing.ensures ∙ w.if-is_summing.false
+    ] in
+    (omega (arith, c.decreases, data_size c.args.file.now), (within, (c.requires.laid, puts)))

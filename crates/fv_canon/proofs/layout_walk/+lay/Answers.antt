@@ -1,12 +1,15 @@
-use Rattle.std.proofs.Common.{◌+◌, ap, arith, subst}
+use Rattle.std.proofs.Common.{◌+◌, List, ap, arith, subst}
+use Rattle.std.proofs.lemmas.List.{take_all}
+use Rattle.std.proofs.lemmas.Result.{on_ok_weaker, IfErr-weaker}
 use Rattle.fv_tree.specs.inner.Sizes.{volume_size, body_size}
-use Rattle.fv_tree.specs.Meaning.{FileMeaning, files_from, sections_from}
+use Rattle.fv_tree.specs.Meaning.{FileMeaning, SectionMeaning, files_from, sections_from}
 use Rattle.fv_tree.specs.Views.{body_view}
 use Rattle.fv_canon.specs.inner.Depths.{NestsVolume, NestsBody}
-use Rattle.fv_canon.specs.inner.LayoutWalks.{Shallow}
+use Rattle.fv_canon.specs.inner.LayoutWalks.{Grew, Shallow}
+use Rattle.fv_canon.specs.Volumes.{volumes_in_files, volumes_in_sections}
 use Rattle.fv_canon.proofs.DataBodyLaws.{data_falls}
 use Rattle.fv_canon.proofs.LayoutWalkLaws.{section_grew, shallow_at, section_unfit, file_grew, shallow_file_at, file_unfit, unfit_passed}
-use Rattle.fv_canon.proofs.LayoutWalkLaws.{shallow_files, shallow_group, shallow_nested}
+use Rattle.fv_canon.proofs.LayoutWalkLaws.{shallow_files, shallow_group, shallow_nested, volume_grew, volume_unfit}
 use Rattle.fv_canon.proofs.layout_walk.+lay.Goals as goal
 use Rattle.fv_tree.proofs.Laws.{section_body_falls}
 
@@ -65,3 +68,24 @@ pub lay_files-loop-file-preserved : goal.lay_files-loop-file-preserved
 lay_files-loop-file-preserved t c =
     let more = c.in_ok-lay_body.ensures.ok in
     file_grew _ _ _ _ _ _ c.loop-file-test.true c.file-item.is c.loop-file.invariant (rw c.data_body.ensures at more)
+
+pub lay_volume-returns-clause-ok : goal.lay_volume-returns-clause-ok
+lay_volume-returns-clause-ok t c =
+    on_ok_weaker c.lay_files.result (volume_grew c.args.view.now c.files.result.now _ c.in_ok-own.own.items _ _ c.files.ensures
+    c.in_ok-own.ensures.ok (rw (← c.as_slice.ensures.value) c.in_ok-extend_from_slice.ensures.items)) c.lay_files.ensures.ok
+
+pub lay_volume-returns-clause-err : goal.lay_volume-returns-clause-err
+lay_volume-returns-clause-err t c =
+    IfErr-weaker c.lay_files.result _ _
+    (λ f why. volume_unfit c.args.view.now c.files.result.now c.in_ok-own.own.items c.args.depth f c.files.ensures c.in_ok-own.ensures.ok why)
+    c.lay_files.ensures.err
+
+pub lay_files-returns-clause-ok : goal.lay_files-returns-clause-ok
+lay_files-returns-clause-ok t c =
+    subst (λ (fs : List FileMeaning). Grew (volumes_in_files (files_from fs)) c.args.starts.now.items c.loop-file.starts.items)
+    (take_all c.loop-file.file-index c.args.files.now c.loop-file-test.false) c.loop-file.invariant
+
+pub lay_sections-returns-clause-ok : goal.lay_sections-returns-clause-ok
+lay_sections-returns-clause-ok t c =
+    subst (λ (ss : List SectionMeaning). Grew (volumes_in_sections (sections_from ss)) c.args.starts.now.items c.loop-section.starts.items)
+    (take_all c.loop-section.section-index c.args.sections.now c.loop-section-test.false) c.loop-section.invariant

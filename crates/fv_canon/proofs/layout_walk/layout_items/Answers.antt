@@ -1,6 +1,6 @@
-use Rattle.std.proofs.Common.{◌≡◌, List, map, sym, ap, ◌∙◌, subst}
+use Rattle.std.proofs.Common.{◌≡◌, ◌<◌, ◌+◌, ℕ, List, [], ◌∷◌, ◌++◌, length, take, get_or, map, sym, ap, ◌∙◌, subst}
 use Rattle.std.specs.Prelude.{All}
-use Rattle.std.proofs.lemmas.List.{take_all}
+use Rattle.std.proofs.lemmas.List.{map-append, take_all, take_more}
 use Rattle.fv_canon.specs.Layouts.{layout_item}
 use Rattle.fv_canon.specs.inner.Reaches.{IsLawfulItem}
 use Rattle.fv_canon.specs.declared.first_placement.LayoutItem.{LayoutItem}
@@ -19,3 +19,18 @@ returns-clause-ok c =
       subst (λ (ps : List LayoutItem). All (IsLawfulItem (head_of c.args.view.now).length) ps) (sym is)
           (parts_fit c.args.view.now c.known.ensures),
     )
+
+-- one file more
+item_more : (fs : List FileMeaning) (i : ℕ) (m : FileMeaning) (items more : List LayoutItem) (item : LayoutItem) → i < length fs
+    → m ≡ get_or fs i m → items ≡ map layout_item (take i fs) → item ≡ layout_item m → more ≡ items ++ item ∷ []
+    → more ≡ map layout_item (take (i + 1) fs)
+item_more fs i m items more item less at before is pushed =
+    pushed ∙ ap (λ (l : List LayoutItem). l ++ item ∷ []) before
+    ∙ ap (λ (x : LayoutItem). map layout_item (take i fs) ++ x ∷ []) (is ∙ ap layout_item at)
+    ∙ sym (map-append layout_item (take i fs) (get_or fs i m ∷ []))
+    ∙ ap (map layout_item) (sym (take_more fs i m less))
+
+pub loop-file-preserved : goal.loop-file-preserved
+loop-file-preserved c =
+    item_more c.files-files.result.now c.loop-file.file-index c.file-item.result _ _ _ c.loop-file-test.true c.file-item.is
+    c.loop-file.invariant c.layout_item.ensures c.in_ok-push.ensures.items

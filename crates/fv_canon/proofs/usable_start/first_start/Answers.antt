@@ -1,5 +1,6 @@
 use Rattle.std.proofs.Common.{inr, refl, arith}
-use Rattle.fv_canon.proofs.UsableStartLaws.{never_true, start_at, after_missed, multiple_next}
+use Rattle.fv_canon.proofs.ReachLaws.{usable_most}
+use Rattle.fv_canon.proofs.UsableStartLaws.{never_true, start_at, after_missed, multiple_next, from_pad, data_back}
 use Rattle.fv_canon.proofs.usable_start.first_start.Goals as goal
 
 pub returns-then-serves-3-clause-found : goal.returns-then-serves-3-clause-found
@@ -22,3 +23,19 @@ loop-start-preserved c =
           c.widened-step.ensures c.requires.item.header inv.multiple (λ u. never_true (c.if-serves-3.ensures.1 u)) v (inv.least t l v);
       small = omega (arith, c.widened-step.ensures.small);
     }
+
+pub loop-start-init : goal.loop-start-init
+loop-start-init c =
+    let f = c.args.item.now in
+    let up = c.round_up in
+    record {
+      pad = omega (arith, up.ensures.above);
+      multiple = data_back up.result f.header c.widened-step.result (omega (arith, up.ensures.above)) up.ensures.multiple;
+      least = λ t l v. from_pad c.args.total c.args.edge f c.args.after c.widened-step.result up.result t c.widened-step.ensures
+          c.requires.item.header up.ensures.least (λ u. never_true (c.if-serves.ensures.1 u)) l v;
+      small = omega (arith, up.ensures.near, c.widened-step.ensures.small);
+    }
+
+pub returns-clause-none : goal.returns-clause-none
+returns-clause-none c s l v =
+    omega (arith, c.loop-start.invariant.least s l v, usable_most c.args.after _ v.edge)

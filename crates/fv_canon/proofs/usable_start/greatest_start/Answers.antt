@@ -1,6 +1,6 @@
-use Rattle.std.proofs.Common.{◌-◌, arith}
+use Rattle.std.proofs.Common.{◌-◌, refl, arith}
 use Rattle.fv_canon.specs.inner.Reaches.{Serves}
-use Rattle.fv_canon.proofs.UsableStartLaws.{not_true, never_true, data_back, below_missed, second_serves}
+use Rattle.fv_canon.proofs.UsableStartLaws.{not_true, never_true, data_back, below_missed, data_most, second_serves}
 use Rattle.fv_canon.proofs.usable_start.greatest_start.Goals as goal
 
 pub returns-then-start-step-clause-none : goal.returns-then-start-step-clause-none
@@ -23,3 +23,16 @@ returns-clause-found c =
           c.widened-step.ensures c.requires.item.header c.round_down-data.ensures.multiple (omega arith)
           (λ y p q. c.round_down-data.ensures.greatest y p (omega arith)) not v in omega (arith, low),
     )
+
+pub returns-then-data-item-clause-none : goal.returns-then-data-item-clause-none
+returns-then-data-item-clause-none c s v =
+    let low = data_most c.args.total c.args.item.now c.args.after c.widened-step.result c.round_down-data.result s c.widened-step.ensures
+    c.requires.item.header (λ y p q. c.round_down-data.ensures.greatest y p (omega arith)) v in
+    omega (arith, low)
+
+pub returns-then-serves-2-clause-found : goal.returns-then-serves-2-clause-found
+returns-then-serves-2-clause-found c = (
+  c.if-serves-2.ensures.0 refl,
+  λ t v. let low = data_most c.args.total c.args.item.now c.args.after c.widened-step.result c.round_down-data.result t
+      c.widened-step.ensures c.requires.item.header (λ y p q. c.round_down-data.ensures.greatest y p (omega arith)) v in omega (arith, low),
+)

@@ -1,15 +1,12 @@
-use Rattle.std.proofs.Common.{◌≡◌, ◌++◌, ◌∙◌, ◌-◌, ℕ, List, [], length, take, drop, refl, sym, ap, subst, arith}
-use Rattle.std.proofs.Common.{append_assoc, append-nil, length-drop}
+use Rattle.std.proofs.Common.{◌≡◌, ◌++◌, ◌∙◌, ◌-◌, ℕ, List, length, take, drop, ap, arith}
+use Rattle.std.proofs.Common.{append_assoc, length-drop}
 use Rattle.std.proofs.lemmas.List.{take_all}
 use Rattle.std.specs.List.{flat_map}
 use Rattle.fv_base.specs.Sums.{words_of}
 use Rattle.fv_base.specs.Value.{le_at}
 use Rattle.fv_command.specs.ListTexts.{unit_text}
-use Rattle.fv_command.proofs.ListLemmas.{units_next, units_none}
+use Rattle.fv_command.proofs.ListLemmas.{units_next}
 use Rattle.fv_command.proofs.leaf_text.put_units.Goals as goal
-
-pub loop-rest-init : goal.loop-rest-init
-loop-rest-init g c = ([], g.S.Sink.laws.none c.args.out.now, refl)
 
 pub loop-rest-preserved : goal.loop-rest-preserved
 loop-rest-preserved g c =
@@ -27,11 +24,3 @@ loop-rest-preserved g c =
       g.S.Sink.laws.joined _ _ _ _ _ c.loop-rest.invariant.1 c.put_unit.ensures,
       append_assoc text unit after ∙ ap (λ (t : List ℕ). text ++ t) next ∙ c.loop-rest.invariant.2,
     )
-
-pub returns : goal.returns
-returns g c =
-    let text : List ℕ = c.loop-rest.invariant.0 in
-    let all : text ≡ flat_map unit_text (words_of c.args.units.now) =
-    sym (append-nil text)
-    ∙ ap (λ (t : List ℕ). text ++ t) (sym (units_none c.loop-rest.rest.now c.loop-rest-test.false)) ∙ c.loop-rest.invariant.2 in
-    subst (λ (t : List ℕ). g.S.Sink.takes c.args.out.now t c.loop-rest.out) all c.loop-rest.invariant.1

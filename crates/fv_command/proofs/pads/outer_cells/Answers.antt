@@ -1,30 +1,18 @@
-use Rattle.std.proofs.Common.{arith, refl}
+use Rattle.std.proofs.Common.{refl}
 use Rattle.std.proofs.lemmas.Result.{err_from_is_err_and}
-use Rattle.fv_head.proofs.Laws.{first_lies}
-use Rattle.fv_tree.specs.Meaning.{head_of}
-use Rattle.fv_command.proofs.PadLemmas.{opened, want_only}
+use Rattle.fv_command.proofs.PadLemmas.{cells_fit, not_refused, opened, want_only}
 use Rattle.fv_command.proofs.pads.outer_cells.Goals as goal
 
--- the header of a volume is not rejected
 pub returns-in_err-extent-clause-err : goal.returns-in_err-extent-clause-err
 returns-in_err-extent-clause-err c =
-    let d = c.requires.1.1 in
-    let read = c.verify_fv.ensures.only (head_of c.requires.0) d.extent d.front in
-    let refused = c.in_err-extent.was in
-    let none : ⊥ = cc in
-    absurd none
+    absurd (not_refused c.args.input.now c.requires.0 c.verify_fv.result _ c.requires.1 c.verify_fv.ensures.only c.in_err-extent.was)
 
 pub cells-requires : goal.cells-requires
 cells-requires c =
-    let b = c.args.input.now in
     let e = c.in_ok-extent.extent in
-    let o = opened b c.requires.0 e c.verify_fv.result c.requires.1 c.verify_fv.ensures.only c.in_ok-extent.was in
-    let f = first_lies b (head_of c.requires.0) e o.front in
-    record {
-      multiple = omega (arith, f.2, o.whole);
-      first_multiple = f.0;
-      within = omega (arith, f.1, o.whole);
-    }
+    let o = opened c.args.input.now c.requires.0 e c.verify_fv.result c.requires.1 c.verify_fv.ensures.only c.in_ok-extent.was in
+    let fits = cells_fit c.requires.0 c.args.input.now e o in
+    record { multiple = fits.0; first_multiple = fits.1; within = fits.2 }
 
 pub returns-in_err-list-clause-err : goal.returns-in_err-list-clause-err
 returns-in_err-list-clause-err c =

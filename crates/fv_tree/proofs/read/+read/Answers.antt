@@ -1,5 +1,6 @@
-use Rattle.std.proofs.Common.{◌≡◌, ℕ, List, map, [], ◌∷◌, ◌++◌, take, sym, ap, ◌∙◌, subst, arith, rules, inl, inr, refl}
+use Rattle.std.proofs.Common.{◌≡◌, ℕ, List, map, [], ◌∷◌, ◌++◌, length, take, sym, ap, ◌∙◌, subst, arith, rules, inl, inr, refl}
 use Rattle.std.specs.Prelude.{◌⊎◌}
+use Rattle.std.proofs.lemmas.List.{length-take-le}
 use Rattle.std.proofs.lemmas.Result.{IfOk-weaker, IfErr-weaker, MatchResult-from_both}
 use Rattle.fv_base.specs.Faults.{out_of_memory}
 use Rattle.fv_base.specs.Checks.{IsFirstFault}
@@ -8,6 +9,7 @@ use Rattle.fv_base.specs.declared.fault.Place.{Place}
 use Rattle.fv_base.specs.declared.guid.Guid.{Guid}
 use Rattle.fv_base.proofs.Laws.{bytes_take}
 use Rattle.fv_base.specs.Value.{IsBytes}
+use Rattle.fv_head.proofs.Laws.{front_lies, first_lies}
 use Rattle.fv_head.specs.Head.{HeadFields, BeginsVolume}
 use Rattle.fv_head.specs.HeadChecks.{head_checks}
 use Rattle.fv_head.specs.declared.extent.Extent.{Extent}
@@ -19,7 +21,7 @@ use Rattle.fv_tree.specs.FileNames.{IsIndex}
 use Rattle.fv_tree.specs.Files.{FileForm}
 use Rattle.fv_tree.specs.FailingChecks.{First}
 use Rattle.fv_tree.specs.FirstFault.{FileFault, InStream, data_at}
-use Rattle.fv_tree.specs.Meaning.{Volume, File, SectionMeaning, Section, Group, Nested, files_from, sections_from}
+use Rattle.fv_tree.specs.Meaning.{Volume, File, SectionMeaning, Section, Group, Nested, files_from, sections_from, length_of}
 use Rattle.fv_tree.specs.LocatedFiles.{file_form}
 use Rattle.fv_tree.specs.Views.{content_view}
 use Rattle.fv_tree.proofs.BodyLaws.{files_first}
@@ -27,10 +29,10 @@ use Rattle.fv_tree.proofs.FileLaws.{stream_reads}
 use Rattle.fv_tree.proofs.IndexLaws.{no_file, read_names}
 use Rattle.fv_tree.proofs.LengthLaws.{body_long, content_long}
 use Rattle.fv_tree.proofs.ListPairs.{of_item, kept_pairs, first_refused, all_pairs}
-use Rattle.fv_tree.proofs.ReadingLaws.{passed_on}
+use Rattle.fv_tree.proofs.ReadingLaws.{passed_on, no_memory, no_ok, begun}
 use Rattle.fv_tree.proofs.SectionLaws.{leaf_shape, group_shape, volume_shape, leaf_is, group_found, group_first}
 use Rattle.fv_tree.proofs.SectionLaws.{one_place, nested_found, nested_first, deep_fault}
-use Rattle.fv_tree.proofs.StreamLaws.{walk_ready, walk_begun, walk_more, walk_first, walk_found}
+use Rattle.fv_tree.proofs.StreamLaws.{frame_small, walk_ready, walk_begun, walk_more, walk_first, walk_found}
 use Rattle.fv_tree.proofs.VolumeLaws.{made, head_known, head_first, opened_whole}
 use Rattle.fv_tree.proofs.read.+read.Goals.{read_file-After-without_large-attributes, read_section-In_ok-sections-in-Group}
 use Rattle.fv_tree.proofs.read.+read.Goals.{read_section-In_ok-nested-in-Volume, read_at-In_ok-views}
@@ -38,8 +40,14 @@ use Rattle.fv_tree.proofs.read.+read.Goals as goal
 
 -- ---- files
 
+pub read_files-returns-in_err-views : goal.read_files-returns-in_err-views
+read_files-returns-in_err-views t c = no_memory _ _ _ c.from_residual.ensures.1
+
 pub read_files-loop-file-init : goal.read_files-loop-file-init
 read_files-loop-file-init t c = rw c.in_ok-views.ensures.items tt
+
+pub read_files-bounds-files-file-index : goal.read_files-bounds-files-file-index
+read_files-bounds-files-file-index t c = c.loop-file-test.true
 
 pub read_files-read_file-requires : goal.read_files-read_file-requires
 read_files-read_file-requires t c =
@@ -54,6 +62,9 @@ read_files-returns-in_err-view t c =
     (λ f. FileFault (InStream First c.args.at.left) c.in_err-view.field-0.0 f c.args.at.place)
     c.loop-file.views.items c.loop-file-test.true c.loop-file.invariant)
 
+pub read_files-returns-in_err-push : goal.read_files-returns-in_err-push
+read_files-returns-in_err-push t c = no_memory _ _ _ c.from_residual-in_err-push.ensures.1
+
 pub read_files-loop-file-preserved : goal.read_files-loop-file-preserved
 read_files-loop-file-preserved t c =
     let items : c.push.new.self.items ≡ c.loop-file.views.items ++ c.in_ok-view.view ∷ [] = search rules in
@@ -67,6 +78,19 @@ read_files-returns t c =
 
 -- ---- one file
 
+pub read_content-returns-then-not-holds_sections : goal.read_content-returns-then-not-holds_sections
+read_content-returns-then-not-holds_sections t c = (sym c.holds_sections.ensures ∙ c.if-not-holds_sections.true, refl)
+
+pub read_content-overflow_add-place : goal.read_content-overflow_add-place
+read_content-overflow_add-place t c = omega (arith, c.from.ensures, c.requires.place)
+
+pub read_content-overflow_add-place-2 : goal.read_content-overflow_add-place-2
+read_content-overflow_add-place-2 t c = omega (arith, c.from.ensures, c.header_len.ensures.is, c.requires.place)
+
+pub read_content-read_stream-requires : goal.read_content-read_stream-requires
+read_content-read_stream-requires t c =
+    (omega arith, (omega (arith, c.from.ensures, c.header_len.ensures.is, c.requires.place), (c.requires.depth, c.requires.small)))
+
 pub read_content-returns-in_err-sections : goal.read_content-returns-in_err-sections
 read_content-returns-in_err-sections t c =
     let P : Place → Type 0 = λ i. InStream First c.args.at.left c.in_err-sections.field-0.0 c.args.file.now.payload.now i in
@@ -79,8 +103,14 @@ read_content-returns t c =
     stream_reads c.args.at.left c.args.file.now.kind c.args.file.now.payload.now c.in_ok-sections.sections.items c.in_ok-sections.tail
     (sym c.holds_sections.ensures ∙ c.if-not-holds_sections.false) c.in_ok-sections.ensures
 
+pub read_file-read_content-requires : goal.read_file-read_content-requires
+read_file-read_content-requires t c = (omega arith, (c.requires.place, (c.requires.depth, c.requires.small)))
+
 pub read_file-returns-in_err-content : goal.read_file-returns-in_err-content
 read_file-returns-in_err-content t c = passed_on _ _ _ c.from_residual.ensures.1 c.in_err-content.ensures (λ first. first)
+
+pub read_file-overflow_cast-file : goal.read_file-overflow_cast-file
+read_file-overflow_cast-file t c = omega (arith, c.requires.small)
 
 -- the file means what is made of it
 file_means : (t : ℕ) (c : read_file-After-without_large-attributes t) → MeansFile (Stream c.args.at.left) (file_form c.args.file.now)
@@ -119,6 +149,24 @@ read_at-returns-in-Err-clause-memory t c = λ want. go c.in-Err.ensures.first wa
   go (inr first) want = absurd (head_known c.args.bytes.now c.in-Err.fault first (sym c.fault_within.ensures.kind
       ∙ ap (λ (f : Fault). f.kind) want))
 
+pub read_at-slice_bounds-volume-end : goal.read_at-slice_bounds-volume-end
+read_at-slice_bounds-volume-end t c = sym (length-take-le c.in-Ok.read.1.length c.args.bytes.now c.in-Ok.ensures.found.whole)
+
+pub read_at-files_in_body-requires : goal.read_at-files_in_body-requires
+read_at-files_in_body-requires t c =
+    let found = c.in-Ok.ensures.found in
+    let long = length-take-le c.in-Ok.read.1.length c.args.bytes.now found.whole in
+    let lies = front_lies c.args.bytes.now c.in-Ok.read.0 c.in-Ok.read.1 found in
+    let first = first_lies c.args.bytes.now c.in-Ok.read.0 c.in-Ok.read.1 found in
+    record {
+      place = omega (arith, long, found.whole, c.requires.place);
+      small = omega (arith, long, lies.limit);
+      multiple = omega (arith, long, first.2);
+      first_multiple = first.0;
+      first_within = omega (arith, long, first.1);
+      length_is = sym long;
+    }
+
 pub read_at-read_files-requires : goal.read_at-read_files-requires
 read_at-read_files-requires t c =
     (omega arith, (c.requires.depth, rw c.as_slice.ensures.value c.in_ok-files.ensures.stored))
@@ -127,6 +175,12 @@ pub read_at-returns-in_err-files-clause-read : goal.read_at-returns-in_err-files
 read_at-returns-in_err-files-clause-read t c =
     passed_on _ _ _ c.from_residual.ensures.1 c.in_err-files.ensures.read
     (λ first. inr (c.in-Ok.read.0, c.in-Ok.read.1, c.in-Ok.ensures.found, inl first))
+
+pub read_at-returns-in_err-files-clause-length : goal.read_at-returns-in_err-files-clause-length
+read_at-returns-in_err-files-clause-length t c = no_ok _ _ _ c.from_residual.ensures.1
+
+pub read_at-returns-in_err-files-clause-memory : goal.read_at-returns-in_err-files-clause-memory
+read_at-returns-in_err-files-clause-memory t c = begun _ c.from_residual.result c.in-Ok.read.0 c.in-Ok.read.1 c.in-Ok.ensures.found
 
 pub read_at-returns-in_err-views-clause-read : goal.read_at-returns-in_err-views-clause-read
 read_at-returns-in_err-views-clause-read t c =
@@ -140,6 +194,13 @@ read_at-returns-in_err-views-clause-read t c =
           (take read.1.length c.args.bytes.now) c.args.at.place (map file_form c.in_ok-files.files.items) c.in_err-views.field-0.0
           c.in_ok-files.ensures.read first,
     ))
+
+pub read_at-returns-in_err-views-clause-length : goal.read_at-returns-in_err-views-clause-length
+read_at-returns-in_err-views-clause-length t c = no_ok _ _ _ c.from_residual-in_err-views.ensures.1
+
+pub read_at-returns-in_err-views-clause-memory : goal.read_at-returns-in_err-views-clause-memory
+read_at-returns-in_err-views-clause-memory t c =
+    begun _ c.from_residual-in_err-views.result c.in-Ok.read.0 c.in-Ok.read.1 c.in-Ok.ensures.found
 
 -- the volume that is read has this meaning
 volume_made : (t : ℕ) (c : read_at-In_ok-views t) → Denotes c.args.at.left (take c.in-Ok.read.1.length c.args.bytes.now)
@@ -165,7 +226,17 @@ read_at-new-requires-clause-numbers t c =
 pub read_at-returns-clause-read : goal.read_at-returns-clause-read
 read_at-returns-clause-read t c = rw c.new.ensures (volume_made t (goal.at.read_at-returns-clause-read t c).In_ok-views)
 
+pub read_at-returns-clause-length : goal.read_at-returns-clause-length
+read_at-returns-clause-length t c =
+    (c.in-Ok.ensures.found.length_is ∙ ap length_of (sym c.new.ensures), c.in-Ok.ensures.found.whole)
+
 -- ---- a stream
+
+pub read_stream-fault_within-requires : goal.read_stream-fault_within-requires
+read_stream-fault_within-requires t c = omega (arith, c.in-Err.ensures.bound, c.requires.place)
+
+pub read_stream-returns-in_err-sections : goal.read_stream-returns-in_err-sections
+read_stream-returns-in_err-sections t c = no_memory _ _ _ c.from_residual.ensures.1
 
 pub read_stream-loop-frame-init : goal.read_stream-loop-frame-init
 read_stream-loop-frame-init t c =
@@ -186,6 +257,9 @@ read_stream-loop-frame-preserved t c =
     (framed.frame_form c.in-Some.frame) c.loop-frame.sections.items c.loop-frame.invariant (rw c.in-Some.is at c.next_frame.ensures.some)
     c.in_ok-section.section c.push.new.self.items c.in_ok-section.ensures items)
 
+pub read_stream-loop-frame-smaller : goal.read_stream-loop-frame-smaller
+read_stream-loop-frame-smaller t c = omega (arith, ap length (rw c.in-Some.is at c.next_frame.ensures.some))
+
 pub read_stream-returns-in-Err : goal.read_stream-returns-in-Err
 read_stream-returns-in-Err t c = λ ne. inl (c.in-Err.fault, c.in-Err.ensures.first, (c.fault_within.ensures.moved ne).1)
 
@@ -196,12 +270,41 @@ read_stream-returns-in_err-section t c =
     (framed.frame_form c.in-Some.frame) c.loop-frame.sections.items c.loop-frame.invariant (rw c.in-Some.is at c.next_frame.ensures.some)
     c.in_err-section.field-0.0 c.args.at.place)
 
+pub read_stream-returns-in_err-push : goal.read_stream-returns-in_err-push
+read_stream-returns-in_err-push t c = no_memory _ _ _ c.from_residual-in_err-push.ensures.1
+
 pub read_stream-returns : goal.read_stream-returns
 read_stream-returns t c =
     rw (c.tail.ensures, c.next_frame.ensures.tail) (walk_found c.args.at.left c.args.bytes.now c.loop-frame.walk.1 c.loop-frame.walk.0
     c.loop-frame.sections.items c.loop-frame.invariant (rw c.in_default.is at c.next_frame.ensures.none).0)
 
 -- ---- a section that is a group
+
+pub read_section-deeper-requires-clause-place : goal.read_section-deeper-requires-clause-place
+read_section-deeper-requires-clause-place t c = c.requires.place
+
+pub read_section-deeper-requires-clause-depth : goal.read_section-deeper-requires-clause-depth
+read_section-deeper-requires-clause-depth t c = c.requires.depth
+
+pub read_section-returns-in_err-inside-in-Group : goal.read_section-returns-in_err-inside-in-Group
+read_section-returns-in_err-inside-in-Group t c =
+    let f : FrameForm = framed.frame_form c.args.frame.now in
+    passed_on _ _ _ c.from_residual.ensures.1 (λ ne. c.in_err-inside-in-Group.ensures.err.1)
+    (deep_fault c.args.at.left f c.in_err-inside-in-Group.field-0.0 c.args.at.place
+    c.in_err-inside-in-Group.ensures.err.0 (inl (group_shape f (sym c.shape_of.ensures ∙ c.in-Group.is))))
+
+pub read_section-read_stream-requires : goal.read_section-read_stream-requires
+read_section-read_stream-requires t c =
+    let ok = c.in_ok-inside-in-Group.ensures.ok in (
+      omega (arith, ok.0),
+      (
+        omega (arith, ok.1, c.requires.place),
+        (
+          omega (arith, ok.0, ok.2, c.requires.depth),
+          frame_small (framed.frame_form c.args.frame.now) c.requires.stored,
+        ),
+      ),
+    )
 
 pub read_section-returns-in_err-sections-in-Group : goal.read_section-returns-in_err-sections-in-Group
 read_section-returns-in_err-sections-in-Group t c =
@@ -210,6 +313,9 @@ read_section-returns-in_err-sections-in-Group t c =
     (group_first c.args.at.left c.in_ok-inside-in-Group.inside.left (framed.frame_form c.args.frame.now)
     c.in_err-sections-in-Group.field-0.0 c.args.at.place c.in_ok-inside-in-Group.inside.place ok.0
     (group_shape (framed.frame_form c.args.frame.now) (sym c.shape_of.ensures ∙ c.in-Group.is)) ok.1 ok.2)
+
+pub read_section-overflow_cast-len : goal.read_section-overflow_cast-len
+read_section-overflow_cast-len t c = omega (arith, frame_small (framed.frame_form c.args.frame.now) c.requires.stored)
 
 -- the group means what is made of it
 group_means : (t : ℕ) (c : read_section-In_ok-sections-in-Group t) → MeansSection c.args.at.left (framed.frame_form c.args.frame.now)
@@ -242,12 +348,23 @@ read_section-returns-in_ok-sections-in-Group t c =
 
 -- ---- a section that is opened as a volume
 
+pub read_section-deeper-requires-in-Volume-clause-place : goal.read_section-deeper-requires-in-Volume-clause-place
+read_section-deeper-requires-in-Volume-clause-place t c = c.requires.place
+
+pub read_section-deeper-requires-in-Volume-clause-depth : goal.read_section-deeper-requires-in-Volume-clause-depth
+read_section-deeper-requires-in-Volume-clause-depth t c = c.requires.depth
+
 pub read_section-returns-in_err-inside-in-Volume : goal.read_section-returns-in_err-inside-in-Volume
 read_section-returns-in_err-inside-in-Volume t c =
     let f : FrameForm = framed.frame_form c.args.frame.now in
     passed_on _ _ _ c.from_residual-in_err-inside-in-Volume.ensures.1 (λ ne. c.in_err-inside-in-Volume.ensures.err.1)
     (deep_fault c.args.at.left f c.in_err-inside-in-Volume.field-0.0 c.args.at.place
     c.in_err-inside-in-Volume.ensures.err.0 (inr (volume_shape f (sym c.shape_of.ensures ∙ c.in-Volume.is))))
+
+pub read_section-read_at-requires : goal.read_section-read_at-requires
+read_section-read_at-requires t c =
+    let ok = c.in_ok-inside-in-Volume.ensures.ok in
+    (omega (arith, ok.0), (omega (arith, ok.1, c.requires.place), omega (arith, ok.0, ok.2, c.requires.depth)))
 
 pub read_section-returns-in_err-volume-in-Volume : goal.read_section-returns-in_err-volume-in-Volume
 read_section-returns-in_err-volume-in-Volume t c =
@@ -256,6 +373,9 @@ read_section-returns-in_err-volume-in-Volume t c =
     passed_on _ _ _ c.from_residual-in_err-volume-in-Volume.ensures.1 c.in_err-volume-in-Volume.ensures.read
     (nested_first c.args.at.left c.in_ok-inside-in-Volume.inside.left f c.in_err-volume-in-Volume.field-0.0 c.args.at.place
     c.in_ok-inside-in-Volume.inside.place ok.0 (volume_shape f (sym c.shape_of.ensures ∙ c.in-Volume.is)) ok.1 ok.2)
+
+pub read_section-returns-in_err-nested-in-Volume : goal.read_section-returns-in_err-nested-in-Volume
+read_section-returns-in_err-nested-in-Volume t c = no_memory _ _ _ c.from_residual-in_err-nested-in-Volume.ensures.1
 
 -- the opened volume means what is made of it
 nested_means : (t : ℕ) (c : read_section-In_ok-nested-in-Volume t) → MeansSection c.args.at.left (framed.frame_form c.args.frame.now)

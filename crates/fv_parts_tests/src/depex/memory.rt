@@ -1,0 +1,50 @@
+//! Failed allocations: `.ci/memory` makes each allocation of the test fail in turn, and no wrong
+//! result may be returned.
+
+use super::A;
+use super::read::NOT_A;
+use fv_base::Guid;
+use fv_depex::{Depex, DepexFault, DepexFaultKind, Phase, depex_bytes, evaluate, read_depex};
+use std::alloc::Global;
+
+/// What a call returns if memory ran out.
+const OUT_OF_MEMORY: DepexFault = DepexFault {
+    kind: DepexFaultKind::OutOfMemory,
+    offset: 0,
+};
+
+/// FALSE, five times TRUE, four times AND, OR and END, and two bytes after it.
+const SEVERAL: [u8; 14] = [
+    0x07, 0x06, 0x06, 0x06, 0x06, 0x06, 0x03, 0x03, 0x03, 0x03, 0x04, 0x08, 0xff, 0xff,
+];
+
+/// Bodies, and their values if A is installed.
+const BODIES: [(&[u8], bool); 2] = [(&NOT_A, false), (&SEVERAL, true)];
+
+// Whether an expression has this value, and is written as it was, or memory ran out.
+fn has_value_or_out_of_memory(alloc: Global, depex: &Depex, bytes: &[u8], value: bool) -> bool {
+    let truth = evaluate(alloc, depex, &[Guid::from_bytes(A)]);
+    let is_written = match depex_bytes(alloc, depex) {
+        Ok(written) => written.as_slice() == bytes,
+        Err(fault) => fault == OUT_OF_MEMORY,
+    };
+    is_written && (truth == Ok(Some(value)) || truth == Err(OUT_OF_MEMORY))
+}
+
+// Whether a body is read and has this value, or memory ran out.
+fn is_read_or_out_of_memory(alloc: Global, bytes: &[u8], value: bool) -> bool {
+    match read_depex(alloc, bytes, Phase::Dxe) {
+        Ok(depex) => has_value_or_out_of_memory(alloc, &depex, bytes, value),
+        Err(fault) => fault == OUT_OF_MEMORY,
+    }
+}
+
+#[test]
+fn out_of_memory_is_reported(rt: HostRuntime) {
+    for (bytes, value) in BODIES {
+        assert!(rt;
+            is_read_or_out_of_memory(rt.alloc(), bytes, value),
+            "{bytes:?}"
+        );
+    }
+}

@@ -1,0 +1,78 @@
+//! Failed allocations: `.ci/memory` makes each allocation of the test fail in turn, and no wrong
+//! result may be returned.
+
+use super::extended::{BARE, IMAGE, has_ext, write_to};
+use fv_base::{ByteList, Fault, FaultKind, FileSystem, Place, Polarity};
+use fv_head::{
+    Extent, VolumeHead, ext_bytes, first_edge, head_bytes, is_one_volume, read_head, verify_fv,
+};
+use std::alloc::Global;
+
+/// What a call returns if memory ran out.
+const OUT_OF_MEMORY: Fault = Fault {
+    kind: FaultKind::OutOfMemory,
+    place: Place {
+        offset: 0,
+        depth: 0,
+    },
+};
+
+/// The extent of the bare volume.
+const EXTENT: Extent = Extent {
+    length: 192,
+    header_len: 72,
+    first: 104,
+    file_system: FileSystem::Ffs2,
+    polarity: Polarity::Ones,
+};
+
+// Whether these bytes are made, or memory ran out.
+fn is_expected_or_out_of_memory(made: Result<ByteList, Fault>, wanted: &[u8]) -> bool {
+    match made {
+        Ok(bytes) => bytes.as_slice() == wanted,
+        Err(fault) => fault == OUT_OF_MEMORY,
+    }
+}
+
+// Whether the head and the extended header of the image are made, or memory ran out.
+fn has_heads_or_out_of_memory(alloc: Global, head: &VolumeHead) -> bool {
+    let Some(ext) = head.ext() else {
+        return false;
+    };
+    is_expected_or_out_of_memory(head_bytes(alloc, head), &IMAGE[..72])
+        && is_expected_or_out_of_memory(ext_bytes(alloc, ext, 152), &IMAGE[96..124])
+}
+
+// Whether these bytes are written if there is just enough room for them.
+fn is_written(head: &VolumeHead, is_ext: bool, wanted: &[u8]) -> bool {
+    let mut taken = [0u8; 72];
+    let room = wanted.len().min(72);
+    write_to(head, is_ext, &mut taken[..room]) == Ok(()) && &taken[..room] == wanted
+}
+
+// Whether the calls that take no memory return the right results.
+fn calls_without_memory_are_right(head: &VolumeHead) -> bool {
+    verify_fv(&BARE) == Ok(EXTENT)
+        && is_one_volume(&BARE)
+        && first_edge(head) == 128
+        && is_written(head, false, &IMAGE[..72])
+        && is_written(head, true, &IMAGE[96..124])
+}
+
+// Whether the bare volume is read and made again, or memory ran out.
+fn is_read_or_out_of_memory(alloc: Global) -> bool {
+    match read_head(alloc, &BARE) {
+        Ok((head, extent)) => {
+            extent == EXTENT
+                && has_ext(&head, &[(3, &[0; 4])], &[])
+                && has_heads_or_out_of_memory(alloc, &head)
+                && calls_without_memory_are_right(&head)
+        }
+        Err(fault) => fault == OUT_OF_MEMORY,
+    }
+}
+
+#[test]
+fn out_of_memory_is_reported(rt: HostRuntime) {
+    assert!(rt; is_read_or_out_of_memory(rt.alloc()));
+}

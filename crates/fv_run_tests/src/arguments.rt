@@ -1,0 +1,260 @@
+//! Command lines: the plans that they ask for, and those that are rejected.
+
+use fv_arguments::{WordFault, parse_words};
+use fv_base::Guid;
+use std::alloc::Global;
+
+/// The GUID that NAME means in a command line.
+const NAME: &str = "0a0a0a0a-0a0a-0a0a-0a0a-0a0a0a0a0a0a";
+
+// The arguments of a line, separated by spaces, with that GUID for NAME. An empty line has none.
+fn arguments_of(alloc: Global, line: &str) -> Option<Vec<String>> {
+    let mut arguments = Vec::new(alloc);
+    if line.is_empty() {
+        return Some(arguments);
+    }
+    for argument in line.split(' ') {
+        let argument = if argument == "NAME" { NAME } else { argument };
+        let argument = String::from_str(alloc, argument).ok()?;
+        arguments.push(argument).ok()?;
+    }
+    Some(arguments)
+}
+
+// The plan that a command line asks for, as it is shown.
+fn plan_text(alloc: Global, line: &str) -> Option<String> {
+    let arguments = arguments_of(alloc, line)?;
+    let plan = parse_words(alloc, &arguments).ok()?;
+    format!(in alloc; "{plan:?}").ok()
+}
+
+// The plan of a row with that GUID, as it is shown, for NAME.
+fn with_name(alloc: Global, plan: &str) -> Option<String> {
+    let (before, after) = plan.split_once("NAME")?;
+    let name = Guid::from_bytes([0x0a; 16]);
+    format!(in alloc; "{before}{name:?}{after}").ok()
+}
+
+// Command lines, each with its plan.
+fn plans() -> &'static str {
+    "\
+    : Plan { hex: true, command: Single { task: Normalise, at: None, file: None } }\n\
+    fv: Plan { hex: true, command: Single { task: Normalise, at: None, file: None } }\n\
+    fv normalise: Plan { hex: false, command: Single { task: Normalise, at: None, file: None } }\n\
+    fv normalise --hex: Plan { hex: true, command: Single { task: Normalise, at: None, file: None } }\n\
+    fv normalise a.fv: Plan { hex: false, command: Single { task: Normalise, at: None, file: Some(\"a.fv\") } }\n\
+    fv normalise --hex a.txt: Plan { hex: true, command: Single { task: Normalise, at: None, file: Some(\"a.txt\") \
+        } }\n\
+    fv normalise --all a.bin: Plan { hex: false, command: Single { task: NormaliseAll, at: None, file: \
+        Some(\"a.bin\") } }\n\
+    fv normalise --hex --all: Plan { hex: true, command: Single { task: NormaliseAll, at: None, file: None } }\n\
+    fv normalise a.txt --hex: Plan { hex: true, command: Single { task: Normalise, at: None, file: Some(\"a.txt\") \
+        } }\n\
+    fv hobs: Plan { hex: false, command: Hobs { file: None, image: None } }\n\
+    fv hobs a.hob --hex: Plan { hex: true, command: Hobs { file: Some(\"a.hob\"), image: None } }\n\
+    fv hobs --image a.fv --base 16711680 a.hob: Plan { hex: false, command: Hobs { file: Some(\"a.hob\"), image: \
+        Some(ImageFile { path: \"a.fv\", base: 16711680 }) } }\n\
+    fv hobs --base 18446744073709551615 --image=a.fv: Plan { hex: false, command: Hobs { file: None, image: \
+        Some(ImageFile { path: \"a.fv\", base: 18446744073709551615 }) } }\n\
+    fv list: Plan { hex: false, command: Single { task: List, at: None, file: None } }\n\
+    fv list a.txt --hex: Plan { hex: true, command: Single { task: List, at: None, file: Some(\"a.txt\") } }\n\
+    fv list --sums: Plan { hex: false, command: Single { task: ListSums, at: None, file: None } }\n\
+    fv list --at 64 --sums a.txt --hex: Plan { hex: true, command: Single { task: ListSums, at: Some(64), file: \
+        Some(\"a.txt\") } }\n\
+    fv cells: Plan { hex: false, command: Single { task: Cells, at: None, file: None } }\n\
+    fv cells --at 64 --hex a.txt: Plan { hex: true, command: Single { task: Cells, at: Some(64), file: \
+        Some(\"a.txt\") } }\n\
+    fv scan a.bin: Plan { hex: false, command: Single { task: Scan, at: None, file: Some(\"a.bin\") } }\n\
+    fv scan --hex: Plan { hex: true, command: Single { task: Scan, at: None, file: None } }\n\
+    fv compare a.fv b.fv: Plan { hex: false, command: Compare { first: VolumeFile { path: \"a.fv\", at: None }, \
+        second: VolumeFile { path: \"b.fv\", at: None } } }\n\
+    fv compare a.txt --hex b.txt: Plan { hex: true, command: Compare { first: VolumeFile { path: \"a.txt\", at: \
+        None }, second: VolumeFile { path: \"b.txt\", at: None } } }\n\
+    fv check: Plan { hex: false, command: Single { task: Check, at: None, file: None } }\n\
+    fv check --hex a.txt: Plan { hex: true, command: Single { task: Check, at: None, file: Some(\"a.txt\") } }\n\
+    fv list -- --hex: Plan { hex: false, command: Single { task: List, at: None, file: Some(\"--hex\") } }\n\
+    fv list -: Plan { hex: false, command: Single { task: List, at: None, file: Some(\"-\") } }\n\
+    fv list --at 540672 a.fd: Plan { hex: false, command: Single { task: List, at: Some(540672), file: \
+        Some(\"a.fd\") } }\n\
+    fv list a.fd --at=+540672: Plan { hex: false, command: Single { task: List, at: Some(540672), file: \
+        Some(\"a.fd\") } }\n\
+    fv check --at 0: Plan { hex: false, command: Single { task: Check, at: Some(0), file: None } }\n\
+    fv normalise --at 18446744073709551615 a.fd: Plan { hex: false, command: Single { task: Normalise, at: \
+        Some(18446744073709551615), file: Some(\"a.fd\") } }\n\
+    fv compare --at 64 a.fd --other-at 0 b.fv: Plan { hex: false, command: Compare { first: VolumeFile { path: \
+        \"a.fd\", at: Some(64) }, second: VolumeFile { path: \"b.fv\", at: Some(0) } } }\n\
+    fv compare a.fd b.fv --other-at 8: Plan { hex: false, command: Compare { first: VolumeFile { path: \"a.fd\", \
+        at: None }, second: VolumeFile { path: \"b.fv\", at: Some(8) } } }\n\
+    "
+}
+
+// Command lines that extract a part, each with its plan.
+fn extractions() -> &'static str {
+    "\
+    fv extract --name NAME: Plan { hex: false, command: Single { task: Extract(Part { name: NAME, section: None, \
+        instance: 1 }), at: None, file: None } }\n\
+    fv extract --name NAME --hex a.txt: Plan { hex: true, command: Single { task: Extract(Part { name: NAME, \
+        section: None, instance: 1 }), at: None, file: Some(\"a.txt\") } }\n\
+    fv extract --name NAME --section 19 --instance 2 --hex: Plan { hex: true, command: Single { task: Extract(Part \
+        { name: NAME, section: Some(25), instance: 2 }), at: None, file: None } }\n\
+    fv extract --name NAME --section 1 a.fv: Plan { hex: false, command: Single { task: Extract(Part { name: NAME, \
+        section: Some(1), instance: 1 }), at: None, file: Some(\"a.fv\") } }\n\
+    fv extract --name NAME --section=1B: Plan { hex: false, command: Single { task: Extract(Part { name: NAME, \
+        section: Some(27), instance: 1 }), at: None, file: None } }\n\
+    fv extract --name NAME --section 1b: Plan { hex: false, command: Single { task: Extract(Part { name: NAME, \
+        section: Some(27), instance: 1 }), at: None, file: None } }\n\
+    fv extract --name NAME --section ff: Plan { hex: false, command: Single { task: Extract(Part { name: NAME, \
+        section: Some(255), instance: 1 }), at: None, file: None } }\n\
+    fv extract --name NAME --section 00: Plan { hex: false, command: Single { task: Extract(Part { name: NAME, \
+        section: Some(0), instance: 1 }), at: None, file: None } }\n\
+    fv extract --name NAME --instance 0: Plan { hex: false, command: Single { task: Extract(Part { name: NAME, \
+        section: None, instance: 0 }), at: None, file: None } }\n\
+    fv extract --name NAME --instance +3: Plan { hex: false, command: Single { task: Extract(Part { name: NAME, \
+        section: None, instance: 3 }), at: None, file: None } }\n\
+    fv extract --name NAME --instance 4294967295: Plan { hex: false, command: Single { task: Extract(Part { name: \
+        NAME, section: None, instance: 4294967295 }), at: None, file: None } }\n\
+    "
+}
+
+// Command lines that are wrong.
+fn wrong_lines() -> &'static str {
+    "\
+    fv list --all\n\
+    fv cells --sums\n\
+    fv normalise --sums\n\
+    fv list --sums --sums\n\
+    fv list --sums=true\n\
+    fv normalise --all --all\n\
+    fv normalise --all --at 8\n\
+    fv normalise --at 0 a.bin --all\n\
+    fv list --at\n\
+    fv list --at x\n\
+    fv list --at=-1\n\
+    fv list --at=-0\n\
+    fv list --at 0x40\n\
+    fv list --at 18446744073709551616\n\
+    fv list --other-at 8\n\
+    fv cells --all\n\
+    fv cells a.fv b.fv\n\
+    fv scan --at 8\n\
+    fv hobs --at 8\n\
+    fv compare --at a.fv b.fv\n\
+    fv compare a.fv b.fv --other-at\n\
+    fv hobs --image a.fv\n\
+    fv hobs --base\n\
+    fv hobs --base 1\n\
+    fv hobs --base 1 a.hob\n\
+    fv hobs --image a.fv --base\n\
+    fv hobs --image a.fv --base x\n\
+    fv hobs --image a.fv --base=-1\n\
+    fv hobs --image a.fv --base=-0\n\
+    fv hobs --image a.fv --base=0x10\n\
+    fv hobs --image a.fv --base 18446744073709551616\n\
+    fv hobs a.hob b.hob\n\
+    fv normalise a.fv b.fv\n\
+    fv normalise --base 1\n\
+    fv normalise --flag\n\
+    fv normalise --help\n\
+    fv --hex\n\
+    fv list a.fv b.fv\n\
+    fv list --base 1\n\
+    fv scan a.bin b.bin\n\
+    fv scan --help\n\
+    fv compare\n\
+    fv compare a.fv\n\
+    fv compare --hex a.txt\n\
+    fv compare a.fv b.fv c.fv\n\
+    fv list --hex --hex\n\
+    fv list --hex=true\n\
+    fv list --he\n\
+    fv list -h\n\
+    fv list -- a.fv b.fv\n\
+    fv list --version\n\
+    fv check a.fv b.fv\n\
+    fv check --name 0a0a0a0a-0a0a-0a0a-0a0a-0a0a0a0a0a0a\n\
+    fv extract\n\
+    fv extract a.fv\n\
+    fv extract --section 19\n\
+    fv extract --name\n\
+    fv extract --name \n\
+    fv extract --name 0a0a\n\
+    fv extract --name 0a0a0a0a-0a0a-0a0a-0a0a-0a0a0a0a0a0g\n\
+    fv extract --name 0a0a0a0a-0a0a-0a0a-0a0a-0a0a0a0a0a0a0\n\
+    fv extract --name NAME --section +1\n\
+    fv extract --name NAME --section \n\
+    fv extract --name NAME --section=\n\
+    fv extract --name NAME --section 100\n\
+    fv extract --name NAME --section 1g\n\
+    fv extract --name NAME --section 0x1\n\
+    fv extract --name NAME --section -1\n\
+    fv extract --name NAME --section=-1\n\
+    fv extract --name NAME --section\n\
+    fv extract --name NAME --instance -1\n\
+    fv extract --name NAME --instance=-1\n\
+    fv extract --name NAME --instance=-0\n\
+    fv extract --name NAME --instance=0x1\n\
+    fv extract --name NAME --instance 4294967296\n\
+    fv extract --name NAME --instance x\n\
+    fv extract --name NAME --instance \n\
+    fv extract --name NAME --instance\n\
+    fv extract --name NAME --name NAME\n\
+    fv extract --name NAME --image a.fv\n\
+    fv extract --name NAME a.fv b.fv\n\
+    fv help\n\
+    fv help list\n\
+    fv --help\n\
+    fv --version\n\
+    fv --\n\
+    fv -- list\n\
+    fv -\n\
+    fv lis\n\
+    fv lists\n\
+    fv List\n\
+    fv normalize\n\
+    fv \n\
+    fv  list\n\
+    "
+}
+
+// Whether the command line of a row asks for the plan of the row.
+fn asks_for_its_plan(alloc: Global, row: &str) -> Option<bool> {
+    let (line, plan) = row.split_once(": ")?;
+    let shown = plan_text(alloc, line)?;
+    Some(shown.as_str() == plan)
+}
+
+#[test]
+fn command_lines_ask_for_their_plans(rt: HostRuntime) {
+    for row in plans().lines() {
+        assert!(rt; asks_for_its_plan(rt.alloc(), row) == Some(true), "{row}");
+    }
+}
+
+// Whether the command line of a row asks for the plan of the row, in which NAME means that GUID.
+fn asks_for_its_part(alloc: Global, row: &str) -> Option<bool> {
+    let (line, plan) = row.split_once(": ")?;
+    let wanted = with_name(alloc, plan)?;
+    let shown = plan_text(alloc, line)?;
+    Some(shown.as_str() == wanted.as_str())
+}
+
+#[test]
+fn command_lines_ask_for_their_parts(rt: HostRuntime) {
+    for row in extractions().lines() {
+        assert!(rt; asks_for_its_part(rt.alloc(), row) == Some(true), "{row}");
+    }
+}
+
+// Whether the arguments of the line are rejected as wrong, and not because memory ran out.
+fn is_rejected(alloc: Global, line: &str) -> Option<bool> {
+    let arguments = arguments_of(alloc, line)?;
+    let read = parse_words(alloc, &arguments);
+    Some(matches!(read, Err(WordFault::Words)))
+}
+
+#[test]
+fn wrong_command_lines_are_rejected(rt: HostRuntime) {
+    for line in wrong_lines().lines() {
+        assert!(rt; is_rejected(rt.alloc(), line) == Some(true), "{line}");
+    }
+}

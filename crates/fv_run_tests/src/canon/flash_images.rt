@@ -1,0 +1,107 @@
+//! Images in which volumes are among other bytes.
+
+use crate::fakes::FakeWriter;
+use crate::spelling::bytes_of;
+use fv_base::{Fault, FaultKind, Port};
+use fv_canon::{normalise_image, write_normalised_image};
+use std::alloc::Global;
+
+// Images, each with what it becomes.
+fn renewed_images() -> &'static str {
+    "\
+    00*0 -> 00*0\n\
+    empty 00 -> empty 00\n\
+    ff*64 filler-zero 00*8 filler-zero -> ff*64 filler-erased 00*8 filler-erased\n\
+    "
+}
+
+// Images with the number, the offset and the depth of the fault.
+fn rejected_images() -> &'static str {
+    "\
+    ff*64 file-state-bit -> 10 159 0\n\
+    ff*64 nested-head-sum-off -> 6 164 1\n\
+    ff*64 ext-header-without-room file-state-bit -> 22 64 0\n\
+    "
+}
+
+// Whether the image of a line becomes the one after its arrow.
+fn row_becomes_its_image(alloc: Global, line: &str) -> Option<bool> {
+    let (image, wanted) = line.split_once(" -> ")?;
+    let made = normalise_image(alloc, &bytes_of(alloc, image)?).ok()?;
+    Some(made.as_slice() == bytes_of(alloc, wanted)?.as_slice())
+}
+
+// Whether the writing of an image ends with this, and writes the bytes and nothing after them, if
+// the writer has room for `room` bytes.
+fn write_ends_as(
+    alloc: Global,
+    image: &[u8],
+    room: usize,
+    wanted_end: (Result<(), Fault>, &[u8]),
+) -> bool {
+    let mut writer = Port::new(FakeWriter::new(alloc, 7, room, true));
+    let returned = write_normalised_image(alloc, image, &mut writer);
+    returned == wanted_end.0 && writer.into_inner().took_only(wanted_end.1)
+}
+
+// Whether the image of a line is written as it is after its arrow, and as far as there is room.
+fn row_is_written_as_far_as_there_is_room(alloc: Global, line: &str) -> Option<bool> {
+    let (image, wanted) = line.split_once(" -> ")?;
+    let image = bytes_of(alloc, image)?;
+    let wanted = bytes_of(alloc, wanted)?;
+    for room in 0..wanted.len() {
+        let fault = Fault::outer(FaultKind::WriteFault, room as u64);
+        if !write_ends_as(alloc, &image, room, (Err(fault), &wanted[..room])) {
+            return Some(false);
+        }
+    }
+    Some(write_ends_as(alloc, &image, wanted.len(), (Ok(()), &wanted)))
+}
+
+// Whether nothing is written of the image of a line, since it is rejected with this fault.
+fn rejected_image_is_not_written(alloc: Global, image: &str, fault: Fault) -> Option<bool> {
+    let image = bytes_of(alloc, image)?;
+    Some(write_ends_as(alloc, &image, usize::MAX, (Err(fault), b"")))
+}
+
+// The fault with which an image is rejected.
+fn fault_of(alloc: Global, image: &str) -> Option<Fault> {
+    let bytes = bytes_of(alloc, image)?;
+    normalise_image(alloc, &bytes).err()
+}
+
+// The number, the offset and the depth of a fault.
+fn fault_numbers(alloc: Global, fault: Fault) -> Option<String> {
+    let (number, place) = (fault.kind.number(), fault.place);
+    format!(in alloc; "{} {} {}", number, place.offset, place.depth).ok()
+}
+
+// Whether the image of a line is rejected with the fault after its arrow.
+fn row_is_rejected_with_its_fault(alloc: Global, line: &str) -> Option<bool> {
+    let (image, wanted) = line.split_once(" -> ")?;
+    let fault = fault_of(alloc, image)?;
+    Some(
+        fault_numbers(alloc, fault)?.as_str() == wanted
+            && rejected_image_is_not_written(alloc, image, fault)?,
+    )
+}
+
+#[test]
+fn each_volume_of_an_image_is_renewed(rt: HostRuntime) {
+    for line in renewed_images().lines() {
+        assert!(rt;
+            row_becomes_its_image(rt.alloc(), line) == Some(true),
+            "{line}"
+        );
+        assert!(rt;
+            row_is_written_as_far_as_there_is_room(rt.alloc(), line) == Some(true),
+            "{line}"
+        );
+    }
+    for line in rejected_images().lines() {
+        assert!(rt;
+            row_is_rejected_with_its_fault(rt.alloc(), line) == Some(true),
+            "{line}"
+        );
+    }
+}

@@ -1,0 +1,174 @@
+//! Failed allocations: `.ci/memory` makes each allocation of the test fail in turn, and no wrong
+//! result may be returned.
+
+use super::images::has_starts;
+use crate::spelling::bytes_of_at_last;
+use crate::volumes::row_of;
+use fv_base::{ByteList, Fault, FaultKind, Port};
+use fv_canon::{
+    Side, body_bytes, canonical, file_bytes, is_canonical, layout, normalise, normalise_image,
+    run_compare, run_normalise, write_canonical, write_normalised_image,
+};
+use fv_tree::{FileView, Item, Lookup, VolumeView, read_volume, section_by_type};
+use std::alloc::Global;
+
+// What a call returns if memory ran out.
+fn out_of_memory() -> Fault {
+    Fault::outer(FaultKind::OutOfMemory, 0)
+}
+
+// Whether these bytes are made, or memory ran out.
+fn is_made_or_memory_ran_out(made: Result<ByteList, Fault>, wanted: &[u8]) -> bool {
+    match made {
+        Ok(bytes) => bytes.as_slice() == wanted,
+        Err(fault) => fault == out_of_memory(),
+    }
+}
+
+// Whether the result says that a volume is its own image, or not, as expected, or memory ran out.
+fn is_judged_or_memory_ran_out(alloc: Global, volume: &[u8], wanted: bool) -> bool {
+    let judged = is_canonical(alloc, volume);
+    judged == Ok(wanted) || judged == Err(out_of_memory())
+}
+
+// Whether the files are laid out there, or memory ran out. After that, writing the image takes no
+// more memory.
+fn is_laid_out_or_memory_ran_out(
+    alloc: Global,
+    view: &VolumeView,
+    image: &[u8],
+    starts: &str,
+) -> bool {
+    let places = match layout(alloc, view) {
+        Ok(places) => places,
+        Err(fault) => return fault == out_of_memory(),
+    };
+    let mut taken = [0u8; 392];
+    let room = image.len().min(392);
+    let mut writer = Port::new(&mut taken[..room]);
+    let is_done = write_canonical(view, &places, &mut writer) == Ok(());
+    is_done && &taken[..room] == image && has_starts(&places, starts)
+}
+
+// Whether a run writes the image, or nothing if memory ran out.
+fn run_writes_all_or_nothing(alloc: Global, volume: &[u8], image: &[u8]) -> bool {
+    let mut taken = [0u8; 392];
+    let room = image.len().min(392);
+    let mut reader = Port::new(volume);
+    let mut writer = Port::new(&mut taken[..room]);
+    match run_normalise(alloc, &mut reader, &mut writer) {
+        Ok(()) => &taken[..room] == image,
+        Err(fault) => fault == out_of_memory() && taken == [0; 392],
+    }
+}
+
+// Whether the image is written, or nothing if memory ran out.
+fn call_writes_all_or_nothing(alloc: Global, volume: &[u8], image: &[u8]) -> bool {
+    let mut taken = [0u8; 392];
+    let room = image.len().min(392);
+    let mut writer = Port::new(&mut taken[..room]);
+    match write_normalised_image(alloc, volume, &mut writer) {
+        Ok(()) => &taken[..room] == image,
+        Err(fault) => fault == out_of_memory() && taken == [0; 392],
+    }
+}
+
+// Whether the image of a view is made, or memory ran out.
+fn view_has_image_or_memory_ran_out(
+    alloc: Global,
+    volume: &[u8],
+    image: &[u8],
+    starts: &str,
+) -> bool {
+    match read_volume(alloc, volume) {
+        Ok((view, _)) => {
+            is_laid_out_or_memory_ran_out(alloc, &view, image, starts)
+                && is_made_or_memory_ran_out(canonical(alloc, &view), image)
+        }
+        Err(fault) => fault == out_of_memory(),
+    }
+}
+
+// Whether each call on the volume of a line, its image and the starts of its files returns the
+// right result, or memory ran out.
+fn calls_on_row_are_right(alloc: Global, line: &str) -> Option<bool> {
+    let (name, other, starts) = row_of(line)?;
+    let volume = bytes_of_at_last(alloc, name)?;
+    let image = bytes_of_at_last(alloc, other)?;
+    Some(
+        view_has_image_or_memory_ran_out(alloc, &volume, &image, starts?)
+            && is_made_or_memory_ran_out(normalise(alloc, &volume), &image)
+            && is_made_or_memory_ran_out(normalise_image(alloc, &volume), &image)
+            && call_writes_all_or_nothing(alloc, &volume, &image)
+            && is_judged_or_memory_ran_out(alloc, &volume, false)
+            && is_judged_or_memory_ran_out(alloc, &image, true)
+            && run_writes_all_or_nothing(alloc, &volume, &image),
+    )
+}
+
+// Whether the data of a file and the volume in it are made, or memory ran out.
+fn parts_of_file_are_right(alloc: Global, file: &FileView, image: &[u8]) -> bool {
+    let Lookup::Found(Item::Section(section)) = section_by_type(file, 0x17, 1) else {
+        return false;
+    };
+    let (Some(data), Some(body)) = (image.get(96..228), image.get(100..228)) else {
+        return false;
+    };
+    is_made_or_memory_ran_out(file_bytes(alloc, file), data)
+        && is_made_or_memory_ran_out(body_bytes(alloc, section), body)
+}
+
+// Whether those of the first file of a volume are made, or memory ran out.
+fn parts_of_volume_are_right(alloc: Global, volume: &[u8], image: &[u8]) -> bool {
+    match read_volume(alloc, volume) {
+        Ok((view, _)) => view
+            .file(0)
+            .is_some_and(|file| parts_of_file_are_right(alloc, file, image)),
+        Err(fault) => fault == out_of_memory(),
+    }
+}
+
+// Whether two volumes are compared, or nothing is written because memory ran out.
+fn comparison_writes_all_or_nothing(alloc: Global, first: &[u8], second: &[u8]) -> bool {
+    let line = b"different at file 0 attributes\n";
+    let mut taken = [0u8; 31];
+    let mut writer = Port::new(taken.as_mut_slice());
+    match run_compare(
+        alloc,
+        &mut Port::new(first),
+        &mut Port::new(second),
+        &mut writer,
+    ) {
+        Ok(is_same) => !is_same && taken == *line,
+        Err((side, fault)) => side != Side::Output && fault == out_of_memory() && taken == [0; 31],
+    }
+}
+
+// Whether the parts of one volume are made and two others compared, or memory ran out.
+fn parts_and_comparison_are_right(alloc: Global) -> Option<bool> {
+    let volume = bytes_of_at_last(alloc, "nested-with-deleted-file")?;
+    let image = bytes_of_at_last(alloc, "nested-image")?;
+    let first = bytes_of_at_last(alloc, "file-sum-zero-data")?;
+    let second = bytes_of_at_last(alloc, "file-without-data")?;
+    Some(
+        parts_of_volume_are_right(alloc, &volume, &image)
+            && comparison_writes_all_or_nothing(alloc, &first, &second),
+    )
+}
+
+/// Volumes with their images, and the offsets of the files in these.
+const LINES: [&str; 2] = [
+    "three-aligned-392: three-aligned-392-image -> 72 136 360",
+    "nested-with-deleted-file: nested-image -> 72",
+];
+
+#[test]
+fn out_of_memory_is_reported(rt: HostRuntime) {
+    for line in LINES {
+        assert!(rt;
+            calls_on_row_are_right(rt.alloc(), line) == Some(true),
+            "{line}"
+        );
+    }
+    assert!(rt; parts_and_comparison_are_right(rt.alloc()) == Some(true));
+}

@@ -1,0 +1,140 @@
+//! Comparisons whose readers and writer stop early, or never.
+
+use crate::fakes::{EndlessReader, FakeReader, FakeWriter, InterruptedReader};
+use crate::spelling::bytes_of;
+use fv_base::{Fault, FaultKind, Port};
+use fv_canon::{Side, run_compare};
+use std::alloc::Global;
+use std::io::Read;
+
+/// What is written of the two volumes.
+const LINE: &[u8; 31] = b"different at file 0 attributes\n";
+
+// Whether a comparison returns this, and writes the bytes and nothing after them.
+fn comparison_ends_as<R: Read + Drop, Q: Read + Drop>(
+    alloc: Global,
+    first: &mut Port<R>,
+    second: &mut Port<Q>,
+    writer: FakeWriter,
+    wanted_end: (Result<bool, (Side, Fault)>, &[u8]),
+) -> bool {
+    let mut writer = Port::new(writer);
+    let returned = run_compare(alloc, first, second, &mut writer);
+    returned == wanted_end.0 && writer.into_inner().took_only(wanted_end.1)
+}
+
+// Whether nothing is written if the reader of a side stops the run with this fault. What follows is
+// not read.
+fn writes_nothing_if_stopped<R: Read + Drop>(
+    alloc: Global,
+    side: Side,
+    volume: &[u8],
+    stopping: R,
+    fault: Fault,
+) -> bool {
+    let writer = FakeWriter::new(alloc, 7, usize::MAX, true);
+    let wanted_end = (Err((side, fault)), b"".as_slice());
+    let mut stopping = Port::new(stopping);
+    if side == Side::First {
+        let mut unread = Port::new(FakeReader::failing(b"", 1, 0));
+        return comparison_ends_as(alloc, &mut stopping, &mut unread, writer, wanted_end);
+    }
+    let mut first = Port::new(FakeReader::new(volume, 4096, false));
+    comparison_ends_as(alloc, &mut first, &mut stopping, writer, wanted_end)
+}
+
+// Whether nothing is written if the reader of either side fails after `count` bytes.
+fn writes_nothing_if_reading_fails(
+    alloc: Global,
+    first: &[u8],
+    second: &[u8],
+    step: usize,
+    count: usize,
+) -> bool {
+    let fault = Fault::outer(FaultKind::ReadFault, count as u64);
+    let failing = FakeReader::failing(first, step, count);
+    let other = FakeReader::failing(second, step, count);
+    writes_nothing_if_stopped(alloc, Side::First, first, failing, fault)
+        && writes_nothing_if_stopped(alloc, Side::Second, first, other, fault)
+}
+
+// Whether the run ends as expected if the writer has room for `room` bytes, and then fails or takes
+// no byte. Where it fails, every second call of the readers is interrupted.
+fn writes_as_far_as_there_is_room(
+    alloc: Global,
+    first: &[u8],
+    second: &[u8],
+    step: usize,
+    room: usize,
+) -> bool {
+    let fault = Fault::outer(FaultKind::WriteFault, room as u64);
+    let wanted = &LINE[..room.min(LINE.len())];
+    let outcome = if room < LINE.len() {
+        Err((Side::Output, fault))
+    } else {
+        Ok(false)
+    };
+    for is_broken in [false, true] {
+        let mut reader = Port::new(FakeReader::new(first, step, is_broken));
+        let mut other = Port::new(FakeReader::new(second, step, is_broken));
+        let writer = FakeWriter::new(alloc, step, room, is_broken);
+        if !comparison_ends_as(alloc, &mut reader, &mut other, writer, (outcome, wanted)) {
+            return false;
+        }
+    }
+    true
+}
+
+// Whether a run stops if the reader of a side is interrupted for ever after 2 bytes.
+fn gives_up_if_always_interrupted(alloc: Global, side: Side, volume: &[u8]) -> bool {
+    let fault = Fault::outer(FaultKind::ReadFault, 2);
+    let wanted_end = (Err((side, fault)), b"".as_slice());
+    let writer = FakeWriter::new(alloc, 7, usize::MAX, true);
+    let mut stalled = Port::new(InterruptedReader { calls: 0 });
+    let mut first = Port::new(volume);
+    let is_stopped = if side == Side::First {
+        comparison_ends_as(alloc, &mut stalled, &mut first, writer, wanted_end)
+    } else {
+        comparison_ends_as(alloc, &mut first, &mut stalled, writer, wanted_end)
+    };
+    is_stopped && stalled.into_inner().calls == 268_435_458
+}
+
+// Whether the run over two volumes stops at each of their bytes, and of the line, if a reader or
+// the writer stops there.
+fn stops_at_each_byte(alloc: Global, first: &[u8], second: &[u8], step: usize) -> bool {
+    for count in 0..=128 {
+        if !writes_nothing_if_reading_fails(alloc, first, second, step, count) {
+            return false;
+        }
+    }
+    for room in 0..=LINE.len() {
+        if !writes_as_far_as_there_is_room(alloc, first, second, step, room) {
+            return false;
+        }
+    }
+    true
+}
+
+#[test]
+fn a_comparison_stops_with_its_readers_or_writer(rt: HostRuntime) {
+    let first = bytes_of(rt.alloc(), "file-sum-zero-data").unwrap_or(Vec::new(rt.alloc()));
+    let second = bytes_of(rt.alloc(), "file-without-data").unwrap_or(Vec::new(rt.alloc()));
+    for step in [1, 50, 4096] {
+        assert!(rt;
+            stops_at_each_byte(rt.alloc(), &first, &second, step),
+            "{step}"
+        );
+    }
+    let fault = Fault::outer(FaultKind::Length, 268_435_456);
+    for side in [Side::First, Side::Second] {
+        assert!(rt;
+            writes_nothing_if_stopped(rt.alloc(), side, &first, EndlessReader, fault),
+            "{side:?}"
+        );
+        assert!(rt;
+            gives_up_if_always_interrupted(rt.alloc(), side, &first),
+            "{side:?}"
+        );
+    }
+}

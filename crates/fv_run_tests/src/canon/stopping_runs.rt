@@ -1,0 +1,74 @@
+//! Runs that normalise, over readers and writers that stop early.
+
+use super::images::IMAGES;
+use crate::fakes::{FakeReader, FakeWriter};
+use crate::spelling::bytes_of;
+use fv_base::{Fault, FaultKind, Port};
+use fv_canon::run_normalise;
+use std::alloc::Global;
+
+// Whether a run returns this, and writes the bytes and nothing after them.
+fn run_ends_as(
+    alloc: Global,
+    reader: FakeReader<'_>,
+    writer: FakeWriter,
+    outcome: Result<(), Fault>,
+    wanted: &[u8],
+) -> bool {
+    let mut reader = Port::new(reader);
+    let mut writer = Port::new(writer);
+    let returned = run_normalise(alloc, &mut reader, &mut writer);
+    returned == outcome && writer.into_inner().took_only(wanted)
+}
+
+// Whether nothing is written if the reader fails after `count` bytes.
+fn writes_nothing_if_reading_fails(alloc: Global, image: &[u8], step: usize, count: usize) -> bool {
+    let reader = FakeReader::failing(image, step, count);
+    let writer = FakeWriter::new(alloc, step, usize::MAX, true);
+    let fault = Fault::outer(FaultKind::ReadFault, count as u64);
+    run_ends_as(alloc, reader, writer, Err(fault), b"")
+}
+
+// Whether as many bytes are written as the writer has room for. When it is full it fails, or takes
+// no byte.
+fn writes_as_far_as_there_is_room(alloc: Global, image: &[u8], step: usize, room: usize) -> bool {
+    let fault = Fault::outer(FaultKind::WriteFault, room as u64);
+    let wanted = &image[..room.min(image.len())];
+    [false, true].iter().all(|is_broken| {
+        let reader = FakeReader::new(image, step, false);
+        let writer = FakeWriter::new(alloc, step, room, *is_broken);
+        run_ends_as(alloc, reader, writer, Err(fault), wanted)
+    })
+}
+
+// Whether the image is written, and only its first bytes if the reader or the writer stops.
+fn stops_at_each_byte(alloc: Global, name: &str, step: usize) -> Option<bool> {
+    let image = bytes_of(alloc, name)?;
+    for is_interrupted in [false, true] {
+        let reader = FakeReader::new(&image, step, is_interrupted);
+        let writer = FakeWriter::new(alloc, step, usize::MAX, true);
+        if !run_ends_as(alloc, reader, writer, Ok(()), &image) {
+            return Some(false);
+        }
+    }
+    for count in 0..image.len() {
+        if !writes_nothing_if_reading_fails(alloc, &image, step, count)
+            || !writes_as_far_as_there_is_room(alloc, &image, step, count)
+        {
+            return Some(false);
+        }
+    }
+    Some(writes_nothing_if_reading_fails(alloc, &image, step, image.len()))
+}
+
+#[test]
+fn a_run_stops_with_its_reader_or_writer(rt: HostRuntime) {
+    for name in IMAGES {
+        for step in [1, 50, 4096] {
+            assert!(rt;
+                stops_at_each_byte(rt.alloc(), name, step) == Some(true),
+                "{name} {step}"
+            );
+        }
+    }
+}

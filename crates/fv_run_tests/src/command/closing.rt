@@ -1,0 +1,84 @@
+//! How a run ends that writes one line: what is wrong with it.
+
+use super::runs::{Input, ends_as};
+use crate::fakes::FakeWriter;
+use fv_base::{Fault, FaultKind, Port};
+use fv_command::{Output, Status, close, refuse, say};
+use fv_plan::{Command, Plan, Task, VolumeFile};
+use std::alloc::Global;
+use std::io::BufWriter;
+use std::test::Fail;
+
+// The status of a run that reports a wrong command line.
+fn closed_after(alloc: Global, inner: &mut FakeWriter) -> Result<Status, Fail> {
+    let mut writer = Port::new(BufWriter::new(alloc, Output::new(inner))?);
+    let status = say(&mut writer, "wrong words\n", Status::WrongWords);
+    Ok(close(writer, status).0)
+}
+
+#[test]
+fn a_run_is_closed_once(rt: HostRuntime) -> Result<(), Fail> {
+    let cases: [(usize, &[u8], Status); 2] = [
+        (12, b"wrong words\n", Status::WrongWords),
+        (11, b"wrong words", Status::Refused),
+    ];
+    for (room, wanted, ended) in cases {
+        let mut inner = FakeWriter::new(rt.alloc(), 5, room, true);
+        assert!(rt; closed_after(rt.alloc(), &mut inner)? == ended);
+        assert!(rt; inner.took_only(wanted), "{room}");
+    }
+    Ok(())
+}
+
+#[test]
+fn out_of_memory_has_its_line(rt: HostRuntime) {
+    let mut writer = Port::new(Vec::new(rt.alloc()));
+    let status = refuse(&mut writer, Fault::outer(FaultKind::OutOfMemory, 0));
+    let has_failed = writer.erred();
+    let written = writer.into_inner();
+    assert!(rt; status == Status::Refused && !has_failed);
+    assert!(rt; written.as_slice() == b"fault 24 at 0\n".as_slice());
+}
+
+// The plan to normalise a volume.
+fn normalise() -> Plan {
+    let command = Command::Single {
+        task: Task::Normalise,
+        at: None,
+        file: None,
+    };
+    Plan {
+        hex: false,
+        command,
+    }
+}
+
+// The plan to compare two volumes.
+fn compare(alloc: Global) -> Plan {
+    let first = VolumeFile {
+        path: String::new(alloc),
+        at: None,
+    };
+    let second = VolumeFile {
+        path: String::new(alloc),
+        at: None,
+    };
+    Plan {
+        hex: false,
+        command: Command::Compare { first, second },
+    }
+}
+
+// Whether a run of the plan whose files are missing ends as Refused, with this line.
+fn misses_its_files(alloc: Global, plan: &Plan, line: &[u8]) -> bool {
+    let writer = FakeWriter::new(alloc, 1000, usize::MAX, true);
+    let inputs = (Input::Missing, Input::Missing);
+    ends_as(alloc, plan, inputs, writer, (2, line))
+}
+
+#[test]
+fn a_missing_file_is_a_read_fault(rt: HostRuntime) {
+    let alloc = rt.alloc();
+    assert!(rt; misses_its_files(alloc, &normalise(), b"fault 25 at 0\n"));
+    assert!(rt; misses_its_files(alloc, &compare(alloc), b"first fault 25 at 0\n"));
+}

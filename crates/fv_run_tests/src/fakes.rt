@@ -1,0 +1,167 @@
+//! Readers and writers of the tests.
+
+use std::alloc::Global;
+use std::io;
+use std::io::{ErrorKind, Read, Write};
+
+/// Gives bytes, at most `step` a call, and fails after `until_failure` in all.
+#[derive(Drop)]
+pub struct FakeReader<'a> {
+    /// The bytes that are still to be given.
+    rest: &'a [u8],
+    /// How many bytes a call gives at most.
+    step: usize,
+    /// How many bytes are given before a call fails.
+    until_failure: usize,
+    /// Whether every second call is interrupted.
+    is_interrupted: bool,
+    /// Whether the last call was interrupted.
+    was_interrupted: bool,
+}
+
+impl<'a> FakeReader<'a> {
+    /// A reader of all of the bytes.
+    pub fn new(bytes: &'a [u8], step: usize, is_interrupted: bool) -> FakeReader<'a> {
+        FakeReader {
+            rest: bytes,
+            step,
+            until_failure: usize::MAX,
+            is_interrupted,
+            was_interrupted: false,
+        }
+    }
+
+    /// A reader that fails instead of giving the byte at `count`, or its end.
+    pub fn failing(bytes: &'a [u8], step: usize, count: usize) -> FakeReader<'a> {
+        FakeReader {
+            rest: bytes,
+            step,
+            until_failure: count,
+            is_interrupted: false,
+            was_interrupted: false,
+        }
+    }
+}
+
+impl<'a> Read for FakeReader<'a> {
+    fn read(&mut self, buf: &mut [u8]) -> io::Result<usize> {
+        self.was_interrupted = !self.was_interrupted;
+        if self.is_interrupted && self.was_interrupted {
+            return Err(io::Error::from(ErrorKind::Interrupted));
+        }
+        if self.until_failure == 0 {
+            return Err(io::Error::from(ErrorKind::BrokenPipe));
+        }
+        let most = buf.len().min(self.step).min(self.until_failure);
+        let count = self.rest.len().min(most);
+        let (given, rest) = self.rest.split_at(count);
+        buf[..count].copy_from_slice(given);
+        self.rest = rest;
+        self.until_failure -= count;
+        Ok(count)
+    }
+}
+
+/// Gives arbitrary bytes without end.
+#[derive(Drop)]
+pub struct EndlessReader;
+
+impl Read for EndlessReader {
+    fn read(&mut self, buf: &mut [u8]) -> io::Result<usize> {
+        Ok(buf.len())
+    }
+}
+
+/// Gives spaces without end.
+#[derive(Drop)]
+pub struct SpaceReader {
+    /// How often it was called.
+    pub calls: u64,
+    /// The most bytes that it was asked for.
+    pub most: usize,
+}
+
+impl Read for SpaceReader {
+    fn read(&mut self, buf: &mut [u8]) -> io::Result<usize> {
+        self.calls = self.calls.saturating_add(1);
+        self.most = self.most.max(buf.len());
+        buf.fill(b' ');
+        Ok(buf.len())
+    }
+}
+
+/// Gives two digits, and is interrupted from then on.
+#[derive(Drop)]
+pub struct InterruptedReader {
+    /// How often it was called.
+    pub calls: u64,
+}
+
+impl Read for InterruptedReader {
+    fn read(&mut self, buf: &mut [u8]) -> io::Result<usize> {
+        self.calls = self.calls.saturating_add(1);
+        if self.calls > 1 || buf.len() < 2 {
+            return Err(io::Error::from(ErrorKind::Interrupted));
+        }
+        buf[..2].copy_from_slice(b"00");
+        Ok(2)
+    }
+}
+
+/// Takes `room` bytes, and then fails.
+#[derive(Drop)]
+pub struct FakeWriter {
+    /// The bytes that it took_only.
+    taken: Vec<u8>,
+    /// Whether a call came after the first that failed.
+    is_late: bool,
+    /// How many bytes a call takes at most.
+    step: usize,
+    /// How many bytes it still takes in all.
+    room: usize,
+    /// Whether a call without room is an error, or else takes no byte.
+    is_broken: bool,
+    /// Whether a call has failed, or took_only no byte.
+    has_failed: bool,
+}
+
+impl FakeWriter {
+    /// A writer with room for `room` bytes.
+    pub fn new(alloc: Global, step: usize, room: usize, is_broken: bool) -> FakeWriter {
+        FakeWriter {
+            taken: Vec::new(alloc),
+            is_late: false,
+            step,
+            room,
+            is_broken,
+            has_failed: false,
+        }
+    }
+
+    /// Whether it took_only exactly these bytes, and no call came after the first that failed.
+    pub fn took_only(&self, bytes: &[u8]) -> bool {
+        !self.is_late && self.taken.as_slice() == bytes
+    }
+}
+
+impl Write for FakeWriter {
+    fn write(&mut self, buf: &[u8]) -> io::Result<usize> {
+        if self.has_failed {
+            self.is_late = true;
+            return Err(io::Error::from(ErrorKind::BrokenPipe));
+        }
+        let count = buf.len().min(self.step).min(self.room);
+        self.has_failed = count == 0;
+        if count == 0 && self.is_broken {
+            return Err(io::Error::from(ErrorKind::BrokenPipe));
+        }
+        self.taken.extend_from_slice(&buf[..count])?;
+        self.room -= count;
+        Ok(count)
+    }
+
+    fn flush(&mut self) -> io::Result<()> {
+        self.is_late = self.is_late || self.has_failed;
+        Ok(())
+    }
+}

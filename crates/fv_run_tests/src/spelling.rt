@@ -1,0 +1,82 @@
+//! The bytes that words of a table spell.
+
+use super::volumes::{lists, parts, refused, text_named, unplaced, volumes};
+use fv_base::Port;
+use fv_text::read_hex;
+use std::alloc::{AllocError, Global};
+
+/// The number that decimal digits spell.
+pub fn number_of(digits: &str) -> Option<u64> {
+    digits.parse().ok()
+}
+
+// The words, with the name of a line of the table replaced by the words of that line.
+fn expanded(alloc: Global, table: &str, text: &str) -> Option<String> {
+    let mut words = String::new(alloc);
+    for word in text.split_whitespace() {
+        words
+            .push_str(text_named(table, word).unwrap_or(word))
+            .ok()?;
+        words.push(' ').ok()?;
+    }
+    Some(words)
+}
+
+// Appends the part `count` times.
+fn append_repeated(bytes: &mut Vec<u8>, part: &[u8], count: u64) -> Option<()> {
+    for _ in 0..count {
+        bytes.extend_from_slice(part).ok()?;
+    }
+    Some(())
+}
+
+// Appends what a word of digits spells, as often as the number after its star says.
+fn append_word(alloc: Global, bytes: &mut Vec<u8>, word: &str) -> Option<()> {
+    let (digits, number) = word.split_once('*').unwrap_or((word, "1"));
+    let count = number_of(number)?;
+    let part = read_hex(alloc, &mut Port::new(digits.as_bytes())).ok()?;
+    append_repeated(bytes, &part, count)
+}
+
+// The bytes of words of digits.
+fn bytes_of_digits(alloc: Global, text: &str) -> Option<Vec<u8>> {
+    let mut bytes = Vec::new(alloc);
+    for word in text.split_whitespace() {
+        append_word(alloc, &mut bytes, word)?;
+    }
+    Some(bytes)
+}
+
+/// The bytes that words of digits and names of the tables spell.
+pub fn bytes_of(alloc: Global, text: &str) -> Option<Vec<u8>> {
+    let mut words = String::from_str(alloc, text).ok()?;
+    for table in [lists(), volumes(), unplaced(), refused(), parts()] {
+        words = expanded(alloc, table, words.as_str())?;
+    }
+    bytes_of_digits(alloc, words.as_str())
+}
+
+/// The bytes that words spell. If memory runs out for them, they are spelled a second time.
+pub fn bytes_of_at_last(alloc: Global, words: &str) -> Option<Vec<u8>> {
+    match bytes_of(alloc, words) {
+        None => bytes_of(alloc, words),
+        bytes => bytes,
+    }
+}
+
+// Appends the digits as lines of 64, each with a line feed.
+fn append_lines(lines: &mut Vec<u8>, digits: &[u8]) -> Result<(), AllocError> {
+    for line in digits.chunks(64) {
+        lines.extend_from_slice(line)?;
+        lines.push(b'\n')?;
+    }
+    Ok(())
+}
+
+/// The bytes as lines of digits, 32 bytes a line.
+pub fn lines_of(alloc: Global, bytes: &[u8]) -> Option<Vec<u8>> {
+    let digits = hex::encode(alloc, bytes).ok()?;
+    let mut lines = Vec::new(alloc);
+    append_lines(&mut lines, digits.as_bytes()).ok()?;
+    Some(lines)
+}

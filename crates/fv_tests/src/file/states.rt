@@ -1,0 +1,109 @@
+//! State bytes and attribute bits.
+
+use bitflags::Flags;
+use fv_base::Polarity;
+use fv_file::{FileAttributes, FileState, file_state};
+
+/// The states by the highest bit that was written: each with the least number of written bits that
+/// has it.
+const STATES: [(u8, Option<FileState>); 8] = [
+    (0x00, Some(FileState::Free)),
+    (0x01, Some(FileState::Construction)),
+    (0x02, Some(FileState::HeaderValid)),
+    (0x04, Some(FileState::DataValid)),
+    (0x08, Some(FileState::Marked)),
+    (0x10, Some(FileState::Deleted)),
+    (0x20, Some(FileState::HeaderInvalid)),
+    (0x40, None),
+];
+
+// The state of the highest bit of a number of written bits.
+fn highest(written: u8) -> Option<FileState> {
+    let mut state = None;
+    for (from, some) in STATES {
+        if from <= written {
+            state = some;
+        }
+    }
+    state
+}
+
+#[test]
+fn the_highest_written_bit_is_the_state(rt: HostRuntime) {
+    for written in 0..=255u8 {
+        let state = highest(written);
+        let is_same = file_state(written, Polarity::Zeros) == state;
+        assert!(rt;
+            is_same && file_state(0xff - written, Polarity::Ones) == state,
+            "{written}"
+        );
+    }
+}
+
+#[test]
+fn states_have_their_bytes(rt: HostRuntime) {
+    for (byte, polarity, state) in [
+        (0xff, Polarity::Ones, Some(FileState::Free)),
+        (0xfe, Polarity::Ones, Some(FileState::Construction)),
+        (0xfc, Polarity::Ones, Some(FileState::HeaderValid)),
+        (0xf8, Polarity::Ones, Some(FileState::DataValid)),
+        (0xf0, Polarity::Ones, Some(FileState::Marked)),
+        (0xe8, Polarity::Ones, Some(FileState::Deleted)),
+        (0xe0, Polarity::Ones, Some(FileState::Deleted)),
+        (0xdf, Polarity::Ones, Some(FileState::HeaderInvalid)),
+        (0xb8, Polarity::Ones, None),
+        (0x78, Polarity::Ones, None),
+        (0x07, Polarity::Ones, None),
+        (0x00, Polarity::Zeros, Some(FileState::Free)),
+        (0x07, Polarity::Zeros, Some(FileState::DataValid)),
+        (0xf8, Polarity::Zeros, None),
+    ] {
+        assert!(rt; file_state(byte, polarity) == state, "{byte}");
+    }
+}
+
+#[test]
+fn files_are_alive_in_two_states(rt: HostRuntime) {
+    for (state, is_alive) in [
+        (FileState::Free, false),
+        (FileState::Construction, false),
+        (FileState::HeaderValid, false),
+        (FileState::DataValid, true),
+        (FileState::Marked, true),
+        (FileState::Deleted, false),
+        (FileState::HeaderInvalid, false),
+    ] {
+        assert!(rt; state.is_alive() == is_alive, "{state:?}");
+    }
+}
+
+// Whether the bits are read as this, with and without bit 0x01.
+fn has_attributes(bits: u8, is_large: bool, is_fixed: bool, is_summed: bool, without: u8) -> bool {
+    let attributes = FileAttributes::from_bits_retain(bits);
+    attributes.bits() == bits
+        && attributes.is_large() == is_large
+        && attributes.is_fixed() == is_fixed
+        && attributes.is_summed() == is_summed
+        && attributes.without_large().bits() == without
+}
+
+#[test]
+fn attributes_have_their_bits(rt: HostRuntime) {
+    for (bits, is_large, is_fixed, is_summed, without) in [
+        (0x00, false, false, false, 0x00),
+        (0x01, true, false, false, 0x00),
+        (0x04, false, true, false, 0x04),
+        (0x40, false, false, true, 0x40),
+        (0x45, true, true, true, 0x44),
+        (0xba, false, false, false, 0xba),
+        (0xbb, true, false, false, 0xba),
+        (0xbe, false, true, false, 0xbe),
+        (0xfa, false, false, true, 0xfa),
+        (0xff, true, true, true, 0xfe),
+    ] {
+        assert!(rt;
+            has_attributes(bits, is_large, is_fixed, is_summed, without),
+            "{bits}"
+        );
+    }
+}

@@ -1,0 +1,65 @@
+//! Failed allocations: `.ci/memory` makes each allocation of the test fail in turn, and no wrong
+//! result may be returned.
+
+use super::streams::{ExpectedFrame, PAIR, PAIR_FRAMES, has_frame_at, is_split};
+use super::texts::{FREEFORMS, TEXTS, VERSIONS, has_freeform_parts};
+use super::written::is_written;
+use crate::faults::OUT_OF_MEMORY;
+use fv_section::{FrameWalk, ui_text, version};
+use std::alloc::Global;
+
+/// Nine sections without bodies.
+const NINE: [u8; 36] = [
+    0x04, 0x00, 0x00, 0x19, 0x04, 0x00, 0x00, 0x19, 0x04, 0x00, 0x00, 0x19, 0x04, 0x00, 0x00, 0x19,
+    0x04, 0x00, 0x00, 0x19, 0x04, 0x00, 0x00, 0x19, 0x04, 0x00, 0x00, 0x19, 0x04, 0x00, 0x00, 0x19,
+    0x04, 0x00, 0x00, 0x19,
+];
+
+/// Their frames.
+const NINE_FRAMES: [ExpectedFrame<'static>; 9] = [
+    (0, 0x19, false, &[]),
+    (4, 0x19, false, &[]),
+    (8, 0x19, false, &[]),
+    (12, 0x19, false, &[]),
+    (16, 0x19, false, &[]),
+    (20, 0x19, false, &[]),
+    (24, 0x19, false, &[]),
+    (28, 0x19, false, &[]),
+    (32, 0x19, false, &[]),
+];
+
+// Whether a stream without a tail is split into these frames, or memory ran out.
+fn is_split_or_out_of_memory(alloc: Global, stream: &[u8], expected: &[ExpectedFrame]) -> bool {
+    let found = is_split(alloc, stream, expected, 0);
+    found == Ok(true) || found == Err(OUT_OF_MEMORY)
+}
+
+// Whether a walk over the two sections counts the frames that are left.
+fn walk_counts_frames() -> bool {
+    let Ok(mut walk) = FrameWalk::of(&PAIR[..15]) else {
+        return false;
+    };
+    let all = walk.frames_left();
+    let first = walk.next_frame();
+    first.is_some() && all == 2 && walk.frames_left() == 1 && walk.tail() == 1
+}
+
+// Whether the calls that take no memory return the right results.
+fn calls_without_memory_are_right() -> bool {
+    let (body, text) = TEXTS[0];
+    let (numbered, parts) = VERSIONS[0];
+    let (named, rest) = FREEFORMS[0];
+    ui_text(body) == text
+        && version(numbered) == parts
+        && has_freeform_parts(named, rest)
+        && has_frame_at(&PAIR, 8, &Some(PAIR_FRAMES[1]))
+        && walk_counts_frames()
+        && is_written(0x19, false, 1, &[0x05, 0x00, 0x00, 0x19])
+}
+
+#[test]
+fn out_of_memory_is_reported(rt: HostRuntime) {
+    assert!(rt; is_split_or_out_of_memory(rt.alloc(), &PAIR[..14], &PAIR_FRAMES));
+    assert!(rt; is_split_or_out_of_memory(rt.alloc(), &NINE, &NINE_FRAMES));
+    assert!(rt; calls_without_memory_are_right());
+}

@@ -1,0 +1,42 @@
+//! Views: the slices that they lend.
+
+use crate::spelling::spelled_volume;
+use fv_tree::{Content, FileView, read_volume};
+use std::alloc::Global;
+
+/// A file whose data are the byte 0x5a.
+const BYTE: &str = "<80> 0a*16 46aa0100190000f8 5a ff*31";
+
+/// A file with one section, whose body is the byte 0x5a.
+const SECTION: &str = "<68> 0a*16 41aa02001d0000f8 050000195affffff";
+
+// The data of a file, or the body of its first section.
+fn part_of<'a>(file: &FileView<'a>) -> Option<&'a [u8]> {
+    match file.content() {
+        Content::Plain(_) => file.plain(),
+        Content::Stream { sections, .. } => sections.first()?.leaf(),
+    }
+}
+
+// A part of the first file of a volume, taken from a view that is dropped before the part is used.
+fn first_part(alloc: Global, volume: &[u8]) -> Option<&[u8]> {
+    let (view, _) = read_volume(alloc, volume).ok()?;
+    let part = part_of(view.file(0)?);
+    drop(view);
+    part
+}
+
+// Whether the part is one byte of the input, which is dropped after it.
+fn part_is(alloc: Global, text: &str, byte: u8) -> Option<bool> {
+    let input = spelled_volume(alloc, text)?;
+    let part = first_part(alloc, &input)?;
+    let is_same = part == [byte].as_slice();
+    drop(input);
+    Some(is_same)
+}
+
+#[test]
+fn slices_outlive_the_view(rt: HostRuntime) {
+    assert!(rt; part_is(rt.alloc(), BYTE, 0x5a) == Some(true));
+    assert!(rt; part_is(rt.alloc(), SECTION, 0x5a) == Some(true));
+}
