@@ -5,6 +5,5 @@ pub mod FlagWords
 pub mod NumberLemmas
 pub mod ReadLemmas
 pub mod RefusalLemmas
-pub mod RuleLemmas
 pub mod TaskLemmas
 pub mod TypeLemmas

@@ -193,12 +193,22 @@ fn compare(alloc: Global, matches: &ArgMatches<'_>) -> Result<Command, WordFault
     }
 }
 
-// A task over an input.
-fn single(task: Task, input: (Option<u64>, Option<String>)) -> Command
-    ensures { result ≡ Command.Single task input.0 input.1 }
+// A volume, for `check` or `cells`.
+fn on_volume(alloc: Global, matches: &ArgMatches<'_>, task: Task) -> Result<Command, WordFault>
+    ensures check { task ≡ Task.Check → AsksFor (codes "check") matches.now result }
+    ensures cells { task ≡ Task.Cells → AsksFor (codes "cells") matches.now result }
 {
-    let (at, file) = input;
-    Command::Single { task, at, file }
+    let (at, file) = input_of(alloc, matches)?;
+    Ok(Command::Single { task, at, file })
+}
+
+// A file that is searched for volumes.
+fn scan(alloc: Global, matches: &ArgMatches<'_>) -> Result<Command, WordFault>
+    ensures { AsksFor (codes "scan") matches.now result }
+{
+    let file = file_of(alloc, matches, "file")?;
+    let (task, at) = (Task::Scan, None);
+    Ok(Command::Single { task, at, file })
 }
 
 // The command of this name, with what was found in its arguments.
@@ -210,9 +220,9 @@ fn command_of(alloc: Global, name: &str, matches: &ArgMatches<'_>) -> Result<Com
         "hobs" => hobs(alloc, matches),
         "list" => list(alloc, matches),
         "extract" => extract(alloc, matches),
-        "check" => Ok(single(Task::Check, input_of(alloc, matches)?)),
-        "cells" => Ok(single(Task::Cells, input_of(alloc, matches)?)),
-        "scan" => Ok(single(Task::Scan, (None, file_of(alloc, matches, "file")?))),
+        "check" => on_volume(alloc, matches, Task::Check),
+        "cells" => on_volume(alloc, matches, Task::Cells),
+        "scan" => scan(alloc, matches),
         "compare" => compare(alloc, matches),
         _ => Err(WordFault::Words),
     }

@@ -1,6 +1,6 @@
 //! The rules of the commands: the flags, options and files that each of them takes.
 
-ghost use Rattle.clap.specs.Words.{app_of, new_rule, rule_of, with_rule};
+ghost use Rattle.clap.specs.Words.{App, Rule, app_of, new_rule, rule_of, with_rule};
 ghost use Rattle.fv_arguments.specs.Options.{at_rule, compare_app, extract_app, flag_app, hobs_app};
 ghost use Rattle.fv_arguments.specs.Options.{flag_rule, number_rule, option_rule};
 ghost use Rattle.fv_arguments.specs.inner.CommandWords.{app_named};
@@ -34,52 +34,69 @@ fn number_option<'a>(alloc: Global, name: &'static str, most: u64) -> Arg<'a>
     text_option(alloc, name).value_parser(ValueParser::unsigned(0, most))
 }
 
-// These rules, and a volume in an input: the byte at which it begins, and the file.
-fn with_volume<'a>(alloc: Global, rules: Command<'a>) -> Result<Command<'a>, AllocError>
-    ensures { IfOk result (λ c. app_of c ≡ with_rule (with_rule (app_of rules.entry) at_rule) (new_rule (codes "file"))) }
+// These rules and this argument, if memory did not run out for the rules.
+fn add<'a>(rules: Result<Command<'a>, AllocError>, arg: Arg<'a>) -> Result<Command<'a>, AllocError>
+    ensures { (app : App) (rule : Rule) → IfOk rules.entry (λ c. app_of c ≡ app) → rule_of arg.entry ≡ rule
+        → arg.entry.global ≡ false → IfOk result (λ c. app_of c ≡ with_rule app rule) }
 {
-    rules
-        .arg(number_option(alloc, "at", u64::MAX))?
-        .arg(Arg::new(alloc, "file"))
+    rules?.arg(arg)
+}
+
+// These rules, and a volume in an input: the byte at which it begins, and the file.
+fn add_volume<'a>(
+    alloc: Global,
+    rules: Result<Command<'a>, AllocError>,
+) -> Result<Command<'a>, AllocError>
+    ensures { (app : App) → IfOk rules.entry (λ c. app_of c ≡ app)
+        → IfOk result (λ c. app_of c ≡ with_rule (with_rule app at_rule) (new_rule (codes "file"))) }
+{
+    let at = add(rules, number_option(alloc, "at", u64::MAX));
+    add(at, Arg::new(alloc, "file"))
 }
 
 // The rules of a command with the flag that inputs and outputs are text.
-fn flag_rules<'a>(alloc: Global) -> Result<Command<'a>, AllocError>
+fn text_rules<'a>(alloc: Global) -> Result<Command<'a>, AllocError>
     ensures { IfOk result (λ c. app_of c ≡ flag_app) }
 {
     Command::new(alloc, "fvtool").arg(flag(alloc, "hex"))
+}
+
+// The rules of a command with a volume and a flag of this name.
+fn flag_rules<'a>(alloc: Global, name: &'static str) -> Result<Command<'a>, AllocError>
+    ensures { IfOk result (λ c. app_of c
+        ≡ with_rule (with_rule (with_rule flag_app (flag_rule name.now)) at_rule) (new_rule (codes "file"))) }
+{
+    add_volume(alloc, add(text_rules(alloc), flag(alloc, name)))
 }
 
 // The rules of `hobs`. That an image and a base are given together is checked after parsing.
 fn hobs_rules<'a>(alloc: Global) -> Result<Command<'a>, AllocError>
     ensures { IfOk result (λ c. app_of c ≡ hobs_app) }
 {
-    flag_rules(alloc)?
-        .arg(text_option(alloc, "image"))?
-        .arg(number_option(alloc, "base", u64::MAX))?
-        .arg(Arg::new(alloc, "file"))
+    let image = add(text_rules(alloc), text_option(alloc, "image"));
+    let base = add(image, number_option(alloc, "base", u64::MAX));
+    add(base, Arg::new(alloc, "file"))
 }
 
 // The rules of `extract`. That a file is named is checked after parsing.
 fn extract_rules<'a>(alloc: Global) -> Result<Command<'a>, AllocError>
     ensures { IfOk result (λ c. app_of c ≡ extract_app) }
 {
-    let named = flag_rules(alloc)?.arg(text_option(alloc, "name"))?;
-    let parts = named
-        .arg(text_option(alloc, "section"))?
-        .arg(number_option(alloc, "instance", u64::from(u32::MAX)))?;
-    with_volume(alloc, parts)
+    let name = add(text_rules(alloc), text_option(alloc, "name"));
+    let section = add(name, text_option(alloc, "section"));
+    let most = u64::from(u32::MAX);
+    let instance = add(section, number_option(alloc, "instance", most));
+    add_volume(alloc, instance)
 }
 
 // The rules of `compare`, which has two inputs. That both are named is checked after parsing.
 fn compare_rules<'a>(alloc: Global) -> Result<Command<'a>, AllocError>
     ensures { IfOk result (λ c. app_of c ≡ compare_app) }
 {
-    flag_rules(alloc)?
-        .arg(number_option(alloc, "at", u64::MAX))?
-        .arg(number_option(alloc, "other-at", u64::MAX))?
-        .arg(Arg::new(alloc, "first"))?
-        .arg(Arg::new(alloc, "second"))
+    let at = add(text_rules(alloc), number_option(alloc, "at", u64::MAX));
+    let other_at = add(at, number_option(alloc, "other-at", u64::MAX));
+    let first = add(other_at, Arg::new(alloc, "first"));
+    add(first, Arg::new(alloc, "second"))
 }
 
 // The rules of the command of this name. `check` and `cells` have those of a volume, and so does a
@@ -88,12 +105,12 @@ pub(crate) fn rules_of<'a>(alloc: Global, name: &str) -> Result<Command<'a>, All
     ensures { IfOk result (λ c. app_of c ≡ app_named name.now) }
 {
     match name {
-        "normalise" => with_volume(alloc, flag_rules(alloc)?.arg(flag(alloc, "all"))?),
-        "list" => with_volume(alloc, flag_rules(alloc)?.arg(flag(alloc, "sums"))?),
+        "normalise" => flag_rules(alloc, "all"),
+        "list" => flag_rules(alloc, "sums"),
         "hobs" => hobs_rules(alloc),
         "extract" => extract_rules(alloc),
         "compare" => compare_rules(alloc),
-        "scan" => flag_rules(alloc)?.arg(Arg::new(alloc, "file")),
-        _ => with_volume(alloc, flag_rules(alloc)?),
+        "scan" => add(text_rules(alloc), Arg::new(alloc, "file")),
+        _ => add_volume(alloc, text_rules(alloc)),
     }
 }

@@ -4,110 +4,85 @@ ghost use Rattle.std.specs.Prelude.{◌≡◌, true, false, OnOk, IfErr};
 ghost use Rattle.fv_base.specs.Faults.{fault_number, outer_fault, out_of_memory};
 
 use std::alloc::{AllocError, AllocFailed};
+use std::fmt;
 use thiserror::Error;
 
 /// Why an input was rejected, or a run stopped. Each variant says when it is the fault, and its
 /// offset. A valid file is one whose data are valid, marked for update or not.
-#[derive(Clone, Copy, Debug, PartialEq, Eq, Error)]
+#[derive(Clone, Copy, Debug, PartialEq, Eq)]
 pub enum FaultKind {
     /// There are fewer bytes than 56, than `HeaderLength` or than `FvLength`. At the end of the
     /// bytes.
-    #[error("the bytes end before the volume does")]
     Truncated,
     /// `Signature`, the four bytes at 40, is not `_FVH`, `EFI_FVH_SIGNATURE`. At 40.
-    #[error("the signature is not _FVH")]
     Signature,
     /// `FileSystemGuid`, at 16, is neither that of FFS2 nor that of FFS3. At 16.
-    #[error("the file system is neither FFS2 nor FFS3")]
     FileSystem,
     /// `Revision`, the byte at 55, is not 2, `EFI_FVH_REVISION`. At 55.
-    #[error("the header is not of revision 2")]
     Revision,
     /// `HeaderLength` is not a multiple of 8 from 64 to 2112. At 48.
-    #[error("the header length is out of range")]
     HeaderLength,
     /// The 16-bit words of the header, with its `Checksum`, do not sum to 0. At 0.
-    #[error("the volume header has a wrong sum")]
     HeaderSum,
     /// The first pair of zeros of `BlockMap` is not at `HeaderLength` - 8, or the blocks do not sum
     /// to `FvLength`. At 56.
-    #[error("the block map does not make up the volume")]
     BlockMap,
     /// `FvLength` is not a multiple of 8, is below `HeaderLength` or is above the limit (at 32). Or
     /// bytes follow the volume in a call that takes a whole one (at `FvLength`). Or an input is
     /// longer than the limit (at the limit).
-    #[error("the length is out of range")]
     Length,
     /// The extended header, at `ExtHeaderOffset`, begins before `HeaderLength`, has fewer than 20
     /// bytes before `FvLength` or ends past it; or `ExtHeaderSize` is below 20 or above 65,535. At
     /// 52.
-    #[error("the extended header is out of range")]
     ExtHeader,
     /// Bit 0x40 or 0x80 of `State` was written; or `verify_ffs_file` is given a file that is not
     /// valid. At the file + 23.
-    #[error("the state of a file is not known")]
     FileState,
     /// The bytes of a file header, with `IntegrityCheck.Checksum.File` and `State` taken as 0, do
     /// not sum to 0. At the file.
-    #[error("a file header has a wrong sum")]
     FileHeaderSum,
     /// `Size` or `ExtendedSize` of a file is below its header's length or past the end; `Size` of a
     /// large header is not 0; or the header is cut short by the end. At the file + 20.
-    #[error("the size of a file is out of range")]
     FileSize,
     /// `Attributes` of a file in FFS2 has `FFS_ATTRIB_LARGE_FILE`, bit 0x01. (A header that was
     /// never finished may have it.) At the file + 19.
-    #[error("a large file in FFS2")]
     LargeFile,
     /// The file sum of a valid file that is no pad is wrong: with `FFS_ATTRIB_CHECKSUM`, the data
     /// and `IntegrityCheck.Checksum.File` do not sum to 0; without it,
     /// `IntegrityCheck.Checksum.File` is not 0xAA. At the file + 17.
-    #[error("a file has a wrong sum")]
     FileSum,
     /// `Attributes` of a valid file that is no pad has `FFS_ATTRIB_FIXED`, bit 0x04. At the file +
     /// 19.
-    #[error("a file is marked fixed")]
     Fixed,
     /// Where a cell would begin, not all bytes up to the volume's end are erased, and either fewer
     /// than 24 are left or `State` is erased. At the first byte from there on that is not erased.
-    #[error("a byte of the free space is not erased")]
     FreeSpace,
     /// A valid file that is no pad has the `Name` of an earlier one in the same state. At the later
     /// file.
-    #[error("two files of one state have one name")]
     DuplicateName,
     /// A file whose `Name` is `EFI_FFS_VOLUME_TOP_FILE_GUID`, and which is not superseded, is not
     /// the last file, or does not end at `FvLength`. At the file.
-    #[error("the volume top file is not at the end")]
     TopFile,
     /// `Size` or `ExtendedSize` of a section is below its header's length or past the end, or an
     /// extended header is cut short by the end. At the section header.
-    #[error("the size of a section is out of range")]
     SectionSize,
     /// One to three bytes are left where a section would begin. At the first of them.
-    #[error("too few bytes for a section header")]
     SectionTail,
     /// The content of a group or of an opened volume would lie at depth 9. At the section header.
-    #[error("sections are nested too deep")]
     Depth,
     /// The files of a volume that was read have no placement in its `FvLength` bytes, though its
     /// volume top file, if it has one, could be placed. At 0, with the depth of that volume.
-    #[error("the files do not fit")]
     NoRoom,
     /// The volume top file of a volume that was read, placed so that it ends at `FvLength`, does
     /// not begin at a multiple of 8, or its data are not aligned (`FFS_ATTRIB_DATA_ALIGNMENT`). At
     /// 0, with the depth of that volume.
-    #[error("the volume top file can not be aligned")]
     TopAlignment,
     /// Memory ran out. At 0.
-    #[error("out of memory")]
     OutOfMemory,
     /// The reader failed, or was interrupted too often. At the number of bytes read so far.
-    #[error("the reader failed")]
     ReadFault,
     /// The writer failed, or took no byte though some were given. At the number of bytes written so
     /// far.
-    #[error("the writer failed")]
     WriteFault,
 }
 
@@ -145,7 +120,47 @@ impl FaultKind {
             FaultKind::WriteFault => 26,
         }
     }
+
+    // What `Display` writes of the kind.
+    fn text(self) -> &'static str {
+        match self {
+            FaultKind::Truncated => "the bytes end before the volume does",
+            FaultKind::Signature => "the signature is not _FVH",
+            FaultKind::FileSystem => "the file system is neither FFS2 nor FFS3",
+            FaultKind::Revision => "the header is not of revision 2",
+            FaultKind::HeaderLength => "the header length is out of range",
+            FaultKind::HeaderSum => "the volume header has a wrong sum",
+            FaultKind::BlockMap => "the block map does not make up the volume",
+            FaultKind::Length => "the length is out of range",
+            FaultKind::ExtHeader => "the extended header is out of range",
+            FaultKind::FileState => "the state of a file is not known",
+            FaultKind::FileHeaderSum => "a file header has a wrong sum",
+            FaultKind::FileSize => "the size of a file is out of range",
+            FaultKind::LargeFile => "a large file in FFS2",
+            FaultKind::FileSum => "a file has a wrong sum",
+            FaultKind::Fixed => "a file is marked fixed",
+            FaultKind::FreeSpace => "a byte of the free space is not erased",
+            FaultKind::DuplicateName => "two files of one state have one name",
+            FaultKind::TopFile => "the volume top file is not at the end",
+            FaultKind::SectionSize => "the size of a section is out of range",
+            FaultKind::SectionTail => "too few bytes for a section header",
+            FaultKind::Depth => "sections are nested too deep",
+            FaultKind::NoRoom => "the files do not fit",
+            FaultKind::TopAlignment => "the volume top file can not be aligned",
+            FaultKind::OutOfMemory => "out of memory",
+            FaultKind::ReadFault => "the reader failed",
+            FaultKind::WriteFault => "the writer failed",
+        }
+    }
 }
+
+impl fmt::Display for FaultKind {
+    fn fmt<W: fmt::Write>(&self, f: &mut fmt::Formatter<W>) -> fmt::Result {
+        f.write_str(self.text())
+    }
+}
+
+impl std::error::Error for FaultKind {}
 
 /// Where a fault is.
 #[derive(Clone, Copy, Debug, PartialEq, Eq)]

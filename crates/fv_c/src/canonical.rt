@@ -56,7 +56,7 @@ pub extern "C" fn fv_is_canonical(
 
 /// A SHA-256 digest.
 #[repr(C)]
-#[derive(Clone, Copy, Debug, PartialEq, Eq)]
+#[derive(Clone, Copy)]
 pub struct FvDigest {
     /// Its 32 bytes.
     pub bytes: [u8; 32],

@@ -19,7 +19,7 @@ use std::alloc::{AllocError, Global};
 /// A cell of a volume's body. A field that the cell does not have is 0. (PI specification, volume
 /// 3, sections 3.2.2 and 3.2.3.)
 #[repr(C)]
-#[derive(Clone, Copy, Debug, PartialEq, Eq)]
+#[derive(Clone, Copy)]
 pub struct FvCell {
     /// Its offset in bytes from the volume's start.
     pub offset: u64,

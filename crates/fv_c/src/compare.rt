@@ -19,7 +19,7 @@ use std::alloc::Global;
 
 /// What a comparison found.
 #[repr(C)]
-#[derive(Clone, Copy, Debug, PartialEq, Eq)]
+#[derive(Clone, Copy)]
 pub struct FvComparison {
     /// The number of bytes of the line, its line feed included.
     pub line_len: u64,

@@ -15,7 +15,7 @@ use std::alloc::{AllocError, Global};
 
 /// A GUID, by its bytes in a volume.
 #[repr(C)]
-#[derive(Clone, Copy, Debug, PartialEq, Eq)]
+#[derive(Clone, Copy)]
 pub struct FvGuid {
     /// Its 16 bytes. The first three fields have their least significant byte first.
     pub bytes: [u8; 16],

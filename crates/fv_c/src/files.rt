@@ -20,7 +20,7 @@ use std::alloc::{AllocError, Global};
 
 /// A file of a volume. (PI specification, volume 3, section 3.2.3.)
 #[repr(C)]
-#[derive(Clone, Copy, Debug, PartialEq, Eq)]
+#[derive(Clone, Copy)]
 pub struct FvFile {
     /// The offset in bytes at which its data begin in the input.
     pub data_offset: u64,

@@ -15,7 +15,7 @@ use std::alloc::{AllocError, Global};
 
 /// A block of a hand-off list. (PI specification, volume 3, section 5.)
 #[repr(C)]
-#[derive(Clone, Copy, Debug, PartialEq, Eq)]
+#[derive(Clone, Copy)]
 pub struct FvHob {
     /// The base address of the volume that an FV or FV2 block describes, else 0.
     pub base: u64,

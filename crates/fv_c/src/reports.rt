@@ -19,7 +19,7 @@ pub const NOT_FOUND: u32 = 28;
 
 /// A fault and its place. All fields are 0 if there is none.
 #[repr(C)]
-#[derive(Clone, Copy, Debug, PartialEq, Eq)]
+#[derive(Clone, Copy)]
 pub struct FvFault {
     /// The offset in bytes from the first byte that was passed to the call.
     pub offset: u64,
@@ -39,7 +39,7 @@ pub const NO_FAULT: FvFault = FvFault {
 
 /// The extent of a volume. (PI specification, volume 3, section 3.2.1.1.)
 #[repr(C)]
-#[derive(Clone, Copy, Debug, PartialEq, Eq)]
+#[derive(Clone, Copy)]
 pub struct FvExtent {
     /// The number of its bytes, `FvLength`.
     pub length: u64,

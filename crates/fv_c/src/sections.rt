@@ -22,7 +22,7 @@ use std::alloc::{AllocError, Global};
 
 /// A section of a file. (PI specification, volume 3, section 3.2.4.)
 #[repr(C)]
-#[derive(Clone, Copy, Debug, PartialEq, Eq)]
+#[derive(Clone, Copy)]
 pub struct FvSection {
     /// The number of bytes of its body, which follows its header.
     pub len: u64,

@@ -27,6 +27,7 @@ use Rattle.fv_command.specs.Extractions.{StopsPart}
 use Rattle.fv_command.specs.ListTexts.{ListText, SumsText}
 use Rattle.fv_command.specs.SideRuns.{GivesVolume, SideStops, VolumeInputStops}
 use Rattle.fv_command.specs.TaskRuns.{SaysInput, StopsInput}
+use Rattle.fv_command.specs.Tasks.{Denies}
 use Rattle.fv_command.specs.inner.TaskSteps.{Performs, done_if}
 use Rattle.fv_plan.specs.declared.plan.Part.{Part}
 use Rattle.fv_plan.specs.declared.plan.Task.{Task}
@@ -96,10 +97,10 @@ performed task hex input w v (Ok status) says stops = says
 performed task hex input w v (Err fault) says stops = stops
 
 -- why a part of a volume is not extracted
-pub part_stopped : (hex : Bool) (input : List ℕ) (m : Meaning) (part : Part) (w : Shown) (f : Fault) → BeginsWith input m
-    → (f ≡ out_of_memory) ⊎ StopsPart (file_named part.name (files_of m)) part f → StopsInput (Extract part) hex input w w f
-part_stopped hex input m part w f b (inl is) = inl (refl, inl is)
-part_stopped hex input m part w f b (inr stops) = inl (refl, inr (inr (m, b, stops)))
+pub part_stopped : (input : List ℕ) (m : Meaning) (part : Part) (f : Fault) → BeginsWith input m
+    → (f ≡ out_of_memory) ⊎ StopsPart (file_named part.name (files_of m)) part f → Denies (Extract part) input f
+part_stopped input m part f b (inl is) = inl is
+part_stopped input m part f b (inr stops) = inr (inr (m, b, stops))
 
 -- ---- a hand-off list
 
@@ -123,6 +124,11 @@ given_at hex at r s items bytes taken is gives takes = (items, gives, subst (λ 
 pub given : (hex : Bool) (at : Option ℕ) (r s : Shown) (taken : List ℕ) (m : Meaning) → GivesAt hex at r s taken → Accepted taken m
     → GivesVolume hex at (turn r s) m
 given hex at r s taken m gives accepted = (taken, gives, accepted)
+
+pub first_stopped : (side : Side) (hex : Bool) (at other : Option ℕ) (first : Change) (s w : Shown) (f : Fault)
+    → side ≡ sides.First → VolumeInputStops hex at first f → SideStops side hex at other first (turn s s) (turn w w) f
+first_stopped side hex at other first s w f is stops =
+    subst (λ (x : Side). SideStops x hex at other first (turn s s) (turn w w) f) (sym is) (refl, inl (refl, stops))
 
 pub second_stopped : (side : Side) (hex : Bool) (at other : Option ℕ) (first second : Change) (w : Shown) (m : Meaning) (f : Fault)
     → side ≡ sides.Second → GivesVolume hex at first m → VolumeInputStops hex other second f

@@ -5,8 +5,8 @@ ghost use Rattle.fv_base.specs.Faults.{out_of_memory};
 ghost use Rattle.fv_text.specs.PortViews.{Writes, WritingStops, change, shown};
 ghost use Rattle.fv_command.specs.Inputs.{BeginsNone, BeginsWith};
 ghost use Rattle.fv_command.specs.TaskRuns.{RunsTask};
-ghost use Rattle.fv_command.specs.inner.TaskSteps.{Performs, done_if};
-ghost use Rattle.fv_command.specs.Tasks.{PartText};
+ghost use Rattle.fv_command.specs.inner.TaskSteps.{BeginsWithPart, Performs, done_if};
+ghost use Rattle.fv_command.specs.Tasks.{Denies, PartText};
 
 use crate::check_run::write_check;
 use crate::extracting::{Extraction, extract};
@@ -74,6 +74,15 @@ fn write_part<W: Write>(
     }
 }
 
+// A part of the volume at the start of the input.
+fn part_at_start<'a>(alloc: Global, input: &'a [u8], part: &Part) -> Result<Extraction<'a>, Fault>
+    ensures ok { IfOk result (BeginsWithPart input.now part.now) }
+    ensures err { IfErr result (Denies (Task.Extract part.now) input.now) }
+{
+    let volume = volume_at_start(alloc, input)?;
+    extract(alloc, &volume, part)
+}
+
 // Writes a part of the volume at the start of the input.
 fn extract_part<W: Write>(
     alloc: Global,
@@ -85,8 +94,7 @@ fn extract_part<W: Write>(
     ensures { Performs (Task.Extract part.now) hex input.now
         (shown W.contents writer.old) (shown W.contents writer.new) result }
 {
-    let volume = volume_at_start(alloc, input)?;
-    let extraction = extract(alloc, &volume, part)?;
+    let extraction = part_at_start(alloc, input, part)?;
     write_part(writer, hex, &extraction)
 }
 

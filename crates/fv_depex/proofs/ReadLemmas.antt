@@ -3,7 +3,7 @@ use Rattle.std.proofs.Common.{◌≡◌, ◌≢◌, ◌≤◌, ℕ, suc, ◌+◌
 use Rattle.std.proofs.Common.{length-append, length-drop, append_assoc, append-nil}
 use Rattle.std.specs.Prelude.{◌⊎◌}
 use Rattle.std.specs.List.{AllByRecursion}
-use Rattle.std.proofs.lemmas.List.{take-append-drop, take_at}
+use Rattle.std.proofs.lemmas.List.{length-take-le, take-append-drop, take_at}
 use Rattle.std.proofs.Math.Seq.{take-add}
 use Rattle.fv_base.specs.Checks.{IsFirstFault}
 use Rattle.fv_base.proofs.Laws.{first_among, none_faulty, not_first}
@@ -143,6 +143,20 @@ no_want phase stage r kind first =
     let all : AllByRecursion (λ c. P c.fault) (op_checks phase stage r) =
     ((λ t. cc), ((λ t. cc), ((λ t. cc), ((λ t. cc), ((λ t. cc), tt))))) in
     first_among P (op_checks phase stage r) kind all first
+
+-- a fault at the next op is that of the first op that has one
+pub first_fault_at : (phase : Phase) (b : List ℕ) (items : List Op) (at : ℕ) (stage : Stage) (f : DepexFault)
+    → OpsKept phase b items at stage → f.offset ≡ at → IsFirstFault (op_checks phase stage (drop at b)) f.kind
+    → IsFirstOpFault phase b f
+first_fault_at phase b items at stage f k place first = record {
+  before = items;
+  stage = stage;
+  r = drop at b;
+  joined = sym (take-append-drop at b) ∙ ap (λ (l : List ℕ). l ++ drop at b) k.bytes;
+  read = k.path;
+  place = place ∙ sym (length-take-le at b k.inside) ∙ ap length k.bytes;
+  kind_is = first;
+}
 
 -- where there is a first fault the bytes are spelled by none
 pub none_after : (phase : Phase) (b : List ℕ) (f : DepexFault) (xs : List Op) (s : List ℕ) → IsFirstOpFault phase b f → Spells phase xs s b

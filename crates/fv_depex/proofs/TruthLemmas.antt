@@ -61,6 +61,13 @@ run_step set all s t o i next done before =
     before ∙ ap (λ (l : List Op). evaluate_ops set l s) next
     ∙ ap (λ (k : Option (List Bool)). and_then k (evaluate_ops set (drop (i + 1) all))) done
 
+pub run_none : (set : List Guid) (all : List Op) (s : List Bool) (o : Op) (i : ℕ) → drop i all ≡ o ∷ drop (i + 1) all
+    → evaluate_op set s o ≡ None
+    → evaluate_ops set all [] ≡ evaluate_ops set (drop i all) s → None ≡ evaluate_ops set all []
+run_none set all s o i next none before =
+    sym (before ∙ ap (λ (l : List Op). evaluate_ops set l s) next
+    ∙ ap (λ (k : Option (List Bool)). and_then k (evaluate_ops set (drop (i + 1) all))) none)
+
 pub run_end : (set : List Guid) (all : List Op) (s : List Bool) (i : ℕ) → length all ≤ i
     → evaluate_ops set all [] ≡ evaluate_ops set (drop i all) s → evaluate_ops set all [] ≡ top s
 run_end set all s i past before = before ∙ ap (λ (l : List Op). evaluate_ops set l s) (drop_all i all past)

@@ -1,6 +1,6 @@
 //! Expressions, evaluated.
 
-ghost use Rattle.std.specs.Prelude.{◌≡◌, if◌then◌else◌, None, Some, [], ◌∷◌, ◌<◌, length, reverse};
+ghost use Rattle.std.specs.Prelude.{◌≡◌, ◌≢◌, if◌then◌else◌, None, Some, [], ◌∷◌, ◌<◌, length, reverse};
 ghost use Rattle.std.specs.Prelude.{IfSome, IfNone, IfOk, IfErr};
 ghost use Rattle.fv_depex.specs.OpChecks.{depex_out_of_memory};
 ghost use Rattle.fv_depex.specs.inner.Evaluation.{evaluate_op, evaluate_ops, top};
@@ -36,36 +36,43 @@ fn top(stack: &mut Vec<bool>) -> Option<bool>
     stack.pop()
 }
 
+// The value that an op pushes, with the values that it takes popped; None if the stack did not hold
+// them, or if the op pushes none.
+fn value_of(stack: &mut Vec<bool>, op: &Op, installed: &[Guid]) -> Option<bool>
+    ensures some { IfSome result (λ v. evaluate_op installed.now (reverse stack.old.items) op.now
+        ≡ Some (v ∷ reverse stack.new.items)) }
+    ensures none { op.now ≢ Op.End → op.now ≢ Op.Sor
+        → IfNone result (evaluate_op installed.now (reverse stack.old.items) op.now ≡ None) }
+{
+    match op {
+        Op::Push(guid) => Some(is_among(guid, installed)),
+        Op::True => Some(true),
+        Op::False => Some(false),
+        Op::Not => Some(!stack.pop()?),
+        Op::And => {
+            let (first, second) = pop_two(stack)?;
+            Some(first && second)
+        }
+        Op::Or => {
+            let (first, second) = pop_two(stack)?;
+            Some(first || second)
+        }
+        Op::Before(_) | Op::After(_) | Op::End | Op::Sor => None,
+    }
+}
+
 // Evaluates one op on the stack; false if the stack did not hold what the op takes.
 fn evaluate_op(stack: &mut Vec<bool>, op: &Op, installed: &[Guid]) -> Result<bool, AllocError>
     ensures { IfOk result (λ done. evaluate_op installed.now (reverse stack.old.items) op.now
         ≡ (if done then Some (reverse stack.new.items) else None)) }
 {
-    match op {
-        Op::Before(_) | Op::After(_) => return Ok(false),
-        Op::Push(guid) => stack.push(is_among(guid, installed))?,
-        Op::True => stack.push(true)?,
-        Op::False => stack.push(false)?,
-        Op::Not => {
-            let Some(value) = stack.pop() else {
-                return Ok(false);
-            };
-            stack.push(!value)?;
-        }
-        Op::And => {
-            let Some((first, second)) = pop_two(stack) else {
-                return Ok(false);
-            };
-            stack.push(first && second)?;
-        }
-        Op::Or => {
-            let Some((first, second)) = pop_two(stack) else {
-                return Ok(false);
-            };
-            stack.push(first || second)?;
-        }
-        Op::End | Op::Sor => {}
+    if *op == Op::End || *op == Op::Sor {
+        return Ok(true);
     }
+    let Some(value) = value_of(stack, op, installed) else {
+        return Ok(false);
+    };
+    stack.push(value)?;
     Ok(true)
 }
 

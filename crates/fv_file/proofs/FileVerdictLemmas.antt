@@ -1,11 +1,14 @@
 -- The verdict on a file by its checks, up to the first that does not hold.
-use Rattle.std.proofs.Common.{◌≡◌, ℕ, ◌+◌, Bool, List, length, true, false, not, refl}
+use Rattle.std.proofs.Common.{◌≡◌, ◌≤◌, ℕ, ◌+◌, Bool, List, length, true, false, not, refl}
 use Rattle.std.specs.Prelude.{◌&&◌, ◌||◌, nat_le, Ok, Err}
+use Rattle.std.proofs.lemmas.Bool.{leb-true}
+use Rattle.fv_base.proofs.Laws.{and_split}
 use Rattle.fv_base.specs.Faults.{outer_fault}
 use Rattle.fv_base.specs.declared.fault.FaultKind.TheVariants as kinds
 use Rattle.fv_base.specs.declared.flash.FileSystem.{FileSystem}
-use Rattle.fv_file.specs.FileChecks.{file_header_len_at, has_file_size, has_header_sum, may_be_large, skips_data}
-use Rattle.fv_file.specs.Files.{head_in}
+use Rattle.fv_file.specs.FileChecks.{file_header_len_at, has_file_size, has_file_sum, has_header_sum, may_be_large, skips_data}
+use Rattle.fv_file.specs.Attributes.{is_fixed}
+use Rattle.fv_file.specs.Files.{attributes_at, head_in}
 use Rattle.fv_file.specs.States.{is_alive}
 use Rattle.fv_file.specs.inner.CellVerdicts.{file_verdict}
 use Rattle.fv_file.specs.declared.state.FileState.{FileState}
@@ -15,6 +18,27 @@ pub is_skipped : (alive pad : Bool) → (alive && not pad) ≡ false → (not al
 is_skipped true true h = refl
 is_skipped true false h = cc
 is_skipped false pad h = refl
+
+-- what the test of the size says
+pub sizes : (low n high : ℕ) (more : Bool) → (nat_le low n && (nat_le n high && more)) ≡ true → (low ≤ n) × (n ≤ high)
+sizes low n high more h =
+    let parts = and_split _ _ h in
+    (leb-true low n parts.0, leb-true n high (and_split _ _ parts.1).0)
+
+pub is_not_skipped : (alive pad : Bool) → (alive && not pad) ≡ true → (not alive || pad) ≡ false
+is_not_skipped true true h = cc
+is_not_skipped true false h = refl
+is_not_skipped false pad h = cc
+
+pub form_wrong : (s : FileSystem) (st : FileState) (at : ℕ) (r : List ℕ) → may_be_large s r ≡ false
+    → file_verdict s st at r ≡ Err (outer_fault kinds.LargeFile (at + 19))
+unfolding file_verdict
+form_wrong s st at r form = rw form refl
+
+pub header_cut : (s : FileSystem) (st : FileState) (at : ℕ) (r : List ℕ) → may_be_large s r ≡ true
+    → nat_le (file_header_len_at r) (length r) ≡ false → file_verdict s st at r ≡ Err (outer_fault kinds.FileSize (at + 20))
+unfolding file_verdict
+header_cut s st at r form whole = rw (form, whole) refl
 
 module _ (s : FileSystem) (st : FileState) (at : ℕ) (r : List ℕ) (form : may_be_large s r ≡ true)
     (whole : nat_le (file_header_len_at r) (length r) ≡ true) where
@@ -30,3 +54,19 @@ module _ (s : FileSystem) (st : FileState) (at : ℕ) (r : List ℕ) (form : may
       → file_verdict s st at r ≡ Ok (head_in st r)
   unfolding file_verdict
   data_skipped sum size skips = rw (form, whole, sum, size, skips) refl
+
+  pub file_fixed : has_header_sum r ≡ true → has_file_size r ≡ true → skips_data (is_alive st) r ≡ false
+      → not (is_fixed (attributes_at r)) ≡ false → file_verdict s st at r ≡ Err (outer_fault kinds.Fixed (at + 19))
+  unfolding file_verdict
+  file_fixed sum size skips fixed = rw (form, whole, sum, size, skips, fixed) refl
+
+  pub data_wrong : has_header_sum r ≡ true → has_file_size r ≡ true → skips_data (is_alive st) r ≡ false
+      → not (is_fixed (attributes_at r)) ≡ true → has_file_sum r ≡ false
+      → file_verdict s st at r ≡ Err (outer_fault kinds.FileSum (at + 17))
+  unfolding file_verdict
+  data_wrong sum size skips fixed payload = rw (form, whole, sum, size, skips, fixed, payload) refl
+
+  pub data_right : has_header_sum r ≡ true → has_file_size r ≡ true → skips_data (is_alive st) r ≡ false
+      → not (is_fixed (attributes_at r)) ≡ true → has_file_sum r ≡ true → file_verdict s st at r ≡ Ok (head_in st r)
+  unfolding file_verdict
+  data_right sum size skips fixed payload = rw (form, whole, sum, size, skips, fixed, payload) refl

@@ -168,7 +168,6 @@ fn checks_data(head: &FileHead) -> bool
 }
 
 // The header of a file at the offset `at`, or the first fault of its checks.
-#[tactic(auto, unfolding(crate::specs::inner::CellVerdicts::file_verdict))]
 pub(crate) fn file_at(
     rest: &[u8],
     at: u64,

@@ -108,12 +108,27 @@ fn push_resource(bytes: &mut Vec<u8>, said: &Resource) -> Result<(), AllocError>
     push_span(bytes, said.start, said.length)
 }
 
-// Appends the names of a volume and of a file in it.
-fn push_names(bytes: &mut Vec<u8>, volume: &Guid, file: &Guid) -> Result<(), AllocError>
-    ensures { OnOk result (bytes.new.items ≡ bytes.old.items ++ concat (bytes_of volume.now ∷ bytes_of file.now ∷ [])) }
+// Appends bytes, and then others.
+fn push_pair(bytes: &mut Vec<u8>, one: &[u8], other: &[u8]) -> Result<(), AllocError>
+    ensures { OnOk result (bytes.new.items ≡ bytes.old.items ++ concat (one.now ∷ other.now ∷ [])) }
 {
-    push_guid(bytes, volume)?;
-    push_guid(bytes, file)
+    push_bytes(bytes, one)?;
+    push_bytes(bytes, other)
+}
+
+// Appends the body of a volume with its name, and the name of the file that it is in.
+fn push_volume2(
+    bytes: &mut Vec<u8>,
+    base: u64,
+    length: u64,
+    volume: &Guid,
+    file: &Guid,
+) -> Result<(), AllocError>
+    ensures { OnOk result (bytes.new.items
+        ≡ bytes.old.items ++ concat (hob_fields (kinds.FirmwareVolume2 base length volume.now file.now))) }
+{
+    push_span(bytes, base, length)?;
+    push_pair(bytes, &volume.to_bytes(), &file.to_bytes())
 }
 
 // Appends the body of a block.
@@ -125,27 +140,20 @@ fn push_body(bytes: &mut Vec<u8>, kind: &HobKind) -> Result<(), AllocError>
         HobKind::MemoryAllocation(said) => push_allocation(bytes, said),
         HobKind::Resource(said) => push_resource(bytes, said),
         HobKind::GuidExtension { name, payload } => {
-            push_guid(bytes, name)?;
-            push_bytes(bytes, payload.as_slice())
+            push_pair(bytes, &name.to_bytes(), payload.as_slice())
         }
         HobKind::FirmwareVolume { base, length } => push_span(bytes, *base, *length),
         HobKind::Cpu {
             memory_bits,
             io_bits,
             reserved,
-        } => {
-            push_bytes(bytes, &[*memory_bits, *io_bits])?;
-            push_bytes(bytes, reserved)
-        }
+        } => push_pair(bytes, &[*memory_bits, *io_bits], reserved),
         HobKind::FirmwareVolume2 {
             base,
             length,
             volume_name,
             file_name,
-        } => {
-            push_span(bytes, *base, *length)?;
-            push_names(bytes, volume_name, file_name)
-        }
+        } => push_volume2(bytes, *base, *length, volume_name, file_name),
         HobKind::Capsule { base, length } => push_span(bytes, *base, *length),
         HobKind::Unused { body_len } => push_zeros(bytes, *body_len),
         HobKind::MemoryPool | HobKind::End => Ok(()),

@@ -1,20 +1,26 @@
-use Rattle.std.proofs.Common.{◌∙◌, codes, refl}
-use Rattle.fv_plan.specs.declared.plan.Task.TheVariants.{Cells, Check, Scan}
-use Rattle.fv_arguments.proofs.ReadLemmas.{text_answer}
-use Rattle.fv_arguments.proofs.TaskLemmas.{single_asked}
-use Rattle.fv_arguments.specs.Options.{volume_app}
+use Rattle.std.proofs.Common.{refl}
 use Rattle.fv_arguments.proofs.options.command_of.Goals as goal
 
-pub returns-in_ok-input_of-in-check : goal.returns-in_ok-input_of-in-check
-returns-in_ok-input_of-in-check c =
-    single_asked _ _ Check _ _ _ c.in-check.is c.single.ensures (λ rest r. c.in_ok-input_of-in-check.ensures volume_app rest r refl)
+pub returns-in-normalise : goal.returns-in-normalise
+returns-in-normalise c = rw c.in-normalise.is c.normalise.ensures
 
-pub returns-in_ok-input_of-in-cells : goal.returns-in_ok-input_of-in-cells
-returns-in_ok-input_of-in-cells c =
-    single_asked _ _ Cells _ _ _ c.in-cells.is c.single-in-cells.ensures
-    (λ rest r. c.in_ok-input_of-in-cells.ensures volume_app rest r refl)
+pub returns-in-hobs : goal.returns-in-hobs
+returns-in-hobs c = rw c.in-hobs.is c.hobs.ensures
 
-pub returns-in_ok-file_of-in-scan : goal.returns-in_ok-file_of-in-scan
-returns-in_ok-file_of-in-scan c =
-    single_asked _ _ Scan _ _ _ c.in-scan.is c.single-in-scan.ensures
-    (λ rest r. (refl, c.in_ok-file_of-in-scan.ensures ∙ text_answer r (codes "file")))
+pub returns-in-list : goal.returns-in-list
+returns-in-list c = rw c.in-list.is c.list.ensures
+
+pub returns-in-extract : goal.returns-in-extract
+returns-in-extract c = rw c.in-extract.is c.extract.ensures
+
+pub returns-in-check : goal.returns-in-check
+returns-in-check c = rw c.in-check.is (c.on_volume.ensures.check refl)
+
+pub returns-in-cells : goal.returns-in-cells
+returns-in-cells c = rw c.in-cells.is (c.on_volume-in-cells.ensures.cells refl)
+
+pub returns-in-scan : goal.returns-in-scan
+returns-in-scan c = rw c.in-scan.is c.scan.ensures
+
+pub returns-in-compare : goal.returns-in-compare
+returns-in-compare c = rw c.in-compare.is c.compare.ensures

@@ -1,4 +1,4 @@
-use Rattle.std.proofs.Common.{arith, length, length-append, ap, ◌∙◌}
+use Rattle.std.proofs.Common.{arith, length, length-append, ap, ◌∙◌, rules}
 use Rattle.fv_base.proofs.ReadLemmas.{stops_by_error, stops_by_length, more_read, end_read, none_read, up_is_not_down}
 use Rattle.fv_base.proofs.input.read_input.Goals as goal
 use Rattle.fv_base.proofs.input.read_input.Goals.{in-More+else-len-gt-VOLUME_LIMIT, in-Interrupted}
@@ -48,3 +48,6 @@ loop-turn-preserved g c =
 pub returns-clause-err : goal.returns-clause-err
 returns-clause-err g c =
     stops_by_error _ _ _ _ _ c.loop-turn.invariant.2 (omega (arith, c.loop-turn.bytes.ok.0, c.len-2.ensures)) c.outer-2.ensures
+
+pub loop-turn-init : goal.loop-turn-init
+loop-turn-init g c = search rules fits 100 steps 300000

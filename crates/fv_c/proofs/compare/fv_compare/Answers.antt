@@ -1,4 +1,4 @@
-use Rattle.std.proofs.Common.{inl, refl}
+use Rattle.std.proofs.Common.{inl, refl, rules}
 use Rattle.fv_base.specs.Faults.{out_of_memory}
 use Rattle.fv_c.proofs.compare.fv_compare.Goals as goal
 
@@ -10,3 +10,6 @@ returns-clause-second c = λ is. absurd (c.report.ensures.second is)
 
 pub returns-clause-side : goal.returns-clause-side
 returns-clause-side c = λ done buffer. inl (c.report.ensures.side done buffer)
+
+pub returns-in-Err-whole_volume-clause-first : goal.returns-in-Err-whole_volume-clause-first
+returns-in-Err-whole_volume-clause-first c = search rules fits 300 steps 1000000

@@ -1,4 +1,5 @@
-use Rattle.std.proofs.Common.{◌∙◌, refl}
+use Rattle.std.proofs.lemmas.Grind.{common_steps}
+use Rattle.std.proofs.Common.{◌∙◌, refl, arith}
 use Rattle.fv_c.proofs.hobs.fv_hobs.Goals as goal
 
 pub returns-in-Err-clause-err : goal.returns-in-Err-clause-err
@@ -10,3 +11,9 @@ returns-in-Err-clause-err c = λ _ _. (
   refl,
   refl,
 )
+
+pub returns-in-Ok-clause-ok : goal.returns-in-Ok-clause-ok
+returns-in-Ok-clause-ok c = grind (arith, common_steps) steps 300000
+
+pub returns-in-Ok-clause-small : goal.returns-in-Ok-clause-small
+returns-in-Ok-clause-small c = grind (arith, common_steps) steps 300000

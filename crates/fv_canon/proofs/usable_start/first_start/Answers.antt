@@ -1,4 +1,4 @@
-use Rattle.std.proofs.Common.{inr, refl, arith}
+use Rattle.std.proofs.Common.{inr, refl, arith, rules}
 use Rattle.fv_canon.proofs.ReachLaws.{usable_most}
 use Rattle.fv_canon.proofs.UsableStartLaws.{never_true, start_at, after_missed, multiple_next, from_pad, data_back}
 use Rattle.fv_canon.proofs.usable_start.first_start.Goals as goal
@@ -39,3 +39,6 @@ loop-start-init c =
 pub returns-clause-none : goal.returns-clause-none
 returns-clause-none c s l v =
     omega (arith, c.loop-start.invariant.least s l v, usable_most c.args.after _ v.edge)
+
+pub returns-then-serves-clause-found : goal.returns-then-serves-clause-found
+returns-then-serves-clause-found c = search rules fits 100 steps 300000

@@ -1,6 +1,6 @@
-use Rattle.std.proofs.Common.{List, [], ◌∷◌, ◌++◌, refl, sym, ◌∙◌, arith}
+use Rattle.std.proofs.Common.{List, [], ◌∷◌, ◌++◌, refl, sym, ◌∙◌, arith, rules}
 use Rattle.fv_depex.specs.declared.op.Op.{Op}
-use Rattle.fv_depex.proofs.ReadLemmas.{kept_none, kept, ended, one_more}
+use Rattle.fv_depex.proofs.ReadLemmas.{kept_none, kept, ended, first_fault_at, one_more}
 use Rattle.fv_depex.proofs.read.depex_fault.Goals as goal
 
 pub loop-op-init : goal.loop-op-init
@@ -30,3 +30,11 @@ returns-then-code-eq-END-clause-none c = λ none.
     c.loop-op.stage c.loop-op.invariant.1 c.in-Ok.ensures.found c.op_len-at.ensures (sym c.code.ensures ∙ c.if-code-eq-END.true)
     refl in
     (more, _, spelled.1)
+
+pub returns-in-Err-clause-first : goal.returns-in-Err-clause-first
+returns-in-Err-clause-first c =
+    let e = c.in-Err.ensures in
+    first_fault_at c.args.phase c.args.bytes.now _ _ _ _ c.loop-op.invariant.1 e.place e.first
+
+pub returns-then-code-eq-END-clause-first : goal.returns-then-code-eq-END-clause-first
+returns-then-code-eq-END-clause-first c = search rules fits 100 steps 300000

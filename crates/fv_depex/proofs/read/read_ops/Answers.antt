@@ -1,9 +1,9 @@
-use Rattle.std.proofs.Common.{◌∙◌, sym, ap, arith, rules}
+use Rattle.std.proofs.Common.{◌∙◌, sym, ap, arith}
 use Rattle.std.proofs.lemmas.Result.{err_from_is_err_and}
 use Rattle.fv_base.proofs.Laws.{whatever}
 use Rattle.fv_depex.specs.OpChecks.{BeginsFirstOp, depex_out_of_memory}
 use Rattle.fv_depex.specs.declared.fault.DepexFault.{DepexFault}
-use Rattle.fv_depex.proofs.ReadLemmas.{kept_none, kept, ended, no_want, one_more, stands_first}
+use Rattle.fv_depex.proofs.ReadLemmas.{kept_none, kept, ended, first_fault_at, no_want, one_more, stands_first}
 use Rattle.fv_depex.proofs.read.read_ops.Goals as goal
 
 pub loop-ops-init : goal.loop-ops-init
@@ -13,7 +13,7 @@ pub loop-ops-preserved : goal.loop-ops-preserved
 loop-ops-preserved c =
     kept c.args.phase c.args.bytes.now c.loop-ops.ops.items c.push.new.self.items c.in_ok-op.op c.loop-ops.at c.op_len-at.result
     c.loop-ops.stage c.stage_after-stage.result c.loop-ops.invariant c.in_ok-op.ensures.found c.op_len-at.ensures
-    (λ e. c.if-code-eq-END.false (c.code.ensures ∙ e)) (search rules) c.stage_after-stage.ensures
+    (λ e. c.if-code-eq-END.false (c.code.ensures ∙ e)) c.in_ok-push.ensures.items c.stage_after-stage.ensures
 
 pub loop-ops-smaller : goal.loop-ops-smaller
 loop-ops-smaller c =
@@ -25,7 +25,7 @@ pub returns-then-code-eq-END-clause-found : goal.returns-then-code-eq-END-clause
 returns-then-code-eq-END-clause-found c =
     ended c.args.phase c.args.bytes.now c.loop-ops.ops.items c.push.new.self.items c.in_ok-op.op c.loop-ops.at c.op_len-at.result
     c.loop-ops.stage c.loop-ops.invariant c.in_ok-op.ensures.found c.op_len-at.ensures (sym c.code.ensures ∙ c.if-code-eq-END.true)
-    (search rules)
+    c.in_ok-push.ensures.items
 
 pub returns-in_err-op-clause-memory : goal.returns-in_err-op-clause-memory
 returns-in_err-op-clause-memory c =
@@ -37,3 +37,14 @@ returns-in_err-push-clause-memory c =
     whatever c.from_residual-in_err-push.result depex_out_of_memory (BeginsFirstOp c.args.phase c.args.bytes.now)
     (stands_first c.args.phase c.args.bytes.now c.loop-ops.ops.items c.in_ok-op.op c.loop-ops.at c.loop-ops.stage
     c.loop-ops.invariant c.in_ok-op.ensures.found)
+
+pub returns-in_err-op-clause-first : goal.returns-in_err-op-clause-first
+returns-in_err-op-clause-first c =
+    let p = err_from_is_err_and c.from_residual.result c.from_residual.ensures.1 in
+    let e = c.in_err-op.ensures in
+    rw (p.1, p.2) (λ other. first_fault_at c.args.phase c.args.bytes.now _ _ _ _ c.loop-ops.invariant e.place e.first)
+
+pub returns-in_err-push-clause-first : goal.returns-in_err-push-clause-first
+returns-in_err-push-clause-first c =
+    let p = err_from_is_err_and c.from_residual-in_err-push.result c.from_residual-in_err-push.ensures.1 in
+    rw p.1 (λ other. absurd (other p.2))

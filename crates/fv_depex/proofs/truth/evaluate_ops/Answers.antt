@@ -1,9 +1,10 @@
-use Rattle.std.proofs.Common.{ap, ◌∙◌, sym, [], get_or}
+use Rattle.std.proofs.Common.{ap, arith, refl, ◌∙◌, sym, [], get_or}
 use Rattle.std.specs.Prelude.{reverse, Some, None, if◌then◌else◌}
 use Rattle.std.proofs.lemmas.List.{drop_more}
+use Rattle.std.proofs.lemmas.Result.{err_from_is_err_and}
 use Rattle.fv_depex.specs.declared.op.Op.{Op}
 use Rattle.fv_depex.specs.declared.op.Op.TheVariants as ops
-use Rattle.fv_depex.proofs.TruthLemmas.{run_step, run_end}
+use Rattle.fv_depex.proofs.TruthLemmas.{run_step, run_none, run_end}
 use Rattle.fv_depex.proofs.truth.evaluate_ops.Goals as goal
 
 pub loop-op-preserved : goal.loop-op-preserved
@@ -17,3 +18,21 @@ loop-op-preserved c =
 pub returns-clause-value : goal.returns-clause-value
 returns-clause-value c = c.top.ensures ∙ sym (run_end c.args.installed.now c.args.ops.now (reverse c.loop-op.stack.items) c.loop-op.op-index
     c.loop-op-test.false c.loop-op.invariant)
+
+pub loop-op-init : goal.loop-op-init
+loop-op-init c = rw c.new-stack.ensures.items refl
+
+pub loop-op-smaller : goal.loop-op-smaller
+loop-op-smaller c = omega arith
+
+pub returns-in_err-evaluate_op-clause-err : goal.returns-in_err-evaluate_op-clause-err
+returns-in_err-evaluate_op-clause-err c =
+    let p = err_from_is_err_and c.from_residual.result c.from_residual.ensures.1 in
+    rw p.1 p.2
+
+pub returns-then-not-branch-clause-value : goal.returns-then-not-branch-clause-value
+returns-then-not-branch-clause-value c =
+    let d : Op = ops.Before (record { bytes = [] }) in
+    run_none c.args.installed.now c.args.ops.now (reverse c.loop-op.stack.items) (get_or c.args.ops.now c.loop-op.op-index d)
+    c.loop-op.op-index (drop_more c.args.ops.now c.loop-op.op-index d c.loop-op-test.true) (c.in_ok-evaluate_op.ensures
+    ∙ ap (λ t. if t then Some (reverse c.evaluate_op.new.stack.items) else None) c.if-not-branch.true) c.loop-op.invariant

@@ -1,7 +1,7 @@
-use Rattle.std.proofs.Common.{◌≡◌, ◌+◌, ◌-◌, ◌++◌, ◌∷◌, [], length, refl, arith, rules, length-drop, sym, ◌∙◌}
+use Rattle.std.proofs.Common.{◌+◌, ◌-◌, length, refl, ap, arith, length-drop, sym, ◌∙◌}
 use Rattle.std.proofs.lemmas.Result.{err_from_is_err_and}
 use Rattle.fv_file.specs.declared.cell.Cell.TheVariants as forms
-use Rattle.fv_file.proofs.BodyLemmas.{kept, free_kept, stands_in, whole_kept, rest_free, rest_used, first_here}
+use Rattle.fv_file.proofs.BodyLemmas.{at_offset_0, kept, free_kept, no_other_fault, stands_in, whole_kept, rest_free, rest_used, first_here}
 use Rattle.fv_file.proofs.cell_walk.cells_in.Goals as goal
 use Rattle.fv_file.proofs.cell_walk.cells_in.Goals.{then-at-body+in_ok-push-2, else-at-body}
 
@@ -10,11 +10,9 @@ returns-clause-found c =
     let free = rest_free _ _ c.args.body.now c.loop-system.at c.bytes_from.ensures (sym c.is_free.ensures ∙ c.loop-system-test.false) in
     elim c.if-at-body.branch [
       | then-at-body+in_ok-push-2 w ↦
-          let items : w.push-then-at-body.new.self.items ≡ c.loop-system.list.items
-          ++ forms.Free (c.args.first + c.loop-system.at) (length c.args.body.now - c.loop-system.at) ∷ [] = search rules in
           rw (c.from_vec.ensures, w.list-is) (free_kept c.args.system c.args.polarity c.args.first c.args.body.now c.loop-system.list.items
           w.push-then-at-body.new.self.items (forms.Free (c.args.first + c.loop-system.at) (length c.args.body.now - c.loop-system.at))
-          c.loop-system.at c.loop-system.invariant (omega arith) free refl items)
+          c.loop-system.at c.loop-system.invariant (omega arith) free refl w.in_ok-push-2.ensures.items)
       | else-at-body w ↦ rw (c.from_vec.ensures, w.list-is) (whole_kept c.args.system c.args.polarity c.args.first c.args.body.now
           c.loop-system.list.items c.loop-system.at c.loop-system.invariant (omega arith))
     ]
@@ -67,7 +65,44 @@ loop-system-smaller c =
 
 pub loop-system-preserved : goal.loop-system-preserved
 loop-system-preserved c =
-    let items : c.push.new.self.items ≡ c.loop-system.list.items ++ c.in_ok-cell.cell ∷ [] = search rules in
     kept c.args.system c.args.polarity c.args.first c.args.body.now c.loop-system.list.items c.push.new.self.items c.in_ok-cell.cell
     c.loop-system.at c.span_of-len.result c.loop-system.invariant
-    (stands_in c.loop-system.invariant c.requires.multiple c.bytes_from-rest.ensures c.in_ok-cell.ensures.found) c.span_of-len.ensures items
+    (stands_in c.loop-system.invariant c.requires.multiple c.bytes_from-rest.ensures c.in_ok-cell.ensures.found) c.span_of-len.ensures c.in_ok-push.ensures.items
+
+pub returns-in_err-list-clause-first : goal.returns-in_err-list-clause-first
+returns-in_err-list-clause-first c = no_other_fault _ _ c.from_residual.ensures.1
+
+pub returns-in_err-list-clause-bound : goal.returns-in_err-list-clause-bound
+returns-in_err-list-clause-bound c = at_offset_0 _ _ c.from_residual.ensures.1
+
+pub returns-in_err-push-clause-first : goal.returns-in_err-push-clause-first
+returns-in_err-push-clause-first c = no_other_fault _ _ c.from_residual-in_err-push.ensures.1
+
+pub returns-in_err-push-clause-bound : goal.returns-in_err-push-clause-bound
+returns-in_err-push-clause-bound c = at_offset_0 _ _ c.from_residual-in_err-push.ensures.1
+
+pub returns-in_err-push-2-clause-first : goal.returns-in_err-push-2-clause-first
+returns-in_err-push-2-clause-first c = no_other_fault _ _ c.from_residual-in_err-push-2.ensures.1
+
+pub returns-in_err-push-2-clause-bound : goal.returns-in_err-push-2-clause-bound
+returns-in_err-push-2-clause-bound c = at_offset_0 _ _ c.from_residual-in_err-push-2.ensures.1
+
+pub returns-in_err-cell-clause-bound : goal.returns-in_err-cell-clause-bound
+returns-in_err-cell-clause-bound c =
+    let p = err_from_is_err_and c.from_residual-in_err-cell.result c.from_residual-in_err-cell.ensures.1 in
+    rw (p.1, p.2) (omega (
+      arith,
+      c.in_err-cell.ensures.bound,
+      ap length c.bytes_from-rest.ensures,
+      c.loop-system.invariant.inside,
+      length-drop c.loop-system.at c.args.body.now,
+    ))
+
+pub returns-in_err-push-clause-some : goal.returns-in_err-push-clause-some
+returns-in_err-push-clause-some c =
+    rw (err_from_is_err_and c.from_residual-in_err-push.result c.from_residual-in_err-push.ensures.1).1
+    (omega (arith, (rest_used _ _ c.args.body.now c.loop-system.at c.bytes_from.ensures (sym c.is_free.ensures ∙ c.loop-system-test.true)).0))
+
+pub returns-in_err-push-2-clause-some : goal.returns-in_err-push-2-clause-some
+returns-in_err-push-2-clause-some c =
+    rw (err_from_is_err_and c.from_residual-in_err-push-2.result c.from_residual-in_err-push-2.ensures.1).1 (omega arith)

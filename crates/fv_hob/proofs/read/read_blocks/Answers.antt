@@ -10,7 +10,7 @@ pub loop-hobs-preserved : goal.loop-hobs-preserved
 loop-hobs-preserved c =
     kept c.args.bytes.now c.loop-hobs.hobs.items c.push.new.self.items c.in_ok-hob.hob c.in_ok-block.block.now c.loop-hobs.at
     c.is_empty.result (search rules) c.loop-hobs.invariant c.in_ok-block.ensures.found c.in_ok-hob.ensures
-    (λ e. c.if-ends.false (c.code-ends.ensures ∙ e)) (search rules)
+    (λ e. c.if-ends.false (c.code-ends.ensures ∙ e)) c.in_ok-push.ensures.items
 
 pub loop-hobs-smaller : goal.loop-hobs-smaller
 loop-hobs-smaller c =
@@ -22,7 +22,7 @@ pub returns-then-ends-clause-found : goal.returns-then-ends-clause-found
 returns-then-ends-clause-found c =
     ended c.args.bytes.now c.loop-hobs.hobs.items c.push.new.self.items c.in_ok-hob.hob c.in_ok-block.block.now c.loop-hobs.at
     c.is_empty.result (search rules) c.loop-hobs.invariant c.in_ok-block.ensures.found c.in_ok-hob.ensures
-    (sym c.code-ends.ensures ∙ c.if-ends.true) (search rules)
+    (sym c.code-ends.ensures ∙ c.if-ends.true) c.in_ok-push.ensures.items
 
 pub returns-in_err-block-clause-first : goal.returns-in_err-block-clause-first
 returns-in_err-block-clause-first c =
@@ -46,3 +46,13 @@ returns-in_err-push-clause-memory c =
     whatever c.from_residual-in_err-push.result hob_out_of_memory (BeginsTable c.args.bytes.now)
     (table_stands c.args.bytes.now c.loop-hobs.hobs.items c.in_ok-block.block.now c.loop-hobs.at
     c.is_empty.result (search rules) c.loop-hobs.invariant c.in_ok-block.ensures.found)
+
+pub returns-in_err-hob-clause-first : goal.returns-in_err-hob-clause-first
+returns-in_err-hob-clause-first c =
+    let p = err_from_is_err_and c.from_residual-in_err-hob.result c.from_residual-in_err-hob.ensures.1 in
+    rw p.1 (λ other. absurd (other p.2))
+
+pub returns-in_err-push-clause-first : goal.returns-in_err-push-clause-first
+returns-in_err-push-clause-first c =
+    let p = err_from_is_err_and c.from_residual-in_err-push.result c.from_residual-in_err-push.ensures.1 in
+    rw p.1 (λ other. absurd (other p.2))

@@ -1,7 +1,8 @@
-use Rattle.std.proofs.Common.{◌≡◌, ◌++◌, ap, subst, ◌∙◌, List, length, get_or, ◌<◌, Vec, Global}
+use Rattle.std.proofs.Common.{◌≡◌, ◌++◌, ap, subst, ◌∙◌, List, length, get_or, ◌<◌, ◌≤◌, Vec, Global, arith}
 use Rattle.std.specs.Prelude.{[]}
+use Rattle.std.proofs.lemmas.List.{take_all}
 use Rattle.fv_hob.specs.Hobs.{HobForm}
-use Rattle.fv_hob.specs.Lists.{with_span}
+use Rattle.fv_hob.specs.Lists.{spans_of, with_span}
 use Rattle.fv_hob.specs.declared.span.Span.{Span}
 use Rattle.fv_hob.proofs.WriteLemmas.{spans_more, span_none, span_some}
 use Rattle.fv_hob.proofs.span.volume_hobs.Goals.{in-Some+in_ok-push, in_default}
@@ -21,3 +22,15 @@ loop-hob-preserved c =
     spans_more c.args.hobs.now c.loop-hob.hob-index h c.span.result c.loop-hob.list.items c.match-span.list.items
     (subst (λ (l : List HobForm). c.loop-hob.hob-index < length l) same c.loop-hob-test.true)
     (c.hob-item.is ∙ ap (λ (l : List HobForm). get_or l c.loop-hob.hob-index h) same) c.span.ensures c.loop-hob.invariant new
+
+pub loop-hob-init : goal.loop-hob-init
+loop-hob-init c = c.new-list.ensures.items
+
+pub loop-hob-smaller : goal.loop-hob-smaller
+loop-hob-smaller c = omega arith
+
+pub returns-clause-spans : goal.returns-clause-spans
+returns-clause-spans c =
+    let all : length c.args.hobs.now ≤ c.loop-hob.hob-index =
+    rw (← c.as_slice-hob-items.ensures.blocks) (omega arith) in
+    c.loop-hob.invariant ∙ ap spans_of (take_all c.loop-hob.hob-index c.args.hobs.now all)

@@ -1,4 +1,5 @@
-use Rattle.std.proofs.Common.{sym, ap, ◌∙◌}
+use Rattle.std.proofs.lemmas.Grind.{common_steps}
+use Rattle.std.proofs.Common.{sym, ap, ◌∙◌, arith}
 use Rattle.std.proofs.lemmas.Result.{err_from_is_err_and}
 use Rattle.fv_tree.specs.inner.DifferenceWalks.{outermost_first}
 use Rattle.fv_tree.proofs.DifferenceLaws.{one_volume}
@@ -15,3 +16,6 @@ returns-in_default-clause-same c = one_volume c.args.a.now c.args.b.now (sym c.i
 
 pub returns-clause-differ : goal.returns-clause-differ
 returns-clause-differ c = differ_told c.args.a.now c.args.b.now c.in_ok-found.field-0 c.in-Some.found c.in_ok-found.ensures c.in-Some.is
+
+pub returns-clause-first : goal.returns-clause-first
+returns-clause-first c = grind (arith, common_steps) steps 300000

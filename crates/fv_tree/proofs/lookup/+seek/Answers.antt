@@ -1,4 +1,4 @@
-use Rattle.std.proofs.Common.{◌∷◌, refl, ap, ◌∙◌, arith}
+use Rattle.std.proofs.Common.{◌∷◌, refl, ap, ◌∙◌, arith, rules}
 use Rattle.fv_tree.specs.LookupInstances.{of_type, preorder, inside_section}
 use Rattle.fv_tree.specs.inner.Searches.{sought}
 use Rattle.fv_tree.specs.Meaning.{sections_from}
@@ -45,3 +45,6 @@ pub seek_sections-returns-clause-err : goal.seek_sections-returns-clause-err
 seek_sections-returns-clause-err t c =
     c.loop-section.invariant ∙ ap (λ l. sought c.loop-section.left (of_type c.args.kind (preorder (sections_from l))))
     (past_end c.args.sections.now c.loop-section.section-index (omega (arith, c.loop-section-test.false)))
+
+pub seek_body-returns-in-Group-clause-err : goal.seek_body-returns-in-Group-clause-err
+seek_body-returns-in-Group-clause-err t c = search rules fits 100 steps 300000

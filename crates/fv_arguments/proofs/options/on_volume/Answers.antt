@@ -1,0 +1,21 @@
+use Rattle.std.proofs.Common.{ap, refl}
+use Rattle.fv_plan.specs.declared.plan.Command.TheVariants.{Single}
+use Rattle.fv_plan.specs.declared.plan.Task.{Task}
+use Rattle.fv_plan.specs.declared.plan.Task.TheVariants.{Cells, Check}
+use Rattle.fv_arguments.proofs.TaskLemmas.{single_asked}
+use Rattle.fv_arguments.specs.Options.{volume_app}
+use Rattle.fv_arguments.proofs.options.on_volume.Goals as goal
+
+pub returns-clause-check : goal.returns-clause-check
+returns-clause-check c = λ is.
+    let at = c.in_ok-at.at in
+    let file = c.in_ok-at.file in
+    single_asked _ _ Check at file _ refl (ap (λ (t : Task). Single t at file) is)
+    (λ rest r. c.in_ok-at.ensures volume_app rest r refl)
+
+pub returns-clause-cells : goal.returns-clause-cells
+returns-clause-cells c = λ is.
+    let at = c.in_ok-at.at in
+    let file = c.in_ok-at.file in
+    single_asked _ _ Cells at file _ refl (ap (λ (t : Task). Single t at file) is)
+    (λ rest r. c.in_ok-at.ensures volume_app rest r refl)
