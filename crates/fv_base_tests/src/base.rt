@@ -6,7 +6,7 @@ mod ports;
 mod sinks;
 
 use fv_base::{Align, Fault, FaultKind, Guid, Place, guid_at, sum8, sum16};
-use std::test::Fail;
+use std::alloc::Global;
 
 /// The names of the two file systems and of the volume top file: their bytes and their text.
 const NAMES: [([u8; 16], &str); 3] = [
@@ -33,13 +33,18 @@ const NAMES: [([u8; 16], &str); 3] = [
     ),
 ];
 
+// Whether a name has these bytes and this text.
+fn has_text(bytes: [u8; 16], text: &str) -> bool {
+    let guid = Guid::from_bytes(bytes);
+    guid.to_bytes() == bytes
+        && guid.text().as_slice() == text.as_bytes()
+        && Guid::parse(text) == Some(guid)
+}
+
 #[test]
 fn guids_have_their_texts(rt: HostRuntime) {
     for (bytes, text) in NAMES {
-        let guid = Guid::from_bytes(bytes);
-        assert_eq!(rt; guid.to_bytes(), bytes);
-        assert_eq!(rt; guid.text().as_slice(), text.as_bytes());
-        assert_eq!(rt; Guid::parse(text), Some(guid), "{text}");
+        assert!(rt; has_text(bytes, text), "{text}");
     }
 }
 
@@ -70,12 +75,17 @@ fn gives_one_guid(line: &str) -> Option<bool> {
     Some(true)
 }
 
-// The other forms of the same names, and texts that are no names.
+// The other forms of the same names.
 #[test]
-fn guids_are_parsed_from_each_form_and_from_no_other_text(rt: HostRuntime) {
+fn guids_are_parsed_from_each_form(rt: HostRuntime) {
     for line in FORMS.lines() {
         assert!(rt; gives_one_guid(line) == Some(true), "{line}");
     }
+}
+
+// Texts that are no names.
+#[test]
+fn guids_are_parsed_from_no_other_text(rt: HostRuntime) {
     for text in [
         "",
         "8c8ce578-8a3d-4f1c-9935-896185c32dd",
@@ -83,7 +93,7 @@ fn guids_are_parsed_from_each_form_and_from_no_other_text(rt: HostRuntime) {
         "8c8ce578-8a3d-4f1c-9935-896185c32ddg",
         "8c8ce578-8a3d-4f1c-9935896185c32dd3",
     ] {
-        assert_eq!(rt; Guid::parse(text), None, "{text}");
+        assert!(rt; Guid::parse(text).is_none(), "{text}");
     }
 }
 
@@ -97,7 +107,12 @@ fn a_guid_is_read_at_its_offset(rt: HostRuntime) {
         0x10, 0x21, 0x32, 0x43, 0x54, 0x65, 0x76, 0x87, 0x98, 0xa9, 0xba, 0xcb, 0xdc, 0xed, 0xfe,
         0x0f,
     ];
-    assert_eq!(rt; guid_at(&bytes, 3).to_bytes(), want);
+    assert!(rt; guid_at(&bytes, 3).to_bytes() == want);
+}
+
+// Whether bytes, an even number of them, have these sums.
+fn has_sums(bytes: &[u8], plain: u8, words: u16) -> bool {
+    bytes.len() % 2 == 0 && sum8(bytes) == plain && sum16(bytes) == words
 }
 
 #[test]
@@ -109,48 +124,40 @@ fn sums_are_those_worked_out_by_hand(rt: HostRuntime) {
         (&[0, 128, 0, 128, 2, 1], 3, 258),
     ];
     for (bytes, plain, words) in cases {
-        assert_eq!(rt; sum8(bytes), plain, "{bytes:?}");
-        assert!(rt; bytes.len() % 2 == 0);
-        assert_eq!(rt; sum16(bytes), words, "{bytes:?}");
+        let length = bytes.len();
+        assert!(rt; has_sums(bytes, plain, words), "{length}");
     }
 }
 
-/// Each line has the bits of an alignment, and the alignment in bytes without and with bit 0x02.
-const ALIGNMENTS: &str = "\
-    0 1 131072
-    8 16 262144
-    16 128 524288
-    24 512 1048576
-    32 1024 2097152
-    40 4096 4194304
-    48 32768 8388608
-    56 65536 16777216";
+/// The bits of an alignment, and the alignment in bytes without and with bit 0x02.
+const ALIGNMENTS: [(u8, u64, u64); 8] = [
+    (0, 1, 131_072),
+    (8, 16, 262_144),
+    (16, 128, 524_288),
+    (24, 512, 1_048_576),
+    (32, 1024, 2_097_152),
+    (40, 4096, 4_194_304),
+    (48, 32_768, 8_388_608),
+    (56, 65_536, 16_777_216),
+];
 
-// Whether the alignments of a line are those of its bits, whatever the other bits are.
-fn has_alignments(line: &str) -> Option<bool> {
-    let mut words = line.split_whitespace();
-    let bits: u8 = words.next()?.parse().ok()?;
-    for second in [0, 2] {
-        let want: u64 = words.next()?.parse().ok()?;
-        for others in [0, 0xc5] {
-            if Align::from_attributes(bits | second | others).bytes() != want {
-                return Some(false);
-            }
-        }
-    }
-    Some(true)
+// Whether these bits have this alignment, whatever the other bits are.
+fn has_alignment(bits: u8, want: u64) -> bool {
+    Align::from_attributes(bits).bytes() == want
+        && Align::from_attributes(bits | 0xc5).bytes() == want
 }
 
 #[test]
 fn each_alignment_has_its_bits(rt: HostRuntime) {
-    for line in ALIGNMENTS.lines() {
-        assert!(rt; has_alignments(line) == Some(true), "{line}");
+    for (bits, first, second) in ALIGNMENTS {
+        let has_both = has_alignment(bits, first) && has_alignment(bits | 2, second);
+        assert!(rt; has_both, "{bits}");
     }
 }
 
 #[test]
 fn each_fault_has_its_number(rt: HostRuntime) {
-    let kinds = [
+    let kinds: [FaultKind; 26] = [
         FaultKind::Truncated,
         FaultKind::Signature,
         FaultKind::FileSystem,
@@ -178,13 +185,23 @@ fn each_fault_has_its_number(rt: HostRuntime) {
         FaultKind::ReadFault,
         FaultKind::WriteFault,
     ];
-    for (kind, number) in kinds.iter().zip(1u8..=26) {
-        assert_eq!(rt; kind.number(), number, "{kind}");
+    let mut number = 0u8;
+    for kind in kinds {
+        number = number.wrapping_add(1);
+        assert!(rt; kind.number() == number, "{number}");
+    }
+}
+
+// Whether a fault is printed as this text.
+fn is_printed_as(alloc: Global, fault: Fault, expected: &str) -> bool {
+    match format!(in alloc; "{fault}") {
+        Ok(text) => text.as_str() == expected,
+        Err(_) => false,
     }
 }
 
 #[test]
-fn faults_have_their_texts(rt: HostRuntime) -> Result<(), Fail> {
+fn faults_have_their_texts(rt: HostRuntime) {
     let inner = Fault {
         kind: FaultKind::FreeSpace,
         place: Place {
@@ -192,18 +209,9 @@ fn faults_have_their_texts(rt: HostRuntime) -> Result<(), Fail> {
             depth: 2,
         },
     };
-    for (fault, want) in [
-        (
-            inner,
-            "a byte of the free space is not erased (fault 16) at offset 4096, depth 2",
-        ),
-        (
-            Fault::outer(FaultKind::Signature, 40),
-            "the signature is not _FVH (fault 2) at offset 40, depth 0",
-        ),
-    ] {
-        let text = format!(in rt.alloc(); "{fault}")?;
-        assert_eq!(rt; text.as_str(), want);
-    }
-    Ok(())
+    let outer = Fault::outer(FaultKind::Signature, 40);
+    let free = "a byte of the free space is not erased (fault 16) at offset 4096, depth 2";
+    let sign = "the signature is not _FVH (fault 2) at offset 40, depth 0";
+    assert!(rt; is_printed_as(rt.alloc(), inner, free));
+    assert!(rt; is_printed_as(rt.alloc(), outer, sign));
 }

@@ -11,7 +11,6 @@ use fv_head::{
     Extent, VolumeHead, first_edge, head_bytes, is_one_volume, put_head, read_head, verify_fv,
 };
 use std::alloc::Global;
-use std::test::Fail;
 
 /// A volume without files: a header of 72 bytes, with one block of 128, and erased bytes.
 const EMPTY: [u8; 128] = [
@@ -33,7 +32,10 @@ fn overwrite_each(bytes: &mut [u8], changes: &[(usize, &[u8])]) {
 }
 
 /// What is changed, and then the file system, the attributes and the polarity.
-const HEADS: [(&[(usize, &[u8])], FileSystem, u32, Polarity); 3] = [
+type HeadRow = (&'static [(usize, &'static [u8])], FileSystem, u32, Polarity);
+
+/// Heads that are read.
+const HEADS: &[HeadRow] = &[
     (&[], FileSystem::Ffs2, 0x0004_feff, Polarity::Ones),
     (
         &[
@@ -54,7 +56,10 @@ const HEADS: [(&[(usize, &[u8])], FileSystem, u32, Polarity); 3] = [
 ];
 
 /// How many bytes are left, what is changed, and then the fault.
-const FAULTS: [(usize, &[(usize, &[u8])], FaultKind, u64); 11] = [
+type FaultRow = (usize, &'static [(usize, &'static [u8])], FaultKind, u64);
+
+/// Heads that are rejected.
+const FAULTS: &[FaultRow] = &[
     (55, &[], FaultKind::Truncated, 55),
     (60, &[], FaultKind::Truncated, 60),
     (128, &[(43, &[0x49])], FaultKind::Signature, 40),
@@ -115,55 +120,86 @@ fn has_fields(
     is_named && has_bits && is_long && has_blocks && head.reserved() == 0 && head.ext().is_none()
 }
 
-#[test]
-fn heads_are_read(rt: HostRuntime) -> Result<(), Fail> {
-    for (changes, file_system, attributes, polarity) in HEADS {
-        let mut bytes = EMPTY;
-        overwrite_each(&mut bytes, changes);
-        let extent = Extent {
-            length: 128,
-            header_len: 72,
-            first: 72,
-            file_system,
-            polarity,
-        };
-        assert_eq!(rt; verify_fv(&bytes)?, extent);
-        let (head, found) = read_head(rt.alloc(), &bytes)?;
-        assert_eq!(rt; found, extent);
-        assert!(rt;
-            has_fields(&head, file_system, attributes, polarity),
-            "{attributes:#x}"
-        );
-        assert_eq!(rt; first_edge(&head), 72);
+// Whether a head and its extent are those of a row.
+fn is_head_of(head: &VolumeHead, found: Extent, row: &HeadRow) -> bool {
+    let (_, file_system, attributes, polarity) = *row;
+    let extent = Extent {
+        length: 128,
+        header_len: 72,
+        first: 72,
+        file_system,
+        polarity,
+    };
+    found == extent && has_fields(head, file_system, attributes, polarity) && first_edge(head) == 72
+}
+
+// Whether the bytes are read as a row says.
+fn is_read_as(alloc: Global, bytes: &[u8], row: &HeadRow) -> bool {
+    match read_head(alloc, bytes) {
+        Ok((head, found)) => verify_fv(bytes) == Ok(found) && is_head_of(&head, found, row),
+        Err(_) => false,
     }
-    Ok(())
 }
 
-// The head of the canonical image of the volume at the start of the bytes.
-fn canonical_head(alloc: Global, bytes: &[u8]) -> Result<ByteList, Fault> {
-    let (head, _) = read_head(alloc, bytes)?;
-    head_bytes(alloc, &head)
+// Whether the empty volume, changed as a row says, is read as the row says.
+fn is_row_read(alloc: Global, row: &HeadRow) -> bool {
+    let mut bytes = EMPTY;
+    overwrite_each(&mut bytes, row.0);
+    is_read_as(alloc, &bytes, row)
 }
 
-// The same, put into a sink.
-fn canonical_head_by_put(alloc: Global, bytes: &[u8]) -> Result<ByteList, Fault> {
-    let (head, _) = read_head(alloc, bytes)?;
+#[test]
+fn heads_are_read(rt: HostRuntime) {
+    for row in HEADS {
+        let attributes = row.2;
+        assert!(rt; is_row_read(rt.alloc(), row), "{attributes}");
+    }
+}
+
+// Whether these bytes are made.
+fn is_made(made: Result<ByteList, Fault>, expected: &[u8]) -> bool {
+    match made {
+        Ok(bytes) => bytes.as_slice() == expected,
+        Err(_) => false,
+    }
+}
+
+// Whether the head of the canonical image of the volume at the start of the bytes is this one.
+fn has_canonical_head(alloc: Global, bytes: &[u8], expected: &[u8]) -> bool {
+    match read_head(alloc, bytes) {
+        Ok((head, _)) => is_made(head_bytes(alloc, &head), expected),
+        Err(_) => false,
+    }
+}
+
+// A head of 72 bytes, put into a sink.
+fn put_bytes(alloc: Global, head: &VolumeHead) -> Result<ByteList, Fault> {
     let mut out = ListSink::with_room(alloc, 72)?;
-    put_head(&mut out, &head);
+    put_head(&mut out, head);
     out.finish()
 }
 
-#[test]
-fn heads_are_written_as_they_were_read(rt: HostRuntime) -> Result<(), Fail> {
-    for (changes, _, _, _) in HEADS {
-        let mut bytes = EMPTY;
-        overwrite_each(&mut bytes, changes);
-        let spelled = canonical_head(rt.alloc(), &bytes)?;
-        let put = canonical_head_by_put(rt.alloc(), &bytes)?;
-        assert_eq!(rt; Some(spelled.as_slice()), bytes.get(..72));
-        assert_eq!(rt; put.as_slice(), spelled.as_slice());
+// The same, put into a sink.
+fn has_canonical_head_by_put(alloc: Global, bytes: &[u8], expected: &[u8]) -> bool {
+    match read_head(alloc, bytes) {
+        Ok((head, _)) => is_made(put_bytes(alloc, &head), expected),
+        Err(_) => false,
     }
-    Ok(())
+}
+
+// Whether the head of the empty volume, after these changes, is written as it was read.
+fn is_written_back(alloc: Global, changes: &[(usize, &[u8])]) -> bool {
+    let mut bytes = EMPTY;
+    overwrite_each(&mut bytes, changes);
+    let head = &bytes[..72];
+    has_canonical_head(alloc, &bytes, head) && has_canonical_head_by_put(alloc, &bytes, head)
+}
+
+#[test]
+fn heads_are_written_as_they_were_read(rt: HostRuntime) {
+    for row in HEADS {
+        assert!(rt; is_written_back(rt.alloc(), row.0));
+    }
 }
 
 // The fault if a head is rejected.
@@ -172,6 +208,11 @@ fn fault_of(alloc: Global, bytes: &[u8]) -> Option<Fault> {
         Ok((_head, _)) => None,
         Err(fault) => Some(fault),
     }
+}
+
+// Whether the bytes are rejected with this fault.
+fn is_rejected(alloc: Global, bytes: &[u8], fault: Fault) -> bool {
+    verify_fv(bytes) == Err(fault) && fault_of(alloc, bytes) == Some(fault)
 }
 
 // Whether the first bytes of the empty volume, after these changes, are rejected with this fault.
@@ -183,30 +224,49 @@ fn is_rejected_with(
 ) -> bool {
     let mut bytes = EMPTY;
     overwrite_each(&mut bytes, changes);
-    let part = &bytes[..length.min(128)];
-    verify_fv(part).err() == Some(fault) && fault_of(alloc, part) == Some(fault)
+    is_rejected(alloc, &bytes[..length.min(128)], fault)
+}
+
+// Whether the bytes of a row are rejected with its fault.
+fn is_row_rejected(alloc: Global, row: &FaultRow) -> bool {
+    let (length, changes, kind, offset) = *row;
+    is_rejected_with(alloc, length, changes, Fault::outer(kind, offset))
+}
+
+// The rows. What names a large constant is proved with all of it, so only this function does.
+fn fault_rows() -> &'static [FaultRow] {
+    FAULTS
 }
 
 #[test]
 fn each_fault_is_reported_at_its_place(rt: HostRuntime) {
-    for (length, changes, kind, offset) in FAULTS {
+    let rows = fault_rows();
+    for at in 0..rows.len() {
+        assert!(rt; is_row_rejected(rt.alloc(), &rows[at]), "{at}");
+    }
+}
+
+// Whether 72 bytes of a volume of this length are rejected with this fault.
+fn is_length_rejected(alloc: Global, length: u32, sum: [u8; 2], fault: Fault) -> bool {
+    let len = length.to_le_bytes();
+    let changes: [(usize, &[u8]); 3] = [(32, &len), (50, &sum), (60, &len)];
+    is_rejected_with(alloc, 72, &changes, fault)
+}
+
+#[test]
+fn lengths_of_missing_bytes_are_rejected(rt: HostRuntime) {
+    for (length, sum, kind, offset) in LENGTHS {
         let fault = Fault::outer(kind, offset);
         assert!(rt;
-            is_rejected_with(rt.alloc(), length, changes, fault),
-            "{kind}"
+            is_length_rejected(rt.alloc(), length, sum, fault),
+            "{length}"
         );
-    }
-    for (length, sum, kind, offset) in LENGTHS {
-        let len = length.to_le_bytes();
-        let changes: [(usize, &[u8]); 3] = [(32, &len), (50, &sum), (60, &len)];
-        let fault = Fault::outer(kind, offset);
-        assert!(rt; is_rejected_with(rt.alloc(), 72, &changes, fault), "{kind}");
     }
 }
 
 #[test]
 fn bytes_are_one_volume_only_if_none_is_missing(rt: HostRuntime) {
     for (length, is_one) in [(128, true), (127, false), (56, false), (55, false)] {
-        assert_eq!(rt; is_one_volume(&EMPTY[..length]), is_one, "{length}");
+        assert!(rt; is_one_volume(&EMPTY[..length]) == is_one, "{length}");
     }
 }

@@ -8,7 +8,7 @@ mod memory;
 mod read;
 mod written;
 
-use fv_hob::{HobFault, hob_bytes, read_hobs};
+use fv_hob::{HobFault, HobList, hob_bytes, read_hobs};
 use std::alloc::Global;
 
 /// Blocks, or parts of them.
@@ -152,15 +152,18 @@ fn fault_of(alloc: Global, bytes: &[u8]) -> Option<HobFault> {
     }
 }
 
-// How many blocks the list at the start of the bytes has, and how many bytes.
-fn counts(alloc: Global, bytes: &[u8]) -> Result<(usize, u64), HobFault> {
-    let (list, length) = read_hobs(alloc, bytes)?;
-    Ok((list.as_slice().len(), length))
+// Whether a list is written as these bytes.
+fn is_list_written_as(alloc: Global, list: &HobList, expected: &[u8]) -> bool {
+    match hob_bytes(alloc, list) {
+        Ok(written) => written.as_slice() == expected,
+        Err(_) => false,
+    }
 }
 
 // Whether the list at the start of the bytes is written as these.
-fn is_written_as(alloc: Global, bytes: &[u8], expected: &[u8]) -> Result<bool, HobFault> {
-    let (list, _) = read_hobs(alloc, bytes)?;
-    let written = hob_bytes(alloc, &list)?;
-    Ok(written.as_slice() == expected)
+fn is_written_as(alloc: Global, bytes: &[u8], expected: &[u8]) -> bool {
+    match read_hobs(alloc, bytes) {
+        Ok((list, _)) => is_list_written_as(alloc, &list, expected),
+        Err(_) => false,
+    }
 }

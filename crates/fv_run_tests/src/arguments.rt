@@ -1,11 +1,19 @@
 //! Command lines: the plans that they ask for, and those that are rejected.
 
+use crate::spelling::text_is;
 use fv_arguments::{WordFault, parse_words};
 use fv_base::Guid;
+use fv_plan::Plan;
 use std::alloc::Global;
 
 /// The GUID that NAME means in a command line.
 const NAME: &str = "0a0a0a0a-0a0a-0a0a-0a0a-0a0a0a0a0a0a";
+
+// Appends an argument of a line.
+fn push_argument(alloc: Global, arguments: &mut Vec<String>, argument: &str) -> Option<()> {
+    let argument = if argument == "NAME" { NAME } else { argument };
+    arguments.push(String::from_str(alloc, argument).ok()?).ok()
+}
 
 // The arguments of a line, separated by spaces, with that GUID for NAME. An empty line has none.
 fn arguments_of(alloc: Global, line: &str) -> Option<Vec<String>> {
@@ -14,18 +22,30 @@ fn arguments_of(alloc: Global, line: &str) -> Option<Vec<String>> {
         return Some(arguments);
     }
     for argument in line.split(' ') {
-        let argument = if argument == "NAME" { NAME } else { argument };
-        let argument = String::from_str(alloc, argument).ok()?;
-        arguments.push(argument).ok()?;
+        push_argument(alloc, &mut arguments, argument)?;
     }
     Some(arguments)
 }
 
-// The plan that a command line asks for, as it is shown.
-fn plan_text(alloc: Global, line: &str) -> Option<String> {
-    let arguments = arguments_of(alloc, line)?;
-    let plan = parse_words(alloc, &arguments).ok()?;
+// A plan as it is shown.
+fn shown(alloc: Global, plan: &Plan) -> Option<String> {
     format!(in alloc; "{plan:?}").ok()
+}
+
+// Whether arguments ask for a plan that is shown like this.
+fn ask_for(alloc: Global, arguments: &[String], wanted: &str) -> bool {
+    match parse_words(alloc, arguments) {
+        Ok(plan) => text_is(shown(alloc, &plan), wanted),
+        Err(_) => false,
+    }
+}
+
+// Whether a command line asks for a plan that is shown like this.
+fn line_asks_for(alloc: Global, line: &str, wanted: &str) -> bool {
+    match arguments_of(alloc, line) {
+        Some(arguments) => ask_for(alloc, &arguments, wanted),
+        None => false,
+    }
 }
 
 // The plan of a row with that GUID, as it is shown, for NAME.
@@ -217,16 +237,17 @@ fn wrong_lines() -> &'static str {
 }
 
 // Whether the command line of a row asks for the plan of the row.
-fn asks_for_its_plan(alloc: Global, row: &str) -> Option<bool> {
-    let (line, plan) = row.split_once(": ")?;
-    let shown = plan_text(alloc, line)?;
-    Some(shown.as_str() == plan)
+fn asks_for_its_plan(alloc: Global, row: &str) -> bool {
+    match row.split_once(": ") {
+        Some((line, plan)) => line_asks_for(alloc, line, plan),
+        None => false,
+    }
 }
 
 #[test]
 fn command_lines_ask_for_their_plans(rt: HostRuntime) {
     for row in plans().lines() {
-        assert!(rt; asks_for_its_plan(rt.alloc(), row) == Some(true), "{row}");
+        assert!(rt; asks_for_its_plan(rt.alloc(), row), "{row}");
     }
 }
 
@@ -234,8 +255,7 @@ fn command_lines_ask_for_their_plans(rt: HostRuntime) {
 fn asks_for_its_part(alloc: Global, row: &str) -> Option<bool> {
     let (line, plan) = row.split_once(": ")?;
     let wanted = with_name(alloc, plan)?;
-    let shown = plan_text(alloc, line)?;
-    Some(shown.as_str() == wanted.as_str())
+    Some(line_asks_for(alloc, line, &wanted))
 }
 
 #[test]
@@ -245,16 +265,22 @@ fn command_lines_ask_for_their_parts(rt: HostRuntime) {
     }
 }
 
-// Whether the arguments of the line are rejected as wrong, and not because memory ran out.
-fn is_rejected(alloc: Global, line: &str) -> Option<bool> {
-    let arguments = arguments_of(alloc, line)?;
-    let read = parse_words(alloc, &arguments);
-    Some(matches!(read, Err(WordFault::Words)))
+// Whether arguments are rejected as wrong, and not because memory ran out.
+fn are_rejected(alloc: Global, arguments: &[String]) -> bool {
+    matches!(parse_words(alloc, arguments), Err(WordFault::Words))
+}
+
+// Whether the arguments of a line are rejected as wrong, and not because memory ran out.
+fn is_rejected(alloc: Global, line: &str) -> bool {
+    match arguments_of(alloc, line) {
+        Some(arguments) => are_rejected(alloc, &arguments),
+        None => false,
+    }
 }
 
 #[test]
 fn wrong_command_lines_are_rejected(rt: HostRuntime) {
     for line in wrong_lines().lines() {
-        assert!(rt; is_rejected(rt.alloc(), line) == Some(true), "{line}");
+        assert!(rt; is_rejected(rt.alloc(), line), "{line}");
     }
 }

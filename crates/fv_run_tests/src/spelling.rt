@@ -10,14 +10,19 @@ pub fn number_of(digits: &str) -> Option<u64> {
     digits.parse().ok()
 }
 
+// Appends a word, or the words of the line of the table that it names, and a space.
+fn append_expanded(words: &mut String, table: &str, word: &str) -> Option<()> {
+    words
+        .push_str(text_named(table, word).unwrap_or(word))
+        .ok()?;
+    words.push(' ').ok()
+}
+
 // The words, with the name of a line of the table replaced by the words of that line.
 fn expanded(alloc: Global, table: &str, text: &str) -> Option<String> {
     let mut words = String::new(alloc);
     for word in text.split_whitespace() {
-        words
-            .push_str(text_named(table, word).unwrap_or(word))
-            .ok()?;
-        words.push(' ').ok()?;
+        append_expanded(&mut words, table, word)?;
     }
     Some(words)
 }
@@ -61,6 +66,14 @@ pub fn bytes_of_at_last(alloc: Global, words: &str) -> Option<Vec<u8>> {
     match bytes_of(alloc, words) {
         None => bytes_of(alloc, words),
         bytes => bytes,
+    }
+}
+
+/// Whether a text was made, and is the expected one.
+pub fn text_is(text: Option<String>, wanted: &str) -> bool {
+    match text {
+        Some(text) => text.as_str() == wanted,
+        None => false,
     }
 }
 

@@ -12,15 +12,28 @@ use std::io::Read;
 /// How many bytes at most a reader gives, or a writer takes, at once.
 const STEPS: [usize; 3] = [1, 3, 65_536];
 
+// Whether the text is read as the bytes by steps of this size.
+fn is_read_by_steps(
+    alloc: Global,
+    text: &[u8],
+    bytes: &[u8],
+    step: usize,
+    is_interrupted: bool,
+) -> bool {
+    let reader = FakeReader::new(text, step, is_interrupted);
+    match read_hex(alloc, &mut Port::new(reader)) {
+        Ok(read) => read.as_slice() == bytes,
+        Err(_) => false,
+    }
+}
+
 // Whether the text is read as the bytes, however many bytes its reader gives at once.
 fn is_read_as(alloc: Global, text: &[u8], bytes: &[u8]) -> bool {
     for step in STEPS {
-        for is_interrupted in [false, true] {
-            let reader = FakeReader::new(text, step, is_interrupted);
-            match read_hex(alloc, &mut Port::new(reader)) {
-                Ok(read) if read.as_slice() == bytes => {}
-                _ => return false,
-            }
+        if !is_read_by_steps(alloc, text, bytes, step, false)
+            || !is_read_by_steps(alloc, text, bytes, step, true)
+        {
+            return false;
         }
     }
     true
@@ -36,32 +49,16 @@ fn stops_with<R: Read + Drop>(alloc: Global, reader: R, fault: Fault) -> bool {
 
 #[test]
 fn text_is_read_as_its_bytes(rt: HostRuntime) {
-    let cases: [(&[u8], Option<&[u8]>); 15] = [
-        (b"", Some(b"")),
-        (b" \t\r\n", Some(b"")),
-        (b"00", Some(b"\x00")),
-        (
-            b"0123456789abcdef",
-            Some(b"\x01\x23\x45\x67\x89\xab\xcd\xef"),
-        ),
-        (b"ABCDEFabCDef", Some(b"\xab\xcd\xef\xab\xcd\xef")),
-        (b"\n0\n1\t2 \r\n3", Some(b"\x01\x23")),
-        (b"0", None),
-        (b"000", None),
-        (b"00 f", None),
-        (b"0g", None),
-        (b"g0", None),
-        (b"00\x0b00", None),
-        (b"0x00", None),
-        (b"00\x00", None),
-        (b"\x80\xff", None),
+    let cases: [(&[u8], &[u8]); 6] = [
+        (b"", b""),
+        (b" \t\r\n", b""),
+        (b"00", b"\x00"),
+        (b"0123456789abcdef", b"\x01\x23\x45\x67\x89\xab\xcd\xef"),
+        (b"ABCDEFabCDef", b"\xab\xcd\xef\xab\xcd\xef"),
+        (b"\n0\n1\t2 \r\n3", b"\x01\x23"),
     ];
     for (text, bytes) in cases {
-        let is_as_expected = match bytes {
-            Some(bytes) => is_read_as(rt.alloc(), text, bytes),
-            None => is_rejected(rt.alloc(), text),
-        };
-        assert!(rt; is_as_expected, "{text:?}");
+        assert!(rt; is_read_as(rt.alloc(), text, bytes), "{text:?}");
     }
 }
 
@@ -74,6 +71,24 @@ fn is_rejected(alloc: Global, text: &[u8]) -> bool {
         }
     }
     true
+}
+
+#[test]
+fn wrong_text_is_rejected(rt: HostRuntime) {
+    let cases: [&[u8]; 9] = [
+        b"0",
+        b"000",
+        b"00 f",
+        b"0g",
+        b"g0",
+        b"00\x0b00",
+        b"0x00",
+        b"00\x00",
+        b"\x80\xff",
+    ];
+    for text in cases {
+        assert!(rt; is_rejected(rt.alloc(), text), "{text:?}");
+    }
 }
 
 /// The 32 bytes of a whole line.
@@ -97,12 +112,28 @@ const THREE_LINES_AND_2_BYTES: &[u8] = b"\
 0abc\n\
 ";
 
-// Whether two pieces of bytes are written as lines of digits.
+// Whether two pieces of bytes are written.
 fn writes_pieces(port: &mut Port<FakeWriter>, pieces: (&[u8], &[u8])) -> bool {
     let mut lines = HexSink::new(WriteSink::new(port));
     lines.put(pieces.0);
     lines.put(pieces.1);
     lines.finish().outcome().is_ok()
+}
+
+// Whether bytes in two pieces are written as these lines by steps of this size.
+fn are_written_as(alloc: Global, pieces: (&[u8], &[u8]), wanted: &[u8], step: usize) -> bool {
+    let mut port = Port::new(FakeWriter::new(alloc, step, 1000, true));
+    writes_pieces(&mut port, pieces) && port.into_inner().took_only(wanted)
+}
+
+// Whether bytes are written as these lines by steps of this size, however they are split.
+fn are_written_by_steps(alloc: Global, bytes: &[u8], wanted: &[u8], step: usize) -> bool {
+    for at in 0..=bytes.len() {
+        if !are_written_as(alloc, bytes.split_at(at), wanted, step) {
+            return false;
+        }
+    }
+    true
 }
 
 #[test]
@@ -115,11 +146,10 @@ fn bytes_are_written_as_lines(rt: HostRuntime) {
     ];
     for (bytes, wanted) in cases {
         for step in STEPS {
-            for at in 0..=bytes.len() {
-                let mut port = Port::new(FakeWriter::new(rt.alloc(), step, 1000, true));
-                assert!(rt; writes_pieces(&mut port, bytes.split_at(at)));
-                assert!(rt; port.into_inner().took_only(wanted), "{bytes:?} {at}");
-            }
+            assert!(rt;
+                are_written_by_steps(rt.alloc(), bytes, wanted, step),
+                "{bytes:?} {step}"
+            );
         }
     }
 }

@@ -1,6 +1,7 @@
 //! Ports over readers and writers that fail: what they pass on, and what they remember.
 
 use fv_base::Port;
+use std::alloc::Global;
 use std::io;
 use std::io::{ErrorKind, Read, Write};
 
@@ -64,10 +65,21 @@ fn count_or_error_kind(outcome: io::Result<usize>) -> Result<usize, ErrorKind> {
 fn a_port_reads_what_its_reader_gives(rt: HostRuntime) {
     let mut buf = [0u8; 4];
     let mut reader = Port::new([1u8, 2, 3].as_slice());
-    assert_eq!(rt; count_or_error_kind(reader.read(&mut buf)), Ok(3));
-    assert_eq!(rt; buf, [1, 2, 3, 0]);
-    assert_eq!(rt; count_or_error_kind(reader.read(&mut buf)), Ok(0));
-    assert!(rt; !reader.erred());
+    let first = count_or_error_kind(reader.read(&mut buf));
+    let filled = buf;
+    let rest = count_or_error_kind(reader.read(&mut buf));
+    let is_right = first == Ok(3) && filled == [1, 2, 3, 0] && rest == Ok(0);
+    assert!(rt; is_right && !reader.erred());
+}
+
+// Whether a read has this outcome, and is remembered if it failed.
+fn is_read_as(
+    reader: &mut Port<FailingReader>,
+    buf: &mut [u8],
+    want: Result<usize, ErrorKind>,
+) -> bool {
+    let failed = want.is_err() || reader.erred();
+    count_or_error_kind(reader.read(buf)) == want && reader.erred() == failed
 }
 
 // The same error is passed on: no contract says which it is.
@@ -86,41 +98,58 @@ fn a_port_remembers_a_read_that_failed(rt: HostRuntime) {
         Ok(1),
         Err(ErrorKind::WouldBlock),
     ] {
-        let failed = want.is_err() || reader.erred();
-        assert_eq!(rt; count_or_error_kind(reader.read(&mut buf)), want);
-        assert_eq!(rt; reader.erred(), failed);
+        assert!(rt; is_read_as(&mut reader, &mut buf, want));
     }
-    assert_eq!(rt; buf, [7, 0, 0, 0]);
-    assert_eq!(rt; reader.into_inner().good, 0);
+    assert!(rt; buf == [7, 0, 0, 0] && reader.into_inner().good == 0);
 }
 
 #[test]
 fn a_port_writes_what_it_is_given(rt: HostRuntime) {
     let mut writer = Port::new(Vec::new(rt.alloc()));
-    assert_eq!(rt; count_or_error_kind(writer.write(&[7, 8])), Ok(2));
-    assert_eq!(rt; count_or_error_kind(writer.write(&[])), Ok(0));
-    assert!(rt; !writer.erred());
-    assert_eq!(rt; writer.into_inner().as_slice(), [7u8, 8].as_slice());
+    let first = count_or_error_kind(writer.write(&[7, 8]));
+    let empty = count_or_error_kind(writer.write(&[]));
+    assert!(rt; first == Ok(2) && empty == Ok(0) && !writer.erred());
+    assert!(rt; writer.into_inner().as_slice() == [7u8, 8].as_slice());
+}
+
+// A writer that has taken nothing.
+pub(super) fn limited_writer(
+    alloc: Global,
+    step: usize,
+    room: usize,
+    fails: bool,
+) -> Port<LimitedWriter> {
+    Port::new(LimitedWriter {
+        taken: Vec::new(alloc),
+        step,
+        room,
+        fails,
+    })
+}
+
+// Whether a write has this outcome, and then a write has failed, or none has.
+fn is_written_as(
+    writer: &mut Port<LimitedWriter>,
+    bytes: &[u8],
+    want: Result<usize, ErrorKind>,
+    erred: bool,
+) -> bool {
+    count_or_error_kind(writer.write(bytes)) == want && writer.erred() == erred
+}
+
+// Whether three of four bytes are taken, and the write of the last has this outcome.
+fn is_last_written_as(alloc: Global, fails: bool, last: Result<usize, ErrorKind>) -> bool {
+    let mut writer = limited_writer(alloc, 2, 3, fails);
+    let is_right = is_written_as(&mut writer, &[1, 2, 3, 4], Ok(2), false)
+        && is_written_as(&mut writer, &[3, 4], Ok(1), false)
+        && is_written_as(&mut writer, &[4], last, true);
+    let taken = writer.into_inner().taken;
+    is_right && taken.as_slice() == [1u8, 2, 3].as_slice()
 }
 
 // A write that takes no byte though some were given has failed too. The same error is passed on.
 #[test]
 fn a_port_remembers_a_write_that_failed(rt: HostRuntime) {
-    for (fails, last) in [(false, Ok(0)), (true, Err(ErrorKind::WouldBlock))] {
-        let mut writer = Port::new(LimitedWriter {
-            taken: Vec::new(rt.alloc()),
-            step: 2,
-            room: 3,
-            fails,
-        });
-        assert_eq!(rt; count_or_error_kind(writer.write(&[1, 2, 3, 4])), Ok(2));
-        assert_eq!(rt; count_or_error_kind(writer.write(&[3, 4])), Ok(1));
-        assert!(rt; !writer.erred());
-        assert_eq!(rt; count_or_error_kind(writer.write(&[4])), last);
-        assert!(rt; writer.erred());
-        assert_eq!(rt;
-            writer.into_inner().taken.as_slice(),
-            [1u8, 2, 3].as_slice()
-        );
-    }
+    assert!(rt; is_last_written_as(rt.alloc(), false, Ok(0)));
+    assert!(rt; is_last_written_as(rt.alloc(), true, Err(ErrorKind::WouldBlock)));
 }

@@ -1,8 +1,8 @@
 //! What sinks keep and write, and where they stop.
 
-use super::ports::LimitedWriter;
+use super::ports::{LimitedWriter, limited_writer};
 use fv_base::{ByteList, Fault, FaultKind, ListSink, Polarity, Port, Sink, WriteSink, fill};
-use std::test::Fail;
+use std::alloc::Global;
 
 /// The lengths of the fills.
 const COUNTS: [usize; 4] = [0, 1, 65_536, 200_000];
@@ -15,80 +15,121 @@ fn is_fill(bytes: &[u8], byte: u8, count: usize) -> bool {
     }
 }
 
-#[test]
-fn list_sinks_keep_fills(rt: HostRuntime) -> Result<(), Fail> {
-    for polarity in [Polarity::Ones, Polarity::Zeros] {
-        for count in COUNTS {
-            let mut list = ListSink::with_room(rt.alloc(), count)?;
+// Whether a list has kept a fill.
+fn has_kept(list: ListSink, byte: u8, count: usize) -> bool {
+    match list.finish() {
+        Ok(bytes) => is_fill(bytes.as_slice(), byte, count),
+        Err(_) => false,
+    }
+}
+
+// Whether a list keeps a fill of erased bytes.
+fn is_kept(alloc: Global, polarity: Polarity, count: usize) -> bool {
+    match ListSink::with_room(alloc, count) {
+        Ok(mut list) => {
             fill(&mut list, polarity.erased(), count as u64);
             list.put(&[1, 2]);
-            let kept = list.finish()?;
-            assert!(rt;
-                is_fill(kept.as_slice(), polarity.erased(), count),
-                "{count}"
-            );
+            has_kept(list, polarity.erased(), count)
+        }
+        Err(_) => false,
+    }
+}
+
+#[test]
+fn list_sinks_keep_fills(rt: HostRuntime) {
+    for polarity in [Polarity::Ones, Polarity::Zeros] {
+        for count in COUNTS {
+            assert!(rt; is_kept(rt.alloc(), polarity, count), "{count}");
         }
     }
-    Ok(())
+}
+
+// Whether a fill of erased bytes and two more are written, and no other byte after them. The fault of a byte
+// for which there is no room says how many were written.
+fn is_room_filled(port: &mut Port<LimitedWriter>, polarity: Polarity, count: usize) -> bool {
+    let mut sink = WriteSink::new(port);
+    fill(&mut sink, polarity.erased(), count as u64);
+    sink.put(&[1, 2]);
+    let filled = sink.outcome();
+    sink.put(&[3]);
+    let stopped = Fault::outer(FaultKind::WriteFault, (count as u64).saturating_add(2));
+    filled == Ok(()) && sink.outcome() == Err(stopped)
+}
+
+// Whether a fill is written where there is just enough room.
+fn is_written(alloc: Global, polarity: Polarity, count: usize) -> bool {
+    let mut port = limited_writer(alloc, usize::MAX, count.saturating_add(2), false);
+    let is_filled = is_room_filled(&mut port, polarity, count);
+    let taken = port.into_inner().taken;
+    is_filled && is_fill(taken.as_slice(), polarity.erased(), count)
 }
 
 #[test]
 fn write_sinks_write_fills(rt: HostRuntime) {
-    for byte in [0xff, 0] {
+    for polarity in [Polarity::Ones, Polarity::Zeros] {
         for count in COUNTS {
-            let mut port = Port::new(LimitedWriter {
-                taken: Vec::new(rt.alloc()),
-                step: usize::MAX,
-                room: count + 2,
-                fails: false,
-            });
-            let mut sink = WriteSink::new(&mut port);
-            fill(&mut sink, byte, count as u64);
-            sink.put(&[1, 2]);
-            assert_eq!(rt; sink.outcome(), Ok(()));
-            // The fault of a byte for which there is no room says how many were written.
-            sink.put(&[3]);
-            let stopped = Err(Fault::outer(FaultKind::WriteFault, count as u64 + 2));
-            assert_eq!(rt; sink.outcome(), stopped);
-            let taken = port.into_inner().taken;
-            assert!(rt; is_fill(taken.as_slice(), byte, count), "{count}");
+            assert!(rt; is_written(rt.alloc(), polarity, count), "{count}");
         }
     }
 }
 
 #[test]
-fn erased_bytes_and_byte_lists_have_their_values(rt: HostRuntime) -> Result<(), Fail> {
-    assert_eq!(rt; Polarity::Ones.erased(), 0xff);
-    assert_eq!(rt; Polarity::Zeros.erased(), 0);
-    let mut bytes = Vec::new(rt.alloc());
-    bytes.extend_from_slice(&[1u8, 2])?;
-    let list = ByteList::from_vec(bytes);
-    assert!(rt; list.as_slice() == b"\x01\x02".as_slice());
-    let copy = ByteList::from_slice(rt.alloc(), list.as_slice())?;
-    assert!(rt; copy.as_slice() == b"\x01\x02".as_slice());
-    Ok(())
+fn erased_bytes_have_their_values(rt: HostRuntime) {
+    assert!(rt; Polarity::Ones.erased() == 0xff && Polarity::Zeros.erased() == 0);
+}
+
+// Whether a list is copied with the bytes 1 and 2.
+fn is_copied(alloc: Global, list: &ByteList) -> bool {
+    match ByteList::from_slice(alloc, list.as_slice()) {
+        Ok(copy) => copy.as_slice() == b"\x01\x02".as_slice(),
+        Err(_) => false,
+    }
+}
+
+// Whether the list of a vector of these bytes has them, and so has a copy.
+fn are_listed(alloc: Global) -> bool {
+    match [1u8, 2].to_vec(alloc) {
+        Ok(bytes) => {
+            let list = ByteList::from_vec(bytes);
+            list.as_slice() == b"\x01\x02".as_slice() && is_copied(alloc, &list)
+        }
+        Err(_) => false,
+    }
+}
+
+#[test]
+fn byte_lists_have_their_bytes(rt: HostRuntime) {
+    assert!(rt; are_listed(rt.alloc()));
+}
+
+// Whether a sink stops after this many erased bytes, and writes no more.
+fn stops_after(port: &mut Port<LimitedWriter>, room: usize) -> bool {
+    let mut sink = WriteSink::new(port);
+    fill(&mut sink, 0xff, 200_000);
+    let filled = sink.outcome();
+    sink.put(&[1, 2]);
+    let stopped = Err(Fault::outer(FaultKind::WriteFault, room as u64));
+    filled == stopped && sink.outcome() == stopped
+}
+
+// Whether bytes are this many erased bytes.
+fn are_erased(bytes: &[u8], count: usize) -> bool {
+    bytes.len() == count && bytes.iter().all(|byte| *byte == 0xff)
+}
+
+// Whether a sink stops where the room of its writer ends.
+fn stops_where_room_ends(alloc: Global, fails: bool, room: usize) -> bool {
+    let mut port = limited_writer(alloc, 1000, room, fails);
+    let is_stopped = stops_after(&mut port, room) && port.erred();
+    let taken = port.into_inner().taken;
+    is_stopped && are_erased(taken.as_slice(), room)
 }
 
 #[test]
 fn sinks_stop_where_a_write_fails(rt: HostRuntime) {
     for fails in [false, true] {
         for room in [0usize, 1, 65_536, 100_000] {
-            let mut port = Port::new(LimitedWriter {
-                taken: Vec::new(rt.alloc()),
-                step: 1000,
-                room,
-                fails,
-            });
-            let mut sink = WriteSink::new(&mut port);
-            fill(&mut sink, 0xff, 200_000);
-            let stopped = Err(Fault::outer(FaultKind::WriteFault, room as u64));
-            assert_eq!(rt; sink.outcome(), stopped);
-            sink.put(&[1, 2]);
-            assert_eq!(rt; sink.outcome(), stopped);
-            assert!(rt; port.erred());
-            let taken = port.into_inner().taken;
-            assert_eq!(rt; taken.len(), room);
-            assert!(rt; taken.as_slice().iter().all(|byte| *byte == 0xff), "{room}");
+            assert!(rt; stops_where_room_ends(rt.alloc(), fails, room), "{room}");
         }
     }
 }

@@ -21,14 +21,19 @@ const SEVERAL: [u8; 14] = [
 /// Bodies, and their values if A is installed.
 const BODIES: [(&[u8], bool); 2] = [(&NOT_A, false), (&SEVERAL, true)];
 
+// Whether an expression is written as it was, or memory ran out.
+fn is_written_or_out_of_memory(alloc: Global, depex: &Depex, bytes: &[u8]) -> bool {
+    match depex_bytes(alloc, depex) {
+        Ok(written) => written.as_slice() == bytes,
+        Err(fault) => fault == OUT_OF_MEMORY,
+    }
+}
+
 // Whether an expression has this value, and is written as it was, or memory ran out.
 fn has_value_or_out_of_memory(alloc: Global, depex: &Depex, bytes: &[u8], value: bool) -> bool {
     let truth = evaluate(alloc, depex, &[Guid::from_bytes(A)]);
-    let is_written = match depex_bytes(alloc, depex) {
-        Ok(written) => written.as_slice() == bytes,
-        Err(fault) => fault == OUT_OF_MEMORY,
-    };
-    is_written && (truth == Ok(Some(value)) || truth == Err(OUT_OF_MEMORY))
+    let is_right = truth == Ok(Some(value)) || truth == Err(OUT_OF_MEMORY);
+    is_written_or_out_of_memory(alloc, depex, bytes) && is_right
 }
 
 // Whether a body is read and has this value, or memory ran out.
@@ -44,7 +49,7 @@ fn out_of_memory_is_reported(rt: HostRuntime) {
     for (bytes, value) in BODIES {
         assert!(rt;
             is_read_or_out_of_memory(rt.alloc(), bytes, value),
-            "{bytes:?}"
+            "{value}"
         );
     }
 }

@@ -2,9 +2,8 @@
 
 use super::{A, B, ORDER, Parts, fault_of, long_expression};
 use crate::parts::joined;
-use fv_depex::{DepexFault, DepexFaultKind, Op, Phase, depex_fault, read_depex};
+use fv_depex::{Depex, DepexFault, DepexFaultKind, Op, Phase, depex_fault, read_depex};
 use std::alloc::Global;
-use std::test::Fail;
 
 /// PUSH A, NOT and END: true if A is not installed.
 pub(super) const NOT_A: [u8; 19] = [
@@ -13,7 +12,10 @@ pub(super) const NOT_A: [u8; 19] = [
 ];
 
 /// The phase, the body, and then the fault.
-const FAULTS: &[(Phase, Parts, DepexFaultKind, u64)] = &[
+type FaultRow = (Phase, Parts, DepexFaultKind, u64);
+
+/// Expressions that are rejected.
+const FAULTS: &[FaultRow] = &[
     // No bytes, or none after an op.
     (Phase::Dxe, &[], DepexFaultKind::NoEnd, 0),
     (Phase::Dxe, &[&[0x06]], DepexFaultKind::NoEnd, 1),
@@ -90,7 +92,10 @@ const FAULTS: &[(Phase, Parts, DepexFaultKind, u64)] = &[
 type ExpectedOp = (u8, &'static [u8]);
 
 /// The phase, the body, its ops, and the bytes after END.
-const READ: &[(Phase, Parts, &[ExpectedOp], &[u8])] = &[
+type ReadRow = (Phase, Parts, &'static [ExpectedOp], &'static [u8]);
+
+/// Expressions that are read.
+const READ: &[ReadRow] = &[
     (
         Phase::Dxe,
         &[&NOT_A],
@@ -171,80 +176,96 @@ fn count_matching(found: &[Op], ops: &[ExpectedOp]) -> usize {
     at
 }
 
-// How many ops a body is read as, if they are these, and whether this is its rest.
-fn read_as(
-    alloc: Global,
-    parts: Parts,
-    phase: Phase,
-    ops: &[ExpectedOp],
-    rest: &[u8],
-) -> Result<(usize, bool), DepexFault> {
-    let bytes = joined(alloc, parts, &[])?;
-    let depex = read_depex(alloc, bytes.as_slice(), phase)?;
-    let whole = depex.phase() == phase && depex.ops().len() == ops.len() && depex.rest() == rest;
-    Ok((count_matching(depex.ops(), ops), whole))
+// Whether an expression is that of a row.
+fn is_expression_of(depex: &Depex, row: &ReadRow) -> bool {
+    let (phase, _, ops, rest) = *row;
+    depex.phase() == phase
+        && depex.ops().len() == ops.len()
+        && count_matching(depex.ops(), ops) == ops.len()
+        && depex.rest() == rest
 }
 
-#[test]
-fn expressions_are_read(rt: HostRuntime) -> Result<(), Fail> {
-    for (phase, parts, ops, rest) in READ {
-        let found = read_as(rt.alloc(), parts, *phase, ops, rest)?;
-        assert_eq!(rt; found, (ops.len(), true), "{parts:?}");
+// Whether a body is read as a row says.
+fn is_read_as(alloc: Global, bytes: &[u8], row: &ReadRow) -> bool {
+    match read_depex(alloc, bytes, row.0) {
+        Ok(depex) => is_expression_of(&depex, row),
+        Err(_) => false,
     }
-    Ok(())
 }
 
-// How many ops an expression has, and how many bytes follow END.
-fn counts(alloc: Global, bytes: &[u8], phase: Phase) -> Result<(usize, usize), DepexFault> {
-    let depex = read_depex(alloc, bytes, phase)?;
-    Ok((depex.ops().len(), depex.rest().len()))
+// Whether the body of a row is read as the row says.
+fn is_row_read(alloc: Global, row: &ReadRow) -> bool {
+    match joined(alloc, row.1, &[]) {
+        Ok(bytes) => is_read_as(alloc, bytes.as_slice(), row),
+        Err(_) => false,
+    }
+}
+
+// The rows. What names a large constant is proved with all of it, so only this function does.
+fn read_rows() -> &'static [ReadRow] {
+    READ
 }
 
 #[test]
-fn a_long_expression_is_read(rt: HostRuntime) -> Result<(), Fail> {
-    let bytes = long_expression(rt.alloc(), 0x05)?;
-    assert_eq!(rt;
-        counts(rt.alloc(), bytes.as_slice(), Phase::Pei)?,
-        (2003, 0)
-    );
-    Ok(())
+fn expressions_are_read(rt: HostRuntime) {
+    let rows = read_rows();
+    for at in 0..rows.len() {
+        assert!(rt; is_row_read(rt.alloc(), &rows[at]), "{at}");
+    }
+}
+
+// Whether a body has this many ops, and no bytes after END.
+fn has_ops(alloc: Global, bytes: &[u8], phase: Phase, count: usize) -> bool {
+    match read_depex(alloc, bytes, phase) {
+        Ok(depex) => depex.ops().len() == count && depex.rest().is_empty(),
+        Err(_) => false,
+    }
+}
+
+#[test]
+fn a_long_expression_is_read(rt: HostRuntime) {
+    let bytes = long_expression(0x05);
+    assert!(rt; has_ops(rt.alloc(), &bytes, Phase::Pei, 2003));
 }
 
 // One value more than END takes.
 #[test]
-fn a_long_expression_is_rejected(rt: HostRuntime) -> Result<(), Fail> {
-    let bytes = long_expression(rt.alloc(), 0x07)?;
+fn a_long_expression_is_rejected(rt: HostRuntime) {
+    let bytes = long_expression(0x07);
     let fault = DepexFault {
         kind: DepexFaultKind::Stack,
         offset: 2002,
     };
-    assert_eq!(rt;
-        fault_of(rt.alloc(), bytes.as_slice(), Phase::Pei),
-        Some(fault)
-    );
-    Ok(())
+    assert!(rt; fault_of(rt.alloc(), &bytes, Phase::Pei) == Some(fault));
 }
 
-// The fault of a body, if it is rejected.
-fn fault_in(alloc: Global, parts: Parts, phase: Phase) -> Result<Option<DepexFault>, DepexFault> {
-    let bytes = joined(alloc, parts, &[])?;
-    Ok(fault_of(alloc, bytes.as_slice(), phase))
+// The fault of a row.
+fn fault_in(row: &FaultRow) -> DepexFault {
+    DepexFault {
+        kind: row.2,
+        offset: row.3,
+    }
+}
+
+// Whether the body of a row is rejected with its fault.
+fn is_rejected(alloc: Global, row: &FaultRow) -> bool {
+    match joined(alloc, row.1, &[]) {
+        Ok(bytes) => fault_of(alloc, bytes.as_slice(), row.0) == Some(fault_in(row)),
+        Err(_) => false,
+    }
+}
+
+// The rows of the faults.
+fn fault_rows() -> &'static [FaultRow] {
+    FAULTS
 }
 
 #[test]
-fn each_fault_is_reported_at_its_place(rt: HostRuntime) -> Result<(), Fail> {
-    for (phase, parts, kind, offset) in FAULTS {
-        let fault = DepexFault {
-            kind: *kind,
-            offset: *offset,
-        };
-        assert_eq!(rt;
-            fault_in(rt.alloc(), parts, *phase)?,
-            Some(fault),
-            "{parts:?}"
-        );
+fn each_fault_is_reported_at_its_place(rt: HostRuntime) {
+    let rows = fault_rows();
+    for at in 0..rows.len() {
+        assert!(rt; is_rejected(rt.alloc(), &rows[at]), "{at}");
     }
-    Ok(())
 }
 
 // The fault of the first `length` bytes of NOT_A, fewer than it has: the GUID is cut short, or END
@@ -263,34 +284,32 @@ fn expected_fault(length: usize) -> DepexFault {
     }
 }
 
+// Whether an expression of each phase has this fault.
+fn has_fault(alloc: Global, bytes: &[u8], fault: Option<DepexFault>) -> bool {
+    fault_of(alloc, bytes, Phase::Pei) == fault && fault_of(alloc, bytes, Phase::Dxe) == fault
+}
+
 #[test]
 fn no_first_part_of_an_expression_is_accepted(rt: HostRuntime) {
     for length in 0..NOT_A.len() {
         let fault = Some(expected_fault(length));
-        let first_part = &NOT_A[..length];
-        assert_eq!(rt;
-            fault_of(rt.alloc(), first_part, Phase::Pei),
-            fault,
-            "{length}"
-        );
-        assert_eq!(rt;
-            fault_of(rt.alloc(), first_part, Phase::Dxe),
-            fault,
-            "{length}"
-        );
+        assert!(rt; has_fault(rt.alloc(), &NOT_A[..length], fault), "{length}");
+    }
+}
+
+// Whether the fault of a row is found in its body.
+fn is_found(alloc: Global, row: &FaultRow) -> bool {
+    match joined(alloc, row.1, &[]) {
+        Ok(bytes) => depex_fault(bytes.as_slice(), row.0) == Some(fault_in(row)),
+        Err(_) => false,
     }
 }
 
 #[test]
-fn faults_are_found_without_memory(rt: HostRuntime) -> Result<(), Fail> {
-    for (phase, parts, kind, offset) in FAULTS {
-        let bytes = joined(rt.alloc(), parts, &[])?;
-        let fault = DepexFault {
-            kind: *kind,
-            offset: *offset,
-        };
-        assert_eq!(rt; depex_fault(bytes.as_slice(), *phase), Some(fault));
+fn faults_are_found_without_memory(rt: HostRuntime) {
+    let rows = fault_rows();
+    for at in 0..rows.len() {
+        assert!(rt; is_found(rt.alloc(), &rows[at]), "{at}");
     }
-    assert_eq!(rt; depex_fault(&NOT_A, Phase::Pei), None);
-    Ok(())
+    assert!(rt; depex_fault(&NOT_A, Phase::Pei).is_none());
 }

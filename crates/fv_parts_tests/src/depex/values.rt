@@ -3,12 +3,14 @@
 use super::{A, B, Parts, long_expression};
 use crate::parts::joined;
 use fv_base::Guid;
-use fv_depex::{DepexFault, Phase, evaluate, read_depex};
+use fv_depex::{Depex, Phase, evaluate, read_depex};
 use std::alloc::Global;
-use std::test::Fail;
 
 /// The body, and its value if nothing is installed, only A, only B, and both.
-pub(super) const VALUES: &[(Parts, [bool; 4])] = &[
+pub(super) type ValueRow = (Parts, [bool; 4]);
+
+/// Expressions that have values.
+const VALUES: &[ValueRow] = &[
     // Constants, with SOR and with bytes after END.
     (&[&[0x06, 0x08]], [true; 4]),
     (&[&[0x07, 0x08]], [false; 4]),
@@ -55,71 +57,76 @@ pub(super) const VALUES: &[(Parts, [bool; 4])] = &[
     ),
 ];
 
-// The value of an expression of the phase if these GUIDs are installed.
-fn value(
-    alloc: Global,
-    bytes: &[u8],
-    phase: Phase,
-    installed: &[Guid],
-) -> Result<Option<bool>, DepexFault> {
-    let depex = read_depex(alloc, bytes, phase)?;
-    evaluate(alloc, &depex, installed)
-}
+/// The values of a body if nothing is installed, only A, only B, and both.
+type Values = [Option<bool>; 4];
 
-// The values of a body if nothing is installed, only A, only B, and both.
-fn values(alloc: Global, parts: &[&[u8]], phase: Phase) -> Result<[Option<bool>; 4], DepexFault> {
+// Whether an expression has these values.
+fn has_values(alloc: Global, depex: &Depex, expected: Values) -> bool {
     let a = Guid::from_bytes(A);
     let b = Guid::from_bytes(B);
-    let bytes = joined(alloc, parts, &[])?;
-    let none = value(alloc, bytes.as_slice(), phase, &[])?;
-    let first = value(alloc, bytes.as_slice(), phase, &[a])?;
-    let second = value(alloc, bytes.as_slice(), phase, &[b])?;
-    let both = value(alloc, bytes.as_slice(), phase, &[b, a])?;
-    Ok([none, first, second, both])
+    let [none, first, second, both] = expected;
+    evaluate(alloc, depex, &[]) == Ok(none)
+        && evaluate(alloc, depex, &[a]) == Ok(first)
+        && evaluate(alloc, depex, &[b]) == Ok(second)
+        && evaluate(alloc, depex, &[b, a]) == Ok(both)
+}
+
+// Whether the bytes are read as an expression of the phase that has these values.
+fn is_valued(alloc: Global, bytes: &[u8], phase: Phase, expected: Values) -> bool {
+    match read_depex(alloc, bytes, phase) {
+        Ok(depex) => has_values(alloc, &depex, expected),
+        Err(_) => false,
+    }
+}
+
+// The same of a body in parts.
+fn are_valued(alloc: Global, parts: &[&[u8]], phase: Phase, expected: Values) -> bool {
+    match joined(alloc, parts, &[]) {
+        Ok(bytes) => is_valued(alloc, bytes.as_slice(), phase, expected),
+        Err(_) => false,
+    }
+}
+
+// Whether a row's body has its values.
+fn is_row_valued(alloc: Global, row: &ValueRow) -> bool {
+    let [none, first, second, both] = row.1;
+    let expected = [Some(none), Some(first), Some(second), Some(both)];
+    are_valued(alloc, row.0, Phase::Dxe, expected)
+}
+
+// The rows. What names a large constant is proved with all of it, so only this function does.
+pub(super) fn value_rows() -> &'static [ValueRow] {
+    VALUES
 }
 
 #[test]
-fn expressions_have_values(rt: HostRuntime) -> Result<(), Fail> {
-    for (parts, expected) in VALUES {
-        let [none, first, second, both] = *expected;
-        let found = values(rt.alloc(), parts, Phase::Dxe)?;
-        assert_eq!(rt;
-            found,
-            [Some(none), Some(first), Some(second), Some(both)],
-            "{parts:?}"
-        );
+fn expressions_have_values(rt: HostRuntime) {
+    let rows = value_rows();
+    for at in 0..rows.len() {
+        assert!(rt; is_row_valued(rt.alloc(), &rows[at]), "{at}");
     }
-    Ok(())
 }
 
 // PUSH A, NOT and END.
 #[test]
-fn the_phase_does_not_change_a_value(rt: HostRuntime) -> Result<(), Fail> {
+fn the_phase_does_not_change_a_value(rt: HostRuntime) {
+    let parts: Parts = &[&[0x02], &A, &[0x05, 0x08]];
     let expected = [Some(true), Some(false), Some(true), Some(false)];
-    for phase in [Phase::Pei, Phase::Dxe] {
-        let found = values(rt.alloc(), &[&[0x02], &A, &[0x05, 0x08]], phase)?;
-        assert_eq!(rt; found, expected, "{phase:?}");
-    }
-    Ok(())
+    assert!(rt; are_valued(rt.alloc(), parts, Phase::Pei, expected));
+    assert!(rt; are_valued(rt.alloc(), parts, Phase::Dxe, expected));
 }
 
 #[test]
-fn before_and_after_have_no_value(rt: HostRuntime) -> Result<(), Fail> {
-    for code in [0x00, 0x01] {
-        let found = values(rt.alloc(), &[&[code], &A, &[0x08]], Phase::Dxe)?;
-        assert_eq!(rt; found, [None; 4], "{code}");
-    }
-    Ok(())
+fn before_and_after_have_no_value(rt: HostRuntime) {
+    let before: Parts = &[&[0x00], &A, &[0x08]];
+    let after: Parts = &[&[0x01], &A, &[0x08]];
+    assert!(rt; are_valued(rt.alloc(), before, Phase::Dxe, [None; 4]));
+    assert!(rt; are_valued(rt.alloc(), after, Phase::Dxe, [None; 4]));
 }
 
 #[test]
-fn a_long_expression_has_a_value(rt: HostRuntime) -> Result<(), Fail> {
-    let bytes = long_expression(rt.alloc(), 0x05)?;
-    for phase in [Phase::Pei, Phase::Dxe] {
-        assert_eq!(rt;
-            value(rt.alloc(), bytes.as_slice(), phase, &[])?,
-            Some(false)
-        );
-    }
-    Ok(())
+fn a_long_expression_has_a_value(rt: HostRuntime) {
+    let bytes = long_expression(0x05);
+    assert!(rt; is_valued(rt.alloc(), &bytes, Phase::Pei, [Some(false); 4]));
+    assert!(rt; is_valued(rt.alloc(), &bytes, Phase::Dxe, [Some(false); 4]));
 }

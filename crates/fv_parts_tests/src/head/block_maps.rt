@@ -1,9 +1,9 @@
 //! Volumes with block maps of other lengths.
 
-use super::{canonical_head, overwrite_each};
+use super::{has_canonical_head, overwrite_each};
 use fv_base::{Fault, FaultKind};
-use fv_head::{VolumeHead, read_head, verify_fv};
-use std::test::Fail;
+use fv_head::{Extent, VolumeHead, read_head, verify_fv};
+use std::alloc::Global;
 
 /// The first 32 bytes of a volume: its zero vector and its file system.
 const START: [u8; 32] = [
@@ -22,12 +22,14 @@ fn put_volume(bytes: &mut [u8], length: u16, words: [u8; 4], blocks: &[(u8, u8)]
         &[(0, &START), (32, &length.to_le_bytes()), (40, &MIDDLE)],
     );
     overwrite_each(bytes, &[(48, &words), (55, &[2])]);
-    for ((count, size), pair) in blocks.iter().zip(bytes.chunks_mut(8).skip(7)) {
-        overwrite_each(pair, &[(0, &[*count]), (4, &[*size])]);
+    let mut at = 56usize;
+    for (count, size) in blocks {
+        overwrite_each(bytes, &[(at, &[*count]), (at.saturating_add(4), &[*size])]);
+        at = at.saturating_add(8);
     }
     let header_len = u16::from_le_bytes([words[0], words[1]]);
-    for byte in bytes.iter_mut().skip(usize::from(header_len)) {
-        *byte = 0xff;
+    for i in usize::from(header_len)..bytes.len() {
+        bytes[i] = 0xff;
     }
 }
 
@@ -78,44 +80,69 @@ fn has_blocks(head: &VolumeHead, blocks: &[(u8, u8)]) -> bool {
     is_same
 }
 
-#[test]
-fn block_maps_of_any_length_are_read(rt: HostRuntime) -> Result<(), Fail> {
-    for (length, words, blocks) in READ {
-        let mut bytes = [0; 4096];
-        put_volume(&mut bytes, length, words, blocks);
-        let (head, extent) = read_head(rt.alloc(), &bytes[..usize::from(length).min(4096)])?;
-        assert_eq!(rt; extent.first, extent.header_len);
-        assert_eq!(rt; u64::from(head.header_len()), extent.header_len);
-        assert!(rt; has_blocks(&head, blocks), "{length}");
+// Whether a head has these blocks, and a header that ends with them.
+fn is_head_of(head: &VolumeHead, extent: Extent, blocks: &[(u8, u8)]) -> bool {
+    extent.first == extent.header_len
+        && u64::from(head.header_len()) == extent.header_len
+        && has_blocks(head, blocks)
+}
+
+// Whether the bytes are read as a volume with these blocks.
+fn is_read_with(alloc: Global, bytes: &[u8], blocks: &[(u8, u8)]) -> bool {
+    match read_head(alloc, bytes) {
+        Ok((head, extent)) => is_head_of(&head, extent, blocks),
+        Err(_) => false,
     }
-    Ok(())
+}
+
+// Whether a volume is read.
+fn is_volume_read(alloc: Global, length: u16, words: [u8; 4], blocks: &[(u8, u8)]) -> bool {
+    let mut bytes = [0; 4096];
+    put_volume(&mut bytes, length, words, blocks);
+    is_read_with(alloc, &bytes[..usize::from(length).min(4096)], blocks)
 }
 
 #[test]
-fn block_maps_of_any_length_are_written(rt: HostRuntime) -> Result<(), Fail> {
+fn block_maps_of_any_length_are_read(rt: HostRuntime) {
     for (length, words, blocks) in READ {
-        let mut bytes = [0; 4096];
-        put_volume(&mut bytes, length, words, blocks);
-        let spelled = canonical_head(rt.alloc(), &bytes[..usize::from(length).min(4096)])?;
-        let header_len = u16::from_le_bytes([words[0], words[1]]);
-        assert_eq!(rt;
-            Some(spelled.as_slice()),
-            bytes.get(..usize::from(header_len))
+        assert!(rt;
+            is_volume_read(rt.alloc(), length, words, blocks),
+            "{length}"
         );
     }
-    Ok(())
+}
+
+// Whether the head of a volume is written as it was read.
+fn is_volume_written(alloc: Global, length: u16, words: [u8; 4], blocks: &[(u8, u8)]) -> bool {
+    let mut bytes = [0; 4096];
+    put_volume(&mut bytes, length, words, blocks);
+    let header_len = u16::from_le_bytes([words[0], words[1]]);
+    has_canonical_head(
+        alloc,
+        &bytes[..usize::from(length).min(4096)],
+        &bytes[..usize::from(header_len).min(4096)],
+    )
+}
+
+#[test]
+fn block_maps_of_any_length_are_written(rt: HostRuntime) {
+    for (length, words, blocks) in READ {
+        assert!(rt; is_volume_written(rt.alloc(), length, words, blocks));
+    }
+}
+
+// Whether a volume is rejected with this fault.
+fn is_volume_rejected(length: u16, words: [u8; 4], blocks: &[(u8, u8)], fault: Fault) -> bool {
+    let mut bytes = [0; 4096];
+    put_volume(&mut bytes, length, words, blocks);
+    verify_fv(&bytes[..usize::from(length).min(4096)]) == Err(fault)
 }
 
 #[test]
 fn wrong_block_maps_are_rejected(rt: HostRuntime) {
     for (length, words, blocks, kind, offset) in REJECTED {
-        let mut bytes = [0; 4096];
-        put_volume(&mut bytes, length, words, blocks);
-        let fault = Some(Fault::outer(kind, offset));
-        assert_eq!(rt;
-            verify_fv(&bytes[..usize::from(length).min(4096)]).err(),
-            fault,
-            "{kind}"
-        );
+        let fault = Fault::outer(kind, offset);
+        let sum = words[2];
+        assert!(rt; is_volume_rejected(length, words, blocks, fault), "{sum}");
     }
 }

@@ -1,13 +1,12 @@
 //! Volumes with an extended header: from outside, and changed.
 
-use super::{canonical_head, fault_of, overwrite_each};
-use fv_base::{ByteList, Fault, FaultKind, FileSystem, Polarity, Port};
+use super::{has_canonical_head, is_made, is_rejected, overwrite_each};
+use fv_base::{Fault, FaultKind, FileSystem, Polarity, Port};
 use fv_head::{
     Extent, VolumeHead, ext_bytes, first_edge, len_of_ext, read_head, verify_fv, write_ext,
     write_head,
 };
 use std::alloc::Global;
-use std::test::Fail;
 
 /// The name in each of the volumes.
 const NAME: [u8; 16] = [0x0e; 16];
@@ -95,7 +94,10 @@ type Entries = &'static [(u16, &'static [u8])];
 
 /// What is changed in the bare volume; then how many bytes are the volume, where its first file may
 /// begin, and the entries and the tail of its extended header.
-const READ: [(Changes, usize, u64, Entries, &[u8]); 12] = [
+type ReadRow = (Changes, usize, u64, Entries, &'static [u8]);
+
+/// Extended headers that are read.
+const READ: &[ReadRow] = &[
     (&[], 192, 104, &[(3, &[0; 4])], &[]),
     (IN_PAD, 192, 128, &[(3, &[0; 4])], &[]),
     (AS_IMAGE, 192, 128, &[(3, &[0; 4])], &[]),
@@ -161,106 +163,155 @@ pub(super) fn has_ext(head: &VolumeHead, entries: &[(u16, &[u8])], tail: &[u8]) 
     ext.tail() == tail && is_same && ext.name().to_bytes() == NAME
 }
 
-// The bytes of the extended header of the volume at the start of the bytes, with this used size;
-// none if there is no extended header.
-fn canonical_ext(alloc: Global, bytes: &[u8], used: u32) -> Result<ByteList, Fault> {
-    let (head, _) = read_head(alloc, bytes)?;
+// Whether the extended header of a head, with this used size, is written as these bytes.
+fn is_ext_written(alloc: Global, head: &VolumeHead, used: u32, expected: &[u8]) -> bool {
     match head.ext() {
-        Some(ext) => ext_bytes(alloc, ext, used),
-        None => Ok(ByteList::from_vec(Vec::new(alloc))),
+        Some(ext) => is_made(ext_bytes(alloc, ext, used), expected),
+        None => false,
     }
 }
 
-// The length of the extended header, 0 if there is none, and where the first file of the canonical
-// image may begin.
-fn length_and_edge(alloc: Global, bytes: &[u8]) -> Result<(u32, u64), Fault> {
-    let (head, _) = read_head(alloc, bytes)?;
-    match head.ext() {
-        Some(ext) => Ok((len_of_ext(ext), first_edge(&head))),
-        None => Ok((0, first_edge(&head))),
+// Whether the extended header of the volume at the start of the bytes is written so.
+fn has_canonical_ext(alloc: Global, bytes: &[u8], used: u32, expected: &[u8]) -> bool {
+    match read_head(alloc, bytes) {
+        Ok((head, _)) => is_ext_written(alloc, &head, used, expected),
+        Err(_) => false,
     }
+}
+
+// Whether a head has an extended header of this length, and the first file of its canonical image
+// may begin here.
+fn has_length_and_edge(head: &VolumeHead, length: u32, edge: u64) -> bool {
+    match head.ext() {
+        Some(ext) => len_of_ext(ext) == length && first_edge(head) == edge,
+        None => false,
+    }
+}
+
+// Whether a head and its extent are those of a row.
+fn is_head_of(head: &VolumeHead, found: Extent, row: &ReadRow) -> bool {
+    let (_, length, first, entries, tail) = *row;
+    let extent = Extent {
+        length: length as u64,
+        header_len: 72,
+        first,
+        file_system: FileSystem::Ffs2,
+        polarity: Polarity::Ones,
+    };
+    found == extent && has_ext(head, entries, tail)
+}
+
+// Whether the bytes are read as a row says.
+fn is_read_as(alloc: Global, bytes: &[u8], row: &ReadRow) -> bool {
+    match read_head(alloc, bytes) {
+        Ok((head, found)) => verify_fv(bytes) == Ok(found) && is_head_of(&head, found, row),
+        Err(_) => false,
+    }
+}
+
+// Whether the bare volume, changed as a row says, is read as the row says.
+fn is_row_read(alloc: Global, row: &ReadRow) -> bool {
+    let mut bytes = BARE;
+    overwrite_each(&mut bytes, row.0);
+    is_read_as(alloc, &bytes[..row.1.min(192)], row)
+}
+
+// The rows. What names a large constant is proved with all of it, so only this function does.
+fn read_rows() -> &'static [ReadRow] {
+    READ
 }
 
 #[test]
-fn extended_headers_are_read(rt: HostRuntime) -> Result<(), Fail> {
-    for (changes, length, first, entries, tail) in READ {
-        let mut bytes = BARE;
-        overwrite_each(&mut bytes, changes);
-        let bytes = &bytes[..length.min(bytes.len())];
-        let extent = Extent {
-            length: length as u64,
-            header_len: 72,
-            first,
-            file_system: FileSystem::Ffs2,
-            polarity: Polarity::Ones,
-        };
-        assert_eq!(rt; verify_fv(bytes)?, extent);
-        let (head, found) = read_head(rt.alloc(), bytes)?;
-        assert_eq!(rt; found, extent);
-        assert!(rt; has_ext(&head, entries, tail), "{entries:?} {tail:?}");
+fn extended_headers_are_read(rt: HostRuntime) {
+    let rows = read_rows();
+    for at in 0..rows.len() {
+        assert!(rt; is_row_read(rt.alloc(), &rows[at]), "{at}");
     }
-    Ok(())
+}
+
+// Whether the bare volume, changed, is rejected since its extended header is not within it.
+fn is_outside(alloc: Global, changes: Changes) -> bool {
+    let mut bytes = BARE;
+    overwrite_each(&mut bytes, changes);
+    is_rejected(alloc, &bytes, Fault::outer(FaultKind::ExtHeader, 52))
 }
 
 #[test]
 fn extended_headers_outside_their_volume_are_rejected(rt: HostRuntime) {
     for changes in REJECTED {
-        let mut bytes = BARE;
-        overwrite_each(&mut bytes, changes);
-        let fault = Some(Fault::outer(FaultKind::ExtHeader, 52));
-        assert_eq!(rt; verify_fv(&bytes).err(), fault);
-        assert_eq!(rt; fault_of(rt.alloc(), &bytes), fault);
+        assert!(rt; is_outside(rt.alloc(), changes));
+    }
+}
+
+// Whether the bare volume, changed, has an extended header of this length and this edge.
+fn is_measured(alloc: Global, changes: Changes, length: u32, edge: u64) -> bool {
+    let mut bytes = BARE;
+    overwrite_each(&mut bytes, changes);
+    match read_head(alloc, &bytes) {
+        Ok((head, _)) => has_length_and_edge(&head, length, edge),
+        Err(_) => false,
     }
 }
 
 #[test]
-fn extended_headers_have_their_length_and_edge(rt: HostRuntime) -> Result<(), Fail> {
+fn extended_headers_have_their_length_and_edge(rt: HostRuntime) {
     for (changes, length, edge) in EDGES {
-        let mut bytes = BARE;
-        overwrite_each(&mut bytes, changes);
-        assert_eq!(rt; length_and_edge(rt.alloc(), &bytes)?, (length, edge));
+        assert!(rt; is_measured(rt.alloc(), changes, length, edge), "{length}");
     }
-    Ok(())
 }
 
-#[test]
-fn an_extended_header_has_65535_bytes_at_most(rt: HostRuntime) -> Result<(), Fail> {
-    let mut bytes = [0; 0x2_0000];
-    overwrite_each(&mut bytes, LARGE);
-    overwrite_each(&mut bytes, &[(88, &[0x00, 0x00, 0x01, 0x00])]);
-    let fault = Some(Fault::outer(FaultKind::ExtHeader, 52));
-    assert_eq!(rt; verify_fv(&bytes).err(), fault);
-    overwrite_each(&mut bytes, &[(88, &[0xff, 0xff, 0x00, 0x00])]);
-    assert_eq!(rt; verify_fv(&bytes)?.first, 65608);
-    let part = canonical_ext(rt.alloc(), &bytes, 0)?;
-    assert_eq!(rt; Some(part.as_slice()), bytes.get(72..65607));
-    Ok(())
-}
-
-#[test]
-fn extended_headers_are_written(rt: HostRuntime) -> Result<(), Fail> {
-    for changes in [NONE, IN_PAD, AS_IMAGE] {
-        let mut bytes = BARE;
-        overwrite_each(&mut bytes, changes);
-        let head = canonical_head(rt.alloc(), &bytes)?;
-        assert_eq!(rt; Some(head.as_slice()), IMAGE.get(..72));
-        for (used, expected) in [(152, IMAGE.get(96..124)), (0, BARE.get(72..100))] {
-            let part = canonical_ext(rt.alloc(), &bytes, used)?;
-            assert_eq!(rt; Some(part.as_slice()), expected);
+// Whether the bytes are a volume with an extended header of 65,535 bytes, which is written back.
+fn has_largest_ext(alloc: Global, bytes: &[u8]) -> bool {
+    match (verify_fv(bytes), bytes.get(72..65607)) {
+        (Ok(extent), Some(ext)) => {
+            extent.first == 65608 && has_canonical_ext(alloc, bytes, 0, ext)
         }
+        _ => false,
     }
-    Ok(())
+}
+
+// Whether an extended header of 65,535 bytes is accepted in a large volume, and one more is not.
+fn has_largest_only(alloc: Global, bytes: &mut [u8]) -> bool {
+    overwrite_each(bytes, LARGE);
+    overwrite_each(bytes, &[(88, &[0x00, 0x00, 0x01, 0x00])]);
+    let outcome = verify_fv(bytes);
+    overwrite_each(bytes, &[(88, &[0xff, 0xff, 0x00, 0x00])]);
+    outcome == Err(Fault::outer(FaultKind::ExtHeader, 52)) && has_largest_ext(alloc, bytes)
 }
 
 #[test]
-fn an_extended_header_without_entries_is_written(rt: HostRuntime) -> Result<(), Fail> {
+fn an_extended_header_has_65535_bytes_at_most(rt: HostRuntime) {
+    let mut bytes = [0; 0x2_0000];
+    assert!(rt; has_largest_only(rt.alloc(), &mut bytes));
+}
+
+// Whether the head and the extended header of the canonical image are those of the bare volume.
+fn is_image(alloc: Global, bytes: &[u8]) -> bool {
+    has_canonical_head(alloc, bytes, &IMAGE[..72])
+        && has_canonical_ext(alloc, bytes, 152, &IMAGE[96..124])
+        && has_canonical_ext(alloc, bytes, 0, &BARE[72..100])
+}
+
+// Whether the bare volume, changed, has the same head and extended header.
+fn is_written_as_image(alloc: Global, changes: Changes) -> bool {
+    let mut bytes = BARE;
+    overwrite_each(&mut bytes, changes);
+    is_image(alloc, &bytes)
+}
+
+#[test]
+fn extended_headers_are_written(rt: HostRuntime) {
+    for changes in [NONE, IN_PAD, AS_IMAGE] {
+        assert!(rt; is_written_as_image(rt.alloc(), changes));
+    }
+}
+
+#[test]
+fn an_extended_header_without_entries_is_written(rt: HostRuntime) {
     let mut bytes = BARE;
     overwrite_each(&mut bytes, TAIL_ONLY);
-    let head = canonical_head(rt.alloc(), &bytes)?;
-    assert_eq!(rt; Some(head.as_slice()), IMAGE.get(..72));
-    let part = canonical_ext(rt.alloc(), &bytes, 152)?;
-    assert_eq!(rt; Some(part.as_slice()), bytes.get(72..97));
-    Ok(())
+    assert!(rt; has_canonical_head(rt.alloc(), &bytes, &IMAGE[..72]));
+    assert!(rt; has_canonical_ext(rt.alloc(), &bytes, 152, &bytes[72..97]));
 }
 
 // Writes the head, or the extended header with a used size of 152, until `full` has no more room.
@@ -272,18 +323,34 @@ pub(super) fn write_to(head: &VolumeHead, is_ext: bool, full: &mut [u8]) -> Resu
     }
 }
 
-#[test]
-fn heads_are_written_until_a_write_fails(rt: HostRuntime) -> Result<(), Fail> {
-    let (head, _) = read_head(rt.alloc(), &BARE)?;
-    for (is_ext, whole) in [(false, &IMAGE[..72]), (true, &IMAGE[96..124])] {
-        for room in 0..=whole.len() {
-            let mut taken = [0u8; 72];
-            let outcome = write_to(&head, is_ext, &mut taken[..room.min(72)]);
-            let fault = Fault::outer(FaultKind::WriteFault, room as u64);
-            let expected = (room < whole.len()).then_some(fault);
-            assert_eq!(rt; outcome.err(), expected);
-            assert_eq!(rt; taken.get(..room), whole.get(..room));
+// Whether as many bytes of these are written as there is room for.
+fn is_written_until(head: &VolumeHead, is_ext: bool, whole: &[u8], room: usize) -> bool {
+    let mut taken = [0u8; 72];
+    let outcome = write_to(head, is_ext, &mut taken[..room.min(72)]);
+    let expected = if room < whole.len() {
+        Err(Fault::outer(FaultKind::WriteFault, room as u64))
+    } else {
+        Ok(())
+    };
+    outcome == expected && taken.get(..room) == whole.get(..room)
+}
+
+// Whether this is so of the bare volume for each room up to that of all of the bytes.
+fn stops_where_room_ends(alloc: Global, is_ext: bool, whole: &[u8]) -> bool {
+    match read_head(alloc, &BARE) {
+        Ok((head, _)) => {
+            let mut is_right = true;
+            for room in 0..=whole.len() {
+                is_right = is_right && is_written_until(&head, is_ext, whole, room);
+            }
+            is_right
         }
+        Err(_) => false,
     }
-    Ok(())
+}
+
+#[test]
+fn heads_are_written_until_a_write_fails(rt: HostRuntime) {
+    assert!(rt; stops_where_room_ends(rt.alloc(), false, &IMAGE[..72]));
+    assert!(rt; stops_where_room_ends(rt.alloc(), true, &IMAGE[96..124]));
 }

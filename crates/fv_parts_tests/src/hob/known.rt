@@ -144,7 +144,12 @@ const KNOWN_WRAPS: Known = Known {
 };
 
 /// All of them.
-pub(super) const LISTS: &[Known] = &[KNOWN_LIST, KNOWN_TYPES, KNOWN_SHORTEST, KNOWN_WRAPS];
+const LISTS: &[Known] = &[KNOWN_LIST, KNOWN_TYPES, KNOWN_SHORTEST, KNOWN_WRAPS];
+
+// The lists. What names a large constant is proved with all of it, so only this function does.
+pub(super) fn lists() -> &'static [Known] {
+    LISTS
+}
 
 // Whether it is the allocation.
 fn is_allocation(said: &MemoryAllocation) -> bool {
@@ -234,7 +239,7 @@ fn is_block(hob: &Hob, block: &Block) -> bool {
 }
 
 // How many of these blocks are found, in this order.
-pub(super) fn count_found(hobs: &[Hob], blocks: &[Block]) -> usize {
+fn count_found(hobs: &[Hob], blocks: &[Block]) -> usize {
     let mut at = 0;
     for hob in hobs {
         if at < blocks.len() && is_block(hob, &blocks[at]) {
@@ -242,6 +247,13 @@ pub(super) fn count_found(hobs: &[Hob], blocks: &[Block]) -> usize {
         }
     }
     at
+}
+
+// Whether the blocks and the length that are found are those of a list.
+pub(super) fn is_found(hobs: &[Hob], length: u64, known: &Known) -> bool {
+    length == known.length
+        && hobs.len() == known.blocks.len()
+        && count_found(hobs, known.blocks) == hobs.len()
 }
 
 // Whether the volumes are those that the blocks describe, in their order.

@@ -2,9 +2,8 @@
 
 use super::{END, HANDOFF, fault_of, header_of, is_written_as};
 use crate::parts::overwrite;
-use fv_hob::{HobFault, HobFaultKind, read_hobs};
+use fv_hob::{HobFault, HobFaultKind, HobList, read_hobs};
 use std::alloc::{AllocError, Global};
-use std::test::Fail;
 
 /// A type, lengths that its blocks may have, and others that they may not.
 const LENGTHS: &[(u16, &[u16], &[u16])] = &[
@@ -28,14 +27,7 @@ const LENGTHS: &[(u16, &[u16], &[u16])] = &[
     (0xfffd, &[8, 48], &[]),
 ];
 
-// A block of this type, with this length field, and zeros after its header.
-fn block(alloc: Global, code: u16, length: u16) -> Result<Vec<u8>, AllocError> {
-    let mut bytes = vec![in alloc; 0; usize::from(length.max(8))]?;
-    overwrite(bytes.as_mut_slice(), 0, &header_of(code, length));
-    Ok(bytes)
-}
-
-// A list whose second block is such a block.
+// A list whose second block has this type, this length field, and zeros after its header.
 fn list_with(alloc: Global, code: u16, length: u16) -> Result<Vec<u8>, AllocError> {
     let end = 56 + usize::from(length.max(8));
     let mut bytes = vec![in alloc; 0; end + 8]?;
@@ -45,74 +37,98 @@ fn list_with(alloc: Global, code: u16, length: u16) -> Result<Vec<u8>, AllocErro
     Ok(bytes)
 }
 
-// The type and the length of a list's second block, and how many bytes the list has.
-fn second_in(alloc: Global, bytes: &[u8]) -> Result<Option<(u16, u16, u64)>, HobFault> {
-    let (list, found) = read_hobs(alloc, bytes)?;
+// Whether the second block of a list has this type and this length.
+fn has_second(list: &HobList, code: u16, length: u16) -> bool {
     match list.as_slice() {
-        [_, hob, ..] => Ok(Some((hob.code(), hob.length(), found))),
-        _ => Ok(None),
+        [_, hob, ..] => hob.code() == code && hob.length() == length,
+        _ => false,
     }
 }
 
-// The fault of such a list, if it is rejected.
-fn fault_in_list(alloc: Global, code: u16, length: u16) -> Result<Option<HobFault>, AllocError> {
-    let bytes = list_with(alloc, code, length)?;
-    Ok(fault_of(alloc, bytes.as_slice()))
+// Whether the bytes are read as a list with such a block, to their end.
+fn is_read_with(alloc: Global, bytes: &[u8], code: u16, length: u16) -> bool {
+    match read_hobs(alloc, bytes) {
+        Ok((list, found)) => {
+            found == 64u64.wrapping_add(u64::from(length)) && has_second(&list, code, length)
+        }
+        Err(_) => false,
+    }
 }
 
-// The fault of such a block on its own, if it is rejected.
-fn fault_of_block(alloc: Global, code: u16, length: u16) -> Result<Option<HobFault>, AllocError> {
-    let bytes = block(alloc, code, length)?;
-    Ok(fault_of(alloc, bytes.as_slice()))
+// Whether a list with such a block is read, and written as it was.
+fn is_accepted(alloc: Global, code: u16, length: u16) -> bool {
+    match list_with(alloc, code, length) {
+        Ok(bytes) => {
+            let list = bytes.as_slice();
+            is_read_with(alloc, list, code, length) && is_written_as(alloc, list, list)
+        }
+        Err(_) => false,
+    }
 }
 
 #[test]
-fn each_type_accepts_its_lengths(rt: HostRuntime) -> Result<(), Fail> {
+fn each_type_accepts_its_lengths(rt: HostRuntime) {
     for (code, right, _) in LENGTHS {
         for length in *right {
-            let bytes = list_with(rt.alloc(), *code, *length)?;
-            let list = bytes.as_slice();
-            let found = 64u64.wrapping_add(u64::from(*length));
-            assert_eq!(rt; second_in(rt.alloc(), list)?, Some((*code, *length, found)));
-            assert!(rt; is_written_as(rt.alloc(), list, list)?, "{code} {length}");
+            assert!(rt; is_accepted(rt.alloc(), *code, *length), "{code} {length}");
         }
     }
-    Ok(())
+}
+
+// Whether a list with such a block is rejected with this fault.
+fn is_rejected(alloc: Global, code: u16, length: u16, fault: HobFault) -> bool {
+    match list_with(alloc, code, length) {
+        Ok(bytes) => fault_of(alloc, bytes.as_slice()) == Some(fault),
+        Err(_) => false,
+    }
 }
 
 #[test]
-fn each_type_rejects_other_lengths(rt: HostRuntime) -> Result<(), Fail> {
+fn each_type_rejects_other_lengths(rt: HostRuntime) {
     let kind = HobFaultKind::Shape;
-    let fault = Some(HobFault { kind, offset: 56 });
+    let fault = HobFault { kind, offset: 56 };
     for (code, _, wrong) in LENGTHS {
         for length in *wrong {
-            assert_eq!(rt;
-                fault_in_list(rt.alloc(), *code, *length)?,
-                fault,
+            assert!(rt;
+                is_rejected(rt.alloc(), *code, *length, fault),
                 "{code} {length}"
             );
         }
     }
-    Ok(())
-}
-
-// Whether a length is rejected, in a later block and in the first one.
-fn is_rejected(alloc: Global, code: u16, length: u16) -> Result<bool, AllocError> {
-    let kind = HobFaultKind::Length;
-    let later = fault_in_list(alloc, code, length)?;
-    let first = fault_of_block(alloc, code, length)?;
-    Ok(later == Some(HobFault { kind, offset: 56 }) && first == Some(HobFault { kind, offset: 0 }))
 }
 
 /// Lengths that no block may have, whatever its type.
 const NO_LENGTHS: &[u16] = &[0, 1, 4, 7, 9, 12, 20, 57, 60, 0xffff];
 
+// Whether the length of the second block of a list is rejected, and that of a block on its own,
+// which is what lies between the table and the end block.
+fn is_no_length(alloc: Global, list: &[u8]) -> bool {
+    let kind = HobFaultKind::Length;
+    match list.get(56..list.len().saturating_sub(8)) {
+        Some(block) => {
+            fault_of(alloc, list) == Some(HobFault { kind, offset: 56 })
+                && fault_of(alloc, block) == Some(HobFault { kind, offset: 0 })
+        }
+        None => false,
+    }
+}
+
+// Whether this is so of a list with such a block.
+fn is_never_accepted(alloc: Global, code: u16, length: u16) -> bool {
+    match list_with(alloc, code, length) {
+        Ok(bytes) => is_no_length(alloc, bytes.as_slice()),
+        Err(_) => false,
+    }
+}
+
 #[test]
-fn lengths_that_are_no_multiples_of_8_are_rejected(rt: HostRuntime) -> Result<(), Fail> {
+fn lengths_that_are_no_multiples_of_8_are_rejected(rt: HostRuntime) {
     for length in NO_LENGTHS {
         for code in [0x0001, 0x0005, 0x000c, 0xfffe, 0xffff] {
-            assert!(rt; is_rejected(rt.alloc(), code, *length)?, "{code} {length}");
+            assert!(rt;
+                is_never_accepted(rt.alloc(), code, *length),
+                "{code} {length}"
+            );
         }
     }
-    Ok(())
 }

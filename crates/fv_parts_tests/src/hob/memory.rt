@@ -1,7 +1,7 @@
 //! Failed allocations: `.ci/memory` makes each allocation of the test fail in turn, and no wrong
 //! result may be returned.
 
-use super::known::{Block, KNOWN_LIST, KNOWN_TYPES, Known, are_described, count_found};
+use super::known::{Block, KNOWN_LIST, KNOWN_TYPES, Known, are_described, is_found};
 use super::{LIST, Parts, TYPES};
 use crate::parts::overwrite;
 use fv_hob::{HobFault, HobFaultKind, HobList, hob_bytes, read_hobs, volume_hobs};
@@ -38,29 +38,40 @@ fn has_volumes_or_out_of_memory(alloc: Global, list: &HobList, blocks: &[Block])
     }
 }
 
+// Whether a list is this one and is written as it was, or memory ran out.
+fn is_known_or_out_of_memory(alloc: Global, list: &HobList, bytes: &[u8], known: &Known) -> bool {
+    has_volumes_or_out_of_memory(alloc, list, known.blocks)
+        && is_written_or_out_of_memory(alloc, list, bytes)
+}
+
 // Whether the bytes are read as this list and written as it was, or memory ran out.
 fn is_read_or_out_of_memory(alloc: Global, bytes: &[u8], known: &Known) -> bool {
     match read_hobs(alloc, bytes) {
         Ok((list, length)) => {
-            let hobs = list.as_slice();
-            length == known.length
-                && hobs.len() == known.blocks.len()
-                && count_found(hobs, known.blocks) == hobs.len()
-                && has_volumes_or_out_of_memory(alloc, &list, known.blocks)
-                && is_written_or_out_of_memory(alloc, &list, bytes)
+            is_found(list.as_slice(), length, known)
+                && is_known_or_out_of_memory(alloc, &list, bytes, known)
         }
         Err(fault) => fault == OUT_OF_MEMORY,
     }
 }
 
+// Whether this is so of the list.
+fn is_list_read_or_out_of_memory(alloc: Global) -> bool {
+    let mut bytes = [0u8; 160];
+    overwrite_joined(&mut bytes, LIST);
+    is_read_or_out_of_memory(alloc, &bytes, &KNOWN_LIST)
+}
+
+// Whether this is so of the list of all types. Only the body of the unused block is not kept.
+fn are_types_read_or_out_of_memory(alloc: Global) -> bool {
+    let mut bytes = [0u8; 448];
+    overwrite_joined(&mut bytes, TYPES);
+    overwrite(&mut bytes, 320, &[0; 16]);
+    is_read_or_out_of_memory(alloc, &bytes, &KNOWN_TYPES)
+}
+
 #[test]
 fn out_of_memory_is_reported(rt: HostRuntime) {
-    let mut list = [0u8; 160];
-    overwrite_joined(&mut list, LIST);
-    let mut types = [0u8; 448];
-    overwrite_joined(&mut types, TYPES);
-    // Only the body of the unused block is not kept.
-    overwrite(&mut types, 320, &[0; 16]);
-    assert!(rt; is_read_or_out_of_memory(rt.alloc(), &list, &KNOWN_LIST));
-    assert!(rt; is_read_or_out_of_memory(rt.alloc(), &types, &KNOWN_TYPES));
+    assert!(rt; is_list_read_or_out_of_memory(rt.alloc()));
+    assert!(rt; are_types_read_or_out_of_memory(rt.alloc()));
 }

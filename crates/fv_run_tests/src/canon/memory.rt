@@ -89,21 +89,26 @@ fn view_has_image_or_memory_ran_out(
     }
 }
 
+// Whether each call on a volume, its image and the starts of its files returns the right result, or
+// memory ran out.
+fn calls_are_right(alloc: Global, volume: &[u8], image: &[u8], starts: &str) -> bool {
+    view_has_image_or_memory_ran_out(alloc, volume, image, starts)
+        && is_made_or_memory_ran_out(normalise(alloc, volume), image)
+        && is_made_or_memory_ran_out(normalise_image(alloc, volume), image)
+        && call_writes_all_or_nothing(alloc, volume, image)
+        && is_judged_or_memory_ran_out(alloc, volume, false)
+        && is_judged_or_memory_ran_out(alloc, image, true)
+        && run_writes_all_or_nothing(alloc, volume, image)
+}
+
 // Whether each call on the volume of a line, its image and the starts of its files returns the
 // right result, or memory ran out.
 fn calls_on_row_are_right(alloc: Global, line: &str) -> Option<bool> {
     let (name, other, starts) = row_of(line)?;
+    let starts = starts?;
     let volume = bytes_of_at_last(alloc, name)?;
     let image = bytes_of_at_last(alloc, other)?;
-    Some(
-        view_has_image_or_memory_ran_out(alloc, &volume, &image, starts?)
-            && is_made_or_memory_ran_out(normalise(alloc, &volume), &image)
-            && is_made_or_memory_ran_out(normalise_image(alloc, &volume), &image)
-            && call_writes_all_or_nothing(alloc, &volume, &image)
-            && is_judged_or_memory_ran_out(alloc, &volume, false)
-            && is_judged_or_memory_ran_out(alloc, &image, true)
-            && run_writes_all_or_nothing(alloc, &volume, &image),
-    )
+    Some(calls_are_right(alloc, &volume, &image, starts))
 }
 
 // Whether the data of a file and the volume in it are made, or memory ran out.
@@ -144,16 +149,18 @@ fn comparison_writes_all_or_nothing(alloc: Global, first: &[u8], second: &[u8]) 
     }
 }
 
-// Whether the parts of one volume are made and two others compared, or memory ran out.
-fn parts_and_comparison_are_right(alloc: Global) -> Option<bool> {
+// Whether the parts of a volume are made, or memory ran out.
+fn parts_are_right(alloc: Global) -> Option<bool> {
     let volume = bytes_of_at_last(alloc, "nested-with-deleted-file")?;
     let image = bytes_of_at_last(alloc, "nested-image")?;
+    Some(parts_of_volume_are_right(alloc, &volume, &image))
+}
+
+// Whether two volumes are compared, or memory ran out.
+fn comparison_is_right(alloc: Global) -> Option<bool> {
     let first = bytes_of_at_last(alloc, "file-sum-zero-data")?;
     let second = bytes_of_at_last(alloc, "file-without-data")?;
-    Some(
-        parts_of_volume_are_right(alloc, &volume, &image)
-            && comparison_writes_all_or_nothing(alloc, &first, &second),
-    )
+    Some(comparison_writes_all_or_nothing(alloc, &first, &second))
 }
 
 /// Volumes with their images, and the offsets of the files in these.
@@ -170,5 +177,6 @@ fn out_of_memory_is_reported(rt: HostRuntime) {
             "{line}"
         );
     }
-    assert!(rt; parts_and_comparison_are_right(rt.alloc()) == Some(true));
+    assert!(rt; parts_are_right(rt.alloc()) == Some(true));
+    assert!(rt; comparison_is_right(rt.alloc()) == Some(true));
 }

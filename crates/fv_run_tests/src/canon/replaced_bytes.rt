@@ -1,9 +1,9 @@
 //! Volumes with one byte replaced, and volumes of few and of many files.
 
 use crate::spelling::bytes_of;
-use fv_base::{Port, sum16};
+use fv_base::{Fault, Port, sum16};
 use fv_canon::{is_canonical, normalise, run_normalise};
-use fv_tree::{first_difference, read_volume};
+use fv_tree::{VolumeView, first_difference, read_volume};
 use std::alloc::{AllocError, Global};
 
 // Whether the bytes are their own image.
@@ -14,16 +14,31 @@ fn is_its_own_image(alloc: Global, bytes: &[u8]) -> bool {
     }
 }
 
+// The volume that some bytes begin with.
+fn view_of(alloc: Global, bytes: &[u8]) -> Result<VolumeView<'_>, Fault> {
+    let (view, _) = read_volume(alloc, bytes)?;
+    Ok(view)
+}
+
+// Whether a volume and the one in some bytes have the same meaning.
+fn means_the_same(alloc: Global, volume: &VolumeView, others: &[u8]) -> bool {
+    match view_of(alloc, others) {
+        Ok(other) => matches!(first_difference(alloc, volume, &other), Ok(None)),
+        Err(_) => false,
+    }
+}
+
 // Whether two volumes have the same meaning.
-fn has_the_same_meaning(alloc: Global, bytes: &[u8], others: &[u8]) -> Option<bool> {
-    let (volume, _) = read_volume(alloc, bytes).ok()?;
-    let (other, _) = read_volume(alloc, others).ok()?;
-    Some(matches!(first_difference(alloc, &volume, &other), Ok(None)))
+fn has_the_same_meaning(alloc: Global, bytes: &[u8], others: &[u8]) -> bool {
+    match view_of(alloc, bytes) {
+        Ok(volume) => means_the_same(alloc, &volume, others),
+        Err(_) => false,
+    }
 }
 
 // Whether the image of some bytes is its own image, and a volume with their meaning.
 fn is_image_with_this_meaning(alloc: Global, bytes: &[u8], image: &[u8]) -> bool {
-    is_its_own_image(alloc, image) && has_the_same_meaning(alloc, bytes, image) == Some(true)
+    is_its_own_image(alloc, image) && has_the_same_meaning(alloc, bytes, image)
 }
 
 // Whether some bytes have no image, or one that is kept.
@@ -34,20 +49,39 @@ fn has_no_image_or_one_with_its_meaning(alloc: Global, bytes: &[u8]) -> bool {
     }
 }
 
-// The offset of the first byte of a volume that can be replaced so that its image is not kept.
-fn first_byte_that_changes_the_meaning(alloc: Global, name: &str) -> Option<usize> {
-    let mut bytes = bytes_of(alloc, name)?;
-    for at in 0..bytes.len() {
-        let byte = bytes[at];
-        for change in 1..=255u8 {
-            bytes[at] = byte ^ change;
-            if !has_no_image_or_one_with_its_meaning(alloc, &bytes) {
-                return Some(at);
-            }
+// Whether the bytes have no image, or one that is kept, whatever byte is at this offset.
+fn no_byte_changes_the_meaning(alloc: Global, bytes: &mut [u8], at: usize) -> bool {
+    if at >= bytes.len() {
+        return false;
+    }
+    let byte = bytes[at];
+    for change in 1..=255u8 {
+        bytes[at] = byte ^ change;
+        if !has_no_image_or_one_with_its_meaning(alloc, bytes) {
+            return false;
         }
-        bytes[at] = byte;
+    }
+    bytes[at] = byte;
+    true
+}
+
+// The offset of the first byte of a volume that can be replaced so that its image is not kept.
+fn first_byte_that_changes_the_meaning(alloc: Global, bytes: &mut [u8]) -> Option<usize> {
+    for at in 0..bytes.len() {
+        if !no_byte_changes_the_meaning(alloc, bytes, at) {
+            return Some(at);
+        }
     }
     None
+}
+
+// Whether there is a volume with this name, and no byte of it can be replaced so that its image is
+// not kept.
+fn keeps_its_image(alloc: Global, name: &str) -> bool {
+    match bytes_of(alloc, name) {
+        Some(mut bytes) => first_byte_that_changes_the_meaning(alloc, &mut bytes).is_none(),
+        None => false,
+    }
 }
 
 #[test]
@@ -62,30 +96,30 @@ fn whatever_has_an_image_keeps_it(rt: HostRuntime) {
         "security-core-frames",
     ];
     for name in names {
-        let alloc = rt.alloc();
-        assert!(rt; bytes_of(alloc, name).is_some(), "{name}");
-        assert!(rt;
-            first_byte_that_changes_the_meaning(alloc, name).is_none(),
-            "{name}"
-        );
+        assert!(rt; keeps_its_image(rt.alloc(), name), "{name}");
     }
 }
 
-// Appends what follows the GUID in the head of a volume of this length, with this checksum.
-fn append_head(bytes: &mut Vec<u8>, length: u32, sum: u16) -> Result<(), AllocError> {
-    bytes.extend_from_slice(&u64::from(length).to_le_bytes())?;
-    bytes.extend_from_slice(b"_FVH\xff\xfe\x04\x00\x48\x00")?;
-    bytes.extend_from_slice(&sum.to_le_bytes())?;
-    bytes.extend_from_slice(b"\x00\x00\x00\x02\x01\x00\x00\x00")?;
-    bytes.extend_from_slice(&length.to_le_bytes())?;
-    bytes.extend_from_slice(&[0; 8])
-}
+/// The GUID of the second file system.
+const FFS2: [u8; 16] = [
+    0x78, 0xe5, 0x8c, 0x8c, 0x3d, 0x8a, 0x1c, 0x4f, 0x99, 0x35, 0x89, 0x61, 0x85, 0xc3, 0x2d, 0xd3,
+];
 
 // The head of a volume of this length, with this checksum.
-fn head_of(alloc: Global, length: u32, sum: u16) -> Option<Vec<u8>> {
-    let mut bytes = bytes_of(alloc, "00*16 78e58c8c3d8a1c4f9935896185c32dd3")?;
-    append_head(&mut bytes, length, sum).ok()?;
-    Some(bytes)
+fn head_of(length: u32, sum: u16) -> [u8; 72] {
+    let mut head = [0; 72];
+    head[16..32].copy_from_slice(&FFS2);
+    head[32..40].copy_from_slice(&u64::from(length).to_le_bytes());
+    head[40..50].copy_from_slice(b"_FVH\xff\xfe\x04\x00\x48\x00");
+    head[50..52].copy_from_slice(&sum.to_le_bytes());
+    head[52..60].copy_from_slice(b"\x00\x00\x00\x02\x01\x00\x00\x00");
+    head[60..64].copy_from_slice(&length.to_le_bytes());
+    head
+}
+
+// The head with the right checksum.
+fn right_head_of(length: u32) -> [u8; 72] {
+    head_of(length, 0u16.wrapping_sub(sum16(&head_of(length, 0))))
 }
 
 // A raw file without data, named by its number.
@@ -105,21 +139,10 @@ fn append_files(bytes: &mut Vec<u8>, count: u16) -> Result<(), AllocError> {
     Ok(())
 }
 
-// The checksum of the head of a volume of this length.
-fn head_sum_of(alloc: Global, length: u32) -> Option<u16> {
-    let head = head_of(alloc, length, 0)?;
-    if head.len() % 2 == 0 {
-        Some(0u16.wrapping_sub(sum16(&head)))
-    } else {
-        None
-    }
-}
-
 // A volume with `count` such files, and nothing else.
 fn full_volume_of(alloc: Global, count: u16) -> Option<Vec<u8>> {
-    let length = 72 + 24 * u32::from(count);
-    let sum = head_sum_of(alloc, length)?;
-    let mut bytes = head_of(alloc, length, sum)?;
+    let head = right_head_of(72 + 24 * u32::from(count));
+    let mut bytes = Vec::from_slice(alloc, &head).ok()?;
     append_files(&mut bytes, count).ok()?;
     Some(bytes)
 }
@@ -132,23 +155,24 @@ fn is_written_by_a_run(alloc: Global, bytes: &[u8]) -> bool {
     outcome == Ok(()) && written.as_slice() == bytes
 }
 
+// Whether a volume is its own image for each of the calls.
+fn is_its_own_image_for_all(alloc: Global, volume: &[u8]) -> bool {
+    is_canonical(alloc, volume) == Ok(true)
+        && is_its_own_image(alloc, volume)
+        && is_written_by_a_run(alloc, volume)
+}
+
 // Whether such a volume is its own image.
-fn full_volume_is_its_own_image(alloc: Global, count: u16) -> Option<bool> {
-    let volume = full_volume_of(alloc, count)?;
-    let is_judged_canonical = is_canonical(alloc, &volume) == Ok(true);
-    Some(
-        is_judged_canonical
-            && is_its_own_image(alloc, &volume)
-            && is_written_by_a_run(alloc, &volume),
-    )
+fn full_volume_is_its_own_image(alloc: Global, count: u16) -> bool {
+    match full_volume_of(alloc, count) {
+        Some(volume) => is_its_own_image_for_all(alloc, &volume),
+        None => false,
+    }
 }
 
 #[test]
 fn full_volumes_are_their_own_images(rt: HostRuntime) {
     for count in 0..=300 {
-        assert!(rt;
-            full_volume_is_its_own_image(rt.alloc(), count) == Some(true),
-            "{count}"
-        );
+        assert!(rt; full_volume_is_its_own_image(rt.alloc(), count), "{count}");
     }
 }

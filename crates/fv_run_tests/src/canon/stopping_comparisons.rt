@@ -116,25 +116,38 @@ fn stops_at_each_byte(alloc: Global, first: &[u8], second: &[u8], step: usize) -
     true
 }
 
+// Whether the run over the two volumes stops at each of their bytes, and of the line.
+fn comparison_stops_at_each_byte(alloc: Global, step: usize) -> Option<bool> {
+    let first = bytes_of(alloc, "file-sum-zero-data")?;
+    let second = bytes_of(alloc, "file-without-data")?;
+    Some(stops_at_each_byte(alloc, &first, &second, step))
+}
+
+// Whether the run stops if the reader of a side does not end, or is always interrupted.
+fn stops_without_end(alloc: Global, side: Side, volume: &[u8]) -> bool {
+    let fault = Fault::outer(FaultKind::Length, 268_435_456);
+    writes_nothing_if_stopped(alloc, side, volume, EndlessReader, fault)
+        && gives_up_if_always_interrupted(alloc, side, volume)
+}
+
+// Whether the run over the first volume stops if the reader of a side does not end, or is always
+// interrupted.
+fn comparison_stops_without_end(alloc: Global, side: Side) -> bool {
+    match bytes_of(alloc, "file-sum-zero-data") {
+        Some(volume) => stops_without_end(alloc, side, &volume),
+        None => false,
+    }
+}
+
 #[test]
 fn a_comparison_stops_with_its_readers_or_writer(rt: HostRuntime) {
-    let first = bytes_of(rt.alloc(), "file-sum-zero-data").unwrap_or(Vec::new(rt.alloc()));
-    let second = bytes_of(rt.alloc(), "file-without-data").unwrap_or(Vec::new(rt.alloc()));
     for step in [1, 50, 4096] {
         assert!(rt;
-            stops_at_each_byte(rt.alloc(), &first, &second, step),
+            comparison_stops_at_each_byte(rt.alloc(), step) == Some(true),
             "{step}"
         );
     }
-    let fault = Fault::outer(FaultKind::Length, 268_435_456);
     for side in [Side::First, Side::Second] {
-        assert!(rt;
-            writes_nothing_if_stopped(rt.alloc(), side, &first, EndlessReader, fault),
-            "{side:?}"
-        );
-        assert!(rt;
-            gives_up_if_always_interrupted(rt.alloc(), side, &first),
-            "{side:?}"
-        );
+        assert!(rt; comparison_stops_without_end(rt.alloc(), side), "{side:?}");
     }
 }

@@ -41,24 +41,35 @@ fn writes_as_far_as_there_is_room(alloc: Global, image: &[u8], step: usize, room
     })
 }
 
-// Whether the image is written, and only its first bytes if the reader or the writer stops.
-fn stops_at_each_byte(alloc: Global, name: &str, step: usize) -> Option<bool> {
-    let image = bytes_of(alloc, name)?;
-    for is_interrupted in [false, true] {
-        let reader = FakeReader::new(&image, step, is_interrupted);
+// Whether the image is written, also if every second call of the reader is interrupted.
+fn is_written(alloc: Global, image: &[u8], step: usize) -> bool {
+    [false, true].iter().all(|is_interrupted| {
+        let reader = FakeReader::new(image, step, *is_interrupted);
         let writer = FakeWriter::new(alloc, step, usize::MAX, true);
-        if !run_ends_as(alloc, reader, writer, Ok(()), &image) {
-            return Some(false);
-        }
-    }
+        run_ends_as(alloc, reader, writer, Ok(()), image)
+    })
+}
+
+// Whether only the first bytes of the image are written if the reader or the writer stops.
+fn stops_at_each_byte(alloc: Global, image: &[u8], step: usize) -> bool {
     for count in 0..image.len() {
-        if !writes_nothing_if_reading_fails(alloc, &image, step, count)
-            || !writes_as_far_as_there_is_room(alloc, &image, step, count)
+        if !writes_nothing_if_reading_fails(alloc, image, step, count)
+            || !writes_as_far_as_there_is_room(alloc, image, step, count)
         {
-            return Some(false);
+            return false;
         }
     }
-    Some(writes_nothing_if_reading_fails(alloc, &image, step, image.len()))
+    writes_nothing_if_reading_fails(alloc, image, step, image.len())
+}
+
+// Whether an image is written, and only its first bytes if the reader or the writer stops.
+fn run_stops_at_each_byte(alloc: Global, name: &str, step: usize) -> bool {
+    match bytes_of(alloc, name) {
+        Some(image) => {
+            is_written(alloc, &image, step) && stops_at_each_byte(alloc, &image, step)
+        }
+        None => false,
+    }
 }
 
 #[test]
@@ -66,7 +77,7 @@ fn a_run_stops_with_its_reader_or_writer(rt: HostRuntime) {
     for name in IMAGES {
         for step in [1, 50, 4096] {
             assert!(rt;
-                stops_at_each_byte(rt.alloc(), name, step) == Some(true),
+                run_stops_at_each_byte(rt.alloc(), name, step),
                 "{name} {step}"
             );
         }

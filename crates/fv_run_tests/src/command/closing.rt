@@ -7,37 +7,40 @@ use fv_command::{Output, Status, close, refuse, say};
 use fv_plan::{Command, Plan, Task, VolumeFile};
 use std::alloc::Global;
 use std::io::BufWriter;
-use std::test::Fail;
 
 // The status of a run that reports a wrong command line.
-fn closed_after(alloc: Global, inner: &mut FakeWriter) -> Result<Status, Fail> {
-    let mut writer = Port::new(BufWriter::new(alloc, Output::new(inner))?);
+fn closed_after(alloc: Global, inner: &mut FakeWriter) -> Option<Status> {
+    let mut writer = Port::new(BufWriter::new(alloc, Output::new(inner)).ok()?);
     let status = say(&mut writer, "wrong words\n", Status::WrongWords);
-    Ok(close(writer, status).0)
+    Some(close(writer, status).0)
+}
+
+// Whether that run ends with this status and writes these bytes, if the writer has room for `room`
+// bytes.
+fn is_closed_as(alloc: Global, room: usize, wanted: &[u8], ended: Status) -> bool {
+    let mut inner = FakeWriter::new(alloc, 5, room, true);
+    closed_after(alloc, &mut inner) == Some(ended) && inner.took_only(wanted)
 }
 
 #[test]
-fn a_run_is_closed_once(rt: HostRuntime) -> Result<(), Fail> {
-    let cases: [(usize, &[u8], Status); 2] = [
-        (12, b"wrong words\n", Status::WrongWords),
-        (11, b"wrong words", Status::Refused),
-    ];
-    for (room, wanted, ended) in cases {
-        let mut inner = FakeWriter::new(rt.alloc(), 5, room, true);
-        assert!(rt; closed_after(rt.alloc(), &mut inner)? == ended);
-        assert!(rt; inner.took_only(wanted), "{room}");
-    }
-    Ok(())
+fn a_run_is_closed_once(rt: HostRuntime) {
+    let alloc = rt.alloc();
+    assert!(rt; is_closed_as(alloc, 12, b"wrong words\n", Status::WrongWords));
+    assert!(rt; is_closed_as(alloc, 11, b"wrong words", Status::Refused));
+}
+
+// Whether a run that ran out of memory is refused with its line.
+fn is_refused_with_its_line(alloc: Global) -> bool {
+    let mut writer = Port::new(Vec::new(alloc));
+    let status = refuse(&mut writer, Fault::outer(FaultKind::OutOfMemory, 0));
+    let has_failed = writer.erred();
+    let written = writer.into_inner();
+    status == Status::Refused && !has_failed && written.as_slice() == b"fault 24 at 0\n".as_slice()
 }
 
 #[test]
 fn out_of_memory_has_its_line(rt: HostRuntime) {
-    let mut writer = Port::new(Vec::new(rt.alloc()));
-    let status = refuse(&mut writer, Fault::outer(FaultKind::OutOfMemory, 0));
-    let has_failed = writer.erred();
-    let written = writer.into_inner();
-    assert!(rt; status == Status::Refused && !has_failed);
-    assert!(rt; written.as_slice() == b"fault 24 at 0\n".as_slice());
+    assert!(rt; is_refused_with_its_line(rt.alloc()));
 }
 
 // The plan to normalise a volume.

@@ -39,19 +39,31 @@ fn ends_too_long(alloc: Global, plan: &Plan, volume: Option<&[u8]>, line: &str) 
     ends_as(alloc, plan, inputs, writer, (2, line.as_bytes()))
 }
 
-// Whether a command is rejected as its line says. If the second of its inputs does not end, the
-// first is the empty volume.
+// Whether the plan writes the line and ends as Refused if its second input does not end. The first
+// is the empty volume.
+fn second_is_too_long(alloc: Global, hex: bool, plan: &Plan, line: &str) -> bool {
+    match shown(alloc, hex, "empty") {
+        Some(volume) => ends_too_long(alloc, plan, Some(&volume), line),
+        None => false,
+    }
+}
+
+// Whether the plan of a command writes the line and ends as Refused if its first input, or its
+// second after the empty volume, does not end.
+fn side_is_too_long(alloc: Global, hex: bool, command: &str, side: &str, line: &str) -> bool {
+    match plan_of(alloc, hex, command) {
+        Some(plan) if side == "second" => second_is_too_long(alloc, hex, &plan, line),
+        Some(plan) => ends_too_long(alloc, &plan, None, line),
+        None => false,
+    }
+}
+
+// Whether a command is rejected as its line says.
 fn is_too_long(alloc: Global, hex: bool, line: &str) -> Option<bool> {
     let (command, side, fault) = row_of(line)?;
-    let wanted = format!(in alloc; "{}\n", fault?).ok()?;
-    let volume = shown(alloc, hex, "empty")?;
-    let before = if side == "second" {
-        Some(volume.as_slice())
-    } else {
-        None
-    };
-    let plan = plan_of(alloc, hex, command)?;
-    Some(ends_too_long(alloc, &plan, before, wanted.as_str()))
+    let fault = fault?;
+    let wanted = format!(in alloc; "{fault}\n").ok()?;
+    Some(side_is_too_long(alloc, hex, command, side, &wanted))
 }
 
 // For hexadecimal text, text that is wrong is tried too.

@@ -63,16 +63,57 @@ fn image_of(alloc: Global, words: &str) -> Option<ImageFile> {
 
 // The task over one input.
 fn task_of(name: &str, words: &str) -> Option<Task> {
+    if name == "extract" {
+        return part_of(words).map(Task::Extract);
+    }
+    for (known, task) in [
+        ("normalise", Task::Normalise),
+        ("normalise-all", Task::NormaliseAll),
+        ("list", Task::List),
+        ("list-sums", Task::ListSums),
+        ("check", Task::Check),
+        ("cells", Task::Cells),
+        ("scan", Task::Scan),
+    ] {
+        if name == known {
+            return Some(task);
+        }
+    }
+    None
+}
+
+// The command over one input.
+fn single_of(name: &str, words: &str, at: Option<u64>) -> Option<Command> {
+    Some(Command::Single {
+        task: task_of(name, words)?,
+        at,
+        file: None,
+    })
+}
+
+// The command that compares two volumes, which begin there.
+fn compare_of(alloc: Global, at: Option<u64>, other_at: Option<u64>) -> Command {
+    Command::Compare {
+        first: VolumeFile {
+            path: String::new(alloc),
+            at,
+        },
+        second: VolumeFile {
+            path: String::new(alloc),
+            at: other_at,
+        },
+    }
+}
+
+// The command that its name and words mean, over a volume that begins there.
+fn command_of(alloc: Global, name: &str, words: &str, at: Option<u64>) -> Option<Command> {
     match name.as_bytes() {
-        b"normalise" => Some(Task::Normalise),
-        b"normalise-all" => Some(Task::NormaliseAll),
-        b"list" => Some(Task::List),
-        b"list-sums" => Some(Task::ListSums),
-        b"check" => Some(Task::Check),
-        b"cells" => Some(Task::Cells),
-        b"scan" => Some(Task::Scan),
-        b"extract" => part_of(words).map(Task::Extract),
-        _ => None,
+        b"compare" => Some(compare_of(alloc, at, at_of(words).0)),
+        b"hobs" => Some(Command::Hobs {
+            file: None,
+            image: image_of(alloc, words),
+        }),
+        _ => single_of(name, words, at),
     }
 }
 
@@ -80,27 +121,7 @@ fn task_of(name: &str, words: &str) -> Option<Task> {
 pub fn plan_of(alloc: Global, hex: bool, line: &str) -> Option<Plan> {
     let (name, words) = line.split_once(' ').unwrap_or((line, ""));
     let (at, words) = at_of(words);
-    let command = match name.as_bytes() {
-        b"compare" => Command::Compare {
-            first: VolumeFile {
-                path: String::new(alloc),
-                at,
-            },
-            second: VolumeFile {
-                path: String::new(alloc),
-                at: at_of(words).0,
-            },
-        },
-        b"hobs" => Command::Hobs {
-            file: None,
-            image: image_of(alloc, words),
-        },
-        _ => Command::Single {
-            task: task_of(name, words)?,
-            at,
-            file: None,
-        },
-    };
+    let command = command_of(alloc, name, words, at)?;
     Some(Plan { hex, command })
 }
 
@@ -122,11 +143,8 @@ fn input_of(alloc: Global, hex: bool, text: &str) -> Option<Vec<u8>> {
     }
 }
 
-// The bytes that are written.
-fn output_of(alloc: Global, hex: bool, text: &str) -> Option<Vec<u8>> {
-    if let Some(words) = text.strip_prefix('=') {
-        return shown(alloc, hex, words);
-    }
+// The bytes of lines that end with a bar.
+fn lines_in(alloc: Global, text: &str) -> Option<Vec<u8>> {
     let mut bytes = Vec::from_slice(alloc, text.as_bytes()).ok()?;
     for byte in bytes.as_mut_slice() {
         if *byte == b'|' {
@@ -136,17 +154,55 @@ fn output_of(alloc: Global, hex: bool, text: &str) -> Option<Vec<u8>> {
     Some(bytes)
 }
 
-/// The run that a line describes, over bytes or hexadecimal text.
-pub fn run_of(alloc: Global, hex: bool, line: &str) -> Option<Run> {
+// The bytes that are written.
+fn output_of(alloc: Global, hex: bool, text: &str) -> Option<Vec<u8>> {
+    match text.strip_prefix('=') {
+        Some(words) => shown(alloc, hex, words),
+        None => lines_in(alloc, text),
+    }
+}
+
+// A command with its two inputs, and the status with what is written.
+type Texts<'a> = ((&'a str, &'a str, &'a str), (u64, &'a str));
+
+// A status, and what is written.
+fn ending_of(wanted: &str) -> Option<(u64, &str)> {
+    let (status, text) = wanted.split_once(' ')?;
+    Some((number_of(status)?, text))
+}
+
+// The texts of a line.
+fn texts_of(line: &str) -> Option<Texts<'_>> {
     let (command, rest) = line.split_once(": ")?;
     let (inputs, wanted) = rest.split_once(" -> ")?;
     let (first, second) = inputs.split_once(" & ").unwrap_or((inputs, ""));
-    let (status, text) = wanted.split_once(' ')?;
-    let status = number_of(status)?;
+    Some(((command, first, second), ending_of(wanted)?))
+}
+
+// The bytes of two inputs.
+fn inputs_of(alloc: Global, hex: bool, first: &str, second: &str) -> Option<(Vec<u8>, Vec<u8>)> {
     let first = input_of(alloc, hex, first)?;
     let second = input_of(alloc, hex, second)?;
+    Some((first, second))
+}
+
+// The plan of a command, and the bytes that are written.
+fn plan_and_output_of(
+    alloc: Global,
+    hex: bool,
+    command: &str,
+    text: &str,
+) -> Option<(Plan, Vec<u8>)> {
     let written = output_of(alloc, hex, text)?;
     let plan = plan_of(alloc, hex, command)?;
+    Some((plan, written))
+}
+
+/// The run that a line describes, over bytes or hexadecimal text.
+pub fn run_of(alloc: Global, hex: bool, line: &str) -> Option<Run> {
+    let ((command, first, second), (status, text)) = texts_of(line)?;
+    let (first, second) = inputs_of(alloc, hex, first, second)?;
+    let (plan, written) = plan_and_output_of(alloc, hex, command, text)?;
     Some(Run {
         plan,
         first,

@@ -52,19 +52,28 @@ fn run_ends_by_steps(alloc: Global, run: &Run, step: usize) -> bool {
     )
 }
 
+// Whether the run ends as Refused if a writer that takes `step` bytes at once has no more room, and
+// writes what there is room for.
+fn run_ends_without_room(
+    alloc: Global,
+    run: &Run,
+    room: usize,
+    step: usize,
+    is_broken: bool,
+) -> bool {
+    let first = Input::Standard(FakeReader::new(&run.first, 4096, false));
+    let second = Input::File(FakeReader::new(&run.second, 4096, false));
+    let writer = FakeWriter::new(alloc, step, room, is_broken);
+    let wanted = (2, &run.written[..room.min(run.written.len())]);
+    ends_as(alloc, &run.plan, (first, second), writer, wanted)
+}
+
 // Whether the run ends as Refused if the writer has no more room, and writes what there is room
-// for.
+// for, however the writer stops.
 fn run_stops_without_room(alloc: Global, run: &Run, room: usize) -> bool {
-    for (step, is_broken) in [(7, false), (7, true), (1000, true)] {
-        let first = Input::Standard(FakeReader::new(&run.first, 4096, false));
-        let second = Input::File(FakeReader::new(&run.second, 4096, false));
-        let writer = FakeWriter::new(alloc, step, room, is_broken);
-        let wanted = (2, &run.written[..room.min(run.written.len())]);
-        if !ends_as(alloc, &run.plan, (first, second), writer, wanted) {
-            return false;
-        }
-    }
-    true
+    run_ends_without_room(alloc, run, room, 7, false)
+        && run_ends_without_room(alloc, run, room, 7, true)
+        && run_ends_without_room(alloc, run, room, 1000, true)
 }
 
 // The line of a reader that fails after `count` bytes.
@@ -287,10 +296,15 @@ fn each_command_rejects_row(alloc: Global, line: &str) -> bool {
     }
 }
 
+// The first `count` bytes of a volume, as digits.
+fn digits_of_part(alloc: Global, volume: &[u8], count: usize) -> Option<String> {
+    hex::encode(alloc, volume.get(..count)?).ok()
+}
+
 // The first `count` bytes of the empty volume, as digits.
 fn digits_of_first_bytes(alloc: Global, count: usize) -> Option<String> {
     let volume = bytes_of(alloc, "empty")?;
-    hex::encode(alloc, volume.get(..count)?).ok()
+    digits_of_part(alloc, &volume, count)
 }
 
 // Whether the first `count` bytes of a volume are rejected at their end.

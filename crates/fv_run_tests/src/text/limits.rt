@@ -3,22 +3,32 @@
 use crate::fakes::{InterruptedReader, SpaceReader};
 use fv_base::{Fault, FaultKind, Port};
 use fv_text::read_hex;
+use std::alloc::Global;
+
+// Whether text of spaces without end is too long, and is read as it should be.
+fn spaces_are_too_long(alloc: Global) -> bool {
+    let mut port = Port::new(SpaceReader { calls: 0, most: 0 });
+    let fault = read_hex(alloc, &mut port).err();
+    let reader = port.into_inner();
+    fault == Some(Fault::outer(FaultKind::Length, 268_435_456))
+        && reader.calls == 16_385
+        && reader.most == 65_536
+}
 
 // The limit is 1,073,741,824 bytes of text, and a read asks for 65,536.
 #[test]
 fn text_of_spaces_is_too_long(rt: HostRuntime) {
-    let mut port = Port::new(SpaceReader { calls: 0, most: 0 });
-    let fault = read_hex(rt.alloc(), &mut port).err();
-    assert!(rt; fault == Some(Fault::outer(FaultKind::Length, 268_435_456)));
-    let reader = port.into_inner();
-    assert!(rt; reader.calls == 16_385);
-    assert!(rt; reader.most == 65_536);
+    assert!(rt; spaces_are_too_long(rt.alloc()));
+}
+
+// Whether the reading stops if its reader is always interrupted.
+fn stops_if_always_interrupted(alloc: Global) -> bool {
+    let mut port = Port::new(InterruptedReader { calls: 0 });
+    let fault = read_hex(alloc, &mut port).err();
+    fault == Some(Fault::outer(FaultKind::ReadFault, 2)) && port.into_inner().calls == 1_073_741_826
 }
 
 #[test]
 fn interruptions_run_out(rt: HostRuntime) {
-    let mut port = Port::new(InterruptedReader { calls: 0 });
-    let fault = read_hex(rt.alloc(), &mut port).err();
-    assert!(rt; fault == Some(Fault::outer(FaultKind::ReadFault, 2)));
-    assert!(rt; port.into_inner().calls == 1_073_741_826);
+    assert!(rt; stops_if_always_interrupted(rt.alloc()));
 }

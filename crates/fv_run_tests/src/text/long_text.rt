@@ -14,20 +14,20 @@ fn bytes(alloc: Global) -> Option<Vec<u8>> {
     Some(bytes)
 }
 
-// Appends the digits, with another character at an offset.
-fn append_with(text: &mut Vec<u8>, digits: &[u8], place: usize, other: u8) -> Option<()> {
-    let (front, back) = digits.split_at_checked(place)?;
-    text.extend_from_slice(front).ok()?;
-    text.push(other).ok()?;
-    text.extend_from_slice(back).ok()
+// Three parts, joined.
+fn joined(alloc: Global, parts: [&[u8]; 3]) -> Option<Vec<u8>> {
+    let mut text = Vec::new(alloc);
+    for part in parts {
+        text.extend_from_slice(part).ok()?;
+    }
+    Some(text)
 }
 
 // The 70,000 digits of the bytes, with another character at an offset.
 fn text(alloc: Global, bytes: &[u8], place: usize, other: u8) -> Option<Vec<u8>> {
     let digits = hex::encode(alloc, bytes).ok()?;
-    let mut text = Vec::new(alloc);
-    append_with(&mut text, digits.as_bytes(), place, other)?;
-    Some(text)
+    let (front, back) = digits.as_bytes().split_at_checked(place)?;
+    joined(alloc, [front, &[other], back])
 }
 
 // Whether a space at an offset is skipped.
@@ -38,19 +38,30 @@ fn is_skipped(alloc: Global, bytes: &[u8], place: usize) -> bool {
     }
 }
 
+// Whether the first 70,000 bytes of text are wrong.
+fn is_rejected(alloc: Global, text: &[u8]) -> bool {
+    let fault = Fault::outer(FaultKind::ReadFault, 0);
+    match text.get(..70_000) {
+        Some(part) => stops_with(alloc, FakeReader::new(part, 65_536, false), fault),
+        None => false,
+    }
+}
+
 // Whether another character at an offset, instead of a digit, makes the first 70,000 bytes of text
 // wrong.
-fn is_rejected_at(alloc: Global, bytes: &[u8], place: usize) -> Option<bool> {
-    let wrong = text(alloc, bytes, place, b'g')?;
-    let reader = FakeReader::new(wrong.get(..70_000)?, 65_536, false);
-    let fault = Fault::outer(FaultKind::ReadFault, 0);
-    Some(stops_with(alloc, reader, fault))
+fn is_rejected_at(alloc: Global, bytes: &[u8], place: usize) -> bool {
+    match text(alloc, bytes, place, b'g') {
+        Some(wrong) => is_rejected(alloc, &wrong),
+        None => false,
+    }
 }
 
 // Whether a space at an offset is skipped, and another character makes the text wrong.
-fn is_skipped_or_rejected(alloc: Global, place: usize) -> Option<bool> {
-    let bytes = bytes(alloc)?;
-    Some(is_skipped(alloc, &bytes, place) && is_rejected_at(alloc, &bytes, place) == Some(true))
+fn is_skipped_or_rejected(alloc: Global, place: usize) -> bool {
+    match bytes(alloc) {
+        Some(bytes) => { is_skipped(alloc, &bytes, place) && is_rejected_at(alloc, &bytes, place) }
+        None => false,
+    }
 }
 
 // A read asks for 65,536 bytes. The character is in the middle of the first pair, so that the end
@@ -59,9 +70,6 @@ fn is_skipped_or_rejected(alloc: Global, place: usize) -> Option<bool> {
 #[test]
 fn text_may_take_two_pieces(rt: HostRuntime) {
     for place in [1, 65_535, 65_536, 69_999] {
-        assert!(rt;
-            is_skipped_or_rejected(rt.alloc(), place) == Some(true),
-            "{place}"
-        );
+        assert!(rt; is_skipped_or_rejected(rt.alloc(), place), "{place}");
     }
 }

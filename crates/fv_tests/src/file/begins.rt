@@ -1,8 +1,7 @@
 //! Bytes that begin with a file.
 
-use super::A;
+use super::{A, Claim, wrong_line};
 use crate::faults::fault_text;
-use crate::spelling::{expected_and_spelling, spelled_bytes};
 use bitflags::Flags;
 use fv_base::{Fault, FaultKind, FileSystem, Polarity};
 use fv_file::{FileHead, verify_ffs_file};
@@ -42,49 +41,45 @@ fn headers() -> &'static str {
     the file sum is not AA: FileSum 17 0: 0a*16 47ab0100180000f8 ff*32"
 }
 
-// A header as text, if all bytes of the name are the same.
-fn head_text(alloc: Global, head: FileHead) -> Option<String> {
-    let FileHead {
-        name,
-        kind,
-        attributes,
-        size,
-        header_len,
-        header_sum,
-        file_sum,
-        state,
-    } = head;
-    let (name, bits) = (name.to_bytes(), attributes.bits());
-    let first = name[0];
+// The first part of a header as text, if all bytes of the name are the same.
+fn first_part_text(alloc: Global, head: &FileHead) -> Option<String> {
+    let (name, bits) = (head.name.to_bytes(), head.attributes.bits());
+    let (first, kind, size) = (name[0], head.kind, head.size);
     if name != [first; 16] {
         return None;
     }
-    format!(in alloc;
-        "{first:02x} {kind:02x} {bits:02x} {size} {header_len} {header_sum:02x} {file_sum:02x} {state:?}"
-    ).ok()
+    format!(in alloc; "{first:02x} {kind:02x} {bits:02x} {size}").ok()
 }
 
-// Whether the bytes of a line begin as the line expects.
-fn has_header_or_fault(alloc: Global, line: &str, system: FileSystem) -> Option<bool> {
-    let (wanted, text) = expected_and_spelling(line)?;
-    let bytes = spelled_bytes(alloc, 0, text)?;
-    let found = match verify_ffs_file(&bytes, system, Polarity::Ones) {
-        Ok(head) => head_text(alloc, head)?,
-        Err(fault) => fault_text(alloc, fault)?,
-    };
-    Some(found.as_str() == wanted)
+// The other fields of a header as text.
+fn other_part_text(alloc: Global, head: &FileHead) -> Option<String> {
+    let (header_len, header_sum) = (head.header_len, head.header_sum);
+    let (file_sum, state) = (head.file_sum, head.state);
+    format!(in alloc; " {header_len} {header_sum:02x} {file_sum:02x} {state:?}").ok()
+}
+
+// A header as text, if all bytes of the name are the same.
+fn head_text(alloc: Global, head: &FileHead) -> Option<String> {
+    let mut text = first_part_text(alloc, head)?;
+    let rest = other_part_text(alloc, head)?;
+    text.push_str(&rest).ok()?;
+    Some(text)
+}
+
+// The header of the file that bytes begin with, or the fault, as text.
+pub(super) fn header_text(alloc: Global, bytes: &[u8], system: FileSystem) -> Option<String> {
+    match verify_ffs_file(bytes, system, Polarity::Ones) {
+        Ok(head) => head_text(alloc, &head),
+        Err(fault) => fault_text(alloc, fault),
+    }
 }
 
 #[test]
 fn bytes_have_their_header_or_their_fault(rt: HostRuntime) {
-    for (table, system) in [(files(), FileSystem::Ffs3), (headers(), FileSystem::Ffs2)] {
-        for line in table.lines() {
-            assert!(rt;
-                has_header_or_fault(rt.alloc(), line, system) == Some(true),
-                "{line}"
-            );
-        }
-    }
+    let wrong = wrong_line(rt.alloc(), Claim::Header(FileSystem::Ffs3), files());
+    assert!(rt; wrong.is_none(), "{wrong:?}");
+    let wrong = wrong_line(rt.alloc(), Claim::Header(FileSystem::Ffs2), headers());
+    assert!(rt; wrong.is_none(), "{wrong:?}");
 }
 
 // A name, at most 40 other bytes after it, and then erased bytes.

@@ -1,9 +1,8 @@
 //! Files whose header has 32 bytes.
 
-use super::{A, cells_at_72, outcome_text};
-use crate::spelling::{expected_and_spelling, spelled_bytes};
+use super::{A, Claim, cells_at_72, wrong_line};
 use bitflags::Flags;
-use fv_base::{Fault, FileSystem, Polarity};
+use fv_base::{FileSystem, Polarity};
 use fv_file::{Cell, FileState};
 use std::alloc::Global;
 
@@ -41,52 +40,53 @@ pub(super) fn rejected() -> &'static str {
         0a*16 5eaa0101000000e8 2000000000000000 ff*24"
 }
 
-// The outcome of the body of a line in FFS2, as text.
-fn text_in_ffs2(alloc: Global, line: &str) -> Option<String> {
-    let (_, text) = expected_and_spelling(line)?;
-    let bytes = spelled_bytes(alloc, 72, text)?;
-    outcome_text(alloc, &bytes, FileSystem::Ffs2, Polarity::Ones)
-}
-
 #[test]
 fn ffs2_has_no_large_files(rt: HostRuntime) {
-    for line in accepted().lines() {
-        let is_rejected = match text_in_ffs2(rt.alloc(), line) {
-            Some(text) => text.as_str() == "LargeFile 91 0",
-            None => false,
-        };
-        assert!(rt; is_rejected, "{line}");
-    }
+    let wrong = wrong_line(rt.alloc(), Claim::TooLarge, accepted());
+    assert!(rt; wrong.is_none(), "{wrong:?}");
 }
 
-// Whether a file of 16 MiB and 8 bytes is the only cell of its volume, or the fault if there is
-// one.
-fn is_one_long_file(alloc: Global) -> Result<bool, Fault> {
-    let mut bytes = vec![in alloc; 0xffu8; 0x100_0050]?;
+// A volume with a file of 16 MiB and 8 bytes.
+fn long_volume(alloc: Global) -> Option<Vec<u8>> {
+    let mut bytes = vec![in alloc; 0xffu8; 0x100_0050].ok()?;
     bytes[72..88].copy_from_slice(&A);
     bytes[88..104].copy_from_slice(&[
         0x55, 0xaa, 0x01, 0x01, 0x00, 0x00, 0x00, 0xf8, 0x08, 0, 0, 1, 0, 0, 0, 0,
     ]);
-    let found = cells_at_72(alloc, &bytes, FileSystem::Ffs3, Polarity::Ones)?;
-    match found.as_slice() {
-        [
-            Cell::Valid {
-                offset: 72,
-                head,
-                payload,
-            },
-        ] => Ok(
+    Some(bytes)
+}
+
+// Whether a cell is the file of the long volume.
+fn is_long_file(cell: &Cell, volume: &[u8]) -> bool {
+    match *cell {
+        Cell::Valid {
+            offset: 72,
+            head,
+            payload,
+        } => {
             head.size == 0x100_0008
                 && head.attributes.bits() == 0x01
                 && head.state == FileState::DataValid
-                && *payload == &bytes[104..],
-        ),
-        _ => Ok(false),
+                && Some(payload) == volume.get(104..)
+        }
+        _ => false,
+    }
+}
+
+// Whether that file is the only cell of the long volume.
+fn is_one_long_file(alloc: Global, volume: &[u8]) -> bool {
+    match cells_at_72(alloc, volume, FileSystem::Ffs3, Polarity::Ones) {
+        Ok(found) => match found.as_slice() {
+            [cell] => is_long_file(cell, volume),
+            _ => false,
+        },
+        Err(_) => false,
     }
 }
 
 // No short header can give this size.
 #[test]
 fn a_file_may_have_more_than_16_mib(rt: HostRuntime) {
-    assert_eq!(rt; is_one_long_file(rt.alloc()), Ok(true));
+    let volume = long_volume(rt.alloc());
+    assert!(rt; volume.is_some_and(|volume| is_one_long_file(rt.alloc(), &volume)));
 }

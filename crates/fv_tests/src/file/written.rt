@@ -1,39 +1,16 @@
 //! Headers that are written.
 
 use super::{A, P};
-use crate::spelling::spelled_bytes;
 use bitflags::Flags;
 use fv_base::{FileSystem, Guid, Polarity};
 use fv_file::{FileAttributes, HeadBytes, file_head_bytes, pad_head_bytes, verify_ffs_file};
-use std::alloc::Global;
 
-// Files: the type, the attribute bits, the number of bytes of the data, the file sum, the polarity
-// and what follows the name. Two have the most data with a short header, and one byte more. The
-// last two have the most data, which make a file of 256 MiB; the second has all other attribute
-// bits.
-fn files() -> &'static str {
-    "\
-    01 00 0 aa ones: 47aa0100180000f8\n\
-    01 00 0 aa zeros: 47aa010018000007\n\
-    ff 00 0 aa ones: 49aaff00180000f8\n\
-    01 00 1 aa ones: 46aa0100190000f8\n\
-    01 40 0 00 ones: 07000140180000f8\n\
-    01 40 4 f6 ones: 03f601401c0000f8\n\
-    01 00 16777191 aa ones: 62aa0100fffffff8\n\
-    01 00 16777192 aa ones: 55aa0101000000f8 0800000100000000\n\
-    01 00 268435424 aa ones: 4eaa0101000000f8 0000001000000000\n\
-    01 fa 268435424 55 zeros: 545501fb00000007 0000001000000000"
-}
+/// A file: the type, the attribute bits, the number of bytes of the data, the file sum, the
+/// polarity, and what follows the name: eight bytes, and eight more or 0.
+type FileRow = (u8, u8, u64, u8, Polarity, u64, u64);
 
-// Pads: the size, the polarity and what follows the name.
-fn pads() -> &'static str {
-    "\
-    24 ones: 08aaf000180000f8\n\
-    24 zeros: 08aaf00018000007\n\
-    40 ones: f8aaf000280000f8\n\
-    144 ones: 90aaf000900000f8\n\
-    16777215 ones: 23aaf000fffffff8"
-}
+/// A pad: the size, the polarity and the eight bytes that follow the name.
+type PadRow = (u64, Polarity, u64);
 
 // The header of a file with this type, these attribute bits, data and file sum, if there is one.
 pub(super) fn file_head(
@@ -83,61 +60,89 @@ fn is_read_back(
         && found.file_sum == file_sum
 }
 
-// The byte that a word is, in hexadecimal.
-fn byte_in(word: Option<&str>) -> Option<u8> {
-    u8::from_str_radix(word?, 16).ok()
+// Whether the bytes are a name and these numbers, of which the second may be missing.
+fn is_joined_of(bytes: &[u8], name: [u8; 16], first: u64, second: u64) -> bool {
+    let mut fields = [0; 16];
+    fields[..8].copy_from_slice(&first.to_be_bytes());
+    fields[8..].copy_from_slice(&second.to_be_bytes());
+    let len = if second == 0 { 8 } else { 16 };
+    is_joined(bytes, name, &fields[..len])
 }
 
-// The polarity that a word names.
-fn polarity_in(word: Option<&str>) -> Option<Polarity> {
-    match word? {
-        "ones" => Some(Polarity::Ones),
-        "zeros" => Some(Polarity::Zeros),
-        _ => None,
-    }
-}
-
-// Whether the header of the file of a line is written as expected and, if there are no data, read
+// Whether the header of the file of a row is written as expected and, if there are no data, read
 // back.
-fn file_head_is_written(alloc: Global, line: &str) -> Option<bool> {
-    let (fields, text) = line.split_once(": ")?;
-    let mut words = fields.split_whitespace();
-    let (kind, attributes) = (byte_in(words.next())?, byte_in(words.next())?);
-    let data_len = words.next()?.parse().ok()?;
-    let (file_sum, polarity) = (byte_in(words.next())?, polarity_in(words.next())?);
-    let head = file_head(kind, attributes, data_len, file_sum, polarity)?;
+fn file_head_is_written(row: FileRow) -> bool {
+    let (kind, attributes, data_len, file_sum, polarity, first, second) = row;
+    let Some(head) = file_head(kind, attributes, data_len, file_sum, polarity) else {
+        return false;
+    };
     let bytes = head.as_slice();
-    let is_written = is_joined(bytes, A, &spelled_bytes(alloc, 0, text)?);
-    let is_read = data_len != 0 || is_read_back(bytes, A, kind, attributes, file_sum, polarity);
-    Some(is_written && is_read)
+    is_joined_of(bytes, A, first, second)
+        && (data_len != 0 || is_read_back(bytes, A, kind, attributes, file_sum, polarity))
 }
 
-// Whether the header of the pad of a line is written as expected and, if there are no data, read
+// Whether the header of the pad of a row is written as expected and, if there are no data, read
 // back.
-fn pad_head_is_written(alloc: Global, line: &str) -> Option<bool> {
-    let (fields, text) = line.split_once(": ")?;
-    let mut words = fields.split_whitespace();
-    let size = words.next()?.parse().ok()?;
-    let polarity = polarity_in(words.next())?;
-    let head = pad_head(size, polarity)?;
+fn pad_head_is_written(row: PadRow) -> bool {
+    let (size, polarity, first) = row;
+    let Some(head) = pad_head(size, polarity) else {
+        return false;
+    };
     let bytes = head.as_slice();
-    let is_written = is_joined(bytes, P, &spelled_bytes(alloc, 0, text)?);
-    let is_read = size != 24 || is_read_back(bytes, P, 0xf0, 0, 0xaa, polarity);
-    Some(is_written && is_read)
+    is_joined_of(bytes, P, first, 0)
+        && (size != 24 || is_read_back(bytes, P, 0xf0, 0, 0xaa, polarity))
 }
 
+// Two files have the most data with a short header, and one byte more. The last two have the most
+// data, which make a file of 256 MiB; the second has all other attribute bits.
 #[test]
 fn headers_are_written(rt: HostRuntime) {
-    for line in files().lines() {
-        assert!(rt;
-            file_head_is_written(rt.alloc(), line) == Some(true),
-            "{line}"
-        );
+    let (ones, zeros) = (Polarity::Ones, Polarity::Zeros);
+    for row in [
+        (0x01, 0x00, 0, 0xaa, ones, 0x47aa_0100_1800_00f8, 0),
+        (0x01, 0x00, 0, 0xaa, zeros, 0x47aa_0100_1800_0007, 0),
+        (0xff, 0x00, 0, 0xaa, ones, 0x49aa_ff00_1800_00f8, 0),
+        (0x01, 0x00, 1, 0xaa, ones, 0x46aa_0100_1900_00f8, 0),
+        (0x01, 0x40, 0, 0x00, ones, 0x0700_0140_1800_00f8, 0),
+        (0x01, 0x40, 4, 0xf6, ones, 0x03f6_0140_1c00_00f8, 0),
+        (0x01, 0x00, 16_777_191, 0xaa, ones, 0x62aa_0100_ffff_fff8, 0),
+        (
+            0x01,
+            0x00,
+            16_777_192,
+            0xaa,
+            ones,
+            0x55aa_0101_0000_00f8,
+            0x0800_0001_0000_0000,
+        ),
+        (
+            0x01,
+            0x00,
+            268_435_424,
+            0xaa,
+            ones,
+            0x4eaa_0101_0000_00f8,
+            0x0000_0010_0000_0000,
+        ),
+        (
+            0x01,
+            0xfa,
+            268_435_424,
+            0x55,
+            zeros,
+            0x5455_01fb_0000_0007,
+            0x0000_0010_0000_0000,
+        ),
+    ] {
+        assert!(rt; file_head_is_written(row), "{row:?}");
     }
-    for line in pads().lines() {
-        assert!(rt;
-            pad_head_is_written(rt.alloc(), line) == Some(true),
-            "{line}"
-        );
+    for row in [
+        (24, ones, 0x08aa_f000_1800_00f8),
+        (24, zeros, 0x08aa_f000_1800_0007),
+        (40, ones, 0xf8aa_f000_2800_00f8),
+        (144, ones, 0x90aa_f000_9000_00f8),
+        (16_777_215, ones, 0x23aa_f000_ffff_fff8),
+    ] {
+        assert!(rt; pad_head_is_written(row), "{row:?}");
     }
 }

@@ -2,10 +2,10 @@
 //! result may be returned.
 
 use super::streams::{ExpectedFrame, PAIR, PAIR_FRAMES, has_frame_at, is_split};
-use super::texts::{FREEFORMS, TEXTS, VERSIONS, has_freeform_parts};
+use super::texts::{has_freeform_parts, has_text, has_version};
 use super::written::is_written;
 use crate::faults::OUT_OF_MEMORY;
-use fv_section::{FrameWalk, ui_text, version};
+use fv_section::FrameWalk;
 use std::alloc::Global;
 
 /// Nine sections without bodies.
@@ -44,15 +44,26 @@ fn walk_counts_frames() -> bool {
     first.is_some() && all == 2 && walk.frames_left() == 1 && walk.tail() == 1
 }
 
-// Whether the calls that take no memory return the right results.
-fn calls_without_memory_are_right() -> bool {
-    let (body, text) = TEXTS[0];
-    let (numbered, parts) = VERSIONS[0];
-    let (named, rest) = FREEFORMS[0];
-    ui_text(body) == text
-        && version(numbered) == parts
-        && has_freeform_parts(named, rest)
-        && has_frame_at(&PAIR, 8, &Some(PAIR_FRAMES[1]))
+/// The body of a freeform section: its GUID, and the byte 0x01.
+const FREEFORM: [u8; 17] = [
+    0x0a, 0x0a, 0x0a, 0x0a, 0x0a, 0x0a, 0x0a, 0x0a, 0x0a, 0x0a, 0x0a, 0x0a, 0x0a, 0x0a, 0x0a, 0x0a,
+    0x01,
+];
+
+// Whether the calls that take no memory return the right results for bodies.
+fn bodies_are_right() -> bool {
+    has_text(
+        &[0x41, 0x00, 0x42, 0x00, 0x00, 0x00],
+        Some(&[0x41, 0x00, 0x42, 0x00]),
+    ) && has_version(
+        &[0x01, 0x00, 0x31, 0x00, 0x00, 0x00],
+        Some((1, &[0x31, 0x00])),
+    ) && has_freeform_parts(&FREEFORM, Some((&[0x0a; 16], &[0x01])))
+}
+
+// Whether the calls that take no memory return the right results for sections.
+fn sections_are_right() -> bool {
+    has_frame_at(&PAIR, 8, &Some((8, 0x19, false, &[0x01, 0x02])))
         && walk_counts_frames()
         && is_written(0x19, false, 1, &[0x05, 0x00, 0x00, 0x19])
 }
@@ -61,5 +72,5 @@ fn calls_without_memory_are_right() -> bool {
 fn out_of_memory_is_reported(rt: HostRuntime) {
     assert!(rt; is_split_or_out_of_memory(rt.alloc(), &PAIR[..14], &PAIR_FRAMES));
     assert!(rt; is_split_or_out_of_memory(rt.alloc(), &NINE, &NINE_FRAMES));
-    assert!(rt; calls_without_memory_are_right());
+    assert!(rt; bodies_are_right() && sections_are_right());
 }

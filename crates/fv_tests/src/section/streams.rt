@@ -197,6 +197,12 @@ fn is_rejected_with(alloc: Global, stream: &[u8], fault: Fault) -> bool {
     frames(alloc, stream).err() == Some(fault)
 }
 
+// Whether a stream is rejected with this fault, and so is the frame at its place.
+fn has_fault(alloc: Global, stream: &[u8], kind: FaultKind, offset: u64) -> bool {
+    let fault = Fault::outer(kind, offset);
+    is_rejected_with(alloc, stream, fault) && next_frame(stream, offset).err() == Some(fault)
+}
+
 #[test]
 fn streams_are_split(rt: HostRuntime) {
     for (stream, expected, tail) in STREAMS {
@@ -232,12 +238,7 @@ fn incomplete_streams_are_rejected(rt: HostRuntime) {
 #[test]
 fn each_fault_is_reported_at_its_place(rt: HostRuntime) {
     for (stream, kind, offset) in FAULTS {
-        let fault = Fault::outer(kind, offset);
-        let is_same = is_rejected_with(rt.alloc(), stream, fault);
-        assert!(rt;
-            is_same && next_frame(stream, offset).err() == Some(fault),
-            "{stream:?}"
-        );
+        assert!(rt; has_fault(rt.alloc(), stream, kind, offset), "{stream:?}");
     }
 }
 
@@ -299,5 +300,5 @@ fn is_long_stream_split(alloc: Global) -> Result<bool, Fault> {
 
 #[test]
 fn a_long_stream_is_split(rt: HostRuntime) {
-    assert_eq!(rt; is_long_stream_split(rt.alloc()), Ok(true));
+    assert!(rt; is_long_stream_split(rt.alloc()) == Ok(true));
 }

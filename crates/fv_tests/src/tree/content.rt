@@ -1,7 +1,8 @@
 //! What files hold.
 
-use crate::spelling::{expected_and_spelling, spelled_volume};
-use fv_tree::{Body, Content, FileView, SectionView, VolumeView, read_volume};
+use super::{Claim, wrong_line};
+use crate::spelling::text_is;
+use fv_tree::{Body, Content, FileView, SectionView, VolumeView};
 use std::alloc::Global;
 
 // Files with sections.
@@ -66,86 +67,99 @@ fn between<'a>(volume: &'a [u8], places: &str) -> Option<&'a [u8]> {
     volume.get(from.parse::<usize>().ok()?..to.parse::<usize>().ok()?)
 }
 
-// Whether a section of the volume holds what some words say: the bytes between two offsets of the
-// volume, a number of sections and a tail, or a number of files.
-fn has_body(alloc: Global, section: &SectionView, volume: &[u8], wanted: &str) -> Option<bool> {
-    let found = match section.body() {
-        Body::Leaf(_) => {
-            return Some(section.leaf()? == between(volume, wanted.strip_prefix("leaf ")?)?);
-        }
-        Body::Group { sections, tail } => {
-            let count = sections.len();
-            format!(in alloc; "group {count} {tail}").ok()?
-        }
-        Body::Nested(inner) => {
-            let count = inner.file_count();
-            format!(in alloc; "nested {count}").ok()?
-        }
-    };
-    Some(found.as_str() == wanted)
+// Whether there is a part, and it is between two offsets of the volume.
+fn is_between(part: Option<&[u8]>, volume: &[u8], places: &str) -> bool {
+    match (part, between(volume, places)) {
+        (Some(part), Some(wanted)) => part == wanted,
+        _ => false,
+    }
 }
 
-// Whether a section of the volume is the expected one: its type, whether its header is extended,
-// how many bytes its body has, and what it holds.
-fn is_expected_section(
-    alloc: Global,
-    section: &SectionView,
-    volume: &[u8],
-    wanted: &str,
-) -> Option<bool> {
-    let (head, holds) = wanted.split_once(", ")?;
+// Whether a number of sections and of bytes after them is the expected one.
+fn has_counts(alloc: Global, count: usize, tail: u8, wanted: &str) -> bool {
+    text_is(format!(in alloc; "{count} {tail}").ok(), wanted)
+}
+
+// Whether a section of the volume holds what some words say: the bytes between two offsets of the
+// volume, a number of sections and a tail, or a number of files.
+fn has_body(alloc: Global, section: &SectionView, volume: &[u8], wanted: &str) -> bool {
+    let (kind, numbers) = wanted.split_once(' ').unwrap_or((wanted, ""));
+    match section.body() {
+        Body::Leaf(_) => kind == "leaf" && is_between(section.leaf(), volume, numbers),
+        Body::Group { sections, tail } => {
+            kind == "group" && has_counts(alloc, sections.len(), tail, numbers)
+        }
+        Body::Nested(inner) => {
+            kind == "nested" && numbers.parse::<u32>().ok() == Some(inner.file_count())
+        }
+    }
+}
+
+// A section as text: its type, whether its header is extended, and how many bytes its body has.
+fn section_text(alloc: Global, section: &SectionView) -> Option<String> {
     let (kind, extended, len) = (section.kind(), section.extended(), section.body_len());
-    let found = format!(in alloc; "{kind:02x} {extended} {len}").ok()?;
-    Some(found.as_str() == head && has_body(alloc, section, volume, holds)?)
+    format!(in alloc; "{kind:02x} {extended} {len}").ok()
+}
+
+// Whether a section of the volume is the expected one, and holds what is expected.
+fn is_expected(alloc: Global, section: &SectionView, volume: &[u8], wanted: &str) -> bool {
+    match wanted.split_once(", ") {
+        Some((head, holds)) => {
+            text_is(section_text(alloc, section), head) && has_body(alloc, section, volume, holds)
+        }
+        None => false,
+    }
+}
+
+// Whether the sections of the volume are the expected ones, in this order.
+fn are_expected(alloc: Global, sections: &[SectionView], volume: &[u8], wanted: &str) -> bool {
+    let mut parts = wanted.split("; ");
+    for section in sections {
+        match parts.next() {
+            Some(part) if is_expected(alloc, section, volume, part) => {}
+            _ => return false,
+        }
+    }
+    parts.next().is_none()
 }
 
 // Whether a file of the volume holds this many sections and bytes after them, and these sections.
-fn has_sections(alloc: Global, file: &FileView, volume: &[u8], wanted: &str) -> Option<bool> {
+fn has_sections(alloc: Global, file: &FileView, volume: &[u8], wanted: &str) -> bool {
     let Content::Stream { sections, tail } = file.content() else {
-        return None;
+        return false;
     };
-    let count = sections.len();
-    let mut parts = wanted.split("; ");
-    if format!(in alloc; "{count} {tail}").ok()?.as_str() != parts.next()? {
-        return Some(false);
-    }
-    for section in sections.as_slice() {
-        if !is_expected_section(alloc, section, volume, parts.next()?)? {
-            return Some(false);
-        }
-    }
-    Some(parts.next().is_none() && file.plain().is_none())
+    let (counts, list) = wanted.split_once("; ").unwrap_or((wanted, ""));
+    has_counts(alloc, sections.len(), *tail, counts)
+        && (sections.is_empty() && list == ""
+            || are_expected(alloc, sections.as_slice(), volume, list))
+        && file.plain().is_none()
 }
 
-// Whether the first file of the volume of a line holds its sections.
-fn has_stream(alloc: Global, line: &str) -> Option<bool> {
-    let (wanted, text) = expected_and_spelling(line)?;
-    let volume = spelled_volume(alloc, text)?;
-    let (view, _) = read_volume(alloc, &volume).ok()?;
-    has_sections(alloc, view.file(0)?, &volume, wanted)
+// Whether the first file of the volume holds the expected sections.
+pub(super) fn has_stream(alloc: Global, view: &VolumeView, volume: &[u8], wanted: &str) -> bool {
+    match view.file(0) {
+        Some(file) => has_sections(alloc, file, volume, wanted),
+        None => false,
+    }
+}
+
+// The data of the file whose number is spelled.
+fn data_of<'a>(view: &VolumeView<'a>, number: &str) -> Option<&'a [u8]> {
+    view.file(number.parse::<u32>().ok()?)?.plain()
 }
 
 // Whether the data of a file are between two offsets of the volume.
-fn has_data(view: &VolumeView, volume: &[u8], wanted: &str) -> Option<bool> {
-    let (number, places) = wanted.split_once(' ')?;
-    let file = view.file(number.parse::<u32>().ok()?)?;
-    Some(file.plain()? == between(volume, places)?)
-}
-
-// Whether the file of the volume of a line holds its bytes.
-fn has_plain_data(alloc: Global, line: &str) -> Option<bool> {
-    let (wanted, text) = expected_and_spelling(line)?;
-    let volume = spelled_volume(alloc, text)?;
-    let (view, _) = read_volume(alloc, &volume).ok()?;
-    has_data(&view, &volume, wanted)
+pub(super) fn has_data(view: &VolumeView, volume: &[u8], wanted: &str) -> bool {
+    match wanted.split_once(' ') {
+        Some((number, places)) => is_between(data_of(view, number), volume, places),
+        None => false,
+    }
 }
 
 #[test]
 fn files_hold_sections_or_bytes(rt: HostRuntime) {
-    for line in streams().lines() {
-        assert!(rt; has_stream(rt.alloc(), line) == Some(true), "{line}");
-    }
-    for line in plain().lines() {
-        assert!(rt; has_plain_data(rt.alloc(), line) == Some(true), "{line}");
-    }
+    let wrong = wrong_line(rt.alloc(), Claim::Sections, streams());
+    assert!(rt; wrong.is_none(), "{wrong:?}");
+    let wrong = wrong_line(rt.alloc(), Claim::Data, plain());
+    assert!(rt; wrong.is_none(), "{wrong:?}");
 }

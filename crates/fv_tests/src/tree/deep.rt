@@ -1,8 +1,7 @@
 //! Groups and volumes nested in one another, and the order of faults.
 
-use crate::spelling::spelled_volume;
-use fv_tree::{Body, Content, SectionView, VolumeView, read_volume};
-use std::alloc::Global;
+use super::{Claim, wrong_line};
+use fv_tree::{Body, Content, SectionView, VolumeView};
 
 // Volumes of which a part is not read, or is read separately.
 pub(super) fn accepted() -> &'static str {
@@ -73,26 +72,26 @@ pub(super) fn rejected() -> &'static str {
     "
 }
 
-// How groups (g) and volumes (v) are nested, from the outside in, and how the volume is spelled.
+// Volumes, with how groups (g) and volumes (v) are nested in them, from the outside in.
 fn levels() -> &'static str {
     "\
-    gggggggg: <80> 0a*16 1daa0b00380000f8 200000031c0000031800000314000003100000030c0000030800000304000003\n\
-    vvvvvvvv: <388> 0a*16 16aa0b003c0300f8 24030017 <320> 0a*16 7faa0b00d40200f8 bc020017 <2b8> 0a*16 \
+    eight groups: gggggggg: <80> 0a*16 1daa0b00380000f8 200000031c0000031800000314000003100000030c0000030800000304000003\n\
+    eight volumes: vvvvvvvv: <388> 0a*16 16aa0b003c0300f8 24030017 <320> 0a*16 7faa0b00d40200f8 bc020017 <2b8> 0a*16 \
         e7aa0b006c0200f8 54020017 <250> 0a*16 4faa0b00040200f8 ec010017 <1e8> 0a*16 b8aa0b009c0100f8 84010017 <180> \
         0a*16 20aa0b00340100f8 1c010017 <118> 0a*16 89aa0b00cc0000f8 b4000017 <b0> 0a*16 f1aa0b00640000f8 4c000017 \
         <48> ff*32\n\
-    gvgvgvgv: <1e8> 0a*16 b4aa0b00a00100f8 8801000384010017 <180> 0a*16 1caa0b00380100f8 200100031c010017 <118> \
+    a group first, in turn: gvgvgvgv: <1e8> 0a*16 b4aa0b00a00100f8 8801000384010017 <180> 0a*16 1caa0b00380100f8 200100031c010017 <118> \
         0a*16 85aa0b00d00000f8 b8000003b4000017 <b0> 0a*16 edaa0b00680000f8 500000034c000017 <48>\n\
-    vgvgvgvg: <208> 0a*16 98aa0b00bc0100f8 a4010017 <1a0> 0a*16 fcaa0b00580100f8 400100033c010017 <138> 0a*16 \
+    a volume first, in turn: vgvgvgvg: <208> 0a*16 98aa0b00bc0100f8 a4010017 <1a0> 0a*16 fcaa0b00580100f8 400100033c010017 <138> 0a*16 \
         65aa0b00f00000f8 d8000003d4000017 <d0> 0a*16 cdaa0b00880000f8 700000036c000017 <68> 0a*16 39aa0b001c0000f8 \
         04000003 ff*8\n\
-    ggggvvvv: <1f8> 0a*16 a8aa0b00ac0100f8 94010003900100038c0100038801000384010017 <180> 0a*16 20aa0b00340100f8 \
+    four groups and four volumes: ggggvvvv: <1f8> 0a*16 a8aa0b00ac0100f8 94010003900100038c0100038801000384010017 <180> 0a*16 20aa0b00340100f8 \
         1c010017 <118> 0a*16 89aa0b00cc0000f8 b4000017 <b0> 0a*16 f1aa0b00640000f8 4c000017 <48> ff*16\n\
-    vg: <d0> 0a*16 d1aa0b00840000f8 6c000017 <68> 0a*16 39aa0b001c0000f8 04000003 ff*8\n\
+    two levels: vg: <d0> 0a*16 d1aa0b00840000f8 6c000017 <68> 0a*16 39aa0b001c0000f8 04000003 ff*8\n\
     "
 }
 
-// The sections of the first file.
+// The sections of the first file, if there are some.
 fn first_stream<'v, 'a>(view: &'v VolumeView<'a>) -> Option<&'v [SectionView<'a>]> {
     match view.file(0)?.content() {
         Content::Stream { sections, .. } => Some(sections.as_slice()),
@@ -100,40 +99,30 @@ fn first_stream<'v, 'a>(view: &'v VolumeView<'a>) -> Option<&'v [SectionView<'a>
     }
 }
 
-// Whether a section holds a group or a volume, and the sections of the group, or of the volume's
-// first file, if it has one.
-fn below<'v, 'a>(section: &'v SectionView<'a>) -> Option<(u8, Option<&'v [SectionView<'a>]>)> {
-    match section.body() {
-        Body::Leaf(_) => None,
-        Body::Group { sections, .. } => Some((b'g', Some(sections))),
-        Body::Nested(volume) => Some((b'v', first_stream(volume))),
+// What the first of some sections holds, if it is a group or a volume as the letter says: the
+// sections of the group, or of the volume's first file, if there are some.
+fn below<'v, 'a>(
+    sections: Option<&'v [SectionView<'a>]>,
+    letter: u8,
+) -> Option<Option<&'v [SectionView<'a>]>> {
+    match (letter, sections?.first()?.body()) {
+        (b'g', Body::Group { sections, .. }) => Some(Some(sections)),
+        (b'v', Body::Nested(volume)) => Some(first_stream(volume)),
+        _ => None,
     }
 }
 
 // Whether the first sections are nested like this.
-fn has_levels(view: &VolumeView, levels: &str) -> Option<bool> {
+pub(super) fn has_levels(view: &VolumeView, letters: &str) -> Option<bool> {
     let mut sections = first_stream(view);
-    for level in levels.bytes() {
-        let (kind, inner) = below(sections?.first()?)?;
-        if kind != level {
-            return Some(false);
-        }
-        sections = inner;
+    for letter in letters.bytes() {
+        sections = below(sections, letter)?;
     }
     Some(sections.is_none_or(|last| last.is_empty()))
 }
 
-// Whether the volume of a line has its levels.
-fn is_nested(alloc: Global, line: &str) -> Option<bool> {
-    let (levels, text) = line.split_once(": ")?;
-    let bytes = spelled_volume(alloc, text)?;
-    let (view, _) = read_volume(alloc, &bytes).ok()?;
-    has_levels(&view, levels)
-}
-
 #[test]
 fn eight_levels_are_read(rt: HostRuntime) {
-    for line in levels().lines() {
-        assert!(rt; is_nested(rt.alloc(), line) == Some(true), "{line}");
-    }
+    let wrong = wrong_line(rt.alloc(), Claim::Levels, levels());
+    assert!(rt; wrong.is_none(), "{wrong:?}");
 }

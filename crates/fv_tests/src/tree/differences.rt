@@ -1,8 +1,9 @@
 //! Pairs of volumes from outside: where their meanings first differ, and pairs with the same
 //! meaning.
 
-use crate::spelling::{expected_and_spelling, spelled_volume};
-use fv_tree::{VolumeView, first_difference, read_volume};
+use super::view_of;
+use crate::spelling::{expected_and_spelling, spelled_volume, text_is};
+use fv_tree::{Difference, VolumeView, first_difference};
 use std::alloc::Global;
 
 // Lines with two volumes each.
@@ -73,20 +74,35 @@ fn compared() -> &'static str {
     "
 }
 
-// Whether two volumes first differ as some words say.
-fn differ_as(alloc: Global, volume: &VolumeView, other: &VolumeView, wanted: &str) -> Option<bool> {
-    let Some(found) = first_difference(alloc, volume, other).ok()? else {
-        return Some(wanted == "same");
-    };
+// A difference as text.
+fn difference_text(alloc: Global, found: &Difference) -> Option<String> {
     let (steps, word) = (found.steps(), found.word());
-    Some(format!(in alloc; "{steps:?} {word:?}").ok()?.as_str() == wanted)
+    format!(in alloc; "{steps:?} {word:?}").ok()
 }
 
-// Whether the volumes in the bytes of a line first differ so.
-fn volumes_differ_as(alloc: Global, bytes: &[u8], other: &[u8], wanted: &str) -> Option<bool> {
-    let (volume, _) = read_volume(alloc, bytes).ok()?;
-    let (other, _) = read_volume(alloc, other).ok()?;
-    differ_as(alloc, &volume, &other, wanted)
+// Whether two volumes first differ as some words say.
+fn differ_as(alloc: Global, volume: &VolumeView, other: &VolumeView, wanted: &str) -> bool {
+    match first_difference(alloc, volume, other) {
+        Ok(Some(found)) => text_is(difference_text(alloc, &found), wanted),
+        Ok(None) => wanted == "same",
+        Err(_) => false,
+    }
+}
+
+// Whether a volume and the one in some bytes first differ as some words say.
+fn differs_as(alloc: Global, volume: &VolumeView, other: &[u8], wanted: &str) -> bool {
+    match view_of(alloc, other) {
+        Ok(other) => differ_as(alloc, volume, &other, wanted),
+        Err(_) => false,
+    }
+}
+
+// Whether the volumes in two pieces of bytes first differ as some words say.
+fn volumes_differ_as(alloc: Global, bytes: &[u8], other: &[u8], wanted: &str) -> bool {
+    match view_of(alloc, bytes) {
+        Ok(volume) => differs_as(alloc, &volume, other, wanted),
+        Err(_) => false,
+    }
 }
 
 // Whether the two volumes of a line first differ as it says.
@@ -94,7 +110,8 @@ fn line_differs_as_it_says(alloc: Global, line: &str) -> Option<bool> {
     let (wanted, texts) = expected_and_spelling(line)?;
     let (text, other) = texts.split_once(" -> ")?;
     let bytes = spelled_volume(alloc, text)?;
-    volumes_differ_as(alloc, &bytes, &spelled_volume(alloc, other)?, wanted)
+    let other = spelled_volume(alloc, other)?;
+    Some(volumes_differ_as(alloc, &bytes, &other, wanted))
 }
 
 #[test]

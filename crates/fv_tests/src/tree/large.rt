@@ -1,8 +1,8 @@
 //! Volumes with files whose header has 32 bytes.
 
 use super::file_text;
-use crate::spelling::spelled_volume;
-use fv_tree::read_volume;
+use crate::spelling::{spelled_volume, text_is};
+use fv_tree::{FileView, read_volume};
 use std::alloc::Global;
 
 // Volumes with files whose header has 32 bytes.
@@ -44,20 +44,33 @@ const LONG: &str =
      0a*16 \
      55aa0101000000f8 0800000100000000";
 
-// Whether the long volume is read with its file, whose data are all bytes after the headers.
-fn long_volume_is_read(alloc: Global) -> Option<bool> {
-    let front = spelled_volume(alloc, LONG)?;
-    let mut bytes = vec![in alloc; 0u8; 0x100_0050].ok()?;
-    for (byte, head) in bytes.iter_mut().zip(&front) {
-        *byte = *head;
+// The long volume.
+fn long_volume(alloc: Global) -> Option<Vec<u8>> {
+    let mut bytes = spelled_volume(alloc, LONG)?;
+    bytes.resize(0x100_0050, 0).ok()?;
+    Some(bytes)
+}
+
+// Whether the only file of the long volume has all bytes after the headers.
+fn is_long_file(alloc: Global, file: &FileView, volume: &[u8]) -> bool {
+    text_is(file_text(alloc, file), "0a 01 00 16777192 None") && file.plain() == volume.get(104..)
+}
+
+// Whether the long volume is read with its file.
+fn long_volume_is_read(alloc: Global, volume: &[u8]) -> bool {
+    match read_volume(alloc, volume) {
+        Ok((view, length)) => {
+            length == 0x100_0050
+                && view
+                    .file(0)
+                    .is_some_and(|file| is_long_file(alloc, file, volume))
+        }
+        Err(_) => false,
     }
-    let (view, length) = read_volume(alloc, &bytes).ok()?;
-    let file = view.file(0)?;
-    let is_same = file_text(alloc, file)?.as_str() == "0a 01 00 16777192 None";
-    Some(is_same && length == 0x100_0050 && file.plain() == bytes.get(104..))
 }
 
 #[test]
 fn a_file_may_have_more_than_16_mib(rt: HostRuntime) {
-    assert!(rt; long_volume_is_read(rt.alloc()) == Some(true));
+    let volume = long_volume(rt.alloc());
+    assert!(rt; volume.is_some_and(|volume| long_volume_is_read(rt.alloc(), &volume)));
 }

@@ -1,9 +1,11 @@
 //! Look-ups of files and sections, and the scan for volumes.
 
-use crate::spelling::{expected_and_spelling, spelled_volume};
+use super::{Claim, view_of, wrong_line};
+use crate::spelling::{spelled_volume, text_is};
 use fv_base::Guid;
+use fv_section::Frame;
 use fv_tree::{
-    FileView, Item, Lookup, VolumeView, file_by_name, file_by_type, next_file, read_volume, scan,
+    FileView, Item, Lookup, SectionView, VolumeView, file_by_name, file_by_type, next_file, scan,
     section_by_type,
 };
 use std::alloc::Global;
@@ -41,58 +43,64 @@ fn scanned() -> &'static str {
     "
 }
 
-// What a look-up finds: for a section the number of its body's bytes, and the bytes of a leaf; for
-// a frame its offset, and the bytes of its body.
-fn lookup_text(alloc: Global, lookup: &Lookup) -> Option<String> {
+// A section as text: the number of its body's bytes, and the bytes of a leaf.
+fn section_text(alloc: Global, section: &SectionView) -> Option<String> {
+    let (len, leaf) = (section.body_len(), section.leaf());
+    format!(in alloc; "section {len} {leaf:?}").ok()
+}
+
+// A frame as text: its offset, and the bytes of its body.
+fn frame_text(alloc: Global, frame: &Frame) -> Option<String> {
+    let (offset, body) = (frame.offset, frame.body);
+    format!(in alloc; "frame {offset} {body:?}").ok()
+}
+
+// Whether a look-up finds what some words say.
+fn finds(alloc: Global, lookup: &Lookup, wanted: &str) -> bool {
     match lookup {
-        Lookup::Found(Item::Section(section)) => {
-            let (len, leaf) = (section.body_len(), section.leaf());
-            format!(in alloc; "section {len} {leaf:?}").ok()
-        }
-        Lookup::Found(Item::Frame(frame)) => {
-            let (offset, body) = (frame.offset, frame.body);
-            format!(in alloc; "frame {offset} {body:?}").ok()
-        }
-        Lookup::Absent => format!(in alloc; "absent").ok(),
-        Lookup::NotSectioned => format!(in alloc; "not sectioned").ok(),
+        Lookup::Found(Item::Section(section)) => text_is(section_text(alloc, section), wanted),
+        Lookup::Found(Item::Frame(frame)) => text_is(frame_text(alloc, frame), wanted),
+        Lookup::Absent => wanted == "absent",
+        Lookup::NotSectioned => wanted == "not sectioned",
     }
+}
+
+// The type at the start of some words, and the other words.
+fn kind_in(words: &str) -> Option<(u8, &str)> {
+    let (kind, rest) = words.split_once(' ')?;
+    Some((u8::from_str_radix(kind, 16).ok()?, rest))
+}
+
+// The instance at the start of some words, and the other words.
+fn instance_in(words: &str) -> Option<(u32, &str)> {
+    let (instance, rest) = words.split_once(' ')?;
+    Some((instance.parse::<u32>().ok()?, rest))
 }
 
 // Whether the section whose type and instance come first in the words is what the other words say.
 fn section_is_found(alloc: Global, file: &FileView, words: &str) -> Option<bool> {
-    let (kind, words) = words.split_once(' ')?;
-    let (instance, wanted) = words.split_once(' ')?;
-    let kind = u8::from_str_radix(kind, 16).ok()?;
-    let found = section_by_type(file, kind, instance.parse::<u32>().ok()?);
-    Some(lookup_text(alloc, &found)?.as_str() == wanted)
+    let (kind, words) = kind_in(words)?;
+    let (instance, wanted) = instance_in(words)?;
+    Some(finds(alloc, &section_by_type(file, kind, instance), wanted))
 }
 
-// Whether a file has the expected sections.
-fn has_sections(alloc: Global, file: &FileView, wanted: &str) -> Option<bool> {
+// Whether the first file of a volume has the expected sections.
+pub(super) fn has_sections(alloc: Global, view: &VolumeView, wanted: &str) -> bool {
+    let Some(file) = view.file(0) else {
+        return false;
+    };
     for words in wanted.split("; ") {
-        if !section_is_found(alloc, file, words)? {
-            return Some(false);
+        if section_is_found(alloc, file, words) != Some(true) {
+            return false;
         }
     }
-    Some(true)
-}
-
-// Whether the first file of the volume of a line has its sections.
-fn has_expected_sections(alloc: Global, line: &str) -> Option<bool> {
-    let (wanted, text) = expected_and_spelling(line)?;
-    let bytes = spelled_volume(alloc, text)?;
-    let (view, _) = read_volume(alloc, &bytes).ok()?;
-    has_sections(alloc, view.file(0)?, wanted)
+    true
 }
 
 #[test]
 fn sections_are_looked_up(rt: HostRuntime) {
-    for line in sections().lines() {
-        assert!(rt;
-            has_expected_sections(rt.alloc(), line) == Some(true),
-            "{line}"
-        );
-    }
+    let wrong = wrong_line(rt.alloc(), Claim::LookUps, sections());
+    assert!(rt; wrong.is_none(), "{wrong:?}");
 }
 
 // The number of the file after the one with this number, and the first byte of its name.
@@ -150,33 +158,35 @@ const STATES: &str =
     "<100> 0c*16 1faa0100200000e8 00*8 0a*16 3faa0100200000f0 01*8 0b*16 37aa0100180000f8 0a*16 3faa0100200000f8 02*8 \
      ff*64";
 
-// Whether the files of that volume are looked up.
-fn files_are_found(alloc: Global) -> Option<bool> {
-    let bytes = spelled_volume(alloc, STATES)?;
-    let (view, _) = read_volume(alloc, &bytes).ok()?;
-    Some(has_files(&view) && has_names(&view))
+// Whether the files of a volume with these bytes are looked up.
+fn files_are_found(alloc: Global, bytes: &[u8]) -> bool {
+    match view_of(alloc, bytes) {
+        Ok(view) => has_files(&view) && has_names(&view),
+        Err(_) => false,
+    }
 }
 
 #[test]
 fn files_are_looked_up(rt: HostRuntime) {
-    assert!(rt; files_are_found(rt.alloc()) == Some(true));
+    let bytes = spelled_volume(rt.alloc(), STATES);
+    assert!(rt; bytes.is_some_and(|bytes| files_are_found(rt.alloc(), &bytes)));
 }
 
-// Whether the volumes in the bytes of a line begin where it says.
-fn volumes_begin_as_it_says(alloc: Global, line: &str) -> Option<bool> {
-    let (wanted, text) = expected_and_spelling(line)?;
-    let bytes = spelled_volume(alloc, text)?;
-    let offsets = scan(alloc, &bytes).ok()?;
-    let found = offsets.as_slice();
-    Some(format!(in alloc; "{found:?}").ok()?.as_str() == wanted)
+// Offsets as text.
+fn offsets_text(alloc: Global, offsets: &[u64]) -> Option<String> {
+    format!(in alloc; "{offsets:?}").ok()
+}
+
+// Whether the volumes in some bytes begin at these offsets.
+pub(super) fn has_offsets(alloc: Global, bytes: &[u8], wanted: &str) -> bool {
+    match scan(alloc, bytes) {
+        Ok(found) => text_is(offsets_text(alloc, found.as_slice()), wanted),
+        Err(_) => false,
+    }
 }
 
 #[test]
 fn volumes_are_found(rt: HostRuntime) {
-    for line in scanned().lines() {
-        assert!(rt;
-            volumes_begin_as_it_says(rt.alloc(), line) == Some(true),
-            "{line}"
-        );
-    }
+    let wrong = wrong_line(rt.alloc(), Claim::Offsets, scanned());
+    assert!(rt; wrong.is_none(), "{wrong:?}");
 }

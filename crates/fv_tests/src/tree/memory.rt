@@ -1,35 +1,16 @@
 //! Failed allocations: `.ci/memory` makes each allocation of the test fail in turn, and no wrong
 //! result may be returned.
 
-use super::outcome_text;
 use super::vectors::{accepted, rejected};
+use super::{Claim, view_of, wrong_line};
 use crate::faults::OUT_OF_MEMORY;
-use crate::spelling::{expected_and_spelling, spelled_volume};
+use crate::spelling::spelled_in_two_tries;
 use fv_base::Guid;
 use fv_tree::{
     FileView, Item, Lookup, Step, VolumeView, Word, file_by_name, file_by_type, first_difference,
-    next_file, read_volume, scan, section_by_type,
+    next_file, scan, section_by_type,
 };
 use std::alloc::Global;
-
-// The bytes that a text spells. If memory runs out for them, it is there the second time.
-fn spelled_in_two_tries(alloc: Global, text: &str) -> Option<Vec<u8>> {
-    match spelled_volume(alloc, text) {
-        None => spelled_volume(alloc, text),
-        bytes => bytes,
-    }
-}
-
-// Whether reading the bytes of a line gives what the line expects, or memory ran out. If it ran out
-// for the text of the result, there is no text.
-fn has_outcome_or_out_of_memory(alloc: Global, line: &str) -> Option<bool> {
-    let (wanted, text) = expected_and_spelling(line)?;
-    let bytes = spelled_in_two_tries(alloc, text)?;
-    let Some(found) = outcome_text(alloc, &bytes) else {
-        return Some(true);
-    };
-    Some(found.as_str() == wanted || found.as_str() == "OutOfMemory 0 0")
-}
 
 /// Two volumes, which differ in the last section of the second file: it is in a group in a group.
 const PAIR: &str =
@@ -73,16 +54,31 @@ fn differs_there_or_out_of_memory(alloc: Global, view: &VolumeView, other: &Volu
     }
 }
 
-// Whether the two are read and compared, or memory ran out.
-fn is_compared_or_out_of_memory(alloc: Global, bytes: &[u8], other: &[u8]) -> bool {
-    match (read_volume(alloc, bytes), read_volume(alloc, other)) {
-        (Ok((view, _)), Ok((other, _))) => {
-            differs_there_or_out_of_memory(alloc, &view, &other)
-                && lookups_are_right(&view, 0x5a)
-                && lookups_are_right(&other, 0x5b)
-        }
-        (Err(fault), Ok(_)) | (Ok(_), Err(fault)) => fault == OUT_OF_MEMORY,
-        _ => false,
+// Whether the two are compared, or memory ran out.
+fn are_compared_or_out_of_memory(alloc: Global, view: &VolumeView, other: &VolumeView) -> bool {
+    differs_there_or_out_of_memory(alloc, view, other)
+        && lookups_are_right(view, 0x5a)
+        && lookups_are_right(other, 0x5b)
+}
+
+// Whether the second is read and compared with the first, or memory ran out.
+fn is_compared_or_out_of_memory(alloc: Global, view: &VolumeView, other: &[u8]) -> bool {
+    match view_of(alloc, other) {
+        Ok(other) => are_compared_or_out_of_memory(alloc, view, &other),
+        Err(fault) => fault == OUT_OF_MEMORY,
+    }
+}
+
+// Whether some bytes are read.
+fn is_read(alloc: Global, bytes: &[u8]) -> bool {
+    view_of(alloc, bytes).is_ok()
+}
+
+// Whether the two are read and compared, or memory ran out for one of them.
+fn are_read_or_out_of_memory(alloc: Global, bytes: &[u8], other: &[u8]) -> bool {
+    match view_of(alloc, bytes) {
+        Ok(view) => is_compared_or_out_of_memory(alloc, &view, other),
+        Err(fault) => fault == OUT_OF_MEMORY && is_read(alloc, other),
     }
 }
 
@@ -94,25 +90,23 @@ fn are_found_or_out_of_memory(alloc: Global, bytes: &[u8]) -> bool {
     }
 }
 
-// Whether the right results are returned for the two volumes, or memory ran out.
-fn pair_is_read_or_out_of_memory(alloc: Global) -> Option<bool> {
-    let bytes = spelled_in_two_tries(alloc, PAIR)?;
-    let (first, second) = bytes.as_slice().split_at_checked(160)?;
-    Some(
-        is_compared_or_out_of_memory(alloc, first, second)
-            && are_found_or_out_of_memory(alloc, &bytes),
-    )
+// Whether the right results are returned for the bytes of the two volumes, or memory ran out.
+fn pair_is_read_or_out_of_memory(alloc: Global, bytes: &[u8]) -> bool {
+    match bytes.split_at_checked(160) {
+        Some((first, second)) => {
+            are_read_or_out_of_memory(alloc, first, second)
+                && are_found_or_out_of_memory(alloc, bytes)
+        }
+        None => false,
+    }
 }
 
 #[test]
 fn out_of_memory_is_reported(rt: HostRuntime) {
     for table in [accepted(), rejected()] {
-        for line in table.lines() {
-            assert!(rt;
-                has_outcome_or_out_of_memory(rt.alloc(), line) == Some(true),
-                "{line}"
-            );
-        }
+        let wrong = wrong_line(rt.alloc(), Claim::OutcomeOrOutOfMemory, table);
+        assert!(rt; wrong.is_none(), "{wrong:?}");
     }
-    assert!(rt; pair_is_read_or_out_of_memory(rt.alloc()) == Some(true));
+    let bytes = spelled_in_two_tries(rt.alloc(), PAIR);
+    assert!(rt; bytes.is_some_and(|bytes| pair_is_read_or_out_of_memory(rt.alloc(), &bytes)));
 }

@@ -1,7 +1,7 @@
 //! Volumes from outside: the files of each that is read, and the first fault of bytes that are no
 //! volume.
 
-use crate::spelling::{expected_and_spelling, spelled_volume};
+use super::{Claim, view_of, wrong_line};
 use fv_base::{Fault, FaultKind};
 use fv_tree::read_volume;
 use std::alloc::Global;
@@ -149,26 +149,37 @@ pub(super) fn rejected() -> &'static str {
     "
 }
 
-// Whether the volume of a line, cut short anywhere, is Truncated at its end.
-fn is_truncated_everywhere(alloc: Global, line: &str) -> Option<bool> {
-    let (_, text) = expected_and_spelling(line)?;
-    let bytes = spelled_volume(alloc, text)?;
-    let (_, length) = read_volume(alloc, &bytes).ok()?;
+// Whether the first `count` bytes of a volume are Truncated at their end.
+fn is_truncated_at(alloc: Global, volume: &[u8], count: u64) -> bool {
+    match volume.get(..count as usize) {
+        Some(part) => {
+            view_of(alloc, part).err() == Some(Fault::outer(FaultKind::Truncated, count))
+        }
+        None => false,
+    }
+}
+
+// How many bytes a volume has.
+fn length_of(alloc: Global, volume: &[u8]) -> Option<u64> {
+    let (_, length) = read_volume(alloc, volume).ok()?;
+    Some(length)
+}
+
+// Whether the bytes begin with a volume that, cut short anywhere, is Truncated at its end.
+pub(super) fn is_truncated_everywhere(alloc: Global, bytes: &[u8]) -> bool {
+    let Some(length) = length_of(alloc, bytes) else {
+        return false;
+    };
     for count in 0..length {
-        let fault = Fault::outer(FaultKind::Truncated, count);
-        if read_volume(alloc, bytes.get(..count as usize)?).err() != Some(fault) {
-            return Some(false);
+        if !is_truncated_at(alloc, bytes, count) {
+            return false;
         }
     }
-    Some(true)
+    true
 }
 
 #[test]
 fn first_parts_of_a_volume_are_truncated(rt: HostRuntime) {
-    for line in accepted().lines() {
-        assert!(rt;
-            is_truncated_everywhere(rt.alloc(), line) == Some(true),
-            "{line}"
-        );
-    }
+    let wrong = wrong_line(rt.alloc(), Claim::Truncated, accepted());
+    assert!(rt; wrong.is_none(), "{wrong:?}");
 }

@@ -1,7 +1,8 @@
 //! Views: the slices that they lend.
 
+use super::view_of;
 use crate::spelling::spelled_volume;
-use fv_tree::{Content, FileView, read_volume};
+use fv_tree::{Content, VolumeView};
 use std::alloc::Global;
 
 /// A file whose data are the byte 0x5a.
@@ -10,8 +11,9 @@ const BYTE: &str = "<80> 0a*16 46aa0100190000f8 5a ff*31";
 /// A file with one section, whose body is the byte 0x5a.
 const SECTION: &str = "<68> 0a*16 41aa02001d0000f8 050000195affffff";
 
-// The data of a file, or the body of its first section.
-fn part_of<'a>(file: &FileView<'a>) -> Option<&'a [u8]> {
+// The data of the first file of a volume, or the body of the file's first section.
+fn part_of<'a>(view: &VolumeView<'a>) -> Option<&'a [u8]> {
+    let file = view.file(0)?;
     match file.content() {
         Content::Plain(_) => file.plain(),
         Content::Stream { sections, .. } => sections.first()?.leaf(),
@@ -20,8 +22,8 @@ fn part_of<'a>(file: &FileView<'a>) -> Option<&'a [u8]> {
 
 // A part of the first file of a volume, taken from a view that is dropped before the part is used.
 fn first_part(alloc: Global, volume: &[u8]) -> Option<&[u8]> {
-    let (view, _) = read_volume(alloc, volume).ok()?;
-    let part = part_of(view.file(0)?);
+    let view = view_of(alloc, volume).ok()?;
+    let part = part_of(&view);
     drop(view);
     part
 }
