@@ -15,10 +15,13 @@
     fv.depex(data, phase, ..)   the truth value of a dependency expression
     fv.hobs(data)               the blocks of a hand-off list
 
-Data are anything that has the buffer protocol: bytes, bytearray, memoryview, mmap. Bytes and what can be written to
-are not copied; other buffers are. An input that is rejected raises Fault. Out of memory raises MemoryError. A number of
-no file or section raises IndexError. The environment variable LIBFV names the shared object. Other threads of Python
-run during a call.
+Data are anything that has the buffer protocol: bytes, bytearray, memoryview, mmap. Bytes are read where they are, and
+every other buffer is copied first, since something else may write to it during the call: a thread, for other threads of
+Python run meanwhile, or a process that has mapped the same file. With in_place=True a buffer that can be written to is
+not copied. The caller then sees to it that nothing writes to it during the call; else the process can crash.
+
+An input that is rejected raises Fault. Out of memory raises MemoryError. A number of no file or section raises
+IndexError. The environment variable LIBFV names the shared object.
 """
 
 from __future__ import annotations
@@ -140,11 +143,31 @@ class Fault(Exception):
         self.side: int = side
         self.text: str | None = fault_text(place.number) if has_text else None
 
+    def __reduce__(self) -> tuple[Any, ...]:
+        """How a fault is copied, and sent from one process to another."""
+        return _fault, (self.number, self.offset, self.depth, self.side, self.text is not None), self.__dict__
+
+
+def _fault(number: int, offset: int, depth: int, side: int, has_text: bool) -> Fault:
+    """The fault with these fields."""
+    return Fault(FaultPlace(offset, number, depth), side, has_text)
+
 
 def fault_text(number: int) -> str:
-    """What a fault means, in a sentence."""
-    return _lib.fv_fault_text(number).decode()
+    """What a fault means, in a sentence. ValueError if the number has more than 32 bits."""
+    return _lib.fv_fault_text(_of_32_bits(number)).decode()
 
+
+def _of_32_bits(number: int) -> int:
+    """A number of 32 bits; ctypes would cut others."""
+    if not 0 <= number < 2**32:
+        raise ValueError(f"{number} is no number of 32 bits")
+    return number
+
+
+# A bytes object that nothing has been written to: an image is not zeroed first, and not copied.
+_bytes_of = c.pythonapi.PyBytes_FromStringAndSize
+_bytes_of.argtypes, _bytes_of.restype = [c.c_void_p, c.c_ssize_t], c.py_object
 
 _size, _in, _out = c.c_size_t, c.c_void_p, c.c_void_p
 for _name, _arguments in {
@@ -165,12 +188,12 @@ for _name, _arguments in {
     getattr(_lib, _name).argtypes, getattr(_lib, _name).restype = _arguments, c.c_uint32
 
 
-def _given(data: Any) -> tuple[Any, int]:
+def _given(data: Any, in_place: bool) -> tuple[Any, int]:
     """What is passed for some data, and their length in bytes."""
     if isinstance(data, bytes):
         return data, len(data)
     view = memoryview(data).cast("B")
-    if view.readonly or not view.nbytes:
+    if view.readonly or not view.nbytes or not in_place:
         return view.tobytes(), view.nbytes
     return (c.c_char * view.nbytes).from_buffer(view), view.nbytes
 
@@ -191,110 +214,118 @@ def _number(number: int) -> int:
     return number
 
 
-def _image(call: Callable[..., int], data: Any) -> bytes:
-    given, length = _given(data)
-    buffer, place = c.create_string_buffer(max(length, 1)), FaultPlace()
-    _check(call(given, length, buffer, length, c.byref(place)), place)
-    return buffer.raw[:length]
+def _new_bytes(length: int) -> bytes:
+    """Bytes for a call to write to before anyone else has them. What they hold until then is not defined."""
+    if not length:
+        return b"\0"
+    made: bytes = _bytes_of(None, length)
+    return made
+
+
+def _image(call: Callable[..., int], data: Any, in_place: bool) -> bytes:
+    given, length = _given(data, in_place)
+    image, place = _new_bytes(length), FaultPlace()
+    _check(call(given, length, image, length, c.byref(place)), place)
+    return image[:length]
 
 
 def _list(item: Any, call: Callable[..., int]) -> tuple[int, Any, c.c_uint64]:
     """What a call writes to a buffer of items; it is called again if they are more than the buffer has."""
-    count, buffer = c.c_uint64(), (item * 64)()
+    count, buffer = c.c_uint64(), (item * 1024)()
     while (status := call(buffer, len(buffer), c.byref(count))) == BUFFER_TOO_SMALL:
         buffer = (item * count.value)()
     return status, buffer, count
 
 
-def normalise(data: Any) -> bytes:
+def normalise(data: Any, *, in_place: bool = False) -> bytes:
     """The canonical image of the volume that the data are. It is as long as they are."""
-    return _image(_lib.fv_normalise, data)
+    return _image(_lib.fv_normalise, data, in_place)
 
 
-def normalise_image(data: Any) -> bytes:
+def normalise_image(data: Any, *, in_place: bool = False) -> bytes:
     """The flash image with each volume that scan finds in it replaced by its canonical image."""
-    return _image(_lib.fv_normalise_image, data)
+    return _image(_lib.fv_normalise_image, data, in_place)
 
 
-def verify(data: Any) -> Extent:
+def verify(data: Any, *, in_place: bool = False) -> Extent:
     """The extent of the volume with which the data begin. Only its header is read."""
-    given, length = _given(data)
+    given, length = _given(data, in_place)
     extent, place = Extent(), FaultPlace()
     _check(_lib.fv_verify(given, length, c.byref(extent), c.byref(place)), place)
     return extent
 
 
-def is_canonical(data: Any) -> bool:
+def is_canonical(data: Any, *, in_place: bool = False) -> bool:
     """Whether the volume that the data are is its own canonical image."""
-    given, length = _given(data)
+    given, length = _given(data, in_place)
     canonical, place = c.c_uint32(), FaultPlace()
     _check(_lib.fv_is_canonical(given, length, c.byref(canonical), c.byref(place)), place)
     return canonical.value == 1
 
 
-def digest(data: Any) -> bytes:
+def digest(data: Any, *, in_place: bool = False) -> bytes:
     """The SHA-256 digest of the canonical image of the volume that the data are."""
-    given, length = _given(data)
+    given, length = _given(data, in_place)
     found, place = (c.c_uint8 * 32)(), FaultPlace()
     _check(_lib.fv_digest(given, length, c.byref(found), c.byref(place)), place)
     return bytes(found)
 
 
-def scan(data: Any) -> list[int]:
+def scan(data: Any, *, in_place: bool = False) -> list[int]:
     """The offsets at which the volumes in the data begin, in rising order."""
-    given, length = _given(data)
+    given, length = _given(data, in_place)
     status, buffer, count = _list(c.c_uint64, lambda *rest: _lib.fv_scan(given, length, *rest))
     _check(status, FaultPlace())
     return list(buffer[: count.value])
 
 
-def cells(data: Any) -> list[Cell]:
+def cells(data: Any, *, in_place: bool = False) -> list[Cell]:
     """The cells of the volume with which the data begin, in order."""
-    given, length = _given(data)
+    given, length = _given(data, in_place)
     place = FaultPlace()
     status, buffer, count = _list(Cell, lambda *rest: _lib.fv_cells(given, length, *rest, c.byref(place)))
     _check(status, place)
     return list(buffer[: count.value])
 
 
-def files(data: Any) -> list[File]:
+def files(data: Any, *, in_place: bool = False) -> list[File]:
     """The files of the volume that the data are, in order."""
-    given, length = _given(data)
+    given, length = _given(data, in_place)
     place = FaultPlace()
     status, buffer, count = _list(File, lambda *rest: _lib.fv_files(given, length, *rest, c.byref(place)))
     _check(status, place)
     return list(buffer[: count.value])
 
 
-def sections(data: Any, number: int) -> list[Section]:
+def sections(data: Any, number: int, *, in_place: bool = False) -> list[Section]:
     """The sections of a file of the volume that the data are, in preorder; none if its data are not sections. `number`
     is the place of the file in files(data). IndexError if there is no such file."""
-    given, length = _given(data)
+    given, length = _given(data, in_place)
     place, file = FaultPlace(), _number(number)
     status, buffer, count = _list(Section, lambda *rest: _lib.fv_sections(given, length, file, *rest, c.byref(place)))
     _check(status, place)
     return list(buffer[: count.value])
 
 
-def extract(data: Any, number: int, section: int | None = None) -> bytes:
+def extract(data: Any, number: int, section: int | None = None, *, in_place: bool = False) -> bytes:
     """The data of a file of the volume that the data are, or the body of one of its sections. The bytes are those of
     the canonical image. `number` is the place of the file in files(data), and `section` that of the section in
     sections(data, number). IndexError if there is no such file or section."""
-    given, length = _given(data)
+    given, length = _given(data, in_place)
     numbers = _number(number), WHOLE_FILE if section is None else _number(section)
-    place, part_len, buffer = FaultPlace(), c.c_uint64(), c.create_string_buffer(1 << 16)
+    place, part_len, part = FaultPlace(), c.c_uint64(), _new_bytes(1 << 16)
     while True:
-        status = _lib.fv_extract(given, length, *numbers, buffer, len(buffer), c.byref(part_len), c.byref(place))
+        status = _lib.fv_extract(given, length, *numbers, part, len(part), c.byref(part_len), c.byref(place))
         if status != BUFFER_TOO_SMALL:
             break
-        buffer = c.create_string_buffer(part_len.value)
+        part = _new_bytes(part_len.value)
     _check(status, place)
-    return buffer.raw[: part_len.value]
+    return part[: part_len.value]
 
 
-def hobs(data: Any) -> tuple[list[Hob], int]:
+def hobs(data: Any, *, in_place: bool = False) -> tuple[list[Hob], int]:
     """The blocks of the hand-off list with which the data begin, and how many bytes it has."""
-    given, length = _given(data)
+    given, length = _given(data, in_place)
     place, consumed = FaultPlace(), c.c_uint64()
     status, buffer, count = _list(
         Hob, lambda *rest: _lib.fv_hobs(given, length, *rest, c.byref(consumed), c.byref(place))
@@ -303,23 +334,21 @@ def hobs(data: Any) -> tuple[list[Hob], int]:
     return list(buffer[: count.value]), consumed.value
 
 
-def depex(data: Any, phase: int = DXE, guids: Iterable[uuid.UUID] = ()) -> bool | None:
+def depex(data: Any, phase: int = DXE, guids: Iterable[uuid.UUID] = (), *, in_place: bool = False) -> bool | None:
     """The truth value of a dependency expression of a phase (PEI or DXE) if these GUIDs are installed. None if it has
-    none: BEFORE and AFTER."""
-    given, length = _given(data)
+    none: BEFORE and AFTER. ValueError if the phase has more than 32 bits."""
+    given, length = _given(data, in_place)
     value, place, installed = c.c_uint32(), FaultPlace(), b"".join(it.bytes_le for it in guids)
-    _check(
-        _lib.fv_depex(given, length, phase, installed, len(installed) // 16, c.byref(value), c.byref(place)),
-        place,
-        memory=6,
-    )
+    guid_count, found = len(installed) // 16, (c.byref(value), c.byref(place))
+    status = _lib.fv_depex(given, length, _of_32_bits(phase), installed, guid_count, *found)
+    _check(status, place, memory=6)
     return {0: False, 1: True, 2: None}[value.value]
 
 
-def compare(a: Any, b: Any) -> str:
+def compare(a: Any, b: Any, *, in_place: bool = False) -> str:
     """Returns "same" if two volumes have the same meaning, else "different at", the steps down to the first difference,
     and its kind. The side of a Fault is the volume that was rejected."""
-    (first, first_length), (second, second_length) = _given(a), _given(b)
+    (first, first_length), (second, second_length) = _given(a, in_place), _given(b, in_place)
     found, buffer = Comparison(), c.create_string_buffer(553)
     status = _lib.fv_compare(first, first_length, second, second_length, buffer, 553, c.byref(found))
     _check(status, found.fault, found.side)

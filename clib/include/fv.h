@@ -8,7 +8,8 @@
  * Rules for the caller
  *   1. No pointer is NULL, not even if the length after it is 0. Then pass the address of any byte.
  *   2. A buffer or a result (what is not const) overlaps no other argument of the same call.
- *   3. While a call runs, no other thread writes to an argument, and none reads a buffer or a result.
+ *   3. While a call runs, nothing else writes to an argument: no other thread, no process that has the same memory
+ *      mapped, no device. No other thread reads a buffer or a result.
  *   4. No call is made in a signal handler.
  * The library keeps no state. Any number of threads may call it at once, also with the same input.
  *
@@ -16,7 +17,11 @@
  * them. 24 is out of memory. 27 is a buffer that is too small. 28 says that there is no file or section of
  * the number that was passed. Calls for dependency expressions and hand-off lists have numbers of their
  * own. After any result except 0 the buffer is as it was. All lengths and offsets are in bytes. A volume has
- * at most 268,435,456 bytes, and so has an image for fv_normalise_image. */
+ * at most 268,435,456 bytes, and so has an image for fv_normalise_image.
+ *
+ * Memory, beside the arguments, for inputs of nothing but tiny parts, as measured: fv_sections takes up to 19
+ * times the input, fv_files 15, fv_compare 13 times both, every other call up to 14. A call takes at most
+ * 15.5 KiB of stack. */
 #ifndef FV_H
 #define FV_H
 
@@ -182,7 +187,7 @@ typedef struct fv_file {
     uint64_t data_len;    /* the number of bytes of its data */
     uint64_t sections;    /* the number of its sections, those in groups included; 0 if its data are not sections */
     uint32_t kind;        /* Type */
-    uint32_t attributes;  /* Attributes */
+    uint32_t attributes;  /* Attributes as stored: a file with a large header has bit 0x01, FFS_ATTRIB_LARGE_FILE */
     uint8_t name[16];     /* Name, by its bytes in the volume */
 } fv_file;
 FV_ASSERT(sizeof(fv_file) == 48 && offsetof(fv_file, data_len) == 8 && offsetof(fv_file, sections) == 16 &&

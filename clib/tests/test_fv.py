@@ -1,8 +1,14 @@
 #!/usr/bin/env python3
 """test_fv.py FILE..: the calls of fv.py over files, each held against the others and against hashlib."""
 
+import concurrent.futures
+import copy
 import hashlib
+import multiprocessing
+import pickle
 import sys
+import threading
+import time
 import uuid
 from pathlib import Path
 
@@ -17,7 +23,112 @@ def outcome(call, *arguments):
         return str(fault)
 
 
+def fields(fault):
+    return str(fault), fault.number, fault.offset, fault.depth, fault.side, fault.text
+
+
+def raised(call, *arguments, **named):
+    """The exception that a call raises."""
+    try:
+        call(*arguments, **named)
+    except Exception as error:
+        return error
+    return None
+
+
+def faults_are_sent(volume):
+    """A fault is the same after it was copied, pickled, or sent from another process."""
+    bad = b"bad"
+    faults = [raised(fv.normalise, bad), raised(fv.compare, volume, bad)]
+    faults += [raised(fv.depex, b"\x09"), raised(fv.hobs, bad)]
+    assert all(isinstance(it, fv.Fault) for it in faults), faults
+    assert [it.side for it in faults] == [0, 2, 0, 0]
+    assert [it.text is None for it in faults] == [False, False, True, True]
+    for fault in faults:
+        fault.note = "kept"
+        for again in (copy.copy(fault), copy.deepcopy(fault), pickle.loads(pickle.dumps(fault))):
+            assert isinstance(again, fv.Fault) and fields(again) == fields(fault) and again.note == "kept"
+    with multiprocessing.Pool(2) as pool:
+        told = raised(pool.map_async(fv.normalise, [volume, bad, volume]).get, 60)
+        assert isinstance(told, fv.Fault) and fields(told) == fields(faults[0]), told
+        assert pool.map_async(fv.normalise, [volume]).get(60) == [fv.normalise(volume)]
+    with concurrent.futures.ProcessPoolExecutor(2) as pool:
+        found = [pool.submit(fv.normalise, it) for it in (volume, bad, volume)]
+        assert fields(found[1].exception(60)) == fields(faults[0])
+        assert found[0].result(60) == found[2].result(60) == fv.normalise(volume)
+
+
+def numbers_are_not_cut(volume):
+    """A number of more than 32 bits is no other number."""
+    for wrong in (2**32, 2**32 + 1, -1):
+        assert isinstance(raised(fv.fault_text, wrong), ValueError), wrong
+        assert isinstance(raised(fv.depex, b"\x06\x08", wrong), ValueError), wrong
+    for wrong in (2**64, 2**64 - 1, -1):
+        assert isinstance(raised(fv.sections, volume, wrong), IndexError), wrong
+    assert fv.depex(b"\x06\x08", 2**32 - 1) is True
+
+
+def buffers_are_read(volume):
+    """Each kind of buffer is read, and a buffer that is read in place as it is."""
+    image = fv.normalise(volume)
+    for kind in (bytes, bytearray, memoryview, lambda it: memoryview(bytearray(it))):
+        for in_place in (False, True):
+            data = kind(volume)
+            assert fv.normalise(data, in_place=in_place) == image and data == volume
+            assert fv.compare(data, image, in_place=in_place) == "same"
+            assert fv.scan(data, in_place=in_place) == [0]
+            assert len(fv.files(data, in_place=in_place)) == len(fv.files(volume))
+
+
+def buffers_may_change(seconds):
+    """A buffer to which another thread writes during a call is no danger."""
+    sizes, ends = b"\x08\x00\x00\x19abcd", threading.Event()
+    data = bytearray(volume_of(sizes * 100_000))
+    at = data.index(sizes)
+
+    def write():
+        place = at
+        while not ends.is_set():
+            data[place : place + 3] = b"\xff\xff\xff"
+            data[place : place + 3] = b"\x08\x00\x00"
+            place = at + (place - at + 8 * 7919) % (8 * 100_000)
+
+    writer = threading.Thread(target=write)
+    writer.start()
+    begin, calls = time.monotonic(), 0
+    while time.monotonic() - begin < seconds:
+        for call in (fv.normalise, fv.digest, fv.is_canonical):
+            outcome(call, data)
+        for call in (fv.sections, fv.extract):
+            outcome(call, data, 0)
+        calls += 5
+    ends.set()
+    writer.join()
+    return calls
+
+
+def volume_of(stream):
+    """A volume with one file of sections."""
+    head = bytes.fromhex("0000000000000000000000000000000078e58c8c3d8a1c4f9935896185c32dd3")
+    size = 24 + len(stream)
+    file = bytearray(b"\x0a" * 16 + b"\x00\xaa\x02\x00" + size.to_bytes(3, "little") + b"\x00") + stream
+    file[16] = -sum(file[:16] + file[18:23]) % 256
+    file[23] = 0xF8
+    length = (72 + size + 7) // 8 * 8
+    volume = bytearray(head + length.to_bytes(8, "little") + b"_FVH")
+    volume += bytes.fromhex("fffe0400480000000000000201000000") + length.to_bytes(4, "little") + bytes(8)
+    total = sum(int.from_bytes(volume[it : it + 2], "little") for it in range(0, 72, 2))
+    volume[50:52] = (-total % 65536).to_bytes(2, "little")
+    return bytes(volume + file).ljust(length, b"\xff")
+
+
 def main(paths):
+    volume = volume_of(b"\x05\x00\x00\x19z")
+    assert fv.is_canonical(volume) and len(fv.sections(volume, 0)) == 1
+    faults_are_sent(volume)
+    numbers_are_not_cut(volume)
+    buffers_are_read(volume)
+    calls = buffers_may_change(2)
     images = 0
     for path in paths:
         data = Path(path).read_bytes()
@@ -53,7 +164,8 @@ def main(paths):
     rows = [line.strip("| ").split(" | ") for line in page.splitlines() if line.startswith("| ")][1:]
     assert [int(row[0]) for row in rows] == list(range(1, 27)), rows
     assert all(fv.fault_text(int(row[0])) == row[1] for row in rows), rows
-    print(f"Python: {len(paths)} files, {images} of them have an image")
+    print(f"Python: {len(paths)} files, {images} of them have an image; {calls} calls over a buffer that changes")
 
 
-main(sys.argv[1:])
+if __name__ == "__main__":
+    main(sys.argv[1:])

@@ -2,27 +2,34 @@
 """fv-check-lib.py [--jobs N] LIST ANSWERS: what fv-check-some writes of each image of LIST, by libfv in one process.
 
 The answers are added to the file ANSWERS, in the order of the list. Images that have an answer there already are passed
-over: a run that was ended in the middle is started again in the same way. LIBFV names the shared object, PYTHONPATH the
-folder of fv.py. If memory runs out, the program ends with 1, and the answers so far are in the file."""
+over: a run that was ended in the middle is started again in the same way. If memory runs out for an image while others
+are checked beside it, it is checked again alone. If it runs out then too, `0 fault 24 at 0` is its answer. LIBFV names
+the shared object, PYTHONPATH the folder of fv.py."""
 
 from __future__ import annotations
 
-import argparse
 import os
 import sys
 from collections.abc import Iterator
-from concurrent.futures import ThreadPoolExecutor
+from concurrent.futures import ThreadPoolExecutor, wait
 from itertools import islice
+from pathlib import Path
 
 import fv
 from answers import Bar, answered, names_in, open_answers, shown
 
+sys.dont_write_bytecode = True
+sys.path.insert(0, str(Path(__file__).resolve().parent.parent))
+
+import fvlines  # noqa: E402
+
 LONGEST = 268435456  # bytes of an image; fvtool refuses a longer one as fault 8 at this place
 CHUNK = 200  # images that are given to the threads at a time, and whose answers are then written
+MOST_VOLUMES = 1000  # of an image that are checked
 
 
 def read(name: bytes) -> bytearray:
-    """The bytes of an image: a bytearray, since libfv takes slices of one without a copy. Of an image that is too long,
+    """The bytes of an image: a bytearray, so that libfv can read slices of it in place. Of an image that is too long,
     one byte more than the longest has."""
     with open(name, "rb", buffering=0) as file:
         data = bytearray(min(os.fstat(file.fileno()).st_size, LONGEST + 1))
@@ -33,16 +40,16 @@ def read(name: bytes) -> bytearray:
 def verdict(data: memoryview) -> tuple[int, str]:
     """What `fvtool check` says of a volume, and its status."""
     try:
-        return (0, "canonical") if fv.is_canonical(data) else (1, "not canonical")
+        return (0, "canonical") if fv.is_canonical(data, in_place=True) else (1, "not canonical")
     except fv.Fault as fault:
         return 2, str(fault)
 
 
 def volumes(data: memoryview) -> Iterator[tuple[int, memoryview]]:
     """The volumes of an image and where they begin; all bytes if there is none."""
-    places = fv.scan(data)
+    places = fv.scan(data, in_place=True)
     for at in places:
-        yield at, data[at : at + fv.verify(data[at:]).length]
+        yield at, data[at : at + fv.verify(data[at:], in_place=True).length]
     if not places:
         yield 0, data
 
@@ -57,15 +64,43 @@ def answer(name: bytes) -> bytes:
         if len(data) > LONGEST:
             found = [(2, f"0 fault 8 at {LONGEST}")]
         else:
-            said = [(at, *verdict(volume)) for at, volume in volumes(memoryview(data))]
-            found = [(status, f"{at} {text}") for at, status, text in said]
-    status = max(status for status, _ in found)
-    return b"%d\t%s\t%s\n" % (status, ", ".join(text for _, text in found).encode(), shown(name))
+            found = []
+            for at, volume in volumes(memoryview(data)):
+                if len(found) == MOST_VOLUMES:
+                    found.append((2, f"{at} not checked: more than {MOST_VOLUMES} volumes"))
+                    break
+                status, text = verdict(volume)
+                found.append((status, f"{at} {text}"))
+    return line(max(status for status, _ in found), ", ".join(text for _, text in found), name)
+
+
+def line(status: int, verdicts: str, name: bytes) -> bytes:
+    """The line of an answer."""
+    return b"%d\t%s\t%s\n" % (status, verdicts.encode(), shown(name))
+
+
+def answer_alone(name: bytes) -> bytes:
+    """The line of an image for which memory ran out while others were checked beside it."""
+    try:
+        return answer(name)
+    except MemoryError:
+        return line(2, "0 fault 24 at 0", name)
+
+
+def answers(pool: ThreadPoolExecutor, names: list[bytes]) -> bytes:
+    """The lines of some images."""
+    runs = [pool.submit(answer, name) for name in names]
+    wait(runs)
+    failed = [isinstance(run.exception(), MemoryError) for run in runs]
+    return b"".join(
+        answer_alone(name) if is_failed else run.result()
+        for name, run, is_failed in zip(names, runs, failed, strict=True)
+    )
 
 
 def main() -> int:
     """Answers what has no answer yet."""
-    words = argparse.ArgumentParser(description="Checks the images of a list in one process.")
+    words = fvlines.Arguments(description="Checks the images of a list in one process.")
     words.add_argument("list", help="the names of the images, one a line")
     words.add_argument("answers", help="the file to which the answers are added")
     words.add_argument(
@@ -76,13 +111,9 @@ def main() -> int:
         before = answered(file)
         names = iter([name for name in names_in(given.list) if shown(name) not in before])
         bar = Bar(len(names_in(given.list)) - len(before))
-        try:
-            while chunk := list(islice(names, CHUNK)):
-                file.write(b"".join(pool.map(answer, chunk)))
-                bar.add(len(chunk))
-        except MemoryError:
-            print("fv-check-lib: out of memory", file=sys.stderr)
-            return 1
+        while chunk := list(islice(names, CHUNK)):
+            file.write(answers(pool, chunk))
+            bar.add(len(chunk))
         bar.end()
     return 0
 
