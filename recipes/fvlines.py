@@ -5,19 +5,34 @@ repository."""
 
 from __future__ import annotations
 
+import argparse
 import dataclasses
+import io
 import os
 import re
 import shutil
 import signal
 import subprocess
 import sys
+from collections.abc import Sequence
 from pathlib import Path
 from typing import NoReturn
 
 
 class Refused(Exception):
     """The program refused an input. The text is its line, and may be empty if a write failed."""
+
+
+class Arguments(argparse.ArgumentParser):
+    """The arguments of a recipe. Wrong ones are a line of usage and status 3, as in all recipes."""
+
+    def error(self, message: str) -> NoReturn:
+        usage = " ".join(self.format_usage().split())
+        self.exit(3, f"{usage}\n{self.prog}: {printable(message)}\n")
+
+
+class TooLong(Exception):
+    """The program writes more than is wanted."""
 
 
 @dataclasses.dataclass(frozen=True)
@@ -62,9 +77,19 @@ class File:
         return next((it.text for it in self.sections if it.text is not None), None)
 
 
-def end_with_reader() -> None:
-    """Lets a recipe end without a word if what reads its output has ended, as other tools do."""
+def prepare_output() -> None:
+    """Lets a recipe end silently if what reads its output has ended, as other tools do. A character that the encoding of
+    the output does not have is written as its number."""
     signal.signal(signal.SIGPIPE, signal.SIG_DFL)
+    for stream in (sys.stdout, sys.stderr):
+        if isinstance(stream, io.TextIOWrapper):
+            stream.reconfigure(errors="backslashreplace")
+
+
+def printable(text: str) -> str:
+    """A text in which every character is seen. All others are written as their numbers: a line feed, an escape
+    sequence, a character that turns the direction of a line, a byte of a name that is no UTF-8."""
+    return "".join(it if it.isprintable() else f"\\u{ord(it):04x}" for it in text)
 
 
 def program() -> str:
@@ -75,25 +100,31 @@ def program() -> str:
 
 def stop(what: str) -> NoReturn:
     """Ends the recipe with status 4: the program, or a file that the recipe itself reads or writes, cannot be used."""
-    print(f"{os.path.basename(sys.argv[0])}: {what}", file=sys.stderr)
+    print(f"{os.path.basename(sys.argv[0])}: {printable(what)}", file=sys.stderr)
     sys.exit(4)
 
 
-def run(*arguments: str | Path) -> tuple[int, bytes]:
-    """The status of a run, and what it wrote. Its standard input is empty."""
-    words = [program(), *map(str, arguments)]
+def run(command: Sequence[str], *files: str | Path, most: int | None = None) -> tuple[int, bytes]:
+    """The status of a run of a command over files, and what it wrote. Its standard input is empty. A file whose name
+    begins with a hyphen is no option. Raises TooLong if it writes more than `most` bytes."""
+    words = [program(), *command, "--", *map(str, files)]
     try:
-        done = subprocess.run(words, stdin=subprocess.DEVNULL, stdout=subprocess.PIPE, check=False)
+        with subprocess.Popen(words, stdin=subprocess.DEVNULL, stdout=subprocess.PIPE) as child:
+            assert child.stdout
+            written = child.stdout.read(-1 if most is None else most + 1)
+            if most is not None and len(written) > most:
+                child.kill()
+                raise TooLong
     except OSError as error:
         stop(str(error))
-    if done.returncode not in (0, 1, 2):
-        stop(f"{' '.join(words)}: status {done.returncode}")
-    return done.returncode, done.stdout
+    if child.returncode not in (0, 1, 2):
+        stop(f"{' '.join(words)}: status {child.returncode}")
+    return child.returncode, written
 
 
-def output(*arguments: str | Path) -> bytes:
-    """What a run wrote that is not refused."""
-    status, written = run(*arguments)
+def output(command: Sequence[str], *files: str | Path, most: int | None = None) -> bytes:
+    """What a run wrote that is not refused. Raises TooLong if it writes more than `most` bytes."""
+    status, written = run(command, *files, most=most)
     if status == 2:
         raise Refused(written[:80].decode("ascii", "replace").strip())
     return written
@@ -101,13 +132,13 @@ def output(*arguments: str | Path) -> bytes:
 
 def scan(image: str | Path) -> list[Place]:
     """The volumes of an image."""
-    lines = output("scan", image).decode("ascii").splitlines()
+    lines = output(["scan"], image).decode("ascii").splitlines()
     return [Place(int(line.split()[2]), int(line.split()[4])) for line in lines]
 
 
-def list_text(image: str | Path, offset: int, sums: bool = False) -> str:
-    """The lines of `list` of the volume that begins at an offset."""
-    return output("list", *(["--sums"] if sums else []), "--at", str(offset), image).decode("ascii")
+def list_text(image: str | Path, offset: int, sums: bool = False, most: int | None = None) -> str:
+    """The lines of `list` of the volume that begins at an offset. Raises TooLong if they have more than `most` bytes."""
+    return output(["list", *(["--sums"] if sums else []), "--at", str(offset)], image, most=most).decode("ascii")
 
 
 def files_of(text: str) -> list[File]:

@@ -24,15 +24,22 @@ class Closed(Exception):
     """A section is not opened; the text says why."""
 
 
-def from_lzma(data: bytes) -> bytes:
-    """What LZMA data hold, up to the most that fvtool reads."""
+class Full(Exception):
+    """What is left to open of an image is more than was allowed; the text says more than what."""
+
+
+def from_lzma(data: bytes, left: int | None) -> bytes:
+    """What LZMA data hold, up to the most that fvtool reads. Raises Full if that is more than `left` bytes."""
+    most = MOST_BYTES if left is None else min(left, MOST_BYTES)
     try:
         decoder = lzma.LZMADecompressor(lzma.FORMAT_ALONE, MOST_MEMORY)
-        opened = decoder.decompress(data, MOST_BYTES + 1)
+        opened = decoder.decompress(data, most + 1)
     except lzma.LZMAError as error:
         raise Closed(f"LZMA: {error}") from error
     if len(opened) > MOST_BYTES:
         raise Closed(f"LZMA: more than {MOST_BYTES} bytes")
+    if len(opened) > most:
+        raise Full
     if not decoder.eof:
         raise Closed("LZMA: the data are cut short")
     return opened
@@ -46,8 +53,9 @@ def without_x86_filter(data: bytes) -> bytes:
     return lzma.decompress(packed, lzma.FORMAT_RAW, filters=chain)
 
 
-def opened(kind: int, header: int, body: bytes) -> tuple[str, bytes]:
-    """How a section is opened, and what it holds. `header` is the length of the header that the body does not have."""
+def opened(kind: int, header: int, body: bytes, left: int | None = None) -> tuple[str, bytes]:
+    """How a section is opened, and what it holds. `header` is the length of the header that the body does not have.
+    Raises Full if it unpacks to more than `left` bytes."""
     if kind == COMPRESSION:
         if body[4:5] != b"\0":
             raise Closed("compression of the PI specification")
@@ -60,9 +68,9 @@ def opened(kind: int, header: int, body: bytes) -> tuple[str, bytes]:
         raise Closed(f"DataOffset {data_offset}")
     data = body[data_offset - header :]
     if name == LZMA:
-        return "LZMA", from_lzma(data)
+        return "LZMA", from_lzma(data, left)
     if name == LZMA_X86:
-        return "LZMA of x86 code", without_x86_filter(from_lzma(data))
+        return "LZMA of x86 code", without_x86_filter(from_lzma(data, left))
     if name == CRC32:
         return "CRC32", data
     raise Closed(f"{OTHERS.get(name, 'unknown GUID')} {name}")

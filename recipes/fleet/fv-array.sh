@@ -5,6 +5,10 @@
 #SBATCH --requeue
 #SBATCH --job-name=fvcheck
 set -euo pipefail
+if (($# != 3)); then
+    echo 'usage: fv-array.sh LIST FOLDER SIZE' >&2
+    exit 3
+fi
 list=$1 folder=$2 size=$3 task=$SLURM_ARRAY_TASK_ID
 file=$folder/$task.tsv
 part=$file.part.${SLURMD_NODENAME:-}.$$

@@ -8,12 +8,17 @@ have an answer there already are passed over: a run that was ended in the middle
 
 from __future__ import annotations
 
-import argparse
 import subprocess
 import sys
+from pathlib import Path
 
 from answers import Bar, answered, names_in, open_answers, shown
 from distributed import Client, as_completed
+
+sys.dont_write_bytecode = True
+sys.path.insert(0, str(Path(__file__).resolve().parent.parent))
+
+import fvlines  # noqa: E402
 
 
 def check(names: list[bytes]) -> bytes:
@@ -25,7 +30,7 @@ def check(names: list[bytes]) -> bytes:
 
 def main() -> int:
     """Answers what has no answer yet."""
-    words = argparse.ArgumentParser(description="Checks the images of a list on a dask cluster.")
+    words = fvlines.Arguments(description="Checks the images of a list on a dask cluster.")
     words.add_argument("scheduler", help="its address, as tcp://HOST:8786")
     words.add_argument("list", help="the names of the images, one a line")
     words.add_argument("answers", help="the file to which the answers are added")

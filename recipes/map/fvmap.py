@@ -24,10 +24,19 @@ import tempfile
 import uuid
 from collections.abc import Iterator
 from dataclasses import dataclass, field
+from pathlib import Path
+
+sys.dont_write_bytecode = True
+sys.path.insert(0, str(Path(__file__).resolve().parent.parent))
+
+import fvlines  # noqa: E402
+from fvlines import printable  # noqa: E402
 
 DEEPEST = 6  # how deep images inside files are opened
 MOST_OPENED = 1 << 28  # bytes that are unpacked for one page
 MOST_SECTIONS = 1000  # sections that are opened for one page
+MOST_VOLUMES = 250  # volumes that are drawn on one page
+MOST_TEXT = 1 << 24  # bytes of the lines of one volume
 MOST_DRAWN = 1000  # files of a volume that are drawn as areas
 MOST_ROWS = 5000  # rows of a table
 MOST_MEMORY = 1 << 29  # bytes that LZMA may take
@@ -199,7 +208,8 @@ class Tool:
     """The program, and a folder for what it is asked about."""
 
     def __init__(self, program: str, room: str) -> None:
-        self.program, self.room, self.count, self.opened, self.sections = program, room, 0, 0, 0
+        self.program, self.room, self.count, self.opened, self.sections, self.volumes = program, room, 0, 0, 0, 0
+        self.is_cut = False  # whether the image has more than is drawn
 
     def keep(self, data: bytes) -> str:
         """A file with these bytes."""
@@ -211,18 +221,30 @@ class Tool:
 
     def ask(self, command: str, path: str, *options: str) -> tuple[int, bytes]:
         """The status of a command and what it writes."""
+        return self.run(command, path, options, -1)
+
+    def run(self, command: str, path: str, options: tuple[str, ...], most: int) -> tuple[int, bytes]:
+        """The same, and if it writes more than `most` bytes, one byte more than these. All of them if `most` is -1."""
         words = [self.program, command, *options, "--", path]
         try:
-            ran = subprocess.run(words, stdin=subprocess.DEVNULL, stdout=subprocess.PIPE, check=False)
+            with subprocess.Popen(words, stdin=subprocess.DEVNULL, stdout=subprocess.PIPE) as child:
+                assert child.stdout
+                said = child.stdout.read(most + 1 if most >= 0 else -1)
+                if 0 <= most < len(said):
+                    child.kill()
+                    return 0, said
         except OSError as error:
             raise Failed(f"{self.program}: {error.strerror}") from error
-        if ran.returncode not in (0, 1, 2) or ran.stdout.startswith((b"fault 24 ", b"fault 25 ")):
-            raise Failed(f"{command}: status {ran.returncode} {ran.stdout[:60].decode(errors='replace').strip()}")
-        return ran.returncode, ran.stdout
+        if child.returncode not in (0, 1, 2) or said.startswith((b"fault 24 ", b"fault 25 ")):
+            raise Failed(f"{command}: status {child.returncode} {said[:60].decode(errors='replace').strip()}")
+        return child.returncode, said
 
     def text(self, command: str, path: str, *options: str) -> tuple[int, str]:
-        """The status of a command and the text that it writes."""
-        status, said = self.ask(command, path, *options)
+        """The status of a command and the text that it writes. Of a long text the first lines."""
+        status, said = self.run(command, path, options, MOST_TEXT)
+        if len(said) > MOST_TEXT:
+            self.is_cut = True
+            said = said[: said.rfind(b"\n") + 1]
         return status, said.decode("ascii").rstrip("\n")
 
 
@@ -233,7 +255,10 @@ def volumes_in(tool: Tool, data: bytes, depth: int = 0) -> list[Volume]:
     if status:
         raise Failed(f"scan: {said}")
     places = [line.split() for line in said.splitlines()]
-    volumes = [Volume(int(words[2]), int(words[4]), number) for number, words in enumerate(places)]
+    left = max(MOST_VOLUMES - tool.volumes, 0)
+    tool.is_cut = tool.is_cut or len(places) > left
+    volumes = [Volume(int(words[2]), int(words[4]), number) for number, words in enumerate(places[:left])]
+    tool.volumes += len(volumes)
     for volume in volumes:
         read_volume(tool, path, volume, depth)
     return volumes
@@ -427,11 +452,6 @@ class Names:
     def volume(self, volume: Volume) -> str:
         """The name of a volume, or its number in what contains it."""
         return printable(self.known.get(volume.guid, volume.guid) or f"volume {volume.number}")
-
-
-def printable(text: str) -> str:
-    """A text whose characters are all seen: others, such as those that turn the direction of a line, are numbers."""
-    return "".join(it if it.isprintable() else f"\\u{ord(it):04x}" for it in text)
 
 
 def amount(count: int) -> str:
@@ -789,13 +809,16 @@ def make_page(given: argparse.Namespace) -> str:
     with open(given.image, "rb") as file:
         data = file.read()
     with tempfile.TemporaryDirectory(prefix="fvmap-") as room:
-        volumes = volumes_in(Tool(given.fvtool, room), data)
+        tool, other = Tool(given.fvtool, room), Tool(given.fvtool, room)
+        volumes = volumes_in(tool, data)
         found = None
         if given.against:
             with open(given.against, "rb") as file:
-                found = changes(names, volumes_in(Tool(given.fvtool, room), file.read()), volumes)
+                found = changes(names, volumes_in(other, file.read()), volumes)
     page = Page(names)
     page.head(given.image, data, volumes)
+    if tool.is_cut or other.is_cut:
+        page.add(f"<p>Not all is shown: there are more than {MOST_VOLUMES} volumes, or one has too many sections.</p>")
     place = len(page.lines)
     page.flash(volumes, len(data))
     if found is not None:
@@ -808,21 +831,21 @@ def make_page(given: argparse.Namespace) -> str:
 
 def main() -> int:
     """Writes the page to standard output."""
-    words = argparse.ArgumentParser(description="Draws a flash image or a firmware volume as one HTML page.")
+    words = fvlines.Arguments(description="Draws a flash image or a firmware volume as one HTML page.")
     words.add_argument("image", help="the image")
     words.add_argument("--against", metavar="OTHER", help="an image to compare with: what came, went and changed since")
     words.add_argument(
         "--names", metavar="FILE", action="append", default=[], help="more names: lines of a GUID and a name"
     )
     words.add_argument(
-        "--fvtool", default=os.environ.get("FVTOOL", "fvtool"), help="the program; FVTOOL, or fvtool in the PATH"
+        "--fvtool", default=fvlines.program(), help="the program; else FVTOOL, fvtool in the PATH, or the script here"
     )
     given = words.parse_args()
     given.guids = os.path.join(os.path.dirname(os.path.realpath(__file__)), "guids.txt")
     try:
         page = make_page(given)
     except (Failed, OSError) as error:
-        print(f"fvmap: {error}", file=sys.stderr)
+        print(f"fvmap: {printable(str(error))}", file=sys.stderr)
         return 1
     sys.stdout.buffer.write(page.encode("utf-8"))
     sys.stdout.buffer.write(b"\n")
