@@ -6,16 +6,23 @@ import sys
 
 import fv
 
-with open(sys.argv[1], "rb") as file:
-    image = file.read()
-for at in fv.scan(image):
-    volume = memoryview(image)[at : at + fv.verify(memoryview(image)[at:]).length]
+if len(sys.argv) != 2:
+    sys.exit(print("usage: volumes IMAGE", file=sys.stderr) or 2)
+try:
+    with open(sys.argv[1], "rb") as file:
+        image = bytearray(file.read())
+except OSError:
+    sys.exit(print(f"volumes: cannot read {sys.argv[1]}", file=sys.stderr) or 2)
+# Nothing writes to the image while a call runs, so no slice of it needs to be copied: in_place=True.
+view = memoryview(image)
+for at in fv.scan(view, in_place=True):
+    volume = view[at : at + fv.verify(view[at:], in_place=True).length]
     try:
-        files = fv.files(volume)
+        files = fv.files(volume, in_place=True)
         print(f"volume at {at}: {len(files)} files, {sum(file.data_len for file in files)} bytes of data")
     except fv.Fault as fault:
         print(f"volume at {at}: {fault.text}")
 try:
-    print("canonical" if fv.normalise_image(image) == image else "not canonical")
+    print("canonical" if fv.normalise_image(image, in_place=True) == image else "not canonical")
 except fv.Fault as fault:
     print(fault.text)
