@@ -1,13 +1,13 @@
 -- What the reader of command lines says of the words of a command: the rows that it makes of them, and that it finds no fault in
 -- them (read). A text is read of these rows (text_answer).
-use Rattle.std.proofs.Common.{◌≡◌, ◌≢◌, ◌∙◌, Bool, List, [], ap, codes, cond, drop, false, refl, sym, true, subst}
+use Rattle.std.proofs.lemmas.Grind.{common_steps}
+use Rattle.std.proofs.Common.{◌≡◌, ◌≢◌, ◌∙◌, Bool, List, [], ap, codes, cond, drop, false, refl, sym, true, subst, arith}
 use Rattle.std.specs.Str.{bytes_eq}
 use Rattle.clap.proofs.WalkLemmas.{both, first_value-rows}
 use Rattle.clap.specs.Built.{IsParsedFrom}
-use Rattle.clap.specs.Faults.{built_fault}
 use Rattle.clap.specs.Matches.{first_value, found_of}
 use Rattle.clap.specs.Simple.{app_of, built, names_of}
-use Rattle.clap.specs.Walk.{Text, first_of, nothing_held, rows_after}
+use Rattle.clap.specs.Walk.{Text, first_of, rows_after}
 use Rattle.clap.specs.Words.{App, HasMatchesOf, fault_of, is_simple_and_free}
 use Rattle.clap.specs.declared.builder.command.Command.{Command as Rules}
 use Rattle.clap.specs.declared.parser.matches.ArgMatches.{ArgMatches}
@@ -19,8 +19,7 @@ use Rattle.fv_arguments.specs.inner.CommandWords.{IsRead, app_named}
 -- a name that is no other's has the options of a volume
 pub no_other : (name : Text) → name ≢ codes "normalise" → name ≢ codes "hobs" → name ≢ codes "extract" → name ≢ codes "compare"
     → name ≢ codes "list" → name ≢ codes "scan" → app_named name ≡ volume_app
-no_other name normalise hobs extract compare list scan =
-    rw (differ _ _ normalise, differ _ _ hobs, differ _ _ extract, differ _ _ compare, differ _ _ list, differ _ _ scan) refl
+no_other name normalise hobs extract compare list scan = grind (arith, common_steps, differ)
 
 -- what holds of the options of each command
 pub each_app : (P : App → Type 0) → P normalise_app → P hobs_app → P extract_app → P compare_app → P list_app → P one_input_app
@@ -54,8 +53,7 @@ program_first name = each_app (λ a. a.top.no_binary_name ≡ false) refl refl r
 
 -- its faults are those in the words after the first
 pub faults_read : (name : Text) (words : List Text) → fault_of (app_named name) words ≡ faults_in (app_named name) (drop 1 words)
-faults_read name words =
-    ap (λ b. built_fault (built (app_named name)) nothing_held (cond b words (drop 1 words))) (program_first name)
+faults_read name words = grind (arith, common_steps, program_first)
 
 -- so the words were read
 pub read : {m : ArgMatches} (words : List Text) (name : Text) (rules : Rules) → app_of rules ≡ app_named name

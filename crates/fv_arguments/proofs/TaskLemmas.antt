@@ -1,5 +1,6 @@
 -- Commands, and the arguments that ask for them.
-use Rattle.std.proofs.Common.{◌≡◌, ◌∙◌, ℕ, Bool, true, false, List, Option, Result, Ok, Err, ap, subst, sym}
+use Rattle.std.proofs.lemmas.Grind.{common_steps}
+use Rattle.std.proofs.Common.{◌≡◌, ◌∙◌, ℕ, Bool, true, false, List, Option, Result, Ok, Err, ap, subst, sym, arith}
 use Rattle.std.proofs.lemmas.Bool.{cond_both}
 use Rattle.std.specs.Global.{Global}
 use Rattle.std.specs.Prelude.{IsErrAnd, String, if◌then◌else◌}
@@ -27,8 +28,7 @@ IsAsked name rest at file task = (name ≡ task_name task) × HasTaskTexts rest 
 pub by_flag : (name : List ℕ) (rest : List (List ℕ)) (at : Option ℕ) (file : Option (String Global)) (given : Bool)
     (one other task : Task) → task ≡ (if given then one else other) → (given ≡ true → IsAsked name rest at file one)
     → (given ≡ false → IsAsked name rest at file other) → IsAsked name rest at file task
-by_flag name rest at file given one other task is on off =
-    subst (IsAsked name rest at file) (sym is) (cond_both given one other (IsAsked name rest at file) on off)
+by_flag name rest at file given one other task is on off = grind (arith, common_steps, cond_both)
 
 -- a fault that is passed on
 pub handed : (name : List ℕ) (m : ArgMatches) (r : Result Command WordFault) (f : WordFault) → IsErrAnd r (λ g. g ≡ f)

@@ -1,4 +1,5 @@
 -- Bytes that are all one byte.
+use Rattle.std.proofs.lemmas.Grind.{common_steps}
 use Rattle.std.proofs.Common.{◌≡◌, ℕ, zero, suc, ◌+◌, ◌%◌, ◌<◌, List, [], ◌∷◌, ◌++◌, length, take, drop, get_or, bit_or, refl, sym, ap, ◌∙◌}
 use Rattle.std.proofs.Common.{subst, arith}
 use Rattle.std.proofs.lemmas.List.{take-append-drop}
@@ -81,12 +82,7 @@ all-all_are byte (x ∷ xs) h = and_join (x == byte) (list_all (λ y. y == byte)
 
 -- a test that says the same
 pub same_test : (t : Bool) (byte : ℕ) (xs : List ℕ) → ((t ≡ true) ↔ AllAre byte xs) → t ≡ all_are byte xs
-same_test t byte xs says = go t (all_are byte xs) refl says where
-  go : (p q : Bool) → all_are byte xs ≡ q → ((p ≡ true) ↔ AllAre byte xs) → p ≡ q
-  go true true is says = refl
-  go true false is says = sym (all-all_are byte xs (says.0 refl)) ∙ is
-  go false true is says = says.1 (all_are-true byte xs is)
-  go false false is says = refl
+same_test t byte xs says = grind (arith, common_steps, all-all_are, all_are-true)
 
 -- bytes that are all one byte are so many of it
 pub all-replicate : (byte : ℕ) (xs : List ℕ) → AllAre byte xs → xs ≡ replicate (length xs) byte
@@ -100,19 +96,13 @@ all-of_replicate byte (suc n) = (refl, all-of_replicate byte n)
 -- a piece and what is after it
 pub all_pieces : (byte : ℕ) (whole piece behind rest : List ℕ) → rest ≡ piece ++ behind → (AllAre byte rest ↔ AllAre byte whole)
     → AllAre byte piece → (AllAre byte behind ↔ AllAre byte whole)
-all_pieces byte whole piece behind rest is says held = (
-  λ all. says.0 (subst (AllAre byte) (sym is) (all_append byte piece behind held all)),
-  λ all. all_behind byte piece behind (subst (AllAre byte) is (says.1 all)),
-)
+all_pieces byte whole piece behind rest is says held = grind (arith, common_steps, all_append, all_behind)
 
 -- a piece that differs
 pub piece_differs : (byte : ℕ) (whole piece behind rest : List ℕ) (t : Bool) → rest ≡ piece ++ behind
     → (AllAre byte rest ↔ AllAre byte whole) → ((t ≡ true) ↔ AllAre byte piece) → t ≡ false
     → ((false ≡ true) ↔ AllAre byte whole)
-piece_differs byte whole piece behind rest t is says test off = (
-  λ never. cc,
-  λ all. let on : t ≡ true = test.1 (all_front byte piece behind (subst (AllAre byte) is (says.1 all))) in cc,
-)
+piece_differs byte whole piece behind rest t is says test off = grind (arith, common_steps, all_front)
 
 pub split_is : (n : ℕ) (rest piece behind : List ℕ) → piece ≡ take n rest → behind ≡ drop n rest → rest ≡ piece ++ behind
 split_is n rest piece behind front back = sym (rw (front, back) (take-append-drop n rest))

@@ -1,4 +1,5 @@
 -- Fields of bytes, and the numbers that they spell.
+use Rattle.std.proofs.lemmas.Grind.{common_steps}
 use Rattle.std.proofs.Common.{◌≡◌, ◌≤◌, ◌<◌, ◌+◌, ◌-◌, ◌*◌, ◌/◌, ◌%◌, ◌^◌, ℕ, zero, suc, List, [], ◌∷◌, ◌++◌, length, take, drop, refl, sym}
 use Rattle.std.proofs.Common.{ap, ◌∙◌, subst, arith, length-drop}
 use Rattle.std.specs.Prelude.{slice_index}
@@ -98,8 +99,7 @@ le-le_bytes (suc k) n small =
 
 -- a field within the first part of a join
 pub field-append_front : (i n : ℕ) (p q : List ℕ) → i + n ≤ length p → field i n (p ++ q) ≡ field i n p
-field-append_front i n p q within =
-    ap (take n) (drop-append-le i p q (omega arith)) ∙ take-append-le n (drop i p) q (simp length-drop (omega arith))
+field-append_front i n p q within = grind (arith, common_steps, drop-append-le, take-append-le, length-drop)
 
 -- a place after the first part of a join
 pub drop-append_behind : (i : ℕ) (p q : List ℕ) → length p ≤ i → drop i (p ++ q) ≡ drop (i - length p) q

@@ -1,5 +1,6 @@
 -- What was read, turn by turn.
-use Rattle.std.proofs.Common.{◌≡◌, ◌<◌, ℕ, List, length, ◌++◌, sym, subst, ◌∙◌, refl, []}
+use Rattle.std.proofs.lemmas.Grind.{common_steps}
+use Rattle.std.proofs.Common.{◌≡◌, ◌<◌, ℕ, List, length, ◌++◌, sym, subst, ◌∙◌, [], arith}
 use Rattle.std.proofs.Common.{append-nil}
 use Rattle.std.specs.Prelude.{Option, Bool, true, false}
 use Rattle.std.specs.Io.KnownBytes.{Consumes, Keeps}
@@ -13,14 +14,12 @@ use Rattle.fv_base.specs.Limits.{volume_limit}
 -- the reader failed after these bytes
 pub stops_by_error : (old new : Option (List ℕ)) (bytes : List ℕ) (n : ℕ) (f : Fault) → Consumes old new bytes → n ≡ length bytes
     → f ≡ outer_fault kinds.ReadFault n → ReadStops old new f
-stops_by_error old new bytes n f gave count is =
-    subst (ReadStops old new) (sym is) (record { depth = refl; cause = (bytes, gave, sym count) })
+stops_by_error old new bytes n f gave count is = grind (arith, common_steps)
 
 -- the reader gave more than a run takes
 pub stops_by_length : (old new : Option (List ℕ)) (bytes : List ℕ) (f : Fault) → Consumes old new bytes → volume_limit < length bytes
     → f ≡ outer_fault kinds.Length volume_limit → ReadStops old new f
-stops_by_length old new bytes f gave more is =
-    subst (ReadStops old new) (sym is) (record { depth = refl; cause = (refl, (bytes, gave, more)) })
+stops_by_length old new bytes f gave more is = grind (arith, common_steps)
 
 -- a flag is not both up and down
 pub up_is_not_down : (flag : Bool) → flag ≡ true → flag ≡ false → ⊥

@@ -1,4 +1,5 @@
 -- Tests that hold or do not.
+use Rattle.std.proofs.lemmas.Grind.{common_steps}
 use Rattle.std.proofs.Common.{◌≡◌, ◌≤◌, ◌<◌, ℕ, refl, arith, Bool, true, false}
 use Rattle.std.specs.Prelude.{◌==◌, ◌≢◌, ◌||◌, nat_le, nat_lt, if◌then◌else◌}
 use Rattle.std.proofs.lemmas.Bool.{eqb-true, leb-true, ltb-true}
@@ -12,22 +13,13 @@ if_false true x y h = cc
 if_false false x y h = refl
 
 pub not_less : (n m : ℕ) → m ≤ n → nat_lt n m ≡ false
-not_less n m h = go (nat_lt n m) refl where
-  go : (t : Bool) → nat_lt n m ≡ t → t ≡ false
-  go true e = absurd (omega (arith, h, ltb-true n m e))
-  go false e = refl
+not_less n m h = grind (arith, common_steps, ltb-true)
 
 pub not_at_most : (n m : ℕ) → m < n → nat_le n m ≡ false
-not_at_most n m h = go (nat_le n m) refl where
-  go : (t : Bool) → nat_le n m ≡ t → t ≡ false
-  go true e = absurd (omega (arith, h, leb-true n m e))
-  go false e = refl
+not_at_most n m h = grind (arith, common_steps, leb-true)
 
 pub not_equal : (n m : ℕ) → n ≢ m → (n == m) ≡ false
-not_equal n m h = go (n == m) refl where
-  go : (t : Bool) → (n == m) ≡ t → t ≡ false
-  go true e = absurd (h (eqb-true n m e))
-  go false e = refl
+not_equal n m h = grind (arith, common_steps, eqb-true)
 
 -- neither of two tests holds
 pub or_parts : (a b : Bool) → (a || b) ≡ false → (a ≡ false) × (b ≡ false)

@@ -1,5 +1,6 @@
 -- The files of a volume, row by row.
-use Rattle.std.proofs.Common.{◌≡◌, ◌∙◌, ◌⊎◌, ℕ, ◌≤◌, List, [], ◌∷◌, ◌++◌, length, drop, map, refl, sym, ap, subst, suc}
+use Rattle.std.proofs.lemmas.Grind.{common_steps}
+use Rattle.std.proofs.Common.{◌≡◌, ◌∙◌, ◌⊎◌, ℕ, ◌≤◌, List, [], ◌∷◌, ◌++◌, length, drop, map, refl, sym, ap, subst, suc, arith}
 use Rattle.std.proofs.Common.{append-nil, inl, inr}
 use Rattle.std.specs.List.{AllByRecursion}
 use Rattle.std.specs.Prelude.{◌≢◌}
@@ -30,16 +31,12 @@ no_meanings (f ∷ fs) = refl
 -- the files have ended
 pub rows_done : (rows : List FvFile) (i : ℕ) (stored : List LocatedFile) (files : List FileMeaning) → length files ≤ i
     → Rows rows i stored files → rows ≡ reported_files (map file_form stored) files
-rows_done rows i stored files l have =
-    sym (ap (λ (ms : List FileMeaning). rows ++ reported_files (map file_form (drop i stored)) ms) (drop_all i files l)
-    ∙ ap (λ (rs : List FvFile). rows ++ rs) (no_meanings (map file_form (drop i stored))) ∙ append-nil rows) ∙ have
+rows_done rows i stored files l have = grind (arith, common_steps, drop_all, no_meanings, append-nil)
 
 -- the places have ended
 pub rows_over : (rows : List FvFile) (i : ℕ) (stored : List LocatedFile) (files : List FileMeaning) → length stored ≤ i
     → Rows rows i stored files → rows ≡ reported_files (map file_form stored) files
-rows_over rows i stored files l have =
-    sym (ap (λ (xs : List LocatedFile). rows ++ reported_files (map file_form xs) (drop i files)) (drop_all i stored l) ∙ append-nil rows)
-    ∙ have
+rows_over rows i stored files l have = grind (arith, common_steps, drop_all, append-nil)
 
 -- ---- the rows of a volume
 

@@ -1,5 +1,6 @@
 -- The part of a volume that two numbers ask for.
-use Rattle.std.proofs.Common.{◌≡◌, ◌∙◌, ◌⊎◌, ℕ, List, Bool, true, false, Some, None, map, refl, sym, ap, subst, inl, inr}
+use Rattle.std.proofs.lemmas.Grind.{common_steps}
+use Rattle.std.proofs.Common.{◌≡◌, ◌∙◌, ◌⊎◌, ℕ, List, true, false, Some, None, map, refl, sym, ap, subst, inl, inr, arith}
 use Rattle.std.specs.Prelude.{◌==◌, ◌≢◌, Option, option_map, slice_get, IfSome, IfNone}
 use Rattle.std.proofs.lemmas.Bool.Decides.{Decides-eqb}
 use Rattle.std.proofs.lemmas.Option.{slice_get-map}
@@ -13,7 +14,7 @@ use Rattle.fv_tree.specs.Meaning.{Meaning, Volume, FileMeaning, files_from, file
 use Rattle.fv_tree.proofs.Laws.{files_list_back}
 use Rattle.fv_c.specs.ExtractedParts.{PartMeaning, Data, whole_file, row_part, part_of_file, part_of, part_in, IsPartImage}
 use Rattle.fv_c.specs.ExtractedParts.{volumes_in_part, ExtractsTo, HasNoPart, HasUnfitPart}
-use Rattle.fv_c.specs.ReportedSections.{SectionRow, section_rows}
+use Rattle.fv_c.specs.ReportedSections.{section_rows}
 use Rattle.fv_c.specs.declared.parts.PlacedSection.{PlacedSection}
 use Rattle.fv_c.specs.inner.PlacedSections.{row_form, ShowsPart, StopsPart}
 
@@ -34,10 +35,7 @@ part_at m h fs file section o is found = ap (part_of section) (file_at m h fs fi
 -- ---- its part
 
 is_not : (a b : ℕ) → a ≢ b → (a == b) ≡ false
-is_not a b ne = go (a == b) (Decides-eqb a b).0 where
-  go : (t : Bool) → (t ≡ true → a ≡ b) → t ≡ false
-  go true h = absurd (ne (h refl))
-  go false h = refl
+is_not a b ne = grind (arith, common_steps)
 
 pub whole_part : (section : ℕ) (f : FileMeaning) → section ≡ whole_file → part_of_file section f ≡ Some (Data (content_of f))
 whole_part section f is = let test : (section == whole_file) ≡ true = (Decides-eqb section whole_file).1 is in rw test refl
@@ -45,11 +43,7 @@ whole_part section f is = let test : (section == whole_file) ≡ true = (Decides
 pub row_at : (section : ℕ) (f : FileMeaning) (rows : List PlacedSection) (o : Option PlacedSection) → section ≢ whole_file
     → map row_form rows ≡ section_rows (content_of f) → o ≡ slice_get rows section
     → part_of_file section f ≡ option_map row_part (option_map row_form o)
-row_at section f rows o ne are found =
-    let test : (section == whole_file) ≡ false = is_not section whole_file ne in
-    let row : slice_get (section_rows (content_of f)) section ≡ option_map row_form o =
-    ap (λ (l : List SectionRow). slice_get l section) (sym are) ∙ slice_get-map row_form rows section ∙ ap (option_map row_form) (sym found) in
-    rw test (ap (option_map row_part) row)
+row_at section f rows o ne are found = grind (arith, common_steps, is_not, slice_get-map)
 
 -- ---- what is promised of it
 
@@ -91,14 +85,11 @@ extract_stops file section input m f accepted stops = go (stopped_part (part_in 
 -- the bytes of a part, by the volume that the input is
 pub extracts_to : (file section : ℕ) (input : List ℕ) (m : Meaning) (found : Option (List ℕ)) (bytes : List ℕ) → Accepted input m
     → ShowsPart (part_in file section m) found → found ≡ Some bytes → ExtractsTo file section input bytes
-extracts_to file section input m found bytes accepted shown is =
-    let part = shown_part (part_in file section m) bytes (subst (λ (o : Option (List ℕ)). ShowsPart (part_in file section m) o) is shown) in
-    (m, part.0, accepted, part.1, part.2)
+extracts_to file section input m found bytes accepted shown is = grind (arith, common_steps, shown_part)
 
 pub extracts_none : (file section : ℕ) (input : List ℕ) (m : Meaning) (found : Option (List ℕ)) → Accepted input m
     → ShowsPart (part_in file section m) found → found ≡ None → HasNoPart file section input
-extracts_none file section input m found accepted shown is =
-    (m, accepted, shown_none (part_in file section m) (subst (λ (o : Option (List ℕ)). ShowsPart (part_in file section m) o) is shown))
+extracts_none file section input m found accepted shown is = grind (arith, common_steps, shown_none)
 
 -- what was found of it, by the volume that the input is
 pub part_some : (file section : ℕ) (input : List ℕ) (m : Meaning) (found : Option (List ℕ)) → Accepted input m

@@ -1,4 +1,5 @@
 -- The walk over the sections of a file, row by row.
+use Rattle.std.proofs.lemmas.Grind.{common_steps}
 use Rattle.std.proofs.Common.{◌≡◌, ◌∙◌, ℕ, ◌+◌, ◌<◌, ◌≤◌, List, [], ◌∷◌, ◌++◌, length, drop, get_or, map, refl, sym, ap}
 use Rattle.std.proofs.Common.{arith, length-append}
 use Rattle.std.proofs.lemmas.List.{append_assoc, drop_more, length-map, map_push}
@@ -34,18 +35,7 @@ Added ys zs parent depth sections = map row_form zs ≡ map row_form ys ++ rows_
 pub section_added : (xs ys zs : List PlacedSection) (p : PlacedSection) (number : ℕ) (inside : SectionMeanings) → ys ≡ xs ++ p ∷ []
     → inside ≡ sections_in (body_of p.section.now) → Added ys zs number (p.depth + 1) inside → number ≡ length xs
     → map row_form zs ≡ map row_form xs ++ rows_of_section (length xs) p.parent p.depth p.section.now
-section_added xs ys zs p number inside pushed is added numbered =
-    let n : ℕ = length xs in
-    let rest : List SectionRow = rows_of_sections (n + 1) n (p.depth + 1) (sections_in (body_of p.section.now)) in
-    let more : length ys ≡ n + 1 = ap length pushed ∙ length-append xs (p ∷ []) in
-    let front : map row_form ys ≡ map row_form xs ++ row_form p ∷ [] = ap (map row_form) pushed ∙ map_push row_form xs p in
-    added
-    ∙ ap (λ k. map row_form ys ++ rows_of_sections (length ys) k (p.depth + 1) inside) numbered
-    ∙ ap (λ l. l ++ rows_of_sections (length ys) n (p.depth + 1) inside) front
-    ∙ ap (λ k. (map row_form xs ++ row_form p ∷ []) ++ rows_of_sections k n (p.depth + 1) inside) more
-    ∙ ap (λ ss. (map row_form xs ++ row_form p ∷ []) ++ rows_of_sections (n + 1) n (p.depth + 1) ss) is
-    ∙ append_assoc (map row_form xs) (row_form p ∷ []) rest
-    ∙ ap (λ l. map row_form xs ++ l) (sym (one_section n p.parent p.depth p.section.now))
+section_added xs ys zs p number inside pushed is added numbered = grind (arith, common_steps, length-append, map_push, append_assoc, one_section)
 
 -- ---- the loop
 
@@ -75,5 +65,4 @@ walk_more olds rows news parent depth i ss s l is added walked =
 -- the list has grown
 pub longer : (rows news : List PlacedSection) (a : List SectionRow) → map row_form news ≡ map row_form rows ++ a
     → length rows ≤ length news
-longer rows news a added =
-    omega (arith, length-map news row_form, ap length added, length-append (map row_form rows) a, length-map rows row_form)
+longer rows news a added = grind (arith, common_steps, length-map, length-append)

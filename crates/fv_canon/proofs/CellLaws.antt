@@ -1,4 +1,5 @@
 -- A file and a pad that are written as the canonical image has them are cells.
+use Rattle.std.proofs.lemmas.Grind.{common_steps}
 use Rattle.std.proofs.Common.{◌≡◌, ◌≢◌, ◌≤◌, ◌<◌, ◌+◌, ◌-◌, ◌%◌, ℕ, Bool, true, false, List, [], ◌++◌, length}
 use Rattle.std.proofs.Common.{replicate, refl, sym, ap, ◌∙◌, subst, arith, length-append, append_assoc, append-nil}
 use Rattle.std.specs.Prelude.{slice_index, sum, ◌==◌, if◌then◌else◌}
@@ -65,24 +66,14 @@ sum_is_right l a payload h = ap (λ (b : Bool). if b then (sum payload + file_su
     go false = refl
 
 sum_small : (a : ℕ) (payload : List ℕ) → file_sum_for a payload < 256
-sum_small a payload = go (is_summed a) where
-  go : (b : Bool) → (if b then complement (sum payload) else fixed_checksum) < 256
-  go true = complement_small (sum payload)
-  go false = omega arith
+sum_small a payload = grind (arith, common_steps, complement_small)
 
 pub length-stored_header : (system : FileSystem) (p : Polarity) (f : StoredFile) → Storable system f
     → length (stored_header p f) ≡ head_len_for (length f.payload)
-length-stored_header system p f k =
-    length-header (file_sum_for f.attributes f.payload) (bytes_of f.name) f.kind (with_large (needs_large (length f.payload)) f.attributes)
-    (head_len_for (length f.payload) + length f.payload) (needs_large (length f.payload)) (state_byte p) k.name
+length-stored_header system p f k = grind (arith, common_steps, length-header)
 
 bytes_stored_header : (system : FileSystem) (p : Polarity) (f : StoredFile) → Storable system f → IsBytes (stored_header p f)
-bytes_stored_header system p f k =
-    let n : ℕ = length f.payload in
-    let large : Bool = needs_large n in
-    bytes_header (file_sum_for f.attributes f.payload) (bytes_of f.name) f.kind (with_large large f.attributes) (head_len_for n + n) large
-    (state_byte p) k.name_bytes (sum_small f.attributes f.payload) k.kind_small
-    (with_large_small large f.attributes k.short k.attributes_small) (state_small p)
+bytes_stored_header system p f k = grind (arith, common_steps, bytes_header, sum_small, with_large_small, state_small)
 
 pub bytes_stored : (system : FileSystem) (p : Polarity) (f : StoredFile) → Storable system f → IsBytes (stored_bytes p f)
 unfolding stored_bytes
@@ -132,8 +123,7 @@ bytes_erased p n = bytes_replicate n (erased_byte p) (small p)
 
 pub bytes_pad : (p : Polarity) (size : ℕ) → IsBytes (pad_bytes p size)
 unfolding pad_bytes
-bytes_pad p size =
-    bytes_append (pad_head_of size p) (replicate (size - 24) (erased_byte p)) (bytes_pad_head size p) (bytes_erased p (size - 24))
+bytes_pad p size = grind (arith, common_steps, bytes_append, bytes_pad_head, bytes_erased)
 
 pub length-pad_head : (size : ℕ) (p : Polarity) → length (pad_head_of size p) ≡ 24
 length-pad_head size p = length-header fixed_checksum pad_name pad_kind 0 size false (state_byte p) refl

@@ -1,5 +1,6 @@
 -- The laws of a run over two inputs.
-use Rattle.std.proofs.Common.{◌≡◌, ◌≢◌, ◌∙◌, ℕ, List, refl, sym, ap, subst, inl, inr, Bool, true, false, not, is_some}
+use Rattle.std.proofs.lemmas.Grind.{common_steps}
+use Rattle.std.proofs.Common.{◌≡◌, ◌≢◌, ◌∙◌, ℕ, List, refl, sym, ap, subst, inl, inr, Bool, true, false, not, is_some, arith}
 use Rattle.std.specs.Prelude.{Option, None, Some, Result, IfNone, IfSome, IfOk, IfErr}
 use Rattle.std.specs.Io.KnownBytes.{Appends}
 use Rattle.std.proofs.KnownBytes.{Keeps-refl}
@@ -90,10 +91,7 @@ run_stops r m k unread left unread' left' held holds p q stops =
 
 -- the reader of an input makes no fault of a writer
 pub unread_kind : (unread left : Option (List ℕ)) (f : Fault) → ReadStops unread left f → f.kind ≢ kinds.WriteFault
-unread_kind unread left f stops is =
-    let cause : ReadStopsFor kinds.WriteFault unread left f.place.offset =
-    subst (λ (kind : FaultKind). ReadStopsFor kind unread left f.place.offset) is stops.cause in
-    absurd cause
+unread_kind unread left f stops is = grind (arith, common_steps)
 
 not_read : (side : Side) (f : Fault) (m k : Meaning) (held holds : Option (List ℕ)) → ComparisonStops side m k held holds f
     → f.kind ≢ kinds.ReadFault
@@ -105,6 +103,4 @@ not_read sides.Output f m k held holds stops is = let bad : kinds.WriteFault ≡
 -- a comparison makes no fault of a reader, so what would follow from one does
 pub never_read : (Q : Side → Type 0) (P : Type 0) (r : Result Bool (Side × Fault)) (m k : Meaning) (held holds : Option (List ℕ))
     → IfErr r (λ e. ComparisonStops e.0 m k held holds e.1) → IfErr r (λ e. Q e.0 → e.1.kind ≡ kinds.ReadFault → P)
-never_read Q P r m k held holds stops =
-    IfErr-weaker r (λ e. ComparisonStops e.0 m k held holds e.1) (λ e. Q e.0 → e.1.kind ≡ kinds.ReadFault → P)
-    (λ e is side kind. absurd (not_read e.0 e.1 m k held holds is kind)) stops
+never_read Q P r m k held holds stops = grind (arith, common_steps, not_read)

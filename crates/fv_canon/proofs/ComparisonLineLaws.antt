@@ -1,4 +1,5 @@
 -- The line of a comparison: its path, step by step, and how long it is.
+use Rattle.std.proofs.lemmas.Grind.{common_steps}
 use Rattle.std.proofs.Common.{◌≡◌, ◌∙◌, ◌≤◌, ◌<◌, ◌+◌, ◌*◌, ℕ, List, [], ◌∷◌, ◌++◌, length, take, get_or, ap, sym, subst, arith}
 use Rattle.std.proofs.Common.{length-append, append_assoc, append-nil}
 use Rattle.std.specs.Prelude.{codes}
@@ -44,12 +45,4 @@ path_ends steps i past short = subst (λ (xs : List Step). length (path_text xs)
 -- so a line is
 pub short_line : (path word : List ℕ) (count : ℕ) → length path ≤ 29 * count → length word ≤ 17
     → length (codes "different at " ++ (path ++ (word ++ line_feed))) ≤ 31 + 29 * count
-short_line path word count p q =
-    omega (
-      arith,
-      length-append (codes "different at ") (path ++ (word ++ line_feed)),
-      length-append path (word ++ line_feed),
-      length-append word line_feed,
-      p,
-      q,
-    )
+short_line path word count p q = grind (arith, common_steps, length-append)

@@ -1,6 +1,7 @@
 -- Of the files that are in a body no two have one name, once those that are replaced are taken out; and files that are written are
 -- all of them current.
-use Rattle.std.proofs.Common.{◌≡◌, ◌⊎◌, inl, inr, ◌+◌, ℕ, Bool, true, false, List, [], ◌∷◌, refl, sym, ap, ◌∙◌, subst}
+use Rattle.std.proofs.lemmas.Grind.{common_steps}
+use Rattle.std.proofs.Common.{◌≡◌, ◌⊎◌, inl, inr, ◌+◌, ℕ, Bool, true, false, List, [], ◌∷◌, refl, sym, ap, ◌∙◌, subst, arith}
 use Rattle.std.specs.Prelude.{map, not, ◌&&◌}
 use Rattle.std.specs.Bool.{beq}
 use Rattle.std.specs.List.{filter, list_any}
@@ -84,12 +85,7 @@ no_third false false p q r = cc
 
 two_apart : (all : List FileForm) (f g : FileForm) → Member f all → Member g all → kept all f ≡ true → kept all g ≡ true
     → is_twin f g ≡ false → same_name f g ≡ true → ⊥
-two_apart all f g in_f in_g keeps_f keeps_g twin same =
-    no_third (is_marked f.head.state) (is_marked g.head.state)
-    (ap (λ (b : Bool). b && beq (is_marked f.head.state) (is_marked g.head.state)) (sym same) ∙ twin)
-    (ap (λ (b : Bool). b && (is_marked f.head.state && not (is_marked g.head.state))) (sym same) ∙ any_false (replaces f) all g in_g
-    (not_true (list_any (replaces f) all) keeps_f)) (ap (λ (b : Bool). b && (is_marked g.head.state && not (is_marked f.head.state)))
-    (sym (same_name_back f g same)) ∙ any_false (replaces g) all f in_f (not_true (list_any (replaces g) all) keeps_g))
+two_apart all f g in_f in_g keeps_f keeps_g twin same = grind (arith, common_steps, no_third, any_false, not_true, same_name_back)
 
 kept_apart : (all xs : List FileForm) → ((g : FileForm) → Member g xs → Member g all) → NoTwins xs
     → NamesApart (names_in (filter (kept all) xs))

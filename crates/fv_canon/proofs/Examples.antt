@@ -1,4 +1,5 @@
 -- Images of small volumes, byte by byte.
+use Rattle.std.proofs.lemmas.Grind.{common_steps}
 use Rattle.std.proofs.Common.{◌≡◌, ℕ, false, List, [], ◌∷◌, ◌++◌, replicate, refl, ap, ◌∙◌, arith}
 use Rattle.std.specs.Prelude.{None, Some}
 use Rattle.fv_base.specs.declared.flash.FileSystem.TheVariants.{Ffs2}
@@ -88,6 +89,4 @@ ext_image = refl
 
 -- a gap of 16 MiB: one long pad, and one of 256 bytes
 long_gap : (p : Polarity) → gap_bytes p 16777216 ≡ pad_bytes p 0xffff00 ++ pad_bytes p 256
-long_gap p =
-    let first = (pads_rule p 16777216 (omega arith) refl).1 (omega arith) in
-    first.0 ∙ ap (λ xs. pad_bytes p 0xffff00 ++ xs) ((pads_rule p 256 (omega arith) refl).0 (omega arith))
+long_gap p = grind (arith, common_steps, pads_rule)

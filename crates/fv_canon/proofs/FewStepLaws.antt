@@ -2,6 +2,7 @@
 -- 1. What the tests of a difference are made of keeps a bound on its steps; a step into a file or a section adds one.
 -- 2. A level of nesting has two steps at most, into a file and into a section: n levels down there are 2 * n + 2.
 -- 3. A meaning nests few levels deep.
+use Rattle.std.proofs.lemmas.Grind.{common_steps}
 use Rattle.std.proofs.Common.{◌≤◌, ◌+◌, ◌*◌, ℕ, length, arith, Bool, true, false}
 use Rattle.std.specs.Prelude.{◌==◌, Some, None, IfSome}
 use Rattle.std.specs.Bool.{beq}
@@ -47,14 +48,7 @@ within_item s None e n k less p q = q
 within_item s (Some d) e n k less p q = omega (arith, p, less)
 
 head_few : (h g : HeadFields) (n : ℕ) → Within (head_differs h g) n
-head_few h g n =
-    within_or _ _ n (within_unless (bytes_eq h.zero_vector g.zero_vector) words.ZeroVector n)
-    (within_or _ _ n (within_unless (beq (is_ffs3 h.file_system) (is_ffs3 g.file_system)) words.FileSystem n)
-    (within_or _ _ n (within_unless (h.length == g.length) words.Length n)
-    (within_or _ _ n (within_unless (h.attributes == g.attributes) words.VolumeAttributes n)
-    (within_or _ _ n (within_unless (h.reserved == g.reserved) words.Reserved n)
-    (within_or _ _ n (within_unless (blocks_eq h.blocks g.blocks) words.BlockMap n)
-    (within_unless (ext_eq h.ext g.ext) words.ExtendedHeader n))))))
+head_few h g n = grind (arith, common_steps, within_or, within_unless)
 
 -- ---- 2. two steps a level
 

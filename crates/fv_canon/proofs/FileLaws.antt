@@ -1,4 +1,5 @@
 -- What is known of a file that was read and laid out, and how the files of a volume go on.
+use Rattle.std.proofs.lemmas.Grind.{common_steps}
 use Rattle.std.proofs.Common.{◌≡◌, ◌≤◌, ◌<◌, ◌⊎◌, inl, inr, ◌+◌, ◌-◌, ◌%◌, ℕ, List, ◌∷◌, ◌++◌, length, drop, replicate}
 use Rattle.std.proofs.Common.{get_or, refl, sym, ap, ◌∙◌, subst, arith, append_assoc, length-drop}
 use Rattle.std.specs.Prelude.{map}
@@ -43,9 +44,7 @@ pub stored_is : (p : Polarity) (m : FileMeaning) (starts : List ℕ) → length 
     → stored_bytes p (stored_file m starts) ≡ file_head_of (file_name_of m) (file_kind_of m) (record { 0 = attributes_of m })
     (data_len_of m) (file_sum_for (attributes_of m) (data_of (content_of m) starts)) p ++ data_of (content_of m) starts
 unfolding stored_bytes
-stored_is p (File name kind attributes content) starts long =
-    ap (λ (n : ℕ). file_head_of name kind (record { 0 = attributes }) n (file_sum_for attributes (data_of content starts)) p
-    ++ data_of content starts) long
+stored_is p (File name kind attributes content) starts long = grind (arith, common_steps)
 
 pub size_is : (m : FileMeaning) (starts : List ℕ) → length (data_of (content_of m) starts) ≡ data_len_of m
     → stored_len (stored_file m starts) ≡ size_for (data_len_of m)
@@ -65,10 +64,7 @@ pub record Here (total e : ℕ) (f : FileMeaning) (s : ℕ) : Type 0 where
 
 pub own_length : (total e : ℕ) (fs : List FileMeaning) (own : List ℕ) (i : ℕ) → i < length fs → ArePlaced total e (drop i fs) (drop i own)
     → i < length own
-own_length total e fs own i l placed =
-    let same = follow_length total e (map layout_item (drop i fs)) (drop i own) placed.follow in
-    let items = length-map (drop i fs) layout_item in
-    omega (arith, l, same, items, length-drop i fs, length-drop i own)
+own_length total e fs own i l placed = grind (arith, common_steps, follow_length, length-map, length-drop)
 
 pub here_is : (total e : ℕ) (f : FileMeaning) (fs : List FileMeaning) (s : ℕ) (ss : List ℕ) → ArePlaced total e (f ∷ fs) (s ∷ ss)
     → Here total e f s
@@ -101,16 +97,7 @@ here_is total e f fs s ss placed =
 
 pub placed_on : (total e : ℕ) (f : FileMeaning) (fs : List FileMeaning) (s : ℕ) (ss : List ℕ) → ArePlaced total e (f ∷ fs) (s ∷ ss)
     → ArePlaced total (up_to_8 (s + size_for (data_len_of f))) fs ss
-placed_on total e f fs s ss placed =
-    let h = here_is total e f fs s ss placed in
-    record {
-      follow = placed.follow.1;
-      eighth = omega arith;
-      behind = omega (arith, placed.behind, h.low);
-      within = h.next;
-      multiple = placed.multiple;
-      limit = placed.limit;
-    }
+placed_on total e f fs s ss placed = grind (arith, common_steps, here_is)
 
 -- the files from a place on are the one there, and then those after it
 pub files_go : (p : Polarity) (total e : ℕ) (f : FileMeaning) (fs : List FileMeaning) (s : ℕ) (ss starts : List ℕ)
@@ -120,15 +107,7 @@ pub files_go : (p : Polarity) (total e : ℕ) (f : FileMeaning) (fs : List FileM
     ++ replicate (up_to_8 (s + size_for (data_len_of f)) - (s + size_for (data_len_of f))) (erased_byte p)))
     ++ files_bytes p total (up_to_8 (s + size_for (data_len_of f))) (stored_of (files_from fs) (drop (starts_in (volumes_in_file f))
     starts)) ss
-files_go p total e f fs s ss starts size =
-    let gap : List ℕ = gap_bytes p (s - e) in
-    let file : List ℕ = stored_bytes p (stored_file f starts) in
-    let rest : ℕ → List ℕ =
-    λ (n : ℕ). files_bytes p total (up_to_8 (s + n)) (stored_of (files_from fs) (drop (starts_in (volumes_in_file f)) starts)) ss in
-    let fill : ℕ → List ℕ = λ (n : ℕ). replicate (up_to_8 (s + n) - (s + n)) (erased_byte p) in
-    ap (λ (n : ℕ). gap ++ (file ++ (fill n ++ rest n))) size
-    ∙ sym (append_assoc gap (file ++ fill (size_for (data_len_of f))) (rest (size_for (data_len_of f)))
-    ∙ ap (λ (xs : List ℕ). gap ++ xs) (append_assoc file (fill (size_for (data_len_of f))) (rest (size_for (data_len_of f)))))
+files_go p total e f fs s ss starts size = grind (arith, common_steps, append_assoc)
 
 -- the file at a place of the walk
 pub record AtFile (total e : ℕ) (fs : List FileMeaning) (own : List ℕ) (i : ℕ) (f : FileMeaning) : Type 0 where
@@ -170,18 +149,11 @@ pub walk_goes : (p : Polarity) (total e : ℕ) (fs : List FileMeaning) (own : Li
     ++ replicate (up_to_8 (get_or own i 0 + size_for (data_len_of f)) - (get_or own i 0 + size_for (data_len_of f))) (erased_byte p)))
     ++ files_bytes p total (up_to_8 (get_or own i 0 + size_for (data_len_of f)))
     (stored_of (files_from (drop (i + 1) fs)) (drop (starts_in (volumes_in_file f)) starts)) (drop (i + 1) own)
-walk_goes p total e fs own i f starts at size =
-    ap (λ (xs : List FileMeaning). files_bytes p total e (stored_of (files_from xs) starts) (drop i own)) at.files
-    ∙ ap (λ (xs : List ℕ). files_bytes p total e (stored_of (files_from (f ∷ drop (i + 1) fs)) starts) xs) at.starts
-    ∙ files_go p total e f (drop (i + 1) fs) (get_or own i 0) (drop (i + 1) own) starts size
+walk_goes p total e fs own i f starts at size = grind (arith, common_steps, files_go)
 
 -- where no file is left, erased bytes to the end make the whole
 pub files_end : {S : Type 0} (takes : S → List ℕ → S → Type 0) → WalkLaws takes
     → (p : Polarity) (total edge : ℕ) (fs : List FileMeaning) (own rest : List ℕ) (i : ℕ) (s t u : S) (whole : List ℕ) → length fs ≤ i
     → TakesFront takes s t whole (files_bytes p total edge (stored_of (files_from (drop i fs)) rest) (drop i own))
     → takes t (replicate (total - edge) (erased_byte p)) u → takes s whole u
-files_end takes laws p total edge fs own rest i s t u whole end f filled =
-    let none : files_bytes p total edge (stored_of (files_from (drop i fs)) rest) (drop i own) ≡ replicate (total - edge) (erased_byte p) =
-    ap (λ (ts : List FileMeaning). files_bytes p total edge (stored_of (files_from ts) rest) (drop i own)) (drop_all i fs end) in
-    subst (λ (xs : List ℕ). takes s xs u) (ap (λ (xs : List ℕ). f.front ++ xs) (sym none) ∙ f.whole_is)
-    (laws.joined s t u f.front (replicate (total - edge) (erased_byte p)) f.taken filled)
+files_end takes laws p total edge fs own rest i s t u whole end f filled = grind (arith, common_steps, drop_all)

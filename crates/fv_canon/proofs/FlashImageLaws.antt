@@ -5,6 +5,7 @@
 --    first (`puts_none`), after each volume (`puts_more`), and at the end it gives the whole (`puts_all`).
 -- 3. Each byte is in a volume or in none (`covered_known`), so no other bytes are the image (`normalised_one`).
 -- 4. A volume that has an image is not rejected. So if all have images, the only error is OutOfMemory (`only_want`).
+use Rattle.std.proofs.lemmas.Grind.{common_steps}
 use Rattle.std.proofs.Common.{◌≡◌, ◌⊎◌, ◌≤◌, ◌<◌, ◌+◌, ◌-◌, ◌^◌, ℕ, List, [], ◌∷◌, ◌++◌, length, take, drop, get_or, refl}
 use Rattle.std.proofs.Common.{sym, ap, ◌∙◌, subst, arith, inl, inr, append_assoc, length-append}
 use Rattle.std.specs.List.{AllByRecursion, Contains}
@@ -36,9 +37,7 @@ use Rattle.fv_canon.proofs.OneImageLaws.{image_one}
 
 -- a byte of those from a place on, and of a field
 rest_at : (b : List ℕ) (from k : ℕ) → from ≤ k → get_or (drop from b) (k - from) 0 ≡ get_or b k 0
-rest_at b from k low = get_or-drop from b (k - from) 0 ∙ ap (λ (i : ℕ). get_or b i 0) (sum from k low) where
-  sum : (from k : ℕ) → from ≤ k → from + (k - from) ≡ k
-  sum from k low = omega (arith, low)
+rest_at b from k low = grind (arith, common_steps, get_or-drop)
 
 field_at : (b : List ℕ) (from n k : ℕ) → from ≤ k → k < from + n → get_or (field from n b) (k - from) 0 ≡ get_or b k 0
 field_at b from n k low high = get_or-take n (drop from b) (k - from) 0 (omega (arith, low, high)) ∙ rest_at b from k low
@@ -48,9 +47,7 @@ drop_joined : (xs ys : List ℕ) (n : ℕ) → length xs ≡ n → drop n (xs ++
 drop_joined xs ys n long = ap (λ (i : ℕ). drop i (xs ++ ys)) (sym long) ∙ drop-append_seam xs ys
 
 field_joined : (xs ys zs : List ℕ) (at n : ℕ) → length xs ≡ at → length ys ≡ n → field at n (xs ++ (ys ++ zs)) ≡ ys
-field_joined xs ys zs at n long size =
-    ap (λ (l : List ℕ). take n l) (drop_joined xs (ys ++ zs) at long)
-    ∙ ap (λ (i : ℕ). take i (ys ++ zs)) (sym size) ∙ take-append_seam ys zs
+field_joined xs ys zs at n long size = grind (arith, common_steps, drop_joined, take-append_seam)
 
 -- ---- images
 
@@ -273,9 +270,7 @@ renewed_one b places o other r s = ext_get_or 0 o other (r.length_is ∙ sym s.l
 
 -- one list of bytes has all volumes renewed
 pub normalised_one : (b o other : List ℕ) → NormalisesAll b o → NormalisesAll b other → o ≡ other
-normalised_one b o other (short, places, found, r) (short', places', found', s) =
-    let same : places ≡ places' = one_found b places places' found found' in
-    renewed_one b places o other r (subst (λ (l : List ℕ). Renewed b l other) (sym same) s)
+normalised_one b o other (short, places, found, r) (short', places', found', s) = grind (arith, common_steps, one_found, renewed_one)
 
 -- ---- 4. where all volumes have images, none is rejected
 

@@ -1,4 +1,5 @@
 -- The laws of inputs that are rejected.
+use Rattle.std.proofs.lemmas.Grind.{common_steps}
 use Rattle.std.proofs.Common.{◌≡◌, ◌≢◌, ◌≤◌, ◌<◌, ℕ, List, length, take, refl, sym, ap, ◌∙◌, subst, arith, inl, inr, ◌⊎◌, true, false}
 use Rattle.std.specs.Prelude.{◌==◌, Result, Ok, Err, IfErr, IsErrAnd}
 use Rattle.std.proofs.lemmas.List.{take_all}
@@ -121,10 +122,7 @@ unfit_kind v f (inr unfit) = go (unfit_is v 0 f unfit) where
 
 -- nor is one that is of an input wherever it is no out of memory
 pub input_kind : (f : Fault) → (f ≢ out_of_memory → IsOfInput f.kind) → IsOfInput f.kind
-input_kind f known = go (or_other f known) where
-  go : (f ≡ out_of_memory) ⊎ IsOfInput f.kind → IsOfInput f.kind
-  go (inl want) = subst (λ (g : Fault). IsOfInput g.kind) (sym want) (λ e. cc, λ e. cc)
-  go (inr kind) = kind
+input_kind f known = grind (arith, common_steps, or_other)
 
 -- so the kind of a fault whose condition holds is none of a run
 pub stood_kind : (b : List ℕ) (f : Fault) → (f ≢ out_of_memory → FaultStands b f) → IsOfInput f.kind

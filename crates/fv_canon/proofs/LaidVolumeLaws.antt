@@ -1,4 +1,5 @@
 -- The volumes of a flash image that are laid out, and then put one after another.
+use Rattle.std.proofs.lemmas.Grind.{common_steps}
 use Rattle.std.proofs.Common.{◌≡◌, ◌≢◌, ◌⊎◌, ◌≤◌, ◌<◌, ◌+◌, ◌-◌, ℕ, List, [], ◌∷◌, ◌++◌, length, take, drop, get_or}
 use Rattle.std.proofs.Common.{sym, ap, ◌∙◌, subst, arith, inl, inr}
 use Rattle.std.specs.List.{AllByRecursion}
@@ -49,9 +50,7 @@ has_image b v (n, at, accepted, laid) =
 
 -- and as many bytes as its header says
 laid_long : (b : List ℕ) (p n : ℕ) (m : Meaning) → VolumeAt b p n → Accepted (field p n b) m → n ≡ (head_of m).length
-laid_long b p n m v accepted =
-    let long : length (field p n b) ≡ n = length-take-le n (drop p b) (omega (arith, length-drop p b, at_within b p n v)) in
-    sym long ∙ accepted.1.whole ∙ accepted.1.front.length_is
+laid_long b p n m v accepted = grind (arith, common_steps, length-take-le, length-drop, at_within)
 
 -- ---- the volumes, laid out one after another
 

@@ -1,4 +1,5 @@
 -- The walk over a volume that adds the starts of the files in it: what it added, how deep it goes, and the fault that it passes on.
+use Rattle.std.proofs.lemmas.Grind.{common_steps}
 use Rattle.std.proofs.Common.{◌≡◌, ◌<◌, ◌⊎◌, inl, inr, ◌+◌, ℕ, suc, List, length, take, get_or, ◌++◌, append_assoc, refl, sym, ap, ◌∙◌, subst, arith}
 use Rattle.std.proofs.Common.{Result, Ok, Err, IfErr, IsErrAnd}
 use Rattle.fv_base.specs.Faults.{out_of_memory}
@@ -82,12 +83,7 @@ shallow_file_at fs i m depth l is (k, fits, h) = (
 -- its own files, and then those of the volumes in them
 pub volume_grew : (m : Meaning) (fs : List FileMeaning) (old own between new : List ℕ) → m ≡ Volume (head_of m) (files_from fs)
     → AreStarts m own → between ≡ old ++ own → Grew (volumes_in_files (files_from fs)) between new → Grew (volumes_in m) old new
-volume_grew m fs old own between new is placed joined (laid, text, lays) =
-    subst (λ (x : Meaning). Grew (volumes_in x) old new) (sym is) (
-      own ++ laid,
-      text ∙ ap (λ (xs : List ℕ). xs ++ laid) joined ∙ append_assoc old own laid,
-      (own, laid, refl, subst (λ (x : Meaning). AreStarts x own) is placed, lays),
-    )
+volume_grew m fs old own between new is placed joined (laid, text, lays) = grind (arith, common_steps, append_assoc)
 
 -- a volume in its files is the first that is not laid out
 pub volume_unfit : (m : Meaning) (fs : List FileMeaning) (own : List ℕ) (depth : ℕ) (f : Fault) → m ≡ Volume (head_of m) (files_from fs)

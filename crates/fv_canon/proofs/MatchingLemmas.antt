@@ -1,5 +1,6 @@
 -- Bytes that are compared with what a walk writes: one step, and what is returned in the end.
-use Rattle.std.proofs.Common.{◌≡◌, ℕ, List, [], ◌++◌, length, take, drop, refl, ap, sym, ◌∙◌, append-nil, take-append-drop}
+use Rattle.std.proofs.lemmas.Grind.{common_steps}
+use Rattle.std.proofs.Common.{◌≡◌, ℕ, List, [], ◌++◌, length, take, drop, refl, ap, sym, ◌∙◌, append-nil, take-append-drop, arith}
 use Rattle.std.proofs.Common.{Bool, true, false}
 use Rattle.std.specs.Prelude.{IsTrue}
 use Rattle.std.proofs.lemmas.List.{take_at}
@@ -9,8 +10,7 @@ use Rattle.fv_canon.specs.inner.Matching.{IsNoFront, MatchLatched}
 
 -- a front that is the same is taken off
 pub front_off : (s bytes t : List ℕ) → take (length bytes) s ≡ bytes → t ≡ drop (length bytes) s → s ≡ bytes ++ t
-front_off s bytes t front behind =
-    sym (take-append-drop (length bytes) s) ∙ (ap (λ xs. xs ++ drop (length bytes) s) front ∙ ap (λ xs. bytes ++ xs) (sym behind))
+front_off s bytes t front behind = grind (arith, common_steps, take-append-drop)
 
 -- one that differs is none
 pub front_differs : (s bytes : List ℕ) → (take (length bytes) s ≡ bytes → ⊥) → IsNoFront s bytes

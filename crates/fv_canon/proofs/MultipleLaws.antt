@@ -3,6 +3,7 @@
 -- 2. The multiples of the widened alignment are those of 8 and of the alignment.
 -- 3. Sums and differences of multiples of 8.
 -- 4. An edge is the next multiple of 8.
+use Rattle.std.proofs.lemmas.Grind.{common_steps}
 use Rattle.fv_base.specs.Value.{up_to_8}
 use Rattle.std.proofs.Common.{◌≡◌, ℕ, ◌+◌, ◌-◌, ◌*◌, ◌/◌, ◌%◌, ◌^◌, ◌<◌, ◌≤◌, inl, inr, sym, ◌∙◌, ap, subst, arith, suc}
 use Rattle.fv_canon.specs.inner.Reaches.{Widens}
@@ -18,8 +19,7 @@ multiple_is a x p = sym (div-add-mod x a) ∙ (ap (λ n. a * (x / a) + n) p ∙ 
 
 -- what is left under the remainder is a multiple
 pub is_multiple : (d x a : ℕ) → d + x % a ≡ x → d % a ≡ 0
-is_multiple d x a e =
-    let m : d ≡ a * (x / a) = add_right_cancel (x % a) (e ∙ sym (div-add-mod x a)) in ap (λ n. n % a) m ∙ mul-mod_right a (x / a)
+is_multiple d x a e = grind (arith, common_steps, add_right_cancel, div-add-mod, mul-mod_right)
 
 -- of two multiples the smaller is smaller by the alignment
 pub multiples_apart : (a x y : ℕ) → 0 < a → x % a ≡ 0 → y % a ≡ 0 → x < y → x + a ≤ y
@@ -32,10 +32,7 @@ multiples_apart a x y h p q l =
 
 -- no multiple is between a multiple and the next one
 pub none_between : (a d y : ℕ) → 0 < a → d % a ≡ 0 → y % a ≡ 0 → y < d + a → y ≤ d
-none_between a d y h p q near = elim (cases_lt d y) [
-  | inl less ↦ let next : d + a ≤ y = multiples_apart a d y h p q less in absurd (omega arith)
-  | inr most ↦ most
-]
+none_between a d y h p q near = grind (arith, common_steps, cases_lt, multiples_apart)
 
 -- ---- 2. the widened alignment
 

@@ -1,5 +1,6 @@
 -- The laws of a run that normalises an input: what it wrote, or what stopped it.
-use Rattle.std.proofs.Common.{◌≡◌, ◌≢◌, ◌∙◌, ◌⊎◌, ℕ, List, sym, inl, inr}
+use Rattle.std.proofs.lemmas.Grind.{common_steps}
+use Rattle.std.proofs.Common.{◌≡◌, ◌≢◌, ◌∙◌, ◌⊎◌, ℕ, List, sym, inl, inr, arith}
 use Rattle.std.specs.Prelude.{Option, Result, Ok, Err, IfErr, OnErr, OnOk}
 use Rattle.std.specs.Io.KnownBytes.{Appends}
 use Rattle.std.proofs.KnownBytes.{Keeps-refl}
@@ -33,15 +34,12 @@ refused_stops input held f why = inl (Keeps-refl held, why)
 -- a run stopped after its input
 pub behind_stops : (unread left held holds : Option (List ℕ)) (input : List ℕ) (r : Result (Unit {0}) Fault) → ReadsWhole unread left input
     → IfErr r (InputStops input held holds) → IfErr r (RunStops unread left held holds)
-behind_stops unread left held holds input r reads stops =
-    IfErr-weaker r _ (RunStops unread left held holds) (λ f p. inr (input, reads, p)) stops
+behind_stops unread left held holds input r reads stops = grind (arith, common_steps)
 
 -- the writer's fault is not the reader's
 pub write_not_read : (m : Meaning) (held holds : Option (List ℕ)) (r : Result (Unit {0}) Fault)
     → IfErr r (λ f. (image : List ℕ) × IsImage m image × WriteStops held holds image f) → IfErr r (λ f. f.kind ≢ kinds.ReadFault)
-write_not_read m held holds r stops =
-    IfErr-weaker r _ (λ f. f.kind ≢ kinds.ReadFault)
-    (λ f p same. let bad : kinds.WriteFault ≡ kinds.ReadFault = sym p.2.kind ∙ same in cc) stops
+write_not_read m held holds r stops = grind (arith, common_steps)
 
 -- what an error leaves is left by an error of some kind
 pub of_some_kind : (P : Fault → Type 0) (Q : Type 0) (r : Result (Unit {0}) Fault) → OnErr r Q → IfErr r (λ f. P f → Q)

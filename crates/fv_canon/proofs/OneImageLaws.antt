@@ -1,4 +1,5 @@
 -- A meaning has one image at most.
+use Rattle.std.proofs.lemmas.Grind.{common_steps}
 use Rattle.std.proofs.Common.{◌≡◌, ◌≤◌, ◌<◌, inl, inr, ◌+◌, ◌-◌, ℕ, zero, suc, Bool, List, [], ◌∷◌, ◌++◌, length, take, drop, get_or, refl}
 use Rattle.std.proofs.Common.{sym, ap, ◌∙◌, subst, arith, add-one}
 use Rattle.std.specs.List.{AllByRecursion}
@@ -92,9 +93,7 @@ starts_one total first fs ss ts p q =
 same_spans : (h : HeadFields) (b : List ℕ) (xs ys : List StoredFile) (ss ts : List ℕ) → xs ≡ ys → ss ≡ ts
     → ShowsPlaced h.length (erased_byte (polarity_of h.attributes)) (placed_in_volume h xs ss) b
     → ShowsPlaced h.length (erased_byte (polarity_of h.attributes)) (placed_in_volume h ys ts) b
-same_spans h b xs ys ss ts p q shows =
-    subst (λ (us : List ℕ). ShowsPlaced h.length (erased_byte (polarity_of h.attributes)) (placed_in_volume h ys us) b) q
-    (subst (λ (zs : List StoredFile). ShowsPlaced h.length (erased_byte (polarity_of h.attributes)) (placed_in_volume h zs ss) b) p shows)
+same_spans h b xs ys ss ts p q shows = grind (arith, common_steps)
 
 same_file : (x y : StoredFile) → x.name ≡ y.name → x.kind ≡ y.kind → x.attributes ≡ y.attributes → x.payload ≡ y.payload → x ≡ y
 same_file x y p q r s = items x.name y.name x.kind y.kind x.attributes y.attributes x.payload y.payload p q r s

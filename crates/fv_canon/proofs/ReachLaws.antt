@@ -4,6 +4,7 @@
 -- 3. So the greatest start that serves, and whether those 8 and 16 below it serve, are the reach of a file and those after it.
 -- 4. The way backwards: where no start of a file serves, the files cannot be placed at all.
 -- 5. The way forwards: where the files can be placed, a start serves.
+use Rattle.std.proofs.lemmas.Grind.{common_steps}
 use Rattle.fv_base.specs.Value.{up_to_8}
 use Rattle.std.proofs.Common.{◌≡◌, ℕ, ◌+◌, ◌-◌, ◌%◌, ◌<◌, ◌≤◌, ◌⊎◌, inl, inr, refl, sym, ◌∙◌, ap, subst, arith, List, [], ◌∷◌, length}
 use Rattle.std.proofs.Common.{get_or, drop, zero, suc}
@@ -20,13 +21,7 @@ use Rattle.fv_canon.proofs.MultipleLaws.{edge_eighth, edge_within, edge_above}
 
 -- of two multiples of 8 the one is far below the other, or the other, or 8 or 16 below it
 far_enough : (e t : ℕ) → e % 8 ≡ 0 → t % 8 ≡ 0 → e ≤ t → ((e + 24 ≤ t) ⊎ (e ≡ t)) ⊎ ((e + 8 ≡ t) ⊎ (e + 16 ≡ t))
-far_enough e t p q l = elim (cases_lt t (e + 24)) [
-  | inr h ↦ inl (inl h)
-  | inl h ↦ elim (cases_lt t (e + 16)) [
-    | inr i ↦ inr (inr (omega arith))
-    | inl i ↦ elim (cases_lt t (e + 8)) [ inr j ↦ inr (inl (omega arith)) | inl j ↦ inl (inr (omega arith)) ]
-  ]
-]
+far_enough e t p q l = grind (arith, common_steps, cases_lt)
 
 -- a usable edge is at most the greatest
 pub usable_most : (r : Reach) (e : ℕ) → IsUsable r e → e ≤ r.greatest
@@ -194,5 +189,4 @@ bound_at total fs reaches i r d each known unknown = elim (cases_lt i (length re
 
 pub reach_at : (total : ℕ) (fs : List LayoutItem) (reaches : List Reach) (i : ℕ) (r d : Reach) → AreReaches (IsReach total) fs reaches
     → i < length reaches → r ≡ get_or reaches i d → IsReach total (drop (i + 1) fs) r
-reach_at total fs reaches i r d each less known =
-    subst (λ x. IsReach total (drop (i + 1) fs) x) (sym known) (each i d less)
+reach_at total fs reaches i r d each less known = grind (arith, common_steps)

@@ -1,4 +1,5 @@
 -- What is known of a section that was read and laid out, and how a stream goes on.
+use Rattle.std.proofs.lemmas.Grind.{common_steps}
 use Rattle.std.proofs.Common.{◌≡◌, ◌≤◌, ◌<◌, ◌+◌, ◌-◌, ◌^◌, ℕ, zero, suc, Bool, List, [], ◌∷◌, ◌++◌, length, drop, replicate, get_or, refl}
 use Rattle.std.proofs.Common.{sym, ap, ◌∙◌, subst, arith, append_assoc, append-nil, length-drop}
 use Rattle.std.proofs.lemmas.List.{drop_all}
@@ -81,11 +82,7 @@ stream_goes at (Section k e b) (MoreSections t ss) starts tail =
 -- the whole stream
 pub stream_whole : (s : SectionMeaning) (ss : SectionMeanings) (starts : List ℕ) (tail : ℕ)
     → sections_bytes 0 (MoreSections s ss) starts ++ replicate tail 0 ≡ stream_of (frames_of 0 (MoreSections s ss) starts) tail
-stream_whole s ss starts tail =
-    append_assoc (frame_bytes (frame_of 0 s starts)) (sections_bytes
-    (up_to_4 (frame_len (frame_of 0 s starts)) - frame_len (frame_of 0 s starts)) ss (drop (starts_in (volumes_in_section s)) starts))
-    (replicate tail 0)
-    ∙ sym (stream_goes 0 s ss starts tail)
+stream_whole s ss starts tail = grind (arith, common_steps, append_assoc, stream_goes)
 
 -- ---- the walk over the sections of a stream
 
@@ -101,8 +98,7 @@ in_body s = ap starts_in (in_section s) ∙ count_deeper (volumes_in_body (body_
 
 pub body_laid : (s : SectionMeaning) (starts : List ℕ) → BeginsWithStarts (volumes_in_section s) starts
     → BeginsWithStarts (volumes_in_body (body_of s)) starts
-body_laid (Section kind extended body) starts (laid, more, text, lays) =
-    (laid, more, text, laid_higher AreStarts (volumes_in_body body) laid lays)
+body_laid (Section kind extended body) starts (laid, more, text, lays) = grind (arith, common_steps, laid_higher)
 
 framed : (s : SectionMeaning) (starts : List ℕ) → SectionKnown s starts → frame_bytes (frame_of 0 s starts)
     ≡ section_head_of (section_kind_of s) (section_is_extended s) (body_len (body_of s)) ++ body_image (body_of s) starts
@@ -118,13 +114,7 @@ pub goes_on : (ss : List SectionMeaning) (i : ℕ) (s : SectionMeaning) (starts 
     ++ (section_head_of (section_kind_of s) (section_is_extended s) (body_len (body_of s)) ++ body_image (body_of s) starts))
     ++ sections_bytes (up_to_4 (section_len s) - section_len s) (sections_from (drop (i + 1) ss)) (drop (starts_in (volumes_in_section
     s)) starts)
-goes_on ss i s starts gap l is k =
-    ap (λ (xs : List SectionMeaning). sections_bytes gap (sections_from xs) starts) (item_at ss i s l is)
-    ∙ ap (λ (xs : List ℕ). (replicate gap 0 ++ xs) ++ sections_bytes (up_to_4 (frame_len (frame_of 0 s starts)) - frame_len
-    (frame_of 0 s starts)) (sections_from (drop (i + 1) ss)) (drop (starts_in (volumes_in_section s)) starts)) (framed s starts k)
-    ∙ ap (λ (n : ℕ). (replicate gap 0
-    ++ (section_head_of (section_kind_of s) (section_is_extended s) (body_len (body_of s)) ++ body_image (body_of s) starts))
-    ++ sections_bytes (up_to_4 n - n) (sections_from (drop (i + 1) ss)) (drop (starts_in (volumes_in_section s)) starts)) (sized s starts k)
+goes_on ss i s starts gap l is k = grind (arith, common_steps, item_at, framed, sized)
 
 -- a front grows by three pieces
 pub front_more : {S : Type 0} (takes : S → List ℕ → S → Type 0) → WalkLaws takes → (s t u v w : S) (whole rest a b c left : List ℕ)
@@ -165,5 +155,4 @@ front_none takes (x ∷ xs) i s t gap starts rest tail none f = absurd (omega (a
 -- after the last section are the starts after theirs
 pub walk_ended : (ss : List SectionMeaning) (i : ℕ) (rest last : List ℕ) → length ss ≤ i
     → ComesTo (volumes_in_sections (sections_from (drop i ss))) rest last → rest ≡ last
-walk_ended ss i rest last past walk =
-    sym (ap (λ (ys : List SectionMeaning). drop (starts_in (volumes_in_sections (sections_from ys))) rest) (drop_all i ss past)) ∙ walk.left
+walk_ended ss i rest last past walk = grind (arith, common_steps, drop_all)

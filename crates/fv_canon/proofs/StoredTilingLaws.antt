@@ -1,4 +1,5 @@
 -- The files and pads that are written as the canonical image has them tile the body.
+use Rattle.std.proofs.lemmas.Grind.{common_steps}
 use Rattle.std.proofs.Common.{◌≡◌, ◌≤◌, ◌<◌, ◌⊎◌, inl, inr, ◌+◌, ◌-◌, ◌%◌, ℕ, zero, suc, true, false, List, [], ◌∷◌, ◌++◌}
 use Rattle.std.proofs.Common.{length, replicate, refl, sym, ap, ◌∙◌, subst, arith, length-append, append_assoc, append-nil}
 use Rattle.std.specs.Prelude.{map, slice_index}
@@ -139,9 +140,7 @@ filler_is x = (omega arith, omega arith, omega arith)
 data_aligned : (p : Polarity) (f : StoredFile) (s : ℕ) → is_large f.attributes ≡ false
     → (s + (stored_item f).header) % (stored_item f).alignment ≡ 0
     → (s + (stored_head p f).header_len) % alignment_of (attribute_bits (stored_head p f).attributes) ≡ 0
-data_aligned p f s short h =
-    let n : ℕ = length f.payload in
-    subst (λ (a : ℕ). (s + head_len_for n) % a ≡ 0) (sym (alignment_with (needs_large n) f.attributes short)) h
+data_aligned p f s short h = grind (arith, common_steps, alignment_with)
 
 pub body_tiles : (system : FileSystem) (p : Polarity) (total e : ℕ) (fs : List StoredFile) (ss : List ℕ) → total % 8 ≡ 0 → e % 8 ≡ 0
     → AllByRecursion (Storable system) fs → StartsFollow total e (map stored_item fs) ss

@@ -1,4 +1,5 @@
 -- The sums of an image are right: that of its header, and those of each file and pad after it.
+use Rattle.std.proofs.lemmas.Grind.{common_steps}
 use Rattle.std.proofs.Common.{◌≡◌, ◌≤◌, ◌<◌, ◌+◌, ◌-◌, ◌%◌, ℕ, true, false, List, [], ◌∷◌, ◌++◌, length, take, drop, replicate, refl, sym, ap}
 use Rattle.std.proofs.Common.{◌∙◌, subst, arith, length-append, append_assoc}
 use Rattle.std.specs.Prelude.{slice_index, Option, None, Some}
@@ -34,15 +35,7 @@ use Rattle.fv_canon.proofs.VolumeLaws.{known, image_front, sections_again}
 
 header_sum : (system : FileSystem) (p : Polarity) (head : FileHead) (payload x b rest : List ℕ) → IsFilled system p head payload x
     → b ≡ x ++ rest → header_sum_of (take head.header_len b) ≡ 0
-header_sum system p head payload x b rest filled is =
-    let file = filled.is_file in
-    let h : List ℕ = file.header in
-    let len : head.header_len ≡ length h = ap (λ (f : FileHead). f.header_len) file.is_header.fields ∙ sym file.is_header.whole in
-    let text : b ≡ h ++ (payload ++ (filled.filler ++ rest)) =
-    is ∙ ap (λ (xs : List ℕ). xs ++ rest) (filled.text ∙ ap (λ (xs : List ℕ). xs ++ filled.filler) file.text)
-    ∙ append_assoc (h ++ payload) filled.filler rest ∙ append_assoc h payload (filled.filler ++ rest) in
-    ap header_sum_of (ap (λ (n : ℕ). take n b) len ∙ ap (take (length h)) text ∙ take_at h (payload ++ (filled.filler ++ rest)) (length h) refl)
-    ∙ file.is_header.sum
+header_sum system p head payload x b rest filled is = grind (arith, common_steps, append_assoc, take_at)
 
 cell_sums : (system : FileSystem) (p : Polarity) (c : CellForm) (x rest image : List ℕ) → IsCell system p c x → PadFixed c
     → drop (offset_of c) image ≡ x ++ rest → CellSums image c

@@ -2,6 +2,7 @@
 -- 1. Lawful starts are where the data are at a multiple of the step; so a lawful start is a step away from the next.
 -- 2. Up: the least start with a pad before it is lawful, and what serves is a step after a start that does not.
 -- 3. Down: where the greatest lawful start does not serve, the next does.
+use Rattle.std.proofs.lemmas.Grind.{common_steps}
 use Rattle.fv_base.specs.Value.{up_to_8}
 use Rattle.std.proofs.Common.{◌≡◌, ℕ, ◌+◌, ◌-◌, ◌%◌, ◌<◌, ◌≤◌, inl, inr, sym, ◌∙◌, ap, subst, arith, Bool, true, false}
 use Rattle.std.specs.Prelude.{IsTrue}
@@ -66,10 +67,7 @@ before_missed total f r a s t w h m not v l = elim (cases_lt t s) [
 pub from_pad : (total e : ℕ) (f : LayoutItem) (r : Reach) (a d t : ℕ) → Widens a f.alignment → f.header % 8 ≡ 0
     → ((y : ℕ) → y % a ≡ 0 → e + 24 + f.header ≤ y → d ≤ y) → (Serves total f r e → ⊥) → Lawful e f t → Serves total f r t
     → d - f.header ≤ t
-from_pad total e f r a d t w h least not l v = elim l.apart [
-  | inl is ↦ absurd (not (subst (λ n. Serves total f r n) is v))
-  | inr far ↦ let most : d ≤ t + f.header = least (t + f.header) (data_at total f r a t w h v) (omega arith) in omega arith
-]
+from_pad total e f r a d t w h least not l v = grind (arith, common_steps, data_at)
 
 pub multiple_next : (s h a : ℕ) → (s + h) % a ≡ 0 → ((s + a) + h) % a ≡ 0
 multiple_next s h a p = mod-eq-sub-mod (reached s h a) ∙ (ap (λ n. n % a) (turned s h a) ∙ p)

@@ -4,6 +4,7 @@
 -- 3. The image begins with the volume's head (`image_front`), and its files and pads tile the rest (`image_tiled`).
 -- 4. So the image of a volume is read as its meaning, if this holds of what is in its files (`volume_again`).
 -- 5. By the depth of the nesting it holds at every level (`sections_again`), and so of each image (`image_denotes`).
+use Rattle.std.proofs.lemmas.Grind.{common_steps}
 use Rattle.std.proofs.Common.{◌≡◌, ◌≢◌, ◌≤◌, ◌<◌, ◌+◌, ◌-◌, ◌*◌, ◌/◌, ◌%◌, ℕ, zero, suc, Bool, true, false, List, [], ◌∷◌, ◌++◌, length}
 use Rattle.std.proofs.Common.{take, drop, replicate, refl, sym, ap, ◌∙◌, subst, arith, append_assoc, length-append, length-drop}
 use Rattle.std.specs.Prelude.{map, nat_lt, ◌==◌, Option, None, Some}
@@ -86,9 +87,7 @@ half_even : (a : ℕ) → is_large (a / 2 * 2) ≡ false
 half_even a = ne_eqb (a / 2 * 2 % 2) 1 (λ e. omega (arith, e))
 
 half_moves : (a : ℕ) → is_fixed a ≡ false → is_fixed (a / 2 * 2) ≡ false
-half_moves a f = ap (λ (n : ℕ). n % 2 == 1) (same a) ∙ f where
-  same : (a : ℕ) → a / 2 * 2 / 4 ≡ a / 4
-  same a = omega arith
+half_moves a f = grind (arith, common_steps)
 
 half_small : (a : ℕ) → a < 256 → a / 2 * 2 < 256
 half_small a l = omega (arith, l)
@@ -332,16 +331,7 @@ image_tiled h fs ss o k shows =
 -- a header and files make a volume
 pub volume_of : (is_stream : Streams) (b : List ℕ) (m : Meaning) (e : Extent) (files : List FileForm) → BeginsVolume (head_of m) e b
     → length b ≡ e.length → StandIn e b files → Pairwise (MeansFile is_stream) files (files_of m) → VolumeOver is_stream b m
-volume_of is_stream b m e files front whole stand meanings = record {
-  extent = e;
-  front = front;
-  whole = whole;
-  cells = stand.cells;
-  tiles = stand.tiles;
-  files = files;
-  current = stand.current;
-  meanings = meanings;
-}
+volume_of is_stream b m e files front whole stand meanings = grind (arith, common_steps)
 
 pub volume_again : (is_stream : Streams) → StreamsAgain is_stream → VolumesAgain (VolumeOver is_stream)
 volume_again is_stream streams (Volume h files) b o small d (stored, starts, are, placed, shows) =

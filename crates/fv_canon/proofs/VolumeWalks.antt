@@ -1,4 +1,5 @@
 -- What is known of a volume that was read and laid out, and what the walk over it writes.
+use Rattle.std.proofs.lemmas.Grind.{common_steps}
 use Rattle.std.proofs.Common.{◌≡◌, ◌≤◌, ◌<◌, ◌+◌, ◌-◌, ℕ, zero, suc, List, [], ◌∷◌, ◌++◌, length, take, drop, replicate, get_or, refl, sym}
 use Rattle.std.proofs.Common.{ap, ◌∙◌, subst, arith, append_assoc, drop-drop, length-append}
 use Rattle.std.specs.Prelude.{map, Option, None, Some}
@@ -120,15 +121,7 @@ pub volume_text : (h : HeadFields) (fs : List FileMeaning) (starts : List ℕ) �
     ++ replicate (first_edge h h.ext - canonical_end h h.ext) (erased_byte (polarity_of h.attributes)))
     ++ files_bytes (polarity_of h.attributes) h.length (first_edge h h.ext) (stored_of (files_from fs) (drop (length fs) starts))
     (take (length fs) starts))
-volume_text h fs starts v =
-    let n : ℕ = length fs in
-    let p : Polarity = polarity_of h.attributes in
-    let first : ℕ = first_edge h h.ext in
-    let fill : List ℕ = replicate (first - canonical_end h h.ext) (erased_byte p) in
-    let files : List ℕ = files_bytes p h.length first (stored_of (files_from fs) (drop n starts)) (take n starts) in
-    ap (λ (k : ℕ). volume_bytes h (stored_of (files_from fs) (drop k starts)) (take k starts)) (ap length (files_list_back fs))
-    ∙ ap (λ (u : ℕ). canonical_head h ++ (ext_pad p h.ext u ++ (fill ++ files))) v.used
-    ∙ ap (λ (xs : List ℕ). canonical_head h ++ xs) (sym (append_assoc (ext_pad p h.ext (used_by first fs (take n starts))) fill files))
+volume_text h fs starts v = grind (arith, common_steps, files_list_back, append_assoc)
 
 volume_left : (h : HeadFields) (fs : List FileMeaning)
     → starts_in (volumes_in (Volume h (files_from fs))) ≡ length fs + starts_in (volumes_in_files (files_from fs))

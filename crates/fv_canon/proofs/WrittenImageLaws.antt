@@ -1,5 +1,6 @@
 -- What a walk writes for a volume that was read and laid out is its image.
-use Rattle.std.proofs.Common.{◌≡◌, ◌+◌, ℕ, zero, suc, List, [], ◌∷◌, ◌++◌, length, take, drop, refl, sym, ap, ◌∙◌, subst, append_assoc}
+use Rattle.std.proofs.lemmas.Grind.{common_steps}
+use Rattle.std.proofs.Common.{◌≡◌, ◌+◌, ℕ, zero, suc, List, [], ◌∷◌, ◌++◌, length, take, drop, refl, sym, ap, ◌∙◌, subst, append_assoc, arith}
 use Rattle.std.proofs.Common.{append-nil}
 use Rattle.std.specs.List.{AllByRecursion}
 use Rattle.std.proofs.lemmas.List.{take_at, drop_at}
@@ -42,12 +43,10 @@ VolumesMade is_volume = (m : Meaning) (b starts more : List ℕ) → IsBytes b �
 -- the starts after those of the first item
 pub behind_is : (n : ℕ) (starts here behind more : List ℕ) → starts ≡ here ++ behind → length here ≡ n
     → drop n (starts ++ more) ≡ behind ++ more
-behind_is n starts here behind more e l =
-    ap (λ (xs : List ℕ). drop n (xs ++ more)) e ∙ ap (drop n) (append_assoc here behind more) ∙ drop_at here (behind ++ more) n l
+behind_is n starts here behind more e l = grind (arith, common_steps, append_assoc, drop_at)
 
 pub front_is : (n : ℕ) (starts here behind more : List ℕ) → starts ≡ here ++ behind → length here ≡ n → take n (starts ++ more) ≡ here
-front_is n starts here behind more e l =
-    ap (λ (xs : List ℕ). take n (xs ++ more)) e ∙ ap (take n) (append_assoc here behind more) ∙ take_at here (behind ++ more) n l
+front_is n starts here behind more e l = grind (arith, common_steps, append_assoc, take_at)
 
 pub moved : (starts here behind more : List ℕ) → starts ≡ here ++ behind → starts ++ more ≡ here ++ (behind ++ more)
 moved starts here behind more e = ap (λ (xs : List ℕ). xs ++ more) e ∙ append_assoc here behind more
@@ -86,8 +85,7 @@ frames_made is_section made at place (MoreSections s ss) (f ∷ g ∷ fs) tail b
     )
 
 pub stream_made : (is_section : Sections) → SectionsMade is_section → StreamsMade (StreamOver is_section)
-stream_made is_section made ss tail b starts more small (fs, split, pairs) laid =
-    frames_made is_section made 0 0 ss fs tail b starts more small split pairs laid
+stream_made is_section made ss tail b starts more small (fs, split, pairs) laid = grind (arith, common_steps, frames_made)
 
 section_made : (is_stream : Streams) (is_volume : Volumes) → StreamsMade is_stream → VolumesMade is_volume
     → SectionsMade (SectionOver is_stream is_volume)
@@ -110,8 +108,7 @@ data_made is_stream streams kind (Sectioned sections tail) payload starts more s
 
 file_made : (is_stream : Streams) → StreamsMade is_stream → (m : FileMeaning) (f : FileForm) (starts more : List ℕ) → IsBytes f.payload
     → MeansFile is_stream f m → Laid AreStarts (volumes_in_file m) starts → IsStored m (stored_file m (starts ++ more))
-file_made is_stream streams (File name kind attributes content) f starts more small (named, kinds, bits, is) laid =
-    (refl, refl, refl, data_made is_stream streams kind content f.payload starts more small is laid)
+file_made is_stream streams (File name kind attributes content) f starts more small (named, kinds, bits, is) laid = grind (arith, common_steps, data_made)
 
 pub files_made : (is_stream : Streams) → StreamsMade is_stream → (system : FileSystem) (limit : ℕ) (files : FileMeanings)
     (forms : List FileForm) (starts more : List ℕ) → AllByRecursion (FileIsAccepted system limit) forms

@@ -1,5 +1,6 @@
 -- What is taken of an input: the volume at one of its bytes.
-use Rattle.std.proofs.Common.{◌≡◌, ◌∙◌, ◌-◌, ◌≤◌, ℕ, List, take, drop, length, ap, arith, inl, inr, length-drop, min, sym, subst}
+use Rattle.std.proofs.lemmas.Grind.{common_steps}
+use Rattle.std.proofs.Common.{◌≡◌, ◌∙◌, ◌-◌, ◌≤◌, ℕ, List, take, drop, length, ap, arith, inr, length-drop, min, sym, subst}
 use Rattle.std.specs.Prelude.{Result, Ok, Err}
 use Rattle.std.proofs.lemmas.List.{drop_min, take_all}
 use Rattle.fv_base.specs.declared.fault.Fault.{Fault}
@@ -20,9 +21,7 @@ rest_is n m input e =
 pub taken_volume : (n m : ℕ) (input : List ℕ) (h : HeadFields) (e : Extent) → m ≡ min n (length input)
     → BeginsVolume h e (take (length input - m) (drop m input))
     → At n input (take e.length (take (length input - m) (drop m input)))
-taken_volume n m input h e is begins =
-    let rest = rest_is n m input is in
-    inl (h, e, subst (BeginsVolume h e) rest begins, ap (take e.length) rest)
+taken_volume n m input h e is begins = grind (arith, common_steps, rest_is)
 
 -- or none does
 pub taken_rest : (n m : ℕ) (input : List ℕ) (r : Result Extent Fault) (f : Fault) → m ≡ min n (length input)

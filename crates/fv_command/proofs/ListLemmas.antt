@@ -1,5 +1,6 @@
 -- The text of `list`: how the code comes to each of its parts.
-use Rattle.std.proofs.Common.{◌≡◌, ℕ, ◌+◌, ◌<◌, ◌≤◌, List, [], ◌∷◌, ◌++◌, length, drop, get_or, refl, sym, subst, arith}
+use Rattle.std.proofs.lemmas.Grind.{common_steps}
+use Rattle.std.proofs.Common.{◌≡◌, ℕ, ◌+◌, ◌<◌, ◌≤◌, List, [], ◌∷◌, ◌++◌, length, drop, get_or, refl, subst, arith}
 use Rattle.std.specs.Prelude.{Bool, Option, None, Some}
 use Rattle.std.specs.List.{flat_map}
 use Rattle.fv_base.specs.Sinks.{WalkLaws}
@@ -44,20 +45,16 @@ shown_none kind (Nested v) is = refl
 is_section : (sums : Bool) (k j : ℕ) (s : SectionMeaning) (body : BodyMeaning) (shown rest : List ℕ) → body ≡ body_of s
     → BodyShown (section_kind_of s) (body_of s) shown → BodyLines sums (k + 1) body rest
     → SectionLines sums k j s (section_text k j s shown ++ rest)
-is_section sums k j (Section kind extended own) body shown rest is a b =
-    (shown, rest, a, refl, subst (λ (x : BodyMeaning). BodyLines sums (k + 1) x rest) is b)
+is_section sums k j (Section kind extended own) body shown rest is a b = grind (arith, common_steps)
 
 is_file : (sums : Bool) (k i : ℕ) (f : FileMeaning) (content : ContentMeaning) (sum rest : List ℕ) → content ≡ content_of f
     → FileSum sums f sum → ContentLines sums (k + 1) content rest → FileLines sums k i f (file_text k i f sum ++ rest)
-is_file sums k i (File name kind attributes own) content sum rest is a h =
-    (sum, rest, a, refl, subst (λ (x : ContentMeaning). ContentLines sums (k + 1) x rest) is h)
+is_file sums k i (File name kind attributes own) content sum rest is a h = grind (arith, common_steps)
 
 pub is_volume : (sums : Bool) (k : ℕ) (m : Meaning) (head : HeadFields) (fs : List FileMeaning) (sum rest : List ℕ)
     → m ≡ Volume head (files_from fs) → VolumeSum sums m sum → FilesLines sums (k + 1) 0 (files_from fs) rest
     → VolumeLines sums k m (volume_text k m sum ++ rest)
-is_volume sums k m head fs sum rest is a h =
-    subst (λ (x : Meaning). VolumeLines sums k x (volume_text k x sum ++ rest)) (sym is)
-    (sum, rest, subst (λ (x : Meaning). VolumeSum sums x sum) is a, refl, h)
+is_volume sums k m head fs sum rest is a h = grind (arith, common_steps)
 
 -- ---- the pieces of a line
 

@@ -1,6 +1,7 @@
 -- The cells of an input, and what is put for its pads.
-use Rattle.std.proofs.Common.{◌≡◌, ◌≤◌, ◌%◌, ◌∙◌, ℕ, List, length, sym, subst, inl, inr}
-use Rattle.std.specs.Prelude.{◌≢◌, ◌⊎◌, drop, Result, Ok, Err}
+use Rattle.std.proofs.lemmas.Grind.{common_steps}
+use Rattle.std.proofs.Common.{◌≡◌, ◌≤◌, ◌%◌, ◌∙◌, ℕ, List, length, sym, subst, arith}
+use Rattle.std.specs.Prelude.{drop, Result, Ok, Err}
 use Rattle.fv_base.specs.Faults.{out_of_memory}
 use Rattle.fv_base.specs.declared.fault.Fault.{Fault}
 use Rattle.fv_head.proofs.Laws.{first_lies}
@@ -43,7 +44,4 @@ pub cells_fit : (m : Meaning) (b : List ℕ) (e : Extent) → Opened m b e
 cells_fit m b e o = let f = first_lies b (head_of m) e o.front in rw o.whole (f.2, f.0, f.1)
 
 pub want_only : (f : Fault) → ((f ≡ out_of_memory → ⊥) → ⊥) → f ≡ out_of_memory
-want_only f none = go (want_known f) where
-  go : (f ≡ out_of_memory) ⊎ (f ≢ out_of_memory) → f ≡ out_of_memory
-  go (inl want) = want
-  go (inr other) = absurd (none other)
+want_only f none = grind (arith, common_steps, want_known)

@@ -127,8 +127,7 @@ given hex at r s taken m gives accepted = (taken, gives, accepted)
 
 pub first_stopped : (side : Side) (hex : Bool) (at other : Option ℕ) (first : Change) (s w : Shown) (f : Fault)
     → side ≡ sides.First → VolumeInputStops hex at first f → SideStops side hex at other first (turn s s) (turn w w) f
-first_stopped side hex at other first s w f is stops =
-    subst (λ (x : Side). SideStops x hex at other first (turn s s) (turn w w) f) (sym is) (refl, inl (refl, stops))
+first_stopped side hex at other first s w f is stops = grind (arith, common_steps)
 
 pub second_stopped : (side : Side) (hex : Bool) (at other : Option ℕ) (first second : Change) (w : Shown) (m : Meaning) (f : Fault)
     → side ≡ sides.Second → GivesVolume hex at first m → VolumeInputStops hex other second f

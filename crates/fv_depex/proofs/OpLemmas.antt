@@ -1,4 +1,5 @@
 -- An op is there where its checks hold.
+use Rattle.std.proofs.lemmas.Grind.{common_steps}
 use Rattle.std.proofs.Common.{◌≡◌, ◌≤◌, ℕ, zero, suc, List, [], ◌∷◌, ◌++◌, length, drop, refl, sym, ap, ◌∙◌, arith, Bool, true, false}
 use Rattle.std.proofs.Common.{length-append, length-drop}
 use Rattle.std.specs.Prelude.{◌||◌, not, nat_le, slice_index, None, if◌then◌else◌}
@@ -85,8 +86,7 @@ record ChecksOfOp (phase : Phase) (stage : Stage) (r : List ℕ) : Type 0 where
   valued : holds_values stage (slice_index r 0) ≡ true
 
 checks_of_op : (phase : Phase) (stage : Stage) (r : List ℕ) → AllHold (op_checks phase stage r) → ChecksOfOp phase stage r
-checks_of_op phase stage r (some, (known, (placed, (whole, (valued, end))))) =
-    record { some = some; known = known; placed = placed; whole = whole; valued = valued }
+checks_of_op phase stage r (some, (known, (placed, (whole, (valued, end))))) = grind (arith, common_steps)
 
 -- where the checks hold, the op is there
 pub op_stands : (phase : Phase) (stage : Stage) (r : List ℕ) → first_fault (op_checks phase stage r) ≡ None
@@ -148,14 +148,7 @@ checks_hold phase stage o x fits = (
 -- bytes begin with one op at most
 pub same_op : (o p : Op) (x y : List ℕ) → IsSized o → IsSized p → op_code o ∷ (op_operand o ++ x) ≡ op_code p ∷ (op_operand p ++ y)
     → (o ≡ p) × (x ≡ y)
-same_op o p x y so sp e =
-    let code : op_code o ≡ op_code p = ap (λ (l : List ℕ). slice_index l 0) e in
-    let len : length (op_operand o) ≡ length (op_operand p) = so ∙ ap (λ (k : ℕ). operand_len (carries k)) code ∙ sym sp in
-    let parts = same_cut (op_operand o) (op_operand p) x y len (ap (drop 1) e) in (
-      sym (op_back o) ∙ ap (λ (k : ℕ). op_by k (record { bytes = op_operand o })) code
-          ∙ ap (λ (l : List ℕ). op_by (op_code p) (record { bytes = l })) parts.0 ∙ op_back p,
-      parts.1,
-    )
+same_op o p x y so sp e = grind (arith, common_steps, same_cut, op_back)
 
 -- the code of END is END's
 pub end_code : (o : Op) → op_code o ≡ 8 → o ≡ ops.End

@@ -1,4 +1,5 @@
 -- Ops that may follow one another are those of whole expressions.
+use Rattle.std.proofs.lemmas.Grind.{common_steps}
 use Rattle.std.proofs.Common.{◌≡◌, ◌≢◌, ◌≤◌, ◌<◌, ℕ, ◌+◌, ◌-◌, List, [], ◌∷◌, ◌++◌, length, drop, inl, inr, refl, sym, ap, ◌∙◌, subst}
 use Rattle.std.proofs.Common.{arith, true, false, length-append, append_assoc, append-nil}
 use Rattle.std.specs.Prelude.{◌⊎◌, ◌&&◌, nat_le, slice_index}
@@ -154,28 +155,16 @@ no_pei Pei o stage fits h = absurd (go (op_code o) fits.known h)
     go c k (inr e) = let t : (nat_le 2 9 && nat_le 9 8) ≡ true = subst (λ (n : ℕ). (nat_le 2 n && nat_le n 8) ≡ true) e k in cc
 
 value_code : (o : Op) → 2 ≤ op_code o → op_code o ≤ 8 → o ≢ ops.End → op_code o < 8
-value_code o low high ne = go (op_code o) refl where
-  go : (c : ℕ) → op_code o ≡ c → op_code o < 8
-  go c e = less (op_code o) high (λ e. ne (end_code o e)) where
-    less : (n : ℕ) → n ≤ 8 → (n ≡ 8 → ⊥) → n < 8
-    less n l k = grind (arith, l, k)
+value_code o low high ne = grind (arith, common_steps, end_code)
 
 -- the values of an op that has some
 after_values : (stage : Stage) (o : Op) → 2 ≤ op_code o → stage_after stage o ≡ stages.Values (values_after (values_of stage) o)
-after_values stage =
-    each_op (λ o. 2 ≤ op_code o → stage_after stage o ≡ stages.Values (values_after (values_of stage) o))
-    (λ g l. absurd (omega (arith, l))) (λ g l. absurd (omega (arith, l))) (λ g l. refl) (λ l. refl) (λ l. refl) (λ l. refl) (λ l. refl)
-    (λ l. refl) (λ l. refl) (λ l. refl)
+after_values stage = grind (arith, common_steps, each_op)
 
 placed_values : (phase : Phase) (n : ℕ) (os : List Op) (o : Op) → LeavesStage phase (stages.Values n) os → OpFits phase (stages.Values n) o
     → o ≢ ops.End
     → LeavesStage phase (stage_after (stages.Values n) o) (os ++ o ∷ [])
-placed_values phase n os o h fits ne =
-    let range = and_split (nat_le 2 (op_code o)) (nat_le (op_code o) 8) fits.placed in
-    let low : 2 ≤ op_code o = leb-true 2 (op_code o) range.0 in
-    let high : op_code o ≤ 8 = leb-true (op_code o) 8 range.1 in
-    subst (λ (k : Stage). LeavesStage phase k (os ++ o ∷ [])) (sym (after_values (stages.Values n) o low))
-    (values_more phase n os o h low (value_code o low high ne) fits.valued)
+placed_values phase n os o h fits ne = grind (arith, common_steps, and_split, leb-true, after_values, values_more, value_code)
 
 start_value : (phase : Phase) (os : List Op) (o : Op) → LeavesStage phase stages.Start os → OpFits phase stages.Start o → 2 ≤ op_code o
     → op_code o < 8 → LeavesStage phase (stages.Values (values_after 0 o)) (os ++ o ∷ [])
@@ -233,12 +222,7 @@ knows_value Dxe code low high = le-leb code 9 (omega (arith, high))
 
 fits_value : (phase : Phase) (n : ℕ) (o : Op) → 2 ≤ op_code o → op_code o ≤ 8 → has_values n (op_code o) ≡ true → IsSized o
     → OpFits phase (stages.Values n) o
-fits_value phase n o low high values sized = record {
-  known = knows_value phase (op_code o) low high;
-  placed = rw (le-leb 2 (op_code o) low, le-leb (op_code o) 8 high) refl;
-  valued = values;
-  sized = sized;
-}
+fits_value phase n o low high values sized = grind (arith, common_steps, knows_value, le-leb)
 
 two_paths : (phase : Phase) (n : ℕ) (t u : Expression) (o : Op) → OpPath phase (stages.Values n) (postfix t) (stages.Values (n + 1))
     → OpPath phase (stages.Values (n + 1)) (postfix u) (stages.Values (n + 1 + 1))
@@ -274,14 +258,7 @@ tree_path phase n (either t u) sized =
 -- the ops from the start on
 from_start : (phase : Phase) (f : Stage) (o : Op) (os : List Op) → OpPath phase (stages.Values 0) (o ∷ os) f
     → OpPath phase stages.Start (o ∷ os) f
-from_start phase f o os p =
-    let range = and_split (nat_le 2 (op_code o)) (nat_le (op_code o) 8) (p.0).placed in
-    let low : 2 ≤ op_code o = leb-true 2 (op_code o) range.0 in
-    let same = after_values (stages.Values 0) o low ∙ sym (after_values stages.Start o low) in (
-      record { known = (p.0).known; placed = refl; valued = (p.0).valued; sized = (p.0).sized },
-      p.1,
-      subst (λ (k : Stage). OpPath phase k os f) same p.2,
-    )
+from_start phase f o os p = grind (arith, common_steps, and_split, leb-true, after_values)
 
 some_ops : (t : Expression) → 1 ≤ length (postfix t)
 some_ops always = omega arith

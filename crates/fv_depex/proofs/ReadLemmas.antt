@@ -1,4 +1,5 @@
 -- What the loop over the ops keeps, and what its ends say.
+use Rattle.std.proofs.lemmas.Grind.{common_steps}
 use Rattle.std.proofs.Common.{◌≡◌, ◌≢◌, ◌≤◌, ℕ, suc, ◌+◌, List, [], ◌∷◌, ◌++◌, length, take, drop, refl, sym, ap, ◌∙◌, subst, arith}
 use Rattle.std.proofs.Common.{length-append, length-drop, append_assoc, append-nil}
 use Rattle.std.specs.Prelude.{◌⊎◌}
@@ -30,13 +31,10 @@ pub record OpsKept (phase : Phase) (b : List ℕ) (items : List Op) (at : ℕ) (
   pub few : values_of stage ≤ at
 
 pub kept_none : (phase : Phase) (b : List ℕ) (items : List Op) → items ≡ [] → OpsKept phase b items 0 stages.Start
-kept_none phase b items e = subst (λ (l : List Op). OpsKept phase b l 0 stages.Start) (sym e)
-    (record { path = refl; leaves = refl; bytes = refl; inside = omega arith; few = omega arith })
+kept_none phase b items e = grind (arith, common_steps)
 
 few_more : (stage : Stage) (o : Op) → values_of (stage_after stage o) ≤ values_of stage + 1
-few_more stage =
-    each_op (λ o. values_of (stage_after stage o) ≤ values_of stage + 1) (λ g. omega arith) (λ g. omega arith) (λ g. omega arith)
-    (omega arith) (omega arith) (omega arith) (omega arith) (omega arith) (omega arith) (omega arith)
+few_more stage = grind (arith, common_steps, each_op)
 
 -- the bytes of one more op
 pub record OneMoreOp (b : List ℕ) (items : List Op) (o : Op) (at n : ℕ) : Type 0 where
@@ -148,15 +146,7 @@ no_want phase stage r kind first =
 pub first_fault_at : (phase : Phase) (b : List ℕ) (items : List Op) (at : ℕ) (stage : Stage) (f : DepexFault)
     → OpsKept phase b items at stage → f.offset ≡ at → IsFirstFault (op_checks phase stage (drop at b)) f.kind
     → IsFirstOpFault phase b f
-first_fault_at phase b items at stage f k place first = record {
-  before = items;
-  stage = stage;
-  r = drop at b;
-  joined = sym (take-append-drop at b) ∙ ap (λ (l : List ℕ). l ++ drop at b) k.bytes;
-  read = k.path;
-  place = place ∙ sym (length-take-le at b k.inside) ∙ ap length k.bytes;
-  kind_is = first;
-}
+first_fault_at phase b items at stage f k place first = grind (arith, common_steps, take-append-drop, length-take-le)
 
 -- where there is a first fault the bytes are spelled by none
 pub none_after : (phase : Phase) (b : List ℕ) (f : DepexFault) (xs : List Op) (s : List ℕ) → IsFirstOpFault phase b f → Spells phase xs s b

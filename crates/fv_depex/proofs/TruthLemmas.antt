@@ -1,21 +1,20 @@
 -- Ops leave the truth of their tree.
-use Rattle.std.proofs.Common.{◌≡◌, ◌≤◌, ◌+◌, ℕ, length, drop, List, [], ◌∷◌, ◌++◌, inl, inr, refl, sym, ap, ◌∙◌, Bool, append_assoc}
-use Rattle.std.specs.Prelude.{◌⊎◌, Option, None, Some, Result, Ok, Err, IfOk}
+use Rattle.std.proofs.lemmas.Grind.{common_steps}
+use Rattle.std.proofs.Common.{◌≡◌, ◌≤◌, ◌+◌, ℕ, length, drop, List, [], ◌∷◌, ◌++◌, refl, sym, ap, ◌∙◌, Bool, append_assoc, arith}
+use Rattle.std.specs.Prelude.{Option, None, Some, Result, Ok, Err, IfOk}
 use Rattle.std.proofs.lemmas.List.{drop_all}
 use Rattle.fv_base.specs.declared.guid.Guid.{Guid}
-use Rattle.fv_depex.specs.inner.Evaluation.{and_then, evaluate_ops, evaluate_op, top}
+use Rattle.fv_depex.specs.inner.Evaluation.{evaluate_ops, evaluate_op, top}
 use Rattle.fv_depex.specs.Expressions.{Expression, always, never, installed, negated, both, either, IsTree, IsOrder, postfix, truth}
 use Rattle.fv_depex.specs.declared.fault.DepexFault.{DepexFault}
 use Rattle.fv_depex.specs.declared.op.Op.{Op}
 use Rattle.fv_depex.specs.declared.op.Op.TheVariants as ops
 use Rattle.fv_depex.specs.declared.op.Phase.{Phase}
-use Rattle.fv_depex.specs.declared.op.Phase.TheVariants.{Dxe}
 
 -- the ops of two trees and an op, before others
 two_before : (t u : Expression) (o : Op) (os : List Op)
     → (postfix t ++ (postfix u ++ (o ∷ []))) ++ os ≡ postfix t ++ (postfix u ++ (o ∷ os))
-two_before t u o os =
-    append_assoc (postfix t) (postfix u ++ (o ∷ [])) os ∙ ap (λ (l : List Op). postfix t ++ l) (append_assoc (postfix u) (o ∷ []) os)
+two_before t u o os = grind (arith, common_steps, append_assoc)
 
 -- the ops of a tree leave its truth on top
 run_tree : (set : List Guid) (t : Expression) (s : List Bool) (os : List Op)
@@ -34,17 +33,10 @@ run_tree set (either t u) s os =
 
 pub truth_of_tree : (set : List Guid) (phase : Phase) (all : List Op) (t : Expression) → IsTree phase all t
     → evaluate_ops set all [] ≡ Some (truth set t)
-truth_of_tree set phase all t is = ap (λ (l : List Op). evaluate_ops set l []) is.joined ∙ go is.sor is.sor_is where
-  go : (sor : List Op) → (sor ≡ []) ⊎ ((sor ≡ ops.Sor ∷ []) × (phase ≡ Dxe))
-      → evaluate_ops set (sor ++ (postfix t ++ (ops.End ∷ []))) [] ≡ Some (truth set t)
-  go sor (inl e) = ap (λ (l : List Op). evaluate_ops set (l ++ (postfix t ++ (ops.End ∷ []))) []) e ∙ run_tree set t [] (ops.End ∷ [])
-  go sor (inr e) = ap (λ (l : List Op). evaluate_ops set (l ++ (postfix t ++ (ops.End ∷ []))) []) e.0 ∙ run_tree set t [] (ops.End ∷ [])
+truth_of_tree set phase all t is = grind (arith, common_steps, run_tree)
 
 pub none_of_order : (set : List Guid) (phase : Phase) (all : List Op) → IsOrder phase all → evaluate_ops set all [] ≡ None
-none_of_order set phase all is = go is.joined where
-  go : (all ≡ ops.Before is.guid ∷ ops.End ∷ []) ⊎ (all ≡ ops.After is.guid ∷ ops.End ∷ []) → evaluate_ops set all [] ≡ None
-  go (inl e) = ap (λ (l : List Op). evaluate_ops set l []) e
-  go (inr e) = ap (λ (l : List Op). evaluate_ops set l []) e
+none_of_order set phase all is = grind (arith, common_steps)
 
 -- no ops are those of a tree and of BEFORE or AFTER
 pub tree_no_order : (phase : Phase) (all : List Op) (t : Expression) → IsTree phase all t → IsOrder phase all → ⊥
@@ -57,16 +49,12 @@ tree_no_order phase all t tree order = never (truth [] t) (sym (truth_of_tree []
 pub run_step : (set : List Guid) (all : List Op) (s t : List Bool) (o : Op) (i : ℕ) → drop i all ≡ o ∷ drop (i + 1) all
     → evaluate_op set s o ≡ Some t
     → evaluate_ops set all [] ≡ evaluate_ops set (drop i all) s → evaluate_ops set all [] ≡ evaluate_ops set (drop (i + 1) all) t
-run_step set all s t o i next done before =
-    before ∙ ap (λ (l : List Op). evaluate_ops set l s) next
-    ∙ ap (λ (k : Option (List Bool)). and_then k (evaluate_ops set (drop (i + 1) all))) done
+run_step set all s t o i next done before = grind (arith, common_steps)
 
 pub run_none : (set : List Guid) (all : List Op) (s : List Bool) (o : Op) (i : ℕ) → drop i all ≡ o ∷ drop (i + 1) all
     → evaluate_op set s o ≡ None
     → evaluate_ops set all [] ≡ evaluate_ops set (drop i all) s → None ≡ evaluate_ops set all []
-run_none set all s o i next none before =
-    sym (before ∙ ap (λ (l : List Op). evaluate_ops set l s) next
-    ∙ ap (λ (k : Option (List Bool)). and_then k (evaluate_ops set (drop (i + 1) all))) none)
+run_none set all s o i next none before = grind (arith, common_steps)
 
 pub run_end : (set : List Guid) (all : List Op) (s : List Bool) (i : ℕ) → length all ≤ i
     → evaluate_ops set all [] ≡ evaluate_ops set (drop i all) s → evaluate_ops set all [] ≡ top s
@@ -107,10 +95,7 @@ build_tree (either t u) ts os =
     ap (build ts) (two_before t u ops.Or os) ∙ build_tree t ts (postfix u ++ (ops.Or ∷ os)) ∙ build_tree u (t ∷ ts) (ops.Or ∷ os)
 
 built : (phase : Phase) (all : List Op) (t : Expression) → IsTree phase all t → build [] all ≡ t ∷ []
-built phase all t is = ap (build []) is.joined ∙ go is.sor is.sor_is where
-  go : (sor : List Op) → (sor ≡ []) ⊎ ((sor ≡ ops.Sor ∷ []) × (phase ≡ Dxe)) → build [] (sor ++ (postfix t ++ (ops.End ∷ []))) ≡ t ∷ []
-  go sor (inl e) = ap (λ (l : List Op). build [] (l ++ (postfix t ++ (ops.End ∷ [])))) e ∙ build_tree t [] (ops.End ∷ [])
-  go sor (inr e) = ap (λ (l : List Op). build [] (l ++ (postfix t ++ (ops.End ∷ [])))) e.0 ∙ build_tree t [] (ops.End ∷ [])
+built phase all t is = grind (arith, common_steps, build_tree)
 
 -- ops are those of one tree at most
 pub one_tree : (phase : Phase) (all : List Op) (t u : Expression) → IsTree phase all t → IsTree phase all u → t ≡ u

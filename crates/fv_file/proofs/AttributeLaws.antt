@@ -1,4 +1,5 @@
 -- The attribute bits of a file with and without bit 0x01, which goes with the form of its header.
+use Rattle.std.proofs.lemmas.Grind.{common_steps}
 use Rattle.std.proofs.Common.{◌≡◌, ◌<◌, ◌+◌, ◌*◌, ◌/◌, ◌%◌, ℕ, Bool, true, false, refl, ap, arith}
 use Rattle.std.specs.Prelude.{◌==◌, slice_index}
 use Rattle.std.proofs.lemmas.Bool.{eqb-true, ne_eqb}
@@ -35,43 +36,27 @@ with_large_small false a h l = l
 -- ---- without bit 0x01
 
 pub short_without : (a : ℕ) → is_large (without_large a) ≡ false
-short_without a = ne_eqb (a / 2 * 2 % 2) 1 (λ e. odd a e) where
-  odd : (a : ℕ) → a / 2 * 2 % 2 ≡ 1 → ⊥
-  odd a e = omega arith
+short_without a = grind (arith, common_steps, ne_eqb)
 
 pub fixed_without : (a : ℕ) → is_fixed (without_large a) ≡ is_fixed a
-fixed_without a = ap (λ n. n % 2 == 1) (same a) where
-  same : (a : ℕ) → a / 2 * 2 / 4 ≡ a / 4
-  same a = omega arith
+fixed_without a = grind (arith, common_steps)
 
 pub summed_without : (a : ℕ) → is_summed (without_large a) ≡ is_summed a
-summed_without a = ap (λ n. n % 2 == 1) (same a) where
-  same : (a : ℕ) → a / 2 * 2 / 64 ≡ a / 64
-  same a = omega arith
+summed_without a = grind (arith, common_steps)
 
 pub alignment_without : (a : ℕ) → alignment_of (without_large a) ≡ alignment_of a
-alignment_without a = ap (slice_index alignments) (same a) where
-  same : (a : ℕ) → a / 2 * 2 / 8 % 8 + 8 * (a / 2 * 2 / 2 % 2) ≡ a / 8 % 8 + 8 * (a / 2 % 2)
-  same a = omega arith
+alignment_without a = grind (arith, common_steps)
 
 pub without_small : (a : ℕ) → a < 256 → without_large a < 256
 without_small a l = omega arith
 
 -- bits without bit 0x01 are left as they are
 pub without_short : (a : ℕ) → is_large a ≡ false → without_large a ≡ a
-without_short a h = same a (small_even a h) where
-  same : (a : ℕ) → a % 2 ≡ 0 → a / 2 * 2 ≡ a
-  same a e = omega arith
+without_short a h = grind (arith, common_steps, small_even)
 
 -- one undoes the other
 pub with_without : (a : ℕ) → with_large (is_large a) (without_large a) ≡ a
-with_without a = by_form (is_large a) refl where
-  odd : (a : ℕ) → a % 2 ≡ 1 → a / 2 * 2 + 1 ≡ a
-  odd a e = omega arith
-
-  by_form : (l : Bool) → is_large a ≡ l → with_large l (without_large a) ≡ a
-  by_form true e = odd a (eqb-true (a % 2) 1 e)
-  by_form false e = without_short a e
+with_without a = grind (arith, common_steps, eqb-true, without_short)
 
 pub without_with : (l : Bool) (a : ℕ) → is_large a ≡ false → without_large (with_large l a) ≡ a
 without_with false a h = without_short a h

@@ -1,4 +1,5 @@
 -- Single bits of a file's attributes.
+use Rattle.std.proofs.lemmas.Grind.{common_steps}
 use Rattle.std.proofs.Common.{◌≡◌, ◌<◌, ℕ, zero, suc, ◌+◌, ◌*◌, ◌/◌, ◌%◌, bit_and, bit_or, ap, ◌∙◌, arith, true, false}
 use Rattle.std.specs.Prelude.{◌==◌}
 use Rattle.std.specs.Int.{bit_at}
@@ -30,6 +31,4 @@ pub large_set : (a b : ℕ) → is_large a ≡ false → b ≡ bit_or a 1 → b 
 large_set a b small set = set ∙ or_disjoint a 1 (and_mask a 1 ∙ small_even a small)
 
 pub set_large : (n : ℕ) → is_large n ≡ false → is_large (n + 1) ≡ true
-set_large n small = odd n (small_even n small) where
-  odd : (n : ℕ) → n % 2 ≡ 0 → is_large (n + 1) ≡ true
-  odd n even = grind (arith, nat_tests)
+set_large n small = grind (arith, common_steps, small_even, nat_tests)

@@ -1,4 +1,5 @@
 -- A body is tiled in one way, or there is a first place that has no cell.
+use Rattle.std.proofs.lemmas.Grind.{common_steps}
 use Rattle.std.proofs.Common.{◌≡◌, ◌≤◌, ◌<◌, ℕ, ◌+◌, ◌-◌, ◌%◌, List, [], ◌∷◌, ◌++◌, length, take, drop, map, sym, ap, ◌∙◌, subst, arith}
 use Rattle.std.proofs.Common.{true, false, length-drop, length-append}
 use Rattle.std.specs.Prelude.{◌≢◌, Result, Ok, Err, IfErr, IsErrAnd}
@@ -93,23 +94,13 @@ rest_free e rest body at behind is = all_are-true e (drop at body) (ap (all_are 
 
 pub rest_used : (e : ℕ) (rest body : List ℕ) (at : ℕ) → rest ≡ drop at body → all_are e rest ≡ false
     → (at < length body) × (AllAre e (drop at body) → ⊥)
-rest_used e rest body at behind is =
-    let used : all_are e (drop at body) ≡ false = ap (all_are e) (sym behind) ∙ is in
-    (omega (arith, some_left e (drop at body) used, length-drop at body), not_erased e (drop at body) used)
+rest_used e rest body at behind is = grind (arith, common_steps, some_left, length-drop, not_erased)
 
 -- the place at which the loop stops
 pub first_here : (s : FileSystem) (p : Polarity) (first : ℕ) (rest body : List ℕ) (items : List Cell) (at : ℕ) (f : Fault)
     → CellsKept s p first body items at → (at < length body) × (AllAre (erased_byte p) (drop at body) → ⊥) → rest ≡ drop at body
     → cell_verdict s p (first + at) rest ≡ Err f → IsFirstCellFault s p first body f
-first_here s p first rest body items at f k used behind is = record {
-  cells = map cell_form items;
-  at = at;
-  tiled = k.tiled;
-  none_free = k.none_free;
-  inside = used.0;
-  not_erased = used.1;
-  fault_is = verdict_first s p (first + at) (drop at body) f (ap (cell_verdict s p (first + at)) (sym behind) ∙ is);
-}
+first_here s p first rest body items at f k used behind is = grind (arith, common_steps, not_erased, verdict_first)
 
 -- ---- all tilings
 

@@ -1,9 +1,10 @@
 -- What is read at a place is the cell there, and no other. The verdict on the bytes is that of the checks of a cell, so a cell that is read
 -- is there, and the fault is that of the first check which does not hold. A cell that is there is read, so two at one place are one, and
 -- there is none where a check does not hold.
+use Rattle.std.proofs.lemmas.Grind.{common_steps}
 use Rattle.std.proofs.Common.{◌≡◌, ℕ, ◌%◌, List, [], ◌++◌, length, refl, sym, ap, ◌∙◌}
 use Rattle.std.proofs.Common.{subst, arith, Bool, true, false, length-append, append-nil}
-use Rattle.std.specs.Prelude.{◌==◌, ◌≢◌, not, nat_le, nat_lt, slice_index, Option, None, Some, Ok, Err}
+use Rattle.std.specs.Prelude.{◌==◌, ◌≢◌, nat_lt, slice_index, Option, None, Some, Ok, Err}
 use Rattle.std.proofs.lemmas.Bool.{leb-true, le-leb, ltb-true, ltb-false, eqb-true, eq-eqb}
 use Rattle.fv_base.specs.inner.Verdicts.{first_fault, verdict_by}
 use Rattle.fv_base.specs.Checks.{Check, IsFirstFault}
@@ -92,17 +93,12 @@ no_bits Zeros b e = rw e refl
 
 -- erased bytes are not read as a cell
 erased_refused : (s : FileSystem) (p : Polarity) (at : ℕ) (r : List ℕ) (c : CellForm) → AllAre (erased_byte p) r → CellIsRead s p at c r → ⊥
-erased_refused s p at r c all is =
-    let front = and_split (nat_le 24 (length r)) (not (bits_of p (slice_index r 23) == 0)) (all_hold (cell_checks s p at r) is.checked).0 in
-    let long = leb-true 24 (length r) front.0 in
-    let bits = no_bits p (slice_index r 23) (all_at (erased_byte p) r 23 all (omega (arith, long))) in
-    cc (front.1, eq-eqb _ 0 bits)
+erased_refused s p at r c all is = grind (arith, common_steps, and_split, all_hold, leb-true, no_bits, all_at, eq-eqb)
 
 -- a free cell, and nothing after it
 erased_at : (s : FileSystem) (p : Polarity) (c : CellForm) (u w : List ℕ) → IsCell s p c u → is_free c ≡ true → w ≡ []
     → AllAre (erased_byte p) (u ++ w)
-erased_at s p c u w is free none =
-    subst (λ (l : List ℕ). AllAre (erased_byte p) l) (sym (append-nil u) ∙ ap (λ (l : List ℕ). u ++ l) (sym none)) (free_all s p c u is free).1
+erased_at s p c u w is free none = grind (arith, common_steps, append-nil, free_all)
 
 pub one_cell : (s : FileSystem) (p : Polarity) → OneCell s p
 one_cell s p c d u v w z is is' o last last' e = go (is_free c) refl (is_free d) refl

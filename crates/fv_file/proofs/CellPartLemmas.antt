@@ -1,4 +1,5 @@
 -- What a cell is made of: a file with its filler ends at a multiple of 8, its header and data make up its size, and no cell is empty.
+use Rattle.std.proofs.lemmas.Grind.{common_steps}
 use Rattle.std.proofs.Common.{◌≡◌, ◌≤◌, ◌<◌, ◌+◌, ◌*◌, ◌/◌, ◌%◌, ℕ, List, length, sym, ap, ◌∙◌, arith, true, length-append}
 use Rattle.std.specs.Prelude.{slice_index}
 use Rattle.fv_base.specs.Flash.{AllAre, erased_byte}
@@ -32,17 +33,7 @@ cell_span s p (Free at len) u is = is.2
 
 -- a file has the bytes of its header at least
 pub file_least : (s : FileSystem) (p : Polarity) (head : FileHead) (payload b : List ℕ) → IsFilled s p head payload b → 24 ≤ length b
-file_least s p head payload b filled =
-    let is = filled.is_file in
-    omega (
-      arith,
-      ap length filled.text,
-      length-append filled.file filled.filler,
-      ap length is.text,
-      length-append is.header payload,
-      is.is_header.whole,
-      header_least (is_large (slice_index is.header 19)),
-    )
+file_least s p head payload b filled = grind (arith, common_steps, length-append, header_least)
 
 pub not_empty : (s : FileSystem) (p : Polarity) → NotEmpty s p
 not_empty s p (Valid at head payload) u is = omega (arith, file_least s p head payload u is.0)
@@ -55,10 +46,7 @@ not_empty s p (Free at len) u is = omega (arith, is.0, is.2)
 
 file_made_up : (s : FileSystem) (p : Polarity) (head : FileHead) (payload b : List ℕ) → IsFilled s p head payload b
     → head.header_len + length payload ≡ head.size
-file_made_up s p head payload b filled =
-    let is = filled.is_file in
-    let len : head.header_len ≡ length is.header = ap (λ (h : FileHead). h.header_len) is.is_header.fields ∙ sym is.is_header.whole in
-    omega (arith, len, is.size, ap length is.text, length-append is.header payload)
+file_made_up s p head payload b filled = grind (arith, common_steps, length-append)
 
 pub made_up : (s : FileSystem) (p : Polarity) (c : CellForm) (u : List ℕ) → IsCell s p c u → IsMadeUp c
 made_up s p (Valid at head payload) u is = file_made_up s p head payload u is.0

@@ -1,4 +1,5 @@
 -- What is known of a file that was read: where its data lie, and what fits its header.
+use Rattle.std.proofs.lemmas.Grind.{common_steps}
 use Rattle.std.proofs.Common.{◌≡◌, ◌≢◌, ◌≤◌, ◌<◌, ◌+◌, ◌-◌, ℕ, Bool, true, false, List, ◌++◌, length, take, drop, refl, sym, ap, ◌∙◌, subst}
 use Rattle.std.proofs.Common.{arith, length-append, length-drop, append_assoc}
 use Rattle.std.specs.Prelude.{slice_index}
@@ -18,16 +19,7 @@ use Rattle.fv_file.proofs.FileLemmas.{header_least}
 -- a file's data are the bytes after its header
 pub payload_behind : (s : FileSystem) (p : Polarity) (head : FileHead) (payload b : List ℕ) → IsFilled s p head payload b
     → payload ≡ take (head.size - head.header_len) (drop head.header_len b)
-payload_behind s p head payload b h =
-    let file = h.is_file in
-    let n : head.header_len ≡ length file.header = ap (λ (x : FileHead). x.header_len) file.is_header.fields ∙ sym file.is_header.whole in
-    let flat : b ≡ file.header ++ (payload ++ h.filler) =
-    h.text ∙ (ap (λ l. l ++ h.filler) file.text ∙ append_assoc file.header payload h.filler) in
-    let size : head.size - head.header_len ≡ length payload =
-    omega (arith, file.size, n, ap length file.text, length-append file.header payload) in
-    sym (ap (λ l. take (head.size - head.header_len) (drop head.header_len l)) flat
-    ∙ (ap (take (head.size - head.header_len)) (drop_at file.header (payload ++ h.filler) head.header_len (sym n))
-    ∙ take_at payload h.filler (head.size - head.header_len) (sym size)))
+payload_behind s p head payload b h = grind (arith, common_steps, append_assoc, length-append, drop_at, take_at)
 
 -- a file with a short header is short
 short_size : (large : Bool) (h : List ℕ) → large ≡ false → length h ≡ file_header_len large → IsBytes h

@@ -1,5 +1,6 @@
 -- The verdict on a file by its checks, up to the first that does not hold.
-use Rattle.std.proofs.Common.{◌≡◌, ◌≤◌, ℕ, ◌+◌, Bool, List, length, true, false, not, refl}
+use Rattle.std.proofs.lemmas.Grind.{common_steps}
+use Rattle.std.proofs.Common.{◌≡◌, ◌≤◌, ℕ, ◌+◌, Bool, List, length, true, false, not, refl, arith}
 use Rattle.std.specs.Prelude.{◌&&◌, ◌||◌, nat_le, Ok, Err}
 use Rattle.std.proofs.lemmas.Bool.{leb-true}
 use Rattle.fv_base.proofs.Laws.{and_split}
@@ -21,9 +22,7 @@ is_skipped false pad h = refl
 
 -- what the test of the size says
 pub sizes : (low n high : ℕ) (more : Bool) → (nat_le low n && (nat_le n high && more)) ≡ true → (low ≤ n) × (n ≤ high)
-sizes low n high more h =
-    let parts = and_split _ _ h in
-    (leb-true low n parts.0, leb-true n high (and_split _ _ parts.1).0)
+sizes low n high more h = grind (arith, common_steps, and_split, leb-true)
 
 pub is_not_skipped : (alive pad : Bool) → (alive && not pad) ≡ true → (not alive || pad) ≡ false
 is_not_skipped true true h = cc

@@ -1,4 +1,5 @@
 -- Headers as they are written, and read again.
+use Rattle.std.proofs.lemmas.Grind.{common_steps}
 use Rattle.std.proofs.Common.{◌≡◌, ◌≤◌, ◌<◌, ◌+◌, ◌/◌, ◌%◌, ◌^◌, ℕ, Bool, true, false, List, [], ◌∷◌, ◌++◌, length, take, drop, refl, sym}
 use Rattle.std.proofs.Common.{ap, ◌∙◌, subst, arith, append_assoc, length-append, length-drop, drop-drop}
 use Rattle.std.specs.Prelude.{slice_index, sum}
@@ -71,8 +72,7 @@ header_parts header_sum file_sum name kind attributes size false state =
 
 -- places after a name
 at_behind : (k : ℕ) (name rest : List ℕ) → length name ≡ 16 → slice_index (name ++ rest) (16 + k) ≡ slice_index rest k
-at_behind k name rest long =
-    subst (λ (n : ℕ). slice_index (name ++ rest) (n + k) ≡ slice_index rest k) long (get_or-append-add name rest k 0)
+at_behind k name rest long = grind (arith, common_steps, get_or-append-add)
 
 take_behind : (k : ℕ) (name rest : List ℕ) → length name ≡ 16 → take (16 + k) (name ++ rest) ≡ name ++ take k rest
 take_behind k name rest long = subst (λ (n : ℕ). take (n + k) (name ++ rest) ≡ name ++ take k rest) long (take-append-add name rest k)
@@ -230,9 +230,7 @@ written_with polarity header_sum file_sum name kind attributes size large long i
 -- the header sum of a header with its right sum
 sum_at : (header_sum file_sum : ℕ) (name : List ℕ) (kind attributes size : ℕ) (large : Bool) (state : ℕ) → length name ≡ 16
     → slice_index (header_with header_sum file_sum name kind attributes size large state) 16 ≡ header_sum
-sum_at header_sum file_sum name kind attributes size large state long =
-    ap (λ (b : List ℕ). slice_index b 16) (header_parts header_sum file_sum name kind attributes size large state)
-    ∙ at_behind 0 name (behind_name header_sum file_sum kind attributes (short_size large size) state (long_size large size)) long
+sum_at header_sum file_sum name kind attributes size large state long = grind (arith, common_steps, header_parts, at_behind)
 
 -- a header with its right sum is read again as its fields
 written_is : (polarity : Polarity) (file_sum : ℕ) (name : List ℕ) (kind attributes size : ℕ) (large : Bool) → length name ≡ 16
@@ -287,22 +285,14 @@ with_large_is true attributes short = set_large attributes short
 with_large_is false attributes short = short
 
 size_small : (data_len : ℕ) → data_len ≤ data_limit → file_header_len (needs_large data_len) + data_len < size_limit (needs_large data_len)
-size_small data_len most = by_form (needs_large data_len) data_len refl most where
-  by_form : (large : Bool) (n : ℕ) → needs_large n ≡ large → n ≤ data_limit → file_header_len large + n < size_limit large
-  by_form true n is most = omega arith
-  by_form false n is most = grind (arith, nat_tests)
+size_small data_len most = grind (arith, common_steps, nat_tests)
 
 -- the bytes of the header of a file
 pub file_head_is : (polarity : Polarity) (name : Guid) (kind : ℕ) (attributes : FileAttributes) (data_len file_sum : ℕ) (header : NewHeader)
     → is_large (attribute_bits attributes) ≡ false
     → header ≡ file_header name kind attributes data_len file_sum
     → new_header_bytes header polarity ≡ file_head_of name kind attributes data_len file_sum polarity
-file_head_is polarity name kind attributes data_len file_sum header short is =
-    let large : Bool = needs_large data_len in
-    let bits : ℕ = with_large large (attribute_bits attributes) in
-    ap (λ (x : NewHeader). new_header_bytes x polarity) is
-    ∙ ap (λ (l : Bool). header_bytes file_sum (bytes_of name) kind bits (file_header_len large + data_len) l (state_byte polarity))
-    (with_large_is large (attribute_bits attributes) short)
+file_head_is polarity name kind attributes data_len file_sum header short is = grind (arith, common_steps, with_large_is)
 
 pub file_written : (polarity : Polarity) (name : Guid) (kind : ℕ) (attributes : FileAttributes) (data_len file_sum : ℕ) (b : List ℕ)
     → length (bytes_of name) ≡ 16

@@ -1,6 +1,7 @@
 -- A byte shows a state exactly where it is read as that state. A number below 64 has a state, by its highest bit; this state is read, and
 -- so no other.
-use Rattle.std.proofs.Common.{◌≡◌, ◌≤◌, ◌<◌, ℕ, inl, inr, refl, sym, ◌∙◌, subst, arith}
+use Rattle.std.proofs.lemmas.Grind.{common_steps}
+use Rattle.std.proofs.Common.{◌≡◌, ◌≤◌, ◌<◌, ℕ, inl, inr, refl, arith}
 use Rattle.std.specs.Prelude.{None, Some}
 use Rattle.std.proofs.lemmas.Bool.{cases_lt}
 use Rattle.std.proofs.lemmas.Bool.Decides.{nat_tests}
@@ -48,11 +49,7 @@ same_state a b e = cc
 
 -- a number that is read as a state
 read_highest : (s : FileState) (n : ℕ) → state_in n ≡ Some s → IsHighest s n
-read_highest s n is = elim (cases_lt n 64) [
-  | inl l ↦ let t = state_for n l in
-      subst (λ (u : FileState). IsHighest u n) (same_state t.0 s (sym (highest_read t.0 n t.1) ∙ is)) t.1
-  | inr l ↦ cc (is, none_read n l)
-]
+read_highest s n is = grind (arith, common_steps, cases_lt, state_for, same_state, highest_read, none_read)
 
 -- the byte shows the state that is read
 pub state_read : (p : Polarity) (byte : ℕ) (s : FileState) → state_of p byte ≡ Some s → StateOf byte p s

@@ -1,5 +1,6 @@
 -- What a block says by its type: its type, its length and its body are those of its bytes, whatever the type.
-use Rattle.std.proofs.Common.{◌≡◌, ◌≤◌, ℕ, ◌+◌, ◌-◌, List, [], ◌∷◌, ◌++◌, length, drop, refl, sym, ap, ◌∙◌, subst, arith, Bool, true, false}
+use Rattle.std.proofs.lemmas.Grind.{common_steps}
+use Rattle.std.proofs.Common.{◌≡◌, ◌≤◌, ℕ, ◌+◌, ◌-◌, List, [], ◌∷◌, ◌++◌, length, drop, refl, sym, ap, ◌∙◌, arith, true, false}
 use Rattle.std.proofs.Common.{length-drop, drop-drop, append-nil}
 use Rattle.std.specs.Prelude.{◌==◌, slice_index}
 use Rattle.std.specs.List.{concat}
@@ -25,20 +26,13 @@ record Unknown (n : ℕ) : Type 0 where
   pub k : (n == 0xffff) ≡ false
 
 on : (P : ℕ → Type 0) (k n : ℕ) → P k → ((n == k) ≡ false → P n) → P n
-on P k n here other = go (n == k) refl where
-  go : (t : Bool) → (n == k) ≡ t → P n
-  go true e = subst P (sym (eqb-true n k e)) here
-  go false e = other e
+on P k n here other = grind (arith, common_steps, eqb-true)
 
 -- what is true of each type that `kind_by` names, and of those that it does not
 rows : (P : ℕ → Type 0) → P 0x0001 → P 0x0002 → P 0x0003 → P 0x0004 → P 0x0005 → P 0x0006 → P 0x0007 → P 0x0009 → P 0x000b → P 0xfffe
     → P 0xffff
     → ((n : ℕ) → Unknown n → P n) → (n : ℕ) → P n
-rows P p1 p2 p3 p4 p5 p6 p7 p9 pb pe pf other n =
-    on P 0x0001 n p1 (λ a. on P 0x0002 n p2
-    (λ b. on P 0x0003 n p3 (λ c. on P 0x0004 n p4 (λ d. on P 0x0005 n p5 (λ e. on P 0x0006 n p6 (λ f. on P 0x0007 n p7 (λ g.
-    on P 0x0009 n p9 (λ h. on P 0x000b n pb (λ i. on P 0xfffe n pe (λ j. on P 0xffff n pf (λ k.
-    other n (record { a = a; b = b; c = c; d = d; e = e; f = f; g = g; h = h; i = i; j = j; k = k }))))))))))))
+rows P p1 p2 p3 p4 p5 p6 p7 p9 pb pe pf other n = grind (arith, common_steps, on)
 
 -- ---- the type
 

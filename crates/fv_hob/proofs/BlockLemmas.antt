@@ -1,4 +1,5 @@
 -- A block is there where its checks hold, and its length decides it.
+use Rattle.std.proofs.lemmas.Grind.{common_steps}
 use Rattle.std.proofs.Common.{◌≡◌, ◌≤◌, ◌<◌, ℕ, ◌+◌, List, ◌++◌, length, take, drop, refl, sym, ap, ◌∙◌, subst, arith, Bool, true, false}
 use Rattle.std.proofs.Common.{length-append}
 use Rattle.std.specs.Prelude.{◌==◌, ◌%◌, ◌||◌, not, nat_le, None}
@@ -37,8 +38,7 @@ record ChecksOfBlock (first : Bool) (r : List ℕ) : Type 0 where
   shaped : has_shape (le_at 0 2 r) (le_at 2 2 r) ≡ true
 
 checks_of_block : (first : Bool) (r : List ℕ) → AllHold (hob_checks first r) → ChecksOfBlock first r
-checks_of_block first r (some, (headed, (sized, (inside, (begins, (shaped, end)))))) =
-    record { some = some; headed = headed; sized = sized; inside = inside; begins = begins; shaped = shaped }
+checks_of_block first r (some, (headed, (sized, (inside, (begins, (shaped, end)))))) = grind (arith, common_steps)
 
 pub stands : (first : Bool) (r : List ℕ) → IsBytes r → first_fault (hob_checks first r) ≡ None → BeginsBlock first (take (le_at 2 2 r) r) r
 stands first r bytes none =

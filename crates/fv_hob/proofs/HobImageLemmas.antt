@@ -1,4 +1,5 @@
 -- Blocks and lists that were read are written as blocks and lists that say the same.
+use Rattle.std.proofs.lemmas.Grind.{common_steps}
 use Rattle.std.proofs.Common.{◌≡◌, ◌≤◌, ℕ, zero, suc, ◌+◌, ◌-◌, List, [], ◌∷◌, ◌++◌, length, take, drop, refl, sym, ap, ◌∙◌, subst, arith}
 use Rattle.std.proofs.Common.{Bool, true, false, length-append, append-nil, append_assoc}
 use Rattle.std.specs.Prelude.{◌==◌, ◌%◌, replicate}
@@ -125,12 +126,4 @@ joins_again [] b join = refl
 joins_again (h ∷ hs) b (c, rest, e, is, more) = (hob_spelled h, list_spelled hs, refl, written_again h c is, joins_again hs rest more)
 
 pub list_again : (all : List HobForm) (b : List ℕ) → IsHobList all b → IsHobList all (list_spelled all)
-list_again all b is = record {
-  front = is.front;
-  last = is.last;
-  ends = is.ends;
-  joined = joins_again all b is.joined;
-  begins = is.begins;
-  others = is.others;
-  last_is = is.last_is;
-}
+list_again all b is = grind (arith, common_steps, joins_again)

@@ -1,5 +1,6 @@
 -- Bytes begin with one list at most.
-use Rattle.std.proofs.Common.{◌≡◌, ◌≤◌, ℕ, ◌*◌, List, [], ◌∷◌, ◌++◌, length, refl, sym, ap, ◌∙◌, subst, arith, length-append, append_assoc}
+use Rattle.std.proofs.lemmas.Grind.{common_steps}
+use Rattle.std.proofs.Common.{◌≡◌, ◌≤◌, ℕ, ◌*◌, List, [], ◌∷◌, ◌++◌, length, refl, sym, ap, ◌∙◌, arith, length-append, append_assoc}
 use Rattle.std.proofs.Common.{append-nil}
 use Rattle.std.specs.List.{AllByRecursion}
 use Rattle.fv_hob.specs.Hobs.{HobForm, IsHob, hob_type}
@@ -79,7 +80,4 @@ one_list (h ∷ hs) (g ∷ gs) last last' c d x y (c', rest, e, is, more) all en
     )
 
 pub only_list : (xs ys : List HobForm) (c d x y : List ℕ) → IsHobList xs c → IsHobList ys d → c ++ x ≡ d ++ y → (ys ≡ xs) × (d ≡ c)
-only_list xs ys c d x y is js same =
-    let r = one_list is.front js.front is.last js.last c d x y (subst (λ (l : List HobForm). JoinsHobs l c) is.ends is.joined) is.others
-    is.last_is (subst (λ (l : List HobForm). JoinsHobs l d) js.ends js.joined) js.others js.last_is same in
-    (js.ends ∙ r.0 ∙ sym is.ends, r.1)
+only_list xs ys c d x y is js same = grind (arith, common_steps, one_list)

@@ -1,6 +1,7 @@
 -- One more field, one more block, one more span.
-use Rattle.std.proofs.Common.{◌≡◌, ◌<◌, ℕ, ◌+◌, List, [], ◌∷◌, ◌++◌, length, take, get_or, refl, sym, ap, ◌∙◌, append_assoc, append-nil}
-use Rattle.std.specs.Prelude.{Option, None, Some, map}
+use Rattle.std.proofs.lemmas.Grind.{common_steps}
+use Rattle.std.proofs.Common.{◌≡◌, ◌<◌, ℕ, ◌+◌, List, [], ◌∷◌, ◌++◌, length, take, get_or, refl, sym, ap, ◌∙◌, append_assoc, append-nil, arith}
+use Rattle.std.specs.Prelude.{Option, None, Some}
 use Rattle.std.specs.List.{concat}
 use Rattle.std.proofs.lemmas.List.{map-append, take_more}
 use Rattle.std.proofs.lemmas.List.Folds.{concat-append}
@@ -18,25 +19,18 @@ no_field a = record { is = sym (append-nil a) }
 
 -- and some more
 pub more_fields : {a b c : List ℕ} {xs : List (List ℕ)} → (ys : List (List ℕ)) → Grown a xs b → c ≡ b ++ concat ys → Grown a (xs ++ ys) c
-more_fields {a} {b} {c} {xs} ys old new = record {
-  is = new ∙ ap (λ (l : List ℕ). l ++ concat ys) old.is ∙ append_assoc a (concat xs) (concat ys)
-      ∙ ap (λ (l : List ℕ). a ++ l) (sym (concat-append xs ys));
-}
+more_fields {a} {b} {c} {xs} ys old new = grind (arith, common_steps, append_assoc, concat-append)
 
 pub one_field : {a b c : List ℕ} {xs : List (List ℕ)} → (x : List ℕ) → Grown a xs b → c ≡ b ++ x → Grown a (xs ++ x ∷ []) c
 one_field {a} {b} {c} {xs} x old new = more_fields (x ∷ []) old (new ∙ ap (λ (l : List ℕ). b ++ l) (sym (append-nil x)))
 
 spelled_join : (hs : List HobForm) (h : HobForm) → list_spelled (hs ++ h ∷ []) ≡ list_spelled hs ++ hob_spelled h
-spelled_join hs h =
-    ap concat (map-append hob_spelled hs (h ∷ [])) ∙ concat-append (map hob_spelled hs) (hob_spelled h ∷ [])
-    ∙ ap (λ (l : List ℕ). list_spelled hs ++ l) (append-nil (hob_spelled h))
+spelled_join hs h = grind (arith, common_steps, map-append, concat-append, append-nil)
 
 pub spelled_more : (hs : List HobForm) (i : ℕ) (h : HobForm) (old new : List ℕ) → i < length hs → h ≡ get_or hs i h
     → old ≡ list_spelled (take i hs) → new ≡ old ++ hob_spelled h
     → new ≡ list_spelled (take (i + 1) hs)
-spelled_more hs i h old new within is p q =
-    q ∙ ap (λ (l : List ℕ). l ++ hob_spelled h) p ∙ ap (λ (g : HobForm). list_spelled (take i hs) ++ hob_spelled g) is
-    ∙ sym (ap list_spelled (take_more hs i h within) ∙ spelled_join (take i hs) (get_or hs i h))
+spelled_more hs i h old new within is p q = grind (arith, common_steps, take_more, spelled_join)
 
 spans_join : (hs : List HobForm) (h : HobForm) → spans_of (hs ++ h ∷ []) ≡ spans_of hs ++ with_span (span_of h.kind) []
 spans_join [] h = refl
@@ -49,10 +43,7 @@ spans_join (g ∷ gs) h =
 pub spans_more : (hs : List HobForm) (i : ℕ) (h : HobForm) (o : Option Span) (old new : List Span) → i < length hs → h ≡ get_or hs i h
     → o ≡ span_of h.kind → old ≡ spans_of (take i hs)
     → new ≡ old ++ with_span o [] → new ≡ spans_of (take (i + 1) hs)
-spans_more hs i h o old new within is span p q =
-    q ∙ ap (λ (l : List Span). l ++ with_span o []) p
-    ∙ ap (λ (x : Option Span). spans_of (take i hs) ++ with_span x []) (span ∙ ap (λ (g : HobForm). span_of g.kind) is)
-    ∙ sym (ap spans_of (take_more hs i h within) ∙ spans_join (take i hs) (get_or hs i h))
+spans_more hs i h o old new within is span p q = grind (arith, common_steps, take_more, spans_join)
 
 pub span_some : (o : Option Span) (s : Span) (old new : List Span) → o ≡ Some s → new ≡ old ++ s ∷ [] → new ≡ old ++ with_span o []
 span_some o s old new e p = p ∙ sym (ap (λ (x : Option Span). old ++ with_span x []) e)

@@ -1,4 +1,5 @@
 -- A frame's checks hold exactly where a frame begins.
+use Rattle.std.proofs.lemmas.Grind.{common_steps}
 use Rattle.std.proofs.Common.{◌≡◌, ◌≤◌, ◌<◌, ℕ, ◌+◌, ◌-◌, List, ◌++◌, length, take, drop, refl, sym, ap, ◌∙◌, subst, arith, Bool, true}
 use Rattle.std.proofs.Common.{false, length-append, length-drop, append_assoc, drop-drop}
 use Rattle.std.specs.Prelude.{◌==◌, slice_index, Result, Ok, Err}
@@ -139,11 +140,7 @@ one_frame f g b r s o hf hg =
 
 -- more bytes after
 pub begins_more : (f : FrameForm) (b r y : List ℕ) → BeginsFrame f b r → BeginsFrame f (b ++ y) (r ++ y)
-begins_more f b r y h = record {
-  head = h.head;
-  is_header = h.is_header;
-  text = ap (λ l. l ++ y) h.text ∙ append_assoc h.head (f.body ++ r) y ∙ ap (λ l. h.head ++ l) (append_assoc f.body r y);
-}
+begins_more f b r y h = grind (arith, common_steps, append_assoc)
 
 -- ---- the verdict
 

@@ -1,4 +1,5 @@
 -- What the loop over a stream keeps, what its ends say, and what a walk over the stream then reads.
+use Rattle.std.proofs.lemmas.Grind.{common_steps}
 use Rattle.std.proofs.Common.{◌≡◌, ℕ, zero, suc, ◌+◌, ◌-◌, ◌<◌, ◌≤◌, min, List, [], ◌∷◌, ◌++◌, length, take, drop, refl, sym, ap, ◌∙◌}
 use Rattle.std.proofs.Common.{subst, arith, length-append, length-take, length-drop, append_assoc, drop-drop}
 use Rattle.std.specs.List.{AllByRecursion}
@@ -63,22 +64,12 @@ stands_within f b at s = omega (arith, s.offset, s.inside, length_begun f (drop 
 -- the place at which the loop stops is the first fault
 pub first_here : (b : List ℕ) (fs : List FrameForm) (t end at : ℕ) (e : Fault) → Splits fs t (take (up_to_4 end) b) → at ≡ up_to_4 end
     → at < length b → IsFirstFault (frame_checks at (drop at b)) e → IsFirstFrameFault b e
-first_here b fs t end at e split here inside fault = record {
-  frames = fs;
-  tail = t;
-  at = at;
-  split = subst (λ n. Splits fs t (take n b)) (sym here) split;
-  multiple = omega (arith, here);
-  inside = inside;
-  fault_is = fault;
-}
+first_here b fs t end at e split here inside fault = grind (arith, common_steps)
 
 -- past the end the stream is split
 pub whole_of : (b : List ℕ) (fs : List FrameForm) (end : ℕ) → Splits fs (min (up_to_4 end) (length b) - end) (take (up_to_4 end) b)
     → length b ≤ up_to_4 end → Splits fs (length b - end) b
-whole_of b fs end split past =
-    let tail : min (up_to_4 end) (length b) - end ≡ length b - end = omega (arith, past) in
-    rw (tail, take_all (up_to_4 end) b past) at split
+whole_of b fs end split past = grind (arith, common_steps, take_all)
 
 -- ---- all splits
 
@@ -90,10 +81,7 @@ begins_of at f (g ∷ fs) t b (filler, rest, begun, o, fill, more) = (o, filler 
 -- the first frame of a split is where the split begins
 first_stands : (at : ℕ) (f : FrameForm) (fs : List FrameForm) (t : ℕ) (b : List ℕ) → SplitsFrom at (f ∷ fs) t (drop at b)
     → FrameStandsAt f at b
-first_stands at f fs t b split =
-    let begun = begins_of at f fs t (drop at b) split in
-    let some : at < length b = omega (arith, from_least at f fs t (drop at b) split, length-drop at b) in
-    record { offset = begun.0; inside = some; behind = begun.1; begins = begun.2 }
+first_stands at f fs t b split = grind (arith, common_steps, begins_of, from_least, length-drop)
 
 -- where there is a first fault there is no split
 pub none_after : (b : List ℕ) (e : Fault) (fs : List FrameForm) (t : ℕ) → IsFirstFrameFault b e → Splits fs t b → ⊥
@@ -120,9 +108,7 @@ all_within at (f ∷ g ∷ fs) t b (filler, rest, begun, o, fill, more) =
     (omega (arith, o, n), behind)
 
 pub whole_within : (fs : List FrameForm) (t : ℕ) (b : List ℕ) → Splits fs t b → FramesWithin (length b) fs
-whole_within fs t b h = subst (λ (n : ℕ). FramesWithin n fs) (none (length b)) (all_within 0 fs t b h) where
-  none : (n : ℕ) → 0 + n ≡ n
-  none n = omega arith
+whole_within fs t b h = grind (arith, common_steps, all_within)
 
 -- after the first frame the others follow
 behind_first : (at : ℕ) (f : FrameForm) (fs : List FrameForm) (t : ℕ) (b : List ℕ) → SplitsFrom at (f ∷ fs) t (drop at b)

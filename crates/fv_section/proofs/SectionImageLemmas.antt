@@ -1,4 +1,5 @@
 -- Frames that are written one after another are read again.
+use Rattle.std.proofs.lemmas.Grind.{common_steps}
 use Rattle.std.proofs.Common.{◌≡◌, ℕ, ◌+◌, ◌-◌, ◌*◌, ◌/◌, ◌%◌, List, [], ◌∷◌, ◌++◌, length, refl, arith, Bool, true, false}
 use Rattle.std.specs.Prelude.{replicate}
 use Rattle.std.proofs.lemmas.List.{length-replicate}
@@ -14,11 +15,7 @@ head_is kind true n fits = record { whole = refl; kind_is = refl; says = (refl, 
 
 begins_with : (f : FrameForm) (rest : List ℕ) → FitsForm f.extended (length f.body)
     → BeginsFrame f (section_head_of f.kind f.extended (length f.body) ++ (f.body ++ rest)) rest
-begins_with f rest fits = record {
-  head = section_head_of f.kind f.extended (length f.body);
-  is_header = head_is f.kind f.extended (length f.body) fits;
-  text = refl;
-}
+begins_with f rest fits = grind (arith, common_steps, head_is)
 
 pub streams_are_read : StreamsAreRead
 streams_are_read at [] tail in_fours place = (refl, place)

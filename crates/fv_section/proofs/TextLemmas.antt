@@ -1,6 +1,7 @@
 -- Texts that end with a zero unit.
+use Rattle.std.proofs.lemmas.Grind.{common_steps}
 use Rattle.std.proofs.Common.{◌≡◌, ◌≢◌, ◌≤◌, ℕ, ◌+◌, ◌-◌, ◌%◌, List, [], ◌∷◌, ◌++◌, length, take, drop, refl, sym, ap, ◌∙◌, subst, arith}
-use Rattle.std.proofs.Common.{Bool, true, false, length-append, length-drop}
+use Rattle.std.proofs.Common.{true, false, length-append, length-drop}
 use Rattle.std.specs.Prelude.{◌==◌, not}
 use Rattle.std.specs.List.{AllByRecursion}
 use Rattle.std.proofs.lemmas.Bool.{eqb-true, eq-eqb, leb-true, le-leb}
@@ -66,9 +67,7 @@ text_holds b text is =
     even m k e z = omega arith
 
 pub text_none : (b text : List ℕ) → is_text b ≡ false → IsText b text → ⊥
-text_none b text h is = never (is_text b) (text_holds b text is) h where
-  never : (t : Bool) → t ≡ true → t ≡ false → ⊥
-  never t a b = cc
+text_none b text h is = grind (arith, common_steps, text_holds)
 
 -- a version is a number of two bytes and the text after it
 pub version_none : (b : List ℕ) (build : ℕ) (text : List ℕ) → ((t : List ℕ) → IsText (drop 2 b) t → ⊥) → IsVersion b build text → ⊥

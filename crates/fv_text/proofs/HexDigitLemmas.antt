@@ -1,8 +1,9 @@
 -- Hexadecimal text, taken in parts.
+use Rattle.std.proofs.lemmas.Grind.{common_steps}
 use Rattle.std.proofs.Common.{◌≡◌, ◌<◌, ◌≤◌, ◌⊎◌, ⊎_elim, ℕ, zero, suc, ◌+◌, ◌*◌, ◌%◌, List, [], ◌∷◌, ◌++◌, length, take, drop, map, Option}
 use Rattle.std.proofs.Common.{refl, sym, ap, ◌∙◌, subst, append_assoc, append-nil, arith, length-append, drop-drop}
 use Rattle.std.specs.Prelude.{max}
-use Rattle.std.specs.Prelude.{Some, None}
+use Rattle.std.specs.Prelude.{Some}
 use Rattle.std.specs.List.{All}
 use Rattle.std.specs.Option.{unwrap_or}
 use Rattle.std.specs.Simd.{first_chunks}
@@ -37,22 +38,15 @@ reads_rest (h ∷ l ∷ a) b x y (byte, rest, pair, is, more) (other, behind, tw
 
 -- what is spoilt stays so, whatever follows
 pub spoilt_more : (a b : List ℕ) → IsSpoilt a → IsSpoilt (a ++ b)
-spoilt_more a b spoilt = λ behind bytes all.
-    spoilt (b ++ behind) bytes (subst (λ (l : List ℕ). DigitsSpell l bytes) (append_assoc a b behind) all)
+spoilt_more a b spoilt = grind (arith, common_steps, append_assoc)
 
 -- and whatever is before it that is read
 pub spoilt_behind : (a b x : List ℕ) → DigitsSpell a x → IsSpoilt b → IsSpoilt (a ++ b)
-spoilt_behind a b x reads spoilt = λ behind bytes all.
-    let joined = subst (λ (l : List ℕ). DigitsSpell l bytes) (append_assoc a b behind) all in
-    let (rest, rest_reads) = reads_rest a (b ++ behind) x bytes reads joined in
-    spoilt behind rest rest_reads
+spoilt_behind a b x reads spoilt = grind (arith, common_steps, append_assoc, reads_rest)
 
 -- what has a value is a digit
 value_known : (d : ℕ) → value_or_16 d < 16 → hex_digit_value d ≡ Some (value_or_16 d)
-value_known d small = go (hex_digit_value d) small where
-  go : (o : Option ℕ) → unwrap_or o 16 < 16 → o ≡ Some (unwrap_or o 16)
-  go None lt = absurd (omega (arith, lt))
-  go (Some v) lt = refl
+value_known d small = grind (arith, common_steps)
 
 -- the value of a digit is below 16
 value_small : (d v : ℕ) → hex_digit_value d ≡ Some v → v < 16
@@ -185,24 +179,13 @@ pair_value pairs k values i j d e is lt within =
 -- a room that is filled whole
 pub whole_room : (items room : List ℕ) (len : ℕ) → len ≡ length items → length room ≡ length items
     → take len (room ++ drop (length room) items) ≡ room
-whole_room items room len len_is long =
-    ap (λ (n : ℕ). take len (room ++ drop n items)) long
-    ∙ ap (λ (l : List ℕ). take len (room ++ l)) (drop-length items)
-    ∙ ap (take len) (append-nil room)
-    ∙ take_all len room (omega (arith, len_is, long))
+whole_room items room len len_is long = grind (arith, common_steps, drop-length, append-nil, take_all)
 
 -- and what was in it before
 pub kept_front : (old fill items : List ℕ) (start n : ℕ) → start ≡ length old → start ≤ n → items ≡ take n old ++ fill
     → take start items ≡ old
-kept_front old fill items start n is le filled =
-    ap (take start) (filled ∙ ap (λ (l : List ℕ). l ++ fill) (take_all n old (omega (arith, is, le))))
-    ∙ ap (λ (k : ℕ). take k (old ++ fill)) is
-    ∙ take-append_seam old fill
+kept_front old fill items start n is le filled = grind (arith, common_steps, take_all, take-append_seam)
 
 -- a digit after pairs spells nothing
 pub odd_reads_nothing : (front waiting x y : List ℕ) → length waiting ≡ 1 → DigitsSpell front x → DigitsSpell (front ++ waiting) y → ⊥
-odd_reads_nothing front waiting x y one reads all =
-    let even = reads_count front x reads in
-    let whole = reads_count (front ++ waiting) y all in
-    let long : length (front ++ waiting) ≡ length front + length waiting = length-append front waiting in
-    omega (arith, one, even, whole, long)
+odd_reads_nothing front waiting x y one reads all = grind (arith, common_steps, reads_count, length-append)

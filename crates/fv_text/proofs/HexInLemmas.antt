@@ -1,21 +1,20 @@
 -- What a decoder has come to, a piece of text later, and at its end.
+use Rattle.std.proofs.lemmas.Grind.{common_steps}
 use Rattle.std.proofs.Common.{◌≡◌, ◌<◌, ◌≤◌, ◌⊎◌, inl, inr, List, [], ◌∷◌, ℕ, ◌+◌, ◌/◌, ◌++◌, Bool, true, false, not, Option}
 use Rattle.std.proofs.Common.{refl, sym, ap, subst, ◌∙◌, append_assoc, append-nil, length-append, arith}
 use Rattle.std.specs.Prelude.{◌==◌, take, length, IfOk, Result, Ok, Err}
 use Rattle.std.specs.Io.KnownBytes.{Consumes}
-use Rattle.std.proofs.KnownBytes.{Consumes-trans}
 use Rattle.std.proofs.Math.Seq.{take-append_seam}
 use Rattle.std.proofs.lemmas.Bool.Decides.{Decides-eqb, nat_tests}
 use Rattle.std.proofs.lemmas.List.{length-take-le}
 use Rattle.fv_base.specs.declared.fault.Fault.{Fault}
-use Rattle.fv_base.specs.declared.fault.FaultKind.{FaultKind}
 use Rattle.fv_base.specs.declared.fault.FaultKind.TheVariants as kinds
 use Rattle.fv_base.specs.Faults.{outer_fault}
 use Rattle.fv_base.specs.Limits.{volume_limit}
 use Rattle.fv_base.proofs.Laws.{up_is_not_down}
 use Rattle.fv_text.specs.declared.hex_text.Decoder.{Decoder}
-use Rattle.fv_text.specs.inner.HexDecoding.{AddsDigits, Decodes, DecodesPairs, HoldsDigits, RefusedFor, RefusesText}
-use Rattle.fv_text.specs.HexIn.{GivesText, IsLongText, IsNoText, TextStops, TextStopsFor, text_limit}
+use Rattle.fv_text.specs.inner.HexDecoding.{AddsDigits, Decodes, DecodesPairs, HoldsDigits, RefusesText}
+use Rattle.fv_text.specs.HexIn.{GivesText, IsLongText, IsNoText, TextStops, text_limit}
 use Rattle.fv_text.specs.inner.HexDecoding.{IsSpoilt}
 use Rattle.fv_text.specs.HexPairs.{DigitsSpell, squeezed}
 use Rattle.fv_text.proofs.HexDigitLemmas.{odd_reads_nothing, reads_count, reads_joined, spoilt_behind, spoilt_more}
@@ -24,11 +23,7 @@ use Rattle.fv_text.proofs.WhiteSpaceLemmas.{squeezed_more}
 -- the digits of a text and of the next piece: those that are read, those of the pairs now, and what waits
 joins : (before text waiting all digits kept front : List ℕ) → squeezed before ≡ front ++ waiting → all ≡ waiting ++ squeezed text
     → all ≡ digits ++ kept → squeezed (before ++ text) ≡ front ++ (digits ++ kept)
-joins before text waiting all digits kept front was joined split =
-    squeezed_more before text
-    ∙ ap (λ (l : List ℕ). l ++ squeezed text) was
-    ∙ append_assoc front waiting (squeezed text)
-    ∙ ap (λ (l : List ℕ). front ++ l) (sym joined ∙ split)
+joins before text waiting all digits kept front was joined split = grind (arith, common_steps, squeezed_more, append_assoc)
 
 -- the digits that waited and those of the next piece are pairs, which are decoded, and what waits now
 pub taken : (before text waiting all digits kept left held holds : List ℕ) (was_long is_long : Bool)
@@ -106,9 +101,7 @@ pairs_decoded old room new seen all made seen_is read wrong flag long =
 
 -- not empty, and no more than one
 pub one_waits : (value empty : Bool) (n len : ℕ) → value ≡ true → value ≡ not empty → empty ≡ (n == 0) → n ≡ len → n ≤ 1 → len ≡ 1
-one_waits value empty n len up is empty_is count few =
-    let some : (n == 0) ≡ false = sym empty_is ∙ (turned value empty is).0 up in
-    grind (arith, nat_tests)
+one_waits value empty n len up is empty_is count few = grind (arith, common_steps, turned, nat_tests)
 
 -- empty
 pub none_waits : (value empty : Bool) (n : ℕ) (l : List ℕ) → value ≡ false → value ≡ not empty → empty ≡ (n == 0) → n ≡ length l → l ≡ []
@@ -132,26 +125,17 @@ spoilt_is_no_text text spoilt = λ bytes reads.
 -- nor where a digit waits
 pub odd_is_no_text : (text waiting held : List ℕ) (is_long : Bool) → length waiting ≡ 1 → HoldsDigits is_long held waiting (squeezed text)
     → IsNoText text
-odd_is_no_text text waiting held is_long one h = λ bytes reads.
-    odd_reads_nothing h.front waiting h.bytes bytes one h.reads (subst (λ (l : List ℕ). DigitsSpell l bytes) h.joined reads)
+odd_is_no_text text waiting held is_long one h = grind (arith, common_steps, odd_reads_nothing)
 
 -- the bytes are those of the text where none waits
 pub whole_reads : (text waiting held : List ℕ) (is_long : Bool) → waiting ≡ [] → (h : HoldsDigits is_long held waiting (squeezed text))
     → DigitsSpell (squeezed text) h.bytes
-whole_reads text waiting held is_long none h =
-    subst (λ (l : List ℕ). DigitsSpell l h.bytes) (sym (h.joined ∙ ap (λ (l : List ℕ). h.front ++ l) none ∙ append-nil h.front)) h.reads
+whole_reads text waiting held is_long none h = grind (arith, common_steps, append-nil)
 
 -- a fault of a whole text stops its reading
 pub refused_stops : (old new : Option (List ℕ)) (erred : Bool) (text : List ℕ) → GivesText old new text → length text ≤ text_limit
     → (fault : Fault) → RefusesText text fault → TextStops old new erred fault
-refused_stops old new erred text gives short fault refuses = record {
-  depth = refuses.depth;
-  cause = go fault.kind fault.place.offset refuses.cause;
-} where
-  go : (kind : FaultKind) (n : ℕ) → RefusedFor kind text n → TextStopsFor kind old new erred n
-  go kinds.ReadFault n (at, none) = inr (at, (text, gives, short, none))
-  go kinds.Length n (at, long) = (at, inr (text, gives, short, long))
-  go _ n r = absurd r
+refused_stops old new erred text gives short fault refuses = grind (arith, common_steps)
 
 -- a whole text is no even number of digits
 pub refuses_no_text : (text : List ℕ) (f : Fault) → f ≡ outer_fault kinds.ReadFault 0 → IsNoText text → RefusesText text f
@@ -174,14 +158,12 @@ ran_out false turn len gave more = let few = gave refl in absurd (omega (arith, 
 -- the reader failed after a text
 pub stops_by_reader : (old new : Option (List ℕ)) (erred : Bool) (text : List ℕ) (n : ℕ) (f : Fault) → Consumes old new text
     → n ≡ length text → erred ≡ true → f ≡ outer_fault kinds.ReadFault n → TextStops old new erred f
-stops_by_reader old new erred text n f gave count up is =
-    subst (TextStops old new erred) (sym is) (record { depth = refl; cause = inl ((text, gave, sym count), up) })
+stops_by_reader old new erred text n f gave count up is = grind (arith, common_steps)
 
 -- the reader gave more text than a run takes
 pub stops_by_long_text : (old new : Option (List ℕ)) (erred : Bool) (text : List ℕ) (f : Fault) → Consumes old new text
     → text_limit < length text → f ≡ outer_fault kinds.Length volume_limit → TextStops old new erred f
-stops_by_long_text old new erred text f gave more is =
-    subst (TextStops old new erred) (sym is) (record { depth = refl; cause = (refl, inl (text, gave, more)) })
+stops_by_long_text old new erred text f gave more is = grind (arith, common_steps)
 
 -- a chunk, which is seen in its place
 seen_is_chunk : (chunk behind seen : List ℕ) (len : ℕ) → length chunk ≡ len → seen ≡ take len (chunk ++ behind) → seen ≡ chunk
@@ -190,15 +172,9 @@ seen_is_chunk chunk behind seen len long is = is ∙ ap (λ (k : ℕ). take k (c
 -- how long a text is with the front of a chunk after it
 pub piece_count : (text chunk behind seen : List ℕ) (n len : ℕ) → length chunk ≡ len → seen ≡ take len (chunk ++ behind) → n ≤ length chunk
     → length (text ++ take n seen) ≡ length text + n
-piece_count text chunk behind seen n len long is within =
-    let front : length (take n chunk) ≡ n = length-take-le n chunk within in
-    length-append text (take n seen)
-    ∙ ap (λ (l : List ℕ). length text + length (take n l)) (seen_is_chunk chunk behind seen len long is)
-    ∙ ap (λ (k : ℕ). length text + k) front
+piece_count text chunk behind seen n len long is within = grind (arith, common_steps, length-take-le, length-append, seen_is_chunk)
 
 -- a reader gave a text, and then the front of a chunk
 pub piece_read : (a b c : Option (List ℕ)) (text chunk behind seen : List ℕ) (n len : ℕ) → Consumes a b text → Consumes b c (take n chunk)
     → length chunk ≡ len → seen ≡ take len (chunk ++ behind) → Consumes a c (text ++ take n seen)
-piece_read a b c text chunk behind seen n len gave next long is =
-    Consumes-trans a b c text (take n seen) gave
-    (subst (λ (l : List ℕ). Consumes b c (take n l)) (sym (seen_is_chunk chunk behind seen len long is)) next)
+piece_read a b c text chunk behind seen n len gave next long is = grind (arith, common_steps, seen_is_chunk)

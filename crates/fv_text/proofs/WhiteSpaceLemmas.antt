@@ -1,4 +1,5 @@
 -- White space in hexadecimal text: the text without it, put into a room.
+use Rattle.std.proofs.lemmas.Grind.{common_steps}
 use Rattle.std.proofs.Common.{◌≡◌, ◌<◌, ◌≤◌, ℕ, ◌+◌, ◌-◌, ◌*◌, List, [], ◌∷◌, ◌++◌, length, take, drop, Bool, true, false}
 use Rattle.std.proofs.Common.{refl, sym, ap, ◌∙◌, append_assoc, append-nil, arith}
 use Rattle.std.specs.Prelude.{if◌then◌else◌}
@@ -86,8 +87,7 @@ window_put base room now text end to i so_far put =
 -- bytes that are put whole, since they have no white space
 pub dense_put : (room now window : List ℕ) (end : ℕ) → length window ≡ 16 → squeezed window ≡ window
     → take (end + length window) now ≡ take end room ++ window → take (end + 16) now ≡ take end room ++ squeezed window
-dense_put room now window end long same put =
-    ap (λ (n : ℕ). take (end + n) now) (sym long) ∙ put ∙ ap (λ (l : List ℕ). take end room ++ l) (sym same)
+dense_put room now window end long same put = grind (arith, common_steps)
 
 -- and what is left of the text
 pub rest_put : (base room now text rest : List ℕ) (end to at : ℕ) → take end room ≡ base ++ squeezed (take at text)

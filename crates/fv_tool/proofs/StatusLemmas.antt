@@ -1,5 +1,6 @@
 -- How the run of a plan does not end, and what it runs over.
-use Rattle.std.proofs.Common.{◌≡◌, ◌∙◌, ℕ, List, ap, Bool, false, subst}
+use Rattle.std.proofs.lemmas.Grind.{common_steps}
+use Rattle.std.proofs.Common.{◌≡◌, ◌∙◌, ℕ, List, ap, Bool, false, arith}
 use Rattle.std.specs.Prelude.{Option}
 use Rattle.fv_base.specs.Port.{has_erred, inner_of}
 use Rattle.fv_base.specs.declared.port.Port.{Port}
@@ -13,7 +14,7 @@ use Rattle.fv_plan.specs.declared.plan.Plan.{Plan}
 use Rattle.fv_command.specs.declared.source.Source.{Source}
 use Rattle.fv_command.specs.declared.status.Status.{Status}
 use Rattle.fv_command.specs.declared.status.Status.TheVariants.{WrongWords}
-use Rattle.fv_tool.specs.Does.{RunsOver, fresh}
+use Rattle.fv_tool.specs.Does.{RunsOver}
 
 abbrev ports_of : (r s r' s' : Shown) → Change → Ports
 ports_of r s r' s' output =
@@ -27,9 +28,7 @@ command_not_wrong (Compare first second) hex ports ran = ran
 -- the run of a plan does not end in wrong words
 pub never_wrong : {S F : Type 0} (of_input : S → Option (List ℕ)) (of_file : F → Option (List ℕ)) (p : Plan) (status : Status)
     (output : Change) → RunsOver of_input of_file p status output → status ≡ WrongWords → ⊥
-never_wrong of_input of_file p status output (first, second, is_first, is_second, s, s', ran) is =
-    let ports = ports_of (fresh of_input of_file first) s (fresh of_input of_file second) s' output in
-    command_not_wrong p.command p.hex ports (subst (λ (x : Status). RunsCommand p.command p.hex x ports) is ran)
+never_wrong of_input of_file p status output (first, second, is_first, is_second, s, s', ran) is = grind (arith, common_steps, command_not_wrong)
 
 -- what a new port shows
 pub shown_new : {T : Type 0} (told : T → Option (List ℕ)) (port : Port T) (inner : T) → inner_of port ≡ inner → has_erred port ≡ false
@@ -39,9 +38,7 @@ shown_new told port inner is fine = ap (λ e. seen (told (inner_of port)) e) fin
 -- a run over what is shown is one over the same
 runs_over : (p : Plan) (status : Status) (r a s r' b s' : Shown) (output : Change) → r ≡ a → r' ≡ b
     → Runs p status (ports_of r s r' s' output) → Runs p status (ports_of a s b s' output)
-runs_over p status r a s r' b s' output e f ran =
-    subst (λ (x : Shown). Runs p status (ports_of x s b s' output)) e
-    (subst (λ (x : Shown). Runs p status (ports_of r s x s' output)) f ran)
+runs_over p status r a s r' b s' output e f ran = grind (arith, common_steps)
 
 -- a run over new ports is one over the sources inside them
 pub runs_new : {S F : Type 0} (of_input : S → Option (List ℕ)) (of_file : F → Option (List ℕ)) (p : Plan) (status : Status)
@@ -54,14 +51,4 @@ pub runs_new : {S F : Type 0} (of_input : S → Option (List ℕ)) (of_file : F 
       output = output;
     })
     → RunsOver of_input of_file p status output
-runs_new of_input of_file p status first second r s r' s' output is fine is' fine' is_first is_second ran =
-    let told = unread of_input of_file in (
-      first,
-      second,
-      is_first,
-      is_second,
-      shown told s,
-      shown told s',
-      runs_over p status (shown told r) (seen (told first) false) (shown told s) (shown told r') (seen (told second) false) (shown told s')
-          output (shown_new told r first is fine) (shown_new told r' second is' fine') ran,
-    )
+runs_new of_input of_file p status first second r s r' s' output is fine is' fine' is_first is_second ran = grind (arith, common_steps, runs_over, shown_new)

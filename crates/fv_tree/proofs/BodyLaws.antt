@@ -1,6 +1,7 @@
 -- The files of a volume are those of its cells.
+use Rattle.std.proofs.lemmas.Grind.{common_steps}
 use Rattle.std.proofs.Common.{◌≡◌, ◌≤◌, ◌<◌, ℕ, ◌+◌, ◌^◌, List, [], ◌∷◌, ◌++◌, length, drop, sym, ap}
-use Rattle.std.proofs.Common.{◌∙◌, subst, arith, inr, length-append}
+use Rattle.std.proofs.Common.{◌∙◌, subst, arith, length-append}
 use Rattle.std.specs.Prelude.{not}
 use Rattle.std.specs.List.{list_any}
 use Rattle.fv_base.specs.Limits.{volume_limit}
@@ -16,7 +17,7 @@ use Rattle.fv_head.specs.declared.extent.Extent.{Extent}
 use Rattle.fv_tree.specs.inner.ReadingParts.{IsReadyFile, AllStored}
 use Rattle.fv_tree.specs.LocatedFiles.{StandIn}
 use Rattle.fv_tree.specs.Denotes.{Stream, MeansFile}
-use Rattle.fv_tree.specs.Files.{FileForm, files_in, TopAtEnd, AreCurrent, replaces}
+use Rattle.fv_tree.specs.Files.{FileForm, files_in, AreCurrent, replaces}
 use Rattle.fv_base.specs.declared.fault.Place.{Place}
 use Rattle.fv_tree.specs.FailingChecks.{First}
 use Rattle.fv_tree.specs.FirstFault.{Faulty, FileFault, BodyFault, OneOf}
@@ -34,11 +35,7 @@ current_of length cs standing files is h = subst (λ (fs : List FileForm). AreCu
 -- the first file that is rejected, of those that are in the volume
 pub files_first : (n : ℕ) (I : Faulty) (e : Extent) (volume : List ℕ) (at : Place) (fs : List FileForm) (g : Fault) → StandIn e volume fs
     → OneOf First (MeansFile (Stream n)) (λ f. FileFault I g f at) fs → BodyFault First n I e g volume at
-files_first n I e volume at fs g stand first =
-    let current = stand.current in
-    let P : List FileForm → Type 0 = λ l. OneOf First (MeansFile (Stream n)) (λ f. FileFault I g f at) l in
-    let top = subst (TopAtEnd e.length) current.files_are current.top in
-    inr (stand.cells, stand.tiles, (current.no_twins, top), subst P current.files_are first)
+files_first n I e volume at fs g stand first = grind (arith, common_steps)
 
 -- ---- every file is in some bytes
 

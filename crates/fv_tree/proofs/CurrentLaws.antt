@@ -1,18 +1,16 @@
 -- Files with a twin, or with a volume top file that is not at the end, are those of no volume.
-use Rattle.std.proofs.Common.{◌≡◌, ◌⊎◌, ℕ, List, [], ◌∷◌, ◌++◌, length, length-append, Bool, true, false, refl, sym, ap, ◌∙◌, subst, arith}
+use Rattle.std.proofs.lemmas.Grind.{common_steps}
+use Rattle.std.proofs.Common.{◌≡◌, ◌⊎◌, ℕ, List, [], ◌∷◌, ◌++◌, length-append, Bool, true, false, refl, subst, arith}
 use Rattle.std.proofs.Common.{inl, inr}
 use Rattle.std.specs.Prelude.{◌||◌}
-use Rattle.std.specs.Bool.{beq}
-use Rattle.std.specs.Cmp.{booleans_Decides}
 use Rattle.std.specs.List.{list_any}
 use Rattle.std.proofs.lemmas.List.{get_or_at}
 use Rattle.std.proofs.lemmas.List.Folds.{list_any_at}
 use Rattle.std.proofs.lemmas.Slice.Eq.{bytes_eq-Decides}
 use Rattle.fv_base.proofs.Laws.{and_join, and_split}
-use Rattle.fv_base.specs.Guids.{bytes_of}
 use Rattle.fv_base.specs.declared.fault.Fault.{Fault}
 use Rattle.fv_file.specs.Cells.{CellForm}
-use Rattle.fv_tree.specs.Files.{FileForm, files_in, same_name, is_marked, is_twin, NoTwins, current_in, is_top, end_of, TopAtEnd}
+use Rattle.fv_tree.specs.Files.{FileForm, files_in, same_name, is_twin, NoTwins, current_in, is_top, end_of, TopAtEnd}
 use Rattle.fv_tree.specs.Files.{AreCurrent}
 use Rattle.fv_tree.specs.FailingChecks.{First}
 use Rattle.fv_tree.specs.FirstFault.{HasTwin, TopElsewhere, NamesFault}
@@ -21,17 +19,10 @@ never : (t : Bool) → t ≡ true → t ≡ false → ⊥
 never t p q = cc
 
 pub same_name_back : (f g : FileForm) → same_name f g ≡ true → same_name g f ≡ true
-same_name_back f g h =
-    let a : List ℕ = bytes_of f.head.name in
-    let b : List ℕ = bytes_of g.head.name in
-    (bytes_eq-Decides b a).1 (sym ((bytes_eq-Decides a b).0 h))
+same_name_back f g h = grind (arith, common_steps, bytes_eq-Decides)
 
 pub twin_back : (f g : FileForm) → is_twin f g ≡ true → is_twin g f ≡ true
-twin_back f g h =
-    let p = and_split (same_name f g) (beq (is_marked f.head.state) (is_marked g.head.state)) h in
-    and_join (same_name g f) (beq (is_marked g.head.state) (is_marked f.head.state)) (same_name_back f g p.0)
-    ((booleans_Decides (is_marked g.head.state) (is_marked f.head.state)).1 (sym ((booleans_Decides (is_marked f.head.state)
-    (is_marked g.head.state)).0 p.1)))
+twin_back f g h = grind (arith, common_steps, and_split, and_join, same_name_back)
 
 or_true : (a b : Bool) → (a || b) ≡ true → (a ≡ true) ⊎ (b ≡ true)
 or_true true b h = inl refl
@@ -39,9 +30,7 @@ or_true false b h = inr h
 
 any_behind : (p : FileForm → Bool) (xs : List FileForm) (f : FileForm) (ys : List FileForm) → p f ≡ true
     → list_any p (xs ++ (f ∷ ys)) ≡ true
-any_behind p xs f ys h =
-    list_any_at p (xs ++ (f ∷ ys)) (length xs) f (omega (arith, length-append xs (f ∷ ys)))
-    (ap p (get_or_at xs f ys f (length xs) refl) ∙ h)
+any_behind p xs f ys h = grind (arith, common_steps, list_any_at, length-append, get_or_at)
 
 twin_not : (before : List FileForm) (f : FileForm) (after : List FileForm) → NoTwins (before ++ (f ∷ after))
     → list_any (is_twin f) before ≡ true → ⊥

@@ -1,5 +1,6 @@
 -- Two meanings differ nowhere exactly where they are one.
-use Rattle.std.proofs.Common.{◌≡◌, ℕ, ◌+◌, List, [], ◌∷◌, refl, sym, ap, ◌∙◌, Bool, true, false, Option, Some, None}
+use Rattle.std.proofs.lemmas.Grind.{common_steps}
+use Rattle.std.proofs.Common.{◌≡◌, ℕ, ◌+◌, List, [], ◌∷◌, refl, sym, ap, ◌∙◌, Bool, true, false, Option, Some, None, arith}
 use Rattle.std.specs.Prelude.{◌==◌, ◌&&◌}
 use Rattle.std.specs.Bool.{beq}
 use Rattle.std.specs.Cmp.{booleans_Decides}
@@ -191,16 +192,7 @@ ext_same None = refl
 ext_same (Some x) = rw (bytes_same (bytes_of x.name), entries_same x.entries) (bytes_same x.tail)
 
 head_same : (h : HeadFields) → head_differs h h ≡ None
-head_same h =
-    rw (
-      bytes_same h.zero_vector,
-      bool_same (is_ffs3 h.file_system),
-      nat_same h.length,
-      nat_same h.attributes,
-      nat_same h.reserved,
-      blocks_same h.blocks,
-      ext_same h.ext,
-    ) refl
+head_same h = grind (arith, common_steps, bytes_same, bool_same, nat_same, blocks_same, ext_same)
 
 mutual
   pub no_difference : (v : Meaning) → difference v v ≡ None

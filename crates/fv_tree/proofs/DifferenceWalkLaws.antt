@@ -1,4 +1,5 @@
 -- What the turns of a walk through two meanings return.
+use Rattle.std.proofs.lemmas.Grind.{common_steps}
 use Rattle.std.proofs.Common.{◌≡◌, ℕ, zero, suc, ◌<◌, ◌≤◌, List, [], ◌∷◌, length, drop, refl, sym, ap, ◌∙◌, arith}
 use Rattle.std.proofs.Common.{Bool, true, false, Option, Some, None}
 use Rattle.std.specs.Prelude.{◌==◌, ◌&&◌}
@@ -64,8 +65,7 @@ files_more fs gs i past within more e =
 -- the headers differ
 pub volume_word : (v w : Meaning) (h g : HeadFields) (o : Option Word) (word : Word) → h ≡ head_of v → g ≡ head_of w
     → in_word o ≡ head_differs h g → o ≡ Some word → difference v w ≡ differ_in word
-volume_word (Volume a fs) (Volume b gs) h g o word x y said is =
-    ends_first (head_differs a b) (files_differ 0 fs gs) word (rw (← x, ← y) (sym said ∙ ap in_word is))
+volume_word (Volume a fs) (Volume b gs) h g o word x y said is = grind (arith, common_steps, ends_first)
 
 no_other : (v w : Meaning) → v ≡ w → difference v w ≡ None
 no_other v w e = ap (λ x. difference x w) e ∙ no_difference w

@@ -1,12 +1,12 @@
 -- The order of the entries of an index: by the names, and by the numbers where two have one name.
-use Rattle.std.proofs.Common.{◌≡◌, ◌≤◌, ◌<◌, ◌⊎◌, ℕ, false, refl, sym, ap, ◌∙◌, arith, inl, inr}
+use Rattle.std.proofs.lemmas.Grind.{common_steps}
+use Rattle.std.proofs.Common.{◌≡◌, ◌≤◌, ◌⊎◌, ℕ, false, sym, ap, ◌∙◌, arith, inl, inr}
 use Rattle.std.specs.Prelude.{◌==◌, ◌&&◌}
 use Rattle.std.specs.Bool.{Decides}
 use Rattle.std.specs.Cmp.{IsTotalOrder, IsStrictWeakOrder}
-use Rattle.std.specs.Ordering.{is_lt, nat_cmp, ordering_then, ordering_reverse}
+use Rattle.std.specs.Ordering.{is_lt, nat_cmp, ordering_then}
 use Rattle.std.specs.declared.cmp.Ordering.{Ordering}
-use Rattle.std.specs.declared.cmp.Ordering.TheVariants.{Less, Equal, Greater}
-use Rattle.std.proofs.lemmas.Bool.Decides.{Decides-and, Decides-eqb, Decides-like}
+use Rattle.std.specs.declared.cmp.Ordering.TheVariants.{Less, Equal}
 use Rattle.std.proofs.lemmas.Cmp.{nat_cmp_total, on_total, ranked, then_total, tied_itself}
 use Rattle.std.proofs.lemmas.List.MinMax.{ranks_by}
 use Rattle.fv_tree.specs.FileNames.{Entry, Halves, entry_cmp, halves_cmp}
@@ -41,11 +41,7 @@ same_pair {A} {B} a b p q = ap (λ (x : A). (x, a.1)) p ∙ ap (λ (y : B). (b.0
 
 tied_pair : {A B : Type 0} (R : A → A → Ordering) (S : B → B → Ordering) → ((x y : A) → R x y ≡ Equal → x ≡ y)
     → ((x y : B) → S x y ≡ Equal → x ≡ y) → (a b : A × B) → ordering_then (R a.0 b.0) (S a.1 b.1) ≡ Equal → a ≡ b
-tied_pair R S first second a b h = go (R a.0 b.0) refl h where
-  go : (o : Ordering) → R a.0 b.0 ≡ o → ordering_then o (S a.1 b.1) ≡ Equal → a ≡ b
-  go Less e t = cc
-  go Equal e t = same_pair a b (first a.0 b.0 e) (second a.1 b.1 t)
-  go Greater e t = cc
+tied_pair R S first second a b h = grind (arith, common_steps, same_pair)
 
 tied_number : (x y : ℕ) → nat_cmp x y ≡ Equal → x ≡ y
 tied_number x y h = ranked x y Equal (sym h)
@@ -58,32 +54,20 @@ tied_entry = tied_pair halves_cmp nat_cmp tied_halves tied_number
 
 -- the test of the code
 pub halves_decide : (a b : Halves) → Decides ((a.0 == b.0) && (a.1 == b.1)) (a ≡ b)
-halves_decide a b =
-    Decides-like ((a.0 == b.0) && (a.1 == b.1)) (λ p. same_pair a b p.0 p.1) (λ e. (ap (λ (h : Halves). h.0) e, ap (λ (h : Halves). h.1) e))
-    (Decides-and (a.0 == b.0) (a.1 == b.1) (Decides-eqb a.0 b.0) (Decides-eqb a.1 b.1))
+halves_decide a b = grind (arith, common_steps, same_pair)
 
 -- ---- entries in their order
 
 -- an entry that is not less than another has a greater name, or the same and no lesser number
 upto : (a b : Entry) → is_lt (entry_cmp b a) ≡ false → (halves_cmp a.0 b.0 ≡ Less) ⊎ ((a.0 ≡ b.0) × (a.1 ≤ b.1))
-upto a b h = go (halves_cmp b.0 a.0) refl (nat_cmp b.1 a.1) refl h where
-  go : (o : Ordering) → halves_cmp b.0 a.0 ≡ o → (n : Ordering) → n ≡ nat_cmp b.1 a.1 → is_lt (ordering_then o n) ≡ false
-      → (halves_cmp a.0 b.0 ≡ Less) ⊎ ((a.0 ≡ b.0) × (a.1 ≤ b.1))
-  go Less e n r t = cc
-  go Equal e Less r t = cc
-  go Equal e Equal r t = let same : b.1 ≡ a.1 = ranked b.1 a.1 Equal r in inr (sym (tied_halves b.0 a.0 e), omega (arith, same))
-  go Equal e Greater r t = let more : a.1 < b.1 = ranked b.1 a.1 Greater r in inr (sym (tied_halves b.0 a.0 e), omega (arith, more))
-  go Greater e n r t = inl (halves_total.antisymm a.0 b.0 ∙ ap ordering_reverse e)
+upto a b h = grind (arith, common_steps, ranked, tied_halves, halves_total)
 
 never_less : (a b : Halves) → a ≡ b → halves_cmp a b ≡ Less → ⊥
 never_less a b same less = let x : Equal ≡ Less = sym (tied_itself halves_total b) ∙ ap (λ h. halves_cmp h b) (sym same) ∙ less in cc
 
 -- of one name, the numbers rise
 pub numbers_rise : (a b : Entry) → is_lt (entry_cmp b a) ≡ false → a.0 ≡ b.0 → a.1 ≤ b.1
-numbers_rise a b order same = go (upto a b order) where
-  go : (halves_cmp a.0 b.0 ≡ Less) ⊎ ((a.0 ≡ b.0) × (a.1 ≤ b.1)) → a.1 ≤ b.1
-  go (inl less) = absurd (never_less a.0 b.0 same less)
-  go (inr (named, le)) = le
+numbers_rise a b order same = grind (arith, common_steps, upto, never_less)
 
 -- what is between two of one name has it too
 pub one_name_between : (a b c : Entry) → is_lt (entry_cmp b a) ≡ false → is_lt (entry_cmp c b) ≡ false → a.0 ≡ c.0 → b.0 ≡ c.0
@@ -95,8 +79,4 @@ one_name_between a b c low high same = go (upto a b low) (upto b c high) where
 
 -- no number is below 0
 pub number_not_below : (a : Entry) (name : Halves) → a.0 ≡ name → entry_cmp a (name, 0) ≡ Less → ⊥
-number_not_below a name same less =
-    let tied : ordering_then (halves_cmp a.0 name) (nat_cmp a.1 0) ≡ nat_cmp a.1 0 =
-    ap (λ o. ordering_then o (nat_cmp a.1 0)) (ap (λ h. halves_cmp h name) same ∙ tied_itself halves_total name) in
-    let below : a.1 < 0 = ranked a.1 0 Less (sym less ∙ tied) in
-    omega (arith, below)
+number_not_below a name same less = grind (arith, common_steps, tied_itself, halves_total, ranked)

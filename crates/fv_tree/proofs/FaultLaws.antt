@@ -1,11 +1,10 @@
 -- The condition of a first fault holds at its place.
-use Rattle.std.proofs.Common.{ℕ, zero, suc, ◌+◌, List, [], ◌∷◌, take, drop, inl, inr}
+use Rattle.std.proofs.lemmas.Grind.{common_steps}
+use Rattle.std.proofs.Common.{ℕ, zero, suc, List, [], ◌∷◌, take, drop, inl, inr, arith}
 use Rattle.fv_base.specs.Checks.{Check, AllHold}
 use Rattle.fv_base.specs.declared.fault.Fault.{Fault}
 use Rattle.fv_base.specs.declared.fault.Place.{Place}
-use Rattle.fv_file.specs.FileChecks.{cell_checks}
 use Rattle.fv_head.specs.declared.extent.Extent.{Extent}
-use Rattle.fv_section.specs.FrameChecks.{frame_checks}
 use Rattle.fv_section.specs.Frames.{FrameForm}
 use Rattle.fv_base.specs.Limits.{depth_limit}
 use Rattle.fv_tree.specs.FailingChecks.{First, Any, GuardsHold, Fails, FrameFault, CellFault}
@@ -26,27 +25,11 @@ fails cs f (before, c, after, is, held, bad, fault) = (before, c, after, is, gua
 
 -- of the checks of a section header
 frame_fails : (b : List ℕ) (f : Fault) → FrameFault First b f → FrameFault Any b f
-frame_fails b f first = record {
-  frames = first.frames;
-  tail = first.tail;
-  at = first.at;
-  split = first.split;
-  multiple = first.multiple;
-  inside = first.inside;
-  fails = fails (frame_checks first.at (drop first.at b)) f first.fault_is;
-}
+frame_fails b f first = grind (arith, common_steps, fails)
 
 -- of the checks of a cell
 cell_fails : (x : Extent) (body : List ℕ) (f : Fault) → CellFault First x body f → CellFault Any x body f
-cell_fails x body f first = record {
-  cells = first.cells;
-  at = first.at;
-  tiled = first.tiled;
-  none_free = first.none_free;
-  inside = first.inside;
-  not_erased = first.not_erased;
-  fails = fails (cell_checks x.file_system x.polarity (x.first + first.at) (drop first.at body)) f first.fault_is;
-}
+cell_fails x body f first = grind (arith, common_steps, fails)
 
 -- of items
 one_of : {A B : Type 0} (R : A → B → Type 0) (P Q : A → Type 0) (xs : List A) → ((x : A) → P x → Q x) → OneOf First R P xs

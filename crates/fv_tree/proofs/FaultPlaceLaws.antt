@@ -1,4 +1,5 @@
 -- The first fault of bytes is within them, or at their end, and no deeper than groups and volumes may nest.
+use Rattle.std.proofs.lemmas.Grind.{common_steps}
 use Rattle.std.proofs.Common.{◌≡◌, ◌≢◌, ◌≤◌, ◌⊎◌, ℕ, zero, suc, ◌+◌, List, [], ◌∷◌, ◌++◌, length, take, drop, refl, ap, subst, sym, ◌∙◌}
 use Rattle.std.proofs.Common.{arith, not, inl, inr, Bool, true, false}
 use Rattle.std.specs.Prelude.{Option, Some, None, nat_le, ◌&&◌, ◌==◌, slice_index}
@@ -128,8 +129,7 @@ LiesIn at len n e = (e.place.offset ≤ at.offset + len) × (e.place.depth ≤ a
 -- a fault that is moved does
 moved_lies : (P : Fault → Type 0) (at : Place) (len n : ℕ) (e : Fault) → ((f : Fault) → P f → f.place.offset ≤ len) → Moved at P e
     → LiesIn at len n e
-moved_lies P at len n e within (f, first, is) =
-    let low = within f first in subst (LiesIn at len n) (sym is) (omega (arith, low), omega arith)
+moved_lies P at len n e within (f, first, is) = grind (arith, common_steps)
 
 -- the fault of the names of files lies within the bytes in which they begin
 names_within : (end len : ℕ) (fs : List FileForm) (f : Fault) → AllByRecursion (λ g. g.offset ≤ end) fs → NamesFault First len fs f

@@ -2,6 +2,7 @@
 -- 1. The entries are the names with their numbers, each once (`of_name`, `place_of`, `apart`).
 -- 2. Entries of one name are side by side, and their numbers rise (`upward`, `beyond`, `between`).
 -- 3. So the first entry of a name, if there is one, is that of the first file of the name (`found_first`, `found_there`, `found_none`).
+use Rattle.std.proofs.lemmas.Grind.{common_steps}
 use Rattle.std.proofs.Common.{◌≡◌, ◌≤◌, ◌<◌, ◌⊎◌, ℕ, ◌+◌, List, [], ◌∷◌, length, get_or, map, Bool, true, false, refl, sym, ap, ◌∙◌}
 use Rattle.std.proofs.Common.{subst, arith, inl, inr}
 use Rattle.std.specs.Prelude.{◌==◌}
@@ -55,8 +56,7 @@ read_names S (f ∷ fs) (File name kind attributes content ∷ ms) p =
 -- ---- the numbers from 0 on
 
 pub below : (n : ℕ) → All (λ m. m < n) (range_with_len 0 n)
-below n k d l =
-    let inside : k < n = omega (arith, l, length-range_with_len 0 n) in omega (arith, get_or-range_with_len 0 n k d inside, inside)
+below n k d l = grind (arith, common_steps, length-range_with_len, get_or-range_with_len)
 
 -- no two of them are the same
 all_differ : (n : ℕ) → IsDistinct (λ (a b : ℕ). a == b) (range_with_len 0 n)

@@ -1,5 +1,6 @@
 -- One list cut at two of its items, and the first item or check that is rejected.
-use Rattle.std.proofs.Common.{◌≡◌, ◌⊎◌, Bool, true, false, List, [], ◌∷◌, ◌++◌, refl, sym, ap, ◌∙◌, subst, inl, inr}
+use Rattle.std.proofs.lemmas.Grind.{common_steps}
+use Rattle.std.proofs.Common.{◌≡◌, ◌⊎◌, Bool, true, false, List, [], ◌∷◌, ◌++◌, refl, sym, ap, ◌∙◌, subst, inl, inr, arith}
 use Rattle.std.specs.List.{AllByRecursion}
 use Rattle.fv_base.specs.Checks.{Check, AllHold, IsFirstFault}
 use Rattle.fv_tree.specs.Denotes.{Pairwise}
@@ -77,8 +78,7 @@ not_paired R (z ∷ zs) x after (y ∷ ys) bad p = not_paired R zs x after ys ba
 -- where one item is rejected, not all are read
 pub first_of_none : {A B : Type 0} (R : A → B → Type 0) (fault : A → Type 0) (xs : List A) (ys : List B)
     → ((x : A) (y : B) → fault x → R x y → ⊥) → OneOf First R fault xs → Pairwise R xs ys → ⊥
-first_of_none {A} R fault xs ys bad (before, x, after, is, (read, pairs), here) all =
-    not_paired R before x after ys (λ y r. bad x y here r) (subst (λ (l : List A). Pairwise R l ys) is all)
+first_of_none {A} R fault xs ys bad (before, x, after, is, (read, pairs), here) all = grind (arith, common_steps, not_paired)
 
 -- two faults of the first item that is rejected are faults of one item
 pub first_of_once : {A B : Type 0} (R : A → B → Type 0) (P Q : A → Type 0) (xs : List A) → ((x : A) (y : B) → P x → R x y → ⊥)

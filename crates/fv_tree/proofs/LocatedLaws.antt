@@ -1,5 +1,6 @@
 -- The files of a volume as they are stored in it: their data are in it, at their offsets, and there are no others.
-use Rattle.std.proofs.Common.{◌≡◌, ◌≤◌, ◌∙◌, ℕ, ◌+◌, ◌-◌, List, [], ◌∷◌, length, take, drop, sym, ap, subst, arith}
+use Rattle.std.proofs.lemmas.Grind.{common_steps}
+use Rattle.std.proofs.Common.{◌≡◌, ◌≤◌, ◌∙◌, ℕ, ◌+◌, ◌-◌, List, [], ◌∷◌, length, take, drop, sym, subst, arith}
 use Rattle.std.specs.List.{AllByRecursion, list_any}
 use Rattle.std.specs.Prelude.{not}
 use Rattle.std.proofs.lemmas.List.{length-take-le, length-drop, take_all}
@@ -15,16 +16,14 @@ use Rattle.fv_tree.specs.Files.{FileForm, files_in, replaces}
 use Rattle.fv_tree.specs.Denotes.{Denotes}
 use Rattle.fv_tree.specs.FirstFault.{data_place}
 use Rattle.fv_tree.specs.LocatedFiles.{StandIn, BeginWithFiles, HasDataIn}
-use Rattle.fv_tree.specs.Meaning.{Meaning, head_of}
+use Rattle.fv_tree.specs.Meaning.{Meaning}
 
 -- ---- where the data are
 
 one_file : (volume : List ℕ) (at : ℕ) (head : FileHead) (payload : List ℕ)
     → payload ≡ take (head.size - head.header_len) (drop (at + head.header_len) volume) → at + up_to_8 head.size ≤ length volume
     → head.header_len + length payload ≡ head.size → HasDataIn volume (record { offset = at; head = head; payload = payload })
-one_file volume at head payload is lies made =
-    let n : length payload ≡ head.size - head.header_len = omega (arith, made) in
-    (omega (arith, lies, made), ap (λ k. take k (drop (at + head.header_len) volume)) n ∙ sym is)
+one_file volume at head payload is lies made = grind (arith, common_steps)
 
 all_files : (volume : List ℕ) (cs : List CellForm) → AllByRecursion (IsPayloadIn volume) cs → CellsWithin (length volume) cs
     → AllByRecursion (HasDataIn volume) (files_in cs)
@@ -67,7 +66,4 @@ module _ (b : List ℕ) (h : HeadFields) (e : Extent) (front : BeginsVolume h e 
 -- ---- the files of bytes that are a volume
 
 pub volume_files : (n : ℕ) (b : List ℕ) (m : Meaning) → (v : Denotes n b m) → BeginWithFiles b v.files
-volume_files n b m v =
-    let whole : take v.extent.length b ≡ b = take_all v.extent.length b (omega (arith, v.whole)) in
-    let stand : StandIn v.extent b v.files = record { cells = v.cells; tiles = v.tiles; current = v.current } in
-    (head_of m, v.extent, v.front, subst (λ (l : List ℕ). StandIn v.extent l v.files) (sym whole) stand)
+volume_files n b m v = grind (arith, common_steps, take_all)

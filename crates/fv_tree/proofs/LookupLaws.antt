@@ -1,4 +1,5 @@
 -- Walks that look for an item: a file or a section of a type and an instance, sections in preorder.
+use Rattle.std.proofs.lemmas.Grind.{common_steps}
 use Rattle.std.proofs.Common.{◌≡◌, ℕ, zero, suc, ◌+◌, ◌-◌, ◌<◌, ◌≤◌, List, [], ◌∷◌, ◌++◌, length, drop, get_or, refl, sym, ap, ◌∙◌}
 use Rattle.std.proofs.Common.{arith, Bool, true, false, Some, None, Ok, Err}
 use Rattle.std.specs.Prelude.{slice_get, ◌==◌}
@@ -7,7 +8,7 @@ use Rattle.std.proofs.lemmas.List.{drop_more}
 use Rattle.std.proofs.lemmas.Bool.Decides.{Decides-eqb}
 use Rattle.fv_tree.specs.LookupInstances.{instance_of, of_type, preorder, inside_section}
 use Rattle.fv_tree.specs.inner.Searches.{sought}
-use Rattle.fv_tree.specs.Meaning.{SectionMeaning, sections_from, section_kind_of}
+use Rattle.fv_tree.specs.Meaning.{SectionMeaning, sections_from}
 
 pub instance_at : {A : Type 0} (n k : ℕ) (xs : List A) → n ≡ k + 1 → instance_of n xs ≡ slice_get xs k
 instance_at zero k xs e = absurd (omega (arith, e))
@@ -81,6 +82,4 @@ filter_append {A = A} test (x ∷ xs) ys = go (test x) refl (filter_append test 
 pub from_one : (kind : ℕ) (ss : List SectionMeaning) (i : ℕ) (s : SectionMeaning) → i < length ss → s ≡ get_or ss i s
     → of_type kind (preorder (sections_from (drop i ss)))
     ≡ of_type kind (s ∷ inside_section s) ++ of_type kind (preorder (sections_from (drop (i + 1) ss)))
-from_one kind ss i s l is =
-    ap (λ r. of_type kind (preorder (sections_from r))) (drop_more ss i s l ∙ ap (λ y. y ∷ drop (i + 1) ss) (sym is))
-    ∙ filter_append (λ s. section_kind_of s == kind) (s ∷ inside_section s) (preorder (sections_from (drop (i + 1) ss)))
+from_one kind ss i s l is = grind (arith, common_steps, drop_more, filter_append)

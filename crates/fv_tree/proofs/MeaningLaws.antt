@@ -1,13 +1,13 @@
 -- Bytes have one meaning at most.
-use Rattle.std.proofs.Common.{◌≡◌, ◌≤◌, ℕ, zero, suc, true, false, List, [], ◌∷◌, length, take, drop, refl, sym, ap, ◌∙◌, subst}
-use Rattle.fv_file.specs.Cells.{CellForm}
+use Rattle.std.proofs.lemmas.Grind.{common_steps}
+use Rattle.std.proofs.Common.{◌≡◌, ◌≤◌, ℕ, zero, suc, true, false, List, [], ◌∷◌, length, take, refl, sym, ap, ◌∙◌, subst, arith}
 use Rattle.fv_file.proofs.Laws.{only_one}
 use Rattle.fv_head.specs.declared.extent.Extent.{Extent}
 use Rattle.fv_head.proofs.Laws.{one_front}
 use Rattle.fv_section.specs.Frames.{FrameForm}
 use Rattle.fv_section.proofs.Laws.{one_split}
 use Rattle.fv_tree.specs.LocatedFiles.{StandIn}
-use Rattle.fv_tree.specs.Files.{FileForm, files_in, current_in}
+use Rattle.fv_tree.specs.Files.{FileForm}
 use Rattle.fv_tree.specs.Meaning.{Meaning, Volume, FileMeanings, NoFiles, MoreFiles, FileMeaning, File, ContentMeaning, Plain, Sectioned}
 use Rattle.fv_tree.specs.Meaning.{files_from, files_list, SectionMeanings, NoSections, MoreSections, SectionMeaning, Section, BodyMeaning, Leaf, Group, Nested, sections_from, sections_list}
 use Rattle.fv_tree.specs.Denotes.{Sections, Streams, Volumes, Pairwise, StreamOver, SectionOver, VolumeOver, MeansBody, MeansContent, MeansFile}
@@ -17,9 +17,7 @@ use Rattle.fv_tree.proofs.VolumeLaws.{front_of, has_files}
 
 -- the files of a volume, as they are stored in it, are one list
 pub one_stand : (e : Extent) (volume : List ℕ) (fs gs : List FileForm) → StandIn e volume fs → StandIn e volume gs → gs ≡ fs
-one_stand e volume fs gs h k =
-    let cells = only_one e.file_system e.polarity e.first (drop e.first volume) h.cells k.cells h.tiles k.tiles in
-    k.current.files_are ∙ ap (λ (cs : List CellForm). current_in (files_in cs)) cells ∙ sym h.current.files_are
+one_stand e volume fs gs h k = grind (arith, common_steps, only_one)
 
 -- ---- what is to be shown of what lies inside
 
@@ -56,9 +54,7 @@ pairs_one p q one (x ∷ xs) (y ∷ ys) (z ∷ zs) h k =
     cc
 
 stream_one : (p q : Sections) → SectionsOne p q → StreamsOne (StreamOver p) (StreamOver q)
-stream_one p q one ss ts n k b (fs, split, pairs) (gs, split', pairs') =
-    let same = one_split 0 fs gs n k b split split' in
-    (pairs_one p q one fs ss ts pairs (subst (λ (xs : List FrameForm). Pairwise q xs ts) (sym same.0) pairs'), same.1)
+stream_one p q one ss ts n k b (fs, split, pairs) (gs, split', pairs') = grind (arith, common_steps, one_split, pairs_one)
 
 -- ---- by what lies inside
 

@@ -5,6 +5,7 @@
 --    of the first file with an earlier twin (`twin_before`, `first_none`).
 -- 3. If there are no twins, a marked file is replaced exactly if its entry shares its name (`beside`, `replaced_back`).
 -- 4. If no entry shares its name, there are no twins, and no file is replaced (`apart_twins`, `apart_current`).
+use Rattle.std.proofs.lemmas.Grind.{common_steps}
 use Rattle.std.proofs.Common.{◌≡◌, ◌≤◌, ◌<◌, ◌⊎◌, ℕ, zero, suc, ◌+◌, ◌-◌, List, [], ◌∷◌, ◌++◌, length, take, get_or, map, Bool, true}
 use Rattle.std.proofs.Common.{false, refl, sym, ap, ◌∙◌, subst, arith, inl, inr, drop, append-nil}
 use Rattle.std.specs.Prelude.{◌&&◌, not}
@@ -31,10 +32,7 @@ use Rattle.fv_tree.proofs.NumberedLaws.{names_decide}
 
 none_at : (test : FileForm → Bool) (fs : List FileForm) (k : ℕ) (d : FileForm) → list_any test fs ≡ false → k < length fs
     → test (get_or fs k d) ≡ false
-none_at test fs k d h l = go (test (get_or fs k d)) refl where
-  go : (t : Bool) → test (get_or fs k d) ≡ t → t ≡ false
-  go true e = sym (list_any_at test fs k d l e) ∙ h
-  go false e = refl
+none_at test fs k d h l = grind (arith, common_steps, list_any_at)
 
 twins_apart : (fs : List FileForm) (i j : ℕ) (d : FileForm) → NoTwins fs → i < j → j < length fs
     → is_twin (get_or fs i d) (get_or fs j d) ≡ false
@@ -318,9 +316,7 @@ kept_noted {X} form note test xs all = go xs (recursion_from_All (λ x. note x �
 -- a list in the place of one as long
 pub in_place : {X : Type 0} (new old : List X) (n : ℕ) → length new ≡ length old → n ≡ length old
     → take n (new ++ drop (length new) old) ≡ new
-in_place {X} new old n long count =
-    ap (λ (ys : List X). take n (new ++ ys)) (drop_all (length new) old (omega (arith, long)))
-    ∙ ap (take n) (append-nil new) ∙ take_all n new (omega (arith, long, count))
+in_place {X} new old n long count = grind (arith, common_steps, drop_all, append-nil, take_all)
 
 -- ---- the files of the code
 

@@ -1,4 +1,5 @@
 -- Which volumes begin in some bytes.
+use Rattle.std.proofs.lemmas.Grind.{common_steps}
 use Rattle.std.proofs.Common.{◌≡◌, ℕ, zero, suc, ◌+◌, ◌%◌, ◌<◌, ◌≤◌, List, [], ◌∷◌, length, drop, take, refl, sym, ap, ◌∙◌}
 use Rattle.std.proofs.Common.{subst, drop-drop, arith, true, false, inl, inr}
 use Rattle.std.specs.Prelude.{◌⊎◌}
@@ -24,8 +25,7 @@ order (suc a) (suc k) = up (order a k) where
 -- ---- a volume
 
 some_length : (b : List ℕ) (h : HeadFields) (e : Extent) → BeginsVolume h e b → (64 ≤ e.length) × (e.length % 8 ≡ 0)
-some_length b h e f =
-    (omega (arith, f.head.least, f.head.volume_least, f.length_is), omega (arith, f.head.volume_multiple, f.length_is))
+some_length b h e f = grind (arith, common_steps)
 
 -- it has 64 bytes at least, a multiple of 8, and lies within the bytes
 pub at_least : (b : List ℕ) (k n : ℕ) → VolumeAt b k n → 64 ≤ n
@@ -58,8 +58,7 @@ from_joined b from at f g = λ k n l m v. go k n l m v (order at k) where
 
 -- a search begins where it is; it goes on to where another search comes, and by 8 where none begins
 pub reached_first : (b : List ℕ) (from : ℕ) → from % 8 ≡ 0 → from ≤ length b → IsReached b from from
-reached_first b from multiple within =
-    record { multiple = multiple; within = within; least = omega arith; none = λ k n l u m v. absurd (omega (arith, l, u)) }
+reached_first b from multiple within = grind (arith, common_steps)
 
 pub reached_joined : (b : List ℕ) (from at to : ℕ) → IsReached b from at → IsReached b at to → IsReached b from to
 reached_joined b from at to r s = record {

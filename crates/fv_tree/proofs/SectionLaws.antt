@@ -1,4 +1,5 @@
 -- A section is read by its shape.
+use Rattle.std.proofs.lemmas.Grind.{common_steps}
 use Rattle.std.proofs.Common.{◌≡◌, ℕ, zero, suc, ◌+◌, ◌≤◌, List, [], ◌∷◌, length, take, Bool, true, false, refl, sym, ap, ◌∙◌, subst, inl}
 use Rattle.std.proofs.Common.{inr, arith}
 use Rattle.std.specs.Prelude.{◌≢◌, ◌==◌, ◌&&◌, ◌⊎◌, nat_le, is_some, Some, None, if◌then◌else◌}
@@ -161,10 +162,7 @@ too_deep f (inr o) (Section x e (Nested v)) (p, q, (k', o', r)) = r
 
 -- two places are one, where their offsets and their depths are
 pub one_place : (p q : Place) → p.offset ≡ q.offset → p.depth ≡ q.depth → p ≡ q
-one_place p q o d =
-    let A : ℕ → Place = λ k. record { offset = k; depth = p.depth } in
-    let B : ℕ → Place = λ k. record { offset = q.offset; depth = k } in
-    ap A o ∙ ap B d
+one_place p q o d = grind (arith, common_steps)
 
 -- ---- by how many levels are left
 
@@ -173,10 +171,7 @@ suc_is n k e = omega (arith, e)
 
 pub group_found : (n k : ℕ) (f : FrameForm) (ss : List SectionMeaning) (t : ℕ) → n ≡ k + 1 → f.kind ≡ group_kind
     → Stream k ss t f.body → MeansSection n f (Section f.kind f.extended (Group (sections_from ss) t))
-group_found n k f ss t e g h =
-    let P : List SectionMeaning → Type 0 = λ l. Stream k l t f.body in
-    subst (λ m. MeansSection m f (Section f.kind f.extended (Group (sections_from ss) t))) (suc_is n k e)
-    (refl, refl, (g, subst P (sym (list_back ss)) h))
+group_found n k f ss t e g h = grind (arith, common_steps, suc_is, list_back)
 
 pub group_first : (n k : ℕ) (f : FrameForm) (x : Fault) (at inside : Place) → n ≡ k + 1 → f.kind ≡ group_kind
     → inside.offset ≡ at.offset + body_place f → inside.depth ≡ at.depth + 1 → InStream First k x f.body inside → InSection First n x f at

@@ -1,16 +1,15 @@
 -- Of a valid file in a volume, the length of the header, the size and the file sum follow from the other fields.
-use Rattle.std.proofs.Common.{◌≡◌, ◌≤◌, ◌<◌, ℕ, ◌+◌, ◌-◌, ◌%◌, ◌^◌, List, [], ◌∷◌, ◌++◌, length, Bool, true, false, refl, sym, ap, ◌∙◌, subst}
+use Rattle.std.proofs.lemmas.Grind.{common_steps}
+use Rattle.std.proofs.Common.{◌≡◌, ◌≤◌, ◌<◌, ℕ, ◌+◌, ◌^◌, List, [], ◌∷◌, ◌++◌, length, true, refl, sym, ap, ◌∙◌, subst}
 use Rattle.std.proofs.Common.{arith, length-append}
-use Rattle.std.specs.Prelude.{◌==◌, if◌then◌else◌, sum}
-use Rattle.std.specs.Cmp.{unsigned_Decides}
 use Rattle.std.specs.List.{AllByRecursion}
 use Rattle.fv_base.specs.Value.{IsBytes}
 use Rattle.fv_base.specs.declared.flash.FileSystem.{FileSystem}
 use Rattle.fv_base.specs.declared.flash.Polarity.{Polarity}
 use Rattle.fv_base.proofs.Laws.{bytes_back, bytes_front}
-use Rattle.fv_file.specs.Attributes.{attribute_bits, is_large, is_summed}
+use Rattle.fv_file.specs.Attributes.{attribute_bits, is_large}
 use Rattle.fv_file.specs.Cells.{CellForm, Valid, Pad, Dead, Stub, Free, Tiles, CellsWithin, IsCell, IsFilled, offset_of, cell_len}
-use Rattle.fv_file.specs.Files.{IsFile, IsSound, attributes_at, file_header_len, file_sum_right, fixed_checksum}
+use Rattle.fv_file.specs.Files.{IsFile, IsSound, attributes_at, file_header_len, file_sum_right}
 use Rattle.fv_file.specs.States.{is_alive}
 use Rattle.fv_file.specs.declared.cell.Cell.{Cell}
 use Rattle.fv_file.specs.declared.cell.Cell.TheVariants as cells
@@ -36,13 +35,7 @@ no_cell = cells.Valid 0 (record {
 -- the file sum that is right is the one that follows
 sum_follows : (attributes file_sum : ℕ) (payload : List ℕ) → file_sum < 256 → file_sum_right attributes file_sum payload ≡ true
     → file_sum ≡ file_sum_by attributes payload
-sum_follows attributes file_sum payload small h = go (is_summed attributes) h where
-  go : (t : Bool) → (if t then (sum payload + file_sum) % 256 == 0 else file_sum == fixed_checksum) ≡ true
-      → file_sum ≡ (if t then (256 - sum payload % 256) % 256 else fixed_checksum)
-  go true e =
-      let zero : (sum payload + file_sum) % 256 ≡ 0 = (unsigned_Decides ((sum payload + file_sum) % 256) 0).0 e in
-      omega (arith, zero, small)
-  go false e = (unsigned_Decides file_sum fixed_checksum).0 e
+sum_follows attributes file_sum payload small h = grind (arith, common_steps)
 
 state_follows : (state : FileState) → is_alive state ≡ true → state ≡ state_by (mark_of state)
 state_follows states.DataValid h = refl

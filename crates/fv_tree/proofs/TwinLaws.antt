@@ -1,13 +1,13 @@
 -- The first twin is one, and so is the volume top file that is not at the end: no two files that are current have one name.
-use Rattle.std.proofs.Common.{◌≡◌, ℕ, Bool, true, false, List, [], ◌∷◌, ◌++◌, refl, sym, ap, ◌∙◌, subst, inl, inr}
+use Rattle.std.proofs.lemmas.Grind.{common_steps}
+use Rattle.std.proofs.Common.{◌≡◌, ℕ, Bool, true, false, List, [], ◌∷◌, ◌++◌, refl, sym, ◌∙◌, subst, inl, inr, arith}
 use Rattle.std.specs.Prelude.{◌&&◌, not}
 use Rattle.std.specs.Bool.{beq}
 use Rattle.std.specs.List.{AllByRecursion, filter, list_any}
 use Rattle.std.proofs.lemmas.List.Elements.{filter_passes, recursion_from_All}
 use Rattle.std.proofs.lemmas.List.Folds.{list_any-append}
 use Rattle.std.proofs.lemmas.Slice.Eq.{bytes_eq-Decides}
-use Rattle.fv_base.specs.Guids.{bytes_of}
-use Rattle.fv_tree.specs.Files.{FileForm, same_name, is_marked, is_twin, replaces, NoTwins, current_in, is_top, top_name}
+use Rattle.fv_tree.specs.Files.{FileForm, same_name, is_marked, is_twin, replaces, NoTwins, current_in, is_top}
 use Rattle.fv_tree.specs.FailingChecks.{First}
 use Rattle.fv_tree.specs.FirstFault.{HasTwin, TopElsewhere}
 use Rattle.fv_tree.proofs.CurrentLaws.{twin_none}
@@ -51,9 +51,7 @@ no_twins_kept p (f ∷ fs) h = go (p f) refl (no_twins_kept p fs h.1)
 -- a test that finds nothing fails at each item, and finds nothing after it
 any_cut : (q : FileForm → Bool) (before : List FileForm) (f : FileForm) (after : List FileForm)
     → list_any q (before ++ (f ∷ after)) ≡ false → (q f ≡ false) × (list_any q after ≡ false)
-any_cut q before f after h =
-    or_parts (q f) (list_any q after)
-    (or_parts (list_any q before) (list_any q (f ∷ after)) (sym (list_any-append q before (f ∷ after)) ∙ h)).1
+any_cut q before f after h = grind (arith, common_steps, or_parts, list_any-append)
 
 -- of files without twins, two at different places are none
 apart : (before : List FileForm) (f : FileForm) (mid : List FileForm) (g : FileForm) (after : List FileForm)
@@ -120,16 +118,12 @@ names_differ fs before f mid g after none is forth back =
 
 -- two top files are of one name
 top_names : (f g : FileForm) → is_top f ≡ true → is_top g ≡ true → same_name f g ≡ true
-top_names f g p q =
-    (bytes_eq-Decides (bytes_of f.head.name) (bytes_of g.head.name)).1
-    ((bytes_eq-Decides (bytes_of f.head.name) top_name).0 p ∙ sym ((bytes_eq-Decides (bytes_of g.head.name) top_name).0 q))
+top_names f g p q = grind (arith, common_steps, bytes_eq-Decides)
 
 -- two top files at different places are not both current
 two_tops : (fs before : List FileForm) (f : FileForm) (after before' : List FileForm) (g : FileForm) (after' : List FileForm) → NoTwins fs
     → current_in fs ≡ before ++ (f ∷ after) → is_top f ≡ true → is_top g ≡ true → Earlier before f after before' g after' → ⊥
-two_tops fs before f after before' g after' none is top top' (mid, late, rest) =
-    names_differ fs before f mid g after' none (is ∙ ap (λ (l : List FileForm). before ++ (f ∷ l)) rest) (top_names f g top top')
-    (top_names g f top' top)
+two_tops fs before f after before' g after' none is top top' (mid, late, rest) = grind (arith, common_steps, names_differ, top_names)
 
 -- one file at most that is current is a top file, so one at most is at the wrong place
 pub one_top : (len : ℕ) (f g : FileForm) (fs : List FileForm) → NoTwins fs → TopElsewhere len f (current_in fs)

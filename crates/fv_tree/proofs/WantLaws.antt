@@ -1,6 +1,6 @@
 -- A fault is out of memory, or it is not.
-use Rattle.std.proofs.Common.{◌≡◌, ◌≢◌, ◌⊎◌, ℕ, refl, sym, ap, ◌∙◌, inl, inr, true, false}
-use Rattle.std.specs.Prelude.{◌==◌, Bool}
+use Rattle.std.proofs.lemmas.Grind.{common_steps}
+use Rattle.std.proofs.Common.{◌≡◌, ◌≢◌, ◌⊎◌, ℕ, refl, inl, inr, arith}
 use Rattle.std.proofs.lemmas.Bool.{eqb-true, eq-eqb}
 use Rattle.fv_base.specs.Faults.{out_of_memory}
 use Rattle.fv_base.specs.declared.fault.Fault.{Fault}
@@ -36,27 +36,7 @@ kind_known kinds.ReadFault = inr (λ e. cc)
 kind_known kinds.WriteFault = inr (λ e. cc)
 
 number_known : (n : ℕ) → (n ≡ 0) ⊎ (n ≢ 0)
-number_known n = go (n == 0) refl where
-  go : (t : Bool) → (n == 0) ≡ t → (n ≡ 0) ⊎ (n ≢ 0)
-  go true is = inl (eqb-true n 0 is)
-  go false is = inr (λ same. let bad : true ≡ false = sym (eq-eqb n 0 same) ∙ is in cc)
+number_known n = grind (arith, common_steps, eqb-true, eq-eqb)
 
 pub want_known : (f : Fault) → (f ≡ out_of_memory) ⊎ (f ≢ out_of_memory)
-want_known f = by_kind (kind_known f.kind) where
-  made : (k : FaultKind) (o d : ℕ) → Fault
-  made k o d = record { kind = k; place = record { offset = o; depth = d } }
-
-  by_depth : f.kind ≡ kinds.OutOfMemory → f.place.offset ≡ 0 → (f.place.depth ≡ 0) ⊎ (f.place.depth ≢ 0)
-      → (f ≡ out_of_memory) ⊎ (f ≢ out_of_memory)
-  by_depth kind offset (inl depth) =
-      inl (ap (λ (k : FaultKind). made k f.place.offset f.place.depth) kind
-      ∙ ap (λ (o : ℕ). made kinds.OutOfMemory o f.place.depth) offset ∙ ap (made kinds.OutOfMemory 0) depth)
-  by_depth kind offset (inr off) = inr (λ same. off (ap (λ (g : Fault). g.place.depth) same))
-
-  by_offset : f.kind ≡ kinds.OutOfMemory → (f.place.offset ≡ 0) ⊎ (f.place.offset ≢ 0) → (f ≡ out_of_memory) ⊎ (f ≢ out_of_memory)
-  by_offset kind (inl offset) = by_depth kind offset (number_known f.place.depth)
-  by_offset kind (inr off) = inr (λ same. off (ap (λ (g : Fault). g.place.offset) same))
-
-  by_kind : (f.kind ≡ kinds.OutOfMemory) ⊎ (f.kind ≢ kinds.OutOfMemory) → (f ≡ out_of_memory) ⊎ (f ≢ out_of_memory)
-  by_kind (inl kind) = by_offset kind (number_known f.place.offset)
-  by_kind (inr off) = inr (λ same. off (ap (λ (g : Fault). g.kind) same))
+want_known f = grind (arith, common_steps, kind_known, number_known)
