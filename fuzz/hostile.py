@@ -1,7 +1,7 @@
 #!/usr/bin/env python3
 """Writes inputs that aim at cost, runs the built program over each, and prints what each run took: it is to end within
-3 seconds of processor time, in a peak of memory of at most twice its input, or the multiple in RATIOS, and 64 MiB.
-README.md says more."""
+3 seconds of processor time (10 with --sums, which digests each byte twice at each level), in a peak of memory of at most
+twice its input, or the multiple in RATIOS and SUMS_RATIOS, and 64 MiB. README.md says more."""
 
 import argparse
 import os
@@ -16,8 +16,8 @@ sys.dont_write_bytecode = True  # no folder beside the scripts
 from fuzz import DATA_VALID, FFS3, GROUP, LARGE, MARKED, PAD, ROOT, SUMMED, VOLUME, sum8, sum16  # noqa: E402
 
 MIB = 1 << 20
-COMMANDS = ("normalise", "list", "check", "scan", "compare")
-MOST_SECONDS = 3
+COMMANDS = ("normalise", "normalise --all", "list", "list --sums", "cells", "check", "scan", "compare")
+MOST_SECONDS, MOST_SUMS_SECONDS = 3, 10
 EMPTY_SECTION = b"\x04\0\0\x19"
 EXPRESSION = 0x13
 NAME = bytes([0x0A]) * 16
@@ -171,6 +171,22 @@ def small_groups(size):
     return volume(file(block * ((size - 200) // len(block))))
 
 
+def groups_of_three(size):
+    """Groups of three, nested eight deep, the innermost of three empty sections."""
+    block = EMPTY_SECTION
+    for _ in range(8):
+        block = section(GROUP, block * 3)
+    return volume(file(block * max(1, (size - 200) // len(block))))
+
+
+def nested_sections(size):
+    """Volumes nested as deep as they may be, the innermost with empty sections in its file."""
+    inner = volume(file(EMPTY_SECTION * ((size - 2000) // 4)))
+    for _ in range(7):
+        inner = volume(file(section(VOLUME, inner)))
+    return inner
+
+
 def entries(size):
     """Volumes in sections, each with an extended header of as many entries of 5 bytes as fit."""
     count = (65535 - 20) // 5
@@ -202,10 +218,13 @@ def late_pair(size):
 
 INPUTS = (signatures, summed_heads, stubs, pads, levels, level_groups, deep_data, maps, nested_maps)
 INPUTS += (names, replaced_names, mixed_names, late_pair, twin_names, empty_sections, empty_expressions, one_expression)
-INPUTS += (small_groups, entries, small_volumes)
+INPUTS += (small_groups, groups_of_three, nested_sections, entries, small_volumes)
 # How many times its input a run may hold where it is not twice.
 RATIOS = {names: 10, replaced_names: 8, mixed_names: 8, late_pair: 10, empty_sections: 8, empty_expressions: 8}
-RATIOS |= {small_groups: 10, entries: 14}
+RATIOS |= {small_groups: 10, groups_of_three: 11, nested_sections: 9, entries: 14}
+# The same of list --sums, which holds the digests and the text of the whole.
+SUMS_RATIOS = {small_groups: 20, groups_of_three: 29, nested_sections: 29, empty_sections: 20, entries: 20}
+SUMS_RATIOS |= {empty_expressions: 20}
 
 
 def write(make, size, path):
@@ -221,7 +240,7 @@ def write(make, size, path):
 
 def measure(program, command, path):
     """The status of a run, its seconds of processor time, and its peak of memory in bytes."""
-    words = [program, command, path] + [path] * (command == "compare")
+    words = [program, *command.split(), path] + [path] * (command == "compare")
     run = subprocess.Popen(words, stdin=subprocess.DEVNULL, stdout=subprocess.DEVNULL)
     _, status, used = os.wait4(run.pid, 0)
     run.returncode = os.waitstatus_to_exitcode(status)
@@ -235,7 +254,7 @@ def main():
     reader.add_argument("--only", help="one input, by its name")
     options = reader.parse_args()
     over = 0
-    print(f"{'input':15} {'bytes':>10} {'command':10} status {'seconds':>8} {'peak MiB':>9} {'most MiB':>9}")
+    print(f"{'input':15} {'bytes':>10} {'command':15} status {'seconds':>8} {'peak MiB':>9} {'most MiB':>9}")
     with tempfile.TemporaryDirectory(prefix="hostile-") as folder:
         path = os.path.join(folder, "input")
         for make in INPUTS:
@@ -245,11 +264,14 @@ def main():
             size = os.path.getsize(path)
             for command in COMMANDS:
                 status, seconds, peak = measure(options.program, command, path)
-                most = RATIOS.get(make, 2) * size * (2 if command == "compare" else 1) + 64 * MIB
-                holds = 0 <= status <= 2 and seconds <= MOST_SECONDS and peak <= most
+                is_sums = command == "list --sums"
+                ratio = max(RATIOS.get(make, 2), SUMS_RATIOS.get(make, 2) if is_sums else 0)
+                most = ratio * size * (2 if command == "compare" else 1) + 64 * MIB
+                most_seconds = MOST_SUMS_SECONDS if is_sums else MOST_SECONDS
+                holds = 0 <= status <= 2 and seconds <= most_seconds and peak <= most
                 over += not holds
                 figures = f"{status:6} {seconds:8.2f} {peak / MIB:9.1f} {most / MIB:9.1f}"
-                print(f"{make.__name__:15} {size:10} {command:10} {figures}{'' if holds else '  OVER'}", flush=True)
+                print(f"{make.__name__:15} {size:10} {command:15} {figures}{'' if holds else '  OVER'}", flush=True)
     print(f"{over} runs over the limits")
     return 1 if over else 0
 
