@@ -221,16 +221,16 @@ class Tool:
 
     def ask(self, command: str, path: str, *options: str) -> tuple[int, bytes]:
         """The status of a command and what it writes."""
-        return self.run(command, path, options, -1)
+        return self.run(command, path, options, None)
 
-    def run(self, command: str, path: str, options: tuple[str, ...], most: int) -> tuple[int, bytes]:
-        """The same, and if it writes more than `most` bytes, one byte more than these. All of them if `most` is -1."""
+    def run(self, command: str, path: str, options: tuple[str, ...], most: int | None) -> tuple[int, bytes]:
+        """The same. If it writes more than `most` bytes, it is ended, and one byte more than these is what it wrote."""
         words = [self.program, command, *options, "--", path]
         try:
             with subprocess.Popen(words, stdin=subprocess.DEVNULL, stdout=subprocess.PIPE) as child:
                 assert child.stdout
-                said = child.stdout.read(most + 1 if most >= 0 else -1)
-                if 0 <= most < len(said):
+                said = child.stdout.read(-1 if most is None else most + 1)
+                if most is not None and len(said) > most:
                     child.kill()
                     return 0, said
         except OSError as error:
