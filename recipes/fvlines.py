@@ -104,22 +104,30 @@ def stop(what: str) -> NoReturn:
     sys.exit(4)
 
 
+def ask(words: Sequence[str], most: int | None) -> tuple[int, bytes]:
+    """The status of a program, and what it writes. If that is more than `most` bytes, the program is ended, and one byte
+    more than these is returned."""
+    with subprocess.Popen(words, stdin=subprocess.DEVNULL, stdout=subprocess.PIPE) as child:
+        assert child.stdout
+        written = child.stdout.read(-1 if most is None else most + 1)
+        if most is not None and len(written) > most:
+            child.kill()
+    return child.returncode, written
+
+
 def run(command: Sequence[str], *files: str | Path, most: int | None = None) -> tuple[int, bytes]:
     """The status of a run of a command over files, and what it wrote. Its standard input is empty. A file whose name
     begins with a hyphen is no option. Raises TooLong if it writes more than `most` bytes."""
     words = [program(), *command, "--", *map(str, files)]
     try:
-        with subprocess.Popen(words, stdin=subprocess.DEVNULL, stdout=subprocess.PIPE) as child:
-            assert child.stdout
-            written = child.stdout.read(-1 if most is None else most + 1)
-            if most is not None and len(written) > most:
-                child.kill()
-                raise TooLong
+        status, written = ask(words, most)
     except OSError as error:
         stop(str(error))
-    if child.returncode not in (0, 1, 2):
-        stop(f"{' '.join(words)}: status {child.returncode}")
-    return child.returncode, written
+    if most is not None and len(written) > most:
+        raise TooLong
+    if status not in (0, 1, 2):
+        stop(f"{' '.join(words)}: status {status}")
+    return status, written
 
 
 def output(command: Sequence[str], *files: str | Path, most: int | None = None) -> bytes:

@@ -18,7 +18,6 @@ import lzma
 import os
 import re
 import struct
-import subprocess
 import sys
 import tempfile
 import uuid
@@ -227,17 +226,14 @@ class Tool:
         """The same. If it writes more than `most` bytes, it is ended, and one byte more than these is what it wrote."""
         words = [self.program, command, *options, "--", path]
         try:
-            with subprocess.Popen(words, stdin=subprocess.DEVNULL, stdout=subprocess.PIPE) as child:
-                assert child.stdout
-                said = child.stdout.read(-1 if most is None else most + 1)
-                if most is not None and len(said) > most:
-                    child.kill()
-                    return 0, said
+            status, said = fvlines.ask(words, most)
         except OSError as error:
             raise Failed(f"{self.program}: {error.strerror}") from error
-        if child.returncode not in (0, 1, 2) or said.startswith((b"fault 24 ", b"fault 25 ")):
-            raise Failed(f"{command}: status {child.returncode} {said[:60].decode(errors='replace').strip()}")
-        return child.returncode, said
+        if most is not None and len(said) > most:
+            return 0, said
+        if status not in (0, 1, 2) or said.startswith((b"fault 24 ", b"fault 25 ")):
+            raise Failed(f"{command}: status {status} {said[:60].decode(errors='replace').strip()}")
+        return status, said
 
     def text(self, command: str, path: str, *options: str) -> tuple[int, str]:
         """The status of a command and the text that it writes. Of a long text the first lines."""
