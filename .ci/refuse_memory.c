@@ -1,31 +1,81 @@
-/* Loaded before a program: refuses its allocation of the number REFUSE_AT, counted from 1, and says so by a byte on descriptor 9. */
+/* Loaded before a program: refuses its allocation of the number REFUSE_AT, counted from 1, and says so by a byte on descriptor 9. If
+   descriptor 8 is open, as the program ends four numbers are written there: the most bytes that it held at one time, how many
+   allocations it asked for, and of how many bytes the two after the refused one are. */
+#include <malloc.h>
 #include <stddef.h>
 #include <stdlib.h>
 #include <unistd.h>
 
 extern void *__libc_malloc(size_t size);
 extern void *__libc_realloc(void *old, size_t size);
+extern void __libc_free(void *old);
 
 static long calls;
 static long refused = -1;
+static size_t held;
+static size_t most;
+static size_t after[2];
 
-static int is_refused(void)
+static int is_refused(size_t size)
 {
     if (refused < 0) {
         const char *text = getenv("REFUSE_AT");
         refused = text ? atol(text) : 0;
     }
-    if (++calls != refused)
+    if (++calls != refused) {
+        if (refused > 0 && calls > refused && calls - refused <= 2)
+            after[calls - refused - 1] = size;
         return 0;
+    }
     return write(9, "x", 1) == 1;
+}
+
+/* Counts a new block, or one in place of an old one of so many bytes. Both are held for a moment, wherever the C library puts the new. */
+static void *counted(void *block, size_t old)
+{
+    if (block != NULL) {
+        held += malloc_usable_size(block);
+        most = most < held ? held : most;
+        held -= old;
+    }
+    return block;
 }
 
 void *malloc(size_t size)
 {
-    return is_refused() ? NULL : __libc_malloc(size);
+    return is_refused(size) ? NULL : counted(__libc_malloc(size), 0);
 }
 
 void *realloc(void *old, size_t size)
 {
-    return is_refused() ? NULL : __libc_realloc(old, size);
+    size_t before = malloc_usable_size(old);
+    return is_refused(size) ? NULL : counted(__libc_realloc(old, size), before);
+}
+
+void free(void *old)
+{
+    held -= malloc_usable_size(old);
+    __libc_free(old);
+}
+
+/* Takes no memory itself, as printf may. */
+static void tell(size_t number, char end)
+{
+    char text[24];
+    size_t at = sizeof text;
+
+    text[--at] = end;
+    do
+        text[--at] = (char)('0' + number % 10);
+    while ((number /= 10) != 0);
+    if (write(8, text + at, sizeof text - at) < 0)
+        return;
+}
+
+__attribute__((destructor)) static void tell_at_end(void)
+{
+    tell(most, ' ');
+    tell((size_t)calls, ' ');
+    tell(after[0], ' ');
+    tell(after[1], '\n');
 }

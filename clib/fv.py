@@ -71,7 +71,8 @@ class Comparison(c.Structure):
 
 class Cell(c.Structure):
     """A cell of a volume's body: its offset and length in bytes, the length of its header, what it is (FILE to FREE),
-    and of a file or a pad its type, attributes and name."""
+    and of a file or a pad its type, attributes and name. A file whose data or header were never finished is UNFINISHED.
+    """
 
     _fields_ = [
         ("offset", c.c_uint64),

@@ -13,11 +13,12 @@
  *   4. No call is made in a signal handler.
  * The library keeps no state. Any number of threads may call it at once, also with the same input.
  *
- * Results: 0 is success. 1 to 24 is the number of the first fault of the input, as docs/FAULTS.md has
- * them. 24 is out of memory. 27 is a buffer that is too small. 28 says that there is no file or section of
- * the number that was passed. Calls for dependency expressions and hand-off lists have numbers of their
- * own. After any result except 0 the buffer is as it was. All lengths and offsets are in bytes. A volume has
- * at most 268,435,456 bytes, and so has an image for fv_normalise_image.
+ * Results: 0 is success. 1 to 24 is the number of the first fault of the input, as docs/FAULTS.md has them. 24 is
+ * out of memory: a call that reads an input as a volume returns it only if that input begins with the header of a
+ * volume. 27 is a buffer that is too small; in every call it comes only where the input has no fault. 28 says that
+ * there is no file or section of the number that was passed. Calls for dependency expressions and hand-off lists
+ * have numbers of their own. After any result except 0 the buffer is as it was. All lengths and offsets are in
+ * bytes. A volume has at most 268,435,456 bytes, and so has an image for fv_normalise_image.
  *
  * Memory, beside the arguments, for inputs of nothing but tiny parts, as measured: fv_sections takes up to 19
  * times the input, fv_files 15, fv_compare 13 times both, every other call up to 14. A call takes at most
@@ -117,14 +118,14 @@ uint32_t fv_verify(const uint8_t *bytes, size_t len, fv_extent *FV_RESTRICT exte
                    fv_fault *FV_RESTRICT fault);
 
 /* Writes the canonical image of the volume that the input is to the first `len` bytes of the buffer; the
- * image is as long as the input. Returns 0. Returns 27 if buffer_len < len. Else returns the first fault,
- * 1 to 24. */
+ * image is as long as the input. Returns 0. Returns the first fault of the input, 1 to 24, if it has one; else
+ * 27 if buffer_len < len. */
 uint32_t fv_normalise(const uint8_t *input, size_t len, uint8_t *FV_RESTRICT buffer, size_t buffer_len,
                       fv_fault *FV_RESTRICT fault);
 
 /* The same for a flash image. Each volume that fv_scan finds in it is replaced by its canonical image,
  * and all other bytes are kept. The fault is that of the first volume that has no image, at its offset in
- * the flash image. */
+ * the flash image. 24 comes only if the image is within the limit. */
 uint32_t fv_normalise_image(const uint8_t *image, size_t len, uint8_t *FV_RESTRICT buffer, size_t buffer_len,
                             fv_fault *FV_RESTRICT fault);
 
@@ -141,7 +142,7 @@ uint32_t fv_digest(const uint8_t *input, size_t len, fv_sha256 *FV_RESTRICT dige
 
 /* Writes the offsets of the volumes in the bytes, in rising order, to the start of the buffer. *count is
  * their number. Returns 0. Returns 27 if *count > buffer_count; so an empty buffer asks for the number.
- * Returns 24 if memory runs out, and *count is unchanged. */
+ * Returns 24 if memory runs out, which it can only if a volume begins in the bytes, and *count is unchanged. */
 uint32_t fv_scan(const uint8_t *bytes, size_t len, uint64_t *FV_RESTRICT buffer, size_t buffer_count,
                  uint64_t *FV_RESTRICT count);
 
@@ -149,13 +150,14 @@ uint32_t fv_scan(const uint8_t *bytes, size_t len, uint64_t *FV_RESTRICT buffer,
  * line `same`, or `different at` with the steps down to the first difference and its kind, is written to
  * the start of the buffer. It ends with a line feed, not with a NUL. Returns 0. Returns 27 if
  * buffer_len < found->line_len; 553 bytes are always enough. Else returns the first fault of the input
- * found->side; 24 has side 1 if memory runs out while the two are compared. */
+ * found->side, which is 2 only if the first input is a volume. 24 has side 1 if memory runs out while the two
+ * are compared. */
 uint32_t fv_compare(const uint8_t *first, size_t first_len, const uint8_t *second, size_t second_len,
                     char *FV_RESTRICT buffer, size_t buffer_len, fv_comparison *FV_RESTRICT found);
 
 /* What a cell of a volume's body is: a valid file, also one that is superseded; a pad file; a file that was
- * deleted, or whose data were never finished; a file header that was never finished; erased bytes up to the
- * volume's end. */
+ * deleted; a file whose data or header were never finished; erased bytes up to the volume's end. The state of
+ * the file decides between deleted and unfinished, here and in the lines of `fvtool cells`. */
 enum { FV_CELL_FILE = 1, FV_CELL_PAD = 2, FV_CELL_DELETED = 3, FV_CELL_UNFINISHED = 4, FV_CELL_FREE = 5 };
 
 /* A cell of a volume's body. A field that the cell does not have is 0. */
@@ -254,9 +256,9 @@ FV_ASSERT(sizeof(fv_guid) == 16, "the layout of fv_guid");
 
 /* Evaluates a dependency expression (phase 0: PEI; any other number: DXE and MM). *value is its truth value
  * when these GUIDs are installed, 1 or 0, or 2 for BEFORE and AFTER, which have none. Bytes after the END op
- * are not looked at. Returns 0. Else
- * returns the first fault by the numbers of dependency expressions: 1 to 5, or 6 if memory runs out.
- * *value is unchanged then. */
+ * are not looked at. Returns 0. Else returns the first fault by the numbers of dependency expressions: 1 to 5,
+ * or 6 if memory runs out, which it can only if the bytes begin with an op that may be the first. *value is
+ * unchanged then. */
 uint32_t fv_depex(const uint8_t *bytes, size_t len, uint32_t phase, const fv_guid *installed,
                   size_t installed_count, uint32_t *FV_RESTRICT value, fv_fault *FV_RESTRICT fault);
 
@@ -274,7 +276,8 @@ FV_ASSERT(sizeof(fv_hob) == 24 && offsetof(fv_hob, length) == 8 && offsetof(fv_h
 /* Writes the blocks of the hand-off list with which the bytes begin, in order, to the start of the buffer.
  * *count is their number, and *consumed the number of bytes of the list. Returns 0. Returns 27 if
  * *count > buffer_count. Else returns the first fault by the numbers of hand-off lists: 1 to 5, or 6 if
- * memory runs out. *count and *consumed are unchanged then. */
+ * memory runs out, which it can only if the bytes begin with a hand-off information table. *count and *consumed
+ * are unchanged then. */
 uint32_t fv_hobs(const uint8_t *bytes, size_t len, fv_hob *FV_RESTRICT buffer, size_t buffer_count,
                  uint64_t *FV_RESTRICT count, uint64_t *FV_RESTRICT consumed, fv_fault *FV_RESTRICT fault);
 

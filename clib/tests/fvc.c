@@ -103,7 +103,7 @@ static void print_guid(const uint8_t *g)
 
 static int cells(struct bytes in)
 {
-    static const char *const names[] = {"", "file", "pad", "unfinished", "unfinished", "free"};
+    static const char *const names[] = {"", "file", "pad", "deleted", "unfinished", "free"};
     uint64_t count = 0, filler = 0, sums[6] = {0};
     fv_cell none, *cells = &none;
     fv_fault fault;
@@ -118,10 +118,8 @@ static int cells(struct bytes in)
     printf("header at 0 length %" PRIu64 "\n", extent.first);
     for (uint64_t i = 0; i < count; i++) {
         fv_cell c = cells[i];
-        int is_deleted = c.what == FV_CELL_DELETED && ((in.p[c.offset + 23] ^ extent.erased) & 0x10);
-        const char *what = is_deleted ? "deleted" : names[c.what];
         int has_filler = c.what == FV_CELL_FILE || c.what == FV_CELL_PAD;
-        printf("%s at %" PRIu64 " length %" PRIu64, what, c.offset, has_filler ? up_to_8(c.len) : c.len);
+        printf("%s at %" PRIu64 " length %" PRIu64, names[c.what], c.offset, has_filler ? up_to_8(c.len) : c.len);
         if (c.what == FV_CELL_FILE) {
             putchar(' ');
             print_guid(c.name);
@@ -241,6 +239,16 @@ static void vary_parts(const uint8_t *p, size_t n, uint32_t status)
     }
 }
 
+/* A buffer that is too small is reported only for an input without a fault. */
+static void empty_buffer(const uint8_t *p, size_t n, uint32_t status, uint32_t of_all)
+{
+    uint8_t none;
+    fv_fault fault;
+    uint32_t small = n ? FV_BUFFER_TOO_SMALL : 0;
+    if (fv_normalise(p, n, &none, 0, &fault) != (status ? status : small) || fault.number != status) abort();
+    if (fv_normalise_image(p, n, &none, 0, &fault) != (of_all ? of_all : small) || fault.number != of_all) abort();
+}
+
 /* Each bit of the input turned, or each proper prefix of it, through all calls. Prints how often each result came. */
 static int vary(const char *command, struct bytes in)
 {
@@ -275,7 +283,7 @@ static int vary(const char *command, struct bytes in)
         if (!status && (fv_is_canonical(buffer, n, &canonical, &fault) || canonical != 1)) abort();
         fv_verify(p, n, &extent, &fault);
         fv_is_canonical(p, n, &canonical, &fault);
-        fv_normalise_image(p, n, buffer, n, &fault);
+        empty_buffer(p, n, status, fv_normalise_image(p, n, buffer, n, &fault));
         fv_scan(p, n, offsets, 64, &count);
         fv_cells(p, n, cells, 512, &count, &fault);
         fv_hobs(p, n, blocks, 512, &count, &consumed, &fault);

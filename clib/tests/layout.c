@@ -79,6 +79,11 @@ static void faults_and_extents(void)
 
 static void cells_and_files(void)
 {
+    /* bit 0x10 was written; the highest bit that was is 0x02 */
+    static const struct {
+        uint8_t state;
+        uint32_t what;
+    } dead[3] = {{0xe8, FV_CELL_DELETED}, {0xfc, FV_CELL_UNFINISHED}, {0xfd, FV_CELL_UNFINISHED}};
     GUARDED(fv_cell, 2) c;
     GUARDED(fv_file, 1) files;
     uint64_t count = 0;
@@ -90,6 +95,13 @@ static void cells_and_files(void)
     EXPECT(!memcmp(c.it[0].name, name, sizeof name));
     EXPECT(c.it[1].offset == 144 && c.it[1].len == 16 && c.it[1].what == FV_CELL_FREE && c.it[1].header_len == 0);
     KEPT(c);
+    for (int i = 0; i < 3; i++) {
+        volume[FILE_AT + 23] = dead[i].state;
+        EXPECT(fv_cells(volume, LENGTH, c.it, 2, &count, &f) == FV_DONE && count == 2);
+        EXPECT(c.it[0].what == dead[i].what && c.it[0].offset == FILE_AT && c.it[0].len == FILE_LEN + 4);
+        EXPECT(c.it[0].header_len == 0 && c.it[0].kind == 0 && c.it[0].attributes == 0 && c.it[0].name[0] == 0);
+    }
+    make(9);
     EXPECT(fv_files(volume, LENGTH, files.it, 0, &count, &f) == FV_BUFFER_TOO_SMALL && count == 1);
     EXPECT(files.it->data_offset == 0xeeeeeeeeeeeeeeee);
     EXPECT(fv_files(volume, LENGTH, files.it, 1, &count, &f) == FV_DONE && count == 1);

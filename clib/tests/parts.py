@@ -1,9 +1,9 @@
 #!/usr/bin/env python3
-"""parts.py [--program PROGRAM] FILE..: files, sections and extract of fv.py.
+"""parts.py [--program PROGRAM] FILE..: files, sections, extract and cells of fv.py.
 
 First over the volumes of crates/fv_tests/src/tree, whose files and faults were worked out by hand. Then over each FILE:
-the places of the data against the input itself, and, with the program, the lines of `list` and the output of `extract`
-for each file and section."""
+the places of the data against the input itself, and, with the program, the lines of `list`, the output of `extract` for
+each file and section, and the names of the cells."""
 
 import argparse
 import collections
@@ -17,6 +17,7 @@ sys.path.insert(0, str(ROOT / "clib"))
 import fv
 
 PAGE = (ROOT / "docs/FAULTS.md").read_text(encoding="utf-8").split("## What each fault means for you")[0]
+CELLS = {fv.FILE: "file", fv.PAD: "pad", fv.DELETED: "deleted", fv.UNFINISHED: "unfinished", fv.FREE: "free"}
 FAULTS = {name: int(number) for number, name in re.findall(r"(?m)^\| (\d+) \| ([A-Z]\w+) \|", PAGE)}
 
 
@@ -94,6 +95,22 @@ def check_tables():
     print(f"parts: {seen[1]} volumes of the tables have the files that they should, {seen[0]} the faults")
 
 
+def check_remains(program):
+    """A deleted file, one whose data were never finished, and two headers that were never finished."""
+    begun, invalid = "ff*16 fffffffefffffffe", "ff*16 fffffffeffffffde"
+    data = spelled(f"<c0> 0a*16 47aa0100180000e8 0a*16 47aa0100180000fc {begun} {invalid} ff*24")
+    wanted = [fv.DELETED, fv.UNFINISHED, fv.UNFINISHED, fv.UNFINISHED, fv.FREE]
+    assert [cell.what for cell in fv.cells(data)] == wanted
+    if program:
+        said = subprocess.run([program, "cells"], input=data, capture_output=True, check=True).stdout
+        assert cell_names(said) == [CELLS[what] for what in wanted]
+
+
+def cell_names(text):
+    """What the program calls the cells in the lines of `cells`."""
+    return [line.split()[0] for line in text.decode().splitlines()[1:-1]]
+
+
 def check_places(data):
     """The data of each file are in the input where its row says, and the sections where their sizes put them."""
     for number, file in enumerate(fv.files(data)):
@@ -155,7 +172,8 @@ def check_program(program, path, data):
         assert run("extract", "--name", str(files[number].name), *arguments) == wanted, (path, number, section)
 
     assert list(lines(data)) == list(outer_lines(run("list").decode())), path
-    files, names, count = fv.files(data), set(), 1
+    assert [CELLS[cell.what] for cell in fv.cells(data)] == cell_names(run("cells")), path
+    files, names, count = fv.files(data), set(), 2
     for number, file in enumerate(files):
         if file.name in names:
             continue
@@ -175,6 +193,7 @@ def main():
     parser.add_argument("files", nargs="*")
     given = parser.parse_args()
     check_tables()
+    check_remains(given.program)
     volumes = compared = 0
     for path in given.files:
         data = Path(path).read_bytes()

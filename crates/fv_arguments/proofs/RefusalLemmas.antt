@@ -10,7 +10,7 @@ use Rattle.clap.specs.Values.{kind_of}
 use Rattle.clap.specs.Words.{App, HasKind, Kinds, fault_of, is_simple_and_free}
 use Rattle.clap.specs.declared.error.Error.{Error}
 use Rattle.clap.specs.declared.error.kind.ErrorKind.TheVariants as error_kinds
-use Rattle.fv_base.specs.Guids.{guid_read}
+use Rattle.fv_base.specs.GuidTexts.{guid_read}
 use Rattle.fv_plan.specs.declared.plan.Command.{Command}
 use Rattle.fv_plan.specs.declared.plan.Command.TheVariants.{Single, Hobs, Compare}
 use Rattle.fv_plan.specs.declared.plan.Task.TheVariants.{Normalise, NormaliseAll, List as Listing, ListSums, Extract, Check}

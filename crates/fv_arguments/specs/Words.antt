@@ -6,7 +6,7 @@ use Rattle.std.specs.Str.Parse.{IsNumeral, digits_value, without_leading_plus}
 use Rattle.std.specs.Global.{Global}
 use Rattle.std.specs.String.{string_bytes}
 use Rattle.clap.specs.Words.{App}
-use Rattle.fv_base.specs.Guids.{guid_read}
+use Rattle.fv_base.specs.GuidTexts.{guid_read}
 use Rattle.fv_plan.specs.declared.plan.Part.{Part}
 use Rattle.fv_arguments.specs.Options.{compare_app, extract_app, faults_in, hobs_app, list_app, normalise_app, one_input_app, text_in}
 use Rattle.fv_arguments.specs.Options.{volume_app}

@@ -3,7 +3,7 @@
 ghost use Rattle.clap.specs.Words.{App, first_value, found_of};
 ghost use Rattle.fv_arguments.specs.inner.CommandWords.{AreRightFor, AsksFor, IsRead, has_number};
 ghost use Rattle.fv_arguments.specs.Words.{AsksBy, HasInput, IsSectionTypeWord};
-ghost use Rattle.fv_base.specs.Guids.{guid_read};
+ghost use Rattle.fv_base.specs.GuidTexts.{guid_read};
 ghost use Rattle.std.specs.String.{string_bytes};
 ghost use Rattle.std.specs.Prelude.{◌≡◌, ◌≢◌, ◌≤◌, ℕ, List, None, Option, Some, codes, drop, is_some, length, map};
 ghost use Rattle.std.specs.Prelude.{if◌then◌else◌, option_and_then, option_map, true, IfErr, IfOk, SomeIff};

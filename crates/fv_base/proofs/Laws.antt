@@ -9,8 +9,8 @@ pub use Rattle.fv_base.proofs.NumberLaws.{le_below, field_below, bytes_front, by
 -- checks in their order: the first that does not hold, among some and among more; there is one where not all hold, and none else
 pub use Rattle.fv_base.proofs.CheckLemmas.{and_split, and_join, all_hold, none_faulty, first_is, first_before, first_behind, first_front}
 pub use Rattle.fv_base.proofs.CheckLemmas.{first_whole, first_among, not_first, verdict_ok, verdict_err, verdict_none, whatever}
--- tests of numbers that hold or do not
-pub use Rattle.fv_base.proofs.TestLemmas.{if_true, if_false, not_less, not_at_most, not_equal, or_parts, or_both}
+-- tests of numbers and of single bits that hold or do not
+pub use Rattle.fv_base.proofs.TestLemmas.{if_true, if_false, not_less, not_at_most, not_equal, one_bit, or_parts, or_both}
 -- bytes that are all one byte: joined, cut, counted, and the test of it
 pub use Rattle.fv_base.proofs.ErasedLemmas.{all_append, all_front, all_behind, all-replicate, all-of_replicate, all_are-true, all-all_are}
 -- sums of the words of joined bytes

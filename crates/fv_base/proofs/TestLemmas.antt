@@ -1,8 +1,8 @@
 -- Tests that hold or do not.
 use Rattle.std.proofs.lemmas.Grind.{common_steps}
-use Rattle.std.proofs.Common.{◌≡◌, ◌≤◌, ◌<◌, ℕ, refl, arith, Bool, true, false}
+use Rattle.std.proofs.Common.{◌≡◌, ◌≤◌, ◌<◌, ◌*◌, ℕ, zero, suc, refl, arith, Bool, true, false}
 use Rattle.std.specs.Prelude.{◌==◌, ◌≢◌, ◌||◌, nat_le, nat_lt, if◌then◌else◌}
-use Rattle.std.proofs.lemmas.Bool.{eqb-true, leb-true, ltb-true}
+use Rattle.std.proofs.lemmas.Bool.{eq-eqb, eqb-true, leb-true, ltb-true}
 
 pub if_true : {A : Type 0} → (b : Bool) (x y : A) → b ≡ true → (if b then x else y) ≡ x
 if_true true x y h = refl
@@ -20,6 +20,12 @@ not_at_most n m h = grind (arith, common_steps, leb-true)
 
 pub not_equal : (n m : ℕ) → n ≢ m → (n == m) ≡ false
 not_equal n m h = grind (arith, common_steps, eqb-true)
+
+-- a mask of one bit shows that bit
+pub one_bit : (b m : ℕ) → b < 2 → 0 < m → (b * m == m) ≡ (b == 1)
+one_bit zero m l some = not_equal (0 * m) m (λ e. omega (arith, e, some))
+one_bit (suc zero) m l some = eq-eqb (1 * m) m (omega arith)
+one_bit (suc (suc b)) m l some = absurd (omega arith)
 
 -- neither of two tests holds
 pub or_parts : (a b : Bool) → (a || b) ≡ false → (a ≡ false) × (b ≡ false)

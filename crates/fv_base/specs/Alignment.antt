@@ -1,5 +1,5 @@
 -- The alignments of files (PI specification, volume 3, section 3.2.3.1).
-use Rattle.std.specs.Prelude.{ℕ, ◌+◌, ◌*◌, ◌/◌, ◌%◌, ◌^◌, ◌≤◌, ◌≡◌, List, [], ◌∷◌, slice_index}
+use Rattle.std.specs.Prelude.{ℕ, ◌+◌, ◌*◌, ◌/◌, ◌%◌, List, [], ◌∷◌, slice_index}
 
 -- the sixteen alignments in bytes: the first table, and then the second
 abbrev pub alignments : List ℕ
@@ -10,7 +10,3 @@ alignments =
 -- the alignment that attribute bits name: 0x08, 0x10 and 0x20 are its code, and 0x02 picks the second table
 abbrev pub alignment_of : ℕ → ℕ
 alignment_of attributes = slice_index alignments (attributes / 8 % 8 + 8 * (attributes / 2 % 2))
-
--- a power of two of at most 2 ^ 24
-abbrev pub IsAlignment : ℕ → Type 0
-IsAlignment n = (k : ℕ) × (k ≤ 24) × (n ≡ 2 ^ k)

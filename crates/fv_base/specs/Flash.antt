@@ -1,6 +1,6 @@
 -- What an erased byte of the flash memory holds, and bytes that are all erased.
-use Rattle.std.specs.List.{list_all}
-use Rattle.std.specs.Prelude.{ℕ, ◌≡◌, ◌==◌, Bool, List, [], ◌∷◌}
+use Rattle.std.specs.List.{AllByRecursion}
+use Rattle.std.specs.Prelude.{ℕ, ◌≡◌, List}
 use Rattle.fv_base.specs.declared.flash.Polarity.{Polarity}
 use Rattle.fv_base.specs.declared.flash.Polarity.TheVariants.{Ones, Zeros}
 
@@ -11,9 +11,4 @@ erased_byte Zeros = 0
 
 -- every byte of the list is `byte`
 abbrev pub AllAre : ℕ → List ℕ → Type 0
-AllAre byte [] = Unit {0}
-AllAre byte (x ∷ xs) = (x ≡ byte) × AllAre byte xs
-
--- whether every byte of the list is `byte`
-unfoldable pub all_are : ℕ → List ℕ → Bool
-all_are byte xs = list_all (λ x. x == byte) xs
+AllAre byte b = AllByRecursion (λ x. x ≡ byte) b

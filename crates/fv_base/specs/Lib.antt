@@ -5,6 +5,8 @@ pub mod Sums
 pub mod Guids
 pub mod Flash
 pub mod Alignment
+pub mod Measures
+pub mod GuidTexts
 pub mod Faults
 pub mod Checks
 pub mod Input

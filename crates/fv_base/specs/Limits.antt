@@ -1,6 +1,5 @@
 -- The limits of what is read. For the first three the code has constants of its own (src/limits.rt): a contract that
--- cites one of these numbers is proved only while the two agree. The last has no constant in the code: only clauses
--- cite it.
+-- cites one of these numbers is proved only while the two agree.
 use Rattle.std.specs.Prelude.{ℕ}
 
 -- the most bytes that a volume may have, and that a run reads as binary input
@@ -18,7 +17,3 @@ ext_limit = 65535
 -- how many levels deep groups and opened volumes nest at most in a volume
 abbrev pub depth_limit : ℕ
 depth_limit = 8
-
--- the most bytes of a file's data: those of a volume less the 32 of a large header
-abbrev pub data_limit : ℕ
-data_limit = 268435424

@@ -8,10 +8,6 @@ words_of [] = []
 words_of (a ∷ []) = []
 words_of (a ∷ b ∷ bs) = le (a ∷ b ∷ []) ∷ words_of bs
 
--- the plain sum of the bytes modulo 256
-abbrev pub sum8_of : List ℕ → ℕ
-sum8_of bs = sum bs % 256
-
 -- the plain sum of the 16-bit words modulo 65536
 abbrev pub sum16_of : List ℕ → ℕ
 sum16_of bs = sum (words_of bs) % 65536

@@ -1,7 +1,8 @@
 //! The alignment that a file asks for.
 
 ghost use Rattle.std.specs.Prelude.{◌≡◌, ◌^◌};
-ghost use Rattle.fv_base.specs.Alignment.{alignment_of, IsAlignment};
+ghost use Rattle.fv_base.specs.Alignment.{alignment_of};
+ghost use Rattle.fv_base.specs.Measures.{IsAlignment};
 
 use std::marker::Model;
 

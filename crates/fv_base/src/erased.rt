@@ -1,7 +1,8 @@
 //! Bytes that all have the same value, such as erased bytes.
 
 ghost use Rattle.std.specs.Prelude.{◌≡◌, ◌↔◌, IsTrue};
-ghost use Rattle.fv_base.specs.Flash.{AllAre, all_are};
+ghost use Rattle.fv_base.specs.Flash.{AllAre};
+ghost use Rattle.fv_base.specs.Measures.{all_are};
 
 /// The number of bytes that are looked at before the loop decides whether to go on.
 const PIECE: usize = 4096;

@@ -1,7 +1,8 @@
 //! Globally unique identifiers.
 
 ghost use Rattle.std.specs.Prelude.{◌≡◌, ◌+◌, ◌≤◌, Some, length};
-ghost use Rattle.fv_base.specs.Guids.{bytes_of, guid_text, guid_read};
+ghost use Rattle.fv_base.specs.Guids.{bytes_of};
+ghost use Rattle.fv_base.specs.GuidTexts.{guid_text, guid_read};
 ghost use Rattle.fv_base.specs.Value.{field};
 
 use crate::field::field;

@@ -1,7 +1,8 @@
 //! The sums in headers.
 
 ghost use Rattle.std.specs.Prelude.{◌≡◌, ◌%◌, length};
-ghost use Rattle.fv_base.specs.Sums.{sum8_of, sum16_of};
+ghost use Rattle.fv_base.specs.Measures.{sum8_of};
+ghost use Rattle.fv_base.specs.Sums.{sum16_of};
 
 /// The plain sum of the bytes, modulo 256, as in `IntegrityCheck` of a file. (PI specification,
 /// volume 3, section 3.2.3.1.)

@@ -1,5 +1,7 @@
-pub mod CellLemmas
+pub mod RowLemmas
 pub mod SectionRowLaws
 pub mod FileRowLaws
 pub mod PartLaws
 pub mod PreorderLaws
+pub mod MemoryLaws
+pub mod GroupLaws

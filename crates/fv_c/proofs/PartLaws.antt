@@ -6,11 +6,12 @@ use Rattle.std.proofs.lemmas.Bool.Decides.{Decides-eqb}
 use Rattle.std.proofs.lemmas.Option.{slice_get-map}
 use Rattle.fv_base.specs.Faults.{out_of_memory}
 use Rattle.fv_base.specs.declared.fault.Fault.{Fault}
-use Rattle.fv_canon.specs.Layouts.{FirstUnfit}
+use Rattle.fv_canon.specs.LayoutFaults.{FirstUnfit}
 use Rattle.fv_canon.specs.Refusals.{NotRead}
 use Rattle.fv_tree.specs.Denotes.{Accepted}
 use Rattle.fv_head.specs.Head.{HeadFields}
-use Rattle.fv_tree.specs.Meaning.{Meaning, Volume, FileMeaning, files_from, files_of, content_of}
+use Rattle.fv_tree.specs.Meaning.{Meaning, Volume, FileMeaning, files_of, content_of}
+use Rattle.fv_tree.specs.MeaningParts.{files_from}
 use Rattle.fv_tree.proofs.Laws.{files_list_back}
 use Rattle.fv_c.specs.ExtractedParts.{PartMeaning, Data, whole_file, row_part, part_of_file, part_of, part_in, IsPartImage}
 use Rattle.fv_c.specs.ExtractedParts.{volumes_in_part, ExtractsTo, HasNoPart, HasUnfitPart}

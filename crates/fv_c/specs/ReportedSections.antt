@@ -1,9 +1,9 @@
 -- The sections of a file, as they are reported to C (PI specification, volume 3, section 3.2.4).
-use Rattle.std.specs.Prelude.{ℕ, ◌+◌, List, [], ◌∷◌, ◌++◌, length}
+use Rattle.std.specs.Prelude.{◌≡◌, ◌⊎◌, ℕ, ◌+◌, List, [], ◌∷◌, ◌++◌, length, slice_get, Some}
 use Rattle.fv_section.specs.Frames.{section_header_len}
 use Rattle.fv_tree.specs.Meaning.{ContentMeaning, Plain, Sectioned, SectionMeanings, NoSections, MoreSections}
-use Rattle.fv_tree.specs.Meaning.{SectionMeaning, Section, BodyMeaning, Leaf, Group, Nested, body_of, body_len}
-use Rattle.fv_tree.specs.Meaning.{section_kind_of, section_is_extended}
+use Rattle.fv_tree.specs.Meaning.{SectionMeaning, Section, BodyMeaning, Leaf, Group, Nested, body_len}
+use Rattle.fv_tree.specs.MeaningParts.{body_of, section_kind_of, section_is_extended}
 use Rattle.fv_c.specs.declared.sections.FvSection.{FvSection}
 
 -- that a section is in no group
@@ -39,6 +39,24 @@ abbrev mutual
 abbrev pub section_rows : ContentMeaning → List SectionRow
 section_rows (Plain b) = []
 section_rows (Sectioned sections tail) = rows_of_sections 0 no_parent 0 sections
+
+-- a section is one of these
+abbrev pub IsAmong : SectionMeaning → SectionMeanings → Type 0
+IsAmong s NoSections = ⊥
+IsAmong s (MoreSections t ts) = (s ≡ t) ⊎ IsAmong s ts
+
+-- the first section is a group, and the second is in it
+abbrev pub HoldsSection : SectionMeaning → SectionMeaning → Type 0
+HoldsSection (Section kind extended (Leaf b)) s = ⊥
+HoldsSection (Section kind extended (Group sections tail)) s = IsAmong s sections
+HoldsSection (Section kind extended (Nested volume)) s = ⊥
+
+-- of a row among these: its section is in no group and its depth is 0; or the row at the number of its parent is a group
+-- that holds its section, and its depth is one more than the depth of that row
+abbrev pub IsPlaced : List SectionRow → SectionRow → Type 0
+IsPlaced rows r =
+    ((r.parent ≡ no_parent) × (r.depth ≡ 0))
+    ⊎ ((g : SectionRow) × (slice_get rows r.parent ≡ Some g) × HoldsSection g.section r.section × (r.depth ≡ g.depth + 1))
 
 -- what a section holds: 1 bytes, 2 sections, 3 a volume
 abbrev pub held_number : BodyMeaning → ℕ

@@ -21,9 +21,9 @@ reported_truth (Some false) = 0
 reported_truth None = 2
 
 -- a phase by its number: 0 is PEI, any other is DXE and MM
-abbrev pub phase_of : ℕ → Phase
-phase_of zero = phases.Pei
-phase_of (suc n) = phases.Dxe
+abbrev pub phase_by_number : ℕ → Phase
+phase_by_number zero = phases.Pei
+phase_by_number (suc n) = phases.Dxe
 
 -- a fault of an expression
 abbrev pub reported_depex_fault : DepexFault → FvFault

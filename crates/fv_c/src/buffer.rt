@@ -14,7 +14,22 @@ pub(crate) fn put_first<T: Copy>(rows: &[T], buffer: &mut [T])
 }
 
 // Writes the elements at the start of the buffer and returns 0, or keeps the buffer and returns 27
-// if it has fewer elements. `count` is their number.
+// if it has fewer elements.
+pub(crate) fn put_all<T: Copy>(rows: &[T], buffer: &mut [T]) -> u32
+    ensures ok { result ≡ 0 → buffer.new ≡ rows.now ++ drop (length rows.now) buffer.old }
+    ensures kept { result ≢ 0 → buffer.new ≡ buffer.old }
+    ensures small { result ≡ 27 → length buffer.old < length rows.now }
+    ensures room { result ≡ 0 → length rows.now ≤ length buffer.old }
+    ensures only { (result ≡ 0) ⊎ (result ≡ 27) }
+{
+    if buffer.len() < rows.len() {
+        return BUFFER_TOO_SMALL;
+    }
+    put_first(rows, buffer);
+    0
+}
+
+// Does the same as `put_all`. `count` is the number of the elements.
 pub(crate) fn put_rows<T: Copy>(rows: &[T], buffer: &mut [T], count: &mut u64) -> u32
     ensures ok { result ≡ 0 → buffer.new ≡ rows.now ++ drop (length rows.now) buffer.old }
     ensures kept { result ≢ 0 → buffer.new ≡ buffer.old }
@@ -23,9 +38,5 @@ pub(crate) fn put_rows<T: Copy>(rows: &[T], buffer: &mut [T], count: &mut u64) -
     ensures count { count.new ≡ length rows.now }
 {
     *count = rows.len() as u64;
-    if buffer.len() < rows.len() {
-        return BUFFER_TOO_SMALL;
-    }
-    put_first(rows, buffer);
-    0
+    put_all(rows, buffer)
 }

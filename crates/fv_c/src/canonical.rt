@@ -4,6 +4,7 @@
 ghost use Rattle.std.specs.Prelude.{◌≡◌, ◌≢◌, ◌⊎◌, ◌↔◌, ◌<◌, ◌≤◌, ◌++◌, ℕ, List, length, drop, IfOk, IfErr};
 ghost use Rattle.sha2.specs.Sha256.{sha256};
 ghost use Rattle.fv_base.specs.Faults.{fault_number, out_of_memory};
+ghost use Rattle.fv_base.specs.Limits.{volume_limit};
 ghost use Rattle.fv_base.specs.declared.fault.Fault.{Fault};
 ghost use Rattle.fv_canon.specs.FlashImages.{NormalisesAll, RefusesAll};
 ghost use Rattle.fv_canon.specs.Headline.{NormalisesTo};
@@ -11,10 +12,10 @@ ghost use Rattle.fv_canon.specs.Image.{IsImage};
 ghost use Rattle.fv_canon.specs.Refusals.{NotRead, Refuses};
 ghost use Rattle.fv_tree.specs.Denotes.{Accepted};
 ghost use Rattle.fv_tree.specs.Meaning.{Meaning};
-ghost use Rattle.fv_c.specs.Reports.{reported_fault, no_fault};
+ghost use Rattle.fv_c.specs.Reports.{BeginsWithHeader, reported_fault, no_fault};
 
-use crate::buffer::put_first;
-use crate::reports::{BUFFER_TOO_SMALL, FvFault, NO_FAULT, flag, refused};
+use crate::buffer::put_all;
+use crate::reports::{FvFault, NO_FAULT, flag, refused};
 use fv_base::Fault;
 use fv_canon::{is_canonical, normalise, normalise_image};
 use sha2::{Digest, Sha256};
@@ -40,8 +41,10 @@ pub extern "C" fn fv_is_canonical(
         × (canonical.new ≤ 1) × (fault.new ≡ no_fault) }
     ensures kept { result ≢ 0 → canonical.new ≡ canonical.old }
 
-    // A fault is out of memory or the first of the input.
+    // A fault is out of memory, only if the input begins with the header of a volume, or the first
+    // of the input.
     ensures err { result ≢ 0 → (f : Fault) × ((f ≡ out_of_memory) ⊎ NotRead input.now f)
+        × (f ≡ out_of_memory → BeginsWithHeader input.now)
         × (result ≡ fault_number f.kind) × (fault.new ≡ reported_fault f) }
 {
     match is_canonical(alloc, input) {
@@ -67,6 +70,7 @@ fn digest_of(alloc: Global, input: &[u8]) -> Result<FvDigest, Fault>
     ensures ok { IfOk result (λ d. (image : List ℕ) × NormalisesTo input.now image × (d.bytes ≡ sha256 image)) }
     ensures err { IfErr result (λ f. (f ≡ out_of_memory) ⊎ Refuses input.now f) }
     ensures fits { (image : List ℕ) → NormalisesTo input.now image → IfErr result (λ f. f ≡ out_of_memory) }
+    ensures memory { IfErr result (λ f. f ≡ out_of_memory → BeginsWithHeader input.now) }
 {
     let image = normalise(alloc, input)?;
     Ok(FvDigest {
@@ -93,8 +97,10 @@ pub extern "C" fn fv_digest(
         × (digest.new.bytes ≡ sha256 image) × (fault.new ≡ no_fault) }
     ensures kept { result ≢ 0 → digest.new ≡ digest.old }
 
-    // A fault is out of memory or the first of the input.
+    // A fault is out of memory, only if the input begins with the header of a volume, or the first
+    // of the input.
     ensures err { result ≢ 0 → (f : Fault) × ((f ≡ out_of_memory) ⊎ Refuses input.now f)
+        × (f ≡ out_of_memory → BeginsWithHeader input.now)
         × (result ≡ fault_number f.kind) × (fault.new ≡ reported_fault f) }
 
     // If the input has an image, only memory can run out.
@@ -115,9 +121,9 @@ pub extern "C" fn fv_digest(
 ///
 /// # Errors
 ///
-/// 27 if the buffer is shorter than the input, which is checked first. The number of the first
-/// fault, which is in `fault`: those of `normalise`; 24 if memory runs out. The buffer is unchanged
-/// then.
+/// The number of the first fault, which is in `fault`: those of `normalise`; 24 if memory runs out.
+/// If there is none, 27 if the buffer is shorter than the input. The buffer is unchanged in all
+/// cases.
 #[unsafe(no_mangle)]
 pub extern "C" fn fv_normalise(
     alloc: Global,
@@ -130,28 +136,26 @@ pub extern "C" fn fv_normalise(
         × (buffer.new ≡ image ++ drop (length image) buffer.old) × (fault.new ≡ no_fault) }
     ensures kept { result ≢ 0 → buffer.new ≡ buffer.old }
 
-    // Exactly a buffer shorter than the input is too small.
-    ensures small { length buffer.old < length input.now → (result ≡ 27) × (fault.new ≡ no_fault) }
-    ensures buffer { result ≡ 27 → length buffer.old < length input.now }
+    // Only for an input that has an image can the buffer be too small: if it is shorter.
+    ensures small { result ≡ 27 → (image : List ℕ) × NormalisesTo input.now image × (length image ≡ length input.now)
+        × (length buffer.old < length image) × (fault.new ≡ no_fault) }
+    ensures room { length buffer.old < length input.now → result ≢ 0 }
 
-    // Any other fault is out of memory or the first of the input.
+    // Any other fault is out of memory, only if the input begins with the header of a volume, or
+    // the first of the input.
     ensures err { result ≢ 0 → result ≢ 27 → (f : Fault) × ((f ≡ out_of_memory) ⊎ Refuses input.now f)
+        × (f ≡ out_of_memory → BeginsWithHeader input.now)
         × (result ≡ fault_number f.kind) × (fault.new ≡ reported_fault f) }
 
     // If the input has an image, only memory or the buffer can be too small.
     ensures fits { (image : List ℕ) → NormalisesTo input.now image → result ≢ 0 → result ≢ 27 → result ≡ 24 }
 {
+    let image = match normalise(alloc, input) {
+        Ok(image) => image,
+        Err(f) => return refused(f, fault),
+    };
     *fault = NO_FAULT;
-    if buffer.len() < input.len() {
-        return BUFFER_TOO_SMALL;
-    }
-    match normalise(alloc, input) {
-        Ok(image) => {
-            put_first(image.as_slice(), buffer);
-            0
-        }
-        Err(f) => refused(f, fault),
-    }
+    put_all(image.as_slice(), buffer)
 }
 
 /// Writes a flash image with each volume that `fv_scan` finds replaced by its canonical image. The
@@ -160,9 +164,9 @@ pub extern "C" fn fv_normalise(
 ///
 /// # Errors
 ///
-/// 27 if the buffer is shorter than the image, which is checked first. The number of the first
-/// fault, which is in `fault`, at its offset in the image: those of `normalise_image`; 24 if memory
-/// runs out. The buffer is unchanged then.
+/// The number of the first fault, which is in `fault`, at its offset in the image: those of
+/// `normalise_image`; 24 if memory runs out. If there is none, 27 if the buffer is shorter than the
+/// image. The buffer is unchanged in all cases.
 #[unsafe(no_mangle)]
 pub extern "C" fn fv_normalise_image(
     alloc: Global,
@@ -175,23 +179,24 @@ pub extern "C" fn fv_normalise_image(
         × (buffer.new ≡ bytes ++ drop (length bytes) buffer.old) × (fault.new ≡ no_fault) }
     ensures kept { result ≢ 0 → buffer.new ≡ buffer.old }
 
-    // Exactly a buffer shorter than the image is too small.
-    ensures small { length buffer.old < length image.now → (result ≡ 27) × (fault.new ≡ no_fault) }
-    ensures buffer { result ≡ 27 → length buffer.old < length image.now }
+    // Only if each volume has an image can the buffer be too small: if it is shorter.
+    ensures small { result ≡ 27 → (bytes : List ℕ) × NormalisesAll image.now bytes × (length bytes ≡ length image.now)
+        × (length buffer.old < length bytes) × (fault.new ≡ no_fault) }
+    ensures room { length buffer.old < length image.now → result ≢ 0 }
 
-    // Any other fault is out of memory or that of the first volume that has no image.
+    // Any other fault is out of memory, only if the image is within the limit, or that of the first
+    // volume that has no image.
     ensures err { result ≢ 0 → result ≢ 27 → (f : Fault) × ((f ≡ out_of_memory) ⊎ RefusesAll image.now f)
+        × (f ≡ out_of_memory → length image.now ≤ volume_limit)
         × (result ≡ fault_number f.kind) × (fault.new ≡ reported_fault f) }
+
+    // If each volume has an image, only memory or the buffer can be too small.
+    ensures fits { (bytes : List ℕ) → NormalisesAll image.now bytes → result ≢ 0 → result ≢ 27 → result ≡ 24 }
 {
+    let bytes = match normalise_image(alloc, image) {
+        Ok(bytes) => bytes,
+        Err(f) => return refused(f, fault),
+    };
     *fault = NO_FAULT;
-    if buffer.len() < image.len() {
-        return BUFFER_TOO_SMALL;
-    }
-    match normalise_image(alloc, image) {
-        Ok(bytes) => {
-            put_first(bytes.as_slice(), buffer);
-            0
-        }
-        Err(f) => refused(f, fault),
-    }
+    put_all(bytes.as_slice(), buffer)
 }

@@ -5,15 +5,17 @@ ghost use Rattle.fv_base.specs.Faults.{fault_number, out_of_memory};
 ghost use Rattle.fv_base.specs.declared.fault.Fault.{Fault};
 ghost use Rattle.fv_file.specs.CellForms.{cell_form};
 ghost use Rattle.fv_file.specs.Cells.{CellForm};
-ghost use Rattle.fv_c.specs.ReportedCells.{HasCells, NoCells, of_bytes, of_file, reported_cell};
+ghost use Rattle.fv_head.specs.declared.extent.Extent.{Extent};
+ghost use Rattle.fv_tree.specs.VolumeCells.{BeginsTiled, NotTiled};
+ghost use Rattle.fv_c.specs.ReportedCells.{dead_number, of_bytes, of_file, reported_cell};
 ghost use Rattle.fv_c.specs.inner.ReturnedCells.{reported_of};
-ghost use Rattle.fv_c.specs.Reports.{reported_fault, no_fault};
+ghost use Rattle.fv_c.specs.Reports.{BeginsWithHeader, reported_fault, no_fault};
 
 use crate::buffer::put_rows;
 use crate::reports::{FvFault, NO_FAULT, refused};
 use fv_base::Fault;
-use fv_file::{Cell, Cells, FileHead, cells};
-use fv_head::verify_fv;
+use fv_file::{Cell, Cells, FileHead, FileState};
+use fv_tree::volume_cells;
 use std::alloc::{AllocError, Global};
 
 /// A cell of a volume's body. A field that the cell does not have is 0. (PI specification, volume
@@ -27,8 +29,8 @@ pub struct FvCell {
     pub len: u64,
     /// The number of bytes of the header of a file or a pad. Its data follow the header.
     pub header_len: u64,
-    /// 1: a valid file; 2: a pad; 3: a file that was deleted or whose data were never finished; 4:
-    /// a header that was never finished; 5: free bytes.
+    /// 1: a valid file; 2: a pad; 3: a file that was deleted; 4: a file whose data or header were
+    /// never finished; 5: free bytes.
     pub what: u32,
     /// `Type` of a file or a pad.
     pub kind: u32,
@@ -72,6 +74,16 @@ fn of_bytes(offset: u64, what: u32, len: u64) -> FvCell
     }
 }
 
+// The number of a file that is not valid, by its state.
+fn dead_number(state: FileState) -> u32
+    ensures { result ≡ dead_number state }
+{
+    match state {
+        FileState::Deleted => 3,
+        _ => 4,
+    }
+}
+
 // A cell, for C.
 fn reported_cell(cell: &Cell<'_>) -> FvCell
     ensures { result ≡ reported_cell (cell_form cell.now) }
@@ -79,33 +91,21 @@ fn reported_cell(cell: &Cell<'_>) -> FvCell
     match *cell {
         Cell::Valid { offset, head, .. } => of_file(offset, 1, head),
         Cell::Pad { offset, head, .. } => of_file(offset, 2, head),
-        Cell::Dead { offset, len } => of_bytes(offset, 3, len),
+        Cell::Dead { offset, len, state } => of_bytes(offset, dead_number(state), len),
         Cell::Stub { offset, len } => of_bytes(offset, 4, len),
         Cell::Free { offset, len } => of_bytes(offset, 5, len),
     }
-}
-
-// The cells of the volume with which the bytes begin.
-fn first_cells(alloc: Global, bytes: &[u8]) -> Result<Cells<'_>, Fault>
-    ensures ok { IfOk result (HasCells bytes.now) }
-    ensures err { IfErr result (λ f. f ≢ out_of_memory → NoCells bytes.now f) }
-{
-    let extent = verify_fv(bytes)?;
-    let volume = &bytes[..extent.length as usize];
-    cells(
-        alloc,
-        volume,
-        extent.first,
-        extent.file_system,
-        extent.polarity,
-    )
 }
 
 // Cells, for C.
 fn reported_cells(alloc: Global, list: &[Cell<'_>]) -> Result<Vec<FvCell>, AllocError>
     ensures { IfOk result (λ v. v.items ≡ map reported_of list.now) }
 {
-    list.iter().map(reported_cell).collect(alloc)
+    let mut rows = Vec::with_capacity(alloc, list.len())?;
+    for cell in list {
+        rows.push(reported_cell(cell))?;
+    }
+    Ok(rows)
 }
 
 // The cells of a volume, for C.
@@ -117,10 +117,12 @@ fn reported_list(alloc: Global, list: &Cells<'_>) -> Result<Vec<FvCell>, AllocEr
 
 // The cells of the volume with which the bytes begin, for C.
 fn cell_rows(alloc: Global, bytes: &[u8]) -> Result<Vec<FvCell>, Fault>
-    ensures ok { IfOk result (λ v. (cs : List CellForm) × HasCells bytes.now cs × (v.items ≡ map reported_cell cs)) }
-    ensures err { IfErr result (λ f. f ≢ out_of_memory → NoCells bytes.now f) }
+    ensures ok { IfOk result (λ v. (e : Extent) × (cs : List CellForm) × BeginsTiled e cs bytes.now
+        × (v.items ≡ map reported_cell cs)) }
+    ensures err { IfErr result (λ f. f ≢ out_of_memory → NotTiled bytes.now f) }
+    ensures memory { IfErr result (λ f. f ≡ out_of_memory → BeginsWithHeader bytes.now) }
 {
-    let list = first_cells(alloc, bytes)?;
+    let (_, list) = volume_cells(alloc, bytes)?;
     Ok(reported_list(alloc, &list)?)
 }
 
@@ -142,14 +144,17 @@ pub extern "C" fn fv_cells(
     fault: &mut FvFault,
 ) -> u32
     // The buffer begins with the cells, and holds what it held after them.
-    ensures ok { result ≡ 0 → (cs : List CellForm) × HasCells bytes.now cs × (count.new ≡ length cs)
-        × (buffer.new ≡ map reported_cell cs ++ drop (length cs) buffer.old) × (fault.new ≡ no_fault) }
+    ensures ok { result ≡ 0 → (e : Extent) × (cs : List CellForm) × BeginsTiled e cs bytes.now
+        × (count.new ≡ length cs) × (buffer.new ≡ map reported_cell cs ++ drop (length cs) buffer.old)
+        × (fault.new ≡ no_fault) }
     ensures kept { result ≢ 0 → buffer.new ≡ buffer.old }
-    ensures small { result ≡ 27 → (cs : List CellForm) × HasCells bytes.now cs × (count.new ≡ length cs)
-        × (length buffer.old < length cs) × (fault.new ≡ no_fault) }
+    ensures small { result ≡ 27 → (e : Extent) × (cs : List CellForm) × BeginsTiled e cs bytes.now
+        × (count.new ≡ length cs) × (length buffer.old < length cs) × (fault.new ≡ no_fault) }
 
-    // Any other fault is out of memory or the first of the header or of the cells.
-    ensures err { result ≢ 0 → result ≢ 27 → (f : Fault) × (f ≢ out_of_memory → NoCells bytes.now f)
+    // Any other fault is out of memory, only if the bytes begin with the header of a volume, or the
+    // first of the header or of the cells.
+    ensures err { result ≢ 0 → result ≢ 27 → (f : Fault) × (f ≢ out_of_memory → NotTiled bytes.now f)
+        × (f ≡ out_of_memory → BeginsWithHeader bytes.now)
         × (result ≡ fault_number f.kind) × (fault.new ≡ reported_fault f) × (count.new ≡ count.old) }
 {
     match cell_rows(alloc, bytes) {

@@ -9,9 +9,10 @@ ghost use Rattle.fv_tree.specs.Denotes.{Accepted};
 ghost use Rattle.fv_tree.specs.Difference.{difference};
 ghost use Rattle.fv_tree.specs.Meaning.{Meaning};
 ghost use Rattle.fv_c.specs.ReportedComparisons.{IsReported, reported_stop};
+ghost use Rattle.fv_c.specs.Reports.{BeginsWithHeader};
 
-use crate::buffer::put_first;
-use crate::reports::{BUFFER_TOO_SMALL, FvFault, NO_FAULT, OUT_OF_MEMORY, flag, reported_fault};
+use crate::buffer::put_all;
+use crate::reports::{FvFault, NO_FAULT, OUT_OF_MEMORY, flag, reported_fault};
 use fv_base::{Fault, FaultKind, Port};
 use fv_canon::{whole_volume, write_comparison};
 use fv_tree::VolumeView;
@@ -85,11 +86,7 @@ fn report(
         side: 0,
         fault: NO_FAULT,
     };
-    if buffer.len() < line.len() {
-        return BUFFER_TOO_SMALL;
-    }
-    put_first(line.as_slice(), buffer);
-    0
+    put_all(line.as_slice(), buffer)
 }
 
 /// Compares the meanings of two inputs that are volumes. Writes a line at the start of the buffer:
@@ -98,10 +95,10 @@ fn report(
 ///
 /// # Errors
 ///
-/// 27 if the buffer is shorter than the line; `found` has its length then. The number of the first
-/// fault of the input `found.side`, which is in `found.fault`: those of `whole_volume`; 24 if memory
-/// runs out, with the first side if the two are being compared. The buffer is unchanged in all
-/// cases.
+/// The number of the first fault of the input `found.side`, which is in `found.fault`: those of
+/// `whole_volume`; 24 if memory runs out, with the first side if the two are being compared. The
+/// second input is read only if the first is a volume. If there is no fault, 27 if the buffer is
+/// shorter than the line; `found` has its length then. The buffer is unchanged in all cases.
 #[unsafe(no_mangle)]
 pub extern "C" fn fv_compare(
     alloc: Global,
@@ -118,10 +115,14 @@ pub extern "C" fn fv_compare(
     ensures small { result ≡ 27 → (m : Meaning) × (k : Meaning) × Accepted first.now m × Accepted second.now k
         × IsReported m k found.new × (length buffer.old < found.new.line_len) }
 
-    // A fault is out of memory or the first of the input of its side.
+    // A fault is out of memory, only if the input of its side begins with the header of a volume, or
+    // the first of that input. It is the second's only if the first is a volume.
     ensures first { found.new.side ≡ 1 → (f : Fault) × ((f ≡ out_of_memory) ⊎ NotRead first.now f)
+        × (f ≡ out_of_memory → BeginsWithHeader first.now)
         × (result ≡ fault_number f.kind) × (found.new ≡ reported_stop 1 f) }
-    ensures second { found.new.side ≡ 2 → (f : Fault) × ((f ≡ out_of_memory) ⊎ NotRead second.now f)
+    ensures second { found.new.side ≡ 2 → ((m : Meaning) × Accepted first.now m)
+        × (f : Fault) × ((f ≡ out_of_memory) ⊎ NotRead second.now f)
+        × (f ≡ out_of_memory → BeginsWithHeader second.now)
         × (result ≡ fault_number f.kind) × (found.new ≡ reported_stop 2 f) }
 
     // Any other result is that of one of the two inputs.

@@ -2,10 +2,10 @@
 
 ghost use Rattle.std.specs.Prelude.{◌≡◌, ◌≢◌, ℕ, List, Some, None, map, IfOk, IfErr};
 ghost use Rattle.fv_depex.specs.Expressions.{Expression, IsOrder, IsTree, Spells, truth};
-ghost use Rattle.fv_depex.specs.OpChecks.{depex_fault_number, depex_out_of_memory};
+ghost use Rattle.fv_depex.specs.OpChecks.{BeginsFirstOp, depex_fault_number, depex_out_of_memory};
 ghost use Rattle.fv_depex.specs.declared.fault.DepexFault.{DepexFault};
 ghost use Rattle.fv_depex.specs.declared.op.Op.{Op};
-ghost use Rattle.fv_c.specs.ReportedTruths.{NoExpression, passed_guid, phase_of, reported_depex_fault, reported_truth};
+ghost use Rattle.fv_c.specs.ReportedTruths.{NoExpression, passed_guid, phase_by_number, reported_depex_fault, reported_truth};
 ghost use Rattle.fv_c.specs.Reports.{no_fault};
 
 use crate::reports::{FvFault, NO_FAULT, refused_at};
@@ -25,14 +25,16 @@ pub struct FvGuid {
 fn guids_of(alloc: Global, list: &[FvGuid]) -> Result<Vec<Guid>, AllocError>
     ensures { IfOk result (λ v. v.items ≡ map passed_guid list.now) }
 {
-    list.iter()
-        .map(|it| Guid::from_bytes(it.bytes))
-        .collect(alloc)
+    let mut guids = Vec::with_capacity(alloc, list.len())?;
+    for guid in list {
+        guids.push(Guid::from_bytes(guid.bytes))?;
+    }
+    Ok(guids)
 }
 
 // A phase by its number: 0 is PEI, any other is DXE and MM.
-fn phase_of(number: u32) -> Phase
-    ensures { result ≡ phase_of number }
+fn phase_by_number(number: u32) -> Phase
+    ensures { result ≡ phase_by_number number }
 {
     match number {
         0 => Phase::Pei,
@@ -62,6 +64,7 @@ fn evaluated(
         × ((t : Expression) → IsTree phase ops t → found ≡ Some (truth (map passed_guid installed.now) t))
         × (IsOrder phase ops → found ≡ None)) }
     ensures err { IfErr result (λ f. f ≢ depex_out_of_memory → NoExpression phase bytes.now f) }
+    ensures memory { IfErr result (λ f. f ≡ depex_out_of_memory → BeginsFirstOp phase bytes.now) }
 {
     let depex = read_depex(alloc, bytes, phase)?;
     let guids = guids_of(alloc, installed)?;
@@ -87,18 +90,20 @@ pub extern "C" fn fv_depex(
     fault: &mut FvFault,
 ) -> u32
     // The bytes spell these ops and this rest. The value is that of the tree whose ops they are.
-    ensures ok { result ≡ 0 → (ops : List Op) × (rest : List ℕ) × Spells (phase_of phase) ops rest bytes.now
-        × ((t : Expression) → IsTree (phase_of phase) ops t
+    ensures ok { result ≡ 0 → (ops : List Op) × (rest : List ℕ) × Spells (phase_by_number phase) ops rest bytes.now
+        × ((t : Expression) → IsTree (phase_by_number phase) ops t
         → value.new ≡ reported_truth (Some (truth (map passed_guid installed.now) t)))
-        × (IsOrder (phase_of phase) ops → value.new ≡ 2) × (fault.new ≡ no_fault) }
+        × (IsOrder (phase_by_number phase) ops → value.new ≡ 2) × (fault.new ≡ no_fault) }
     ensures kept { result ≢ 0 → value.new ≡ value.old }
 
-    // A fault is out of memory or the first of the expression.
+    // A fault is out of memory, only if the bytes begin with an op that may be the first, or the
+    // first of the expression.
     ensures err { result ≢ 0 → (f : DepexFault)
-        × (f ≢ depex_out_of_memory → NoExpression (phase_of phase) bytes.now f)
+        × (f ≢ depex_out_of_memory → NoExpression (phase_by_number phase) bytes.now f)
+        × (f ≡ depex_out_of_memory → BeginsFirstOp (phase_by_number phase) bytes.now)
         × (result ≡ depex_fault_number f.kind) × (fault.new ≡ reported_depex_fault f) }
 {
-    match evaluated(alloc, bytes, phase_of(phase), installed) {
+    match evaluated(alloc, bytes, phase_by_number(phase), installed) {
         Ok(found) => {
             *value = reported_truth(found);
             *fault = NO_FAULT;

@@ -6,7 +6,7 @@ ghost use Rattle.fv_base.specs.Faults.{fault_number, out_of_memory};
 ghost use Rattle.fv_base.specs.declared.fault.Fault.{Fault};
 ghost use Rattle.fv_canon.specs.Refusals.{NotRead};
 ghost use Rattle.fv_c.specs.ExtractedParts.{ExtractsTo, HasNoPart, HasUnfitPart};
-ghost use Rattle.fv_c.specs.Reports.{reported_fault, no_fault};
+ghost use Rattle.fv_c.specs.Reports.{BeginsWithHeader, reported_fault, no_fault};
 
 use crate::buffer::put_rows;
 use crate::parts::part_bytes;
@@ -26,6 +26,7 @@ fn extracted(
     ensures none { IfOk result (λ o. IfNone o (HasNoPart file section input.now)) }
     ensures err { IfErr result
         (λ f. (f ≡ out_of_memory) ⊎ (NotRead input.now f ⊎ HasUnfitPart file section input.now f)) }
+    ensures memory { IfErr result (λ f. f ≡ out_of_memory → BeginsWithHeader input.now) }
 {
     let volume = whole_volume(alloc, input)?;
     part_bytes(alloc, &volume, file, section)
@@ -63,9 +64,11 @@ pub extern "C" fn fv_extract(
     // There is no such part.
     ensures absent { result ≡ 28 → HasNoPart file section input.now × (len.new ≡ len.old) × (fault.new ≡ no_fault) }
 
-    // Any other fault is out of memory, the first of the input, or that of a volume in the part.
+    // Any other fault is out of memory, only if the input begins with the header of a volume, the
+    // first of the input, or that of a volume in the part.
     ensures err { result ≢ 0 → result ≢ 27 → result ≢ 28 → (f : Fault)
         × ((f ≡ out_of_memory) ⊎ (NotRead input.now f ⊎ HasUnfitPart file section input.now f))
+        × (f ≡ out_of_memory → BeginsWithHeader input.now)
         × (result ≡ fault_number f.kind) × (fault.new ≡ reported_fault f) × (len.new ≡ len.old) }
 {
     let found = match extracted(alloc, input, file, section) {

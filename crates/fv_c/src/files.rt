@@ -7,7 +7,7 @@ ghost use Rattle.fv_canon.specs.Refusals.{NotRead};
 ghost use Rattle.fv_tree.specs.Denotes.{Accepted};
 ghost use Rattle.fv_tree.specs.LocatedFiles.{file_form};
 ghost use Rattle.fv_c.specs.ReportedFiles.{HasFileRows, reported_file, reported_files};
-ghost use Rattle.fv_c.specs.Reports.{reported_fault, no_fault};
+ghost use Rattle.fv_c.specs.Reports.{BeginsWithHeader, reported_fault, no_fault};
 ghost use Rattle.fv_c.specs.declared.files.FvFile.{FvFile};
 
 use crate::buffer::put_rows;
@@ -87,6 +87,7 @@ fn file_rows(alloc: Global, input: &[u8], volume: &VolumeView<'_>) -> Result<Vec
 fn rows_in(alloc: Global, input: &[u8]) -> Result<Vec<FvFile>, Fault>
     ensures ok { IfOk result (λ v. HasFileRows input.now v.items) }
     ensures err { IfErr result (λ f. (f ≡ out_of_memory) ⊎ NotRead input.now f) }
+    ensures memory { IfErr result (λ f. f ≡ out_of_memory → BeginsWithHeader input.now) }
 {
     let volume = whole_volume(alloc, input)?;
     file_rows(alloc, input, &volume)
@@ -116,8 +117,10 @@ pub extern "C" fn fv_files(
     ensures small { result ≡ 27 → (rows : List FvFile) × HasFileRows input.now rows × (count.new ≡ length rows)
         × (length buffer.old < length rows) × (fault.new ≡ no_fault) }
 
-    // Any other fault is out of memory or the first of the input.
+    // Any other fault is out of memory, only if the input begins with the header of a volume, or
+    // the first of the input.
     ensures err { result ≢ 0 → result ≢ 27 → (f : Fault) × ((f ≡ out_of_memory) ⊎ NotRead input.now f)
+        × (f ≡ out_of_memory → BeginsWithHeader input.now)
         × (result ≡ fault_number f.kind) × (fault.new ≡ reported_fault f) × (count.new ≡ count.old) }
 {
     match rows_in(alloc, input) {

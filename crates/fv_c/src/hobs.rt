@@ -1,7 +1,7 @@
 //! The blocks of a hand-off list.
 
 ghost use Rattle.std.specs.Prelude.{◌≡◌, ◌≢◌, ◌<◌, ◌≤◌, ◌++◌, List, length, take, drop, map, IfOk, IfErr};
-ghost use Rattle.fv_hob.specs.HobChecks.{hob_fault_number, hob_out_of_memory};
+ghost use Rattle.fv_hob.specs.HobChecks.{BeginsTable, hob_fault_number, hob_out_of_memory};
 ghost use Rattle.fv_hob.specs.Hobs.{HobForm};
 ghost use Rattle.fv_hob.specs.Lists.{IsHobList};
 ghost use Rattle.fv_hob.specs.declared.fault.HobFault.{HobFault};
@@ -51,7 +51,11 @@ fn reported_hob(hob: &Hob) -> FvHob
 fn reported_hobs(alloc: Global, list: &[Hob]) -> Result<Vec<FvHob>, AllocError>
     ensures { IfOk result (λ v. v.items ≡ map reported_hob list.now) }
 {
-    list.iter().map(reported_hob).collect(alloc)
+    let mut rows = Vec::with_capacity(alloc, list.len())?;
+    for hob in list {
+        rows.push(reported_hob(hob))?;
+    }
+    Ok(rows)
 }
 
 // The blocks of the hand-off list with which the bytes begin, for C, and the number of its bytes.
@@ -59,6 +63,7 @@ fn hob_rows(alloc: Global, bytes: &[u8]) -> Result<(Vec<FvHob>, u64), HobFault>
     ensures ok { IfOk result (λ r. (all : List HobForm) × (r.1 ≤ length bytes.now)
         × IsHobList all (take r.1 bytes.now) × (r.0.items ≡ map reported_hob all)) }
     ensures err { IfErr result (λ f. f ≢ hob_out_of_memory → NoHobs bytes.now f) }
+    ensures memory { IfErr result (λ f. f ≡ hob_out_of_memory → BeginsTable bytes.now) }
 {
     let (list, len) = read_hobs(alloc, bytes)?;
     let rows = reported_hobs(alloc, list.as_slice())?;
@@ -92,8 +97,10 @@ pub extern "C" fn fv_hobs(
         × IsHobList all (take consumed.new bytes.now) × (count.new ≡ length all)
         × (length buffer.old < length all) × (fault.new ≡ no_fault) }
 
-    // Any other fault is out of memory or the first of the list.
+    // Any other fault is out of memory, only if the bytes begin with a hand-off information table,
+    // or the first of the list.
     ensures err { result ≢ 0 → result ≢ 27 → (f : HobFault) × (f ≢ hob_out_of_memory → NoHobs bytes.now f)
+        × (f ≡ hob_out_of_memory → BeginsTable bytes.now)
         × (result ≡ hob_fault_number f.kind) × (fault.new ≡ reported_hob_fault f) × (count.new ≡ count.old)
         × (consumed.new ≡ consumed.old) }
 {

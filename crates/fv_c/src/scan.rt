@@ -1,7 +1,7 @@
 //! The offsets at which the volumes in some bytes begin.
 
 ghost use Rattle.std.specs.Prelude.{◌≡◌, ◌≢◌, ◌<◌, ◌++◌, ℕ, List, length, drop};
-ghost use Rattle.fv_tree.specs.FoundVolumes.{Found};
+ghost use Rattle.fv_tree.specs.FoundVolumes.{Found, IsPlace};
 
 use crate::buffer::put_rows;
 use crate::reports::OUT_OF_MEMORY;
@@ -24,8 +24,9 @@ pub extern "C" fn fv_scan(alloc: Global, bytes: &[u8], buffer: &mut [u64], count
     ensures small { result ≡ 27 → (p : List ℕ) × Found bytes.now p × (count.new ≡ length p)
         × (length buffer.old < length p) }
 
-    // Any other result is out of memory.
-    ensures memory { result ≢ 0 → result ≢ 27 → (result ≡ 24) × (count.new ≡ count.old) }
+    // Any other result is out of memory, only if a volume begins in the bytes.
+    ensures memory { result ≢ 0 → result ≢ 27 → (result ≡ 24) × (count.new ≡ count.old)
+        × ((place : ℕ) × IsPlace bytes.now place) }
 {
     let Ok(offsets) = scan(alloc, bytes) else {
         return OUT_OF_MEMORY;

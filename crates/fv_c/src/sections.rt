@@ -8,7 +8,7 @@ ghost use Rattle.fv_canon.specs.Refusals.{NotRead};
 ghost use Rattle.fv_tree.specs.Denotes.{Accepted};
 ghost use Rattle.fv_tree.specs.Meaning.{Meaning, FileMeaning, content_of, files_of};
 ghost use Rattle.fv_c.specs.ReportedSections.{reported_section, section_rows};
-ghost use Rattle.fv_c.specs.Reports.{reported_fault, no_fault};
+ghost use Rattle.fv_c.specs.Reports.{BeginsWithHeader, reported_fault, no_fault};
 ghost use Rattle.fv_c.specs.inner.PlacedSections.{reported_row};
 
 use crate::buffer::put_rows;
@@ -63,7 +63,11 @@ fn reported_rows(
 ) -> Result<Vec<FvSection>, AllocError>
     ensures { IfOk result (λ v. v.items ≡ map reported_row list.now) }
 {
-    list.iter().map(reported_section).collect(alloc)
+    let mut rows = Vec::with_capacity(alloc, list.len())?;
+    for row in list {
+        rows.push(reported_section(row))?;
+    }
+    Ok(rows)
 }
 
 // The sections of a file, for C.
@@ -83,6 +87,7 @@ fn section_rows(alloc: Global, input: &[u8], number: u64) -> Result<Option<Vec<F
     ensures none { IfOk result (λ o. IfNone o ((m : Meaning) × Accepted input.now m
         × (slice_get (files_of m) number ≡ None))) }
     ensures err { IfErr result (λ f. (f ≡ out_of_memory) ⊎ NotRead input.now f) }
+    ensures memory { IfErr result (λ f. f ≡ out_of_memory → BeginsWithHeader input.now) }
 {
     let volume = whole_volume(alloc, input)?;
     let Some(file) = volume.files().get(number as usize) else {
@@ -125,9 +130,11 @@ pub extern "C" fn fv_sections(
     ensures absent { result ≡ 28 → (m : Meaning) × Accepted input.now m × (slice_get (files_of m) number ≡ None)
         × (count.new ≡ count.old) × (fault.new ≡ no_fault) }
 
-    // Any other fault is out of memory or the first of the input.
+    // Any other fault is out of memory, only if the input begins with the header of a volume, or
+    // the first of the input.
     ensures err { result ≢ 0 → result ≢ 27 → result ≢ 28 → (f : Fault)
         × ((f ≡ out_of_memory) ⊎ NotRead input.now f)
+        × (f ≡ out_of_memory → BeginsWithHeader input.now)
         × (result ≡ fault_number f.kind) × (fault.new ≡ reported_fault f) × (count.new ≡ count.old) }
 {
     let found = match section_rows(alloc, input, number) {

@@ -7,7 +7,8 @@ use Rattle.fv_base.specs.declared.flash.Polarity.{Polarity}
 use Rattle.fv_file.specs.Cells.{CellForm, Tiles}
 use Rattle.fv_file.proofs.Laws.{only_one}
 use Rattle.fv_head.specs.Attributes.{polarity_of}
-use Rattle.fv_head.specs.Head.{BeginsVolume, extent_of}
+use Rattle.fv_head.specs.Head.{BeginsVolume}
+use Rattle.fv_head.specs.HeadReads.{extent_of}
 use Rattle.fv_head.specs.ExtImage.{first_edge}
 use Rattle.fv_head.specs.declared.extent.Extent.{Extent}
 use Rattle.fv_head.proofs.Laws.{one_front}

@@ -5,9 +5,8 @@ use Rattle.std.specs.Prelude.{Option, None, Some, Result, IfNone, IfSome, IfOk, 
 use Rattle.std.specs.Io.KnownBytes.{Appends}
 use Rattle.std.proofs.KnownBytes.{Keeps-refl}
 use Rattle.std.proofs.lemmas.Result.{IfOk-weaker, IfErr-weaker}
-use Rattle.fv_base.specs.Input.{ReadsWhole, ReadStops, ReadStopsFor}
+use Rattle.fv_base.specs.Input.{ReadsWhole, ReadStops}
 use Rattle.fv_base.specs.declared.fault.Fault.{Fault}
-use Rattle.fv_base.specs.declared.fault.FaultKind.{FaultKind}
 use Rattle.fv_base.specs.declared.fault.FaultKind.TheVariants as kinds
 use Rattle.fv_tree.specs.Denotes.{Accepted}
 use Rattle.fv_tree.specs.Difference.{Differs, difference}

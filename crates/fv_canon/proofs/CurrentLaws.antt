@@ -10,7 +10,7 @@ use Rattle.fv_base.specs.Guids.{bytes_of}
 use Rattle.fv_base.specs.Value.{up_to_8}
 use Rattle.fv_base.specs.declared.flash.Polarity.{Polarity}
 use Rattle.fv_canon.specs.Starts.{StartsFollow}
-use Rattle.fv_tree.specs.Files.{FileForm, is_marked, same_name, is_twin, NoTwins, replaces, current_in, top_name, TopAtEnd}
+use Rattle.fv_tree.specs.Files.{FileForm, is_marked, same_name, is_twin, NoTwins, replaced_by, current_in, top_name, TopAtEnd}
 use Rattle.fv_canon.specs.StoredFiles.{StoredFile, stored_len}
 use Rattle.fv_canon.specs.inner.StoredWalks.{stored_item}
 use Rattle.fv_canon.proofs.StoredTilingLaws.{forms_of}
@@ -70,7 +70,7 @@ none_named n (y ∷ ys) h = go (none_named n ys (λ g m t. h g (inr m) t)) (byte
 
 -- a file is kept where none of the files replaces it
 abbrev kept : List FileForm → FileForm → Bool
-kept all f = not (list_any (replaces f) all)
+kept all f = not (list_any (replaced_by f) all)
 
 not_true : (b : Bool) → not b ≡ true → b ≡ false
 not_true true e = sym e
@@ -118,7 +118,7 @@ no_and : (a : Bool) → (a && false) ≡ false
 no_and true = refl
 no_and false = refl
 
-replaces_none : (f : FileForm) → is_marked f.head.state ≡ false → (all : List FileForm) → list_any (replaces f) all ≡ false
+replaces_none : (f : FileForm) → is_marked f.head.state ≡ false → (all : List FileForm) → list_any (replaced_by f) all ≡ false
 replaces_none f e [] = refl
 replaces_none f e (g ∷ gs) = rw e (rw (no_and (same_name f g)) (replaces_none f e gs))
 

@@ -2,7 +2,8 @@
 use Rattle.std.proofs.Common.{◌≡◌, ◌<◌, ◌≤◌, ◌+◌, ℕ, suc, false, List, length, get_or, refl, arith}
 use Rattle.fv_tree.specs.Denotes.{MeansFile, Stream, group_kind}
 use Rattle.fv_tree.specs.Files.{FileForm}
-use Rattle.fv_tree.specs.Meaning.{FileMeaning, File, Plain, Sectioned, content_of, files_from}
+use Rattle.fv_tree.specs.Meaning.{FileMeaning, File, Plain, Sectioned, content_of}
+use Rattle.fv_tree.specs.MeaningParts.{files_from}
 use Rattle.fv_tree.specs.inner.Sizes.{body_size, file_size, files_size}
 use Rattle.fv_tree.proofs.Laws.{file_falls}
 use Rattle.fv_canon.specs.Volumes.{volumes_in_body, volumes_in_content, volumes_in_file}

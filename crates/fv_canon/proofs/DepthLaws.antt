@@ -5,7 +5,8 @@ use Rattle.fv_section.specs.Frames.{FrameForm}
 use Rattle.fv_tree.specs.Denotes.{MeansFile, MeansSection, Pairwise, Stream}
 use Rattle.fv_tree.specs.Files.{FileForm}
 use Rattle.fv_tree.specs.Meaning.{Meaning, Volume, FileMeanings, files_list, FileMeaning, File, content_of, Sectioned}
-use Rattle.fv_tree.specs.Meaning.{SectionMeanings, SectionMeaning, Section, body_of, Group, Nested, sections_list}
+use Rattle.fv_tree.specs.Meaning.{SectionMeanings, SectionMeaning, Section, Group, Nested, sections_list}
+use Rattle.fv_tree.specs.MeaningParts.{body_of}
 use Rattle.fv_head.specs.Head.{HeadFields}
 use Rattle.fv_canon.specs.inner.Depths.{NestsVolume, NestsFiles, NestsContent, NestsSections, NestsBody}
 

@@ -1,6 +1,6 @@
 -- Images of small volumes, byte by byte.
 use Rattle.std.proofs.lemmas.Grind.{common_steps}
-use Rattle.std.proofs.Common.{◌≡◌, ℕ, false, List, [], ◌∷◌, ◌++◌, replicate, refl, ap, ◌∙◌, arith}
+use Rattle.std.proofs.Common.{◌≡◌, ℕ, false, List, [], ◌∷◌, ◌++◌, replicate, refl, arith}
 use Rattle.std.specs.Prelude.{None, Some}
 use Rattle.fv_base.specs.declared.flash.FileSystem.TheVariants.{Ffs2}
 use Rattle.fv_base.specs.declared.flash.Polarity.{Polarity}

@@ -9,12 +9,12 @@ use Rattle.std.specs.Bool.{beq}
 use Rattle.std.specs.Str.{bytes_eq}
 use Rattle.fv_base.specs.Guids.{bytes_of}
 use Rattle.fv_head.specs.Head.{HeadFields}
-use Rattle.fv_tree.specs.FileSystems.{is_ffs3}
 use Rattle.fv_tree.specs.Denotes.{IsMeaning}
-use Rattle.fv_tree.specs.Difference.{Differs, unless_one, or_else, under, blocks_eq, ext_eq, head_differs, difference, files_differ}
+use Rattle.fv_tree.specs.Difference.{Differs, unless_one, or_else, under, head_differs, difference, files_differ}
 use Rattle.fv_tree.specs.Difference.{file_differs, content_differs, sections_differ, section_differs, body_differs}
 use Rattle.fv_tree.specs.Meaning.{Meaning, Volume, FileMeanings, NoFiles, MoreFiles, FileMeaning, File, content_of, ContentMeaning}
-use Rattle.fv_tree.specs.Meaning.{Plain, Sectioned, SectionMeanings, NoSections, MoreSections, SectionMeaning, Section, body_of}
+use Rattle.fv_tree.specs.Meaning.{Plain, Sectioned, SectionMeanings, NoSections, MoreSections, SectionMeaning, Section}
+use Rattle.fv_tree.specs.MeaningParts.{body_of}
 use Rattle.fv_tree.specs.Meaning.{BodyMeaning, Leaf, Group, Nested}
 use Rattle.fv_tree.specs.declared.difference.Step.{Step}
 use Rattle.fv_tree.specs.declared.difference.Step.TheVariants as steps

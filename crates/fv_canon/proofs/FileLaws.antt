@@ -1,23 +1,23 @@
 -- What is known of a file that was read and laid out, and how the files of a volume go on.
 use Rattle.std.proofs.lemmas.Grind.{common_steps}
 use Rattle.std.proofs.Common.{◌≡◌, ◌≤◌, ◌<◌, ◌⊎◌, inl, inr, ◌+◌, ◌-◌, ◌%◌, ℕ, List, ◌∷◌, ◌++◌, length, drop, replicate}
-use Rattle.std.proofs.Common.{get_or, refl, sym, ap, ◌∙◌, subst, arith, append_assoc, length-drop}
-use Rattle.std.specs.Prelude.{map}
+use Rattle.std.proofs.Common.{get_or, refl, ap, ◌∙◌, subst, arith, append_assoc, length-drop}
 use Rattle.std.proofs.lemmas.List.{drop_all, drop_more, length-map}
 use Rattle.fv_base.specs.Flash.{erased_byte}
-use Rattle.fv_base.specs.Limits.{data_limit}
+use Rattle.fv_base.specs.Measures.{data_limit}
 use Rattle.fv_base.specs.Value.{up_to_8}
 use Rattle.fv_base.specs.declared.flash.Polarity.{Polarity}
-use Rattle.fv_file.specs.NewHeaders.{file_head_of, needs_large}
+use Rattle.fv_file.specs.NewHeaders.{file_sum_for, file_head_of, needs_large}
 use Rattle.fv_file.proofs.Laws.{cell_read, header_least}
 use Rattle.fv_canon.specs.Starts.{StandsInVolume}
-use Rattle.fv_tree.specs.Meaning.{FileMeaning, File, files_from, file_name_of, file_kind_of, attributes_of, content_of}
-use Rattle.fv_tree.specs.Meaning.{data_len_of}
-use Rattle.fv_tree.specs.Denotes.{IsReadFile, MeansSection, Stream}
+use Rattle.fv_tree.specs.Meaning.{FileMeaning, File, file_name_of, attributes_of, content_of, data_len_of}
+use Rattle.fv_tree.specs.MeaningParts.{files_from, file_kind_of}
+use Rattle.fv_tree.specs.ReadParts.{IsReadFile}
+use Rattle.fv_tree.specs.Denotes.{MeansSection, Stream}
 use Rattle.fv_canon.specs.inner.ImageOf.{stored_of, stored_file, data_of, starts_in}
 use Rattle.fv_canon.specs.Layouts.{layout_item}
 use Rattle.fv_canon.specs.Volumes.{volumes_in_files, volumes_in_file}
-use Rattle.fv_canon.specs.StoredFiles.{stored_len, size_for, head_len_for, file_sum_for, stored_bytes, gap_bytes}
+use Rattle.fv_canon.specs.StoredFiles.{stored_len, size_for, head_len_for, stored_bytes, gap_bytes}
 use Rattle.fv_canon.specs.inner.StoredWalks.{files_bytes}
 use Rattle.fv_canon.proofs.ItemLaws.{item_at}
 use Rattle.fv_canon.proofs.VolumeListLaws.{item_last, item_passed}

@@ -3,10 +3,12 @@ use Rattle.std.proofs.Common.{◌≡◌, inl, inr, ◌+◌, ◌-◌, ◌%◌, �
 use Rattle.fv_base.specs.Value.{up_to_8}
 use Rattle.fv_base.specs.declared.fault.Fault.{Fault}
 use Rattle.fv_tree.specs.Meaning.{Meaning}
-use Rattle.fv_canon.specs.Starts.{StartsFollow, TopOff, IsOff}
+use Rattle.fv_canon.specs.Starts.{StartsFollow}
+use Rattle.fv_canon.specs.LayoutFaults.{TopOff, IsOff}
 use Rattle.fv_canon.specs.declared.first_placement.LayoutItem.{LayoutItem}
-use Rattle.fv_canon.specs.Layouts.{layout_items, AreStarts, AreLeast, Laid, LaysVolume, LeastVolume, IsPlaced, AllFit, Fits, UnfitHere}
-use Rattle.fv_canon.specs.Layouts.{FirstUnfit, Unfit}
+use Rattle.fv_canon.specs.Layouts.{layout_items, AreStarts, IsPlaced, Fits}
+use Rattle.fv_canon.specs.LeastStarts.{AreLeast, Laid, LaysVolume, LeastVolume}
+use Rattle.fv_canon.specs.LayoutFaults.{AllFit, UnfitHere, FirstUnfit, Unfit}
 use Rattle.fv_canon.specs.Volumes.{Inside, volumes_in}
 use Rattle.fv_canon.proofs.PlacementLaws.{agree}
 use Rattle.fv_canon.proofs.VolumeListLaws.{laid_fit, fit_laid}

@@ -9,7 +9,8 @@ use Rattle.fv_tree.specs.Denotes.{Sections, Streams, Volumes, Pairwise, StreamOv
 use Rattle.fv_base.specs.Limits.{depth_limit}
 use Rattle.fv_tree.specs.Denotes.{MeansSection, Stream, Denotes, Accepted}
 use Rattle.fv_canon.specs.Image.{IsImage}
-use Rattle.fv_canon.specs.Headline.{MeanSame, SameMeaningIffSameImage, ImageKeepsLengthAndMeaning, ImageIsItsOwnImage, OneMeaning}
+use Rattle.fv_canon.specs.Headline.{MeanSame, SameMeaningIffSameImage, ImageKeepsLengthAndMeaning, ImageIsItsOwnImage}
+use Rattle.fv_canon.specs.ImageLaws.{OneMeaning}
 use Rattle.fv_tree.proofs.Laws.{one_meaning}
 use Rattle.fv_canon.proofs.OneImageLaws.{image_one}
 use Rattle.fv_canon.proofs.VolumeLaws.{image_bytes, image_denotes, image_long, volume_of}
@@ -104,3 +105,13 @@ image_is_its_own_image a image (m, d, is) = (m, image_read m a image d is, is)
 pub one_meaning_of : OneMeaning
 one_meaning_of m other image (n, l, b, small, d) (k, l', c, little, d') is is' =
     one_meaning k n image other m (image_denotes k other c image little d' is') (image_denotes n m b image small d is)
+
+-- bytes are a volume of at most one meaning, so two volumes mean the same exactly if their meanings are equal
+pub one_reading : (b : List ℕ) (m k : Meaning) → Accepted b m → Accepted b k → m ≡ k
+one_reading b m k (small, d) (little, e) = one_meaning 8 8 b m k d e
+
+pub same_reading : (a b : List ℕ) (m k : Meaning) → Accepted a m → Accepted b k → (MeanSame a b → m ≡ k) × (m ≡ k → MeanSame a b)
+same_reading a b m k d e = (
+  λ (same : MeanSame a b). sym (one_reading a same.0 m same.1 d) ∙ one_reading b same.0 k same.2 e,
+  λ (one : m ≡ k). (m, d, subst (λ (j : Meaning). Accepted b j) (sym one) e),
+)

@@ -1,7 +1,7 @@
 -- The laws of inputs that are rejected.
 use Rattle.std.proofs.lemmas.Grind.{common_steps}
 use Rattle.std.proofs.Common.{◌≡◌, ◌≢◌, ◌≤◌, ◌<◌, ℕ, List, length, take, refl, sym, ap, ◌∙◌, subst, arith, inl, inr, ◌⊎◌, true, false}
-use Rattle.std.specs.Prelude.{◌==◌, Result, Ok, Err, IfErr, IsErrAnd}
+use Rattle.std.specs.Prelude.{◌==◌, Result, Ok, Err, IfErr, IfOk, IsErrAnd}
 use Rattle.std.proofs.lemmas.List.{take_all}
 use Rattle.std.proofs.lemmas.Bool.{eqb-true, eq-eqb}
 use Rattle.fv_base.specs.Faults.{outer_fault, out_of_memory}
@@ -9,13 +9,17 @@ use Rattle.fv_base.specs.declared.fault.Fault.{Fault}
 use Rattle.fv_base.specs.declared.fault.FaultKind.{FaultKind}
 use Rattle.fv_base.specs.declared.fault.FaultKind.TheVariants as kinds
 use Rattle.fv_base.specs.Limits.{depth_limit}
+use Rattle.fv_head.specs.Head.{HeadFields, BeginsVolume}
+use Rattle.fv_head.specs.declared.extent.Extent.{Extent}
 use Rattle.fv_tree.specs.Denotes.{Accepted, Denotes}
 use Rattle.fv_tree.specs.FirstFault.{FaultStands, IsFirstOfVolume}
 use Rattle.fv_tree.specs.Meaning.{Meaning, length_of}
 use Rattle.fv_tree.proofs.Laws.{fault_stands, stands_other, want_known}
-use Rattle.fv_canon.specs.Headline.{IsNoVolume, IsOfLayout, IsUnfit, NormalisesTo, OnlyWhatDoesNotFitIsRefused}
-use Rattle.fv_canon.specs.Layouts.{Fits, Unfit}
-use Rattle.fv_canon.specs.Refusals.{GoesOn, IsFirstOfInput, NotRead, Refuses}
+use Rattle.fv_canon.specs.Headline.{NormalisesTo}
+use Rattle.fv_canon.specs.Layouts.{Fits}
+use Rattle.fv_canon.specs.LayoutFaults.{Unfit}
+use Rattle.fv_canon.specs.Refusals.{GoesOn, IsFirstOfInput, IsNoVolume, IsOfLayout, IsUnfit, MemoryRanOut, NotPlaced, NotRead, Refuses}
+use Rattle.fv_canon.specs.Refusals.{OnlyWhatDoesNotFitIsRefused}
 use Rattle.fv_canon.proofs.FitLaws.{unfit_none}
 use Rattle.fv_canon.proofs.ImageFits.{image_fits as has_image_fits}
 use Rattle.fv_canon.proofs.UnfitKinds.{not_layout, unfit_is}
@@ -106,6 +110,12 @@ pub not_read : (b : List ℕ) (f : Fault) → (f ≡ out_of_memory) ⊎ NotRead 
 not_read b f (inl want) = inl want
 not_read b f (inr bad) = inr (inl bad)
 
+-- memory runs out only where the input begins with the header of a volume
+pub ran_out : {P : Type 0} (b : List ℕ) (f : Fault) → (f ≡ out_of_memory) ⊎ P
+    → (f ≡ out_of_memory → (h : HeadFields) × (e : Extent) × BeginsVolume h e b) → MemoryRanOut b f ⊎ P
+ran_out b f (inl want) front = let (h, e, begins) = front want in inl (want, h, e, begins)
+ran_out b f (inr why) front = inr why
+
 -- ---- the kinds of faults
 
 -- a kind that is none of a run's own
@@ -154,3 +164,20 @@ pub unread_refused : (b : List ℕ) (f : Fault) → (f ≡ out_of_memory) ⊎ Re
     → IsNoVolume b
 unread_refused b f (inl want) memory other = absurd (memory want)
 unread_refused b f (inr why) memory other = (only_what_does_not_fit_is_refused b f why).1 other
+
+-- a volume that does not fit is rejected as one of a layout, unless memory runs out
+pub unfit_kind_of : (b : List ℕ) (f : Fault) → (f ≡ out_of_memory) ⊎ Refuses b f → IsUnfit b → (f ≡ out_of_memory) ⊎ IsOfLayout f.kind
+unfit_kind_of b f (inl want) u = inl want
+unfit_kind_of b f (inr (inl bad)) (m, d, unfit) = absurd (bad.none m d)
+unfit_kind_of b f (inr (inr (m, d, unfit))) u = inr (unfit_is m 0 f unfit)
+
+-- a `?` that passes an error on returns no value
+pub no_value : {T E : Type 0} (Q : E → Type 0) (r : Result T E) → IsErrAnd r Q → IfOk r (λ _. ⊥)
+no_value Q (Ok x) h = absurd h
+no_value Q (Err g) h = tt
+
+-- what is rejected as one of a layout does not fit, and this is the fault of the first volume in it that does not
+pub refused_unplaced : (b : List ℕ) (f : Fault) → (f ≡ out_of_memory) ⊎ Refuses b f → IsOfLayout f.kind → NotPlaced b f
+refused_unplaced b f (inl want) layout = absurd (not_layout f.kind layout (ap (λ (g : Fault). g.kind) want))
+refused_unplaced b f (inr (inl bad)) layout = absurd (first_kind b f bad.first layout)
+refused_unplaced b f (inr (inr why)) layout = why

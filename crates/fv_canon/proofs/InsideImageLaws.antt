@@ -7,7 +7,7 @@ use Rattle.std.proofs.lemmas.List.{take-append-drop}
 use Rattle.fv_base.specs.Value.{up_to_8}
 use Rattle.fv_base.specs.declared.flash.Polarity.{Polarity}
 use Rattle.fv_file.specs.Attributes.{attributes_by}
-use Rattle.fv_file.specs.NewHeaders.{file_head_of}
+use Rattle.fv_file.specs.NewHeaders.{file_sum_for, file_head_of}
 use Rattle.fv_head.specs.Attributes.{polarity_of}
 use Rattle.fv_head.specs.ExtImage.{first_edge}
 use Rattle.fv_section.specs.Frames.{FrameForm, frame_len, up_to_4}
@@ -21,7 +21,7 @@ use Rattle.fv_canon.specs.Image.{IsImage, AreStored, IsStored, IsData, AreFrames
 use Rattle.fv_canon.specs.Layouts.{layout_item}
 use Rattle.fv_canon.specs.PlacedBytes.{PlacedBytes, StandsIn}
 use Rattle.fv_canon.specs.Starts.{StartsFollow}
-use Rattle.fv_canon.specs.StoredFiles.{StoredFile, stored_bytes, stored_len, file_sum_for, placed_files}
+use Rattle.fv_canon.specs.StoredFiles.{StoredFile, stored_bytes, stored_len, placed_files}
 use Rattle.fv_canon.specs.Volumes.{Inside, volumes_in, volumes_in_files, volumes_in_file, volumes_in_content, volumes_in_sections}
 use Rattle.fv_canon.specs.Volumes.{volumes_in_section, volumes_in_body}
 use Rattle.fv_canon.proofs.InsideMeaningLaws.{inside_meant}

@@ -17,7 +17,7 @@ pub use Rattle.fv_canon.proofs.PartFits.{files_fit, file_fits, section_fits}
 -- an input is the volume that it begins with where it ends there, and is none where it begins with none or goes on
 pub use Rattle.fv_canon.proofs.InputLaws.{input_prefix, end_found, end_only, volume_refused, end_refused}
 -- an input that is no volume, or one that does not fit, is rejected; one that has an image is neither
-pub use Rattle.fv_canon.proofs.InputLaws.{not_read, not_placed, not_read_never}
+pub use Rattle.fv_canon.proofs.InputLaws.{not_read, not_placed, not_read_never, ran_out}
 -- the data of a file that was read are shorter than a volume may be
 pub use Rattle.fv_canon.proofs.PartBytesLaws.{data_short}
 -- the faults of a layout are none of a reader or a writer

@@ -2,8 +2,10 @@
 use Rattle.std.proofs.Common.{◌≡◌, ◌≤◌, ℕ, List, [], ◌∷◌, ◌++◌, length, take, drop, sym, ap, ◌∙◌, subst, arith}
 use Rattle.std.proofs.lemmas.List.{take-append-drop, length-take-le, take_at}
 use Rattle.fv_tree.proofs.Laws.{files_list_back}
-use Rattle.fv_tree.specs.Meaning.{Meaning, Volume, FileMeaning, files_from, files_list, files_of, head_of}
-use Rattle.fv_canon.specs.Layouts.{AreStarts, Laid, LaysVolume, layout_items}
+use Rattle.fv_tree.specs.Meaning.{Meaning, Volume, FileMeaning, files_list, files_of, head_of}
+use Rattle.fv_tree.specs.MeaningParts.{files_from}
+use Rattle.fv_canon.specs.Layouts.{AreStarts, layout_items}
+use Rattle.fv_canon.specs.LeastStarts.{Laid, LaysVolume}
 use Rattle.fv_canon.specs.inner.LayoutWalks.{Grew}
 use Rattle.fv_canon.specs.LayoutForms.{Places, IsLayout}
 use Rattle.fv_canon.specs.Volumes.{Inside, volumes_in}

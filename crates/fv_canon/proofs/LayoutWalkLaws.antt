@@ -1,24 +1,30 @@
 -- The walk over a volume that adds the starts of the files in it: what it added, how deep it goes, and the fault that it passes on.
 use Rattle.std.proofs.lemmas.Grind.{common_steps}
-use Rattle.std.proofs.Common.{◌≡◌, ◌<◌, ◌⊎◌, inl, inr, ◌+◌, ℕ, suc, List, length, take, get_or, ◌++◌, append_assoc, refl, sym, ap, ◌∙◌, subst, arith}
-use Rattle.std.proofs.Common.{Result, Ok, Err, IfErr, IsErrAnd}
+use Rattle.std.proofs.Common.{◌≡◌, ◌≢◌, ◌≤◌, ap, ◌<◌, ◌⊎◌, inl, inr, ◌+◌, ℕ, suc, List, length, take, get_or, ◌++◌, append_assoc, refl, sym, ◌∙◌, subst, arith}
+use Rattle.std.proofs.Common.{Result, Ok, Err, IfErr, IsErrAnd, [], ◌∷◌, true, false, true≢false}
+use Rattle.std.specs.List.{Any}
 use Rattle.fv_base.specs.Faults.{out_of_memory}
 use Rattle.fv_base.specs.declared.fault.Fault.{Fault}
 use Rattle.fv_head.specs.Head.{HeadFields}
 use Rattle.fv_section.specs.Frames.{FrameForm}
-use Rattle.fv_tree.specs.Denotes.{IsMeaning, IsReadFile, IsReadSection, MeansFile, MeansSection, Stream}
+use Rattle.fv_tree.specs.Denotes.{IsMeaning, MeansFile, MeansSection, Stream}
+use Rattle.fv_tree.specs.ReadParts.{IsReadFile, IsReadSection}
 use Rattle.fv_tree.specs.Files.{FileForm}
-use Rattle.fv_tree.specs.Meaning.{Meaning, Volume, head_of, FileMeanings, files_from, FileMeaning}
-use Rattle.fv_tree.specs.Meaning.{SectionMeanings, SectionMeaning, sections_from, body_of, Group, Nested}
+use Rattle.fv_tree.specs.Meaning.{Meaning, Volume, head_of, FileMeanings, NoFiles, MoreFiles, files_of, FileMeaning}
+use Rattle.fv_tree.specs.MeaningParts.{files_from, sections_from, body_of}
+use Rattle.fv_tree.specs.Meaning.{SectionMeanings, SectionMeaning, Group, Nested}
 use Rattle.fv_canon.specs.inner.DataBodies.{data_body}
+use Rattle.fv_canon.specs.inner.ImageOf.{starts_in}
 use Rattle.fv_canon.specs.inner.Depths.{NestsVolume, NestsFiles, NestsSections, NestsBody}
-use Rattle.fv_canon.specs.Layouts.{AreStarts, Laid, FirstUnfit, Unfit}
-use Rattle.fv_canon.specs.Volumes.{volumes_in, volumes_in_files, volumes_in_file, volumes_in_sections, volumes_in_section}
+use Rattle.fv_canon.specs.Layouts.{AreStarts}
+use Rattle.fv_canon.specs.LeastStarts.{Laid}
+use Rattle.fv_canon.specs.LayoutFaults.{FirstUnfit, Unfit}
+use Rattle.fv_canon.specs.Volumes.{Inside, volumes_in, volumes_in_files, volumes_in_file, volumes_in_sections, volumes_in_section}
 use Rattle.fv_canon.specs.Volumes.{volumes_in_body}
 use Rattle.fv_canon.proofs.DataBodyLaws.{data_nests, data_volumes}
 use Rattle.fv_canon.proofs.DepthLaws.{nests_files, nests_body, nests_group, nests_nested}
 use Rattle.fv_canon.proofs.ItemLaws.{item_has}
-use Rattle.fv_canon.proofs.VolumeListLaws.{in_section, item_grew, item_unfit, laid_deeper, unfit_deeper}
+use Rattle.fv_canon.proofs.VolumeListLaws.{count_deeper, in_section, item_count, item_grew, item_unfit, laid_deeper, unfit_deeper}
 use Rattle.fv_canon.specs.inner.LayoutWalks.{Grew, Shallow}
 
 -- ---- sections
@@ -128,9 +134,58 @@ only_memory (Ok x) f is err none = absurd is
 only_memory (Err g) f is (inl memory) none = is ∙ memory
 only_memory (Err g) f is (inr unfit) none = absurd (none unfit)
 
+-- what holds of each error
+pub always : {T E : Type 0} {P : E → Type 0} (r : Result T E) → ((e : E) → P e) → IfErr r P
+always (Ok x) each = tt
+always (Err e) each = each e
+
+-- room for no items is always had
+pub some_items : {A : Type 0} (xs : List A) → (length xs ≡ 0 → false ≡ true) → 0 < length xs
+some_items [] none = absurd (true≢false (sym (none refl)))
+some_items (x ∷ xs) none = omega arith
+
 -- what is unfit of a part is unfit of the whole
 pub unfit_passed : {T U : Type 0} (V : Fault → Type 0) (r : Result T Fault) (f : Fault) → IsErrAnd r (λ g. g ≡ f)
     → (f ≡ out_of_memory) ⊎ U → (U → V f) → IfErr r (λ g. (g ≡ out_of_memory) ⊎ V g)
 unfit_passed V (Ok x) f is err whole = absurd is
 unfit_passed V (Err g) f is (inl memory) whole = inl (is ∙ memory)
 unfit_passed V (Err g) f is (inr unfit) whole = inr (subst V (sym is) (whole unfit))
+
+-- ---- where memory can run out
+
+-- a section, a file and a volume's own files have no more starts than what they are in
+pub section_count : (ss : List SectionMeaning) (i : ℕ) (s : SectionMeaning) → i < length ss → s ≡ get_or ss i s
+    → starts_in (volumes_in_body (body_of s)) ≤ starts_in (volumes_in_sections (sections_from ss))
+section_count ss i s l is =
+    let here = item_count (λ xs. volumes_in_sections (sections_from xs)) volumes_in_section refl (λ x xs. refl) ss i s l is in
+    omega (arith, here, ap starts_in (in_section s), count_deeper (volumes_in_body (body_of s)))
+
+pub file_count : (fs : List FileMeaning) (i : ℕ) (m : FileMeaning) → i < length fs → m ≡ get_or fs i m
+    → starts_in (volumes_in_body (data_body m)) ≤ starts_in (volumes_in_files (files_from fs))
+file_count fs i m l is =
+    let here = item_count (λ xs. volumes_in_files (files_from xs)) volumes_in_file refl (λ x xs. refl) fs i m l is in
+    omega (arith, here, ap starts_in (data_volumes m))
+
+pub own_counted : (m : Meaning) → length (files_of m) ≤ starts_in (volumes_in m)
+own_counted (Volume h files) = omega arith
+
+-- a volume without files has no volumes in it, and so no starts
+pub starts_need_file : (m : Meaning) → 0 < starts_in (volumes_in m) → files_of m ≢ []
+starts_need_file (Volume h NoFiles) some none = absurd (omega (arith, some))
+starts_need_file (Volume h (MoreFiles f fs)) some none = cc
+
+-- of volumes that have starts one has a file
+pub starts_need_any : (vs : List Inside) → 0 < starts_in vs → Any (λ v. files_of v.volume ≢ []) vs
+starts_need_any [] some = absurd (omega (arith, some))
+starts_need_any (v ∷ vs) some = go (files_of v.volume) refl (λ rest. starts_need_any vs rest)
+  where
+    go : (fs : List FileMeaning) → files_of v.volume ≡ fs → (0 < starts_in vs → Any (λ w. files_of w.volume ≢ []) vs)
+        → Any (λ w. files_of w.volume ≢ []) (v ∷ vs)
+    go [] none more = let (k, w, less, at, has) = more (omega (arith, some, ap length none)) in (suc k, w, omega (arith, less), at, has)
+    go (f ∷ fs) is more = (0, v, omega arith, refl, λ none. let never : f ∷ fs ≡ [] = sym is ∙ none in cc)
+
+-- the error that ran out of memory is passed on
+pub memory_passed : {T : Type 0} (r : Result T Fault) (f : Fault) (n k : ℕ) → IsErrAnd r (λ g. g ≡ f)
+    → (f ≡ out_of_memory → 0 < n) → n ≤ k → IfErr r (λ g. g ≡ out_of_memory → 0 < k)
+memory_passed (Ok x) f n k is some less = tt
+memory_passed (Err g) f n k is some less = λ want. let here = some (sym is ∙ want) in omega (arith, here, less)

@@ -5,6 +5,7 @@ pub mod CellLaws
 pub mod CompareLaws
 pub mod DataBodyLaws
 pub mod ComparisonLineLaws
+pub mod DecideLaws
 pub mod DepthLaws
 pub mod Examples
 pub mod FaultPlaces

@@ -1,6 +1,6 @@
 -- The laws of a run that normalises an input: what it wrote, or what stopped it.
 use Rattle.std.proofs.lemmas.Grind.{common_steps}
-use Rattle.std.proofs.Common.{◌≡◌, ◌≢◌, ◌∙◌, ◌⊎◌, ℕ, List, sym, inl, inr, arith}
+use Rattle.std.proofs.Common.{◌≡◌, ◌≢◌, ◌⊎◌, ℕ, List, inl, inr, arith}
 use Rattle.std.specs.Prelude.{Option, Result, Ok, Err, IfErr, OnErr, OnOk}
 use Rattle.std.specs.Io.KnownBytes.{Appends}
 use Rattle.std.proofs.KnownBytes.{Keeps-refl}
@@ -9,12 +9,15 @@ use Rattle.fv_base.specs.Faults.{out_of_memory}
 use Rattle.fv_base.specs.Input.{ReadsWhole}
 use Rattle.fv_base.specs.declared.fault.Fault.{Fault}
 use Rattle.fv_base.specs.declared.fault.FaultKind.TheVariants as kinds
+use Rattle.fv_head.specs.Head.{HeadFields, BeginsVolume}
+use Rattle.fv_head.specs.declared.extent.Extent.{Extent}
 use Rattle.fv_tree.specs.Denotes.{Accepted}
 use Rattle.fv_tree.specs.Meaning.{Meaning}
 use Rattle.fv_canon.specs.Image.{IsImage}
 use Rattle.fv_base.specs.Output.{WriteStops}
 use Rattle.fv_canon.specs.Refusals.{Refuses}
 use Rattle.fv_canon.specs.NormaliseRuns.{InputWrites, InputStops, RunStops}
+use Rattle.fv_canon.proofs.InputLaws.{ran_out}
 
 -- the image of the meaning was written
 pub input_writes : (input : List ℕ) (m : Meaning) (held holds : Option (List ℕ)) (r : Result (Unit {0}) Fault) → Accepted input m
@@ -28,8 +31,8 @@ writer_stops input m held holds r d stops = IfErr-weaker r _ (InputStops input h
 
 -- nothing was written, since the input is rejected or memory ran out
 pub refused_stops : (input : List ℕ) (held : Option (List ℕ)) (f : Fault) → (f ≡ out_of_memory) ⊎ Refuses input f
-    → InputStops input held held f
-refused_stops input held f why = inl (Keeps-refl held, why)
+    → (f ≡ out_of_memory → (h : HeadFields) × (e : Extent) × BeginsVolume h e input) → InputStops input held held f
+refused_stops input held f why front = inl (Keeps-refl held, ran_out input f why front)
 
 -- a run stopped after its input
 pub behind_stops : (unread left held holds : Option (List ℕ)) (input : List ℕ) (r : Result (Unit {0}) Fault) → ReadsWhole unread left input

@@ -3,7 +3,8 @@ use Rattle.std.proofs.Common.{◌≡◌, ◌≤◌, ◌<◌, ◌+◌, ◌-◌, �
 use Rattle.std.proofs.Common.{drop, refl, ◌∙◌, arith, length-drop}
 use Rattle.std.specs.Prelude.{All, map, slice_index}
 use Rattle.std.specs.List.{AllByRecursion}
-use Rattle.fv_base.specs.Alignment.{alignments, alignment_of, IsAlignment}
+use Rattle.fv_base.specs.Alignment.{alignments, alignment_of}
+use Rattle.fv_base.specs.Measures.{IsAlignment}
 use Rattle.fv_base.specs.Limits.{volume_limit}
 use Rattle.fv_base.specs.declared.flash.FileSystem.{FileSystem}
 use Rattle.fv_file.specs.Files.{file_header_len}
@@ -11,7 +12,8 @@ use Rattle.fv_file.specs.NewHeaders.{needs_large}
 use Rattle.fv_head.proofs.Laws.{front_lies}
 use Rattle.fv_canon.specs.inner.Reaches.{IsLawfulItem}
 use Rattle.fv_tree.proofs.Laws.{content_long}
-use Rattle.fv_tree.specs.Denotes.{MeansFile, IsMeaning, IsReadFile, Pairwise, Stream}
+use Rattle.fv_tree.specs.Denotes.{MeansFile, IsMeaning, Pairwise, Stream}
+use Rattle.fv_tree.specs.ReadParts.{IsReadFile}
 use Rattle.fv_tree.specs.Files.{FileForm}
 use Rattle.fv_tree.specs.Meaning.{Meaning, Volume, FileMeaning, File, attributes_of, data_len_of, files_list, files_of, head_of}
 use Rattle.fv_canon.specs.Layouts.{layout_item}

@@ -1,8 +1,10 @@
 -- The parts of what fits do.
 use Rattle.std.proofs.Common.{◌≡◌, ◌<◌, ℕ, List, length, get_or, refl, subst}
 use Rattle.fv_head.specs.Head.{HeadFields}
-use Rattle.fv_tree.specs.Meaning.{Meaning, Volume, FileMeaning, SectionMeaning, body_of, content_of, files_from, sections_from}
-use Rattle.fv_canon.specs.Layouts.{AllFit, Fits}
+use Rattle.fv_tree.specs.Meaning.{Meaning, Volume, FileMeaning, SectionMeaning, content_of}
+use Rattle.fv_tree.specs.MeaningParts.{body_of, files_from, sections_from}
+use Rattle.fv_canon.specs.LayoutFaults.{AllFit}
+use Rattle.fv_canon.specs.Layouts.{Fits}
 use Rattle.fv_canon.specs.Volumes.{volumes_in_body, volumes_in_content, volumes_in_file, volumes_in_files, volumes_in_section}
 use Rattle.fv_canon.specs.Volumes.{volumes_in_sections}
 use Rattle.fv_canon.proofs.VolumeListLaws.{fit_higher, in_file, in_section, item_fits}

@@ -10,7 +10,8 @@ use Rattle.std.specs.Prelude.{IsTrue, MatchBool}
 use Rattle.std.proofs.lemmas.List.{drop_more, drop_all}
 use Rattle.fv_canon.specs.declared.first_placement.LayoutItem.{LayoutItem}
 use Rattle.fv_canon.specs.declared.reach.Reach.{Reach}
-use Rattle.fv_canon.specs.Starts.{Lawful, StartsFollow, Placement, IsLeast, IsFirstPlacement}
+use Rattle.fv_canon.specs.Starts.{Lawful, StartsFollow, Placement, IsFirstPlacement}
+use Rattle.fv_canon.specs.LeastStarts.{IsLeast}
 use Rattle.fv_canon.specs.inner.Reaches.{IsBound, IsFirstStart}
 use Rattle.fv_canon.proofs.ReachLaws.{begins, stands}
 

@@ -7,7 +7,7 @@ use Rattle.fv_base.specs.declared.flash.FileSystem.{FileSystem}
 use Rattle.fv_base.specs.declared.flash.Polarity.{Polarity}
 use Rattle.fv_file.specs.Cells.{CellForm, Valid, Pad, Dead, Stub, Free, Tiles}
 use Rattle.fv_file.proofs.Laws.{FileRead as HeadRead, IsRead, tiles_read}
-use Rattle.fv_tree.specs.Files.{FileForm, files_in, replaces, current_in}
+use Rattle.fv_tree.specs.Files.{FileForm, files_in, replaced_by, current_in}
 use Rattle.fv_base.proofs.Laws.{all_filter}
 
 abbrev pub FileIsAccepted : FileSystem → ℕ → FileForm → Type 0
@@ -19,7 +19,7 @@ files_of_cells : (system : FileSystem) (limit : ℕ) (cells : List CellForm) →
 files_of_cells system limit [] reads = tt
 files_of_cells system limit (Valid at head payload ∷ cs) reads = (reads.0, files_of_cells system limit cs reads.1)
 files_of_cells system limit (Pad at head payload ∷ cs) reads = files_of_cells system limit cs reads.1
-files_of_cells system limit (Dead at len ∷ cs) reads = files_of_cells system limit cs reads.1
+files_of_cells system limit (Dead at len state ∷ cs) reads = files_of_cells system limit cs reads.1
 files_of_cells system limit (Stub at len ∷ cs) reads = files_of_cells system limit cs reads.1
 files_of_cells system limit (Free at len ∷ cs) reads = files_of_cells system limit cs reads.1
 
@@ -31,4 +31,4 @@ body_read system p limit at cells b small most tiles =
 
 pub current_read : (system : FileSystem) (limit : ℕ) (fs : List FileForm) → AllByRecursion (FileIsAccepted system limit) fs
     → AllByRecursion (FileIsAccepted system limit) (current_in fs)
-current_read system limit fs reads = all_filter (λ (f : FileForm). not (list_any (replaces f) fs)) (FileIsAccepted system limit) fs reads
+current_read system limit fs reads = all_filter (λ (f : FileForm). not (list_any (replaced_by f) fs)) (FileIsAccepted system limit) fs reads

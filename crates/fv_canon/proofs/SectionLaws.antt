@@ -8,13 +8,15 @@ use Rattle.fv_base.specs.Limits.{volume_limit}
 use Rattle.fv_base.specs.Sinks.{WalkLaws}
 use Rattle.fv_base.proofs.Laws.{bytes_drop}
 use Rattle.fv_section.specs.Frames.{FrameForm, section_header_len, frame_len, up_to_4}
-use Rattle.fv_section.specs.SectionImage.{FitsForm, section_head_of, stream_of}
+use Rattle.fv_section.specs.StreamReads.{FitsForm}
+use Rattle.fv_section.specs.SectionImage.{section_head_of, stream_of}
 use Rattle.fv_section.proofs.Laws.{begun_bytes, fits, length_begun}
-use Rattle.fv_tree.specs.Meaning.{SectionMeanings, NoSections, MoreSections, SectionMeaning, Section, sections_from, body_of, body_len}
-use Rattle.fv_tree.specs.Meaning.{section_is_extended, section_kind_of, section_len}
-use Rattle.fv_tree.specs.Denotes.{MeansSection, IsReadSection}
+use Rattle.fv_tree.specs.Meaning.{SectionMeanings, NoSections, MoreSections, SectionMeaning, Section, body_len}
+use Rattle.fv_tree.specs.MeaningParts.{sections_from, body_of, section_is_extended, section_kind_of}
+use Rattle.fv_tree.specs.Meaning.{section_len}
+use Rattle.fv_tree.specs.Denotes.{MeansSection}
+use Rattle.fv_tree.specs.ReadParts.{IsReadSection}
 use Rattle.fv_canon.specs.inner.ImageOf.{frames_of, frame_of, body_image, starts_in}
-use Rattle.fv_canon.specs.Layouts.{AreStarts}
 use Rattle.fv_canon.specs.Volumes.{volumes_in_section, volumes_in_sections, volumes_in_body}
 use Rattle.fv_canon.proofs.ItemLaws.{item_at}
 use Rattle.fv_canon.proofs.VolumeListLaws.{count_deeper, in_section, item_passed, laid_higher}

@@ -5,7 +5,8 @@ use Rattle.std.proofs.lemmas.List.{length-replicate}
 use Rattle.fv_base.specs.Value.{IsBytes, le_bytes}
 use Rattle.fv_base.proofs.Laws.{bytes_append, bytes_back, bytes_cons, bytes_front, bytes_le_bytes, bytes_replicate, none_at}
 use Rattle.fv_section.specs.Frames.{FrameForm, section_header_len, frame_len, BeginsFrame, SplitsFrom, Splits, up_to_4}
-use Rattle.fv_section.specs.SectionImage.{FitsForm, section_head_of, stream_of, InPlace}
+use Rattle.fv_section.specs.StreamReads.{FitsForm, InPlace}
+use Rattle.fv_section.specs.SectionImage.{section_head_of, stream_of}
 use Rattle.fv_section.proofs.Laws.{begun_bytes, fits, length_begun, streams_are_read}
 use Rattle.fv_tree.specs.Meaning.{Meaning, SectionMeanings, NoSections, MoreSections, SectionMeaning, Section, Leaf, Group, Nested}
 use Rattle.fv_tree.specs.Meaning.{sections_list, sections_end, section_len, length_of}

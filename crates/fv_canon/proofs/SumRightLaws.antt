@@ -11,13 +11,15 @@ use Rattle.fv_base.specs.declared.flash.FileSystem.{FileSystem}
 use Rattle.fv_base.specs.declared.flash.Polarity.{Polarity}
 use Rattle.fv_file.specs.Cells.{CellForm, Valid, Pad, Dead, Stub, Free, IsCell, IsFilled, Tiles, offset_of}
 use Rattle.fv_file.specs.Files.{header_sum_of}
-use Rattle.fv_file.specs.NewHeaders.{pad_fields, pad_head_of}
+use Rattle.fv_file.specs.HeaderReads.{pad_fields}
+use Rattle.fv_file.specs.NewHeaders.{pad_head_of}
 use Rattle.fv_file.specs.declared.head.FileHead.{FileHead}
 use Rattle.fv_file.proofs.Laws.{head_of_pad, pad_written}
 use Rattle.fv_head.specs.Attributes.{polarity_of}
 use Rattle.fv_head.specs.Ext.{Extension}
-use Rattle.fv_head.specs.ExtImage.{IfRead, canonical_end, first_edge, ext_len, ext_spelled}
-use Rattle.fv_head.specs.Head.{HeadFields, BeginsVolume, extent_of, header_len_of}
+use Rattle.fv_head.specs.HeadReads.{IfRead, extent_of}
+use Rattle.fv_head.specs.ExtImage.{canonical_end, first_edge, ext_len, ext_spelled}
+use Rattle.fv_head.specs.Head.{HeadFields, BeginsVolume, header_len_of}
 use Rattle.fv_head.specs.HeadImage.{canonical_head}
 use Rattle.fv_head.proofs.Laws.{ext_again, ext_len_most, length-canonical}
 use Rattle.fv_tree.specs.Denotes.{MeansSection, Stream}
@@ -43,7 +45,7 @@ cell_sums system p (Valid at head payload) x rest image (filled, alive, sound) f
     (header_sum system p head payload x (drop at image) rest filled is, sound.file_sum)
 cell_sums system p (Pad at head payload) x rest image (filled, alive, kind) fixed is =
     (header_sum system p head payload x (drop at image) rest filled is, fixed)
-cell_sums system p (Dead at len) x rest image cell fixed is = tt
+cell_sums system p (Dead at len state) x rest image cell fixed is = tt
 cell_sums system p (Stub at len) x rest image cell fixed is = tt
 cell_sums system p (Free at len) x rest image cell fixed is = tt
 

@@ -4,8 +4,8 @@ use Rattle.fv_base.specs.declared.fault.Fault.{Fault}
 use Rattle.fv_base.specs.declared.fault.FaultKind.{FaultKind}
 use Rattle.fv_base.specs.declared.fault.FaultKind.TheVariants as kinds
 use Rattle.fv_tree.specs.Meaning.{Meaning}
-use Rattle.fv_canon.specs.Headline.{IsOfLayout}
-use Rattle.fv_canon.specs.Layouts.{layout_fault, FirstUnfit, Unfit}
+use Rattle.fv_canon.specs.Refusals.{IsOfLayout}
+use Rattle.fv_canon.specs.LayoutFaults.{layout_fault, FirstUnfit, Unfit}
 use Rattle.fv_canon.specs.Volumes.{Inside, volumes_in}
 
 -- what is true of both faults at every depth is true of the fault of what does not fit

@@ -7,7 +7,7 @@
 use Rattle.std.proofs.lemmas.Grind.{common_steps}
 use Rattle.std.proofs.Common.{◌≡◌, ◌≢◌, ◌≤◌, ◌<◌, ◌+◌, ◌-◌, ◌*◌, ◌/◌, ◌%◌, ℕ, zero, suc, Bool, true, false, List, [], ◌∷◌, ◌++◌, length}
 use Rattle.std.proofs.Common.{take, drop, replicate, refl, sym, ap, ◌∙◌, subst, arith, append_assoc, length-append, length-drop}
-use Rattle.std.specs.Prelude.{map, nat_lt, ◌==◌, Option, None, Some}
+use Rattle.std.specs.Prelude.{map, nat_lt, Option, None, Some}
 use Rattle.std.specs.List.{AllByRecursion}
 use Rattle.std.specs.Str.{bytes_eq}
 use Rattle.std.proofs.lemmas.Bool.{ne_eqb}
@@ -16,7 +16,8 @@ use Rattle.std.proofs.lemmas.List.{drop_at, length-replicate}
 use Rattle.fv_base.specs.Alignment.{alignment_of}
 use Rattle.fv_base.specs.Flash.{erased_byte}
 use Rattle.fv_base.specs.Guids.{bytes_of}
-use Rattle.fv_base.specs.Limits.{data_limit, volume_limit}
+use Rattle.fv_base.specs.Measures.{data_limit}
+use Rattle.fv_base.specs.Limits.{volume_limit}
 use Rattle.fv_base.specs.Value.{IsBytes, le}
 use Rattle.fv_base.specs.declared.flash.FileSystem.{FileSystem}
 use Rattle.fv_base.specs.declared.flash.FileSystem.TheVariants.{Ffs3}
@@ -28,9 +29,10 @@ use Rattle.fv_file.specs.Files.{pad_kind}
 use Rattle.fv_file.specs.NewHeaders.{needs_large, with_large, pad_head_of}
 use Rattle.fv_head.specs.Attributes.{polarity_of}
 use Rattle.fv_head.specs.Ext.{Extension}
-use Rattle.fv_head.specs.Head.{HeadFields, HasExt, BeginsVolume, extent_of, IsReadHead, header_len_of}
+use Rattle.fv_head.specs.Head.{HeadFields, HasExt, BeginsVolume, header_len_of}
+use Rattle.fv_head.specs.HeadReads.{extent_of, IsReadHead, CanonicalRest, IfRead}
 use Rattle.fv_head.specs.HeadImage.{canonical_head}
-use Rattle.fv_head.specs.ExtImage.{CanonicalRest, IfRead, canonical_end, first_edge, ext_len, ext_spelled}
+use Rattle.fv_head.specs.ExtImage.{canonical_end, first_edge, ext_len, ext_spelled}
 use Rattle.fv_head.specs.declared.extent.Extent.{Extent}
 use Rattle.fv_head.proofs.Laws.{canonical_front, front_lies, length-canonical}
 use Rattle.fv_canon.specs.Starts.{StartsFollow, IsFirstPlacement}

@@ -4,9 +4,12 @@ use Rattle.std.proofs.Common.{append_assoc, append-nil, length-append, drop-drop
 use Rattle.std.specs.List.{AllByRecursion}
 use Rattle.std.proofs.lemmas.List.{length-map, take-append-drop, take_more, drop_all, drop_at}
 use Rattle.fv_base.specs.declared.fault.Fault.{Fault}
-use Rattle.fv_tree.specs.Meaning.{Meaning, FileMeaning, File, SectionMeaning, Section, body_of, content_of, files_of}
+use Rattle.fv_tree.specs.Meaning.{Meaning, FileMeaning, File, SectionMeaning, Section, content_of, files_of}
+use Rattle.fv_tree.specs.MeaningParts.{body_of}
 use Rattle.fv_canon.specs.inner.ImageOf.{starts_in}
-use Rattle.fv_canon.specs.Layouts.{AreStarts, Laid, AllFit, IsPlaced, FirstUnfit, UnfitHere, layout_item, layout_items}
+use Rattle.fv_canon.specs.Layouts.{AreStarts, IsPlaced, layout_item, layout_items}
+use Rattle.fv_canon.specs.LeastStarts.{Laid}
+use Rattle.fv_canon.specs.LayoutFaults.{AllFit, FirstUnfit, UnfitHere}
 use Rattle.fv_canon.specs.Volumes.{Inside, deeper, volumes_in_section, volumes_in_body, volumes_in_file, volumes_in_content}
 use Rattle.fv_canon.specs.inner.ImageWalks.{BeginsWithStarts, ComesTo}
 use Rattle.fv_canon.specs.inner.LayoutWalks.{Grew}
@@ -209,3 +212,10 @@ module _ {A : Type 0} (all : List A → List Inside) (one : A → List Inside) (
       let halves = fit_apart (all (take i xs)) (all (drop i xs))
       (subst AllFit (ap all (sym (take-append-drop i xs)) ∙ joined (take i xs) (drop i xs)) fit) in
       (fit_apart (one x) (all (drop (i + 1) xs)) (subst AllFit (item_first xs i x l is) halves.1)).0
+
+  -- an item has no more starts than all items
+  pub item_count : (xs : List A) (i : ℕ) (x : A) → i < length xs → x ≡ get_or xs i x → starts_in (one x) ≤ starts_in (all xs)
+  item_count xs i x l is =
+      let parts = ap starts_in (ap all (sym (take-append-drop i xs)) ∙ joined (take i xs) (drop i xs)
+      ∙ ap (λ ws. all (take i xs) ++ ws) (item_first xs i x l is)) in
+      omega (arith, parts, count_joined (all (take i xs)) (one x ++ all (drop (i + 1) xs)), count_joined (one x) (all (drop (i + 1) xs)))

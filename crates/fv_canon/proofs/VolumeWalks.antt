@@ -5,7 +5,6 @@ use Rattle.std.proofs.Common.{ap, ◌∙◌, subst, arith, append_assoc, drop-dr
 use Rattle.std.specs.Prelude.{map, Option, None, Some}
 use Rattle.std.proofs.lemmas.List.{length-map}
 use Rattle.fv_base.specs.Flash.{erased_byte}
-use Rattle.fv_base.specs.declared.flash.Polarity.{Polarity}
 use Rattle.fv_head.specs.Attributes.{polarity_of}
 use Rattle.fv_head.specs.Ext.{Extension}
 use Rattle.fv_head.specs.Head.{HeadFields}
@@ -14,14 +13,15 @@ use Rattle.fv_head.specs.ExtImage.{canonical_end, first_edge}
 use Rattle.fv_canon.specs.Starts.{StartsFollow}
 use Rattle.fv_canon.specs.declared.first_placement.LayoutItem.{LayoutItem}
 use Rattle.fv_base.specs.Value.{up_to_8}
-use Rattle.fv_tree.specs.Meaning.{Meaning, Volume, FileMeanings, FileMeaning, files_from, head_of, data_len_of}
+use Rattle.fv_tree.specs.Meaning.{Meaning, Volume, FileMeanings, FileMeaning, head_of, data_len_of}
+use Rattle.fv_tree.specs.MeaningParts.{files_from}
 use Rattle.fv_tree.specs.Denotes.{IsMeaning, MeansSection, Stream}
 use Rattle.fv_canon.specs.inner.ImageOf.{image_of, stored_of, starts_in}
 use Rattle.fv_canon.specs.Image.{AreStored}
 use Rattle.fv_canon.specs.Layouts.{layout_items, layout_item}
 use Rattle.fv_canon.specs.Volumes.{volumes_in, volumes_in_files}
 use Rattle.fv_canon.specs.StoredFiles.{StoredFile, size_for, stored_len, used_size, ext_pad}
-use Rattle.fv_canon.specs.inner.StoredWalks.{stored_item, volume_bytes, files_bytes}
+use Rattle.fv_canon.specs.inner.StoredWalks.{stored_item, files_bytes}
 use Rattle.fv_canon.proofs.WrittenImageLaws.{files_made, stream_made, sections_made, front_is, behind_is}
 use Rattle.fv_canon.proofs.OneImageLaws.{follow_length}
 use Rattle.fv_canon.proofs.PlacedBytesLaws.{first_is}

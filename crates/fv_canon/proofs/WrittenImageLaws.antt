@@ -15,7 +15,8 @@ use Rattle.fv_tree.specs.Denotes.{Sections, Streams, Volumes, Pairwise, StreamOv
 use Rattle.fv_tree.specs.Denotes.{MeansSection, Stream, Denotes}
 use Rattle.fv_canon.specs.Image.{IsImage, AreStored, IsStored, IsData, AreFrames, IsFrame}
 use Rattle.fv_canon.specs.inner.ImageOf.{starts_in, image_of, stored_of, stored_file, data_of, frames_of, frame_of}
-use Rattle.fv_canon.specs.Layouts.{AreStarts, Laid, LaysVolume}
+use Rattle.fv_canon.specs.Layouts.{AreStarts}
+use Rattle.fv_canon.specs.LeastStarts.{Laid, LaysVolume}
 use Rattle.fv_canon.specs.Volumes.{volumes_in, volumes_in_files, volumes_in_file, volumes_in_content, volumes_in_sections}
 use Rattle.fv_canon.specs.Volumes.{volumes_in_section}
 use Rattle.fv_canon.specs.inner.StoredWalks.{volume_bytes}

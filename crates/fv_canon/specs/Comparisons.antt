@@ -9,7 +9,7 @@ use Rattle.fv_tree.specs.Denotes.{Accepted}
 use Rattle.fv_tree.specs.Difference.{difference}
 use Rattle.fv_tree.specs.Meaning.{Meaning}
 use Rattle.fv_canon.specs.ComparisonLines.{compare_line}
-use Rattle.fv_canon.specs.Refusals.{NotRead}
+use Rattle.fv_canon.specs.Refusals.{MemoryRanOut, NotRead}
 use Rattle.fv_canon.specs.declared.side.Side.{Side}
 use Rattle.fv_canon.specs.declared.side.Side.TheVariants as sides
 
@@ -32,9 +32,9 @@ ComparisonStops sides.Output m k held holds fault = WriteStops held holds (compa
 abbrev pub ReadsVolume : Option (List ℕ) → Option (List ℕ) → Meaning → Type 0
 ReadsVolume unread left m = (input : List ℕ) × ReadsWhole unread left input × Accepted input m
 
--- an input that was read to its end is no volume, or memory ran out
+-- an input that was read to its end is no volume, or it begins with the header of one and memory ran out
 abbrev pub VolumeStops : List ℕ → Fault → Type 0
-VolumeStops input fault = (fault ≡ out_of_memory) ⊎ NotRead input fault
+VolumeStops input fault = MemoryRanOut input fault ⊎ NotRead input fault
 
 -- an input stopped the run: while it was read, or after its end
 abbrev pub InputSideStops : Option (List ℕ) → Option (List ℕ) → Fault → Type 0

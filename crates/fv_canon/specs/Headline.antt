@@ -1,11 +1,8 @@
 -- From a volume to its canonical image, and the headline, clause by clause.
-use Rattle.std.specs.Prelude.{◌≡◌, ◌↔◌, ◌⊎◌, ◌+◌, ◌%◌, ◌++◌, true, ℕ, List, length, take, drop}
+use Rattle.std.specs.Prelude.{◌≡◌, ◌↔◌, ◌+◌, ◌%◌, ◌++◌, true, ℕ, List, length, take, drop}
 use Rattle.std.specs.List.{AllByRecursion}
 use Rattle.fv_base.specs.Alignment.{alignment_of}
 use Rattle.fv_base.specs.Sums.{sum16_of}
-use Rattle.fv_base.specs.declared.fault.Fault.{Fault}
-use Rattle.fv_base.specs.declared.fault.FaultKind.{FaultKind}
-use Rattle.fv_base.specs.declared.fault.FaultKind.TheVariants as kinds
 use Rattle.fv_file.specs.Attributes.{attribute_bits}
 use Rattle.fv_file.specs.Cells.{CellForm, Valid, Pad, Tiles}
 use Rattle.fv_file.specs.Files.{file_sum_right, fixed_checksum, header_sum_of}
@@ -16,7 +13,6 @@ use Rattle.fv_tree.specs.Files.{files_in}
 use Rattle.fv_tree.specs.Meaning.{Meaning, head_of}
 use Rattle.fv_canon.specs.Image.{IsImage}
 use Rattle.fv_canon.specs.Layouts.{Fits}
-use Rattle.fv_canon.specs.Refusals.{Refuses}
 use Rattle.fv_canon.specs.Volumes.{Inside, volumes_in}
 
 -- the input is a volume, and the bytes are the image of its meaning
@@ -26,18 +22,6 @@ NormalisesTo input image = (m : Meaning) × Accepted input m × IsImage m image
 -- the two are volumes with the same meaning
 abbrev pub MeanSame : List ℕ → List ℕ → Type 0
 MeanSame a b = (m : Meaning) × Accepted a m × Accepted b m
-
--- the input is a volume that does not fit
-abbrev pub IsUnfit : List ℕ → Type 0
-IsUnfit input = (m : Meaning) × Accepted input m × (Fits m → ⊥)
-
--- the input is no volume
-abbrev pub IsNoVolume : List ℕ → Type 0
-IsNoVolume input = (m : Meaning) → Accepted input m → ⊥
-
--- the kinds of the faults of a layout
-abbrev pub IsOfLayout : FaultKind → Type 0
-IsOfLayout kind = (kind ≡ kinds.TopAlignment) ⊎ (kind ≡ kinds.NoRoom)
 
 -- ---- the headline
 
@@ -89,12 +73,6 @@ SumsAreRight =
 abbrev pub WhatFitsHasAnImage : Type 0
 WhatFitsHasAnImage = (m : Meaning) → IsMeaning m → (Fits m ↔ ((image : List ℕ) × IsImage m image))
 
--- an input that is rejected is a volume that does not fit, if the fault is one of a layout, and otherwise no volume
-abbrev pub OnlyWhatDoesNotFitIsRefused : Type 0
-OnlyWhatDoesNotFitIsRefused =
-    (input : List ℕ) (f : Fault) → Refuses input f
-    → (IsOfLayout f.kind → IsUnfit input) × ((IsOfLayout f.kind → ⊥) → IsNoVolume input)
-
 -- ---- at every level
 
 -- the bytes are consecutive bytes of others
@@ -110,14 +88,3 @@ abbrev pub EachVolumeHasItsImage : Type 0
 EachVolumeHasItsImage =
     (m : Meaning) (image : List ℕ) → IsMeaning m → IsImage m image
     → AllByRecursion (λ v. IsMeaning v.volume × HasOwnImage image v) (volumes_in m)
-
--- ---- one image and one meaning
-
--- a meaning has at most one image
-abbrev pub OneImage : Type 0
-OneImage = (m : Meaning) (image other : List ℕ) → IsImage m image → IsImage m other → image ≡ other
-
--- two meanings, each of some bytes, that have the same image are equal
-abbrev pub OneMeaning : Type 0
-OneMeaning = (m other : Meaning) (image : List ℕ) → IsMeaning m → IsMeaning other → IsImage m image
-    → IsImage other image → other ≡ m

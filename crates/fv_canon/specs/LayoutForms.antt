@@ -1,6 +1,6 @@
 -- Layouts as they are kept in memory.
 use Rattle.std.specs.Prelude.{◌≡◌, ℕ, List, ◌++◌, length}
-use Rattle.fv_canon.specs.Layouts.{LaysVolume}
+use Rattle.fv_canon.specs.LeastStarts.{LaysVolume}
 use Rattle.fv_tree.specs.Meaning.{Meaning, files_of}
 
 -- the starts of the volume's own files, and those of the volumes inside it, in preorder

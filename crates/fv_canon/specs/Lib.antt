@@ -7,6 +7,9 @@ pub mod Layouts
 pub mod Image
 pub mod Refusals
 pub mod Headline
+pub mod LeastStarts
+pub mod LayoutFaults
+pub mod ImageLaws
 pub mod ComparisonLines
 pub mod Comparisons
 pub mod FlashImages

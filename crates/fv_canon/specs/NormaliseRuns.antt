@@ -7,16 +7,17 @@ use Rattle.fv_base.specs.Output.{WriteStops}
 use Rattle.fv_base.specs.declared.fault.Fault.{Fault}
 use Rattle.fv_canon.specs.FlashImages.{NormalisesAll, RefusesAll}
 use Rattle.fv_canon.specs.Headline.{NormalisesTo}
-use Rattle.fv_canon.specs.Refusals.{Refuses}
+use Rattle.fv_canon.specs.Refusals.{MemoryRanOut, Refuses}
 
 -- the image of the input was written
 abbrev pub InputWrites : List ℕ → Option (List ℕ) → Option (List ℕ) → Type 0
 InputWrites input held holds = (image : List ℕ) × NormalisesTo input image × Appends held holds image
 
--- nothing was written, because memory ran out or the input is rejected; or the writer stopped
+-- nothing was written, because the input is rejected, or because it begins with the header of a volume and memory ran
+-- out; or the writer stopped
 abbrev pub InputStops : List ℕ → Option (List ℕ) → Option (List ℕ) → Fault → Type 0
 InputStops input held holds fault =
-    (Keeps held holds × ((fault ≡ out_of_memory) ⊎ Refuses input fault))
+    (Keeps held holds × (MemoryRanOut input fault ⊎ Refuses input fault))
     ⊎ ((image : List ℕ) × NormalisesTo input image × WriteStops held holds image fault)
 
 -- the flash image b was written with each of its volumes renewed

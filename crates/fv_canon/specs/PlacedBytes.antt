@@ -1,5 +1,5 @@
 -- Which bytes are where in a list of bytes that is erased elsewhere.
-use Rattle.std.specs.Prelude.{◌≡◌, ℕ, ◌+◌, ◌-◌, ◌<◌, ◌≤◌, List, [], ◌∷◌, ◌++◌, length, take, drop, get_or, replicate}
+use Rattle.std.specs.Prelude.{◌≡◌, ℕ, ◌+◌, ◌<◌, ◌≤◌, List, length, take, drop, get_or}
 use Rattle.std.specs.List.{AllByRecursion}
 
 -- bytes and their offset
@@ -20,14 +20,3 @@ pub record ShowsPlaced (total erased : ℕ) (placed : List PlacedBytes) (b : Lis
   pub length_is : length b ≡ total
   pub stand : AllByRecursion (StandsIn b) placed
   pub rest : (k : ℕ) → k < total → AllByRecursion (λ p. IsIn k p → ⊥) placed → get_or b k 0 ≡ erased
-
--- what a walk from the offset e on writes
-abbrev pub painted : ℕ → ℕ → ℕ → List PlacedBytes → List ℕ
-painted erased total e [] = replicate (total - e) erased
-painted erased total e (p ∷ ps) =
-    (replicate (p.at - e) erased ++ p.bytes) ++ painted erased total (p.at + length p.bytes) ps
-
--- the spans come in order from e on, do not overlap, and end at or before `total`
-abbrev pub InOrder : ℕ → ℕ → List PlacedBytes → Type 0
-InOrder total e [] = e ≤ total
-InOrder total e (p ∷ ps) = (e ≤ p.at) × InOrder total (p.at + length p.bytes) ps

@@ -1,6 +1,6 @@
--- Where the files of a volume may be placed: lawful starts, placements, the first placement, and the least starts (PI
--- specification, volume 3, section 3.2.3.1, for the alignment of data and the pads between files).
-use Rattle.std.specs.Prelude.{◌≡◌, ◌≢◌, ℕ, ◌+◌, ◌-◌, ◌%◌, ◌≤◌, ◌⊎◌, List, [], ◌∷◌, take, get_or, IsTrue, MatchBool}
+-- Where the files of a volume may be placed: lawful starts, placements, and the first placement (PI specification,
+-- volume 3, section 3.2.3.1, for the alignment of data and the pads between files).
+use Rattle.std.specs.Prelude.{◌≡◌, ℕ, ◌+◌, ◌%◌, ◌≤◌, ◌⊎◌, List, [], ◌∷◌, take, get_or, IsTrue}
 use Rattle.fv_base.specs.Value.{up_to_8}
 use Rattle.fv_canon.specs.declared.first_placement.LayoutItem.{LayoutItem}
 
@@ -34,30 +34,3 @@ pub record IsFirstPlacement (total first : ℕ) (fs : List LayoutItem) (starts :
   pub placement : Placement total first fs starts
   pub least : (others : List ℕ) (i : ℕ) → Placement total first fs others → take i others ≡ take i starts
       → get_or starts i 0 ≤ get_or others i 0
-
--- the least start that is lawful after an edge; for the volume top file, the start with which it ends at the volume's
--- end
-abbrev pub IsLeastStart : ℕ → ℕ → LayoutItem → ℕ → Type 0
-IsLeastStart total e f s = MatchBool f.top (s + f.size ≡ total) (Lawful e f s × ((t : ℕ) → Lawful e f t → s ≤ t))
-
--- each file is at the least start after the edge before it; this need not be a placement
-abbrev pub IsLeast : ℕ → ℕ → List LayoutItem → List ℕ → Type 0
-IsLeast total e [] [] = Unit {0}
-IsLeast total e [] (s ∷ ss) = ⊥
-IsLeast total e (f ∷ fs) [] = ⊥
-IsLeast total e (f ∷ fs) (s ∷ ss) = IsLeastStart total e f s × IsLeast total (up_to_8 (s + f.size)) fs ss
-
--- the volume top file has only one possible start, with which it ends at the volume's end: there its data are not
--- aligned, or the start is not a multiple of 8
-abbrev pub IsOff : ℕ → LayoutItem → Type 0
-IsOff total f = ((total - f.size + f.header) % f.alignment ≢ 0) ⊎ ((total - f.size) % 8 ≢ 0)
-
-abbrev pub TopOff : ℕ → List LayoutItem → Type 0
-TopOff total [] = ⊥
-TopOff total (f ∷ fs) = (IsTrue f.top × IsOff total f) ⊎ TopOff total fs
-
--- the volume top file, if there is one, is aligned at the volume's end, and yet the files cannot be placed in their
--- order at all
-pub record HasNoRoom (total first : ℕ) (fs : List LayoutItem) : Type 0 where
-  pub top_stands : TopOff total fs → ⊥
-  pub none : (starts : List ℕ) → Placement total first fs starts → ⊥

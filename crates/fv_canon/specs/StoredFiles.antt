@@ -1,15 +1,14 @@
 -- A volume whose files' data are known, as it is in the canonical image (PI specification, volume 3, sections 3.2.1 to
 -- 3.2.3).
-use Rattle.std.specs.Prelude.{◌≡◌, ◌≤◌, ◌<◌, ◌%◌, ℕ, ◌+◌, ◌-◌, ◌==◌, zero, suc, nat_le, if◌then◌else◌, List, [], ◌∷◌}
-use Rattle.std.specs.Prelude.{◌++◌}
-use Rattle.std.specs.Prelude.{length, replicate, sum, Option, None, Some}
+use Rattle.std.specs.Prelude.{ℕ, ◌+◌, ◌-◌, ◌==◌, zero, suc, nat_le, if◌then◌else◌, List, [], ◌∷◌, ◌++◌, length}
+use Rattle.std.specs.Prelude.{replicate, Option, None, Some}
 use Rattle.fv_base.specs.Flash.{erased_byte}
 use Rattle.fv_base.specs.Value.{up_to_8}
 use Rattle.fv_base.specs.declared.flash.Polarity.{Polarity}
 use Rattle.fv_base.specs.declared.guid.Guid.{Guid}
-use Rattle.fv_file.specs.Attributes.{attributes_by, is_summed}
-use Rattle.fv_file.specs.Files.{file_header_len, fixed_checksum}
-use Rattle.fv_file.specs.NewHeaders.{needs_large, complement, file_head_of, pad_head_of}
+use Rattle.fv_file.specs.Attributes.{attributes_by}
+use Rattle.fv_file.specs.Files.{file_header_len}
+use Rattle.fv_file.specs.NewHeaders.{needs_large, file_sum_for, file_head_of, pad_head_of}
 use Rattle.fv_head.specs.Attributes.{polarity_of}
 use Rattle.fv_head.specs.Ext.{Extension}
 use Rattle.fv_head.specs.Head.{HeadFields, header_len_of as head_len_of}
@@ -34,10 +33,6 @@ size_for data_len = head_len_for data_len + data_len
 
 abbrev pub stored_len : StoredFile → ℕ
 stored_len f = size_for (length f.payload)
-
--- with the checksum attribute, what must be added to make the sum of the data a multiple of 256; else 0xAA
-abbrev pub file_sum_for : ℕ → List ℕ → ℕ
-file_sum_for attributes payload = if is_summed attributes then complement (sum payload) else fixed_checksum
 
 -- header and data
 unfoldable pub stored_bytes : Polarity → StoredFile → List ℕ
@@ -93,15 +88,3 @@ placed_in_volume h files starts =
       bytes = ext_pad (polarity_of h.attributes) h.ext (used_size (first_edge h h.ext) files starts);
     }
     ∷ placed_files (polarity_of h.attributes) (first_edge h h.ext) files starts
-
--- ---- the rule of the pads
-
--- the rule of the pads of a gap: one pad where it fits, else the greatest pad first, and then the pads of the rest, the
--- last of at least 256 bytes
-abbrev pub PadsRule : Type 0
-PadsRule =
-    (polarity : Polarity) (gap : ℕ) → 24 ≤ gap → gap % 8 ≡ 0
-    → (gap ≤ 0xfffff8 → gap_bytes polarity gap ≡ pad_bytes polarity gap)
-    × (0xfffff8 < gap
-    → (gap_bytes polarity gap ≡ pad_bytes polarity long_pad ++ gap_bytes polarity (gap - long_pad))
-    × (256 ≤ gap - long_pad))

@@ -1,10 +1,10 @@
 //! Whether bytes are a canonical image: that of a view, or their own. They are compared with what a
 //! walk puts.
 
-ghost use Rattle.std.specs.Prelude.{◌≡◌, ◌↔◌, ◌⊎◌, IfOk, IfErr, IsTrue, true};
+ghost use Rattle.std.specs.Prelude.{◌≡◌, ◌≢◌, ◌↔◌, ◌⊎◌, [], IfOk, IfErr, IsTrue, true};
 ghost use Rattle.fv_base.specs.Faults.{out_of_memory};
 ghost use Rattle.fv_canon.specs.Image.{IsImage};
-ghost use Rattle.fv_canon.specs.Layouts.{LaysVolume};
+ghost use Rattle.fv_canon.specs.LeastStarts.{LaysVolume};
 ghost use Rattle.fv_canon.specs.Refusals.{NotRead};
 ghost use Rattle.fv_canon.specs.inner.ImageOf.{image_of};
 ghost use Rattle.fv_canon.specs.inner.Matching.{MatchTakes};
@@ -12,7 +12,7 @@ ghost use Rattle.fv_canon.specs.inner.MatchingLaws.{matches_by};
 ghost use Rattle.fv_head.specs.Head.{HeadFields, BeginsVolume};
 ghost use Rattle.fv_head.specs.declared.extent.Extent.{Extent};
 ghost use Rattle.fv_tree.specs.Denotes.{Accepted};
-ghost use Rattle.fv_tree.specs.Meaning.{Meaning};
+ghost use Rattle.fv_tree.specs.Meaning.{Meaning, files_of};
 
 use crate::image_walk::put_image;
 use crate::layout_walk::layout;
@@ -65,11 +65,14 @@ fn is_image(view: &VolumeView<'_>, starts: &[u64], bytes: &[u8]) -> bool
 ///
 /// # Errors
 ///
-/// OutOfMemory.
+/// OutOfMemory, only if the volume has a file.
 pub fn is_canonical_image(alloc: Global, view: &VolumeView<'_>, bytes: &[u8]) -> Result<bool, Fault>
     // Whether the bytes are the image of the view's meaning.
     ensures ok { IfOk result (λ t. (t ≡ true) ↔ IsImage view.now bytes.now) }
     ensures err { IfErr result (λ f. f ≡ out_of_memory) }
+
+    // Memory runs out only if the volume has a file.
+    ensures memory { IfErr result (λ f. f ≡ out_of_memory → files_of view.now ≢ []) }
 {
     // For what was read, the bytes of the walk are its image; if it does not fit, it has none.
     view.known();

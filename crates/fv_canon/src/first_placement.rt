@@ -25,7 +25,8 @@ ghost use Rattle.fv_canon.specs.declared.reach.Reach.{Reach};
 ghost use Rattle.fv_canon.specs.declared.first_placement.LayoutItem.{LayoutItem};
 ghost use Rattle.fv_canon.specs.inner.Reaches.{AreReaches, CanPlace, IsBound, IsGreatest, IsLawfulItem};
 ghost use Rattle.fv_canon.specs.inner.Reaches.{IsReach, Serves};
-ghost use Rattle.fv_canon.specs.Starts.{IsFirstPlacement, IsOff, Placement, TopOff};
+ghost use Rattle.fv_canon.specs.Starts.{IsFirstPlacement, Placement};
+ghost use Rattle.fv_canon.specs.LayoutFaults.{IsOff, TopOff};
 
 use crate::reach::{Reach, reach_of_none, serves};
 use crate::usable_start::{first_start, greatest_start};
@@ -60,6 +61,7 @@ pub(crate) fn first_starts(
     ensures found { IfOk result (λ o. IfSome o (λ starts. IsFirstPlacement total first items.now starts.items)) }
     ensures none { IfOk result (λ o. IfNone o ((starts : List ℕ) → Placement total first items.now starts → ⊥)) }
     ensures err { IfErr result (λ f. f ≡ out_of_memory) }
+    ensures some { IfErr result (λ _. 0 < length items.now) }
 {
     if first > total {
         return Ok(None);
@@ -91,6 +93,8 @@ fn place_each(
     ensures none { length reaches.now ≡ length items.now → AreReaches (IsReach total) items.now reaches.now
         → IfOk result (λ o. IfNone o ((starts : List ℕ) → Placement total first items.now starts → ⊥)) }
     ensures err { IfErr result (λ f. f ≡ out_of_memory) }
+    ensures some { IfErr result (λ _. 0 < length items.now) }
+    ensures empty { IfOk result (λ o. IfNone o (0 < length items.now)) }
 {
     let mut starts = Vec::with_capacity(alloc, items.len())?;
     let mut edge = first;

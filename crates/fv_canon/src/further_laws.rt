@@ -1,13 +1,17 @@
 //! What else holds of layouts and canonical images, as laws over the definitions. None of these
 //! functions does anything: their contracts are what is proved.
 
-ghost use Rattle.std.specs.Prelude.{◌↔◌, ◌≡◌, List, ℕ};
+ghost use Rattle.std.specs.Prelude.{◌↔◌, ◌≡◌, ◌⊎◌, List, ℕ};
 ghost use Rattle.fv_base.specs.declared.fault.Fault.{Fault};
+ghost use Rattle.fv_tree.specs.Denotes.{Accepted};
 ghost use Rattle.fv_tree.specs.Meaning.{Meaning};
-ghost use Rattle.fv_canon.specs.Headline.{OneImage, OneMeaning};
-ghost use Rattle.fv_canon.specs.Layouts.{Fits, LaysVolume, LeastVolume, Unfit};
-ghost use Rattle.fv_canon.specs.PlacedBytes.{InOrder, ShowsPlaced, PlacedBytes, painted};
-ghost use Rattle.fv_canon.specs.StoredFiles.{PadsRule};
+ghost use Rattle.fv_canon.specs.Headline.{MeanSame};
+ghost use Rattle.fv_canon.specs.ImageLaws.{OneImage, OneMeaning, InOrder, painted, PadsRule};
+ghost use Rattle.fv_canon.specs.Layouts.{Fits};
+ghost use Rattle.fv_canon.specs.LeastStarts.{LaysVolume, LeastVolume};
+ghost use Rattle.fv_canon.specs.LayoutFaults.{Unfit};
+ghost use Rattle.fv_canon.specs.PlacedBytes.{ShowsPlaced, PlacedBytes};
+ghost use Rattle.fv_canon.specs.Refusals.{OnlyWhatDoesNotFitIsRefused, WhatDoesNotFitIsRefused};
 
 /// A meaning has at most one image, and an image has one meaning.
 pub fn one_image()
@@ -42,4 +46,24 @@ pub fn pads()
 pub fn one_list_shows()
     ensures { (erased total : ℕ) (placed : List PlacedBytes) (bytes : List ℕ) → InOrder total 0 placed
         → ShowsPlaced total erased placed bytes ↔ (bytes ≡ painted erased total 0 placed) }
+{}
+
+/// The same bytes have at most one meaning. So two volumes have the same meaning exactly if their
+/// meanings are equal.
+pub fn one_reading()
+    ensures meaning { (b : List ℕ) (m k : Meaning) → Accepted b m → Accepted b k → m ≡ k }
+    ensures same { (a b : List ℕ) (m k : Meaning) → Accepted a m → Accepted b k → MeanSame a b ↔ (m ≡ k) }
+{}
+
+/// A volume fits, or has a fault of its layout. So a volume that does not fit is rejected as NoRoom
+/// or TopAlignment.
+pub fn what_does_not_fit_is_refused()
+    ensures either { (m : Meaning) → Fits m ⊎ ((f : Fault) × Unfit m 0 f) }
+    ensures refused { WhatDoesNotFitIsRefused }
+{}
+
+/// An input that is rejected as NoRoom or TopAlignment is a volume whose layout does not fit. One
+/// that is rejected with any other fault is no volume.
+pub fn only_what_does_not_fit_is_refused()
+    ensures { OnlyWhatDoesNotFitIsRefused }
 {}

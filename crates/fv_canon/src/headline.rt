@@ -1,14 +1,15 @@
-//! The headline, with one law for each of its clauses. Two accepted volumes whose canonical layouts
-//! fit have the same meaning exactly if their canonical images are byte-equal. An accepted volume
-//! whose layout fits normalises to an accepted volume of the same length and meaning that
-//! normalises to itself, with each data start on its alignment and each sum right. One whose layout
-//! does not fit is rejected as NoRoom or TopAlignment, and no other volume is.
+//! The headline, with one law for each clause of its first two sentences. Two accepted volumes whose
+//! canonical layouts fit have the same meaning exactly if their canonical images are byte-equal. An
+//! accepted volume whose layout fits normalises to an accepted volume of the same length and meaning
+//! that normalises to itself, with each data start on its alignment and each sum right. One whose
+//! layout does not fit is rejected as NoRoom or TopAlignment, and no other volume is: the laws of
+//! that are in `further_laws`, and `normalise` has its clauses.
 //!
 //! None of these functions does anything: their contracts are what is proved.
 
 ghost use Rattle.fv_canon.specs.Headline.{DataAreAligned, EachVolumeHasItsImage, ImageIsItsOwnImage};
 ghost use Rattle.fv_canon.specs.Headline.{ImageKeepsLengthAndMeaning};
-ghost use Rattle.fv_canon.specs.Headline.{OnlyWhatDoesNotFitIsRefused, SameMeaningIffSameImage, SumsAreRight};
+ghost use Rattle.fv_canon.specs.Headline.{SameMeaningIffSameImage, SumsAreRight};
 ghost use Rattle.fv_canon.specs.Headline.{WhatFitsHasAnImage};
 
 /// Two volumes that have images have the same meaning exactly if the images are equal.
@@ -52,10 +53,4 @@ pub fn each_volume_has_its_image()
 /// A volume fits exactly if it has an image.
 pub fn what_fits_has_an_image()
     ensures { WhatFitsHasAnImage }
-{}
-
-/// An input that is rejected as NoRoom or TopAlignment is a volume whose layout does not fit. One
-/// that is rejected with any other fault is no volume.
-pub fn only_what_does_not_fit_is_refused()
-    ensures { OnlyWhatDoesNotFitIsRefused }
 {}

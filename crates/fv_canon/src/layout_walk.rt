@@ -1,17 +1,20 @@
 //! The layout of a volume and of the volumes inside it.
 
-ghost use Rattle.std.specs.Prelude.{◌≡◌, ◌≤◌, ◌⊎◌, ◌+◌, ◌++◌, ℕ, List, All, take, get_or, IfOk, IfErr, OnOk};
+ghost use Rattle.std.specs.Prelude.{◌≡◌, ◌≢◌, ◌<◌, ◌≤◌, ◌⊎◌, ◌+◌, ◌++◌, ℕ, List, [], All, length, take, get_or, IfOk, IfErr, OnOk};
 ghost use Rattle.fv_base.specs.Faults.{out_of_memory};
 ghost use Rattle.fv_head.specs.ExtImage.{first_edge};
 ghost use Rattle.fv_canon.specs.inner.Depths.{NestsVolume, NestsFiles, NestsSections, NestsBody};
-ghost use Rattle.fv_canon.specs.Layouts.{layout_fault, layout_item, layout_items, AreStarts, Laid, LaysVolume};
-ghost use Rattle.fv_canon.specs.Layouts.{AllFit, Fits, FirstUnfit, Unfit};
+ghost use Rattle.fv_canon.specs.LayoutFaults.{layout_fault, AllFit, FirstUnfit, Unfit};
+ghost use Rattle.fv_canon.specs.Layouts.{layout_item, layout_items, AreStarts, Fits};
+ghost use Rattle.fv_canon.specs.LeastStarts.{Laid, LaysVolume};
 ghost use Rattle.fv_canon.specs.Volumes.{volumes_in, volumes_in_files, volumes_in_sections, volumes_in_body};
+ghost use Rattle.fv_canon.specs.inner.ImageOf.{starts_in};
 ghost use Rattle.fv_canon.specs.inner.LayoutWalks.{Grew, Shallow};
 ghost use Rattle.fv_canon.specs.LayoutForms.{IsLayout};
 ghost use Rattle.fv_canon.specs.Starts.{Placement};
 ghost use Rattle.fv_canon.specs.inner.Reaches.{IsLawfulItem};
-ghost use Rattle.fv_tree.specs.Meaning.{head_of, length_of, sections_from, files_from};
+ghost use Rattle.fv_tree.specs.Meaning.{head_of, files_of, length_of};
+ghost use Rattle.fv_tree.specs.MeaningParts.{sections_from, files_from};
 ghost use Rattle.fv_tree.specs.Views.{body_view};
 
 use crate::data_body::data_body;
@@ -31,7 +34,7 @@ use std::alloc::Global;
 /// The fault of the first volume that does not fit (the outer volume comes before those inside it),
 /// at 0 and with the depth of that volume: TopAlignment if the only possible start of its volume top
 /// file is no multiple of 8, or its data are not aligned there; else NoRoom if its files cannot be
-/// placed in their order. OutOfMemory.
+/// placed in their order. OutOfMemory, only if the volume has a file.
 pub fn layout(alloc: Global, view: &VolumeView<'_>) -> Result<Layout, Fault>
     // At every level the files are in their first placement.
     ensures layout { IfOk result (IsLayout view.now) }
@@ -50,6 +53,9 @@ pub fn layout(alloc: Global, view: &VolumeView<'_>) -> Result<Layout, Fault>
 
     // The layout of a volume that fits is returned, unless memory runs out.
     ensures fits { Fits view.now → IfErr result (λ f. f ≡ out_of_memory) }
+
+    // Memory runs out only if the volume has a file.
+    ensures memory { IfErr result (λ f. f ≡ out_of_memory → files_of view.now ≢ []) }
 {
     // In a volume that was read, groups and volumes nest so little that a byte counts them.
     view.known();
@@ -65,6 +71,7 @@ pub(crate) fn layout_of_body(alloc: Global, body: Body<'_, '_>) -> Result<Vec<u6
     ensures ok { IfOk result (λ starts. Laid AreStarts (volumes_in_body (body_view body.entry)) starts.items) }
     ensures err { IfErr result (λ f. (f ≡ out_of_memory) ⊎ FirstUnfit (volumes_in_body (body_view body.entry)) 0 f) }
     ensures fits { AllFit (volumes_in_body (body_view body.entry)) → IfErr result (λ f. f ≡ out_of_memory) }
+    ensures memory { IfErr result (λ f. f ≡ out_of_memory → 0 < starts_in (volumes_in_body (body_view body.entry))) }
 {
     let mut starts = Vec::new(alloc);
     lay_body(body, 0, &mut starts)?;
@@ -78,6 +85,7 @@ fn lay_volume(view: &VolumeView<'_>, depth: u8, starts: &mut Vec<u64>) -> Result
     requires shallow { Shallow NestsVolume view.now (depth + 1) }
     ensures ok { OnOk result (Grew (volumes_in view.now) starts.old.items starts.new.items) }
     ensures err { IfErr result (λ f. (f ≡ out_of_memory) ⊎ Unfit view.now depth f) }
+    ensures memory { IfErr result (λ f. f ≡ out_of_memory → 0 < starts_in (volumes_in view.now)) }
 {
     let own = own_starts(*starts.allocator(), view, depth)?;
     starts.extend_from_slice(own.as_slice())?;
@@ -92,6 +100,8 @@ fn lay_files(files: &[FileView<'_>], depth: u8, starts: &mut Vec<u64>) -> Result
     ensures ok { OnOk result (Grew (volumes_in_files (files_from files.now)) starts.old.items starts.new.items) }
     ensures err { IfErr result
         (λ f. (f ≡ out_of_memory) ⊎ FirstUnfit (volumes_in_files (files_from files.now)) depth f) }
+    ensures memory { IfErr result
+        (λ f. f ≡ out_of_memory → 0 < starts_in (volumes_in_files (files_from files.now))) }
 {
     for file in files {
         lay_body(data_body(file), depth, starts)?;
@@ -107,6 +117,8 @@ fn lay_sections(sections: &[SectionView<'_>], depth: u8, starts: &mut Vec<u64>) 
         (Grew (volumes_in_sections (sections_from sections.now)) starts.old.items starts.new.items) }
     ensures err { IfErr result
         (λ f. (f ≡ out_of_memory) ⊎ FirstUnfit (volumes_in_sections (sections_from sections.now)) depth f) }
+    ensures memory { IfErr result
+        (λ f. f ≡ out_of_memory → 0 < starts_in (volumes_in_sections (sections_from sections.now))) }
 {
     for section in sections {
         lay_body(section.body(), depth + 1, starts)?;
@@ -121,6 +133,7 @@ fn lay_body(body: Body<'_, '_>, depth: u8, starts: &mut Vec<u64>) -> Result<(), 
     ensures ok { OnOk result (Grew (volumes_in_body (body_view body.entry)) starts.old.items starts.new.items) }
     ensures err { IfErr result
         (λ f. (f ≡ out_of_memory) ⊎ FirstUnfit (volumes_in_body (body_view body.entry)) depth f) }
+    ensures memory { IfErr result (λ f. f ≡ out_of_memory → 0 < starts_in (volumes_in_body (body_view body.entry))) }
 {
     match body {
         Body::Leaf(_) => Ok(()),
@@ -133,6 +146,7 @@ fn lay_body(body: Body<'_, '_>, depth: u8, starts: &mut Vec<u64>) -> Result<(), 
 fn own_starts(alloc: Global, view: &VolumeView<'_>, depth: u8) -> Result<Vec<u64>, Fault>
     ensures ok { IfOk result (λ own. AreStarts view.now own.items) }
     ensures err { IfErr result (λ f. (f ≡ out_of_memory) ⊎ Unfit view.now depth f) }
+    ensures memory { IfErr result (λ f. f ≡ out_of_memory → 0 < length (files_of view.now)) }
 {
     let head = view.head();
     let total = head.length();
@@ -152,6 +166,7 @@ fn layout_items(alloc: Global, view: &VolumeView<'_>) -> Result<Vec<LayoutItem>,
     ensures ok { IfOk result (λ items. (items.items ≡ layout_items view.now)
         × All (IsLawfulItem (head_of view.now).length) items.items) }
     ensures err { IfErr result (λ f. f ≡ out_of_memory) }
+    ensures some { IfErr result (λ _. 0 < length (files_of view.now)) }
 {
     // In a volume that was read, no file is longer than the volume.
     view.known();

@@ -5,8 +5,9 @@ ghost use Rattle.fv_base.specs.Faults.{out_of_memory};
 ghost use Rattle.fv_base.specs.Port.{inner_of, has_erred};
 ghost use Rattle.fv_head.specs.Head.{HeadFields, BeginsVolume};
 ghost use Rattle.fv_head.specs.declared.extent.Extent.{Extent};
-ghost use Rattle.fv_canon.specs.Headline.{IsNoVolume, IsOfLayout, IsUnfit, MeanSame, NormalisesTo};
-ghost use Rattle.fv_canon.specs.Refusals.{FaultStandsInInput, NotRead, Refuses};
+ghost use Rattle.fv_canon.specs.Headline.{MeanSame, NormalisesTo};
+ghost use Rattle.fv_canon.specs.Refusals.{FaultStandsInInput, IsNoVolume, IsOfLayout, IsUnfit};
+ghost use Rattle.fv_canon.specs.Refusals.{NotPlaced, NotRead, Refuses};
 ghost use Rattle.fv_canon.specs.NormaliseRuns.{InputWrites, InputStops, RunWrites, RunStops};
 ghost use Rattle.fv_tree.specs.Denotes.{Accepted};
 ghost use Rattle.fv_tree.specs.Meaning.{Meaning};
@@ -55,10 +56,14 @@ pub fn normalise(alloc: Global, input: &[u8]) -> Result<ByteList, Fault>
     ensures length { IfOk result (λ bytes. length bytes ≡ length input.now) }
     ensures err { IfErr result (λ f. (f ≡ out_of_memory) ⊎ Refuses input.now f) }
 
-    // Only a volume that does not fit is rejected as NoRoom or TopAlignment. Only an input that is
-    // no volume is rejected with any other fault.
-    ensures unfit { IfErr result (λ f. IsOfLayout f.kind → IsUnfit input.now) }
+    // Only a volume that does not fit is rejected as NoRoom or TopAlignment, by the fault of the first
+    // volume in it that does not. Only an input that is no volume is rejected with any other fault.
+    ensures unfit { IfErr result (λ f. IsOfLayout f.kind → NotPlaced input.now f) }
     ensures unread { IfErr result (λ f. f ≢ out_of_memory → (IsOfLayout f.kind → ⊥) → IsNoVolume input.now) }
+
+    // A volume that does not fit is rejected: as NoRoom or TopAlignment, unless memory runs out.
+    ensures refused { IsUnfit input.now → IfOk result (λ _. ⊥)
+        × IfErr result (λ f. (f ≡ out_of_memory) ⊎ IsOfLayout f.kind) }
 
     // The only error for a volume that has an image is OutOfMemory.
     ensures fits { (image : List ℕ) → NormalisesTo input.now image → IfErr result (λ f. f ≡ out_of_memory) }
@@ -127,8 +132,9 @@ fn write_laid_out<W: Write>(
 /// # Errors
 ///
 /// ReadFault at the number of bytes read so far, Length at the limit if more bytes come, and those
-/// of `normalise`; nothing was written then. WriteFault at the number of bytes written; exactly
-/// that many bytes of the image were written then.
+/// of `normalise`; nothing was written then. Reading takes memory, so OutOfMemory may be returned
+/// whatever the input is. WriteFault at the number of bytes written; exactly that many bytes of the
+/// image were written then.
 pub fn run_normalise<R: Read, W: Write>(
     alloc: Global,
     reader: &mut Port<R>,

@@ -1,11 +1,12 @@
 //! The canonical bytes of a part of a volume.
 
-ghost use Rattle.std.specs.Prelude.{◌≡◌, ◌⊎◌, ℕ, List, IfOk, IfErr, OnOk};
+ghost use Rattle.std.specs.Prelude.{◌≡◌, ◌≢◌, ◌⊎◌, ℕ, List, [], Any, IfOk, IfErr, OnOk};
 ghost use Rattle.fv_base.specs.Faults.{out_of_memory};
 ghost use Rattle.fv_canon.specs.Image.{IsData, IsBodyImage};
-ghost use Rattle.fv_canon.specs.Layouts.{AllFit, FirstUnfit};
+ghost use Rattle.fv_canon.specs.LayoutFaults.{AllFit, FirstUnfit};
 ghost use Rattle.fv_canon.specs.Volumes.{volumes_in_body, volumes_in_content};
-ghost use Rattle.fv_tree.specs.Meaning.{content_of, body_of};
+ghost use Rattle.fv_tree.specs.Meaning.{content_of, files_of};
+ghost use Rattle.fv_tree.specs.MeaningParts.{body_of};
 
 use crate::data_body::data_body;
 use crate::image_walk::put_body_image;
@@ -20,7 +21,8 @@ use std::alloc::Global;
 /// # Errors
 ///
 /// The fault of the first volume in the data that does not fit, at 0 and with its depth: 1 if it is
-/// the body of one of the file's own sections. OutOfMemory. Nothing was put then.
+/// the body of one of the file's own sections. OutOfMemory, only if a volume in the data has a file.
+/// Nothing was put then.
 pub fn put_file_data<S: Sink>(alloc: Global, file: &FileView<'_>, out: &mut S) -> Result<(), Fault>
     ensures data { OnOk result ((bytes : List ℕ) × IsData (content_of file.now) bytes × S.takes out.old bytes out.new) }
 
@@ -29,6 +31,10 @@ pub fn put_file_data<S: Sink>(alloc: Global, file: &FileView<'_>, out: &mut S) -
     ensures err { IfErr result (λ f. ((f ≡ out_of_memory) ⊎ FirstUnfit (volumes_in_content (content_of file.now)) 0 f)
         × (out.new ≡ out.old)) }
     ensures fits { AllFit (volumes_in_content (content_of file.now)) → IfErr result (λ f. f ≡ out_of_memory) }
+
+    // Memory runs out only if a volume in the data has a file.
+    ensures memory { IfErr result
+        (λ f. f ≡ out_of_memory → Any (λ v. files_of v.volume ≢ []) (volumes_in_content (content_of file.now))) }
 {
     // For what was read, the bytes of the walk are its data.
     file.known();

@@ -1,7 +1,7 @@
 //! The starts of a layout that follow those of some part of a volume.
 
 ghost use Rattle.std.specs.Prelude.{◌≡◌, drop};
-ghost use Rattle.fv_tree.specs.Meaning.{sections_from};
+ghost use Rattle.fv_tree.specs.MeaningParts.{sections_from};
 ghost use Rattle.fv_tree.specs.Views.{body_view};
 ghost use Rattle.fv_canon.specs.inner.ImageOf.{starts_in};
 ghost use Rattle.fv_canon.specs.inner.ImageWalks.{BeginsWithStarts};

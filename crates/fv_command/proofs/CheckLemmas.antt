@@ -35,7 +35,7 @@ none_noted p [] all = refl
 none_noted p (Valid at head payload ∷ cells) all = none_noted p cells all.1
 none_noted p (Pad at head payload ∷ cells) all =
     ap (λ (n : ℕ). pad_line at n ++ pad_notes p cells) (none_written p payload all.0) ∙ none_noted p cells all.1
-none_noted p (Dead at len ∷ cells) all = none_noted p cells all.1
+none_noted p (Dead at len state ∷ cells) all = none_noted p cells all.1
 none_noted p (Stub at len ∷ cells) all = none_noted p cells all.1
 none_noted p (Free at len ∷ cells) all = none_noted p cells all.1
 

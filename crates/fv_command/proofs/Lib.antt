@@ -1,6 +1,7 @@
 pub mod CheckLemmas
 pub mod InputLemmas
 pub mod ListLemmas
+pub mod OpenerLemmas
 pub mod PadLemmas
 pub mod PartLemmas
 pub mod RunLemmas

@@ -8,8 +8,8 @@ use Rattle.fv_base.specs.Sums.{words_of}
 use Rattle.fv_base.specs.Value.{le_at}
 use Rattle.fv_head.specs.Head.{HeadFields}
 use Rattle.fv_tree.specs.Meaning.{Meaning, Volume, FileMeaning, File, ContentMeaning, SectionMeaning, Section, BodyMeaning}
-use Rattle.fv_tree.specs.Meaning.{Leaf, Group, Nested}
-use Rattle.fv_tree.specs.Meaning.{files_from, sections_from, content_of, section_kind_of, body_of, leaf_of}
+use Rattle.fv_tree.specs.Meaning.{Leaf, Group, Nested, content_of}
+use Rattle.fv_tree.specs.MeaningParts.{files_from, sections_from, section_kind_of, body_of, leaf_of}
 use Rattle.fv_command.specs.ListTexts.{unit_text, volume_text, file_text, section_text, LeafText, BodyShown, FileSum, VolumeSum}
 use Rattle.fv_command.specs.ListTexts.{VolumeLines, FilesLines, FileLines, ContentLines, SectionsLines, SectionLines, BodyLines}
 use Rattle.fv_text.proofs.Laws.{Tells, tells_more}
@@ -21,11 +21,6 @@ pub units_next : (b : List ℕ) → 2 ≤ length b
 units_next [] l = absurd (omega (arith, l))
 units_next (x ∷ []) l = absurd (omega (arith, l))
 units_next (x ∷ y ∷ bs) l = refl
-
-pub units_none : (b : List ℕ) → length b < 2 → flat_map unit_text (words_of b) ≡ []
-units_none [] l = refl
-units_none (x ∷ []) l = refl
-units_none (x ∷ y ∷ bs) l = absurd (omega (arith, l))
 
 -- ---- what is shown of a body
 

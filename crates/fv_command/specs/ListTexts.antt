@@ -6,7 +6,8 @@ use Rattle.std.specs.Prelude.{if◌then◌else◌, List, [], ◌∷◌, ◌++◌
 use Rattle.std.specs.List.{flat_map}
 use Rattle.hex.specs.Hex.{encode_lower}
 use Rattle.sha2.specs.Sha256.{sha256}
-use Rattle.fv_base.specs.Guids.{bytes_of, guid_text}
+use Rattle.fv_base.specs.Guids.{bytes_of}
+use Rattle.fv_base.specs.GuidTexts.{guid_text}
 use Rattle.fv_base.specs.Sums.{words_of}
 use Rattle.fv_base.specs.declared.flash.FileSystem.{FileSystem}
 use Rattle.fv_base.specs.declared.flash.FileSystem.TheVariants.{Ffs2, Ffs3}
@@ -17,9 +18,9 @@ use Rattle.fv_head.specs.Ext.{Extension}
 use Rattle.fv_section.specs.Texts.{IsText, IsVersion, IsFreeform}
 use Rattle.fv_tree.specs.Meaning.{Meaning, Volume, FileMeanings, NoFiles, MoreFiles, FileMeaning, File, ContentMeaning}
 use Rattle.fv_tree.specs.Meaning.{Plain, Sectioned, SectionMeanings, NoSections, MoreSections, SectionMeaning, Section}
-use Rattle.fv_tree.specs.Meaning.{BodyMeaning, Leaf, Group, Nested}
-use Rattle.fv_tree.specs.Meaning.{head_of, files_of, file_name_of, file_kind_of, attributes_of, content_of, data_len_of}
-use Rattle.fv_tree.specs.Meaning.{section_kind_of, section_is_extended, body_of, body_len}
+use Rattle.fv_tree.specs.Meaning.{BodyMeaning, Leaf, Group, Nested, body_len}
+use Rattle.fv_tree.specs.Meaning.{head_of, files_of, file_name_of, attributes_of, content_of, data_len_of}
+use Rattle.fv_tree.specs.MeaningParts.{file_kind_of, section_kind_of, section_is_extended, body_of}
 
 -- ---- what a leaf shows
 

@@ -1,6 +1,7 @@
 -- Where the bytes of an input come from.
-use Rattle.std.specs.Prelude.{◌≡◌, ℕ, ⊤, List, [], Option, Some, None, String}
+use Rattle.std.specs.Prelude.{◌≡◌, ℕ, List, [], Option, Some, None, String}
 use Rattle.std.specs.Global.{Global}
+use Rattle.std.specs.String.{string_bytes}
 use Rattle.fv_command.specs.declared.source.Source.{Source}
 use Rattle.fv_command.specs.declared.source.Source.TheVariants.{Standard, File, Missing, Nothing}
 
@@ -12,19 +13,19 @@ unread of_input of_file (File file) = of_file file
 unread of_input of_file Missing = Some []
 unread of_input of_file Nothing = Some []
 
--- the source is a file, or one that could not be opened
-abbrev pub IsFileOrMissing : {S F : Type 0} → Source S F → Type 0
-IsFileOrMissing (File file) = ⊤
-IsFileOrMissing Missing = ⊤
-IsFileOrMissing _ = ⊥
+-- the source is what opening a path gives: the file, or the mark that it cannot be opened
+abbrev pub IsOpened : {S F : Type 0} → (List ℕ → Option F → Type 0) → List ℕ → Source S F → Type 0
+IsOpened opens path (File file) = opens path (Some file)
+IsOpened opens path Missing = opens path None
+IsOpened opens path _ = ⊥
 
--- the source of a command's first input: standard input if no file is named, else the file
-abbrev pub IsFirstSource : {S F : Type 0} → Option (String Global) → Source S F → Type 0
-IsFirstSource None (Standard reader) = ⊤
-IsFirstSource None source = ⊥
-IsFirstSource (Some path) source = IsFileOrMissing source
+-- the source of a command's first input: standard input if no file is named, else the file at that path
+abbrev pub IsFirstSource : {S F : Type 0} → (List ℕ → Option F → Type 0) → (S → Type 0) → Option (String Global) → Source S F → Type 0
+IsFirstSource opens is_standard None (Standard reader) = is_standard reader
+IsFirstSource opens is_standard None source = ⊥
+IsFirstSource opens is_standard (Some path) source = IsOpened opens (string_bytes path) source
 
--- the source of its second input: there is none if no file is named
-abbrev pub IsSecondSource : {S F : Type 0} → Option (String Global) → Source S F → Type 0
-IsSecondSource None source = source ≡ Nothing
-IsSecondSource (Some path) source = IsFileOrMissing source
+-- the source of its second input: there is none if no file is named, else the file at that path
+abbrev pub IsSecondSource : {S F : Type 0} → (List ℕ → Option F → Type 0) → Option (String Global) → Source S F → Type 0
+IsSecondSource opens None source = source ≡ Nothing
+IsSecondSource opens (Some path) source = IsOpened opens (string_bytes path) source

@@ -3,13 +3,14 @@ use Rattle.std.specs.Prelude.{◌≡◌, ◌⊎◌, ℕ, Bool, true, false, List
 use Rattle.fv_base.specs.Faults.{out_of_memory}
 use Rattle.fv_base.specs.declared.fault.Fault.{Fault}
 use Rattle.fv_canon.specs.Headline.{NormalisesTo}
-use Rattle.fv_canon.specs.Layouts.{Unfit}
+use Rattle.fv_canon.specs.LayoutFaults.{Unfit}
 use Rattle.fv_canon.specs.Refusals.{NotRead, Refuses}
 use Rattle.fv_canon.specs.FlashImages.{NormalisesAll, RefusesAll}
 use Rattle.fv_tree.specs.FoundVolumes.{Found}
 use Rattle.fv_tree.specs.Meaning.{Meaning, files_of}
 use Rattle.fv_tree.specs.FileNames.{file_named}
-use Rattle.fv_lines.specs.CellTexts.{CellsText, NotTiled}
+use Rattle.fv_lines.specs.CellTexts.{CellsText}
+use Rattle.fv_tree.specs.VolumeCells.{NotTiled}
 use Rattle.fv_command.specs.CheckTexts.{CheckText}
 use Rattle.fv_text.specs.HexText.{ShowsBytes}
 use Rattle.fv_command.specs.Inputs.{BeginsWith, BeginsNone}

@@ -16,6 +16,7 @@ mod image_text;
 mod inputs;
 mod leaf_text;
 mod list_text;
+mod opener;
 mod output;
 mod pads;
 mod plan_run;
@@ -28,8 +29,9 @@ mod sums;
 mod task_run;
 
 pub use fault_text::{refuse, say};
+pub use opener::{Opener, run_over};
 pub use output::Output;
 pub use plan_run::run_plan;
 pub use run_end::close;
-pub use source::{Source, open};
+pub use source::Source;
 pub use status::Status;

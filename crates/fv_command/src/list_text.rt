@@ -2,9 +2,11 @@
 
 ghost use Rattle.std.specs.Prelude.{◌≡◌, ◌⊎◌, ℕ, List, IfErr, IfOk, OnOk, true};
 ghost use Rattle.fv_base.specs.Faults.{out_of_memory};
-ghost use Rattle.fv_canon.specs.Layouts.{AllFit, Fits, Unfit};
+ghost use Rattle.fv_canon.specs.LayoutFaults.{AllFit, Unfit};
+ghost use Rattle.fv_canon.specs.Layouts.{Fits};
 ghost use Rattle.fv_canon.specs.Volumes.{volumes_in_body, volumes_in_content, volumes_in_files, volumes_in_sections};
-ghost use Rattle.fv_tree.specs.Meaning.{files_from, sections_from, section_kind_of, body_of, content_of};
+ghost use Rattle.fv_tree.specs.MeaningParts.{files_from, sections_from, section_kind_of, body_of};
+ghost use Rattle.fv_tree.specs.Meaning.{content_of};
 ghost use Rattle.fv_tree.specs.Views.{body_view, content_view};
 ghost use Rattle.fv_command.specs.inner.Indents.{levels};
 ghost use Rattle.fv_command.specs.inner.SumRuns.{SumsStop};

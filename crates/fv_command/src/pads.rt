@@ -8,9 +8,9 @@ ghost use Rattle.fv_command.specs.inner.CheckRuns.{NotedCells, noted_pads};
 ghost use Rattle.fv_command.specs.CheckTexts.{AreCells};
 
 use fv_base::{Fault, Polarity, Sink};
-use fv_file::{Cells, cells};
-use fv_head::verify_fv;
+use fv_file::Cells;
 use fv_lines::put_pad_notes;
+use fv_tree::volume_cells;
 use std::alloc::Global;
 
 // The cells of the volume that the input is, and the value of its erased bits.
@@ -19,14 +19,7 @@ fn outer_cells(alloc: Global, input: &[u8]) -> Result<(Cells<'_>, Polarity), Fau
     ensures ok { IfOk result (λ r. (m : Meaning) → Accepted input.now m → AreCells m input.now r.1 r.0) }
     ensures err { IfErr result (λ f. f ≡ out_of_memory) }
 {
-    let extent = verify_fv(input)?;
-    let list = cells(
-        alloc,
-        input,
-        extent.first,
-        extent.file_system,
-        extent.polarity,
-    )?;
+    let (extent, list) = volume_cells(alloc, input)?;
     Ok((list, extent.polarity))
 }
 

@@ -4,11 +4,10 @@ ghost use Rattle.std.specs.Io.{ReadsAtMost};
 ghost use Rattle.std.specs.Io.KnownBytes.{ReadConsumes};
 ghost use Rattle.std.specs.IoError.{error_kind};
 ghost use Rattle.std.specs.Prelude.{◌≡◌, IsErrAnd, Ok};
-ghost use Rattle.fv_command.specs.Sources.{IsFileOrMissing, unread};
+ghost use Rattle.fv_command.specs.Sources.{unread};
 
+use std::io;
 use std::io::{ErrorKind, Read};
-use std::rt::Files;
-use std::{fs, io};
 
 /// Where the bytes of an input come from.
 #[derive(Drop)]
@@ -44,15 +43,5 @@ impl<S: Read, F: Read> Read for Source<S, F> {
             Source::Missing => Err(io::Error::from(ErrorKind::NotFound)),
             Source::Nothing => Ok(0),
         }
-    }
-}
-
-/// The file at a path; Missing if it cannot be opened.
-pub fn open<R: Files + Input>(rt: &R, path: &str) -> Source<R::Reader, R::File>
-    ensures { IsFileOrMissing result }
-{
-    match fs::open(rt, path) {
-        Ok(file) => Source::File(file),
-        Err(_) => Source::Missing,
     }
 }

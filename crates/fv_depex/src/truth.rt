@@ -1,6 +1,6 @@
 //! Expressions, evaluated.
 
-ghost use Rattle.std.specs.Prelude.{◌≡◌, ◌≢◌, if◌then◌else◌, None, Some, [], ◌∷◌, ◌<◌, length, reverse};
+ghost use Rattle.std.specs.Prelude.{◌≡◌, if◌then◌else◌, true, None, Some, [], ◌∷◌, ◌<◌, length, reverse};
 ghost use Rattle.std.specs.Prelude.{IfSome, IfNone, IfOk, IfErr};
 ghost use Rattle.fv_depex.specs.OpChecks.{depex_out_of_memory};
 ghost use Rattle.fv_depex.specs.inner.Evaluation.{evaluate_op, evaluate_ops, top};
@@ -36,44 +36,40 @@ fn top(stack: &mut Vec<bool>) -> Option<bool>
     stack.pop()
 }
 
-// The value that an op pushes, with the values that it takes popped; None if the stack did not hold
-// them, or if the op pushes none.
-fn value_of(stack: &mut Vec<bool>, op: &Op, installed: &[Guid]) -> Option<bool>
-    ensures some { IfSome result (λ v. evaluate_op installed.now (reverse stack.old.items) op.now
-        ≡ Some (v ∷ reverse stack.new.items)) }
-    ensures none { op.now ≢ Op.End → op.now ≢ Op.Sor
-        → IfNone result (evaluate_op installed.now (reverse stack.old.items) op.now ≡ None) }
+// Pushes a value.
+fn push(stack: &mut Vec<bool>, value: bool) -> Result<bool, AllocError>
+    ensures done { IfOk result (λ done. done ≡ true) }
+    ensures pushed { IfOk result (λ _. reverse stack.new.items ≡ value ∷ reverse stack.old.items) }
 {
-    match op {
-        Op::Push(guid) => Some(is_among(guid, installed)),
-        Op::True => Some(true),
-        Op::False => Some(false),
-        Op::Not => Some(!stack.pop()?),
-        Op::And => {
-            let (first, second) = pop_two(stack)?;
-            Some(first && second)
-        }
-        Op::Or => {
-            let (first, second) = pop_two(stack)?;
-            Some(first || second)
-        }
-        Op::Before(_) | Op::After(_) | Op::End | Op::Sor => None,
-    }
+    stack.push(value)?;
+    Ok(true)
 }
 
-// Evaluates one op on the stack; false if the stack did not hold what the op takes.
+// Evaluates one op on the stack; false if the stack did not hold what the op takes, or if the op
+// has no truth value.
 fn evaluate_op(stack: &mut Vec<bool>, op: &Op, installed: &[Guid]) -> Result<bool, AllocError>
     ensures { IfOk result (λ done. evaluate_op installed.now (reverse stack.old.items) op.now
         ≡ (if done then Some (reverse stack.new.items) else None)) }
 {
-    if *op == Op::End || *op == Op::Sor {
-        return Ok(true);
+    match op {
+        Op::Push(guid) => push(stack, is_among(guid, installed)),
+        Op::True => push(stack, true),
+        Op::False => push(stack, false),
+        Op::Not => match stack.pop() {
+            Some(value) => push(stack, !value),
+            None => Ok(false),
+        },
+        Op::And => match pop_two(stack) {
+            Some((first, second)) => push(stack, first && second),
+            None => Ok(false),
+        },
+        Op::Or => match pop_two(stack) {
+            Some((first, second)) => push(stack, first || second),
+            None => Ok(false),
+        },
+        Op::End | Op::Sor => Ok(true),
+        Op::Before(_) | Op::After(_) => Ok(false),
     }
-    let Some(value) = value_of(stack, op, installed) else {
-        return Ok(false);
-    };
-    stack.push(value)?;
-    Ok(true)
 }
 
 // The value that the ops leave on top, if they leave one.

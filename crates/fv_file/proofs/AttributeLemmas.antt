@@ -1,20 +1,13 @@
 -- Single bits of a file's attributes.
 use Rattle.std.proofs.lemmas.Grind.{common_steps}
-use Rattle.std.proofs.Common.{◌≡◌, ◌<◌, ℕ, zero, suc, ◌+◌, ◌*◌, ◌/◌, ◌%◌, bit_and, bit_or, ap, ◌∙◌, arith, true, false}
+use Rattle.std.proofs.Common.{◌≡◌, ℕ, ◌+◌, ◌/◌, ◌%◌, bit_and, bit_or, ap, ◌∙◌, arith, true, false}
 use Rattle.std.specs.Prelude.{◌==◌}
 use Rattle.std.specs.Int.{bit_at}
-use Rattle.std.proofs.lemmas.Bool.{eq-eqb}
 use Rattle.std.proofs.lemmas.Bool.Decides.{nat_tests}
 use Rattle.std.proofs.lemmas.Nat.{and_mask, or_disjoint}
 use Rattle.std.proofs.lemmas.Nat.Bits.{and_pow, bit_at-lt}
-use Rattle.fv_base.proofs.Laws.{not_equal}
+use Rattle.fv_base.proofs.Laws.{one_bit}
 use Rattle.fv_file.specs.Attributes.{is_large}
-
--- a mask of one bit shows that bit
-one_bit : (b m : ℕ) → b < 2 → 0 < m → (b * m == m) ≡ (b == 1)
-one_bit zero m l some = not_equal (0 * m) m (λ e. omega (arith, e, some))
-one_bit (suc zero) m l some = eq-eqb (1 * m) m (omega arith)
-one_bit (suc (suc b)) m l some = absurd (omega arith)
 
 pub bit_2 : (a : ℕ) → (bit_and a 4 == 4) ≡ (a / 4 % 2 == 1)
 bit_2 a = ap (λ n. n == 4) (and_pow a 2) ∙ one_bit (bit_at a 2) 4 (bit_at-lt a 2) (omega arith)

@@ -6,12 +6,14 @@ use Rattle.std.specs.Prelude.{◌≢◌, Result, Ok, Err, IfErr, IsErrAnd}
 use Rattle.std.proofs.lemmas.List.{take-append-drop, length-take-le, map_push, take_all}
 use Rattle.std.proofs.Math.Seq.{take-add}
 use Rattle.fv_base.specs.Faults.{out_of_memory}
-use Rattle.fv_base.specs.Flash.{AllAre, all_are, erased_byte}
+use Rattle.fv_base.specs.Flash.{AllAre, erased_byte}
+use Rattle.fv_base.specs.Measures.{all_are}
 use Rattle.fv_base.specs.declared.fault.Fault.{Fault}
 use Rattle.fv_base.specs.declared.flash.FileSystem.{FileSystem}
 use Rattle.fv_base.specs.declared.flash.Polarity.{Polarity}
-use Rattle.fv_file.specs.Cells.{CellForm, Free, offset_of, cell_len, IsCell, Tiles, NoneFree, CellsWithin}
-use Rattle.fv_file.specs.FileChecks.{IsFirstCellFault}
+use Rattle.fv_file.specs.Cells.{CellForm, Free, offset_of, IsCell, Tiles}
+use Rattle.fv_file.specs.CellLengths.{cell_len, CellsWithin}
+use Rattle.fv_file.specs.FileChecks.{NoneFree, IsFirstCellFault}
 use Rattle.fv_file.specs.inner.CellVerdicts.{cell_verdict}
 use Rattle.fv_file.specs.CellForms.{cell_form}
 use Rattle.fv_file.specs.declared.cell.Cell.{Cell}

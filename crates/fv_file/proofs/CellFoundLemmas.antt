@@ -14,7 +14,8 @@ use Rattle.fv_base.specs.declared.flash.FileSystem.{FileSystem}
 use Rattle.fv_base.specs.declared.flash.Polarity.{Polarity}
 use Rattle.fv_base.proofs.Laws.{all_hold, and_split}
 use Rattle.fv_file.specs.Attributes.{is_large}
-use Rattle.fv_file.specs.Cells.{CellForm, Valid, Pad, Dead, Stub, offset_of, cell_len, is_free, IsFilled, IsCell}
+use Rattle.fv_file.specs.Cells.{CellForm, Valid, Pad, Dead, Stub, offset_of, is_free, IsFilled, IsCell}
+use Rattle.fv_file.specs.CellLengths.{cell_len}
 use Rattle.fv_file.specs.FileChecks.{file_header_len_at, file_size_at, payload_at, state_checks, cell_checks}
 use Rattle.fv_file.specs.Files.{attributes_at, file_header_len, head_in, pad_kind}
 use Rattle.fv_file.specs.inner.CellVerdicts.{cell_in, cell_of}
@@ -25,7 +26,7 @@ use Rattle.fv_file.specs.declared.state.FileState.{FileState}
 use Rattle.fv_file.specs.declared.state.FileState.TheVariants as states
 use Rattle.fv_file.proofs.FileLemmas.{header_least, FileAt, file_at}
 use Rattle.fv_file.proofs.SortLemmas.{StatesOf, sorted}
-use Rattle.fv_file.proofs.StateLemmas.{state_read}
+use Rattle.fv_file.proofs.StateLemmas.{free_bits}
 
 -- the bytes begin with a cell that is not free
 pub record CellStandsAt (system : FileSystem) (polarity : Polarity) (at : ℕ) (c : CellForm) (r : List ℕ) : Type 0 where
@@ -105,15 +106,15 @@ sort_stands : (s : FileSystem) (p : Polarity) (st : FileState) (at : ℕ) (r : L
     → (k : StateSort) → StatesOf k st → AllHold (sort_checks k s (is_alive st) at r)
     → CellStandsAt s p at (cell_of k at (head_in st r) (payload_at r)) r
 sort_stands s p st at r in_eights long state used sorts.Erased is all =
-    let none : bits_of p (slice_index r 23) ≡ 0 = subst (λ (t : FileState). StateOf (slice_index r 23) p t) is state in
+    let none : bits_of p (slice_index r 23) ≡ 0 = free_bits p (slice_index r 23) (subst (λ (t : FileState). StateOf (slice_index r 23) p t) is state) in
     cc (used, eq-eqb _ 0 none)
 sort_stands s p st at r in_eights long state used sorts.Unfinished (inl is) all =
     stub_stands s p at r (leb-true _ _ all.0) (inl (subst (λ (t : FileState). StateOf (slice_index r 23) p t) is state))
 sort_stands s p st at r in_eights long state used sorts.Unfinished (inr is) all =
     stub_stands s p at r (leb-true _ _ all.0) (inr (subst (λ (t : FileState). StateOf (slice_index r 23) p t) is state))
 sort_stands s p st at r in_eights long state used sorts.Dead is all =
-    filled_stands s p st at r (Dead at (up_to_8 (file_size_at r))) in_eights (file_at s p st at r long state all) refl refl refl
-    (λ filled len. (head_in st r, payload_at r, filled, is, len))
+    filled_stands s p st at r (Dead at (up_to_8 (file_size_at r)) st) in_eights (file_at s p st at r long state all) refl refl refl
+    (λ filled len. (head_in st r, payload_at r, filled, refl, is, len))
 sort_stands s p st at r in_eights long state used sorts.Valid alive all = kind (slice_index r 18 == pad_kind) refl where
   file : FileAt s p st r
   file = file_at s p st at r long state all
@@ -138,5 +139,5 @@ cell_stands s p at r in_eights none =
         → not (bits_of p (slice_index r 23) == 0) ≡ true → AllHold (state_checks o s at r) → CellStandsAt s p at (cell_in o at r) r
     by_state None e long used all = let failed = all.0 in cc
     by_state (Some st) e long used all =
-        sort_stands s p st at r in_eights long (state_read p (slice_index r 23) st e) used (sort_of st) (sorted st).states
+        sort_stands s p st at r in_eights long e used (sort_of st) (sorted st).states
         (subst (λ (cs : List (Check Fault)). AllHold cs) ((sorted st).checks s at r) all)

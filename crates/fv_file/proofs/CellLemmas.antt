@@ -14,7 +14,8 @@ use Rattle.fv_base.specs.declared.flash.FileSystem.{FileSystem}
 use Rattle.fv_base.specs.declared.flash.Polarity.{Polarity}
 use Rattle.fv_base.specs.declared.flash.Polarity.TheVariants.{Ones, Zeros}
 use Rattle.fv_base.proofs.Laws.{all_hold, and_split, first_is, not_at_most, not_first, verdict_err, verdict_ok}
-use Rattle.fv_file.specs.Cells.{CellForm, Free, offset_of, cell_len, is_free, IsCell}
+use Rattle.fv_file.specs.Cells.{CellForm, Free, offset_of, is_free, IsCell}
+use Rattle.fv_file.specs.CellLengths.{cell_len}
 use Rattle.fv_file.specs.FileChecks.{payload_at, file_checks, state_checks, cell_checks}
 use Rattle.fv_file.specs.Files.{head_in}
 use Rattle.fv_file.specs.inner.CellVerdicts.{file_verdict, cell_in, cell_of, cell_with, sort_verdict, state_verdict, cell_verdict}
@@ -28,7 +29,7 @@ use Rattle.fv_file.proofs.CellPartLemmas.{cell_span, free_all}
 use Rattle.fv_file.proofs.CellReadLemmas.{CellIsRead, cell_reads}
 use Rattle.fv_file.proofs.ErasedLemmas.{all_at}
 use Rattle.fv_file.proofs.SortLemmas.{StatesOf, sorted}
-use Rattle.fv_file.proofs.StateLemmas.{state_read, state_shown}
+use Rattle.fv_file.proofs.StateLemmas.{free_bits, bits_free}
 use Rattle.fv_file.proofs.TilingLemmas.{OneCell}
 
 -- ---- the verdict on the bytes at a place
@@ -67,10 +68,10 @@ verdict_is s p at r = go (nat_lt (length r) 24) refl (bits_of p (slice_index r 2
   go : (t : Bool) → nat_lt (length r) 24 ≡ t → (z : Bool) → (bits_of p (slice_index r 23) == 0) ≡ z
       → cell_verdict s p at r ≡ verdict_by (first_fault (cell_checks s p at r)) (cell_in (state_of p (slice_index r 23)) at r)
   go true l z e = rw (l, not_at_most 24 (length r) (ltb-true (length r) 24 l)) refl
-  go false l true e = rw (l, e, le-leb 24 (length r) (ltb-false (length r) 24 l), state_shown p (slice_index r 23) states.Free (eqb-true _ 0 e)) refl
+  go false l true e = rw (l, e, le-leb 24 (length r) (ltb-false (length r) 24 l), bits_free p (slice_index r 23) (eqb-true _ 0 e)) refl
   go false l false e =
       rw (l, e, le-leb 24 (length r) (ltb-false (length r) 24 l)) (state_is s p (state_of p (slice_index r 23)) at r
-      (λ free. cc (e, eq-eqb _ 0 (state_read p (slice_index r 23) states.Free free))))
+      (λ free. cc (e, eq-eqb _ 0 (free_bits p (slice_index r 23) free))))
 
 -- so a cell that is read is there, and the fault is the first
 pub verdict_stands : (s : FileSystem) (p : Polarity) (at : ℕ) (r : List ℕ) (c : CellForm) → length r % 8 ≡ 0 → cell_verdict s p at r ≡ Ok c
@@ -87,7 +88,7 @@ verdict_first s p at r f is =
 
 -- ---- one cell at a place
 
-no_bits : (p : Polarity) (b : ℕ) → b ≡ erased_byte p → bits_of p b ≡ 0
+pub no_bits : (p : Polarity) (b : ℕ) → b ≡ erased_byte p → bits_of p b ≡ 0
 no_bits Ones b e = rw e refl
 no_bits Zeros b e = rw e refl
 

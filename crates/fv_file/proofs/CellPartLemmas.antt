@@ -7,7 +7,8 @@ use Rattle.fv_base.specs.Value.{up_to_8}
 use Rattle.fv_base.specs.declared.flash.FileSystem.{FileSystem}
 use Rattle.fv_base.specs.declared.flash.Polarity.{Polarity}
 use Rattle.fv_file.specs.Attributes.{is_large}
-use Rattle.fv_file.specs.Cells.{CellForm, Valid, Pad, Dead, Stub, Free, offset_of, cell_len, is_free, IsFilled, IsCell, IsMadeUp}
+use Rattle.fv_file.specs.Cells.{CellForm, Valid, Pad, Dead, Stub, Free, offset_of, is_free, IsFilled, IsCell}
+use Rattle.fv_file.specs.CellLengths.{cell_len, IsMadeUp}
 use Rattle.fv_file.specs.declared.head.FileHead.{FileHead}
 use Rattle.fv_file.proofs.FileLemmas.{header_least}
 use Rattle.fv_file.proofs.TilingLemmas.{NotEmpty}
@@ -27,7 +28,7 @@ filled_span s p head payload b filled =
 pub cell_span : (s : FileSystem) (p : Polarity) (c : CellForm) (u : List ℕ) → IsCell s p c u → cell_len c ≡ length u
 cell_span s p (Valid at head payload) u is = filled_span s p head payload u is.0
 cell_span s p (Pad at head payload) u is = filled_span s p head payload u is.0
-cell_span s p (Dead at len) u is = is.4
+cell_span s p (Dead at len state) u is = is.5
 cell_span s p (Stub at len) u is = is.2
 cell_span s p (Free at len) u is = is.2
 
@@ -38,20 +39,20 @@ file_least s p head payload b filled = grind (arith, common_steps, length-append
 pub not_empty : (s : FileSystem) (p : Polarity) → NotEmpty s p
 not_empty s p (Valid at head payload) u is = omega (arith, file_least s p head payload u is.0)
 not_empty s p (Pad at head payload) u is = omega (arith, file_least s p head payload u is.0)
-not_empty s p (Dead at len) u is = omega (arith, file_least s p is.0 is.1 u is.2)
+not_empty s p (Dead at len state) u is = omega (arith, file_least s p is.0 is.1 u is.2)
 not_empty s p (Stub at len) u is = omega (arith, header_least (is_large (slice_index u 19)), is.1)
 not_empty s p (Free at len) u is = omega (arith, is.0, is.2)
 
 -- ---- the parts of a cell
 
-file_made_up : (s : FileSystem) (p : Polarity) (head : FileHead) (payload b : List ℕ) → IsFilled s p head payload b
+pub file_made_up : (s : FileSystem) (p : Polarity) (head : FileHead) (payload b : List ℕ) → IsFilled s p head payload b
     → head.header_len + length payload ≡ head.size
 file_made_up s p head payload b filled = grind (arith, common_steps, length-append)
 
 pub made_up : (s : FileSystem) (p : Polarity) (c : CellForm) (u : List ℕ) → IsCell s p c u → IsMadeUp c
 made_up s p (Valid at head payload) u is = file_made_up s p head payload u is.0
 made_up s p (Pad at head payload) u is = file_made_up s p head payload u is.0
-made_up s p (Dead at len) u is = tt
+made_up s p (Dead at len state) u is = tt
 made_up s p (Stub at len) u is = tt
 made_up s p (Free at len) u is = tt
 
@@ -60,6 +61,6 @@ pub free_all : (s : FileSystem) (p : Polarity) (c : CellForm) (u : List ℕ) →
     → (c ≡ Free (offset_of c) (length u)) × AllAre (erased_byte p) u
 free_all s p (Valid at head payload) u is f = cc
 free_all s p (Pad at head payload) u is f = cc
-free_all s p (Dead at len) u is f = cc
+free_all s p (Dead at len state) u is f = cc
 free_all s p (Stub at len) u is f = cc
 free_all s p (Free at len) u is f = (ap (λ (k : ℕ). Free at k) is.2, is.1)

@@ -25,7 +25,7 @@ use Rattle.fv_file.specs.declared.state.FileState.TheVariants as states
 use Rattle.fv_file.proofs.CellPartLemmas.{filled_span}
 use Rattle.fv_file.proofs.FileLemmas.{header_least, HasContent, file_reads}
 use Rattle.fv_file.proofs.SortLemmas.{sorted}
-use Rattle.fv_file.proofs.StateLemmas.{state_shown, same_state}
+use Rattle.fv_file.proofs.StateLemmas.{bits_free, same_state}
 
 pub record CellIsRead (system : FileSystem) (polarity : Polarity) (at : ℕ) (c : CellForm) (r : List ℕ) : Type 0 where
   pub checked : first_fault (cell_checks system polarity at r) ≡ None
@@ -36,12 +36,12 @@ shown : (s : FileSystem) (p : Polarity) (at : ℕ) (c : CellForm) (r : List ℕ)
     → StateOf (slice_index r 23) p st → sort_of st ≡ k → k ≢ sorts.Erased → AllHold (sort_checks k s (is_alive st) at r)
     → cell_of k at (head_in st r) (payload_at r) ≡ c → CellIsRead s p at c r
 shown s p at c r st k long state sort used all form =
-    let is : state_of p (slice_index r 23) ≡ Some st = state_shown p (slice_index r 23) st state in
+    let is : state_of p (slice_index r 23) ≡ Some st = state in
     let checks : state_checks (state_of p (slice_index r 23)) s at r ≡ sort_checks k s (is_alive st) at r =
     ap (λ (o : Option FileState). state_checks o s at r) is
     ∙ (sorted st).checks s at r ∙ ap (λ (j : StateSort). sort_checks j s (is_alive st) at r) sort in
     let bits : (bits_of p (slice_index r 23) == 0) ≡ false =
-    not_equal _ 0 (λ z. used (sym sort ∙ ap sort_of (same_state st states.Free (sym is ∙ state_shown p (slice_index r 23) states.Free z)))) in
+    not_equal _ 0 (λ z. used (sym sort ∙ ap sort_of (same_state st states.Free (sym is ∙ bits_free p (slice_index r 23) z)))) in
     record {
       checked = none_faulty (cell_checks s p at r) (
         and_join _ _ (le-leb 24 (length r) long) (rw bits refl),
@@ -85,13 +85,13 @@ cell_reads s p (Valid at head payload) u w (filled, alive, sound) f =
 cell_reads s p (Pad at head payload) u w (filled, alive, pad) f =
     filled_reads s p at _ head payload u w sorts.Valid filled ((sorted head.state).valid alive) (λ z. cc) (λ alive r. refl)
     (λ a. inl pad) (if_true _ _ _ (eq-eqb head.kind pad_kind pad))
-cell_reads s p (Dead at len) u w (head, payload, filled, state, long) f =
+cell_reads s p (Dead at len st) u w (head, payload, filled, is, state, long) f =
     filled_reads s p at _ head payload u w sorts.Dead filled (sort state) (λ z. cc) (λ alive r. refl) (λ a. never (sort state) a)
-    (ap (λ (k : ℕ). Dead at k) (filled_span s p head payload u filled ∙ sym long))
+    (ap (λ (k : ℕ). Dead at k head.state) (filled_span s p head payload u filled ∙ sym long) ∙ ap (λ (t : FileState). Dead at len t) is)
   where
-    sort : (head.state ≡ states.HeaderValid) ⊎ (head.state ≡ states.Deleted) → sort_of head.state ≡ sorts.Dead
-    sort (inl e) = ap sort_of e
-    sort (inr e) = ap sort_of e
+    sort : (st ≡ states.HeaderValid) ⊎ (st ≡ states.Deleted) → sort_of head.state ≡ sorts.Dead
+    sort (inl e) = ap sort_of (is ∙ e)
+    sort (inr e) = ap sort_of (is ∙ e)
 
     never : {A : Type 0} → sort_of head.state ≡ sorts.Dead → is_alive head.state ≡ true → A
     never e alive = cc (e, (sorted head.state).valid alive)

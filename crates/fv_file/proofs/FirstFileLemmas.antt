@@ -12,7 +12,8 @@ use Rattle.fv_base.specs.declared.fault.FaultKind.TheVariants as kinds
 use Rattle.fv_base.specs.declared.flash.FileSystem.{FileSystem}
 use Rattle.fv_base.specs.declared.flash.Polarity.{Polarity}
 use Rattle.fv_file.specs.FileChecks.{file_size_at, payload_at, file_checks, is_standing, verify_checks}
-use Rattle.fv_file.specs.Files.{pad_kind, head_in, IsSound, BeginsFile}
+use Rattle.fv_file.specs.Files.{pad_kind, head_in, IsSound}
+use Rattle.fv_file.specs.HeaderReads.{BeginsFile}
 use Rattle.fv_file.specs.inner.CellVerdicts.{file_verdict, standing_verdict, verify_verdict}
 use Rattle.fv_file.specs.States.{state_of, is_alive}
 use Rattle.fv_file.specs.declared.head.FileHead.{FileHead}
@@ -20,7 +21,6 @@ use Rattle.fv_file.specs.declared.state.FileState.{FileState}
 use Rattle.fv_file.specs.declared.state.FileState.TheVariants as states
 use Rattle.fv_base.proofs.Laws.{all_hold, first_is, none_faulty, not_at_most, not_less, verdict_err, verdict_none, verdict_ok}
 use Rattle.fv_file.proofs.FileLemmas.{FileAt, file_at, file_reads}
-use Rattle.fv_file.proofs.StateLemmas.{state_read, state_shown}
 
 -- ---- the verdict on the bytes
 
@@ -77,14 +77,14 @@ begins_found : (s : FileSystem) (p : Polarity) (b : List ℕ) → AllHold (verif
 begins_found s p b (long, (standing, checks)) = go (state_of p (slice_index b 23)) refl standing where
   go : (o : Option FileState) → state_of p (slice_index b 23) ≡ o → is_standing o ≡ true → BeginsFile s p (head_of o b) b
   go None e alive = cc
-  go (Some st) e alive = begins_at s p st b alive (file_at s p st 0 b (leb-true _ _ long) (state_read p (slice_index b 23) st e)
+  go (Some st) e alive = begins_at s p st b alive (file_at s p st 0 b (leb-true _ _ long) e
       (subst (λ (t : Bool). AllHold (file_checks s t 0 b)) (sym alive) checks))
 
 pub begins_only : (s : FileSystem) (p : Polarity) (b : List ℕ) (head : FileHead) → BeginsFile s p head b → verify_verdict s p b ≡ Ok head
 begins_only s p b head begins =
     let r : List ℕ = begins.file ++ begins.behind in
     let reads = file_reads s p head begins.payload begins.file begins.behind begins.is_file in
-    let state : state_of p (slice_index r 23) ≡ Some head.state = state_shown p (slice_index r 23) head.state reads.state in
+    let state : state_of p (slice_index r 23) ≡ Some head.state = reads.state in
     let checks : AllHold (verify_checks s p r) = (
       le-leb 24 (length r) reads.long,
       (

@@ -15,5 +15,6 @@ pub mod NewHeaderLaws
 pub mod NewHeaderLemmas
 pub mod SortLemmas
 pub mod StateLemmas
+pub mod StrideLemmas
 pub mod TilingLaws
 pub mod TilingLemmas

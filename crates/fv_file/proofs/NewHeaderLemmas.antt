@@ -11,7 +11,7 @@ use Rattle.std.proofs.lemmas.List.Sums.{sum_by-append}
 use Rattle.std.proofs.lemmas.Bool.Decides.{nat_tests}
 use Rattle.std.proofs.lemmas.Nat.{shr-shr}
 use Rattle.fv_base.specs.Guids.{bytes_of}
-use Rattle.fv_base.specs.Limits.{data_limit}
+use Rattle.fv_base.specs.Measures.{data_limit}
 use Rattle.fv_base.specs.Value.{IsBytes, le, le_bytes, field, le_at}
 use Rattle.fv_base.specs.declared.flash.FileSystem.{FileSystem}
 use Rattle.fv_base.specs.declared.flash.FileSystem.TheVariants.{Ffs3}
@@ -22,10 +22,11 @@ use Rattle.fv_base.proofs.Laws.{field_is, le-le_bytes}
 use Rattle.fv_file.specs.Attributes.{attribute_bits, is_large}
 use Rattle.fv_file.specs.Cells.{IsFilled}
 use Rattle.fv_file.specs.Files.{file_header_len, head_in, header_sum_of, pad_kind, file_size_in, IsFileHeader}
-use Rattle.fv_file.specs.States.{StateOf, is_alive}
+use Rattle.fv_file.specs.States.{StateOf, is_alive, state_of}
 use Rattle.fv_file.specs.inner.NewHeaderParts.{file_header, new_header_bytes}
-use Rattle.fv_file.specs.NewHeaders.{IsNewHeader, IsHeadOfFile, IsHeadOfPad, complement, fields_of, file_fields, file_head_of, header_bytes}
-use Rattle.fv_file.specs.NewHeaders.{header_with, needs_large, pad_fields, pad_head_of, pad_name, state_byte, with_large}
+use Rattle.fv_file.specs.HeaderReads.{IsNewHeader, IsHeadOfFile, IsHeadOfPad, fields_of, file_fields, pad_fields}
+use Rattle.fv_file.specs.NewHeaders.{complement, file_head_of, header_bytes}
+use Rattle.fv_file.specs.NewHeaders.{header_with, needs_large, pad_head_of, pad_name, state_byte, with_large}
 use Rattle.fv_file.specs.Files.{fixed_checksum}
 use Rattle.fv_file.specs.declared.attributes.FileAttributes.{FileAttributes}
 use Rattle.fv_file.specs.declared.head.FileHead.{FileHead}
@@ -195,8 +196,9 @@ length_is header_sum file_sum name kind attributes size false state long =
 
 -- the State byte of a new file
 state_is : (polarity : Polarity) → StateOf (state_byte polarity) polarity states.DataValid
-state_is Ones = (omega arith, omega arith)
-state_is Zeros = (omega arith, omega arith)
+unfolding state_of
+state_is Ones = refl
+state_is Zeros = refl
 
 -- a header with a right sum is that of its fields
 written_with : (polarity : Polarity) (header_sum file_sum : ℕ) (name : List ℕ) (kind attributes size : ℕ) (large : Bool) → length name ≡ 16

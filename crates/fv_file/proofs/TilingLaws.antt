@@ -7,7 +7,9 @@ use Rattle.fv_base.specs.Value.{IsBytes, up_to_8}
 use Rattle.fv_base.specs.declared.flash.FileSystem.{FileSystem}
 use Rattle.fv_base.specs.declared.flash.Polarity.{Polarity}
 use Rattle.fv_base.proofs.Laws.{bytes_back, bytes_front, field-append_front}
-use Rattle.fv_file.specs.Cells.{CellForm, Valid, Pad, Dead, Stub, Free, IsCell, IsFilled, Tiles, NoneFree, CellsWithin, offset_of, cell_len}
+use Rattle.fv_file.specs.Cells.{CellForm, Valid, Pad, Dead, Stub, Free, IsCell, IsFilled, Tiles, offset_of}
+use Rattle.fv_file.specs.CellLengths.{CellsWithin, cell_len}
+use Rattle.fv_file.specs.FileChecks.{NoneFree}
 use Rattle.fv_file.specs.declared.head.FileHead.{FileHead}
 use Rattle.fv_file.proofs.CellPartLemmas.{cell_span, made_up, not_empty}
 use Rattle.fv_file.proofs.FileLaws.{FileRead, cell_read_in, payload_behind}
@@ -69,7 +71,7 @@ cell_payload s p (Valid place head payload) x rest volume at e is o =
 cell_payload s p (Pad place head payload) x rest volume at e is o =
     filled_payload s p head payload x rest volume at place e is.0 o (cell_span s p (Pad place head payload) x is)
     (made_up s p (Pad place head payload) x is)
-cell_payload s p (Dead place len) x rest volume at e is o = tt
+cell_payload s p (Dead place len state) x rest volume at e is o = tt
 cell_payload s p (Stub place len) x rest volume at e is o = tt
 cell_payload s p (Free place len) x rest volume at e is o = tt
 
@@ -102,7 +104,7 @@ one_read : (system : FileSystem) (p : Polarity) (limit : ℕ) (c : CellForm) (x 
 one_read system p limit (Valid at head payload) x small most is =
     cell_read_in system p limit at head payload x small most is
 one_read system p limit (Pad at head payload) x small most is = tt
-one_read system p limit (Dead at len) x small most is = tt
+one_read system p limit (Dead at len state) x small most is = tt
 one_read system p limit (Stub at len) x small most is = tt
 one_read system p limit (Free at len) x small most is = tt
 

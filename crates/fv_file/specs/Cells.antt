@@ -1,20 +1,21 @@
 -- The cells of a volume's body (PI specification, volume 3, sections 3.2.2 and 3.2.3).
-use Rattle.std.specs.Prelude.{◌≡◌, ℕ, ◌+◌, ◌%◌, ◌<◌, ◌≤◌, ◌⊎◌, Bool, true, false, List, [], ◌∷◌, ◌++◌, length}
+use Rattle.std.specs.Prelude.{◌≡◌, ℕ, ◌+◌, ◌%◌, ◌<◌, ◌⊎◌, Bool, true, false, List, [], ◌∷◌, ◌++◌, length}
 use Rattle.fv_base.specs.Flash.{AllAre, erased_byte}
-use Rattle.fv_base.specs.Value.{up_to_8}
 use Rattle.fv_base.specs.declared.flash.FileSystem.{FileSystem}
 use Rattle.fv_base.specs.declared.flash.Polarity.{Polarity}
 use Rattle.fv_file.specs.Attributes.{is_large}
 use Rattle.fv_file.specs.Files.{attributes_at, file_header_len, pad_kind, state_at, IsFile, IsSound}
 use Rattle.fv_file.specs.States.{StateOf, is_alive}
 use Rattle.fv_file.specs.declared.head.FileHead.{FileHead}
+use Rattle.fv_file.specs.declared.state.FileState.{FileState}
 use Rattle.fv_file.specs.declared.state.FileState.TheVariants as states
 
--- a cell: its offset, in bytes from the volume's start, and either the header and data of a file or pad, or its length
+-- a cell: its offset, in bytes from the volume's start, and either the header and data of a file or pad, or its length,
+-- of a file that is not valid with its state
 pub data CellForm : Type 0 where
   Valid : ℕ → FileHead → List ℕ → CellForm
   Pad : ℕ → FileHead → List ℕ → CellForm
-  Dead : ℕ → ℕ → CellForm
+  Dead : ℕ → ℕ → FileState → CellForm
   Stub : ℕ → ℕ → CellForm
   Free : ℕ → ℕ → CellForm
 
@@ -22,17 +23,9 @@ pub data CellForm : Type 0 where
 abbrev pub offset_of : CellForm → ℕ
 offset_of (Valid at head payload) = at
 offset_of (Pad at head payload) = at
-offset_of (Dead at len) = at
+offset_of (Dead at len state) = at
 offset_of (Stub at len) = at
 offset_of (Free at len) = at
-
--- how many bytes a cell has, its filler included
-abbrev pub cell_len : CellForm → ℕ
-cell_len (Valid at head payload) = up_to_8 head.size
-cell_len (Pad at head payload) = up_to_8 head.size
-cell_len (Dead at len) = len
-cell_len (Stub at len) = len
-cell_len (Free at len) = len
 
 -- a free cell
 abbrev pub is_free : CellForm → Bool
@@ -55,9 +48,9 @@ IsCell system polarity (Valid at head payload) b =
     IsFilled system polarity head payload b × (is_alive head.state ≡ true) × IsSound head payload
 IsCell system polarity (Pad at head payload) b =
     IsFilled system polarity head payload b × (is_alive head.state ≡ true) × (head.kind ≡ pad_kind)
-IsCell system polarity (Dead at len) b =
-    (head : FileHead) × (payload : List ℕ) × IsFilled system polarity head payload b
-    × ((head.state ≡ states.HeaderValid) ⊎ (head.state ≡ states.Deleted)) × (len ≡ length b)
+IsCell system polarity (Dead at len state) b =
+    (head : FileHead) × (payload : List ℕ) × IsFilled system polarity head payload b × (head.state ≡ state)
+    × ((state ≡ states.HeaderValid) ⊎ (state ≡ states.Deleted)) × (len ≡ length b)
 IsCell system polarity (Stub at len) b =
     (StateOf (state_at b) polarity states.Construction ⊎ StateOf (state_at b) polarity states.HeaderInvalid)
     × (length b ≡ file_header_len (is_large (attributes_at b))) × (len ≡ length b)
@@ -69,19 +62,3 @@ Tiles system polarity at [] b = b ≡ []
 Tiles system polarity at (c ∷ cs) b =
     (x : List ℕ) × (rest : List ℕ) × (b ≡ x ++ rest) × IsCell system polarity c x × (offset_of c ≡ at)
     × (is_free c ≡ true → cs ≡ []) × Tiles system polarity (at + length x) cs rest
-
--- none of the cells is free
-abbrev pub NoneFree : List CellForm → Type 0
-NoneFree [] = Unit {0}
-NoneFree (c ∷ cs) = (is_free c ≡ false) × NoneFree cs
-
--- the header and the data of a file or pad have together the bytes that its size says
-abbrev pub IsMadeUp : CellForm → Type 0
-IsMadeUp (Valid at head payload) = head.header_len + length payload ≡ head.size
-IsMadeUp (Pad at head payload) = head.header_len + length payload ≡ head.size
-IsMadeUp _ = Unit {0}
-
--- each cell ends within `end` bytes from the volume's start
-abbrev pub CellsWithin : ℕ → List CellForm → Type 0
-CellsWithin end [] = Unit {0}
-CellsWithin end (c ∷ cs) = (offset_of c + cell_len c ≤ end) × IsMadeUp c × CellsWithin end cs

@@ -1,6 +1,7 @@
 -- The checks of a file and of a cell in a fixed order, and the first fault of a body.
-use Rattle.std.specs.Prelude.{ℕ, ◌+◌, ◌-◌, ◌<◌, ◌==◌, nat_le, ◌&&◌, ◌||◌, not, Bool, true, false, if◌then◌else◌, Option}
-use Rattle.std.specs.Prelude.{Some, None, List, [], ◌∷◌, length, take, drop}
+use Rattle.std.specs.List.{AllByRecursion}
+use Rattle.std.specs.Prelude.{ℕ, ◌≡◌, ◌+◌, ◌-◌, ◌<◌, ◌==◌, nat_le, ◌&&◌, ◌||◌, not, Bool, true, false, if◌then◌else◌}
+use Rattle.std.specs.Prelude.{Option, Some, None, List, [], ◌∷◌, length, take, drop}
 use Rattle.fv_base.specs.Checks.{Check, check, IsFirstFault}
 use Rattle.fv_base.specs.Flash.{AllAre, erased_byte}
 use Rattle.fv_base.specs.Value.{le_at}
@@ -10,7 +11,7 @@ use Rattle.fv_base.specs.declared.flash.FileSystem.{FileSystem}
 use Rattle.fv_base.specs.declared.flash.FileSystem.TheVariants.{Ffs2, Ffs3}
 use Rattle.fv_base.specs.declared.flash.Polarity.{Polarity}
 use Rattle.fv_file.specs.Attributes.{is_large, is_fixed}
-use Rattle.fv_file.specs.Cells.{CellForm, Tiles, NoneFree}
+use Rattle.fv_file.specs.Cells.{CellForm, Tiles, is_free}
 use Rattle.fv_file.specs.Files.{attributes_at, file_header_len, file_size_in, file_sum_at, file_sum_right, file_type_at}
 use Rattle.fv_file.specs.Files.{header_sum_of, pad_kind, state_at}
 use Rattle.fv_file.specs.States.{bits_of, state_of, is_alive}
@@ -100,6 +101,10 @@ verify_checks system polarity b =
     check (nat_le 24 (length b)) kinds.FileSize 20
     ∷ check (is_standing (state_of polarity (state_at b))) kinds.FileState 23
     ∷ file_checks system true 0 b
+
+-- none of the cells is free
+abbrev pub NoneFree : List CellForm → Type 0
+NoneFree cs = AllByRecursion (λ c. is_free c ≡ false) cs
 
 -- some cells, none of them free, tile the body up to the place `at`, and the bytes from there on are not all erased.
 -- The fault is that of the first check there that does not hold. `first` is where the body begins in its volume

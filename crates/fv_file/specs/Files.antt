@@ -1,13 +1,13 @@
 -- Files and their headers (PI specification, volume 3, section 3.2.3.1, EFI_FFS_FILE_HEADER and EFI_FFS_FILE_HEADER2).
-use Rattle.std.specs.Prelude.{◌≡◌, ◌≢◌, ℕ, ◌+◌, ◌%◌, ◌==◌, ◌⊎◌, Bool, true, false, if◌then◌else◌, List, ◌++◌, length}
-use Rattle.std.specs.Prelude.{take, drop, slice_index, sum}
+use Rattle.std.specs.Prelude.{◌≡◌, ◌≢◌, ℕ, ◌+◌, ◌%◌, ◌==◌, Bool, true, false, if◌then◌else◌, List, ◌++◌, length, take}
+use Rattle.std.specs.Prelude.{drop, slice_index, sum}
 use Rattle.fv_base.specs.Guids.{guid_of}
 use Rattle.fv_base.specs.Value.{le_at, field}
 use Rattle.fv_base.specs.declared.flash.FileSystem.{FileSystem}
 use Rattle.fv_base.specs.declared.flash.FileSystem.TheVariants.{Ffs3}
 use Rattle.fv_base.specs.declared.flash.Polarity.{Polarity}
 use Rattle.fv_file.specs.Attributes.{attribute_bits, attributes_by, is_fixed, is_large, is_summed}
-use Rattle.fv_file.specs.States.{StateOf, is_alive}
+use Rattle.fv_file.specs.States.{StateOf}
 use Rattle.fv_file.specs.declared.head.FileHead.{FileHead}
 use Rattle.fv_file.specs.declared.state.FileState.{FileState}
 
@@ -91,13 +91,3 @@ pub record IsSound (head : FileHead) (payload : List ℕ) : Type 0 where
   pub kind : head.kind ≢ pad_kind
   pub moves : is_fixed (attribute_bits head.attributes) ≡ false
   pub file_sum : file_sum_right (attribute_bits head.attributes) head.file_sum payload ≡ true
-
--- the bytes begin with a valid file or with a pad
-pub record BeginsFile (system : FileSystem) (polarity : Polarity) (head : FileHead) (b : List ℕ) : Type 0 where
-  pub file : List ℕ
-  pub payload : List ℕ
-  pub behind : List ℕ
-  pub text : b ≡ file ++ behind
-  pub is_file : IsFile system polarity head payload file
-  pub alive : is_alive head.state ≡ true
-  pub content : (head.kind ≡ pad_kind) ⊎ IsSound head payload

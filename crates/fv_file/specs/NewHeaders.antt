@@ -1,19 +1,14 @@
 -- File headers as they are written (PI specification, volume 3, section 3.2.3.1).
-use Rattle.std.specs.Prelude.{◌≡◌, ℕ, ◌+◌, ◌-◌, ◌%◌, ◌<◌, nat_lt, Bool, true, false, if◌then◌else◌, List, [], ◌∷◌, ◌++◌}
-use Rattle.std.specs.Prelude.{length, replicate, sum}
-use Rattle.fv_base.specs.Guids.{bytes_of, guid_of}
-use Rattle.fv_base.specs.Value.{IsBytes, le_bytes}
-use Rattle.fv_base.specs.declared.flash.FileSystem.{FileSystem}
-use Rattle.fv_base.specs.declared.flash.FileSystem.TheVariants.{Ffs3}
+use Rattle.std.specs.Prelude.{ℕ, ◌+◌, ◌-◌, ◌%◌, nat_lt, Bool, false, if◌then◌else◌, List, [], ◌∷◌, ◌++◌, replicate}
+use Rattle.std.specs.Prelude.{sum}
+use Rattle.fv_base.specs.Guids.{bytes_of}
+use Rattle.fv_base.specs.Value.{le_bytes}
 use Rattle.fv_base.specs.declared.flash.Polarity.{Polarity}
 use Rattle.fv_base.specs.declared.flash.Polarity.TheVariants.{Ones, Zeros}
 use Rattle.fv_base.specs.declared.guid.Guid.{Guid}
-use Rattle.fv_file.specs.Attributes.{attribute_bits, attributes_by, is_large}
-use Rattle.fv_file.specs.Cells.{IsCell, Valid, Pad}
-use Rattle.fv_file.specs.Files.{file_header_len, fixed_checksum, pad_kind, state_at, IsFileHeader, IsSound}
+use Rattle.fv_file.specs.Attributes.{attribute_bits, is_summed}
+use Rattle.fv_file.specs.Files.{file_header_len, fixed_checksum, pad_kind}
 use Rattle.fv_file.specs.declared.attributes.FileAttributes.{FileAttributes}
-use Rattle.fv_file.specs.declared.head.FileHead.{FileHead}
-use Rattle.fv_file.specs.declared.state.FileState.TheVariants as states
 
 -- a file with this much data has a large header: with a short one its size would be more than 0xFFFFFF
 abbrev pub needs_large : ℕ → Bool
@@ -32,38 +27,13 @@ state_byte Zeros = 0x07
 abbrev pub pad_name : List ℕ
 pad_name = replicate 16 0xff
 
--- the fields of a file with valid data, and of a pad; the header sum is passed in
-abbrev pub fields_of : List ℕ → ℕ → ℕ → ℕ → Bool → ℕ → ℕ → FileHead
-fields_of name kind attributes size large header_sum file_sum = record {
-  name = guid_of name;
-  kind = kind;
-  attributes = attributes_by attributes;
-  size = size;
-  header_len = file_header_len large;
-  header_sum = header_sum;
-  file_sum = file_sum;
-  state = states.DataValid;
-}
-
-abbrev pub file_fields : Guid → ℕ → FileAttributes → ℕ → ℕ → ℕ → FileHead
-file_fields name kind attributes data_len file_sum header_sum =
-    fields_of (bytes_of name) kind (with_large (needs_large data_len) (attribute_bits attributes))
-    (file_header_len (needs_large data_len) + data_len) (needs_large data_len) header_sum file_sum
-
-abbrev pub pad_fields : ℕ → ℕ → FileHead
-pad_fields size header_sum = fields_of pad_name pad_kind 0 size false header_sum fixed_checksum
-
--- the bytes h are the header with these fields and the State byte of a new file, in each file system that has such
--- headers
-pub record IsNewHeader (polarity : Polarity) (head : FileHead) (h : List ℕ) : Type 0 where
-  pub header : (system : FileSystem) → (is_large (attribute_bits head.attributes) ≡ true → system ≡ Ffs3)
-      → IsFileHeader system polarity head h
-  pub state : state_at h ≡ state_byte polarity
-  pub bytes : IsBytes h
-
 -- what must be added to make a number a multiple of 256
 abbrev pub complement : ℕ → ℕ
 complement n = (256 - n % 256) % 256
+
+-- with the checksum attribute, what must be added to make the sum of the data a multiple of 256; else 0xAA
+abbrev pub file_sum_for : ℕ → List ℕ → ℕ
+file_sum_for attributes payload = if is_summed attributes then complement (sum payload) else fixed_checksum
 
 -- a header with these two sums, its bytes in order; in a large header Size is zero, and the size follows State
 abbrev pub header_with : ℕ → ℕ → List ℕ → ℕ → ℕ → ℕ → Bool → ℕ → List ℕ
@@ -85,18 +55,3 @@ file_head_of name kind attributes data_len file_sum polarity =
 
 abbrev pub pad_head_of : ℕ → Polarity → List ℕ
 pad_head_of size polarity = header_bytes fixed_checksum pad_name pad_kind 0 size false (state_byte polarity)
-
--- the header, then the data and fewer than 8 bytes to the next multiple of 8, is the cell of a valid file
-abbrev pub IsHeadOfFile : Polarity → FileHead → List ℕ → Type 0
-IsHeadOfFile polarity head h =
-    (system : FileSystem) (at : ℕ) (payload filler : List ℕ)
-    → (is_large (attribute_bits head.attributes) ≡ true → system ≡ Ffs3)
-    → head.size ≡ length h + length payload → IsSound head payload → length filler < 8
-    → (head.size + length filler) % 8 ≡ 0
-    → IsCell system polarity (Valid at head payload) (h ++ (payload ++ filler))
-
--- the header, then as many bytes as it says and fewer than 8 to the next multiple of 8, is the cell of a pad
-abbrev pub IsHeadOfPad : Polarity → FileHead → List ℕ → Type 0
-IsHeadOfPad polarity head h =
-    (system : FileSystem) (at : ℕ) (payload filler : List ℕ) → head.size ≡ length h + length payload → length filler < 8
-    → (head.size + length filler) % 8 ≡ 0 → IsCell system polarity (Pad at head payload) (h ++ (payload ++ filler))

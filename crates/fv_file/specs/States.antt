@@ -1,5 +1,5 @@
 -- The state that a file's State byte shows (PI specification, volume 3, section 3.2.3.1, EFI_FFS_FILE_STATE).
-use Rattle.std.specs.Prelude.{◌≡◌, ℕ, ◌-◌, ◌≤◌, ◌<◌, Bool, true, false, ◌==◌, nat_lt, if◌then◌else◌, Option, Some, None}
+use Rattle.std.specs.Prelude.{◌≡◌, ℕ, ◌-◌, Bool, true, false, ◌==◌, nat_lt, if◌then◌else◌, Option, Some, None}
 use Rattle.fv_base.specs.declared.flash.Polarity.{Polarity}
 use Rattle.fv_base.specs.declared.flash.Polarity.TheVariants.{Ones, Zeros}
 use Rattle.fv_file.specs.declared.state.FileState.{FileState}
@@ -10,23 +10,9 @@ abbrev pub bits_of : Polarity → ℕ → ℕ
 bits_of Ones byte = 255 - byte
 bits_of Zeros byte = byte
 
--- the highest set bit of n is that of the state: EFI_FILE_HEADER_CONSTRUCTION (0x01), EFI_FILE_HEADER_VALID (0x02),
--- EFI_FILE_DATA_VALID (0x04), EFI_FILE_MARKED_FOR_UPDATE (0x08), EFI_FILE_DELETED (0x10) or EFI_FILE_HEADER_INVALID
--- (0x20)
-abbrev pub IsHighest : FileState → ℕ → Type 0
-IsHighest states.Free n = n ≡ 0
-IsHighest states.Construction n = n ≡ 0x01
-IsHighest states.HeaderValid n = (0x02 ≤ n) × (n < 0x04)
-IsHighest states.DataValid n = (0x04 ≤ n) × (n < 0x08)
-IsHighest states.Marked n = (0x08 ≤ n) × (n < 0x10)
-IsHighest states.Deleted n = (0x10 ≤ n) × (n < 0x20)
-IsHighest states.HeaderInvalid n = (0x20 ≤ n) × (n < 0x40)
-
--- the byte shows the state
-abbrev pub StateOf : ℕ → Polarity → FileState → Type 0
-StateOf byte polarity state = IsHighest state (bits_of polarity byte)
-
--- the state of the highest set bit, if that bit has a state
+-- the state of the highest set bit, if that bit has a state: EFI_FILE_HEADER_CONSTRUCTION (0x01), EFI_FILE_HEADER_VALID
+-- (0x02), EFI_FILE_DATA_VALID (0x04), EFI_FILE_MARKED_FOR_UPDATE (0x08), EFI_FILE_DELETED (0x10) or
+-- EFI_FILE_HEADER_INVALID (0x20)
 abbrev pub state_in : ℕ → Option FileState
 state_in n =
     if n == 0 then Some states.Free
@@ -40,6 +26,10 @@ state_in n =
 -- the state that a State byte shows, if it shows one
 unfoldable pub state_of : Polarity → ℕ → Option FileState
 state_of polarity byte = state_in (bits_of polarity byte)
+
+-- the byte shows the state
+abbrev pub StateOf : ℕ → Polarity → FileState → Type 0
+StateOf byte polarity state = state_of polarity byte ≡ Some state
 
 -- the state of a valid file: its data are valid, and it is marked for update or not
 abbrev pub is_alive : FileState → Bool

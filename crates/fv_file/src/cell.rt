@@ -1,6 +1,7 @@
 //! The cells of a volume's body.
 
 use crate::head::FileHead;
+use crate::state::FileState;
 
 /// A part of a volume's body. Offsets are in bytes from the volume's start. (PI specification,
 /// volume 3, sections 3.2.2 and 3.2.3.)
@@ -31,6 +32,8 @@ pub enum Cell<'a> {
         offset: u64,
         /// The number of its bytes, its filler included.
         len: u64,
+        /// HeaderValid or Deleted.
+        state: FileState,
     },
     /// A header that was never finished: `EFI_FILE_HEADER_CONSTRUCTION` or
     /// `EFI_FILE_HEADER_INVALID`.

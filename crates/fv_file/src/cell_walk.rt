@@ -1,13 +1,15 @@
 //! The body of a volume, cut into cells.
 
-ghost use Rattle.std.specs.Prelude.{◌≡◌, ◌≢◌, ◌+◌, ◌<◌, ◌≤◌, ◌%◌, ◌^◌, List, length, drop, Ok, Err, IfOk, IfErr};
-ghost use Rattle.fv_base.specs.Flash.{all_are};
+ghost use Rattle.std.specs.Prelude.{◌≡◌, ◌≢◌, ℕ, ◌+◌, ◌*◌, ◌<◌, ◌≤◌, ◌%◌, ◌^◌, false, List, ◌++◌, length, drop, Ok, Err, IfOk, IfErr};
+ghost use Rattle.fv_base.specs.Measures.{all_are};
 ghost use Rattle.fv_base.specs.Faults.{outer_fault, out_of_memory};
 ghost use Rattle.fv_base.specs.Flash.{erased_byte};
-ghost use Rattle.fv_file.specs.Cells.{CellForm, CellsWithin, Tiles, cell_len};
+ghost use Rattle.fv_file.specs.Cells.{CellForm, IsCell, Tiles, is_free};
+ghost use Rattle.fv_file.specs.CellLengths.{CellsWithin, cell_len};
 ghost use Rattle.fv_file.specs.FileChecks.{IsFirstCellFault, leading_count};
 ghost use Rattle.fv_file.specs.inner.CellVerdicts.{cell_of, cell_verdict};
 ghost use Rattle.fv_file.specs.inner.StateSorts as sorts;
+ghost use Rattle.fv_file.specs.inner.StateSorts.{is_unfinished};
 ghost use Rattle.fv_file.specs.CellForms.{cell_form};
 
 use crate::cell::Cell;
@@ -96,6 +98,7 @@ fn cell_at<'a>(
             Ok(Cell::Dead {
                 offset: at,
                 len: up_to_8(head.size),
+                state: head.state,
             })
         }
         FileState::DataValid | FileState::Marked => {
@@ -117,30 +120,46 @@ fn span_of(cell: &Cell) -> u64
     }
 }
 
+// Whether there is a state, and it is that of a header that was never finished.
+fn is_unfinished(state: Option<FileState>) -> bool
+    ensures { result ≡ is_unfinished state }
+{
+    matches!(
+        state,
+        Some(FileState::Construction | FileState::HeaderInvalid)
+    )
+}
+
 // The number of bytes from the header here to the next one, if a cell begins here: as `cell_at`
 // has it, without its checks.
 fn stride_at(rest: &[u8], polarity: Polarity) -> usize
     requires { 24 ≤ length rest.now }
-    ensures some { 0 < result }
+    ensures least { 24 ≤ result }
     ensures within { result ≤ length rest.now }
+
+    // If a cell that is not free begins here, they are its bytes.
+    ensures cell { (system : FileSystem) (c : CellForm) (x behind : List ℕ) → rest.now ≡ x ++ behind → IsCell system polarity c x
+        → is_free c ≡ false → result ≡ length x }
 {
     let header = header_len_at(rest);
     if rest.len() < header {
         return rest.len();
     }
-    match file_state(rest[STATE_OFFSET], polarity) {
-        Some(FileState::Construction | FileState::HeaderInvalid) => header,
-        _ => {
-            let size = size_at(rest).min(rest.len() as u64);
-            (up_to_8(size) as usize).clamp(header, rest.len())
-        }
+    if is_unfinished(file_state(rest[STATE_OFFSET], polarity)) {
+        return header;
     }
+    let size = size_at(rest).min(rest.len() as u64);
+    (up_to_8(size) as usize).clamp(header, rest.len())
 }
 
-// About how many cells a body has: the list of cells gets its room at once. Where the body has no
-// fault, it is their number. It is never more than there are bytes.
+// How many cells a body has: the list of cells gets its room at once.
 fn cell_count(body: &[u8], polarity: Polarity) -> usize
-    ensures { result ≤ length body.now }
+    // If cells tile the body, it is their number.
+    ensures cells { (system : FileSystem) (first : ℕ) (cs : List CellForm) → Tiles system polarity first cs body.now
+        → result ≡ length cs }
+
+    // Otherwise it is at most what headers without data would be.
+    ensures most { 24 * result ≤ length body.now + 23 }
 {
     let mut rest = body;
     let mut count = 0;

@@ -3,7 +3,7 @@
 ghost use Rattle.std.specs.Prelude.{◌≡◌, Ok, IfOk, IfErr};
 ghost use Rattle.fv_base.specs.Checks.{IsFirstFault};
 ghost use Rattle.fv_file.specs.FileChecks.{verify_checks};
-ghost use Rattle.fv_file.specs.Files.{BeginsFile};
+ghost use Rattle.fv_file.specs.HeaderReads.{BeginsFile};
 ghost use Rattle.fv_file.specs.inner.CellVerdicts.{verify_verdict};
 ghost use Rattle.fv_file.specs.declared.head.FileHead.{FileHead};
 

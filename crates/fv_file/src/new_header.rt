@@ -2,13 +2,13 @@
 
 ghost use Rattle.std.specs.Prelude.{◌≡◌, ℕ, List, ◌≢◌, ◌<◌, ◌≤◌, false, length};
 ghost use Rattle.fv_base.specs.Guids.{bytes_of};
-ghost use Rattle.fv_base.specs.Limits.{data_limit};
+ghost use Rattle.fv_base.specs.Measures.{data_limit};
 ghost use Rattle.fv_base.specs.Value.{IsBytes};
 ghost use Rattle.fv_file.specs.Attributes.{attribute_bits, is_large, is_fixed};
 ghost use Rattle.fv_file.specs.Files.{header_sum_at, pad_kind};
 ghost use Rattle.fv_file.specs.inner.NewHeaderParts.{HasPlace, size_fields, whole_bytes, header_of, new_header_bytes};
 ghost use Rattle.fv_file.specs.inner.NewHeaderParts.{file_header, pad_header};
-ghost use Rattle.fv_file.specs.NewHeaders.{IsNewHeader, IsHeadOfFile, IsHeadOfPad, file_fields, pad_fields};
+ghost use Rattle.fv_file.specs.HeaderReads.{IsNewHeader, IsHeadOfFile, IsHeadOfPad, file_fields, pad_fields};
 ghost use Rattle.fv_file.specs.NewHeaders.{file_head_of, pad_head_of, with_large, state_byte};
 
 use crate::attributes::FileAttributes;

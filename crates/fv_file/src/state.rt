@@ -1,8 +1,7 @@
 //! The state of a file.
 
-ghost use Rattle.std.specs.Prelude.{◌≡◌, Some, IfSome};
-ghost use Rattle.fv_file.specs.States.{StateOf, bits_of, state_in, state_of, is_alive};
-ghost use Rattle.fv_file.specs.declared.state.FileState.{FileState};
+ghost use Rattle.std.specs.Prelude.{◌≡◌};
+ghost use Rattle.fv_file.specs.States.{bits_of, state_in, state_of, is_alive};
 
 use fv_base::Polarity;
 
@@ -65,12 +64,7 @@ fn state_in(bits: u8) -> Option<FileState>
 /// was written, or None if bit 0x40 or 0x80 was written. Takes no memory. (PI specification, volume
 /// 3, section 3.2.3.1.)
 pub fn file_state(byte: u8, polarity: Polarity) -> Option<FileState>
-    // The byte shows this state.
-    ensures found { IfSome result (StateOf byte polarity) }
-
-    // It shows no other state, and if it shows one, that state is returned.
-    ensures only { (state : FileState) → StateOf byte polarity state → result ≡ Some state }
-    ensures is { result ≡ state_of polarity byte }
+    ensures { result ≡ state_of polarity byte }
 {
     state_in(bits_of(byte, polarity))
 }

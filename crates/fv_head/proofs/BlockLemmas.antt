@@ -2,8 +2,9 @@
 -- 1. Eight bytes are a pair (pairs_of-step), and pairs may be read in parts (pairs_of-append).
 -- 2. So the block map of a header is its blocks and then one pair more (block_map_is), which can be taken off again (last-injective).
 -- 3. A test of a pair says whether it is the pair of zeros (zero_pair_is, zero_pair_not, none_zero, all_not_zero).
+use Rattle.std.proofs.lemmas.Grind.{common_steps}
 use Rattle.std.proofs.Common.{◌≡◌, ◌≢◌, ◌≤◌, ℕ, ◌+◌, ◌-◌, ◌%◌, List, [], ◌∷◌, ◌++◌, length, take, drop, refl, sym, ap, ◌∙◌, subst, arith}
-use Rattle.std.proofs.Common.{Bool, true, false, length-take, length-drop, drop-drop}
+use Rattle.std.proofs.Common.{true, false, length-take, length-drop, drop-drop}
 use Rattle.std.specs.Prelude.{not}
 use Rattle.std.specs.List.{AllByRecursion, list_all}
 use Rattle.std.proofs.lemmas.List.{drop-take, length-take-le}
@@ -87,17 +88,10 @@ block_map_is n b least multiple within =
     ∙ ap (λ (ps : List (ℕ × ℕ)). pairs_of (take (n - 64) x) ++ ps) last
 
 pub zero_pair_is : (p : ℕ × ℕ) → is_zero_pair p ≡ true → p ≡ (0, 0)
-zero_pair_is p h =
-    let both = and_split _ _ h in
-    let a : p.0 ≡ 0 = eqb-true p.0 0 both.0 in
-    let b : p.1 ≡ 0 = eqb-true p.1 0 both.1 in
-    rw (a, b) refl
+zero_pair_is p h = grind (arith, common_steps, and_split, eqb-true)
 
 pub zero_pair_not : (p : ℕ × ℕ) → p ≢ (0, 0) → is_zero_pair p ≡ false
-zero_pair_not p h = go (is_zero_pair p) refl where
-  go : (t : Bool) → is_zero_pair p ≡ t → t ≡ false
-  go true is = absurd (h (zero_pair_is p is))
-  go false is = refl
+zero_pair_not p h = grind (arith, common_steps, zero_pair_is)
 
 pub none_zero : (ps : List (ℕ × ℕ)) → list_all (λ p. not (is_zero_pair p)) ps ≡ true → AllByRecursion (λ p. p ≢ (0, 0)) ps
 none_zero [] h = tt

@@ -8,7 +8,8 @@ use Rattle.fv_base.specs.Guids.{bytes_of}
 use Rattle.fv_base.specs.Limits.{ext_limit}
 use Rattle.fv_base.specs.Value.{IsBytes, le, le_bytes, le_at}
 use Rattle.fv_base.proofs.Laws.{bytes_drop, le-le_bytes, two_bytes}
-use Rattle.fv_head.specs.Ext.{Extension, kept_payload, is_used_size, BeginNoEntry, SplitsEntries, IsExt, IsReadExt}
+use Rattle.fv_head.specs.Ext.{Extension, kept_payload, is_used_size, BeginNoEntry, SplitsEntries, IsExt}
+use Rattle.fv_head.specs.HeadReads.{IsReadExt}
 use Rattle.fv_head.specs.ExtImage.{payload_with, entry_bytes, entries_bytes, entries_len, ext_len, ext_spelled}
 use Rattle.fv_head.proofs.ExtLemmas.{begins, length-ext}
 
@@ -120,24 +121,17 @@ payload_put used e kind payload t test kinds payloads off = grind (arith, common
 -- one entry more
 pub entries_len_step : (es : List (ℕ × List ℕ)) (i : ℕ) (e : ℕ × List ℕ) → i < length es → e ≡ get_or es i e
     → entries_len (drop i es) ≡ (4 + length e.1) + entries_len (drop (i + 1) es)
-entries_len_step es i e within is =
-    ap entries_len (drop_more es i e within) ∙ ap (λ (d : ℕ × List ℕ). (4 + length d.1) + entries_len (drop (i + 1) es)) (sym is)
+entries_len_step es i e within is = grind (arith, common_steps, drop_more)
 
 pub entries_step : (used : ℕ) (front : List ℕ) (es : List (ℕ × List ℕ)) (i : ℕ) (e : ℕ × List ℕ) → i < length es → e ≡ get_or es i e
     → front ++ entries_bytes used (drop i es) ≡ entries_bytes used es
     → (front ++ entry_bytes used e) ++ entries_bytes used (drop (i + 1) es) ≡ entries_bytes used es
-entries_step used front es i e within item is =
-    append_assoc front (entry_bytes used e) (entries_bytes used (drop (i + 1) es))
-    ∙ ap (λ (d : ℕ × List ℕ). front ++ (entry_bytes used d ++ entries_bytes used (drop (i + 1) es))) item
-    ∙ ap (λ (fs : List (ℕ × List ℕ)). front ++ entries_bytes used fs) (sym (drop_more es i e within)) ∙ is
+entries_step used front es i e within item is = grind (arith, common_steps, append_assoc, drop_more)
 
 pub entries_end : (used : ℕ) (front : List ℕ) (es : List (ℕ × List ℕ)) (i : ℕ) → length es ≤ i
     → front ++ entries_bytes used (drop i es) ≡ entries_bytes used es → front ≡ entries_bytes used es
-entries_end used front es i past is =
-    sym (append-nil front) ∙ ap (λ (fs : List (ℕ × List ℕ)). front ++ entries_bytes used fs) (sym (drop_all i es past)) ∙ is
+entries_end used front es i past is = grind (arith, common_steps, append-nil, drop_all)
 
 -- the most bytes of an extended header
 pub ext_len_most : (x : Extension) → IsReadExt x → ext_len x ≤ ext_limit
-ext_len_most x (b, small, is) =
-    let source : entries_len x.entries + length x.tail ≡ length is.rest = length-entries x.entries x.tail is.rest is.entries in
-    omega (arith, length-ext x b is, source, is.most)
+ext_len_most x (b, small, is) = grind (arith, common_steps, length-entries, length-ext)

@@ -1,7 +1,7 @@
 -- Extended headers, and the entries in them.
 use Rattle.std.proofs.lemmas.Grind.{common_steps}
 use Rattle.std.proofs.Common.{◌≡◌, ◌≤◌, ◌<◌, ℕ, zero, suc, ◌+◌, ◌-◌, List, [], ◌∷◌, ◌++◌, length, take, drop, refl, sym, ap, ◌∙◌, subst}
-use Rattle.std.proofs.Common.{arith, inl, inr, Bool, true, false, length-append, length-drop, append_assoc, append-nil, drop-drop}
+use Rattle.std.proofs.Common.{arith, inl, inr, Bool, true, false, length-append, length-drop, append_assoc, append-nil, drop-drop, rules}
 use Rattle.std.specs.Prelude.{◌==◌, ◌&&◌, ◌||◌, nat_le, if◌then◌else◌, Option, Some, None}
 use Rattle.std.proofs.lemmas.List.{drop-take, take_at, drop_at, take-append-drop, length-take-le, take_all}
 use Rattle.std.proofs.lemmas.Bool.{leb-true, le-leb, eqb-true}
@@ -259,8 +259,7 @@ tests_of o n s len h = grind (arith, common_steps, and_split, leb-true)
 
 tests_hold : (o n s len : ℕ) → n ≤ o → o + 20 ≤ len → 20 ≤ s → s ≤ ext_limit → o + s ≤ len
     → (nat_le n o && nat_le (o + 20) len && nat_le 20 s && nat_le s ext_limit && nat_le (o + s) len) ≡ true
-tests_hold o n s len a b c d e =
-    and_join _ _ (and_join _ _ (and_join _ _ (and_join _ _ (le-leb _ _ a) (le-leb _ _ b)) (le-leb _ _ c)) (le-leb _ _ d)) (le-leb _ _ e)
+tests_hold o n s len a b c d e = grind (arith, common_steps, and_join, le-leb)
 
 -- where the check holds, an extended header is there, or there is none
 pub some_has_ext : (e : Extent) (b : List ℕ) → e.length ≤ length b → has_ext e.header_len e.length b ≡ true
@@ -363,9 +362,7 @@ end_entries items bytes rest tail sofar ended same =
 pub ext_from : (b : List ℕ) (g : Guid) (es : List (ℕ × List ℕ)) (tail : List ℕ) → 20 ≤ length b → length b ≤ ext_limit
     → le_at 16 4 b ≡ length b → bytes_of g ≡ take 16 b
     → SplitsEntries es tail (take (length b - 20) (drop 20 b)) → IsExt (record { name = g; entries = es; tail = tail }) b
-ext_from b g es tail least most size name entries =
-    ext_of b g es tail least most size name
-    (subst (SplitsEntries es tail) (take_all (length b - 20) (drop 20 b) (omega (arith, length-drop 20 b))) entries)
+ext_from b g es tail least most size name entries = search (rules, ext_of, take_all, length-drop)
 
 -- what a header with an ExtHeaderOffset has
 pub record ExtStands (e : Extent) (b : List ℕ) : Type 0 where

@@ -3,8 +3,9 @@
 -- 2. Where the checks hold, the bytes begin with a volume of the fields that are read (front_found).
 -- 3. Where bytes begin with a volume, the checks hold, and the verdict is its extent (front_only).
 -- 4. Its header has no other fields (front_fields).
-use Rattle.std.proofs.Common.{◌≡◌, ◌≤◌, ℕ, ◌+◌, ◌-◌, ◌%◌, List, [], ◌∷◌, ◌++◌, length, take, refl, sym, ap, ◌∙◌, subst, arith}
-use Rattle.std.proofs.Common.{Bool, true, false}
+use Rattle.std.proofs.lemmas.Grind.{common_steps}
+use Rattle.std.proofs.Common.{◌≡◌, ◌≤◌, ℕ, ◌+◌, ◌-◌, ◌%◌, List, [], ◌∷◌, ◌++◌, length, take, refl, sym, ap, ◌∙◌, subst, arith, rules}
+use Rattle.std.proofs.Common.{true, false}
 use Rattle.std.specs.Prelude.{◌==◌, nat_le, is_some, Option, None, Some, Ok, Err, slice_index, if◌then◌else◌}
 use Rattle.std.proofs.lemmas.List.{length-take-le, get_or-take}
 use Rattle.std.proofs.lemmas.Bool.{leb-true, le-leb, eqb-true, eq-eqb}
@@ -60,9 +61,7 @@ verdict_err (Some g) b f is = cc
 
 pub verdict_extent : (b : List ℕ) (fs : FileSystem) → first_fault (head_checks b) ≡ None → file_system_at b ≡ Some fs
     → head_verdict b ≡ Ok (extent_at fs b)
-verdict_extent b fs none system =
-    ap (λ (o : Option Fault). extent_verdict o b) none
-    ∙ ap (λ (o : Option FileSystem). extent_or o (outer_fault kinds.FileSystem 16) b) system
+verdict_extent b fs none system = grind (arith, common_steps)
 
 -- the checks of a header, each by the name of what it is of
 pub record Checked (b : List ℕ) : Type 0 where
@@ -79,19 +78,7 @@ pub record Checked (b : List ℕ) : Type 0 where
   pub ext : has_ext (header_len_at b) (volume_len_at b) b ≡ true
 
 pub checked : (b : List ℕ) → AllHold (head_checks b) → Checked b
-checked b (front, (signature, (system, (revision, (header_len, (header, (sum, (map, (volume_len, (volume, (ext, none))))))))))) = record {
-  front_within = front;
-  signature = signature;
-  file_system = system;
-  revision = revision;
-  header_len = header_len;
-  header_within = header;
-  sum = sum;
-  block_map = map;
-  volume_len = volume_len;
-  volume_within = volume;
-  ext = ext;
-}
+checked b all = grind (arith, common_steps)
 
 front_of : (b : List ℕ) (fs : FileSystem) → IsBytes b → file_system_at b ≡ Some fs → field 16 16 b ≡ system_guid fs
     → AllHold (head_checks b)
@@ -147,12 +134,7 @@ front_of b fs small is guid all =
 
 -- the GUID of the file system that is found
 guid_found : (b : List ℕ) (fs : FileSystem) → file_system_at b ≡ Some fs → field 16 16 b ≡ system_guid fs
-guid_found b fs is = go (bytes_eq (field 16 16 b) (system_guid Ffs2)) (bytes_eq (field 16 16 b) (system_guid Ffs3)) refl refl is where
-  go : (p q : Bool) → bytes_eq (field 16 16 b) (system_guid Ffs2) ≡ p → bytes_eq (field 16 16 b) (system_guid Ffs3) ≡ q
-      → (if p then Some Ffs2 else (if q then Some Ffs3 else None)) ≡ Some fs → field 16 16 b ≡ system_guid fs
-  go true q two three k = let same : Ffs2 ≡ fs = cc in (bytes_eq-Decides _ _).0 two ∙ ap system_guid same
-  go false true two three k = let same : Ffs3 ≡ fs = cc in (bytes_eq-Decides _ _).0 three ∙ ap system_guid same
-  go false false two three k = cc
+guid_found b fs is = search (rules, bytes_eq-Decides)
 
 -- the file system that is there is found
 guid_finds : (b : List ℕ) (fs : FileSystem) → field 16 16 b ≡ system_guid fs → file_system_at b ≡ Some fs

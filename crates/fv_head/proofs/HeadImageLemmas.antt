@@ -1,7 +1,7 @@
 -- A header is what its fields spell.
 use Rattle.std.proofs.lemmas.Grind.{common_steps}
 use Rattle.std.proofs.Common.{◌≡◌, ◌≤◌, ◌<◌, ℕ, ◌+◌, ◌-◌, ◌*◌, ◌%◌, List, [], ◌∷◌, ◌++◌, length, take, drop, refl, sym, ap, ◌∙◌, subst}
-use Rattle.std.proofs.Common.{arith, false, length-append, length-drop, append_assoc, drop-drop}
+use Rattle.std.proofs.Common.{arith, false, length-append, length-drop, append_assoc, drop-drop, rules}
 use Rattle.std.specs.Prelude.{slice_index, sum, Option, None, Some}
 use Rattle.std.proofs.Math.Seq.{take-add}
 use Rattle.std.proofs.lemmas.List.{take-append-drop, take_at, drop_at, drop_more, get_or-drop, length-take-le}
@@ -12,10 +12,11 @@ use Rattle.fv_base.proofs.Laws.{bytes_append, bytes_drop, bytes_le_bytes, bytes_
 use Rattle.fv_base.proofs.Laws.{field_is, le-le_bytes, le_bytes-le, length-le_bytes, sum-words_of-append, two_bytes}
 use Rattle.std.proofs.lemmas.List.Sums.{sum_by-cons}
 use Rattle.fv_head.specs.Ext.{Extension}
-use Rattle.fv_head.specs.Head.{HasExt, HeadFields, IsHead, IsReadHead, BeginsVolume, IsCanonicalHead, canonical_offset, extent_of}
+use Rattle.fv_head.specs.Head.{HasExt, HeadFields, IsHead, BeginsVolume, canonical_offset}
+use Rattle.fv_head.specs.HeadReads.{IsReadHead, IsCanonicalHead, extent_of, IfRead, CanonicalRest}
 use Rattle.fv_head.specs.Head.{header_len_of, signature_bytes, system_guid}
 use Rattle.fv_head.specs.Pairs.{pairs_of, pairs_bytes}
-use Rattle.fv_head.specs.ExtImage.{ext_spelled, IfRead, canonical_end, first_edge, CanonicalRest}
+use Rattle.fv_head.specs.ExtImage.{ext_spelled, canonical_end, first_edge}
 use Rattle.fv_head.specs.HeadImage.{head_spelled, checksum_of, canonical_head}
 use Rattle.fv_head.specs.inner.WordSums.{word_weight}
 use Rattle.fv_head.proofs.BlockLemmas.{by_eights}
@@ -197,10 +198,7 @@ length-patched b checksum offset long =
 
 bytes_patched : (b : List ℕ) (checksum offset : ℕ) → IsBytes b → IsBytes (patched b checksum offset)
 unfolding patched
-bytes_patched b checksum offset small =
-    bytes_append (take 50 b) (le_bytes 2 checksum ++ (le_bytes 2 offset ++ drop 54 b)) (bytes_take 50 b small)
-    (bytes_append (le_bytes 2 checksum) (le_bytes 2 offset ++ drop 54 b) (bytes_le_bytes 2 checksum)
-    (bytes_append (le_bytes 2 offset) (drop 54 b) (bytes_le_bytes 2 offset) (bytes_drop 54 b small)))
+bytes_patched b checksum offset small = search (rules, bytes_append, bytes_take, bytes_le_bytes, bytes_drop)
 
 -- with a right sum it is a header of the same fields
 patched_head : (h : HeadFields) (b : List ℕ) (checksum offset : ℕ) → IsHead h b → sum16_of (patched b checksum offset) ≡ 0

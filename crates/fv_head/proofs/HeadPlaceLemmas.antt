@@ -3,16 +3,15 @@
 -- 2. So bytes begin with one volume at most (one_front), and which one depends on the volume's own bytes (front_same).
 -- 3. The header and the first file are in the volume (front_lies, first_lies).
 -- 4. There is no extended header exactly if ExtHeaderOffset is 0 (bare_offset, offset_bare, bare_first).
-use Rattle.std.proofs.Common.{◌≡◌, ◌≤◌, ℕ, ◌+◌, ◌-◌, ◌%◌, List, length, take, refl, sym, ap, ◌∙◌, subst, arith}
+use Rattle.std.proofs.Common.{◌≡◌, ◌≤◌, ℕ, ◌+◌, ◌-◌, ◌%◌, List, length, take, refl, sym, ap, ◌∙◌, subst, arith, rules}
 use Rattle.std.proofs.Common.{true}
-use Rattle.std.specs.Prelude.{◌==◌, Option, None, Some, Result, Ok, slice_index}
+use Rattle.std.specs.Prelude.{◌==◌, Option, None, Some, slice_index}
 use Rattle.std.proofs.lemmas.List.{length-take-le}
 use Rattle.std.proofs.lemmas.Bool.{eqb-true, eq-eqb}
 use Rattle.fv_base.specs.Checks.{AllHold}
 use Rattle.fv_base.specs.inner.Verdicts.{first_fault}
 use Rattle.fv_base.specs.Limits.{volume_limit, header_limit, ext_limit}
 use Rattle.fv_base.specs.Value.{le, field, le_at}
-use Rattle.fv_base.specs.declared.fault.Fault.{Fault}
 use Rattle.fv_base.specs.declared.flash.FileSystem.{FileSystem}
 use Rattle.fv_base.proofs.Laws.{all_hold, field-take, take-take_le}
 use Rattle.fv_head.specs.Ext.{Extension, IsExt}
@@ -87,13 +86,7 @@ ext_there {b} {e} {offset} found at some =
 
 -- bytes begin with one volume at most
 pub one_front : (b : List ℕ) (h k : HeadFields) (e x : Extent) → BeginsVolume h e b → BeginsVolume k x b → (h ≡ k) × (e ≡ x)
-one_front b h k e x front other =
-    let both : (let A : Type 0 = Result Extent Fault in ◌≡◌ {A = A} (Ok e) (Ok x)) =
-    sym (front_only b h e front) ∙ front_only b k x other in
-    let extents : e ≡ x = cc in
-    let here : BeginsVolume k e b = subst (λ (y : Extent). BeginsVolume k y b) (sym extents) other in
-    let exts : h.ext ≡ k.ext = one_has_ext h.ext k.ext e b (front_within b h e front).least front.ext here.ext in
-    (front_fields b h e front ∙ ap (λ (y : Option Extension). fields_of e.file_system y b) exts ∙ sym (front_fields b k e here), extents)
+one_front b h k e x front other = search (rules, front_only, one_has_ext, front_fields)
 
 -- ---- laws for the crates above
 
@@ -128,14 +121,7 @@ front_lies b h e f =
 -- the first file begins at a multiple of 8 in the volume, whose length is a multiple of 8
 pub first_lies : (b : List ℕ) (h : HeadFields) (e : Extent) → BeginsVolume h e b
     → (e.first % 8 ≡ 0) × (e.first ≤ e.length) × (e.length % 8 ≡ 0)
-first_lies b h e f =
-    by h.ext f.ext (front_within b h e f).multiple (front_lies b h e f).within (ap (λ (n : ℕ). n % 8) f.length_is ∙ f.head.volume_multiple)
-  where
-    by : (x : Option Extension) → HasExt x e b → e.header_len % 8 ≡ 0 → e.header_len ≤ e.length → e.length % 8 ≡ 0
-        → (e.first % 8 ≡ 0) × (e.first ≤ e.length) × (e.length % 8 ≡ 0)
-    by None (offset, is) multiple within whole = (omega (arith, is, multiple), omega (arith, is, within), whole)
-    by (Some x) (before, part, behind, text, at, low, high, ext, is) multiple within whole =
-        (omega (arith, is), omega (arith, is, high, whole), whole)
+first_lies b h e f = search rules
 
 -- a volume is a matter of its own bytes
 pub front_same : (b c : List ℕ) (h : HeadFields) (e : Extent) → BeginsVolume h e b → e.length ≤ length c → take e.length c ≡ take e.length b

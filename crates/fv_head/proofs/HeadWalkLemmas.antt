@@ -1,4 +1,5 @@
 -- What walks over a header put.
+use Rattle.std.proofs.lemmas.Grind.{common_steps}
 use Rattle.std.proofs.Common.{◌≡◌, ◌<◌, ◌≤◌, ℕ, ◌+◌, ◌%◌, List, [], ◌∷◌, ◌++◌, length, take, drop, get_or, refl, sym, ap, ◌∙◌, subst, arith}
 use Rattle.std.proofs.Common.{append_assoc, append-nil, Bool}
 use Rattle.std.specs.Prelude.{not}
@@ -23,9 +24,7 @@ byte_added high h xs i t0 t w within first total is =
 -- one more pair is put
 pub pairs_step : (front : List ℕ) (ps : List (ℕ × ℕ)) (i : ℕ) → i < length ps → front ++ pairs_bytes (drop i ps) ≡ pairs_bytes ps
     → (front ++ (le_bytes 4 (get_or ps i (0, 0)).0 ++ le_bytes 4 (get_or ps i (0, 0)).1)) ++ pairs_bytes (drop (i + 1) ps) ≡ pairs_bytes ps
-pairs_step front ps i within is =
-    append_assoc front (le_bytes 4 (get_or ps i (0, 0)).0 ++ le_bytes 4 (get_or ps i (0, 0)).1) (pairs_bytes (drop (i + 1) ps))
-    ∙ ap (λ (qs : List (ℕ × ℕ)). front ++ pairs_bytes qs) (sym (drop_more ps i (0, 0) within)) ∙ is
+pairs_step front ps i within is = grind (arith, common_steps, append_assoc, drop_more)
 
 -- no pair is left
 pub pairs_end : (front : List ℕ) (ps : List (ℕ × ℕ)) (i : ℕ) → length ps ≤ i → front ++ pairs_bytes (drop i ps) ≡ pairs_bytes ps

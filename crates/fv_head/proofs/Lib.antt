@@ -1,3 +1,4 @@
+pub mod AttributeLemmas
 pub mod BlockLemmas
 pub mod ExtImageLemmas
 pub mod ExtLemmas

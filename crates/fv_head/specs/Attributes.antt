@@ -1,9 +1,8 @@
 -- The attribute bits of a volume (PI specification, volume 3, section 3.2.1.1, EFI_FVB_ATTRIBUTES_2).
-use Rattle.std.specs.Prelude.{ℕ, ◌==◌, if◌then◌else◌}
-use Rattle.std.specs.Int.RustNames.{bit_and}
+use Rattle.std.specs.Prelude.{ℕ, ◌/◌, ◌%◌, ◌==◌, if◌then◌else◌}
 use Rattle.fv_base.specs.declared.flash.Polarity.{Polarity}
 use Rattle.fv_base.specs.declared.flash.Polarity.TheVariants.{Ones, Zeros}
 
 -- the value of erased bits, by bit 0x800 (EFI_FVB2_ERASE_POLARITY)
 abbrev pub polarity_of : ℕ → Polarity
-polarity_of bits = if bit_and bits 2048 == 2048 then Ones else Zeros
+polarity_of bits = if bits / 2048 % 2 == 1 then Ones else Zeros

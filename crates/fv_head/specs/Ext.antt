@@ -1,8 +1,9 @@
 -- The extended header of a volume (PI specification, volume 3, section 3.2.1.2, EFI_FIRMWARE_VOLUME_EXT_HEADER).
-use Rattle.std.specs.Prelude.{◌≡◌, ◌≤◌, ◌<◌, ◌+◌, ◌==◌, ◌&&◌, ◌⊎◌, ℕ, Bool, if◌then◌else◌, List, [], ◌∷◌, ◌++◌, length}
+use Rattle.std.specs.Prelude.{◌≡◌, ◌≤◌, ◌<◌, ◌+◌, ◌==◌, ◌&&◌, ◌⊎◌, ℕ, Bool, if◌then◌else◌, List, [], ◌∷◌, ◌++◌}
+use Rattle.std.specs.Prelude.{length}
 use Rattle.fv_base.specs.Guids.{bytes_of}
 use Rattle.fv_base.specs.Limits.{ext_limit}
-use Rattle.fv_base.specs.Value.{IsBytes, le, le_at}
+use Rattle.fv_base.specs.Value.{le, le_at}
 use Rattle.fv_base.specs.declared.guid.Guid.{Guid}
 
 -- what an extended header says of its volume: the name, the entries (a type and a payload each), and the bytes after
@@ -47,7 +48,3 @@ pub record IsExt (x : Extension) (b : List ℕ) : Type 0 where
   pub size : le head ≡ length b
   pub most : length b ≤ ext_limit
   pub entries : SplitsEntries x.entries x.tail rest
-
--- some bytes are an extended header with this meaning
-abbrev pub IsReadExt : Extension → Type 0
-IsReadExt x = (b : List ℕ) × IsBytes b × IsExt x b

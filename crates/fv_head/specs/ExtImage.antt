@@ -1,8 +1,8 @@
 -- How an extended header is spelled, and its place in the canonical image.
-use Rattle.std.specs.Prelude.{◌≡◌, ℕ, ◌+◌, if◌then◌else◌, List, [], ◌∷◌, ◌++◌, length, Option, None, Some}
+use Rattle.std.specs.Prelude.{ℕ, ◌+◌, if◌then◌else◌, List, [], ◌∷◌, ◌++◌, length, Option, None, Some}
 use Rattle.fv_base.specs.Guids.{bytes_of}
 use Rattle.fv_base.specs.Value.{le_bytes, up_to_8}
-use Rattle.fv_head.specs.Ext.{Extension, IsReadExt, is_used_size}
+use Rattle.fv_head.specs.Ext.{Extension, is_used_size}
 use Rattle.fv_head.specs.Head.{HeadFields, header_len_of}
 
 -- the payload of an entry; a used size has the value `used`
@@ -31,11 +31,6 @@ ext_len x = 20 + entries_len x.entries + length x.tail
 unfoldable pub ext_spelled : Extension → ℕ → List ℕ
 ext_spelled x used = bytes_of x.name ++ le_bytes 4 (ext_len x) ++ entries_bytes used x.entries ++ x.tail
 
--- the extended header, if there is one, is that of some bytes
-abbrev pub IfRead : Option Extension → Type 0
-IfRead None = Unit {0}
-IfRead (Some x) = IsReadExt x
-
 -- where the canonical head ends, with the extended header in a pad file after it
 abbrev pub canonical_end : HeadFields → Option Extension → ℕ
 canonical_end h None = header_len_of h
@@ -45,10 +40,3 @@ canonical_end h (Some x) = header_len_of h + 24 + ext_len x
 abbrev pub first_edge : HeadFields → Option Extension → ℕ
 first_edge h None = header_len_of h
 first_edge h (Some x) = up_to_8 (canonical_end h (Some x))
-
--- what follows the canonical head: if there is an extended header, the 24 bytes of a pad file's header, and then the
--- extended header
-abbrev pub CanonicalRest : Option Extension → List ℕ → Type 0
-CanonicalRest None rest = Unit {0}
-CanonicalRest (Some x) rest =
-    (pad : List ℕ) × (used : ℕ) × (behind : List ℕ) × (rest ≡ pad ++ (ext_spelled x used ++ behind)) × (length pad ≡ 24)

@@ -82,26 +82,7 @@ pub record BeginsVolume (h : HeadFields) (e : Extent) (b : List ℕ) : Type 0 wh
   pub file_system : e.file_system ≡ h.file_system
   pub polarity : e.polarity ≡ polarity_of h.attributes
 
--- these are the fields of some header, as those of each head that was read are
-abbrev pub IsReadHead : HeadFields → Type 0
-IsReadHead h = (b : List ℕ) × IsHead h b
-
 -- the ExtHeaderOffset of a canonical head: 0, or after the header of a pad file that follows the head
 abbrev pub canonical_offset : HeadFields → Option Extension → ℕ
 canonical_offset h None = 0
 canonical_offset h (Some x) = header_len_of h + 24
-
--- the bytes are the head of the canonical image
-pub record IsCanonicalHead (h : HeadFields) (b : List ℕ) : Type 0 where
-  pub head : IsHead h b
-  pub offset : le_at 52 2 b ≡ canonical_offset h h.ext
-
--- the extent of a volume of this head, whose extended header is at its canonical place
-abbrev pub extent_of : HeadFields → ℕ → Extent
-extent_of h first = record {
-  length = h.length;
-  header_len = header_len_of h;
-  first = first;
-  file_system = h.file_system;
-  polarity = polarity_of h.attributes;
-}

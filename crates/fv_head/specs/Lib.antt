@@ -5,6 +5,7 @@ pub mod Ext
 pub mod Head
 pub mod HeadImage
 pub mod ExtImage
+pub mod HeadReads
 pub mod HeadChecks
 pub mod HeadView
 pub mod inner

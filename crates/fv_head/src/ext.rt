@@ -4,7 +4,8 @@ ghost use Rattle.std.specs.Prelude.{◌≡◌, ◌≤◌, ℕ, List, drop, lengt
 ghost use Rattle.fv_base.specs.Faults.{out_of_memory};
 ghost use Rattle.fv_base.specs.Limits.{ext_limit};
 ghost use Rattle.fv_base.specs.Value.{le_at};
-ghost use Rattle.fv_head.specs.Ext.{BeginNoEntry, SplitsEntries, IsExt, IsReadExt, kept_payload, is_used_size};
+ghost use Rattle.fv_head.specs.Ext.{BeginNoEntry, SplitsEntries, IsExt, kept_payload, is_used_size};
+ghost use Rattle.fv_head.specs.HeadReads.{IsReadExt};
 
 use crate::layout::{
     EXT_ENTRY_HEADER_LEN, EXT_ENTRY_SIZE_OFFSET, EXT_ENTRY_TYPE_OFFSET, EXT_HEADER_LEN,
@@ -61,7 +62,8 @@ pub struct ExtHeader {
 }
 
 impl Model for ExtHeader {
-    ghost use Rattle.fv_head.specs.Ext.{Extension, IsReadExt};
+    ghost use Rattle.fv_head.specs.Ext.{Extension};
+    ghost use Rattle.fv_head.specs.HeadReads.{IsReadExt};
 
     ghost Value = { Extension };
 

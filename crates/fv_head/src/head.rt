@@ -4,7 +4,8 @@ ghost use Rattle.std.specs.Prelude.{◌≡◌, ◌⊎◌, ◌%◌, ◌≤◌, le
 ghost use Rattle.fv_base.specs.Checks.{IsFirstFault};
 ghost use Rattle.fv_base.specs.Faults.{out_of_memory};
 ghost use Rattle.fv_base.specs.Limits.{header_limit};
-ghost use Rattle.fv_head.specs.Head.{HasExt, HeadFields, BeginsVolume, IsReadHead, header_len_of};
+ghost use Rattle.fv_head.specs.Head.{HasExt, HeadFields, BeginsVolume, header_len_of};
+ghost use Rattle.fv_head.specs.HeadReads.{IsReadHead};
 ghost use Rattle.fv_head.specs.HeadChecks.{head_checks};
 ghost use Rattle.fv_head.specs.Pairs.{pairs_of};
 ghost use Rattle.fv_head.specs.declared.extent.Extent.{Extent};
@@ -38,7 +39,8 @@ pub struct VolumeHead {
 }
 
 impl Model for VolumeHead {
-    ghost use Rattle.fv_head.specs.Head.{HeadFields, IsReadHead};
+    ghost use Rattle.fv_head.specs.Head.{HeadFields};
+    ghost use Rattle.fv_head.specs.HeadReads.{IsReadHead};
 
     ghost Value = { HeadFields };
 

@@ -4,9 +4,11 @@ ghost use Rattle.std.specs.Prelude.{◌≡◌, ◌+◌, ◌-◌, ◌%◌, ◌≤
 ghost use Rattle.fv_base.specs.Faults.{out_of_memory};
 ghost use Rattle.fv_base.specs.Limits.{header_limit, ext_limit};
 ghost use Rattle.fv_base.specs.Value.{le_bytes, up_to_8};
-ghost use Rattle.fv_head.specs.Head.{IsCanonicalHead, IsReadHead, BeginsVolume, canonical_offset, extent_of};
+ghost use Rattle.fv_head.specs.HeadReads.{IsCanonicalHead, IsReadHead, extent_of};
+ghost use Rattle.fv_head.specs.Head.{BeginsVolume, canonical_offset};
 ghost use Rattle.fv_head.specs.Pairs.{pairs_bytes};
-ghost use Rattle.fv_head.specs.ExtImage.{CanonicalRest, IfRead, canonical_end, first_edge};
+ghost use Rattle.fv_head.specs.HeadReads.{CanonicalRest, IfRead};
+ghost use Rattle.fv_head.specs.ExtImage.{canonical_end, first_edge};
 ghost use Rattle.fv_head.specs.HeadImage.{head_spelled, canonical_head, checksum_of};
 ghost use Rattle.fv_head.specs.inner.WordLaws.{adds_words_by};
 ghost use Rattle.fv_head.specs.inner.WordSums.{AddsWords, word_weight};
@@ -174,6 +176,9 @@ pub fn head_bytes(alloc: Global, head: &VolumeHead) -> Result<ByteList, Fault>
     // They are the head of the canonical image, and nothing else is.
     ensures head { IfOk result (λ bytes. IsCanonicalHead head.now bytes) }
     ensures only { (other : List ℕ) → IsCanonicalHead head.now other → IfOk result (λ bytes. bytes ≡ other) }
+
+    // They are these bytes.
+    ensures bytes { IfOk result (λ found. found ≡ canonical_head head.now) }
 
     // Read back, with its extended header in a pad file after it and the rest of a volume, it gives
     // the same head.

@@ -15,7 +15,6 @@ use crate::hob_list::HobList;
 use byteorder::{ByteOrder, LittleEndian};
 use fv_base::{ByteList, Guid};
 use std::alloc::{AllocError, Global};
-use std::iter::repeat_n;
 
 // Appends a 16-bit number, little-endian.
 fn push_u16(bytes: &mut Vec<u8>, number: u16) -> Result<(), AllocError>
@@ -62,7 +61,8 @@ fn push_guid(bytes: &mut Vec<u8>, guid: &Guid) -> Result<(), AllocError>
 fn push_zeros(bytes: &mut Vec<u8>, count: u16) -> Result<(), AllocError>
     ensures { OnOk result (bytes.new.items ≡ bytes.old.items ++ replicate count 0) }
 {
-    bytes.extend(repeat_n(0, usize::from(count)))
+    let len = bytes.len();
+    bytes.resize(len + usize::from(count), 0)
 }
 
 // Appends a base and a length.

@@ -1,14 +1,15 @@
 -- What is noted of the expressions of a volume.
-use Rattle.std.proofs.Common.{◌≡◌, ◌∙◌, ◌<◌, ◌+◌, inl, inr, ℕ, List, [], ◌∷◌, ◌++◌, length, take, get_or}
+use Rattle.std.proofs.Common.{◌≡◌, ◌∙◌, ◌<◌, ◌+◌, inl, inr, ℕ, List, [], ◌∷◌, ◌++◌, length, take, get_or, arith}
 use Rattle.std.proofs.Common.{refl, sym, ap, subst, append-nil, append_assoc}
 use Rattle.std.specs.List.{flat_map}
-use Rattle.std.proofs.lemmas.Grind.{flat_map-append}
+use Rattle.std.proofs.lemmas.Grind.{common_steps, flat_map-append}
 use Rattle.std.proofs.lemmas.List.{take_more}
 use Rattle.fv_base.specs.declared.guid.Guid.{Guid}
 use Rattle.fv_tree.specs.LookupInstances.{preorder, inside_section}
 use Rattle.fv_tree.specs.Meaning.{Meaning, FileMeaning, File, Plain, Sectioned, SectionMeaning, Section, SectionMeanings}
-use Rattle.fv_tree.specs.Meaning.{Leaf, Group, Nested, body_of, content_of, file_name_of, section_kind_of, sections_from}
-use Rattle.fv_lines.specs.Notes.{phase_of, read_by, section_depex, sections_depexes, file_depexes}
+use Rattle.fv_tree.specs.Meaning.{Leaf, Group, Nested, content_of, file_name_of}
+use Rattle.fv_tree.specs.MeaningParts.{body_of, section_kind_of, sections_from}
+use Rattle.fv_lines.specs.Notes.{phase_of, read_by, sections_depexes, file_depexes}
 use Rattle.fv_lines.specs.Notes.{HeldDepex, IsSpelled, IsNoted, AreNotes, depex_line}
 use Rattle.fv_base.specs.Sinks.{WalkLaws}
 use Rattle.fv_lines.specs.inner.NoteRuns.{PutsNotes}
@@ -81,15 +82,7 @@ preorder_join (s ∷ xs) ys =
 pub sections_next : (name : Guid) (ss : List SectionMeaning) (i : ℕ) (s : SectionMeaning) → i < length ss → s ≡ get_or ss i s
     → sections_depexes name (preorder (sections_from (take i ss))) ++ sections_depexes name (s ∷ inside_section s)
     ≡ sections_depexes name (preorder (sections_from (take (i + 1) ss)))
-sections_next name ss i s l is =
-    let here : take (i + 1) ss ≡ take i ss ++ s ∷ [] =
-    take_more ss i s l ∙ ap (λ (x : SectionMeaning). take i ss ++ x ∷ []) (sym is) in
-    let one : preorder (sections_from (s ∷ [])) ≡ s ∷ inside_section s =
-    ap (λ (x : List SectionMeaning). s ∷ x) (append-nil (inside_section s)) in
-    sym (ap (λ (x : List SectionMeaning). sections_depexes name (preorder (sections_from x))) here
-    ∙ ap (sections_depexes name) (preorder_join (take i ss) (s ∷ [])
-    ∙ ap (λ (x : List SectionMeaning). preorder (sections_from (take i ss)) ++ x) one)
-    ∙ flat_map-append (section_depex name) (preorder (sections_from (take i ss))) (s ∷ inside_section s))
+sections_next name ss i s l is = grind (arith, common_steps, take_more, append-nil, preorder_join, flat_map-append)
 
 -- ---- the expressions of files
 
@@ -106,5 +99,4 @@ stream_depexes (File own k a (Sectioned us u)) name ss t e is =
 
 pub files_next : (fs : List FileMeaning) (i : ℕ) (f : FileMeaning) → i < length fs → f ≡ get_or fs i f
     → flat_map file_depexes (take i fs) ++ file_depexes f ≡ flat_map file_depexes (take (i + 1) fs)
-files_next fs i f l is =
-    sym (texts_next file_depexes fs i f l ∙ ap (λ (x : FileMeaning). flat_map file_depexes (take i fs) ++ file_depexes x) (sym is))
+files_next fs i f l is = grind (arith, common_steps, texts_next)

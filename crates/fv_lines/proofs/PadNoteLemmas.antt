@@ -1,6 +1,7 @@
 -- How many bytes of a pad are not erased.
-use Rattle.std.proofs.Common.{◌≡◌, ◌∙◌, ◌<◌, ◌+◌, ℕ, List, length, take, get_or, true, refl, sym, ap}
-use Rattle.std.specs.Prelude.{◌==◌, not}
+use Rattle.std.proofs.lemmas.Grind.{common_steps}
+use Rattle.std.proofs.Common.{◌≡◌, ◌<◌, ◌+◌, ℕ, List, length, take, get_or, true, refl, arith}
+use Rattle.std.specs.Prelude.{◌==◌}
 use Rattle.std.proofs.lemmas.Bool.Decides.{Decides-eqb}
 use Rattle.std.proofs.lemmas.List.Sums.{count_by_more_no, count_by_more_yes}
 use Rattle.fv_base.proofs.Laws.{not_equal}
@@ -13,14 +14,11 @@ same_test a b h = (Decides-eqb a b).1 h
 
 pub erased_next : (p : Polarity) (b : List ℕ) (i e : ℕ) → i < length b → e ≡ erased_byte p → get_or b i 0 ≡ e
     → written_in p (take (i + 1) b) ≡ written_in p (take i b)
-erased_next p b i e l is same =
-    count_by_more_no (λ x. not (x == erased_byte p)) b i 0 l (ap not (same_test (get_or b i 0) (erased_byte p) (same ∙ is)))
+erased_next p b i e l is same = grind (arith, common_steps, count_by_more_no, same_test)
 
 pub written_next : (p : Polarity) (b : List ℕ) (i e : ℕ) → i < length b → e ≡ erased_byte p → (get_or b i 0 ≡ e → ⊥)
     → written_in p (take (i + 1) b) ≡ written_in p (take i b) + 1
-written_next p b i e l is other =
-    count_by_more_yes (λ x. not (x == erased_byte p)) b i 0 l
-    (ap not (not_equal (get_or b i 0) (erased_byte p) (λ h. other (h ∙ sym is))))
+written_next p b i e l is other = grind (arith, common_steps, count_by_more_yes, not_equal)
 
 pub pad_told : (at n : ℕ) → (n ≡ 0 → ⊥) → pad_text at n ≡ pad_line at n
 pad_told at n h = rw (not_equal n 0 h) refl

@@ -1,4 +1,5 @@
 -- A line for each volume that was found.
+use Rattle.std.proofs.lemmas.Grind.{common_steps}
 use Rattle.std.proofs.Common.{ℕ, zero, suc, ◌+◌, ◌<◌, ◌≤◌, List, [], ◌∷◌, length, get_or}
 use Rattle.std.proofs.Common.{refl, arith}
 use Rattle.std.specs.List.{AllByRecursion}
@@ -16,9 +17,7 @@ found_at b (o ∷ os) (suc i) d f l = found_at b os i d f.1 (omega (arith, l))
 
 -- it begins within the bytes
 pub place_within : (b : List ℕ) (o n : ℕ) → VolumeAt b o n → o ≤ length b
-place_within b o n v =
-    let f = v.2 in
-    omega (arith, f.head.least, f.head.volume_least, f.length_is, f.whole, length-drop o b)
+place_within b o n v = grind (arith, common_steps, length-drop)
 
 -- the line of one volume more
 pub scan_more : {S : Type 0} {takes : S → List ℕ → S → Type 0} {b os : List ℕ} {i : ℕ} {s t u : S} → WalkLaws takes → (d n : ℕ)

@@ -3,7 +3,8 @@ use Rattle.std.specs.Prelude.{◌≡◌, ◌⊎◌, ℕ, ◌==◌, ◌||◌, not
 use Rattle.std.specs.Prelude.{Option, Some, None, codes, decimal}
 use Rattle.std.specs.List.{count_by, flat_map}
 use Rattle.fv_base.specs.Flash.{erased_byte}
-use Rattle.fv_base.specs.Guids.{bytes_of, guid_text}
+use Rattle.fv_base.specs.Guids.{bytes_of}
+use Rattle.fv_base.specs.GuidTexts.{guid_text}
 use Rattle.fv_base.specs.declared.flash.Polarity.{Polarity}
 use Rattle.fv_base.specs.declared.guid.Guid.{Guid}
 use Rattle.fv_text.specs.Characters.{line_feed}

@@ -6,7 +6,7 @@ ghost use Rattle.fv_text.specs.PortViews.{Writes, shown};
 
 use crate::cell_text::write_lines;
 use fv_base::{Fault, Port};
-use fv_head::verify_fv;
+use fv_tree::volume_cells;
 use std::alloc::Global;
 use std::io::Write;
 
@@ -16,8 +16,8 @@ use std::io::Write;
 ///
 /// # Errors
 ///
-/// Those of `verify_fv` and of `fv_file::cells`; nothing was written then. WriteFault if a write
-/// fails or takes no byte; the first bytes of the lines were written then, and not all of them.
+/// Those of `fv_tree::volume_cells`; nothing was written then. WriteFault if a write fails or takes
+/// no byte; the first bytes of the lines were written then, and not all of them.
 pub fn write_cells<W: Write>(alloc: Global, input: &[u8], writer: &mut Port<W>) -> Result<(), Fault>
     // The lines of the cells were written.
     ensures ok { OnOk result ((text : List ℕ) × CellsText input.now text
@@ -27,14 +27,6 @@ pub fn write_cells<W: Write>(alloc: Global, input: &[u8], writer: &mut Port<W>) 
     ensures err { IfErr result (CellsStop input.now (shown W.contents writer.old)
         (shown W.contents writer.new)) }
 {
-    let extent = verify_fv(input)?;
-    let volume = &input[..extent.length as usize];
-    let list = fv_file::cells(
-        alloc,
-        volume,
-        extent.first,
-        extent.file_system,
-        extent.polarity,
-    )?;
-    write_lines(writer, volume, extent, list.as_slice())
+    let (extent, list) = volume_cells(alloc, input)?;
+    write_lines(writer, extent.first, list.as_slice())
 }

@@ -1,28 +1,24 @@
 //! The cells of a volume, one line each, and how many bytes they have.
 
-ghost use Rattle.std.specs.Prelude.{◌≡◌, ◌≤◌, ◌+◌, ◌-◌, ◌<◌, ◌^◌, drop, length, map, IfErr, OnOk};
+ghost use Rattle.std.specs.Prelude.{◌≡◌, ◌≤◌, ◌+◌, ◌-◌, ◌<◌, ◌^◌, length, map, IfErr, OnOk};
 ghost use Rattle.std.specs.List.{flat_map, sum_by};
 ghost use Rattle.fv_base.specs.Value.{up_to_8};
 ghost use Rattle.fv_file.specs.CellForms.{cell_form};
-ghost use Rattle.fv_file.specs.Cells.{cell_len};
-ghost use Rattle.fv_file.specs.Files.{state_at};
-ghost use Rattle.fv_file.specs.States.{state_of};
+ghost use Rattle.fv_file.specs.CellLengths.{cell_len};
 ghost use Rattle.fv_lines.specs.CellTexts.{cell_line, cell_lines, dead_name, file_line, span_line, span_text};
 ghost use Rattle.fv_lines.specs.CellTexts.{sums_line, sums_of};
 ghost use Rattle.fv_lines.specs.inner.CellRuns.{FitTogether, Fits, counted, sums_with};
 ghost use Rattle.fv_text.specs.PortViews.{Writes, WritingStops, shown};
 
-use fv_base::field::{bytes_from, up_to_8};
-use fv_base::{Fault, Polarity, Port, Sink, WriteSink};
-use fv_file::layout::STATE_OFFSET;
-use fv_file::{Cell, FileHead, FileState, file_state};
-use fv_head::Extent;
+use fv_base::field::up_to_8;
+use fv_base::{Fault, Port, Sink, WriteSink};
+use fv_file::{Cell, FileHead, FileState};
 use fv_text::{put_decimal, put_two_digits};
 use std::io::Write;
 
 /// How many bytes the cells of a volume have.
 #[derive(Clone, Copy)]
-pub struct CellSums {
+pub struct LengthSums {
     /// Those of valid files, without their fillers.
     pub files: u64,
     /// Those of pads, without their fillers.
@@ -76,23 +72,20 @@ fn put_file<S: Sink>(out: &mut S, offset: u64, head: &FileHead, payload: &[u8])
     out.put(b"\n");
 }
 
-// What a file at the offset that is not valid is called, by its state.
-fn dead_name(volume: &[u8], offset: u64, polarity: Polarity) -> &'static [u8]
-    requires { offset + 24 ≤ length volume.now }
-    ensures { result.now ≡ dead_name (state_of polarity (state_at (drop offset volume.now))) }
+// What a file that is not valid is called, by its state.
+fn dead_name(state: FileState) -> &'static [u8]
+    ensures { result.now ≡ dead_name state }
 {
-    let header = bytes_from(volume, offset as usize);
-    match file_state(header[STATE_OFFSET], polarity) {
-        Some(FileState::Deleted) => b"deleted",
+    match state {
+        FileState::Deleted => b"deleted",
         _ => b"unfinished",
     }
 }
 
 // Puts the line of a cell.
-fn put_cell<S: Sink>(out: &mut S, volume: &[u8], cell: &Cell<'_>, polarity: Polarity)
-    requires fits { Fits (length volume.now) (cell_form cell.now) }
-    requires small { length volume.now < 2 ^ 63 }
-    ensures { S.takes out.old (cell_line polarity volume.now (cell_form cell.now)) out.new }
+fn put_cell<S: Sink>(out: &mut S, cell: &Cell<'_>)
+    requires { Fits (cell_form cell.now) }
+    ensures { S.takes out.old (cell_line (cell_form cell.now)) out.new }
 {
     match *cell {
         Cell::Valid {
@@ -101,21 +94,19 @@ fn put_cell<S: Sink>(out: &mut S, volume: &[u8], cell: &Cell<'_>, polarity: Pola
             payload,
         } => put_file(out, offset, &head, payload),
         Cell::Pad { offset, head, .. } => put_span_line(out, b"pad", offset, up_to_8(head.size)),
-        Cell::Dead { offset, len } => {
-            put_span_line(out, dead_name(volume, offset, polarity), offset, len);
-        }
+        Cell::Dead { offset, len, state } => put_span_line(out, dead_name(state), offset, len),
         Cell::Stub { offset, len } => put_span_line(out, b"unfinished", offset, len),
         Cell::Free { offset, len } => put_span_line(out, b"free", offset, len),
     }
 }
 
 // Puts the lines of some cells, in order.
-fn put_cells<S: Sink>(out: &mut S, volume: &[u8], list: &[Cell<'_>], polarity: Polarity)
-    requires { FitTogether (length volume.now) (map cell_form list.now) }
-    ensures { S.takes out.old (flat_map (cell_line polarity volume.now) (map cell_form list.now)) out.new }
+fn put_cells<S: Sink>(out: &mut S, list: &[Cell<'_>])
+    requires { FitTogether (map cell_form list.now) }
+    ensures { S.takes out.old (flat_map cell_line (map cell_form list.now)) out.new }
 {
     for cell in list {
-        put_cell(out, volume, cell, polarity);
+        put_cell(out, cell);
     }
 }
 
@@ -128,7 +119,7 @@ fn filler_of(size: u64) -> u64
 }
 
 // The sums with those of one cell more.
-fn with_cell(sums: CellSums, cell: &Cell<'_>) -> CellSums
+fn with_cell(sums: LengthSums, cell: &Cell<'_>) -> LengthSums
     requires { counted sums + cell_len (cell_form cell.now) < 2 ^ 63 }
     ensures { result ≡ sums_with sums (cell_form cell.now) }
 {
@@ -149,11 +140,11 @@ fn with_cell(sums: CellSums, cell: &Cell<'_>) -> CellSums
 }
 
 // How many bytes the cells have.
-fn sums_of(list: &[Cell<'_>]) -> CellSums
+fn sums_of(list: &[Cell<'_>]) -> LengthSums
     requires { sum_by cell_len (map cell_form list.now) < 2 ^ 63 }
     ensures { result ≡ sums_of (map cell_form list.now) }
 {
-    let mut sums = CellSums {
+    let mut sums = LengthSums {
         files: 0,
         pads: 0,
         deleted: 0,
@@ -167,7 +158,7 @@ fn sums_of(list: &[Cell<'_>]) -> CellSums
 }
 
 // Puts the line of the sums.
-fn put_sums<S: Sink>(out: &mut S, sums: CellSums)
+fn put_sums<S: Sink>(out: &mut S, sums: LengthSums)
     ensures { S.takes out.old (sums_line sums) out.new }
 {
     out.put(b"sums files ");
@@ -183,35 +174,34 @@ fn put_sums<S: Sink>(out: &mut S, sums: CellSums)
     out.put(b"\n");
 }
 
-// Puts the lines of a volume of this extent and these cells.
-fn put_lines<S: Sink>(out: &mut S, volume: &[u8], extent: Extent, list: &[Cell<'_>])
-    requires { FitTogether (length volume.now) (map cell_form list.now) }
-    ensures { S.takes out.old (cell_lines extent.first extent.polarity volume.now (map cell_form list.now)) out.new }
+// Puts the lines of a volume of these cells, whose header ends at the offset `first`.
+fn put_lines<S: Sink>(out: &mut S, first: u64, list: &[Cell<'_>])
+    requires { FitTogether (map cell_form list.now) }
+    ensures { S.takes out.old (cell_lines first (map cell_form list.now)) out.new }
 {
-    put_span_line(out, b"header", 0, extent.first);
-    put_cells(out, volume, list, extent.polarity);
+    put_span_line(out, b"header", 0, first);
+    put_cells(out, list);
     put_sums(out, sums_of(list));
 }
 
-/// Writes a line for the header of a volume of this extent, a line for each of its cells, and a
-/// line with the sums of their bytes. The cells fit into the volume.
+/// Writes a line for the header of a volume, which ends at the offset `first`, a line for each of
+/// its cells, and a line with the sums of their bytes. The cells fit into a volume.
 ///
 /// # Errors
 ///
 /// WriteFault if a write fails or takes no byte.
 pub fn write_lines<W: Write>(
     writer: &mut Port<W>,
-    volume: &[u8],
-    extent: Extent,
+    first: u64,
     list: &[Cell<'_>],
 ) -> Result<(), Fault>
-    requires { FitTogether (length volume.now) (map cell_form list.now) }
+    requires { FitTogether (map cell_form list.now) }
     ensures ok { OnOk result (Writes (shown W.contents writer.old) (shown W.contents writer.new)
-        (cell_lines extent.first extent.polarity volume.now (map cell_form list.now))) }
+        (cell_lines first (map cell_form list.now))) }
     ensures err { IfErr result (WritingStops (shown W.contents writer.old) (shown W.contents writer.new)
-        (cell_lines extent.first extent.polarity volume.now (map cell_form list.now))) }
+        (cell_lines first (map cell_form list.now))) }
 {
     let mut out = WriteSink::new(writer);
-    put_lines(&mut out, volume, extent, list);
+    put_lines(&mut out, first, list);
     out.outcome()
 }

@@ -2,7 +2,8 @@
 
 ghost use Rattle.std.specs.Prelude.{◌≡◌, ◌∷◌, List, Some};
 ghost use Rattle.fv_tree.specs.LookupInstances.{inside_section, preorder};
-ghost use Rattle.fv_tree.specs.Meaning.{files_of, sections_from};
+ghost use Rattle.fv_tree.specs.Meaning.{files_of};
+ghost use Rattle.fv_tree.specs.MeaningParts.{sections_from};
 ghost use Rattle.fv_lines.specs.Notes.{AreNotes, depex_line, depex_lines, depexes_in, file_depexes, phase_of, read_by};
 ghost use Rattle.fv_lines.specs.Notes.{sections_depexes};
 ghost use Rattle.fv_lines.specs.inner.NoteRuns.{PutsNotes};

@@ -1,6 +1,6 @@
 //! Command lines: the plans that they ask for, and those that are rejected.
 
-use crate::spelling::text_is;
+use crate::row_bytes::text_is;
 use fv_arguments::{WordFault, parse_words};
 use fv_base::Guid;
 use fv_plan::Plan;
@@ -15,8 +15,8 @@ fn push_argument(alloc: Global, arguments: &mut Vec<String>, argument: &str) -> 
     arguments.push(String::from_str(alloc, argument).ok()?).ok()
 }
 
-// The arguments of a line, separated by spaces, with that GUID for NAME. An empty line has none.
-fn arguments_of(alloc: Global, line: &str) -> Option<Vec<String>> {
+/// The arguments of a line, separated by spaces, with that GUID for NAME. An empty line has none.
+pub fn arguments_of(alloc: Global, line: &str) -> Option<Vec<String>> {
     let mut arguments = Vec::new(alloc);
     if line.is_empty() {
         return Some(arguments);

@@ -1,6 +1,6 @@
 //! The calls of fv_caller: an empty volume, and what a boot reads beside it.
 
-use crate::spelling::text_is;
+use crate::row_bytes::text_is;
 use fv_caller::{CallerFault, archive_volume, check_boot};
 use std::alloc::Global;
 

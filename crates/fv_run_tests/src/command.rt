@@ -7,6 +7,7 @@ mod compare_runs;
 mod limits;
 mod list_runs;
 mod memory;
+mod opened_runs;
 mod other_runs;
 mod placed_runs;
 mod rows;

@@ -1,5 +1,8 @@
-//! Readers and writers of the tests.
+//! Readers and writers of the tests, and the files that runs open.
 
+ghost use Rattle.std.specs.Prelude.{⊤};
+
+use fv_command::Opener;
 use std::alloc::Global;
 use std::io;
 use std::io::{ErrorKind, Read, Write};
@@ -21,7 +24,7 @@ pub struct FakeReader<'a> {
 
 impl<'a> FakeReader<'a> {
     /// A reader of all of the bytes.
-    pub fn new(bytes: &'a [u8], step: usize, is_interrupted: bool) -> FakeReader<'a> {
+    pub(crate) fn new(bytes: &'a [u8], step: usize, is_interrupted: bool) -> FakeReader<'a> {
         FakeReader {
             rest: bytes,
             step,
@@ -32,7 +35,7 @@ impl<'a> FakeReader<'a> {
     }
 
     /// A reader that fails instead of giving the byte at `count`, or its end.
-    pub fn failing(bytes: &'a [u8], step: usize, count: usize) -> FakeReader<'a> {
+    pub(crate) fn failing(bytes: &'a [u8], step: usize, count: usize) -> FakeReader<'a> {
         FakeReader {
             rest: bytes,
             step,
@@ -64,7 +67,7 @@ impl<'a> Read for FakeReader<'a> {
 
 /// Gives arbitrary bytes without end.
 #[derive(Drop)]
-pub struct EndlessReader;
+pub(crate) struct EndlessReader;
 
 impl Read for EndlessReader {
     fn read(&mut self, buf: &mut [u8]) -> io::Result<usize> {
@@ -74,7 +77,7 @@ impl Read for EndlessReader {
 
 /// Gives spaces without end.
 #[derive(Drop)]
-pub struct SpaceReader {
+pub(crate) struct SpaceReader {
     /// How often it was called.
     pub calls: u64,
     /// The most bytes that it was asked for.
@@ -92,7 +95,7 @@ impl Read for SpaceReader {
 
 /// Gives two digits, and is interrupted from then on.
 #[derive(Drop)]
-pub struct InterruptedReader {
+pub(crate) struct InterruptedReader {
     /// How often it was called.
     pub calls: u64,
 }
@@ -110,7 +113,7 @@ impl Read for InterruptedReader {
 
 /// Takes `room` bytes, and then fails.
 #[derive(Drop)]
-pub struct FakeWriter {
+pub(crate) struct FakeWriter {
     /// The bytes that it took_only.
     taken: Vec<u8>,
     /// Whether a call came after the first that failed.
@@ -127,7 +130,7 @@ pub struct FakeWriter {
 
 impl FakeWriter {
     /// A writer with room for `room` bytes.
-    pub fn new(alloc: Global, step: usize, room: usize, is_broken: bool) -> FakeWriter {
+    pub(crate) fn new(alloc: Global, step: usize, room: usize, is_broken: bool) -> FakeWriter {
         FakeWriter {
             taken: Vec::new(alloc),
             is_late: false,
@@ -139,7 +142,7 @@ impl FakeWriter {
     }
 
     /// Whether it took_only exactly these bytes, and no call came after the first that failed.
-    pub fn took_only(&self, bytes: &[u8]) -> bool {
+    pub(crate) fn took_only(&self, bytes: &[u8]) -> bool {
         !self.is_late && self.taken.as_slice() == bytes
     }
 }
@@ -163,5 +166,49 @@ impl Write for FakeWriter {
     fn flush(&mut self) -> io::Result<()> {
         self.is_late = self.is_late || self.has_failed;
         Ok(())
+    }
+}
+
+/// Two files, `a.fv` and `b.fv`, and standard input.
+#[derive(Drop)]
+pub struct FakeOpener<'a> {
+    /// The bytes of `a.fv`.
+    first: &'a [u8],
+    /// The bytes of `b.fv`.
+    second: &'a [u8],
+    /// The bytes of standard input.
+    standard: &'a [u8],
+}
+
+impl<'a> FakeOpener<'a> {
+    /// The files and standard input with these bytes.
+    pub fn new(first: &'a [u8], second: &'a [u8], standard: &'a [u8]) -> FakeOpener<'a> {
+        FakeOpener {
+            first,
+            second,
+            standard,
+        }
+    }
+}
+
+impl<'a> Opener for FakeOpener<'a> {
+    type File = FakeReader<'a>;
+
+    type Standard = FakeReader<'a>;
+
+    ghost opens = { λ _ _ _. ⊤ };
+
+    ghost is_standard = { λ _ _. ⊤ };
+
+    fn file_at(&self, path: &str) -> Option<FakeReader<'a>> {
+        match path.as_bytes() {
+            b"a.fv" => Some(FakeReader::new(self.first, 50, false)),
+            b"b.fv" => Some(FakeReader::new(self.second, 50, false)),
+            _ => None,
+        }
+    }
+
+    fn standard_input(&self) -> FakeReader<'a> {
+        FakeReader::new(self.standard, 50, false)
     }
 }

@@ -15,7 +15,7 @@ mod fakes;
 #[cfg(test)]
 mod lines;
 #[cfg(test)]
-mod spelling;
+mod row_bytes;
 #[cfg(test)]
 mod text;
 #[cfg(test)]

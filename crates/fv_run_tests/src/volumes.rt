@@ -6,7 +6,7 @@
 //! prove.
 
 /// The name of a line, its words, and what follows the arrow.
-pub type Row<'a> = (&'a str, &'a str, Option<&'a str>);
+pub(crate) type Row<'a> = (&'a str, &'a str, Option<&'a str>);
 
 // The words of a text, and what follows its arrow.
 fn split_at_arrow(text: &str) -> (&str, Option<&str>) {
@@ -17,14 +17,14 @@ fn split_at_arrow(text: &str) -> (&str, Option<&str>) {
 }
 
 /// The row that a line spells.
-pub fn row_of(line: &str) -> Option<Row<'_>> {
+pub(crate) fn row_of(line: &str) -> Option<Row<'_>> {
     let (name, rest) = line.split_once(": ")?;
     let (text, result) = split_at_arrow(rest);
     Some((name, text, result))
 }
 
 /// The words of the line with that name.
-pub fn text_named<'a>(table: &'a str, wanted: &str) -> Option<&'a str> {
+pub(crate) fn text_named<'a>(table: &'a str, wanted: &str) -> Option<&'a str> {
     for line in table.lines() {
         let (name, text, _) = row_of(line)?;
         if name == wanted {
@@ -36,7 +36,7 @@ pub fn text_named<'a>(table: &'a str, wanted: &str) -> Option<&'a str> {
 
 /// Heads of volumes by their length, with one block and no extended header; and the block at the
 /// start of a hand-off list.
-pub fn parts() -> &'static str {
+pub(crate) fn parts() -> &'static str {
     "\
     H72: 00*16 78e58c8c3d8a1c4f9935896185c32dd34800 00*6 5f465648fffe040048003ef600000002010000004800 00*10\n\
     H128: 00*16 78e58c8c3d8a1c4f9935896185c32dd38000 00*6 5f465648fffe04004800cef500000002010000008000 00*10\n\
@@ -53,7 +53,7 @@ pub fn parts() -> &'static str {
 }
 
 /// Volumes that have an image, and its words if it is another volume.
-pub fn volumes() -> &'static str {
+pub(crate) fn volumes() -> &'static str {
     "\
     depex-fault: H128 0a*16 3baa07001e0000f8060000130308 ff*26\n\
     eight-groups: H136 0a*16 26aa0200380000f8200000031c0000031800000314000003100000030c000003 0800000304000003 ff*8\n\
@@ -120,7 +120,7 @@ pub fn volumes() -> &'static str {
 }
 
 /// Volumes with files and gaps of 16 MiB, or with a header of 32 bytes, that have an image.
-pub fn long() -> &'static str {
+pub(crate) fn long() -> &'static str {
     "\
     large-header: 00*16 7ac07354cb3dca4dbd6f1e9689e7349a 8000000000000000 5f465648 fffe0400 4800e546 00000002 \
         01000000 80000000 00*8 0a*16 3eaa0101000000f8 2000000000000000 ff*24 -> 00*16 \
@@ -142,7 +142,7 @@ pub fn long() -> &'static str {
 
 /// Volumes that have no image: two that do not fit themselves, and two with a volume inside that
 /// does not fit.
-pub fn unplaced() -> &'static str {
+pub(crate) fn unplaced() -> &'static str {
     "\
     ext-header-without-room: 00*16 78e58c8c3d8a1c4f9935896185c32dd368 00*7 \
         5f465648fffe04004800b6f5480000020100000068 00*11 0e*16 14000000 ff*12\n\
@@ -158,7 +158,7 @@ pub fn unplaced() -> &'static str {
 }
 
 /// Volumes that are rejected, whatever follows them, with the line of the fault.
-pub fn refused() -> &'static str {
+pub(crate) fn refused() -> &'static str {
     "\
     head-signature: 00*16 78e58c8c3d8a1c4f9935896185c32dd380 00*7 5f465649fffe04004800cef5000000020100000080 00*11 \
         ff*56 -> fault 2 at 40\n\
@@ -206,7 +206,7 @@ pub fn refused() -> &'static str {
 }
 
 /// Hand-off lists.
-pub fn lists() -> &'static str {
+pub(crate) fn lists() -> &'static str {
     "\
     hand-off-list: PHIT 090038 00*7 ff000000000080 00*7 0e*16 0a*16 feff0800000000000400200000000000 0c*16 \
         0102030405060708ffff080000000000aabbcc\n\

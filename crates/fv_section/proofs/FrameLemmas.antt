@@ -15,7 +15,8 @@ use Rattle.fv_base.proofs.Laws.{not_first, verdict_err, verdict_none, verdict_ok
 use Rattle.fv_section.specs.FrameChecks.{has_extended_size, section_header_len_at, section_size_in, section_size_at, frame_checks}
 use Rattle.fv_section.specs.FrameWalks.{frame_in}
 use Rattle.fv_section.specs.inner.FrameVerdicts.{frame_verdict}
-use Rattle.fv_section.specs.Frames.{FrameForm, BeginsFrame, SaysSize, FrameStandsAt, section_header_len, frame_len}
+use Rattle.fv_section.specs.Frames.{FrameForm, BeginsFrame, SaysSize, section_header_len, frame_len}
+use Rattle.fv_section.specs.StreamReads.{FrameStandsAt}
 
 pub head_least : (extended : Bool) → 4 ≤ section_header_len extended
 head_least false = omega arith

@@ -7,7 +7,8 @@ use Rattle.std.proofs.lemmas.List.{take-append-drop, take_all, drop_at}
 use Rattle.std.proofs.Math.Seq.{take-add, take-append-add}
 use Rattle.fv_base.specs.Checks.{IsFirstFault}
 use Rattle.fv_base.specs.declared.fault.Fault.{Fault}
-use Rattle.fv_section.specs.Frames.{FrameForm, BeginsFrame, Splits, FrameStandsAt, SplitsFrom, FramesWithin, frame_len, up_to_4}
+use Rattle.fv_section.specs.Frames.{FrameForm, BeginsFrame, Splits, SplitsFrom, frame_len, up_to_4}
+use Rattle.fv_section.specs.StreamReads.{FrameStandsAt, FramesWithin}
 use Rattle.fv_section.specs.FrameChecks.{frame_checks, IsFirstFrameFault}
 use Rattle.fv_section.specs.FrameWalks.{frame_in, frames_from, offset_after, HasFrames}
 use Rattle.fv_section.proofs.FrameLemmas.{length_begun, frame_reads, none_stands}
@@ -159,13 +160,6 @@ walk_meets at (f ∷ fs) t b split =
     let rest = behind_first at f fs t b split in
     let more = walk_meets (up_to_4 (at + frame_len f)) fs rest.0 b rest.1 in
     rw (next, is) (ap (λ l. f ∷ l) more.0, (stands, more.1))
-
--- the first of them, and the others
-pub walk_first : (n at : ℕ) (b : List ℕ) → (n ≡ 0 → ⊥) → HasFrames n at b
-    → (frames_from n at b ≡ frame_in at (drop at b) ∷ frames_from (n - 1) (offset_after at b) b)
-    × FrameStandsAt (frame_in at (drop at b)) at b × HasFrames (n - 1) (offset_after at b) b
-walk_first zero at b some has = absurd (some refl)
-walk_first (suc n) at b some has = let e : suc n - 1 ≡ n = omega arith in rw e (refl, has.0, has.1)
 
 -- a walk begins with all frames of the stream
 pub walk_begins : (b : List ℕ) (n t : ℕ) → (fs : List FrameForm) × Splits fs t b × (length fs ≡ n)

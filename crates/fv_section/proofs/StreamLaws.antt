@@ -5,7 +5,7 @@ use Rattle.std.proofs.lemmas.List.{length-take-le}
 use Rattle.fv_base.specs.Value.{IsBytes, field, le_at}
 use Rattle.fv_base.proofs.Laws.{bytes_back, bytes_drop, bytes_front, bytes_take, le_below}
 use Rattle.fv_section.specs.Frames.{FrameForm, BeginsFrame, SplitsFrom, IsSectionHeader, SaysSize, section_header_len, frame_len, up_to_4}
-use Rattle.fv_section.specs.SectionImage.{FitsForm}
+use Rattle.fv_section.specs.StreamReads.{FitsForm}
 
 -- the tail of a stream has at most 3 bytes
 pub tail_small : (at : ℕ) (fs : List FrameForm) (tail : ℕ) (b : List ℕ) → SplitsFrom at fs tail b → tail < 4

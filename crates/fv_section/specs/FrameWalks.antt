@@ -1,7 +1,8 @@
 -- The frames that a walk reads.
 use Rattle.std.specs.Prelude.{ℕ, zero, suc, ◌+◌, ◌-◌, List, [], ◌∷◌, take, drop, slice_index}
 use Rattle.fv_section.specs.FrameChecks.{has_extended_size, section_header_len_at, section_size_at}
-use Rattle.fv_section.specs.Frames.{FrameForm, FrameStandsAt, frame_len, up_to_4}
+use Rattle.fv_section.specs.Frames.{FrameForm, frame_len, up_to_4}
+use Rattle.fv_section.specs.StreamReads.{FrameStandsAt}
 
 -- the frame at the offset `at`, as its header says; r are the bytes from there on
 abbrev pub frame_in : ℕ → List ℕ → FrameForm

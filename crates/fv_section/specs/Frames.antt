@@ -1,7 +1,7 @@
 -- Streams of sections (PI specification, volume 3, section 3.2.4, EFI_COMMON_SECTION_HEADER and
 -- EFI_COMMON_SECTION_HEADER2).
-use Rattle.std.specs.Prelude.{◌≡◌, ◌≢◌, ℕ, ◌+◌, ◌*◌, ◌/◌, ◌<◌, ◌≤◌, Bool, true, false, List, [], ◌∷◌, ◌++◌, length}
-use Rattle.std.specs.Prelude.{drop, slice_index}
+use Rattle.std.specs.Prelude.{◌≡◌, ◌≢◌, ℕ, ◌+◌, ◌*◌, ◌/◌, ◌≤◌, Bool, true, false, List, [], ◌∷◌, ◌++◌, length}
+use Rattle.std.specs.Prelude.{slice_index}
 use Rattle.fv_base.specs.Value.{le_at}
 
 -- a frame: a section as it is found in its stream: the offset of its header, its type, whether its header is extended,
@@ -58,15 +58,3 @@ SplitsFrom at (f ∷ g ∷ fs) tail b =
 -- b is a stream of these frames, with `tail` bytes after the last one
 abbrev pub Splits : List FrameForm → ℕ → List ℕ → Type 0
 Splits fs tail b = SplitsFrom 0 fs tail b
-
--- the header of this frame is at the offset `at` of b
-pub record FrameStandsAt (f : FrameForm) (at : ℕ) (b : List ℕ) : Type 0 where
-  pub offset : f.offset ≡ at
-  pub inside : at < length b
-  pub behind : List ℕ
-  pub begins : BeginsFrame f (drop at b) behind
-
--- each frame ends within `end` bytes from the stream's start
-abbrev pub FramesWithin : ℕ → List FrameForm → Type 0
-FramesWithin end [] = Unit {0}
-FramesWithin end (f ∷ fs) = (f.offset + frame_len f ≤ end) × FramesWithin end fs

@@ -1,7 +1,6 @@
 -- What some leaf sections hold (PI specification, volume 3, sections 3.2.5.14, 3.2.5.15 and 3.2.5.6).
-use Rattle.std.specs.Prelude.{◌≡◌, ◌≢◌, ℕ, ◌-◌, ◌%◌, ◌==◌, nat_le, ◌&&◌, not, Bool, List, [], ◌∷◌, ◌++◌, length, take}
-use Rattle.std.specs.Prelude.{drop}
-use Rattle.std.specs.List.{AllByRecursion, list_all}
+use Rattle.std.specs.Prelude.{◌≡◌, ◌≢◌, ℕ, ◌%◌, List, [], ◌∷◌, ◌++◌, length}
+use Rattle.std.specs.List.{AllByRecursion}
 use Rattle.fv_base.specs.Guids.{bytes_of}
 use Rattle.fv_base.specs.Sums.{words_of}
 use Rattle.fv_base.specs.Value.{le}
@@ -26,12 +25,3 @@ pub record IsVersion (b : List ℕ) (build : ℕ) (text : List ℕ) : Type 0 whe
 pub record IsFreeform (b : List ℕ) (guid : Guid) (rest : List ℕ) : Type 0 where
   pub joined : b ≡ bytes_of guid ++ rest
   pub whole : length (bytes_of guid) ≡ 16
-
--- whether none of the units is zero
-abbrev pub none_zero : List ℕ → Bool
-none_zero units = list_all (λ unit. not (unit == 0)) units
-
-abbrev pub is_text : List ℕ → Bool
-is_text b =
-    nat_le 2 (length b)
-    && (length b % 2 == 0) && (le (drop (length b - 2) b) == 0) && none_zero (words_of (take (length b - 2) b))

@@ -6,7 +6,8 @@ ghost use Rattle.fv_base.specs.Value.{le_at};
 ghost use Rattle.fv_section.specs.FrameChecks.{has_extended_size, section_header_len_at, section_size_at};
 ghost use Rattle.fv_section.specs.FrameChecks.{has_section_size, frame_checks};
 ghost use Rattle.fv_section.specs.inner.FrameVerdicts.{frame_verdict};
-ghost use Rattle.fv_section.specs.Frames.{FrameForm, FrameStandsAt, section_header_len};
+ghost use Rattle.fv_section.specs.Frames.{FrameForm, section_header_len};
+ghost use Rattle.fv_section.specs.StreamReads.{FrameStandsAt};
 ghost use Rattle.fv_section.specs.FrameForms.{frame_form};
 ghost use Rattle.fv_section.specs.FrameWalks.{frame_in};
 

@@ -4,7 +4,8 @@ ghost use Rattle.std.specs.Prelude.{◌≡◌, ◌≢◌, ◌+◌, ◌<◌, ◌�
 ghost use Rattle.std.specs.Prelude.{IfOk, IfErr, IfSome, IfNone};
 ghost use Rattle.fv_base.specs.Faults.{out_of_memory};
 ghost use Rattle.fv_section.specs.FrameChecks.{IsFirstFrameFault};
-ghost use Rattle.fv_section.specs.Frames.{FrameForm, FrameStandsAt, FramesWithin, Splits, frame_len, up_to_4};
+ghost use Rattle.fv_section.specs.Frames.{FrameForm, Splits, frame_len, up_to_4};
+ghost use Rattle.fv_section.specs.StreamReads.{FrameStandsAt, FramesWithin};
 ghost use Rattle.fv_section.specs.FrameForms.{frame_form};
 ghost use Rattle.fv_section.specs.FrameWalks.{frame_in};
 

@@ -3,7 +3,8 @@
 ghost use Rattle.std.specs.Prelude.{◌≡◌, ◌≤◌, [], ◌∷◌, ◌++◌};
 ghost use Rattle.fv_base.specs.Value.{le_bytes};
 ghost use Rattle.fv_section.specs.Frames.{IsSectionHeader};
-ghost use Rattle.fv_section.specs.SectionImage.{FitsForm, IsHeadOfFrame, StreamsAreRead, section_head_of};
+ghost use Rattle.fv_section.specs.StreamReads.{FitsForm, IsHeadOfFrame, StreamsAreRead};
+ghost use Rattle.fv_section.specs.SectionImage.{section_head_of};
 
 use crate::layout::{EXTENDED_HEADER_LEN, EXTENDED_SIZE_OFFSET, HEADER_LEN, TYPE_OFFSET};
 use byteorder::{ByteOrder, LittleEndian};

@@ -74,7 +74,9 @@ fn cell_text(alloc: Global, cell: &Cell) -> Option<String> {
             head,
             payload,
         } => file_text(alloc, "pad", offset, &head, payload),
-        Cell::Dead { offset, len } => span_text(alloc, "dead", offset, len),
+        Cell::Dead { offset, len, state } => {
+            format!(in alloc; "dead {state:?} {offset} {len}").ok()
+        }
         Cell::Stub { offset, len } => span_text(alloc, "stub", offset, len),
         Cell::Free { offset, len } => span_text(alloc, "free", offset, len),
     }

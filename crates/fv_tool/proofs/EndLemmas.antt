@@ -5,6 +5,8 @@ use Rattle.std.proofs.lemmas.List.{append-nil, append_assoc, take-append-drop}
 use Rattle.std.specs.Io.KnownBytes.{Appends, Keeps, append_known}
 use Rattle.std.specs.Prelude.{Result, Ok, Err, IfOk, MatchResult}
 use Rattle.fv_command.specs.Endings.{WritesRest}
+use Rattle.fv_command.specs.Outputs.{output_contents, output_of}
+use Rattle.fv_command.specs.declared.output.Output.{Output}
 use Rattle.fv_text.specs.PortViews.{Shown, seen}
 use Rattle.fv_command.specs.declared.status.Status.{Status}
 use Rattle.fv_command.specs.declared.status.Status.TheVariants.{Refused}
@@ -57,3 +59,15 @@ pub by_words : {A E : Type 0} (words : Result A E) (P : A → Type 0) (Q : E →
     → MatchResult words P Q
 by_words (Ok x) P Q given none = given
 by_words (Err e) P Q given none = none e refl
+
+-- a buffer that is empty holds what the output below it does
+none_buffered : (below : Option (List ℕ)) (rest : List ℕ) → rest ≡ [] → append_known below rest ≡ below
+none_buffered None rest empty = refl
+none_buffered (Some xs) rest empty = ap (λ l. Some (xs ++ l)) empty ∙ ap Some (append-nil xs)
+
+-- what a new output shows from above its empty buffer
+pub begun : {W : Type 0} (contents : W → Option (List ℕ)) (output inner : Output W) (rest : List ℕ) (writer : W)
+    → output ≡ inner → rest ≡ [] → output_of inner ≡ writer
+    → seen (append_known (output_contents contents output) rest) false ≡ seen (contents writer) false
+begun contents output inner rest writer is empty holds =
+    ap (λ b. seen b false) (none_buffered (output_contents contents output) rest empty ∙ ap (output_contents contents) is ∙ ap contents holds)

@@ -1,33 +1,20 @@
 -- What the program does with its arguments.
 use Rattle.std.specs.Io.KnownBytes.{Keeps, append_known}
-use Rattle.std.specs.Prelude.{◌≡◌, ◌<◌, ◌⊎◌, ℕ, Bool, true, false, List, Option, length}
-use Rattle.fv_plan.specs.Files.{first_file, second_file}
-use Rattle.fv_text.specs.PortViews.{Change, Shown, seen}
-use Rattle.fv_command.specs.Runs.{Runs}
-use Rattle.fv_command.specs.Sources.{IsFirstSource, IsSecondSource, unread}
+use Rattle.std.specs.Global.{Global}
+use Rattle.std.specs.Prelude.{◌≡◌, ◌≢◌, ◌<◌, ◌⊎◌, ℕ, Bool, true, false, List, Option, Result, Ok, Err, String, Vec}
+use Rattle.std.specs.Prelude.{MatchResult, length, map}
+use Rattle.std.specs.String.{string_bytes}
+use Rattle.std.specs.declared.io.ErrorKind.{ErrorKind}
+use Rattle.std.specs.declared.io.ErrorKind.TheVariants as kinds
+use Rattle.fv_text.specs.PortViews.{Change, Shown}
+use Rattle.fv_command.specs.Runs.{RunsOver}
 use Rattle.fv_plan.specs.declared.plan.Plan.{Plan}
-use Rattle.fv_command.specs.declared.source.Source.{Source}
 use Rattle.fv_command.specs.declared.status.Status.{Status}
 use Rattle.fv_command.specs.declared.status.Status.TheVariants.{Refused}
 use Rattle.fv_tool.specs.Refusals.{TellsRefusal}
 use Rattle.fv_arguments.specs.Words.{AreRight, Asks}
 use Rattle.fv_arguments.specs.declared.words.WordFault.{WordFault}
-use Rattle.fv_arguments.specs.declared.words.WordFault.TheVariants.{Words}
-
--- what a source shows before anything is read from it
-abbrev pub fresh : {S F : Type 0} → (S → Option (List ℕ)) → (F → Option (List ℕ)) → Source S F → Shown
-fresh of_input of_file source = seen (unread of_input of_file source) false
-
--- a run of the plan, over the sources that it names
-abbrev pub RunsOver : {S F : Type 0} → (S → Option (List ℕ)) → (F → Option (List ℕ)) → Plan → Status → Change → Type 0
-RunsOver {S} {F} of_input of_file p status output =
-    (first : Source S F) × (second : Source S F) × IsFirstSource (first_file p.command) first
-    × IsSecondSource (second_file p.command) second × (s : Shown) × (s' : Shown)
-    × Runs p status (record {
-      first = record { old = fresh of_input of_file first; new = s };
-      second = record { old = fresh of_input of_file second; new = s' };
-      output = output;
-    })
+use Rattle.fv_arguments.specs.declared.words.WordFault.TheVariants.{Words, OutOfMemory}
 
 -- a rejection of arguments: there is at least one after the program's name, and only arguments that are not right are
 -- rejected as wrong
@@ -40,10 +27,10 @@ TellsWords words status output = (fault : WordFault) × MayRefuse words fault ×
 
 -- the arguments are right, and the plan that they ask for was run; or they are rejected. Those that are not right are
 -- rejected as wrong or because memory ran out, those that are right only because memory ran out
-abbrev pub DoesAsked : {S F : Type 0} → (S → Option (List ℕ)) → (F → Option (List ℕ)) → List (List ℕ) → Status → Change
-    → Type 0
-DoesAsked of_input of_file words status output =
-    ((p : Plan) × Asks words p × RunsOver of_input of_file p status output) ⊎ TellsWords words status output
+abbrev pub DoesAsked : {S F : Type 0} → (S → Option (List ℕ)) → (F → Option (List ℕ)) → (List ℕ → Option F → Type 0)
+    → (S → Type 0) → List (List ℕ) → Status → Change → Type 0
+DoesAsked of_input of_file opens is_standard words status output =
+    ((p : Plan) × Asks words p × RunsOver of_input of_file opens is_standard p status output) ⊎ TellsWords words status output
 
 -- an output holds the first of some bytes, if these are known
 abbrev pub HoldsFront : (held all : Option (List ℕ)) → Type 0
@@ -56,3 +43,33 @@ Ends ran wrote status held failed =
     ((status ≡ ran) × Keeps wrote.bytes held.bytes × (wrote.erred ≡ false) × (held.erred ≡ false) × (failed ≡ false))
     ⊎ ((status ≡ Refused) × HoldsFront held.bytes wrote.bytes
     × ((wrote.erred ≡ true) ⊎ (held.erred ≡ true) ⊎ (failed ≡ true)))
+
+-- the fault of arguments that cannot be read: out of memory by an error of that kind, else they are wrong
+abbrev pub IsFaultOf : ErrorKind → WordFault → Type 0
+IsFaultOf kind fault = (kind ≡ kinds.OutOfMemory → fault ≡ OutOfMemory) × (kind ≢ kinds.OutOfMemory → fault ≡ Words)
+
+-- the arguments of a process, or why they could not be had: memory ran out, or they cannot be read
+abbrev pub IsGiven : (List (String Global) → Type 0) → (ErrorKind → Type 0) → Result (Vec (String Global) Global) WordFault
+    → Type 0
+IsGiven has denies (Ok words) = has words.items
+IsGiven has denies (Err fault) = (fault ≡ OutOfMemory) ⊎ ((kind : ErrorKind) × denies kind × IsFaultOf kind fault)
+
+-- a run of arguments over an output. What they ask for was done with some status, or it was reported why they could not
+-- be had; and all of it is in the output, or a first part of it
+abbrev pub RunsArguments : {S F : Type 0} → (S → Option (List ℕ)) → (F → Option (List ℕ)) → (List ℕ → Option F → Type 0)
+    → (S → Type 0) → Result (Vec (String Global) Global) WordFault → (old : Shown) → (status : Status) → (held : Shown)
+    → (failed : Bool) → Type 0
+RunsArguments of_input of_file opens is_standard words old status held failed =
+    (ran : Status) × (wrote : Shown) × MatchResult words
+    (λ ws. DoesAsked of_input of_file opens is_standard (map string_bytes ws.items) ran (record { old = old; new = wrote }))
+    (λ fault. TellsRefusal fault ran (record { old = old; new = wrote }))
+    × Ends ran wrote status held failed
+
+-- a run of a process: of its arguments; or there is no memory for the buffer of its output, and that was reported
+abbrev pub RunsProcess : {S F : Type 0} → (S → Option (List ℕ)) → (F → Option (List ℕ)) → (List ℕ → Option F → Type 0)
+    → (S → Type 0) → (List (String Global) → Type 0) → (ErrorKind → Type 0) → (old : Shown) → (status : Status)
+    → (held : Shown) → (failed : Bool) → Type 0
+RunsProcess of_input of_file opens is_standard has denies old status held failed =
+    ((words : Result (Vec (String Global) Global) WordFault) × IsGiven has denies words
+    × RunsArguments of_input of_file opens is_standard words old status held failed)
+    ⊎ TellsRefusal OutOfMemory status (record { old = old; new = held })

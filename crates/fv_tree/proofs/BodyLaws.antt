@@ -11,13 +11,14 @@ use Rattle.fv_base.specs.declared.flash.FileSystem.{FileSystem}
 use Rattle.fv_base.specs.declared.flash.Polarity.{Polarity}
 use Rattle.fv_base.proofs.Laws.{all_filter, bytes_back, bytes_drop, bytes_front}
 use Rattle.std.proofs.lemmas.List.{length-drop}
-use Rattle.fv_file.specs.Cells.{CellForm, Valid, Pad, Dead, Stub, Free, Tiles, CellsWithin, IsCell, IsMadeUp, offset_of, cell_len}
+use Rattle.fv_file.specs.Cells.{CellForm, Valid, Pad, Dead, Stub, Free, Tiles, IsCell, offset_of}
+use Rattle.fv_file.specs.CellLengths.{CellsWithin, IsMadeUp, cell_len}
 use Rattle.fv_file.proofs.Laws.{cell_span}
 use Rattle.fv_head.specs.declared.extent.Extent.{Extent}
 use Rattle.fv_tree.specs.inner.ReadingParts.{IsReadyFile, AllStored}
 use Rattle.fv_tree.specs.LocatedFiles.{StandIn}
 use Rattle.fv_tree.specs.Denotes.{Stream, MeansFile}
-use Rattle.fv_tree.specs.Files.{FileForm, files_in, AreCurrent, replaces}
+use Rattle.fv_tree.specs.Files.{FileForm, files_in, AreCurrent, replaced_by}
 use Rattle.fv_base.specs.declared.fault.Place.{Place}
 use Rattle.fv_tree.specs.FailingChecks.{First}
 use Rattle.fv_tree.specs.FirstFault.{Faulty, FileFault, BodyFault, OneOf}
@@ -52,7 +53,7 @@ stored_here s p (Valid at head payload) x base end cs small short fits is lies m
   rest,
 )
 stored_here s p (Pad at head payload) x base end cs small short fits is lies made rest = rest
-stored_here s p (Dead at len) x base end cs small short fits is lies made rest = rest
+stored_here s p (Dead at len state) x base end cs small short fits is lies made rest = rest
 stored_here s p (Stub at len) x base end cs small short fits is lies made rest = rest
 stored_here s p (Free at len) x base end cs small short fits is lies made rest = rest
 
@@ -74,5 +75,5 @@ files_stored e volume base cs fs small short fits tiles within current =
     let short' : length (drop e.first volume) ≤ volume_limit = omega (arith, length-drop e.first volume, short) in
     let all = stored_in e.file_system e.polarity e.first base (length volume) cs (drop e.first volume)
     (bytes_drop e.first volume small) short' fits tiles within in
-    subst (AllStored base) (sym current.files_are) (all_filter (λ f. not (list_any (replaces f) (files_in cs))) (IsReadyFile base)
+    subst (AllStored base) (sym current.files_are) (all_filter (λ f. not (list_any (replaced_by f) (files_in cs))) (IsReadyFile base)
     (files_in cs) all)

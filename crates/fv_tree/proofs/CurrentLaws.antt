@@ -32,7 +32,7 @@ any_behind : (p : FileForm → Bool) (xs : List FileForm) (f : FileForm) (ys : L
     → list_any p (xs ++ (f ∷ ys)) ≡ true
 any_behind p xs f ys h = grind (arith, common_steps, list_any_at, length-append, get_or_at)
 
-twin_not : (before : List FileForm) (f : FileForm) (after : List FileForm) → NoTwins (before ++ (f ∷ after))
+pub twin_not : (before : List FileForm) (f : FileForm) (after : List FileForm) → NoTwins (before ++ (f ∷ after))
     → list_any (is_twin f) before ≡ true → ⊥
 twin_not [] f after none h = let x : ⊥ = cc in x
 twin_not (g ∷ gs) f after none h = go (twin_not gs f after none.1) (or_true (is_twin f g) (list_any (is_twin f) gs) h) where

@@ -12,7 +12,8 @@ use Rattle.fv_tree.specs.Difference.{head_differs, difference, files_differ, sec
 use Rattle.fv_tree.specs.declared.difference.Step.{Step}
 use Rattle.fv_tree.specs.declared.difference.Word.{Word}
 use Rattle.fv_tree.specs.declared.difference.Word.TheVariants as words
-use Rattle.fv_tree.specs.Meaning.{Meaning, Volume, FileMeaning, SectionMeaning, head_of, files_from, sections_from}
+use Rattle.fv_tree.specs.Meaning.{Meaning, Volume, FileMeaning, SectionMeaning, head_of}
+use Rattle.fv_tree.specs.MeaningParts.{files_from, sections_from}
 use Rattle.fv_tree.proofs.DifferenceLaws.{no_difference}
 
 -- ---- the first of two

@@ -15,7 +15,8 @@ use Rattle.fv_base.specs.declared.fault.FaultKind.TheVariants as kinds
 use Rattle.fv_base.specs.declared.fault.Place.{Place}
 use Rattle.fv_base.specs.declared.flash.FileSystem.{FileSystem}
 use Rattle.fv_base.specs.declared.flash.Polarity.{Polarity}
-use Rattle.fv_file.specs.Cells.{CellForm, Valid, Pad, Dead, Stub, Free, CellsWithin, Tiles}
+use Rattle.fv_file.specs.Cells.{CellForm, Valid, Pad, Dead, Stub, Free, Tiles}
+use Rattle.fv_file.specs.CellLengths.{CellsWithin}
 use Rattle.fv_file.specs.FileChecks.{leading_count, state_checks, cell_checks}
 use Rattle.fv_file.specs.FileChecks as file
 use Rattle.fv_file.specs.States.{bits_of, state_of}
@@ -27,11 +28,11 @@ use Rattle.fv_head.proofs.Laws.{fault_within, first_lies}
 use Rattle.fv_section.specs.FrameChecks.{frame_checks}
 use Rattle.fv_section.specs.FrameChecks as section
 use Rattle.fv_section.specs.Frames.{FrameForm, frame_len}
-use Rattle.fv_section.specs.Frames as framed
+use Rattle.fv_section.specs.StreamReads.{FramesWithin}
 use Rattle.fv_section.proofs.Laws.{whole_within}
 use Rattle.fv_base.specs.Limits.{depth_limit}
 use Rattle.fv_tree.specs.FailingChecks.{First}
-use Rattle.fv_tree.specs.Files.{FileForm, files_in, current_in, replaces}
+use Rattle.fv_tree.specs.Files.{FileForm, files_in, current_in, replaced_by}
 use Rattle.fv_tree.specs.FirstFault.{Moved, NamesFault, LayoutFault, BodyFault, InSection, InStream, InVolume, IsFirstOfVolume}
 use Rattle.fv_tree.specs.FirstFault.{data_at, data_place, outermost}
 use Rattle.fv_tree.proofs.NameLaws.{files_within, top_within, twin_within}
@@ -104,7 +105,7 @@ body_within s p from body f first =
 
 -- a frame of a stream ends within it
 frame_ends : (end : ℕ) (before : List FrameForm) (f : FrameForm) (behind : List FrameForm)
-    → framed.FramesWithin end (before ++ (f ∷ behind)) → f.offset + frame_len f ≤ end
+    → FramesWithin end (before ++ (f ∷ behind)) → f.offset + frame_len f ≤ end
 frame_ends end [] f behind all = all.0
 frame_ends end (g ∷ gs) f behind all = frame_ends end gs f behind all.1
 
@@ -116,7 +117,7 @@ files_end : (end : ℕ) (cs : List CellForm) → CellsWithin end cs → AllByRec
 files_end end [] h = tt
 files_end end (Valid at head payload ∷ cs) (lies, made, rest) = (omega (arith, lies, made), files_end end cs rest)
 files_end end (Pad at head payload ∷ cs) (lies, made, rest) = files_end end cs rest
-files_end end (Dead at len ∷ cs) (lies, made, rest) = files_end end cs rest
+files_end end (Dead at len state ∷ cs) (lies, made, rest) = files_end end cs rest
 files_end end (Stub at len ∷ cs) (lies, made, rest) = files_end end cs rest
 files_end end (Free at len ∷ cs) (lies, made, rest) = files_end end cs rest
 
@@ -137,7 +138,7 @@ names_within : (end len : ℕ) (fs : List FileForm) (f : Fault) → AllByRecursi
 names_within end len fs f starts (inl (x, twin, is)) =
     subst (λ (g : Fault). g.place.offset ≤ end) (sym is) (twin_within First end x fs starts twin)
 names_within end len fs f starts (inr (none, x, top, is)) =
-    let current = all_filter (λ f. not (list_any (replaces f) fs)) (λ (f : FileForm). f.offset ≤ end) fs starts in
+    let current = all_filter (λ f. not (list_any (replaced_by f) fs)) (λ (f : FileForm). f.offset ≤ end) fs starts in
     subst (λ (g : Fault). g.place.offset ≤ end) (sym is) (top_within end len x (current_in fs) current top)
 
 module _ (x : Extent) (v : List ℕ) (end : x.first + length (drop x.first v) ≡ length v) where
@@ -163,7 +164,7 @@ SectionLies n = (e : Fault) (f : FrameForm) (at : Place) → InSection First n e
 stream_by : (n : ℕ) → SectionLies n → (e : Fault) (b : List ℕ) (at : Place) → InStream First n e b at → LiesIn at (length b) n e
 stream_by n low e b at (inl moved) = moved_lies _ at (length b) n e (frame_within b) moved
 stream_by n low e b at (inr (frames, tail, split, (before, f, behind, is, read, first))) =
-    let ends = frame_ends (length b) before f behind (subst (framed.FramesWithin (length b)) is (whole_within frames tail b split)) in
+    let ends = frame_ends (length b) before f behind (subst (FramesWithin (length b)) is (whole_within frames tail b split)) in
     let lies = low e f at first in
     (omega (arith, lies.0, ends), lies.1)
 
@@ -174,7 +175,7 @@ module _ (n : ℕ) (low : SectionLies n) (e : Fault) (at : Place) where
   body_by x v end (inl moved) = moved_lies _ at (length v) n e (layout_within x v end) moved
   body_by x v end (inr (cells, tiles, right, (before, f, behind, is, read, (holds, first)))) =
       let ends = files_end (length v) cells (cells_lie x v end cells tiles) in
-      let current = all_filter (λ f. not (list_any (replaces f) (files_in cells))) (EndsBy (length v)) (files_in cells) ends in
+      let current = all_filter (λ f. not (list_any (replaced_by f) (files_in cells))) (EndsBy (length v)) (files_in cells) ends in
       let fits = in_middle (EndsBy (length v)) before f behind (subst (AllByRecursion (EndsBy (length v))) is current) in
       let lies = stream_by n low e f.payload (data_at at f) first in
       (omega (arith, lies.0, fits), lies.1)

@@ -8,14 +8,14 @@ use Rattle.fv_file.specs.Cells.{CellForm, Valid, Pad, Dead, Stub, Free}
 use Rattle.fv_file.proofs.Laws.{cells_few}
 use Rattle.fv_head.proofs.Laws.{front_lies}
 use Rattle.fv_tree.specs.Denotes.{Pairwise, Stream, Denotes, MeansFile, IsMeaning}
-use Rattle.fv_tree.specs.Files.{FileForm, files_in, replaces}
+use Rattle.fv_tree.specs.Files.{FileForm, files_in, replaced_by}
 use Rattle.fv_tree.specs.Meaning.{Meaning, files_of, head_of}
 
 pub files_few : (cs : List CellForm) → length (files_in cs) ≤ length cs
 files_few [] = omega arith
 files_few (Valid at head payload ∷ cs) = omega (arith, files_few cs)
 files_few (Pad at head payload ∷ cs) = omega (arith, files_few cs)
-files_few (Dead at len ∷ cs) = omega (arith, files_few cs)
+files_few (Dead at len state ∷ cs) = omega (arith, files_few cs)
 files_few (Stub at len ∷ cs) = omega (arith, files_few cs)
 files_few (Free at len ∷ cs) = omega (arith, files_few cs)
 
@@ -35,7 +35,7 @@ pairs_length R (x ∷ xs) (y ∷ ys) p = omega (arith, pairs_length R xs ys p.1)
 pub few_files : (n : ℕ) (b : List ℕ) (m : Meaning) → Denotes n b m → length (files_of m) ≤ length b
 few_files n b m d =
     let cells = cells_few d.extent.file_system d.extent.polarity d.extent.first d.cells (drop d.extent.first b) d.tiles in
-    let all = filter_few (λ f. not (list_any (replaces f) (files_in d.cells))) (files_in d.cells) in
+    let all = filter_few (λ f. not (list_any (replaced_by f) (files_in d.cells))) (files_in d.cells) in
     omega (
       arith,
       cells,

@@ -3,7 +3,8 @@ use Rattle.std.proofs.lemmas.Grind.{common_steps}
 use Rattle.std.proofs.Common.{◌≡◌, ℕ, List, Bool, true, false, sym, ap, ◌∙◌, arith}
 use Rattle.fv_tree.specs.Denotes.{holds_sections, Stream, MeansContent, MeansFile}
 use Rattle.fv_tree.specs.Files.{FileForm}
-use Rattle.fv_tree.specs.Meaning.{FileMeaning, File, Plain, Sectioned, SectionMeaning, sections_list, sections_from}
+use Rattle.fv_tree.specs.Meaning.{FileMeaning, File, Plain, Sectioned, SectionMeaning, sections_list}
+use Rattle.fv_tree.specs.MeaningParts.{sections_from}
 use Rattle.fv_tree.proofs.SectionLaws.{list_back}
 
 never : (t : Bool) → t ≡ true → t ≡ false → ⊥

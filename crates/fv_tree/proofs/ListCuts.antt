@@ -68,7 +68,7 @@ one_fault {F} cs f g (before, c, after, is, held, fails, fault) (before', d, aft
 -- ---- items that are read
 
 -- an item that is paired with nothing is in no list of pairs
-not_paired : {A B : Type 0} (R : A → B → Type 0) (before : List A) (x : A) (after : List A) (ys : List B) → ((y : B) → R x y → ⊥)
+pub not_paired : {A B : Type 0} (R : A → B → Type 0) (before : List A) (x : A) (after : List A) (ys : List B) → ((y : B) → R x y → ⊥)
     → Pairwise R (before ++ (x ∷ after)) ys → ⊥
 not_paired R [] x after [] bad p = p
 not_paired R [] x after (y ∷ ys) bad p = bad y p.0

@@ -6,13 +6,14 @@ use Rattle.std.specs.Prelude.{not}
 use Rattle.std.proofs.lemmas.List.{length-take-le, length-drop, take_all}
 use Rattle.fv_base.proofs.Laws.{all_filter, field-take}
 use Rattle.fv_base.specs.Value.{up_to_8}
-use Rattle.fv_file.specs.Cells.{CellForm, Valid, Pad, Dead, Stub, Free, CellsWithin}
+use Rattle.fv_file.specs.Cells.{CellForm, Valid, Pad, Dead, Stub, Free}
+use Rattle.fv_file.specs.CellLengths.{CellsWithin}
 use Rattle.fv_file.specs.declared.head.FileHead.{FileHead}
 use Rattle.fv_file.proofs.Laws.{IsPayloadIn, body_payloads, all_within}
 use Rattle.fv_head.specs.Head.{HeadFields, BeginsVolume}
 use Rattle.fv_head.specs.declared.extent.Extent.{Extent}
 use Rattle.fv_head.proofs.Laws.{first_lies, one_front}
-use Rattle.fv_tree.specs.Files.{FileForm, files_in, replaces}
+use Rattle.fv_tree.specs.Files.{FileForm, files_in, replaced_by}
 use Rattle.fv_tree.specs.Denotes.{Denotes}
 use Rattle.fv_tree.specs.FirstFault.{data_place}
 use Rattle.fv_tree.specs.LocatedFiles.{StandIn, BeginWithFiles, HasDataIn}
@@ -30,7 +31,7 @@ all_files : (volume : List ℕ) (cs : List CellForm) → AllByRecursion (IsPaylo
 all_files volume [] p l = tt
 all_files volume (Valid at head payload ∷ cs) p l = (one_file volume at head payload p.0 l.0 l.1, all_files volume cs p.1 l.2)
 all_files volume (Pad at head payload ∷ cs) p l = all_files volume cs p.1 l.2
-all_files volume (Dead at len ∷ cs) p l = all_files volume cs p.1 l.2
+all_files volume (Dead at len state ∷ cs) p l = all_files volume cs p.1 l.2
 all_files volume (Stub at len ∷ cs) p l = all_files volume cs p.1 l.2
 all_files volume (Free at len ∷ cs) p l = all_files volume cs p.1 l.2
 
@@ -53,7 +54,7 @@ located_data b h e fs front stand =
     let within = subst (λ n. CellsWithin n stand.cells) all
     (all_within e.file_system e.polarity e.first stand.cells (drop e.first v) stand.tiles) in
     let files = all_files v stand.cells (body_payloads e.file_system e.polarity e.first stand.cells v stand.tiles) within in
-    let kept = all_filter (λ f. not (list_any (replaces f) (files_in stand.cells))) (HasDataIn v) (files_in stand.cells) files in
+    let kept = all_filter (λ f. not (list_any (replaced_by f) (files_in stand.cells))) (HasDataIn v) (files_in stand.cells) files in
     in_front e.length b fs front.whole (subst (AllByRecursion (HasDataIn v)) (sym stand.current.files_are) kept)
 
 -- ---- that they are the only ones

@@ -8,7 +8,8 @@ use Rattle.std.proofs.lemmas.List.{drop_more}
 use Rattle.std.proofs.lemmas.Bool.Decides.{Decides-eqb}
 use Rattle.fv_tree.specs.LookupInstances.{instance_of, of_type, preorder, inside_section}
 use Rattle.fv_tree.specs.inner.Searches.{sought}
-use Rattle.fv_tree.specs.Meaning.{SectionMeaning, sections_from}
+use Rattle.fv_tree.specs.Meaning.{SectionMeaning}
+use Rattle.fv_tree.specs.MeaningParts.{sections_from}
 
 pub instance_at : {A : Type 0} (n k : ℕ) (xs : List A) → n ≡ k + 1 → instance_of n xs ≡ slice_get xs k
 instance_at zero k xs e = absurd (omega (arith, e))

@@ -7,7 +7,8 @@ use Rattle.std.proofs.lemmas.List.{take-append-drop, drop_more, take_more, lengt
 use Rattle.fv_base.specs.Faults.{outer_fault}
 use Rattle.fv_base.specs.declared.fault.Fault.{Fault}
 use Rattle.fv_base.specs.declared.fault.FaultKind.TheVariants as kinds
-use Rattle.fv_file.specs.Cells.{CellForm, Valid, Pad, Dead, Stub, Free, CellsWithin}
+use Rattle.fv_file.specs.Cells.{CellForm, Valid, Pad, Dead, Stub, Free}
+use Rattle.fv_file.specs.CellLengths.{CellsWithin}
 use Rattle.fv_tree.specs.Files.{FileForm, files_in, is_top, end_of, TopAtEnd}
 use Rattle.fv_tree.specs.FailingChecks.{Which, First}
 use Rattle.fv_tree.specs.FirstFault.{HasTwin, TopElsewhere}
@@ -31,7 +32,7 @@ files_in_more : (cs : List CellForm) (c : CellForm) → files_in (cs ++ c ∷ []
 files_in_more [] c = refl
 files_in_more (Valid at head payload ∷ cs) c = ap (λ fs. record { offset = at; head = head; payload = payload } ∷ fs) (files_in_more cs c)
 files_in_more (Pad at head payload ∷ cs) c = files_in_more cs c
-files_in_more (Dead at len ∷ cs) c = files_in_more cs c
+files_in_more (Dead at len state ∷ cs) c = files_in_more cs c
 files_in_more (Stub at len ∷ cs) c = files_in_more cs c
 files_in_more (Free at len ∷ cs) c = files_in_more cs c
 
@@ -80,7 +81,7 @@ pub files_within : (end : ℕ) (cs : List CellForm) → CellsWithin end cs → A
 files_within end [] h = tt
 files_within end (Valid at head payload ∷ cs) (lies, made, rest) = (omega (arith, lies), files_within end cs rest)
 files_within end (Pad at head payload ∷ cs) (lies, made, rest) = files_within end cs rest
-files_within end (Dead at len ∷ cs) (lies, made, rest) = files_within end cs rest
+files_within end (Dead at len state ∷ cs) (lies, made, rest) = files_within end cs rest
 files_within end (Stub at len ∷ cs) (lies, made, rest) = files_within end cs rest
 files_within end (Free at len ∷ cs) (lies, made, rest) = files_within end cs rest
 

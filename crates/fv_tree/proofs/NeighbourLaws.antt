@@ -19,7 +19,7 @@ use Rattle.std.proofs.lemmas.List.Elements.{All-from_get_or, recursion_from_All}
 use Rattle.std.proofs.lemmas.List.Folds.{Any-from_list_any, list_any_at, list_any_none}
 use Rattle.fv_base.specs.declared.guid.Guid.{Guid}
 use Rattle.fv_base.proofs.Laws.{at_index}
-use Rattle.fv_tree.specs.Files.{FileForm, NoTwins, current_in, is_marked, is_twin, replaces, same_name}
+use Rattle.fv_tree.specs.Files.{FileForm, NoTwins, current_in, is_marked, is_twin, replaced_by, same_name}
 use Rattle.fv_tree.specs.FileNames.{Entry, IsIndex, IsName, halves_of}
 use Rattle.fv_tree.specs.LocatedFiles.{file_form}
 use Rattle.fv_tree.specs.declared.volume_files.LocatedFile.{LocatedFile}
@@ -194,7 +194,7 @@ module _ (fs : List FileForm) (es : List Entry) (index : IsIndex (names_in fs) e
 
   -- ---- files that are replaced
 
-  replaces_at : (p q : ℕ) → p < length es → q < length es → Decides (replaces (file p) (file q)) (((at p).0 ≡ (at q).0)
+  replaces_at : (p q : ℕ) → p < length es → q < length es → Decides (replaced_by (file p) (file q)) (((at p).0 ≡ (at q).0)
       × ((is_marked (file p).head.state ≡ true) × (not (is_marked (file q).head.state) ≡ true)))
   replaces_at p q k l =
       let m : Bool = is_marked (file p).head.state in
@@ -204,9 +204,9 @@ module _ (fs : List FileForm) (es : List Entry) (index : IsIndex (names_in fs) e
 
   -- of two files with one name that are no twins, the marked one is replaced
   beside : (p q : ℕ) → p < length es → q < length es → (p < q) ⊎ (q < p) → NoTwins fs → (at q).0 ≡ (at p).0
-      → is_marked (file p).head.state ≡ true → list_any (replaces (file p)) fs ≡ true
+      → is_marked (file p).head.state ≡ true → list_any (replaced_by (file p)) fs ≡ true
   beside p q k l order none same marked =
-      list_any_at (replaces (file p)) fs (at q).1 d (number_within q l)
+      list_any_at (replaced_by (file p)) fs (at q).1 d (number_within q l)
       ((replaces_at p q k l).1 (sym same, (marked, plain (is_marked (file q).head.state) refl)))
     where
       twin : (r s : ℕ) → r < s → s < length es → AreTwins fs d (at r) (at s) → ⊥
@@ -223,13 +223,13 @@ module _ (fs : List FileForm) (es : List Entry) (index : IsIndex (names_in fs) e
       plain true is = absurd (never order (is ∙ sym marked))
 
   -- only a marked file whose entry shares its name is replaced
-  pub replaced_back : (p : ℕ) → p < length es → list_any (replaces (get_or fs (get_or es p e).1 d)) fs ≡ true
+  pub replaced_back : (p : ℕ) → p < length es → list_any (replaced_by (get_or fs (get_or es p e).1 d)) fs ≡ true
       → SharesItsName es e p × (mark_at fs d (get_or es p e).1 ≡ true)
   replaced_back p l h =
-      let r = Any-from_list_any (replaces (file p)) fs h in
+      let r = Any-from_list_any (replaced_by (file p)) fs h in
       let b = entry_of r.0 r.2 in
       let is : file b.0 ≡ r.1 = ap (λ (n : ℕ). get_or fs n d) b.2 ∙ get_or_default fs r.0 d r.1 r.2 ∙ r.3 in
-      let parts = (replaces_at p b.0 l b.1).0 (ap (replaces (file p)) is ∙ r.4) in
+      let parts = (replaces_at p b.0 l b.1).0 (ap (replaced_by (file p)) is ∙ r.4) in
       (side b.0 b.1 parts.0 parts.1.1 parts.1.0 (cases_lt p b.0) (cases_lt b.0 p), parts.1.0)
     where
       itself : (m : Bool) → m ≡ true → not m ≡ true → ⊥
@@ -252,18 +252,18 @@ module _ (fs : List FileForm) (es : List Entry) (index : IsIndex (names_in fs) e
 
   -- so of an entry that shares its name the mark says whether its file is replaced; that of any other entry is not
   pub marked_replaced : NoTwins fs → (p : ℕ) (t : Bool) → p < length es → SharesItsName es e p → t ≡ mark_at fs d (get_or es p e).1
-      → t ≡ list_any (replaces (get_or fs (get_or es p e).1 d)) fs
+      → t ≡ list_any (replaced_by (get_or fs (get_or es p e).1 d)) fs
   marked_replaced none p true l (inl h) is = sym (beside p (p - 1) l (omega (arith, l)) (inr (omega (arith, h.0))) none h.1 (sym is))
   marked_replaced none p true l (inr h) is = sym (beside p (p + 1) l h.0 (inl (omega arith)) none h.1 (sym is))
-  marked_replaced none p false l h is = go (list_any (replaces (file p)) fs) refl where
-    go : (u : Bool) → list_any (replaces (file p)) fs ≡ u → false ≡ u
+  marked_replaced none p false l h is = go (list_any (replaced_by (file p)) fs) refl where
+    go : (u : Bool) → list_any (replaced_by (file p)) fs ≡ u → false ≡ u
     go true x = is ∙ (replaced_back p l x).1
     go false x = refl
 
   pub alone_kept : (p : ℕ) (t : Bool) → p < length es → t ≡ false → (SharesItsName es e p → t ≡ true)
-      → t ≡ list_any (replaces (get_or fs (get_or es p e).1 d)) fs
-  alone_kept p t l is all = go (list_any (replaces (file p)) fs) refl where
-    go : (u : Bool) → list_any (replaces (file p)) fs ≡ u → t ≡ u
+      → t ≡ list_any (replaced_by (get_or fs (get_or es p e).1 d)) fs
+  alone_kept p t l is all = go (list_any (replaced_by (file p)) fs) refl where
+    go : (u : Bool) → list_any (replaced_by (file p)) fs ≡ u → t ≡ u
     go true x = all (replaced_back p l x).0
     go false x = is
 
@@ -287,16 +287,16 @@ module _ (fs : List FileForm) (es : List Entry) (index : IsIndex (names_in fs) e
         let one : p + 1 - 1 ≡ p = omega arith in
         apart e (p + 1) (omega arith) h.0 (ap (λ (k : ℕ). (at k).0) one ∙ sym h.1)
 
-    not_replaced : (n : ℕ) → n < length fs → (t : Bool) → list_any (replaces (get_or fs n d)) fs ≡ t → t ≡ false
+    not_replaced : (n : ℕ) → n < length fs → (t : Bool) → list_any (replaced_by (get_or fs n d)) fs ≡ t → t ≡ false
     not_replaced n l false h = refl
     not_replaced n l true h =
         let r = entry_of n l in
-        absurd (alone r.0 r.1 (replaced_back r.0 r.1 (ap (λ (k : ℕ). list_any (replaces (get_or fs k d)) fs) r.2 ∙ h)).0)
+        absurd (alone r.0 r.1 (replaced_back r.0 r.1 (ap (λ (k : ℕ). list_any (replaced_by (get_or fs k d)) fs) r.2 ∙ h)).0)
 
     -- and no file is replaced
     pub apart_current : current_in fs ≡ fs
-    apart_current = all_kept (λ f. list_any (replaces f) fs) fs (recursion_from_All _ fs
-        (All-from_get_or (λ f. list_any (replaces f) fs ≡ false) fs d (λ n l. not_replaced n l _ refl)))
+    apart_current = all_kept (λ f. list_any (replaced_by f) fs) fs (recursion_from_All _ fs
+        (All-from_get_or (λ f. list_any (replaced_by f) fs ≡ false) fs d (λ n l. not_replaced n l _ refl)))
 
 -- ---- what is kept
 

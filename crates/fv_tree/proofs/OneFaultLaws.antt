@@ -9,7 +9,8 @@ use Rattle.fv_base.specs.Checks.{IsFirstFault}
 use Rattle.fv_base.specs.declared.fault.Fault.{Fault}
 use Rattle.fv_base.specs.declared.flash.FileSystem.{FileSystem}
 use Rattle.fv_base.specs.declared.flash.Polarity.{Polarity}
-use Rattle.fv_file.specs.Cells.{CellForm, Tiles, NoneFree, is_free}
+use Rattle.fv_file.specs.Cells.{CellForm, Tiles, is_free}
+use Rattle.fv_file.specs.FileChecks.{NoneFree}
 use Rattle.fv_file.specs.FileChecks as file
 use Rattle.fv_file.proofs.Laws.{no_cell, not_empty, one_cell}
 use Rattle.fv_file.proofs.Laws as cellular

@@ -22,8 +22,8 @@ use Rattle.fv_tree.specs.Denotes.{group_kind, volume_kind, Opens, Streams, Volum
 use Rattle.fv_base.specs.declared.fault.Place.{Place}
 use Rattle.fv_tree.specs.FailingChecks.{First}
 use Rattle.fv_tree.specs.FirstFault.{moved_fault, body_place, body_at, InSection, InStream, InVolume}
-use Rattle.fv_tree.specs.Meaning.{Meaning, SectionMeaning, Section, Leaf, Group}
-use Rattle.fv_tree.specs.Meaning.{Nested, sections_list, sections_from}
+use Rattle.fv_tree.specs.Meaning.{Meaning, SectionMeaning, Section, Leaf, Group, Nested, sections_list}
+use Rattle.fv_tree.specs.MeaningParts.{sections_from}
 use Rattle.fv_tree.specs.inner.Shapes.{shape_of}
 use Rattle.fv_tree.specs.declared.shape.Shape.TheVariants as shapes
 

@@ -8,15 +8,17 @@ use Rattle.fv_base.specs.declared.flash.FileSystem.{FileSystem}
 use Rattle.fv_base.specs.declared.flash.Polarity.{Polarity}
 use Rattle.fv_base.proofs.Laws.{bytes_back, bytes_front}
 use Rattle.fv_file.specs.Attributes.{attribute_bits, is_large}
-use Rattle.fv_file.specs.Cells.{CellForm, Valid, Pad, Dead, Stub, Free, Tiles, CellsWithin, IsCell, IsFilled, offset_of, cell_len}
+use Rattle.fv_file.specs.Cells.{CellForm, Valid, Pad, Dead, Stub, Free, Tiles, IsCell, IsFilled, offset_of}
+use Rattle.fv_file.specs.CellLengths.{CellsWithin, cell_len}
 use Rattle.fv_file.specs.Files.{IsFile, IsSound, attributes_at, file_header_len, file_sum_right}
+use Rattle.fv_file.specs.NewHeaders.{file_sum_for}
 use Rattle.fv_file.specs.States.{is_alive}
 use Rattle.fv_file.specs.declared.cell.Cell.{Cell}
 use Rattle.fv_file.specs.declared.cell.Cell.TheVariants as cells
 use Rattle.fv_file.specs.declared.head.FileHead.{FileHead}
 use Rattle.fv_file.specs.declared.state.FileState.{FileState}
 use Rattle.fv_file.specs.declared.state.FileState.TheVariants as states
-use Rattle.fv_tree.specs.LocatedFiles.{file_sum_by, header_len_by, state_by}
+use Rattle.fv_tree.specs.LocatedFiles.{header_len_by, state_by}
 use Rattle.fv_tree.specs.inner.SmallFiles.{FollowsFrom, IsSmallCell, mark_of}
 
 -- a cell, where there is none
@@ -34,7 +36,7 @@ no_cell = cells.Valid 0 (record {
 
 -- the file sum that is right is the one that follows
 sum_follows : (attributes file_sum : ℕ) (payload : List ℕ) → file_sum < 256 → file_sum_right attributes file_sum payload ≡ true
-    → file_sum ≡ file_sum_by attributes payload
+    → file_sum ≡ file_sum_for attributes payload
 sum_follows attributes file_sum payload small h = grind (arith, common_steps)
 
 state_follows : (state : FileState) → is_alive state ≡ true → state ≡ state_by (mark_of state)
@@ -81,6 +83,6 @@ small_cells system polarity at end (c ∷ cs) b (x, rest, text, is, starts, last
     one (Valid o head payload) (filled, alive, sound) lies bytes =
         (omega (arith, lies, room), header_follows system polarity head payload x bytes filled alive sound)
     one (Pad o head payload) is lies bytes = tt
-    one (Dead o len) is lies bytes = tt
+    one (Dead o len state) is lies bytes = tt
     one (Stub o len) is lies bytes = tt
     one (Free o len) is lies bytes = tt

@@ -6,9 +6,11 @@ use Rattle.fv_base.specs.Value.{IsBytes}
 use Rattle.fv_base.specs.declared.fault.Fault.{Fault}
 use Rattle.fv_base.specs.declared.fault.Place.{Place}
 use Rattle.fv_base.proofs.Laws.{in_middle}
-use Rattle.fv_section.specs.Frames.{FrameForm, Splits, FrameStandsAt, frame_len}
+use Rattle.fv_section.specs.Frames.{FrameForm, Splits, frame_len}
+use Rattle.fv_section.specs.StreamReads.{FrameStandsAt}
 use Rattle.fv_section.proofs.Laws.{split_stands, stands_within}
-use Rattle.fv_tree.specs.Denotes.{Pairwise, MeansSection, Stream, IsStoredFrame}
+use Rattle.fv_tree.specs.Denotes.{Pairwise, MeansSection, Stream}
+use Rattle.fv_tree.specs.ReadParts.{IsStoredFrame}
 use Rattle.fv_tree.specs.FailingChecks.{First}
 use Rattle.fv_tree.specs.FirstFault.{InSection, InStream}
 use Rattle.fv_tree.specs.Meaning.{SectionMeaning}

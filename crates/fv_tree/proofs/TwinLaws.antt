@@ -7,7 +7,7 @@ use Rattle.std.specs.List.{AllByRecursion, filter, list_any}
 use Rattle.std.proofs.lemmas.List.Elements.{filter_passes, recursion_from_All}
 use Rattle.std.proofs.lemmas.List.Folds.{list_any-append}
 use Rattle.std.proofs.lemmas.Slice.Eq.{bytes_eq-Decides}
-use Rattle.fv_tree.specs.Files.{FileForm, same_name, is_marked, is_twin, replaces, NoTwins, current_in, is_top}
+use Rattle.fv_tree.specs.Files.{FileForm, same_name, is_marked, is_twin, replaced_by, NoTwins, current_in, is_top}
 use Rattle.fv_tree.specs.FailingChecks.{First}
 use Rattle.fv_tree.specs.FirstFault.{HasTwin, TopElsewhere}
 use Rattle.fv_tree.proofs.CurrentLaws.{twin_none}
@@ -63,7 +63,7 @@ apart (h ∷ hs) f mid g after none = apart hs f mid g after none.1
 
 -- none of these files replaces it
 abbrev is_alive : List FileForm → FileForm → Bool
-is_alive fs f = not (list_any (replaces f) fs)
+is_alive fs f = not (list_any (replaced_by f) fs)
 
 -- what is not so where its contrary is
 true_not : (t : Bool) → not t ≡ true → t ≡ false
@@ -97,20 +97,20 @@ names_differ fs before f mid g after none is forth back =
         (recursion_from_All (λ h. is_alive fs h ≡ true) (filter (is_alive fs) fs) (filter_passes (is_alive fs) fs))
 
     -- a file that is current is replaced by none that is
-    not_replaced : (h : FileForm) → is_alive fs h ≡ true → list_any (replaces h) whole ≡ false
+    not_replaced : (h : FileForm) → is_alive fs h ≡ true → list_any (replaced_by h) whole ≡ false
     not_replaced h current =
-        subst (λ (l : List FileForm). list_any (replaces h) l ≡ false) is
-        (none_kept (is_alive fs) (replaces h) fs (true_not (list_any (replaces h) fs) current))
+        subst (λ (l : List FileForm). list_any (replaced_by h) l ≡ false) is
+        (none_kept (is_alive fs) (replaced_by h) fs (true_not (list_any (replaced_by h) fs) current))
 
-    over : replaces f g ≡ false
+    over : replaced_by f g ≡ false
     over =
-        let rest = any_cut (replaces f) before f (mid ++ (g ∷ after))
+        let rest = any_cut (replaced_by f) before f (mid ++ (g ∷ after))
         (not_replaced f (in_middle (λ h. is_alive fs h ≡ true) before f (mid ++ (g ∷ after)) all)) in
-        (any_cut (replaces f) mid g after rest.1).0
+        (any_cut (replaced_by f) mid g after rest.1).0
 
-    under : replaces g f ≡ false
+    under : replaced_by g f ≡ false
     under =
-        (any_cut (replaces g) before f (mid ++ (g ∷ after))
+        (any_cut (replaced_by g) before f (mid ++ (g ∷ after))
         (not_replaced g (in_middle (λ h. is_alive fs h ≡ true) mid g after
         (all_behind (λ h. is_alive fs h ≡ true) before f (mid ++ (g ∷ after)) all)))).0
 

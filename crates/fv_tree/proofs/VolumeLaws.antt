@@ -19,7 +19,8 @@ use Rattle.fv_tree.specs.Files.{FileForm}
 use Rattle.fv_base.specs.declared.fault.Place.{Place}
 use Rattle.fv_tree.specs.FailingChecks.{First}
 use Rattle.fv_tree.specs.FirstFault.{moved_fault, InVolume}
-use Rattle.fv_tree.specs.Meaning.{Meaning, Volume, FileMeaning, files_list, files_from, head_of, files_of}
+use Rattle.fv_tree.specs.Meaning.{Meaning, Volume, FileMeaning, files_list, head_of, files_of}
+use Rattle.fv_tree.specs.MeaningParts.{files_from}
 
 -- the volume has some files, and these are their meanings
 abbrev pub HasFiles : Streams → Extent → List ℕ → List FileMeaning → Type 0

@@ -1,18 +1,17 @@
 -- Which bytes are a volume with a given meaning. The definition recurs on how deep groups and opened volumes nest.
 use Rattle.std.specs.Prelude.{◌≡◌, ◌≢◌, ℕ, zero, suc, ◌≤◌, ◌==◌, ◌&&◌, ◌||◌, Bool, true, false, nat_le, List, [], ◌∷◌}
 use Rattle.std.specs.Prelude.{length, drop}
-use Rattle.fv_base.specs.Limits.{depth_limit, volume_limit}
+use Rattle.fv_base.specs.Limits.{depth_limit}
 use Rattle.fv_base.specs.Value.{IsBytes, field, le_at}
 use Rattle.fv_base.specs.declared.flash.FileSystem.{FileSystem}
-use Rattle.fv_base.specs.declared.flash.Polarity.{Polarity}
 use Rattle.fv_file.specs.Attributes.{attribute_bits, without_large}
-use Rattle.fv_file.specs.Cells.{CellForm, Valid, IsCell, Tiles}
+use Rattle.fv_file.specs.Cells.{CellForm, Tiles}
 use Rattle.fv_head.specs.Head.{BeginsVolume, signature_bytes, system_guid}
 use Rattle.fv_head.specs.declared.extent.Extent.{Extent}
-use Rattle.fv_section.specs.Frames.{FrameForm, Splits, FrameStandsAt}
+use Rattle.fv_section.specs.Frames.{FrameForm, Splits}
 use Rattle.fv_tree.specs.Files.{FileForm, AreCurrent, files_in}
-use Rattle.fv_tree.specs.Meaning.{Meaning, FileMeaning, File, ContentMeaning, Plain, Sectioned, SectionMeaning, Section}
-use Rattle.fv_tree.specs.Meaning.{BodyMeaning, Leaf, Group, Nested, sections_list, head_of, files_of}
+use Rattle.fv_tree.specs.Meaning.{Meaning, FileMeaning, File, ContentMeaning, Plain, Sectioned, SectionMeaning}
+use Rattle.fv_tree.specs.Meaning.{Section, BodyMeaning, Leaf, Group, Nested, sections_list, head_of, files_of}
 
 -- the type of a section that groups others, and of one that may hold a volume (section 3.2.5, EFI_SECTION_DISPOSABLE
 -- and EFI_SECTION_FIRMWARE_VOLUME_IMAGE)
@@ -120,21 +119,3 @@ Accepted b m = IsBytes b × Denotes depth_limit b m
 -- some bytes are a volume with this meaning
 abbrev pub IsMeaning : Meaning → Type 0
 IsMeaning m = (n : ℕ) × (n ≤ depth_limit) × (b : List ℕ) × IsBytes b × Denotes n b m
-
--- some bytes are this valid file, and then filler
-abbrev pub IsStoredFile : FileForm → Type 0
-IsStoredFile f =
-    (system : FileSystem) × (polarity : Polarity) × (b : List ℕ) × IsBytes b × (length b ≤ volume_limit)
-    × IsCell system polarity (Valid f.offset f.head f.payload) b
-
--- a valid file in some bytes has this meaning
-abbrev pub IsReadFile : FileMeaning → Type 0
-IsReadFile m = (n : ℕ) × (n ≤ depth_limit) × (f : FileForm) × IsStoredFile f × MeansFile (Stream n) f m
-
--- this frame is in some bytes, at its offset
-abbrev pub IsStoredFrame : FrameForm → Type 0
-IsStoredFrame f = (b : List ℕ) × IsBytes b × (length b ≤ volume_limit) × FrameStandsAt f f.offset b
-
--- a frame in some bytes has this meaning
-abbrev pub IsReadSection : SectionMeaning → Type 0
-IsReadSection m = (n : ℕ) × (n ≤ depth_limit) × (f : FrameForm) × IsStoredFrame f × MeansSection n f m

@@ -7,8 +7,8 @@ use Rattle.fv_base.specs.Flash.{AllAre, erased_byte}
 use Rattle.fv_base.specs.declared.fault.Fault.{Fault}
 use Rattle.fv_base.specs.declared.fault.FaultKind.{FaultKind}
 use Rattle.fv_base.specs.declared.fault.FaultKind.TheVariants as kinds
-use Rattle.fv_file.specs.Cells.{CellForm, Tiles, NoneFree}
-use Rattle.fv_file.specs.FileChecks.{cell_checks, IsFirstCellFault}
+use Rattle.fv_file.specs.Cells.{CellForm, Tiles}
+use Rattle.fv_file.specs.FileChecks.{NoneFree, cell_checks, IsFirstCellFault}
 use Rattle.fv_head.specs.declared.extent.Extent.{Extent}
 use Rattle.fv_section.specs.FrameChecks.{frame_checks, IsFirstFrameFault}
 use Rattle.fv_section.specs.Frames.{FrameForm, Splits}

@@ -2,9 +2,12 @@
 pub mod Meaning
 pub mod Files
 pub mod Denotes
+pub mod MeaningParts
+pub mod ReadParts
 pub mod FailingChecks
 pub mod FirstFault
 pub mod LocatedFiles
+pub mod VolumeCells
 pub mod FileNames
 pub mod FileSystems
 pub mod Difference

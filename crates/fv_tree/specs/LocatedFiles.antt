@@ -1,11 +1,12 @@
 -- The files of a volume as they are stored in it, each with its place.
-use Rattle.std.specs.Prelude.{◌≡◌, ◌≤◌, ◌+◌, ◌-◌, ◌%◌, ◌⊎◌, if◌then◌else◌, ℕ, List, length, sum, take, drop}
+use Rattle.std.specs.Prelude.{◌≡◌, ◌≤◌, ◌+◌, ◌⊎◌, ℕ, List, length, take, drop}
 use Rattle.fv_base.specs.Checks.{IsFirstFault}
 use Rattle.fv_base.specs.Value.{field}
 use Rattle.fv_base.specs.declared.fault.Fault.{Fault}
-use Rattle.fv_file.specs.Attributes.{attribute_bits, is_large, is_summed}
+use Rattle.fv_file.specs.Attributes.{attribute_bits, is_large}
 use Rattle.fv_file.specs.Cells.{CellForm, Tiles}
-use Rattle.fv_file.specs.Files.{file_header_len, fixed_checksum}
+use Rattle.fv_file.specs.Files.{file_header_len}
+use Rattle.fv_file.specs.NewHeaders.{file_sum_for}
 use Rattle.fv_file.specs.declared.state.FileState.{FileState}
 use Rattle.fv_file.specs.declared.state.FileState.TheVariants as states
 use Rattle.fv_head.specs.Head.{HeadFields, BeginsVolume}
@@ -29,9 +30,6 @@ state_by marks.Replaced = states.Marked
 abbrev pub header_len_by : ℕ → ℕ
 header_len_by attributes = file_header_len (is_large attributes)
 
-abbrev pub file_sum_by : ℕ → List ℕ → ℕ
-file_sum_by attributes payload = if is_summed attributes then (256 - sum payload % 256) % 256 else fixed_checksum
-
 -- a file that a call has returned, with what follows from its fields and with its data as a list of bytes
 abbrev pub file_form : LocatedFile → FileForm
 file_form s = record {
@@ -43,7 +41,7 @@ file_form s = record {
     size = header_len_by (attribute_bits s.attributes) + length s.payload.now;
     header_len = header_len_by (attribute_bits s.attributes);
     header_sum = s.header_sum;
-    file_sum = file_sum_by (attribute_bits s.attributes) s.payload.now;
+    file_sum = file_sum_for (attribute_bits s.attributes) s.payload.now;
     state = state_by s.mark;
   };
   payload = s.payload.now;

@@ -2,8 +2,9 @@
 use Rattle.std.specs.Prelude.{ℕ, ◌+◌, ◌==◌, ◌++◌, zero, suc, List, [], ◌∷◌, Option, Some, None, option_map, slice_get}
 use Rattle.std.specs.List.{filter}
 use Rattle.fv_section.specs.Frames.{FrameForm}
-use Rattle.fv_tree.specs.Meaning.{FileMeaning, file_kind_of, SectionMeaning, Section, SectionMeanings, NoSections}
-use Rattle.fv_tree.specs.Meaning.{MoreSections, BodyMeaning, Leaf, Group, Nested, section_kind_of}
+use Rattle.fv_tree.specs.Meaning.{FileMeaning, SectionMeaning, Section, SectionMeanings, NoSections}
+use Rattle.fv_tree.specs.MeaningParts.{file_kind_of, section_kind_of}
+use Rattle.fv_tree.specs.Meaning.{MoreSections, BodyMeaning, Leaf, Group, Nested}
 
 -- the number of the file after the one with this number, or of the first file
 abbrev pub number_after : Option ℕ → ℕ
@@ -45,7 +46,7 @@ of_type kind ss = filter (λ s. section_kind_of s == kind) ss
 abbrev pub section_of_type : ℕ → ℕ → SectionMeanings → Option SectionMeaning
 section_of_type kind instance ss = instance_of instance (of_type kind (preorder ss))
 
--- the type of a file whose data are sections that are kept as bytes (section 3.2.3, EFI_FV_FILETYPE_SECURITY_CORE)
+-- the type of a file whose data may be sections, and are kept as bytes (section 3.2.3, EFI_FV_FILETYPE_SECURITY_CORE)
 abbrev pub security_core : ℕ
 security_core = 0x03
 

@@ -1,6 +1,7 @@
 -- What the parts of a section view mean, and how long they are. (PI specification, volume 3, section 3.2.4)
 use Rattle.std.specs.Prelude.{◌≡◌, ◌+◌, List, [], ◌∷◌}
-use Rattle.fv_tree.specs.Meaning.{SectionMeaning, Section, Leaf, Group, Nested, sections_from, sections_end}
+use Rattle.fv_tree.specs.Meaning.{SectionMeaning, Section, Leaf, Group, Nested, sections_end}
+use Rattle.fv_tree.specs.MeaningParts.{sections_from}
 use Rattle.fv_tree.specs.declared.view.Parts.{Parts}
 use Rattle.fv_tree.specs.declared.view.Parts.TheVariants as parts
 use Rattle.fv_tree.specs.declared.view.Sections.{Sections}

@@ -1,6 +1,6 @@
 -- One level of a view; its parts are seen as their meanings.
 use Rattle.fv_tree.specs.Meaning.{ContentMeaning, Plain, Sectioned, BodyMeaning, Leaf, Group, Nested}
-use Rattle.fv_tree.specs.Meaning.{sections_from}
+use Rattle.fv_tree.specs.MeaningParts.{sections_from}
 use Rattle.fv_tree.specs.declared.view.Body.{Body}
 use Rattle.fv_tree.specs.declared.view.Body.TheVariants as bodies
 use Rattle.fv_tree.specs.declared.view.Content.{Content}

@@ -7,7 +7,7 @@ ghost use Rattle.fv_tree.specs.inner.DifferenceWalks.{outermost_first, ReturnsDi
 ghost use Rattle.fv_tree.specs.Difference.{difference, files_differ, file_differs, content_differs};
 ghost use Rattle.fv_tree.specs.Difference.{sections_differ, section_differs, body_differs};
 ghost use Rattle.fv_tree.specs.declared.difference.Word.TheVariants as words;
-ghost use Rattle.fv_tree.specs.Meaning.{files_from, sections_from};
+ghost use Rattle.fv_tree.specs.MeaningParts.{files_from, sections_from};
 ghost use Rattle.fv_tree.specs.Views.{content_view, body_view};
 
 use crate::head_difference::head_word;

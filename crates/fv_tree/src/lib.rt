@@ -1,6 +1,7 @@
 //! The meaning of a firmware volume, read as a view of its bytes.
 #![tactic(auto)]
 
+mod body_cells;
 mod difference;
 mod fault_place;
 mod head_difference;
@@ -13,6 +14,7 @@ mod stored_files;
 mod view;
 mod volume_files;
 
+pub use body_cells::volume_cells;
 pub use difference::{Difference, Step, Word, first_difference};
 pub use fault_place::fault_within;
 pub use lookup::{Item, Lookup, file_by_name, file_by_type, next_file, section_by_type};

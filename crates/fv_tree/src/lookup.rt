@@ -8,8 +8,8 @@ ghost use Rattle.fv_tree.specs.LookupAnswers.{SeesSection, SeesFrame, IsNotSecti
 ghost use Rattle.fv_tree.specs.LookupInstances.{file_after, file_of_type, section_of_type, frame_of_type, of_type};
 ghost use Rattle.fv_tree.specs.LookupInstances.{preorder, inside_section, inside_body, security_core};
 ghost use Rattle.fv_tree.specs.inner.Searches.{sought};
-ghost use Rattle.fv_tree.specs.Meaning.{files_of, file_kind_of, content_of, Plain, Sectioned};
-ghost use Rattle.fv_tree.specs.Meaning.{SectionMeanings, sections_from};
+ghost use Rattle.fv_tree.specs.Meaning.{files_of, content_of, Plain, Sectioned, SectionMeanings};
+ghost use Rattle.fv_tree.specs.MeaningParts.{file_kind_of, sections_from};
 ghost use Rattle.fv_tree.specs.FileNames.{file_named};
 ghost use Rattle.fv_tree.specs.Views.{body_view};
 

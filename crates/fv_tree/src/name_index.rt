@@ -8,7 +8,7 @@ ghost use Rattle.std.specs.Option.{unwrap_or};
 ghost use Rattle.std.specs.Ordering.{nat_cmp};
 ghost use Rattle.fv_base.specs.Faults.{out_of_memory};
 ghost use Rattle.fv_tree.specs.Meaning.{FileMeaning};
-ghost use Rattle.fv_tree.specs.Files.{FileForm, NoTwins, is_twin, replaces};
+ghost use Rattle.fv_tree.specs.Files.{FileForm, NoTwins, is_twin, replaced_by};
 ghost use Rattle.fv_tree.specs.FileNames.{Entry, HasNumbers, IsIndex, IsName, IsSixteenBytes, entry_cmp};
 ghost use Rattle.fv_tree.specs.FileNames.{halves_in, halves_of, is_named, numbered};
 ghost use Rattle.fv_tree.specs.inner.NameOrders.{key_of, names_in};
@@ -220,7 +220,7 @@ impl Numbers {
         requires apart { NoTwins (map file_form files.now) }
         requires last { place < length self.now.sorted.items }
         ensures { (d : FileForm) (e : Entry) → result
-            ≡ list_any (replaces (get_or (map file_form files.now) (get_or self.now.sorted.items place e).1 d))
+            ≡ list_any (replaced_by (get_or (map file_form files.now) (get_or self.now.sorted.items place e).1 d))
             (map file_form files.now) }
     {
         self.shares_its_name(place) && is_marked_at(files, self.sorted[place].1)
@@ -231,7 +231,7 @@ impl Numbers {
         requires index { IsIndex (names_in (map file_form files.old)) self.now.sorted.items }
         requires apart { NoTwins (map file_form files.old) }
         ensures same { map file_form files.new ≡ map file_form files.old }
-        ensures replaced { All (λ s. is_noted s.mark ≡ list_any (replaces (file_form s)) (map file_form files.new))
+        ensures replaced { All (λ s. is_noted s.mark ≡ list_any (replaced_by (file_form s)) (map file_form files.new))
             files.new }
     {
         for place in 0..self.sorted.len() {

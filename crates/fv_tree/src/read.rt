@@ -10,7 +10,7 @@ ghost use Rattle.fv_section.specs.Frames.{frame_len};
 ghost use Rattle.fv_section.specs.FrameForms as framed;
 ghost use Rattle.fv_tree.specs.Meaning.{Meaning, length_of};
 ghost use Rattle.fv_tree.specs.Denotes.{Pairwise, MeansContent, MeansFile, MeansSection, Stream, Denotes, Accepted};
-ghost use Rattle.fv_tree.specs.Denotes.{IsStoredFile, IsStoredFrame};
+ghost use Rattle.fv_tree.specs.ReadParts.{IsStoredFile, IsStoredFrame};
 ghost use Rattle.fv_tree.specs.FailingChecks.{First};
 ghost use Rattle.fv_tree.specs.FirstFault.{moved_fault, InSection, InStream, InVolume};
 ghost use Rattle.fv_tree.specs.FirstFault.{OneOf, FileFault, IsFirstOfVolume, FaultStands, body_place, data_place};
@@ -232,6 +232,9 @@ pub fn read_volume(alloc: Global, bytes: &[u8]) -> Result<(VolumeView<'_>, u64),
     ensures one { (f : Fault) → IsFirstOfVolume bytes.now f
         → IfOk result (λ r. ⊥) × IfErr result (λ g. g ≢ out_of_memory → g ≡ f) }
     ensures stands { IfErr result (λ f. f ≢ out_of_memory → FaultStands bytes.now f) }
+
+    // Where the condition of a fault holds, no volume begins.
+    ensures sound { (f : Fault) → FaultStands bytes.now f → IfOk result (λ r. ⊥) }
 
     // Its place is within the bytes, or at their end, and no deeper than volumes may nest.
     ensures bound { IfErr result

@@ -4,6 +4,7 @@ ghost use Rattle.std.specs.Prelude.{◌≡◌, ◌≢◌, ◌≤◌, ◌<◌, �
 ghost use Rattle.std.specs.List.{AllByRecursion};
 ghost use Rattle.fv_base.specs.Faults.{out_of_memory};
 ghost use Rattle.fv_base.specs.Limits.{volume_limit};
+ghost use Rattle.fv_head.specs.Head.{HeadFields, BeginsVolume};
 ghost use Rattle.fv_tree.specs.FailingChecks.{First};
 ghost use Rattle.fv_tree.specs.FileNames.{IsIndex};
 ghost use Rattle.fv_tree.specs.Files.{FileForm};
@@ -65,7 +66,7 @@ pub(crate) fn files_in_body<'a>(
 /// The first fault, in this order: those of the header, as for `verify_fv`; those of the body, as
 /// for `cells`; DuplicateName at the later of two files with the same name and state; TopFile at a
 /// volume top file that is not at the end. The offset is in bytes from the first of `bytes`, and
-/// the depth is 0. OutOfMemory at 0.
+/// the depth is 0. OutOfMemory at 0, only if they begin with the header of a volume.
 pub fn located_files(alloc: Global, bytes: &[u8]) -> Result<Vec<LocatedFile<'_>>, Fault>
     // The bytes begin with a volume, and these are its files.
     ensures found { IfOk result (λ fs. BeginWithFiles bytes.now (map file_form fs.items)) }
@@ -83,6 +84,10 @@ pub fn located_files(alloc: Global, bytes: &[u8]) -> Result<Vec<LocatedFile<'_>>
 
     // An error other than OutOfMemory is the first fault.
     ensures first { IfErr result (λ f. f ≢ out_of_memory → IsFirstOfFiles bytes.now f) }
+
+    // Memory runs out only if they begin with the header of a volume.
+    ensures memory { IfErr result
+        (λ f. f ≡ out_of_memory → (h : HeadFields) × (e : Extent) × BeginsVolume h e bytes.now) }
 {
     let extent = verify_fv(bytes)?;
     let volume = &bytes[..extent.length as usize];

@@ -125,7 +125,8 @@ const _: () = prove!(size_of::<FileView<'static>>() <= 56);
 
 impl<'a> Model for VolumeView<'a> {
     ghost use Rattle.fv_tree.specs.inner.Codes.{volume_code};
-    ghost use Rattle.fv_tree.specs.Meaning.{Meaning, Volume, files_from};
+    ghost use Rattle.fv_tree.specs.Meaning.{Meaning, Volume};
+    ghost use Rattle.fv_tree.specs.MeaningParts.{files_from};
     ghost use Rattle.fv_tree.specs.inner.Sizes.{volume_size};
 
     ghost Value = { Meaning };
@@ -163,7 +164,7 @@ impl<'a> Model for FileView<'a> {
 
     ghost view = { λ f. File f.name f.file_type (attribute_bits f.attributes) (content_view f.content) };
 
-    ghost use Rattle.fv_tree.specs.Denotes.{IsReadFile};
+    ghost use Rattle.fv_tree.specs.ReadParts.{IsReadFile};
 
     ghost invariant = { λ f. IsReadFile (File f.name f.file_type (attribute_bits f.attributes) (content_view f.content))
         × (f.data_len ≡ content_len (content_view f.content)) };
@@ -190,7 +191,7 @@ impl<'a> Model for SectionView<'a> {
 
     ghost view = { λ s. parts_view s.parts };
 
-    ghost use Rattle.fv_tree.specs.Denotes.{IsReadSection};
+    ghost use Rattle.fv_tree.specs.ReadParts.{IsReadSection};
 
     ghost invariant = { λ s. IsReadSection (parts_view s.parts) × HasLength s.parts };
 

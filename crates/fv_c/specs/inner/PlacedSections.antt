@@ -2,7 +2,7 @@
 use Rattle.std.specs.Prelude.{◌≡◌, ◌⊎◌, ℕ, List, Option, Some, None}
 use Rattle.fv_base.specs.Faults.{out_of_memory}
 use Rattle.fv_base.specs.declared.fault.Fault.{Fault}
-use Rattle.fv_canon.specs.Layouts.{FirstUnfit}
+use Rattle.fv_canon.specs.LayoutFaults.{FirstUnfit}
 use Rattle.fv_tree.specs.Meaning.{SectionMeanings, NoSections, BodyMeaning, Leaf, Group, Nested}
 use Rattle.fv_c.specs.ExtractedParts.{PartMeaning, IsPartImage, volumes_in_part}
 use Rattle.fv_c.specs.ReportedSections.{SectionRow, reported_section}

@@ -4,7 +4,8 @@ use Rattle.fv_section.specs.Frames.{FrameForm, frame_len, up_to_4}
 use Rattle.fv_section.specs.SectionImage.{section_head_of}
 use Rattle.fv_tree.specs.Meaning.{SectionMeanings, NoSections, MoreSections}
 use Rattle.fv_canon.specs.inner.ImageOf.{frame_of, starts_in}
-use Rattle.fv_canon.specs.Layouts.{AreStarts, Laid}
+use Rattle.fv_canon.specs.Layouts.{AreStarts}
+use Rattle.fv_canon.specs.LeastStarts.{Laid}
 use Rattle.fv_canon.specs.Volumes.{Inside, volumes_in_section}
 
 -- a frame: header and body

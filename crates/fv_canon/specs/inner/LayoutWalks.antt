@@ -1,6 +1,7 @@
 -- What a walk adds to a list of starts.
 use Rattle.std.specs.Prelude.{◌≡◌, ℕ, ◌+◌, ◌≤◌, List, ◌++◌}
-use Rattle.fv_canon.specs.Layouts.{AreStarts, Laid}
+use Rattle.fv_canon.specs.Layouts.{AreStarts}
+use Rattle.fv_canon.specs.LeastStarts.{Laid}
 use Rattle.fv_canon.specs.Volumes.{Inside}
 
 -- the new list is the old starts, followed by those of these volumes

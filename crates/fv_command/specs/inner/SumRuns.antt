@@ -2,7 +2,7 @@
 use Rattle.std.specs.Prelude.{◌≡◌, ◌⊎◌, ℕ, List}
 use Rattle.fv_base.specs.Faults.{out_of_memory}
 use Rattle.fv_base.specs.declared.fault.Fault.{Fault}
-use Rattle.fv_canon.specs.Layouts.{Unfit}
+use Rattle.fv_canon.specs.LayoutFaults.{Unfit}
 use Rattle.fv_tree.specs.Meaning.{Meaning}
 use Rattle.fv_command.specs.ListTexts.{SumsText}
 use Rattle.fv_text.specs.PortViews.{Shown, WritingStops}

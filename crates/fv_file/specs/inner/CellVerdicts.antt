@@ -24,7 +24,7 @@ file_verdict system state p r = verdict_by (first_fault (file_checks system (is_
 -- the cell at p of a header and data, by the sort of its state
 abbrev pub cell_of : StateSort → ℕ → FileHead → List ℕ → CellForm
 cell_of sorts.Unfinished p head payload = Stub p head.header_len
-cell_of sorts.Dead p head payload = Dead p (up_to_8 head.size)
+cell_of sorts.Dead p head payload = Dead p (up_to_8 head.size) head.state
 cell_of _ p head payload = if head.kind == pad_kind then Pad p head payload else Valid p head payload
 
 -- the cell at p, by the state that its State byte shows (the case without one is not used); r are the bytes from p on

@@ -1,5 +1,5 @@
 -- The four sorts of states: what a cell is by the state of its header.
-use Rattle.std.specs.Prelude.{ℕ, Bool, List, [], if◌then◌else◌}
+use Rattle.std.specs.Prelude.{ℕ, Bool, true, false, List, [], Option, Some, if◌then◌else◌}
 use Rattle.fv_base.specs.Checks.{Check}
 use Rattle.fv_base.specs.declared.fault.Fault.{Fault}
 use Rattle.fv_base.specs.declared.flash.FileSystem.{FileSystem}
@@ -22,6 +22,12 @@ sort_of states.Free = Erased
 sort_of states.Construction = Unfinished
 sort_of states.HeaderInvalid = Unfinished
 sort_of st = if is_alive st then Valid else Dead
+
+-- whether there is a state, and it is that of a header that was never finished
+abbrev pub is_unfinished : Option FileState → Bool
+is_unfinished (Some states.Construction) = true
+is_unfinished (Some states.HeaderInvalid) = true
+is_unfinished _ = false
 
 -- the checks of a cell by the sort of its state; a file of it is valid or not
 abbrev pub sort_checks : StateSort → FileSystem → Bool → ℕ → List ℕ → List (Check Fault)

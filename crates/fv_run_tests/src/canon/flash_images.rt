@@ -1,7 +1,7 @@
 //! Images in which volumes are among other bytes.
 
 use crate::fakes::FakeWriter;
-use crate::spelling::{bytes_of, text_is};
+use crate::row_bytes::{bytes_of, text_is};
 use fv_base::{Fault, FaultKind, Port};
 use fv_canon::{normalise_image, write_normalised_image};
 use std::alloc::Global;

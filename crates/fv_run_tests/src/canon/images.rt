@@ -1,6 +1,6 @@
 //! The images of volumes that others made.
 
-use crate::spelling::{bytes_of, number_of};
+use crate::row_bytes::{bytes_of, number_of};
 use crate::volumes::{long, row_of, volumes};
 use fv_base::{Fault, FaultKind, Port};
 use fv_canon::{Layout, canonical, is_canonical, layout, normalise, write_canonical};
@@ -85,7 +85,7 @@ fn has_start(places: &Layout, index: u32, digits: &str) -> bool {
 }
 
 /// Whether the files are at exactly these offsets.
-pub fn has_starts(places: &Layout, starts: &str) -> bool {
+pub(crate) fn has_starts(places: &Layout, starts: &str) -> bool {
     let mut index = 0u32;
     for digits in starts.split_whitespace() {
         if !has_start(places, index, digits) {
@@ -238,7 +238,7 @@ fn each_byte_is_looked_at(alloc: Global, name: &str) -> bool {
 }
 
 /// Images with an extended header, a pad before an aligned file, and a volume inside.
-pub const IMAGES: [&str; 3] = ["ext-header-image", "misaligned-file-image", "nested-image"];
+pub(crate) const IMAGES: [&str; 3] = ["ext-header-image", "misaligned-file-image", "nested-image"];
 
 #[test]
 fn each_byte_of_an_image_is_looked_at(rt: HostRuntime) {

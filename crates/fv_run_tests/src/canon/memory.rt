@@ -2,7 +2,7 @@
 //! result may be returned.
 
 use super::images::has_starts;
-use crate::spelling::bytes_of_at_last;
+use crate::row_bytes::bytes_in_two_tries;
 use crate::volumes::row_of;
 use fv_base::{ByteList, Fault, FaultKind, Port};
 use fv_canon::{
@@ -106,8 +106,8 @@ fn calls_are_right(alloc: Global, volume: &[u8], image: &[u8], starts: &str) -> 
 fn calls_on_row_are_right(alloc: Global, line: &str) -> Option<bool> {
     let (name, other, starts) = row_of(line)?;
     let starts = starts?;
-    let volume = bytes_of_at_last(alloc, name)?;
-    let image = bytes_of_at_last(alloc, other)?;
+    let volume = bytes_in_two_tries(alloc, name)?;
+    let image = bytes_in_two_tries(alloc, other)?;
     Some(calls_are_right(alloc, &volume, &image, starts))
 }
 
@@ -151,15 +151,15 @@ fn comparison_writes_all_or_nothing(alloc: Global, first: &[u8], second: &[u8]) 
 
 // Whether the parts of a volume are made, or memory ran out.
 fn parts_are_right(alloc: Global) -> Option<bool> {
-    let volume = bytes_of_at_last(alloc, "nested-with-deleted-file")?;
-    let image = bytes_of_at_last(alloc, "nested-image")?;
+    let volume = bytes_in_two_tries(alloc, "nested-with-deleted-file")?;
+    let image = bytes_in_two_tries(alloc, "nested-image")?;
     Some(parts_of_volume_are_right(alloc, &volume, &image))
 }
 
 // Whether two volumes are compared, or memory ran out.
 fn comparison_is_right(alloc: Global) -> Option<bool> {
-    let first = bytes_of_at_last(alloc, "file-sum-zero-data")?;
-    let second = bytes_of_at_last(alloc, "file-without-data")?;
+    let first = bytes_in_two_tries(alloc, "file-sum-zero-data")?;
+    let second = bytes_in_two_tries(alloc, "file-without-data")?;
     Some(comparison_writes_all_or_nothing(alloc, &first, &second))
 }
 

@@ -1,6 +1,6 @@
 //! Volumes with one byte replaced, and volumes of few and of many files.
 
-use crate::spelling::bytes_of;
+use crate::row_bytes::bytes_of;
 use fv_base::{Fault, Port, sum16};
 use fv_canon::{is_canonical, normalise, run_normalise};
 use fv_tree::{VolumeView, first_difference, read_volume};

@@ -1,7 +1,7 @@
 //! Comparisons whose readers and writer stop early, or never.
 
 use crate::fakes::{EndlessReader, FakeReader, FakeWriter, InterruptedReader};
-use crate::spelling::bytes_of;
+use crate::row_bytes::bytes_of;
 use fv_base::{Fault, FaultKind, Port};
 use fv_canon::{Side, run_compare};
 use std::alloc::Global;

@@ -2,7 +2,7 @@
 
 use super::images::IMAGES;
 use crate::fakes::{FakeReader, FakeWriter};
-use crate::spelling::bytes_of;
+use crate::row_bytes::bytes_of;
 use fv_base::{Fault, FaultKind, Port};
 use fv_canon::run_normalise;
 use std::alloc::Global;

@@ -1,7 +1,7 @@
 //! Where the cells of volumes lie.
 
 /// Runs that list cells, each over cells of one kind.
-pub fn cell_runs() -> &'static str {
+pub(crate) fn cell_runs() -> &'static str {
     "\
     cells: empty -> 0 header at 0 length 72|free at 72 length 56|sums files 0 pads 0 deleted 0 filler 0 free 56|\n\
     cells: empty ff*8 -> 0 header at 0 length 72|free at 72 length 56|sums files 0 pads 0 deleted 0 filler 0 free 56|\n\

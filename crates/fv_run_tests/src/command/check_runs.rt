@@ -1,7 +1,7 @@
 //! What a check of a volume writes.
 
 /// Runs that check.
-pub fn check_runs() -> &'static str {
+pub(crate) fn check_runs() -> &'static str {
     "\
     check: H128 ff*16 00aaf000200000f8 ff*32 -> 1 not canonical|\n\
     check: H128 ff*16 00aaf000200000e801 ff*31 -> 1 not canonical|\n\

@@ -1,7 +1,7 @@
 //! Two volumes, compared.
 
 /// Runs that compare, at least one for each kind of difference.
-pub fn compare_runs() -> &'static str {
+pub(crate) fn compare_runs() -> &'static str {
     "\
     compare: empty & 00*15 0178e58c8c3d8a1c4f9935896185c32dd380 00*7 5f465648fffe04004800cef4000000020100000080 \
         00*11 ff*56 -> 1 different at zero vector|\n\

@@ -1,7 +1,7 @@
 //! The lists of volumes that others made.
 
 /// Runs that list, each over a volume of one kind.
-pub fn list_runs() -> &'static str {
+pub(crate) fn list_runs() -> &'static str {
     "\
     list: empty -> 0 volume ffs2 length 128 files 0|\n\
     list: empty ff*8 -> 0 volume ffs2 length 128 files 0|\n\

@@ -1,7 +1,7 @@
 //! Failed allocations in a list with digests: `.ci/memory` makes each allocation of the test fail
 //! in turn, and no wrong result may be returned.
 
-use crate::spelling::bytes_of_at_last;
+use crate::row_bytes::bytes_in_two_tries;
 use fv_base::Port;
 use fv_command::{Status, run_plan};
 use fv_plan::{Command, Plan, Task};
@@ -51,6 +51,6 @@ fn is_listed_or_memory_ran_out(alloc: Global, volume: &[u8]) -> bool {
 
 #[test]
 fn out_of_memory_is_reported(rt: HostRuntime) {
-    let volume = bytes_of_at_last(rt.alloc(), "file-without-data");
+    let volume = bytes_in_two_tries(rt.alloc(), "file-without-data");
     assert!(rt; volume.is_some_and(|bytes| is_listed_or_memory_ran_out(rt.alloc(), &bytes)));
 }

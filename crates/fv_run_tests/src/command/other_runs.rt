@@ -1,7 +1,7 @@
 //! What runs of the other commands write, and small runs of each command.
 
 /// Runs that normalise, extract, scan, and list the blocks of a hand-off list.
-pub fn other_runs() -> &'static str {
+pub(crate) fn other_runs() -> &'static str {
     "\
     normalise: 00ff -> 2 fault 1 at 2|\n\
     normalise: '0g -> 2 fault 25 at 0|\n\
@@ -100,7 +100,7 @@ pub fn other_runs() -> &'static str {
 }
 
 /// Runs of each command whose readers and writers fail after each byte in turn.
-pub fn small_runs() -> &'static str {
+pub(crate) fn small_runs() -> &'static str {
     "\
     normalise: two-sections -> 0 =two-sections-image\n\
     normalise: empty -> 0 =empty\n\

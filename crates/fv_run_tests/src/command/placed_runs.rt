@@ -1,7 +1,7 @@
 //! Volumes that begin at a byte of their input.
 
 /// Runs over the volume at a byte of an input, with other bytes before and after it.
-pub fn placed_runs() -> &'static str {
+pub(crate) fn placed_runs() -> &'static str {
     "\
     list at 0: empty -> 0 volume ffs2 length 128 files 0|\n\
     list at 8: 00*8 empty -> 0 volume ffs2 length 128 files 0|\n\

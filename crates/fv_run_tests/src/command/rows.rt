@@ -8,14 +8,14 @@
 //! the address of an image, if there is one. After any other command may come `at` and the byte at
 //! which its volume begins, and after `compare` the same of its second volume.
 
-use crate::spelling::{bytes_of, lines_of, number_of};
+use crate::row_bytes::{bytes_of, lines_of, number_of};
 use fv_base::Guid;
 use fv_plan::{Command, ImageFile, Part, Plan, Task, VolumeFile};
 use std::alloc::Global;
 
 /// A run, and how it ends.
 #[derive(Drop)]
-pub struct Run {
+pub(crate) struct Run {
     /// What is to be done.
     pub plan: Plan,
     /// The bytes of the first input.
@@ -118,7 +118,7 @@ fn command_of(alloc: Global, name: &str, words: &str, at: Option<u64>) -> Option
 }
 
 /// The plan of a command.
-pub fn plan_of(alloc: Global, hex: bool, line: &str) -> Option<Plan> {
+pub(crate) fn plan_of(alloc: Global, hex: bool, line: &str) -> Option<Plan> {
     let (name, words) = line.split_once(' ').unwrap_or((line, ""));
     let (at, words) = at_of(words);
     let command = command_of(alloc, name, words, at)?;
@@ -126,7 +126,7 @@ pub fn plan_of(alloc: Global, hex: bool, line: &str) -> Option<Plan> {
 }
 
 /// The bytes that are read or written for words that spell some: these bytes, or their digits.
-pub fn shown(alloc: Global, hex: bool, words: &str) -> Option<Vec<u8>> {
+pub(crate) fn shown(alloc: Global, hex: bool, words: &str) -> Option<Vec<u8>> {
     let bytes = bytes_of(alloc, words)?;
     if hex {
         lines_of(alloc, &bytes)
@@ -199,7 +199,7 @@ fn plan_and_output_of(
 }
 
 /// The run that a line describes, over bytes or hexadecimal text.
-pub fn run_of(alloc: Global, hex: bool, line: &str) -> Option<Run> {
+pub(crate) fn run_of(alloc: Global, hex: bool, line: &str) -> Option<Run> {
     let ((command, first, second), (status, text)) = texts_of(line)?;
     let (first, second) = inputs_of(alloc, hex, first, second)?;
     let (plan, written) = plan_and_output_of(alloc, hex, command, text)?;
@@ -213,6 +213,6 @@ pub fn run_of(alloc: Global, hex: bool, line: &str) -> Option<Run> {
 }
 
 /// Whether an input of a line is text, which is not read as bytes.
-pub fn has_text(line: &str) -> bool {
+pub(crate) fn has_text(line: &str) -> bool {
     line.split_once('\'').is_some()
 }

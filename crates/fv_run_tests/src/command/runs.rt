@@ -9,7 +9,7 @@ use super::placed_runs::placed_runs;
 use super::rows::{Run, has_text, run_of};
 use super::sum_runs::sum_runs;
 use crate::fakes::{FakeReader, FakeWriter};
-use crate::spelling::bytes_of;
+use crate::row_bytes::bytes_of;
 use crate::volumes::{refused, row_of, volumes};
 use fv_base::Port;
 use fv_command::{Source, run_plan};
@@ -21,10 +21,10 @@ use std::io::Read;
 const STEPS: [usize; 3] = [1, 3, 65_536];
 
 /// An input that can be read, or a file that does not exist.
-pub type Input<'a> = Source<FakeReader<'a>, FakeReader<'a>>;
+pub(crate) type Input<'a> = Source<FakeReader<'a>, FakeReader<'a>>;
 
 /// Whether a run of the plan ends with the status, and writes these bytes and nothing after them.
-pub fn ends_as<First: Read + Drop, Second: Read + Drop>(
+pub(crate) fn ends_as<First: Read + Drop, Second: Read + Drop>(
     alloc: Global,
     plan: &Plan,
     inputs: (First, Second),
@@ -128,7 +128,7 @@ fn row_ends_as_it_says_by_steps(alloc: Global, hex: bool, line: &str, step: usiz
 }
 
 /// Whether a line says how its run ends, over bytes and over hexadecimal text.
-pub fn row_ends_as_it_says(alloc: Global, line: &str) -> bool {
+pub(crate) fn row_ends_as_it_says(alloc: Global, line: &str) -> bool {
     if !has_text(line) && !row_ends_as_it_says_by_steps(alloc, false, line, 50) {
         return false;
     }

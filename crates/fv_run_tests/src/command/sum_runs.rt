@@ -1,7 +1,7 @@
 //! Lists with digests. These were computed apart from the program, from the words of the volumes.
 
 /// Runs that list with sums, each over a volume of one kind.
-pub fn sum_runs() -> &'static str {
+pub(crate) fn sum_runs() -> &'static str {
     "\
     list-sums: empty -> 0 volume ffs2 length 128 files 0 sha256 \
         fa2372b57e3223fafe321ef347cb77d4373819ad5abdea2446fff51d258ed758|\n\

@@ -15,7 +15,7 @@ pub(super) fn accepted() -> &'static str {
         0a*16 3baa0101000000f8 2300000000000000 010203 ff*21\n\
     3 bytes of data, and their sum: valid 72 35 41 [1, 2, 3], free 112 16: \
         0a*16 fbfa0141000000f8 2300000000000000 010203 ff*21\n\
-    a deleted file: dead 72 40, free 112 16: 0a*16 3daa0101000000e8 2100000000000000 ff*24\n\
+    a deleted file: dead Deleted 72 40, free 112 16: 0a*16 3daa0101000000e8 2100000000000000 ff*24\n\
     a pad: pad 72 32 01 [], free 104 24: ff*16 ffaaf001000000f8 2000000000000000 ff*24\n\
     a file to the end: \
         valid 72 56 01 [9, 9, 9, 9, 9, 9, 9, 9, 9, 9, 9, 9, 9, 9, 9, 9, 9, 9, 9, 9, 9, 9, 9, 9]: \

@@ -1,11 +1,13 @@
-use Rattle.std.proofs.Common.{refl}
-use Rattle.std.proofs.lemmas.Iterator.{items_from_collect}
-use Rattle.std.proofs.lemmas.Iterator.Adapters.{YieldsList-from_vec}
+use Rattle.std.proofs.Common.{◌∙◌, ap}
+use Rattle.std.proofs.IntoIterSteps.{All-taken}
 use Rattle.std.specs.Vec.Iter.{into_iter_items}
 use Rattle.fv_tool.proofs.collected.Goals as goal
 
+-- the words that were taken are all
 pub returns-clause-ok : goal.returns-clause-ok
 returns-clause-ok c =
-    let all = into_iter_items c.args.arguments in
-    let said = items_from_collect c.collect.result c.collect.ensures.ran (YieldsList-from_vec all refl c.args.arguments.rest.ok.0) in
-    rw c.in_ok-collect.was at said
+    let it = c.into_iter-word-iterator in
+    c.loop-word.invariant
+    ∙ All-taken it.result c.loop-word.yielded
+    (c.next.new.self, (c.loop-word.word-iterator, c.loop-word.yielded_by, c.in-None.ensures.steps))
+    ∙ ap into_iter_items it.ensures.into_iter_gives

@@ -2,7 +2,8 @@
 use Rattle.std.specs.Prelude.{◌+◌, ◌≤◌, List, [], ◌∷◌}
 use Rattle.std.proofs.Common.{arith}
 use denote.Param.Weighed.{most}
-use Rattle.fv_tree.specs.Meaning.{FileMeaning, SectionMeaning, files_from, sections_from}
+use Rattle.fv_tree.specs.Meaning.{FileMeaning, SectionMeaning}
+use Rattle.fv_tree.specs.MeaningParts.{files_from, sections_from}
 use Rattle.fv_tree.specs.inner.Sizes.{file_size, files_size, section_size, sections_size}
 
 -- of a list of sections, and of a list of files

@@ -2,10 +2,11 @@
 use Rattle.std.specs.Prelude.{◌≡◌, ℕ, ◌+◌, ◌<◌, ◌^◌, Bool, true, false, List, length}
 use Rattle.fv_file.specs.Attributes.{attribute_bits}
 use Rattle.fv_file.specs.Cells.{CellForm, Valid}
+use Rattle.fv_file.specs.NewHeaders.{file_sum_for}
 use Rattle.fv_file.specs.declared.head.FileHead.{FileHead}
 use Rattle.fv_file.specs.declared.state.FileState.{FileState}
 use Rattle.fv_file.specs.declared.state.FileState.TheVariants as states
-use Rattle.fv_tree.specs.LocatedFiles.{state_by, header_len_by, file_sum_by}
+use Rattle.fv_tree.specs.LocatedFiles.{state_by, header_len_by}
 use Rattle.fv_tree.specs.declared.volume_files.Mark.{Mark}
 use Rattle.fv_tree.specs.declared.volume_files.Mark.TheVariants as marks
 
@@ -23,7 +24,7 @@ is_noted _ = false
 pub record FollowsFrom (head : FileHead) (payload : List ℕ) : Type 0 where
   pub size : head.size ≡ header_len_by (attribute_bits head.attributes) + length payload
   pub header_len : head.header_len ≡ header_len_by (attribute_bits head.attributes)
-  pub file_sum : head.file_sum ≡ file_sum_by (attribute_bits head.attributes) payload
+  pub file_sum : head.file_sum ≡ file_sum_for (attribute_bits head.attributes) payload
   pub state : head.state ≡ state_by (mark_of head.state)
 
 -- if the cell is a valid file, its header follows from what is kept of it, and its offset fits in 32 bits

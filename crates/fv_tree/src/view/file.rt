@@ -2,9 +2,10 @@
 
 ghost use Rattle.std.specs.Prelude.{◌≡◌, option_map};
 ghost use Rattle.fv_file.specs.Attributes.{attribute_bits};
-ghost use Rattle.fv_tree.specs.Denotes.{IsReadFile};
-ghost use Rattle.fv_tree.specs.Meaning.{File, file_name_of, file_kind_of, attributes_of, content_of, content_len};
-ghost use Rattle.fv_tree.specs.Meaning.{plain_of, data_len_of};
+ghost use Rattle.fv_tree.specs.ReadParts.{IsReadFile};
+ghost use Rattle.fv_tree.specs.Meaning.{File, file_name_of, attributes_of, content_of, content_len};
+ghost use Rattle.fv_tree.specs.MeaningParts.{file_kind_of, plain_of};
+ghost use Rattle.fv_tree.specs.Meaning.{data_len_of};
 ghost use Rattle.fv_tree.specs.Views.{content_view};
 
 use super::{Content, FileView};

@@ -2,9 +2,10 @@
 
 ghost use Rattle.std.specs.Prelude.{◌≡◌, ◌+◌, option_map, IfOk, IfErr};
 ghost use Rattle.fv_base.specs.Faults.{out_of_memory};
-ghost use Rattle.fv_tree.specs.Denotes.{IsReadSection};
-ghost use Rattle.fv_tree.specs.Meaning.{Section, Leaf, Group, Nested, sections_from, sections_end};
-ghost use Rattle.fv_tree.specs.Meaning.{section_kind_of, section_is_extended, body_of, leaf_of, body_len};
+ghost use Rattle.fv_tree.specs.ReadParts.{IsReadSection};
+ghost use Rattle.fv_tree.specs.Meaning.{Section, Leaf, Group, Nested, sections_end, body_len};
+ghost use Rattle.fv_tree.specs.MeaningParts.{sections_from};
+ghost use Rattle.fv_tree.specs.MeaningParts.{section_kind_of, section_is_extended, body_of, leaf_of};
 ghost use Rattle.fv_tree.specs.SectionParts.{sections_of};
 ghost use Rattle.fv_tree.specs.Views.{body_view};
 

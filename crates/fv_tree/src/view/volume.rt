@@ -4,7 +4,8 @@ ghost use Rattle.std.specs.Prelude.{◌≡◌, length, option_copied, slice_get}
 ghost use Rattle.std.specs.List.{position_or_len};
 ghost use Rattle.std.specs.Option.{unwrap_or};
 ghost use Rattle.fv_tree.specs.Denotes.{IsMeaning};
-ghost use Rattle.fv_tree.specs.Meaning.{Volume, head_of, files_of, files_from};
+ghost use Rattle.fv_tree.specs.Meaning.{Volume, head_of, files_of};
+ghost use Rattle.fv_tree.specs.MeaningParts.{files_from};
 ghost use Rattle.fv_tree.specs.FileNames.{HasNumbers, is_named};
 
 use super::{FileView, VolumeView};

@@ -1,6 +1,6 @@
 use Rattle.std.proofs.Common.{◌∙◌, ap, arith, codes, refl, subst, sym}
 use Rattle.std.specs.Prelude.{option_and_then}
-use Rattle.fv_base.specs.Guids.{guid_read}
+use Rattle.fv_base.specs.GuidTexts.{guid_read}
 use Rattle.fv_arguments.proofs.NumberLemmas.{instance_read, number_answer}
 use Rattle.fv_arguments.proofs.ReadLemmas.{text_answer}
 use Rattle.fv_arguments.proofs.RefusalLemmas.{no_name, no_type}

@@ -1,4 +1,5 @@
 use Rattle.std.proofs.Common.{◌∙◌, subst}
+use Rattle.fv_depex.specs.OpChecks.{BeginsFirstOp}
 use Rattle.fv_depex.specs.declared.op.Phase.{Phase}
 use Rattle.fv_c.specs.ReportedTruths.{NoExpression}
 use Rattle.fv_c.proofs.depex.fv_depex.Goals as goal
@@ -6,7 +7,8 @@ use Rattle.fv_c.proofs.depex.fv_depex.Goals as goal
 pub returns-in-Err-clause-err : goal.returns-in-Err-clause-err
 returns-in-Err-clause-err c = λ _. (
   c.in-Err.f,
-  λ other. subst (λ (phase : Phase). NoExpression phase c.args.bytes.now c.in-Err.f) c.phase_of.ensures (c.in-Err.ensures.err other),
+  λ other. subst (λ (phase : Phase). NoExpression phase c.args.bytes.now c.in-Err.f) c.phase_by_number.ensures (c.in-Err.ensures.err other),
+  λ want. subst (λ (phase : Phase). BeginsFirstOp phase c.args.bytes.now) c.phase_by_number.ensures (c.in-Err.ensures.memory want),
   c.refused_at.ensures.number ∙ c.number.ensures,
   rw (← c.number.ensures) c.refused_at.ensures.fault,
 )

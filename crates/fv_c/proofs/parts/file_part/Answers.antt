@@ -2,7 +2,8 @@ use Rattle.std.proofs.Common.{◌≡◌, ◌∙◌, ◌<◌, ℕ, List, Some, No
 use Rattle.std.specs.Prelude.{◌≢◌, slice_get}
 use Rattle.std.proofs.lemmas.Option.{slice_get_past, slice_get_read}
 use Rattle.std.proofs.lemmas.Result.{err_from_is_err_and}
-use Rattle.fv_tree.specs.Meaning.{FileMeaning, content_of, body_of}
+use Rattle.fv_tree.specs.Meaning.{FileMeaning, content_of}
+use Rattle.fv_tree.specs.MeaningParts.{body_of}
 use Rattle.fv_c.specs.ExtractedParts.{Data, Body, part_of_file, whole_file}
 use Rattle.fv_c.specs.ReportedSections.{section_rows}
 use Rattle.fv_c.specs.declared.parts.PlacedSection.{PlacedSection}

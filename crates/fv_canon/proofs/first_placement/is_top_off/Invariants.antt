@@ -1,5 +1,5 @@
 use Rattle.std.proofs.Common.{drop}
-use Rattle.fv_canon.specs.Starts.{TopOff}
+use Rattle.fv_canon.specs.LayoutFaults.{TopOff}
 use Rattle.fv_canon.proofs.first_placement.is_top_off.Given as goal
 
 abbrev pub invariant-loop-item : goal.invariant-loop-item

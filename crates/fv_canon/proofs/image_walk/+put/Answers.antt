@@ -3,13 +3,14 @@ use Rattle.std.proofs.lemmas.Grind.{common_steps}
 use Rattle.fv_file.specs.Attributes.{is_summed}
 use Rattle.fv_head.specs.Attributes.{polarity_of}
 use Rattle.fv_head.specs.Head.{HeadFields}
-use Rattle.fv_tree.specs.Meaning.{Meaning, SectionMeaning, BodyMeaning, body_of, FileMeaning, files_from, attributes_of, content_of}
-use Rattle.fv_tree.specs.Meaning.{file_name_of, file_kind_of, data_len_of}
-use Rattle.fv_file.specs.NewHeaders.{file_head_of}
+use Rattle.fv_tree.specs.Meaning.{Meaning, SectionMeaning, BodyMeaning, FileMeaning, attributes_of, content_of}
+use Rattle.fv_tree.specs.MeaningParts.{body_of, files_from, file_kind_of}
+use Rattle.fv_tree.specs.Meaning.{file_name_of, data_len_of}
+use Rattle.fv_file.specs.NewHeaders.{file_sum_for, file_head_of}
 use Rattle.fv_tree.specs.Views.{body_view}
 use Rattle.fv_tree.specs.inner.Sizes.{volume_size, body_size, files_size}
 use Rattle.fv_tree.proofs.Laws.{file_falls, section_body_falls}
-use Rattle.fv_canon.specs.StoredFiles.{file_sum_for, size_for}
+use Rattle.fv_canon.specs.StoredFiles.{size_for}
 use Rattle.fv_canon.specs.Volumes.{Inside, volumes_in_body}
 use Rattle.fv_canon.specs.inner.ImageOf.{body_image, image_of, data_of, starts_in}
 use Rattle.fv_canon.specs.inner.ImageWalks.{BeginsWithStarts}

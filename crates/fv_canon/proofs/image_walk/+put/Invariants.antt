@@ -1,5 +1,5 @@
 use Rattle.std.proofs.Common.{◌+◌, ◌-◌, ◌*◌, ◌≤◌, drop}
-use Rattle.fv_tree.specs.Meaning.{sections_from, files_from}
+use Rattle.fv_tree.specs.MeaningParts.{sections_from, files_from}
 use Rattle.fv_tree.specs.inner.Sizes.{volume_size, files_size, file_size, sections_size, body_size}
 use Rattle.fv_tree.specs.Views.{body_view}
 use Rattle.fv_canon.specs.inner.ImageOf.{stored_of, starts_in}

@@ -1,13 +1,16 @@
-use Rattle.std.proofs.Common.{◌+◌, List, ap, arith, subst}
+use Rattle.std.proofs.Common.{◌+◌, List, ap, length, arith, subst}
 use Rattle.std.proofs.lemmas.List.{take_all}
 use Rattle.std.proofs.lemmas.Result.{on_ok_weaker, IfErr-weaker}
 use Rattle.fv_tree.specs.inner.Sizes.{volume_size, body_size}
-use Rattle.fv_tree.specs.Meaning.{FileMeaning, SectionMeaning, files_from, sections_from}
+use Rattle.fv_tree.specs.Meaning.{FileMeaning, SectionMeaning}
+use Rattle.fv_tree.specs.MeaningParts.{files_from, sections_from}
 use Rattle.fv_tree.specs.Views.{body_view}
 use Rattle.fv_canon.specs.inner.Depths.{NestsVolume, NestsBody}
 use Rattle.fv_canon.specs.inner.LayoutWalks.{Grew, Shallow}
 use Rattle.fv_canon.specs.Volumes.{volumes_in_files, volumes_in_sections}
 use Rattle.fv_canon.proofs.DataBodyLaws.{data_falls}
+use Rattle.fv_canon.proofs.LayoutWalkLaws.{always, file_count, memory_passed, own_counted, section_count}
+use Rattle.fv_canon.proofs.VolumeListLaws.{own_count}
 use Rattle.fv_canon.proofs.LayoutWalkLaws.{section_grew, shallow_at, section_unfit, file_grew, shallow_file_at, file_unfit, unfit_passed}
 use Rattle.fv_canon.proofs.LayoutWalkLaws.{shallow_files, shallow_group, shallow_nested, volume_grew, volume_unfit}
 use Rattle.fv_canon.proofs.layout_walk.+lay.Goals as goal
@@ -89,3 +92,28 @@ pub lay_sections-returns-clause-ok : goal.lay_sections-returns-clause-ok
 lay_sections-returns-clause-ok t c =
     subst (λ (ss : List SectionMeaning). Grew (volumes_in_sections (sections_from ss)) c.args.starts.now.items c.loop-section.starts.items)
     (take_all c.loop-section.section-index c.args.sections.now c.loop-section-test.false) c.loop-section.invariant
+
+pub lay_files-returns-in_err-lay_body-clause-memory : goal.lay_files-returns-in_err-lay_body-clause-memory
+lay_files-returns-in_err-lay_body-clause-memory t c =
+    let some = c.in_err-lay_body.ensures.memory in
+    memory_passed c.from_residual.result _ _ _ c.from_residual.ensures.1 (rw c.data_body.ensures at some)
+    (file_count _ _ _ c.loop-file-test.true c.file-item.is)
+
+pub lay_sections-returns-in_err-lay_body-clause-memory : goal.lay_sections-returns-in_err-lay_body-clause-memory
+lay_sections-returns-in_err-lay_body-clause-memory t c =
+    let some = c.in_err-lay_body.ensures.memory in
+    memory_passed c.from_residual.result _ _ _ c.from_residual.ensures.1 (rw c.body.ensures at some)
+    (section_count _ _ _ c.loop-section-test.true c.section-item.is)
+
+pub lay_volume-returns-in_err-extend_from_slice-clause-memory : goal.lay_volume-returns-in_err-extend_from_slice-clause-memory
+lay_volume-returns-in_err-extend_from_slice-clause-memory t c =
+    let own = own_count c.args.view.now c.in_ok-own.own.items c.in_ok-own.ensures.ok in
+    always c.from_residual-in_err-extend_from_slice.result
+    (λ _ _. omega (
+      arith,
+      own,
+      own_counted c.args.view.now,
+      ap length c.as_slice.ensures.value,
+      c.args.starts.now.small,
+      c.in_err-extend_from_slice.ensures.full,
+    ))

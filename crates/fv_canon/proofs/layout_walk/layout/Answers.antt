@@ -1,5 +1,10 @@
+use Rattle.std.proofs.Common.{◌≡◌, ◌≢◌, []}
+use Rattle.fv_base.specs.declared.fault.Fault.{Fault}
+use Rattle.fv_tree.specs.Meaning.{files_of}
+use Rattle.fv_base.specs.Faults.{out_of_memory}
 use Rattle.fv_canon.proofs.FitLaws.{unfit_none}
-use Rattle.fv_canon.proofs.LayoutWalkLaws.{only_memory, shallow_volume}
+use Rattle.fv_canon.proofs.InputLaws.{fault_passed}
+use Rattle.fv_canon.proofs.LayoutWalkLaws.{only_memory, shallow_volume, starts_need_file}
 use Rattle.fv_canon.proofs.LayoutLaws.{layout_is, one_layout, own_first}
 use Rattle.fv_canon.proofs.layout_walk.layout.Goals as goal
 
@@ -21,3 +26,8 @@ pub returns-in_err-lay_volume-clause-fits : goal.returns-in_err-lay_volume-claus
 returns-in_err-lay_volume-clause-fits c fit =
     only_memory c.from_residual.result _ c.from_residual.ensures.1 c.in_err-lay_volume.ensures.err
     (λ unfit. unfit_none c.args.view.now 0 _ unfit fit)
+
+pub returns-in_err-lay_volume-clause-memory : goal.returns-in_err-lay_volume-clause-memory
+returns-in_err-lay_volume-clause-memory c =
+    fault_passed (λ (f : Fault). f ≡ out_of_memory → files_of c.args.view.now ≢ []) c.from_residual.result _ c.from_residual.ensures.1
+    (λ want. starts_need_file c.args.view.now (c.in_err-lay_volume.ensures.memory want))

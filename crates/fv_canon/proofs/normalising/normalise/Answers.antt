@@ -1,4 +1,4 @@
-use Rattle.std.proofs.Common.{◌≡◌, List, ℕ, length}
+use Rattle.std.proofs.Common.{◌≡◌, ◌⊎◌, List, ℕ, length, subst, sym}
 use Rattle.std.proofs.lemmas.Result.{IfOk-weaker, IfErr-weaker}
 use Rattle.fv_base.specs.Faults.{out_of_memory}
 use Rattle.fv_base.specs.declared.fault.Fault.{Fault}
@@ -6,8 +6,12 @@ use Rattle.fv_head.specs.Head.{HeadFields, BeginsVolume}
 use Rattle.fv_head.specs.declared.extent.Extent.{Extent}
 use Rattle.fv_tree.specs.Meaning.{head_of}
 use Rattle.fv_canon.specs.Headline.{MeanSame, NormalisesTo}
+use Rattle.fv_canon.specs.Layouts.{Fits}
+use Rattle.fv_canon.specs.Refusals.{IsOfLayout, IsUnfit}
 use Rattle.fv_canon.proofs.ImageLaws.{image_again, image_stays_long}
-use Rattle.fv_canon.proofs.InputLaws.{fault_passed, image_fits, not_placed, not_read, not_read_never, unfit_refused, unread_refused}
+use Rattle.fv_canon.proofs.ImageFits.{image_fits as has_image_fits}
+use Rattle.fv_canon.proofs.InputLaws.{fault_passed, image_fits, not_placed, not_read, not_read_never, refused_unplaced, unread_refused}
+use Rattle.fv_canon.proofs.InputLaws.{no_value, unfit_kind_of}
 use Rattle.fv_canon.proofs.normalising.normalise.Goals as goal
 
 pub returns-in_err-view-clause-err : goal.returns-in_err-view-clause-err
@@ -19,7 +23,7 @@ returns-in_err-view-clause-fits c =
 
 pub returns-in_err-view-clause-unfit : goal.returns-in_err-view-clause-unfit
 returns-in_err-view-clause-unfit c =
-    fault_passed _ _ _ c.from_residual.ensures.1 (unfit_refused c.args.input.now _ (not_read c.args.input.now _ c.in_err-view.ensures.refused))
+    fault_passed _ _ _ c.from_residual.ensures.1 (refused_unplaced c.args.input.now _ (not_read c.args.input.now _ c.in_err-view.ensures.refused))
 
 pub returns-in_err-view-clause-unread : goal.returns-in_err-view-clause-unread
 returns-in_err-view-clause-unread c =
@@ -50,7 +54,7 @@ pub returns-clause-unfit : goal.returns-clause-unfit
 returns-clause-unfit c =
     let b : List ℕ = c.args.input.now in
     IfErr-weaker c.canonical.result _ _
-    (λ f why. unfit_refused b f (not_placed b c.in_ok-view.view f c.in_ok-view.ensures.found why)) c.canonical.ensures.err
+    (λ f why. refused_unplaced b f (not_placed b c.in_ok-view.view f c.in_ok-view.ensures.found why)) c.canonical.ensures.err
 
 pub returns-clause-unread : goal.returns-clause-unread
 returns-clause-unread c =
@@ -67,3 +71,19 @@ returns-clause-memory c =
     let d = c.in_ok-view.ensures.found.1 in
     IfErr-weaker c.canonical.result _ (λ (f : Fault). f ≡ out_of_memory → (h : HeadFields) × (e : Extent)
     × BeginsVolume h e c.args.input.now) (λ f why same. (head_of c.in_ok-view.view, d.extent, d.front)) c.canonical.ensures.err
+
+pub returns-in_err-view-clause-refused : goal.returns-in_err-view-clause-refused
+returns-in_err-view-clause-refused c = λ unfit. (
+  no_value _ _ c.from_residual.ensures.1,
+  fault_passed _ _ _ c.from_residual.ensures.1 (unfit_kind_of c.args.input.now _ (not_read c.args.input.now _ c.in_err-view.ensures.refused) unfit),
+)
+
+pub returns-clause-refused : goal.returns-clause-refused
+returns-clause-refused c =
+    let b : List ℕ = c.args.input.now in
+    λ (unfit : IsUnfit b). (
+      IfOk-weaker c.canonical.result _ (λ (bytes : List ℕ). ⊥)
+          (λ bytes image. unfit.2 (subst Fits (sym (c.in_ok-view.ensures.only unfit.0 unfit.1)) (has_image_fits c.in_ok-view.view bytes image))) c.canonical.ensures.image,
+      IfErr-weaker c.canonical.result _ (λ (f : Fault). (f ≡ out_of_memory) ⊎ IsOfLayout f.kind)
+          (λ f why. unfit_kind_of b f (not_placed b c.in_ok-view.view f c.in_ok-view.ensures.found why) unfit) c.canonical.ensures.err,
+    )

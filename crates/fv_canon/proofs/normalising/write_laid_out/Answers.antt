@@ -2,13 +2,15 @@ use Rattle.std.proofs.Common.{◌≡◌, true}
 use Rattle.fv_base.specs.Port.{has_erred}
 use Rattle.fv_base.specs.declared.fault.Fault.{Fault}
 use Rattle.fv_base.specs.declared.fault.FaultKind.TheVariants as kinds
+use Rattle.fv_tree.specs.Meaning.{head_of}
 use Rattle.fv_canon.proofs.InputLaws.{fault_passed, not_placed, unfit_kind}
 use Rattle.fv_canon.proofs.NormaliseRunLaws.{input_writes, writer_stops, refused_stops, write_not_read, of_some_kind}
 use Rattle.fv_canon.proofs.normalising.write_laid_out.Goals as goal
 
 pub returns-in_err-places-clause-err : goal.returns-in_err-places-clause-err
 returns-in_err-places-clause-err g c input found =
-    fault_passed _ _ _ c.from_residual.ensures.1 (refused_stops input _ _ (not_placed input c.args.view.now _ found c.in_err-places.ensures.err))
+    fault_passed _ _ _ c.from_residual.ensures.1 (refused_stops input _ _ (not_placed input c.args.view.now _ found c.in_err-places.ensures.err)
+    (λ want. (head_of c.args.view.now, found.1.extent, found.1.front)))
 
 pub returns-in_err-places-clause-read : goal.returns-in_err-places-clause-read
 returns-in_err-places-clause-read g c =

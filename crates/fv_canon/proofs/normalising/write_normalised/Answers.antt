@@ -11,7 +11,8 @@ use Rattle.fv_canon.proofs.normalising.write_normalised.Goals as goal
 
 pub returns-in_err-view-clause-err : goal.returns-in_err-view-clause-err
 returns-in_err-view-clause-err g c =
-    fault_passed _ _ _ c.from_residual.ensures.1 (refused_stops c.args.input.now _ _ (not_read c.args.input.now _ c.in_err-view.ensures.refused))
+    fault_passed _ _ _ c.from_residual.ensures.1 (refused_stops c.args.input.now _ _ (not_read c.args.input.now _ c.in_err-view.ensures.refused)
+    c.in_err-view.ensures.memory)
 
 pub returns-in_err-view-clause-memory : goal.returns-in_err-view-clause-memory
 returns-in_err-view-clause-memory g c = fault_passed _ _ _ c.from_residual.ensures.1 c.in_err-view.ensures.memory

@@ -1,5 +1,5 @@
 use Rattle.std.proofs.lemmas.Result.{IfOk-weaker}
-use Rattle.fv_tree.specs.Meaning.{body_of}
+use Rattle.fv_tree.specs.MeaningParts.{body_of}
 use Rattle.fv_canon.specs.Image.{IsBodyImage}
 use Rattle.fv_canon.specs.inner.ImageOf.{body_image}
 use Rattle.fv_canon.proofs.OneImageLaws.{body_one}

@@ -1,6 +1,6 @@
 use Rattle.std.proofs.Common.{◌∙◌, ℕ, [], ap, sym, subst}
 use Rattle.std.specs.Prelude.{option_map}
-use Rattle.fv_tree.specs.Meaning.{body_of}
+use Rattle.fv_tree.specs.MeaningParts.{body_of}
 use Rattle.fv_command.specs.ListTexts.{BodyShown}
 use Rattle.fv_command.proofs.ListLemmas.{shown_leaf, shown_none}
 use Rattle.fv_command.proofs.leaf_text.put_section_body.Goals as goal

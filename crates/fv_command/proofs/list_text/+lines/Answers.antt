@@ -1,10 +1,11 @@
 use Rattle.std.proofs.Common.{◌≡◌, ◌++◌, List, true, refl, ap, arith, subst, sym}
 use Rattle.std.proofs.lemmas.Result.{on_ok_weaker}
 use Rattle.fv_canon.proofs.Laws.{file_fits, files_fit, section_fits}
-use Rattle.fv_canon.specs.Layouts.{AllFit, Fits}
+use Rattle.fv_canon.specs.LayoutFaults.{AllFit}
+use Rattle.fv_canon.specs.Layouts.{Fits}
 use Rattle.fv_canon.specs.Volumes.{volumes_in_body, volumes_in_content, volumes_in_files, volumes_in_sections}
-use Rattle.fv_tree.specs.Meaning.{BodyMeaning, ContentMeaning, FileMeaning, SectionMeaning, body_of, content_of}
-use Rattle.fv_tree.specs.Meaning.{files_from, sections_from}
+use Rattle.fv_tree.specs.Meaning.{BodyMeaning, ContentMeaning, FileMeaning, SectionMeaning, content_of}
+use Rattle.fv_tree.specs.MeaningParts.{body_of, files_from, sections_from}
 use Rattle.fv_tree.specs.inner.Sizes.{volume_size, content_size, sections_size, body_size}
 use Rattle.fv_tree.specs.Views.{body_view, content_view}
 use Rattle.fv_tree.specs.declared.view.Body.{Body}

@@ -1,5 +1,5 @@
 use Rattle.std.proofs.Common.{◌+◌, ◌*◌}
-use Rattle.fv_tree.specs.Meaning.{files_from, sections_from}
+use Rattle.fv_tree.specs.MeaningParts.{files_from, sections_from}
 use Rattle.fv_tree.specs.inner.Sizes.{volume_size, files_size, content_size, sections_size, body_size}
 use Rattle.fv_tree.specs.Views.{body_view, content_view}
 use Rattle.fv_command.specs.inner.Indents.{levels}

@@ -1,6 +1,7 @@
 use Rattle.std.proofs.Common.{◌≡◌, ◌++◌, ◌∙◌, List, ℕ, codes, ap, sym, subst}
 use Rattle.std.specs.Prelude.{option_copied}
-use Rattle.fv_base.specs.Guids.{bytes_of, guid_text}
+use Rattle.fv_base.specs.Guids.{bytes_of}
+use Rattle.fv_base.specs.GuidTexts.{guid_text}
 use Rattle.fv_base.specs.declared.guid.Guid.{Guid}
 use Rattle.fv_command.specs.ListTexts.{name_text}
 use Rattle.fv_command.proofs.list_text.put_name.Goals as goal

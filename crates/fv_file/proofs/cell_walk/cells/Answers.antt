@@ -1,6 +1,6 @@
 use Rattle.std.proofs.Common.{◌≡◌, ℕ, ◌+◌, length, sym, ap, subst, arith, length-drop}
 use Rattle.std.proofs.lemmas.Result.{IfOk-weaker, IfErr-weaker}
-use Rattle.fv_file.specs.Cells.{CellsWithin}
+use Rattle.fv_file.specs.CellLengths.{CellsWithin}
 use Rattle.fv_file.proofs.BodyLemmas.{only_one, none_after, all_within}
 use Rattle.fv_file.proofs.cell_walk.cells.Goals as goal
 

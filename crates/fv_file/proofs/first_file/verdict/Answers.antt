@@ -6,4 +6,4 @@ pub returns-in-Some : goal.returns-in-Some
 returns-in-Some c =
     c.file_at.ensures.is
     ∙ sym (alive_read c.args.system c.args.polarity c.args.bytes.now c.in-Some.state c.in_ok-check.ensures.ok
-    (sym c.file_state.ensures.is ∙ c.in-Some.is) (cc))
+    (sym c.file_state.ensures ∙ c.in-Some.is) (cc))

@@ -2,6 +2,6 @@ use Rattle.std.proofs.Common.{◌∙◌, ap}
 use Rattle.fv_file.specs.States.{state_of, state_in}
 use Rattle.fv_file.proofs.state.file_state.Goals as goal
 
-pub returns-clause-is : goal.returns-clause-is
+pub returns : goal.returns
 unfolding state_of
-returns-clause-is c = c.state_in.ensures ∙ ap state_in c.bits_of.ensures
+returns c = c.state_in.ensures ∙ ap state_in c.bits_of.ensures

@@ -2,9 +2,10 @@ use Rattle.std.proofs.Common.{◌≡◌, ◌∙◌, ◌++◌, ◌≤◌, ℕ, Li
 use Rattle.std.specs.Prelude.{IfOk}
 use Rattle.std.proofs.lemmas.Result.{IfOk-weaker}
 use Rattle.fv_base.proofs.Laws.{kept_whole}
-use Rattle.fv_head.specs.Head.{IsCanonicalHead, BeginsVolume, extent_of}
+use Rattle.fv_head.specs.HeadReads.{IsCanonicalHead, extent_of, CanonicalRest}
+use Rattle.fv_head.specs.Head.{BeginsVolume}
 use Rattle.fv_head.specs.HeadImage.{canonical_head}
-use Rattle.fv_head.specs.ExtImage.{CanonicalRest, canonical_end, first_edge}
+use Rattle.fv_head.specs.ExtImage.{canonical_end, first_edge}
 use Rattle.fv_head.proofs.HeadImageLemmas.{canonical_is, canonical_only, canonical_front}
 use Rattle.fv_head.proofs.head_image.head_bytes.Goals.{After-finish}
 use Rattle.fv_head.proofs.head_image.head_bytes.Goals as goal
@@ -22,6 +23,9 @@ returns-clause-head c =
 pub returns-clause-only : goal.returns-clause-only
 returns-clause-only c = λ other canonical.
     IfOk-weaker _ _ (λ bytes. bytes ≡ other) (λ bytes same. same ∙ sym (canonical_only c.args.head.now other canonical)) (is_head c)
+
+pub returns-clause-bytes : goal.returns-clause-bytes
+returns-clause-bytes c = is_head c
 
 pub returns-clause-again : goal.returns-clause-again
 returns-clause-again c =

@@ -1,4 +1,4 @@
-use Rattle.std.proofs.Common.{ℕ, List, map, subst, sym, arith}
+use Rattle.std.proofs.Common.{ℕ, List, map, subst, sym}
 use Rattle.std.specs.List.{flat_map}
 use Rattle.std.proofs.lemmas.List.{take_all}
 use Rattle.fv_file.specs.CellForms.{cell_form}
@@ -12,20 +12,17 @@ pub loop-cell-init : goal.loop-cell-init
 loop-cell-init g c = g.S.Sink.laws.none c.args.out.now
 
 pub put_cell-requires : goal.put_cell-requires
-put_cell-requires g c = record {
-  fits = fits_at cell_form _ c.args.list.now c.loop-cell.cell-index _ c.loop-cell-test.true c.requires.each;
-  small = omega (arith, c.requires.small);
-}
+put_cell-requires g c = fits_at cell_form c.args.list.now c.loop-cell.cell-index _ c.loop-cell-test.true c.requires.each
 
 pub loop-cell-preserved : goal.loop-cell-preserved
 loop-cell-preserved g c =
     let list : List Cell = c.args.list.now in
     subst (λ (t : List ℕ). g.S.Sink.takes c.args.out.now t c.put_cell.new.out)
-    (sym (seen_next (cell_line c.args.polarity c.args.volume.now) cell_form list c.loop-cell.cell-index _ c.loop-cell-test.true))
+    (sym (seen_next cell_line cell_form list c.loop-cell.cell-index _ c.loop-cell-test.true))
     (g.S.Sink.laws.joined _ _ _ _ _ c.loop-cell.invariant c.put_cell.ensures)
 
 pub returns : goal.returns
 returns g c =
     subst (λ (cs : List Cell).
-    g.S.Sink.takes c.args.out.now (flat_map (cell_line c.args.polarity c.args.volume.now) (map cell_form cs)) c.loop-cell.out)
+    g.S.Sink.takes c.args.out.now (flat_map cell_line (map cell_form cs)) c.loop-cell.out)
     (take_all c.loop-cell.cell-index c.args.list.now c.loop-cell-test.false) c.loop-cell.invariant

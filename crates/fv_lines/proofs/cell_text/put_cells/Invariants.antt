@@ -6,4 +6,4 @@ use Rattle.fv_lines.proofs.cell_text.put_cells.Given as goal
 
 abbrev pub invariant-loop-cell : goal.invariant-loop-cell
 invariant-loop-cell g l =
-    g.S.Sink.takes l.initial.out (flat_map (cell_line l.polarity l.volume) (map cell_form (take l.cell-index l.list))) l.out
+    g.S.Sink.takes l.initial.out (flat_map cell_line (map cell_form (take l.cell-index l.list))) l.out

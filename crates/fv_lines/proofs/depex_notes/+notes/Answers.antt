@@ -1,7 +1,8 @@
 use Rattle.std.proofs.Common.{◌≡◌, ◌∙◌, ◌∷◌, ℕ, List, take, sym, ap, subst, arith}
 use Rattle.std.proofs.lemmas.List.{take_all}
 use Rattle.fv_tree.specs.LookupInstances.{preorder, inside_section}
-use Rattle.fv_tree.specs.Meaning.{Leaf, Group, Nested, SectionMeaning, body_of, sections_from}
+use Rattle.fv_tree.specs.Meaning.{Leaf, Group, Nested, SectionMeaning}
+use Rattle.fv_tree.specs.MeaningParts.{body_of, sections_from}
 use Rattle.fv_tree.specs.inner.Sizes.{body_size}
 use Rattle.fv_tree.specs.Views.{body_view}
 use Rattle.fv_tree.proofs.Laws.{body_falls, section_falls}

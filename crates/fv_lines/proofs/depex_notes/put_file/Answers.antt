@@ -1,6 +1,7 @@
 use Rattle.std.proofs.Common.{◌≡◌, ◌∙◌, List, sym, ap, subst}
 use Rattle.fv_tree.specs.LookupInstances.{preorder}
-use Rattle.fv_tree.specs.Meaning.{FileMeaning, Plain, Sectioned, SectionMeaning, content_of, sections_from}
+use Rattle.fv_tree.specs.Meaning.{FileMeaning, Plain, Sectioned, SectionMeaning, content_of}
+use Rattle.fv_tree.specs.MeaningParts.{sections_from}
 use Rattle.fv_tree.specs.Views.{content_view}
 use Rattle.fv_lines.specs.Notes.{HeldDepex, sections_depexes}
 use Rattle.fv_lines.specs.inner.NoteRuns.{PutsNotes}

@@ -1,7 +1,7 @@
 use Rattle.std.proofs.Common.{◌≡◌, ◌+◌, ◌==◌, sym, ap, ◌∙◌, arith}
 use Rattle.fv_tree.specs.Difference.{unless_one}
 use Rattle.fv_tree.specs.declared.difference.Word.TheVariants as words
-use Rattle.fv_tree.specs.Meaning.{files_from, sections_from}
+use Rattle.fv_tree.specs.MeaningParts.{files_from, sections_from}
 use Rattle.fv_tree.specs.inner.Sizes.{volume_size, files_size, content_size, sections_size, body_size}
 use Rattle.fv_tree.specs.Views.{content_view, body_view}
 use Rattle.fv_tree.proofs.DifferenceWalkLaws.{sections_more, files_more, volume_word}

@@ -2,7 +2,8 @@ use Rattle.std.proofs.Common.{◌+◌, ◌-◌, List, drop, sym, ap, ◌∙◌, 
 use Rattle.std.specs.Prelude.{slice_get, ◌==◌}
 use Rattle.std.specs.List.{filter}
 use Rattle.fv_tree.specs.LookupInstances.{instance_of}
-use Rattle.fv_tree.specs.Meaning.{FileMeaning, file_kind_of, files_of}
+use Rattle.fv_tree.specs.Meaning.{FileMeaning, files_of}
+use Rattle.fv_tree.specs.MeaningParts.{file_kind_of}
 use Rattle.fv_tree.proofs.VolumeLaws.{files_list_back}
 use Rattle.fv_base.proofs.Laws.{not_equal}
 use Rattle.fv_tree.proofs.LookupLaws.{instance_at, past_end, passed, met, slice_next, slice_first, one_type}

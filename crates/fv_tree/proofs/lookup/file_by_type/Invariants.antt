@@ -2,7 +2,7 @@ use Rattle.std.proofs.Common.{◌≡◌, drop}
 use Rattle.std.specs.Prelude.{slice_get, ◌==◌}
 use Rattle.std.specs.List.{filter}
 use Rattle.fv_tree.specs.LookupInstances.{instance_of}
-use Rattle.fv_tree.specs.Meaning.{file_kind_of}
+use Rattle.fv_tree.specs.MeaningParts.{file_kind_of}
 use Rattle.fv_tree.proofs.lookup.file_by_type.Given as goal
 
 abbrev pub invariant-loop-file : goal.invariant-loop-file

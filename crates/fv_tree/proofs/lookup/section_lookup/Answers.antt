@@ -1,6 +1,6 @@
 use Rattle.std.proofs.Common.{◌-◌, ◌∙◌, arith}
 use Rattle.fv_tree.specs.LookupInstances.{of_type, preorder}
-use Rattle.fv_tree.specs.Meaning.{sections_from}
+use Rattle.fv_tree.specs.MeaningParts.{sections_from}
 use Rattle.fv_tree.proofs.LookupLaws.{instance_at, sought_get, sought_none}
 use Rattle.fv_tree.proofs.lookup.section_lookup.Goals as goal
 

@@ -5,6 +5,7 @@ use Rattle.fv_tree.proofs.FaultLaws.{fault_stands}
 use Rattle.fv_tree.proofs.FaultPlaceLaws.{refused_within}
 use Rattle.fv_tree.proofs.FirstLaws.{only_answer, one_answer}
 use Rattle.fv_tree.proofs.RefusalLaws.{first_refuses}
+use Rattle.fv_tree.proofs.StandingLaws.{sound_answer}
 use Rattle.fv_tree.proofs.read.read_volume.Goals as goal
 
 pub returns-clause-only : goal.returns-clause-only
@@ -25,3 +26,6 @@ returns-clause-stands c =
 pub returns-clause-bound : goal.returns-clause-bound
 returns-clause-bound c =
     MatchResult-weaker c.read_at.result c.read_at.ensures.read (λ _ _. tt) (λ e first. refused_within c.args.bytes.now e first)
+
+pub returns-clause-sound : goal.returns-clause-sound
+returns-clause-sound c = sound_answer c.args.bytes.now c.read_at.result c.read_at.ensures.read c.read_at.ensures.length

@@ -1,7 +1,7 @@
 use Rattle.std.proofs.Common.{◌≡◌, ◌≤◌, ◌∙◌, ℕ, length, drop, arith, map, sym, ap, subst, inr, rules}
 use Rattle.std.specs.List.{AllByRecursion}
 use Rattle.fv_base.specs.Value.{IsBytes}
-use Rattle.fv_file.specs.Cells.{CellsWithin}
+use Rattle.fv_file.specs.CellLengths.{CellsWithin}
 use Rattle.fv_tree.specs.Files.{FileForm, files_in}
 use Rattle.fv_tree.specs.LocatedFiles.{file_form}
 use Rattle.fv_tree.specs.inner.SmallFiles.{IsSmallCell}

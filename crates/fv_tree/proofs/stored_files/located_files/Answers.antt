@@ -1,9 +1,12 @@
 use Rattle.std.proofs.lemmas.Result.{err_from_is_err_and}
-use Rattle.std.proofs.Common.{map}
+use Rattle.std.proofs.Common.{map, ap}
+use Rattle.fv_base.specs.declared.fault.Fault.{Fault}
 use Rattle.fv_tree.specs.LocatedFiles.{file_form}
 use Rattle.fv_tree.proofs.LocatedLaws.{located_data, located_stand}
 use Rattle.fv_tree.proofs.MeaningLaws.{one_stand}
+use Rattle.fv_tree.proofs.ReadingLaws.{begun}
 use Rattle.fv_tree.proofs.RefusalLaws.{files_refused}
+use Rattle.fv_tree.proofs.VolumeLaws.{head_known}
 use Rattle.fv_tree.proofs.stored_files.located_files.Goals as goal
 
 pub returns-in_err-files-clause-none : goal.returns-in_err-files-clause-none
@@ -24,3 +27,13 @@ returns-clause-only c = λ gs begins.
     let front = c.in_ok-extent.ensures.found in
     one_stand c.in_ok-extent.extent _ (map file_form c.in_ok-files.files.items) gs c.in_ok-files.ensures.read
     (located_stand c.args.bytes.now front.0 c.in_ok-extent.extent front.1 gs begins)
+
+pub returns-in_err-extent-clause-memory : goal.returns-in_err-extent-clause-memory
+returns-in_err-extent-clause-memory c =
+    let p = err_from_is_err_and c.from_residual.result c.from_residual.ensures.1 in
+    rw (p.1, p.2) (λ want. absurd (head_known c.args.bytes.now _ c.in_err-extent.ensures.first (ap (λ (f : Fault). f.kind) want)))
+
+pub returns-in_err-files-clause-memory : goal.returns-in_err-files-clause-memory
+returns-in_err-files-clause-memory c =
+    let front = c.in_ok-extent.ensures.found in
+    begun c.args.bytes.now c.from_residual-in_err-files.result front.0 c.in_ok-extent.extent front.1

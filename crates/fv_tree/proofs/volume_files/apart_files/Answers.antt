@@ -2,7 +2,7 @@ use Rattle.std.proofs.Common.{◌≡◌, ◌≤◌, ◌∙◌, sym, ap, subst, m
 use Rattle.std.specs.List.{AllByRecursion, list_any}
 use Rattle.std.specs.Prelude.{not}
 use Rattle.std.proofs.lemmas.Result.{err_from_is_err_and}
-use Rattle.fv_tree.specs.Files.{FileForm, current_in, replaces}
+use Rattle.fv_tree.specs.Files.{FileForm, current_in, replaced_by}
 use Rattle.fv_tree.specs.LocatedFiles.{file_form}
 use Rattle.std.proofs.lemmas.List.{length-map}
 use Rattle.fv_tree.proofs.FileCountLaws.{filter_few}
@@ -26,7 +26,7 @@ returns-in_err-check_top-clause-bound c =
     ap (map file_form) c.as_slice-2.ensures.value ∙ c.keep_current.ensures in
     let some =
     subst (AllByRecursion P) (sym kept)
-    (all_filter (λ f. not (list_any (replaces f) (map file_form c.args.files.items))) P
+    (all_filter (λ f. not (list_any (replaced_by f) (map file_form c.args.files.items))) P
     (map file_form c.args.files.items) c.requires.within) in
     rw (p.1, p.2)
     (top_bound c.in_err-check_top.field-0.0 c.args.length c.args.length (map file_form c.as_slice-2.result.now) some
@@ -40,6 +40,6 @@ of-requires c =
       ap length c.keep_current.ensures,
       length-map c.keep_current.new.files.items file_form,
       length-map c.args.files.items file_form,
-      filter_few (λ f. not (list_any (replaces f) (map file_form c.args.files.items))) (map file_form c.args.files.items),
+      filter_few (λ f. not (list_any (replaced_by f) (map file_form c.args.files.items))) (map file_form c.args.files.items),
       c.requires.few,
     )

@@ -3,7 +3,7 @@ use Rattle.std.specs.Prelude.{◌≢◌, slice_set}
 use Rattle.std.specs.List.{list_any}
 use Rattle.std.proofs.lemmas.Bool.{cases_eq, cases_lt}
 use Rattle.std.proofs.lemmas.List.{get_or_default, get_or-map, get_or-set_same, get_or-set_other, length-map, map-set, set-get_or}
-use Rattle.fv_tree.specs.Files.{FileForm, is_marked, replaces}
+use Rattle.fv_tree.specs.Files.{FileForm, is_marked, replaced_by}
 use Rattle.fv_tree.specs.FileNames.{Entry, IsIndex}
 use Rattle.fv_tree.specs.inner.NameOrders.{names_in}
 use Rattle.fv_tree.specs.inner.Neighbours.{mark_at}
@@ -17,7 +17,7 @@ use Rattle.fv_tree.proofs.name_index.Numbers.set_replaced.Goals as goal
 
 -- one of the files replaces the file of that number
 abbrev is_replaced : List FileForm → FileForm → ℕ → Bool
-is_replaced fs d n = list_any (replaces (get_or fs n d)) fs
+is_replaced fs d n = list_any (replaced_by (get_or fs n d)) fs
 
 -- of the files of the first entries it is noted whether one of the files replaces them
 abbrev Noted : List FileForm → List Entry → List LocatedFile → ℕ → Type 0
@@ -136,4 +136,4 @@ returns-clause-replaced c = λ k s l.
     ap (λ (gs : List FileForm). get_or gs k d) (sym same) ∙ get_or-map file_form files k s d l in
     let noted = c.loop-place.invariant.noted s d e r.0 (omega (arith, r.1)) in
     ap (λ (n : ℕ). is_noted (get_or files n s).mark) (sym number) ∙ noted ∙ ap (is_replaced fs d) number
-    ∙ ap (λ (f : FileForm). list_any (replaces f) fs) at ∙ ap (list_any (replaces (file_form (get_or files k s)))) (sym same)
+    ∙ ap (λ (f : FileForm). list_any (replaced_by f) fs) at ∙ ap (list_any (replaced_by (file_form (get_or files k s)))) (sym same)

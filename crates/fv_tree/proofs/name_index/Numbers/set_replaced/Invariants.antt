@@ -1,6 +1,6 @@
 use Rattle.std.proofs.Common.{◌≡◌, ◌<◌, ℕ, map, get_or}
 use Rattle.std.specs.List.{list_any}
-use Rattle.fv_tree.specs.Files.{FileForm, replaces}
+use Rattle.fv_tree.specs.Files.{FileForm, replaced_by}
 use Rattle.fv_tree.specs.FileNames.{Entry}
 use Rattle.fv_tree.specs.LocatedFiles.{file_form}
 use Rattle.fv_tree.specs.inner.SmallFiles.{is_noted}
@@ -12,5 +12,5 @@ invariant-loop-place l = record {
   same : map file_form l.files ≡ map file_form l.fn.files;
   noted : (s : LocatedFile) (d : FileForm) (e : Entry) (p : ℕ) → p < l.place
       → is_noted (get_or l.files (get_or l.self.sorted.items p e).1 s).mark
-      ≡ list_any (replaces (get_or (map file_form l.fn.files) (get_or l.self.sorted.items p e).1 d)) (map file_form l.fn.files);
+      ≡ list_any (replaced_by (get_or (map file_form l.fn.files) (get_or l.self.sorted.items p e).1 d)) (map file_form l.fn.files);
 }

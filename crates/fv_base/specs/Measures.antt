@@ -1,0 +1,19 @@
+-- What other calls say of bytes and of numbers: a sum, bytes that are all erased, alignments, and a limit.
+use Rattle.std.specs.List.{list_all}
+use Rattle.std.specs.Prelude.{ℕ, ◌%◌, List, sum, ◌≡◌, ◌==◌, Bool, ◌^◌, ◌≤◌}
+
+-- the most bytes of a file's data: those of a volume less the 32 of a large header. The code has no constant for it
+abbrev pub data_limit : ℕ
+data_limit = 268435424
+
+-- the plain sum of the bytes modulo 256
+abbrev pub sum8_of : List ℕ → ℕ
+sum8_of bs = sum bs % 256
+
+-- whether every byte of the list is `byte`
+unfoldable pub all_are : ℕ → List ℕ → Bool
+all_are byte xs = list_all (λ x. x == byte) xs
+
+-- a power of two of at most 2 ^ 24
+abbrev pub IsAlignment : ℕ → Type 0
+IsAlignment n = (k : ℕ) × (k ≤ 24) × (n ≡ 2 ^ k)

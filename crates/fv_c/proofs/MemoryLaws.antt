@@ -1,0 +1,61 @@
+-- What is read begins as it must where memory can run out.
+use Rattle.std.proofs.Common.{◌≡◌, ◌∙◌, ◌++◌, [], ◌∷◌, ℕ, List, ap, drop, sym, take, append_assoc}
+use Rattle.std.proofs.lemmas.List.{take-append-drop}
+use Rattle.fv_depex.proofs.Laws.{whole_ended}
+use Rattle.fv_depex.specs.Expressions.{Spells, op_code, op_operand, ops_bytes}
+use Rattle.fv_depex.specs.OpChecks.{BeginsFirstOp, OpFits, OpPath}
+use Rattle.fv_depex.specs.declared.op.Op.{Op}
+use Rattle.fv_depex.specs.declared.op.Op.TheVariants as ops
+use Rattle.fv_depex.specs.declared.op.Phase.{Phase}
+use Rattle.fv_depex.specs.declared.op_stage.Stage.{Stage}
+use Rattle.fv_depex.specs.declared.op_stage.Stage.TheVariants as stages
+use Rattle.fv_hob.proofs.Laws.{code_is}
+use Rattle.fv_hob.specs.HobChecks.{BeginsTable}
+use Rattle.fv_hob.specs.Hobs.{HobForm}
+use Rattle.fv_hob.specs.Lists.{BeginWithTable, IsHobList, JoinsHobs}
+use Rattle.fv_tree.specs.Denotes.{Accepted}
+use Rattle.fv_tree.specs.Meaning.{Meaning, head_of}
+use Rattle.fv_c.specs.Reports.{BeginsWithHeader}
+
+-- a volume begins with its header
+pub header_of : (b : List ℕ) (m : Meaning) → Accepted b m → BeginsWithHeader b
+header_of b m accepted = (head_of m, accepted.1.extent, accepted.1.front)
+
+-- a list of blocks begins with a hand-off information table
+table_of : (all front : List HobForm) (last : HobForm) (n : ℕ) (b : List ℕ) → all ≡ front ++ last ∷ [] → JoinsHobs all (take n b)
+    → BeginWithTable all → BeginsTable b
+table_of [] [] last n b e joined begins = cc
+table_of [] (h ∷ hs) last n b e joined begins = cc
+table_of (h ∷ hs) front last n b e (c, rest, is, hob, more) begins = (
+  c,
+  record {
+    behind = rest ++ drop n b;
+    joined = sym (take-append-drop n b) ∙ ap (λ (l : List ℕ). l ++ drop n b) is ∙ append_assoc c rest (drop n b);
+    block = hob.block;
+    begins = λ _. sym (code_is h c hob) ∙ begins;
+  },
+)
+
+pub begins_table : (all : List HobForm) (n : ℕ) (b : List ℕ) → IsHobList all (take n b) → BeginsTable b
+begins_table all n b list = table_of all list.front list.last n b list.ends list.joined list.begins
+
+-- an expression begins with an op that may be the first
+first_of : (phase : Phase) (stage : Stage) (front : List Op) (rest b : List ℕ) → OpPath phase stages.Start front stage
+    → OpFits phase stage ops.End → b ≡ ops_bytes (front ++ ops.End ∷ []) ++ rest → BeginsFirstOp phase b
+first_of phase stage [] rest b path ended is = (
+  ops.End,
+  record { fits = rw path ended; behind = rest; joined = is },
+)
+first_of phase stage (o ∷ os) rest b path ended is = (
+  o,
+  record {
+    fits = path.0;
+    behind = ops_bytes (os ++ ops.End ∷ []) ++ rest;
+    joined = is ∙ ap (λ (l : List ℕ). op_code o ∷ l) (append_assoc (op_operand o) (ops_bytes (os ++ ops.End ∷ [])) rest);
+  },
+)
+
+pub begins_first : (phase : Phase) (all : List Op) (rest b : List ℕ) → Spells phase all rest b → BeginsFirstOp phase b
+begins_first phase all rest b spells =
+    let e = whole_ended phase all rest b spells in
+    first_of phase e.stage e.front rest b e.path e.ended (spells.joined ∙ ap (λ (l : List Op). ops_bytes l ++ rest) e.joined)

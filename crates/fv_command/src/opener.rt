@@ -1,0 +1,92 @@
+//! What opens the inputs of a run, and a run over the inputs that its plan names.
+
+ghost use Rattle.std.specs.Prelude.{ℕ, List, Option};
+ghost use Rattle.fv_command.specs.Runs.{RunsOver};
+ghost use Rattle.fv_command.specs.Sources.{IsFirstSource, IsOpened, IsSecondSource};
+ghost use Rattle.fv_plan.specs.Files.{first_file, second_file};
+ghost use Rattle.fv_text.specs.PortViews.{change};
+
+use crate::plan_run::run_plan;
+use crate::source::Source;
+use crate::status::Status;
+use fv_base::Port;
+use fv_plan::Plan;
+use std::alloc::Global;
+use std::io::{Read, Write};
+
+/// What opens the inputs of a run: files by their paths, and standard input. The program opens
+/// those of its process; a test may open others.
+pub trait Opener {
+    /// A file.
+    type File: Read + Drop;
+
+    /// Standard input.
+    type Standard: Read + Drop;
+
+    /// Opening a path gives this file, or None.
+    ghost opens: { Self → List ℕ → Option Self.File → Type 0 };
+
+    /// The reader is standard input.
+    ghost is_standard: { Self → Self.Standard → Type 0 };
+
+    /// The file at a path; None if it cannot be opened.
+    fn file_at(&self, path: &str) -> Option<Self::File>
+        ensures { opens self.now path.now result };
+
+    /// Standard input.
+    fn standard_input(&self) -> Self::Standard
+        ensures { is_standard self.now result };
+}
+
+// The file at a path; Missing if it cannot be opened.
+fn opened<O: Opener>(opener: &O, path: &str) -> Source<O::Standard, O::File>
+    ensures { IsOpened (O.opens opener.now) path.now result }
+{
+    match opener.file_at(path) {
+        Some(file) => Source::File(file),
+        None => Source::Missing,
+    }
+}
+
+// The source of the first input of a plan: the file that it names, or standard input if it names
+// none.
+fn first_source<O: Opener>(opener: &O, plan: &Plan) -> Source<O::Standard, O::File>
+    ensures { IsFirstSource (O.opens opener.now) (O.is_standard opener.now) (first_file plan.now.command) result }
+{
+    match plan.first() {
+        Some(path) => opened(opener, path.as_str()),
+        None => Source::Standard(opener.standard_input()),
+    }
+}
+
+// The source of the second input of a plan: the file that it names, or Nothing if it names none.
+fn second_source<O: Opener>(opener: &O, plan: &Plan) -> Source<O::Standard, O::File>
+    ensures { IsSecondSource (O.opens opener.now) (second_file plan.now.command) result }
+{
+    match plan.second() {
+        Some(path) => opened(opener, path.as_str()),
+        None => Source::Nothing,
+    }
+}
+
+/// Runs a plan over the inputs that it names, and returns how the run ended, as `run_plan` does.
+/// Both inputs are opened before anything is read.
+pub fn run_over<O: Opener, W: Write>(
+    alloc: Global,
+    opener: &O,
+    plan: &Plan,
+    writer: &mut Port<W>,
+) -> Status
+    ensures { RunsOver O.Standard.remaining O.File.remaining (O.opens opener.now) (O.is_standard opener.now)
+        plan.now result (change W.contents writer.old writer.new) }
+{
+    let first = first_source(opener, plan);
+    let second = second_source(opener, plan);
+    run_plan(
+        alloc,
+        plan,
+        &mut Port::new(first),
+        &mut Port::new(second),
+        writer,
+    )
+}

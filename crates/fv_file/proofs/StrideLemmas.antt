@@ -1,0 +1,167 @@
+-- How far it is from the header of a cell to the next one: by the length of the header if it was never finished, else by the size of the file.
+use Rattle.std.proofs.Common.{◌≡◌, ◌≤◌, ◌<◌, ℕ, ◌+◌, List, [], ◌∷◌, ◌++◌, length, drop, inl, inr, refl, sym, ap, ◌∙◌, subst, arith}
+use Rattle.std.proofs.Common.{Bool, true, false, length-append, append_assoc, append-nil}
+use Rattle.std.specs.Prelude.{◌==◌, ◌≢◌, ◌⊎◌, not, nat_le, slice_index, Option, Some}
+use Rattle.std.proofs.lemmas.Bool.{leb-true, eq-eqb, eqb-true, eqb-false}
+use Rattle.std.proofs.lemmas.List.{drop_at}
+use Rattle.fv_base.proofs.Laws.{all_hold, and_split}
+use Rattle.fv_base.specs.Flash.{erased_byte}
+use Rattle.fv_base.specs.Value.{up_to_8}
+use Rattle.fv_base.specs.declared.flash.FileSystem.{FileSystem}
+use Rattle.fv_base.specs.declared.flash.Polarity.{Polarity}
+use Rattle.fv_file.specs.Attributes.{is_large}
+use Rattle.fv_file.specs.Cells.{CellForm, Valid, Pad, Dead, Stub, Free, offset_of, is_free, IsFilled, IsCell, Tiles}
+use Rattle.fv_file.specs.FileChecks.{cell_checks, file_header_len_at, file_size_at}
+use Rattle.fv_file.specs.Files.{file_header_len}
+use Rattle.fv_file.specs.States.{StateOf, bits_of, state_of, is_alive}
+use Rattle.fv_file.specs.inner.StateSorts.{is_unfinished}
+use Rattle.fv_file.specs.declared.head.FileHead.{FileHead}
+use Rattle.fv_file.specs.declared.state.FileState.{FileState}
+use Rattle.fv_file.specs.declared.state.FileState.TheVariants as states
+use Rattle.fv_file.proofs.CellLemmas.{no_bits}
+use Rattle.fv_file.proofs.CellPartLemmas.{file_made_up, filled_span, made_up, not_empty, free_all}
+use Rattle.fv_file.proofs.CellReadLemmas.{cell_reads}
+use Rattle.fv_file.proofs.ErasedLemmas.{all_at}
+use Rattle.fv_file.proofs.FileLemmas.{header_least, front_byte, file_reads}
+use Rattle.fv_file.proofs.TilingLemmas.{no_rest}
+
+-- by whether the header at the start of r was never finished
+abbrev pub stride_by : Bool → List ℕ → ℕ
+stride_by true r = file_header_len_at r
+stride_by false r = up_to_8 (file_size_at r)
+
+-- the next header is n bytes from this one
+pub record Stride (polarity : Polarity) (r : List ℕ) (n : ℕ) : Type 0 where
+  pub header : file_header_len_at r ≤ n
+  pub within : n ≤ length r
+  pub is : stride_by (is_unfinished (state_of polarity (slice_index r 23))) r ≡ n
+
+-- a valid file, a file that was deleted, and one whose data were never finished have a whole header
+alive_finished : (st : FileState) → is_alive st ≡ true → is_unfinished (Some st) ≡ false
+alive_finished states.DataValid e = refl
+alive_finished states.Marked e = refl
+alive_finished states.Free e = cc
+alive_finished states.Construction e = cc
+alive_finished states.HeaderValid e = cc
+alive_finished states.Deleted e = cc
+alive_finished states.HeaderInvalid e = cc
+
+dead_finished : (st state : FileState) → st ≡ state → (state ≡ states.HeaderValid) ⊎ (state ≡ states.Deleted)
+    → is_unfinished (Some st) ≡ false
+dead_finished st state e (inl k) = ap (λ (x : FileState). is_unfinished (Some x)) (e ∙ k)
+dead_finished st state e (inr k) = ap (λ (x : FileState). is_unfinished (Some x)) (e ∙ k)
+
+file_stride : (s : FileSystem) (p : Polarity) (head : FileHead) (payload u w : List ℕ) → IsFilled s p head payload u
+    → head.header_len + length payload ≡ head.size → is_unfinished (Some head.state) ≡ false → Stride p (u ++ w) (length u)
+file_stride s p head payload u w filled made finished =
+    let r : List ℕ = filled.file ++ (filled.filler ++ w) in
+    let e : u ++ w ≡ r = ap (λ (x : List ℕ). x ++ w) filled.text ∙ append_assoc filled.file filled.filler w in
+    let reads = file_reads s p head payload filled.file (filled.filler ++ w) filled.is_file in
+    let span : up_to_8 head.size ≡ length u = filled_span s p head payload u filled in
+    let header : file_header_len_at r ≡ head.header_len = ap (λ (h : FileHead). h.header_len) reads.fields in
+    let size : file_size_at r ≡ head.size = ap (λ (h : FileHead). h.size) reads.fields in
+    subst (λ (x : List ℕ). Stride p x (length u)) (sym e) (record {
+      header = omega (arith, header, made, span);
+      within = omega (arith, ap length e, length-append u w);
+      is = ap (λ (o : Option FileState). stride_by (is_unfinished o) r) reads.state ∙ ap (λ (t : Bool). stride_by t r) finished ∙ ap up_to_8 size ∙ span;
+    })
+
+stub_stride : (p : Polarity) (u w : List ℕ) (st : FileState) → is_unfinished (Some st) ≡ true
+    → StateOf (slice_index u 23) p st → length u ≡ file_header_len (is_large (slice_index u 19)) → Stride p (u ++ w) (length u)
+stub_stride p u w st unfinished state len =
+    let low : 24 ≤ length u = omega (arith, len, header_least (is_large (slice_index u 19))) in
+    let e19 : slice_index (u ++ w) 19 ≡ slice_index u 19 = front_byte 19 u w (omega (arith, low)) in
+    let e23 : slice_index (u ++ w) 23 ≡ slice_index u 23 = front_byte 23 u w (omega (arith, low)) in
+    let n : file_header_len_at (u ++ w) ≡ length u = ap (λ (k : ℕ). file_header_len (is_large k)) e19 ∙ sym len in
+    record {
+      header = omega (arith, n);
+      within = omega (arith, length-append u w);
+      is = ap (λ (o : Option FileState). stride_by (is_unfinished o) (u ++ w)) (ap (state_of p) e23 ∙ state) ∙ ap (λ (t : Bool). stride_by t (u ++ w)) unfinished ∙ n;
+    }
+
+-- where a cell that is not free begins the bytes, the next header is after it
+pub cell_stride : (s : FileSystem) (p : Polarity) (c : CellForm) (u w : List ℕ) → IsCell s p c u → is_free c ≡ false
+    → Stride p (u ++ w) (length u)
+cell_stride s p (Valid at head payload) u w is f =
+    file_stride s p head payload u w is.0 (made_up s p (Valid at head payload) u is) (alive_finished head.state is.1)
+cell_stride s p (Pad at head payload) u w is f =
+    file_stride s p head payload u w is.0 (made_up s p (Pad at head payload) u is) (alive_finished head.state is.1)
+cell_stride s p (Dead at len st) u w (head, payload, filled, is, state, long) f =
+    file_stride s p head payload u w filled (file_made_up s p head payload u filled) (dead_finished head.state st is state)
+cell_stride s p (Stub at len) u w (inl state, whole, long) f = stub_stride p u w states.Construction refl state whole
+cell_stride s p (Stub at len) u w (inr state, whole, long) f = stub_stride p u w states.HeaderInvalid refl state whole
+cell_stride s p (Free at len) u w is f = cc
+
+-- ---- the count of the cells
+
+-- after so many cells, the rest has all others
+abbrev pub Counted : Polarity → ℕ → List ℕ → List ℕ → Type 0
+Counted p count body rest = (s : FileSystem) (first : ℕ) (cs : List CellForm) → Tiles s p first cs body
+    → (at : ℕ) × (ds : List CellForm) × Tiles s p at ds rest × (count + length ds ≡ length cs)
+
+pub none_counted : (p : Polarity) (body : List ℕ) → Counted p 0 body body
+none_counted p body = λ s first cs t. (first, cs, t, omega arith)
+
+-- one cell more: the state of the next header is not erased, so the cell there is not free
+one_less : (s : FileSystem) (p : Polarity) (at n : ℕ) (ds : List CellForm) (rest after : List ℕ) → Tiles s p at ds rest
+    → 24 ≤ length rest → slice_index rest 23 ≢ erased_byte p
+    → ((c : CellForm) (u w : List ℕ) → rest ≡ u ++ w → IsCell s p c u → is_free c ≡ false → n ≡ length u)
+    → after ≡ drop n rest
+    → (at' : ℕ) × (es : List CellForm) × Tiles s p at' es after × (length ds ≡ 1 + length es)
+one_less s p at n [] rest after t long used stride behind = absurd (omega (arith, ap length t, long))
+one_less s p at n (c ∷ cs) rest after (u, w, e, is, o, last, more) long used stride behind = go (is_free c) refl where
+  go : (f : Bool) → is_free c ≡ f
+      → (at' : ℕ) × (es : List CellForm) × Tiles s p at' es after × (length (c ∷ cs) ≡ 1 + length es)
+  go false f =
+      let same : after ≡ w = behind ∙ ap (λ (x : List ℕ). drop n x) e ∙ drop_at u w n (sym (stride c u w e is f)) in
+      (at + length u, cs, subst (λ (x : List ℕ). Tiles s p (at + length u) cs x) (sym same) more, omega arith)
+  go true f =
+      let none : w ≡ [] = no_rest s p _ cs w (last f) more in
+      let whole : rest ≡ u = e ∙ ap (λ (x : List ℕ). u ++ x) none ∙ append-nil u in
+      let byte : slice_index u 23 ≡ erased_byte p = all_at (erased_byte p) u 23 (free_all s p c u is f).1 (omega (arith, ap length whole, long)) in
+      absurd (used (ap (λ (x : List ℕ). slice_index x 23) whole ∙ byte))
+
+pub one_counted : (p : Polarity) (count n : ℕ) (body rest after : List ℕ) → Counted p count body rest
+    → 24 ≤ length rest → slice_index rest 23 ≢ erased_byte p
+    → ((s : FileSystem) (c : CellForm) (u w : List ℕ) → rest ≡ u ++ w → IsCell s p c u → is_free c ≡ false → n ≡ length u)
+    → after ≡ drop n rest → Counted p (count + 1) body after
+one_counted p count n body rest after counted long used stride behind = λ s first cs t.
+    let k = counted s first cs t in
+    let m = one_less s p k.0 n k.1 rest after k.2 long used (stride s) behind in
+    (m.0, m.1, m.2, omega (arith, m.3, k.3))
+
+-- where a cell that is not free begins, there are 24 bytes, and the state is not erased
+cell_begins : (s : FileSystem) (p : Polarity) (c : CellForm) (u w : List ℕ) → IsCell s p c u → is_free c ≡ false
+    → (24 ≤ length (u ++ w)) × (slice_index (u ++ w) 23 ≢ erased_byte p)
+cell_begins s p c u w is f =
+    let all = all_hold (cell_checks s p (offset_of c) (u ++ w)) (cell_reads s p c u w is f).checked in
+    let front = and_split (nat_le 24 (length (u ++ w))) (not (bits_of p (slice_index (u ++ w) 23) == 0)) all.0 in
+    (leb-true _ _ front.0, λ e. cc (front.1, eq-eqb _ 0 (no_bits p _ e)))
+
+-- one cell is left if any bytes are: a free one
+pub free_left : (s : FileSystem) (p : Polarity) (at : ℕ) (ds : List CellForm) (rest : List ℕ) → Tiles s p at ds rest
+    → (24 ≤ length rest → slice_index rest 23 ≡ erased_byte p)
+    → (length rest ≡ 0 → length ds ≡ 0) × (0 < length rest → length ds ≡ 1)
+free_left s p at [] rest t ends = (λ e. refl, λ l. absurd (omega (arith, ap length t, l)))
+free_left s p at (c ∷ cs) rest (u, w, e, is, o, last, more) ends =
+    (λ z. absurd (omega (arith, z, ap length e, length-append u w, not_empty s p c u is)), λ l. go (is_free c) refl)
+  where
+    go : (f : Bool) → is_free c ≡ f → length (c ∷ cs) ≡ 1
+    go true f = ap (λ (x : List CellForm). length (c ∷ x)) (last f)
+    go false f =
+        let begins = cell_begins s p c u w is f in
+        absurd (begins.1 (ap (λ (x : List ℕ). slice_index x 23) (sym e) ∙ ends (omega (arith, ap length e, begins.0))))
+
+pub all_counted : (p : Polarity) (count result : ℕ) (body rest : List ℕ) → Counted p count body rest
+    → (24 ≤ length rest → slice_index rest 23 ≡ erased_byte p)
+    → (length rest ≡ 0 → result ≡ count) → (0 < length rest → result ≡ count + 1)
+    → (s : FileSystem) (first : ℕ) (cs : List CellForm) → Tiles s p first cs body → result ≡ length cs
+all_counted p count result body rest counted ends none some s first cs t =
+    let k = counted s first cs t in
+    let left = free_left s p k.0 k.1 rest k.2 ends in
+    go (length rest == 0) refl (length k.1) left.0 left.1 k.3
+  where
+    go : (z : Bool) → (length rest == 0) ≡ z → (n : ℕ) → (length rest ≡ 0 → n ≡ 0) → (0 < length rest → n ≡ 1) → count + n ≡ length cs
+        → result ≡ length cs
+    go true z n a b e = let l : length rest ≡ 0 = eqb-true _ 0 z in omega (arith, none l, a l, e)
+    go false z n a b e = let l : 0 < length rest = omega (arith, eqb-false _ 0 z) in omega (arith, some l, b l, e)

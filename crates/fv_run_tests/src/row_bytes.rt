@@ -1,0 +1,100 @@
+//! The bytes that rows of the tables spell.
+//!
+//! Digits, stars and spaces mean what they mean in the tables of fv_tests. A name is that of a row
+//! of the tables in `volumes.rt`, since a command is run on whole volumes and lists, and what it
+//! writes is compared with others. The tables of fv_tests have no such names: there a header is
+//! spelled by the volume's length, since each row has a volume of its own.
+
+use crate::volumes::{lists, parts, refused, text_named, unplaced, volumes};
+use fv_base::Port;
+use fv_text::read_hex;
+use std::alloc::{AllocError, Global};
+
+/// The number that decimal digits spell.
+pub(crate) fn number_of(digits: &str) -> Option<u64> {
+    digits.parse().ok()
+}
+
+// Appends a word, or the words of the line of the table that it names, and a space.
+fn push_expanded(words: &mut String, table: &str, word: &str) -> Option<()> {
+    words
+        .push_str(text_named(table, word).unwrap_or(word))
+        .ok()?;
+    words.push(' ').ok()
+}
+
+// The words, with the name of a line of the table replaced by the words of that line.
+fn expanded(alloc: Global, table: &str, text: &str) -> Option<String> {
+    let mut words = String::new(alloc);
+    for word in text.split_whitespace() {
+        push_expanded(&mut words, table, word)?;
+    }
+    Some(words)
+}
+
+// Appends the part `count` times.
+fn push_repeated(bytes: &mut Vec<u8>, part: &[u8], count: u64) -> Option<()> {
+    for _ in 0..count {
+        bytes.extend_from_slice(part).ok()?;
+    }
+    Some(())
+}
+
+// Appends what a word of digits spells, as often as the number after its star says.
+fn push_word(alloc: Global, bytes: &mut Vec<u8>, word: &str) -> Option<()> {
+    let (digits, number) = word.split_once('*').unwrap_or((word, "1"));
+    let count = number_of(number)?;
+    let part = read_hex(alloc, &mut Port::new(digits.as_bytes())).ok()?;
+    push_repeated(bytes, &part, count)
+}
+
+// The bytes of words of digits.
+fn spelled_bytes(alloc: Global, text: &str) -> Option<Vec<u8>> {
+    let mut bytes = Vec::new(alloc);
+    for word in text.split_whitespace() {
+        push_word(alloc, &mut bytes, word)?;
+    }
+    Some(bytes)
+}
+
+/// The bytes that words of digits and names of the tables spell.
+pub(crate) fn bytes_of(alloc: Global, text: &str) -> Option<Vec<u8>> {
+    let mut words = String::from_str(alloc, text).ok()?;
+    for table in [lists(), volumes(), unplaced(), refused(), parts()] {
+        words = expanded(alloc, table, words.as_str())?;
+    }
+    spelled_bytes(alloc, words.as_str())
+}
+
+/// The bytes that words spell. If memory runs out for them, it is there the second time.
+pub(crate) fn bytes_in_two_tries(alloc: Global, words: &str) -> Option<Vec<u8>> {
+    match bytes_of(alloc, words) {
+        None => bytes_of(alloc, words),
+        bytes => bytes,
+    }
+}
+
+/// Whether a text was made, and is the expected one.
+pub(crate) fn text_is(text: Option<String>, wanted: &str) -> bool {
+    match text {
+        Some(text) => text.as_str() == wanted,
+        None => false,
+    }
+}
+
+// Appends the digits as lines of 64, each with a line feed.
+fn push_lines(lines: &mut Vec<u8>, digits: &[u8]) -> Result<(), AllocError> {
+    for line in digits.chunks(64) {
+        lines.extend_from_slice(line)?;
+        lines.push(b'\n')?;
+    }
+    Ok(())
+}
+
+/// The bytes as lines of digits, 32 bytes a line.
+pub(crate) fn lines_of(alloc: Global, bytes: &[u8]) -> Option<Vec<u8>> {
+    let digits = hex::encode(alloc, bytes).ok()?;
+    let mut lines = Vec::new(alloc);
+    push_lines(&mut lines, digits.as_bytes()).ok()?;
+    Some(lines)
+}

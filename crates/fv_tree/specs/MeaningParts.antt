@@ -1,0 +1,38 @@
+-- The parts of a meaning that other calls return.
+use Rattle.std.specs.Prelude.{ℕ, List, [], ◌∷◌, Bool, Option, Some, None}
+use Rattle.fv_tree.specs.Meaning.{FileMeanings, NoFiles, MoreFiles, FileMeaning, File, ContentMeaning, Plain}
+use Rattle.fv_tree.specs.Meaning.{Sectioned, SectionMeanings, NoSections, MoreSections, SectionMeaning, Section}
+use Rattle.fv_tree.specs.Meaning.{BodyMeaning, Leaf, Group, Nested}
+
+-- lists of files and of sections
+abbrev pub files_from : List FileMeaning → FileMeanings
+files_from [] = NoFiles
+files_from (f ∷ fs) = MoreFiles f (files_from fs)
+
+abbrev pub sections_from : List SectionMeaning → SectionMeanings
+sections_from [] = NoSections
+sections_from (s ∷ ss) = MoreSections s (sections_from ss)
+
+-- the type of a file, and plain bytes that are its content
+abbrev pub file_kind_of : FileMeaning → ℕ
+file_kind_of (File name kind attributes content) = kind
+
+abbrev pub plain_of : ContentMeaning → Option (List ℕ)
+plain_of (Plain b) = Some b
+plain_of (Sectioned _ _) = None
+
+-- the parts of a section
+abbrev pub section_kind_of : SectionMeaning → ℕ
+section_kind_of (Section kind extended body) = kind
+
+abbrev pub section_is_extended : SectionMeaning → Bool
+section_is_extended (Section kind extended body) = extended
+
+abbrev pub body_of : SectionMeaning → BodyMeaning
+body_of (Section kind extended body) = body
+
+-- the bytes of a body that is a leaf
+abbrev pub leaf_of : BodyMeaning → Option (List ℕ)
+leaf_of (Leaf b) = Some b
+leaf_of (Group _ _) = None
+leaf_of (Nested _) = None

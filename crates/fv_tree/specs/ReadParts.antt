@@ -1,0 +1,30 @@
+-- What is known of a file and of a section that were read.
+use Rattle.std.specs.Prelude.{ℕ, ◌≤◌, List, length}
+use Rattle.fv_base.specs.Limits.{depth_limit, volume_limit}
+use Rattle.fv_base.specs.Value.{IsBytes}
+use Rattle.fv_base.specs.declared.flash.FileSystem.{FileSystem}
+use Rattle.fv_base.specs.declared.flash.Polarity.{Polarity}
+use Rattle.fv_file.specs.Cells.{Valid, IsCell}
+use Rattle.fv_section.specs.Frames.{FrameForm}
+use Rattle.fv_section.specs.StreamReads.{FrameStandsAt}
+use Rattle.fv_tree.specs.Denotes.{MeansFile, MeansSection, Stream}
+use Rattle.fv_tree.specs.Files.{FileForm}
+use Rattle.fv_tree.specs.Meaning.{FileMeaning, SectionMeaning}
+
+-- some bytes are this valid file, and then filler
+abbrev pub IsStoredFile : FileForm → Type 0
+IsStoredFile f =
+    (system : FileSystem) × (polarity : Polarity) × (b : List ℕ) × IsBytes b × (length b ≤ volume_limit)
+    × IsCell system polarity (Valid f.offset f.head f.payload) b
+
+-- a valid file in some bytes has this meaning
+abbrev pub IsReadFile : FileMeaning → Type 0
+IsReadFile m = (n : ℕ) × (n ≤ depth_limit) × (f : FileForm) × IsStoredFile f × MeansFile (Stream n) f m
+
+-- this frame is in some bytes, at its offset
+abbrev pub IsStoredFrame : FrameForm → Type 0
+IsStoredFrame f = (b : List ℕ) × IsBytes b × (length b ≤ volume_limit) × FrameStandsAt f f.offset b
+
+-- a frame in some bytes has this meaning
+abbrev pub IsReadSection : SectionMeaning → Type 0
+IsReadSection m = (n : ℕ) × (n ≤ depth_limit) × (f : FrameForm) × IsStoredFrame f × MeansSection n f m

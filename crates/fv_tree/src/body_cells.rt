@@ -1,0 +1,46 @@
+//! The cells of a volume, with its extent.
+
+ghost use Rattle.std.specs.Prelude.{◌≡◌, ◌≢◌, length, take, IfErr, IfOk};
+ghost use Rattle.fv_base.specs.Faults.{out_of_memory};
+ghost use Rattle.fv_file.specs.CellLengths.{CellsWithin};
+ghost use Rattle.fv_head.specs.Head.{HeadFields, BeginsVolume};
+ghost use Rattle.fv_tree.specs.VolumeCells.{BeginsTiled, NotTiled};
+
+use fv_base::Fault;
+use fv_file::{Cells, cells};
+use fv_head::{Extent, verify_fv};
+use std::alloc::Global;
+
+/// The extent of the volume at the start of the bytes, and the cells of its body. Sections,
+/// duplicate names and the volume top file are not checked. (PI specification, volume 3, sections
+/// 3.2.1 to 3.2.3.)
+///
+/// # Errors
+///
+/// The first fault: those of the header, as for `verify_fv`, then those of the body, as for
+/// `cells`. OutOfMemory at 0, only if the bytes begin with the header of a volume.
+pub fn volume_cells(alloc: Global, bytes: &[u8]) -> Result<(Extent, Cells<'_>), Fault>
+    // The bytes begin with a volume of this extent, and these cells tile its body.
+    ensures found { IfOk result (λ r. BeginsTiled r.0 r.1 bytes.now) }
+
+    // Each cell is within the volume.
+    ensures lies { IfOk result (λ r. CellsWithin (length (take r.0.length bytes.now)) r.1) }
+
+    // If an error other than OutOfMemory is returned, they begin with none, and it is the first fault.
+    ensures err { IfErr result (λ f. f ≢ out_of_memory → NotTiled bytes.now f) }
+
+    // Memory runs out only if they begin with the header of a volume.
+    ensures memory { IfErr result
+        (λ f. f ≡ out_of_memory → (h : HeadFields) × (e : Extent) × BeginsVolume h e bytes.now) }
+{
+    let extent = verify_fv(bytes)?;
+    let volume = &bytes[..extent.length as usize];
+    let list = cells(
+        alloc,
+        volume,
+        extent.first,
+        extent.file_system,
+        extent.polarity,
+    )?;
+    Ok((extent, list))
+}

@@ -1,0 +1,66 @@
+#include "mutate.h"
+
+static uint32_t state = 1;
+
+void seed_chance(uint32_t seed)
+{
+    state = seed * 2654435761u ^ 0x9e3779b9;
+    if (!state) state = 1;
+    chance();
+    chance();
+}
+
+uint32_t chance(void)
+{
+    state ^= state << 13;
+    state ^= state >> 17;
+    state ^= state << 5;
+    return state;
+}
+
+uint32_t below(uint32_t n)
+{
+    return chance() % n;
+}
+
+bool one_in(uint32_t n)
+{
+    return below(n) == 0;
+}
+
+uint8_t one_of(const uint8_t *choices, size_t count)
+{
+    return choices[below((uint32_t)count)];
+}
+
+uint64_t number_at(const uint8_t *bytes, int width)
+{
+    uint64_t number = 0;
+    while (width--) number = number << 8 | bytes[width];
+    return number;
+}
+
+void put_number(uint8_t *bytes, int width, uint64_t number)
+{
+    for (int i = 0; i < width; i++) bytes[i] = (uint8_t)(number >> 8 * i);
+}
+
+uint8_t erased_byte(const uint8_t *volume)
+{
+    return volume[POLARITY] & 8 ? 0xFF : 0;
+}
+
+size_t first_cell(const uint8_t *volume, size_t len)
+{
+    size_t header = number_at(volume + HEADER_LENGTH, 2), ext = number_at(volume + EXT_HEADER, 2);
+    if (!ext || ext + 20 > len) return header;
+    uint64_t size = number_at(volume + ext + 16, 4);
+    return size <= len - ext ? (ext + size + 7) & ~(size_t)7 : header;
+}
+
+size_t open_gap(uint8_t *bytes, size_t len, size_t most, size_t at, size_t count)
+{
+    if (len + count > most || at > len) return len;
+    memmove(bytes + at + count, bytes + at, len - at);
+    return len + count;
+}

@@ -1,0 +1,36 @@
+/* The feedback from the library, whose code has none of its own. */
+#ifndef COVERAGE_H
+#define COVERAGE_H
+
+#include <stdint.h>
+
+/* What the harness itself reports to libFuzzer as reached. */
+enum {
+    SEEN_VERIFY,
+    SEEN_NORMALISE,
+    SEEN_CELLS,
+    SEEN_FILES,
+    SEEN_SECTION,
+    SEEN_SECTIONS,
+    SEEN_SCAN,
+    SEEN_IMAGE,
+    SEEN_EXPRESSION,
+    SEEN_OP,
+    SEEN_LIST,
+    SEEN_BLOCK,
+    SEEN_PAIR,
+    SEEN_DIFFERENCE
+};
+
+/* Puts a trap at the head of each basic block that the file lists (blocks.py writes it). Ends the process if it cannot.
+ */
+void watch_blocks(const char *path);
+
+/* How many blocks were reached so far, and how many there are. */
+uint32_t blocks_hit(void);
+uint32_t blocks_watched(void);
+
+/* Counts what was seen as one more thing that an input can reach. */
+void saw(uint32_t what, uint32_t a, uint32_t b, uint64_t c);
+
+#endif

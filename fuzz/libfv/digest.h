@@ -1,0 +1,10 @@
+/* SHA-256 of the harness, to compare that of the library with. */
+#ifndef DIGEST_H
+#define DIGEST_H
+
+#include <stddef.h>
+#include <stdint.h>
+
+void sha256(const uint8_t *bytes, size_t len, uint8_t *digest);
+
+#endif

@@ -1,0 +1,118 @@
+/* What holds of fv_scan and fv_normalise_image: each volume is found, nothing else is, and each is replaced by its
+ * image. */
+#include "coverage.h"
+#include "harness.h"
+#include "heap.h"
+#include "results.h"
+#include "rooms.h"
+
+#define MOST_VOLUMES 8000u
+
+static uint64_t offsets[MOST_VOLUMES];
+
+/* There is no volume at the multiples of 8 from here up to there. */
+static void check_none_between(const uint8_t *bytes, size_t len, uint64_t from, uint64_t to)
+{
+    for (uint64_t at = (from + 7) & ~UINT64_C(7); at < to; at += 8) {
+        fv_extent extent;
+        fv_fault fault;
+        if (len - at >= 56 && !memcmp(bytes + at + 40, "_FVH", 4))
+            CHECK(fv_verify(bytes + at, len - at, &extent, &fault) != FV_DONE, "scan: the volume at %lu is missing",
+                  at);
+    }
+}
+
+static void read_offsets(const uint8_t *bytes, size_t len, uint64_t n)
+{
+    uint64_t count = 5;
+    if (n) {
+        uint8_t *less = new_buffer((n - 1) * sizeof *offsets, 8);
+        uint32_t result = fv_scan(bytes, len, (uint64_t *)(void *)less, n - 1, &count);
+        CHECK(result == FV_BUFFER_TOO_SMALL && count == n, "scan: %u, %lu of %lu", result, count, n);
+        check_untouched(less, "scan");
+        count = 5;
+    }
+    uint8_t *buffer = new_buffer(n * sizeof *offsets, 8);
+    uint32_t result = fv_scan(bytes, len, (uint64_t *)(void *)buffer, n, &count);
+    CHECK(result == FV_DONE && count == n, "scan: %u, %lu of %lu", result, count, n);
+    check_written(buffer, n * sizeof *offsets, "scan");
+    memcpy(offsets, buffer, n * sizeof *offsets);
+}
+
+/* Writes to `expected` the image with each of its volumes normalised, up to the first that has a fault. Returns that.
+ */
+static uint32_t expected_image(const uint8_t *bytes, size_t len, uint64_t count, uint8_t *expected, fv_fault *fault)
+{
+    uint64_t end = 0;
+    uint32_t result = FV_DONE;
+    memcpy(expected, bytes, len);
+    for (uint64_t i = 0; i < count; i++) {
+        uint64_t at = offsets[i];
+        fv_extent extent;
+        fv_fault of_volume = unset_fault;
+        CHECK(at % 8 == 0 && at >= end && at < len, "scan: number %lu is at %lu", i, at);
+        CHECK(fv_verify(bytes + at, len - at, &extent, &of_volume) == FV_DONE, "scan: there is no volume at %lu", at);
+        check_none_between(bytes, len, end, at);
+        end = at + extent.length;
+        if (result) continue;
+        result = fv_normalise(bytes + at, extent.length, expected + at, extent.length, &of_volume);
+        *fault = of_volume;
+        if (result) fault->offset += at;
+    }
+    check_none_between(bytes, len, end, len);
+    return result;
+}
+
+static void try_short_image(const uint8_t *bytes, size_t len, uint32_t otherwise, const fv_fault *usual)
+{
+    if (!len) return;
+    fv_fault fault = unset_fault;
+    uint8_t *less = new_buffer(len - 1, 1);
+    uint32_t result = fv_normalise_image(bytes, len, less, len - 1, &fault);
+    check_short("normalise_image", result, &fault, otherwise, usual);
+    check_untouched(less, "normalise_image with a short buffer");
+}
+
+static void try_normalise_image(const uint8_t *bytes, size_t len, uint64_t count, const uint8_t *parameters)
+{
+    static uint8_t expected[MOST_BUFFER];
+    fv_fault fault = unset_fault, usual = {0, 0, 0};
+    uint32_t otherwise = expected_image(bytes, len, count, expected, &usual);
+    uint8_t *buffer = new_buffer(len, 1);
+    uint32_t result = fv_normalise_image(bytes, len, buffer, len, &fault);
+    check_no_block_is_kept("normalise_image");
+    check_result("normalise_image", result, &fault, FV_TOP_ALIGNMENT, len);
+    CHECK(result == otherwise && is_same_fault(&fault, &usual), "normalise_image: fault %u at %lu, not %u at %lu",
+          result, fault.offset, otherwise, usual.offset);
+    saw(SEEN_IMAGE, result, fault.depth, count > 4 ? 4 : count);
+    if (result) {
+        check_untouched(buffer, "normalise_image");
+    } else {
+        check_written(buffer, len, "normalise_image");
+        CHECK(!memcmp(buffer, expected, len), "normalise_image: not the images of the volumes");
+    }
+    try_short_image(bytes, len, result, &fault);
+    buffer = new_buffer(len, 1);
+    refuse_allocation(parameters[REFUSED]);
+    uint32_t again = fv_normalise_image(bytes, len, buffer, len, &fault);
+    check_refusal("normalise_image", again, result, FV_OUT_OF_MEMORY, &fault);
+    if (again) check_untouched(buffer, "normalise_image without memory");
+}
+
+void try_image(const uint8_t *bytes, size_t len, const uint8_t *parameters)
+{
+    uint64_t count = UNTOUCHED_64;
+    uint64_t *none = (uint64_t *)(void *)new_buffer(0, 8);
+    uint32_t result = fv_scan(bytes, len, none, 0, &count);
+    check_no_block_is_kept("scan");
+    CHECK(result == (count ? FV_BUFFER_TOO_SMALL : FV_DONE), "scan: %u, count %lu", result, count);
+    if (count > MOST_VOLUMES) return;
+    read_offsets(bytes, len, count);
+    saw(SEEN_SCAN, count > 9 ? 9 : (uint32_t)count, 0, 0);
+    try_normalise_image(bytes, len, count, parameters);
+    uint64_t kept = 5;
+    refuse_allocation(parameters[REFUSED + 1]);
+    uint32_t again = fv_scan(bytes, len, none, 0, &kept);
+    check_refusal("scan", again, result, FV_OUT_OF_MEMORY, NULL);
+    CHECK(again == result ? kept == count : kept == 5, "scan: count %lu without memory", kept);
+}

@@ -1,0 +1,65 @@
+/* What the files of the mutator share: chance, numbers in bytes, and the parts of a volume. */
+#ifndef MUTATE_H
+#define MUTATE_H
+
+#include <stdbool.h>
+#include <stddef.h>
+#include <stdint.h>
+#include <string.h>
+
+/* libFuzzer's own mutator. */
+size_t LLVMFuzzerMutate(uint8_t *data, size_t size, size_t most);
+
+/* The places of fields in a volume header, a file header and a section header. */
+enum {
+    FILE_SYSTEM = 16,
+    FV_LENGTH_FIELD = 32,
+    SIGNATURE = 40,
+    POLARITY = 45,
+    HEADER_LENGTH = 48,
+    HEADER_SUM = 50,
+    EXT_HEADER = 52,
+    REVISION = 55,
+    BLOCK_MAP = 56,
+    LEAST_VOLUME = 72
+};
+enum { HEAD_SUM = 16, FILE_SUM = 17, KIND = 18, ATTRIBUTES = 19, SIZE = 20, STATE = 23, LARGE_SIZE = 24, HEAD = 24 };
+enum { LARGE = 0x01, FIXED = 0x04, SUMMED = 0x40 };
+enum { GROUP = 0x03, VOLUME = 0x17, DXE_EXPRESSION = 0x13, PEI_EXPRESSION = 0x1B };
+#define SECTION_KIND 3
+#define LARGE_HEAD 32u
+
+void seed_chance(uint32_t seed);
+uint32_t chance(void);
+uint32_t below(uint32_t n); /* from 0 */
+bool one_in(uint32_t n);
+uint8_t one_of(const uint8_t *choices, size_t count);
+#define ONE_OF(...) one_of((const uint8_t[]){__VA_ARGS__}, sizeof((const uint8_t[]){__VA_ARGS__}))
+
+uint64_t number_at(const uint8_t *bytes, int width);
+void put_number(uint8_t *bytes, int width, uint64_t number);
+uint8_t erased_byte(const uint8_t *volume);
+
+/* The place of the first cell of a volume, as its header has it. */
+size_t first_cell(const uint8_t *volume, size_t len);
+
+/* Makes room for `count` bytes at a place. Returns the new number of bytes, or the old one if that is over `most`. */
+size_t open_gap(uint8_t *bytes, size_t len, size_t most, size_t at, size_t count);
+
+/* Computes the sums and corrects the lengths of a volume and of those in it. Now and then it leaves one wrong. */
+void repair_volume(uint8_t *volume, size_t len, int depth);
+
+/* Changes one thing in a volume. Returns its new number of bytes. */
+size_t change_volume(uint8_t *volume, size_t len, size_t most);
+
+/* Changes one thing in a volume, or in one inside it, that has the same number of bytes afterwards. */
+void change_inside(uint8_t *volume, size_t len);
+
+/* What looks like a volume in some bytes, by chance; its length is 0 if there is none. Those in a volume count only if
+ * `is_nested`. */
+struct place {
+    size_t at, len;
+};
+struct place any_volume(const uint8_t *bytes, size_t len, bool is_nested);
+
+#endif

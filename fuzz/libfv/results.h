@@ -1,0 +1,31 @@
+/* What holds of the result and the fault of any call. */
+#ifndef RESULTS_H
+#define RESULTS_H
+
+#include <fv.h>
+#include <stdbool.h>
+#include <stddef.h>
+#include <stdint.h>
+
+/* What a fault is before a call, so that a call which leaves it is found. */
+extern const fv_fault unset_fault;
+
+bool is_no_fault(const fv_fault *fault);
+bool is_same_fault(const fv_fault *a, const fv_fault *b);
+
+/* The result is 0 without a fault, or a fault from 1 to `most` that is in `fault`, in an input of `len` bytes. Memory
+ * has not run out, since nothing is refused. */
+void check_result(const char *call, uint32_t result, const fv_fault *fault, uint32_t most, size_t len);
+
+/* The result is the one that is wanted, without a fault. */
+void check_plain(const char *call, uint32_t result, uint32_t wanted, const fv_fault *fault);
+
+/* The result of a call with a buffer that is too short, of an input for which it otherwise has this result and fault.
+ */
+void check_short(const char *call, uint32_t result, const fv_fault *fault, uint32_t otherwise, const fv_fault *usual);
+
+/* Ends what refuse_allocation began. A call has returned `result`, and without that it returns `otherwise`. `memory` is
+ * its result if memory runs out. `fault` may be NULL. */
+void check_refusal(const char *call, uint32_t result, uint32_t otherwise, uint32_t memory, const fv_fault *fault);
+
+#endif
