@@ -16,7 +16,7 @@ fn push_argument(alloc: Global, arguments: &mut Vec<String>, argument: &str) -> 
 }
 
 /// The arguments of a line, separated by spaces, with that GUID for NAME. An empty line has none.
-pub fn arguments_of(alloc: Global, line: &str) -> Option<Vec<String>> {
+pub(crate) fn arguments_of(alloc: Global, line: &str) -> Option<Vec<String>> {
     let mut arguments = Vec::new(alloc);
     if line.is_empty() {
         return Some(arguments);

@@ -182,7 +182,7 @@ pub struct FakeOpener<'a> {
 
 impl<'a> FakeOpener<'a> {
     /// The files and standard input with these bytes.
-    pub fn new(first: &'a [u8], second: &'a [u8], standard: &'a [u8]) -> FakeOpener<'a> {
+    pub(crate) fn new(first: &'a [u8], second: &'a [u8], standard: &'a [u8]) -> FakeOpener<'a> {
         FakeOpener {
             first,
             second,
