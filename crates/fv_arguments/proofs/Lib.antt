@@ -1,7 +1,3 @@
-pub mod FlagLemmas
-pub mod FlagRows
-pub mod FlagWalk
-pub mod FlagWords
 pub mod NumberLemmas
 pub mod ReadLemmas
 pub mod RefusalLemmas

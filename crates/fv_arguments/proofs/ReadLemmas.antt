@@ -1,20 +1,27 @@
 -- What the reader of command lines says of the words of a command: the rows that it makes of them, and that it finds no fault in
--- them (read). A text is read of these rows (text_answer).
+-- them (read). Texts and flags are read of these rows (text_answer, flag_answer).
+use Rattle.std.proofs.lemmas.Bool.Decides.{Decides-not}
 use Rattle.std.proofs.lemmas.Grind.{common_steps}
+use Rattle.std.proofs.lemmas.Slice.Eq.{bytes_eq-Decides}
 use Rattle.std.proofs.Common.{◌≡◌, ◌≢◌, ◌∙◌, Bool, List, [], ap, codes, cond, drop, false, refl, sym, true, subst, arith}
+use Rattle.std.proofs.Common.{ℕ, Option, Some, None, is_some, true≢false}
+use Rattle.std.specs.Option.{option_map_or, unwrap_or}
 use Rattle.std.specs.Str.{bytes_eq}
-use Rattle.clap.proofs.WalkLemmas.{both, first_value-rows}
-use Rattle.clap.specs.Built.{IsParsedFrom}
-use Rattle.clap.specs.Matches.{first_value, found_of}
-use Rattle.clap.specs.Simple.{app_of, built, names_of}
-use Rattle.clap.specs.Walk.{Text, first_of, rows_after}
+use Rattle.std.specs.Str.Parse.{ParsesBool}
+use Rattle.clap.proofs.SimpleLemmas.{is_false}
+use Rattle.clap.proofs.WalkLemmas.{both, first_value-rows, one_text-rows}
+use Rattle.clap.specs.Matches.{ReadsOne, first_value, found_of, one_text}
+use Rattle.clap.specs.Simple.{built, names_of}
+use Rattle.clap.specs.Walk.{Text, first_of, one_of, rows_after}
 use Rattle.clap.specs.Words.{App, HasMatchesOf, fault_of, is_simple_and_free}
-use Rattle.clap.specs.declared.builder.command.Command.{Command as Rules}
 use Rattle.clap.specs.declared.parser.matches.ArgMatches.{ArgMatches}
-use Rattle.fv_arguments.proofs.FlagRows.{differ}
-use Rattle.fv_arguments.specs.Options.{compare_app, extract_app, faults_in, hobs_app, list_app, normalise_app, one_input_app, text_in}
-use Rattle.fv_arguments.specs.Options.{volume_app}
+use Rattle.fv_arguments.specs.Options.{compare_app, extract_app, faults_in, flag_in, hobs_app, list_app, normalise_app, one_input_app}
+use Rattle.fv_arguments.specs.Options.{text_in, volume_app}
 use Rattle.fv_arguments.specs.inner.CommandWords.{IsRead, app_named}
+
+-- two texts that differ
+differ : (a b : Text) → a ≢ b → bytes_eq a b ≡ false
+differ a b h = is_false _ ((Decides-not _ (bytes_eq-Decides a b)).1 h)
 
 -- a name that is no other's has the options of a volume
 pub no_other : (name : Text) → name ≢ codes "normalise" → name ≢ codes "hobs" → name ≢ codes "extract" → name ≢ codes "compare"
@@ -56,21 +63,39 @@ pub faults_read : (name : Text) (words : List Text) → fault_of (app_named name
 faults_read name words = grind (arith, common_steps, program_first)
 
 -- so the words were read
-pub read : {m : ArgMatches} (words : List Text) (name : Text) (rules : Rules) → app_of rules ≡ app_named name
-    → HasMatchesOf (app_of rules) words m → (is_simple_and_free (app_of rules) ≡ true → fault_of (app_of rules) words ≡ [])
-    → IsParsedFrom rules m → IsRead (app_named name) (drop 1 words) m
-read {m} words name rules e matches kinds parsed =
+pub read : {m : ArgMatches} (words : List Text) (name : Text) (given : App) → given ≡ app_named name → HasMatchesOf given words m
+    → (is_simple_and_free given ≡ true → fault_of given words ≡ []) → IsRead (app_named name) (drop 1 words) m
+read {m} words name given e matches kinds =
     let app = app_named name in
     record {
-      rows = (by_name (λ a. HasMatchesOf a words m) name (app_of rules) e (λ _. matches) (both _ _ (simple name)).0).0
+      rows = (by_name (λ a. HasMatchesOf a words m) name given e (λ _. matches) (both _ _ (simple name)).0).0
           ∙ ap (λ b. rows_after (built app).top.rules (names_of (built app)) (cond b words (drop 1 words))) (program_first name);
-      taken = sym (faults_read name words) ∙ by_name (λ a. fault_of a words ≡ []) name (app_of rules) e kinds;
-      rules = rules;
-      given = e;
-      parsed = parsed;
+      taken = sym (faults_read name words) ∙ by_name (λ a. fault_of a words ≡ []) name given e kinds;
     }
 
 -- a text, as it is read of the matches
 pub text_answer : {app : App} {rest : List Text} {m : ArgMatches} → IsRead app rest m → (id : Text)
     → first_value (found_of m) id ≡ text_in app id rest
 text_answer {app} {rest} {m} r id = first_value-rows (found_of m) id ∙ ap (first_of id) r.rows
+
+-- a text is read as a `bool`
+abbrev is_true : Option Text → Bool
+is_true text = option_map_or (λ t. bytes_eq t (codes "true")) text false
+
+bool_read : (E : Type 0) (text : Option Text) (r : Option Bool) → (text ≡ None → r ≡ None)
+    → ((t : Text) → text ≡ Some t → ReadsOne {E = E} ParsesBool t r) → unwrap_or r false ≡ is_true text
+bool_read E None r none value = ap (λ o. unwrap_or o false) (none refl)
+bool_read E (Some t) (Some true) none value = sym ((bytes_eq-Decides t (codes "true")).1 (value t refl))
+bool_read E (Some t) (Some false) none value = ap (λ u. bytes_eq u (codes "true")) (sym (value t refl))
+bool_read E (Some t) None none value = sym (differ t (codes "true") (value t refl).1.0)
+
+-- a flag, as it is read of the matches
+pub flag_answer : (E : Type 0) {app : App} {rest : List Text} {m : ArgMatches} → IsRead app rest m → (id : Text) (r : Option Bool)
+    → (one_text (found_of m) id ≡ None → r ≡ None)
+    → ((t : Text) → one_text (found_of m) id ≡ Some t → ReadsOne {E = E} ParsesBool t r) → unwrap_or r false ≡ flag_in app id rest
+flag_answer E {app} {rest} {m} is_read id r none value =
+    bool_read E (one_text (found_of m) id) r none value ∙ ap is_true (one_text-rows (found_of m) id ∙ ap (one_of id) is_read.rows)
+
+pub none_is : (o : Option ℕ) → is_some o ≡ false → o ≡ None
+none_is None e = refl
+none_is (Some n) e = absurd (true≢false e)

@@ -1,24 +1,29 @@
--- Arguments that are rejected as wrong are not right: the reader finds a fault in them (refused), or what it reads is no plan
--- (no_place, no_name, no_type, no_pair, no_files).
-use Rattle.std.proofs.Common.{◌≡◌, ◌≢◌, ◌∙◌, ◌⊎◌, ℕ, List, [], ◌∷◌, IfErr, Result, Ok, Err, Option, Some, None, ap, codes, inl, inr}
-use Rattle.std.proofs.Common.{drop, refl, subst, sym, true, false, true≢false}
+-- Arguments that are rejected as wrong are not right. The reader finds a fault in them (refused). Or a text of theirs is not read,
+-- and right arguments have one that is (right_input, right_part, right_image, right_volumes), or a byte is given with `--all`
+-- (no_place).
+use Rattle.std.proofs.Common.{◌≡◌, ◌≢◌, ◌∙◌, ◌&&◌, ℕ, Bool, List, [], ◌∷◌, IfErr, Result, Ok, Err, Option, Some, None, ap, codes, inl, inr}
+use Rattle.std.proofs.Common.{drop, not, refl, subst, sym, true, false, true≢false}
 use Rattle.std.proofs.lemmas.Result.{IfErr-weaker}
 use Rattle.std.proofs.lemmas.Slice.Eq.{bytes_eq-Decides}
-use Rattle.std.specs.Prelude.{IsErrAnd, is_some, option_and_then}
+use Rattle.std.specs.Global.{Global}
+use Rattle.std.specs.Prelude.{IsErrAnd, String, is_some}
 use Rattle.std.specs.Str.{bytes_eq}
 use Rattle.clap.specs.Values.{kind_of}
 use Rattle.clap.specs.Words.{App, HasKind, Kinds, fault_of, is_simple_and_free}
 use Rattle.clap.specs.declared.error.Error.{Error}
 use Rattle.clap.specs.declared.error.kind.ErrorKind.TheVariants as error_kinds
-use Rattle.fv_base.specs.GuidTexts.{guid_read}
+use Rattle.clap.specs.declared.parser.matches.ArgMatches.{ArgMatches}
 use Rattle.fv_plan.specs.declared.plan.Command.{Command}
 use Rattle.fv_plan.specs.declared.plan.Command.TheVariants.{Single, Hobs, Compare}
+use Rattle.fv_plan.specs.declared.plan.ImageFile.{ImageFile}
+use Rattle.fv_plan.specs.declared.plan.Part.{Part}
+use Rattle.fv_plan.specs.declared.plan.VolumeFile.{VolumeFile}
 use Rattle.fv_plan.specs.declared.plan.Task.TheVariants.{Normalise, NormaliseAll, List as Listing, ListSums, Extract, Check}
 use Rattle.fv_plan.specs.declared.plan.Task.TheVariants.{Cells, Scan}
 use Rattle.fv_arguments.proofs.ReadLemmas.{by_name, faults_read}
-use Rattle.fv_arguments.specs.Options.{compare_app, extract_app, faults_in, hobs_app, normalise_app, text_in}
-use Rattle.fv_arguments.specs.inner.CommandWords.{AreRightFor, app_named}
-use Rattle.fv_arguments.specs.Words.{HasTexts, IsAtWord, IsBaseWord, IsSectionTypeWord, has_flag, command_app, command_name}
+use Rattle.fv_arguments.specs.Options.{compare_app, extract_app, faults_in, flag_in, hobs_app, normalise_app, text_in}
+use Rattle.fv_arguments.specs.inner.CommandWords.{AreRightFor, IsRead, Reads, app_named}
+use Rattle.fv_arguments.specs.Words.{HasInput, HasTexts, IsAtWord, IsImageWords, IsPartBy, IsVolumeWords, command_app, command_name}
 use Rattle.fv_arguments.specs.declared.words.WordFault.{WordFault}
 use Rattle.fv_arguments.specs.declared.words.WordFault.TheVariants.{Words, OutOfMemory}
 
@@ -35,9 +40,12 @@ named_app (Single Scan at file) = refl
 named_app (Hobs file image) = refl
 named_app (Compare first second) = refl
 
-pub same_faults : (name : List ℕ) (c : Command) → name ≡ command_name c → (rest : List (List ℕ))
-    → faults_in (app_named name) rest ≡ faults_in (command_app c) rest
-same_faults name c is rest = ap (λ (a : App). faults_in a rest) (ap app_named is ∙ named_app c)
+same_app : (name : List ℕ) (c : Command) → name ≡ command_name c → app_named name ≡ command_app c
+same_app name c is = ap app_named is ∙ named_app c
+
+pub read_of : {rest : List (List ℕ)} {m : ArgMatches} (name : List ℕ) (c : Command) → name ≡ command_name c
+    → IsRead (app_named name) rest m → IsRead (command_app c) rest m
+read_of {rest} {m} name c is r = subst (λ a. IsRead a rest m) (same_app name c is) r
 
 -- a fault of the reader, as it is passed on
 abbrev pub IsHandedOn : Error → WordFault → Type 0
@@ -59,15 +67,44 @@ pub refused : {T : Type 0} (name : List ℕ) (given : App) → given ≡ app_nam
     → IfErr r (λ f. f ≡ Words → AreRightFor name (drop 1 words) → ⊥)
 refused name given same words e kinds r h =
     let among = subst (λ ks. HasKind ks e) (faults_read name words) (by_name (λ a. HasKind (fault_of a words) e) name given same kinds) in
-    IfErr-weaker r _ _ (λ f wrong is right. wrong is (same_faults name right.0.command right.1.command (drop 1 words) ∙ right.1.taken))
-    (handed_on r e _ h among)
+    IfErr-weaker r _ _ (λ f wrong is right. wrong is (ap (λ a. faults_in a (drop 1 words))
+    (same_app name right.0.command right.1.command) ∙ right.1.taken)) (handed_on r e _ h among)
+
+-- a value is not read because a value of which it is made is not
+pub passed : {X Y : Type 0} (P : X → Type 0) (Q : Y → Type 0) (r : Result Y WordFault) (f : WordFault) → IsErrAnd r (λ g. g ≡ f)
+    → (f ≡ Words → (x : X) → P x → ⊥) → ((y : Y) → Q y → (x : X) × P x) → Reads Q r
+passed P Q (Ok y) f is none has = absurd is
+passed P Q (Err g) f is none has = λ words y q. let x = has y q in none (sym is ∙ words) x.0 x.1
 
 -- two words that differ
 other : (a b : List ℕ) → bytes_eq a b ≡ false → a ≡ b → ⊥
 other a b e is = true≢false (sym ((bytes_eq-Decides a b).1 is) ∙ e)
 
+-- the input of a command on one volume
+abbrev is_on_volume : List ℕ → Bool
+is_on_volume name =
+    not (bytes_eq name (codes "hobs")) && (not (bytes_eq name (codes "compare")) && not (bytes_eq name (codes "scan")))
+
+abbrev pub SomeInput : List ℕ → List (List ℕ) → Type 0
+SomeInput name rest = (i : Option ℕ × Option (String Global)) × HasInput (app_named name) rest i.0 i.1
+
+pub right_input : (name : List ℕ) (rest : List (List ℕ)) → is_on_volume name ≡ true → AreRightFor name rest → SomeInput name rest
+right_input name rest volume right =
+    let is = right.1.command in
+    subst (λ n. SomeInput n rest) (sym is) (go right.0.command (subst (λ n. is_on_volume n ≡ true) is volume) right.1.texts)
+  where
+    go : (c : Command) → is_on_volume (command_name c) ≡ true → HasTexts rest c → SomeInput (command_name c) rest
+    go (Single Normalise at file) volume texts = ((at, file), texts.1)
+    go (Single NormaliseAll at file) volume texts = ((at, file), texts.2)
+    go (Single Listing at file) volume texts = ((at, file), texts.1)
+    go (Single ListSums at file) volume texts = ((at, file), texts.1)
+    go (Single (Extract part) at file) volume texts = ((at, file), texts.0)
+    go (Single Check at file) volume texts = ((at, file), texts)
+    go (Single Cells at file) volume texts = ((at, file), texts)
+    go c volume texts = absurd (true≢false (sym volume))
+
 -- a byte of an input is not given where each volume of it is meant
-pub no_place : (rest : List (List ℕ)) (given : Option ℕ) → has_flag (codes "--all") rest ≡ true
+pub no_place : (rest : List (List ℕ)) (given : Option ℕ) → flag_in normalise_app (codes "all") rest ≡ true
     → IsAtWord (text_in normalise_app (codes "at") rest) given → is_some given ≡ true → AreRightFor (codes "normalise") rest → ⊥
 no_place rest given all word some right = go right.0.command right.1.command right.1.texts
   where
@@ -81,51 +118,41 @@ no_place rest given all word some right = go right.0.command right.1.command rig
     go (Single NormaliseAll at file) is texts = placed _ given at word some texts.1 texts.2.0
     go c is texts = absurd (other _ _ refl is)
 
--- a part needs a name that is read, and a type, if one is given
-pub no_name : (rest : List (List ℕ)) → option_and_then guid_read (text_in extract_app (codes "name") rest) ≡ None
-    → AreRightFor (codes "extract") rest → ⊥
-no_name rest none right = go right.0.command right.1.command right.1.texts
+-- the part of `extract`
+abbrev pub SomePart : List (List ℕ) → Type 0
+SomePart rest = (part : Part) × IsPartBy (text_in extract_app (codes "name") rest) (text_in extract_app (codes "section") rest)
+    (text_in extract_app (codes "instance") rest) part
+
+pub right_part : (rest : List (List ℕ)) → AreRightFor (codes "extract") rest → SomePart rest
+right_part rest right = go right.0.command right.1.command right.1.texts
   where
-    go : (c : Command) → codes "extract" ≡ command_name c → HasTexts rest c → ⊥
-    go (Single (Extract part) at file) is texts = let same : None ≡ Some part.name = sym none ∙ texts.1.name_is in cc
+    go : (c : Command) → codes "extract" ≡ command_name c → HasTexts rest c → SomePart rest
+    go (Single (Extract part) at file) is texts = (part, texts.1)
     go c is texts = absurd (other _ _ refl is)
 
-pub no_type : (rest : List (List ℕ)) → ((kind : Option ℕ) → IsSectionTypeWord (text_in extract_app (codes "section") rest) kind → ⊥)
-    → AreRightFor (codes "extract") rest → ⊥
-no_type rest none right = go right.0.command right.1.command right.1.texts
-  where
-    go : (c : Command) → codes "extract" ≡ command_name c → HasTexts rest c → ⊥
-    go (Single (Extract part) at file) is texts = none part.section texts.1.section_is
-    go c is texts = absurd (other _ _ refl is)
+-- the image of `hobs`
+abbrev pub SomeImage : List (List ℕ) → Type 0
+SomeImage rest =
+    (image : Option ImageFile) × IsImageWords (text_in hobs_app (codes "image") rest) (text_in hobs_app (codes "base") rest) image
 
--- an image and its base come together
-pub no_pair : (rest : List (List ℕ)) → is_some (text_in hobs_app (codes "image") rest) ≢ is_some (text_in hobs_app (codes "base") rest)
-    → AreRightFor (codes "hobs") rest → ⊥
-no_pair rest differ right = go right.0.command right.1.command right.1.texts
+pub right_image : (rest : List (List ℕ)) → AreRightFor (codes "hobs") rest → SomeImage rest
+right_image rest right = go right.0.command right.1.command right.1.texts
   where
-    based : (text : Option (List ℕ)) (n : ℕ) → IsBaseWord text n → is_some text ≡ true
-    based None n h = absurd h
-    based (Some text) n h = refl
-
-    go : (c : Command) → codes "hobs" ≡ command_name c → HasTexts rest c → ⊥
-    go (Hobs file None) is texts = differ (ap is_some texts.1.0 ∙ sym (ap is_some texts.1.1))
-    go (Hobs file (Some image)) is texts = differ (ap is_some texts.1.0 ∙ sym (based _ _ texts.1.1))
+    go : (c : Command) → codes "hobs" ≡ command_name c → HasTexts rest c → SomeImage rest
+    go (Hobs file image) is texts = (image, texts.1)
     go (Single Normalise at file) is texts = absurd (other _ _ refl is)
     go c is texts = absurd (other _ _ refl is)
 
--- and two files are compared
-pub no_files : (rest : List (List ℕ))
-    → (text_in compare_app (codes "first") rest ≡ None) ⊎ (text_in compare_app (codes "second") rest ≡ None)
-    → AreRightFor (codes "compare") rest → ⊥
-no_files rest none right = go right.0.command right.1.command right.1.texts
-  where
-    missing : (text : Option (List ℕ)) (file : List ℕ) → Some file ≡ text → text ≡ None → ⊥
-    missing text file e f = let same : Some file ≡ None = e ∙ f in cc
+-- the two volumes of `compare`
+abbrev pub SomeVolumes : List (List ℕ) → Type 0
+SomeVolumes rest = (first : VolumeFile) × (second : VolumeFile)
+    × IsVolumeWords (text_in compare_app (codes "first") rest) (text_in compare_app (codes "at") rest) first
+    × IsVolumeWords (text_in compare_app (codes "second") rest) (text_in compare_app (codes "other-at") rest) second
 
-    go : (c : Command) → codes "compare" ≡ command_name c → HasTexts rest c → ⊥
-    go (Compare first second) is texts = elim none [
-      | inl e ↦ missing _ _ texts.0.0 e
-      | inr e ↦ missing _ _ texts.1.0 e
-    ]
+pub right_volumes : (rest : List (List ℕ)) → AreRightFor (codes "compare") rest → SomeVolumes rest
+right_volumes rest right = go right.0.command right.1.command right.1.texts
+  where
+    go : (c : Command) → codes "compare" ≡ command_name c → HasTexts rest c → SomeVolumes rest
+    go (Compare first second) is texts = (first, second, texts.0, texts.1)
     go (Single Normalise at file) is texts = absurd (other _ _ refl is)
     go c is texts = absurd (other _ _ refl is)

@@ -1,15 +1,14 @@
 -- What a command line asks for.
-use Rattle.std.specs.Prelude.{◌≡◌, ◌<◌, ◌≤◌, ◌^◌, ◌||◌, ℕ, Bool, true, false, List, [], ◌∷◌, length}
-use Rattle.std.specs.Prelude.{Option, Some, None, String, codes, if◌then◌else◌, option_and_then, option_map}
-use Rattle.std.specs.Str.{bytes_eq}
+use Rattle.std.specs.Prelude.{◌≡◌, ◌<◌, ◌≤◌, ◌^◌, ◌++◌, ◌⊎◌, ℕ, true, false, List, [], ◌∷◌, length}
+use Rattle.std.specs.Prelude.{Option, Some, None, String, codes, option_and_then, option_map}
 use Rattle.std.specs.Str.Parse.{IsNumeral, digits_value, without_leading_plus}
 use Rattle.std.specs.Global.{Global}
 use Rattle.std.specs.String.{string_bytes}
 use Rattle.clap.specs.Words.{App}
 use Rattle.fv_base.specs.GuidTexts.{guid_read}
 use Rattle.fv_plan.specs.declared.plan.Part.{Part}
-use Rattle.fv_arguments.specs.Options.{compare_app, extract_app, faults_in, hobs_app, list_app, normalise_app, one_input_app, text_in}
-use Rattle.fv_arguments.specs.Options.{volume_app}
+use Rattle.fv_arguments.specs.Options.{compare_app, extract_app, faults_in, flag_in, hobs_app, list_app, normalise_app, one_input_app}
+use Rattle.fv_arguments.specs.Options.{text_in, volume_app}
 use Rattle.fv_plan.specs.declared.plan.Command.{Command}
 use Rattle.fv_plan.specs.declared.plan.Command.TheVariants.{Single, Hobs, Compare}
 use Rattle.fv_plan.specs.declared.plan.ImageFile.{ImageFile}
@@ -55,20 +54,18 @@ command_app (Single task at file) = task_app task
 command_app (Hobs file image) = hobs_app
 command_app (Compare first second) = compare_app
 
--- the flag is among the arguments, before any `--`
-abbrev pub has_flag : List ℕ → List (List ℕ) → Bool
-has_flag flag [] = false
-has_flag flag (w ∷ ws) = if bytes_eq w (codes "--") then false else (bytes_eq w flag || has_flag flag ws)
-
 -- the type of a section is that of one or two hexadecimal digits, if these are given
 abbrev pub IsSectionTypeWord : Option (List ℕ) → Option ℕ → Type 0
 IsSectionTypeWord None kind = kind ≡ None
 IsSectionTypeWord (Some text) kind = IsNumeral 16 text × (length text ≤ 2) × (kind ≡ Some (digits_value 16 text))
 
--- the text is a decimal number, perhaps with a plus before it, and it spells n, which has at most `bits` bits
+-- the digits spell n in this radix, and it has at most `bits` bits
+abbrev pub IsNumeralOf : (radix bits : ℕ) → List ℕ → ℕ → Type 0
+IsNumeralOf radix bits digits n = IsNumeral radix digits × (n ≡ digits_value radix digits) × (n < 2 ^ bits)
+
+-- the text is a decimal number, perhaps with a plus before it
 abbrev pub IsNumberWord : ℕ → List ℕ → ℕ → Type 0
-IsNumberWord bits text n =
-    IsNumeral 10 (without_leading_plus text) × (n ≡ digits_value 10 (without_leading_plus text)) × (n < 2 ^ bits)
+IsNumberWord bits text n = IsNumeralOf 10 bits (without_leading_plus text) n
 
 -- which of the sections it is; the first if nothing is given
 abbrev pub IsInstanceWord : Option (List ℕ) → ℕ → Type 0
@@ -91,11 +88,16 @@ abbrev pub IsImageWords : (path base : Option (List ℕ)) → Option ImageFile �
 IsImageWords path base None = (path ≡ None) × (base ≡ None)
 IsImageWords path base (Some image) = (path ≡ Some (string_bytes image.path)) × IsBaseWord base image.base
 
--- the byte at which a volume begins, if it is given
+-- the byte at which a volume begins: a decimal number, or `0x` and a hexadecimal one
+abbrev pub IsPlaceWord : List ℕ → ℕ → Type 0
+IsPlaceWord text n =
+    IsNumberWord 64 text n ⊎ ((digits : List ℕ) × (text ≡ codes "0x" ++ digits) × IsNumeralOf 16 64 digits n)
+
+-- that byte, if it is given
 abbrev pub IsAtWord : Option (List ℕ) → Option ℕ → Type 0
 IsAtWord None at = at ≡ None
 IsAtWord (Some text) None = ⊥
-IsAtWord (Some text) (Some n) = IsNumberWord 64 text n
+IsAtWord (Some text) (Some n) = IsPlaceWord text n
 
 -- a named file and the byte at which the volume begins in it
 abbrev pub IsVolumeWords : (path at : Option (List ℕ)) → VolumeFile → Type 0
@@ -113,13 +115,13 @@ HasInput app rest at file = IsAtWord (text_in app (codes "at") rest) at × IsFil
 -- name it is, `--all` or `--sums`; with `--all` no byte is given
 abbrev pub HasTaskTexts : List (List ℕ) → Task → Option ℕ → Option (String Global) → Type 0
 HasTaskTexts rest Normalise at file =
-    (has_flag (codes "--all") rest ≡ false) × HasInput normalise_app rest at file
+    (flag_in normalise_app (codes "all") rest ≡ false) × HasInput normalise_app rest at file
 HasTaskTexts rest NormaliseAll at file =
-    (has_flag (codes "--all") rest ≡ true) × (at ≡ None) × HasInput normalise_app rest at file
+    (flag_in normalise_app (codes "all") rest ≡ true) × (at ≡ None) × HasInput normalise_app rest at file
 HasTaskTexts rest Listing at file =
-    (has_flag (codes "--sums") rest ≡ false) × HasInput list_app rest at file
+    (flag_in list_app (codes "sums") rest ≡ false) × HasInput list_app rest at file
 HasTaskTexts rest ListSums at file =
-    (has_flag (codes "--sums") rest ≡ true) × HasInput list_app rest at file
+    (flag_in list_app (codes "sums") rest ≡ true) × HasInput list_app rest at file
 HasTaskTexts rest (Extract part) at file =
     HasInput extract_app rest at file
     × IsPartBy (text_in extract_app (codes "name") rest) (text_in extract_app (codes "section") rest)
@@ -138,11 +140,11 @@ HasTexts rest (Compare first second) =
     × IsVolumeWords (text_in compare_app (codes "second") rest) (text_in compare_app (codes "other-at") rest) second
 
 -- the plan is that of the command that the first argument names; the parser finds no fault in the arguments after it,
--- and inputs are text if the flag `--hex` is among them
+-- and inputs are text if the flag `--hex` is given
 pub record AsksBy (name : List ℕ) (rest : List (List ℕ)) (plan : Plan) : Type 0 where
   pub command : name ≡ command_name plan.command
   pub taken : faults_in (command_app plan.command) rest ≡ []
-  pub hex : plan.hex ≡ has_flag (codes "--hex") rest
+  pub hex : plan.hex ≡ flag_in (command_app plan.command) (codes "hex") rest
   pub texts : HasTexts rest plan.command
 
 -- the same for a whole command line, whose first argument is the program's name

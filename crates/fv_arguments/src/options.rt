@@ -1,12 +1,14 @@
 //! The commands: their arguments as a plan.
 
 ghost use Rattle.clap.specs.Words.{App, first_value, found_of};
-ghost use Rattle.fv_arguments.specs.inner.CommandWords.{AreRightFor, AsksFor, IsRead, has_number};
-ghost use Rattle.fv_arguments.specs.Words.{AsksBy, HasInput, IsSectionTypeWord};
+ghost use Rattle.fv_arguments.specs.Options.{flag_in};
+ghost use Rattle.fv_arguments.specs.inner.CommandWords.{AreRightFor, AsksFor, IsRead, Reads};
+ghost use Rattle.fv_arguments.specs.Words.{AsksBy, HasInput, IsAtWord, IsImageWords, IsInstanceWord, IsNumberWord};
+ghost use Rattle.fv_arguments.specs.Words.{IsNumeralOf, IsPartBy, IsPlaceWord, IsSectionTypeWord, IsVolumeWords};
 ghost use Rattle.fv_base.specs.GuidTexts.{guid_read};
 ghost use Rattle.std.specs.String.{string_bytes};
-ghost use Rattle.std.specs.Prelude.{◌≡◌, ◌≢◌, ◌≤◌, ℕ, List, None, Option, Some, codes, drop, is_some, length, map};
-ghost use Rattle.std.specs.Prelude.{if◌then◌else◌, option_and_then, option_map, true, IfErr, IfOk, SomeIff};
+ghost use Rattle.std.specs.Prelude.{◌≡◌, ◌≤◌, ℕ, List, Some, codes, drop, length, map, if◌then◌else◌};
+ghost use Rattle.std.specs.Prelude.{option_and_then, option_map, IfErr, IfOk, SomeIff};
 ghost use Rattle.std.specs.Str.Parse.{IsNumeral, digits_value};
 
 use crate::rules::rules_of;
@@ -45,16 +47,66 @@ fn file_of(
     }
 }
 
+// The number that a text spells: decimal digits, perhaps after a plus.
+fn decimal(text: &str) -> Result<u64, WordFault>
+    ensures { Reads (IsNumberWord 64 text.now) result }
+{
+    match text.parse() {
+        Ok(n) => Ok(n),
+        Err(_) => Err(WordFault::Words),
+    }
+}
+
+// The number that hexadecimal digits spell, in upper or lower case.
+fn hexadecimal(digits: &str) -> Result<u64, WordFault>
+    ensures { Reads (IsNumeralOf 16 64 digits.now) result }
+{
+    if digits.starts_with('+') {
+        return Err(WordFault::Words);
+    }
+    match u64::from_str_radix(digits, 16) {
+        Ok(n) => Ok(n),
+        Err(_) => Err(WordFault::Words),
+    }
+}
+
+// The byte at which a volume begins: a decimal number, or `0x` and a hexadecimal one.
+fn place(text: &str) -> Result<u64, WordFault>
+    ensures { Reads (IsPlaceWord text.now) result }
+{
+    match text.strip_prefix("0x") {
+        Some(digits) => hexadecimal(digits),
+        None => decimal(text),
+    }
+}
+
+// That byte, if a text gives it.
+fn place_of(text: Option<&str>) -> Result<Option<u64>, WordFault>
+    ensures { Reads (IsAtWord (option_map (λ s. s.now) text.entry)) result }
+{
+    match text {
+        Some(text) => Ok(Some(place(text)?)),
+        None => Ok(None),
+    }
+}
+
 // The input of a command: the byte at which the volume begins, and the file, if they were given.
 fn input_of(
     alloc: Global,
     matches: &ArgMatches<'_>,
-) -> Result<(Option<u64>, Option<String>), AllocError>
-    ensures { IfOk result (λ i. (app : App) (rest : List (List ℕ)) → IsRead app rest matches.now
-        → has_number 18446744073709551615 (codes "at") app ≡ true → HasInput app rest i.0 i.1) }
+) -> Result<(Option<u64>, Option<String>), WordFault>
+    ensures { (app : App) (rest : List (List ℕ)) → IsRead app rest matches.now
+        → Reads (λ i. HasInput app rest i.0 i.1) result }
 {
-    let at = matches.get_one::<u64>("at");
+    let at = place_of(matches.get_str("at"))?;
     Ok((at, file_of(alloc, matches, "file")?))
+}
+
+// Whether the flag of this name is given.
+fn is_given(matches: &ArgMatches<'_>, name: &str) -> bool
+    ensures { (app : App) (rest : List (List ℕ)) → IsRead app rest matches.now → result ≡ flag_in app name.now rest }
+{
+    matches.get_one::<bool>(name).unwrap_or(false)
 }
 
 // One task if a flag is given, and another if it is not.
@@ -68,7 +120,7 @@ fn task_by(given: bool, task: Task, other: Task) -> Task
 fn normalise(alloc: Global, matches: &ArgMatches<'_>) -> Result<Command, WordFault>
     ensures { AsksFor (codes "normalise") matches.now result }
 {
-    let all = matches.get_flag("all");
+    let all = is_given(matches, "all");
     let (at, file) = input_of(alloc, matches)?;
     if all && at.is_some() {
         return Err(WordFault::Words);
@@ -81,7 +133,7 @@ fn normalise(alloc: Global, matches: &ArgMatches<'_>) -> Result<Command, WordFau
 fn list(alloc: Global, matches: &ArgMatches<'_>) -> Result<Command, WordFault>
     ensures { AsksFor (codes "list") matches.now result }
 {
-    let task = task_by(matches.get_flag("sums"), Task::ListSums, Task::List);
+    let task = task_by(is_given(matches, "sums"), Task::ListSums, Task::List);
     let (at, file) = input_of(alloc, matches)?;
     Ok(Command::Single { task, at, file })
 }
@@ -90,17 +142,15 @@ fn list(alloc: Global, matches: &ArgMatches<'_>) -> Result<Command, WordFault>
 fn image_of(
     alloc: Global,
     path: Option<&str>,
-    base: Option<u64>,
+    base: Option<&str>,
 ) -> Result<Option<ImageFile>, WordFault>
-    ensures path { IfOk result (λ i. option_map (λ f. string_bytes f.path) i ≡ option_map (λ s. s.now) path.entry) }
-    ensures base { IfOk result (λ i. option_map (λ f. f.base) i ≡ base) }
-    ensures wrong { IfErr result (λ f. f ≡ WordFault.Words → is_some path.entry ≢ is_some base) }
+    ensures { Reads (IsImageWords (option_map (λ s. s.now) path.entry) (option_map (λ s. s.now) base.entry)) result }
 {
     match (path, base) {
         (None, None) => Ok(None),
         (Some(path), Some(base)) => Ok(Some(ImageFile {
             path: String::from_str(alloc, path)?,
-            base,
+            base: decimal(base)?,
         })),
         _ => Err(WordFault::Words),
     }
@@ -110,7 +160,7 @@ fn image_of(
 fn hobs(alloc: Global, matches: &ArgMatches<'_>) -> Result<Command, WordFault>
     ensures { AsksFor (codes "hobs") matches.now result }
 {
-    let (path, base) = (matches.get_str("image"), matches.get_one::<u64>("base"));
+    let (path, base) = (matches.get_str("image"), matches.get_str("base"));
     Ok(Command::Hobs {
         file: file_of(alloc, matches, "file")?,
         image: image_of(alloc, path, base)?,
@@ -132,9 +182,7 @@ fn section_type(text: &str) -> Option<u8>
 
 // The type of the section that a text names, if one is given.
 fn section_of(text: Option<&str>) -> Result<Option<u8>, WordFault>
-    ensures named { IfOk result (IsSectionTypeWord (option_map (λ s. s.now) text.entry)) }
-    ensures wrong { IfErr result (λ _. (kind : Option ℕ)
-        → IsSectionTypeWord (option_map (λ s. s.now) text.entry) kind → ⊥) }
+    ensures { Reads (IsSectionTypeWord (option_map (λ s. s.now) text.entry)) result }
 {
     let Some(text) = text else {
         return Ok(None);
@@ -147,8 +195,7 @@ fn section_of(text: Option<&str>) -> Result<Option<u8>, WordFault>
 
 // The name of the file that a text gives, as a GUID: it must be given.
 fn name_of(text: Option<&str>) -> Result<Guid, WordFault>
-    ensures named { IfOk result (λ name. option_and_then guid_read (option_map (λ s. s.now) text.entry) ≡ Some name) }
-    ensures wrong { IfErr result (λ _. option_and_then guid_read (option_map (λ s. s.now) text.entry) ≡ None) }
+    ensures { Reads (λ name. option_and_then guid_read (option_map (λ s. s.now) text.entry) ≡ Some name) result }
 {
     let Some(text) = text else {
         return Err(WordFault::Words);
@@ -159,38 +206,67 @@ fn name_of(text: Option<&str>) -> Result<Guid, WordFault>
     }
 }
 
-// A volume, and the part of it that is written: the first section of a type if no other is asked
-// for.
+// Which of the sections of a type a text names: the first if none is given.
+fn instance_of(text: Option<&str>) -> Result<u32, WordFault>
+    ensures { Reads (IsInstanceWord (option_map (λ s. s.now) text.entry)) result }
+{
+    let Some(text) = text else {
+        return Ok(1);
+    };
+    match text.parse() {
+        Ok(instance) => Ok(instance),
+        Err(_) => Err(WordFault::Words),
+    }
+}
+
+// The part of a volume that these texts name.
+fn part_of(
+    name: Option<&str>,
+    section: Option<&str>,
+    instance: Option<&str>,
+) -> Result<Part, WordFault>
+    ensures { Reads (IsPartBy (option_map (λ s. s.now) name.entry) (option_map (λ s. s.now) section.entry)
+        (option_map (λ s. s.now) instance.entry)) result }
+{
+    Ok(Part {
+        name: name_of(name)?,
+        section: section_of(section)?,
+        instance: instance_of(instance)?,
+    })
+}
+
+// A volume, and the part of it that is written.
 fn extract(alloc: Global, matches: &ArgMatches<'_>) -> Result<Command, WordFault>
     ensures { AsksFor (codes "extract") matches.now result }
 {
-    let part = Part {
-        name: name_of(matches.get_str("name"))?,
-        section: section_of(matches.get_str("section"))?,
-        instance: matches.get_one::<u32>("instance").unwrap_or(1),
-    };
+    let (section, instance) = (matches.get_str("section"), matches.get_str("instance"));
+    let part = part_of(matches.get_str("name"), section, instance)?;
     let (at, file) = input_of(alloc, matches)?;
     let task = Task::Extract(part);
     Ok(Command::Single { task, at, file })
 }
 
-// The two files that are compared: both must be named.
+// A volume in the file of this path, which must be named, and the byte at which it begins there.
+fn volume_of(alloc: Global, path: Option<&str>, at: Option<&str>) -> Result<VolumeFile, WordFault>
+    ensures { Reads (IsVolumeWords (option_map (λ s. s.now) path.entry) (option_map (λ s. s.now) at.entry)) result }
+{
+    let Some(path) = path else {
+        return Err(WordFault::Words);
+    };
+    Ok(VolumeFile {
+        path: String::from_str(alloc, path)?,
+        at: place_of(at)?,
+    })
+}
+
+// The two volumes that are compared.
 fn compare(alloc: Global, matches: &ArgMatches<'_>) -> Result<Command, WordFault>
     ensures { AsksFor (codes "compare") matches.now result }
 {
-    match (matches.get_str("first"), matches.get_str("second")) {
-        (Some(first), Some(second)) => Ok(Command::Compare {
-            first: VolumeFile {
-                path: String::from_str(alloc, first)?,
-                at: matches.get_one::<u64>("at"),
-            },
-            second: VolumeFile {
-                path: String::from_str(alloc, second)?,
-                at: matches.get_one::<u64>("other-at"),
-            },
-        }),
-        _ => Err(WordFault::Words),
-    }
+    let (at, other_at) = (matches.get_str("at"), matches.get_str("other-at"));
+    let first = volume_of(alloc, matches.get_str("first"), at)?;
+    let second = volume_of(alloc, matches.get_str("second"), other_at)?;
+    Ok(Command::Compare { first, second })
 }
 
 // A volume, for `check` or `cells`.
@@ -241,7 +317,7 @@ pub fn parse_command(alloc: Global, name: &str, words: &[String]) -> Result<Plan
         → AreRightFor name.now (drop 1 (map string_bytes words.now)) → ⊥) }
 {
     let matches = rules_of(alloc, name)?.try_get_matches_from(words)?;
-    let hex = matches.get_flag("hex");
+    let hex = is_given(&matches, "hex");
     let command = command_of(alloc, name, &matches)?;
     Ok(Plan { hex, command })
 }

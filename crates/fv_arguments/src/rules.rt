@@ -1,12 +1,10 @@
 //! The rules of the commands: the flags, options and files that each of them takes.
 
 ghost use Rattle.clap.specs.Words.{App, Rule, app_of, new_rule, rule_of, with_rule};
-ghost use Rattle.fv_arguments.specs.Options.{at_rule, compare_app, extract_app, flag_app, hobs_app};
-ghost use Rattle.fv_arguments.specs.Options.{flag_rule, number_rule, option_rule};
+ghost use Rattle.fv_arguments.specs.Options.{at_rule, compare_app, extract_app, flag_app, flag_rule, hobs_app, option_rule};
 ghost use Rattle.fv_arguments.specs.inner.CommandWords.{app_named};
 ghost use Rattle.std.specs.Prelude.{◌≡◌, codes, false, IfOk};
 
-use clap::builder::ValueParser;
 use clap::{Arg, ArgAction, Command};
 use std::alloc::{AllocError, Global};
 
@@ -19,19 +17,11 @@ fn flag<'a>(alloc: Global, name: &'static str) -> Arg<'a>
 }
 
 // An option of this name, with one value.
-fn text_option<'a>(alloc: Global, name: &'static str) -> Arg<'a>
+fn option<'a>(alloc: Global, name: &'static str) -> Arg<'a>
     ensures rule { rule_of result ≡ option_rule name.now }
     ensures local { result.global ≡ false }
 {
     Arg::new(alloc, name).long(name)
-}
-
-// An option of this name, with a decimal number up to `most` as its value.
-fn number_option<'a>(alloc: Global, name: &'static str, most: u64) -> Arg<'a>
-    ensures rule { rule_of result ≡ number_rule name.now most }
-    ensures local { result.global ≡ false }
-{
-    text_option(alloc, name).value_parser(ValueParser::unsigned(0, most))
 }
 
 // These rules and this argument, if memory did not run out for the rules.
@@ -50,7 +40,7 @@ fn add_volume<'a>(
     ensures { (app : App) → IfOk rules.entry (λ c. app_of c ≡ app)
         → IfOk result (λ c. app_of c ≡ with_rule (with_rule app at_rule) (new_rule (codes "file"))) }
 {
-    let at = add(rules, number_option(alloc, "at", u64::MAX));
+    let at = add(rules, option(alloc, "at"));
     add(at, Arg::new(alloc, "file"))
 }
 
@@ -73,8 +63,8 @@ fn flag_rules<'a>(alloc: Global, name: &'static str) -> Result<Command<'a>, Allo
 fn hobs_rules<'a>(alloc: Global) -> Result<Command<'a>, AllocError>
     ensures { IfOk result (λ c. app_of c ≡ hobs_app) }
 {
-    let image = add(text_rules(alloc), text_option(alloc, "image"));
-    let base = add(image, number_option(alloc, "base", u64::MAX));
+    let image = add(text_rules(alloc), option(alloc, "image"));
+    let base = add(image, option(alloc, "base"));
     add(base, Arg::new(alloc, "file"))
 }
 
@@ -82,10 +72,9 @@ fn hobs_rules<'a>(alloc: Global) -> Result<Command<'a>, AllocError>
 fn extract_rules<'a>(alloc: Global) -> Result<Command<'a>, AllocError>
     ensures { IfOk result (λ c. app_of c ≡ extract_app) }
 {
-    let name = add(text_rules(alloc), text_option(alloc, "name"));
-    let section = add(name, text_option(alloc, "section"));
-    let most = u64::from(u32::MAX);
-    let instance = add(section, number_option(alloc, "instance", most));
+    let name = add(text_rules(alloc), option(alloc, "name"));
+    let section = add(name, option(alloc, "section"));
+    let instance = add(section, option(alloc, "instance"));
     add_volume(alloc, instance)
 }
 
@@ -93,8 +82,8 @@ fn extract_rules<'a>(alloc: Global) -> Result<Command<'a>, AllocError>
 fn compare_rules<'a>(alloc: Global) -> Result<Command<'a>, AllocError>
     ensures { IfOk result (λ c. app_of c ≡ compare_app) }
 {
-    let at = add(text_rules(alloc), number_option(alloc, "at", u64::MAX));
-    let other_at = add(at, number_option(alloc, "other-at", u64::MAX));
+    let at = add(text_rules(alloc), option(alloc, "at"));
+    let other_at = add(at, option(alloc, "other-at"));
     let first = add(other_at, Arg::new(alloc, "first"));
     add(first, Arg::new(alloc, "second"))
 }

@@ -1,9 +1,10 @@
 -- Checks in their order.
-use Rattle.std.proofs.Common.{◌≡◌, List, [], ◌∷◌, ◌++◌, refl, ap, ◌∙◌, append_assoc, subst, sym, Bool, true, false}
+use Rattle.std.proofs.Common.{◌≡◌, List, [], ◌∷◌, ◌++◌, refl, ap, subst, sym, Bool, true, false}
 use Rattle.std.specs.Prelude.{◌&&◌, Option, None, Some, Result, Ok, Err, IfErr, if◌then◌else◌}
 use Rattle.std.specs.List.{AllByRecursion}
-use Rattle.fv_base.specs.Checks.{Check, AllHold, IsFirstFault}
+use Rattle.fv_base.specs.Checks.{Check, AllHold, FailsAfter, IsFirstFault, GuardsHold, Which, First, Any, Fails}
 use Rattle.fv_base.specs.inner.Verdicts.{first_fault, verdict_by}
+use Rattle.fv_base.specs.declared.fault.Fault.{Fault}
 
 pub and_split : (a b : Bool) → (a && b) ≡ true → (a ≡ true) × (b ≡ true)
 and_split true b h = (refl, h)
@@ -36,18 +37,6 @@ first_is {F} (c ∷ cs) f h = go c.holds refl (first_is cs f) h where
   go true is rest k = let r = rest k in (c ∷ r.0, r.1, r.2, ap (λ (ds : List (Check F)). c ∷ ds) r.3, (is, r.4), r.5, r.6)
   go false is rest k = ([], c, cs, refl, tt, is, cc)
 
--- the first fault among the first checks is that among all
-pub first_before : {F : Type 0} → (cs ds : List (Check F)) (f : F) → IsFirstFault cs f → IsFirstFault (cs ++ ds) f
-first_before {F} cs ds f (before, c, after, is, held, fails, fault) =
-    (before, c, after ++ ds, ap (λ (es : List (Check F)). es ++ ds) is ∙ append_assoc before (c ∷ after) ds, held, fails, fault)
-
--- where the first checks hold, the first fault is that among the rest
-pub first_behind : {F : Type 0} → (cs ds : List (Check F)) (f : F) → AllHold cs → IsFirstFault ds f → IsFirstFault (cs ++ ds) f
-first_behind [] ds f all first = first
-first_behind {F} (c ∷ cs) ds f all first =
-    let r = first_behind cs ds f all.1 first in
-    (c ∷ r.0, r.1, r.2, ap (λ (es : List (Check F)). c ∷ es) r.3, (all.0, r.4), r.5, r.6)
-
 -- the first fault of joined tables: that of the first, where it has one, and else that of the second
 pub first_front : {F : Type 0} → (cs ds : List (Check F)) (f : F) → first_fault cs ≡ Some f → first_fault (cs ++ ds) ≡ Some f
 first_front [] ds f is = cc
@@ -71,21 +60,37 @@ in_table : {F : Type 0} → (P : Check F → Type 0) (before : List (Check F)) (
 in_table P [] c after h = h.0
 in_table P (d ∷ ds) c after h = in_table P ds c after h.1
 
--- what is true of the faults of all checks is true of the first fault
-pub first_among : {F : Type 0} → (P : F → Type 0) (cs : List (Check F)) (f : F) → AllByRecursion (λ c. P c.fault) cs → IsFirstFault cs f
-    → P f
-first_among {F} P cs f all (before, c, after, is, held, fails, fault) =
+-- what is true of the faults of all checks is true of the fault of one that fails
+among : {F : Type 0} → (H : List (Check F) → Type 0) (P : F → Type 0) (cs : List (Check F)) (f : F) → AllByRecursion (λ c. P c.fault) cs
+    → FailsAfter H cs f → P f
+among {F} H P cs f all (before, c, after, is, held, bad, fault) =
     let Q : Check F → Type 0 = λ d. P d.fault in
     subst P (sym fault) (in_table Q before c after (subst (λ (l : List (Check F)). AllByRecursion Q l) is all))
 
--- where there is no first fault, none is it
-pub not_first : {F : Type 0} → (cs : List (Check F)) (f : F) → IsFirstFault cs f → first_fault cs ≡ None → ⊥
-not_first {F} cs f split none =
-    let all = subst (λ (l : List (Check F)). AllHold l) split.3 (all_hold cs none) in
-    never (split.1).holds (in_table (λ (c : Check F). c.holds ≡ true) split.0 split.1 split.2 all) split.5
+pub first_among : {F : Type 0} → (P : F → Type 0) (cs : List (Check F)) (f : F) → AllByRecursion (λ c. P c.fault) cs → IsFirstFault cs f
+    → P f
+first_among {F} P cs f all first = among AllHold P cs f all first
+
+pub fails_among : (which : Which) (P : Fault → Type 0) (cs : List (Check Fault)) (f : Fault) → AllByRecursion (λ c. P c.fault) cs
+    → Fails which cs f → P f
+fails_among First P cs f all bad = among AllHold P cs f all bad
+fails_among Any P cs f all bad = among GuardsHold P cs f all bad
+
+-- where all checks hold, none fails
+not_failing : {F : Type 0} → (H : List (Check F) → Type 0) (cs : List (Check F)) (f : F) → FailsAfter H cs f → AllHold cs → ⊥
+not_failing {F} H cs f (before, c, after, is, held, bad, fault) all =
+    never c.holds (in_table (λ (d : Check F). d.holds ≡ true) before c after (subst (λ (l : List (Check F)). AllHold l) is all)) bad
   where
     never : (b : Bool) → b ≡ true → b ≡ false → ⊥
     never b t n = cc
+
+pub none_fails : (which : Which) (cs : List (Check Fault)) (f : Fault) → Fails which cs f → AllHold cs → ⊥
+none_fails First cs f bad all = not_failing AllHold cs f bad all
+none_fails Any cs f bad all = not_failing GuardsHold cs f bad all
+
+-- where there is no first fault, none is it
+pub not_first : {F : Type 0} → (cs : List (Check F)) (f : F) → IsFirstFault cs f → first_fault cs ≡ None → ⊥
+not_first {F} cs f first none = not_failing AllHold cs f first (all_hold cs none)
 
 -- ---- a fault, or else the value
 

@@ -85,11 +85,6 @@ all-all_are byte (x ∷ xs) h = and_join (x == byte) (list_all (λ y. y == byte)
 pub same_test : (t : Bool) (byte : ℕ) (xs : List ℕ) → ((t ≡ true) ↔ AllAre byte xs) → t ≡ all_are byte xs
 same_test t byte xs says = grind (arith, common_steps, all-all_are, all_are-true)
 
--- bytes that are all one byte are so many of it
-pub all-replicate : (byte : ℕ) (xs : List ℕ) → AllAre byte xs → xs ≡ replicate (length xs) byte
-all-replicate byte [] h = refl
-all-replicate byte (x ∷ xs) h = rw (← h.0) (ap (λ (ys : List ℕ). x ∷ ys) (rw h.0 (all-replicate byte xs h.1)))
-
 pub all-of_replicate : (byte n : ℕ) → AllAre byte (replicate n byte)
 all-of_replicate byte zero = tt
 all-of_replicate byte (suc n) = (refl, all-of_replicate byte n)

@@ -6,17 +6,19 @@ pub use Rattle.fv_base.proofs.FieldLemmas.{take-take_le, field-take, field-appen
 pub use Rattle.fv_base.proofs.FieldLemmas.{le-le_bytes, length-le_bytes, two_bytes, same_cut, none_at, bytes_behind, bytes_cons, bytes_take}
 pub use Rattle.fv_base.proofs.FieldLemmas.{bytes_drop, bytes_append, bytes_le_bytes}
 pub use Rattle.fv_base.proofs.NumberLaws.{le_below, field_below, bytes_front, bytes_back, bytes_replicate}
--- checks in their order: the first that does not hold, among some and among more; there is one where not all hold, and none else
-pub use Rattle.fv_base.proofs.CheckLemmas.{and_split, and_join, all_hold, none_faulty, first_is, first_before, first_behind, first_front}
-pub use Rattle.fv_base.proofs.CheckLemmas.{first_whole, first_among, not_first, verdict_ok, verdict_err, verdict_none, whatever}
+-- checks in their order: the first that does not hold, among some and among more; there is one where not all hold, and none else; what is
+-- true of all faults of checks is true of one that fails; where all hold, none fails
+pub use Rattle.fv_base.proofs.CheckLemmas.{and_split, and_join, all_hold, none_faulty, first_is, first_front}
+pub use Rattle.fv_base.proofs.CheckLemmas.{first_whole, first_among, not_first, fails_among, none_fails, verdict_ok, verdict_err, verdict_none}
+pub use Rattle.fv_base.proofs.CheckLemmas.{whatever}
 -- tests of numbers and of single bits that hold or do not
 pub use Rattle.fv_base.proofs.TestLemmas.{if_true, if_false, not_less, not_at_most, not_equal, one_bit, or_parts, or_both}
 -- bytes that are all one byte: joined, cut, counted, and the test of it
-pub use Rattle.fv_base.proofs.ErasedLemmas.{all_append, all_front, all_behind, all-replicate, all-of_replicate, all_are-true, all-all_are}
+pub use Rattle.fv_base.proofs.ErasedLemmas.{all_append, all_front, all_behind, all-of_replicate, all_are-true, all-all_are}
 -- sums of the words of joined bytes
 pub use Rattle.fv_base.proofs.SumLemmas.{words_of-append, sum-words_of-append}
--- what a list sink and a written port hold after a walk
-pub use Rattle.fv_base.proofs.SinkLemmas.{kept_whole, front_is}
+-- what a list sink holds after a walk
+pub use Rattle.fv_base.proofs.SinkLemmas.{kept_whole}
 -- what was read from a reader after a turn that met its end, or that failed; a flag is not both up and down
 pub use Rattle.fv_base.proofs.ReadLemmas.{end_read, none_read, up_is_not_down}
 -- what holds of every item of a list holds of the one at a place, of the one where it is cut, and of those that are kept of it; an item of

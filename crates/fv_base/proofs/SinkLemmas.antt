@@ -1,14 +1,12 @@
 -- What a sink holds after a walk, or after several.
-use Rattle.std.proofs.Common.{◌≡◌, ℕ, ◌+◌, ◌<◌, ◌%◌, ◌^◌, List, [], ◌++◌, take, drop, length, replicate, refl, sym, ◌∙◌, ap, subst, arith}
+use Rattle.std.proofs.Common.{◌≡◌, ℕ, ◌+◌, ◌<◌, List, [], ◌++◌, take, drop, length, replicate, refl, sym, ◌∙◌, ap, subst, arith}
 use Rattle.std.proofs.Common.{◌||◌, ◌&&◌, ◌==◌, not, eqb-true, Bool, true, false}
-use Rattle.std.proofs.lemmas.List.{length-take-le, replicate-append-replicate}
+use Rattle.std.proofs.lemmas.List.{replicate-append-replicate}
 use Rattle.std.proofs.Math.Seq.{take-add}
 use Rattle.std.proofs.KnownBytes.{Appends-trans}
 use Rattle.std.specs.Prelude.{Option, Result, Ok, Err, IfOk}
 use Rattle.std.specs.Io.KnownBytes.{Appends}
-use Rattle.fv_base.specs.ListSinks.{KeptLatched}
-use Rattle.fv_base.specs.Sinks.{WalkLaws}
-use Rattle.fv_base.specs.WriteSinks.{PortShows, WritesFront}
+use Rattle.fv_base.specs.Sinks.{KeptLatched, WalkLaws}
 use Rattle.fv_base.specs.declared.fault.Fault.{Fault}
 
 -- a walk over bytes that are all one byte, in two steps
@@ -31,17 +29,6 @@ some_taken false n buf some = go (n == 0) refl
     go : (b : Bool) → (n == 0) ≡ b → ((n == 0) && not (length buf == 0)) ≡ false
     go true e = absurd (omega (arith, some, eqb-true n 0 e))
     go false e = ap (λ b. b && not (length buf == 0)) e
-
--- where a port stopped, the count is how much of the bytes it holds
-pub front_is : (s t : PortShows) (bytes : List ℕ) → s.count ≡ 0 → t.count < 2 ^ 64 → length bytes < 2 ^ 64 → WritesFront s bytes t
-    → (t.count < length bytes) × Appends s.contents t.contents (take t.count bytes)
-front_is s t bytes z small short h =
-    let is : t.count ≡ h.0 = same_count s.count t.count h.0 (length bytes) (length (take h.0 bytes)) z small short h.1
-    (length-take-le h.0 bytes (omega (arith, h.1))) h.2.1 in
-    (omega (arith, is, h.1), subst (λ n. Appends s.contents t.contents (take n bytes)) (sym is) h.2.0)
-  where
-    same_count : (a b n long part : ℕ) → a ≡ 0 → b < 2 ^ 64 → long < 2 ^ 64 → n < long → part ≡ n → b % 2 ^ 64 ≡ (a + part) % 2 ^ 64 → b ≡ n
-    same_count a b n long part z small short cut is e = omega arith
 
 -- an empty list that took bytes, and went on, has these bytes
 pub kept_whole : (s k bytes : List ℕ) (a b : Bool) (r : Result (List ℕ) Fault) → s ≡ [] → a ≡ true → KeptLatched s a bytes k b

@@ -1,9 +1,10 @@
--- Checks in a fixed order, and the first that does not hold.
+-- Checks in a fixed order, and those that do not hold: the first; or any, whatever else is wrong.
 use Rattle.std.specs.Prelude.{ℕ, Bool, true, false, List, ◌∷◌, ◌++◌, ◌≡◌}
 use Rattle.std.specs.List.{AllByRecursion}
 use Rattle.fv_base.specs.Faults.{outer_fault}
 use Rattle.fv_base.specs.declared.fault.Fault.{Fault}
 use Rattle.fv_base.specs.declared.fault.FaultKind.{FaultKind}
+use Rattle.fv_base.specs.declared.fault.FaultKind.TheVariants as kinds
 
 -- a check: whether it holds, and the fault if it does not
 pub record Check (F : Type 0) : Type 0 where
@@ -18,8 +19,34 @@ check holds kind offset = record { holds = holds; fault = outer_fault kind offse
 abbrev pub AllHold : {F : Type 0} → List (Check F) → Type 0
 AllHold cs = AllByRecursion (λ c. c.holds ≡ true) cs
 
+-- a check of the table does not hold, f is its fault, and P is true of the checks before it
+abbrev pub FailsAfter : {F : Type 0} → (List (Check F) → Type 0) → List (Check F) → F → Type 0
+FailsAfter {F} P cs f =
+    (before : List (Check F)) × (c : Check F) × (after : List (Check F)) × (cs ≡ before ++ (c ∷ after))
+    × P before × (c.holds ≡ false) × (f ≡ c.fault)
+
 -- the fault is that of a check which does not hold, and all checks before it hold
 abbrev pub IsFirstFault : {F : Type 0} → List (Check F) → F → Type 0
-IsFirstFault {F} cs f =
-    (before : List (Check F)) × (c : Check F) × (after : List (Check F)) × (cs ≡ before ++ (c ∷ after))
-    × AllHold before × (c.holds ≡ false) × (f ≡ c.fault)
+IsFirstFault cs f = FailsAfter AllHold cs f
+
+-- whether a check with a fault of this kind is a guard: it says that the bytes exist which the checks after it look at
+abbrev pub is_guard : FaultKind → Bool
+is_guard kinds.Truncated = true
+is_guard kinds.FreeSpace = true
+is_guard kinds.FileSize = true
+is_guard kinds.SectionTail = true
+is_guard _ = false
+
+-- each of the checks that is a guard holds
+abbrev pub GuardsHold : List (Check Fault) → Type 0
+GuardsHold cs = AllByRecursion (λ c. is_guard c.fault.kind ≡ true → c.holds ≡ true) cs
+
+-- which faults are meant: the first one; or any, whatever else is wrong
+pub data Which : Type 0 where
+  First : Which
+  Any : Which
+
+-- a check does not hold, and this is its fault; before the first fault all checks hold, before any fault the guards
+abbrev pub Fails : Which → List (Check Fault) → Fault → Type 0
+Fails First cs f = IsFirstFault cs f
+Fails Any cs f = FailsAfter GuardsHold cs f

@@ -1,6 +1,6 @@
--- What is read from a reader, and why reading stops.
-use Rattle.std.specs.Prelude.{ℕ, ◌≡◌, ◌<◌, ◌≤◌, List, length, Option}
-use Rattle.std.specs.Io.KnownBytes.{Consumes, IsAtEnd}
+-- What is read from a reader, why reading stops, and what a writer holds when a run has stopped.
+use Rattle.std.specs.Prelude.{ℕ, ◌≡◌, ◌<◌, ◌≤◌, List, length, Option, take}
+use Rattle.std.specs.Io.KnownBytes.{Consumes, IsAtEnd, Appends}
 use Rattle.fv_base.specs.declared.fault.Fault.{Fault}
 use Rattle.fv_base.specs.declared.fault.FaultKind.{FaultKind}
 use Rattle.fv_base.specs.declared.fault.FaultKind.TheVariants as kinds
@@ -31,3 +31,10 @@ ReadStopsFor _ old new n = ⊥
 pub record ReadStops (old new : Option (List ℕ)) (fault : Fault) : Type 0 where
   pub depth : fault.place.depth ≡ 0
   pub cause : ReadStopsFor fault.kind old new fault.place.offset
+
+-- a writer stopped: it holds the first bytes of the output, as many as the fault's offset says, and not all of them
+pub record WriteStops (held holds : Option (List ℕ)) (output : List ℕ) (fault : Fault) : Type 0 where
+  pub kind : fault.kind ≡ kinds.WriteFault
+  pub depth : fault.place.depth ≡ 0
+  pub before_end : fault.place.offset < length output
+  pub wrote : Appends held holds (take fault.place.offset output)

@@ -10,9 +10,6 @@ pub mod GuidTexts
 pub mod Faults
 pub mod Checks
 pub mod Input
-pub mod ListSinks
-pub mod Output
 pub mod Port
 pub mod Sinks
-pub mod WriteSinks
 pub mod inner

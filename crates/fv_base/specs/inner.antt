@@ -1,5 +1,4 @@
 -- Definitions that serve only private clauses: there is nothing to believe here.
-pub mod ListSinkLaws
 pub mod ReadTurns
+pub mod SinkLaws
 pub mod Verdicts
-pub mod WriteSinkLaws

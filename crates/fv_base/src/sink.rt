@@ -5,11 +5,9 @@ ghost use Rattle.std.specs.Prelude.{IfOk, IfErr, OnErr, OnOk};
 ghost use Rattle.std.specs.Io.KnownBytes.{Appends};
 ghost use Rattle.fv_base.specs.Faults.{outer_fault, out_of_memory};
 ghost use Rattle.fv_base.specs.Port.{inner_of, has_erred};
-ghost use Rattle.fv_base.specs.Sinks.{WalkLaws};
-ghost use Rattle.fv_base.specs.ListSinks.{KeptTakes, kept_in, is_on};
-ghost use Rattle.fv_base.specs.inner.ListSinkLaws.{kept_by};
-ghost use Rattle.fv_base.specs.WriteSinks.{SeenTakes, is_writing, port_name, port_of, written_count};
-ghost use Rattle.fv_base.specs.inner.WriteSinkLaws.{seen_by};
+ghost use Rattle.fv_base.specs.Sinks.{WalkLaws, KeptTakes, kept_in, is_on, SeenTakes, is_writing, port_name, port_of};
+ghost use Rattle.fv_base.specs.Sinks.{written_count};
+ghost use Rattle.fv_base.specs.inner.SinkLaws.{kept_by, seen_by};
 
 use crate::byte_list::ByteList;
 use crate::fault::{Fault, FaultKind};

@@ -1,7 +1,8 @@
 -- The part of a volume that two numbers ask for.
 use Rattle.std.proofs.lemmas.Grind.{common_steps}
 use Rattle.std.proofs.Common.{◌≡◌, ◌∙◌, ◌⊎◌, ℕ, List, true, false, Some, None, map, refl, sym, ap, subst, inl, inr, arith}
-use Rattle.std.specs.Prelude.{◌==◌, ◌≢◌, Option, option_map, slice_get, IfSome, IfNone}
+use Rattle.std.specs.Option.{option_and_then}
+use Rattle.std.specs.Prelude.{◌==◌, ◌≢◌, Bool, cond, Option, option_map, slice_get, IfSome, IfNone}
 use Rattle.std.proofs.lemmas.Bool.Decides.{Decides-eqb}
 use Rattle.std.proofs.lemmas.Option.{slice_get-map}
 use Rattle.fv_base.specs.Faults.{out_of_memory}
@@ -11,11 +12,11 @@ use Rattle.fv_canon.specs.Refusals.{NotRead}
 use Rattle.fv_tree.specs.Denotes.{Accepted}
 use Rattle.fv_head.specs.Head.{HeadFields}
 use Rattle.fv_tree.specs.Meaning.{Meaning, Volume, FileMeaning, files_of, content_of}
-use Rattle.fv_tree.specs.MeaningParts.{files_from}
+use Rattle.fv_tree.specs.MeaningParts.{body_of, files_from}
 use Rattle.fv_tree.proofs.Laws.{files_list_back}
-use Rattle.fv_c.specs.ExtractedParts.{PartMeaning, Data, whole_file, row_part, part_of_file, part_of, part_in, IsPartImage}
+use Rattle.fv_c.specs.ExtractedParts.{PartMeaning, Data, Body, whole_file, part_of_file, part_in, IsPartImage}
 use Rattle.fv_c.specs.ExtractedParts.{volumes_in_part, ExtractsTo, HasNoPart, HasUnfitPart}
-use Rattle.fv_c.specs.ReportedSections.{section_rows}
+use Rattle.fv_c.specs.ReportedSections.{SectionRow, section_rows}
 use Rattle.fv_c.specs.declared.parts.PlacedSection.{PlacedSection}
 use Rattle.fv_c.specs.inner.PlacedSections.{row_form, ShowsPart, StopsPart}
 
@@ -30,10 +31,14 @@ pub file_at : (m : Meaning) (h : HeadFields) (fs : List FileMeaning) (file : ℕ
 file_at m h fs file o is found = ap (λ (l : List FileMeaning). slice_get l file) (files_are m h fs is) ∙ sym found
 
 pub part_at : (m : Meaning) (h : HeadFields) (fs : List FileMeaning) (file section : ℕ) (o : Option FileMeaning)
-    → m ≡ Volume h (files_from fs) → o ≡ slice_get fs file → part_in file section m ≡ part_of section o
-part_at m h fs file section o is found = ap (part_of section) (file_at m h fs file o is found)
+    → m ≡ Volume h (files_from fs) → o ≡ slice_get fs file → part_in file section m ≡ option_and_then (part_of_file section) o
+part_at m h fs file section o is found = ap (option_and_then (part_of_file section)) (file_at m h fs file o is found)
 
 -- ---- its part
+
+-- the body of the section of a row
+abbrev row_part : SectionRow → PartMeaning
+row_part r = Body (body_of r.section)
 
 is_not : (a b : ℕ) → a ≢ b → (a == b) ≡ false
 is_not a b ne = grind (arith, common_steps)
@@ -44,7 +49,11 @@ whole_part section f is = let test : (section == whole_file) ≡ true = (Decides
 pub row_at : (section : ℕ) (f : FileMeaning) (rows : List PlacedSection) (o : Option PlacedSection) → section ≢ whole_file
     → map row_form rows ≡ section_rows (content_of f) → o ≡ slice_get rows section
     → part_of_file section f ≡ option_map row_part (option_map row_form o)
-row_at section f rows o ne are found = grind (arith, common_steps, is_not, slice_get-map)
+row_at section f rows o ne are found =
+    ap (λ (t : Bool). cond t (Some (Data (content_of f))) (option_map row_part (slice_get (section_rows (content_of f)) section)))
+    (is_not section whole_file ne)
+    ∙ ap (λ (l : List SectionRow). option_map row_part (slice_get l section)) (sym are)
+    ∙ ap (option_map row_part) (slice_get-map row_form rows section ∙ ap (option_map row_form) (sym found))
 
 -- ---- what is promised of it
 

@@ -1,4 +1,5 @@
 -- What is extracted for C: the data of a file, or the body of one of its sections.
+use Rattle.std.specs.Option.{option_and_then}
 use Rattle.std.specs.Prelude.{◌≡◌, ℕ, ◌==◌, if◌then◌else◌, List, Option, Some, None, option_map, slice_get}
 use Rattle.fv_base.specs.declared.fault.Fault.{Fault}
 use Rattle.fv_canon.specs.Image.{IsData, IsBodyImage}
@@ -18,23 +19,15 @@ pub data PartMeaning : Type 0 where
 abbrev pub whole_file : ℕ
 whole_file = 18446744073709551615
 
--- the body of a section
-abbrev pub row_part : SectionRow → PartMeaning
-row_part r = Body (body_of r.section)
-
 -- the part of a file that a number asks for: the data, or the body of the section with this number in preorder
 abbrev pub part_of_file : ℕ → FileMeaning → Option PartMeaning
 part_of_file section f =
     if section == whole_file then Some (Data (content_of f))
-    else option_map row_part (slice_get (section_rows (content_of f)) section)
-
-abbrev pub part_of : ℕ → Option FileMeaning → Option PartMeaning
-part_of section None = None
-part_of section (Some f) = part_of_file section f
+    else option_map (λ (r : SectionRow). Body (body_of r.section)) (slice_get (section_rows (content_of f)) section)
 
 -- the part of a volume that the number of a file and that of a section ask for
 abbrev pub part_in : ℕ → ℕ → Meaning → Option PartMeaning
-part_in file section m = part_of section (slice_get (files_of m) file)
+part_in file section m = option_and_then (part_of_file section) (slice_get (files_of m) file)
 
 -- the bytes are the part, as the canonical image of its volume has it
 abbrev pub IsPartImage : PartMeaning → List ℕ → Type 0

@@ -1,5 +1,5 @@
 -- The cells of a volume, as they are reported to C.
-use Rattle.std.specs.Prelude.{ℕ, [], ◌∷◌}
+use Rattle.std.specs.Prelude.{ℕ, replicate}
 use Rattle.fv_base.specs.Guids.{bytes_of}
 use Rattle.fv_file.specs.Attributes.{attribute_bits}
 use Rattle.fv_file.specs.Cells.{CellForm, Valid, Pad, Dead, Stub, Free}
@@ -31,7 +31,7 @@ of_bytes at what len = record {
   kind = 0;
   attributes = 0;
   reserved = 0;
-  name = 0 ∷ 0 ∷ 0 ∷ 0 ∷ 0 ∷ 0 ∷ 0 ∷ 0 ∷ 0 ∷ 0 ∷ 0 ∷ 0 ∷ 0 ∷ 0 ∷ 0 ∷ 0 ∷ [];
+  name = replicate 16 0;
 }
 
 -- the number of a file that is not valid, by its state: it was deleted, or its data were never finished

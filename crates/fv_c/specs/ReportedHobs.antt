@@ -1,5 +1,6 @@
 -- The blocks of a hand-off list, as they are reported to C.
-use Rattle.std.specs.Prelude.{ℕ, List, Some, None, Option, take}
+use Rattle.std.specs.Option.{unwrap_or}
+use Rattle.std.specs.Prelude.{ℕ, List, take}
 use Rattle.fv_hob.specs.HobChecks.{IsFirstHobFault, hob_fault_number}
 use Rattle.fv_hob.specs.Hobs.{HobForm, hob_len, hob_type}
 use Rattle.fv_hob.specs.Lists.{IsHobList, span_of}
@@ -8,14 +9,12 @@ use Rattle.fv_hob.specs.declared.span.Span.{Span}
 use Rattle.fv_c.specs.declared.hobs.FvHob.{FvHob}
 use Rattle.fv_c.specs.declared.reports.FvFault.{FvFault}
 
--- a block, with the span of the volume that it describes, if it describes one
-abbrev pub with_span : Option Span → HobForm → FvHob
-with_span None h = record { base = 0; length = 0; code = hob_type h.kind; hob_length = hob_len h.kind }
-with_span (Some s) h = record { base = s.base; length = s.length; code = hob_type h.kind; hob_length = hob_len h.kind }
+-- a block, with the span of the volume that it describes; zeros if it describes none
+abbrev pub with_span : Span → HobForm → FvHob
+with_span s h = record { base = s.base; length = s.length; code = hob_type h.kind; hob_length = hob_len h.kind }
 
--- a block
 abbrev pub reported_hob : HobForm → FvHob
-reported_hob h = with_span (span_of h.kind) h
+reported_hob h = with_span (unwrap_or (span_of h.kind) (record { base = 0; length = 0 })) h
 
 -- a fault of a list
 abbrev pub reported_hob_fault : HobFault → FvFault

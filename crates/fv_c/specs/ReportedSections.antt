@@ -1,5 +1,5 @@
 -- The sections of a file, as they are reported to C (PI specification, volume 3, section 3.2.4).
-use Rattle.std.specs.Prelude.{◌≡◌, ◌⊎◌, ℕ, ◌+◌, List, [], ◌∷◌, ◌++◌, length, slice_get, Some}
+use Rattle.std.specs.Prelude.{ℕ, ◌+◌, ◌==◌, List, [], ◌∷◌, ◌++◌, length, Option, Some, None, Bool, not, ◌&&◌}
 use Rattle.fv_section.specs.Frames.{section_header_len}
 use Rattle.fv_tree.specs.Meaning.{ContentMeaning, Plain, Sectioned, SectionMeanings, NoSections, MoreSections}
 use Rattle.fv_tree.specs.Meaning.{SectionMeaning, Section, BodyMeaning, Leaf, Group, Nested, body_len}
@@ -35,28 +35,37 @@ abbrev mutual
   rows_in_body n parent depth (Group sections tail) = rows_of_sections n parent depth sections
   rows_in_body n parent depth (Nested volume) = []
 
--- the sections in the data of a file
+-- the sections in the data of a file and in a body, without those in their groups
+abbrev pub sections_in_data : ContentMeaning → SectionMeanings
+sections_in_data (Plain b) = NoSections
+sections_in_data (Sectioned sections tail) = sections
+
+abbrev pub sections_in : BodyMeaning → SectionMeanings
+sections_in (Leaf b) = NoSections
+sections_in (Group sections tail) = sections
+sections_in (Nested volume) = NoSections
+
+-- the sections of a file, those in groups included
 abbrev pub section_rows : ContentMeaning → List SectionRow
-section_rows (Plain b) = []
-section_rows (Sectioned sections tail) = rows_of_sections 0 no_parent 0 sections
+section_rows content = rows_of_sections 0 no_parent 0 (sections_in_data content)
 
--- a section is one of these
-abbrev pub IsAmong : SectionMeaning → SectionMeanings → Type 0
-IsAmong s NoSections = ⊥
-IsAmong s (MoreSections t ts) = (s ≡ t) ⊎ IsAmong s ts
+-- a row is of a section in no group; in the group of this number
+abbrev pub is_root : SectionRow → Bool
+is_root r = r.depth == 0
 
--- the first section is a group, and the second is in it
-abbrev pub HoldsSection : SectionMeaning → SectionMeaning → Type 0
-HoldsSection (Section kind extended (Leaf b)) s = ⊥
-HoldsSection (Section kind extended (Group sections tail)) s = IsAmong s sections
-HoldsSection (Section kind extended (Nested volume)) s = ⊥
+abbrev pub is_in : ℕ → SectionRow → Bool
+is_in n r = not (is_root r) && (r.parent == n)
 
--- of a row among these: its section is in no group and its depth is 0; or the row at the number of its parent is a group
--- that holds its section, and its depth is one more than the depth of that row
-abbrev pub IsPlaced : List SectionRow → SectionRow → Type 0
-IsPlaced rows r =
-    ((r.parent ≡ no_parent) × (r.depth ≡ 0))
-    ⊎ ((g : SectionRow) × (slice_get rows r.parent ≡ Some g) × HoldsSection g.section r.section × (r.depth ≡ g.depth + 1))
+-- the rows of some sections, without those in their groups
+abbrev pub rows_under : (parent depth : ℕ) → SectionMeanings → List SectionRow
+rows_under parent depth NoSections = []
+rows_under parent depth (MoreSections s ss) =
+    record { parent = parent; depth = depth; section = s } ∷ rows_under parent depth ss
+
+-- the rows of the sections that the section of row n holds; none if there is no such row
+abbrev pub rows_under_row : ℕ → Option SectionRow → List SectionRow
+rows_under_row n None = []
+rows_under_row n (Some r) = rows_under n (r.depth + 1) (sections_in (body_of r.section))
 
 -- what a section holds: 1 bytes, 2 sections, 3 a volume
 abbrev pub held_number : BodyMeaning → ℕ

@@ -1,11 +1,11 @@
 -- Extents and faults, as they are reported to C.
-use Rattle.std.specs.Prelude.{ℕ, List}
+use Rattle.std.specs.Prelude.{ℕ}
 use Rattle.fv_base.specs.Faults.{fault_number}
 use Rattle.fv_base.specs.Flash.{erased_byte}
 use Rattle.fv_base.specs.declared.fault.Fault.{Fault}
 use Rattle.fv_base.specs.declared.flash.FileSystem.{FileSystem}
 use Rattle.fv_base.specs.declared.flash.FileSystem.TheVariants as systems
-use Rattle.fv_head.specs.Head.{HeadFields, BeginsVolume}
+pub use Rattle.fv_head.specs.HeadChecks.{BeginsWithHeader}
 use Rattle.fv_head.specs.declared.extent.Extent.{Extent}
 use Rattle.fv_c.specs.declared.reports.FvExtent.{FvExtent}
 use Rattle.fv_c.specs.declared.reports.FvFault.{FvFault}
@@ -32,7 +32,3 @@ reported_fault f = record { offset = f.place.offset; number = fault_number f.kin
 -- that there is no fault
 abbrev pub no_fault : FvFault
 no_fault = record { offset = 0; number = 0; depth = 0 }
-
--- the bytes begin with the header of a volume: only then does a call that reads them as a volume take memory
-abbrev pub BeginsWithHeader : List ℕ → Type 0
-BeginsWithHeader b = (h : HeadFields) × (e : Extent) × BeginsVolume h e b

@@ -1,3 +1,3 @@
 -- Definitions that serve only private clauses: there is nothing to believe here.
-pub mod ReturnedCells
+pub mod WrittenRows
 pub mod PlacedSections

@@ -1,6 +1,7 @@
 //! The caller's buffer.
 
-ghost use Rattle.std.specs.Prelude.{◌≡◌, ◌≢◌, ◌<◌, ◌≤◌, ◌⊎◌, ◌++◌, length, drop};
+ghost use Rattle.std.specs.Prelude.{◌≡◌, ◌≤◌, ◌++◌, length, drop};
+ghost use Rattle.fv_c.specs.inner.WrittenRows.{IsWritten};
 
 use crate::reports::BUFFER_TOO_SMALL;
 
@@ -16,11 +17,7 @@ pub(crate) fn put_first<T: Copy>(rows: &[T], buffer: &mut [T])
 // Writes the elements at the start of the buffer and returns 0, or keeps the buffer and returns 27
 // if it has fewer elements.
 pub(crate) fn put_all<T: Copy>(rows: &[T], buffer: &mut [T]) -> u32
-    ensures ok { result ≡ 0 → buffer.new ≡ rows.now ++ drop (length rows.now) buffer.old }
-    ensures kept { result ≢ 0 → buffer.new ≡ buffer.old }
-    ensures small { result ≡ 27 → length buffer.old < length rows.now }
-    ensures room { result ≡ 0 → length rows.now ≤ length buffer.old }
-    ensures only { (result ≡ 0) ⊎ (result ≡ 27) }
+    ensures { IsWritten rows.now buffer.old buffer.new result }
 {
     if buffer.len() < rows.len() {
         return BUFFER_TOO_SMALL;
@@ -31,10 +28,7 @@ pub(crate) fn put_all<T: Copy>(rows: &[T], buffer: &mut [T]) -> u32
 
 // Does the same as `put_all`. `count` is the number of the elements.
 pub(crate) fn put_rows<T: Copy>(rows: &[T], buffer: &mut [T], count: &mut u64) -> u32
-    ensures ok { result ≡ 0 → buffer.new ≡ rows.now ++ drop (length rows.now) buffer.old }
-    ensures kept { result ≢ 0 → buffer.new ≡ buffer.old }
-    ensures small { result ≡ 27 → length buffer.old < length rows.now }
-    ensures only { (result ≡ 0) ⊎ (result ≡ 27) }
+    ensures written { IsWritten rows.now buffer.old buffer.new result }
     ensures count { count.new ≡ length rows.now }
 {
     *count = rows.len() as u64;

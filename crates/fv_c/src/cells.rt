@@ -6,13 +6,13 @@ ghost use Rattle.fv_base.specs.declared.fault.Fault.{Fault};
 ghost use Rattle.fv_file.specs.CellForms.{cell_form};
 ghost use Rattle.fv_file.specs.Cells.{CellForm};
 ghost use Rattle.fv_head.specs.declared.extent.Extent.{Extent};
-ghost use Rattle.fv_tree.specs.VolumeCells.{BeginsTiled, NotTiled};
+ghost use Rattle.fv_tree.specs.LocatedFiles.{BeginsTiled, NotTiled};
 ghost use Rattle.fv_c.specs.ReportedCells.{dead_number, of_bytes, of_file, reported_cell};
-ghost use Rattle.fv_c.specs.inner.ReturnedCells.{reported_of};
 ghost use Rattle.fv_c.specs.Reports.{BeginsWithHeader, reported_fault, no_fault};
 
 use crate::buffer::put_rows;
 use crate::reports::{FvFault, NO_FAULT, refused};
+use crate::translate::{Translate, translate_all};
 use fv_base::Fault;
 use fv_file::{Cell, Cells, FileHead, FileState};
 use fv_tree::volume_cells;
@@ -70,7 +70,7 @@ fn of_bytes(offset: u64, what: u32, len: u64) -> FvCell
         kind: 0,
         attributes: 0,
         reserved: 0,
-        name: [0, 0, 0, 0, 0, 0, 0, 0, 0, 0, 0, 0, 0, 0, 0, 0],
+        name: [0; 16],
     }
 }
 
@@ -84,35 +84,27 @@ fn dead_number(state: FileState) -> u32
     }
 }
 
-// A cell, for C.
-fn reported_cell(cell: &Cell<'_>) -> FvCell
-    ensures { result ≡ reported_cell (cell_form cell.now) }
-{
-    match *cell {
-        Cell::Valid { offset, head, .. } => of_file(offset, 1, head),
-        Cell::Pad { offset, head, .. } => of_file(offset, 2, head),
-        Cell::Dead { offset, len, state } => of_bytes(offset, dead_number(state), len),
-        Cell::Stub { offset, len } => of_bytes(offset, 4, len),
-        Cell::Free { offset, len } => of_bytes(offset, 5, len),
-    }
-}
+impl<'a> Translate for Cell<'a> {
+    type Target = FvCell;
 
-// Cells, for C.
-fn reported_cells(alloc: Global, list: &[Cell<'_>]) -> Result<Vec<FvCell>, AllocError>
-    ensures { IfOk result (λ v. v.items ≡ map reported_of list.now) }
-{
-    let mut rows = Vec::with_capacity(alloc, list.len())?;
-    for cell in list {
-        rows.push(reported_cell(cell))?;
+    ghost translated = { λ c. reported_cell (cell_form c) };
+
+    fn translate(&self) -> FvCell {
+        match *self {
+            Cell::Valid { offset, head, .. } => of_file(offset, 1, head),
+            Cell::Pad { offset, head, .. } => of_file(offset, 2, head),
+            Cell::Dead { offset, len, state } => of_bytes(offset, dead_number(state), len),
+            Cell::Stub { offset, len } => of_bytes(offset, 4, len),
+            Cell::Free { offset, len } => of_bytes(offset, 5, len),
+        }
     }
-    Ok(rows)
 }
 
 // The cells of a volume, for C.
 fn reported_list(alloc: Global, list: &Cells<'_>) -> Result<Vec<FvCell>, AllocError>
     ensures { IfOk result (λ v. v.items ≡ map reported_cell list.now) }
 {
-    reported_cells(alloc, list.as_slice())
+    translate_all(alloc, list.as_slice())
 }
 
 // The cells of the volume with which the bytes begin, for C.

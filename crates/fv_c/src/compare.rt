@@ -12,7 +12,7 @@ ghost use Rattle.fv_c.specs.ReportedComparisons.{IsReported, reported_stop};
 ghost use Rattle.fv_c.specs.Reports.{BeginsWithHeader};
 
 use crate::buffer::put_all;
-use crate::reports::{FvFault, NO_FAULT, OUT_OF_MEMORY, flag, reported_fault};
+use crate::reports::{FvFault, NO_FAULT, flag, reported_fault};
 use fv_base::{Fault, FaultKind, Port};
 use fv_canon::{whole_volume, write_comparison};
 use fv_tree::VolumeView;
@@ -32,16 +32,18 @@ pub struct FvComparison {
     pub fault: FvFault,
 }
 
-// That the input of this side was rejected, for C.
-fn stopped(side: u32, f: Fault) -> FvComparison
-    ensures { result ≡ reported_stop side f }
+// Reports to C that the input of this side was rejected, and returns the number of the fault.
+fn stopped(side: u32, f: Fault, found: &mut FvComparison) -> u32
+    ensures number { result ≡ fault_number f.kind }
+    ensures found { found.new ≡ reported_stop side f }
 {
-    FvComparison {
+    *found = FvComparison {
         line_len: 0,
         same: 0,
         side,
         fault: reported_fault(f),
-    }
+    };
+    u32::from(f.kind.number())
 }
 
 // Whether two volumes have the same meaning, and the line that says where they first differ.
@@ -75,10 +77,7 @@ fn report(
 {
     let (same, line) = match line_of(alloc, a, b) {
         Ok(pair) => pair,
-        Err(f) => {
-            *found = stopped(1, f);
-            return OUT_OF_MEMORY;
-        }
+        Err(memory) => return stopped(1, memory, found),
     };
     *found = FvComparison {
         line_len: line.len() as u64,
@@ -130,17 +129,11 @@ pub extern "C" fn fv_compare(
 {
     let a = match whole_volume(alloc, first) {
         Ok(view) => view,
-        Err(f) => {
-            *found = stopped(1, f);
-            return u32::from(f.kind.number());
-        }
+        Err(f) => return stopped(1, f, found),
     };
     let b = match whole_volume(alloc, second) {
         Ok(view) => view,
-        Err(f) => {
-            *found = stopped(2, f);
-            return u32::from(f.kind.number());
-        }
+        Err(f) => return stopped(2, f, found),
     };
     report(alloc, &a, &b, buffer, found)
 }

@@ -9,9 +9,10 @@ ghost use Rattle.fv_c.specs.ReportedTruths.{NoExpression, passed_guid, phase_by_
 ghost use Rattle.fv_c.specs.Reports.{no_fault};
 
 use crate::reports::{FvFault, NO_FAULT, refused_at};
+use crate::translate::{Translate, translate_all};
 use fv_base::Guid;
 use fv_depex::{DepexFault, Phase, evaluate, read_depex};
-use std::alloc::{AllocError, Global};
+use std::alloc::Global;
 
 /// A GUID, by its bytes in a volume.
 #[repr(C)]
@@ -21,15 +22,14 @@ pub struct FvGuid {
     pub bytes: [u8; 16],
 }
 
-// GUIDs that C has passed.
-fn guids_of(alloc: Global, list: &[FvGuid]) -> Result<Vec<Guid>, AllocError>
-    ensures { IfOk result (λ v. v.items ≡ map passed_guid list.now) }
-{
-    let mut guids = Vec::with_capacity(alloc, list.len())?;
-    for guid in list {
-        guids.push(Guid::from_bytes(guid.bytes))?;
+impl Translate for FvGuid {
+    type Target = Guid;
+
+    ghost translated = { passed_guid };
+
+    fn translate(&self) -> Guid {
+        Guid::from_bytes(self.bytes)
     }
-    Ok(guids)
 }
 
 // A phase by its number: 0 is PEI, any other is DXE and MM.
@@ -67,7 +67,7 @@ fn evaluated(
     ensures memory { IfErr result (λ f. f ≡ depex_out_of_memory → BeginsFirstOp phase bytes.now) }
 {
     let depex = read_depex(alloc, bytes, phase)?;
-    let guids = guids_of(alloc, installed)?;
+    let guids = translate_all(alloc, installed)?;
     evaluate(alloc, &depex, guids.as_slice())
 }
 

@@ -10,8 +10,9 @@ ghost use Rattle.fv_c.specs.Reports.{no_fault};
 
 use crate::buffer::put_rows;
 use crate::reports::{FvFault, NO_FAULT, refused_at};
-use fv_hob::{Hob, HobFault, read_hobs};
-use std::alloc::{AllocError, Global};
+use crate::translate::{Translate, translate_all};
+use fv_hob::{Hob, HobFault, Span, read_hobs};
+use std::alloc::Global;
 
 /// A block of a hand-off list. (PI specification, volume 3, section 5.)
 #[repr(C)]
@@ -27,35 +28,23 @@ pub struct FvHob {
     pub hob_length: u32,
 }
 
-// A block, for C.
-fn reported_hob(hob: &Hob) -> FvHob
-    ensures { result ≡ reported_hob hob.now }
-{
-    match hob.span() {
-        Some(span) => FvHob {
+// That a block describes no volume.
+const NO_SPAN: Span = Span { base: 0, length: 0 };
+
+impl Translate for Hob {
+    type Target = FvHob;
+
+    ghost translated = { reported_hob };
+
+    fn translate(&self) -> FvHob {
+        let span = self.span().unwrap_or(NO_SPAN);
+        FvHob {
             base: span.base,
             length: span.length,
-            code: u32::from(hob.code()),
-            hob_length: u32::from(hob.length()),
-        },
-        None => FvHob {
-            base: 0,
-            length: 0,
-            code: u32::from(hob.code()),
-            hob_length: u32::from(hob.length()),
-        },
+            code: u32::from(self.code()),
+            hob_length: u32::from(self.length()),
+        }
     }
-}
-
-// Blocks, for C.
-fn reported_hobs(alloc: Global, list: &[Hob]) -> Result<Vec<FvHob>, AllocError>
-    ensures { IfOk result (λ v. v.items ≡ map reported_hob list.now) }
-{
-    let mut rows = Vec::with_capacity(alloc, list.len())?;
-    for hob in list {
-        rows.push(reported_hob(hob))?;
-    }
-    Ok(rows)
 }
 
 // The blocks of the hand-off list with which the bytes begin, for C, and the number of its bytes.
@@ -66,7 +55,7 @@ fn hob_rows(alloc: Global, bytes: &[u8]) -> Result<(Vec<FvHob>, u64), HobFault>
     ensures memory { IfErr result (λ f. f ≡ hob_out_of_memory → BeginsTable bytes.now) }
 {
     let (list, len) = read_hobs(alloc, bytes)?;
-    let rows = reported_hobs(alloc, list.as_slice())?;
+    let rows = translate_all(alloc, list.as_slice())?;
     Ok((rows, len))
 }
 

@@ -16,4 +16,5 @@ mod parts;
 pub mod reports;
 mod scan;
 pub mod sections;
+mod translate;
 mod verify;

@@ -5,8 +5,8 @@ ghost use Rattle.fv_tree.specs.MeaningParts.{body_of, sections_from};
 ghost use Rattle.fv_tree.specs.Meaning.{content_of};
 ghost use Rattle.fv_tree.specs.Views.{body_view};
 ghost use Rattle.fv_c.specs.ExtractedParts.{part_in, part_of_file};
-ghost use Rattle.fv_c.specs.ReportedSections.{held_number, rows_of_sections, section_rows};
-ghost use Rattle.fv_c.specs.inner.PlacedSections.{row_form, sections_in, ShowsPart, StopsPart};
+ghost use Rattle.fv_c.specs.ReportedSections.{held_number, rows_of_sections, section_rows, sections_in};
+ghost use Rattle.fv_c.specs.inner.PlacedSections.{row_form, ShowsPart, StopsPart};
 
 use fv_base::{ByteList, Fault};
 use fv_canon::{body_bytes, file_bytes};

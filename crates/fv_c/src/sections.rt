@@ -9,11 +9,12 @@ ghost use Rattle.fv_tree.specs.Denotes.{Accepted};
 ghost use Rattle.fv_tree.specs.Meaning.{Meaning, FileMeaning, content_of, files_of};
 ghost use Rattle.fv_c.specs.ReportedSections.{reported_section, section_rows};
 ghost use Rattle.fv_c.specs.Reports.{BeginsWithHeader, reported_fault, no_fault};
-ghost use Rattle.fv_c.specs.inner.PlacedSections.{reported_row};
+ghost use Rattle.fv_c.specs.inner.PlacedSections.{row_form};
 
 use crate::buffer::put_rows;
 use crate::parts::{PlacedSection, held_number, sections_of};
 use crate::reports::{FvFault, NO_FAULT, NOT_FOUND, refused};
+use crate::translate::{Translate, translate_all};
 use fv_base::Fault;
 use fv_canon::whole_volume;
 use fv_section::section_header_len;
@@ -40,34 +41,23 @@ pub struct FvSection {
     pub reserved: u32,
 }
 
-// A section, for C.
-fn reported_section(row: &PlacedSection<'_, '_>) -> FvSection
-    ensures { result ≡ reported_row row.now }
-{
-    let section = row.section;
-    FvSection {
-        len: section.body_len(),
-        parent: row.parent,
-        depth: row.depth,
-        kind: u32::from(section.kind()),
-        header_len: section_header_len(section.extended()) as u32,
-        holds: held_number(section),
-        reserved: 0,
-    }
-}
+impl<'v, 'a> Translate for PlacedSection<'v, 'a> {
+    type Target = FvSection;
 
-// Sections, for C.
-fn reported_rows(
-    alloc: Global,
-    list: &[PlacedSection<'_, '_>],
-) -> Result<Vec<FvSection>, AllocError>
-    ensures { IfOk result (λ v. v.items ≡ map reported_row list.now) }
-{
-    let mut rows = Vec::with_capacity(alloc, list.len())?;
-    for row in list {
-        rows.push(reported_section(row))?;
+    ghost translated = { λ p. reported_section (row_form p) };
+
+    fn translate(&self) -> FvSection {
+        let section = self.section;
+        FvSection {
+            len: section.body_len(),
+            parent: self.parent,
+            depth: self.depth,
+            kind: u32::from(section.kind()),
+            header_len: section_header_len(section.extended()) as u32,
+            holds: held_number(section),
+            reserved: 0,
+        }
     }
-    Ok(rows)
 }
 
 // The sections of a file, for C.
@@ -75,7 +65,7 @@ fn reported_sections(alloc: Global, file: &FileView<'_>) -> Result<Vec<FvSection
     ensures { IfOk result (λ v. v.items ≡ map reported_section (section_rows (content_of file.now))) }
 {
     let rows = sections_of(alloc, file)?;
-    reported_rows(alloc, rows.as_slice())
+    translate_all(alloc, rows.as_slice())
 }
 
 // The sections of a file of the volume that the input is, for C; None if it has no file of this

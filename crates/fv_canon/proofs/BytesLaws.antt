@@ -18,7 +18,7 @@ use Rattle.fv_head.specs.ExtImage.{canonical_end, first_edge, payload_with, entr
 use Rattle.fv_head.specs.ExtImage.{ext_len, ext_spelled}
 use Rattle.fv_head.proofs.Laws.{canonical_is}
 use Rattle.fv_canon.specs.StoredFiles.{StoredFile, stored_len, stored_bytes, pad_bytes, pads, long_pad, gap_bytes}
-use Rattle.fv_canon.specs.inner.StoredWalks.{files_bytes, volume_bytes}
+use Rattle.fv_canon.specs.inner.ImageOf.{files_bytes, volume_bytes}
 use Rattle.fv_canon.specs.StoredFiles.{ext_pad, used_size}
 use Rattle.fv_canon.proofs.CellLaws.{Storable, bytes_stored, bytes_pad_head, bytes_erased, bytes_pad}
 use Rattle.fv_canon.proofs.PlacedBytesLaws.{Writable}

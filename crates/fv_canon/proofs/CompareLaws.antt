@@ -12,7 +12,7 @@ use Rattle.fv_tree.specs.Denotes.{Accepted}
 use Rattle.fv_tree.specs.Difference.{Differs, difference}
 use Rattle.fv_tree.specs.Meaning.{Meaning}
 use Rattle.fv_canon.specs.ComparisonLines.{compare_line}
-use Rattle.fv_canon.specs.Comparisons.{Compares, ComparisonStops, ReadsVolume, VolumeStops, RunCompares, SideStopsRun}
+use Rattle.fv_canon.specs.Runs.{Compares, ComparisonStops, ReadsVolume, VolumeStops, RunCompares, SideStopsRun}
 use Rattle.fv_canon.specs.declared.side.Side.{Side}
 use Rattle.fv_canon.specs.declared.side.Side.TheVariants as sides
 
@@ -43,25 +43,6 @@ pub second_refused : (side : Side) (f : Fault) (unread left unread' left' held :
 second_refused side f unread left unread' left' held input other m is reads d read stops =
     subst (λ (s : Side). SideStopsRun s unread left unread' left' held held f) (sym is)
     (Keeps-refl held, (m, (input, reads, d)), inr (other, read, stops))
-
--- ---- two volumes
-
--- the line says whether they have the same meaning
-pub line_says : (m k : Meaning) (found : Differs) (same : Bool) (held holds : Option (List ℕ)) → is_some found ≡ not same
-    → found ≡ difference m k → IfNone found (m ≡ k) → IfSome found (λ d. m ≢ k) → Appends held holds (compare_line found)
-    → Compares m k held holds same
-line_says m k None same held holds none is are differ wrote =
-    ((λ e. are, λ e. yes same none), subst (λ (o : Differs). Appends held holds (compare_line o)) is wrote)
-  where
-    yes : (b : Bool) → false ≡ not b → b ≡ true
-    yes true e = refl
-    yes false e = cc
-line_says m k (Some d) same held holds none is are differ wrote =
-    ((λ e. absurd (never same none e), λ e. absurd (differ e)), subst (λ (o : Differs). Appends held holds (compare_line o)) is wrote)
-  where
-    never : (b : Bool) → true ≡ not b → b ≡ true → ⊥
-    never true e f = cc
-    never false e f = cc
 
 -- ---- after both inputs
 

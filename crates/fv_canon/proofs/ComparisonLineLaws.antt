@@ -6,7 +6,7 @@ use Rattle.std.specs.Prelude.{codes}
 use Rattle.std.proofs.lemmas.List.{take_more, take_all}
 use Rattle.fv_tree.specs.declared.difference.Step.{Step}
 use Rattle.fv_canon.specs.ComparisonLines.{path_text, step_text}
-use Rattle.fv_text.specs.Characters.{line_feed}
+use Rattle.fv_text.specs.HexText.{line_feed}
 
 -- a step is short, since its number is
 pub short_step : (what number : List ℕ) → length what ≤ 8 → length number ≤ 20 → length (what ++ (number ++ codes " ")) ≤ 29

@@ -12,7 +12,7 @@ use Rattle.fv_base.specs.declared.flash.Polarity.{Polarity}
 use Rattle.fv_canon.specs.Starts.{StartsFollow}
 use Rattle.fv_tree.specs.Files.{FileForm, is_marked, same_name, is_twin, NoTwins, replaced_by, current_in, top_name, TopAtEnd}
 use Rattle.fv_canon.specs.StoredFiles.{StoredFile, stored_len}
-use Rattle.fv_canon.specs.inner.StoredWalks.{stored_item}
+use Rattle.fv_canon.specs.inner.ImageOf.{stored_item}
 use Rattle.fv_canon.proofs.StoredTilingLaws.{forms_of}
 use Rattle.fv_base.proofs.Laws.{or_parts}
 use Rattle.fv_tree.proofs.Laws.{same_name_back}

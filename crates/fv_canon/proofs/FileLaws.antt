@@ -14,20 +14,19 @@ use Rattle.fv_tree.specs.Meaning.{FileMeaning, File, file_name_of, attributes_of
 use Rattle.fv_tree.specs.MeaningParts.{files_from, file_kind_of}
 use Rattle.fv_tree.specs.ReadParts.{IsReadFile}
 use Rattle.fv_tree.specs.Denotes.{MeansSection, Stream}
-use Rattle.fv_canon.specs.inner.ImageOf.{stored_of, stored_file, data_of, starts_in}
+use Rattle.fv_canon.specs.inner.ImageOf.{stored_of, stored_file, data_of, starts_in, files_bytes, BeginsWithStarts}
+use Rattle.fv_canon.specs.inner.ImageOf.{ComesTo, TakesFront}
 use Rattle.fv_canon.specs.Layouts.{layout_item}
 use Rattle.fv_canon.specs.Volumes.{volumes_in_files, volumes_in_file}
 use Rattle.fv_canon.specs.StoredFiles.{stored_len, size_for, head_len_for, stored_bytes, gap_bytes}
-use Rattle.fv_canon.specs.inner.StoredWalks.{files_bytes}
 use Rattle.fv_canon.proofs.ItemLaws.{item_at}
 use Rattle.fv_canon.proofs.VolumeListLaws.{item_last, item_passed}
 use Rattle.fv_canon.proofs.WrittenImageLaws.{data_made, stream_made, sections_made}
 use Rattle.fv_canon.proofs.OneImageLaws.{follow_length}
 use Rattle.fv_canon.proofs.StreamLaws.{stream_again}
 use Rattle.fv_canon.proofs.VolumeLaws.{data_again, sections_again}
-use Rattle.fv_canon.specs.inner.Placed.{ArePlaced}
+use Rattle.fv_canon.specs.inner.Depths.{ArePlaced}
 use Rattle.fv_base.specs.Sinks.{WalkLaws}
-use Rattle.fv_canon.specs.inner.ImageWalks.{BeginsWithStarts, ComesTo, TakesFront}
 
 -- ---- a file
 pub file_long : (m : FileMeaning) (starts : List ℕ) → IsReadFile m → BeginsWithStarts (volumes_in_file m) starts

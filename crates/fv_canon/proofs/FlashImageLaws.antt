@@ -280,8 +280,8 @@ renewed_never b places other f found stops (short, places', found', s) =
     let split : places' ≡ stops.before ++ (stops.place ∷ stops.behind) = sym same ∙ stops.split in
     let is = in_middle (IsRenewed b other) stops.before stops.place stops.behind
     (subst (λ (l : List ℕ). AllByRecursion (IsRenewed b other) l) split s.volumes) in
-    let long : is.0 ≡ stops.size = one_length b stops.place is.0 stops.size is.1 stops.volume in
-    refused_never (field stops.place stops.size b) (field stops.place stops.size other) stops.own stops.refused
+    let long : is.0 ≡ stops.refused.0 = one_length b stops.place is.0 stops.refused.0 is.1 stops.refused.1 in
+    refused_never (field stops.place stops.refused.0 b) (field stops.place stops.refused.0 other) stops.refused.2 stops.refused.3
     (subst (λ (k : ℕ). NormalisesTo (field stops.place k b) (field stops.place k other)) long is.2)
 
 -- so where all volumes have images, the only error is out of memory

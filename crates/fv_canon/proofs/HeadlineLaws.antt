@@ -5,7 +5,7 @@ use Rattle.fv_section.specs.Frames.{FrameForm}
 use Rattle.fv_tree.specs.Files.{FileForm}
 use Rattle.fv_tree.specs.Meaning.{Meaning, FileMeaning, File, ContentMeaning, Plain, Sectioned, SectionMeaning, Section, Leaf, Group}
 use Rattle.fv_tree.specs.Meaning.{Nested, sections_list, files_of}
-use Rattle.fv_tree.specs.Denotes.{Sections, Streams, Volumes, Pairwise, StreamOver, SectionOver, VolumeOver, MeansContent, MeansFile}
+use Rattle.fv_tree.specs.Denotes.{SectionRelation, StreamRelation, VolumeRelation, Pairwise, StreamOver, SectionOver, VolumeOver, MeansContent, MeansFile}
 use Rattle.fv_base.specs.Limits.{depth_limit}
 use Rattle.fv_tree.specs.Denotes.{MeansSection, Stream, Denotes, Accepted}
 use Rattle.fv_canon.specs.Image.{IsImage}
@@ -23,26 +23,26 @@ pairs_more p q more [] (y ∷ ys) h = absurd h
 pairs_more p q more (x ∷ xs) [] h = absurd h
 pairs_more p q more (x ∷ xs) (y ∷ ys) h = (more x y h.0, pairs_more p q more xs ys h.1)
 
-stream_more : (p q : Sections) → ((f : FrameForm) (s : SectionMeaning) → p f s → q f s) → (ss : List SectionMeaning) (n : ℕ) (b : List ℕ)
+stream_more : (p q : SectionRelation) → ((f : FrameForm) (s : SectionMeaning) → p f s → q f s) → (ss : List SectionMeaning) (n : ℕ) (b : List ℕ)
     → StreamOver p ss n b → StreamOver q ss n b
 stream_more p q more ss n b (fs, split, pairs) = (fs, split, pairs_more p q more fs ss pairs)
 
-content_more : (p q : Streams) → ((ss : List SectionMeaning) (n : ℕ) (b : List ℕ) → p ss n b → q ss n b)
+content_more : (p q : StreamRelation) → ((ss : List SectionMeaning) (n : ℕ) (b : List ℕ) → p ss n b → q ss n b)
     → (kind : ℕ) (payload : List ℕ) (c : ContentMeaning) → MeansContent p kind payload c → MeansContent q kind payload c
 content_more p q more kind payload (Plain b) h = h
 content_more p q more kind payload (Sectioned ss n) h = (h.0, more (sections_list ss) n payload h.1)
 
-file_more : (p q : Streams) → ((ss : List SectionMeaning) (n : ℕ) (b : List ℕ) → p ss n b → q ss n b) → (f : FileForm) (m : FileMeaning)
+file_more : (p q : StreamRelation) → ((ss : List SectionMeaning) (n : ℕ) (b : List ℕ) → p ss n b → q ss n b) → (f : FileForm) (m : FileMeaning)
     → MeansFile p f m → MeansFile q f m
 file_more p q more f (File name kind attributes content) (a, b, c, d) = (a, b, c, content_more p q more kind f.payload content d)
 
-volume_more : (p q : Streams) → ((ss : List SectionMeaning) (n : ℕ) (b : List ℕ) → p ss n b → q ss n b) → (b : List ℕ) (m : Meaning)
+volume_more : (p q : StreamRelation) → ((ss : List SectionMeaning) (n : ℕ) (b : List ℕ) → p ss n b → q ss n b) → (b : List ℕ) (m : Meaning)
     → VolumeOver p b m → VolumeOver q b m
 volume_more p q more b m d =
     volume_of q b m d.extent d.files d.front d.whole (record { cells = d.cells; tiles = d.tiles; current = d.current })
     (pairs_more (MeansFile p) (MeansFile q) (file_more p q more) d.files (files_of m) d.meanings)
 
-section_more : (p q : Streams) (v w : Volumes) → ((ss : List SectionMeaning) (n : ℕ) (b : List ℕ) → p ss n b → q ss n b)
+section_more : (p q : StreamRelation) (v w : VolumeRelation) → ((ss : List SectionMeaning) (n : ℕ) (b : List ℕ) → p ss n b → q ss n b)
     → ((b : List ℕ) (m : Meaning) → v b m → w b m) → (f : FrameForm) (s : SectionMeaning)
     → SectionOver p v f s → SectionOver q w f s
 section_more p q v w streams volumes f (Section kind extended (Leaf b)) h = h

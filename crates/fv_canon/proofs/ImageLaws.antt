@@ -7,7 +7,7 @@ use Rattle.fv_tree.specs.Meaning.{Meaning, head_of}
 use Rattle.fv_canon.specs.Image.{IsImage}
 use Rattle.fv_canon.specs.inner.ImageOf.{image_of}
 use Rattle.fv_canon.specs.Layouts.{Fits}
-use Rattle.fv_canon.specs.LeastStarts.{LaysVolume}
+use Rattle.fv_canon.specs.LayoutForms.{LaysVolume}
 use Rattle.fv_canon.specs.Headline.{MeanSame, NormalisesTo, WhatFitsHasAnImage}
 use Rattle.fv_canon.proofs.FitLaws.{fits_laid}
 use Rattle.fv_canon.proofs.WrittenImageLaws.{image_made}

@@ -9,8 +9,7 @@ use Rattle.fv_base.specs.declared.fault.Fault.{Fault}
 use Rattle.fv_base.specs.declared.fault.FaultKind.{FaultKind}
 use Rattle.fv_base.specs.declared.fault.FaultKind.TheVariants as kinds
 use Rattle.fv_base.specs.Limits.{depth_limit}
-use Rattle.fv_head.specs.Head.{HeadFields, BeginsVolume}
-use Rattle.fv_head.specs.declared.extent.Extent.{Extent}
+use Rattle.fv_head.specs.HeadChecks.{BeginsWithHeader}
 use Rattle.fv_tree.specs.Denotes.{Accepted, Denotes}
 use Rattle.fv_tree.specs.FirstFault.{FaultStands, IsFirstOfVolume}
 use Rattle.fv_tree.specs.Meaning.{Meaning, length_of}
@@ -111,9 +110,9 @@ not_read b f (inl want) = inl want
 not_read b f (inr bad) = inr (inl bad)
 
 -- memory runs out only where the input begins with the header of a volume
-pub ran_out : {P : Type 0} (b : List ℕ) (f : Fault) → (f ≡ out_of_memory) ⊎ P
-    → (f ≡ out_of_memory → (h : HeadFields) × (e : Extent) × BeginsVolume h e b) → MemoryRanOut b f ⊎ P
-ran_out b f (inl want) front = let (h, e, begins) = front want in inl (want, h, e, begins)
+pub ran_out : {P : Type 0} (b : List ℕ) (f : Fault) → (f ≡ out_of_memory) ⊎ P → (f ≡ out_of_memory → BeginsWithHeader b)
+    → MemoryRanOut b f ⊎ P
+ran_out b f (inl want) front = inl (want, front want)
 ran_out b f (inr why) front = inr why
 
 -- ---- the kinds of faults
@@ -155,10 +154,6 @@ pub only_what_does_not_fit_is_refused : OnlyWhatDoesNotFitIsRefused
 only_what_does_not_fit_is_refused b f (inl bad) = (λ layout. absurd (first_kind b f bad.first layout), λ other. bad.none)
 only_what_does_not_fit_is_refused b f (inr (m, d, unfit)) =
     (λ layout. (m, d, unfit_none m 0 f unfit), λ other. absurd (other (unfit_is m 0 f unfit)))
-
-pub unfit_refused : (b : List ℕ) (f : Fault) → (f ≡ out_of_memory) ⊎ Refuses b f → IsOfLayout f.kind → IsUnfit b
-unfit_refused b f (inl want) layout = absurd (not_layout f.kind layout (ap (λ (g : Fault). g.kind) want))
-unfit_refused b f (inr why) layout = (only_what_does_not_fit_is_refused b f why).0 layout
 
 pub unread_refused : (b : List ℕ) (f : Fault) → (f ≡ out_of_memory) ⊎ Refuses b f → f ≢ out_of_memory → (IsOfLayout f.kind → ⊥)
     → IsNoVolume b

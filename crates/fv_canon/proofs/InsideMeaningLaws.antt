@@ -10,7 +10,7 @@ use Rattle.fv_tree.specs.Files.{FileForm}
 use Rattle.fv_tree.specs.Meaning.{Meaning, Volume, FileMeanings, NoFiles, MoreFiles, FileMeaning, File, ContentMeaning, Plain, Sectioned}
 use Rattle.fv_tree.specs.Meaning.{SectionMeanings, NoSections, MoreSections, SectionMeaning, Section, Leaf, Group, Nested, files_list}
 use Rattle.fv_tree.specs.Meaning.{sections_list}
-use Rattle.fv_tree.specs.Denotes.{Sections, Streams, Volumes, Pairwise, StreamOver, SectionOver, VolumeOver, MeansContent, MeansFile}
+use Rattle.fv_tree.specs.Denotes.{SectionRelation, StreamRelation, VolumeRelation, Pairwise, StreamOver, SectionOver, VolumeOver, MeansContent, MeansFile}
 use Rattle.fv_tree.specs.Denotes.{MeansSection, Stream, IsMeaning}
 use Rattle.fv_canon.specs.Volumes.{Inside, volumes_in, volumes_in_files, volumes_in_file, volumes_in_content, volumes_in_sections}
 use Rattle.fv_canon.specs.Volumes.{volumes_in_section}
@@ -22,20 +22,20 @@ abbrev AllMeant : List Inside → Type 0
 AllMeant vs = AllByRecursion (λ v. IsMeaning v.volume) vs
 
 -- ---- what is to be shown of what lies inside
-abbrev SectionsMeant : Sections → Type 0
+abbrev SectionsMeant : SectionRelation → Type 0
 SectionsMeant p = (f : FrameForm) (s : SectionMeaning) → IsBytes f.body → p f s → AllMeant (volumes_in_section s)
 
-abbrev StreamsMeant : Streams → Type 0
+abbrev StreamsMeant : StreamRelation → Type 0
 StreamsMeant p = (ss : SectionMeanings) (t : ℕ) (b : List ℕ) → IsBytes b → p (sections_list ss) t b → AllMeant (volumes_in_sections ss)
 
-abbrev VolumesMeant : Volumes → Type 0
+abbrev VolumesMeant : VolumeRelation → Type 0
 VolumesMeant p = (b : List ℕ) (m : Meaning) → IsBytes b → p b m → AllMeant (volumes_in m)
 
 both : (vs ws : List Inside) → AllMeant vs → AllMeant ws → AllMeant (vs ++ ws)
 both vs ws p q = each_joined (λ v. IsMeaning v.volume) vs ws p q
 
 -- ---- part by part
-frames_meant : (p : Sections) → SectionsMeant p → (at : ℕ) (ss : SectionMeanings) (fs : List FrameForm) (tail : ℕ) (b : List ℕ) → IsBytes b
+frames_meant : (p : SectionRelation) → SectionsMeant p → (at : ℕ) (ss : SectionMeanings) (fs : List FrameForm) (tail : ℕ) (b : List ℕ) → IsBytes b
     → SplitsFrom at fs tail b → Pairwise p fs (sections_list ss) → AllMeant (volumes_in_sections ss)
 frames_meant p meant at NoSections fs tail b small is pairs = tt
 frames_meant p meant at (MoreSections s ss) [] tail b small is pairs = absurd pairs
@@ -47,19 +47,19 @@ frames_meant p meant at (MoreSections s ss) (f ∷ g ∷ fs) tail b small (fille
     both (volumes_in_section s) (volumes_in_sections ss) (meant f s items.0 pairs.0)
     (frames_meant p meant (up_to_4 (at + frame_len f)) ss (g ∷ fs) tail rest (bytes_back filler rest items.1) later pairs.1)
 
-stream_meant : (p : Sections) → SectionsMeant p → StreamsMeant (StreamOver p)
+stream_meant : (p : SectionRelation) → SectionsMeant p → StreamsMeant (StreamOver p)
 stream_meant p meant ss t b small (fs, split, pairs) = frames_meant p meant 0 ss fs t b small split pairs
 
-content_meant : (p : Streams) → StreamsMeant p → (kind : ℕ) (payload : List ℕ) (c : ContentMeaning) → IsBytes payload
+content_meant : (p : StreamRelation) → StreamsMeant p → (kind : ℕ) (payload : List ℕ) (c : ContentMeaning) → IsBytes payload
     → MeansContent p kind payload c → AllMeant (volumes_in_content c)
 content_meant p meant kind payload (Plain b) small h = tt
 content_meant p meant kind payload (Sectioned ss t) small h = meant ss t payload small h.1
 
-file_meant : (p : Streams) → StreamsMeant p → (f : FileForm) (m : FileMeaning) → IsBytes f.payload → MeansFile p f m
+file_meant : (p : StreamRelation) → StreamsMeant p → (f : FileForm) (m : FileMeaning) → IsBytes f.payload → MeansFile p f m
     → AllMeant (volumes_in_file m)
 file_meant p meant f (File name kind attributes content) small (a, b, c, d) = content_meant p meant kind f.payload content small d
 
-files_meant : (p : Streams) → StreamsMeant p → (system : FileSystem) (limit : ℕ) (fs : List FileForm) (ms : FileMeanings)
+files_meant : (p : StreamRelation) → StreamsMeant p → (system : FileSystem) (limit : ℕ) (fs : List FileForm) (ms : FileMeanings)
     → AllByRecursion (FileIsAccepted system limit) fs → Pairwise (MeansFile p) fs (files_list ms) → AllMeant (volumes_in_files ms)
 files_meant p meant system limit fs NoFiles reads pairs = tt
 files_meant p meant system limit [] (MoreFiles m ms) reads pairs = absurd pairs
@@ -74,7 +74,7 @@ volume_meant n few meant b (Volume h files) small d = (
       (files_read (Stream n) h files b small d) d.meanings,
 )
 
-section_meant : (p : Streams) (v : Volumes) → StreamsMeant p → VolumesMeant v → SectionsMeant (SectionOver p v)
+section_meant : (p : StreamRelation) (v : VolumeRelation) → StreamsMeant p → VolumesMeant v → SectionsMeant (SectionOver p v)
 section_meant p v streams volumes f (Section k e (Leaf b)) small h = tt
 section_meant p v streams volumes f (Section k e (Group ss t)) small h =
     each_deeper IsMeaning (volumes_in_sections ss) (streams ss t f.body small h.2.1)

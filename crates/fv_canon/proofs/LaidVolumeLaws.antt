@@ -19,10 +19,8 @@ use Rattle.fv_tree.proofs.Laws.{at_within, want_known}
 use Rattle.fv_canon.specs.Image.{IsImage}
 use Rattle.fv_canon.specs.Headline.{NormalisesTo}
 use Rattle.fv_canon.specs.Refusals.{Refuses}
-use Rattle.fv_canon.specs.FlashImages.{FirstRefused, HasImageAt, NormalisesAll}
+use Rattle.fv_canon.specs.FlashImages.{FirstRefused, HasImageAt, NormalisesAll, RefusedAt, AreLaid, IsLaid, IsLaidOut, starts_of}
 use Rattle.fv_canon.specs.inner.ImageOf.{image_of}
-use Rattle.fv_canon.specs.inner.RefusedVolumes.{RefusedAt}
-use Rattle.fv_canon.specs.LaidVolumes.{AreLaid, IsLaid, IsLaidOut, starts_of}
 use Rattle.fv_canon.specs.declared.flash_image.LaidVolume.{LaidVolume}
 use Rattle.fv_canon.proofs.FlashImageLaws.{Puts, next_of, puts_all, puts_more, puts_none}
 use Rattle.fv_canon.proofs.ImageLaws.{image_is}
@@ -83,17 +81,13 @@ laid_images b (v ∷ vs) (h, all) = (has_image b v h, laid_images b vs all)
 pub lays_stop : (b places : List ℕ) (i : ℕ) (volumes : List LaidVolume) (f : Fault) → LaysFirst b places i volumes → i < length places
     → (f ≡ out_of_memory) ⊎ RefusedAt b (get_or places i 0) f → (f ≡ out_of_memory) ⊎ FirstRefused b places f
 lays_stop b places i volumes f lays less (inl want) = inl want
-lays_stop b places i volumes f (same, all) less (inr (n, volume, own, refused, is)) = inr (record {
+lays_stop b places i volumes f (same, all) less (inr refused) = inr (record {
   before = take i places;
   place = get_or places i 0;
   behind = drop (i + 1) places;
   split = sym (take-append-drop i places) ∙ ap (λ (l : List ℕ). take i places ++ l) (drop_more places i 0 less);
   images = subst (AllByRecursion (HasImageAt b)) same (laid_images b volumes all);
-  size = n;
-  volume = volume;
-  own = own;
   refused = refused;
-  moved_is = is;
 })
 
 -- all are laid out

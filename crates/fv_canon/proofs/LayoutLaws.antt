@@ -5,9 +5,8 @@ use Rattle.fv_tree.proofs.Laws.{files_list_back}
 use Rattle.fv_tree.specs.Meaning.{Meaning, Volume, FileMeaning, files_list, files_of, head_of}
 use Rattle.fv_tree.specs.MeaningParts.{files_from}
 use Rattle.fv_canon.specs.Layouts.{AreStarts, layout_items}
-use Rattle.fv_canon.specs.LeastStarts.{Laid, LaysVolume}
-use Rattle.fv_canon.specs.inner.LayoutWalks.{Grew}
-use Rattle.fv_canon.specs.LayoutForms.{Places, IsLayout}
+use Rattle.fv_canon.specs.LayoutForms.{Laid, LaysVolume, Places, IsLayout}
+use Rattle.fv_canon.specs.inner.Depths.{Grew}
 use Rattle.fv_canon.specs.Volumes.{Inside, volumes_in}
 use Rattle.fv_canon.proofs.OneImageLaws.{starts_one}
 use Rattle.fv_canon.proofs.VolumeListLaws.{laid_count, own_count}

@@ -13,11 +13,10 @@ use Rattle.fv_tree.specs.Files.{FileForm}
 use Rattle.fv_tree.specs.Meaning.{Meaning, Volume, head_of, FileMeanings, NoFiles, MoreFiles, files_of, FileMeaning}
 use Rattle.fv_tree.specs.MeaningParts.{files_from, sections_from, body_of}
 use Rattle.fv_tree.specs.Meaning.{SectionMeanings, SectionMeaning, Group, Nested}
-use Rattle.fv_canon.specs.inner.DataBodies.{data_body}
-use Rattle.fv_canon.specs.inner.ImageOf.{starts_in}
-use Rattle.fv_canon.specs.inner.Depths.{NestsVolume, NestsFiles, NestsSections, NestsBody}
+use Rattle.fv_canon.specs.inner.ImageOf.{data_body, starts_in}
+use Rattle.fv_canon.specs.inner.Depths.{NestsVolume, NestsFiles, NestsSections, NestsBody, Grew, Shallow}
 use Rattle.fv_canon.specs.Layouts.{AreStarts}
-use Rattle.fv_canon.specs.LeastStarts.{Laid}
+use Rattle.fv_canon.specs.LayoutForms.{Laid}
 use Rattle.fv_canon.specs.LayoutFaults.{FirstUnfit, Unfit}
 use Rattle.fv_canon.specs.Volumes.{Inside, volumes_in, volumes_in_files, volumes_in_file, volumes_in_sections, volumes_in_section}
 use Rattle.fv_canon.specs.Volumes.{volumes_in_body}
@@ -25,7 +24,6 @@ use Rattle.fv_canon.proofs.DataBodyLaws.{data_nests, data_volumes}
 use Rattle.fv_canon.proofs.DepthLaws.{nests_files, nests_body, nests_group, nests_nested}
 use Rattle.fv_canon.proofs.ItemLaws.{item_has}
 use Rattle.fv_canon.proofs.VolumeListLaws.{count_deeper, in_section, item_count, item_grew, item_unfit, laid_deeper, unfit_deeper}
-use Rattle.fv_canon.specs.inner.LayoutWalks.{Grew, Shallow}
 
 -- ---- sections
 

@@ -6,17 +6,15 @@ use Rattle.std.specs.Io.KnownBytes.{Appends}
 use Rattle.std.proofs.KnownBytes.{Keeps-refl}
 use Rattle.std.proofs.lemmas.Result.{on_ok_weaker, IfErr-weaker}
 use Rattle.fv_base.specs.Faults.{out_of_memory}
-use Rattle.fv_base.specs.Input.{ReadsWhole}
+use Rattle.fv_base.specs.Input.{ReadsWhole, WriteStops}
 use Rattle.fv_base.specs.declared.fault.Fault.{Fault}
 use Rattle.fv_base.specs.declared.fault.FaultKind.TheVariants as kinds
-use Rattle.fv_head.specs.Head.{HeadFields, BeginsVolume}
-use Rattle.fv_head.specs.declared.extent.Extent.{Extent}
+use Rattle.fv_head.specs.HeadChecks.{BeginsWithHeader}
 use Rattle.fv_tree.specs.Denotes.{Accepted}
 use Rattle.fv_tree.specs.Meaning.{Meaning}
 use Rattle.fv_canon.specs.Image.{IsImage}
-use Rattle.fv_base.specs.Output.{WriteStops}
 use Rattle.fv_canon.specs.Refusals.{Refuses}
-use Rattle.fv_canon.specs.NormaliseRuns.{InputWrites, InputStops, RunStops}
+use Rattle.fv_canon.specs.Runs.{InputWrites, InputStops, RunStops}
 use Rattle.fv_canon.proofs.InputLaws.{ran_out}
 
 -- the image of the meaning was written
@@ -31,7 +29,7 @@ writer_stops input m held holds r d stops = IfErr-weaker r _ (InputStops input h
 
 -- nothing was written, since the input is rejected or memory ran out
 pub refused_stops : (input : List ℕ) (held : Option (List ℕ)) (f : Fault) → (f ≡ out_of_memory) ⊎ Refuses input f
-    → (f ≡ out_of_memory → (h : HeadFields) × (e : Extent) × BeginsVolume h e input) → InputStops input held held f
+    → (f ≡ out_of_memory → BeginsWithHeader input) → InputStops input held held f
 refused_stops input held f why front = inl (Keeps-refl held, ran_out input f why front)
 
 -- a run stopped after its input

@@ -8,7 +8,7 @@ use Rattle.fv_tree.specs.Denotes.{IsMeaning}
 use Rattle.fv_tree.specs.Meaning.{Meaning}
 use Rattle.fv_canon.specs.Image.{IsImage}
 use Rattle.fv_canon.specs.inner.ImageOf.{image_of}
-use Rattle.fv_canon.specs.LeastStarts.{LaysVolume}
+use Rattle.fv_canon.specs.LayoutForms.{LaysVolume}
 use Rattle.fv_canon.specs.LayoutFaults.{Unfit}
 use Rattle.fv_canon.proofs.FitLaws.{unfit_none}
 use Rattle.fv_canon.proofs.ImageFits.{image_fits}

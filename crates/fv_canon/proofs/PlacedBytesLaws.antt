@@ -20,7 +20,7 @@ use Rattle.fv_canon.specs.Starts.{StartsFollow}
 use Rattle.fv_canon.specs.PlacedBytes.{PlacedBytes, ShowsPlaced}
 use Rattle.fv_canon.specs.ImageLaws.{painted, InOrder}
 use Rattle.fv_canon.specs.StoredFiles.{StoredFile, stored_len, stored_bytes, gap_bytes, placed_files, ext_pad, placed_in_volume, used_size}
-use Rattle.fv_canon.specs.inner.StoredWalks.{stored_item, files_bytes, volume_bytes}
+use Rattle.fv_canon.specs.inner.ImageOf.{stored_item, files_bytes, volume_bytes}
 use Rattle.fv_canon.proofs.CellLaws.{Storable, length-stored, length-pad_head}
 use Rattle.fv_canon.proofs.PositionLaws.{shows_walk, one_image}
 use Rattle.fv_canon.proofs.StoredTilingLaws.{apart, filler_is, length-gap}

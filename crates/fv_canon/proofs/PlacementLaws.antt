@@ -11,7 +11,7 @@ use Rattle.std.proofs.lemmas.List.{drop_more, drop_all}
 use Rattle.fv_canon.specs.declared.first_placement.LayoutItem.{LayoutItem}
 use Rattle.fv_canon.specs.declared.reach.Reach.{Reach}
 use Rattle.fv_canon.specs.Starts.{Lawful, StartsFollow, Placement, IsFirstPlacement}
-use Rattle.fv_canon.specs.LeastStarts.{IsLeast}
+use Rattle.fv_canon.specs.LayoutForms.{IsLeast}
 use Rattle.fv_canon.specs.inner.Reaches.{IsBound, IsFirstStart}
 use Rattle.fv_canon.proofs.ReachLaws.{begins, stands}
 

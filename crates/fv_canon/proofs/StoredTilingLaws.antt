@@ -21,7 +21,7 @@ use Rattle.fv_canon.specs.Starts.{StartsFollow}
 use Rattle.fv_tree.specs.Files.{FileForm, files_in}
 use Rattle.fv_canon.specs.Headline.{DataAligned}
 use Rattle.fv_canon.specs.StoredFiles.{StoredFile, stored_len, stored_bytes, pad_bytes, long_pad, gap_bytes}
-use Rattle.fv_canon.specs.inner.StoredWalks.{stored_item, files_bytes}
+use Rattle.fv_canon.specs.inner.ImageOf.{stored_item, files_bytes}
 use Rattle.fv_canon.proofs.PadLaws.{gap_none, gap_has}
 use Rattle.fv_canon.proofs.CellLaws.{Storable, stored_head, file_cell, length-stored, pad_cell, length-pad}
 

@@ -10,7 +10,7 @@ use Rattle.fv_section.specs.SectionImage.{section_head_of, stream_of}
 use Rattle.fv_section.proofs.Laws.{begun_bytes, fits, length_begun, streams_are_read}
 use Rattle.fv_tree.specs.Meaning.{Meaning, SectionMeanings, NoSections, MoreSections, SectionMeaning, Section, Leaf, Group, Nested}
 use Rattle.fv_tree.specs.Meaning.{sections_list, sections_end, section_len, length_of}
-use Rattle.fv_tree.specs.Denotes.{Sections, Streams, Volumes, Pairwise, StreamOver, SectionOver, Opens}
+use Rattle.fv_tree.specs.Denotes.{SectionRelation, StreamRelation, VolumeRelation, Pairwise, StreamOver, SectionOver, Opens}
 use Rattle.fv_canon.specs.Image.{IsImage, AreFrames, IsFrame}
 
 -- the type of a section that was read is a byte, and then a header of this type is bytes
@@ -34,7 +34,7 @@ bytes_begun g kind rest same l body behind =
 -- ---- what is to be shown of what lies inside
 
 -- a frame that was read as a section, and the frame that is written for it
-pub record FrameAgain (is_section : Sections) (s : SectionMeaning) (f g : FrameForm) : Type 0 where
+pub record FrameAgain (is_section : SectionRelation) (s : SectionMeaning) (f g : FrameForm) : Type 0 where
   pub is : is_section g s
   pub bytes : IsBytes g.body
   pub kind : g.kind ≡ f.kind
@@ -42,33 +42,33 @@ pub record FrameAgain (is_section : Sections) (s : SectionMeaning) (f g : FrameF
   pub long : length g.body ≡ length f.body
   pub len : frame_len f ≡ section_len s
 
-abbrev pub SectionsAgain : Sections → Type 0
+abbrev pub SectionsAgain : SectionRelation → Type 0
 SectionsAgain is_section = (s : SectionMeaning) (f g : FrameForm) → IsBytes f.body → is_section f s → IsFrame s g
     → FrameAgain is_section s f g
 
-pub record StreamAgain (is_stream : Streams) (ss : SectionMeanings) (tail : ℕ) (b o : List ℕ) : Type 0 where
+pub record StreamAgain (is_stream : StreamRelation) (ss : SectionMeanings) (tail : ℕ) (b o : List ℕ) : Type 0 where
   pub is : is_stream (sections_list ss) tail o
   pub bytes : IsBytes o
   pub long : length o ≡ length b
   pub len : length b ≡ sections_end 0 ss + tail
 
-abbrev pub StreamsAgain : Streams → Type 0
+abbrev pub StreamsAgain : StreamRelation → Type 0
 StreamsAgain is_stream = (ss : SectionMeanings) (tail : ℕ) (b o : List ℕ) → IsBytes b → is_stream (sections_list ss) tail b
     → ((frames : List FrameForm) × AreFrames 0 ss frames × (o ≡ stream_of frames tail)) → StreamAgain is_stream ss tail b o
 
-pub record VolumeAgain (is_volume : Volumes) (m : Meaning) (b o : List ℕ) : Type 0 where
+pub record VolumeAgain (is_volume : VolumeRelation) (m : Meaning) (b o : List ℕ) : Type 0 where
   pub is : is_volume o m
   pub bytes : IsBytes o
   pub long : length o ≡ length b
   pub len : length b ≡ length_of m
   pub opens : Opens o
 
-abbrev pub VolumesAgain : Volumes → Type 0
+abbrev pub VolumesAgain : VolumeRelation → Type 0
 VolumesAgain is_volume = (m : Meaning) (b o : List ℕ) → IsBytes b → is_volume b m → IsImage m o → VolumeAgain is_volume m b o
 
 -- ---- frame by frame
 
-record FramesAgain (is_section : Sections) (at end : ℕ) (ss : SectionMeanings) (gs : List FrameForm) (tail : ℕ) (b : List ℕ) : Type 0 where
+record FramesAgain (is_section : SectionRelation) (at end : ℕ) (ss : SectionMeanings) (gs : List FrameForm) (tail : ℕ) (b : List ℕ) : Type 0 where
   pub placed : InPlace at gs tail
   pub pairs : Pairwise is_section gs (sections_list ss)
   pub bytes : IsBytes (stream_of gs tail)
@@ -79,7 +79,7 @@ head_long : (kind : ℕ) (extended : Bool) (n : ℕ) → length (section_head_of
 head_long kind false n = refl
 head_long kind true n = refl
 
-none_again : (is_section : Sections) (at end tail : ℕ) (b : List ℕ) → at % 4 ≡ 0 → up_to_4 end ≡ at → at ≡ end → b ≡ [] → tail ≡ 0
+none_again : (is_section : SectionRelation) (at end tail : ℕ) (b : List ℕ) → at % 4 ≡ 0 → up_to_4 end ≡ at → at ≡ end → b ≡ [] → tail ≡ 0
     → FramesAgain is_section at end NoSections [] tail b
 none_again is_section at end tail b m e z none count = record {
   placed = count;
@@ -92,7 +92,7 @@ none_again is_section at end tail b m e z none count = record {
     joined : (a e n t : ℕ) → a ≡ e → n ≡ 0 → t ≡ 0 → a + n ≡ e + t
     joined a e n t p q r = omega arith
 
-last_again : (is_section : Sections) → SectionsAgain is_section
+last_again : (is_section : SectionRelation) → SectionsAgain is_section
     → (at end : ℕ) (s : SectionMeaning) (f g : FrameForm) (tail : ℕ) (b : List ℕ) → IsBytes b → up_to_4 end ≡ at
     → SplitsFrom at (f ∷ []) tail b → is_section f s → (g.offset ≡ at) → IsFrame s g
     → FramesAgain is_section at end (MoreSections s NoSections) (g ∷ []) tail b
@@ -128,7 +128,7 @@ last_again is_section again at end s f g tail b small e (rest, begun, offset, co
     ended : (at end up n sf sl rest tail : ℕ) → n ≡ sf + rest → rest ≡ tail → up ≡ at → sf ≡ sl → at + n ≡ (up + sl) + tail
     ended at end up n sf sl rest tail p q r l = omega arith
 
-more_again : (is_section : Sections) → SectionsAgain is_section → (at end : ℕ) (s t : SectionMeaning) (ss : SectionMeanings)
+more_again : (is_section : SectionRelation) → SectionsAgain is_section → (at end : ℕ) (s t : SectionMeaning) (ss : SectionMeanings)
     (f h : FrameForm) (fs : List FrameForm) (g k : FrameForm) (gs : List FrameForm) (tail : ℕ) (b filler rest : List ℕ)
     → IsBytes b → at % 4 ≡ 0 → up_to_4 end ≡ at → BeginsFrame f b (filler ++ rest) → f.offset ≡ at
     → at + frame_len f + length filler ≡ up_to_4 (at + frame_len f)
@@ -186,7 +186,7 @@ next_end at end sf s sg e l k = rw (e, k, l)
 no_cons : {A : Type 0} (x : A) (xs : List A) → x ∷ xs ≡ [] → ⊥
 no_cons x xs e = cc
 
-frames_again : (is_section : Sections) → SectionsAgain is_section
+frames_again : (is_section : SectionRelation) → SectionsAgain is_section
     → (at end : ℕ) (ss : SectionMeanings) (fs gs : List FrameForm) (tail : ℕ) (b : List ℕ) → IsBytes b → at % 4 ≡ 0 → up_to_4 end ≡ at
     → (fs ≡ [] → at ≡ end) → SplitsFrom at fs tail b → Pairwise is_section fs (sections_list ss) → AreFrames at ss gs
     → FramesAgain is_section at end ss gs tail b
@@ -211,7 +211,7 @@ frames_again is_section again at end (MoreSections s (MoreSections t ss)) (f ∷
     (λ none. absurd (no_cons h fs none)) (subst (λ (n : ℕ). SplitsFrom (up_to_4 (at + n)) (h ∷ fs) tail rest) (sym same) more) p.1 q.2)
 
 -- a stream is read again
-pub stream_again : (is_section : Sections) → SectionsAgain is_section → StreamsAgain (StreamOver is_section)
+pub stream_again : (is_section : SectionRelation) → SectionsAgain is_section → StreamsAgain (StreamOver is_section)
 stream_again is_section again ss tail b o small (fs, split, pairs) (gs, frames, text) =
     let r = frames_again is_section again 0 0 ss fs gs tail b small refl refl (λ none. refl) split pairs frames in
     record {
@@ -225,7 +225,7 @@ stream_again is_section again ss tail b o small (fs, split, pairs) (gs, frames, 
     zero_off n k e = omega arith
 
 -- a section is read again
-pub section_again : (is_stream : Streams) (is_volume : Volumes) → StreamsAgain is_stream → VolumesAgain is_volume
+pub section_again : (is_stream : StreamRelation) (is_volume : VolumeRelation) → StreamsAgain is_stream → VolumesAgain is_volume
     → SectionsAgain (SectionOver is_stream is_volume)
 section_again is_stream is_volume streams volumes (Section kind extended (Leaf body)) f g small
     (k, e, (not_group, not_volume, same)) (gk, ge, image) =

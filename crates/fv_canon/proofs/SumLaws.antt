@@ -9,7 +9,7 @@ use Rattle.fv_file.specs.Attributes.{is_summed}
 use Rattle.fv_file.specs.NewHeaders.{file_sum_for, complement, header_with, header_bytes, needs_large, with_large, state_byte}
 use Rattle.fv_file.specs.Files.{fixed_checksum}
 use Rattle.fv_canon.specs.StoredFiles.{StoredFile, stored_bytes, head_len_for}
-use Rattle.fv_canon.specs.inner.StoredWalks.{file_adds}
+use Rattle.fv_canon.specs.inner.ImageOf.{file_adds}
 
 -- the sum of a header is that of the same with its two sums and State taken as zero, and these
 header_sum : (c file_sum : ℕ) (name : List ℕ) (kind attributes size : ℕ) (large : Bool) (state : ℕ)

@@ -26,7 +26,7 @@ use Rattle.fv_tree.specs.Denotes.{MeansSection, Stream}
 use Rattle.fv_tree.specs.Meaning.{Volume}
 use Rattle.fv_canon.specs.Headline.{CellSums, SumsAreRight}
 use Rattle.fv_canon.specs.StoredFiles.{ext_pad, used_size}
-use Rattle.fv_canon.specs.inner.StoredWalks.{files_bytes}
+use Rattle.fv_canon.specs.inner.ImageOf.{files_bytes}
 use Rattle.fv_canon.proofs.CellLaws.{bytes_pad_head, length-pad_head}
 use Rattle.fv_canon.proofs.PlacedBytesLaws.{first_is, volume_shows}
 use Rattle.fv_canon.proofs.StoredTilingLaws.{PadFixed, body_tiles}

@@ -41,12 +41,12 @@ use Rattle.fv_tree.specs.Files.{FileForm, files_in, NoTwins, current_in, top_nam
 use Rattle.fv_tree.specs.Meaning.{Meaning, Volume, FileMeanings, NoFiles, MoreFiles, FileMeaning, File, ContentMeaning, Plain, Sectioned}
 use Rattle.fv_tree.specs.LocatedFiles.{StandIn}
 use Rattle.fv_tree.specs.Meaning.{files_list, files_of, head_of, content_len}
-use Rattle.fv_tree.specs.Denotes.{Streams, Pairwise, MeansContent, MeansFile, StreamOver, VolumeOver, Opens, MeansSection, Stream, Denotes}
+use Rattle.fv_tree.specs.Denotes.{StreamRelation, Pairwise, MeansContent, MeansFile, StreamOver, VolumeOver, Opens, MeansSection, Stream, Denotes}
 use Rattle.fv_canon.specs.Image.{IsImage, AreStored, IsStored, IsData}
 use Rattle.fv_canon.specs.Layouts.{AreStarts, layout_item}
 use Rattle.fv_canon.specs.PlacedBytes.{ShowsPlaced}
 use Rattle.fv_canon.specs.StoredFiles.{StoredFile, size_for, head_len_for, ext_pad, placed_in_volume, used_size}
-use Rattle.fv_canon.specs.inner.StoredWalks.{stored_item, files_bytes, volume_bytes}
+use Rattle.fv_canon.specs.inner.ImageOf.{stored_item, files_bytes, volume_bytes}
 use Rattle.fv_canon.proofs.CurrentLaws.{names_in, names_of, NamesApart, current_apart, all_current, forms_unmarked, no_twins, TopLast}
 use Rattle.fv_canon.proofs.CurrentLaws.{top_last, forms_top, form_names}
 use Rattle.fv_canon.proofs.CellLaws.{Storable, stored_head, length-pad_head}
@@ -59,20 +59,20 @@ use Rattle.fv_canon.proofs.StoredTilingLaws.{forms_of, Tiled, body_tiles}
 -- ---- 1. a file
 
 -- what the canonical image keeps of a file, as it is stored in it
-record FileAgain (is_stream : Streams) (system : FileSystem) (m : FileMeaning) (f : FileForm) (x : StoredFile) : Type 0 where
+record FileAgain (is_stream : StreamRelation) (system : FileSystem) (m : FileMeaning) (f : FileForm) (x : StoredFile) : Type 0 where
   pub storable : Storable system x
   pub part : stored_item x ≡ layout_item m
   pub name : bytes_of x.name ≡ bytes_of f.head.name
   pub form : (p : Polarity) (at : ℕ) → MeansFile is_stream (record { offset = at; head = stored_head p x; payload = x.payload }) m
 
 -- data that were read as this content, and those that are written for it
-pub record DataAgain (is_stream : Streams) (kind : ℕ) (content : ContentMeaning) (payload d : List ℕ) : Type 0 where
+pub record DataAgain (is_stream : StreamRelation) (kind : ℕ) (content : ContentMeaning) (payload d : List ℕ) : Type 0 where
   pub is : MeansContent is_stream kind d content
   pub bytes : IsBytes d
   pub long : length d ≡ length payload
   pub len : length d ≡ content_len content
 
-pub data_again : (is_stream : Streams) → StreamsAgain is_stream → (kind : ℕ) (content : ContentMeaning) (payload d : List ℕ)
+pub data_again : (is_stream : StreamRelation) → StreamsAgain is_stream → (kind : ℕ) (content : ContentMeaning) (payload d : List ℕ)
     → IsBytes payload → MeansContent is_stream kind payload content → IsData content d
     → DataAgain is_stream kind content payload d
 data_again is_stream streams kind (Plain b) payload d small (plain, same) image = record {
@@ -111,7 +111,7 @@ same_part : (n k a b : ℕ) (g h : Guid) → n ≡ k → a ≡ b → g ≡ h →
     made ≡ record { header = head_len_for k; size = size_for k; alignment = alignment_of b; top = bytes_eq (bytes_of h) top_name }
 same_part n k a b g h p q r = rw (p, q, r) refl
 
-file_again : (is_stream : Streams) → StreamsAgain is_stream → (system : FileSystem) (limit : ℕ) (m : FileMeaning) (f : FileForm)
+file_again : (is_stream : StreamRelation) → StreamsAgain is_stream → (system : FileSystem) (limit : ℕ) (m : FileMeaning) (f : FileForm)
     (x : StoredFile) → limit ≤ 24 + data_limit → FileIsAccepted system limit f → MeansFile is_stream f m → IsStored m x
     → FileAgain is_stream system m f x
 file_again is_stream streams system limit (File name kind attributes content) f x most r (named, kinds, bits, is) (xn, xk, xa, image) =
@@ -148,7 +148,7 @@ file_again is_stream streams system limit (File name kind attributes content) f 
 
 -- ---- 2. file by file
 
-pub record FilesAgain (is_stream : Streams) (system : FileSystem) (files : FileMeanings) (forms : List FileForm)
+pub record FilesAgain (is_stream : StreamRelation) (system : FileSystem) (files : FileMeanings) (forms : List FileForm)
     (stored : List StoredFile) : Type 0 where
   pub storable : AllByRecursion (Storable system) stored
   pub items : map stored_item stored ≡ map layout_item (files_list files)
@@ -159,7 +159,7 @@ pub record FilesAgain (is_stream : Streams) (system : FileSystem) (files : FileM
 no_file : {A : Type 0} (x : A) (xs : List A) → x ∷ xs ≡ [] → ⊥
 no_file x xs e = cc
 
-files_again : (is_stream : Streams) → StreamsAgain is_stream
+files_again : (is_stream : StreamRelation) → StreamsAgain is_stream
     → (system : FileSystem) (limit : ℕ) (files : FileMeanings) (forms : List FileForm) (stored : List StoredFile) → limit ≤ 24 + data_limit
     → AllByRecursion (FileIsAccepted system limit) forms → Pairwise (MeansFile is_stream) forms (files_list files) → AreStored files stored
     → FilesAgain is_stream system files forms stored
@@ -248,13 +248,13 @@ opened h e o front whole =
     }
 
 -- what is known of a volume that was read, and of files that are stored for it and placed
-pub record Known (is_stream : Streams) (h : HeadFields) (files : FileMeanings) (forms : List FileForm) (stored : List StoredFile)
+pub record Known (is_stream : StreamRelation) (h : HeadFields) (files : FileMeanings) (forms : List FileForm) (stored : List StoredFile)
     (starts : List ℕ) : Type 0 where
   pub writable : Writable h stored starts
   pub again : FilesAgain is_stream h.file_system files forms stored
 
 -- each file was read
-pub files_read : (is_stream : Streams) (h : HeadFields) (files : FileMeanings) (b : List ℕ) → IsBytes b
+pub files_read : (is_stream : StreamRelation) (h : HeadFields) (files : FileMeanings) (b : List ℕ) → IsBytes b
     → (d : VolumeOver is_stream b (Volume h files)) → AllByRecursion (FileIsAccepted h.file_system (length (drop d.extent.first b))) d.files
 files_read is_stream h files b small d =
     let e : Extent = d.extent in
@@ -264,7 +264,7 @@ files_read is_stream h files b small d =
     (subst (AllByRecursion (FileIsAccepted e.file_system (length body))) (sym d.current.files_are)
     (current_read e.file_system (length body) (files_in d.cells) reads))
 
-pub known : (is_stream : Streams) → StreamsAgain is_stream → (h : HeadFields) (files : FileMeanings) (b : List ℕ) → IsBytes b
+pub known : (is_stream : StreamRelation) → StreamsAgain is_stream → (h : HeadFields) (files : FileMeanings) (b : List ℕ) → IsBytes b
     → (d : VolumeOver is_stream b (Volume h files)) (stored : List StoredFile) (starts : List ℕ)
     → AreStored files stored → AreStarts (Volume h files) starts → Known is_stream h files d.files stored starts
 known is_stream streams h files b small d stored starts are placed =
@@ -331,11 +331,11 @@ image_tiled h fs ss o k shows =
 -- ---- 4. the volume: it is read again, where the streams in it are
 
 -- a header and files make a volume
-pub volume_of : (is_stream : Streams) (b : List ℕ) (m : Meaning) (e : Extent) (files : List FileForm) → BeginsVolume (head_of m) e b
+pub volume_of : (is_stream : StreamRelation) (b : List ℕ) (m : Meaning) (e : Extent) (files : List FileForm) → BeginsVolume (head_of m) e b
     → length b ≡ e.length → StandIn e b files → Pairwise (MeansFile is_stream) files (files_of m) → VolumeOver is_stream b m
 volume_of is_stream b m e files front whole stand meanings = grind (arith, common_steps)
 
-pub volume_again : (is_stream : Streams) → StreamsAgain is_stream → VolumesAgain (VolumeOver is_stream)
+pub volume_again : (is_stream : StreamRelation) → StreamsAgain is_stream → VolumesAgain (VolumeOver is_stream)
 volume_again is_stream streams (Volume h files) b o small d (stored, starts, are, placed, shows) =
     let p : Polarity = polarity_of h.attributes in
     let first : ℕ = first_edge h h.ext in

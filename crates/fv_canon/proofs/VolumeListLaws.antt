@@ -6,13 +6,12 @@ use Rattle.std.proofs.lemmas.List.{length-map, take-append-drop, take_more, drop
 use Rattle.fv_base.specs.declared.fault.Fault.{Fault}
 use Rattle.fv_tree.specs.Meaning.{Meaning, FileMeaning, File, SectionMeaning, Section, content_of, files_of}
 use Rattle.fv_tree.specs.MeaningParts.{body_of}
-use Rattle.fv_canon.specs.inner.ImageOf.{starts_in}
+use Rattle.fv_canon.specs.inner.ImageOf.{starts_in, BeginsWithStarts, ComesTo}
 use Rattle.fv_canon.specs.Layouts.{AreStarts, IsPlaced, layout_item, layout_items}
-use Rattle.fv_canon.specs.LeastStarts.{Laid}
+use Rattle.fv_canon.specs.LayoutForms.{Laid}
 use Rattle.fv_canon.specs.LayoutFaults.{AllFit, FirstUnfit, UnfitHere}
 use Rattle.fv_canon.specs.Volumes.{Inside, deeper, volumes_in_section, volumes_in_body, volumes_in_file, volumes_in_content}
-use Rattle.fv_canon.specs.inner.ImageWalks.{BeginsWithStarts, ComesTo}
-use Rattle.fv_canon.specs.inner.LayoutWalks.{Grew}
+use Rattle.fv_canon.specs.inner.Depths.{Grew}
 use Rattle.fv_canon.proofs.ItemLaws.{item_at}
 use Rattle.fv_canon.proofs.OneImageLaws.{follow_length}
 

@@ -11,15 +11,15 @@ use Rattle.fv_tree.specs.Files.{FileForm}
 use Rattle.fv_tree.specs.Meaning.{Meaning, Volume, FileMeanings, NoFiles, MoreFiles, FileMeaning, File, ContentMeaning, Plain, Sectioned}
 use Rattle.fv_tree.specs.Meaning.{SectionMeanings, NoSections, MoreSections, SectionMeaning, Section, Leaf, Group, Nested}
 use Rattle.fv_tree.specs.Meaning.{files_list, sections_list}
-use Rattle.fv_tree.specs.Denotes.{Sections, Streams, Volumes, Pairwise, StreamOver, SectionOver, VolumeOver, MeansContent, MeansFile}
+use Rattle.fv_tree.specs.Denotes.{SectionRelation, StreamRelation, VolumeRelation, Pairwise, StreamOver, SectionOver, VolumeOver, MeansContent, MeansFile}
 use Rattle.fv_tree.specs.Denotes.{MeansSection, Stream, Denotes}
 use Rattle.fv_canon.specs.Image.{IsImage, AreStored, IsStored, IsData, AreFrames, IsFrame}
 use Rattle.fv_canon.specs.inner.ImageOf.{starts_in, image_of, stored_of, stored_file, data_of, frames_of, frame_of}
+use Rattle.fv_canon.specs.inner.ImageOf.{volume_bytes}
 use Rattle.fv_canon.specs.Layouts.{AreStarts}
-use Rattle.fv_canon.specs.LeastStarts.{Laid, LaysVolume}
+use Rattle.fv_canon.specs.LayoutForms.{Laid, LaysVolume}
 use Rattle.fv_canon.specs.Volumes.{volumes_in, volumes_in_files, volumes_in_file, volumes_in_content, volumes_in_sections}
 use Rattle.fv_canon.specs.Volumes.{volumes_in_section}
-use Rattle.fv_canon.specs.inner.StoredWalks.{volume_bytes}
 use Rattle.fv_canon.proofs.VolumeListLaws.{laid_split, laid_higher, laid_count, own_count}
 use Rattle.fv_canon.proofs.PlacedBytesLaws.{volume_written}
 use Rattle.fv_canon.proofs.StreamLaws.{StreamsAgain, stream_again}
@@ -29,15 +29,15 @@ use Rattle.fv_canon.proofs.VolumeLaws.{known, files_read, sections_again}
 use Rattle.fv_canon.proofs.ReadLaws.{FileIsAccepted}
 
 -- ---- what is to be shown of what lies inside
-abbrev pub SectionsMade : Sections → Type 0
+abbrev pub SectionsMade : SectionRelation → Type 0
 SectionsMade is_section = (s : SectionMeaning) (f : FrameForm) (at : ℕ) (starts more : List ℕ) → IsBytes f.body → is_section f s
     → Laid AreStarts (volumes_in_section s) starts → IsFrame s (frame_of at s (starts ++ more))
 
-abbrev pub StreamsMade : Streams → Type 0
+abbrev pub StreamsMade : StreamRelation → Type 0
 StreamsMade is_stream = (ss : SectionMeanings) (tail : ℕ) (b starts more : List ℕ) → IsBytes b → is_stream (sections_list ss) tail b
     → Laid AreStarts (volumes_in_sections ss) starts → AreFrames 0 ss (frames_of 0 ss (starts ++ more))
 
-abbrev pub VolumesMade : Volumes → Type 0
+abbrev pub VolumesMade : VolumeRelation → Type 0
 VolumesMade is_volume = (m : Meaning) (b starts more : List ℕ) → IsBytes b → is_volume b m → LaysVolume m starts
     → IsImage m (image_of m (starts ++ more))
 
@@ -56,7 +56,7 @@ offset_is : (at : ℕ) (s : SectionMeaning) (starts : List ℕ) → (frame_of at
 offset_is at (Section kind extended body) starts = refl
 
 -- ---- frame by frame
-frames_made : (is_section : Sections) → SectionsMade is_section → (at place : ℕ) (ss : SectionMeanings) (fs : List FrameForm) (tail : ℕ)
+frames_made : (is_section : SectionRelation) → SectionsMade is_section → (at place : ℕ) (ss : SectionMeanings) (fs : List FrameForm) (tail : ℕ)
     (b starts more : List ℕ) → IsBytes b → SplitsFrom at fs tail b → Pairwise is_section fs (sections_list ss)
     → Laid AreStarts (volumes_in_sections ss) starts → AreFrames place ss (frames_of place ss (starts ++ more))
 frames_made is_section made at place NoSections fs tail b starts more small is p laid = refl
@@ -85,10 +85,10 @@ frames_made is_section made at place (MoreSections s ss) (f ∷ g ∷ fs) tail b
           p.1 l.4),
     )
 
-pub stream_made : (is_section : Sections) → SectionsMade is_section → StreamsMade (StreamOver is_section)
+pub stream_made : (is_section : SectionRelation) → SectionsMade is_section → StreamsMade (StreamOver is_section)
 stream_made is_section made ss tail b starts more small (fs, split, pairs) laid = grind (arith, common_steps, frames_made)
 
-section_made : (is_stream : Streams) (is_volume : Volumes) → StreamsMade is_stream → VolumesMade is_volume
+section_made : (is_stream : StreamRelation) (is_volume : VolumeRelation) → StreamsMade is_stream → VolumesMade is_volume
     → SectionsMade (SectionOver is_stream is_volume)
 section_made is_stream is_volume streams volumes (Section kind extended (Leaf body)) f at starts more small is laid = (refl, refl, refl)
 section_made is_stream is_volume streams volumes (Section kind extended (Group sections tail)) f at starts more small
@@ -100,18 +100,18 @@ section_made is_stream is_volume streams volumes (Section kind extended (Nested 
     (refl, refl, volumes volume f.body starts more small is (laid_higher AreStarts (volumes_in volume) starts laid))
 
 -- ---- file by file
-pub data_made : (is_stream : Streams) → StreamsMade is_stream → (kind : ℕ) (content : ContentMeaning) (payload starts more : List ℕ)
+pub data_made : (is_stream : StreamRelation) → StreamsMade is_stream → (kind : ℕ) (content : ContentMeaning) (payload starts more : List ℕ)
     → IsBytes payload → MeansContent is_stream kind payload content → Laid AreStarts (volumes_in_content content) starts
     → IsData content (data_of content (starts ++ more))
 data_made is_stream streams kind (Plain b) payload starts more small is laid = refl
 data_made is_stream streams kind (Sectioned sections tail) payload starts more small (sectioned, is) laid =
     (frames_of 0 sections (starts ++ more), streams sections tail payload starts more small is laid, refl)
 
-file_made : (is_stream : Streams) → StreamsMade is_stream → (m : FileMeaning) (f : FileForm) (starts more : List ℕ) → IsBytes f.payload
+file_made : (is_stream : StreamRelation) → StreamsMade is_stream → (m : FileMeaning) (f : FileForm) (starts more : List ℕ) → IsBytes f.payload
     → MeansFile is_stream f m → Laid AreStarts (volumes_in_file m) starts → IsStored m (stored_file m (starts ++ more))
 file_made is_stream streams (File name kind attributes content) f starts more small (named, kinds, bits, is) laid = grind (arith, common_steps, data_made)
 
-pub files_made : (is_stream : Streams) → StreamsMade is_stream → (system : FileSystem) (limit : ℕ) (files : FileMeanings)
+pub files_made : (is_stream : StreamRelation) → StreamsMade is_stream → (system : FileSystem) (limit : ℕ) (files : FileMeanings)
     (forms : List FileForm) (starts more : List ℕ) → AllByRecursion (FileIsAccepted system limit) forms
     → Pairwise (MeansFile is_stream) forms (files_list files) → Laid AreStarts (volumes_in_files files) starts
     → AreStored files (stored_of files (starts ++ more))
@@ -127,7 +127,7 @@ files_made is_stream streams system limit (MoreFiles m ms) (f ∷ fs) starts mor
     )
 
 -- ---- the volume
-volume_made : (is_stream : Streams) → StreamsAgain is_stream → StreamsMade is_stream → VolumesMade (VolumeOver is_stream)
+volume_made : (is_stream : StreamRelation) → StreamsAgain is_stream → StreamsMade is_stream → VolumesMade (VolumeOver is_stream)
 volume_made is_stream again streams (Volume h files) b starts more small d (own, inner, text, placed, laid) =
     let n : ℕ = length (files_list files) in
     let count : length own ≡ n = own_count (Volume h files) own placed in

@@ -1,5 +1,5 @@
--- Every volume of a flash image, replaced by its canonical image.
-use Rattle.std.specs.Prelude.{◌≡◌, ◌⊎◌, ◌<◌, ◌≤◌, ℕ, List, ◌∷◌, ◌++◌, length, get_or}
+-- Every volume of a flash image, replaced by its canonical image; and each with its meaning and its layout.
+use Rattle.std.specs.Prelude.{◌≡◌, ◌⊎◌, ◌<◌, ◌≤◌, ℕ, List, ◌∷◌, ◌++◌, length, get_or, map}
 use Rattle.std.specs.List.{AllByRecursion}
 use Rattle.fv_base.specs.Faults.{outer_fault}
 use Rattle.fv_base.specs.Limits.{volume_limit}
@@ -10,6 +10,9 @@ use Rattle.fv_tree.specs.FirstFault.{moved_fault}
 use Rattle.fv_tree.specs.FoundVolumes.{Found, IsCovered, VolumeAt}
 use Rattle.fv_canon.specs.Headline.{NormalisesTo}
 use Rattle.fv_canon.specs.Refusals.{Refuses}
+use Rattle.fv_tree.specs.Denotes.{Accepted}
+use Rattle.fv_canon.specs.LayoutForms.{IsLayout}
+use Rattle.fv_canon.specs.declared.flash_image.LaidVolume.{LaidVolume}
 
 -- a volume begins at the offset p of b, and o has its canonical image there
 abbrev pub IsRenewed : List ℕ → List ℕ → ℕ → Type 0
@@ -30,22 +33,39 @@ NormalisesAll b o = (length b ≤ volume_limit) × (places : List ℕ) × Found 
 abbrev pub HasImageAt : List ℕ → ℕ → Type 0
 HasImageAt b p = (n : ℕ) × (image : List ℕ) × VolumeAt b p n × NormalisesTo (field p n b) image
 
--- the volume at one of the offsets is rejected, and those at the offsets before it have canonical images; the fault is
--- that of the volume, with its offset counted from the first byte of b
+-- the volume that begins at the offset p of b is rejected; the fault is that of the volume, with its offset counted from
+-- the first byte of b
+abbrev pub RefusedAt : List ℕ → ℕ → Fault → Type 0
+RefusedAt b p fault =
+    (n : ℕ) × VolumeAt b p n × (own : Fault) × Refuses (field p n b) own × (fault ≡ moved_fault p own.place.depth own)
+
+-- the volume at one of the offsets is rejected, and those at the offsets before it have canonical images
 pub record FirstRefused (b places : List ℕ) (fault : Fault) : Type 0 where
   pub before : List ℕ
   pub place : ℕ
   pub behind : List ℕ
   pub split : places ≡ before ++ (place ∷ behind)
   pub images : AllByRecursion (HasImageAt b) before
-  pub size : ℕ
-  pub volume : VolumeAt b place size
-  pub own : Fault
-  pub refused : Refuses (field place size b) own
-  pub moved_is : fault ≡ moved_fault place own.place.depth own
+  pub refused : RefusedAt b place fault
 
 -- b is longer than the limit; or it is not, and the fault is that of the first volume in it that is rejected
 abbrev pub RefusesAll : List ℕ → Fault → Type 0
 RefusesAll b fault =
     ((volume_limit < length b) × (fault ≡ outer_fault kinds.Length volume_limit))
     ⊎ ((length b ≤ volume_limit) × (places : List ℕ) × Found b places × FirstRefused b places fault)
+
+-- a volume of b begins at the start, with this meaning and this layout
+abbrev pub IsLaid : List ℕ → LaidVolume → Type 0
+IsLaid b v = (n : ℕ) × VolumeAt b v.start n × Accepted (field v.start n b) v.view × IsLayout v.view v.places
+
+-- the offsets at which the volumes begin
+abbrev pub starts_of : List LaidVolume → List ℕ
+starts_of volumes = map (λ v. v.start) volumes
+
+-- the volumes begin at these offsets of b, each with its meaning and its layout
+abbrev pub AreLaid : List ℕ → List ℕ → List LaidVolume → Type 0
+AreLaid b offsets volumes = (starts_of volumes ≡ offsets) × AllByRecursion (IsLaid b) volumes
+
+-- b is within the limit, and these are the volumes that are found in it, each with its meaning and its layout
+abbrev pub IsLaidOut : List ℕ → List LaidVolume → Type 0
+IsLaidOut b volumes = (length b ≤ volume_limit) × (offsets : List ℕ) × Found b offsets × AreLaid b offsets volumes

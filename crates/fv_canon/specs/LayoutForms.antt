@@ -1,7 +1,44 @@
--- Layouts as they are kept in memory.
-use Rattle.std.specs.Prelude.{◌≡◌, ℕ, List, ◌++◌, length}
-use Rattle.fv_canon.specs.LeastStarts.{LaysVolume}
-use Rattle.fv_tree.specs.Meaning.{Meaning, files_of}
+-- The least starts of the files of a volume, the starts at every level, and layouts as they are kept in memory.
+use Rattle.std.specs.Prelude.{◌≡◌, ℕ, ◌+◌, ◌≤◌, List, [], ◌∷◌, MatchBool, ◌++◌, length}
+use Rattle.fv_base.specs.Value.{up_to_8}
+use Rattle.fv_canon.specs.Layouts.{layout_items, AreStarts}
+use Rattle.fv_canon.specs.Starts.{Lawful, Placement}
+use Rattle.fv_canon.specs.Volumes.{Inside, volumes_in}
+use Rattle.fv_canon.specs.declared.first_placement.LayoutItem.{LayoutItem}
+use Rattle.fv_head.specs.ExtImage.{first_edge}
+use Rattle.fv_tree.specs.Meaning.{Meaning, head_of, length_of, files_of}
+
+-- the least start that is lawful after an edge; for the volume top file, the start with which it ends at the volume's
+-- end
+abbrev pub IsLeastStart : ℕ → ℕ → LayoutItem → ℕ → Type 0
+IsLeastStart total e f s = MatchBool f.top (s + f.size ≡ total) (Lawful e f s × ((t : ℕ) → Lawful e f t → s ≤ t))
+
+-- each file is at the least start after the edge before it; this need not be a placement
+abbrev pub IsLeast : ℕ → ℕ → List LayoutItem → List ℕ → Type 0
+IsLeast total e [] [] = Unit {0}
+IsLeast total e [] (s ∷ ss) = ⊥
+IsLeast total e (f ∷ fs) [] = ⊥
+IsLeast total e (f ∷ fs) (s ∷ ss) = IsLeastStart total e f s × IsLeast total (up_to_8 (s + f.size)) fs ss
+
+-- the least starts of its own files, which are also a placement
+abbrev pub AreLeast : Meaning → List ℕ → Type 0
+AreLeast m starts =
+    IsLeast (length_of m) (first_edge (head_of m) (head_of m).ext) (layout_items m) starts
+    × Placement (length_of m) (first_edge (head_of m) (head_of m).ext) (layout_items m) starts
+
+-- the starts of each volume's own files, one volume after another
+abbrev pub Laid : (Meaning → List ℕ → Type 0) → List Inside → List ℕ → Type 0
+Laid are_own [] starts = starts ≡ []
+Laid are_own (v ∷ vs) starts =
+    (own : List ℕ) × (inner : List ℕ) × (starts ≡ own ++ inner) × are_own v.volume own × Laid are_own vs inner
+
+-- the starts of a volume's own files, and then those of the volumes inside it, in preorder
+abbrev pub LaysVolume : Meaning → List ℕ → Type 0
+LaysVolume m starts = Laid AreStarts (volumes_in m) starts
+
+-- the same with the least starts of each volume
+abbrev pub LeastVolume : Meaning → List ℕ → Type 0
+LeastVolume m starts = Laid AreLeast (volumes_in m) starts
 
 -- the starts of the volume's own files, and those of the volumes inside it, in preorder
 pub record Places : Type 0 where

@@ -7,13 +7,10 @@ pub mod Layouts
 pub mod Image
 pub mod Refusals
 pub mod Headline
-pub mod LeastStarts
 pub mod LayoutFaults
 pub mod ImageLaws
 pub mod ComparisonLines
-pub mod Comparisons
-pub mod FlashImages
 pub mod LayoutForms
-pub mod LaidVolumes
-pub mod NormaliseRuns
+pub mod FlashImages
+pub mod Runs
 pub mod inner

@@ -4,8 +4,7 @@ use Rattle.fv_base.specs.Faults.{outer_fault, out_of_memory}
 use Rattle.fv_base.specs.declared.fault.Fault.{Fault}
 use Rattle.fv_base.specs.declared.fault.FaultKind.{FaultKind}
 use Rattle.fv_base.specs.declared.fault.FaultKind.TheVariants as kinds
-use Rattle.fv_head.specs.Head.{HeadFields, BeginsVolume}
-use Rattle.fv_head.specs.declared.extent.Extent.{Extent}
+use Rattle.fv_head.specs.HeadChecks.{BeginsWithHeader}
 use Rattle.fv_tree.specs.Denotes.{Accepted}
 use Rattle.fv_tree.specs.FirstFault.{FaultStands, IsFirstOfVolume}
 use Rattle.fv_tree.specs.Meaning.{Meaning, length_of}
@@ -33,7 +32,7 @@ pub record NotRead (input : List ℕ) (f : Fault) : Type 0 where
 
 -- memory ran out, which can happen only if the input begins with the header of a volume
 abbrev pub MemoryRanOut : List ℕ → Fault → Type 0
-MemoryRanOut input f = (f ≡ out_of_memory) × (h : HeadFields) × (e : Extent) × BeginsVolume h e input
+MemoryRanOut input f = (f ≡ out_of_memory) × BeginsWithHeader input
 
 -- an input is a volume that does not fit, and this is the fault of its layout
 abbrev pub NotPlaced : List ℕ → Fault → Type 0

@@ -8,7 +8,7 @@ ghost use Rattle.fv_canon.specs.Image.{IsImage};
 ghost use Rattle.fv_canon.specs.Layouts.{Fits};
 ghost use Rattle.fv_canon.specs.LayoutFaults.{Unfit};
 ghost use Rattle.fv_canon.specs.LayoutForms.{IsLayout};
-ghost use Rattle.fv_base.specs.Output.{WriteStops};
+ghost use Rattle.fv_base.specs.Input.{WriteStops};
 ghost use Rattle.fv_tree.specs.Denotes.{Accepted, IsMeaning};
 ghost use Rattle.fv_tree.specs.Meaning.{Meaning};
 

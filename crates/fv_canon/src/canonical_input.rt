@@ -4,13 +4,11 @@
 ghost use Rattle.std.specs.Prelude.{◌≡◌, ◌≢◌, ◌↔◌, ◌⊎◌, [], IfOk, IfErr, IsTrue, true};
 ghost use Rattle.fv_base.specs.Faults.{out_of_memory};
 ghost use Rattle.fv_canon.specs.Image.{IsImage};
-ghost use Rattle.fv_canon.specs.LeastStarts.{LaysVolume};
+ghost use Rattle.fv_canon.specs.LayoutForms.{LaysVolume};
 ghost use Rattle.fv_canon.specs.Refusals.{NotRead};
 ghost use Rattle.fv_canon.specs.inner.ImageOf.{image_of};
-ghost use Rattle.fv_canon.specs.inner.Matching.{MatchTakes};
-ghost use Rattle.fv_canon.specs.inner.MatchingLaws.{matches_by};
-ghost use Rattle.fv_head.specs.Head.{HeadFields, BeginsVolume};
-ghost use Rattle.fv_head.specs.declared.extent.Extent.{Extent};
+ghost use Rattle.fv_canon.specs.inner.Matching.{MatchTakes, matches_by};
+ghost use Rattle.fv_head.specs.HeadChecks.{BeginsWithHeader};
 ghost use Rattle.fv_tree.specs.Denotes.{Accepted};
 ghost use Rattle.fv_tree.specs.Meaning.{Meaning, files_of};
 
@@ -102,8 +100,7 @@ pub fn is_canonical(alloc: Global, input: &[u8]) -> Result<bool, Fault>
     ensures err { IfErr result (λ f. (f ≡ out_of_memory) ⊎ NotRead input.now f) }
 
     // Memory runs out only if the input begins with the header of a volume.
-    ensures memory { IfErr result
-        (λ f. f ≡ out_of_memory → (h : HeadFields) × (e : Extent) × BeginsVolume h e input.now) }
+    ensures memory { IfErr result (λ f. f ≡ out_of_memory → BeginsWithHeader input.now) }
 {
     let view = whole_volume(alloc, input)?;
     is_canonical_image(alloc, &view, input)

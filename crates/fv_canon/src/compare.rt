@@ -1,37 +1,52 @@
 //! From two inputs to the line that says where their volumes first differ.
 
-ghost use Rattle.std.specs.Prelude.{◌≡◌, ◌≢◌, ◌≤◌, ℕ, List, Option, length, option_copied, true, false};
-ghost use Rattle.std.specs.Prelude.{IfOk, IfErr, IfSome, OnOk, OnErr};
-ghost use Rattle.std.specs.Io.KnownBytes.{Appends};
+ghost use Rattle.std.specs.Prelude.{◌≡◌, ◌≢◌, ◌↔◌, ◌≤◌, ℕ, List, Option, length, true, false};
+ghost use Rattle.std.specs.Prelude.{IfOk, IfErr, OnOk, OnErr};
+ghost use Rattle.fv_base.specs.Faults.{out_of_memory};
 ghost use Rattle.fv_base.specs.Input.{ReadsWhole, ReadStops};
-ghost use Rattle.fv_base.specs.Output.{WriteStops};
 ghost use Rattle.fv_base.specs.Port.{inner_of, has_erred};
-ghost use Rattle.fv_canon.specs.Comparisons.{Compares, ComparisonStops, ReadsVolume, RunCompares, SideStopsRun};
-ghost use Rattle.fv_canon.specs.Comparisons.{VolumeStops};
+ghost use Rattle.fv_canon.specs.Runs.{Compares, ComparisonStops, ReadsVolume, RunCompares, SideStopsRun};
+ghost use Rattle.fv_canon.specs.Runs.{VolumeStops};
 ghost use Rattle.fv_canon.specs.ComparisonLines.{compare_line};
 ghost use Rattle.fv_tree.specs.Denotes.{Accepted};
+ghost use Rattle.fv_tree.specs.Difference.{difference};
 
-use crate::comparison_line::put_comparison;
+use crate::comparison_line::put_line;
 use crate::normalising::whole_volume;
 use crate::side::Side;
-use fv_base::{Fault, FaultKind, Port, WriteSink, read_input};
-use fv_tree::{Difference, VolumeView, first_difference};
+use fv_base::{Fault, FaultKind, Port, Sink, WriteSink, read_input};
+use fv_tree::{VolumeView, first_difference};
 use std::alloc::Global;
 use std::io::{Read, Write};
 
-// Writes the line for where two volumes first differ, or for two with the same meaning.
-fn write_line<W: Write>(writer: &mut Port<W>, found: Option<&Difference>) -> Result<(), Fault>
-    requires few { IfSome (option_copied found) (λ d. length d.0 ≤ 18) }
-    ensures ok { OnOk result (Appends (W.contents (inner_of writer.old)) (W.contents (inner_of writer.new))
-        (compare_line (option_copied found.entry))) }
-    ensures err { IfErr result (WriteStops (W.contents (inner_of writer.old)) (W.contents (inner_of writer.new))
-        (compare_line (option_copied found.entry))) }
-    ensures fine { OnOk result (has_erred writer.new ≡ has_erred writer.old) }
-    ensures erred { OnErr result (has_erred writer.new ≡ true) }
+/// Puts whether two volumes have the same meaning and, if not, where they first differ: a line
+/// `same`, or `different at` with the steps down to there, each `file` or `section` with its number,
+/// and the kind of the difference. Returns true if they have the same meaning. (PI specification,
+/// volume 3, section 3.2.)
+///
+/// # Errors
+///
+/// OutOfMemory, only if they differ. Nothing was put then.
+pub fn put_comparison<S: Sink>(
+    alloc: Global,
+    first: &VolumeView<'_>,
+    second: &VolumeView<'_>,
+    out: &mut S,
+) -> Result<bool, Fault>
+    ensures same { IfOk result (λ same. (same ≡ true) ↔ (first.now ≡ second.now)) }
+    ensures line { OnOk result (S.takes out.old (compare_line (difference first.now second.now)) out.new) }
+    ensures err { IfErr result (λ f. (f ≡ out_of_memory) × (first.now ≢ second.now)) }
+    ensures untouched { OnErr result (out.new ≡ out.old) }
+
+    // The line is short.
+    ensures short { OnOk result (length (compare_line (difference first.now second.now)) ≤ 553) }
 {
-    let mut out = WriteSink::new(writer);
-    put_comparison(&mut out, found);
-    out.outcome()
+    // In a volume that was read, groups and volumes nest so little that a difference has at most 18
+    // steps.
+    first.known();
+    let found = first_difference(alloc, first, second)?;
+    put_line(out, found.as_ref());
+    Ok(found.is_none())
 }
 
 /// Writes whether two volumes have the same meaning and, if not, where they first differ: a line
@@ -60,15 +75,13 @@ pub fn write_comparison<W: Write>(
     ensures writer_erred { IfErr result (λ e. e.1.kind ≡ FaultKind.WriteFault
         → (e.0 ≡ Side.Output) × (has_erred writer.new ≡ true)) }
 {
-    // In a volume that was read, groups and volumes nest so little that a difference has at most 18
-    // steps.
-    first.known();
-    let found = match first_difference(alloc, first, second) {
-        Ok(found) => found,
+    let mut out = WriteSink::new(writer);
+    let is_same = match put_comparison(alloc, first, second, &mut out) {
+        Ok(is_same) => is_same,
         Err(fault) => return Err((Side::First, fault)),
     };
-    match write_line(writer, found.as_ref()) {
-        Ok(()) => Ok(found.is_none()),
+    match out.outcome() {
+        Ok(()) => Ok(is_same),
         Err(fault) => Err((Side::Output, fault)),
     }
 }

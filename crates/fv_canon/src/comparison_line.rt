@@ -74,7 +74,7 @@ fn put_difference<S: Sink>(out: &mut S, difference: &Difference)
 }
 
 // Puts the line for two volumes: where they differ, or that they have the same meaning.
-pub(crate) fn put_comparison<S: Sink>(out: &mut S, found: Option<&Difference>)
+pub(crate) fn put_line<S: Sink>(out: &mut S, found: Option<&Difference>)
     requires few { IfSome (option_copied found) (λ d. length d.0 ≤ 18) }
     ensures line { S.takes out.old (compare_line (option_copied found.entry)) out.new }
     ensures short { length (compare_line (option_copied found.entry)) ≤ 553 }

@@ -1,7 +1,7 @@
 //! The data of a file as a body, for the walks that go over both.
 
 ghost use Rattle.std.specs.Prelude.{◌≡◌};
-ghost use Rattle.fv_canon.specs.inner.DataBodies.{data_body};
+ghost use Rattle.fv_canon.specs.inner.ImageOf.{data_body};
 ghost use Rattle.fv_tree.specs.Views.{body_view};
 
 use fv_tree::{Body, Content, FileView};

@@ -6,12 +6,10 @@ ghost use Rattle.fv_base.specs.Faults.{out_of_memory};
 ghost use Rattle.fv_base.specs.Limits.{volume_limit};
 ghost use Rattle.fv_base.specs.Port.{inner_of, has_erred};
 ghost use Rattle.fv_base.specs.Value.{field};
-ghost use Rattle.fv_canon.specs.FlashImages.{FirstRefused, NormalisesAll, RefusesAll};
-ghost use Rattle.fv_canon.specs.LaidVolumes.{AreLaid, IsLaid, IsLaidOut};
+ghost use Rattle.fv_canon.specs.FlashImages.{FirstRefused, NormalisesAll, RefusedAt, RefusesAll, AreLaid, IsLaid, IsLaidOut};
 ghost use Rattle.fv_canon.specs.LayoutForms.{IsLayout};
-ghost use Rattle.fv_canon.specs.NormaliseRuns.{ImageWrites, ImageStops};
+ghost use Rattle.fv_canon.specs.Runs.{ImageWrites, ImageStops};
 ghost use Rattle.fv_canon.specs.Refusals.{Refuses};
-ghost use Rattle.fv_canon.specs.inner.RefusedVolumes.{RefusedAt};
 ghost use Rattle.fv_tree.specs.Denotes.{Accepted};
 ghost use Rattle.fv_tree.specs.FoundVolumes.{Found, VolumeAt};
 
@@ -136,7 +134,7 @@ pub struct LaidImage<'a> {
 
 impl<'a> Model for LaidImage<'a> {
     ghost use Rattle.std.specs.Prelude.{ℕ, List};
-    ghost use Rattle.fv_canon.specs.LaidVolumes.{IsLaidOut};
+    ghost use Rattle.fv_canon.specs.FlashImages.{IsLaidOut};
 
     ghost Value = { List ℕ };
 

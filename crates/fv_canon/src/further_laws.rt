@@ -8,7 +8,7 @@ ghost use Rattle.fv_tree.specs.Meaning.{Meaning};
 ghost use Rattle.fv_canon.specs.Headline.{MeanSame};
 ghost use Rattle.fv_canon.specs.ImageLaws.{OneImage, OneMeaning, InOrder, painted, PadsRule};
 ghost use Rattle.fv_canon.specs.Layouts.{Fits};
-ghost use Rattle.fv_canon.specs.LeastStarts.{LaysVolume, LeastVolume};
+ghost use Rattle.fv_canon.specs.LayoutForms.{LaysVolume, LeastVolume};
 ghost use Rattle.fv_canon.specs.LayoutFaults.{Unfit};
 ghost use Rattle.fv_canon.specs.PlacedBytes.{ShowsPlaced, PlacedBytes};
 ghost use Rattle.fv_canon.specs.Refusals.{OnlyWhatDoesNotFitIsRefused, WhatDoesNotFitIsRefused};

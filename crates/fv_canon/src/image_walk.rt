@@ -9,14 +9,12 @@ ghost use Rattle.fv_tree.specs.MeaningParts.{files_from, sections_from};
 ghost use Rattle.fv_tree.specs.Meaning.{attributes_of, content_of, data_len_of};
 ghost use Rattle.fv_tree.specs.Views.{body_view};
 ghost use Rattle.fv_canon.specs.inner.ImageOf.{image_of, stored_of, stored_file, data_of, frames_of, body_image};
-ghost use Rattle.fv_canon.specs.inner.ImageOf.{starts_in};
+ghost use Rattle.fv_canon.specs.inner.ImageOf.{starts_in, files_bytes, BeginsWithStarts};
 ghost use Rattle.fv_canon.specs.Volumes.{volumes_in, volumes_in_files, volumes_in_file, volumes_in_sections};
 ghost use Rattle.fv_canon.specs.Volumes.{volumes_in_body};
 ghost use Rattle.fv_canon.specs.StoredFiles.{stored_bytes};
-ghost use Rattle.fv_canon.specs.inner.StoredWalks.{files_bytes};
-ghost use Rattle.fv_canon.specs.inner.Placed.{ArePlaced};
+ghost use Rattle.fv_canon.specs.inner.Depths.{ArePlaced};
 ghost use Rattle.fv_canon.specs.inner.SummingSinks.{ImageTakes, sums};
-ghost use Rattle.fv_canon.specs.inner.ImageWalks.{BeginsWithStarts};
 
 use crate::data_body::data_body;
 use crate::pads_and_headers::{

@@ -3,14 +3,12 @@
 ghost use Rattle.std.specs.Prelude.{◌≡◌, ◌≢◌, ◌<◌, ◌≤◌, ◌⊎◌, ◌+◌, ◌++◌, ℕ, List, [], All, length, take, get_or, IfOk, IfErr, OnOk};
 ghost use Rattle.fv_base.specs.Faults.{out_of_memory};
 ghost use Rattle.fv_head.specs.ExtImage.{first_edge};
-ghost use Rattle.fv_canon.specs.inner.Depths.{NestsVolume, NestsFiles, NestsSections, NestsBody};
+ghost use Rattle.fv_canon.specs.inner.Depths.{NestsVolume, NestsFiles, NestsSections, NestsBody, Grew, Shallow};
 ghost use Rattle.fv_canon.specs.LayoutFaults.{layout_fault, AllFit, FirstUnfit, Unfit};
 ghost use Rattle.fv_canon.specs.Layouts.{layout_item, layout_items, AreStarts, Fits};
-ghost use Rattle.fv_canon.specs.LeastStarts.{Laid, LaysVolume};
+ghost use Rattle.fv_canon.specs.LayoutForms.{Laid, LaysVolume, IsLayout};
 ghost use Rattle.fv_canon.specs.Volumes.{volumes_in, volumes_in_files, volumes_in_sections, volumes_in_body};
 ghost use Rattle.fv_canon.specs.inner.ImageOf.{starts_in};
-ghost use Rattle.fv_canon.specs.inner.LayoutWalks.{Grew, Shallow};
-ghost use Rattle.fv_canon.specs.LayoutForms.{IsLayout};
 ghost use Rattle.fv_canon.specs.Starts.{Placement};
 ghost use Rattle.fv_canon.specs.inner.Reaches.{IsLawfulItem};
 ghost use Rattle.fv_tree.specs.Meaning.{head_of, files_of, length_of};

@@ -25,7 +25,7 @@ mod usable_start;
 
 pub use canonical_image::{canonical, put_canonical, write_canonical};
 pub use canonical_input::{is_canonical, is_canonical_image};
-pub use compare::{run_compare, write_comparison};
+pub use compare::{put_comparison, run_compare, write_comparison};
 pub use flash_image::{
     LaidImage, lay_out_image, normalise_image, put_laid_image, write_normalised_image,
 };

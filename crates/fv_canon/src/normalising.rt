@@ -3,12 +3,11 @@
 ghost use Rattle.std.specs.Prelude.{◌≡◌, ◌≢◌, ◌⊎◌, ℕ, List, length, IfOk, IfErr, OnOk, true, false};
 ghost use Rattle.fv_base.specs.Faults.{out_of_memory};
 ghost use Rattle.fv_base.specs.Port.{inner_of, has_erred};
-ghost use Rattle.fv_head.specs.Head.{HeadFields, BeginsVolume};
-ghost use Rattle.fv_head.specs.declared.extent.Extent.{Extent};
+ghost use Rattle.fv_head.specs.HeadChecks.{BeginsWithHeader};
 ghost use Rattle.fv_canon.specs.Headline.{MeanSame, NormalisesTo};
 ghost use Rattle.fv_canon.specs.Refusals.{FaultStandsInInput, IsNoVolume, IsOfLayout, IsUnfit};
 ghost use Rattle.fv_canon.specs.Refusals.{NotPlaced, NotRead, Refuses};
-ghost use Rattle.fv_canon.specs.NormaliseRuns.{InputWrites, InputStops, RunWrites, RunStops};
+ghost use Rattle.fv_canon.specs.Runs.{InputWrites, InputStops, RunWrites, RunStops};
 ghost use Rattle.fv_tree.specs.Denotes.{Accepted};
 ghost use Rattle.fv_tree.specs.Meaning.{Meaning};
 
@@ -33,8 +32,7 @@ pub fn whole_volume(alloc: Global, input: &[u8]) -> Result<VolumeView<'_>, Fault
     ensures stands { IfErr result (λ f. f ≢ out_of_memory → FaultStandsInInput input.now f) }
 
     // Memory runs out only if the input begins with the header of a volume.
-    ensures memory { IfErr result
-        (λ f. f ≡ out_of_memory → (h : HeadFields) × (e : Extent) × BeginsVolume h e input.now) }
+    ensures memory { IfErr result (λ f. f ≡ out_of_memory → BeginsWithHeader input.now) }
     ensures kind { IfErr result (λ f. (f.kind ≢ FaultKind.ReadFault) × (f.kind ≢ FaultKind.WriteFault)) }
 {
     let (view, length) = read_volume(alloc, input)?;
@@ -69,8 +67,7 @@ pub fn normalise(alloc: Global, input: &[u8]) -> Result<ByteList, Fault>
     ensures fits { (image : List ℕ) → NormalisesTo input.now image → IfErr result (λ f. f ≡ out_of_memory) }
 
     // Memory runs out only if the input begins with the header of a volume.
-    ensures memory { IfErr result
-        (λ f. f ≡ out_of_memory → (h : HeadFields) × (e : Extent) × BeginsVolume h e input.now) }
+    ensures memory { IfErr result (λ f. f ≡ out_of_memory → BeginsWithHeader input.now) }
 {
     let view = whole_volume(alloc, input)?;
     canonical(alloc, &view)
@@ -96,8 +93,7 @@ pub fn write_normalised<W: Write>(
     ensures read { IfErr result (λ f. f.kind ≢ FaultKind.ReadFault) }
 
     // Memory runs out only if the input begins with the header of a volume.
-    ensures memory { IfErr result
-        (λ f. f ≡ out_of_memory → (h : HeadFields) × (e : Extent) × BeginsVolume h e input.now) }
+    ensures memory { IfErr result (λ f. f ≡ out_of_memory → BeginsWithHeader input.now) }
 
     // The writer's fault is returned exactly if a write failed.
     ensures fine { OnOk result (has_erred writer.new ≡ has_erred writer.old) }

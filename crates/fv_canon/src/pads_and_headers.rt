@@ -11,7 +11,7 @@ ghost use Rattle.fv_tree.specs.MeaningParts.{body_of, section_is_extended, secti
 ghost use Rattle.fv_tree.specs.Meaning.{body_len, section_len};
 ghost use Rattle.fv_file.specs.NewHeaders.{file_head_of, state_byte};
 ghost use Rattle.fv_canon.specs.StoredFiles.{ext_pad, gap_bytes, head_len_for, pad_bytes, size_for};
-ghost use Rattle.fv_canon.specs.inner.Placed.{ArePlaced, used_by};
+ghost use Rattle.fv_canon.specs.inner.Depths.{ArePlaced, used_by};
 ghost use Rattle.fv_base.specs.Flash.{erased_byte};
 ghost use Rattle.fv_base.specs.Measures.{data_limit};
 ghost use Rattle.fv_base.specs.Limits.{volume_limit};

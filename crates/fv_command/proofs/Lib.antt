@@ -1,8 +1,8 @@
 pub mod CheckLemmas
+pub mod EndLemmas
 pub mod InputLemmas
 pub mod ListLemmas
 pub mod OpenerLemmas
 pub mod PadLemmas
 pub mod PartLemmas
 pub mod RunLemmas
-pub mod WriteLemmas

@@ -12,7 +12,7 @@ use Rattle.fv_head.specs.declared.extent.Extent.{Extent}
 use Rattle.fv_tree.proofs.Laws.{want_known}
 use Rattle.fv_tree.specs.Denotes.{Accepted}
 use Rattle.fv_tree.specs.Meaning.{Meaning, head_of}
-use Rattle.fv_tree.specs.VolumeCells.{BeginsTiled}
+use Rattle.fv_tree.specs.LocatedFiles.{BeginsTiled}
 use Rattle.fv_command.specs.CheckTexts.{AreCells}
 
 -- bytes with as many as the volume says are all its bytes

@@ -3,7 +3,7 @@ use Rattle.std.specs.Prelude.{◌≡◌, ◌↔◌, ℕ, Bool, true, false, List
 use Rattle.std.specs.Prelude.{drop, codes}
 use Rattle.fv_base.specs.declared.flash.Polarity.{Polarity}
 use Rattle.fv_canon.specs.Image.{IsImage}
-use Rattle.fv_text.specs.Characters.{line_feed}
+use Rattle.fv_text.specs.HexText.{line_feed}
 use Rattle.fv_file.specs.Cells.{CellForm, Tiles}
 use Rattle.fv_head.specs.Head.{BeginsVolume}
 use Rattle.fv_head.specs.declared.extent.Extent.{Extent}
@@ -16,9 +16,6 @@ use Rattle.fv_lines.specs.declared.depex_notes.DepexNote.{DepexNote}
 abbrev pub verdict_line : Bool → List ℕ
 verdict_line true = codes "canonical" ++ line_feed
 verdict_line false = codes "not canonical" ++ line_feed
-
-abbrev pub check_lines : Polarity → List CellForm → List DepexNote → Bool → List ℕ
-check_lines polarity cells notes same = pad_notes polarity cells ++ (depex_lines notes ++ verdict_line same)
 
 -- a volume with this meaning has these cells, which tile it from its first file's offset on, and its erased bytes are
 -- of this polarity
@@ -38,5 +35,5 @@ pub record CheckText (input : List ℕ) (same : Bool) (text : List ℕ) : Type 0
   pub are_cells : AreCells meaning input polarity cells
   pub notes : List DepexNote
   pub are_notes : AreNotes (depexes_in (files_of meaning)) notes
-  pub text_is : text ≡ check_lines polarity cells notes same
+  pub text_is : text ≡ pad_notes polarity cells ++ (depex_lines notes ++ verdict_line same)
   pub same_is : (same ≡ true) ↔ IsImage meaning input

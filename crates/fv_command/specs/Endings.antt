@@ -1,12 +1,24 @@
--- The end of a run: what is left in the buffer of its output is written.
-use Rattle.std.specs.Prelude.{◌≡◌, ◌⊎◌, ℕ, Bool, List, if◌then◌else◌}
-use Rattle.fv_text.specs.PortViews.{Shown, StopsIn, Writes}
+-- How a run ends.
+use Rattle.std.specs.Io.KnownBytes.{Appends}
+use Rattle.std.specs.Prelude.{◌≡◌, ◌⊎◌, true, List, ℕ}
+use Rattle.fv_text.specs.PortViews.{Change, Shown, StopsIn, Writes}
 use Rattle.fv_command.specs.declared.status.Status.{Status}
-use Rattle.fv_command.specs.declared.status.Status.TheVariants.{Refused}
+use Rattle.fv_command.specs.declared.status.Status.TheVariants as statuses
 
--- the rest of a text was written, and the status is the run's own, or Refused if the output has failed; or a write
--- failed in the rest, and the status is Refused
-abbrev pub WritesRest : Status → List ℕ → (old new : Shown) → (failed : Bool) → Status → Type 0
-WritesRest ran rest old new failed status =
-    ((status ≡ (if failed then Refused else ran)) × Writes old new rest)
-    ⊎ ((status ≡ Refused) × StopsIn old new rest)
+-- the exit statuses
+abbrev pub exit_code : Status → ℕ
+exit_code statuses.Done = 0
+exit_code statuses.Different = 1
+exit_code statuses.Refused = 2
+exit_code statuses.WrongWords = 3
+
+-- all of a text was written, and the flush after it failed
+abbrev pub FlushFails : Shown → Shown → List ℕ → Type 0
+FlushFails old new text = Appends old.bytes new.bytes text × (new.erred ≡ true)
+
+-- a run with this status has this text. All of it was written, and the run ends with its own status; or a write failed
+-- in it, or the flush after it, and the run ends with Refused
+abbrev pub Ends : Status → List ℕ → Change → Status → Type 0
+Ends ran text output status =
+    ((status ≡ ran) × Writes output.old output.new text)
+    ⊎ ((status ≡ statuses.Refused) × (StopsIn output.old output.new text ⊎ FlushFails output.old output.new text))

@@ -35,13 +35,10 @@ pub record IsSectionOf (f : FileMeaning) (kind instance : ℕ) (answer : Extract
   pub plain : (b : List ℕ) → content_of f ≡ Plain b
       → (file_kind_of f ≡ security_core → (fs : List FrameForm) (t : ℕ) → Splits fs t b → ⊥) → answer ≡ NotSectioned
 
--- the data of a file, as the image has them
-abbrev pub IsFileData : FileMeaning → Extraction → Type 0
-IsFileData f (Made bytes) = IsData (content_of f) bytes
-IsFileData f _ = ⊥
-
+-- the data of a file, as the image has them; or a section of it
 abbrev pub IsFilePart : FileMeaning → Option ℕ → ℕ → Extraction → Type 0
-IsFilePart f None instance answer = IsFileData f answer
+IsFilePart f None instance (Made bytes) = IsData (content_of f) bytes
+IsFilePart f None instance _ = ⊥
 IsFilePart f (Some kind) instance answer = IsSectionOf f kind instance answer
 
 -- the part of the file with the part's name, if there is such a file

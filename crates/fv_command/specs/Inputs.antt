@@ -1,6 +1,5 @@
 -- What a run reads, and how it reports what stopped it.
 use Rattle.std.specs.Prelude.{◌≡◌, ◌≤◌, ◌⊎◌, ℕ, Bool, true, false, List, length, take, drop, Option, None, Some}
-use Rattle.fv_base.specs.Faults.{fault_number}
 use Rattle.fv_base.specs.Input.{ReadsWhole, ReadStops}
 use Rattle.fv_base.specs.declared.fault.Fault.{Fault}
 use Rattle.fv_base.specs.declared.fault.FaultKind.TheVariants as kinds
@@ -10,8 +9,7 @@ use Rattle.fv_tree.specs.Denotes.{Accepted}
 use Rattle.fv_tree.specs.FirstFault.{IsFirstOfVolume}
 use Rattle.fv_tree.specs.Meaning.{Meaning}
 use Rattle.fv_text.specs.HexIn.{SpellsWhole, TextStops}
-use Rattle.fv_command.specs.Lines.{TellsFault, fault_line}
-use Rattle.fv_text.specs.PortViews.{Change, Shown}
+use Rattle.fv_text.specs.PortViews.{Shown}
 
 -- an input was read to its end: as bytes, or as hexadecimal text that spells them
 abbrev pub Gives : Bool → Shown → Shown → List ℕ → Type 0
@@ -48,9 +46,3 @@ BeginsWith input m = (n : ℕ) × (n ≤ length input) × Accepted (take n input
 pub record BeginsNone (input : List ℕ) (fault : Fault) : Type 0 where
   pub none : (m : Meaning) → BeginsWith input m → ⊥
   pub first : IsFirstOfVolume input fault
-
--- a run stopped with some fault, and then the line of this fault was written, unless a write had failed
-abbrev pub TellsStop : (Change → Fault → Type 0) → Change → Type 0
-TellsStop stops output =
-    (fault : Fault) × (between : Shown) × stops (record { old = output.old; new = between }) fault
-    × TellsFault fault (fault_line (fault_number fault.kind) fault.place.offset) between output.new

@@ -1,13 +1,11 @@
 -- The definitions in the order in which they can be read.
 pub mod CheckTexts
 pub mod Extractions
-pub mod Outputs
 pub mod Endings
 pub mod Lines
 pub mod Inputs
 pub mod SideRuns
 pub mod Sources
-pub mod Statuses
 pub mod HobRuns
 pub mod ListTexts
 pub mod Tasks

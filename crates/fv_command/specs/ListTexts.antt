@@ -12,7 +12,7 @@ use Rattle.fv_base.specs.Sums.{words_of}
 use Rattle.fv_base.specs.declared.flash.FileSystem.{FileSystem}
 use Rattle.fv_base.specs.declared.flash.FileSystem.TheVariants.{Ffs2, Ffs3}
 use Rattle.fv_base.specs.declared.guid.Guid.{Guid}
-use Rattle.fv_text.specs.Characters.{four_digits, line_feed, two_digits}
+use Rattle.fv_text.specs.HexText.{four_digits, line_feed, two_digits}
 use Rattle.fv_canon.specs.Image.{IsData, IsImage}
 use Rattle.fv_head.specs.Ext.{Extension}
 use Rattle.fv_section.specs.Texts.{IsText, IsVersion, IsFreeform}

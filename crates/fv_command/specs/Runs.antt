@@ -1,28 +1,31 @@
 -- What a run of a plan does to its inputs and its output.
-use Rattle.std.specs.Prelude.{◌≡◌, ℕ, Bool, false, List, Option}
-use Rattle.fv_command.specs.HobRuns.{RunsHobs}
+use Rattle.std.specs.Prelude.{◌≡◌, ℕ, Bool, false, List, Option, option_map}
+use Rattle.fv_command.specs.Endings.{Ends}
+use Rattle.fv_command.specs.HobRuns.{SaysHobs}
 use Rattle.fv_plan.specs.Files.{first_file, second_file}
-use Rattle.fv_plan.specs.Images.{base_of}
 use Rattle.fv_text.specs.PortViews.{Change, Ports, Shown, seen}
-use Rattle.fv_command.specs.SideRuns.{RunsComparison}
+use Rattle.fv_command.specs.SideRuns.{SaysComparison}
 use Rattle.fv_command.specs.Sources.{IsFirstSource, IsSecondSource, unread}
-use Rattle.fv_command.specs.TaskRuns.{RunsTask}
+use Rattle.fv_command.specs.TaskRuns.{SaysTask}
 use Rattle.fv_plan.specs.declared.plan.Command.{Command}
 use Rattle.fv_plan.specs.declared.plan.Command.TheVariants.{Single, Hobs, Compare}
 use Rattle.fv_plan.specs.declared.plan.Plan.{Plan}
 use Rattle.fv_command.specs.declared.source.Source.{Source}
 use Rattle.fv_command.specs.declared.status.Status.{Status}
 
--- a run of a command, by its status: what was read of the first input and of the second, and what was written. A task
--- reads nothing of the second input
-abbrev pub RunsCommand : Command → Bool → Status → Ports → Type 0
-RunsCommand (Single task at file) hex status ports =
-    (ports.second.new ≡ ports.second.old) × RunsTask task hex at status ports.first ports.output
-RunsCommand (Hobs file image) hex status ports = RunsHobs (base_of image) hex status ports
-RunsCommand (Compare first second) hex status ports = RunsComparison hex first.at second.at status ports
+-- what a command says of its inputs, by what was read of them, and with which status. A task reads nothing of the second
+abbrev pub SaysCommand : Command → Bool → (first second : Change) → Status → List ℕ → Type 0
+SaysCommand (Single task at file) hex first second status text =
+    (second.new ≡ second.old) × SaysTask task hex at first status text
+SaysCommand (Hobs file image) hex first second status text =
+    SaysHobs (option_map (λ i. i.base) image) hex first second status text
+SaysCommand (Compare a b) hex first second status text = SaysComparison hex a.at b.at first second status text
 
+-- a run of a plan: what its command says was written, or a write failed in it
 abbrev pub Runs : Plan → Status → Ports → Type 0
-Runs p status ports = RunsCommand p.command p.hex status ports
+Runs p status ports =
+    (ran : Status) × (text : List ℕ) × SaysCommand p.command p.hex ports.first ports.second ran text
+    × Ends ran text ports.output status
 
 -- what a source shows before anything is read from it
 abbrev pub fresh : {S F : Type 0} → (S → Option (List ℕ)) → (F → Option (List ℕ)) → Source S F → Shown

@@ -10,7 +10,7 @@ use Rattle.fv_tree.specs.FoundVolumes.{Found}
 use Rattle.fv_tree.specs.Meaning.{Meaning, files_of}
 use Rattle.fv_tree.specs.FileNames.{file_named}
 use Rattle.fv_lines.specs.CellTexts.{CellsText}
-use Rattle.fv_tree.specs.VolumeCells.{NotTiled}
+use Rattle.fv_tree.specs.LocatedFiles.{NotTiled}
 use Rattle.fv_command.specs.CheckTexts.{CheckText}
 use Rattle.fv_text.specs.HexText.{ShowsBytes}
 use Rattle.fv_command.specs.Inputs.{BeginsWith, BeginsNone}

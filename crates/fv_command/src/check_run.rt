@@ -1,60 +1,82 @@
 //! Whether a volume is its own canonical image, and what in it deserves a note.
 
-ghost use Rattle.std.specs.Prelude.{IfOk, IfErr};
-ghost use Rattle.fv_command.specs.inner.CheckRuns.{InputChecks, CheckStops};
-ghost use Rattle.fv_text.specs.PortViews.{shown};
+ghost use Rattle.std.specs.Prelude.{◌≡◌, ◌⊎◌, ℕ, Bool, List, option_copied, IfErr, IfOk, OnErr};
+ghost use Rattle.fv_base.specs.Faults.{out_of_memory};
+ghost use Rattle.fv_command.specs.CheckTexts.{CheckText, verdict_line};
+ghost use Rattle.fv_command.specs.inner.CheckRuns.{NotedText};
+ghost use Rattle.fv_command.specs.inner.TaskSteps.{Performs};
 ghost use Rattle.fv_tree.specs.Denotes.{Accepted};
 
-use crate::check_text::write_lines;
-use crate::pads::noted_cells;
-use fv_base::{Fault, Port};
+use crate::pads::{noted_cells, put_pads};
+use crate::status::Status;
+use fv_base::{Fault, Polarity, Sink};
 use fv_canon::{is_canonical_image, whole_volume};
+use fv_file::Cells;
+use fv_lines::put_depex_notes;
+use fv_plan::Task;
 use fv_tree::VolumeView;
 use std::alloc::Global;
-use std::io::Write;
 
-// Writes the lines of a check of the volume that the input is. Returns whether it is its own
+// Puts whether a volume is its own canonical image.
+fn put_verdict<S: Sink>(out: &mut S, is_same: bool)
+    ensures { S.takes out.old (verdict_line is_same) out.new }
+{
+    if is_same {
+        out.put(b"canonical\n");
+    } else {
+        out.put(b"not canonical\n");
+    }
+}
+
+// Puts the lines of a check of the volume. If `tiled` is None, no pad is noted: the volume is its
+// own canonical image.
+fn put_lines<S: Sink>(
+    out: &mut S,
+    tiled: Option<&(Cells<'_>, Polarity)>,
+    volume: &VolumeView<'_>,
+    is_same: bool,
+)
+    ensures { (text : List ℕ) × NotedText (option_copied tiled.entry) volume.now is_same text
+        × S.takes out.old text out.new }
+{
+    put_pads(out, tiled);
+    put_depex_notes(out, volume);
+    put_verdict(out, is_same);
+}
+
+// Puts the lines of a check of the volume that the input is. Returns whether it is its own
 // canonical image.
-fn check_volume<W: Write>(
+fn put_volume_check<S: Sink>(
     alloc: Global,
     input: &[u8],
     view: &VolumeView<'_>,
-    writer: &mut Port<W>,
+    out: &mut S,
 ) -> Result<bool, Fault>
     requires { Accepted input.now view.now }
-    ensures ok { IfOk result (InputChecks input.now (shown W.contents writer.old)
-        (shown W.contents writer.new)) }
-    ensures err { IfErr result (CheckStops input.now (shown W.contents writer.old)
-        (shown W.contents writer.new)) }
+    ensures ok { IfOk result (λ same. (text : List ℕ) × CheckText input.now same text × S.takes out.old text out.new) }
+    ensures err { IfErr result (λ f. f ≡ out_of_memory) }
+    ensures untouched { OnErr result (out.new ≡ out.old) }
 {
     let is_same = is_canonical_image(alloc, view, input)?;
     let tiled = noted_cells(alloc, input, is_same)?;
-    write_lines(writer, tiled.as_ref(), view, is_same)?;
+    put_lines(out, tiled.as_ref(), view, is_same);
     Ok(is_same)
 }
 
-/// Writes the lines of a check: one for each pad of the input's volume that holds bytes which are
-/// not erased, one for each dependency expression of its files that is rejected, and last whether
-/// the input is its own canonical image. Returns whether it is. Nothing is written before the whole
-/// input has been accepted.
+/// Puts the lines of a check: one for each pad of the input's volume that holds bytes which are not
+/// erased, one for each dependency expression of its files that is rejected, and last whether the
+/// input is its own canonical image. The status is Done if it is, else Different.
 ///
 /// # Errors
 ///
-/// Those of `whole_volume`; OutOfMemory; nothing was written then. WriteFault if a write fails or
-/// takes no byte; the first bytes of the lines were written then, and not all of them.
-pub fn write_check<W: Write>(
-    alloc: Global,
-    input: &[u8],
-    writer: &mut Port<W>,
-) -> Result<bool, Fault>
-    // The lines of the check were written, and the last of them says the same as the result.
-    ensures ok { IfOk result (InputChecks input.now (shown W.contents writer.old)
-        (shown W.contents writer.new)) }
-
-    // Nothing was written, or a write failed in them.
-    ensures err { IfErr result (CheckStops input.now (shown W.contents writer.old)
-        (shown W.contents writer.new)) }
+/// Those of `whole_volume`; OutOfMemory. Nothing was put then.
+pub fn put_check<S: Sink>(alloc: Global, input: &[u8], out: &mut S) -> Result<Status, Fault>
+    ensures { (hex : Bool) → Performs S.takes Task.Check hex input.now out.old out.new result }
 {
     let view = whole_volume(alloc, input)?;
-    check_volume(alloc, input, &view, writer)
+    if put_volume_check(alloc, input, &view, out)? {
+        Ok(Status::Done)
+    } else {
+        Ok(Status::Different)
+    }
 }

@@ -1,20 +1,21 @@
 //! Two volumes, compared.
 
-ghost use Rattle.std.specs.Prelude.{◌≡◌, ℕ, IfErr, IfOk, MatchResult, Option};
-ghost use Rattle.fv_canon.specs.Comparisons.{VolumeStops};
+ghost use Rattle.std.specs.Prelude.{◌≡◌, ℕ, List, IfErr, IfOk, Option};
+ghost use Rattle.fv_canon.specs.Runs.{VolumeStops};
 ghost use Rattle.fv_tree.specs.Denotes.{Accepted};
 ghost use Rattle.fv_command.specs.Inputs.{Gives, GivingStops};
 ghost use Rattle.fv_text.specs.PortViews.{Change, change, shown};
-ghost use Rattle.fv_command.specs.SideRuns.{ComparesRead, GivesVolume, RunsComparison, SideStops};
+ghost use Rattle.fv_command.specs.SideRuns.{GivesVolume, SaysComparison};
+ghost use Rattle.fv_command.specs.inner.SideSteps.{Compares, verdict_of};
 
-use crate::fault_text::refuse_side;
+use crate::fault_text::put_side_refusal;
 use crate::inputs::{read_bytes, taken_at};
 use crate::status::Status;
-use fv_base::{Fault, Port};
-use fv_canon::{Side, whole_volume, write_comparison};
+use fv_base::{Fault, Port, Sink};
+use fv_canon::{Side, put_comparison, whole_volume};
 use fv_tree::VolumeView;
 use std::alloc::Global;
-use std::io::{Read, Write};
+use std::io::Read;
 
 // The bytes of the input of a side.
 fn read_side<R: Read>(
@@ -44,76 +45,76 @@ fn accept_side(alloc: Global, side: Side, bytes: &[u8]) -> Result<VolumeView<'_>
     }
 }
 
-// Writes whether a volume, the first, and the one that the reader gives have the same meaning and,
-// if not, where they first differ. Returns whether they have. A fault is returned with the side
-// that stopped the run.
-fn compare_with<Second: Read, W: Write>(
+// The status of a comparison of two volumes that are the same, or not.
+fn verdict(is_same: bool) -> Status
+    ensures { result ≡ verdict_of is_same }
+{
+    if is_same {
+        Status::Done
+    } else {
+        Status::Different
+    }
+}
+
+// Puts whether a volume, the first, and the one that the reader gives have the same meaning and, if
+// not, where they first differ. A fault is returned with the side that stopped the run; nothing was
+// put then.
+fn compare_with<Second: Read, S: Sink>(
     alloc: Global,
     hex: bool,
     at: Option<u64>,
     volume: &VolumeView<'_>,
     reader: &mut Port<Second>,
-    writer: &mut Port<W>,
-) -> Result<bool, (Side, Fault)>
+    out: &mut S,
+) -> Result<Status, (Side, Fault)>
     // Whatever the input is that gives the first volume.
     ensures { (place : Option ℕ) (input : Change) → GivesVolume hex place input volume.now
-        → MatchResult result (ComparesRead hex place at (record {
-          first = input;
-          second = change Second.remaining reader.old reader.new;
-          output = change W.contents writer.old writer.new;
-        })) (λ e. SideStops e.0 hex place at input (change Second.remaining reader.old reader.new)
-        (change W.contents writer.old writer.new) e.1) }
+        → Compares S.takes hex place at input (change Second.remaining reader.old reader.new) out.old out.new result }
 {
     let bytes = read_side(alloc, hex, Side::Second, reader)?;
     let other = accept_side(alloc, Side::Second, taken_at(&bytes, at))?;
-    write_comparison(alloc, volume, &other, writer)
+    match put_comparison(alloc, volume, &other, out) {
+        Ok(is_same) => Ok(verdict(is_same)),
+        Err(fault) => Err((Side::First, fault)),
+    }
 }
 
-// Writes whether the volumes that the two readers give have the same meaning and, if not, where
-// they first differ. Returns whether they have. A fault is returned with the side that stopped the
-// run.
-fn compare_inputs<First: Read, Second: Read, W: Write>(
+// Puts whether the volumes that the two readers give have the same meaning and, if not, where they
+// first differ. A fault is returned with the side that stopped the run; nothing was put then.
+fn compare_inputs<First: Read, Second: Read, S: Sink>(
     alloc: Global,
     hex: bool,
     at: Option<u64>,
     other_at: Option<u64>,
     first: &mut Port<First>,
     second: &mut Port<Second>,
-    writer: &mut Port<W>,
-) -> Result<bool, (Side, Fault)>
-    ensures { MatchResult result (ComparesRead hex at other_at (record {
-      first = change First.remaining first.old first.new;
-      second = change Second.remaining second.old second.new;
-      output = change W.contents writer.old writer.new;
-    })) (λ e. SideStops e.0 hex at other_at (change First.remaining first.old first.new)
-        (change Second.remaining second.old second.new) (change W.contents writer.old writer.new) e.1) }
+    out: &mut S,
+) -> Result<Status, (Side, Fault)>
+    ensures { Compares S.takes hex at other_at (change First.remaining first.old first.new)
+        (change Second.remaining second.old second.new) out.old out.new result }
 {
     let bytes = read_side(alloc, hex, Side::First, first)?;
     let volume = accept_side(alloc, Side::First, taken_at(&bytes, at))?;
-    compare_with(alloc, hex, other_at, &volume, second, writer)
+    compare_with(alloc, hex, other_at, &volume, second, out)
 }
 
-/// Writes whether two volumes have the same meaning, or the line of the fault that stopped the run.
+/// Puts whether two volumes have the same meaning, or the line of the fault that stopped the run.
 /// If `at` is a number, the first is the volume at this byte of its input. `other_at` says the same
 /// of the second. The second input is read only after a first that is a volume.
-pub fn run_comparison<First: Read, Second: Read, W: Write>(
+pub fn put_compared<First: Read, Second: Read, S: Sink>(
     alloc: Global,
     hex: bool,
     at: Option<u64>,
     other_at: Option<u64>,
     first: &mut Port<First>,
     second: &mut Port<Second>,
-    writer: &mut Port<W>,
+    out: &mut S,
 ) -> Status
-    ensures { RunsComparison hex at other_at result (record {
-      first = change First.remaining first.old first.new;
-      second = change Second.remaining second.old second.new;
-      output = change W.contents writer.old writer.new;
-    }) }
+    ensures { (text : List ℕ) × SaysComparison hex at other_at (change First.remaining first.old first.new)
+        (change Second.remaining second.old second.new) result text × S.takes out.old text out.new }
 {
-    match compare_inputs(alloc, hex, at, other_at, first, second, writer) {
-        Ok(true) => Status::Done,
-        Ok(false) => Status::Different,
-        Err((side, fault)) => refuse_side(writer, side, fault),
+    match compare_inputs(alloc, hex, at, other_at, first, second, out) {
+        Ok(status) => status,
+        Err((side, fault)) => put_side_refusal(out, side, fault),
     }
 }

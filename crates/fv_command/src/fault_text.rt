@@ -1,22 +1,24 @@
 //! The line that a run ends with: that of a wrong command line, or of the fault that stopped the
 //! run.
 
-ghost use Rattle.std.specs.Prelude.{◌≡◌, ◌⊎◌, ◌++◌, IfErr, OnOk};
-ghost use Rattle.fv_base.specs.Faults.{fault_number};
-ghost use Rattle.fv_hob.specs.HobChecks.{hob_fault_number as hob_number_of};
-ghost use Rattle.fv_command.specs.Lines.{fault_line, hob_fault_line, TellsFault, TellsSideFault};
-ghost use Rattle.fv_text.specs.PortViews.{StopsIn, Writes, WritesOrStops, WritingStops, shown};
+ghost use Rattle.std.specs.Prelude.{◌≡◌, ◌≢◌, ◌++◌, true};
+ghost use Rattle.fv_base.specs.Port.{is_flushed};
+ghost use Rattle.fv_command.specs.Endings.{Ends};
+ghost use Rattle.fv_command.specs.Lines.{fault_line, hob_fault_line, numbered_line, side_fault_line};
+ghost use Rattle.fv_command.specs.inner.EndSteps.{Written};
+ghost use Rattle.fv_text.specs.PortViews.{change, shown};
 
+use crate::run_end::{finish, is_whole};
 use crate::status::Status;
-use fv_base::{Fault, FaultKind, Port, Sink, WriteSink};
+use fv_base::{Fault, Port, Sink, WriteSink};
 use fv_canon::Side;
 use fv_hob::HobFault;
-use fv_text::{put_decimal, write_bytes};
+use fv_text::put_decimal;
 use std::io::Write;
 
 // Puts the line of a fault, which begins with `words`.
 fn put_fault<S: Sink>(out: &mut S, words: &[u8], number: u8, offset: u64)
-    ensures { S.takes out.old (words.now ++ fault_line number offset) out.new }
+    ensures { S.takes out.old (words.now ++ numbered_line number offset) out.new }
 {
     out.put(words);
     out.put(b"fault ");
@@ -26,83 +28,71 @@ fn put_fault<S: Sink>(out: &mut S, words: &[u8], number: u8, offset: u64)
     out.put(b"\n");
 }
 
-// Writes the line of a fault, which begins with `words`.
-//
-// # Errors
-//
-// WriteFault if a write fails or takes no byte.
-fn write_fault<W: Write>(
-    writer: &mut Port<W>,
-    words: &[u8],
-    number: u8,
-    offset: u64,
-) -> Result<(), Fault>
-    ensures ok { OnOk result (Writes (shown W.contents writer.old) (shown W.contents writer.new)
-        (words.now ++ fault_line number offset)) }
-    ensures err { IfErr result (WritingStops (shown W.contents writer.old) (shown W.contents writer.new)
-        (words.now ++ fault_line number offset)) }
+/// Puts the line `fault N at M` of a fault, with its number and its offset in bytes, and returns
+/// Refused.
+pub fn put_refusal<S: Sink>(out: &mut S, fault: Fault) -> Status
+    ensures status { result ≡ Status.Refused }
+    ensures line { S.takes out.old (fault_line fault) out.new }
+{
+    put_fault(out, b"", fault.kind.number(), fault.place.offset);
+    Status::Refused
+}
+
+/// Puts the line `hob fault N at M` of a rejected hand-off list, and returns Refused.
+pub fn put_hob_refusal<S: Sink>(out: &mut S, fault: HobFault) -> Status
+    ensures status { result ≡ Status.Refused }
+    ensures line { S.takes out.old (hob_fault_line fault) out.new }
+{
+    put_fault(out, b"hob ", fault.number(), fault.offset);
+    Status::Refused
+}
+
+/// Puts the line of the fault of one of two inputs, with the side before it, and returns Refused.
+pub fn put_side_refusal<S: Sink>(out: &mut S, side: Side, fault: Fault) -> Status
+    ensures status { result ≡ Status.Refused }
+    ensures line { S.takes out.old (side_fault_line side fault) out.new }
+{
+    let words: &[u8] = match side {
+        Side::First => b"first ",
+        Side::Second => b"second ",
+        Side::Output => b"",
+    };
+    put_fault(out, words, fault.kind.number(), fault.place.offset);
+    Status::Refused
+}
+
+// Writes a line. Returns whether all of it was written.
+fn write_line<W: Write>(writer: &mut Port<W>, line: &[u8]) -> bool
+    ensures { Written result line.now (shown W.contents writer.old) (shown W.contents writer.new) }
 {
     let mut out = WriteSink::new(writer);
-    put_fault(&mut out, words, number, offset);
-    out.outcome()
+    out.put(line);
+    is_whole(&out)
 }
 
-/// Writes a line and returns the status, or Refused if the line cannot be written.
+// Writes the line of a fault. Returns whether all of it was written.
+fn write_refusal<W: Write>(writer: &mut Port<W>, fault: Fault) -> bool
+    ensures { Written result (fault_line fault) (shown W.contents writer.old) (shown W.contents writer.new) }
+{
+    let mut out = WriteSink::new(writer);
+    put_refusal(&mut out, fault);
+    is_whole(&out)
+}
+
+/// Writes a line, asks the writer to flush, and returns the status; or Refused if one of them fails.
 pub fn say<W: Write>(writer: &mut Port<W>, line: &str, status: Status) -> Status
-    // The line was written, and the status is the one given; or a write failed in the line.
-    ensures { ((result ≡ status) × Writes (shown W.contents writer.old) (shown W.contents writer.new) line.now)
-        ⊎ ((result ≡ Status.Refused) × StopsIn (shown W.contents writer.old) (shown W.contents writer.new) line.now) }
+    ensures ends { Ends status line.now (change W.contents writer.old writer.new) result }
+    ensures flushed { result ≢ Status.Refused → is_flushed writer.new ≡ true }
 {
-    match write_bytes(writer, line.as_bytes()) {
-        Ok(()) => status,
-        Err(_) => Status::Refused,
-    }
+    let is_written = write_line(writer, line.as_bytes());
+    finish(writer, is_written, status)
 }
 
-// Writes the line of a fault, which begins with `words`, and returns Refused.
-fn say_fault<W: Write>(writer: &mut Port<W>, words: &[u8], number: u8, offset: u64) -> Status
-    ensures status { result ≡ Status.Refused }
-    ensures said { WritesOrStops (shown W.contents writer.old) (shown W.contents writer.new)
-        (words.now ++ fault_line number offset) }
-{
-    match write_fault(writer, words, number, offset) {
-        Ok(()) | Err(_) => Status::Refused,
-    }
-}
-
-/// Writes the line `fault N at M` of a fault, with its number and its offset in bytes, and returns
-/// Refused. After a failed write nothing more is written.
+/// Writes the line `fault N at M` of a fault, with its number and its offset in bytes, asks the
+/// writer to flush, and returns Refused.
 pub fn refuse<W: Write>(writer: &mut Port<W>, fault: Fault) -> Status
-    ensures status { result ≡ Status.Refused }
-    ensures told { TellsFault fault (fault_line (fault_number fault.kind) fault.place.offset)
-        (shown W.contents writer.old) (shown W.contents writer.new) }
+    ensures { Ends Status.Refused (fault_line fault) (change W.contents writer.old writer.new) result }
 {
-    if fault.kind == FaultKind::WriteFault {
-        return Status::Refused;
-    }
-    say_fault(writer, b"", fault.kind.number(), fault.place.offset)
-}
-
-/// Writes the line `hob fault N at M` of a rejected hand-off list, and returns Refused.
-pub fn refuse_hobs<W: Write>(writer: &mut Port<W>, fault: HobFault) -> Status
-    ensures status { result ≡ Status.Refused }
-    ensures said { WritesOrStops (shown W.contents writer.old) (shown W.contents writer.new)
-        (hob_fault_line (hob_number_of fault.kind) fault.offset) }
-{
-    say_fault(writer, b"hob ", fault.number(), fault.offset)
-}
-
-/// Writes the line of the fault of one of two inputs, with the side before it, and returns Refused.
-/// If the output stopped, nothing more is written.
-pub fn refuse_side<W: Write>(writer: &mut Port<W>, side: Side, fault: Fault) -> Status
-    ensures status { result ≡ Status.Refused }
-    ensures told { TellsSideFault side fault (shown W.contents writer.old) (shown W.contents writer.new) }
-{
-    let number = fault.kind.number();
-    let offset = fault.place.offset;
-    match side {
-        Side::First => say_fault(writer, b"first ", number, offset),
-        Side::Second => say_fault(writer, b"second ", number, offset),
-        Side::Output => Status::Refused,
-    }
+    let is_written = write_refusal(writer, fault);
+    finish(writer, is_written, Status::Refused)
 }

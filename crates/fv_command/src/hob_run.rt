@@ -1,19 +1,19 @@
 //! A run over a hand-off list, and the image in which its volumes are looked for.
 
-ghost use Rattle.std.specs.Prelude.{◌≡◌, IfOk, IfErr};
-ghost use Rattle.fv_command.specs.HobRuns.{GivesImage, HobImageStops, HobInputStops, RunsHobs};
+ghost use Rattle.std.specs.Prelude.{◌≡◌, ℕ, List, IfOk, IfErr};
+ghost use Rattle.fv_command.specs.HobRuns.{GivesImage, HobImageStops, HobInputStops, SaysHobs};
 ghost use Rattle.fv_command.specs.Inputs.{Gives};
 ghost use Rattle.fv_lines.specs.HobLines.{held_image, image_form};
 ghost use Rattle.fv_text.specs.PortViews.{change, shown};
 
-use crate::fault_text::{refuse, refuse_hobs};
+use crate::fault_text::{put_hob_refusal, put_refusal};
 use crate::inputs::read_bytes;
 use crate::status::Status;
-use fv_base::{Fault, Port};
+use fv_base::{Fault, Port, Sink};
 use fv_hob::read_hobs;
-use fv_lines::{MappedImage, write_hobs};
+use fv_lines::{MappedImage, put_hobs};
 use std::alloc::Global;
-use std::io::{Read, Write};
+use std::io::Read;
 
 // The bytes of the image that the reader gives, if there is a base. Without a base nothing is read,
 // and there are no bytes.
@@ -61,33 +61,27 @@ fn read_inputs<First: Read, Second: Read>(
     Ok((list, image))
 }
 
-/// Writes the blocks of the hand-off list that the first reader gives, or the line of the fault
-/// that stopped the run. With a base the second reader gives an image whose first byte has that
-/// address.
-pub fn run_hobs<First: Read, Second: Read, W: Write>(
+/// Puts the blocks of the hand-off list that the first reader gives, or the line of the fault that
+/// stopped the run. With a base the second reader gives an image whose first byte has that address.
+pub fn put_hob_list<First: Read, Second: Read, S: Sink>(
     alloc: Global,
     hex: bool,
     base: Option<u64>,
     first: &mut Port<First>,
     second: &mut Port<Second>,
-    writer: &mut Port<W>,
+    out: &mut S,
 ) -> Status
-    ensures { RunsHobs base hex result (record {
-      first = change First.remaining first.old first.new;
-      second = change Second.remaining second.old second.new;
-      output = change W.contents writer.old writer.new;
-    }) }
+    ensures { (text : List ℕ) × SaysHobs base hex (change First.remaining first.old first.new)
+        (change Second.remaining second.old second.new) result text × S.takes out.old text out.new }
 {
     let (list, image) = match read_inputs(alloc, hex, base, first, second) {
         Ok(inputs) => inputs,
-        Err(fault) => return refuse(writer, fault),
+        Err(fault) => return put_refusal(out, fault),
     };
     let (hobs, consumed) = match read_hobs(alloc, &list) {
         Ok(read) => read,
-        Err(fault) => return refuse_hobs(writer, fault),
+        Err(fault) => return put_hob_refusal(out, fault),
     };
-    match write_hobs(writer, &hobs, consumed, image_of(&image, base)) {
-        Ok(()) => Status::Done,
-        Err(fault) => refuse(writer, fault),
-    }
+    put_hobs(out, hobs.as_slice(), consumed, image_of(&image, base));
+    Status::Done
 }

@@ -1,23 +1,21 @@
 //! The commands of the program, over readers and a writer.
 //!
-//! A module `.._text` has the lines that a command writes. A module `.._run` makes a command of
-//! them: it reads or takes the inputs, and writes the lines.
+//! A module `.._text` has the lines that commands write. A module `.._run` makes a command of them:
+//! it reads or takes the inputs, and puts the lines into the sink of the run.
 #![tactic(auto)]
 
 mod check_run;
-mod check_text;
 mod comparison_run;
 mod digest_sink;
 mod extracting;
 mod fault_text;
-mod flash_text;
+mod flash_run;
 mod hob_run;
-mod image_text;
+mod image_run;
 mod inputs;
 mod leaf_text;
 mod list_text;
 mod opener;
-mod output;
 mod pads;
 mod plan_run;
 mod run_end;
@@ -30,8 +28,6 @@ mod task_run;
 
 pub use fault_text::{refuse, say};
 pub use opener::{Opener, run_over};
-pub use output::Output;
 pub use plan_run::run_plan;
-pub use run_end::close;
 pub use source::Source;
 pub use status::Status;

@@ -1,6 +1,6 @@
 //! The files and the sections of a volume, one line each.
 
-ghost use Rattle.std.specs.Prelude.{◌≡◌, ◌⊎◌, ℕ, List, IfErr, IfOk, OnOk, true};
+ghost use Rattle.std.specs.Prelude.{◌≡◌, ◌⊎◌, ℕ, List, IfErr, IfOk, OnErr, OnOk, true};
 ghost use Rattle.fv_base.specs.Faults.{out_of_memory};
 ghost use Rattle.fv_canon.specs.LayoutFaults.{AllFit, Unfit};
 ghost use Rattle.fv_canon.specs.Layouts.{Fits};
@@ -9,23 +9,20 @@ ghost use Rattle.fv_tree.specs.MeaningParts.{files_from, sections_from, section_
 ghost use Rattle.fv_tree.specs.Meaning.{content_of};
 ghost use Rattle.fv_tree.specs.Views.{body_view, content_view};
 ghost use Rattle.fv_command.specs.inner.Indents.{levels};
-ghost use Rattle.fv_command.specs.inner.SumRuns.{SumsStop};
 ghost use Rattle.fv_command.specs.ListTexts.{form_text, system_text, name_text};
 ghost use Rattle.fv_command.specs.ListTexts.{volume_text, file_text, section_text, BodyShown};
 ghost use Rattle.fv_command.specs.ListTexts.{FileSum, VolumeSum, ListText, SumsText};
 ghost use Rattle.fv_command.specs.ListTexts.{VolumeLines, FilesLines, ContentLines, SectionsLines, BodyLines};
-ghost use Rattle.fv_text.specs.PortViews.{Writes, WritingStops, shown};
 
 use crate::leaf_text::put_section_body;
 use crate::style::{Indent, Style, put_indent};
 use crate::sums::{put_file_sum, put_volume_sum};
-use fv_base::{ByteList, Fault, FileSystem, ListSink, Port, Sink, WriteSink};
+use fv_base::{ByteList, Fault, FileSystem, ListSink, Sink};
 use fv_canon::layout;
 use fv_head::VolumeHead;
-use fv_text::{GatheringSink, put_decimal, put_two_digits, write_bytes};
+use fv_text::{put_decimal, put_two_digits};
 use fv_tree::{Body, Content, FileView, SectionView, VolumeView};
 use std::alloc::Global;
-use std::io::Write;
 
 // The text for the form of a section's header, which comes before the length of its body.
 fn form_words(is_extended: bool) -> &'static [u8]
@@ -220,41 +217,19 @@ fn put_volume<S: Sink>(out: &mut S, volume: &VolumeView<'_>, style: &Style<'_>) 
     put_files(out, volume.files(), &inside)
 }
 
-// Puts the lines of the volume and of all that it holds, and returns the sink. Each piece of a line
-// is small, so they are gathered.
-fn put_list<S: Sink>(alloc: Global, below: S, volume: &VolumeView<'_>) -> S
-    ensures { (text : List ℕ) × ListText volume.now text × S.takes below text result }
+/// Puts a line for the volume, for each of its files and for each section in these, and likewise for
+/// what groups and nested volumes hold.
+pub fn put_list<S: Sink>(alloc: Global, volume: &VolumeView<'_>, out: &mut S)
+    ensures { (text : List ℕ) × ListText volume.now text × S.takes out.old text out.new }
 {
-    let mut out = GatheringSink::new(below);
     let style = Style {
         alloc,
         sums: false,
         indent: Indent::Margin,
     };
-    let Ok(()) = put_volume(&mut out, volume, &style) else {
+    let Ok(()) = put_volume(out, volume, &style) else {
         unreachable!()
     };
-    out.finish()
-}
-
-/// Writes a line for the volume, for each of its files and for each section in these, and likewise
-/// for what groups and nested volumes hold.
-///
-/// # Errors
-///
-/// WriteFault if a write fails or takes no byte.
-pub fn write_list<W: Write>(
-    alloc: Global,
-    writer: &mut Port<W>,
-    volume: &VolumeView<'_>,
-) -> Result<(), Fault>
-    ensures ok { OnOk result ((text : List ℕ) × ListText volume.now text
-        × Writes (shown W.contents writer.old) (shown W.contents writer.new) text) }
-    ensures err { IfErr result (λ f. (text : List ℕ) × ListText volume.now text
-        × WritingStops (shown W.contents writer.old) (shown W.contents writer.new) text f) }
-{
-    let out = put_list(alloc, WriteSink::new(writer), volume);
-    out.outcome()
 }
 
 // The lines of the volume and of all that it holds, with sums.
@@ -273,25 +248,23 @@ fn sums_text(alloc: Global, volume: &VolumeView<'_>) -> Result<ByteList, Fault>
     out.finish()
 }
 
-/// Writes the lines of `write_list`, with the SHA-256 of each volume's canonical image and of each
-/// file's data in it. Nothing is written before all sums are known. (PI specification, volume 3,
-/// section 3.2.)
+/// Puts the lines of `put_list`, with the SHA-256 of each volume's canonical image and of each
+/// file's data in it. Nothing is put before all sums are known. (PI specification, volume 3, section
+/// 3.2.)
 ///
 /// # Errors
 ///
-/// The fault of the first volume that does not fit, or OutOfMemory; nothing was written then.
-/// WriteFault if a write fails or takes no byte.
-pub fn write_sums<W: Write>(
+/// The fault of the first volume that does not fit, or OutOfMemory. Nothing was put then.
+pub fn put_list_sums<S: Sink>(
     alloc: Global,
-    writer: &mut Port<W>,
     volume: &VolumeView<'_>,
+    out: &mut S,
 ) -> Result<(), Fault>
-    ensures ok { OnOk result ((text : List ℕ) × SumsText volume.now text
-        × Writes (shown W.contents writer.old) (shown W.contents writer.new) text) }
-
-    // Nothing was written, or a write failed in the text.
-    ensures err { IfErr result (SumsStop volume.now (shown W.contents writer.old) (shown W.contents writer.new)) }
+    ensures ok { OnOk result ((text : List ℕ) × SumsText volume.now text × S.takes out.old text out.new) }
+    ensures err { IfErr result (λ f. (f ≡ out_of_memory) ⊎ Unfit volume.now 0 f) }
+    ensures untouched { OnErr result (out.new ≡ out.old) }
 {
     let text = sums_text(alloc, volume)?;
-    write_bytes(writer, text.as_slice())
+    out.put(text.as_slice());
+    Ok(())
 }

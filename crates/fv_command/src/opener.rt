@@ -1,6 +1,7 @@
 //! What opens the inputs of a run, and a run over the inputs that its plan names.
 
-ghost use Rattle.std.specs.Prelude.{ℕ, List, Option};
+ghost use Rattle.std.specs.Prelude.{◌≡◌, ◌≢◌, ℕ, List, Option, true};
+ghost use Rattle.fv_base.specs.Port.{is_flushed};
 ghost use Rattle.fv_command.specs.Runs.{RunsOver};
 ghost use Rattle.fv_command.specs.Sources.{IsFirstSource, IsOpened, IsSecondSource};
 ghost use Rattle.fv_plan.specs.Files.{first_file, second_file};
@@ -77,8 +78,11 @@ pub fn run_over<O: Opener, W: Write>(
     plan: &Plan,
     writer: &mut Port<W>,
 ) -> Status
-    ensures { RunsOver O.Standard.remaining O.File.remaining (O.opens opener.now) (O.is_standard opener.now)
+    ensures runs { RunsOver O.Standard.remaining O.File.remaining (O.opens opener.now) (O.is_standard opener.now)
         plan.now result (change W.contents writer.old writer.new) }
+
+    // The last call of the writer was a flush, unless the status is Refused.
+    ensures flushed { result ≢ Status.Refused → is_flushed writer.new ≡ true }
 {
     let first = first_source(opener, plan);
     let second = second_source(opener, plan);

@@ -1,16 +1,90 @@
 //! The commands, run over readers and a writer.
 
-ghost use Rattle.fv_text.specs.PortViews.{change};
-ghost use Rattle.fv_command.specs.Runs.{Runs};
+ghost use Rattle.std.specs.Prelude.{◌≡◌, ◌≢◌, ℕ, List, option_map, true};
+ghost use Rattle.fv_base.specs.Port.{is_flushed};
+ghost use Rattle.fv_command.specs.inner.EndSteps.{Written};
+ghost use Rattle.fv_text.specs.PortViews.{change, shown};
+ghost use Rattle.fv_command.specs.Runs.{Runs, SaysCommand};
 
-use crate::comparison_run::run_comparison;
-use crate::hob_run::run_hobs;
+use crate::comparison_run::put_compared;
+use crate::hob_run::put_hob_list;
+use crate::run_end::{finish, is_whole};
 use crate::status::Status;
-use crate::task_run::run_task;
-use fv_base::Port;
-use fv_plan::{Command, Plan};
+use crate::task_run::put_task;
+use fv_base::{Port, Sink, WriteSink};
+use fv_plan::{Command, ImageFile, Plan};
+use fv_text::GatheringSink;
 use std::alloc::Global;
 use std::io::{Read, Write};
+
+// The address of an image, if there is one.
+fn base_of(image: &Option<ImageFile>) -> Option<u64>
+    ensures { result ≡ option_map (λ i. i.base) image.now }
+{
+    match image {
+        Some(image) => Some(image.base),
+        None => None,
+    }
+}
+
+// Puts what the command of a plan says of its inputs, or the line of the fault that stops the run.
+fn put_plan<First: Read, Second: Read, S: Sink>(
+    alloc: Global,
+    plan: &Plan,
+    first: &mut Port<First>,
+    second: &mut Port<Second>,
+    out: &mut S,
+) -> Status
+    ensures { (text : List ℕ) × SaysCommand plan.now.command plan.now.hex
+        (change First.remaining first.old first.new) (change Second.remaining second.old second.new) result text
+        × S.takes out.old text out.new }
+{
+    match &plan.command {
+        Command::Single { task, at, .. } => put_task(alloc, task, plan.hex, *at, first, out),
+        Command::Hobs { image, .. } => {
+            put_hob_list(alloc, plan.hex, base_of(image), first, second, out)
+        }
+        Command::Compare {
+            first: volume,
+            second: other,
+        } => put_compared(alloc, plan.hex, volume.at, other.at, first, second, out),
+    }
+}
+
+// The same, into a sink that gathers small pieces for the sink below, which is returned.
+fn gather_plan<First: Read, Second: Read, S: Sink>(
+    below: S,
+    alloc: Global,
+    plan: &Plan,
+    first: &mut Port<First>,
+    second: &mut Port<Second>,
+    status: &mut Status,
+) -> S
+    ensures { (text : List ℕ) × SaysCommand plan.now.command plan.now.hex
+        (change First.remaining first.old first.new) (change Second.remaining second.old second.new) status.new text
+        × S.takes below text result }
+{
+    let mut out = GatheringSink::new(below);
+    *status = put_plan(alloc, plan, first, second, &mut out);
+    out.finish()
+}
+
+// Writes what the command of a plan says. Returns whether all of it was written.
+fn write_plan<First: Read, Second: Read, W: Write>(
+    alloc: Global,
+    plan: &Plan,
+    first: &mut Port<First>,
+    second: &mut Port<Second>,
+    writer: &mut Port<W>,
+    status: &mut Status,
+) -> bool
+    ensures { (text : List ℕ) × SaysCommand plan.now.command plan.now.hex
+        (change First.remaining first.old first.new) (change Second.remaining second.old second.new) status.new text
+        × Written result text (shown W.contents writer.old) (shown W.contents writer.new) }
+{
+    let out = gather_plan(WriteSink::new(writer), alloc, plan, first, second, status);
+    is_whole(&out)
+}
 
 /// Runs a plan, and writes its result or the line of a fault. A command with one input reads
 /// nothing from the second reader.
@@ -26,21 +100,16 @@ pub fn run_plan<First: Read, Second: Read, W: Write>(
     writer: &mut Port<W>,
 ) -> Status
     // By the command and the status: what was read of each input, and what was written.
-    ensures { Runs plan.now result (record {
+    ensures runs { Runs plan.now result (record {
       first = change First.remaining first.old first.new;
       second = change Second.remaining second.old second.new;
       output = change W.contents writer.old writer.new;
     }) }
+
+    // The last call of the writer was a flush, unless the status is Refused.
+    ensures flushed { result ≢ Status.Refused → is_flushed writer.new ≡ true }
 {
-    match &plan.command {
-        Command::Single { task, at, .. } => run_task(alloc, task, plan.hex, *at, first, writer),
-        Command::Hobs { image, .. } => {
-            let base = image.as_ref().map(|image| image.base);
-            run_hobs(alloc, plan.hex, base, first, second, writer)
-        }
-        Command::Compare {
-            first: volume,
-            second: other,
-        } => run_comparison(alloc, plan.hex, volume.at, other.at, first, second, writer),
-    }
+    let mut status = Status::Refused;
+    let is_written = write_plan(alloc, plan, first, second, writer, &mut status);
+    finish(writer, is_written, status)
 }

@@ -1,56 +1,36 @@
 //! The end of a run.
 
-ghost use Rattle.std.specs.Prelude.{◌≡◌, false, true, if◌then◌else◌};
-ghost use Rattle.std.specs.Io.Buffered.{writer_buffer, writer_inner};
-ghost use Rattle.std.specs.Io.KnownBytes.{Keeps};
-ghost use Rattle.fv_base.specs.Port.{has_erred, inner_of};
-ghost use Rattle.fv_command.specs.Endings.{WritesRest};
-ghost use Rattle.fv_command.specs.Outputs.{has_failed, output_contents};
-ghost use Rattle.fv_text.specs.PortViews.{seen, shown};
+ghost use Rattle.std.specs.Prelude.{◌≡◌, ◌≢◌, ℕ, List, true};
+ghost use Rattle.fv_base.specs.Port.{is_flushed};
+ghost use Rattle.fv_base.specs.Sinks.{is_writing};
+ghost use Rattle.fv_command.specs.Endings.{Ends};
+ghost use Rattle.fv_command.specs.inner.EndSteps.{Written};
+ghost use Rattle.fv_text.specs.PortViews.{Shown, shown};
 
-use crate::output::Output;
 use crate::status::Status;
-use fv_base::Port;
-use fv_text::write_bytes;
-use std::io::{BufWriter, Write};
+use fv_base::{Port, WriteSink};
+use std::io::Write;
 
-// Flushes an output to which everything was written, and returns how the run ended.
-fn flush<W: Write + Drop>(output: Output<W>, status: Status) -> (Status, Output<W>)
-    ensures bytes { Keeps (output_contents W.contents output) (output_contents W.contents result.1) }
-    ensures status { result.0 ≡ (if has_failed result.1 then Status.Refused else status) }
+/// Whether all was written that a sink took.
+pub fn is_whole<W: Write>(out: &WriteSink<'_, W>) -> bool
+    ensures { result ≡ is_writing out.now }
 {
-    let mut flushed = output;
-    let _ = flushed.flush();
-    if flushed.failed() {
-        (Status::Refused, flushed)
-    } else {
-        (status, flushed)
+    match out.outcome() {
+        Ok(()) => true,
+        Err(_) => false,
     }
 }
 
-/// Writes what is still buffered, unless a write has failed, and returns how the run ended, and
-/// the output below the buffer.
-pub fn close<W: Write + Drop>(
-    writer: Port<BufWriter<Output<W>>>,
-    status: Status,
-) -> (Status, Port<Output<W>>)
-    // After a failed write nothing more is written, and the status is Refused.
-    ensures erred { has_erred writer ≡ true
-        → (result.0 ≡ Status.Refused) × (inner_of result.1 ≡ writer_inner (inner_of writer)) }
-
-    // Else everything that was buffered is written, and the status is the one given unless the
-    // output has failed; or a write failed, and the status is Refused.
-    ensures written { has_erred writer ≡ false
-        → WritesRest status (writer_buffer (inner_of writer))
-        (seen (output_contents W.contents (writer_inner (inner_of writer))) false)
-        (shown (output_contents W.contents) result.1) (has_failed (inner_of result.1)) result.0 }
+/// Ends a run: if all of its text was written, asks the writer to flush. Returns how the run ended:
+/// with its own status, or with Refused if a write or the flush failed.
+pub fn finish<W: Write>(writer: &mut Port<W>, is_written: bool, status: Status) -> Status
+    // Whatever the text is, and what the writer held before it.
+    ensures ends { (text : List ℕ) (before : Shown) → Written is_written text before (shown W.contents writer.old)
+        → Ends status text (record { old = before; new = shown W.contents writer.new }) result }
+    ensures flushed { result ≢ Status.Refused → is_flushed writer.new ≡ true }
 {
-    let has_erred = writer.erred();
-    let (output, rest) = writer.into_inner().into_parts();
-    let mut port = Port::new(output);
-    if has_erred || write_bytes(&mut port, &rest).is_err() {
-        return (Status::Refused, port);
+    if !is_written || writer.flush().is_err() {
+        return Status::Refused;
     }
-    let (ended, output) = flush(port.into_inner(), status);
-    (ended, Port::new(output))
+    status
 }

@@ -1,38 +1,31 @@
 //! The tasks over one input.
 
-ghost use Rattle.std.specs.Prelude.{◌≡◌, ◌⊎◌, ℕ, Bool, List, IfOk, IfErr};
+ghost use Rattle.std.specs.Prelude.{◌≡◌, ◌⊎◌, ℕ, Bool, List, IfOk, IfErr, MatchResult};
 ghost use Rattle.fv_base.specs.Faults.{out_of_memory};
-ghost use Rattle.fv_text.specs.PortViews.{Writes, WritingStops, change, shown};
+ghost use Rattle.fv_text.specs.PortViews.{change};
+ghost use Rattle.fv_tree.specs.FileNames.{file_named};
+ghost use Rattle.fv_tree.specs.Meaning.{Meaning, files_of};
+ghost use Rattle.fv_command.specs.Extractions.{IsPart};
 ghost use Rattle.fv_command.specs.Inputs.{BeginsNone, BeginsWith};
-ghost use Rattle.fv_command.specs.TaskRuns.{RunsTask};
-ghost use Rattle.fv_command.specs.inner.TaskSteps.{BeginsWithPart, Performs, done_if};
+ghost use Rattle.fv_command.specs.TaskRuns.{SaysTask, StopsTask};
 ghost use Rattle.fv_command.specs.Tasks.{Denies, PartText};
+ghost use Rattle.fv_command.specs.inner.TaskSteps.{Performs};
 
-use crate::check_run::write_check;
+use crate::check_run::put_check;
 use crate::extracting::{Extraction, extract};
-use crate::fault_text::refuse;
-use crate::flash_text::write_flash_image;
-use crate::image_text::write_image;
+use crate::fault_text::put_refusal;
+use crate::flash_run::put_normalised_all;
+use crate::image_run::put_normalised;
 use crate::inputs::{read_bytes, taken_at};
-use crate::list_text::{write_list, write_sums};
+use crate::list_text::{put_list, put_list_sums};
 use crate::status::Status;
-use fv_base::{Fault, Port};
-use fv_lines::{write_cells, write_volumes};
+use fv_base::{Fault, Port, Sink};
+use fv_lines::{put_cells, put_volumes};
 use fv_plan::{Part, Task};
-use fv_text::{write_bytes, write_shown};
+use fv_text::put_shown;
 use fv_tree::{VolumeView, read_volume};
 use std::alloc::Global;
-use std::io::{Read, Write};
-
-// What a task returns that ends in Done, by the result of the call that writes.
-fn done(wrote: Result<(), Fault>) -> Result<Status, Fault>
-    ensures { result ≡ done_if wrote }
-{
-    match wrote {
-        Ok(()) => Ok(Status::Done),
-        Err(fault) => Err(fault),
-    }
-}
+use std::io::Read;
 
 // The volume at the start of the input.
 fn volume_at_start(alloc: Global, input: &[u8]) -> Result<VolumeView<'_>, Fault>
@@ -43,130 +36,146 @@ fn volume_at_start(alloc: Global, input: &[u8]) -> Result<VolumeView<'_>, Fault>
     Ok(volume)
 }
 
-// Writes the result of an extraction: the bytes, or that there is no such part.
-fn write_part<W: Write>(
-    writer: &mut Port<W>,
-    hex: bool,
-    extraction: &Extraction<'_>,
-) -> Result<Status, Fault>
-    ensures ok { IfOk result (λ status. (text : List ℕ) × PartText hex extraction.now status text
-        × Writes (shown W.contents writer.old) (shown W.contents writer.new) text) }
-    ensures err { IfErr result (λ f. (status : Status) × (text : List ℕ) × PartText hex extraction.now status text
-        × WritingStops (shown W.contents writer.old) (shown W.contents writer.new) text f) }
+// Puts the result of an extraction: the bytes, or that there is no such part.
+fn put_part<S: Sink>(out: &mut S, hex: bool, extraction: &Extraction<'_>) -> Status
+    ensures { (text : List ℕ) × PartText hex extraction.now result text × S.takes out.old text out.new }
 {
     match extraction {
         Extraction::Made(bytes) => {
-            write_shown(writer, hex, bytes.as_slice())?;
-            Ok(Status::Done)
+            put_shown(out, hex, bytes.as_slice());
+            Status::Done
         }
         Extraction::Stored(bytes) => {
-            write_shown(writer, hex, bytes)?;
-            Ok(Status::Done)
+            put_shown(out, hex, bytes);
+            Status::Done
         }
         Extraction::NotFound => {
-            write_bytes(writer, b"not found\n")?;
-            Ok(Status::Different)
+            out.put(b"not found\n");
+            Status::Different
         }
         Extraction::NotSectioned => {
-            write_bytes(writer, b"not sectioned\n")?;
-            Ok(Status::Different)
+            out.put(b"not sectioned\n");
+            Status::Different
         }
     }
 }
 
 // A part of the volume at the start of the input.
 fn part_at_start<'a>(alloc: Global, input: &'a [u8], part: &Part) -> Result<Extraction<'a>, Fault>
-    ensures ok { IfOk result (BeginsWithPart input.now part.now) }
+    ensures ok { IfOk result (λ x. (m : Meaning) × BeginsWith input.now m
+        × IsPart (file_named part.now.name (files_of m)) part.now x) }
     ensures err { IfErr result (Denies (Task.Extract part.now) input.now) }
 {
     let volume = volume_at_start(alloc, input)?;
     extract(alloc, &volume, part)
 }
 
-// Writes a part of the volume at the start of the input.
-fn extract_part<W: Write>(
+// Puts a part of the volume at the start of the input.
+fn extract_part<S: Sink>(
     alloc: Global,
     hex: bool,
     input: &[u8],
     part: &Part,
-    writer: &mut Port<W>,
+    out: &mut S,
 ) -> Result<Status, Fault>
-    ensures { Performs (Task.Extract part.now) hex input.now
-        (shown W.contents writer.old) (shown W.contents writer.new) result }
+    ensures { Performs S.takes (Task.Extract part.now) hex input.now out.old out.new result }
 {
     let extraction = part_at_start(alloc, input, part)?;
-    write_part(writer, hex, &extraction)
+    Ok(put_part(out, hex, &extraction))
 }
 
-// Writes whether the input is a canonical image, and the notes on it.
-fn check<W: Write>(alloc: Global, input: &[u8], writer: &mut Port<W>) -> Result<Status, Fault>
-    ensures { (hex : Bool)
-        → Performs Task.Check hex input.now (shown W.contents writer.old) (shown W.contents writer.new) result }
+// Puts the lines of the volume at the start of the input.
+fn list<S: Sink>(alloc: Global, input: &[u8], out: &mut S) -> Result<Status, Fault>
+    ensures { (hex : Bool) → Performs S.takes Task.List hex input.now out.old out.new result }
 {
-    if write_check(alloc, input, writer)? {
-        Ok(Status::Done)
-    } else {
-        Ok(Status::Different)
-    }
+    let volume = volume_at_start(alloc, input)?;
+    put_list(alloc, &volume, out);
+    Ok(Status::Done)
 }
 
-// Writes where volumes begin in the input.
-fn scan<W: Write>(alloc: Global, input: &[u8], writer: &mut Port<W>) -> Result<Status, Fault>
-    ensures { (hex : Bool)
-        → Performs Task.Scan hex input.now (shown W.contents writer.old) (shown W.contents writer.new) result }
+// Puts the lines of the volume at the start of the input, with sums.
+fn list_sums<S: Sink>(alloc: Global, input: &[u8], out: &mut S) -> Result<Status, Fault>
+    ensures { (hex : Bool) → Performs S.takes Task.ListSums hex input.now out.old out.new result }
+{
+    let volume = volume_at_start(alloc, input)?;
+    put_list_sums(alloc, &volume, out)?;
+    Ok(Status::Done)
+}
+
+// Puts where the cells of the volume at the start of the input lie.
+fn cells<S: Sink>(alloc: Global, input: &[u8], out: &mut S) -> Result<Status, Fault>
+    ensures { (hex : Bool) → Performs S.takes Task.Cells hex input.now out.old out.new result }
+{
+    put_cells(alloc, input, out)?;
+    Ok(Status::Done)
+}
+
+// Puts where volumes begin in the input.
+fn scan<S: Sink>(alloc: Global, input: &[u8], out: &mut S) -> Result<Status, Fault>
+    ensures { (hex : Bool) → Performs S.takes Task.Scan hex input.now out.old out.new result }
 {
     let offsets = fv_tree::scan(alloc, input)?;
-    done(write_volumes(writer, input, offsets.as_slice()))
+    put_volumes(out, input, offsets.as_slice());
+    Ok(Status::Done)
 }
 
-// Writes the result of the task for the input.
-fn perform<W: Write>(
+// Puts the result of the task for the input. If it is rejected, or if memory runs out, nothing was
+// put.
+fn perform<S: Sink>(
     alloc: Global,
     task: &Task,
     hex: bool,
     input: &[u8],
-    writer: &mut Port<W>,
+    out: &mut S,
 ) -> Result<Status, Fault>
-    ensures { Performs task.now hex input.now (shown W.contents writer.old) (shown W.contents writer.new) result }
+    ensures { Performs S.takes task.now hex input.now out.old out.new result }
 {
     match task {
-        Task::Normalise => done(write_image(alloc, hex, input, writer)),
-        Task::NormaliseAll => done(write_flash_image(alloc, hex, input, writer)),
-        Task::List => {
-            let volume = volume_at_start(alloc, input)?;
-            done(write_list(alloc, writer, &volume))
-        }
-        Task::ListSums => {
-            let volume = volume_at_start(alloc, input)?;
-            done(write_sums(alloc, writer, &volume))
-        }
-        Task::Extract(part) => extract_part(alloc, hex, input, part, writer),
-        Task::Check => check(alloc, input, writer),
-        Task::Cells => done(write_cells(alloc, input, writer)),
-        Task::Scan => scan(alloc, input, writer),
+        Task::Normalise => put_normalised(alloc, hex, input, out),
+        Task::NormaliseAll => put_normalised_all(alloc, hex, input, out),
+        Task::List => list(alloc, input, out),
+        Task::ListSums => list_sums(alloc, input, out),
+        Task::Extract(part) => extract_part(alloc, hex, input, part, out),
+        Task::Check => put_check(alloc, input, out),
+        Task::Cells => cells(alloc, input, out),
+        Task::Scan => scan(alloc, input, out),
     }
 }
 
-/// Reads an input to its end, and writes the result of the task for it, or the line of the fault
-/// that stops the run. If `at` is a number, the volume at this byte of the input is taken for the
-/// input.
-pub fn run_task<R: Read, W: Write>(
+// Reads an input to its end, and puts the result of the task for it. If a fault stops the run,
+// nothing was put.
+fn read_and_perform<R: Read, S: Sink>(
     alloc: Global,
     task: &Task,
     hex: bool,
     at: Option<u64>,
     reader: &mut Port<R>,
-    writer: &mut Port<W>,
-) -> Status
-    ensures { RunsTask task.now hex at result (change R.remaining reader.old reader.new)
-        (change W.contents writer.old writer.new) }
+    out: &mut S,
+) -> Result<Status, Fault>
+    ensures { MatchResult result
+        (λ status. (text : List ℕ) × SaysTask task.now hex at (change R.remaining reader.old reader.new) status text
+        × S.takes out.old text out.new)
+        (λ f. StopsTask task.now hex at (change R.remaining reader.old reader.new) f × (out.new ≡ out.old)) }
 {
-    let input = match read_bytes(alloc, hex, reader) {
-        Ok(input) => input,
-        Err(fault) => return refuse(writer, fault),
-    };
-    match perform(alloc, task, hex, taken_at(&input, at), writer) {
+    let input = read_bytes(alloc, hex, reader)?;
+    perform(alloc, task, hex, taken_at(&input, at), out)
+}
+
+/// Reads an input to its end, and puts the result of the task for it, or the line of the fault that
+/// stops the run. If `at` is a number, the volume at this byte of the input is taken for the input.
+pub fn put_task<R: Read, S: Sink>(
+    alloc: Global,
+    task: &Task,
+    hex: bool,
+    at: Option<u64>,
+    reader: &mut Port<R>,
+    out: &mut S,
+) -> Status
+    ensures { (text : List ℕ) × SaysTask task.now hex at (change R.remaining reader.old reader.new) result text
+        × S.takes out.old text out.new }
+{
+    match read_and_perform(alloc, task, hex, at, reader, out) {
         Ok(status) => status,
-        Err(fault) => refuse(writer, fault),
+        Err(fault) => put_refusal(out, fault),
     }
 }

@@ -1,8 +1,8 @@
 -- What a crate above may cite of dependency expressions. Each line passes some of it on from where it is proved.
 
 -- bytes are spelled by one list of ops and one rest at most, and what these are written as is spelled by them; the bytes of joined ops
--- are joined; ops have a byte each at least; a whole expression is ops that may follow one another, and END
-pub use Rattle.fv_depex.proofs.PathLemmas.{one_spelling, spelled_again, bytes_join, ops_fit, IsEnded, whole_ended}
+-- are joined; a whole expression is ops that may follow one another, and END
+pub use Rattle.fv_depex.proofs.PathLemmas.{one_spelling, spelled_again, bytes_join, IsEnded, whole_ended}
 -- ops are those of one tree at most, and then not those of BEFORE or AFTER; those of a tree leave its truth on the stack, the others none
 pub use Rattle.fv_depex.proofs.TruthLemmas.{one_tree, tree_no_order, truth_of_tree, none_of_order}
 -- bytes begin with one op at most; it is there where its checks hold, and its checks hold where it may be

@@ -50,11 +50,6 @@ bytes_join (x ∷ xs) ys =
     ap (λ (l : List ℕ). op_code x ∷ l)
     (ap (λ (l : List ℕ). op_operand x ++ l) (bytes_join xs ys) ∙ sym (append_assoc (op_operand x) (ops_bytes xs) (ops_bytes ys)))
 
--- an op has a byte at least
-pub ops_fit : (os : List Op) → length os ≤ length (ops_bytes os)
-ops_fit [] = omega arith
-ops_fit (o ∷ os) = omega (arith, ops_fit os, length-append (op_operand o) (ops_bytes os))
-
 -- ---- a path leads to trees
 
 -- the ops of trees, one after another

@@ -4,7 +4,7 @@ use Rattle.std.proofs.Common.{◌≡◌, ◌≤◌, ◌+◌, ℕ, length, drop, 
 use Rattle.std.specs.Prelude.{Option, None, Some, Result, Ok, Err, IfOk}
 use Rattle.std.proofs.lemmas.List.{drop_all}
 use Rattle.fv_base.specs.declared.guid.Guid.{Guid}
-use Rattle.fv_depex.specs.inner.Evaluation.{evaluate_ops, evaluate_op, top}
+use Rattle.fv_depex.specs.inner.Ops.{evaluate_ops, evaluate_op, top}
 use Rattle.fv_depex.specs.Expressions.{Expression, always, never, installed, negated, both, either, IsTree, IsOrder, postfix, truth}
 use Rattle.fv_depex.specs.declared.fault.DepexFault.{DepexFault}
 use Rattle.fv_depex.specs.declared.op.Op.{Op}

@@ -96,3 +96,12 @@ truth set (installed g) = is_among g set
 truth set (negated t) = not (truth set t)
 truth set (both t u) = truth set t && truth set u
 truth set (either t u) = truth set t || truth set u
+
+pub record DepexForm : Type 0 where
+  pub phase : Phase
+  pub ops : List Op
+  pub rest : List ℕ
+
+-- some bytes spell this expression
+abbrev pub IsReadDepex : DepexForm → Type 0
+IsReadDepex d = (b : List ℕ) × Spells d.phase d.ops d.rest b

@@ -1,5 +1,4 @@
 -- The definitions in the order in which they can be read.
 pub mod Expressions
-pub mod DepexView
 pub mod OpChecks
 pub mod inner

@@ -1,7 +1,7 @@
 //! A dependency expression.
 
 ghost use Rattle.std.specs.Prelude.{◌≡◌};
-ghost use Rattle.fv_depex.specs.DepexView.{IsReadDepex};
+ghost use Rattle.fv_depex.specs.Expressions.{IsReadDepex};
 
 use crate::op::{Op, Phase};
 use fv_base::ByteList;
@@ -17,7 +17,7 @@ pub struct Depex {
 }
 
 impl Model for Depex {
-    ghost use Rattle.fv_depex.specs.DepexView.{DepexForm, IsReadDepex};
+    ghost use Rattle.fv_depex.specs.Expressions.{DepexForm, IsReadDepex};
 
     ghost Value = { DepexForm };
 

@@ -3,7 +3,7 @@
 ghost use Rattle.std.specs.Prelude.{◌≡◌, if◌then◌else◌, true, None, Some, [], ◌∷◌, ◌<◌, length, reverse};
 ghost use Rattle.std.specs.Prelude.{IfSome, IfNone, IfOk, IfErr};
 ghost use Rattle.fv_depex.specs.OpChecks.{depex_out_of_memory};
-ghost use Rattle.fv_depex.specs.inner.Evaluation.{evaluate_op, evaluate_ops, top};
+ghost use Rattle.fv_depex.specs.inner.Ops.{evaluate_op, evaluate_ops, top};
 ghost use Rattle.fv_depex.specs.Expressions.{Expression, IsTree, IsOrder, is_among, truth};
 
 use crate::depex::Depex;

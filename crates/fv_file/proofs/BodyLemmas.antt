@@ -5,6 +5,7 @@ use Rattle.std.proofs.Common.{true, false, length-drop, length-append}
 use Rattle.std.specs.Prelude.{◌≢◌, Result, Ok, Err, IfErr, IsErrAnd}
 use Rattle.std.proofs.lemmas.List.{take-append-drop, length-take-le, map_push, take_all}
 use Rattle.std.proofs.Math.Seq.{take-add}
+use Rattle.fv_base.specs.Checks.{Which}
 use Rattle.fv_base.specs.Faults.{out_of_memory}
 use Rattle.fv_base.specs.Flash.{AllAre, erased_byte}
 use Rattle.fv_base.specs.Measures.{all_are}
@@ -12,10 +13,9 @@ use Rattle.fv_base.specs.declared.fault.Fault.{Fault}
 use Rattle.fv_base.specs.declared.flash.FileSystem.{FileSystem}
 use Rattle.fv_base.specs.declared.flash.Polarity.{Polarity}
 use Rattle.fv_file.specs.Cells.{CellForm, Free, offset_of, IsCell, Tiles}
-use Rattle.fv_file.specs.CellLengths.{cell_len, CellsWithin}
-use Rattle.fv_file.specs.FileChecks.{NoneFree, IsFirstCellFault}
+use Rattle.fv_file.specs.CellForms.{cell_len, CellsWithin, cell_form}
+use Rattle.fv_file.specs.FileChecks.{NoneFree, CellFault, IsFirstCellFault}
 use Rattle.fv_file.specs.inner.CellVerdicts.{cell_verdict}
-use Rattle.fv_file.specs.CellForms.{cell_form}
 use Rattle.fv_file.specs.declared.cell.Cell.{Cell}
 use Rattle.fv_base.proofs.Laws.{all_are-true}
 use Rattle.fv_file.proofs.CellFoundLemmas.{CellStandsAt}
@@ -106,7 +106,7 @@ first_here s p first rest body items at f k used behind is = grind (arith, commo
 
 -- ---- all tilings
 
--- every tiling goes on where the first fault is
+-- every tiling goes on where the fault is
 goes_on : (s : FileSystem) (p : Polarity) (first : ℕ) (body : List ℕ) (cs ds : List CellForm) (at : ℕ) → Tiles s p first cs (take at body)
     → NoneFree cs → at < length body
     → Tiles s p first ds body → (more : List CellForm) × Tiles s p (first + at) more (drop at body)
@@ -121,17 +121,17 @@ pub only_one : (s : FileSystem) (p : Polarity) (first : ℕ) (body : List ℕ) (
     → Tiles s p first ds body → ds ≡ cs
 only_one s p first body cs ds t t' = one_tiling s p (one_cell s p) (not_empty s p) first ds cs body t' t
 
--- where there is a first fault there is no tiling
-pub none_after : (s : FileSystem) (p : Polarity) (first : ℕ) (body : List ℕ) (f : Fault) (ds : List CellForm)
-    → IsFirstCellFault s p first body f → Tiles s p first ds body → ⊥
-none_after s p first body f ds here t =
+-- where a check fails there is no tiling
+pub none_after : (which : Which) (s : FileSystem) (p : Polarity) (first : ℕ) (body : List ℕ) (f : Fault) (ds : List CellForm)
+    → CellFault which s p first body f → Tiles s p first ds body → ⊥
+none_after which s p first body f ds here t =
     let g = goes_on s p first body here.cells ds here.at here.tiled here.none_free here.inside t in
     go g.0 g.1
   where
     go : (more : List CellForm) → Tiles s p (first + here.at) more (drop here.at body) → ⊥
     go [] e = omega (arith, ap length e, length-drop here.at body, here.inside)
-    go (c ∷ cs) (u, w, e, is, o, last, more) = no_cell s p (first + here.at) (drop here.at body) f c u w here.fault_is here.not_erased is o
-        e (λ fr. no_rest s p _ cs w (last fr) more)
+    go (c ∷ cs) (u, w, e, is, o, last, more) = no_cell which s p (first + here.at) (drop here.at body) f c u w here.fails here.not_erased is
+        o e (λ fr. no_rest s p _ cs w (last fr) more)
 
 -- each cell of a body lies within it
 pub all_within : (s : FileSystem) (p : Polarity) (at : ℕ) (cs : List CellForm) (b : List ℕ) → Tiles s p at cs b

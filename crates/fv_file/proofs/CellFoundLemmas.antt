@@ -15,12 +15,11 @@ use Rattle.fv_base.specs.declared.flash.Polarity.{Polarity}
 use Rattle.fv_base.proofs.Laws.{all_hold, and_split}
 use Rattle.fv_file.specs.Attributes.{is_large}
 use Rattle.fv_file.specs.Cells.{CellForm, Valid, Pad, Dead, Stub, offset_of, is_free, IsFilled, IsCell}
-use Rattle.fv_file.specs.CellLengths.{cell_len}
+use Rattle.fv_file.specs.CellForms.{cell_len}
 use Rattle.fv_file.specs.FileChecks.{file_header_len_at, file_size_at, payload_at, state_checks, cell_checks}
 use Rattle.fv_file.specs.Files.{attributes_at, file_header_len, head_in, pad_kind}
-use Rattle.fv_file.specs.inner.CellVerdicts.{cell_in, cell_of}
-use Rattle.fv_file.specs.inner.StateSorts as sorts
-use Rattle.fv_file.specs.inner.StateSorts.{StateSort, sort_of, sort_checks}
+use Rattle.fv_file.specs.inner.CellVerdicts.{cell_in, cell_of, StateSort, sort_of, sort_checks}
+use Rattle.fv_file.specs.inner.CellVerdicts as sorts
 use Rattle.fv_file.specs.States.{StateOf, bits_of, state_of, is_alive}
 use Rattle.fv_file.specs.declared.state.FileState.{FileState}
 use Rattle.fv_file.specs.declared.state.FileState.TheVariants as states

@@ -7,20 +7,20 @@ use Rattle.std.proofs.Common.{subst, arith, Bool, true, false, length-append, ap
 use Rattle.std.specs.Prelude.{◌==◌, ◌≢◌, nat_lt, slice_index, Option, None, Some, Ok, Err}
 use Rattle.std.proofs.lemmas.Bool.{leb-true, le-leb, ltb-true, ltb-false, eqb-true, eq-eqb}
 use Rattle.fv_base.specs.inner.Verdicts.{first_fault, verdict_by}
-use Rattle.fv_base.specs.Checks.{Check, IsFirstFault}
+use Rattle.fv_base.specs.Checks.{Check, IsFirstFault, Which, Fails}
 use Rattle.fv_base.specs.Flash.{AllAre, erased_byte}
 use Rattle.fv_base.specs.declared.fault.Fault.{Fault}
 use Rattle.fv_base.specs.declared.flash.FileSystem.{FileSystem}
 use Rattle.fv_base.specs.declared.flash.Polarity.{Polarity}
 use Rattle.fv_base.specs.declared.flash.Polarity.TheVariants.{Ones, Zeros}
-use Rattle.fv_base.proofs.Laws.{all_hold, and_split, first_is, not_at_most, not_first, verdict_err, verdict_ok}
+use Rattle.fv_base.proofs.Laws.{all_hold, and_split, first_is, none_fails, not_at_most, verdict_err, verdict_ok}
 use Rattle.fv_file.specs.Cells.{CellForm, Free, offset_of, is_free, IsCell}
-use Rattle.fv_file.specs.CellLengths.{cell_len}
+use Rattle.fv_file.specs.CellForms.{cell_len}
 use Rattle.fv_file.specs.FileChecks.{payload_at, file_checks, state_checks, cell_checks}
 use Rattle.fv_file.specs.Files.{head_in}
-use Rattle.fv_file.specs.inner.CellVerdicts.{file_verdict, cell_in, cell_of, cell_with, sort_verdict, state_verdict, cell_verdict}
-use Rattle.fv_file.specs.inner.StateSorts as sorts
-use Rattle.fv_file.specs.inner.StateSorts.{StateSort, sort_of, sort_checks}
+use Rattle.fv_file.specs.inner.CellVerdicts.{file_verdict, cell_in, cell_of, cell_with, sort_verdict, state_verdict}
+use Rattle.fv_file.specs.inner.CellVerdicts.{cell_verdict, StateSort, sort_of, sort_checks}
+use Rattle.fv_file.specs.inner.CellVerdicts as sorts
 use Rattle.fv_file.specs.States.{bits_of, state_of, is_alive}
 use Rattle.fv_file.specs.declared.state.FileState.{FileState}
 use Rattle.fv_file.specs.declared.state.FileState.TheVariants as states
@@ -122,15 +122,15 @@ one_cell s p c d u v w z is is' o last last' e = go (is_free c) refl (is_free d)
         omega (arith, ap length e, length-append u w, length-append v z, ap length (last f), ap length (last' g)) in
         ((free_all s p c u is f).0 ∙ ap (λ k. Free k (length u)) o ∙ ap (λ k. Free (offset_of d) k) n ∙ sym (free_all s p d v is' g).0, n)
 
--- where a check does not hold there is no cell
-pub no_cell : (s : FileSystem) (p : Polarity) (at : ℕ) (r : List ℕ) (f : Fault) (c : CellForm) (u w : List ℕ)
-    → IsFirstFault (cell_checks s p at r) f → (AllAre (erased_byte p) r → ⊥)
+-- where a check fails there is no cell
+pub no_cell : (which : Which) (s : FileSystem) (p : Polarity) (at : ℕ) (r : List ℕ) (f : Fault) (c : CellForm) (u w : List ℕ)
+    → Fails which (cell_checks s p at r) f → (AllAre (erased_byte p) r → ⊥)
     → IsCell s p c u → offset_of c ≡ at → r ≡ u ++ w → (is_free c ≡ true → w ≡ []) → ⊥
-no_cell s p at r f c u w fault differs is o e last = go (is_free c) refl
+no_cell which s p at r f c u w bad differs is o e last = go (is_free c) refl
   where
     go : (g : Bool) → is_free c ≡ g → ⊥
     go true g = differs (subst (λ (l : List ℕ). AllAre (erased_byte p) l) (sym e) (erased_at s p c u w is g (last g)))
     go false g =
         let read : CellIsRead s p at c r =
         subst (λ l. CellIsRead s p at c l) (sym e) (subst (λ k. CellIsRead s p k c (u ++ w)) o (cell_reads s p c u w is g)) in
-        not_first (cell_checks s p at r) f fault read.checked
+        none_fails which (cell_checks s p at r) f bad (all_hold (cell_checks s p at r) read.checked)

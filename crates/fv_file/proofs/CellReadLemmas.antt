@@ -15,9 +15,8 @@ use Rattle.fv_file.specs.Attributes.{is_large}
 use Rattle.fv_file.specs.Cells.{CellForm, Valid, Pad, Dead, Stub, Free, offset_of, is_free, IsFilled, IsCell}
 use Rattle.fv_file.specs.FileChecks.{file_header_len_at, payload_at, file_checks, state_checks, cell_checks}
 use Rattle.fv_file.specs.Files.{file_header_len, head_in, pad_kind}
-use Rattle.fv_file.specs.inner.CellVerdicts.{cell_in, cell_of}
-use Rattle.fv_file.specs.inner.StateSorts as sorts
-use Rattle.fv_file.specs.inner.StateSorts.{StateSort, sort_of, sort_checks}
+use Rattle.fv_file.specs.inner.CellVerdicts.{cell_in, cell_of, StateSort, sort_of, sort_checks}
+use Rattle.fv_file.specs.inner.CellVerdicts as sorts
 use Rattle.fv_file.specs.States.{StateOf, bits_of, state_of, is_alive}
 use Rattle.fv_file.specs.declared.head.FileHead.{FileHead}
 use Rattle.fv_file.specs.declared.state.FileState.{FileState}

@@ -2,12 +2,12 @@
 
 -- ---- a body and its cells
 
--- a body is tiled in one way; where there is a first fault there is no tiling; each cell lies within the volume
+-- a body is tiled in one way; where a check fails there is no tiling; each cell lies within the volume
 pub use Rattle.fv_file.proofs.BodyLemmas.{only_one, none_after, all_within}
 -- at one place there is one cell, and none where a check of a cell fails
 pub use Rattle.fv_file.proofs.CellLemmas.{one_cell, no_cell}
--- a cell has bytes, as many as its span says; a file has 24 at least; a file's header and data make up its size
-pub use Rattle.fv_file.proofs.CellPartLemmas.{not_empty, cell_span, file_least, made_up}
+-- a cell has bytes, as many as its span says; a file's header and data make up its size
+pub use Rattle.fv_file.proofs.CellPartLemmas.{not_empty, cell_span, made_up}
 -- one tiling at most; cells that are not free begin every tiling that goes on; one more cell after cells that are not free
 pub use Rattle.fv_file.proofs.TilingLemmas.{OneCell, NotEmpty, one_tiling, cut, one_more, none_more}
 -- tilings are joined; there are no more cells than bytes

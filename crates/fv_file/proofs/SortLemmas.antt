@@ -5,7 +5,7 @@ use Rattle.std.specs.Prelude.{◌⊎◌, Some}
 use Rattle.fv_base.specs.declared.flash.FileSystem.{FileSystem}
 use Rattle.fv_file.specs.FileChecks.{state_checks}
 use Rattle.fv_file.specs.States.{is_alive}
-use Rattle.fv_file.specs.inner.StateSorts.{StateSort, Erased, Unfinished, Dead, Valid, sort_of, sort_checks}
+use Rattle.fv_file.specs.inner.CellVerdicts.{StateSort, Erased, Unfinished, Dead, Valid, sort_of, sort_checks}
 use Rattle.fv_file.specs.declared.state.FileState.{FileState}
 use Rattle.fv_file.specs.declared.state.FileState.TheVariants as states
 

@@ -14,7 +14,7 @@ use Rattle.fv_file.specs.Cells.{CellForm, Valid, Pad, Dead, Stub, Free, offset_o
 use Rattle.fv_file.specs.FileChecks.{cell_checks, file_header_len_at, file_size_at}
 use Rattle.fv_file.specs.Files.{file_header_len}
 use Rattle.fv_file.specs.States.{StateOf, bits_of, state_of, is_alive}
-use Rattle.fv_file.specs.inner.StateSorts.{is_unfinished}
+use Rattle.fv_file.specs.inner.CellVerdicts.{is_unfinished}
 use Rattle.fv_file.specs.declared.head.FileHead.{FileHead}
 use Rattle.fv_file.specs.declared.state.FileState.{FileState}
 use Rattle.fv_file.specs.declared.state.FileState.TheVariants as states
@@ -98,9 +98,6 @@ cell_stride s p (Free at len) u w is f = cc
 abbrev pub Counted : Polarity → ℕ → List ℕ → List ℕ → Type 0
 Counted p count body rest = (s : FileSystem) (first : ℕ) (cs : List CellForm) → Tiles s p first cs body
     → (at : ℕ) × (ds : List CellForm) × Tiles s p at ds rest × (count + length ds ≡ length cs)
-
-pub none_counted : (p : Polarity) (body : List ℕ) → Counted p 0 body body
-none_counted p body = λ s first cs t. (first, cs, t, omega arith)
 
 -- one cell more: the state of the next header is not erased, so the cell there is not free
 one_less : (s : FileSystem) (p : Polarity) (at n : ℕ) (ds : List CellForm) (rest after : List ℕ) → Tiles s p at ds rest

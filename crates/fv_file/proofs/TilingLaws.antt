@@ -8,7 +8,7 @@ use Rattle.fv_base.specs.declared.flash.FileSystem.{FileSystem}
 use Rattle.fv_base.specs.declared.flash.Polarity.{Polarity}
 use Rattle.fv_base.proofs.Laws.{bytes_back, bytes_front, field-append_front}
 use Rattle.fv_file.specs.Cells.{CellForm, Valid, Pad, Dead, Stub, Free, IsCell, IsFilled, Tiles, offset_of}
-use Rattle.fv_file.specs.CellLengths.{CellsWithin, cell_len}
+use Rattle.fv_file.specs.CellForms.{CellsWithin, cell_len}
 use Rattle.fv_file.specs.FileChecks.{NoneFree}
 use Rattle.fv_file.specs.declared.head.FileHead.{FileHead}
 use Rattle.fv_file.proofs.CellPartLemmas.{cell_span, made_up, not_empty}

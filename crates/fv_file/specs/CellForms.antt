@@ -1,7 +1,10 @@
--- What the cells that the calls return mean.
-use Rattle.fv_file.specs.Cells.{CellForm, Valid, Pad, Dead, Stub, Free}
+-- What the cells that the calls return mean, and how many bytes cells have (PI specification, volume 3, sections 3.2.2
+-- and 3.2.3).
+use Rattle.fv_file.specs.Cells.{CellForm, Valid, Pad, Dead, Stub, Free, offset_of}
 use Rattle.fv_file.specs.declared.cell.Cell.{Cell}
 use Rattle.fv_file.specs.declared.cell.Cell.TheVariants as cells
+use Rattle.std.specs.Prelude.{◌≡◌, ℕ, ◌+◌, ◌≤◌, List, [], ◌∷◌, length}
+use Rattle.fv_base.specs.Value.{up_to_8}
 
 -- a cell, with its data as a list
 abbrev pub cell_form : Cell → CellForm
@@ -10,3 +13,22 @@ cell_form (cells.Pad at head payload) = Pad at head payload.now
 cell_form (cells.Dead at len state) = Dead at len state
 cell_form (cells.Stub at len) = Stub at len
 cell_form (cells.Free at len) = Free at len
+
+-- how many bytes a cell has, its filler included
+abbrev pub cell_len : CellForm → ℕ
+cell_len (Valid at head payload) = up_to_8 head.size
+cell_len (Pad at head payload) = up_to_8 head.size
+cell_len (Dead at len state) = len
+cell_len (Stub at len) = len
+cell_len (Free at len) = len
+
+-- the header and the data of a file or pad have together the bytes that its size says
+abbrev pub IsMadeUp : CellForm → Type 0
+IsMadeUp (Valid at head payload) = head.header_len + length payload ≡ head.size
+IsMadeUp (Pad at head payload) = head.header_len + length payload ≡ head.size
+IsMadeUp _ = Unit {0}
+
+-- each cell ends within `end` bytes from the volume's start
+abbrev pub CellsWithin : ℕ → List CellForm → Type 0
+CellsWithin end [] = Unit {0}
+CellsWithin end (c ∷ cs) = (offset_of c + cell_len c ≤ end) × IsMadeUp c × CellsWithin end cs

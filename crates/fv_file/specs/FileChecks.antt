@@ -1,8 +1,8 @@
--- The checks of a file and of a cell in a fixed order, and the first fault of a body.
+-- The checks of a file and of a cell in a fixed order, and the fault of a body: the first, or any.
 use Rattle.std.specs.List.{AllByRecursion}
 use Rattle.std.specs.Prelude.{ℕ, ◌≡◌, ◌+◌, ◌-◌, ◌<◌, ◌==◌, nat_le, ◌&&◌, ◌||◌, not, Bool, true, false, if◌then◌else◌}
 use Rattle.std.specs.Prelude.{Option, Some, None, List, [], ◌∷◌, length, take, drop}
-use Rattle.fv_base.specs.Checks.{Check, check, IsFirstFault}
+use Rattle.fv_base.specs.Checks.{Check, check, Which, First, Fails}
 use Rattle.fv_base.specs.Flash.{AllAre, erased_byte}
 use Rattle.fv_base.specs.Value.{le_at}
 use Rattle.fv_base.specs.declared.fault.Fault.{Fault}
@@ -106,9 +106,9 @@ verify_checks system polarity b =
 abbrev pub NoneFree : List CellForm → Type 0
 NoneFree cs = AllByRecursion (λ c. is_free c ≡ false) cs
 
--- some cells, none of them free, tile the body up to the place `at`, and the bytes from there on are not all erased.
--- The fault is that of the first check there that does not hold. `first` is where the body begins in its volume
-pub record IsFirstCellFault (system : FileSystem) (polarity : Polarity) (first : ℕ) (body : List ℕ)
+-- some cells, none of them free, tile the body up to the place `at`, and the bytes from there on are not all erased; a
+-- check of a cell fails there. `first` is where the body begins in its volume
+pub record CellFault (which : Which) (system : FileSystem) (polarity : Polarity) (first : ℕ) (body : List ℕ)
     (fault : Fault) : Type 0 where
   pub cells : List CellForm
   pub at : ℕ
@@ -116,4 +116,8 @@ pub record IsFirstCellFault (system : FileSystem) (polarity : Polarity) (first :
   pub none_free : NoneFree cells
   pub inside : at < length body
   pub not_erased : AllAre (erased_byte polarity) (drop at body) → ⊥
-  pub fault_is : IsFirstFault (cell_checks system polarity (first + at) (drop at body)) fault
+  pub fails : Fails which (cell_checks system polarity (first + at) (drop at body)) fault
+
+-- the first fault of a body: that of the first check there that does not hold
+abbrev pub IsFirstCellFault : FileSystem → Polarity → ℕ → List ℕ → Fault → Type 0
+IsFirstCellFault = CellFault First

@@ -4,7 +4,6 @@ pub mod States
 pub mod Files
 pub mod Cells
 pub mod NewHeaders
-pub mod CellLengths
 pub mod HeaderReads
 pub mod FileChecks
 pub mod CellForms

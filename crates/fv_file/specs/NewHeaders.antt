@@ -1,6 +1,5 @@
 -- File headers as they are written (PI specification, volume 3, section 3.2.3.1).
-use Rattle.std.specs.Prelude.{ℕ, ◌+◌, ◌-◌, ◌%◌, nat_lt, Bool, false, if◌then◌else◌, List, [], ◌∷◌, ◌++◌, replicate}
-use Rattle.std.specs.Prelude.{sum}
+use Rattle.std.specs.Prelude.{ℕ, ◌+◌, ◌-◌, ◌%◌, nat_lt, Bool, false, if◌then◌else◌, List, [], ◌∷◌, ◌++◌, replicate, sum}
 use Rattle.fv_base.specs.Guids.{bytes_of}
 use Rattle.fv_base.specs.Value.{le_bytes}
 use Rattle.fv_base.specs.declared.flash.Polarity.{Polarity}

@@ -5,12 +5,10 @@ ghost use Rattle.fv_base.specs.Measures.{all_are};
 ghost use Rattle.fv_base.specs.Faults.{outer_fault, out_of_memory};
 ghost use Rattle.fv_base.specs.Flash.{erased_byte};
 ghost use Rattle.fv_file.specs.Cells.{CellForm, IsCell, Tiles, is_free};
-ghost use Rattle.fv_file.specs.CellLengths.{CellsWithin, cell_len};
+ghost use Rattle.fv_file.specs.CellForms.{CellsWithin, cell_len, cell_form};
 ghost use Rattle.fv_file.specs.FileChecks.{IsFirstCellFault, leading_count};
-ghost use Rattle.fv_file.specs.inner.CellVerdicts.{cell_of, cell_verdict};
-ghost use Rattle.fv_file.specs.inner.StateSorts as sorts;
-ghost use Rattle.fv_file.specs.inner.StateSorts.{is_unfinished};
-ghost use Rattle.fv_file.specs.CellForms.{cell_form};
+ghost use Rattle.fv_file.specs.inner.CellVerdicts.{cell_of, cell_verdict, is_unfinished};
+ghost use Rattle.fv_file.specs.inner.CellVerdicts as sorts;
 
 use crate::cell::Cell;
 use crate::cell_list::Cells;

@@ -6,7 +6,7 @@ use Rattle.std.specs.Prelude.{slice_index, sum, Option, None, Some}
 use Rattle.std.proofs.Math.Seq.{take-add}
 use Rattle.std.proofs.lemmas.List.{take-append-drop, take_at, drop_at, drop_more, get_or-drop, length-take-le}
 use Rattle.fv_base.specs.Sums.{words_of, sum16_of}
-use Rattle.fv_base.specs.Limits.{ext_limit, header_limit}
+use Rattle.fv_base.specs.Limits.{header_limit}
 use Rattle.fv_base.specs.Value.{IsBytes, le, le_bytes, field, le_at, up_to_8}
 use Rattle.fv_base.proofs.Laws.{bytes_append, bytes_drop, bytes_le_bytes, bytes_take, drop-append_behind, field-append_front, field-take}
 use Rattle.fv_base.proofs.Laws.{field_is, le-le_bytes, le_bytes-le, length-le_bytes, sum-words_of-append, two_bytes}
@@ -20,7 +20,7 @@ use Rattle.fv_head.specs.ExtImage.{ext_spelled, canonical_end, first_edge}
 use Rattle.fv_head.specs.HeadImage.{head_spelled, checksum_of, canonical_head}
 use Rattle.fv_head.specs.inner.WordSums.{word_weight}
 use Rattle.fv_head.proofs.BlockLemmas.{by_eights}
-use Rattle.fv_head.proofs.ExtImageLemmas.{ext_again, ext_len_most}
+use Rattle.fv_head.proofs.ExtImageLemmas.{ext_again}
 
 -- ---- pairs
 
@@ -343,15 +343,6 @@ canonical_front h rest read known there fits long =
       polarity = refl;
     }
 
--- without an extended header, it gives its fields with any bytes after it
-pub canonical_bare : (h : HeadFields) (rest : List ℕ) → IsReadHead h → h.ext ≡ None → header_len_of h ≤ h.length
-    → h.length ≤ length (canonical_head h ++ rest)
-    → BeginsVolume h (extent_of h (header_len_of h)) (canonical_head h ++ rest)
-canonical_bare h rest read bare fits long =
-    subst (λ (x : Option Extension). BeginsVolume h (extent_of h (first_edge h x)) (canonical_head h ++ rest)) bare
-    (canonical_front h rest read (subst IfRead (sym bare) tt) (subst (λ (x : Option Extension). CanonicalRest x rest) (sym bare) tt)
-    (subst (λ (x : Option Extension). canonical_end h x ≤ h.length) (sym bare) fits) long)
-
 -- ---- sums of words in parts
 
 pub weight-words : (xs : List ℕ) → length xs % 2 ≡ 0 → word_weight false xs ≡ sum (words_of xs)
@@ -372,17 +363,6 @@ spelled_even h checksum offset (b, head) =
 -- the most bytes of a header
 pub header_len_most : (h : HeadFields) → IsReadHead h → header_len_of h ≤ header_limit
 header_len_most h (b, head) = omega (arith, header_len_is h b head, head.most)
-
--- where the first file of the canonical image may begin, at most
-pub first_edge_most : (h : HeadFields) (x : Option Extension) → IsReadHead h → IfRead x
-    → first_edge h x ≤ up_to_8 (header_limit + 24 + ext_limit)
-first_edge_most h None read known = omega (arith, header_len_most h read)
-first_edge_most h (Some x) read known = omega (arith, header_len_most h read, ext_len_most x known)
-
--- and at a multiple of 8
-pub first_edge_multiple : (h : HeadFields) (x : Option Extension) → first_edge h x % 8 ≡ 0
-first_edge_multiple h None = omega arith
-first_edge_multiple h (Some x) = omega arith
 
 -- the checksum that a sum of words comes to
 pub checksum_from : (h : HeadFields) (offset total : ℕ) → IsReadHead h → total < 65536

@@ -2,12 +2,9 @@
 -- 1. Its length and its fields are read at their offsets (front_within, kept_fields, ext_there).
 -- 2. So bytes begin with one volume at most (one_front), and which one depends on the volume's own bytes (front_same).
 -- 3. The header and the first file are in the volume (front_lies, first_lies).
--- 4. There is no extended header exactly if ExtHeaderOffset is 0 (bare_offset, offset_bare, bare_first).
 use Rattle.std.proofs.Common.{◌≡◌, ◌≤◌, ℕ, ◌+◌, ◌-◌, ◌%◌, List, length, take, refl, sym, ap, ◌∙◌, subst, arith, rules}
-use Rattle.std.proofs.Common.{true}
-use Rattle.std.specs.Prelude.{◌==◌, Option, None, Some, slice_index}
+use Rattle.std.specs.Prelude.{Option, Some, slice_index}
 use Rattle.std.proofs.lemmas.List.{length-take-le}
-use Rattle.std.proofs.lemmas.Bool.{eqb-true, eq-eqb}
 use Rattle.fv_base.specs.Checks.{AllHold}
 use Rattle.fv_base.specs.inner.Verdicts.{first_fault}
 use Rattle.fv_base.specs.Limits.{volume_limit, header_limit, ext_limit}
@@ -21,7 +18,7 @@ use Rattle.fv_head.specs.HeadChecks.{blocks_at, file_system_at, header_len_at, v
 use Rattle.fv_head.specs.inner.HeadVerdicts.{extent_at}
 use Rattle.fv_head.specs.Pairs.{pairs_of}
 use Rattle.fv_head.specs.declared.extent.Extent.{Extent}
-use Rattle.fv_head.proofs.ExtLemmas.{stands, read_there, placed, one_has_ext, ext_same}
+use Rattle.fv_head.proofs.ExtLemmas.{stands, read_there, one_has_ext, ext_same}
 use Rattle.fv_head.proofs.HeadCheckLemmas.{extent_ok, fields_are, fields_of, front_fields, front_only, verdict_ok}
 
 -- where the header of a volume lies
@@ -142,23 +139,3 @@ front_same b c h e f long same =
     }
 
 -- ---- whether there is an extended header
-
-none_offset : (x : Option Extension) (e : Extent) (b : List ℕ) → HasExt x e b → x ≡ None → (ext_offset_at b ≡ 0) × (e.first ≡ e.header_len)
-none_offset None e b has is = has
-none_offset (Some x) e b has is = cc
-
-offset_none : (x : Option Extension) (e : Extent) (b : List ℕ) → 64 ≤ e.header_len → HasExt x e b → ext_offset_at b ≡ 0 → x ≡ None
-offset_none None e b least has zero = refl
-offset_none (Some x) e b least has zero = absurd (omega (arith, least, zero, (placed x e b has).behind_header))
-
--- ExtHeaderOffset is 0 where there is none
-pub bare_offset : (b : List ℕ) (h : HeadFields) (e : Extent) → BeginsVolume h e b → h.ext ≡ None → (ext_offset_at b == 0) ≡ true
-bare_offset b h e front bare = eq-eqb _ _ (none_offset h.ext e b front.ext bare).0
-
--- and there is none where it is 0
-pub offset_bare : (b : List ℕ) (h : HeadFields) (e : Extent) → BeginsVolume h e b → (ext_offset_at b == 0) ≡ true → h.ext ≡ None
-offset_bare b h e front zero = offset_none h.ext e b (front_within b h e front).least front.ext (eqb-true _ _ zero)
-
--- without one, the first file is after the header
-pub bare_first : (b : List ℕ) (h : HeadFields) (e : Extent) → BeginsVolume h e b → h.ext ≡ None → e.first ≡ e.header_len
-bare_first b h e front bare = (none_offset h.ext e b front.ext bare).1

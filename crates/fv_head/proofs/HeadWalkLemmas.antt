@@ -7,8 +7,7 @@ use Rattle.std.proofs.lemmas.List.{take_more, drop_more, drop_all}
 use Rattle.fv_base.specs.Sinks.{WalkLaws}
 use Rattle.fv_base.specs.Value.{le_bytes}
 use Rattle.fv_head.specs.Pairs.{pairs_bytes}
-use Rattle.fv_head.specs.inner.WordLaws.{adds_joined}
-use Rattle.fv_head.specs.inner.WordSums.{word_weight, is_high_behind}
+use Rattle.fv_head.specs.inner.WordSums.{adds_joined, word_weight, is_high_behind}
 
 -- one more byte is added
 pub byte_added : (high h : Bool) (xs : List ℕ) (i t0 t w : ℕ) → i < length xs → h ≡ is_high_behind high (take i xs)

@@ -5,8 +5,6 @@
 pub use Rattle.fv_head.proofs.HeadPlaceLemmas.{one_front, front_holds, front_extent, front_same}
 -- its header lies in it, and it is within the limit; its first file may begin at a multiple of 8 in it, and its length is one
 pub use Rattle.fv_head.proofs.HeadPlaceLemmas.{Lies, front_lies, first_lies}
--- without an extended header, and only then, ExtHeaderOffset is 0, and the first file is after the header
-pub use Rattle.fv_head.proofs.HeadPlaceLemmas.{bare_offset, offset_bare, bare_first}
 -- a fault of a header is within the bytes or at their end, and is not out of memory
 pub use Rattle.fv_head.proofs.HeadFaultLemmas.{fault_within, fault_known}
 -- bytes are one extended header at most; what is spelled of one is read as the same, and how long it is, at most
@@ -14,7 +12,5 @@ pub use Rattle.fv_head.proofs.ExtLemmas.{one_ext}
 pub use Rattle.fv_head.proofs.ExtImageLemmas.{ext_again, ext_len_most}
 -- the canonical head is one, and the only one; how long it is, and a header at most
 pub use Rattle.fv_head.proofs.HeadImageLemmas.{canonical_is, canonical_only, length-canonical, header_len_is, header_len_most}
--- with its extended header in a pad file after it, or with anything after it where there is none, it begins a volume of its fields
-pub use Rattle.fv_head.proofs.HeadImageLemmas.{canonical_front, canonical_bare}
--- where the first file of the canonical image may begin: at most, and at a multiple of 8
-pub use Rattle.fv_head.proofs.HeadImageLemmas.{first_edge_most, first_edge_multiple}
+-- with its extended header in a pad file after it, it begins a volume of its fields
+pub use Rattle.fv_head.proofs.HeadImageLemmas.{canonical_front}

@@ -1,4 +1,4 @@
--- The checks of a volume's header, in a fixed order.
+-- The checks of a volume's header, in a fixed order, and bytes that begin with such a header.
 use Rattle.std.specs.Prelude.{ℕ, ◌+◌, ◌||◌, ◌-◌, ◌%◌, ◌==◌, nat_le, Bool, ◌&&◌, not, is_some, if◌then◌else◌, List, []}
 use Rattle.std.specs.Prelude.{◌∷◌, ◌++◌, length, take, slice_index, Option, None, Some}
 use Rattle.std.specs.Str.{bytes_eq}
@@ -11,8 +11,9 @@ use Rattle.fv_base.specs.declared.fault.Fault.{Fault}
 use Rattle.fv_base.specs.declared.fault.FaultKind.TheVariants as kinds
 use Rattle.fv_base.specs.declared.flash.FileSystem.{FileSystem}
 use Rattle.fv_base.specs.declared.flash.FileSystem.TheVariants.{Ffs2, Ffs3}
-use Rattle.fv_head.specs.Head.{signature_bytes, system_guid}
+use Rattle.fv_head.specs.Head.{HeadFields, BeginsVolume, signature_bytes, system_guid}
 use Rattle.fv_head.specs.Pairs.{pairs_of, bytes_in}
+use Rattle.fv_head.specs.declared.extent.Extent.{Extent}
 
 -- Signature is _FVH
 abbrev pub has_signature : List ℕ → Bool
@@ -103,3 +104,7 @@ whole_checks b =
 -- the checks of a header, in their order
 abbrev pub head_checks : List ℕ → List (Check Fault)
 head_checks b = front_checks b ++ whole_checks b
+
+-- the bytes begin with the header of a volume: only then does a call that reads them as a volume take memory
+abbrev pub BeginsWithHeader : List ℕ → Type 0
+BeginsWithHeader b = (h : HeadFields) × (e : Extent) × BeginsVolume h e b

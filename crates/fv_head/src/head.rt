@@ -6,7 +6,7 @@ ghost use Rattle.fv_base.specs.Faults.{out_of_memory};
 ghost use Rattle.fv_base.specs.Limits.{header_limit};
 ghost use Rattle.fv_head.specs.Head.{HasExt, HeadFields, BeginsVolume, header_len_of};
 ghost use Rattle.fv_head.specs.HeadReads.{IsReadHead};
-ghost use Rattle.fv_head.specs.HeadChecks.{head_checks};
+ghost use Rattle.fv_head.specs.HeadChecks.{head_checks, BeginsWithHeader};
 ghost use Rattle.fv_head.specs.Pairs.{pairs_of};
 ghost use Rattle.fv_head.specs.declared.extent.Extent.{Extent};
 
@@ -183,8 +183,7 @@ pub fn read_head(alloc: Global, bytes: &[u8]) -> Result<(VolumeHead, Extent), Fa
     ensures first { IfErr result (λ f. (f ≡ out_of_memory) ⊎ IsFirstFault (head_checks bytes.now) f) }
 
     // Memory runs out only if they begin with a volume.
-    ensures memory { IfErr result
-        (λ f. f ≡ out_of_memory → (h : HeadFields) × (e : Extent) × BeginsVolume h e bytes.now) }
+    ensures memory { IfErr result (λ f. f ≡ out_of_memory → BeginsWithHeader bytes.now) }
 
     // The offset of an error is within the bytes or at their end.
     ensures bound { IfErr result (λ f. f.place.offset ≤ length bytes.now) }

@@ -10,8 +10,7 @@ ghost use Rattle.fv_head.specs.Pairs.{pairs_bytes};
 ghost use Rattle.fv_head.specs.HeadReads.{CanonicalRest, IfRead};
 ghost use Rattle.fv_head.specs.ExtImage.{canonical_end, first_edge};
 ghost use Rattle.fv_head.specs.HeadImage.{head_spelled, canonical_head, checksum_of};
-ghost use Rattle.fv_head.specs.inner.WordLaws.{adds_words_by};
-ghost use Rattle.fv_head.specs.inner.WordSums.{AddsWords, word_weight};
+ghost use Rattle.fv_head.specs.inner.WordSums.{adds_words_by, AddsWords, word_weight};
 
 use crate::ext_image::len_of_ext;
 use crate::head::VolumeHead;

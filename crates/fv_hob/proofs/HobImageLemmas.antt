@@ -9,10 +9,10 @@ use Rattle.std.proofs.lemmas.List.{take-append-drop, length-take-le, length-repl
 use Rattle.std.proofs.Math.Seq.{take-add}
 use Rattle.fv_base.specs.Value.{IsBytes, field, le, le_at, le_bytes}
 use Rattle.fv_base.proofs.Laws.{bytes_append, bytes_take, field-append_front, field-take, field_is, not_equal}
-use Rattle.fv_hob.specs.Hobs.{HobForm, IsHob, hob_type, has_shape, kind_by, hob_len}
+use Rattle.fv_hob.specs.Hobs.{HobForm, IsHob, hob_type, has_shape, kind_by, hob_len, hob_fields, hob_spelled}
+use Rattle.fv_hob.specs.Hobs.{list_spelled}
 use Rattle.fv_hob.specs.declared.hob.HobKind.TheVariants as kinds
 use Rattle.fv_hob.specs.Lists.{IsHobList, IsUsedHob, JoinsHobs}
-use Rattle.fv_hob.specs.HobImage.{hob_fields, hob_spelled, list_spelled}
 use Rattle.fv_hob.proofs.BlockLemmas.{code_is, len_is}
 use Rattle.fv_hob.proofs.BlockKindLemmas.{body_by}
 
@@ -97,10 +97,6 @@ written_again h b is = go (le_at 0 2 b == 0xfffe) refl where
 pub block_kept : (h : HobForm) (b : List ℕ) → IsHob h b → IsUsedHob h → hob_spelled h ≡ b
 block_kept h b is used = kept_by h b is (not_equal (le_at 0 2 b) 0xfffe (λ f. used (code_is h b is ∙ f)))
 
--- a block is written in as many bytes as it has
-pub spelled_len : (h : HobForm) (b : List ℕ) → IsHob h b → length (hob_spelled h) ≡ hob_len h.kind
-spelled_len h b is = sym (len_is h (hob_spelled h) (written_again h b is))
-
 -- blocks that are used are written as they were read
 joins_kept : (hs : List HobForm) (b : List ℕ) → JoinsHobs hs b → AllByRecursion IsUsedHob hs → list_spelled hs ≡ b
 joins_kept [] b join used = sym join
@@ -110,16 +106,6 @@ joins_kept (h ∷ hs) b (c, rest, e, is, more) used =
 
 pub list_kept : (all : List HobForm) (c : List ℕ) → IsHobList all c → AllByRecursion IsUsedHob all → list_spelled all ≡ c
 list_kept all c is used = joins_kept all c is.joined used
-
--- and all in as many as they were read from
-joins_len : (hs : List HobForm) (b : List ℕ) → JoinsHobs hs b → length (list_spelled hs) ≡ length b
-joins_len [] b join = ap length (sym join)
-joins_len (h ∷ hs) b (c, rest, e, is, more) =
-    length-append (hob_spelled h) (list_spelled hs) ∙ ap (λ (n : ℕ). n + length (list_spelled hs)) (spelled_len h c is ∙ len_is h c is)
-    ∙ ap (λ (n : ℕ). length c + n) (joins_len hs rest more) ∙ sym (ap length e ∙ length-append c rest)
-
-pub list_len : (all : List HobForm) (b : List ℕ) → IsHobList all b → length (list_spelled all) ≡ length b
-list_len all b is = joins_len all b is.joined
 
 joins_again : (hs : List HobForm) (b : List ℕ) → JoinsHobs hs b → JoinsHobs hs (list_spelled hs)
 joins_again [] b join = refl

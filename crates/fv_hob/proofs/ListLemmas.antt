@@ -1,6 +1,6 @@
 -- Bytes begin with one list at most.
 use Rattle.std.proofs.lemmas.Grind.{common_steps}
-use Rattle.std.proofs.Common.{◌≡◌, ◌≤◌, ℕ, ◌*◌, List, [], ◌∷◌, ◌++◌, length, refl, sym, ap, ◌∙◌, arith, length-append, append_assoc}
+use Rattle.std.proofs.Common.{◌≡◌, ℕ, List, [], ◌∷◌, ◌++◌, refl, sym, ap, ◌∙◌, arith, append_assoc}
 use Rattle.std.proofs.Common.{append-nil}
 use Rattle.std.specs.List.{AllByRecursion}
 use Rattle.fv_hob.specs.Hobs.{HobForm, IsHob, hob_type}
@@ -15,11 +15,6 @@ pub joins_more : (hs : List HobForm) (h : HobForm) (c d : List ℕ) → JoinsHob
 joins_more [] h c d e is = (d, [], ap (λ (l : List ℕ). l ++ d) e ∙ sym (append-nil d), is, refl)
 joins_more (g ∷ gs) h c d (c', rest, e, is, more) js =
     (c', rest ++ d, ap (λ (l : List ℕ). l ++ d) e ∙ append_assoc c' rest d, is, joins_more gs h rest d more js)
-
--- blocks have 8 bytes at least
-pub blocks_fit : (hs : List HobForm) (b : List ℕ) → JoinsHobs hs b → 8 * length hs ≤ length b
-blocks_fit [] b join = omega arith
-blocks_fit (h ∷ hs) b (c, rest, e, is, more) = omega (arith, blocks_fit hs rest more, (is.block).least, ap length e, length-append c rest)
 
 pub others_more : (hs : List HobForm) (h : HobForm) → AllByRecursion IsNoEndHob hs → IsNoEndHob h → AllByRecursion IsNoEndHob (hs ++ h ∷ [])
 others_more [] h all other = (other, tt)

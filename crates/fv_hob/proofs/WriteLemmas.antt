@@ -5,9 +5,8 @@ use Rattle.std.specs.Prelude.{Option, None, Some}
 use Rattle.std.specs.List.{concat}
 use Rattle.std.proofs.lemmas.List.{map-append, take_more}
 use Rattle.std.proofs.lemmas.List.Folds.{concat-append}
-use Rattle.fv_hob.specs.Hobs.{HobForm}
+use Rattle.fv_hob.specs.Hobs.{HobForm, hob_spelled, list_spelled}
 use Rattle.fv_hob.specs.Lists.{with_span, span_of, spans_of}
-use Rattle.fv_hob.specs.HobImage.{hob_spelled, list_spelled}
 use Rattle.fv_hob.specs.declared.span.Span.{Span}
 
 -- after some bytes these fields were written

@@ -1,5 +1,4 @@
 -- The definitions in the order in which they can be read.
 pub mod Hobs
-pub mod HobImage
 pub mod Lists
 pub mod HobChecks

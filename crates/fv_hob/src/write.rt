@@ -7,7 +7,7 @@ ghost use Rattle.fv_base.specs.Value.{le_bytes};
 ghost use Rattle.fv_hob.specs.HobChecks.{hob_out_of_memory};
 ghost use Rattle.fv_hob.specs.declared.hob.HobKind.TheVariants as kinds;
 ghost use Rattle.fv_hob.specs.Lists.{IsHobList, IsUsedHob};
-ghost use Rattle.fv_hob.specs.HobImage.{hob_fields, hob_spelled, list_spelled};
+ghost use Rattle.fv_hob.specs.Hobs.{hob_fields, hob_spelled, list_spelled};
 
 use crate::fault::HobFault;
 use crate::hob::{Handoff, Hob, HobKind, MemoryAllocation, Resource};

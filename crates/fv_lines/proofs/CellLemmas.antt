@@ -12,10 +12,10 @@ use Rattle.fv_base.specs.declared.flash.FileSystem.{FileSystem}
 use Rattle.fv_base.specs.declared.flash.Polarity.{Polarity}
 use Rattle.fv_file.proofs.Laws.{cell_span}
 use Rattle.fv_file.specs.Cells.{CellForm, Valid, Pad, Dead, Stub, Free, Tiles}
-use Rattle.fv_file.specs.CellLengths.{CellsWithin, cell_len}
+use Rattle.fv_file.specs.CellForms.{CellsWithin, cell_len}
 use Rattle.fv_head.specs.declared.extent.Extent.{Extent}
 use Rattle.fv_tree.proofs.Laws.{want_known}
-use Rattle.fv_tree.specs.VolumeCells.{BeginsTiled, NotTiled}
+use Rattle.fv_tree.specs.LocatedFiles.{BeginsTiled, NotTiled}
 use Rattle.fv_lines.specs.CellTexts.{CellsText, cell_lines, dead_length, file_length, filler_length, free_length, pad_length, sums_of}
 use Rattle.fv_lines.specs.inner.CellRuns.{FitTogether, Fits, counted, sums_with}
 

@@ -12,7 +12,7 @@ use Rattle.fv_tree.specs.MeaningParts.{body_of, section_kind_of, sections_from}
 use Rattle.fv_lines.specs.Notes.{phase_of, read_by, sections_depexes, file_depexes}
 use Rattle.fv_lines.specs.Notes.{HeldDepex, IsSpelled, IsNoted, AreNotes, depex_line}
 use Rattle.fv_base.specs.Sinks.{WalkLaws}
-use Rattle.fv_lines.specs.inner.NoteRuns.{PutsNotes}
+use Rattle.fv_lines.specs.inner.CellRuns.{PutsNotes}
 use Rattle.fv_lines.specs.declared.depex_notes.DepexNote.{DepexNote}
 use Rattle.fv_text.proofs.Laws.{texts_next}
 

@@ -1,21 +1,18 @@
 -- The text of `cells`: where each cell of a volume lies, and how many bytes the cells have.
-use Rattle.std.specs.Prelude.{◌≡◌, ◌⊎◌, ℕ, ◌+◌, ◌-◌, List, ◌++◌, length, codes, decimal}
+use Rattle.std.specs.Prelude.{◌≡◌, ℕ, ◌+◌, ◌-◌, List, ◌++◌, length, codes, decimal}
 use Rattle.std.specs.List.{flat_map, sum_by}
 use Rattle.fv_base.specs.Guids.{bytes_of}
 use Rattle.fv_base.specs.GuidTexts.{guid_text}
 use Rattle.fv_base.specs.Value.{up_to_8}
-use Rattle.fv_base.specs.declared.fault.Fault.{Fault}
-use Rattle.fv_text.specs.Characters.{line_feed, two_digits}
+use Rattle.fv_text.specs.HexText.{line_feed, two_digits}
 use Rattle.fv_file.specs.Attributes.{attribute_bits}
 use Rattle.fv_file.specs.Cells.{CellForm, Valid, Pad, Dead, Stub, Free}
 use Rattle.fv_file.specs.declared.head.FileHead.{FileHead}
 use Rattle.fv_file.specs.declared.state.FileState.{FileState}
 use Rattle.fv_file.specs.declared.state.FileState.TheVariants as states
 use Rattle.fv_head.specs.declared.extent.Extent.{Extent}
-use Rattle.fv_tree.specs.VolumeCells.{BeginsTiled, NotTiled}
+use Rattle.fv_tree.specs.LocatedFiles.{BeginsTiled}
 use Rattle.fv_lines.specs.declared.cell_text.LengthSums.{LengthSums}
-use Rattle.fv_base.specs.Faults.{out_of_memory}
-use Rattle.fv_text.specs.PortViews.{Shown, WritingStops}
 
 -- ---- lines
 
@@ -101,9 +98,3 @@ cell_lines first cells =
 abbrev pub CellsText : List ℕ → List ℕ → Type 0
 CellsText input text = (e : Extent) × (cells : List CellForm) × BeginsTiled e cells input
     × (text ≡ cell_lines e.first cells)
-
--- nothing was written, because memory ran out or cells do not tile the volume; or a write failed in the text
-abbrev pub CellsStop : List ℕ → Shown → Shown → Fault → Type 0
-CellsStop input w v fault =
-    ((v ≡ w) × ((fault ≡ out_of_memory) ⊎ NotTiled input fault))
-    ⊎ ((text : List ℕ) × CellsText input text × WritingStops w v text fault)

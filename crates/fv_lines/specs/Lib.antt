@@ -1,6 +1,5 @@
 -- The definitions in the order in which they can be read.
 pub mod ScanLines
-pub mod VolumeStandings
 pub mod HobLines
 pub mod CellTexts
 pub mod Notes

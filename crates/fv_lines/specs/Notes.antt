@@ -7,7 +7,7 @@ use Rattle.fv_base.specs.Guids.{bytes_of}
 use Rattle.fv_base.specs.GuidTexts.{guid_text}
 use Rattle.fv_base.specs.declared.flash.Polarity.{Polarity}
 use Rattle.fv_base.specs.declared.guid.Guid.{Guid}
-use Rattle.fv_text.specs.Characters.{line_feed}
+use Rattle.fv_text.specs.HexText.{line_feed}
 use Rattle.fv_depex.specs.OpChecks.{IsFirstOpFault, depex_fault_number}
 use Rattle.fv_depex.specs.Expressions.{Spells}
 use Rattle.fv_depex.specs.declared.fault.DepexFault.{DepexFault}
@@ -16,8 +16,7 @@ use Rattle.fv_depex.specs.declared.op.Phase.{Phase}
 use Rattle.fv_depex.specs.declared.op.Phase.TheVariants.{Pei, Dxe}
 use Rattle.fv_file.specs.Cells.{CellForm, Pad}
 use Rattle.fv_tree.specs.LookupInstances.{preorder}
-use Rattle.fv_tree.specs.Meaning.{FileMeaning, File, ContentMeaning, Plain, Sectioned, SectionMeaning, Section}
-use Rattle.fv_tree.specs.Meaning.{BodyMeaning, Leaf, Group, Nested}
+use Rattle.fv_tree.specs.Meaning.{FileMeaning, File, Plain, Sectioned, SectionMeaning, Section, Leaf, Group, Nested}
 use Rattle.fv_lines.specs.declared.depex_notes.DepexNote.{DepexNote}
 
 -- ---- pads
@@ -63,24 +62,18 @@ read_by name b None = []
 read_by name b (Some phase) = record { name = name; phase = phase; bytes = b } ∷ []
 
 -- the expression that a section is, if it is one: a leaf of such a type
-abbrev pub body_depex : Guid → ℕ → BodyMeaning → List HeldDepex
-body_depex name kind (Leaf b) = read_by name b (phase_of kind)
-body_depex name kind (Group _ _) = []
-body_depex name kind (Nested _) = []
-
 abbrev pub section_depex : Guid → SectionMeaning → List HeldDepex
-section_depex name (Section kind extended body) = body_depex name kind body
+section_depex name (Section kind extended (Leaf b)) = read_by name b (phase_of kind)
+section_depex name (Section kind extended (Group _ _)) = []
+section_depex name (Section kind extended (Nested _)) = []
 
 abbrev pub sections_depexes : Guid → List SectionMeaning → List HeldDepex
 sections_depexes name ss = flat_map (section_depex name) ss
 
 -- the expressions among the data of a file, in preorder through groups, and not in nested volumes; plain data have none
-abbrev pub content_depexes : Guid → ContentMeaning → List HeldDepex
-content_depexes name (Plain b) = []
-content_depexes name (Sectioned ss tail) = sections_depexes name (preorder ss)
-
 abbrev pub file_depexes : FileMeaning → List HeldDepex
-file_depexes (File name kind attributes content) = content_depexes name content
+file_depexes (File name kind attributes (Plain b)) = []
+file_depexes (File name kind attributes (Sectioned ss tail)) = sections_depexes name (preorder ss)
 
 -- the expressions in some files, in order
 abbrev pub depexes_in : List FileMeaning → List HeldDepex

@@ -1,6 +1,6 @@
 -- The text of `scan`.
 use Rattle.std.specs.Prelude.{◌≡◌, ℕ, List, [], ◌∷◌, ◌++◌, codes, decimal}
-use Rattle.fv_text.specs.Characters.{line_feed}
+use Rattle.fv_text.specs.HexText.{line_feed}
 use Rattle.fv_tree.specs.FoundVolumes.{VolumeAt}
 
 -- the line of a volume of n bytes that begins at an offset

@@ -1,20 +1,17 @@
 //! The cells of a volume, one line each, and how many bytes they have.
 
-ghost use Rattle.std.specs.Prelude.{◌≡◌, ◌≤◌, ◌+◌, ◌-◌, ◌<◌, ◌^◌, length, map, IfErr, OnOk};
+ghost use Rattle.std.specs.Prelude.{◌≡◌, ◌≤◌, ◌+◌, ◌-◌, ◌<◌, ◌^◌, length, map};
 ghost use Rattle.std.specs.List.{flat_map, sum_by};
 ghost use Rattle.fv_base.specs.Value.{up_to_8};
-ghost use Rattle.fv_file.specs.CellForms.{cell_form};
-ghost use Rattle.fv_file.specs.CellLengths.{cell_len};
+ghost use Rattle.fv_file.specs.CellForms.{cell_form, cell_len};
 ghost use Rattle.fv_lines.specs.CellTexts.{cell_line, cell_lines, dead_name, file_line, span_line, span_text};
 ghost use Rattle.fv_lines.specs.CellTexts.{sums_line, sums_of};
 ghost use Rattle.fv_lines.specs.inner.CellRuns.{FitTogether, Fits, counted, sums_with};
-ghost use Rattle.fv_text.specs.PortViews.{Writes, WritingStops, shown};
 
+use fv_base::Sink;
 use fv_base::field::up_to_8;
-use fv_base::{Fault, Port, Sink, WriteSink};
 use fv_file::{Cell, FileHead, FileState};
 use fv_text::{put_decimal, put_two_digits};
-use std::io::Write;
 
 /// How many bytes the cells of a volume have.
 #[derive(Clone, Copy)]
@@ -101,7 +98,7 @@ fn put_cell<S: Sink>(out: &mut S, cell: &Cell<'_>)
 }
 
 // Puts the lines of some cells, in order.
-fn put_cells<S: Sink>(out: &mut S, list: &[Cell<'_>])
+fn put_list<S: Sink>(out: &mut S, list: &[Cell<'_>])
     requires { FitTogether (map cell_form list.now) }
     ensures { S.takes out.old (flat_map cell_line (map cell_form list.now)) out.new }
 {
@@ -174,34 +171,13 @@ fn put_sums<S: Sink>(out: &mut S, sums: LengthSums)
     out.put(b"\n");
 }
 
-// Puts the lines of a volume of these cells, whose header ends at the offset `first`.
-fn put_lines<S: Sink>(out: &mut S, first: u64, list: &[Cell<'_>])
+/// Puts a line for the header of a volume, which ends at the offset `first`, a line for each of its
+/// cells, and a line with the sums of their bytes. The cells fit into a volume.
+pub fn put_lines<S: Sink>(out: &mut S, first: u64, list: &[Cell<'_>])
     requires { FitTogether (map cell_form list.now) }
     ensures { S.takes out.old (cell_lines first (map cell_form list.now)) out.new }
 {
     put_span_line(out, b"header", 0, first);
-    put_cells(out, list);
+    put_list(out, list);
     put_sums(out, sums_of(list));
-}
-
-/// Writes a line for the header of a volume, which ends at the offset `first`, a line for each of
-/// its cells, and a line with the sums of their bytes. The cells fit into a volume.
-///
-/// # Errors
-///
-/// WriteFault if a write fails or takes no byte.
-pub fn write_lines<W: Write>(
-    writer: &mut Port<W>,
-    first: u64,
-    list: &[Cell<'_>],
-) -> Result<(), Fault>
-    requires { FitTogether (map cell_form list.now) }
-    ensures ok { OnOk result (Writes (shown W.contents writer.old) (shown W.contents writer.new)
-        (cell_lines first (map cell_form list.now))) }
-    ensures err { IfErr result (WritingStops (shown W.contents writer.old) (shown W.contents writer.new)
-        (cell_lines first (map cell_form list.now))) }
-{
-    let mut out = WriteSink::new(writer);
-    put_lines(&mut out, first, list);
-    out.outcome()
 }

@@ -6,7 +6,7 @@ ghost use Rattle.fv_tree.specs.Meaning.{files_of};
 ghost use Rattle.fv_tree.specs.MeaningParts.{sections_from};
 ghost use Rattle.fv_lines.specs.Notes.{AreNotes, depex_line, depex_lines, depexes_in, file_depexes, phase_of, read_by};
 ghost use Rattle.fv_lines.specs.Notes.{sections_depexes};
-ghost use Rattle.fv_lines.specs.inner.NoteRuns.{PutsNotes};
+ghost use Rattle.fv_lines.specs.inner.CellRuns.{PutsNotes};
 ghost use Rattle.fv_lines.specs.declared.depex_notes.DepexNote.{DepexNote};
 
 use fv_base::{Guid, Sink};

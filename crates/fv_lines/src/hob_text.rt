@@ -1,16 +1,14 @@
 //! The blocks of a hand-off list, and what an image holds where their volumes should be.
 
-ghost use Rattle.std.specs.Prelude.{◌≡◌, ℕ, List, IfErr, MatchOption, OnOk, length};
+ghost use Rattle.std.specs.Prelude.{◌≡◌, ℕ, List, MatchOption, length};
 ghost use Rattle.fv_lines.specs.HobLines.{HobsText, IsWord, consumed_line, hob_line, standing_word, held_image};
-ghost use Rattle.fv_text.specs.PortViews.{Writes, WritingStops, shown};
-ghost use Rattle.fv_lines.specs.VolumeStandings.{IsMapped, IsStanding, bytes_in_span};
+ghost use Rattle.fv_lines.specs.HobLines.{IsMapped, IsStanding, bytes_in_span};
 
+use fv_base::Sink;
 use fv_base::field::field;
-use fv_base::{Fault, Port, Sink, WriteSink};
 use fv_head::verify_fv;
-use fv_hob::{Hob, HobList, Span};
+use fv_hob::{Hob, Span};
 use fv_text::{put_decimal, put_four_digits};
-use std::io::Write;
 
 /// What an image holds where a volume should be.
 #[derive(Clone, Copy, Debug, PartialEq, Eq)]
@@ -102,8 +100,9 @@ fn put_consumed<S: Sink>(out: &mut S, consumed: u64)
     out.put(b"\n");
 }
 
-// Puts a line for each block, and how many bytes the list has.
-fn put_hobs<S: Sink>(out: &mut S, hobs: &[Hob], consumed: u64, image: Option<MappedImage<'_>>)
+/// Puts a line for each block of a hand-off list, and how many bytes the list has. With an image, the
+/// line of a block that describes a volume says what the image holds there.
+pub fn put_hobs<S: Sink>(out: &mut S, hobs: &[Hob], consumed: u64, image: Option<MappedImage<'_>>)
     ensures { (text : List ℕ) × HobsText (held_image image.entry) hobs.now consumed text
         × S.takes out.old text out.new }
 {
@@ -111,25 +110,4 @@ fn put_hobs<S: Sink>(out: &mut S, hobs: &[Hob], consumed: u64, image: Option<Map
         put_hob(out, hob.code(), hob.length(), word_of(hob, image));
     }
     put_consumed(out, consumed);
-}
-
-/// Writes a line for each block, and how many bytes the list has.
-///
-/// # Errors
-///
-/// WriteFault if a write fails or takes no byte.
-pub fn write_hobs<W: Write>(
-    writer: &mut Port<W>,
-    hobs: &HobList,
-    consumed: u64,
-    image: Option<MappedImage<'_>>,
-) -> Result<(), Fault>
-    ensures ok { OnOk result ((text : List ℕ) × HobsText (held_image image.entry) hobs.now consumed text
-        × Writes (shown W.contents writer.old) (shown W.contents writer.new) text) }
-    ensures err { IfErr result (λ f. (text : List ℕ) × HobsText (held_image image.entry) hobs.now consumed text
-        × WritingStops (shown W.contents writer.old) (shown W.contents writer.new) text f) }
-{
-    let mut out = WriteSink::new(writer);
-    put_hobs(&mut out, hobs.as_slice(), consumed, image);
-    out.outcome()
 }

@@ -8,8 +8,8 @@ mod hob_text;
 mod pad_notes;
 mod scan_text;
 
-pub use cell_run::write_cells;
+pub use cell_run::put_cells;
 pub use depex_notes::{DepexNote, put_depex_notes};
-pub use hob_text::{MappedImage, Standing, standing_of, write_hobs};
+pub use hob_text::{MappedImage, Standing, put_hobs, standing_of};
 pub use pad_notes::put_pad_notes;
-pub use scan_text::write_volumes;
+pub use scan_text::put_volumes;

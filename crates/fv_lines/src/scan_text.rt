@@ -1,15 +1,13 @@
 //! The volumes that a scan found.
 
-ghost use Rattle.std.specs.Prelude.{ℕ, List, OnOk, IfErr};
+ghost use Rattle.std.specs.Prelude.{ℕ, List};
 ghost use Rattle.fv_tree.specs.FoundVolumes.{Found};
 ghost use Rattle.fv_lines.specs.ScanLines.{ScanText, volume_line};
-ghost use Rattle.fv_text.specs.PortViews.{Writes, WritingStops, shown};
 
+use fv_base::Sink;
 use fv_base::field::bytes_from;
-use fv_base::{Fault, Port, Sink, WriteSink};
 use fv_head::verify_fv;
 use fv_text::put_decimal;
-use std::io::Write;
 
 // Puts the line of a volume that a scan found.
 fn put_found<S: Sink>(out: &mut S, offset: u64, length: u64)
@@ -22,8 +20,9 @@ fn put_found<S: Sink>(out: &mut S, offset: u64, length: u64)
     out.put(b"\n");
 }
 
-// Puts a line for each volume.
-fn put_volumes<S: Sink>(out: &mut S, input: &[u8], offsets: &[u64])
+/// Puts a line for each volume that begins in the input at one of the offsets, which are those of a
+/// scan.
+pub fn put_volumes<S: Sink>(out: &mut S, input: &[u8], offsets: &[u64])
     requires { Found input.now offsets.now }
     ensures { (text : List ℕ) × ScanText input.now offsets.now text × S.takes out.old text out.new }
 {
@@ -33,26 +32,4 @@ fn put_volumes<S: Sink>(out: &mut S, input: &[u8], offsets: &[u64])
         };
         put_found(out, *offset, extent.length);
     }
-}
-
-/// Writes a line for each volume that begins in the input at one of the offsets, which are those of
-/// a scan.
-///
-/// # Errors
-///
-/// WriteFault if a write fails or takes no byte.
-pub fn write_volumes<W: Write>(
-    writer: &mut Port<W>,
-    input: &[u8],
-    offsets: &[u64],
-) -> Result<(), Fault>
-    requires { Found input.now offsets.now }
-    ensures ok { OnOk result ((text : List ℕ) × ScanText input.now offsets.now text
-        × Writes (shown W.contents writer.old) (shown W.contents writer.new) text) }
-    ensures err { IfErr result (λ f. (text : List ℕ) × ScanText input.now offsets.now text
-        × WritingStops (shown W.contents writer.old) (shown W.contents writer.new) text f) }
-{
-    let mut out = WriteSink::new(writer);
-    put_volumes(&mut out, input, offsets);
-    out.outcome()
 }

@@ -7,7 +7,7 @@ mod values;
 mod written;
 
 use fv_base::Guid;
-use fv_depex::{DepexFault, DepexFaultKind, Op, Phase, read_depex};
+use fv_depex::{Depex, DepexFault, DepexFaultKind, Op, Phase, depex_bytes, read_depex};
 use std::alloc::Global;
 
 /// The bytes of a GUID.
@@ -42,6 +42,14 @@ fn fault_of(alloc: Global, bytes: &[u8], phase: Phase) -> Option<DepexFault> {
     match read_depex(alloc, bytes, phase) {
         Ok(_depex) => None,
         Err(fault) => Some(fault),
+    }
+}
+
+// Whether an expression is written as these bytes.
+fn is_written_as(alloc: Global, depex: &Depex, bytes: &[u8]) -> bool {
+    match depex_bytes(alloc, depex) {
+        Ok(written) => written.as_slice() == bytes,
+        Err(_) => false,
     }
 }
 

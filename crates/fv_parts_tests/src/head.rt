@@ -133,41 +133,10 @@ fn is_head_of(head: &VolumeHead, found: Extent, row: &HeadRow) -> bool {
     found == extent && has_fields(head, file_system, attributes, polarity) && first_edge(head) == 72
 }
 
-// Whether the bytes are read as a row says.
-fn is_read_as(alloc: Global, bytes: &[u8], row: &HeadRow) -> bool {
-    match read_head(alloc, bytes) {
-        Ok((head, found)) => verify_fv(bytes) == Ok(found) && is_head_of(&head, found, row),
-        Err(_) => false,
-    }
-}
-
-// Whether the empty volume, changed as a row says, is read as the row says.
-fn is_row_read(alloc: Global, row: &HeadRow) -> bool {
-    let mut bytes = EMPTY;
-    overwrite_each(&mut bytes, row.0);
-    is_read_as(alloc, &bytes, row)
-}
-
-#[test]
-fn heads_are_read(rt: HostRuntime) {
-    for row in HEADS {
-        let attributes = row.2;
-        assert!(rt; is_row_read(rt.alloc(), row), "{attributes}");
-    }
-}
-
 // Whether these bytes are made.
 fn is_made(made: Result<ByteList, Fault>, expected: &[u8]) -> bool {
     match made {
         Ok(bytes) => bytes.as_slice() == expected,
-        Err(_) => false,
-    }
-}
-
-// Whether the head of the canonical image of the volume at the start of the bytes is this one.
-fn has_canonical_head(alloc: Global, bytes: &[u8], expected: &[u8]) -> bool {
-    match read_head(alloc, bytes) {
-        Ok((head, _)) => is_made(head_bytes(alloc, &head), expected),
         Err(_) => false,
     }
 }
@@ -179,26 +148,43 @@ fn put_bytes(alloc: Global, head: &VolumeHead) -> Result<ByteList, Fault> {
     out.finish()
 }
 
-// The same, put into a sink.
-fn has_canonical_head_by_put(alloc: Global, bytes: &[u8], expected: &[u8]) -> bool {
+// Whether a head is written as these bytes, and so put into a sink.
+fn is_head_written_as(alloc: Global, head: &VolumeHead, expected: &[u8]) -> bool {
+    is_made(head_bytes(alloc, head), expected) && is_made(put_bytes(alloc, head), expected)
+}
+
+// Whether the bytes are read as a row says, and their head is written as it was.
+fn is_read_as(alloc: Global, bytes: &[u8], row: &HeadRow) -> bool {
     match read_head(alloc, bytes) {
-        Ok((head, _)) => is_made(put_bytes(alloc, &head), expected),
+        Ok((head, found)) => {
+            verify_fv(bytes) == Ok(found)
+                && is_head_of(&head, found, row)
+                && is_head_written_as(alloc, &head, &bytes[..bytes.len().min(72)])
+        }
         Err(_) => false,
     }
 }
 
-// Whether the head of the empty volume, after these changes, is written as it was read.
-fn is_written_back(alloc: Global, changes: &[(usize, &[u8])]) -> bool {
+// Whether the empty volume, changed as a row says, is read as the row says, and written as it was.
+fn is_row_read(alloc: Global, row: &HeadRow) -> bool {
     let mut bytes = EMPTY;
-    overwrite_each(&mut bytes, changes);
-    let head = &bytes[..72];
-    has_canonical_head(alloc, &bytes, head) && has_canonical_head_by_put(alloc, &bytes, head)
+    overwrite_each(&mut bytes, row.0);
+    is_read_as(alloc, &bytes, row)
 }
 
 #[test]
-fn heads_are_written_as_they_were_read(rt: HostRuntime) {
+fn heads_are_read_and_written(rt: HostRuntime) {
     for row in HEADS {
-        assert!(rt; is_written_back(rt.alloc(), row.0));
+        let attributes = row.2;
+        assert!(rt; is_row_read(rt.alloc(), row), "{attributes}");
+    }
+}
+
+// Whether the head of the canonical image of the volume at the start of the bytes is this one.
+fn has_canonical_head(alloc: Global, bytes: &[u8], expected: &[u8]) -> bool {
+    match read_head(alloc, bytes) {
+        Ok((head, _)) => is_made(head_bytes(alloc, &head), expected),
+        Err(_) => false,
     }
 }
 

@@ -159,11 +159,3 @@ fn is_list_written_as(alloc: Global, list: &HobList, expected: &[u8]) -> bool {
         Err(_) => false,
     }
 }
-
-// Whether the list at the start of the bytes is written as these.
-fn is_written_as(alloc: Global, bytes: &[u8], expected: &[u8]) -> bool {
-    match read_hobs(alloc, bytes) {
-        Ok((list, _)) => is_list_written_as(alloc, &list, expected),
-        Err(_) => false,
-    }
-}

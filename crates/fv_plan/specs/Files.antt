@@ -1,14 +1,8 @@
 -- Which files a command names.
-use Rattle.std.specs.Prelude.{Option, Some, None, String}
+use Rattle.std.specs.Prelude.{Option, Some, None, String, option_map}
 use Rattle.std.specs.Global.{Global}
 use Rattle.fv_plan.specs.declared.plan.Command.{Command}
 use Rattle.fv_plan.specs.declared.plan.Command.TheVariants.{Single, Hobs, Compare}
-use Rattle.fv_plan.specs.declared.plan.ImageFile.{ImageFile}
-
--- the file of an image, if there is an image
-abbrev pub path_of : Option ImageFile → Option (String Global)
-path_of None = None
-path_of (Some image) = Some image.path
 
 -- the file of a command's first input; None is standard input
 abbrev pub first_file : Command → Option (String Global)
@@ -19,5 +13,5 @@ first_file (Compare first second) = Some first.path
 -- the file of a command's second input, if it has one: the image of a hand-off list, or the second of two volumes
 abbrev pub second_file : Command → Option (String Global)
 second_file (Single task at file) = None
-second_file (Hobs file image) = path_of image
+second_file (Hobs file image) = option_map (λ i. i.path) image
 second_file (Compare first second) = Some second.path

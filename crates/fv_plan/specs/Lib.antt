@@ -1,3 +1,2 @@
 -- The definitions in the order in which they can be read.
 pub mod Files
-pub mod Images

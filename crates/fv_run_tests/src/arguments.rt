@@ -98,6 +98,14 @@ fn plans() -> &'static str {
         Some(\"a.fd\") } }\n\
     fv list a.fd --at=+540672: Plan { hex: false, command: Single { task: List, at: Some(540672), file: \
         Some(\"a.fd\") } }\n\
+    fv list --at 0x40 a.fd: Plan { hex: false, command: Single { task: List, at: Some(64), file: Some(\"a.fd\") } }\n\
+    fv list --at 0x00000000000000000054000: Plan { hex: false, command: Single { task: List, at: Some(344064), file: \
+        None } }\n\
+    fv cells --at=0xFFFFFFFFFFFFFFFF: Plan { hex: false, command: Single { task: Cells, at: \
+        Some(18446744073709551615), file: None } }\n\
+    fv check --at 0x0: Plan { hex: false, command: Single { task: Check, at: Some(0), file: None } }\n\
+    fv compare a.fd b.fd --at 0xaBc --other-at 0x8: Plan { hex: false, command: Compare { first: VolumeFile { path: \
+        \"a.fd\", at: Some(2748) }, second: VolumeFile { path: \"b.fd\", at: Some(8) } } }\n\
     fv check --at 0: Plan { hex: false, command: Single { task: Check, at: Some(0), file: None } }\n\
     fv normalise --at 18446744073709551615 a.fd: Plan { hex: false, command: Single { task: Normalise, at: \
         Some(18446744073709551615), file: Some(\"a.fd\") } }\n\
@@ -151,7 +159,21 @@ fn wrong_lines() -> &'static str {
     fv list --at x\n\
     fv list --at=-1\n\
     fv list --at=-0\n\
-    fv list --at 0x40\n\
+    fv list --at \n\
+    fv list --at 0x\n\
+    fv list --at 0xg\n\
+    fv list --at 0x+40\n\
+    fv list --at +0x40\n\
+    fv list --at=-0x40\n\
+    fv list --at 0X40\n\
+    fv list --at 0x0x40\n\
+    fv list --at x40\n\
+    fv list --at 40h\n\
+    fv list --at 0x10000000000000000\n\
+    fv compare a.fv b.fv --at 0x\n\
+    fv compare a.fv b.fv --other-at 0x\n\
+    fv compare a.fv b.fv --other-at 0x1g\n\
+    fv compare a.fv b.fv --other-at 18446744073709551616\n\
     fv list --at 18446744073709551616\n\
     fv list --other-at 8\n\
     fv cells --all\n\

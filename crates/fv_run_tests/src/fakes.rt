@@ -114,7 +114,7 @@ impl Read for InterruptedReader {
 /// Takes `room` bytes, and then fails.
 #[derive(Drop)]
 pub(crate) struct FakeWriter {
-    /// The bytes that it took_only.
+    /// The bytes that it took.
     taken: Vec<u8>,
     /// Whether a call came after the first that failed.
     is_late: bool,
@@ -124,8 +124,12 @@ pub(crate) struct FakeWriter {
     room: usize,
     /// Whether a call without room is an error, or else takes no byte.
     is_broken: bool,
-    /// Whether a call has failed, or took_only no byte.
+    /// Whether a call has failed, or took no byte.
     has_failed: bool,
+    /// How often it was asked to flush.
+    flushes: u64,
+    /// Whether a flush fails.
+    flush_fails: bool,
 }
 
 impl FakeWriter {
@@ -138,10 +142,25 @@ impl FakeWriter {
             room,
             is_broken,
             has_failed: false,
+            flushes: 0,
+            flush_fails: false,
         }
     }
 
-    /// Whether it took_only exactly these bytes, and no call came after the first that failed.
+    /// A writer that takes all bytes, and whose flush fails.
+    pub(crate) fn without_flush(alloc: Global) -> FakeWriter {
+        FakeWriter {
+            flush_fails: true,
+            ..FakeWriter::new(alloc, usize::MAX, usize::MAX, true)
+        }
+    }
+
+    /// Whether it was asked once to flush.
+    pub(crate) fn was_flushed(&self) -> bool {
+        self.flushes == 1
+    }
+
+    /// Whether it took exactly these bytes, and no call came after the first that failed.
     pub(crate) fn took_only(&self, bytes: &[u8]) -> bool {
         !self.is_late && self.taken.as_slice() == bytes
     }
@@ -165,6 +184,10 @@ impl Write for FakeWriter {
 
     fn flush(&mut self) -> io::Result<()> {
         self.is_late = self.is_late || self.has_failed;
+        self.flushes = self.flushes.saturating_add(1);
+        if self.flush_fails {
+            return Err(io::Error::from(ErrorKind::BrokenPipe));
+        }
         Ok(())
     }
 }

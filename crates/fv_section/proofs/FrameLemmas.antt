@@ -6,17 +6,16 @@ use Rattle.std.specs.Prelude.{◌==◌, slice_index, Result, Ok, Err}
 use Rattle.std.proofs.lemmas.Bool.{leb-true, le-leb, eqb-true, eqb-false, eq-eqb}
 use Rattle.std.proofs.lemmas.List.{take-append-drop, take_at, take_rest, drop_at, length-take-le, get_or-take}
 use Rattle.std.proofs.Math.ListN.{get_or-append}
-use Rattle.fv_base.specs.Checks.{AllHold, IsFirstFault}
+use Rattle.fv_base.specs.Checks.{AllHold, IsFirstFault, Which, Fails}
 use Rattle.fv_base.specs.inner.Verdicts.{first_fault}
 use Rattle.fv_base.specs.Value.{le, le_at}
 use Rattle.fv_base.specs.declared.fault.Fault.{Fault}
 use Rattle.fv_base.proofs.Laws.{all_hold, and_join, and_split, field-append_front, field-take, first_is, none_faulty, not_equal}
-use Rattle.fv_base.proofs.Laws.{not_first, verdict_err, verdict_none, verdict_ok}
+use Rattle.fv_base.proofs.Laws.{none_fails, verdict_err, verdict_none, verdict_ok}
 use Rattle.fv_section.specs.FrameChecks.{has_extended_size, section_header_len_at, section_size_in, section_size_at, frame_checks}
-use Rattle.fv_section.specs.FrameWalks.{frame_in}
+use Rattle.fv_section.specs.StreamReads.{frame_in, FrameStandsAt}
 use Rattle.fv_section.specs.inner.FrameVerdicts.{frame_verdict}
 use Rattle.fv_section.specs.Frames.{FrameForm, BeginsFrame, SaysSize, section_header_len, frame_len}
-use Rattle.fv_section.specs.StreamReads.{FrameStandsAt}
 
 pub head_least : (extended : Bool) → 4 ≤ section_header_len extended
 head_least false = omega arith
@@ -171,11 +170,11 @@ pub verdict_rest : (at : ℕ) (b : List ℕ) → frame_verdict at (take (length 
 verdict_rest at b = ap (frame_verdict at) (take_rest b at)
 
 -- where a check does not hold there is no frame
-pub none_stands : (at : ℕ) (b : List ℕ) (e : Fault) (g : FrameForm) → IsFirstFault (frame_checks at (drop at b)) e → FrameStandsAt g at b
-    → ⊥
-none_stands at b e g first stands =
+pub none_stands : (which : Which) (at : ℕ) (b : List ℕ) (e : Fault) (g : FrameForm) → Fails which (frame_checks at (drop at b)) e
+    → FrameStandsAt g at b → ⊥
+none_stands which at b e g bad stands =
     let reads = frame_reads g (drop at b) stands.behind stands.begins in
-    not_first (frame_checks at (drop at b)) e first (none_faulty (frame_checks at (drop at b)) (reads.checks at))
+    none_fails which (frame_checks at (drop at b)) e bad (reads.checks at)
 
 pub other_verdict : (x : Result FrameForm Fault) (f g : FrameForm) → x ≡ Ok f → x ≡ Ok g → g ≡ f
 other_verdict x f g a b = cc

@@ -5,12 +5,11 @@ use Rattle.std.proofs.Common.{subst, arith, length-append, length-take, length-d
 use Rattle.std.specs.List.{AllByRecursion}
 use Rattle.std.proofs.lemmas.List.{take-append-drop, take_all, drop_at}
 use Rattle.std.proofs.Math.Seq.{take-add, take-append-add}
-use Rattle.fv_base.specs.Checks.{IsFirstFault}
+use Rattle.fv_base.specs.Checks.{IsFirstFault, Which}
 use Rattle.fv_base.specs.declared.fault.Fault.{Fault}
 use Rattle.fv_section.specs.Frames.{FrameForm, BeginsFrame, Splits, SplitsFrom, frame_len, up_to_4}
-use Rattle.fv_section.specs.StreamReads.{FrameStandsAt, FramesWithin}
-use Rattle.fv_section.specs.FrameChecks.{frame_checks, IsFirstFrameFault}
-use Rattle.fv_section.specs.FrameWalks.{frame_in, frames_from, offset_after, HasFrames}
+use Rattle.fv_section.specs.StreamReads.{FrameStandsAt, FramesWithin, frame_in, frames_from, offset_after, HasFrames}
+use Rattle.fv_section.specs.FrameChecks.{frame_checks, FrameFault, IsFirstFrameFault}
 use Rattle.fv_section.proofs.FrameLemmas.{length_begun, frame_reads, none_stands}
 use Rattle.fv_section.proofs.StreamLemmas.{cut, from_least, one_more}
 
@@ -84,9 +83,9 @@ first_stands : (at : ℕ) (f : FrameForm) (fs : List FrameForm) (t : ℕ) (b : L
     → FrameStandsAt f at b
 first_stands at f fs t b split = grind (arith, common_steps, begins_of, from_least, length-drop)
 
--- where there is a first fault there is no split
-pub none_after : (b : List ℕ) (e : Fault) (fs : List FrameForm) (t : ℕ) → IsFirstFrameFault b e → Splits fs t b → ⊥
-none_after b e fs t here split =
+-- where a check fails there is no split
+pub none_after : (which : Which) (b : List ℕ) (e : Fault) (fs : List FrameForm) (t : ℕ) → FrameFault which b e → Splits fs t b → ⊥
+none_after which b e fs t here split =
     let lx : length (take here.at b) ≡ here.at = omega (arith, length-take here.at b, here.inside) in
     let m : 0 + length (take here.at b) ≡ up_to_4 (0 + length (take here.at b)) = omega (arith, here.multiple, lx) in
     let ly : 0 < length (drop here.at b) = omega (arith, length-drop here.at b, here.inside) in
@@ -96,7 +95,7 @@ none_after b e fs t here split =
   where
     go : (more : List FrameForm) → SplitsFrom here.at more t (drop here.at b) → 0 < length (drop here.at b) → ⊥
     go [] (z, n) l = omega (arith, ap length z, l)
-    go (f ∷ more) h l = none_stands here.at b e f here.fault_is (first_stands here.at f more t b h)
+    go (f ∷ more) h l = none_stands which here.at b e f here.fails (first_stands here.at f more t b h)
 
 -- each frame of a stream ends within it
 all_within : (at : ℕ) (fs : List FrameForm) (t : ℕ) (b : List ℕ) → SplitsFrom at fs t b → FramesWithin (at + length b) fs

@@ -14,7 +14,7 @@ pub use Rattle.fv_section.proofs.SectionImageLemmas.{head_is}
 
 -- a stream is split in one way; frames up to a multiple of 4 begin every split; one more frame after such frames
 pub use Rattle.fv_section.proofs.StreamLemmas.{from_least, one_split, cut, one_more}
--- a stream begins with its first frame; where there is no frame there is no split; each frame ends within the stream
+-- a stream begins with its first frame; where a check fails there is no split; each frame ends within the stream
 pub use Rattle.fv_section.proofs.FrameWalkLemmas.{begins_of, none_after, whole_within, stands_within}
 -- its tail has at most 3 bytes
 pub use Rattle.fv_section.proofs.StreamLaws.{tail_small}

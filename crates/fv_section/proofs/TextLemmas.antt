@@ -10,7 +10,7 @@ use Rattle.fv_base.specs.Sums.{words_of}
 use Rattle.fv_base.specs.Value.{le}
 use Rattle.fv_base.proofs.Laws.{and_join, and_split, not_equal}
 use Rattle.fv_section.specs.Texts.{IsText, IsVersion}
-use Rattle.fv_section.specs.inner.TextTests.{none_zero, is_text}
+use Rattle.fv_section.specs.inner.FrameVerdicts.{none_zero, is_text}
 
 none_zero-all : (units : List ℕ) → none_zero units ≡ true → AllByRecursion (λ unit. unit ≢ 0) units
 none_zero-all [] h = tt

@@ -1,7 +1,7 @@
--- The checks of a section header in a fixed order, and the first fault of a stream.
+-- The checks of a section header in a fixed order, and the fault of a stream: the first, or any.
 use Rattle.std.specs.Prelude.{◌≡◌, ℕ, ◌%◌, ◌<◌, ◌==◌, nat_le, ◌&&◌, Bool, true, false, List, [], ◌∷◌, length, take}
 use Rattle.std.specs.Prelude.{drop}
-use Rattle.fv_base.specs.Checks.{Check, check, IsFirstFault}
+use Rattle.fv_base.specs.Checks.{Check, check, Which, First, Fails}
 use Rattle.fv_base.specs.Value.{le_at}
 use Rattle.fv_base.specs.declared.fault.Fault.{Fault}
 use Rattle.fv_base.specs.declared.fault.FaultKind.TheVariants as kinds
@@ -33,13 +33,16 @@ frame_checks at r =
     ∷ check (has_section_size r) kinds.SectionSize at
     ∷ []
 
--- frames and fillers are joined up to the offset `at` within the stream, a multiple of 4; the fault is that of the
--- first check there that does not hold
-pub record IsFirstFrameFault (b : List ℕ) (fault : Fault) : Type 0 where
+-- frames and fillers are joined up to the offset `at` within the stream, a multiple of 4; a check fails there
+pub record FrameFault (which : Which) (b : List ℕ) (fault : Fault) : Type 0 where
   pub frames : List FrameForm
   pub tail : ℕ
   pub at : ℕ
   pub split : Splits frames tail (take at b)
   pub multiple : at % 4 ≡ 0
   pub inside : at < length b
-  pub fault_is : IsFirstFault (frame_checks at (drop at b)) fault
+  pub fails : Fails which (frame_checks at (drop at b)) fault
+
+-- the first fault of a stream: that of the first check there that does not hold
+abbrev pub IsFirstFrameFault : List ℕ → Fault → Type 0
+IsFirstFrameFault = FrameFault First

@@ -1,9 +1,7 @@
 -- The definitions in the order in which they can be read.
 pub mod Frames
 pub mod SectionImage
-pub mod StreamReads
 pub mod FrameChecks
-pub mod FrameForms
-pub mod FrameWalks
+pub mod StreamReads
 pub mod Texts
 pub mod inner

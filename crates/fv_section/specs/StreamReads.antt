@@ -1,9 +1,16 @@
--- Sections where they are in some bytes, and streams that were written, read again (PI specification, volume 3, section
--- 3.2.4).
-use Rattle.std.specs.List.{AllByRecursion}
-use Rattle.std.specs.Prelude.{◌≡◌, ℕ, ◌+◌, ◌<◌, ◌≤◌, Bool, true, false, List, [], ◌∷◌, ◌++◌, length, drop, ◌%◌}
+-- Frames where they are in some bytes, as calls return them, and streams that were written, read again (PI
+-- specification, volume 3, section 3.2.4).
 use Rattle.fv_section.specs.Frames.{FrameForm, section_header_len, frame_len, BeginsFrame, up_to_4, SplitsFrom}
+use Rattle.fv_section.specs.declared.frame.Frame.{Frame}
+use Rattle.std.specs.List.{AllByRecursion}
+use Rattle.std.specs.Prelude.{◌≡◌, ℕ, ◌+◌, ◌<◌, ◌≤◌, Bool, true, false, List, [], ◌∷◌, ◌++◌, length, drop, ◌%◌, zero}
+use Rattle.std.specs.Prelude.{suc, ◌-◌, take, slice_index}
 use Rattle.fv_section.specs.SectionImage.{stream_of}
+use Rattle.fv_section.specs.FrameChecks.{has_extended_size, section_header_len_at, section_size_at}
+
+-- a frame, with its body as a list
+abbrev pub frame_form : Frame → FrameForm
+frame_form f = record { offset = f.offset; kind = f.kind; extended = f.extended; body = f.body.now }
 
 -- the header of this frame is at the offset `at` of b
 pub record FrameStandsAt (f : FrameForm) (at : ℕ) (b : List ℕ) : Type 0 where
@@ -40,3 +47,26 @@ InPlace at (f ∷ g ∷ fs) tail =
 abbrev pub StreamsAreRead : Type 0
 StreamsAreRead = (at : ℕ) (fs : List FrameForm) (tail : ℕ) → at % 4 ≡ 0 → InPlace at fs tail
     → SplitsFrom at fs tail (stream_of fs tail)
+
+-- the frame at the offset `at`, as its header says; r are the bytes from there on
+abbrev pub frame_in : ℕ → List ℕ → FrameForm
+frame_in at r = record {
+  offset = at;
+  kind = slice_index r 3;
+  extended = has_extended_size r;
+  body = take (section_size_at r - section_header_len_at r) (drop (section_header_len_at r) r);
+}
+
+-- the offset at which a frame would begin after the frame at the offset `at`
+abbrev pub offset_after : ℕ → List ℕ → ℕ
+offset_after at b = up_to_4 (at + frame_len (frame_in at (drop at b)))
+
+-- n frames of b, one after another, the first at the offset `at`
+abbrev pub frames_from : ℕ → ℕ → List ℕ → List FrameForm
+frames_from zero at b = []
+frames_from (suc n) at b = frame_in at (drop at b) ∷ frames_from n (offset_after at b) b
+
+-- each of these frames is in b, at its offset
+abbrev pub HasFrames : ℕ → ℕ → List ℕ → Type 0
+HasFrames zero at b = Unit {0}
+HasFrames (suc n) at b = FrameStandsAt (frame_in at (drop at b)) at b × HasFrames n (offset_after at b) b

@@ -7,9 +7,7 @@ ghost use Rattle.fv_section.specs.FrameChecks.{has_extended_size, section_header
 ghost use Rattle.fv_section.specs.FrameChecks.{has_section_size, frame_checks};
 ghost use Rattle.fv_section.specs.inner.FrameVerdicts.{frame_verdict};
 ghost use Rattle.fv_section.specs.Frames.{FrameForm, section_header_len};
-ghost use Rattle.fv_section.specs.StreamReads.{FrameStandsAt};
-ghost use Rattle.fv_section.specs.FrameForms.{frame_form};
-ghost use Rattle.fv_section.specs.FrameWalks.{frame_in};
+ghost use Rattle.fv_section.specs.StreamReads.{FrameStandsAt, frame_form, frame_in};
 
 use crate::layout::{
     EXTENDED_HEADER_LEN, EXTENDED_SIZE_OFFSET, HEADER_LEN, SIZE_OFFSET, TYPE_OFFSET,

@@ -1,7 +1,7 @@
 //! The frames of a stream.
 
 ghost use Rattle.std.specs.Prelude.{◌≡◌, map};
-ghost use Rattle.fv_section.specs.FrameForms.{frame_form};
+ghost use Rattle.fv_section.specs.StreamReads.{frame_form};
 
 use crate::frame::Frame;
 use std::marker::Model;
@@ -17,7 +17,7 @@ pub struct Frames<'a> {
 impl<'a> Model for Frames<'a> {
     ghost use Rattle.std.specs.Prelude.{ℕ, List, map};
     ghost use Rattle.fv_section.specs.Frames.{FrameForm};
-    ghost use Rattle.fv_section.specs.FrameForms.{frame_form};
+    ghost use Rattle.fv_section.specs.StreamReads.{frame_form};
 
     ghost Value = { List FrameForm × ℕ };
 

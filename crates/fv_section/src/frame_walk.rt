@@ -5,9 +5,7 @@ ghost use Rattle.std.specs.Prelude.{IfOk, IfErr, IfSome, IfNone};
 ghost use Rattle.fv_base.specs.Faults.{out_of_memory};
 ghost use Rattle.fv_section.specs.FrameChecks.{IsFirstFrameFault};
 ghost use Rattle.fv_section.specs.Frames.{FrameForm, Splits, frame_len, up_to_4};
-ghost use Rattle.fv_section.specs.StreamReads.{FrameStandsAt, FramesWithin};
-ghost use Rattle.fv_section.specs.FrameForms.{frame_form};
-ghost use Rattle.fv_section.specs.FrameWalks.{frame_in};
+ghost use Rattle.fv_section.specs.StreamReads.{FrameStandsAt, FramesWithin, frame_form, frame_in};
 
 use crate::frame::{Frame, frame_in, next_frame, section_header_len};
 use crate::frame_list::Frames;
@@ -72,7 +70,7 @@ pub struct FrameWalk<'a> {
 impl<'a> Model for FrameWalk<'a> {
     ghost use Rattle.std.specs.Prelude.{ℕ, List};
     ghost use Rattle.fv_section.specs.Frames.{FrameForm};
-    ghost use Rattle.fv_section.specs.FrameWalks.{frames_from, HasFrames};
+    ghost use Rattle.fv_section.specs.StreamReads.{frames_from, HasFrames};
 
     ghost Value = { List FrameForm × ℕ };
 

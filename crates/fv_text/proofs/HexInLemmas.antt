@@ -14,9 +14,8 @@ use Rattle.fv_base.specs.Limits.{volume_limit}
 use Rattle.fv_base.proofs.Laws.{up_is_not_down}
 use Rattle.fv_text.specs.declared.hex_text.Decoder.{Decoder}
 use Rattle.fv_text.specs.inner.HexDecoding.{AddsDigits, Decodes, DecodesPairs, HoldsDigits, RefusesText}
-use Rattle.fv_text.specs.HexIn.{GivesText, IsLongText, IsNoText, TextStops, text_limit}
+use Rattle.fv_text.specs.HexIn.{GivesText, IsLongText, IsNoText, TextStops, text_limit, DigitsSpell, squeezed}
 use Rattle.fv_text.specs.inner.HexDecoding.{IsSpoilt}
-use Rattle.fv_text.specs.HexPairs.{DigitsSpell, squeezed}
 use Rattle.fv_text.proofs.HexDigitLemmas.{odd_reads_nothing, reads_count, reads_joined, spoilt_behind, spoilt_more}
 use Rattle.fv_text.proofs.WhiteSpaceLemmas.{squeezed_more}
 

@@ -1,7 +1,19 @@
--- What a sink that writes lines of digits to a sink below takes.
+-- What a sink takes in which bytes wait before they are put into a sink below: as they are, or as lines of digits.
 use Rattle.std.specs.Prelude.{◌≡◌, ℕ, List, ◌++◌}
 use Rattle.std.specs.List.{AllByRecursion, concat}
 use Rattle.fv_text.specs.HexText.{lines_text, IsWholeLine}
+
+-- the sink below was s, with the bytes p waiting; it took the bytes, and is t, with the bytes q waiting
+pub record Gathered {S : Type 0} (takes : S → List ℕ → S → Type 0) (s : S) (p bytes : List ℕ) (t : S)
+    (q : List ℕ) : Type 0 where
+  pub passed : List ℕ
+  pub joined : p ++ bytes ≡ passed ++ q
+  pub taken : takes s passed t
+
+-- the same, by the sink below a gathering sink and by the bytes that wait in it
+abbrev pub GatheringTakes : {S H : Type 0} (takes : S → List ℕ → S → Type 0) (below : H → S) (waiting : H → List ℕ) → H
+    → List ℕ → H → Type 0
+GatheringTakes takes below waiting s bytes t = Gathered takes (below s) (waiting s) bytes (below t) (waiting t)
 
 -- the sink below was s, with the bytes p waiting; it took the bytes, and is t, with the bytes q waiting
 pub record Lined {S : Type 0} (takes : S → List ℕ → S → Type 0) (s : S) (p bytes : List ℕ) (t : S)

@@ -1,8 +1,20 @@
--- The text in which bytes are written: as they are, or as lines of hexadecimal digits.
-use Rattle.std.specs.Prelude.{◌≡◌, ◌<◌, ℕ, List, [], ◌∷◌, ◌++◌, Bool, true, false, length}
-use Rattle.std.specs.List.{AllByRecursion, concat, flat_map}
+-- The characters of a text, numbers in a fixed count of hexadecimal digits, and the text in which bytes are written: as
+-- they are, or as lines of hexadecimal digits.
+use Rattle.std.specs.Prelude.{ℕ, ◌/◌, ◌%◌, List, [], ◌∷◌, ◌≡◌, ◌<◌, ◌++◌, Bool, true, false, length}
 use Rattle.hex.specs.Hex.{encode_lower}
-use Rattle.fv_text.specs.Characters.{line_feed}
+use Rattle.std.specs.List.{AllByRecursion, concat, flat_map}
+
+-- a line feed
+abbrev pub line_feed : List ℕ
+line_feed = 10 ∷ []
+
+-- the two lower-case hexadecimal digits of a number below 256
+abbrev pub two_digits : ℕ → List ℕ
+two_digits n = encode_lower (n ∷ [])
+
+-- the four lower-case hexadecimal digits of a number below 65536
+abbrev pub four_digits : ℕ → List ℕ
+four_digits n = encode_lower (n / 256 ∷ n % 256 ∷ [])
 
 -- the lower-case digits of some bytes, and a line feed
 abbrev pub line_text : List ℕ → List ℕ

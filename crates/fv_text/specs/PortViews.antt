@@ -1,9 +1,7 @@
 -- What a run reads and writes, seen from outside: what a port shows, and what was written to one.
-use Rattle.std.specs.Prelude.{◌≡◌, ◌<◌, ◌⊎◌, ℕ, Bool, true, List, Option, length, take}
+use Rattle.std.specs.Prelude.{◌≡◌, ◌<◌, ℕ, Bool, true, List, Option, length, take}
 use Rattle.std.specs.Io.KnownBytes.{Appends}
 use Rattle.fv_base.specs.Port.{has_erred, inner_of}
-use Rattle.fv_base.specs.declared.fault.Fault.{Fault}
-use Rattle.fv_base.specs.declared.fault.FaultKind.TheVariants as kinds
 use Rattle.fv_base.specs.declared.port.Port.{Port}
 
 -- what a port shows: what its reader has left, or what its writer holds, if that is known; and whether one of its calls
@@ -40,11 +38,3 @@ Writes old new text = Appends old.bytes new.bytes text × (new.erred ≡ old.err
 -- a write failed in a text: the first n bytes of it were written, fewer than all, and nothing else
 abbrev pub StopsIn : Shown → Shown → List ℕ → Type 0
 StopsIn old new text = (n : ℕ) × (n < length text) × Appends old.bytes new.bytes (take n text) × (new.erred ≡ true)
-
--- a text was written, or a write failed in it
-abbrev pub WritesOrStops : Shown → Shown → List ℕ → Type 0
-WritesOrStops old new text = Writes old new text ⊎ StopsIn old new text
-
--- a write failed in a text, and the fault says so
-abbrev pub WritingStops : Shown → Shown → List ℕ → Fault → Type 0
-WritingStops old new text fault = (fault.kind ≡ kinds.WriteFault) × StopsIn old new text

@@ -1,16 +1,16 @@
 //! A sink that gathers small pieces.
 
 ghost use Rattle.std.specs.Prelude.{◌≡◌, ◌≤◌, ◌+◌, [], length, take};
-ghost use Rattle.fv_text.specs.GatheringSinks.{GatheringTakes};
-ghost use Rattle.fv_text.specs.inner.GatheringLaws.{gathered_by};
+ghost use Rattle.fv_text.specs.HexSinks.{GatheringTakes};
+ghost use Rattle.fv_text.specs.inner.HexLaws.{gathered_by};
 
 use crate::placing::place;
 use fv_base::Sink;
 
 /// How many bytes wait at most.
-const ROOM: usize = 512;
+const ROOM: usize = 8192;
 
-/// A sink that gathers pieces of at most 512 bytes, and puts them into a sink below as one.
+/// A sink that gathers pieces of at most 8,192 bytes, and puts them into a sink below as one.
 /// `finish` puts what still waits.
 #[derive(Drop)]
 pub struct GatheringSink<S: Sink> {
@@ -20,7 +20,7 @@ pub struct GatheringSink<S: Sink> {
     room: [u8; ROOM],
     /// How many bytes wait.
     filled: usize,
-    ghost fits: { filled ≤ 512 },
+    ghost fits: { filled ≤ 8192 },
 }
 
 impl<S: Sink> GatheringSink<S> {
@@ -47,9 +47,9 @@ impl<S: Sink> GatheringSink<S> {
 
     // Puts the gathered bytes into the sink below, unless there is room for `count` more.
     fn make_room(&mut self, count: usize)
-        requires { count ≤ 512 }
+        requires { count ≤ 8192 }
         ensures takes { GatheringTakes S.takes (λ s. s.below) (λ s. take s.filled s.room) self.old [] self.new }
-        ensures room { self.new.filled + count ≤ 512 }
+        ensures room { self.new.filled + count ≤ 8192 }
     {
         if count > ROOM - self.filled {
             self.pass();
@@ -66,7 +66,7 @@ impl<S: Sink> GatheringSink<S> {
 
     // Keeps the bytes, for which there is room.
     fn keep(&mut self, bytes: &[u8])
-        requires { self.old.filled + length bytes.now ≤ 512 }
+        requires { self.old.filled + length bytes.now ≤ 8192 }
         ensures { GatheringTakes S.takes (λ s. s.below) (λ s. take s.filled s.room) self.old bytes.now self.new }
     {
         place(&mut self.room, self.filled, bytes);

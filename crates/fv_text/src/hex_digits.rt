@@ -5,7 +5,7 @@ ghost use Rattle.std.specs.List.{All};
 ghost use Rattle.std.specs.Prelude.{◌≡◌, ◌≤◌, ◌+◌, ◌/◌, ◌%◌, ◌++◌, ℕ, List, true, false, length, map, take, vec_len};
 ghost use Rattle.std.specs.Prelude.{IfOk, OnOk};
 ghost use Rattle.fv_text.specs.inner.HexDecoding.{IsNibble, IsSpoilt, joined_pairs, value_or_16};
-ghost use Rattle.fv_text.specs.HexPairs.{DigitsSpell};
+ghost use Rattle.fv_text.specs.HexIn.{DigitsSpell};
 
 use std::alloc::AllocError;
 

@@ -1,16 +1,14 @@
-//! Bytes, put and written as lines of hexadecimal digits.
+//! Bytes, put as lines of hexadecimal digits.
 
 ghost use Rattle.std.specs.Prelude.{◌≡◌, ◌≤◌, ◌<◌, ℕ, List, length, take};
-ghost use Rattle.std.specs.Prelude.{IfErr, OnOk};
 ghost use Rattle.fv_text.specs.inner.HexLaws.{hex_by};
 ghost use Rattle.fv_text.specs.HexSinks.{HexTakes};
 ghost use Rattle.fv_text.specs.HexText.{IsHexText, ShowsBytes, last_text, line_text};
-ghost use Rattle.fv_text.specs.PortViews.{Writes, WritingStops, shown};
 
+use crate::lent_sink::LentSink;
 use crate::placing::place;
+use fv_base::Sink;
 use fv_base::field::bytes_from;
-use fv_base::{Fault, Port, Sink, WriteSink};
-use std::io::Write;
 
 /// The number of bytes of a line.
 const LINE: usize = 32;
@@ -122,30 +120,13 @@ fn put_hex<S: Sink>(below: S, bytes: &[u8]) -> S
     lines.finish()
 }
 
-// Puts the bytes as they are or as lines of digits, and returns the sink.
-fn put_shown<S: Sink>(below: S, hex: bool, bytes: &[u8]) -> S
-    ensures { (text : List ℕ) × ShowsBytes hex bytes.now text × S.takes below text result }
+/// Puts the bytes as they are, or as lines of digits if `hex`.
+pub fn put_shown<S: Sink>(out: &mut S, hex: bool, bytes: &[u8])
+    ensures { (text : List ℕ) × ShowsBytes hex bytes.now text × S.takes out.old text out.new }
 {
     if hex {
-        put_hex(below, bytes)
+        let _lent = put_hex(LentSink::new(out), bytes);
     } else {
-        let mut out = below;
         out.put(bytes);
-        out
     }
-}
-
-/// Writes the bytes as they are, or as lines of digits.
-///
-/// # Errors
-///
-/// WriteFault if a write fails or takes no byte. Only a first part of the text was written then.
-pub fn write_shown<W: Write>(writer: &mut Port<W>, hex: bool, bytes: &[u8]) -> Result<(), Fault>
-    ensures ok { OnOk result ((text : List ℕ) × ShowsBytes hex bytes.now text
-        × Writes (shown W.contents writer.old) (shown W.contents writer.new) text) }
-    ensures err { IfErr result (λ f. (text : List ℕ) × ShowsBytes hex bytes.now text
-        × WritingStops (shown W.contents writer.old) (shown W.contents writer.new) text f) }
-{
-    let out = put_shown(WriteSink::new(writer), hex, bytes);
-    out.outcome()
 }

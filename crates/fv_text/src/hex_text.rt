@@ -5,8 +5,7 @@ ghost use Rattle.fv_base.specs.inner.ReadTurns.{read_limit};
 ghost use Rattle.fv_base.specs.Limits.{volume_limit};
 ghost use Rattle.fv_base.specs.Port.{inner_of, has_erred};
 ghost use Rattle.fv_text.specs.inner.HexDecoding.{Decodes, DecodesPairs, ReadsPiece, RefusesText};
-ghost use Rattle.fv_text.specs.HexIn.{SpellsWhole, TextStops};
-ghost use Rattle.fv_text.specs.HexPairs.{DigitsSpell, squeezed};
+ghost use Rattle.fv_text.specs.HexIn.{SpellsWhole, TextStops, DigitsSpell, squeezed};
 
 use crate::hex_digits::{push_pairs, take_odd};
 use crate::white_space::squeeze;

@@ -1,18 +1,18 @@
 //! Numbers as decimal or hexadecimal digits, bytes as lines of hexadecimal digits, and the bytes
-//! that such lines spell.
+//! that such lines spell. Sinks that turn bytes into such lines, or that gather small pieces.
 #![tactic(auto)]
 
 mod gathering;
 mod hex_digits;
 mod hex_lines;
 mod hex_text;
+mod lent_sink;
 mod numbers;
 mod placing;
 mod white_space;
-mod whole_write;
 
 pub use gathering::GatheringSink;
-pub use hex_lines::{HexSink, write_shown};
+pub use hex_lines::{HexSink, put_shown};
 pub use hex_text::read_hex;
+pub use lent_sink::LentSink;
 pub use numbers::{put_decimal, put_four_digits, put_two_digits};
-pub use whole_write::write_bytes;

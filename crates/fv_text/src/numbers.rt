@@ -1,7 +1,7 @@
 //! Numbers in decimal and in hexadecimal digits, put into a sink.
 
 ghost use Rattle.std.specs.Prelude.{◌≤◌, decimal, length};
-ghost use Rattle.fv_text.specs.Characters.{four_digits, two_digits};
+ghost use Rattle.fv_text.specs.HexText.{four_digits, two_digits};
 
 use fv_base::Sink;
 use itoa::Buffer;

@@ -1,7 +1,7 @@
 //! White space in hexadecimal text, and the text without it.
 
-ghost use Rattle.fv_text.specs.HexPairs.{is_space, squeezed};
-ghost use Rattle.fv_text.specs.inner.Squeezing.{IsPutKept};
+ghost use Rattle.fv_text.specs.HexIn.{is_space, squeezed};
+ghost use Rattle.fv_text.specs.inner.HexDecoding.{IsPutKept};
 ghost use Rattle.std.specs.Prelude.{◌≡◌, ◌≤◌, ◌+◌, ◌++◌, if◌then◌else◌, length, true, OnOk};
 
 use crate::placing::place;

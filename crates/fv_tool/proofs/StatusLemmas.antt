@@ -1,27 +1,65 @@
 -- How the run of a plan does not end, and what a new port shows.
-use Rattle.std.proofs.lemmas.Grind.{common_steps}
-use Rattle.std.proofs.Common.{◌≡◌, ◌∙◌, ℕ, List, ap, Bool, false, arith}
+use Rattle.std.proofs.Common.{◌≡◌, ◌∙◌, ℕ, List, ap, Bool, false, inl, inr, subst, sym}
 use Rattle.std.specs.Prelude.{Option}
 use Rattle.fv_base.specs.Port.{has_erred, inner_of}
 use Rattle.fv_base.specs.declared.port.Port.{Port}
 use Rattle.fv_text.specs.PortViews.{Change, Ports, seen, shown}
-use Rattle.fv_command.specs.Runs.{RunsCommand, RunsOver}
+use Rattle.fv_command.specs.Runs.{Runs, RunsOver, SaysCommand, fresh}
+use Rattle.fv_command.specs.Tasks.{PartText, Says}
+use Rattle.fv_command.specs.declared.extracting.Extraction.{Extraction}
+use Rattle.fv_command.specs.declared.extracting.Extraction.TheVariants.{Made, Stored, NotFound, NotSectioned}
+use Rattle.fv_command.specs.declared.status.Status.{Status}
+use Rattle.fv_command.specs.declared.status.Status.TheVariants.{Done, Different, Refused, WrongWords}
 use Rattle.fv_plan.specs.declared.plan.Command.{Command}
 use Rattle.fv_plan.specs.declared.plan.Command.TheVariants.{Single, Hobs, Compare}
 use Rattle.fv_plan.specs.declared.plan.Plan.{Plan}
-use Rattle.fv_command.specs.declared.status.Status.{Status}
-use Rattle.fv_command.specs.declared.status.Status.TheVariants.{WrongWords}
+use Rattle.fv_plan.specs.declared.plan.Task.{Task}
+use Rattle.fv_plan.specs.declared.plan.Task.TheVariants.{Normalise, NormaliseAll, List as Listing, ListSums, Extract, Check}
+use Rattle.fv_plan.specs.declared.plan.Task.TheVariants.{Cells, Scan}
 
-command_not_wrong : (c : Command) (hex : Bool) (ports : Ports) → RunsCommand c hex WrongWords ports → ⊥
-command_not_wrong (Single task at file) hex ports (same, ran) = ran
-command_not_wrong (Hobs file image) hex ports ran = ran
-command_not_wrong (Compare first second) hex ports ran = ran
+part_not_wrong : (hex : Bool) (x : Extraction) (text : List ℕ) → PartText hex x WrongWords text → ⊥
+part_not_wrong hex (Made bytes) text said = said
+part_not_wrong hex (Stored bytes) text said = said
+part_not_wrong hex NotFound text said = said
+part_not_wrong hex NotSectioned text said = said
+
+says_not_wrong : (task : Task) (hex : Bool) (input text : List ℕ) → Says task hex input WrongWords text → ⊥
+says_not_wrong Normalise hex input text said = said
+says_not_wrong NormaliseAll hex input text said = said
+says_not_wrong Listing hex input text said = said
+says_not_wrong ListSums hex input text said = said
+says_not_wrong (Extract part) hex input text (m, x, begins, is, said) = part_not_wrong hex x text said
+says_not_wrong Check hex input text said = said
+says_not_wrong Cells hex input text said = said
+says_not_wrong Scan hex input text said = said
+
+command_not_wrong : (c : Command) (hex : Bool) (first second : Change) (text : List ℕ) → SaysCommand c hex first second WrongWords text
+    → ⊥
+command_not_wrong (Single task at file) hex first second text (same, inl (bytes, gives, said)) = says_not_wrong task hex bytes text said
+command_not_wrong (Single task at file) hex first second text (same, inr (is, stops)) = let bad : WrongWords ≡ Refused = is in cc
+command_not_wrong (Hobs file image) hex first second text (inl (is, lists)) = let bad : WrongWords ≡ Done = is in cc
+command_not_wrong (Hobs file image) hex first second text (inr (is, stops)) = let bad : WrongWords ≡ Refused = is in cc
+command_not_wrong (Compare a b) hex first second text (inl (m, k, gives, also, inl (is, same), line)) = let bad : WrongWords ≡ Done = is in cc
+command_not_wrong (Compare a b) hex first second text (inl (m, k, gives, also, inr (is, differ), line)) = let bad : WrongWords ≡ Different = is in cc
+command_not_wrong (Compare a b) hex first second text (inr (is, stops)) = let bad : WrongWords ≡ Refused = is in cc
+
+run_not_wrong : (p : Plan) (ports : Ports) → Runs p WrongWords ports → ⊥
+run_not_wrong p ports (ran, text, says, inl (is, wrote)) =
+    command_not_wrong p.command p.hex ports.first ports.second text
+    (subst (λ (s : Status). SaysCommand p.command p.hex ports.first ports.second s text) (sym is) says)
+run_not_wrong p ports (ran, text, says, inr (is, stops)) = let bad : WrongWords ≡ Refused = is in cc
 
 -- the run of a plan does not end in wrong words
 pub never_wrong : {S F : Type 0} (of_input : S → Option (List ℕ)) (of_file : F → Option (List ℕ))
     (opens : List ℕ → Option F → Type 0) (is_standard : S → Type 0) (p : Plan) (status : Status) (output : Change)
     → RunsOver of_input of_file opens is_standard p status output → status ≡ WrongWords → ⊥
-never_wrong of_input of_file opens is_standard p status output (first, second, is_first, is_second, s, s', ran) is = grind (arith, common_steps, command_not_wrong)
+never_wrong of_input of_file opens is_standard p status output (first, second, is_first, is_second, s, s', ran) is =
+    let ports : Ports = record {
+      first = record { old = fresh of_input of_file first; new = s };
+      second = record { old = fresh of_input of_file second; new = s' };
+      output = output;
+    } in
+    run_not_wrong p ports (subst (λ (x : Status). Runs p x ports) is ran)
 
 -- what a new port shows
 pub shown_new : {T : Type 0} (told : T → Option (List ℕ)) (port : Port T) (inner : T) → inner_of port ≡ inner → has_erred port ≡ false

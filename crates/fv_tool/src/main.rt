@@ -2,16 +2,14 @@
 //! reports the outcome by its exit status.
 #![tactic(auto)]
 
-ghost use Rattle.fv_base.specs.Port.{inner_of};
-ghost use Rattle.fv_command.specs.Outputs.{has_failed, output_contents};
 ghost use Rattle.fv_text.specs.PortViews.{Writes, change, seen, shown};
-ghost use Rattle.fv_command.specs.Statuses.{exit_code};
-ghost use Rattle.fv_tool.specs.Does.{DoesAsked, IsGiven, RunsArguments, RunsProcess};
-ghost use Rattle.fv_tool.specs.Refusals.{TellsRefusal, line_of};
-ghost use Rattle.std.specs.Io.Buffered.{writer_contents};
-ghost use Rattle.std.specs.Prelude.{◌≡◌, map, false, Err, IfErr, IfOk};
+ghost use Rattle.fv_command.specs.Endings.{Ends};
+ghost use Rattle.fv_command.specs.Endings.{exit_code};
+ghost use Rattle.fv_tool.specs.Does.{IsGiven, RunsArguments, RunsProcess};
+ghost use Rattle.fv_tool.specs.Refusals.{line_of, status_of};
+ghost use Rattle.std.specs.Prelude.{◌≡◌, ◌≢◌, false, true, IfErr, IfOk};
+ghost use Rattle.fv_base.specs.Port.{is_flushed};
 ghost use Rattle.std.specs.Process.{exit_status};
-ghost use Rattle.std.specs.String.{string_bytes};
 ghost use Rattle.std.specs.Vec.Iter.{into_iter_items};
 
 mod host;
@@ -19,10 +17,10 @@ mod host;
 use crate::host::{Host, Process};
 use fv_arguments::{WordFault, parse_words};
 use fv_base::{Fault, FaultKind, Port};
-use fv_command::{Opener, Output, Status, close, refuse, run_over, say};
+use fv_command::{Opener, Status, refuse, run_over, say};
 use std::alloc::Global;
 use std::env::Args;
-use std::io::{BufWriter, Write};
+use std::io::Write;
 use std::process::ExitCode;
 
 // The arguments in order.
@@ -48,7 +46,8 @@ fn arguments<P: Process>(alloc: Global, process: &P) -> Result<Vec<String>, Word
 
 // Reports that the command line is wrong, or that memory ran out while it was read.
 fn refuse_words<W: Write>(writer: &mut Port<W>, fault: WordFault) -> Status
-    ensures { TellsRefusal fault result (change W.contents writer.old writer.new) }
+    ensures ends { Ends (status_of fault) (line_of fault) (change W.contents writer.old writer.new) result }
+    ensures flushed { result ≢ Status.Refused → is_flushed writer.new ≡ true }
 {
     match fault {
         WordFault::Words => say(writer, "wrong words\n", Status::WrongWords),
@@ -63,18 +62,17 @@ fn run_given<O: Opener, W: Write>(
     words: Result<Vec<String>, WordFault>,
     writer: &mut Port<W>,
 ) -> Status
-    // If the arguments could not be read, that is reported.
-    ensures none { (fault : WordFault) → words ≡ Err fault
-        → TellsRefusal fault result (change W.contents writer.old writer.new) }
-
     // What the arguments ask for is run; arguments that ask for nothing are reported, and so is a
-    // lack of memory.
-    ensures given { IfOk words (λ ws. DoesAsked O.Standard.remaining O.File.remaining (O.opens opener.now)
-        (O.is_standard opener.now) (map string_bytes ws.items) result (change W.contents writer.old writer.new)) }
+    // lack of memory, and arguments that could not be read.
+    ensures ran { RunsArguments O.Standard.remaining O.File.remaining (O.opens opener.now) (O.is_standard opener.now)
+        words result (change W.contents writer.old writer.new) }
 
     // If the status is WrongWords, the line of wrong arguments was written.
     ensures wrong { result ≡ Status.WrongWords
         → Writes (shown W.contents writer.old) (shown W.contents writer.new) (line_of WordFault.Words) }
+
+    // The last call of the writer was a flush, unless the status is Refused.
+    ensures flushed { result ≢ Status.Refused → is_flushed writer.new ≡ true }
 {
     let plan = match words {
         Ok(words) => parse_words(alloc, &words),
@@ -84,26 +82,6 @@ fn run_given<O: Opener, W: Write>(
         Ok(plan) => run_over(alloc, opener, &plan, writer),
         Err(fault) => refuse_words(writer, fault),
     }
-}
-
-// Does what the arguments ask for, or reports why they are rejected, and writes all of it to the
-// output. Returns how the run ended, and the output below the buffer.
-fn run<O: Opener, W: Write + Drop>(
-    alloc: Global,
-    opener: &O,
-    words: Result<Vec<String>, WordFault>,
-    output: BufWriter<Output<W>>,
-) -> (Status, Port<Output<W>>)
-    // What was asked for was done, with some status. It is in the output, and the status is the one
-    // returned; or a write failed, only the first bytes of it are in the output, and the status is
-    // Refused.
-    ensures { RunsArguments O.Standard.remaining O.File.remaining (O.opens opener.now) (O.is_standard opener.now) words
-        (seen (writer_contents (output_contents W.contents) output) false) result.0
-        (shown (output_contents W.contents) result.1) (has_failed (inner_of result.1)) }
-{
-    let mut port = Port::new(output);
-    let status = run_given(alloc, opener, words, &mut port);
-    close(port, status)
 }
 
 // Opens the directory `/` three times. So the file descriptors below 3 that are closed are taken,
@@ -119,21 +97,19 @@ fn hold_numbers<O: Opener>(opener: &O) -> (Option<O::File>, Option<O::File>, Opt
 
 // Does what the arguments of a process ask for, and writes to its standard output. Returns how the
 // run ended, and the output.
-fn run_process<P: Opener + Process>(alloc: Global, process: &P) -> (Status, Port<Output<P::Writer>>)
-    ensures { (writer : P.Writer) × P.is_output process.now writer
+fn run_process<P: Opener + Process>(alloc: Global, process: &P) -> (Status, Port<P::Writer>)
+    ensures runs { (writer : P.Writer) × P.is_output process.now writer
         × RunsProcess P.Standard.remaining P.File.remaining (P.opens process.now) (P.is_standard process.now)
-        (P.has_arguments process.now) (P.denies_arguments process.now) (seen (P.Writer.contents writer) false) result.0
-        (shown (output_contents P.Writer.contents) result.1) (has_failed (inner_of result.1)) }
+        (P.has_arguments process.now) (P.denies_arguments process.now) result.0 (record {
+          old = seen (P.Writer.contents writer) false;
+          new = shown P.Writer.contents result.1;
+        }) }
+    ensures flushed { result.0 ≢ Status.Refused → is_flushed result.1 ≡ true }
 {
     let _held = hold_numbers(process);
-    match BufWriter::new(alloc, Output::new(process.standard_output())) {
-        Ok(output) => run(alloc, process, arguments(alloc, process), output),
-        Err(_) => {
-            let mut port = Port::new(Output::new(process.standard_output()));
-            let status = refuse_words(&mut port, WordFault::OutOfMemory);
-            (status, port)
-        }
-    }
+    let mut port = Port::new(process.standard_output());
+    let status = run_given(alloc, process, arguments(alloc, process), &mut port);
+    (status, port)
 }
 
 // The exit code of a status.
@@ -144,12 +120,15 @@ fn exit_with(status: Status) -> ExitCode
 }
 
 // Does what the arguments of a process ask for. Returns the exit code, and the output.
-fn process<P: Opener + Process>(alloc: Global, process: &P) -> (ExitCode, Port<Output<P::Writer>>)
+fn process<P: Opener + Process>(alloc: Global, process: &P) -> (ExitCode, Port<P::Writer>)
     ensures { (writer : P.Writer) × P.is_output process.now writer
         × (status : Status) × (exit_status result.0 ≡ exit_code status)
         × RunsProcess P.Standard.remaining P.File.remaining (P.opens process.now) (P.is_standard process.now)
-        (P.has_arguments process.now) (P.denies_arguments process.now) (seen (P.Writer.contents writer) false) status
-        (shown (output_contents P.Writer.contents) result.1) (has_failed (inner_of result.1)) }
+        (P.has_arguments process.now) (P.denies_arguments process.now) status (record {
+          old = seen (P.Writer.contents writer) false;
+          new = shown P.Writer.contents result.1;
+        })
+        × (status ≢ Status.Refused → is_flushed result.1 ≡ true) }
 {
     let (status, output) = run_process(alloc, process);
     (exit_with(status), output)

@@ -4,6 +4,7 @@ use Rattle.std.proofs.Common.{◌≡◌, ◌≤◌, ◌<◌, ℕ, ◌+◌, ◌^�
 use Rattle.std.proofs.Common.{◌∙◌, subst, arith, length-append}
 use Rattle.std.specs.Prelude.{not}
 use Rattle.std.specs.List.{list_any}
+use Rattle.fv_base.specs.Checks.{First}
 use Rattle.fv_base.specs.Limits.{volume_limit}
 use Rattle.fv_base.specs.Value.{IsBytes}
 use Rattle.fv_base.specs.declared.fault.Fault.{Fault}
@@ -12,7 +13,7 @@ use Rattle.fv_base.specs.declared.flash.Polarity.{Polarity}
 use Rattle.fv_base.proofs.Laws.{all_filter, bytes_back, bytes_drop, bytes_front}
 use Rattle.std.proofs.lemmas.List.{length-drop}
 use Rattle.fv_file.specs.Cells.{CellForm, Valid, Pad, Dead, Stub, Free, Tiles, IsCell, offset_of}
-use Rattle.fv_file.specs.CellLengths.{CellsWithin, IsMadeUp, cell_len}
+use Rattle.fv_file.specs.CellForms.{CellsWithin, IsMadeUp, cell_len}
 use Rattle.fv_file.proofs.Laws.{cell_span}
 use Rattle.fv_head.specs.declared.extent.Extent.{Extent}
 use Rattle.fv_tree.specs.inner.ReadingParts.{IsReadyFile, AllStored}
@@ -20,7 +21,6 @@ use Rattle.fv_tree.specs.LocatedFiles.{StandIn}
 use Rattle.fv_tree.specs.Denotes.{Stream, MeansFile}
 use Rattle.fv_tree.specs.Files.{FileForm, files_in, AreCurrent, replaced_by}
 use Rattle.fv_base.specs.declared.fault.Place.{Place}
-use Rattle.fv_tree.specs.FailingChecks.{First}
 use Rattle.fv_tree.specs.FirstFault.{Faulty, FileFault, BodyFault, OneOf}
 
 -- ---- the files as they lie in a volume

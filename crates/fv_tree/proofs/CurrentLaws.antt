@@ -7,12 +7,12 @@ use Rattle.std.specs.List.{list_any}
 use Rattle.std.proofs.lemmas.List.{get_or_at}
 use Rattle.std.proofs.lemmas.List.Folds.{list_any_at}
 use Rattle.std.proofs.lemmas.Slice.Eq.{bytes_eq-Decides}
+use Rattle.fv_base.specs.Checks.{Which}
 use Rattle.fv_base.proofs.Laws.{and_join, and_split}
 use Rattle.fv_base.specs.declared.fault.Fault.{Fault}
 use Rattle.fv_file.specs.Cells.{CellForm}
 use Rattle.fv_tree.specs.Files.{FileForm, files_in, same_name, is_twin, NoTwins, current_in, is_top, end_of, TopAtEnd}
 use Rattle.fv_tree.specs.Files.{AreCurrent}
-use Rattle.fv_tree.specs.FailingChecks.{First}
 use Rattle.fv_tree.specs.FirstFault.{HasTwin, TopElsewhere, NamesFault}
 
 never : (t : Bool) → t ≡ true → t ≡ false → ⊥
@@ -32,7 +32,7 @@ any_behind : (p : FileForm → Bool) (xs : List FileForm) (f : FileForm) (ys : L
     → list_any p (xs ++ (f ∷ ys)) ≡ true
 any_behind p xs f ys h = grind (arith, common_steps, list_any_at, length-append, get_or_at)
 
-pub twin_not : (before : List FileForm) (f : FileForm) (after : List FileForm) → NoTwins (before ++ (f ∷ after))
+twin_not : (before : List FileForm) (f : FileForm) (after : List FileForm) → NoTwins (before ++ (f ∷ after))
     → list_any (is_twin f) before ≡ true → ⊥
 twin_not [] f after none h = let x : ⊥ = cc in x
 twin_not (g ∷ gs) f after none h = go (twin_not gs f after none.1) (or_true (is_twin f g) (list_any (is_twin f) gs) h) where
@@ -40,8 +40,8 @@ twin_not (g ∷ gs) f after none h = go (twin_not gs f after none.1) (or_true (i
   go rest (inl t) = never (list_any (is_twin g) (gs ++ (f ∷ after))) (any_behind (is_twin g) gs f after (twin_back f g t)) none.0
   go rest (inr t) = rest t
 
-pub twin_none : (f : FileForm) (fs : List FileForm) → HasTwin First f fs → NoTwins fs → ⊥
-twin_none f fs (before, after, is, none, has) all = twin_not before f after (subst NoTwins is all) has
+pub twin_none : (which : Which) (f : FileForm) (fs : List FileForm) → HasTwin which f fs → NoTwins fs → ⊥
+twin_none which f fs (before, after, is, none, has) all = twin_not before f after (subst NoTwins is all) has
 
 top_not : (n : ℕ) (before : List FileForm) (f : FileForm) (after : List FileForm) → TopAtEnd n (before ++ (f ∷ after))
     → is_top f ≡ true → (after ≡ [] → end_of f ≡ n → ⊥) → ⊥
@@ -50,12 +50,12 @@ top_not n [] f (g ∷ gs) all top off = never (is_top f) top all.0
 top_not n (x ∷ []) f after all top off = top_not n [] f after all.1 top off
 top_not n (x ∷ y ∷ xs) f after all top off = top_not n (y ∷ xs) f after all.1 top off
 
-pub top_none : (n : ℕ) (f : FileForm) (fs : List FileForm) → TopElsewhere n f fs → TopAtEnd n fs → ⊥
+top_none : (n : ℕ) (f : FileForm) (fs : List FileForm) → TopElsewhere n f fs → TopAtEnd n fs → ⊥
 top_none n f fs (before, after, is, top, off) all = top_not n before f after (subst (TopAtEnd n) is all) top off
 
 -- a volume whose files have a fault has none
-pub current_none : (n : ℕ) (cells : List CellForm) (f : Fault) (files : List FileForm) → NamesFault First n (files_in cells) f
-    → AreCurrent n (files_in cells) files → ⊥
-current_none n cells f files (inl (x, twin, is)) all = twin_none x (files_in cells) twin all.no_twins
-current_none n cells f files (inr (none, x, top, is)) all = top_none n x (current_in (files_in cells)) top (subst
+pub current_none : (which : Which) (n : ℕ) (cells : List CellForm) (f : Fault) (files : List FileForm)
+    → NamesFault which n (files_in cells) f → AreCurrent n (files_in cells) files → ⊥
+current_none which n cells f files (inl (x, twin, is)) all = twin_none which x (files_in cells) twin all.no_twins
+current_none which n cells f files (inr (none, x, top, is)) all = top_none n x (current_in (files_in cells)) top (subst
     (TopAtEnd n) all.files_are all.top)

@@ -13,11 +13,10 @@ use Rattle.fv_base.specs.declared.guid.Guid.{Guid}
 use Rattle.fv_base.specs.declared.flash.FileSystem.{FileSystem}
 use Rattle.fv_head.specs.Ext.{Extension}
 use Rattle.fv_head.specs.Head.{HeadFields}
-use Rattle.fv_tree.specs.FileSystems.{is_ffs3}
-use Rattle.fv_tree.specs.inner.Codes.{system_by, system_back}
-use Rattle.fv_tree.specs.Difference.{Differs, unless_one, or_else, under, blocks_eq, entries_eq, ext_eq}
+use Rattle.fv_tree.specs.Difference.{is_ffs3, Differs, unless_one, or_else, under, blocks_eq, entries_eq, ext_eq}
 use Rattle.fv_tree.specs.Difference.{head_differs, difference, files_differ, file_differs, content_differs}
 use Rattle.fv_tree.specs.Difference.{sections_differ, section_differs, body_differs}
+use Rattle.fv_tree.specs.inner.Codes.{system_by, system_back}
 use Rattle.fv_tree.specs.Meaning.{Meaning, Volume, FileMeanings, NoFiles, MoreFiles, FileMeaning, File, ContentMeaning, Plain, Sectioned}
 use Rattle.fv_tree.specs.Meaning.{SectionMeanings, NoSections, MoreSections, SectionMeaning, Section, BodyMeaning, Leaf, Group, Nested}
 use Rattle.fv_tree.specs.declared.difference.Step.{Step}

@@ -7,7 +7,7 @@ use Rattle.std.specs.Str.{bytes_eq}
 use Rattle.std.proofs.lemmas.List.{drop_all}
 use Rattle.fv_head.specs.Head.{HeadFields}
 use Rattle.fv_tree.specs.Difference.{Differs, has_steps, differ_in, or_else, entries_eq}
-use Rattle.fv_tree.specs.inner.DifferenceWalks.{in_word, outermost_first}
+use Rattle.fv_tree.specs.inner.FoundWalks.{in_word, outermost_first}
 use Rattle.fv_tree.specs.Difference.{head_differs, difference, files_differ, sections_differ}
 use Rattle.fv_tree.specs.declared.difference.Step.{Step}
 use Rattle.fv_tree.specs.declared.difference.Word.{Word}

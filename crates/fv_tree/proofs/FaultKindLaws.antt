@@ -2,7 +2,7 @@
 use Rattle.std.proofs.Common.{◌≡◌, ◌≢◌, ℕ, zero, suc, ◌+◌, Bool, true, false, List, take, drop, refl, sym, ap, ◌∙◌, subst, inl, inr}
 use Rattle.std.specs.Prelude.{nat_le, slice_index, Option, Some, None}
 use Rattle.std.specs.List.{AllByRecursion}
-use Rattle.fv_base.specs.Checks.{Check}
+use Rattle.fv_base.specs.Checks.{Check, Any}
 use Rattle.fv_base.specs.Faults.{fault_number}
 use Rattle.fv_base.specs.declared.fault.Fault.{Fault}
 use Rattle.fv_base.specs.declared.fault.FaultKind.{FaultKind}
@@ -19,9 +19,8 @@ use Rattle.fv_section.specs.FrameChecks.{frame_checks}
 use Rattle.fv_section.specs.Frames.{FrameForm}
 use Rattle.fv_base.specs.declared.fault.Place.{Place}
 use Rattle.fv_base.specs.Limits.{depth_limit}
-use Rattle.fv_tree.specs.FailingChecks.{Any, Fails}
 use Rattle.fv_tree.specs.FirstFault.{Moved, LayoutFault, InSection, InStream, InVolume, FaultStands, outermost}
-use Rattle.fv_base.proofs.Laws.{in_middle}
+use Rattle.fv_base.proofs.Laws.{fails_among}
 
 -- P holds of each kind of fault that reading may have
 pub record OfReading (P : FaultKind → Type 0) : Type 0 where
@@ -46,12 +45,6 @@ pub record OfReading (P : FaultKind → Type 0) : Type 0 where
   pub section_size : P kinds.SectionSize
   pub section_tail : P kinds.SectionTail
   pub depth : P kinds.Depth
-
--- what is true of the faults of all checks is true of one that fails
-fails_among : (P : Fault → Type 0) (cs : List (Check Fault)) (f : Fault) → AllByRecursion (λ c. P c.fault) cs → Fails Any cs f → P f
-fails_among P cs f all (before, c, after, is, guards, bad, fault) =
-    let Q : Check Fault → Type 0 = λ d. P d.fault in
-    subst P (sym fault) (in_middle Q before c after (subst (λ (l : List (Check Fault)). AllByRecursion Q l) is all))
 
 module _ (P : FaultKind → Type 0) (all : OfReading P) where
   -- the kind of the fault of a check
@@ -92,7 +85,7 @@ module _ (P : FaultKind → Type 0) (all : OfReading P) where
   layout_kind : (x : Extent) (volume : List ℕ) (f : Fault) → LayoutFault Any x volume f → P f.kind
   layout_kind x volume f (inl bad) =
       let r : List ℕ = drop bad.at (drop x.first volume) in
-      fails_among (λ g. P g.kind) (cell_checks x.file_system x.polarity (x.first + bad.at) r) f
+      fails_among Any (λ g. P g.kind) (cell_checks x.file_system x.polarity (x.first + bad.at) r) f
       (cell_kinds x.file_system x.polarity (x.first + bad.at) r) bad.fails
   layout_kind x volume f (inr (cells, tiles, inl (g, twin, is))) = subst (λ (h : Fault). P h.kind) (sym is) all.duplicate_name
   layout_kind x volume f (inr (cells, tiles, inr (none, g, top, is))) = subst (λ (h : Fault). P h.kind) (sym is) all.top_file
@@ -105,14 +98,14 @@ module _ (P : FaultKind → Type 0) (all : OfReading P) where
   stream_kind : (n : ℕ) → SectionKind n → (e : Fault) (b : List ℕ) (at : Place) → InStream Any n e b at → P e.kind
   stream_kind n inside e b at (inl moved) =
       moved_kind _ at e
-      (λ f bad. fails_among (λ g. P g.kind) (frame_checks bad.at (drop bad.at b)) f (all.section_tail, (all.section_size, tt)) bad.fails)
+      (λ f bad. fails_among Any (λ g. P g.kind) (frame_checks bad.at (drop bad.at b)) f (all.section_tail, (all.section_size, tt)) bad.fails)
       moved
   stream_kind n inside e b at (inr (frames, tail, split, (before, f, after, is, read, here))) = inside e f at here
 
   -- of a volume, by the streams in it
   volume_kind : (n : ℕ) → SectionKind n → (e : Fault) (b : List ℕ) (at : Place) → InVolume Any n e b at → P e.kind
   volume_kind n inside e b at (inl moved) =
-      moved_kind _ at e (λ f bad. fails_among (λ g. P g.kind) (head_checks b) f (head_kinds b) bad) moved
+      moved_kind _ at e (λ f bad. fails_among Any (λ g. P g.kind) (head_checks b) f (head_kinds b) bad) moved
   volume_kind n inside e b at (inr (h, x, front, inl moved)) = moved_kind _ at e (layout_kind x (take x.length b)) moved
   volume_kind n inside e b at (inr (h, x, front, inr (cells, tiles, right, (before, f, after, is, read, (holds, here))))) =
       stream_kind n inside e f.payload _ here

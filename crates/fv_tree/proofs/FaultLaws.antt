@@ -1,13 +1,16 @@
 -- The condition of a first fault holds at its place.
 use Rattle.std.proofs.lemmas.Grind.{common_steps}
 use Rattle.std.proofs.Common.{ℕ, zero, suc, List, [], ◌∷◌, take, drop, inl, inr, arith}
-use Rattle.fv_base.specs.Checks.{Check, AllHold}
+use Rattle.fv_base.specs.Checks.{Check, AllHold, First, Any, GuardsHold, Fails}
 use Rattle.fv_base.specs.declared.fault.Fault.{Fault}
 use Rattle.fv_base.specs.declared.fault.Place.{Place}
+use Rattle.fv_base.specs.declared.flash.FileSystem.{FileSystem}
+use Rattle.fv_base.specs.declared.flash.Polarity.{Polarity}
+use Rattle.fv_file.specs.FileChecks.{CellFault}
 use Rattle.fv_head.specs.declared.extent.Extent.{Extent}
+use Rattle.fv_section.specs.FrameChecks.{FrameFault}
 use Rattle.fv_section.specs.Frames.{FrameForm}
 use Rattle.fv_base.specs.Limits.{depth_limit}
-use Rattle.fv_tree.specs.FailingChecks.{First, Any, GuardsHold, Fails, FrameFault, CellFault}
 use Rattle.fv_tree.specs.Files.{FileForm}
 use Rattle.fv_tree.specs.FirstFault.{Moved, OneOf, NamesFault, LayoutFault, FileFault, data_at, outermost}
 use Rattle.fv_tree.specs.FirstFault.{InSection, InStream, InVolume, IsFirstOfVolume, FaultStands}
@@ -28,8 +31,9 @@ frame_fails : (b : List ℕ) (f : Fault) → FrameFault First b f → FrameFault
 frame_fails b f first = grind (arith, common_steps, fails)
 
 -- of the checks of a cell
-cell_fails : (x : Extent) (body : List ℕ) (f : Fault) → CellFault First x body f → CellFault Any x body f
-cell_fails x body f first = grind (arith, common_steps, fails)
+cell_fails : (s : FileSystem) (p : Polarity) (from : ℕ) (body : List ℕ) (f : Fault) → CellFault First s p from body f
+    → CellFault Any s p from body f
+cell_fails s p from body f first = grind (arith, common_steps, fails)
 
 -- of items
 one_of : {A B : Type 0} (R : A → B → Type 0) (P Q : A → Type 0) (xs : List A) → ((x : A) → P x → Q x) → OneOf First R P xs
@@ -43,7 +47,7 @@ names_stand len fs f (inr (none, x, top, fault)) = inr (tt, x, top, fault)
 
 -- of the layout of a body
 layout_stands : (x : Extent) (volume : List ℕ) (f : Fault) → LayoutFault First x volume f → LayoutFault Any x volume f
-layout_stands x volume f (inl first) = inl (cell_fails x (drop x.first volume) f first)
+layout_stands x volume f (inl first) = inl (cell_fails x.file_system x.polarity x.first (drop x.first volume) f first)
 layout_stands x volume f (inr (cells, tiles, names)) = inr (cells, tiles, names_stand x.length _ f names)
 
 -- of faults that are moved

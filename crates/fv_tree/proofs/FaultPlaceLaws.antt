@@ -7,7 +7,7 @@ use Rattle.std.specs.List.{AllByRecursion, list_any}
 use Rattle.std.proofs.lemmas.List.{length-drop, length-take-le}
 use Rattle.std.proofs.lemmas.Bool.{leb-true}
 use Rattle.fv_base.proofs.Laws.{all_filter, and_split, first_among, in_middle}
-use Rattle.fv_base.specs.Checks.{Check, check, IsFirstFault}
+use Rattle.fv_base.specs.Checks.{Check, check, IsFirstFault, First}
 use Rattle.fv_base.specs.Faults.{out_of_memory}
 use Rattle.fv_base.specs.Flash.{erased_byte}
 use Rattle.fv_base.specs.declared.fault.Fault.{Fault}
@@ -16,7 +16,7 @@ use Rattle.fv_base.specs.declared.fault.Place.{Place}
 use Rattle.fv_base.specs.declared.flash.FileSystem.{FileSystem}
 use Rattle.fv_base.specs.declared.flash.Polarity.{Polarity}
 use Rattle.fv_file.specs.Cells.{CellForm, Valid, Pad, Dead, Stub, Free, Tiles}
-use Rattle.fv_file.specs.CellLengths.{CellsWithin}
+use Rattle.fv_file.specs.CellForms.{CellsWithin}
 use Rattle.fv_file.specs.FileChecks.{leading_count, state_checks, cell_checks}
 use Rattle.fv_file.specs.FileChecks as file
 use Rattle.fv_file.specs.States.{bits_of, state_of}
@@ -31,7 +31,6 @@ use Rattle.fv_section.specs.Frames.{FrameForm, frame_len}
 use Rattle.fv_section.specs.StreamReads.{FramesWithin}
 use Rattle.fv_section.proofs.Laws.{whole_within}
 use Rattle.fv_base.specs.Limits.{depth_limit}
-use Rattle.fv_tree.specs.FailingChecks.{First}
 use Rattle.fv_tree.specs.Files.{FileForm, files_in, current_in, replaced_by}
 use Rattle.fv_tree.specs.FirstFault.{Moved, NamesFault, LayoutFault, BodyFault, InSection, InStream, InVolume, IsFirstOfVolume}
 use Rattle.fv_tree.specs.FirstFault.{data_at, data_place, outermost}
@@ -44,7 +43,7 @@ use Rattle.fv_tree.proofs.WantLaws.{want_known}
 frame_within : (b : List ℕ) (f : Fault) → section.IsFirstFrameFault b f → f.place.offset ≤ length b
 frame_within b f first =
     let low : first.at ≤ length b = omega (arith, first.inside) in
-    first_among (λ (g : Fault). g.place.offset ≤ length b) (frame_checks first.at (drop first.at b)) f (low, (low, tt)) first.fault_is
+    first_among (λ (g : Fault). g.place.offset ≤ length b) (frame_checks first.at (drop first.at b)) f (low, (low, tt)) first.fails
 
 -- no run is longer than the bytes
 run_within : (e : ℕ) (r : List ℕ) → leading_count e r ≤ length r
@@ -98,7 +97,7 @@ module _ (at : ℕ) (r : List ℕ) where
 body_within : (s : FileSystem) (p : Polarity) (from : ℕ) (body : List ℕ) (f : Fault) → file.IsFirstCellFault s p from body f
     → f.place.offset ≤ from + length body
 body_within s p from body f first =
-    let low = cell_within (from + first.at) (drop first.at body) s p f first.fault_is in
+    let low = cell_within (from + first.at) (drop first.at body) s p f first.fails in
     omega (arith, low, first.inside, length-drop first.at body)
 
 -- ---- frames and files

@@ -1,7 +1,8 @@
 -- Bytes have one first fault at most.
 use Rattle.std.proofs.Common.{◌≡◌, ◌≢◌, ◌≤◌, ℕ, zero, suc, List, length, take, drop, refl, sym, ap, ◌∙◌, subst, inl, inr}
 use Rattle.std.specs.Prelude.{Result, Ok, Err, IfOk, IfErr}
-use Rattle.fv_base.proofs.Laws.{none_faulty, not_first}
+use Rattle.fv_base.specs.Checks.{First, Any}
+use Rattle.fv_base.proofs.Laws.{none_fails}
 use Rattle.fv_base.specs.Faults.{outer_fault, out_of_memory}
 use Rattle.fv_base.specs.declared.fault.Fault.{Fault}
 use Rattle.fv_base.specs.declared.fault.FaultKind.TheVariants as kinds
@@ -17,17 +18,16 @@ use Rattle.fv_section.proofs.Laws.{one_split}
 use Rattle.fv_section.proofs.Laws as framed
 use Rattle.fv_base.specs.Limits.{depth_limit}
 use Rattle.fv_tree.specs.Denotes.{MeansFile, MeansSection, Stream, Denotes}
-use Rattle.fv_tree.specs.FailingChecks.{First}
 use Rattle.fv_tree.specs.Files.{FileForm, AreCurrent, NoTwins, TopAtEnd, files_in, current_in}
 use Rattle.fv_tree.specs.FirstFault.{moved_fault, Moved, OneOf, NamesFault, LayoutFault, FileFault, BodyFault, data_at, outermost}
-use Rattle.fv_tree.specs.FirstFault.{InSection, InStream, InVolume, IsFirstOfVolume}
+use Rattle.fv_tree.specs.FirstFault.{InSection, InStream, InVolume, IsFirstOfVolume, FaultStands}
 use Rattle.fv_tree.specs.Meaning.{Meaning, length_of}
 use Rattle.fv_tree.specs.inner.ReadingParts.{Reads}
 use Rattle.fv_tree.proofs.CurrentLaws.{twin_none}
 use Rattle.fv_tree.proofs.OneFaultLaws.{one_cell_fault, one_frame_fault}
 use Rattle.fv_tree.proofs.ListCuts.{one_fault, first_of_once}
 use Rattle.fv_tree.proofs.MeaningLaws.{one_beginning}
-use Rattle.fv_tree.proofs.RefusalLaws.{StreamRefuses, layout_by, file_by, section_refuses, stream_refuses, first_refuses}
+use Rattle.fv_tree.proofs.RefusalLaws.{StreamRefuses, layout_by, file_by, section_refuses, stream_refuses, fault_refuses}
 use Rattle.fv_tree.proofs.TwinLaws.{one_twin, one_top}
 use Rattle.fv_tree.proofs.SectionLaws.{group_is_no_volume}
 
@@ -41,8 +41,8 @@ moved_once P once at e g (f, p, is) (f', p', is') = is ∙ ap (moved_fault at.of
 names_once : (len : ℕ) (fs : List FileForm) (e g : Fault) → NamesFault First len fs e → NamesFault First len fs g → e ≡ g
 names_once len fs e g (inl (f, twin, is)) (inl (f', twin', is')) =
     is ∙ ap (λ (h : FileForm). outer_fault kinds.DuplicateName h.offset) (one_twin f f' fs twin twin') ∙ sym is'
-names_once len fs e g (inl (f, twin, is)) (inr (none, _, _, _)) = absurd (twin_none f fs twin none)
-names_once len fs e g (inr (none, _, _, _)) (inl (f, twin, is)) = absurd (twin_none f fs twin none)
+names_once len fs e g (inl (f, twin, is)) (inr (none, _, _, _)) = absurd (twin_none First f fs twin none)
+names_once len fs e g (inr (none, _, _, _)) (inl (f, twin, is)) = absurd (twin_none First f fs twin none)
 names_once len fs e g (inr (none, f, top, is)) (inr (_, f', top', is')) =
     is ∙ ap (λ (h : FileForm). outer_fault kinds.TopFile h.offset) (one_top len f f' fs none top top') ∙ sym is'
 
@@ -51,9 +51,9 @@ layout_once : (x : Extent) (volume : List ℕ) (e g : Fault) → LayoutFault Fir
 layout_once x volume e g (inl first) (inl first') =
     one_cell_fault x.file_system x.polarity x.first (drop x.first volume) e g first first'
 layout_once x volume e g (inl first) (inr (cells, tiles, _)) =
-    absurd (cellular.none_after x.file_system x.polarity x.first (drop x.first volume) e cells first tiles)
+    absurd (cellular.none_after First x.file_system x.polarity x.first (drop x.first volume) e cells first tiles)
 layout_once x volume e g (inr (cells, tiles, _)) (inl first) =
-    absurd (cellular.none_after x.file_system x.polarity x.first (drop x.first volume) g cells first tiles)
+    absurd (cellular.none_after First x.file_system x.polarity x.first (drop x.first volume) g cells first tiles)
 layout_once x volume e g (inr (cells, tiles, names)) (inr (others, tiles', names')) =
     let same = only_one x.file_system x.polarity x.first (drop x.first volume) cells others tiles tiles' in
     let P : List CellForm → Type 0 = λ cs. NamesFault First x.length (files_in cs) g in
@@ -76,41 +76,41 @@ StreamOnce n = (e g : Fault) (b : List ℕ) (at : Place) → InStream First n e 
 
 stream_once : (n : ℕ) → SectionOnce n → StreamOnce n
 stream_once n once e g b at (inl moved) (inl moved') = moved_once _ (one_frame_fault b) at e g moved moved'
-stream_once n once e g b at (inl (f, first, is)) (inr (frames, tail, split, _)) = absurd (framed.none_after b f frames tail first split)
-stream_once n once e g b at (inr (frames, tail, split, _)) (inl (f, first, is)) = absurd (framed.none_after b f frames tail first split)
+stream_once n once e g b at (inl (f, first, is)) (inr (frames, tail, split, _)) = absurd (framed.none_after First b f frames tail first split)
+stream_once n once e g b at (inr (frames, tail, split, _)) (inl (f, first, is)) = absurd (framed.none_after First b f frames tail first split)
 stream_once n once e g b at (inr (frames, tail, split, first)) (inr (others, tail', split', first')) =
     let P : List FrameForm → Type 0 = λ l. OneOf First (MeansSection n) (λ f. InSection First n g f at) l in
     let here = subst P (one_split 0 others frames tail' tail b split' split).0 first' in
     let one =
     first_of_once (MeansSection n) (λ f. InSection First n e f at) (λ f. InSection First n g f at) frames
-    (λ f s. section_refuses n e f at s) (λ f s. section_refuses n g f at s) first here in
+    (λ f s. section_refuses First n e f at s) (λ f s. section_refuses First n g f at s) first here in
     once e g one.0 at one.1 one.2
 
-module _ (n : ℕ) (refused : StreamRefuses n) (once : StreamOnce n) (e g : Fault) (at : Place) where
+module _ (n : ℕ) (refused : StreamRefuses First n) (once : StreamOnce n) (e g : Fault) (at : Place) where
   -- of a body
   body_once : (x : Extent) (volume : List ℕ) → BodyFault First n (InStream First n) x e volume at
       → BodyFault First n (InStream First n) x g volume at → e ≡ g
   body_once x volume (inl moved) (inl moved') = moved_once _ (layout_once x volume) at e g moved moved'
   body_once x volume (inl (f, first, is)) (inr (cells, tiles, right, _)) =
-      absurd (layout_by x volume f cells _ first tiles (current x.length cells right))
+      absurd (layout_by First x volume f cells _ first tiles (current x.length cells right))
   body_once x volume (inr (cells, tiles, right, _)) (inl (f, first, is)) =
-      absurd (layout_by x volume f cells _ first tiles (current x.length cells right))
+      absurd (layout_by First x volume f cells _ first tiles (current x.length cells right))
   body_once x volume (inr (cells, tiles, right, first)) (inr (others, tiles', right', first')) =
       let same : others ≡ cells = only_one x.file_system x.polarity x.first (drop x.first volume) cells others tiles tiles' in
       let Q : List CellForm → Type 0 =
       λ cs. OneOf First (MeansFile (Stream n)) (λ f. FileFault (InStream First n) g f at) (current_in (files_in cs)) in
       let one =
       first_of_once (MeansFile (Stream n)) (λ f. FileFault (InStream First n) e f at) (λ f. FileFault (InStream First n) g f at)
-      (current_in (files_in cells)) (file_by n refused e at) (file_by n refused g at) first (subst Q same first') in
+      (current_in (files_in cells)) (file_by First n refused e at) (file_by First n refused g at) first (subst Q same first') in
       once e g (one.0).payload (data_at at one.0) one.1.1 one.2.1
 
   -- of bytes that are to begin with a volume
   volume_once : (b : List ℕ) → InVolume First n e b at → InVolume First n g b at → e ≡ g
   volume_once b (inl moved) (inl moved') = moved_once _ (one_fault (head_checks b)) at e g moved moved'
   volume_once b (inl (f, first, is)) (inr (h, x, front, _)) =
-      absurd (not_first (head_checks b) f first (none_faulty (head_checks b) (front_holds b h x front)))
+      absurd (none_fails First (head_checks b) f first (front_holds b h x front))
   volume_once b (inr (h, x, front, _)) (inl (f, first, is)) =
-      absurd (not_first (head_checks b) f first (none_faulty (head_checks b) (front_holds b h x front)))
+      absurd (none_fails First (head_checks b) f first (front_holds b h x front))
   volume_once b (inr (h, x, front, first)) (inr (h', x', front', first')) =
       let P : Extent → Type 0 = λ y. BodyFault First n (InStream First n) y g (take y.length b) at in
       body_once x (take x.length b) first (subst P (one_front b h' h x' x front' front).1 first')
@@ -124,11 +124,11 @@ section_once (suc n) e g f at (inl (group, first)) (inl (_, first')) = stream_on
 section_once (suc n) e g f at (inl (group, _)) (inr (kind, opens, _)) = absurd (group_is_no_volume f group kind)
 section_once (suc n) e g f at (inr (kind, opens, _)) (inl (group, _)) = absurd (group_is_no_volume f group kind)
 section_once (suc n) e g f at (inr (kind, opens, first)) (inr (_, _, first')) =
-    volume_once n (stream_refuses n) (stream_once n (section_once n)) e g _ f.body first first'
+    volume_once n (stream_refuses First n) (stream_once n (section_once n)) e g _ f.body first first'
 
 -- a volume has one first fault
 pub first_once : (n : ℕ) (e g : Fault) (b : List ℕ) (at : Place) → InVolume First n e b at → InVolume First n g b at → e ≡ g
-first_once n e g b at first first' = volume_once n (stream_refuses n) (stream_once n (section_once n)) e g at b first first'
+first_once n e g b at first first' = volume_once n (stream_refuses First n) (stream_once n (section_once n)) e g at b first first'
 
 -- ---- what is read of bytes that should begin with a volume
 
@@ -144,5 +144,11 @@ only_answer b (Err g) read within = tt
 -- where they have a first fault, it is this fault, or memory ran out
 pub one_answer : (b : List ℕ) (r : Result (Meaning × ℕ) Fault) → ReadsVolume b r → IfOk r (λ v. (v.1 ≡ length_of v.0) × (v.1 ≤ length b))
     → (f : Fault) → IsFirstOfVolume b f → IfOk r (λ v. ⊥) × IfErr r (λ g. g ≢ out_of_memory → g ≡ f)
-one_answer b (Ok v) read within f is = (first_refuses depth_limit v.1 f b outermost v.0 within.1 is read, tt)
+one_answer b (Ok v) read within f is = (fault_refuses First depth_limit v.1 f b outermost v.0 within.1 is read, tt)
 one_answer b (Err g) read within f is = (tt, λ ne. first_once depth_limit g f b outermost (read ne) is)
+
+-- where the condition of a fault holds in them, they begin with none
+pub sound_answer : (b : List ℕ) (r : Result (Meaning × ℕ) Fault) → ReadsVolume b r
+    → IfOk r (λ v. (v.1 ≡ length_of v.0) × (v.1 ≤ length b)) → (f : Fault) → FaultStands b f → IfOk r (λ v. ⊥)
+sound_answer b (Ok v) read within f bad = fault_refuses Any depth_limit v.1 f b outermost v.0 within.1 bad read
+sound_answer b (Err g) read within f bad = tt

@@ -22,7 +22,7 @@ use Rattle.std.proofs.lemmas.List.Sums.{position_or_len_is}
 use Rattle.std.proofs.lemmas.Map.Keys.{apart_from_distinct, IsDistinct-IsPermutation, IsDistinct-from_apart}
 use Rattle.fv_base.specs.declared.guid.Guid.{Guid}
 use Rattle.fv_base.proofs.Laws.{at_index, not_equal}
-use Rattle.fv_tree.specs.Denotes.{MeansFile, Pairwise, Streams}
+use Rattle.fv_tree.specs.Denotes.{MeansFile, Pairwise, StreamRelation}
 use Rattle.fv_tree.specs.Files.{FileForm}
 use Rattle.fv_tree.specs.FileNames.{Entry, Halves, IsIndex, IsName, entry_cmp, halves_of, is_named, numbered}
 use Rattle.fv_tree.specs.Meaning.{FileMeaning, File, Plain, file_name_of}
@@ -45,7 +45,7 @@ no_file = record {
 }
 
 -- what files mean has their names
-pub read_names : (S : Streams) (fs : List FileForm) (ms : List FileMeaning) → Pairwise (MeansFile S) fs ms
+pub read_names : (S : StreamRelation) (fs : List FileForm) (ms : List FileMeaning) → Pairwise (MeansFile S) fs ms
     → map file_name_of ms ≡ names_in fs
 read_names S [] [] p = refl
 read_names S [] (m ∷ ms) p = absurd p

@@ -22,9 +22,9 @@ pub use Rattle.fv_tree.proofs.TwinLaws.{names_differ}
 pub use Rattle.fv_tree.proofs.CurrentLaws.{same_name_back}
 -- ---- a fault
 
--- bytes have one first fault at most, and none where they begin with a volume; its condition holds
+-- bytes have one first fault at most, and no fault where they begin with a volume; the condition of the first fault holds
 pub use Rattle.fv_tree.proofs.FirstLaws.{first_once}
-pub use Rattle.fv_tree.proofs.RefusalLaws.{first_refuses}
+pub use Rattle.fv_tree.proofs.RefusalLaws.{fault_refuses}
 pub use Rattle.fv_tree.proofs.FaultLaws.{fault_stands}
 -- it is within the bytes, or at their end
 pub use Rattle.fv_tree.proofs.FaultPlaceLaws.{first_within}

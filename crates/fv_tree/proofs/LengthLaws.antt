@@ -4,7 +4,7 @@ use Rattle.std.proofs.Common.{arith, length-append}
 use Rattle.fv_base.specs.declared.guid.Guid.{Guid}
 use Rattle.fv_section.specs.Frames.{FrameForm, SplitsFrom, frame_len, up_to_4}
 use Rattle.fv_section.proofs.Laws.{length_begun}
-use Rattle.fv_tree.specs.Denotes.{Pairwise, Sections, Streams, StreamOver, VolumeOver, SectionOver, MeansSection, Stream}
+use Rattle.fv_tree.specs.Denotes.{Pairwise, SectionRelation, StreamRelation, StreamOver, VolumeOver, SectionOver, MeansSection, Stream}
 use Rattle.fv_tree.specs.Denotes.{MeansFile}
 use Rattle.fv_tree.specs.Files.{FileForm}
 use Rattle.fv_tree.specs.Meaning.{Meaning, Volume, File, ContentMeaning, Plain, Sectioned, SectionMeaning, Section}
@@ -12,10 +12,10 @@ use Rattle.fv_tree.specs.Meaning.{SectionMeanings, NoSections, MoreSections, Bod
 use Rattle.fv_tree.specs.Meaning.{body_len, section_len, sections_end, content_len, length_of}
 
 -- a section has as many bytes as its frame
-abbrev pub AsLong : Sections → Type 0
+abbrev pub AsLong : SectionRelation → Type 0
 AsLong R = (f : FrameForm) (s : SectionMeaning) → R f s → section_len s ≡ frame_len f
 
-from_long : (R : Sections) → AsLong R → (at end : ℕ) (f : FrameForm) (fs : List FrameForm) (s : SectionMeaning) (ss : SectionMeanings)
+from_long : (R : SectionRelation) → AsLong R → (at end : ℕ) (f : FrameForm) (fs : List FrameForm) (s : SectionMeaning) (ss : SectionMeanings)
     (tail : ℕ) (b : List ℕ) → up_to_4 end ≡ at
     → SplitsFrom at (f ∷ fs) tail b → Pairwise R (f ∷ fs) (s ∷ sections_list ss) → sections_end end (MoreSections s ss) + tail ≡ at +
     length b
@@ -36,7 +36,7 @@ from_long R each at end f (g ∷ gs) s (MoreSections u us) tail b e (filler, res
     subst P (sym here) (go ∙ omega (arith, long, joined, fill))
 
 -- the sections of a stream and its tail have as many bytes as it
-pub stream_long : (R : Sections) → AsLong R → (ss : SectionMeanings) (tail : ℕ) (b : List ℕ) → StreamOver R (sections_list ss) tail b
+pub stream_long : (R : SectionRelation) → AsLong R → (ss : SectionMeanings) (tail : ℕ) (b : List ℕ) → StreamOver R (sections_list ss) tail b
     → sections_end 0 ss + tail ≡ length b
 stream_long R each NoSections tail b ([], split, p) = let e : b ≡ [] = split.0 in (let t : tail ≡ 0 = split.1 in omega
     (arith, t, ap length e))
@@ -45,10 +45,10 @@ stream_long R each (MoreSections s ss) tail b ([], split, p) = absurd p
 stream_long R each (MoreSections s ss) tail b (f ∷ fs, split, p) = let z = from_long R each 0 0 f fs s ss tail b refl split p in omega
     (arith, z)
 
-volume_long : (S : Streams) (b : List ℕ) (m : Meaning) → VolumeOver S b m → length_of m ≡ length b
+volume_long : (S : StreamRelation) (b : List ℕ) (m : Meaning) → VolumeOver S b m → length_of m ≡ length b
 volume_long S b (Volume h fs) d = sym (d.whole ∙ d.front.length_is)
 
-section_long_over : (R : Sections) (S : Streams) → AsLong R → (f : FrameForm) (s : SectionMeaning)
+section_long_over : (R : SectionRelation) (S : StreamRelation) → AsLong R → (f : FrameForm) (s : SectionMeaning)
     → SectionOver (StreamOver R) (VolumeOver S) f s → section_len s ≡ frame_len f
 section_long_over R S each f (Section k e (Leaf b)) (p, q, (g, o, same)) = rw (q, same) refl
 section_long_over R S each f (Section k e (Group ss t)) (p, q, (g, h)) = rw (q, stream_long R each ss t f.body h) refl

@@ -28,7 +28,6 @@ pub mod ScanLaws
 pub mod SectionLaws
 pub mod SizeLaws
 pub mod SmallCellLaws
-pub mod StandingLaws
 pub mod StreamLaws
 pub mod TwinLaws
 pub mod VolumeCellLaws

@@ -1,10 +1,8 @@
 -- One list cut at two of its items, and the first item or check that is rejected.
-use Rattle.std.proofs.lemmas.Grind.{common_steps}
-use Rattle.std.proofs.Common.{◌≡◌, ◌⊎◌, Bool, true, false, List, [], ◌∷◌, ◌++◌, refl, sym, ap, ◌∙◌, subst, inl, inr, arith}
+use Rattle.std.proofs.Common.{◌≡◌, ◌⊎◌, Bool, true, false, List, [], ◌∷◌, ◌++◌, refl, sym, ap, ◌∙◌, subst, inl, inr}
 use Rattle.std.specs.List.{AllByRecursion}
-use Rattle.fv_base.specs.Checks.{Check, AllHold, IsFirstFault}
+use Rattle.fv_base.specs.Checks.{Check, AllHold, IsFirstFault, Which, First}
 use Rattle.fv_tree.specs.Denotes.{Pairwise}
-use Rattle.fv_tree.specs.FailingChecks.{First}
 use Rattle.fv_tree.specs.FirstFault.{OneOf}
 use Rattle.fv_base.proofs.Laws.{in_middle}
 
@@ -68,7 +66,7 @@ one_fault {F} cs f g (before, c, after, is, held, fails, fault) (before', d, aft
 -- ---- items that are read
 
 -- an item that is paired with nothing is in no list of pairs
-pub not_paired : {A B : Type 0} (R : A → B → Type 0) (before : List A) (x : A) (after : List A) (ys : List B) → ((y : B) → R x y → ⊥)
+not_paired : {A B : Type 0} (R : A → B → Type 0) (before : List A) (x : A) (after : List A) (ys : List B) → ((y : B) → R x y → ⊥)
     → Pairwise R (before ++ (x ∷ after)) ys → ⊥
 not_paired R [] x after [] bad p = p
 not_paired R [] x after (y ∷ ys) bad p = bad y p.0
@@ -76,9 +74,10 @@ not_paired R (z ∷ zs) x after [] bad p = p
 not_paired R (z ∷ zs) x after (y ∷ ys) bad p = not_paired R zs x after ys bad p.1
 
 -- where one item is rejected, not all are read
-pub first_of_none : {A B : Type 0} (R : A → B → Type 0) (fault : A → Type 0) (xs : List A) (ys : List B)
-    → ((x : A) (y : B) → fault x → R x y → ⊥) → OneOf First R fault xs → Pairwise R xs ys → ⊥
-first_of_none {A} R fault xs ys bad (before, x, after, is, (read, pairs), here) all = grind (arith, common_steps, not_paired)
+pub one_of_none : {A B : Type 0} (which : Which) (R : A → B → Type 0) (fault : A → Type 0) (xs : List A) (ys : List B)
+    → ((x : A) (y : B) → fault x → R x y → ⊥) → OneOf which R fault xs → Pairwise R xs ys → ⊥
+one_of_none {A} which R fault xs ys bad (before, x, after, is, read, here) all =
+    not_paired R before x after ys (λ y r. bad x y here r) (subst (λ (l : List A). Pairwise R l ys) is all)
 
 -- two faults of the first item that is rejected are faults of one item
 pub first_of_once : {A B : Type 0} (R : A → B → Type 0) (P Q : A → Type 0) (xs : List A) → ((x : A) (y : B) → P x → R x y → ⊥)

@@ -3,9 +3,9 @@ use Rattle.std.proofs.Common.{◌≡◌, ℕ, ◌+◌, ◌<◌, ◌≤◌, List,
 use Rattle.std.proofs.Common.{subst, arith}
 use Rattle.std.proofs.lemmas.List.{take_all, length-map, get_or-map}
 use Rattle.std.specs.List.{AllByRecursion}
+use Rattle.fv_base.specs.Checks.{First}
 use Rattle.fv_base.proofs.Laws.{at_index}
 use Rattle.fv_tree.specs.Denotes.{Pairwise}
-use Rattle.fv_tree.specs.FailingChecks.{First}
 use Rattle.fv_tree.specs.FirstFault.{OneOf}
 use Rattle.fv_tree.proofs.NameLaws.{more_items, seam_items}
 

@@ -7,7 +7,7 @@ use Rattle.std.proofs.lemmas.List.{length-take-le, length-drop, take_all}
 use Rattle.fv_base.proofs.Laws.{all_filter, field-take}
 use Rattle.fv_base.specs.Value.{up_to_8}
 use Rattle.fv_file.specs.Cells.{CellForm, Valid, Pad, Dead, Stub, Free}
-use Rattle.fv_file.specs.CellLengths.{CellsWithin}
+use Rattle.fv_file.specs.CellForms.{CellsWithin}
 use Rattle.fv_file.specs.declared.head.FileHead.{FileHead}
 use Rattle.fv_file.proofs.Laws.{IsPayloadIn, body_payloads, all_within}
 use Rattle.fv_head.specs.Head.{HeadFields, BeginsVolume}

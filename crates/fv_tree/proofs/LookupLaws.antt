@@ -7,7 +7,7 @@ use Rattle.std.specs.List.{filter}
 use Rattle.std.proofs.lemmas.List.{drop_more}
 use Rattle.std.proofs.lemmas.Bool.Decides.{Decides-eqb}
 use Rattle.fv_tree.specs.LookupInstances.{instance_of, of_type, preorder, inside_section}
-use Rattle.fv_tree.specs.inner.Searches.{sought}
+use Rattle.fv_tree.specs.inner.FoundWalks.{sought}
 use Rattle.fv_tree.specs.Meaning.{SectionMeaning}
 use Rattle.fv_tree.specs.MeaningParts.{sections_from}
 

@@ -11,7 +11,7 @@ use Rattle.fv_tree.specs.Files.{FileForm}
 use Rattle.fv_tree.specs.Meaning.{Meaning, Volume, FileMeanings, NoFiles, MoreFiles, FileMeaning, File, ContentMeaning, Plain, Sectioned}
 use Rattle.fv_tree.specs.MeaningParts.{files_from, sections_from}
 use Rattle.fv_tree.specs.Meaning.{files_list, SectionMeanings, NoSections, MoreSections, SectionMeaning, Section, BodyMeaning, Leaf, Group, Nested, sections_list}
-use Rattle.fv_tree.specs.Denotes.{Sections, Streams, Volumes, Pairwise, StreamOver, SectionOver, VolumeOver, MeansBody, MeansContent, MeansFile}
+use Rattle.fv_tree.specs.Denotes.{SectionRelation, StreamRelation, VolumeRelation, Pairwise, StreamOver, SectionOver, VolumeOver, MeansBody, MeansContent, MeansFile}
 use Rattle.fv_tree.specs.Denotes.{MeansSection, Stream, Denotes}
 use Rattle.fv_tree.proofs.SectionLaws.{group_is_no_volume}
 use Rattle.fv_tree.proofs.VolumeLaws.{front_of, has_files}
@@ -22,13 +22,13 @@ one_stand e volume fs gs h k = grind (arith, common_steps, only_one)
 
 -- ---- what is to be shown of what lies inside
 
-abbrev SectionsOne : Sections → Sections → Type 0
+abbrev SectionsOne : SectionRelation → SectionRelation → Type 0
 SectionsOne p q = (f : FrameForm) (s t : SectionMeaning) → p f s → q f t → s ≡ t
 
-abbrev StreamsOne : Streams → Streams → Type 0
+abbrev StreamsOne : StreamRelation → StreamRelation → Type 0
 StreamsOne p q = (ss ts : List SectionMeaning) (n k : ℕ) (b : List ℕ) → p ss n b → q ts k b → (ss ≡ ts) × (n ≡ k)
 
-abbrev VolumesOne : Volumes → Volumes → Type 0
+abbrev VolumesOne : VolumeRelation → VolumeRelation → Type 0
 VolumesOne p q = (b : List ℕ) (m k : Meaning) → p b m → q b k → m ≡ k
 
 files_back : (fs : FileMeanings) → files_from (files_list fs) ≡ fs
@@ -54,12 +54,12 @@ pairs_one p q one (x ∷ xs) (y ∷ ys) (z ∷ zs) h k =
     let b : ys ≡ zs = pairs_one p q one xs ys zs h.1 k.1 in
     cc
 
-stream_one : (p q : Sections) → SectionsOne p q → StreamsOne (StreamOver p) (StreamOver q)
+stream_one : (p q : SectionRelation) → SectionsOne p q → StreamsOne (StreamOver p) (StreamOver q)
 stream_one p q one ss ts n k b (fs, split, pairs) (gs, split', pairs') = grind (arith, common_steps, one_split, pairs_one)
 
 -- ---- by what lies inside
 
-module _ (s s' : Streams) (streams : StreamsOne s s') where
+module _ (s s' : StreamRelation) (streams : StreamsOne s s') where
   content_one : (kind : ℕ) (payload : List ℕ) (c d : ContentMeaning) → MeansContent s kind payload c → MeansContent s' kind payload d → c ≡ d
   content_one kind payload (Plain b) (Plain c) (p, is) (p', is') = ap Plain (is ∙ sym is')
   content_one kind payload (Plain b) (Sectioned ts k) (none, is) (some, inside) = let t : false ≡ true = sym none ∙ some in cc
@@ -91,7 +91,7 @@ module _ (s s' : Streams) (streams : StreamsOne s s') where
       let same : h ≡ k = heads.0 in
       cc
 
-  module _ (v v' : Volumes) (volumes : VolumesOne v v') where
+  module _ (v v' : VolumeRelation) (volumes : VolumesOne v v') where
     body_one : (f : FrameForm) (b c : BodyMeaning) → MeansBody s v f b → MeansBody s' v' f c → b ≡ c
     body_one f (Leaf b) (Leaf c) (_, _, is) (_, _, is') = ap Leaf (is ∙ sym is')
     body_one f (Leaf b) (Group ts k) (off, _, _) (group, _) = absurd (off group)

@@ -4,13 +4,13 @@ use Rattle.std.proofs.Common.{false, refl, sym, ap, ◌∙◌, subst, arith}
 use Rattle.std.specs.Prelude.{◌&&◌, ◌||◌, not}
 use Rattle.std.specs.List.{AllByRecursion}
 use Rattle.std.proofs.lemmas.List.{take-append-drop, drop_more, take_more, length-map, get_or-map, length-drop}
+use Rattle.fv_base.specs.Checks.{Which, First}
 use Rattle.fv_base.specs.Faults.{outer_fault}
 use Rattle.fv_base.specs.declared.fault.Fault.{Fault}
 use Rattle.fv_base.specs.declared.fault.FaultKind.TheVariants as kinds
 use Rattle.fv_file.specs.Cells.{CellForm, Valid, Pad, Dead, Stub, Free}
-use Rattle.fv_file.specs.CellLengths.{CellsWithin}
+use Rattle.fv_file.specs.CellForms.{CellsWithin}
 use Rattle.fv_tree.specs.Files.{FileForm, files_in, is_top, end_of, TopAtEnd}
-use Rattle.fv_tree.specs.FailingChecks.{Which, First}
 use Rattle.fv_tree.specs.FirstFault.{HasTwin, TopElsewhere}
 use Rattle.fv_base.proofs.Laws.{in_middle}
 

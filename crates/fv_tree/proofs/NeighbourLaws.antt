@@ -23,8 +23,7 @@ use Rattle.fv_tree.specs.Files.{FileForm, NoTwins, current_in, is_marked, is_twi
 use Rattle.fv_tree.specs.FileNames.{Entry, IsIndex, IsName, halves_of}
 use Rattle.fv_tree.specs.LocatedFiles.{file_form}
 use Rattle.fv_tree.specs.declared.volume_files.LocatedFile.{LocatedFile}
-use Rattle.fv_tree.specs.inner.NameOrders.{names_in}
-use Rattle.fv_tree.specs.inner.Neighbours.{AllApart, AreTwins, IsTwinAt, SharesItsName, mark_at}
+use Rattle.fv_tree.specs.inner.NameOrders.{names_in, AllApart, AreTwins, IsTwinAt, SharesItsName, mark_at}
 use Rattle.fv_tree.proofs.IndexLaws.{between, beyond, no_file, of_name, place_of, upward}
 use Rattle.fv_tree.proofs.NumberedLaws.{names_decide}
 

@@ -5,7 +5,7 @@ use Rattle.std.specs.Prelude.{nat_lt}
 use Rattle.std.proofs.lemmas.Bool.{ltb-true, ltb-false}
 use Rattle.std.proofs.lemmas.List.{take-append-drop, length-take-le}
 use Rattle.std.proofs.Math.Seq.{take-add}
-use Rattle.fv_base.specs.Checks.{IsFirstFault}
+use Rattle.fv_base.specs.Checks.{IsFirstFault, First}
 use Rattle.fv_base.specs.declared.fault.Fault.{Fault}
 use Rattle.fv_base.specs.declared.flash.FileSystem.{FileSystem}
 use Rattle.fv_base.specs.declared.flash.Polarity.{Polarity}
@@ -68,7 +68,7 @@ frame_later b f g x y l =
     go (h ∷ hs) from =
         let begun = begins_of x.at h hs y.tail part from in
         let there = begins_more h part begun.1 beyond begun.2 in
-        none_stands x.at b f h x.fault_is
+        none_stands First x.at b f h x.fails
         (record {
           offset = begun.0;
           inside = x.inside;
@@ -81,7 +81,7 @@ pub one_frame_fault : (b : List ℕ) (f g : Fault) → section.IsFirstFrameFault
 one_frame_fault b f g x y =
     let at : x.at ≡ y.at = same_place x.at y.at (frame_later b f g x y) (frame_later b g f y x) in
     one_fault (section.frame_checks y.at (drop y.at b)) f g
-    (subst (λ (k : ℕ). IsFirstFault (section.frame_checks k (drop k b)) f) at x.fault_is) y.fault_is
+    (subst (λ (k : ℕ). IsFirstFault (section.frame_checks k (drop k b)) f) at x.fails) y.fails
 
 -- ---- cells
 
@@ -113,7 +113,7 @@ module _ (s : FileSystem) (p : Polarity) (first : ℕ) (body : List ℕ) where
       go : (more : List CellForm) → NoneFree more → Tiles s p (first + x.at) more part → ⊥
       go [] free z = omega (arith, ap length z, between body x.at y.at l y.inside)
       go (c ∷ cs) free (u, w, e, is, o, last, more) =
-          no_cell s p (first + x.at) (drop x.at body) f c u (w ++ beyond) x.fault_is x.not_erased is o
+          no_cell First s p (first + x.at) (drop x.at body) f c u (w ++ beyond) x.fails x.not_erased is o
           (sym (take-append-drop (y.at - x.at) (drop x.at body)) ∙ ap (λ (c : List ℕ). c ++ beyond) e ∙ append_assoc u w beyond)
           (λ yes_free. never (is_free c) yes_free free.0)
         where
@@ -125,4 +125,4 @@ module _ (s : FileSystem) (p : Polarity) (first : ℕ) (body : List ℕ) where
   one_cell_fault f g x y =
       let at : x.at ≡ y.at = same_place x.at y.at (cell_later f g x y) (cell_later g f y x) in
       one_fault (file.cell_checks s p (first + y.at) (drop y.at body)) f g
-      (subst (λ (k : ℕ). IsFirstFault (file.cell_checks s p (first + k) (drop k body)) f) at x.fault_is) y.fault_is
+      (subst (λ (k : ℕ). IsFirstFault (file.cell_checks s p (first + k) (drop k body)) f) at x.fails) y.fails

@@ -1,6 +1,7 @@
--- What has a first fault is not read.
+-- What has a fault is not read, whether it is the first or any.
 use Rattle.std.proofs.Common.{◌≡◌, ◌≤◌, ℕ, zero, suc, List, length, take, drop, ap, ◌∙◌, subst, inl, inr}
-use Rattle.fv_base.proofs.Laws.{none_faulty, not_first}
+use Rattle.fv_base.specs.Checks.{Which}
+use Rattle.fv_base.proofs.Laws.{none_fails}
 use Rattle.fv_base.specs.declared.fault.Fault.{Fault}
 use Rattle.fv_base.specs.declared.fault.Place.{Place}
 use Rattle.fv_file.specs.Cells.{CellForm, Tiles}
@@ -14,92 +15,92 @@ use Rattle.fv_section.proofs.Laws.{one_split}
 use Rattle.fv_section.proofs.Laws as framed
 use Rattle.fv_tree.specs.LocatedFiles.{StandIn}
 use Rattle.fv_tree.specs.Denotes.{Pairwise, MeansFile, MeansSection, Stream, Denotes}
-use Rattle.fv_tree.specs.FailingChecks.{First}
 use Rattle.fv_tree.specs.Files.{FileForm, AreCurrent, files_in, current_in}
 use Rattle.fv_tree.specs.FirstFault.{FileFault, LayoutFault, Moved, BodyFault, InSection, InStream, InVolume}
 use Rattle.fv_tree.specs.FirstFault.{data_at}
 use Rattle.fv_tree.specs.Meaning.{Meaning, FileMeaning, SectionMeaning, files_of, head_of}
 use Rattle.fv_tree.proofs.CurrentLaws.{current_none}
 use Rattle.fv_tree.proofs.FileLaws.{stream_bad}
-use Rattle.fv_tree.proofs.ListCuts.{first_of_none}
+use Rattle.fv_tree.proofs.ListCuts.{one_of_none}
 use Rattle.fv_tree.proofs.SectionLaws.{group_none, nested_none, too_deep}
 use Rattle.fv_tree.proofs.VolumeLaws.{HasFiles, front_of, has_files}
 
--- ---- by what is inside
+module _ (which : Which) where
+  -- ---- by what is inside
 
--- at one level, a frame with a first fault is no section
-abbrev pub SectionRefuses : ℕ → Type 0
-SectionRefuses n = (e : Fault) (f : FrameForm) (at : Place) (s : SectionMeaning) → InSection First n e f at → MeansSection n f s → ⊥
+  -- at one level, a frame with a fault is no section
+  abbrev pub SectionRefuses : ℕ → Type 0
+  SectionRefuses n = (e : Fault) (f : FrameForm) (at : Place) (s : SectionMeaning) → InSection which n e f at → MeansSection n f s → ⊥
 
--- and bytes with a first fault are no stream
-abbrev pub StreamRefuses : ℕ → Type 0
-StreamRefuses n = (e : Fault) (b : List ℕ) (at : Place) (ss : List SectionMeaning) (t : ℕ) → InStream First n e b at → Stream n ss t b → ⊥
+  -- and bytes with a fault are no stream
+  abbrev pub StreamRefuses : ℕ → Type 0
+  StreamRefuses n = (e : Fault) (b : List ℕ) (at : Place) (ss : List SectionMeaning) (t : ℕ) → InStream which n e b at → Stream n ss t b → ⊥
 
-stream_by : (n : ℕ) → SectionRefuses n → StreamRefuses n
-stream_by n refused e b at ss t (inl (f, first, is)) (frames, split, pairs) = framed.none_after b f frames t first split
-stream_by n refused e b at ss t (inr (frames, tail, split, first)) (others, split', pairs) =
-    first_of_none (MeansSection n) (λ f. InSection First n e f at) frames ss (λ f s. refused e f at s) first
-    (subst (λ (l : List FrameForm). Pairwise (MeansSection n) l ss) (one_split 0 others frames t tail b split' split).0 pairs)
+  stream_by : (n : ℕ) → SectionRefuses n → StreamRefuses n
+  stream_by n refused e b at ss t (inl (f, bad, is)) (frames, split, pairs) = framed.none_after which b f frames t bad split
+  stream_by n refused e b at ss t (inr (frames, tail, split, bad)) (others, split', pairs) =
+      one_of_none which (MeansSection n) (λ f. InSection which n e f at) frames ss (λ f s. refused e f at s) bad
+      (subst (λ (l : List FrameForm). Pairwise (MeansSection n) l ss) (one_split 0 others frames t tail b split' split).0 pairs)
 
--- a body with a first fault of its layout has no files
-pub layout_by : (x : Extent) (volume : List ℕ) (f : Fault) (cells : List CellForm) (files : List FileForm) → LayoutFault First x volume f
-    → Tiles x.file_system x.polarity x.first cells (drop x.first volume) → AreCurrent x.length (files_in cells) files → ⊥
-layout_by x volume f cells files (inl first) tiles current =
-    cellular.none_after x.file_system x.polarity x.first (drop x.first volume) f cells first tiles
-layout_by x volume f cells files (inr (others, tiles', names)) tiles current =
-    let same = only_one x.file_system x.polarity x.first (drop x.first volume) others cells tiles' tiles in
-    current_none x.length others f files names (subst (λ (l : List CellForm). AreCurrent x.length (files_in l) files) same current)
+  -- a body with a fault of its layout has no files
+  pub layout_by : (x : Extent) (volume : List ℕ) (f : Fault) (cells : List CellForm) (files : List FileForm) → LayoutFault which x volume f
+      → Tiles x.file_system x.polarity x.first cells (drop x.first volume) → AreCurrent x.length (files_in cells) files → ⊥
+  layout_by x volume f cells files (inl bad) tiles current =
+      cellular.none_after which x.file_system x.polarity x.first (drop x.first volume) f cells bad tiles
+  layout_by x volume f cells files (inr (others, tiles', names)) tiles current =
+      let same = only_one x.file_system x.polarity x.first (drop x.first volume) others cells tiles' tiles in
+      current_none which x.length others f files names
+      (subst (λ (l : List CellForm). AreCurrent x.length (files_in l) files) same current)
 
--- and so with the fault moved to where the volume begins
-pub files_refused : (x : Extent) (volume : List ℕ) (at : Place) (e : Fault) (files : List FileForm) → Moved at (LayoutFault First x volume) e
-    → StandIn x volume files → ⊥
-files_refused x volume at e files (f, first, is) stand = layout_by x volume f stand.cells files first stand.tiles stand.current
+  -- and so with the fault moved to where the volume begins
+  pub files_refused : (x : Extent) (volume : List ℕ) (at : Place) (e : Fault) (files : List FileForm)
+      → Moved at (LayoutFault which x volume) e → StandIn x volume files → ⊥
+  files_refused x volume at e files (f, bad, is) stand = layout_by x volume f stand.cells files bad stand.tiles stand.current
 
-module _ (n : ℕ) (refused : StreamRefuses n) where
-  -- a file with a first fault is not read
-  pub file_by : (e : Fault) (at : Place) (f : FileForm) (m : FileMeaning) → FileFault (InStream First n) e f at → MeansFile (Stream n) f m
-      → ⊥
-  file_by e at f m (holds, inside) is =
-      stream_bad n f holds (λ us u s. refused e f.payload (data_at at f) us u inside s) m is
+  module _ (n : ℕ) (refused : StreamRefuses n) where
+    -- a file with a fault is not read
+    pub file_by : (e : Fault) (at : Place) (f : FileForm) (m : FileMeaning) → FileFault (InStream which n) e f at → MeansFile (Stream n) f m
+        → ⊥
+    file_by e at f m (holds, inside) is =
+        stream_bad n f holds (λ us u s. refused e f.payload (data_at at f) us u inside s) m is
 
-  -- a body with a first fault has no files
-  body_by : (x : Extent) (volume : List ℕ) (e : Fault) (at : Place) (ms : List FileMeaning)
-      → BodyFault First n (InStream First n) x e volume at → HasFiles (Stream n) x volume ms → ⊥
-  body_by x volume e at ms (inl moved) (files, stand, pairs) = files_refused x volume at e files moved stand
-  body_by x volume e at ms (inr (cells, tiles, right, first)) (files, stand, pairs) =
-      let same : stand.cells ≡ cells =
-      only_one x.file_system x.polarity x.first (drop x.first volume) cells stand.cells tiles stand.tiles in
-      let current : files ≡ current_in (files_in cells) =
-      stand.current.files_are ∙ ap (λ (l : List CellForm). current_in (files_in l)) same in
-      first_of_none (MeansFile (Stream n)) (λ f. FileFault (InStream First n) e f at) (current_in (files_in cells)) ms
-      (file_by e at) first (subst (λ (l : List FileForm). Pairwise (MeansFile (Stream n)) l ms) current pairs)
+    -- a body with a fault has no files
+    body_by : (x : Extent) (volume : List ℕ) (e : Fault) (at : Place) (ms : List FileMeaning)
+        → BodyFault which n (InStream which n) x e volume at → HasFiles (Stream n) x volume ms → ⊥
+    body_by x volume e at ms (inl moved) (files, stand, pairs) = files_refused x volume at e files moved stand
+    body_by x volume e at ms (inr (cells, tiles, right, bad)) (files, stand, pairs) =
+        let same : stand.cells ≡ cells =
+        only_one x.file_system x.polarity x.first (drop x.first volume) cells stand.cells tiles stand.tiles in
+        let current : files ≡ current_in (files_in cells) =
+        stand.current.files_are ∙ ap (λ (l : List CellForm). current_in (files_in l)) same in
+        one_of_none which (MeansFile (Stream n)) (λ f. FileFault (InStream which n) e f at) (current_in (files_in cells)) ms
+        (file_by e at) bad (subst (λ (l : List FileForm). Pairwise (MeansFile (Stream n)) l ms) current pairs)
 
-  -- bytes with a first fault begin with no volume
-  volume_by : (e : Fault) (b : List ℕ) (at : Place) (k : ℕ) (m : Meaning) → k ≤ length b → InVolume First n e b at
+    -- bytes with a fault begin with no volume
+    volume_by : (e : Fault) (b : List ℕ) (at : Place) (k : ℕ) (m : Meaning) → k ≤ length b → InVolume which n e b at
+        → Denotes n (take k b) m → ⊥
+    volume_by e b at k m within (inl (f, bad, is)) d =
+        none_fails which (head_checks b) f bad (front_holds b (head_of m) d.extent (front_of n k b m within d).0)
+    volume_by e b at k m within (inr (h, x, front, bad)) d =
+        body_by x (take x.length b) e at (files_of m) bad (has_files n k b m h x front within d).2
+
+  -- ---- the recursion
+
+  -- a section with a fault is not read
+  pub section_refuses : (n : ℕ) → SectionRefuses n
+  section_refuses zero e f at s (inl group, is) h = too_deep f (inl group) s h
+  section_refuses zero e f at s (inr (kind, opens), is) h = too_deep f (inr (record { kind = kind; opens = opens })) s h
+  section_refuses (suc n) e f at s (inl (group, bad)) h =
+      group_none n f group (λ us u r. stream_by n (section_refuses n) e f.body _ us u bad r) s h
+  section_refuses (suc n) e f at s (inr (kind, opens, bad)) h =
+      nested_none n f (record { kind = kind; opens = opens })
+      (λ k m within d. volume_by n (stream_by n (section_refuses n)) e f.body _ k m within bad d) s h
+
+  -- bytes with a fault of a stream are none
+  pub stream_refuses : (n : ℕ) → StreamRefuses n
+  stream_refuses n = stream_by n (section_refuses n)
+
+  -- bytes with a fault begin with no volume
+  pub fault_refuses : (n k : ℕ) (e : Fault) (b : List ℕ) (at : Place) (m : Meaning) → k ≤ length b → InVolume which n e b at
       → Denotes n (take k b) m → ⊥
-  volume_by e b at k m within (inl (f, first, is)) d =
-      not_first (head_checks b) f first
-      (none_faulty (head_checks b) (front_holds b (head_of m) d.extent (front_of n k b m within d).0))
-  volume_by e b at k m within (inr (h, x, front, first)) d =
-      body_by x (take x.length b) e at (files_of m) first (has_files n k b m h x front within d).2
-
--- ---- the recursion
-
--- a section with a first fault is not read
-pub section_refuses : (n : ℕ) → SectionRefuses n
-section_refuses zero e f at s (inl group, is) h = too_deep f (inl group) s h
-section_refuses zero e f at s (inr (kind, opens), is) h = too_deep f (inr (record { kind = kind; opens = opens })) s h
-section_refuses (suc n) e f at s (inl (group, first)) h =
-    group_none n f group (λ us u r. stream_by n (section_refuses n) e f.body _ us u first r) s h
-section_refuses (suc n) e f at s (inr (kind, opens, first)) h =
-    nested_none n f (record { kind = kind; opens = opens })
-    (λ k m within d. volume_by n (stream_by n (section_refuses n)) e f.body _ k m within first d) s h
-
--- bytes with a first fault of a stream are none
-pub stream_refuses : (n : ℕ) → StreamRefuses n
-stream_refuses n = stream_by n (section_refuses n)
-
--- bytes with a first fault begin with no volume
-pub first_refuses : (n k : ℕ) (e : Fault) (b : List ℕ) (at : Place) (m : Meaning) → k ≤ length b → InVolume First n e b at
-    → Denotes n (take k b) m → ⊥
-first_refuses n k e b at m within first d = volume_by n (stream_refuses n) e b at k m within first d
+  fault_refuses n k e b at m within bad d = volume_by n (stream_refuses n) e b at k m within bad d

@@ -8,6 +8,7 @@ use Rattle.std.proofs.lemmas.Bool.{eqb-true, leb-true, leb-false}
 use Rattle.std.proofs.lemmas.Bool.Decides.{Decides-eqb}
 use Rattle.std.proofs.lemmas.List.{take_all}
 use Rattle.std.proofs.lemmas.Slice.Eq.{bytes_eq-Decides}
+use Rattle.fv_base.specs.Checks.{First}
 use Rattle.fv_base.proofs.Laws.{and_join, and_split}
 use Rattle.fv_base.specs.Faults.{outer_fault}
 use Rattle.fv_base.specs.Value.{field}
@@ -18,13 +19,12 @@ use Rattle.fv_base.specs.declared.flash.FileSystem.TheVariants.{Ffs2, Ffs3}
 use Rattle.fv_head.specs.Head.{system_guid}
 use Rattle.fv_head.specs.HeadChecks.{is_one_volume, file_system_at}
 use Rattle.fv_section.specs.Frames.{FrameForm}
-use Rattle.fv_tree.specs.Denotes.{group_kind, volume_kind, Opens, Streams, Volumes, MeansSection, SectionOver, Stream, Denotes}
+use Rattle.fv_tree.specs.Denotes.{group_kind, volume_kind, Opens, StreamRelation, VolumeRelation, MeansSection, SectionOver, Stream, Denotes}
 use Rattle.fv_base.specs.declared.fault.Place.{Place}
-use Rattle.fv_tree.specs.FailingChecks.{First}
 use Rattle.fv_tree.specs.FirstFault.{moved_fault, body_place, body_at, InSection, InStream, InVolume}
 use Rattle.fv_tree.specs.Meaning.{Meaning, SectionMeaning, Section, Leaf, Group, Nested, sections_list}
 use Rattle.fv_tree.specs.MeaningParts.{sections_from}
-use Rattle.fv_tree.specs.inner.Shapes.{shape_of}
+use Rattle.fv_tree.specs.inner.ReadingParts.{shape_of}
 use Rattle.fv_tree.specs.declared.shape.Shape.TheVariants as shapes
 
 -- the list of sections from a list is that list
@@ -122,7 +122,7 @@ group_is_no_volume f a b = omega (arith, a, b)
 
 -- ---- a leaf, whatever lies inside
 
-leaf_over : (S : Streams) (V : Volumes) (f : FrameForm) → IsLeaf f → SectionOver S V f (Section f.kind f.extended (Leaf f.body))
+leaf_over : (S : StreamRelation) (V : VolumeRelation) (f : FrameForm) → IsLeaf f → SectionOver S V f (Section f.kind f.extended (Leaf f.body))
 leaf_over S V f l = (refl, refl, (l.no_group, l.not_opened, refl))
 
 pub leaf_is : (n : ℕ) (f : FrameForm) → IsLeaf f → MeansSection n f (Section f.kind f.extended (Leaf f.body))

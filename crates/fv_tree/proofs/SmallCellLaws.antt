@@ -9,7 +9,7 @@ use Rattle.fv_base.specs.declared.flash.Polarity.{Polarity}
 use Rattle.fv_base.proofs.Laws.{bytes_back, bytes_front}
 use Rattle.fv_file.specs.Attributes.{attribute_bits, is_large}
 use Rattle.fv_file.specs.Cells.{CellForm, Valid, Pad, Dead, Stub, Free, Tiles, IsCell, IsFilled, offset_of}
-use Rattle.fv_file.specs.CellLengths.{CellsWithin, cell_len}
+use Rattle.fv_file.specs.CellForms.{CellsWithin, cell_len}
 use Rattle.fv_file.specs.Files.{IsFile, IsSound, attributes_at, file_header_len, file_sum_right}
 use Rattle.fv_file.specs.NewHeaders.{file_sum_for}
 use Rattle.fv_file.specs.States.{is_alive}
@@ -19,7 +19,7 @@ use Rattle.fv_file.specs.declared.head.FileHead.{FileHead}
 use Rattle.fv_file.specs.declared.state.FileState.{FileState}
 use Rattle.fv_file.specs.declared.state.FileState.TheVariants as states
 use Rattle.fv_tree.specs.LocatedFiles.{header_len_by, state_by}
-use Rattle.fv_tree.specs.inner.SmallFiles.{FollowsFrom, IsSmallCell, mark_of}
+use Rattle.fv_tree.specs.inner.ReadingParts.{FollowsFrom, IsSmallCell, mark_of}
 
 -- a cell, where there is none
 abbrev pub no_cell : Cell

@@ -1,6 +1,7 @@
 -- A stream is walked frame by frame, and its sections are read on the way.
 use Rattle.std.proofs.Common.{◌≡◌, ℕ, ◌+◌, ◌≤◌, List, [], ◌∷◌, ◌++◌, length, refl, sym, ap, ◌∙◌, subst, inr, append_assoc, arith}
 use Rattle.std.proofs.lemmas.List.{append-nil}
+use Rattle.fv_base.specs.Checks.{First}
 use Rattle.fv_base.specs.Limits.{volume_limit}
 use Rattle.fv_base.specs.Value.{IsBytes}
 use Rattle.fv_base.specs.declared.fault.Fault.{Fault}
@@ -11,7 +12,6 @@ use Rattle.fv_section.specs.StreamReads.{FrameStandsAt}
 use Rattle.fv_section.proofs.Laws.{split_stands, stands_within}
 use Rattle.fv_tree.specs.Denotes.{Pairwise, MeansSection, Stream}
 use Rattle.fv_tree.specs.ReadParts.{IsStoredFrame}
-use Rattle.fv_tree.specs.FailingChecks.{First}
 use Rattle.fv_tree.specs.FirstFault.{InSection, InStream}
 use Rattle.fv_tree.specs.Meaning.{SectionMeaning}
 use Rattle.fv_tree.proofs.ListPairs.{pairs_push}

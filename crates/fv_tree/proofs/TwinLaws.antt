@@ -7,8 +7,8 @@ use Rattle.std.specs.List.{AllByRecursion, filter, list_any}
 use Rattle.std.proofs.lemmas.List.Elements.{filter_passes, recursion_from_All}
 use Rattle.std.proofs.lemmas.List.Folds.{list_any-append}
 use Rattle.std.proofs.lemmas.Slice.Eq.{bytes_eq-Decides}
+use Rattle.fv_base.specs.Checks.{First}
 use Rattle.fv_tree.specs.Files.{FileForm, same_name, is_marked, is_twin, replaced_by, NoTwins, current_in, is_top}
-use Rattle.fv_tree.specs.FailingChecks.{First}
 use Rattle.fv_tree.specs.FirstFault.{HasTwin, TopElsewhere}
 use Rattle.fv_tree.proofs.CurrentLaws.{twin_none}
 use Rattle.fv_tree.proofs.ListCuts.{Earlier, TwoCuts, two_cuts, all_behind}
@@ -23,8 +23,8 @@ one_twin f g fs (before, after, is, none, has) (before', after', is', none', has
   where
     go : TwoCuts before f after before' g after' → f ≡ g
     go (inl (same, item)) = item
-    go (inr (inl (mid, late, rest))) = absurd (twin_none f before' (before, mid, late, none, has) none')
-    go (inr (inr (mid, late, rest))) = absurd (twin_none g before (before', mid, late, none', has') none)
+    go (inr (inl (mid, late, rest))) = absurd (twin_none First f before' (before, mid, late, none, has) none')
+    go (inr (inr (mid, late, rest))) = absurd (twin_none First g before (before', mid, late, none', has') none)
 
 -- ---- some of the files, by a test
 

@@ -8,7 +8,7 @@ use Rattle.fv_file.specs.FileChecks.{IsFirstCellFault}
 use Rattle.fv_head.specs.Head.{HeadFields, BeginsVolume}
 use Rattle.fv_head.specs.HeadChecks.{head_checks}
 use Rattle.fv_head.specs.declared.extent.Extent.{Extent}
-use Rattle.fv_tree.specs.VolumeCells.{BeginsTiled, NotTiled}
+use Rattle.fv_tree.specs.LocatedFiles.{BeginsTiled, NotTiled}
 
 -- the header has a fault
 pub bad_header : (b : List ℕ) (f : Fault) (r : Result Extent Fault) → ((h : HeadFields) (e : Extent) → BeginsVolume h e b → r ≡ Ok e)

@@ -40,39 +40,39 @@ Pairwise R [] (y ∷ ys) = ⊥
 Pairwise R (x ∷ xs) [] = ⊥
 Pairwise R (x ∷ xs) (y ∷ ys) = R x y × Pairwise R xs ys
 
--- ---- what a thing is, given what the things inside it are: these take predicates, and MeansSection closes the
+-- ---- what a thing is, given what the things inside it are: these take relations, and MeansSection closes the
 -- recursion
 
--- a predicate on a frame and a section, one on the bytes of a stream, and one on the bytes of a volume
-abbrev pub Sections : Type 1
-Sections = FrameForm → SectionMeaning → Type 0
+-- relations: of a frame and a section; of sections and the bytes of a stream; of the bytes of a volume and a meaning
+abbrev pub SectionRelation : Type 1
+SectionRelation = FrameForm → SectionMeaning → Type 0
 
-abbrev pub Streams : Type 1
-Streams = List SectionMeaning → ℕ → List ℕ → Type 0
+abbrev pub StreamRelation : Type 1
+StreamRelation = List SectionMeaning → ℕ → List ℕ → Type 0
 
-abbrev pub Volumes : Type 1
-Volumes = List ℕ → Meaning → Type 0
+abbrev pub VolumeRelation : Type 1
+VolumeRelation = List ℕ → Meaning → Type 0
 
 -- the bytes are a stream of these sections, with `tail` bytes after the last
-abbrev pub StreamOver : Sections → Streams
+abbrev pub StreamOver : SectionRelation → StreamRelation
 StreamOver is_section sections tail b =
     (frames : List FrameForm) × Splits frames tail b × Pairwise is_section frames sections
 
 -- the data of a file of this type have this content
-abbrev pub MeansContent : Streams → ℕ → List ℕ → ContentMeaning → Type 0
+abbrev pub MeansContent : StreamRelation → ℕ → List ℕ → ContentMeaning → Type 0
 MeansContent is_stream kind payload (Plain b) = (holds_sections kind ≡ false) × (b ≡ payload)
 MeansContent is_stream kind payload (Sectioned sections tail) =
     (holds_sections kind ≡ true) × is_stream (sections_list sections) tail payload
 
 -- the file of the volume has this meaning
-abbrev pub MeansFile : Streams → FileForm → FileMeaning → Type 0
+abbrev pub MeansFile : StreamRelation → FileForm → FileMeaning → Type 0
 MeansFile is_stream f (File name kind attributes content) =
     (name ≡ f.head.name) × (kind ≡ f.head.kind) × (attributes ≡ without_large (attribute_bits f.head.attributes))
     × MeansContent is_stream kind f.payload content
 
 -- the bytes are a volume with this meaning: they begin with its header, cells tile the rest from the first file's
 -- offset on, and the files of these cells are its files
-pub record VolumeOver (is_stream : Streams) (b : List ℕ) (m : Meaning) : Type 0 where
+pub record VolumeOver (is_stream : StreamRelation) (b : List ℕ) (m : Meaning) : Type 0 where
   pub extent : Extent
   pub front : BeginsVolume (head_of m) extent b
   pub whole : length b ≡ extent.length
@@ -84,34 +84,34 @@ pub record VolumeOver (is_stream : Streams) (b : List ℕ) (m : Meaning) : Type 
 
 -- the body of the frame has this meaning: the body of a group is a stream, a body that is opened is a volume, and any
 -- other is a leaf
-abbrev pub MeansBody : Streams → Volumes → FrameForm → BodyMeaning → Type 0
+abbrev pub MeansBody : StreamRelation → VolumeRelation → FrameForm → BodyMeaning → Type 0
 MeansBody is_stream is_volume f (Leaf b) =
     (f.kind ≢ group_kind) × (f.kind ≡ volume_kind → Opens f.body → ⊥) × (b ≡ f.body)
 MeansBody is_stream is_volume f (Group sections tail) =
     (f.kind ≡ group_kind) × is_stream (sections_list sections) tail f.body
 MeansBody is_stream is_volume f (Nested volume) = (f.kind ≡ volume_kind) × Opens f.body × is_volume f.body volume
 
-abbrev pub SectionOver : Streams → Volumes → Sections
+abbrev pub SectionOver : StreamRelation → VolumeRelation → SectionRelation
 SectionOver is_stream is_volume f (Section kind extended body) =
     (kind ≡ f.kind) × (extended ≡ f.extended) × MeansBody is_stream is_volume f body
 
 -- ---- the recursion
 
 -- the frame is this section, a leaf if n is 0; groups and opened volumes nest at most n deep
-abbrev pub MeansSection : ℕ → Sections
+abbrev pub MeansSection : ℕ → SectionRelation
 MeansSection zero = SectionOver (λ _ _ _. ⊥) (λ _ _. ⊥)
 MeansSection (suc n) = SectionOver (StreamOver (MeansSection n)) (VolumeOver (StreamOver (MeansSection n)))
 
 -- the bytes are a stream of these sections, with `tail` bytes after the last; groups and volumes nest at most n deep
-abbrev pub Stream : ℕ → Streams
+abbrev pub Stream : ℕ → StreamRelation
 Stream n = StreamOver (MeansSection n)
 
 -- the bytes are a volume with this meaning, in which groups and volumes nest at most n deep
-abbrev pub Denotes : ℕ → Volumes
+abbrev pub Denotes : ℕ → VolumeRelation
 Denotes n = VolumeOver (Stream n)
 
 -- the bytes are accepted as a volume with this meaning
-abbrev pub Accepted : Volumes
+abbrev pub Accepted : VolumeRelation
 Accepted b m = IsBytes b × Denotes depth_limit b m
 
 -- ---- what is known of everything that was read

@@ -1,12 +1,12 @@
 -- Where the meanings of two volumes first differ, in the order in which they are compared.
-use Rattle.std.specs.Prelude.{ℕ, ◌+◌, ◌==◌, ◌&&◌, Bool, true, false}
-use Rattle.std.specs.Prelude.{List, [], ◌∷◌, Option, Some, None}
+use Rattle.std.specs.Prelude.{Bool, true, false, ℕ, ◌+◌, ◌==◌, ◌&&◌, List, [], ◌∷◌, Option, Some, None}
+use Rattle.fv_base.specs.declared.flash.FileSystem.{FileSystem}
+use Rattle.fv_base.specs.declared.flash.FileSystem.TheVariants.{Ffs2, Ffs3}
 use Rattle.std.specs.Bool.{beq}
 use Rattle.std.specs.Str.{bytes_eq}
 use Rattle.fv_base.specs.Guids.{bytes_of}
 use Rattle.fv_head.specs.Ext.{Extension}
 use Rattle.fv_head.specs.Head.{HeadFields}
-use Rattle.fv_tree.specs.FileSystems.{is_ffs3}
 use Rattle.fv_tree.specs.Meaning.{Meaning, Volume, FileMeanings, NoFiles, MoreFiles, FileMeaning, File, ContentMeaning}
 use Rattle.fv_tree.specs.Meaning.{Plain, Sectioned, SectionMeanings, NoSections, MoreSections, SectionMeaning, Section}
 use Rattle.fv_tree.specs.Meaning.{BodyMeaning, Leaf, Group, Nested}
@@ -14,6 +14,10 @@ use Rattle.fv_tree.specs.declared.difference.Step.{Step}
 use Rattle.fv_tree.specs.declared.difference.Step.TheVariants as steps
 use Rattle.fv_tree.specs.declared.difference.Word.{Word}
 use Rattle.fv_tree.specs.declared.difference.Word.TheVariants as words
+
+abbrev pub is_ffs3 : FileSystem → Bool
+is_ffs3 Ffs2 = false
+is_ffs3 Ffs3 = true
 
 -- ---- whether two values are equal
 

@@ -2,19 +2,21 @@
 -- which a volume is read; and any fault whose condition holds at its place, whatever else is wrong.
 use Rattle.std.specs.Prelude.{◌≡◌, ℕ, zero, suc, ◌+◌, ◌⊎◌, true, List, [], ◌∷◌, ◌++◌, take, drop}
 use Rattle.std.specs.List.{list_any}
+use Rattle.fv_base.specs.Checks.{Which, First, Any, Fails}
 use Rattle.fv_base.specs.Faults.{outer_fault}
 use Rattle.fv_base.specs.declared.fault.Fault.{Fault}
 use Rattle.fv_base.specs.declared.fault.FaultKind.TheVariants as kinds
 use Rattle.fv_base.specs.declared.fault.Place.{Place}
 use Rattle.fv_file.specs.Cells.{CellForm, Tiles}
+use Rattle.fv_file.specs.FileChecks.{CellFault}
 use Rattle.fv_head.specs.Head.{HeadFields, BeginsVolume}
 use Rattle.fv_head.specs.HeadChecks.{head_checks}
 use Rattle.fv_head.specs.declared.extent.Extent.{Extent}
+use Rattle.fv_section.specs.FrameChecks.{FrameFault}
 use Rattle.fv_section.specs.Frames.{FrameForm, Splits, section_header_len}
 use Rattle.fv_tree.specs.Denotes.{group_kind, volume_kind, Opens, holds_sections, Pairwise, MeansFile, MeansSection}
 use Rattle.fv_base.specs.Limits.{depth_limit}
 use Rattle.fv_tree.specs.Denotes.{Stream}
-use Rattle.fv_tree.specs.FailingChecks.{Which, First, Any, IfFirst, Fails, FrameFault, CellFault}
 use Rattle.fv_tree.specs.Files.{FileForm, files_in, is_twin, NoTwins, current_in, is_top, end_of, TopAtEnd}
 
 -- ---- places
@@ -50,6 +52,11 @@ FrameFaulty = Fault → FrameForm → Place → Type 0
 
 -- ---- one level
 
+-- a condition that only the first fault must meet
+abbrev pub IfFirst : Which → Type 0 → Type 0
+IfFirst First P = P
+IfFirst Any P = Unit {0}
+
 -- one of the items has a fault; before the first fault, the items are read
 abbrev pub OneOf : {A B : Type 0} → Which → (A → B → Type 0) → (A → Type 0) → List A → Type 0
 OneOf {A} {B} which R fault xs =
@@ -79,7 +86,7 @@ NamesFault which length fs e =
 -- a fault of the body of a volume, except of the data of its files: that of a cell; or that of the files of its cells
 abbrev pub LayoutFault : Which → Extent → List ℕ → Fault → Type 0
 LayoutFault which x volume e =
-    CellFault which x (drop x.first volume) e
+    CellFault which x.file_system x.polarity x.first (drop x.first volume) e
     ⊎ ((cells : List CellForm) × Tiles x.file_system x.polarity x.first cells (drop x.first volume)
     × NamesFault which x.length (files_in cells) e)
 

@@ -4,16 +4,11 @@ pub mod Files
 pub mod Denotes
 pub mod MeaningParts
 pub mod ReadParts
-pub mod FailingChecks
 pub mod FirstFault
 pub mod LocatedFiles
-pub mod VolumeCells
 pub mod FileNames
-pub mod FileSystems
 pub mod Difference
 pub mod FoundVolumes
-pub mod LookupAnswers
 pub mod LookupInstances
 pub mod Views
-pub mod SectionParts
 pub mod inner

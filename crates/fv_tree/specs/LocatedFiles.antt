@@ -1,23 +1,41 @@
--- The files of a volume as they are stored in it, each with its place.
-use Rattle.std.specs.Prelude.{◌≡◌, ◌≤◌, ◌+◌, ◌⊎◌, ℕ, List, length, take, drop}
-use Rattle.fv_base.specs.Checks.{IsFirstFault}
-use Rattle.fv_base.specs.Value.{field}
+-- The cells of the volume with which bytes begin, and its files as they are stored in it, each with its place.
+use Rattle.std.specs.Prelude.{◌⊎◌, ℕ, List, take, drop, ◌≡◌, ◌≤◌, ◌+◌, length}
+use Rattle.fv_base.specs.Checks.{IsFirstFault, First}
 use Rattle.fv_base.specs.declared.fault.Fault.{Fault}
-use Rattle.fv_file.specs.Attributes.{attribute_bits, is_large}
 use Rattle.fv_file.specs.Cells.{CellForm, Tiles}
+use Rattle.fv_file.specs.FileChecks.{IsFirstCellFault}
+use Rattle.fv_head.specs.Head.{HeadFields, BeginsVolume}
+use Rattle.fv_head.specs.HeadChecks.{head_checks}
+use Rattle.fv_head.specs.declared.extent.Extent.{Extent}
+use Rattle.fv_base.specs.Value.{field}
+use Rattle.fv_file.specs.Attributes.{attribute_bits, is_large}
 use Rattle.fv_file.specs.Files.{file_header_len}
 use Rattle.fv_file.specs.NewHeaders.{file_sum_for}
 use Rattle.fv_file.specs.declared.state.FileState.{FileState}
 use Rattle.fv_file.specs.declared.state.FileState.TheVariants as states
-use Rattle.fv_head.specs.Head.{HeadFields, BeginsVolume}
-use Rattle.fv_head.specs.HeadChecks.{head_checks}
-use Rattle.fv_head.specs.declared.extent.Extent.{Extent}
-use Rattle.fv_tree.specs.FailingChecks.{First}
 use Rattle.fv_tree.specs.Files.{FileForm, AreCurrent, files_in}
 use Rattle.fv_tree.specs.FirstFault.{Moved, LayoutFault, data_place, outermost}
 use Rattle.fv_tree.specs.declared.volume_files.LocatedFile.{LocatedFile}
 use Rattle.fv_tree.specs.declared.volume_files.Mark.{Mark}
 use Rattle.fv_tree.specs.declared.volume_files.Mark.TheVariants as marks
+
+-- the bytes begin with a volume of this extent, and these cells tile its body
+pub record BeginsTiled (e : Extent) (cells : List CellForm) (b : List ℕ) : Type 0 where
+  pub head : HeadFields
+  pub front : BeginsVolume head e b
+  pub tiles : Tiles e.file_system e.polarity e.first cells (drop e.first (take e.length b))
+
+-- the first fault of the header with which the bytes should begin, or of the cells after that header
+abbrev pub IsFirstOfCells : List ℕ → Fault → Type 0
+IsFirstOfCells b f =
+    IsFirstFault (head_checks b) f
+    ⊎ ((h : HeadFields) × (e : Extent) × BeginsVolume h e b
+    × IsFirstCellFault e.file_system e.polarity e.first (drop e.first (take e.length b)) f)
+
+-- the bytes begin with no volume whose body cells tile, and this is the first fault
+pub record NotTiled (b : List ℕ) (f : Fault) : Type 0 where
+  pub none : (e : Extent) (cells : List CellForm) → BeginsTiled e cells b → ⊥
+  pub first : IsFirstOfCells b f
 
 -- the state of a valid file that is marked so (section 3.2.3.1, EFI_FFS_FILE_STATE)
 abbrev pub state_by : Mark → FileState

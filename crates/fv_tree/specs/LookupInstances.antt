@@ -1,10 +1,15 @@
--- Looking for files and sections: the next file, and the n-th file or section of a type.
+-- Looking for files and sections: the next file, and the n-th file or section of a type; and what a look-up returns.
 use Rattle.std.specs.Prelude.{ℕ, ◌+◌, ◌==◌, ◌++◌, zero, suc, List, [], ◌∷◌, Option, Some, None, option_map, slice_get}
+use Rattle.std.specs.Prelude.{◌≡◌}
 use Rattle.std.specs.List.{filter}
 use Rattle.fv_section.specs.Frames.{FrameForm}
-use Rattle.fv_tree.specs.Meaning.{FileMeaning, SectionMeaning, Section, SectionMeanings, NoSections}
+use Rattle.fv_tree.specs.Meaning.{FileMeaning, SectionMeaning, Section, SectionMeanings, NoSections, MoreSections}
+use Rattle.fv_tree.specs.Meaning.{BodyMeaning, Leaf, Group, Nested}
 use Rattle.fv_tree.specs.MeaningParts.{file_kind_of, section_kind_of}
-use Rattle.fv_tree.specs.Meaning.{MoreSections, BodyMeaning, Leaf, Group, Nested}
+use Rattle.fv_section.specs.StreamReads.{frame_form}
+use Rattle.fv_tree.specs.declared.lookup.Item.TheVariants as items
+use Rattle.fv_tree.specs.declared.lookup.Lookup.{Lookup}
+use Rattle.fv_tree.specs.declared.lookup.Lookup.TheVariants as answers
 
 -- the number of the file after the one with this number, or of the first file
 abbrev pub number_after : Option ℕ → ℕ
@@ -53,3 +58,21 @@ security_core = 0x03
 -- the frame of this type and instance
 abbrev pub frame_of_type : ℕ → ℕ → List FrameForm → Option FrameForm
 frame_of_type kind instance fs = instance_of instance (filter (λ f. f.kind == kind) fs)
+
+-- the result is this section, or Absent if there is none
+abbrev pub SeesSection : Lookup → Option SectionMeaning → Type 0
+SeesSection (answers.Found (items.Section s)) o = o ≡ Some s.now
+SeesSection (answers.Found (items.Frame f)) o = ⊥
+SeesSection answers.Absent o = o ≡ None
+SeesSection answers.NotSectioned o = ⊥
+
+-- the result is this frame, or Absent if there is none
+abbrev pub SeesFrame : Lookup → Option FrameForm → Type 0
+SeesFrame (answers.Found (items.Section s)) o = ⊥
+SeesFrame (answers.Found (items.Frame f)) o = o ≡ Some (frame_form f)
+SeesFrame answers.Absent o = o ≡ None
+SeesFrame answers.NotSectioned o = ⊥
+
+-- the result is NotSectioned: the file holds no sections
+abbrev pub IsNotSectioned : Lookup → Type 0
+IsNotSectioned l = l ≡ answers.NotSectioned

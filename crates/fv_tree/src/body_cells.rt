@@ -2,9 +2,9 @@
 
 ghost use Rattle.std.specs.Prelude.{◌≡◌, ◌≢◌, length, take, IfErr, IfOk};
 ghost use Rattle.fv_base.specs.Faults.{out_of_memory};
-ghost use Rattle.fv_file.specs.CellLengths.{CellsWithin};
-ghost use Rattle.fv_head.specs.Head.{HeadFields, BeginsVolume};
-ghost use Rattle.fv_tree.specs.VolumeCells.{BeginsTiled, NotTiled};
+ghost use Rattle.fv_file.specs.CellForms.{CellsWithin};
+ghost use Rattle.fv_head.specs.HeadChecks.{BeginsWithHeader};
+ghost use Rattle.fv_tree.specs.LocatedFiles.{BeginsTiled, NotTiled};
 
 use fv_base::Fault;
 use fv_file::{Cells, cells};
@@ -30,8 +30,7 @@ pub fn volume_cells(alloc: Global, bytes: &[u8]) -> Result<(Extent, Cells<'_>), 
     ensures err { IfErr result (λ f. f ≢ out_of_memory → NotTiled bytes.now f) }
 
     // Memory runs out only if they begin with the header of a volume.
-    ensures memory { IfErr result
-        (λ f. f ≡ out_of_memory → (h : HeadFields) × (e : Extent) × BeginsVolume h e bytes.now) }
+    ensures memory { IfErr result (λ f. f ≡ out_of_memory → BeginsWithHeader bytes.now) }
 {
     let extent = verify_fv(bytes)?;
     let volume = &bytes[..extent.length as usize];

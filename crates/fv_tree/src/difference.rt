@@ -3,7 +3,7 @@
 ghost use Rattle.std.specs.Prelude.{◌≡◌, ◌≢◌, ◌==◌, true, Some, IfOk, IfErr, IfSome, IfNone};
 ghost use Rattle.fv_base.specs.Faults.{out_of_memory};
 ghost use Rattle.fv_tree.specs.Difference.{has_steps, differ_in, unless_one, or_else, under};
-ghost use Rattle.fv_tree.specs.inner.DifferenceWalks.{outermost_first, ReturnsDifference};
+ghost use Rattle.fv_tree.specs.inner.FoundWalks.{outermost_first, ReturnsDifference};
 ghost use Rattle.fv_tree.specs.Difference.{difference, files_differ, file_differs, content_differs};
 ghost use Rattle.fv_tree.specs.Difference.{sections_differ, section_differs, body_differs};
 ghost use Rattle.fv_tree.specs.declared.difference.Word.TheVariants as words;

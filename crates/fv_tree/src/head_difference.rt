@@ -2,7 +2,7 @@
 
 ghost use Rattle.std.specs.Prelude.{◌≡◌, option_copied};
 ghost use Rattle.fv_tree.specs.Difference.{blocks_eq, entries_eq, ext_eq, head_differs};
-ghost use Rattle.fv_tree.specs.inner.DifferenceWalks.{in_word};
+ghost use Rattle.fv_tree.specs.inner.FoundWalks.{in_word};
 
 use crate::difference::Word;
 use fv_head::{ExtEntry, ExtHeader, VolumeHead};

@@ -3,11 +3,11 @@
 ghost use Rattle.std.specs.Prelude.{◌≡◌, ◌∷◌, ℕ, Ok, Err, IfOk, IfErr, List, option_map};
 ghost use Rattle.std.specs.Prelude.{option_copied};
 ghost use Rattle.fv_section.specs.Frames.{FrameForm, Splits};
-ghost use Rattle.fv_section.specs.FrameForms as framed;
-ghost use Rattle.fv_tree.specs.LookupAnswers.{SeesSection, SeesFrame, IsNotSectioned};
-ghost use Rattle.fv_tree.specs.LookupInstances.{file_after, file_of_type, section_of_type, frame_of_type, of_type};
-ghost use Rattle.fv_tree.specs.LookupInstances.{preorder, inside_section, inside_body, security_core};
-ghost use Rattle.fv_tree.specs.inner.Searches.{sought};
+ghost use Rattle.fv_section.specs.StreamReads as framed;
+ghost use Rattle.fv_tree.specs.LookupInstances.{SeesSection, SeesFrame, IsNotSectioned, file_after, file_of_type};
+ghost use Rattle.fv_tree.specs.LookupInstances.{section_of_type, frame_of_type, of_type, preorder, inside_section};
+ghost use Rattle.fv_tree.specs.LookupInstances.{inside_body, security_core};
+ghost use Rattle.fv_tree.specs.inner.FoundWalks.{sought};
 ghost use Rattle.fv_tree.specs.Meaning.{files_of, content_of, Plain, Sectioned, SectionMeanings};
 ghost use Rattle.fv_tree.specs.MeaningParts.{file_kind_of, sections_from};
 ghost use Rattle.fv_tree.specs.FileNames.{file_named};

@@ -11,10 +11,10 @@ ghost use Rattle.fv_tree.specs.Meaning.{FileMeaning};
 ghost use Rattle.fv_tree.specs.Files.{FileForm, NoTwins, is_twin, replaced_by};
 ghost use Rattle.fv_tree.specs.FileNames.{Entry, HasNumbers, IsIndex, IsName, IsSixteenBytes, entry_cmp};
 ghost use Rattle.fv_tree.specs.FileNames.{halves_in, halves_of, is_named, numbered};
-ghost use Rattle.fv_tree.specs.inner.NameOrders.{key_of, names_in};
+ghost use Rattle.fv_tree.specs.inner.NameOrders.{key_of, names_in, AllApart, AreTwins, IsTwinAt, SharesItsName};
+ghost use Rattle.fv_tree.specs.inner.NameOrders.{mark_at};
 ghost use Rattle.fv_tree.specs.LocatedFiles.{file_form};
-ghost use Rattle.fv_tree.specs.inner.SmallFiles.{is_noted};
-ghost use Rattle.fv_tree.specs.inner.Neighbours.{AllApart, AreTwins, IsTwinAt, SharesItsName, mark_at};
+ghost use Rattle.fv_tree.specs.inner.ReadingParts.{is_noted};
 ghost use Rattle.fv_tree.specs.declared.volume_files.LocatedFile.{LocatedFile};
 
 use crate::volume_files::LocatedFile;

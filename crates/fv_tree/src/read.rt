@@ -1,17 +1,16 @@
 //! Reading a volume.
 
 ghost use Rattle.std.specs.Prelude.{◌≡◌, ◌≢◌, ◌≤◌, ◌<◌, ◌+◌, ◌^◌, ℕ, length, take, map, IfOk, IfErr};
+ghost use Rattle.fv_base.specs.Checks.{First};
 ghost use Rattle.fv_base.specs.Faults.{outer_fault, out_of_memory};
 ghost use Rattle.fv_base.specs.Limits.{depth_limit, volume_limit};
 ghost use Rattle.fv_base.specs.declared.fault.Fault.{Fault};
-ghost use Rattle.fv_head.specs.Head.{HeadFields, BeginsVolume};
-ghost use Rattle.fv_head.specs.declared.extent.Extent.{Extent};
+ghost use Rattle.fv_head.specs.HeadChecks.{BeginsWithHeader};
 ghost use Rattle.fv_section.specs.Frames.{frame_len};
-ghost use Rattle.fv_section.specs.FrameForms as framed;
+ghost use Rattle.fv_section.specs.StreamReads as framed;
 ghost use Rattle.fv_tree.specs.Meaning.{Meaning, length_of};
 ghost use Rattle.fv_tree.specs.Denotes.{Pairwise, MeansContent, MeansFile, MeansSection, Stream, Denotes, Accepted};
 ghost use Rattle.fv_tree.specs.ReadParts.{IsStoredFile, IsStoredFrame};
-ghost use Rattle.fv_tree.specs.FailingChecks.{First};
 ghost use Rattle.fv_tree.specs.FirstFault.{moved_fault, InSection, InStream, InVolume};
 ghost use Rattle.fv_tree.specs.FirstFault.{OneOf, FileFault, IsFirstOfVolume, FaultStands, body_place, data_place};
 ghost use Rattle.fv_tree.specs.inner.ReadingParts.{Reads, AllStored};
@@ -188,8 +187,7 @@ fn read_at(alloc: Global, bytes: &[u8], at: Level) -> Result<(VolumeView<'_>, u6
     ensures read { Reads (λ r. Denotes at.left (take r.1 bytes.now) r.0)
         (λ f. InVolume First at.left f bytes.now at.place) result }
     ensures length { IfOk result (λ r. (r.1 ≡ length_of r.0) × (r.1 ≤ length bytes.now)) }
-    ensures memory { IfErr result
-        (λ f. f ≡ out_of_memory → (h : HeadFields) × (e : Extent) × BeginsVolume h e bytes.now) }
+    ensures memory { IfErr result (λ f. f ≡ out_of_memory → BeginsWithHeader bytes.now) }
 {
     let (head, extent) = match read_head(alloc, bytes) {
         Ok(read) => read,
@@ -241,8 +239,7 @@ pub fn read_volume(alloc: Global, bytes: &[u8]) -> Result<(VolumeView<'_>, u64),
         (λ f. (f.place.offset ≤ length bytes.now) × (f.place.depth ≤ depth_limit)) }
 
     // Memory runs out only if they begin with the header of a volume.
-    ensures memory { IfErr result
-        (λ f. f ≡ out_of_memory → (h : HeadFields) × (e : Extent) × BeginsVolume h e bytes.now) }
+    ensures memory { IfErr result (λ f. f ≡ out_of_memory → BeginsWithHeader bytes.now) }
 {
     let place = Place {
         offset: 0,

@@ -2,10 +2,10 @@
 
 ghost use Rattle.std.specs.Prelude.{◌≡◌, ◌≢◌, ◌≤◌, ◌<◌, ◌+◌, ◌%◌, ◌^◌, List, length, map, IfOk, IfErr};
 ghost use Rattle.std.specs.List.{AllByRecursion};
+ghost use Rattle.fv_base.specs.Checks.{First};
 ghost use Rattle.fv_base.specs.Faults.{out_of_memory};
 ghost use Rattle.fv_base.specs.Limits.{volume_limit};
-ghost use Rattle.fv_head.specs.Head.{HeadFields, BeginsVolume};
-ghost use Rattle.fv_tree.specs.FailingChecks.{First};
+ghost use Rattle.fv_head.specs.HeadChecks.{BeginsWithHeader};
 ghost use Rattle.fv_tree.specs.FileNames.{IsIndex};
 ghost use Rattle.fv_tree.specs.Files.{FileForm};
 ghost use Rattle.fv_tree.specs.FirstFault.{Moved, LayoutFault};
@@ -86,8 +86,7 @@ pub fn located_files(alloc: Global, bytes: &[u8]) -> Result<Vec<LocatedFile<'_>>
     ensures first { IfErr result (λ f. f ≢ out_of_memory → IsFirstOfFiles bytes.now f) }
 
     // Memory runs out only if they begin with the header of a volume.
-    ensures memory { IfErr result
-        (λ f. f ≡ out_of_memory → (h : HeadFields) × (e : Extent) × BeginsVolume h e bytes.now) }
+    ensures memory { IfErr result (λ f. f ≡ out_of_memory → BeginsWithHeader bytes.now) }
 {
     let extent = verify_fv(bytes)?;
     let volume = &bytes[..extent.length as usize];

@@ -127,7 +127,7 @@ impl<'a> Model for VolumeView<'a> {
     ghost use Rattle.fv_tree.specs.inner.Codes.{volume_code};
     ghost use Rattle.fv_tree.specs.Meaning.{Meaning, Volume};
     ghost use Rattle.fv_tree.specs.MeaningParts.{files_from};
-    ghost use Rattle.fv_tree.specs.inner.Sizes.{volume_size};
+    ghost use Rattle.fv_tree.specs.inner.Sizes.{files_fall, volume_size};
 
     ghost Value = { Meaning };
 
@@ -144,7 +144,6 @@ impl<'a> Model for VolumeView<'a> {
     ghost size = { volume_size };
 
     ghost use Rattle.std.proofs.Common.{arith};
-    ghost use Rattle.fv_tree.specs.inner.ListFalls.{files_fall};
 
     ghost size_decreases = { λ v h. Prim.omega (arith, files_fall v.files.items) };
 }
@@ -187,7 +186,7 @@ impl<'a> Model for SectionView<'a> {
 
     ghost coded = { section_code };
 
-    ghost use Rattle.fv_tree.specs.SectionParts.{parts_view, HasLength};
+    ghost use Rattle.fv_tree.specs.Views.{parts_view, HasLength};
 
     ghost view = { λ s. parts_view s.parts };
 

@@ -3,16 +3,16 @@
 ghost use Rattle.std.specs.Prelude.{◌≡◌, ◌≢◌, ◌≤◌, ◌<◌, ◌^◌, ◌==◌, ◌&&◌, ◌||◌, not, [], ◌∷◌, map};
 ghost use Rattle.std.specs.Prelude.{length as length_of, IsTrue, IfOk, IfErr, OnOk, IfSome, IfNone, true};
 ghost use Rattle.std.specs.List.{AllByRecursion};
+ghost use Rattle.fv_base.specs.Checks.{First};
 ghost use Rattle.fv_base.specs.Faults.{outer_fault, out_of_memory};
 ghost use Rattle.fv_file.specs.CellForms as cellular;
 ghost use Rattle.fv_tree.specs.Files.{FileForm, NoTwins, TopAtEnd, AreCurrent, files_in, current_in, is_marked, is_top};
 ghost use Rattle.fv_tree.specs.Files.{end_of};
-ghost use Rattle.fv_tree.specs.FailingChecks.{First};
 ghost use Rattle.fv_tree.specs.FirstFault.{HasTwin, TopElsewhere, NamesFault};
 ghost use Rattle.fv_tree.specs.inner.NameOrders.{names_in};
 ghost use Rattle.fv_tree.specs.FileNames.{IsIndex};
 ghost use Rattle.fv_tree.specs.LocatedFiles.{file_form, state_by};
-ghost use Rattle.fv_tree.specs.inner.SmallFiles.{IsSmallCell, is_noted, mark_of};
+ghost use Rattle.fv_tree.specs.inner.ReadingParts.{IsSmallCell, is_noted, mark_of};
 
 use crate::name_index::Numbers;
 use fv_base::{Fault, FaultKind, Guid, check};

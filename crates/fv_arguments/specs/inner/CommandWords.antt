@@ -1,11 +1,7 @@
 -- The arguments of one command.
-use Rattle.std.specs.Prelude.{◌≡◌, ◌||◌, ◌&&◌, ℕ, Bool, false, not, List, [], Option, Some, Result, Ok, Err, codes, if◌then◌else◌, nat_le}
-use Rattle.std.specs.List.{list_all}
+use Rattle.std.specs.Prelude.{◌≡◌, ℕ, List, [], Result, Ok, Err, codes, if◌then◌else◌}
 use Rattle.std.specs.Str.{bytes_eq}
-use Rattle.clap.specs.Words.{App, IsParsedFrom, Rule, app_of, found_of, rows_of}
-use Rattle.clap.specs.declared.builder.command.Command.{Command as Rules}
-use Rattle.clap.specs.declared.builder.value_parser.ValueParser.{ValueParser}
-use Rattle.clap.specs.declared.builder.value_parser.ValueParser.TheVariants as parsers
+use Rattle.clap.specs.Words.{App, found_of, rows_of}
 use Rattle.clap.specs.declared.parser.matches.ArgMatches.{ArgMatches}
 use Rattle.fv_arguments.specs.Options.{compare_app, extract_app, faults_in, hobs_app, list_app, normalise_app, one_input_app, rows_in}
 use Rattle.fv_arguments.specs.Options.{volume_app}
@@ -33,9 +29,11 @@ app_named name =
 pub record IsRead (app : App) (rest : List (List ℕ)) (m : ArgMatches) : Type 0 where
   pub rows : rows_of (found_of m) ≡ rows_in app rest
   pub taken : faults_in app rest ≡ []
-  pub rules : Rules
-  pub given : app_of rules ≡ app
-  pub parsed : IsParsedFrom rules m
+
+-- a value is one of which P holds; and a text is rejected as wrong only if P holds of none
+abbrev pub Reads : {X : Type 0} → (X → Type 0) → Result X WordFault → Type 0
+Reads P (Ok x) = P x
+Reads {X} P (Err f) = f ≡ Words → (x : X) → P x → ⊥
 
 -- the command is what the arguments ask for in which this was found; or they are rejected, as wrong only if they are
 -- not right
@@ -43,16 +41,3 @@ abbrev pub AsksFor : List ℕ → ArgMatches → Result Command WordFault → Ty
 AsksFor name m (Ok command) =
     (rest : List (List ℕ)) → IsRead (app_named name) rest m → (name ≡ command_name command) × HasTexts rest command
 AsksFor name m (Err f) = f ≡ Words → (rest : List (List ℕ)) → IsRead (app_named name) rest m → AreRightFor name rest → ⊥
-
--- an option of this name has a number up to `most`, if the command has it
-abbrev pub takes_number : ℕ → Option ValueParser → Bool
-takes_number most (Some (parsers.Unsigned low high)) = nat_le high most
-takes_number most _ = false
-
-abbrev pub is_number_if : ℕ → List ℕ → Rule → Bool
-is_number_if most id a = not (bytes_eq a.id id) || takes_number most a.parser
-
-abbrev pub has_number : ℕ → List ℕ → App → Bool
-has_number most id app =
-    not (bytes_eq [] id) && (not (bytes_eq (codes "help") id) && (not (bytes_eq (codes "version") id)
-    && (app.top.is_plain && (list_all (λ a. a.is_simple) app.top.rules && list_all (is_number_if most id) app.top.rules))))

@@ -3,25 +3,13 @@ use Rattle.std.specs.Prelude.{◌≡◌, ◌⊎◌, ℕ, List, Option, Some, Non
 use Rattle.fv_base.specs.Faults.{out_of_memory}
 use Rattle.fv_base.specs.declared.fault.Fault.{Fault}
 use Rattle.fv_canon.specs.LayoutFaults.{FirstUnfit}
-use Rattle.fv_tree.specs.Meaning.{SectionMeanings, NoSections, BodyMeaning, Leaf, Group, Nested}
 use Rattle.fv_c.specs.ExtractedParts.{PartMeaning, IsPartImage, volumes_in_part}
-use Rattle.fv_c.specs.ReportedSections.{SectionRow, reported_section}
+use Rattle.fv_c.specs.ReportedSections.{SectionRow}
 use Rattle.fv_c.specs.declared.parts.PlacedSection.{PlacedSection}
-use Rattle.fv_c.specs.declared.sections.FvSection.{FvSection}
 
 -- a section that the walk has kept
 abbrev pub row_form : PlacedSection → SectionRow
 row_form p = record { parent = p.parent; depth = p.depth; section = p.section.now }
-
--- the same, as it is reported to C
-abbrev pub reported_row : PlacedSection → FvSection
-reported_row p = reported_section (row_form p)
-
--- the sections in a body
-abbrev pub sections_in : BodyMeaning → SectionMeanings
-sections_in (Leaf b) = NoSections
-sections_in (Group sections tail) = sections
-sections_in (Nested volume) = NoSections
 
 -- the bytes of the part, if there is one
 abbrev pub ShowsPart : Option PartMeaning → Option (List ℕ) → Type 0

@@ -4,7 +4,7 @@ use Rattle.std.proofs.Common.{◌≡◌, ℕ, ◌+◌, ◌%◌, List, [], ◌++�
 use Rattle.std.specs.Prelude.{sum}
 use Rattle.std.proofs.lemmas.List.Sums.{sum_by-append}
 use Rattle.fv_base.specs.Sinks.{WalkLaws}
-use Rattle.fv_base.specs.inner.WriteSinkLaws.{sums_joined}
+use Rattle.fv_base.specs.inner.SinkLaws.{sums_joined}
 use Rattle.fv_canon.specs.declared.summing_sink.Mode.{Mode}
 use Rattle.fv_canon.specs.declared.summing_sink.Mode.TheVariants.{Putting, Summing}
 use Rattle.fv_canon.specs.declared.summing_sink.SummingSink.{SummingSink}

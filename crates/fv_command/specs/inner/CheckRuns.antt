@@ -1,16 +1,12 @@
--- What a check has noted so far, what it wrote, and why it stopped.
-use Rattle.std.specs.Prelude.{◌≡◌, ◌⊎◌, ℕ, Bool, true, List, [], ◌++◌, Option, Some, None}
-use Rattle.fv_base.specs.Faults.{out_of_memory}
-use Rattle.fv_base.specs.declared.fault.Fault.{Fault}
+-- What a check has noted.
+use Rattle.std.specs.Prelude.{◌≡◌, ℕ, Bool, true, List, [], ◌++◌, Option, Some, None}
 use Rattle.fv_base.specs.declared.flash.Polarity.{Polarity}
-use Rattle.fv_canon.specs.Refusals.{NotRead}
 use Rattle.fv_file.specs.Cells.{CellForm}
 use Rattle.fv_tree.specs.Denotes.{Accepted}
 use Rattle.fv_tree.specs.Meaning.{Meaning, files_of}
 use Rattle.fv_lines.specs.declared.depex_notes.DepexNote.{DepexNote}
-use Rattle.fv_command.specs.CheckTexts.{AreCells, CheckText, verdict_line}
+use Rattle.fv_command.specs.CheckTexts.{AreCells, verdict_line}
 use Rattle.fv_lines.specs.Notes.{AreNotes, depex_lines, depexes_in, pad_notes}
-use Rattle.fv_text.specs.PortViews.{Shown, Writes, WritingStops}
 
 -- the cells of the input, and the polarity of its erased bytes; None if it is its own canonical image
 abbrev pub NotedCells : List ℕ → Bool → Option (List CellForm × Polarity) → Type 0
@@ -30,13 +26,3 @@ noted_lines tiled notes same = noted_pads tiled ++ (depex_lines notes ++ verdict
 abbrev pub NotedText : Option (List CellForm × Polarity) → Meaning → Bool → List ℕ → Type 0
 NotedText tiled m same text =
     (notes : List DepexNote) × AreNotes (depexes_in (files_of m)) notes × (text ≡ noted_lines tiled notes same)
-
--- the text of a check was written
-abbrev pub InputChecks : List ℕ → Shown → Shown → Bool → Type 0
-InputChecks input w v same = (text : List ℕ) × CheckText input same text × Writes w v text
-
--- nothing was written, because memory ran out or the input is no volume; or a write failed in the text of the check
-abbrev pub CheckStops : List ℕ → Shown → Shown → Fault → Type 0
-CheckStops input w v fault =
-    ((v ≡ w) × ((fault ≡ out_of_memory) ⊎ NotRead input fault))
-    ⊎ ((same : Bool) × (text : List ℕ) × CheckText input same text × WritingStops w v text fault)

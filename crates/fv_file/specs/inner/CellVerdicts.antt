@@ -1,21 +1,51 @@
--- The result at one place: a value, or the fault of the first check that does not hold.
-use Rattle.std.specs.Prelude.{ℕ, ◌+◌, ◌==◌, nat_lt, if◌then◌else◌, Option, Some, None, Result, Ok, Err, List, length}
+-- The four sorts of states: what a cell is by the state of its header. And the result at one place: a value, or the
+-- fault of the first check that does not hold.
+use Rattle.std.specs.Prelude.{ℕ, Bool, true, false, List, [], Option, Some, if◌then◌else◌, ◌+◌, ◌==◌, nat_lt, None}
+use Rattle.std.specs.Prelude.{Result, Ok, Err, length}
+use Rattle.fv_base.specs.Checks.{Check}
+use Rattle.fv_base.specs.declared.fault.Fault.{Fault}
+use Rattle.fv_base.specs.declared.flash.FileSystem.{FileSystem}
+use Rattle.fv_file.specs.FileChecks.{file_checks, stub_checks, leading_count, payload_at}
+use Rattle.fv_file.specs.States.{is_alive, state_of}
+use Rattle.fv_file.specs.declared.state.FileState.{FileState}
+use Rattle.fv_file.specs.declared.state.FileState.TheVariants as states
 use Rattle.fv_base.specs.inner.Verdicts.{first_fault, verdict_by}
 use Rattle.fv_base.specs.Faults.{outer_fault}
 use Rattle.fv_base.specs.Flash.{erased_byte}
 use Rattle.fv_base.specs.Value.{up_to_8}
-use Rattle.fv_base.specs.declared.fault.Fault.{Fault}
 use Rattle.fv_base.specs.declared.fault.FaultKind.TheVariants as kinds
-use Rattle.fv_base.specs.declared.flash.FileSystem.{FileSystem}
 use Rattle.fv_base.specs.declared.flash.Polarity.{Polarity}
-use Rattle.fv_file.specs.Cells.{CellForm, Valid, Pad, Dead, Stub, Free}
-use Rattle.fv_file.specs.FileChecks.{file_checks, stub_checks, leading_count, payload_at}
+use Rattle.fv_file.specs.Cells.{CellForm}
+use Rattle.fv_file.specs.Cells as cells
 use Rattle.fv_file.specs.Files.{head_in, pad_kind, state_at}
-use Rattle.fv_file.specs.States.{state_of, is_alive}
-use Rattle.fv_file.specs.inner.StateSorts as sorts
-use Rattle.fv_file.specs.inner.StateSorts.{StateSort, sort_of}
 use Rattle.fv_file.specs.declared.head.FileHead.{FileHead}
-use Rattle.fv_file.specs.declared.state.FileState.{FileState}
+
+-- nothing was written; the header was never finished; the file was deleted, or its data were never finished; the file
+-- is valid
+pub data StateSort : Type 0 where
+  Erased : StateSort
+  Unfinished : StateSort
+  Dead : StateSort
+  Valid : StateSort
+
+-- the sort of a state
+abbrev pub sort_of : FileState → StateSort
+sort_of states.Free = Erased
+sort_of states.Construction = Unfinished
+sort_of states.HeaderInvalid = Unfinished
+sort_of st = if is_alive st then Valid else Dead
+
+-- whether there is a state, and it is that of a header that was never finished
+abbrev pub is_unfinished : Option FileState → Bool
+is_unfinished (Some states.Construction) = true
+is_unfinished (Some states.HeaderInvalid) = true
+is_unfinished _ = false
+
+-- the checks of a cell by the sort of its state; a file of it is valid or not
+abbrev pub sort_checks : StateSort → FileSystem → Bool → ℕ → List ℕ → List (Check Fault)
+sort_checks Erased system alive p r = []
+sort_checks Unfinished system alive p r = stub_checks p r
+sort_checks _ system alive p r = file_checks system alive p r
 
 -- the header of a file at p
 unfoldable pub file_verdict : FileSystem → FileState → ℕ → List ℕ → Result FileHead Fault
@@ -23,13 +53,13 @@ file_verdict system state p r = verdict_by (first_fault (file_checks system (is_
 
 -- the cell at p of a header and data, by the sort of its state
 abbrev pub cell_of : StateSort → ℕ → FileHead → List ℕ → CellForm
-cell_of sorts.Unfinished p head payload = Stub p head.header_len
-cell_of sorts.Dead p head payload = Dead p (up_to_8 head.size) head.state
-cell_of _ p head payload = if head.kind == pad_kind then Pad p head payload else Valid p head payload
+cell_of Unfinished p head payload = cells.Stub p head.header_len
+cell_of Dead p head payload = cells.Dead p (up_to_8 head.size) head.state
+cell_of _ p head payload = if head.kind == pad_kind then cells.Pad p head payload else cells.Valid p head payload
 
 -- the cell at p, by the state that its State byte shows (the case without one is not used); r are the bytes from p on
 abbrev pub cell_in : Option FileState → ℕ → List ℕ → CellForm
-cell_in None p r = Free p 0
+cell_in None p r = cells.Free p 0
 cell_in (Some state) p r = cell_of (sort_of state) p (head_in state r) (payload_at r)
 
 -- the fault of bytes that are no cell and not all erased
@@ -43,9 +73,9 @@ cell_with sort p r (Err f) = Err f
 
 -- the cell at p of a state of this sort, or the fault
 abbrev pub sort_verdict : StateSort → FileState → FileSystem → Polarity → ℕ → List ℕ → Result CellForm Fault
-sort_verdict sorts.Erased state system polarity p r = Err (stray polarity p r)
-sort_verdict sorts.Unfinished state system polarity p r =
-    verdict_by (first_fault (stub_checks p r)) (cell_of sorts.Unfinished p (head_in state r) (payload_at r))
+sort_verdict Erased state system polarity p r = Err (stray polarity p r)
+sort_verdict Unfinished state system polarity p r =
+    verdict_by (first_fault (stub_checks p r)) (cell_of Unfinished p (head_in state r) (payload_at r))
 sort_verdict sort state system polarity p r = cell_with sort p r (file_verdict system state p r)
 
 -- the cell at p by the state that its State byte shows, or the fault

@@ -1,11 +1,13 @@
--- What the lines of cells need to know of the cells.
+-- What the lines of cells need to know of the cells, and notes that were put into a sink.
 use Rattle.std.specs.Prelude.{ℕ, ◌+◌, ◌≤◌, List}
 use Rattle.std.specs.List.{AllByRecursion, sum_by}
 use Rattle.fv_base.specs.Limits.{volume_limit}
 use Rattle.fv_file.specs.Cells.{CellForm, offset_of}
-use Rattle.fv_file.specs.CellLengths.{IsMadeUp, cell_len}
+use Rattle.fv_file.specs.CellForms.{IsMadeUp, cell_len}
 use Rattle.fv_lines.specs.CellTexts.{dead_length, file_length, filler_length, free_length, pad_length}
 use Rattle.fv_lines.specs.declared.cell_text.LengthSums.{LengthSums}
+use Rattle.fv_lines.specs.Notes.{AreNotes, HeldDepex, depex_lines}
+use Rattle.fv_lines.specs.declared.depex_notes.DepexNote.{DepexNote}
 
 -- a cell ends within the bytes that a volume may have
 pub record Fits (c : CellForm) : Type 0 where
@@ -30,3 +32,7 @@ sums_with sums c = record {
 -- all bytes that were counted
 abbrev pub counted : LengthSums → ℕ
 counted sums = sums.files + sums.pads + sums.deleted + sums.filler + sums.free
+
+-- the lines of the notes of these expressions were put
+abbrev pub PutsNotes : {S : Type 0} (takes : S → List ℕ → S → Type 0) → List HeldDepex → S → S → Type 0
+PutsNotes takes xs s t = (notes : List DepexNote) × AreNotes xs notes × takes s (depex_lines notes) t

@@ -247,10 +247,15 @@ fn fault_in(row: &FaultRow) -> DepexFault {
     }
 }
 
+// Whether bytes are rejected with a fault, which is found without memory too.
+fn has_fault_in(alloc: Global, bytes: &[u8], phase: Phase, fault: Option<DepexFault>) -> bool {
+    fault_of(alloc, bytes, phase) == fault && depex_fault(bytes, phase) == fault
+}
+
 // Whether the body of a row is rejected with its fault.
 fn is_rejected(alloc: Global, row: &FaultRow) -> bool {
     match joined(alloc, row.1, &[]) {
-        Ok(bytes) => fault_of(alloc, bytes.as_slice(), row.0) == Some(fault_in(row)),
+        Ok(bytes) => has_fault_in(alloc, bytes.as_slice(), row.0, Some(fault_in(row))),
         Err(_) => false,
     }
 }
@@ -266,6 +271,7 @@ fn each_fault_is_reported_at_its_place(rt: HostRuntime) {
     for at in 0..rows.len() {
         assert!(rt; is_rejected(rt.alloc(), &rows[at]), "{at}");
     }
+    assert!(rt; has_fault_in(rt.alloc(), &NOT_A, Phase::Dxe, None));
 }
 
 // The fault of the first `length` bytes of NOT_A, fewer than it has: the GUID is cut short, or END
@@ -286,7 +292,7 @@ fn expected_fault(length: usize) -> DepexFault {
 
 // Whether an expression of each phase has this fault.
 fn has_fault(alloc: Global, bytes: &[u8], fault: Option<DepexFault>) -> bool {
-    fault_of(alloc, bytes, Phase::Pei) == fault && fault_of(alloc, bytes, Phase::Dxe) == fault
+    has_fault_in(alloc, bytes, Phase::Pei, fault) && has_fault_in(alloc, bytes, Phase::Dxe, fault)
 }
 
 #[test]
@@ -295,21 +301,4 @@ fn no_first_part_of_an_expression_is_accepted(rt: HostRuntime) {
         let fault = Some(expected_fault(length));
         assert!(rt; has_fault(rt.alloc(), &NOT_A[..length], fault), "{length}");
     }
-}
-
-// Whether the fault of a row is found in its body.
-fn is_found(alloc: Global, row: &FaultRow) -> bool {
-    match joined(alloc, row.1, &[]) {
-        Ok(bytes) => depex_fault(bytes.as_slice(), row.0) == Some(fault_in(row)),
-        Err(_) => false,
-    }
-}
-
-#[test]
-fn faults_are_found_without_memory(rt: HostRuntime) {
-    let rows = fault_rows();
-    for at in 0..rows.len() {
-        assert!(rt; is_found(rt.alloc(), &rows[at]), "{at}");
-    }
-    assert!(rt; depex_fault(&NOT_A, Phase::Pei).is_none());
 }

@@ -1,13 +1,13 @@
 //! The values of expressions.
 
-use super::{A, B, Parts, long_expression};
+use super::{A, B, Parts, is_written_as, long_expression};
 use crate::parts::joined;
 use fv_base::Guid;
 use fv_depex::{Depex, Phase, evaluate, read_depex};
 use std::alloc::Global;
 
 /// The body, and its value if nothing is installed, only A, only B, and both.
-pub(super) type ValueRow = (Parts, [bool; 4]);
+type ValueRow = (Parts, [bool; 4]);
 
 /// Expressions that have values.
 const VALUES: &[ValueRow] = &[
@@ -71,10 +71,11 @@ fn has_values(alloc: Global, depex: &Depex, expected: Values) -> bool {
         && evaluate(alloc, depex, &[b, a]) == Ok(both)
 }
 
-// Whether the bytes are read as an expression of the phase that has these values.
+// Whether the bytes are read as an expression of the phase that has these values, and is written as
+// it was.
 fn is_valued(alloc: Global, bytes: &[u8], phase: Phase, expected: Values) -> bool {
     match read_depex(alloc, bytes, phase) {
-        Ok(depex) => has_values(alloc, &depex, expected),
+        Ok(depex) => { has_values(alloc, &depex, expected) && is_written_as(alloc, &depex, bytes) }
         Err(_) => false,
     }
 }
@@ -95,12 +96,12 @@ fn is_row_valued(alloc: Global, row: &ValueRow) -> bool {
 }
 
 // The rows. What names a large constant is proved with all of it, so only this function does.
-pub(super) fn value_rows() -> &'static [ValueRow] {
+fn value_rows() -> &'static [ValueRow] {
     VALUES
 }
 
 #[test]
-fn expressions_have_values(rt: HostRuntime) {
+fn expressions_have_values_and_are_written(rt: HostRuntime) {
     let rows = value_rows();
     for at in 0..rows.len() {
         assert!(rt; is_row_valued(rt.alloc(), &rows[at]), "{at}");

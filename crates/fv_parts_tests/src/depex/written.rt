@@ -1,9 +1,8 @@
 //! Expressions that are written back.
 
-use super::values::value_rows;
-use super::{A, B, ORDER, Parts, long_expression};
+use super::{A, B, ORDER, Parts, is_written_as};
 use crate::parts::joined;
-use fv_depex::{Depex, Phase, depex_bytes, read_depex};
+use fv_depex::{Phase, read_depex};
 use std::alloc::Global;
 
 /// Further bodies, and their phases.
@@ -17,14 +16,6 @@ const BODIES: &[(Phase, Parts)] = &[
     (Phase::Dxe, &[&[0x01], &B, &[0x08, 0x09, 0x06, 0x08]]),
     (Phase::Pei, &[&[0x02], &ORDER, &[0x08]]),
 ];
-
-// Whether an expression is written as these bytes.
-fn is_written_as(alloc: Global, depex: &Depex, bytes: &[u8]) -> bool {
-    match depex_bytes(alloc, depex) {
-        Ok(written) => written.as_slice() == bytes,
-        Err(_) => false,
-    }
-}
 
 // Whether a body is written as it was read.
 fn is_written_back(alloc: Global, bytes: &[u8], phase: Phase) -> bool {
@@ -43,28 +34,10 @@ fn parts_are_written_back(alloc: Global, parts: Parts, phase: Phase) -> bool {
 }
 
 #[test]
-fn expressions_are_written_as_they_were_read(rt: HostRuntime) {
-    let rows = value_rows();
-    for at in 0..rows.len() {
-        let (parts, _) = rows[at];
-        assert!(rt;
-            parts_are_written_back(rt.alloc(), parts, Phase::Dxe),
-            "{at}"
-        );
-    }
-}
-
-#[test]
 fn further_expressions_are_written_as_they_were_read(rt: HostRuntime) {
     let rows = BODIES;
     for at in 0..rows.len() {
         let (phase, parts) = rows[at];
         assert!(rt; parts_are_written_back(rt.alloc(), parts, phase), "{at}");
     }
-}
-
-#[test]
-fn a_long_expression_is_written(rt: HostRuntime) {
-    let bytes = long_expression(0x05);
-    assert!(rt; is_written_back(rt.alloc(), &bytes, Phase::Dxe));
 }

@@ -1,8 +1,8 @@
 //! Volumes with block maps of other lengths.
 
-use super::{has_canonical_head, overwrite_each};
+use super::{is_made, overwrite_each};
 use fv_base::{Fault, FaultKind};
-use fv_head::{Extent, VolumeHead, read_head, verify_fv};
+use fv_head::{Extent, VolumeHead, head_bytes, read_head, verify_fv};
 use std::alloc::Global;
 
 /// The first 32 bytes of a volume: its zero vector and its file system.
@@ -87,47 +87,36 @@ fn is_head_of(head: &VolumeHead, extent: Extent, blocks: &[(u8, u8)]) -> bool {
         && has_blocks(head, blocks)
 }
 
-// Whether the bytes are read as a volume with these blocks.
-fn is_read_with(alloc: Global, bytes: &[u8], blocks: &[(u8, u8)]) -> bool {
+// Whether the bytes are read as a volume with these blocks, and its head is written as these.
+fn is_read_with(alloc: Global, bytes: &[u8], blocks: &[(u8, u8)], written: &[u8]) -> bool {
     match read_head(alloc, bytes) {
-        Ok((head, extent)) => is_head_of(&head, extent, blocks),
+        Ok((head, extent)) => {
+            is_head_of(&head, extent, blocks) && is_made(head_bytes(alloc, &head), written)
+        }
         Err(_) => false,
     }
 }
 
-// Whether a volume is read.
+// Whether a volume is read, and its head is written as it was.
 fn is_volume_read(alloc: Global, length: u16, words: [u8; 4], blocks: &[(u8, u8)]) -> bool {
     let mut bytes = [0; 4096];
     put_volume(&mut bytes, length, words, blocks);
-    is_read_with(alloc, &bytes[..usize::from(length).min(4096)], blocks)
-}
-
-#[test]
-fn block_maps_of_any_length_are_read(rt: HostRuntime) {
-    for (length, words, blocks) in READ {
-        assert!(rt;
-            is_volume_read(rt.alloc(), length, words, blocks),
-            "{length}"
-        );
-    }
-}
-
-// Whether the head of a volume is written as it was read.
-fn is_volume_written(alloc: Global, length: u16, words: [u8; 4], blocks: &[(u8, u8)]) -> bool {
-    let mut bytes = [0; 4096];
-    put_volume(&mut bytes, length, words, blocks);
     let header_len = u16::from_le_bytes([words[0], words[1]]);
-    has_canonical_head(
+    is_read_with(
         alloc,
         &bytes[..usize::from(length).min(4096)],
+        blocks,
         &bytes[..usize::from(header_len).min(4096)],
     )
 }
 
 #[test]
-fn block_maps_of_any_length_are_written(rt: HostRuntime) {
+fn block_maps_of_any_length_are_read_and_written(rt: HostRuntime) {
     for (length, words, blocks) in READ {
-        assert!(rt; is_volume_written(rt.alloc(), length, words, blocks));
+        assert!(rt;
+            is_volume_read(rt.alloc(), length, words, blocks),
+            "{length}"
+        );
     }
 }
 

@@ -1,6 +1,6 @@
 //! The lengths that the blocks of each type may have.
 
-use super::{END, HANDOFF, fault_of, header_of, is_written_as};
+use super::{END, HANDOFF, fault_of, header_of, is_list_written_as};
 use crate::parts::overwrite;
 use fv_hob::{HobFault, HobFaultKind, HobList, read_hobs};
 use std::alloc::{AllocError, Global};
@@ -45,11 +45,13 @@ fn has_second(list: &HobList, code: u16, length: u16) -> bool {
     }
 }
 
-// Whether the bytes are read as a list with such a block, to their end.
+// Whether the bytes are read as a list with such a block, to their end, and written as they were.
 fn is_read_with(alloc: Global, bytes: &[u8], code: u16, length: u16) -> bool {
     match read_hobs(alloc, bytes) {
         Ok((list, found)) => {
-            found == 64u64.wrapping_add(u64::from(length)) && has_second(&list, code, length)
+            found == 64u64.wrapping_add(u64::from(length))
+                && has_second(&list, code, length)
+                && is_list_written_as(alloc, &list, bytes)
         }
         Err(_) => false,
     }
@@ -58,10 +60,7 @@ fn is_read_with(alloc: Global, bytes: &[u8], code: u16, length: u16) -> bool {
 // Whether a list with such a block is read, and written as it was.
 fn is_accepted(alloc: Global, code: u16, length: u16) -> bool {
     match list_with(alloc, code, length) {
-        Ok(bytes) => {
-            let list = bytes.as_slice();
-            is_read_with(alloc, list, code, length) && is_written_as(alloc, list, list)
-        }
+        Ok(bytes) => is_read_with(alloc, bytes.as_slice(), code, length),
         Err(_) => false,
     }
 }

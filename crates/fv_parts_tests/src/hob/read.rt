@@ -1,29 +1,53 @@
-//! Lists that are read.
+//! Lists that are read and written back, and the volumes that they describe.
 
-use super::FURTHER;
-use super::known::{Known, is_found, lists};
-use crate::parts::joined;
-use fv_hob::read_hobs;
+use super::known::{Block, Known, are_described, is_found, lists};
+use super::{FURTHER, is_list_written_as};
+use crate::parts::{joined, overwrite};
+use fv_hob::{HobList, read_hobs, volume_hobs};
 use std::alloc::Global;
 
-// Whether the bytes are read as a list.
-fn is_read_as(alloc: Global, bytes: &[u8], known: &Known) -> bool {
-    match read_hobs(alloc, bytes) {
-        Ok((list, length)) => is_found(list.as_slice(), length, known),
+// Whether a list describes the volumes of these blocks.
+fn has_volumes(alloc: Global, list: &HobList, blocks: &[Block]) -> bool {
+    match volume_hobs(alloc, list) {
+        Ok(spans) => are_described(spans.as_slice(), blocks),
         Err(_) => false,
     }
 }
 
-// Whether a list is read if the first parts of FURTHER follow, this many.
+// Whether the bytes are read as a list that describes its volumes and is written as these bytes.
+fn is_read_as(alloc: Global, bytes: &[u8], known: &Known, written: &[u8]) -> bool {
+    match read_hobs(alloc, bytes) {
+        Ok((list, length)) => {
+            is_found(list.as_slice(), length, known)
+                && has_volumes(alloc, &list, known.blocks)
+                && is_list_written_as(alloc, &list, written)
+        }
+        Err(_) => false,
+    }
+}
+
+// Whether the bytes are read as a list, and written as it was. Only the body of the unused block,
+// which is at 312, is not kept.
+fn is_written_back(alloc: Global, bytes: &[u8], known: &Known) -> bool {
+    match joined(alloc, known.parts, &[]) {
+        Ok(mut written) => {
+            overwrite(written.as_mut_slice(), 320, &[0; 16]);
+            is_read_as(alloc, bytes, known, written.as_slice())
+        }
+        Err(_) => false,
+    }
+}
+
+// Whether a list is read and written if the first parts of FURTHER follow, this many.
 fn is_read_before(alloc: Global, known: &Known, more: usize) -> bool {
     match joined(alloc, known.parts, &FURTHER[..more.min(FURTHER.len())]) {
-        Ok(bytes) => is_read_as(alloc, bytes.as_slice(), known),
+        Ok(bytes) => is_written_back(alloc, bytes.as_slice(), known),
         Err(_) => false,
     }
 }
 
 #[test]
-fn lists_are_read_whatever_follows(rt: HostRuntime) {
+fn lists_are_read_and_written_whatever_follows(rt: HostRuntime) {
     for known in lists() {
         for more in 0..5usize {
             assert!(rt; is_read_before(rt.alloc(), known, more), "{more}");

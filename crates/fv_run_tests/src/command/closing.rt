@@ -3,23 +3,16 @@
 use super::runs::{Input, ends_as};
 use crate::fakes::FakeWriter;
 use fv_base::{Fault, FaultKind, Port};
-use fv_command::{Output, Status, close, refuse, say};
+use fv_command::{Status, refuse, say};
 use fv_plan::{Command, Plan, Task, VolumeFile};
 use std::alloc::Global;
-use std::io::BufWriter;
 
-// The status of a run that reports a wrong command line.
-fn closed_after(alloc: Global, inner: &mut FakeWriter) -> Option<Status> {
-    let mut writer = Port::new(BufWriter::new(alloc, Output::new(inner)).ok()?);
-    let status = say(&mut writer, "wrong words\n", Status::WrongWords);
-    Some(close(writer, status).0)
-}
-
-// Whether that run ends with this status and writes these bytes, if the writer has room for `room`
-// bytes.
+// Whether a run that reports a wrong command line ends with this status and writes these bytes, if
+// the writer has room for `room` bytes.
 fn is_closed_as(alloc: Global, room: usize, wanted: &[u8], ended: Status) -> bool {
-    let mut inner = FakeWriter::new(alloc, 5, room, true);
-    closed_after(alloc, &mut inner) == Some(ended) && inner.took_only(wanted)
+    let mut writer = Port::new(FakeWriter::new(alloc, 5, room, true));
+    let status = say(&mut writer, "wrong words\n", Status::WrongWords);
+    status == ended && writer.into_inner().took_only(wanted)
 }
 
 #[test]
@@ -27,6 +20,41 @@ fn a_run_is_closed_once(rt: HostRuntime) {
     let alloc = rt.alloc();
     assert!(rt; is_closed_as(alloc, 12, b"wrong words\n", Status::WrongWords));
     assert!(rt; is_closed_as(alloc, 11, b"wrong words", Status::Refused));
+}
+
+// Whether a run that reports a wrong command line is refused if the flush after the line fails.
+fn needs_its_flush(alloc: Global) -> bool {
+    let mut writer = Port::new(FakeWriter::without_flush(alloc));
+    let status = say(&mut writer, "wrong words\n", Status::WrongWords);
+    status == Status::Refused && writer.into_inner().took_only(b"wrong words\n")
+}
+
+// Whether a search for volumes in no bytes is refused if the flush after its lines fails.
+fn search_needs_its_flush(alloc: Global) -> bool {
+    let command = Command::Single {
+        task: Task::Scan,
+        at: None,
+        file: None,
+    };
+    let plan = Plan {
+        hex: false,
+        command,
+    };
+    let writer = FakeWriter::without_flush(alloc);
+    ends_as(
+        alloc,
+        &plan,
+        (Input::Nothing, Input::Nothing),
+        writer,
+        (2, b""),
+    )
+}
+
+#[test]
+fn a_failed_flush_is_a_refusal(rt: HostRuntime) {
+    let alloc = rt.alloc();
+    assert!(rt; needs_its_flush(alloc));
+    assert!(rt; search_needs_its_flush(alloc));
 }
 
 // Whether a run that ran out of memory is refused with its line.

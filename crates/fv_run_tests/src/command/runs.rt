@@ -12,7 +12,7 @@ use crate::fakes::{FakeReader, FakeWriter};
 use crate::row_bytes::bytes_of;
 use crate::volumes::{refused, row_of, volumes};
 use fv_base::Port;
-use fv_command::{Source, run_plan};
+use fv_command::{Source, Status, run_plan};
 use fv_plan::{Command, Plan};
 use std::alloc::Global;
 use std::io::Read;
@@ -23,7 +23,8 @@ const STEPS: [usize; 3] = [1, 3, 65_536];
 /// An input that can be read, or a file that does not exist.
 pub(crate) type Input<'a> = Source<FakeReader<'a>, FakeReader<'a>>;
 
-/// Whether a run of the plan ends with the status, and writes these bytes and nothing after them.
+/// Whether a run of the plan ends with the status, writes these bytes and nothing after them, and
+/// then asks once for a flush, unless it is refused.
 pub(crate) fn ends_as<First: Read + Drop, Second: Read + Drop>(
     alloc: Global,
     plan: &Plan,
@@ -35,7 +36,10 @@ pub(crate) fn ends_as<First: Read + Drop, Second: Read + Drop>(
     let mut second = Port::new(inputs.1);
     let mut writer = Port::new(writer);
     let status = run_plan(alloc, plan, &mut first, &mut second, &mut writer);
-    u64::from(status.code()) == wanted.0 && writer.into_inner().took_only(wanted.1)
+    let inner = writer.into_inner();
+    u64::from(status.code()) == wanted.0
+        && inner.took_only(wanted.1)
+        && (status == Status::Refused || inner.was_flushed())
 }
 
 // Whether the run ends as expected if its readers give `step` bytes at once.

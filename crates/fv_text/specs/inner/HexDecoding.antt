@@ -2,7 +2,7 @@
 use Rattle.std.specs.Prelude.{◌≡◌, ℕ, ◌+◌, ◌*◌, Bool, List, [], ◌∷◌, ◌++◌, ◌<◌, ◌≤◌, true, false, Option, take, length}
 use Rattle.std.specs.Option.{unwrap_or}
 use Rattle.hex.specs.Hex.{hex_digit_value}
-use Rattle.fv_text.specs.HexPairs.{squeezed, DigitsSpell}
+use Rattle.fv_text.specs.HexIn.{squeezed, DigitsSpell, IsNoText, IsLongText}
 use Rattle.std.specs.Io.KnownBytes.{Consumes, IsAtEnd, Keeps}
 use Rattle.fv_base.specs.declared.fault.Fault.{Fault}
 use Rattle.fv_base.specs.declared.fault.FaultKind.{FaultKind}
@@ -11,7 +11,6 @@ use Rattle.fv_base.specs.Limits.{volume_limit}
 use Rattle.fv_text.specs.declared.hex_text.Decoder.{Decoder}
 use Rattle.fv_text.specs.declared.hex_text.Piece.{Piece}
 use Rattle.fv_text.specs.declared.hex_text.Piece.TheVariants as pieces
-use Rattle.fv_text.specs.HexIn.{IsNoText, IsLongText}
 
 -- the value of a digit, in upper or lower case; 16 of what is no digit
 abbrev pub value_or_16 : ℕ → ℕ
@@ -74,3 +73,9 @@ pub record AddsDigits (was_long is_long : Bool) (held holds digits : List ℕ) :
 pub record DecodesPairs (old new : Decoder) : Type 0 where
   pub wrong : new.is_wrong ≡ true → IsSpoilt old.digits.items
   pub right : new.is_wrong ≡ false → AddsDigits old.is_long new.is_long old.bytes.items new.bytes.items old.digits.items
+
+-- a text is put at a place of a room, without its white space: up to the end, which is within its length
+pub record IsPutKept (text : List ℕ) (start : ℕ) (old new : List ℕ) (end : ℕ) : Type 0 where
+  pub put : take end new ≡ take start old ++ squeezed text
+  pub within : end ≤ start + length text
+  pub len : length new ≡ length old

@@ -1,13 +1,40 @@
--- The laws of a sink that writes lines of digits. They are proofs. They are in specs/ because a ghost member cites the
--- last of them.
-use Rattle.std.proofs.Common.{ℕ, List, [], ◌∷◌, ◌++◌, sym, ◌∙◌, ap, subst, append_assoc, append-nil}
+-- The laws of a sink in which bytes wait before they are put into a sink below: as they are, or as lines of digits. They
+-- are proofs. They are in specs/ because ghost members cite some of them.
+use Rattle.std.proofs.Common.{ℕ, List, [], ◌++◌, sym, ◌∙◌, ap, append_assoc, append-nil, ◌∷◌, subst}
+use Rattle.fv_base.specs.Sinks.{WalkLaws}
+use Rattle.fv_text.specs.HexSinks.{Gathered, GatheringTakes, HexTakes, Lined}
 use Rattle.std.specs.List.{AllByRecursion, concat}
 use Rattle.std.proofs.lemmas.List.Concat.{flat_map-append}
 use Rattle.std.proofs.lemmas.List.Folds.{concat-append}
-use Rattle.fv_base.specs.Sinks.{WalkLaws}
-use Rattle.fv_text.specs.HexSinks.{HexTakes, Lined}
 use Rattle.fv_text.specs.HexText.{IsWholeLine, line_text, lines_text}
-use Rattle.fv_text.specs.inner.WaitingLaws.{waiting_by}
+
+-- what the sink below and the bytes that wait do, before and after, the sink above does
+pub waiting_by : {S H : Type 0} (moves : S → List ℕ → List ℕ → S → List ℕ → Type 0) (below : H → S) (waiting : H → List ℕ)
+    → ((s : S) (p : List ℕ) → moves s p [] s p)
+    → ((s t u : S) (p q r a b : List ℕ) → moves s p a t q → moves t q b u r → moves s p (a ++ b) u r)
+    → WalkLaws (λ (h : H) (bytes : List ℕ) (k : H). moves (below h) (waiting h) bytes (below k) (waiting k))
+waiting_by moves below waiting none joined = record {
+  none = λ h. none (below h) (waiting h);
+  joined = λ h k l. joined (below h) (below k) (below l) (waiting h) (waiting k) (waiting l);
+}
+
+pub gathered_none : {S : Type 0} (takes : S → List ℕ → S → Type 0) → WalkLaws takes → (s : S) (p : List ℕ)
+    → Gathered takes s p [] s p
+gathered_none takes laws s p = record { passed = []; joined = append-nil p; taken = laws.none s }
+
+pub gathered_joined : {S : Type 0} (takes : S → List ℕ → S → Type 0) → WalkLaws takes → (s t u : S) (p q r a b : List ℕ)
+    → Gathered takes s p a t q → Gathered takes t q b u r → Gathered takes s p (a ++ b) u r
+gathered_joined takes laws s t u p q r a b x y = record {
+  passed = x.passed ++ y.passed;
+  joined = sym (append_assoc p a b) ∙ ap (λ (l : List ℕ). l ++ b) x.joined ∙ append_assoc x.passed q b
+      ∙ ap (λ (l : List ℕ). x.passed ++ l) y.joined ∙ sym (append_assoc x.passed y.passed r);
+  taken = laws.joined s t u x.passed y.passed x.taken y.taken;
+}
+
+pub gathered_by : {S H : Type 0} (takes : S → List ℕ → S → Type 0) (below : H → S) (waiting : H → List ℕ) → WalkLaws takes
+    → WalkLaws (GatheringTakes takes below waiting)
+gathered_by takes below waiting laws =
+    waiting_by (Gathered takes) below waiting (gathered_none takes laws) (gathered_joined takes laws)
 
 whole_more : (xs ys : List (List ℕ)) → AllByRecursion IsWholeLine xs → AllByRecursion IsWholeLine ys
     → AllByRecursion IsWholeLine (xs ++ ys)

@@ -12,7 +12,7 @@ use Rattle.fv_head.specs.Head.{HeadFields}
 use Rattle.fv_tree.specs.Meaning.{Meaning, Volume, FileMeanings, NoFiles, MoreFiles, FileMeaning, File, ContentMeaning}
 use Rattle.fv_tree.specs.Meaning.{Plain, Sectioned, SectionMeanings, NoSections, MoreSections, SectionMeaning, Section}
 use Rattle.fv_tree.specs.Meaning.{BodyMeaning, Leaf, Group, Nested}
-use Rattle.fv_tree.specs.FileSystems.{is_ffs3}
+use Rattle.fv_tree.specs.Difference.{is_ffs3}
 
 abbrev pub bytes_code : Coded (List ℕ)
 bytes_code = coded_list coded_ℕ
@@ -28,9 +28,6 @@ pub system_back : (s : FileSystem) → system_by (is_ffs3 s) ≡ s
 system_back Ffs2 = refl
 system_back Ffs3 = refl
 
-abbrev pub system_code : Coded FileSystem
-system_code = code_by Bool coded_bool is_ffs3 system_by system_back
-
 abbrev pub extension_code : Coded Extension
 extension_code =
     code_by (Guid × (List (ℕ × List ℕ) × List ℕ))
@@ -40,7 +37,7 @@ extension_code =
 abbrev pub head_code : Coded HeadFields
 head_code =
     code_by (List ℕ × (FileSystem × (ℕ × (ℕ × (ℕ × (List (ℕ × ℕ) × Option Extension))))))
-    (coded× bytes_code (coded× system_code (coded× coded_ℕ
+    (coded× bytes_code (coded× (code_by Bool coded_bool is_ffs3 system_by system_back) (coded× coded_ℕ
     (coded× coded_ℕ (coded× coded_ℕ (coded× (coded_list (coded× coded_ℕ coded_ℕ)) (coded_option extension_code)))))))
     (λ h. (h.zero_vector, (h.file_system, (h.length, (h.attributes, (h.reserved, (h.blocks, h.ext)))))))
     (λ p. record {

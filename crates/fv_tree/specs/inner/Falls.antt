@@ -1,11 +1,9 @@
 -- Each part of a section or a content is smaller than it.
 use Rattle.std.specs.Prelude.{◌+◌, ◌≤◌}
 use Rattle.std.proofs.Common.{arith}
-use Rattle.fv_tree.specs.SectionParts.{sections_of, parts_view}
-use Rattle.fv_tree.specs.inner.Sizes.{content_size, section_size, sections_size}
+use Rattle.fv_tree.specs.Views.{sections_of, parts_view, content_view}
+use Rattle.fv_tree.specs.inner.Sizes.{content_size, section_size, sections_size, sections_fall}
 use Rattle.fv_tree.specs.MeaningParts.{sections_from}
-use Rattle.fv_tree.specs.Views.{content_view}
-use Rattle.fv_tree.specs.inner.ListFalls.{sections_fall}
 use Rattle.fv_tree.specs.declared.view.Parts.{Parts}
 use Rattle.fv_tree.specs.declared.view.Parts.TheVariants.{Leaf, Group, Nested}
 use Rattle.fv_tree.specs.declared.view.Sections.{Sections}

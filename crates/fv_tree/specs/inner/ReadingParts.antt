@@ -1,5 +1,21 @@
--- What a reader of a part of a volume returns, and what it knows of the files.
-use Rattle.std.specs.Prelude.{◌≢◌, ℕ, ◌+◌, ◌<◌, ◌≤◌, ◌^◌, List, length, Result, MatchResult}
+-- What a file keeps of its header, and what follows from that; how the body of a section is read; what a reader of a
+-- part of a volume returns, and what it knows of the files.
+use Rattle.std.specs.Prelude.{◌≡◌, ℕ, ◌+◌, ◌<◌, ◌^◌, Bool, true, false, List, length, ◌==◌, ◌&&◌, if◌then◌else◌, ◌≢◌}
+use Rattle.std.specs.Prelude.{◌≤◌, Result, MatchResult}
+use Rattle.fv_file.specs.Attributes.{attribute_bits}
+use Rattle.fv_file.specs.Cells.{CellForm, Valid}
+use Rattle.fv_file.specs.NewHeaders.{file_sum_for}
+use Rattle.fv_file.specs.declared.head.FileHead.{FileHead}
+use Rattle.fv_file.specs.declared.state.FileState.{FileState}
+use Rattle.fv_file.specs.declared.state.FileState.TheVariants as states
+use Rattle.fv_tree.specs.LocatedFiles.{state_by, header_len_by}
+use Rattle.fv_tree.specs.declared.volume_files.Mark.{Mark}
+use Rattle.fv_tree.specs.declared.volume_files.Mark.TheVariants as marks
+use Rattle.fv_head.specs.HeadChecks.{is_one_volume}
+use Rattle.fv_section.specs.Frames.{FrameForm}
+use Rattle.fv_tree.specs.Denotes.{group_kind, volume_kind}
+use Rattle.fv_tree.specs.declared.shape.Shape.{Shape}
+use Rattle.fv_tree.specs.declared.shape.Shape.TheVariants as shapes
 use Rattle.std.specs.List.{AllByRecursion}
 use Rattle.fv_base.specs.Faults.{out_of_memory}
 use Rattle.fv_base.specs.Limits.{volume_limit}
@@ -7,6 +23,33 @@ use Rattle.fv_base.specs.declared.fault.Fault.{Fault}
 use Rattle.fv_tree.specs.ReadParts.{IsStoredFile}
 use Rattle.fv_tree.specs.Files.{FileForm}
 use Rattle.fv_tree.specs.FirstFault.{data_place}
+
+-- the mark of a valid file of this state
+abbrev pub mark_of : FileState → Mark
+mark_of states.Marked = marks.Marked
+mark_of _ = marks.Unmarked
+
+-- whether a mark notes that one of the files replaces the file
+abbrev pub is_noted : Mark → Bool
+is_noted marks.Replaced = true
+is_noted _ = false
+
+-- what a file does not keep of its header follows from what it keeps
+pub record FollowsFrom (head : FileHead) (payload : List ℕ) : Type 0 where
+  pub size : head.size ≡ header_len_by (attribute_bits head.attributes) + length payload
+  pub header_len : head.header_len ≡ header_len_by (attribute_bits head.attributes)
+  pub file_sum : head.file_sum ≡ file_sum_for (attribute_bits head.attributes) payload
+  pub state : head.state ≡ state_by (mark_of head.state)
+
+-- if the cell is a valid file, its header follows from what is kept of it, and its offset fits in 32 bits
+abbrev pub IsSmallCell : CellForm → Type 0
+IsSmallCell (Valid at head payload) = (at < 2 ^ 32) × FollowsFrom head payload
+IsSmallCell _ = Unit {0}
+
+abbrev pub shape_of : FrameForm → Shape
+shape_of f =
+    if f.kind == group_kind then shapes.Group
+    else (if (f.kind == volume_kind) && is_one_volume f.body then shapes.Volume else shapes.Leaf)
 
 -- P holds of the value that was read; or F of the fault, unless memory ran out
 abbrev pub Reads : {T : Type 0} → (T → Type 0) → (Fault → Type 0) → Result T Fault → Type 0

@@ -6,8 +6,7 @@ ghost use Rattle.fv_tree.specs.ReadParts.{IsReadSection};
 ghost use Rattle.fv_tree.specs.Meaning.{Section, Leaf, Group, Nested, sections_end, body_len};
 ghost use Rattle.fv_tree.specs.MeaningParts.{sections_from};
 ghost use Rattle.fv_tree.specs.MeaningParts.{section_kind_of, section_is_extended, body_of, leaf_of};
-ghost use Rattle.fv_tree.specs.SectionParts.{sections_of};
-ghost use Rattle.fv_tree.specs.Views.{body_view};
+ghost use Rattle.fv_tree.specs.Views.{sections_of, body_view};
 
 use super::{Body, Parts, SectionView, Sections, VolumeView};
 use fv_base::Fault;

@@ -1,30 +1,30 @@
-use Rattle.std.proofs.Common.{◌∙◌, Some, ap, codes, inl, inr, refl, sym}
-use Rattle.fv_arguments.proofs.NumberLemmas.{at_answer}
+use Rattle.std.proofs.Common.{◌∙◌, codes, refl}
 use Rattle.fv_arguments.proofs.ReadLemmas.{text_answer}
-use Rattle.fv_arguments.proofs.RefusalLemmas.{no_files}
+use Rattle.fv_arguments.proofs.RefusalLemmas.{right_volumes}
+use Rattle.fv_arguments.proofs.TaskLemmas.{handed}
 use Rattle.fv_arguments.proofs.options.compare.Goals as goal
-use Rattle.fv_arguments.proofs.options.compare.Goals.{in_default-via-in-Some+in_default, in_default-via-in_default}
 
-pub returns-in_ok-from_str-in-Some-Some-2 : goal.returns-in_ok-from_str-in-Some-Some-2
-returns-in_ok-from_str-in-Some-Some-2 c = λ rest r.
-    let files = c.in-Some-Some in
-    let at = c.get_one in
-    let other_at = c.get_one-in-Some-Some in (
-      refl,
-      (
-        (
-          ap Some c.in_ok-from_str-in-Some-Some.ensures.ok ∙ files.ensures ∙ text_answer r (codes "first"),
-          at_answer (codes "at") refl r at.result at.ensures.none at.ensures.value,
-        ),
-        (
-          ap Some c.in_ok-from_str-in-Some-Some-2.ensures.ok ∙ files.ensures' ∙ text_answer r (codes "second"),
-          at_answer (codes "other-at") refl r other_at.result other_at.ensures.none other_at.ensures.value,
-        ),
-      ),
-    )
+pub returns-in_err-first : goal.returns-in_err-first
+returns-in_err-first c =
+    handed (codes "compare") _ _ _ c.from_residual.ensures.1 (λ words rest r right.
+    let volumes = right_volumes rest right in
+    c.in_err-first.ensures words volumes.0
+    (rw (c.get_str.ensures ∙ text_answer r (codes "first"), c.get_str-at.ensures ∙ text_answer r (codes "at")) volumes.2))
 
-pub returns-in_default : goal.returns-in_default
-returns-in_default c = λ is rest r right. no_files rest (elim c.in_default.branch [
-  | in_default-via-in-Some+in_default w ↦ inr (sym (w.in_default.ensures' ∙ text_answer r (codes "second")))
-  | in_default-via-in_default w ↦ inl (sym (w.in_default.ensures ∙ text_answer r (codes "first")))
-]) right
+pub returns-in_err-second : goal.returns-in_err-second
+returns-in_err-second c =
+    handed (codes "compare") _ _ _ c.from_residual-in_err-second.ensures.1 (λ words rest r right.
+    let volumes = right_volumes rest right in
+    c.in_err-second.ensures words volumes.1
+    (rw (c.get_str-2.ensures ∙ text_answer r (codes "second"), c.get_str-other_at.ensures ∙ text_answer r (codes "other-at")) volumes.3))
+
+pub returns : goal.returns
+returns c = λ rest r. (
+  refl,
+  (
+    rw (← c.get_str.ensures ∙ text_answer r (codes "first"), ← c.get_str-at.ensures ∙ text_answer r (codes "at"))
+        c.in_ok-first.ensures,
+    rw (← c.get_str-2.ensures ∙ text_answer r (codes "second"), ← c.get_str-other_at.ensures ∙ text_answer r (codes "other-at"))
+        c.in_ok-second.ensures,
+  ),
+)

@@ -1,14 +1,19 @@
-use Rattle.std.proofs.Common.{◌∙◌, codes, inl, inr, refl, sym}
-use Rattle.fv_arguments.proofs.FlagLemmas.{flag_answer}
-use Rattle.fv_arguments.proofs.TaskLemmas.{by_flag}
+use Rattle.std.proofs.Common.{◌∙◌, codes, refl, sym}
+use Rattle.fv_arguments.proofs.RefusalLemmas.{right_input}
+use Rattle.fv_arguments.proofs.TaskLemmas.{by_flag, handed}
 use Rattle.fv_arguments.specs.Options.{list_app}
 use Rattle.fv_plan.specs.declared.plan.Task.TheVariants.{List as Listing, ListSums}
 use Rattle.fv_arguments.proofs.options.list.Goals as goal
 
+pub returns-in_err-at : goal.returns-in_err-at
+returns-in_err-at c =
+    handed (codes "list") _ _ _ c.from_residual.ensures.1 (λ words rest r right.
+    let input = right_input (codes "list") rest refl right in
+    c.in_err-at.ensures list_app rest r words input.0 input.1)
+
 pub returns : goal.returns
 returns c = λ rest r.
-    let sums = flag_answer (codes "sums") r refl (refl, refl, inr (refl, inl (refl, refl))) _ c.get_flag.ensures.value
-    c.get_flag.ensures.other in
-    let input = c.in_ok-at.ensures list_app rest r refl in
+    let sums = c.is_given.ensures list_app rest r in
+    let input = c.in_ok-at.ensures list_app rest r in
     by_flag (codes "list") rest _ _ _ ListSums Listing _ c.task_by-task.ensures (λ on. (refl, (sym sums ∙ on, input)))
     (λ off. (refl, (sym sums ∙ off, input)))

@@ -1,25 +1,28 @@
-use Rattle.std.proofs.Common.{◌∙◌, codes, inl, inr, refl, sym, true≢false}
-use Rattle.fv_arguments.proofs.FlagLemmas.{flag_answer}
-use Rattle.fv_arguments.proofs.NumberLemmas.{none_is}
-use Rattle.fv_arguments.proofs.RefusalLemmas.{no_place}
-use Rattle.fv_arguments.proofs.TaskLemmas.{by_flag}
+use Rattle.std.proofs.Common.{◌∙◌, codes, refl, sym, true≢false}
+use Rattle.fv_arguments.proofs.ReadLemmas.{none_is}
+use Rattle.fv_arguments.proofs.RefusalLemmas.{no_place, right_input}
+use Rattle.fv_arguments.proofs.TaskLemmas.{by_flag, handed}
 use Rattle.fv_arguments.specs.Options.{normalise_app}
 use Rattle.fv_plan.specs.declared.plan.Task.TheVariants.{Normalise, NormaliseAll}
 use Rattle.fv_arguments.proofs.options.normalise.Goals as goal
 use Rattle.fv_arguments.proofs.options.normalise.Goals.{else-all-via-then-all+else-is_some, else-all-via-else-all}
 
+pub returns-in_err-at : goal.returns-in_err-at
+returns-in_err-at c =
+    handed (codes "normalise") _ _ _ c.from_residual.ensures.1 (λ words rest r right.
+    let input = right_input (codes "normalise") rest refl right in
+    c.in_err-at.ensures normalise_app rest r words input.0 input.1)
+
 pub returns-then-is_some : goal.returns-then-is_some
 returns-then-is_some c = λ is rest r right.
-    let all = flag_answer (codes "all") r refl (refl, refl, inr (refl, inl (refl, refl))) _ c.get_flag-all.ensures.value
-    c.get_flag-all.ensures.other in
-    let input = c.in_ok-at.ensures normalise_app rest r refl in
+    let all = c.is_given-all.ensures normalise_app rest r in
+    let input = c.in_ok-at.ensures normalise_app rest r in
     no_place rest c.in_ok-at.at (sym all ∙ c.if-all.true) input.0 (sym c.is_some.ensures ∙ c.if-is_some.true) right
 
 pub returns : goal.returns
 returns c = λ rest r.
-    let all = flag_answer (codes "all") r refl (refl, refl, inr (refl, inl (refl, refl))) _ c.get_flag-all.ensures.value
-    c.get_flag-all.ensures.other in
-    let input = c.in_ok-at.ensures normalise_app rest r refl in
+    let all = c.is_given-all.ensures normalise_app rest r in
+    let input = c.in_ok-at.ensures normalise_app rest r in
     by_flag (codes "normalise") rest _ _ _ NormaliseAll Normalise _ c.task_by-task.ensures
     (λ on. (
       refl,

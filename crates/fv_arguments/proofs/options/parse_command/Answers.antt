@@ -1,8 +1,6 @@
-use Rattle.std.proofs.Common.{◌∙◌, sym}
 use Rattle.clap.proofs.TakesLemmas.{passed_up}
-use Rattle.fv_arguments.proofs.FlagLemmas.{hex_answer}
 use Rattle.fv_arguments.proofs.ReadLemmas.{read}
-use Rattle.fv_arguments.proofs.RefusalLemmas.{refused, same_faults}
+use Rattle.fv_arguments.proofs.RefusalLemmas.{read_of, refused}
 use Rattle.fv_arguments.proofs.options.parse_command.Goals as goal
 
 pub returns-in_err-matches-clause-wrong : goal.returns-in_err-matches-clause-wrong
@@ -13,18 +11,19 @@ returns-in_err-matches-clause-wrong c =
 pub returns-in_err-command-clause-wrong : goal.returns-in_err-command-clause-wrong
 returns-in_err-command-clause-wrong c =
     let found = c.in_ok-matches.ensures in
-    let r = read _ c.args.name.now _ c.in_ok-rules_of.ensures found.matches found.kinds found.parsed in
+    let r = read _ c.args.name.now _ c.in_ok-rules_of.ensures found.matches found.kinds in
     passed_up c.from_residual-in_err-command.result c.in_err-command.field-0.0 _ c.from_residual-in_err-command.ensures.1
     (λ is right. c.in_err-command.ensures is _ r right)
 
 pub returns-clause-asked : goal.returns-clause-asked
 returns-clause-asked c =
     let found = c.in_ok-matches.ensures in
-    let r = read _ c.args.name.now _ c.in_ok-rules_of.ensures found.matches found.kinds found.parsed in
+    let r = read _ c.args.name.now _ c.in_ok-rules_of.ensures found.matches found.kinds in
     let asked = c.in_ok-command.ensures _ r in
+    let own = read_of _ _ asked.0 r in
     record {
       command = asked.0;
-      taken = sym (same_faults _ _ asked.0 _) ∙ r.taken;
-      hex = hex_answer c.args.name.now r _ c.get_flag-hex.ensures.value c.get_flag-hex.ensures.other;
+      taken = own.taken;
+      hex = c.is_given-hex.ensures _ _ own;
       texts = asked.1;
     }

@@ -1,10 +1,7 @@
-use Rattle.std.proofs.Common.{◌∙◌, ap, codes}
-use Rattle.fv_arguments.specs.Options.{number_rule}
 use Rattle.fv_arguments.proofs.rules.extract_rules.Goals as goal
 
 pub returns : goal.returns
 returns c =
     c.add_volume.ensures _ (c.add-instance.ensures _ _ (c.add-section.ensures _ _
-    (c.add-name.ensures _ _ c.text_rules.ensures c.text_option.ensures.rule c.text_option.ensures.local)
-    c.text_option-2.ensures.rule c.text_option-2.ensures.local)
-    (c.number_option.ensures.rule ∙ ap (number_rule (codes "instance")) c.from-most.ensures) c.number_option.ensures.local)
+    (c.add-name.ensures _ _ c.text_rules.ensures c.option.ensures.rule c.option.ensures.local)
+    c.option-2.ensures.rule c.option-2.ensures.local) c.option-3.ensures.rule c.option-3.ensures.local)

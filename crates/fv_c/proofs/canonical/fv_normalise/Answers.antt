@@ -7,6 +7,9 @@ pub returns-in-Err-clause-fits : goal.returns-in-Err-clause-fits
 returns-in-Err-clause-fits c = λ image to _ _.
     c.refused.ensures.number ∙ ap (λ (f : Fault). fault_number f.kind) (c.in-Err.ensures.fits image to)
 
+pub returns-in-Err-clause-kept : goal.returns-in-Err-clause-kept
+returns-in-Err-clause-kept c = λ _. refl
+
 pub returns-clause-ok : goal.returns-clause-ok
 returns-clause-ok c = λ done. (
   c.in-Ok.image,
@@ -15,6 +18,9 @@ returns-clause-ok c = λ done. (
   c.put_all.ensures.ok done ∙ ap (λ (l : List ℕ). l ++ drop (length l) c.args.buffer.now) c.as_slice.ensures,
   refl,
 )
+
+pub returns-clause-kept : goal.returns-clause-kept
+returns-clause-kept c = λ failed. c.put_all.ensures.kept failed
 
 pub returns-clause-small : goal.returns-clause-small
 returns-clause-small c = λ small. (

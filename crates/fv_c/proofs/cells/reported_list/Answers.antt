@@ -7,6 +7,6 @@ use Rattle.fv_c.proofs.cells.reported_list.Goals as goal
 
 pub returns : goal.returns
 returns c =
-    IfOk-weaker c.reported_cells.result _ _
+    IfOk-weaker c.translate_all.result _ _
     (λ v is. is ∙ sym (map-map reported_cell cell_form c.as_slice.result.now) ∙ ap (map reported_cell) c.as_slice.ensures)
-    c.reported_cells.ensures
+    c.translate_all.ensures

@@ -1,5 +1,6 @@
-use Rattle.std.proofs.Common.{◌∙◌, inl, refl, rules}
+use Rattle.std.proofs.Common.{ap, arith, inl, refl}
 use Rattle.fv_base.specs.Faults.{out_of_memory}
+use Rattle.fv_c.specs.declared.compare.FvComparison.{FvComparison}
 use Rattle.fv_c.proofs.MemoryLaws.{header_of}
 use Rattle.fv_c.proofs.compare.fv_compare.Goals as goal
 
@@ -18,16 +19,28 @@ returns-clause-second c = λ is. absurd (c.report.ensures.second is)
 pub returns-clause-side : goal.returns-clause-side
 returns-clause-side c = λ done buffer. inl (c.report.ensures.side done buffer)
 
+pub returns-in-Err-clause-first : goal.returns-in-Err-clause-first
+returns-in-Err-clause-first c = λ _. (
+  c.in-Err.f,
+  c.in-Err.ensures.refused,
+  c.in-Err.ensures.memory,
+  c.stopped.ensures.number,
+  c.stopped.ensures.found,
+)
+
+pub returns-in-Err-clause-second : goal.returns-in-Err-clause-second
+returns-in-Err-clause-second c = λ is. absurd (omega (arith, is, ap (λ (k : FvComparison). k.side) c.stopped.ensures.found))
+
 pub returns-in-Err-whole_volume-clause-first : goal.returns-in-Err-whole_volume-clause-first
-returns-in-Err-whole_volume-clause-first c = search rules fits 300 steps 1000000
+returns-in-Err-whole_volume-clause-first c = λ is.
+    absurd (omega (arith, is, ap (λ (k : FvComparison). k.side) c.stopped-in-Err-whole_volume.ensures.found))
 
 pub returns-in-Err-whole_volume-clause-second : goal.returns-in-Err-whole_volume-clause-second
-returns-in-Err-whole_volume-clause-second c = λ _.
-    let stop = c.in-Err-whole_volume.ensures in (
-      (c.in-Ok.view, c.in-Ok.ensures.found),
-      c.in-Err-whole_volume.f,
-      stop.refused,
-      stop.memory,
-      c.from-in-Err-whole_volume.ensures ∙ c.number-in-Err-whole_volume.ensures,
-      c.stopped-in-Err-whole_volume.ensures,
-    )
+returns-in-Err-whole_volume-clause-second c = λ _. (
+  (c.in-Ok.view, c.in-Ok.ensures.found),
+  c.in-Err-whole_volume.f,
+  c.in-Err-whole_volume.ensures.refused,
+  c.in-Err-whole_volume.ensures.memory,
+  c.stopped-in-Err-whole_volume.ensures.number,
+  c.stopped-in-Err-whole_volume.ensures.found,
+)

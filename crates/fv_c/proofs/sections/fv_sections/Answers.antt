@@ -22,7 +22,7 @@ with_rows input number n rows list P (m, f, accepted, is, listed) same counted h
 
 pub returns-in-Some-clause-ok : goal.returns-in-Some-clause-ok
 returns-in-Some-clause-ok c = λ done.
-    let holds = rw (← c.put_rows.ensures.count) at c.put_rows.ensures.ok done in
+    let holds = rw (← c.put_rows.ensures.count) at c.put_rows.ensures.written.ok done in
     with_rows c.args.input.now c.args.number c.put_rows.new.count c.in-Some.rows.items c.as_slice.result.now
     (λ l. c.put_rows.new.buffer ≡ l ++ drop c.put_rows.new.count c.args.buffer.now)
     (rw c.in-Some.is at c.in-Ok.ensures.some) c.as_slice.ensures.value c.put_rows.ensures.count holds
@@ -32,7 +32,7 @@ returns-in-Some-clause-small c = λ small.
     with_rows c.args.input.now c.args.number c.put_rows.new.count c.in-Some.rows.items c.as_slice.result.now
     (λ l. length c.args.buffer.now < c.put_rows.new.count)
     (rw c.in-Some.is at c.in-Ok.ensures.some) c.as_slice.ensures.value c.put_rows.ensures.count
-    (omega (arith, c.put_rows.ensures.count, c.put_rows.ensures.small small))
+    (omega (arith, c.put_rows.ensures.count, c.put_rows.ensures.written.small small))
 
 pub returns-in-None-clause-absent : goal.returns-in-None-clause-absent
 returns-in-None-clause-absent c = λ _.

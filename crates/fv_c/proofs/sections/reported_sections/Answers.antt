@@ -7,7 +7,7 @@ use Rattle.fv_c.proofs.sections.reported_sections.Goals as goal
 
 pub returns : goal.returns
 returns c =
-    IfOk-weaker c.reported_rows.result _ _
+    IfOk-weaker c.translate_all.result _ _
     (λ v is. is ∙ sym (map-map reported_section row_form c.as_slice.result.now)
     ∙ ap (λ l. map reported_section (map row_form l)) c.as_slice.ensures.value ∙ ap (map reported_section) c.in_ok-rows.ensures)
-    c.reported_rows.ensures
+    c.translate_all.ensures

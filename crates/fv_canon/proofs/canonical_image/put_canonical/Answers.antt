@@ -1,6 +1,6 @@
 use Rattle.std.proofs.Common.{[], append-nil, subst, sym}
 use Rattle.fv_canon.specs.inner.ImageOf.{image_of}
-use Rattle.fv_canon.specs.LeastStarts.{LaysVolume}
+use Rattle.fv_canon.specs.LayoutForms.{LaysVolume}
 use Rattle.fv_canon.proofs.ImageLaws.{image_is}
 use Rattle.fv_canon.proofs.canonical_image.put_canonical.Goals as goal
 

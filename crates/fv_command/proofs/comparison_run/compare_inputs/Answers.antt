@@ -1,4 +1,4 @@
-use Rattle.std.proofs.Common.{inl, inr}
+use Rattle.std.proofs.Common.{inl, inr, refl}
 use Rattle.std.proofs.lemmas.Result.{err_from_is_err_and}
 use Rattle.fv_command.proofs.RunLemmas.{first_stopped, given, given_at}
 use Rattle.fv_command.proofs.comparison_run.compare_inputs.Goals as goal
@@ -7,14 +7,14 @@ pub returns-in_err-bytes : goal.returns-in_err-bytes
 returns-in_err-bytes g c =
     let p = err_from_is_err_and c.from_residual.result c.from_residual.ensures.1 in
     let e = c.in_err-bytes.ensures.err in
-    rw (p.1, p.2) (first_stopped _ c.args.hex c.args.at c.args.other_at _ _ _ _ e.0 (inl e.1))
+    rw (p.1, p.2) (first_stopped _ c.args.hex c.args.at c.args.other_at _ _ _ e.0 (inl e.1), refl)
 
 pub returns-in_err-volume : goal.returns-in_err-volume
 returns-in_err-volume g c =
     let p = err_from_is_err_and c.from_residual-in_err-volume.result c.from_residual-in_err-volume.ensures.1 in
     let gives = given_at c.args.hex c.args.at _ _ _ _ _ c.deref.ensures.value c.in_ok-bytes.ensures.ok c.taken_at.ensures in
     let e = c.in_err-volume.ensures.err in
-    rw (p.1, p.2) (first_stopped _ c.args.hex c.args.at c.args.other_at _ _ _ _ e.0 (inr (_, gives, e.1)))
+    rw (p.1, p.2) (first_stopped _ c.args.hex c.args.at c.args.other_at _ _ _ e.0 (inr (_, gives, e.1)), refl)
 
 pub returns : goal.returns
 returns g c =

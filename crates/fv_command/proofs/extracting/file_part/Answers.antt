@@ -1,7 +1,7 @@
 use Rattle.std.proofs.Common.{◌≡◌, ℕ, List, Option, Some, refl, sym, subst}
 use Rattle.std.proofs.lemmas.Result.{err_from_is_err_and}
 use Rattle.fv_section.specs.Frames.{FrameForm}
-use Rattle.fv_section.specs.FrameForms.{frame_form}
+use Rattle.fv_section.specs.StreamReads.{frame_form}
 use Rattle.fv_tree.specs.LookupInstances.{section_of_type, frame_of_type}
 use Rattle.fv_tree.specs.Meaning.{Plain, Sectioned, SectionMeaning, SectionMeanings, content_of}
 use Rattle.fv_command.specs.Extractions.{IsSectionPart, IsFramePart}

@@ -2,7 +2,7 @@ use Rattle.std.proofs.Common.{◌∙◌, ℕ, List, decimal, subst}
 use Rattle.fv_base.specs.Guids.{bytes_of}
 use Rattle.fv_base.specs.GuidTexts.{guid_text}
 use Rattle.fv_base.specs.declared.guid.Guid.{Guid}
-use Rattle.fv_text.specs.Characters.{two_digits}
+use Rattle.fv_text.specs.HexText.{two_digits}
 use Rattle.fv_command.proofs.ListLemmas.{begun}
 use Rattle.fv_command.proofs.list_text.put_file_line.Goals as goal
 

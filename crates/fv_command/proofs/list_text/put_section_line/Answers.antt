@@ -1,6 +1,6 @@
 use Rattle.std.proofs.Common.{◌∙◌, ℕ, List, ap, decimal, subst}
 use Rattle.fv_command.specs.ListTexts.{form_text}
-use Rattle.fv_text.specs.Characters.{two_digits}
+use Rattle.fv_text.specs.HexText.{two_digits}
 use Rattle.fv_command.proofs.ListLemmas.{begun}
 use Rattle.fv_command.proofs.list_text.put_section_line.Goals as goal
 

@@ -1,6 +1,6 @@
 use Rattle.std.proofs.Common.{◌≡◌, [], drop}
 use Rattle.std.specs.Prelude.{reverse}
-use Rattle.fv_depex.specs.inner.Evaluation.{evaluate_ops}
+use Rattle.fv_depex.specs.inner.Ops.{evaluate_ops}
 use Rattle.fv_depex.proofs.truth.evaluate_ops.Given as goal
 
 abbrev pub invariant-loop-op : goal.invariant-loop-op

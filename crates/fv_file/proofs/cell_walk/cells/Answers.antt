@@ -1,6 +1,7 @@
 use Rattle.std.proofs.Common.{◌≡◌, ℕ, ◌+◌, length, sym, ap, subst, arith, length-drop}
 use Rattle.std.proofs.lemmas.Result.{IfOk-weaker, IfErr-weaker}
-use Rattle.fv_file.specs.CellLengths.{CellsWithin}
+use Rattle.fv_base.specs.Checks.{First}
+use Rattle.fv_file.specs.CellForms.{CellsWithin}
 use Rattle.fv_file.proofs.BodyLemmas.{only_one, none_after, all_within}
 use Rattle.fv_file.proofs.cell_walk.cells.Goals as goal
 
@@ -10,7 +11,7 @@ returns-clause-only c = rw (sym c.bytes_from-body.ensures) (IfOk-weaker c.cells_
 
 pub returns-clause-none : goal.returns-clause-none
 returns-clause-none c = rw (sym c.bytes_from-body.ensures) (IfErr-weaker c.cells_in.result _ _
-    (λ f h ne ds g. none_after c.args.system c.args.polarity c.args.first c.bytes_from-body.result.now f ds (h ne) g) c.cells_in.ensures.first)
+    (λ f h ne ds g. none_after First c.args.system c.args.polarity c.args.first c.bytes_from-body.result.now f ds (h ne) g) c.cells_in.ensures.first)
 
 pub returns-clause-lies : goal.returns-clause-lies
 returns-clause-lies c =

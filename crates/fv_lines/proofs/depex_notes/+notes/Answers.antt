@@ -7,7 +7,7 @@ use Rattle.fv_tree.specs.inner.Sizes.{body_size}
 use Rattle.fv_tree.specs.Views.{body_view}
 use Rattle.fv_tree.proofs.Laws.{body_falls, section_falls}
 use Rattle.fv_lines.specs.Notes.{HeldDepex, sections_depexes}
-use Rattle.fv_lines.specs.inner.NoteRuns.{PutsNotes}
+use Rattle.fv_lines.specs.inner.CellRuns.{PutsNotes}
 use Rattle.fv_lines.proofs.DepexNoteLemmas.{puts_none, puts_then, leaf_depexes, group_depexes, nested_depexes, sections_next}
 use Rattle.fv_lines.proofs.depex_notes.+notes.Goals as goal
 

@@ -2,7 +2,7 @@ use Rattle.std.proofs.Common.{take}
 use Rattle.fv_tree.specs.LookupInstances.{preorder}
 use Rattle.fv_tree.specs.MeaningParts.{sections_from}
 use Rattle.fv_tree.specs.inner.Sizes.{section_size, sections_size}
-use Rattle.fv_lines.specs.inner.NoteRuns.{PutsNotes}
+use Rattle.fv_lines.specs.inner.CellRuns.{PutsNotes}
 use Rattle.fv_lines.specs.Notes.{sections_depexes}
 use Rattle.fv_lines.proofs.depex_notes.+notes.Given as goal
 

@@ -4,7 +4,7 @@ use Rattle.fv_tree.specs.Meaning.{FileMeaning, Plain, Sectioned, SectionMeaning,
 use Rattle.fv_tree.specs.MeaningParts.{sections_from}
 use Rattle.fv_tree.specs.Views.{content_view}
 use Rattle.fv_lines.specs.Notes.{HeldDepex, sections_depexes}
-use Rattle.fv_lines.specs.inner.NoteRuns.{PutsNotes}
+use Rattle.fv_lines.specs.inner.CellRuns.{PutsNotes}
 use Rattle.fv_lines.proofs.DepexNoteLemmas.{puts_none, plain_depexes, stream_depexes}
 use Rattle.fv_lines.proofs.depex_notes.put_file.Goals as goal
 

@@ -1,6 +1,7 @@
 use Rattle.std.proofs.Common.{◌∙◌, sym, arith}
 use Rattle.std.proofs.lemmas.Result.{IfErr-weaker, err_from_is_err_and}
-use Rattle.fv_section.specs.FrameForms.{frame_form}
+use Rattle.fv_base.specs.Checks.{First}
+use Rattle.fv_section.specs.StreamReads.{frame_form}
 use Rattle.fv_section.proofs.FrameLemmas.{verdict_rest, verdict_stands, stands_verdict, verdict_first, none_stands, other_verdict}
 use Rattle.fv_section.proofs.frame.next_frame.Goals as goal
 
@@ -22,4 +23,4 @@ returns-in_err-frame-clause-first c =
 pub returns-in_err-frame-clause-none : goal.returns-in_err-frame-clause-none
 returns-in_err-frame-clause-none c =
     IfErr-weaker c.from_residual.result _ _
-    (λ e first g stands. none_stands c.args.at c.args.stream.now e g first stands) (returns-in_err-frame-clause-first c)
+    (λ e first g stands. none_stands First c.args.at c.args.stream.now e g first stands) (returns-in_err-frame-clause-first c)

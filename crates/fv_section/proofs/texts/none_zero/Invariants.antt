@@ -1,6 +1,6 @@
 use Rattle.std.proofs.Common.{◌≡◌, length}
 use Rattle.fv_base.specs.Sums.{words_of}
-use Rattle.fv_section.specs.inner.TextTests.{none_zero}
+use Rattle.fv_section.specs.inner.FrameVerdicts.{none_zero}
 use Rattle.fv_section.proofs.texts.none_zero.Given as goal
 
 abbrev pub invariant-loop-rest : goal.invariant-loop-rest

@@ -7,7 +7,7 @@ use Rattle.fv_base.proofs.Laws.{end_read, none_read, up_is_not_down}
 use Rattle.fv_base.specs.Limits.{volume_limit}
 use Rattle.fv_text.proofs.HexInLemmas.{both_ok, piece_count, piece_read, ran_out, refused_stops, stops_by_long_text, stops_by_reader}
 use Rattle.fv_text.specs.inner.HexDecoding.{RefusesText}
-use Rattle.fv_text.specs.HexPairs.{DigitsSpell, squeezed}
+use Rattle.fv_text.specs.HexIn.{DigitsSpell, squeezed}
 use Rattle.fv_text.proofs.hex_text.read_hex.Goals as goal
 use Rattle.fv_text.proofs.hex_text.read_hex.Goals.{in-Text+else-text_len-gt-TEXT_LIMIT+in_ok-take-in-Text, in-Interrupted}
 use Rattle.fv_text.proofs.hex_text.read_hex.Goals.{else-loop-turn-test, then-loop-turn-test+in-Failed}

@@ -1,7 +1,7 @@
 use Rattle.std.proofs.lemmas.Grind.{common_steps}
 use Rattle.std.proofs.Common.{sym, ap, ◌∙◌, arith}
 use Rattle.std.proofs.lemmas.Result.{err_from_is_err_and}
-use Rattle.fv_tree.specs.inner.DifferenceWalks.{outermost_first}
+use Rattle.fv_tree.specs.inner.FoundWalks.{outermost_first}
 use Rattle.fv_tree.proofs.DifferenceLaws.{one_volume}
 use Rattle.fv_tree.proofs.DifferenceWalkLaws.{steps_differ, differ_told}
 use Rattle.fv_tree.proofs.difference.first_difference.Goals as goal

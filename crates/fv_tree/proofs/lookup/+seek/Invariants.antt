@@ -1,6 +1,6 @@
 use Rattle.std.proofs.Common.{◌≡◌, ◌+◌, ◌*◌, drop}
 use Rattle.fv_tree.specs.LookupInstances.{of_type, preorder}
-use Rattle.fv_tree.specs.inner.Searches.{sought}
+use Rattle.fv_tree.specs.inner.FoundWalks.{sought}
 use Rattle.fv_tree.specs.MeaningParts.{sections_from}
 use Rattle.fv_tree.specs.inner.Sizes.{section_size, body_size, sections_size}
 use Rattle.fv_tree.specs.Views.{body_view}

@@ -5,7 +5,7 @@ use Rattle.std.proofs.lemmas.Result.{err_from_is_err_and}
 use Rattle.fv_base.proofs.Laws.{not_equal}
 use Rattle.fv_section.proofs.Laws.{one_split}
 use Rattle.fv_section.specs.Frames.{FrameForm, Splits}
-use Rattle.fv_section.specs.FrameForms.{frame_form}
+use Rattle.fv_section.specs.StreamReads.{frame_form}
 use Rattle.fv_tree.specs.LookupInstances.{frame_of_type}
 use Rattle.fv_tree.proofs.LookupLaws.{instance_at, passed_head, met_head, slice_next, slice_first, one_type}
 use Rattle.fv_tree.proofs.lookup.frame_by_type.Goals as goal

@@ -3,7 +3,7 @@ use Rattle.std.specs.Prelude.{◌⊎◌}
 use Rattle.std.proofs.lemmas.List.{length-take-le}
 use Rattle.std.proofs.lemmas.Result.{IfOk-weaker, IfErr-weaker, MatchResult-from_both}
 use Rattle.fv_base.specs.Faults.{out_of_memory}
-use Rattle.fv_base.specs.Checks.{IsFirstFault}
+use Rattle.fv_base.specs.Checks.{IsFirstFault, First}
 use Rattle.fv_base.specs.declared.fault.Fault.{Fault}
 use Rattle.fv_base.specs.declared.fault.Place.{Place}
 use Rattle.fv_base.specs.declared.guid.Guid.{Guid}
@@ -14,12 +14,11 @@ use Rattle.fv_head.specs.Head.{HeadFields, BeginsVolume}
 use Rattle.fv_head.specs.HeadChecks.{head_checks}
 use Rattle.fv_head.specs.declared.extent.Extent.{Extent}
 use Rattle.fv_section.specs.Frames.{FrameForm}
-use Rattle.fv_section.specs.FrameForms as framed
+use Rattle.fv_section.specs.StreamReads as framed
 use Rattle.fv_tree.specs.inner.ReadingParts.{IsReadyFile}
 use Rattle.fv_tree.specs.Denotes.{Denotes, MeansFile, MeansSection, Stream}
 use Rattle.fv_tree.specs.FileNames.{IsIndex}
 use Rattle.fv_tree.specs.Files.{FileForm}
-use Rattle.fv_tree.specs.FailingChecks.{First}
 use Rattle.fv_tree.specs.FirstFault.{FileFault, InStream, data_at}
 use Rattle.fv_tree.specs.Meaning.{Volume, File, SectionMeaning, Section, Group, Nested, length_of}
 use Rattle.fv_tree.specs.MeaningParts.{files_from, sections_from}

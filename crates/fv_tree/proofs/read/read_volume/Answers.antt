@@ -1,11 +1,11 @@
 use Rattle.std.proofs.lemmas.Result.{MatchResult-weaker}
+use Rattle.fv_base.specs.Checks.{First}
 use Rattle.fv_base.specs.Limits.{depth_limit}
 use Rattle.fv_tree.specs.FirstFault.{outermost}
 use Rattle.fv_tree.proofs.FaultLaws.{fault_stands}
 use Rattle.fv_tree.proofs.FaultPlaceLaws.{refused_within}
-use Rattle.fv_tree.proofs.FirstLaws.{only_answer, one_answer}
-use Rattle.fv_tree.proofs.RefusalLaws.{first_refuses}
-use Rattle.fv_tree.proofs.StandingLaws.{sound_answer}
+use Rattle.fv_tree.proofs.FirstLaws.{only_answer, one_answer, sound_answer}
+use Rattle.fv_tree.proofs.RefusalLaws.{fault_refuses}
 use Rattle.fv_tree.proofs.read.read_volume.Goals as goal
 
 pub returns-clause-only : goal.returns-clause-only
@@ -14,7 +14,7 @@ returns-clause-only c = only_answer c.args.bytes.now c.read_at.result c.read_at.
 pub returns-clause-none : goal.returns-clause-none
 returns-clause-none c =
     MatchResult-weaker c.read_at.result c.read_at.ensures.read (λ _ _. tt)
-    (λ e first ne n m within d. first_refuses depth_limit n e c.args.bytes.now outermost m within (first ne) d)
+    (λ e first ne n m within d. fault_refuses First depth_limit n e c.args.bytes.now outermost m within (first ne) d)
 
 pub returns-clause-one : goal.returns-clause-one
 returns-clause-one c = one_answer c.args.bytes.now c.read_at.result c.read_at.ensures.read c.read_at.ensures.length

@@ -1,10 +1,10 @@
 use Rattle.std.proofs.Common.{◌≡◌, ◌≤◌, ◌∙◌, ℕ, length, drop, arith, map, sym, ap, subst, inr, rules}
 use Rattle.std.specs.List.{AllByRecursion}
 use Rattle.fv_base.specs.Value.{IsBytes}
-use Rattle.fv_file.specs.CellLengths.{CellsWithin}
+use Rattle.fv_file.specs.CellForms.{CellsWithin}
 use Rattle.fv_tree.specs.Files.{FileForm, files_in}
 use Rattle.fv_tree.specs.LocatedFiles.{file_form}
-use Rattle.fv_tree.specs.inner.SmallFiles.{IsSmallCell}
+use Rattle.fv_tree.specs.inner.ReadingParts.{IsSmallCell}
 use Rattle.std.proofs.lemmas.List.{length-drop, length-map}
 use Rattle.fv_file.proofs.Laws.{cells_few}
 use Rattle.fv_head.specs.declared.extent.Extent.{Extent}

@@ -1,5 +1,6 @@
 use Rattle.std.proofs.lemmas.Result.{err_from_is_err_and}
 use Rattle.std.proofs.Common.{map, ap}
+use Rattle.fv_base.specs.Checks.{First}
 use Rattle.fv_base.specs.declared.fault.Fault.{Fault}
 use Rattle.fv_tree.specs.LocatedFiles.{file_form}
 use Rattle.fv_tree.proofs.LocatedLaws.{located_data, located_stand}
@@ -13,7 +14,7 @@ pub returns-in_err-files-clause-none : goal.returns-in_err-files-clause-none
 returns-in_err-files-clause-none c =
     let p = err_from_is_err_and c.from_residual-in_err-files.result c.from_residual-in_err-files.ensures.1 in
     let front = c.in_ok-extent.ensures.found in
-    rw (p.1, p.2) (λ ne gs begins. files_refused c.in_ok-extent.extent _ _ _ gs (c.in_err-files.ensures.read ne)
+    rw (p.1, p.2) (λ ne gs begins. files_refused First c.in_ok-extent.extent _ _ _ gs (c.in_err-files.ensures.read ne)
     (located_stand c.args.bytes.now front.0 c.in_ok-extent.extent front.1 gs begins))
 
 pub returns-clause-data : goal.returns-clause-data

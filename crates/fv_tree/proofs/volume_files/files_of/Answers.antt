@@ -5,7 +5,7 @@ use Rattle.fv_file.specs.CellForms as cellular
 use Rattle.fv_file.specs.declared.cell.Cell.{Cell}
 use Rattle.fv_tree.specs.Files.{files_in}
 use Rattle.fv_tree.specs.LocatedFiles.{file_form}
-use Rattle.fv_tree.specs.inner.SmallFiles.{IsSmallCell}
+use Rattle.fv_tree.specs.inner.ReadingParts.{IsSmallCell}
 use Rattle.fv_tree.proofs.NameLaws.{files_in_items}
 use Rattle.fv_tree.proofs.SmallCellLaws.{no_cell}
 use Rattle.fv_tree.proofs.volume_files.files_of.Goals as goal

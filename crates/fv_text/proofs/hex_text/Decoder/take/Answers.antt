@@ -1,5 +1,5 @@
 use Rattle.std.proofs.Common.{arith, ap, ◌∙◌, ◌++◌, ◌∷◌, [], List, ℕ, length, length-append}
-use Rattle.fv_text.specs.HexPairs.{squeezed}
+use Rattle.fv_text.specs.HexIn.{squeezed}
 use Rattle.fv_text.proofs.WhiteSpaceLemmas.{squeezed_short}
 use Rattle.fv_text.proofs.HexInLemmas.{stays_wrong, taken, taken_wrong}
 use Rattle.fv_text.proofs.hex_text.Decoder.take.Goals as goal

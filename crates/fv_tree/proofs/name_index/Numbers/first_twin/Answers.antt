@@ -5,7 +5,7 @@ use Rattle.std.proofs.lemmas.List.{get_or_default, length-map}
 use Rattle.fv_tree.specs.Files.{FileForm, is_twin}
 use Rattle.fv_tree.specs.FileNames.{Entry}
 use Rattle.fv_tree.specs.LocatedFiles.{file_form}
-use Rattle.fv_tree.specs.inner.Neighbours.{IsTwinAt}
+use Rattle.fv_tree.specs.inner.NameOrders.{IsTwinAt}
 use Rattle.fv_tree.proofs.IndexLaws.{no_file}
 use Rattle.fv_tree.proofs.NeighbourLaws.{first_none, twin_before}
 use Rattle.fv_tree.proofs.name_index.Numbers.first_twin.Goals as goal

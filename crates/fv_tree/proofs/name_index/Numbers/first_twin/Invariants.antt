@@ -3,7 +3,7 @@ use Rattle.std.specs.List.{list_any}
 use Rattle.fv_tree.specs.Files.{FileForm, is_twin}
 use Rattle.fv_tree.specs.FileNames.{Entry}
 use Rattle.fv_tree.specs.LocatedFiles.{file_form}
-use Rattle.fv_tree.specs.inner.Neighbours.{IsTwinAt}
+use Rattle.fv_tree.specs.inner.NameOrders.{IsTwinAt}
 use Rattle.fv_tree.proofs.name_index.Numbers.first_twin.Given as goal
 
 abbrev pub invariant-loop-place : goal.invariant-loop-place

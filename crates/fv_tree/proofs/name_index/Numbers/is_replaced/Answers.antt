@@ -3,7 +3,7 @@ use Rattle.std.proofs.lemmas.List.{get_or_default}
 use Rattle.fv_tree.specs.Files.{FileForm}
 use Rattle.fv_tree.specs.FileNames.{Entry}
 use Rattle.fv_tree.specs.LocatedFiles.{file_form}
-use Rattle.fv_tree.specs.inner.Neighbours.{mark_at}
+use Rattle.fv_tree.specs.inner.NameOrders.{mark_at}
 use Rattle.fv_tree.proofs.NeighbourLaws.{alone_kept, file_within, marked_replaced}
 use Rattle.fv_tree.proofs.name_index.Numbers.is_replaced.Goals as goal
 

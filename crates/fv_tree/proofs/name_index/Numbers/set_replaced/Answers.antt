@@ -5,10 +5,9 @@ use Rattle.std.proofs.lemmas.Bool.{cases_eq, cases_lt}
 use Rattle.std.proofs.lemmas.List.{get_or_default, get_or-map, get_or-set_same, get_or-set_other, length-map, map-set, set-get_or}
 use Rattle.fv_tree.specs.Files.{FileForm, is_marked, replaced_by}
 use Rattle.fv_tree.specs.FileNames.{Entry, IsIndex}
-use Rattle.fv_tree.specs.inner.NameOrders.{names_in}
-use Rattle.fv_tree.specs.inner.Neighbours.{mark_at}
+use Rattle.fv_tree.specs.inner.NameOrders.{names_in, mark_at}
 use Rattle.fv_tree.specs.LocatedFiles.{file_form, state_by}
-use Rattle.fv_tree.specs.inner.SmallFiles.{is_noted}
+use Rattle.fv_tree.specs.inner.ReadingParts.{is_noted}
 use Rattle.fv_tree.specs.declared.volume_files.LocatedFile.{LocatedFile}
 use Rattle.fv_tree.specs.declared.volume_files.Mark.{Mark}
 use Rattle.fv_tree.proofs.IndexLaws.{no_file}

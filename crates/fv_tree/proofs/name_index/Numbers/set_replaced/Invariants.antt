@@ -3,7 +3,7 @@ use Rattle.std.specs.List.{list_any}
 use Rattle.fv_tree.specs.Files.{FileForm, replaced_by}
 use Rattle.fv_tree.specs.FileNames.{Entry}
 use Rattle.fv_tree.specs.LocatedFiles.{file_form}
-use Rattle.fv_tree.specs.inner.SmallFiles.{is_noted}
+use Rattle.fv_tree.specs.inner.ReadingParts.{is_noted}
 use Rattle.fv_tree.specs.declared.volume_files.LocatedFile.{LocatedFile}
 use Rattle.fv_tree.proofs.name_index.Numbers.set_replaced.Given as goal
 

@@ -1,0 +1,54 @@
+-- The end of a run: what was written, and with which status it ends.
+use Rattle.std.proofs.Common.{◌≡◌, ◌∙◌, ℕ, Bool, true, false, List, inl, inr, refl, subst}
+use Rattle.std.proofs.KnownBytes.{Appends-kept}
+use Rattle.std.specs.Io.KnownBytes.{Keeps}
+use Rattle.std.specs.Prelude.{Option}
+use Rattle.fv_base.specs.Port.{has_erred, inner_of}
+use Rattle.fv_base.specs.Sinks.{LatchedWrites, PortShows, is_writing, port_of, written_count}
+use Rattle.fv_base.specs.declared.port.Port.{Port}
+use Rattle.fv_base.specs.declared.sink.WriteSink.{WriteSink}
+use Rattle.fv_command.specs.Endings.{Ends}
+use Rattle.fv_command.specs.inner.EndSteps.{Written}
+use Rattle.fv_command.specs.declared.status.Status.{Status}
+use Rattle.fv_command.specs.declared.status.Status.TheVariants.{Refused}
+use Rattle.fv_text.specs.PortViews.{Shown, seen, shown}
+
+written : (old new : PortShows) (was on : Bool) (text : List ℕ) → was ≡ true → LatchedWrites old was text new on
+    → Written on text (seen old.contents old.erred) (seen new.contents new.erred)
+written old new true true text was (bytes, fine) = (bytes.0, fine)
+written old new true false text was (n, less, bytes, erred) = (n, less, bytes.0, erred)
+written old new false on text was takes = let bad : false ≡ true = was in cc
+
+-- what a sink over a port shows
+abbrev shows : {W : Type 0} → (W → Option (List ℕ)) → WriteSink W → PortShows
+shows told s = record { contents = told (inner_of (port_of s)); erred = has_erred (port_of s); count = written_count s }
+
+-- a sink over a port took a text
+pub sink_wrote : {W : Type 0} (told : W → Option (List ℕ)) (s t : WriteSink W) (old : Port W) (new : Shown) (text : List ℕ) (whole : Bool)
+    → port_of s ≡ old → is_writing s ≡ true
+    → LatchedWrites (shows told s) (is_writing s) text (shows told t) (is_writing t)
+    → whole ≡ is_writing t → shown told (port_of t) ≡ new → Written whole text (shown told old) new
+sink_wrote told s t old new text whole begun on takes is left =
+    subst (λ (p : Port _). Written whole text (shown told p) new) begun
+    (subst (λ (v : Shown). Written whole text (shown told (port_of s)) v) left
+    (rw is (written (shows told s) (shows told t) (is_writing s) (is_writing t) text on takes)))
+
+-- after a text of which all was written, or not
+pub refused : (whole : Bool) (text : List ℕ) (before old new : Shown) (ran : Status) → new ≡ old → whole ≡ false
+    → Written whole text before old → Ends ran text (record { old = before; new = new }) Refused
+refused false text before old new ran same e stops =
+    inr (refl, inl (subst (λ (s : Shown). Written false text before s) (rw same refl) stops))
+refused true text before old new ran same e wrote = let bad : true ≡ false = e in cc
+
+-- and after the flush
+pub flush_failed : (whole : Bool) (text : List ℕ) (before old new : Shown) (ran : Status) → whole ≡ true → Keeps old.bytes new.bytes
+    → new.erred ≡ true → Written whole text before old → Ends ran text (record { old = before; new = new }) Refused
+flush_failed true text before old new ran e keeps erred wrote =
+    inr (refl, inr (Appends-kept before.bytes old.bytes new.bytes text wrote.0 keeps, erred))
+flush_failed false text before old new ran e keeps erred stops = let bad : false ≡ true = e in cc
+
+pub flush_done : (whole : Bool) (text : List ℕ) (before old new : Shown) (ran : Status) → whole ≡ true → Keeps old.bytes new.bytes
+    → new.erred ≡ old.erred → Written whole text before old → Ends ran text (record { old = before; new = new }) ran
+flush_done true text before old new ran e keeps same wrote =
+    inl (refl, (Appends-kept before.bytes old.bytes new.bytes text wrote.0 keeps, same ∙ wrote.1))
+flush_done false text before old new ran e keeps same stops = let bad : false ≡ true = e in cc

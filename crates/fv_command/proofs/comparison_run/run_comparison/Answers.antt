@@ -1,7 +1,0 @@
-use Rattle.fv_command.proofs.comparison_run.run_comparison.Goals as goal
-
-pub returns-in-Ok-true : goal.returns-in-Ok-true
-returns-in-Ok-true g c = rw c.in-Ok-true.field-0-test at c.in-Ok-true.ensures
-
-pub returns-in-Ok-false : goal.returns-in-Ok-false
-returns-in-Ok-false g c = rw c.in-Ok-false.field-0-test at c.in-Ok-false.ensures

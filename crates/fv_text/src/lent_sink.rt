@@ -1,0 +1,34 @@
+//! A sink that is lent.
+
+ghost use Rattle.std.specs.Prelude.{◌≡◌};
+ghost use Rattle.fv_text.specs.LentSinks.{LentTakes};
+ghost use Rattle.fv_text.specs.inner.LentLaws.{lent_by};
+
+use fv_base::Sink;
+
+/// A sink that is lent for a while, as the sink below another. What it takes, the sink that was
+/// lent takes.
+#[derive(Drop)]
+pub struct LentSink<'a, S: Sink> {
+    sink: &'a mut S,
+}
+
+impl<'a, S: Sink> LentSink<'a, S> {
+    /// The sink, lent.
+    pub fn new(sink: &'a mut S) -> LentSink<'a, S>
+        ensures name { result.sink.ghost_name ≡ sink.entry.ghost_name }
+        ensures now { result.sink.now ≡ sink.old }
+    {
+        LentSink { sink }
+    }
+}
+
+impl<'a, S: Sink> Sink for LentSink<'a, S> {
+    ghost takes = { LentTakes S.takes (λ s. s.sink.now) (λ s. s.sink.ghost_name) };
+
+    ghost laws = { lent_by S.takes (λ s. s.sink.now) (λ s. s.sink.ghost_name) S.laws };
+
+    fn put(&mut self, bytes: &[u8]) {
+        self.sink.put(bytes);
+    }
+}
