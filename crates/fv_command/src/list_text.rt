@@ -20,7 +20,7 @@ use crate::sums::{put_file_sum, put_volume_sum};
 use fv_base::{ByteList, Fault, FileSystem, ListSink, Sink};
 use fv_canon::layout;
 use fv_head::VolumeHead;
-use fv_text::{put_decimal, put_two_digits};
+use fv_text::{GatheringSink, LentSink, put_decimal, put_two_digits};
 use fv_tree::{Body, Content, FileView, SectionView, VolumeView};
 use std::alloc::Global;
 
@@ -217,19 +217,30 @@ fn put_volume<S: Sink>(out: &mut S, volume: &VolumeView<'_>, style: &Style<'_>) 
     put_files(out, volume.files(), &inside)
 }
 
-/// Puts a line for the volume, for each of its files and for each section in these, and likewise for
-/// what groups and nested volumes hold.
-pub fn put_list<S: Sink>(alloc: Global, volume: &VolumeView<'_>, out: &mut S)
-    ensures { (text : List ℕ) × ListText volume.now text × S.takes out.old text out.new }
+// Puts the lines of the volume and of all that it holds, and returns the sink. A line has many small
+// pieces. They are gathered in a sink that no other text is put into, so that the compiler copies
+// them where they are put.
+fn gather_list<S: Sink>(alloc: Global, below: S, volume: &VolumeView<'_>) -> S
+    ensures { (text : List ℕ) × ListText volume.now text × S.takes below text result }
 {
+    let mut out = GatheringSink::new(below);
     let style = Style {
         alloc,
         sums: false,
         indent: Indent::Margin,
     };
-    let Ok(()) = put_volume(out, volume, &style) else {
+    let Ok(()) = put_volume(&mut out, volume, &style) else {
         unreachable!()
     };
+    out.finish()
+}
+
+/// Puts a line for the volume, for each of its files and for each section in these, and likewise for
+/// what groups and nested volumes hold.
+pub fn put_list<S: Sink>(alloc: Global, volume: &VolumeView<'_>, out: &mut S)
+    ensures { (text : List ℕ) × ListText volume.now text × S.takes out.old text out.new }
+{
+    let _lent = gather_list(alloc, LentSink::new(out), volume);
 }
 
 // The lines of the volume and of all that it holds, with sums.
