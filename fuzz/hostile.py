@@ -1,7 +1,7 @@
 #!/usr/bin/env python3
 """Writes inputs that aim at cost, runs the built program over each, and prints what each run took: it is to end within
 3 seconds of processor time (10 with --sums, which digests each byte twice at each level), in a peak of memory of at most
-twice its input, or the multiple in RATIOS and SUMS_RATIOS, and 64 MiB. README.md says more."""
+twice its input, or the multiple in RATIOS, and 64 MiB. README.md says more."""
 
 import argparse
 import os
@@ -222,9 +222,6 @@ INPUTS += (small_groups, groups_of_three, nested_sections, entries, small_volume
 # How many times its input a run may hold where it is not twice.
 RATIOS = {names: 10, replaced_names: 8, mixed_names: 8, late_pair: 10, empty_sections: 8, empty_expressions: 8}
 RATIOS |= {small_groups: 10, groups_of_three: 11, nested_sections: 9, entries: 14}
-# The same of list --sums, which holds the digests and the text of the whole.
-SUMS_RATIOS = {small_groups: 20, groups_of_three: 29, nested_sections: 29, empty_sections: 20, entries: 20}
-SUMS_RATIOS |= {empty_expressions: 20}
 
 
 def write(make, size, path):
@@ -264,10 +261,8 @@ def main():
             size = os.path.getsize(path)
             for command in COMMANDS:
                 status, seconds, peak = measure(options.program, command, path)
-                is_sums = command == "list --sums"
-                ratio = max(RATIOS.get(make, 2), SUMS_RATIOS.get(make, 2) if is_sums else 0)
-                most = ratio * size * (2 if command == "compare" else 1) + 64 * MIB
-                most_seconds = MOST_SUMS_SECONDS if is_sums else MOST_SECONDS
+                most = RATIOS.get(make, 2) * size * (2 if command == "compare" else 1) + 64 * MIB
+                most_seconds = MOST_SUMS_SECONDS if command == "list --sums" else MOST_SECONDS
                 holds = 0 <= status <= 2 and seconds <= most_seconds and peak <= most
                 over += not holds
                 figures = f"{status:6} {seconds:8.2f} {peak / MIB:9.1f} {most / MIB:9.1f}"

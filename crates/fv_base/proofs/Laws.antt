@@ -11,16 +11,14 @@ pub use Rattle.fv_base.proofs.NumberLaws.{le_below, field_below, bytes_front, by
 pub use Rattle.fv_base.proofs.CheckLemmas.{and_split, and_join, all_hold, none_faulty, first_is, first_front}
 pub use Rattle.fv_base.proofs.CheckLemmas.{first_whole, first_among, not_first, fails_among, none_fails, verdict_ok, verdict_err, verdict_none}
 pub use Rattle.fv_base.proofs.CheckLemmas.{whatever}
--- tests of numbers and of single bits that hold or do not
-pub use Rattle.fv_base.proofs.TestLemmas.{if_true, if_false, not_less, not_at_most, not_equal, one_bit, or_parts, or_both}
+-- tests of numbers and of single bits that hold or do not; a flag is not both up and down
+pub use Rattle.fv_base.proofs.TestLemmas.{if_true, if_false, not_less, not_at_most, not_equal, one_bit, or_parts, or_both, up_is_not_down}
 -- bytes that are all one byte: joined, cut, counted, and the test of it
 pub use Rattle.fv_base.proofs.ErasedLemmas.{all_append, all_front, all_behind, all-of_replicate, all_are-true, all-all_are}
 -- sums of the words of joined bytes
 pub use Rattle.fv_base.proofs.SumLemmas.{words_of-append, sum-words_of-append}
 -- what a list sink holds after a walk
 pub use Rattle.fv_base.proofs.SinkLemmas.{kept_whole}
--- what was read from a reader after a turn that met its end, or that failed; a flag is not both up and down
-pub use Rattle.fv_base.proofs.ReadLemmas.{end_read, none_read, up_is_not_down}
 -- what holds of every item of a list holds of the one at a place, of the one where it is cut, and of those that are kept of it; an item of
 -- a list is its first or one after it
 pub use Rattle.fv_base.proofs.ListLaws.{at_index, in_middle, all_filter, first_or_behind, one_behind}

@@ -5,7 +5,6 @@ pub mod GuidLemmas
 pub mod Laws
 pub mod ListLaws
 pub mod NumberLaws
-pub mod ReadLemmas
 pub mod SinkLemmas
 pub mod SumLemmas
 pub mod TestLemmas

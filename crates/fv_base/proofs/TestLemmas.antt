@@ -35,3 +35,7 @@ or_parts false b h = (refl, h)
 pub or_both : (a b : Bool) → a ≡ false → b ≡ false → (a || b) ≡ false
 or_both true b p q = cc
 or_both false b p q = q
+
+-- a flag is not both up and down
+pub up_is_not_down : (flag : Bool) → flag ≡ true → flag ≡ false → ⊥
+up_is_not_down flag up down = cc

@@ -6,10 +6,18 @@ use Rattle.fv_base.specs.declared.fault.FaultKind.{FaultKind}
 use Rattle.fv_base.specs.declared.fault.FaultKind.TheVariants as kinds
 use Rattle.fv_base.specs.Limits.{volume_limit}
 
--- a reader gave these bytes, then was at its end; they are at most `volume_limit`
-pub record ReadsWhole (old new : Option (List ℕ)) (input : List ℕ) : Type 0 where
-  pub gave : Consumes old new input
+-- the most bytes that one read asks for
+abbrev pub read_limit : ℕ
+read_limit = 65536
+
+-- a reader gave these bytes, which are all that it had
+pub record GivesAll (old new : Option (List ℕ)) (bytes : List ℕ) : Type 0 where
+  pub gave : Consumes old new bytes
   pub at_end : IsAtEnd new
+
+-- a reader gave these bytes, which are all that it had, and at most `volume_limit`
+pub record ReadsWhole (old new : Option (List ℕ)) (input : List ℕ) : Type 0 where
+  pub gives : GivesAll old new input
   pub small : length input ≤ volume_limit
 
 -- a reader gave n bytes
@@ -20,17 +28,21 @@ GaveCount old new n = (bytes : List ℕ) × Consumes old new bytes × (length by
 abbrev pub GaveMore : Option (List ℕ) → Option (List ℕ) → ℕ → Type 0
 GaveMore old new n = (bytes : List ℕ) × Consumes old new bytes × (n < length bytes)
 
--- why reading stopped, by the kind of the fault and its offset n
-abbrev pub ReadStopsFor : FaultKind → Option (List ℕ) → Option (List ℕ) → ℕ → Type 0
-ReadStopsFor kinds.ReadFault old new n = GaveCount old new n
-ReadStopsFor kinds.Length old new n = (n ≡ volume_limit) × GaveMore old new n
-ReadStopsFor kinds.OutOfMemory old new n = n ≡ 0
-ReadStopsFor _ old new n = ⊥
+-- why reading within a limit stopped, by the kind of the fault and its offset n
+abbrev pub ReadStopsFor : ℕ → FaultKind → Option (List ℕ) → Option (List ℕ) → ℕ → Type 0
+ReadStopsFor limit kinds.ReadFault old new n = GaveCount old new n
+ReadStopsFor limit kinds.Length old new n = (n ≡ volume_limit) × GaveMore old new limit
+ReadStopsFor limit kinds.OutOfMemory old new n = n ≡ 0
+ReadStopsFor limit _ old new n = ⊥
+
+-- reading of at most `limit` bytes stopped with this fault
+pub record StopsWithin (limit : ℕ) (old new : Option (List ℕ)) (fault : Fault) : Type 0 where
+  pub depth : fault.place.depth ≡ 0
+  pub cause : ReadStopsFor limit fault.kind old new fault.place.offset
 
 -- reading of the input stopped with this fault
-pub record ReadStops (old new : Option (List ℕ)) (fault : Fault) : Type 0 where
-  pub depth : fault.place.depth ≡ 0
-  pub cause : ReadStopsFor fault.kind old new fault.place.offset
+abbrev pub ReadStops : Option (List ℕ) → Option (List ℕ) → Fault → Type 0
+ReadStops = StopsWithin volume_limit
 
 -- a writer stopped: it holds the first bytes of the output, as many as the fault's offset says, and not all of them
 pub record WriteStops (held holds : Option (List ℕ)) (output : List ℕ) (fault : Fault) : Type 0 where

@@ -1,4 +1,3 @@
 -- Definitions that serve only private clauses: there is nothing to believe here.
-pub mod ReadTurns
 pub mod SinkLaws
 pub mod Verdicts

@@ -121,35 +121,42 @@ impl FaultKind {
         }
     }
 
-    // What `Display` writes of the kind.
+    // What the kind means, in a sentence, which `Display` writes.
     fn text(self) -> &'static str {
         match self {
             FaultKind::Truncated => "the bytes end before the volume does",
-            FaultKind::Signature => "the signature is not _FVH",
-            FaultKind::FileSystem => "the file system is neither FFS2 nor FFS3",
-            FaultKind::Revision => "the header is not of revision 2",
-            FaultKind::HeaderLength => "the header length is out of range",
-            FaultKind::HeaderSum => "the volume header has a wrong sum",
-            FaultKind::BlockMap => "the block map does not make up the volume",
-            FaultKind::Length => "the length is out of range",
-            FaultKind::ExtHeader => "the extended header is out of range",
-            FaultKind::FileState => "the state of a file is not known",
-            FaultKind::FileHeaderSum => "a file header has a wrong sum",
-            FaultKind::FileSize => "the size of a file is out of range",
-            FaultKind::LargeFile => "a large file in FFS2",
-            FaultKind::FileSum => "a file has a wrong sum",
-            FaultKind::Fixed => "a file is marked fixed",
-            FaultKind::FreeSpace => "a byte of the free space is not erased",
-            FaultKind::DuplicateName => "two files of one state have one name",
-            FaultKind::TopFile => "the volume top file is not at the end",
-            FaultKind::SectionSize => "the size of a section is out of range",
-            FaultKind::SectionTail => "too few bytes for a section header",
-            FaultKind::Depth => "sections are nested too deep",
-            FaultKind::NoRoom => "the files do not fit",
-            FaultKind::TopAlignment => "the volume top file can not be aligned",
-            FaultKind::OutOfMemory => "out of memory",
-            FaultKind::ReadFault => "the reader failed",
-            FaultKind::WriteFault => "the writer failed",
+            FaultKind::Signature => "no volume begins here: its signature is missing",
+            FaultKind::FileSystem => {
+                "no volume of files begins here: its file system is neither FFS2 nor FFS3"
+            }
+            FaultKind::Revision => "the header of a volume is damaged, or its revision is not 2",
+            FaultKind::HeaderLength => "the header of a volume is damaged: its length is wrong",
+            FaultKind::HeaderSum => "the header of a volume is damaged: its sum is wrong",
+            FaultKind::BlockMap => "the header of a volume is damaged: its block map is wrong",
+            FaultKind::Length => {
+                "the length in the header is wrong, or bytes follow the volume, \
+                or there are more than 256 MiB"
+            }
+            FaultKind::ExtHeader => "the extended header of a volume is damaged",
+            FaultKind::FileState => "the state of a file is none that a file has",
+            FaultKind::FileHeaderSum => "the header of a file is damaged: its sum is wrong",
+            FaultKind::FileSize => "the size of a file is wrong",
+            FaultKind::LargeFile => "a file has the large attribute in FFS2",
+            FaultKind::FileSum => "the data of a file are damaged: their sum is wrong",
+            FaultKind::Fixed => "a file may not be moved, so the volume cannot be rebuilt",
+            FaultKind::FreeSpace => "the free space of a volume is not erased",
+            FaultKind::DuplicateName => "two files of a volume have one name",
+            FaultKind::TopFile => "the volume top file is not at the end of its volume",
+            FaultKind::SectionSize => "the size of a section is wrong",
+            FaultKind::SectionTail => "one to three bytes are left where a section would begin",
+            FaultKind::Depth => "groups and volumes nest deeper than eight levels",
+            FaultKind::NoRoom => "the files do not fit where the canonical image has them",
+            FaultKind::TopAlignment => {
+                "the volume top file does not fit where the canonical image has it"
+            }
+            FaultKind::OutOfMemory => "memory ran out",
+            FaultKind::ReadFault => "the input cannot be read, or is no hexadecimal text",
+            FaultKind::WriteFault => "the output cannot be written",
         }
     }
 }

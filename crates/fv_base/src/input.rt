@@ -1,16 +1,38 @@
 //! An input, read to its end.
 
-ghost use Rattle.std.specs.Prelude.{◌≡◌, ◌<◌, ◌≤◌, length, true, false, IfOk, IfErr, vec_len};
+ghost use Rattle.std.specs.Prelude.{◌≡◌, ◌≤◌, ◌++◌, ℕ, List, [], length, true, false, IfOk, IfErr, OnOk, vec_len};
 ghost use Rattle.fv_base.specs.Port.{inner_of, has_erred};
-ghost use Rattle.fv_base.specs.Input.{ReadsWhole, ReadStops};
-ghost use Rattle.fv_base.specs.inner.ReadTurns.{ReadsTurn};
-ghost use Rattle.fv_base.specs.inner.ReadTurns.{read_limit};
+ghost use Rattle.fv_base.specs.Input.{GivesAll, ReadsWhole, ReadStops, StopsWithin, read_limit};
 
 use crate::fault::{Fault, FaultKind};
-use crate::limits::{READ_LIMIT, READ_TURNS, VOLUME_LIMIT};
+use crate::limits::{READ_LIMIT, VOLUME_LIMIT};
 use crate::port::Port;
 use std::alloc::{AllocError, Global};
 use std::io::{ErrorKind, Read};
+
+/// What collects an input, piece after piece.
+pub trait Collector {
+    /// It holds what these bytes come to, which are all that it took.
+    ghost holds: { Self → List ℕ → Type 0 };
+
+    /// Takes the next piece of the input, which is no longer than one read gives.
+    ///
+    /// # Errors
+    ///
+    /// AllocError if memory runs out.
+    fn take(&mut self, piece: &[u8]) -> Result<(), AllocError>
+        requires { length piece.now ≤ read_limit }
+        ensures { OnOk result ((before : List ℕ) → holds self.old before → holds self.new (before ++ piece.now)) };
+}
+
+/// A vector collects the bytes themselves.
+impl Collector for Vec<u8> {
+    ghost holds = { λ v bytes. v.items ≡ bytes };
+
+    fn take(&mut self, piece: &[u8]) -> Result<(), AllocError> {
+        self.extend_from_slice(piece)
+    }
+}
 
 // A vector of `count` zero bytes.
 fn zeros(alloc: Global, count: usize) -> Result<Vec<u8>, AllocError>
@@ -19,48 +41,58 @@ fn zeros(alloc: Global, count: usize) -> Result<Vec<u8>, AllocError>
     vec![in alloc; 0u8; count]
 }
 
-/// What one turn of reading did.
-enum Turn {
-    /// It read at least one byte.
-    More,
-    /// It was interrupted, and is to be repeated.
-    Interrupted,
-    /// The reader is at its end.
-    End,
-    /// The reader failed.
-    Failed,
-}
-
-// One read, whose bytes are appended to those that are there. It asks for no more than the limit.
-fn read_more<R: Read>(
-    reader: &mut Port<R>,
-    chunk: &mut [u8],
-    bytes: &mut Vec<u8>,
-) -> Result<Turn, AllocError>
-    requires some { 0 < length chunk.old }
-    requires small { length chunk.old ≤ read_limit }
-    ensures turn { IfOk result
-        (λ turn. ReadsTurn turn (R.remaining (inner_of reader.old)) (R.remaining (inner_of reader.new))
-        bytes.old.items bytes.new.items (has_erred reader.new)) }
-    ensures stays { has_erred reader.new ≡ false → has_erred reader.old ≡ false }
-{
-    match reader.read(chunk) {
-        Ok(0) => Ok(Turn::End),
-        Ok(count) => {
-            bytes.extend_from_slice(&chunk[..count])?;
-            Ok(Turn::More)
-        }
-        Err(error) if error.kind() == ErrorKind::Interrupted => Ok(Turn::Interrupted),
-        Err(_) => Ok(Turn::Failed),
-    }
-}
-
-/// The bytes of an input, read to its end: at most as many as a volume may have. A read that
-/// returns `Interrupted` is repeated, and counts as a turn.
+/// Reads to the end of a reader, and has what it gives collected, up to `limit` bytes. A read that
+/// returns `Interrupted` is repeated. There are at most `limit` + 2 reads: a reader that gives one
+/// byte a call needs one more than the limit, the last of which finds the end or gives the byte
+/// that is too many; and one is spare. So the reads run out only if one was interrupted.
 ///
 /// # Errors
 ///
-/// ReadFault at the number of bytes read so far, if the reader fails or the turns run out; Length
+/// ReadFault at the number of bytes read so far, if the reader fails or the reads run out; Length
+/// at the limit of a volume, if more than `limit` bytes come; OutOfMemory at 0. The first of these
+/// is returned.
+pub fn read_to_end<R: Read, C: Collector>(
+    alloc: Global,
+    reader: &mut Port<R>,
+    limit: u32,
+    collector: &mut C,
+) -> Result<(), Fault>
+    requires { C.holds collector.old [] }
+    ensures ok { OnOk result ((bytes : List ℕ)
+        × GivesAll (R.remaining (inner_of reader.old)) (R.remaining (inner_of reader.new)) bytes
+        × (length bytes ≤ limit) × C.holds collector.new bytes) }
+    ensures err { IfErr result (StopsWithin limit (R.remaining (inner_of reader.old)) (R.remaining (inner_of reader.new))) }
+
+    // ReadFault is returned only if the port has erred.
+    ensures erred { IfErr result (λ f. f.kind ≡ FaultKind.ReadFault → has_erred reader.new ≡ true) }
+{
+    let mut store = zeros(alloc, READ_LIMIT)?;
+    let chunk = store.as_mut_slice();
+    let mut count = 0;
+    for _turn in 0..u64::from(limit) + 2 {
+        match reader.read(chunk) {
+            Ok(0) => return Ok(()),
+            Ok(added) => {
+                count += added as u64;
+                if count > u64::from(limit) {
+                    return Err(Fault::outer(FaultKind::Length, VOLUME_LIMIT));
+                }
+                collector.take(&chunk[..added])?;
+            }
+            Err(error) if error.kind() == ErrorKind::Interrupted => {}
+            Err(_) => break,
+        }
+    }
+    Err(Fault::outer(FaultKind::ReadFault, count))
+}
+
+/// The bytes of an input, read to its end: at most as many as a volume may have. A read that
+/// returns `Interrupted` is repeated, and counts as a read. The vector begins with the port's room,
+/// up to the limit of a volume.
+///
+/// # Errors
+///
+/// ReadFault at the number of bytes read so far, if the reader fails or the reads run out; Length
 /// at the limit, if more bytes come; OutOfMemory at 0. The first of these is returned.
 pub fn read_input<R: Read>(alloc: Global, reader: &mut Port<R>) -> Result<Vec<u8>, Fault>
     ensures ok { IfOk result
@@ -71,21 +103,7 @@ pub fn read_input<R: Read>(alloc: Global, reader: &mut Port<R>) -> Result<Vec<u8
     ensures erred { has_erred reader.old ≡ false
         → IfErr result (λ f. f.kind ≡ FaultKind.ReadFault → has_erred reader.new ≡ true) }
 {
-    let mut chunk = zeros(alloc, READ_LIMIT)?;
-    let mut bytes = Vec::new(alloc);
-    for _turn in 0..READ_TURNS {
-        match read_more(reader, &mut chunk, &mut bytes)? {
-            Turn::End => return Ok(bytes),
-            Turn::Failed => {
-                return Err(Fault::outer(FaultKind::ReadFault, bytes.len() as u64));
-            }
-            Turn::More => {
-                if bytes.len() as u64 > VOLUME_LIMIT {
-                    return Err(Fault::outer(FaultKind::Length, VOLUME_LIMIT));
-                }
-            }
-            Turn::Interrupted => {}
-        }
-    }
-    Err(Fault::outer(FaultKind::ReadFault, bytes.len() as u64))
+    let mut bytes = Vec::with_capacity(alloc, reader.room().min(VOLUME_LIMIT as usize))?;
+    read_to_end(alloc, reader, VOLUME_LIMIT as u32, &mut bytes)?;
+    Ok(bytes)
 }

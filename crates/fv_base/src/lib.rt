@@ -1,4 +1,4 @@
-//! What all crates here use: GUIDs, sums, alignments, faults, limits, ports and sinks.
+//! What all crates here use: GUIDs, sums, alignments, faults, limits, ports, inputs and sinks.
 #![tactic(auto)]
 
 mod align;
@@ -20,7 +20,7 @@ pub use erased::all_are;
 pub use fault::{Fault, FaultKind, Place, check};
 pub use flash::{FileSystem, Polarity};
 pub use guid::{Guid, guid_at};
-pub use input::read_input;
+pub use input::{Collector, read_input, read_to_end};
 pub use port::Port;
 pub use sink::{ListSink, Sink, WriteSink, fill};
 pub use sums::{sum8, sum16};

@@ -4,7 +4,7 @@ use Rattle.std.specs.Prelude.{◌≡◌, ℕ, ◌==◌, if◌then◌else◌, Lis
 use Rattle.fv_base.specs.declared.fault.Fault.{Fault}
 use Rattle.fv_canon.specs.Image.{IsData, IsBodyImage}
 use Rattle.fv_canon.specs.LayoutFaults.{FirstUnfit}
-use Rattle.fv_canon.specs.Volumes.{Inside, volumes_in_body, volumes_in_content}
+use Rattle.fv_tree.specs.Volumes.{Inside, volumes_in_body, volumes_in_content}
 use Rattle.fv_tree.specs.Denotes.{Accepted}
 use Rattle.fv_tree.specs.Meaning.{Meaning, FileMeaning, ContentMeaning, BodyMeaning, files_of, content_of}
 use Rattle.fv_tree.specs.MeaningParts.{body_of}

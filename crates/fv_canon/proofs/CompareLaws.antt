@@ -1,17 +1,14 @@
 -- The laws of a run over two inputs.
 use Rattle.std.proofs.lemmas.Grind.{common_steps}
-use Rattle.std.proofs.Common.{◌≡◌, ◌≢◌, ◌∙◌, ℕ, List, refl, sym, ap, subst, inl, inr, Bool, true, false, not, is_some, arith}
-use Rattle.std.specs.Prelude.{Option, None, Some, Result, IfNone, IfSome, IfOk, IfErr}
-use Rattle.std.specs.Io.KnownBytes.{Appends}
+use Rattle.std.proofs.Common.{◌≡◌, ◌≢◌, ◌∙◌, ℕ, List, sym, ap, subst, inl, inr, Bool, arith}
+use Rattle.std.specs.Prelude.{Option, Result, IfOk, IfErr}
 use Rattle.std.proofs.KnownBytes.{Keeps-refl}
 use Rattle.std.proofs.lemmas.Result.{IfOk-weaker, IfErr-weaker}
 use Rattle.fv_base.specs.Input.{ReadsWhole, ReadStops}
 use Rattle.fv_base.specs.declared.fault.Fault.{Fault}
 use Rattle.fv_base.specs.declared.fault.FaultKind.TheVariants as kinds
 use Rattle.fv_tree.specs.Denotes.{Accepted}
-use Rattle.fv_tree.specs.Difference.{Differs, difference}
 use Rattle.fv_tree.specs.Meaning.{Meaning}
-use Rattle.fv_canon.specs.ComparisonLines.{compare_line}
 use Rattle.fv_canon.specs.Runs.{Compares, ComparisonStops, ReadsVolume, VolumeStops, RunCompares, SideStopsRun}
 use Rattle.fv_canon.specs.declared.side.Side.{Side}
 use Rattle.fv_canon.specs.declared.side.Side.TheVariants as sides

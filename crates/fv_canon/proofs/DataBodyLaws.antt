@@ -6,7 +6,7 @@ use Rattle.fv_tree.specs.Meaning.{FileMeaning, File, Plain, Sectioned, content_o
 use Rattle.fv_tree.specs.MeaningParts.{files_from}
 use Rattle.fv_tree.specs.inner.Sizes.{body_size, file_size, files_size}
 use Rattle.fv_tree.proofs.Laws.{file_falls}
-use Rattle.fv_canon.specs.Volumes.{volumes_in_body, volumes_in_content, volumes_in_file}
+use Rattle.fv_tree.specs.Volumes.{volumes_in_body, volumes_in_content, volumes_in_file}
 use Rattle.fv_canon.specs.inner.ImageOf.{data_body, body_image, data_of}
 use Rattle.fv_canon.specs.inner.Depths.{NestsBody}
 

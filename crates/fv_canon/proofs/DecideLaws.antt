@@ -11,7 +11,7 @@ use Rattle.fv_canon.specs.LayoutFaults.{layout_fault, AllFit, FirstUnfit, Unfit,
 use Rattle.fv_canon.specs.Layouts.{layout_items, Fits, IsPlaced}
 use Rattle.fv_canon.specs.Refusals.{IsOfLayout, Refuses, WhatDoesNotFitIsRefused}
 use Rattle.fv_canon.specs.Starts.{IsFirstPlacement, Lawful, Placement, StandsInVolume, StartsFollow}
-use Rattle.fv_canon.specs.Volumes.{Inside, volumes_in}
+use Rattle.fv_tree.specs.Volumes.{Inside, volumes_in}
 use Rattle.fv_canon.specs.declared.first_placement.LayoutItem.{LayoutItem}
 use Rattle.fv_canon.proofs.UnfitKinds.{unfit_is}
 

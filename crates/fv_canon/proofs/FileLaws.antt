@@ -14,12 +14,13 @@ use Rattle.fv_tree.specs.Meaning.{FileMeaning, File, file_name_of, attributes_of
 use Rattle.fv_tree.specs.MeaningParts.{files_from, file_kind_of}
 use Rattle.fv_tree.specs.ReadParts.{IsReadFile}
 use Rattle.fv_tree.specs.Denotes.{MeansSection, Stream}
-use Rattle.fv_canon.specs.inner.ImageOf.{stored_of, stored_file, data_of, starts_in, files_bytes, BeginsWithStarts}
+use Rattle.fv_canon.specs.inner.ImageOf.{stored_of, stored_file, data_of, starts_in, files_bytes}
+use Rattle.fv_canon.specs.LayoutForms.{BeginsWithStarts}
 use Rattle.fv_canon.specs.inner.ImageOf.{ComesTo, TakesFront}
 use Rattle.fv_canon.specs.Layouts.{layout_item}
-use Rattle.fv_canon.specs.Volumes.{volumes_in_files, volumes_in_file}
+use Rattle.fv_tree.specs.Volumes.{volumes_in_files, volumes_in_file}
 use Rattle.fv_canon.specs.StoredFiles.{stored_len, size_for, head_len_for, stored_bytes, gap_bytes}
-use Rattle.fv_canon.proofs.ItemLaws.{item_at}
+use Rattle.fv_tree.proofs.Laws.{item_at}
 use Rattle.fv_canon.proofs.VolumeListLaws.{item_last, item_passed}
 use Rattle.fv_canon.proofs.WrittenImageLaws.{data_made, stream_made, sections_made}
 use Rattle.fv_canon.proofs.OneImageLaws.{follow_length}

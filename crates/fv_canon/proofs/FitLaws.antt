@@ -9,7 +9,7 @@ use Rattle.fv_canon.specs.declared.first_placement.LayoutItem.{LayoutItem}
 use Rattle.fv_canon.specs.Layouts.{layout_items, AreStarts, IsPlaced, Fits}
 use Rattle.fv_canon.specs.LayoutForms.{AreLeast, Laid, LaysVolume, LeastVolume}
 use Rattle.fv_canon.specs.LayoutFaults.{AllFit, UnfitHere, FirstUnfit, Unfit}
-use Rattle.fv_canon.specs.Volumes.{Inside, volumes_in}
+use Rattle.fv_tree.specs.Volumes.{Inside, volumes_in}
 use Rattle.fv_canon.proofs.PlacementLaws.{agree}
 use Rattle.fv_canon.proofs.VolumeListLaws.{laid_fit, fit_laid}
 

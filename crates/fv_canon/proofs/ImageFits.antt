@@ -6,8 +6,8 @@ use Rattle.fv_tree.specs.Meaning.{SectionMeanings, NoSections, MoreSections, Sec
 use Rattle.fv_canon.specs.Image.{IsImage, AreStored, IsStored, IsData, AreFrames, IsFrame, IsBodyImage}
 use Rattle.fv_canon.specs.LayoutFaults.{AllFit}
 use Rattle.fv_canon.specs.Layouts.{Fits}
-use Rattle.fv_canon.specs.Volumes.{volumes_in_files, volumes_in_file, volumes_in_content, volumes_in_sections, volumes_in_section}
-use Rattle.fv_canon.specs.Volumes.{volumes_in_body}
+use Rattle.fv_tree.specs.Volumes.{volumes_in_files, volumes_in_file, volumes_in_content, volumes_in_sections, volumes_in_section}
+use Rattle.fv_tree.specs.Volumes.{volumes_in_body}
 use Rattle.fv_canon.proofs.VolumeListLaws.{fit_joined, fit_deeper}
 use Rattle.fv_canon.specs.StoredFiles.{StoredFile}
 

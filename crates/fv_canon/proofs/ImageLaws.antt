@@ -1,13 +1,14 @@
 -- The laws of the image that is written for a layout.
-use Rattle.std.proofs.Common.{◌≡◌, ◌≤◌, ℕ, List, length, ◌∙◌, arith}
+use Rattle.std.proofs.Common.{◌≡◌, ◌≤◌, ℕ, List, [], length, append-nil, sym, ◌∙◌, arith}
 use Rattle.fv_base.specs.Limits.{volume_limit}
 use Rattle.fv_head.proofs.Laws.{front_lies}
 use Rattle.fv_tree.specs.Denotes.{Accepted, IsMeaning}
 use Rattle.fv_tree.specs.Meaning.{Meaning, head_of}
+use Rattle.fv_tree.specs.Volumes.{volumes_in}
 use Rattle.fv_canon.specs.Image.{IsImage}
 use Rattle.fv_canon.specs.inner.ImageOf.{image_of}
 use Rattle.fv_canon.specs.Layouts.{Fits}
-use Rattle.fv_canon.specs.LayoutForms.{LaysVolume}
+use Rattle.fv_canon.specs.LayoutForms.{BeginsWithStarts, LaysVolume}
 use Rattle.fv_canon.specs.Headline.{MeanSame, NormalisesTo, WhatFitsHasAnImage}
 use Rattle.fv_canon.proofs.FitLaws.{fits_laid}
 use Rattle.fv_canon.proofs.WrittenImageLaws.{image_made}
@@ -16,9 +17,13 @@ use Rattle.fv_canon.proofs.ImageFits.{image_fits}
 use Rattle.fv_canon.proofs.OneImageLaws.{image_one}
 use Rattle.fv_canon.proofs.VolumeLaws.{image_bytes, image_denotes, image_long}
 
--- what is written for a layout of a meaning that some bytes have is its image
+-- what is written for starts that begin with those of a meaning that some bytes have is its image
+pub image_begun : (m : Meaning) (starts : List ℕ) → IsMeaning m → BeginsWithStarts (volumes_in m) starts → IsImage m (image_of m starts)
+image_begun m starts (n, l, b, small, d) begins = image_made n m b starts small d begins
+
+-- and so is what is written for a layout of it
 pub image_is : (m : Meaning) (starts : List ℕ) → IsMeaning m → LaysVolume m starts → IsImage m (image_of m starts)
-image_is m starts (n, l, b, small, d) laid = image_made n m b starts small d laid
+image_is m starts is laid = image_begun m starts is (starts, [], sym (append-nil starts), laid)
 
 -- and there is no other
 pub image_only : (m : Meaning) (starts image : List ℕ) → IsMeaning m → LaysVolume m starts → IsImage m image → image ≡ image_of m starts

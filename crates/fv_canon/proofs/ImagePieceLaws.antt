@@ -12,20 +12,21 @@ use Rattle.fv_tree.specs.MeaningParts.{body_of}
 use Rattle.fv_canon.specs.Image.{IsData, IsBodyImage, IsFrame}
 use Rattle.fv_canon.specs.inner.ImageOf.{data_of, body_image, frame_of}
 use Rattle.fv_canon.specs.Layouts.{AreStarts}
-use Rattle.fv_canon.specs.LayoutForms.{Laid}
-use Rattle.fv_canon.specs.Volumes.{volumes_in_body, volumes_in_content}
+use Rattle.fv_canon.specs.LayoutForms.{BeginsWithStarts, Laid}
+use Rattle.fv_tree.specs.Volumes.{volumes_in_body, volumes_in_content}
 use Rattle.fv_canon.proofs.VolumeListLaws.{laid_deeper}
 use Rattle.fv_canon.proofs.WrittenImageLaws.{data_made, stream_made, sections_made}
 use Rattle.fv_file.proofs.Laws.{cell_read}
 use Rattle.fv_section.proofs.Laws.{begun_bytes}
 
 -- the data of a file that was read and laid out
-pub data_is : (m : FileMeaning) (starts : List ℕ) → IsReadFile m → Laid AreStarts (volumes_in_content (content_of m)) starts
+pub data_is : (m : FileMeaning) (starts : List ℕ) → IsReadFile m → BeginsWithStarts (volumes_in_content (content_of m)) starts
     → IsData (content_of m) (data_of (content_of m) starts)
-data_is (File name kind attributes content) starts (n, l, f, (system, p, b, small, most, cell), (named, kinds, bits, is)) laid =
+data_is (File name kind attributes content) starts (n, l, f, (system, p, b, small, most, cell), (named, kinds, bits, is))
+    (laid, more, text, lays) =
     let r = cell_read system p f.offset f.head f.payload b small cell in
-    subst (λ (xs : List ℕ). IsData content (data_of content xs)) (append-nil starts)
-    (data_made (Stream n) (stream_made (MeansSection n) (sections_made n)) kind content f.payload starts [] r.payload is laid)
+    subst (λ (xs : List ℕ). IsData content (data_of content xs)) (sym text)
+    (data_made (Stream n) (stream_made (MeansSection n) (sections_made n)) kind content f.payload laid more r.payload is lays)
 
 -- the body of a section that was read and laid out
 pub body_is : (m : SectionMeaning) (starts : List ℕ) → IsReadSection m → Laid AreStarts (volumes_in_body (body_of m)) starts

@@ -12,8 +12,8 @@ use Rattle.fv_tree.specs.Meaning.{SectionMeanings, NoSections, MoreSections, Sec
 use Rattle.fv_tree.specs.Meaning.{sections_list}
 use Rattle.fv_tree.specs.Denotes.{SectionRelation, StreamRelation, VolumeRelation, Pairwise, StreamOver, SectionOver, VolumeOver, MeansContent, MeansFile}
 use Rattle.fv_tree.specs.Denotes.{MeansSection, Stream, IsMeaning}
-use Rattle.fv_canon.specs.Volumes.{Inside, volumes_in, volumes_in_files, volumes_in_file, volumes_in_content, volumes_in_sections}
-use Rattle.fv_canon.specs.Volumes.{volumes_in_section}
+use Rattle.fv_tree.specs.Volumes.{Inside, volumes_in, volumes_in_files, volumes_in_file, volumes_in_content, volumes_in_sections}
+use Rattle.fv_tree.specs.Volumes.{volumes_in_section}
 use Rattle.fv_canon.proofs.ReadLaws.{FileIsAccepted}
 use Rattle.fv_canon.proofs.VolumeLaws.{files_read}
 use Rattle.fv_canon.proofs.VolumeListLaws.{each_joined, each_deeper}

@@ -1,6 +1,5 @@
--- An item of a list, and what is after it.
-use Rattle.std.proofs.Common.{◌≡◌, ◌<◌, ◌+◌, ℕ, zero, suc, List, [], ◌∷◌, length, drop, get_or, sym, ap, ◌∙◌, subst, arith}
-use Rattle.std.proofs.lemmas.List.{drop_more}
+-- An item of a list.
+use Rattle.std.proofs.Common.{◌≡◌, ◌<◌, ℕ, zero, suc, List, [], ◌∷◌, length, get_or, sym, subst, arith}
 
 -- where P of a list says Q of its first item and P of the rest, it says Q of each item
 pub item_has : {A : Type 0} (P : List A → Type 0) (Q : A → Type 0) → ((x : A) (xs : List A) → P (x ∷ xs) → Q x × P xs)
@@ -8,7 +7,3 @@ pub item_has : {A : Type 0} (P : List A → Type 0) (Q : A → Type 0) → ((x :
 item_has P Q step [] i x l is h = absurd (omega arith)
 item_has P Q step (y ∷ ys) zero x l is h = subst Q (sym is) (step y ys h).0
 item_has P Q step (y ∷ ys) (suc i) x l is h = item_has P Q step ys i x (omega arith) is (step y ys h).1
-
--- the list from a place on
-pub item_at : {A : Type 0} (xs : List A) (i : ℕ) (x : A) → i < length xs → x ≡ get_or xs i x → drop i xs ≡ x ∷ drop (i + 1) xs
-item_at xs i x l is = drop_more xs i x l ∙ ap (λ y. y ∷ drop (i + 1) xs) (sym is)

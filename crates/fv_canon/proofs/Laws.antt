@@ -12,8 +12,8 @@ pub use Rattle.fv_canon.proofs.HeadlineLaws.{accepted, one_meaning_of}
 -- what has an image fits; what is laid out fits, and what is rejected does not
 pub use Rattle.fv_canon.proofs.ImageFits.{image_fits, data_fits, body_fits}
 pub use Rattle.fv_canon.proofs.FitLaws.{laid_fits, fits_laid, unfit_none}
--- the volumes in the files of a volume that fits, in the data of a file and in the body of a section
-pub use Rattle.fv_canon.proofs.PartFits.{files_fit, file_fits, section_fits}
+-- starts that begin with those of some volumes begin with those of the first of them, and of the same volumes one level higher
+pub use Rattle.fv_canon.proofs.VolumeListLaws.{begins_first, begins_higher}
 -- an input is the volume that it begins with where it ends there, and is none where it begins with none or goes on
 pub use Rattle.fv_canon.proofs.InputLaws.{input_prefix, end_found, end_only, volume_refused, end_refused}
 -- an input that is no volume, or one that does not fit, is rejected; one that has an image is neither

@@ -2,7 +2,6 @@
 use Rattle.std.proofs.lemmas.Grind.{common_steps}
 use Rattle.std.proofs.Common.{◌≡◌, ◌≢◌, ◌≤◌, ap, ◌<◌, ◌⊎◌, inl, inr, ◌+◌, ℕ, suc, List, length, take, get_or, ◌++◌, append_assoc, refl, sym, ◌∙◌, subst, arith}
 use Rattle.std.proofs.Common.{Result, Ok, Err, IfErr, IsErrAnd, [], ◌∷◌, true, false, true≢false}
-use Rattle.std.specs.List.{Any}
 use Rattle.fv_base.specs.Faults.{out_of_memory}
 use Rattle.fv_base.specs.declared.fault.Fault.{Fault}
 use Rattle.fv_head.specs.Head.{HeadFields}
@@ -18,12 +17,13 @@ use Rattle.fv_canon.specs.inner.Depths.{NestsVolume, NestsFiles, NestsSections, 
 use Rattle.fv_canon.specs.Layouts.{AreStarts}
 use Rattle.fv_canon.specs.LayoutForms.{Laid}
 use Rattle.fv_canon.specs.LayoutFaults.{FirstUnfit, Unfit}
-use Rattle.fv_canon.specs.Volumes.{Inside, volumes_in, volumes_in_files, volumes_in_file, volumes_in_sections, volumes_in_section}
-use Rattle.fv_canon.specs.Volumes.{volumes_in_body}
+use Rattle.fv_tree.specs.Volumes.{volumes_in, volumes_in_files, volumes_in_file, volumes_in_sections, volumes_in_section}
+use Rattle.fv_tree.specs.Volumes.{volumes_in_body}
 use Rattle.fv_canon.proofs.DataBodyLaws.{data_nests, data_volumes}
 use Rattle.fv_canon.proofs.DepthLaws.{nests_files, nests_body, nests_group, nests_nested}
 use Rattle.fv_canon.proofs.ItemLaws.{item_has}
-use Rattle.fv_canon.proofs.VolumeListLaws.{count_deeper, in_section, item_count, item_grew, item_unfit, laid_deeper, unfit_deeper}
+use Rattle.fv_tree.proofs.Laws.{in_section}
+use Rattle.fv_canon.proofs.VolumeListLaws.{count_deeper, item_count, item_grew, item_unfit, laid_deeper, unfit_deeper}
 
 -- ---- sections
 
@@ -171,16 +171,6 @@ own_counted (Volume h files) = omega arith
 pub starts_need_file : (m : Meaning) → 0 < starts_in (volumes_in m) → files_of m ≢ []
 starts_need_file (Volume h NoFiles) some none = absurd (omega (arith, some))
 starts_need_file (Volume h (MoreFiles f fs)) some none = cc
-
--- of volumes that have starts one has a file
-pub starts_need_any : (vs : List Inside) → 0 < starts_in vs → Any (λ v. files_of v.volume ≢ []) vs
-starts_need_any [] some = absurd (omega (arith, some))
-starts_need_any (v ∷ vs) some = go (files_of v.volume) refl (λ rest. starts_need_any vs rest)
-  where
-    go : (fs : List FileMeaning) → files_of v.volume ≡ fs → (0 < starts_in vs → Any (λ w. files_of w.volume ≢ []) vs)
-        → Any (λ w. files_of w.volume ≢ []) (v ∷ vs)
-    go [] none more = let (k, w, less, at, has) = more (omega (arith, some, ap length none)) in (suc k, w, omega (arith, less), at, has)
-    go (f ∷ fs) is more = (0, v, omega arith, refl, λ none. let never : f ∷ fs ≡ [] = sym is ∙ none in cc)
 
 -- the error that ran out of memory is passed on
 pub memory_passed : {T : Type 0} (r : Result T Fault) (f : Fault) (n k : ℕ) → IsErrAnd r (λ g. g ≡ f)

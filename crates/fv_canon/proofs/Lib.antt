@@ -36,7 +36,6 @@ pub mod SectionLaws
 pub mod PlacedBytesLaws
 pub mod UsableStartLaws
 pub mod PartBytesLaws
-pub mod PartFits
 pub mod StoredTilingLaws
 pub mod StreamLaws
 pub mod SumRightLaws

@@ -17,10 +17,11 @@ use Rattle.fv_tree.specs.Meaning.{section_len}
 use Rattle.fv_tree.specs.Denotes.{MeansSection}
 use Rattle.fv_tree.specs.ReadParts.{IsReadSection}
 use Rattle.fv_canon.specs.inner.ImageOf.{frames_of, frame_of, body_image, starts_in, frame_bytes, sections_bytes}
-use Rattle.fv_canon.specs.inner.ImageOf.{BeginsWithStarts, ComesTo, TakesFront}
-use Rattle.fv_canon.specs.Volumes.{volumes_in_section, volumes_in_sections, volumes_in_body}
-use Rattle.fv_canon.proofs.ItemLaws.{item_at}
-use Rattle.fv_canon.proofs.VolumeListLaws.{count_deeper, in_section, item_passed, laid_higher}
+use Rattle.fv_canon.specs.inner.ImageOf.{ComesTo, TakesFront}
+use Rattle.fv_canon.specs.LayoutForms.{BeginsWithStarts}
+use Rattle.fv_tree.specs.Volumes.{volumes_in_section, volumes_in_sections, volumes_in_body}
+use Rattle.fv_tree.proofs.Laws.{in_section, item_at}
+use Rattle.fv_canon.proofs.VolumeListLaws.{count_deeper, item_passed, laid_higher}
 use Rattle.fv_canon.proofs.WrittenImageLaws.{sections_made}
 use Rattle.fv_canon.proofs.VolumeLaws.{sections_again}
 

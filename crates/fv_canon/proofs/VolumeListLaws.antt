@@ -4,15 +4,16 @@ use Rattle.std.proofs.Common.{append_assoc, append-nil, length-append, drop-drop
 use Rattle.std.specs.List.{AllByRecursion}
 use Rattle.std.proofs.lemmas.List.{length-map, take-append-drop, take_more, drop_all, drop_at}
 use Rattle.fv_base.specs.declared.fault.Fault.{Fault}
-use Rattle.fv_tree.specs.Meaning.{Meaning, FileMeaning, File, SectionMeaning, Section, content_of, files_of}
-use Rattle.fv_tree.specs.MeaningParts.{body_of}
-use Rattle.fv_canon.specs.inner.ImageOf.{starts_in, BeginsWithStarts, ComesTo}
+use Rattle.fv_head.specs.Head.{HeadFields}
+use Rattle.fv_tree.specs.Meaning.{Meaning, Volume, FileMeaning, files_of, head_of}
+use Rattle.fv_tree.specs.MeaningParts.{files_from}
+use Rattle.fv_canon.specs.inner.ImageOf.{starts_in, ComesTo}
+use Rattle.fv_canon.specs.LayoutForms.{BeginsWithStarts, Laid}
 use Rattle.fv_canon.specs.Layouts.{AreStarts, IsPlaced, layout_item, layout_items}
-use Rattle.fv_canon.specs.LayoutForms.{Laid}
 use Rattle.fv_canon.specs.LayoutFaults.{AllFit, FirstUnfit, UnfitHere}
-use Rattle.fv_canon.specs.Volumes.{Inside, deeper, volumes_in_section, volumes_in_body, volumes_in_file, volumes_in_content}
+use Rattle.fv_tree.specs.Volumes.{Inside, deeper, volumes_in, volumes_in_files}
 use Rattle.fv_canon.specs.inner.Depths.{Grew}
-use Rattle.fv_canon.proofs.ItemLaws.{item_at}
+use Rattle.fv_tree.proofs.Laws.{files_list_back, item_at}
 use Rattle.fv_canon.proofs.OneImageLaws.{follow_length}
 
 -- ---- their starts
@@ -62,6 +63,38 @@ pub count_deeper : (vs : List Inside) → starts_in (deeper vs) ≡ starts_in vs
 count_deeper [] = refl
 count_deeper (v ∷ vs) = ap (λ n. length (files_of v.volume) + n) (count_deeper vs)
 
+-- ---- starts that begin with theirs
+
+-- after those of a volume's own files come those of the volumes in its files
+pub inside_begins : (m : Meaning) (fs : List FileMeaning) (more : List Inside) (starts : List ℕ) → m ≡ Volume (head_of m) (files_from fs)
+    → BeginsWithStarts (volumes_in m ++ more) starts
+    → (length fs ≤ length starts) × BeginsWithStarts (drop 1 (volumes_in m) ++ more) (drop (length fs) starts)
+inside_begins m fs more starts is begins =
+    subst (λ (x : Meaning). (length fs ≤ length starts) × BeginsWithStarts (drop 1 (volumes_in x) ++ more) (drop (length fs) starts)) (sym is)
+    (apart (head_of m) (subst (λ (x : Meaning). BeginsWithStarts (volumes_in x ++ more) starts) is begins))
+  where
+    apart : (h : HeadFields) → BeginsWithStarts (volumes_in (Volume h (files_from fs)) ++ more) starts
+        → (length fs ≤ length starts) × BeginsWithStarts (volumes_in_files (files_from fs) ++ more) (drop (length fs) starts)
+    apart h (laid, after, whole, (own, inner, text, placed, lays)) =
+        let count : length own ≡ length fs = own_count (Volume h (files_from fs)) own placed ∙ ap length (files_list_back fs) in
+        let here : starts ≡ own ++ (inner ++ after) = whole ∙ ap (λ (xs : List ℕ). xs ++ after) text ∙ append_assoc own inner after in (
+          omega (arith, count, ap length here, length-append own (inner ++ after)),
+          (inner, after, ap (drop (length fs)) here ∙ drop_at own (inner ++ after) (length fs) count, lays),
+        )
+
+-- they begin with those of the first of the volumes
+pub begins_first : (vs ws : List Inside) (starts : List ℕ) → BeginsWithStarts (vs ++ ws) starts → BeginsWithStarts vs starts
+begins_first vs ws starts (laid, more, whole, lays) =
+    let parts = laid_split AreStarts vs ws laid lays in
+    (parts.0, parts.1 ++ more, whole ∙ ap (λ (xs : List ℕ). xs ++ more) parts.2 ∙ append_assoc parts.0 parts.1 more, parts.3)
+
+-- and with those of the same volumes one level higher
+pub begins_higher : (vs ws : List Inside) (starts : List ℕ) → BeginsWithStarts (deeper vs ++ ws) starts → BeginsWithStarts (vs ++ ws) starts
+begins_higher vs ws starts (laid, more, whole, lays) =
+    let parts = laid_split AreStarts (deeper vs) ws laid lays in
+    let higher = laid_joined AreStarts vs ws parts.0 parts.1 (laid_higher AreStarts vs parts.0 parts.3) parts.4 in
+    (laid, more, whole, subst (Laid AreStarts (vs ++ ws)) (sym parts.2) higher)
+
 -- ---- which fit
 
 pub each_joined : (P : Inside → Type 0) (vs ws : List Inside) → AllByRecursion P vs → AllByRecursion P ws → AllByRecursion P (vs ++ ws)
@@ -78,22 +111,6 @@ fit_joined vs ws p q = each_joined IsPlaced vs ws p q
 
 pub fit_deeper : (vs : List Inside) → AllFit vs → AllFit (deeper vs)
 fit_deeper vs p = each_deeper (λ m. (starts : List ℕ) × AreStarts m starts) vs p
-
--- each of two lists that fit together, and the same volumes one level higher
-pub each_apart : (P : Inside → Type 0) (vs ws : List Inside) → AllByRecursion P (vs ++ ws) → AllByRecursion P vs × AllByRecursion P ws
-each_apart P [] ws p = (tt, p)
-each_apart P (v ∷ vs) ws p = let r = each_apart P vs ws p.1 in ((p.0, r.0), r.1)
-
-pub each_higher : (P : Meaning → Type 0) (vs : List Inside) → AllByRecursion (λ v. P v.volume) (deeper vs)
-    → AllByRecursion (λ v. P v.volume) vs
-each_higher P [] p = tt
-each_higher P (v ∷ vs) p = (p.0, each_higher P vs p.1)
-
-pub fit_apart : (vs ws : List Inside) → AllFit (vs ++ ws) → AllFit vs × AllFit ws
-fit_apart vs ws p = each_apart IsPlaced vs ws p
-
-pub fit_higher : (vs : List Inside) → AllFit (deeper vs) → AllFit vs
-fit_higher vs p = each_higher (λ m. (starts : List ℕ) × AreStarts m starts) vs p
 
 pub laid_fit : (vs : List Inside) (starts : List ℕ) → Laid AreStarts vs starts → AllFit vs
 laid_fit [] starts laid = tt
@@ -123,12 +140,6 @@ unfit_deeper (v ∷ vs) depth f (inl un) = inl (subst (λ (n : ℕ). UnfitHere v
 unfit_deeper (v ∷ vs) depth f (inr (placed, un)) = inr (placed, unfit_deeper vs depth f un)
 
 -- ---- those of a list's items
-
-pub in_section : (s : SectionMeaning) → volumes_in_section s ≡ deeper (volumes_in_body (body_of s))
-in_section (Section kind extended body) = refl
-
-pub in_file : (f : FileMeaning) → volumes_in_file f ≡ volumes_in_content (content_of f)
-in_file (File name kind attributes content) = refl
 
 module _ {A : Type 0} (all : List A → List Inside) (one : A → List Inside) (none : all [] ≡ [])
     (more : (x : A) (xs : List A) → all (x ∷ xs) ≡ one x ++ all xs) where
@@ -204,13 +215,6 @@ module _ {A : Type 0} (all : List A → List Inside) (one : A → List Inside) (
   pub item_last : (xs : List A) (i : ℕ) (starts last : List ℕ) → length xs ≤ i → ComesTo (all (drop i xs)) starts last → starts ≡ last
   item_last xs i starts last end at =
       ap (λ vs. drop (starts_in vs) starts) (sym (ap all (drop_all i xs end) ∙ none)) ∙ at.left
-
-  -- where the volumes in all items fit, those in each do
-  pub item_fits : (xs : List A) (i : ℕ) (x : A) → i < length xs → x ≡ get_or xs i x → AllFit (all xs) → AllFit (one x)
-  item_fits xs i x l is fit =
-      let halves = fit_apart (all (take i xs)) (all (drop i xs))
-      (subst AllFit (ap all (sym (take-append-drop i xs)) ∙ joined (take i xs) (drop i xs)) fit) in
-      (fit_apart (one x) (all (drop (i + 1) xs)) (subst AllFit (item_first xs i x l is) halves.1)).0
 
   -- an item has no more starts than all items
   pub item_count : (xs : List A) (i : ℕ) (x : A) → i < length xs → x ≡ get_or xs i x → starts_in (one x) ≤ starts_in (all xs)

@@ -16,10 +16,11 @@ use Rattle.fv_base.specs.Value.{up_to_8}
 use Rattle.fv_tree.specs.Meaning.{Meaning, Volume, FileMeanings, FileMeaning, head_of, data_len_of}
 use Rattle.fv_tree.specs.MeaningParts.{files_from}
 use Rattle.fv_tree.specs.Denotes.{IsMeaning, MeansSection, Stream}
-use Rattle.fv_canon.specs.inner.ImageOf.{image_of, stored_of, starts_in, stored_item, files_bytes, BeginsWithStarts}
+use Rattle.fv_canon.specs.inner.ImageOf.{image_of, stored_of, starts_in, stored_item, files_bytes}
+use Rattle.fv_canon.specs.LayoutForms.{BeginsWithStarts}
 use Rattle.fv_canon.specs.Image.{AreStored}
 use Rattle.fv_canon.specs.Layouts.{layout_items, layout_item}
-use Rattle.fv_canon.specs.Volumes.{volumes_in, volumes_in_files}
+use Rattle.fv_tree.specs.Volumes.{volumes_in, volumes_in_files}
 use Rattle.fv_canon.specs.StoredFiles.{StoredFile, size_for, stored_len, used_size, ext_pad}
 use Rattle.fv_canon.proofs.WrittenImageLaws.{files_made, stream_made, sections_made, front_is, behind_is}
 use Rattle.fv_canon.proofs.OneImageLaws.{follow_length}

@@ -1,7 +1,6 @@
 -- What a walk writes for a volume that was read and laid out is its image.
 use Rattle.std.proofs.lemmas.Grind.{common_steps}
 use Rattle.std.proofs.Common.{◌≡◌, ◌+◌, ℕ, zero, suc, List, [], ◌∷◌, ◌++◌, length, take, drop, refl, sym, ap, ◌∙◌, subst, append_assoc, arith}
-use Rattle.std.proofs.Common.{append-nil}
 use Rattle.std.specs.List.{AllByRecursion}
 use Rattle.std.proofs.lemmas.List.{take_at, drop_at}
 use Rattle.fv_base.specs.Value.{IsBytes}
@@ -17,9 +16,9 @@ use Rattle.fv_canon.specs.Image.{IsImage, AreStored, IsStored, IsData, AreFrames
 use Rattle.fv_canon.specs.inner.ImageOf.{starts_in, image_of, stored_of, stored_file, data_of, frames_of, frame_of}
 use Rattle.fv_canon.specs.inner.ImageOf.{volume_bytes}
 use Rattle.fv_canon.specs.Layouts.{AreStarts}
-use Rattle.fv_canon.specs.LayoutForms.{Laid, LaysVolume}
-use Rattle.fv_canon.specs.Volumes.{volumes_in, volumes_in_files, volumes_in_file, volumes_in_content, volumes_in_sections}
-use Rattle.fv_canon.specs.Volumes.{volumes_in_section}
+use Rattle.fv_canon.specs.LayoutForms.{BeginsWithStarts, Laid, LaysVolume}
+use Rattle.fv_tree.specs.Volumes.{volumes_in, volumes_in_files, volumes_in_file, volumes_in_content, volumes_in_sections}
+use Rattle.fv_tree.specs.Volumes.{volumes_in_section}
 use Rattle.fv_canon.proofs.VolumeListLaws.{laid_split, laid_higher, laid_count, own_count}
 use Rattle.fv_canon.proofs.PlacedBytesLaws.{volume_written}
 use Rattle.fv_canon.proofs.StreamLaws.{StreamsAgain, stream_again}
@@ -157,8 +156,9 @@ sections_made (suc n) =
     (volume_made (StreamOver (MeansSection n)) (stream_again (MeansSection n) (sections_again n)) streams)
 
 -- what a walk writes is the image
-pub image_made : (n : ℕ) (m : Meaning) (b starts : List ℕ) → IsBytes b → Denotes n b m → LaysVolume m starts → IsImage m (image_of m starts)
-image_made n m b starts small d laid =
-    subst (λ (xs : List ℕ). IsImage m (image_of m xs)) (append-nil starts)
+pub image_made : (n : ℕ) (m : Meaning) (b starts : List ℕ) → IsBytes b → Denotes n b m → BeginsWithStarts (volumes_in m) starts
+    → IsImage m (image_of m starts)
+image_made n m b starts small d (laid, more, text, lays) =
+    subst (λ (xs : List ℕ). IsImage m (image_of m xs)) (sym text)
     (volume_made (Stream n) (stream_again (MeansSection n) (sections_again n)) (stream_made (MeansSection n) (sections_made n)) m
-    b starts [] small d laid)
+    b laid more small d lays)

@@ -13,7 +13,7 @@ use Rattle.fv_tree.specs.Files.{files_in}
 use Rattle.fv_tree.specs.Meaning.{Meaning, head_of}
 use Rattle.fv_canon.specs.Image.{IsImage}
 use Rattle.fv_canon.specs.Layouts.{Fits}
-use Rattle.fv_canon.specs.Volumes.{Inside, volumes_in}
+use Rattle.fv_tree.specs.Volumes.{Inside, volumes_in}
 
 -- the input is a volume, and the bytes are the image of its meaning
 abbrev pub NormalisesTo : List ℕ → List ℕ → Type 0

@@ -6,7 +6,7 @@ use Rattle.fv_base.specs.declared.fault.FaultKind.{FaultKind}
 use Rattle.fv_base.specs.declared.fault.FaultKind.TheVariants as kinds
 use Rattle.fv_canon.specs.Layouts.{layout_items, IsPlaced}
 use Rattle.fv_canon.specs.Starts.{Placement}
-use Rattle.fv_canon.specs.Volumes.{Inside, volumes_in}
+use Rattle.fv_tree.specs.Volumes.{Inside, volumes_in}
 use Rattle.fv_canon.specs.declared.first_placement.LayoutItem.{LayoutItem}
 use Rattle.fv_head.specs.ExtImage.{first_edge}
 use Rattle.fv_tree.specs.Meaning.{Meaning, head_of, length_of}

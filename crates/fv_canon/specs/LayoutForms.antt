@@ -3,7 +3,7 @@ use Rattle.std.specs.Prelude.{◌≡◌, ℕ, ◌+◌, ◌≤◌, List, [], ◌�
 use Rattle.fv_base.specs.Value.{up_to_8}
 use Rattle.fv_canon.specs.Layouts.{layout_items, AreStarts}
 use Rattle.fv_canon.specs.Starts.{Lawful, Placement}
-use Rattle.fv_canon.specs.Volumes.{Inside, volumes_in}
+use Rattle.fv_tree.specs.Volumes.{Inside, volumes_in}
 use Rattle.fv_canon.specs.declared.first_placement.LayoutItem.{LayoutItem}
 use Rattle.fv_head.specs.ExtImage.{first_edge}
 use Rattle.fv_tree.specs.Meaning.{Meaning, head_of, length_of, files_of}
@@ -36,7 +36,11 @@ Laid are_own (v ∷ vs) starts =
 abbrev pub LaysVolume : Meaning → List ℕ → Type 0
 LaysVolume m starts = Laid AreStarts (volumes_in m) starts
 
--- the same with the least starts of each volume
+-- the starts begin with those of these volumes, and others may follow
+abbrev pub BeginsWithStarts : List Inside → List ℕ → Type 0
+BeginsWithStarts vs starts = (laid : List ℕ) × (more : List ℕ) × (starts ≡ laid ++ more) × Laid AreStarts vs laid
+
+-- the same as `LaysVolume`, with the least starts of each volume
 abbrev pub LeastVolume : Meaning → List ℕ → Type 0
 LeastVolume m starts = Laid AreLeast (volumes_in m) starts
 

@@ -11,7 +11,7 @@ use Rattle.fv_tree.specs.Meaning.{attributes_of}
 use Rattle.fv_canon.specs.Starts.{IsFirstPlacement}
 use Rattle.fv_canon.specs.declared.first_placement.LayoutItem.{LayoutItem}
 use Rattle.fv_canon.specs.StoredFiles.{head_len_for, size_for}
-use Rattle.fv_canon.specs.Volumes.{Inside, volumes_in}
+use Rattle.fv_tree.specs.Volumes.{Inside, volumes_in}
 
 -- what the layout knows of a file
 abbrev pub layout_item : FileMeaning → LayoutItem

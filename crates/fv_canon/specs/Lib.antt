@@ -2,7 +2,6 @@
 pub mod Starts
 pub mod PlacedBytes
 pub mod StoredFiles
-pub mod Volumes
 pub mod Layouts
 pub mod Image
 pub mod Refusals

@@ -12,8 +12,8 @@ ghost use Rattle.fv_base.specs.Input.{WriteStops};
 ghost use Rattle.fv_tree.specs.Denotes.{Accepted, IsMeaning};
 ghost use Rattle.fv_tree.specs.Meaning.{Meaning};
 
-use crate::image_walk::put_image;
 use crate::known_layout::Layout;
+use crate::laid_parts::put_laid_volume;
 use crate::layout_walk::layout;
 use fv_base::{ByteList, Fault, ListSink, Port, Sink, WriteSink};
 use fv_tree::VolumeView;
@@ -26,9 +26,7 @@ pub fn put_canonical<S: Sink>(view: &VolumeView<'_>, layout: &Layout, out: &mut 
     requires { IsLayout view.now layout.now }
     ensures { (image : List ℕ) × IsImage view.now image × S.takes out.old image out.new }
 {
-    // For what was read, the bytes of the walk are its image.
-    view.known();
-    put_image(out, view, layout.all());
+    put_laid_volume(view, layout.starts(), out);
 }
 
 /// Writes the canonical image of the view to a port, in one walk that takes no memory. The layout

@@ -75,7 +75,7 @@ pub fn is_canonical_image(alloc: Global, view: &VolumeView<'_>, bytes: &[u8]) ->
     // For what was read, the bytes of the walk are its image; if it does not fit, it has none.
     view.known();
     match layout(alloc, view) {
-        Ok(places) => Ok(is_image(view, places.all(), bytes)),
+        Ok(places) => Ok(is_image(view, places.starts(), bytes)),
         Err(fault) => {
             if fault.kind == FaultKind::OutOfMemory {
                 return Err(fault);

@@ -48,8 +48,8 @@ impl Layout {
         }
     }
 
-    // All starts: those of the volume's own files, and then those of the volumes inside it.
-    pub(crate) fn all(&self) -> &[u64]
+    /// All starts: those of the volume's own files, and then those of the volumes inside it.
+    pub fn starts(&self) -> &[u64]
         ensures { result.now ≡ self.now.own ++ self.now.inner }
     {
         self.starts.as_slice()

@@ -7,7 +7,7 @@ ghost use Rattle.fv_canon.specs.inner.Depths.{NestsVolume, NestsFiles, NestsSect
 ghost use Rattle.fv_canon.specs.LayoutFaults.{layout_fault, AllFit, FirstUnfit, Unfit};
 ghost use Rattle.fv_canon.specs.Layouts.{layout_item, layout_items, AreStarts, Fits};
 ghost use Rattle.fv_canon.specs.LayoutForms.{Laid, LaysVolume, IsLayout};
-ghost use Rattle.fv_canon.specs.Volumes.{volumes_in, volumes_in_files, volumes_in_sections, volumes_in_body};
+ghost use Rattle.fv_tree.specs.Volumes.{volumes_in, volumes_in_files, volumes_in_sections, volumes_in_body};
 ghost use Rattle.fv_canon.specs.inner.ImageOf.{starts_in};
 ghost use Rattle.fv_canon.specs.Starts.{Placement};
 ghost use Rattle.fv_canon.specs.inner.Reaches.{IsLawfulItem};
@@ -69,7 +69,6 @@ pub(crate) fn layout_of_body(alloc: Global, body: Body<'_, '_>) -> Result<Vec<u6
     ensures ok { IfOk result (λ starts. Laid AreStarts (volumes_in_body (body_view body.entry)) starts.items) }
     ensures err { IfErr result (λ f. (f ≡ out_of_memory) ⊎ FirstUnfit (volumes_in_body (body_view body.entry)) 0 f) }
     ensures fits { AllFit (volumes_in_body (body_view body.entry)) → IfErr result (λ f. f ≡ out_of_memory) }
-    ensures memory { IfErr result (λ f. f ≡ out_of_memory → 0 < starts_in (volumes_in_body (body_view body.entry))) }
 {
     let mut starts = Vec::new(alloc);
     lay_body(body, 0, &mut starts)?;

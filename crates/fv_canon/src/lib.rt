@@ -13,6 +13,7 @@ pub mod further_laws;
 pub mod headline;
 mod image_walk;
 mod known_layout;
+mod laid_parts;
 mod layout_walk;
 mod normalising;
 mod pads_and_headers;
@@ -30,7 +31,8 @@ pub use flash_image::{
     LaidImage, lay_out_image, normalise_image, put_laid_image, write_normalised_image,
 };
 pub use known_layout::Layout;
+pub use laid_parts::{put_laid_data, put_laid_volume, starts_inside};
 pub use layout_walk::layout;
 pub use normalising::{normalise, run_normalise, whole_volume, write_normalised};
-pub use part_bytes::{body_bytes, file_bytes, put_file_data};
+pub use part_bytes::{body_bytes, file_bytes};
 pub use side::Side;

@@ -1,51 +1,23 @@
 //! The canonical bytes of a part of a volume.
 
-ghost use Rattle.std.specs.Prelude.{◌≡◌, ◌≢◌, ◌⊎◌, ℕ, List, [], Any, IfOk, IfErr, OnOk};
+ghost use Rattle.std.specs.Prelude.{◌≡◌, ◌⊎◌, ℕ, List, IfOk, IfErr};
 ghost use Rattle.fv_base.specs.Faults.{out_of_memory};
 ghost use Rattle.fv_canon.specs.Image.{IsData, IsBodyImage};
 ghost use Rattle.fv_canon.specs.LayoutFaults.{AllFit, FirstUnfit};
-ghost use Rattle.fv_canon.specs.Volumes.{volumes_in_body, volumes_in_content};
-ghost use Rattle.fv_tree.specs.Meaning.{content_of, files_of};
+ghost use Rattle.fv_tree.specs.Volumes.{volumes_in_body, volumes_in_content};
+ghost use Rattle.fv_tree.specs.Meaning.{content_of};
 ghost use Rattle.fv_tree.specs.MeaningParts.{body_of};
 
 use crate::data_body::data_body;
 use crate::image_walk::put_body_image;
+use crate::laid_parts::put_laid_data;
 use crate::layout_walk::layout_of_body;
-use fv_base::{ByteList, Fault, ListSink, Sink};
+use fv_base::{ByteList, Fault, ListSink};
 use fv_tree::{FileView, SectionView};
 use std::alloc::Global;
 
-/// Puts the data of a file, as they are in its volume's canonical image, into a sink. (PI
-/// specification, volume 3, section 3.2.3.)
-///
-/// # Errors
-///
-/// The fault of the first volume in the data that does not fit, at 0 and with its depth: 1 if it is
-/// the body of one of the file's own sections. OutOfMemory, only if a volume in the data has a file.
-/// Nothing was put then.
-pub fn put_file_data<S: Sink>(alloc: Global, file: &FileView<'_>, out: &mut S) -> Result<(), Fault>
-    ensures data { OnOk result ((bytes : List ℕ) × IsData (content_of file.now) bytes × S.takes out.old bytes out.new) }
-
-    // Any error other than OutOfMemory is that of the first volume that does not fit, and nothing
-    // was put.
-    ensures err { IfErr result (λ f. ((f ≡ out_of_memory) ⊎ FirstUnfit (volumes_in_content (content_of file.now)) 0 f)
-        × (out.new ≡ out.old)) }
-    ensures fits { AllFit (volumes_in_content (content_of file.now)) → IfErr result (λ f. f ≡ out_of_memory) }
-
-    // Memory runs out only if a volume in the data has a file.
-    ensures memory { IfErr result
-        (λ f. f ≡ out_of_memory → Any (λ v. files_of v.volume ≢ []) (volumes_in_content (content_of file.now))) }
-{
-    // For what was read, the bytes of the walk are its data.
-    file.known();
-    let data = data_body(file);
-    let starts = layout_of_body(alloc, data)?;
-    put_body_image(out, data, starts.as_slice());
-    Ok(())
-}
-
 /// The data of a file as they are in its volume's canonical image. Memory for the whole length is
-/// reserved first. (PI specification, volume 3, section 3.2.3.)
+/// reserved once. (PI specification, volume 3, section 3.2.3.)
 ///
 /// # Errors
 ///
@@ -61,8 +33,11 @@ pub fn file_bytes(alloc: Global, file: &FileView<'_>) -> Result<ByteList, Fault>
     ensures err { IfErr result (λ f. (f ≡ out_of_memory) ⊎ FirstUnfit (volumes_in_content (content_of file.now)) 0 f) }
     ensures fits { AllFit (volumes_in_content (content_of file.now)) → IfErr result (λ f. f ≡ out_of_memory) }
 {
+    // In a file that was read, groups and volumes nest so little that a byte counts them.
+    file.known();
+    let starts = layout_of_body(alloc, data_body(file))?;
     let mut out = ListSink::with_room(alloc, file.data_len() as usize)?;
-    put_file_data(alloc, file, &mut out)?;
+    put_laid_data(file, starts.as_slice(), &mut out);
     out.finish()
 }
 

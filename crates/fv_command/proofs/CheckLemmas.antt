@@ -15,8 +15,8 @@ use Rattle.fv_base.specs.Limits.{depth_limit}
 use Rattle.fv_tree.specs.Denotes.{Accepted}
 use Rattle.fv_tree.specs.Meaning.{Meaning, files_of}
 use Rattle.fv_command.specs.inner.CheckRuns.{NotedCells, NotedText, noted_lines}
-use Rattle.fv_command.specs.CheckTexts.{CheckText, verdict_line}
-use Rattle.fv_lines.specs.Notes.{AreNotes, depex_lines, depexes_in, pad_line, pad_notes, written_in}
+use Rattle.fv_command.specs.CheckTexts.{CheckText}
+use Rattle.fv_lines.specs.Notes.{AreNotes, depex_lines, depexes_in, pad_line, pad_notes, verdict_line, written_in}
 use Rattle.fv_lines.specs.declared.depex_notes.DepexNote.{DepexNote}
 
 -- ---- pads that are erased

@@ -1,7 +1,6 @@
 pub mod CheckLemmas
 pub mod EndLemmas
 pub mod InputLemmas
-pub mod ListLemmas
 pub mod OpenerLemmas
 pub mod PadLemmas
 pub mod PartLemmas

@@ -4,7 +4,7 @@ use Rattle.std.specs.Prelude.{◌⊎◌}
 use Rattle.fv_base.specs.Faults.{out_of_memory}
 use Rattle.fv_base.specs.declared.fault.Fault.{Fault}
 use Rattle.fv_canon.specs.LayoutFaults.{FirstUnfit}
-use Rattle.fv_canon.specs.Volumes.{volumes_in_body}
+use Rattle.fv_tree.specs.Volumes.{volumes_in_body}
 use Rattle.fv_tree.specs.LookupInstances.{section_of_type}
 use Rattle.fv_tree.specs.Meaning.{FileMeaning, ContentMeaning, SectionMeaning, SectionMeanings, Plain, Sectioned, content_of}
 use Rattle.fv_tree.specs.MeaningParts.{body_of}

@@ -1,21 +1,14 @@
 -- What a check of a volume writes: what in it deserves a note, and whether it is its own canonical image.
-use Rattle.std.specs.Prelude.{◌≡◌, ◌↔◌, ℕ, Bool, true, false, List, ◌++◌}
-use Rattle.std.specs.Prelude.{drop, codes}
+use Rattle.std.specs.Prelude.{◌≡◌, ◌↔◌, ℕ, Bool, true, List, ◌++◌, drop}
 use Rattle.fv_base.specs.declared.flash.Polarity.{Polarity}
 use Rattle.fv_canon.specs.Image.{IsImage}
-use Rattle.fv_text.specs.HexText.{line_feed}
 use Rattle.fv_file.specs.Cells.{CellForm, Tiles}
 use Rattle.fv_head.specs.Head.{BeginsVolume}
 use Rattle.fv_head.specs.declared.extent.Extent.{Extent}
 use Rattle.fv_tree.specs.Denotes.{Accepted}
 use Rattle.fv_tree.specs.Meaning.{Meaning, files_of, head_of}
-use Rattle.fv_lines.specs.Notes.{AreNotes, depex_lines, depexes_in, pad_notes}
+use Rattle.fv_lines.specs.Notes.{AreNotes, depex_lines, depexes_in, pad_notes, verdict_line}
 use Rattle.fv_lines.specs.declared.depex_notes.DepexNote.{DepexNote}
-
--- whether a volume is its own canonical image
-abbrev pub verdict_line : Bool → List ℕ
-verdict_line true = codes "canonical" ++ line_feed
-verdict_line false = codes "not canonical" ++ line_feed
 
 -- a volume with this meaning has these cells, which tile it from its first file's offset on, and its erased bytes are
 -- of this polarity

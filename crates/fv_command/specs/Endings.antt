@@ -1,7 +1,9 @@
 -- How a run ends.
 use Rattle.std.specs.Io.KnownBytes.{Appends}
-use Rattle.std.specs.Prelude.{◌≡◌, ◌⊎◌, true, List, ℕ}
+use Rattle.std.specs.Prelude.{◌≡◌, ◌⊎◌, true, List, ℕ, IfSome}
 use Rattle.fv_text.specs.PortViews.{Change, Shown, StopsIn, Writes}
+use Rattle.fv_command.specs.Lines.{refusal_line}
+use Rattle.fv_command.specs.declared.ending.Ending.{Ending}
 use Rattle.fv_command.specs.declared.status.Status.{Status}
 use Rattle.fv_command.specs.declared.status.Status.TheVariants as statuses
 
@@ -22,3 +24,7 @@ abbrev pub Ends : Status → List ℕ → Change → Status → Type 0
 Ends ran text output status =
     ((status ≡ ran) × Writes output.old output.new text)
     ⊎ ((status ≡ statuses.Refused) × (StopsIn output.old output.new text ⊎ FlushFails output.old output.new text))
+
+-- a refusal that is returned is the one that is reported: its line was written, or a write failed in it
+abbrev pub Reports : Ending → Change → Type 0
+Reports ended output = IfSome ended.refusal (λ r. Ends statuses.Refused (refusal_line r) output ended.status)

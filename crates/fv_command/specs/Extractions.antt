@@ -3,7 +3,7 @@ use Rattle.std.specs.Prelude.{◌≡◌, ⊤, ℕ, List, Option, Some, None}
 use Rattle.fv_base.specs.declared.fault.Fault.{Fault}
 use Rattle.fv_canon.specs.Image.{IsData, IsBodyImage}
 use Rattle.fv_canon.specs.LayoutFaults.{FirstUnfit}
-use Rattle.fv_canon.specs.Volumes.{volumes_in_body, volumes_in_content}
+use Rattle.fv_tree.specs.Volumes.{volumes_in_body, volumes_in_content}
 use Rattle.fv_section.specs.Frames.{FrameForm, Splits}
 use Rattle.fv_tree.specs.LookupInstances.{section_of_type, frame_of_type, security_core}
 use Rattle.fv_tree.specs.Meaning.{FileMeaning, SectionMeaning, SectionMeanings, Plain, Sectioned, content_of}

@@ -1,13 +1,13 @@
 -- The definitions in the order in which they can be read.
 pub mod CheckTexts
 pub mod Extractions
-pub mod Endings
 pub mod Lines
+pub mod Endings
 pub mod Inputs
 pub mod SideRuns
 pub mod Sources
 pub mod HobRuns
-pub mod ListTexts
+pub mod SumTexts
 pub mod Tasks
 pub mod TaskRuns
 pub mod Runs

@@ -1,9 +1,11 @@
 -- The lines that the program writes of faults.
-use Rattle.std.specs.Prelude.{ℕ, List, [], ◌++◌, codes, decimal}
+use Rattle.std.specs.Prelude.{ℕ, List, ◌++◌, codes, decimal}
 use Rattle.fv_base.specs.Faults.{fault_number}
 use Rattle.fv_base.specs.declared.fault.Fault.{Fault}
 use Rattle.fv_canon.specs.declared.side.Side.{Side}
 use Rattle.fv_canon.specs.declared.side.Side.TheVariants as sides
+use Rattle.fv_command.specs.declared.ending.Refusal.{Refusal}
+use Rattle.fv_command.specs.declared.ending.Refusal.TheVariants.{Input, OneOfTwo, Hobs}
 use Rattle.fv_hob.specs.HobChecks.{hob_fault_number}
 use Rattle.fv_hob.specs.declared.fault.HobFault.{HobFault}
 use Rattle.fv_text.specs.HexText.{line_feed}
@@ -25,3 +27,9 @@ abbrev pub side_fault_line : Side → Fault → List ℕ
 side_fault_line sides.First f = codes "first " ++ fault_line f
 side_fault_line sides.Second f = codes "second " ++ fault_line f
 side_fault_line sides.Output f = fault_line f
+
+-- that of a refusal
+abbrev pub refusal_line : Refusal → List ℕ
+refusal_line (Input f) = fault_line f
+refusal_line (OneOfTwo side f) = side_fault_line side f
+refusal_line (Hobs f) = hob_fault_line f

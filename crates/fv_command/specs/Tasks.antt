@@ -15,7 +15,8 @@ use Rattle.fv_command.specs.CheckTexts.{CheckText}
 use Rattle.fv_text.specs.HexText.{ShowsBytes}
 use Rattle.fv_command.specs.Inputs.{BeginsWith, BeginsNone}
 use Rattle.fv_lines.specs.ScanLines.{ScanText}
-use Rattle.fv_command.specs.ListTexts.{ListText, SumsText}
+use Rattle.fv_lines.specs.ListTexts.{ListText}
+use Rattle.fv_command.specs.SumTexts.{SumsText}
 use Rattle.fv_command.specs.Extractions.{IsPart, StopsPart}
 use Rattle.fv_command.specs.declared.status.Status.{Status}
 use Rattle.fv_command.specs.declared.status.Status.TheVariants.{Done, Different}

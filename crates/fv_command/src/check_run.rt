@@ -2,7 +2,7 @@
 
 ghost use Rattle.std.specs.Prelude.{◌≡◌, ◌⊎◌, ℕ, Bool, List, option_copied, IfErr, IfOk, OnErr};
 ghost use Rattle.fv_base.specs.Faults.{out_of_memory};
-ghost use Rattle.fv_command.specs.CheckTexts.{CheckText, verdict_line};
+ghost use Rattle.fv_command.specs.CheckTexts.{CheckText};
 ghost use Rattle.fv_command.specs.inner.CheckRuns.{NotedText};
 ghost use Rattle.fv_command.specs.inner.TaskSteps.{Performs};
 ghost use Rattle.fv_tree.specs.Denotes.{Accepted};
@@ -12,21 +12,10 @@ use crate::status::Status;
 use fv_base::{Fault, Polarity, Sink};
 use fv_canon::{is_canonical_image, whole_volume};
 use fv_file::Cells;
-use fv_lines::put_depex_notes;
+use fv_lines::{put_depex_notes, put_verdict};
 use fv_plan::Task;
 use fv_tree::VolumeView;
 use std::alloc::Global;
-
-// Puts whether a volume is its own canonical image.
-fn put_verdict<S: Sink>(out: &mut S, is_same: bool)
-    ensures { S.takes out.old (verdict_line is_same) out.new }
-{
-    if is_same {
-        out.put(b"canonical\n");
-    } else {
-        out.put(b"not canonical\n");
-    }
-}
 
 // Puts the lines of a check of the volume. If `tiled` is None, no pad is noted: the volume is its
 // own canonical image.

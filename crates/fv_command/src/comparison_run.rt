@@ -6,9 +6,10 @@ ghost use Rattle.fv_tree.specs.Denotes.{Accepted};
 ghost use Rattle.fv_command.specs.Inputs.{Gives, GivingStops};
 ghost use Rattle.fv_text.specs.PortViews.{Change, change, shown};
 ghost use Rattle.fv_command.specs.SideRuns.{GivesVolume, SaysComparison};
+ghost use Rattle.fv_command.specs.inner.CommandSteps.{Puts};
 ghost use Rattle.fv_command.specs.inner.SideSteps.{Compares, verdict_of};
 
-use crate::fault_text::put_side_refusal;
+use crate::ending::Refusal;
 use crate::inputs::{read_bytes, taken_at};
 use crate::status::Status;
 use fv_base::{Fault, Port, Sink};
@@ -98,9 +99,14 @@ fn compare_inputs<First: Read, Second: Read, S: Sink>(
     compare_with(alloc, hex, other_at, &volume, second, out)
 }
 
-/// Puts whether two volumes have the same meaning, or the line of the fault that stopped the run.
-/// If `at` is a number, the first is the volume at this byte of its input. `other_at` says the same
-/// of the second. The second input is read only after a first that is a volume.
+/// Puts whether two volumes have the same meaning and, if not, where they first differ. If `at` is
+/// a number, the first is the volume at this byte of its input. `other_at` says the same of the
+/// second. The second input is read only after a first that is a volume.
+///
+/// # Errors
+///
+/// Those of the reading, of `whole_volume` and of `put_comparison`, with the side that stopped the
+/// run. Nothing was put then.
 pub fn put_compared<First: Read, Second: Read, S: Sink>(
     alloc: Global,
     hex: bool,
@@ -109,12 +115,12 @@ pub fn put_compared<First: Read, Second: Read, S: Sink>(
     first: &mut Port<First>,
     second: &mut Port<Second>,
     out: &mut S,
-) -> Status
-    ensures { (text : List ℕ) × SaysComparison hex at other_at (change First.remaining first.old first.new)
-        (change Second.remaining second.old second.new) result text × S.takes out.old text out.new }
+) -> Result<Status, Refusal>
+    ensures { Puts S.takes (SaysComparison hex at other_at (change First.remaining first.old first.new)
+        (change Second.remaining second.old second.new)) out.old out.new result }
 {
     match compare_inputs(alloc, hex, at, other_at, first, second, out) {
-        Ok(status) => status,
-        Err((side, fault)) => put_side_refusal(out, side, fault),
+        Ok(status) => Ok(status),
+        Err((side, fault)) => Err(Refusal::OneOfTwo(side, fault)),
     }
 }

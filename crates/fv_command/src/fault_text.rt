@@ -4,15 +4,15 @@
 ghost use Rattle.std.specs.Prelude.{◌≡◌, ◌≢◌, ◌++◌, true};
 ghost use Rattle.fv_base.specs.Port.{is_flushed};
 ghost use Rattle.fv_command.specs.Endings.{Ends};
-ghost use Rattle.fv_command.specs.Lines.{fault_line, hob_fault_line, numbered_line, side_fault_line};
+ghost use Rattle.fv_command.specs.Lines.{numbered_line, refusal_line, side_fault_line};
 ghost use Rattle.fv_command.specs.inner.EndSteps.{Written};
 ghost use Rattle.fv_text.specs.PortViews.{change, shown};
 
+use crate::ending::{Ending, Refusal};
 use crate::run_end::{finish, is_whole};
 use crate::status::Status;
 use fv_base::{Fault, Port, Sink, WriteSink};
 use fv_canon::Side;
-use fv_hob::HobFault;
 use fv_text::put_decimal;
 use std::io::Write;
 
@@ -28,29 +28,9 @@ fn put_fault<S: Sink>(out: &mut S, words: &[u8], number: u8, offset: u64)
     out.put(b"\n");
 }
 
-/// Puts the line `fault N at M` of a fault, with its number and its offset in bytes, and returns
-/// Refused.
-pub fn put_refusal<S: Sink>(out: &mut S, fault: Fault) -> Status
-    ensures status { result ≡ Status.Refused }
-    ensures line { S.takes out.old (fault_line fault) out.new }
-{
-    put_fault(out, b"", fault.kind.number(), fault.place.offset);
-    Status::Refused
-}
-
-/// Puts the line `hob fault N at M` of a rejected hand-off list, and returns Refused.
-pub fn put_hob_refusal<S: Sink>(out: &mut S, fault: HobFault) -> Status
-    ensures status { result ≡ Status.Refused }
-    ensures line { S.takes out.old (hob_fault_line fault) out.new }
-{
-    put_fault(out, b"hob ", fault.number(), fault.offset);
-    Status::Refused
-}
-
-/// Puts the line of the fault of one of two inputs, with the side before it, and returns Refused.
-pub fn put_side_refusal<S: Sink>(out: &mut S, side: Side, fault: Fault) -> Status
-    ensures status { result ≡ Status.Refused }
-    ensures line { S.takes out.old (side_fault_line side fault) out.new }
+// Puts the line of the fault of one of two inputs, with the side before it.
+fn put_side_fault<S: Sink>(out: &mut S, side: Side, fault: Fault)
+    ensures { S.takes out.old (side_fault_line side fault) out.new }
 {
     let words: &[u8] = match side {
         Side::First => b"first ",
@@ -58,7 +38,18 @@ pub fn put_side_refusal<S: Sink>(out: &mut S, side: Side, fault: Fault) -> Statu
         Side::Output => b"",
     };
     put_fault(out, words, fault.kind.number(), fault.place.offset);
-    Status::Refused
+}
+
+/// Puts the line of a refusal: `fault N at M`, with the number of the fault and its offset in
+/// bytes. Before it is `hob` of a hand-off list, and the side of one of two inputs.
+pub fn put_refusal<S: Sink>(out: &mut S, refusal: Refusal)
+    ensures { S.takes out.old (refusal_line refusal) out.new }
+{
+    match refusal {
+        Refusal::Input(fault) => put_fault(out, b"", fault.kind.number(), fault.place.offset),
+        Refusal::OneOfTwo(side, fault) => put_side_fault(out, side, fault),
+        Refusal::Hobs(fault) => put_fault(out, b"hob ", fault.number(), fault.offset),
+    }
 }
 
 // Writes a line. Returns whether all of it was written.
@@ -70,12 +61,12 @@ fn write_line<W: Write>(writer: &mut Port<W>, line: &[u8]) -> bool
     is_whole(&out)
 }
 
-// Writes the line of a fault. Returns whether all of it was written.
-fn write_refusal<W: Write>(writer: &mut Port<W>, fault: Fault) -> bool
-    ensures { Written result (fault_line fault) (shown W.contents writer.old) (shown W.contents writer.new) }
+// Writes the line of a refusal. Returns whether all of it was written.
+fn write_refusal<W: Write>(writer: &mut Port<W>, refusal: Refusal) -> bool
+    ensures { Written result (refusal_line refusal) (shown W.contents writer.old) (shown W.contents writer.new) }
 {
     let mut out = WriteSink::new(writer);
-    put_refusal(&mut out, fault);
+    put_refusal(&mut out, refusal);
     is_whole(&out)
 }
 
@@ -88,11 +79,16 @@ pub fn say<W: Write>(writer: &mut Port<W>, line: &str, status: Status) -> Status
     finish(writer, is_written, status)
 }
 
-/// Writes the line `fault N at M` of a fault, with its number and its offset in bytes, asks the
-/// writer to flush, and returns Refused.
-pub fn refuse<W: Write>(writer: &mut Port<W>, fault: Fault) -> Status
-    ensures { Ends Status.Refused (fault_line fault) (change W.contents writer.old writer.new) result }
+/// Writes the line of a refusal, `fault N at M` with its number and its offset in bytes, asks the
+/// writer to flush, and returns that the run was refused for it.
+pub fn refuse<W: Write>(writer: &mut Port<W>, refusal: Refusal) -> Ending
+    ensures ends { Ends Status.Refused (refusal_line refusal) (change W.contents writer.old writer.new) result.status }
+    ensures why { result.refusal ≡ Some refusal }
 {
-    let is_written = write_refusal(writer, fault);
-    finish(writer, is_written, Status::Refused)
+    let is_written = write_refusal(writer, refusal);
+    let status = finish(writer, is_written, Status::Refused);
+    Ending {
+        status,
+        refusal: Some(refusal),
+    }
 }

@@ -3,10 +3,11 @@
 ghost use Rattle.std.specs.Prelude.{◌≡◌, ℕ, List, IfOk, IfErr};
 ghost use Rattle.fv_command.specs.HobRuns.{GivesImage, HobImageStops, HobInputStops, SaysHobs};
 ghost use Rattle.fv_command.specs.Inputs.{Gives};
+ghost use Rattle.fv_command.specs.inner.CommandSteps.{Puts};
 ghost use Rattle.fv_lines.specs.HobLines.{held_image, image_form};
 ghost use Rattle.fv_text.specs.PortViews.{change, shown};
 
-use crate::fault_text::{put_hob_refusal, put_refusal};
+use crate::ending::Refusal;
 use crate::inputs::read_bytes;
 use crate::status::Status;
 use fv_base::{Fault, Port, Sink};
@@ -61,8 +62,12 @@ fn read_inputs<First: Read, Second: Read>(
     Ok((list, image))
 }
 
-/// Puts the blocks of the hand-off list that the first reader gives, or the line of the fault that
-/// stopped the run. With a base the second reader gives an image whose first byte has that address.
+/// Puts the blocks of the hand-off list that the first reader gives. With a base the second reader
+/// gives an image whose first byte has that address.
+///
+/// # Errors
+///
+/// Those of the reading and of `read_hobs`. Nothing was put then.
 pub fn put_hob_list<First: Read, Second: Read, S: Sink>(
     alloc: Global,
     hex: bool,
@@ -70,18 +75,18 @@ pub fn put_hob_list<First: Read, Second: Read, S: Sink>(
     first: &mut Port<First>,
     second: &mut Port<Second>,
     out: &mut S,
-) -> Status
-    ensures { (text : List ℕ) × SaysHobs base hex (change First.remaining first.old first.new)
-        (change Second.remaining second.old second.new) result text × S.takes out.old text out.new }
+) -> Result<Status, Refusal>
+    ensures { Puts S.takes (SaysHobs base hex (change First.remaining first.old first.new)
+        (change Second.remaining second.old second.new)) out.old out.new result }
 {
     let (list, image) = match read_inputs(alloc, hex, base, first, second) {
         Ok(inputs) => inputs,
-        Err(fault) => return put_refusal(out, fault),
+        Err(fault) => return Err(Refusal::Input(fault)),
     };
     let (hobs, consumed) = match read_hobs(alloc, &list) {
         Ok(read) => read,
-        Err(fault) => return put_hob_refusal(out, fault),
+        Err(fault) => return Err(Refusal::Hobs(fault)),
     };
     put_hobs(out, hobs.as_slice(), consumed, image_of(&image, base));
-    Status::Done
+    Ok(Status::Done)
 }

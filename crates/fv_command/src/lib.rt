@@ -1,20 +1,20 @@
 //! The commands of the program, over readers and a writer.
 //!
-//! A module `.._text` has the lines that commands write. A module `.._run` makes a command of them:
-//! it reads or takes the inputs, and puts the lines into the sink of the run.
+//! A module `.._run` makes a command: it reads or takes the inputs, and puts its text into the sink
+//! of the run. Most lines are those of fv_lines; `fault_text` has the lines of faults.
 #![tactic(auto)]
 
 mod check_run;
 mod comparison_run;
 mod digest_sink;
+mod ending;
 mod extracting;
 mod fault_text;
 mod flash_run;
 mod hob_run;
+mod image_digests;
 mod image_run;
 mod inputs;
-mod leaf_text;
-mod list_text;
 mod opener;
 mod pads;
 mod plan_run;
@@ -22,10 +22,9 @@ mod run_end;
 mod shown_image;
 mod source;
 mod status;
-mod style;
-mod sums;
 mod task_run;
 
+pub use ending::{Ending, Refusal};
 pub use fault_text::{refuse, say};
 pub use opener::{Opener, run_over};
 pub use plan_run::run_plan;

@@ -1,12 +1,14 @@
 //! What opens the inputs of a run, and a run over the inputs that its plan names.
 
-ghost use Rattle.std.specs.Prelude.{◌≡◌, ◌≢◌, ℕ, List, Option, true};
-ghost use Rattle.fv_base.specs.Port.{is_flushed};
+ghost use Rattle.std.specs.Prelude.{◌≡◌, ◌≢◌, ℕ, List, Option, true, false};
+ghost use Rattle.fv_base.specs.Port.{has_erred, inner_of, is_flushed};
+ghost use Rattle.fv_command.specs.Endings.{Reports};
 ghost use Rattle.fv_command.specs.Runs.{RunsOver};
 ghost use Rattle.fv_command.specs.Sources.{IsFirstSource, IsOpened, IsSecondSource};
 ghost use Rattle.fv_plan.specs.Files.{first_file, second_file};
 ghost use Rattle.fv_text.specs.PortViews.{change};
 
+use crate::ending::Ending;
 use crate::plan_run::run_plan;
 use crate::source::Source;
 use crate::status::Status;
@@ -37,6 +39,10 @@ pub trait Opener {
     /// Standard input.
     fn standard_input(&self) -> Self::Standard
         ensures { is_standard self.now result };
+
+    /// How many bytes a file is thought to have; 0 if that is not known. A file may have more or
+    /// fewer: nothing but speed depends on it.
+    fn len_hint(&self, file: &Self::File) -> usize;
 }
 
 // The file at a path; Missing if it cannot be opened.
@@ -70,6 +76,21 @@ fn second_source<O: Opener>(opener: &O, plan: &Plan) -> Source<O::Standard, O::F
     }
 }
 
+// A port over a source. It has room for what a file is thought to have.
+fn port_over<O: Opener>(
+    opener: &O,
+    source: Source<O::Standard, O::File>,
+) -> Port<Source<O::Standard, O::File>>
+    ensures inner { inner_of result ≡ source }
+    ensures erred { has_erred result ≡ false }
+{
+    let room = match &source {
+        Source::File(file) => opener.len_hint(file),
+        _ => 0,
+    };
+    Port::with_room(source, room)
+}
+
 /// Runs a plan over the inputs that it names, and returns how the run ended, as `run_plan` does.
 /// Both inputs are opened before anything is read.
 pub fn run_over<O: Opener, W: Write>(
@@ -77,20 +98,23 @@ pub fn run_over<O: Opener, W: Write>(
     opener: &O,
     plan: &Plan,
     writer: &mut Port<W>,
-) -> Status
+) -> Ending
     ensures runs { RunsOver O.Standard.remaining O.File.remaining (O.opens opener.now) (O.is_standard opener.now)
-        plan.now result (change W.contents writer.old writer.new) }
+        plan.now result.status (change W.contents writer.old writer.new) }
+
+    // A refusal that is returned is the one whose line was written, or a write failed in it.
+    ensures why { Reports result (change W.contents writer.old writer.new) }
 
     // The last call of the writer was a flush, unless the status is Refused.
-    ensures flushed { result ≢ Status.Refused → is_flushed writer.new ≡ true }
+    ensures flushed { result.status ≢ Status.Refused → is_flushed writer.new ≡ true }
 {
     let first = first_source(opener, plan);
     let second = second_source(opener, plan);
     run_plan(
         alloc,
         plan,
-        &mut Port::new(first),
-        &mut Port::new(second),
+        &mut port_over(opener, first),
+        &mut port_over(opener, second),
         writer,
     )
 }

@@ -9,18 +9,20 @@ ghost use Rattle.fv_command.specs.Extractions.{IsPart};
 ghost use Rattle.fv_command.specs.Inputs.{BeginsNone, BeginsWith};
 ghost use Rattle.fv_command.specs.TaskRuns.{SaysTask, StopsTask};
 ghost use Rattle.fv_command.specs.Tasks.{Denies, PartText};
+ghost use Rattle.fv_command.specs.inner.CommandSteps.{Puts};
 ghost use Rattle.fv_command.specs.inner.TaskSteps.{Performs};
 
 use crate::check_run::put_check;
+use crate::ending::Refusal;
 use crate::extracting::{Extraction, extract};
-use crate::fault_text::put_refusal;
 use crate::flash_run::put_normalised_all;
+use crate::image_digests::ImageDigests;
 use crate::image_run::put_normalised;
 use crate::inputs::{read_bytes, taken_at};
-use crate::list_text::{put_list, put_list_sums};
 use crate::status::Status;
 use fv_base::{Fault, Port, Sink};
-use fv_lines::{put_cells, put_volumes};
+use fv_canon::layout;
+use fv_lines::{put_cells, put_list, put_list_with, put_volumes};
 use fv_plan::{Part, Task};
 use fv_text::put_shown;
 use fv_tree::{VolumeView, read_volume};
@@ -89,16 +91,18 @@ fn list<S: Sink>(alloc: Global, input: &[u8], out: &mut S) -> Result<Status, Fau
     ensures { (hex : Bool) → Performs S.takes Task.List hex input.now out.old out.new result }
 {
     let volume = volume_at_start(alloc, input)?;
-    put_list(alloc, &volume, out);
+    put_list(&volume, out);
     Ok(Status::Done)
 }
 
-// Puts the lines of the volume at the start of the input, with sums.
+// Puts the lines of the volume at the start of the input, with sums. Nothing is put before the volume
+// is laid out, and after that nothing fails.
 fn list_sums<S: Sink>(alloc: Global, input: &[u8], out: &mut S) -> Result<Status, Fault>
     ensures { (hex : Bool) → Performs S.takes Task.ListSums hex input.now out.old out.new result }
 {
     let volume = volume_at_start(alloc, input)?;
-    put_list_sums(alloc, &volume, out)?;
+    let places = layout(alloc, &volume)?;
+    put_list_with(&volume, ImageDigests::new(places.starts()), out);
     Ok(Status::Done)
 }
 
@@ -161,8 +165,12 @@ fn read_and_perform<R: Read, S: Sink>(
     perform(alloc, task, hex, taken_at(&input, at), out)
 }
 
-/// Reads an input to its end, and puts the result of the task for it, or the line of the fault that
-/// stops the run. If `at` is a number, the volume at this byte of the input is taken for the input.
+/// Reads an input to its end, and puts the result of the task for it. If `at` is a number, the
+/// volume at this byte of the input is taken for the input.
+///
+/// # Errors
+///
+/// Those of the reading and of the task. Nothing was put then.
 pub fn put_task<R: Read, S: Sink>(
     alloc: Global,
     task: &Task,
@@ -170,12 +178,11 @@ pub fn put_task<R: Read, S: Sink>(
     at: Option<u64>,
     reader: &mut Port<R>,
     out: &mut S,
-) -> Status
-    ensures { (text : List ℕ) × SaysTask task.now hex at (change R.remaining reader.old reader.new) result text
-        × S.takes out.old text out.new }
+) -> Result<Status, Refusal>
+    ensures { Puts S.takes (SaysTask task.now hex at (change R.remaining reader.old reader.new)) out.old out.new result }
 {
     match read_and_perform(alloc, task, hex, at, reader, out) {
-        Ok(status) => status,
-        Err(fault) => put_refusal(out, fault),
+        Ok(status) => Ok(status),
+        Err(fault) => Err(Refusal::Input(fault)),
     }
 }

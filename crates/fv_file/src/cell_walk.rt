@@ -1,12 +1,13 @@
 //! The body of a volume, cut into cells.
 
-ghost use Rattle.std.specs.Prelude.{◌≡◌, ◌≢◌, ℕ, ◌+◌, ◌*◌, ◌<◌, ◌≤◌, ◌%◌, ◌^◌, false, List, ◌++◌, length, drop, Ok, Err, IfOk, IfErr};
+ghost use Rattle.std.specs.Prelude.{◌≡◌, ◌≢◌, ℕ, ◌+◌, ◌*◌, ◌<◌, ◌≤◌, ◌%◌, ◌^◌, if◌then◌else◌, false, List, ◌++◌, length, drop, Ok, Err, IfOk, IfErr};
 ghost use Rattle.fv_base.specs.Measures.{all_are};
 ghost use Rattle.fv_base.specs.Faults.{outer_fault, out_of_memory};
 ghost use Rattle.fv_base.specs.Flash.{erased_byte};
 ghost use Rattle.fv_file.specs.Cells.{CellForm, IsCell, Tiles, is_free};
 ghost use Rattle.fv_file.specs.CellForms.{CellsWithin, cell_len, cell_form};
 ghost use Rattle.fv_file.specs.FileChecks.{IsFirstCellFault, leading_count};
+ghost use Rattle.fv_file.specs.States.{is_alive};
 ghost use Rattle.fv_file.specs.inner.CellVerdicts.{cell_of, cell_verdict, is_unfinished};
 ghost use Rattle.fv_file.specs.inner.CellVerdicts as sorts;
 
@@ -43,11 +44,18 @@ fn stray(rest: &[u8], at: u64, polarity: Polarity) -> Fault
     )
 }
 
-// The cell of a file that is present: a pad, or a valid file.
+// The cell of a file: one that is not valid, a pad, or a valid file.
 fn file_cell(offset: u64, head: FileHead, payload: &[u8]) -> Cell<'_>
-    ensures { cell_form result ≡ cell_of sorts.Valid offset head payload.now }
+    requires { head.size + 7 < 2 ^ 64 }
+    ensures { cell_form result ≡ cell_of (if is_alive head.state then sorts.Valid else sorts.Dead) offset head payload.now }
 {
-    if head.kind == FFS_PAD {
+    if !head.state.is_alive() {
+        Cell::Dead {
+            offset,
+            len: up_to_8(head.size),
+            state: head.state,
+        }
+    } else if head.kind == FFS_PAD {
         Cell::Pad {
             offset,
             head,
@@ -91,15 +99,7 @@ fn cell_at<'a>(
                 len: len as u64,
             })
         }
-        FileState::HeaderValid | FileState::Deleted => {
-            let head = file_at(rest, at, system, state)?;
-            Ok(Cell::Dead {
-                offset: at,
-                len: up_to_8(head.size),
-                state: head.state,
-            })
-        }
-        FileState::DataValid | FileState::Marked => {
+        FileState::HeaderValid | FileState::DataValid | FileState::Marked | FileState::Deleted => {
             let head = file_at(rest, at, system, state)?;
             let payload = &rest[head.header_len as usize..head.size as usize];
             Ok(file_cell(at, head, payload))

@@ -28,17 +28,17 @@ pub const FIXED_CHECKSUM: u8 = 0xaa;
 /// `EFI_FFS_FILE_HEADER` and `EFI_FFS_FILE_HEADER2`.)
 #[derive(Clone, Copy, Debug, PartialEq, Eq)]
 pub struct FileHead {
+    /// The size of the file in bytes, its header included: `Size`, or `ExtendedSize` of a large
+    /// header.
+    pub size: u64,
+    /// The length of the header in bytes, 24 or 32.
+    pub header_len: u64,
     /// The name, `Name`.
     pub name: Guid,
     /// The type, `Type`: 0xF0, `EFI_FV_FILETYPE_FFS_PAD`, for a pad.
     pub kind: u8,
     /// The attribute bits, `Attributes`.
     pub attributes: FileAttributes,
-    /// The size of the file in bytes, its header included: `Size`, or `ExtendedSize` of a large
-    /// header.
-    pub size: u64,
-    /// The length of the header in bytes, 24 or 32.
-    pub header_len: u64,
     /// The byte that makes the header's bytes sum to zero, `IntegrityCheck.Checksum.Header`.
     pub header_sum: u8,
     /// The byte that makes the data sum to zero, or 0xAA: `IntegrityCheck.Checksum.File`.
@@ -177,6 +177,7 @@ pub(crate) fn file_at(
     requires least { 24 ≤ length rest.now }
     requires place { at < 2 ^ 63 }
     ensures is { result ≡ file_verdict system state at rest.now }
+    ensures state { IfOk result (λ h. h.state ≡ state) }
     ensures size { IfOk result (λ h. (h.header_len ≡ file_header_len_at rest.now) × (h.size ≡ file_size_at rest.now)) }
     ensures within { IfOk result (λ h. (h.header_len ≤ h.size) × (h.size ≤ length rest.now)) }
     ensures bound { IfErr result (λ f. f.place.offset ≤ at + length rest.now) }
@@ -187,8 +188,8 @@ pub(crate) fn file_at(
     let header_len = header_len_at(rest);
     check(may_be_large(rest, system), FaultKind::LargeFile, attributes)?;
     check(header_len <= rest.len(), FaultKind::FileSize, size)?;
-    let head = head_in(rest, state);
     check(has_header_sum(rest), FaultKind::FileHeaderSum, at)?;
+    let head = head_in(rest, state);
     check(has_file_size(&head, rest), FaultKind::FileSize, size)?;
     if checks_data(&head) {
         let payload = &rest[header_len..head.size as usize];

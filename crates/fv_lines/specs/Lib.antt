@@ -3,4 +3,6 @@ pub mod ScanLines
 pub mod HobLines
 pub mod CellTexts
 pub mod Notes
+pub mod ListTexts
+pub mod DigestWalks
 pub mod inner

@@ -1,5 +1,6 @@
--- What in a volume deserves a note: pads with bytes that are not erased, and dependency expressions that are rejected.
-use Rattle.std.specs.Prelude.{◌≡◌, ◌⊎◌, ℕ, ◌==◌, ◌||◌, not, if◌then◌else◌, List, [], ◌∷◌, ◌++◌}
+-- What a check says of a volume: what in it deserves a note, which is pads with bytes that are not erased and dependency
+-- expressions that are rejected; and whether it is its own canonical image.
+use Rattle.std.specs.Prelude.{◌≡◌, ◌⊎◌, ℕ, ◌==◌, ◌||◌, not, if◌then◌else◌, Bool, true, false, List, [], ◌∷◌, ◌++◌}
 use Rattle.std.specs.Prelude.{Option, Some, None, codes, decimal}
 use Rattle.std.specs.List.{count_by, flat_map}
 use Rattle.fv_base.specs.Flash.{erased_byte}
@@ -108,3 +109,10 @@ depex_line note =
 
 abbrev pub depex_lines : List DepexNote → List ℕ
 depex_lines notes = flat_map depex_line notes
+
+-- ---- the verdict
+
+-- whether a volume is its own canonical image
+abbrev pub verdict_line : Bool → List ℕ
+verdict_line true = codes "canonical" ++ line_feed
+verdict_line false = codes "not canonical" ++ line_feed

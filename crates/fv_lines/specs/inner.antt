@@ -1,2 +1,3 @@
 -- Definitions that serve only private clauses: there is nothing to believe here.
 pub mod CellRuns
+pub mod Indents

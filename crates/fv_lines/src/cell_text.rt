@@ -11,7 +11,7 @@ ghost use Rattle.fv_lines.specs.inner.CellRuns.{FitTogether, Fits, counted, sums
 use fv_base::Sink;
 use fv_base::field::up_to_8;
 use fv_file::{Cell, FileHead, FileState};
-use fv_text::{put_decimal, put_two_digits};
+use fv_text::{GatheringSink, LentSink, put_decimal, put_two_digits};
 
 /// How many bytes the cells of a volume have.
 #[derive(Clone, Copy)]
@@ -171,13 +171,33 @@ fn put_sums<S: Sink>(out: &mut S, sums: LengthSums)
     out.put(b"\n");
 }
 
-/// Puts a line for the header of a volume, which ends at the offset `first`, a line for each of its
-/// cells, and a line with the sums of their bytes. The cells fit into a volume.
-pub fn put_lines<S: Sink>(out: &mut S, first: u64, list: &[Cell<'_>])
+// Puts the lines of `put_lines`.
+fn put_all<S: Sink>(out: &mut S, first: u64, list: &[Cell<'_>])
     requires { FitTogether (map cell_form list.now) }
     ensures { S.takes out.old (cell_lines first (map cell_form list.now)) out.new }
 {
     put_span_line(out, b"header", 0, first);
     put_list(out, list);
     put_sums(out, sums_of(list));
+}
+
+// Puts the lines of `put_lines`, and returns the sink. A line has many small pieces. They are
+// gathered in a sink that no other text is put into, so that the compiler copies them where they are
+// put.
+fn gather_lines<S: Sink>(below: S, first: u64, list: &[Cell<'_>]) -> S
+    requires { FitTogether (map cell_form list.now) }
+    ensures { S.takes below (cell_lines first (map cell_form list.now)) result }
+{
+    let mut out = GatheringSink::new(below);
+    put_all(&mut out, first, list);
+    out.finish()
+}
+
+/// Puts a line for the header of a volume, which ends at the offset `first`, a line for each of its
+/// cells, and a line with the sums of their bytes. The cells fit into a volume.
+pub fn put_lines<S: Sink>(out: &mut S, first: u64, list: &[Cell<'_>])
+    requires { FitTogether (map cell_form list.now) }
+    ensures { S.takes out.old (cell_lines first (map cell_form list.now)) out.new }
+{
+    let _lent = gather_lines(LentSink::new(out), first, list);
 }

@@ -1,15 +1,27 @@
-//! The lines that commands write of volumes and hand-off lists, except those of `list`.
+//! Every line that commands write, except those of faults and of `compare`.
+//!
+//! A module `.._text` has lines, and a module `.._notes` those of what deserves a note. `cell_run`
+//! makes a command of them.
 #![tactic(auto)]
 
 mod cell_run;
 mod cell_text;
 mod depex_notes;
+mod digest_text;
+mod digests;
 mod hob_text;
+mod indent;
+mod leaf_text;
+mod list_text;
 mod pad_notes;
 mod scan_text;
+mod verdict_text;
 
 pub use cell_run::put_cells;
 pub use depex_notes::{DepexNote, put_depex_notes};
+pub use digests::{Digests, NoDigests};
 pub use hob_text::{MappedImage, Standing, put_hobs, standing_of};
+pub use list_text::{put_list, put_list_with};
 pub use pad_notes::put_pad_notes;
 pub use scan_text::put_volumes;
+pub use verdict_text::put_verdict;

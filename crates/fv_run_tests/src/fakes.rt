@@ -65,16 +65,6 @@ impl<'a> Read for FakeReader<'a> {
     }
 }
 
-/// Gives arbitrary bytes without end.
-#[derive(Drop)]
-pub(crate) struct EndlessReader;
-
-impl Read for EndlessReader {
-    fn read(&mut self, buf: &mut [u8]) -> io::Result<usize> {
-        Ok(buf.len())
-    }
-}
-
 /// Gives spaces without end.
 #[derive(Drop)]
 pub(crate) struct SpaceReader {
@@ -201,15 +191,23 @@ pub struct FakeOpener<'a> {
     second: &'a [u8],
     /// The bytes of standard input.
     standard: &'a [u8],
+    /// How many bytes each file is said to have.
+    len_hint: usize,
 }
 
 impl<'a> FakeOpener<'a> {
-    /// The files and standard input with these bytes.
-    pub(crate) fn new(first: &'a [u8], second: &'a [u8], standard: &'a [u8]) -> FakeOpener<'a> {
+    /// The files and standard input with these bytes. Each file is said to have `len_hint` bytes.
+    pub(crate) fn new(
+        first: &'a [u8],
+        second: &'a [u8],
+        standard: &'a [u8],
+        len_hint: usize,
+    ) -> FakeOpener<'a> {
         FakeOpener {
             first,
             second,
             standard,
+            len_hint,
         }
     }
 }
@@ -233,5 +231,9 @@ impl<'a> Opener for FakeOpener<'a> {
 
     fn standard_input(&self) -> FakeReader<'a> {
         FakeReader::new(self.standard, 50, false)
+    }
+
+    fn len_hint(&self, _file: &FakeReader<'a>) -> usize {
+        self.len_hint
     }
 }

@@ -1,5 +1,7 @@
 //! The tests of fv_canon, fv_command, fv_arguments and fv_caller, a module a crate, by their public
-//! calls. Two modules have the tests of what fv_text and fv_lines do for the commands.
+//! calls, and one module for fv_text. They try what only a caller can show: readers and writers
+//! that stop, plans, and failed allocations. What the program shows is in `rows/`, and `.ci/rows`
+//! runs it.
 #![tactic(auto)]
 
 #[cfg(test)]
@@ -12,8 +14,6 @@ mod canon;
 mod command;
 #[cfg(test)]
 mod fakes;
-#[cfg(test)]
-mod lines;
 #[cfg(test)]
 mod row_bytes;
 #[cfg(test)]

@@ -5,7 +5,7 @@
 //! writes is compared with others. The tables of fv_tests have no such names: there a header is
 //! spelled by the volume's length, since each row has a volume of its own.
 
-use crate::volumes::{lists, parts, refused, text_named, unplaced, volumes};
+use crate::volumes::{parts, text_named, volumes};
 use fv_base::Port;
 use fv_text::read_hex;
 use std::alloc::{AllocError, Global};
@@ -60,7 +60,7 @@ fn spelled_bytes(alloc: Global, text: &str) -> Option<Vec<u8>> {
 /// The bytes that words of digits and names of the tables spell.
 pub(crate) fn bytes_of(alloc: Global, text: &str) -> Option<Vec<u8>> {
     let mut words = String::from_str(alloc, text).ok()?;
-    for table in [lists(), volumes(), unplaced(), refused(), parts()] {
+    for table in [volumes(), parts()] {
         words = expanded(alloc, table, words.as_str())?;
     }
     spelled_bytes(alloc, words.as_str())
@@ -71,14 +71,6 @@ pub(crate) fn bytes_in_two_tries(alloc: Global, words: &str) -> Option<Vec<u8>> 
     match bytes_of(alloc, words) {
         None => bytes_of(alloc, words),
         bytes => bytes,
-    }
-}
-
-/// Whether a text was made, and is the expected one.
-pub(crate) fn text_is(text: Option<String>, wanted: &str) -> bool {
-    match text {
-        Some(text) => text.as_str() == wanted,
-        None => false,
     }
 }
 

@@ -1,11 +1,21 @@
-//! The tests of the public calls of `fv_file`, `fv_section` and `fv_tree`, a module a crate: what no
-//! contract says.
+//! The tests of the public calls of `fv_base`, `fv_head`, `fv_file`, `fv_section`, `fv_depex`,
+//! `fv_hob` and `fv_tree`, a module a crate: what no contract says.
 #![tactic(auto)]
 
+#[cfg(test)]
+mod base;
+#[cfg(test)]
+mod depex;
 #[cfg(test)]
 mod faults;
 #[cfg(test)]
 mod file;
+#[cfg(test)]
+mod head;
+#[cfg(test)]
+mod hob;
+#[cfg(test)]
+mod parts;
 #[cfg(test)]
 mod section;
 #[cfg(test)]

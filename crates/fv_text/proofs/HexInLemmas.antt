@@ -1,21 +1,14 @@
 -- What a decoder has come to, a piece of text later, and at its end.
 use Rattle.std.proofs.lemmas.Grind.{common_steps}
-use Rattle.std.proofs.Common.{◌≡◌, ◌<◌, ◌≤◌, ◌⊎◌, inl, inr, List, [], ◌∷◌, ℕ, ◌+◌, ◌/◌, ◌++◌, Bool, true, false, not, Option}
+use Rattle.std.proofs.Common.{◌≡◌, ◌<◌, ◌≤◌, ◌⊎◌, inl, inr, List, [], ◌∷◌, ℕ, ◌+◌, ◌/◌, ◌++◌, Bool, true, false, not}
 use Rattle.std.proofs.Common.{refl, sym, ap, subst, ◌∙◌, append_assoc, append-nil, length-append, arith}
-use Rattle.std.specs.Prelude.{◌==◌, take, length, IfOk, Result, Ok, Err}
-use Rattle.std.specs.Io.KnownBytes.{Consumes}
-use Rattle.std.proofs.Math.Seq.{take-append_seam}
+use Rattle.std.specs.Prelude.{◌==◌, length}
 use Rattle.std.proofs.lemmas.Bool.Decides.{Decides-eqb, nat_tests}
-use Rattle.std.proofs.lemmas.List.{length-take-le}
-use Rattle.fv_base.specs.declared.fault.Fault.{Fault}
-use Rattle.fv_base.specs.declared.fault.FaultKind.TheVariants as kinds
-use Rattle.fv_base.specs.Faults.{outer_fault}
 use Rattle.fv_base.specs.Limits.{volume_limit}
 use Rattle.fv_base.proofs.Laws.{up_is_not_down}
 use Rattle.fv_text.specs.declared.hex_text.Decoder.{Decoder}
-use Rattle.fv_text.specs.inner.HexDecoding.{AddsDigits, Decodes, DecodesPairs, HoldsDigits, RefusesText}
-use Rattle.fv_text.specs.HexIn.{GivesText, IsLongText, IsNoText, TextStops, text_limit, DigitsSpell, squeezed}
-use Rattle.fv_text.specs.inner.HexDecoding.{IsSpoilt}
+use Rattle.fv_text.specs.inner.HexDecoding.{AddsDigits, Decodes, DecodesPairs, HoldsDigits, IsSpoilt}
+use Rattle.fv_text.specs.HexIn.{IsNoText, DigitsSpell, squeezed}
 use Rattle.fv_text.proofs.HexDigitLemmas.{odd_reads_nothing, reads_count, reads_joined, spoilt_behind, spoilt_more}
 use Rattle.fv_text.proofs.WhiteSpaceLemmas.{squeezed_more}
 
@@ -114,6 +107,8 @@ pub stays_wrong : (d : Decoder) (before text : List ℕ) → d.is_wrong ≡ true
 stays_wrong d before text wrong so_far = record {
   wrong = λ up. subst IsSpoilt (sym (squeezed_more before text)) (spoilt_more (squeezed before) (squeezed text) (so_far.wrong up));
   right = λ down. absurd (up_is_not_down d.is_wrong wrong down);
+  small = so_far.small;
+  waiting = so_far.waiting;
 }
 
 -- no text is spelled where it is wrong
@@ -130,50 +125,3 @@ odd_is_no_text text waiting held is_long one h = grind (arith, common_steps, odd
 pub whole_reads : (text waiting held : List ℕ) (is_long : Bool) → waiting ≡ [] → (h : HoldsDigits is_long held waiting (squeezed text))
     → DigitsSpell (squeezed text) h.bytes
 whole_reads text waiting held is_long none h = grind (arith, common_steps, append-nil)
-
--- a fault of a whole text stops its reading
-pub refused_stops : (old new : Option (List ℕ)) (erred : Bool) (text : List ℕ) → GivesText old new text → length text ≤ text_limit
-    → (fault : Fault) → RefusesText text fault → TextStops old new erred fault
-refused_stops old new erred text gives short fault refuses = grind (arith, common_steps)
-
--- a whole text is no even number of digits
-pub refuses_no_text : (text : List ℕ) (f : Fault) → f ≡ outer_fault kinds.ReadFault 0 → IsNoText text → RefusesText text f
-refuses_no_text text f is none = subst (RefusesText text) (sym is) (record { depth = refl; cause = (refl, none) })
-
--- a whole text spells more bytes than a volume has
-pub refuses_long_text : (text : List ℕ) (f : Fault) → f ≡ outer_fault kinds.Length volume_limit → IsLongText text → RefusesText text f
-refuses_long_text text f is long = subst (RefusesText text) (sym is) (record { depth = refl; cause = (refl, long) })
-
--- two facts of what is done
-pub both_ok : {T E : Type 0} (r : Result T E) (P Q S : T → Type 0) → ((x : T) → P x → Q x → S x) → IfOk r P → IfOk r Q → IfOk r S
-both_ok (Ok x) P Q S f p q = f x p q
-both_ok (Err e) P Q S f p q = tt
-
--- turns run out only where a reader has erred
-pub ran_out : (flag : Bool) (turn len : ℕ) → (flag ≡ false → turn ≤ len) → len < turn → flag ≡ true
-ran_out true turn len gave more = refl
-ran_out false turn len gave more = let few = gave refl in absurd (omega (arith, few, more))
-
--- the reader failed after a text
-pub stops_by_reader : (old new : Option (List ℕ)) (erred : Bool) (text : List ℕ) (n : ℕ) (f : Fault) → Consumes old new text
-    → n ≡ length text → erred ≡ true → f ≡ outer_fault kinds.ReadFault n → TextStops old new erred f
-stops_by_reader old new erred text n f gave count up is = grind (arith, common_steps)
-
--- the reader gave more text than a run takes
-pub stops_by_long_text : (old new : Option (List ℕ)) (erred : Bool) (text : List ℕ) (f : Fault) → Consumes old new text
-    → text_limit < length text → f ≡ outer_fault kinds.Length volume_limit → TextStops old new erred f
-stops_by_long_text old new erred text f gave more is = grind (arith, common_steps)
-
--- a chunk, which is seen in its place
-seen_is_chunk : (chunk behind seen : List ℕ) (len : ℕ) → length chunk ≡ len → seen ≡ take len (chunk ++ behind) → seen ≡ chunk
-seen_is_chunk chunk behind seen len long is = is ∙ ap (λ (k : ℕ). take k (chunk ++ behind)) (sym long) ∙ take-append_seam chunk behind
-
--- how long a text is with the front of a chunk after it
-pub piece_count : (text chunk behind seen : List ℕ) (n len : ℕ) → length chunk ≡ len → seen ≡ take len (chunk ++ behind) → n ≤ length chunk
-    → length (text ++ take n seen) ≡ length text + n
-piece_count text chunk behind seen n len long is within = grind (arith, common_steps, length-take-le, length-append, seen_is_chunk)
-
--- a reader gave a text, and then the front of a chunk
-pub piece_read : (a b c : Option (List ℕ)) (text chunk behind seen : List ℕ) (n len : ℕ) → Consumes a b text → Consumes b c (take n chunk)
-    → length chunk ≡ len → seen ≡ take len (chunk ++ behind) → Consumes a c (text ++ take n seen)
-piece_read a b c text chunk behind seen n len gave next long is = grind (arith, common_steps, seen_is_chunk)

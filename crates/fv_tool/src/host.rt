@@ -6,9 +6,11 @@ ghost use Rattle.std.specs.Prelude.{⊤, List, String, IfErr, IfOk};
 ghost use Rattle.std.specs.Vec.Iter.{into_iter_items};
 ghost use Rattle.std.specs.declared.io.ErrorKind.{ErrorKind};
 
+use crate::advice::Advice;
 use fv_command::Opener;
 use std::env::Args;
-use std::io::{Printer, Write};
+use std::fs::OpenFile;
+use std::io::{IsTerminal, Printer, Stderr, Stdin, Write};
 use std::rt::{Env, Files};
 use std::{env, fs, io};
 
@@ -38,18 +40,32 @@ pub trait Process {
     /// Standard output.
     fn standard_output(&self) -> Self::Writer
         ensures { is_output self.now result };
+
+    /// Says this to the person at the terminal, if there is one. It is no result of the run, and if
+    /// it cannot be said, nothing changes.
+    fn advise(&self, advice: Advice);
 }
 
 /// The process of a runtime.
 #[derive(Drop)]
 pub struct Host<'r, R> {
     rt: &'r R,
+    input: Stdin,
+    errors: Stderr,
 }
 
 impl<'r, R> Host<'r, R> {
-    /// The process of this runtime.
-    pub fn new(rt: &'r R) -> Host<'r, R> {
-        Host { rt }
+    /// The process of this runtime, with its standard input and standard error.
+    pub fn new(rt: &'r R, input: Stdin, errors: Stderr) -> Host<'r, R> {
+        Host { rt, input, errors }
+    }
+
+    // Writes this to standard error, if that is a terminal. If it cannot be written, nothing
+    // changes.
+    fn write_to_terminal(&self, advice: Advice) {
+        if self.errors.is_terminal() {
+            let _ = self.errors.eprintln(advice);
+        }
     }
 }
 
@@ -67,7 +83,18 @@ impl<'r, R: Files + Input> Opener for Host<'r, R> {
     }
 
     fn standard_input(&self) -> R::Reader {
+        if self.input.is_terminal() {
+            self.write_to_terminal(Advice::ReadsStandardInput);
+        }
         self.rt.reader()
+    }
+
+    // The length that the system reports of a regular file.
+    fn len_hint(&self, file: &R::File) -> usize {
+        match file.metadata() {
+            Ok(found) if found.is_file() => found.len() as usize,
+            _ => 0,
+        }
     }
 }
 
@@ -86,5 +113,9 @@ impl<'r, R: Env + Print + AllocGlobal> Process for Host<'r, R> {
 
     fn standard_output(&self) -> Printer<'r, R> {
         io::writer(self.rt)
+    }
+
+    fn advise(&self, advice: Advice) {
+        self.write_to_terminal(advice);
     }
 }

@@ -3,7 +3,7 @@
 #![tactic(auto)]
 
 ghost use Rattle.fv_text.specs.PortViews.{Writes, change, seen, shown};
-ghost use Rattle.fv_command.specs.Endings.{Ends};
+ghost use Rattle.fv_command.specs.Endings.{Ends, Reports};
 ghost use Rattle.fv_command.specs.Endings.{exit_code};
 ghost use Rattle.fv_tool.specs.Does.{IsGiven, RunsArguments, RunsProcess};
 ghost use Rattle.fv_tool.specs.Refusals.{line_of, status_of};
@@ -12,12 +12,14 @@ ghost use Rattle.fv_base.specs.Port.{is_flushed};
 ghost use Rattle.std.specs.Process.{exit_status};
 ghost use Rattle.std.specs.Vec.Iter.{into_iter_items};
 
+mod advice;
 mod host;
 
+use crate::advice::Advice;
 use crate::host::{Host, Process};
 use fv_arguments::{WordFault, parse_words};
 use fv_base::{Fault, FaultKind, Port};
-use fv_command::{Opener, Status, refuse, run_over, say};
+use fv_command::{Ending, Opener, Refusal, Status, refuse, run_over, say};
 use std::alloc::Global;
 use std::env::Args;
 use std::io::Write;
@@ -45,13 +47,20 @@ fn arguments<P: Process>(alloc: Global, process: &P) -> Result<Vec<String>, Word
 }
 
 // Reports that the command line is wrong, or that memory ran out while it was read.
-fn refuse_words<W: Write>(writer: &mut Port<W>, fault: WordFault) -> Status
-    ensures ends { Ends (status_of fault) (line_of fault) (change W.contents writer.old writer.new) result }
-    ensures flushed { result ≢ Status.Refused → is_flushed writer.new ≡ true }
+fn refuse_words<W: Write>(writer: &mut Port<W>, fault: WordFault) -> Ending
+    ensures ends { Ends (status_of fault) (line_of fault) (change W.contents writer.old writer.new) result.status }
+    ensures why { Reports result (change W.contents writer.old writer.new) }
+    ensures flushed { result.status ≢ Status.Refused → is_flushed writer.new ≡ true }
 {
     match fault {
-        WordFault::Words => say(writer, "wrong words\n", Status::WrongWords),
-        WordFault::OutOfMemory => refuse(writer, Fault::outer(FaultKind::OutOfMemory, 0)),
+        WordFault::Words => Ending {
+            status: say(writer, "wrong words\n", Status::WrongWords),
+            refusal: None,
+        },
+        WordFault::OutOfMemory => {
+            let fault = Fault::outer(FaultKind::OutOfMemory, 0);
+            refuse(writer, Refusal::Input(fault))
+        }
     }
 }
 
@@ -61,18 +70,21 @@ fn run_given<O: Opener, W: Write>(
     opener: &O,
     words: Result<Vec<String>, WordFault>,
     writer: &mut Port<W>,
-) -> Status
+) -> Ending
     // What the arguments ask for is run; arguments that ask for nothing are reported, and so is a
     // lack of memory, and arguments that could not be read.
     ensures ran { RunsArguments O.Standard.remaining O.File.remaining (O.opens opener.now) (O.is_standard opener.now)
-        words result (change W.contents writer.old writer.new) }
+        words result.status (change W.contents writer.old writer.new) }
 
     // If the status is WrongWords, the line of wrong arguments was written.
-    ensures wrong { result ≡ Status.WrongWords
+    ensures wrong { result.status ≡ Status.WrongWords
         → Writes (shown W.contents writer.old) (shown W.contents writer.new) (line_of WordFault.Words) }
 
+    // A refusal that is returned is the one whose line was written, or a write failed in it.
+    ensures why { Reports result (change W.contents writer.old writer.new) }
+
     // The last call of the writer was a flush, unless the status is Refused.
-    ensures flushed { result ≢ Status.Refused → is_flushed writer.new ≡ true }
+    ensures flushed { result.status ≢ Status.Refused → is_flushed writer.new ≡ true }
 {
     let plan = match words {
         Ok(words) => parse_words(alloc, &words),
@@ -97,19 +109,19 @@ fn hold_numbers<O: Opener>(opener: &O) -> (Option<O::File>, Option<O::File>, Opt
 
 // Does what the arguments of a process ask for, and writes to its standard output. Returns how the
 // run ended, and the output.
-fn run_process<P: Opener + Process>(alloc: Global, process: &P) -> (Status, Port<P::Writer>)
+fn run_process<P: Opener + Process>(alloc: Global, process: &P) -> (Ending, Port<P::Writer>)
     ensures runs { (writer : P.Writer) × P.is_output process.now writer
         × RunsProcess P.Standard.remaining P.File.remaining (P.opens process.now) (P.is_standard process.now)
-        (P.has_arguments process.now) (P.denies_arguments process.now) result.0 (record {
+        (P.has_arguments process.now) (P.denies_arguments process.now) result.0.status (record {
           old = seen (P.Writer.contents writer) false;
           new = shown P.Writer.contents result.1;
         }) }
-    ensures flushed { result.0 ≢ Status.Refused → is_flushed result.1 ≡ true }
+    ensures flushed { result.0.status ≢ Status.Refused → is_flushed result.1 ≡ true }
 {
     let _held = hold_numbers(process);
     let mut port = Port::new(process.standard_output());
-    let status = run_given(alloc, process, arguments(alloc, process), &mut port);
-    (status, port)
+    let ending = run_given(alloc, process, arguments(alloc, process), &mut port);
+    (ending, port)
 }
 
 // The exit code of a status.
@@ -119,7 +131,15 @@ fn exit_with(status: Status) -> ExitCode
     ExitCode::from(status.code())
 }
 
-// Does what the arguments of a process ask for. Returns the exit code, and the output.
+// Says to the person at the terminal what there is to say of how the run ended.
+fn advise<P: Process>(process: &P, ending: Ending) {
+    if let Some(advice) = Advice::of(ending) {
+        process.advise(advice);
+    }
+}
+
+// Does what the arguments of a process ask for, and says at a terminal what a person needs to know
+// of how that ended. Returns the exit code, and the output.
 fn process<P: Opener + Process>(alloc: Global, process: &P) -> (ExitCode, Port<P::Writer>)
     ensures { (writer : P.Writer) × P.is_output process.now writer
         × (status : Status) × (exit_status result.0 ≡ exit_code status)
@@ -130,11 +150,12 @@ fn process<P: Opener + Process>(alloc: Global, process: &P) -> (ExitCode, Port<P
         })
         × (status ≢ Status.Refused → is_flushed result.1 ≡ true) }
 {
-    let (status, output) = run_process(alloc, process);
-    (exit_with(status), output)
+    let (ending, output) = run_process(alloc, process);
+    advise(process, ending);
+    (exit_with(ending.status), output)
 }
 
 // Does what the arguments ask for, and ends with the exit code of the status.
 fn main(rt: HostRuntime) -> ExitCode {
-    process(rt.alloc(), &Host::new(&rt)).0
+    process(rt.alloc(), &Host::new(&rt, rt.stdin(), rt.stderr())).0
 }

@@ -11,6 +11,8 @@ pub use Rattle.fv_tree.proofs.FileCountLaws.{few_files, few_of}
 -- what is in a list is smaller than the list
 pub use Rattle.fv_tree.proofs.SizeLaws.{section_falls, body_falls, section_body_falls, file_falls, content_falls}
 pub use Rattle.fv_tree.proofs.SizeLaws.{file_content_falls}
+-- the volumes in a section and in a file; the items of a list from one on
+pub use Rattle.fv_tree.proofs.InsideLaws.{in_section, in_file, item_at}
 -- ---- a volume
 
 -- a volume that bytes begin with has its header there

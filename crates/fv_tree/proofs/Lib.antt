@@ -10,6 +10,7 @@ pub mod FileCountLaws
 pub mod FileLaws
 pub mod FirstLaws
 pub mod IndexLaws
+pub mod InsideLaws
 pub mod KeyLaws
 pub mod Laws
 pub mod LengthLaws

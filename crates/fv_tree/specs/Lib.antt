@@ -3,6 +3,7 @@ pub mod Meaning
 pub mod Files
 pub mod Denotes
 pub mod MeaningParts
+pub mod Volumes
 pub mod ReadParts
 pub mod FirstFault
 pub mod LocatedFiles

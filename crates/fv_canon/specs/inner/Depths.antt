@@ -9,7 +9,7 @@ use Rattle.fv_tree.specs.Meaning.{Meaning, FileMeanings, files_list, ContentMean
 use Rattle.fv_tree.specs.Meaning.{Section, BodyMeaning, FileMeaning, data_len_of}
 use Rattle.fv_canon.specs.Layouts.{AreStarts, layout_item}
 use Rattle.fv_canon.specs.LayoutForms.{Laid}
-use Rattle.fv_canon.specs.Volumes.{Inside}
+use Rattle.fv_tree.specs.Volumes.{Inside}
 use Rattle.fv_base.specs.Limits.{volume_limit}
 use Rattle.fv_canon.specs.StoredFiles.{size_for}
 use Rattle.fv_canon.specs.Starts.{StartsFollow}

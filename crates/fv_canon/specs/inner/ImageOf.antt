@@ -23,9 +23,8 @@ use Rattle.fv_tree.specs.Meaning.{Meaning, Volume, FileMeanings, NoFiles, MoreFi
 use Rattle.fv_tree.specs.Meaning.{MoreSections, SectionMeaning, Section, Nested, files_list, files_of}
 use Rattle.fv_section.specs.Frames.{FrameForm, frame_len, up_to_4}
 use Rattle.fv_section.specs.SectionImage.{stream_of, section_head_of}
-use Rattle.fv_canon.specs.Volumes.{Inside, volumes_in_file, volumes_in_section}
-use Rattle.fv_canon.specs.Layouts.{AreStarts}
-use Rattle.fv_canon.specs.LayoutForms.{Laid}
+use Rattle.fv_tree.specs.Volumes.{Inside, volumes_in_file, volumes_in_section}
+use Rattle.fv_canon.specs.LayoutForms.{BeginsWithStarts}
 
 -- a file with the checksum attribute adds only its State, whatever its data are; any other adds 0xAA, State and its
 -- data
@@ -118,10 +117,6 @@ sections_bytes gap (MoreSections s ss) starts =
     (replicate gap 0 ++ frame_bytes (frame_of 0 s starts))
     ++ sections_bytes (up_to_4 (frame_len (frame_of 0 s starts)) - frame_len (frame_of 0 s starts)) ss
     (drop (starts_in (volumes_in_section s)) starts)
-
--- the starts begin with those of these volumes
-abbrev pub BeginsWithStarts : List Inside → List ℕ → Type 0
-BeginsWithStarts vs starts = (laid : List ℕ) × (more : List ℕ) × (starts ≡ laid ++ more) × Laid AreStarts vs laid
 
 -- a walk comes to these volumes: the starts that are left begin with theirs, and `last` are those after them
 abbrev pub ComesTo : List Inside → List ℕ → List ℕ → Type 0

@@ -1,13 +1,12 @@
 //! Failed allocations: `.ci/memory` makes each allocation of the test fail in turn, and no wrong
 //! result may be returned.
 
-use super::images::has_starts;
-use crate::row_bytes::bytes_in_two_tries;
+use crate::row_bytes::{bytes_in_two_tries, number_of};
 use crate::volumes::row_of;
 use fv_base::{ByteList, Fault, FaultKind, Port};
 use fv_canon::{
-    Side, body_bytes, canonical, file_bytes, is_canonical, layout, normalise, normalise_image,
-    run_compare, run_normalise, write_canonical, write_normalised_image,
+    Layout, Side, body_bytes, canonical, file_bytes, is_canonical, layout, normalise,
+    normalise_image, run_compare, run_normalise, write_canonical, write_normalised_image,
 };
 use fv_tree::{FileView, Item, Lookup, VolumeView, read_volume, section_by_type};
 use std::alloc::Global;
@@ -29,6 +28,19 @@ fn is_made_or_memory_ran_out(made: Result<ByteList, Fault>, wanted: &[u8]) -> bo
 fn is_judged_or_memory_ran_out(alloc: Global, volume: &[u8], wanted: bool) -> bool {
     let judged = is_canonical(alloc, volume);
     judged == Ok(wanted) || judged == Err(out_of_memory())
+}
+
+// Whether the files are at exactly these offsets.
+fn has_starts(places: &Layout, starts: &str) -> bool {
+    let mut index = 0u32;
+    for digits in starts.split_whitespace() {
+        let start = number_of(digits);
+        if start.is_none() || places.start(index) != start {
+            return false;
+        }
+        index = index.saturating_add(1);
+    }
+    places.start(index).is_none()
 }
 
 // Whether the files are laid out there, or memory ran out. After that, writing the image takes no
@@ -126,9 +138,10 @@ fn parts_of_file_are_right(alloc: Global, file: &FileView, image: &[u8]) -> bool
 // Whether those of the first file of a volume are made, or memory ran out.
 fn parts_of_volume_are_right(alloc: Global, volume: &[u8], image: &[u8]) -> bool {
     match read_volume(alloc, volume) {
-        Ok((view, _)) => view
-            .file(0)
-            .is_some_and(|file| parts_of_file_are_right(alloc, file, image)),
+        Ok((view, _)) => match view.file(0) {
+            Some(file) => parts_of_file_are_right(alloc, file, image),
+            None => false,
+        },
         Err(fault) => fault == out_of_memory(),
     }
 }

@@ -1,6 +1,6 @@
 //! Comparisons whose readers and writer stop early, or never.
 
-use crate::fakes::{EndlessReader, FakeReader, FakeWriter, InterruptedReader};
+use crate::fakes::{FakeReader, FakeWriter, InterruptedReader, SpaceReader};
 use crate::row_bytes::bytes_of;
 use fv_base::{Fault, FaultKind, Port};
 use fv_canon::{Side, run_compare};
@@ -123,18 +123,16 @@ fn comparison_stops_at_each_byte(alloc: Global, step: usize) -> Option<bool> {
     Some(stops_at_each_byte(alloc, &first, &second, step))
 }
 
-// Whether the run stops if the reader of a side does not end, or is always interrupted.
-fn stops_without_end(alloc: Global, side: Side, volume: &[u8]) -> bool {
-    let fault = Fault::outer(FaultKind::Length, 268_435_456);
-    writes_nothing_if_stopped(alloc, side, volume, EndlessReader, fault)
-        && gives_up_if_always_interrupted(alloc, side, volume)
-}
-
 // Whether the run over the first volume stops if the reader of a side does not end, or is always
 // interrupted.
 fn comparison_stops_without_end(alloc: Global, side: Side) -> bool {
+    let fault = Fault::outer(FaultKind::Length, 268_435_456);
+    let endless = SpaceReader { calls: 0, most: 0 };
     match bytes_of(alloc, "file-sum-zero-data") {
-        Some(volume) => stops_without_end(alloc, side, &volume),
+        Some(volume) => {
+            writes_nothing_if_stopped(alloc, side, &volume, endless, fault)
+                && gives_up_if_always_interrupted(alloc, side, &volume)
+        }
         None => false,
     }
 }

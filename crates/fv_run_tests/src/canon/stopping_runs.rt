@@ -1,11 +1,13 @@
 //! Runs that normalise, over readers and writers that stop early.
 
-use super::images::IMAGES;
 use crate::fakes::{FakeReader, FakeWriter};
 use crate::row_bytes::bytes_of;
 use fv_base::{Fault, FaultKind, Port};
-use fv_canon::run_normalise;
+use fv_canon::{run_normalise, write_normalised_image};
 use std::alloc::Global;
+
+/// Images with an extended header, a pad before an aligned file, and a volume inside.
+const IMAGES: [&str; 3] = ["ext-header-image", "misaligned-file-image", "nested-image"];
 
 // Whether a run returns this, and writes the bytes and nothing after them.
 fn run_ends_as(
@@ -34,20 +36,38 @@ fn writes_nothing_if_reading_fails(alloc: Global, image: &[u8], step: usize, cou
 fn writes_as_far_as_there_is_room(alloc: Global, image: &[u8], step: usize, room: usize) -> bool {
     let fault = Fault::outer(FaultKind::WriteFault, room as u64);
     let wanted = &image[..room.min(image.len())];
-    [false, true].iter().all(|is_broken| {
+    for is_broken in [false, true] {
         let reader = FakeReader::new(image, step, false);
-        let writer = FakeWriter::new(alloc, step, room, *is_broken);
-        run_ends_as(alloc, reader, writer, Err(fault), wanted)
-    })
+        let writer = FakeWriter::new(alloc, step, room, is_broken);
+        if !run_ends_as(alloc, reader, writer, Err(fault), wanted) {
+            return false;
+        }
+    }
+    true
+}
+
+// Whether, of an image that is written as one of a flash, as many bytes are written as the writer
+// has room for.
+fn is_written_as_far_as_there_is_room(alloc: Global, image: &[u8], room: usize) -> bool {
+    let fault = Fault::outer(FaultKind::WriteFault, room as u64);
+    let mut writer = Port::new(FakeWriter::new(alloc, 7, room, true));
+    let returned = write_normalised_image(alloc, image, &mut writer);
+    returned == Err(fault)
+        && writer
+            .into_inner()
+            .took_only(&image[..room.min(image.len())])
 }
 
 // Whether the image is written, also if every second call of the reader is interrupted.
 fn is_written(alloc: Global, image: &[u8], step: usize) -> bool {
-    [false, true].iter().all(|is_interrupted| {
-        let reader = FakeReader::new(image, step, *is_interrupted);
+    for is_interrupted in [false, true] {
+        let reader = FakeReader::new(image, step, is_interrupted);
         let writer = FakeWriter::new(alloc, step, usize::MAX, true);
-        run_ends_as(alloc, reader, writer, Ok(()), image)
-    })
+        if !run_ends_as(alloc, reader, writer, Ok(()), image) {
+            return false;
+        }
+    }
+    true
 }
 
 // Whether only the first bytes of the image are written if the reader or the writer stops.
@@ -55,6 +75,7 @@ fn stops_at_each_byte(alloc: Global, image: &[u8], step: usize) -> bool {
     for count in 0..image.len() {
         if !writes_nothing_if_reading_fails(alloc, image, step, count)
             || !writes_as_far_as_there_is_room(alloc, image, step, count)
+            || !is_written_as_far_as_there_is_room(alloc, image, count)
         {
             return false;
         }

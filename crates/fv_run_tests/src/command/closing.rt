@@ -3,8 +3,8 @@
 use super::runs::{Input, ends_as};
 use crate::fakes::FakeWriter;
 use fv_base::{Fault, FaultKind, Port};
-use fv_command::{Status, refuse, say};
-use fv_plan::{Command, Plan, Task, VolumeFile};
+use fv_command::{Refusal, Status, refuse, say};
+use fv_plan::{Command, Plan, Task};
 use std::alloc::Global;
 
 // Whether a run that reports a wrong command line ends with this status and writes these bytes, if
@@ -60,56 +60,17 @@ fn a_failed_flush_is_a_refusal(rt: HostRuntime) {
 // Whether a run that ran out of memory is refused with its line.
 fn is_refused_with_its_line(alloc: Global) -> bool {
     let mut writer = Port::new(Vec::new(alloc));
-    let status = refuse(&mut writer, Fault::outer(FaultKind::OutOfMemory, 0));
+    let refusal = Refusal::Input(Fault::outer(FaultKind::OutOfMemory, 0));
+    let ending = refuse(&mut writer, refusal);
     let has_failed = writer.erred();
     let written = writer.into_inner();
-    status == Status::Refused && !has_failed && written.as_slice() == b"fault 24 at 0\n".as_slice()
+    ending.status == Status::Refused
+        && ending.refusal == Some(refusal)
+        && !has_failed
+        && written.as_slice() == b"fault 24 at 0\n".as_slice()
 }
 
 #[test]
 fn out_of_memory_has_its_line(rt: HostRuntime) {
     assert!(rt; is_refused_with_its_line(rt.alloc()));
-}
-
-// The plan to normalise a volume.
-fn normalise() -> Plan {
-    let command = Command::Single {
-        task: Task::Normalise,
-        at: None,
-        file: None,
-    };
-    Plan {
-        hex: false,
-        command,
-    }
-}
-
-// The plan to compare two volumes.
-fn compare(alloc: Global) -> Plan {
-    let first = VolumeFile {
-        path: String::new(alloc),
-        at: None,
-    };
-    let second = VolumeFile {
-        path: String::new(alloc),
-        at: None,
-    };
-    Plan {
-        hex: false,
-        command: Command::Compare { first, second },
-    }
-}
-
-// Whether a run of the plan whose files are missing ends as Refused, with this line.
-fn misses_its_files(alloc: Global, plan: &Plan, line: &[u8]) -> bool {
-    let writer = FakeWriter::new(alloc, 1000, usize::MAX, true);
-    let inputs = (Input::Missing, Input::Missing);
-    ends_as(alloc, plan, inputs, writer, (2, line))
-}
-
-#[test]
-fn a_missing_file_is_a_read_fault(rt: HostRuntime) {
-    let alloc = rt.alloc();
-    assert!(rt; misses_its_files(alloc, &normalise(), b"fault 25 at 0\n"));
-    assert!(rt; misses_its_files(alloc, &compare(alloc), b"first fault 25 at 0\n"));
 }

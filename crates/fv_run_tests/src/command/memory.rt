@@ -36,13 +36,14 @@ fn is_listed_or_memory_ran_out(alloc: Global, volume: &[u8]) -> bool {
     let mut writer = Port::new(taken.as_mut_slice());
     let mut first = Port::new(volume);
     let mut second = Port::new(b"".as_slice());
-    match run_plan(
+    let ending = run_plan(
         alloc,
         &list_with_sums(),
         &mut first,
         &mut second,
         &mut writer,
-    ) {
+    );
+    match ending.status {
         Status::Done => taken == *LIST,
         Status::Refused => &taken[..14] == LINE.as_slice() && taken[14..] == [0; 236],
         _ => false,
@@ -51,6 +52,8 @@ fn is_listed_or_memory_ran_out(alloc: Global, volume: &[u8]) -> bool {
 
 #[test]
 fn out_of_memory_is_reported(rt: HostRuntime) {
-    let volume = bytes_in_two_tries(rt.alloc(), "file-without-data");
-    assert!(rt; volume.is_some_and(|bytes| is_listed_or_memory_ran_out(rt.alloc(), &bytes)));
+    match bytes_in_two_tries(rt.alloc(), "file-without-data") {
+        Some(volume) => assert!(rt; is_listed_or_memory_ran_out(rt.alloc(), &volume)),
+        None => assert!(rt; false),
+    }
 }

@@ -24,7 +24,8 @@ fn opened_runs() -> &'static str {
     "
 }
 
-// Whether a run of the plan ends with the status, and writes this line.
+// Whether a run of the plan ends with the status, writes this line, and returns a refusal exactly
+// if it is refused.
 fn plan_ends_as(
     alloc: Global,
     opener: &FakeOpener<'_>,
@@ -33,9 +34,14 @@ fn plan_ends_as(
 ) -> Option<bool> {
     let line = format!(in alloc; "{}\n", wanted.1).ok()?;
     let mut writer = Port::new(FakeWriter::new(alloc, 1000, usize::MAX, true));
-    let status = run_over(alloc, opener, plan, &mut writer);
+    let ending = run_over(alloc, opener, plan, &mut writer);
     let wrote = writer.into_inner().took_only(line.as_bytes());
-    Some(u64::from(status.code()) == wanted.0 && wrote)
+    let is_refused = wanted.0 == 2;
+    Some(
+        u64::from(ending.status.code()) == wanted.0
+            && wrote
+            && ending.refusal.is_some() == is_refused,
+    )
 }
 
 // Whether the run of a row ends as the row says.
@@ -47,18 +53,35 @@ fn row_ends_as_it_says(alloc: Global, opener: &FakeOpener<'_>, row: &str) -> Opt
     plan_ends_as(alloc, opener, &plan, (number_of(status)?, text))
 }
 
-// Whether the run of a row ends as the row says, over two files and standard input.
-fn opens_what_it_names(alloc: Global, row: &str) -> Option<bool> {
+// Whether the run of a row ends as the row says, over two files that are said to have `len_hint`
+// bytes, and standard input.
+fn opens_what_it_names(alloc: Global, len_hint: usize, row: &str) -> Option<bool> {
     let first = bytes_of(alloc, "empty")?;
     let second = bytes_of(alloc, "H160 ff*88")?;
     let standard = bytes_of(alloc, "H136 ff*64")?;
-    let opener = FakeOpener::new(&first, &second, &standard);
+    let opener = FakeOpener::new(&first, &second, &standard, len_hint);
     row_ends_as_it_says(alloc, &opener, row)
 }
 
 #[test]
 fn a_run_opens_what_it_names(rt: HostRuntime) {
     for row in opened_runs().lines() {
-        assert!(rt; opens_what_it_names(rt.alloc(), row) == Some(true), "{row}");
+        assert!(rt;
+            opens_what_it_names(rt.alloc(), 128, row) == Some(true),
+            "{row}"
+        );
+    }
+}
+
+// A length that is not known, too small or too large, by any number of bytes, changes nothing.
+#[test]
+fn a_wrong_length_changes_nothing(rt: HostRuntime) {
+    for len_hint in [0, 127, 1000, usize::MAX] {
+        for row in opened_runs().lines() {
+            assert!(rt;
+                opens_what_it_names(rt.alloc(), len_hint, row) == Some(true),
+                "{row} {len_hint}"
+            );
+        }
     }
 }

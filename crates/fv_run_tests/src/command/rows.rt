@@ -3,14 +3,14 @@
 //! A line is a command, a colon, its inputs, with an ampersand before the second, and after an
 //! arrow the status and what is written. An input is words that spell it, or text after an
 //! apostrophe, which is only read as hexadecimal text. What is written is lines that end with a
-//! bar, or, after an equals sign, words that spell bytes. After `extract` come the byte that the
-//! file's name is made of, the type of the section or a hyphen, and which one; after `hobs` comes
-//! the address of an image, if there is one. After any other command may come `at` and the byte at
-//! which its volume begins, and after `compare` the same of its second volume.
+//! bar, or, after an equals sign, words that spell bytes. `commands` has the command line of each
+//! command. `rows/README.md` has the notation of more of them.
 
+use crate::arguments::arguments_of;
 use crate::row_bytes::{bytes_of, lines_of, number_of};
-use fv_base::Guid;
-use fv_plan::{Command, ImageFile, Part, Plan, Task, VolumeFile};
+use crate::volumes::text_named;
+use fv_arguments::parse_words;
+use fv_plan::Plan;
 use std::alloc::Global;
 
 /// A run, and how it ends.
@@ -28,105 +28,37 @@ pub(crate) struct Run {
     pub written: Vec<u8>,
 }
 
-// The byte that hexadecimal digits spell.
-fn byte_of(digits: &str) -> Option<u8> {
-    u8::from_str_radix(digits, 16).ok()
+// The commands of the runs, each with its command line. The paths name no files: the readers of a
+// test take their place.
+fn commands() -> &'static str {
+    "\
+    normalise: fv normalise\n\
+    normalise-all: fv normalise --all\n\
+    list: fv list\n\
+    list-sums: fv list --sums\n\
+    extract 0a - 1: fv extract --name NAME\n\
+    extract 0a 19 1: fv extract --name NAME --section 19\n\
+    extract 0a 19 3: fv extract --name NAME --section 19 --instance 3\n\
+    extract 0b - 1: fv extract --name 0b0b0b0b-0b0b-0b0b-0b0b-0b0b0b0b0b0b\n\
+    scan: fv scan\n\
+    cells: fv cells\n\
+    check: fv check\n\
+    compare: fv compare first second\n\
+    compare at 8 at 16: fv compare --at 8 --other-at 16 first second\n\
+    hobs: fv hobs\n\
+    hobs 16711680: fv hobs --image second --base 16711680\n\
+    "
 }
 
-// The part that the words after `extract` name.
-fn part_of(words: &str) -> Option<Part> {
-    let (name, rest) = words.split_once(' ')?;
-    let (section, instance) = rest.split_once(' ')?;
-    Some(Part {
-        name: Guid::from_bytes([byte_of(name)?; 16]),
-        section: byte_of(section),
-        instance: u32::try_from(number_of(instance)?).ok()?,
-    })
+// The plan of a command.
+fn plan_of(alloc: Global, hex: bool, command: &str) -> Option<Plan> {
+    let words = arguments_of(alloc, text_named(commands(), command)?)?;
+    let plan = parse_words(alloc, &words).ok()?;
+    Some(Plan { hex, ..plan })
 }
 
-// The byte at which a volume begins, if the words begin with `at`, and the words after it.
-fn at_of(words: &str) -> (Option<u64>, &str) {
-    let (word, rest) = words.split_once(' ').unwrap_or(("", ""));
-    if word != "at" {
-        return (None, words);
-    }
-    let (number, rest) = rest.split_once(' ').unwrap_or((rest, ""));
-    (number_of(number), rest)
-}
-
-// The image at the address after `hobs`, if there is one.
-fn image_of(alloc: Global, words: &str) -> Option<ImageFile> {
-    let base = number_of(words)?;
-    let path = String::new(alloc);
-    Some(ImageFile { path, base })
-}
-
-// The task over one input.
-fn task_of(name: &str, words: &str) -> Option<Task> {
-    if name == "extract" {
-        return part_of(words).map(Task::Extract);
-    }
-    for (known, task) in [
-        ("normalise", Task::Normalise),
-        ("normalise-all", Task::NormaliseAll),
-        ("list", Task::List),
-        ("list-sums", Task::ListSums),
-        ("check", Task::Check),
-        ("cells", Task::Cells),
-        ("scan", Task::Scan),
-    ] {
-        if name == known {
-            return Some(task);
-        }
-    }
-    None
-}
-
-// The command over one input.
-fn single_of(name: &str, words: &str, at: Option<u64>) -> Option<Command> {
-    Some(Command::Single {
-        task: task_of(name, words)?,
-        at,
-        file: None,
-    })
-}
-
-// The command that compares two volumes, which begin there.
-fn compare_of(alloc: Global, at: Option<u64>, other_at: Option<u64>) -> Command {
-    Command::Compare {
-        first: VolumeFile {
-            path: String::new(alloc),
-            at,
-        },
-        second: VolumeFile {
-            path: String::new(alloc),
-            at: other_at,
-        },
-    }
-}
-
-// The command that its name and words mean, over a volume that begins there.
-fn command_of(alloc: Global, name: &str, words: &str, at: Option<u64>) -> Option<Command> {
-    match name.as_bytes() {
-        b"compare" => Some(compare_of(alloc, at, at_of(words).0)),
-        b"hobs" => Some(Command::Hobs {
-            file: None,
-            image: image_of(alloc, words),
-        }),
-        _ => single_of(name, words, at),
-    }
-}
-
-/// The plan of a command.
-pub(crate) fn plan_of(alloc: Global, hex: bool, line: &str) -> Option<Plan> {
-    let (name, words) = line.split_once(' ').unwrap_or((line, ""));
-    let (at, words) = at_of(words);
-    let command = command_of(alloc, name, words, at)?;
-    Some(Plan { hex, command })
-}
-
-/// The bytes that are read or written for words that spell some: these bytes, or their digits.
-pub(crate) fn shown(alloc: Global, hex: bool, words: &str) -> Option<Vec<u8>> {
+// The bytes that are read or written for words that spell some: these bytes, or their digits.
+fn shown(alloc: Global, hex: bool, words: &str) -> Option<Vec<u8>> {
     let bytes = bytes_of(alloc, words)?;
     if hex {
         lines_of(alloc, &bytes)
@@ -165,18 +97,13 @@ fn output_of(alloc: Global, hex: bool, text: &str) -> Option<Vec<u8>> {
 // A command with its two inputs, and the status with what is written.
 type Texts<'a> = ((&'a str, &'a str, &'a str), (u64, &'a str));
 
-// A status, and what is written.
-fn ending_of(wanted: &str) -> Option<(u64, &str)> {
-    let (status, text) = wanted.split_once(' ')?;
-    Some((number_of(status)?, text))
-}
-
 // The texts of a line.
 fn texts_of(line: &str) -> Option<Texts<'_>> {
     let (command, rest) = line.split_once(": ")?;
     let (inputs, wanted) = rest.split_once(" -> ")?;
     let (first, second) = inputs.split_once(" & ").unwrap_or((inputs, ""));
-    Some(((command, first, second), ending_of(wanted)?))
+    let (status, text) = wanted.split_once(' ')?;
+    Some(((command, first, second), (number_of(status)?, text)))
 }
 
 // The bytes of two inputs.

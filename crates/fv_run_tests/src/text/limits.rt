@@ -15,12 +15,6 @@ fn spaces_are_too_long(alloc: Global) -> bool {
         && reader.most == 65_536
 }
 
-// The limit is 1,073,741,824 bytes of text, and a read asks for 65,536.
-#[test]
-fn text_of_spaces_is_too_long(rt: HostRuntime) {
-    assert!(rt; spaces_are_too_long(rt.alloc()));
-}
-
 // Whether the reading stops if its reader is always interrupted.
 fn stops_if_always_interrupted(alloc: Global) -> bool {
     let mut port = Port::new(InterruptedReader { calls: 0 });
@@ -28,7 +22,9 @@ fn stops_if_always_interrupted(alloc: Global) -> bool {
     fault == Some(Fault::outer(FaultKind::ReadFault, 2)) && port.into_inner().calls == 1_073_741_826
 }
 
+// The limit is 1,073,741,824 bytes of text, and a read asks for 65,536.
 #[test]
-fn interruptions_run_out(rt: HostRuntime) {
+fn text_without_end_is_too_long(rt: HostRuntime) {
+    assert!(rt; spaces_are_too_long(rt.alloc()));
     assert!(rt; stops_if_always_interrupted(rt.alloc()));
 }

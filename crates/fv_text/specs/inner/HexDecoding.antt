@@ -1,16 +1,10 @@
 -- The decoding of hexadecimal text, piece after piece.
-use Rattle.std.specs.Prelude.{◌≡◌, ℕ, ◌+◌, ◌*◌, Bool, List, [], ◌∷◌, ◌++◌, ◌<◌, ◌≤◌, true, false, Option, take, length}
+use Rattle.std.specs.Prelude.{◌≡◌, ℕ, ◌+◌, ◌*◌, Bool, List, [], ◌∷◌, ◌++◌, ◌<◌, ◌≤◌, true, false, take, length, vec_len}
 use Rattle.std.specs.Option.{unwrap_or}
 use Rattle.hex.specs.Hex.{hex_digit_value}
-use Rattle.fv_text.specs.HexIn.{squeezed, DigitsSpell, IsNoText, IsLongText}
-use Rattle.std.specs.Io.KnownBytes.{Consumes, IsAtEnd, Keeps}
-use Rattle.fv_base.specs.declared.fault.Fault.{Fault}
-use Rattle.fv_base.specs.declared.fault.FaultKind.{FaultKind}
-use Rattle.fv_base.specs.declared.fault.FaultKind.TheVariants as kinds
+use Rattle.fv_text.specs.HexIn.{squeezed, DigitsSpell}
 use Rattle.fv_base.specs.Limits.{volume_limit}
 use Rattle.fv_text.specs.declared.hex_text.Decoder.{Decoder}
-use Rattle.fv_text.specs.declared.hex_text.Piece.{Piece}
-use Rattle.fv_text.specs.declared.hex_text.Piece.TheVariants as pieces
 
 -- the value of a digit, in upper or lower case; 16 of what is no digit
 abbrev pub value_or_16 : ℕ → ℕ
@@ -30,24 +24,6 @@ joined_pairs (h ∷ l ∷ vs) = (h * 16 + l) ∷ joined_pairs vs
 abbrev pub IsSpoilt : List ℕ → Type 0
 IsSpoilt digits = (behind bytes : List ℕ) → DigitsSpell (digits ++ behind) bytes → ⊥
 
--- why a whole text spells no input, by the kind of the fault and its offset
-abbrev pub RefusedFor : FaultKind → List ℕ → ℕ → Type 0
-RefusedFor kinds.ReadFault text n = (n ≡ 0) × IsNoText text
-RefusedFor kinds.Length text n = (n ≡ volume_limit) × IsLongText text
-RefusedFor _ text n = ⊥
-
--- a whole text spells no input
-pub record RefusesText (text : List ℕ) (fault : Fault) : Type 0 where
-  pub depth : fault.place.depth ≡ 0
-  pub cause : RefusedFor fault.kind text fault.place.offset
-
--- what one read did to the reader, and what it left at the front of the chunk; and whether the port has erred now
-abbrev pub ReadsPiece : Piece → Option (List ℕ) → Option (List ℕ) → List ℕ → Bool → Type 0
-ReadsPiece (pieces.Text n) old new chunk erred = (0 < n) × (n ≤ length chunk) × Consumes old new (take n chunk)
-ReadsPiece pieces.Interrupted old new chunk erred = Keeps old new × (erred ≡ true)
-ReadsPiece pieces.End old new chunk erred = Consumes old new [] × IsAtEnd new
-ReadsPiece pieces.Failed old new chunk erred = Keeps old new × (erred ≡ true)
-
 -- some digits spell bytes, except those that wait; the bytes are held, or they are more than a volume has
 pub record HoldsDigits (is_long : Bool) (held waiting digits : List ℕ) : Type 0 where
   pub front : List ℕ
@@ -57,10 +33,13 @@ pub record HoldsDigits (is_long : Bool) (held waiting digits : List ℕ) : Type 
   pub kept : is_long ≡ false → held ≡ bytes
   pub many : is_long ≡ true → volume_limit < length bytes
 
--- what the text so far amounts to: it is wrong whatever follows, or its digits spell what is held
+-- what the text so far amounts to: it is wrong whatever follows, or its digits spell what is held, at most the bytes of
+-- a volume, and at most one digit waits
 pub record Decodes (d : Decoder) (text : List ℕ) : Type 0 where
   pub wrong : d.is_wrong ≡ true → IsSpoilt (squeezed text)
   pub right : d.is_wrong ≡ false → HoldsDigits d.is_long d.bytes.items d.digits.items (squeezed text)
+  pub small : vec_len d.bytes ≤ volume_limit
+  pub waiting : vec_len d.digits ≤ 1
 
 -- digits spell bytes, which are added after those that were held, unless they are too many together
 pub record AddsDigits (was_long is_long : Bool) (held holds digits : List ℕ) : Type 0 where

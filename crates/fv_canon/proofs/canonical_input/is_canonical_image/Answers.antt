@@ -12,7 +12,7 @@ returns-in-Ok-clause-ok c =
     let b = c.args.bytes.now in
     let told : List ℕ → Type 0 = λ xs. (IsTrue c.is_image.result → b ≡ image_of m xs) × (b ≡ image_of m xs → IsTrue c.is_image.result) in
     image_told m b (c.in-Ok.places.own ++ c.in-Ok.places.inner) c.is_image.result c.known.ensures c.in-Ok.ensures.layout.0
-    (subst told c.all.ensures c.is_image.ensures)
+    (subst told c.starts.ensures c.is_image.ensures)
 
 pub returns-then-eq-clause-err : goal.returns-then-eq-clause-err
 returns-then-eq-clause-err c =

@@ -11,8 +11,9 @@ use Rattle.fv_tree.specs.Views.{body_view}
 use Rattle.fv_tree.specs.inner.Sizes.{volume_size, body_size, files_size}
 use Rattle.fv_tree.proofs.Laws.{file_falls, section_body_falls}
 use Rattle.fv_canon.specs.StoredFiles.{size_for}
-use Rattle.fv_canon.specs.Volumes.{Inside, volumes_in_body}
-use Rattle.fv_canon.specs.inner.ImageOf.{body_image, image_of, data_of, starts_in, BeginsWithStarts}
+use Rattle.fv_tree.specs.Volumes.{Inside, volumes_in_body}
+use Rattle.fv_canon.specs.inner.ImageOf.{body_image, image_of, data_of, starts_in}
+use Rattle.fv_canon.specs.LayoutForms.{BeginsWithStarts}
 use Rattle.fv_canon.specs.inner.SummingSinks.{ImageTakes, image_by, sums}
 use Rattle.fv_canon.proofs.DataBodyLaws.{data_image, data_size, data_volumes}
 use Rattle.fv_canon.proofs.FileLaws.{file_long, stored_is, size_is, at_file, file_passed, files_end, walk_goes, placed_on}

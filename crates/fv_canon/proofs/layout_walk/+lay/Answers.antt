@@ -6,7 +6,7 @@ use Rattle.fv_tree.specs.Meaning.{FileMeaning, SectionMeaning}
 use Rattle.fv_tree.specs.MeaningParts.{files_from, sections_from}
 use Rattle.fv_tree.specs.Views.{body_view}
 use Rattle.fv_canon.specs.inner.Depths.{NestsVolume, NestsBody, Grew, Shallow}
-use Rattle.fv_canon.specs.Volumes.{volumes_in_files, volumes_in_sections}
+use Rattle.fv_tree.specs.Volumes.{volumes_in_files, volumes_in_sections}
 use Rattle.fv_canon.proofs.DataBodyLaws.{data_falls}
 use Rattle.fv_canon.proofs.LayoutWalkLaws.{always, file_count, memory_passed, own_counted, section_count}
 use Rattle.fv_canon.proofs.VolumeListLaws.{own_count}

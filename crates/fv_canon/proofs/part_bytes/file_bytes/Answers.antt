@@ -1,15 +1,42 @@
-use Rattle.std.proofs.Common.{subst, sym}
+use Rattle.std.proofs.Common.{[], append-nil, subst, sym}
 use Rattle.std.proofs.lemmas.Result.{IfOk-weaker}
 use Rattle.fv_base.proofs.Laws.{kept_whole}
 use Rattle.fv_tree.specs.Meaning.{content_of}
+use Rattle.fv_tree.specs.Volumes.{volumes_in_content}
 use Rattle.fv_canon.specs.Image.{IsData}
+use Rattle.fv_canon.specs.LayoutForms.{Laid}
+use Rattle.fv_canon.specs.Layouts.{AreStarts}
+use Rattle.fv_canon.proofs.DataBodyLaws.{data_held}
+use Rattle.fv_canon.proofs.InputLaws.{fault_passed}
+use Rattle.fv_canon.proofs.LayoutWalkLaws.{shallow_data}
 use Rattle.fv_canon.proofs.OneImageLaws.{data_one}
 use Rattle.fv_canon.proofs.part_bytes.file_bytes.Goals as goal
+
+pub layout_of_body-requires : goal.layout_of_body-requires
+layout_of_body-requires c = record { shallow = rw c.data_body.ensures (shallow_data c.args.file.now c.known.ensures) }
+
+pub returns-in_err-starts-clause-err : goal.returns-in_err-starts-clause-err
+returns-in_err-starts-clause-err c =
+    let err = c.in_err-starts.ensures.err in
+    fault_passed _ _ _ c.from_residual.ensures.1 (rw (c.data_body.ensures, data_held c.args.file.now) at err)
+
+pub returns-in_err-starts-clause-fits : goal.returns-in_err-starts-clause-fits
+returns-in_err-starts-clause-fits c fit =
+    let fits = c.in_err-starts.ensures.fits in
+    fault_passed _ _ _ c.from_residual.ensures.1 ((rw (c.data_body.ensures, data_held c.args.file.now) at fits) fit)
+
+pub put_laid_data-requires : goal.put_laid_data-requires
+put_laid_data-requires c =
+    let m = c.args.file.now in
+    let starts = c.in_ok-starts.starts.items in
+    let ok = c.in_ok-starts.ensures.ok in
+    let laid : Laid AreStarts (volumes_in_content (content_of m)) starts = rw (c.data_body.ensures, data_held m) at ok in
+    rw c.as_slice.ensures.value (starts, [], sym (append-nil starts), laid)
 
 pub returns-clause-data : goal.returns-clause-data
 returns-clause-data c =
     let m = content_of c.args.file.now in
-    let put = c.in_ok-put_file_data.ensures.data in
+    let put = c.put_laid_data.ensures in
     IfOk-weaker c.finish.result _ (IsData m) (λ bytes same. subst (IsData m) (sym same) put.1)
     (kept_whole _ _ put.0 _ _ c.finish.result c.in_ok-out.ensures.0 c.in_ok-out.ensures.1 put.2 c.finish.ensures.ok)
 

@@ -1,4 +1,4 @@
-use Rattle.std.proofs.Common.{inl, inr, refl, rules, subst, sym}
+use Rattle.std.proofs.Common.{inl, inr, refl}
 use Rattle.std.proofs.lemmas.Result.{err_from_is_err_and}
 use Rattle.fv_command.proofs.RunLemmas.{given, given_at, second_stopped, verdict_is}
 use Rattle.fv_command.proofs.comparison_run.compare_with.Goals as goal

@@ -7,4 +7,4 @@ returns-in-Err-read_hobs g c =
     let f = c.in-Err-read_hobs.fault in
     let inputs = c.in-Ok.ensures.ok in
     let why = hobs_refused _ _ f c.deref.ensures.value c.in-Err-read_hobs.ensures.first in
-    (_, inr (c.put_hob_refusal.ensures.status, inr (f, (_, _, inputs.0, inputs.1, why), refl)), c.put_hob_refusal.ensures.line)
+    (inr (refl, inr (f, (_, _, inputs.0, inputs.1, why), refl)), refl)

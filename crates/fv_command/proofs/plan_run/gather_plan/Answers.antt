@@ -6,5 +6,5 @@ pub returns : goal.returns
 returns g c =
     let put = c.put_plan.ensures in
     let taken = gathered_all g.S.Sink.laws _ _ _ _ put.0 _ (ap (λ (n : ℕ). take n c.new-out.result.room) c.new-out.ensures.filled)
-    put.2 c.finish.ensures in
-    (put.0, put.1, subst (λ (s : g.row.S.Denot). g.S.Sink.takes s put.0 c.finish.result) c.new-out.ensures.below taken)
+    put.3 c.finish.ensures in
+    (put.0, put.1, put.2, subst (λ (s : g.row.S.Denot). g.S.Sink.takes s put.0 c.finish.result) c.new-out.ensures.below taken)

@@ -1,9 +1,22 @@
+use Rattle.std.proofs.Common.{[], append-nil, refl, subst, sym}
 use Rattle.std.proofs.lemmas.Result.{err_from_is_err_and}
+use Rattle.fv_canon.specs.LayoutForms.{BeginsWithStarts, LaysVolume}
 use Rattle.fv_command.proofs.RunLemmas.{sums_denied}
+use Rattle.fv_tree.specs.Volumes.{volumes_in}
 use Rattle.fv_command.proofs.task_run.list_sums.Goals as goal
 
-pub returns-in_err-put_list_sums : goal.returns-in_err-put_list_sums
-returns-in_err-put_list_sums g c =
-    let p = err_from_is_err_and c.from_residual-in_err-put_list_sums.result c.from_residual-in_err-put_list_sums.ensures.1 in
-    let stops = c.in_err-put_list_sums.ensures in
-    λ hex. rw (p.1, p.2) (sums_denied c.args.input.now c.in_ok-volume.volume _ c.in_ok-volume.ensures.ok stops.err, stops.untouched)
+pub returns-in_err-places : goal.returns-in_err-places
+returns-in_err-places g c =
+    let p = err_from_is_err_and c.from_residual-in_err-places.result c.from_residual-in_err-places.ensures.1 in
+    λ hex. rw (p.1, p.2) (sums_denied c.args.input.now c.in_ok-volume.volume _ c.in_ok-volume.ensures.ok c.in_err-places.ensures.err, refl)
+
+pub put_list_with-requires : goal.put_list_with-requires
+put_list_with-requires g c =
+    let starts = c.starts.result.now in
+    let m = c.in_ok-volume.volume in
+    let laid = subst (LaysVolume m) (sym c.starts.ensures) c.in_ok-places.ensures.layout.0 in
+    subst (BeginsWithStarts (volumes_in m)) (sym c.new.ensures) (starts, [], sym (append-nil starts), laid)
+
+pub returns : goal.returns
+returns g c =
+    let put = c.put_list_with.ensures in λ hex. (put.0, (c.in_ok-volume.volume, c.in_ok-volume.ensures.ok, put.1), put.2)

@@ -1,18 +1,24 @@
-use Rattle.std.proofs.Common.{rules}
+use Rattle.std.proofs.Common.{inl, inr, rules}
 use Rattle.fv_file.proofs.cell_walk.cell_at.Goals as goal
 
 -- there is no cell to be found
 pub returns-in-Free-clause-found : goal.returns-in-Free-clause-found
 returns-in-Free-clause-found c = tt
 
--- a valid file, or a pad
-pub returns-in_ok-head-in-DataValid-clause-found : goal.returns-in_ok-head-in-DataValid-clause-found
-returns-in_ok-head-in-DataValid-clause-found c = search rules fits 100 steps 300000
-
 -- a header that was never finished
 pub returns-in_ok-check-in-Construction-clause-found : goal.returns-in_ok-check-in-Construction-clause-found
 returns-in_ok-check-in-Construction-clause-found c = search rules fits 100 steps 300000
 
--- a file that was deleted, or whose data were never finished
+-- a file, of one of the four states
 pub returns-in_ok-head-in-HeaderValid-clause-found : goal.returns-in_ok-head-in-HeaderValid-clause-found
-returns-in_ok-head-in-HeaderValid-clause-found c = search rules fits 100 steps 300000
+returns-in_ok-head-in-HeaderValid-clause-found c =
+    elim c.in-HeaderValid.is [
+      | inl is ↦ search rules fits 100 steps 300000
+      | inr more ↦ elim more [
+        | inl is ↦ search rules fits 100 steps 300000
+        | inr more ↦ elim more [
+          | inl is ↦ search rules fits 100 steps 300000
+          | inr is ↦ search rules fits 100 steps 300000
+        ]
+      ]
+    ]

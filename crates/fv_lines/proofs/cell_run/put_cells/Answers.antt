@@ -1,4 +1,4 @@
-use Rattle.std.proofs.Common.{refl, subst, sym}
+use Rattle.std.proofs.Common.{subst, sym}
 use Rattle.std.proofs.lemmas.Result.{err_from_is_err_and}
 use Rattle.fv_lines.specs.inner.CellRuns.{FitTogether}
 use Rattle.fv_lines.proofs.CellLemmas.{cells_told, fit_together, none_tiled}

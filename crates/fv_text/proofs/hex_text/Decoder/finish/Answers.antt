@@ -1,25 +1,30 @@
-use Rattle.std.proofs.Common.{◌∙◌}
+use Rattle.std.proofs.Common.{◌∙◌, inl, inr}
 use Rattle.fv_base.proofs.Laws.{up_is_not_down}
-use Rattle.fv_text.proofs.HexInLemmas.{none_waits, odd_is_no_text, one_waits, refuses_long_text, refuses_no_text}
-use Rattle.fv_text.proofs.HexInLemmas.{spoilt_is_no_text, whole_reads}
+use Rattle.fv_text.proofs.HexInLemmas.{none_waits, odd_is_no_text, one_waits, spoilt_is_no_text, whole_reads}
 use Rattle.fv_text.proofs.hex_text.Decoder.finish.Goals as goal
 use Rattle.fv_text.proofs.hex_text.Decoder.finish.Goals.{then-is_wrong, else-is_wrong}
 
 pub returns-then-not-is_empty-clause-err : goal.returns-then-not-is_empty-clause-err
 returns-then-not-is_empty-clause-err c = λ text so_far.
-    refuses_no_text text c.outer.result c.outer.ensures (elim c.if-is_wrong.branch [
-      | then-is_wrong w ↦ spoilt_is_no_text text (so_far.wrong w.if-is_wrong.true)
-      | else-is_wrong w ↦
-          let one = one_waits _ _ _ _ c.if-not-is_empty.true w.value-is w.is_empty.ensures c.args.self.digits.ok.0 c.requires.waiting in
-          odd_is_no_text text _ _ _ one (so_far.right w.if-is_wrong.false)
-    ])
+    inl (
+      elim c.if-is_wrong.branch [
+        | then-is_wrong w ↦ spoilt_is_no_text text (so_far.wrong w.if-is_wrong.true)
+        | else-is_wrong w ↦
+            let one = one_waits _ _ _ _ c.if-not-is_empty.true w.value-is w.is_empty.ensures c.args.self.digits.ok.0 so_far.waiting in
+            odd_is_no_text text _ _ _ one (so_far.right w.if-is_wrong.false)
+      ],
+      c.outer.ensures,
+    )
 
 pub returns-then-is_long-clause-err : goal.returns-then-is_long-clause-err
 returns-then-is_long-clause-err c = λ text so_far.
-    refuses_long_text text c.outer-then-is_long.result c.outer-then-is_long.ensures (elim c.if-is_wrong.branch [
-      | then-is_wrong w ↦ absurd (up_is_not_down c.if-is_wrong.value (w.value-is ∙ w.if-is_wrong.true) c.if-not-is_empty.false)
-      | else-is_wrong w ↦
-          let held = so_far.right w.if-is_wrong.false in
-          let none = none_waits _ _ _ _ c.if-not-is_empty.false w.value-is w.is_empty.ensures c.args.self.digits.ok.0 in
-          (held.bytes, whole_reads text _ _ _ none held, held.many c.if-is_long.true)
-    ])
+    inr (
+      elim c.if-is_wrong.branch [
+        | then-is_wrong w ↦ absurd (up_is_not_down c.if-is_wrong.value (w.value-is ∙ w.if-is_wrong.true) c.if-not-is_empty.false)
+        | else-is_wrong w ↦
+            let held = so_far.right w.if-is_wrong.false in
+            let none = none_waits _ _ _ _ c.if-not-is_empty.false w.value-is w.is_empty.ensures c.args.self.digits.ok.0 in
+            (held.bytes, whole_reads text _ _ _ none held, held.many c.if-is_long.true)
+      ],
+      c.outer-then-is_long.ensures,
+    )

@@ -1,0 +1,193 @@
+"""Runs the built program at a terminal, for .ci/streams: what standard error says there, and that it says nothing to a file or a pipe. Standard
+output and the status are the same in all three."""
+
+from __future__ import annotations
+
+import dataclasses
+import os
+import pty
+import signal
+import subprocess
+import sys
+import tempfile
+import termios
+from pathlib import Path
+
+PROGRAM = "crates/fv_tool/out/fv_tool"
+VOLUME = "crates/fv_tool/stdin"
+READING = "fvtool: reading standard input\n"
+
+
+@dataclasses.dataclass
+class Case:
+    """A run: its arguments, its status, what it writes, and what it says at a terminal. What is typed is its standard input, at a terminal
+    too; else that is a file."""
+
+    words: list[str]
+    status: int
+    written: str
+    said: str
+    typed: str | None = None
+    file: str = os.devnull
+
+
+def synopsis() -> str:
+    """The lines at the top of the page of the program."""
+    block = Path("docs/PROGRAM.md").read_text(encoding="utf-8").split("\n\n")[1]
+    return "".join(line[4:] + "\n" for line in block.split("\n"))
+
+
+def meaning(sentence: str) -> str:
+    return f"fvtool: {sentence} (man fvtool)\n"
+
+
+def cases(short: str) -> list[Case]:
+    """The runs. `short` is the name of a file of three bytes."""
+    cut, unread = "the bytes end before the volume does", "the input cannot be read, or is no hexadecimal text"
+    listed = "volume ffs2 length 128 files 0\n"
+    volume = Path(VOLUME).read_text(encoding="ascii")
+    return [
+        Case(["lists"], 3, "wrong words\n", synopsis()),
+        Case(["--help"], 3, "wrong words\n", synopsis()),
+        Case(["list", short], 2, "fault 1 at 3\n", meaning(cut)),
+        Case(["normalise", "/missing"], 2, "fault 25 at 0\n", meaning(unread)),
+        Case(["compare", "--hex", VOLUME, "/missing"], 2, "second fault 25 at 0\n", meaning(unread)),
+        Case(["hobs", short], 2, "hob fault 1 at 0\n", meaning("a block is cut")),
+        Case(["list", "--hex", VOLUME], 0, listed, ""),
+        Case(["extract", "--hex", "--name", "0" * 32, VOLUME], 1, "not found\n", ""),
+        Case(["list", "--hex"], 0, listed, "", file=VOLUME),
+        Case(["list", "--hex"], 0, listed, READING, typed=volume),
+        Case(["list", "--hex"], 2, "fault 25 at 0\n", READING + meaning(unread), typed="xyz\n"),
+    ]
+
+
+def new_terminal() -> tuple[int, int]:
+    """The two ends of a terminal that shows what is written to it, and not what is typed."""
+    ours, theirs = pty.openpty()
+    modes = termios.tcgetattr(theirs)
+    modes[1] &= ~termios.OPOST
+    modes[3] &= ~termios.ECHO
+    termios.tcsetattr(theirs, termios.TCSANOW, modes)
+    return ours, theirs
+
+
+def read_until(ours: int, ends: bytes | None) -> bytes:
+    """What a terminal shows: all of it, after its other end is closed, or up to a text."""
+    shown = b""
+    while ends is None or not shown.endswith(ends):
+        try:
+            part = os.read(ours, 4096)
+        except OSError:  # the other end is closed
+            return shown
+        if not part:
+            return shown
+        shown += part
+    return shown
+
+
+def run_at_terminal(case: Case) -> tuple[int, str, str]:
+    """The status of a run whose standard error is a terminal, what it writes, and what it says. What is typed is typed after the program has
+    said that it reads."""
+    ours, theirs = new_terminal()
+    with tempfile.TemporaryFile() as output, open(case.file, "rb") as file:
+        child = subprocess.Popen([PROGRAM, *case.words], stdin=file if case.typed is None else theirs, stdout=output, stderr=theirs)
+        os.close(theirs)
+        shown = b""
+        if case.typed is not None:
+            shown = read_until(ours, READING.encode())
+            os.write(ours, case.typed.encode() + b"\x04")
+        shown += read_until(ours, None)
+        status = child.wait()
+        os.close(ours)
+        output.seek(0)
+        return status, output.read().decode(), shown.decode()
+
+
+def run_elsewhere(case: Case, is_pipe: bool) -> tuple[int, str, str]:
+    """The same of a run whose standard error is a pipe or a file. Its standard input is a terminal if something is typed."""
+    ours, theirs = new_terminal()
+    if case.typed is not None:
+        os.write(ours, case.typed.encode() + b"\x04")
+    with tempfile.TemporaryFile() as errors, open(case.file, "rb") as file:
+        child = subprocess.Popen(
+            [PROGRAM, *case.words],
+            stdin=file if case.typed is None else theirs,
+            stdout=subprocess.PIPE,
+            stderr=subprocess.PIPE if is_pipe else errors,
+        )
+        written, said = child.communicate()
+        errors.seek(0)
+        said = said if is_pipe else errors.read()
+    os.close(theirs)
+    os.close(ours)
+    return child.returncode, written.decode(), said.decode()
+
+
+def run_with(words: list[str], output: int, error: int) -> int:
+    return subprocess.run([PROGRAM, *words], stdin=subprocess.DEVNULL, stdout=output, stderr=error, check=False).returncode
+
+
+def shown_of(words: list[str], output: int | None) -> tuple[int, str]:
+    """The status of a run, and what a terminal shows that is its standard error, and its standard output if none is given."""
+    ours, theirs = new_terminal()
+    status = run_with(words, theirs if output is None else output, theirs)
+    os.close(theirs)
+    shown = read_until(ours, None)
+    os.close(ours)
+    return status, shown.decode()
+
+
+def run_unheard(words: list[str], is_gone: bool) -> tuple[int, str]:
+    """The status of a run, and what it writes, if nothing can be written to the terminal that is its standard error: the terminal is gone, or
+    it was opened for reading only."""
+    ours, theirs = new_terminal()
+    deaf = theirs if is_gone else os.open(os.ttyname(theirs), os.O_RDONLY | os.O_NOCTTY)
+    if is_gone:
+        os.close(ours)
+    with tempfile.TemporaryFile() as output:
+        status = run_with(words, output.fileno(), deaf)
+        output.seek(0)
+        return status, output.read().decode()
+
+
+def tries(short: str) -> list[tuple[str, object, object]]:
+    """What is run, how it ends, and how it should."""
+    found: list[tuple[str, object, object]] = []
+    for case in cases(short):
+        name, bare = " ".join(case.words), (case.status, case.written)
+        found.append((f"{name}, at a terminal", run_at_terminal(case), (*bare, case.said)))
+        found.append((f"{name}, with a pipe", run_elsewhere(case, True), (*bare, "")))
+        found.append((f"{name}, with a file", run_elsewhere(case, False), (*bare, "")))
+    cut = ["list", short]
+    both = "fault 1 at 3\n" + meaning("the bytes end before the volume does")
+    found.append(("a fault, with both streams at a terminal", shown_of(cut, None), (2, both)))
+    full = os.open("/dev/full", os.O_WRONLY)
+    unwritten = (2, meaning("the output cannot be written"))
+    found.append(("a full device", shown_of(["list", "--hex", VOLUME], full), unwritten))
+    os.close(full)
+    for is_gone in (True, False):
+        found.append((f"a terminal that hears nothing, gone: {is_gone}", run_unheard(cut, is_gone), (2, "fault 1 at 3\n")))
+    return found
+
+
+def main() -> int:
+    signal.alarm(60)
+    try:
+        for end in new_terminal():
+            os.close(end)
+    except OSError as error:
+        print(f"terminal: no terminal can be made here, so nothing was tried: {error}")
+        return 0
+    with tempfile.NamedTemporaryFile() as short:
+        short.write(b"abc")
+        short.flush()
+        found = tries(short.name)
+    wrong = [f"{name}: {seen}, not {wanted}" for name, seen, wanted in found if seen != wanted]
+    for line in wrong:
+        print(f"terminal: {line}")
+    print(f"terminal: {len(found)} runs, {len(wrong)} end otherwise")
+    return 1 if wrong else 0
+
+
+if __name__ == "__main__":
+    sys.exit(main())

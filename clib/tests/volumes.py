@@ -1,0 +1,117 @@
+#!/usr/bin/env python3
+"""volumes.py: normalise, normalise_image, is_canonical and compare of fv.py over the volumes of crates/fv_run_tests/rows.
+
+The images and the faults of these were worked out by hand. Of some, each byte is then replaced by each other one: the
+calls have to agree on what they are given, and whatever has an image has to keep it."""
+
+import sys
+from pathlib import Path
+
+ROOT = Path(__file__).resolve().parents[2]
+sys.path[:0] = [str(ROOT / "clib"), str(ROOT / "crates/fv_run_tests/rows")]
+import fv
+import rows
+
+NO_ROOM, TOP_ALIGNMENT = 22, 23
+# Canonical images with an extended header, a pad before an aligned file, and a volume inside.
+IMAGES = ["ext-header-image", "misaligned-file-image", "nested-image"]
+VOLUMES = [
+    "empty",
+    "file-sum-zero-data",
+    "ext-header-bare",
+    "misaligned-file",
+    "two-sections",
+    "nested-with-deleted-file",
+    "security-core-frames",
+]
+
+
+def outcome(call, *arguments):
+    """What a call returns, or of its fault the number, the offset and the depth."""
+    try:
+        return call(*arguments)
+    except fv.Fault as fault:
+        return fault.number, fault.offset, fault.depth
+
+
+def check_images():
+    """Each volume has its image, and is found to be its own image or not."""
+    for name, words in rows.images():
+        volume, image = rows.spelled(name), rows.spelled(words)
+        assert fv.normalise(volume) == image, name
+        assert fv.is_canonical(volume) == (name == words) and fv.is_canonical(image), name
+        assert fv.compare(volume, image) == "same", name
+    return len(rows.images())
+
+
+def check_unfit(table):
+    """Volumes that do not fit have no image, and are not canonical."""
+    for name, number, depth in map(rows.parts, table):
+        volume = rows.spelled(name)
+        assert outcome(fv.normalise, volume) == (int(number), 0, int(depth)), name
+        assert fv.is_canonical(volume) is False, name
+    return len(table)
+
+
+def check_flash(accepted, rejected):
+    """Each volume of a flash image is renewed, or the first fault is that of the row."""
+    for row in accepted:
+        given, _, wanted = row.partition(" -> ")
+        assert fv.normalise_image(rows.spelled(given)) == rows.spelled(wanted), row
+    for row in rejected:
+        given, _, wanted = row.partition(" -> ")
+        assert outcome(fv.normalise_image, rows.spelled(given)) == tuple(map(int, wanted.split())), row
+    return len(accepted) + len(rejected)
+
+
+def check_full():
+    """A volume of few and of many files is its own image."""
+    for count in range(301):
+        data = rows.full_volume(count)
+        assert fv.normalise(data) == data and fv.is_canonical(data), count
+    return count + 1
+
+
+def replaced(data):
+    """The data with each byte replaced by each other one."""
+    for at, byte in enumerate(data):
+        for other in range(256):
+            if other != byte:
+                yield data[:at] + bytes([other]) + data[at + 1 :]
+
+
+def agree(data):
+    """Whether two calls agree on some bytes: true if they are their own image, false if they have another image or do
+    not fit, and else the same fault."""
+    judged, image = outcome(fv.is_canonical, data), outcome(fv.normalise, data)
+    if isinstance(judged, bool):
+        return judged == (image == data) and (isinstance(image, bytes) or image[0] in (NO_ROOM, TOP_ALIGNMENT))
+    return judged == image
+
+
+def keeps(data):
+    """Whether some bytes have no image, or one that is its own image and has their meaning."""
+    image = outcome(fv.normalise, data)
+    return not isinstance(image, bytes) or (fv.normalise(image) == image and fv.compare(data, image) == "same")
+
+
+def check_replaced(names, holds):
+    """Whatever byte of these volumes is replaced, this holds."""
+    count = 0
+    for name in names:
+        for data in replaced(rows.spelled(name)):
+            assert holds(data), (name, data.hex())
+            count += 1
+    return count
+
+
+def main():
+    library = rows.tables("library")
+    images, unfit = check_images(), check_unfit(library["unfit"])
+    flash = check_flash(library["flash images"], library["rejected images"])
+    print(f"volumes: {images} have their images, {unfit} do not fit; {flash} flash images and {check_full()} full volumes")
+    print(f"volumes: of {check_replaced(IMAGES, agree) + check_replaced(VOLUMES, keeps)} with another byte each is as it should be")
+
+
+if __name__ == "__main__":
+    main()

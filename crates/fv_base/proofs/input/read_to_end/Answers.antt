@@ -1,0 +1,48 @@
+use Rattle.std.proofs.Common.{◌≡◌, ◌<◌, ◌+◌, ◌++◌, ◌∙◌, ℕ, List, length, length-append, take, ap, refl, sym, arith, true, false}
+use Rattle.std.proofs.KnownBytes.{Consumes-kept, Consumes-trans}
+use Rattle.fv_base.specs.Port.{has_erred}
+use Rattle.fv_base.proofs.TestLemmas.{or_parts}
+use Rattle.fv_base.proofs.input.read_to_end.Goals as goal
+use Rattle.fv_base.proofs.input.read_to_end.Goals.{in-Ok+else-count-from+in_ok-take-in-Ok, in-Err}
+
+-- how long the bytes are with those of a read after them
+with_piece : (bytes buf : List ℕ) (n : ℕ) → n ≡ length (take n buf) → length (bytes ++ take n buf) ≡ length bytes + n
+with_piece bytes buf n long = length-append bytes (take n buf) ∙ ap (λ k. length bytes + k) (sym long)
+
+pub returns-then-count-from-clause-err : goal.returns-then-count-from-clause-err
+returns-then-count-from-clause-err g c =
+    let (bytes, gave, held, count, few, turns) = c.loop-turn.invariant in
+    let long = with_piece bytes c.read.new.buf c.in-Ok.added c.in-Ok.ensures.bound.1 in
+    let more : c.args.limit < length (bytes ++ take c.in-Ok.added c.read.new.buf) = omega (arith, count, long) in
+    rw c.outer.ensures (record {
+      depth = refl;
+      cause = (refl, (bytes ++ take c.in-Ok.added c.read.new.buf, Consumes-trans _ _ _ bytes _ gave c.in-Ok.ensures.bytes.0, more));
+    })
+
+pub loop-turn-preserved : goal.loop-turn-preserved
+loop-turn-preserved g c =
+    let (bytes, gave, held, count, few, turns) = c.loop-turn.invariant in
+    elim c.match-read.branch [
+      | in-Ok+else-count-from+in_ok-take-in-Ok w ↦
+          let long = with_piece bytes c.read.new.buf w.in-Ok.added w.in-Ok.ensures.bound.1 in
+          rw (w.collector-is, w.count-is) (
+            bytes ++ take w.in-Ok.added c.read.new.buf,
+            Consumes-trans _ _ _ bytes _ gave w.in-Ok.ensures.bytes.0,
+            w.in_ok-take-in-Ok.ensures bytes held,
+            omega (arith, count, long),
+            omega (arith, count, long, w.if-count-from.false, w.from.ensures),
+            λ down.
+                let so_far = turns (or_parts _ _ (sym w.in-Ok.ensures.erred ∙ down)).0 in
+                omega (arith, so_far, long, w.in-Ok.added-is),
+          )
+      | in-Err w ↦
+          rw (w.collector-is, w.count-is) (
+            bytes,
+            Consumes-kept _ _ _ bytes gave w.in-Err.ensures.bytes,
+            held,
+            count,
+            few,
+            λ down.
+                let bad : true ≡ false = (or_parts (has_erred c.loop-turn.reader) true (sym w.in-Err.ensures.erred ∙ down)).1 in cc,
+          )
+    ]

@@ -1,0 +1,38 @@
+//! How a run ended, and why it was refused.
+
+use crate::status::Status;
+use fv_base::Fault;
+use fv_canon::Side;
+use fv_hob::HobFault;
+use std::fmt;
+
+/// Why a run was refused. `Display` writes what the fault means, in a sentence.
+#[derive(Clone, Copy, Debug, PartialEq, Eq)]
+pub enum Refusal {
+    /// An input was rejected, or memory ran out.
+    Input(Fault),
+    /// One of two inputs was rejected, or memory ran out.
+    OneOfTwo(Side, Fault),
+    /// A hand-off list was rejected, or memory ran out while it was read.
+    Hobs(HobFault),
+}
+
+impl fmt::Display for Refusal {
+    fn fmt<W: fmt::Write>(&self, f: &mut fmt::Formatter<W>) -> fmt::Result {
+        match self {
+            Refusal::Input(fault) => write!(f, "{}", fault.kind),
+            Refusal::OneOfTwo(_, fault) => write!(f, "{}", fault.kind),
+            Refusal::Hobs(fault) => write!(f, "{}", fault.kind),
+        }
+    }
+}
+
+/// How a run ended, and why it was refused.
+#[derive(Clone, Copy, Debug, PartialEq, Eq)]
+pub struct Ending {
+    /// How the run ended.
+    pub status: Status,
+    /// Why the run was refused: the fault whose line it wrote, or tried to write. None if it was
+    /// not refused, or only because a write of its result failed.
+    pub refusal: Option<Refusal>,
+}

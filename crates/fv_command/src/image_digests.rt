@@ -1,0 +1,53 @@
+//! The SHA-256 of the volumes and of the files in a volume, as they are in a canonical image.
+
+ghost use Rattle.std.specs.Prelude.{◌≡◌};
+ghost use Rattle.fv_command.specs.SumTexts.{FileDigest, VolumeDigest};
+ghost use Rattle.fv_command.specs.inner.StartWalks.{BeginWith, begin_with};
+
+use crate::digest_sink::DigestSink;
+use fv_canon::{put_laid_data, put_laid_volume, starts_inside};
+use fv_lines::Digests;
+use fv_tree::{FileView, VolumeView};
+
+/// The digests of the volumes that a walk comes to, and of the files in them. They are those of the
+/// canonical image and of its data, which are put again for each.
+#[derive(Clone, Copy)]
+pub struct ImageDigests<'s> {
+    /// The starts of a layout that are left: those of the volume that comes next are first.
+    starts: &'s [u64],
+}
+
+impl<'s> ImageDigests<'s> {
+    /// The digests of what these are the starts of.
+    pub fn new(starts: &'s [u64]) -> ImageDigests<'s>
+        ensures { result.starts.now ≡ starts.entry.now }
+    {
+        ImageDigests { starts }
+    }
+}
+
+impl<'s> Digests for ImageDigests<'s> {
+    ghost covers = { BeginWith (λ d. d.starts.now) };
+
+    ghost laws = { begin_with (λ d. d.starts.now) };
+
+    ghost of_volume = { VolumeDigest };
+
+    ghost of_file = { FileDigest };
+
+    fn volume_digest(&self, volume: &VolumeView<'_>) -> Option<[u8; 32]> {
+        let mut out = DigestSink::new();
+        put_laid_volume(volume, self.starts, &mut out);
+        Some(out.finish())
+    }
+
+    fn file_digest(&self, file: &FileView<'_>) -> Option<[u8; 32]> {
+        let mut out = DigestSink::new();
+        put_laid_data(file, self.starts, &mut out);
+        Some(out.finish())
+    }
+
+    fn inside(self, volume: &VolumeView<'_>) -> ImageDigests<'s> {
+        ImageDigests::new(starts_inside(volume, self.starts))
+    }
+}

@@ -1,0 +1,16 @@
+use Rattle.std.proofs.Common.{[], ◌++◌, codes, inl, inr, refl}
+use Rattle.std.specs.List.{flat_map}
+use Rattle.fv_base.specs.Sums.{words_of}
+use Rattle.fv_lines.specs.ListTexts.{unit_text}
+use Rattle.fv_lines.proofs.leaf_text.put_interface.Goals as goal
+
+pub returns-in-Some : goal.returns-in-Some
+returns-in-Some g c =
+    let join = g.S.Sink.laws.joined in (
+      codes " ui \"" ++ (flat_map unit_text (words_of c.in-Some.units.now) ++ codes "\""),
+      inl (c.in-Some.units.now, c.in-Some.ensures.found, refl),
+      join _ _ _ _ _ c.put.ensures (join _ _ _ _ _ c.put_units.ensures c.put-in-Some.ensures),
+    )
+
+pub returns-in-None : goal.returns-in-None
+returns-in-None g c = ([], inr (c.in-None.ensures.none, refl), g.S.Sink.laws.none _)

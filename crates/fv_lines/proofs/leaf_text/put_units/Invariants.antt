@@ -1,0 +1,14 @@
+use Rattle.std.proofs.Common.{◌≡◌, ◌++◌, ℕ, List, length}
+use Rattle.std.specs.List.{flat_map}
+use Rattle.fv_base.specs.Sums.{words_of}
+use Rattle.fv_lines.specs.ListTexts.{unit_text}
+use Rattle.fv_lines.proofs.leaf_text.put_units.Given as goal
+
+-- the text so far, and that of the units to come, make the whole
+abbrev pub invariant-loop-rest : goal.invariant-loop-rest
+invariant-loop-rest g l =
+    (text : List ℕ) × g.S.Sink.takes l.initial.out text l.out
+    × (text ++ flat_map unit_text (words_of l.rest) ≡ flat_map unit_text (words_of l.fn.units))
+
+abbrev pub decreases-loop-rest : goal.decreases-loop-rest
+decreases-loop-rest g l = length l.rest

@@ -1,0 +1,31 @@
+use Rattle.std.proofs.Common.{◌∙◌, ℕ, List, decimal, subst}
+use Rattle.fv_base.specs.Guids.{bytes_of}
+use Rattle.fv_base.specs.GuidTexts.{guid_text}
+use Rattle.fv_base.specs.declared.guid.Guid.{Guid}
+use Rattle.fv_text.specs.HexText.{two_digits}
+use Rattle.fv_lines.proofs.ListLemmas.{begun}
+use Rattle.fv_lines.proofs.list_text.put_file_line.Goals as goal
+
+pub returns : goal.returns
+returns g c =
+    let join = g.S.Sink.laws.joined in
+    let takes = g.S.Sink.takes in
+    let name = subst (λ (u : Guid). takes c.put-2.new.self (guid_text (bytes_of u)) c.put-3.new.self) c.name.ensures.name
+    (subst (λ (t : List ℕ). takes c.put-2.new.self t c.put-3.new.self) c.text.ensures.text c.put-3.ensures) in
+    let kind = subst (λ (n : ℕ). takes c.put-4.new.self (two_digits n) c.put_two_digits.new.out) c.kind.ensures
+    c.put_two_digits.ensures in
+    let bits = subst (λ (n : ℕ). takes c.put-5.new.self (two_digits n) c.put_two_digits-2.new.out)
+    (c.byte.ensures ∙ c.attributes.ensures) c.put_two_digits-2.ensures in
+    let size = subst (λ (n : ℕ). takes c.put-6.new.self (decimal n) c.put_decimal-2.new.out) c.data_len.ensures
+    c.put_decimal-2.ensures.text in (
+      c.file_digest.result,
+      c.file_digest.ensures,
+      begun g.S.Sink.laws c.put_indent.ensures c.put.ensures c.put_decimal.ensures.text
+          (join _ _ _ _ _ c.put-2.ensures
+          (join _ _ _ _ _ name
+          (join _ _ _ _ _ c.put-4.ensures
+          (join _ _ _ _ _ kind
+          (join _ _ _ _ _ c.put-5.ensures
+          (join _ _ _ _ _ bits
+          (join _ _ _ _ _ c.put-6.ensures (join _ _ _ _ _ size (join _ _ _ _ _ c.put_digest.ensures c.put-7.ensures))))))))),
+    )

@@ -1,0 +1,23 @@
+use Rattle.std.proofs.Common.{◌∙◌, ℕ, List, ap, decimal, subst}
+use Rattle.fv_lines.specs.ListTexts.{form_text}
+use Rattle.fv_text.specs.HexText.{two_digits}
+use Rattle.fv_lines.proofs.ListLemmas.{begun}
+use Rattle.fv_lines.proofs.list_text.put_section_line.Goals as goal
+
+pub returns : goal.returns
+returns g c =
+    let join = g.S.Sink.laws.joined in
+    let takes = g.S.Sink.takes in
+    let kind = subst (λ (n : ℕ). takes c.put-2.new.self (two_digits n) c.put_two_digits.new.out) c.kind.ensures.kind
+    c.put_two_digits.ensures in
+    let form = subst (λ (t : List ℕ). takes c.put_two_digits.new.out t c.put-3.new.self)
+    (c.form_words.ensures ∙ ap form_text c.extended.ensures) c.put-3.ensures in
+    let size = subst (λ (n : ℕ). takes c.put-3.new.self (decimal n) c.put_decimal-2.new.out) c.body_len.ensures
+    c.put_decimal-2.ensures.text in
+    let shown = c.put_section_body.ensures in (
+      shown.0,
+      shown.1,
+      begun g.S.Sink.laws c.put_indent.ensures c.put.ensures c.put_decimal.ensures.text
+          (join _ _ _ _ _ c.put-2.ensures
+          (join _ _ _ _ _ kind (join _ _ _ _ _ form (join _ _ _ _ _ size (join _ _ _ _ _ shown.2 c.put-4.ensures))))),
+    )

@@ -1,0 +1,169 @@
+-- The text of `list`: a line for a volume, for each of its files and for each section of these, in order. What a part
+-- holds follows its line, indented by two more spaces. The line of a volume and that of a file may end with a digest.
+use Rattle.std.specs.Prelude.{◌≡◌, ◌≢◌, ◌⊎◌, ℕ, zero, suc, ◌+◌, ◌==◌, ◌&&◌, nat_le, not, Bool, true, false}
+use Rattle.std.specs.Prelude.{if◌then◌else◌, List, [], ◌∷◌, ◌++◌, length, Option, Some, None, codes, decimal}
+use Rattle.std.specs.List.{flat_map}
+use Rattle.hex.specs.Hex.{encode_lower}
+use Rattle.fv_base.specs.Guids.{bytes_of}
+use Rattle.fv_base.specs.GuidTexts.{guid_text}
+use Rattle.fv_base.specs.Sums.{words_of}
+use Rattle.fv_base.specs.declared.flash.FileSystem.{FileSystem}
+use Rattle.fv_base.specs.declared.flash.FileSystem.TheVariants.{Ffs2, Ffs3}
+use Rattle.fv_base.specs.declared.guid.Guid.{Guid}
+use Rattle.fv_text.specs.HexText.{four_digits, line_feed, two_digits}
+use Rattle.fv_head.specs.Ext.{Extension}
+use Rattle.fv_section.specs.Texts.{IsText, IsVersion, IsFreeform}
+use Rattle.fv_tree.specs.Meaning.{Meaning, Volume, FileMeanings, NoFiles, MoreFiles, FileMeaning, File, ContentMeaning}
+use Rattle.fv_tree.specs.Meaning.{Plain, Sectioned, SectionMeanings, NoSections, MoreSections, SectionMeaning, Section}
+use Rattle.fv_tree.specs.Meaning.{BodyMeaning, Leaf, Group, Nested, body_len}
+use Rattle.fv_tree.specs.Meaning.{head_of, files_of, file_name_of, attributes_of, data_len_of}
+use Rattle.fv_tree.specs.MeaningParts.{file_kind_of, section_kind_of, section_is_extended, body_of}
+
+-- ---- what a leaf shows
+
+-- the units 0020 to 007E are plain, except the quote (0022) and the backslash (005C)
+abbrev pub is_plain : ℕ → Bool
+is_plain unit = nat_le 0x20 unit && (nat_le unit 0x7e && (not (unit == 0x22) && not (unit == 0x5c)))
+
+-- a plain unit is shown as its character, any other by `\u` and four digits
+abbrev pub unit_text : ℕ → List ℕ
+unit_text unit = if is_plain unit then unit ∷ [] else codes "\\u" ++ four_digits unit
+
+-- the text shows what holds; if nothing does, it is empty
+abbrev pub Shows : {A : Type 0} → (A → Type 0) → (A → List ℕ) → List ℕ → Type 0
+Shows {A = A} Holds shown text = ((x : A) × Holds x × (text ≡ shown x)) ⊎ (((x : A) → Holds x → ⊥) × (text ≡ []))
+
+-- the build number of a version, the text of a user interface section, and the GUID of a freeform subtype section
+abbrev pub VersionText : List ℕ → List ℕ → Type 0
+VersionText b text =
+    Shows (λ (build : ℕ). (units : List ℕ) × IsVersion b build units) (λ build. codes " version " ++ decimal build) text
+
+abbrev pub InterfaceText : List ℕ → List ℕ → Type 0
+InterfaceText b text =
+    Shows (λ (units : List ℕ). IsText b units)
+    (λ units. codes " ui \"" ++ (flat_map unit_text (words_of units) ++ codes "\"")) text
+
+abbrev pub SubtypeText : List ℕ → List ℕ → Type 0
+SubtypeText b text =
+    Shows (λ (guid : Guid). (rest : List ℕ) × IsFreeform b guid rest)
+    (λ guid. codes " subtype " ++ guid_text (bytes_of guid)) text
+
+-- what is shown of a leaf, by its type
+pub record LeafText (kind : ℕ) (b text : List ℕ) : Type 0 where
+  pub version : kind ≡ 0x14 → VersionText b text
+  pub interface : kind ≡ 0x15 → InterfaceText b text
+  pub subtype : kind ≡ 0x18 → SubtypeText b text
+  pub other : kind ≢ 0x14 → kind ≢ 0x15 → kind ≢ 0x18 → text ≡ []
+
+-- what is shown of the body of a section: nothing, if it is no leaf
+abbrev pub BodyShown : ℕ → BodyMeaning → List ℕ → Type 0
+BodyShown kind (Leaf b) text = LeafText kind b text
+BodyShown kind (Group _ _) text = text ≡ []
+BodyShown kind (Nested _) text = text ≡ []
+
+-- ---- lines
+
+-- two spaces for each level
+abbrev pub spaces : ℕ → List ℕ
+spaces zero = []
+spaces (suc k) = codes "  " ++ spaces k
+
+-- what is shown of a digest at the end of a line, in lower-case hexadecimal digits; nothing, if there is none
+abbrev pub digest_text : Option (List ℕ) → List ℕ
+digest_text None = []
+digest_text (Some digest) = codes " sha256 " ++ encode_lower digest
+
+-- the line of a volume, indented by k levels; it has the volume's name if there is an extended header
+abbrev pub system_text : FileSystem → List ℕ
+system_text Ffs2 = codes "volume ffs2 length "
+system_text Ffs3 = codes "volume ffs3 length "
+
+abbrev pub name_text : Option Extension → List ℕ
+name_text None = []
+name_text (Some ext) = codes " name " ++ guid_text (bytes_of ext.name)
+
+abbrev pub volume_text : ℕ → Meaning → Option (List ℕ) → List ℕ
+volume_text k m digest =
+    spaces k ++ (system_text (head_of m).file_system ++ (decimal (head_of m).length ++ (codes " files "
+    ++ (decimal (length (files_of m)) ++ (name_text (head_of m).ext ++ (digest_text digest ++ line_feed))))))
+
+-- the line of a file, which is number i in its volume
+abbrev pub file_text : ℕ → ℕ → FileMeaning → Option (List ℕ) → List ℕ
+file_text k i f digest =
+    spaces k ++ (codes "file " ++ (decimal i ++ (codes " " ++ (guid_text (bytes_of (file_name_of f))
+    ++ (codes " type " ++ (two_digits (file_kind_of f)
+    ++ (codes " attributes " ++ (two_digits (attributes_of f)
+    ++ (codes " data " ++ (decimal (data_len_of f) ++ (digest_text digest ++ line_feed)))))))))))
+
+-- the line of a section, which is number j in its stream; `shown` is what is shown of its body
+abbrev pub form_text : Bool → List ℕ
+form_text true = codes " extended body "
+form_text false = codes " short body "
+
+abbrev pub section_text : ℕ → ℕ → SectionMeaning → List ℕ → List ℕ
+section_text k j s shown =
+    spaces k ++ (codes "section " ++ (decimal j ++ (codes " type " ++ (two_digits (section_kind_of s)
+    ++ (form_text (section_is_extended s) ++ (decimal (body_len (body_of s)) ++ (shown ++ line_feed)))))))
+
+-- ---- the walk
+
+-- `of_volume m digest` says which digest the line of a volume shows, or that it shows none; `of_file f digest` the same
+-- of the line of a file
+abbrev mutual
+  -- the line of a volume, indented by k levels, and the lines of its files
+  pub VolumeLines : (Meaning → Option (List ℕ) → Type 0) → (FileMeaning → Option (List ℕ) → Type 0) → ℕ → Meaning
+      → List ℕ → Type 0
+  VolumeLines of_volume of_file k (Volume head files) text =
+      (digest : Option (List ℕ)) × (rest : List ℕ) × of_volume (Volume head files) digest
+      × (text ≡ volume_text k (Volume head files) digest ++ rest) × FilesLines of_volume of_file (k + 1) 0 files rest
+
+  -- the lines of files, the first of which is number i
+  pub FilesLines : (Meaning → Option (List ℕ) → Type 0) → (FileMeaning → Option (List ℕ) → Type 0) → ℕ → ℕ
+      → FileMeanings → List ℕ → Type 0
+  FilesLines of_volume of_file k i NoFiles text = text ≡ []
+  FilesLines of_volume of_file k i (MoreFiles f files) text =
+      (here : List ℕ) × (rest : List ℕ) × (text ≡ here ++ rest) × FileLines of_volume of_file k i f here
+      × FilesLines of_volume of_file k (i + 1) files rest
+
+  -- the line of a file, and those of its sections, if it holds any
+  pub FileLines : (Meaning → Option (List ℕ) → Type 0) → (FileMeaning → Option (List ℕ) → Type 0) → ℕ → ℕ
+      → FileMeaning → List ℕ → Type 0
+  FileLines of_volume of_file k i (File name kind attributes content) text =
+      (digest : Option (List ℕ)) × (rest : List ℕ) × of_file (File name kind attributes content) digest
+      × (text ≡ file_text k i (File name kind attributes content) digest ++ rest)
+      × ContentLines of_volume of_file (k + 1) content rest
+
+  pub ContentLines : (Meaning → Option (List ℕ) → Type 0) → (FileMeaning → Option (List ℕ) → Type 0) → ℕ
+      → ContentMeaning → List ℕ → Type 0
+  ContentLines of_volume of_file k (Plain b) text = text ≡ []
+  ContentLines of_volume of_file k (Sectioned sections tail) text = SectionsLines of_volume of_file k 0 sections text
+
+  -- the lines of sections, the first of which is number j
+  pub SectionsLines : (Meaning → Option (List ℕ) → Type 0) → (FileMeaning → Option (List ℕ) → Type 0) → ℕ → ℕ
+      → SectionMeanings → List ℕ → Type 0
+  SectionsLines of_volume of_file k j NoSections text = text ≡ []
+  SectionsLines of_volume of_file k j (MoreSections s sections) text =
+      (here : List ℕ) × (rest : List ℕ) × (text ≡ here ++ rest) × SectionLines of_volume of_file k j s here
+      × SectionsLines of_volume of_file k (j + 1) sections rest
+
+  -- the line of a section, and those of what it holds, if it is no leaf
+  pub SectionLines : (Meaning → Option (List ℕ) → Type 0) → (FileMeaning → Option (List ℕ) → Type 0) → ℕ → ℕ
+      → SectionMeaning → List ℕ → Type 0
+  SectionLines of_volume of_file k j (Section kind extended body) text =
+      (shown : List ℕ) × (rest : List ℕ) × BodyShown kind body shown
+      × (text ≡ section_text k j (Section kind extended body) shown ++ rest)
+      × BodyLines of_volume of_file (k + 1) body rest
+
+  pub BodyLines : (Meaning → Option (List ℕ) → Type 0) → (FileMeaning → Option (List ℕ) → Type 0) → ℕ → BodyMeaning
+      → List ℕ → Type 0
+  BodyLines of_volume of_file k (Leaf b) text = text ≡ []
+  BodyLines of_volume of_file k (Group sections tail) text = SectionsLines of_volume of_file k 0 sections text
+  BodyLines of_volume of_file k (Nested volume) text = VolumeLines of_volume of_file k volume text
+
+-- no digest is shown of this
+abbrev pub NoDigest : {A : Type 0} → A → Option (List ℕ) → Type 0
+NoDigest x digest = digest ≡ None
+
+-- the text of `list` for a volume with this meaning
+abbrev pub ListText : Meaning → List ℕ → Type 0
+ListText m text = VolumeLines NoDigest NoDigest 0 m text

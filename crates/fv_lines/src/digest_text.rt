@@ -1,0 +1,29 @@
+//! What a line of a list shows of a digest.
+
+ghost use Rattle.std.specs.Prelude.{◌++◌, codes};
+ghost use Rattle.hex.specs.Hex.{encode_lower};
+ghost use Rattle.fv_lines.specs.ListTexts.{digest_text};
+
+use fv_base::Sink;
+
+// Puts a digest in lower-case hexadecimal digits, as it is at the end of a line.
+fn put_sum<S: Sink>(out: &mut S, sum: &[u8; 32])
+    ensures { S.takes out.old (codes " sha256 " ++ encode_lower sum.now) out.new }
+{
+    let mut text = [0u8; 64];
+    let Ok(()) = hex::encode_to_slice(&sum[..], &mut text) else {
+        unreachable!()
+    };
+    out.put(b" sha256 ");
+    out.put(&text);
+}
+
+/// Puts what the line of a volume or of a file shows of its digest: nothing, if there is none.
+pub fn put_digest<S: Sink>(out: &mut S, digest: Option<[u8; 32]>)
+    ensures { S.takes out.old (digest_text digest) out.new }
+{
+    match digest {
+        Some(sum) => put_sum(out, &sum),
+        None => {}
+    }
+}

@@ -1,0 +1,28 @@
+//! How far a line of a list is indented.
+
+ghost use Rattle.fv_lines.specs.ListTexts.{spaces};
+ghost use Rattle.fv_lines.specs.inner.Indents.{levels};
+
+use fv_base::Sink;
+
+/// How far a line is indented.
+#[derive(Drop)]
+pub enum Indent<'a> {
+    /// Not at all.
+    Margin,
+    /// Two spaces further than the line of the part that holds this one.
+    Inside(&'a Indent<'a>),
+}
+
+/// Puts two spaces for each level.
+pub fn put_indent<S: Sink>(out: &mut S, indent: &Indent<'_>)
+    ensures { S.takes out.old (spaces (levels indent.now)) out.new }
+{
+    match indent {
+        Indent::Margin => {}
+        Indent::Inside(outer) => {
+            out.put(b"  ");
+            put_indent(out, outer);
+        }
+    }
+}

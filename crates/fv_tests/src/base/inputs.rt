@@ -1,0 +1,176 @@
+//! Inputs that come in pieces, fail, are too long or never end; how often a reader is called, and
+//! for how many bytes.
+
+use super::ports::FailingReader;
+use fv_base::{Fault, FaultKind, Port, read_input};
+use std::alloc::Global;
+use std::io;
+use std::io::{ErrorKind, Read};
+
+/// Gives `left` bytes, as many as it is asked for, and then nothing, or `Interrupted` for ever. It
+/// counts its calls, and keeps the size of the largest buffer that was passed in.
+#[derive(Drop)]
+struct CountingReader {
+    left: usize,
+    ends: bool,
+    calls: u64,
+    largest: usize,
+}
+
+impl Read for CountingReader {
+    fn read(&mut self, buf: &mut [u8]) -> io::Result<usize> {
+        self.calls = self.calls.saturating_add(1);
+        self.largest = self.largest.max(buf.len());
+        if self.left == 0 && !self.ends {
+            return Err(io::Error::from(ErrorKind::Interrupted));
+        }
+        let count = self.left.min(buf.len());
+        self.left -= count;
+        Ok(count)
+    }
+}
+
+// A reader of `left` bytes, which counts.
+fn counting_reader(left: usize, ends: bool) -> Port<CountingReader> {
+    Port::new(CountingReader {
+        left,
+        ends,
+        calls: 0,
+        largest: 0,
+    })
+}
+
+// Writes bytes that all differ from their neighbours.
+fn count_up(bytes: &mut [u8]) {
+    for i in 0..bytes.len() {
+        bytes[i] = (i % 251) as u8;
+    }
+}
+
+// Whether bytes are read to their end through a port of this room.
+fn is_read_whole(alloc: Global, bytes: &[u8], room: usize) -> bool {
+    let mut reader = Port::with_room(bytes, room);
+    match read_input(alloc, &mut reader) {
+        Ok(got) => got.as_slice() == bytes && !reader.erred(),
+        Err(_) => false,
+    }
+}
+
+// Whether this many bytes are read to their end through a port of this room.
+fn are_read(alloc: Global, length: usize, room: usize) -> bool {
+    match vec![in alloc; 0; length] {
+        Ok(mut bytes) => {
+            count_up(bytes.as_mut_slice());
+            is_read_whole(alloc, bytes.as_slice(), room)
+        }
+        Err(_) => false,
+    }
+}
+
+// Whatever the room of the port: none, too little, as much as there is, or more than an input has.
+#[test]
+fn inputs_are_read_to_their_end(rt: HostRuntime) {
+    for length in [0, 1, 1000, 65_536, 200_000] {
+        for room in [0, 1, 1000, 65_536, 200_000, usize::MAX] {
+            assert!(rt; are_read(rt.alloc(), length, room), "{length} {room}");
+        }
+    }
+}
+
+// A thousand bytes that all differ from their neighbours.
+fn first_thousand() -> [u8; 1000] {
+    let mut bytes = [0; 1000];
+    count_up(&mut bytes);
+    bytes
+}
+
+// A reader that fails after `good` of the bytes.
+fn failing_reader<'a>(bytes: &'a [u8], good: usize) -> Port<FailingReader<'a>> {
+    Port::new(FailingReader {
+        bytes,
+        calls: 0,
+        good,
+    })
+}
+
+// Whether all of the bytes are read by a reader that fails only after them, and has failed.
+fn is_read_on(alloc: Global, bytes: &[u8], good: usize) -> bool {
+    let mut reader = failing_reader(bytes, good);
+    match read_input(alloc, &mut reader) {
+        Ok(got) => got.as_slice() == bytes && reader.erred(),
+        Err(_) => false,
+    }
+}
+
+// The reader fails only after one more byte than there are, so its end is read too.
+#[test]
+fn reading_goes_on_after_an_interruption(rt: HostRuntime) {
+    assert!(rt; is_read_on(rt.alloc(), &first_thousand(), 1001));
+}
+
+// Whether a read that fails after `good` of the bytes is reported there.
+fn fails_after(alloc: Global, bytes: &[u8], good: usize) -> bool {
+    let mut reader = failing_reader(bytes, good);
+    match read_input(alloc, &mut reader) {
+        Ok(_got) => false,
+        Err(fault) => { fault == Fault::outer(FaultKind::ReadFault, good as u64) && reader.erred() }
+    }
+}
+
+#[test]
+fn a_failed_read_is_reported_at_its_offset(rt: HostRuntime) {
+    let bytes = first_thousand();
+    for good in [0usize, 1, 2, 7, 1000] {
+        assert!(rt; fails_after(rt.alloc(), &bytes, good), "{good}");
+    }
+}
+
+// How many bytes are read, or the fault.
+fn read_count(alloc: Global, reader: &mut Port<CountingReader>) -> Result<usize, Fault> {
+    match read_input(alloc, reader) {
+        Ok(got) => Ok(got.len()),
+        Err(fault) => Err(fault),
+    }
+}
+
+// Whether reading has this outcome after this many calls, of which each asks for 65,536 bytes.
+fn is_read_in(
+    alloc: Global,
+    left: usize,
+    ends: bool,
+    want: Result<usize, Fault>,
+    calls: u64,
+) -> bool {
+    let mut reader = counting_reader(left, ends);
+    let outcome = read_count(alloc, &mut reader);
+    let reader = reader.into_inner();
+    outcome == want && reader.calls == calls && reader.largest == 65_536
+}
+
+// Each call asks for 65,536 bytes, and there are no more calls than the bytes and the end need.
+#[test]
+fn each_read_asks_for_65536_bytes(rt: HostRuntime) {
+    for (bytes, calls) in [(0usize, 1u64), (65_536, 2), (65_537, 3), (200_000, 5)] {
+        assert!(rt;
+            is_read_in(rt.alloc(), bytes, true, Ok(bytes), calls),
+            "{bytes}"
+        );
+    }
+}
+
+// As many bytes as a volume may have are accepted, and one more is Length at the limit.
+#[test]
+fn an_input_longer_than_the_limit_is_rejected(rt: HostRuntime) {
+    let limit = 268_435_456;
+    let fault = Fault::outer(FaultKind::Length, 268_435_456);
+    assert!(rt; is_read_in(rt.alloc(), limit, true, Ok(limit), 4097));
+    assert!(rt; is_read_in(rt.alloc(), limit + 1, true, Err(fault), 4097));
+}
+
+// Reading stops if the reader is interrupted for ever. (So many calls take a second or two when
+// built, and too long under `rt try`.)
+#[test]
+fn reading_ends_if_every_call_is_interrupted(rt: HostRuntime) {
+    let fault = Fault::outer(FaultKind::ReadFault, 10);
+    assert!(rt; is_read_in(rt.alloc(), 10, false, Err(fault), 268_435_458));
+}

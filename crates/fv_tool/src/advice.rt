@@ -1,0 +1,56 @@
+//! What the program says to a person at a terminal.
+
+use fv_base::FaultKind;
+use fv_command::{Ending, Refusal, Status};
+use std::fmt;
+
+/// The forms of the command line, as `docs/PROGRAM.md` has them.
+pub const SYNOPSIS: &str = "\
+    fvtool\n\
+    fvtool normalise [--at N | --all] [--hex] [FILE]\n\
+    fvtool list [--sums] [--at N] [--hex] [FILE]\n\
+    fvtool cells [--at N] [--hex] [FILE]\n\
+    fvtool extract --name GUID [--section HH] [--instance N] [--at N] [--hex] [FILE]\n\
+    fvtool check [--at N] [--hex] [FILE]\n\
+    fvtool scan [--hex] [FILE]\n\
+    fvtool compare [--at N] [--other-at N] [--hex] A B\n\
+    fvtool hobs [--image IMG --base N] [--hex] [FILE]";
+
+/// What the program says to a person, which `Display` writes. It is no result of the run.
+#[derive(Clone, Copy)]
+pub enum Advice {
+    /// Standard input is read next.
+    ReadsStandardInput,
+    /// The arguments are wrong: the forms of the command line.
+    Synopsis,
+    /// The run was refused: what the fault means that stopped it.
+    Refused(Refusal),
+    /// A write of the result failed.
+    NotWritten,
+}
+
+impl Advice {
+    /// What there is to say of how a run ended. None if it was not refused.
+    pub fn of(ending: Ending) -> Option<Advice> {
+        match ending.status {
+            Status::Done => None,
+            Status::Different => None,
+            Status::Refused => Some(match ending.refusal {
+                Some(refusal) => Advice::Refused(refusal),
+                None => Advice::NotWritten,
+            }),
+            Status::WrongWords => Some(Advice::Synopsis),
+        }
+    }
+}
+
+impl fmt::Display for Advice {
+    fn fmt<W: fmt::Write>(&self, f: &mut fmt::Formatter<W>) -> fmt::Result {
+        match self {
+            Advice::ReadsStandardInput => f.write_str("fvtool: reading standard input"),
+            Advice::Synopsis => f.write_str(SYNOPSIS),
+            Advice::Refused(refusal) => write!(f, "fvtool: {refusal} (man fvtool)"),
+            Advice::NotWritten => write!(f, "fvtool: {} (man fvtool)", FaultKind::WriteFault),
+        }
+    }
+}
