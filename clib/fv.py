@@ -36,7 +36,7 @@ __version__ = "1.0.0"
 
 PEI, DXE = 0, 1
 FILE, PAD, DELETED, UNFINISHED, FREE = 1, 2, 3, 4, 5
-BUFFER_TOO_SMALL, OUT_OF_MEMORY, NOT_FOUND = 27, 24, 28
+OUT_OF_MEMORY, BUFFER_TOO_SMALL, NOT_FOUND = 24, 256, 257
 BYTES, SECTIONS, VOLUME = 1, 2, 3
 NO_PARENT = WHOLE_FILE = 2**64 - 1
 
@@ -155,7 +155,7 @@ def _fault(number: int, offset: int, depth: int, side: int, has_text: bool) -> F
 
 
 def fault_text(number: int) -> str:
-    """What a fault means, in a sentence. ValueError if the number has more than 32 bits."""
+    """What a result of a call means, in a sentence. ValueError if the number has more than 32 bits."""
     return _lib.fv_fault_text(_of_32_bits(number)).decode()
 
 

@@ -15,10 +15,11 @@
  *
  * Results: 0 is success. 1 to 24 is the number of the first fault of the input, as docs/FAULTS.md has them. 24 is
  * out of memory: a call that reads an input as a volume returns it only if that input begins with the header of a
- * volume. 27 is a buffer that is too small; in every call it comes only where the input has no fault. 28 says that
- * there is no file or section of the number that was passed. Calls for dependency expressions and hand-off lists
- * have numbers of their own. After any result except 0 the buffer is as it was. All lengths and offsets are in
- * bytes. A volume has at most 268,435,456 bytes, and so has an image for fv_normalise_image.
+ * volume. Results of the library itself begin at 256, since the number of a fault is less. 256 is a buffer that is too
+ * small; in every call it comes only where the input has no fault. 257 says that there is no file or section of the
+ * number that was passed. Calls for dependency expressions and hand-off lists have numbers of their own, also below
+ * 256. After any result except 0 the buffer is as it was. All lengths and offsets are in bytes. A volume has at most
+ * 268,435,456 bytes, and so has an image for fv_normalise_image.
  *
  * Memory, beside the arguments, for inputs of nothing but tiny parts, as measured: fv_sections takes up to 19
  * times the input, fv_files 15, fv_compare 13 times both, every other call up to 14. A call takes at most
@@ -66,8 +67,8 @@ enum {
     FV_NO_ROOM = 22,
     FV_TOP_ALIGNMENT = 23,
     FV_OUT_OF_MEMORY = 24,
-    FV_BUFFER_TOO_SMALL = 27,
-    FV_NOT_FOUND = 28
+    FV_BUFFER_TOO_SMALL = 256,
+    FV_NOT_FOUND = 257
 };
 
 /* A fault and its place. All fields are 0 if there is none. */
@@ -108,8 +109,8 @@ typedef struct fv_sha256 {
 } fv_sha256;
 FV_ASSERT(sizeof(fv_sha256) == 32, "the layout of fv_sha256");
 
-/* What a result of a call means, in a sentence that ends with a NUL. It knows the results 0 to 28; of fv_depex and
- * fv_hobs, which have numbers of their own, only 0 and 27. Not proved, and it cannot fail. */
+/* What a result of a call means, in a sentence that ends with a NUL. It knows the results 0 to 26, 256 and 257; of
+ * fv_depex and fv_hobs, which have numbers of their own, only 0 and 256. Not proved, and it cannot fail. */
 const char *fv_fault_text(uint32_t number);
 
 /* Whether the bytes begin with a volume. Only its header is read. Returns 0 and the extent if they do.
@@ -119,7 +120,7 @@ uint32_t fv_verify(const uint8_t *bytes, size_t len, fv_extent *FV_RESTRICT exte
 
 /* Writes the canonical image of the volume that the input is to the first `len` bytes of the buffer; the
  * image is as long as the input. Returns 0. Returns the first fault of the input, 1 to 24, if it has one; else
- * 27 if buffer_len < len. */
+ * 256 if buffer_len < len. */
 uint32_t fv_normalise(const uint8_t *input, size_t len, uint8_t *FV_RESTRICT buffer, size_t buffer_len,
                       fv_fault *FV_RESTRICT fault);
 
@@ -141,14 +142,14 @@ uint32_t fv_digest(const uint8_t *input, size_t len, fv_sha256 *FV_RESTRICT dige
                    fv_fault *FV_RESTRICT fault);
 
 /* Writes the offsets of the volumes in the bytes, in rising order, to the start of the buffer. *count is
- * their number. Returns 0. Returns 27 if *count > buffer_count; so an empty buffer asks for the number.
+ * their number. Returns 0. Returns 256 if *count > buffer_count; so an empty buffer asks for the number.
  * Returns 24 if memory runs out, which it can only if a volume begins in the bytes, and *count is unchanged. */
 uint32_t fv_scan(const uint8_t *bytes, size_t len, uint64_t *FV_RESTRICT buffer, size_t buffer_count,
                  uint64_t *FV_RESTRICT count);
 
 /* Compares the meanings of two inputs that are volumes. found->same says whether they are the same. The
  * line `same`, or `different at` with the steps down to the first difference and its kind, is written to
- * the start of the buffer. It ends with a line feed, not with a NUL. Returns 0. Returns 27 if
+ * the start of the buffer. It ends with a line feed, not with a NUL. Returns 0. Returns 256 if
  * buffer_len < found->line_len; 553 bytes are always enough. Else returns the first fault of the input
  * found->side, which is 2 only if the first input is a volume. 24 has side 1 if memory runs out while the two
  * are compared. */
@@ -177,7 +178,7 @@ FV_ASSERT(sizeof(fv_cell) == 56 && offsetof(fv_cell, len) == 8 && offsetof(fv_ce
           "the layout of fv_cell");
 
 /* Writes the cells of the volume with which the bytes begin, in order, to the start of the buffer. *count
- * is their number. Returns 0. Returns 27 if *count > buffer_count. Else returns the first fault of the
+ * is their number. Returns 0. Returns 256 if *count > buffer_count. Else returns the first fault of the
  * header or of the cells, 1 to 16, or 24, and *count is unchanged. Duplicate names, the volume top file
  * and sections are not checked. */
 uint32_t fv_cells(const uint8_t *bytes, size_t len, fv_cell *FV_RESTRICT buffer, size_t buffer_count,
@@ -197,7 +198,7 @@ FV_ASSERT(sizeof(fv_file) == 48 && offsetof(fv_file, data_len) == 8 && offsetof(
           "the layout of fv_file");
 
 /* Writes the files of the volume that the input is, in order, to the start of the buffer. *count is their
- * number. Returns 0. Returns 27 if *count > buffer_count. Else returns the first fault of the input, 1 to
+ * number. Returns 0. Returns 256 if *count > buffer_count. Else returns the first fault of the input, 1 to
  * 21, or 24, and *count is unchanged. Pads are no files. A file that is marked for update is none either if
  * its update is in the volume. */
 uint32_t fv_files(const uint8_t *input, size_t len, fv_file *FV_RESTRICT buffer, size_t buffer_count,
@@ -227,9 +228,9 @@ FV_ASSERT(sizeof(fv_section) == 40 && offsetof(fv_section, parent) == 8 && offse
 /* Writes the sections of a file of the volume that the input is, in preorder, to the start of the buffer:
  * each group is followed by the sections in it. The number of a section is its place there, from 0. `file`
  * is the place of the file in what fv_files writes. *count is the number of sections, 0 if the data of the
- * file are not sections (those of a security core are not, for this call). Returns 0. Returns 27 if
- * *count > buffer_count, and 28 if the volume has no such file. Else returns the first fault of the input,
- * 1 to 21, or 24. *count is unchanged then, and if it returns 28.
+ * file are not sections (those of a security core are not, for this call). Returns 0. Returns 256 if
+ * *count > buffer_count, and 257 if the volume has no such file. Else returns the first fault of the input,
+ * 1 to 21, or 24. *count is unchanged then, and if it returns 257.
  * The sections of a nested volume are not included. To see its files, get its bytes by fv_extract. */
 uint32_t fv_sections(const uint8_t *input, size_t len, uint64_t file, fv_section *FV_RESTRICT buffer,
                      size_t buffer_count, uint64_t *FV_RESTRICT count, fv_fault *FV_RESTRICT fault);
@@ -238,10 +239,10 @@ uint32_t fv_sections(const uint8_t *input, size_t len, uint64_t file, fv_section
 #define FV_WHOLE_FILE UINT64_MAX
 
 /* Writes the body of a section of a file, or all data of the file (FV_WHOLE_FILE), to the start of the
- * buffer. *part_len is the number of bytes. Returns 0. Returns 27 if buffer_len < *part_len; so an empty
- * buffer asks for the number. Returns 28 if the volume has no such file or section. Else returns the first
+ * buffer. *part_len is the number of bytes. Returns 0. Returns 256 if buffer_len < *part_len; so an empty
+ * buffer asks for the number. Returns 257 if the volume has no such file or section. Else returns the first
  * fault of the input, 1 to 21; or that of a volume in the part that does not fit in its canonical form, 22
- * or 23; or 24. *part_len is unchanged then, and if it returns 28.
+ * or 23; or 24. *part_len is unchanged then, and if it returns 257.
  * The bytes are those that the canonical image has: a volume in the part is its own canonical image, and the
  * bytes between sections are 0. Plain data, and a section that holds bytes, are as they are in the input. */
 uint32_t fv_extract(const uint8_t *input, size_t len, uint64_t file, uint64_t section,
@@ -274,7 +275,7 @@ FV_ASSERT(sizeof(fv_hob) == 24 && offsetof(fv_hob, length) == 8 && offsetof(fv_h
           "the layout of fv_hob");
 
 /* Writes the blocks of the hand-off list with which the bytes begin, in order, to the start of the buffer.
- * *count is their number, and *consumed the number of bytes of the list. Returns 0. Returns 27 if
+ * *count is their number, and *consumed the number of bytes of the list. Returns 0. Returns 256 if
  * *count > buffer_count. Else returns the first fault by the numbers of hand-off lists: 1 to 5, or 6 if
  * memory runs out, which it can only if the bytes begin with a hand-off information table. *count and *consumed
  * are unchanged then. */

@@ -1,6 +1,7 @@
-/* What a result of a call means, in a sentence. docs/FAULTS.md has the same texts. */
+/* What a result of a call means, in a sentence. docs/FAULTS.md has the same texts of faults. */
 #include "fv.h"
 
+/* 0, and the faults by their numbers. */
 static const char *const texts[] = {
     "done",
     "the bytes end before the volume does",
@@ -29,10 +30,11 @@ static const char *const texts[] = {
     "memory ran out",
     "the input cannot be read, or is no hexadecimal text",
     "the output cannot be written",
-    "the buffer is too small",
-    "the volume has no file of this number, or the file no section of this number",
 };
 
 const char *fv_fault_text(uint32_t number) {
-    return number < sizeof texts / sizeof *texts ? texts[number] : "no result has this number";
+    if (number < sizeof texts / sizeof *texts) return texts[number];
+    if (number == FV_BUFFER_TOO_SMALL) return "the buffer is too small";
+    if (number == FV_NOT_FOUND) return "the volume has no file of this number, or the file no section of this number";
+    return "no result has this number";
 }

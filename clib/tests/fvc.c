@@ -252,7 +252,7 @@ static void empty_buffer(const uint8_t *p, size_t n, uint32_t status, uint32_t o
 /* Each bit of the input turned, or each proper prefix of it, through all calls. Prints how often each result came. */
 static int vary(const char *command, struct bytes in)
 {
-    unsigned long seen[32] = {0};
+    unsigned long seen[FV_BUFFER_TOO_SMALL] = {0};
     size_t turns = command[0] == 'f' ? 8 * in.n : in.n;
     uint8_t *buffer = malloc(in.n ? in.n : 1);
     static uint64_t offsets[64];
@@ -277,7 +277,7 @@ static int vary(const char *command, struct bytes in)
             memcpy(p, in.p, n);
         }
         uint32_t status = fv_normalise(p, n, buffer, n, &fault);
-        if (status != fault.number || fv_digest(p, n, &sum, &fault) != status) abort();
+        if (status >= FV_BUFFER_TOO_SMALL || status != fault.number || fv_digest(p, n, &sum, &fault) != status) abort();
         seen[status]++;
         if (!status && (fv_compare(p, n, buffer, n, line, sizeof line, &found) || !found.same)) abort();
         if (!status && (fv_is_canonical(buffer, n, &canonical, &fault) || canonical != 1)) abort();
@@ -296,7 +296,7 @@ static int vary(const char *command, struct bytes in)
             free(p);
     }
     free(buffer);
-    for (int i = 0; i < 32; i++)
+    for (int i = 0; i < FV_BUFFER_TOO_SMALL; i++)
         if (seen[i]) printf("%d:%lu ", i, seen[i]);
     puts("");
     return 0;

@@ -15,6 +15,8 @@ from pathlib import Path
 sys.path.insert(0, str(Path(__file__).resolve().parent.parent))
 import fv
 
+NOT_FOUND = "the volume has no file of this number, or the file no section of this number"
+
 
 def outcome(call, *arguments):
     try:
@@ -66,6 +68,16 @@ def numbers_are_not_cut(volume):
     for wrong in (2**64, 2**64 - 1, -1):
         assert isinstance(raised(fv.sections, volume, wrong), IndexError), wrong
     assert fv.depex(b"\x06\x08", 2**32 - 1) is True
+
+
+def results_have_texts(faults):
+    """0, the faults and the results of the library itself, which begin at 256, have a text each. No other number has."""
+    texts = [fv.fault_text(number) for number in (*range(faults + 1), fv.BUFFER_TOO_SMALL, fv.NOT_FOUND)]
+    assert (fv.BUFFER_TOO_SMALL, fv.NOT_FOUND) == (256, 257)
+    assert texts[-2:] == ["the buffer is too small", NOT_FOUND], texts
+    none = fv.fault_text(2**32 - 1)
+    assert none not in texts and len(set(texts)) == len(texts), texts
+    assert all(fv.fault_text(number) == none for number in (*range(faults + 1, 256), *range(258, 1024)))
 
 
 def buffers_are_read(volume):
@@ -162,8 +174,9 @@ def main(paths):
     page = (Path(__file__).resolve().parents[2] / "docs/FAULTS.md").read_text(encoding="utf-8")
     page = page.split("## What each fault means for you")[1].split("\n## ")[0]
     rows = [line.strip("| ").split(" | ") for line in page.splitlines() if line.startswith("| ")][1:]
-    assert [int(row[0]) for row in rows] == list(range(1, 27)), rows
+    assert [int(row[0]) for row in rows] == list(range(1, len(rows) + 1)), rows
     assert all(fv.fault_text(int(row[0])) == row[1] for row in rows), rows
+    results_have_texts(len(rows))
     print(f"Python: {len(paths)} files, {images} of them have an image; {calls} calls over a buffer that changes")
 
 

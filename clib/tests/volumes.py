@@ -1,10 +1,12 @@
 #!/usr/bin/env python3
-"""volumes.py: normalise, normalise_image, is_canonical and compare of fv.py over the volumes of crates/fv_run_tests/rows.
+"""volumes.py: normalise, normalise_image, is_canonical and compare of fv.py over the volumes of crates/fv_run_tests/rows,
+and depex and hobs over its expressions and lists.
 
 The images and the faults of these were worked out by hand. Of some, each byte is then replaced by each other one: the
 calls have to agree on what they are given, and whatever has an image has to keep it."""
 
 import sys
+import uuid
 from pathlib import Path
 
 ROOT = Path(__file__).resolve().parents[2]
@@ -64,6 +66,27 @@ def check_flash(accepted, rejected):
     return len(accepted) + len(rejected)
 
 
+def check_rejected(table):
+    """Each expression and each hand-off list has the fault of its row, or an expression is accepted."""
+    calls, count = {"pei": lambda data: fv.depex(data, fv.PEI), "dxe": fv.depex, "hobs": fv.hobs}, 0
+    for row in table:
+        for kind, data, fault in rows.rejected(row):
+            found = outcome(calls[kind], data)
+            assert found == (*fault, 0) if fault else isinstance(found, bool), (row, len(data), found)
+            count += 1
+    return count
+
+
+def check_values(table):
+    """Each expression has its values, with four lists of installed GUIDs."""
+    a, b = uuid.UUID(bytes=b"\x0a" * 16), uuid.UUID(bytes=b"\x0b" * 16)
+    phases, values = {"pei": fv.PEI, "dxe": fv.DXE}, {"0": False, "1": True, "-": None}
+    for phase, words, wanted in map(rows.parts, table):
+        found = [fv.depex(rows.spelled(words), phases[phase], guids) for guids in ((), (a,), (b,), (b, a))]
+        assert found == [values[it] for it in wanted.split()], (phase, words, found)
+    return len(table)
+
+
 def check_full():
     """A volume of few and of many files is its own image."""
     for count in range(301):
@@ -110,6 +133,8 @@ def main():
     images, unfit = check_images(), check_unfit(library["unfit"])
     flash = check_flash(library["flash images"], library["rejected images"])
     print(f"volumes: {images} have their images, {unfit} do not fit; {flash} flash images and {check_full()} full volumes")
+    print(f"volumes: {check_rejected(rows.tables('parts')[''])} expressions and hand-off lists are as the rows say")
+    print(f"volumes: {check_values(library['values'])} expressions have their values")
     print(f"volumes: of {check_replaced(IMAGES, agree) + check_replaced(VOLUMES, keeps)} with another byte each is as it should be")
 
 

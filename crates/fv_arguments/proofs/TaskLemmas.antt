@@ -1,16 +1,15 @@
 -- Commands, and the arguments that ask for them.
 use Rattle.std.proofs.lemmas.Grind.{common_steps}
-use Rattle.std.proofs.Common.{◌≡◌, ◌∙◌, ℕ, Bool, true, false, List, Option, Result, Ok, Err, ap, subst, sym, arith}
+use Rattle.std.proofs.Common.{◌≡◌, ◌∙◌, ℕ, Bool, true, false, List, Option, Ok, ap, subst, sym, arith}
 use Rattle.std.proofs.lemmas.Bool.{cond_both}
 use Rattle.std.specs.Global.{Global}
-use Rattle.std.specs.Prelude.{IsErrAnd, String, if◌then◌else◌}
+use Rattle.std.specs.Prelude.{String, if◌then◌else◌}
 use Rattle.clap.specs.declared.parser.matches.ArgMatches.{ArgMatches}
 use Rattle.fv_plan.specs.declared.plan.Command.{Command}
 use Rattle.fv_plan.specs.declared.plan.Command.TheVariants.{Single}
 use Rattle.fv_plan.specs.declared.plan.Task.{Task}
 use Rattle.fv_arguments.specs.Words.{HasTaskTexts, HasTexts, command_name, task_name}
 use Rattle.fv_arguments.specs.inner.CommandWords.{AsksFor, IsRead, app_named}
-use Rattle.fv_arguments.specs.declared.words.WordFault.{WordFault}
 
 -- a task over an input is what the arguments of its name ask for
 pub single_asked : (name : List ℕ) (m : ArgMatches) (task : Task) (at : Option ℕ) (file : Option (String Global)) (c : Command)
@@ -29,9 +28,3 @@ pub by_flag : (name : List ℕ) (rest : List (List ℕ)) (at : Option ℕ) (file
     (one other task : Task) → task ≡ (if given then one else other) → (given ≡ true → IsAsked name rest at file one)
     → (given ≡ false → IsAsked name rest at file other) → IsAsked name rest at file task
 by_flag name rest at file given one other task is on off = grind (arith, common_steps, cond_both)
-
--- a fault that is passed on
-pub handed : (name : List ℕ) (m : ArgMatches) (r : Result Command WordFault) (f : WordFault) → IsErrAnd r (λ g. g ≡ f)
-    → AsksFor name m (Err f) → AsksFor name m r
-handed name m (Ok c) f is h = absurd is
-handed name m (Err g) f is h = subst (λ (e : WordFault). AsksFor name m (Err e)) (sym is) h

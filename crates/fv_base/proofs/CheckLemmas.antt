@@ -1,6 +1,12 @@
--- Checks in their order.
+-- Checks in their order. The steps:
+-- 1. All checks hold exactly if there is no first fault (`all_hold`, `none_faulty`).
+-- 2. The first fault is that of the first check which does not hold (`first_is`), also where two tables are joined (`first_front`,
+--    `first_whole`).
+-- 3. What is true of the faults of all checks is true of one that fails (`first_among`, `fails_among`). If all hold, none fails
+--    (`none_fails`).
+-- 4. A verdict is the first fault, or else a value (`verdict_ok`, `verdict_err`, `verdict_none`).
 use Rattle.std.proofs.Common.{◌≡◌, List, [], ◌∷◌, ◌++◌, refl, ap, subst, sym, Bool, true, false}
-use Rattle.std.specs.Prelude.{◌&&◌, Option, None, Some, Result, Ok, Err, IfErr, if◌then◌else◌}
+use Rattle.std.specs.Prelude.{◌&&◌, Option, None, Some, Ok, Err, if◌then◌else◌}
 use Rattle.std.specs.List.{AllByRecursion}
 use Rattle.fv_base.specs.Checks.{Check, AllHold, FailsAfter, IsFirstFault, GuardsHold, Which, First, Any, Fails}
 use Rattle.fv_base.specs.inner.Verdicts.{first_fault, verdict_by}
@@ -105,9 +111,3 @@ verdict_err (Some g) a f e = cc
 pub verdict_none : {A F : Type 0} → (o : Option F) (a : A) → o ≡ None → verdict_by o a ≡ Ok a
 verdict_none None a e = refl
 verdict_none (Some f) a e = cc
-
--- ---- a refusal, whatever it is
-
-pub whatever : {A F : Type 0} → (r : Result A F) (want : F) (P : Type 0) → P → IfErr r (λ f. f ≡ want → P)
-whatever (Ok a) want P p = tt
-whatever (Err f) want P p = λ e. p

@@ -1,4 +1,6 @@
--- Bytes that are all one byte.
+-- Bytes that are all one byte. The steps:
+-- 1. They may be joined and cut (`all_append`, `all_front`, `all_behind`), and looked at one by one (`one_more`, `one_less`, `looked_at`).
+-- 2. A test says whether they are (`all_are-true`, `all-all_are`, `same_test`), also piece by piece (`all_pieces`, `piece_differs`).
 use Rattle.std.proofs.lemmas.Grind.{common_steps}
 use Rattle.std.proofs.Common.{◌≡◌, ℕ, zero, suc, ◌+◌, ◌%◌, ◌<◌, List, [], ◌∷◌, ◌++◌, length, take, drop, get_or, bit_or, refl, sym, ap, ◌∙◌}
 use Rattle.std.proofs.Common.{subst, arith}

@@ -1,4 +1,7 @@
--- Fields of bytes, and the numbers that they spell.
+-- Fields of bytes, and the numbers that they spell. The steps:
+-- 1. What is cut from bytes, or joined of them, is bytes (`bytes_take`, `bytes_drop`, `bytes_append`).
+-- 2. Bytes and the number that they spell give one another back (`le_bytes-le`, `field_is`, `le-le_bytes`).
+-- 3. A field of a part is a field of the whole (`field-take`, `field-append_front`, `drop-append_behind`).
 use Rattle.std.proofs.lemmas.Grind.{common_steps}
 use Rattle.std.proofs.Common.{◌≡◌, ◌≤◌, ◌<◌, ◌+◌, ◌-◌, ◌*◌, ◌/◌, ◌%◌, ◌^◌, ℕ, zero, suc, List, [], ◌∷◌, ◌++◌, length, take, drop, refl, sym}
 use Rattle.std.proofs.Common.{ap, ◌∙◌, subst, arith, length-drop}

@@ -10,7 +10,8 @@ pub use Rattle.fv_base.proofs.NumberLaws.{le_below, field_below, bytes_front, by
 -- true of all faults of checks is true of one that fails; where all hold, none fails
 pub use Rattle.fv_base.proofs.CheckLemmas.{and_split, and_join, all_hold, none_faulty, first_is, first_front}
 pub use Rattle.fv_base.proofs.CheckLemmas.{first_whole, first_among, not_first, fails_among, none_fails, verdict_ok, verdict_err, verdict_none}
-pub use Rattle.fv_base.proofs.CheckLemmas.{whatever}
+-- a result that passes a fault on is that fault; of one of two, the second gives another, or there is only the first
+pub use Rattle.fv_base.proofs.FaultLemmas.{err_is, or_more, first_only}
 -- tests of numbers and of single bits that hold or do not; a flag is not both up and down
 pub use Rattle.fv_base.proofs.TestLemmas.{if_true, if_false, not_less, not_at_most, not_equal, one_bit, or_parts, or_both, up_is_not_down}
 -- bytes that are all one byte: joined, cut, counted, and the test of it

@@ -1,5 +1,6 @@
 pub mod CheckLemmas
 pub mod ErasedLemmas
+pub mod FaultLemmas
 pub mod FieldLemmas
 pub mod GuidLemmas
 pub mod Laws

@@ -14,7 +14,7 @@ pub run_joined : {S : Type 0} {takes : S → List ℕ → S → Type 0} (laws : 
     → takes s (replicate m byte) t → takes t (replicate n byte) u → m + n ≡ k → takes s (replicate k byte) u
 run_joined {S} {takes} laws s t u byte m n k p q e =
     subst (λ xs. takes s xs u) (replicate-append-replicate m n byte ∙ ap (λ i. replicate i byte) e)
-    (laws.joined s t u (replicate m byte) (replicate n byte) p q)
+    (laws.joined p q)
 
 -- the first m bytes were written, and then the next n
 pub more_written : (a b c : Option (List ℕ)) (m n : ℕ) (bytes : List ℕ) → Appends a b (take m bytes) → Appends b c (take n (drop m bytes))

@@ -10,7 +10,7 @@ use Rattle.fv_base.specs.declared.sink.WriteSink.{WriteSink}
 -- `takes s bytes t`: a sink in the state s is in the state t after it took the bytes
 pub record WalkLaws {S : Type 0} (takes : S → List ℕ → S → Type 0) : Type 0 where
   pub none : (s : S) → takes s [] s
-  pub joined : (s t u : S) (a b : List ℕ) → takes s a t → takes t b u → takes s (a ++ b) u
+  pub joined : {s t u : S} {a b : List ℕ} → takes s a t → takes t b u → takes s (a ++ b) u
 
 -- the bytes kept, and (`is_on`) whether no allocation has failed
 abbrev pub kept_in : ListSink → List ℕ

@@ -1,10 +1,11 @@
 -- The files of a volume, row by row.
 use Rattle.std.proofs.lemmas.Grind.{common_steps}
-use Rattle.std.proofs.Common.{◌≡◌, ◌∙◌, ◌⊎◌, ℕ, ◌≤◌, List, [], ◌∷◌, ◌++◌, length, drop, map, refl, sym, ap, subst, suc, arith}
-use Rattle.std.proofs.Common.{append-nil, inl, inr}
+use Rattle.std.proofs.Common.{◌≡◌, ◌∙◌, ℕ, ◌≤◌, List, [], ◌∷◌, ◌++◌, length, drop, map, refl, sym, ap, subst, suc, arith}
+use Rattle.std.proofs.Common.{append-nil}
 use Rattle.std.specs.List.{AllByRecursion}
 use Rattle.std.specs.Prelude.{◌≢◌}
 use Rattle.std.proofs.lemmas.List.{drop_all}
+use Rattle.fv_base.proofs.Laws.{first_only}
 use Rattle.fv_base.specs.Faults.{out_of_memory}
 use Rattle.fv_base.specs.declared.fault.Fault.{Fault}
 use Rattle.fv_tree.specs.Denotes.{Accepted, Pairwise, MeansFile, Stream}
@@ -66,7 +67,5 @@ have_rows input m fs ms rows accepted only lie are is =
 -- only memory can run out
 pub only_memory : (input : List ℕ) (m : Meaning) (f : Fault) → Accepted input m
     → (f ≢ out_of_memory → (gs : List FileForm) → BeginWithFiles input gs → ⊥) → f ≡ out_of_memory
-only_memory input m f accepted none = go (want_known f) where
-  go : (f ≡ out_of_memory) ⊎ (f ≢ out_of_memory) → f ≡ out_of_memory
-  go (inl is) = is
-  go (inr ne) = absurd (none ne accepted.1.files (volume_files depth_limit input m accepted.1))
+only_memory input m f accepted none =
+    first_only (want_known f) (λ ne. none ne accepted.1.files (volume_files depth_limit input m accepted.1))

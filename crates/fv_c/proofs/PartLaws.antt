@@ -5,10 +5,11 @@ use Rattle.std.specs.Option.{option_and_then}
 use Rattle.std.specs.Prelude.{◌==◌, ◌≢◌, Bool, cond, Option, option_map, slice_get, IfSome, IfNone}
 use Rattle.std.proofs.lemmas.Bool.Decides.{Decides-eqb}
 use Rattle.std.proofs.lemmas.Option.{slice_get-map}
+use Rattle.fv_base.proofs.Laws.{or_more}
 use Rattle.fv_base.specs.Faults.{out_of_memory}
 use Rattle.fv_base.specs.declared.fault.Fault.{Fault}
 use Rattle.fv_canon.specs.LayoutFaults.{FirstUnfit}
-use Rattle.fv_canon.specs.Refusals.{NotRead}
+use Rattle.fv_tree.specs.Inputs.{NotRead}
 use Rattle.fv_tree.specs.Denotes.{Accepted}
 use Rattle.fv_head.specs.Head.{HeadFields}
 use Rattle.fv_tree.specs.Meaning.{Meaning, Volume, FileMeaning, files_of, content_of}
@@ -86,11 +87,8 @@ stopped_part (Some q) f (inr unfit) = inr (q, refl, unfit)
 -- an error of a part, by the volume that the input is
 pub extract_stops : (file section : ℕ) (input : List ℕ) (m : Meaning) (f : Fault) → Accepted input m → StopsPart (part_in file section m) f
     → (f ≡ out_of_memory) ⊎ (NotRead input f ⊎ HasUnfitPart file section input f)
-extract_stops file section input m f accepted stops = go (stopped_part (part_in file section m) f stops) where
-  go : (f ≡ out_of_memory) ⊎ ((q : PartMeaning) × (part_in file section m ≡ Some q) × FirstUnfit (volumes_in_part q) 0 f)
-      → (f ≡ out_of_memory) ⊎ (NotRead input f ⊎ HasUnfitPart file section input f)
-  go (inl memory) = inl memory
-  go (inr (q, is, unfit)) = inr (inr (m, q, accepted, is, unfit))
+extract_stops file section input m f accepted stops =
+    or_more (stopped_part (part_in file section m) f stops) (λ p. inr (m, p.0, accepted, p.1, p.2))
 
 -- the bytes of a part, by the volume that the input is
 pub extracts_to : (file section : ℕ) (input : List ℕ) (m : Meaning) (found : Option (List ℕ)) (bytes : List ℕ) → Accepted input m

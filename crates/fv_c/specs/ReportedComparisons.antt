@@ -1,8 +1,8 @@
 -- A comparison of two volumes, as it is reported to C.
 use Rattle.std.specs.Prelude.{◌≡◌, ◌↔◌, ◌≤◌, ℕ, length}
 use Rattle.fv_base.specs.declared.fault.Fault.{Fault}
-use Rattle.fv_canon.specs.ComparisonLines.{compare_line}
-use Rattle.fv_tree.specs.Difference.{difference}
+use Rattle.fv_compare.specs.ComparisonLines.{compare_line}
+use Rattle.fv_compare.specs.Difference.{difference}
 use Rattle.fv_tree.specs.Meaning.{Meaning}
 use Rattle.fv_c.specs.Reports.{no_fault, reported_fault}
 use Rattle.fv_c.specs.declared.compare.FvComparison.{FvComparison}

@@ -14,7 +14,7 @@ pub(crate) fn put_first<T: Copy>(rows: &[T], buffer: &mut [T])
     front.copy_from_slice(rows);
 }
 
-// Writes the elements at the start of the buffer and returns 0, or keeps the buffer and returns 27
+// Writes the elements at the start of the buffer and returns 0, or keeps the buffer and returns 256
 // if it has fewer elements.
 pub(crate) fn put_all<T: Copy>(rows: &[T], buffer: &mut [T]) -> u32
     ensures { IsWritten rows.now buffer.old buffer.new result }

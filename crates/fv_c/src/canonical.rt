@@ -9,7 +9,8 @@ ghost use Rattle.fv_base.specs.declared.fault.Fault.{Fault};
 ghost use Rattle.fv_canon.specs.FlashImages.{NormalisesAll, RefusesAll};
 ghost use Rattle.fv_canon.specs.Headline.{NormalisesTo};
 ghost use Rattle.fv_canon.specs.Image.{IsImage};
-ghost use Rattle.fv_canon.specs.Refusals.{NotRead, Refuses};
+ghost use Rattle.fv_tree.specs.Inputs.{NotRead};
+ghost use Rattle.fv_canon.specs.Refusals.{Refuses};
 ghost use Rattle.fv_tree.specs.Denotes.{Accepted};
 ghost use Rattle.fv_tree.specs.Meaning.{Meaning};
 ghost use Rattle.fv_c.specs.Reports.{BeginsWithHeader, reported_fault, no_fault};
@@ -122,7 +123,7 @@ pub extern "C" fn fv_digest(
 /// # Errors
 ///
 /// The number of the first fault, which is in `fault`: those of `normalise`; 24 if memory runs out.
-/// If there is none, 27 if the buffer is shorter than the input. The buffer is unchanged in all
+/// If there is none, 256 if the buffer is shorter than the input. The buffer is unchanged in all
 /// cases.
 #[unsafe(no_mangle)]
 pub extern "C" fn fv_normalise(
@@ -137,18 +138,18 @@ pub extern "C" fn fv_normalise(
     ensures kept { result ≢ 0 → buffer.new ≡ buffer.old }
 
     // Only for an input that has an image can the buffer be too small: if it is shorter.
-    ensures small { result ≡ 27 → (image : List ℕ) × NormalisesTo input.now image × (length image ≡ length input.now)
+    ensures small { result ≡ 256 → (image : List ℕ) × NormalisesTo input.now image × (length image ≡ length input.now)
         × (length buffer.old < length image) × (fault.new ≡ no_fault) }
     ensures room { length buffer.old < length input.now → result ≢ 0 }
 
     // Any other fault is out of memory, only if the input begins with the header of a volume, or
     // the first of the input.
-    ensures err { result ≢ 0 → result ≢ 27 → (f : Fault) × ((f ≡ out_of_memory) ⊎ Refuses input.now f)
+    ensures err { result ≢ 0 → result ≢ 256 → (f : Fault) × ((f ≡ out_of_memory) ⊎ Refuses input.now f)
         × (f ≡ out_of_memory → BeginsWithHeader input.now)
         × (result ≡ fault_number f.kind) × (fault.new ≡ reported_fault f) }
 
     // If the input has an image, only memory or the buffer can be too small.
-    ensures fits { (image : List ℕ) → NormalisesTo input.now image → result ≢ 0 → result ≢ 27 → result ≡ 24 }
+    ensures fits { (image : List ℕ) → NormalisesTo input.now image → result ≢ 0 → result ≢ 256 → result ≡ 24 }
 {
     let image = match normalise(alloc, input) {
         Ok(image) => image,
@@ -165,8 +166,8 @@ pub extern "C" fn fv_normalise(
 /// # Errors
 ///
 /// The number of the first fault, which is in `fault`, at its offset in the image: those of
-/// `normalise_image`; 24 if memory runs out. If there is none, 27 if the buffer is shorter than the
-/// image. The buffer is unchanged in all cases.
+/// `normalise_image`; 24 if memory runs out. If there is none, 256 if the buffer is shorter than
+/// the image. The buffer is unchanged in all cases.
 #[unsafe(no_mangle)]
 pub extern "C" fn fv_normalise_image(
     alloc: Global,
@@ -180,18 +181,18 @@ pub extern "C" fn fv_normalise_image(
     ensures kept { result ≢ 0 → buffer.new ≡ buffer.old }
 
     // Only if each volume has an image can the buffer be too small: if it is shorter.
-    ensures small { result ≡ 27 → (bytes : List ℕ) × NormalisesAll image.now bytes × (length bytes ≡ length image.now)
+    ensures small { result ≡ 256 → (bytes : List ℕ) × NormalisesAll image.now bytes × (length bytes ≡ length image.now)
         × (length buffer.old < length bytes) × (fault.new ≡ no_fault) }
     ensures room { length buffer.old < length image.now → result ≢ 0 }
 
     // Any other fault is out of memory, only if the image is within the limit, or that of the first
     // volume that has no image.
-    ensures err { result ≢ 0 → result ≢ 27 → (f : Fault) × ((f ≡ out_of_memory) ⊎ RefusesAll image.now f)
+    ensures err { result ≢ 0 → result ≢ 256 → (f : Fault) × ((f ≡ out_of_memory) ⊎ RefusesAll image.now f)
         × (f ≡ out_of_memory → length image.now ≤ volume_limit)
         × (result ≡ fault_number f.kind) × (fault.new ≡ reported_fault f) }
 
     // If each volume has an image, only memory or the buffer can be too small.
-    ensures fits { (bytes : List ℕ) → NormalisesAll image.now bytes → result ≢ 0 → result ≢ 27 → result ≡ 24 }
+    ensures fits { (bytes : List ℕ) → NormalisesAll image.now bytes → result ≢ 0 → result ≢ 256 → result ≡ 24 }
 {
     let bytes = match normalise_image(alloc, image) {
         Ok(bytes) => bytes,

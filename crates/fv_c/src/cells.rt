@@ -124,7 +124,7 @@ fn cell_rows(alloc: Global, bytes: &[u8]) -> Result<Vec<FvCell>, Fault>
 ///
 /// # Errors
 ///
-/// 27 if the buffer has fewer elements than `count`. The number of the first fault, which is in
+/// 256 if the buffer has fewer elements than `count`. The number of the first fault, which is in
 /// `fault`: those of `verify_fv`, then those of `cells`; 24 if memory runs out. `count` is
 /// unchanged then. The buffer is unchanged in both cases.
 #[unsafe(no_mangle)]
@@ -140,12 +140,12 @@ pub extern "C" fn fv_cells(
         × (count.new ≡ length cs) × (buffer.new ≡ map reported_cell cs ++ drop (length cs) buffer.old)
         × (fault.new ≡ no_fault) }
     ensures kept { result ≢ 0 → buffer.new ≡ buffer.old }
-    ensures small { result ≡ 27 → (e : Extent) × (cs : List CellForm) × BeginsTiled e cs bytes.now
+    ensures small { result ≡ 256 → (e : Extent) × (cs : List CellForm) × BeginsTiled e cs bytes.now
         × (count.new ≡ length cs) × (length buffer.old < length cs) × (fault.new ≡ no_fault) }
 
     // Any other fault is out of memory, only if the bytes begin with the header of a volume, or the
     // first of the header or of the cells.
-    ensures err { result ≢ 0 → result ≢ 27 → (f : Fault) × (f ≢ out_of_memory → NotTiled bytes.now f)
+    ensures err { result ≢ 0 → result ≢ 256 → (f : Fault) × (f ≢ out_of_memory → NotTiled bytes.now f)
         × (f ≡ out_of_memory → BeginsWithHeader bytes.now)
         × (result ≡ fault_number f.kind) × (fault.new ≡ reported_fault f) × (count.new ≡ count.old) }
 {

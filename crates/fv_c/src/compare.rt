@@ -3,10 +3,10 @@
 ghost use Rattle.std.specs.Prelude.{◌≡◌, ◌≢◌, ◌⊎◌, ◌↔◌, ◌<◌, ◌++◌, length, drop, true, IfOk, IfErr};
 ghost use Rattle.fv_base.specs.Faults.{fault_number, out_of_memory};
 ghost use Rattle.fv_base.specs.declared.fault.Fault.{Fault};
-ghost use Rattle.fv_canon.specs.ComparisonLines.{compare_line};
-ghost use Rattle.fv_canon.specs.Refusals.{NotRead};
+ghost use Rattle.fv_compare.specs.ComparisonLines.{compare_line};
+ghost use Rattle.fv_tree.specs.Inputs.{NotRead};
 ghost use Rattle.fv_tree.specs.Denotes.{Accepted};
-ghost use Rattle.fv_tree.specs.Difference.{difference};
+ghost use Rattle.fv_compare.specs.Difference.{difference};
 ghost use Rattle.fv_tree.specs.Meaning.{Meaning};
 ghost use Rattle.fv_c.specs.ReportedComparisons.{IsReported, reported_stop};
 ghost use Rattle.fv_c.specs.Reports.{BeginsWithHeader};
@@ -70,10 +70,10 @@ fn report(
     ensures ok { result ≡ 0 → IsReported a.now b.now found.new
         × (buffer.new ≡ compare_line (difference a.now b.now) ++ drop found.new.line_len buffer.old) }
     ensures kept { result ≢ 0 → buffer.new ≡ buffer.old }
-    ensures small { result ≡ 27 → IsReported a.now b.now found.new × (length buffer.old < found.new.line_len) }
+    ensures small { result ≡ 256 → IsReported a.now b.now found.new × (length buffer.old < found.new.line_len) }
     ensures first { found.new.side ≡ 1 → (result ≡ 24) × (found.new ≡ reported_stop 1 out_of_memory) }
     ensures second { found.new.side ≢ 2 }
-    ensures side { result ≢ 0 → result ≢ 27 → found.new.side ≡ 1 }
+    ensures side { result ≢ 0 → result ≢ 256 → found.new.side ≡ 1 }
 {
     let (same, line) = match line_of(alloc, a, b) {
         Ok(pair) => pair,
@@ -96,7 +96,7 @@ fn report(
 ///
 /// The number of the first fault of the input `found.side`, which is in `found.fault`: those of
 /// `whole_volume`; 24 if memory runs out, with the first side if the two are being compared. The
-/// second input is read only if the first is a volume. If there is no fault, 27 if the buffer is
+/// second input is read only if the first is a volume. If there is no fault, 256 if the buffer is
 /// shorter than the line; `found` has its length then. The buffer is unchanged in all cases.
 #[unsafe(no_mangle)]
 pub extern "C" fn fv_compare(
@@ -111,7 +111,7 @@ pub extern "C" fn fv_compare(
         × IsReported m k found.new
         × (buffer.new ≡ compare_line (difference m k) ++ drop found.new.line_len buffer.old) }
     ensures kept { result ≢ 0 → buffer.new ≡ buffer.old }
-    ensures small { result ≡ 27 → (m : Meaning) × (k : Meaning) × Accepted first.now m × Accepted second.now k
+    ensures small { result ≡ 256 → (m : Meaning) × (k : Meaning) × Accepted first.now m × Accepted second.now k
         × IsReported m k found.new × (length buffer.old < found.new.line_len) }
 
     // A fault is out of memory, only if the input of its side begins with the header of a volume, or
@@ -125,7 +125,7 @@ pub extern "C" fn fv_compare(
         × (result ≡ fault_number f.kind) × (found.new ≡ reported_stop 2 f) }
 
     // Any other result is that of one of the two inputs.
-    ensures side { result ≢ 0 → result ≢ 27 → (found.new.side ≡ 1) ⊎ (found.new.side ≡ 2) }
+    ensures side { result ≢ 0 → result ≢ 256 → (found.new.side ≡ 1) ⊎ (found.new.side ≡ 2) }
 {
     let a = match whole_volume(alloc, first) {
         Ok(view) => view,

@@ -4,7 +4,7 @@ ghost use Rattle.std.specs.Prelude.{◌≡◌, ◌≢◌, ◌⊎◌, ◌<◌, �
 ghost use Rattle.std.specs.Prelude.{IfOk, IfErr, IfSome, IfNone};
 ghost use Rattle.fv_base.specs.Faults.{fault_number, out_of_memory};
 ghost use Rattle.fv_base.specs.declared.fault.Fault.{Fault};
-ghost use Rattle.fv_canon.specs.Refusals.{NotRead};
+ghost use Rattle.fv_tree.specs.Inputs.{NotRead};
 ghost use Rattle.fv_c.specs.ExtractedParts.{ExtractsTo, HasNoPart, HasUnfitPart};
 ghost use Rattle.fv_c.specs.Reports.{BeginsWithHeader, reported_fault, no_fault};
 
@@ -40,10 +40,10 @@ fn extracted(
 ///
 /// # Errors
 ///
-/// 27 if the buffer is shorter than `len`. 28 if the volume has no file of this number, or the file
-/// no section of this number. The number of the first fault, which is in `fault`: those of
+/// 256 if the buffer is shorter than `len`. 257 if the volume has no file of this number, or the
+/// file no section of this number. The number of the first fault, which is in `fault`: those of
 /// `whole_volume`; then that of the first volume in the part that does not fit; 24 if memory runs
-/// out. `len` is unchanged then, and if it returns 28. The buffer is unchanged in all cases.
+/// out. `len` is unchanged then, and if it returns 257. The buffer is unchanged in all cases.
 #[unsafe(no_mangle)]
 pub extern "C" fn fv_extract(
     alloc: Global,
@@ -58,15 +58,15 @@ pub extern "C" fn fv_extract(
     ensures ok { result ≡ 0 → (bytes : List ℕ) × ExtractsTo file section input.now bytes × (len.new ≡ length bytes)
         × (buffer.new ≡ bytes ++ drop (length bytes) buffer.old) × (fault.new ≡ no_fault) }
     ensures kept { result ≢ 0 → buffer.new ≡ buffer.old }
-    ensures small { result ≡ 27 → (bytes : List ℕ) × ExtractsTo file section input.now bytes
+    ensures small { result ≡ 256 → (bytes : List ℕ) × ExtractsTo file section input.now bytes
         × (len.new ≡ length bytes) × (length buffer.old < length bytes) × (fault.new ≡ no_fault) }
 
     // There is no such part.
-    ensures absent { result ≡ 28 → HasNoPart file section input.now × (len.new ≡ len.old) × (fault.new ≡ no_fault) }
+    ensures absent { result ≡ 257 → HasNoPart file section input.now × (len.new ≡ len.old) × (fault.new ≡ no_fault) }
 
     // Any other fault is out of memory, only if the input begins with the header of a volume, the
     // first of the input, or that of a volume in the part.
-    ensures err { result ≢ 0 → result ≢ 27 → result ≢ 28 → (f : Fault)
+    ensures err { result ≢ 0 → result ≢ 256 → result ≢ 257 → (f : Fault)
         × ((f ≡ out_of_memory) ⊎ (NotRead input.now f ⊎ HasUnfitPart file section input.now f))
         × (f ≡ out_of_memory → BeginsWithHeader input.now)
         × (result ≡ fault_number f.kind) × (fault.new ≡ reported_fault f) × (len.new ≡ len.old) }

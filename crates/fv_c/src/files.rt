@@ -3,7 +3,7 @@
 ghost use Rattle.std.specs.Prelude.{◌≡◌, ◌≢◌, ◌⊎◌, ◌<◌, ◌++◌, List, length, drop, map, IfOk, IfErr};
 ghost use Rattle.fv_base.specs.Faults.{fault_number, out_of_memory};
 ghost use Rattle.fv_base.specs.declared.fault.Fault.{Fault};
-ghost use Rattle.fv_canon.specs.Refusals.{NotRead};
+ghost use Rattle.fv_tree.specs.Inputs.{NotRead};
 ghost use Rattle.fv_tree.specs.Denotes.{Accepted};
 ghost use Rattle.fv_tree.specs.LocatedFiles.{file_form};
 ghost use Rattle.fv_c.specs.ReportedFiles.{HasFileRows, reported_file, reported_files};
@@ -99,7 +99,7 @@ fn rows_in(alloc: Global, input: &[u8]) -> Result<Vec<FvFile>, Fault>
 ///
 /// # Errors
 ///
-/// 27 if the buffer has fewer elements than `count`. The number of the first fault, which is in
+/// 256 if the buffer has fewer elements than `count`. The number of the first fault, which is in
 /// `fault`: those of `whole_volume`; 24 if memory runs out. `count` is unchanged then. The buffer
 /// is unchanged in both cases.
 #[unsafe(no_mangle)]
@@ -114,12 +114,12 @@ pub extern "C" fn fv_files(
     ensures ok { result ≡ 0 → (rows : List FvFile) × HasFileRows input.now rows × (count.new ≡ length rows)
         × (buffer.new ≡ rows ++ drop (length rows) buffer.old) × (fault.new ≡ no_fault) }
     ensures kept { result ≢ 0 → buffer.new ≡ buffer.old }
-    ensures small { result ≡ 27 → (rows : List FvFile) × HasFileRows input.now rows × (count.new ≡ length rows)
+    ensures small { result ≡ 256 → (rows : List FvFile) × HasFileRows input.now rows × (count.new ≡ length rows)
         × (length buffer.old < length rows) × (fault.new ≡ no_fault) }
 
     // Any other fault is out of memory, only if the input begins with the header of a volume, or
     // the first of the input.
-    ensures err { result ≢ 0 → result ≢ 27 → (f : Fault) × ((f ≡ out_of_memory) ⊎ NotRead input.now f)
+    ensures err { result ≢ 0 → result ≢ 256 → (f : Fault) × ((f ≡ out_of_memory) ⊎ NotRead input.now f)
         × (f ≡ out_of_memory → BeginsWithHeader input.now)
         × (result ≡ fault_number f.kind) × (fault.new ≡ reported_fault f) × (count.new ≡ count.old) }
 {

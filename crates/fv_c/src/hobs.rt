@@ -65,7 +65,7 @@ fn hob_rows(alloc: Global, bytes: &[u8]) -> Result<(Vec<FvHob>, u64), HobFault>
 ///
 /// # Errors
 ///
-/// 27 if the buffer has fewer elements than `count`. The number of the first fault, which is in
+/// 256 if the buffer has fewer elements than `count`. The number of the first fault, which is in
 /// `fault`, by the numbers of `HobFaultKind`: those of `read_hobs`; 6 if memory runs out. `count`
 /// and `consumed` are unchanged then. The buffer is unchanged in both cases.
 #[unsafe(no_mangle)]
@@ -82,13 +82,13 @@ pub extern "C" fn fv_hobs(
         × IsHobList all (take consumed.new bytes.now) × (count.new ≡ length all)
         × (buffer.new ≡ map reported_hob all ++ drop (length all) buffer.old) × (fault.new ≡ no_fault) }
     ensures kept { result ≢ 0 → buffer.new ≡ buffer.old }
-    ensures small { result ≡ 27 → (all : List HobForm) × (consumed.new ≤ length bytes.now)
+    ensures small { result ≡ 256 → (all : List HobForm) × (consumed.new ≤ length bytes.now)
         × IsHobList all (take consumed.new bytes.now) × (count.new ≡ length all)
         × (length buffer.old < length all) × (fault.new ≡ no_fault) }
 
     // Any other fault is out of memory, only if the bytes begin with a hand-off information table,
     // or the first of the list.
-    ensures err { result ≢ 0 → result ≢ 27 → (f : HobFault) × (f ≢ hob_out_of_memory → NoHobs bytes.now f)
+    ensures err { result ≢ 0 → result ≢ 256 → (f : HobFault) × (f ≢ hob_out_of_memory → NoHobs bytes.now f)
         × (f ≡ hob_out_of_memory → BeginsTable bytes.now)
         × (result ≡ hob_fault_number f.kind) × (fault.new ≡ reported_hob_fault f) × (count.new ≡ count.old)
         × (consumed.new ≡ consumed.old) }

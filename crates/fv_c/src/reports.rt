@@ -7,15 +7,16 @@ ghost use Rattle.fv_c.specs.Reports.{reported_extent, reported_fault};
 use fv_base::{Fault, FileSystem};
 use fv_head::Extent;
 
-/// What a call returns if the caller's buffer is too small. It is the number of no fault.
-pub const BUFFER_TOO_SMALL: u32 = 27;
+/// What a call returns if the caller's buffer is too small. The numbers from 256 on are results of
+/// this library itself: the number of a fault is a byte.
+pub const BUFFER_TOO_SMALL: u32 = 256;
 
 /// What a call returns if memory runs out: the number of that fault.
 pub const OUT_OF_MEMORY: u32 = 24;
 
 /// What a call returns if the volume has no file of the number that was passed, or the file no
-/// section of that number. It is the number of no fault.
-pub const NOT_FOUND: u32 = 28;
+/// section of that number.
+pub const NOT_FOUND: u32 = 257;
 
 /// A fault and its place. All fields are 0 if there is none.
 #[repr(C)]
@@ -93,7 +94,7 @@ pub(crate) fn refused(f: Fault, fault: &mut FvFault) -> u32
     ensures number { result ≡ fault_number f.kind }
     ensures fault { fault.new ≡ reported_fault f }
     ensures some { 0 < result }
-    ensures most { result < 27 }
+    ensures most { result < 256 }
 {
     *fault = reported_fault(f);
     u32::from(f.kind.number())

@@ -13,7 +13,7 @@ use std::alloc::Global;
 ///
 /// # Errors
 ///
-/// 27 if the buffer has fewer elements than `count`. 24 if memory runs out; `count` is unchanged
+/// 256 if the buffer has fewer elements than `count`. 24 if memory runs out; `count` is unchanged
 /// then. The buffer is unchanged in both cases.
 #[unsafe(no_mangle)]
 pub extern "C" fn fv_scan(alloc: Global, bytes: &[u8], buffer: &mut [u64], count: &mut u64) -> u32
@@ -21,11 +21,11 @@ pub extern "C" fn fv_scan(alloc: Global, bytes: &[u8], buffer: &mut [u64], count
     ensures ok { result ≡ 0 → (p : List ℕ) × Found bytes.now p × (count.new ≡ length p)
         × (buffer.new ≡ p ++ drop (length p) buffer.old) }
     ensures kept { result ≢ 0 → buffer.new ≡ buffer.old }
-    ensures small { result ≡ 27 → (p : List ℕ) × Found bytes.now p × (count.new ≡ length p)
+    ensures small { result ≡ 256 → (p : List ℕ) × Found bytes.now p × (count.new ≡ length p)
         × (length buffer.old < length p) }
 
     // Any other result is out of memory, only if a volume begins in the bytes.
-    ensures memory { result ≢ 0 → result ≢ 27 → (result ≡ 24) × (count.new ≡ count.old)
+    ensures memory { result ≢ 0 → result ≢ 256 → (result ≡ 24) × (count.new ≡ count.old)
         × ((place : ℕ) × IsPlace bytes.now place) }
 {
     let Ok(offsets) = scan(alloc, bytes) else {

@@ -4,7 +4,7 @@ ghost use Rattle.std.specs.Prelude.{◌≡◌, ◌≢◌, ◌⊎◌, ◌<◌, �
 ghost use Rattle.std.specs.Prelude.{IfOk, IfErr, IfSome, IfNone};
 ghost use Rattle.fv_base.specs.Faults.{fault_number, out_of_memory};
 ghost use Rattle.fv_base.specs.declared.fault.Fault.{Fault};
-ghost use Rattle.fv_canon.specs.Refusals.{NotRead};
+ghost use Rattle.fv_tree.specs.Inputs.{NotRead};
 ghost use Rattle.fv_tree.specs.Denotes.{Accepted};
 ghost use Rattle.fv_tree.specs.Meaning.{Meaning, FileMeaning, content_of, files_of};
 ghost use Rattle.fv_c.specs.ReportedSections.{reported_section, section_rows};
@@ -94,9 +94,9 @@ fn section_rows(alloc: Global, input: &[u8], number: u64) -> Result<Option<Vec<F
 ///
 /// # Errors
 ///
-/// 27 if the buffer has fewer elements than `count`. 28 if the volume has no file of this number.
+/// 256 if the buffer has fewer elements than `count`. 257 if the volume has no file of this number.
 /// The number of the first fault, which is in `fault`: those of `whole_volume`; 24 if memory runs
-/// out. `count` is unchanged then, and if it returns 28. The buffer is unchanged in all cases.
+/// out. `count` is unchanged then, and if it returns 257. The buffer is unchanged in all cases.
 #[unsafe(no_mangle)]
 pub extern "C" fn fv_sections(
     alloc: Global,
@@ -112,17 +112,17 @@ pub extern "C" fn fv_sections(
         × (buffer.new ≡ map reported_section (section_rows (content_of f)) ++ drop count.new buffer.old)
         × (fault.new ≡ no_fault) }
     ensures kept { result ≢ 0 → buffer.new ≡ buffer.old }
-    ensures small { result ≡ 27 → (m : Meaning) × (f : FileMeaning) × Accepted input.now m
+    ensures small { result ≡ 256 → (m : Meaning) × (f : FileMeaning) × Accepted input.now m
         × (slice_get (files_of m) number ≡ Some f) × (count.new ≡ length (section_rows (content_of f)))
         × (length buffer.old < count.new) × (fault.new ≡ no_fault) }
 
     // The volume has no file of this number.
-    ensures absent { result ≡ 28 → (m : Meaning) × Accepted input.now m × (slice_get (files_of m) number ≡ None)
+    ensures absent { result ≡ 257 → (m : Meaning) × Accepted input.now m × (slice_get (files_of m) number ≡ None)
         × (count.new ≡ count.old) × (fault.new ≡ no_fault) }
 
     // Any other fault is out of memory, only if the input begins with the header of a volume, or
     // the first of the input.
-    ensures err { result ≢ 0 → result ≢ 27 → result ≢ 28 → (f : Fault)
+    ensures err { result ≢ 0 → result ≢ 256 → result ≢ 257 → (f : Fault)
         × ((f ≡ out_of_memory) ⊎ NotRead input.now f)
         × (f ≡ out_of_memory → BeginsWithHeader input.now)
         × (result ≡ fault_number f.kind) × (fault.new ≡ reported_fault f) × (count.new ≡ count.old) }

@@ -1,4 +1,7 @@
--- A file and a pad that are written as the canonical image has them are cells.
+-- A file and a pad that are written as the canonical image has them are cells. The steps:
+-- 1. A file that can be stored has a header that is read again, and a right file sum (`sum_is_right`). So with its filler it is a cell
+--    (`file_cell`), of a known length (`length-stored`).
+-- 2. So is a pad (`pad_cell`, `length-pad`).
 use Rattle.std.proofs.lemmas.Grind.{common_steps}
 use Rattle.std.proofs.Common.{◌≡◌, ◌≢◌, ◌≤◌, ◌<◌, ◌+◌, ◌-◌, ◌%◌, ℕ, Bool, true, false, List, [], ◌++◌, length}
 use Rattle.std.proofs.Common.{replicate, refl, sym, ap, ◌∙◌, subst, arith, length-append, append_assoc, append-nil}

@@ -9,7 +9,7 @@ use Rattle.std.specs.Str.{bytes_eq}
 use Rattle.fv_base.specs.Guids.{bytes_of}
 use Rattle.fv_base.specs.Value.{up_to_8}
 use Rattle.fv_base.specs.declared.flash.Polarity.{Polarity}
-use Rattle.fv_canon.specs.Starts.{StartsFollow}
+use Rattle.fv_placement.specs.Starts.{StartsFollow}
 use Rattle.fv_tree.specs.Files.{FileForm, is_marked, same_name, is_twin, NoTwins, replaced_by, current_in, top_name, TopAtEnd}
 use Rattle.fv_canon.specs.StoredFiles.{StoredFile, stored_len}
 use Rattle.fv_canon.specs.inner.ImageOf.{stored_item}

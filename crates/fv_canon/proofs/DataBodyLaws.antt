@@ -8,7 +8,7 @@ use Rattle.fv_tree.specs.inner.Sizes.{body_size, file_size, files_size}
 use Rattle.fv_tree.proofs.Laws.{file_falls}
 use Rattle.fv_tree.specs.Volumes.{volumes_in_body, volumes_in_content, volumes_in_file}
 use Rattle.fv_canon.specs.inner.ImageOf.{data_body, body_image, data_of}
-use Rattle.fv_canon.specs.inner.Depths.{NestsBody}
+use Rattle.fv_tree.specs.inner.Depths.{NestsBody}
 
 pub data_volumes : (m : FileMeaning) → volumes_in_body (data_body m) ≡ volumes_in_file m
 data_volumes (File name kind attributes (Plain b)) = refl

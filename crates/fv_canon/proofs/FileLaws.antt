@@ -1,4 +1,7 @@
--- What is known of a file that was read and laid out, and how the files of a volume go on.
+-- What is known of a file that was read and laid out, and how the files of a volume go on. The steps:
+-- 1. Its data are as long as the layout knows (`file_long`, `size_is`).
+-- 2. At its place it is known where it begins and ends (`here_is`, `at_file`).
+-- 3. A walk has left its gap, itself and its filler, and then the files after it (`walk_goes`), and at the end erased bytes (`files_end`).
 use Rattle.std.proofs.lemmas.Grind.{common_steps}
 use Rattle.std.proofs.Common.{◌≡◌, ◌≤◌, ◌<◌, ◌⊎◌, inl, inr, ◌+◌, ◌-◌, ◌%◌, ℕ, List, ◌∷◌, ◌++◌, length, drop, replicate}
 use Rattle.std.proofs.Common.{get_or, refl, ap, ◌∙◌, subst, arith, append_assoc, length-drop}
@@ -9,7 +12,7 @@ use Rattle.fv_base.specs.Value.{up_to_8}
 use Rattle.fv_base.specs.declared.flash.Polarity.{Polarity}
 use Rattle.fv_file.specs.NewHeaders.{file_sum_for, file_head_of, needs_large}
 use Rattle.fv_file.proofs.Laws.{cell_read, header_least}
-use Rattle.fv_canon.specs.Starts.{StandsInVolume}
+use Rattle.fv_placement.specs.Starts.{StandsInVolume}
 use Rattle.fv_tree.specs.Meaning.{FileMeaning, File, file_name_of, attributes_of, content_of, data_len_of}
 use Rattle.fv_tree.specs.MeaningParts.{files_from, file_kind_of}
 use Rattle.fv_tree.specs.ReadParts.{IsReadFile}
@@ -23,7 +26,7 @@ use Rattle.fv_canon.specs.StoredFiles.{stored_len, size_for, head_len_for, store
 use Rattle.fv_tree.proofs.Laws.{item_at}
 use Rattle.fv_canon.proofs.VolumeListLaws.{item_last, item_passed}
 use Rattle.fv_canon.proofs.WrittenImageLaws.{data_made, stream_made, sections_made}
-use Rattle.fv_canon.proofs.OneImageLaws.{follow_length}
+use Rattle.fv_placement.proofs.Laws.{follow_length}
 use Rattle.fv_canon.proofs.StreamLaws.{stream_again}
 use Rattle.fv_canon.proofs.VolumeLaws.{data_again, sections_again}
 use Rattle.fv_canon.specs.inner.Depths.{ArePlaced}

@@ -1,35 +1,20 @@
--- A volume fits exactly where its files, and those of each volume inside, are laid out; and one that is rejected does not fit.
-use Rattle.std.proofs.Common.{◌≡◌, inl, inr, ◌+◌, ◌-◌, ◌%◌, ℕ, List, [], ◌∷◌, sym, ap, ◌∙◌, arith}
-use Rattle.fv_base.specs.Value.{up_to_8}
+-- A volume fits exactly where its files, and those of each volume inside, are laid out. One that is rejected does not fit, and one
+-- that does not fit is rejected.
+use Rattle.std.proofs.Common.{◌≡◌, ◌⊎◌, inl, inr, ◌+◌, ℕ, List, [], ◌∷◌, refl, sym, ◌∙◌}
 use Rattle.fv_base.specs.declared.fault.Fault.{Fault}
-use Rattle.fv_tree.specs.Meaning.{Meaning}
-use Rattle.fv_canon.specs.Starts.{StartsFollow}
-use Rattle.fv_canon.specs.LayoutFaults.{TopOff, IsOff}
-use Rattle.fv_canon.specs.declared.first_placement.LayoutItem.{LayoutItem}
+use Rattle.fv_base.specs.declared.fault.FaultKind.TheVariants as kinds
+use Rattle.fv_head.specs.ExtImage.{first_edge}
+use Rattle.fv_placement.specs.NoPlacement.{HasNoRoom, TopOff}
+use Rattle.fv_placement.specs.Starts.{IsFirstPlacement}
+use Rattle.fv_placement.proofs.Laws.{agree, placed_or_not, top_none}
+use Rattle.fv_tree.specs.Meaning.{Meaning, head_of, length_of}
+use Rattle.fv_tree.specs.Volumes.{Inside, volumes_in}
 use Rattle.fv_canon.specs.Layouts.{layout_items, AreStarts, IsPlaced, Fits}
 use Rattle.fv_canon.specs.LayoutForms.{AreLeast, Laid, LaysVolume, LeastVolume}
-use Rattle.fv_canon.specs.LayoutFaults.{AllFit, UnfitHere, FirstUnfit, Unfit}
-use Rattle.fv_tree.specs.Volumes.{Inside, volumes_in}
-use Rattle.fv_canon.proofs.PlacementLaws.{agree}
+use Rattle.fv_canon.specs.LayoutFaults.{layout_fault, AllFit, UnfitHere, FirstUnfit, Unfit}
+use Rattle.fv_canon.specs.Refusals.{IsOfLayout, Refuses, WhatDoesNotFitIsRefused}
+use Rattle.fv_canon.proofs.UnfitKinds.{unfit_is}
 use Rattle.fv_canon.proofs.VolumeListLaws.{laid_fit, fit_laid}
-
--- a top file that is off cannot be placed
-off_none : (total e : ℕ) (f : LayoutItem) (s : ℕ) → s + f.size ≡ total → (s + f.header) % f.alignment ≡ 0 → s % 8 ≡ 0 → IsOff total f → ⊥
-off_none total e f s at aligned eighth (inl a) = a (ap (λ (n : ℕ). (n + f.header) % f.alignment) (start total f.size at) ∙ aligned)
-  where
-    start : (total n : ℕ) → s + n ≡ total → total - n ≡ s
-    start total n e = omega (arith, e)
-off_none total e f s at aligned eighth (inr b) = b (ap (λ (n : ℕ). n % 8) (start total f.size at) ∙ eighth)
-  where
-    start : (total n : ℕ) → s + n ≡ total → total - n ≡ s
-    start total n e = omega (arith, e)
-
-top_none : (total e : ℕ) (fs : List LayoutItem) (ss : List ℕ) → TopOff total fs → StartsFollow total e fs ss → ⊥
-top_none total e [] ss off follow = absurd off
-top_none total e (f ∷ fs) [] off follow = absurd follow
-top_none total e (f ∷ fs) (s ∷ ss) (inl (top, off)) follow =
-    off_none total e f s (follow.0.at_end top) follow.0.lawful.aligned follow.0.lawful.eighth off
-top_none total e (f ∷ fs) (s ∷ ss) (inr off) follow = top_none total (up_to_8 (s + f.size)) fs ss off follow.1
 
 -- what is laid out fits, and the other way round
 pub laid_fits : (m : Meaning) (starts : List ℕ) → LaysVolume m starts → Fits m
@@ -76,3 +61,37 @@ least_are (v ∷ vs) starts (own, inner, text, (least, placed), laid) =
 
 pub least_laid : (m : Meaning) (starts : List ℕ) → LeastVolume m starts → LaysVolume m starts
 least_laid m starts laid = least_are (volumes_in m) starts laid
+
+-- ---- a volume fits, or has a fault of the layout
+
+here_or : (m : Meaning) (depth : ℕ) → ((starts : List ℕ)
+    × IsFirstPlacement (length_of m) (first_edge (head_of m) (head_of m).ext) (layout_items m) starts) ⊎ ((f : Fault) × UnfitHere m depth f)
+here_or m depth = go (placed_or_not (length_of m) (first_edge (head_of m) (head_of m).ext) (layout_items m))
+  where
+    go : ((starts : List ℕ) × IsFirstPlacement (length_of m) (first_edge (head_of m) (head_of m).ext) (layout_items m) starts)
+        ⊎ (TopOff (length_of m) (layout_items m)
+        ⊎ HasNoRoom (length_of m) (first_edge (head_of m) (head_of m).ext) (layout_items m)) → ((starts : List ℕ)
+        × IsFirstPlacement (length_of m) (first_edge (head_of m) (head_of m).ext) (layout_items m) starts) ⊎ ((f : Fault) × UnfitHere m depth f)
+    go (inl placed) = inl placed
+    go (inr (inl off)) = inr (layout_fault kinds.TopAlignment depth, inl (off, refl))
+    go (inr (inr short)) = inr (layout_fault kinds.NoRoom depth, inr (short, refl))
+
+all_or : (vs : List Inside) (depth : ℕ) → AllFit vs ⊎ ((f : Fault) × FirstUnfit vs depth f)
+all_or [] depth = inl tt
+all_or (v ∷ vs) depth = go (here_or v.volume (depth + v.depth)) (all_or vs depth) where
+  go : IsPlaced v ⊎ ((f : Fault) × UnfitHere v.volume (depth + v.depth) f) → AllFit vs ⊎ ((f : Fault) × FirstUnfit vs depth f)
+      → AllFit (v ∷ vs) ⊎ ((f : Fault) × FirstUnfit (v ∷ vs) depth f)
+  go (inr (f, here)) h = inr (f, inl here)
+  go (inl placed) (inl all) = inl (placed, all)
+  go (inl placed) (inr (f, behind)) = inr (f, inr (placed, behind))
+
+-- a volume fits, or it has a fault of the layout
+pub fits_or : (m : Meaning) → Fits m ⊎ ((f : Fault) × Unfit m 0 f)
+fits_or m = all_or (volumes_in m) 0
+
+-- an input that does not fit is rejected, as NoRoom or TopAlignment
+pub unfit_is_refused : WhatDoesNotFitIsRefused
+unfit_is_refused input (m, d, unfit) = go (fits_or m) where
+  go : Fits m ⊎ ((f : Fault) × Unfit m 0 f) → (f : Fault) × Refuses input f × IsOfLayout f.kind
+  go (inl fits) = absurd (unfit fits)
+  go (inr (f, bad)) = (f, inr (m, d, bad), unfit_is m 0 f bad)

@@ -22,7 +22,7 @@ use Rattle.fv_tree.specs.FoundVolumes.{Found, IsCovered, VolumeAt}
 use Rattle.fv_tree.specs.inner.FoundWalks.{FoundFrom}
 use Rattle.fv_tree.specs.Meaning.{Meaning}
 use Rattle.fv_tree.proofs.Laws.{at_within, found_walk, one_found, one_length, one_meaning, one_of}
-use Rattle.fv_base.proofs.Laws.{first_or_behind, in_middle, one_behind}
+use Rattle.fv_base.proofs.Laws.{first_or_behind, in_middle, one_behind, first_only}
 use Rattle.fv_canon.specs.Image.{IsImage}
 use Rattle.fv_canon.specs.Headline.{NormalisesTo}
 use Rattle.fv_canon.specs.Refusals.{Refuses}
@@ -198,7 +198,7 @@ module _ {S : Type 0} (takes : S → List ℕ → S → Type 0) (laws : WalkLaws
       omega (arith, length-append (puts.bytes ++ x) image, front_long, image_long) in
       record {
         bytes = (puts.bytes ++ x) ++ image;
-        taken = laws.joined s u w (puts.bytes ++ x) image (laws.joined s t u puts.bytes x puts.taken gap) put;
+        taken = laws.joined (laws.joined puts.taken gap) put;
         long = all_long;
         inside = within;
         left = subst (λ (k : ℕ). FoundFrom (p + k) b ps) same next.1.2;
@@ -219,7 +219,7 @@ module _ {S : Type 0} (takes : S → List ℕ → S → Type 0) (laws : WalkLaws
       puts.whole (drop from b) (subst (λ (l : List ℕ). RenewsFrom from b l o) (sym none) ends) in
       let long : length o ≡ length b =
       omega (arith, length-append puts.bytes (drop from b), puts.long, length-drop from b, puts.inside) in
-      (o, renewed_is b places o walk long, laws.joined s t u puts.bytes (drop from b) puts.taken put)
+      (o, renewed_is b places o walk long, laws.joined puts.taken put)
 
 -- ---- 3. no other bytes
 
@@ -287,5 +287,4 @@ renewed_never b places other f found stops (short, places', found', s) =
 -- so where all volumes have images, the only error is out of memory
 pub only_want : (b places other : List ℕ) (f : Fault) → Found b places → (f ≡ out_of_memory) ⊎ FirstRefused b places f
     → NormalisesAll b other → f ≡ out_of_memory
-only_want b places other f found (inl want) to = want
-only_want b places other f found (inr stops) to = absurd (renewed_never b places other f found stops to)
+only_want b places other f found why to = first_only why (λ stops. renewed_never b places other f found stops to)

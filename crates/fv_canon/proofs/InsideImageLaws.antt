@@ -20,7 +20,7 @@ use Rattle.fv_canon.specs.Headline.{IsWithin, HasOwnImage, EachVolumeHasItsImage
 use Rattle.fv_canon.specs.Image.{IsImage, AreStored, IsStored, IsData, AreFrames, IsFrame, IsBodyImage}
 use Rattle.fv_canon.specs.Layouts.{layout_item}
 use Rattle.fv_canon.specs.PlacedBytes.{PlacedBytes, StandsIn}
-use Rattle.fv_canon.specs.Starts.{StartsFollow}
+use Rattle.fv_placement.specs.Starts.{StartsFollow}
 use Rattle.fv_canon.specs.StoredFiles.{StoredFile, stored_bytes, stored_len, placed_files}
 use Rattle.fv_tree.specs.Volumes.{Inside, volumes_in, volumes_in_files, volumes_in_file, volumes_in_content, volumes_in_sections}
 use Rattle.fv_tree.specs.Volumes.{volumes_in_section, volumes_in_body}

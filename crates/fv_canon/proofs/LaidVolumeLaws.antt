@@ -1,4 +1,7 @@
--- The volumes of a flash image that are laid out, and then put one after another.
+-- The volumes of a flash image that are laid out, and then put one after another. The steps:
+-- 1. The fault of a volume is at its place in the image (`told_at`). A volume that is laid out has an image (`has_image`).
+-- 2. The volumes at the first places are laid out: one more (`lays_more`), or one that is rejected (`lays_stop`), or all (`lays_all`).
+-- 3. They are put with the bytes between them: none, the next, and all (`laid_none`, `laid_next`, `laid_more`, `laid_all`).
 use Rattle.std.proofs.lemmas.Grind.{common_steps}
 use Rattle.std.proofs.Common.{◌≡◌, ◌≢◌, ◌⊎◌, ◌≤◌, ◌<◌, ◌+◌, ◌-◌, ℕ, List, [], ◌∷◌, ◌++◌, length, take, drop, get_or}
 use Rattle.std.proofs.Common.{sym, ap, ◌∙◌, subst, arith, inl, inr}
@@ -10,7 +13,7 @@ use Rattle.fv_base.specs.Limits.{depth_limit, volume_limit}
 use Rattle.fv_base.specs.Sinks.{WalkLaws}
 use Rattle.fv_base.specs.Value.{field}
 use Rattle.fv_base.specs.declared.fault.Fault.{Fault}
-use Rattle.fv_base.proofs.Laws.{at_index}
+use Rattle.fv_base.proofs.Laws.{at_index, or_more}
 use Rattle.fv_tree.specs.Denotes.{Accepted, IsMeaning}
 use Rattle.fv_tree.specs.FirstFault.{moved_fault}
 use Rattle.fv_tree.specs.FoundVolumes.{Found, VolumeAt}
@@ -32,12 +35,10 @@ pub told_at : (b x : List ℕ) (p : ℕ) (own f : Fault) → VolumeAt b p (lengt
     → (own ≡ out_of_memory) ⊎ Refuses x own
     → (f ≢ out_of_memory → (own ≢ out_of_memory) × (f ≡ moved_fault p own.place.depth own))
     → (f ≡ out_of_memory) ⊎ RefusedAt b p f
-told_at b x p own f v is why told = go (want_known f) why where
-  go : (f ≡ out_of_memory) ⊎ (f ≢ out_of_memory) → (own ≡ out_of_memory) ⊎ Refuses x own → (f ≡ out_of_memory) ⊎ RefusedAt b p f
-  go (inl want) why = inl want
-  go (inr other) (inl want) = absurd ((told other).0 want)
-  go (inr other) (inr refused) =
-      inr (length x, v, own, subst (λ (l : List ℕ). Refuses l own) is refused, (told other).1)
+told_at b x p own f v is why told = or_more (want_known f) (λ other. elim why [
+  | inl want ↦ absurd ((told other).0 want)
+  | inr refused ↦ (length x, v, own, subst (λ (l : List ℕ). Refuses l own) is refused, (told other).1)
+])
 
 -- one that is laid out has an image
 has_image : (b : List ℕ) (v : LaidVolume) → IsLaid b v → HasImageAt b v.start
@@ -80,8 +81,7 @@ laid_images b (v ∷ vs) (h, all) = (has_image b v h, laid_images b vs all)
 -- the next is rejected
 pub lays_stop : (b places : List ℕ) (i : ℕ) (volumes : List LaidVolume) (f : Fault) → LaysFirst b places i volumes → i < length places
     → (f ≡ out_of_memory) ⊎ RefusedAt b (get_or places i 0) f → (f ≡ out_of_memory) ⊎ FirstRefused b places f
-lays_stop b places i volumes f lays less (inl want) = inl want
-lays_stop b places i volumes f (same, all) less (inr refused) = inr (record {
+lays_stop b places i volumes f (same, all) less why = or_more why (λ refused. record {
   before = take i places;
   place = get_or places i 0;
   behind = drop (i + 1) places;

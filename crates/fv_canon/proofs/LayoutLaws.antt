@@ -8,7 +8,7 @@ use Rattle.fv_canon.specs.Layouts.{AreStarts, layout_items}
 use Rattle.fv_canon.specs.LayoutForms.{Laid, LaysVolume, Places, IsLayout}
 use Rattle.fv_canon.specs.inner.Depths.{Grew}
 use Rattle.fv_tree.specs.Volumes.{Inside, volumes_in}
-use Rattle.fv_canon.proofs.OneImageLaws.{starts_one}
+use Rattle.fv_placement.proofs.Laws.{starts_one}
 use Rattle.fv_canon.proofs.VolumeListLaws.{laid_count, own_count}
 
 starts_same : (vs : List Inside) (a b : List ℕ) → Laid AreStarts vs a → Laid AreStarts vs b → a ≡ b

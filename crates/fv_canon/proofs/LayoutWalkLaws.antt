@@ -1,7 +1,8 @@
 -- The walk over a volume that adds the starts of the files in it: what it added, how deep it goes, and the fault that it passes on.
 use Rattle.std.proofs.lemmas.Grind.{common_steps}
-use Rattle.std.proofs.Common.{◌≡◌, ◌≢◌, ◌≤◌, ap, ◌<◌, ◌⊎◌, inl, inr, ◌+◌, ℕ, suc, List, length, take, get_or, ◌++◌, append_assoc, refl, sym, ◌∙◌, subst, arith}
-use Rattle.std.proofs.Common.{Result, Ok, Err, IfErr, IsErrAnd, [], ◌∷◌, true, false, true≢false}
+use Rattle.std.proofs.Common.{◌≡◌, ◌≢◌, ◌≤◌, ap, ◌<◌, ◌⊎◌, inr, ◌+◌, ℕ, suc, List, length, take, get_or, ◌++◌, append_assoc, refl, sym, subst, arith}
+use Rattle.std.proofs.Common.{[], ◌∷◌, true, false, true≢false}
+use Rattle.fv_base.proofs.Laws.{or_more}
 use Rattle.fv_base.specs.Faults.{out_of_memory}
 use Rattle.fv_base.specs.declared.fault.Fault.{Fault}
 use Rattle.fv_head.specs.Head.{HeadFields}
@@ -13,14 +14,15 @@ use Rattle.fv_tree.specs.Meaning.{Meaning, Volume, head_of, FileMeanings, NoFile
 use Rattle.fv_tree.specs.MeaningParts.{files_from, sections_from, body_of}
 use Rattle.fv_tree.specs.Meaning.{SectionMeanings, SectionMeaning, Group, Nested}
 use Rattle.fv_canon.specs.inner.ImageOf.{data_body, starts_in}
-use Rattle.fv_canon.specs.inner.Depths.{NestsVolume, NestsFiles, NestsSections, NestsBody, Grew, Shallow}
+use Rattle.fv_tree.specs.inner.Depths.{NestsVolume, NestsFiles, NestsSections, NestsBody}
+use Rattle.fv_canon.specs.inner.Depths.{Grew, Shallow}
 use Rattle.fv_canon.specs.Layouts.{AreStarts}
 use Rattle.fv_canon.specs.LayoutForms.{Laid}
 use Rattle.fv_canon.specs.LayoutFaults.{FirstUnfit, Unfit}
 use Rattle.fv_tree.specs.Volumes.{volumes_in, volumes_in_files, volumes_in_file, volumes_in_sections, volumes_in_section}
 use Rattle.fv_tree.specs.Volumes.{volumes_in_body}
 use Rattle.fv_canon.proofs.DataBodyLaws.{data_nests, data_volumes}
-use Rattle.fv_canon.proofs.DepthLaws.{nests_files, nests_body, nests_group, nests_nested}
+use Rattle.fv_tree.proofs.Laws.{nests_files, nests_body, nests_group, nests_nested}
 use Rattle.fv_canon.proofs.ItemLaws.{item_has}
 use Rattle.fv_tree.proofs.Laws.{in_section}
 use Rattle.fv_canon.proofs.VolumeListLaws.{count_deeper, item_count, item_grew, item_unfit, laid_deeper, unfit_deeper}
@@ -93,9 +95,9 @@ volume_grew m fs old own between new is placed joined (laid, text, lays) = grind
 pub volume_unfit : (m : Meaning) (fs : List FileMeaning) (own : List ℕ) (depth : ℕ) (f : Fault) → m ≡ Volume (head_of m) (files_from fs)
     → AreStarts m own → (f ≡ out_of_memory) ⊎ FirstUnfit (volumes_in_files (files_from fs)) depth f
     → (f ≡ out_of_memory) ⊎ Unfit m depth f
-volume_unfit m fs own depth f is placed (inl memory) = inl memory
-volume_unfit m fs own depth f is placed (inr unfit) =
-    inr (subst (λ (x : Meaning). Unfit x depth f) (sym is) (inr ((own, subst (λ (x : Meaning). AreStarts x own) is placed), unfit)))
+volume_unfit m fs own depth f is placed why =
+    or_more why (λ unfit. subst (λ (x : Meaning). Unfit x depth f) (sym is)
+    (inr ((own, subst (λ (x : Meaning). AreStarts x own) is placed), unfit)))
 
 -- ---- how deep it is
 
@@ -123,33 +125,12 @@ shallow_group ss tail depth (n, fits, read) =
 pub shallow_nested : (m : Meaning) (depth : ℕ) → Shallow NestsBody (Nested m) depth → Shallow NestsVolume m (depth + 1)
 shallow_nested m depth (n, fits, read) = let (k, is, inside) = nests_nested m n read in (k, omega (arith, fits, is), inside)
 
--- ---- a fault that is passed on
-
--- where nothing is unfit, the only error is out of memory
-pub only_memory : {T U : Type 0} (r : Result T Fault) (f : Fault) → IsErrAnd r (λ g. g ≡ f) → (f ≡ out_of_memory) ⊎ U → (U → ⊥)
-    → IfErr r (λ g. g ≡ out_of_memory)
-only_memory (Ok x) f is err none = absurd is
-only_memory (Err g) f is (inl memory) none = is ∙ memory
-only_memory (Err g) f is (inr unfit) none = absurd (none unfit)
-
--- what holds of each error
-pub always : {T E : Type 0} {P : E → Type 0} (r : Result T E) → ((e : E) → P e) → IfErr r P
-always (Ok x) each = tt
-always (Err e) each = each e
+-- ---- where memory can run out
 
 -- room for no items is always had
 pub some_items : {A : Type 0} (xs : List A) → (length xs ≡ 0 → false ≡ true) → 0 < length xs
 some_items [] none = absurd (true≢false (sym (none refl)))
 some_items (x ∷ xs) none = omega arith
-
--- what is unfit of a part is unfit of the whole
-pub unfit_passed : {T U : Type 0} (V : Fault → Type 0) (r : Result T Fault) (f : Fault) → IsErrAnd r (λ g. g ≡ f)
-    → (f ≡ out_of_memory) ⊎ U → (U → V f) → IfErr r (λ g. (g ≡ out_of_memory) ⊎ V g)
-unfit_passed V (Ok x) f is err whole = absurd is
-unfit_passed V (Err g) f is (inl memory) whole = inl (is ∙ memory)
-unfit_passed V (Err g) f is (inr unfit) whole = inr (subst V (sym is) (whole unfit))
-
--- ---- where memory can run out
 
 -- a section, a file and a volume's own files have no more starts than what they are in
 pub section_count : (ss : List SectionMeaning) (i : ℕ) (s : SectionMeaning) → i < length ss → s ≡ get_or ss i s
@@ -171,9 +152,3 @@ own_counted (Volume h files) = omega arith
 pub starts_need_file : (m : Meaning) → 0 < starts_in (volumes_in m) → files_of m ≢ []
 starts_need_file (Volume h NoFiles) some none = absurd (omega (arith, some))
 starts_need_file (Volume h (MoreFiles f fs)) some none = cc
-
--- the error that ran out of memory is passed on
-pub memory_passed : {T : Type 0} (r : Result T Fault) (f : Fault) (n k : ℕ) → IsErrAnd r (λ g. g ≡ f)
-    → (f ≡ out_of_memory → 0 < n) → n ≤ k → IfErr r (λ g. g ≡ out_of_memory → 0 < k)
-memory_passed (Ok x) f n k is some less = tt
-memory_passed (Err g) f n k is some less = λ want. let here = some (sym is ∙ want) in omega (arith, here, less)

@@ -15,7 +15,7 @@ use Rattle.fv_tree.specs.Meaning.{Meaning}
 use Rattle.fv_canon.specs.Image.{IsImage}
 use Rattle.fv_canon.specs.Refusals.{Refuses}
 use Rattle.fv_canon.specs.Runs.{InputWrites, InputStops, RunStops}
-use Rattle.fv_canon.proofs.InputLaws.{ran_out}
+use Rattle.fv_tree.proofs.Laws.{ran_out}
 
 -- the image of the meaning was written
 pub input_writes : (input : List ℕ) (m : Meaning) (held holds : Option (List ℕ)) (r : Result (Unit {0}) Fault) → Accepted input m

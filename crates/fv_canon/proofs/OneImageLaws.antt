@@ -1,19 +1,19 @@
--- A meaning has one image at most.
+-- A meaning has one image at most. The steps:
+-- 1. Bytes that show the same spans are the same (`shows_one`).
+-- 2. Files have one first placement (`starts_one`).
+-- 3. So by recursion over the meaning there is one image (`image_one`).
 use Rattle.std.proofs.lemmas.Grind.{common_steps}
-use Rattle.std.proofs.Common.{◌≡◌, ◌≤◌, ◌<◌, inl, inr, ◌+◌, ◌-◌, ℕ, zero, suc, Bool, List, [], ◌∷◌, ◌++◌, length, take, drop, get_or, refl}
-use Rattle.std.proofs.Common.{sym, ap, ◌∙◌, subst, arith, add-one}
+use Rattle.std.proofs.Common.{◌≡◌, ◌≤◌, ◌<◌, inl, inr, ◌+◌, ◌-◌, ℕ, Bool, List, [], ◌∷◌, length, drop, get_or, refl}
+use Rattle.std.proofs.Common.{sym, ap, ◌∙◌, subst, arith}
 use Rattle.std.specs.List.{AllByRecursion}
 use Rattle.std.proofs.lemmas.Bool.{cases_lt}
-use Rattle.std.proofs.lemmas.List.{ext_get_or, get_or-take, get_or-drop, take_more, take_all}
+use Rattle.std.proofs.lemmas.List.{ext_get_or, get_or-take, get_or-drop}
 use Rattle.fv_base.specs.Flash.{erased_byte}
-use Rattle.fv_base.specs.Value.{up_to_8}
 use Rattle.fv_base.specs.declared.guid.Guid.{Guid}
 use Rattle.fv_head.specs.Attributes.{polarity_of}
 use Rattle.fv_head.specs.ExtImage.{first_edge}
 use Rattle.fv_head.specs.Head.{HeadFields}
-use Rattle.fv_canon.specs.Starts.{StartsFollow, IsFirstPlacement}
-use Rattle.fv_canon.specs.declared.first_placement.LayoutItem.{LayoutItem}
-use Rattle.fv_canon.proofs.PlacementLaws.{first_same}
+use Rattle.fv_placement.proofs.Laws.{starts_one}
 use Rattle.fv_section.specs.Frames.{FrameForm, frame_len, up_to_4}
 use Rattle.fv_section.specs.SectionImage.{stream_of}
 use Rattle.fv_tree.specs.Meaning.{Meaning, Volume, FileMeanings, NoFiles, MoreFiles, FileMeaning, File, ContentMeaning, Plain, Sectioned}
@@ -62,32 +62,6 @@ pub shows_one : (total erased : ℕ) (ps : List PlacedBytes) (b c : List ℕ) �
 shows_one total erased ps b c p q =
     ext_get_or 0 b c (p.length_is ∙ sym q.length_is) (λ k l. let within : k < total = subst (λ (n : ℕ). k < n) p.length_is l in
     same_byte ps b c k erased p.stand q.stand (p.rest k within) (q.rest k within))
-
--- ---- there is one first placement at most
-pub follow_length : (total e : ℕ) (fs : List LayoutItem) (ss : List ℕ) → StartsFollow total e fs ss → length ss ≡ length fs
-follow_length total e [] [] h = refl
-follow_length total e [] (s ∷ ss) h = absurd h
-follow_length total e (f ∷ fs) [] h = absurd h
-follow_length total e (f ∷ fs) (s ∷ ss) h = ap suc (follow_length total (up_to_8 (s + f.size)) fs ss h.1)
-
-fronts_same : (total first : ℕ) (fs : List LayoutItem) (ss ts : List ℕ) → IsFirstPlacement total first fs ss
-    → IsFirstPlacement total first fs ts
-    → length ss ≡ length ts → (i : ℕ) → i ≤ length ss → take i ss ≡ take i ts
-fronts_same total first fs ss ts p q same zero l = refl
-fronts_same total first fs ss ts p q same (suc i) l =
-    let before = fronts_same total first fs ss ts p q same i (omega (arith, l)) in
-    let here = first_same total first fs ss ts p q i before in
-    ap (λ (n : ℕ). take n ss) (sym (add-one i)) ∙ take_more ss i 0 (omega (arith, l))
-    ∙ ap (λ (xs : List ℕ). xs ++ (get_or ss i 0 ∷ [])) before ∙ ap (λ (n : ℕ). take i ts ++ (n ∷ [])) here
-    ∙ sym (take_more ts i 0 (omega (arith, l, same))) ∙ ap (λ (n : ℕ). take n ts) (add-one i)
-
-pub starts_one : (total first : ℕ) (fs : List LayoutItem) (ss ts : List ℕ) → IsFirstPlacement total first fs ss
-    → IsFirstPlacement total first fs ts → ss ≡ ts
-starts_one total first fs ss ts p q =
-    let n = follow_length total first fs ss p.placement.follow in
-    let k = follow_length total first fs ts q.placement.follow in
-    sym (take_all (length ss) ss (omega arith)) ∙ fronts_same total first fs ss ts p q (n ∙ sym k) (length ss) (omega arith)
-    ∙ take_all (length ss) ts (omega (arith, n, k))
 
 -- ---- there is one image at most
 same_spans : (h : HeadFields) (b : List ℕ) (xs ys : List StoredFile) (ss ts : List ℕ) → xs ≡ ys → ss ≡ ts

@@ -1,6 +1,7 @@
 -- Whether bytes are the image of a volume: they are exactly where a walk over it writes them, and never where its layout is rejected.
 use Rattle.std.proofs.Common.{◌≡◌, ◌≢◌, ◌⊎◌, inl, inr, ℕ, List, sym, ap, subst, Bool, true}
 use Rattle.std.specs.Prelude.{IsTrue}
+use Rattle.fv_base.proofs.Laws.{first_only}
 use Rattle.fv_base.specs.Faults.{out_of_memory}
 use Rattle.fv_base.specs.declared.fault.Fault.{Fault}
 use Rattle.fv_base.specs.declared.fault.FaultKind.TheVariants as kinds
@@ -29,5 +30,4 @@ none_refused m b f (inr unfit) other is = unfit_none m 0 f unfit (image_fits m b
 
 -- a layout that fails with this kind fails because memory ran out
 pub want_refused : (m : Meaning) (f : Fault) → (f ≡ out_of_memory) ⊎ Unfit m 0 f → f.kind ≡ kinds.OutOfMemory → f ≡ out_of_memory
-want_refused m f (inl want) kind = want
-want_refused m f (inr unfit) kind = absurd (not_layout f.kind (unfit_is m 0 f unfit) kind)
+want_refused m f why kind = first_only why (λ unfit. not_layout f.kind (unfit_is m 0 f unfit) kind)

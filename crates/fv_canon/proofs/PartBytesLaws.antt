@@ -10,7 +10,7 @@ use Rattle.fv_base.specs.declared.flash.FileSystem.{FileSystem}
 use Rattle.fv_file.specs.Files.{file_header_len}
 use Rattle.fv_file.specs.NewHeaders.{needs_large}
 use Rattle.fv_head.proofs.Laws.{front_lies}
-use Rattle.fv_canon.specs.inner.Reaches.{IsLawfulItem}
+use Rattle.fv_placement.specs.Items.{IsLawfulItem}
 use Rattle.fv_tree.proofs.Laws.{content_long}
 use Rattle.fv_tree.specs.Denotes.{MeansFile, IsMeaning, Pairwise, Stream}
 use Rattle.fv_tree.specs.ReadParts.{IsReadFile}

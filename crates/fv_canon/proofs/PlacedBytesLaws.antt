@@ -1,4 +1,8 @@
--- The image by positions is what a walk over the files writes.
+-- The image by positions is what a walk over the files writes. The steps:
+-- 1. Erased bytes before a span may be written in two pieces (`painted_later`), and a span where the walk is comes next (`painted_here`).
+-- 2. So the files are in order, and the walk writes them (`files_placed`).
+-- 3. With header and extended header the same holds of the volume (`volume_in_order`, `volume_painted`).
+-- 4. So the bytes that show the volume are those that a walk writes (`volume_shows`, `volume_written`).
 use Rattle.std.proofs.Common.{◌≡◌, ◌≤◌, ◌+◌, ◌-◌, ◌*◌, ◌%◌, ℕ, List, [], ◌∷◌, ◌++◌, length, replicate, refl, sym, ap, ◌∙◌, subst, arith}
 use Rattle.std.proofs.Common.{length-append, append_assoc}
 use Rattle.std.specs.Prelude.{map, Option, None, Some}
@@ -16,7 +20,7 @@ use Rattle.fv_head.specs.HeadReads.{IsReadHead, IfRead}
 use Rattle.fv_head.specs.HeadImage.{canonical_head}
 use Rattle.fv_head.specs.ExtImage.{canonical_end, first_edge, ext_len, ext_spelled}
 use Rattle.fv_head.proofs.Laws.{ext_again, length-canonical}
-use Rattle.fv_canon.specs.Starts.{StartsFollow}
+use Rattle.fv_placement.specs.Starts.{StartsFollow}
 use Rattle.fv_canon.specs.PlacedBytes.{PlacedBytes, ShowsPlaced}
 use Rattle.fv_canon.specs.ImageLaws.{painted, InOrder}
 use Rattle.fv_canon.specs.StoredFiles.{StoredFile, stored_len, stored_bytes, gap_bytes, placed_files, ext_pad, placed_in_volume, used_size}

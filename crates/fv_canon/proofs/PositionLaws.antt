@@ -1,4 +1,6 @@
--- What a walk writes shows each span at its position and erased bytes elsewhere, and no other bytes do.
+-- What a walk writes shows each span at its position and erased bytes elsewhere, and no other bytes do. The steps:
+-- 1. What the walk writes shows them (`walk_shows`, `shows_walk`), and has the whole length (`walk_length`).
+-- 2. Bytes that show them are what the walk writes (`walk_from`), so there is one image (`one_image`).
 use Rattle.std.proofs.Common.{◌≡◌, ℕ, ◌+◌, ◌-◌, ◌<◌, ◌≤◌, inl, inr, List, [], ◌∷◌, ◌++◌, length, take, drop, get_or, replicate, refl, sym}
 use Rattle.std.proofs.Common.{◌∙◌, ap, subst, arith, append_assoc, length-append, take-append-drop, zero-add}
 use Rattle.std.specs.List.{AllByRecursion}

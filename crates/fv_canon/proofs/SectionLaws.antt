@@ -1,4 +1,7 @@
--- What is known of a section that was read and laid out, and how a stream goes on.
+-- What is known of a section that was read and laid out, and how a stream goes on. The steps:
+-- 1. Its body is as long as the layout knows, and fits the form of its header (`section_known`).
+-- 2. A stream is its first section, and then the others (`stream_goes`, `stream_whole`).
+-- 3. A walk puts filler, header and body of each section (`goes_on`, `front_more`), and at the end the tail (`front_end`).
 use Rattle.std.proofs.lemmas.Grind.{common_steps}
 use Rattle.std.proofs.Common.{◌≡◌, ◌≤◌, ◌<◌, ◌+◌, ◌-◌, ◌^◌, ℕ, zero, suc, Bool, List, [], ◌∷◌, ◌++◌, length, drop, replicate, get_or, refl}
 use Rattle.std.proofs.Common.{sym, ap, ◌∙◌, subst, arith, append_assoc, append-nil, length-drop}
@@ -125,7 +128,7 @@ pub front_more : {S : Type 0} (takes : S → List ℕ → S → Type 0) → Walk
     → TakesFront takes s w whole left
 front_more takes laws s t u v w whole rest a b c left f e p q r = record {
   front = f.front ++ (a ++ (b ++ c));
-  taken = laws.joined s t w f.front (a ++ (b ++ c)) f.taken (laws.joined t u w a (b ++ c) p (laws.joined u v w b c q r));
+  taken = laws.joined f.taken (laws.joined p (laws.joined q r));
   whole_is = append_assoc f.front (a ++ (b ++ c)) left ∙ ap (λ (xs : List ℕ). f.front ++ xs) (sym e) ∙ f.whole_is;
 }
 
@@ -141,7 +144,7 @@ front_end takes laws (x ∷ xs) i s t u gap starts rest tail l some f p =
     let whole : f.front ≡ sections_bytes 0 (sections_from (x ∷ xs)) starts =
     sym (append-nil f.front) ∙ ap (λ (ys : List ℕ). f.front ++ ys) (sym ended) ∙ f.whole_is in
     subst (λ (ys : List ℕ). takes s ys u) (ap (λ (ys : List ℕ). ys ++ replicate tail 0) whole
-    ∙ stream_whole x (sections_from xs) starts tail) (laws.joined s t u f.front (replicate tail 0) f.taken p)
+    ∙ stream_whole x (sections_from xs) starts tail) (laws.joined f.taken p)
 
 -- where there is no section, nothing is put
 pub front_none : {S : Type 0} (takes : S → List ℕ → S → Type 0) (ss : List SectionMeaning) (i : ℕ) (s t : S) (gap : ℕ)

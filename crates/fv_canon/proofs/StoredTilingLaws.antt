@@ -1,4 +1,6 @@
--- The files and pads that are written as the canonical image has them tile the body.
+-- The files and pads that are written as the canonical image has them tile the body. The steps:
+-- 1. Pads tile a gap (`pad_tiles`, `gap_tiles`), and a free cell tiles the erased bytes at the end (`free_tiles`).
+-- 2. A file with its filler is a cell. So gap by gap and file by file the body is tiled (`body_tiles`).
 use Rattle.std.proofs.lemmas.Grind.{common_steps}
 use Rattle.std.proofs.Common.{◌≡◌, ◌≤◌, ◌<◌, ◌⊎◌, inl, inr, ◌+◌, ◌-◌, ◌%◌, ℕ, zero, suc, true, false, List, [], ◌∷◌, ◌++◌}
 use Rattle.std.proofs.Common.{length, replicate, refl, sym, ap, ◌∙◌, subst, arith, length-append, append_assoc, append-nil}
@@ -17,7 +19,7 @@ use Rattle.fv_file.specs.Files.{fixed_checksum}
 use Rattle.fv_file.specs.HeaderReads.{pad_fields}
 use Rattle.fv_file.specs.NewHeaders.{pad_head_of}
 use Rattle.fv_file.proofs.Laws.{alignment_with}
-use Rattle.fv_canon.specs.Starts.{StartsFollow}
+use Rattle.fv_placement.specs.Starts.{StartsFollow}
 use Rattle.fv_tree.specs.Files.{FileForm, files_in}
 use Rattle.fv_canon.specs.Headline.{DataAligned}
 use Rattle.fv_canon.specs.StoredFiles.{StoredFile, stored_len, stored_bytes, pad_bytes, long_pad, gap_bytes}

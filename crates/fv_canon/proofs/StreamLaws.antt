@@ -1,4 +1,9 @@
--- A stream that is written as the canonical image has it is read again as the same sections.
+-- A stream that is written as the canonical image has it is read again as the same sections. The steps:
+-- 1. The parts of a frame that is written are bytes (`begun_kind`, `bytes_begun`).
+-- 2. What has to hold of what lies inside: of a frame, a stream and a volume (`FrameAgain`, `StreamAgain`, `VolumeAgain`).
+-- 3. The frames of a stream are read again: none, the last, or one and those after it (`none_again`, `last_again`, `more_again`,
+--    `frames_again`).
+-- 4. So a stream is read again if its sections are (`stream_again`), and a section if what lies inside is (`section_again`).
 use Rattle.std.proofs.Common.{◌≡◌, ◌≤◌, ◌<◌, ◌+◌, ◌-◌, ◌%◌, ℕ, Bool, true, false, List, [], ◌∷◌, ◌++◌, length, replicate, refl}
 use Rattle.std.proofs.Common.{sym, ap, ◌∙◌, subst, arith, length-append}
 use Rattle.std.proofs.lemmas.List.{length-replicate}

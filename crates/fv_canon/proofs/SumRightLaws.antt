@@ -1,4 +1,7 @@
--- The sums of an image are right: that of its header, and those of each file and pad after it.
+-- The sums of an image are right: that of its header, and those of each file and pad after it. The steps:
+-- 1. In cells that tile bytes, pads with the fixed file sum, each sum is right (`cell_sums`, `tiles_sums`).
+-- 2. The pad that holds the extended header is such a cell (`ext_cell`), so the rest after the header is tiled by them (`rest_summed`).
+-- 3. So all sums of an image are right (`sums_are_right`).
 use Rattle.std.proofs.lemmas.Grind.{common_steps}
 use Rattle.std.proofs.Common.{◌≡◌, ◌≤◌, ◌<◌, ◌+◌, ◌-◌, ◌%◌, ℕ, true, false, List, [], ◌∷◌, ◌++◌, length, take, drop, replicate, refl, sym, ap}
 use Rattle.std.proofs.Common.{◌∙◌, subst, arith, length-append, append_assoc}

@@ -35,8 +35,8 @@ use Rattle.fv_head.specs.HeadImage.{canonical_head}
 use Rattle.fv_head.specs.ExtImage.{canonical_end, first_edge, ext_len, ext_spelled}
 use Rattle.fv_head.specs.declared.extent.Extent.{Extent}
 use Rattle.fv_head.proofs.Laws.{canonical_front, front_lies, length-canonical}
-use Rattle.fv_canon.specs.Starts.{StartsFollow, IsFirstPlacement}
-use Rattle.fv_canon.specs.declared.first_placement.LayoutItem.{LayoutItem}
+use Rattle.fv_placement.specs.Starts.{StartsFollow, IsFirstPlacement}
+use Rattle.fv_placement.specs.declared.first_placement.LayoutItem.{LayoutItem}
 use Rattle.fv_tree.specs.Files.{FileForm, files_in, NoTwins, current_in, top_name}
 use Rattle.fv_tree.specs.Meaning.{Meaning, Volume, FileMeanings, NoFiles, MoreFiles, FileMeaning, File, ContentMeaning, Plain, Sectioned}
 use Rattle.fv_tree.specs.LocatedFiles.{StandIn}

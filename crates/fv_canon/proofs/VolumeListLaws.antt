@@ -1,4 +1,10 @@
--- What is said of each of some volumes, where they are two lists joined, or lie one deeper.
+-- What is said of each of some volumes, where they are two lists joined, or lie one deeper. The steps:
+-- 1. The starts of two lists are joined and split again (`laid_joined`, `laid_split`), and are the same one level deeper (`laid_deeper`,
+--    `laid_higher`). So are their counts (`count_joined`, `count_deeper`).
+-- 2. All volumes of two lists fit if those of each do (`fit_joined`). The first that does not fit is in the first list (`unfit_front`), or
+--    else in the second (`unfit_behind`).
+-- 3. So a walk over items adds the starts of each (`item_grew`), or stops at the first that does not fit (`item_unfit`).
+-- 4. A walk that takes starts goes from an item to the next (`item_passed`, `item_last`).
 use Rattle.std.proofs.Common.{◌≡◌, ◌≤◌, ◌<◌, inl, inr, ◌+◌, ℕ, List, [], ◌∷◌, ◌++◌, length, take, drop, get_or, refl, sym, ap, ◌∙◌, subst, arith}
 use Rattle.std.proofs.Common.{append_assoc, append-nil, length-append, drop-drop}
 use Rattle.std.specs.List.{AllByRecursion}
@@ -14,7 +20,7 @@ use Rattle.fv_canon.specs.LayoutFaults.{AllFit, FirstUnfit, UnfitHere}
 use Rattle.fv_tree.specs.Volumes.{Inside, deeper, volumes_in, volumes_in_files}
 use Rattle.fv_canon.specs.inner.Depths.{Grew}
 use Rattle.fv_tree.proofs.Laws.{files_list_back, item_at}
-use Rattle.fv_canon.proofs.OneImageLaws.{follow_length}
+use Rattle.fv_placement.proofs.Laws.{follow_length}
 
 -- ---- their starts
 

@@ -10,8 +10,8 @@ use Rattle.fv_head.specs.Ext.{Extension}
 use Rattle.fv_head.specs.Head.{HeadFields}
 use Rattle.fv_head.specs.HeadImage.{canonical_head}
 use Rattle.fv_head.specs.ExtImage.{canonical_end, first_edge}
-use Rattle.fv_canon.specs.Starts.{StartsFollow}
-use Rattle.fv_canon.specs.declared.first_placement.LayoutItem.{LayoutItem}
+use Rattle.fv_placement.specs.Starts.{StartsFollow}
+use Rattle.fv_placement.specs.declared.first_placement.LayoutItem.{LayoutItem}
 use Rattle.fv_base.specs.Value.{up_to_8}
 use Rattle.fv_tree.specs.Meaning.{Meaning, Volume, FileMeanings, FileMeaning, head_of, data_len_of}
 use Rattle.fv_tree.specs.MeaningParts.{files_from}
@@ -23,7 +23,7 @@ use Rattle.fv_canon.specs.Layouts.{layout_items, layout_item}
 use Rattle.fv_tree.specs.Volumes.{volumes_in, volumes_in_files}
 use Rattle.fv_canon.specs.StoredFiles.{StoredFile, size_for, stored_len, used_size, ext_pad}
 use Rattle.fv_canon.proofs.WrittenImageLaws.{files_made, stream_made, sections_made, front_is, behind_is}
-use Rattle.fv_canon.proofs.OneImageLaws.{follow_length}
+use Rattle.fv_placement.proofs.Laws.{follow_length}
 use Rattle.fv_canon.proofs.PlacedBytesLaws.{first_is}
 use Rattle.fv_canon.proofs.StreamLaws.{stream_again}
 use Rattle.fv_canon.proofs.VolumeLaws.{known, files_read, sections_again}

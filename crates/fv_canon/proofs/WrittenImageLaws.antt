@@ -1,4 +1,8 @@
--- What a walk writes for a volume that was read and laid out is its image.
+-- What a walk writes for a volume that was read and laid out is its image. The steps:
+-- 1. The starts of an item and those after it are apart (`behind_is`, `front_is`, `moved`).
+-- 2. Frame by frame a stream is written as its image, if its sections are (`frames_made`, `stream_made`, `section_made`).
+-- 3. File by file a volume is, if the streams in it are (`files_made`, `volume_made`).
+-- 4. By the depth of the nesting each section is (`sections_made`), and so each volume (`image_made`).
 use Rattle.std.proofs.lemmas.Grind.{common_steps}
 use Rattle.std.proofs.Common.{◌≡◌, ◌+◌, ℕ, zero, suc, List, [], ◌∷◌, ◌++◌, length, take, drop, refl, sym, ap, ◌∙◌, subst, append_assoc, arith}
 use Rattle.std.specs.List.{AllByRecursion}

@@ -1,31 +1,14 @@
 -- What does not fit, and its fault.
 use Rattle.std.specs.List.{AllByRecursion}
-use Rattle.std.specs.Prelude.{◌≡◌, ◌≢◌, ℕ, ◌+◌, ◌-◌, ◌%◌, ◌⊎◌, List, [], ◌∷◌, IsTrue}
+use Rattle.std.specs.Prelude.{◌≡◌, ℕ, ◌+◌, ◌⊎◌, List, [], ◌∷◌}
 use Rattle.fv_base.specs.declared.fault.Fault.{Fault}
 use Rattle.fv_base.specs.declared.fault.FaultKind.{FaultKind}
 use Rattle.fv_base.specs.declared.fault.FaultKind.TheVariants as kinds
 use Rattle.fv_canon.specs.Layouts.{layout_items, IsPlaced}
-use Rattle.fv_canon.specs.Starts.{Placement}
+use Rattle.fv_placement.specs.NoPlacement.{HasNoRoom, TopOff}
 use Rattle.fv_tree.specs.Volumes.{Inside, volumes_in}
-use Rattle.fv_canon.specs.declared.first_placement.LayoutItem.{LayoutItem}
 use Rattle.fv_head.specs.ExtImage.{first_edge}
 use Rattle.fv_tree.specs.Meaning.{Meaning, head_of, length_of}
-
--- the volume top file has only one possible start, with which it ends at the volume's end: there its data are not
--- aligned, or the start is not a multiple of 8
-abbrev pub IsOff : ℕ → LayoutItem → Type 0
-IsOff total f = ((total - f.size + f.header) % f.alignment ≢ 0) ⊎ ((total - f.size) % 8 ≢ 0)
-
--- the volume top file, if there is one, is so
-abbrev pub TopOff : ℕ → List LayoutItem → Type 0
-TopOff total [] = ⊥
-TopOff total (f ∷ fs) = (IsTrue f.top × IsOff total f) ⊎ TopOff total fs
-
--- the volume top file, if there is one, is aligned at the volume's end, and yet the files cannot be placed in their
--- order at all
-pub record HasNoRoom (total first : ℕ) (fs : List LayoutItem) : Type 0 where
-  pub top_stands : TopOff total fs → ⊥
-  pub none : (starts : List ℕ) → Placement total first fs starts → ⊥
 
 -- the files of each volume can be placed
 abbrev pub AllFit : List Inside → Type 0

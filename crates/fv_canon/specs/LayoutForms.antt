@@ -1,24 +1,11 @@
--- The least starts of the files of a volume, the starts at every level, and layouts as they are kept in memory.
-use Rattle.std.specs.Prelude.{◌≡◌, ℕ, ◌+◌, ◌≤◌, List, [], ◌∷◌, MatchBool, ◌++◌, length}
-use Rattle.fv_base.specs.Value.{up_to_8}
+-- The starts at every level, also the least ones, and layouts as they are kept in memory.
+use Rattle.std.specs.Prelude.{◌≡◌, ℕ, List, [], ◌∷◌, ◌++◌, length}
 use Rattle.fv_canon.specs.Layouts.{layout_items, AreStarts}
-use Rattle.fv_canon.specs.Starts.{Lawful, Placement}
+use Rattle.fv_placement.specs.LeastStarts.{IsLeast}
+use Rattle.fv_placement.specs.Starts.{Placement}
 use Rattle.fv_tree.specs.Volumes.{Inside, volumes_in}
-use Rattle.fv_canon.specs.declared.first_placement.LayoutItem.{LayoutItem}
 use Rattle.fv_head.specs.ExtImage.{first_edge}
 use Rattle.fv_tree.specs.Meaning.{Meaning, head_of, length_of, files_of}
-
--- the least start that is lawful after an edge; for the volume top file, the start with which it ends at the volume's
--- end
-abbrev pub IsLeastStart : ℕ → ℕ → LayoutItem → ℕ → Type 0
-IsLeastStart total e f s = MatchBool f.top (s + f.size ≡ total) (Lawful e f s × ((t : ℕ) → Lawful e f t → s ≤ t))
-
--- each file is at the least start after the edge before it; this need not be a placement
-abbrev pub IsLeast : ℕ → ℕ → List LayoutItem → List ℕ → Type 0
-IsLeast total e [] [] = Unit {0}
-IsLeast total e [] (s ∷ ss) = ⊥
-IsLeast total e (f ∷ fs) [] = ⊥
-IsLeast total e (f ∷ fs) (s ∷ ss) = IsLeastStart total e f s × IsLeast total (up_to_8 (s + f.size)) fs ss
 
 -- the least starts of its own files, which are also a placement
 abbrev pub AreLeast : Meaning → List ℕ → Type 0

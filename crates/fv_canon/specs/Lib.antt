@@ -1,5 +1,4 @@
 -- The definitions in the order in which they can be read.
-pub mod Starts
 pub mod PlacedBytes
 pub mod StoredFiles
 pub mod Layouts
@@ -8,7 +7,6 @@ pub mod Refusals
 pub mod Headline
 pub mod LayoutFaults
 pub mod ImageLaws
-pub mod ComparisonLines
 pub mod LayoutForms
 pub mod FlashImages
 pub mod Runs

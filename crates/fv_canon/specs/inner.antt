@@ -2,5 +2,4 @@
 pub mod Depths
 pub mod ImageOf
 pub mod Matching
-pub mod Reaches
 pub mod SummingSinks

@@ -5,18 +5,17 @@ ghost use Rattle.std.specs.Prelude.{◌≡◌, ◌≢◌, ◌↔◌, ◌⊎◌, 
 ghost use Rattle.fv_base.specs.Faults.{out_of_memory};
 ghost use Rattle.fv_canon.specs.Image.{IsImage};
 ghost use Rattle.fv_canon.specs.LayoutForms.{LaysVolume};
-ghost use Rattle.fv_canon.specs.Refusals.{NotRead};
 ghost use Rattle.fv_canon.specs.inner.ImageOf.{image_of};
 ghost use Rattle.fv_canon.specs.inner.Matching.{MatchTakes, matches_by};
 ghost use Rattle.fv_head.specs.HeadChecks.{BeginsWithHeader};
 ghost use Rattle.fv_tree.specs.Denotes.{Accepted};
+ghost use Rattle.fv_tree.specs.Inputs.{NotRead};
 ghost use Rattle.fv_tree.specs.Meaning.{Meaning, files_of};
 
 use crate::image_walk::put_image;
 use crate::layout_walk::layout;
-use crate::normalising::whole_volume;
 use fv_base::{Fault, FaultKind, Sink};
-use fv_tree::VolumeView;
+use fv_tree::{VolumeView, whole_volume};
 use std::alloc::Global;
 
 // Bytes that are compared with those that are put. What was put is taken off their front, until the

@@ -3,24 +3,25 @@
 ghost use Rattle.std.specs.Prelude.{◌≡◌, ◌≢◌, ◌<◌, ◌≤◌, ◌⊎◌, ◌+◌, ◌++◌, ℕ, List, [], All, length, take, get_or, IfOk, IfErr, OnOk};
 ghost use Rattle.fv_base.specs.Faults.{out_of_memory};
 ghost use Rattle.fv_head.specs.ExtImage.{first_edge};
-ghost use Rattle.fv_canon.specs.inner.Depths.{NestsVolume, NestsFiles, NestsSections, NestsBody, Grew, Shallow};
+ghost use Rattle.fv_tree.specs.inner.Depths.{NestsVolume, NestsFiles, NestsSections, NestsBody};
+ghost use Rattle.fv_canon.specs.inner.Depths.{Grew, Shallow};
 ghost use Rattle.fv_canon.specs.LayoutFaults.{layout_fault, AllFit, FirstUnfit, Unfit};
 ghost use Rattle.fv_canon.specs.Layouts.{layout_item, layout_items, AreStarts, Fits};
 ghost use Rattle.fv_canon.specs.LayoutForms.{Laid, LaysVolume, IsLayout};
 ghost use Rattle.fv_tree.specs.Volumes.{volumes_in, volumes_in_files, volumes_in_sections, volumes_in_body};
 ghost use Rattle.fv_canon.specs.inner.ImageOf.{starts_in};
-ghost use Rattle.fv_canon.specs.Starts.{Placement};
-ghost use Rattle.fv_canon.specs.inner.Reaches.{IsLawfulItem};
+ghost use Rattle.fv_placement.specs.Starts.{Placement};
+ghost use Rattle.fv_placement.specs.Items.{IsLawfulItem};
 ghost use Rattle.fv_tree.specs.Meaning.{head_of, files_of, length_of};
 ghost use Rattle.fv_tree.specs.MeaningParts.{sections_from, files_from};
 ghost use Rattle.fv_tree.specs.Views.{body_view};
 
 use crate::data_body::data_body;
-use crate::first_placement::{LayoutItem, first_starts, is_top_off};
 use crate::known_layout::Layout;
 use crate::pads_and_headers::header_len_for;
 use fv_base::{Align, Fault, FaultKind, Place};
 use fv_head::first_edge;
+use fv_placement::{LayoutItem, first_starts, is_top_off};
 use fv_tree::{Body, FileView, SectionView, VOLUME_TOP_FILE, VolumeView};
 use std::alloc::Global;
 

@@ -1,13 +1,10 @@
 //! The canonical image of a firmware volume and its layout, the same for each volume of a flash
-//! image, runs that write them, and a run that compares two volumes.
+//! image, and runs that write them. The calls that compare two volumes are those of `fv_compare`.
 #![tactic(auto)]
 
 mod canonical_image;
 mod canonical_input;
-mod compare;
-mod comparison_line;
 mod data_body;
-mod first_placement;
 mod flash_image;
 pub mod further_laws;
 pub mod headline;
@@ -18,21 +15,18 @@ mod layout_walk;
 mod normalising;
 mod pads_and_headers;
 mod part_bytes;
-mod reach;
-mod side;
 mod start_walk;
 mod summing_sink;
-mod usable_start;
 
 pub use canonical_image::{canonical, put_canonical, write_canonical};
 pub use canonical_input::{is_canonical, is_canonical_image};
-pub use compare::{put_comparison, run_compare, write_comparison};
 pub use flash_image::{
     LaidImage, lay_out_image, normalise_image, put_laid_image, write_normalised_image,
 };
+pub use fv_compare::{Side, put_comparison, run_compare, write_comparison};
+pub use fv_tree::whole_volume;
 pub use known_layout::Layout;
 pub use laid_parts::{put_laid_data, put_laid_volume, starts_inside};
 pub use layout_walk::layout;
-pub use normalising::{normalise, run_normalise, whole_volume, write_normalised};
+pub use normalising::{normalise, run_normalise, write_normalised};
 pub use part_bytes::{body_bytes, file_bytes};
-pub use side::Side;

@@ -5,40 +5,16 @@ ghost use Rattle.fv_base.specs.Faults.{out_of_memory};
 ghost use Rattle.fv_base.specs.Port.{inner_of, has_erred};
 ghost use Rattle.fv_head.specs.HeadChecks.{BeginsWithHeader};
 ghost use Rattle.fv_canon.specs.Headline.{MeanSame, NormalisesTo};
-ghost use Rattle.fv_canon.specs.Refusals.{FaultStandsInInput, IsNoVolume, IsOfLayout, IsUnfit};
-ghost use Rattle.fv_canon.specs.Refusals.{NotPlaced, NotRead, Refuses};
+ghost use Rattle.fv_canon.specs.Refusals.{IsNoVolume, IsOfLayout, IsUnfit, NotPlaced, Refuses};
 ghost use Rattle.fv_canon.specs.Runs.{InputWrites, InputStops, RunWrites, RunStops};
 ghost use Rattle.fv_tree.specs.Denotes.{Accepted};
-ghost use Rattle.fv_tree.specs.Meaning.{Meaning};
 
 use crate::canonical_image::{canonical, write_canonical};
 use crate::layout_walk::layout;
-use fv_base::{ByteList, Fault, FaultKind, Port, check, read_input};
-use fv_tree::{VolumeView, read_volume};
+use fv_base::{ByteList, Fault, FaultKind, Port, read_input};
+use fv_tree::{VolumeView, whole_volume};
 use std::alloc::Global;
 use std::io::{Read, Write};
-
-/// The volume of the whole input. (PI specification, volume 3, section 3.2.)
-///
-/// # Errors
-///
-/// Those of `read_volume`; then Length at FvLength if bytes follow the volume. OutOfMemory.
-pub fn whole_volume(alloc: Global, input: &[u8]) -> Result<VolumeView<'_>, Fault>
-    ensures found { IfOk result (λ view. Accepted input.now view) }
-    ensures only { IfOk result (λ view. (m : Meaning) → Accepted input.now m → m ≡ view) }
-    ensures refused { IfErr result (λ f. (f ≡ out_of_memory) ⊎ NotRead input.now f) }
-
-    // The condition of a fault holds in the input at its offset.
-    ensures stands { IfErr result (λ f. f ≢ out_of_memory → FaultStandsInInput input.now f) }
-
-    // Memory runs out only if the input begins with the header of a volume.
-    ensures memory { IfErr result (λ f. f ≡ out_of_memory → BeginsWithHeader input.now) }
-    ensures kind { IfErr result (λ f. (f.kind ≢ FaultKind.ReadFault) × (f.kind ≢ FaultKind.WriteFault)) }
-{
-    let (view, length) = read_volume(alloc, input)?;
-    check(length == input.len() as u64, FaultKind::Length, length)?;
-    Ok(view)
-}
 
 /// The canonical image of the volume that the input is. (PI specification, volume 3, section 3.2.)
 ///

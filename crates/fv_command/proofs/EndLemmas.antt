@@ -2,20 +2,16 @@
 use Rattle.std.proofs.Common.{◌≡◌, ◌∙◌, ℕ, Bool, true, false, List, inl, inr, refl, subst}
 use Rattle.std.proofs.KnownBytes.{Appends-kept}
 use Rattle.std.specs.Io.KnownBytes.{Keeps}
-use Rattle.std.specs.Prelude.{Option, Result, Ok, Err, IfSome, None, Some}
+use Rattle.std.specs.Prelude.{Option}
 use Rattle.fv_base.specs.Port.{has_erred, inner_of}
 use Rattle.fv_base.specs.Sinks.{LatchedWrites, PortShows, is_writing, port_of, written_count}
 use Rattle.fv_base.specs.declared.port.Port.{Port}
 use Rattle.fv_base.specs.declared.sink.WriteSink.{WriteSink}
-use Rattle.fv_command.specs.Endings.{Ends, Reports}
-use Rattle.fv_command.specs.Lines.{refusal_line}
-use Rattle.fv_command.specs.inner.CommandSteps.{HasLine, Puts}
-use Rattle.fv_command.specs.inner.EndSteps.{Written}
-use Rattle.fv_command.specs.declared.ending.Ending.{Ending}
-use Rattle.fv_command.specs.declared.ending.Refusal.{Refusal}
+use Rattle.fv_command.specs.Endings.{Ends}
+use Rattle.fv_command.specs.inner.RunSteps.{Written}
 use Rattle.fv_command.specs.declared.status.Status.{Status}
 use Rattle.fv_command.specs.declared.status.Status.TheVariants.{Refused}
-use Rattle.fv_text.specs.PortViews.{Change, Shown, seen, shown}
+use Rattle.fv_text.specs.PortViews.{Shown, seen, shown}
 
 written : (old new : PortShows) (was on : Bool) (text : List ℕ) → was ≡ true → LatchedWrites old was text new on
     → Written on text (seen old.contents old.erred) (seen new.contents new.erred)
@@ -56,22 +52,3 @@ pub flush_done : (whole : Bool) (text : List ℕ) (before old new : Shown) (ran 
 flush_done true text before old new ran e keeps same wrote =
     inl (refl, (Appends-kept before.bytes old.bytes new.bytes text wrote.0 keeps, same ∙ wrote.1))
 flush_done false text before old new ran e keeps same stops = let bad : false ≡ true = e in cc
-
--- what is said of more
-pub puts_weaker : {S : Type 0} (takes : S → List ℕ → S → Type 0) (P Q : Status → List ℕ → Type 0) (s t : S) (r : Result Status Refusal)
-    → ((status : Status) (text : List ℕ) → P status text → Q status text) → Puts takes P s t r → Puts takes Q s t r
-puts_weaker takes P Q s t (Ok status) more (text, said, took) = (text, more status text said, took)
-puts_weaker takes P Q s t (Err refusal) more (said, same) = (more Refused (refusal_line refusal) said, same)
-
-reported : (r : Option Refusal) (ran status : Status) (text : List ℕ) (output : Change)
-    → IfSome r (λ x. (ran ≡ Refused) × (text ≡ refusal_line x)) → Ends ran text output status
-    → IfSome r (λ x. Ends Refused (refusal_line x) output status)
-reported None ran status text output has ends = has
-reported (Some x) ran status text output (is, line) ends =
-    subst (λ (s : Status). Ends s (refusal_line x) output status) is
-    (subst (λ (l : List ℕ). Ends ran l output status) line ends)
-
--- a refusal whose line the text of a run is, is the one that the run reports
-pub line_reports : (ran : Ending) (text : List ℕ) (output : Change) (status : Status) → HasLine ran text
-    → Ends ran.status text output status → Reports (record { status = status; refusal = ran.refusal }) output
-line_reports ran text output status has ends = reported ran.refusal ran.status status text output has ends

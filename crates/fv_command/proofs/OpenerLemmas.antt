@@ -9,8 +9,8 @@ use Rattle.fv_command.specs.Runs.{Runs, RunsOver}
 use Rattle.fv_command.specs.Sources.{IsFirstSource, IsSecondSource, unread}
 use Rattle.fv_plan.specs.Files.{first_file, second_file}
 use Rattle.fv_plan.specs.declared.plan.Plan.{Plan}
+use Rattle.fv_command.specs.declared.ending.Ending.{Ending}
 use Rattle.fv_command.specs.declared.source.Source.{Source}
-use Rattle.fv_command.specs.declared.status.Status.{Status}
 
 abbrev ports_of : (r s r' s' : Shown) → Change → Ports
 ports_of r s r' s' output =
@@ -22,29 +22,29 @@ shown_new : {T : Type 0} (told : T → Option (List ℕ)) (port : Port T) (inner
 shown_new told port inner is fine = ap (λ e. seen (told (inner_of port)) e) fine ∙ ap (λ x. seen (told x) false) is
 
 -- a run over what is shown is one over the same
-runs_over : (p : Plan) (status : Status) (r a s r' b s' : Shown) (output : Change) → r ≡ a → r' ≡ b
-    → Runs p status (ports_of r s r' s' output) → Runs p status (ports_of a s b s' output)
-runs_over p status r a s r' b s' output e f ran = grind (arith, common_steps)
+runs_over : (p : Plan) (ended : Ending) (r a s r' b s' : Shown) (output : Change) → r ≡ a → r' ≡ b
+    → Runs p ended (ports_of r s r' s' output) → Runs p ended (ports_of a s b s' output)
+runs_over p ended r a s r' b s' output e f ran = grind (arith, common_steps)
 
 -- a run over new ports is one over the sources inside them
 pub runs_new : {S F : Type 0} (of_input : S → Option (List ℕ)) (of_file : F → Option (List ℕ))
-    (opens : List ℕ → Option F → Type 0) (is_standard : S → Type 0) (p : Plan) (status : Status)
+    (opens : List ℕ → Option F → Type 0) (is_standard : S → Type 0) (p : Plan) (ended : Ending)
     (first second : Source S F) (r s r' s' : Port (Source S F)) (output : Change) → inner_of r ≡ first → has_erred r ≡ false
     → inner_of r' ≡ second → has_erred r' ≡ false → IsFirstSource opens is_standard (first_file p.command) first
     → IsSecondSource opens (second_file p.command) second
-    → Runs p status (record {
+    → Runs p ended (record {
       first = change (unread of_input of_file) r s;
       second = change (unread of_input of_file) r' s';
       output = output;
     })
-    → RunsOver of_input of_file opens is_standard p status output
-runs_new of_input of_file opens is_standard p status first second r s r' s' output is fine is' fine' is_first is_second ran = (
+    → RunsOver of_input of_file opens is_standard p ended output
+runs_new of_input of_file opens is_standard p ended first second r s r' s' output is fine is' fine' is_first is_second ran = (
   first,
   second,
   is_first,
   is_second,
   shown (unread of_input of_file) s,
   shown (unread of_input of_file) s',
-  runs_over p status _ _ _ _ _ _ output (shown_new (unread of_input of_file) r first is fine)
+  runs_over p ended _ _ _ _ _ _ output (shown_new (unread of_input of_file) r first is fine)
       (shown_new (unread of_input of_file) r' second is' fine') ran,
 )

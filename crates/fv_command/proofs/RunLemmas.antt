@@ -2,13 +2,14 @@
 use Rattle.std.proofs.Common.{◌≡◌, ◌≢◌, ◌≤◌, ◌⊎◌, ℕ, Bool, true, false, List, length, take, arith, rules, refl, sym, subst, inl, inr}
 use Rattle.std.proofs.lemmas.Grind.{common_steps}
 use Rattle.std.specs.Prelude.{◌↔◌, Option}
+use Rattle.fv_base.proofs.Laws.{or_more}
 use Rattle.fv_base.specs.Faults.{out_of_memory}
 use Rattle.fv_base.specs.Limits.{depth_limit}
 use Rattle.fv_base.specs.declared.fault.Fault.{Fault}
 use Rattle.fv_tree.proofs.Laws.{want_known}
 use Rattle.fv_canon.specs.LayoutFaults.{Unfit}
-use Rattle.fv_canon.specs.declared.side.Side.{Side}
-use Rattle.fv_canon.specs.declared.side.Side.TheVariants as sides
+use Rattle.fv_compare.specs.declared.side.Side.{Side}
+use Rattle.fv_compare.specs.declared.side.Side.TheVariants as sides
 use Rattle.fv_tree.specs.Denotes.{Accepted, Denotes}
 use Rattle.fv_tree.specs.FirstFault.{IsFirstOfVolume}
 use Rattle.fv_tree.specs.Meaning.{Meaning, files_of}
@@ -19,7 +20,7 @@ use Rattle.fv_command.specs.Extractions.{StopsPart}
 use Rattle.fv_command.specs.Inputs.{Gives, GivesAt, TakenAt, BeginsNone, BeginsWith}
 use Rattle.fv_command.specs.SideRuns.{GivesVolume, IsVerdict, SideStops, VolumeInputStops}
 use Rattle.fv_command.specs.Tasks.{Denies}
-use Rattle.fv_command.specs.inner.SideSteps.{verdict_of}
+use Rattle.fv_command.specs.inner.RunSteps.{verdict_of}
 use Rattle.fv_plan.specs.declared.plan.Part.{Part}
 use Rattle.fv_plan.specs.declared.plan.Task.TheVariants.{Extract, ListSums}
 use Rattle.fv_text.specs.PortViews.{Change, Shown}
@@ -29,24 +30,20 @@ use Rattle.fv_text.specs.PortViews.{Change, Shown}
 pub not_begun : (input : List ℕ) (f : Fault)
     → (f ≢ out_of_memory → (n : ℕ) (m : Meaning) → n ≤ length input → Denotes depth_limit (take n input) m → ⊥)
     → (f ≢ out_of_memory → IsFirstOfVolume input f) → (f ≡ out_of_memory) ⊎ BeginsNone input f
-not_begun input f none first = elim (want_known f) [
-  | inl is ↦ inl is
-  | inr other ↦ inr (record { none = λ m b. none other b.0 m b.1 b.2.1; first = first other })
-]
+not_begun input f none first =
+    or_more (want_known f) (λ other. record { none = λ m b. none other b.0 m b.1 b.2.1; first = first other })
 
 -- ---- the tasks
 
 -- why a part of a volume is not extracted
 pub part_stopped : (input : List ℕ) (m : Meaning) (part : Part) (f : Fault) → BeginsWith input m
     → (f ≡ out_of_memory) ⊎ StopsPart (file_named part.name (files_of m)) part f → Denies (Extract part) input f
-part_stopped input m part f b (inl is) = inl is
-part_stopped input m part f b (inr stops) = inr (inr (m, b, stops))
+part_stopped input m part f b why = or_more why (λ stops. inr (m, b, stops))
 
 -- why a list with sums is not written
 pub sums_denied : (input : List ℕ) (m : Meaning) (f : Fault) → BeginsWith input m → (f ≡ out_of_memory) ⊎ Unfit m 0 f
     → Denies ListSums input f
-sums_denied input m f b (inl is) = inl is
-sums_denied input m f b (inr unfit) = inr (inr (m, b, unfit))
+sums_denied input m f b why = or_more why (λ unfit. inr (m, b, unfit))
 
 -- ---- a hand-off list
 

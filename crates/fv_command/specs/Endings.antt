@@ -1,11 +1,18 @@
--- How a run ends.
+-- How a run ends: its status, and the line of a fault.
 use Rattle.std.specs.Io.KnownBytes.{Appends}
-use Rattle.std.specs.Prelude.{◌≡◌, ◌⊎◌, true, List, ℕ, IfSome}
-use Rattle.fv_text.specs.PortViews.{Change, Shown, StopsIn, Writes}
-use Rattle.fv_command.specs.Lines.{refusal_line}
-use Rattle.fv_command.specs.declared.ending.Ending.{Ending}
+use Rattle.std.specs.Prelude.{◌≡◌, ◌⊎◌, ◌++◌, ℕ, true, List, codes, decimal}
+use Rattle.fv_base.specs.Faults.{fault_number}
+use Rattle.fv_base.specs.declared.fault.Fault.{Fault}
+use Rattle.fv_compare.specs.declared.side.Side.{Side}
+use Rattle.fv_compare.specs.declared.side.Side.TheVariants as sides
+use Rattle.fv_command.specs.declared.ending.Refusal.{Refusal}
+use Rattle.fv_command.specs.declared.ending.Refusal.TheVariants.{Input, OneOfTwo, Hobs}
 use Rattle.fv_command.specs.declared.status.Status.{Status}
 use Rattle.fv_command.specs.declared.status.Status.TheVariants as statuses
+use Rattle.fv_hob.specs.HobChecks.{hob_fault_number}
+use Rattle.fv_hob.specs.declared.fault.HobFault.{HobFault}
+use Rattle.fv_text.specs.HexText.{line_feed}
+use Rattle.fv_text.specs.PortViews.{Change, Shown, StopsIn, Writes}
 
 -- the exit statuses
 abbrev pub exit_code : Status → ℕ
@@ -25,6 +32,26 @@ Ends ran text output status =
     ((status ≡ ran) × Writes output.old output.new text)
     ⊎ ((status ≡ statuses.Refused) × (StopsIn output.old output.new text ⊎ FlushFails output.old output.new text))
 
--- a refusal that is returned is the one that is reported: its line was written, or a write failed in it
-abbrev pub Reports : Ending → Change → Type 0
-Reports ended output = IfSome ended.refusal (λ r. Ends statuses.Refused (refusal_line r) output ended.status)
+-- a number and an offset in bytes
+abbrev pub numbered_line : ℕ → ℕ → List ℕ
+numbered_line number at = codes "fault " ++ (decimal number ++ (codes " at " ++ (decimal at ++ line_feed)))
+
+-- the line of a fault
+abbrev pub fault_line : Fault → List ℕ
+fault_line f = numbered_line (fault_number f.kind) f.place.offset
+
+-- that of a fault of a hand-off list
+abbrev pub hob_fault_line : HobFault → List ℕ
+hob_fault_line f = codes "hob " ++ numbered_line (hob_fault_number f.kind) f.offset
+
+-- that of a fault of one of two inputs
+abbrev pub side_fault_line : Side → Fault → List ℕ
+side_fault_line sides.First f = codes "first " ++ fault_line f
+side_fault_line sides.Second f = codes "second " ++ fault_line f
+side_fault_line sides.Output f = fault_line f
+
+-- that of a refusal
+abbrev pub refusal_line : Refusal → List ℕ
+refusal_line (Input f) = fault_line f
+refusal_line (OneOfTwo side f) = side_fault_line side f
+refusal_line (Hobs f) = hob_fault_line f

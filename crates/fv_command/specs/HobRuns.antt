@@ -7,10 +7,11 @@ use Rattle.fv_hob.specs.Lists.{IsHobList}
 use Rattle.fv_hob.specs.declared.fault.HobFault.{HobFault}
 use Rattle.fv_lines.specs.HobLines.{HobsText, image_form}
 use Rattle.fv_command.specs.Inputs.{Gives, GivingStops}
-use Rattle.fv_command.specs.Lines.{fault_line, hob_fault_line}
+use Rattle.fv_command.specs.declared.ending.Refusal.{Refusal}
+use Rattle.fv_command.specs.declared.ending.Refusal.TheVariants.{Input, OneOfTwo, Hobs}
 use Rattle.fv_text.specs.PortViews.{Change}
 use Rattle.fv_command.specs.declared.status.Status.{Status}
-use Rattle.fv_command.specs.declared.status.Status.TheVariants.{Done, Refused}
+use Rattle.fv_command.specs.declared.status.Status.TheVariants.{Done}
 
 -- with a base, an image was read to its end; without one, nothing was read, and there are no bytes
 abbrev pub GivesImage : Bool → Option ℕ → Change → List ℕ → Type 0
@@ -46,14 +47,12 @@ RefusesHobs hex base first second fault =
     (list : List ℕ) × (image : List ℕ) × Gives hex first.old first.new list × GivesImage hex base second image
     × ((fault ≡ hob_out_of_memory) ⊎ IsFirstHobFault list fault)
 
--- the text is the line of the fault of an input, or of the fault of a hand-off list
-abbrev pub RefusalOfHobs : Bool → Option ℕ → (first second : Change) → List ℕ → Type 0
-RefusalOfHobs hex base first second text =
-    ((fault : Fault) × HobInputStops hex base first second fault × (text ≡ fault_line fault))
-    ⊎ ((fault : HobFault) × RefusesHobs hex base first second fault × (text ≡ hob_fault_line fault))
-
 -- what a run over a hand-off list says, and with which status
 abbrev pub SaysHobs : Option ℕ → Bool → (first second : Change) → Status → List ℕ → Type 0
-SaysHobs base hex first second status text =
-    ((status ≡ Done) × ListsHobs hex base first second text)
-    ⊎ ((status ≡ Refused) × RefusalOfHobs hex base first second text)
+SaysHobs base hex first second status text = (status ≡ Done) × ListsHobs hex base first second text
+
+-- why such a run is refused: for the fault of an input, or for that of a hand-off list
+abbrev pub StopsHobs : Option ℕ → Bool → (first second : Change) → Refusal → Type 0
+StopsHobs base hex first second (Input fault) = HobInputStops hex base first second fault
+StopsHobs base hex first second (Hobs fault) = RefusesHobs hex base first second fault
+StopsHobs base hex first second (OneOfTwo side fault) = ⊥

@@ -1,7 +1,6 @@
 -- The definitions in the order in which they can be read.
 pub mod CheckTexts
 pub mod Extractions
-pub mod Lines
 pub mod Endings
 pub mod Inputs
 pub mod SideRuns
@@ -9,6 +8,5 @@ pub mod Sources
 pub mod HobRuns
 pub mod SumTexts
 pub mod Tasks
-pub mod TaskRuns
 pub mod Runs
 pub mod inner

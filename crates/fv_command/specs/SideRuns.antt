@@ -2,18 +2,17 @@
 use Rattle.std.specs.Prelude.{◌≡◌, ◌≢◌, ◌⊎◌, ℕ, Bool, List, Option}
 use Rattle.fv_base.specs.Faults.{out_of_memory}
 use Rattle.fv_base.specs.declared.fault.Fault.{Fault}
-use Rattle.fv_canon.specs.Runs.{VolumeStops}
-use Rattle.fv_canon.specs.ComparisonLines.{compare_line}
-use Rattle.fv_canon.specs.declared.side.Side.{Side}
-use Rattle.fv_canon.specs.declared.side.Side.TheVariants as sides
+use Rattle.fv_compare.specs.Runs.{VolumeStops}
+use Rattle.fv_compare.specs.ComparisonLines.{compare_line}
+use Rattle.fv_compare.specs.declared.side.Side.{Side}
+use Rattle.fv_compare.specs.declared.side.Side.TheVariants as sides
 use Rattle.fv_tree.specs.Denotes.{Accepted}
-use Rattle.fv_tree.specs.Difference.{difference}
+use Rattle.fv_compare.specs.Difference.{difference}
 use Rattle.fv_tree.specs.Meaning.{Meaning}
 use Rattle.fv_command.specs.Inputs.{GivesAt, GivingStops}
-use Rattle.fv_command.specs.Lines.{side_fault_line}
 use Rattle.fv_text.specs.PortViews.{Change}
 use Rattle.fv_command.specs.declared.status.Status.{Status}
-use Rattle.fv_command.specs.declared.status.Status.TheVariants.{Done, Different, Refused}
+use Rattle.fv_command.specs.declared.status.Status.TheVariants.{Done, Different}
 
 -- an input was read to its end, and it, or what begins at byte `at` of it, is a volume with this meaning
 abbrev pub GivesVolume : Bool → Option ℕ → Change → Meaning → Type 0
@@ -40,10 +39,8 @@ SideStops sides.Output hex at other first second fault = ⊥
 abbrev pub IsVerdict : Meaning → Meaning → Status → Type 0
 IsVerdict m k status = ((status ≡ Done) × (m ≡ k)) ⊎ ((status ≡ Different) × (m ≢ k))
 
--- what a comparison says, and with which status: where two volumes first differ, or the line of the fault of a side
+-- what a comparison says, and with which status: where two volumes first differ
 abbrev pub SaysComparison : Bool → (at other : Option ℕ) → (first second : Change) → Status → List ℕ → Type 0
 SaysComparison hex at other first second status text =
-    ((m : Meaning) × (k : Meaning) × GivesVolume hex at first m × GivesVolume hex other second k
-    × IsVerdict m k status × (text ≡ compare_line (difference m k)))
-    ⊎ ((status ≡ Refused) × ((side : Side) × (fault : Fault) × SideStops side hex at other first second fault
-    × (text ≡ side_fault_line side fault)))
+    (m : Meaning) × (k : Meaning) × GivesVolume hex at first m × GivesVolume hex other second k
+    × IsVerdict m k status × (text ≡ compare_line (difference m k))

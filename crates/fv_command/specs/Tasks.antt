@@ -1,10 +1,11 @@
--- What the tasks over one input say of it.
-use Rattle.std.specs.Prelude.{◌≡◌, ◌⊎◌, ℕ, Bool, true, false, List, codes}
+-- What the tasks over one input say of it, and what stops them.
+use Rattle.std.specs.Prelude.{◌≡◌, ◌⊎◌, ℕ, Bool, true, false, List, Option, codes}
 use Rattle.fv_base.specs.Faults.{out_of_memory}
 use Rattle.fv_base.specs.declared.fault.Fault.{Fault}
 use Rattle.fv_canon.specs.Headline.{NormalisesTo}
 use Rattle.fv_canon.specs.LayoutFaults.{Unfit}
-use Rattle.fv_canon.specs.Refusals.{NotRead, Refuses}
+use Rattle.fv_tree.specs.Inputs.{NotRead}
+use Rattle.fv_canon.specs.Refusals.{Refuses}
 use Rattle.fv_canon.specs.FlashImages.{NormalisesAll, RefusesAll}
 use Rattle.fv_tree.specs.FoundVolumes.{Found}
 use Rattle.fv_tree.specs.Meaning.{Meaning, files_of}
@@ -13,7 +14,8 @@ use Rattle.fv_lines.specs.CellTexts.{CellsText}
 use Rattle.fv_tree.specs.LocatedFiles.{NotTiled}
 use Rattle.fv_command.specs.CheckTexts.{CheckText}
 use Rattle.fv_text.specs.HexText.{ShowsBytes}
-use Rattle.fv_command.specs.Inputs.{BeginsWith, BeginsNone}
+use Rattle.fv_text.specs.PortViews.{Change}
+use Rattle.fv_command.specs.Inputs.{BeginsWith, BeginsNone, GivesAt, GivingStops}
 use Rattle.fv_lines.specs.ScanLines.{ScanText}
 use Rattle.fv_lines.specs.ListTexts.{ListText}
 use Rattle.fv_command.specs.SumTexts.{SumsText}
@@ -62,3 +64,15 @@ Denies (Extract part) input fault =
 Denies Check input fault = (fault ≡ out_of_memory) ⊎ NotRead input fault
 Denies Cells input fault = (fault ≡ out_of_memory) ⊎ NotTiled input fault
 Denies Scan input fault = fault ≡ out_of_memory
+
+-- the input stops the task: while it is read; or it was read to its end, and what is taken of it is rejected, or memory
+-- ran out
+abbrev pub StopsTask : Task → Bool → Option ℕ → Change → Fault → Type 0
+StopsTask task hex at input fault =
+    GivingStops hex input.old input.new fault
+    ⊎ ((bytes : List ℕ) × GivesAt hex at input.old input.new bytes × Denies task bytes fault)
+
+-- the input was read to its end, and the task says this text of what is taken of it, with this status
+abbrev pub SaysTask : Task → Bool → Option ℕ → Change → Status → List ℕ → Type 0
+SaysTask task hex at input status text =
+    (bytes : List ℕ) × GivesAt hex at input.old input.new bytes × Says task hex bytes status text

@@ -4,7 +4,7 @@ ghost use Rattle.std.specs.Prelude.{◌≡◌, ◌⊎◌, ℕ, Bool, List, optio
 ghost use Rattle.fv_base.specs.Faults.{out_of_memory};
 ghost use Rattle.fv_command.specs.CheckTexts.{CheckText};
 ghost use Rattle.fv_command.specs.inner.CheckRuns.{NotedText};
-ghost use Rattle.fv_command.specs.inner.TaskSteps.{Performs};
+ghost use Rattle.fv_command.specs.inner.RunSteps.{Performs};
 ghost use Rattle.fv_tree.specs.Denotes.{Accepted};
 
 use crate::pads::{noted_cells, put_pads};

@@ -1,15 +1,13 @@
 //! Two volumes, compared.
 
 ghost use Rattle.std.specs.Prelude.{◌≡◌, ℕ, List, IfErr, IfOk, Option};
-ghost use Rattle.fv_canon.specs.Runs.{VolumeStops};
+ghost use Rattle.fv_compare.specs.Runs.{VolumeStops};
 ghost use Rattle.fv_tree.specs.Denotes.{Accepted};
 ghost use Rattle.fv_command.specs.Inputs.{Gives, GivingStops};
 ghost use Rattle.fv_text.specs.PortViews.{Change, change, shown};
-ghost use Rattle.fv_command.specs.SideRuns.{GivesVolume, SaysComparison};
-ghost use Rattle.fv_command.specs.inner.CommandSteps.{Puts};
-ghost use Rattle.fv_command.specs.inner.SideSteps.{Compares, verdict_of};
+ghost use Rattle.fv_command.specs.SideRuns.{GivesVolume};
+ghost use Rattle.fv_command.specs.inner.RunSteps.{Compares, verdict_of};
 
-use crate::ending::Refusal;
 use crate::inputs::{read_bytes, taken_at};
 use crate::status::Status;
 use fv_base::{Fault, Port, Sink};
@@ -80,25 +78,6 @@ fn compare_with<Second: Read, S: Sink>(
     }
 }
 
-// Puts whether the volumes that the two readers give have the same meaning and, if not, where they
-// first differ. A fault is returned with the side that stopped the run; nothing was put then.
-fn compare_inputs<First: Read, Second: Read, S: Sink>(
-    alloc: Global,
-    hex: bool,
-    at: Option<u64>,
-    other_at: Option<u64>,
-    first: &mut Port<First>,
-    second: &mut Port<Second>,
-    out: &mut S,
-) -> Result<Status, (Side, Fault)>
-    ensures { Compares S.takes hex at other_at (change First.remaining first.old first.new)
-        (change Second.remaining second.old second.new) out.old out.new result }
-{
-    let bytes = read_side(alloc, hex, Side::First, first)?;
-    let volume = accept_side(alloc, Side::First, taken_at(&bytes, at))?;
-    compare_with(alloc, hex, other_at, &volume, second, out)
-}
-
 /// Puts whether two volumes have the same meaning and, if not, where they first differ. If `at` is
 /// a number, the first is the volume at this byte of its input. `other_at` says the same of the
 /// second. The second input is read only after a first that is a volume.
@@ -115,12 +94,11 @@ pub fn put_compared<First: Read, Second: Read, S: Sink>(
     first: &mut Port<First>,
     second: &mut Port<Second>,
     out: &mut S,
-) -> Result<Status, Refusal>
-    ensures { Puts S.takes (SaysComparison hex at other_at (change First.remaining first.old first.new)
-        (change Second.remaining second.old second.new)) out.old out.new result }
+) -> Result<Status, (Side, Fault)>
+    ensures { Compares S.takes hex at other_at (change First.remaining first.old first.new)
+        (change Second.remaining second.old second.new) out.old out.new result }
 {
-    match compare_inputs(alloc, hex, at, other_at, first, second, out) {
-        Ok(status) => Ok(status),
-        Err((side, fault)) => Err(Refusal::OneOfTwo(side, fault)),
-    }
+    let bytes = read_side(alloc, hex, Side::First, first)?;
+    let volume = accept_side(alloc, Side::First, taken_at(&bytes, at))?;
+    compare_with(alloc, hex, other_at, &volume, second, out)
 }

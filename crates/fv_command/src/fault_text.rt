@@ -3,9 +3,8 @@
 
 ghost use Rattle.std.specs.Prelude.{◌≡◌, ◌≢◌, ◌++◌, true};
 ghost use Rattle.fv_base.specs.Port.{is_flushed};
-ghost use Rattle.fv_command.specs.Endings.{Ends};
-ghost use Rattle.fv_command.specs.Lines.{numbered_line, refusal_line, side_fault_line};
-ghost use Rattle.fv_command.specs.inner.EndSteps.{Written};
+ghost use Rattle.fv_command.specs.Endings.{Ends, numbered_line, refusal_line, side_fault_line};
+ghost use Rattle.fv_command.specs.inner.RunSteps.{Written};
 ghost use Rattle.fv_text.specs.PortViews.{change, shown};
 
 use crate::ending::{Ending, Refusal};

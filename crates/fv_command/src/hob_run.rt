@@ -1,9 +1,9 @@
 //! A run over a hand-off list, and the image in which its volumes are looked for.
 
 ghost use Rattle.std.specs.Prelude.{◌≡◌, ℕ, List, IfOk, IfErr};
-ghost use Rattle.fv_command.specs.HobRuns.{GivesImage, HobImageStops, HobInputStops, SaysHobs};
+ghost use Rattle.fv_command.specs.HobRuns.{GivesImage, HobImageStops, HobInputStops, SaysHobs, StopsHobs};
 ghost use Rattle.fv_command.specs.Inputs.{Gives};
-ghost use Rattle.fv_command.specs.inner.CommandSteps.{Puts};
+ghost use Rattle.fv_command.specs.inner.RunSteps.{Puts};
 ghost use Rattle.fv_lines.specs.HobLines.{held_image, image_form};
 ghost use Rattle.fv_text.specs.PortViews.{change, shown};
 
@@ -76,8 +76,10 @@ pub fn put_hob_list<First: Read, Second: Read, S: Sink>(
     second: &mut Port<Second>,
     out: &mut S,
 ) -> Result<Status, Refusal>
-    ensures { Puts S.takes (SaysHobs base hex (change First.remaining first.old first.new)
-        (change Second.remaining second.old second.new)) out.old out.new result }
+    ensures { Puts S.takes
+        (SaysHobs base hex (change First.remaining first.old first.new) (change Second.remaining second.old second.new))
+        (StopsHobs base hex (change First.remaining first.old first.new) (change Second.remaining second.old second.new))
+        out.old out.new result }
 {
     let (list, image) = match read_inputs(alloc, hex, base, first, second) {
         Ok(inputs) => inputs,

@@ -1,12 +1,15 @@
-//! The canonical image of a volume, put as it is or as lines of hexadecimal digits.
+//! The images that a task puts: that of a volume, and a flash image with its volumes in canonical
+//! form.
 
+ghost use Rattle.std.specs.Prelude.{IfOk, IfErr};
+ghost use Rattle.fv_canon.specs.FlashImages.{NormalisesAll};
 ghost use Rattle.fv_canon.specs.Image.{IsImage};
-ghost use Rattle.fv_command.specs.inner.TaskSteps.{Performs};
+ghost use Rattle.fv_command.specs.Tasks.{Denies};
+ghost use Rattle.fv_tree.specs.Denotes.{Accepted};
 
-use crate::shown_image::{Image, put_shown_image};
-use crate::status::Status;
+use crate::shown_image::Image;
 use fv_base::{Fault, Sink};
-use fv_canon::{Layout, layout, put_canonical, whole_volume};
+use fv_canon::{LaidImage, Layout, layout, put_canonical, put_laid_image, whole_volume};
 use fv_plan::Task;
 use fv_tree::VolumeView;
 use std::alloc::Global;
@@ -14,7 +17,7 @@ use std::marker::Model;
 
 /// A volume that is laid out. Contracts see its meaning.
 #[derive(Drop)]
-struct LaidVolume<'a> {
+pub struct LaidVolume<'a> {
     volume: VolumeView<'a>,
     places: Layout,
 }
@@ -41,22 +44,24 @@ impl<'a> Image for LaidVolume<'a> {
     }
 }
 
-/// Puts the canonical image of the volume that the input is: as lines of digits if `hex`, otherwise
-/// as it is. The image is not kept in memory.
+impl<'a> Image for LaidImage<'a> {
+    ghost is = { NormalisesAll };
+
+    fn put_into<S: Sink>(&self, out: &mut S) {
+        put_laid_image(self, out);
+    }
+}
+
+/// The volume that the input is, laid out.
 ///
 /// # Errors
 ///
-/// Those of `fv_canon::normalise`. Nothing was put then.
-pub fn put_normalised<S: Sink>(
-    alloc: Global,
-    hex: bool,
-    input: &[u8],
-    out: &mut S,
-) -> Result<Status, Fault>
-    ensures { Performs S.takes Task.Normalise hex input.now out.old out.new result }
+/// Those of `fv_canon::normalise`.
+pub fn lay_out_volume(alloc: Global, input: &[u8]) -> Result<LaidVolume<'_>, Fault>
+    ensures ok { IfOk result (λ laid. Accepted input.now laid) }
+    ensures err { IfErr result (Denies Task.Normalise input.now) }
 {
     let volume = whole_volume(alloc, input)?;
     let places = layout(alloc, &volume)?;
-    put_shown_image(out, hex, &LaidVolume { volume, places });
-    Ok(Status::Done)
+    Ok(LaidVolume { volume, places })
 }

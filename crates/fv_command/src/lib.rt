@@ -10,7 +10,6 @@ mod digest_sink;
 mod ending;
 mod extracting;
 mod fault_text;
-mod flash_run;
 mod hob_run;
 mod image_digests;
 mod image_run;

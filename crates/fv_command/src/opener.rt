@@ -2,7 +2,6 @@
 
 ghost use Rattle.std.specs.Prelude.{◌≡◌, ◌≢◌, ℕ, List, Option, true, false};
 ghost use Rattle.fv_base.specs.Port.{has_erred, inner_of, is_flushed};
-ghost use Rattle.fv_command.specs.Endings.{Reports};
 ghost use Rattle.fv_command.specs.Runs.{RunsOver};
 ghost use Rattle.fv_command.specs.Sources.{IsFirstSource, IsOpened, IsSecondSource};
 ghost use Rattle.fv_plan.specs.Files.{first_file, second_file};
@@ -100,10 +99,7 @@ pub fn run_over<O: Opener, W: Write>(
     writer: &mut Port<W>,
 ) -> Ending
     ensures runs { RunsOver O.Standard.remaining O.File.remaining (O.opens opener.now) (O.is_standard opener.now)
-        plan.now result.status (change W.contents writer.old writer.new) }
-
-    // A refusal that is returned is the one whose line was written, or a write failed in it.
-    ensures why { Reports result (change W.contents writer.old writer.new) }
+        plan.now result (change W.contents writer.old writer.new) }
 
     // The last call of the writer was a flush, unless the status is Refused.
     ensures flushed { result.status ≢ Status.Refused → is_flushed writer.new ≡ true }

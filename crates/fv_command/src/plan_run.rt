@@ -1,12 +1,10 @@
 //! The commands, run over readers and a writer.
 
-ghost use Rattle.std.specs.Prelude.{◌≡◌, ◌≢◌, ℕ, List, option_map, true};
+ghost use Rattle.std.specs.Prelude.{◌≡◌, ◌≢◌, ℕ, Bool, List, option_map, true};
 ghost use Rattle.fv_base.specs.Port.{is_flushed};
-ghost use Rattle.fv_command.specs.Endings.{Reports};
-ghost use Rattle.fv_command.specs.inner.CommandSteps.{HasLine, Puts};
-ghost use Rattle.fv_command.specs.inner.EndSteps.{Written};
-ghost use Rattle.fv_text.specs.PortViews.{change, shown};
-ghost use Rattle.fv_command.specs.Runs.{Runs, SaysCommand};
+ghost use Rattle.fv_command.specs.inner.RunSteps.{PutsCommand};
+ghost use Rattle.fv_text.specs.PortViews.{Change, change};
+ghost use Rattle.fv_command.specs.Runs.{HasText, Runs};
 
 use crate::comparison_run::put_compared;
 use crate::ending::{Ending, Refusal};
@@ -39,35 +37,36 @@ fn put_command<First: Read, Second: Read, S: Sink>(
     second: &mut Port<Second>,
     out: &mut S,
 ) -> Result<Status, Refusal>
-    ensures { Puts S.takes (SaysCommand plan.now.command plan.now.hex (change First.remaining first.old first.new)
-        (change Second.remaining second.old second.new)) out.old out.new result }
+    ensures { PutsCommand S.takes plan.now.command plan.now.hex (change First.remaining first.old first.new)
+        (change Second.remaining second.old second.new) out.old out.new result }
 {
     match &plan.command {
-        Command::Single { task, at, .. } => put_task(alloc, task, plan.hex, *at, first, out),
+        Command::Single { task, at, .. } => match put_task(alloc, task, plan.hex, *at, first, out) {
+            Ok(status) => Ok(status),
+            Err(fault) => Err(Refusal::Input(fault)),
+        },
         Command::Hobs { image, .. } => {
             put_hob_list(alloc, plan.hex, base_of(image), first, second, out)
         }
         Command::Compare {
             first: volume,
             second: other,
-        } => put_compared(alloc, plan.hex, volume.at, other.at, first, second, out),
+        } => match put_compared(alloc, plan.hex, volume.at, other.at, first, second, out) {
+            Ok(status) => Ok(status),
+            Err((side, fault)) => Err(Refusal::OneOfTwo(side, fault)),
+        },
     }
 }
 
-// Puts what the command of a plan says of its inputs, or the line of the refusal that stops the
-// run.
-fn put_plan<First: Read, Second: Read, S: Sink>(
-    alloc: Global,
-    plan: &Plan,
-    first: &mut Port<First>,
-    second: &mut Port<Second>,
-    out: &mut S,
-) -> Ending
-    ensures { (text : List ℕ) × SaysCommand plan.now.command plan.now.hex
-        (change First.remaining first.old first.new) (change Second.remaining second.old second.new) result.status text
-        × HasLine result text × S.takes out.old text out.new }
+// Puts the line of the refusal that stopped a command, if one did. Returns how its run ends if all
+// of the text is written.
+fn ending_of<S: Sink>(outcome: Result<Status, Refusal>, out: &mut S) -> Ending
+    // Whatever the command is, and the sink before it.
+    ensures { (command : Command) (hex : Bool) (first second : Change) (before : S)
+        → PutsCommand S.takes command hex first second before out.old outcome
+        → (text : List ℕ) × HasText command hex first second result.refusal result.status text × S.takes before text out.new }
 {
-    match put_command(alloc, plan, first, second, out) {
+    match outcome {
         Ok(status) => Ending {
             status,
             refusal: None,
@@ -82,7 +81,8 @@ fn put_plan<First: Read, Second: Read, S: Sink>(
     }
 }
 
-// The same, into a sink that gathers small pieces for the sink below, which is returned.
+// Puts the text of a run of a plan into the sink below, which is returned: small pieces of it are
+// gathered.
 fn gather_plan<First: Read, Second: Read, S: Sink>(
     below: S,
     alloc: Global,
@@ -91,30 +91,13 @@ fn gather_plan<First: Read, Second: Read, S: Sink>(
     second: &mut Port<Second>,
     ending: &mut Ending,
 ) -> S
-    ensures { (text : List ℕ) × SaysCommand plan.now.command plan.now.hex
-        (change First.remaining first.old first.new) (change Second.remaining second.old second.new) ending.new.status text
-        × HasLine ending.new text × S.takes below text result }
+    ensures { (text : List ℕ) × HasText plan.now.command plan.now.hex (change First.remaining first.old first.new)
+        (change Second.remaining second.old second.new) ending.new.refusal ending.new.status text × S.takes below text result }
 {
     let mut out = GatheringSink::new(below);
-    *ending = put_plan(alloc, plan, first, second, &mut out);
+    let outcome = put_command(alloc, plan, first, second, &mut out);
+    *ending = ending_of(outcome, &mut out);
     out.finish()
-}
-
-// Writes what the command of a plan says. Returns whether all of it was written.
-fn write_plan<First: Read, Second: Read, W: Write>(
-    alloc: Global,
-    plan: &Plan,
-    first: &mut Port<First>,
-    second: &mut Port<Second>,
-    writer: &mut Port<W>,
-    ending: &mut Ending,
-) -> bool
-    ensures { (text : List ℕ) × SaysCommand plan.now.command plan.now.hex
-        (change First.remaining first.old first.new) (change Second.remaining second.old second.new) ending.new.status text
-        × HasLine ending.new text × Written result text (shown W.contents writer.old) (shown W.contents writer.new) }
-{
-    let out = gather_plan(WriteSink::new(writer), alloc, plan, first, second, ending);
-    is_whole(&out)
 }
 
 /// Runs a plan, and writes its result or the line of a fault. A command with one input reads
@@ -122,7 +105,8 @@ fn write_plan<First: Read, Second: Read, W: Write>(
 ///
 /// The status is Done or Different if the whole result was written. Different is for two volumes
 /// that differ, for a part that does not exist, and for a volume that is not its own image. Else
-/// it is Refused: an input was rejected, memory ran out, or a write failed.
+/// it is Refused: an input was rejected, memory ran out, or a write failed. A refusal is returned
+/// exactly if an input was rejected or memory ran out.
 pub fn run_plan<First: Read, Second: Read, W: Write>(
     alloc: Global,
     plan: &Plan,
@@ -130,15 +114,13 @@ pub fn run_plan<First: Read, Second: Read, W: Write>(
     second: &mut Port<Second>,
     writer: &mut Port<W>,
 ) -> Ending
-    // By the command and the status: what was read of each input, and what was written.
-    ensures runs { Runs plan.now result.status (record {
+    // By the command, the refusal and the status: what was read of each input, and what was
+    // written.
+    ensures runs { Runs plan.now result (record {
       first = change First.remaining first.old first.new;
       second = change Second.remaining second.old second.new;
       output = change W.contents writer.old writer.new;
     }) }
-
-    // A refusal that is returned is the one whose line was written, or a write failed in it.
-    ensures why { Reports result (change W.contents writer.old writer.new) }
 
     // The last call of the writer was a flush, unless the status is Refused.
     ensures flushed { result.status ≢ Status.Refused → is_flushed writer.new ≡ true }
@@ -147,7 +129,15 @@ pub fn run_plan<First: Read, Second: Read, W: Write>(
         status: Status::Refused,
         refusal: None,
     };
-    let is_written = write_plan(alloc, plan, first, second, writer, &mut ending);
+    let out = gather_plan(
+        WriteSink::new(writer),
+        alloc,
+        plan,
+        first,
+        second,
+        &mut ending,
+    );
+    let is_written = is_whole(&out);
     let status = finish(writer, is_written, ending.status);
     Ending {
         status,

@@ -4,7 +4,7 @@ ghost use Rattle.std.specs.Prelude.{◌≡◌, ◌≢◌, ℕ, List, true};
 ghost use Rattle.fv_base.specs.Port.{is_flushed};
 ghost use Rattle.fv_base.specs.Sinks.{is_writing};
 ghost use Rattle.fv_command.specs.Endings.{Ends};
-ghost use Rattle.fv_command.specs.inner.EndSteps.{Written};
+ghost use Rattle.fv_command.specs.inner.RunSteps.{Written};
 ghost use Rattle.fv_text.specs.PortViews.{Shown, shown};
 
 use crate::status::Status;

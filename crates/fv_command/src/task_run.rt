@@ -1,27 +1,24 @@
 //! The tasks over one input.
 
-ghost use Rattle.std.specs.Prelude.{◌≡◌, ◌⊎◌, ℕ, Bool, List, IfOk, IfErr, MatchResult};
+ghost use Rattle.std.specs.Prelude.{◌≡◌, ◌⊎◌, ℕ, Bool, List, IfOk, IfErr};
 ghost use Rattle.fv_base.specs.Faults.{out_of_memory};
 ghost use Rattle.fv_text.specs.PortViews.{change};
 ghost use Rattle.fv_tree.specs.FileNames.{file_named};
 ghost use Rattle.fv_tree.specs.Meaning.{Meaning, files_of};
 ghost use Rattle.fv_command.specs.Extractions.{IsPart};
 ghost use Rattle.fv_command.specs.Inputs.{BeginsNone, BeginsWith};
-ghost use Rattle.fv_command.specs.TaskRuns.{SaysTask, StopsTask};
-ghost use Rattle.fv_command.specs.Tasks.{Denies, PartText};
-ghost use Rattle.fv_command.specs.inner.CommandSteps.{Puts};
-ghost use Rattle.fv_command.specs.inner.TaskSteps.{Performs};
+ghost use Rattle.fv_command.specs.Tasks.{Denies, PartText, SaysTask, StopsTask};
+ghost use Rattle.fv_command.specs.inner.RunSteps.{Performs, Puts};
 
 use crate::check_run::put_check;
-use crate::ending::Refusal;
 use crate::extracting::{Extraction, extract};
-use crate::flash_run::put_normalised_all;
 use crate::image_digests::ImageDigests;
-use crate::image_run::put_normalised;
+use crate::image_run::lay_out_volume;
 use crate::inputs::{read_bytes, taken_at};
+use crate::shown_image::put_shown_image;
 use crate::status::Status;
 use fv_base::{Fault, Port, Sink};
-use fv_canon::layout;
+use fv_canon::{lay_out_image, layout};
 use fv_lines::{put_cells, put_list, put_list_with, put_volumes};
 use fv_plan::{Part, Task};
 use fv_text::put_shown;
@@ -135,8 +132,14 @@ fn perform<S: Sink>(
     ensures { Performs S.takes task.now hex input.now out.old out.new result }
 {
     match task {
-        Task::Normalise => put_normalised(alloc, hex, input, out),
-        Task::NormaliseAll => put_normalised_all(alloc, hex, input, out),
+        Task::Normalise => {
+            put_shown_image(out, hex, &lay_out_volume(alloc, input)?);
+            Ok(Status::Done)
+        }
+        Task::NormaliseAll => {
+            put_shown_image(out, hex, &lay_out_image(alloc, input)?);
+            Ok(Status::Done)
+        }
         Task::List => list(alloc, input, out),
         Task::ListSums => list_sums(alloc, input, out),
         Task::Extract(part) => extract_part(alloc, hex, input, part, out),
@@ -144,25 +147,6 @@ fn perform<S: Sink>(
         Task::Cells => cells(alloc, input, out),
         Task::Scan => scan(alloc, input, out),
     }
-}
-
-// Reads an input to its end, and puts the result of the task for it. If a fault stops the run,
-// nothing was put.
-fn read_and_perform<R: Read, S: Sink>(
-    alloc: Global,
-    task: &Task,
-    hex: bool,
-    at: Option<u64>,
-    reader: &mut Port<R>,
-    out: &mut S,
-) -> Result<Status, Fault>
-    ensures { MatchResult result
-        (λ status. (text : List ℕ) × SaysTask task.now hex at (change R.remaining reader.old reader.new) status text
-        × S.takes out.old text out.new)
-        (λ f. StopsTask task.now hex at (change R.remaining reader.old reader.new) f × (out.new ≡ out.old)) }
-{
-    let input = read_bytes(alloc, hex, reader)?;
-    perform(alloc, task, hex, taken_at(&input, at), out)
 }
 
 /// Reads an input to its end, and puts the result of the task for it. If `at` is a number, the
@@ -178,11 +162,10 @@ pub fn put_task<R: Read, S: Sink>(
     at: Option<u64>,
     reader: &mut Port<R>,
     out: &mut S,
-) -> Result<Status, Refusal>
-    ensures { Puts S.takes (SaysTask task.now hex at (change R.remaining reader.old reader.new)) out.old out.new result }
+) -> Result<Status, Fault>
+    ensures { Puts S.takes (SaysTask task.now hex at (change R.remaining reader.old reader.new))
+        (StopsTask task.now hex at (change R.remaining reader.old reader.new)) out.old out.new result }
 {
-    match read_and_perform(alloc, task, hex, at, reader, out) {
-        Ok(status) => Ok(status),
-        Err(fault) => Err(Refusal::Input(fault)),
-    }
+    let input = read_bytes(alloc, hex, reader)?;
+    perform(alloc, task, hex, taken_at(&input, at), out)
 }

@@ -1,4 +1,7 @@
--- An op is there where its checks hold.
+-- An op is there where its checks hold. The steps:
+-- 1. An op is known by its code and its GUID (`op_of_code`, `op_back`).
+-- 2. Where the checks hold, an op is there (`op_stands`), and where one is, they hold (`checks_hold`).
+-- 3. Bytes begin with one op at most (`same_op`).
 use Rattle.std.proofs.lemmas.Grind.{common_steps}
 use Rattle.std.proofs.Common.{◌≡◌, ◌≤◌, ℕ, zero, suc, List, [], ◌∷◌, ◌++◌, length, drop, refl, sym, ap, ◌∙◌, arith, Bool, true, false}
 use Rattle.std.proofs.Common.{length-append, length-drop}

@@ -1,4 +1,9 @@
--- Ops that may follow one another are those of whole expressions.
+-- Ops that may follow one another are those of whole expressions. The steps:
+-- 1. Paths are joined (`path_join`), and each op of a path has its whole operand (`path_sized`).
+-- 2. The ops up to a stage are those of some trees, after SOR or nothing, or BEFORE or AFTER (`LeavesStage`). It is so at the start, and
+--    with one op more (`leaves_more`). With END they are a whole expression (`leaves_whole`).
+-- 3. Back: the ops of a tree are a path (`tree_path`), so a whole expression is a path and END (`whole_ended`).
+-- 4. Bytes have one path at most (`same_front`), so one list of ops at most spells them (`one_spelling`).
 use Rattle.std.proofs.lemmas.Grind.{common_steps}
 use Rattle.std.proofs.Common.{◌≡◌, ◌≢◌, ◌≤◌, ◌<◌, ℕ, ◌+◌, ◌-◌, List, [], ◌∷◌, ◌++◌, length, drop, inl, inr, refl, sym, ap, ◌∙◌, subst}
 use Rattle.std.proofs.Common.{arith, true, false, length-append, append_assoc, append-nil}

@@ -1,4 +1,9 @@
--- What the loop over the ops keeps, and what its ends say.
+-- What the loop over the ops keeps, and what its ends say. The steps:
+-- 1. The ops that were read spell the bytes up to a place (`OpsKept`): none at first (`kept_none`), and then one more (`one_more`, `kept`).
+-- 2. With END they spell a whole expression (`ended`).
+-- 3. Memory runs out only where the bytes begin with an op (`stands_first`, `spells_first`). No check has OutOfMemory as its fault
+--    (`no_want`).
+-- 4. The fault of the next op is the first fault (`first_fault_at`), and bytes with a first fault spell no expression (`none_after`).
 use Rattle.std.proofs.lemmas.Grind.{common_steps}
 use Rattle.std.proofs.Common.{◌≡◌, ◌≢◌, ◌≤◌, ℕ, suc, ◌+◌, List, [], ◌∷◌, ◌++◌, length, take, drop, refl, sym, ap, ◌∙◌, subst, arith}
 use Rattle.std.proofs.Common.{length-append, length-drop, append_assoc, append-nil}
@@ -137,10 +142,8 @@ spells_first phase b xs s spells =
 pub no_want : (phase : Phase) (stage : Stage) (r : List ℕ) (kind : DepexFaultKind) → IsFirstFault (op_checks phase stage r) kind
     → kind ≢ kinds.OutOfMemory
 no_want phase stage r kind first =
-    let P : DepexFaultKind → Type 0 = λ k. k ≢ kinds.OutOfMemory in
-    let all : AllByRecursion (λ c. P c.fault) (op_checks phase stage r) =
-    ((λ t. cc), ((λ t. cc), ((λ t. cc), ((λ t. cc), ((λ t. cc), tt))))) in
-    first_among P (op_checks phase stage r) kind all first
+    first_among (λ (k : DepexFaultKind). k ≢ kinds.OutOfMemory) (op_checks phase stage r) kind
+    ((λ t. cc), ((λ t. cc), ((λ t. cc), ((λ t. cc), ((λ t. cc), tt))))) first
 
 -- a fault at the next op is that of the first op that has one
 pub first_fault_at : (phase : Phase) (b : List ℕ) (items : List Op) (at : ℕ) (stage : Stage) (f : DepexFault)

@@ -1,4 +1,8 @@
--- Ops leave the truth of their tree.
+-- Ops leave the truth of their tree. The steps:
+-- 1. The ops of a tree leave its truth on the stack (`run_tree`). So a tree has its truth (`truth_of_tree`), and BEFORE and AFTER have none
+--    (`none_of_order`).
+-- 2. A loop runs the ops one by one (`run_step`, `run_none`, `run_end`).
+-- 3. Ops build their tree again (`build_tree`), so they are those of one tree at most (`one_tree`).
 use Rattle.std.proofs.lemmas.Grind.{common_steps}
 use Rattle.std.proofs.Common.{◌≡◌, ◌≤◌, ◌+◌, ℕ, length, drop, List, [], ◌∷◌, ◌++◌, refl, sym, ap, ◌∙◌, Bool, append_assoc, arith}
 use Rattle.std.specs.Prelude.{Option, None, Some, Result, Ok, Err, IfOk}

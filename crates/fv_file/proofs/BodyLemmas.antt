@@ -1,12 +1,15 @@
--- A body is tiled in one way, or there is a first place that has no cell.
+-- A body is tiled in one way, or there is a first place that has no cell. The steps:
+-- 1. The cells that were read tile the body up to a place (`CellsKept`), also with one more (`stands_in`, `kept`).
+-- 2. The loop ends where the body does (`whole_kept`), where the rest is free (`free_kept`), or at the first fault (`first_here`).
+-- 3. A body is tiled in one way (`only_one`). A tiling goes on from each place that such cells reach (`goes_on`), so there is none where a
+--    check fails (`none_after`).
 use Rattle.std.proofs.lemmas.Grind.{common_steps}
 use Rattle.std.proofs.Common.{◌≡◌, ◌≤◌, ◌<◌, ℕ, ◌+◌, ◌-◌, ◌%◌, List, [], ◌∷◌, ◌++◌, length, take, drop, map, sym, ap, ◌∙◌, subst, arith}
 use Rattle.std.proofs.Common.{true, false, length-drop, length-append}
-use Rattle.std.specs.Prelude.{◌≢◌, Result, Ok, Err, IfErr, IsErrAnd}
+use Rattle.std.specs.Prelude.{Ok, Err}
 use Rattle.std.proofs.lemmas.List.{take-append-drop, length-take-le, map_push, take_all}
 use Rattle.std.proofs.Math.Seq.{take-add}
 use Rattle.fv_base.specs.Checks.{Which}
-use Rattle.fv_base.specs.Faults.{out_of_memory}
 use Rattle.fv_base.specs.Flash.{AllAre, erased_byte}
 use Rattle.fv_base.specs.Measures.{all_are}
 use Rattle.fv_base.specs.declared.fault.Fault.{Fault}
@@ -145,14 +148,3 @@ all_within s p at (c ∷ cs) b (x, rest, e, is, o, last, more) =
   where
     joined : (a x r n : ℕ) → n ≡ x + r → a + x + r ≡ a + n
     joined a x r n e = omega arith
-
--- where memory ran out, there is no other fault, and the fault is at offset 0
-pub no_other_fault : {A : Type 0} (r : Result A Fault) (P : Fault → Type 0) → IsErrAnd r (λ f. f ≡ out_of_memory)
-    → IfErr r (λ f. f ≢ out_of_memory → P f)
-no_other_fault (Ok a) P h = tt
-no_other_fault (Err f) P h = λ other. absurd (other h)
-
-pub at_offset_0 : {A : Type 0} (r : Result A Fault) (n : ℕ) → IsErrAnd r (λ f. f ≡ out_of_memory)
-    → IfErr r (λ f. f.place.offset ≤ n)
-at_offset_0 (Ok a) n h = tt
-at_offset_0 (Err f) n h = rw h (omega arith)

@@ -4,6 +4,8 @@
 
 -- a body is tiled in one way; where a check fails there is no tiling; each cell lies within the volume
 pub use Rattle.fv_file.proofs.BodyLemmas.{only_one, none_after, all_within}
+-- so does the first fault of a body, or it is at its end
+pub use Rattle.fv_file.proofs.CellFaultLemmas.{body_within}
 -- at one place there is one cell, and none where a check of a cell fails
 pub use Rattle.fv_file.proofs.CellLemmas.{one_cell, no_cell}
 -- a cell has bytes, as many as its span says; a file's header and data make up its size

@@ -1,6 +1,7 @@
 pub mod AttributeLaws
 pub mod AttributeLemmas
 pub mod BodyLemmas
+pub mod CellFaultLemmas
 pub mod CellFoundLemmas
 pub mod CellLemmas
 pub mod CellPartLemmas

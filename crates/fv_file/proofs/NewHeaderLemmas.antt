@@ -1,4 +1,11 @@
--- Headers as they are written, and read again.
+-- Headers as they are written, and read again. The steps:
+-- 1. A header is its name, and then fields at known places (`header_parts`, `at_behind`).
+-- 2. The header sum is added to the sum of the other bytes (`header_sum_is`), so one byte makes it right: the complement
+--    (`complement_right`, `complement_only`).
+-- 3. Its fields are read again (`size_is`, `fields_are`), so with the right sum it is the header of these fields (`written_is`).
+-- 4. With data and filler it is the header of a file, or of a pad (`head_of_file`, `head_of_pad`, `file_written`, `pad_written`).
+-- 5. Back: bytes that are the header of some fields are the bytes written for them (`form_of`, `only_written`), of a file and of a pad
+--    (`only_file`, `only_pad`).
 use Rattle.std.proofs.lemmas.Grind.{common_steps}
 use Rattle.std.proofs.Common.{◌≡◌, ◌≤◌, ◌<◌, ◌+◌, ◌/◌, ◌%◌, ◌^◌, ℕ, Bool, true, false, List, [], ◌∷◌, ◌++◌, length, take, drop, refl, sym}
 use Rattle.std.proofs.Common.{ap, ◌∙◌, subst, arith, append_assoc, length-append, length-drop, drop-drop}
@@ -26,8 +33,7 @@ use Rattle.fv_file.specs.States.{StateOf, is_alive, state_of}
 use Rattle.fv_file.specs.inner.NewHeaderParts.{file_header, new_header_bytes}
 use Rattle.fv_file.specs.HeaderReads.{IsNewHeader, IsHeadOfFile, IsHeadOfPad, fields_of, file_fields, pad_fields}
 use Rattle.fv_file.specs.NewHeaders.{complement, file_head_of, header_bytes}
-use Rattle.fv_file.specs.NewHeaders.{header_with, needs_large, pad_head_of, pad_name, state_byte, with_large}
-use Rattle.fv_file.specs.Files.{fixed_checksum}
+use Rattle.fv_file.specs.NewHeaders.{header_with, needs_large, pad_head_of, state_byte, with_large}
 use Rattle.fv_file.specs.declared.attributes.FileAttributes.{FileAttributes}
 use Rattle.fv_file.specs.declared.head.FileHead.{FileHead}
 use Rattle.fv_file.specs.declared.new_header.NewHeader.{NewHeader}
@@ -60,16 +66,27 @@ abbrev behind_name : ℕ → ℕ → ℕ → ℕ → ℕ → ℕ → List ℕ �
 behind_name header_sum file_sum kind attributes short state long =
     header_sum ∷ file_sum ∷ kind ∷ attributes ∷ (le_bytes 3 short ++ (state ∷ long))
 
+-- the header of these fields, the bytes after its name, and the same fields with the form
+abbrev spelled : FileHead → Bool → ℕ → List ℕ
+spelled h large state =
+    header_with h.header_sum h.file_sum (bytes_of h.name) h.kind (attribute_bits h.attributes) h.size large state
+
+abbrev rest_of : FileHead → Bool → ℕ → List ℕ
+rest_of h large state =
+    behind_name h.header_sum h.file_sum h.kind (attribute_bits h.attributes) (short_size large h.size) state (long_size large h.size)
+
+abbrev formed : FileHead → Bool → FileHead
+formed h large = fields_of (bytes_of h.name) h.kind (attribute_bits h.attributes) h.size large h.header_sum h.file_sum
+
 rejoined : (a b c d e : List ℕ) → a ++ b ++ c ++ d ++ e ≡ a ++ (b ++ (c ++ (d ++ e)))
 rejoined a b c d e = simp append_assoc
 
-header_parts : (header_sum file_sum : ℕ) (name : List ℕ) (kind attributes size : ℕ) (large : Bool) (state : ℕ)
-    → header_with header_sum file_sum name kind attributes size large state
-    ≡ name ++ behind_name header_sum file_sum kind attributes (short_size large size) state (long_size large size)
-header_parts header_sum file_sum name kind attributes size true state =
-    rejoined name (header_sum ∷ file_sum ∷ kind ∷ attributes ∷ []) (le_bytes 3 0) (state ∷ []) (le_bytes 8 size)
-header_parts header_sum file_sum name kind attributes size false state =
-    rejoined name (header_sum ∷ file_sum ∷ kind ∷ attributes ∷ []) (le_bytes 3 size) (state ∷ []) []
+header_parts : (h : FileHead) (large : Bool) (state : ℕ) → spelled h large state ≡ bytes_of h.name ++ rest_of h large state
+header_parts h true state =
+    rejoined (bytes_of h.name) (h.header_sum ∷ h.file_sum ∷ h.kind ∷ attribute_bits h.attributes ∷ []) (le_bytes 3 0) (state ∷ [])
+    (le_bytes 8 h.size)
+header_parts h false state =
+    rejoined (bytes_of h.name) (h.header_sum ∷ h.file_sum ∷ h.kind ∷ attribute_bits h.attributes ∷ []) (le_bytes 3 h.size) (state ∷ []) []
 
 -- places after a name
 at_behind : (k : ℕ) (name rest : List ℕ) → length name ≡ 16 → slice_index (name ++ rest) (16 + k) ≡ slice_index rest k
@@ -110,18 +127,17 @@ sum_apart name l a b c d e f g h long =
     added x y z w s t a c d e f g p q r v = omega arith
 
 -- the sum of a header, with both sums and State zero
-abbrev bare_sum : List ℕ → ℕ → ℕ → ℕ → Bool → ℕ
-bare_sum name kind attributes size large = sum (header_with 0 0 name kind attributes size large 0)
+abbrev bare_sum : FileHead → Bool → ℕ
+bare_sum h large = sum (spelled (record h { header_sum = 0; file_sum = 0 }) large 0)
 
-header_sum_is : (header_sum file_sum : ℕ) (name : List ℕ) (kind attributes size : ℕ) (large : Bool) (state : ℕ) → length name ≡ 16
-    → header_sum_of (header_with header_sum file_sum name kind attributes size large state)
-    ≡ (bare_sum name kind attributes size large + header_sum) % 256
-header_sum_is header_sum file_sum name kind attributes size large state long =
-    let short : ℕ = short_size large size in
-    ap header_sum_of (header_parts header_sum file_sum name kind attributes size large state)
-    ∙ (sum_apart name (long_size large size) header_sum file_sum kind attributes (short % 256) (short / 256 % 256)
-    (short / 256 / 256 % 256) state long
-    ∙ ap (λ (xs : List ℕ). (sum xs + header_sum) % 256) (sym (header_parts 0 0 name kind attributes size large 0)))
+header_sum_is : (h : FileHead) (large : Bool) (state : ℕ) → length (bytes_of h.name) ≡ 16
+    → header_sum_of (spelled h large state) ≡ (bare_sum h large + h.header_sum) % 256
+header_sum_is h large state long =
+    let short : ℕ = short_size large h.size in
+    ap header_sum_of (header_parts h large state)
+    ∙ (sum_apart (bytes_of h.name) (long_size large h.size) h.header_sum h.file_sum h.kind (attribute_bits h.attributes) (short % 256)
+    (short / 256 % 256) (short / 256 / 256 % 256) state long
+    ∙ ap (λ (xs : List ℕ). (sum xs + h.header_sum) % 256) (sym (header_parts (record h { header_sum = 0; file_sum = 0 }) large 0)))
 
 -- the complement makes it right, and no other byte does
 complement_right : (n : ℕ) → (n + complement n) % 256 ≡ 0
@@ -136,24 +152,17 @@ complement_small n = omega arith
 -- ---- a header, read
 
 -- the size
-size_is : (header_sum file_sum : ℕ) (name : List ℕ) (kind attributes size : ℕ) (large : Bool) (state : ℕ) → length name ≡ 16
-    → size < size_limit large
-    → file_size_in large (name ++ behind_name header_sum file_sum kind attributes (short_size large size) state (long_size large size))
-    ≡ size
-size_is header_sum file_sum name kind attributes size true state long small =
-    ap (λ (xs : List ℕ). le (take 8 xs))
-    (drop_behind 8 name (behind_name header_sum file_sum kind attributes 0 state (le_bytes 8 size)) long) ∙ le-le_bytes 8 size small
-size_is header_sum file_sum name kind attributes size false state long small =
-    ap (λ (xs : List ℕ). le (take 3 xs)) (drop_behind 4 name (behind_name header_sum file_sum kind attributes size state []) long)
-    ∙ le-le_bytes 3 size small
+size_is : (h : FileHead) (large : Bool) (state : ℕ) → length (bytes_of h.name) ≡ 16 → h.size < size_limit large
+    → file_size_in large (bytes_of h.name ++ rest_of h large state) ≡ h.size
+size_is h true state long small =
+    ap (λ (xs : List ℕ). le (take 8 xs)) (drop_behind 8 (bytes_of h.name) (rest_of h true state) long) ∙ le-le_bytes 8 h.size small
+size_is h false state long small =
+    ap (λ (xs : List ℕ). le (take 3 xs)) (drop_behind 4 (bytes_of h.name) (rest_of h false state) long) ∙ le-le_bytes 3 h.size small
 
-zero_size : (header_sum file_sum : ℕ) (name : List ℕ) (kind attributes size : ℕ) (large : Bool) (state : ℕ) → length name ≡ 16
-    → large ≡ true
-    → le_at 20 3 (name ++ behind_name header_sum file_sum kind attributes (short_size large size) state (long_size large size)) ≡ 0
-zero_size header_sum file_sum name kind attributes size true state long is =
-    ap (λ (xs : List ℕ). le (take 3 xs))
-    (drop_behind 4 name (behind_name header_sum file_sum kind attributes 0 state (le_bytes 8 size)) long)
-zero_size header_sum file_sum name kind attributes size false state long is = cc
+zero_size : (h : FileHead) (large : Bool) (state : ℕ) → length (bytes_of h.name) ≡ 16 → large ≡ true
+    → le_at 20 3 (bytes_of h.name ++ rest_of h large state) ≡ 0
+zero_size h true state long is = ap (λ (xs : List ℕ). le (take 3 xs)) (drop_behind 4 (bytes_of h.name) (rest_of h true state) long)
+zero_size h false state long is = cc
 
 -- the fields
 abbrev fields : List ℕ → ℕ → ℕ → ℕ → ℕ → ℕ → ℕ → FileHead
@@ -168,31 +177,26 @@ fields name kind attributes size header_len header_sum file_sum = record {
   state = states.DataValid;
 }
 
-fields_are : (header_sum file_sum : ℕ) (name : List ℕ) (kind attributes size : ℕ) (large : Bool) (state : ℕ) → length name ≡ 16
-    → is_large attributes ≡ large → size < size_limit large
-    → fields_of name kind attributes size large header_sum file_sum
-    ≡ head_in states.DataValid
-    (name ++ behind_name header_sum file_sum kind attributes (short_size large size) state (long_size large size))
-fields_are header_sum file_sum name kind attributes size large state long is small =
-    let rest : List ℕ = behind_name header_sum file_sum kind attributes (short_size large size) state (long_size large size) in
+fields_are : (h : FileHead) (large : Bool) (state : ℕ) → length (bytes_of h.name) ≡ 16 → is_large (attribute_bits h.attributes) ≡ large
+    → h.size < size_limit large → formed h large ≡ head_in states.DataValid (bytes_of h.name ++ rest_of h large state)
+fields_are h large state long is small =
+    let name : List ℕ = bytes_of h.name in
+    let rest : List ℕ = rest_of h large state in
     let b : List ℕ = name ++ rest in
     let place : is_large (slice_index b 19) ≡ large = ap is_large (at_behind 3 name rest long) ∙ is in
-    let whole : file_size_in (is_large (slice_index b 19)) b ≡ size =
-    ap (λ (l : Bool). file_size_in l b) place ∙ size_is header_sum file_sum name kind attributes size large state long small in
-    sym (same_fields _ _ _ _ _ _ _ _ _ _ _ _ _ _ (take_at name rest 16 long) (at_behind 2 name rest long) (at_behind 3 name rest long) whole
+    let whole : file_size_in (is_large (slice_index b 19)) b ≡ h.size =
+    ap (λ (l : Bool). file_size_in l b) place ∙ size_is h large state long small in
+    sym (same_fields (take_at name rest 16 long) (at_behind 2 name rest long) (at_behind 3 name rest long) whole
     (ap file_header_len place) (at_behind 0 name rest long) (at_behind 1 name rest long))
   where
-    same_fields : (a a' : List ℕ) (b b' c c' d d' e e' f f' g g' : ℕ) → a ≡ a' → b ≡ b' → c ≡ c' → d ≡ d' → e ≡ e' → f ≡ f' → g ≡ g'
+    same_fields : {a a' : List ℕ} {b b' c c' d d' e e' f f' g g' : ℕ} → a ≡ a' → b ≡ b' → c ≡ c' → d ≡ d' → e ≡ e' → f ≡ f' → g ≡ g'
         → fields a b c d e f g ≡ fields a' b' c' d' e' f' g'
-    same_fields a a' b b' c c' d d' e e' f f' g g' p q r s t u v = rw (p, q, r, s, t, u, v)
+    same_fields p q r s t u v = rw (p, q, r, s, t, u, v)
 
-length_is : (header_sum file_sum : ℕ) (name : List ℕ) (kind attributes size : ℕ) (large : Bool) (state : ℕ) → length name ≡ 16
-    → length (name ++ behind_name header_sum file_sum kind attributes (short_size large size) state (long_size large size))
-    ≡ file_header_len large
-length_is header_sum file_sum name kind attributes size true state long =
-    length-append name (behind_name header_sum file_sum kind attributes 0 state (le_bytes 8 size)) ∙ ap (λ (n : ℕ). n + 16) long
-length_is header_sum file_sum name kind attributes size false state long =
-    length-append name (behind_name header_sum file_sum kind attributes size state []) ∙ ap (λ (n : ℕ). n + 8) long
+length_is : (h : FileHead) (large : Bool) (state : ℕ) → length (bytes_of h.name) ≡ 16
+    → length (bytes_of h.name ++ rest_of h large state) ≡ file_header_len large
+length_is h true state long = length-append (bytes_of h.name) (rest_of h true state) ∙ ap (λ (n : ℕ). n + 16) long
+length_is h false state long = length-append (bytes_of h.name) (rest_of h false state) ∙ ap (λ (n : ℕ). n + 8) long
 
 -- the State byte of a new file
 state_is : (polarity : Polarity) → StateOf (state_byte polarity) polarity states.DataValid
@@ -201,53 +205,48 @@ state_is Ones = refl
 state_is Zeros = refl
 
 -- a header with a right sum is that of its fields
-written_with : (polarity : Polarity) (header_sum file_sum : ℕ) (name : List ℕ) (kind attributes size : ℕ) (large : Bool) → length name ≡ 16
-    → is_large attributes ≡ large → size < size_limit large → (bare_sum name kind attributes size large + header_sum) % 256 ≡ 0
-    → IsBytes (header_with header_sum file_sum name kind attributes size large (state_byte polarity))
-    → IsNewHeader polarity (fields_of name kind attributes size large header_sum file_sum)
-    (header_with header_sum file_sum name kind attributes size large (state_byte polarity))
-written_with polarity header_sum file_sum name kind attributes size large long is small right bytes =
+written_with : (polarity : Polarity) (h : FileHead) (large : Bool) → length (bytes_of h.name) ≡ 16
+    → is_large (attribute_bits h.attributes) ≡ large → h.size < size_limit large → (bare_sum h large + h.header_sum) % 256 ≡ 0
+    → IsBytes (spelled h large (state_byte polarity)) → IsNewHeader polarity (formed h large) (spelled h large (state_byte polarity))
+written_with polarity h large long is small right bytes =
     let state : ℕ = state_byte polarity in
-    let head : FileHead = fields_of name kind attributes size large header_sum file_sum in
-    let rest : List ℕ = behind_name header_sum file_sum kind attributes (short_size large size) state (long_size large size) in
-    let b : List ℕ = name ++ rest in
-    let parts = header_parts header_sum file_sum name kind attributes size large state in
-    let place : is_large (slice_index b 19) ≡ large = ap is_large (at_behind 3 name rest long) ∙ is in
-    let byte : slice_index b 23 ≡ state = at_behind 7 name rest long in
-    let sums : header_sum_of b ≡ 0 =
-    ap header_sum_of (sym parts) ∙ header_sum_is header_sum file_sum name kind attributes size large state long ∙ right in
-    let written : IsNewHeader polarity head b = record {
+    let rest : List ℕ = rest_of h large state in
+    let b : List ℕ = bytes_of h.name ++ rest in
+    let parts = header_parts h large state in
+    let place : is_large (slice_index b 19) ≡ large = ap is_large (at_behind 3 (bytes_of h.name) rest long) ∙ is in
+    let byte : slice_index b 23 ≡ state = at_behind 7 (bytes_of h.name) rest long in
+    let written : IsNewHeader polarity (formed h large) b = record {
       header = λ system only. record {
-        whole = length_is header_sum file_sum name kind attributes size large state long ∙ ap file_header_len (sym place);
-        fields = fields_are header_sum file_sum name kind attributes size large state long is small;
+        whole = length_is h large state long ∙ ap file_header_len (sym place);
+        fields = fields_are h large state long is small;
         state = subst (λ (n : ℕ). StateOf n polarity states.DataValid) (sym byte) (state_is polarity);
-        large = λ e. (only (is ∙ sym place ∙ e), zero_size header_sum file_sum name kind attributes size large state long (sym place ∙ e));
-        sum = sums;
+        large = λ e. (only (is ∙ sym place ∙ e), zero_size h large state long (sym place ∙ e));
+        sum = ap header_sum_of (sym parts) ∙ header_sum_is h large state long ∙ right;
       };
       state = byte;
       bytes = subst IsBytes parts bytes;
     } in
-    subst (IsNewHeader polarity head) (sym parts) written
+    subst (IsNewHeader polarity (formed h large)) (sym parts) written
 
--- the header sum of a header with its right sum
-sum_at : (header_sum file_sum : ℕ) (name : List ℕ) (kind attributes size : ℕ) (large : Bool) (state : ℕ) → length name ≡ 16
-    → slice_index (header_with header_sum file_sum name kind attributes size large state) 16 ≡ header_sum
-sum_at header_sum file_sum name kind attributes size large state long = grind (arith, common_steps, header_parts, at_behind)
+-- the header sum of a header
+sum_at : (h : FileHead) (large : Bool) (state : ℕ) → length (bytes_of h.name) ≡ 16 → slice_index (spelled h large state) 16 ≡ h.header_sum
+sum_at h large state long =
+    ap (λ (b : List ℕ). slice_index b 16) (header_parts h large state) ∙ at_behind 0 (bytes_of h.name) (rest_of h large state) long
 
 -- a header with its right sum is read again as its fields
-written_is : (polarity : Polarity) (file_sum : ℕ) (name : List ℕ) (kind attributes size : ℕ) (large : Bool) → length name ≡ 16
-    → is_large attributes ≡ large → size < size_limit large
-    → IsBytes (header_bytes file_sum name kind attributes size large (state_byte polarity))
-    → IsNewHeader polarity (fields_of name kind attributes size large
-    (slice_index (header_bytes file_sum name kind attributes size large (state_byte polarity)) 16) file_sum)
-    (header_bytes file_sum name kind attributes size large (state_byte polarity))
+abbrev right_bytes : FileHead → Bool → ℕ → List ℕ
+right_bytes h large state = header_bytes h.file_sum (bytes_of h.name) h.kind (attribute_bits h.attributes) h.size large state
+
+written_is : (polarity : Polarity) (h : FileHead) (large : Bool) → length (bytes_of h.name) ≡ 16
+    → is_large (attribute_bits h.attributes) ≡ large → h.size < size_limit large → IsBytes (right_bytes h large (state_byte polarity))
+    → IsNewHeader polarity (formed (record h { header_sum = slice_index (right_bytes h large (state_byte polarity)) 16 }) large)
+    (right_bytes h large (state_byte polarity))
 unfolding header_bytes
-written_is polarity file_sum name kind attributes size large long is small bytes =
-    let bare : ℕ = bare_sum name kind attributes size large in
-    subst (λ (n : ℕ). IsNewHeader polarity (fields_of name kind attributes size large n file_sum)
-    (header_with (complement bare) file_sum name kind attributes size large (state_byte polarity)))
-    (sym (sum_at (complement bare) file_sum name kind attributes size large (state_byte polarity) long))
-    (written_with polarity (complement bare) file_sum name kind attributes size large long is small (complement_right bare) bytes)
+written_is polarity h large long is small bytes =
+    let right : FileHead = record h { header_sum = complement (bare_sum h large) } in
+    subst (λ (n : ℕ). IsNewHeader polarity (formed (record h { header_sum = n }) large) (spelled right large (state_byte polarity)))
+    (sym (sum_at right large (state_byte polarity) long))
+    (written_with polarity right large long is small (complement_right (bare_sum h large)) bytes)
 
 -- ---- with data and filler, a header is that of a cell
 
@@ -304,15 +303,14 @@ pub file_written : (polarity : Polarity) (name : Guid) (kind : ℕ) (attributes 
 file_written polarity name kind attributes data_len file_sum b long short most bytes is =
     let large : Bool = needs_large data_len in
     subst (λ (x : List ℕ). IsNewHeader polarity (file_fields name kind attributes data_len file_sum (slice_index x 16)) x) (sym is)
-    (written_is polarity file_sum (bytes_of name) kind (with_large large (attribute_bits attributes)) (file_header_len large + data_len)
-    large long (with_large_is large (attribute_bits attributes) short) (size_small data_len most) (subst IsBytes is bytes))
+    (written_is polarity (file_fields name kind attributes data_len file_sum 0) large long
+    (with_large_is large (attribute_bits attributes) short) (size_small data_len most) (subst IsBytes is bytes))
 
 pub pad_written : (polarity : Polarity) (size : ℕ) (b : List ℕ) → size ≤ 0xffffff → IsBytes b → b ≡ pad_head_of size polarity
     → IsNewHeader polarity (pad_fields size (slice_index b 16)) b
 pad_written polarity size b most bytes is =
     subst (λ (x : List ℕ). IsNewHeader polarity (pad_fields size (slice_index x 16)) x) (sym is)
-    (written_is polarity fixed_checksum pad_name pad_kind 0 size false (length-replicate {A = ℕ} 16 0xff) refl (below size most)
-    (subst IsBytes is bytes))
+    (written_is polarity (pad_fields size 0) false (length-replicate {A = ℕ} 16 0xff) refl (below size most) (subst IsBytes is bytes))
   where
     below : (n : ℕ) → n ≤ 0xffffff → n < 2 ^ 24
     below n most = omega arith
@@ -349,8 +347,7 @@ long_is false b size small whole is = drop_all 24 b (omega (arith, whole))
 
 -- bytes that are the header of these fields have this form
 form_of : (polarity : Polarity) (head : FileHead) (b : List ℕ) → IsNewHeader polarity head b
-    → b ≡ header_with head.header_sum head.file_sum (bytes_of head.name) head.kind (attribute_bits head.attributes) head.size
-    (is_large (attribute_bits head.attributes)) (state_byte polarity)
+    → b ≡ spelled head (is_large (attribute_bits head.attributes)) (state_byte polarity)
 form_of polarity head b written =
     let is = written.header Ffs3 (λ large. refl) in
     let at : attribute_bits head.attributes ≡ slice_index b 19 = ap (λ (x : FileHead). attribute_bits x.attributes) is.fields in
@@ -360,18 +357,15 @@ form_of polarity head b written =
     let short : le_at 20 3 b ≡ short_size large head.size = short_is large b head.size (λ e. (is.large e).1) size in
     let long : drop 24 b ≡ long_size large head.size = long_is large b head.size written.bytes is.whole size in
     parts_of b written.bytes least
-    ∙ same _ _ _ _ _ _ _ _ _ _ _ _ _ _ _ _ (ap (λ (x : FileHead). bytes_of x.name) (sym is.fields))
+    ∙ same (ap (λ (x : FileHead). bytes_of x.name) (sym is.fields))
     (ap (λ (x : FileHead). x.header_sum) (sym is.fields))
     (ap (λ (x : FileHead). x.file_sum) (sym is.fields)) (ap (λ (x : FileHead). x.kind) (sym is.fields)) (sym at) short written.state long
-    ∙ sym (header_parts head.header_sum head.file_sum (bytes_of head.name) head.kind (attribute_bits head.attributes) head.size
-    large (state_byte polarity))
-    ∙ ap (λ (l : Bool). header_with head.header_sum head.file_sum (bytes_of head.name) head.kind (attribute_bits head.attributes) head.size
-    l (state_byte polarity)) (ap is_large (sym at))
+    ∙ sym (header_parts head large (state_byte polarity))
+    ∙ ap (λ (l : Bool). spelled head l (state_byte polarity)) (ap is_large (sym at))
   where
-    same : (n n' : List ℕ) (a a' b b' c c' d d' e e' f f' : ℕ) (l l' : List ℕ) → n ≡ n' → a ≡ a' → b ≡ b' → c ≡ c' → d ≡ d' → e ≡ e'
-        → f ≡ f' → l ≡ l'
-        → n ++ behind_name a b c d e f l ≡ n' ++ behind_name a' b' c' d' e' f' l'
-    same n n' a a' b b' c c' d d' e e' f f' l l' o p q r s t u v = rw (o, p, q, r, s, t, u, v)
+    same : {n n' : List ℕ} {a a' b b' c c' d d' e e' f f' : ℕ} {l l' : List ℕ} → n ≡ n' → a ≡ a' → b ≡ b' → c ≡ c' → d ≡ d' → e ≡ e'
+        → f ≡ f' → l ≡ l' → n ++ behind_name a b c d e f l ≡ n' ++ behind_name a' b' c' d' e' f' l'
+    same o p q r s t u v = rw (o, p, q, r, s, t, u, v)
 
 pub only_written : (polarity : Polarity) (head : FileHead) (b : List ℕ) → IsNewHeader polarity head b
     → b ≡ header_bytes head.file_sum (bytes_of head.name) head.kind (attribute_bits head.attributes) head.size
@@ -386,13 +380,10 @@ only_written polarity head b written =
     ap (λ (x : FileHead). length (bytes_of x.name)) is.fields ∙ length-take-le 16 b (omega (arith, least)) in
     let small : head.header_sum < 256 =
     subst (λ (n : ℕ). n < 256) (ap (λ (x : FileHead). x.header_sum) (sym is.fields)) (written.bytes 16) in
-    let bare : ℕ = bare_sum (bytes_of head.name) head.kind (attribute_bits head.attributes) head.size large in
-    let right : (bare + head.header_sum) % 256 ≡ 0 =
-    sym (header_sum_is head.header_sum head.file_sum (bytes_of head.name) head.kind (attribute_bits head.attributes) head.size large
-    (state_byte polarity) named)
-    ∙ ap header_sum_of (sym form) ∙ is.sum in
-    form ∙ ap (λ (n : ℕ). header_with n head.file_sum (bytes_of head.name) head.kind (attribute_bits head.attributes) head.size large
-    (state_byte polarity)) (complement_only bare head.header_sum small right)
+    let right : (bare_sum head large + head.header_sum) % 256 ≡ 0 =
+    sym (header_sum_is head large (state_byte polarity) named) ∙ ap header_sum_of (sym form) ∙ is.sum in
+    form ∙ ap (λ (n : ℕ). spelled (record head { header_sum = n }) large (state_byte polarity))
+    (complement_only (bare_sum head large) head.header_sum small right)
 
 -- the header of a file of these fields, and that of a pad, is no other
 pub only_file : (polarity : Polarity) (name : Guid) (kind : ℕ) (attributes : FileAttributes) (data_len file_sum header_sum : ℕ) (h : List ℕ)

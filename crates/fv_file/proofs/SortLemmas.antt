@@ -1,11 +1,11 @@
--- What the sort of a state decides: which states have it, whether a file of it is valid, and the checks of its cell. The seven states are
--- looked at only here; all else goes by the four sorts.
-use Rattle.std.proofs.Common.{◌≡◌, ℕ, List, inl, inr, refl, true}
+-- What the sort of a state decides: which states have it, whether a file of it is valid, whether its header is whole, and the checks of its
+-- cell. The seven states are looked at only here; all else goes by the four sorts.
+use Rattle.std.proofs.Common.{◌≡◌, ℕ, List, inl, inr, refl, false, true}
 use Rattle.std.specs.Prelude.{◌⊎◌, Some}
 use Rattle.fv_base.specs.declared.flash.FileSystem.{FileSystem}
 use Rattle.fv_file.specs.FileChecks.{state_checks}
 use Rattle.fv_file.specs.States.{is_alive}
-use Rattle.fv_file.specs.inner.CellVerdicts.{StateSort, Erased, Unfinished, Dead, Valid, sort_of, sort_checks}
+use Rattle.fv_file.specs.inner.CellVerdicts.{StateSort, Erased, Unfinished, Dead, Valid, is_unfinished, sort_of, sort_checks}
 use Rattle.fv_file.specs.declared.state.FileState.{FileState}
 use Rattle.fv_file.specs.declared.state.FileState.TheVariants as states
 
@@ -18,13 +18,14 @@ StatesOf Valid st = is_alive st ≡ true
 pub record Sorted (st : FileState) : Type 0 where
   pub states : StatesOf (sort_of st) st
   pub valid : is_alive st ≡ true → sort_of st ≡ Valid
+  pub finished : is_alive st ≡ true → is_unfinished (Some st) ≡ false
   pub checks : (s : FileSystem) (at : ℕ) (r : List ℕ) → state_checks (Some st) s at r ≡ sort_checks (sort_of st) s (is_alive st) at r
 
 pub sorted : (st : FileState) → Sorted st
-sorted states.Free = record { states = refl; valid = λ e. cc; checks = λ s at r. refl }
-sorted states.Construction = record { states = inl refl; valid = λ e. cc; checks = λ s at r. refl }
-sorted states.HeaderInvalid = record { states = inr refl; valid = λ e. cc; checks = λ s at r. refl }
-sorted states.HeaderValid = record { states = inl refl; valid = λ e. cc; checks = λ s at r. refl }
-sorted states.Deleted = record { states = inr refl; valid = λ e. cc; checks = λ s at r. refl }
-sorted states.DataValid = record { states = refl; valid = λ e. refl; checks = λ s at r. refl }
-sorted states.Marked = record { states = refl; valid = λ e. refl; checks = λ s at r. refl }
+sorted states.Free = record { states = refl; valid = λ e. cc; finished = λ e. cc; checks = λ s at r. refl }
+sorted states.Construction = record { states = inl refl; valid = λ e. cc; finished = λ e. cc; checks = λ s at r. refl }
+sorted states.HeaderInvalid = record { states = inr refl; valid = λ e. cc; finished = λ e. cc; checks = λ s at r. refl }
+sorted states.HeaderValid = record { states = inl refl; valid = λ e. cc; finished = λ e. cc; checks = λ s at r. refl }
+sorted states.Deleted = record { states = inr refl; valid = λ e. cc; finished = λ e. cc; checks = λ s at r. refl }
+sorted states.DataValid = record { states = refl; valid = λ e. refl; finished = λ e. refl; checks = λ s at r. refl }
+sorted states.Marked = record { states = refl; valid = λ e. refl; finished = λ e. refl; checks = λ s at r. refl }

@@ -1,4 +1,7 @@
 -- How far it is from the header of a cell to the next one: by the length of the header if it was never finished, else by the size of the file.
+-- 1. The next header is after the cell, for a file, a stub, and so each cell that is not free (`file_stride`, `stub_stride`, `cell_stride`).
+-- 2. So one step is one cell (`one_less`), and the count goes up by one (`one_counted`).
+-- 3. At the end one cell is left if any bytes are, a free one (`free_left`), so all are counted (`all_counted`).
 use Rattle.std.proofs.Common.{◌≡◌, ◌≤◌, ◌<◌, ℕ, ◌+◌, List, [], ◌∷◌, ◌++◌, length, drop, inl, inr, refl, sym, ap, ◌∙◌, subst, arith}
 use Rattle.std.proofs.Common.{Bool, true, false, length-append, append_assoc, append-nil}
 use Rattle.std.specs.Prelude.{◌==◌, ◌≢◌, ◌⊎◌, not, nat_le, slice_index, Option, Some}
@@ -13,7 +16,7 @@ use Rattle.fv_file.specs.Attributes.{is_large}
 use Rattle.fv_file.specs.Cells.{CellForm, Valid, Pad, Dead, Stub, Free, offset_of, is_free, IsFilled, IsCell, Tiles}
 use Rattle.fv_file.specs.FileChecks.{cell_checks, file_header_len_at, file_size_at}
 use Rattle.fv_file.specs.Files.{file_header_len}
-use Rattle.fv_file.specs.States.{StateOf, bits_of, state_of, is_alive}
+use Rattle.fv_file.specs.States.{StateOf, bits_of, state_of}
 use Rattle.fv_file.specs.inner.CellVerdicts.{is_unfinished}
 use Rattle.fv_file.specs.declared.head.FileHead.{FileHead}
 use Rattle.fv_file.specs.declared.state.FileState.{FileState}
@@ -23,6 +26,7 @@ use Rattle.fv_file.proofs.CellPartLemmas.{file_made_up, filled_span, made_up, no
 use Rattle.fv_file.proofs.CellReadLemmas.{cell_reads}
 use Rattle.fv_file.proofs.ErasedLemmas.{all_at}
 use Rattle.fv_file.proofs.FileLemmas.{header_least, front_byte, file_reads}
+use Rattle.fv_file.proofs.SortLemmas.{sorted}
 use Rattle.fv_file.proofs.TilingLemmas.{no_rest}
 
 -- by whether the header at the start of r was never finished
@@ -36,16 +40,7 @@ pub record Stride (polarity : Polarity) (r : List ℕ) (n : ℕ) : Type 0 where
   pub within : n ≤ length r
   pub is : stride_by (is_unfinished (state_of polarity (slice_index r 23))) r ≡ n
 
--- a valid file, a file that was deleted, and one whose data were never finished have a whole header
-alive_finished : (st : FileState) → is_alive st ≡ true → is_unfinished (Some st) ≡ false
-alive_finished states.DataValid e = refl
-alive_finished states.Marked e = refl
-alive_finished states.Free e = cc
-alive_finished states.Construction e = cc
-alive_finished states.HeaderValid e = cc
-alive_finished states.Deleted e = cc
-alive_finished states.HeaderInvalid e = cc
-
+-- a file that was deleted, and one whose data were never finished, have a whole header
 dead_finished : (st state : FileState) → st ≡ state → (state ≡ states.HeaderValid) ⊎ (state ≡ states.Deleted)
     → is_unfinished (Some st) ≡ false
 dead_finished st state e (inl k) = ap (λ (x : FileState). is_unfinished (Some x)) (e ∙ k)
@@ -83,9 +78,9 @@ stub_stride p u w st unfinished state len =
 pub cell_stride : (s : FileSystem) (p : Polarity) (c : CellForm) (u w : List ℕ) → IsCell s p c u → is_free c ≡ false
     → Stride p (u ++ w) (length u)
 cell_stride s p (Valid at head payload) u w is f =
-    file_stride s p head payload u w is.0 (made_up s p (Valid at head payload) u is) (alive_finished head.state is.1)
+    file_stride s p head payload u w is.0 (made_up s p (Valid at head payload) u is) ((sorted head.state).finished is.1)
 cell_stride s p (Pad at head payload) u w is f =
-    file_stride s p head payload u w is.0 (made_up s p (Pad at head payload) u is) (alive_finished head.state is.1)
+    file_stride s p head payload u w is.0 (made_up s p (Pad at head payload) u is) ((sorted head.state).finished is.1)
 cell_stride s p (Dead at len st) u w (head, payload, filled, is, state, long) f =
     file_stride s p head payload u w filled (file_made_up s p head payload u filled) (dead_finished head.state st is state)
 cell_stride s p (Stub at len) u w (inl state, whole, long) f = stub_stride p u w states.Construction refl state whole

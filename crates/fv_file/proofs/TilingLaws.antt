@@ -1,4 +1,7 @@
--- Tilings that are joined, and what is known of each cell of one.
+-- Tilings that are joined, and what is known of each cell of one. The steps:
+-- 1. Cells, none of them free, and more cells tile the join (`joined`). There are no more cells than bytes (`cells_few`).
+-- 2. A cell's data are the part of the volume after its header (`cell_payload`), for all cells of a tiling (`tiled_payloads`).
+-- 3. In a tiling of bytes each file was read (`tiles_read`).
 use Rattle.std.proofs.Common.{◌≡◌, ◌≤◌, ◌<◌, ◌+◌, ◌-◌, ◌*◌, ◌/◌, ℕ, zero, suc, true, false, List, [], ◌∷◌, ◌++◌, length, take, drop}
 use Rattle.std.proofs.Common.{get_or, refl, sym, ap, ◌∙◌, subst, arith, length-append, append_assoc, drop-drop}
 use Rattle.std.specs.List.{AllByRecursion}

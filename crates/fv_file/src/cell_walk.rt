@@ -35,8 +35,7 @@ fn is_free(rest: &[u8], polarity: Polarity) -> bool
 // The fault of bytes that are no cell and not all erased.
 fn stray(rest: &[u8], at: u64, polarity: Polarity) -> Fault
     requires { at + length rest.now < 2 ^ 63 }
-    ensures is { result ≡ outer_fault FaultKind.FreeSpace (at + leading_count (erased_byte polarity) rest.now) }
-    ensures bound { result.place.offset ≤ at + length rest.now }
+    ensures { result ≡ outer_fault FaultKind.FreeSpace (at + leading_count (erased_byte polarity) rest.now) }
 {
     Fault::outer(
         FaultKind::FreeSpace,
@@ -80,7 +79,6 @@ fn cell_at<'a>(
     requires place { at + length rest.now < 2 ^ 63 }
     ensures found { IfOk result (λ c. cell_verdict system polarity at rest.now ≡ Ok (cell_form c)) }
     ensures refused { IfErr result (λ f. cell_verdict system polarity at rest.now ≡ Err f) }
-    ensures bound { IfErr result (λ f. f.place.offset ≤ at + length rest.now) }
 {
     if rest.len() < HEADER_LEN {
         return Err(stray(rest, at, polarity));

@@ -1,6 +1,6 @@
 //! The header of a file.
 
-ghost use Rattle.std.specs.Prelude.{◌≡◌, ◌==◌, ◌+◌, ◌≤◌, ◌<◌, ◌^◌, ◌&&◌, ◌||◌, not, nat_le, length, IfOk, IfErr};
+ghost use Rattle.std.specs.Prelude.{◌≡◌, ◌==◌, ◌≤◌, ◌<◌, ◌^◌, ◌&&◌, ◌||◌, not, nat_le, length, IfOk};
 ghost use Rattle.fv_base.specs.Value.{le_at};
 ghost use Rattle.fv_file.specs.Attributes.{attribute_bits, is_large};
 ghost use Rattle.fv_file.specs.FileChecks.{file_header_len_at, file_size_at, has_header_sum, may_be_large};
@@ -180,7 +180,6 @@ pub(crate) fn file_at(
     ensures state { IfOk result (λ h. h.state ≡ state) }
     ensures size { IfOk result (λ h. (h.header_len ≡ file_header_len_at rest.now) × (h.size ≡ file_size_at rest.now)) }
     ensures within { IfOk result (λ h. (h.header_len ≤ h.size) × (h.size ≤ length rest.now)) }
-    ensures bound { IfErr result (λ f. f.place.offset ≤ at + length rest.now) }
 {
     let attributes = at + ATTRIBUTES_OFFSET as u64;
     let size = at + SIZE_OFFSET as u64;

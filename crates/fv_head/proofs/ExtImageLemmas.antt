@@ -1,4 +1,7 @@
--- An extended header is spelled as it is read.
+-- An extended header is spelled as it is read. The steps:
+-- 1. A payload is as long as what is kept of it, also with a used size in it (`length-held`, `length-payload_with`).
+-- 2. So entries that are spelled are those entries (`entries_again`), and an extended header is that extended header (`ext_again`).
+-- 3. A walk puts its entries one by one (`entries_step`, `entries_end`).
 use Rattle.std.proofs.lemmas.Grind.{common_steps}
 use Rattle.std.proofs.Common.{◌≡◌, ◌≤◌, ◌<◌, ℕ, ◌+◌, List, [], ◌∷◌, ◌++◌, length, drop, refl, sym, ap, ◌∙◌, subst, arith}
 use Rattle.std.proofs.Common.{Bool, true, false, get_or, length-append, append_assoc, append-nil}

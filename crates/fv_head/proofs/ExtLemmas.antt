@@ -1,4 +1,9 @@
--- Extended headers, and the entries in them.
+-- Extended headers, and the entries in them. The steps:
+-- 1. Bytes are some entries and a tail (`some_entries`), those of one list (`one_entries`).
+-- 2. Bytes of a right size are an extended header (`some_ext`), and one only (`one_ext`).
+-- 3. A volume has one extended header at most (`one_has_ext`). It has one or none exactly if the check holds (`some_has_ext`,
+--    `has_ext_holds`), and which one is decided by the volume's own bytes (`ext_same`).
+-- 4. A reader takes its entries one by one (`more_entries`, `end_entries`), and what it has read is the one there (`read_there`).
 use Rattle.std.proofs.lemmas.Grind.{common_steps}
 use Rattle.std.proofs.Common.{◌≡◌, ◌≤◌, ◌<◌, ℕ, zero, suc, ◌+◌, ◌-◌, List, [], ◌∷◌, ◌++◌, length, take, drop, refl, sym, ap, ◌∙◌, subst}
 use Rattle.std.proofs.Common.{arith, inl, inr, Bool, true, false, length-append, length-drop, append_assoc, append-nil, drop-drop, rules}

@@ -9,7 +9,7 @@ use Rattle.std.specs.List.{AllByRecursion}
 use Rattle.std.proofs.lemmas.Bool.{leb-true}
 use Rattle.fv_base.specs.Checks.{Check, check, IsFirstFault}
 use Rattle.fv_base.specs.inner.Verdicts.{first_fault}
-use Rattle.fv_base.specs.Faults.{outer_fault, out_of_memory}
+use Rattle.fv_base.specs.Faults.{outer_fault}
 use Rattle.fv_base.specs.Value.{IsBytes}
 use Rattle.fv_base.specs.declared.fault.Fault.{Fault}
 use Rattle.fv_base.specs.declared.fault.FaultKind.TheVariants as kinds
@@ -55,12 +55,12 @@ fault_within b f (d ∷ ds, c, after, is, held, fails, fault) =
     first_among P (head_checks b) f all (d ∷ ds, c, after, is, held, fails, fault)
 
 -- and is not OutOfMemory
-pub fault_known : (b : List ℕ) (f : Fault) → IsFirstFault (head_checks b) f → f ≢ out_of_memory
-fault_known b f first = λ want.
+pub fault_known : (b : List ℕ) (f : Fault) → IsFirstFault (head_checks b) f → f.kind ≢ kinds.OutOfMemory
+fault_known b f first =
     let P : Fault → Type 0 = λ g. g.kind ≢ kinds.OutOfMemory in
     let all : AllByRecursion (λ g. P g.fault) (head_checks b) =
     (λ e. cc, (λ e. cc, (λ e. cc, (λ e. cc, (λ e. cc, (λ e. cc, (λ e. cc, (λ e. cc, (λ e. cc, (λ e. cc, (λ e. cc, tt))))))))))) in
-    first_among P (head_checks b) f all first (ap (λ (g : Fault). g.kind) want)
+    first_among P (head_checks b) f all first
 
 -- ---- a result that is the verdict
 

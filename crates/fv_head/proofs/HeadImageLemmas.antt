@@ -1,4 +1,11 @@
--- A header is what its fields spell.
+-- A header is what its fields spell. The steps:
+-- 1. The pairs that bytes spell are spelled as these bytes (`pairs_bytes-pairs_of`).
+-- 2. A header is what its fields spell, with its checksum and its ExtHeaderOffset (`before_is`, `behind_is`, `patched_is`, `unpatched`).
+-- 3. With another ExtHeaderOffset, and the checksum that makes its sum right, it is a header of the same fields (`patched_head`). There is
+--    one such checksum (`sum_patched`, `checksum_right`, `checksum_only`).
+-- 4. So the canonical head is a canonical header (`canonical_is`), and the only one (`canonical_only`). With its extended header in a pad
+--    file after it, it begins a volume of its fields (`canonical_front`).
+-- 5. The checksum is found from a sum of words (`weight-words`, `checksum_from`).
 use Rattle.std.proofs.lemmas.Grind.{common_steps}
 use Rattle.std.proofs.Common.{◌≡◌, ◌≤◌, ◌<◌, ℕ, ◌+◌, ◌-◌, ◌*◌, ◌%◌, List, [], ◌∷◌, ◌++◌, length, take, drop, refl, sym, ap, ◌∙◌, subst}
 use Rattle.std.proofs.Common.{arith, false, length-append, length-drop, append_assoc, drop-drop, rules}

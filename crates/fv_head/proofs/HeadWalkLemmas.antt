@@ -31,25 +31,15 @@ pub pairs_end : (front : List ℕ) (ps : List (ℕ × ℕ)) (i : ℕ) → length
 pairs_end front ps i past is = sym (append-nil front) ∙ ap (λ (qs : List (ℕ × ℕ)). front ++ pairs_bytes qs) (sym (drop_all i ps past)) ∙ is
 
 -- a walk in eleven steps
-pub eleven : {S : Type 0} {takes : S → List ℕ → S → Type 0} (laws : WalkLaws takes) (s0 s1 s2 s3 s4 s5 s6 s7 s8 s9 s10 s11 : S)
-    (a b c d e f g h i j k : List ℕ)
+pub eleven : {S : Type 0} {takes : S → List ℕ → S → Type 0} (laws : WalkLaws takes) {s0 s1 s2 s3 s4 s5 s6 s7 s8 s9 s10 s11 : S}
+    {a b c d e f g h i j k : List ℕ}
     → takes s0 a s1 → takes s1 b s2 → takes s2 c s3 → takes s3 d s4 → takes s4 e s5 → takes s5 f s6 → takes s6 g s7 → takes s7 h s8
     → takes s8 i s9 → takes s9 j s10 → takes s10 k s11
     → takes s0 (a ++ b ++ c ++ d ++ e ++ f ++ g ++ h ++ i ++ j ++ k) s11
-eleven {S} {takes} laws s0 s1 s2 s3 s4 s5 s6 s7 s8 s9 s10 s11 a b c d e f g h i j k p1 p2 p3 p4 p5 p6 p7 p8 p9 p10 p11 =
-    let q2 : takes s0 (a ++ b) s2 = laws.joined s0 s1 s2 a b p1 p2 in
-    let q3 : takes s0 (a ++ b ++ c) s3 = laws.joined s0 s2 s3 (a ++ b) c q2 p3 in
-    let q4 : takes s0 (a ++ b ++ c ++ d) s4 = laws.joined s0 s3 s4 (a ++ b ++ c) d q3 p4 in
-    let q5 : takes s0 (a ++ b ++ c ++ d ++ e) s5 = laws.joined s0 s4 s5 (a ++ b ++ c ++ d) e q4 p5 in
-    let q6 : takes s0 (a ++ b ++ c ++ d ++ e ++ f) s6 = laws.joined s0 s5 s6 (a ++ b ++ c ++ d ++ e) f q5 p6 in
-    let q7 : takes s0 (a ++ b ++ c ++ d ++ e ++ f ++ g) s7 = laws.joined s0 s6 s7 (a ++ b ++ c ++ d ++ e ++ f) g q6 p7 in
-    let q8 : takes s0 (a ++ b ++ c ++ d ++ e ++ f ++ g ++ h) s8 = laws.joined s0 s7 s8 (a ++ b ++ c ++ d ++ e ++ f ++ g) h q7 p8 in
-    let q9 : takes s0 (a ++ b ++ c ++ d ++ e ++ f ++ g ++ h ++ i) s9 =
-    laws.joined s0 s8 s9 (a ++ b ++ c ++ d ++ e ++ f ++ g ++ h) i q8 p9 in
-    let q10 : takes s0 (a ++ b ++ c ++ d ++ e ++ f ++ g ++ h ++ i ++ j) s10 =
-    laws.joined s0 s9 s10 (a ++ b ++ c ++ d ++ e ++ f ++ g ++ h ++ i) j q9 p10 in
-    laws.joined s0 s10 s11 (a ++ b ++ c ++ d ++ e ++ f ++ g ++ h ++ i ++ j) k q10 p11
+eleven laws p1 p2 p3 p4 p5 p6 p7 p8 p9 p10 p11 =
+    laws.joined (laws.joined (laws.joined (laws.joined (laws.joined (laws.joined (laws.joined (laws.joined (laws.joined (laws.joined
+    p1 p2) p3) p4) p5) p6) p7) p8) p9) p10) p11
 
 -- the same bytes by another name
-pub renamed : {S : Type 0} (takes : S → List ℕ → S → Type 0) (s t : S) (a b : List ℕ) → takes s a t → a ≡ b → takes s b t
-renamed {S} takes s t a b taken same = subst (λ (xs : List ℕ). takes s xs t) same taken
+pub renamed : {S : Type 0} (takes : S → List ℕ → S → Type 0) {s t : S} {a b : List ℕ} → takes s a t → a ≡ b → takes s b t
+renamed takes {s} {t} taken same = subst (λ (xs : List ℕ). takes s xs t) same taken

@@ -1,4 +1,7 @@
--- Blocks and lists that were read are written as blocks and lists that say the same.
+-- Blocks and lists that were read are written as blocks and lists that say the same. The steps:
+-- 1. A block is written as it was read, except for the body of an unused one (`header`, `kept_by`). Zeros in that body say the same
+--    (`zeroed`, `written_again`).
+-- 2. So the blocks of a list that are written are these blocks (`list_again`), and if all are used, the same bytes (`list_kept`).
 use Rattle.std.proofs.lemmas.Grind.{common_steps}
 use Rattle.std.proofs.Common.{◌≡◌, ◌≤◌, ℕ, zero, suc, ◌+◌, ◌-◌, List, [], ◌∷◌, ◌++◌, length, take, drop, refl, sym, ap, ◌∙◌, subst, arith}
 use Rattle.std.proofs.Common.{Bool, true, false, length-append, append-nil, append_assoc}

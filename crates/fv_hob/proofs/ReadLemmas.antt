@@ -1,4 +1,8 @@
--- What the loop over the blocks keeps, and what its ends say.
+-- What the loop over the blocks keeps, and what its ends say. The steps:
+-- 1. The blocks that were read make up the bytes up to a place (`HobsKept`), also with one more (`one_more`, `kept`).
+-- 2. With the end block they are a list (`ended`).
+-- 3. Memory runs out only where the bytes begin with a table (`table_stands`). No check has OutOfMemory as its fault (`no_want`).
+-- 4. The fault of the next block is the first fault (`first_here`), and bytes with a first fault begin with no list (`none_after`).
 use Rattle.std.proofs.Common.{◌≡◌, ◌≤◌, ℕ, ◌+◌, List, [], ◌∷◌, ◌++◌, length, take, drop, refl, sym, ap, ◌∙◌, subst, arith, true}
 use Rattle.std.proofs.Common.{length-append, length-drop, append_assoc}
 use Rattle.std.specs.Prelude.{◌==◌, ◌≢◌, Bool}
@@ -117,10 +121,8 @@ first_here b items at first f first_is k place kind = record {
 -- the fault of a check is no out of memory
 pub no_want : (begins : Bool) (r : List ℕ) (kind : HobFaultKind) → IsFirstFault (hob_checks begins r) kind → kind ≢ kinds.OutOfMemory
 no_want begins r kind first =
-    let P : HobFaultKind → Type 0 = λ k. k ≢ kinds.OutOfMemory in
-    let all : AllByRecursion (λ c. P c.fault) (hob_checks begins r) =
-    ((λ t. cc), ((λ t. cc), ((λ t. cc), ((λ t. cc), ((λ t. cc), ((λ t. cc), tt)))))) in
-    first_among P (hob_checks begins r) kind all first
+    first_among (λ (k : HobFaultKind). k ≢ kinds.OutOfMemory) (hob_checks begins r) kind
+    ((λ t. cc), ((λ t. cc), ((λ t. cc), ((λ t. cc), ((λ t. cc), ((λ t. cc), tt)))))) first
 
 -- where there is a first fault the bytes begin with no list
 pub none_after : (b : List ℕ) (f : HobFault) (all : List HobForm) (d y : List ℕ) → IsFirstHobFault b f → IsHobList all d → b ≡ d ++ y → ⊥

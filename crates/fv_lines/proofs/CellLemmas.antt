@@ -1,10 +1,11 @@
 -- The cells of a volume fit into it, their bytes are counted one after the other, and why an input has none.
 use Rattle.std.proofs.Common.{◌≡◌, ◌∙◌, ◌≤◌, ◌<◌, ◌+◌, ◌^◌, ℕ, zero, suc, List, [], ◌∷◌, ◌++◌, length, take, drop, get_or}
-use Rattle.std.proofs.Common.{refl, sym, ap, subst, arith, length-append, length-drop, inl, inr}
+use Rattle.std.proofs.Common.{refl, sym, ap, subst, arith, length-append, length-drop}
 use Rattle.std.specs.Prelude.{◌⊎◌, ◌≢◌, map}
 use Rattle.std.specs.List.{AllByRecursion, sum_by}
 use Rattle.std.proofs.lemmas.List.{length-take-le, map-append, map_more, take-append-drop}
 use Rattle.std.proofs.lemmas.List.Sums.{sum_by-append, sum_by-cons, sum_by_push}
+use Rattle.fv_base.proofs.Laws.{or_more}
 use Rattle.fv_base.specs.Faults.{out_of_memory}
 use Rattle.fv_base.specs.Limits.{volume_limit}
 use Rattle.fv_base.specs.declared.fault.Fault.{Fault}
@@ -118,7 +119,4 @@ cells_told input e cs ds b is = (e, ds, subst (λ (xs : List CellForm). BeginsTi
 
 -- memory ran out, or the input has no cells
 pub none_tiled : (input : List ℕ) (f : Fault) → (f ≢ out_of_memory → NotTiled input f) → (f ≡ out_of_memory) ⊎ NotTiled input f
-none_tiled input f other = go (want_known f) where
-  go : (f ≡ out_of_memory) ⊎ (f ≢ out_of_memory) → (f ≡ out_of_memory) ⊎ NotTiled input f
-  go (inl out) = inl out
-  go (inr not) = inr (other not)
+none_tiled input f other = or_more (want_known f) other

@@ -22,6 +22,11 @@ pub left_next : {D : Type 0} (covers : D → List Inside → Type 0) {d e f : D}
 left_next covers {d} {e} {f} vs first rest left walked =
     λ more now. walked (rest ++ more) (subst (covers e) (append_assoc first rest more) (left more now))
 
+-- after the last item nothing is left
+pub none_left : {D X : Type 0} (covers : D → List Inside → Type 0) {d e : D} (vs : List Inside) (held : List X → List Inside) (xs : List X)
+    (i : ℕ) → length xs ≤ i → Leaves covers d vs e (held (drop i xs)) → Leaves covers d vs e (held [])
+none_left covers {d} {e} vs held xs i end left = subst (Leaves covers d vs e) (ap held (drop_all i xs end)) left
+
 -- ---- in a walk over sections
 
 -- the volumes in the body of a section are the first that are left, before those of the sections after it
@@ -40,11 +45,6 @@ section_left {D} {covers} {d} {e} vs laws ss i s body l here is left =
     subst (covers e) (sym (append_assoc held later more))
     (laws.higher e held (later ++ more) (subst (covers e) (append_assoc (deeper held) later more) deep))
 
-pub sections_left : {D : Type 0} (covers : D → List Inside → Type 0) {d e : D} (vs : List Inside) (ss : List SectionMeaning) (i : ℕ)
-    → length ss ≤ i → Leaves covers d vs e (volumes_in_sections (sections_from (drop i ss))) → Leaves covers d vs e []
-sections_left covers {d} {e} vs ss i end left =
-    subst (Leaves covers d vs e) (ap (λ (xs : List SectionMeaning). volumes_in_sections (sections_from xs)) (drop_all i ss end)) left
-
 -- ---- in a walk over files
 
 -- the volumes in a file are the first that are left, before those of the files after it
@@ -57,8 +57,3 @@ file_left covers {d} {e} vs fs i f content l here is left =
     subst (Leaves covers d vs e)
     (ap (λ (xs : List FileMeaning). volumes_in_files (files_from xs)) (item_at fs i f l here)
     ∙ ap (λ (ws : List Inside). ws ++ later) (in_file f ∙ ap volumes_in_content (sym is))) left
-
-pub files_left : {D : Type 0} (covers : D → List Inside → Type 0) {d e : D} (vs : List Inside) (fs : List FileMeaning) (i : ℕ)
-    → length fs ≤ i → Leaves covers d vs e (volumes_in_files (files_from (drop i fs))) → Leaves covers d vs e []
-files_left covers {d} {e} vs fs i end left =
-    subst (Leaves covers d vs e) (ap (λ (xs : List FileMeaning). volumes_in_files (files_from xs)) (drop_all i fs end)) left

@@ -44,7 +44,7 @@ pub puts_then : {S : Type 0} {takes : S → List ℕ → S → Type 0} → WalkL
 puts_then {takes = takes} laws xs ys s t u (ms, p, a) (ns, q, b) = (
   ms ++ ns,
   notes_join xs ys ms ns p q,
-  subst (λ (l : List ℕ). takes s l u) (sym (flat_map-append depex_line ms ns)) (laws.joined s t u _ _ a b),
+  subst (λ (l : List ℕ). takes s l u) (sym (flat_map-append depex_line ms ns)) (laws.joined a b),
 )
 
 -- ---- the expressions of sections

@@ -29,4 +29,4 @@ pub hobs_all : {S : Type 0} {takes : S → List ℕ → S → Type 0} {hs : List
     → (text : List ℕ) × HobsText image hs n text × takes s text u
 hobs_all laws image n l w line =
     let all = tells_all refl l w in
-    (all.0 ++ consumed_line n, (all.0, all.1, refl), laws.joined _ _ _ _ _ all.2 line)
+    (all.0 ++ consumed_line n, (all.0, all.1, refl), laws.joined all.2 line)

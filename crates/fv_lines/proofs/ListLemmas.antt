@@ -37,13 +37,13 @@ shown_none kind (Nested v) is = refl
 -- ---- parts and what they hold
 
 module _ (of_volume : Meaning → Option (List ℕ) → Type 0) (of_file : FileMeaning → Option (List ℕ) → Type 0) where
-  is_section : (k j : ℕ) (s : SectionMeaning) (body : BodyMeaning) (shown rest : List ℕ) → body ≡ body_of s
+  pub is_section : (k j : ℕ) (s : SectionMeaning) (body : BodyMeaning) (shown rest : List ℕ) → body ≡ body_of s
       → BodyShown (section_kind_of s) (body_of s) shown → BodyLines of_volume of_file (k + 1) body rest
       → SectionLines of_volume of_file k j s (section_text k j s shown ++ rest)
   is_section k j (Section kind extended own) body shown rest is a lines =
       (shown, rest, a, refl, subst (λ (b : BodyMeaning). BodyLines of_volume of_file (k + 1) b rest) is lines)
 
-  is_file : (k i : ℕ) (f : FileMeaning) (content : ContentMeaning) (digest : Option (List ℕ)) (rest : List ℕ) → content ≡ content_of f
+  pub is_file : (k i : ℕ) (f : FileMeaning) (content : ContentMeaning) (digest : Option (List ℕ)) (rest : List ℕ) → content ≡ content_of f
       → of_file f digest → ContentLines of_volume of_file (k + 1) content rest
       → FileLines of_volume of_file k i f (file_text k i f digest ++ rest)
   is_file k i (File name kind attributes own) content digest rest is a lines =
@@ -61,7 +61,7 @@ module _ (of_volume : Meaning → Option (List ℕ) → Type 0) (of_file : FileM
 -- the first three of them, and then the others
 pub begun : {S : Type 0} {takes : S → List ℕ → S → Type 0} {s t u v w : S} {a b c rest : List ℕ} → WalkLaws takes → takes s a t
     → takes t b u → takes u c v → takes v rest w → takes s (a ++ (b ++ (c ++ rest))) w
-begun laws p q r more = laws.joined _ _ _ _ _ p (laws.joined _ _ _ _ _ q (laws.joined _ _ _ _ _ r more))
+begun laws p q r more = laws.joined p (laws.joined q (laws.joined r more))
 
 -- ---- one part more
 
@@ -74,11 +74,11 @@ abbrev pub files_lines : (Meaning → Option (List ℕ) → Type 0) → (FileMea
 files_lines of_volume of_file k i fs text = FilesLines of_volume of_file k i (files_from fs) text
 
 -- the text is one of the first kind, and then one of the second
-abbrev Followed : (List ℕ → Type 0) → (List ℕ → Type 0) → List ℕ → Type 0
+abbrev pub Followed : (List ℕ → Type 0) → (List ℕ → Type 0) → List ℕ → Type 0
 Followed First Second text = (here : List ℕ) × (rest : List ℕ) × (text ≡ here ++ rest) × First here × Second rest
 
 -- the lines of one item more: its own, and those of what it holds
-one_more : {S X : Type 0} {takes : S → List ℕ → S → Type 0} {Lines : ℕ → List X → List ℕ → Type 0} {xs : List X} {i : ℕ} {s t u v : S}
+pub one_more : {S X : Type 0} {takes : S → List ℕ → S → Type 0} {Lines : ℕ → List X → List ℕ → Type 0} {xs : List X} {i : ℕ} {s t u v : S}
     → WalkLaws takes → (Own : X → List ℕ → Type 0)
     → ((y : X) (text : List ℕ) → Followed (Own y) (Lines (i + 1) (drop (i + 1) xs)) text → Lines i (y ∷ drop (i + 1) xs) text)
     → (x : X) (line inside : List ℕ) → i < length xs → x ≡ get_or xs i x → Own x (line ++ inside)
@@ -87,25 +87,4 @@ one_more {X = X} {Lines = Lines} {xs = xs} {i = i} laws Own on x line inside l h
     let text : List ℕ = line ++ inside in
     let first : (rest : List ℕ) → Lines (i + 1) (drop (i + 1) xs) rest → Lines i (get_or xs i x ∷ drop (i + 1) xs) (text ++ rest) =
     λ rest h. subst (λ (y : X). Lines i (y ∷ drop (i + 1) xs) (text ++ rest)) here (on x (text ++ rest) (text, rest, refl, own, h)) in
-    tells_more laws x text l first w (laws.joined _ _ _ _ _ p q)
-
-pub sections_more : {S : Type 0} {takes : S → List ℕ → S → Type 0} {ss : List SectionMeaning} {i : ℕ} {s t u v : S} → WalkLaws takes
-    → (of_volume : Meaning → Option (List ℕ) → Type 0) (of_file : FileMeaning → Option (List ℕ) → Type 0) (k : ℕ) (x : SectionMeaning)
-    (body : BodyMeaning) → i < length ss → x ≡ get_or ss i x → body ≡ body_of x
-    → Tells takes (sections_lines of_volume of_file k) ss i s t
-    → (shown : List ℕ) × BodyShown (section_kind_of x) (body_of x) shown × takes t (section_text k i x shown) u
-    → (rest : List ℕ) × BodyLines of_volume of_file (k + 1) body rest × takes u rest v
-    → Tells takes (sections_lines of_volume of_file k) ss (i + 1) s v
-sections_more {i = i} laws of_volume of_file k x body l here is w (shown, a, line) (rest, b, inside) =
-    one_more laws (SectionLines of_volume of_file k i) (λ y text h. h) x _ rest l here
-    (is_section of_volume of_file k i x body shown rest is a b) w line inside
-
-pub files_more : {S : Type 0} {takes : S → List ℕ → S → Type 0} {fs : List FileMeaning} {i : ℕ} {s t u v : S} → WalkLaws takes
-    → (of_volume : Meaning → Option (List ℕ) → Type 0) (of_file : FileMeaning → Option (List ℕ) → Type 0) (k : ℕ) (x : FileMeaning)
-    (content : ContentMeaning) (digest : Option (List ℕ)) → i < length fs → x ≡ get_or fs i x → content ≡ content_of x → of_file x digest
-    → Tells takes (files_lines of_volume of_file k) fs i s t → takes t (file_text k i x digest) u
-    → (rest : List ℕ) × ContentLines of_volume of_file (k + 1) content rest × takes u rest v
-    → Tells takes (files_lines of_volume of_file k) fs (i + 1) s v
-files_more {i = i} laws of_volume of_file k x content digest l here is a w line (rest, b, inside) =
-    one_more laws (FileLines of_volume of_file k i) (λ y text h. h) x _ rest l here
-    (is_file of_volume of_file k i x content digest rest is a b) w line inside
+    tells_more laws x text l first w (laws.joined p q)

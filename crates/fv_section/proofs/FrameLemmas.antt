@@ -1,4 +1,8 @@
--- A frame's checks hold exactly where a frame begins.
+-- A frame's checks hold exactly where a frame begins. The steps:
+-- 1. Where the checks hold, a frame begins, the one that is read (`begins_in`).
+-- 2. Where a frame begins, the checks hold, and this frame is read (`frame_reads`). So one frame at most begins some bytes (`one_frame`).
+-- 3. The verdict is the frame (`verdict_stands`, `stands_verdict`), or the first fault of the checks (`verdict_first`).
+-- 4. Where a check does not hold, no frame begins (`none_stands`).
 use Rattle.std.proofs.lemmas.Grind.{common_steps}
 use Rattle.std.proofs.Common.{◌≡◌, ◌≤◌, ◌<◌, ℕ, ◌+◌, ◌-◌, List, ◌++◌, length, take, drop, refl, sym, ap, ◌∙◌, subst, arith, Bool, true}
 use Rattle.std.proofs.Common.{false, length-append, length-drop, append_assoc, drop-drop}

@@ -1,4 +1,8 @@
--- What the loop over a stream keeps, what its ends say, and what a walk over the stream then reads.
+-- What the loop over a stream keeps, what its ends say, and what a walk over the stream then reads. The steps:
+-- 1. The frames up to an offset split the bytes before it, also with one frame more (`step`).
+-- 2. The loop ends at the first fault (`first_here`), or past the end, where the whole stream is split (`whole_of`).
+-- 3. Where a check fails there is no split (`none_after`). The frames of a split are in the stream (`whole_within`, `split_stands`).
+-- 4. A walk reads the frames of the split one by one (`walk_meets`, `walk_begins`).
 use Rattle.std.proofs.lemmas.Grind.{common_steps}
 use Rattle.std.proofs.Common.{◌≡◌, ℕ, zero, suc, ◌+◌, ◌-◌, ◌<◌, ◌≤◌, min, List, [], ◌∷◌, ◌++◌, length, take, drop, refl, sym, ap, ◌∙◌}
 use Rattle.std.proofs.Common.{subst, arith, length-append, length-take, length-drop, append_assoc, drop-drop}

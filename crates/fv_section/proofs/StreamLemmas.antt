@@ -1,4 +1,8 @@
--- Bytes are a stream in one way at most, and one more frame after a stream makes a stream.
+-- Bytes are a stream in one way at most, and one more frame after a stream makes a stream. The steps:
+-- 1. A stream with a frame has at least 4 bytes (`from_least`).
+-- 2. Frames up to a multiple of 4 are the first frames of each stream that goes on from there (`cut`).
+-- 3. Frame by frame, two splits of the same bytes are one (`one_split`).
+-- 4. Frames up to a multiple of 4, and one more frame, are a stream (`one_more`).
 use Rattle.std.proofs.Common.{◌≡◌, ℕ, ◌+◌, ◌<◌, ◌≤◌, List, [], ◌∷◌, ◌++◌, length, refl, sym, ap, ◌∙◌, subst, arith, length-append}
 use Rattle.std.proofs.Common.{append_assoc}
 use Rattle.fv_base.proofs.Laws.{same_cut}

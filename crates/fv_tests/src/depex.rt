@@ -1,13 +1,12 @@
-//! What no contract says: expressions worked out by hand, the fault of each wrong one, and the
-//! printed texts.
+//! What no contract says: expressions worked out by hand, and the printed texts. The wrong ones are
+//! in `parts.rows` of fv_run_tests, with the fault of each, and the values in its `library.rows`.
 
 mod memory;
 mod read;
-mod values;
 mod written;
 
 use fv_base::Guid;
-use fv_depex::{Depex, DepexFault, DepexFaultKind, Op, Phase, depex_bytes, read_depex};
+use fv_depex::{Depex, DepexFault, DepexFaultKind, Op, depex_bytes};
 use std::alloc::Global;
 
 /// The bytes of a GUID.
@@ -24,25 +23,17 @@ const ORDER: [u8; 16] = [
 /// A body, in parts.
 type Parts = &'static [&'static [u8]];
 
-// TRUE, 1000 times TRUE and AND, then an op, and END.
-fn long_expression(last: u8) -> [u8; 2003] {
+// TRUE, 1000 times TRUE and AND, then NOT and END.
+fn long_expression() -> [u8; 2003] {
     let mut bytes = [0x06; 2003];
     for i in 1..2001usize {
         if i % 2 == 0 {
             bytes[i] = 0x03;
         }
     }
-    bytes[2001] = last;
+    bytes[2001] = 0x05;
     bytes[2002] = 0x08;
     bytes
-}
-
-// The fault of an expression, if it is rejected.
-fn fault_of(alloc: Global, bytes: &[u8], phase: Phase) -> Option<DepexFault> {
-    match read_depex(alloc, bytes, phase) {
-        Ok(_depex) => None,
-        Err(fault) => Some(fault),
-    }
 }
 
 // Whether an expression is written as these bytes.

@@ -1,5 +1,5 @@
-//! What no contract says: lists worked out by hand, the fault of each wrong one, and the printed
-//! texts.
+//! What no contract says: lists worked out by hand, and the printed texts. The wrong lists are in
+//! `parts.rows` and `lengths.rows` of fv_run_tests, with the fault of each.
 
 mod faults;
 mod known;
@@ -8,7 +8,7 @@ mod memory;
 mod read;
 mod written;
 
-use fv_hob::{HobFault, HobList, hob_bytes, read_hobs};
+use fv_hob::{HobList, hob_bytes};
 use std::alloc::Global;
 
 /// Blocks, or parts of them.
@@ -142,14 +142,6 @@ fn header_of(code: u16, length: u16) -> [u8; 4] {
     let [code_low, code_high] = code.to_le_bytes();
     let [length_low, length_high] = length.to_le_bytes();
     [code_low, code_high, length_low, length_high]
-}
-
-// The fault of the list at the start of the bytes, if it is rejected.
-fn fault_of(alloc: Global, bytes: &[u8]) -> Option<HobFault> {
-    match read_hobs(alloc, bytes) {
-        Ok((_list, _)) => None,
-        Err(fault) => Some(fault),
-    }
 }
 
 // Whether a list is written as these bytes.

@@ -5,7 +5,6 @@
 
 mod content;
 mod deep;
-mod differences;
 mod large;
 mod lookups;
 mod many;
@@ -41,7 +40,7 @@ enum Claim {
 }
 
 // The volume that is read from some bytes.
-fn view_of(alloc: Global, bytes: &[u8]) -> Result<VolumeView<'_>, Fault> {
+pub(crate) fn view_of(alloc: Global, bytes: &[u8]) -> Result<VolumeView<'_>, Fault> {
     let (view, _) = read_volume(alloc, bytes)?;
     Ok(view)
 }

@@ -12,7 +12,7 @@ passed_on laws s t u p bytes q none x put =
       passed = x.passed ++ bytes;
       joined = ap (λ (l : List ℕ). l ++ bytes) whole ∙ sym (append-nil (x.passed ++ bytes))
           ∙ ap (λ (l : List ℕ). (x.passed ++ bytes) ++ l) (sym none);
-      taken = laws.joined s t u x.passed bytes x.taken put;
+      taken = laws.joined x.taken put;
     }
 
 -- a sink in which nothing waited took the bytes, and then what still waited was put
@@ -20,4 +20,4 @@ pub gathered_all : {S : Type 0} {takes : S → List ℕ → S → Type 0} → Wa
     → Gathered takes s p bytes t q → takes t q u → takes s bytes u
 gathered_all {takes = takes} laws s t u p bytes q none x last =
     subst (λ (l : List ℕ). takes s l u) (sym x.joined ∙ ap (λ (l : List ℕ). l ++ bytes) none)
-    (laws.joined s t u x.passed q x.taken last)
+    (laws.joined x.taken last)

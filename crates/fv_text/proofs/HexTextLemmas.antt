@@ -18,5 +18,5 @@ text_put laws s t u p bytes q none short took last = (
     short = short;
     text_is = refl;
   },
-  laws.joined s t u (lines_text took.lines) (last_text q) took.taken last,
+  laws.joined took.taken last,
 )

@@ -30,7 +30,7 @@ tells_more {X = X} {Text = Text} {xs = xs} {i = i} laws d line l first w more =
     λ rest h. subst (λ (ys : List X). Text i ys (line ++ rest)) (sym (drop_more xs i d l)) (first rest h) in
     record {
       text = w.text ++ line;
-      taken = laws.joined _ _ _ _ _ w.taken more;
+      taken = laws.joined w.taken more;
       on = λ rest h. subst (λ (x : List ℕ). Text 0 xs x) (sym (append_assoc w.text line rest)) (w.on (line ++ rest) (here rest h));
     }
 

@@ -1,11 +1,13 @@
 -- How the run of a plan does not end, and what a new port shows.
 use Rattle.std.proofs.Common.{◌≡◌, ◌∙◌, ℕ, List, ap, Bool, false, inl, inr, subst, sym}
-use Rattle.std.specs.Prelude.{Option}
+use Rattle.std.specs.Prelude.{Option, None, Some}
 use Rattle.fv_base.specs.Port.{has_erred, inner_of}
 use Rattle.fv_base.specs.declared.port.Port.{Port}
 use Rattle.fv_text.specs.PortViews.{Change, Ports, seen, shown}
-use Rattle.fv_command.specs.Runs.{Runs, RunsOver, SaysCommand, fresh}
+use Rattle.fv_command.specs.Runs.{HasText, Runs, RunsOver, SaysCommand, fresh}
 use Rattle.fv_command.specs.Tasks.{PartText, Says}
+use Rattle.fv_command.specs.declared.ending.Ending.{Ending}
+use Rattle.fv_command.specs.declared.ending.Refusal.{Refusal}
 use Rattle.fv_command.specs.declared.extracting.Extraction.{Extraction}
 use Rattle.fv_command.specs.declared.extracting.Extraction.TheVariants.{Made, Stored, NotFound, NotSectioned}
 use Rattle.fv_command.specs.declared.status.Status.{Status}
@@ -35,31 +37,32 @@ says_not_wrong Scan hex input text said = said
 
 command_not_wrong : (c : Command) (hex : Bool) (first second : Change) (text : List ℕ) → SaysCommand c hex first second WrongWords text
     → ⊥
-command_not_wrong (Single task at file) hex first second text (same, inl (bytes, gives, said)) = says_not_wrong task hex bytes text said
-command_not_wrong (Single task at file) hex first second text (same, inr (is, stops)) = let bad : WrongWords ≡ Refused = is in cc
-command_not_wrong (Hobs file image) hex first second text (inl (is, lists)) = let bad : WrongWords ≡ Done = is in cc
-command_not_wrong (Hobs file image) hex first second text (inr (is, stops)) = let bad : WrongWords ≡ Refused = is in cc
-command_not_wrong (Compare a b) hex first second text (inl (m, k, gives, also, inl (is, same), line)) = let bad : WrongWords ≡ Done = is in cc
-command_not_wrong (Compare a b) hex first second text (inl (m, k, gives, also, inr (is, differ), line)) = let bad : WrongWords ≡ Different = is in cc
-command_not_wrong (Compare a b) hex first second text (inr (is, stops)) = let bad : WrongWords ≡ Refused = is in cc
+command_not_wrong (Single task at file) hex first second text (same, (bytes, gives, said)) = says_not_wrong task hex bytes text said
+command_not_wrong (Hobs file image) hex first second text (is, lists) = let bad : WrongWords ≡ Done = is in cc
+command_not_wrong (Compare a b) hex first second text (m, k, gives, also, inl (is, same), line) = let bad : WrongWords ≡ Done = is in cc
+command_not_wrong (Compare a b) hex first second text (m, k, gives, also, inr (is, differ), line) = let bad : WrongWords ≡ Different = is in cc
 
-run_not_wrong : (p : Plan) (ports : Ports) → Runs p WrongWords ports → ⊥
-run_not_wrong p ports (ran, text, says, inl (is, wrote)) =
-    command_not_wrong p.command p.hex ports.first ports.second text
-    (subst (λ (s : Status). SaysCommand p.command p.hex ports.first ports.second s text) (sym is) says)
-run_not_wrong p ports (ran, text, says, inr (is, stops)) = let bad : WrongWords ≡ Refused = is in cc
+text_not_wrong : (c : Command) (hex : Bool) (first second : Change) (refusal : Option Refusal) (text : List ℕ)
+    → HasText c hex first second refusal WrongWords text → ⊥
+text_not_wrong c hex first second None text said = command_not_wrong c hex first second text said
+text_not_wrong c hex first second (Some refusal) text (stops, is, line) = let bad : WrongWords ≡ Refused = is in cc
+
+run_not_wrong : (p : Plan) (ended : Ending) (ports : Ports) → Runs p ended ports → ended.status ≡ WrongWords → ⊥
+run_not_wrong p ended ports (ran, text, has, inl (is, wrote)) wrong =
+    text_not_wrong p.command p.hex ports.first ports.second ended.refusal text
+    (subst (λ (s : Status). HasText p.command p.hex ports.first ports.second ended.refusal s text) (sym is ∙ wrong) has)
+run_not_wrong p ended ports (ran, text, has, inr (is, stops)) wrong = let bad : WrongWords ≡ Refused = sym wrong ∙ is in cc
 
 -- the run of a plan does not end in wrong words
 pub never_wrong : {S F : Type 0} (of_input : S → Option (List ℕ)) (of_file : F → Option (List ℕ))
-    (opens : List ℕ → Option F → Type 0) (is_standard : S → Type 0) (p : Plan) (status : Status) (output : Change)
-    → RunsOver of_input of_file opens is_standard p status output → status ≡ WrongWords → ⊥
-never_wrong of_input of_file opens is_standard p status output (first, second, is_first, is_second, s, s', ran) is =
-    let ports : Ports = record {
+    (opens : List ℕ → Option F → Type 0) (is_standard : S → Type 0) (p : Plan) (ended : Ending) (output : Change)
+    → RunsOver of_input of_file opens is_standard p ended output → ended.status ≡ WrongWords → ⊥
+never_wrong of_input of_file opens is_standard p ended output (first, second, is_first, is_second, s, s', ran) is =
+    run_not_wrong p ended (record {
       first = record { old = fresh of_input of_file first; new = s };
       second = record { old = fresh of_input of_file second; new = s' };
       output = output;
-    } in
-    run_not_wrong p ports (subst (λ (x : Status). Runs p x ports) is ran)
+    }) ran is
 
 -- what a new port shows
 pub shown_new : {T : Type 0} (told : T → Option (List ℕ)) (port : Port T) (inner : T) → inner_of port ≡ inner → has_erred port ≡ false

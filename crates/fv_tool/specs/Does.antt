@@ -5,11 +5,10 @@ use Rattle.std.specs.String.{string_bytes}
 use Rattle.std.specs.declared.io.ErrorKind.{ErrorKind}
 use Rattle.std.specs.declared.io.ErrorKind.TheVariants as kinds
 use Rattle.fv_text.specs.PortViews.{Change}
-use Rattle.fv_command.specs.Endings.{Ends}
 use Rattle.fv_command.specs.Runs.{RunsOver}
 use Rattle.fv_plan.specs.declared.plan.Plan.{Plan}
-use Rattle.fv_command.specs.declared.status.Status.{Status}
-use Rattle.fv_tool.specs.Refusals.{line_of, status_of}
+use Rattle.fv_command.specs.declared.ending.Ending.{Ending}
+use Rattle.fv_tool.specs.Refusals.{EndsRejected}
 use Rattle.fv_arguments.specs.Words.{AreRight, Asks}
 use Rattle.fv_arguments.specs.declared.words.WordFault.{WordFault}
 use Rattle.fv_arguments.specs.declared.words.WordFault.TheVariants.{Words, OutOfMemory}
@@ -19,17 +18,16 @@ use Rattle.fv_arguments.specs.declared.words.WordFault.TheVariants.{Words, OutOf
 abbrev pub MayRefuse : List (List ℕ) → WordFault → Type 0
 MayRefuse words fault = (1 < length words) × (fault ≡ Words → AreRight words → ⊥)
 
--- the arguments are rejected, and the line that says so was written, or a write failed in it
-abbrev pub TellsWords : List (List ℕ) → Status → Change → Type 0
-TellsWords words status output =
-    (fault : WordFault) × MayRefuse words fault × Ends (status_of fault) (line_of fault) output status
+-- the arguments are rejected, and that was reported
+abbrev pub TellsWords : List (List ℕ) → Ending → Change → Type 0
+TellsWords words ended output = (fault : WordFault) × MayRefuse words fault × EndsRejected fault ended output
 
 -- the arguments are right, and the plan that they ask for was run; or they are rejected. Those that are not right are
 -- rejected as wrong or because memory ran out, those that are right only because memory ran out
 abbrev pub DoesAsked : {S F : Type 0} → (S → Option (List ℕ)) → (F → Option (List ℕ)) → (List ℕ → Option F → Type 0)
-    → (S → Type 0) → List (List ℕ) → Status → Change → Type 0
-DoesAsked of_input of_file opens is_standard words status output =
-    ((p : Plan) × Asks words p × RunsOver of_input of_file opens is_standard p status output) ⊎ TellsWords words status output
+    → (S → Type 0) → List (List ℕ) → Ending → Change → Type 0
+DoesAsked of_input of_file opens is_standard words ended output =
+    ((p : Plan) × Asks words p × RunsOver of_input of_file opens is_standard p ended output) ⊎ TellsWords words ended output
 
 -- the fault of arguments that cannot be read: out of memory by an error of that kind, else they are wrong
 abbrev pub IsFaultOf : ErrorKind → WordFault → Type 0
@@ -43,15 +41,15 @@ IsGiven has denies (Err fault) = (fault ≡ OutOfMemory) ⊎ ((kind : ErrorKind)
 
 -- a run of arguments, or of what was reported of arguments that could not be had
 abbrev pub RunsArguments : {S F : Type 0} → (S → Option (List ℕ)) → (F → Option (List ℕ)) → (List ℕ → Option F → Type 0)
-    → (S → Type 0) → Result (Vec (String Global) Global) WordFault → Status → Change → Type 0
-RunsArguments of_input of_file opens is_standard (Ok words) status output =
-    DoesAsked of_input of_file opens is_standard (map string_bytes words.items) status output
-RunsArguments of_input of_file opens is_standard (Err fault) status output =
-    Ends (status_of fault) (line_of fault) output status
+    → (S → Type 0) → Result (Vec (String Global) Global) WordFault → Ending → Change → Type 0
+RunsArguments of_input of_file opens is_standard (Ok words) ended output =
+    DoesAsked of_input of_file opens is_standard (map string_bytes words.items) ended output
+RunsArguments of_input of_file opens is_standard (Err fault) ended output =
+    EndsRejected fault ended output
 
 -- a run of a process: of its arguments
 abbrev pub RunsProcess : {S F : Type 0} → (S → Option (List ℕ)) → (F → Option (List ℕ)) → (List ℕ → Option F → Type 0)
-    → (S → Type 0) → (List (String Global) → Type 0) → (ErrorKind → Type 0) → Status → Change → Type 0
-RunsProcess of_input of_file opens is_standard has denies status output =
+    → (S → Type 0) → (List (String Global) → Type 0) → (ErrorKind → Type 0) → Ending → Change → Type 0
+RunsProcess of_input of_file opens is_standard has denies ended output =
     (words : Result (Vec (String Global) Global) WordFault) × IsGiven has denies words
-    × RunsArguments of_input of_file opens is_standard words status output
+    × RunsArguments of_input of_file opens is_standard words ended output

@@ -1,10 +1,15 @@
 -- Why the command line is rejected, and what the program says of it.
-use Rattle.std.specs.Prelude.{ℕ, List, [], ◌∷◌, ◌++◌, codes}
-use Rattle.fv_command.specs.Lines.{numbered_line}
+use Rattle.std.specs.Prelude.{◌≡◌, ℕ, List, [], ◌∷◌, ◌++◌, Option, None, Some, codes}
+use Rattle.fv_base.specs.Faults.{out_of_memory}
+use Rattle.fv_command.specs.Endings.{Ends, numbered_line}
+use Rattle.fv_command.specs.declared.ending.Ending.{Ending}
+use Rattle.fv_command.specs.declared.ending.Refusal.{Refusal}
+use Rattle.fv_command.specs.declared.ending.Refusal.TheVariants.{Input}
 use Rattle.fv_command.specs.declared.status.Status.{Status}
 use Rattle.fv_command.specs.declared.status.Status.TheVariants as statuses
 use Rattle.fv_arguments.specs.declared.words.WordFault.{WordFault}
 use Rattle.fv_arguments.specs.declared.words.WordFault.TheVariants.{Words, OutOfMemory}
+use Rattle.fv_text.specs.PortViews.{Change}
 
 -- the status that a rejection of the command line ends with, and the line that reports it
 abbrev pub status_of : WordFault → Status
@@ -15,3 +20,13 @@ status_of OutOfMemory = statuses.Refused
 abbrev pub line_of : WordFault → List ℕ
 line_of Words = codes "wrong words" ++ 10 ∷ []
 line_of OutOfMemory = numbered_line 24 0
+
+-- the refusal that is returned with it: of wrong arguments there is none
+abbrev pub refusal_of : WordFault → Option Refusal
+refusal_of Words = None
+refusal_of OutOfMemory = Some (Input out_of_memory)
+
+-- the command line is rejected: the line that says so was written, or a write failed in it, or the flush after it
+abbrev pub EndsRejected : WordFault → Ending → Change → Type 0
+EndsRejected fault ended output =
+    Ends (status_of fault) (line_of fault) output ended.status × (ended.refusal ≡ refusal_of fault)

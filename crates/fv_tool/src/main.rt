@@ -3,10 +3,9 @@
 #![tactic(auto)]
 
 ghost use Rattle.fv_text.specs.PortViews.{Writes, change, seen, shown};
-ghost use Rattle.fv_command.specs.Endings.{Ends, Reports};
-ghost use Rattle.fv_command.specs.Endings.{exit_code};
+ghost use Rattle.fv_command.specs.Endings.{Ends, exit_code};
 ghost use Rattle.fv_tool.specs.Does.{IsGiven, RunsArguments, RunsProcess};
-ghost use Rattle.fv_tool.specs.Refusals.{line_of, status_of};
+ghost use Rattle.fv_tool.specs.Refusals.{line_of, refusal_of, status_of};
 ghost use Rattle.std.specs.Prelude.{◌≡◌, ◌≢◌, false, true, IfErr, IfOk};
 ghost use Rattle.fv_base.specs.Port.{is_flushed};
 ghost use Rattle.std.specs.Process.{exit_status};
@@ -49,7 +48,7 @@ fn arguments<P: Process>(alloc: Global, process: &P) -> Result<Vec<String>, Word
 // Reports that the command line is wrong, or that memory ran out while it was read.
 fn refuse_words<W: Write>(writer: &mut Port<W>, fault: WordFault) -> Ending
     ensures ends { Ends (status_of fault) (line_of fault) (change W.contents writer.old writer.new) result.status }
-    ensures why { Reports result (change W.contents writer.old writer.new) }
+    ensures why { result.refusal ≡ refusal_of fault }
     ensures flushed { result.status ≢ Status.Refused → is_flushed writer.new ≡ true }
 {
     match fault {
@@ -74,14 +73,11 @@ fn run_given<O: Opener, W: Write>(
     // What the arguments ask for is run; arguments that ask for nothing are reported, and so is a
     // lack of memory, and arguments that could not be read.
     ensures ran { RunsArguments O.Standard.remaining O.File.remaining (O.opens opener.now) (O.is_standard opener.now)
-        words result.status (change W.contents writer.old writer.new) }
+        words result (change W.contents writer.old writer.new) }
 
     // If the status is WrongWords, the line of wrong arguments was written.
     ensures wrong { result.status ≡ Status.WrongWords
         → Writes (shown W.contents writer.old) (shown W.contents writer.new) (line_of WordFault.Words) }
-
-    // A refusal that is returned is the one whose line was written, or a write failed in it.
-    ensures why { Reports result (change W.contents writer.old writer.new) }
 
     // The last call of the writer was a flush, unless the status is Refused.
     ensures flushed { result.status ≢ Status.Refused → is_flushed writer.new ≡ true }
@@ -112,7 +108,7 @@ fn hold_numbers<O: Opener>(opener: &O) -> (Option<O::File>, Option<O::File>, Opt
 fn run_process<P: Opener + Process>(alloc: Global, process: &P) -> (Ending, Port<P::Writer>)
     ensures runs { (writer : P.Writer) × P.is_output process.now writer
         × RunsProcess P.Standard.remaining P.File.remaining (P.opens process.now) (P.is_standard process.now)
-        (P.has_arguments process.now) (P.denies_arguments process.now) result.0.status (record {
+        (P.has_arguments process.now) (P.denies_arguments process.now) result.0 (record {
           old = seen (P.Writer.contents writer) false;
           new = shown P.Writer.contents result.1;
         }) }
@@ -142,13 +138,13 @@ fn advise<P: Process>(process: &P, ending: Ending) {
 // of how that ended. Returns the exit code, and the output.
 fn process<P: Opener + Process>(alloc: Global, process: &P) -> (ExitCode, Port<P::Writer>)
     ensures { (writer : P.Writer) × P.is_output process.now writer
-        × (status : Status) × (exit_status result.0 ≡ exit_code status)
+        × (ended : Ending) × (exit_status result.0 ≡ exit_code ended.status)
         × RunsProcess P.Standard.remaining P.File.remaining (P.opens process.now) (P.is_standard process.now)
-        (P.has_arguments process.now) (P.denies_arguments process.now) status (record {
+        (P.has_arguments process.now) (P.denies_arguments process.now) ended (record {
           old = seen (P.Writer.contents writer) false;
           new = shown P.Writer.contents result.1;
         })
-        × (status ≢ Status.Refused → is_flushed result.1 ≡ true) }
+        × (ended.status ≢ Status.Refused → is_flushed result.1 ≡ true) }
 {
     let (ending, output) = run_process(alloc, process);
     advise(process, ending);

@@ -1,4 +1,8 @@
--- Bytes have one first fault at most.
+-- Bytes have one first fault at most. The steps:
+-- 1. The names of files and the layout of a body have one (`names_once`, `layout_once`), and one where it is moved (`moved_once`).
+-- 2. So a stream, a body and a volume have one, if each section has (`stream_once`, `body_once`, `volume_once`).
+-- 3. By the depth of the nesting each section has one (`section_once`), and so each volume (`first_once`).
+-- 4. So there is one result that a reader may have (`only_answer`, `one_answer`, `sound_answer`).
 use Rattle.std.proofs.Common.{◌≡◌, ◌≢◌, ◌≤◌, ℕ, zero, suc, List, length, take, drop, refl, sym, ap, ◌∙◌, subst, inl, inr}
 use Rattle.std.specs.Prelude.{Result, Ok, Err, IfOk, IfErr}
 use Rattle.fv_base.specs.Checks.{First, Any}

@@ -13,6 +13,8 @@ pub use Rattle.fv_tree.proofs.SizeLaws.{section_falls, body_falls, section_body_
 pub use Rattle.fv_tree.proofs.SizeLaws.{file_content_falls}
 -- the volumes in a section and in a file; the items of a list from one on
 pub use Rattle.fv_tree.proofs.InsideLaws.{in_section, in_file, item_at}
+-- what is inside something that was read nests one level less deep
+pub use Rattle.fv_tree.proofs.DepthLaws.{nests_files, nests_content, nests_sections, nests_body, nests_group, nests_nested}
 -- ---- a volume
 
 -- a volume that bytes begin with has its header there
@@ -33,11 +35,15 @@ pub use Rattle.fv_tree.proofs.FaultPlaceLaws.{first_within}
 -- a fault is out of memory, or it is not
 pub use Rattle.fv_tree.proofs.WantLaws.{want_known}
 -- the kinds of the faults of reading
-pub use Rattle.fv_tree.proofs.FaultKindLaws.{OfReading, stands_kind, is_reading, stands_reading, stands_other}
--- ---- two meanings
+pub use Rattle.fv_tree.proofs.FaultKindLaws.{is_reading, stands_reading, stands_other}
+-- ---- a whole input
 
--- they differ nowhere exactly where they are one
-pub use Rattle.fv_tree.proofs.DifferenceLaws.{one_volume, no_difference}
+-- it is the volume that it begins with where it ends there, and is none where it begins with none or goes on
+pub use Rattle.fv_tree.proofs.InputLaws.{input_prefix, end_found, end_only, volume_refused, end_refused}
+-- why it is rejected where memory runs out only if it begins with the header of a volume
+pub use Rattle.fv_tree.proofs.InputLaws.{ran_out}
+-- its faults are none of a reader or a writer
+pub use Rattle.fv_tree.proofs.InputLaws.{IsOfInput, input_kind, stood_kind}
 -- ---- the volumes in some bytes
 
 -- they begin at one list of places, and each of them is within the bytes

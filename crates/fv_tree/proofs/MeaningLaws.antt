@@ -1,4 +1,8 @@
--- Bytes have one meaning at most.
+-- Bytes have one meaning at most. The steps:
+-- 1. The files that are stored in a volume are one list (`one_stand`). What agrees with it item by item is one list too (`pairs_one`).
+-- 2. So a content, a file, a volume and a section have one meaning, if what lies inside has (`content_one`, `file_one`, `volume_one`,
+--    `section_one`).
+-- 3. By the depth of the nesting each section has one (`sections_one`), and so each volume (`one_meaning`, `one_beginning`).
 use Rattle.std.proofs.lemmas.Grind.{common_steps}
 use Rattle.std.proofs.Common.{◌≡◌, ◌≤◌, ℕ, zero, suc, true, false, List, [], ◌∷◌, length, take, refl, sym, ap, ◌∙◌, subst, arith}
 use Rattle.fv_file.proofs.Laws.{only_one}

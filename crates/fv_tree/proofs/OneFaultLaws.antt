@@ -1,4 +1,7 @@
--- The first fault of the cells of a body is one, and so is that of the frames of a stream.
+-- The first fault of the cells of a body is one, and so is that of the frames of a stream. The steps:
+-- 1. Two places are one if neither is before the other (`same_place`).
+-- 2. No fault of a frame is before the end of frames that join (`frame_later`). So a stream has one first fault (`one_frame_fault`).
+-- 3. No fault of a cell is before the end of cells that tile (`cell_later`). So a body has one first fault (`one_cell_fault`).
 use Rattle.std.proofs.Common.{◌≡◌, ◌<◌, ℕ, ◌+◌, ◌-◌, Bool, true, false, List, [], ◌∷◌, ◌++◌, length, take, drop}
 use Rattle.std.proofs.Common.{refl, sym, ap, ◌∙◌, subst, arith, length-drop, append_assoc}
 use Rattle.std.specs.Prelude.{nat_lt}

@@ -1,4 +1,8 @@
--- What has a fault is not read, whether it is the first or any.
+-- What has a fault is not read, whether it is the first or any. The steps:
+-- 1. Bytes with a fault in them are no stream, no body and no volume, if no section with a fault is read (`stream_by`, `layout_by`,
+--    `file_by`, `body_by`, `volume_by`).
+-- 2. By the depth of the nesting no section with a fault is read (`section_refuses`), so no stream and no volume (`stream_refuses`,
+--    `fault_refuses`).
 use Rattle.std.proofs.Common.{◌≡◌, ◌≤◌, ℕ, zero, suc, List, length, take, drop, ap, ◌∙◌, subst, inl, inr}
 use Rattle.fv_base.specs.Checks.{Which}
 use Rattle.fv_base.proofs.Laws.{none_fails}

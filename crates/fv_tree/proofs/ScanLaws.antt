@@ -1,4 +1,9 @@
--- Which volumes begin in some bytes.
+-- Which volumes begin in some bytes. The steps:
+-- 1. A volume at a place has one length, and is within the bytes (`one_length`, `at_within`).
+-- 2. A search that goes from place to place passes no volume (`reached_first`, `reached_joined`, `reached_more`, `none_unsigned`).
+-- 3. One list of places is that of a walk (`one_walk`). A walk finds the volumes of the bytes (`walk_found`), and what is found is the
+--    list of a walk (`found_walk`).
+-- 4. So the volumes of some bytes begin at one list of places (`one_found`), and are within the bytes (`found_within`).
 use Rattle.std.proofs.lemmas.Grind.{common_steps}
 use Rattle.std.proofs.Common.{◌≡◌, ℕ, zero, suc, ◌+◌, ◌%◌, ◌<◌, ◌≤◌, List, [], ◌∷◌, length, drop, take, refl, sym, ap, ◌∙◌}
 use Rattle.std.proofs.Common.{subst, drop-drop, arith, true, false, inl, inr}

@@ -1,4 +1,9 @@
--- A section is read by its shape.
+-- A section is read by its shape. The steps:
+-- 1. A test says whether a body is opened as a volume (`opens_found`, `opens_holds`).
+-- 2. So the shape says what the section is: a leaf, a group or an opened volume (`leaf_shape`, `group_shape`, `volume_shape`).
+-- 3. A leaf means its bytes (`leaf_is`). A group and an opened volume mean what is read in them, one level deeper (`group_found`,
+--    `nested_found`), and the first fault in them is theirs (`group_first`, `nested_first`).
+-- 4. Neither is read where no level is left (`too_deep`, `deep_fault`).
 use Rattle.std.proofs.lemmas.Grind.{common_steps}
 use Rattle.std.proofs.Common.{◌≡◌, ℕ, zero, suc, ◌+◌, ◌≤◌, List, [], ◌∷◌, length, take, Bool, true, false, refl, sym, ap, ◌∙◌, subst, inl}
 use Rattle.std.proofs.Common.{inr, arith}

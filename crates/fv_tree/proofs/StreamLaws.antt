@@ -1,4 +1,8 @@
--- A stream is walked frame by frame, and its sections are read on the way.
+-- A stream is walked frame by frame, and its sections are read on the way. The steps:
+-- 1. At first all its frames are left, and no section is read (`walk_begun`).
+-- 2. The next frame is within the stream, and its body within the limit (`walk_ready`). Either it is read (`walk_more`), or it is the first
+--    that is rejected (`walk_first`).
+-- 3. At the end the sections are those of the stream (`walk_found`).
 use Rattle.std.proofs.Common.{◌≡◌, ℕ, ◌+◌, ◌≤◌, List, [], ◌∷◌, ◌++◌, length, refl, sym, ap, ◌∙◌, subst, inr, append_assoc, arith}
 use Rattle.std.proofs.lemmas.List.{append-nil}
 use Rattle.fv_base.specs.Checks.{First}

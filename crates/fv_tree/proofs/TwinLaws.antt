@@ -1,4 +1,8 @@
--- The first twin is one, and so is the volume top file that is not at the end: no two files that are current have one name.
+-- The first twin is one, and so is the volume top file that is not at the end: no two files that are current have one name. The steps:
+-- 1. Files have one first twin (`one_twin`).
+-- 2. Files without twins have none if some are left out (`no_twins_kept`), and two of them at different places are not twins (`apart`).
+-- 3. Of two current files neither replaces the other, so their names differ (`names_differ`).
+-- 4. Volume top files have one name, so two of them are not both current (`two_tops`), and one at most is not at the end (`one_top`).
 use Rattle.std.proofs.lemmas.Grind.{common_steps}
 use Rattle.std.proofs.Common.{◌≡◌, ℕ, Bool, true, false, List, [], ◌∷◌, ◌++◌, refl, sym, ◌∙◌, subst, inl, inr, arith}
 use Rattle.std.specs.Prelude.{◌&&◌, not}

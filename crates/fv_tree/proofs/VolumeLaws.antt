@@ -1,14 +1,15 @@
--- A volume that bytes begin with is its header and its files.
+-- A volume that bytes begin with is its header and its files. The steps:
+-- 1. A header and files make a volume (`made`), and a volume has them (`front_of`, `has_files`).
+-- 2. The fault of a header is the first fault of the bytes (`head_first`).
+-- 3. A body that is opened is one volume (`opened_whole`).
 use Rattle.std.proofs.Common.{◌≡◌, ◌≤◌, ◌⊎◌, ℕ, List, [], ◌∷◌, length, take, refl, sym, ap, ◌∙◌, subst}
 use Rattle.std.proofs.Common.{arith, inl, inr}
 use Rattle.std.specs.Prelude.{◌≢◌}
-use Rattle.std.specs.List.{AllByRecursion}
 use Rattle.std.proofs.lemmas.List.{length-take-le, take_all}
 use Rattle.fv_base.specs.Checks.{IsFirstFault, First}
 use Rattle.fv_base.specs.Faults.{out_of_memory}
 use Rattle.fv_base.specs.declared.fault.Fault.{Fault}
-use Rattle.fv_base.specs.declared.fault.FaultKind.TheVariants as kinds
-use Rattle.fv_base.proofs.Laws.{first_among, take-take_le}
+use Rattle.fv_base.proofs.Laws.{take-take_le}
 use Rattle.fv_head.specs.Head.{HeadFields, BeginsVolume}
 use Rattle.fv_head.specs.HeadChecks.{head_checks, volume_len_at}
 use Rattle.fv_head.specs.declared.extent.Extent.{Extent}
@@ -78,14 +79,6 @@ has_files n k b m h e front within d =
     (same.0, len, subst Q len (subst P same.1 (has_of n k b m d)))
 
 -- ---- faults of the header
-
--- the kind of such a fault is no out of memory
-pub head_known : (b : List ℕ) (f : Fault) → IsFirstFault (head_checks b) f → f.kind ≢ kinds.OutOfMemory
-head_known b f first =
-    let P : Fault → Type 0 = λ g. g.kind ≢ kinds.OutOfMemory in
-    let all : AllByRecursion (λ c. P c.fault) (head_checks b) =
-    (λ e. cc, (λ e. cc, (λ e. cc, (λ e. cc, (λ e. cc, (λ e. cc, (λ e. cc, (λ e. cc, (λ e. cc, (λ e. cc, (λ e. cc, tt))))))))))) in
-    first_among P (head_checks b) f all first
 
 pub head_first : (n : ℕ) (b : List ℕ) (f g : Fault) (at : Place) → (f ≡ out_of_memory) ⊎ IsFirstFault (head_checks b) f
     → f ≢ out_of_memory → g ≡ moved_fault at.offset at.depth f → InVolume First n g b at

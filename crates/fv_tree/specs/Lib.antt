@@ -6,9 +6,9 @@ pub mod MeaningParts
 pub mod Volumes
 pub mod ReadParts
 pub mod FirstFault
+pub mod Inputs
 pub mod LocatedFiles
 pub mod FileNames
-pub mod Difference
 pub mod FoundVolumes
 pub mod LookupInstances
 pub mod Views

@@ -6,19 +6,20 @@ ghost use Rattle.fv_base.specs.Checks.{First};
 ghost use Rattle.fv_base.specs.Faults.{out_of_memory};
 ghost use Rattle.fv_base.specs.Limits.{volume_limit};
 ghost use Rattle.fv_head.specs.HeadChecks.{BeginsWithHeader};
-ghost use Rattle.fv_tree.specs.FileNames.{IsIndex};
+ghost use Rattle.fv_names.specs.NamedFiles.{names_in};
+ghost use Rattle.fv_names.specs.NameIndexes.{IsIndex, entries_of};
 ghost use Rattle.fv_tree.specs.Files.{FileForm};
 ghost use Rattle.fv_tree.specs.FirstFault.{Moved, LayoutFault};
 ghost use Rattle.fv_tree.specs.LocatedFiles.{StandIn, file_form, BeginWithFiles, HasDataIn, IsFirstOfFiles};
-ghost use Rattle.fv_tree.specs.inner.NameOrders.{names_in};
+ghost use Rattle.fv_tree.specs.inner.NameForms.{named_file};
 ghost use Rattle.fv_tree.specs.inner.ReadingParts.{Reads, AllStored};
 
 use crate::fault_place::fault_within;
-use crate::name_index::Numbers;
 use crate::volume_files::{LocatedFile, current_files, files_of};
 use fv_base::{Fault, Place};
 use fv_file::cells;
 use fv_head::{Extent, verify_fv};
+use fv_names::NameIndex;
 use std::alloc::Global;
 
 // The files of a volume of this extent, as they are stored in it, and their numbers.
@@ -27,7 +28,7 @@ pub(crate) fn files_in_body<'a>(
     volume: &'a [u8],
     extent: Extent,
     place: Place,
-) -> Result<(Vec<LocatedFile<'a>>, Numbers), Fault>
+) -> Result<(Vec<LocatedFile<'a>>, NameIndex), Fault>
     requires place { place.offset + length volume.now < 2 ^ 63 }
     requires small { length volume.now ≤ volume_limit }
     requires multiple { length volume.now % 8 ≡ 0 }
@@ -37,7 +38,7 @@ pub(crate) fn files_in_body<'a>(
     ensures read { Reads (λ r. StandIn extent volume.now (map file_form r.0.items))
         (Moved place (LayoutFault First extent volume.now)) result }
     ensures stored { IfOk result (λ r. AllStored place.offset (map file_form r.0.items)) }
-    ensures numbers { IfOk result (λ r. IsIndex (names_in (map file_form r.0.items)) r.1.sorted.items) }
+    ensures numbers { IfOk result (λ r. IsIndex (names_in (map named_file r.0.items)) (entries_of r.1)) }
 {
     let list = match cells(
         alloc,

@@ -4,10 +4,10 @@ mod file;
 mod section;
 mod volume;
 
-use crate::name_index::Numbers;
 use fv_base::Guid;
 use fv_file::FileAttributes;
 use fv_head::VolumeHead;
+use fv_names::NameIndex;
 use std::marker::Model;
 use std::mem::size_of;
 
@@ -19,7 +19,7 @@ use std::mem::size_of;
 pub struct VolumeView<'a> {
     head: VolumeHead,
     files: Vec<FileView<'a>>,
-    numbers: Numbers,
+    numbers: NameIndex,
 }
 
 /// The meaning of a file of a volume: its name, its type, its attributes and its content. Only

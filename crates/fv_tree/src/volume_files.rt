@@ -2,22 +2,23 @@
 
 ghost use Rattle.std.specs.Prelude.{◌≡◌, ◌≢◌, ◌≤◌, ◌<◌, ◌^◌, ◌==◌, ◌&&◌, ◌||◌, not, [], ◌∷◌, map};
 ghost use Rattle.std.specs.Prelude.{length as length_of, IsTrue, IfOk, IfErr, OnOk, IfSome, IfNone, true};
-ghost use Rattle.std.specs.List.{AllByRecursion};
+ghost use Rattle.std.specs.List.{All, AllByRecursion, list_any};
 ghost use Rattle.fv_base.specs.Checks.{First};
 ghost use Rattle.fv_base.specs.Faults.{outer_fault, out_of_memory};
 ghost use Rattle.fv_file.specs.CellForms as cellular;
 ghost use Rattle.fv_tree.specs.Files.{FileForm, NoTwins, TopAtEnd, AreCurrent, files_in, current_in, is_marked, is_top};
-ghost use Rattle.fv_tree.specs.Files.{end_of};
+ghost use Rattle.fv_tree.specs.Files.{end_of, replaced_by};
 ghost use Rattle.fv_tree.specs.FirstFault.{HasTwin, TopElsewhere, NamesFault};
-ghost use Rattle.fv_tree.specs.inner.NameOrders.{names_in};
-ghost use Rattle.fv_tree.specs.FileNames.{IsIndex};
+ghost use Rattle.fv_tree.specs.inner.NameForms.{named_file};
+ghost use Rattle.fv_names.specs.NamedFiles.{names_in};
+ghost use Rattle.fv_names.specs.NameIndexes.{IsIndex, entries_of};
 ghost use Rattle.fv_tree.specs.LocatedFiles.{file_form, state_by};
 ghost use Rattle.fv_tree.specs.inner.ReadingParts.{IsSmallCell, is_noted, mark_of};
 
-use crate::name_index::Numbers;
 use fv_base::{Fault, FaultKind, Guid, check};
 use fv_file::layout::{HEADER_LEN, LARGE_HEADER_LEN};
 use fv_file::{Cell, FileAttributes, FileState};
+use fv_names::NameIndex;
 use std::alloc::Global;
 
 /// The bytes of the name of the volume top file, `EFI_FFS_VOLUME_TOP_FILE_GUID`,
@@ -165,8 +166,8 @@ pub(crate) fn files_of<'a>(alloc: Global, cells: &[Cell<'a>]) -> Result<Vec<Loca
 
 // Ok if no two of the files are twins; or the fault DuplicateName at the first file that has an
 // earlier twin.
-fn check_twins(files: &[LocatedFile], numbers: &Numbers) -> Result<(), Fault>
-    requires { IsIndex (names_in (map file_form files.now)) numbers.now.sorted.items }
+fn check_twins(files: &[LocatedFile], numbers: &NameIndex) -> Result<(), Fault>
+    requires { IsIndex (names_in (map named_file files.now)) (entries_of numbers.now) }
     ensures found { OnOk result (NoTwins (map file_form files.now)) }
     ensures first { IfErr result (λ e. (f : FileForm) × HasTwin First f (map file_form files.now)
         × (e ≡ outer_fault FaultKind.DuplicateName f.offset)) }
@@ -179,13 +180,28 @@ fn check_twins(files: &[LocatedFile], numbers: &Numbers) -> Result<(), Fault>
     Ok(())
 }
 
+// Notes of each file whether one of the files replaces it.
+fn set_replaced(files: &mut [LocatedFile], numbers: &NameIndex)
+    requires index { IsIndex (names_in (map named_file files.old)) (entries_of numbers.now) }
+    requires apart { NoTwins (map file_form files.old) }
+    ensures same { map file_form files.new ≡ map file_form files.old }
+    ensures replaced { All (λ s. is_noted s.mark ≡ list_any (replaced_by (file_form s)) (map file_form files.new))
+        files.new }
+{
+    for place in 0..numbers.len() {
+        let number = numbers.number_at(place) as usize;
+        let replaced = numbers.is_replaced(files, place);
+        files[number].mark = files[number].mark.with_replaced(replaced);
+    }
+}
+
 // Keeps only the files that none of them replaces.
-fn keep_current(files: &mut Vec<LocatedFile>, numbers: &Numbers)
-    requires index { IsIndex (names_in (map file_form files.old.items)) numbers.now.sorted.items }
+fn keep_current(files: &mut Vec<LocatedFile>, numbers: &NameIndex)
+    requires index { IsIndex (names_in (map named_file files.old.items)) (entries_of numbers.now) }
     requires apart { NoTwins (map file_form files.old.items) }
     ensures { map file_form files.new.items ≡ current_in (map file_form files.old.items) }
 {
-    numbers.set_replaced(files.as_mut_slice());
+    set_replaced(files.as_mut_slice(), numbers);
     files.retain(|file| !file.mark.is_replaced());
 }
 
@@ -227,14 +243,14 @@ fn check_top(files: &[LocatedFile], length: u64) -> Result<(), Fault>
 fn apart_files<'a>(
     alloc: Global,
     files: Vec<LocatedFile<'a>>,
-    numbers: Numbers,
+    numbers: NameIndex,
     length: u64,
-) -> Result<(Vec<LocatedFile<'a>>, Numbers), Fault>
+) -> Result<(Vec<LocatedFile<'a>>, NameIndex), Fault>
     requires within { AllByRecursion (λ f. f.offset ≤ length) (map file_form files.items) }
     requires few { length_of files.items < 2 ^ 32 }
-    requires index { IsIndex (names_in (map file_form files.items)) numbers.sorted.items }
+    requires index { IsIndex (names_in (map named_file files.items)) (entries_of numbers) }
     ensures found { IfOk result (λ r. AreCurrent length (map file_form files.entry.items) (map file_form r.0.items)) }
-    ensures numbers { IfOk result (λ r. IsIndex (names_in (map file_form r.0.items)) r.1.sorted.items) }
+    ensures numbers { IfOk result (λ r. IsIndex (names_in (map named_file r.0.items)) (entries_of r.1)) }
     ensures first { IfErr result
         (λ f. f ≢ out_of_memory → NamesFault First length (map file_form files.entry.items) f) }
     ensures bound { IfErr result (λ f. f.place.offset ≤ length) }
@@ -244,7 +260,7 @@ fn apart_files<'a>(
     keep_current(&mut current, &numbers);
     drop(numbers);
     check_top(current.as_slice(), length)?;
-    let numbers = Numbers::of(alloc, current.as_slice())?;
+    let numbers = NameIndex::of(alloc, current.as_slice())?;
     Ok((current, numbers))
 }
 
@@ -254,16 +270,16 @@ pub(crate) fn current_files<'a>(
     alloc: Global,
     files: Vec<LocatedFile<'a>>,
     length: u64,
-) -> Result<(Vec<LocatedFile<'a>>, Numbers), Fault>
+) -> Result<(Vec<LocatedFile<'a>>, NameIndex), Fault>
     requires within { AllByRecursion (λ f. f.offset ≤ length) (map file_form files.items) }
     requires few { length_of files.items < 2 ^ 32 }
     ensures found { IfOk result (λ r. AreCurrent length (map file_form files.entry.items) (map file_form r.0.items)) }
-    ensures numbers { IfOk result (λ r. IsIndex (names_in (map file_form r.0.items)) r.1.sorted.items) }
+    ensures numbers { IfOk result (λ r. IsIndex (names_in (map named_file r.0.items)) (entries_of r.1)) }
     ensures first { IfErr result
         (λ f. f ≢ out_of_memory → NamesFault First length (map file_form files.entry.items) f) }
     ensures bound { IfErr result (λ f. f.place.offset ≤ length) }
 {
-    let numbers = Numbers::of(alloc, files.as_slice())?;
+    let numbers = NameIndex::of(alloc, files.as_slice())?;
     if !numbers.are_distinct() {
         return apart_files(alloc, files, numbers, length);
     }

@@ -25,7 +25,7 @@ kept_joined s t u false true true xs ys p q = absurd p
 pub kept_by : {S : Type 0} (kept : S → List ℕ) (on : S → Bool) → WalkLaws (KeptTakes kept on)
 kept_by kept on = record {
   none = λ s. kept_none (kept s) (on s);
-  joined = λ s t u a b p q. kept_joined (kept s) (kept t) (kept u) (on s) (on t) (on u) a b p q;
+  joined = λ {s} {t} {u} {a} {b} p q. kept_joined (kept s) (kept t) (kept u) (on s) (on t) (on u) a b p q;
 }
 
 pub sums_joined : (m s t u a b : ℕ) → t % m ≡ (s + a) % m → u % m ≡ (t + b) % m → u % m ≡ (s + (a + b)) % m
@@ -93,5 +93,5 @@ latched_joined s t u false false false xs ys p q = q ∙ p
 pub seen_by : {S N : Type 0} (view : S → PortShows) (on : S → Bool) (name : S → N) → WalkLaws (SeenTakes view on name)
 seen_by view on name = record {
   none = λ s. (refl, latched_none (view s) (on s));
-  joined = λ s t u a b p q. (q.0 ∙ p.0, latched_joined (view s) (view t) (view u) (on s) (on t) (on u) a b p.1 q.1);
+  joined = λ {s} {t} {u} {a} {b} p q. (q.0 ∙ p.0, latched_joined (view s) (view t) (view u) (on s) (on t) (on u) a b p.1 q.1);
 }

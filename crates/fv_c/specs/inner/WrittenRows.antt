@@ -5,6 +5,6 @@ use Rattle.std.specs.Prelude.{◌≡◌, ◌≢◌, ◌⊎◌, ◌<◌, ◌≤�
 pub record IsWritten {A : Type 0} (rows old new : List A) (result : ℕ) : Type 0 where
   pub ok : result ≡ 0 → new ≡ rows ++ drop (length rows) old
   pub kept : result ≢ 0 → new ≡ old
-  pub small : result ≡ 27 → length old < length rows
+  pub small : result ≡ 256 → length old < length rows
   pub room : result ≡ 0 → length rows ≤ length old
-  pub only : (result ≡ 0) ⊎ (result ≡ 27)
+  pub only : (result ≡ 0) ⊎ (result ≡ 256)

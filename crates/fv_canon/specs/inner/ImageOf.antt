@@ -15,7 +15,7 @@ use Rattle.fv_head.specs.Head.{HeadFields}
 use Rattle.fv_head.specs.HeadImage.{canonical_head}
 use Rattle.fv_head.specs.ExtImage.{canonical_end, first_edge}
 use Rattle.fv_tree.specs.Files.{top_name}
-use Rattle.fv_canon.specs.declared.first_placement.LayoutItem.{LayoutItem}
+use Rattle.fv_placement.specs.declared.first_placement.LayoutItem.{LayoutItem}
 use Rattle.fv_canon.specs.StoredFiles.{StoredFile, head_len_for, stored_len, stored_bytes, gap_bytes, ext_pad}
 use Rattle.fv_canon.specs.StoredFiles.{used_size}
 use Rattle.fv_tree.specs.Meaning.{ContentMeaning, Plain, Sectioned, BodyMeaning, Leaf, Group, FileMeaning, content_of}

@@ -38,5 +38,5 @@ match_joined s t u a false true xs ys p q = absurd q
 pub matches_by : {S : Type 0} (rest : S → List ℕ) (same : S → Bool) → WalkLaws (MatchTakes rest same)
 matches_by rest same = record {
   none = λ s. match_none (rest s) (same s);
-  joined = λ s t u. match_joined (rest s) (rest t) (rest u) (same s) (same t) (same u);
+  joined = λ {s} {t} {u} {a} {b}. match_joined (rest s) (rest t) (rest u) (same s) (same t) (same u) a b;
 }

@@ -42,12 +42,12 @@ both_put laws true s t u k m n a b p q = (
   q.0 ∙ p.0,
   sums_joined 256 k m n (sum a) (sum b) p.1 q.1 ∙ ap (λ i. (k + i) % 256) (sym (sum_by-append (λ x. x) a b)),
 )
-both_put laws false s t u k m n a b p q = laws.joined s t u a b p q
+both_put laws false s t u k m n a b p q = laws.joined p q
 
 pub image_by : {S : Type 0} {takes : S → List ℕ → S → Type 0} (laws : WalkLaws takes) → WalkLaws (ImageTakes takes)
 image_by {S} {takes} laws = record {
   none = λ s. (refl, refl, nothing_put laws (sums s.mode) s.below.now (total_of s.mode));
-  joined = λ s t u a b p q. (
+  joined = λ {s} {t} {u} {a} {b} p q. (
     q.0 ∙ p.0,
     q.1 ∙ p.1,
     both_put laws (sums s.mode) s.below.now t.below.now u.below.now (total_of s.mode) (total_of t.mode) (total_of u.mode) a b p.2

@@ -12,6 +12,6 @@ DigestTakes hasher s bytes t = (message : List ℕ) → Holds256 (hasher s) mess
 pub digest_by : {S : Type 0} (hasher : S → Sha256) → WalkLaws (DigestTakes hasher)
 digest_by hasher = record {
   none = λ s message held. subst (Holds256 (hasher s)) (sym (append-nil message)) held;
-  joined = λ s t u a b p q message held.
+  joined = λ {s} {t} {u} {a} {b} p q message held.
       subst (Holds256 (hasher u)) (append_assoc message a b) (q (message ++ a) (p message held));
 }

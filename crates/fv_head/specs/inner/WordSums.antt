@@ -45,5 +45,5 @@ adds_joined m n k p q r a b first next left right = (
 pub adds_words_by : {S : Type 0} (total : S → ℕ) (high : S → Bool) → WalkLaws (AddsWords total high)
 adds_words_by total high = record {
   none = λ s. (refl, omega arith);
-  joined = λ s t u a b p q. adds_joined (total s) (total t) (total u) (high s) (high t) (high u) a b p.0 q.0 p.1 q.1;
+  joined = λ {s} {t} {u} {a} {b} p q. adds_joined (total s) (total t) (total u) (high s) (high t) (high u) a b p.0 q.0 p.1 q.1;
 }

@@ -1,11 +1,11 @@
 //! Expressions that are written back.
 
-use super::{A, B, ORDER, Parts, is_written_as};
+use super::{A, B, ORDER, Parts, is_written_as, long_expression};
 use crate::parts::joined;
 use fv_depex::{Phase, read_depex};
 use std::alloc::Global;
 
-/// Further bodies, and their phases.
+/// Bodies, and their phases.
 const BODIES: &[(Phase, Parts)] = &[
     (Phase::Pei, &[&[0x02], &A, &[0x05, 0x08]]),
     (Phase::Dxe, &[&[0x00], &A, &[0x08]]),
@@ -15,6 +15,41 @@ const BODIES: &[(Phase, Parts)] = &[
     (Phase::Dxe, &[&[0x09, 0x02], &A, &[0x08, 0x00]]),
     (Phase::Dxe, &[&[0x01], &B, &[0x08, 0x09, 0x06, 0x08]]),
     (Phase::Pei, &[&[0x02], &ORDER, &[0x08]]),
+    // Those whose values are in `library.rows` of fv_run_tests.
+    (Phase::Dxe, &[&[0x06, 0x08]]),
+    (Phase::Dxe, &[&[0x07, 0x08]]),
+    (Phase::Dxe, &[&[0x09, 0x06, 0x08]]),
+    (Phase::Dxe, &[&[0x06, 0x08, 0xff, 0xff]]),
+    (Phase::Dxe, &[&[0x06, 0x07, 0x03, 0x08]]),
+    (Phase::Dxe, &[&[0x06, 0x07, 0x04, 0x08]]),
+    (Phase::Dxe, &[&[0x02], &A, &[0x08]]),
+    (Phase::Dxe, &[&[0x02], &A, &[0x05, 0x08]]),
+    (Phase::Dxe, &[&[0x02], &A, &[0x02], &B, &[0x03, 0x08]]),
+    (Phase::Dxe, &[&[0x02], &A, &[0x02], &B, &[0x04, 0x08]]),
+    (
+        Phase::Dxe,
+        &[
+            &[0x02],
+            &A,
+            &[0x02],
+            &B,
+            &[0x05, 0x03, 0x02],
+            &B,
+            &[0x02],
+            &A,
+            &[0x05, 0x03, 0x04, 0x08],
+        ],
+    ),
+    (
+        Phase::Dxe,
+        &[
+            &[0x06, 0x02],
+            &A,
+            &[0x07, 0x02],
+            &B,
+            &[0x05, 0x04, 0x03, 0x03, 0x05, 0x08],
+        ],
+    ),
 ];
 
 // Whether a body is written as it was read.
@@ -33,11 +68,23 @@ fn parts_are_written_back(alloc: Global, parts: Parts, phase: Phase) -> bool {
     }
 }
 
+// The bodies. What names a large constant is proved with all of it, so only this function does.
+fn bodies() -> &'static [(Phase, Parts)] {
+    BODIES
+}
+
 #[test]
-fn further_expressions_are_written_as_they_were_read(rt: HostRuntime) {
-    let rows = BODIES;
+fn expressions_are_written_as_they_were_read(rt: HostRuntime) {
+    let rows = bodies();
     for at in 0..rows.len() {
         let (phase, parts) = rows[at];
         assert!(rt; parts_are_written_back(rt.alloc(), parts, phase), "{at}");
     }
+}
+
+#[test]
+fn a_long_expression_is_written_as_it_was_read(rt: HostRuntime) {
+    let bytes = long_expression();
+    assert!(rt; is_written_back(rt.alloc(), &bytes, Phase::Pei));
+    assert!(rt; is_written_back(rt.alloc(), &bytes, Phase::Dxe));
 }

@@ -6,9 +6,10 @@ use super::{Claim, view_of, wrong_line};
 use crate::faults::OUT_OF_MEMORY;
 use crate::spelling::spelled_in_two_tries;
 use fv_base::Guid;
+use fv_compare::{Step, Word, first_difference};
 use fv_tree::{
-    FileView, Item, Lookup, Step, VolumeView, Word, file_by_name, file_by_type, first_difference,
-    next_file, scan, section_by_type,
+    FileView, Item, Lookup, VolumeView, file_by_name, file_by_type, next_file, scan,
+    section_by_type,
 };
 use std::alloc::Global;
 

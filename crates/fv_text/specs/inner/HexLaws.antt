@@ -6,7 +6,7 @@ use Rattle.fv_text.specs.HexSinks.{Gathered, GatheringTakes, HexTakes, Lined}
 use Rattle.std.specs.List.{AllByRecursion, concat}
 use Rattle.std.proofs.lemmas.List.Concat.{flat_map-append}
 use Rattle.std.proofs.lemmas.List.Folds.{concat-append}
-use Rattle.fv_text.specs.HexText.{IsWholeLine, line_text, lines_text}
+use Rattle.fv_text.specs.HexText.{IsWholeLine, line_text}
 
 -- what the sink below and the bytes that wait do, before and after, the sink above does
 pub waiting_by : {S H : Type 0} (moves : S → List ℕ → List ℕ → S → List ℕ → Type 0) (below : H → S) (waiting : H → List ℕ)
@@ -15,7 +15,7 @@ pub waiting_by : {S H : Type 0} (moves : S → List ℕ → List ℕ → S → L
     → WalkLaws (λ (h : H) (bytes : List ℕ) (k : H). moves (below h) (waiting h) bytes (below k) (waiting k))
 waiting_by moves below waiting none joined = record {
   none = λ h. none (below h) (waiting h);
-  joined = λ h k l. joined (below h) (below k) (below l) (waiting h) (waiting k) (waiting l);
+  joined = λ {s} {t} {u} {a} {b}. joined (below s) (below t) (below u) (waiting s) (waiting t) (waiting u) a b;
 }
 
 pub gathered_none : {S : Type 0} (takes : S → List ℕ → S → Type 0) → WalkLaws takes → (s : S) (p : List ℕ)
@@ -28,7 +28,7 @@ gathered_joined takes laws s t u p q r a b x y = record {
   passed = x.passed ++ y.passed;
   joined = sym (append_assoc p a b) ∙ ap (λ (l : List ℕ). l ++ b) x.joined ∙ append_assoc x.passed q b
       ∙ ap (λ (l : List ℕ). x.passed ++ l) y.joined ∙ sym (append_assoc x.passed y.passed r);
-  taken = laws.joined s t u x.passed y.passed x.taken y.taken;
+  taken = laws.joined x.taken y.taken;
 }
 
 pub gathered_by : {S H : Type 0} (takes : S → List ℕ → S → Type 0) (below : H → S) (waiting : H → List ℕ) → WalkLaws takes
@@ -54,7 +54,7 @@ lined_joined takes laws s t u p q r a b x y = record {
       ∙ ap (λ (l : List ℕ). l ++ r) (sym (concat-append x.lines y.lines));
   whole = whole_more x.lines y.lines x.whole y.whole;
   taken = subst (λ (l : List ℕ). takes s l u) (sym (flat_map-append line_text x.lines y.lines))
-      (laws.joined s t u (lines_text x.lines) (lines_text y.lines) x.taken y.taken);
+      (laws.joined x.taken y.taken);
 }
 
 pub hex_by : {S H : Type 0} (takes : S → List ℕ → S → Type 0) (below : H → S) (waiting : H → List ℕ) → WalkLaws takes

@@ -7,5 +7,5 @@ pub lent_by : {S H N : Type 0} (takes : S → List ℕ → S → Type 0) (lent :
     → WalkLaws (LentTakes takes lent name)
 lent_by takes lent name laws = record {
   none = λ s. (refl, laws.none (lent s));
-  joined = λ s t u a b x y. (y.0 ∙ x.0, laws.joined (lent s) (lent t) (lent u) a b x.1 y.1);
+  joined = λ x y. (y.0 ∙ x.0, laws.joined x.1 y.1);
 }

@@ -1,11 +1,6 @@
--- What walks return: over some bytes, offset after offset; in a search among sections; and in a comparison.
-use Rattle.std.specs.Prelude.{◌≡◌, ℕ, ◌+◌, ◌%◌, ◌≤◌, ◌<◌, List, [], ◌∷◌, length, zero, suc, Result, Ok, Err, reverse}
-use Rattle.std.specs.Prelude.{true, Option, Some, None}
+-- What walks return: over some bytes, offset after offset; and in a search among sections.
+use Rattle.std.specs.Prelude.{◌≡◌, ℕ, ◌+◌, ◌%◌, ◌≤◌, ◌<◌, List, [], ◌∷◌, length, zero, suc, Result, Ok, Err}
 use Rattle.fv_tree.specs.FoundVolumes.{VolumeAt}
-use Rattle.fv_base.specs.Faults.{out_of_memory}
-use Rattle.fv_base.specs.declared.fault.Fault.{Fault}
-use Rattle.fv_tree.specs.declared.difference.Word.{Word}
-use Rattle.fv_tree.specs.Difference.{Differs, differ_in, has_steps}
 
 -- no volume begins at a multiple of 8 from `from` on and before `to`; and none from an offset on
 abbrev pub NoneBetween : List ℕ → ℕ → ℕ → Type 0
@@ -35,19 +30,3 @@ abbrev pub sought : {A : Type 0} → ℕ → List A → Result A ℕ
 sought n [] = Err n
 sought zero (x ∷ xs) = Ok x
 sought (suc n) (x ∷ xs) = sought n xs
-
--- a difference of this kind, if there is one
-abbrev pub in_word : Option Word → Differs
-in_word None = None
-in_word (Some word) = differ_in word
-
--- the steps in reverse order
-abbrev pub outermost_first : Differs → Differs
-outermost_first None = None
-outermost_first (Some d) = Some (reverse d.0, d.1)
-
--- what a walk returns: where the two first differ, with the steps from the innermost out; memory runs
--- out only where there are steps
-abbrev pub ReturnsDifference : Result Differs Fault → Differs → Type 0
-ReturnsDifference (Ok o) d = outermost_first o ≡ d
-ReturnsDifference (Err f) d = (f ≡ out_of_memory) × (has_steps d ≡ true)

@@ -9,16 +9,16 @@ ghost use Rattle.fv_tree.specs.MeaningParts.{files_from};
 ghost use Rattle.fv_tree.specs.FileNames.{HasNumbers, is_named};
 
 use super::{FileView, VolumeView};
-use crate::name_index::Numbers;
 use fv_base::Guid;
 use fv_head::VolumeHead;
+use fv_names::NameIndex;
 
 impl<'a> VolumeView<'a> {
     // The view of a volume with this head and these files, with an index of the files' names.
     pub(crate) fn new(
         head: VolumeHead,
         files: Vec<FileView<'a>>,
-        numbers: Numbers,
+        numbers: NameIndex,
     ) -> VolumeView<'a>
         requires meaning { IsMeaning (Volume head (files_from files.items)) }
         requires numbers { HasNumbers numbers files.items }

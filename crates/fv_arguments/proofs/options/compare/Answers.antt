@@ -1,19 +1,19 @@
 use Rattle.std.proofs.Common.{◌∙◌, codes, refl}
+use Rattle.fv_base.proofs.Laws.{err_is}
 use Rattle.fv_arguments.proofs.ReadLemmas.{text_answer}
 use Rattle.fv_arguments.proofs.RefusalLemmas.{right_volumes}
-use Rattle.fv_arguments.proofs.TaskLemmas.{handed}
 use Rattle.fv_arguments.proofs.options.compare.Goals as goal
 
 pub returns-in_err-first : goal.returns-in_err-first
 returns-in_err-first c =
-    handed (codes "compare") _ _ _ c.from_residual.ensures.1 (λ words rest r right.
+    rw (err_is c.from_residual.ensures.1) (λ words rest r right.
     let volumes = right_volumes rest right in
     c.in_err-first.ensures words volumes.0
     (rw (c.get_str.ensures ∙ text_answer r (codes "first"), c.get_str-at.ensures ∙ text_answer r (codes "at")) volumes.2))
 
 pub returns-in_err-second : goal.returns-in_err-second
 returns-in_err-second c =
-    handed (codes "compare") _ _ _ c.from_residual-in_err-second.ensures.1 (λ words rest r right.
+    rw (err_is c.from_residual-in_err-second.ensures.1) (λ words rest r right.
     let volumes = right_volumes rest right in
     c.in_err-second.ensures words volumes.1
     (rw (c.get_str-2.ensures ∙ text_answer r (codes "second"), c.get_str-other_at.ensures ∙ text_answer r (codes "other-at")) volumes.3))

@@ -1,13 +1,13 @@
 use Rattle.std.proofs.Common.{◌∙◌, codes, refl}
+use Rattle.fv_base.proofs.Laws.{err_is}
 use Rattle.fv_arguments.proofs.ReadLemmas.{text_answer}
 use Rattle.fv_arguments.proofs.RefusalLemmas.{right_input, right_part}
-use Rattle.fv_arguments.proofs.TaskLemmas.{handed}
 use Rattle.fv_arguments.specs.Options.{extract_app}
 use Rattle.fv_arguments.proofs.options.extract.Goals as goal
 
 pub returns-in_err-part : goal.returns-in_err-part
 returns-in_err-part c =
-    handed (codes "extract") _ _ _ c.from_residual.ensures.1 (λ words rest r right.
+    rw (err_is c.from_residual.ensures.1) (λ words rest r right.
     let part = right_part rest right in
     c.in_err-part.ensures words part.0
     (rw (
@@ -18,7 +18,7 @@ returns-in_err-part c =
 
 pub returns-in_err-at : goal.returns-in_err-at
 returns-in_err-at c =
-    handed (codes "extract") _ _ _ c.from_residual-in_err-at.ensures.1 (λ words rest r right.
+    rw (err_is c.from_residual-in_err-at.ensures.1) (λ words rest r right.
     let input = right_input (codes "extract") rest refl right in
     c.in_err-at.ensures extract_app rest r words input.0 input.1)
 

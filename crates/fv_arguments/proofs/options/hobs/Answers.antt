@@ -1,12 +1,12 @@
 use Rattle.std.proofs.Common.{◌∙◌, codes, refl}
+use Rattle.fv_base.proofs.Laws.{err_is}
 use Rattle.fv_arguments.proofs.ReadLemmas.{text_answer}
 use Rattle.fv_arguments.proofs.RefusalLemmas.{right_image}
-use Rattle.fv_arguments.proofs.TaskLemmas.{handed}
 use Rattle.fv_arguments.proofs.options.hobs.Goals as goal
 
 pub returns-in_err-image_of : goal.returns-in_err-image_of
 returns-in_err-image_of c =
-    handed (codes "hobs") _ _ _ c.from_residual-in_err-image_of.ensures.1 (λ words rest r right.
+    rw (err_is c.from_residual-in_err-image_of.ensures.1) (λ words rest r right.
     let image = right_image rest right in
     c.in_err-image_of.ensures words image.0
     (rw (c.get_str-path.ensures ∙ text_answer r (codes "image"), c.get_str-base.ensures ∙ text_answer r (codes "base")) image.1))

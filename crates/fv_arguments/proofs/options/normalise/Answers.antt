@@ -1,7 +1,8 @@
 use Rattle.std.proofs.Common.{◌∙◌, codes, refl, sym, true≢false}
+use Rattle.fv_base.proofs.Laws.{err_is}
 use Rattle.fv_arguments.proofs.ReadLemmas.{none_is}
 use Rattle.fv_arguments.proofs.RefusalLemmas.{no_place, right_input}
-use Rattle.fv_arguments.proofs.TaskLemmas.{by_flag, handed}
+use Rattle.fv_arguments.proofs.TaskLemmas.{by_flag}
 use Rattle.fv_arguments.specs.Options.{normalise_app}
 use Rattle.fv_plan.specs.declared.plan.Task.TheVariants.{Normalise, NormaliseAll}
 use Rattle.fv_arguments.proofs.options.normalise.Goals as goal
@@ -9,7 +10,7 @@ use Rattle.fv_arguments.proofs.options.normalise.Goals.{else-all-via-then-all+el
 
 pub returns-in_err-at : goal.returns-in_err-at
 returns-in_err-at c =
-    handed (codes "normalise") _ _ _ c.from_residual.ensures.1 (λ words rest r right.
+    rw (err_is c.from_residual.ensures.1) (λ words rest r right.
     let input = right_input (codes "normalise") rest refl right in
     c.in_err-at.ensures normalise_app rest r words input.0 input.1)
 

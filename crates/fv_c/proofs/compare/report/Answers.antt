@@ -1,6 +1,6 @@
 use Rattle.std.proofs.Common.{◌≡◌, ◌∙◌, ◌≤◌, ◌↔◌, ◌++◌, ℕ, Bool, List, ap, arith, drop, length, refl, rules, sym, true}
-use Rattle.fv_canon.specs.ComparisonLines.{compare_line}
-use Rattle.fv_tree.specs.Difference.{difference}
+use Rattle.fv_compare.specs.ComparisonLines.{compare_line}
+use Rattle.fv_compare.specs.Difference.{difference}
 use Rattle.fv_tree.specs.Meaning.{Meaning}
 use Rattle.fv_c.specs.ReportedComparisons.{IsReported}
 use Rattle.fv_c.specs.Reports.{no_fault}

@@ -1,5 +1,6 @@
 use Rattle.std.proofs.Common.{rules}
-use Rattle.std.proofs.lemmas.Result.{IfErr-weaker, err_from_is_err_and}
+use Rattle.std.proofs.lemmas.Result.{IfErr-weaker}
+use Rattle.fv_base.proofs.Laws.{err_is}
 use Rattle.fv_c.proofs.MemoryLaws.{begins_first}
 use Rattle.fv_c.proofs.depex.evaluated.Goals as goal
 
@@ -11,9 +12,8 @@ returns-in_err-depex-clause-err c = search rules fits 300 steps 1000000
 
 pub returns-in_err-guids-clause-memory : goal.returns-in_err-guids-clause-memory
 returns-in_err-guids-clause-memory c =
-    let p = err_from_is_err_and c.from_residual-in_err-guids.result c.from_residual-in_err-guids.ensures.1 in
     let found = c.in_ok-depex.ensures.found in
-    rw p.1 (λ _. begins_first c.args.phase _ _ c.args.bytes.now found.1)
+    rw (err_is c.from_residual-in_err-guids.ensures.1) (λ _. begins_first c.args.phase _ _ c.args.bytes.now found.1)
 
 pub returns-clause-memory : goal.returns-clause-memory
 returns-clause-memory c =

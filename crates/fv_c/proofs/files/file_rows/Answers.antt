@@ -1,5 +1,5 @@
 use Rattle.std.proofs.Common.{◌∙◌, List, ap, map}
-use Rattle.std.proofs.lemmas.Result.{err_from_is_err_and}
+use Rattle.fv_base.proofs.Laws.{err_is}
 use Rattle.fv_tree.specs.LocatedFiles.{file_form}
 use Rattle.fv_tree.specs.declared.volume_files.LocatedFile.{LocatedFile}
 use Rattle.fv_c.specs.ReportedFiles.{reported_files}
@@ -9,8 +9,8 @@ use Rattle.fv_c.proofs.files.file_rows.Goals as goal
 
 pub returns-in_err-stored-clause-err : goal.returns-in_err-stored-clause-err
 returns-in_err-stored-clause-err c =
-    let p = err_from_is_err_and c.from_residual.result c.from_residual.ensures.1 in
-    rw (p.1, p.2) (only_memory c.args.input.now c.args.volume.now c.in_err-stored.field-0.0 c.requires c.in_err-stored.ensures.none)
+    rw (err_is c.from_residual.ensures.1)
+    (only_memory c.args.input.now c.args.volume.now c.in_err-stored.field-0.0 c.requires c.in_err-stored.ensures.none)
 
 pub returns-clause-ok : goal.returns-clause-ok
 returns-clause-ok c =

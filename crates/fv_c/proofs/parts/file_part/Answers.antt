@@ -1,7 +1,7 @@
 use Rattle.std.proofs.Common.{◌≡◌, ◌∙◌, ◌<◌, ℕ, List, Some, None, get_or, length, map, ap, refl, sym}
 use Rattle.std.specs.Prelude.{◌≢◌, slice_get}
 use Rattle.std.proofs.lemmas.Option.{slice_get_past, slice_get_read}
-use Rattle.std.proofs.lemmas.Result.{err_from_is_err_and}
+use Rattle.fv_base.proofs.Laws.{err_is}
 use Rattle.fv_tree.specs.Meaning.{FileMeaning, content_of}
 use Rattle.fv_tree.specs.MeaningParts.{body_of}
 use Rattle.fv_c.specs.ExtractedParts.{Data, Body, part_of_file, whole_file}
@@ -21,9 +21,8 @@ body_part section f rows list r ne are same l is =
 
 pub returns-in_err-file_bytes-clause-err : goal.returns-in_err-file_bytes-clause-err
 returns-in_err-file_bytes-clause-err c =
-    let p = err_from_is_err_and c.from_residual.result c.from_residual.ensures.1 in
     let part = whole_part c.args.section c.args.file.now c.if-section-eq-WHOLE_FILE.true in
-    rw (p.1, p.2) (stops_part _ (Data (content_of c.args.file.now)) _ part c.in_err-file_bytes.ensures.err)
+    rw (err_is c.from_residual.ensures.1) (stops_part _ (Data (content_of c.args.file.now)) _ part c.in_err-file_bytes.ensures.err)
 
 pub returns-then-section-eq-WHOLE_FILE-clause-ok : goal.returns-then-section-eq-WHOLE_FILE-clause-ok
 returns-then-section-eq-WHOLE_FILE-clause-ok c =
@@ -39,11 +38,11 @@ returns-in_default-clause-ok c =
 
 pub returns-in_err-body_bytes-clause-err : goal.returns-in_err-body_bytes-clause-err
 returns-in_err-body_bytes-clause-err c =
-    let p = err_from_is_err_and c.from_residual-in_err-body_bytes.result c.from_residual-in_err-body_bytes.ensures.1 in
     let at = c.in-Some.ensures.lookup in
     let part = body_part c.args.section c.args.file.now c.in_ok-rows.rows.items c.as_slice.result.now c.in-Some.row.now
     c.if-section-eq-WHOLE_FILE.false c.in_ok-rows.ensures c.as_slice.ensures.value at.3.0 at.1 in
-    rw (p.1, p.2) (stops_part _ (Body (body_of c.in-Some.row.now.section.now)) _ part c.in_err-body_bytes.ensures.err)
+    rw (err_is c.from_residual-in_err-body_bytes.ensures.1)
+    (stops_part _ (Body (body_of c.in-Some.row.now.section.now)) _ part c.in_err-body_bytes.ensures.err)
 
 pub returns-clause-ok : goal.returns-clause-ok
 returns-clause-ok c =

@@ -1,9 +1,13 @@
 use Rattle.std.proofs.Common.{refl}
-use Rattle.std.proofs.lemmas.Result.{err_from_is_err_and}
+use Rattle.fv_base.proofs.Laws.{err_is}
 use Rattle.fv_canon.proofs.Laws.{not_placed}
 use Rattle.fv_caller.proofs.archive.archive_volume.Goals as goal
 
 pub returns-in_err-image-clause-err : goal.returns-in_err-image-clause-err
 returns-in_err-image-clause-err c =
-    let p = err_from_is_err_and c.from_residual-in_err-image.result c.from_residual-in_err-image.ensures.1 in
-    rw (p.1, p.2) (c.in_err-image.field-0.0, refl, not_placed c.args.input.now c.in_ok-volume.volume c.in_err-image.field-0.0 c.in_ok-volume.ensures.found c.in_err-image.ensures.err)
+    rw (err_is c.from_residual-in_err-image.ensures.1) (
+      c.in_err-image.field-0.0,
+      refl,
+      not_placed c.args.input.now c.in_ok-volume.volume c.in_err-image.field-0.0
+          c.in_ok-volume.ensures.found c.in_err-image.ensures.err,
+    )

@@ -1,24 +1,23 @@
 use Rattle.std.proofs.Common.{ap, inl, inr}
-use Rattle.std.proofs.lemmas.Result.{err_from_is_err_and}
+use Rattle.fv_base.proofs.Laws.{err_is}
 use Rattle.fv_caller.proofs.boot.check_boot.Goals as goal
 use Rattle.fv_caller.specs.declared.fault.CallerFault.TheVariants as faults
 
 pub returns-in_err-whole_volume-clause-none : goal.returns-in_err-whole_volume-clause-none
 returns-in_err-whole_volume-clause-none c =
-    let p = err_from_is_err_and c.from_residual.result c.from_residual.ensures.1 in
-    rw (p.1, p.2) (λ other boot. elim c.in_err-whole_volume.ensures.refused [
+    rw (err_is c.from_residual.ensures.1) (λ other boot. elim c.in_err-whole_volume.ensures.refused [
       | inl want ↦ absurd (other (inl (ap faults.Volume want)))
       | inr bad ↦ absurd (bad.none boot.read.0 boot.read.1)
     ])
 
 pub returns-in_err-read_depex-clause-none : goal.returns-in_err-read_depex-clause-none
 returns-in_err-read_depex-clause-none c =
-    let p = err_from_is_err_and c.from_residual-in_err-read_depex.result c.from_residual-in_err-read_depex.ensures.1 in
-    rw (p.1, p.2) (λ other boot. c.in_err-read_depex.ensures.none (λ want. other (inr (inl (ap faults.Expression want))))
+    rw (err_is c.from_residual-in_err-read_depex.ensures.1)
+    (λ other boot. c.in_err-read_depex.ensures.none (λ want. other (inr (inl (ap faults.Expression want))))
     boot.spelled.0 boot.spelled.1 boot.spelled.2)
 
 pub returns-in_err-read_hobs-clause-none : goal.returns-in_err-read_hobs-clause-none
 returns-in_err-read_hobs-clause-none c =
-    let p = err_from_is_err_and c.from_residual-in_err-read_hobs.result c.from_residual-in_err-read_hobs.ensures.1 in
-    rw (p.1, p.2) (λ other boot. c.in_err-read_hobs.ensures.none (λ want. other (inr (inr (ap faults.HandOff want))))
+    rw (err_is c.from_residual-in_err-read_hobs.ensures.1)
+    (λ other boot. c.in_err-read_hobs.ensures.none (λ want. other (inr (inr (ap faults.HandOff want))))
     boot.listed.0 boot.listed.1 boot.listed.3)

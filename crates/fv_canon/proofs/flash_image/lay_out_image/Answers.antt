@@ -1,22 +1,20 @@
-use Rattle.std.proofs.Common.{◌≡◌, ◌≤◌, ◌∙◌, ℕ, List, ap, length, subst, sym}
-use Rattle.fv_base.specs.Faults.{out_of_memory}
-use Rattle.fv_base.specs.Limits.{volume_limit}
+use Rattle.std.proofs.Common.{◌≡◌, ◌∙◌, ℕ, List, ap, subst, sym}
+use Rattle.fv_base.proofs.Laws.{err_is}
 use Rattle.fv_base.specs.declared.fault.Fault.{Fault}
 use Rattle.fv_base.specs.declared.fault.FaultKind.TheVariants as kinds
 use Rattle.fv_tree.specs.FoundVolumes.{Found}
 use Rattle.fv_canon.proofs.FlashImageLaws.{only_want}
-use Rattle.fv_canon.proofs.InputLaws.{fault_passed}
 use Rattle.fv_canon.proofs.flash_image.lay_out_image.Goals as goal
 
 pub returns-in_err-volumes-clause-fits : goal.returns-in_err-volumes-clause-fits
 returns-in_err-volumes-clause-fits c =
     let b : List ℕ = c.args.image.now in
     let found : Found b c.as_slice.result.now = subst (Found b) (sym c.as_slice.ensures) c.in_ok-offsets.ensures.found in
-    λ other to. fault_passed _ _ _ c.from_residual-in_err-volumes.ensures.1 (only_want b c.as_slice.result.now other _ found c.in_err-volumes.ensures.err to)
+    λ other to. rw (err_is c.from_residual-in_err-volumes.ensures.1)
+    (only_want b c.as_slice.result.now other _ found c.in_err-volumes.ensures.err to)
 
 pub returns-in_err-check-clause-memory : goal.returns-in_err-check-clause-memory
 returns-in_err-check-clause-memory c =
-    fault_passed (λ (f : Fault). f ≡ out_of_memory → length c.args.image.now ≤ volume_limit) c.from_residual.result _
-    c.from_residual.ensures.1
+    rw (err_is c.from_residual.ensures.1)
     (λ want. let bad : kinds.Length ≡ kinds.OutOfMemory =
     sym (ap (λ (f : Fault). f.kind) c.in_err-check.ensures.err.1) ∙ ap (λ (f : Fault). f.kind) want in cc)

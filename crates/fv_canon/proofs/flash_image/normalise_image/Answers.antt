@@ -1,14 +1,12 @@
 use Rattle.std.proofs.Common.{◌≡◌, ◌∙◌, ℕ, List, subst, sym}
-use Rattle.std.proofs.lemmas.Result.{err_from_is_err_and, IfOk-weaker}
-use Rattle.fv_base.proofs.Laws.{kept_whole}
+use Rattle.std.proofs.lemmas.Result.{IfOk-weaker}
+use Rattle.fv_base.proofs.Laws.{kept_whole, err_is}
 use Rattle.fv_canon.specs.FlashImages.{NormalisesAll}
 use Rattle.fv_canon.proofs.FlashImageLaws.{normalised_one}
 use Rattle.fv_canon.proofs.flash_image.normalise_image.Goals as goal
 
 pub returns-in_err-laid-clause-fits : goal.returns-in_err-laid-clause-fits
-returns-in_err-laid-clause-fits c =
-    let p = err_from_is_err_and c.from_residual.result c.from_residual.ensures.1 in
-    rw (p.1, p.2) c.in_err-laid.ensures.fits
+returns-in_err-laid-clause-fits c = rw (err_is c.from_residual.ensures.1) c.in_err-laid.ensures.fits
 
 pub returns-clause-only : goal.returns-clause-only
 returns-clause-only c = λ other to.

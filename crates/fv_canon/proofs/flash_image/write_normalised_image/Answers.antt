@@ -3,11 +3,11 @@ use Rattle.std.specs.Io.KnownBytes.{Appends}
 use Rattle.std.proofs.lemmas.Result.{on_ok_weaker}
 use Rattle.fv_canon.specs.FlashImages.{NormalisesAll}
 use Rattle.std.proofs.KnownBytes.{Keeps-refl}
-use Rattle.fv_canon.proofs.InputLaws.{fault_passed}
+use Rattle.fv_base.proofs.Laws.{err_is}
 use Rattle.fv_canon.proofs.flash_image.write_normalised_image.Goals as goal
 
 pub returns-in_err-laid-clause-err : goal.returns-in_err-laid-clause-err
-returns-in_err-laid-clause-err g c = fault_passed _ _ _ c.from_residual.ensures.1 (inl (Keeps-refl _, c.in_err-laid.ensures.err))
+returns-in_err-laid-clause-err g c = rw (err_is c.from_residual.ensures.1) (inl (Keeps-refl _, c.in_err-laid.ensures.err))
 
 pub returns-clause-ok : goal.returns-clause-ok
 returns-clause-ok g c =

@@ -1,4 +1,4 @@
-use Rattle.fv_canon.proofs.DecideLaws.{fits_or, unfit_is_refused}
+use Rattle.fv_canon.proofs.FitLaws.{fits_or, unfit_is_refused}
 use Rattle.fv_canon.proofs.further_laws.what_does_not_fit_is_refused.Goals as goal
 
 pub returns-clause-either : goal.returns-clause-either

@@ -1,18 +1,16 @@
-use Rattle.std.proofs.Common.{◌≡◌, ◌<◌, ◌+◌, ◌-◌, ℕ, true, List, [], false, length, drop, replicate, get_or, sym, ap, ◌∙◌, subst, arith}
+use Rattle.std.proofs.Common.{◌≡◌, ◌<◌, ◌+◌, ◌-◌, ℕ, true, List, false, length, drop, replicate, get_or, sym, ap, ◌∙◌, subst, arith}
 use Rattle.std.proofs.lemmas.Grind.{common_steps}
 use Rattle.fv_file.specs.Attributes.{is_summed}
 use Rattle.fv_head.specs.Attributes.{polarity_of}
 use Rattle.fv_head.specs.Head.{HeadFields}
-use Rattle.fv_tree.specs.Meaning.{Meaning, SectionMeaning, BodyMeaning, FileMeaning, attributes_of, content_of}
-use Rattle.fv_tree.specs.MeaningParts.{body_of, files_from, file_kind_of}
-use Rattle.fv_tree.specs.Meaning.{file_name_of, data_len_of}
-use Rattle.fv_file.specs.NewHeaders.{file_sum_for, file_head_of}
+use Rattle.fv_tree.specs.Meaning.{Meaning, SectionMeaning, BodyMeaning, FileMeaning, attributes_of}
+use Rattle.fv_tree.specs.MeaningParts.{body_of, files_from}
 use Rattle.fv_tree.specs.Views.{body_view}
 use Rattle.fv_tree.specs.inner.Sizes.{volume_size, body_size, files_size}
 use Rattle.fv_tree.proofs.Laws.{file_falls, section_body_falls}
 use Rattle.fv_canon.specs.StoredFiles.{size_for}
 use Rattle.fv_tree.specs.Volumes.{Inside, volumes_in_body}
-use Rattle.fv_canon.specs.inner.ImageOf.{body_image, image_of, data_of, starts_in}
+use Rattle.fv_canon.specs.inner.ImageOf.{body_image, image_of, starts_in}
 use Rattle.fv_canon.specs.LayoutForms.{BeginsWithStarts}
 use Rattle.fv_canon.specs.inner.SummingSinks.{ImageTakes, image_by, sums}
 use Rattle.fv_canon.proofs.DataBodyLaws.{data_image, data_size, data_volumes}
@@ -106,15 +104,8 @@ put_file-returns-clause-bytes g t c =
     let head = c.put_file_head.ensures in
     let payload = c.put_body.ensures.bytes in
     rw (stored_is c.args.polarity c.args.file.now c.args.starts.now long)
-    (laws.joined c.args.out.now c.put_file_head.new.out c.put_body.new.out
-    (file_head_of (file_name_of c.args.file.now) (file_kind_of c.args.file.now) (record { 0 = attributes_of c.args.file.now })
-    (data_len_of c.args.file.now) (file_sum_for (attributes_of c.args.file.now) (data_of (content_of c.args.file.now) c.args.starts.now))
-    c.args.polarity)
-    (data_of (content_of c.args.file.now) c.args.starts.now)
-    (laws.joined c.args.out.now c.file_sum-sum.new.out c.put_file_head.new.out []
-    (file_head_of (file_name_of c.args.file.now) (file_kind_of c.args.file.now) (record { 0 = attributes_of c.args.file.now })
-    (data_len_of c.args.file.now) (file_sum_for (attributes_of c.args.file.now) (data_of (content_of c.args.file.now) c.args.starts.now))
-    c.args.polarity) c.file_sum-sum.ensures.none
+    (laws.joined {s = c.args.out.now} {t = c.put_file_head.new.out} {u = c.put_body.new.out}
+    (laws.joined {s = c.args.out.now} {t = c.file_sum-sum.new.out} {u = c.put_file_head.new.out} c.file_sum-sum.ensures.none
     (rw c.file_sum-sum.ensures.value at head)) (rw (c.data_body-2.ensures, data_image c.args.file.now c.args.starts.now) at payload))
 
 pub put_files-overflow_sub-start : goal.put_files-overflow_sub-start
@@ -205,8 +196,8 @@ put_volume-returns-clause-bytes g t c =
     let polar = c.polarity-polarity.ensures ∙ ap polarity_of c.attributes.ensures in
     let ext = c.put_ext_pad.ensures in
     let files = c.put_files.ensures.bytes in
-    rw text (laws.joined c.args.out.now c.put_head.new.out c.put_files.new.out _ _ c.put_head.ensures.bytes
-    (laws.joined c.put_head.new.out c.put_ext_pad.new.out c.put_files.new.out _ _
+    rw text (laws.joined {s = c.args.out.now} {t = c.put_head.new.out} {u = c.put_files.new.out} c.put_head.ensures.bytes
+    (laws.joined {s = c.put_head.new.out} {t = c.put_ext_pad.new.out} {u = c.put_files.new.out}
     (rw (c.used_end-used.ensures.used, c.first_edge-first.ensures.edge, c.split_at.ensures.front) at ext)
     (rw (polar, c.length.ensures, c.first_edge-first.ensures.edge, c.split_at.ensures.front, c.split_at.ensures.back) at files)))
 

@@ -1,16 +1,18 @@
 use Rattle.std.proofs.Common.{◌+◌, List, ap, length, arith, subst}
 use Rattle.std.proofs.lemmas.List.{take_all}
 use Rattle.std.proofs.lemmas.Result.{on_ok_weaker, IfErr-weaker}
+use Rattle.fv_base.proofs.Laws.{err_is, or_more}
 use Rattle.fv_tree.specs.inner.Sizes.{volume_size, body_size}
 use Rattle.fv_tree.specs.Meaning.{FileMeaning, SectionMeaning}
 use Rattle.fv_tree.specs.MeaningParts.{files_from, sections_from}
 use Rattle.fv_tree.specs.Views.{body_view}
-use Rattle.fv_canon.specs.inner.Depths.{NestsVolume, NestsBody, Grew, Shallow}
+use Rattle.fv_tree.specs.inner.Depths.{NestsVolume, NestsBody}
+use Rattle.fv_canon.specs.inner.Depths.{Grew, Shallow}
 use Rattle.fv_tree.specs.Volumes.{volumes_in_files, volumes_in_sections}
 use Rattle.fv_canon.proofs.DataBodyLaws.{data_falls}
-use Rattle.fv_canon.proofs.LayoutWalkLaws.{always, file_count, memory_passed, own_counted, section_count}
+use Rattle.fv_canon.proofs.LayoutWalkLaws.{file_count, own_counted, section_count}
 use Rattle.fv_canon.proofs.VolumeListLaws.{own_count}
-use Rattle.fv_canon.proofs.LayoutWalkLaws.{section_grew, shallow_at, section_unfit, file_grew, shallow_file_at, file_unfit, unfit_passed}
+use Rattle.fv_canon.proofs.LayoutWalkLaws.{section_grew, shallow_at, section_unfit, file_grew, shallow_file_at, file_unfit}
 use Rattle.fv_canon.proofs.LayoutWalkLaws.{shallow_files, shallow_group, shallow_nested, volume_grew, volume_unfit}
 use Rattle.fv_canon.proofs.layout_walk.+lay.Goals as goal
 use Rattle.fv_tree.proofs.Laws.{section_body_falls}
@@ -45,9 +47,9 @@ lay_sections-lay_body-requires t c =
 
 pub lay_sections-returns-in_err-lay_body-clause-err : goal.lay_sections-returns-in_err-lay_body-clause-err
 lay_sections-returns-in_err-lay_body-clause-err t c =
-    unfit_passed _ _ _ c.from_residual.ensures.1 c.in_err-lay_body.ensures.err
+    rw (err_is c.from_residual.ensures.1) (or_more c.in_err-lay_body.ensures.err
     (λ unfit. section_unfit _ _ _ _ _ _ _ c.loop-section-test.true c.section-item.is c.loop-section.invariant
-    (rw c.body.ensures at unfit))
+    (rw c.body.ensures at unfit)))
 
 pub lay_sections-loop-section-preserved : goal.lay_sections-loop-section-preserved
 lay_sections-loop-section-preserved t c =
@@ -63,8 +65,8 @@ lay_files-lay_body-requires t c =
 
 pub lay_files-returns-in_err-lay_body-clause-err : goal.lay_files-returns-in_err-lay_body-clause-err
 lay_files-returns-in_err-lay_body-clause-err t c =
-    unfit_passed _ _ _ c.from_residual.ensures.1 c.in_err-lay_body.ensures.err (λ unfit. file_unfit _ _ _ _ _ _ _ c.loop-file-test.true
-    c.file-item.is c.loop-file.invariant (rw c.data_body.ensures at unfit))
+    rw (err_is c.from_residual.ensures.1) (or_more c.in_err-lay_body.ensures.err
+    (λ unfit. file_unfit _ _ _ _ _ _ _ c.loop-file-test.true c.file-item.is c.loop-file.invariant (rw c.data_body.ensures at unfit)))
 
 pub lay_files-loop-file-preserved : goal.lay_files-loop-file-preserved
 lay_files-loop-file-preserved t c =
@@ -95,20 +97,19 @@ lay_sections-returns-clause-ok t c =
 pub lay_files-returns-in_err-lay_body-clause-memory : goal.lay_files-returns-in_err-lay_body-clause-memory
 lay_files-returns-in_err-lay_body-clause-memory t c =
     let some = c.in_err-lay_body.ensures.memory in
-    memory_passed c.from_residual.result _ _ _ c.from_residual.ensures.1 (rw c.data_body.ensures at some)
-    (file_count _ _ _ c.loop-file-test.true c.file-item.is)
+    let count = file_count _ _ _ c.loop-file-test.true c.file-item.is in
+    rw (err_is c.from_residual.ensures.1) (λ want. omega (arith, (rw c.data_body.ensures at some) want, count))
 
 pub lay_sections-returns-in_err-lay_body-clause-memory : goal.lay_sections-returns-in_err-lay_body-clause-memory
 lay_sections-returns-in_err-lay_body-clause-memory t c =
     let some = c.in_err-lay_body.ensures.memory in
-    memory_passed c.from_residual.result _ _ _ c.from_residual.ensures.1 (rw c.body.ensures at some)
-    (section_count _ _ _ c.loop-section-test.true c.section-item.is)
+    let count = section_count _ _ _ c.loop-section-test.true c.section-item.is in
+    rw (err_is c.from_residual.ensures.1) (λ want. omega (arith, (rw c.body.ensures at some) want, count))
 
 pub lay_volume-returns-in_err-extend_from_slice-clause-memory : goal.lay_volume-returns-in_err-extend_from_slice-clause-memory
 lay_volume-returns-in_err-extend_from_slice-clause-memory t c =
     let own = own_count c.args.view.now c.in_ok-own.own.items c.in_ok-own.ensures.ok in
-    always c.from_residual-in_err-extend_from_slice.result
-    (λ _ _. omega (
+    rw (err_is c.from_residual-in_err-extend_from_slice.ensures.1) (λ _. omega (
       arith,
       own,
       own_counted c.args.view.now,

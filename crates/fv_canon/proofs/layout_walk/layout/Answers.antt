@@ -1,10 +1,6 @@
-use Rattle.std.proofs.Common.{◌≡◌, ◌≢◌, []}
-use Rattle.fv_base.specs.declared.fault.Fault.{Fault}
-use Rattle.fv_tree.specs.Meaning.{files_of}
-use Rattle.fv_base.specs.Faults.{out_of_memory}
+use Rattle.fv_base.proofs.Laws.{err_is, first_only}
 use Rattle.fv_canon.proofs.FitLaws.{unfit_none}
-use Rattle.fv_canon.proofs.InputLaws.{fault_passed}
-use Rattle.fv_canon.proofs.LayoutWalkLaws.{only_memory, shallow_volume, starts_need_file}
+use Rattle.fv_canon.proofs.LayoutWalkLaws.{shallow_volume, starts_need_file}
 use Rattle.fv_canon.proofs.LayoutLaws.{layout_is, one_layout, own_first}
 use Rattle.fv_canon.proofs.layout_walk.layout.Goals as goal
 
@@ -24,10 +20,8 @@ returns-clause-least c = (own_first c.args.view.now c.new.result (returns-clause
 
 pub returns-in_err-lay_volume-clause-fits : goal.returns-in_err-lay_volume-clause-fits
 returns-in_err-lay_volume-clause-fits c fit =
-    only_memory c.from_residual.result _ c.from_residual.ensures.1 c.in_err-lay_volume.ensures.err
-    (λ unfit. unfit_none c.args.view.now 0 _ unfit fit)
+    rw (err_is c.from_residual.ensures.1) (first_only c.in_err-lay_volume.ensures.err (λ unfit. unfit_none c.args.view.now 0 _ unfit fit))
 
 pub returns-in_err-lay_volume-clause-memory : goal.returns-in_err-lay_volume-clause-memory
 returns-in_err-lay_volume-clause-memory c =
-    fault_passed (λ (f : Fault). f ≡ out_of_memory → files_of c.args.view.now ≢ []) c.from_residual.result _ c.from_residual.ensures.1
-    (λ want. starts_need_file c.args.view.now (c.in_err-lay_volume.ensures.memory want))
+    rw (err_is c.from_residual.ensures.1) (λ want. starts_need_file c.args.view.now (c.in_err-lay_volume.ensures.memory want))

@@ -1,13 +1,14 @@
 use Rattle.std.proofs.Common.{◌≡◌, ◌<◌, ◌+◌, ℕ, List, [], ◌∷◌, ◌++◌, length, take, get_or, map, sym, ap, ◌∙◌, subst, arith}
 use Rattle.std.specs.Prelude.{All}
 use Rattle.std.proofs.lemmas.List.{map-append, take_all, take_more}
+use Rattle.fv_base.proofs.Laws.{err_is}
 use Rattle.fv_canon.specs.Layouts.{layout_item}
-use Rattle.fv_canon.specs.inner.Reaches.{IsLawfulItem}
-use Rattle.fv_canon.specs.declared.first_placement.LayoutItem.{LayoutItem}
+use Rattle.fv_placement.specs.Items.{IsLawfulItem}
+use Rattle.fv_placement.specs.declared.first_placement.LayoutItem.{LayoutItem}
 use Rattle.fv_tree.proofs.Laws.{files_list_back}
 use Rattle.fv_tree.specs.Meaning.{FileMeaning, files_of, head_of}
 use Rattle.fv_canon.proofs.PartBytesLaws.{parts_fit}
-use Rattle.fv_canon.proofs.LayoutWalkLaws.{always, some_items}
+use Rattle.fv_canon.proofs.LayoutWalkLaws.{some_items}
 use Rattle.fv_canon.proofs.layout_walk.layout_items.Goals as goal
 
 pub returns-clause-ok : goal.returns-clause-ok
@@ -40,9 +41,9 @@ pub returns-in_err-items-clause-some : goal.returns-in_err-items-clause-some
 returns-in_err-items-clause-some c =
     let are = ap files_of c.files-files.ensures ∙ files_list_back c.files-files.result.now in
     let some = some_items c.files-files.result.now c.in_err-items.ensures.succeeds in
-    always c.from_residual.result (λ _. omega (arith, ap length are, some))
+    rw (err_is c.from_residual.ensures.1) (omega (arith, ap length are, some))
 
 pub returns-in_err-push-clause-some : goal.returns-in_err-push-clause-some
 returns-in_err-push-clause-some c =
     let are = ap files_of c.files-files.ensures ∙ files_list_back c.files-files.result.now in
-    always c.from_residual-in_err-push.result (λ _. omega (arith, ap length are, c.loop-file-test.true))
+    rw (err_is c.from_residual-in_err-push.ensures.1) (omega (arith, ap length are, c.loop-file-test.true))

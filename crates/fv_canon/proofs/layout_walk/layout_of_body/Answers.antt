@@ -1,10 +1,10 @@
+use Rattle.fv_base.proofs.Laws.{err_is, first_only}
 use Rattle.fv_tree.specs.Views.{body_view}
 use Rattle.fv_tree.specs.Volumes.{volumes_in_body}
 use Rattle.fv_canon.proofs.FitLaws.{first_none}
-use Rattle.fv_canon.proofs.LayoutWalkLaws.{only_memory}
 use Rattle.fv_canon.proofs.layout_walk.layout_of_body.Goals as goal
 
 pub returns-in_err-lay_body-clause-fits : goal.returns-in_err-lay_body-clause-fits
 returns-in_err-lay_body-clause-fits c fit =
-    only_memory c.from_residual.result _ c.from_residual.ensures.1 c.in_err-lay_body.ensures.err
-    (λ unfit. first_none (volumes_in_body (body_view c.args.body)) 0 _ unfit fit)
+    rw (err_is c.from_residual.ensures.1)
+    (first_only c.in_err-lay_body.ensures.err (λ unfit. first_none (volumes_in_body (body_view c.args.body)) 0 _ unfit fit))

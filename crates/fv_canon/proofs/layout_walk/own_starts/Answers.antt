@@ -1,8 +1,8 @@
 use Rattle.std.proofs.Common.{ℕ, List, sym, ap, ◌∙◌, subst, rules}
 use Rattle.std.specs.Prelude.{All}
 use Rattle.fv_head.specs.Head.{HeadFields}
-use Rattle.fv_canon.specs.inner.Reaches.{IsLawfulItem}
-use Rattle.fv_canon.specs.declared.first_placement.LayoutItem.{LayoutItem}
+use Rattle.fv_placement.specs.Items.{IsLawfulItem}
+use Rattle.fv_placement.specs.declared.first_placement.LayoutItem.{LayoutItem}
 use Rattle.fv_canon.proofs.layout_walk.own_starts.Goals as goal
 
 pub is_top_off-requires-clause-items : goal.is_top_off-requires-clause-items

@@ -1,5 +1,6 @@
 use Rattle.std.proofs.Common.{◌≡◌, ◌⊎◌, List, ℕ, length, subst, sym}
 use Rattle.std.proofs.lemmas.Result.{IfOk-weaker, IfErr-weaker}
+use Rattle.fv_base.proofs.Laws.{err_is}
 use Rattle.fv_base.specs.Faults.{out_of_memory}
 use Rattle.fv_base.specs.declared.fault.Fault.{Fault}
 use Rattle.fv_head.specs.Head.{HeadFields, BeginsVolume}
@@ -10,24 +11,24 @@ use Rattle.fv_canon.specs.Layouts.{Fits}
 use Rattle.fv_canon.specs.Refusals.{IsOfLayout, IsUnfit}
 use Rattle.fv_canon.proofs.ImageLaws.{image_again, image_stays_long}
 use Rattle.fv_canon.proofs.ImageFits.{image_fits as has_image_fits}
-use Rattle.fv_canon.proofs.InputLaws.{fault_passed, image_fits, not_placed, not_read, not_read_never, refused_unplaced, unread_refused}
-use Rattle.fv_canon.proofs.InputLaws.{no_value, unfit_kind_of}
+use Rattle.fv_canon.proofs.InputLaws.{image_fits, not_placed, not_read, not_read_never, refused_unplaced, unread_refused}
+use Rattle.fv_canon.proofs.InputLaws.{unfit_kind_of}
 use Rattle.fv_canon.proofs.normalising.normalise.Goals as goal
 
 pub returns-in_err-view-clause-err : goal.returns-in_err-view-clause-err
-returns-in_err-view-clause-err c = fault_passed _ _ _ c.from_residual.ensures.1 (not_read c.args.input.now _ c.in_err-view.ensures.refused)
+returns-in_err-view-clause-err c = rw (err_is c.from_residual.ensures.1) (not_read c.args.input.now _ c.in_err-view.ensures.refused)
 
 pub returns-in_err-view-clause-fits : goal.returns-in_err-view-clause-fits
 returns-in_err-view-clause-fits c =
-    λ image to. fault_passed _ _ _ c.from_residual.ensures.1 (not_read_never c.args.input.now image _ c.in_err-view.ensures.refused to)
+    λ image to. rw (err_is c.from_residual.ensures.1) (not_read_never c.args.input.now image _ c.in_err-view.ensures.refused to)
 
 pub returns-in_err-view-clause-unfit : goal.returns-in_err-view-clause-unfit
 returns-in_err-view-clause-unfit c =
-    fault_passed _ _ _ c.from_residual.ensures.1 (refused_unplaced c.args.input.now _ (not_read c.args.input.now _ c.in_err-view.ensures.refused))
+    rw (err_is c.from_residual.ensures.1) (refused_unplaced c.args.input.now _ (not_read c.args.input.now _ c.in_err-view.ensures.refused))
 
 pub returns-in_err-view-clause-unread : goal.returns-in_err-view-clause-unread
 returns-in_err-view-clause-unread c =
-    fault_passed _ _ _ c.from_residual.ensures.1 (unread_refused c.args.input.now _ (not_read c.args.input.now _ c.in_err-view.ensures.refused))
+    rw (err_is c.from_residual.ensures.1) (unread_refused c.args.input.now _ (not_read c.args.input.now _ c.in_err-view.ensures.refused))
 
 pub returns-clause-ok : goal.returns-clause-ok
 returns-clause-ok c =
@@ -74,8 +75,9 @@ returns-clause-memory c =
 
 pub returns-in_err-view-clause-refused : goal.returns-in_err-view-clause-refused
 returns-in_err-view-clause-refused c = λ unfit. (
-  no_value _ _ c.from_residual.ensures.1,
-  fault_passed _ _ _ c.from_residual.ensures.1 (unfit_kind_of c.args.input.now _ (not_read c.args.input.now _ c.in_err-view.ensures.refused) unfit),
+  rw (err_is c.from_residual.ensures.1) tt,
+  rw (err_is c.from_residual.ensures.1)
+      (unfit_kind_of c.args.input.now _ (not_read c.args.input.now _ c.in_err-view.ensures.refused) unfit),
 )
 
 pub returns-clause-refused : goal.returns-clause-refused

@@ -51,7 +51,6 @@ returns-in-Some g c =
     let filler = c.fill.ensures in
     let laws = g.S.Sink.laws in
     rw (some_text p h h.ext c.in-Some.ext.now c.args.used (erased_byte p) some)
-    (laws.joined c.args.out.now c.put.new.self c.fill.new.out _ _
-    (rw (c.as_slice.ensures, c.pad_head_bytes.ensures.bytes, len, polar) at head)
-    (laws.joined c.put.new.self c.put_ext.new.out c.fill.new.out _ _ c.put_ext.ensures.bytes
+    (laws.joined (rw (c.as_slice.ensures, c.pad_head_bytes.ensures.bytes, len, polar) at head)
+    (laws.joined c.put_ext.ensures.bytes
     (rw (c.up_to_8.ensures, top, len, c.erased.ensures.value, polar) at filler)))

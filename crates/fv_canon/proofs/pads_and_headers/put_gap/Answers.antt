@@ -33,7 +33,7 @@ loop-left-preserved g c =
       multiple = omega (arith, inv.multiple, c.loop-left-test.true);
       done = record {
         front = f.front ++ pad;
-        taken = g.S.Sink.laws.joined c.args.out.now c.loop-left.out c.put_pad.new.out f.front pad f.taken c.put_pad.ensures;
+        taken = g.S.Sink.laws.joined f.taken c.put_pad.ensures;
         whole_is = append_assoc f.front pad (gap_bytes c.args.polarity (c.loop-left.left - long_pad))
             ∙ ap (λ (xs : List ℕ). f.front ++ xs) (sym rule.0) ∙ f.whole_is;
       };
@@ -45,5 +45,4 @@ returns g c =
     let one = (pads_rule c.args.polarity c.loop-left.left inv.least inv.multiple).0 c.loop-left-test.false in
     let f = inv.done in
     subst (λ (xs : List ℕ). g.S.Sink.takes c.args.out.now xs c.put_pad-2.new.out)
-    (ap (λ (xs : List ℕ). f.front ++ xs) (sym one) ∙ f.whole_is) (g.S.Sink.laws.joined c.args.out.now
-    c.loop-left.out c.put_pad-2.new.out f.front (pad_bytes c.args.polarity c.loop-left.left) f.taken c.put_pad-2.ensures)
+    (ap (λ (xs : List ℕ). f.front ++ xs) (sym one) ∙ f.whole_is) (g.S.Sink.laws.joined f.taken c.put_pad-2.ensures)

@@ -6,7 +6,7 @@ use Rattle.fv_base.specs.Limits.{volume_limit}
 use Rattle.fv_canon.specs.inner.Depths.{used_by}
 use Rattle.fv_canon.specs.Layouts.{layout_item}
 use Rattle.fv_canon.specs.StoredFiles.{size_for}
-use Rattle.fv_canon.proofs.OneImageLaws.{follow_length}
+use Rattle.fv_placement.proofs.Laws.{follow_length}
 use Rattle.fv_tree.specs.Meaning.{data_len_of}
 use Rattle.fv_canon.proofs.VolumeWalks.{used_last}
 use Rattle.fv_canon.proofs.pads_and_headers.used_end.Goals.{After-data_len}

@@ -1,10 +1,10 @@
 use Rattle.std.proofs.lemmas.Result.{IfOk-weaker}
+use Rattle.fv_base.proofs.Laws.{err_is}
 use Rattle.fv_tree.specs.MeaningParts.{body_of}
 use Rattle.fv_canon.specs.Image.{IsBodyImage}
 use Rattle.fv_canon.specs.inner.ImageOf.{body_image}
 use Rattle.fv_canon.proofs.OneImageLaws.{body_one}
 use Rattle.fv_canon.proofs.ImagePieceLaws.{body_is, kept_text}
-use Rattle.fv_canon.proofs.InputLaws.{fault_passed}
 use Rattle.fv_canon.proofs.LayoutWalkLaws.{shallow_body}
 use Rattle.fv_canon.proofs.part_bytes.body_bytes.Goals as goal
 
@@ -13,11 +13,11 @@ layout_of_body-requires c = record { shallow = rw c.body-body.ensures (shallow_b
 
 pub returns-in_err-starts-clause-err : goal.returns-in_err-starts-clause-err
 returns-in_err-starts-clause-err c =
-    let err = c.in_err-starts.ensures.err in fault_passed _ _ _ c.from_residual.ensures.1 (rw c.body-body.ensures at err)
+    let err = c.in_err-starts.ensures.err in rw (err_is c.from_residual.ensures.1) (rw c.body-body.ensures at err)
 
 pub returns-in_err-starts-clause-fits : goal.returns-in_err-starts-clause-fits
 returns-in_err-starts-clause-fits c fit =
-    let fits = c.in_err-starts.ensures.fits in fault_passed _ _ _ c.from_residual.ensures.1 ((rw c.body-body.ensures at fits) fit)
+    let fits = c.in_err-starts.ensures.fits in rw (err_is c.from_residual.ensures.1) ((rw c.body-body.ensures at fits) fit)
 
 pub returns-clause-body : goal.returns-clause-body
 returns-clause-body c =

@@ -1,13 +1,12 @@
 use Rattle.std.proofs.Common.{[], append-nil, subst, sym}
 use Rattle.std.proofs.lemmas.Result.{IfOk-weaker}
-use Rattle.fv_base.proofs.Laws.{kept_whole}
+use Rattle.fv_base.proofs.Laws.{kept_whole, err_is}
 use Rattle.fv_tree.specs.Meaning.{content_of}
 use Rattle.fv_tree.specs.Volumes.{volumes_in_content}
 use Rattle.fv_canon.specs.Image.{IsData}
 use Rattle.fv_canon.specs.LayoutForms.{Laid}
 use Rattle.fv_canon.specs.Layouts.{AreStarts}
 use Rattle.fv_canon.proofs.DataBodyLaws.{data_held}
-use Rattle.fv_canon.proofs.InputLaws.{fault_passed}
 use Rattle.fv_canon.proofs.LayoutWalkLaws.{shallow_data}
 use Rattle.fv_canon.proofs.OneImageLaws.{data_one}
 use Rattle.fv_canon.proofs.part_bytes.file_bytes.Goals as goal
@@ -18,12 +17,12 @@ layout_of_body-requires c = record { shallow = rw c.data_body.ensures (shallow_d
 pub returns-in_err-starts-clause-err : goal.returns-in_err-starts-clause-err
 returns-in_err-starts-clause-err c =
     let err = c.in_err-starts.ensures.err in
-    fault_passed _ _ _ c.from_residual.ensures.1 (rw (c.data_body.ensures, data_held c.args.file.now) at err)
+    rw (err_is c.from_residual.ensures.1) (rw (c.data_body.ensures, data_held c.args.file.now) at err)
 
 pub returns-in_err-starts-clause-fits : goal.returns-in_err-starts-clause-fits
 returns-in_err-starts-clause-fits c fit =
     let fits = c.in_err-starts.ensures.fits in
-    fault_passed _ _ _ c.from_residual.ensures.1 ((rw (c.data_body.ensures, data_held c.args.file.now) at fits) fit)
+    rw (err_is c.from_residual.ensures.1) ((rw (c.data_body.ensures, data_held c.args.file.now) at fits) fit)
 
 pub put_laid_data-requires : goal.put_laid_data-requires
 put_laid_data-requires c =

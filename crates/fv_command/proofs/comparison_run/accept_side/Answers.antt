@@ -1,5 +1,5 @@
 use Rattle.std.proofs.Common.{refl}
-use Rattle.fv_canon.proofs.Laws.{ran_out}
+use Rattle.fv_tree.proofs.Laws.{ran_out}
 use Rattle.fv_command.proofs.comparison_run.accept_side.Goals as goal
 
 pub returns-in-Err-clause-err : goal.returns-in-Err-clause-err

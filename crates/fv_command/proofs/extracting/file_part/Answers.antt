@@ -1,5 +1,5 @@
 use Rattle.std.proofs.Common.{◌≡◌, ℕ, List, Option, Some, refl, sym, subst}
-use Rattle.std.proofs.lemmas.Result.{err_from_is_err_and}
+use Rattle.fv_base.proofs.Laws.{err_is}
 use Rattle.fv_section.specs.Frames.{FrameForm}
 use Rattle.fv_section.specs.StreamReads.{frame_form}
 use Rattle.fv_tree.specs.LookupInstances.{section_of_type, frame_of_type}
@@ -39,7 +39,6 @@ returns-in-Found-Frame-clause-ok c =
 pub returns-in_err-body_bytes-in-Found-Section-clause-err : goal.returns-in_err-body_bytes-in-Found-Section-clause-err
 returns-in_err-body_bytes-in-Found-Section-clause-err c =
     let residual = c.from_residual-in_err-body_bytes-in-Found-Section in
-    let p = err_from_is_err_and residual.result residual.ensures.1 in
     let w = c.in-Found-Section.ensures in
     let item = c.in-Found-Section.field-0-is in
     let f = c.args.file.now in
@@ -47,5 +46,5 @@ returns-in_err-body_bytes-in-Found-Section-clause-err c =
     → section_of_type c.in-Some.kind c.args.part.now.instance ss ≡ Some c.in-Found-Section.section.now = λ ss t e. rw item at (w.sections ss t e) in
     let none : (b : List ℕ) → content_of f ≡ Plain b → ⊥ = λ b e.
     let same = w.plain b e (λ k fs t h. absurd (rw item at (w.core b fs t e k h))) in cc in
-    rw (c.in-Some.is, p.1, p.2) (stops_section f c.in-Some.kind c.args.part.now.instance c.in-Found-Section.section.now _ found none
+    rw (c.in-Some.is, err_is residual.ensures.1) (stops_section f c.in-Some.kind c.args.part.now.instance c.in-Found-Section.section.now _ found none
     c.in_err-body_bytes-in-Found-Section.ensures.err)

@@ -3,9 +3,9 @@ use Rattle.fv_command.proofs.fault_text.put_fault.Goals as goal
 
 pub returns : goal.returns
 returns g c =
-    let join = g.S.Sink.laws.joined in
+    let laws = g.S.Sink.laws in
     let number = subst (λ (n : ℕ). g.S.Sink.takes c.put-2.new.self (decimal n) c.put_decimal.new.out) c.from.ensures
     c.put_decimal.ensures.text in
-    join _ _ _ _ _ c.put.ensures
-    (join _ _ _ _ _ c.put-2.ensures
-    (join _ _ _ _ _ number (join _ _ _ _ _ c.put-3.ensures (join _ _ _ _ _ c.put_decimal-2.ensures.text c.put-4.ensures))))
+    laws.joined c.put.ensures
+    (laws.joined c.put-2.ensures
+    (laws.joined number (laws.joined c.put-3.ensures (laws.joined c.put_decimal-2.ensures.text c.put-4.ensures))))

@@ -1,4 +1,4 @@
-use Rattle.std.proofs.Common.{inr, refl}
+use Rattle.std.proofs.Common.{refl}
 use Rattle.fv_command.proofs.RunLemmas.{hobs_refused}
 use Rattle.fv_command.proofs.hob_run.put_hob_list.Goals as goal
 
@@ -7,4 +7,4 @@ returns-in-Err-read_hobs g c =
     let f = c.in-Err-read_hobs.fault in
     let inputs = c.in-Ok.ensures.ok in
     let why = hobs_refused _ _ f c.deref.ensures.value c.in-Err-read_hobs.ensures.first in
-    (inr (refl, inr (f, (_, _, inputs.0, inputs.1, why), refl)), refl)
+    ((_, _, inputs.0, inputs.1, why), refl)

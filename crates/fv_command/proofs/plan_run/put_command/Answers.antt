@@ -1,15 +1,15 @@
-use Rattle.std.proofs.Common.{refl}
-use Rattle.fv_command.proofs.EndLemmas.{puts_weaker}
+use Rattle.std.proofs.Common.{ℕ, subst}
+use Rattle.std.specs.Prelude.{Option}
+use Rattle.fv_text.specs.PortViews.{Change, change}
+use Rattle.fv_command.specs.HobRuns.{SaysHobs, StopsHobs}
+use Rattle.fv_command.specs.inner.RunSteps.{Puts}
 use Rattle.fv_command.proofs.plan_run.put_command.Goals as goal
-
-pub returns-in-Single : goal.returns-in-Single
-returns-in-Single g c =
-    rw c.in-Single.is (puts_weaker g.S.Sink.takes _ _ _ _ c.put_task.result (λ status text said. (refl, said)) c.put_task.ensures)
 
 pub returns-in-Hobs : goal.returns-in-Hobs
 returns-in-Hobs g c =
-    rw c.in-Hobs.is (puts_weaker g.S.Sink.takes _ _ _ _ c.put_hob_list.result (λ status text said. rw (← c.base_of.ensures) said)
-    c.put_hob_list.ensures)
-
-pub returns-in-Compare : goal.returns-in-Compare
-returns-in-Compare g c = rw c.in-Compare.is c.put_compared.ensures
+    let hex = c.args.plan.now.hex in
+    let list : Change = change g.First.Read.remaining c.args.first.now c.put_hob_list.new.first in
+    let image : Change = change g.Second.Read.remaining c.args.second.now c.put_hob_list.new.second in
+    rw c.in-Hobs.is
+    (subst (λ (base : Option ℕ). Puts g.S.Sink.takes (SaysHobs base hex list image) (StopsHobs base hex list image) c.args.out.now
+    c.put_hob_list.new.out c.put_hob_list.result) c.base_of.ensures c.put_hob_list.ensures)

@@ -1,12 +1,10 @@
-use Rattle.fv_command.proofs.EndLemmas.{line_reports}
+use Rattle.std.proofs.Common.{rules}
+use Rattle.fv_command.proofs.EndLemmas.{sink_wrote}
 use Rattle.fv_command.proofs.plan_run.run_plan.Goals as goal
 
 pub returns-clause-runs : goal.returns-clause-runs
 returns-clause-runs g c =
-    let put = c.write_plan-is_written.ensures in
-    (c.write_plan-is_written.new.ending.status, put.0, put.1, c.finish-status.ensures.ends put.0 _ put.3)
-
-pub returns-clause-why : goal.returns-clause-why
-returns-clause-why g c =
-    let put = c.write_plan-is_written.ensures in
-    line_reports c.write_plan-is_written.new.ending put.0 _ c.finish-status.result put.2 (c.finish-status.ensures.ends put.0 _ put.3)
+    let put = c.gather_plan-out.ensures in
+    let wrote = sink_wrote g.W.Write.contents c.new.result c.gather_plan-out.result c.args.writer.now _ put.0 c.is_whole-is_written.result
+    c.new.ensures.now c.new.ensures.on put.2.1 c.is_whole-is_written.ensures (search rules) in
+    (c.gather_plan-out.new.ending.status, put.0, put.1, c.finish-status.ensures.ends put.0 _ wrote)

@@ -1,11 +1,9 @@
 use Rattle.std.proofs.Common.{refl}
-use Rattle.std.proofs.lemmas.Result.{err_from_is_err_and}
+use Rattle.fv_base.proofs.Laws.{err_is}
 use Rattle.fv_command.proofs.task_run.extract_part.Goals as goal
 
 pub returns-in_err-extraction : goal.returns-in_err-extraction
-returns-in_err-extraction g c =
-    let p = err_from_is_err_and c.from_residual.result c.from_residual.ensures.1 in
-    rw (p.1, p.2) (c.in_err-extraction.ensures.err, refl)
+returns-in_err-extraction g c = rw (err_is c.from_residual.ensures.1) (c.in_err-extraction.ensures.err, refl)
 
 pub returns : goal.returns
 returns g c =

@@ -1,5 +1,5 @@
 use Rattle.std.proofs.Common.{[], append-nil, refl, subst, sym}
-use Rattle.std.proofs.lemmas.Result.{err_from_is_err_and}
+use Rattle.fv_base.proofs.Laws.{err_is}
 use Rattle.fv_canon.specs.LayoutForms.{BeginsWithStarts, LaysVolume}
 use Rattle.fv_command.proofs.RunLemmas.{sums_denied}
 use Rattle.fv_tree.specs.Volumes.{volumes_in}
@@ -7,8 +7,8 @@ use Rattle.fv_command.proofs.task_run.list_sums.Goals as goal
 
 pub returns-in_err-places : goal.returns-in_err-places
 returns-in_err-places g c =
-    let p = err_from_is_err_and c.from_residual-in_err-places.result c.from_residual-in_err-places.ensures.1 in
-    λ hex. rw (p.1, p.2) (sums_denied c.args.input.now c.in_ok-volume.volume _ c.in_ok-volume.ensures.ok c.in_err-places.ensures.err, refl)
+    λ hex. rw (err_is c.from_residual-in_err-places.ensures.1)
+    (sums_denied c.args.input.now c.in_ok-volume.volume _ c.in_ok-volume.ensures.ok c.in_err-places.ensures.err, refl)
 
 pub put_list_with-requires : goal.put_list_with-requires
 put_list_with-requires g c =

@@ -1,4 +1,29 @@
+use Rattle.std.proofs.Common.{refl}
+use Rattle.std.proofs.lemmas.Result.{err_from_is_err_and}
 use Rattle.fv_command.proofs.task_run.perform.Goals as goal
+
+-- the image of a volume
+pub returns-in_err-lay_out_volume-in-Normalise : goal.returns-in_err-lay_out_volume-in-Normalise
+returns-in_err-lay_out_volume-in-Normalise g c =
+    let p = err_from_is_err_and c.from_residual.result c.from_residual.ensures.1 in
+    rw (c.in-Normalise.is, p.1, p.2) (c.in_err-lay_out_volume-in-Normalise.ensures.err, refl)
+
+pub returns-in_ok-lay_out_volume-in-Normalise : goal.returns-in_ok-lay_out_volume-in-Normalise
+returns-in_ok-lay_out_volume-in-Normalise g c =
+    let put = c.put_shown_image-in-Normalise.ensures in
+    rw c.in-Normalise.is (put.1, (put.0, (_, c.in_ok-lay_out_volume-in-Normalise.ensures.ok, put.2), put.3), put.4)
+
+-- a flash image with its volumes renewed
+pub returns-in_err-lay_out_image-in-NormaliseAll : goal.returns-in_err-lay_out_image-in-NormaliseAll
+returns-in_err-lay_out_image-in-NormaliseAll g c =
+    let residual = c.from_residual-in_err-lay_out_image-in-NormaliseAll in
+    let p = err_from_is_err_and residual.result residual.ensures.1 in
+    rw (c.in-NormaliseAll.is, p.1, p.2) (c.in_err-lay_out_image-in-NormaliseAll.ensures.err, refl)
+
+pub returns-in_ok-lay_out_image-in-NormaliseAll : goal.returns-in_ok-lay_out_image-in-NormaliseAll
+returns-in_ok-lay_out_image-in-NormaliseAll g c =
+    let put = c.put_shown_image-in-NormaliseAll-2.ensures in
+    rw c.in-NormaliseAll.is (put.1, (put.0, rw c.in_ok-lay_out_image-in-NormaliseAll.ensures.ok at put.2, put.3), put.4)
 
 pub returns-in-List : goal.returns-in-List
 returns-in-List g c = rw c.in-List.is (c.list.ensures c.args.hex)

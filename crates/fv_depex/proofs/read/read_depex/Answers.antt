@@ -1,7 +1,5 @@
 use Rattle.std.proofs.Common.{◌∙◌, refl, sym, subst}
-use Rattle.std.proofs.lemmas.Result.{err_from_is_err_and}
-use Rattle.fv_base.proofs.Laws.{whatever}
-use Rattle.fv_depex.specs.OpChecks.{BeginsFirstOp, depex_out_of_memory}
+use Rattle.fv_base.proofs.Laws.{err_is}
 use Rattle.fv_depex.specs.Expressions.{Spells}
 use Rattle.fv_depex.proofs.PathLemmas.{one_spelling}
 use Rattle.fv_depex.proofs.ReadLemmas.{none_after, spells_first}
@@ -21,10 +19,10 @@ returns-clause-only c = λ ops rest spells.
 
 pub returns-in_err-ops-clause-none : goal.returns-in_err-ops-clause-none
 returns-in_err-ops-clause-none c =
-    let p = err_from_is_err_and c.from_residual.result c.from_residual.ensures.1 in
-    rw (p.1, p.2) (λ memory ops rest spells. none_after c.args.phase c.args.bytes.now _ ops rest (c.in_err-ops.ensures.first memory) spells)
+    rw (err_is c.from_residual.ensures.1)
+    (λ memory ops rest spells. none_after c.args.phase c.args.bytes.now _ ops rest (c.in_err-ops.ensures.first memory) spells)
 
 pub returns-in_err-rest-clause-memory : goal.returns-in_err-rest-clause-memory
 returns-in_err-rest-clause-memory c =
-    whatever c.from_residual-in_err-rest.result depex_out_of_memory (BeginsFirstOp c.args.phase c.args.bytes.now)
-    (spells_first c.args.phase c.args.bytes.now c.in_ok-ops.ops.items _ c.in_ok-ops.ensures.found.1)
+    rw (err_is c.from_residual-in_err-rest.ensures.1)
+    (λ e. spells_first c.args.phase c.args.bytes.now c.in_ok-ops.ops.items _ c.in_ok-ops.ensures.found.1)

@@ -1,7 +1,5 @@
-use Rattle.std.proofs.Common.{◌∙◌, sym, ap, arith}
-use Rattle.std.proofs.lemmas.Result.{err_from_is_err_and}
-use Rattle.fv_base.proofs.Laws.{whatever}
-use Rattle.fv_depex.specs.OpChecks.{BeginsFirstOp, depex_out_of_memory}
+use Rattle.std.proofs.Common.{◌∙◌, refl, sym, ap, arith}
+use Rattle.fv_base.proofs.Laws.{err_is}
 use Rattle.fv_depex.specs.declared.fault.DepexFault.{DepexFault}
 use Rattle.fv_depex.proofs.ReadLemmas.{kept_none, kept, ended, first_fault_at, no_want, one_more, stands_first}
 use Rattle.fv_depex.proofs.read.read_ops.Goals as goal
@@ -29,22 +27,20 @@ returns-then-code-eq-END-clause-found c =
 
 pub returns-in_err-op-clause-memory : goal.returns-in_err-op-clause-memory
 returns-in_err-op-clause-memory c =
-    let p = err_from_is_err_and c.from_residual.result c.from_residual.ensures.1 in
-    rw (p.1, p.2) (λ e. absurd (no_want c.args.phase c.loop-ops.stage _ _ c.in_err-op.ensures.first (ap (λ (f : DepexFault). f.kind) e)))
+    rw (err_is c.from_residual.ensures.1)
+    (λ e. absurd (no_want c.args.phase c.loop-ops.stage _ _ c.in_err-op.ensures.first (ap (λ (f : DepexFault). f.kind) e)))
 
 pub returns-in_err-push-clause-memory : goal.returns-in_err-push-clause-memory
 returns-in_err-push-clause-memory c =
-    whatever c.from_residual-in_err-push.result depex_out_of_memory (BeginsFirstOp c.args.phase c.args.bytes.now)
-    (stands_first c.args.phase c.args.bytes.now c.loop-ops.ops.items c.in_ok-op.op c.loop-ops.at c.loop-ops.stage
+    rw (err_is c.from_residual-in_err-push.ensures.1)
+    (λ e. stands_first c.args.phase c.args.bytes.now c.loop-ops.ops.items c.in_ok-op.op c.loop-ops.at c.loop-ops.stage
     c.loop-ops.invariant c.in_ok-op.ensures.found)
 
 pub returns-in_err-op-clause-first : goal.returns-in_err-op-clause-first
 returns-in_err-op-clause-first c =
-    let p = err_from_is_err_and c.from_residual.result c.from_residual.ensures.1 in
     let e = c.in_err-op.ensures in
-    rw (p.1, p.2) (λ other. first_fault_at c.args.phase c.args.bytes.now _ _ _ _ c.loop-ops.invariant e.place e.first)
+    rw (err_is c.from_residual.ensures.1)
+    (λ other. first_fault_at c.args.phase c.args.bytes.now _ _ _ _ c.loop-ops.invariant e.place e.first)
 
 pub returns-in_err-push-clause-first : goal.returns-in_err-push-clause-first
-returns-in_err-push-clause-first c =
-    let p = err_from_is_err_and c.from_residual-in_err-push.result c.from_residual-in_err-push.ensures.1 in
-    rw p.1 (λ other. absurd (other p.2))
+returns-in_err-push-clause-first c = rw (err_is c.from_residual-in_err-push.ensures.1) (λ other. absurd (other refl))

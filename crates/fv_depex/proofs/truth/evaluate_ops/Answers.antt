@@ -1,7 +1,7 @@
 use Rattle.std.proofs.Common.{ap, arith, refl, ◌∙◌, sym, [], get_or}
 use Rattle.std.specs.Prelude.{reverse, Some, None, if◌then◌else◌}
 use Rattle.std.proofs.lemmas.List.{drop_more}
-use Rattle.std.proofs.lemmas.Result.{err_from_is_err_and}
+use Rattle.fv_base.proofs.Laws.{err_is}
 use Rattle.fv_depex.specs.declared.op.Op.{Op}
 use Rattle.fv_depex.specs.declared.op.Op.TheVariants as ops
 use Rattle.fv_depex.proofs.TruthLemmas.{run_step, run_none, run_end}
@@ -26,9 +26,7 @@ pub loop-op-smaller : goal.loop-op-smaller
 loop-op-smaller c = omega arith
 
 pub returns-in_err-evaluate_op-clause-err : goal.returns-in_err-evaluate_op-clause-err
-returns-in_err-evaluate_op-clause-err c =
-    let p = err_from_is_err_and c.from_residual.result c.from_residual.ensures.1 in
-    rw p.1 p.2
+returns-in_err-evaluate_op-clause-err c = rw (err_is c.from_residual.ensures.1) refl
 
 pub returns-then-not-branch-clause-value : goal.returns-then-not-branch-clause-value
 returns-then-not-branch-clause-value c =

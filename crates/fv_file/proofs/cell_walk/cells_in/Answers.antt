@@ -1,7 +1,8 @@
-use Rattle.std.proofs.Common.{◌+◌, ◌-◌, length, refl, ap, arith, length-drop, sym, ◌∙◌}
-use Rattle.std.proofs.lemmas.Result.{err_from_is_err_and}
+use Rattle.std.proofs.Common.{◌+◌, ◌-◌, length, refl, arith, length-drop, sym, ◌∙◌}
+use Rattle.fv_base.proofs.Laws.{err_is}
 use Rattle.fv_file.specs.declared.cell.Cell.TheVariants as forms
-use Rattle.fv_file.proofs.BodyLemmas.{at_offset_0, kept, free_kept, no_other_fault, stands_in, whole_kept, rest_free, rest_used, first_here}
+use Rattle.fv_file.proofs.BodyLemmas.{kept, free_kept, stands_in, whole_kept, rest_free, rest_used, first_here}
+use Rattle.fv_file.proofs.CellFaultLemmas.{body_within}
 use Rattle.fv_file.proofs.cell_walk.cells_in.Goals as goal
 use Rattle.fv_file.proofs.cell_walk.cells_in.Goals.{then-at-body+in_ok-push-2, else-at-body}
 
@@ -19,13 +20,13 @@ returns-clause-found c =
 
 pub returns-in_err-cell-clause-first : goal.returns-in_err-cell-clause-first
 returns-in_err-cell-clause-first c =
-    let p = err_from_is_err_and c.from_residual-in_err-cell.result c.from_residual-in_err-cell.ensures.1 in
     let used = rest_used _ _ c.args.body.now c.loop-system.at c.bytes_from.ensures (sym c.is_free.ensures ∙ c.loop-system-test.true) in
-    rw (p.1, p.2) (λ memory. first_here _ _ _ _ _ _ _ _ c.loop-system.invariant used c.bytes_from-rest.ensures c.in_err-cell.ensures.refused)
+    rw (err_is c.from_residual-in_err-cell.ensures.1)
+    (λ memory. first_here _ _ _ _ _ _ _ _ c.loop-system.invariant used c.bytes_from-rest.ensures c.in_err-cell.ensures.refused)
 
 pub returns-in_err-cell-clause-some : goal.returns-in_err-cell-clause-some
 returns-in_err-cell-clause-some c =
-    rw (err_from_is_err_and c.from_residual-in_err-cell.result c.from_residual-in_err-cell.ensures.1).1
+    rw (err_is c.from_residual-in_err-cell.ensures.1)
     (omega (arith, (rest_used _ _ c.args.body.now c.loop-system.at c.bytes_from.ensures (sym c.is_free.ensures ∙ c.loop-system-test.true)).0))
 
 pub span_of-len-requires : goal.span_of-len-requires
@@ -70,39 +71,33 @@ loop-system-preserved c =
     (stands_in c.loop-system.invariant c.requires.multiple c.bytes_from-rest.ensures c.in_ok-cell.ensures.found) c.span_of-len.ensures c.in_ok-push.ensures.items
 
 pub returns-in_err-list-clause-first : goal.returns-in_err-list-clause-first
-returns-in_err-list-clause-first c = no_other_fault _ _ c.from_residual.ensures.1
+returns-in_err-list-clause-first c = rw (err_is c.from_residual.ensures.1) (λ other. absurd (other refl))
 
 pub returns-in_err-list-clause-bound : goal.returns-in_err-list-clause-bound
-returns-in_err-list-clause-bound c = at_offset_0 _ _ c.from_residual.ensures.1
+returns-in_err-list-clause-bound c = rw (err_is c.from_residual.ensures.1) (omega arith)
 
 pub returns-in_err-push-clause-first : goal.returns-in_err-push-clause-first
-returns-in_err-push-clause-first c = no_other_fault _ _ c.from_residual-in_err-push.ensures.1
+returns-in_err-push-clause-first c = rw (err_is c.from_residual-in_err-push.ensures.1) (λ other. absurd (other refl))
 
 pub returns-in_err-push-clause-bound : goal.returns-in_err-push-clause-bound
-returns-in_err-push-clause-bound c = at_offset_0 _ _ c.from_residual-in_err-push.ensures.1
+returns-in_err-push-clause-bound c = rw (err_is c.from_residual-in_err-push.ensures.1) (omega arith)
 
 pub returns-in_err-push-2-clause-first : goal.returns-in_err-push-2-clause-first
-returns-in_err-push-2-clause-first c = no_other_fault _ _ c.from_residual-in_err-push-2.ensures.1
+returns-in_err-push-2-clause-first c = rw (err_is c.from_residual-in_err-push-2.ensures.1) (λ other. absurd (other refl))
 
 pub returns-in_err-push-2-clause-bound : goal.returns-in_err-push-2-clause-bound
-returns-in_err-push-2-clause-bound c = at_offset_0 _ _ c.from_residual-in_err-push-2.ensures.1
+returns-in_err-push-2-clause-bound c = rw (err_is c.from_residual-in_err-push-2.ensures.1) (omega arith)
 
 pub returns-in_err-cell-clause-bound : goal.returns-in_err-cell-clause-bound
 returns-in_err-cell-clause-bound c =
-    let p = err_from_is_err_and c.from_residual-in_err-cell.result c.from_residual-in_err-cell.ensures.1 in
-    rw (p.1, p.2) (omega (
-      arith,
-      c.in_err-cell.ensures.bound,
-      ap length c.bytes_from-rest.ensures,
-      c.loop-system.invariant.inside,
-      length-drop c.loop-system.at c.args.body.now,
-    ))
+    let used = rest_used _ _ c.args.body.now c.loop-system.at c.bytes_from.ensures (sym c.is_free.ensures ∙ c.loop-system-test.true) in
+    rw (err_is c.from_residual-in_err-cell.ensures.1) (body_within _ _ _ _ _
+    (first_here _ _ _ _ _ _ _ _ c.loop-system.invariant used c.bytes_from-rest.ensures c.in_err-cell.ensures.refused))
 
 pub returns-in_err-push-clause-some : goal.returns-in_err-push-clause-some
 returns-in_err-push-clause-some c =
-    rw (err_from_is_err_and c.from_residual-in_err-push.result c.from_residual-in_err-push.ensures.1).1
+    rw (err_is c.from_residual-in_err-push.ensures.1)
     (omega (arith, (rest_used _ _ c.args.body.now c.loop-system.at c.bytes_from.ensures (sym c.is_free.ensures ∙ c.loop-system-test.true)).0))
 
 pub returns-in_err-push-2-clause-some : goal.returns-in_err-push-2-clause-some
-returns-in_err-push-2-clause-some c =
-    rw (err_from_is_err_and c.from_residual-in_err-push-2.result c.from_residual-in_err-push-2.ensures.1).1 (omega arith)
+returns-in_err-push-2-clause-some c = rw (err_is c.from_residual-in_err-push-2.ensures.1) (omega arith)

@@ -1,18 +1,18 @@
-use Rattle.std.proofs.Common.{◌∙◌, arith, refl, sym}
-use Rattle.std.proofs.lemmas.Result.{err_from_is_err_and}
+use Rattle.std.proofs.Common.{◌∙◌, refl, sym}
+use Rattle.fv_base.proofs.Laws.{err_is}
 use Rattle.fv_file.proofs.FileVerdictLemmas.{data_right, data_skipped, data_wrong, file_fixed, form_wrong, header_cut, is_not_skipped, is_skipped, size_wrong, sizes, sum_wrong}
 use Rattle.fv_file.proofs.head.file_at.Goals as goal
 
 pub returns-in_err-check-3-clause-is : goal.returns-in_err-check-3-clause-is
 returns-in_err-check-3-clause-is c =
-    let p = err_from_is_err_and c.from_residual-in_err-check-3.result c.from_residual-in_err-check-3.ensures.1 in
-    rw (p.1, p.2, c.in_err-check-3.ensures.err.1) (sym (sum_wrong _ _ _ c.args.rest.now (sym c.may_be_large.ensures ∙ c.in_ok-check.ensures.ok)
+    rw (err_is c.from_residual-in_err-check-3.ensures.1, c.in_err-check-3.ensures.err.1)
+    (sym (sum_wrong _ _ _ c.args.rest.now (sym c.may_be_large.ensures ∙ c.in_ok-check.ensures.ok)
     (rw c.header_len_at-header_len.ensures at c.in_ok-check-2.ensures.ok) (sym c.has_header_sum.ensures ∙ c.in_err-check-3.ensures.err.0)))
 
 pub returns-in_err-check-4-clause-is : goal.returns-in_err-check-4-clause-is
 returns-in_err-check-4-clause-is c =
-    let p = err_from_is_err_and c.from_residual-in_err-check-4.result c.from_residual-in_err-check-4.ensures.1 in
-    rw (p.1, p.2, c.in_err-check-4.ensures.err.1) (sym (size_wrong _ _ _ c.args.rest.now (sym c.may_be_large.ensures ∙ c.in_ok-check.ensures.ok)
+    rw (err_is c.from_residual-in_err-check-4.ensures.1, c.in_err-check-4.ensures.err.1)
+    (sym (size_wrong _ _ _ c.args.rest.now (sym c.may_be_large.ensures ∙ c.in_ok-check.ensures.ok)
     (rw c.header_len_at-header_len.ensures at c.in_ok-check-2.ensures.ok) (sym c.has_header_sum.ensures ∙ c.in_ok-check-3.ensures.ok)
     (rw c.head_in-head.ensures at (sym c.has_file_size.ensures ∙ c.in_err-check-4.ensures.err.0))))
 
@@ -25,19 +25,19 @@ returns-else-checks_data-clause-is c =
 
 pub returns-in_err-check-clause-is : goal.returns-in_err-check-clause-is
 returns-in_err-check-clause-is c =
-    let p = err_from_is_err_and c.from_residual.result c.from_residual.ensures.1 in
-    rw (p.1, p.2, c.in_err-check.ensures.err.1) (sym (form_wrong _ _ _ c.args.rest.now (sym c.may_be_large.ensures ∙ c.in_err-check.ensures.err.0)))
+    rw (err_is c.from_residual.ensures.1, c.in_err-check.ensures.err.1)
+    (sym (form_wrong _ _ _ c.args.rest.now (sym c.may_be_large.ensures ∙ c.in_err-check.ensures.err.0)))
 
 pub returns-in_err-check-2-clause-is : goal.returns-in_err-check-2-clause-is
 returns-in_err-check-2-clause-is c =
-    let p = err_from_is_err_and c.from_residual-in_err-check-2.result c.from_residual-in_err-check-2.ensures.1 in
-    rw (p.1, p.2, c.in_err-check-2.ensures.err.1) (sym (header_cut _ _ _ c.args.rest.now (sym c.may_be_large.ensures ∙ c.in_ok-check.ensures.ok)
+    rw (err_is c.from_residual-in_err-check-2.ensures.1, c.in_err-check-2.ensures.err.1)
+    (sym (header_cut _ _ _ c.args.rest.now (sym c.may_be_large.ensures ∙ c.in_ok-check.ensures.ok)
     (rw c.header_len_at-header_len.ensures at c.in_err-check-2.ensures.err.0)))
 
 pub returns-in_err-check-5-clause-is : goal.returns-in_err-check-5-clause-is
 returns-in_err-check-5-clause-is c =
-    let p = err_from_is_err_and c.from_residual-in_err-check-5.result c.from_residual-in_err-check-5.ensures.1 in
-    rw (p.1, p.2, c.in_err-check-5.ensures.err.1) (sym (file_fixed _ _ _ c.args.rest.now (sym c.may_be_large.ensures ∙ c.in_ok-check.ensures.ok)
+    rw (err_is c.from_residual-in_err-check-5.ensures.1, c.in_err-check-5.ensures.err.1)
+    (sym (file_fixed _ _ _ c.args.rest.now (sym c.may_be_large.ensures ∙ c.in_ok-check.ensures.ok)
     (rw c.header_len_at-header_len.ensures at c.in_ok-check-2.ensures.ok) (sym c.has_header_sum.ensures ∙ c.in_ok-check-3.ensures.ok)
     (rw c.head_in-head.ensures at (sym c.has_file_size.ensures ∙ c.in_ok-check-4.ensures.ok))
     (is_not_skipped _ _ (rw c.head_in-head.ensures at (sym c.checks_data.ensures ∙ c.if-checks_data.true)))
@@ -45,8 +45,8 @@ returns-in_err-check-5-clause-is c =
 
 pub returns-in_err-check-6-clause-is : goal.returns-in_err-check-6-clause-is
 returns-in_err-check-6-clause-is c =
-    let p = err_from_is_err_and c.from_residual-in_err-check-6.result c.from_residual-in_err-check-6.ensures.1 in
-    rw (p.1, p.2, c.in_err-check-6.ensures.err.1) (sym (data_wrong _ _ _ c.args.rest.now (sym c.may_be_large.ensures ∙ c.in_ok-check.ensures.ok)
+    rw (err_is c.from_residual-in_err-check-6.ensures.1, c.in_err-check-6.ensures.err.1)
+    (sym (data_wrong _ _ _ c.args.rest.now (sym c.may_be_large.ensures ∙ c.in_ok-check.ensures.ok)
     (rw c.header_len_at-header_len.ensures at c.in_ok-check-2.ensures.ok) (sym c.has_header_sum.ensures ∙ c.in_ok-check-3.ensures.ok)
     (rw c.head_in-head.ensures at (sym c.has_file_size.ensures ∙ c.in_ok-check-4.ensures.ok))
     (is_not_skipped _ _ (rw c.head_in-head.ensures at (sym c.checks_data.ensures ∙ c.if-checks_data.true)))
@@ -61,36 +61,6 @@ returns-in_ok-check-6-clause-is c =
     (is_not_skipped _ _ (rw c.head_in-head.ensures at (sym c.checks_data.ensures ∙ c.if-checks_data.true)))
     (rw (c.is_fixed.ensures, c.head_in-head.ensures) at c.in_ok-check-5.ensures.ok)
     (rw (c.has_file_sum.ensures, c.head_in-head.ensures, c.header_len_at-header_len.ensures) at c.in_ok-check-6.ensures.ok)))
-
-pub returns-in_err-check-clause-bound : goal.returns-in_err-check-clause-bound
-returns-in_err-check-clause-bound c =
-    let p = err_from_is_err_and c.from_residual.result c.from_residual.ensures.1 in
-    rw (p.1, p.2, c.in_err-check.ensures.err.1) (omega (arith, c.requires.least))
-
-pub returns-in_err-check-2-clause-bound : goal.returns-in_err-check-2-clause-bound
-returns-in_err-check-2-clause-bound c =
-    let p = err_from_is_err_and c.from_residual-in_err-check-2.result c.from_residual-in_err-check-2.ensures.1 in
-    rw (p.1, p.2, c.in_err-check-2.ensures.err.1) (omega (arith, c.requires.least))
-
-pub returns-in_err-check-3-clause-bound : goal.returns-in_err-check-3-clause-bound
-returns-in_err-check-3-clause-bound c =
-    let p = err_from_is_err_and c.from_residual-in_err-check-3.result c.from_residual-in_err-check-3.ensures.1 in
-    rw (p.1, p.2, c.in_err-check-3.ensures.err.1) (omega (arith, c.requires.least))
-
-pub returns-in_err-check-4-clause-bound : goal.returns-in_err-check-4-clause-bound
-returns-in_err-check-4-clause-bound c =
-    let p = err_from_is_err_and c.from_residual-in_err-check-4.result c.from_residual-in_err-check-4.ensures.1 in
-    rw (p.1, p.2, c.in_err-check-4.ensures.err.1) (omega (arith, c.requires.least))
-
-pub returns-in_err-check-5-clause-bound : goal.returns-in_err-check-5-clause-bound
-returns-in_err-check-5-clause-bound c =
-    let p = err_from_is_err_and c.from_residual-in_err-check-5.result c.from_residual-in_err-check-5.ensures.1 in
-    rw (p.1, p.2, c.in_err-check-5.ensures.err.1) (omega (arith, c.requires.least))
-
-pub returns-in_err-check-6-clause-bound : goal.returns-in_err-check-6-clause-bound
-returns-in_err-check-6-clause-bound c =
-    let p = err_from_is_err_and c.from_residual-in_err-check-6.result c.from_residual-in_err-check-6.ensures.1 in
-    rw (p.1, p.2, c.in_err-check-6.ensures.err.1) (omega (arith, c.requires.least))
 
 pub returns-in_ok-check-6-clause-size : goal.returns-in_ok-check-6-clause-size
 returns-in_ok-check-6-clause-size c = rw c.head_in-head.ensures (refl, refl)

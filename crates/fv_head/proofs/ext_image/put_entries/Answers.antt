@@ -11,7 +11,7 @@ loop-entry-preserved g c =
     let inv = c.loop-entry.invariant in
     let e = c.entry-item.result in (
       inv.0 ++ entry_bytes c.args.used e,
-      g.S.Sink.laws.joined _ _ _ inv.0 (entry_bytes c.args.used e) inv.1 c.put_entry.ensures,
+      g.S.Sink.laws.joined inv.1 c.put_entry.ensures,
       entries_step c.args.used inv.0 _ _ e c.loop-entry-test.true c.entry-item.is inv.2,
       omega (arith, entries_len_step _ _ e c.loop-entry-test.true c.entry-item.is, inv.3),
     )

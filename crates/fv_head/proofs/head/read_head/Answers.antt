@@ -1,5 +1,6 @@
-use Rattle.std.proofs.Common.{◌∙◌, sym, inl, refl}
-use Rattle.std.proofs.lemmas.Result.{err_from_is_err_and}
+use Rattle.std.proofs.Common.{ap, inl, refl}
+use Rattle.fv_base.proofs.Laws.{err_is}
+use Rattle.fv_base.specs.declared.fault.Fault.{Fault}
 use Rattle.fv_head.proofs.HeadPlaceLemmas.{one_front}
 use Rattle.fv_head.proofs.HeadFaultLemmas.{fault_known}
 use Rattle.fv_head.proofs.head.read_head.Goals as goal
@@ -12,5 +13,5 @@ returns-clause-only c = λ h e front.
 -- the fault of a header that is rejected is not out of memory
 pub returns-in_err-extent-clause-memory : goal.returns-in_err-extent-clause-memory
 returns-in_err-extent-clause-memory c =
-    let p = err_from_is_err_and c.from_residual.result c.from_residual.ensures.1 in
-    rw p.1 (λ want. absurd (fault_known c.args.bytes.now c.in_err-extent.field-0.0 c.in_err-extent.ensures.first (sym p.2 ∙ want)))
+    rw (err_is c.from_residual.ensures.1)
+    (λ want. absurd (fault_known c.args.bytes.now _ c.in_err-extent.ensures.first (ap (λ (f : Fault). f.kind) want)))

@@ -9,8 +9,8 @@ loop-count-preserved g c =
     let p = get_or c.args.pairs.now i (0, 0) in
     let inv = c.loop-count.invariant in (
       inv.0 ++ (le_bytes 4 p.0 ++ le_bytes 4 p.1),
-      g.S.Sink.laws.joined _ _ _ inv.0 (le_bytes 4 p.0 ++ le_bytes 4 p.1) inv.1
-          (g.S.Sink.laws.joined _ _ _ (le_bytes 4 p.0) (le_bytes 4 p.1) c.put_u32.ensures c.put_u32-in-loop-count.ensures),
+      g.S.Sink.laws.joined inv.1
+          (g.S.Sink.laws.joined c.put_u32.ensures c.put_u32-in-loop-count.ensures),
       pairs_step inv.0 c.args.pairs.now i c.loop-count-test.true inv.2,
     )
 

@@ -1,21 +1,19 @@
 use Rattle.std.proofs.Common.{◌∙◌, sym}
-use Rattle.std.proofs.lemmas.Result.{err_from_is_err_and}
 use Rattle.fv_head.specs.HeadChecks.{front_checks, whole_checks}
-use Rattle.fv_base.proofs.Laws.{first_front, first_whole}
+use Rattle.fv_base.proofs.Laws.{first_front, first_whole, err_is}
 use Rattle.fv_head.proofs.HeadCheckLemmas.{verdict_err, verdict_extent}
 use Rattle.fv_head.proofs.header_checks.verdict.Goals as goal
 
 pub returns-in_err-file_system : goal.returns-in_err-file_system
 returns-in_err-file_system c =
     let b = c.args.bytes.now in
-    let p = err_from_is_err_and c.from_residual.result c.from_residual.ensures.1 in
-    rw (p.1, p.2) (sym (verdict_err _ b _ (first_front (front_checks b) (whole_checks b) _ c.in_err-file_system.ensures.err)))
+    rw (err_is c.from_residual.ensures.1)
+    (sym (verdict_err _ b _ (first_front (front_checks b) (whole_checks b) _ c.in_err-file_system.ensures.err)))
 
 pub returns-in_err-whole_verdict : goal.returns-in_err-whole_verdict
 returns-in_err-whole_verdict c =
     let b = c.args.bytes.now in
-    let p = err_from_is_err_and c.from_residual-in_err-whole_verdict.result c.from_residual-in_err-whole_verdict.ensures.1 in
-    rw (p.1, p.2) (sym (verdict_err _ b _
+    rw (err_is c.from_residual-in_err-whole_verdict.ensures.1) (sym (verdict_err _ b _
     (first_whole (front_checks b) (whole_checks b) c.in_ok-file_system.ensures.ok.0 ∙ c.in_err-whole_verdict.ensures.err)))
 
 pub returns : goal.returns

@@ -1,24 +1,22 @@
 use Rattle.std.proofs.Common.{◌∙◌, refl, sym, rules}
-use Rattle.std.proofs.lemmas.Result.{err_from_is_err_and}
+use Rattle.fv_base.proofs.Laws.{err_is}
 use Rattle.fv_head.proofs.header_checks.whole_verdict.Goals as goal
 
 pub returns-in_err-check-clause-err : goal.returns-in_err-check-clause-err
 returns-in_err-check-clause-err c =
-    let p = err_from_is_err_and c.from_residual.result c.from_residual.ensures.1 in
-    rw (p.1, p.2, c.in_err-check.ensures.err.1) (rw (rw c.header_len_at-header_len.ensures at c.in_err-check.ensures.err.0) refl)
+    rw (err_is c.from_residual.ensures.1, c.in_err-check.ensures.err.1)
+    (rw (rw c.header_len_at-header_len.ensures at c.in_err-check.ensures.err.0) refl)
 
 pub returns-in_err-check-2-clause-err : goal.returns-in_err-check-2-clause-err
 returns-in_err-check-2-clause-err c =
-    let p = err_from_is_err_and c.from_residual-in_err-check-2.result c.from_residual-in_err-check-2.ensures.1 in
-    rw (p.1, p.2, c.in_err-check-2.ensures.err.1) (rw (
+    rw (err_is c.from_residual-in_err-check-2.ensures.1, c.in_err-check-2.ensures.err.1) (rw (
       rw c.header_len_at-header_len.ensures at c.in_ok-check.ensures.ok,
       rw c.header_len_at-header_len.ensures at (sym c.has_sum.ensures ∙ c.in_err-check-2.ensures.err.0),
     ) refl)
 
 pub returns-in_err-check-3-clause-err : goal.returns-in_err-check-3-clause-err
 returns-in_err-check-3-clause-err c =
-    let p = err_from_is_err_and c.from_residual-in_err-check-3.result c.from_residual-in_err-check-3.ensures.1 in
-    rw (p.1, p.2, c.in_err-check-3.ensures.err.1) (rw (
+    rw (err_is c.from_residual-in_err-check-3.ensures.1, c.in_err-check-3.ensures.err.1) (rw (
       rw c.header_len_at-header_len.ensures at c.in_ok-check.ensures.ok,
       rw c.header_len_at-header_len.ensures at (sym c.has_sum.ensures ∙ c.in_ok-check-2.ensures.ok),
       rw c.header_len_at-header_len.ensures at (sym c.has_block_map.ensures ∙ c.in_err-check-3.ensures.err.0),
@@ -26,8 +24,7 @@ returns-in_err-check-3-clause-err c =
 
 pub returns-in_err-check-4-clause-err : goal.returns-in_err-check-4-clause-err
 returns-in_err-check-4-clause-err c =
-    let p = err_from_is_err_and c.from_residual-in_err-check-4.result c.from_residual-in_err-check-4.ensures.1 in
-    rw (p.1, p.2, c.in_err-check-4.ensures.err.1) (rw (
+    rw (err_is c.from_residual-in_err-check-4.ensures.1, c.in_err-check-4.ensures.err.1) (rw (
       rw c.header_len_at-header_len.ensures at c.in_ok-check.ensures.ok,
       rw c.header_len_at-header_len.ensures at (sym c.has_sum.ensures ∙ c.in_ok-check-2.ensures.ok),
       rw c.header_len_at-header_len.ensures at (sym c.has_block_map.ensures ∙ c.in_ok-check-3.ensures.ok),
@@ -36,8 +33,7 @@ returns-in_err-check-4-clause-err c =
 
 pub returns-in_err-check-5-clause-err : goal.returns-in_err-check-5-clause-err
 returns-in_err-check-5-clause-err c =
-    let p = err_from_is_err_and c.from_residual-in_err-check-5.result c.from_residual-in_err-check-5.ensures.1 in
-    rw (p.1, p.2, c.in_err-check-5.ensures.err.1) (rw (
+    rw (err_is c.from_residual-in_err-check-5.ensures.1, c.in_err-check-5.ensures.err.1) (rw (
       rw c.header_len_at-header_len.ensures at c.in_ok-check.ensures.ok,
       rw c.header_len_at-header_len.ensures at (sym c.has_sum.ensures ∙ c.in_ok-check-2.ensures.ok),
       rw c.header_len_at-header_len.ensures at (sym c.has_block_map.ensures ∙ c.in_ok-check-3.ensures.ok),

@@ -1,7 +1,5 @@
-use Rattle.std.proofs.Common.{◌∙◌, sym, ap, arith, rules}
-use Rattle.std.proofs.lemmas.Result.{err_from_is_err_and}
-use Rattle.fv_base.proofs.Laws.{whatever}
-use Rattle.fv_hob.specs.HobChecks.{BeginsTable, hob_out_of_memory}
+use Rattle.std.proofs.Common.{◌∙◌, refl, sym, ap, arith, rules}
+use Rattle.fv_base.proofs.Laws.{err_is}
 use Rattle.fv_hob.specs.declared.fault.HobFault.{HobFault}
 use Rattle.fv_hob.proofs.ReadLemmas.{kept, ended, first_here, no_want, one_more, table_stands}
 use Rattle.fv_hob.proofs.read.read_blocks.Goals as goal
@@ -26,33 +24,29 @@ returns-then-ends-clause-found c =
 
 pub returns-in_err-block-clause-first : goal.returns-in_err-block-clause-first
 returns-in_err-block-clause-first c =
-    let p = err_from_is_err_and c.from_residual.result c.from_residual.ensures.1 in
-    rw (p.1, p.2) (λ e. first_here c.args.bytes.now c.loop-hobs.hobs.items c.loop-hobs.at c.is_empty.result _ (search rules)
+    rw (err_is c.from_residual.ensures.1)
+    (λ e. first_here c.args.bytes.now c.loop-hobs.hobs.items c.loop-hobs.at c.is_empty.result _ (search rules)
     c.loop-hobs.invariant c.in_err-block.ensures.place c.in_err-block.ensures.first)
 
 pub returns-in_err-block-clause-memory : goal.returns-in_err-block-clause-memory
 returns-in_err-block-clause-memory c =
-    let p = err_from_is_err_and c.from_residual.result c.from_residual.ensures.1 in
-    rw (p.1, p.2) (λ e. absurd (no_want c.is_empty.result _ _ c.in_err-block.ensures.first (ap (λ (f : HobFault). f.kind) e)))
+    rw (err_is c.from_residual.ensures.1)
+    (λ e. absurd (no_want c.is_empty.result _ _ c.in_err-block.ensures.first (ap (λ (f : HobFault). f.kind) e)))
 
 pub returns-in_err-hob-clause-memory : goal.returns-in_err-hob-clause-memory
 returns-in_err-hob-clause-memory c =
-    whatever c.from_residual-in_err-hob.result hob_out_of_memory (BeginsTable c.args.bytes.now)
-    (table_stands c.args.bytes.now c.loop-hobs.hobs.items c.in_ok-block.block.now c.loop-hobs.at
+    rw (err_is c.from_residual-in_err-hob.ensures.1)
+    (λ e. table_stands c.args.bytes.now c.loop-hobs.hobs.items c.in_ok-block.block.now c.loop-hobs.at
     c.is_empty.result (search rules) c.loop-hobs.invariant c.in_ok-block.ensures.found)
 
 pub returns-in_err-push-clause-memory : goal.returns-in_err-push-clause-memory
 returns-in_err-push-clause-memory c =
-    whatever c.from_residual-in_err-push.result hob_out_of_memory (BeginsTable c.args.bytes.now)
-    (table_stands c.args.bytes.now c.loop-hobs.hobs.items c.in_ok-block.block.now c.loop-hobs.at
+    rw (err_is c.from_residual-in_err-push.ensures.1)
+    (λ e. table_stands c.args.bytes.now c.loop-hobs.hobs.items c.in_ok-block.block.now c.loop-hobs.at
     c.is_empty.result (search rules) c.loop-hobs.invariant c.in_ok-block.ensures.found)
 
 pub returns-in_err-hob-clause-first : goal.returns-in_err-hob-clause-first
-returns-in_err-hob-clause-first c =
-    let p = err_from_is_err_and c.from_residual-in_err-hob.result c.from_residual-in_err-hob.ensures.1 in
-    rw p.1 (λ other. absurd (other p.2))
+returns-in_err-hob-clause-first c = rw (err_is c.from_residual-in_err-hob.ensures.1) (λ other. absurd (other refl))
 
 pub returns-in_err-push-clause-first : goal.returns-in_err-push-clause-first
-returns-in_err-push-clause-first c =
-    let p = err_from_is_err_and c.from_residual-in_err-push.result c.from_residual-in_err-push.ensures.1 in
-    rw p.1 (λ other. absurd (other p.2))
+returns-in_err-push-clause-first c = rw (err_is c.from_residual-in_err-push.ensures.1) (λ other. absurd (other refl))

@@ -1,14 +1,14 @@
 use Rattle.std.proofs.Common.{◌∙◌, sym, ap, take, drop, length}
 use Rattle.std.proofs.lemmas.List.{take-append-drop, length-take-le}
-use Rattle.std.proofs.lemmas.Result.{err_from_is_err_and}
+use Rattle.fv_base.proofs.Laws.{err_is}
 use Rattle.fv_hob.proofs.ListLemmas.{only_list}
 use Rattle.fv_hob.proofs.ReadLemmas.{none_after}
 use Rattle.fv_hob.proofs.read.read_hobs.Goals as goal
 
 pub returns-in_err-hobs-clause-none : goal.returns-in_err-hobs-clause-none
 returns-in_err-hobs-clause-none c =
-    let p = err_from_is_err_and c.from_residual.result c.from_residual.ensures.1 in
-    rw (p.1, p.2) (λ memory all n is. none_after c.args.bytes.now _ all (take n c.args.bytes.now) (drop n c.args.bytes.now)
+    rw (err_is c.from_residual.ensures.1)
+    (λ memory all n is. none_after c.args.bytes.now _ all (take n c.args.bytes.now) (drop n c.args.bytes.now)
     (c.in_err-hobs.ensures.first memory) is (sym (take-append-drop n c.args.bytes.now)))
 
 pub returns-clause-only : goal.returns-clause-only

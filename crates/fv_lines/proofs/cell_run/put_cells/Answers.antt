@@ -1,13 +1,12 @@
 use Rattle.std.proofs.Common.{subst, sym}
-use Rattle.std.proofs.lemmas.Result.{err_from_is_err_and}
+use Rattle.fv_base.proofs.Laws.{err_is}
 use Rattle.fv_lines.specs.inner.CellRuns.{FitTogether}
 use Rattle.fv_lines.proofs.CellLemmas.{cells_told, fit_together, none_tiled}
 use Rattle.fv_lines.proofs.cell_run.put_cells.Goals as goal
 
 pub returns-in_err-extent-clause-err : goal.returns-in_err-extent-clause-err
 returns-in_err-extent-clause-err g c =
-    let p = err_from_is_err_and c.from_residual.result c.from_residual.ensures.1 in
-    rw (p.1, p.2) (none_tiled c.args.input.now c.in_err-extent.field-0.0 c.in_err-extent.ensures.err)
+    rw (err_is c.from_residual.ensures.1) (none_tiled c.args.input.now c.in_err-extent.field-0.0 c.in_err-extent.ensures.err)
 
 pub put_lines-requires : goal.put_lines-requires
 put_lines-requires g c =

@@ -8,7 +8,7 @@ sums_of-requires g c = omega (arith, c.requires.together)
 
 pub returns : goal.returns
 returns g c =
-    let join = g.S.Sink.laws.joined in
+    let laws = g.S.Sink.laws in
     let sums = subst (λ (s : LengthSums). g.S.Sink.takes c.put_list.new.out (sums_line s) c.put_sums.new.out) c.sums_of.ensures
     c.put_sums.ensures in
-    join _ _ _ _ _ c.put_span_line.ensures (join _ _ _ _ _ c.put_list.ensures sums)
+    laws.joined c.put_span_line.ensures (laws.joined c.put_list.ensures sums)

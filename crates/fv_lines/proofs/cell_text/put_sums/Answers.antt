@@ -2,13 +2,13 @@ use Rattle.fv_lines.proofs.cell_text.put_sums.Goals as goal
 
 pub returns : goal.returns
 returns g c =
-    let join = g.S.Sink.laws.joined in
-    join _ _ _ _ _ c.put.ensures
-    (join _ _ _ _ _ c.put_decimal.ensures.text
-    (join _ _ _ _ _ c.put-2.ensures
-    (join _ _ _ _ _ c.put_decimal-2.ensures.text
-    (join _ _ _ _ _ c.put-3.ensures
-    (join _ _ _ _ _ c.put_decimal-3.ensures.text
-    (join _ _ _ _ _ c.put-4.ensures
-    (join _ _ _ _ _ c.put_decimal-4.ensures.text
-    (join _ _ _ _ _ c.put-5.ensures (join _ _ _ _ _ c.put_decimal-5.ensures.text c.put-6.ensures)))))))))
+    let laws = g.S.Sink.laws in
+    laws.joined c.put.ensures
+    (laws.joined c.put_decimal.ensures.text
+    (laws.joined c.put-2.ensures
+    (laws.joined c.put_decimal-2.ensures.text
+    (laws.joined c.put-3.ensures
+    (laws.joined c.put_decimal-3.ensures.text
+    (laws.joined c.put-4.ensures
+    (laws.joined c.put_decimal-4.ensures.text
+    (laws.joined c.put-5.ensures (laws.joined c.put_decimal-5.ensures.text c.put-6.ensures)))))))))

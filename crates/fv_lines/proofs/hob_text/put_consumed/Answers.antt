@@ -2,5 +2,5 @@ use Rattle.fv_lines.proofs.hob_text.put_consumed.Goals as goal
 
 pub returns : goal.returns
 returns g c =
-    let join = g.S.Sink.laws.joined in
-    join _ _ _ _ _ c.put.ensures (join _ _ _ _ _ c.put_decimal.ensures.text c.put-2.ensures)
+    let laws = g.S.Sink.laws in
+    laws.joined c.put.ensures (laws.joined c.put_decimal.ensures.text c.put-2.ensures)

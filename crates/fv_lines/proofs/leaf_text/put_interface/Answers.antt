@@ -6,10 +6,10 @@ use Rattle.fv_lines.proofs.leaf_text.put_interface.Goals as goal
 
 pub returns-in-Some : goal.returns-in-Some
 returns-in-Some g c =
-    let join = g.S.Sink.laws.joined in (
+    let laws = g.S.Sink.laws in (
       codes " ui \"" ++ (flat_map unit_text (words_of c.in-Some.units.now) ++ codes "\""),
       inl (c.in-Some.units.now, c.in-Some.ensures.found, refl),
-      join _ _ _ _ _ c.put.ensures (join _ _ _ _ _ c.put_units.ensures c.put-in-Some.ensures),
+      laws.joined c.put.ensures (laws.joined c.put_units.ensures c.put-in-Some.ensures),
     )
 
 pub returns-in-None : goal.returns-in-None

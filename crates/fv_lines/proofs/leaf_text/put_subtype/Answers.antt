@@ -7,7 +7,7 @@ pub returns-in-Some : goal.returns-in-Some
 returns-in-Some g c = (
   codes " subtype " ++ guid_text (bytes_of c.in-Some.guid),
   inl (c.in-Some.guid, (c.in-Some.field-0-1.now, c.in-Some.ensures.found), refl),
-  g.S.Sink.laws.joined _ _ _ _ _ c.put.ensures
+  g.S.Sink.laws.joined c.put.ensures
       (subst (λ (t : List ℕ). g.S.Sink.takes c.put.new.self t c.put-in-Some.new.self) c.text.ensures.text c.put-in-Some.ensures),
 )
 

@@ -7,4 +7,4 @@ pub returns-else-is_plain : goal.returns-else-is_plain
 returns-else-is_plain g c =
     subst (λ (b : Bool). g.S.Sink.takes c.args.out.now (if b then c.args.unit ∷ [] else codes "\\u" ++ four_digits c.args.unit)
     c.put_four_digits.new.out)
-    (sym c.if-is_plain.false ∙ c.is_plain.ensures) (g.S.Sink.laws.joined _ _ _ _ _ c.put-else-is_plain.ensures c.put_four_digits.ensures)
+    (sym c.if-is_plain.false ∙ c.is_plain.ensures) (g.S.Sink.laws.joined c.put-else-is_plain.ensures c.put_four_digits.ensures)

@@ -21,6 +21,6 @@ loop-rest-preserved g c =
     ∙ ap (λ (b : List ℕ). unit_text (le_at 0 2 rest) ++ flat_map unit_text (words_of b)) cut
     ∙ units_next rest c.loop-rest-test.true in (
       text ++ unit,
-      g.S.Sink.laws.joined _ _ _ _ _ c.loop-rest.invariant.1 c.put_unit.ensures,
+      g.S.Sink.laws.joined c.loop-rest.invariant.1 c.put_unit.ensures,
       append_assoc text unit after ∙ ap (λ (t : List ℕ). text ++ t) next ∙ c.loop-rest.invariant.2,
     )

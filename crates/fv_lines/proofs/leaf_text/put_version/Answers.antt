@@ -5,7 +5,7 @@ pub returns-in-Some : goal.returns-in-Some
 returns-in-Some g c = (
   codes " version " ++ decimal c.in-Some.build,
   inl (c.in-Some.build, (c.in-Some.field-0-1.now, c.in-Some.ensures.found), refl),
-  g.S.Sink.laws.joined _ _ _ _ _ c.put.ensures
+  g.S.Sink.laws.joined c.put.ensures
       (subst (λ (n : ℕ). g.S.Sink.takes c.put.new.self (decimal n) c.put_decimal.new.out) c.from.ensures c.put_decimal.ensures.text),
 )
 

@@ -9,9 +9,9 @@ use Rattle.fv_tree.specs.declared.view.Content.{Content}
 use Rattle.fv_tree.proofs.Laws.{content_falls, file_falls, section_body_falls}
 use Rattle.fv_lines.specs.DigestWalks.{Leaves}
 use Rattle.fv_lines.specs.inner.Indents.{levels}
-use Rattle.fv_lines.specs.ListTexts.{volume_text}
-use Rattle.fv_lines.proofs.CoverLemmas.{covered_first, file_left, files_left, left_next, section_left, sections_left}
-use Rattle.fv_lines.proofs.ListLemmas.{files_more, is_volume, sections_more}
+use Rattle.fv_lines.specs.ListTexts.{FileLines, SectionLines, volume_text}
+use Rattle.fv_lines.proofs.CoverLemmas.{covered_first, file_left, left_next, none_left, section_left}
+use Rattle.fv_lines.proofs.ListLemmas.{is_file, is_section, is_volume, one_more}
 use Rattle.fv_text.proofs.Laws.{tells_all, tells_none}
 use Rattle.fv_lines.proofs.list_text.+lines.Goals as goal
 
@@ -32,11 +32,15 @@ put_sections-loop-number-init g t c = record { text = tells_none g.S.Sink.laws _
 pub put_sections-loop-number-preserved : goal.put_sections-loop-number-preserved
 put_sections-loop-number-preserved g t c =
     let s : SectionMeaning = c.index-sections-number.result in
+    let line = c.put_section_line.ensures in
+    let inside = c.put_body-left.ensures.text in
     let left = section_left _ g.D.Digests.laws c.args.sections.now _ s _ c.loop-number-test.true c.index-sections-number.is c.body.ensures
     c.loop-number.invariant.left in
     record {
-      text = sections_more g.S.Sink.laws g.D.Digests.of_volume g.D.Digests.of_file (levels c.args.indent.now) s _ c.loop-number-test.true
-          c.index-sections-number.is c.body.ensures c.loop-number.invariant.text c.put_section_line.ensures c.put_body-left.ensures.text;
+      text = one_more g.S.Sink.laws (SectionLines g.D.Digests.of_volume g.D.Digests.of_file (levels c.args.indent.now) _) (λ y text h. h) s _
+          inside.0 c.loop-number-test.true c.index-sections-number.is
+          (is_section g.D.Digests.of_volume g.D.Digests.of_file _ _ s _ line.0 inside.0 c.body.ensures line.1 inside.1)
+          c.loop-number.invariant.text line.2 inside.2;
       left = left_next g.D.Digests.covers _ _ _ left c.put_body-left.ensures.rest;
     }
 
@@ -45,7 +49,8 @@ put_sections-returns-clause-text g t c = tells_all refl c.loop-number-test.false
 
 pub put_sections-returns-clause-rest : goal.put_sections-returns-clause-rest
 put_sections-returns-clause-rest g t c =
-    sections_left g.D.Digests.covers _ c.args.sections.now _ c.loop-number-test.false c.loop-number.invariant.left
+    none_left g.D.Digests.covers _ (λ (ss : List SectionMeaning). volumes_in_sections (sections_from ss)) c.args.sections.now _
+    c.loop-number-test.false c.loop-number.invariant.left
 
 -- ---- bodies
 
@@ -101,12 +106,14 @@ pub put_files-loop-number-preserved : goal.put_files-loop-number-preserved
 put_files-loop-number-preserved g t c =
     let f : FileMeaning = c.index-files-number.result in
     let line = c.put_file_line.ensures in
+    let inside = c.put_content-left.ensures.text in
     let left = file_left g.D.Digests.covers _ c.args.files.now _ f _ c.loop-number-test.true c.index-files-number.is c.content.ensures
     c.loop-number.invariant.left in
     record {
-      text = files_more g.S.Sink.laws g.D.Digests.of_volume g.D.Digests.of_file (levels c.args.indent.now) f _ line.0
-          c.loop-number-test.true c.index-files-number.is c.content.ensures line.1 c.loop-number.invariant.text line.2
-          c.put_content-left.ensures.text;
+      text = one_more g.S.Sink.laws (FileLines g.D.Digests.of_volume g.D.Digests.of_file (levels c.args.indent.now) _) (λ y text h. h) f _
+          inside.0 c.loop-number-test.true c.index-files-number.is
+          (is_file g.D.Digests.of_volume g.D.Digests.of_file _ _ f _ line.0 inside.0 c.content.ensures line.1 inside.1)
+          c.loop-number.invariant.text line.2 inside.2;
       left = left_next g.D.Digests.covers _ _ _ left c.put_content-left.ensures.rest;
     }
 
@@ -114,7 +121,9 @@ pub put_files-returns-clause-text : goal.put_files-returns-clause-text
 put_files-returns-clause-text g t c = tells_all refl c.loop-number-test.false c.loop-number.invariant.text
 
 pub put_files-returns-clause-rest : goal.put_files-returns-clause-rest
-put_files-returns-clause-rest g t c = files_left g.D.Digests.covers _ c.args.files.now _ c.loop-number-test.false c.loop-number.invariant.left
+put_files-returns-clause-rest g t c =
+    none_left g.D.Digests.covers _ (λ (fs : List FileMeaning). volumes_in_files (files_from fs)) c.args.files.now _
+    c.loop-number-test.false c.loop-number.invariant.left
 
 -- ---- volumes
 
@@ -136,7 +145,7 @@ put_volume-returns-clause-text g t c =
     let inside = c.put_files.ensures.text in (
       volume_text k m line.0 ++ inside.0,
       is_volume g.D.Digests.of_volume g.D.Digests.of_file k m (head_of m) c.files.result.now line.0 inside.0 c.files.ensures line.1 inside.1,
-      g.S.Sink.laws.joined c.args.out.now c.put_volume_line.new.out c.put_files.new.out (volume_text k m line.0) inside.0 line.2 inside.2,
+      g.S.Sink.laws.joined line.2 inside.2,
     )
 
 pub put_volume-returns-clause-rest : goal.put_volume-returns-clause-rest

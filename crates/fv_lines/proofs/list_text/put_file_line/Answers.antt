@@ -8,7 +8,7 @@ use Rattle.fv_lines.proofs.list_text.put_file_line.Goals as goal
 
 pub returns : goal.returns
 returns g c =
-    let join = g.S.Sink.laws.joined in
+    let laws = g.S.Sink.laws in
     let takes = g.S.Sink.takes in
     let name = subst (λ (u : Guid). takes c.put-2.new.self (guid_text (bytes_of u)) c.put-3.new.self) c.name.ensures.name
     (subst (λ (t : List ℕ). takes c.put-2.new.self t c.put-3.new.self) c.text.ensures.text c.put-3.ensures) in
@@ -21,11 +21,11 @@ returns g c =
       c.file_digest.result,
       c.file_digest.ensures,
       begun g.S.Sink.laws c.put_indent.ensures c.put.ensures c.put_decimal.ensures.text
-          (join _ _ _ _ _ c.put-2.ensures
-          (join _ _ _ _ _ name
-          (join _ _ _ _ _ c.put-4.ensures
-          (join _ _ _ _ _ kind
-          (join _ _ _ _ _ c.put-5.ensures
-          (join _ _ _ _ _ bits
-          (join _ _ _ _ _ c.put-6.ensures (join _ _ _ _ _ size (join _ _ _ _ _ c.put_digest.ensures c.put-7.ensures))))))))),
+          (laws.joined c.put-2.ensures
+          (laws.joined name
+          (laws.joined c.put-4.ensures
+          (laws.joined kind
+          (laws.joined c.put-5.ensures
+          (laws.joined bits
+          (laws.joined c.put-6.ensures (laws.joined size (laws.joined c.put_digest.ensures c.put-7.ensures))))))))),
     )

@@ -13,4 +13,4 @@ returns-in-Some g c =
     (subst (λ (t : List ℕ). takes c.put.new.self t c.put-in-Some.new.self) c.text.ensures.text c.put-in-Some.ensures) in
     let is : codes " name " ++ guid_text (bytes_of c.in-Some.ext.now.name) ≡ name_text c.args.head.now.ext =
     ap name_text (sym (ap (λ o. option_copied o) c.in-Some.is) ∙ c.ext.ensures) in
-    subst (λ (l : List ℕ). takes c.args.out.now l c.put-in-Some.new.self) is (g.S.Sink.laws.joined _ _ _ _ _ c.put.ensures guid)
+    subst (λ (l : List ℕ). takes c.args.out.now l c.put-in-Some.new.self) is (g.S.Sink.laws.joined c.put.ensures guid)

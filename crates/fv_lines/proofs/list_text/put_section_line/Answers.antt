@@ -6,7 +6,7 @@ use Rattle.fv_lines.proofs.list_text.put_section_line.Goals as goal
 
 pub returns : goal.returns
 returns g c =
-    let join = g.S.Sink.laws.joined in
+    let laws = g.S.Sink.laws in
     let takes = g.S.Sink.takes in
     let kind = subst (λ (n : ℕ). takes c.put-2.new.self (two_digits n) c.put_two_digits.new.out) c.kind.ensures.kind
     c.put_two_digits.ensures in
@@ -18,6 +18,6 @@ returns g c =
       shown.0,
       shown.1,
       begun g.S.Sink.laws c.put_indent.ensures c.put.ensures c.put_decimal.ensures.text
-          (join _ _ _ _ _ c.put-2.ensures
-          (join _ _ _ _ _ kind (join _ _ _ _ _ form (join _ _ _ _ _ size (join _ _ _ _ _ shown.2 c.put-4.ensures))))),
+          (laws.joined c.put-2.ensures
+          (laws.joined kind (laws.joined form (laws.joined size (laws.joined shown.2 c.put-4.ensures))))),
     )

@@ -6,7 +6,7 @@ use Rattle.fv_lines.proofs.list_text.put_volume_line.Goals as goal
 
 pub returns : goal.returns
 returns g c =
-    let join = g.S.Sink.laws.joined in
+    let laws = g.S.Sink.laws in
     let takes = g.S.Sink.takes in
     let head = c.head-head.ensures.head in
     let system = subst (λ (t : List ℕ). takes c.put_indent.new.out t c.put.new.self)
@@ -20,6 +20,6 @@ returns g c =
       c.volume_digest.result,
       c.volume_digest.ensures,
       begun g.S.Sink.laws c.put_indent.ensures system size
-          (join _ _ _ _ _ c.put-2.ensures
-          (join _ _ _ _ _ count (join _ _ _ _ _ name (join _ _ _ _ _ c.put_digest.ensures c.put-3.ensures)))),
+          (laws.joined c.put-2.ensures
+          (laws.joined count (laws.joined name (laws.joined c.put_digest.ensures c.put-3.ensures)))),
     )

@@ -14,7 +14,7 @@ loop-cell-preserved g c =
     let list : List Cell = c.args.list.now in
     subst (λ (t : List ℕ). g.S.Sink.takes c.args.out.now t c.put_cell.new.out)
     (sym (seen_next (pad_note c.args.polarity) cell_form list c.loop-cell.cell-index _ c.loop-cell-test.true))
-    (g.S.Sink.laws.joined _ _ _ _ _ c.loop-cell.invariant c.put_cell.ensures)
+    (g.S.Sink.laws.joined c.loop-cell.invariant c.put_cell.ensures)
 
 pub returns : goal.returns
 returns g c =

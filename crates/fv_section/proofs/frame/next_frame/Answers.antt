@@ -1,5 +1,6 @@
 use Rattle.std.proofs.Common.{◌∙◌, sym, arith}
-use Rattle.std.proofs.lemmas.Result.{IfErr-weaker, err_from_is_err_and}
+use Rattle.std.proofs.lemmas.Result.{IfErr-weaker}
+use Rattle.fv_base.proofs.Laws.{err_is}
 use Rattle.fv_base.specs.Checks.{First}
 use Rattle.fv_section.specs.StreamReads.{frame_form}
 use Rattle.fv_section.proofs.FrameLemmas.{verdict_rest, verdict_stands, stands_verdict, verdict_first, none_stands, other_verdict}
@@ -17,8 +18,8 @@ returns-clause-only c = λ g stands.
 
 pub returns-in_err-frame-clause-first : goal.returns-in_err-frame-clause-first
 returns-in_err-frame-clause-first c =
-    let p = err_from_is_err_and c.from_residual.result c.from_residual.ensures.1 in
-    rw (p.1, p.2) (verdict_first c.args.at _ _ (sym (verdict_rest c.args.at c.args.stream.now) ∙ c.in_err-frame.ensures.refused))
+    rw (err_is c.from_residual.ensures.1)
+    (verdict_first c.args.at _ _ (sym (verdict_rest c.args.at c.args.stream.now) ∙ c.in_err-frame.ensures.refused))
 
 pub returns-in_err-frame-clause-none : goal.returns-in_err-frame-clause-none
 returns-in_err-frame-clause-none c =

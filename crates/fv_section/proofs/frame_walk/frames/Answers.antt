@@ -1,5 +1,5 @@
 use Rattle.std.proofs.Common.{◌≡◌, ◌<◌, ◌∷◌, ◌++◌, [], ℕ, List, length, map, subst, sym, true≢false, arith, rules}
-use Rattle.std.proofs.lemmas.Result.{err_from_is_err_and}
+use Rattle.fv_base.proofs.Laws.{err_is}
 use Rattle.fv_section.specs.Frames.{FrameForm, Splits}
 use Rattle.fv_section.specs.StreamReads.{frame_form}
 use Rattle.fv_section.proofs.FrameWalkLemmas.{whole_within}
@@ -18,18 +18,18 @@ some_left (f ∷ fs) count t b split is some = omega (arith, from_least 0 f fs t
 
 pub returns-in_err-list-clause-some : goal.returns-in_err-list-clause-some
 returns-in_err-list-clause-some c =
-    let p = err_from_is_err_and c.from_residual-in_err-list.result c.from_residual-in_err-list.ensures.1 in
     let walk = c.in_ok-walk.walk in
-    rw p.1 (some_left walk.0 c.frames_left.result walk.1 c.args.stream.now c.in_ok-walk.ensures.found c.frames_left.ensures
+    rw (err_is c.from_residual-in_err-list.ensures.1)
+    (some_left walk.0 c.frames_left.result walk.1 c.args.stream.now c.in_ok-walk.ensures.found c.frames_left.ensures
     (λ none. true≢false (sym (c.in_err-list.ensures.succeeds none))))
 
 pub returns-in_err-push-clause-some : goal.returns-in_err-push-clause-some
 returns-in_err-push-clause-some c =
-    let p = err_from_is_err_and c.from_residual-in_err-push.result c.from_residual-in_err-push.ensures.1 in
     let front : List FrameForm = map frame_form c.loop-frame.list.items in
     let left = rw c.in-Some.is at c.next_frame.ensures.some in
     let split = subst (λ fs. Splits (front ++ fs) c.loop-frame.walk.1 c.args.stream.now) left c.loop-frame.invariant.split in
-    rw p.1 (some_bytes front (frame_form c.in-Some.frame) _ c.loop-frame.walk.1 c.args.stream.now split)
+    rw (err_is c.from_residual-in_err-push.ensures.1)
+    (some_bytes front (frame_form c.in-Some.frame) _ c.loop-frame.walk.1 c.args.stream.now split)
 
 pub returns-clause-lies : goal.returns-clause-lies
 returns-clause-lies c =

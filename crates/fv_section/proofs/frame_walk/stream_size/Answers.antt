@@ -1,5 +1,5 @@
 use Rattle.std.proofs.Common.{◌++◌, ◌∷◌, ◌-◌, [], length, length-append, refl, arith}
-use Rattle.std.proofs.lemmas.Result.{err_from_is_err_and}
+use Rattle.fv_base.proofs.Laws.{err_is}
 use Rattle.fv_section.proofs.FrameLemmas.{size_least}
 use Rattle.fv_section.proofs.FrameWalkLemmas.{first_here, stands_within, step, whole_of}
 use Rattle.fv_section.proofs.StreamLaws.{tail_small}
@@ -51,12 +51,9 @@ overflow_cast-result c =
 
 pub returns-in_err-frame-clause-first : goal.returns-in_err-frame-clause-first
 returns-in_err-frame-clause-first c =
-    let p = err_from_is_err_and c.from_residual.result c.from_residual.ensures.1 in
     let w = c.loop-frame.invariant.frames in
-    rw (p.1, p.2) (first_here c.args.stream.now w.0 _ c.loop-frame.end c.up_to_4.result _ w.1 c.up_to_4.ensures
+    rw (err_is c.from_residual.ensures.1) (first_here c.args.stream.now w.0 _ c.loop-frame.end c.up_to_4.result _ w.1 c.up_to_4.ensures
     c.in_err-frame.ensures.place.1 c.in_err-frame.ensures.first)
 
 pub returns-in_err-frame-clause-bound : goal.returns-in_err-frame-clause-bound
-returns-in_err-frame-clause-bound c =
-    let p = err_from_is_err_and c.from_residual.result c.from_residual.ensures.1 in
-    rw (p.1, p.2) (omega (arith, c.in_err-frame.ensures.place))
+returns-in_err-frame-clause-bound c = rw (err_is c.from_residual.ensures.1) (omega (arith, c.in_err-frame.ensures.place))

@@ -1,23 +1,22 @@
 use Rattle.std.proofs.Common.{arith, ap}
 use Rattle.std.proofs.lemmas.List.{length-take-le}
-use Rattle.std.proofs.lemmas.Result.{err_from_is_err_and}
+use Rattle.fv_base.proofs.Laws.{err_is}
 use Rattle.fv_base.specs.declared.fault.Fault.{Fault}
-use Rattle.fv_head.proofs.Laws.{first_lies}
+use Rattle.fv_head.proofs.Laws.{fault_known, first_lies}
 use Rattle.fv_tree.proofs.ReadingLaws.{begun}
 use Rattle.fv_tree.proofs.VolumeCellLaws.{bad_cell, bad_header}
-use Rattle.fv_tree.proofs.VolumeLaws.{head_known}
 use Rattle.fv_tree.proofs.body_cells.volume_cells.Goals as goal
 
 pub returns-in_err-extent-clause-err : goal.returns-in_err-extent-clause-err
 returns-in_err-extent-clause-err c =
-    let p = err_from_is_err_and c.from_residual.result c.from_residual.ensures.1 in
-    rw (p.1, p.2) (λ other. bad_header c.args.bytes.now c.in_err-extent.field-0.0 c.verify_fv.result c.verify_fv.ensures.only
+    rw (err_is c.from_residual.ensures.1)
+    (λ other. bad_header c.args.bytes.now c.in_err-extent.field-0.0 c.verify_fv.result c.verify_fv.ensures.only
     c.in_err-extent.was c.in_err-extent.ensures.first)
 
 pub returns-in_err-extent-clause-memory : goal.returns-in_err-extent-clause-memory
 returns-in_err-extent-clause-memory c =
-    let p = err_from_is_err_and c.from_residual.result c.from_residual.ensures.1 in
-    rw (p.1, p.2) (λ want. absurd (head_known c.args.bytes.now _ c.in_err-extent.ensures.first (ap (λ (f : Fault). f.kind) want)))
+    rw (err_is c.from_residual.ensures.1)
+    (λ want. absurd (fault_known c.args.bytes.now _ c.in_err-extent.ensures.first (ap (λ (f : Fault). f.kind) want)))
 
 pub cells-requires : goal.cells-requires
 cells-requires c =
@@ -32,9 +31,9 @@ cells-requires c =
 
 pub returns-in_err-list-clause-err : goal.returns-in_err-list-clause-err
 returns-in_err-list-clause-err c =
-    let p = err_from_is_err_and c.from_residual-in_err-list.result c.from_residual-in_err-list.ensures.1 in
     let found = c.in_ok-extent.ensures.found in
-    rw (p.1, p.2) (λ other. bad_cell c.args.bytes.now found.0 c.in_ok-extent.extent c.in_err-list.field-0.0 c.verify_fv.result found.1
+    rw (err_is c.from_residual-in_err-list.ensures.1)
+    (λ other. bad_cell c.args.bytes.now found.0 c.in_ok-extent.extent c.in_err-list.field-0.0 c.verify_fv.result found.1
     c.verify_fv.ensures.only c.in_ok-extent.was (c.in_err-list.ensures.none other) (c.in_err-list.ensures.first other))
 
 pub returns-in_err-list-clause-memory : goal.returns-in_err-list-clause-memory

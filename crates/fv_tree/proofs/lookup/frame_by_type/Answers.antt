@@ -1,8 +1,7 @@
 use Rattle.std.proofs.Common.{◌≡◌, ◌-◌, ◌∷◌, ℕ, List, refl, sym, ap, ◌∙◌, arith, Bool}
 use Rattle.std.specs.Prelude.{◌==◌, slice_get}
 use Rattle.std.specs.List.{filter}
-use Rattle.std.proofs.lemmas.Result.{err_from_is_err_and}
-use Rattle.fv_base.proofs.Laws.{not_equal}
+use Rattle.fv_base.proofs.Laws.{not_equal, err_is}
 use Rattle.fv_section.proofs.Laws.{one_split}
 use Rattle.fv_section.specs.Frames.{FrameForm, Splits}
 use Rattle.fv_section.specs.StreamReads.{frame_form}
@@ -28,7 +27,7 @@ met : (kind : ℕ) (left more : List FrameForm) (f : FrameForm) → left ≡ f �
 met kind left more f e same = ap (filter (of_kind kind)) e ∙ met_head (of_kind kind) f more (one_type f.kind kind same)
 
 pub returns-in_err-walk-clause-err : goal.returns-in_err-walk-clause-err
-returns-in_err-walk-clause-err c = rw (err_from_is_err_and c.from_residual.result c.from_residual.ensures.1).1 c.in_err-walk.ensures.none
+returns-in_err-walk-clause-err c = rw (err_is c.from_residual.ensures.1) c.in_err-walk.ensures.none
 
 pub returns-then-instance-eq0-clause-ok : goal.returns-then-instance-eq0-clause-ok
 returns-then-instance-eq0-clause-ok c = λ fs t split. rw c.if-instance-eq0.true refl

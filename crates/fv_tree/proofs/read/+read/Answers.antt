@@ -7,9 +7,9 @@ use Rattle.fv_base.specs.Checks.{IsFirstFault, First}
 use Rattle.fv_base.specs.declared.fault.Fault.{Fault}
 use Rattle.fv_base.specs.declared.fault.Place.{Place}
 use Rattle.fv_base.specs.declared.guid.Guid.{Guid}
-use Rattle.fv_base.proofs.Laws.{bytes_take}
+use Rattle.fv_base.proofs.Laws.{bytes_take, err_is}
 use Rattle.fv_base.specs.Value.{IsBytes}
-use Rattle.fv_head.proofs.Laws.{front_lies, first_lies}
+use Rattle.fv_head.proofs.Laws.{fault_known, front_lies, first_lies}
 use Rattle.fv_head.specs.Head.{HeadFields, BeginsVolume}
 use Rattle.fv_head.specs.HeadChecks.{head_checks}
 use Rattle.fv_head.specs.declared.extent.Extent.{Extent}
@@ -17,7 +17,7 @@ use Rattle.fv_section.specs.Frames.{FrameForm}
 use Rattle.fv_section.specs.StreamReads as framed
 use Rattle.fv_tree.specs.inner.ReadingParts.{IsReadyFile}
 use Rattle.fv_tree.specs.Denotes.{Denotes, MeansFile, MeansSection, Stream}
-use Rattle.fv_tree.specs.FileNames.{IsIndex}
+use Rattle.fv_names.specs.NameIndexes.{IsIndex, entries_of}
 use Rattle.fv_tree.specs.Files.{FileForm}
 use Rattle.fv_tree.specs.FirstFault.{FileFault, InStream, data_at}
 use Rattle.fv_tree.specs.Meaning.{Volume, File, SectionMeaning, Section, Group, Nested, length_of}
@@ -26,14 +26,14 @@ use Rattle.fv_tree.specs.LocatedFiles.{file_form}
 use Rattle.fv_tree.specs.Views.{content_view}
 use Rattle.fv_tree.proofs.BodyLaws.{files_first}
 use Rattle.fv_tree.proofs.FileLaws.{stream_reads}
-use Rattle.fv_tree.proofs.IndexLaws.{no_file, read_names}
 use Rattle.fv_tree.proofs.LengthLaws.{body_long, content_long}
 use Rattle.fv_tree.proofs.ListPairs.{of_item, kept_pairs, first_refused, all_pairs}
-use Rattle.fv_tree.proofs.ReadingLaws.{passed_on, no_memory, no_ok, begun}
+use Rattle.fv_tree.proofs.NamedLaws.{no_file, read_names}
+use Rattle.fv_tree.proofs.ReadingLaws.{begun}
 use Rattle.fv_tree.proofs.SectionLaws.{leaf_shape, group_shape, volume_shape, leaf_is, group_found, group_first}
 use Rattle.fv_tree.proofs.SectionLaws.{one_place, nested_found, nested_first, deep_fault}
 use Rattle.fv_tree.proofs.StreamLaws.{frame_small, walk_ready, walk_begun, walk_more, walk_first, walk_found}
-use Rattle.fv_tree.proofs.VolumeLaws.{made, head_known, head_first, opened_whole}
+use Rattle.fv_tree.proofs.VolumeLaws.{made, head_first, opened_whole}
 use Rattle.fv_tree.proofs.read.+read.Goals.{read_file-After-without_large-attributes, read_section-In_ok-sections-in-Group}
 use Rattle.fv_tree.proofs.read.+read.Goals.{read_section-In_ok-nested-in-Volume, read_at-In_ok-views}
 use Rattle.fv_tree.proofs.read.+read.Goals as goal
@@ -41,7 +41,7 @@ use Rattle.fv_tree.proofs.read.+read.Goals as goal
 -- ---- files
 
 pub read_files-returns-in_err-views : goal.read_files-returns-in_err-views
-read_files-returns-in_err-views t c = no_memory _ _ _ c.from_residual.ensures.1
+read_files-returns-in_err-views t c = rw (err_is c.from_residual.ensures.1) (λ ne. absurd (ne refl))
 
 pub read_files-loop-file-init : goal.read_files-loop-file-init
 read_files-loop-file-init t c = rw c.in_ok-views.ensures.items tt
@@ -57,13 +57,13 @@ read_files-read_file-requires t c =
 
 pub read_files-returns-in_err-view : goal.read_files-returns-in_err-view
 read_files-returns-in_err-view t c =
-    passed_on _ _ _ c.from_residual-in_err-view.ensures.1 c.in_err-view.ensures
-    (first_refused (MeansFile (Stream c.args.at.left)) file_form c.args.files.now c.loop-file.file-index no_file
+    rw (err_is c.from_residual-in_err-view.ensures.1) (λ ne.
+    first_refused (MeansFile (Stream c.args.at.left)) file_form c.args.files.now c.loop-file.file-index no_file
     (λ f. FileFault (InStream First c.args.at.left) c.in_err-view.field-0.0 f c.args.at.place)
-    c.loop-file.views.items c.loop-file-test.true c.loop-file.invariant)
+    c.loop-file.views.items c.loop-file-test.true c.loop-file.invariant (c.in_err-view.ensures ne))
 
 pub read_files-returns-in_err-push : goal.read_files-returns-in_err-push
-read_files-returns-in_err-push t c = no_memory _ _ _ c.from_residual-in_err-push.ensures.1
+read_files-returns-in_err-push t c = rw (err_is c.from_residual-in_err-push.ensures.1) (λ ne. absurd (ne refl))
 
 pub read_files-loop-file-preserved : goal.read_files-loop-file-preserved
 read_files-loop-file-preserved t c =
@@ -95,8 +95,8 @@ pub read_content-returns-in_err-sections : goal.read_content-returns-in_err-sect
 read_content-returns-in_err-sections t c =
     let P : Place → Type 0 = λ i. InStream First c.args.at.left c.in_err-sections.field-0.0 c.args.file.now.payload.now i in
     let same = one_place _ (data_at c.args.at.place (file_form c.args.file.now)) (omega arith) refl in
-    passed_on _ _ _ c.from_residual.ensures.1 c.in_err-sections.ensures
-    (λ first. (sym c.holds_sections.ensures ∙ c.if-not-holds_sections.false, subst P same first))
+    rw (err_is c.from_residual.ensures.1)
+    (λ ne. (sym c.holds_sections.ensures ∙ c.if-not-holds_sections.false, subst P same (c.in_err-sections.ensures ne)))
 
 pub read_content-returns : goal.read_content-returns
 read_content-returns t c =
@@ -107,7 +107,7 @@ pub read_file-read_content-requires : goal.read_file-read_content-requires
 read_file-read_content-requires t c = (omega arith, (c.requires.place, (c.requires.depth, c.requires.small)))
 
 pub read_file-returns-in_err-content : goal.read_file-returns-in_err-content
-read_file-returns-in_err-content t c = passed_on _ _ _ c.from_residual.ensures.1 c.in_err-content.ensures (λ first. first)
+read_file-returns-in_err-content t c = rw (err_is c.from_residual.ensures.1) c.in_err-content.ensures
 
 pub read_file-overflow_cast-file : goal.read_file-overflow_cast-file
 read_file-overflow_cast-file t c = omega (arith, c.requires.small)
@@ -146,7 +146,7 @@ read_at-returns-in-Err-clause-memory t c = λ want. go c.in-Err.ensures.first wa
   go : (c.in-Err.fault ≡ out_of_memory) ⊎ IsFirstFault (head_checks c.args.bytes.now) c.in-Err.fault
       → c.fault_within.result ≡ out_of_memory → (h : HeadFields) × (e : Extent) × BeginsVolume h e c.args.bytes.now
   go (inl same) want = c.in-Err.ensures.memory same
-  go (inr first) want = absurd (head_known c.args.bytes.now c.in-Err.fault first (sym c.fault_within.ensures.kind
+  go (inr first) want = absurd (fault_known c.args.bytes.now c.in-Err.fault first (sym c.fault_within.ensures.kind
       ∙ ap (λ (f : Fault). f.kind) want))
 
 pub read_at-slice_bounds-volume-end : goal.read_at-slice_bounds-volume-end
@@ -173,11 +173,11 @@ read_at-read_files-requires t c =
 
 pub read_at-returns-in_err-files-clause-read : goal.read_at-returns-in_err-files-clause-read
 read_at-returns-in_err-files-clause-read t c =
-    passed_on _ _ _ c.from_residual.ensures.1 c.in_err-files.ensures.read
-    (λ first. inr (c.in-Ok.read.0, c.in-Ok.read.1, c.in-Ok.ensures.found, inl first))
+    rw (err_is c.from_residual.ensures.1)
+    (λ ne. inr (c.in-Ok.read.0, c.in-Ok.read.1, c.in-Ok.ensures.found, inl (c.in_err-files.ensures.read ne)))
 
 pub read_at-returns-in_err-files-clause-length : goal.read_at-returns-in_err-files-clause-length
-read_at-returns-in_err-files-clause-length t c = no_ok _ _ _ c.from_residual.ensures.1
+read_at-returns-in_err-files-clause-length t c = rw (err_is c.from_residual.ensures.1) tt
 
 pub read_at-returns-in_err-files-clause-memory : goal.read_at-returns-in_err-files-clause-memory
 read_at-returns-in_err-files-clause-memory t c = begun _ c.from_residual.result c.in-Ok.read.0 c.in-Ok.read.1 c.in-Ok.ensures.found
@@ -185,18 +185,18 @@ read_at-returns-in_err-files-clause-memory t c = begun _ c.from_residual.result 
 pub read_at-returns-in_err-views-clause-read : goal.read_at-returns-in_err-views-clause-read
 read_at-returns-in_err-views-clause-read t c =
     let read = c.in-Ok.read in
-    passed_on _ _ _ c.from_residual-in_err-views.ensures.1 (rw c.as_slice.ensures.value at c.in_err-views.ensures)
-    (λ first. inr (
+    let first = rw c.as_slice.ensures.value at c.in_err-views.ensures in
+    rw (err_is c.from_residual-in_err-views.ensures.1) (λ ne. inr (
       read.0,
       read.1,
       c.in-Ok.ensures.found,
       files_first c.args.at.left (InStream First c.args.at.left) read.1
           (take read.1.length c.args.bytes.now) c.args.at.place (map file_form c.in_ok-files.files.items) c.in_err-views.field-0.0
-          c.in_ok-files.ensures.read first,
+          c.in_ok-files.ensures.read (first ne),
     ))
 
 pub read_at-returns-in_err-views-clause-length : goal.read_at-returns-in_err-views-clause-length
-read_at-returns-in_err-views-clause-length t c = no_ok _ _ _ c.from_residual-in_err-views.ensures.1
+read_at-returns-in_err-views-clause-length t c = rw (err_is c.from_residual-in_err-views.ensures.1) tt
 
 pub read_at-returns-in_err-views-clause-memory : goal.read_at-returns-in_err-views-clause-memory
 read_at-returns-in_err-views-clause-memory t c =
@@ -219,8 +219,8 @@ read_at-new-requires-clause-meaning t c =
 pub read_at-new-requires-clause-numbers : goal.read_at-new-requires-clause-numbers
 read_at-new-requires-clause-numbers t c =
     let pairs = rw c.as_slice.ensures.value at c.in_ok-views.ensures in
-    subst (λ (ns : List Guid). IsIndex ns c.in_ok-files.numbers.sorted.items)
-    (sym (read_names (Stream c.args.at.left) (map file_form c.in_ok-files.files.items) c.in_ok-views.views.items pairs))
+    subst (λ (ns : List Guid). IsIndex ns (entries_of c.in_ok-files.numbers))
+    (sym (read_names (Stream c.args.at.left) c.in_ok-files.files.items c.in_ok-views.views.items pairs))
     c.in_ok-files.ensures.numbers
 
 pub read_at-returns-clause-read : goal.read_at-returns-clause-read
@@ -236,7 +236,7 @@ pub read_stream-fault_within-requires : goal.read_stream-fault_within-requires
 read_stream-fault_within-requires t c = omega (arith, c.in-Err.ensures.bound, c.requires.place)
 
 pub read_stream-returns-in_err-sections : goal.read_stream-returns-in_err-sections
-read_stream-returns-in_err-sections t c = no_memory _ _ _ c.from_residual.ensures.1
+read_stream-returns-in_err-sections t c = rw (err_is c.from_residual.ensures.1) (λ ne. absurd (ne refl))
 
 pub read_stream-loop-frame-init : goal.read_stream-loop-frame-init
 read_stream-loop-frame-init t c =
@@ -265,13 +265,13 @@ read_stream-returns-in-Err t c = λ ne. inl (c.in-Err.fault, c.in-Err.ensures.fi
 
 pub read_stream-returns-in_err-section : goal.read_stream-returns-in_err-section
 read_stream-returns-in_err-section t c =
-    passed_on _ _ _ c.from_residual-in_err-section.ensures.1 c.in_err-section.ensures
-    (walk_first c.args.at.left c.args.bytes.now c.loop-frame.walk.1 c.loop-frame.walk.0 c.next_frame.new.self.0
+    rw (err_is c.from_residual-in_err-section.ensures.1) (λ ne.
+    walk_first c.args.at.left c.args.bytes.now c.loop-frame.walk.1 c.loop-frame.walk.0 c.next_frame.new.self.0
     (framed.frame_form c.in-Some.frame) c.loop-frame.sections.items c.loop-frame.invariant (rw c.in-Some.is at c.next_frame.ensures.some)
-    c.in_err-section.field-0.0 c.args.at.place)
+    c.in_err-section.field-0.0 c.args.at.place (c.in_err-section.ensures ne))
 
 pub read_stream-returns-in_err-push : goal.read_stream-returns-in_err-push
-read_stream-returns-in_err-push t c = no_memory _ _ _ c.from_residual-in_err-push.ensures.1
+read_stream-returns-in_err-push t c = rw (err_is c.from_residual-in_err-push.ensures.1) (λ ne. absurd (ne refl))
 
 pub read_stream-returns : goal.read_stream-returns
 read_stream-returns t c =
@@ -289,9 +289,9 @@ read_section-deeper-requires-clause-depth t c = c.requires.depth
 pub read_section-returns-in_err-inside-in-Group : goal.read_section-returns-in_err-inside-in-Group
 read_section-returns-in_err-inside-in-Group t c =
     let f : FrameForm = framed.frame_form c.args.frame.now in
-    passed_on _ _ _ c.from_residual.ensures.1 (λ ne. c.in_err-inside-in-Group.ensures.err.1)
-    (deep_fault c.args.at.left f c.in_err-inside-in-Group.field-0.0 c.args.at.place
-    c.in_err-inside-in-Group.ensures.err.0 (inl (group_shape f (sym c.shape_of.ensures ∙ c.in-Group.is))))
+    let err = c.in_err-inside-in-Group.ensures.err in
+    rw (err_is c.from_residual.ensures.1) (λ ne. deep_fault c.args.at.left f c.in_err-inside-in-Group.field-0.0 c.args.at.place err.0
+    (inl (group_shape f (sym c.shape_of.ensures ∙ c.in-Group.is))) err.1)
 
 pub read_section-read_stream-requires : goal.read_section-read_stream-requires
 read_section-read_stream-requires t c =
@@ -309,10 +309,11 @@ read_section-read_stream-requires t c =
 pub read_section-returns-in_err-sections-in-Group : goal.read_section-returns-in_err-sections-in-Group
 read_section-returns-in_err-sections-in-Group t c =
     let ok = c.in_ok-inside-in-Group.ensures.ok in
-    passed_on _ _ _ c.from_residual-in_err-sections-in-Group.ensures.1 c.in_err-sections-in-Group.ensures
-    (group_first c.args.at.left c.in_ok-inside-in-Group.inside.left (framed.frame_form c.args.frame.now)
+    rw (err_is c.from_residual-in_err-sections-in-Group.ensures.1) (λ ne.
+    group_first c.args.at.left c.in_ok-inside-in-Group.inside.left (framed.frame_form c.args.frame.now)
     c.in_err-sections-in-Group.field-0.0 c.args.at.place c.in_ok-inside-in-Group.inside.place ok.0
-    (group_shape (framed.frame_form c.args.frame.now) (sym c.shape_of.ensures ∙ c.in-Group.is)) ok.1 ok.2)
+    (group_shape (framed.frame_form c.args.frame.now) (sym c.shape_of.ensures ∙ c.in-Group.is)) ok.1 ok.2
+    (c.in_err-sections-in-Group.ensures ne))
 
 pub read_section-overflow_cast-len : goal.read_section-overflow_cast-len
 read_section-overflow_cast-len t c = omega (arith, frame_small (framed.frame_form c.args.frame.now) c.requires.stored)
@@ -357,9 +358,9 @@ read_section-deeper-requires-in-Volume-clause-depth t c = c.requires.depth
 pub read_section-returns-in_err-inside-in-Volume : goal.read_section-returns-in_err-inside-in-Volume
 read_section-returns-in_err-inside-in-Volume t c =
     let f : FrameForm = framed.frame_form c.args.frame.now in
-    passed_on _ _ _ c.from_residual-in_err-inside-in-Volume.ensures.1 (λ ne. c.in_err-inside-in-Volume.ensures.err.1)
-    (deep_fault c.args.at.left f c.in_err-inside-in-Volume.field-0.0 c.args.at.place
-    c.in_err-inside-in-Volume.ensures.err.0 (inr (volume_shape f (sym c.shape_of.ensures ∙ c.in-Volume.is))))
+    let err = c.in_err-inside-in-Volume.ensures.err in
+    rw (err_is c.from_residual-in_err-inside-in-Volume.ensures.1) (λ ne. deep_fault c.args.at.left f c.in_err-inside-in-Volume.field-0.0
+    c.args.at.place err.0 (inr (volume_shape f (sym c.shape_of.ensures ∙ c.in-Volume.is))) err.1)
 
 pub read_section-read_at-requires : goal.read_section-read_at-requires
 read_section-read_at-requires t c =
@@ -370,12 +371,13 @@ pub read_section-returns-in_err-volume-in-Volume : goal.read_section-returns-in_
 read_section-returns-in_err-volume-in-Volume t c =
     let ok = c.in_ok-inside-in-Volume.ensures.ok in
     let f : FrameForm = framed.frame_form c.args.frame.now in
-    passed_on _ _ _ c.from_residual-in_err-volume-in-Volume.ensures.1 c.in_err-volume-in-Volume.ensures.read
-    (nested_first c.args.at.left c.in_ok-inside-in-Volume.inside.left f c.in_err-volume-in-Volume.field-0.0 c.args.at.place
-    c.in_ok-inside-in-Volume.inside.place ok.0 (volume_shape f (sym c.shape_of.ensures ∙ c.in-Volume.is)) ok.1 ok.2)
+    rw (err_is c.from_residual-in_err-volume-in-Volume.ensures.1) (λ ne.
+    nested_first c.args.at.left c.in_ok-inside-in-Volume.inside.left f c.in_err-volume-in-Volume.field-0.0 c.args.at.place
+    c.in_ok-inside-in-Volume.inside.place ok.0 (volume_shape f (sym c.shape_of.ensures ∙ c.in-Volume.is)) ok.1 ok.2
+    (c.in_err-volume-in-Volume.ensures.read ne))
 
 pub read_section-returns-in_err-nested-in-Volume : goal.read_section-returns-in_err-nested-in-Volume
-read_section-returns-in_err-nested-in-Volume t c = no_memory _ _ _ c.from_residual-in_err-nested-in-Volume.ensures.1
+read_section-returns-in_err-nested-in-Volume t c = rw (err_is c.from_residual-in_err-nested-in-Volume.ensures.1) (λ ne. absurd (ne refl))
 
 -- the opened volume means what is made of it
 nested_means : (t : ℕ) (c : read_section-In_ok-nested-in-Volume t) → MeansSection c.args.at.left (framed.frame_form c.args.frame.now)

@@ -1,5 +1,5 @@
 use Rattle.std.proofs.Common.{◌++◌, ◌∷◌, [], ℕ, List, sym, ap, ◌∙◌, subst, arith, append_assoc, append-nil}
-use Rattle.std.proofs.lemmas.Result.{err_from_is_err_and}
+use Rattle.fv_base.proofs.Laws.{err_is}
 use Rattle.fv_tree.specs.inner.FoundWalks.{FoundFrom}
 use Rattle.fv_tree.proofs.ScanLaws.{at_multiple, at_within, walk_found, one_found}
 use Rattle.fv_tree.proofs.scanner.scan.Goals as goal
@@ -20,8 +20,7 @@ loop-at-preserved c =
 pub returns-in_err-push-clause-memory : goal.returns-in_err-push-clause-memory
 returns-in_err-push-clause-memory c =
     let s = c.in-Some.ensures.some in
-    let p = err_from_is_err_and c.from_residual.result c.from_residual.ensures.1 in
-    rw p.1 (c.in-Some.at, (s.1, (c.in-Some.len, s.3)))
+    rw (err_is c.from_residual.ensures.1) (c.in-Some.at, (s.1, (c.in-Some.len, s.3)))
 
 pub returns-clause-found : goal.returns-clause-found
 returns-clause-found c =

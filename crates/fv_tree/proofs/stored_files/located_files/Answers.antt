@@ -1,20 +1,20 @@
-use Rattle.std.proofs.lemmas.Result.{err_from_is_err_and}
 use Rattle.std.proofs.Common.{map, ap}
+use Rattle.fv_base.proofs.Laws.{err_is}
 use Rattle.fv_base.specs.Checks.{First}
 use Rattle.fv_base.specs.declared.fault.Fault.{Fault}
+use Rattle.fv_head.proofs.Laws.{fault_known}
 use Rattle.fv_tree.specs.LocatedFiles.{file_form}
 use Rattle.fv_tree.proofs.LocatedLaws.{located_data, located_stand}
 use Rattle.fv_tree.proofs.MeaningLaws.{one_stand}
 use Rattle.fv_tree.proofs.ReadingLaws.{begun}
 use Rattle.fv_tree.proofs.RefusalLaws.{files_refused}
-use Rattle.fv_tree.proofs.VolumeLaws.{head_known}
 use Rattle.fv_tree.proofs.stored_files.located_files.Goals as goal
 
 pub returns-in_err-files-clause-none : goal.returns-in_err-files-clause-none
 returns-in_err-files-clause-none c =
-    let p = err_from_is_err_and c.from_residual-in_err-files.result c.from_residual-in_err-files.ensures.1 in
     let front = c.in_ok-extent.ensures.found in
-    rw (p.1, p.2) (λ ne gs begins. files_refused First c.in_ok-extent.extent _ _ _ gs (c.in_err-files.ensures.read ne)
+    rw (err_is c.from_residual-in_err-files.ensures.1)
+    (λ ne gs begins. files_refused First c.in_ok-extent.extent _ _ _ gs (c.in_err-files.ensures.read ne)
     (located_stand c.args.bytes.now front.0 c.in_ok-extent.extent front.1 gs begins))
 
 pub returns-clause-data : goal.returns-clause-data
@@ -31,8 +31,8 @@ returns-clause-only c = λ gs begins.
 
 pub returns-in_err-extent-clause-memory : goal.returns-in_err-extent-clause-memory
 returns-in_err-extent-clause-memory c =
-    let p = err_from_is_err_and c.from_residual.result c.from_residual.ensures.1 in
-    rw (p.1, p.2) (λ want. absurd (head_known c.args.bytes.now _ c.in_err-extent.ensures.first (ap (λ (f : Fault). f.kind) want)))
+    rw (err_is c.from_residual.ensures.1)
+    (λ want. absurd (fault_known c.args.bytes.now _ c.in_err-extent.ensures.first (ap (λ (f : Fault). f.kind) want)))
 
 pub returns-in_err-files-clause-memory : goal.returns-in_err-files-clause-memory
 returns-in_err-files-clause-memory c =

@@ -1,26 +1,23 @@
 use Rattle.std.proofs.Common.{◌≡◌, ◌≤◌, ◌∙◌, sym, ap, subst, map, length, arith}
 use Rattle.std.specs.List.{AllByRecursion, list_any}
 use Rattle.std.specs.Prelude.{not}
-use Rattle.std.proofs.lemmas.Result.{err_from_is_err_and}
 use Rattle.fv_tree.specs.Files.{FileForm, current_in, replaced_by}
 use Rattle.fv_tree.specs.LocatedFiles.{file_form}
 use Rattle.std.proofs.lemmas.List.{length-map}
 use Rattle.fv_tree.proofs.FileCountLaws.{filter_few}
-use Rattle.fv_base.proofs.Laws.{all_filter}
+use Rattle.fv_base.proofs.Laws.{all_filter, err_is}
 use Rattle.fv_tree.proofs.NameLaws.{top_bound, twins_bound}
 use Rattle.fv_tree.proofs.volume_files.apart_files.Goals as goal
 
 pub returns-in_err-check_twins-clause-bound : goal.returns-in_err-check_twins-clause-bound
 returns-in_err-check_twins-clause-bound c =
-    let p = err_from_is_err_and c.from_residual.result c.from_residual.ensures.1 in
     let P : FileForm → Type 0 = λ f. f.offset ≤ c.args.length in
     let same : map file_form c.as_slice.result.now ≡ map file_form c.args.files.items = ap (map file_form) c.as_slice.ensures.value in
-    rw (p.1, p.2) (twins_bound c.in_err-check_twins.field-0.0 c.args.length (map file_form c.as_slice.result.now)
+    rw (err_is c.from_residual.ensures.1) (twins_bound c.in_err-check_twins.field-0.0 c.args.length (map file_form c.as_slice.result.now)
     (subst (AllByRecursion P) (sym same) c.requires.within) c.in_err-check_twins.ensures.first)
 
 pub returns-in_err-check_top-clause-bound : goal.returns-in_err-check_top-clause-bound
 returns-in_err-check_top-clause-bound c =
-    let p = err_from_is_err_and c.from_residual-in_err-check_top.result c.from_residual-in_err-check_top.ensures.1 in
     let P : FileForm → Type 0 = λ f. f.offset ≤ c.args.length in
     let kept : map file_form c.as_slice-2.result.now ≡ current_in (map file_form c.args.files.items) =
     ap (map file_form) c.as_slice-2.ensures.value ∙ c.keep_current.ensures in
@@ -28,7 +25,7 @@ returns-in_err-check_top-clause-bound c =
     subst (AllByRecursion P) (sym kept)
     (all_filter (λ f. not (list_any (replaced_by f) (map file_form c.args.files.items))) P
     (map file_form c.args.files.items) c.requires.within) in
-    rw (p.1, p.2)
+    rw (err_is c.from_residual-in_err-check_top.ensures.1)
     (top_bound c.in_err-check_top.field-0.0 c.args.length c.args.length (map file_form c.as_slice-2.result.now) some
     c.in_err-check_top.ensures.first)
 

@@ -2,18 +2,17 @@ use Rattle.std.proofs.Common.{◌≡◌, ◌∙◌, ℕ, ◌+◌, ◌-◌, sym, 
 use Rattle.std.specs.Prelude.{◌==◌, ◌&&◌, ◌||◌, not}
 use Rattle.std.proofs.lemmas.Bool.Decides.{Decides-eqb}
 use Rattle.std.proofs.lemmas.List.{length-map, take_all}
-use Rattle.std.proofs.lemmas.Result.{err_from_is_err_and}
+use Rattle.fv_base.proofs.Laws.{err_is}
 use Rattle.fv_base.specs.Faults.{outer_fault}
 use Rattle.fv_base.specs.declared.fault.FaultKind.TheVariants as kinds
 use Rattle.fv_tree.specs.Files.{FileForm, is_top, end_of}
 use Rattle.fv_tree.specs.LocatedFiles.{file_form}
-use Rattle.fv_tree.proofs.IndexLaws.{no_file}
+use Rattle.fv_tree.proofs.NamedLaws.{no_file}
 use Rattle.fv_tree.proofs.NameLaws.{more_items, seam_items, none_push, top_last, placed, misplaced, not_top_yet, after_none}
 use Rattle.fv_tree.proofs.volume_files.check_top.Goals as goal
 
 pub returns-in_err-check-clause-first : goal.returns-in_err-check-clause-first
 returns-in_err-check-clause-first c =
-    let p = err_from_is_err_and c.from_residual.result c.from_residual.ensures.1 in
     let i : ℕ = c.loop-file.file-index in
     let all : List FileForm = map file_form c.args.files.now in
     let f : FileForm = file_form (get_or c.args.files.now i no_file) in
@@ -23,7 +22,7 @@ returns-in_err-check-clause-first c =
     bad.1 ((Decides-eqb (c.loop-file.left - 1) 0).1 (omega
     (arith, after_none all i none, length-map c.args.files.now file_form, c.loop-file.invariant.count, c.loop-file-test.true)))
     ((Decides-eqb (end_of f) c.args.length).1 ends) in
-    rw (p.1, p.2) (
+    rw (err_is c.from_residual.ensures.1) (
       f,
       (take i all, drop (i + 1) all, seam_items file_form c.args.files.now i no_file c.loop-file-test.true, bad.0, off),
       c.in_err-check.ensures.err.1 ∙ ap (outer_fault kinds.TopFile) c.from.ensures,

@@ -1,11 +1,13 @@
-use Rattle.std.proofs.Common.{◌∙◌, ap, ◌≡◌, ◌+◌, ℕ, get_or, List, map, take, drop, subst, true}
-use Rattle.std.specs.List.{list_any}
-use Rattle.std.proofs.lemmas.List.{get_or-map}
+use Rattle.std.proofs.Common.{◌∙◌, ap, ◌+◌, ◌<◌, ℕ, get_or, length, List, map, take, drop, subst, arith}
+use Rattle.std.proofs.lemmas.List.{length-map, take_all}
 use Rattle.fv_base.specs.Faults.{outer_fault}
 use Rattle.fv_base.specs.declared.fault.FaultKind.TheVariants as kinds
-use Rattle.fv_tree.specs.Files.{FileForm, is_twin}
+use Rattle.fv_names.specs.NamedFiles.{NoTwins}
+use Rattle.fv_names.proofs.Laws.{no_named}
+use Rattle.fv_tree.specs.Files.{FileForm}
 use Rattle.fv_tree.specs.LocatedFiles.{file_form}
-use Rattle.fv_tree.proofs.IndexLaws.{no_file}
+use Rattle.fv_tree.specs.inner.NameForms.{named_file}
+use Rattle.fv_tree.proofs.NamedLaws.{front_twins, no_file, twin_after, twins_from}
 use Rattle.fv_tree.proofs.NameLaws.{seam_items}
 use Rattle.fv_tree.proofs.volume_files.check_twins.Goals as goal
 
@@ -13,15 +15,20 @@ pub returns-then-first-files-clause-first : goal.returns-then-first-files-clause
 returns-then-first-files-clause-first c =
     let n : ℕ = c.first_twin-first.result in
     let all : List FileForm = map file_form c.args.files.now in
-    let is = get_or-map file_form c.args.files.now n no_file (file_form no_file) c.if-first-files.true in (
+    let l : n < length c.args.files.now = c.if-first-files.true in (
       file_form (get_or c.args.files.now n no_file),
       (
         take n all,
         drop (n + 1) all,
-        seam_items file_form c.args.files.now n no_file c.if-first-files.true,
-        c.first_twin-first.ensures.none,
-        subst (λ (f : FileForm). list_any (is_twin f) (take n all) ≡ true) is
-            (c.first_twin-first.ensures.first c.if-first-files.true (file_form no_file)),
+        seam_items file_form c.args.files.now n no_file l,
+        front_twins n c.args.files.now c.first_twin-first.ensures.none,
+        twin_after n c.args.files.now l (c.first_twin-first.ensures.first l no_named),
       ),
       c.outer.ensures ∙ ap (outer_fault kinds.DuplicateName) c.from-offset.ensures,
     )
+
+pub returns-clause-found : goal.returns-clause-found
+returns-clause-found c =
+    let n : ℕ = c.first_twin-first.result in
+    twins_from c.args.files.now (subst NoTwins (take_all n (map named_file c.args.files.now) (omega
+    (arith, c.if-first-files.false, length-map c.args.files.now named_file))) c.first_twin-first.ensures.none)

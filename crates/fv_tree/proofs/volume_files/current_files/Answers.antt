@@ -1,51 +1,50 @@
 use Rattle.std.proofs.Common.{◌≡◌, ◌≤◌, ◌∙◌, List, IsTrue, refl, sym, ap, subst, map, inr}
 use Rattle.std.specs.List.{AllByRecursion}
-use Rattle.std.proofs.lemmas.Result.{err_from_is_err_and}
+use Rattle.fv_base.proofs.Laws.{err_is}
 use Rattle.fv_base.specs.Faults.{outer_fault}
 use Rattle.fv_base.specs.declared.fault.FaultKind.TheVariants as kinds
 use Rattle.fv_tree.specs.Files.{FileForm, TopAtEnd}
 use Rattle.fv_tree.specs.FirstFault.{TopElsewhere}
-use Rattle.fv_tree.specs.FileNames.{Entry, IsIndex}
-use Rattle.fv_tree.specs.inner.NameOrders.{names_in}
+use Rattle.fv_names.specs.NamedFiles.{names_in}
+use Rattle.fv_names.specs.NameIndexes.{Entry, IsIndex, entries_of}
 use Rattle.fv_tree.specs.LocatedFiles.{file_form}
+use Rattle.fv_tree.specs.inner.NameForms.{named_file}
 use Rattle.fv_tree.specs.declared.volume_files.LocatedFile.{LocatedFile}
-use Rattle.fv_tree.proofs.IndexLaws.{no_file}
-use Rattle.fv_tree.proofs.NeighbourLaws.{apart_current, apart_twins}
+use Rattle.fv_tree.proofs.NamedLaws.{all_current, without_twins}
 use Rattle.fv_tree.proofs.NameLaws.{top_bound}
 use Rattle.fv_tree.proofs.volume_files.current_files.Goals as goal
 
 pub returns-in_err-check_top-clause-first : goal.returns-in_err-check_top-clause-first
 returns-in_err-check_top-clause-first c =
-    let p = err_from_is_err_and c.from_residual-in_err-check_top.result c.from_residual-in_err-check_top.ensures.1 in
-    let fs : List FileForm = map file_form c.args.files.items in
-    let es : List Entry = c.in_ok-numbers.numbers.sorted.items in
-    let index : IsIndex (names_in fs) es =
-    subst (λ (l : List LocatedFile). IsIndex (names_in (map file_form l)) es) c.as_slice.ensures.value c.in_ok-numbers.ensures.found in
+    let files : List LocatedFile = c.args.files.items in
+    let es : List Entry = entries_of c.in_ok-numbers.numbers in
+    let index : IsIndex (names_in (map named_file files)) es =
+    subst (λ (l : List LocatedFile). IsIndex (names_in (map named_file l)) es) c.as_slice.ensures.value c.in_ok-numbers.ensures.found in
     let distinct = c.are_distinct.ensures.distinct (subst IsTrue (sym c.if-not-are_distinct.false) refl) in
-    let same = ap (map file_form) c.as_slice-2.ensures.value ∙ sym (apart_current fs es index (file_form no_file) ((0, 0), 0) distinct) in
+    let same = ap (map file_form) c.as_slice-2.ensures.value ∙ sym (all_current files es index distinct) in
     let first =
     subst (λ (l : List FileForm). (f : FileForm) × TopElsewhere c.args.length f l
     × (c.in_err-check_top.field-0.0 ≡ outer_fault kinds.TopFile f.offset)) same c.in_err-check_top.ensures.first in
-    rw (p.1, p.2) (λ ne. inr (apart_twins fs es index (file_form no_file) ((0, 0), 0) distinct, first.0, first.1, first.2))
+    rw (err_is c.from_residual-in_err-check_top.ensures.1)
+    (λ ne. inr (without_twins files es index distinct, first.0, first.1, first.2))
 
 pub returns-in_err-check_top-clause-bound : goal.returns-in_err-check_top-clause-bound
 returns-in_err-check_top-clause-bound c =
-    let p = err_from_is_err_and c.from_residual-in_err-check_top.result c.from_residual-in_err-check_top.ensures.1 in
     let P : FileForm → Type 0 = λ f. f.offset ≤ c.args.length in
     let same = ap (map file_form) c.as_slice-2.ensures.value in
-    rw (p.1, p.2)
+    rw (err_is c.from_residual-in_err-check_top.ensures.1)
     (top_bound c.in_err-check_top.field-0.0 c.args.length c.args.length (map file_form c.as_slice-2.result.now)
     (subst (AllByRecursion P) (sym same) c.requires.within) c.in_err-check_top.ensures.first)
 
 pub returns-clause-found : goal.returns-clause-found
 returns-clause-found c =
-    let fs : List FileForm = map file_form c.args.files.items in
-    let es : List Entry = c.in_ok-numbers.numbers.sorted.items in
-    let index : IsIndex (names_in fs) es =
-    subst (λ (l : List LocatedFile). IsIndex (names_in (map file_form l)) es) c.as_slice.ensures.value c.in_ok-numbers.ensures.found in
+    let files : List LocatedFile = c.args.files.items in
+    let es : List Entry = entries_of c.in_ok-numbers.numbers in
+    let index : IsIndex (names_in (map named_file files)) es =
+    subst (λ (l : List LocatedFile). IsIndex (names_in (map named_file l)) es) c.as_slice.ensures.value c.in_ok-numbers.ensures.found in
     let distinct = c.are_distinct.ensures.distinct (subst IsTrue (sym c.if-not-are_distinct.false) refl) in
     record {
-      no_twins = apart_twins fs es index (file_form no_file) ((0, 0), 0) distinct;
-      files_are = sym (apart_current fs es index (file_form no_file) ((0, 0), 0) distinct);
+      no_twins = without_twins files es index distinct;
+      files_are = sym (all_current files es index distinct);
       top = subst (TopAtEnd c.args.length) (ap (map file_form) c.as_slice-2.ensures.value) c.in_ok-check_top.ensures.found;
     }

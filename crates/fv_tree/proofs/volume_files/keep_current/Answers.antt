@@ -7,7 +7,7 @@ use Rattle.fv_tree.specs.Files.{FileForm, replaced_by}
 use Rattle.fv_tree.specs.LocatedFiles.{file_form}
 use Rattle.fv_tree.specs.inner.ReadingParts.{is_noted}
 use Rattle.fv_tree.specs.declared.volume_files.LocatedFile.{LocatedFile}
-use Rattle.fv_tree.proofs.NeighbourLaws.{in_place, kept_noted}
+use Rattle.fv_tree.proofs.NamedLaws.{in_place, kept_noted}
 use Rattle.fv_tree.proofs.volume_files.keep_current.Goals as goal
 
 pub returns : goal.returns

@@ -1,4 +1,4 @@
-use Rattle.std.proofs.lemmas.Result.{err_from_is_err_and}
+use Rattle.fv_base.proofs.Laws.{err_is}
 use Rattle.fv_base.specs.Checks.{First}
 use Rattle.fv_section.proofs.FrameWalkLemmas.{none_after, walk_begins}
 use Rattle.fv_section.proofs.StreamLemmas.{one_split}
@@ -6,8 +6,7 @@ use Rattle.fv_section.proofs.frame_walk.FrameWalk.of.Goals as goal
 
 pub returns-in_err-left-clause-none : goal.returns-in_err-left-clause-none
 returns-in_err-left-clause-none c =
-    let p = err_from_is_err_and c.from_residual.result c.from_residual.ensures.1 in
-    rw p.1 (λ fs tail split. none_after First c.args.stream.now _ fs tail c.in_err-left.ensures.first split)
+    rw (err_is c.from_residual.ensures.1) (λ fs tail split. none_after First c.args.stream.now _ fs tail c.in_err-left.ensures.first split)
 
 pub invariant_of-result : goal.invariant_of-result
 invariant_of-result c = (walk_begins c.args.stream.now c.in_ok-left.left c.in_ok-left.tail c.in_ok-left.ensures.found).1

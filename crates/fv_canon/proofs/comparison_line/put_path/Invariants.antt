@@ -1,9 +1,0 @@
-use Rattle.std.proofs.Common.{◌≤◌, ◌*◌, length, take}
-use Rattle.fv_canon.specs.ComparisonLines.{path_text}
-use Rattle.fv_canon.proofs.comparison_line.put_path.Given as goal
-
-abbrev pub invariant-loop-step : goal.invariant-loop-step
-invariant-loop-step g l = record {
-  text : g.S.Sink.takes l.initial.out (path_text (take l.step-index l.steps)) l.out;
-  short : length (path_text (take l.step-index l.steps)) ≤ 29 * length (take l.step-index l.steps);
-}

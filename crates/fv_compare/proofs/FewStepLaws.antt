@@ -1,0 +1,119 @@
+-- Where two volumes first differ is few steps down.
+-- 1. What the tests of a difference are made of keeps a bound on its steps; a step into a file or a section adds one.
+-- 2. A level of nesting has two steps at most, into a file and into a section: n levels down there are 2 * n + 2.
+-- 3. A meaning nests few levels deep.
+use Rattle.std.proofs.lemmas.Grind.{common_steps}
+use Rattle.std.proofs.Common.{◌≤◌, ◌+◌, ◌*◌, ℕ, length, arith, Bool, true, false}
+use Rattle.std.specs.Prelude.{◌==◌, Some, None, IfSome}
+use Rattle.std.specs.Bool.{beq}
+use Rattle.std.specs.Str.{bytes_eq}
+use Rattle.fv_base.specs.Guids.{bytes_of}
+use Rattle.fv_head.specs.Head.{HeadFields}
+use Rattle.fv_tree.specs.Denotes.{IsMeaning}
+use Rattle.fv_compare.specs.Difference.{Differs, unless_one, or_else, under, head_differs, difference, files_differ}
+use Rattle.fv_compare.specs.Difference.{file_differs, content_differs, sections_differ, section_differs, body_differs}
+use Rattle.fv_tree.specs.Meaning.{Meaning, Volume, FileMeanings, NoFiles, MoreFiles, FileMeaning, File, content_of, ContentMeaning}
+use Rattle.fv_tree.specs.Meaning.{Plain, Sectioned, SectionMeanings, NoSections, MoreSections, SectionMeaning, Section}
+use Rattle.fv_tree.specs.MeaningParts.{body_of}
+use Rattle.fv_tree.specs.Meaning.{BodyMeaning, Leaf, Group, Nested}
+use Rattle.fv_compare.specs.declared.difference.Step.{Step}
+use Rattle.fv_compare.specs.declared.difference.Step.TheVariants as steps
+use Rattle.fv_compare.specs.declared.difference.Word.{Word}
+use Rattle.fv_compare.specs.declared.difference.Word.TheVariants as words
+use Rattle.fv_tree.specs.inner.Depths.{NestsVolume, NestsFiles, NestsContent, NestsSections, NestsBody}
+use Rattle.fv_tree.proofs.Laws.{nests_files, nests_content, nests_sections, nests_body, nests_group, nests_nested}
+
+-- ---- 1. bounds on the steps
+
+-- they differ no more than so many steps down, if at all
+abbrev Within : Differs → ℕ → Type 0
+Within None n = Unit {0}
+Within (Some d) n = length d.0 ≤ n
+
+within_unless : (same : Bool) (word : Word) (n : ℕ) → Within (unless_one same word) n
+within_unless true word n = tt
+within_unless false word n = omega arith
+
+within_or : (d e : Differs) (n : ℕ) → Within d n → Within e n → Within (or_else d e) n
+within_or None e n p q = q
+within_or (Some d) e n p q = p
+
+within_more : (d : Differs) (n k : ℕ) → n ≤ k → Within d n → Within d k
+within_more None n k less p = tt
+within_more (Some d) n k less p = omega (arith, less, p)
+
+-- one item after another, a step down to each
+within_item : (s : Step) (d e : Differs) (n k : ℕ) → n + 1 ≤ k → Within d n → Within e k → Within (or_else (under s d) e) k
+within_item s None e n k less p q = q
+within_item s (Some d) e n k less p q = omega (arith, p, less)
+
+head_few : (h g : HeadFields) (n : ℕ) → Within (head_differs h g) n
+head_few h g n = grind (arith, common_steps, within_or, within_unless)
+
+-- ---- 2. two steps a level
+
+mutual
+  volume_few : (v w : Meaning) (n : ℕ) → NestsVolume v n → Within (difference v w) (2 * n + 2)
+  volume_few (Volume h fs) (Volume g gs) n deep =
+      within_or (head_differs h g) (files_differ 0 fs gs) (2 * n + 2) (head_few h g (2 * n + 2))
+      (files_few 0 fs gs n (nests_files h fs n deep))
+
+  files_few : (i : ℕ) (fs gs : FileMeanings) (n : ℕ) → NestsFiles fs n → Within (files_differ i fs gs) (2 * n + 2)
+  files_few i NoFiles NoFiles n deep = tt
+  files_few i NoFiles (MoreFiles g gs) n deep = omega arith
+  files_few i (MoreFiles f fs) NoFiles n deep = omega arith
+  files_few i (MoreFiles f fs) (MoreFiles g gs) n ((form, here), behind) =
+      within_item (steps.File i) (file_differs f g) (files_differ (i + 1) fs gs) (2 * n + 1) (2 * n + 2) (omega arith)
+      (file_few f g n (nests_content f n form here)) (files_few (i + 1) fs gs n behind)
+
+  file_few : (f g : FileMeaning) (n : ℕ) → NestsContent (content_of f) n → Within (file_differs f g) (2 * n + 1)
+  file_few (File x k a c) (File y l b d) n deep =
+      within_or _ _ (2 * n + 1) (within_unless (bytes_eq (bytes_of x) (bytes_of y)) words.Name (2 * n + 1))
+      (within_or _ _ (2 * n + 1) (within_unless (k == l) words.Type (2 * n + 1))
+      (within_or _ _ (2 * n + 1) (within_unless (a == b) words.Attributes (2 * n + 1)) (content_few c d n deep)))
+
+  content_few : (c d : ContentMeaning) (n : ℕ) → NestsContent c n → Within (content_differs c d) (2 * n + 1)
+  content_few (Plain b) (Plain c) n deep = within_unless (bytes_eq b c) words.Data (2 * n + 1)
+  content_few (Plain b) (Sectioned ss t) n deep = omega arith
+  content_few (Sectioned ss t) (Plain b) n deep = omega arith
+  content_few (Sectioned ss t) (Sectioned rs u) n deep =
+      within_or (sections_differ 0 ss rs) _ (2 * n + 1) (sections_few 0 ss rs n (nests_sections ss t n deep))
+      (within_unless (t == u) words.Tail (2 * n + 1))
+
+  sections_few : (i : ℕ) (ss rs : SectionMeanings) (n : ℕ) → NestsSections ss n → Within (sections_differ i ss rs) (2 * n + 1)
+  sections_few i NoSections NoSections n deep = tt
+  sections_few i NoSections (MoreSections r rs) n deep = omega arith
+  sections_few i (MoreSections s ss) NoSections n deep = omega arith
+  sections_few i (MoreSections s ss) (MoreSections r rs) n ((frame, here), behind) =
+      within_item (steps.Section i) (section_differs s r) (sections_differ (i + 1) ss rs) (2 * n) (2 * n + 1) (omega arith)
+      (section_few s r n (nests_body s n frame here)) (sections_few (i + 1) ss rs n behind)
+
+  section_few : (s r : SectionMeaning) (n : ℕ) → NestsBody (body_of s) n → Within (section_differs s r) (2 * n)
+  section_few (Section k e b) (Section l f c) n deep =
+      within_or _ _ (2 * n) (within_unless (k == l) words.Type (2 * n))
+      (within_or _ _ (2 * n) (within_unless (beq e f) words.Form (2 * n)) (body_few b c n deep))
+
+  body_few : (b c : BodyMeaning) (n : ℕ) → NestsBody b n → Within (body_differs b c) (2 * n)
+  body_few (Leaf b) (Leaf c) n deep = within_unless (bytes_eq b c) words.Body (2 * n)
+  body_few (Leaf b) (Group rs u) n deep = omega arith
+  body_few (Leaf b) (Nested w) n deep = omega arith
+  body_few (Group ss t) (Leaf c) n deep = omega arith
+  body_few (Group ss t) (Group rs u) n deep = let (k, is, inside) = nests_group ss t n deep in
+      within_or (sections_differ 0 ss rs) _ (2 * n)
+      (within_more (sections_differ 0 ss rs) (2 * k + 1) (2 * n) (omega (arith, is)) (sections_few 0 ss rs k inside))
+      (within_unless (t == u) words.Tail (2 * n))
+  body_few (Group ss t) (Nested w) n deep = omega arith
+  body_few (Nested v) (Leaf c) n deep = omega arith
+  body_few (Nested v) (Group rs u) n deep = omega arith
+  body_few (Nested v) (Nested w) n deep = let (k, is, inside) = nests_nested v n deep in
+      within_more (difference v w) (2 * k + 2) (2 * n) (omega (arith, is)) (volume_few v w k inside)
+
+-- ---- 3. few levels
+
+pub few_steps : (v w : Meaning) → IsMeaning v → IfSome (difference v w) (λ d. length d.0 ≤ 18)
+few_steps v w (n, deep, b, bytes, d) =
+    go (difference v w) (within_more (difference v w) (2 * n + 2) 18 (omega (arith, deep)) (volume_few v w n (b, d)))
+  where
+    go : (o : Differs) → Within o 18 → IfSome o (λ d. length d.0 ≤ 18)
+    go None p = tt
+    go (Some d) p = p

@@ -1,0 +1,64 @@
+use Rattle.std.proofs.Common.{◌≡◌, ◌+◌, ◌==◌, sym, ap, ◌∙◌, arith}
+use Rattle.fv_compare.specs.Difference.{unless_one}
+use Rattle.fv_compare.specs.declared.difference.Word.TheVariants as words
+use Rattle.fv_tree.specs.MeaningParts.{files_from, sections_from}
+use Rattle.fv_tree.specs.inner.Sizes.{volume_size, files_size, content_size, sections_size, body_size}
+use Rattle.fv_tree.specs.Views.{content_view, body_view}
+use Rattle.fv_compare.proofs.DifferenceWalkLaws.{sections_more, files_more, volume_word}
+use Rattle.fv_tree.proofs.Laws.{section_falls, body_falls, file_falls, content_falls}
+use Rattle.fv_compare.proofs.difference.+differ.Goals as goal
+
+-- ---- what is compared is smaller
+
+pub body_difference-stream_difference-requires : goal.body_difference-stream_difference-requires
+body_difference-stream_difference-requires t c =
+    let is = ap (λ b. body_size (body_view b)) c.in-Group-Group.is-0 in (omega (arith, c.decreases, is), tt)
+
+pub content_difference-stream_difference-requires : goal.content_difference-stream_difference-requires
+content_difference-stream_difference-requires t c =
+    let is = ap (λ b. content_size (content_view b)) c.in-Stream-Stream.is-0 in
+    let same = ap (λ l. sections_size (sections_from l)) c.as_slice.ensures.value in (omega (arith, c.decreases, is, same), tt)
+
+pub stream_difference-section_difference-requires : goal.stream_difference-section_difference-requires
+stream_difference-section_difference-requires t c =
+    (omega (arith, c.decreases, section_falls c.args.sections.now c.loop-i.i c.index-sections-i.result c.loop-i-test.true c.index-sections-i.is), tt)
+
+pub file_difference-content_difference-requires : goal.file_difference-content_difference-requires
+file_difference-content_difference-requires t c =
+    (omega (arith, c.decreases, content_falls c.args.file.now, ap content_size c.content.ensures), tt)
+
+pub section_difference-body_difference-requires : goal.section_difference-body_difference-requires
+section_difference-body_difference-requires t c =
+    (omega (arith, c.decreases, body_falls c.args.section.now, ap body_size c.body.ensures), tt)
+
+pub volume_difference-files_difference-requires : goal.volume_difference-files_difference-requires
+volume_difference-files_difference-requires t c =
+    let falls : volume_size c.args.volume.now ≡ files_size (files_from c.files.result.now) + 1 = ap volume_size c.files.ensures in
+    (omega (arith, c.decreases, falls), tt)
+
+pub files_difference-file_difference-requires : goal.files_difference-file_difference-requires
+files_difference-file_difference-requires t c =
+    (omega (arith, c.decreases, file_falls c.args.files.now c.loop-i.i c.index-files-i.result c.loop-i-test.true c.index-files-i.is), tt)
+
+-- ---- volumes
+
+pub volume_difference-returns-in-Some : goal.volume_difference-returns-in-Some
+volume_difference-returns-in-Some t c =
+    c.differ_in.ensures
+    ∙ sym (volume_word c.args.volume.now c.args.other.now c.head.result.now c.head-2.result.now c.head_word.result c.in-Some.word
+    c.head.ensures.head c.head-2.ensures.head c.head_word.ensures c.in-Some.is)
+
+-- ---- streams
+
+pub stream_difference-returns-then-sections-others : goal.stream_difference-returns-then-sections-others
+stream_difference-returns-then-sections-others t c =
+    c.differ_in-then-sections-others.ensures
+    ∙ sym (sections_more c.args.sections.now c.args.others.now c.loop-i.i (unless_one (c.args.tail == c.args.other_tail) words.Tail)
+    (omega arith) (omega arith) c.if-sections-others.true c.loop-i.invariant)
+
+-- ---- files
+
+pub files_difference-returns-then-files-others : goal.files_difference-returns-then-files-others
+files_difference-returns-then-files-others t c =
+    c.differ_in-then-files-others.ensures
+    ∙ sym (files_more c.args.files.now c.args.others.now c.loop-i.i (omega arith) (omega arith) c.if-files-others.true c.loop-i.invariant)

@@ -1,0 +1,43 @@
+-- The line of a comparison.
+use Rattle.std.specs.Prelude.{List, [], ◌∷◌, ◌++◌, ℕ, codes, decimal, Some, None}
+use Rattle.fv_text.specs.HexText.{line_feed}
+use Rattle.fv_compare.specs.Difference.{Differs}
+use Rattle.fv_compare.specs.declared.difference.Step.{Step}
+use Rattle.fv_compare.specs.declared.difference.Step.TheVariants as steps
+use Rattle.fv_compare.specs.declared.difference.Word.{Word}
+use Rattle.fv_compare.specs.declared.difference.Word.TheVariants as words
+
+-- a step, followed by a space
+abbrev pub step_text : Step → List ℕ
+step_text (steps.File number) = codes "file " ++ (decimal number ++ codes " ")
+step_text (steps.Section number) = codes "section " ++ (decimal number ++ codes " ")
+
+-- the steps from the outer volume down
+abbrev pub path_text : List Step → List ℕ
+path_text [] = []
+path_text (s ∷ ss) = step_text s ++ path_text ss
+
+-- the text of a kind of difference
+abbrev pub difference_word : Word → List ℕ
+difference_word words.ZeroVector = codes "zero vector"
+difference_word words.FileSystem = codes "file system"
+difference_word words.Length = codes "length"
+difference_word words.VolumeAttributes = codes "volume attributes"
+difference_word words.Reserved = codes "reserved"
+difference_word words.BlockMap = codes "block map"
+difference_word words.ExtendedHeader = codes "extended header"
+difference_word words.FileCount = codes "file count"
+difference_word words.Name = codes "name"
+difference_word words.Type = codes "type"
+difference_word words.Attributes = codes "attributes"
+difference_word words.Data = codes "data"
+difference_word words.SectionCount = codes "section count"
+difference_word words.Tail = codes "tail"
+difference_word words.Form = codes "form"
+difference_word words.Shape = codes "shape"
+difference_word words.Body = codes "body"
+
+-- the line for where two volumes first differ, or for two volumes with the same meaning
+abbrev pub compare_line : Differs → List ℕ
+compare_line None = codes "same" ++ line_feed
+compare_line (Some d) = codes "different at " ++ (path_text d.0 ++ (difference_word d.1 ++ line_feed))

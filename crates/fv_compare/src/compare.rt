@@ -1,0 +1,185 @@
+//! From two inputs to the line that says where their volumes first differ.
+
+ghost use Rattle.std.specs.Prelude.{◌≡◌, ◌≢◌, ◌↔◌, ◌≤◌, ℕ, List, Option, length, true, false};
+ghost use Rattle.std.specs.Prelude.{IfOk, IfErr, OnOk, OnErr};
+ghost use Rattle.fv_base.specs.Faults.{out_of_memory};
+ghost use Rattle.fv_base.specs.Input.{ReadsWhole, ReadStops};
+ghost use Rattle.fv_base.specs.Port.{inner_of, has_erred};
+ghost use Rattle.fv_compare.specs.Runs.{Compares, ComparisonStops, ReadsVolume, RunCompares, SideStopsRun};
+ghost use Rattle.fv_compare.specs.Runs.{VolumeStops};
+ghost use Rattle.fv_compare.specs.ComparisonLines.{compare_line};
+ghost use Rattle.fv_tree.specs.Denotes.{Accepted};
+ghost use Rattle.fv_compare.specs.Difference.{difference};
+
+use crate::comparison_line::put_line;
+use crate::difference::first_difference;
+use crate::side::Side;
+use fv_base::{Fault, FaultKind, Port, Sink, WriteSink, read_input};
+use fv_tree::{VolumeView, whole_volume};
+use std::alloc::Global;
+use std::io::{Read, Write};
+
+/// Puts whether two volumes have the same meaning and, if not, where they first differ: a line
+/// `same`, or `different at` with the steps down to there, each `file` or `section` with its number,
+/// and the kind of the difference. Returns true if they have the same meaning. (PI specification,
+/// volume 3, section 3.2.)
+///
+/// # Errors
+///
+/// OutOfMemory, only if they differ. Nothing was put then.
+pub fn put_comparison<S: Sink>(
+    alloc: Global,
+    first: &VolumeView<'_>,
+    second: &VolumeView<'_>,
+    out: &mut S,
+) -> Result<bool, Fault>
+    ensures same { IfOk result (λ same. (same ≡ true) ↔ (first.now ≡ second.now)) }
+    ensures line { OnOk result (S.takes out.old (compare_line (difference first.now second.now)) out.new) }
+    ensures err { IfErr result (λ f. (f ≡ out_of_memory) × (first.now ≢ second.now)) }
+    ensures untouched { OnErr result (out.new ≡ out.old) }
+
+    // The line is short.
+    ensures short { OnOk result (length (compare_line (difference first.now second.now)) ≤ 553) }
+{
+    // In a volume that was read, groups and volumes nest so little that a difference has at most 18
+    // steps.
+    first.known();
+    let found = first_difference(alloc, first, second)?;
+    put_line(out, found.as_ref());
+    Ok(found.is_none())
+}
+
+/// Writes whether two volumes have the same meaning and, if not, where they first differ: a line
+/// `same`, or `different at` with the steps down to there, each `file` or `section` with its
+/// number, and the kind of the difference. Returns true if they have the same meaning. (PI
+/// specification, volume 3, section 3.2.)
+///
+/// # Errors
+///
+/// OutOfMemory, with the first side; nothing was written then. WriteFault at the number of bytes
+/// written, with the output; exactly that many bytes of the line were written then.
+pub fn write_comparison<W: Write>(
+    alloc: Global,
+    first: &VolumeView<'_>,
+    second: &VolumeView<'_>,
+    writer: &mut Port<W>,
+) -> Result<bool, (Side, Fault)>
+    ensures ok { IfOk result (Compares first.now second.now
+        (W.contents (inner_of writer.old)) (W.contents (inner_of writer.new))) }
+    ensures err { IfErr result (λ e. ComparisonStops e.0 first.now second.now
+        (W.contents (inner_of writer.old)) (W.contents (inner_of writer.new)) e.1) }
+
+    // The writer's fault has the side of the output, and is returned only if the port has erred.
+    ensures writer_fine { OnOk result (has_erred writer.new ≡ has_erred writer.old) }
+    ensures untouched { IfErr result (λ e. e.1.kind ≢ FaultKind.WriteFault → writer.new ≡ writer.old) }
+    ensures writer_erred { IfErr result (λ e. e.1.kind ≡ FaultKind.WriteFault
+        → (e.0 ≡ Side.Output) × (has_erred writer.new ≡ true)) }
+{
+    let mut out = WriteSink::new(writer);
+    let is_same = match put_comparison(alloc, first, second, &mut out) {
+        Ok(is_same) => is_same,
+        Err(fault) => return Err((Side::First, fault)),
+    };
+    match out.outcome() {
+        Ok(()) => Ok(is_same),
+        Err(fault) => Err((Side::Output, fault)),
+    }
+}
+
+// Reads the input of a side to its end.
+fn read_side<R: Read>(
+    alloc: Global,
+    side: Side,
+    reader: &mut Port<R>,
+) -> Result<Vec<u8>, (Side, Fault)>
+    ensures ok { IfOk result (λ v. ReadsWhole
+        (R.remaining (inner_of reader.old)) (R.remaining (inner_of reader.new)) v.items) }
+    ensures err { IfErr result (λ e. (e.0 ≡ side)
+        × ReadStops (R.remaining (inner_of reader.old)) (R.remaining (inner_of reader.new)) e.1) }
+    ensures erred { has_erred reader.old ≡ false
+        → IfErr result (λ e. e.1.kind ≡ FaultKind.ReadFault → has_erred reader.new ≡ true) }
+{
+    match read_input(alloc, reader) {
+        Ok(input) => Ok(input),
+        Err(fault) => Err((side, fault)),
+    }
+}
+
+// The volume of the whole input of a side.
+fn accept_side(alloc: Global, side: Side, input: &[u8]) -> Result<VolumeView<'_>, (Side, Fault)>
+    ensures ok { IfOk result (λ view. Accepted input.now view) }
+    ensures err { IfErr result (λ e. (e.0 ≡ side) × VolumeStops input.now e.1) }
+    ensures kind { IfErr result (λ e. (e.1.kind ≢ FaultKind.ReadFault) × (e.1.kind ≢ FaultKind.WriteFault)) }
+{
+    match whole_volume(alloc, input) {
+        Ok(view) => Ok(view),
+        Err(fault) => Err((side, fault)),
+    }
+}
+
+/// Reads two inputs to their ends, the second only after a first that is a volume, and writes the
+/// line of `write_comparison`. Returns true if they have the same meaning. The inputs and their
+/// views are kept in memory. (PI specification, volume 3, section 3.2.)
+///
+/// # Errors
+///
+/// The side that stopped the run, with the fault. For an input: ReadFault at the number of bytes
+/// read so far, Length at the limit if more bytes come, and the faults of `whole_volume`. If memory
+/// runs out while the two are compared, the side is the first. In all these cases nothing was
+/// written. And the faults of `write_comparison`.
+pub fn run_compare<R: Read, Q: Read, W: Write>(
+    alloc: Global,
+    first: &mut Port<R>,
+    second: &mut Port<Q>,
+    writer: &mut Port<W>,
+) -> Result<bool, (Side, Fault)>
+    ensures ok { IfOk result (RunCompares (R.remaining (inner_of first.old)) (R.remaining (inner_of first.new))
+        (Q.remaining (inner_of second.old)) (Q.remaining (inner_of second.new))
+        (W.contents (inner_of writer.old)) (W.contents (inner_of writer.new))) }
+    ensures err { IfErr result (λ e. SideStopsRun e.0
+        (R.remaining (inner_of first.old)) (R.remaining (inner_of first.new))
+        (Q.remaining (inner_of second.old)) (Q.remaining (inner_of second.new))
+        (W.contents (inner_of writer.old)) (W.contents (inner_of writer.new)) e.1) }
+
+    // A fault of a reader or of the writer has its own side, and is returned only if its port has
+    // erred.
+    ensures first_erred { has_erred first.old ≡ false
+        → IfErr result (λ e. e.0 ≡ Side.First → e.1.kind ≡ FaultKind.ReadFault → has_erred first.new ≡ true) }
+    ensures second_erred { has_erred second.old ≡ false
+        → IfErr result (λ e. e.0 ≡ Side.Second → e.1.kind ≡ FaultKind.ReadFault → has_erred second.new ≡ true) }
+    ensures writer_erred { IfErr result (λ e. e.1.kind ≡ FaultKind.WriteFault
+        → (e.0 ≡ Side.Output) × (has_erred writer.new ≡ true)) }
+{
+    let input = read_side(alloc, Side::First, first)?;
+    let view = accept_side(alloc, Side::First, &input)?;
+    compare_second(alloc, &view, second, writer)
+}
+
+// Reads the second input to its end, and writes the line of `write_comparison` for the first volume
+// and that of the second input.
+fn compare_second<Q: Read, W: Write>(
+    alloc: Global,
+    first: &VolumeView<'_>,
+    second: &mut Port<Q>,
+    writer: &mut Port<W>,
+) -> Result<bool, (Side, Fault)>
+    ensures ok { (unread left : Option (List ℕ)) → ReadsVolume unread left first.now
+        → IfOk result (RunCompares unread left
+        (Q.remaining (inner_of second.old)) (Q.remaining (inner_of second.new))
+        (W.contents (inner_of writer.old)) (W.contents (inner_of writer.new))) }
+    ensures err { (unread left : Option (List ℕ)) → ReadsVolume unread left first.now
+        → IfErr result (λ e. SideStopsRun e.0 unread left
+        (Q.remaining (inner_of second.old)) (Q.remaining (inner_of second.new))
+        (W.contents (inner_of writer.old)) (W.contents (inner_of writer.new)) e.1) }
+
+    // No fault of a reader has the first side.
+    ensures first_read { IfErr result (λ e. e.0 ≡ Side.First → e.1.kind ≢ FaultKind.ReadFault) }
+    ensures second_erred { has_erred second.old ≡ false
+        → IfErr result (λ e. e.0 ≡ Side.Second → e.1.kind ≡ FaultKind.ReadFault → has_erred second.new ≡ true) }
+    ensures writer_erred { IfErr result (λ e. e.1.kind ≡ FaultKind.WriteFault
+        → (e.0 ≡ Side.Output) × (has_erred writer.new ≡ true)) }
+{
+    let input = read_side(alloc, Side::Second, second)?;
+    let view = accept_side(alloc, Side::Second, &input)?;
+    write_comparison(alloc, first, &view, writer)
+}

@@ -1,0 +1,86 @@
+//! The line of a comparison, put into a sink.
+
+ghost use Rattle.std.specs.Prelude.{◌≤◌, ◌+◌, ◌*◌, ◌≡◌, length, option_copied, Some, IfSome};
+ghost use Rattle.fv_compare.specs.ComparisonLines.{compare_line, path_text, step_text, difference_word};
+
+use crate::difference::{Difference, Step, Word};
+use fv_base::Sink;
+use fv_text::put_decimal;
+
+// Puts a step: whether it goes to a file or to a section, its number, and a space.
+fn put_step<S: Sink>(out: &mut S, step: Step)
+    ensures text { S.takes out.old (step_text step) out.new }
+    ensures short { length (step_text step) ≤ 29 }
+{
+    match step {
+        Step::File(number) => {
+            out.put(b"file ");
+            put_decimal(out, number);
+            out.put(b" ");
+        }
+        Step::Section(number) => {
+            out.put(b"section ");
+            put_decimal(out, number);
+            out.put(b" ");
+        }
+    }
+}
+
+// Puts the steps, from the outer volume down.
+fn put_path<S: Sink>(out: &mut S, steps: &[Step])
+    ensures text { S.takes out.old (path_text steps.now) out.new }
+    ensures short { length (path_text steps.now) ≤ 29 * length steps.now }
+{
+    for step in steps {
+        put_step(out, *step);
+    }
+}
+
+// The text of a kind of difference.
+fn difference_word(word: Word) -> &'static str
+    ensures text { result.now ≡ difference_word word }
+    ensures short { length result.now ≤ 17 }
+{
+    match word {
+        Word::ZeroVector => "zero vector",
+        Word::FileSystem => "file system",
+        Word::Length => "length",
+        Word::VolumeAttributes => "volume attributes",
+        Word::Reserved => "reserved",
+        Word::BlockMap => "block map",
+        Word::ExtendedHeader => "extended header",
+        Word::FileCount => "file count",
+        Word::Name => "name",
+        Word::Type => "type",
+        Word::Attributes => "attributes",
+        Word::Data => "data",
+        Word::SectionCount => "section count",
+        Word::Tail => "tail",
+        Word::Form => "form",
+        Word::Shape => "shape",
+        Word::Body => "body",
+    }
+}
+
+// Puts the line for where two volumes first differ.
+fn put_difference<S: Sink>(out: &mut S, difference: &Difference)
+    ensures line { S.takes out.old (compare_line (Some difference.now)) out.new }
+    ensures short { length (compare_line (Some difference.now)) ≤ 31 + 29 * length difference.now.0 }
+{
+    out.put(b"different at ");
+    put_path(out, difference.steps());
+    out.put(difference_word(difference.word()).as_bytes());
+    out.put(b"\n");
+}
+
+// Puts the line for two volumes: where they differ, or that they have the same meaning.
+pub(crate) fn put_line<S: Sink>(out: &mut S, found: Option<&Difference>)
+    requires few { IfSome (option_copied found) (λ d. length d.0 ≤ 18) }
+    ensures line { S.takes out.old (compare_line (option_copied found.entry)) out.new }
+    ensures short { length (compare_line (option_copied found.entry)) ≤ 553 }
+{
+    match found {
+        Some(difference) => put_difference(out, difference),
+        None => out.put(b"same\n"),
+    }
+}

@@ -1,0 +1,321 @@
+//! Where the meanings of two volumes first differ.
+
+ghost use Rattle.std.specs.Prelude.{◌≡◌, ◌≢◌, ◌==◌, true, Some, IfOk, IfErr, IfSome, IfNone};
+ghost use Rattle.fv_base.specs.Faults.{out_of_memory};
+ghost use Rattle.fv_compare.specs.Difference.{has_steps, differ_in, unless_one, or_else, under};
+ghost use Rattle.fv_compare.specs.inner.FoundDifferences.{outermost_first, ReturnsDifference};
+ghost use Rattle.fv_compare.specs.Difference.{difference, files_differ, file_differs, content_differs};
+ghost use Rattle.fv_compare.specs.Difference.{sections_differ, section_differs, body_differs};
+ghost use Rattle.fv_compare.specs.declared.difference.Word.TheVariants as words;
+ghost use Rattle.fv_tree.specs.MeaningParts.{files_from, sections_from};
+ghost use Rattle.fv_tree.specs.Views.{content_view, body_view};
+
+use crate::head_difference::head_word;
+use fv_base::Fault;
+use fv_tree::{Body, Content, FileView, SectionView, VolumeView};
+use std::alloc::Global;
+use std::marker::Model;
+
+/// A step from a volume to one of its files, or from a stream to one of its sections.
+#[derive(Clone, Copy, Debug, PartialEq, Eq)]
+pub enum Step {
+    /// File number n of its volume, counted from 0 in the order of the files.
+    File(u64),
+    /// Section number n of its stream, counted from 0.
+    Section(u64),
+}
+
+/// The kind of a difference between two volumes, at the place that the steps lead to. (PI
+/// specification, volume 3, section 3.2.)
+#[derive(Clone, Copy, Debug, PartialEq, Eq)]
+pub enum Word {
+    /// The zero vectors of the volumes' headers (section 3.2.1).
+    ZeroVector,
+    /// The file systems of the volumes (section 3.2.1).
+    FileSystem,
+    /// The lengths of the volumes (section 3.2.1).
+    Length,
+    /// The attributes of the volumes (section 3.2.1).
+    VolumeAttributes,
+    /// The reserved bytes of the volumes' headers (section 3.2.1).
+    Reserved,
+    /// The block maps of the volumes (section 3.2.1).
+    BlockMap,
+    /// The extended headers of the volumes: their names, their entries, or what follows those
+    /// (section 3.2.1.2).
+    ExtendedHeader,
+    /// The number of files; the files that both volumes have are the same.
+    FileCount,
+    /// The names of the files (section 3.2.3).
+    Name,
+    /// The types of the files (section 3.2.3) or of the sections (section 3.2.4).
+    Type,
+    /// The attributes of the files (section 3.2.3).
+    Attributes,
+    /// The data of the files, if they are not sections.
+    Data,
+    /// The number of sections; the sections that both streams have are the same.
+    SectionCount,
+    /// The number of bytes after the last section.
+    Tail,
+    /// The forms of the sections' headers: one is extended, the other is not (section 3.2.4).
+    Form,
+    /// Whether the sections hold bytes, sections or a volume (section 3.2.5).
+    Shape,
+    /// The bytes of the sections, if these hold neither sections nor a volume.
+    Body,
+}
+
+/// Where two volumes first differ, and the kind of the difference. Contracts see the steps and the
+/// kind.
+#[derive(Drop)]
+pub struct Difference {
+    steps: Vec<Step>,
+    word: Word,
+}
+
+impl Model for Difference {
+    ghost use Rattle.std.specs.Prelude.{List};
+    ghost use Rattle.fv_compare.specs.declared.difference.Step.{Step};
+    ghost use Rattle.fv_compare.specs.declared.difference.Word.{Word};
+
+    ghost Value = { List Step × Word };
+
+    ghost view = { λ d. (d.steps.items, d.word) };
+}
+
+impl Difference {
+    /// The steps from the outer volumes down to the values that differ.
+    pub fn steps(&self) -> &[Step]
+        ensures { result.now ≡ self.now.0 }
+    {
+        self.steps.as_slice()
+    }
+
+    /// The kind of the difference.
+    pub fn word(&self) -> Word
+        ensures { result ≡ self.now.1 }
+    {
+        self.word
+    }
+}
+
+// A difference of this kind, with no step.
+fn differ_in(alloc: Global, word: Word) -> Difference
+    ensures { outermost_first (Some result) ≡ differ_in word }
+{
+    Difference {
+        steps: Vec::new(alloc),
+        word,
+    }
+}
+
+// The difference, seen from one level further out. While it is found, its steps are kept from the
+// innermost out.
+fn under(step: Step, found: Difference) -> Result<Difference, Fault>
+    ensures ok { IfOk result (λ d. outermost_first (Some d) ≡ under step (outermost_first (Some found))) }
+    ensures err { IfErr result (λ f. f ≡ out_of_memory) }
+{
+    let mut found = found;
+    found.steps.push(step)?;
+    Ok(found)
+}
+
+// Where two streams first differ, with the steps from the innermost out.
+#[cycle(differ)]
+fn stream_difference(
+    alloc: Global,
+    sections: &[SectionView],
+    tail: u8,
+    others: &[SectionView],
+    other_tail: u8,
+) -> Result<Option<Difference>, Fault>
+    ensures { ReturnsDifference result (or_else (sections_differ 0 (sections_from sections.now)
+        (sections_from others.now)) (unless_one (tail == other_tail) words.Tail)) }
+{
+    for (i, section) in sections.iter().enumerate() {
+        let Some(other) = others.get(i) else {
+            return Ok(Some(differ_in(alloc, Word::SectionCount)));
+        };
+        if let Some(found) = section_difference(alloc, section, other)? {
+            return Ok(Some(under(Step::Section(i as u64), found)?));
+        }
+    }
+    if sections.len() < others.len() {
+        return Ok(Some(differ_in(alloc, Word::SectionCount)));
+    }
+    if tail != other_tail {
+        return Ok(Some(differ_in(alloc, Word::Tail)));
+    }
+    Ok(None)
+}
+
+// The same for two sections.
+#[cycle(differ)]
+fn section_difference(
+    alloc: Global,
+    section: &SectionView,
+    other: &SectionView,
+) -> Result<Option<Difference>, Fault>
+    ensures { ReturnsDifference result (section_differs section.now other.now) }
+{
+    if section.kind() != other.kind() {
+        return Ok(Some(differ_in(alloc, Word::Type)));
+    }
+    if section.extended() != other.extended() {
+        return Ok(Some(differ_in(alloc, Word::Form)));
+    }
+    body_difference(alloc, section.body(), other.body())
+}
+
+// The same for the bodies of two sections.
+#[cycle(differ)]
+fn body_difference(alloc: Global, body: Body, other: Body) -> Result<Option<Difference>, Fault>
+    ensures { ReturnsDifference result (body_differs (body_view body.entry) (body_view other.entry)) }
+{
+    match (body, other) {
+        (Body::Leaf(x), Body::Leaf(y)) => {
+            if x == y {
+                return Ok(None);
+            }
+            Ok(Some(differ_in(alloc, Word::Body)))
+        }
+        (
+            Body::Group {
+                sections: x,
+                tail: t,
+            },
+            Body::Group {
+                sections: y,
+                tail: u,
+            },
+        ) => stream_difference(alloc, x, t, y, u),
+        (Body::Nested(x), Body::Nested(y)) => volume_difference(alloc, x, y),
+        _ => Ok(Some(differ_in(alloc, Word::Shape))),
+    }
+}
+
+// The same for the contents of two files.
+#[cycle(differ)]
+fn content_difference(
+    alloc: Global,
+    content: &Content,
+    other: &Content,
+) -> Result<Option<Difference>, Fault>
+    ensures { ReturnsDifference result (content_differs (content_view content.now) (content_view other.now)) }
+{
+    match (content, other) {
+        (Content::Plain(x), Content::Plain(y)) => {
+            if x == y {
+                return Ok(None);
+            }
+            Ok(Some(differ_in(alloc, Word::Data)))
+        }
+        (
+            Content::Stream {
+                sections: x,
+                tail: t,
+            },
+            Content::Stream {
+                sections: y,
+                tail: u,
+            },
+        ) => stream_difference(alloc, x.as_slice(), *t, y.as_slice(), *u),
+        _ => Ok(Some(differ_in(alloc, Word::Data))),
+    }
+}
+
+// The same for two files.
+#[cycle(differ)]
+fn file_difference(
+    alloc: Global,
+    file: &FileView,
+    other: &FileView,
+) -> Result<Option<Difference>, Fault>
+    ensures { ReturnsDifference result (file_differs file.now other.now) }
+{
+    if file.name() != other.name() {
+        return Ok(Some(differ_in(alloc, Word::Name)));
+    }
+    if file.kind() != other.kind() {
+        return Ok(Some(differ_in(alloc, Word::Type)));
+    }
+    if file.attributes() != other.attributes() {
+        return Ok(Some(differ_in(alloc, Word::Attributes)));
+    }
+    content_difference(alloc, file.content(), other.content())
+}
+
+// The same for the files of two volumes.
+#[cycle(differ)]
+fn files_difference(
+    alloc: Global,
+    files: &[FileView],
+    others: &[FileView],
+) -> Result<Option<Difference>, Fault>
+    ensures { ReturnsDifference result (files_differ 0 (files_from files.now) (files_from others.now)) }
+{
+    for (i, file) in files.iter().enumerate() {
+        let Some(other) = others.get(i) else {
+            return Ok(Some(differ_in(alloc, Word::FileCount)));
+        };
+        if let Some(found) = file_difference(alloc, file, other)? {
+            return Ok(Some(under(Step::File(i as u64), found)?));
+        }
+    }
+    if files.len() < others.len() {
+        return Ok(Some(differ_in(alloc, Word::FileCount)));
+    }
+    Ok(None)
+}
+
+// The same for two volumes.
+#[cycle(differ)]
+fn volume_difference(
+    alloc: Global,
+    volume: &VolumeView,
+    other: &VolumeView,
+) -> Result<Option<Difference>, Fault>
+    ensures { ReturnsDifference result (difference volume.now other.now) }
+{
+    if let Some(word) = head_word(volume.head(), other.head()) {
+        return Ok(Some(differ_in(alloc, word)));
+    }
+    files_difference(alloc, volume.files(), other.files())
+}
+
+/// Where the meanings of two volumes first differ, or None if the two have the same meaning.
+///
+/// Their headers are compared first, field by field. Then the files that both have are compared in
+/// order, and then the numbers of files. For a file, the name, the type and the attributes are
+/// compared, and then the data; or, if the data are sections, the sections that both have in order,
+/// the numbers of sections, and the numbers of bytes after the last. For a section, the type, the
+/// form of its header, and whether it holds bytes, sections or a volume are compared, and then what
+/// it holds. The work is linear in the two volumes. (PI specification, volume 3, section 3.2.)
+///
+/// # Errors
+///
+/// OutOfMemory at 0, only if they differ at a place to which steps lead.
+pub fn first_difference(
+    alloc: Global,
+    a: &VolumeView,
+    b: &VolumeView,
+) -> Result<Option<Difference>, Fault>
+    ensures first { IfOk result (λ o. o ≡ difference a.now b.now) }
+
+    // None says that the two have the same meaning.
+    ensures same { IfOk result (λ o. IfNone o (a.now ≡ b.now)) }
+
+    // A difference says that they have not.
+    ensures differ { IfOk result (λ o. IfSome o (λ _. a.now ≢ b.now)) }
+
+    // Memory runs out only if they differ at a place to which steps lead.
+    ensures memory { IfErr result (λ _. (a.now ≢ b.now) × (has_steps (difference a.now b.now) ≡ true)) }
+    ensures err { IfErr result (λ f. f ≡ out_of_memory) }
+{
+    let Some(mut found) = volume_difference(alloc, a, b)? else {
+        return Ok(None);
+    };
+    found.steps.as_mut_slice().reverse();
+    Ok(Some(found))
+}

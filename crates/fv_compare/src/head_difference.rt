@@ -1,0 +1,71 @@
+//! Where the headers of two volumes first differ.
+
+ghost use Rattle.std.specs.Prelude.{◌≡◌, option_copied};
+ghost use Rattle.fv_compare.specs.Difference.{blocks_eq, entries_eq, ext_eq, head_differs};
+ghost use Rattle.fv_compare.specs.inner.FoundDifferences.{in_word};
+
+use crate::difference::Word;
+use fv_head::{ExtEntry, ExtHeader, VolumeHead};
+
+// Whether two block maps are equal.
+fn same_blocks(a: &[(u32, u32)], b: &[(u32, u32)]) -> bool
+    ensures { result ≡ blocks_eq a.now b.now }
+{
+    a == b
+}
+
+// Whether the entries of two extended headers are equal.
+fn same_entries(a: &[ExtEntry], b: &[ExtEntry]) -> bool
+    ensures { result ≡ entries_eq a.now b.now }
+{
+    if a.len() != b.len() {
+        return false;
+    }
+    for (i, entry) in a.iter().enumerate() {
+        if entry.kind() != b[i].kind() || entry.payload() != b[i].payload() {
+            return false;
+        }
+    }
+    true
+}
+
+// Whether two extended headers are equal.
+fn same_ext(a: Option<&ExtHeader>, b: Option<&ExtHeader>) -> bool
+    ensures { result ≡ ext_eq (option_copied a.entry) (option_copied b.entry) }
+{
+    match (a, b) {
+        (None, None) => true,
+        (Some(x), Some(y)) => {
+            x.name() == y.name() && same_entries(x.entries(), y.entries()) && x.tail() == y.tail()
+        }
+        _ => false,
+    }
+}
+
+// The kind of the first difference between two headers.
+pub(crate) fn head_word(head: &VolumeHead, other: &VolumeHead) -> Option<Word>
+    ensures { in_word result ≡ head_differs head.now other.now }
+{
+    if head.zero_vector() != other.zero_vector() {
+        return Some(Word::ZeroVector);
+    }
+    if head.file_system() != other.file_system() {
+        return Some(Word::FileSystem);
+    }
+    if head.length() != other.length() {
+        return Some(Word::Length);
+    }
+    if head.attributes() != other.attributes() {
+        return Some(Word::VolumeAttributes);
+    }
+    if head.reserved() != other.reserved() {
+        return Some(Word::Reserved);
+    }
+    if !same_blocks(head.blocks().as_slice(), other.blocks().as_slice()) {
+        return Some(Word::BlockMap);
+    }
+    if !same_ext(head.ext(), other.ext()) {
+        return Some(Word::ExtendedHeader);
+    }
+    None
+}

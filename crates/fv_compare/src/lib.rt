@@ -1,0 +1,12 @@
+//! Where two firmware volumes first differ: in memory, as a line, and by a run over two inputs.
+#![tactic(auto)]
+
+mod compare;
+mod comparison_line;
+mod difference;
+mod head_difference;
+mod side;
+
+pub use compare::{put_comparison, run_compare, write_comparison};
+pub use difference::{Difference, Step, Word, first_difference};
+pub use side::Side;

@@ -1,0 +1,82 @@
+-- The order of the entries of an index: by the names, and by the numbers where two have one name.
+use Rattle.std.proofs.lemmas.Grind.{common_steps}
+use Rattle.std.proofs.Common.{◌≡◌, ◌≤◌, ◌⊎◌, ℕ, false, sym, ap, ◌∙◌, arith, inl, inr}
+use Rattle.std.specs.Prelude.{◌==◌, ◌&&◌}
+use Rattle.std.specs.Bool.{Decides}
+use Rattle.std.specs.Cmp.{IsTotalOrder, IsStrictWeakOrder}
+use Rattle.std.specs.Ordering.{is_lt, nat_cmp, ordering_then}
+use Rattle.std.specs.declared.cmp.Ordering.{Ordering}
+use Rattle.std.specs.declared.cmp.Ordering.TheVariants.{Less, Equal}
+use Rattle.std.proofs.lemmas.Cmp.{nat_cmp_total, on_total, ranked, then_total, tied_itself}
+use Rattle.std.proofs.lemmas.List.MinMax.{ranks_by}
+use Rattle.fv_names.specs.NameIndexes.{Entry, Halves, entry_cmp, halves_cmp}
+
+-- ---- the order is total
+
+front_total : IsTotalOrder (λ (a b : Halves). nat_cmp a.0 b.0)
+front_total = on_total (λ (h : Halves). h.0) nat_cmp_total
+
+back_total : IsTotalOrder (λ (a b : Halves). nat_cmp a.1 b.1)
+back_total = on_total (λ (h : Halves). h.1) nat_cmp_total
+
+halves_total : IsTotalOrder halves_cmp
+halves_total = then_total front_total back_total
+
+number_total : IsTotalOrder (λ (a b : Entry). nat_cmp a.1 b.1)
+number_total = on_total (λ (e : Entry). e.1) nat_cmp_total
+
+first_total : IsTotalOrder (λ (a b : Entry). halves_cmp a.0 b.0)
+first_total = on_total (λ (e : Entry). e.0) halves_total
+
+pub entry_total : IsTotalOrder entry_cmp
+entry_total = then_total first_total number_total
+
+pub less_orders : IsStrictWeakOrder (λ (a b : Entry). is_lt (entry_cmp a b))
+less_orders = ranks_by entry_total (λ (e : Entry). e)
+
+-- ---- what ties is equal
+
+same_pair : {A B : Type 0} (a b : A × B) → a.0 ≡ b.0 → a.1 ≡ b.1 → a ≡ b
+same_pair {A} {B} a b p q = ap (λ (x : A). (x, a.1)) p ∙ ap (λ (y : B). (b.0, y)) q
+
+tied_pair : {A B : Type 0} (R : A → A → Ordering) (S : B → B → Ordering) → ((x y : A) → R x y ≡ Equal → x ≡ y)
+    → ((x y : B) → S x y ≡ Equal → x ≡ y) → (a b : A × B) → ordering_then (R a.0 b.0) (S a.1 b.1) ≡ Equal → a ≡ b
+tied_pair R S first second a b h = grind (arith, common_steps, same_pair)
+
+tied_number : (x y : ℕ) → nat_cmp x y ≡ Equal → x ≡ y
+tied_number x y h = ranked x y Equal (sym h)
+
+tied_halves : (a b : Halves) → halves_cmp a b ≡ Equal → a ≡ b
+tied_halves = tied_pair nat_cmp nat_cmp tied_number tied_number
+
+pub tied_entry : (a b : Entry) → entry_cmp a b ≡ Equal → a ≡ b
+tied_entry = tied_pair halves_cmp nat_cmp tied_halves tied_number
+
+-- the test of the code
+pub halves_decide : (a b : Halves) → Decides ((a.0 == b.0) && (a.1 == b.1)) (a ≡ b)
+halves_decide a b = grind (arith, common_steps, same_pair)
+
+-- ---- entries in their order
+
+-- an entry that is not less than another has a greater name, or the same and no lesser number
+upto : (a b : Entry) → is_lt (entry_cmp b a) ≡ false → (halves_cmp a.0 b.0 ≡ Less) ⊎ ((a.0 ≡ b.0) × (a.1 ≤ b.1))
+upto a b h = grind (arith, common_steps, ranked, tied_halves, halves_total)
+
+never_less : (a b : Halves) → a ≡ b → halves_cmp a b ≡ Less → ⊥
+never_less a b same less = let x : Equal ≡ Less = sym (tied_itself halves_total b) ∙ ap (λ h. halves_cmp h b) (sym same) ∙ less in cc
+
+-- of one name, the numbers rise
+pub numbers_rise : (a b : Entry) → is_lt (entry_cmp b a) ≡ false → a.0 ≡ b.0 → a.1 ≤ b.1
+numbers_rise a b order same = grind (arith, common_steps, upto, never_less)
+
+-- what is between two of one name has it too
+pub one_name_between : (a b c : Entry) → is_lt (entry_cmp b a) ≡ false → is_lt (entry_cmp c b) ≡ false → a.0 ≡ c.0 → b.0 ≡ c.0
+one_name_between a b c low high same = go (upto a b low) (upto b c high) where
+  go : (halves_cmp a.0 b.0 ≡ Less) ⊎ ((a.0 ≡ b.0) × (a.1 ≤ b.1)) → (halves_cmp b.0 c.0 ≡ Less) ⊎ ((b.0 ≡ c.0) × (b.1 ≤ c.1)) → b.0 ≡ c.0
+  go (inr (named, le)) after = sym named ∙ same
+  go (inl less) (inr (named, le)) = named
+  go (inl less) (inl more) = absurd (never_less a.0 c.0 same (halves_total.trans a.0 b.0 c.0 less more))
+
+-- no number is below 0
+pub number_not_below : (a : Entry) (name : Halves) → a.0 ≡ name → entry_cmp a (name, 0) ≡ Less → ⊥
+number_not_below a name same less = grind (arith, common_steps, tied_itself, halves_total, ranked)

@@ -1,0 +1,186 @@
+-- An index of names, in the order of its entries: which file an entry is of, and what is looked up there. The steps:
+-- 1. The entries are the names with their numbers, each once (`of_name`, `place_of`, `apart`).
+-- 2. Entries of one name are side by side, and their numbers rise (`upward`, `beyond`, `between`).
+-- 3. So the first entry of a name, if there is one, is that of the first file of the name (`found_first`, `found_there`, `found_none`).
+use Rattle.std.proofs.lemmas.Grind.{common_steps}
+use Rattle.std.proofs.Common.{◌≡◌, ◌≤◌, ◌<◌, ◌⊎◌, ℕ, ◌+◌, List, [], length, get_or, map, Bool, true, false, refl, sym, ap, ◌∙◌}
+use Rattle.std.proofs.Common.{subst, arith, inl, inr}
+use Rattle.std.specs.Prelude.{◌==◌}
+use Rattle.std.specs.Bool.{Decides}
+use Rattle.std.specs.List.{All, AllWithin, Contains, HoldsAt, IsDistinct, position_or_len, range_with_len}
+use Rattle.std.specs.List.Sorted.{IsNonDecreasingBy}
+use Rattle.std.specs.Ordering.{is_lt, ordering_index}
+use Rattle.std.specs.declared.cmp.Ordering.TheVariants.{Less, Equal, Greater}
+use Rattle.std.proofs.lemmas.Bool.{cases_lt}
+use Rattle.std.proofs.lemmas.Bool.Decides.{Decides-eqb, not_from_Decides}
+use Rattle.std.proofs.lemmas.Cmp.{nat_eq_equiv}
+use Rattle.std.proofs.lemmas.List.{get_or-map, get_or_default, length-map}
+use Rattle.std.proofs.lemmas.List.Elements.{All-get_or, All-map, All-same}
+use Rattle.std.proofs.lemmas.List.FromFn.{get_or-map-range_with_len, get_or-range_with_len, length-map-range_with_len, length-range_with_len}
+use Rattle.std.proofs.lemmas.List.Sorted.{All-permutation, Contains-permutation, IsPermutation-map, searchable_from_sorted, sorted_far}
+use Rattle.std.proofs.lemmas.List.Sums.{position_or_len_is}
+use Rattle.std.proofs.lemmas.Map.Keys.{apart_from_distinct, IsDistinct-IsPermutation, IsDistinct-from_apart}
+use Rattle.fv_base.specs.declared.guid.Guid.{Guid}
+use Rattle.fv_base.proofs.Laws.{at_index, not_equal, first_only}
+use Rattle.fv_names.specs.NameIndexes.{Entry, Halves, IsIndex, IsName, entry_cmp, halves_of, numbered}
+use Rattle.fv_names.specs.NamedFiles.{NamedFile, is_name}
+use Rattle.fv_names.proofs.EntryOrderLaws.{entry_total, less_orders, number_not_below, numbers_rise, one_name_between, tied_entry}
+use Rattle.fv_names.proofs.NumberedLaws.{names_decide, numbered_are, numbers_are}
+
+-- what is read past the files, and past the entries
+abbrev pub no_named : NamedFile
+no_named = record { name = record { bytes = [] }; marked = false }
+
+abbrev pub no_entry : Entry
+no_entry = ((0, 0), 0)
+
+-- ---- the numbers from 0 on
+
+pub below : (n : ℕ) → All (λ m. m < n) (range_with_len 0 n)
+below n k d l = grind (arith, common_steps, length-range_with_len, get_or-range_with_len)
+
+-- no two of them are the same
+all_differ : (n : ℕ) → IsDistinct (λ (a b : ℕ). a == b) (range_with_len 0 n)
+all_differ n = IsDistinct-from_apart (λ (a b : ℕ). a == b) (range_with_len 0 n) (λ i j d lt l.
+    let inside : j < n = omega (arith, l, length-range_with_len 0 n) in
+    not_equal (get_or (range_with_len 0 n) i d) (get_or (range_with_len 0 n) j d) (λ same. omega
+    (arith, get_or-range_with_len 0 n i d (omega (arith, lt, inside)), get_or-range_with_len 0 n j d inside, same, lt)))
+
+-- ---- entries and names
+
+module _ (names : List Guid) (es : List Entry) (index : IsIndex names es) (g : Guid) (e : Entry) where
+  abbrev at : ℕ → Entry
+  at p = get_or es p e
+
+  abbrev entry_of : ℕ → Entry
+  entry_of n = (halves_of (get_or names n g), n)
+
+  entries_are : numbered 0 names ≡ map entry_of (range_with_len 0 (length names))
+  entries_are = numbered_are names entry_of g (λ n l. refl)
+
+  -- the number of an entry is that of a name, whose halves the entry has
+  abbrev IsOfName : Entry → Type 0
+  IsOfName x = (x.1 < length names) × (x.0 ≡ halves_of (get_or names x.1 g))
+
+  pub of_name : (p : ℕ) → p < length es
+      → ((get_or es p e).1 < length names) × ((get_or es p e).0 ≡ halves_of (get_or names (get_or es p e).1 g))
+  of_name p l =
+      let count : ℕ = length names in
+      All-get_or IsOfName es p e l
+      (All-permutation IsOfName (numbered 0 names) es index.all
+      (All-same IsOfName (numbered 0 names) (map entry_of (range_with_len 0 count)) entries_are
+      (All-map IsOfName entry_of (range_with_len 0 count) (λ k d m. (below count k d m, refl)))))
+
+  -- and each name has an entry
+  pub place_of : (n : ℕ) → n < length names
+      → (p : ℕ) × (p < length es) × (get_or es p e ≡ (halves_of (get_or names n g), n))
+  place_of n l =
+      let x : Entry = entry_of n in
+      let count : ℕ = length names in
+      let z : 0 + n ≡ n = omega arith in
+      let has : Contains (map entry_of (range_with_len 0 count)) x =
+      (n, omega (arith, l, length-map-range_with_len entry_of 0 count), get_or-map-range_with_len entry_of 0 count n n x l z) in
+      let r = Contains-permutation (numbered 0 names) es x index.all (subst (λ xs. Contains xs x) (sym entries_are) has) in
+      (r.0, r.1, get_or_default es r.0 e x r.1 ∙ r.2)
+
+  -- two entries have two numbers
+  pub apart : (p q : ℕ) → p < q → q < length es → (get_or es p e).1 ≡ (get_or es q e).1 → ⊥
+  apart p q lt l same =
+      let number : Entry → ℕ = λ x. x.1 in
+      let differ : IsDistinct (λ (a b : ℕ). a == b) (map number es) =
+      IsDistinct-IsPermutation (λ (a b : ℕ). a == b) nat_eq_equiv.symm (map number (numbered 0 names)) (map number es)
+      (IsPermutation-map number (numbered 0 names) es index.all)
+      (subst (IsDistinct (λ (a b : ℕ). a == b)) (sym (numbers_are 0 names)) (all_differ (length names))) in
+      not_from_Decides (get_or (map number es) p e.1 == get_or (map number es) q e.1) (Decides-eqb (get_or (map number es) p e.1)
+      (get_or (map number es) q e.1))
+      (apart_from_distinct (λ (a b : ℕ). a == b) (map number es) p q e.1 differ lt (omega (arith, l, length-map es number)))
+      (get_or-map number es p e e.1 (omega (arith, lt, l)) ∙ same ∙ sym (get_or-map number es q e e.1 l))
+
+  pub in_order : (p q : ℕ) → p ≤ q → q < length es → is_lt (entry_cmp (get_or es q e) (get_or es p e)) ≡ false
+  in_order p q le l = sorted_far (λ (a b : Entry). is_lt (entry_cmp a b)) less_orders es index.ordered p q e le l
+
+  -- of one name the later entry has the greater number
+  pub upward : (p q : ℕ) → p ≤ q → q < length es → (get_or es p e).0 ≡ (get_or es q e).0 → (get_or es p e).1 ≤ (get_or es q e).1
+  upward p q le l same = numbers_rise (at p) (at q) (in_order p q le l) same
+
+  pub beyond : (p q : ℕ) → p < q → q < length es → (get_or es p e).0 ≡ (get_or es q e).0 → (get_or es p e).1 < (get_or es q e).1
+  beyond p q lt l same = first_only (cases_lt (at p).1 (at q).1)
+      (λ most. apart p q lt l (omega (arith, upward p q (omega (arith, lt)) l same, most)))
+
+  -- what is between two entries of one name has it too
+  pub between : (p r q : ℕ) → p ≤ r → r ≤ q → q < length es → (get_or es p e).0 ≡ (get_or es q e).0
+      → (get_or es r e).0 ≡ (get_or es q e).0
+  between p r q low high l same =
+      one_name_between (at p) (at r) (at q) (in_order p r low (omega (arith, high, l))) (in_order r q high l) same
+
+-- ---- a look-up
+
+pub rises : (es : List Entry) (name : Halves) → (names : List Guid) → IsIndex names es
+    → IsNonDecreasingBy (λ e. ordering_index (entry_cmp e (name, 0))) es
+rises es name names index = searchable_from_sorted entry_total (λ (e : Entry). e) es (name, 0) index.ordered
+
+module _ (es : List Entry) (name : Guid) (names : List Guid) (whole : IsName name) (index : IsIndex names es) (e : Entry) where
+  abbrev g : Guid
+  g = no_named.name
+
+  abbrev entry : ℕ → Entry
+  entry p = get_or es p e
+
+  -- the name of a number is this one exactly if the halves are the same
+  named : (n : ℕ) → n < length names → Decides (is_name name (get_or names n g)) (halves_of name ≡ halves_of (get_or names n g))
+  named n l = names_decide name (get_or names n g) whole (at_index IsName names n g index.whole l)
+
+  other : (n : ℕ) → n < length names → (halves_of name ≡ halves_of (get_or names n g) → ⊥) → is_name name (get_or names n g) ≡ false
+  other n l not_so = go (is_name name (get_or names n g)) refl where
+    go : (t : Bool) → is_name name (get_or names n g) ≡ t → t ≡ false
+    go true is = absurd (not_so ((named n l).0 is))
+    go false is = refl
+
+  -- an entry of the name with the least number is that of the first file of the name
+  found : (p : ℕ) → p < length es → (entry p).0 ≡ halves_of name
+      → ((q : ℕ) → q < length es → (entry q).0 ≡ halves_of name → (entry p).1 ≤ (entry q).1)
+      → position_or_len (is_name name) names ≡ (entry p).1
+  found p l is least =
+      let n : ℕ = (entry p).1 in
+      let r = of_name names es index g e p l in
+      let within : n < length names = r.0 in
+      position_or_len_is (is_name name) names n g (omega (arith, within)) (λ k lt.
+      other k (omega (arith, lt, within)) (λ same.
+      let s = place_of names es index g e k (omega (arith, lt, within)) in
+      let number : (entry s.0).1 ≡ k = ap (λ (x : Entry). x.1) s.2 in
+      omega (arith, least s.0 s.1 (ap (λ (x : Entry). x.0) s.2 ∙ sym same), number, lt)))
+      (λ m. (named n m).1 (sym is ∙ r.1))
+
+  pub found_first : (p : ℕ) → p < length es → HoldsAt (λ x. entry_cmp x (halves_of name, 0) ≡ Equal) es p
+      → 0 ≡ position_or_len (is_name name) names
+  found_first p l same =
+      let is : entry p ≡ (halves_of name, 0) = tied_entry (entry p) (halves_of name, 0) (same e) in
+      let number : (entry p).1 ≡ 0 = ap (λ (x : Entry). x.1) is in
+      sym (found p l (ap (λ (x : Entry). x.0) is) (λ q m n. omega (arith, number)) ∙ number)
+
+  module _ (place : ℕ) (less : AllWithin (λ x. entry_cmp x (halves_of name, 0) ≡ Less) es 0 place) where
+    -- the entries of the name are from the place on
+    from_place : (q : ℕ) → (entry q).0 ≡ halves_of name → place ≤ q
+    from_place q is = go (cases_lt q place) where
+      go : (q < place) ⊎ (place ≤ q) → place ≤ q
+      go (inl l) = absurd (number_not_below (entry q) (halves_of name) is (less q e (omega arith) l))
+      go (inr l) = l
+
+    pub found_there : place < length es → (get_or es place e).0 ≡ halves_of name
+        → (get_or es place e).1 ≡ position_or_len (is_name name) names
+    found_there l is = sym (found place l is (λ q m named. upward names es index g e place q (from_place q named) m (is ∙ sym named)))
+
+    pub found_none : AllWithin (λ x. entry_cmp x (halves_of name, 0) ≡ Greater) es place (length es)
+        → (place < length es → (get_or es place e).0 ≡ halves_of name → ⊥) → length names ≡ position_or_len (is_name name) names
+    found_none more not_there =
+        sym (position_or_len_is (is_name name) names (length names) g (omega arith) (λ k l.
+        other k l (λ same. never k l (place_of names es index g e k l) same)) (λ l. absurd (omega (arith, l))))
+      where
+        never : (k : ℕ) → k < length names → (p : ℕ) × (p < length es) × (entry p ≡ (halves_of (get_or names k g), k))
+            → halves_of name ≡ halves_of (get_or names k g) → ⊥
+        never k l (q, within, is) same =
+            let key : (entry q).0 ≡ halves_of name = ap (λ (x : Entry). x.0) is ∙ sym same in
+            let le : place ≤ q = from_place q key in
+            let inside : place < length es = omega (arith, le, within) in
+            not_there inside (one_name_between (halves_of name, 0) (entry place) (entry q)
+            (ap is_lt (more place e (omega arith) inside)) (in_order names es index g e place q le within) (sym key) ∙ key)

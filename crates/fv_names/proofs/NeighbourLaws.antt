@@ -1,0 +1,304 @@
+-- Entries of one name are side by side, in the order of their numbers: so the first file with an earlier twin, and the files
+-- that are replaced, are found from neighbours. The steps:
+-- 1. Two files have one name, are twins, or one replaces the other, exactly if their entries say so (`one_name`, `twins`, `replaces_at`).
+-- 2. Of the entries between two twins, one has a twin among the two before it (`near`). So the least number of such an entry is that
+--    of the first file with an earlier twin (`twin_before`, `first_none`).
+-- 3. If there are no twins, a marked file is replaced exactly if its entry shares its name (`beside`, `replaced_back`).
+-- 4. If no entry shares its name, there are no twins, and no file is replaced (`apart_twins`, `none_replaced`).
+use Rattle.std.proofs.lemmas.Grind.{common_steps}
+use Rattle.std.proofs.Common.{◌≡◌, ◌≤◌, ◌<◌, ◌⊎◌, ℕ, zero, suc, ◌+◌, ◌-◌, List, [], ◌∷◌, length, take, get_or, map, Bool, true}
+use Rattle.std.proofs.Common.{false, refl, sym, ap, ◌∙◌, subst, arith, inl, inr}
+use Rattle.std.specs.Prelude.{◌&&◌, not}
+use Rattle.std.specs.Bool.{Decides, beq}
+use Rattle.std.specs.Cmp.{booleans_Decides}
+use Rattle.std.specs.List.{AllByRecursion, list_any}
+use Rattle.std.proofs.lemmas.Bool.{cases_lt}
+use Rattle.std.proofs.lemmas.Bool.Decides.{Decides-and, not_from_Decides}
+use Rattle.std.proofs.lemmas.List.{get_or_default, get_or-map, get_or-take, length-map, length-take-le, take_all}
+use Rattle.std.proofs.lemmas.List.Elements.{All-from_get_or, recursion_from_All}
+use Rattle.std.proofs.lemmas.List.Folds.{Any-from_list_any, list_any_at, list_any_none}
+use Rattle.fv_base.specs.declared.guid.Guid.{Guid}
+use Rattle.fv_base.proofs.Laws.{at_index}
+use Rattle.fv_names.specs.NamedFiles.{NamedFile, NoTwins, is_twin, names_in, replaced_by, same_name}
+use Rattle.fv_names.specs.NameIndexes.{AllApart, Entry, IsIndex, IsName, halves_of}
+use Rattle.fv_names.specs.inner.NameOrders.{AreTwins, IsTwinAt, SharesItsName, mark_at}
+use Rattle.fv_names.proofs.IndexLaws.{between, beyond, no_named, of_name, place_of, upward}
+use Rattle.fv_names.proofs.NumberedLaws.{names_decide}
+
+-- ---- twins among some files
+
+none_at : (test : NamedFile → Bool) (fs : List NamedFile) (k : ℕ) (d : NamedFile) → list_any test fs ≡ false → k < length fs
+    → test (get_or fs k d) ≡ false
+none_at test fs k d h l = grind (arith, common_steps, list_any_at)
+
+twins_apart : (fs : List NamedFile) (i j : ℕ) (d : NamedFile) → NoTwins fs → i < j → j < length fs
+    → is_twin (get_or fs i d) (get_or fs j d) ≡ false
+twins_apart [] i j d none p q = absurd (omega (arith, q))
+twins_apart (f ∷ fs) zero zero d none p q = absurd (omega (arith, p))
+twins_apart (f ∷ fs) zero (suc j) d none p q = none_at (is_twin f) fs j d none.0 (omega (arith, q))
+twins_apart (f ∷ fs) (suc i) zero d none p q = absurd (omega (arith, p))
+twins_apart (f ∷ fs) (suc i) (suc j) d none p q = twins_apart fs i j d none.1 (omega (arith, p)) (omega (arith, q))
+
+no_twins_from : (fs : List NamedFile) (d : NamedFile)
+    → ((i j : ℕ) → i < j → j < length fs → is_twin (get_or fs i d) (get_or fs j d) ≡ false) → NoTwins fs
+no_twins_from [] d h = tt
+no_twins_from (f ∷ fs) d h = (
+  list_any_none (is_twin f) fs (All-from_get_or (λ g. is_twin f g ≡ false) fs d (λ k l. h 0 (suc k) (omega arith) (omega (arith, l)))),
+  no_twins_from fs d (λ i j p q. h (suc i) (suc j) (omega (arith, p)) (omega (arith, q))),
+)
+
+-- of three marks, two are the same
+two_same : (a b c : Bool) → (a ≡ b) ⊎ ((b ≡ c) ⊎ (a ≡ c))
+two_same true true c = inl refl
+two_same false false c = inl refl
+two_same true false true = inr (inr refl)
+two_same true false false = inr (inl refl)
+two_same false true false = inr (inr refl)
+two_same false true true = inr (inl refl)
+
+-- ---- the files of an index
+
+module _ (fs : List NamedFile) (es : List Entry) (index : IsIndex (names_in fs) es) (d : NamedFile) (e : Entry) where
+  abbrev at : ℕ → Entry
+  at p = get_or es p e
+
+  abbrev file : ℕ → NamedFile
+  file p = get_or fs (get_or es p e).1 d
+
+  names_length : length (names_in fs) ≡ length fs
+  names_length = length-map fs (λ (f : NamedFile). f.name)
+
+  name_at : (n : ℕ) → n < length fs → get_or (names_in fs) n d.name ≡ (get_or fs n d).name
+  name_at n l = get_or-map (λ (f : NamedFile). f.name) fs n d d.name l
+
+  pub number_within : (p : ℕ) → p < length es → (get_or es p e).1 < length fs
+  number_within p l = omega (arith, (of_name (names_in fs) es index d.name e p l).0, names_length)
+
+  -- each file has an entry
+  pub entry_of : (n : ℕ) → n < length fs → (p : ℕ) × (p < length es) × ((get_or es p e).1 ≡ n)
+  entry_of n l =
+      let r = place_of (names_in fs) es index d.name e n (omega (arith, l, names_length)) in
+      (r.0, r.1, ap (λ (x : Entry). x.1) r.2)
+
+  has_name : (p : ℕ) → p < length es → (at p).0 ≡ halves_of (file p).name
+  has_name p l = (of_name (names_in fs) es index d.name e p l).1 ∙ ap halves_of (name_at (at p).1 (number_within p l))
+
+  whole_name : (p : ℕ) → p < length es → IsName (file p).name
+  whole_name p l =
+      let n : ℕ = (at p).1 in
+      let low : n < length fs = number_within p l in
+      subst IsName (name_at n low) (at_index IsName (names_in fs) n d.name index.whole (omega (arith, low, names_length)))
+
+  -- files have one name exactly if their entries have, and are twins exactly if these are
+  one_name : (p q : ℕ) → p < length es → q < length es → Decides (same_name (file p) (file q)) ((at p).0 ≡ (at q).0)
+  one_name p q k l =
+      let a : Guid = (file p).name in
+      let b : Guid = (file q).name in
+      let names = names_decide a b (whole_name p k) (whole_name q l) in (
+        λ h. has_name p k ∙ names.0 h ∙ sym (has_name q l),
+        λ h. names.1 (sym (has_name p k) ∙ h ∙ has_name q l),
+      )
+
+  twins : (p q : ℕ) → p < length es → q < length es → Decides (is_twin (file p) (file q)) (AreTwins fs d (at p) (at q))
+  twins p q k l =
+      Decides-and (same_name (file p) (file q)) (beq (file p).marked (file q).marked) (one_name p q k l)
+      (booleans_Decides (file p).marked (file q).marked)
+
+  -- ---- the first twin
+
+  twin_since : (p q : ℕ) → p < q → q < length es → AreTwins fs d (at p) (at q)
+      → list_any (is_twin (file q)) (take (at q).1 fs) ≡ true
+  twin_since p q lt l h =
+      let i : ℕ = (at p).1 in
+      let n : ℕ = (at q).1 in
+      let less : i < n = beyond (names_in fs) es index d.name e p q lt l h.0 in
+      let within : n < length fs = number_within q l in
+      list_any_at (is_twin (file q)) (take n fs) i d (omega (arith, less, length-take-le n fs (omega (arith, within))))
+      (ap (is_twin (file q)) (get_or-take n fs i d less) ∙ (twins q p l (omega (arith, lt, l))).1 (sym h.0, sym h.1))
+
+  -- a file that has a twin among the two entries before it has an earlier one
+  pub twin_before : (q : ℕ) → 0 < q → q < length es → IsTwinAt fs d es e q
+      → list_any (is_twin (get_or fs (get_or es q e).1 d)) (take (get_or es q e).1 fs) ≡ true
+  twin_before q above l (inl h) = twin_since (q - 1) q (omega (arith, above)) l h
+  twin_before q above l (inr h) = twin_since (q - 2) q (omega (arith, above)) l h
+
+  -- an entry that has a twin before it has one among the two before it, or the entry before it has
+  near : (p q : ℕ) → p < q → q < length es → AreTwins fs d (at p) (at q)
+      → (r : ℕ) × (0 < r) × (r < length es) × ((at r).1 ≤ (at q).1) × IsTwinAt fs d es e r
+  near p q lt l h = go (cases_lt (p + 1) q) where
+    mark : ℕ → Bool
+    mark r = mark_at fs d (at r).1
+
+    named : (r : ℕ) → p ≤ r → r ≤ q → (at r).0 ≡ (at q).0
+    named r low high = between (names_in fs) es index d.name e p r q low high l h.0
+
+    Near : Type 0
+    Near = (r : ℕ) × (0 < r) × (r < length es) × ((at r).1 ≤ (at q).1) × IsTwinAt fs d es e r
+
+    here : IsTwinAt fs d es e q → Near
+    here twin = (q, omega (arith, lt), l, omega arith, twin)
+
+    three : p + 1 < q → (mark (q - 2) ≡ mark (q - 1)) ⊎ ((mark (q - 1) ≡ mark q) ⊎ (mark (q - 2) ≡ mark q)) → Near
+    three more (inl same) =
+        let two : q - 2 ≡ q - 1 - 1 = omega (arith, more) in
+        let before : (at (q - 1)).0 ≡ (at q).0 = named (q - 1) (omega (arith, more)) (omega arith) in
+        let twin : AreTwins fs d (at (q - 2)) (at (q - 1)) = (named (q - 2) (omega (arith, more)) (omega arith) ∙ sym before, same) in (
+          q - 1,
+          omega (arith, more),
+          omega (arith, l),
+          upward (names_in fs) es index d.name e (q - 1) q (omega arith) l before,
+          inl (subst (λ (k : ℕ). AreTwins fs d (at k) (at (q - 1))) two twin),
+        )
+    three more (inr (inl same)) = here (inl (named (q - 1) (omega (arith, more)) (omega arith), same))
+    three more (inr (inr same)) = here (inr (named (q - 2) (omega (arith, more)) (omega arith), same))
+
+    go : (p + 1 < q) ⊎ (q ≤ p + 1) → Near
+    go (inl more) = three more (two_same (mark (q - 2)) (mark (q - 1)) (mark q))
+    go (inr last) =
+        let one : p ≡ q - 1 = omega (arith, lt, last) in here (inl (subst (λ (k : ℕ). AreTwins fs d (at k) (at q)) one h))
+
+  -- before the least number with a twin among the two entries before it, there are no twins
+  pub first_none : (n : ℕ) → n ≤ length fs
+      → ((r : ℕ) → 0 < r → r < length es → IsTwinAt fs d es e r → n ≤ (get_or es r e).1) → NoTwins (take n fs)
+  first_none n most least = no_twins_from (take n fs) d (λ i j p q.
+      let low : j < n = omega (arith, q, length-take-le n fs most) in
+      ap (λ f. is_twin f (get_or (take n fs) j d)) (get_or-take n fs i d (omega (arith, p, low)))
+      ∙ ap (is_twin (get_or fs i d)) (get_or-take n fs j d low) ∙ one i j p low (is_twin (get_or fs i d) (get_or fs j d)) refl)
+    where
+      found : (i j k m : ℕ) → i < j → j < n → k < length es → m < length es → (at k).1 ≡ i → (at m).1 ≡ j
+          → AreTwins fs d (at k) (at m) → (k < m) ⊎ (m ≤ k) → ⊥
+      found i j k m p q x y first second twin (inl lt) =
+          let r = near k m lt y twin in
+          let low : n ≤ (at r.0).1 = least r.0 r.1 r.2 r.4 in
+          omega (arith, low, r.3, second, q)
+      found i j k m p q x y first second twin (inr le) =
+          let back : (at m).1 ≤ (at k).1 = upward (names_in fs) es index d.name e m k le x (sym twin.0) in
+          omega (arith, back, first, second, p)
+
+      one : (i j : ℕ) → i < j → j < n → (t : Bool) → is_twin (get_or fs i d) (get_or fs j d) ≡ t → t ≡ false
+      one i j p q false h = refl
+      one i j p q true h =
+          let a = entry_of i (omega (arith, p, q, most)) in
+          let b = entry_of j (omega (arith, q, most)) in
+          let same : is_twin (file a.0) (file b.0) ≡ true =
+          ap (λ (k : ℕ). is_twin (get_or fs k d) (file b.0)) a.2 ∙ ap (λ (k : ℕ). is_twin (get_or fs i d) (get_or fs k d)) b.2 ∙ h in
+          absurd (found i j a.0 b.0 p q a.1 b.1 a.2 b.2 ((twins a.0 b.0 a.1 b.1).0 same) (cases_lt a.0 b.0))
+
+  -- ---- files that are replaced
+
+  replaces_at : (p q : ℕ) → p < length es → q < length es → Decides (replaced_by (file p) (file q)) (((at p).0 ≡ (at q).0)
+      × (((file p).marked ≡ true) × (not (file q).marked ≡ true)))
+  replaces_at p q k l =
+      let m : Bool = (file p).marked in
+      let n : Bool = not (file q).marked in
+      Decides-and (same_name (file p) (file q)) (m && n) (one_name p q k l)
+      (Decides-and m n ((λ h. h), (λ h. h)) ((λ h. h), (λ h. h)))
+
+  -- of two files with one name that are no twins, the marked one is replaced
+  beside : (p q : ℕ) → p < length es → q < length es → (p < q) ⊎ (q < p) → NoTwins fs → (at q).0 ≡ (at p).0
+      → (file p).marked ≡ true → list_any (replaced_by (file p)) fs ≡ true
+  beside p q k l order none same marked =
+      list_any_at (replaced_by (file p)) fs (at q).1 d (number_within q l)
+      ((replaces_at p q k l).1 (sym same, (marked, plain (file q).marked refl)))
+    where
+      twin : (r s : ℕ) → r < s → s < length es → AreTwins fs d (at r) (at s) → ⊥
+      twin r s lt m both =
+          not_from_Decides (is_twin (file r) (file s)) (twins r s (omega (arith, lt, m)) m)
+          (twins_apart fs (at r).1 (at s).1 d none (beyond (names_in fs) es index d.name e r s lt m both.0) (number_within s m)) both
+
+      never : (p < q) ⊎ (q < p) → (file q).marked ≡ (file p).marked → ⊥
+      never (inl lt) alike = twin p q lt l (sym same, sym alike)
+      never (inr lt) alike = twin q p lt k (same, alike)
+
+      plain : (t : Bool) → (file q).marked ≡ t → not t ≡ true
+      plain false is = refl
+      plain true is = absurd (never order (is ∙ sym marked))
+
+  -- only a marked file whose entry shares its name is replaced
+  pub replaced_back : (p : ℕ) → p < length es → list_any (replaced_by (get_or fs (get_or es p e).1 d)) fs ≡ true
+      → SharesItsName es e p × (mark_at fs d (get_or es p e).1 ≡ true)
+  replaced_back p l h =
+      let r = Any-from_list_any (replaced_by (file p)) fs h in
+      let b = entry_of r.0 r.2 in
+      let is : file b.0 ≡ r.1 = ap (λ (n : ℕ). get_or fs n d) b.2 ∙ get_or_default fs r.0 d r.1 r.2 ∙ r.3 in
+      let parts = (replaces_at p b.0 l b.1).0 (ap (replaced_by (file p)) is ∙ r.4) in
+      (side b.0 b.1 parts.0 parts.1.1 parts.1.0 (cases_lt p b.0) (cases_lt b.0 p), parts.1.0)
+    where
+      itself : (m : Bool) → m ≡ true → not m ≡ true → ⊥
+      itself m x y = cc
+
+      side : (q : ℕ) → q < length es → (at p).0 ≡ (at q).0 → not (file q).marked ≡ true
+          → (file p).marked ≡ true → (p < q) ⊎ (q ≤ p) → (q < p) ⊎ (p ≤ q) → SharesItsName es e p
+      side q m same plain marked (inl lt) other =
+          inr (
+            omega (arith, lt, m),
+            between (names_in fs) es index d.name e p (p + 1) q (omega arith) (omega (arith, lt)) m same
+                ∙ sym same,
+          )
+      side q m same plain marked (inr le) (inl lt) =
+          inl (omega (arith, lt), between (names_in fs) es index d.name e q (p - 1) p (omega (arith, lt)) (omega arith) l (sym same))
+      side q m same plain marked (inr le) (inr ge) =
+          let here : q ≡ p = omega (arith, le, ge) in
+          absurd (itself (file p).marked marked
+          (ap (λ (k : ℕ). not (file k).marked) (sym here) ∙ plain))
+
+  -- so of an entry that shares its name the mark says whether its file is replaced; that of any other entry is not
+  pub marked_replaced : NoTwins fs → (p : ℕ) (t : Bool) → p < length es → SharesItsName es e p → t ≡ mark_at fs d (get_or es p e).1
+      → t ≡ list_any (replaced_by (get_or fs (get_or es p e).1 d)) fs
+  marked_replaced none p true l (inl h) is = sym (beside p (p - 1) l (omega (arith, l)) (inr (omega (arith, h.0))) none h.1 (sym is))
+  marked_replaced none p true l (inr h) is = sym (beside p (p + 1) l h.0 (inl (omega arith)) none h.1 (sym is))
+  marked_replaced none p false l h is = go (list_any (replaced_by (file p)) fs) refl where
+    go : (u : Bool) → list_any (replaced_by (file p)) fs ≡ u → false ≡ u
+    go true x = is ∙ (replaced_back p l x).1
+    go false x = refl
+
+  pub alone_kept : (p : ℕ) (t : Bool) → p < length es → t ≡ false → (SharesItsName es e p → t ≡ true)
+      → t ≡ list_any (replaced_by (get_or fs (get_or es p e).1 d)) fs
+  alone_kept p t l is all = go (list_any (replaced_by (file p)) fs) refl where
+    go : (u : Bool) → list_any (replaced_by (file p)) fs ≡ u → t ≡ u
+    go true x = all (replaced_back p l x).0
+    go false x = is
+
+  -- ---- names that differ
+
+  module _ (apart : AllApart es) where
+    no_twin_at : (r : ℕ) → 0 < r → r < length es → IsTwinAt fs d es e r → ⊥
+    no_twin_at r above l (inl h) = apart e r above l h.0
+    no_twin_at r above l (inr h) =
+        apart e r above l (between (names_in fs) es index d.name e (r - 2) (r - 1) r (omega arith) (omega arith) l h.0)
+
+    -- there are no twins
+    pub apart_twins : NoTwins fs
+    apart_twins =
+        subst NoTwins (take_all (length fs) fs (omega arith)) (first_none (length fs) (omega arith) (λ r above l twin.
+        absurd (no_twin_at r above l twin)))
+
+    alone : (p : ℕ) → p < length es → SharesItsName es e p → ⊥
+    alone p l (inl h) = apart e p h.0 l h.1
+    alone p l (inr h) =
+        let one : p + 1 - 1 ≡ p = omega arith in
+        apart e (p + 1) (omega arith) h.0 (ap (λ (k : ℕ). (at k).0) one ∙ sym h.1)
+
+    not_replaced : (n : ℕ) → n < length fs → (t : Bool) → list_any (replaced_by (get_or fs n d)) fs ≡ t → t ≡ false
+    not_replaced n l false h = refl
+    not_replaced n l true h =
+        let r = entry_of n l in
+        absurd (alone r.0 r.1 (replaced_back r.0 r.1 (ap (λ (k : ℕ). list_any (replaced_by (get_or fs k d)) fs) r.2 ∙ h)).0)
+
+    -- and no file is replaced
+    pub none_replaced : AllByRecursion (λ f. list_any (replaced_by f) fs ≡ false) fs
+    none_replaced = recursion_from_All _ fs
+        (All-from_get_or (λ f. list_any (replaced_by f) fs ≡ false) fs d (λ n l. not_replaced n l _ refl))
+
+-- ---- the files of the code
+
+-- the number of an entry is that of a file
+pub file_within : {X : Type 0} (form : X → NamedFile) (files : List X) (es : List Entry) → IsIndex (names_in (map form files)) es
+    → (x : Entry) (p : ℕ) → p < length es → x ≡ get_or es p x → x.1 < length files
+file_within form files es index x p l is =
+    omega (
+      arith,
+      number_within (map form files) es index no_named x p l,
+      ap (λ (y : Entry). y.1) is,
+      length-map files form,
+    )

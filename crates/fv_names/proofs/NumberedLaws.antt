@@ -1,0 +1,67 @@
+-- Names of sixteen bytes as two numbers, and names with the numbers of their files.
+use Rattle.std.proofs.Common.{◌≡◌, ◌≤◌, ◌<◌, ℕ, zero, suc, ◌+◌, List, [], ◌∷◌, ◌++◌, length, take, drop, get_or, map, refl, sym, ap}
+use Rattle.std.proofs.Common.{◌∙◌, arith}
+use Rattle.std.specs.Bool.{Decides}
+use Rattle.std.specs.Int.{from_le_bytes, to_le_bytes, w64}
+use Rattle.std.specs.List.{range_with_len}
+use Rattle.std.specs.Str.{bytes_eq}
+use Rattle.std.proofs.lemmas.Bool.Decides.{Decides-like}
+use Rattle.std.proofs.lemmas.List.{length-drop, length-take-le, take-append-drop, take_all}
+use Rattle.std.proofs.lemmas.List.FromFn.{fill_by_all}
+use Rattle.std.proofs.lemmas.Nat.{le_bytes_8}
+use Rattle.std.proofs.lemmas.Slice.Eq.{bytes_eq-Decides}
+use Rattle.fv_base.specs.Guids.{bytes_of}
+use Rattle.fv_base.specs.Value.{IsBytes, field}
+use Rattle.fv_base.specs.declared.guid.Guid.{Guid}
+use Rattle.fv_base.proofs.Laws.{bytes_drop, bytes_take}
+use Rattle.fv_names.specs.NameIndexes.{Entry, Halves, IsName, halves_in, halves_of, numbered}
+
+-- ---- a name and its halves
+
+half_back : (at : ℕ) (b : List ℕ) → IsBytes b → at + 8 ≤ length b → to_le_bytes w64 (from_le_bytes w64 (field at 8 b)) ≡ field at 8 b
+half_back at b small within =
+    let long : length (field at 8 b) ≡ 8 = length-take-le 8 (drop at b) (omega (arith, within, length-drop at b)) in
+    le_bytes_8 (field at 8 b) (from_le_bytes w64 (field at 8 b)) long (bytes_take 8 (drop at b) (bytes_drop at b small)) refl
+
+-- the halves spell the name again
+halves_back : (name : Guid) → IsName name
+    → to_le_bytes w64 (halves_of name).0 ++ to_le_bytes w64 (halves_of name).1 ≡ bytes_of name
+halves_back name whole =
+    let b : List ℕ = bytes_of name in
+    let long : length b ≡ 16 = whole.0 in
+    let rest : take 8 (drop 8 b) ≡ drop 8 b = take_all 8 (drop 8 b) (omega (arith, long, length-drop 8 b)) in
+    ap (λ (f : List ℕ). f ++ to_le_bytes w64 (halves_of name).1) (half_back 0 b whole.1 (omega (arith, long)))
+    ∙ ap (λ (f : List ℕ). field 0 8 b ++ f) (half_back 8 b whole.1 (omega (arith, long)) ∙ rest) ∙ take-append-drop 8 b
+
+-- so names are the same exactly if their halves are
+pub names_decide : (a b : Guid) → IsName a → IsName b → Decides (bytes_eq (bytes_of a) (bytes_of b)) (halves_of a ≡ halves_of b)
+names_decide a b p q =
+    Decides-like (bytes_eq (bytes_of a) (bytes_of b)) (λ e. ap halves_in e)
+    (λ e. sym (halves_back a p) ∙ ap (λ (h : Halves). to_le_bytes w64 h.0 ++ to_le_bytes w64 h.1) e ∙ halves_back b q)
+    (bytes_eq-Decides (bytes_of a) (bytes_of b))
+
+-- ---- names with their numbers
+
+pub numbered_length : (k : ℕ) (names : List Guid) → length (numbered k names) ≡ length names
+numbered_length k [] = refl
+numbered_length k (m ∷ names) = ap suc (numbered_length (k + 1) names)
+
+pub numbered_at : (k : ℕ) (names : List Guid) (i : ℕ) (g : Guid) (e : Entry) → i < length names
+    → get_or (numbered k names) i e ≡ (halves_of (get_or names i g), k + i)
+numbered_at k [] i g e l = absurd (omega (arith, l))
+numbered_at k (m ∷ names) zero g e l = let z : k ≡ k + 0 = omega arith in ap (λ (j : ℕ). (halves_of m, j)) z
+numbered_at k (m ∷ names) (suc i) g e l =
+    let z : k + 1 + i ≡ k + suc i = omega arith in
+    numbered_at (k + 1) names i g e (omega (arith, l)) ∙ ap (λ (j : ℕ). (halves_of (get_or names i g), j)) z
+
+-- they are the entries of the numbers from 0 on
+pub numbered_are : (names : List Guid) (entry : ℕ → Entry) (g : Guid) → ((n : ℕ) → n < length names → (halves_of (get_or names n g), n) ≡ entry n)
+    → numbered 0 names ≡ map entry (range_with_len 0 (length names))
+numbered_are names entry g is =
+    let e : Entry = ((0, 0), 0) in
+    fill_by_all entry (numbered 0 names) (length names) e (numbered_length 0 names) (λ k l.
+    let z : 0 + k ≡ k = omega arith in numbered_at 0 names k g e l ∙ ap (λ (j : ℕ). (halves_of (get_or names k g), j)) z ∙ is k l)
+
+pub numbers_are : (k : ℕ) (names : List Guid) → map (λ (x : Entry). x.1) (numbered k names) ≡ range_with_len k (length names)
+numbers_are k [] = refl
+numbers_are k (m ∷ names) = ap (λ (ks : List ℕ). k ∷ ks) (numbers_are (k + 1) names)

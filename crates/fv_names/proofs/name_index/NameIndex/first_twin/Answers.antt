@@ -1,0 +1,69 @@
+use Rattle.std.proofs.Common.{◌≡◌, ◌<◌, ◌≤◌, ◌⊎◌, ◌+◌, ℕ, List, length, map, take, get_or, sym, ap, ◌∙◌, subst, arith, true, inl, inr, rules}
+use Rattle.std.specs.List.{list_any}
+use Rattle.std.proofs.lemmas.Bool.{cases_lt}
+use Rattle.std.proofs.lemmas.List.{get_or_default, length-map}
+use Rattle.fv_names.specs.NamedFiles.{NamedFile, is_twin}
+use Rattle.fv_names.specs.NameIndexes.{Entry}
+use Rattle.fv_names.specs.inner.NameOrders.{IsTwinAt}
+use Rattle.fv_names.proofs.IndexLaws.{no_entry, no_named}
+use Rattle.fv_names.proofs.NeighbourLaws.{first_none, twin_before}
+use Rattle.fv_names.proofs.name_index.NameIndex.first_twin.Goals as goal
+use Rattle.fv_names.proofs.name_index.NameIndex.first_twin.Goals.{then-number-first+then-has_twin, else-number-first}
+use Rattle.fv_names.proofs.name_index.NameIndex.first_twin.Goals.{else-number-first-via-then-number-first+else-has_twin}
+use Rattle.fv_names.proofs.name_index.NameIndex.first_twin.Goals.{else-number-first-via-else-number-first}
+
+-- n is no more than the number of an entry before the place that has a twin near it
+abbrev IsLeast : List NamedFile → List Entry → ℕ → ℕ → Type 0
+IsLeast fs es place n =
+    (d : NamedFile) (e : Entry) (r : ℕ) → 0 < r → r < place → IsTwinAt fs d es e r → n ≤ (get_or es r e).1
+
+least_more : (fs : List NamedFile) (es : List Entry) (place n m : ℕ) → IsLeast fs es place n → m ≤ n
+    → ((d : NamedFile) (e : Entry) → IsTwinAt fs d es e place → m ≤ (get_or es place e).1) → IsLeast fs es (place + 1) m
+least_more fs es place n m old le here d e r above below twin = go (cases_lt r place) where
+  go : (r < place) ⊎ (place ≤ r) → m ≤ (get_or es r e).1
+  go (inl lt) = omega (arith, old d e r above lt twin, le)
+  go (inr ge) =
+      let same : r ≡ place = omega (arith, ge, below) in
+      let now : IsTwinAt fs d es e place = subst (IsTwinAt fs d es e) same twin in
+      let most : m ≤ (get_or es place e).1 = here d e now in
+      subst (λ (k : ℕ). m ≤ (get_or es k e).1) (sym same) most
+
+pub loop-place-preserved : goal.loop-place-preserved
+loop-place-preserved g c =
+    let fs : List NamedFile = map g.F.Named.named c.args.files.now in
+    let es : List Entry = c.args.self.now.sorted.items in
+    let place : ℕ = c.loop-place.place in
+    let number : ℕ = c.index.result.now.1 in
+    let above : 0 < place = omega arith in
+    let inside : place < length es = omega arith in
+    let is : (e : Entry) → number ≡ (get_or es place e).1 = λ e.
+    ap (λ (x : Entry). x.1) (c.index.ensures ∙ get_or_default es place c.index.result.now e inside) in
+    elim c.if-number-first.branch [
+      | then-number-first+then-has_twin w ↦
+          let less : number < c.loop-place.first = omega arith in
+          let twins : (d : NamedFile) (e : Entry) → IsTwinAt fs d es e place = w.has_twin.ensures.yes (search rules) in
+          rw w.first-is (record {
+            most = omega (arith, less, c.loop-place.invariant.most);
+            least = least_more fs es place c.loop-place.first number c.loop-place.invariant.least (omega (arith, less))
+                (λ d e twin. omega (arith, is e));
+            has = λ l d. subst (λ (k : ℕ). list_any (is_twin (get_or fs k d)) (take k fs) ≡ true) (sym (is c.index.result.now))
+                (twin_before fs es c.requires d c.index.result.now place above inside (twins d c.index.result.now));
+          })
+      | else-number-first w ↦ rw w.first-is (record {
+        most = c.loop-place.invariant.most;
+        least = least_more fs es place c.loop-place.first c.loop-place.first c.loop-place.invariant.least (omega arith)
+            (λ d e twin. elim w.else-number-first.branch [
+              | else-number-first-via-then-number-first+else-has_twin v ↦
+                  absurd (search (rules, v.has_twin.ensures.all d e twin))
+              | else-number-first-via-else-number-first v ↦ omega (arith, is e, v.if-number-first.false)
+            ]);
+        has = c.loop-place.invariant.has;
+      })
+    ]
+
+pub returns-clause-none : goal.returns-clause-none
+returns-clause-none g c =
+    let fs : List NamedFile = map g.F.Named.named c.args.files.now in
+    let es : List Entry = c.args.self.now.sorted.items in
+    first_none fs es c.requires no_named no_entry c.loop-place.first (omega (arith, c.loop-place.invariant.most, length-map c.args.files.now g.F.Named.named))
+    (λ r above below twin. c.loop-place.invariant.least no_named no_entry r above (omega (arith, below)) twin)

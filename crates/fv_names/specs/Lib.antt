@@ -1,0 +1,4 @@
+-- The definitions in the order in which they can be read.
+pub mod NamedFiles
+pub mod NameIndexes
+pub mod inner

@@ -1,0 +1,59 @@
+-- The index of the names of some files: a sorted list.
+use Rattle.std.specs.Prelude.{◌≡◌, ◌≢◌, ◌<◌, ℕ, ◌+◌, ◌-◌, List, [], ◌∷◌, length, get_or}
+use Rattle.std.specs.Int.{from_le_bytes, w64}
+use Rattle.std.specs.List.{AllByRecursion}
+use Rattle.std.specs.List.Sorted.{IsPermutation, IsSorted}
+use Rattle.std.specs.Ordering.{nat_cmp, ordering_then}
+use Rattle.std.specs.declared.cmp.Ordering.{Ordering}
+use Rattle.fv_base.specs.Guids.{bytes_of}
+use Rattle.fv_base.specs.Value.{IsBytes, field}
+use Rattle.fv_base.specs.declared.guid.Guid.{Guid}
+use Rattle.fv_names.specs.declared.name_index.NameIndex.{NameIndex}
+
+-- a list of sixteen bytes; and a name made of sixteen bytes
+abbrev pub IsSixteenBytes : List ℕ → Type 0
+IsSixteenBytes bytes = (length bytes ≡ 16) × IsBytes bytes
+
+abbrev pub IsName : Guid → Type 0
+IsName name = IsSixteenBytes (bytes_of name)
+
+-- two numbers, and such a pair with the number of a file
+abbrev pub Halves : Type 0
+Halves = ℕ × ℕ
+
+abbrev pub Entry : Type 0
+Entry = Halves × ℕ
+
+-- the numbers that the first eight and the last eight of sixteen bytes spell; and the same of a name
+abbrev pub halves_in : List ℕ → Halves
+halves_in bytes = (from_le_bytes w64 (field 0 8 bytes), from_le_bytes w64 (field 8 8 bytes))
+
+abbrev pub halves_of : Guid → Halves
+halves_of name = halves_in (bytes_of name)
+
+-- these names, each with its number; the first has the number k
+abbrev pub numbered : ℕ → List Guid → List Entry
+numbered k [] = []
+numbered k (name ∷ names) = (halves_of name, k) ∷ numbered (k + 1) names
+
+-- the order of such pairs, and of pairs with a number
+abbrev pub halves_cmp : Halves → Halves → Ordering
+halves_cmp a b = ordering_then (nat_cmp a.0 b.0) (nat_cmp a.1 b.1)
+
+abbrev pub entry_cmp : Entry → Entry → Ordering
+entry_cmp a b = ordering_then (halves_cmp a.0 b.0) (nat_cmp a.1 b.1)
+
+-- the entries are these names, each with its number, sorted
+pub record IsIndex (names : List Guid) (entries : List Entry) : Type 0 where
+  pub ordered : IsSorted entry_cmp entries
+  pub all : IsPermutation (numbered 0 names) entries
+  pub whole : AllByRecursion IsName names
+
+-- the entries of an index
+abbrev pub entries_of : NameIndex → List Entry
+entries_of index = index.sorted.items
+
+-- no two entries side by side have the same name; `e` is what is read past the entries
+abbrev pub AllApart : List Entry → Type 0
+AllApart es =
+    (e : Entry) (place : ℕ) → 0 < place → place < length es → (get_or es (place - 1) e).0 ≢ (get_or es place e).0

@@ -1,0 +1,9 @@
+//! The names of the files of a volume: sorted, with the twins and the superseded files among them,
+//! and looked up.
+#![tactic(auto)]
+
+mod name_index;
+mod named;
+
+pub use name_index::NameIndex;
+pub use named::Named;

@@ -1,0 +1,265 @@
+//! The index of the names of some files.
+
+ghost use Rattle.std.specs.Prelude.{◌≡◌, ◌<◌, ◌≤◌, ◌+◌, ◌*◌, ◌/◌, ◌%◌, ◌^◌, List, length, map, take, get_or, true};
+ghost use Rattle.std.specs.Prelude.{IsSorted, IsTrue, IfOk, IfErr};
+ghost use Rattle.std.specs.List.{AllByRecursion, list_any, position_or_len};
+ghost use Rattle.std.specs.List.Sorted.{IsPermutation};
+ghost use Rattle.std.specs.Option.{unwrap_or};
+ghost use Rattle.std.specs.Ordering.{nat_cmp};
+ghost use Rattle.fv_base.specs.Faults.{out_of_memory};
+ghost use Rattle.fv_base.specs.declared.guid.Guid.{Guid};
+ghost use Rattle.fv_names.specs.NamedFiles.{NamedFile, NoTwins, is_name, is_twin, names_in, replaced_by};
+ghost use Rattle.fv_names.specs.NameIndexes.{AllApart, Entry, IsIndex, IsName, IsSixteenBytes, entries_of, entry_cmp};
+ghost use Rattle.fv_names.specs.NameIndexes.{halves_in, halves_of, numbered};
+ghost use Rattle.fv_names.specs.inner.NameOrders.{AreTwins, IsTwinAt, SharesItsName, key_of, mark_at};
+
+use crate::named::Named;
+use fv_base::{Fault, Guid};
+use std::alloc::Global;
+
+// A name as two numbers, with the number of its file.
+type NumberedName = ((u64, u64), u32);
+
+/// The names of some files, sorted, each with the number of its file: the files are numbered from 0
+/// in their order. It says which files have the same name, and which file has a name. (PI
+/// specification, volume 3, section 3.2.3.)
+#[derive(Drop)]
+pub struct NameIndex {
+    sorted: Vec<NumberedName>,
+}
+
+// Sixteen bytes as two numbers.
+fn numbers_in(bytes: [u8; 16]) -> (u64, u64)
+    ensures is { result ≡ halves_in bytes }
+    ensures whole { IsSixteenBytes bytes }
+{
+    let mut front = [0u8; 8];
+    front.copy_from_slice(&bytes[..8]);
+    let mut back = [0u8; 8];
+    back.copy_from_slice(&bytes[8..]);
+    (u64::from_le_bytes(front), u64::from_le_bytes(back))
+}
+
+// A name as two numbers, which are quicker to compare than sixteen bytes.
+fn halves(name: Guid) -> (u64, u64)
+    ensures is { result ≡ halves_of name }
+    ensures whole { IsName name }
+{
+    numbers_in(name.to_bytes())
+}
+
+// How a key is packed: the number of a file in this many low bits, and the high bits of the first
+// half of its name above them. Keys are quick to sort, and names with the same high bits are rare,
+// so the order of the keys is mostly that of the names.
+#[derive(Clone, Copy)]
+struct Packing {
+    bits: u32,
+}
+
+impl Packing {
+    // The packing that has room for the numbers of `count` files.
+    fn of(count: usize) -> Packing
+        requires { count < 2 ^ 32 }
+        ensures room { count ≤ 2 ^ result.bits }
+        ensures bits { result.bits < 64 }
+    {
+        Packing {
+            bits: (count + 1).ilog2() + 1,
+        }
+    }
+
+    // The key of the file with this number, whose name has this first half.
+    fn pack(self, front: u64, number: u64) -> u64
+        requires room { number < 2 ^ self.bits }
+        requires bits { self.bits < 64 }
+        ensures { result ≡ front / 2 ^ self.bits * 2 ^ self.bits + number }
+    {
+        front >> self.bits << self.bits | number
+    }
+
+    // The number in a key.
+    fn number(self, key: u64) -> u64
+        requires { self.bits < 64 }
+        ensures { result ≡ key % 2 ^ self.bits }
+    {
+        key % (1u64 << self.bits)
+    }
+}
+
+// The keys of some files, sorted.
+fn sorted_keys<F: Named>(alloc: Global, files: &[F], packing: Packing) -> Result<Vec<u64>, Fault>
+    requires room { length files.now ≤ 2 ^ packing.bits }
+    requires bits { packing.bits < 64 }
+    ensures keys { IfOk result
+        (λ keys. IsPermutation (map (key_of packing.bits) (numbered 0 (names_in (map F.named files.now)))) keys.items) }
+    ensures sorted { IfOk result (λ keys. IsSorted nat_cmp keys.items) }
+    ensures whole { IfOk result (λ _. AllByRecursion IsName (names_in (map F.named files.now))) }
+    ensures err { IfErr result (λ f. f ≡ out_of_memory) }
+{
+    let mut keys = Vec::with_capacity(alloc, files.len())?;
+    for file in files {
+        let number = keys.len() as u64;
+        keys.push(packing.pack(halves(file.name()).0, number))?;
+    }
+    keys.sort_unstable();
+    Ok(keys)
+}
+
+// The entry of the file with this number.
+fn entry_at<F: Named>(files: &[F], number: u64) -> NumberedName
+    requires small { length files.now < 2 ^ 32 }
+    requires within { number < length files.now }
+    ensures { (d : NamedFile) → result ≡ (halves_of (get_or (map F.named files.now) number d).name, number) }
+{
+    (halves(files[number as usize].name()), number as u32)
+}
+
+// Whether the file with this number is marked for update.
+fn is_marked_at<F: Named>(files: &[F], number: u32) -> bool
+    requires { number < length files.now }
+    ensures { (d : NamedFile) → result ≡ mark_at (map F.named files.now) d number }
+{
+    files[number as usize].is_marked()
+}
+
+// Whether two entries are of files with the same name and the same mark.
+fn are_twins<F: Named>(files: &[F], one: NumberedName, other: NumberedName) -> bool
+    requires one { one.1 < length files.now }
+    requires other { other.1 < length files.now }
+    ensures yes { IsTrue result → (d : NamedFile) → AreTwins (map F.named files.now) d one other }
+    ensures all { (d : NamedFile) → AreTwins (map F.named files.now) d one other → IsTrue result }
+{
+    one.0 == other.0 && is_marked_at(files, one.1) == is_marked_at(files, other.1)
+}
+
+impl NameIndex {
+    /// The index of these files, which are fewer than 2 ^ 32.
+    ///
+    /// # Errors
+    ///
+    /// OutOfMemory at 0.
+    pub fn of<F: Named>(alloc: Global, files: &[F]) -> Result<NameIndex, Fault>
+        requires { length files.now < 2 ^ 32 }
+        ensures found { IfOk result (λ index. IsIndex (names_in (map F.named files.now)) (entries_of index)) }
+        ensures err { IfErr result (λ f. f ≡ out_of_memory) }
+    {
+        let packing = Packing::of(files.len());
+        let mut sorted = Vec::with_capacity(alloc, files.len())?;
+        let keys = sorted_keys(alloc, files, packing)?;
+        for key in &keys {
+            let number = packing.number(*key);
+            sorted.push(entry_at(files, number))?;
+        }
+        sorted.sort_unstable();
+        Ok(NameIndex { sorted })
+    }
+
+    /// The number of entries, which is that of the files.
+    pub fn len(&self) -> usize
+        ensures { result ≡ length (entries_of self.now) }
+    {
+        self.sorted.len()
+    }
+
+    /// The number of the file whose name is at this place. Places are counted from 0, in the order
+    /// of the names.
+    pub fn number_at(&self, place: usize) -> u32
+        requires { place < length (entries_of self.now) }
+        ensures { (e : Entry) → result ≡ (get_or (entries_of self.now) place e).1 }
+    {
+        self.sorted[place].1
+    }
+
+    /// Whether no two of the files have the same name.
+    pub fn are_distinct(&self) -> bool
+        requires { IsSorted entry_cmp (entries_of self.now) }
+        ensures distinct { IsTrue result → AllApart (entries_of self.now) }
+        ensures all { AllApart (entries_of self.now) → IsTrue result }
+    {
+        for next in 1..self.sorted.len() {
+            if self.sorted[next - 1].0 == self.sorted[next].0 {
+                return false;
+            }
+        }
+        true
+    }
+
+    // Whether the entry at a place has a twin among the two before it: with a third entry of its
+    // name there, two of the three are twins.
+    pub(crate) fn has_twin<F: Named>(&self, files: &[F], place: usize) -> bool
+        requires index { IsIndex (names_in (map F.named files.now)) (entries_of self.now) }
+        requires first { 0 < place }
+        requires last { place < length (entries_of self.now) }
+        ensures yes { IsTrue result
+            → (d : NamedFile) (e : Entry) → IsTwinAt (map F.named files.now) d (entries_of self.now) e place }
+        ensures all { (d : NamedFile) (e : Entry) → IsTwinAt (map F.named files.now) d (entries_of self.now) e place
+            → IsTrue result }
+    {
+        let entry = self.sorted[place];
+        are_twins(files, self.sorted[place - 1], entry)
+            || are_twins(files, self.sorted[place.saturating_sub(2)], entry)
+    }
+
+    /// The number of the first of the files that has an earlier twin: a file with the same name,
+    /// and marked as it is. If none has, the result is the number of files. The index is that of
+    /// these files.
+    pub fn first_twin<F: Named>(&self, files: &[F]) -> usize
+        requires { IsIndex (names_in (map F.named files.now)) (entries_of self.now) }
+        ensures most { result ≤ length files.now }
+        ensures none { NoTwins (take result (map F.named files.now)) }
+        ensures first { result < length files.now → (d : NamedFile)
+            → list_any (is_twin (get_or (map F.named files.now) result d)) (take result (map F.named files.now))
+            ≡ true }
+    {
+        let mut first = files.len();
+        for place in 1..self.sorted.len() {
+            let number = self.sorted[place].1 as usize;
+            if number < first && self.has_twin(files, place) {
+                first = number;
+            }
+        }
+        first
+    }
+
+    // Whether an entry beside the one at a place has the same name.
+    pub(crate) fn shares_its_name(&self, place: usize) -> bool
+        requires { place < length (entries_of self.now) }
+        ensures yes { IsTrue result → (e : Entry) → SharesItsName (entries_of self.now) e place }
+        ensures all { (e : Entry) → SharesItsName (entries_of self.now) e place → IsTrue result }
+    {
+        let name = self.sorted[place].0;
+        (place > 0 && self.sorted[place - 1].0 == name)
+            || (place + 1 < self.sorted.len() && self.sorted[place + 1].0 == name)
+    }
+
+    /// Whether one of the files replaces the one whose name is at this place: this one is marked
+    /// for update, and the other has the same name and is not. The index is that of these files,
+    /// and no two of them are twins.
+    pub fn is_replaced<F: Named>(&self, files: &[F], place: usize) -> bool
+        requires index { IsIndex (names_in (map F.named files.now)) (entries_of self.now) }
+        requires apart { NoTwins (map F.named files.now) }
+        requires last { place < length (entries_of self.now) }
+        ensures { (d : NamedFile) (e : Entry) → result
+            ≡ list_any (replaced_by (get_or (map F.named files.now) (get_or (entries_of self.now) place e).1 d))
+            (map F.named files.now) }
+    {
+        // No two are twins, so the one that replaces it has an entry beside it.
+        self.shares_its_name(place) && is_marked_at(files, self.sorted[place].1)
+    }
+
+    /// The number of the first file with this name, or None if no file has it.
+    pub fn get(&self, name: &Guid) -> Option<u32>
+        ensures { (names : List Guid) → IsIndex names (entries_of self.now)
+            → unwrap_or result (length names) ≡ position_or_len (is_name name.now) names }
+    {
+        let key = halves(*name);
+        // Numbers of one name rise: Ok is file 0, and Err where the first of the name would be.
+        let Err(place) = self.sorted.binary_search(&(key, 0)) else {
+            return Some(0);
+        };
+        if place < self.sorted.len() && self.sorted[place].0 == key {
+            return Some(self.sorted[place].1);
+        }
+        None
+    }
+}

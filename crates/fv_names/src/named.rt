@@ -1,0 +1,21 @@
+//! What the index of names reads of a file.
+
+ghost use Rattle.std.specs.Prelude.{◌≡◌};
+ghost use Rattle.fv_names.specs.NamedFiles.{NamedFile};
+
+use fv_base::Guid;
+
+/// A file with a name, which may be marked for update. (PI specification, volume 3, section
+/// 3.2.3.1.)
+pub trait Named {
+    /// The name of the file, and whether it is marked.
+    ghost named: { Self → NamedFile };
+
+    /// Its name, `Name`.
+    fn name(&self) -> Guid
+        ensures { result ≡ (named self.now).name };
+
+    /// Whether it is marked for update (`EFI_FILE_MARKED_FOR_UPDATE`).
+    fn is_marked(&self) -> bool
+        ensures { result ≡ (named self.now).marked };
+}

@@ -1,0 +1,190 @@
+-- Whether the files of a volume can be placed is decided by trying: so they have a first placement, or a reason that they have none. The steps:
+-- 1. What is made of decided statements is decided (`both`, `either`, `not_so`), and so is whether a file can be at a start (`stands_dec`).
+-- 2. Below a limit there is a least number for which such a statement is true, or none (`least_of`).
+-- 3. So files have least starts from an edge on, or none (`follows`), and a first placement, or none (`placed_or_none`).
+use Rattle.std.proofs.Common.{◌≡◌, ◌≤◌, ◌<◌, ◌+◌, ◌-◌, ◌%◌, ◌⊎◌, ℕ, zero, suc, List, [], ◌∷◌, take, Bool, true, false, refl, ap, subst, inl, inr, arith}
+use Rattle.std.specs.Prelude.{get_or, IsTrue}
+use Rattle.std.proofs.lemmas.Bool.{cases_lt}
+use Rattle.fv_base.specs.Value.{up_to_8}
+use Rattle.fv_placement.specs.NoPlacement.{HasNoRoom, IsOff, TopOff}
+use Rattle.fv_placement.specs.Starts.{IsFirstPlacement, Lawful, Placement, StandsInVolume, StartsFollow}
+use Rattle.fv_placement.specs.declared.first_placement.LayoutItem.{LayoutItem}
+
+abbrev Decided : Type 0 → Type 0
+Decided P = P ⊎ (P → ⊥)
+
+both : {P Q : Type 0} → Decided P → Decided Q → Decided (P × Q)
+both (inl p) (inl q) = inl (p, q)
+both (inl p) (inr nay) = inr (λ h. nay h.1)
+both (inr nay) q = inr (λ h. nay h.0)
+
+either : {P Q : Type 0} → Decided P → Decided Q → Decided (P ⊎ Q)
+either (inl p) q = inl (inl p)
+either (inr nay) (inl q) = inl (inr q)
+either {P = P} {Q = Q} (inr nay) (inr none) = inr go where
+  go : P ⊎ Q → ⊥
+  go (inl p) = nay p
+  go (inr q) = none q
+
+not_so : {P : Type 0} → Decided P → Decided (P → ⊥)
+not_so (inl p) = inr (λ nay. nay p)
+not_so (inr nay) = inl nay
+
+le_dec : (a b : ℕ) → Decided (a ≤ b)
+le_dec a b = elim (cases_lt b a) [
+  | inl less ↦ inr (λ h. omega (arith, less, h))
+  | inr at_most ↦ inl at_most
+]
+
+eq_dec : (a b : ℕ) → Decided (a ≡ b)
+eq_dec a b = elim (cases_lt a b) [
+  | inl less ↦ inr (λ h. omega (arith, less, h))
+  | inr more ↦ elim (cases_lt b a) [
+    | inl less ↦ inr (λ h. omega (arith, less, h))
+    | inr at_most ↦ inl (omega (arith, more, at_most))
+  ]
+]
+
+true_dec : (t : Bool) → Decided (IsTrue t)
+true_dec true = inl refl
+true_dec false = inr (λ h. cc)
+
+if_dec : {P Q : Type 0} → Decided P → Decided Q → Decided (P → Q)
+if_dec p (inl q) = inl (λ h. q)
+if_dec (inl p) (inr nay) = inr (λ h. nay (h p))
+if_dec (inr none) (inr nay) = inl (λ p. absurd (none p))
+
+-- ---- one start
+
+lawful_dec : (e : ℕ) (f : LayoutItem) (s : ℕ) → Decided (Lawful e f s)
+lawful_dec e f s = go (both (eq_dec (s % 8) 0) (both (either (eq_dec s e) (le_dec (e + 24) s)) (eq_dec ((s + f.header) % f.alignment) 0)))
+  where
+    go : Decided ((s % 8 ≡ 0) × (((s ≡ e) ⊎ (e + 24 ≤ s)) × ((s + f.header) % f.alignment ≡ 0))) → Decided (Lawful e f s)
+    go (inl (a, (b, c))) = inl (record { eighth = a; apart = b; aligned = c })
+    go (inr nay) = inr (λ h. nay (h.eighth, (h.apart, h.aligned)))
+
+stands_dec : (total e : ℕ) (f : LayoutItem) (s : ℕ) → Decided (StandsInVolume total e f s)
+stands_dec total e f s =
+    go (both (lawful_dec e f s) (both (le_dec (s + f.size) total) (if_dec (true_dec f.top) (eq_dec (s + f.size) total))))
+  where
+    go : Decided (Lawful e f s × ((s + f.size ≤ total) × (IsTrue f.top → s + f.size ≡ total))) → Decided (StandsInVolume total e f s)
+    go (inl (a, (b, c))) = inl (record { lawful = a; within = b; at_end = c })
+    go (inr nay) = inr (λ h. nay (h.lawful, (h.within, h.at_end)))
+
+-- the least number below n of which P is true, if there is one
+abbrev Least : (ℕ → Type 0) → ℕ → Type 0
+Least P n = ((s : ℕ) × P s × ((t : ℕ) → t < s → P t → ⊥)) ⊎ ((s : ℕ) → s < n → P s → ⊥)
+
+least_of : (P : ℕ → Type 0) → ((s : ℕ) → Decided (P s)) → (n : ℕ) → Least P n
+least_of P dec zero = inr (λ s less p. omega (arith, less))
+least_of P dec (suc n) = next (least_of P dec n) (dec n) where
+  next : Least P n → Decided (P n) → Least P (suc n)
+  next (inl found) d = inl found
+  next (inr none) (inl p) = inl (n, p, none)
+  next (inr none) (inr nay) = inr last where
+    last : (s : ℕ) → s < suc n → P s → ⊥
+    last s less p = elim (cases_lt s n) [
+      | inl below ↦ none s below p
+      | inr above ↦ nay (subst P (omega (arith, less, above)) p)
+    ]
+
+-- ---- the starts of files
+
+-- starts that follow an edge, each the least with the same starts before it
+abbrev FirstFollow : ℕ → ℕ → List LayoutItem → List ℕ → Type 0
+FirstFollow total e fs starts = StartsFollow total e fs starts
+    × ((others : List ℕ) (i : ℕ) → StartsFollow total e fs others → take i others ≡ take i starts → get_or starts i 0 ≤ get_or others i 0)
+
+abbrev Follows : ℕ → List LayoutItem → ℕ → Type 0
+Follows total fs e = ((starts : List ℕ) × FirstFollow total e fs starts) ⊎ ((starts : List ℕ) → StartsFollow total e fs starts → ⊥)
+
+abbrev head_in : List ℕ → ℕ
+head_in [] = 0
+head_in (x ∷ xs) = x
+
+abbrev tail_in : List ℕ → List ℕ
+tail_in [] = []
+tail_in (x ∷ xs) = xs
+
+module _ (total : ℕ) (f : LayoutItem) (fs : List LayoutItem) (rest : (e : ℕ) → Follows total fs e) (e : ℕ) where
+  abbrev Begins : ℕ → Type 0
+  Begins s = StandsInVolume total e f s × ((ss : List ℕ) × StartsFollow total (up_to_8 (s + f.size)) fs ss)
+
+  rest_dec : (s : ℕ) → Decided ((ss : List ℕ) × StartsFollow total (up_to_8 (s + f.size)) fs ss)
+  rest_dec s = go (rest (up_to_8 (s + f.size))) where
+    go : Follows total fs (up_to_8 (s + f.size)) → Decided ((ss : List ℕ) × StartsFollow total (up_to_8 (s + f.size)) fs ss)
+    go (inl (ss, first)) = inl (ss, first.0)
+    go (inr none) = inr (λ h. none h.0 h.1)
+
+  begins_dec : (s : ℕ) → Decided (Begins s)
+  begins_dec s = both (stands_dec total e f s) (rest_dec s)
+
+  first_least : (s : ℕ) (starts : List ℕ) → ((t : ℕ) → t < s → Begins t → ⊥) → FirstFollow total (up_to_8 (s + f.size)) fs starts
+      → (others : List ℕ) (i : ℕ) → StartsFollow total e (f ∷ fs) others → take i others ≡ take i (s ∷ starts)
+      → get_or (s ∷ starts) i 0 ≤ get_or others i 0
+  first_least s starts least first [] i follow same = absurd follow
+  first_least s starts least first (t ∷ ts) zero follow same = elim (cases_lt t s) [
+    | inl less ↦ absurd (least t less (follow.0, (ts, follow.1)))
+    | inr at_most ↦ at_most
+  ]
+  first_least s starts least first (t ∷ ts) (suc i) follow same =
+      first.1 ts i (subst (λ (k : ℕ). StartsFollow total (up_to_8 (k + f.size)) fs ts) (ap head_in same) follow.1) (ap tail_in same)
+
+  follows_next : Follows total (f ∷ fs) e
+  follows_next = go (least_of Begins begins_dec (suc total)) where
+    none_at : ((s : ℕ) → s < suc total → Begins s → ⊥) → (starts : List ℕ) → StartsFollow total e (f ∷ fs) starts → ⊥
+    none_at none [] follow = follow
+    none_at none (s ∷ ss) follow = none s (omega (arith, follow.0.within)) (follow.0, (ss, follow.1))
+
+    with_rest : (s : ℕ) → Begins s → ((t : ℕ) → t < s → Begins t → ⊥) → Follows total fs (up_to_8 (s + f.size)) → Follows total (f ∷ fs) e
+    with_rest s here least (inl (starts, first)) = inl (s ∷ starts, ((here.0, first.0), first_least s starts least first))
+    with_rest s here least (inr none) = absurd (none here.1.0 here.1.1)
+
+    go : Least Begins (suc total) → Follows total (f ∷ fs) e
+    go (inl (s, here, least)) = with_rest s here least (rest (up_to_8 (s + f.size)))
+    go (inr none) = inr (none_at none)
+
+first_none : (total e : ℕ) (others : List ℕ) (i : ℕ) → StartsFollow total e [] others → get_or {A = ℕ} [] i 0 ≤ get_or others i 0
+first_none total e [] i follow = omega arith
+first_none total e (s ∷ ss) i follow = absurd follow
+
+follows : (total : ℕ) (fs : List LayoutItem) (e : ℕ) → Follows total fs e
+follows total [] e = inl ([], (tt, λ others i follow same. first_none total e others i follow))
+follows total (f ∷ fs) e = follows_next total f fs (follows total fs) e
+
+-- files have a first placement, or none
+placed_or_none : (total first : ℕ) (fs : List LayoutItem) → ((starts : List ℕ) × IsFirstPlacement total first fs starts)
+    ⊎ ((starts : List ℕ) → Placement total first fs starts → ⊥)
+placed_or_none total first fs = go (le_dec first total) (follows total fs first) where
+  go : Decided (first ≤ total) → Follows total fs first → ((starts : List ℕ) × IsFirstPlacement total first fs starts)
+      ⊎ ((starts : List ℕ) → Placement total first fs starts → ⊥)
+  go (inl room) (inl (starts, is)) = inl (
+    starts,
+    record {
+      placement = record { room = room; follow = is.0 };
+      least = λ others i p same. is.1 others i p.follow same;
+    },
+  )
+  go (inl room) (inr none) = inr (λ starts p. none starts p.follow)
+  go (inr full) h = inr (λ starts p. full p.room)
+
+-- ---- the volume top file
+
+off_dec : (total : ℕ) (f : LayoutItem) → Decided (IsOff total f)
+off_dec total f =
+    either (not_so (eq_dec ((total - f.size + f.header) % f.alignment) 0)) (not_so (eq_dec ((total - f.size) % 8) 0))
+
+top_dec : (total : ℕ) (fs : List LayoutItem) → Decided (TopOff total fs)
+top_dec total [] = inr (λ h. h)
+top_dec total (f ∷ fs) = either (both (true_dec f.top) (off_dec total f)) (top_dec total fs)
+
+-- files have a first placement, or the volume top file is off, or there is no room
+pub placed_or_not : (total first : ℕ) (fs : List LayoutItem) → ((starts : List ℕ) × IsFirstPlacement total first fs starts)
+    ⊎ (TopOff total fs ⊎ HasNoRoom total first fs)
+placed_or_not total first fs = go (top_dec total fs) (placed_or_none total first fs) where
+  go : Decided (TopOff total fs)
+      → ((starts : List ℕ) × IsFirstPlacement total first fs starts) ⊎ ((starts : List ℕ) → Placement total first fs starts → ⊥)
+      → ((starts : List ℕ) × IsFirstPlacement total first fs starts) ⊎ (TopOff total fs ⊎ HasNoRoom total first fs)
+  go (inl off) h = inr (inl off)
+  go (inr on) (inl placed) = inl placed
+  go (inr on) (inr none) = inr (inr (record { top_stands = on; none = none }))

@@ -1,0 +1,94 @@
+-- Multiples of an alignment, and edges, which are multiples of 8.
+-- 1. Two multiples of a number are that number or more apart, so none is between a multiple and the next.
+-- 2. The multiples of the widened alignment are those of 8 and of the alignment.
+-- 3. Sums and differences of multiples of 8.
+-- 4. An edge is the next multiple of 8.
+use Rattle.std.proofs.lemmas.Grind.{common_steps}
+use Rattle.fv_base.specs.Value.{up_to_8}
+use Rattle.std.proofs.Common.{◌≡◌, ℕ, ◌+◌, ◌-◌, ◌*◌, ◌/◌, ◌%◌, ◌^◌, ◌<◌, ◌≤◌, inl, inr, sym, ◌∙◌, ap, subst, arith, suc}
+use Rattle.fv_placement.specs.inner.Reaches.{Widens}
+use Rattle.std.proofs.lemmas.Nat.{pow_below, div_below, mod-pow-add}
+use Rattle.std.proofs.lemmas.Bool.{cases_lt}
+use Rattle.std.proofs.Math.Nat.{mul-le-mul_left, mul-mod_right, mul-mod_left, mul_comm, div-add-mod, add-zero, add_right_cancel}
+
+-- ---- 1. apart
+
+-- a multiple is the alignment times a number
+multiple_is : (a x : ℕ) → x % a ≡ 0 → x ≡ a * (x / a)
+multiple_is a x p = sym (div-add-mod x a) ∙ (ap (λ n. a * (x / a) + n) p ∙ add-zero (a * (x / a)))
+
+-- what is left under the remainder is a multiple
+pub is_multiple : (d x a : ℕ) → d + x % a ≡ x → d % a ≡ 0
+is_multiple d x a e = grind (arith, common_steps, add_right_cancel, div-add-mod, mul-mod_right)
+
+-- of two multiples the smaller is smaller by the alignment
+pub multiples_apart : (a x y : ℕ) → 0 < a → x % a ≡ 0 → y % a ≡ 0 → x < y → x + a ≤ y
+multiples_apart a x y h p q l =
+    let less : x / a < y / a = div_below x a (y / a) h (subst (λ n. x < n) (multiple_is a y q ∙ mul_comm a (y / a)) l) in
+    step a (x / a) (y / a) x y (mul-le-mul_left a less) (multiple_is a x p) (multiple_is a y q)
+  where
+    step : (a m n x y : ℕ) → a * suc m ≤ a * n → x ≡ a * m → y ≡ a * n → x + a ≤ y
+    step a m n x y h e f = omega arith
+
+-- no multiple is between a multiple and the next one
+pub none_between : (a d y : ℕ) → 0 < a → d % a ≡ 0 → y % a ≡ 0 → y < d + a → y ≤ d
+none_between a d y h p q near = grind (arith, common_steps, cases_lt, multiples_apart)
+
+-- ---- 2. the widened alignment
+
+-- a multiple of a power of two is one of each smaller power
+coarser : (d k x : ℕ) → x % 2 ^ (d + k) ≡ 0 → x % 2 ^ k ≡ 0
+coarser d k x h = last (x / 2 ^ k % 2 ^ d * 2 ^ k) (x % 2 ^ k) (sym (mod-pow-add x d k) ∙ h)
+  where
+    last : (m n : ℕ) → m + n ≡ 0 → n ≡ 0
+    last m n e = omega arith
+
+coarser_at : (j k x : ℕ) → k ≤ j → x % 2 ^ j ≡ 0 → x % 2 ^ k ≡ 0
+coarser_at j k x l h = let e : j ≡ (j - k) + k = omega arith in coarser (j - k) k x (subst (λ n. x % 2 ^ n ≡ 0) e h)
+
+pub widens_8 : (b k : ℕ) → b ≡ 2 ^ k → b < 8 → Widens 8 b
+widens_8 b k e l = elim (cases_lt k 4) [
+  | inl h ↦ record {
+    wide = omega arith;
+    small = omega arith;
+    apart = λ x p. (p, subst (λ n. x % n ≡ 0) (sym e) (coarser_at 3 k x (omega arith) p));
+    joined = λ x p q. p;
+  }
+  | inr h ↦ absurd (far b (2 ^ k) e l (pow_below 3 k (omega arith)))
+]
+  where
+    far : (b p : ℕ) → b ≡ p → b < 8 → 8 < p → ⊥
+    far b p e l h = omega arith
+
+pub widens_self : (b k : ℕ) → k ≤ 24 → b ≡ 2 ^ k → 8 ≤ b → Widens b b
+widens_self b k h e l = elim (cases_lt k 3) [
+  | inl m ↦ absurd (near b (2 ^ k) e l (pow_below k 3 m))
+  | inr m ↦ record {
+    wide = l;
+    small = subst (λ n. n < 2 ^ 25) (sym e) (pow_below k 25 (omega arith));
+    apart = λ x p. (coarser_at k 3 x m (subst (λ n. x % n ≡ 0) e p), p);
+    joined = λ x p q. q;
+  }
+]
+  where
+    near : (b p : ℕ) → b ≡ p → 8 ≤ b → p < 8 → ⊥
+    near b p e l h = omega arith
+
+-- ---- 3. multiples of 8
+
+pub eighth_sum : (s h : ℕ) → s % 8 ≡ 0 → h % 8 ≡ 0 → (s + h) % 8 ≡ 0
+eighth_sum s h p q = omega arith
+
+pub eighth_difference : (s h : ℕ) → (s + h) % 8 ≡ 0 → h % 8 ≡ 0 → s % 8 ≡ 0
+eighth_difference s h p q = omega arith
+
+-- ---- 4. edges
+
+pub edge_eighth : (x : ℕ) → up_to_8 x % 8 ≡ 0
+edge_eighth x = mul-mod_left ((x + 7) / 8) 8
+
+pub edge_within : (x total : ℕ) → total % 8 ≡ 0 → x ≤ total → up_to_8 x ≤ total
+edge_within x total h l = omega arith
+
+pub edge_above : (x : ℕ) → x ≤ up_to_8 x
+edge_above x = omega arith

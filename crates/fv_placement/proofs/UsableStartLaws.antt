@@ -1,0 +1,134 @@
+-- One lawful start after another, a step of the widened alignment apart: up from the least, and down from the greatest.
+-- 1. Lawful starts are where the data are at a multiple of the step; so a lawful start is a step away from the next.
+-- 2. Up: the least start with a pad before it is lawful, and what serves is a step after a start that does not.
+-- 3. Down: where the greatest lawful start does not serve, the next does.
+use Rattle.std.proofs.lemmas.Grind.{common_steps}
+use Rattle.fv_base.specs.Value.{up_to_8}
+use Rattle.std.proofs.Common.{◌≡◌, ℕ, ◌+◌, ◌-◌, ◌%◌, ◌<◌, ◌≤◌, inl, inr, sym, ◌∙◌, ap, subst, arith, Bool, true, false}
+use Rattle.std.specs.Prelude.{IsTrue}
+use Rattle.std.proofs.lemmas.Bool.{cases_lt}
+use Rattle.std.proofs.Math.Nat.{mod_self, mod-eq-sub-mod}
+use Rattle.fv_placement.specs.declared.first_placement.LayoutItem.{LayoutItem}
+use Rattle.fv_placement.specs.declared.reach.Reach.{Reach}
+use Rattle.fv_placement.specs.Starts.{Lawful}
+use Rattle.fv_placement.specs.inner.Reaches.{IsUsable, Serves, Widens}
+use Rattle.fv_placement.proofs.MultipleLaws.{multiples_apart, eighth_sum, eighth_difference}
+use Rattle.fv_placement.proofs.ReachLaws.{usable_most}
+
+pub not_true : (b : Bool) → b ≡ false → IsTrue b → ⊥
+not_true true e h = cc
+not_true false e h = cc
+
+pub never_true : IsTrue false → ⊥
+never_true h = cc
+
+-- ---- 1. a step apart
+
+-- where the data are at a multiple of the step, the start is a multiple of 8 and the data are aligned
+pub start_at : (f : LayoutItem) (a s : ℕ) → Widens a f.alignment → f.header % 8 ≡ 0 → (s + f.header) % a ≡ 0
+    → (s % 8 ≡ 0) × ((s + f.header) % f.alignment ≡ 0)
+start_at f a s w h m = let both = w.apart (s + f.header) m in (eighth_difference s f.header both.0 h, both.1)
+
+-- and the data of a start that serves are at one
+data_at : (total : ℕ) (f : LayoutItem) (r : Reach) (a t : ℕ) → Widens a f.alignment → f.header % 8 ≡ 0 → Serves total f r t
+    → (t + f.header) % a ≡ 0
+data_at total f r a t w h v = w.joined (t + f.header) (eighth_sum t f.header v.eighth h) v.aligned
+
+step_apart : (f : LayoutItem) (a s t : ℕ) → Widens a f.alignment → (s + f.header) % a ≡ 0 → (t + f.header) % a ≡ 0 → s < t → s + a ≤ t
+step_apart f a s t w p q l =
+    let far : (s + f.header) + a ≤ t + f.header = multiples_apart a (s + f.header) (t + f.header) (positive w.wide) p q (more l) in
+    omega (arith, far)
+  where
+    positive : 8 ≤ a → 0 < a
+    positive g = omega arith
+
+    more : s < t → s + f.header < t + f.header
+    more g = omega arith
+
+-- where s does not serve, what serves is a step after it or a step before it
+pub after_missed : (total : ℕ) (f : LayoutItem) (r : Reach) (a s t : ℕ) → Widens a f.alignment → f.header % 8 ≡ 0
+    → (s + f.header) % a ≡ 0 → (Serves total f r s → ⊥) → Serves total f r t → s ≤ t → s + a ≤ t
+after_missed total f r a s t w h m not v l = elim (cases_lt s t) [
+  | inl less ↦ step_apart f a s t w m (data_at total f r a t w h v) less
+  | inr same ↦ let is : t ≡ s = omega arith in absurd (not (subst (λ n. Serves total f r n) is v))
+]
+
+before_missed : (total : ℕ) (f : LayoutItem) (r : Reach) (a s t : ℕ) → Widens a f.alignment → f.header % 8 ≡ 0
+    → (s + f.header) % a ≡ 0 → (Serves total f r s → ⊥) → Serves total f r t → t ≤ s → t + a ≤ s
+before_missed total f r a s t w h m not v l = elim (cases_lt t s) [
+  | inl less ↦ step_apart f a t s w (data_at total f r a t w h v) m less
+  | inr same ↦ let is : t ≡ s = omega arith in absurd (not (subst (λ n. Serves total f r n) is v))
+]
+
+-- ---- 2. up
+
+-- d is the least place of the data at which there is room for a pad after the edge e. Where the file cannot begin at
+-- the edge, what is lawful and serves is not before.
+pub from_pad : (total e : ℕ) (f : LayoutItem) (r : Reach) (a d t : ℕ) → Widens a f.alignment → f.header % 8 ≡ 0
+    → ((y : ℕ) → y % a ≡ 0 → e + 24 + f.header ≤ y → d ≤ y) → (Serves total f r e → ⊥) → Lawful e f t → Serves total f r t
+    → d - f.header ≤ t
+from_pad total e f r a d t w h least not l v = grind (arith, common_steps, data_at)
+
+pub multiple_next : (s h a : ℕ) → (s + h) % a ≡ 0 → ((s + a) + h) % a ≡ 0
+multiple_next s h a p = mod-eq-sub-mod (reached s h a) ∙ (ap (λ n. n % a) (turned s h a) ∙ p)
+  where
+    turned : (s h a : ℕ) → ((s + a) + h) - a ≡ s + h
+    turned s h a = omega arith
+
+    reached : (s h a : ℕ) → a ≤ (s + a) + h
+    reached s h a = omega arith
+
+-- ---- 3. down
+
+multiple_back : (s h a : ℕ) → (s + h) % a ≡ 0 → a ≤ s → ((s - a) + h) % a ≡ 0
+multiple_back s h a p l = ap (λ n. n % a) (turned s h a l) ∙ (sym (mod-eq-sub-mod (reached s h a l)) ∙ p)
+  where
+    turned : (s h a : ℕ) → a ≤ s → (s - a) + h ≡ (s + h) - a
+    turned s h a l = omega arith
+
+    reached : (s h a : ℕ) → a ≤ s → a ≤ s + h
+    reached s h a l = omega arith
+
+pub data_back : (d h a : ℕ) → h ≤ d → d % a ≡ 0 → ((d - h) + h) % a ≡ 0
+data_back d h a l p = ap (λ n. n % a) (back d h l) ∙ p
+  where
+    back : (d h : ℕ) → h ≤ d → (d - h) + h ≡ d
+    back d h l = omega arith
+
+-- d is the greatest multiple of the step at which the file ends at most at the greatest usable edge: no file that serves
+-- has its data above it
+pub data_most : (total : ℕ) (f : LayoutItem) (r : Reach) (a d t : ℕ) → Widens a f.alignment → f.header % 8 ≡ 0
+    → ((y : ℕ) → y % a ≡ 0 → y ≤ r.greatest - up_to_8 f.size + f.header → y ≤ d) → Serves total f r t → t + f.header ≤ d
+data_most total f r a d t w h most v =
+    most (t + f.header) (data_at total f r a t w h v) (ends f.size f.header v.eighth (usable_most r (up_to_8 (t + f.size)) v.edge))
+  where
+    ends : (n k : ℕ) → t % 8 ≡ 0 → up_to_8 (t + n) ≤ r.greatest → t + k ≤ r.greatest - up_to_8 n + k
+    ends n k p q = omega arith
+
+-- where the start with its data there does not serve, what serves is a step before it
+pub below_missed : (total : ℕ) (f : LayoutItem) (r : Reach) (a d t : ℕ) → Widens a f.alignment → f.header % 8 ≡ 0 → d % a ≡ 0
+    → f.header ≤ d → ((y : ℕ) → y % a ≡ 0 → y ≤ r.greatest - up_to_8 f.size + f.header → y ≤ d)
+    → (Serves total f r (d - f.header) → ⊥) → Serves total f r t → t + a ≤ d - f.header
+below_missed total f r a d t w h m l most not v =
+    let most_data : t + f.header ≤ d = data_most total f r a d t w h most v in
+    before_missed total f r a (d - f.header) t w h (data_back d f.header a l m) not v (omega (arith, most_data))
+
+-- s is the greatest lawful start with which the file ends at most at the greatest usable edge. Where it does not serve,
+-- it leaves that edge 8 or 16 away; so the step is not 8, and the start before it is at least 24 away.
+pub second_serves : (total : ℕ) (f : LayoutItem) (r : Reach) (a s : ℕ) → Widens a f.alignment → f.header % 8 ≡ 0
+    → (IsTrue f.top → ⊥) → r.greatest % 8 ≡ 0 → (s + f.header) % a ≡ 0 → s + up_to_8 f.size ≤ r.greatest
+    → r.greatest < s + up_to_8 f.size + a → a ≤ s → (Serves total f r s → ⊥) → Serves total f r (s - a)
+second_serves total f r a s w h top g m below near low not =
+    let here = start_at f a s w h m in
+    let back = start_at f a (s - a) w h (multiple_back s f.header a m low) in
+    serves (s - a) back (inl (inl (far f.size here.0 (w.apart a (mod_self a)).0 below near low (λ e. not (serves s here (inl (inr e)))))))
+  where
+    serves : (n : ℕ) → (n % 8 ≡ 0) × ((n + f.header) % f.alignment ≡ 0) → IsUsable r (up_to_8 (n + f.size)) → Serves total f r n
+    serves n both u = record { eighth = both.0; aligned = both.1; at_end = λ t. absurd (top t); edge = u }
+
+    far : (n : ℕ) → s % 8 ≡ 0 → a % 8 ≡ 0 → s + up_to_8 n ≤ r.greatest → r.greatest < s + up_to_8 n + a → a ≤ s
+        → (up_to_8 (s + n) ≡ r.greatest → ⊥) → up_to_8 ((s - a) + n) + 24 ≤ r.greatest
+    far n p q b c l not = elim (cases_lt (up_to_8 (s + n)) r.greatest) [
+      | inl less ↦ omega (arith, w.wide)
+      | inr same ↦ absurd (not (omega arith))
+    ]

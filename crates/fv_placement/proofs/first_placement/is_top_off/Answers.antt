@@ -1,0 +1,49 @@
+use Rattle.std.proofs.Common.{◌+◌, ◌<◌, ◌≤◌, ℕ, List, length, drop, get_or, subst, sym, inl, inr, false, refl}
+use Rattle.std.specs.Prelude.{IsTrue}
+use Rattle.std.proofs.lemmas.List.{drop_more, drop_all}
+use Rattle.fv_placement.specs.NoPlacement.{TopOff, IsOff}
+use Rattle.fv_placement.specs.declared.first_placement.LayoutItem.{LayoutItem}
+use Rattle.fv_placement.proofs.first_placement.is_top_off.Goals as goal
+use Rattle.fv_placement.proofs.first_placement.is_top_off.Goals.{else-item-via-then-item+else-is_off, else-item-via-else-item}
+use Rattle.fv_placement.proofs.UsableStartLaws.{not_true}
+
+-- an item that is off is found, and one that is not is passed over
+found : (total : ℕ) (fs : List LayoutItem) (i : ℕ) (d : LayoutItem) → i < length fs → (TopOff total (drop i fs) → TopOff total fs)
+    → IsTrue (get_or fs i d).top → IsOff total (get_or fs i d) → TopOff total fs
+found total fs i d l back top off = back (subst (TopOff total) (sym (drop_more fs i d l)) (inl (top, off)))
+
+passed : (total : ℕ) (fs : List LayoutItem) (i : ℕ) (d : LayoutItem) → i < length fs
+    → (IsTrue (get_or fs i d).top → IsOff total (get_or fs i d) → ⊥)
+    → (TopOff total (drop i fs) → TopOff total fs) × (TopOff total fs → TopOff total (drop i fs))
+    → (TopOff total (drop (i + 1) fs) → TopOff total fs) × (TopOff total fs → TopOff total (drop (i + 1) fs))
+passed total fs i d l not both = (
+  λ o. both.0 (subst (TopOff total) (sym (drop_more fs i d l)) (inr o)),
+  λ o. elim (subst (TopOff total) (drop_more fs i d l) (both.1 o)) [ inl h ↦ absurd (not h.0 h.1) | inr h ↦ h ],
+)
+
+ended : (total : ℕ) (fs : List LayoutItem) (i : ℕ) → length fs ≤ i → TopOff total (drop i fs) → ⊥
+ended total fs i l o = subst (TopOff total) (drop_all i fs l) o
+
+pub loop-item-init : goal.loop-item-init
+loop-item-init c = (λ o. o, λ o. o)
+
+pub returns-then-is_off : goal.returns-then-is_off
+returns-then-is_off c = (
+  λ h. found c.args.total c.args.items.now c.loop-item.item-index _ c.loop-item-test.true c.loop-item.invariant.0 c.if-item.true
+      (c.is_off.ensures.0 c.if-is_off.true),
+  λ o. refl,
+)
+
+pub loop-item-preserved : goal.loop-item-preserved
+loop-item-preserved c = elim c.else-item.branch [
+  | else-item-via-then-item+else-is_off w ↦
+      passed c.args.total c.args.items.now c.loop-item.item-index (record { header = 0; size = 0; alignment = 0; top = false })
+      c.loop-item-test.true (λ top off. not_true w.is_off.result w.if-is_off.false (w.is_off.ensures.1 off)) c.loop-item.invariant
+  | else-item-via-else-item w ↦
+      passed c.args.total c.args.items.now c.loop-item.item-index (record { header = 0; size = 0; alignment = 0; top = false })
+      c.loop-item-test.true (λ top off. not_true _ w.if-item.false top) c.loop-item.invariant
+]
+
+pub returns : goal.returns
+returns c =
+    (λ h. cc, λ o. absurd (ended c.args.total c.args.items.now c.loop-item.item-index c.loop-item-test.false (c.loop-item.invariant.1 o)))

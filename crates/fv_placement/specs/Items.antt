@@ -1,0 +1,11 @@
+-- What must be so of a file that is to be placed (PI specification, volume 3, section 3.2.3.1).
+use Rattle.std.specs.Prelude.{◌≡◌, ℕ, ◌%◌, ◌≤◌}
+use Rattle.fv_base.specs.Measures.{IsAlignment}
+use Rattle.fv_placement.specs.declared.first_placement.LayoutItem.{LayoutItem}
+
+-- what the layout of a volume of `total` bytes knows of a file
+pub record IsLawfulItem (total : ℕ) (f : LayoutItem) : Type 0 where
+  pub header : f.header % 8 ≡ 0
+  pub holds : f.header ≤ f.size
+  pub within : f.size ≤ total
+  pub alignment : IsAlignment f.alignment

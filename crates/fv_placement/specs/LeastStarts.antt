@@ -1,0 +1,18 @@
+-- The least starts of the files of a volume (PI specification, volume 3, section 3.2.3.1, for the alignment of data and
+-- the pads between files).
+use Rattle.std.specs.Prelude.{◌≡◌, ℕ, ◌+◌, ◌≤◌, List, [], ◌∷◌, MatchBool}
+use Rattle.fv_base.specs.Value.{up_to_8}
+use Rattle.fv_placement.specs.Starts.{Lawful}
+use Rattle.fv_placement.specs.declared.first_placement.LayoutItem.{LayoutItem}
+
+-- the least start that is lawful after an edge; for the volume top file, the start with which it ends at the volume's
+-- end
+abbrev pub IsLeastStart : ℕ → ℕ → LayoutItem → ℕ → Type 0
+IsLeastStart total e f s = MatchBool f.top (s + f.size ≡ total) (Lawful e f s × ((t : ℕ) → Lawful e f t → s ≤ t))
+
+-- each file is at the least start after the edge before it; this need not be a placement
+abbrev pub IsLeast : ℕ → ℕ → List LayoutItem → List ℕ → Type 0
+IsLeast total e [] [] = Unit {0}
+IsLeast total e [] (s ∷ ss) = ⊥
+IsLeast total e (f ∷ fs) [] = ⊥
+IsLeast total e (f ∷ fs) (s ∷ ss) = IsLeastStart total e f s × IsLeast total (up_to_8 (s + f.size)) fs ss

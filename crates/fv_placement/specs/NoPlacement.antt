@@ -1,0 +1,21 @@
+-- Why the files of a volume have no placement (PI specification, volume 3, section 3.2.1.3 for the volume top file, and
+-- section 3.2.3.1 for the alignment of data).
+use Rattle.std.specs.Prelude.{◌≢◌, ℕ, ◌+◌, ◌-◌, ◌%◌, ◌⊎◌, List, [], ◌∷◌, IsTrue}
+use Rattle.fv_placement.specs.Starts.{Placement}
+use Rattle.fv_placement.specs.declared.first_placement.LayoutItem.{LayoutItem}
+
+-- the volume top file has only one possible start, with which it ends at the volume's end: there its data are not
+-- aligned, or the start is not a multiple of 8
+abbrev pub IsOff : ℕ → LayoutItem → Type 0
+IsOff total f = ((total - f.size + f.header) % f.alignment ≢ 0) ⊎ ((total - f.size) % 8 ≢ 0)
+
+-- the volume top file, if there is one, is so
+abbrev pub TopOff : ℕ → List LayoutItem → Type 0
+TopOff total [] = ⊥
+TopOff total (f ∷ fs) = (IsTrue f.top × IsOff total f) ⊎ TopOff total fs
+
+-- the volume top file, if there is one, is aligned at the volume's end, and yet the files cannot be placed in their
+-- order at all
+pub record HasNoRoom (total first : ℕ) (fs : List LayoutItem) : Type 0 where
+  pub top_stands : TopOff total fs → ⊥
+  pub none : (starts : List ℕ) → Placement total first fs starts → ⊥

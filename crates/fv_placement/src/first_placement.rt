@@ -1,0 +1,212 @@
+//! The first placement of the files of a volume.
+//!
+//! The files are placed in their order. A file begins at a lawful start: a multiple of 8 at which
+//! its data are aligned, and which is the edge before the file, or 24 or more bytes after it, so
+//! that a pad fits between. (The edge is the end of the file before, rounded up to 8.) The file
+//! ends inside the volume, and the volume top file ends where the volume ends. Such starts, one for
+//! each file, are a placement. In the first placement each start is the least among all placements
+//! with the same starts before it.
+//!
+//! In most volumes each file can have the least lawful start after the file before it. If these
+//! least starts are a placement, it is the first: no placement with the same starts before it has a
+//! lesser one. But a least start can be too early. If 8 or 16 bytes are left before the volume top
+//! file, no pad fits there, and a file before it has to begin further on.
+//!
+//! So if the least starts are no placement, a search goes backwards and then forwards. Backwards it
+//! finds, for each file, the edges after which the files after it can be placed: their reach.
+//! Forwards it places each file at the least lawful start with which it ends at such an edge. The
+//! least starts are found by the same way forwards, as if no file came after each.
+
+ghost use Rattle.std.specs.Prelude.{◌≡◌, ℕ, ◌+◌, ◌%◌, ◌^◌, ◌<◌, ◌≤◌, IfOk, IfErr, IfSome, IfNone, List};
+ghost use Rattle.std.specs.Prelude.{IsTrue, ◌↔◌, All, length, get_or, false};
+ghost use Rattle.fv_base.specs.Faults.{out_of_memory};
+ghost use Rattle.fv_base.specs.Limits.{volume_limit};
+ghost use Rattle.fv_placement.specs.declared.reach.Reach.{Reach};
+ghost use Rattle.fv_placement.specs.declared.first_placement.LayoutItem.{LayoutItem};
+ghost use Rattle.fv_placement.specs.inner.Reaches.{AreReaches, CanPlace, IsBound, IsGreatest, IsReach, Serves};
+ghost use Rattle.fv_placement.specs.Starts.{IsFirstPlacement, Placement};
+ghost use Rattle.fv_placement.specs.Items.{IsLawfulItem};
+ghost use Rattle.fv_placement.specs.NoPlacement.{IsOff, TopOff};
+
+use crate::reach::{Reach, reach_of_none, serves};
+use crate::usable_start::{first_start, greatest_start};
+use fv_base::Fault;
+use fv_base::field::up_to_8;
+use std::alloc::Global;
+
+/// What the layout knows of a file. (PI specification, volume 3, section 3.2.3.1.)
+#[derive(Clone, Copy)]
+pub struct LayoutItem {
+    /// The length of its header, in bytes.
+    pub header: u64,
+    /// The size of the whole file, in bytes.
+    pub size: u64,
+    /// The alignment of its data, in bytes.
+    pub alignment: u64,
+    /// Whether it is the volume top file. (Section 3.2.1.3.)
+    pub top: bool,
+}
+
+/// The first placement of the files in a volume of `total` bytes with the first edge `first`: the
+/// start of each file, in bytes from the volume's start. None if they cannot be placed in their
+/// order at all. Both `total` and `first` are multiples of 8; `total` is within the limit of a
+/// volume, and `first` is below 2 ^ 32. Each file is at most as long as the volume. Its header is
+/// within it, and has a multiple of 8 bytes. Its alignment is a power of two, at most 2 ^ 24. (PI
+/// specification, volume 3, section 3.2.3.1.)
+///
+/// # Errors
+///
+/// OutOfMemory, only if there is a file.
+pub fn first_starts(
+    alloc: Global,
+    total: u64,
+    first: u64,
+    items: &[LayoutItem],
+) -> Result<Option<Vec<u64>>, Fault>
+    requires total { (total ≤ volume_limit) × (total % 8 ≡ 0) }
+    requires first { (first % 8 ≡ 0) × (first < 2 ^ 32) }
+    requires items { All (IsLawfulItem total) items.now }
+    ensures found { IfOk result (λ o. IfSome o (λ starts. IsFirstPlacement total first items.now starts.items)) }
+    ensures none { IfOk result (λ o. IfNone o ((starts : List ℕ) → Placement total first items.now starts → ⊥)) }
+    ensures err { IfErr result (λ f. f ≡ out_of_memory) }
+    ensures some { IfErr result (λ _. 0 < length items.now) }
+{
+    if first > total {
+        return Ok(None);
+    }
+    if let Some(starts) = place_each(alloc, total, first, items, &[])? {
+        return Ok(Some(starts));
+    }
+    let mut reaches = vec![in alloc; reach_of_none(total); items.len()]?;
+    if !find_reaches(total, items, reaches.as_mut_slice()) {
+        return Ok(None);
+    }
+    place_each(alloc, total, first, items, reaches.as_slice())
+}
+
+// Places each file at its first start, one after another. `reaches` has for each the reach of the
+// files after it, or is empty, to place it as if no file came after. None if one has no start.
+fn place_each(
+    alloc: Global,
+    total: u64,
+    first: u64,
+    items: &[LayoutItem],
+    reaches: &[Reach],
+) -> Result<Option<Vec<u64>>, Fault>
+    requires total { (total ≤ volume_limit) × (total % 8 ≡ 0) }
+    requires first { (first % 8 ≡ 0) × (first ≤ total) }
+    requires items { All (IsLawfulItem total) items.now }
+    requires reaches { AreReaches (IsBound total) items.now reaches.now }
+    ensures found { IfOk result (λ o. IfSome o (λ starts. IsFirstPlacement total first items.now starts.items)) }
+    ensures none { length reaches.now ≡ length items.now → AreReaches (IsReach total) items.now reaches.now
+        → IfOk result (λ o. IfNone o ((starts : List ℕ) → Placement total first items.now starts → ⊥)) }
+    ensures err { IfErr result (λ f. f ≡ out_of_memory) }
+    ensures some { IfErr result (λ _. 0 < length items.now) }
+    ensures empty { IfOk result (λ o. IfNone o (0 < length items.now)) }
+{
+    let mut starts = Vec::with_capacity(alloc, items.len())?;
+    let mut edge = first;
+    for (i, item) in items.iter().enumerate() {
+        match first_start(total, edge, item, reach_after(total, reaches, i)) {
+            None => return Ok(None),
+            Some(start) => {
+                starts.push(start)?;
+                edge = up_to_8(start + item.size);
+            }
+        }
+    }
+    Ok(Some(starts))
+}
+
+// The reach of the files after file `i`, or where it is not known, that of no files.
+fn reach_after(total: u64, reaches: &[Reach], i: usize) -> Reach
+    requires total { total % 8 ≡ 0 }
+    ensures known { (d : Reach) → i < length reaches.now → result ≡ get_or reaches.now i d }
+    ensures unknown { length reaches.now ≤ i → (fs : List LayoutItem) → IsBound total fs result }
+{
+    if i < reaches.len() {
+        reaches[i]
+    } else {
+        reach_of_none(total)
+    }
+}
+
+// Finds the reach of the files after each one, from the last to the first. False if the files
+// cannot be placed at all.
+fn find_reaches(total: u64, items: &[LayoutItem], reaches: &mut [Reach]) -> bool
+    requires total { (total ≤ volume_limit) × (total % 8 ≡ 0) }
+    requires items { All (IsLawfulItem total) items.now }
+    requires len { length reaches.old ≡ length items.now }
+    ensures len { length reaches.new ≡ length items.now }
+    ensures found { IsTrue result → AreReaches (IsReach total) items.now reaches.new }
+    ensures none { result ≡ false → (e : ℕ) → CanPlace total e items.now → ⊥ }
+{
+    let mut reach = reach_of_none(total);
+    let mut left = items.len();
+    while left > 0 {
+        left -= 1;
+        reaches[left] = reach;
+        match reach_from(total, &items[left], reach) {
+            None => return false,
+            Some(found) => reach = found,
+        }
+    }
+    true
+}
+
+// The reach of a file and those after it, which have the reach `after`.
+fn reach_from(total: u64, item: &LayoutItem, after: Reach) -> Option<Reach>
+    requires total { (total ≤ volume_limit) × (total % 8 ≡ 0) }
+    requires item { IsLawfulItem total item.now }
+    requires after { (after.greatest ≤ total) × (after.greatest % 8 ≡ 0) }
+    ensures found { IfSome result (λ r. IsGreatest total item.now after r) }
+    ensures none { IfNone result ((s : ℕ) → Serves total item.now after s → ⊥) }
+{
+    let greatest = greatest_start(total, item, after)?;
+    let near = serves_below(total, item, after, greatest, 8);
+    let far = serves_below(total, item, after, greatest, 16);
+    Some(Reach {
+        greatest,
+        near,
+        far,
+    })
+}
+
+// Whether the start that is `by` below `greatest` is usable.
+fn serves_below(total: u64, item: &LayoutItem, after: Reach, greatest: u64, by: u64) -> bool
+    requires total { total ≤ volume_limit }
+    requires item { IsLawfulItem total item.now }
+    requires greatest { greatest < 2 ^ 61 }
+    ensures { (t : ℕ) → t + by ≡ greatest
+        → (IsTrue result → Serves total item.now after t) × (Serves total item.now after t → IsTrue result) }
+{
+    by <= greatest && serves(total, item, after, greatest - by)
+}
+
+// Whether the only possible start of the volume top file is no multiple of 8, or its data are not
+// aligned there.
+fn is_off(total: u64, item: &LayoutItem) -> bool
+    requires total { total ≤ volume_limit }
+    requires item { IsLawfulItem total item.now }
+    ensures { IsTrue result ↔ IsOff total item.now }
+{
+    let start = total - item.size;
+    (start + item.header) % item.alignment != 0 || start % 8 != 0
+}
+
+/// Whether there is a volume top file that is off at its only possible start, with which it ends at
+/// the end of the volume of `total` bytes: the start is no multiple of 8, or the data are not
+/// aligned there. `total` is within the limit of a volume, and the files are as for `first_starts`.
+/// Takes no memory. (PI specification, volume 3, section 3.2.1.3.)
+pub fn is_top_off(total: u64, items: &[LayoutItem]) -> bool
+    requires total { total ≤ volume_limit }
+    requires items { All (IsLawfulItem total) items.now }
+    ensures { IsTrue result ↔ TopOff total items.now }
+{
+    for item in items {
+        if item.top && is_off(total, item) {
+            return true;
+        }
+    }
+    false
+}

@@ -1,0 +1,120 @@
+//! The first and the greatest usable start of one file, by the reach of the files after it.
+//!
+//! A start is usable if the file may begin there and ends at a usable edge. The volume top file has
+//! one possible start, with which it ends at the volume's end. The usable starts of any other file
+//! are found from one lawful start to the next, a step of the alignment, which is at least 8.
+
+ghost use Rattle.std.specs.Prelude.{◌≡◌, ℕ, ◌+◌, ◌%◌, ◌^◌, ◌<◌, ◌≤◌, IfSome, IfNone};
+ghost use Rattle.fv_base.specs.Measures.{IsAlignment};
+ghost use Rattle.fv_base.specs.Limits.{volume_limit};
+ghost use Rattle.fv_placement.specs.Starts.{Lawful};
+ghost use Rattle.fv_placement.specs.Items.{IsLawfulItem};
+ghost use Rattle.fv_placement.specs.inner.Reaches.{IsFirstStart, Serves, Widens};
+
+use crate::first_placement::LayoutItem;
+use crate::reach::{Reach, serves};
+use fv_base::field::up_to_8;
+
+// The greatest multiple of the alignment that is at most `x`.
+fn round_down(x: u64, alignment: u64) -> u64
+    requires { 0 < alignment }
+    ensures multiple { result % alignment ≡ 0 }
+    ensures below { result ≤ x }
+    ensures near { x < result + alignment }
+    ensures greatest { (y : ℕ) → y % alignment ≡ 0 → y ≤ x → y ≤ result }
+{
+    x - x % alignment
+}
+
+// The least multiple of the alignment that is at least `x`.
+fn round_up(x: u64, alignment: u64) -> u64
+    requires alignment { 0 < alignment }
+    requires small { x + alignment < 2 ^ 62 }
+    ensures multiple { result % alignment ≡ 0 }
+    ensures above { x ≤ result }
+    ensures near { result < x + alignment }
+    ensures least { (y : ℕ) → y % alignment ≡ 0 → x ≤ y → result ≤ y }
+{
+    round_down(x + (alignment - 1), alignment)
+}
+
+// The alignment of a start: that of the data, and at least 8.
+fn widened(alignment: u64) -> u64
+    requires { IsAlignment alignment }
+    ensures { Widens result alignment }
+{
+    if alignment < 8 { 8 } else { alignment }
+}
+
+// The first usable start after `edge`, if there is one: `edge` itself, or a start with a pad before
+// it. At most two such starts are tried. A start is tried in vain only where the file ends 16 or 8
+// bytes below the greatest usable edge. With a step of 8 `edge` is lawful too, and was usable then.
+// A larger step, at least 16, leads to the greatest usable edge or past it.
+pub(crate) fn first_start(total: u64, edge: u64, item: &LayoutItem, after: Reach) -> Option<u64>
+    requires total { total ≤ volume_limit }
+    requires edge { (edge % 8 ≡ 0) × (edge ≤ total) }
+    requires item { IsLawfulItem total item.now }
+    requires after { after.greatest ≤ total }
+    ensures found { IfSome result (λ s. IsFirstStart total edge item.now after s) }
+    ensures none { IfNone result ((s : ℕ) → Lawful edge item.now s → Serves total item.now after s → ⊥) }
+{
+    if serves(total, item, after, edge) {
+        return Some(edge);
+    }
+    if item.top {
+        let start = total - item.size;
+        return if edge + 24 <= start && serves(total, item, after, start) {
+            Some(start)
+        } else {
+            None
+        };
+    }
+    let step = widened(item.alignment);
+    let mut start = round_up(edge + 24 + item.header, step) - item.header;
+    while start + item.size <= after.greatest {
+        if serves(total, item, after, start) {
+            return Some(start);
+        }
+        start += step;
+    }
+    None
+}
+
+// The greatest usable start, if there is one. It is one of the two greatest lawful starts. With a
+// step of 8 the greatest leaves exactly the greatest usable edge. With a larger step, at least 16,
+// it may leave an edge 8 or 16 bytes below that; the next then leaves one at least 24 bytes below,
+// which is usable.
+pub(crate) fn greatest_start(total: u64, item: &LayoutItem, after: Reach) -> Option<u64>
+    requires total { (total ≤ volume_limit) × (total % 8 ≡ 0) }
+    requires item { IsLawfulItem total item.now }
+    requires after { (after.greatest ≤ total) × (after.greatest % 8 ≡ 0) }
+    ensures found { IfSome result
+        (λ s. Serves total item.now after s × ((t : ℕ) → Serves total item.now after t → t ≤ s)) }
+    ensures none { IfNone result ((s : ℕ) → Serves total item.now after s → ⊥) }
+{
+    if item.top {
+        let start = total - item.size;
+        return if serves(total, item, after, start) {
+            Some(start)
+        } else {
+            None
+        };
+    }
+    let extent = up_to_8(item.size);
+    if after.greatest < extent {
+        return None;
+    }
+    let step = widened(item.alignment);
+    let data = round_down(after.greatest - extent + item.header, step);
+    if data < item.header {
+        return None;
+    }
+    let start = data - item.header;
+    if serves(total, item, after, start) {
+        return Some(start);
+    }
+    if start < step {
+        return None;
+    }
+    Some(start - step)
+}

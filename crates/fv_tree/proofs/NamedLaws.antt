@@ -1,0 +1,183 @@
+-- Files as they are stored, and what the index of names has of them: what it says of names and marks holds of the files.
+use Rattle.std.proofs.lemmas.Grind.{common_steps}
+use Rattle.std.proofs.Common.{◌≡◌, ◌<◌, ℕ, ◌+◌, List, [], ◌∷◌, ◌++◌, length, take, drop, get_or, map, Bool, true, false, cond, refl, sym}
+use Rattle.std.proofs.Common.{ap, ◌∙◌, subst, arith, append-nil}
+use Rattle.std.specs.Prelude.{◌||◌, ◌&&◌, not, Option}
+use Rattle.std.specs.List.{All, AllByRecursion, filter, list_any, position_or_len}
+use Rattle.std.specs.Option.{unwrap_or}
+use Rattle.std.proofs.lemmas.List.{drop_all, get_or-map, length-map, take-map, take_all}
+use Rattle.std.proofs.lemmas.List.Elements.{recursion_from_All}
+use Rattle.std.proofs.lemmas.List.Folds.{Any-from_list_any}
+use Rattle.std.proofs.lemmas.Simd.{map-map}
+use Rattle.fv_base.specs.declared.guid.Guid.{Guid}
+use Rattle.fv_base.proofs.Laws.{and_split}
+use Rattle.fv_names.specs.NamedFiles as names
+use Rattle.fv_names.specs.NamedFiles.{NamedFile, names_in, is_name}
+use Rattle.fv_names.specs.NameIndexes.{AllApart, Entry, IsIndex}
+use Rattle.fv_names.proofs.Laws.{apart_twins, no_entry, no_named, none_replaced, number_within}
+use Rattle.fv_tree.specs.Denotes.{MeansFile, Pairwise, StreamRelation}
+use Rattle.fv_tree.specs.Files.{FileForm, NoTwins, current_in, is_marked, is_twin, replaced_by, same_name}
+use Rattle.fv_tree.specs.FileNames.{is_named}
+use Rattle.fv_tree.specs.LocatedFiles.{file_form}
+use Rattle.fv_tree.specs.Meaning.{FileMeaning, File, file_name_of}
+use Rattle.fv_tree.specs.inner.NameForms.{named_file, named_form}
+use Rattle.fv_tree.specs.declared.volume_files.LocatedFile.{LocatedFile}
+use Rattle.fv_tree.specs.declared.volume_files.Mark.TheVariants as marks
+
+-- what a loop over files reads past their end
+abbrev pub no_file : LocatedFile
+no_file = record {
+  payload = record { ref_ptr = (0, 0); now = [] };
+  name = record { bytes = [] };
+  offset = 0;
+  kind = 0;
+  attributes = record { 0 = 0 };
+  header_sum = 0;
+  mark = marks.Unmarked;
+}
+
+-- ---- names
+
+-- what files mean has their names
+pub read_names : (S : StreamRelation) (ss : List LocatedFile) (ms : List FileMeaning) → Pairwise (MeansFile S) (map file_form ss) ms
+    → map file_name_of ms ≡ names_in (map named_file ss)
+read_names S [] [] p = refl
+read_names S [] (m ∷ ms) p = absurd p
+read_names S (s ∷ ss) [] p = absurd p
+read_names S (s ∷ ss) (File name kind attributes content ∷ ms) p =
+    ap (λ (n : Guid). n ∷ map file_name_of ms) p.0.0 ∙ ap (λ (ns : List Guid). s.name ∷ ns) (read_names S ss ms p.1)
+
+-- the first file of a name has the place of its name
+place_named : (name : Guid) (fs : List FileMeaning)
+    → position_or_len (is_name name) (map file_name_of fs) ≡ position_or_len (is_named name) fs
+place_named name [] = refl
+place_named name (f ∷ fs) = ap (λ (n : ℕ). cond (not (is_named name f)) (1 + n) 0) (place_named name fs)
+
+-- so a number that was found among the names is that of the file
+pub looked_up : (name : Guid) (fs : List FileMeaning) (number : Option ℕ)
+    → unwrap_or number (length (map file_name_of fs)) ≡ position_or_len (is_name name) (map file_name_of fs)
+    → unwrap_or number (length fs) ≡ position_or_len (is_named name) fs
+looked_up name fs number h = ap (unwrap_or number) (sym (length-map fs file_name_of)) ∙ h ∙ place_named name fs
+
+-- ---- twins and updates
+
+-- two tests that agree of each file find the same
+same_any : (p : FileForm → Bool) (q : NamedFile → Bool) → ((s : LocatedFile) → p (file_form s) ≡ q (named_file s))
+    → (ss : List LocatedFile) → list_any p (map file_form ss) ≡ list_any q (map named_file ss)
+same_any p q same [] = refl
+same_any p q same (s ∷ ss) =
+    ap (λ (t : Bool). t || list_any p (map file_form ss)) (same s)
+    ∙ ap (λ (t : Bool). q (named_file s) || t) (same_any p q same ss)
+
+twins_any : (s : LocatedFile) (ss : List LocatedFile)
+    → list_any (is_twin (file_form s)) (map file_form ss) ≡ list_any (names.is_twin (named_file s)) (map named_file ss)
+twins_any s ss = same_any (is_twin (file_form s)) (names.is_twin (named_file s)) (λ x. refl) ss
+
+replaced_any : (s : LocatedFile) (ss : List LocatedFile)
+    → list_any (replaced_by (file_form s)) (map file_form ss) ≡ list_any (names.replaced_by (named_file s)) (map named_file ss)
+replaced_any s ss = same_any (replaced_by (file_form s)) (names.replaced_by (named_file s)) (λ x. refl) ss
+
+-- files without twins, and back
+pub twins_from : (ss : List LocatedFile) → names.NoTwins (map named_file ss) → NoTwins (map file_form ss)
+twins_from [] h = tt
+twins_from (s ∷ ss) h = (twins_any s ss ∙ h.0, twins_from ss h.1)
+
+pub twins_to : (ss : List LocatedFile) → NoTwins (map file_form ss) → names.NoTwins (map named_file ss)
+twins_to [] h = tt
+twins_to (s ∷ ss) h = (sym (twins_any s ss) ∙ h.0, twins_to ss h.1)
+
+-- the same of the first n files, and of the file after them
+pub front_twins : (n : ℕ) (ss : List LocatedFile) → names.NoTwins (take n (map named_file ss)) → NoTwins (take n (map file_form ss))
+front_twins n ss h =
+    subst NoTwins (sym (take-map file_form n ss)) (twins_from (take n ss) (subst names.NoTwins (take-map named_file n ss) h))
+
+pub twin_after : (n : ℕ) (ss : List LocatedFile) → n < length ss
+    → list_any (names.is_twin (get_or (map named_file ss) n no_named)) (take n (map named_file ss)) ≡ true
+    → list_any (is_twin (file_form (get_or ss n no_file))) (take n (map file_form ss)) ≡ true
+twin_after n ss l h =
+    let s : LocatedFile = get_or ss n no_file in
+    ap (list_any (is_twin (file_form s))) (take-map file_form n ss) ∙ twins_any s (take n ss)
+    ∙ ap (list_any (names.is_twin (named_file s))) (sym (take-map named_file n ss))
+    ∙ ap (λ (f : NamedFile). list_any (names.is_twin f) (take n (map named_file ss))) (sym (get_or-map named_file ss n no_file no_named l))
+    ∙ h
+
+-- ---- names that differ
+
+-- a test that is false of all files, as a filter
+all_kept : (test : FileForm → Bool) (fs : List FileForm) → AllByRecursion (λ f. test f ≡ false) fs → filter (λ f. not (test f)) fs ≡ fs
+all_kept test [] h = refl
+all_kept test (f ∷ fs) h = rw (h.0) (ap (λ (gs : List FileForm). f ∷ gs) (all_kept test fs h.1))
+
+none_kept : (all ss : List LocatedFile) → AllByRecursion (λ f. list_any (names.replaced_by f) (map named_file all) ≡ false) (map named_file ss)
+    → AllByRecursion (λ f. list_any (replaced_by f) (map file_form all) ≡ false) (map file_form ss)
+none_kept all [] h = tt
+none_kept all (s ∷ ss) h = (replaced_any s all ∙ h.0, none_kept all ss h.1)
+
+module _ (ss : List LocatedFile) (es : List Entry) (index : IsIndex (names_in (map named_file ss)) es) (apart : AllApart es) where
+  -- there are no twins
+  pub without_twins : NoTwins (map file_form ss)
+  without_twins = twins_from ss (apart_twins (map named_file ss) es index no_named no_entry apart)
+
+  -- and no file is replaced
+  pub all_current : current_in (map file_form ss) ≡ map file_form ss
+  all_current =
+      all_kept (λ f. list_any (replaced_by f) (map file_form ss)) (map file_form ss)
+      (none_kept ss ss (none_replaced (map named_file ss) es index no_named no_entry apart))
+
+-- ---- files whose marks change
+
+-- files of the same forms have the same names and marks
+pub same_named : (xs ys : List LocatedFile) → map file_form xs ≡ map file_form ys → map named_file xs ≡ map named_file ys
+same_named xs ys h = sym (map-map named_form file_form xs) ∙ ap (map named_form) h ∙ map-map named_form file_form ys
+
+-- the number of an entry is that of a file, also after files were noted as replaced
+pub file_within : (old files : List LocatedFile) (es : List Entry) → IsIndex (names_in (map named_file old)) es
+    → map file_form files ≡ map file_form old → (n p : ℕ) → p < length es → ((e : Entry) → n ≡ (get_or es p e).1) → n < length files
+file_within old files es index same n p l is =
+    omega (
+      arith,
+      number_within (map named_file old) es index no_named no_entry p l,
+      is no_entry,
+      ap length same,
+      length-map files file_form,
+      length-map old file_form,
+      length-map old named_file,
+    )
+
+-- what the index says of the file of a number
+pub replaced_at : (old files : List LocatedFile) (n : ℕ) (d : FileForm) → map file_form files ≡ map file_form old → n < length files
+    → list_any (names.replaced_by (get_or (map named_file files) n no_named)) (map named_file files)
+    ≡ list_any (replaced_by (get_or (map file_form old) n d)) (map file_form old)
+replaced_at old files n d same l =
+    ap (λ (f : NamedFile). list_any (names.replaced_by f) (map named_file files)) (get_or-map named_file files n no_file no_named l)
+    ∙ sym (replaced_any (get_or files n no_file) files)
+    ∙ ap (λ (f : FileForm). list_any (replaced_by f) (map file_form files)) (sym (get_or-map file_form files n no_file d l))
+    ∙ ap (λ (fs : List FileForm). list_any (replaced_by (get_or fs n d)) fs) same
+
+-- only a marked file is replaced
+pub replaced_marked : (f : FileForm) (fs : List FileForm) → list_any (replaced_by f) fs ≡ true → is_marked f.head.state ≡ true
+replaced_marked f fs h =
+    let r = Any-from_list_any (replaced_by f) fs h in
+    let g : FileForm = r.1 in
+    let test = (and_split (same_name f g) (is_marked f.head.state && not (is_marked g.head.state)) r.4).1 in
+    (and_split (is_marked f.head.state) (not (is_marked g.head.state)) test).0
+
+-- ---- what is kept
+
+-- where a note says of each file what a test says, those without the note are those that the test is false of
+pub kept_noted : {X : Type 0} (form : X → FileForm) (note : X → Bool) (test : FileForm → Bool) (xs : List X)
+    → All (λ x. note x ≡ test (form x)) xs → map form (filter (λ x. not (note x)) xs) ≡ filter (λ f. not (test f)) (map form xs)
+kept_noted {X} form note test xs all = go xs (recursion_from_All (λ x. note x ≡ test (form x)) xs all) where
+  go : (ys : List X) → AllByRecursion (λ x. note x ≡ test (form x)) ys
+      → map form (filter (λ x. not (note x)) ys) ≡ filter (λ f. not (test f)) (map form ys)
+  go [] h = refl
+  go (y ∷ ys) h = one (test (form y)) refl (go ys h.1) where
+    one : (t : Bool) → test (form y) ≡ t → map form (filter (λ x. not (note x)) ys) ≡ filter (λ f. not (test f)) (map form ys)
+        → map form (filter (λ x. not (note x)) (y ∷ ys)) ≡ filter (λ f. not (test f)) (map form (y ∷ ys))
+    one true is rest = rw (h.0, is) rest
+    one false is rest = rw (h.0, is) (ap (λ (fs : List FileForm). form y ∷ fs) rest)
+
+-- a list in the place of one as long
+pub in_place : {X : Type 0} (new old : List X) (n : ℕ) → length new ≡ length old → n ≡ length old
+    → take n (new ++ drop (length new) old) ≡ new
+in_place {X} new old n long count = grind (arith, common_steps, drop_all, append-nil, take_all)

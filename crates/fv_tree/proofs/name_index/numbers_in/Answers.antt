@@ -1,9 +1,0 @@
-use Rattle.std.proofs.Common.{◌≡◌, length, rules}
-use Rattle.fv_base.specs.Value.{IsBytes}
-use Rattle.fv_tree.proofs.name_index.numbers_in.Goals as goal
-
-pub returns-clause-whole : goal.returns-clause-whole
-returns-clause-whole c =
-    let long : length c.args.bytes ≡ 16 = search rules in
-    let small : IsBytes c.args.bytes = search rules in
-    (long, small)

@@ -1,0 +1,13 @@
+-- What the index of names knows of a file.
+use Rattle.fv_names.specs.NamedFiles.{NamedFile}
+use Rattle.fv_tree.specs.Files.{FileForm, is_marked}
+use Rattle.fv_tree.specs.LocatedFiles.{file_form}
+use Rattle.fv_tree.specs.declared.volume_files.LocatedFile.{LocatedFile}
+
+-- the name of a file, and whether the file is marked for update
+abbrev pub named_form : FileForm → NamedFile
+named_form f = record { name = f.head.name; marked = is_marked f.head.state }
+
+-- the same of a file that a call has returned
+abbrev pub named_file : LocatedFile → NamedFile
+named_file s = named_form (file_form s)

@@ -1,0 +1,19 @@
+//! What the index of names reads of a file as it is stored.
+
+ghost use Rattle.fv_tree.specs.inner.NameForms.{named_file};
+
+use crate::volume_files::LocatedFile;
+use fv_base::Guid;
+use fv_names::Named;
+
+impl<'a> Named for LocatedFile<'a> {
+    ghost named = { named_file };
+
+    fn name(&self) -> Guid {
+        self.name
+    }
+
+    fn is_marked(&self) -> bool {
+        self.mark.is_marked()
+    }
+}
