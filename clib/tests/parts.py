@@ -1,9 +1,9 @@
 #!/usr/bin/env python3
 """parts.py [--program PROGRAM] FILE..: files, sections, extract and cells of fv.py.
 
-First over the volumes of crates/fv_tests/src/tree, whose files and faults were worked out by hand. Then over each FILE:
-the places of the data against the input itself, and, with the program, the lines of `list`, the output of `extract` for
-each file and section, and the names of the cells."""
+First over the volumes of crates/fv_run_tests/rows/read.rows, whose files and faults were worked out by hand. Then over
+each FILE: the places of the data against the input itself, and, with the program, the lines of `list`, the output of
+`extract` for each file and section, and the names of the cells."""
 
 import argparse
 import collections
@@ -13,12 +13,11 @@ import sys
 from pathlib import Path
 
 ROOT = Path(__file__).resolve().parents[2]
-sys.path.insert(0, str(ROOT / "clib"))
+sys.path[:0] = [str(ROOT / "clib"), str(ROOT / "crates/fv_run_tests/rows")]
 import fv
+import rows
 
-PAGE = (ROOT / "docs/FAULTS.md").read_text(encoding="utf-8").split("## What each fault means for you")[0]
 CELLS = {fv.FILE: "file", fv.PAD: "pad", fv.DELETED: "deleted", fv.UNFINISHED: "unfinished", fv.FREE: "free"}
-FAULTS = {name: int(number) for number, name in re.findall(r"(?m)^\| (\d+) \| ([A-Z]\w+) \|", PAGE)}
 
 
 def outcome(call, *arguments):
@@ -36,69 +35,61 @@ def is_missing(call, *arguments):
     return False
 
 
-def is_stream(file):
-    """Whether the data of a file are sections, by its type."""
-    return file.kind == 2 or 4 <= file.kind <= 15
-
-
-def header(name):
-    """The header with a name: `80`, of a volume of 0x80 bytes; `c0+48`, with an extended header at 0x48."""
-    length, extended = (int(part or "0", 16) for part in name.partition("+")[::2])
-    total = (0xF6CE - 2 * length - extended) % 0x10000
-    words = "00*16 78e58c8c3d8a1c4f9935896185c32dd3 {0} 5f465648 fffe0400 4800{1} {3:02x}000002 01000000 {2} 00*8"
-    numbers = [number.to_bytes(size, "little").hex() for number, size in ((length, 8), (total, 2), (length, 4))]
-    return spelled(words.format(*numbers, extended))
-
-
-def spelled(text):
-    """The bytes that a text spells: hexadecimal digits, a star and a number to repeat a word, and headers as `<80>`."""
-    words = (word.partition("*") for word in text.split())
-    return b"".join(header(word[1:-1]) if word[0] == "<" else bytes.fromhex(word) * int(n or 1) for word, _, n in words)
-
-
-def tables():
-    """The rows of the tables: whether the volume is read, what is expected, and its bytes."""
-    for module in ("vectors", "deep", "large"):
-        source = (ROOT / f"crates/fv_tests/src/tree/{module}.rt").read_text(encoding="utf-8")
-        for name, text in re.findall(r'fn (accepted|rejected)\(\).*?\{\s*"\\\n(.*?)"\n\}', source, re.S):
-            for row in text.replace("\\\n", "").split("\\n"):
-                if row.strip():
-                    _, wanted, digits = (part.strip() for part in row.split(": "))
-                    yield name == "accepted", wanted, spelled(digits)
-
-
 def listed(data):
-    """What the tables say of a volume: its length, and of each file the first byte of the name, the type, the
-    attributes without bit 01, the number of bytes of its data, and that of its outer sections."""
+    """What the rows say of a volume: its length, and of each file the first byte of the name, the type, the attributes
+    without bit 01, the number of bytes of its data, and that of its outer sections."""
     parts = [str(len(data))]
     for number, file in enumerate(fv.files(data)):
         outer = sum(section.depth == 0 for section in fv.sections(data, number))
-        sections = f"Some({outer})" if is_stream(file) else "None"
+        sections = outer if rows.is_stream(file.kind) else "-"
         parts.append(f"{file._name[0]:02x} {file.kind:02x} {file.attributes & ~1:02x} {file.data_len} {sections}")
     return ", ".join(parts)
 
 
+def is_fault(found, wanted):
+    """Whether a fault has this number, offset and depth."""
+    return isinstance(found, fv.Fault) and (found.number, found.offset, found.depth) == wanted
+
+
+def check_read():
+    """Each volume has its files, and cut short anywhere it is truncated there."""
+    for row, data, wanted in rows.read("accepted"):
+        whole = data[: int(wanted.split(",")[0])]
+        assert listed(whole) == wanted, row
+        check_places(whole)
+        for count in range(len(whole) if len(whole) < 4096 else 0):
+            assert is_fault(outcome(fv.files, whole[:count]), (1, count, 0)), (row, count)
+
+
+def check_rejected():
+    """Each of the others has its fault."""
+    for row, data, wanted in rows.read("rejected"):
+        for call in (fv.files, lambda it: fv.sections(it, 0), lambda it: fv.extract(it, 0)):
+            fault = outcome(call, data)
+            assert is_fault(fault, tuple(map(int, wanted.split()))), (row, fault)
+
+
+def check_data():
+    """The data of a file are where the row says."""
+    for row, data, wanted in rows.read("data"):
+        number, start, end = map(int, wanted.split())
+        file = fv.files(data)[number]
+        assert (file.data_offset, file.data_offset + file.data_len) == (start, end), row
+        assert fv.extract(data, number) == data[start:end], row
+
+
 def check_tables():
-    seen = [0, 0]
-    for is_read, wanted, data in tables():
-        seen[is_read] += 1
-        if is_read:
-            whole = data[: int(wanted.split(",")[0])]
-            assert listed(whole) == wanted, wanted
-            check_places(whole)
-        else:
-            kind, offset, depth = wanted.split()
-            for call in (fv.files, lambda it: fv.sections(it, 0), lambda it: fv.extract(it, 0)):
-                fault = outcome(call, data)
-                assert isinstance(fault, fv.Fault) and fault.number == FAULTS[kind], (wanted, fault)
-                assert (fault.offset, fault.depth) == (int(offset), int(depth)), (wanted, fault)
-    print(f"parts: {seen[1]} volumes of the tables have the files that they should, {seen[0]} the faults")
+    check_read()
+    check_rejected()
+    check_data()
+    counts = [sum(1 for _ in rows.read(table)) for table in ("accepted", "rejected", "data")]
+    print("parts: {} volumes of the rows have the files that they should, {} the fault, {} the data".format(*counts))
 
 
 def check_remains(program):
     """A deleted file, one whose data were never finished, and two headers that were never finished."""
     begun, invalid = "ff*16 fffffffefffffffe", "ff*16 fffffffeffffffde"
-    data = spelled(f"<c0> 0a*16 47aa0100180000e8 0a*16 47aa0100180000fc {begun} {invalid} ff*24")
+    data = rows.spelled(f"<c0> 0a*16 47aa0100180000e8 0a*16 47aa0100180000fc {begun} {invalid} ff*24")
     wanted = [fv.DELETED, fv.UNFINISHED, fv.UNFINISHED, fv.UNFINISHED, fv.FREE]
     assert [cell.what for cell in fv.cells(data)] == wanted
     if program:
@@ -117,7 +108,7 @@ def check_places(data):
         stored = data[file.data_offset : file.data_offset + file.data_len]
         sections = fv.sections(data, number)
         assert len(stored) == file.data_len and len(sections) == file.sections
-        if not is_stream(file):
+        if not rows.is_stream(file.kind):
             assert not sections and fv.extract(data, number) == stored
         starts, ends = {fv.NO_PARENT: 0}, {fv.NO_PARENT: 0}
         for place, section in enumerate(sections):

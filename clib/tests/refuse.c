@@ -1,5 +1,6 @@
 /* Each allocation of each call is refused in turn, by three functions in place of those of src/heap.c. A call must then
- * return that memory ran out, and nothing else. It keeps no block, and leaves the buffer unchanged. */
+ * return that memory ran out, at offset 0 and depth 0, and nothing else. It keeps no block, and leaves the buffer
+ * unchanged. */
 #include <fv.h>
 #include <stdbool.h>
 #include <stdio.h>
@@ -44,6 +45,7 @@ static const char *const names[CALLS] = {"normalise", "normalise_image", "is_can
                                          "compare",   "cells",           "files",        "sections", "extract",
                                          "extract_section", "hobs",      "depex"};
 static uint8_t in[1 << 24], buffer[1 << 24];
+static fv_fault fault;
 
 static uint32_t call(int which, size_t n)
 {
@@ -56,18 +58,18 @@ static uint32_t call(int which, size_t n)
     static const uint8_t expression[18] = {2, 1, 2, 3, 4, 5, 6, 7, 8, 9, 10, 11, 12, 13, 14, 15, 16, 8};
     static const uint8_t blocks_of[88] = {[0] = 1, [2] = 56, [56] = 5, [58] = 24, [80] = 255, [81] = 255, [82] = 8};
     fv_guid guid = {{1}};
-    fv_fault fault;
     fv_comparison found;
     fv_sha256 sum;
     uint32_t value;
     uint64_t count, consumed;
+    fault = (fv_fault){0};
     switch (which) {
     case 0: return fv_normalise(in, n, buffer, n, &fault);
     case 1: return fv_normalise_image(in, n, buffer, n, &fault);
     case 2: return fv_is_canonical(in, n, &value, &fault);
     case 3: return fv_digest(in, n, &sum, &fault);
     case 4: return fv_scan(in, n, offsets, 64, &count);
-    case 5: return fv_compare(in, n, in, n, line, sizeof line, &found);
+    case 5: value = fv_compare(in, n, in, n, line, sizeof line, &found); fault = found.fault; return value;
     case 6: return fv_cells(in, n, cells, 4096, &count, &fault);
     case 7: return fv_files(in, n, files, 4096, &count, &fault);
     case 8: return fv_sections(in, n, 0, sections, 4096, &count, &fault);
@@ -102,6 +104,10 @@ int main(int argc, char **argv)
             if (left >= 0) break; /* there are no more allocations */
             if (status != memory) {
                 printf("%s, allocation %ld: %u, not %u\n", names[which], k, status, memory);
+                return 1;
+            }
+            if (fault.offset || fault.depth) {
+                printf("%s, allocation %ld: at offset %llu\n", names[which], k, (unsigned long long)fault.offset);
                 return 1;
             }
             for (size_t i = 0; i < n; i++)

@@ -1,10 +1,11 @@
 #!/usr/bin/env python3
-"""volumes.py: normalise, normalise_image, is_canonical and compare of fv.py over the volumes of crates/fv_run_tests/rows,
-and depex and hobs over its expressions and lists.
+"""volumes.py: normalise, normalise_image, is_canonical, compare, verify and cells of fv.py over the volumes of
+crates/fv_run_tests/rows, and depex and hobs over its expressions and lists.
 
 The images and the faults of these were worked out by hand. Of some, each byte is then replaced by each other one: the
 calls have to agree on what they are given, and whatever has an image has to keep it."""
 
+import re
 import sys
 import uuid
 from pathlib import Path
@@ -15,6 +16,14 @@ import fv
 import rows
 
 NO_ROOM, TOP_ALIGNMENT = 22, 23
+# What `cells` calls each cell, and in which of its sums the bytes are.
+CELLS = {
+    fv.FILE: ("file", "files"),
+    fv.PAD: ("pad", "pads"),
+    fv.DELETED: ("deleted", "deleted"),
+    fv.UNFINISHED: ("unfinished", "deleted"),
+    fv.FREE: ("free", "free"),
+}
 # Canonical images with an extended header, a pad before an aligned file, and a volume inside.
 IMAGES = ["ext-header-image", "misaligned-file-image", "nested-image"]
 VOLUMES = [
@@ -66,9 +75,54 @@ def check_flash(accepted, rejected):
     return len(accepted) + len(rejected)
 
 
+def check_extents(table):
+    """Each volume has its extent."""
+    for name, words, _ in map(rows.parts, table):
+        extent = fv.verify(rows.spelled(name))
+        assert [getattr(extent, it) for it, _ in extent._fields_] == [*map(int, words.split())], name
+    return len(table)
+
+
+def file_text(cell, header):
+    """What `cells` writes of a file after its length. The fields of a file or a pad are those of its header."""
+    assert (cell.name.bytes_le, cell.kind, cell.attributes) == (header[:16], header[18], header[19])
+    assert cell.header_len == (32 if cell.attributes & 1 else 24)
+    place = f"{cell.offset + cell.header_len} length {cell.len - cell.header_len}"
+    return f" {cell.name} type {cell.kind:02x} attributes {cell.attributes:02x} data at {place}" * (cell.what == fv.FILE)
+
+
+def text_of(data):
+    """What `cells` writes of a volume, by what verify and cells return."""
+    sums = dict.fromkeys(("files", "pads", "deleted", "filler", "free"), 0)
+    text = f"header at 0 length {fv.verify(data).first}|"
+    for cell in fv.cells(data):
+        what, total = CELLS[cell.what]
+        length = (cell.len + 7) // 8 * 8
+        rest = file_text(cell, data[cell.offset :][:32]) if cell.what in (fv.FILE, fv.PAD) else ""
+        text += f"{what} at {cell.offset} length {length}{rest}|"
+        sums[total] += cell.len
+        sums["filler"] += length - cell.len
+    return text + "sums " + " ".join(f"{name} {number}" for name, number in sums.items()) + "|"
+
+
+def check_bodies(table):
+    """Each body has the cells or the fault of its row."""
+    count = 0
+    for row in table:
+        text = rows.parts(row)[2].partition(" ")[2]
+        fault = re.fullmatch(r"fault (\d+) at (\d+)\|", text)
+        wanted = (*map(int, fault.groups()), 0) if fault else text
+        for data in rows.bodies(row):
+            found = outcome(text_of, data)
+            assert found == wanted, (row, found)
+            count += 1
+    return count
+
+
 def check_rejected(table):
-    """Each expression and each hand-off list has the fault of its row, or an expression is accepted."""
-    calls, count = {"pei": lambda data: fv.depex(data, fv.PEI), "dxe": fv.depex, "hobs": fv.hobs}, 0
+    """Each expression, hand-off list and head has the fault of its row, or an expression is accepted."""
+    calls = {"pei": lambda data: fv.depex(data, fv.PEI), "dxe": fv.depex, "hobs": fv.hobs, "head": fv.verify}
+    count = 0
     for row in table:
         for kind, data, fault in rows.rejected(row):
             found = outcome(calls[kind], data)
@@ -133,7 +187,9 @@ def main():
     images, unfit = check_images(), check_unfit(library["unfit"])
     flash = check_flash(library["flash images"], library["rejected images"])
     print(f"volumes: {images} have their images, {unfit} do not fit; {flash} flash images and {check_full()} full volumes")
-    print(f"volumes: {check_rejected(rows.tables('parts')[''])} expressions and hand-off lists are as the rows say")
+    extents, bodies = check_extents(library["extents"]), check_bodies(rows.tables("bodies")[""])
+    print(f"volumes: {extents} have their extents, and {bodies} their cells or their fault")
+    print(f"volumes: {check_rejected(rows.tables('parts')[''])} expressions, hand-off lists and heads are as the rows say")
     print(f"volumes: {check_values(library['values'])} expressions have their values")
     print(f"volumes: of {check_replaced(IMAGES, agree) + check_replaced(VOLUMES, keeps)} with another byte each is as it should be")
 

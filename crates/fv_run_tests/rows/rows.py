@@ -26,15 +26,33 @@ def parts(row):
 
 
 VOLUMES = tables("volumes")
+VOLUMES_READ = tables("read")
 WORDS = {name: words for rows in VOLUMES.values() for name, words, _ in map(parts, rows)}
+# The GUID of the file system FFS3.
+FFS3 = bytes.fromhex("7ac07354cb3dca4dbd6f1e9689e7349a")
+
+
+def header(name):
+    """The header with a name: `80`, of a volume of 0x80 bytes; `c0+48`, with an extended header at 0x48."""
+    length, extended = (int(part or "0", 16) for part in name.partition("+")[::2])
+    total = (0xF6CE - 2 * length - extended) % 0x10000
+    words = "00*16 78e58c8c3d8a1c4f9935896185c32dd3 {0} 5f465648 fffe0400 4800{1} {3:02x}000002 01000000 {2} 00*8"
+    numbers = [number.to_bytes(size, "little").hex() for number, size in ((length, 8), (total, 2), (length, 4))]
+    return spelled(words.format(*numbers, extended))
 
 
 def spelled(text):
-    """The bytes that words spell: hexadecimal digits, which a star and a number repeat, and names of volumes.rows."""
+    """The bytes that words spell: hexadecimal digits, which a star and a number repeat, headers as `<80>`, and names of
+    volumes.rows."""
     found = []
     for word in text.split():
         digits, _, count = word.partition("*")
-        found.append(spelled(WORDS[word]) if word in WORDS else bytes.fromhex(digits) * int(count or 1))
+        if word in WORDS:
+            found.append(spelled(WORDS[word]))
+        elif word[0] == "<":
+            found.append(header(word[1:-1]))
+        else:
+            found.append(bytes.fromhex(digits) * int(count or 1))
     return b"".join(found)
 
 
@@ -43,37 +61,81 @@ def images():
     return [(name, image or name) for name, _, image in map(parts, VOLUMES["volumes"] + VOLUMES["long"])]
 
 
-def volume_of(files):
-    """A volume of these files, with erased bytes after them up to a multiple of 8."""
+def volume_of(files, system=2, erased=0xFF):
+    """A volume of these files in the file system, with erased bytes after them up to a multiple of 8."""
     size = (72 + len(files) + 7) // 8 * 8
     head = bytearray(spelled("H72"))
+    head[16:32] = head[16:32] if system == 2 else FFS3
+    head[45] = 0xFE if erased else 0xF6
     head[32:36] = head[60:64] = size.to_bytes(4, "little")
     head[50:52] = bytes(2)
     total = sum(int.from_bytes(head[at : at + 2], "little") for at in range(0, 72, 2))
     head[50:52] = (-total % 0x10000).to_bytes(2, "little")
-    return bytes(head + files).ljust(size, b"\xff")
+    return bytes(head + files).ljust(size, bytes([erased]))
+
+
+def file_of(kind, data, name=bytes([0x0A] * 16)):
+    """A file of this type, with these data and this name."""
+    size = (24 + len(data)).to_bytes(3, "little")
+    total = sum(name) + kind + sum(size)
+    return name + bytes([-total % 256, 0xAA, kind, 0]) + size + b"\xf8" + data
 
 
 def full_volume(count):
     """A volume of `count` files without data, each named by its number, and nothing else. It is its own image."""
-    files = b""
-    for number in range(count):
-        name = number.to_bytes(2, "little")
-        files += name + bytes(14) + bytes([(0xE7 - sum(name)) % 256]) + bytes.fromhex("aa0100180000f8")
-    return volume_of(files)
+    return volume_of(b"".join(file_of(1, b"", number.to_bytes(16, "little")) for number in range(count)))
 
 
 def expression_volume(phase, data):
     """A volume with one file, in which one section holds the expression of a phase. It is its own image."""
     section = (4 + len(data)).to_bytes(3, "little") + bytes([{"pei": 0x1B, "dxe": 0x13}[phase]]) + data
-    name, size = bytes([0x0A] * 16), (24 + len(section)).to_bytes(3, "little")
-    total = sum(name) + 0x07 + sum(size)
-    return volume_of(name + bytes([-total % 256]) + bytes.fromhex("aa0700") + size + b"\xf8" + section)
+    return volume_of(file_of(7, section))
+
+
+def is_stream(kind):
+    """Whether the data of a file of this type are sections."""
+    return kind == 2 or 4 <= kind <= 15
+
+
+def read(table):
+    """The rows of a table of `read`: each with the bytes that its words spell, and its result."""
+    for row in VOLUMES_READ[table]:
+        words, _, result = row.partition(" -> ")
+        yield row, spelled(words.rpartition(": ")[2]), result
+
+
+def stream(row):
+    """A row of the right streams: its bytes, how many of them follow the last section, and of each section the offset,
+    the type, the form and the body."""
+    words, _, found = row.partition(" -> ")
+    tail, *sections = found.split(", ")
+    data, found = spelled(words), []
+    for section in sections:
+        at, kind, form, body = (section + " ").split(" ", 3)
+        found.append((int(at), int(kind, 16), form, spelled(body)))
+    return data, int(tail), found
+
+
+def long_stream():
+    """A stream of 1000 sections of 8 to 5 bytes that hold their number, with what `stream` finds of it."""
+    data, found = b"", []
+    for number in range(1000):
+        body = (number.to_bytes(2, "little") + b"\xee\xee")[: 4 - number % 4]
+        found.append((len(data), 0x19, "short", body))
+        data += bytes([4 + len(body), 0, 0, 0x19]) + body.ljust(4, b"\xee")
+    return data, 3, found
+
+
+def bodies(row):
+    """The volumes whose body a row of `bodies` spells, one for each of its file systems."""
+    name, words, _ = parts(row)
+    *systems, erased = name.partition(",")[0].split()
+    return [volume_of(spelled(words), int(it), int(erased, 16)) for it in systems]
 
 
 def rejected(row):
-    """What a row of `parts` rejects: `pei`, `dxe` or `hobs`, the bytes, and the number and the offset of the fault, or
-    None for what is accepted."""
+    """What a row of `parts` rejects: `pei`, `dxe`, `hobs` or `head`, the bytes, and the number and the offset of the fault,
+    or None for what is accepted."""
     name, words, fault = parts(row)
     kind, *ends = name.split()
     data = spelled(words)

@@ -2,8 +2,7 @@
 //!
 //! Digits, stars and spaces mean what they mean in the tables of fv_tests. A name is that of a row
 //! of the tables in `volumes.rt`, since a command is run on whole volumes and lists, and what it
-//! writes is compared with others. The tables of fv_tests have no such names: there a header is
-//! spelled by the volume's length, since each row has a volume of its own.
+//! writes is compared with others.
 
 use crate::volumes::{parts, text_named, volumes};
 use fv_base::Port;

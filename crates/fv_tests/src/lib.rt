@@ -1,11 +1,9 @@
 //! The tests of the public calls of `fv_base`, `fv_head`, `fv_file`, `fv_section`, `fv_depex`,
-//! `fv_hob`, `fv_tree` and `fv_compare`, a module a crate: what no contract says.
+//! `fv_hob` and `fv_tree`, a module a crate: what no contract says.
 #![tactic(auto)]
 
 #[cfg(test)]
 mod base;
-#[cfg(test)]
-mod compare;
 #[cfg(test)]
 mod depex;
 #[cfg(test)]

@@ -1,6 +1,6 @@
-//! What no contract says: streams, texts and headers whose bytes are known from outside.
+//! What neither a contract nor a run of the program says: frames at an offset, what leaves hold
+//! beside what `list` shows, headers as they are written, and memory that runs out.
 
 mod memory;
 mod streams;
-mod texts;
 mod written;

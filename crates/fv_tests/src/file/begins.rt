@@ -1,86 +1,170 @@
 //! Bytes that begin with a file.
 
-use super::{A, Claim, wrong_line};
-use crate::faults::fault_text;
+use super::{A, P};
 use bitflags::Flags;
-use fv_base::{Fault, FaultKind, FileSystem, Polarity};
-use fv_file::{FileHead, verify_ffs_file};
-use std::alloc::Global;
+use fv_base::{Fault, FaultKind, FileSystem, Guid, Polarity};
+use fv_file::{FileAttributes, FileHead, FileState, verify_ffs_file};
 
-// Files and pads in FFS3. What is expected of a header is the byte of its name, the type, the
-// attribute bits, the size, the length of the header, the header sum, the file sum and the state.
-fn files() -> &'static str {
-    "\
-    a file without data: 0a 01 00 24 24 47 aa DataValid: 0a*16 47aa0100180000f8\n\
-    a marked file without data: 0a 01 00 24 24 47 aa Marked: 0a*16 47aa0100180000f0\n\
-    a file with its sum, and no filler: 0a 01 40 28 24 03 f6 DataValid: \
-        0a*16 03f601401c0000f8 01020304\n\
-    a byte of data, and other bytes after the file: 0a 01 00 25 24 46 aa DataValid: \
-        0a*16 46aa0100190000f8 5a010203040506070809\n\
-    a pad: ff f0 00 24 24 08 aa DataValid: ff*16 08aaf000180000f8\n\
-    a pad that may not be moved, and a wrong file sum: ff f0 04 24 24 04 55 DataValid: \
-        ff*16 0455f004180000f8\n\
-    a large file: 0a 01 01 32 32 3e aa DataValid: 0a*16 3eaa0101000000f8 2000000000000000"
-}
+/// A file or a pad: its name and the bytes after that; and then, of its header, the type and the
+/// attribute bits, the size and the length of the header, the header sum and the file sum, and the
+/// state.
+type FileRow = (
+    [u8; 16],
+    &'static [u8],
+    (u8, u8),
+    (u64, u64),
+    (u8, u8),
+    FileState,
+);
 
-// Headers with 32 erased bytes after them, in FFS2.
-fn headers() -> &'static str {
-    "\
-    State has bit 40: FileState 23 0: 0a*16 47aa0100180000b8 ff*32\n\
-    all State bits: FileState 23 0: 0a*16 47aa010018000000 ff*32\n\
-    data that were never finished: FileState 23 0: 0a*16 47aa0100180000fc ff*32\n\
-    a deleted file: FileState 23 0: 0a*16 47aa0100180000e8 ff*32\n\
-    a State byte that is erased: FileState 23 0: 0a*16 47aa0100180000ff ff*32\n\
-    a header that was begun: FileState 23 0: 0a*16 fffffffffffffffe ff*32\n\
-    a header that is invalid: FileState 23 0: 0a*16 ffffffffffffffde ff*32\n\
-    a large file: LargeFile 19 0: 0a*16 47aa0101180000f8 ff*32\n\
-    the header sum is off by one: FileHeaderSum 0 0: 0a*16 48aa0100180000f8 ff*32\n\
-    a size of 23: FileSize 20 0: 0a*16 48aa0100170000f8 ff*32\n\
-    a size of 64: FileSize 20 0: 0a*16 1faa0100400000f8 ff*32\n\
-    a file that may not be moved: Fixed 19 0: 0a*16 43aa0104180000f8 ff*32\n\
-    the file sum is not AA: FileSum 17 0: 0a*16 47ab0100180000f8 ff*32"
-}
+/// Files and pads in FFS3.
+const FILES: &[FileRow] = &[
+    // Files without data, of which the second is marked.
+    (
+        A,
+        &[0x47, 0xaa, 0x01, 0x00, 0x18, 0x00, 0x00, 0xf8],
+        (0x01, 0x00),
+        (24, 24),
+        (0x47, 0xaa),
+        FileState::DataValid,
+    ),
+    (
+        A,
+        &[0x47, 0xaa, 0x01, 0x00, 0x18, 0x00, 0x00, 0xf0],
+        (0x01, 0x00),
+        (24, 24),
+        (0x47, 0xaa),
+        FileState::Marked,
+    ),
+    // A file with its sum, and no filler.
+    (
+        A,
+        &[0x03, 0xf6, 0x01, 0x40, 0x1c, 0x00, 0x00, 0xf8, 1, 2, 3, 4],
+        (0x01, 0x40),
+        (28, 24),
+        (0x03, 0xf6),
+        FileState::DataValid,
+    ),
+    // A byte of data, and other bytes after the file.
+    (
+        A,
+        &[
+            0x46, 0xaa, 0x01, 0x00, 0x19, 0x00, 0x00, 0xf8, 0x5a, 1, 2, 3, 4, 5, 6, 7, 8, 9,
+        ],
+        (0x01, 0x00),
+        (25, 24),
+        (0x46, 0xaa),
+        FileState::DataValid,
+    ),
+    // A pad, and one that may not be moved, with a wrong file sum.
+    (
+        P,
+        &[0x08, 0xaa, 0xf0, 0x00, 0x18, 0x00, 0x00, 0xf8],
+        (0xf0, 0x00),
+        (24, 24),
+        (0x08, 0xaa),
+        FileState::DataValid,
+    ),
+    (
+        P,
+        &[0x04, 0x55, 0xf0, 0x04, 0x18, 0x00, 0x00, 0xf8],
+        (0xf0, 0x04),
+        (24, 24),
+        (0x04, 0x55),
+        FileState::DataValid,
+    ),
+    // A large file.
+    (
+        A,
+        &[
+            0x3e, 0xaa, 0x01, 0x01, 0x00, 0x00, 0x00, 0xf8, 32, 0, 0, 0, 0, 0, 0, 0,
+        ],
+        (0x01, 0x01),
+        (32, 32),
+        (0x3e, 0xaa),
+        FileState::DataValid,
+    ),
+];
 
-// The first part of a header as text, if all bytes of the name are the same.
-fn first_part_text(alloc: Global, head: &FileHead) -> Option<String> {
-    let (name, bits) = (head.name.to_bytes(), head.attributes.bits());
-    let (first, kind, size) = (name[0], head.kind, head.size);
-    if name != [first; 16] {
-        return None;
-    }
-    format!(in alloc; "{first:02x} {kind:02x} {bits:02x} {size}").ok()
-}
+/// What follows the name in a header that is rejected in FFS2, and then the fault.
+type RejectedRow = ([u8; 8], FaultKind, u64);
 
-// The other fields of a header as text.
-fn other_part_text(alloc: Global, head: &FileHead) -> Option<String> {
-    let (header_len, header_sum) = (head.header_len, head.header_sum);
-    let (file_sum, state) = (head.file_sum, head.state);
-    format!(in alloc; " {header_len} {header_sum:02x} {file_sum:02x} {state:?}").ok()
-}
-
-// A header as text, if all bytes of the name are the same.
-fn head_text(alloc: Global, head: &FileHead) -> Option<String> {
-    let mut text = first_part_text(alloc, head)?;
-    let rest = other_part_text(alloc, head)?;
-    text.push_str(&rest).ok()?;
-    Some(text)
-}
-
-// The header of the file that bytes begin with, or the fault, as text.
-pub(super) fn header_text(alloc: Global, bytes: &[u8], system: FileSystem) -> Option<String> {
-    match verify_ffs_file(bytes, system, Polarity::Ones) {
-        Ok(head) => head_text(alloc, &head),
-        Err(fault) => fault_text(alloc, fault),
-    }
-}
-
-#[test]
-fn bytes_have_their_header_or_their_fault(rt: HostRuntime) {
-    let wrong = wrong_line(rt.alloc(), Claim::Header(FileSystem::Ffs3), files());
-    assert!(rt; wrong.is_none(), "{wrong:?}");
-    let wrong = wrong_line(rt.alloc(), Claim::Header(FileSystem::Ffs2), headers());
-    assert!(rt; wrong.is_none(), "{wrong:?}");
-}
+/// Headers that are rejected.
+const REJECTED: &[RejectedRow] = &[
+    // State has bit 0x40, and all bits.
+    (
+        [0x47, 0xaa, 0x01, 0x00, 0x18, 0x00, 0x00, 0xb8],
+        FaultKind::FileState,
+        23,
+    ),
+    (
+        [0x47, 0xaa, 0x01, 0x00, 0x18, 0x00, 0x00, 0x00],
+        FaultKind::FileState,
+        23,
+    ),
+    // Data that were never finished, a deleted file, and a State byte that is erased.
+    (
+        [0x47, 0xaa, 0x01, 0x00, 0x18, 0x00, 0x00, 0xfc],
+        FaultKind::FileState,
+        23,
+    ),
+    (
+        [0x47, 0xaa, 0x01, 0x00, 0x18, 0x00, 0x00, 0xe8],
+        FaultKind::FileState,
+        23,
+    ),
+    (
+        [0x47, 0xaa, 0x01, 0x00, 0x18, 0x00, 0x00, 0xff],
+        FaultKind::FileState,
+        23,
+    ),
+    // A header that was begun, and one that is invalid.
+    (
+        [0xff, 0xff, 0xff, 0xff, 0xff, 0xff, 0xff, 0xfe],
+        FaultKind::FileState,
+        23,
+    ),
+    (
+        [0xff, 0xff, 0xff, 0xff, 0xff, 0xff, 0xff, 0xde],
+        FaultKind::FileState,
+        23,
+    ),
+    // A large file.
+    (
+        [0x47, 0xaa, 0x01, 0x01, 0x18, 0x00, 0x00, 0xf8],
+        FaultKind::LargeFile,
+        19,
+    ),
+    // The header sum is off by one.
+    (
+        [0x48, 0xaa, 0x01, 0x00, 0x18, 0x00, 0x00, 0xf8],
+        FaultKind::FileHeaderSum,
+        0,
+    ),
+    // A size of 23, and of 64.
+    (
+        [0x48, 0xaa, 0x01, 0x00, 0x17, 0x00, 0x00, 0xf8],
+        FaultKind::FileSize,
+        20,
+    ),
+    (
+        [0x1f, 0xaa, 0x01, 0x00, 0x40, 0x00, 0x00, 0xf8],
+        FaultKind::FileSize,
+        20,
+    ),
+    // A file that may not be moved.
+    (
+        [0x43, 0xaa, 0x01, 0x04, 0x18, 0x00, 0x00, 0xf8],
+        FaultKind::Fixed,
+        19,
+    ),
+    // The file sum is not 0xAA.
+    (
+        [0x47, 0xab, 0x01, 0x00, 0x18, 0x00, 0x00, 0xf8],
+        FaultKind::FileSum,
+        17,
+    ),
+];
 
 // A name, at most 40 other bytes after it, and then erased bytes.
 fn with_name(name: [u8; 16], rest: &[u8]) -> [u8; 56] {
@@ -89,6 +173,62 @@ fn with_name(name: [u8; 16], rest: &[u8]) -> [u8; 56] {
     bytes[16..16 + count].copy_from_slice(&rest[..count]);
     bytes[..16].copy_from_slice(&name);
     bytes
+}
+
+// The rows. What names a large constant is proved with all of it, so only this function does.
+fn files() -> &'static [FileRow] {
+    FILES
+}
+
+// The header that a row describes.
+fn head_of(row: &FileRow) -> FileHead {
+    let (name, _, fields, lengths, sums, state) = *row;
+    FileHead {
+        size: lengths.0,
+        header_len: lengths.1,
+        name: Guid::from_bytes(name),
+        kind: fields.0,
+        attributes: FileAttributes::from_bits_retain(fields.1),
+        header_sum: sums.0,
+        file_sum: sums.1,
+        state,
+    }
+}
+
+// Whether the bytes of a row begin with its file.
+fn is_found(row: &FileRow) -> bool {
+    let bytes = with_name(row.0, row.1);
+    let count = row.1.len().min(40);
+    let found = verify_ffs_file(&bytes[..16 + count], FileSystem::Ffs3, Polarity::Ones);
+    found == Ok(head_of(row))
+}
+
+// The fault of the first bytes of a file with the name of most, if they begin with none.
+fn fault_of(rest: &[u8], count: usize, system: FileSystem, polarity: Polarity) -> Option<Fault> {
+    verify_ffs_file(&with_name(A, rest)[..count.min(56)], system, polarity).err()
+}
+
+// The headers that are rejected.
+fn rejected() -> &'static [RejectedRow] {
+    REJECTED
+}
+
+// Whether the header of a row is rejected with its fault.
+fn is_rejected(row: &RejectedRow) -> bool {
+    let fault = Some(Fault::outer(row.1, row.2));
+    fault_of(&row.0, 56, FileSystem::Ffs2, Polarity::Ones) == fault
+}
+
+#[test]
+fn bytes_have_their_header_or_their_fault(rt: HostRuntime) {
+    let rows = files();
+    for at in 0..rows.len() {
+        assert!(rt; is_found(&rows[at]), "{at}");
+    }
+    let rows = rejected();
+    for at in 0..rows.len() {
+        assert!(rt; is_rejected(&rows[at]), "{at}");
+    }
 }
 
 /// What follows the name of a file of 28 bytes, and of a large one of 32.
@@ -102,20 +242,15 @@ const WHOLE: [&[u8]; 2] = [
 // Some bytes of a file are missing.
 #[test]
 fn incomplete_files_are_rejected(rt: HostRuntime) {
-    let fault = Fault::outer(FaultKind::FileSize, 20);
+    let fault = Some(Fault::outer(FaultKind::FileSize, 20));
     for rest in WHOLE {
-        let bytes = with_name(A, rest);
         for count in 0..16 + rest.len().min(40) {
-            let found = verify_ffs_file(&bytes[..count], FileSystem::Ffs3, Polarity::Ones);
-            assert!(rt; found == Err(fault), "{count}");
+            assert!(rt;
+                fault_of(rest, count, FileSystem::Ffs3, Polarity::Ones) == fault,
+                "{count}"
+            );
         }
     }
-}
-
-// Whether the bytes of a file with this State byte begin with one, or the fault.
-fn fault_of_state(state: u8, polarity: Polarity) -> Option<Fault> {
-    let rest = [0x47, 0xaa, 0x01, 0x00, 0x18, 0x00, 0x00, state];
-    verify_ffs_file(&with_name(A, &rest)[..24], FileSystem::Ffs2, polarity).err()
 }
 
 #[test]
@@ -130,6 +265,10 @@ fn polarity_inverts_the_state(rt: HostRuntime) {
         (0x17, Polarity::Zeros, fault),
         (0x00, Polarity::Zeros, fault),
     ] {
-        assert!(rt; fault_of_state(state, polarity) == expected, "{state}");
+        let rest = [0x47, 0xaa, 0x01, 0x00, 0x18, 0x00, 0x00, state];
+        assert!(rt;
+            fault_of(&rest, 24, FileSystem::Ffs2, polarity) == expected,
+            "{state}"
+        );
     }
 }

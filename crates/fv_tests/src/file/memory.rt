@@ -1,10 +1,151 @@
-//! Failed allocations: `.ci/memory` makes each allocation of the test fail in turn, and no wrong
-//! result may be returned.
+//! What remains of files, with failed allocations: `.ci/memory` makes each allocation of the test
+//! fail in turn, and no wrong result may be returned.
 
 use super::written::{file_head, is_joined, pad_head};
-use super::{A, Claim, P, remains, wrong_line};
+use super::{A, P};
+use crate::faults::OUT_OF_MEMORY;
+use crate::spelling::spelled_in_two_tries;
 use fv_base::{FileSystem, Polarity};
-use fv_file::{FileState, file_state, verify_ffs_file};
+use fv_file::{Cell, FileState, cells, file_state, verify_ffs_file};
+use std::alloc::Global;
+
+/// The state, the offset and the length of a cell. A stub is as if it were under construction.
+type CellRow = (FileState, u64, u64);
+
+/// A volume whose body begins at 72, its polarity, and its cells.
+type BodyRow = (&'static str, Polarity, &'static [CellRow]);
+
+/// Bodies with files that are not valid or are marked, and with headers that were never finished.
+const BODIES: &[BodyRow] = &[
+    // A deleted file, a marked one and two that are valid.
+    (
+        "00*72 0c*16 1faa0100200000e8 00*8 0a*16 3faa0100200000f0 01*8 0b*16 37aa0100180000f8 0a*16 3faa0100200000f8 02*8 ff*64",
+        Polarity::Ones,
+        &[
+            (FileState::Deleted, 72, 32),
+            (FileState::Marked, 104, 32),
+            (FileState::DataValid, 136, 24),
+            (FileState::DataValid, 160, 32),
+            (FileState::Free, 192, 64),
+        ],
+    ),
+    // A file whose data were never finished.
+    (
+        "00*72 0a*16 47aa0100180000fc ff*32",
+        Polarity::Ones,
+        &[(FileState::HeaderValid, 72, 24), (FileState::Free, 96, 32)],
+    ),
+    // A deleted file that may not be moved, whose file sum is wrong, and filler.
+    (
+        "00*72 0a*16 42ab0104190000e8 ff*32",
+        Polarity::Ones,
+        &[(FileState::Deleted, 72, 32), (FileState::Free, 104, 24)],
+    ),
+    // A deleted pad.
+    (
+        "00*72 ff*16 08aaf000180000e8 ff*32",
+        Polarity::Ones,
+        &[(FileState::Deleted, 72, 24), (FileState::Free, 96, 32)],
+    ),
+    // A file, and a header that was begun, of 32 bytes and of 24.
+    (
+        "00*72 0a*16 47aa0100180000f8 ff*16 fffffffffffffffe ff*8",
+        Polarity::Ones,
+        &[
+            (FileState::DataValid, 72, 24),
+            (FileState::Construction, 96, 32),
+        ],
+    ),
+    (
+        "00*72 0a*16 47aa0100180000f8 ff*16 fffffffefffffffe ff*8",
+        Polarity::Ones,
+        &[
+            (FileState::DataValid, 72, 24),
+            (FileState::Construction, 96, 24),
+            (FileState::Free, 120, 8),
+        ],
+    ),
+    // A header that was given up, and a file.
+    (
+        "00*72 0a*16 00000104000000de 0b*16 37aa0100180000f8",
+        Polarity::Ones,
+        &[
+            (FileState::Construction, 72, 24),
+            (FileState::DataValid, 96, 24),
+        ],
+    ),
+    // A marked file and a deleted one.
+    (
+        "00*72 0a*16 47aa01001800000f 0b*16 37aa010018000017 00*8",
+        Polarity::Zeros,
+        &[
+            (FileState::Marked, 72, 24),
+            (FileState::Deleted, 96, 24),
+            (FileState::Free, 120, 8),
+        ],
+    ),
+    // Headers of 24 and of 32 bytes that were begun.
+    (
+        "00*72 00*16 0000000000000001 00*16 0000000100000001 00*8",
+        Polarity::Zeros,
+        &[
+            (FileState::Construction, 72, 24),
+            (FileState::Construction, 96, 32),
+        ],
+    ),
+];
+
+// The rows. What names a large constant is proved with all of it, so only this function does.
+fn bodies() -> &'static [BodyRow] {
+    BODIES
+}
+
+// Whether a cell is no pad, and has this state, offset and length.
+fn is_cell(cell: &Cell, wanted: CellRow) -> bool {
+    match *cell {
+        Cell::Valid { offset, head, .. } => wanted == (head.state, offset, head.size),
+        Cell::Pad { .. } => false,
+        Cell::Dead { offset, len, state } => wanted == (state, offset, len),
+        Cell::Stub { offset, len } => wanted == (FileState::Construction, offset, len),
+        Cell::Free { offset, len } => wanted == (FileState::Free, offset, len),
+    }
+}
+
+// Whether cells are these.
+fn are_cells(found: &[Cell], wanted: &[CellRow]) -> bool {
+    let mut is_same = found.len() == wanted.len();
+    for i in 0..found.len().min(wanted.len()) {
+        is_same = is_same && is_cell(&found[i], wanted[i]);
+    }
+    is_same
+}
+
+// Whether a volume has the cells of a row, or memory ran out.
+fn has_cells_or_out_of_memory(
+    alloc: Global,
+    bytes: &[u8],
+    system: FileSystem,
+    row: &BodyRow,
+) -> bool {
+    if bytes.len() < 72 || bytes.len() % 8 != 0 {
+        return false;
+    }
+    match cells(alloc, bytes, 72, system, row.1) {
+        Ok(found) => are_cells(found.as_slice(), row.2),
+        Err(fault) => fault == OUT_OF_MEMORY,
+    }
+}
+
+// Whether the volume of a row is cut into its cells in both file systems, or memory ran out.
+fn is_row_cut(alloc: Global, row: &BodyRow) -> bool {
+    match spelled_in_two_tries(alloc, row.0) {
+        Some(bytes) => {
+            has_cells_or_out_of_memory(alloc, &bytes, FileSystem::Ffs2, row)
+                && has_cells_or_out_of_memory(alloc, &bytes, FileSystem::Ffs3, row)
+        }
+        None => false,
+    }
+}
 
 // Whether the calls that take no memory return the right results.
 fn calls_without_memory_are_right() -> bool {
@@ -26,7 +167,9 @@ fn calls_without_memory_are_right() -> bool {
 
 #[test]
 fn out_of_memory_is_reported(rt: HostRuntime) {
-    let wrong = wrong_line(rt.alloc(), Claim::CellsOrOutOfMemory, remains::ones());
-    assert!(rt; wrong.is_none(), "{wrong:?}");
+    let rows = bodies();
+    for at in 0..rows.len() {
+        assert!(rt; is_row_cut(rt.alloc(), &rows[at]), "{at}");
+    }
     assert!(rt; calls_without_memory_are_right());
 }

@@ -28,6 +28,7 @@ fn highest(written: u8) -> Option<FileState> {
     state
 }
 
+// Where erased bytes are ones, the State byte is the inverse of the written bits: 0xf8 of 0x07.
 #[test]
 fn the_highest_written_bit_is_the_state(rt: HostRuntime) {
     for written in 0..=255u8 {
@@ -37,28 +38,6 @@ fn the_highest_written_bit_is_the_state(rt: HostRuntime) {
             is_same && file_state(0xff - written, Polarity::Ones) == state,
             "{written}"
         );
-    }
-}
-
-#[test]
-fn states_have_their_bytes(rt: HostRuntime) {
-    for (byte, polarity, state) in [
-        (0xff, Polarity::Ones, Some(FileState::Free)),
-        (0xfe, Polarity::Ones, Some(FileState::Construction)),
-        (0xfc, Polarity::Ones, Some(FileState::HeaderValid)),
-        (0xf8, Polarity::Ones, Some(FileState::DataValid)),
-        (0xf0, Polarity::Ones, Some(FileState::Marked)),
-        (0xe8, Polarity::Ones, Some(FileState::Deleted)),
-        (0xe0, Polarity::Ones, Some(FileState::Deleted)),
-        (0xdf, Polarity::Ones, Some(FileState::HeaderInvalid)),
-        (0xb8, Polarity::Ones, None),
-        (0x78, Polarity::Ones, None),
-        (0x07, Polarity::Ones, None),
-        (0x00, Polarity::Zeros, Some(FileState::Free)),
-        (0x07, Polarity::Zeros, Some(FileState::DataValid)),
-        (0xf8, Polarity::Zeros, None),
-    ] {
-        assert!(rt; file_state(byte, polarity) == state, "{byte}");
     }
 }
 

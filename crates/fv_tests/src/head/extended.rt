@@ -1,10 +1,9 @@
 //! Volumes with an extended header: from outside, and changed.
 
-use super::{has_canonical_head, is_made, is_rejected, overwrite_each};
+use crate::parts::overwrite;
 use fv_base::{Fault, FaultKind, FileSystem, Polarity, Port};
 use fv_head::{
-    Extent, VolumeHead, ext_bytes, first_edge, len_of_ext, read_head, verify_fv, write_ext,
-    write_head,
+    Extent, VolumeHead, first_edge, len_of_ext, read_head, verify_fv, write_ext, write_head,
 };
 use std::alloc::Global;
 
@@ -49,9 +48,6 @@ const AS_IMAGE: &[(usize, &[u8])] = &[(0, &IMAGE)];
 /// The same with a used size of 0, and zeros up to the first file.
 const IN_PAD: &[(usize, &[u8])] = &[(0, &IMAGE), (120, &[0x00; 8])];
 
-/// The bare volume, unchanged.
-const NONE: &[(usize, &[u8])] = &[];
-
 /// The bare volume with no entry, but with a tail of 5 bytes.
 const TAIL_ONLY: &[(usize, &[u8])] = &[
     (88, &[0x19, 0x00, 0x00, 0x00, 0x03, 0x00, 0x01, 0x00, 0xaa]),
@@ -78,14 +74,6 @@ const AT_77: &[(usize, &[u8])] = &[
     (93, &[0x14, 0x00, 0x00, 0x00]),
 ];
 
-/// The bare volume becomes the header of one of 131,072 bytes.
-const LARGE: &[(usize, &[u8])] = &[
-    (0, &BARE),
-    (32, &[0x00, 0x00, 0x02]),
-    (50, &[0x82, 0xf6]),
-    (60, &[0x00, 0x00, 0x02]),
-];
-
 /// What is changed in a volume.
 type Changes = &'static [(usize, &'static [u8])];
 
@@ -93,24 +81,52 @@ type Changes = &'static [(usize, &'static [u8])];
 type Entries = &'static [(u16, &'static [u8])];
 
 /// What is changed in the bare volume; then how many bytes are the volume, where its first file may
-/// begin, and the entries and the tail of its extended header.
-type ReadRow = (Changes, usize, u64, Entries, &'static [u8]);
+/// begin, and the entries and the tail of its extended header; and then how long that is, and where
+/// the first file of the canonical image may begin: after 72 + 24 bytes and the extended header.
+type ReadRow = (Changes, usize, u64, Entries, &'static [u8], u32, u64);
 
 /// Extended headers that are read.
 const READ: &[ReadRow] = &[
-    (&[], 192, 104, &[(3, &[0; 4])], &[]),
-    (IN_PAD, 192, 128, &[(3, &[0; 4])], &[]),
-    (AS_IMAGE, 192, 128, &[(3, &[0; 4])], &[]),
-    (TAIL_ONLY, 192, 104, &[], &TAIL),
+    (&[], 192, 104, &[(3, &[0; 4])], &[], 28, 128),
+    (IN_PAD, 192, 128, &[(3, &[0; 4])], &[], 28, 128),
+    (AS_IMAGE, 192, 128, &[(3, &[0; 4])], &[], 28, 128),
+    (TAIL_ONLY, 192, 104, &[], &TAIL, 25, 128),
     // No room is left for the pad file of a canonical image, but the head is accepted.
-    (WITHOUT_ROOM, 104, 96, &[], &[]),
+    (WITHOUT_ROOM, 104, 96, &[], &[], 20, 120),
     // The bytes between the header and an extended header that is not aligned are not read.
-    (AT_77, 192, 104, &[], &[]),
+    (AT_77, 192, 104, &[], &[], 20, 120),
+    // No room for an entry, and just enough for the header of one whose size is too large.
+    (&[(88, &[0x14])], 192, 96, &[], &[], 20, 120),
+    (&[(88, &[0x18])], 192, 96, &[], &[8, 0, 3, 0], 24, 120),
     // A size of 3, and one that goes one byte past the header.
-    (&[(92, &[0x03])], 192, 104, &[], &[3, 0, 3, 0, 0, 0, 0, 0]),
-    (&[(92, &[0x09])], 192, 104, &[], &[9, 0, 3, 0, 0, 0, 0, 0]),
+    (
+        &[(92, &[0x03])],
+        192,
+        104,
+        &[],
+        &[3, 0, 3, 0, 0, 0, 0, 0],
+        28,
+        128,
+    ),
+    (
+        &[(92, &[0x09])],
+        192,
+        104,
+        &[],
+        &[9, 0, 3, 0, 0, 0, 0, 0],
+        28,
+        128,
+    ),
     // An entry without a payload, and then a tail of 4 bytes.
-    (&[(92, &[0x04])], 192, 104, &[(3, &[])], &[0, 0, 0, 0]),
+    (
+        &[(92, &[0x04])],
+        192,
+        104,
+        &[(3, &[])],
+        &[0, 0, 0, 0],
+        28,
+        128,
+    ),
     // A type 3 entry with 5 bytes, and with 4, and a type 2 entry with 4.
     (
         &[(88, &[0x1d]), (92, &[0x09]), (96, &[1, 2, 3, 4, 5])],
@@ -118,36 +134,35 @@ const READ: &[ReadRow] = &[
         104,
         &[(3, &[1, 2, 3, 4, 5])],
         &[],
+        29,
+        128,
     ),
-    (&[(96, &[1, 2, 3, 4])], 192, 104, &[(3, &[0, 0, 0, 0])], &[]),
+    (
+        &[(96, &[1, 2, 3, 4])],
+        192,
+        104,
+        &[(3, &[0, 0, 0, 0])],
+        &[],
+        28,
+        128,
+    ),
     (
         &[(88, &[0x1f]), (94, &[0x02]), (96, &[1, 2, 3, 4, 5, 6, 7])],
         192,
         104,
         &[(2, &[1, 2, 3, 4])],
         &[5, 6, 7],
+        31,
+        128,
     ),
 ];
 
-/// What is changed in the bare volume so that its extended header is not within it.
-const REJECTED: [Changes; 5] = [
-    // Only 16 bytes are left; and 20, for which the size is too large.
-    &[(50, &[0x9e, 0xf4, 0xb0])],
-    &[(50, &[0xa2, 0xf4, 0xac])],
-    // A size of 19, of one byte too many, and of 2 ^ 32 - 1.
-    &[(88, &[0x13])],
-    &[(88, &[0x79])],
-    &[(88, &[0xff; 4])],
-];
-
-/// What is changed in the bare volume, the length of its extended header, and where the first file
-/// of its canonical image may begin: after 72 + 24 bytes and the extended header.
-const EDGES: [(Changes, u32, u64); 4] = [
-    (&[(88, &[0x14])], 20, 120),
-    (&[(88, &[0x18])], 24, 120),
-    (TAIL_ONLY, 25, 128),
-    (&[], 28, 128),
-];
+// Writes parts over the bytes at their offsets.
+fn overwrite_each(bytes: &mut [u8], changes: &[(usize, &[u8])]) {
+    for (at, part) in changes {
+        overwrite(bytes, *at, part);
+    }
+}
 
 // Whether a head has an extended header with these entries and this tail.
 pub(super) fn has_ext(head: &VolumeHead, entries: &[(u16, &[u8])], tail: &[u8]) -> bool {
@@ -163,22 +178,6 @@ pub(super) fn has_ext(head: &VolumeHead, entries: &[(u16, &[u8])], tail: &[u8]) 
     ext.tail() == tail && is_same && ext.name().to_bytes() == NAME
 }
 
-// Whether the extended header of a head, with this used size, is written as these bytes.
-fn is_ext_written(alloc: Global, head: &VolumeHead, used: u32, expected: &[u8]) -> bool {
-    match head.ext() {
-        Some(ext) => is_made(ext_bytes(alloc, ext, used), expected),
-        None => false,
-    }
-}
-
-// Whether the extended header of the volume at the start of the bytes is written so.
-fn has_canonical_ext(alloc: Global, bytes: &[u8], used: u32, expected: &[u8]) -> bool {
-    match read_head(alloc, bytes) {
-        Ok((head, _)) => is_ext_written(alloc, &head, used, expected),
-        Err(_) => false,
-    }
-}
-
 // Whether a head has an extended header of this length, and the first file of its canonical image
 // may begin here.
 fn has_length_and_edge(head: &VolumeHead, length: u32, edge: u64) -> bool {
@@ -190,15 +189,15 @@ fn has_length_and_edge(head: &VolumeHead, length: u32, edge: u64) -> bool {
 
 // Whether a head and its extent are those of a row.
 fn is_head_of(head: &VolumeHead, found: Extent, row: &ReadRow) -> bool {
-    let (_, length, first, entries, tail) = *row;
+    let (_, volume_len, first, entries, tail, length, edge) = *row;
     let extent = Extent {
-        length: length as u64,
+        length: volume_len as u64,
         header_len: 72,
         first,
         file_system: FileSystem::Ffs2,
         polarity: Polarity::Ones,
     };
-    found == extent && has_ext(head, entries, tail)
+    found == extent && has_ext(head, entries, tail) && has_length_and_edge(head, length, edge)
 }
 
 // Whether the bytes are read as a row says.
@@ -227,91 +226,6 @@ fn extended_headers_are_read(rt: HostRuntime) {
     for at in 0..rows.len() {
         assert!(rt; is_row_read(rt.alloc(), &rows[at]), "{at}");
     }
-}
-
-// Whether the bare volume, changed, is rejected since its extended header is not within it.
-fn is_outside(alloc: Global, changes: Changes) -> bool {
-    let mut bytes = BARE;
-    overwrite_each(&mut bytes, changes);
-    is_rejected(alloc, &bytes, Fault::outer(FaultKind::ExtHeader, 52))
-}
-
-#[test]
-fn extended_headers_outside_their_volume_are_rejected(rt: HostRuntime) {
-    for changes in REJECTED {
-        assert!(rt; is_outside(rt.alloc(), changes));
-    }
-}
-
-// Whether the bare volume, changed, has an extended header of this length and this edge.
-fn is_measured(alloc: Global, changes: Changes, length: u32, edge: u64) -> bool {
-    let mut bytes = BARE;
-    overwrite_each(&mut bytes, changes);
-    match read_head(alloc, &bytes) {
-        Ok((head, _)) => has_length_and_edge(&head, length, edge),
-        Err(_) => false,
-    }
-}
-
-#[test]
-fn extended_headers_have_their_length_and_edge(rt: HostRuntime) {
-    for (changes, length, edge) in EDGES {
-        assert!(rt; is_measured(rt.alloc(), changes, length, edge), "{length}");
-    }
-}
-
-// Whether the bytes are a volume with an extended header of 65,535 bytes, which is written back.
-fn has_largest_ext(alloc: Global, bytes: &[u8]) -> bool {
-    match (verify_fv(bytes), bytes.get(72..65607)) {
-        (Ok(extent), Some(ext)) => {
-            extent.first == 65608 && has_canonical_ext(alloc, bytes, 0, ext)
-        }
-        _ => false,
-    }
-}
-
-// Whether an extended header of 65,535 bytes is accepted in a large volume, and one more is not.
-fn has_largest_only(alloc: Global, bytes: &mut [u8]) -> bool {
-    overwrite_each(bytes, LARGE);
-    overwrite_each(bytes, &[(88, &[0x00, 0x00, 0x01, 0x00])]);
-    let outcome = verify_fv(bytes);
-    overwrite_each(bytes, &[(88, &[0xff, 0xff, 0x00, 0x00])]);
-    outcome == Err(Fault::outer(FaultKind::ExtHeader, 52)) && has_largest_ext(alloc, bytes)
-}
-
-#[test]
-fn an_extended_header_has_65535_bytes_at_most(rt: HostRuntime) {
-    let mut bytes = [0; 0x2_0000];
-    assert!(rt; has_largest_only(rt.alloc(), &mut bytes));
-}
-
-// Whether the head and the extended header of the canonical image are those of the bare volume.
-fn is_image(alloc: Global, bytes: &[u8]) -> bool {
-    has_canonical_head(alloc, bytes, &IMAGE[..72])
-        && has_canonical_ext(alloc, bytes, 152, &IMAGE[96..124])
-        && has_canonical_ext(alloc, bytes, 0, &BARE[72..100])
-}
-
-// Whether the bare volume, changed, has the same head and extended header.
-fn is_written_as_image(alloc: Global, changes: Changes) -> bool {
-    let mut bytes = BARE;
-    overwrite_each(&mut bytes, changes);
-    is_image(alloc, &bytes)
-}
-
-#[test]
-fn extended_headers_are_written(rt: HostRuntime) {
-    for changes in [NONE, IN_PAD, AS_IMAGE] {
-        assert!(rt; is_written_as_image(rt.alloc(), changes));
-    }
-}
-
-#[test]
-fn an_extended_header_without_entries_is_written(rt: HostRuntime) {
-    let mut bytes = BARE;
-    overwrite_each(&mut bytes, TAIL_ONLY);
-    assert!(rt; has_canonical_head(rt.alloc(), &bytes, &IMAGE[..72]));
-    assert!(rt; has_canonical_ext(rt.alloc(), &bytes, 152, &bytes[72..97]));
 }
 
 // Writes the head, or the extended header with a used size of 152, until `full` has no more room.

@@ -1,21 +1,14 @@
-//! Failed allocations: `.ci/memory` makes each allocation of the test fail in turn, and no wrong
-//! result may be returned.
+//! The fields of a head, and failed allocations: `.ci/memory` makes each allocation of the test fail
+//! in turn, and no wrong result may be returned.
 
 use super::extended::{BARE, IMAGE, has_ext, write_to};
-use fv_base::{ByteList, Fault, FaultKind, FileSystem, Place, Polarity};
+use crate::faults::OUT_OF_MEMORY;
+use bitflags::Flags;
+use fv_base::{ByteList, Fault, FileSystem, Polarity};
 use fv_head::{
     Extent, VolumeHead, ext_bytes, first_edge, head_bytes, is_one_volume, read_head, verify_fv,
 };
 use std::alloc::Global;
-
-/// What a call returns if memory ran out.
-const OUT_OF_MEMORY: Fault = Fault {
-    kind: FaultKind::OutOfMemory,
-    place: Place {
-        offset: 0,
-        depth: 0,
-    },
-};
 
 /// The extent of the bare volume.
 const EXTENT: Extent = Extent {
@@ -34,13 +27,25 @@ fn is_expected_or_out_of_memory(made: Result<ByteList, Fault>, wanted: &[u8]) ->
     }
 }
 
-// Whether the head and the extended header of the image are made, or memory ran out.
+// Whether a head has the fields of the bare volume.
+fn has_fields(head: &VolumeHead) -> bool {
+    let is_named = *head.zero_vector() == [0u8; 16] && head.file_system() == FileSystem::Ffs2;
+    let bits = head.attributes();
+    let has_bits = bits.bits() == 0x0004_feff && bits.polarity() == Polarity::Ones;
+    let is_long = head.length() == 192 && head.header_len() == 72;
+    let has_blocks = head.blocks().as_slice() == [(1u32, 192u32)].as_slice();
+    is_named && has_bits && is_long && has_blocks && head.reserved() == 0
+}
+
+// Whether the head of the image is made, and the extended header with its used size and with one
+// of 0, or memory ran out.
 fn has_heads_or_out_of_memory(alloc: Global, head: &VolumeHead) -> bool {
     let Some(ext) = head.ext() else {
         return false;
     };
     is_expected_or_out_of_memory(head_bytes(alloc, head), &IMAGE[..72])
         && is_expected_or_out_of_memory(ext_bytes(alloc, ext, 152), &IMAGE[96..124])
+        && is_expected_or_out_of_memory(ext_bytes(alloc, ext, 0), &BARE[72..100])
 }
 
 // Whether these bytes are written if there is just enough room for them.
@@ -64,6 +69,7 @@ fn is_read_or_out_of_memory(alloc: Global) -> bool {
     match read_head(alloc, &BARE) {
         Ok((head, extent)) => {
             extent == EXTENT
+                && has_fields(&head)
                 && has_ext(&head, &[(3, &[0; 4])], &[])
                 && has_heads_or_out_of_memory(alloc, &head)
                 && calls_without_memory_are_right(&head)

@@ -2,10 +2,9 @@
 //! result may be returned.
 
 use super::streams::{ExpectedFrame, PAIR, PAIR_FRAMES, has_frame_at, is_split};
-use super::texts::{has_freeform_parts, has_text, has_version};
 use super::written::is_written;
 use crate::faults::OUT_OF_MEMORY;
-use fv_section::FrameWalk;
+use fv_section::{FrameWalk, freeform, ui_text, version};
 use std::alloc::Global;
 
 /// Nine sections without bodies.
@@ -28,9 +27,14 @@ const NINE_FRAMES: [ExpectedFrame<'static>; 9] = [
     (32, 0x19, false, &[]),
 ];
 
-// Whether a stream without a tail is split into these frames, or memory ran out.
-fn is_split_or_out_of_memory(alloc: Global, stream: &[u8], expected: &[ExpectedFrame]) -> bool {
-    let found = is_split(alloc, stream, expected, 0);
+// Whether a stream is split into these frames and this tail, or memory ran out.
+fn is_split_or_out_of_memory(
+    alloc: Global,
+    stream: &[u8],
+    expected: &[ExpectedFrame],
+    tail: u8,
+) -> bool {
+    let found = is_split(alloc, stream, expected, tail);
     found == Ok(true) || found == Err(OUT_OF_MEMORY)
 }
 
@@ -50,15 +54,46 @@ const FREEFORM: [u8; 17] = [
     0x01,
 ];
 
-// Whether the calls that take no memory return the right results for bodies.
-fn bodies_are_right() -> bool {
+/// The body of another, which is its GUID.
+const GUID: [u8; 16] = [
+    0x10, 0x11, 0x12, 0x13, 0x14, 0x15, 0x16, 0x17, 0x18, 0x19, 0x1a, 0x1b, 0x1c, 0x1d, 0x1e, 0x1f,
+];
+
+// Whether the body has this text.
+fn has_text(body: &[u8], text: &[u8]) -> bool {
+    ui_text(body) == Some(text)
+}
+
+// Whether the body has this build number and text.
+fn has_version(body: &[u8], number: u16, text: &[u8]) -> bool {
+    version(body) == Some((number, text))
+}
+
+// Whether the body has the bytes of this GUID, and these after them.
+fn has_freeform_parts(body: &[u8], name: &[u8], bytes: &[u8]) -> bool {
+    match freeform(body) {
+        Some((guid, rest)) => {
+            let own = guid.to_bytes();
+            own.as_slice() == name && rest == bytes
+        }
+        None => false,
+    }
+}
+
+// Whether the calls that take no memory return the right results for texts.
+fn texts_are_right() -> bool {
     has_text(
         &[0x41, 0x00, 0x42, 0x00, 0x00, 0x00],
-        Some(&[0x41, 0x00, 0x42, 0x00]),
-    ) && has_version(
-        &[0x01, 0x00, 0x31, 0x00, 0x00, 0x00],
-        Some((1, &[0x31, 0x00])),
-    ) && has_freeform_parts(&FREEFORM, Some((&[0x0a; 16], &[0x01])))
+        &[0x41, 0x00, 0x42, 0x00],
+    ) && has_version(&[0x01, 0x00, 0x31, 0x00, 0x00, 0x00], 1, &[0x31, 0x00])
+        && has_version(&[0x34, 0x12, 0x00, 0x00], 0x1234, &[])
+}
+
+// Whether the calls that take no memory return the right results for freeform bodies.
+fn freeforms_are_right() -> bool {
+    has_freeform_parts(&FREEFORM, &[0x0a; 16], &[0x01])
+        && has_freeform_parts(&FREEFORM[..16], &[0x0a; 16], &[])
+        && has_freeform_parts(&GUID, &GUID, &[])
 }
 
 // Whether the calls that take no memory return the right results for sections.
@@ -70,7 +105,7 @@ fn sections_are_right() -> bool {
 
 #[test]
 fn out_of_memory_is_reported(rt: HostRuntime) {
-    assert!(rt; is_split_or_out_of_memory(rt.alloc(), &PAIR[..14], &PAIR_FRAMES));
-    assert!(rt; is_split_or_out_of_memory(rt.alloc(), &NINE, &NINE_FRAMES));
-    assert!(rt; bodies_are_right() && sections_are_right());
+    assert!(rt; is_split_or_out_of_memory(rt.alloc(), &PAIR[..16], &PAIR_FRAMES, 2));
+    assert!(rt; is_split_or_out_of_memory(rt.alloc(), &NINE, &NINE_FRAMES, 0));
+    assert!(rt; texts_are_right() && freeforms_are_right() && sections_are_right());
 }

@@ -1,6 +1,6 @@
-//! Headers as they are written, and read back.
+//! Headers as they are written.
 
-use fv_section::{SectionHead, next_frame, section_head_bytes};
+use fv_section::{SectionHead, section_head_bytes};
 
 /// The type, whether the header is extended, how long the body is, and the header's bytes.
 const HEADS: [(u8, bool, u64, &[u8]); 8] = [
@@ -60,101 +60,5 @@ pub(super) fn is_written(kind: u8, extended: bool, body_len: u64, bytes: &[u8]) 
 fn headers_are_written(rt: HostRuntime) {
     for (kind, extended, body_len, bytes) in HEADS {
         assert!(rt; is_written(kind, extended, body_len, bytes), "{bytes:?}");
-    }
-}
-
-/// Whether the header is extended, how long the body is, and the section with 3 other bytes after
-/// it.
-const STREAMS: [(bool, u8, &[u8]); 12] = [
-    (false, 0, &[0x04, 0x00, 0x00, 0x19, 0xee, 0xee, 0xee]),
-    (false, 1, &[0x05, 0x00, 0x00, 0x19, 0x01, 0xee, 0xee, 0xee]),
-    (
-        false,
-        2,
-        &[0x06, 0x00, 0x00, 0x19, 0x01, 0x02, 0xee, 0xee, 0xee],
-    ),
-    (
-        false,
-        3,
-        &[0x07, 0x00, 0x00, 0x19, 0x01, 0x02, 0x03, 0xee, 0xee, 0xee],
-    ),
-    (
-        false,
-        4,
-        &[
-            0x08, 0x00, 0x00, 0x19, 0x01, 0x02, 0x03, 0x04, 0xee, 0xee, 0xee,
-        ],
-    ),
-    (
-        false,
-        5,
-        &[
-            0x09, 0x00, 0x00, 0x19, 0x01, 0x02, 0x03, 0x04, 0x05, 0xee, 0xee, 0xee,
-        ],
-    ),
-    (
-        true,
-        0,
-        &[
-            0xff, 0xff, 0xff, 0x19, 0x08, 0x00, 0x00, 0x00, 0xee, 0xee, 0xee,
-        ],
-    ),
-    (
-        true,
-        1,
-        &[
-            0xff, 0xff, 0xff, 0x19, 0x09, 0x00, 0x00, 0x00, 0x01, 0xee, 0xee, 0xee,
-        ],
-    ),
-    (
-        true,
-        2,
-        &[
-            0xff, 0xff, 0xff, 0x19, 0x0a, 0x00, 0x00, 0x00, 0x01, 0x02, 0xee, 0xee, 0xee,
-        ],
-    ),
-    (
-        true,
-        3,
-        &[
-            0xff, 0xff, 0xff, 0x19, 0x0b, 0x00, 0x00, 0x00, 0x01, 0x02, 0x03, 0xee, 0xee, 0xee,
-        ],
-    ),
-    (
-        true,
-        4,
-        &[
-            0xff, 0xff, 0xff, 0x19, 0x0c, 0x00, 0x00, 0x00, 0x01, 0x02, 0x03, 0x04, 0xee, 0xee,
-            0xee,
-        ],
-    ),
-    (
-        true,
-        5,
-        &[
-            0xff, 0xff, 0xff, 0x19, 0x0d, 0x00, 0x00, 0x00, 0x01, 0x02, 0x03, 0x04, 0x05, 0xee,
-            0xee, 0xee,
-        ],
-    ),
-];
-
-// Whether the header of a section of this form and length begins the stream, and the section is
-// read back from it.
-fn is_read_back(extended: bool, len: u8, stream: &[u8]) -> bool {
-    let header: usize = if extended { 8 } else { 4 };
-    let end = header + usize::from(len);
-    let Ok(Some(frame)) = next_frame(stream, 0) else {
-        return false;
-    };
-    end <= stream.len()
-        && is_written(0x19, extended, u64::from(len), &stream[..header])
-        && (frame.offset, frame.kind, frame.extended) == (0, 0x19, extended)
-        && frame.body == &stream[header..end]
-}
-
-#[test]
-fn a_written_header_is_read_back(rt: HostRuntime) {
-    for (extended, len, stream) in STREAMS {
-        assert!(rt; is_read_back(extended, len, stream), "{stream:?}");
     }
 }

@@ -1,15 +1,19 @@
 //! Views: the slices that they lend.
 
 use super::view_of;
-use crate::spelling::spelled_volume;
+use crate::spelling::spelled_bytes;
 use fv_tree::{Content, VolumeView};
 use std::alloc::Global;
 
 /// A file whose data are the byte 0x5a.
-const BYTE: &str = "<80> 0a*16 46aa0100190000f8 5a ff*31";
+const BYTE: &str =
+    "00*16 78e58c8c3d8a1c4f9935896185c32dd3 8000 00*6 5f465648 fffe0400 4800cef5 00000002 01000000 80000000 00*8 \
+     0a*16 46aa0100190000f8 5a ff*31";
 
 /// A file with one section, whose body is the byte 0x5a.
-const SECTION: &str = "<68> 0a*16 41aa02001d0000f8 050000195affffff";
+const SECTION: &str =
+    "00*16 78e58c8c3d8a1c4f9935896185c32dd3 6800 00*6 5f465648 fffe0400 4800fef5 00000002 01000000 68000000 00*8 \
+     0a*16 41aa02001d0000f8 050000195affffff";
 
 // The data of the first file of a volume, or the body of the file's first section.
 fn part_of<'a>(view: &VolumeView<'a>) -> Option<&'a [u8]> {
@@ -30,7 +34,7 @@ fn first_part(alloc: Global, volume: &[u8]) -> Option<&[u8]> {
 
 // Whether the part is one byte of the input, which is dropped after it.
 fn part_is(alloc: Global, text: &str, byte: u8) -> Option<bool> {
-    let input = spelled_volume(alloc, text)?;
+    let input = spelled_bytes(alloc, text)?;
     let part = first_part(alloc, &input)?;
     let is_same = part == [byte].as_slice();
     drop(input);
